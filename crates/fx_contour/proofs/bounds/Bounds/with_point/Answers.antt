@@ -1,0 +1,15 @@
+use Rattle.std.proofs.Common.{arith}
+use Rattle.std.proofs.lemmas.Int.{ints, clamps}
+use Rattle.fx_contour.proofs.Growing.{point_grows}
+use Rattle.fx_contour.proofs.bounds.Bounds.with_point.Goals as goal
+
+pub invariant_of-result : goal.invariant_of-result
+invariant_of-result c = record {
+  near_left = (omega (arith, ints, clamps), omega (arith, ints, clamps));
+  near_right = (omega (arith, ints, clamps), omega (arith, ints, clamps));
+  near_bottom = (omega (arith, ints, clamps), omega (arith, ints, clamps));
+  near_top = (omega (arith, ints, clamps), omega (arith, ints, clamps));
+}
+
+pub returns : goal.returns
+returns c = point_grows _ _ _ (omega (arith, ints, clamps)) (omega (arith, ints, clamps)) (omega (arith, ints, clamps)) (omega (arith, ints, clamps))

@@ -1,0 +1,167 @@
+//! From contours to pieces.
+ghost use Rattle.std.specs.Prelude.{◌≡◌, ◌+◌, ◌-◌, ◌≤◌, ◌<◌, ◌^◌, ◌++◌, ◌⊎◌, ◌↔◌, All, IsTrue, IfOk, OnOk, IfErr, IsErrOf, length, map, take, drop, option_map, option_to_list};
+ghost use Rattle.fx_winding.specs.Area.{IsWithin};
+ghost use Rattle.fx_winding.specs.Winding.{place_of, span_of};
+ghost use Rattle.fx_winding.specs.Outside.{AreOfOutline};
+ghost use Rattle.fx_contour.specs.Curve.{doubled as doubled_of, middle as middle_of, joint as joint_of, span_at, first_of, curve_of};
+ghost use Rattle.fx_fixed.specs.Chain.{GivesUnless};
+ghost use Rattle.fx_contour.specs.Contours.{spans_of, drawn_of, IsNear};
+ghost use Rattle.fx_contour.specs.Faults.{Fails};
+
+use crate::fault::ContourFault;
+use fx_hint::{Outline, OutlinePoint};
+use fx_winding::{Piece, Pieces, Point};
+use std::alloc::{AllocError, Global};
+
+/// How far from the origin a coordinate may lie, in 26.6 pixels.
+const FARTHEST: i32 = 2_097_152;
+
+fn is_within(z: i32) -> bool
+    ensures { IsTrue result ↔ IsWithin (2 ^ 21) z }
+{
+    -FARTHEST <= z && z <= FARTHEST
+}
+
+fn is_near(p: &OutlinePoint) -> bool
+    ensures { IsTrue result ↔ IsNear p.now }
+{
+    is_within(p.x) && is_within(p.y)
+}
+
+fn are_near(points: &[OutlinePoint]) -> bool
+    ensures { IsTrue result ↔ All IsNear points.now }
+{
+    points.iter().all(|p| is_near(p))
+}
+
+fn doubled(p: OutlinePoint) -> Point
+    requires { IsNear p }
+    ensures { place_of result ≡ doubled_of p }
+{
+    Point {
+        x: 2 * p.x,
+        y: 2 * p.y,
+    }
+}
+
+/// The midpoint, in units of half the points' unit.
+fn middle(p: OutlinePoint, q: OutlinePoint) -> Point
+    requires near_p { IsNear p }
+    requires near_q { IsNear q }
+    ensures { place_of result ≡ middle_of p q }
+{
+    Point {
+        x: p.x + q.x,
+        y: p.y + q.y,
+    }
+}
+
+/// Where the curve is between two neighbours: at the first that is on it, else half way.
+fn joint(p: OutlinePoint, q: OutlinePoint) -> Point
+    requires near_p { IsNear p }
+    requires near_q { IsNear q }
+    ensures { place_of result ≡ joint_of p q }
+{
+    if p.on_curve {
+        return doubled(p);
+    }
+    if q.on_curve {
+        return doubled(q);
+    }
+    middle(p, q)
+}
+
+/// What a point q between its neighbours p and r adds.
+fn piece_at(p: OutlinePoint, q: OutlinePoint, r: OutlinePoint) -> Option<Piece>
+    requires near_p { IsNear p }
+    requires near_q { IsNear q }
+    requires near_r { IsNear r }
+    ensures { option_map span_of result ≡ span_at p q r }
+{
+    if !q.on_curve {
+        return Some(Piece {
+            a: joint(p, q),
+            b: Some(doubled(q)),
+            c: joint(q, r),
+        });
+    }
+    if p.on_curve {
+        return Some(Piece {
+            a: doubled(p),
+            b: None,
+            c: doubled(q),
+        });
+    }
+    None
+}
+
+fn push_some(made: &mut Pieces, piece: Option<Piece>) -> Result<(), AllocError>
+    requires { length made.old < 16384 }
+    ensures ok { OnOk result (made.new ≡ made.old ++ option_to_list piece) }
+{
+    match piece {
+        None => Ok(()),
+        Some(piece) => made.push(piece),
+    }
+}
+
+/// The point after point i of a contour that begins with `first`.
+fn next_point(points: &[OutlinePoint], i: usize, first: OutlinePoint) -> OutlinePoint
+    requires { i < length points.now }
+    ensures { result ≡ first_of (drop (i + 1) points.now) first }
+{
+    if i + 1 < points.len() {
+        return points[i + 1];
+    }
+    first
+}
+
+fn add_contour(made: &mut Pieces, points: &[OutlinePoint]) -> Result<(), AllocError>
+    requires near { All IsNear points.now }
+    requires room { length made.old + length points.now ≤ 16384 }
+    ensures ok { OnOk result (map span_of made.new ≡ map span_of made.old ++ curve_of points.now) }
+    ensures few { OnOk result (length made.new ≤ length made.old + length points.now) }
+{
+    if points.len() < 2 {
+        return Ok(());
+    }
+    let first = points[0];
+    let mut before = points[points.len() - 1];
+    for i in 0..points.len() {
+        let here = points[i];
+        let piece = piece_at(before, here, next_point(points, i, first));
+        push_some(made, piece)?;
+        before = here;
+    }
+    Ok(())
+}
+
+fn contour(points: &[OutlinePoint], start: usize, next: usize) -> &[OutlinePoint]
+    requires order { start ≤ next }
+    requires within { next ≤ length points.now }
+    ensures { result.now ≡ take (next - start) (drop start points.now) }
+{
+    &points[start..next]
+}
+
+/// The pieces of an outline, in 1/128 pixel: those of each contour, a closed chain, one contour after the other. A contour of
+/// fewer than two points has none. `TooFar` where a point, of whatever contour, lies past ±2^21 in 26.6 pixels.
+pub fn pieces(alloc: Global, outline: &Outline) -> Result<Pieces, ContourFault>
+    ensures ok { IfOk result (λ ps. map span_of ps ≡ spans_of outline.now.ends.items outline.now.points.items) }
+    ensures closed { IfOk result (λ ps. AreOfOutline (map span_of ps)) }
+    ensures exact { GivesUnless Fails (map span_of) result (drawn_of outline.now.ends.items outline.now.points.items) }
+    ensures far { IsErrOf result ContourFault.TooFar ↔ ¬ (All IsNear outline.now.points.items) }
+    ensures other { IfErr result (λ e. (e ≡ ContourFault.TooFar) ⊎ (e ≡ ContourFault.OutOfMemory)) }
+{
+    if !are_near(&outline.points) {
+        return Err(ContourFault::TooFar);
+    }
+    let mut made = Pieces::new(alloc);
+    let mut start = 0;
+    for end in &outline.ends {
+        let next = usize::from(*end) + 1;
+        add_contour(&mut made, contour(&outline.points, start, next))?;
+        start = next;
+    }
+    Ok(made)
+}

@@ -1,0 +1,52 @@
+//! The box of pixels around pieces.
+ghost use Rattle.std.specs.Prelude.{◌≡◌, ◌↔◌, map, IfOk, IfErr, IsErrOf};
+ghost use Rattle.fx_fixed.specs.Chain.{map_ok};
+ghost use Rattle.fx_winding.specs.Winding.{span_of};
+ghost use Rattle.fx_contour.specs.Frames.{IsFrameFor, AreTooLarge, NothingOutside, framed_of};
+
+use crate::bounds::Bounds;
+use crate::fault::ContourFault;
+use crate::pixels::Pixels;
+use fx_winding::{Frame, Piece, Pieces};
+
+/// The greatest number of pixels in a side of a frame.
+const GREATEST_SIDE: u32 = 2048;
+
+/// The least box of pixels that holds every pixel whose centre lies in the closed bounding box of the points of the pieces,
+/// control points too; `None` where it holds no pixel, `TooLarge` past 2,048 pixels a side. A pixel outside it is not set.
+pub fn frame(pieces: &Pieces) -> Result<Option<Frame>, ContourFault>
+    ensures ok { IfOk result (λ f. IsFrameFor f (map span_of pieces.now)) }
+    ensures outside { IfOk result (λ f. NothingOutside f (map span_of pieces.now)) }
+    ensures too_large { IsErrOf result ContourFault.TooLarge ↔ AreTooLarge (map span_of pieces.now) }
+    ensures fault { IfErr result (λ e. (e ≡ ContourFault.TooLarge) × AreTooLarge (map span_of pieces.now)) }
+    ensures exact { map_ok (λ _. tt) result ≡ framed_of (map span_of pieces.now) }
+{
+    frame_of(pieces.as_slice())
+}
+
+fn frame_of(pieces: &[Piece]) -> Result<Option<Frame>, ContourFault>
+    ensures ok { IfOk result (λ f. IsFrameFor f (map span_of pieces.now)) }
+    ensures fault { IfErr result (λ e. (e ≡ ContourFault.TooLarge) × AreTooLarge (map span_of pieces.now)) }
+{
+    let Some(bounds) = Bounds::of(pieces) else {
+        return Ok(None);
+    };
+    let Some(columns) = Pixels::between(bounds.left, bounds.right) else {
+        return Ok(None);
+    };
+    let Some(rows) = Pixels::between(bounds.bottom, bounds.top) else {
+        return Ok(None);
+    };
+    if columns.count > GREATEST_SIDE {
+        return Err(ContourFault::TooLarge);
+    }
+    if rows.count > GREATEST_SIDE {
+        return Err(ContourFault::TooLarge);
+    }
+    Ok(Some(Frame {
+        left: columns.first,
+        bottom: rows.first,
+        width: columns.count,
+        height: rows.count,
+    }))
+}

@@ -1,0 +1,19 @@
+//! The pieces of an outline, lines and quadratic arcs, and the box of pixels around them.
+//!
+//! An outline's points are in 26.6 pixels and its pieces in 1/128 pixel, so that a midpoint of two points is exact.
+//! `pieces` makes each contour one closed chain of pieces; `frame` gives the least box of pixels that can hold a set one.
+#![tactic(auto)]
+
+mod bounds;
+mod curves;
+mod fault;
+mod frames;
+pub mod laws;
+mod pixels;
+
+pub use curves::pieces;
+pub use fault::ContourFault;
+pub use frames::frame;
+
+#[cfg(test)]
+mod tests;

@@ -1,0 +1,36 @@
+//! Pixels of a row or a column.
+ghost use Rattle.std.specs.Prelude.{pos, ◌+ℤ◌, ◌≤ℤ◌, ◌<◌, ◌^◌, MatchOption};
+ghost use Rattle.fx_winding.specs.Area.{IsWithin};
+ghost use Rattle.fx_winding.specs.Limits.{IsPixelNumber};
+
+/// So many pixels in a row or a column, from the first on.
+#[derive(Clone, Copy)]
+pub(crate) struct Pixels {
+    pub first: i32,
+    pub count: u32,
+    ghost some: { 0 < count },
+    ghost first_number: { IsPixelNumber first },
+    ghost last_number: { (first +ℤ pos count) ≤ℤ pos 32768 },
+}
+
+impl Pixels {
+    ghost use Rattle.fx_contour.specs.Bounds.{AreNoPixels, ArePixels};
+
+    /// The pixels whose centres lie from `low` to `high`, in 1/128 pixel: the centre of pixel n lies at 128n + 64. Sums are
+    /// moved by 32,768 pixels, so that none is below 0.
+    pub(crate) fn between(low: i32, high: i32) -> Option<Pixels>
+        requires near_low { IsWithin (2 ^ 22) low }
+        requires near_high { IsWithin (2 ^ 22) high }
+        ensures { MatchOption result (AreNoPixels low high) (λ s. ArePixels s low high) }
+    {
+        let first = (low + 4_194_367) as u32 / 128;
+        let end = (high + 4_194_368) as u32 / 128;
+        if end <= first {
+            return None;
+        }
+        Some(Pixels {
+            first: first as i32 - 32768,
+            count: end - first,
+        })
+    }
+}

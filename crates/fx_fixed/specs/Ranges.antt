@@ -1,0 +1,6 @@
+-- Ranges of whole numbers.
+use Rattle.std.specs.Prelude.{ℕ, ℤ, pos, neg_ℤ, ◌≤ℤ◌}
+
+-- z is from -n to n
+abbrev pub IsWithin : ℕ → ℤ → Type 0
+IsWithin n z = (neg_ℤ (pos n) ≤ℤ z) × (z ≤ℤ pos n)

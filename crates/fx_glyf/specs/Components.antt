@@ -1,0 +1,99 @@
+-- The components of a composite glyph (OpenType, `glyf`, composite glyph description).
+use Rattle.std.specs.Prelude.{ℕ, zero, suc, ◌+◌, ◌*◌, ℤ, pos, List, [], length, take, drop, slice_index, Option, Some, None, option_and_then, Bool, true, false, nat_lt, if◌then◌else◌}
+use Rattle.std.specs.Int.{w8, cast_signed}
+use Rattle.std.specs.List.{list_any}
+use Rattle.fx_sfnt.specs.Fields.{field, signed_field}
+use Rattle.fx_glyf.specs.Words.{has, with_front}
+use Rattle.fx_glyf.specs.declared.part.Part.{Part}
+
+-- The masks of a component's flags.
+abbrev pub args_are_words : ℕ
+args_are_words = 0x0001
+
+abbrev pub args_are_offsets : ℕ
+args_are_offsets = 0x0002
+
+abbrev pub one_scale : ℕ
+one_scale = 0x0008
+
+abbrev pub more_components : ℕ
+more_components = 0x0020
+
+abbrev pub two_scales : ℕ
+two_scales = 0x0040
+
+abbrev pub four_scales : ℕ
+four_scales = 0x0080
+
+abbrev pub instructions : ℕ
+instructions = 0x0100
+
+-- the bytes of both arguments
+abbrev pub args_size : ℕ → ℕ
+args_size flags = if has flags args_are_words then 4 else 2
+
+-- the bytes of the scales
+abbrev pub scales_size : ℕ → ℕ
+scales_size flags = if has flags one_scale then 2 else (if has flags two_scales then 4 else (if has flags four_scales then 8 else 0))
+
+-- the bytes of a component with these flags: flags, glyph, arguments, scales
+abbrev pub part_size : ℕ → ℕ
+part_size flags = 4 + args_size flags + scales_size flags
+
+-- an argument, the first (0) or the second (1): whether both are words, and whether they are offsets, which are signed
+unfoldable pub argument_by : Bool → Bool → List ℕ → ℕ → ℤ
+argument_by true true bytes k = signed_field bytes (2 * k)
+argument_by true false bytes k = pos (field 2 bytes (2 * k))
+argument_by false true bytes k = cast_signed w8 (slice_index bytes k)
+argument_by false false bytes k = pos (slice_index bytes k)
+
+abbrev pub argument_of : ℕ → List ℕ → ℕ → ℤ
+argument_of flags bytes k = argument_by (has flags args_are_words) (has flags args_are_offsets) bytes k
+
+-- the numbers a, b, c, d, in 2.14, of x' = a x + c y, y' = b x + d y: whether there is one scale, or else two (x and y), or else all four
+unfoldable pub scales_by : Bool → Bool → Bool → List ℕ → ℤ × ℤ × ℤ × ℤ
+scales_by true two four bytes = (signed_field bytes 0, pos 0, pos 0, signed_field bytes 0)
+scales_by false true four bytes = (signed_field bytes 0, pos 0, pos 0, signed_field bytes 2)
+scales_by false false true bytes = (signed_field bytes 0, signed_field bytes 2, signed_field bytes 4, signed_field bytes 6)
+scales_by false false false bytes = (pos 16384, pos 0, pos 0, pos 16384)
+
+abbrev pub scales_of : ℕ → List ℕ → ℤ × ℤ × ℤ × ℤ
+scales_of flags bytes = scales_by (has flags one_scale) (has flags two_scales) (has flags four_scales) bytes
+
+-- the component that bytes are
+unfoldable pub part_of : List ℕ → Part
+part_of bytes = with_flags (field 2 bytes 0) (drop 4 bytes) where
+  with_scales : ℕ → ℤ × ℤ → ℤ × ℤ × ℤ × ℤ → Part
+  with_scales flags args scales = record { glyph = field 2 bytes 2; args = args; flags = flags; a = scales.0; b = scales.1; c = scales.2; d = scales.3 }
+
+  with_flags : ℕ → List ℕ → Part
+  with_flags flags rest = with_scales flags (argument_of flags rest 0, argument_of flags rest 1) (scales_of flags (drop (args_size flags) rest))
+
+-- the component at the front of bytes, and the bytes after it
+unfoldable pub next_part : List ℕ → Option (Part × List ℕ)
+next_part bytes =
+    if nat_lt (length bytes) 4 then None
+    else (if nat_lt (length bytes) (part_size (field 2 bytes 0)) then None
+    else Some (part_of (take (part_size (field 2 bytes 0)) bytes), drop (part_size (field 2 bytes 0)) bytes))
+
+-- whether one more component follows
+abbrev pub is_followed : Part → Bool
+is_followed p = has p.flags more_components
+
+-- the components at the front of bytes, where one more is to come, up to the last, and the bytes after them; room bounds their number
+unfoldable pub parts_from : Bool → ℕ → List ℕ → Option (List Part × List ℕ)
+parts_from false room bytes = Some ([], bytes)
+parts_from true zero bytes = None
+parts_from true (suc room) bytes = option_and_then (λ d. with_front d.0 (parts_from (is_followed d.0) room d.1)) (next_part bytes)
+
+-- the same with room for all: no component is shorter than a byte
+abbrev pub parts_in : Bool → List ℕ → Option (List Part × List ℕ)
+parts_in more bytes = parts_from more (length bytes) bytes
+
+-- whether a program follows the last component: where any of them says so
+abbrev pub has_program : List Part → Bool
+has_program parts = list_any (λ p. has p.flags instructions) parts
+
+-- what stands behind components: whether a program is announced, and the bytes
+abbrev pub ending_of : List Part × List ℕ → Bool × List ℕ
+ending_of parts = (has_program parts.0, parts.1)

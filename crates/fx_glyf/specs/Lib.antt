@@ -1,0 +1,6 @@
+pub mod Words
+pub mod Points
+pub mod Components
+pub mod Shapes
+pub mod Grammar
+pub mod Glyphs

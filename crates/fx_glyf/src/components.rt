@@ -1,0 +1,63 @@
+//! The components of a composite glyph.
+
+ghost use Rattle.std.specs.Prelude.{◌≡◌, IsSome, true};
+ghost use Rattle.fx_glyf.specs.Words.{list_in};
+ghost use Rattle.fx_glyf.specs.Components.{parts_in};
+
+use crate::part::Part;
+use crate::records::{is_followed, next_part};
+use std::marker::Model;
+
+/// The components that are left, which are all there.
+#[derive(Drop)]
+pub struct Components<'a> {
+    more: bool,
+    bytes: &'a [u8],
+}
+
+impl<'a> Model for Components<'a> {
+    ghost use Rattle.std.specs.Prelude.{List, IsSome};
+    ghost use Rattle.fx_glyf.specs.Words.{list_in};
+    ghost use Rattle.fx_glyf.specs.Components.{parts_in};
+    ghost use Rattle.fx_glyf.specs.declared.part.Part.{Part};
+
+    ghost Value = { List Part };
+
+    ghost view = { λ c. list_in (parts_in c.more c.bytes.now) };
+
+    ghost invariant = { λ c. IsSome (parts_in c.more c.bytes.now) };
+}
+
+impl<'a> Components<'a> {
+    /// The components at the front of the bytes, up to the last.
+    pub(crate) fn new(bytes: &'a [u8]) -> Components<'a>
+        requires { IsSome (parts_in true bytes.now) }
+        ensures { result ≡ list_in (parts_in true bytes.now) }
+    {
+        Components { more: true, bytes }
+    }
+}
+
+impl<'a> Iterator for Components<'a> {
+    type Item = Part;
+
+    ghost use Rattle.std.specs.Iterator.{YieldsFirst, item_count};
+
+    ghost next_gives = { YieldsFirst (λ ps. ps) };
+
+    ghost remaining = { item_count (λ ps. ps) };
+
+    fn next(&mut self) -> Option<Part> {
+        if !self.more {
+            return None;
+        }
+        match next_part(self.bytes) {
+            None => None,
+            Some((part, bytes)) => {
+                self.more = is_followed(part);
+                self.bytes = bytes;
+                Some(part)
+            }
+        }
+    }
+}

@@ -1,0 +1,87 @@
+//! A composite glyph.
+
+ghost use Rattle.std.specs.Prelude.{◌≡◌, ◌≤◌, length, option_map};
+ghost use Rattle.fx_glyf.specs.Glyphs.{announced_of, composite_of};
+
+use crate::components::Components;
+use crate::fault::GlyphFault;
+use crate::program::program;
+use crate::records::skip_parts;
+use crate::simple::x_min;
+use fx_sfnt::after;
+use std::marker::Model;
+
+/// A glyph of components, in its bytes (OpenType, `glyf`, composite glyph description).
+#[derive(Drop)]
+pub struct Composite<'a> {
+    x_min: i16,
+    parts: &'a [u8],
+    code: &'a [u8],
+}
+
+impl<'a> Model for Composite<'a> {
+    ghost use Rattle.std.specs.Prelude.{IsSome, true};
+    ghost use Rattle.fx_glyf.specs.Words.{list_in};
+    ghost use Rattle.fx_glyf.specs.Components.{parts_in};
+    ghost use Rattle.fx_glyf.specs.Shapes.{Assembly};
+
+    ghost Value = { Assembly };
+
+    ghost view = { λ c. record { components = list_in (parts_in true c.parts.now); x_min = c.x_min; code = c.code.now } };
+
+    ghost invariant = { λ c. IsSome (parts_in true c.parts.now) };
+}
+
+/// The program behind components, where one is announced.
+fn announced_program(announced: bool, bytes: &[u8]) -> Option<(&[u8], &[u8])>
+    ensures { option_map (λ p. (p.0.now, p.1.now)) result ≡ announced_of announced bytes.now }
+{
+    if announced {
+        program(bytes)
+    } else {
+        Some((&[], bytes))
+    }
+}
+
+impl<'a> Composite<'a> {
+    /// Reads the components and the program behind the header; g is the glyph's number.
+    #[tactic(auto, unfolding(crate::specs::Glyphs::composite_of))]
+    pub(crate) fn read(bytes: &'a [u8], g: u16) -> Result<Composite<'a>, GlyphFault>
+        requires { 10 ≤ length bytes.now }
+        ensures { result ≡ composite_of bytes.now g }
+    {
+        let parts = after(bytes, 10);
+        let Some((announced, rest)) = skip_parts(parts) else {
+            return Err(GlyphFault::GlyphShort(g));
+        };
+        let Some((code, _)) = announced_program(announced, rest) else {
+            return Err(GlyphFault::GlyphShort(g));
+        };
+        Ok(Composite {
+            x_min: x_min(bytes),
+            parts,
+            code,
+        })
+    }
+
+    /// The components, in their order.
+    pub fn components(&self) -> Components<'a>
+        ensures { result ≡ self.now.components }
+    {
+        Components::new(self.parts)
+    }
+
+    /// The xMin of the header, in FUnits.
+    pub fn x_min(&self) -> i16
+        ensures { result ≡ self.now.x_min }
+    {
+        self.x_min
+    }
+
+    /// The program; empty where no component announces one.
+    pub fn code(&self) -> &'a [u8]
+        ensures { result.now ≡ self.now.code }
+    {
+        self.code
+    }
+}

@@ -1,0 +1,127 @@
+//! The flags of a glyph's points.
+
+ghost use Rattle.std.specs.Prelude.{◌≡◌, ◌+◌, ◌≤◌, ◌∷◌, [], IsSome, MatchOption, length, drop, option_map};
+ghost use Rattle.fx_glyf.specs.Words.{has, list_in};
+ghost use Rattle.fx_glyf.specs.Points.{next_flag, flags_from};
+
+use std::marker::Model;
+
+/// The point is on the curve.
+pub const ON_CURVE: u8 = 0x01;
+
+/// The delta of x is one byte.
+pub const X_SHORT: u8 = 0x02;
+
+/// The delta of y is one byte.
+pub const Y_SHORT: u8 = 0x04;
+
+/// The next byte says for how many further points the flag stands.
+pub const REPEATS: u8 = 0x08;
+
+/// The delta of x is 0, or positive where it is short.
+pub const X_SAME: u8 = 0x10;
+
+/// The delta of y is 0, or positive where it is short.
+pub const Y_SAME: u8 = 0x20;
+
+/// Whether a flag has a bit, by its mask.
+pub fn has(flag: u8, mask: u8) -> bool
+    ensures { result ≡ has flag mask }
+{
+    flag & mask != 0
+}
+
+/// The next flag, how often it stands again after that, and the bytes behind it.
+#[tactic(auto, unfolding(crate::specs::Points::next_flag))]
+pub fn next_flag(again: u8, flag: u8, bytes: &[u8]) -> Option<(u8, u8, &[u8])>
+    ensures { option_map (λ s. record { again = s.0; flag = s.1; bytes = s.2.now }) result
+        ≡ next_flag (record { again = again; flag = flag; bytes = bytes.now }) }
+{
+    if again > 0 {
+        return Some((again - 1, flag, bytes));
+    }
+    match bytes {
+        [] => None,
+        [flag, rest @ ..] => {
+            if !has(*flag, REPEATS) {
+                return Some((0, *flag, rest));
+            }
+            match rest {
+                [] => None,
+                [again, rest @ ..] => Some((*again, *flag, rest)),
+            }
+        }
+    }
+}
+
+/// The bytes after the flags of so many points.
+pub fn skip_flags(count: u32, bytes: &[u8]) -> Option<&[u8]>
+    ensures { option_map (λ r. r.now) result
+        ≡ option_map (λ r. r.1) (flags_from count (record { again = 0; flag = 0; bytes = bytes.now })) }
+{
+    let mut again = 0;
+    let mut flag = 0;
+    let mut rest = bytes;
+    'flags: for _k in 0..count {
+        let (next_again, next, behind) = next_flag(again, flag, rest)?;
+        again = next_again;
+        flag = next;
+        rest = behind;
+    }
+    Some(rest)
+}
+
+/// The flags of points that are left, which are all there.
+#[derive(Drop)]
+pub struct Flags<'a> {
+    left: u32,
+    again: u8,
+    flag: u8,
+    bytes: &'a [u8],
+}
+
+impl<'a> Model for Flags<'a> {
+    ghost use Rattle.std.specs.Prelude.{ℕ, List, IsSome};
+    ghost use Rattle.fx_glyf.specs.Words.{list_in};
+    ghost use Rattle.fx_glyf.specs.Points.{flags_from};
+
+    ghost Value = { List ℕ };
+
+    ghost view = { λ f. list_in (flags_from f.left (record { again = f.again; flag = f.flag; bytes = f.bytes.now })) };
+
+    ghost invariant = { λ f. IsSome (flags_from f.left (record { again = f.again; flag = f.flag; bytes = f.bytes.now })) };
+}
+
+impl<'a> Flags<'a> {
+    /// The flags of so many points at the front of the bytes.
+    pub fn new(left: u32, bytes: &'a [u8]) -> Flags<'a>
+        requires { IsSome (flags_from left (record { again = 0; flag = 0; bytes = bytes.now })) }
+        ensures { result ≡ list_in (flags_from left (record { again = 0; flag = 0; bytes = bytes.now })) }
+    {
+        Flags {
+            left,
+            again: 0,
+            flag: 0,
+            bytes,
+        }
+    }
+
+    /// The next flag.
+    pub fn next(&mut self) -> Option<u8>
+        ensures { MatchOption result ((self.old ≡ []) × (self.new ≡ [])) (λ f. self.old ≡ f ∷ self.new) }
+    {
+        if self.left == 0 {
+            return None;
+        }
+        match next_flag(self.again, self.flag, self.bytes) {
+            None => None,
+            Some((again, flag, bytes)) => {
+                self.left -= 1;
+                self.again = again;
+                self.flag = flag;
+                self.bytes = bytes;
+                Some(flag)
+            }
+        }
+    }
+}

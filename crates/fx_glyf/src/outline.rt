@@ -1,0 +1,62 @@
+//! Flags and deltas that are all there.
+
+ghost use Rattle.std.specs.Prelude.{◌≡◌};
+ghost use Rattle.fx_glyf.specs.Points.{outline_of};
+
+use crate::flags::{Flags, X_SAME, X_SHORT, Y_SAME, Y_SHORT, skip_flags};
+use crate::points::{Points, skip_deltas};
+use std::marker::Model;
+
+/// The points of a glyph, in their bytes.
+#[derive(Drop)]
+pub struct Outline<'a> {
+    count: u32,
+    flags: &'a [u8],
+    xs: &'a [u8],
+    ys: &'a [u8],
+}
+
+impl<'a> Model for Outline<'a> {
+    ghost use Rattle.std.specs.Prelude.{List, IsSome};
+    ghost use Rattle.fx_glyf.specs.declared.point.Point.{Point};
+    ghost use Rattle.fx_glyf.specs.Words.{list_in};
+    ghost use Rattle.fx_glyf.specs.Points.{x_short, y_short, x_same, y_same, flags_from, deltas_from, seen, start};
+
+    ghost Value = { List Point };
+
+    ghost view = { λ o. seen (list_in (flags_from o.count (start o.flags.now))) o.xs.now o.ys.now 0 0 };
+
+    ghost invariant = { λ o. IsSome (flags_from o.count (start o.flags.now))
+        × IsSome (deltas_from x_short x_same (list_in (flags_from o.count (start o.flags.now))) o.xs.now)
+        × IsSome (deltas_from y_short y_same (list_in (flags_from o.count (start o.flags.now))) o.ys.now) };
+}
+
+impl<'a> Outline<'a> {
+    /// So many points at the front of the bytes, if they are all there.
+    pub fn read(count: u32, flags: &'a [u8]) -> Option<Outline<'a>>
+        ensures { result ≡ outline_of count flags.now }
+    {
+        let Some(xs) = skip_flags(count, flags) else {
+            return None;
+        };
+        let Some(ys) = skip_deltas(X_SHORT, X_SAME, Flags::new(count, flags), xs) else {
+            return None;
+        };
+        let Some(_) = skip_deltas(Y_SHORT, Y_SAME, Flags::new(count, flags), ys) else {
+            return None;
+        };
+        Some(Outline {
+            count,
+            flags,
+            xs,
+            ys,
+        })
+    }
+
+    /// The points.
+    pub fn points(&self) -> Points<'a>
+        ensures { result ≡ self.now }
+    {
+        Points::new(Flags::new(self.count, self.flags), self.xs, self.ys)
+    }
+}

@@ -1,0 +1,150 @@
+//! The points of a simple glyph.
+
+ghost use Rattle.std.specs.Prelude.{◌≡◌, ◌+◌, ◌-◌, ◌%◌, ◌≤◌, ◌∷◌, [], IsSome, MatchOption, length, drop, option_map};
+ghost use Rattle.fx_glyf.specs.Words.{list_in};
+ghost use Rattle.fx_glyf.specs.Points.{x_short, y_short, x_same, y_same, delta_of, deltas_from, points_of, point_at, seen};
+
+use crate::flags::{Flags, ON_CURVE, X_SAME, X_SHORT, Y_SAME, Y_SHORT, has};
+use crate::point::Point;
+use byteorder::{BigEndian, ByteOrder};
+use fx_sfnt::after;
+use std::marker::Model;
+
+/// The delta of one coordinate of a point, and the bytes behind it.
+#[tactic(auto, unfolding(crate::specs::Points::delta_by))]
+pub fn delta(short: u8, same: u8, flag: u8, bytes: &[u8]) -> Option<(u16, &[u8])>
+    ensures { option_map (λ d. (d.0, d.1.now)) result ≡ delta_of short same flag bytes.now }
+{
+    if has(flag, short) {
+        return match bytes {
+            [] => None,
+            [size, rest @ ..] => {
+                let size = u16::from(*size);
+                Some((
+                    if has(flag, same) {
+                        size
+                    } else {
+                        opposite(size)
+                    },
+                    rest,
+                ))
+            }
+        };
+    }
+    if has(flag, same) {
+        return Some((0, bytes));
+    }
+    if bytes.len() < 2 {
+        return None;
+    }
+    Some((BigEndian::read_u16(bytes), after(bytes, 2)))
+}
+
+/// The bytes after the deltas of points with these flags.
+pub fn skip_deltas<'a>(short: u8, same: u8, flags: Flags<'_>, bytes: &'a [u8]) -> Option<&'a [u8]>
+    ensures { option_map (λ r. r.now) result ≡ option_map (λ r. r.1) (deltas_from short same flags.entry bytes.now) }
+{
+    let mut flags = flags;
+    let mut rest = bytes;
+    'deltas: while let Some(flag) = flags.next() {
+        let (_, behind) = delta(short, same, flag, rest)?;
+        rest = behind;
+    }
+    Some(rest)
+}
+
+/// The points that are left.
+#[derive(Drop)]
+pub struct Points<'a> {
+    flags: Flags<'a>,
+    xs: &'a [u8],
+    ys: &'a [u8],
+    x: u16,
+    y: u16,
+}
+
+impl<'a> Model for Points<'a> {
+    ghost use Rattle.std.specs.Prelude.{List, IsSome};
+    ghost use Rattle.fx_glyf.specs.declared.point.Point.{Point};
+    ghost use Rattle.fx_glyf.specs.Words.{list_in};
+    ghost use Rattle.fx_glyf.specs.Points.{x_short, y_short, x_same, y_same, deltas_from, points_of};
+
+    ghost Value = { List Point };
+
+    ghost view = { λ p. points_of p.flags (list_in (deltas_from x_short x_same p.flags p.xs.now)) (list_in (deltas_from y_short y_same p.flags p.ys.now)) p.x p.y };
+
+    ghost invariant = { λ p. IsSome (deltas_from x_short x_same p.flags p.xs.now) × IsSome (deltas_from y_short y_same p.flags p.ys.now) };
+}
+
+impl<'a> Points<'a> {
+    /// The points of these flags and deltas.
+    pub(crate) fn new(flags: Flags<'a>, xs: &'a [u8], ys: &'a [u8]) -> Points<'a>
+        requires x { IsSome (deltas_from x_short x_same flags xs.now) }
+        requires y { IsSome (deltas_from y_short y_same flags ys.now) }
+        ensures { result ≡ seen flags.entry xs.now ys.now 0 0 }
+    {
+        Points {
+            flags,
+            xs,
+            ys,
+            x: 0,
+            y: 0,
+        }
+    }
+}
+
+impl<'a> Iterator for Points<'a> {
+    type Item = Point;
+
+    ghost use Rattle.std.specs.Iterator.{YieldsFirst, item_count};
+
+    ghost next_gives = { YieldsFirst (λ ps. ps) };
+
+    ghost remaining = { item_count (λ ps. ps) };
+
+    fn next(&mut self) -> Option<Point> {
+        let Some(flag) = self.flags.next() else {
+            return None;
+        };
+        match (
+            delta(X_SHORT, X_SAME, flag, self.xs),
+            delta(Y_SHORT, Y_SAME, flag, self.ys),
+        ) {
+            (Some((dx, xs)), Some((dy, ys))) => {
+                self.xs = xs;
+                self.ys = ys;
+                let x = moved(self.x, dx);
+                let y = moved(self.y, dy);
+                self.x = x;
+                self.y = y;
+                Some(point(x, y, flag))
+            }
+            _ => None,
+        }
+    }
+}
+
+/// A coordinate moved by a delta, modulo 2 ^ 16.
+fn moved(at: u16, by: u16) -> u16
+    ensures { result ≡ (at + by) % 65536 }
+{
+    at.wrapping_add(by)
+}
+
+/// The delta back, modulo 2 ^ 16.
+fn opposite(by: u16) -> u16
+    ensures { result ≡ (65536 - by) % 65536 }
+{
+    if by == 0 { 0 } else { u16::MAX - by + 1 }
+}
+
+#[tactic(auto, unfolding(crate::specs::Points::point_at))]
+fn point(x: u16, y: u16, flag: u8) -> Point
+    ensures { result ≡ point_at x y flag }
+{
+    Point {
+        x: x.cast_signed(),
+        y: y.cast_signed(),
+        on_curve: has(flag, ON_CURVE),
+    }
+}

@@ -1,0 +1,22 @@
+//! The program of a glyph.
+
+ghost use Rattle.std.specs.Prelude.{◌≡◌, option_map};
+ghost use Rattle.fx_glyf.specs.Words.{program_of};
+
+use fx_sfnt::{after, before, u16_in};
+
+/// A program behind its length, and the bytes after it.
+#[tactic(auto, unfolding(crate::specs::Words::program_of))]
+pub fn program(bytes: &[u8]) -> Option<(&[u8], &[u8])>
+    ensures { option_map (λ p. (p.0.now, p.1.now)) result ≡ program_of bytes.now }
+{
+    if bytes.len() < 2 {
+        return None;
+    }
+    let size = u16_in(bytes, 0) as usize;
+    let rest = after(bytes, 2);
+    if rest.len() < size {
+        return None;
+    }
+    Some((before(rest, size), after(rest, size)))
+}

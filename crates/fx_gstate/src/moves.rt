@@ -1,0 +1,86 @@
+// Shifts along the freedom vector.
+ghost use Rattle.std.specs.Prelude.{◌≡◌, ◌≢◌, ◌^◌, ◌≤◌, pos, ◌+ℤ◌, ◌*ℤ◌, unsigned_abs};
+ghost use Rattle.fx_gstate.specs.Vectors.{dot_of, not_small, shift_of};
+
+use super::vectors::Vector;
+use fx_fixed::{F26, near, w32};
+
+/// The shift along the freedom vector that changes the projection by `d` (Apple TrueType Reference Manual, "Freedom vector"): each
+/// coordinate is the nearest to the exact quotient, in 32 bits. Where both vectors are one axis it is `d` along that axis.
+pub fn shift_along(freedom: Vector, projection: Vector, d: F26) -> (F26, F26)
+    ensures x { result.0.0 ≡ shift_of d.0 freedom.x (dot_of freedom.x freedom.y projection.x projection.y) }
+    ensures y { result.1.0 ≡ shift_of d.0 freedom.y (dot_of freedom.x freedom.y projection.x projection.y) }
+{
+    if freedom.x == 16384 && freedom.y == 0 && projection.x == 16384 && projection.y == 0 {
+        return (d, F26(0));
+    }
+    if freedom.x == 0 && freedom.y == 16384 && projection.x == 0 && projection.y == 16384 {
+        return (F26(0), d);
+    }
+    shifted(freedom, projection, d)
+}
+
+// The same with no shortcut.
+fn shifted(freedom: Vector, projection: Vector, d: F26) -> (F26, F26)
+    ensures x { result.0.0 ≡ shift_of d.0 freedom.x (dot_of freedom.x freedom.y projection.x projection.y) }
+    ensures y { result.1.0 ≡ shift_of d.0 freedom.y (dot_of freedom.x freedom.y projection.x projection.y) }
+{
+    let by = dot(freedom, projection);
+    (
+        F26(shift(d.0, freedom.x, by)),
+        F26(shift(d.0, freedom.y, by)),
+    )
+}
+
+#[tactic(auto, unfolding(crate::specs::Vectors::shift_of))]
+fn shift(d: i32, along: i16, by: i128) -> i32
+    requires nonzero { by ≢ pos 0 }
+    requires size { unsigned_abs by ≤ 2 ^ 31 }
+    ensures { result ≡ shift_of d along by }
+{
+    w32(near(numerator(d, along), by))
+}
+
+fn numerator(d: i32, along: i16) -> i128
+    ensures value { result ≡ d *ℤ along *ℤ pos (2 ^ 14) }
+    ensures bound { unsigned_abs result ≤ 2 ^ 60 }
+{
+    i128::from(d) * i128::from(along) * (1 << 14)
+}
+
+// The product of the vectors.
+fn dot(freedom: Vector, projection: Vector) -> i128
+    ensures value { result ≡ dot_of freedom.x freedom.y projection.x projection.y }
+    ensures nonzero { result ≢ pos 0 }
+    ensures size { unsigned_abs result ≤ 2 ^ 31 }
+{
+    not_small(dot_product(freedom.x, freedom.y, projection.x, projection.y))
+}
+
+// A product below 1/16 is taken as that of equal vectors, so that a shift stays in reach.
+fn not_small(dot: i64) -> i128
+    requires { unsigned_abs dot ≤ 2 ^ 31 }
+    ensures value { result ≡ not_small dot }
+    ensures nonzero { result ≢ pos 0 }
+    ensures size { unsigned_abs result ≤ 2 ^ 31 }
+{
+    if dot.unsigned_abs() < 1 << 24 {
+        1 << 28
+    } else {
+        i128::from(dot)
+    }
+}
+
+fn dot_product(fx: i16, fy: i16, px: i16, py: i16) -> i64
+    ensures value { result ≡ fx *ℤ px +ℤ fy *ℤ py }
+    ensures size { unsigned_abs result ≤ 2 ^ 31 }
+{
+    product(fx, px) + product(fy, py)
+}
+
+fn product(a: i16, b: i16) -> i64
+    ensures value { result ≡ a *ℤ b }
+    ensures bound { unsigned_abs result ≤ 2 ^ 30 }
+{
+    i64::from(a) * i64::from(b)
+}

@@ -1,0 +1,5 @@
+pub mod Ends
+pub mod Faults
+pub mod Parts
+pub mod Hinting
+pub mod Outlines

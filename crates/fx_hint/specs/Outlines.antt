@@ -1,0 +1,139 @@
+-- The outline of a glyph at a size, by recursion on components, with the first cause why there is none (OpenType, `glyf`).
+use Rattle.std.specs.Prelude.{ℕ, zero, suc, ◌+◌, ◌≤◌, List, [], ◌∷◌, map, length, ℤ, pos, ◌-ℤ◌, Bool, nat_lt, nat_le, Result, Ok, Err}
+use Rattle.fx_fixed.specs.Numbers.{wrapped_of}
+use Rattle.fx_fixed.specs.Chain.{◌>>=◌, refuse, map_fault}
+use Rattle.fx_sfnt.specs.declared.records.Metrics.{Metrics}
+use Rattle.fx_sfnt.specs.Tables.{Face}
+use Rattle.fx_sfnt.specs.Glyphs.{metrics_of, glyph_bytes_of}
+use Rattle.fx_glyf.specs.declared.part.Part.{Part}
+use Rattle.fx_glyf.specs.declared.glyph.Glyph as glyf
+use Rattle.fx_glyf.specs.declared.glyph.Glyph.TheVariants.{Empty, Simple, Composite}
+use Rattle.fx_glyf.specs.Shapes.{Shape}
+use Rattle.fx_glyf.specs.Glyphs.{glyph_of}
+use Rattle.fx_zone.specs.declared.point.Point.{Point}
+use Rattle.fx_zone.specs.Figures.{empty_figure}
+use Rattle.fx_scale.specs.declared.scale.Scale.{Scale}
+use Rattle.fx_scale.specs.Phantoms.{phantoms_of}
+use Rattle.fx_scale.specs.Zones.{zone_of_shape}
+use Rattle.fx_hint.specs.declared.count.Count.{Count}
+use Rattle.fx_hint.specs.declared.made.Made.{Made}
+use Rattle.fx_hint.specs.declared.outline.OutlinePoint.{OutlinePoint}
+use Rattle.fx_hint.specs.declared.outline.Outline.{Outline}
+use Rattle.fx_hint.specs.declared.fault.HintFault.{HintFault}
+use Rattle.fx_hint.specs.declared.fault.HintFault.TheVariants.{Font, Glyph, ComponentDepth, TooManyComponents, TooManyPoints}
+use Rattle.fx_hint.specs.Ends.{AreEnds}
+use Rattle.fx_hint.specs.Hinting.{Hinting, no_hinting}
+use Rattle.fx_hint.specs.Parts.{with_part}
+
+-- what makes a component whole: its glyph, and what the character has used up so far
+abbrev pub Maker : Type 0
+Maker = ℕ → Count → Result (Made × Count) HintFault
+
+-- one component record more: at most 256 in the whole tree of the character
+unfoldable pub one_record : ℕ → Count → Result Count HintFault
+one_record character count = do
+  _ ← refuse (nat_le 256 count.records) (TooManyComponents character)
+  Ok (record count { records = count.records + 1 })
+
+-- so many points more: at most 16,384 in the whole tree of the character
+unfoldable pub more_points : ℕ → ℕ → Count → Result Count HintFault
+more_points character n count = do
+  _ ← refuse (nat_lt 16384 (count.points + n)) (TooManyPoints character)
+  Ok (record count { points = count.points + n })
+
+-- a simple glyph, before its program runs
+unfoldable pub simple_made : Scale → Bool → ℕ → Metrics → Shape → Count → Result (Made × Count) HintFault
+simple_made s hinted character m shape count = do
+  counted ← more_points character (length shape.points) count
+  Ok (record { zone = zone_of_shape s shape; phantoms = phantoms_of s hinted shape.x_min m }, counted)
+
+-- the program of a glyph runs on its points and phantom points
+unfoldable pub run_on : Hinting → ℕ → List ℕ → Made × Count → Result (Made × Count) HintFault
+run_on h g code made = do
+  ran ← h.run g code made.0
+  Ok (ran, made.1)
+
+-- the components of a composite g in order, each made whole
+unfoldable pub with_parts : Scale → Bool → Maker → ℕ → List Part → Made → Count → Result (Made × Count) HintFault
+with_parts s hinted make g [] base count = Ok (base, count)
+with_parts s hinted make g (part ∷ parts) base count = do
+  component ← make part.glyph count
+  more ← with_part s hinted g part base component.0
+  with_parts s hinted make g parts more component.1
+
+-- a glyph that has been read, made whole by its own rule
+unfoldable pub made_of : Hinting → Scale → ℕ → Maker → ℕ → Metrics → glyf.Glyph → Count → Result (Made × Count) HintFault
+made_of h s character make g m Empty count = Ok (record { zone = empty_figure; phantoms = phantoms_of s h.on (pos 0) m }, count)
+made_of h s character make g m (Simple shape) count = do
+  made ← simple_made s h.on character m shape count
+  run_on h g shape.code made
+made_of h s character make g m (Composite assembly) count = do
+  made ← with_parts s h.on make g assembly.components (record { zone = empty_figure; phantoms = phantoms_of s h.on assembly.x_min m }) count
+  run_on h g assembly.code made
+
+-- a glyph: its number and bytes, its reading, and then itself
+unfoldable pub whole : Hinting → Face → Scale → ℕ → Maker → ℕ → Count → Result (Made × Count) HintFault
+whole h face s character make g count = do
+  m ← map_fault Font (metrics_of face g)
+  bytes ← map_fault Font (glyph_bytes_of face g)
+  glyph ← map_fault Glyph (glyph_of bytes g)
+  made_of h s character make g m glyph count
+
+-- a component, where so many levels are allowed from here on
+unfoldable pub component : Hinting → Face → Scale → ℕ → ℕ → ℕ → Count → Result (Made × Count) HintFault
+component h face s character zero = λ g count. Err (ComponentDepth g)
+component h face s character (suc levels) = λ g count. one_record character count >>= λ counted. whole h face s character (component h face s character levels) g counted
+
+-- a character's glyph, at depth 0: components lie at depth 8 at most
+unfoldable pub character_made : Hinting → Face → Scale → ℕ → Result Made HintFault
+character_made h face s g = do
+  made ← whole h face s g (component h face s g 8) g (record { records = 0; points = 0 })
+  Ok made.0
+
+-- what an outline is seen as
+pub record Drawing : Type 0 where
+  pub points : List OutlinePoint
+  pub ends : List ℕ
+  pub advance : ℤ
+  pub strays : ℕ
+  pub steps : ℕ
+
+abbrev pub drawing_of_outline : Outline → Drawing
+drawing_of_outline o = record { points = o.points.items; ends = o.ends.items; advance = o.advance; strays = o.strays; steps = o.steps }
+
+-- an x from the first phantom point's current x, modulo 2 ^ 32
+abbrev pub from_origin : ℤ → ℤ → ℤ
+from_origin origin x = wrapped_of (x -ℤ origin)
+
+-- a point of an outline: its current place, moved so that the first phantom point lies at x = 0
+abbrev pub moved_point : ℤ → Point → OutlinePoint
+moved_point origin p = record { x = from_origin origin p.cur.x; y = p.cur.y; on_curve = p.on }
+
+-- the whole outline moved; its advance is the second phantom point's x from the first's
+unfoldable pub drawing_of_made : Made → Drawing
+drawing_of_made made = record {
+  points = map (moved_point made.phantoms.origin.cur.x) made.zone.points;
+  ends = made.zone.ends;
+  advance = from_origin made.phantoms.origin.cur.x made.phantoms.advance.cur.x;
+  strays = 0;
+  steps = 0;
+}
+
+-- a font's scale at so many pixels an em
+abbrev pub scale_of : Face → ℕ → Scale
+scale_of face ppem = record { ppem = ppem; units = face.head.units_per_em; ascender = face.hhea.ascender; descender = face.hhea.descender }
+
+-- the outline of a glyph as hinting makes it
+unfoldable pub outline_with : Hinting → Face → ℕ → ℕ → Result Drawing HintFault
+outline_with h face ppem g = do
+  made ← character_made h face (scale_of face ppem) g
+  Ok (drawing_of_made made)
+
+-- the outline of a glyph with hinting off
+abbrev pub outline_of : Face → ℕ → ℕ → Result Drawing HintFault
+outline_of face ppem g = outline_with no_hinting face ppem g
+
+-- a glyph made whole has at most 16,384 points, and its contours end with them
+pub record IsSound (made : Made) : Type 0 where
+  pub few : length made.zone.points ≤ 16384
+  pub contours : AreEnds 0 made.zone.ends (length made.zone.points)

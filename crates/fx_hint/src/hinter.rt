@@ -1,0 +1,50 @@
+//! What hinting adds to scaling.
+
+ghost use Rattle.std.specs.Prelude.{◌≡◌, false};
+ghost use Rattle.fx_fixed.specs.Chain.{GivesUnless};
+ghost use Rattle.fx_hint.specs.Faults.{Fails};
+ghost use Rattle.fx_hint.specs.Hinting.{Hinting, KeepsShape, no_hinting};
+
+use crate::fault::HintFault;
+use crate::made::Made;
+
+/// Whether phantom points and rounded offsets are rounded, and what runs the programs of glyphs. Each program starts from the
+/// same state: nothing passes from one glyph to another.
+pub trait Hinter {
+    ghost use Rattle.fx_hint.specs.Hinting.{Hinting};
+
+    ghost hinting: { Self → Hinting };
+
+    /// Whether hinting is on.
+    fn is_on(&self) -> bool
+        ensures { result ≡ (hinting self.now).on };
+
+    /// Runs the program of glyph `g` on its points and phantom points.
+    fn run(&mut self, g: u16, code: &[u8], made: &mut Made) -> Result<(), HintFault>
+        ensures kept { hinting self.new ≡ hinting self.old }
+        ensures value { GivesUnless Fails (λ _. made.new) result ((hinting self.old).run g code.now made.old) };
+
+    /// No program changes the number of points or the contours.
+    fn keeps_shape(&self)
+        ensures { KeepsShape (hinting self.now) };
+}
+
+/// Hinting off: nothing is rounded, and no program runs.
+#[derive(Drop)]
+pub struct NoHinter;
+
+impl Hinter for NoHinter {
+    ghost use Rattle.fx_hint.specs.Hinting.{no_hinting};
+
+    ghost hinting = { λ _. no_hinting };
+
+    fn is_on(&self) -> bool {
+        false
+    }
+
+    fn run(&mut self, _g: u16, _code: &[u8], _made: &mut Made) -> Result<(), HintFault> {
+        Ok(())
+    }
+
+    fn keeps_shape(&self) {}
+}

@@ -1,0 +1,217 @@
+//! The walk over components.
+
+ghost use Rattle.std.specs.Prelude.{◌≡◌, ◌<◌};
+ghost use Rattle.fx_fixed.specs.Chain.{GivesUnless};
+ghost use Rattle.fx_zone.specs.Figures.{empty_figure};
+ghost use Rattle.fx_scale.specs.Phantoms.{phantoms_of};
+ghost use Rattle.fx_hint.specs.Faults.{Fails};
+ghost use Rattle.fx_hint.specs.Outlines.{simple_made, whole, component, with_parts, made_of, character_made};
+
+use crate::count::Count;
+use crate::fault::HintFault;
+use crate::hinter::Hinter;
+use crate::made::Made;
+use crate::part::with_part;
+use fx_glyf::{Components, Composite, Glyph, Simple, read};
+use fx_scale::{PhantomPoints, Scale, zone_of};
+use fx_sfnt::{Font, Metrics};
+use fx_zone::Zone;
+use std::alloc::Global;
+
+/// A glyph without points yet.
+fn empty_made(alloc: Global, scale: Scale, hinted: bool, x_min: i16, metrics: Metrics) -> Made
+    requires { 0 < scale.units }
+    ensures { result ≡ record { zone = empty_figure; phantoms = phantoms_of scale hinted x_min metrics } }
+{
+    Made {
+        zone: Zone::new(alloc),
+        phantoms: PhantomPoints::of_glyph(scale, hinted, x_min, metrics),
+    }
+}
+
+/// A composite glyph without its components.
+fn start(
+    alloc: Global,
+    scale: Scale,
+    hinted: bool,
+    composite: &Composite<'_>,
+    metrics: Metrics,
+) -> Made
+    requires { 0 < scale.units }
+    ensures { result ≡ record { zone = empty_figure; phantoms = phantoms_of scale hinted composite.now.x_min metrics } }
+{
+    empty_made(alloc, scale, hinted, composite.x_min(), metrics)
+}
+
+/// A simple glyph's scaled points, before its program runs.
+#[tactic(auto, unfolding(crate::specs::Outlines::simple_made))]
+fn simple_made(
+    alloc: Global,
+    scale: Scale,
+    hinted: bool,
+    character: u16,
+    metrics: Metrics,
+    simple: &Simple<'_>,
+    count: &mut Count,
+) -> Result<Made, HintFault>
+    requires { 0 < scale.units }
+    ensures { GivesUnless Fails (λ m. (m, count.new)) result (simple_made scale hinted character metrics simple.now count.old) }
+{
+    let zone = zone_of(alloc, simple, scale)?;
+    count.more_points(character, zone.len())?;
+    let phantoms = PhantomPoints::of_glyph(scale, hinted, simple.x_min(), metrics);
+    Ok(Made { zone, phantoms })
+}
+
+/// The program of a glyph runs on its points and phantom points.
+fn run_on<H: Hinter>(hinter: &mut H, g: u16, code: &[u8], made: Made) -> Result<Made, HintFault>
+    ensures kept { H.hinting hinter.new ≡ H.hinting hinter.old }
+    ensures value { GivesUnless Fails (λ m. m) result ((H.hinting hinter.old).run g code.now made) }
+{
+    let mut made = made;
+    hinter.run(g, code, &mut made)?;
+    Ok(made)
+}
+
+/// A glyph made whole, where so many levels of components are allowed below it.
+#[cycle(walk)]
+#[tactic(auto, unfolding(crate::specs::Outlines::whole))]
+fn whole<H: Hinter>(
+    alloc: Global,
+    hinter: &mut H,
+    font: &Font<'_>,
+    scale: Scale,
+    character: u16,
+    levels: u8,
+    g: u16,
+    count: &mut Count,
+) -> Result<Made, HintFault>
+    requires { 0 < scale.units }
+    ensures kept { H.hinting hinter.new ≡ H.hinting hinter.old }
+    ensures value { GivesUnless Fails (λ m. (m, count.new)) result (whole (H.hinting hinter.old) font.now scale character (component (H.hinting hinter.old) font.now scale character levels) g count.old) }
+{
+    let metrics = font.metrics(g)?;
+    let bytes = font.glyph_bytes(g)?;
+    let glyph = read(bytes, g)?;
+    made_of(
+        alloc, hinter, font, scale, character, levels, g, metrics, glyph, count,
+    )
+}
+
+/// A glyph that has been read, made whole by its own rule.
+#[cycle(walk)]
+#[tactic(auto, unfolding(crate::specs::Outlines::made_of, crate::specs::Outlines::run_on))]
+fn made_of<H: Hinter>(
+    alloc: Global,
+    hinter: &mut H,
+    font: &Font<'_>,
+    scale: Scale,
+    character: u16,
+    levels: u8,
+    g: u16,
+    metrics: Metrics,
+    glyph: Glyph<'_>,
+    count: &mut Count,
+) -> Result<Made, HintFault>
+    requires { 0 < scale.units }
+    ensures kept { H.hinting hinter.new ≡ H.hinting hinter.old }
+    ensures value { GivesUnless Fails (λ m. (m, count.new)) result (made_of (H.hinting hinter.old) scale character (component (H.hinting hinter.old) font.now scale character levels) g metrics glyph.entry count.old) }
+{
+    let on = hinter.is_on();
+    match glyph {
+        Glyph::Empty => Ok(empty_made(alloc, scale, on, 0, metrics)),
+        Glyph::Simple(simple) => {
+            let made = simple_made(alloc, scale, on, character, metrics, &simple, count)?;
+            run_on(hinter, g, simple.code(), made)
+        }
+        Glyph::Composite(composite) => {
+            let base = start(alloc, scale, on, &composite, metrics);
+            let made = with_parts(
+                alloc,
+                hinter,
+                font,
+                scale,
+                character,
+                levels,
+                g,
+                composite.components(),
+                base,
+                count,
+            )?;
+            run_on(hinter, g, composite.code(), made)
+        }
+    }
+}
+
+/// The components of a composite, in order.
+#[cycle(walk)]
+fn with_parts<H: Hinter>(
+    alloc: Global,
+    hinter: &mut H,
+    font: &Font<'_>,
+    scale: Scale,
+    character: u16,
+    levels: u8,
+    g: u16,
+    parts: Components<'_>,
+    base: Made,
+    count: &mut Count,
+) -> Result<Made, HintFault>
+    requires { 0 < scale.units }
+    ensures kept { H.hinting hinter.new ≡ H.hinting hinter.old }
+    ensures value { GivesUnless Fails (λ m. (m, count.new)) result (with_parts scale (H.hinting hinter.old).on (component (H.hinting hinter.old) font.now scale character levels) g parts.entry base count.old) }
+{
+    let on = hinter.is_on();
+    let mut base = base;
+    'parts: for part in parts {
+        let made = component(
+            alloc, hinter, font, scale, character, levels, part.glyph, count,
+        )?;
+        base = with_part(alloc, base, scale, on, g, part, made)?;
+    }
+    Ok(base)
+}
+
+/// A component made whole, where it and so many levels less one below it are allowed.
+#[cycle(walk)]
+#[tactic(auto, unfolding(crate::specs::Outlines::component))]
+fn component<H: Hinter>(
+    alloc: Global,
+    hinter: &mut H,
+    font: &Font<'_>,
+    scale: Scale,
+    character: u16,
+    levels: u8,
+    g: u16,
+    count: &mut Count,
+) -> Result<Made, HintFault>
+    requires { 0 < scale.units }
+    ensures kept { H.hinting hinter.new ≡ H.hinting hinter.old }
+    ensures value { GivesUnless Fails (λ m. (m, count.new)) result (component (H.hinting hinter.old) font.now scale character levels g count.old) }
+{
+    if levels == 0 {
+        return Err(HintFault::ComponentDepth(g));
+    }
+    count.one_record(character)?;
+    whole(alloc, hinter, font, scale, character, levels - 1, g, count)
+}
+
+/// A character's glyph made whole.
+#[tactic(auto, unfolding(crate::specs::Outlines::character_made))]
+pub fn character_made<H: Hinter>(
+    alloc: Global,
+    hinter: &mut H,
+    font: &Font<'_>,
+    scale: Scale,
+    g: u16,
+) -> Result<Made, HintFault>
+    requires { 0 < scale.units }
+    ensures kept { H.hinting hinter.new ≡ H.hinting hinter.old }
+    ensures value { GivesUnless Fails (λ m. m) result (character_made (H.hinting hinter.old) font.now scale g) }
+{
+    let mut count = Count {
+        records: 0,
+        points: 0,
+    };
+    whole(alloc, hinter, font, scale, g, 8, g, &mut count)
+}

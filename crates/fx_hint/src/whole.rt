@@ -1,0 +1,127 @@
+//! The outline of a character.
+
+ghost use Rattle.std.specs.Prelude.{◌≡◌, ◌≤◌, ◌<◌, ◌-ℤ◌, map, length, IfOk};
+ghost use Rattle.std.specs.List.{All};
+ghost use Rattle.fx_fixed.specs.Chain.{GivesUnless};
+ghost use Rattle.fx_hint.specs.Faults.{Fails};
+ghost use Rattle.fx_hint.specs.Outlines.{scale_of, from_origin, moved_point, drawing_of_made, drawing_of_outline, outline_with, outline_of, IsSound};
+
+use crate::fault::HintFault;
+use crate::hinter::{Hinter, NoHinter};
+use crate::made::Made;
+use crate::outline::{Outline, OutlinePoint};
+use crate::walk::character_made;
+use fx_fixed::w32;
+use fx_scale::Scale;
+use fx_sfnt::Font;
+use fx_zone::Point;
+use std::alloc::{AllocError, Global};
+
+/// The outline of glyph `g` at `ppem` pixels an em, scaled, its composites put together, with hinting off: no program runs,
+/// and nothing but the scaled values themselves is rounded.
+///
+/// The faults come in the order of the walk: for each component record its depth, the number of records, its number and
+/// bytes, its reading, the component itself, its place. `OutOfMemory` may come in place of any of them, and of an outline.
+pub fn unhinted(alloc: Global, font: &Font<'_>, ppem: u16, g: u16) -> Result<Outline, HintFault>
+    requires least { 1 ≤ ppem }
+    requires most { ppem ≤ 255 }
+    ensures { GivesUnless Fails drawing_of_outline result (outline_of font.now ppem g) }
+{
+    let mut hinter = NoHinter;
+    outline_with(alloc, &mut hinter, font, ppem, g)
+}
+
+/// The outline of glyph `g` at `ppem` pixels an em, as a hinter makes it.
+#[tactic(auto, unfolding(crate::specs::Outlines::outline_with))]
+pub fn outline_with<H: Hinter>(
+    alloc: Global,
+    hinter: &mut H,
+    font: &Font<'_>,
+    ppem: u16,
+    g: u16,
+) -> Result<Outline, HintFault>
+    ensures kept { H.hinting hinter.new ≡ H.hinting hinter.old }
+    ensures value { GivesUnless Fails drawing_of_outline result (outline_with (H.hinting hinter.old) font.now ppem g) }
+{
+    let scale = scale_of(font, ppem);
+    hinter.keeps_shape();
+    let made = character_made(alloc, hinter, font, scale, g)?;
+    let outline = drawn(alloc, &made)?;
+    Ok(outline)
+}
+
+/// The scale of a font at a size.
+fn scale_of(font: &Font<'_>, ppem: u16) -> Scale
+    ensures value { result ≡ scale_of font.now ppem }
+    ensures units { 0 < result.units }
+{
+    Scale {
+        ppem,
+        units: font.head().units_per_em,
+        ascender: font.hhea().ascender,
+        descender: font.hhea().descender,
+    }
+}
+
+/// The whole outline moved, so that its first phantom point lies at x = 0.
+#[tactic(auto, unfolding(crate::specs::Outlines::drawing_of_made))]
+fn drawn(alloc: Global, made: &Made) -> Result<Outline, AllocError>
+    requires { IsSound made.now }
+    ensures { IfOk result (λ o. drawing_of_outline o ≡ drawing_of_made made.now) }
+{
+    let origin = made.phantoms.origin.cur.x;
+    let points = moved_points(alloc, made.zone.points(), origin)?;
+    let ends = short_ends(alloc, made.zone.ends())?;
+    let advance = from_origin(made.phantoms.advance.cur.x, origin);
+    Ok(Outline {
+        points,
+        ends,
+        advance,
+        strays: 0,
+        steps: 0,
+    })
+}
+
+fn moved_points(
+    alloc: Global,
+    points: &[Point],
+    origin: i32,
+) -> Result<Vec<OutlinePoint>, AllocError>
+    ensures { IfOk result (λ v. v.items ≡ map (moved_point origin) points.now) }
+{
+    let mut moved = Vec::with_capacity(alloc, points.len())?;
+    'points: for point in points {
+        moved
+            .push(moved_point(*point, origin))
+            .map_err(|_| AllocError)?;
+    }
+    Ok(moved)
+}
+
+fn moved_point(point: Point, origin: i32) -> OutlinePoint
+    ensures { result ≡ moved_point origin point }
+{
+    OutlinePoint {
+        x: from_origin(point.cur.x, origin),
+        y: point.cur.y,
+        on_curve: point.on,
+    }
+}
+
+fn from_origin(x: i32, origin: i32) -> i32
+    ensures { result ≡ from_origin origin x }
+{
+    w32(i128::from(x) - i128::from(origin))
+}
+
+/// The numbers of contours' last points, which are all below 16,384.
+fn short_ends(alloc: Global, ends: &[usize]) -> Result<Vec<u16>, AllocError>
+    requires { All (λ e. e < 16384) ends.now }
+    ensures { IfOk result (λ v. v.items ≡ ends.now) }
+{
+    let mut short = Vec::with_capacity(alloc, ends.len())?;
+    'ends: for end in ends {
+        short.push(*end as u16).map_err(|_| AllocError)?;
+    }
+    Ok(short)
+}

@@ -1,0 +1,4 @@
+pub mod Scaling
+pub mod Phantoms
+pub mod Zones
+pub mod Controls

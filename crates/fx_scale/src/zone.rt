@@ -1,0 +1,56 @@
+//! The points of a simple glyph at a size.
+
+ghost use Rattle.std.specs.Prelude.{◌≡◌, ◌<◌, IfOk, length, map};
+ghost use Rattle.fx_scale.specs.Zones.{scaled_point, zone_of_shape};
+
+use crate::scale::Scale;
+use fx_glyf::{Ends, Points, Simple};
+use fx_zone::{Place, Zone};
+use std::alloc::{AllocError, Global};
+
+/// The zone of a simple glyph: its points scaled one by one, original and current places alike, untouched, with its contours
+/// (OpenType, `glyf`, simple glyph description).
+pub fn zone_of(alloc: Global, simple: &Simple<'_>, scale: Scale) -> Result<Zone, AllocError>
+    requires { 0 < scale.units }
+    ensures { IfOk result (λ z. z ≡ zone_of_shape scale simple.now) }
+{
+    let points = scaled_points(alloc, simple.points(), scale)?;
+    let ends = contour_ends(alloc, simple.ends())?;
+    Ok(Zone::of(alloc, points, ends))
+}
+
+fn scaled_points(
+    alloc: Global,
+    points: Points<'_>,
+    scale: Scale,
+) -> Result<Vec<fx_zone::Point>, AllocError>
+    requires { 0 < scale.units }
+    ensures { IfOk result (λ v. v.items ≡ map (scaled_point scale) points.entry) }
+{
+    let mut scaled = Vec::new(alloc);
+    'points: for point in points {
+        scaled
+            .push(scaled_point(scale, point))
+            .map_err(|_| AllocError)?;
+    }
+    Ok(scaled)
+}
+
+fn scaled_point(scale: Scale, point: fx_glyf::Point) -> fx_zone::Point
+    requires { 0 < scale.units }
+    ensures { result ≡ scaled_point scale point }
+{
+    let x = scale.apply(i32::from(point.x));
+    let y = scale.apply(i32::from(point.y));
+    fx_zone::Point::resting(Place { x, y }, point.on_curve)
+}
+
+fn contour_ends(alloc: Global, ends: Ends<'_>) -> Result<Vec<usize>, AllocError>
+    ensures { IfOk result (λ v. v.items ≡ ends.entry) }
+{
+    let mut numbers = Vec::new(alloc);
+    'ends: for end in ends {
+        numbers.push(usize::from(end)).map_err(|_| AllocError)?;
+    }
+    Ok(numbers)
+}

@@ -1,0 +1,113 @@
+-- What a font that was opened tells of its file.
+use Rattle.std.proofs.Common.{◌≡◌, ℕ, ◌+◌, ◌*◌, ◌<◌, ◌≤◌, Bool, true, false, not, ◌==◌, ◌||◌, nat_lt, List, length, Option, Some, None, Result, Ok, Err, refl, sym, ◌∙◌, subst, codes, arith}
+use Rattle.std.proofs.lemmas.Option.{same_Some}
+use Rattle.std.proofs.lemmas.Bool.{and_parts, or_parts, leb-true, ltb-false, eqb-false, not-false}
+use Rattle.fx_fixed.specs.Chain.{◌>>=◌, refuse, wanted}
+use Rattle.fx_sfnt.specs.Fields.{field}
+use Rattle.fx_sfnt.specs.Tables.{Face, font_of, head_of, maxp_of, hhea_of, table_of, is_directory}
+use Rattle.fx_sfnt.specs.declared.fault.FontFault.TheVariants.{NotTrueType, TableMissing, TableShort, BadHead, BadMaxp}
+use Rattle.fx_sfnt.specs.declared.records.Head.{Head}
+use Rattle.fx_sfnt.specs.declared.records.Maxp.{Maxp}
+
+-- a step that went on was not refused
+pub refuse_then : {B E : Type 0} {P : Type 0} (b : Bool) (e : E) (f : Unit {0} → Result B E) (y : B) → (refuse b e >>= f) ≡ Ok y → (b ≡ false → f tt ≡ Ok y → P) → P
+refuse_then true e f y h k = absurd (cc)
+refuse_then false e f y h k = k refl h
+
+-- a step that went on had a value
+pub bind_then : {A B E : Type 0} {P : Type 0} (r : Result A E) (f : A → Result B E) (y : B) → (r >>= f) ≡ Ok y → ((x : A) → r ≡ Ok x → f x ≡ Ok y → P) → P
+bind_then (Ok x) f y h k = k x refl h
+bind_then (Err e) f y h k = absurd (cc)
+
+-- a value that had to be there is there
+pub wanted_then : {A B E : Type 0} {P : Type 0} (o : Option A) (e : E) (f : A → Result B E) (y : B) → (wanted o e >>= f) ≡ Ok y → ((x : A) → o ≡ Some x → f x ≡ Ok y → P) → P
+wanted_then (Some x) e f y h k = k x refl h
+wanted_then None e f y h k = absurd (cc)
+
+-- one value
+pub same_Ok : {A E : Type 0} {r : Result A E} (x y : A) → r ≡ Ok x → r ≡ Ok y → x ≡ y
+same_Ok x y h k = cc
+
+-- a directory that is one has its records
+pub directory_whole : (file : List ℕ) → is_directory file ≡ true → 12 + 16 * field 2 file 4 ≤ length file
+directory_whole file h = leb-true _ _ ((and_parts _ _ h).1)
+
+-- what was checked of a file that is a font's
+pub record Opened (file : List ℕ) (face : Face) : Type 0 where
+  pub whole : 12 + 16 * field 2 file 4 ≤ length file
+  pub head : List ℕ
+  pub maxp : List ℕ
+  pub hmtx : List ℕ
+  pub head_is : head_of head ≡ Ok face.head
+  pub maxp_is : maxp_of maxp ≡ Ok face.maxp
+  pub hmtx_is : table_of file (codes "hmtx") ≡ Some hmtx
+  pub pairs : 0 < face.hhea.metrics
+  pub room : 4 * face.hhea.metrics ≤ length hmtx
+  pub file_is : face.file ≡ file
+
+pub opened : (file : List ℕ) (face : Face) → font_of file ≡ Ok face → Opened file face
+unfolding font_of
+opened file face h =
+    refuse_then (not (is_directory file)) NotTrueType _ face h (λ directory h.
+    wanted_then (table_of file (codes "head")) (TableMissing (codes "head")) _ face h (λ head _ h.
+    wanted_then (table_of file (codes "maxp")) (TableMissing (codes "maxp")) _ face h (λ maxp _ h.
+    wanted_then (table_of file (codes "hhea")) (TableMissing (codes "hhea")) _ face h (λ hhea _ h.
+    wanted_then (table_of file (codes "hmtx")) (TableMissing (codes "hmtx")) _ face h (λ hmtx hmtx_is h.
+    wanted_then (table_of file (codes "loca")) (TableMissing (codes "loca")) _ face h (λ loca _ h.
+    wanted_then (table_of file (codes "glyf")) (TableMissing (codes "glyf")) _ face h (λ glyf _ h.
+    bind_then (head_of head) _ face h (λ head_fields head_is h.
+    bind_then (maxp_of maxp) _ face h (λ maxp_fields maxp_is h.
+    bind_then (hhea_of hhea) _ face h (λ hhea_fields _ h.
+    refuse_then (hhea_fields.metrics == 0 || nat_lt (length hmtx) (4 * hhea_fields.metrics)) (TableShort (codes "hmtx")) _ face h (λ tests h.
+    let both = or_parts (hhea_fields.metrics == 0) (nat_lt (length hmtx) (4 * hhea_fields.metrics)) tests in
+    let some : hhea_fields.metrics ≡ 0 → ⊥ = eqb-false hhea_fields.metrics 0 both.0 in
+    let room : 4 * hhea_fields.metrics ≤ length hmtx = ltb-false (length hmtx) (4 * hhea_fields.metrics) both.1 in
+    subst (Opened file) (same_Ok _ _ refl h) (record {
+      whole = directory_whole file (not-false _ directory);
+      head = head;
+      maxp = maxp;
+      hmtx = hmtx;
+      head_is = head_is;
+      maxp_is = maxp_is;
+      hmtx_is = hmtx_is;
+      pairs = omega arith;
+      room = room;
+      file_is = refl;
+    })
+    )))))))))))
+
+-- the em square of `head`
+pub head_units : (table : List ℕ) (head : Head) → head_of table ≡ Ok head → (16 ≤ head.units_per_em) × (head.units_per_em ≤ 16384)
+unfolding head_of
+head_units table head h =
+    refuse_then (nat_lt (length table) 54) (TableShort (codes "head")) _ head h (λ _ h.
+    refuse_then (not (field 4 table 12 == 0x5F0F3CF5)) BadHead _ head h (λ _ h.
+    refuse_then (nat_lt (field 2 table 18) 16 || nat_lt 16384 (field 2 table 18)) BadHead _ head h (λ tests h.
+    refuse_then (nat_lt 1 (field 2 table 50)) BadHead _ head h (λ _ h.
+    let both = or_parts (nat_lt (field 2 table 18) 16) (nat_lt 16384 (field 2 table 18)) tests in
+    subst (λ (head : Head). (16 ≤ head.units_per_em) × (head.units_per_em ≤ 16384)) (same_Ok _ _ refl h) (ltb-false _ _ both.0, ltb-false _ _ both.1)))))
+
+-- the glyphs of `maxp`
+pub maxp_glyphs : (table : List ℕ) (maxp : Maxp) → maxp_of table ≡ Ok maxp → 0 < maxp.glyphs
+unfolding maxp_of
+maxp_glyphs table maxp h =
+    refuse_then (nat_lt (length table) 32) (TableShort (codes "maxp")) _ maxp h (λ _ h.
+    refuse_then (not (field 4 table 0 == 0x00010000)) BadMaxp _ maxp h (λ _ h.
+    refuse_then (field 2 table 4 == 0) BadMaxp _ maxp h (λ test h.
+    let some : field 2 table 4 ≡ 0 → ⊥ = eqb-false (field 2 table 4) 0 test in
+    let above : 0 < field 2 table 4 = omega arith in
+    subst (λ (maxp : Maxp). 0 < maxp.glyphs) (same_Ok _ _ refl h) above)))
+
+-- the em square of a font
+pub font_units : (file : List ℕ) (face : Face) → font_of file ≡ Ok face → (16 ≤ face.head.units_per_em) × (face.head.units_per_em ≤ 16384)
+font_units file face h = let o = opened file face h in head_units o.head face.head o.head_is
+
+-- the glyphs of a font
+pub font_glyphs : (file : List ℕ) (face : Face) → font_of file ≡ Ok face → 0 < face.maxp.glyphs
+font_glyphs file face h = let o = opened file face h in maxp_glyphs o.maxp face.maxp o.maxp_is
+
+-- `hmtx` has its pairs
+pub font_pairs : (file : List ℕ) (face : Face) (hmtx : List ℕ) → font_of file ≡ Ok face → table_of file (codes "hmtx") ≡ Some hmtx → 4 * face.hhea.metrics ≤ length hmtx
+font_pairs file face hmtx h t = let o = opened file face h in
+    let same : o.hmtx ≡ hmtx = same_Some _ _ (sym o.hmtx_is ∙ t) in
+    subst (λ (table : List ℕ). 4 * face.hhea.metrics ≤ length table) same o.room

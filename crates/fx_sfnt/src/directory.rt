@@ -1,0 +1,49 @@
+//! The directory of a font file: where its tables lie (OpenType, "Organization of an OpenType font").
+
+ghost use Rattle.std.specs.Prelude.{◌≡◌, ◌+◌, ◌*◌, ◌≤◌, length, option_map};
+ghost use Rattle.fx_fixed.specs.Chain.{map_ok};
+ghost use Rattle.fx_sfnt.specs.Fields.{field};
+ghost use Rattle.fx_sfnt.specs.Tables.{table_of, needed, is_directory};
+
+use crate::fault::FontFault;
+use crate::fields::{u16_in, u32_in};
+use crate::slices::{after, part};
+
+// Whether the directory has a version that is read, and its records lie in the file.
+pub fn is_whole(file: &[u8]) -> bool
+    ensures { result ≡ is_directory file.now }
+{
+    if file.len() < 12 {
+        return false;
+    }
+    let version = u32_in(file, 0);
+    let count = u16_in(file, 4) as usize;
+    (version == 0x0001_0000 || version == 0x7472_7565) && 12 + 16 * count <= file.len()
+}
+
+// The table of a tag: that of the first record with the tag.
+pub fn find_table<'a>(file: &'a [u8], tag: [u8; 4]) -> Option<&'a [u8]>
+    requires { 12 + 16 * field 2 file.now 4 ≤ length file.now }
+    ensures { option_map (λ t. t.now) result ≡ table_of file.now tag }
+{
+    let count = u16_in(file, 4);
+    let want = u32_in(&tag, 0);
+    let mut rest = after(file, 12);
+    'records: for k in 0..count {
+        if u32_in(rest, 0) == want {
+            let offset = u32_in(rest, 8) as usize;
+            let len = u32_in(rest, 12) as usize;
+            return Some(part(file, offset, len));
+        }
+        rest = after(rest, 16);
+    }
+    None
+}
+
+// The table of a tag that has to be there.
+pub fn need<'a>(file: &'a [u8], tag: [u8; 4]) -> Result<&'a [u8], FontFault>
+    requires { 12 + 16 * field 2 file.now 4 ≤ length file.now }
+    ensures { map_ok (λ t. t.now) result ≡ needed file.now tag }
+{
+    find_table(file, tag).ok_or(FontFault::TableMissing(tag))
+}

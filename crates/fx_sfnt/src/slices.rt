@@ -1,0 +1,30 @@
+//! Parts of a slice of bytes.
+
+ghost use Rattle.std.specs.Prelude.{◌≡◌, ◌≤◌, length, take, drop};
+
+/// The bytes behind the first `count`.
+pub fn after(bytes: &[u8], count: usize) -> &[u8]
+    requires { count ≤ length bytes.now }
+    ensures { result.now ≡ drop count bytes.now }
+{
+    &bytes[count..]
+}
+
+/// The first `count` bytes.
+pub fn before(bytes: &[u8], count: usize) -> &[u8]
+    requires { count ≤ length bytes.now }
+    ensures { result.now ≡ take count bytes.now }
+{
+    &bytes[..count]
+}
+
+/// The bytes from a place on, `len` of them where there are so many; none where the place is past the end.
+pub fn part(bytes: &[u8], at: usize, len: usize) -> &[u8]
+    ensures { result.now ≡ take len (drop at bytes.now) }
+{
+    if at > bytes.len() {
+        return &[];
+    }
+    let tail = &bytes[at..];
+    if len < tail.len() { &tail[..len] } else { tail }
+}
