@@ -1,0 +1,61 @@
+// The fixture font cut short, at every length.
+use crate::fonts::fixture;
+use fx_fixed::{Limits, MemorySink};
+use fx_strike::{Refusal, Report, Request, make_strike};
+use std::alloc::{AllocError, Global};
+use std::test::Fail;
+
+// What a strike of the character 41 gives where the font ends after so many bytes: the counts and the lines of its box, or the
+// refusal.
+fn expected(length: usize) -> Result<&'static str, Refusal> {
+    match length {
+        0..=123 => Err(Refusal::NotTrueType),
+        124..=177 => Err(Refusal::TableShort(*b"head")),
+        178..=211 => Err(Refusal::TableShort(*b"maxp")),
+        212..=247 => Err(Refusal::TableShort(*b"hhea")),
+        248..=255 => Err(Refusal::TableShort(*b"hmtx")),
+        256..=271 => Err(Refusal::BadCharMap),
+        272..=273 => Err(Refusal::NoCharMap),
+        274..=311 => Err(Refusal::BadCharMap),
+        312..=319 => Err(Refusal::BadLoca(2)),
+        320..=324 => Ok("BBX 0 0 0 0\nBITMAP\nENDCHAR\nENDFONT\n"),
+        325..=358 => Err(Refusal::GlyphShort(2)),
+        _ => Ok("BBX 5 5 0 0\nBITMAP\nF8\nF8\nD8\nF8\nF8\nENDCHAR\nENDFONT\n"),
+    }
+}
+
+// The answer for a front of the font, and what was written.
+fn strike(
+    alloc: Global,
+    front: &[u8],
+) -> Result<(MemorySink, Result<Report, Refusal>), AllocError> {
+    let request = Request {
+        ppem: 16,
+        name: "F1",
+        chars: &[0x41],
+        hinting: false,
+    };
+    let mut out = MemorySink::new(alloc, 512, Limits::NONE)?;
+    let answer = make_strike(alloc, front, &request, &mut out);
+    Ok((out, answer))
+}
+
+#[test]
+fn every_front_of_a_font(rt: HostRuntime) -> Result<(), Fail> {
+    let font = fixture(rt.alloc())?;
+    assert_eq!(rt; font.len(), 382);
+    for length in 0..383usize {
+        let (out, answer) = strike(rt.alloc(), &font[..length])?;
+        match expected(length) {
+            Err(refusal) => {
+                assert_eq!(rt; answer, Err(refusal), "{length}");
+                assert!(rt; out.bytes().is_empty(), "{length}");
+            }
+            Ok(lines) => {
+                assert!(rt; answer.is_ok(), "{length}");
+                assert!(rt; out.bytes().ends_with(lines.as_bytes()), "{length}");
+            }
+        }
+    }
+    Ok(())
+}

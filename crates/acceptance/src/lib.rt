@@ -1,0 +1,12 @@
+//! Tests that cross crates: worked strikes, damaged fonts, and readers and writers that fail. Their expected values come from the
+//! public formats and from arithmetic by hand, never from the program's own output.
+#![tactic(auto)]
+
+#[cfg(test)]
+mod cuts;
+#[cfg(test)]
+mod fonts;
+#[cfg(test)]
+mod strikes;
+#[cfg(test)]
+mod writers;

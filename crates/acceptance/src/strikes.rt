@@ -1,0 +1,345 @@
+// Worked strikes, through the call that makes them.
+use crate::fonts::{ARC, RING, STRIKE, fixture, font, patch};
+use fx_fixed::{Limits, MemorySink, Sink};
+use fx_strike::{Refusal, Report, Request, make_strike};
+use std::alloc::Global;
+use std::process::Abort;
+use std::test::Fail;
+
+// An unhinted request for a size and characters.
+fn request<'a>(ppem: u16, chars: &'a [u32]) -> Request<'a> {
+    Request {
+        ppem,
+        name: "F1",
+        chars,
+        hinting: false,
+    }
+}
+
+// A strike in memory, and its counts.
+fn strike(
+    rt: &impl Abort,
+    alloc: Global,
+    font: &[u8],
+    request: &Request,
+) -> Result<(MemorySink, Report), Fail> {
+    let mut out = MemorySink::new(alloc, 4096, Limits::NONE)?;
+    let report = make_strike(alloc, font, request, &mut out)?;
+    assert_eq!(rt; out.faults(), 0);
+    Ok((out, report))
+}
+
+// The lines of the only character of a strike, from its box on, stand at the end.
+fn ends_so(rt: &impl Abort, out: &MemorySink, lines: &str) {
+    let text = out.bytes();
+    let tail = b"ENDCHAR\nENDFONT\n";
+    assert!(rt; text.ends_with(tail));
+    let front = text.len() - tail.len();
+    assert!(rt; text[..front].ends_with(lines.as_bytes()), "{lines}");
+}
+
+// A glyph in place of the arc, and the lines of the character 42 at 16 pixels an em.
+struct Row {
+    what: &'static str,
+    glyph: &'static str,
+    lines: &'static str,
+}
+
+// At this size a font unit is 1/64 pixel.
+const ROWS: [Row; 9] = [
+    Row {
+        what: "one pixel whose centre lies inside",
+        glyph: "0001 0000 0000 0000 0000 0003 0000 01010101 0000 0040 0000 ffc0 0000 0000 0040 0000",
+        lines: "BBX 1 1 0 0\nBITMAP\n80\n",
+    },
+    Row {
+        what: "an arc that is wider than the box of its ends",
+        glyph: "0001 0000 0000 0000 0000 0002 0000 010001 0000 0040 0040 0000 0080 ff80",
+        lines: "BBX 2 1 0 0\nBITMAP\nC0\n",
+    },
+    Row {
+        what: "centres on the outline",
+        glyph: "0001 0000 0000 0000 0000 0003 0000 01010101 0020 0040 0000 ffc0 0020 0000 0040 0000",
+        lines: "BBX 2 2 0 0\nBITMAP\nC0\nC0\n",
+    },
+    Row {
+        what: "a centre on an arc",
+        glyph: "0001 0000 0000 0000 0000 0002 0000 010001 0000 0020 0020 0000 0040 ffc0",
+        lines: "BBX 1 1 0 0\nBITMAP\n80\n",
+    },
+    Row {
+        what: "points off the curve alone",
+        glyph: "0001 0000 0000 0000 0000 0003 0000 00000000 0000 0100 0000 ff00 0000 0000 0100 0000",
+        lines: "BBX 4 4 0 0\nBITMAP\nF0\nF0\nF0\nF0\n",
+    },
+    Row {
+        what: "two squares the same way",
+        glyph: "0002 0000 0000 0000 0000 0003 0007 0000 0101010101010101 0000 0140 0000 fec0 0060 0080 0000 ff80 0000 0000 0140 0000 ff20 0000 0080 0000",
+        lines: "BBX 5 5 0 0\nBITMAP\nF8\nF8\nF8\nF8\nF8\n",
+    },
+    Row {
+        what: "two squares of which the inner goes the other way",
+        glyph: "0002 0000 0000 0000 0000 0003 0007 0000 0101010101010101 0000 0140 0000 fec0 0060 0000 0080 0000 0000 0000 0140 0000 ff20 0080 0000 ff80",
+        lines: "BBX 5 5 0 0\nBITMAP\nF8\nF8\nD8\nF8\nF8\n",
+    },
+    Row {
+        what: "an arc that returns to its start",
+        glyph: "0001 0000 0000 0000 0000 0001 0000 0100 0000 00c0 0020 0000",
+        lines: "BBX 2 1 0 0\nBITMAP\nC0\n",
+    },
+    Row {
+        what: "centres on a chord that two arcs share",
+        glyph: "0001 0000 0000 0000 0000 0003 0000 01000100 0000 0040 0040 ffc0 0020 0080 ff80 ff80",
+        lines: "BBX 2 1 0 0\nBITMAP\nC0\n",
+    },
+];
+
+#[test]
+fn worked_glyphs(rt: HostRuntime) -> Result<(), Fail> {
+    for row in &ROWS {
+        let font = font(rt.alloc(), RING, row.glyph)?;
+        let (out, report) = strike(&rt, rt.alloc(), font.as_slice(), &request(16, &[0x42]))?;
+        assert_eq!(rt; report.glyphs, 1, "{}", row.what);
+        ends_so(&rt, &out, row.lines);
+    }
+    Ok(())
+}
+
+#[test]
+fn the_fixture(rt: HostRuntime) -> Result<(), Fail> {
+    let font = fixture(rt.alloc())?;
+    assert_eq!(rt; font.len(), 382);
+    let chars = [0x20, 0x41, 0x42];
+    let (out, report) = strike(&rt, rt.alloc(), font.as_slice(), &request(16, &chars))?;
+    assert!(rt; out.bytes() == STRIKE.as_bytes());
+    let counts = Report {
+        glyphs: 3,
+        missing: 0,
+        strays: 0,
+        steps: 0,
+    };
+    assert_eq!(rt; report, counts);
+    Ok(())
+}
+
+// Half the size: 8 pixels an em.
+#[test]
+fn half_the_size(rt: HostRuntime) -> Result<(), Fail> {
+    let font = fixture(rt.alloc())?;
+    let (ring, _) = strike(&rt, rt.alloc(), font.as_slice(), &request(8, &[0x41]))?;
+    ends_so(&rt, &ring, "DWIDTH 3 0\nBBX 3 3 0 0\nBITMAP\nE0\nA0\nE0\n");
+    let (arc, _) = strike(&rt, rt.alloc(), font.as_slice(), &request(8, &[0x42]))?;
+    ends_so(&rt, &arc, "DWIDTH 3 0\nBBX 1 1 0 0\nBITMAP\n80\n");
+    assert!(rt;
+        starts_with(
+            &arc,
+            "STARTFONT 2.1\nFONT F1\nSIZE 8 72 72\nFONTBOUNDINGBOX 1 1 0 0\nSTARTPROPERTIES 2\nFONT_ASCENT 6\nFONT_DESCENT 2\nENDPROPERTIES\nCHARS 1\n"
+        )
+    );
+    Ok(())
+}
+
+fn starts_with(out: &MemorySink, text: &str) -> bool {
+    out.bytes().starts_with(text.as_bytes())
+}
+
+#[test]
+fn characters_are_counted_once(rt: HostRuntime) -> Result<(), Fail> {
+    let font = fixture(rt.alloc())?;
+    for (chars, glyphs, missing) in [
+        ([0x41, 0x41], 1, 0),
+        ([0x21, 0x41], 1, 1),
+        ([0xFFFF, 0xFFFF], 0, 1),
+        ([0x42, 0x41], 2, 0),
+    ] {
+        let (_, report) = strike(&rt, rt.alloc(), font.as_slice(), &request(16, &chars))?;
+        assert_eq!(rt; (report.glyphs, report.missing), (glyphs, missing));
+    }
+    let (out, report) = strike(&rt, rt.alloc(), font.as_slice(), &request(16, &[]))?;
+    assert_eq!(rt; (report.glyphs, report.missing), (0, 0));
+    assert!(rt; out.bytes() == EMPTY.as_bytes());
+    Ok(())
+}
+
+// A composite in place of the ring, its left bearing, and the lines of the character 41 at 16 pixels an em.
+struct Composite {
+    what: &'static str,
+    glyph: &'static str,
+    bearing: i16,
+    lines: &'static str,
+}
+
+const COMPOSITES: [Composite; 4] = [
+    Composite {
+        what: "point 0 of the second component is brought to point 2 of the first",
+        glyph: "ffff 0000 0000 0100 0080 0022 0003 00 00 0000 0003 02 00",
+        bearing: 0,
+        lines: "BBX 4 1 0 0\nBITMAP\nF0\n",
+    },
+    Composite {
+        what: "half the size",
+        glyph: "ffff 0000 0000 0040 0040 000a 0003 00 00 2000",
+        bearing: 0,
+        lines: "BBX 1 1 0 0\nBITMAP\n80\n",
+    },
+    Composite {
+        what: "turned by 90 degrees and moved",
+        glyph: "ffff 0000 0000 0080 0080 0083 0003 0080 0000 0000 4000 c000 0000",
+        bearing: 0,
+        lines: "BBX 1 2 1 0\nBITMAP\n80\n80\n",
+    },
+    Composite {
+        what: "moved, with a left bearing of 64 units",
+        glyph: "ffff 0040 0020 00c0 00a0 0002 0003 40 20",
+        bearing: 64,
+        lines: "BBX 2 1 1 0\nBITMAP\nC0\n",
+    },
+];
+
+#[test]
+fn composites(rt: HostRuntime) -> Result<(), Fail> {
+    for row in &COMPOSITES {
+        let mut font = font(rt.alloc(), row.glyph, ARC)?;
+        patch(&mut font, 256, &row.bearing.to_be_bytes())?;
+        let (out, report) = strike(&rt, rt.alloc(), font.as_slice(), &request(16, &[0x41]))?;
+        assert_eq!(rt; report.glyphs, 1, "{}", row.what);
+        ends_so(&rt, &out, row.lines);
+    }
+    Ok(())
+}
+
+// A composite of so many components, each glyph 3 at the offset 0.
+fn of_components(alloc: Global, count: usize) -> Result<String, Fail> {
+    let mut text = String::from_str(alloc, "ffff 0000 0000 0080 0080")?;
+    for _ in 1..count {
+        text.push_str(" 0022 0003 00 00")?;
+    }
+    text.push_str(" 0002 0003 00 00")?;
+    Ok(text)
+}
+
+#[test]
+fn components_up_to_a_limit(rt: HostRuntime) -> Result<(), Fail> {
+    let glyph = of_components(rt.alloc(), 256)?;
+    let most = font(rt.alloc(), glyph.as_str(), ARC)?;
+    let (out, _) = strike(&rt, rt.alloc(), most.as_slice(), &request(16, &[0x41]))?;
+    ends_so(&rt, &out, "BBX 2 1 0 0\nBITMAP\nC0\n");
+    let glyph = of_components(rt.alloc(), 257)?;
+    let more = font(rt.alloc(), glyph.as_str(), ARC)?;
+    refused(
+        &rt,
+        rt.alloc(),
+        more.as_slice(),
+        0x41,
+        Refusal::TooManyComponents(2),
+    )
+}
+
+// A glyph whose points are all 0, as many as the last end point says, by runs of 256 flags, and more flags behind them.
+fn of_points(alloc: Global, last: &str, more: &str) -> Result<String, Fail> {
+    let mut text = String::from_str(alloc, "0001 0000 0000 0000 0000 ")?;
+    text.push_str(last)?;
+    text.push_str(" 0000")?;
+    for _ in 0..64 {
+        text.push_str(" 39 ff")?;
+    }
+    text.push_str(more)?;
+    Ok(text)
+}
+
+#[test]
+fn points_up_to_a_limit(rt: HostRuntime) -> Result<(), Fail> {
+    let glyph = of_points(rt.alloc(), "3fff", "")?;
+    let most = font(rt.alloc(), glyph.as_str(), ARC)?;
+    let (out, _) = strike(&rt, rt.alloc(), most.as_slice(), &request(16, &[0x41]))?;
+    ends_so(&rt, &out, "BBX 0 0 0 0\nBITMAP\n");
+    let glyph = of_points(rt.alloc(), "4000", " 31")?;
+    let more = font(rt.alloc(), glyph.as_str(), ARC)?;
+    refused(
+        &rt,
+        rt.alloc(),
+        more.as_slice(),
+        0x41,
+        Refusal::TooManyPoints(2),
+    )
+}
+
+#[test]
+fn damaged_glyphs(rt: HostRuntime) -> Result<(), Fail> {
+    for (second, refusal) in [
+        (
+            "ffff 0000 0000 0080 0080 0002 0002 00 00",
+            Refusal::ComponentDepth(2),
+        ),
+        (
+            "ffff 0000 0000 0100 0080 0022 0003 00 00 0000 0003 03 00",
+            Refusal::BadPointMatch(2),
+        ),
+        (
+            "ffff 0000 0000 0080 0080 0002 0004 00 00",
+            Refusal::BadGlyphNumber(4),
+        ),
+        (
+            "0002 0000 0000 0000 0000 0003 0001 0000",
+            Refusal::BadContours(2),
+        ),
+        ("0002 0000 0000 0000 0000 0003", Refusal::GlyphShort(2)),
+    ] {
+        let font = font(rt.alloc(), second, ARC)?;
+        refused(&rt, rt.alloc(), font.as_slice(), 0x41, refusal)?;
+    }
+    let loop_of_two = "ffff 0000 0000 0080 0080 0002 0003 00 00";
+    let back = "ffff 0000 0000 0080 0080 0002 0002 00 00";
+    let font = font(rt.alloc(), loop_of_two, back)?;
+    refused(
+        &rt,
+        rt.alloc(),
+        font.as_slice(),
+        0x41,
+        Refusal::ComponentDepth(3),
+    )
+}
+
+// A strike of one character at 16 pixels an em is refused, and nothing is written.
+fn refused(
+    rt: &impl Abort,
+    alloc: Global,
+    font: &[u8],
+    code: u32,
+    refusal: Refusal,
+) -> Result<(), Fail> {
+    let mut out = MemorySink::new(alloc, 4096, Limits::NONE)?;
+    let answer = make_strike(alloc, font, &request(16, &[code]), &mut out);
+    assert_eq!(rt; answer, Err(refusal));
+    assert!(rt; out.bytes().is_empty());
+    Ok(())
+}
+
+#[test]
+fn requests_that_are_refused(rt: HostRuntime) -> Result<(), Fail> {
+    let font = fixture(rt.alloc())?;
+    let hinted = Request {
+        hinting: true,
+        ..request(16, &[0x41])
+    };
+    let nameless = Request {
+        name: " F1",
+        ..request(16, &[0x41])
+    };
+    for (request, refusal) in [
+        (request(0, &[0x11_0000]), Refusal::BadSize),
+        (request(256, &[]), Refusal::BadSize),
+        (request(16, &[0x1_0000]), Refusal::BadChars),
+        (nameless, Refusal::BadName),
+        (hinted, Refusal::NotBuilt),
+    ] {
+        let mut out = MemorySink::new(rt.alloc(), 4096, Limits::NONE)?;
+        let answer = make_strike(rt.alloc(), font.as_slice(), &request, &mut out);
+        assert_eq!(rt; answer, Err(refusal));
+        assert!(rt; out.bytes().is_empty());
+    }
+    Ok(())
+}
+
+const EMPTY: &str =
+    "STARTFONT 2.1\nFONT F1\nSIZE 16 72 72\nFONTBOUNDINGBOX 0 0 0 0\nSTARTPROPERTIES 2\nFONT_ASCENT 13\nFONT_DESCENT 4\nENDPROPERTIES\nCHARS 0\nENDFONT\n";

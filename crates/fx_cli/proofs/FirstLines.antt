@@ -1,0 +1,164 @@
+-- A run whose words stand in the first line of its input.
+use Rattle.std.proofs.Common.{◌≡◌, ◌∙◌, ◌==◌, ◌⊎◌, inl, inr, ℕ, zero, suc, ◌+◌, ◌-◌, ◌<◌, ◌≤◌, List, [], ◌∷◌, ◌++◌, length, take, drop, not, refl, sym, ap, ap₂, subst, arith, Option, Some, None, Bool, true, false, cond, Result, Ok, Err, append-nil, length-append, true≢false, nat_eq, map, Bor}
+use Rattle.std.proofs.lemmas.List.Sums.{prefix_len-le-length}
+use Rattle.std.specs.Str.{IsUtf8}
+use Rattle.std.specs.List.{position_or_len, prefix_len}
+use Rattle.std.specs.Io.KnownBytes.{Consumes, IsAtEnd, Keeps}
+use Rattle.std.proofs.KnownBytes.{Consumes-trans}
+use Rattle.std.proofs.lemmas.List.{take-append-le, drop-append-le}
+use Rattle.std.proofs.lemmas.List.Folds.{prefix_len-append}
+use Rattle.std.proofs.lemmas.List.{length-take-le}
+use Rattle.std.proofs.lemmas.Bool.{ne_eqb}
+use Rattle.fx_strike.specs.declared.refusal.Refusal.{Refusal}
+use Rattle.fx_strike.specs.declared.refusal.Refusal.TheVariants.{BadChars, BadHex, InputTooLarge, OutOfMemory, ReadFailed}
+use Rattle.fx_strike.specs.declared.request.Report.{Report}
+use Rattle.fx_cli.specs.declared.fault.Fault.{Fault}
+use Rattle.fx_cli.specs.declared.fault.Fault.TheVariants.{Usage, Early, Late}
+use Rattle.fx_cli.specs.Chars.{numbers_of_list}
+use Rattle.fx_cli.specs.Words.{Asked, wish_of_words}
+use Rattle.fx_cli.specs.Input.{line_of, rest_of, words_of_line}
+use Rattle.fx_cli.specs.Runs.{AreWords, AreWordsBy, Asks, Change, Ends, HasLine, IsReason, IsUsageBy, Makes, Stops, Word, font_bytes, has_words, program_of, text_by, text_of}
+use Rattle.fx_cli.specs.Steps.{EndsBehind, IsReasonBehind, MakesBehind, StopsBehind}
+
+abbrev is_end : ℕ → Bool
+is_end b = b == 10
+
+-- the line is found, or nothing stands behind what was read with it
+same_place : (first more : List ℕ) → position_or_len is_end first < length first → position_or_len is_end (first ++ more) ≡ position_or_len is_end first
+same_place first more h =
+    prefix_len-append (λ b. not (is_end b)) first more
+    ∙ ap (λ (t : Bool). cond t (length first + prefix_len (λ b. not (is_end b)) more) (position_or_len is_end first)) (ne_eqb (position_or_len is_end first) (length first) (omega arith))
+
+pub same_line : (first more : List ℕ) → (position_or_len is_end first < length first) ⊎ (more ≡ []) → line_of (first ++ more) ≡ line_of first
+same_line first more (inl h) = ap (λ (k : ℕ). take k (first ++ more)) (same_place first more h) ∙ take-append-le (position_or_len is_end first) first more (omega arith)
+same_line first more (inr e) = ap line_of (ap (λ (xs : List ℕ). first ++ xs) e ∙ append-nil first)
+
+pub same_rest : (first more : List ℕ) → (position_or_len is_end first < length first) ⊎ (more ≡ []) → rest_of (first ++ more) ≡ rest_of first ++ more
+same_rest first more (inl h) = ap (λ (k : ℕ). drop (k + 1) (first ++ more)) (same_place first more h) ∙ drop-append-le (position_or_len is_end first + 1) first more (omega arith)
+same_rest first more (inr e) =
+    ap rest_of (ap (λ (xs : List ℕ). first ++ xs) e ∙ append-nil first)
+    ∙ sym (append-nil (rest_of first))
+    ∙ ap (λ (xs : List ℕ). rest_of first ++ xs) (sym e)
+
+-- what is known when the first line was read and its words ask for a strike
+pub record IsFirst (given : List Word) (first front : List ℕ) (ended : Bool) (before mid : Option (List ℕ)) (words : List Word) : Type 0 where
+  pub none : has_words given ≡ false
+  pub read : Consumes before mid first
+  pub found : ended ≡ false → position_or_len is_end first < length first
+  pub size : position_or_len is_end first ≤ length first
+  pub utf8 : IsUtf8 (line_of first)
+  pub short : length (line_of first) ≤ 4096
+  pub words_are : words ≡ program_of given ∷ words_of_line (line_of first)
+  pub front_is : front ≡ rest_of first
+
+either : {P Q : Type 0} (ended : Bool) → (ended ≡ false → P) → (ended ≡ true → Q) → P ⊎ Q
+either true p q = inr (q refl)
+either false p q = inl (p refl)
+
+has_line : {given : List Word} {first front : List ℕ} {ended : Bool} {before mid : Option (List ℕ)} {words : List Word} (more : List ℕ) (left : Option (List ℕ)) → IsFirst given first front ended before mid words → (ended ≡ true → (more ≡ []) × IsAtEnd left) → HasLine (first ++ more) left
+has_line {given} {first} {front} {ended} {before} {mid} {words} more left f rest = either ended
+    (λ e.
+    let found = f.found e in
+    let line : line_of (first ++ more) ≡ line_of first = same_line first more (inl found) in
+    let size : length (line_of first) ≡ position_or_len is_end first = length-take-le (position_or_len is_end first) first f.size in
+    let P : List ℕ → Type 0 = λ xs. length xs < length (first ++ more) in
+    subst P (sym line) (omega (arith, size, length-append first more)))
+    (λ e. (rest e).1)
+
+are_words : {given : List Word} {first front : List ℕ} {ended : Bool} {before mid : Option (List ℕ)} {words : List Word} (more : List ℕ) (left : Option (List ℕ)) → IsFirst given first front ended before mid words → (ended ≡ true → (more ≡ []) × IsAtEnd left) → AreWords given (first ++ more) left words
+are_words {given} {first} {front} {ended} {before} {mid} {words} more left f rest =
+    let line : line_of (first ++ more) ≡ line_of first = same_line first more (either ended f.found (λ e. (rest e).0)) in
+    let P : Bool → Type 0 = λ b. AreWordsBy b given (first ++ more) left words in
+    let Q : List ℕ → Type 0 = λ xs. HasLine (first ++ more) left × IsUtf8 xs × (length xs ≤ 4096) × (words ≡ program_of given ∷ words_of_line xs) in
+    subst P (sym f.none) (subst Q (sym line) (has_line more left f rest, f.utf8, f.short, f.words_are))
+
+text_is : {given : List Word} {first front : List ℕ} {ended : Bool} {before mid : Option (List ℕ)} {words : List Word} (more : List ℕ) → IsFirst given first front ended before mid words → (ended ≡ true → more ≡ []) → text_of given (first ++ more) ≡ front ++ more
+text_is {given} {first} {front} {ended} more f rest =
+    ap (λ (b : Bool). text_by b (first ++ more)) f.none
+    ∙ same_rest first more (either ended f.found rest)
+    ∙ ap (λ (xs : List ℕ). xs ++ more) (sym f.front_is)
+
+-- the same change of the world, from before the line was read
+abbrev pub from_start : Option (List ℕ) → ℕ → Change → Change
+from_start before calm change = record change { left_before = before; reader_calm = calm }
+
+makes : {given : List Word} {first front : List ℕ} {ended : Bool} {before : Option (List ℕ)} {words : List Word} (calm line : ℕ) (asked : Asked) (change : Change) (answer : Result Report Refusal) → IsFirst given first front ended before change.left_before words → line + length front ≡ length first → wish_of_words words ≡ Some asked → MakesBehind asked line front ended change answer → Makes given (from_start before calm change) answer
+makes {given} {first} {front} {ended} {before} {words} calm line asked change answer f sizes asks m = record {
+  input = first ++ m.more;
+  read = Consumes-trans before change.left_before change.left first m.more f.read m.read;
+  whole = m.whole;
+  fits = omega (arith, m.fits, sizes, length-append first m.more, length-append front m.more);
+  words = words;
+  are = are_words m.more change.left f (λ e. (m.rest e, m.whole));
+  asked = asked;
+  asks = asks;
+  numbers = m.numbers;
+  listed = m.listed;
+  font = m.made.font;
+  decoded = ap (font_bytes asked.hex) (text_is m.more f m.rest) ∙ m.made.decoded;
+  leaves = m.made.leaves;
+}
+
+reasons : {given : List Word} {first front : List ℕ} {ended : Bool} {before : Option (List ℕ)} {words : List Word} (calm line : ℕ) (asked : Asked) (change : Change) (more : List ℕ) → calm ≡ change.reader_calm → IsFirst given first front ended before change.left_before words → line + length front ≡ length first → wish_of_words words ≡ Some asked → (ended ≡ true → (more ≡ []) × IsAtEnd change.left) → (refusal : Refusal) → IsReasonBehind asked line front more change refusal → IsReason given (first ++ more) (from_start before calm change) (Early refusal)
+reasons {words = words} calm line asked change more same f sizes asks rest BadChars h = (words, asked, are_words more change.left f rest, asks, h)
+reasons calm line asked change more same f sizes asks rest ReadFailed h = h ∙ ap (λ (n : ℕ). n + 1) (sym same)
+reasons {words = words} calm line asked change more same f sizes asks rest BadHex h = (h.0, (words, asked, are_words more change.left f rest, asks, ap (font_bytes asked.hex) (text_is more f (λ e. (rest e).0)) ∙ h.1))
+reasons {first = first} {front = front} calm line asked change more same f sizes asks rest InputTooLarge h = omega (arith, h, sizes, length-append first more, length-append front more)
+reasons calm line asked change more same f sizes asks rest OutOfMemory h = tt
+reasons calm line asked change more same f sizes asks rest _ h = absurd h
+
+stops : {given : List Word} {first front : List ℕ} {ended : Bool} {before : Option (List ℕ)} {words : List Word} (calm line : ℕ) (asked : Asked) (change : Change) (refusal : Refusal) → calm ≡ change.reader_calm → IsFirst given first front ended before change.left_before words → line + length front ≡ length first → wish_of_words words ≡ Some asked → StopsBehind asked line front ended change refusal → Stops given (from_start before calm change) (Early refusal)
+stops {given} {first} {front} {ended} {before} {words} calm line asked change refusal same f sizes asks s = record {
+  got = first ++ s.more;
+  read = Consumes-trans before change.left_before change.left first s.more f.read s.read;
+  kept = s.spared.0;
+  calm = s.spared.1;
+  reason = reasons calm line asked change s.more same f sizes asks s.rest refusal s.reason;
+}
+
+-- the run behind the line ends the run
+pub line_ends : {given : List Word} {first front : List ℕ} {ended : Bool} {before : Option (List ℕ)} {words : List Word} (calm line : ℕ) (asked : Asked) (change : Change) → calm ≡ change.reader_calm → IsFirst given first front ended before change.left_before words → line + length front ≡ length first → wish_of_words words ≡ Some asked → (outcome : Result Report Fault) → EndsBehind asked line front ended change outcome → Ends given (from_start before calm change) outcome
+line_ends calm line asked change same f sizes asks (Ok report) m = makes calm line asked change (Ok report) f sizes asks m
+line_ends calm line asked change same f sizes asks (Err (Late refusal)) m = makes calm line asked change (Err refusal) f sizes asks m
+line_ends calm line asked change same f sizes asks (Err (Early refusal)) s = stops calm line asked change refusal same f sizes asks s
+line_ends calm line asked change same f sizes asks (Err Usage) s = absurd s
+
+-- a line whose words ask for nothing
+pub is_usage : (given : List Word) (got : List ℕ) (left : Option (List ℕ)) → has_words given ≡ false → IsUsageBy false given got left → IsUsageBy (has_words given) given got left
+is_usage given got left none h = let P : Bool → Type 0 = λ b. IsUsageBy b given got left in subst P (sym none) h
+
+take_take : (k n : ℕ) (xs : List ℕ) → k ≤ n → take k (take n xs) ≡ take k xs
+take_take zero n xs h = refl
+take_take (suc k) zero xs h = absurd (omega arith)
+take_take (suc k) (suc n) [] h = refl
+take_take (suc k) (suc n) (x ∷ xs) h = ap (λ (ys : List ℕ). x ∷ ys) (take_take k n xs (omega arith))
+
+-- the line in the room that it was read into
+pub line_in_room : (room : List ℕ) (filled end : ℕ) → end ≤ filled → end ≡ position_or_len is_end (take filled room) → line_of (take filled room) ≡ take end room
+line_in_room room filled end h e = ap (λ (k : ℕ). take k (take filled room)) (sym e) ∙ take_take end filled room h
+
+pub few_words : (words : List (Bor (List ℕ))) → length words ≤ 1 → has_words (map (λ (word : Bor (List ℕ)). word.now) words) ≡ false
+few_words [] h = refl
+few_words (word ∷ []) h = refl
+few_words (word ∷ more ∷ words) h = absurd (omega arith)
+
+-- the line of what was read ends where it was found
+pub length-line_of : (first : List ℕ) → length (line_of first) ≡ position_or_len is_end first
+length-line_of first = length-take-le (position_or_len is_end first) first (prefix_len-le-length (λ b. not (is_end b)) first)
+
+pub line_read : (first : List ℕ) (left : Option (List ℕ)) → (position_or_len is_end first < length first) ⊎ IsAtEnd left → HasLine first left
+line_read first left (inl h) = inl (omega (arith, length-line_of first))
+line_read first left (inr h) = inr h
+
+-- the words were not read, or ask for nothing
+pub unread : (given : List Word) (change : Change) (got : List ℕ) (fault : Fault) → has_words given ≡ false → Consumes change.left_before change.left got → Keeps change.held_before change.held → change.writer_faults ≡ change.writer_calm → (fault ≡ Early OutOfMemory) ⊎ ((fault ≡ Usage) × IsUsageBy false given got change.left) → Ends given change (Err fault)
+unread given change got fault none read kept calm (inl e) =
+    let P : Fault → Type 0 = λ f. Ends given change (Err f) in
+    subst P (sym e) (record { got = got; read = read; kept = kept; calm = calm; reason = tt })
+unread given change got fault none read kept calm (inr (e, usage)) =
+    let P : Fault → Type 0 = λ f. Ends given change (Err f) in
+    subst P (sym e) (record { got = got; read = read; kept = kept; calm = calm; reason = is_usage given got change.left none usage })
+
+pub keeps_same : (o : Option (List ℕ)) → Keeps o o
+keeps_same None = tt
+keeps_same (Some xs) = refl

@@ -1,0 +1,31 @@
+-- The steps of a run.
+use Rattle.std.proofs.Common.{◌≡◌, ◌∙◌, ◌==◌, ◌⊎◌, inl, inr, ℕ, ◌+◌, ◌-◌, ◌<◌, ◌≤◌, List, [], ◌∷◌, ◌++◌, length, take, drop, map, filter, refl, sym, ap, ap₂, subst, arith, Option, Some, None, Bool, true, false, cond, not, Result, Ok, Err, append_assoc, append-nil}
+use Rattle.fx_fixed.specs.Chain.{map_fault}
+use Rattle.fx_strike.specs.declared.refusal.Refusal.{Refusal}
+use Rattle.fx_strike.specs.declared.request.Report.{Report}
+use Rattle.fx_cli.specs.declared.fault.Fault.TheVariants.{Late}
+use Rattle.fx_cli.specs.Words.{Asked}
+use Rattle.fx_cli.specs.Input.{has_bytes, words_of_line}
+use Rattle.fx_cli.specs.Parts.{parts_of}
+use Rattle.fx_cli.specs.Runs.{Change, Word, font_bytes}
+use Rattle.fx_cli.specs.Steps.{EndsText, LeavesFont}
+
+-- what comes of a font's bytes ends the run
+pub text_made : (asked : Asked) (numbers text : List ℕ) (change : Change) (font : List ℕ) → font_bytes asked.hex text ≡ Some font → (answer : Result Report Refusal) → LeavesFont asked numbers font change answer → EndsText asked numbers text change (map_fault Late answer)
+text_made asked numbers text change font decoded (Ok report) leaves = record { font = font; decoded = decoded; leaves = leaves }
+text_made asked numbers text change font decoded (Err refusal) leaves = record { font = font; decoded = decoded; leaves = leaves }
+
+-- ---- the words of a line
+
+kept_by : (word : Word) (more : List Word) (b : Bool) → has_bytes word ≡ b → filter has_bytes (word ∷ more) ≡ cond b (word ∷ filter has_bytes more) (filter has_bytes more)
+kept_by word more b e = ap (λ (t : Bool). cond t (word ∷ filter has_bytes more) (filter has_bytes more)) e
+
+pub word_kept : (words : List Word) (word : Word) (more : List Word) → has_bytes word ≡ true → words ++ filter has_bytes (word ∷ more) ≡ (words ++ word ∷ []) ++ filter has_bytes more
+word_kept words word more e = ap (λ (ws : List Word). words ++ ws) (kept_by word more true e) ∙ sym (append_assoc words (word ∷ []) (filter has_bytes more))
+
+pub word_left : (words : List Word) (word : Word) (more : List Word) → has_bytes word ≡ false → words ++ filter has_bytes (word ∷ more) ≡ words ++ filter has_bytes more
+word_left words word more e = ap (λ (ws : List Word). words ++ ws) (kept_by word more false e)
+
+pub words_of_line-is : (line : List ℕ) → words_of_line line ≡ filter has_bytes (parts_of 32 line)
+unfolding words_of_line
+words_of_line-is line = refl

@@ -1,0 +1,107 @@
+-- The options of `make`, as clap sees them.
+use Rattle.std.proofs.Common.{◌≡◌, ◌∙◌, ◌==◌, ℕ, ◌+◌, ◌^◌, ◌<◌, ◌≤◌, List, [], ◌∷◌, length, refl, sym, ap, ap₂, arith, Option, Some, None, Bool, true, false, Result, Ok, Err, ◌&&◌, ◌||◌, not, subst, ◌⊎◌, inl, inr, IfOk, IfErr, option_map}
+use Rattle.std.specs.Option.{ok_or}
+use Rattle.fx_strike.specs.declared.refusal.Refusal.TheVariants.{OutOfMemory}
+use Rattle.fx_cli.specs.declared.fault.Fault.{Fault}
+use Rattle.fx_cli.specs.declared.fault.Fault.TheVariants.{Usage, Early}
+use Rattle.fx_cli.specs.declared.words.Wish.{Wish}
+use Rattle.std.specs.Prelude.{nat_lt, if◌then◌else◌}
+use Rattle.std.specs.List.{list_all, list_any}
+use Rattle.std.specs.Result.{result_ok}
+use Rattle.std.specs.Char.{digit_value}
+use Rattle.std.specs.Str.Parse.{AllDigits, IsNumeral, ParsesUnsigned, digits_value, without_leading_plus}
+use Rattle.std.proofs.lemmas.Grind.{common_steps}
+use Rattle.std.proofs.lemmas.Bool.{ltb-true, lt-ltb}
+use Rattle.clap.proofs.OnLiterals.{clap_on_literals}
+use Rattle.clap.proofs.WalkLemmas.{both}
+use Rattle.clap.specs.Words.{IsAmong, Kinds, Text, fault_of, is_simple, is_simple_and_free, matches_of}
+use Rattle.clap.specs.declared.error.kind.ErrorKind.{ErrorKind}
+use Rattle.fx_cli.specs.Words.{Asked, is_bare, is_some_kind, make_app, seen, size_of, wish_of_make, wish_of_rows}
+
+pub make_is_simple : is_simple make_app ≡ true
+unfolding make_app clap_on_literals
+make_is_simple = refl
+
+pub make_is_free : is_simple_and_free make_app ≡ true
+unfolding make_app clap_on_literals
+make_is_free = refl
+
+-- decimal digits, as a test
+tests_digits : (ds : List ℕ) → AllDigits 10 ds → list_all (λ d. nat_lt (digit_value d) 10) ds ≡ true
+tests_digits [] h = refl
+tests_digits (d ∷ ds) h = ap₂ ◌&&◌ (lt-ltb _ _ h.0) (tests_digits ds h.1)
+
+digits_tested : (ds : List ℕ) → list_all (λ d. nat_lt (digit_value d) 10) ds ≡ true → AllDigits 10 ds
+digits_tested [] h = tt
+digits_tested (d ∷ ds) h = let p = both _ _ h in (ltb-true _ _ p.0, digits_tested ds p.1)
+
+-- what is parsed as a number is a size
+size_passes : (ds : List ℕ) → IsNumeral 10 ds → digits_value 10 ds < 65536 → nat_lt 0 (length ds) && (list_all (λ d. nat_lt (digit_value d) 10) ds && nat_lt (digits_value 10 ds) 65536) ≡ true
+size_passes ds h g = ap₂ ◌&&◌ (lt-ltb _ _ h.0) (ap₂ ◌&&◌ (tests_digits ds h.1) (lt-ltb _ _ g))
+
+passed_size : (ds : List ℕ) → nat_lt 0 (length ds) && (list_all (λ d. nat_lt (digit_value d) 10) ds && nat_lt (digits_value 10 ds) 65536) ≡ true → IsNumeral 10 ds × (digits_value 10 ds < 65536)
+passed_size ds e =
+    let p = both _ _ e in
+    let q = both _ _ p.1 in
+    ((ltb-true _ _ p.0, digits_tested ds q.0), ltb-true _ _ q.1)
+
+abbrev sized : Bool → ℕ → Option ℕ
+sized b n = if b then Some n else None
+
+size_is : (text : List ℕ) → size_of text ≡ sized (nat_lt 0 (length (without_leading_plus text)) && (list_all (λ d. nat_lt (digit_value d) 10) (without_leading_plus text) && nat_lt (digits_value 10 (without_leading_plus text)) 65536)) (digits_value 10 (without_leading_plus text))
+unfolding size_of
+size_is text = refl
+
+none_sized : (b : Bool) (n : ℕ) → (b ≡ true → ⊥) → sized b n ≡ None
+none_sized true n h = absurd (h refl)
+none_sized false n h = refl
+
+pub size_parsed : {E : Type 0} (text : List ℕ) (r : Result ℕ E) → ParsesUnsigned 16 10 text r → result_ok r ≡ size_of text
+size_parsed text (Ok n) h = ap (λ (k : ℕ). Some k) h.1 ∙ sym (size_is text ∙ ap (λ (b : Bool). sized b (digits_value 10 (without_leading_plus text))) (size_passes (without_leading_plus text) h.0.0 h.0.1))
+size_parsed text (Err e) h = sym (size_is text ∙ none_sized _ _ (λ passed. h (passed_size (without_leading_plus text) passed)))
+
+-- ---- the words from `make` on
+
+pub among_some : (k : ErrorKind) (ks : Kinds) → IsAmong k ks → ks ≡ [] → ⊥
+among_some k ks h e = let P : Kinds → Type 0 = λ xs. IsAmong k xs in subst P e h
+
+abbrev chosen : Bool → Option Asked → Option Asked
+chosen b o = if b then None else o
+
+abbrev is_refused : List Text → Bool
+is_refused words = list_any is_bare words || is_some_kind (fault_of make_app words)
+
+wish_of_make-is : (words : List Text) → wish_of_make words ≡ chosen (is_refused words) (wish_of_rows (matches_of make_app words))
+unfolding wish_of_make
+wish_of_make-is words = refl
+
+or_true : (b : Bool) → b || true ≡ true
+or_true true = refl
+or_true false = refl
+
+length_some : (ks : Kinds) → (ks ≡ [] → ⊥) → is_some_kind ks ≡ true
+length_some [] h = absurd (h refl)
+length_some (k ∷ ks) h = refl
+
+pub wish_of_bare : (words : List Text) → list_any is_bare words ≡ true → wish_of_make words ≡ None
+wish_of_bare words bare = wish_of_make-is words ∙ ap (λ (b : Bool). chosen (b || is_some_kind (fault_of make_app words)) (wish_of_rows (matches_of make_app words))) bare
+
+pub wish_of_fault : (words : List Text) → (fault_of make_app words ≡ [] → ⊥) → wish_of_make words ≡ None
+wish_of_fault words fault =
+    wish_of_make-is words
+    ∙ ap (λ (b : Bool). chosen (list_any is_bare words || b) (wish_of_rows (matches_of make_app words))) (length_some (fault_of make_app words) fault)
+    ∙ ap (λ (b : Bool). chosen b (wish_of_rows (matches_of make_app words))) (or_true (list_any is_bare words))
+
+pub wish_of_taken : (words : List Text) → list_any is_bare words ≡ false → fault_of make_app words ≡ [] → wish_of_make words ≡ wish_of_rows (matches_of make_app words)
+wish_of_taken words bare fault =
+    wish_of_make-is words
+    ∙ ap₂ (λ (b : Bool) (ks : Kinds). chosen (b || is_some_kind ks) (wish_of_rows (matches_of make_app words))) bare fault
+
+-- a wish, or a usage fault where there is none
+pub ok_wish : (asked : Option Asked) (wish : Option Wish) → asked ≡ option_map seen wish → IfOk (ok_or {E = Fault} wish Usage) (λ w. asked ≡ Some (seen w))
+ok_wish asked None e = tt
+ok_wish asked (Some w) e = e
+
+pub no_wish : (asked : Option Asked) (wish : Option Wish) → asked ≡ option_map seen wish → IfErr (ok_or {E = Fault} wish Usage) (λ fault. (fault ≡ Early OutOfMemory) ⊎ ((fault ≡ Usage) × (asked ≡ None)))
+no_wish asked None e = inr (refl, e)
+no_wish asked (Some w) e = tt

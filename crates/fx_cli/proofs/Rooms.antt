@@ -1,0 +1,41 @@
+-- Room that is filled from a reader.
+use Rattle.std.proofs.Common.{◌≡◌, ◌∙◌, ◌==◌, ℕ, ◌+◌, ◌-◌, ◌<◌, ◌≤◌, List, [], ◌∷◌, ◌++◌, length, take, refl, sym, ap, subst, arith, Option, Some, None, Bool, true, false, cond, length-append}
+use Rattle.std.specs.Prelude.{position, unwrap_or, nat_lt}
+use Rattle.std.specs.List.{position_or_len}
+use Rattle.std.specs.Io.KnownBytes.{Consumes}
+use Rattle.std.proofs.KnownBytes.{Consumes-trans}
+use Rattle.std.proofs.Math.Seq.{take-append-add}
+use Rattle.std.proofs.lemmas.List.{take-append-le}
+use Rattle.std.proofs.lemmas.Grind.{common_steps}
+use Rattle.std.proofs.lemmas.Bool.{ltb-false}
+use borrow.Rule.Slice.PartMut.{put_mid, post_of}
+
+-- the front of room that was filled on
+take_filled : (room ys : List ℕ) (at n : ℕ) → at ≤ length room → n ≤ length ys → take (at + n) (put_mid at (length room - at) room ys) ≡ take at room ++ take n ys
+take_filled room ys at n h g =
+    let size : length (take at room) ≡ at = grind (arith, common_steps) in
+    let post = post_of at (length room - at) room in
+    ap (λ (k : ℕ). take (k + n) (take at room ++ (ys ++ post))) (sym size)
+    ∙ (take-append-add (take at room) (ys ++ post) n)
+    ∙ ap (λ (xs : List ℕ). take at room ++ xs) (take-append-le n ys post g)
+
+pub filled_more : (old now new : Option (List ℕ)) (room ys : List ℕ) (at n : ℕ) → at ≤ length room → n ≤ length ys → Consumes old now (take at room) → Consumes now new (take n ys) → Consumes old new (take (at + n) (put_mid at (length room - at) room ys))
+filled_more old now new room ys at n h g before after =
+    let P : List ℕ → Type 0 = λ xs. Consumes old new xs in
+    subst P (sym (take_filled room ys at n h g)) (Consumes-trans old now new (take at room) (take n ys) before after)
+
+-- the place of the first that passes, or the length
+pub place_or_len : (p : ℕ → Bool) (xs : List ℕ) → position_or_len p xs ≤ length xs → unwrap_or (position p xs) (length xs) ≡ position_or_len p xs
+place_or_len p xs h = go (nat_lt (position_or_len p xs) (length xs)) refl
+  where
+    go : (b : Bool) → nat_lt (position_or_len p xs) (length xs) ≡ b → unwrap_or (cond b (Some (position_or_len p xs)) None) (length xs) ≡ position_or_len p xs
+    go true e = refl
+    go false e = let low : length xs ≤ position_or_len p xs = ltb-false _ _ e in omega arith
+
+pub length_take_most : (k : ℕ) (xs : List ℕ) → length (take k xs) ≤ k
+length_take_most k xs = grind (arith, common_steps)
+
+pub filled_within : (room ys : List ℕ) (at n : ℕ) → at ≤ length room → n ≤ length ys → at + n ≤ length (put_mid at (length room - at) room ys)
+filled_within room ys at n h g =
+    let size : length (take at room) ≡ at = grind (arith, common_steps) in
+    omega (arith, length-append (take at room) (ys ++ post_of at (length room - at) room), length-append ys (post_of at (length room - at) room))

@@ -1,0 +1,125 @@
+-- What a run of the program does.
+use Rattle.std.specs.Prelude.{◌≡◌, ◌⊎◌, ◌+◌, ◌<◌, ◌≤◌, ◌++◌, ℕ, Bool, true, false, not, nat_lt, List, [], ◌∷◌, length, codes, Option, Some, None, Result, Ok, Err}
+use Rattle.std.specs.Str.{IsUtf8}
+use Rattle.std.specs.Io.KnownBytes.{Consumes, IsAtEnd, Keeps}
+use Rattle.fx_strike.specs.declared.refusal.Refusal.{Refusal}
+use Rattle.fx_strike.specs.declared.refusal.Refusal.TheVariants.{BadChars, BadHex, InputTooLarge, OutOfMemory, ReadFailed}
+use Rattle.fx_strike.specs.declared.request.Report.{Report}
+use Rattle.fx_strike.specs.Strike.{plan_of}
+use Rattle.fx_strike.specs.Headline.{Leaves}
+use Rattle.fx_cli.specs.declared.fault.Fault.{Fault}
+use Rattle.fx_cli.specs.declared.fault.Fault.TheVariants.{Usage, Early, Late}
+use Rattle.fx_cli.specs.Words.{Asked, wish_of_words}
+use Rattle.fx_cli.specs.Chars.{numbers_of_list}
+use Rattle.fx_cli.specs.Input.{bytes_of_hex, line_of, rest_of, words_of_line}
+
+-- a text of bytes
+abbrev pub Word : Type 0
+Word = List ℕ
+
+-- how the world stood before and stands after: what the reader has left and the writer holds, where that is known, and their faults
+pub record Change : Type 0 where
+  pub left_before : Option (List ℕ)
+  pub left : Option (List ℕ)
+  pub reader_calm : ℕ
+  pub reader_faults : ℕ
+  pub held_before : Option (List ℕ)
+  pub held : Option (List ℕ)
+  pub writer_calm : ℕ
+  pub writer_faults : ℕ
+
+-- there are words after the program's name
+abbrev pub has_words : List Word → Bool
+has_words words = nat_lt 1 (length words)
+
+abbrev pub program_of : List Word → Word
+program_of [] = codes "mkstrike"
+program_of (program ∷ words) = program
+
+-- the input's first line was read whole
+abbrev pub HasLine : List ℕ → Option (List ℕ) → Type 0
+HasLine got left = (length (line_of got) < length got) ⊎ IsAtEnd left
+
+-- the words of a run: those that it was given, or without any those of the input's first line, a text of at most 4,096 bytes
+abbrev pub AreWordsBy : Bool → List Word → List ℕ → Option (List ℕ) → List Word → Type 0
+AreWordsBy true given got left words = words ≡ given
+AreWordsBy false given got left words =
+    HasLine got left × IsUtf8 (line_of got) × (length (line_of got) ≤ 4096) × (words ≡ program_of given ∷ words_of_line (line_of got))
+
+abbrev pub AreWords : List Word → List ℕ → Option (List ℕ) → List Word → Type 0
+AreWords given got left words = AreWordsBy (has_words given) given got left words
+
+-- the text of the font: the input, or what stands behind its first line
+abbrev pub text_by : Bool → List ℕ → List ℕ
+text_by true got = got
+text_by false got = rest_of got
+
+abbrev pub text_of : List Word → List ℕ → List ℕ
+text_of given got = text_by (has_words given) got
+
+-- the bytes of the font
+abbrev pub font_bytes : Bool → List ℕ → Option (List ℕ)
+font_bytes true text = bytes_of_hex text
+font_bytes false text = Some text
+
+-- the words ask for a strike, the input was read whole, and the writer has what comes of that font and request
+pub record Makes (given : List Word) (change : Change) (answer : Result Report Refusal) : Type 0 where
+  pub input : List ℕ
+  pub read : Consumes change.left_before change.left input
+  pub whole : IsAtEnd change.left
+  pub fits : length input ≤ 67108864
+  pub words : List Word
+  pub are : AreWords given input change.left words
+  pub asked : Asked
+  pub asks : wish_of_words words ≡ Some asked
+  pub numbers : List ℕ
+  pub listed : numbers_of_list asked.list ≡ Some numbers
+  pub font : List ℕ
+  pub decoded : font_bytes asked.hex (text_of given input) ≡ Some font
+  pub leaves : Leaves (plan_of font asked.ppem asked.name numbers (not asked.unhinted)) change.held_before change.held change.writer_calm change.writer_faults answer
+
+-- the words ask for nothing that there is
+abbrev pub IsUsageBy : Bool → List Word → List ℕ → Option (List ℕ) → Type 0
+IsUsageBy true given got left = wish_of_words given ≡ None
+IsUsageBy false given got left =
+    (4096 < length (line_of got))
+    ⊎ (HasLine got left × (¬ (IsUtf8 (line_of got)) ⊎ (wish_of_words (program_of given ∷ words_of_line (line_of got)) ≡ None)))
+
+-- the words ask for a strike, of which P holds
+abbrev pub Asks : List Word → List ℕ → Option (List ℕ) → (Asked → Type 0) → Type 0
+Asks given got left P = (words : List Word) × (asked : Asked) × AreWords given got left words × (wish_of_words words ≡ Some asked) × P asked
+
+-- why a run stopped before the strike
+abbrev pub IsReason : List Word → List ℕ → Change → Fault → Type 0
+IsReason given got change Usage = IsUsageBy (has_words given) given got change.left
+IsReason given got change (Early BadChars) = Asks given got change.left (λ asked. numbers_of_list asked.list ≡ None)
+IsReason given got change (Early ReadFailed) = change.reader_faults ≡ change.reader_calm + 1
+IsReason given got change (Early BadHex) = IsAtEnd change.left × Asks given got change.left (λ asked. font_bytes asked.hex (text_of given got) ≡ None)
+IsReason given got change (Early InputTooLarge) = 67108864 < length got
+IsReason given got change (Early OutOfMemory) = Unit {0}
+IsReason given got change _ = ⊥
+
+-- the writer is as it was, and the reason is a true one
+pub record Stops (given : List Word) (change : Change) (fault : Fault) : Type 0 where
+  pub got : List ℕ
+  pub read : Consumes change.left_before change.left got
+  pub kept : Keeps change.held_before change.held
+  pub calm : change.writer_faults ≡ change.writer_calm
+  pub reason : IsReason given got change fault
+
+-- how a run ends
+abbrev pub Ends : List Word → Change → Result Report Fault → Type 0
+Ends given change (Ok report) = Makes given change (Ok report)
+Ends given change (Err (Late refusal)) = Makes given change (Err refusal)
+Ends given change (Err fault) = Stops given change fault
+
+-- the status: 0 done, 1 refused, 2 usage
+abbrev pub status_of : Result Report Fault → ℕ
+status_of (Ok report) = 0
+status_of (Err Usage) = 2
+status_of (Err _) = 1
+
+pub record Runs (given : List Word) (change : Change) (status : ℕ) : Type 0 where
+  pub outcome : Result Report Fault
+  pub ends : Ends given change outcome
+  pub told : status ≡ status_of outcome

@@ -1,0 +1,42 @@
+// Why a run did not end well.
+ghost use Rattle.std.specs.Prelude.{◌≡◌};
+ghost use Rattle.fx_cli.specs.declared.fault.Fault.TheVariants.{Early};
+ghost use Rattle.fx_strike.specs.declared.refusal.Refusal.TheVariants.{OutOfMemory};
+
+use fx_strike::Refusal;
+use std::alloc::{AllocError, AllocFailed};
+
+/// Why a run did not end well.
+#[derive(Clone, Copy, Debug, PartialEq, Eq)]
+pub enum Fault {
+    /// The words ask for nothing that there is.
+    Usage,
+    /// A refusal before the strike was begun.
+    Early(Refusal),
+    /// A refusal of the strike.
+    Late(Refusal),
+}
+
+impl From<AllocError> for Fault {
+    ghost from_gives = { λ _ e. e ≡ Early OutOfMemory };
+
+    fn from(_e: AllocError) -> Fault {
+        Fault::Early(Refusal::OutOfMemory)
+    }
+}
+
+impl<T: Drop> From<AllocFailed<T>> for Fault {
+    ghost from_gives = { λ _ e. e ≡ Early OutOfMemory };
+
+    fn from(_e: AllocFailed<T>) -> Fault {
+        Fault::Early(Refusal::OutOfMemory)
+    }
+}
+
+impl From<Refusal> for Fault {
+    ghost from_gives = { λ refusal e. e ≡ Early refusal };
+
+    fn from(refusal: Refusal) -> Fault {
+        Fault::Early(refusal)
+    }
+}

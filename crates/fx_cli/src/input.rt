@@ -1,0 +1,88 @@
+// Reading the input.
+ghost use Rattle.std.specs.Prelude.{◌≡◌, ◌⊎◌, ◌==◌, ℕ, List, [], true, ◌+◌, ◌<◌, ◌≤◌, ◌^◌, ◌++◌, length, take, position, IfOk, IfErr, IfSome, OnOk};
+ghost use Rattle.std.specs.List.{position_or_len};
+ghost use Rattle.std.specs.Io.KnownBytes.{Consumes, IsAtEnd};
+ghost use Rattle.fx_cli.specs.Input.{IsLineCause, IsReadCause};
+
+use super::fault::Fault;
+use fx_fixed::Source;
+use fx_strike::Refusal;
+use std::alloc::Global;
+
+pub const MOST_BYTES: usize = 67_108_864;
+
+pub const LINE_ROOM: usize = 4_097;
+
+// Reads to the end of the input, of which a line and what stands in front were read before, perhaps to its end. Answers what stands
+// behind the line.
+pub fn read_on<R: Source>(
+    alloc: Global,
+    reader: &mut R,
+    room: &mut [u8],
+    line: usize,
+    front: &[u8],
+    ended: bool,
+) -> Result<Vec<u8>, Refusal>
+    requires faults { R.fault_count reader.old < 2 ^ 63 }
+    requires room { 0 < length room.old }
+    requires front { line + length front.now ≤ 67108864 }
+    requires ended { ended ≡ true → IsAtEnd (R.left reader.old) }
+    ensures whole { IfOk result (λ input. (got : List ℕ) × Consumes (R.left reader.old) (R.left reader.new) got × IsAtEnd (R.left reader.new) × (input.items ≡ front.now ++ got) × (ended ≡ true → got ≡ [])) }
+    ensures fits { IfOk result (λ input. line + length input.items ≤ 67108864) }
+    ensures cut { IfErr result (λ refusal. (got : List ℕ) × Consumes (R.left reader.old) (R.left reader.new) got × IsReadCause refusal (line + length (front.now ++ got)) (R.fault_count reader.old) (R.fault_count reader.new) × (ended ≡ true → (got ≡ []) × IsAtEnd (R.left reader.new))) }
+{
+    let mut input = Vec::from_slice(alloc, front)?;
+    if ended {
+        return Ok(input);
+    }
+    'reading: while input.len() <= MOST_BYTES - line {
+        match reader.take(room) {
+            None => return Err(Refusal::ReadFailed),
+            Some(0) => return Ok(input),
+            Some(n) => input.extend_from_slice(&room[..n])?,
+        }
+    }
+    Err(Refusal::InputTooLarge)
+}
+
+// Reads until the room holds the whole first line. Answers how many bytes it holds then, and how many of them the line has.
+pub fn read_line<R: Source>(reader: &mut R, room: &mut [u8]) -> Result<(usize, usize), Fault>
+    requires faults { R.fault_count reader.old < 2 ^ 63 }
+    requires room { length room.old ≡ 4097 }
+    ensures sizes { IfOk result (λ sizes. (sizes.1 ≤ sizes.0) × (sizes.0 ≤ 4097) × (sizes.1 ≤ 4096)) }
+    ensures read { IfOk result (λ sizes. Consumes (R.left reader.old) (R.left reader.new) (take sizes.0 room.new)) }
+    ensures line { IfOk result (λ sizes. sizes.1 ≡ position_or_len (λ b. b == 10) (take sizes.0 room.new)) }
+    ensures calm { OnOk result (R.fault_count reader.new ≡ R.fault_count reader.old) }
+    ensures whole { IfOk result (λ sizes. (sizes.1 < sizes.0) ⊎ IsAtEnd (R.left reader.new)) }
+    ensures cut { IfErr result (λ fault. (got : List ℕ) × Consumes (R.left reader.old) (R.left reader.new) got × IsLineCause fault got (R.fault_count reader.old) (R.fault_count reader.new)) }
+{
+    let mut filled = 0;
+    'reading: while filled < room.len() {
+        match reader.take(&mut room[filled..]) {
+            None => return Err(Fault::Early(Refusal::ReadFailed)),
+            Some(0) => return Ok((filled, filled)),
+            Some(n) => filled += n,
+        }
+        let end = line_len(&room[..filled]);
+        if end < filled {
+            return Ok((filled, end));
+        }
+    }
+    Err(Fault::Usage)
+}
+
+// How many bytes stand before the first LF.
+fn line_len(bytes: &[u8]) -> usize
+    ensures value { result ≡ position_or_len (λ b. b == 10) bytes.now }
+    ensures bound { result ≤ length bytes.now }
+{
+    line_end(bytes).unwrap_or(bytes.len())
+}
+
+// The place of the first LF.
+fn line_end(bytes: &[u8]) -> Option<usize>
+    ensures value { result ≡ position (λ b. b == 10) bytes.now }
+    ensures bound { IfSome result (λ at. at < length bytes.now) }
+{
+    bytes.iter().position(|b| *b == b'\n')
+}

@@ -1,0 +1,69 @@
+// Lines for people. They are made in fixed room, so that want of memory can be told.
+ghost use Rattle.std.specs.Prelude.{◌≡◌, ◌<◌, ◌^◌};
+ghost use Rattle.fx_cli.specs.Runs.{status_of};
+
+use super::fault::Fault;
+use fx_fixed::{Sink, put_all};
+use fx_strike::{Refusal, Report};
+use std::fmt::{Display, InlineText};
+
+/// Writes the line of words that ask for nothing that there is, and answers the status.
+pub fn usage<E: Sink>(err: &mut E) -> u8
+    requires { E.fault_count err.old < 2 ^ 63 }
+    ensures { result ≡ 2 }
+{
+    put_line(err, "mkstrike: usage");
+    2
+}
+
+/// Writes the line of want of memory, and answers the status.
+pub fn out_of_memory<E: Sink>(err: &mut E) -> u8
+    requires { E.fault_count err.old < 2 ^ 63 }
+    ensures { result ≡ 1 }
+{
+    refused(err, Refusal::OutOfMemory)
+}
+
+// Writes the line of a refusal, and answers the status.
+fn refused<E: Sink>(err: &mut E, refusal: Refusal) -> u8
+    requires { E.fault_count err.old < 2 ^ 63 }
+    ensures { result ≡ 1 }
+{
+    put_line(err, format_args!("mkstrike: {refusal}"));
+    1
+}
+
+// Writes the line of how a run ended, and answers the status.
+pub fn status<E: Sink>(err: &mut E, outcome: &Result<Report, Fault>) -> u8
+    requires { E.fault_count err.old < 2 ^ 63 }
+    ensures { result ≡ status_of outcome.now }
+{
+    match outcome {
+        Ok(report) => {
+            put_report(err, report);
+            0
+        }
+        Err(Fault::Usage) => usage(err),
+        Err(Fault::Early(refusal)) | Err(Fault::Late(refusal)) => refused(err, *refusal),
+    }
+}
+
+fn put_report<E: Sink>(err: &mut E, report: &Report)
+    requires { E.fault_count err.old < 2 ^ 63 }
+{
+    put_line(
+        err,
+        format_args!(
+            "mkstrike: glyphs {} missing {} strays {} steps {}",
+            report.glyphs, report.missing, report.strays, report.steps
+        ),
+    );
+}
+
+// Writes a line. A sink at fault is let be.
+fn put_line<E: Sink, D: Display + Drop>(err: &mut E, line: D)
+    requires { E.fault_count err.old < 2 ^ 63 }
+{
+    let text = InlineText::<128>::of(line);
+    let _ = put_all(err, &[text.as_str().as_bytes(), b"\n"]);
+}

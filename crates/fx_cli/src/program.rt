@@ -1,0 +1,203 @@
+// A run of the program.
+ghost use Rattle.std.specs.Prelude.{◌≡◌, ◌==◌, ◌∷◌, ◌+◌, ◌<◌, ◌≤◌, ◌^◌, length, map, not, true, IfOk};
+ghost use Rattle.std.specs.List.{position_or_len};
+ghost use Rattle.std.specs.Io.KnownBytes.{IsAtEnd};
+ghost use Rattle.fx_fixed.specs.Chain.{map_fault};
+ghost use Rattle.fx_strike.specs.Strike.{plan_of};
+ghost use Rattle.fx_strike.specs.Headline.{Leaves};
+ghost use Rattle.fx_cli.specs.Words.{seen};
+ghost use Rattle.fx_cli.specs.Input.{line_of, rest_of, words_of_line};
+ghost use Rattle.fx_cli.specs.Runs.{Ends, Runs, program_of};
+ghost use Rattle.fx_cli.specs.Steps.{EndsBehind, EndsText};
+
+use super::chars::parse_chars;
+use super::fault::Fault;
+use super::hexadecimal::decode_hex;
+use super::input::{LINE_ROOM, read_line, read_on};
+use super::lines::status;
+use super::parts::first_part;
+use super::words::{Wish, read};
+use fx_fixed::{Sink, Source};
+use fx_strike::{Refusal, Report, Request, make_strike};
+use std::alloc::{AllocError, Global};
+
+const ROOM: usize = 32_768;
+
+/// Runs the program on words, of which the first is the program's name. Answers the status: 0 done, 1 refused, 2 usage.
+pub fn run<R: Source, O: Sink, E: Sink>(
+    alloc: Global,
+    words: &[&str],
+    reader: &mut R,
+    out: &mut O,
+    err: &mut E,
+) -> u8
+    requires reader { R.fault_count reader.old < 2 ^ 63 }
+    requires out { O.fault_count out.old < 2 ^ 63 }
+    requires err { E.fault_count err.old < 2 ^ 63 }
+    ensures { Runs (map (λ word. word.now) words.now) (record { left_before = R.left reader.old; left = R.left reader.new; reader_calm = R.fault_count reader.old; reader_faults = R.fault_count reader.new; held_before = O.held out.old; held = O.held out.new; writer_calm = O.fault_count out.old; writer_faults = O.fault_count out.new }) result }
+{
+    let outcome = if words.len() > 1 {
+        run_words(alloc, words, reader, out)
+    } else {
+        run_line(alloc, words, reader, out)
+    };
+    status(err, &outcome)
+}
+
+// The words are given, and the input is the font.
+fn run_words<R: Source, O: Sink>(
+    alloc: Global,
+    words: &[&str],
+    reader: &mut R,
+    out: &mut O,
+) -> Result<Report, Fault>
+    requires reader { R.fault_count reader.old < 2 ^ 63 }
+    requires out { O.fault_count out.old < 2 ^ 63 }
+    requires given { 1 < length words.now }
+    ensures { Ends (map (λ word. word.now) words.now) (record { left_before = R.left reader.old; left = R.left reader.new; reader_calm = R.fault_count reader.old; reader_faults = R.fault_count reader.new; held_before = O.held out.old; held = O.held out.new; writer_calm = O.fault_count out.old; writer_faults = O.fault_count out.new }) result }
+{
+    let wish = read(alloc, words)?;
+    run_wish(alloc, &wish, reader, 0, &[], false, out)
+}
+
+// The input's first line is the words, and what stands behind it the font.
+fn run_line<R: Source, O: Sink>(
+    alloc: Global,
+    words: &[&str],
+    reader: &mut R,
+    out: &mut O,
+) -> Result<Report, Fault>
+    requires reader { R.fault_count reader.old < 2 ^ 63 }
+    requires out { O.fault_count out.old < 2 ^ 63 }
+    requires given { length words.now ≤ 1 }
+    ensures { Ends (map (λ word. word.now) words.now) (record { left_before = R.left reader.old; left = R.left reader.new; reader_calm = R.fault_count reader.old; reader_faults = R.fault_count reader.new; held_before = O.held out.old; held = O.held out.new; writer_calm = O.fault_count out.old; writer_faults = O.fault_count out.new }) result }
+{
+    let mut front = [0u8; LINE_ROOM];
+    let (filled, end) = read_line(reader, &mut front)?;
+    let got = &front[..filled];
+    let (line, text) = cut_line(got, end);
+    let Ok(line) = str::from_utf8(line) else {
+        return Err(Fault::Usage);
+    };
+    let words = words_of_line(alloc, program_name(words), line)?;
+    let wish = read(alloc, &words)?;
+    let ended = end == filled;
+    run_wish(alloc, &wish, reader, filled - text.len(), text, ended, out)
+}
+
+// The program's name.
+fn program_name<'a>(words: &[&'a str]) -> &'a str
+    ensures { result.now ≡ program_of (map (λ word. word.now) words.now) }
+{
+    match words.first() {
+        Some(program) => program,
+        None => "mkstrike",
+    }
+}
+
+// The first line, which ends at a place, and what stands behind it.
+fn cut_line(got: &[u8], end: usize) -> (&[u8], &[u8])
+    requires place { end ≡ position_or_len (λ b. b == 10) got.now }
+    requires within { end ≤ length got.now }
+    ensures line { result.0.now ≡ line_of got.entry.now }
+    ensures rest { result.1.now ≡ rest_of got.entry.now }
+    ensures size { length result.1.now ≤ length got.entry.now }
+{
+    if end < got.len() {
+        (&got[..end], &got[end + 1..])
+    } else {
+        (got, &got[end..])
+    }
+}
+
+// The words of a line, behind the program's name.
+fn words_of_line<'a>(
+    alloc: Global,
+    program: &'a str,
+    line: &'a str,
+) -> Result<Vec<&'a str>, AllocError>
+    ensures { IfOk result (λ words. map (λ word. word.now) words.items ≡ program.entry.now ∷ words_of_line line.entry.now) }
+{
+    let mut all = Vec::new(alloc);
+    all.push(program)?;
+    let mut left = Some(line);
+    'words: while let Some(text) = left {
+        let (word, more) = first_part(text, ' ');
+        if !word.is_empty() {
+            all.push(word)?;
+        }
+        left = more;
+    }
+    Ok(all)
+}
+
+// Does what the words ask for, behind a line of words and what was read behind it, where the input may have ended.
+fn run_wish<R: Source, O: Sink>(
+    alloc: Global,
+    wish: &Wish<'_>,
+    reader: &mut R,
+    line: usize,
+    front: &[u8],
+    ended: bool,
+    out: &mut O,
+) -> Result<Report, Fault>
+    requires reader { R.fault_count reader.old < 2 ^ 63 }
+    requires out { O.fault_count out.old < 2 ^ 63 }
+    requires front { line + length front.now ≤ 67108864 }
+    requires ended { ended ≡ true → IsAtEnd (R.left reader.old) }
+    ensures { EndsBehind (seen wish.now) line front.now ended (record { left_before = R.left reader.old; left = R.left reader.new; reader_calm = R.fault_count reader.old; reader_faults = R.fault_count reader.new; held_before = O.held out.old; held = O.held out.new; writer_calm = O.fault_count out.old; writer_faults = O.fault_count out.new }) result }
+{
+    let chars = parse_chars(alloc, wish.list)?;
+    let mut room = [0u8; ROOM];
+    let input = read_on(alloc, reader, &mut room, line, front, ended)?;
+    make(alloc, wish, &chars, &input, out)
+}
+
+// Makes the strike that the words ask for of a font's text.
+fn make<O: Sink>(
+    alloc: Global,
+    wish: &Wish<'_>,
+    chars: &[u32],
+    text: &[u8],
+    out: &mut O,
+) -> Result<Report, Fault>
+    requires { O.fault_count out.old < 2 ^ 63 }
+    ensures { EndsText (seen wish.now) chars.now text.now (record { left_before = None; left = None; reader_calm = 0; reader_faults = 0; held_before = O.held out.old; held = O.held out.new; writer_calm = O.fault_count out.old; writer_faults = O.fault_count out.new }) result }
+{
+    if wish.hex {
+        let font = decode_hex(alloc, text)?;
+        late(put_strike(alloc, wish, chars, &font, out))
+    } else {
+        late(put_strike(alloc, wish, chars, text, out))
+    }
+}
+
+// Makes the strike of a font's bytes.
+fn put_strike<O: Sink>(
+    alloc: Global,
+    wish: &Wish<'_>,
+    chars: &[u32],
+    font: &[u8],
+    out: &mut O,
+) -> Result<Report, Refusal>
+    requires { O.fault_count out.old < 2 ^ 63 }
+    ensures { Leaves (plan_of font.now wish.now.ppem wish.now.name.now chars.now (not wish.now.unhinted)) (O.held out.old) (O.held out.new) (O.fault_count out.old) (O.fault_count out.new) result }
+{
+    let request = Request {
+        ppem: wish.ppem,
+        name: wish.name,
+        chars,
+        hinting: !wish.unhinted,
+    };
+    make_strike(alloc, font, &request, out)
+}
+
+// An answer of the strike as the end of a run.
+fn late(answer: Result<Report, Refusal>) -> Result<Report, Fault>
+    ensures { result ≡ map_fault Fault.Late answer }
+{
+    match answer {
+        Ok(report) => Ok(report),
+        Err(refusal) => Err(Fault::Late(refusal)),
+    }
+}

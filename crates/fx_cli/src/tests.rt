@@ -1,0 +1,460 @@
+ghost use Rattle.std.specs.Prelude.{◌<◌, ◌^◌, None};
+
+use super::fault::Fault;
+use super::lines::status;
+use super::*;
+use fx_fixed::{Limits, MemorySink, MemorySource, Sink, Source};
+use fx_strike::{Refusal, Report};
+use std::alloc::{AllocError, Global};
+use std::test::Fail;
+
+// How a run ended.
+#[derive(Drop)]
+struct Ended {
+    status: u8,
+    out: MemorySink,
+    err: MemorySink,
+}
+
+impl Ended {
+    fn is(&self, status: u8, line: &[u8]) -> bool {
+        self.status == status && self.out.bytes().is_empty() && self.err.bytes() == line
+    }
+}
+
+// A run on words between bars, the program's name first.
+fn run_on<R: Source>(alloc: Global, words: &str, reader: &mut R) -> Result<Ended, AllocError>
+    requires { R.fault_count reader.old < 2 ^ 63 }
+{
+    let words: Vec<&str> = words.split('|').collect(alloc)?;
+    let mut out = MemorySink::new(alloc, 4096, Limits::NONE)?;
+    let mut err = MemorySink::new(alloc, 256, Limits::NONE)?;
+    let status = run(alloc, &words, reader, &mut out, &mut err);
+    Ok(Ended { status, out, err })
+}
+
+// The same on an input in memory.
+fn run_in_memory(
+    alloc: Global,
+    words: &str,
+    input: &[u8],
+    limits: Limits,
+) -> Result<Ended, AllocError> {
+    let mut reader = MemorySource::new(input, limits);
+    run_on(alloc, words, &mut reader)
+}
+
+const USAGE: &[u8] = b"mkstrike: usage\n";
+
+const SIZE: &[u8] = b"mkstrike: 60 BadSize\n";
+
+const CHARS: &[u8] = b"mkstrike: 61 BadChars\n";
+
+#[test]
+fn lists(rt: HostRuntime) -> Result<(), Fail> {
+    for (list, want) in [
+        ("", [].as_slice()),
+        ("20,41-42", [0x20, 0x41, 0x42].as_slice()),
+        (
+            "41-41,aB,0041,10FFFF",
+            [0x41, 0xab, 0x41, 0x10ffff].as_slice(),
+        ),
+        ("FFFFFE-FFFFFF,0", [0xfffffe, 0xffffff, 0].as_slice()),
+    ] {
+        let chars = parse_chars(rt.alloc(), list).expect(&rt, list);
+        assert_eq!(rt; chars.as_slice(), want, "{list}");
+    }
+    for (list, want) in [("0-FFFF", 65_536), ("1-FFFF,0", 65_536)] {
+        let chars = parse_chars(rt.alloc(), list).expect(&rt, list);
+        assert_eq!(rt; chars.len(), want, "{list}");
+    }
+    for list in [
+        ",", "41,", ",41", "41,,42", "42-41", "0000041", "-", "41-", "-41", "41-42-43", "41 ",
+        "+41", "G", "\u{e9}", "0-10000", "0-FFFF,0", "0-FFFFFF",
+    ] {
+        let refused = parse_chars(rt.alloc(), list);
+        assert!(rt; matches!(&refused, Err(Refusal::BadChars)), "{list}");
+    }
+    Ok(())
+}
+
+// Words that are read as a strike of size 0 are refused for it, and others are a usage fault.
+#[test]
+fn words(rt: HostRuntime) -> Result<(), Fail> {
+    for words in [
+        "mkstrike|make|--ppem|0|--chars|41",
+        "mkstrike|make|--chars=41|--ppem=0",
+        "mkstrike|make|--hex|--name=a b|--unhinted|--chars|20,41-42|--ppem|00000000",
+        "mkstrike|make|--ppem|0|--chars|",
+        "mkstrike|make|--ppem|0|--chars=",
+        "mkstrike|make|--ppem|0|--chars|110000",
+        "|make|--ppem=256|--chars=41|--name=-",
+    ] {
+        assert!(rt;
+            run_in_memory(rt.alloc(), words, b"", Limits::NONE)?.is(1, SIZE),
+            "{words}"
+        );
+    }
+    for words in [
+        "mkstrike|",
+        "mkstrike|make",
+        "mkstrike|make|--ppem|0",
+        "mkstrike|make|--chars|41",
+        "mkstrike|--ppem|0|--chars|41",
+        "mkstrike|show|--ppem|16|--char|41",
+        "mkstrike|dump|--of|prep",
+        "mkstrike|make|--ppem|0|--chars|41|--ppem|0",
+        "mkstrike|make|--ppem|0|--chars|41|--hex|--hex",
+        "mkstrike|make|--ppem|0|--chars|41|more",
+        "mkstrike|make|--ppem|0|--chars|41|",
+        "mkstrike|make|--ppem|0|--chars|41|-",
+        "mkstrike|make|--ppem|0|--chars|41|--",
+        "mkstrike|make|--ppem|0|--chars|41|--name",
+        "mkstrike|make|--ppem|0|--chars|41|--name|-",
+        "mkstrike|make|--ppem|0|--chars|41|--name|-x",
+        "mkstrike|make|--ppem|0|--chars|--hex",
+        "mkstrike|make|--pp|0|--chars|41",
+        "mkstrike|make|--ppem|0|--chars|41|--unhinted=yes",
+        "mkstrike|make|--ppem|0|--chars|41|--hex=",
+        "mkstrike|make|--ppem||--chars|41",
+        "mkstrike|make|--ppem|65536|--chars|41",
+        "mkstrike|make|--ppem=-1|--chars|41",
+        "mkstrike|make|--ppem=-0|--chars|41",
+        "mkstrike|make|--ppem|16.0|--chars|41",
+        "mkstrike|make|--ppem|0|--chars|41|--help",
+        "mkstrike|make|--ppem|0|--chars|41|-h",
+        "mkstrike|make|--ppem|0|--chars|41|-V",
+        "mkstrike|make|--ppem|0|--chars|41|--version",
+        "mkstrike|make|--help",
+        "mkstrike|--help",
+        "mkstrike|-h",
+        "mkstrike|help",
+        "mkstrike|help|make",
+        "mkstrike|make|help",
+        "mkstrike|--version",
+        "mkstrike|-V",
+        "mkstrike|MAKE|--ppem|0|--chars|41",
+    ] {
+        assert!(rt;
+            run_in_memory(rt.alloc(), words, b"", Limits::NONE)?.is(2, USAGE),
+            "{words}"
+        );
+    }
+    let ended = run_in_memory(
+        rt.alloc(),
+        "mkstrike|make|--ppem|16|--chars|42-41",
+        b"",
+        Limits::NONE,
+    )?;
+    assert!(rt; ended.is(1, CHARS));
+    Ok(())
+}
+
+#[test]
+fn first_lines(rt: HostRuntime) -> Result<(), Fail> {
+    let alloc = rt.alloc();
+    for (input, status, line) in [
+        (b"make --ppem 0 --chars 41".as_slice(), 1, SIZE),
+        (b"make --ppem 0 --chars 41\nfont".as_slice(), 1, SIZE),
+        (b"  make   --ppem  0 --chars=  \n\n".as_slice(), 1, SIZE),
+        (b"make --ppem 0 --chars 41\r\n".as_slice(), 1, CHARS),
+        (b"make\t--ppem 0 --chars 41\n".as_slice(), 2, USAGE),
+        (b"make --ppem 0\n--chars 41\n".as_slice(), 2, USAGE),
+        (b"make --ppem 0 --chars 41 \xff\n".as_slice(), 2, USAGE),
+        (b"".as_slice(), 2, USAGE),
+        (b"\nmake --ppem 0 --chars 41\n".as_slice(), 2, USAGE),
+        (b"   \n".as_slice(), 2, USAGE),
+        (
+            b"make --hex --ppem 16 --chars 41\n4 1\t4\r\n2 5".as_slice(),
+            1,
+            b"mkstrike: 72 BadHex\n".as_slice(),
+        ),
+        (
+            b"make --hex --ppem 16 --chars 41\n4x".as_slice(),
+            1,
+            b"mkstrike: 72 BadHex\n".as_slice(),
+        ),
+        (
+            b"make --hex --ppem 0 --chars 41\n4 1\t4\r\n2".as_slice(),
+            1,
+            SIZE,
+        ),
+    ] {
+        for step in [1, usize::MAX] {
+            let limits = Limits {
+                step,
+                ..Limits::NONE
+            };
+            let ended = run_in_memory(alloc, "mkstrike", input, limits)?;
+            assert!(rt; ended.is(status, line), "{status} by {step}");
+        }
+    }
+    let mut input = b"make --ppem 0 --chars 41".to_vec(alloc)?;
+    for _ in input.len()..4096 {
+        input.push(b' ')?;
+    }
+    assert!(rt; run_in_memory(alloc, "mkstrike", &input, Limits::NONE)?.is(1, SIZE));
+    input.push(b'\n')?;
+    assert!(rt; run_in_memory(alloc, "mkstrike", &input, Limits::NONE)?.is(1, SIZE));
+    input.insert(0, b' ')?;
+    assert!(rt; run_in_memory(alloc, "mkstrike", &input, Limits::NONE)?.is(2, USAGE));
+    Ok(())
+}
+
+// A reader at fault after so many bytes.
+#[test]
+fn failing_readers(rt: HostRuntime) -> Result<(), Fail> {
+    let failed = b"mkstrike: 71 ReadFailed\n".as_slice();
+    let line = b"make --ppem 16 --chars 41 --unhinted\n0001020304";
+    let font = b"0001020304";
+    for bytes in 0..=line.len() {
+        let limits = Limits {
+            bytes,
+            step: 7,
+            hiccup: None,
+        };
+        assert!(rt;
+            run_in_memory(rt.alloc(), "mkstrike", line, limits)?.is(1, failed),
+            "{bytes}"
+        );
+    }
+    for bytes in 0..=font.len() {
+        let limits = Limits {
+            bytes,
+            step: 3,
+            hiccup: None,
+        };
+        let ended = run_in_memory(
+            rt.alloc(),
+            "mkstrike|make|--ppem|16|--chars|41|--hex",
+            font,
+            limits,
+        )?;
+        assert!(rt; ended.is(1, failed), "{bytes}");
+    }
+    Ok(())
+}
+
+// So many bytes, as the room has them.
+#[derive(Drop)]
+struct Bytes {
+    left: usize,
+}
+
+impl Source for Bytes {
+    ghost left = { λ _. None };
+
+    ghost fault_count = { λ _. 0 };
+
+    fn take(&mut self, room: &mut [u8]) -> Option<usize> {
+        let n = self.left.min(room.len());
+        self.left -= n;
+        Some(n)
+    }
+
+    fn faults(&self) -> u64 {
+        0
+    }
+}
+
+#[test]
+fn large_inputs(rt: HostRuntime) -> Result<(), Fail> {
+    let words = "mkstrike|make|--ppem|0|--chars|41";
+    let mut most = Bytes { left: 67_108_864 };
+    assert!(rt; run_on(rt.alloc(), words, &mut most)?.is(1, SIZE));
+    let mut more = Bytes { left: 67_108_865 };
+    assert!(rt; run_on(rt.alloc(), words, &mut more)?.is(1, b"mkstrike: 73 InputTooLarge\n"));
+    Ok(())
+}
+
+// The line and the status of each refusal, also where the line can't be written.
+#[test]
+fn refusals(rt: HostRuntime) -> Result<(), Fail> {
+    for (refusal, text) in [
+        (Refusal::NotTrueType, "10 NotTrueType"),
+        (Refusal::TableMissing(*b"cmap"), "11 TableMissing cmap"),
+        (Refusal::TableShort(*b"maxp"), "12 TableShort maxp"),
+        (Refusal::BadHead, "13 BadHead"),
+        (Refusal::BadMaxp, "14 BadMaxp"),
+        (Refusal::NoCharMap, "15 NoCharMap"),
+        (Refusal::BadCharMap, "16 BadCharMap"),
+        (Refusal::BadLoca(0), "17 BadLoca 0"),
+        (Refusal::GlyphShort(1), "18 GlyphShort 1"),
+        (Refusal::BadContours(2), "19 BadContours 2"),
+        (Refusal::ComponentDepth(3), "20 ComponentDepth 3"),
+        (Refusal::TooManyComponents(4), "21 TooManyComponents 4"),
+        (Refusal::TooManyPoints(5), "22 TooManyPoints 5"),
+        (Refusal::BadPointMatch(6), "23 BadPointMatch 6"),
+        (Refusal::BadGlyphNumber(65_535), "24 BadGlyphNumber 65535"),
+        (Refusal::TooFar(8), "51 TooFar 8"),
+        (Refusal::GlyphTooLarge(9), "52 GlyphTooLarge 9"),
+        (Refusal::BadSize, "60 BadSize"),
+        (Refusal::BadChars, "61 BadChars"),
+        (Refusal::BadName, "62 BadName"),
+        (
+            Refusal::WriteFailed(u64::MAX),
+            "70 WriteFailed 18446744073709551615",
+        ),
+        (Refusal::ReadFailed, "71 ReadFailed"),
+        (Refusal::BadHex, "72 BadHex"),
+        (Refusal::InputTooLarge, "73 InputTooLarge"),
+        (Refusal::OutOfMemory, "90 OutOfMemory"),
+        (Refusal::NotBuilt, "99 NotBuilt"),
+    ] {
+        let line = format!(in rt.alloc(); "mkstrike: {text}\n")?;
+        let mut err = MemorySink::new(rt.alloc(), 256, Limits::NONE)?;
+        assert_eq!(rt; status(&mut err, &Err(Fault::Late(refusal))), 1);
+        assert_eq!(rt; err.bytes(), line.as_bytes());
+        let limits = Limits {
+            bytes: 5,
+            ..Limits::NONE
+        };
+        let mut failing = MemorySink::new(rt.alloc(), 256, limits)?;
+        assert_eq!(rt; status(&mut failing, &Err(Fault::Early(refusal))), 1);
+    }
+    Ok(())
+}
+
+// The lines of the other ends.
+#[test]
+fn other_lines(rt: HostRuntime) -> Result<(), Fail> {
+    let report = Report {
+        glyphs: u32::MAX,
+        missing: 2,
+        strays: u64::MAX,
+        steps: u64::MAX,
+    };
+    let mut err = MemorySink::new(rt.alloc(), 256, Limits::NONE)?;
+    assert_eq!(rt; status(&mut err, &Ok(report)), 0);
+    assert_eq!(rt;
+        err.bytes(),
+        b"mkstrike: glyphs 4294967295 missing 2 strays 18446744073709551615 steps 18446744073709551615\n".as_slice()
+    );
+    let mut err = MemorySink::new(rt.alloc(), 256, Limits::NONE)?;
+    assert_eq!(rt; usage(&mut err), 2);
+    assert_eq!(rt; err.bytes(), USAGE);
+    let mut err = MemorySink::new(rt.alloc(), 256, Limits::NONE)?;
+    assert_eq!(rt; out_of_memory(&mut err), 1);
+    assert_eq!(rt; err.bytes(), b"mkstrike: 90 OutOfMemory\n".as_slice());
+    Ok(())
+}
+
+// The worked font as hexadecimal text.
+const FONT: &[u8] =
+    b"00010000 00070040 00020030 636d6170 00000000 00000104 00000034 676c7966 00000000 00000144 0000003a 68656164 \
+    00000000 0000007c 00000036 68686561 00000000 000000d4 00000024 686d7478 00000000 000000f8 0000000c 6c6f6361 \
+    00000000 00000138 0000000a 6d617870 00000000 000000b4 00000020 00010000 00000000 00000000 5f0f3cf5 00000400 \
+    00000000 00000000 00000000 00000000 00000000 00000000 00000000 00000000 00000000 00010000 00040000 00000000 \
+    00000000 00010001 00000000 00000000 00000000 00010000 0320ff20 00000000 00000000 00000000 00000000 00000000 \
+    00000000 00000002 01000000 01800000 00000000 00000001 00030001 0000000c 00040028 00000006 00040001 00020020 \
+    0042ffff 00000020 0041ffff ffe1ffc1 00010000 00000000 00000000 00000012 001d0000 00020000 00000140 01400003 \
+    00070000 31211121 17353315 0140fec0 60800140 e0808000 00010000 00000080 00800002 00003136 17404080 8000";
+
+// Its strike at 16 pixels, of three characters.
+const STRIKE: &[u8] =
+    b"STARTFONT 2.1\nFONT F1\nSIZE 16 72 72\nFONTBOUNDINGBOX 5 5 0 0\nSTARTPROPERTIES 2\nFONT_ASCENT 13\n\
+    FONT_DESCENT 4\nENDPROPERTIES\nCHARS 3\nSTARTCHAR uni0020\nENCODING 32\nSWIDTH 375 0\nDWIDTH 6 0\n\
+    BBX 0 0 0 0\nBITMAP\nENDCHAR\nSTARTCHAR uni0041\nENCODING 65\nSWIDTH 375 0\nDWIDTH 6 0\n\
+    BBX 5 5 0 0\nBITMAP\nF8\nF8\nD8\nF8\nF8\nENDCHAR\nSTARTCHAR uni0042\nENCODING 66\nSWIDTH 375 0\n\
+    DWIDTH 6 0\nBBX 2 1 0 0\nBITMAP\nC0\nENDCHAR\nENDFONT\n";
+
+const COUNTS: &[u8] = b"mkstrike: glyphs 3 missing 0 strays 0 steps 0\n";
+
+#[test]
+fn strikes(rt: HostRuntime) -> Result<(), Fail> {
+    let alloc = rt.alloc();
+    let words = "mkstrike|make|--hex|--ppem|16|--chars|20,41-42|--name|F1|--unhinted";
+    let ended = run_in_memory(alloc, words, FONT, Limits::NONE)?;
+    assert_eq!(rt; ended.err.bytes(), COUNTS);
+    assert_eq!(rt; ended.out.bytes(), STRIKE);
+    assert_eq!(rt; ended.status, 0);
+    let mut input = b"make --hex --ppem 16 --chars 20,41-42 --name F1 --unhinted\n".to_vec(alloc)?;
+    input.extend_from_slice(FONT)?;
+    let ended = run_in_memory(
+        alloc,
+        "mkstrike",
+        &input,
+        Limits {
+            step: 50,
+            ..Limits::NONE
+        },
+    )?;
+    assert_eq!(rt; ended.err.bytes(), COUNTS);
+    assert_eq!(rt; ended.out.bytes(), STRIKE);
+    assert_eq!(rt; ended.status, 0);
+    let ended = run_in_memory(
+        alloc,
+        "mkstrike|make|--hex|--ppem=16|--chars=21|--unhinted",
+        FONT,
+        Limits::NONE,
+    )?;
+    assert_eq!(rt;
+        ended.err.bytes(),
+        b"mkstrike: glyphs 0 missing 1 strays 0 steps 0\n".as_slice()
+    );
+    assert!(rt;
+        ended
+            .out
+            .bytes()
+            .starts_with(b"STARTFONT 2.1\nFONT strike\nSIZE 16 72 72\n")
+    );
+    for (words, font, line) in [
+        (
+            "mkstrike|make|--hex|--ppem|16|--chars|41",
+            FONT,
+            b"mkstrike: 99 NotBuilt\n".as_slice(),
+        ),
+        (
+            "mkstrike|make|--hex|--ppem|16|--chars|41|--unhinted|--name|",
+            FONT,
+            b"mkstrike: 62 BadName\n".as_slice(),
+        ),
+        (
+            "mkstrike|make|--hex|--ppem|16|--chars|110000|--unhinted",
+            FONT,
+            CHARS,
+        ),
+        (
+            "mkstrike|make|--hex|--ppem|16|--chars|110000|--unhinted",
+            b"4",
+            b"mkstrike: 72 BadHex\n".as_slice(),
+        ),
+        (
+            "mkstrike|make|--ppem|16|--chars|41|--unhinted",
+            FONT,
+            b"mkstrike: 10 NotTrueType\n".as_slice(),
+        ),
+    ] {
+        let ended = run_in_memory(alloc, words, font, Limits::NONE)?;
+        assert!(rt; ended.is(1, line), "{words}");
+    }
+    Ok(())
+}
+
+// A writer at fault after ten bytes.
+#[test]
+fn failing_writers(rt: HostRuntime) -> Result<(), Fail> {
+    let words = [
+        "mkstrike",
+        "make",
+        "--hex",
+        "--ppem=16",
+        "--chars=41",
+        "--unhinted",
+    ];
+    let mut reader = MemorySource::new(FONT, Limits::NONE);
+    let mut out = MemorySink::new(
+        rt.alloc(),
+        64,
+        Limits {
+            bytes: 10,
+            ..Limits::NONE
+        },
+    )?;
+    let mut err = MemorySink::new(rt.alloc(), 64, Limits::NONE)?;
+    let status = run(rt.alloc(), &words, &mut reader, &mut out, &mut err);
+    assert_eq!(rt; status, 1);
+    assert_eq!(rt; out.bytes(), b"STARTFONT ".as_slice());
+    assert_eq!(rt; err.bytes(), b"mkstrike: 70 WriteFailed 10\n".as_slice());
+    Ok(())
+}

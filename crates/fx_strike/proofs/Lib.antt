@@ -1,0 +1,6 @@
+pub mod Extents
+pub mod Rising
+pub mod Sketching
+pub mod Gathering
+pub mod Making
+pub mod OnePart

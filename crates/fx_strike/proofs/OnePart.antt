@@ -1,0 +1,156 @@
+-- A sketch has one glyph, a strike one text, and a character one part in all strikes that hold it.
+use Rattle.std.proofs.Common.{◌≡◌, refl, sym, ap, ◌∙◌, subst, arith, ℕ, zero, suc, ◌*◌, ◌<◌, ℤ, pos, Bool, true, false, not, List, [], ◌∷◌, length, get_or, Result, Ok, Err}
+use Rattle.std.specs.Prelude.{IsTrue, ◌↔◌, Contains, neg_ℤ, filter, map}
+use Rattle.std.specs.List.{list_all, count_by}
+use Rattle.fx_fixed.specs.Chain.{◌>>=◌, refuse, map_fault, map_chain}
+use Rattle.fx_fixed.specs.Numbers.{near_of}
+use Rattle.fx_fixed.proofs.Chain.{bind_ok, refuse_ok, map_fault_ok}
+use Rattle.fx_sfnt.specs.Tables.{Face, font_of}
+use Rattle.fx_sfnt.specs.Glyphs.{metrics_of}
+use Rattle.fx_sfnt.specs.declared.records.Metrics.{Metrics}
+use Rattle.fx_cmap.specs.Lookup.{Segments, map_of_file}
+use Rattle.fx_hint.specs.Outlines.{Drawing, outline_of}
+use Rattle.fx_winding.specs.Winding.{IsCovered, centre}
+use Rattle.fx_contour.specs.Contours.{spans_of}
+use Rattle.fx_bdf.specs.Glyphs.{Glyph, TrimmedIsOne, glyph_bit}
+use Rattle.fx_strike.specs.declared.refusal.Refusal.{Refusal}
+use Rattle.fx_strike.specs.declared.refusal.Refusal.TheVariants.{TooFar, GlyphTooLarge}
+use Rattle.fx_strike.specs.Faults.{of_font, of_char_map, of_hint}
+use Rattle.fx_strike.specs.Characters.{rising}
+use Rattle.fx_strike.specs.Limits.{is_near, is_too_large}
+use Rattle.fx_strike.specs.Strike.{Sketch, Plan, IsGlyphOf, AreGlyphsOf, thousandths, pixels, glyph_sketch_of, sketch_of, is_missing, sketches_of, checked, plan_of, strike_text}
+use Rattle.fx_strike.specs.Laws.{GlyphIsOne, TextIsOne, PartIsOne}
+use Rattle.fx_strike.proofs.Sketching.{tight_along, by_bool}
+
+-- ---- one glyph
+
+same_bit : (a b : Bool) → (IsTrue a → IsTrue b) → (IsTrue b → IsTrue a) → a ≡ b
+same_bit true true f g = refl
+same_bit true false f g = absurd (cc (f refl))
+same_bit false true f g = absurd (cc (g refl))
+same_bit false false f g = refl
+
+pub glyph_is_one : TrimmedIsOne → GlyphIsOne
+glyph_is_one one s g h p q =
+    one s.code s.swidth s.dwidth (glyph_bit g) g h
+      (record { code_is = p.code; swidth_is = p.swidth; dwidth_is = p.dwidth; bits = λ col row. refl; tight = p.tight; formed = p.formed })
+      (record {
+        code_is = q.code;
+        swidth_is = q.swidth;
+        dwidth_is = q.dwidth;
+        bits = same;
+        tight = tight_along h.box (glyph_bit h) (glyph_bit g) same q.tight;
+        formed = q.formed;
+      })
+  where
+    same : (col row : ℤ) → glyph_bit h col row ≡ glyph_bit g col row
+    same col row = same_bit (glyph_bit h col row) (glyph_bit g col row) (λ x. (p.bits col row).1 ((q.bits col row).0 x)) (λ x. (q.bits col row).1 ((p.bits col row).0 x))
+
+glyphs_are_one : GlyphIsOne → (ss : List Sketch) (gs hs : List Glyph) → AreGlyphsOf ss gs → AreGlyphsOf ss hs → gs ≡ hs
+glyphs_are_one one [] [] [] p q = refl
+glyphs_are_one one [] (g ∷ gs) hs p q = absurd p
+glyphs_are_one one [] [] (h ∷ hs) p q = absurd q
+glyphs_are_one one (s ∷ ss) [] hs p q = absurd p
+glyphs_are_one one (s ∷ ss) (g ∷ gs) [] p q = absurd q
+glyphs_are_one one (s ∷ ss) (g ∷ gs) (h ∷ hs) p q =
+    ap (λ (x : Glyph). x ∷ gs) (one s g h p.0 q.0) ∙ ap (λ (xs : List Glyph). h ∷ xs) (glyphs_are_one one ss gs hs p.1 q.1)
+
+pub text_is_one : GlyphIsOne → TextIsOne
+text_is_one one plan gs hs p q = ap (strike_text plan) (glyphs_are_one one plan.sketches gs hs p q)
+
+-- ---- one part
+
+-- a sketch has the code point that it is of
+sketch_code : (face : Face) (ppem code glyph : ℕ) (s : Sketch) → glyph_sketch_of face ppem code glyph ≡ Ok s → s.code ≡ code
+unfolding glyph_sketch_of
+sketch_code face ppem code glyph s h =
+    let last : Drawing → Metrics → Sketch = λ d m. record {
+      code = code;
+      swidth = thousandths m.advance face.head.units_per_em;
+      dwidth = near_of d.advance (pos 64);
+      spans = spans_of d.ends d.points;
+      strays = d.strays;
+      steps = d.steps;
+    } in
+    let measured : Drawing → Result Sketch Refusal = λ d. map_fault of_font (metrics_of face glyph) >>= λ m. Ok (last d m) in
+    let small : Drawing → Result Sketch Refusal = λ d. refuse (is_too_large (spans_of d.ends d.points)) (GlyphTooLarge glyph) >>= λ _. measured d in
+    let a = bind_ok (map_fault of_hint (outline_of face ppem glyph)) (λ d. refuse (not (list_all is_near d.points)) (TooFar glyph) >>= λ _. small d) s h in
+    let b = refuse_ok (not (list_all is_near a.0.points)) (TooFar glyph) (λ _. small a.0) s a.2 in
+    let c = refuse_ok (is_too_large (spans_of a.0.ends a.0.points)) (GlyphTooLarge glyph) (λ _. measured a.0) s b.1 in
+    let d = bind_ok (map_fault of_font (metrics_of face glyph)) (λ m. Ok (last a.0 m)) s c.1 in
+    let e : last a.0 d.0 ≡ s = cc (d.2) in
+    let P : Sketch → Type 0 = λ x. x.code ≡ code in subst P e refl
+
+-- what a chain gives at a place is what its step gives of something
+chain_at : {A B : Type 0} (f : A → Result B Refusal) (xs : List A) (ys : List B) → map_chain f xs ≡ Ok ys → (k : ℕ) (d : B) → k < length ys → (x : A) × (f x ≡ Ok (get_or ys k d))
+chain_at {A} {B} f [] ys h k d l = let e : [] ≡ ys = cc in let L : List B → Type 0 = λ zs. k < length zs in absurd (below_none k (subst L (sym e) l))
+  where
+    below_none : (k : ℕ) → k < 0 → ⊥
+    below_none k h = omega arith
+chain_at {A} {B} f (x ∷ xs) ys h k d l =
+    let p = bind_ok (f x) (λ y. map_chain f xs >>= λ zs. Ok (y ∷ zs)) ys h in
+    let q = bind_ok (map_chain f xs) (λ zs. Ok (p.0 ∷ zs)) ys p.2 in
+    let e : p.0 ∷ q.0 ≡ ys = cc (q.2) in
+    let P : List B → Type 0 = λ zs. (z : A) × (f z ≡ Ok (get_or zs k d)) in
+    let L : List B → Type 0 = λ zs. k < length zs in
+    subst P e (at f x p.0 q.0 p.1 (chain_at f xs q.0 q.1) k d (subst L (sym e) l))
+  where
+    at : {A B : Type 0} (f : A → Result B Refusal) (x : A) (y : B) (ys : List B) → f x ≡ Ok y → ((k : ℕ) (d : B) → k < length ys → (z : A) × (f z ≡ Ok (get_or ys k d))) → (k : ℕ) (d : B) → k < length (y ∷ ys) → (z : A) × (f z ≡ Ok (get_or (y ∷ ys) k d))
+    at f x y ys p r zero d l = (x, p)
+    at f x y ys p r (suc k) d l = r k d (omega arith)
+
+-- the parts of a plan
+record Parts (file : List ℕ) (ppem : ℕ) (chars : List ℕ) (ss : List Sketch) : Type 0 where
+  face : Face
+  segments : Segments
+  font : font_of file ≡ Ok face
+  map_is : map_of_file face.file ≡ Ok segments
+  sketches : sketches_of face segments ppem (rising chars) ≡ Ok ss
+
+parts_of : (file : List ℕ) (ppem : ℕ) (name chars : List ℕ) (hinting : Bool) (plan : Plan) → plan_of file ppem name chars hinting ≡ Ok plan → Parts file ppem chars plan.sketches
+unfolding plan_of
+parts_of file ppem name chars hinting plan h =
+    let last : Face → Segments → List Sketch → Plan = λ face segments ss. record {
+      name = name;
+      ppem = ppem;
+      ascent = pixels face.hhea.ascender ppem face.head.units_per_em;
+      descent = pixels (neg_ℤ face.hhea.descender) ppem face.head.units_per_em;
+      sketches = ss;
+      missing = count_by (is_missing segments) (rising chars);
+    } in
+    let sketched : Face → Segments → Result Plan Refusal = λ face segments. sketches_of face segments ppem (rising chars) >>= λ ss. Ok (last face segments ss) in
+    let mapped : Face → Result Plan Refusal = λ face. map_fault of_char_map (map_of_file face.file) >>= λ segments. sketched face segments in
+    let a = bind_ok (checked ppem name chars hinting) (λ _. map_fault of_font (font_of file) >>= mapped) plan h in
+    let b = bind_ok (map_fault of_font (font_of file)) mapped plan a.2 in
+    let c = bind_ok (map_fault of_char_map (map_of_file b.0.file)) (sketched b.0) plan b.2 in
+    let d = bind_ok (sketches_of b.0 c.0 ppem (rising chars)) (λ ss. Ok (last b.0 c.0 ss)) plan c.2 in
+    let e : last b.0 c.0 d.0 ≡ plan = cc (d.2) in
+    let P : Plan → Type 0 = λ x. sketches_of b.0 c.0 ppem (rising chars) ≡ Ok x.sketches in
+    record {
+      face = b.0;
+      segments = c.0;
+      font = map_fault_ok of_font (font_of file) b.0 b.1;
+      map_is = map_fault_ok of_char_map (map_of_file b.0.file) c.0 c.1;
+      sketches = subst P e d.1;
+    }
+
+same_ok : {X E : Type 0} (r : Result X E) (x y : X) → r ≡ Ok x → r ≡ Ok y → x ≡ y
+same_ok r x y h g = cc
+
+-- a sketch of a plan is that of its code point
+sketch_there : (file : List ℕ) (ppem : ℕ) (chars : List ℕ) (ss : List Sketch) (p : Parts file ppem chars ss) (s : Sketch) → Contains ss s → sketch_of p.face p.segments ppem s.code ≡ Ok s
+sketch_there file ppem chars ss p s h =
+    let x = chain_at (sketch_of p.face p.segments ppem) (filter (λ c. not (is_missing p.segments c)) (rising chars)) ss p.sketches h.0 s h.1 in
+    let here : sketch_of p.face p.segments ppem x.0 ≡ Ok s = x.1 ∙ ap Ok h.2 in
+    ap (sketch_of p.face p.segments ppem) (sketch_code p.face ppem x.0 _ s here) ∙ here
+
+pub part_is_one : PartIsOne
+part_is_one file ppem hinting name name2 chars chars2 plan plan2 h g s t i j e =
+    let p = parts_of file ppem name chars hinting plan h in
+    let q = parts_of file ppem name2 chars2 hinting plan2 g in
+    let faces : p.face ≡ q.face = same_ok (font_of file) p.face q.face p.font q.font in
+    let F : Face → Type 0 = λ face. map_of_file face.file ≡ Ok p.segments in
+    let maps : p.segments ≡ q.segments = same_ok (map_of_file q.face.file) p.segments q.segments (subst F faces p.map_is) q.map_is in
+    same_ok (sketch_of q.face q.segments ppem t.code) s t
+      (ap (λ (c : ℕ). sketch_of q.face q.segments ppem c) (sym e) ∙ ap (λ (m : Segments). sketch_of q.face m ppem s.code) (sym maps) ∙ ap (λ (f : Face). sketch_of f p.segments ppem s.code) (sym faces) ∙ sketch_there file ppem chars plan.sketches p s i)
+      (sketch_there file ppem chars2 plan2.sketches q t j)

@@ -1,0 +1,219 @@
+-- The code points in rising order: they rise, they are those that are asked for, and no other list is so.
+use Rattle.std.proofs.Common.{◌≡◌, ◌⊎◌, inl, inr, refl, sym, ap, ◌∙◌, subst, arith, ℕ, zero, suc, ◌+◌, ◌<◌, ◌≤◌, Bool, true, false, List, [], ◌∷◌, length, get_or, add-one}
+use Rattle.std.specs.Prelude.{nat_lt, ◌||◌, ◌==◌, if◌then◌else◌, cond, Contains, ◌↔◌}
+use Rattle.std.specs.List.{dedup, list_any}
+use Rattle.std.specs.List.Sorted.{IsStrictlyIncreasing, IsPermutation, IsSorted}
+use Rattle.std.specs.Ordering.{nat_cmp}
+use Rattle.std.proofs.lemmas.Bool.Decides.{nat_tests}
+use Rattle.std.proofs.lemmas.List.Kept.{Contains-dedup_nat, Contains-from_dedup}
+use Rattle.std.proofs.lemmas.List.Sorted.{Contains-permutation, IsPermutation-sym}
+use Rattle.std.proofs.lemmas.Map.Keys.{IsStrictlyIncreasing-dedup}
+use lib.Dec.{eqb}
+use Rattle.fx_strike.specs.Characters.{with_code, rising, AreRisen, RisingAreRisen, RisenIsOne}
+
+-- the first number is above c
+abbrev IsAbove : ℕ → List ℕ → Type 0
+IsAbove c [] = Unit {0}
+IsAbove c (d ∷ ds) = c < d
+
+-- each number is below the next
+abbrev Rise : List ℕ → Type 0
+Rise [] = Unit {0}
+Rise (c ∷ cs) = IsAbove c cs × Rise cs
+
+-- x is one of the numbers
+abbrev IsIn : ℕ → List ℕ → Type 0
+IsIn x [] = ⊥
+IsIn x (c ∷ cs) = (x ≡ c) ⊎ IsIn x cs
+
+-- ---- one code point put in its place
+
+neither : (a b : Bool) → a ≡ false → b ≡ false → (a || b) ≡ false
+neither true b p q = absurd (cc)
+neither false b p q = q
+
+none_of : (a b : Bool) → (a || b) ≡ false → (a ≡ false) × (b ≡ false)
+none_of true b h = absurd (cc)
+none_of false b h = (refl, h)
+
+by_order : {P : Type 0} (c d : ℕ) → (c < d → P) → (c ≡ d → P) → (d < c → P) → P
+by_order c d f g h = elim (three c d) [ inl p ↦ f p | inr (inl p) ↦ g p | inr (inr p) ↦ h p ]
+  where
+    three : (c d : ℕ) → (c < d) ⊎ ((c ≡ d) ⊎ (d < c))
+    three c d = grind arith
+
+put_before : (c d : ℕ) (ds : List ℕ) → c < d → with_code c (d ∷ ds) ≡ c ∷ d ∷ ds
+put_before c d ds h = grind (arith, nat_tests)
+
+put_at : (c d : ℕ) (ds : List ℕ) → c ≡ d → with_code c (d ∷ ds) ≡ d ∷ ds
+put_at c d ds h = grind (arith, nat_tests)
+
+put_behind : (c d : ℕ) (ds : List ℕ) → d < c → with_code c (d ∷ ds) ≡ d ∷ with_code c ds
+put_behind c d ds h = grind (arith, nat_tests)
+
+above_put : (b c : ℕ) (ds : List ℕ) → b < c → IsAbove b ds → IsAbove b (with_code c ds)
+above_put b c [] h g = h
+above_put b c (d ∷ ds) h g =
+    let P : List ℕ → Type 0 = λ xs. IsAbove b xs in
+    by_order c d
+      (λ e. subst P (sym (put_before c d ds e)) h)
+      (λ e. subst P (sym (put_at c d ds e)) g)
+      (λ e. subst P (sym (put_behind c d ds e)) g)
+
+put_rises : (c : ℕ) (ds : List ℕ) → Rise ds → Rise (with_code c ds)
+put_rises c [] h = (tt, tt)
+put_rises c (d ∷ ds) h =
+    let P : List ℕ → Type 0 = λ xs. Rise xs in
+    by_order c d
+      (λ e. subst P (sym (put_before c d ds e)) (e, h))
+      (λ e. subst P (sym (put_at c d ds e)) h)
+      (λ e. subst P (sym (put_behind c d ds e)) (above_put d c ds e h.0, put_rises c ds h.1))
+
+-- what is put in, and what stands there
+put_in : (x c : ℕ) (ds : List ℕ) → (x ≡ c) ⊎ IsIn x ds → IsIn x (with_code c ds)
+put_in x c [] h = h
+put_in x c (d ∷ ds) h =
+    let P : List ℕ → Type 0 = λ xs. IsIn x xs in
+    by_order c d
+      (λ e. subst P (sym (put_before c d ds e)) h)
+      (λ e. subst P (sym (put_at c d ds e)) (elim h [ inl p ↦ inl (p ∙ e) | inr p ↦ p ]))
+      (λ e. subst P (sym (put_behind c d ds e)) (elim h [ inl p ↦ inr (put_in x c ds (inl p)) | inr (inl p) ↦ inl p | inr (inr p) ↦ inr (put_in x c ds (inr p)) ]))
+
+put_from : (x c : ℕ) (ds : List ℕ) → IsIn x (with_code c ds) → (x ≡ c) ⊎ IsIn x ds
+put_from x c [] h = h
+put_from x c (d ∷ ds) h =
+    let P : List ℕ → Type 0 = λ xs. IsIn x xs in
+    by_order c d
+      (λ e. subst P (put_before c d ds e) h)
+      (λ e. inr (subst P (put_at c d ds e) h))
+      (λ e. elim (subst P (put_behind c d ds e) h) [ inl p ↦ inr (inl p) | inr p ↦ past x c d ds (put_from x c ds p) ])
+  where
+    past : (x c d : ℕ) (ds : List ℕ) → (x ≡ c) ⊎ IsIn x ds → (x ≡ c) ⊎ ((x ≡ d) ⊎ IsIn x ds)
+    past x c d ds (inl p) = inl p
+    past x c d ds (inr p) = inr (inr p)
+
+rising_rises : (cs : List ℕ) → Rise (rising cs)
+unfolding rising
+rising_rises [] = tt
+rising_rises (c ∷ cs) = put_rises c (rising cs) (rising_rises cs)
+
+rising_in : (x : ℕ) (cs : List ℕ) → IsIn x cs → IsIn x (rising cs)
+unfolding rising
+rising_in x [] h = h
+rising_in x (c ∷ cs) (inl h) = put_in x c (rising cs) (inl h)
+rising_in x (c ∷ cs) (inr h) = put_in x c (rising cs) (inr (rising_in x cs h))
+
+rising_from : (x : ℕ) (cs : List ℕ) → IsIn x (rising cs) → IsIn x cs
+unfolding rising
+rising_from x [] h = h
+rising_from x (c ∷ cs) h = elim (put_from x c (rising cs) h) [ inl p ↦ inl p | inr p ↦ inr (rising_from x cs p) ]
+
+-- ---- std's words
+
+contains_in : (x : ℕ) (cs : List ℕ) → Contains cs x → IsIn x cs
+contains_in x [] h = absurd (omega (arith, h.1))
+contains_in x (c ∷ cs) h = at x c cs (contains_in x cs) h.0 h.1 h.2
+  where
+    at : (x c : ℕ) (cs : List ℕ) → (Contains cs x → IsIn x cs) → (k : ℕ) → k < length (c ∷ cs) → get_or (c ∷ cs) k x ≡ x → (x ≡ c) ⊎ IsIn x cs
+    at x c cs f zero h g = inl (sym g)
+    at x c cs f (suc k) h g = inr (f (k, omega arith, g))
+
+in_contains : (x : ℕ) (cs : List ℕ) → IsIn x cs → Contains cs x
+in_contains x [] h = absurd h
+in_contains x (c ∷ cs) (inl h) = (0, omega arith, sym h)
+in_contains x (c ∷ cs) (inr h) = let g = in_contains x cs h in (suc g.0, omega (arith, g.1), g.2)
+
+next_at : (c : ℕ) (ds : List ℕ) (k : ℕ) → get_or (c ∷ ds) (suc k + 1) 0 ≡ get_or ds (k + 1) 0
+next_at c ds k = let e : suc k + 1 ≡ suc (k + 1) = omega arith in ap (λ n. get_or (c ∷ ds) n 0) e
+
+rise_increasing : (cs : List ℕ) → Rise cs → IsStrictlyIncreasing cs
+rise_increasing [] h k g = absurd (omega arith)
+rise_increasing (c ∷ []) h k g = absurd (omega arith)
+rise_increasing (c ∷ d ∷ ds) h zero g = h.0
+rise_increasing (c ∷ d ∷ ds) h (suc k) g = let P : ℕ → Type 0 = λ n. get_or (d ∷ ds) k 0 < n in subst P (sym (next_at c (d ∷ ds) k)) (rise_increasing (d ∷ ds) h.1 k (omega arith))
+
+increasing_rise : (cs : List ℕ) → IsStrictlyIncreasing cs → Rise cs
+increasing_rise [] h = tt
+increasing_rise (c ∷ []) h = (tt, tt)
+increasing_rise (c ∷ d ∷ ds) h = (h 0 (omega arith), increasing_rise (d ∷ ds) (λ k g. let P : ℕ → Type 0 = λ n. get_or (d ∷ ds) k 0 < n in subst P (next_at c (d ∷ ds) k) (h (suc k) (omega arith))))
+
+-- ---- the laws
+
+pub rising_are_risen : RisingAreRisen
+rising_are_risen chars = record {
+  rise = rise_increasing (rising chars) (rising_rises chars);
+  same = λ c. (λ h. in_contains c chars (rising_from c chars (contains_in c (rising chars) h)), λ h. in_contains c (rising chars) (rising_in c chars (contains_in c chars h)));
+}
+
+-- what is behind the first is above it
+behind_above : (c x : ℕ) (cs : List ℕ) → IsAbove c cs → Rise cs → IsIn x cs → c < x
+behind_above c x [] a h g = absurd g
+behind_above c x (d ∷ ds) a h (inl g) = subst (λ z. c < z) (sym g) a
+behind_above c x (d ∷ ds) a h (inr g) = let low : d < x = behind_above d x ds h.0 h.1 g in omega arith
+
+one_list : (xs ys : List ℕ) → Rise xs → Rise ys → ((x : ℕ) → IsIn x xs → IsIn x ys) → ((x : ℕ) → IsIn x ys → IsIn x xs) → xs ≡ ys
+one_list [] [] p q f g = refl
+one_list [] (d ∷ ds) p q f g = absurd (g d (inl refl))
+one_list (c ∷ cs) [] p q f g = absurd (f c (inl refl))
+one_list (c ∷ cs) (d ∷ ds) p q f g =
+    let e : c ≡ d = elim (f c (inl refl)) [ inl h ↦ h | inr h ↦ elim (g d (inl refl)) [ inl k ↦ sym k | inr k ↦ absurd (clash c d (behind_above d c ds q.0 q.1 h) (behind_above c d cs p.0 p.1 k)) ] ] in
+    let there : (x : ℕ) → IsIn x cs → IsIn x ds = λ x h. elim (f x (inr h)) [ inr k ↦ k | inl k ↦ absurd (itself c x (behind_above c x cs p.0 p.1 h) (k ∙ sym e)) ] in
+    let back : (x : ℕ) → IsIn x ds → IsIn x cs = λ x h. elim (g x (inr h)) [ inr k ↦ k | inl k ↦ absurd (itself d x (behind_above d x ds q.0 q.1 h) (k ∙ e)) ] in
+    ap (λ z. z ∷ cs) e ∙ ap (λ zs. d ∷ zs) (one_list cs ds p.1 q.1 there back)
+  where
+    clash : (c d : ℕ) → d < c → c < d → ⊥
+    clash c d h g = omega arith
+    itself : (c x : ℕ) → c < x → x ≡ c → ⊥
+    itself c x h g = omega arith
+
+pub risen_is_one : RisenIsOne
+risen_is_one chars codes others p q =
+    one_list codes others (increasing_rise codes p.rise) (increasing_rise others q.rise)
+      (λ x h. contains_in x others ((q.same x).1 ((p.same x).0 (in_contains x codes h))))
+      (λ x h. contains_in x codes ((p.same x).1 ((q.same x).0 (in_contains x others h))))
+
+-- sorted and without repeats
+pub sorted_is_rising : (chars sorted codes : List ℕ) → IsPermutation chars sorted → IsSorted nat_cmp sorted → codes ≡ dedup eqb sorted → codes ≡ rising chars
+sorted_is_rising chars sorted codes p s e =
+    e ∙ risen_is_one chars (dedup eqb sorted) (rising chars) (record {
+      rise = IsStrictlyIncreasing-dedup sorted s;
+      same = λ c. (λ h. Contains-permutation sorted chars c (IsPermutation-sym chars sorted p) (Contains-from_dedup eqb sorted c h), λ h. Contains-dedup_nat sorted c (Contains-permutation chars sorted c p h));
+    }) (rising_are_risen chars)
+
+-- no more than are asked for
+pub length_rising : (chars : List ℕ) → length (rising chars) ≤ length chars
+unfolding rising
+length_rising [] = omega arith
+length_rising (c ∷ cs) = omega (arith, length_rising cs, length_put c (rising cs))
+  where
+    length_put : (c : ℕ) (ds : List ℕ) → length (with_code c ds) ≤ suc (length ds)
+    length_put c [] = omega arith
+    length_put c (d ∷ ds) = 
+        let P : List ℕ → Type 0 = λ xs. length xs ≤ suc (length (d ∷ ds)) in
+        by_order c d
+          (λ e. subst P (sym (put_before c d ds e)) (omega arith))
+          (λ e. subst P (sym (put_at c d ds e)) (omega arith))
+          (λ e. subst P (sym (put_behind c d ds e)) (omega (arith, length_put c ds)))
+
+-- the same for a copy
+pub few_rising : (chars codes : List ℕ) → codes ≡ rising chars → length chars ≤ 65536 → length codes ≤ 65536
+few_rising chars codes e h = omega (arith, ap length e, length_rising chars)
+
+any_put : (p : ℕ → Bool) (c : ℕ) (ds : List ℕ) → p c ≡ false → list_any p ds ≡ false → list_any p (with_code c ds) ≡ false
+any_put p c [] h g = neither (p c) false h refl
+any_put p c (d ∷ ds) h g =
+    let P : List ℕ → Type 0 = λ xs. list_any p xs ≡ false in
+    let q = none_of (p d) (list_any p ds) g in
+    by_order c d
+      (λ e. subst P (sym (put_before c d ds e)) (neither (p c) (list_any p (d ∷ ds)) h g))
+      (λ e. subst P (sym (put_at c d ds e)) g)
+      (λ e. subst P (sym (put_behind c d ds e)) (neither (p d) (list_any p (with_code c ds)) q.0 (any_put p c ds h q.1)))
+
+any_rising : (p : ℕ → Bool) (chars : List ℕ) → list_any p chars ≡ false → list_any p (rising chars) ≡ false
+unfolding rising
+any_rising p [] h = h
+any_rising p (c ∷ cs) h = let q = none_of (p c) (list_any p cs) h in any_put p c (rising cs) q.0 (any_rising p cs q.1)
+
+-- none is past a limit where none that is asked for is
+pub small_rising : (p : ℕ → Bool) (chars codes : List ℕ) → codes ≡ rising chars → list_any p chars ≡ false → list_any p codes ≡ false
+small_rising p chars codes e h = ap (list_any p) e ∙ any_rising p chars h

@@ -1,0 +1,51 @@
+-- The faults of the crates below as refusals, and what code answers that may want memory.
+use Rattle.std.specs.Prelude.{◌≡◌, ℕ, Result, Err}
+use Rattle.fx_sfnt.specs.declared.fault.FontFault.{FontFault}
+use Rattle.fx_sfnt.specs.declared.fault.FontFault.TheVariants as font
+use Rattle.fx_cmap.specs.declared.fault.CharMapFault.{CharMapFault}
+use Rattle.fx_cmap.specs.declared.fault.CharMapFault.TheVariants as char_map
+use Rattle.fx_glyf.specs.declared.fault.GlyphFault.{GlyphFault}
+use Rattle.fx_glyf.specs.declared.fault.GlyphFault.TheVariants as glyph
+use Rattle.fx_hint.specs.declared.fault.HintFault.{HintFault}
+use Rattle.fx_hint.specs.declared.fault.HintFault.TheVariants as hint
+use Rattle.fx_strike.specs.declared.refusal.Refusal.{Refusal}
+use Rattle.fx_strike.specs.declared.refusal.Refusal.TheVariants.{NotTrueType, TableMissing, TableShort, BadHead, BadMaxp, NoCharMap, BadCharMap, BadLoca, GlyphShort, BadContours, ComponentDepth, TooManyComponents, TooManyPoints, BadPointMatch, BadGlyphNumber, WriteFailed, ReadFailed, BadHex, InputTooLarge, OutOfMemory}
+
+-- a font's fault
+abbrev pub of_font : FontFault → Refusal
+of_font font.NotTrueType = NotTrueType
+of_font (font.TableMissing tag) = TableMissing tag
+of_font (font.TableShort tag) = TableShort tag
+of_font font.BadHead = BadHead
+of_font font.BadMaxp = BadMaxp
+of_font (font.BadLoca g) = BadLoca g
+of_font (font.BadGlyphNumber g) = BadGlyphNumber g
+
+-- a character map's fault
+abbrev pub of_char_map : CharMapFault → Refusal
+of_char_map char_map.NoCharMap = NoCharMap
+of_char_map char_map.BadCharMap = BadCharMap
+
+-- a fault of a glyph's bytes
+abbrev pub of_glyph : GlyphFault → Refusal
+of_glyph (glyph.GlyphShort g) = GlyphShort g
+of_glyph (glyph.BadContours g) = BadContours g
+
+-- an outline's fault
+abbrev pub of_hint : HintFault → Refusal
+of_hint (hint.Font fault) = of_font fault
+of_hint (hint.Glyph fault) = of_glyph fault
+of_hint (hint.ComponentDepth g) = ComponentDepth g
+of_hint (hint.TooManyComponents g) = TooManyComponents g
+of_hint (hint.TooManyPoints g) = TooManyPoints g
+of_hint (hint.BadPointMatch g) = BadPointMatch g
+of_hint hint.OutOfMemory = OutOfMemory
+
+-- a refusal on the way to a value: want of memory, or the cause that is due; the writer, the reader and the input have no part in it
+abbrev pub Fails : {Y : Type 0} → Refusal → Result Y Refusal → Type 0
+Fails OutOfMemory due = Unit {0}
+Fails (WriteFailed n) due = ⊥
+Fails ReadFailed due = ⊥
+Fails BadHex due = ⊥
+Fails InputTooLarge due = ⊥
+Fails refusal due = due ≡ Err refusal

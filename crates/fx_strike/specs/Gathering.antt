@@ -1,0 +1,89 @@
+-- What is made of code points so far, and of a strike before its first byte is written.
+use Rattle.std.specs.Prelude.{◌≡◌, neg_ℤ, ℕ, ◌+◌, List, [], ◌∷◌, ◌++◌, length, map, Result, Ok, Err}
+use Rattle.std.specs.List.{flat_map, sum_by, count_by}
+use Rattle.fx_sfnt.specs.Tables.{Face}
+use Rattle.fx_cmap.specs.Lookup.{Segments}
+use Rattle.fx_bdf.specs.declared.header.Header.{Header}
+use Rattle.fx_bdf.specs.Glyphs.{Glyph, IsPlaced, no_box, joined, bounds_of}
+use Rattle.fx_bdf.specs.Text.{header_text, glyph_text, end_text}
+use Rattle.fx_strike.specs.declared.refusal.Refusal.{Refusal}
+use Rattle.fx_strike.specs.declared.drawn.Drawn.{Drawn}
+use Rattle.fx_strike.specs.declared.gathered.Gathered.{Gathered}
+use Rattle.fx_strike.specs.declared.made.Made.{Made}
+use Rattle.fx_strike.specs.Faults.{Fails}
+use Rattle.fx_strike.specs.Headline.{counted, IsReportOf}
+use Rattle.fx_strike.specs.Strike.{Sketch, Plan, AreGlyphsOf, is_missing, sketches_of, pixels, strike_text}
+
+-- no glyph
+pub record IsEmpty (new : Gathered) : Type 0 where
+  pub text : new.draft.bytes.items ≡ []
+  pub calm : new.draft.faults ≡ 0
+  pub bounds : new.bounds ≡ no_box
+  pub glyphs : new.glyphs ≡ 0
+  pub missing : new.missing ≡ 0
+  pub strays : new.strays ≡ 0
+  pub steps : new.steps ≡ 0
+
+-- one glyph more
+pub record Adds (old new : Gathered) (drawn : Drawn) : Type 0 where
+  pub text : new.draft.bytes.items ≡ old.draft.bytes.items ++ glyph_text drawn.glyph
+  pub calm : new.draft.faults ≡ 0
+  pub bounds : new.bounds ≡ joined old.bounds drawn.glyph.box
+  pub placed : IsPlaced new.bounds
+  pub glyphs : new.glyphs ≡ old.glyphs + 1
+  pub missing : new.missing ≡ old.missing
+  pub strays : new.strays ≡ counted (old.strays + drawn.strays)
+  pub steps : new.steps ≡ counted (old.steps + drawn.steps)
+
+-- the glyphs of these code points are gathered
+pub record Holds (face : Face) (segments : Segments) (ppem : ℕ) (codes : List ℕ) (gathered : Gathered) : Type 0 where
+  pub sketches : List Sketch
+  pub glyphs : List Glyph
+  pub planned : sketches_of face segments ppem codes ≡ Ok sketches
+  pub drawn : AreGlyphsOf sketches glyphs
+  pub text : gathered.draft.bytes.items ≡ flat_map glyph_text glyphs
+  pub calm : gathered.draft.faults ≡ 0
+  pub bounds : gathered.bounds ≡ bounds_of (map (λ g. g.box) glyphs)
+  pub placed : IsPlaced gathered.bounds
+  pub count : gathered.glyphs ≡ length sketches
+  pub missing : gathered.missing ≡ count_by (is_missing segments) codes
+  pub strays : gathered.strays ≡ counted (sum_by (λ s. s.strays) sketches)
+  pub steps : gathered.steps ≡ counted (sum_by (λ s. s.steps) sketches)
+  pub each : gathered.glyphs + gathered.missing ≡ length codes
+
+-- they are gathered where their sketches are due; a refusal is one that is due, or want of memory
+abbrev pub Gathers : Face → Segments → ℕ → List ℕ → Result Gathered Refusal → Type 0
+Gathers face segments ppem codes (Ok gathered) = Holds face segments ppem codes gathered
+Gathers face segments ppem codes (Err refusal) = Fails refusal (sketches_of face segments ppem codes)
+
+-- what the lines before these glyphs tell
+abbrev pub heading_of : Face → ℕ → Gathered → Header
+heading_of face ppem gathered = record {
+  ppem = ppem;
+  bounds = gathered.bounds;
+  ascent = pixels face.hhea.ascender ppem face.head.units_per_em;
+  descent = pixels (neg_ℤ face.hhea.descender) ppem face.head.units_per_em;
+  glyphs = gathered.glyphs }
+
+-- the texts are whole
+pub record Finishes (name : List ℕ) (header : Header) (gathered : Gathered) (made : Made) : Type 0 where
+  pub head : made.head.bytes.items ≡ header_text name header
+  pub body : made.body.bytes.items ≡ gathered.draft.bytes.items ++ end_text
+  pub glyphs : made.report.glyphs ≡ gathered.glyphs
+  pub missing : made.report.missing ≡ gathered.missing
+  pub strays : made.report.strays ≡ gathered.strays
+  pub steps : made.report.steps ≡ gathered.steps
+
+-- what is made is the text of the plan, and its report
+pub record IsMadeOf (due : Result Plan Refusal) (made : Made) : Type 0 where
+  pub plan : Plan
+  pub glyphs : List Glyph
+  pub is : due ≡ Ok plan
+  pub drawn : AreGlyphsOf plan.sketches glyphs
+  pub text : made.head.bytes.items ++ made.body.bytes.items ≡ strike_text plan glyphs
+  pub told : IsReportOf plan made.report
+
+-- it is made where a plan is due; a refusal is one that is due, or want of memory
+abbrev pub Makes : Result Plan Refusal → Result Made Refusal → Type 0
+Makes due (Ok made) = IsMadeOf due made
+Makes due (Err refusal) = Fails refusal due

@@ -1,0 +1,33 @@
+-- What the definitions of a strike imply.
+use Rattle.std.specs.Prelude.{◌≡◌, ◌↔◌, ℕ, Bool, true, List, Result, Ok, Contains, All}
+use Rattle.std.specs.List.{list_all}
+use Rattle.fx_hint.specs.declared.outline.OutlinePoint.{OutlinePoint}
+use Rattle.fx_winding.specs.Winding.{Span}
+use Rattle.fx_contour.specs.Contours.{IsNear}
+use Rattle.fx_contour.specs.Frames.{AreTooLarge}
+use Rattle.fx_bdf.specs.Glyphs.{Glyph}
+use Rattle.fx_strike.specs.Limits.{is_near, is_too_large}
+use Rattle.fx_strike.specs.Strike.{Sketch, Plan, IsGlyphOf, AreGlyphsOf, plan_of, strike_text}
+
+-- the points that are not too far out are those within 2^21
+abbrev pub NearIsNear : Type 0
+NearIsNear = (points : List OutlinePoint) → (list_all is_near points ≡ true) ↔ All IsNear points
+
+-- spans are too large just where two pixels of one row, or of one column, 2,048 apart have their centres in the box of their points
+abbrev pub TooLargeIsTooLarge : Type 0
+TooLargeIsTooLarge = (spans : List Span) → (is_too_large spans ≡ true) ↔ AreTooLarge spans
+
+-- a sketch has one glyph
+abbrev pub GlyphIsOne : Type 0
+GlyphIsOne = (sketch : Sketch) (g h : Glyph) → IsGlyphOf sketch g → IsGlyphOf sketch h → g ≡ h
+
+-- hence a strike has one text
+abbrev pub TextIsOne : Type 0
+TextIsOne = (plan : Plan) (gs hs : List Glyph) → AreGlyphsOf plan.sketches gs → AreGlyphsOf plan.sketches hs → strike_text plan gs ≡ strike_text plan hs
+
+-- a character's part depends on the font, the size, hinting and its code point alone: it is the same in all strikes of those
+abbrev pub PartIsOne : Type 0
+PartIsOne =
+    (file : List ℕ) (ppem : ℕ) (hinting : Bool) (name other_name chars other_chars : List ℕ) (plan other : Plan)
+    → plan_of file ppem name chars hinting ≡ Ok plan → plan_of file ppem other_name other_chars hinting ≡ Ok other
+    → (s t : Sketch) → Contains plan.sketches s → Contains other.sketches t → s.code ≡ t.code → s ≡ t

@@ -1,0 +1,130 @@
+-- The strike of a font, a size and characters, or the first cause why there is none.
+use Rattle.std.specs.Prelude.{◌≡◌, ◌↔◌, IsTrue, ℕ, ◌*◌, nat_lt, ◌==◌, ◌||◌, not, ℤ, pos, ◌*ℤ◌, neg_ℤ, Bool, List, [], ◌∷◌, ◌++◌, length, map, filter, Result, Ok, Err}
+use Rattle.std.specs.List.{list_any, list_all, count_by, flat_map}
+use Rattle.fx_fixed.specs.Chain.{◌>>=◌, refuse, map_fault, map_chain}
+use Rattle.fx_fixed.specs.Numbers.{near_of}
+use Rattle.fx_sfnt.specs.Tables.{Face, font_of}
+use Rattle.fx_sfnt.specs.Glyphs.{metrics_of}
+use Rattle.fx_cmap.specs.Lookup.{Segments, map_of_file, glyph_for}
+use Rattle.fx_hint.specs.Outlines.{Drawing, outline_of}
+use Rattle.fx_winding.specs.Winding.{Span, IsCovered, centre}
+use Rattle.fx_contour.specs.Contours.{spans_of}
+use Rattle.fx_bdf.specs.declared.header.Header.{Header}
+use Rattle.fx_bdf.specs.Glyphs.{Glyph, IsTight, IsFormed, glyph_bit, bounds_of}
+use Rattle.fx_bdf.specs.Text.{is_name, header_text, glyph_text, end_text}
+use Rattle.fx_strike.specs.declared.refusal.Refusal.{Refusal}
+use Rattle.fx_strike.specs.declared.refusal.Refusal.TheVariants.{TooFar, GlyphTooLarge, BadSize, BadChars, BadName, NotBuilt}
+use Rattle.fx_strike.specs.Faults.{of_font, of_char_map, of_hint}
+use Rattle.fx_strike.specs.Characters.{rising}
+use Rattle.fx_strike.specs.Limits.{is_near, is_too_large}
+
+-- ---- a character
+
+-- a character of a strike before its bits: its code point, its advance in 1/1000 of an em and in pixels, the spans of its
+-- outline in 1/128 pixel, and what its glyph's programs counted
+pub record Sketch : Type 0 where
+  pub code : ℕ
+  pub swidth : ℤ
+  pub dwidth : ℤ
+  pub spans : List Span
+  pub strays : ℕ
+  pub steps : ℕ
+
+-- an advance of FUnits in 1/1000 of an em of so many FUnits
+abbrev pub thousandths : ℕ → ℕ → ℤ
+thousandths advance em = near_of (pos (advance * 1000)) (pos em)
+
+-- the sketch of a code point by its glyph's number, or the first cause why it has none
+unfoldable pub glyph_sketch_of : Face → ℕ → ℕ → ℕ → Result Sketch Refusal
+glyph_sketch_of face ppem code glyph = do
+  drawing ← map_fault of_hint (outline_of face ppem glyph)
+  _ ← refuse (not (list_all is_near drawing.points)) (TooFar glyph)
+  _ ← refuse (is_too_large (spans_of drawing.ends drawing.points)) (GlyphTooLarge glyph)
+  metrics ← map_fault of_font (metrics_of face glyph)
+  Ok (record {
+    code = code;
+    swidth = thousandths metrics.advance face.head.units_per_em;
+    dwidth = near_of drawing.advance (pos 64);
+    spans = spans_of drawing.ends drawing.points;
+    strays = drawing.strays;
+    steps = drawing.steps })
+
+-- the sketch of a code point
+abbrev pub sketch_of : Face → Segments → ℕ → ℕ → Result Sketch Refusal
+sketch_of face segments ppem code = glyph_sketch_of face ppem code (glyph_for segments code)
+
+-- the font has no glyph for a code point
+abbrev pub is_missing : Segments → ℕ → Bool
+is_missing segments code = glyph_for segments code == 0
+
+-- ---- the strike
+
+-- a strike before its bits
+pub record Plan : Type 0 where
+  pub name : List ℕ
+  pub ppem : ℕ
+  pub ascent : ℤ
+  pub descent : ℤ
+  pub sketches : List Sketch
+  pub missing : ℕ
+
+-- FUnits in pixels, rounded
+abbrev pub pixels : ℤ → ℕ → ℕ → ℤ
+pixels units ppem em = near_of (units *ℤ pos ppem) (pos em)
+
+-- the sketches of code points that the font has
+abbrev pub sketches_of : Face → Segments → ℕ → List ℕ → Result (List Sketch) Refusal
+sketches_of face segments ppem codes = map_chain (sketch_of face segments ppem) (filter (λ c. not (is_missing segments c)) codes)
+
+-- what is refused whatever the font: a size, characters or a name past their limits; and font programs are not run yet
+unfoldable pub checked : ℕ → List ℕ → List ℕ → Bool → Result (Unit {0}) Refusal
+checked ppem name chars hinting = do
+  _ ← refuse (ppem == 0 || nat_lt 255 ppem) BadSize
+  _ ← refuse (nat_lt 65536 (length chars) || list_any (nat_lt 65535) chars) BadChars
+  _ ← refuse (not (is_name name)) BadName
+  refuse hinting NotBuilt
+
+-- the strike of a font file, a size, a name and characters, or the first cause why there is none
+unfoldable pub plan_of : List ℕ → ℕ → List ℕ → List ℕ → Bool → Result Plan Refusal
+plan_of file ppem name chars hinting = do
+  _ ← checked ppem name chars hinting
+  face ← map_fault of_font (font_of file)
+  segments ← map_fault of_char_map (map_of_file face.file)
+  sketches ← sketches_of face segments ppem (rising chars)
+  Ok (record {
+    name = name;
+    ppem = ppem;
+    ascent = pixels face.hhea.ascender ppem face.head.units_per_em;
+    descent = pixels (neg_ℤ face.hhea.descender) ppem face.head.units_per_em;
+    sketches = sketches;
+    missing = count_by (is_missing segments) (rising chars) })
+
+-- ---- its bits and its text
+
+-- the glyph of a sketch: of all pixels of the plane just those are set whose centre is covered, in their tight box
+pub record IsGlyphOf (sketch : Sketch) (glyph : Glyph) : Type 0 where
+  pub code : glyph.code ≡ sketch.code
+  pub swidth : glyph.swidth ≡ sketch.swidth
+  pub dwidth : glyph.dwidth ≡ sketch.dwidth
+  pub bits : (col row : ℤ) → IsTrue (glyph_bit glyph col row) ↔ IsCovered (centre col row) sketch.spans
+  pub tight : IsTight glyph.box (glyph_bit glyph)
+  pub formed : IsFormed glyph
+
+-- one for each sketch
+abbrev pub AreGlyphsOf : List Sketch → List Glyph → Type 0
+AreGlyphsOf [] [] = Unit {0}
+AreGlyphsOf (s ∷ ss) (g ∷ gs) = IsGlyphOf s g × AreGlyphsOf ss gs
+AreGlyphsOf _ _ = ⊥
+
+-- what the lines before the glyphs tell
+abbrev pub header_of : Plan → List Glyph → Header
+header_of plan glyphs = record {
+  ppem = plan.ppem;
+  bounds = bounds_of (map (λ g. g.box) glyphs);
+  ascent = plan.ascent;
+  descent = plan.descent;
+  glyphs = length plan.sketches }
+
+-- the text of a strike with these glyphs
+unfoldable pub strike_text : Plan → List Glyph → List ℕ
+strike_text plan glyphs = header_text plan.name (header_of plan glyphs) ++ (flat_map glyph_text glyphs ++ end_text)

@@ -1,0 +1,35 @@
+//! The characters that are asked for.
+ghost use Rattle.std.specs.Prelude.{◌≡◌, nat_eq, IfOk};
+ghost use Rattle.std.specs.List.{dedup};
+ghost use Rattle.std.specs.List.Sorted.{IsPermutation, IsSorted};
+ghost use Rattle.std.specs.Ordering.{nat_cmp};
+ghost use Rattle.fx_strike.specs.Characters.{rising};
+
+use std::alloc::{AllocError, Global};
+
+// The code points in order, each as often as it is asked for.
+fn sorted(alloc: Global, chars: &[u32]) -> Result<Vec<u32>, AllocError>
+    ensures same { IfOk result (λ v. IsPermutation chars.now v.items) }
+    ensures sorted { IfOk result (λ v. IsSorted nat_cmp v.items) }
+{
+    let mut codes = Vec::from_slice(alloc, chars)?;
+    codes.sort_unstable();
+    Ok(codes)
+}
+
+// Code points with each run of equal ones made one.
+#[tactic(auto, using(std::proofs::lemmas::List::Filters::dedup_is))]
+fn each_once(codes: Vec<u32>) -> Vec<u32>
+    ensures { result.items ≡ dedup nat_eq codes.items }
+{
+    let mut codes = codes;
+    codes.dedup();
+    codes
+}
+
+/// The code points in rising order, each once.
+pub(crate) fn rising_codes(alloc: Global, chars: &[u32]) -> Result<Vec<u32>, AllocError>
+    ensures { IfOk result (λ v. v.items ≡ rising chars.now) }
+{
+    Ok(each_once(sorted(alloc, chars)?))
+}

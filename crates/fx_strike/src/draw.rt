@@ -1,0 +1,131 @@
+//! From a glyph's number to its bits.
+ghost use Rattle.std.specs.Prelude.{◌≡◌, ◌≤◌, pos, map, IfOk, IfErr};
+ghost use Rattle.fx_fixed.specs.Chain.{refuse, map_ok, map_fault, GivesUnless};
+ghost use Rattle.fx_fixed.specs.Numbers.{near_of};
+ghost use Rattle.fx_sfnt.specs.Glyphs.{metrics_of};
+ghost use Rattle.fx_hint.specs.Outlines.{drawing_of_outline, outline_of};
+ghost use Rattle.fx_winding.specs.Winding.{span_of};
+ghost use Rattle.fx_winding.specs.Outside.{AreOfOutline};
+ghost use Rattle.fx_contour.specs.Frames.{IsFrameFor, NothingOutside};
+ghost use Rattle.fx_strike.specs.Faults.{Fails, of_font, of_hint};
+ghost use Rattle.fx_strike.specs.Limits.{is_too_large};
+ghost use Rattle.fx_strike.specs.Strike.{thousandths, glyph_sketch_of};
+ghost use Rattle.fx_strike.specs.Drawing.{HasBitsOf, Draws, spans_due};
+
+use crate::drawn::Drawn;
+use crate::refusal::Refusal;
+use fx_bdf::BitGlyph;
+use fx_contour::{ContourFault, frame, pieces};
+use fx_fixed::{near, near_64};
+use fx_hint::{Outline, unhinted};
+use fx_sfnt::Font;
+use fx_winding::{Bitmap, Frame, Pieces, Scan, Tally};
+use std::alloc::Global;
+
+// The scaled outline of a glyph.
+fn outline_at(alloc: Global, font: &Font<'_>, ppem: u16, glyph: u16) -> Result<Outline, Refusal>
+    requires low { 1 ≤ ppem }
+    requires high { ppem ≤ 255 }
+    ensures { GivesUnless Fails drawing_of_outline result (map_fault of_hint (outline_of font.now ppem glyph)) }
+{
+    Ok(unhinted(alloc, font, ppem, glyph)?)
+}
+
+// The pieces of a glyph's outline; `TooFar` where a point of it lies too far out.
+fn pieces_at(alloc: Global, outline: &Outline, glyph: u16) -> Result<Pieces, Refusal>
+    ensures pieces { GivesUnless Fails (map span_of) result (spans_due outline.now.ends.items outline.now.points.items glyph) }
+    ensures closed { IfOk result (λ ps. AreOfOutline (map span_of ps)) }
+{
+    match pieces(alloc, outline) {
+        Ok(pieces) => Ok(pieces),
+        Err(ContourFault::TooFar) => Err(Refusal::TooFar(glyph)),
+        Err(_) => Err(Refusal::OutOfMemory),
+    }
+}
+
+// The frame of a glyph's pieces; `GlyphTooLarge` where it has too many pixels.
+fn frame_at(pieces: &Pieces, glyph: u16) -> Result<Option<Frame>, Refusal>
+    ensures small { GivesUnless Fails (λ _. tt) result (refuse (is_too_large (map span_of pieces.now)) (Refusal.GlyphTooLarge glyph)) }
+    ensures frame { IfOk result (λ f. IsFrameFor f (map span_of pieces.now)) }
+    ensures outside { IfOk result (λ f. NothingOutside f (map span_of pieces.now)) }
+{
+    match frame(pieces) {
+        Ok(frame) => Ok(frame),
+        Err(_) => Err(Refusal::GlyphTooLarge(glyph)),
+    }
+}
+
+// The advance of a glyph in 1/1000 of an em.
+fn thousandths_at(font: &Font<'_>, glyph: u16) -> Result<i32, Refusal>
+    ensures { result ≡ map_ok (λ m. thousandths m.advance font.now.head.units_per_em) (map_fault of_font (metrics_of font.now glyph)) }
+{
+    let advance = i128::from(font.metrics(glyph)?.advance);
+    Ok(near(advance * 1000, i128::from(font.head().units_per_em)) as i32)
+}
+
+// An advance of 26.6 pixels in whole pixels.
+fn whole_pixels(advance: i32) -> i32
+    ensures { result ≡ near_of advance (pos 64) }
+{
+    near_64(i64::from(advance)) as i32
+}
+
+// The frame without a pixel.
+fn no_frame() -> Frame
+    ensures width { result.width ≡ 0 }
+    ensures height { result.height ≡ 0 }
+{
+    Frame {
+        left: 0,
+        bottom: 0,
+        width: 0,
+        height: 0,
+    }
+}
+
+// The bits of closed contours in their frame; none where there is no frame.
+fn bitmap_of<S: Scan>(
+    alloc: Global,
+    scan: &S,
+    pieces: &Pieces,
+    frame: Option<Frame>,
+) -> Result<Bitmap, Refusal>
+    requires closed { AreOfOutline (map span_of pieces.now) }
+    requires outside { NothingOutside frame (map span_of pieces.now) }
+    ensures bits { IfOk result (HasBitsOf (map span_of pieces.now)) }
+    ensures fault { IfErr result (λ e. e ≡ Refusal.OutOfMemory) }
+{
+    let Some(frame) = frame else {
+        return Ok(Bitmap::new(alloc, no_frame())?);
+    };
+    let mut tally = Tally::new();
+    Ok(scan.scan(alloc, pieces, frame, &mut tally)?)
+}
+
+/// The character of a code point with this glyph, or the first cause why there is none.
+#[tactic(auto, unfolding(crate::specs::Strike::glyph_sketch_of))]
+pub(crate) fn draw<S: Scan>(
+    alloc: Global,
+    scan: &S,
+    font: &Font<'_>,
+    ppem: u16,
+    code: u32,
+    glyph: u16,
+) -> Result<Drawn, Refusal>
+    requires low { 1 ≤ ppem }
+    requires high { ppem ≤ 255 }
+    ensures sketch { Draws (glyph_sketch_of font.now ppem code glyph) result }
+    ensures code { IfOk result (λ d. d.glyph.code ≡ code) }
+{
+    let outline = outline_at(alloc, font, ppem, glyph)?;
+    let pieces = pieces_at(alloc, &outline, glyph)?;
+    let frame = frame_at(&pieces, glyph)?;
+    let swidth = thousandths_at(font, glyph)?;
+    let bitmap = bitmap_of(alloc, scan, &pieces, frame)?;
+    let glyph = BitGlyph::of(alloc, code, swidth, whole_pixels(outline.advance), &bitmap)?;
+    Ok(Drawn {
+        glyph,
+        strays: outline.strays,
+        steps: outline.steps,
+    })
+}

@@ -1,0 +1,30 @@
+//! Strikes: characters of a TrueType font at one size, as a text in the Bitmap Distribution Format (BDF), version 2.1.
+//!
+//! `make_strike` writes exactly the text of the strike whose every bit is set just where the pixel's centre lies on the outline
+//! of the scaled glyph, or has a winding number other than 0 about it; or it names the first cause why no such strike exists,
+//! or want of memory, or a fault of the writer. `specs/Strike` says what a strike is, `specs/Headline` what a call answers and
+//! leaves; both cite the definitions of the crates below and nothing of their code.
+//!
+//! The whole text is made in memory before its first byte is written. Beside the text only one glyph's pieces and bits are held
+//! at a time.
+#![tactic(auto)]
+
+mod characters;
+mod draft;
+mod draw;
+mod drawn;
+mod faults;
+mod gather;
+mod gathered;
+pub mod laws;
+mod made;
+mod make;
+mod refusal;
+mod request;
+
+pub use make::{make_strike, make_strike_with};
+pub use refusal::Refusal;
+pub use request::{Report, Request};
+
+#[cfg(test)]
+mod tests;

@@ -1,0 +1,250 @@
+//! From a font and a request to a strike.
+ghost use Rattle.std.specs.Prelude.{◌≡◌, ◌≤◌, ◌<◌, ◌^◌, ◌||◌, ◌++◌, ℕ, unsigned_abs, false, nat_lt, length, IfOk, IfErr, OnOk, IsErrOf};
+ghost use Rattle.std.specs.List.{list_any};
+ghost use Rattle.fx_bdf.specs.Text.{IsName, header_text, end_text};
+ghost use Rattle.fx_strike.specs.Strike.{checked, pixels, plan_of};
+ghost use Rattle.fx_strike.specs.Gathering.{heading_of, Finishes, Makes};
+ghost use Rattle.fx_strike.specs.Headline.{Text, Cause, Memory, Writer, HasToName, Leaves};
+
+use crate::characters::rising_codes;
+use crate::draft::Draft;
+use crate::gather::gather;
+use crate::gathered::Gathered;
+use crate::made::Made;
+use crate::refusal::Refusal;
+use crate::request::{Report, Request};
+use fx_bdf::{Header, check_name, write_end, write_header};
+use fx_cmap::CharMap;
+use fx_fixed::{Sink, near, put_all};
+use fx_sfnt::Font;
+use fx_winding::{Plain, Scan};
+use std::alloc::Global;
+
+// A code point past U+FFFF.
+fn is_past(chars: &[u32]) -> bool
+    ensures { result ≡ list_any (nat_lt 65535) chars.now }
+{
+    chars.iter().any(|code| 65535 < *code)
+}
+
+// Too many code points, or one past the last.
+fn are_bad(chars: &[u32]) -> bool
+    ensures { result ≡ (nat_lt 65536 (length chars.now) || list_any (nat_lt 65535) chars.now) }
+{
+    65536 < chars.len() || is_past(chars)
+}
+
+// What is refused whatever the font.
+#[tactic(auto, unfolding(crate::specs::Strike::checked))]
+fn check(request: &Request<'_>) -> Result<(), Refusal>
+    ensures due { result ≡ checked request.now.ppem request.now.name.now request.now.chars.now request.now.hinting }
+    ensures low { OnOk result (1 ≤ request.now.ppem) }
+    ensures high { OnOk result (request.now.ppem ≤ 255) }
+    ensures few { OnOk result (length request.now.chars.now ≤ 65536) }
+    ensures small { OnOk result (list_any (nat_lt 65535) request.now.chars.now ≡ false) }
+    ensures name { OnOk result (IsName request.now.name.now) }
+{
+    if request.ppem == 0 || request.ppem > 255 {
+        return Err(Refusal::BadSize);
+    }
+    if are_bad(request.chars) {
+        return Err(Refusal::BadChars);
+    }
+    check_name(request.name)?;
+    if request.hinting {
+        return Err(Refusal::NotBuilt);
+    }
+    Ok(())
+}
+
+// FUnits in whole pixels.
+fn whole_pixels(units: i32, ppem: u16, em: u16) -> i32
+    requires units { unsigned_abs units ≤ 32768 }
+    requires size { ppem ≤ 255 }
+    requires em { 16 ≤ em }
+    ensures { result ≡ pixels units ppem em }
+{
+    near(i128::from(units) * i128::from(ppem), i128::from(em)) as i32
+}
+
+// What the lines before the glyphs tell.
+fn heading(font: &Font<'_>, ppem: u16, gathered: &Gathered) -> Header
+    requires { ppem ≤ 255 }
+    ensures { result ≡ heading_of font.now ppem gathered.now }
+{
+    let em = font.head().units_per_em;
+    let hhea = font.hhea();
+    Header {
+        ppem,
+        bounds: gathered.bounds,
+        ascent: whole_pixels(i32::from(hhea.ascender), ppem, em),
+        descent: whole_pixels(-i32::from(hhea.descender), ppem, em),
+        glyphs: gathered.glyphs,
+    }
+}
+
+// The lines before the glyphs, in memory.
+fn head_text(alloc: Global, name: &str, header: &Header) -> Result<Draft, Refusal>
+    requires { IsName name.now }
+    ensures text { IfOk result (λ d. d.bytes.items ≡ header_text name.now header.now) }
+    ensures err { IfErr result (λ e. e ≡ Refusal.OutOfMemory) }
+{
+    let mut draft = Draft::new(alloc);
+    match write_header(name, header, &mut draft) {
+        Ok(()) => Ok(draft),
+        Err(_) => Err(Refusal::OutOfMemory),
+    }
+}
+
+// The lines of the glyphs with the one behind them, in memory.
+fn body_text(draft: Draft) -> Result<Draft, Refusal>
+    requires { draft.faults ≡ 0 }
+    ensures text { IfOk result (λ d. d.bytes.items ≡ draft.bytes.items ++ end_text) }
+    ensures err { IfErr result (λ e. e ≡ Refusal.OutOfMemory) }
+{
+    let mut draft = draft;
+    match write_end(&mut draft) {
+        Ok(()) => Ok(draft),
+        Err(_) => Err(Refusal::OutOfMemory),
+    }
+}
+
+// Puts the lines round those of the glyphs.
+fn finish(
+    alloc: Global,
+    name: &str,
+    header: &Header,
+    gathered: Gathered,
+) -> Result<Made, Refusal>
+    requires calm { gathered.draft.faults ≡ 0 }
+    requires name { IsName name.now }
+    ensures ok { IfOk result (Finishes name.now header.now gathered) }
+    ensures err { IfErr result (λ e. e ≡ Refusal.OutOfMemory) }
+{
+    let report = Report {
+        glyphs: gathered.glyphs,
+        missing: gathered.missing,
+        strays: gathered.strays,
+        steps: gathered.steps,
+    };
+    let body = body_text(gathered.draft)?;
+    let head = head_text(alloc, name, header)?;
+    Ok(Made { head, body, report })
+}
+
+// All that is made before the first byte is written.
+#[tactic(auto, unfolding(crate::specs::Strike::plan_of))]
+fn make_texts<S: Scan>(
+    alloc: Global,
+    scan: &S,
+    file: &[u8],
+    request: &Request<'_>,
+) -> Result<Made, Refusal>
+    ensures { Makes (plan_of file.now request.now.ppem request.now.name.now request.now.chars.now request.now.hinting) result }
+{
+    check(request)?;
+    let font = Font::open(file)?;
+    let map = CharMap::open(&font)?;
+    let codes = rising_codes(alloc, request.chars)?;
+    let gathered = gather(alloc, scan, &font, &map, request.ppem, &codes)?;
+    let header = heading(&font, request.ppem, &gathered);
+    finish(alloc, request.name, &header, gathered)
+}
+
+fn make_all<S: Scan, W: Sink>(
+    alloc: Global,
+    scan: &S,
+    font: &[u8],
+    request: &Request<'_>,
+    out: &mut W,
+) -> Result<Report, Refusal>
+    requires { W.fault_count out.old < 2 ^ 63 }
+    ensures {
+        Leaves (plan_of font.now request.now.ppem request.now.name.now request.now.chars.now request.now.hinting)
+            (W.held out.old) (W.held out.new) (W.fault_count out.old) (W.fault_count out.new) result
+    }
+{
+    let made = make_texts(alloc, scan, font, request)?;
+    put_all(out, &[made.head.bytes.as_slice(), made.body.bytes.as_slice()])?;
+    Ok(made.report)
+}
+
+/// Makes the strike of a font and writes its text, with a scan of the caller's choice.
+///
+/// Nothing is written before the whole text is made. The first cause is answered, in this order: the size, the characters, the
+/// name, hinting; the font's tables, its character map; then the characters in rising order, each by its outline, then how far
+/// out it lies and how large it is. `OutOfMemory` may come in place of any step behind the character map. After `WriteFailed`
+/// the writer holds the first so many bytes of the text, and after any other refusal nothing was written.
+pub fn make_strike_with<S: Scan, W: Sink>(
+    alloc: Global,
+    scan: &S,
+    font: &[u8],
+    request: &Request<'_>,
+    out: &mut W,
+) -> Result<Report, Refusal>
+    requires { W.fault_count out.old < 2 ^ 63 }
+    // The strike is there, and its text was written.
+    ensures text {
+        IfOk result
+            (Text (plan_of font.now request.now.ppem request.now.name.now request.now.chars.now request.now.hinting)
+                (W.held out.old) (W.held out.new))
+    }
+    // The first cause was named, and nothing was written.
+    ensures cause {
+        IfErr result (λ refusal. HasToName refusal →
+            Cause (plan_of font.now request.now.ppem request.now.name.now request.now.chars.now request.now.hinting)
+                (W.held out.old) (W.held out.new) refusal)
+    }
+    // Nothing was written, or the strike is there and a beginning of its text was written.
+    ensures memory {
+        IsErrOf result Refusal.OutOfMemory →
+            Memory (plan_of font.now request.now.ppem request.now.name.now request.now.chars.now request.now.hinting)
+                (W.held out.old) (W.held out.new)
+    }
+    // The strike is there, exactly the first n bytes of its text were written, and the writer counted a fault.
+    ensures writer {
+        (n : ℕ) → IsErrOf result (Refusal.WriteFailed n) →
+            Writer (plan_of font.now request.now.ppem request.now.name.now request.now.chars.now request.now.hinting)
+                (W.held out.old) (W.held out.new) (W.fault_count out.old) (W.fault_count out.new) n
+    }
+{
+    make_all(alloc, scan, font, request, out)
+}
+
+/// Makes the strike of a font and writes its text.
+///
+/// As `make_strike_with`, with the scan that tests each pixel's centre by the rule itself.
+pub fn make_strike<W: Sink>(
+    alloc: Global,
+    font: &[u8],
+    request: &Request<'_>,
+    out: &mut W,
+) -> Result<Report, Refusal>
+    requires { W.fault_count out.old < 2 ^ 63 }
+    // The strike is there, and its text was written.
+    ensures text {
+        IfOk result
+            (Text (plan_of font.now request.now.ppem request.now.name.now request.now.chars.now request.now.hinting)
+                (W.held out.old) (W.held out.new))
+    }
+    // The first cause was named, and nothing was written.
+    ensures cause {
+        IfErr result (λ refusal. HasToName refusal →
+            Cause (plan_of font.now request.now.ppem request.now.name.now request.now.chars.now request.now.hinting)
+                (W.held out.old) (W.held out.new) refusal)
+    }
+    // Nothing was written, or the strike is there and a beginning of its text was written.
+    ensures memory {
+        IsErrOf result Refusal.OutOfMemory →
+            Memory (plan_of font.now request.now.ppem request.now.name.now request.now.chars.now request.now.hinting)
+                (W.held out.old) (W.held out.new)
+    }
+    // The strike is there, exactly the first n bytes of its text were written, and the writer counted a fault.
+    ensures writer {
+        (n : ℕ) → IsErrOf result (Refusal.WriteFailed n) →
+            Writer (plan_of font.now request.now.ppem request.now.name.now request.now.chars.now request.now.hinting)
+                (W.held out.old) (W.held out.new) (W.fault_count out.old) (W.fault_count out.new) n
+    }
+{
+    make_all(alloc, &Plain, font, request, out)
+}

@@ -1,0 +1,27 @@
+//! What is asked for, and what is counted.
+
+/// A strike that is asked for.
+#[derive(Clone, Copy, Debug)]
+pub struct Request<'a> {
+    /// Pixels of an em, 1 to 255; another number is refused.
+    pub ppem: u16,
+    /// The font's name: 1 to 255 printed characters of ASCII, no space first or last; another text is refused.
+    pub name: &'a str,
+    /// Code points up to U+FFFF, at most 65,536 of them; their order and repeats do not count.
+    pub chars: &'a [u32],
+    /// Whether the font's programs are run.
+    pub hinting: bool,
+}
+
+/// What was counted over a strike.
+#[derive(Clone, Copy, Debug, PartialEq, Eq)]
+pub struct Report {
+    /// The glyphs that were written: the characters asked for that the font has, each once.
+    pub glyphs: u32,
+    /// The characters asked for that the font lacks, each once.
+    pub missing: u32,
+    /// The numbers outside their tables that font programs named; the count stays at the greatest u64.
+    pub strays: u64,
+    /// The instructions that font programs executed; the count stays at the greatest u64.
+    pub steps: u64,
+}
