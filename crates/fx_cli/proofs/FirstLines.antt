@@ -1,5 +1,5 @@
 -- A run whose words stand in the first line of its input.
-use Rattle.std.proofs.Common.{◌≡◌, ◌∙◌, ◌==◌, ◌⊎◌, inl, inr, ℕ, zero, suc, ◌+◌, ◌-◌, ◌<◌, ◌≤◌, List, [], ◌∷◌, ◌++◌, length, take, drop, not, refl, sym, ap, ap₂, subst, arith, Option, Some, None, Bool, true, false, cond, Result, Ok, Err, append-nil, length-append, true≢false, nat_eq, map, Bor}
+use Rattle.std.proofs.Common.{◌≡◌, ◌∙◌, ◌==◌, ◌⊎◌, inl, inr, ℕ, zero, suc, ◌+◌, ◌<◌, ◌≤◌, List, [], ◌∷◌, ◌++◌, length, take, drop, not, refl, sym, ap, subst, arith, Option, Some, None, Bool, true, false, cond, Result, Ok, Err, append-nil, length-append, map, Bor}
 use Rattle.std.proofs.lemmas.List.Sums.{prefix_len-le-length}
 use Rattle.std.specs.Str.{IsUtf8}
 use Rattle.std.specs.List.{position_or_len, prefix_len}
@@ -14,10 +14,9 @@ use Rattle.fx_strike.specs.declared.refusal.Refusal.TheVariants.{BadChars, BadHe
 use Rattle.fx_strike.specs.declared.request.Report.{Report}
 use Rattle.fx_cli.specs.declared.fault.Fault.{Fault}
 use Rattle.fx_cli.specs.declared.fault.Fault.TheVariants.{Usage, Early, Late}
-use Rattle.fx_cli.specs.Chars.{numbers_of_list}
 use Rattle.fx_cli.specs.Words.{Asked, wish_of_words}
 use Rattle.fx_cli.specs.Input.{line_of, rest_of, words_of_line}
-use Rattle.fx_cli.specs.Runs.{AreWords, AreWordsBy, Asks, Change, Ends, HasLine, IsReason, IsUsageBy, Makes, Stops, Word, font_bytes, has_words, program_of, text_by, text_of}
+use Rattle.fx_cli.specs.Runs.{AreWords, AreWordsBy, Change, Ends, HasLine, IsReason, IsUsageBy, Makes, Stops, Word, font_bytes, has_words, program_of, text_by, text_of}
 use Rattle.fx_cli.specs.Steps.{EndsBehind, IsReasonBehind, MakesBehind, StopsBehind}
 
 abbrev is_end : ℕ → Bool

@@ -1,5 +1,5 @@
 -- The numbers of a list, item by item.
-use Rattle.std.proofs.Common.{◌≡◌, ◌∙◌, ℕ, zero, suc, ◌+◌, ◌-◌, ◌<◌, ◌≤◌, List, [], ◌∷◌, ◌++◌, length, refl, sym, ap, arith, Option, Some, None, option_map, option_and_then, append_assoc, append-nil, length-append, ap₂, Bool, if◌then◌else◌, ◌==◌}
+use Rattle.std.proofs.Common.{◌≡◌, ◌∙◌, ℕ, ◌+◌, ◌-◌, ◌<◌, ◌≤◌, List, [], ◌∷◌, ◌++◌, length, refl, sym, ap, arith, Option, Some, None, option_map, option_and_then, append_assoc, append-nil, length-append, ap₂, Bool, if◌then◌else◌, ◌==◌}
 use Rattle.std.specs.List.{position_or_len, before_first, after_first}
 use Rattle.std.proofs.lemmas.Bool.{lt-ltb, le-ltb}
 use Rattle.std.proofs.lemmas.List.Splits.{slice_split_none, slice_split_first}

@@ -1,5 +1,5 @@
 -- The steps of a run.
-use Rattle.std.proofs.Common.{◌≡◌, ◌∙◌, ◌==◌, ◌⊎◌, inl, inr, ℕ, ◌+◌, ◌-◌, ◌<◌, ◌≤◌, List, [], ◌∷◌, ◌++◌, length, take, drop, map, filter, refl, sym, ap, ap₂, subst, arith, Option, Some, None, Bool, true, false, cond, not, Result, Ok, Err, append_assoc, append-nil}
+use Rattle.std.proofs.Common.{◌≡◌, ◌∙◌, ℕ, List, [], ◌∷◌, ◌++◌, filter, refl, sym, ap, Some, Bool, true, false, cond, Result, Ok, Err, append_assoc}
 use Rattle.fx_fixed.specs.Chain.{map_fault}
 use Rattle.fx_strike.specs.declared.refusal.Refusal.{Refusal}
 use Rattle.fx_strike.specs.declared.request.Report.{Report}

@@ -1,5 +1,5 @@
 -- The options of `make`, as clap sees them.
-use Rattle.std.proofs.Common.{◌≡◌, ◌∙◌, ◌==◌, ℕ, ◌+◌, ◌^◌, ◌<◌, ◌≤◌, List, [], ◌∷◌, length, refl, sym, ap, ap₂, arith, Option, Some, None, Bool, true, false, Result, Ok, Err, ◌&&◌, ◌||◌, not, subst, ◌⊎◌, inl, inr, IfOk, IfErr, option_map}
+use Rattle.std.proofs.Common.{◌≡◌, ◌∙◌, ℕ, ◌<◌, List, [], ◌∷◌, length, refl, sym, ap, ap₂, Option, Some, None, Bool, true, false, Result, Ok, Err, ◌&&◌, ◌||◌, subst, ◌⊎◌, inr, IfOk, IfErr, option_map}
 use Rattle.std.specs.Option.{ok_or}
 use Rattle.fx_strike.specs.declared.refusal.Refusal.TheVariants.{OutOfMemory}
 use Rattle.fx_cli.specs.declared.fault.Fault.{Fault}
@@ -10,7 +10,6 @@ use Rattle.std.specs.List.{list_all, list_any}
 use Rattle.std.specs.Result.{result_ok}
 use Rattle.std.specs.Char.{digit_value}
 use Rattle.std.specs.Str.Parse.{AllDigits, IsNumeral, ParsesUnsigned, digits_value, without_leading_plus}
-use Rattle.std.proofs.lemmas.Grind.{common_steps}
 use Rattle.std.proofs.lemmas.Bool.{ltb-true, lt-ltb}
 use Rattle.clap.proofs.OnLiterals.{clap_on_literals}
 use Rattle.clap.proofs.WalkLemmas.{both}

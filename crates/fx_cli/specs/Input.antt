@@ -1,5 +1,5 @@
 -- The bytes of an input.
-use Rattle.std.specs.Prelude.{ℕ, ◌==◌, ◌||◌, Bool, not, List, [], ◌∷◌, filter, length, Option, ◌≡◌, ◌<◌, ◌+◌}
+use Rattle.std.specs.Prelude.{ℕ, ◌==◌, ◌||◌, Bool, not, List, filter, length, Option, ◌≡◌, ◌<◌, ◌+◌}
 use Rattle.std.specs.List.{before_first, after_first}
 use Rattle.std.specs.Result.{result_ok}
 use Rattle.hex.specs.Hex.{decode_of}

@@ -1,5 +1,5 @@
 -- Checks in order: the first fault is the answer.
-use Rattle.std.specs.Prelude.{◌≡◌, ℕ, List, [], ◌∷◌, Result, Ok, Err, Option, Some, None, Bool, if◌then◌else◌}
+use Rattle.std.specs.Prelude.{◌≡◌, List, [], ◌∷◌, Result, Ok, Err, Option, Some, None, Bool, if◌then◌else◌}
 
 -- goes on with a value, and stops at a fault
 infixl 10 ◌>>=◌

@@ -1,14 +1,14 @@
 -- The box of the points of spans: which pixels have their centres in it, and whether it is too large.
-use Rattle.std.proofs.Common.{◌≡◌, ◌⊎◌, inl, inr, refl, sym, ap, ◌∙◌, subst, arith, ℕ, ℤ, pos, negsuc, ◌+ℤ◌, ◌*ℤ◌, ◌≤ℤ◌, ◌<ℤ◌, Bool, true, false, ◌&&◌, ◌||◌, List, [], ◌∷◌, ◌++◌, Option, Some, None}
-use Rattle.std.specs.Prelude.{int_le, ◌/◌, IsTrue, IsSomeAnd}
+use Rattle.std.proofs.Common.{◌≡◌, ◌⊎◌, inl, inr, refl, sym, subst, arith, ℤ, pos, negsuc, ◌+ℤ◌, ◌*ℤ◌, ◌≤ℤ◌, ◌<ℤ◌, Bool, true, false, ◌&&◌, ◌||◌, List, [], ◌∷◌, ◌++◌, Option, Some, None}
+use Rattle.std.specs.Prelude.{int_le, IsSomeAnd}
 use Rattle.std.specs.Int.{int_div_euclid, int_min, int_max}
 use Rattle.std.specs.List.{fold, flat_map}
 use Rattle.std.specs.Option.{option_to_list}
 use Rattle.std.proofs.lemmas.Int.{ints, clamps, by_lt_z}
 use Rattle.fx_winding.specs.Area.{Place}
 use Rattle.fx_winding.specs.Winding.{Span, centre}
-use Rattle.fx_contour.specs.Frames.{HasAny, HaveAny, IsInBox, AreTooLarge}
-use Rattle.fx_strike.specs.Limits.{Extent, extent_at, extended, first_pixel, middle_of, has_far_pixels, are_far, is_too_large, places_of}
+use Rattle.fx_contour.specs.Frames.{HaveAny, IsInBox, AreTooLarge}
+use Rattle.fx_strike.specs.Limits.{Extent, extent_at, extended, first_pixel, middle_of, has_far_pixels, is_too_large, places_of}
 
 -- ---- the first pixel behind a coordinate
 
@@ -55,15 +55,15 @@ least_reached : (f : Place → ℤ) (a t : ℤ) (ps : List Place) → least f a 
 least_reached f a t [] h = inl h
 least_reached f a t (p ∷ ps) h =
     or_else (least_reached f (int_min a (f p)) t ps h)
-      (λ g. or_else (min_reached a (f p) t g) (λ x. inl x) (λ x. inr (inl x)))
-      (λ g. inr (inr g))
+    (λ g. or_else (min_reached a (f p) t g) (λ x. inl x) (λ x. inr (inl x)))
+    (λ g. inr (inr g))
 
 greatest_reached : (f : Place → ℤ) (a t : ℤ) (ps : List Place) → t ≤ℤ greatest f a ps → (t ≤ℤ a) ⊎ Among (λ q. t ≤ℤ f q) ps
 greatest_reached f a t [] h = inl h
 greatest_reached f a t (p ∷ ps) h =
     or_else (greatest_reached f (int_max a (f p)) t ps h)
-      (λ g. or_else (max_reached a (f p) t g) (λ x. inl x) (λ x. inr (inl x)))
-      (λ g. inr (inr g))
+    (λ g. or_else (max_reached a (f p) t g) (λ x. inl x) (λ x. inr (inl x)))
+    (λ g. inr (inr g))
 
 least_bound : (f : Place → ℤ) (a t : ℤ) (ps : List Place) → (a ≤ℤ t) ⊎ Among (λ q. f q ≤ℤ t) ps → least f a ps ≤ℤ t
 least_bound f a t [] (inl h) = h
@@ -173,10 +173,10 @@ span_places s ss = (option_to_list s.b ++ (s.c ∷ [])) ++ flat_map places_of ss
 in_box : (q : Place) (s : Span) (ss : List Span) → IsInBox q (s ∷ ss) → IsIn q.x q.y (fold extended (extent_at s.a) (span_places s ss))
 in_box q s ss h =
     in_extent q s.a (span_places s ss)
-      (among_places (λ r. r.x ≤ℤ q.x) (s ∷ ss) h.left)
-      (among_places (λ r. q.x ≤ℤ r.x) (s ∷ ss) h.right)
-      (among_places (λ r. r.y ≤ℤ q.y) (s ∷ ss) h.bottom)
-      (among_places (λ r. q.y ≤ℤ r.y) (s ∷ ss) h.top)
+    (among_places (λ r. r.x ≤ℤ q.x) (s ∷ ss) h.left)
+    (among_places (λ r. q.x ≤ℤ r.x) (s ∷ ss) h.right)
+    (among_places (λ r. r.y ≤ℤ q.y) (s ∷ ss) h.bottom)
+    (among_places (λ r. q.y ≤ℤ r.y) (s ∷ ss) h.top)
 
 from_box : (q : Place) (s : Span) (ss : List Span) → IsIn q.x q.y (fold extended (extent_at s.a) (span_places s ss)) → IsInBox q (s ∷ ss)
 from_box q s ss h =
@@ -220,11 +220,11 @@ far_true e col row h g =
     let right : middle_of c ≤ℤ e.right = omega (arith, ints, h.right) in
     let top : middle_of r ≤ℤ e.top = omega (arith, ints, h.top) in
     tests_true _ _ _ _
-      (int_le_true (middle_of c) e.right right)
-      (int_le_true (middle_of r) e.top top)
-      (or_else g
-        (λ k. inl (int_le_true (middle_of (c +ℤ pos 2048)) e.right (omega (arith, ints, k.right))))
-        (λ k. inr (int_le_true (middle_of (r +ℤ pos 2048)) e.top (omega (arith, ints, k.top)))))
+    (int_le_true (middle_of c) e.right right)
+    (int_le_true (middle_of r) e.top top)
+    (or_else g
+    (λ k. inl (int_le_true (middle_of (c +ℤ pos 2048)) e.right (omega (arith, ints, k.right))))
+    (λ k. inr (int_le_true (middle_of (r +ℤ pos 2048)) e.top (omega (arith, ints, k.top)))))
 
 far_from : (e : Extent) → has_far_pixels e ≡ true → (col row : ℤ) × IsIn (middle_of col) (middle_of row) e × (IsIn (middle_of (col +ℤ pos 2048)) (middle_of row) e ⊎ IsIn (middle_of col) (middle_of (row +ℤ pos 2048)) e)
 far_from e h =
@@ -234,11 +234,14 @@ far_from e h =
     let left : e.left ≤ℤ middle_of c = first_behind e.left in
     let bottom : e.bottom ≤ℤ middle_of r = first_behind e.bottom in
     let right : middle_of c ≤ℤ e.right = int_le_from (middle_of c) e.right t.0 in
-    let top : middle_of r ≤ℤ e.top = int_le_from (middle_of r) e.top t.1 in
-    (c, r, record { left = left; right = right; bottom = bottom; top = top },
+    let top : middle_of r ≤ℤ e.top = int_le_from (middle_of r) e.top t.1 in (
+      c,
+      r,
+      record { left = left; right = right; bottom = bottom; top = top },
       or_else t.2
-        (λ k. inl (record { left = omega (arith, ints); right = int_le_from (middle_of (c +ℤ pos 2048)) e.right k; bottom = bottom; top = top }))
-        (λ k. inr (record { left = left; right = right; bottom = omega (arith, ints); top = int_le_from (middle_of (r +ℤ pos 2048)) e.top k })))
+          (λ k. inl (record { left = omega (arith, ints); right = int_le_from (middle_of (c +ℤ pos 2048)) e.right k; bottom = bottom; top = top }))
+          (λ k. inr (record { left = left; right = right; bottom = omega (arith, ints); top = int_le_from (middle_of (r +ℤ pos 2048)) e.top k })),
+    )
 
 -- the test is the relation
 pub too_large_true : (ss : List Span) → AreTooLarge ss → is_too_large ss ≡ true
@@ -246,17 +249,20 @@ unfolding is_too_large
 too_large_true [] h = absurd h.2.left
 too_large_true (s ∷ ss) h =
     far_true (fold extended (extent_at s.a) (span_places s ss)) h.0 h.1
-      (in_box (centre h.0 h.1) s ss h.2)
-      (or_else h.3
-        (λ k. inl (in_box (centre (h.0 +ℤ pos 2048) h.1) s ss k))
-        (λ k. inr (in_box (centre h.0 (h.1 +ℤ pos 2048)) s ss k)))
+    (in_box (centre h.0 h.1) s ss h.2)
+    (or_else h.3
+    (λ k. inl (in_box (centre (h.0 +ℤ pos 2048) h.1) s ss k))
+    (λ k. inr (in_box (centre h.0 (h.1 +ℤ pos 2048)) s ss k)))
 
 pub too_large_from : (ss : List Span) → is_too_large ss ≡ true → AreTooLarge ss
 unfolding is_too_large
 too_large_from [] h = absurd (cc)
 too_large_from (s ∷ ss) h =
-    let g = far_from (fold extended (extent_at s.a) (span_places s ss)) h in
-    (g.0, g.1, from_box (centre g.0 g.1) s ss g.2,
+    let g = far_from (fold extended (extent_at s.a) (span_places s ss)) h in (
+      g.0,
+      g.1,
+      from_box (centre g.0 g.1) s ss g.2,
       or_else g.3
-        (λ k. inl (from_box (centre (g.0 +ℤ pos 2048) g.1) s ss k))
-        (λ k. inr (from_box (centre g.0 (g.1 +ℤ pos 2048)) s ss k)))
+          (λ k. inl (from_box (centre (g.0 +ℤ pos 2048) g.1) s ss k))
+          (λ k. inr (from_box (centre g.0 (g.1 +ℤ pos 2048)) s ss k)),
+    )

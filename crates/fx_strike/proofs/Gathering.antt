@@ -1,7 +1,7 @@
 -- The glyphs of code points, one after the other.
-use Rattle.std.proofs.Common.{◌≡◌, refl, sym, ap, ◌∙◌, subst, arith, ℕ, suc, zero, ◌+◌, ◌<◌, ◌≤◌, ◌^◌, Bool, true, false, not, List, [], ◌∷◌, ◌++◌, map, length, take, drop, get_or, append_assoc, length-append, Result, Ok, Err, cond}
+use Rattle.std.proofs.Common.{◌≡◌, refl, sym, ap, ◌∙◌, subst, arith, ℕ, suc, zero, ◌+◌, ◌<◌, ◌^◌, Bool, true, false, not, List, [], ◌∷◌, ◌++◌, map, length, take, drop, get_or, length-append, Result, Ok, Err, cond}
 use Rattle.std.specs.Prelude.{nat_lt, ◌==◌, ◌||◌, filter}
-use Rattle.std.specs.List.{list_any, flat_map, fold, sum_by, count_by}
+use Rattle.std.specs.List.{list_any, flat_map, sum_by, count_by}
 use Rattle.std.proofs.lemmas.Bool.Decides.{nat_tests}
 use Rattle.std.proofs.lemmas.List.{take_more, drop_more, append-nil, map-append, take-append-drop}
 use Rattle.std.proofs.lemmas.List.Concat.{flat_map-append}
@@ -30,6 +30,7 @@ not_any c cs h = (low c (list_any (nat_lt 65535) cs) h, rest (nat_lt 65535 c) (l
   where
     low : (c : ℕ) (b : Bool) → (nat_lt 65535 c || b) ≡ false → c < 2 ^ 16
     low c b h = grind (arith, nat_tests)
+
     rest : (a b : Bool) → (a || b) ≡ false → b ≡ false
     rest true b h = absurd (cc)
     rest false b h = h
@@ -146,7 +147,6 @@ not_zero : (n : ℕ) → (n ≡ 0 → ⊥) → (n == 0) ≡ false
 not_zero zero h = absurd (h refl)
 not_zero (suc n) h = grind (arith, nat_tests)
 
-
 missing_is : (segments : Segments) (c glyph : ℕ) → glyph ≡ glyph_for segments c → (b : Bool) → (glyph == 0) ≡ b → is_missing segments c ≡ b
 missing_is segments c glyph e b h = ap (λ (g : ℕ). g == 0) (sym e) ∙ h
 
@@ -165,9 +165,9 @@ pub refused_at : (face : Face) (segments : Segments) (ppem : ℕ) (codes : List 
     → Fails refusal (glyph_sketch_of face ppem (get_or codes i 0) glyph) → Fails refusal (sketches_of face segments ppem codes)
 refused_at face segments ppem codes i glyph old refusal l h e m f =
     fails_on refusal (glyph_sketch_of face ppem (get_or codes i 0) glyph) (sketches_of face segments ppem codes) (λ d k.
-      ap (sketches_of face segments ppem) (sym (take-append-drop i codes) ∙ ap (λ (xs : List ℕ). take i codes ++ xs) (drop_more codes i 0 l))
-      ∙ ap (map_chain (sketch_of face segments ppem)) (kept segments (get_or codes i 0) (missing_is segments (get_or codes i 0) glyph e false (not_zero glyph m)) (take i codes) (drop (i + 1) codes))
-      ∙ chain_refused (sketch_of face segments ppem) (filter (λ x. not (is_missing segments x)) (take i codes)) (get_or codes i 0) (filter (λ x. not (is_missing segments x)) (drop (i + 1) codes)) h.sketches d h.planned (sym (same_sketch face segments ppem (get_or codes i 0) glyph e) ∙ k)) f
+    ap (sketches_of face segments ppem) (sym (take-append-drop i codes) ∙ ap (λ (xs : List ℕ). take i codes ++ xs) (drop_more codes i 0 l))
+    ∙ ap (map_chain (sketch_of face segments ppem)) (kept segments (get_or codes i 0) (missing_is segments (get_or codes i 0) glyph e false (not_zero glyph m)) (take i codes) (drop (i + 1) codes))
+    ∙ chain_refused (sketch_of face segments ppem) (filter (λ x. not (is_missing segments x)) (take i codes)) (get_or codes i 0) (filter (λ x. not (is_missing segments x)) (drop (i + 1) codes)) h.sketches d h.planned (sym (same_sketch face segments ppem (get_or codes i 0) glyph e) ∙ k)) f
 
 -- what is passed on at the exit of a `?`
 pub gathers_err : (face : Face) (segments : Segments) (ppem : ℕ) (codes : List ℕ) (r : Result Gathered Refusal) (e d : Refusal) → r ≡ Err e → e ≡ d → Fails d (sketches_of face segments ppem codes) → Gathers face segments ppem codes r

@@ -1,33 +1,26 @@
 -- From what was made to what a call leaves.
-use Rattle.std.proofs.Common.{◌≡◌, ◌⊎◌, inl, inr, refl, sym, ap, ◌∙◌, subst, arith, ℕ, ◌+◌, ◌<◌, ◌≤◌, ◌^◌, ℤ, pos, Bool, true, false, not, List, [], ◌∷◌, ◌++◌, map, length, take, append_assoc, length-append, Result, Ok, Err, Option, Some, None, FitsSigned, w32, to_z, of_z, lit<}
+use Rattle.std.proofs.Common.{◌≡◌, sym, ap, ◌∙◌, subst, arith, ℕ, ◌<◌, ◌≤◌, ◌^◌, ℤ, pos, Bool, true, false, not, List, ◌++◌, map, length, Result, Ok, Err, FitsSigned, w32, to_z, of_z, lit<}
 use Rattle.std.specs.Int.{w128}
 use Rattle.std.specs.Prelude.{nat_lt, ◌==◌, ◌||◌, ◌*ℤ◌, neg_ℤ, unsigned_abs, IfOk, IfErr}
-use Rattle.std.specs.Io.KnownBytes.{Appends, Keeps}
-use Rattle.std.specs.List.{list_any, flat_map, count_by, sum_by}
-use Rattle.std.proofs.KnownBytes.{Keeps-refl}
-use Rattle.std.proofs.lemmas.List.{append-nil}
+use Rattle.std.specs.List.{list_any, count_by}
 use Rattle.std.proofs.lemmas.Int.{ints, fits_signed_mul, fits_signed_from_abs, unsigned_abs-mul}
 use Rattle.std.proofs.Math.Nat.{mul-le-mul_left}
-use Rattle.fx_fixed.specs.Chain.{◌>>=◌, refuse, map_fault}
+use Rattle.fx_fixed.specs.Chain.{◌>>=◌, refuse}
 use Rattle.fx_fixed.specs.Numbers.{near_of}
-use Rattle.fx_fixed.specs.Wrote.{Wrote, WroteBy}
-use Rattle.fx_fixed.specs.declared.sink.WriteFailed.{WriteFailed as Failed}
 use Rattle.fx_sfnt.specs.Tables.{Face, font_of}
 use Rattle.fx_cmap.specs.Lookup.{Segments, map_of_file}
 use Rattle.fx_cmap.specs.declared.fault.CharMapFault.{CharMapFault}
 use Rattle.fx_cmap.specs.declared.fault.CharMapFault.TheVariants as char_map
 use Rattle.fx_bdf.specs.declared.header.Header.{Header}
-use Rattle.fx_bdf.specs.Glyphs.{Glyph, Box, bounds_of}
-use Rattle.fx_bdf.specs.Text.{is_name, header_text, glyph_text, end_text}
+use Rattle.fx_bdf.specs.Glyphs.{Box, bounds_of}
+use Rattle.fx_bdf.specs.Text.{is_name, header_text, end_text}
 use Rattle.fx_strike.specs.declared.refusal.Refusal.{Refusal}
-use Rattle.fx_strike.specs.declared.refusal.Refusal.TheVariants.{OutOfMemory, WriteFailed, ReadFailed, BadHex, InputTooLarge, BadSize, BadChars, BadName, NotBuilt}
-use Rattle.fx_strike.specs.declared.request.Report.{Report}
+use Rattle.fx_strike.specs.declared.refusal.Refusal.TheVariants.{OutOfMemory, BadSize, BadChars, BadName, NotBuilt}
 use Rattle.fx_strike.specs.declared.gathered.Gathered.{Gathered}
 use Rattle.fx_strike.specs.declared.made.Made.{Made}
-use Rattle.fx_strike.specs.Faults.{Fails, of_font, of_char_map}
+use Rattle.fx_strike.specs.Faults.{Fails, of_char_map}
 use Rattle.fx_strike.specs.Characters.{rising}
-use Rattle.fx_strike.specs.Strike.{Sketch, Plan, AreGlyphsOf, pixels, is_missing, sketches_of, checked, plan_of, header_of, strike_text}
-use Rattle.fx_strike.specs.Headline.{IsReportOf, Text, Cause, Begun, Memory, Writer, Leaves, counted}
+use Rattle.fx_strike.specs.Strike.{Sketch, Plan, pixels, is_missing, sketches_of, checked, plan_of, strike_text}
 use Rattle.fx_strike.specs.Gathering.{Holds, heading_of, Finishes, IsMadeOf, Makes}
 use Rattle.fx_strike.proofs.Gathering.{fails_on}
 
@@ -99,7 +92,7 @@ pub ungathered : (file : List ℕ) (ppem : ℕ) (name chars : List ℕ) (hinting
     → Ok tt ≡ checked ppem name chars hinting → Ok face ≡ font_of file → Ok segments ≡ map_of_file face.file → codes ≡ rising chars → Fails d (sketches_of face segments ppem codes) → Makes (plan_of file ppem name chars hinting) r
 ungathered file ppem name chars hinting face segments codes r e d p q h k m c f =
     makes_err (plan_of file ppem name chars hinting) r e d p q (fails_on d (sketches_of face segments ppem codes) (plan_of file ppem name chars hinting)
-      (λ x g. plan_refused file ppem name chars hinting face segments x (sym h) (sym k) (sym m) (ap (sketches_of face segments ppem) (sym c) ∙ g)) f)
+    (λ x g. plan_refused file ppem name chars hinting face segments x (sym h) (sym k) (sym m) (ap (sketches_of face segments ppem) (sym c) ∙ g)) f)
 
 -- ---- what is made
 
@@ -116,7 +109,7 @@ made_of file ppem name chars hinting face segments gathered made h k m g f =
       glyphs = n;
     } in
     let heads : header_text name (heading_of face ppem gathered) ≡ header_text name (heading (bounds_of (map (λ x. x.box) g.glyphs)) (length g.sketches))
-        = ap (λ (b : Box). header_text name (heading b gathered.glyphs)) g.bounds ∙ ap (λ (n : ℕ). header_text name (heading (bounds_of (map (λ x. x.box) g.glyphs)) n)) g.count in
+    = ap (λ (b : Box). header_text name (heading b gathered.glyphs)) g.bounds ∙ ap (λ (n : ℕ). header_text name (heading (bounds_of (map (λ x. x.box) g.glyphs)) n)) g.count in
     record {
       plan = whole_plan ppem name chars face segments g.sketches;
       glyphs = g.glyphs;
@@ -150,7 +143,7 @@ whole_is units ppem em f g h r fits few size small p q s e b =
     let product : FitsSigned w32 (units *ℤ pos ppem) = fits_signed_mul w32 units (pos ppem) 32768 255 few size (lit< tt) in
     let wide : to_z w128 (of_z w128 (units *ℤ pos ppem)) ≡ units *ℤ pos ppem = cast_wide (units *ℤ pos ppem) product in
     let whole : to_z w128 (of_z w128 (to_z w128 (of_z w128 f) *ℤ to_z w128 (of_z w128 g))) ≡ units *ℤ pos ppem
-        = ap (λ (z : ℤ). to_z w128 (of_z w128 (z *ℤ to_z w128 (of_z w128 g)))) one ∙ ap (λ (z : ℤ). to_z w128 (of_z w128 (units *ℤ z))) two ∙ wide in
+    = ap (λ (z : ℤ). to_z w128 (of_z w128 (z *ℤ to_z w128 (of_z w128 g)))) one ∙ ap (λ (z : ℤ). to_z w128 (of_z w128 (units *ℤ z))) two ∙ wide in
     let near : r ≡ near_of (units *ℤ pos ppem) (pos em) = e ∙ ap (λ (z : ℤ). near_of z (to_z w128 (of_z w128 h))) whole ∙ ap (near_of (units *ℤ pos ppem)) three in
     let L : ℤ → Type 0 = λ z. unsigned_abs r ≤ unsigned_abs z in
     let bound : unsigned_abs r ≤ unsigned_abs (units *ℤ pos ppem) = subst L whole b in
@@ -159,5 +152,6 @@ whole_is units ppem em f g h r fits few size small p q s e b =
   where
     cast_wide : (z : ℤ) → FitsSigned w32 z → to_z w128 (of_z w128 z) ≡ z
     cast_wide z h = omega (arith, ints)
+
     cast_back : (r z : ℤ) → FitsSigned w32 r → r ≡ z → to_z w32 (of_z w32 (to_z w128 (of_z w128 r))) ≡ z
     cast_back r z h e = omega (arith, ints)

@@ -1,6 +1,6 @@
 -- A sketch has one glyph, a strike one text, and a character one part in all strikes that hold it.
-use Rattle.std.proofs.Common.{◌≡◌, refl, sym, ap, ◌∙◌, subst, arith, ℕ, zero, suc, ◌*◌, ◌<◌, ℤ, pos, Bool, true, false, not, List, [], ◌∷◌, length, get_or, Result, Ok, Err}
-use Rattle.std.specs.Prelude.{IsTrue, ◌↔◌, Contains, neg_ℤ, filter, map}
+use Rattle.std.proofs.Common.{◌≡◌, refl, sym, ap, ◌∙◌, subst, arith, ℕ, zero, suc, ◌<◌, ℤ, pos, Bool, true, false, not, List, [], ◌∷◌, length, get_or, Result, Ok}
+use Rattle.std.specs.Prelude.{IsTrue, Contains, neg_ℤ, filter}
 use Rattle.std.specs.List.{list_all, count_by}
 use Rattle.fx_fixed.specs.Chain.{◌>>=◌, refuse, map_fault, map_chain}
 use Rattle.fx_fixed.specs.Numbers.{near_of}
@@ -10,7 +10,6 @@ use Rattle.fx_sfnt.specs.Glyphs.{metrics_of}
 use Rattle.fx_sfnt.specs.declared.records.Metrics.{Metrics}
 use Rattle.fx_cmap.specs.Lookup.{Segments, map_of_file}
 use Rattle.fx_hint.specs.Outlines.{Drawing, outline_of}
-use Rattle.fx_winding.specs.Winding.{IsCovered, centre}
 use Rattle.fx_contour.specs.Contours.{spans_of}
 use Rattle.fx_bdf.specs.Glyphs.{Glyph, TrimmedIsOne, glyph_bit}
 use Rattle.fx_strike.specs.declared.refusal.Refusal.{Refusal}
@@ -18,9 +17,9 @@ use Rattle.fx_strike.specs.declared.refusal.Refusal.TheVariants.{TooFar, GlyphTo
 use Rattle.fx_strike.specs.Faults.{of_font, of_char_map, of_hint}
 use Rattle.fx_strike.specs.Characters.{rising}
 use Rattle.fx_strike.specs.Limits.{is_near, is_too_large}
-use Rattle.fx_strike.specs.Strike.{Sketch, Plan, IsGlyphOf, AreGlyphsOf, thousandths, pixels, glyph_sketch_of, sketch_of, is_missing, sketches_of, checked, plan_of, strike_text}
+use Rattle.fx_strike.specs.Strike.{Sketch, Plan, AreGlyphsOf, thousandths, pixels, glyph_sketch_of, sketch_of, is_missing, sketches_of, checked, plan_of, strike_text}
 use Rattle.fx_strike.specs.Laws.{GlyphIsOne, TextIsOne, PartIsOne}
-use Rattle.fx_strike.proofs.Sketching.{tight_along, by_bool}
+use Rattle.fx_strike.proofs.Sketching.{tight_along}
 
 -- ---- one glyph
 
@@ -33,15 +32,15 @@ same_bit false false f g = refl
 pub glyph_is_one : TrimmedIsOne → GlyphIsOne
 glyph_is_one one s g h p q =
     one s.code s.swidth s.dwidth (glyph_bit g) g h
-      (record { code_is = p.code; swidth_is = p.swidth; dwidth_is = p.dwidth; bits = λ col row. refl; tight = p.tight; formed = p.formed })
-      (record {
-        code_is = q.code;
-        swidth_is = q.swidth;
-        dwidth_is = q.dwidth;
-        bits = same;
-        tight = tight_along h.box (glyph_bit h) (glyph_bit g) same q.tight;
-        formed = q.formed;
-      })
+    (record { code_is = p.code; swidth_is = p.swidth; dwidth_is = p.dwidth; bits = λ col row. refl; tight = p.tight; formed = p.formed })
+    (record {
+      code_is = q.code;
+      swidth_is = q.swidth;
+      dwidth_is = q.dwidth;
+      bits = same;
+      tight = tight_along h.box (glyph_bit h) (glyph_bit g) same q.tight;
+      formed = q.formed;
+    })
   where
     same : (col row : ℤ) → glyph_bit h col row ≡ glyph_bit g col row
     same col row = same_bit (glyph_bit h col row) (glyph_bit g col row) (λ x. (p.bits col row).1 ((q.bits col row).0 x)) (λ x. (q.bits col row).1 ((p.bits col row).0 x))
@@ -79,7 +78,10 @@ sketch_code face ppem code glyph s h =
     let c = refuse_ok (is_too_large (spans_of a.0.ends a.0.points)) (GlyphTooLarge glyph) (λ _. measured a.0) s b.1 in
     let d = bind_ok (map_fault of_font (metrics_of face glyph)) (λ m. Ok (last a.0 m)) s c.1 in
     let e : last a.0 d.0 ≡ s = cc (d.2) in
-    let P : Sketch → Type 0 = λ x. x.code ≡ code in subst P e refl
+    code_along (last a.0 d.0) s code e refl
+  where
+    code_along : (x s : Sketch) (code : ℕ) → x ≡ s → x.code ≡ code → s.code ≡ code
+    code_along x s code e h = sym (ap (λ (y : Sketch). y.code) e) ∙ h
 
 -- what a chain gives at a place is what its step gives of something
 chain_at : {A B : Type 0} (f : A → Result B Refusal) (xs : List A) (ys : List B) → map_chain f xs ≡ Ok ys → (k : ℕ) (d : B) → k < length ys → (x : A) × (f x ≡ Ok (get_or ys k d))
@@ -125,14 +127,16 @@ parts_of file ppem name chars hinting plan h =
     let c = bind_ok (map_fault of_char_map (map_of_file b.0.file)) (sketched b.0) plan b.2 in
     let d = bind_ok (sketches_of b.0 c.0 ppem (rising chars)) (λ ss. Ok (last b.0 c.0 ss)) plan c.2 in
     let e : last b.0 c.0 d.0 ≡ plan = cc (d.2) in
-    let P : Plan → Type 0 = λ x. sketches_of b.0 c.0 ppem (rising chars) ≡ Ok x.sketches in
     record {
       face = b.0;
       segments = c.0;
       font = map_fault_ok of_font (font_of file) b.0 b.1;
       map_is = map_fault_ok of_char_map (map_of_file b.0.file) c.0 c.1;
-      sketches = subst P e d.1;
+      sketches = sketches_along (last b.0 c.0 d.0) plan (sketches_of b.0 c.0 ppem (rising chars)) e d.1;
     }
+  where
+    sketches_along : (x plan : Plan) (r : Result (List Sketch) Refusal) → x ≡ plan → r ≡ Ok x.sketches → r ≡ Ok plan.sketches
+    sketches_along x plan r e h = h ∙ ap (λ (y : Plan). Ok y.sketches) e
 
 same_ok : {X E : Type 0} (r : Result X E) (x y : X) → r ≡ Ok x → r ≡ Ok y → x ≡ y
 same_ok r x y h g = cc
@@ -152,5 +156,5 @@ part_is_one file ppem hinting name name2 chars chars2 plan plan2 h g s t i j e =
     let F : Face → Type 0 = λ face. map_of_file face.file ≡ Ok p.segments in
     let maps : p.segments ≡ q.segments = same_ok (map_of_file q.face.file) p.segments q.segments (subst F faces p.map_is) q.map_is in
     same_ok (sketch_of q.face q.segments ppem t.code) s t
-      (ap (λ (c : ℕ). sketch_of q.face q.segments ppem c) (sym e) ∙ ap (λ (m : Segments). sketch_of q.face m ppem s.code) (sym maps) ∙ ap (λ (f : Face). sketch_of f p.segments ppem s.code) (sym faces) ∙ sketch_there file ppem chars plan.sketches p s i)
-      (sketch_there file ppem chars2 plan2.sketches q t j)
+    (ap (λ (c : ℕ). sketch_of q.face q.segments ppem c) (sym e) ∙ ap (λ (m : Segments). sketch_of q.face m ppem s.code) (sym maps) ∙ ap (λ (f : Face). sketch_of f p.segments ppem s.code) (sym faces) ∙ sketch_there file ppem chars plan.sketches p s i)
+    (sketch_there file ppem chars2 plan2.sketches q t j)

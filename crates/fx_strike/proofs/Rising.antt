@@ -1,6 +1,6 @@
 -- The code points in rising order: they rise, they are those that are asked for, and no other list is so.
-use Rattle.std.proofs.Common.{◌≡◌, ◌⊎◌, inl, inr, refl, sym, ap, ◌∙◌, subst, arith, ℕ, zero, suc, ◌+◌, ◌<◌, ◌≤◌, Bool, true, false, List, [], ◌∷◌, length, get_or, add-one}
-use Rattle.std.specs.Prelude.{nat_lt, ◌||◌, ◌==◌, if◌then◌else◌, cond, Contains, ◌↔◌}
+use Rattle.std.proofs.Common.{◌≡◌, ◌⊎◌, inl, inr, refl, sym, ap, ◌∙◌, subst, arith, ℕ, zero, suc, ◌+◌, ◌<◌, ◌≤◌, Bool, true, false, List, [], ◌∷◌, length, get_or}
+use Rattle.std.specs.Prelude.{◌||◌, Contains}
 use Rattle.std.specs.List.{dedup, list_any}
 use Rattle.std.specs.List.Sorted.{IsStrictlyIncreasing, IsPermutation, IsSorted}
 use Rattle.std.specs.Ordering.{nat_cmp}
@@ -9,7 +9,7 @@ use Rattle.std.proofs.lemmas.List.Kept.{Contains-dedup_nat, Contains-from_dedup}
 use Rattle.std.proofs.lemmas.List.Sorted.{Contains-permutation, IsPermutation-sym}
 use Rattle.std.proofs.lemmas.Map.Keys.{IsStrictlyIncreasing-dedup}
 use lib.Dec.{eqb}
-use Rattle.fx_strike.specs.Characters.{with_code, rising, AreRisen, RisingAreRisen, RisenIsOne}
+use Rattle.fx_strike.specs.Characters.{with_code, rising, RisingAreRisen, RisenIsOne}
 
 -- the first number is above c
 abbrev IsAbove : ℕ → List ℕ → Type 0
@@ -56,18 +56,18 @@ above_put b c [] h g = h
 above_put b c (d ∷ ds) h g =
     let P : List ℕ → Type 0 = λ xs. IsAbove b xs in
     by_order c d
-      (λ e. subst P (sym (put_before c d ds e)) h)
-      (λ e. subst P (sym (put_at c d ds e)) g)
-      (λ e. subst P (sym (put_behind c d ds e)) g)
+    (λ e. subst P (sym (put_before c d ds e)) h)
+    (λ e. subst P (sym (put_at c d ds e)) g)
+    (λ e. subst P (sym (put_behind c d ds e)) g)
 
 put_rises : (c : ℕ) (ds : List ℕ) → Rise ds → Rise (with_code c ds)
 put_rises c [] h = (tt, tt)
 put_rises c (d ∷ ds) h =
     let P : List ℕ → Type 0 = λ xs. Rise xs in
     by_order c d
-      (λ e. subst P (sym (put_before c d ds e)) (e, h))
-      (λ e. subst P (sym (put_at c d ds e)) h)
-      (λ e. subst P (sym (put_behind c d ds e)) (above_put d c ds e h.0, put_rises c ds h.1))
+    (λ e. subst P (sym (put_before c d ds e)) (e, h))
+    (λ e. subst P (sym (put_at c d ds e)) h)
+    (λ e. subst P (sym (put_behind c d ds e)) (above_put d c ds e h.0, put_rises c ds h.1))
 
 -- what is put in, and what stands there
 put_in : (x c : ℕ) (ds : List ℕ) → (x ≡ c) ⊎ IsIn x ds → IsIn x (with_code c ds)
@@ -75,18 +75,18 @@ put_in x c [] h = h
 put_in x c (d ∷ ds) h =
     let P : List ℕ → Type 0 = λ xs. IsIn x xs in
     by_order c d
-      (λ e. subst P (sym (put_before c d ds e)) h)
-      (λ e. subst P (sym (put_at c d ds e)) (elim h [ inl p ↦ inl (p ∙ e) | inr p ↦ p ]))
-      (λ e. subst P (sym (put_behind c d ds e)) (elim h [ inl p ↦ inr (put_in x c ds (inl p)) | inr (inl p) ↦ inl p | inr (inr p) ↦ inr (put_in x c ds (inr p)) ]))
+    (λ e. subst P (sym (put_before c d ds e)) h)
+    (λ e. subst P (sym (put_at c d ds e)) (elim h [ inl p ↦ inl (p ∙ e) | inr p ↦ p ]))
+    (λ e. subst P (sym (put_behind c d ds e)) (elim h [ inl p ↦ inr (put_in x c ds (inl p)) | inr (inl p) ↦ inl p | inr (inr p) ↦ inr (put_in x c ds (inr p)) ]))
 
 put_from : (x c : ℕ) (ds : List ℕ) → IsIn x (with_code c ds) → (x ≡ c) ⊎ IsIn x ds
 put_from x c [] h = h
 put_from x c (d ∷ ds) h =
     let P : List ℕ → Type 0 = λ xs. IsIn x xs in
     by_order c d
-      (λ e. subst P (put_before c d ds e) h)
-      (λ e. inr (subst P (put_at c d ds e) h))
-      (λ e. elim (subst P (put_behind c d ds e) h) [ inl p ↦ inr (inl p) | inr p ↦ past x c d ds (put_from x c ds p) ])
+    (λ e. subst P (put_before c d ds e) h)
+    (λ e. inr (subst P (put_at c d ds e) h))
+    (λ e. elim (subst P (put_behind c d ds e) h) [ inl p ↦ inr (inl p) | inr p ↦ past x c d ds (put_from x c ds p) ])
   where
     past : (x c d : ℕ) (ds : List ℕ) → (x ≡ c) ⊎ IsIn x ds → (x ≡ c) ⊎ ((x ≡ d) ⊎ IsIn x ds)
     past x c d ds (inl p) = inl p
@@ -163,14 +163,15 @@ one_list (c ∷ cs) (d ∷ ds) p q f g =
   where
     clash : (c d : ℕ) → d < c → c < d → ⊥
     clash c d h g = omega arith
+
     itself : (c x : ℕ) → c < x → x ≡ c → ⊥
     itself c x h g = omega arith
 
 pub risen_is_one : RisenIsOne
 risen_is_one chars codes others p q =
     one_list codes others (increasing_rise codes p.rise) (increasing_rise others q.rise)
-      (λ x h. contains_in x others ((q.same x).1 ((p.same x).0 (in_contains x codes h))))
-      (λ x h. contains_in x codes ((p.same x).1 ((q.same x).0 (in_contains x others h))))
+    (λ x h. contains_in x others ((q.same x).1 ((p.same x).0 (in_contains x codes h))))
+    (λ x h. contains_in x codes ((p.same x).1 ((q.same x).0 (in_contains x others h))))
 
 -- sorted and without repeats
 pub sorted_is_rising : (chars sorted codes : List ℕ) → IsPermutation chars sorted → IsSorted nat_cmp sorted → codes ≡ dedup eqb sorted → codes ≡ rising chars
@@ -188,12 +189,12 @@ length_rising (c ∷ cs) = omega (arith, length_rising cs, length_put c (rising 
   where
     length_put : (c : ℕ) (ds : List ℕ) → length (with_code c ds) ≤ suc (length ds)
     length_put c [] = omega arith
-    length_put c (d ∷ ds) = 
+    length_put c (d ∷ ds) =
         let P : List ℕ → Type 0 = λ xs. length xs ≤ suc (length (d ∷ ds)) in
         by_order c d
-          (λ e. subst P (sym (put_before c d ds e)) (omega arith))
-          (λ e. subst P (sym (put_at c d ds e)) (omega arith))
-          (λ e. subst P (sym (put_behind c d ds e)) (omega (arith, length_put c ds)))
+        (λ e. subst P (sym (put_before c d ds e)) (omega arith))
+        (λ e. subst P (sym (put_at c d ds e)) (omega arith))
+        (λ e. subst P (sym (put_behind c d ds e)) (omega (arith, length_put c ds)))
 
 -- the same for a copy
 pub few_rising : (chars codes : List ℕ) → codes ≡ rising chars → length chars ≤ 65536 → length codes ≤ 65536
@@ -205,9 +206,9 @@ any_put p c (d ∷ ds) h g =
     let P : List ℕ → Type 0 = λ xs. list_any p xs ≡ false in
     let q = none_of (p d) (list_any p ds) g in
     by_order c d
-      (λ e. subst P (sym (put_before c d ds e)) (neither (p c) (list_any p (d ∷ ds)) h g))
-      (λ e. subst P (sym (put_at c d ds e)) g)
-      (λ e. subst P (sym (put_behind c d ds e)) (neither (p d) (list_any p (with_code c ds)) q.0 (any_put p c ds h q.1)))
+    (λ e. subst P (sym (put_before c d ds e)) (neither (p c) (list_any p (d ∷ ds)) h g))
+    (λ e. subst P (sym (put_at c d ds e)) g)
+    (λ e. subst P (sym (put_behind c d ds e)) (neither (p d) (list_any p (with_code c ds)) q.0 (any_put p c ds h q.1)))
 
 any_rising : (p : ℕ → Bool) (chars : List ℕ) → list_any p chars ≡ false → list_any p (rising chars) ≡ false
 unfolding rising

@@ -1,10 +1,10 @@
 -- From a glyph's number to its bits: what each step says of the sketch that is due.
-use Rattle.std.proofs.Common.{◌≡◌, ◌⊎◌, inl, inr, refl, sym, ap, ◌∙◌, subst, arith, ℕ, ℤ, pos, negsuc, Bool, true, false, not, List, [], ◌∷◌, Result, Ok, Err, FitsSigned, w32, w64, to_z, of_z}
-use Rattle.std.specs.Prelude.{◌&&◌, int_le, ◌^◌, ◌*◌, IsTrue, ◌↔◌, neg_ℤ, ◌≤ℤ◌, All}
+use Rattle.std.proofs.Common.{◌≡◌, inl, inr, refl, sym, ap, ◌∙◌, subst, arith, ℕ, ℤ, pos, negsuc, Bool, true, false, not, List, [], ◌∷◌, Result, Ok, Err, FitsSigned, w32, w64, to_z, of_z}
+use Rattle.std.specs.Prelude.{◌&&◌, int_le, ◌^◌, IsTrue, neg_ℤ, ◌≤ℤ◌, All}
 use Rattle.std.specs.List.{list_all}
 use Rattle.std.proofs.lemmas.Int.{ints}
 use Rattle.std.proofs.lemmas.List.Elements.{All-nil, All-cons, All-head, All-tail}
-use Rattle.fx_fixed.specs.Chain.{◌>>=◌, refuse, map_ok, map_fault}
+use Rattle.fx_fixed.specs.Chain.{refuse, map_ok, map_fault}
 use Rattle.fx_fixed.specs.Numbers.{near_of}
 use Rattle.fx_fixed.proofs.Chain.{refuse_ok, map_ok_ok, map_fault_ok}
 use Rattle.fx_sfnt.specs.Tables.{Face}
@@ -17,12 +17,12 @@ use Rattle.fx_winding.specs.Winding.{Span, IsCovered, centre}
 use Rattle.fx_winding.specs.Bitmaps.{Bits, bit_of}
 use Rattle.fx_contour.specs.Contours.{IsNear, spans_of}
 use Rattle.fx_contour.specs.Frames.{AreTooLarge}
-use Rattle.fx_bdf.specs.Glyphs.{Glyph, Box, IsTight, HasSides, IsTrimmed, glyph_bit}
+use Rattle.fx_bdf.specs.Glyphs.{Box, IsTight, IsTrimmed, glyph_bit}
 use Rattle.fx_strike.specs.declared.refusal.Refusal.{Refusal}
 use Rattle.fx_strike.specs.declared.refusal.Refusal.TheVariants.{TooFar, GlyphTooLarge}
 use Rattle.fx_strike.specs.Faults.{of_font, of_hint}
 use Rattle.fx_strike.specs.Limits.{is_within, is_near, is_too_large}
-use Rattle.fx_strike.specs.Strike.{Sketch, IsGlyphOf, thousandths, glyph_sketch_of}
+use Rattle.fx_strike.specs.Strike.{Sketch, thousandths, glyph_sketch_of}
 use Rattle.fx_strike.specs.Drawing.{HasBitsOf, IsDrawnOf, spans_due}
 use Rattle.fx_strike.specs.declared.drawn.Drawn.{Drawn}
 use Rattle.fx_strike.proofs.Extents.{too_large_true, too_large_from}
@@ -71,14 +71,14 @@ by_bool false f g = g refl
 pub spans_there : (ends : List ℕ) (points : List OutlinePoint) (glyph : ℕ) (ss : List Span) → (¬ (All IsNear points) → ⊥) → ss ≡ spans_of ends points → spans_due ends points glyph ≡ Ok ss
 spans_there ends points glyph ss h e =
     by_bool (list_all is_near points)
-      (λ b. rw (b, e))
-      (λ b. absurd (h (λ g. absurd (cc (all_true points g, b)))))
+    (λ b. rw (b, e))
+    (λ b. absurd (h (λ g. absurd (cc (all_true points g, b)))))
 
 pub spans_far : (ends : List ℕ) (points : List OutlinePoint) (glyph : ℕ) → ¬ (All IsNear points) → spans_due ends points glyph ≡ Err (TooFar glyph)
 spans_far ends points glyph h =
     by_bool (list_all is_near points)
-      (λ b. absurd (h (all_from points b)))
-      (λ b. rw b)
+    (λ b. absurd (h (all_from points b)))
+    (λ b. rw b)
 
 -- ---- a frame that is not too large
 
@@ -102,12 +102,15 @@ tight_along box a b e h =
     let P : Bool → Type 0 = λ x. IsTrue x in
     record {
       holds = λ col row g. h.holds col row (subst P (sym (e col row)) g);
-      sides = elim h.sides [ inl g ↦ inl g | inr g ↦ inr (record {
-        left = (g.left.0, subst P (e box.left g.left.0) g.left.1);
-        right = (g.right.0, subst P (e _ g.right.0) g.right.1);
-        bottom = (g.bottom.0, subst P (e g.bottom.0 box.bottom) g.bottom.1);
-        top = (g.top.0, subst P (e g.top.0 _) g.top.1);
-      }) ];
+      sides = elim h.sides [
+        | inl g ↦ inl g
+        | inr g ↦ inr (record {
+          left = (g.left.0, subst P (e box.left g.left.0) g.left.1);
+          right = (g.right.0, subst P (e _ g.right.0) g.right.1);
+          bottom = (g.bottom.0, subst P (e g.bottom.0 box.bottom) g.bottom.1);
+          top = (g.top.0, subst P (e g.top.0 _) g.top.1);
+        })
+      ];
     }
 
 not_false : (b : Bool) → not b ≡ false → b ≡ true
@@ -155,32 +158,33 @@ drawn_whole face ppem code glyph drawing ss swidth bits made code' swidth' dwidt
     let m = map_ok_ok (λ (m : Metrics). thousandths m.advance face.head.units_per_em) (map_fault of_font (metrics_of face glyph)) swidth (sym h4) in
     let L : List Span → Type 0 = λ xs. is_too_large xs ≡ false in
     let P : Bool → Type 0 = λ x. IsTrue x in
-    let C : ℤ → ℤ → List Span → Type 0 = λ col row xs. IsCovered (centre col row) xs in
-    (record {
-      code = code;
-      swidth = thousandths m.0.advance face.head.units_per_em;
-      dwidth = near_of drawing.advance (pos 64);
-      spans = spans_of drawing.ends drawing.points;
-      strays = drawing.strays;
-      steps = drawing.steps;
-    },
-    sketch_is face ppem code glyph drawing m.0
-      (map_fault_ok of_hint (outline_of face ppem glyph) drawing h1)
-      (not_false (list_all is_near drawing.points) near.0)
-      (subst L (sym same) (passed (is_too_large ss) (GlyphTooLarge glyph) h3))
-      (map_fault_ok of_font (metrics_of face glyph) m.0 m.1),
-    record {
-      glyph = record {
-        code = t.code_is ∙ c;
-        swidth = t.swidth_is ∙ s ∙ sym m.2;
-        dwidth = t.dwidth_is ∙ d;
-        bits = λ col row. (λ g. subst (C col row) (sym same) ((b.each col row).0 (subst P (t.bits col row) g)), λ g. subst P (sym (t.bits col row)) ((b.each col row).1 (subst (C col row) same g)));
-        tight = tight_along made.glyph.box (bit_of bits) (glyph_bit made.glyph) (λ col row. sym (t.bits col row)) t.tight;
-        formed = t.formed;
-      };
-      strays = strays;
-      steps = steps;
-    })
+    let C : ℤ → ℤ → List Span → Type 0 = λ col row xs. IsCovered (centre col row) xs in (
+      record {
+        code = code;
+        swidth = thousandths m.0.advance face.head.units_per_em;
+        dwidth = near_of drawing.advance (pos 64);
+        spans = spans_of drawing.ends drawing.points;
+        strays = drawing.strays;
+        steps = drawing.steps;
+      },
+      sketch_is face ppem code glyph drawing m.0
+          (map_fault_ok of_hint (outline_of face ppem glyph) drawing h1)
+          (not_false (list_all is_near drawing.points) near.0)
+          (subst L (sym same) (passed (is_too_large ss) (GlyphTooLarge glyph) h3))
+          (map_fault_ok of_font (metrics_of face glyph) m.0 m.1),
+      record {
+        glyph = record {
+          code = t.code_is ∙ c;
+          swidth = t.swidth_is ∙ s ∙ sym m.2;
+          dwidth = t.dwidth_is ∙ d;
+          bits = λ col row. (λ g. subst (C col row) (sym same) ((b.each col row).0 (subst P (t.bits col row) g)), λ g. subst P (sym (t.bits col row)) ((b.each col row).1 (subst (C col row) same g)));
+          tight = tight_along made.glyph.box (bit_of bits) (glyph_bit made.glyph) (λ col row. sym (t.bits col row)) t.tight;
+          formed = t.formed;
+        };
+        strays = strays;
+        steps = steps;
+      },
+    )
 
 -- ---- words for answers
 

@@ -1,5 +1,5 @@
 -- The faults of the crates below as refusals, and what code answers that may want memory.
-use Rattle.std.specs.Prelude.{◌≡◌, ℕ, Result, Err}
+use Rattle.std.specs.Prelude.{◌≡◌, Result, Err}
 use Rattle.fx_sfnt.specs.declared.fault.FontFault.{FontFault}
 use Rattle.fx_sfnt.specs.declared.fault.FontFault.TheVariants as font
 use Rattle.fx_cmap.specs.declared.fault.CharMapFault.{CharMapFault}

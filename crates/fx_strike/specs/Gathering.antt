@@ -1,5 +1,5 @@
 -- What is made of code points so far, and of a strike before its first byte is written.
-use Rattle.std.specs.Prelude.{◌≡◌, neg_ℤ, ℕ, ◌+◌, List, [], ◌∷◌, ◌++◌, length, map, Result, Ok, Err}
+use Rattle.std.specs.Prelude.{◌≡◌, neg_ℤ, ℕ, ◌+◌, List, [], ◌++◌, length, map, Result, Ok, Err}
 use Rattle.std.specs.List.{flat_map, sum_by, count_by}
 use Rattle.fx_sfnt.specs.Tables.{Face}
 use Rattle.fx_cmap.specs.Lookup.{Segments}
@@ -63,7 +63,8 @@ heading_of face ppem gathered = record {
   bounds = gathered.bounds;
   ascent = pixels face.hhea.ascender ppem face.head.units_per_em;
   descent = pixels (neg_ℤ face.hhea.descender) ppem face.head.units_per_em;
-  glyphs = gathered.glyphs }
+  glyphs = gathered.glyphs;
+}
 
 -- the texts are whole
 pub record Finishes (name : List ℕ) (header : Header) (gathered : Gathered) (made : Made) : Type 0 where

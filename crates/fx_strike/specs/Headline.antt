@@ -7,7 +7,12 @@ use Rattle.fx_bdf.specs.Glyphs.{Glyph}
 use Rattle.fx_strike.specs.declared.refusal.Refusal.{Refusal}
 use Rattle.fx_strike.specs.declared.refusal.Refusal.TheVariants.{WriteFailed, ReadFailed, BadHex, InputTooLarge, OutOfMemory}
 use Rattle.fx_strike.specs.declared.request.Report.{Report}
-use Rattle.fx_strike.specs.Strike.{Plan, Sketch, AreGlyphsOf, strike_text}
+use Rattle.fx_strike.specs.declared.request.Request.{Request}
+use Rattle.fx_strike.specs.Strike.{Plan, AreGlyphsOf, strike_text, plan_of}
+
+-- the strike of a font file that is asked for, or the first cause why there is none
+abbrev pub strike_of : List ℕ → Request → Result Plan Refusal
+strike_of file request = plan_of file request.ppem request.name.now request.chars.now request.hinting
 
 -- a count that stays at the greatest u64
 abbrev pub counted : ℕ → ℕ

@@ -1,5 +1,5 @@
 -- What the definitions of a strike imply.
-use Rattle.std.specs.Prelude.{◌≡◌, ◌↔◌, ℕ, Bool, true, List, Result, Ok, Contains, All}
+use Rattle.std.specs.Prelude.{◌≡◌, ◌↔◌, ℕ, Bool, true, List, Ok, Contains, All}
 use Rattle.std.specs.List.{list_all}
 use Rattle.fx_hint.specs.declared.outline.OutlinePoint.{OutlinePoint}
 use Rattle.fx_winding.specs.Winding.{Span}

@@ -1,12 +1,12 @@
 -- The strike of a font, a size and characters, or the first cause why there is none.
-use Rattle.std.specs.Prelude.{◌≡◌, ◌↔◌, IsTrue, ℕ, ◌*◌, nat_lt, ◌==◌, ◌||◌, not, ℤ, pos, ◌*ℤ◌, neg_ℤ, Bool, List, [], ◌∷◌, ◌++◌, length, map, filter, Result, Ok, Err}
+use Rattle.std.specs.Prelude.{◌≡◌, ◌↔◌, IsTrue, ℕ, ◌*◌, nat_lt, ◌==◌, ◌||◌, not, ℤ, pos, ◌*ℤ◌, neg_ℤ, Bool, List, [], ◌∷◌, ◌++◌, length, map, filter, Result, Ok}
 use Rattle.std.specs.List.{list_any, list_all, count_by, flat_map}
 use Rattle.fx_fixed.specs.Chain.{◌>>=◌, refuse, map_fault, map_chain}
 use Rattle.fx_fixed.specs.Numbers.{near_of}
 use Rattle.fx_sfnt.specs.Tables.{Face, font_of}
 use Rattle.fx_sfnt.specs.Glyphs.{metrics_of}
 use Rattle.fx_cmap.specs.Lookup.{Segments, map_of_file, glyph_for}
-use Rattle.fx_hint.specs.Outlines.{Drawing, outline_of}
+use Rattle.fx_hint.specs.Outlines.{outline_of}
 use Rattle.fx_winding.specs.Winding.{Span, IsCovered, centre}
 use Rattle.fx_contour.specs.Contours.{spans_of}
 use Rattle.fx_bdf.specs.declared.header.Header.{Header}
@@ -47,7 +47,8 @@ glyph_sketch_of face ppem code glyph = do
     dwidth = near_of drawing.advance (pos 64);
     spans = spans_of drawing.ends drawing.points;
     strays = drawing.strays;
-    steps = drawing.steps })
+    steps = drawing.steps;
+  })
 
 -- the sketch of a code point
 abbrev pub sketch_of : Face → Segments → ℕ → ℕ → Result Sketch Refusal
@@ -97,7 +98,8 @@ plan_of file ppem name chars hinting = do
     ascent = pixels face.hhea.ascender ppem face.head.units_per_em;
     descent = pixels (neg_ℤ face.hhea.descender) ppem face.head.units_per_em;
     sketches = sketches;
-    missing = count_by (is_missing segments) (rising chars) })
+    missing = count_by (is_missing segments) (rising chars);
+  })
 
 -- ---- its bits and its text
 
@@ -123,7 +125,8 @@ header_of plan glyphs = record {
   bounds = bounds_of (map (λ g. g.box) glyphs);
   ascent = plan.ascent;
   descent = plan.descent;
-  glyphs = length plan.sketches }
+  glyphs = length plan.sketches;
+}
 
 -- the text of a strike with these glyphs
 unfoldable pub strike_text : Plan → List Glyph → List ℕ

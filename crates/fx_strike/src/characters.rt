@@ -18,7 +18,6 @@ fn sorted(alloc: Global, chars: &[u32]) -> Result<Vec<u32>, AllocError>
 }
 
 // Code points with each run of equal ones made one.
-#[tactic(auto, using(std::proofs::lemmas::List::Filters::dedup_is))]
 fn each_once(codes: Vec<u32>) -> Vec<u32>
     ensures { result.items ≡ dedup nat_eq codes.items }
 {

@@ -2,9 +2,9 @@
 ghost use Rattle.std.specs.Prelude.{◌≡◌, ◌≤◌, ◌<◌, ◌^◌, ◌||◌, ◌++◌, ℕ, unsigned_abs, false, nat_lt, length, IfOk, IfErr, OnOk, IsErrOf};
 ghost use Rattle.std.specs.List.{list_any};
 ghost use Rattle.fx_bdf.specs.Text.{IsName, header_text, end_text};
-ghost use Rattle.fx_strike.specs.Strike.{checked, pixels, plan_of};
+ghost use Rattle.fx_strike.specs.Strike.{checked, pixels};
 ghost use Rattle.fx_strike.specs.Gathering.{heading_of, Finishes, Makes};
-ghost use Rattle.fx_strike.specs.Headline.{Text, Cause, Memory, Writer, HasToName, Leaves};
+ghost use Rattle.fx_strike.specs.Headline.{Text, Cause, Memory, Writer, HasToName, Leaves, strike_of};
 
 use crate::characters::rising_codes;
 use crate::draft::Draft;
@@ -110,12 +110,7 @@ fn body_text(draft: Draft) -> Result<Draft, Refusal>
 }
 
 // Puts the lines round those of the glyphs.
-fn finish(
-    alloc: Global,
-    name: &str,
-    header: &Header,
-    gathered: Gathered,
-) -> Result<Made, Refusal>
+fn finish(alloc: Global, name: &str, header: &Header, gathered: Gathered) -> Result<Made, Refusal>
     requires calm { gathered.draft.faults ≡ 0 }
     requires name { IsName name.now }
     ensures ok { IfOk result (Finishes name.now header.now gathered) }
@@ -140,7 +135,7 @@ fn make_texts<S: Scan>(
     file: &[u8],
     request: &Request<'_>,
 ) -> Result<Made, Refusal>
-    ensures { Makes (plan_of file.now request.now.ppem request.now.name.now request.now.chars.now request.now.hinting) result }
+    ensures { Makes (strike_of file.now request.now) result }
 {
     check(request)?;
     let font = Font::open(file)?;
@@ -159,13 +154,13 @@ fn make_all<S: Scan, W: Sink>(
     out: &mut W,
 ) -> Result<Report, Refusal>
     requires { W.fault_count out.old < 2 ^ 63 }
-    ensures {
-        Leaves (plan_of font.now request.now.ppem request.now.name.now request.now.chars.now request.now.hinting)
-            (W.held out.old) (W.held out.new) (W.fault_count out.old) (W.fault_count out.new) result
-    }
+    ensures { Leaves (strike_of font.now request.now) (W.held out.old) (W.held out.new) (W.fault_count out.old) (W.fault_count out.new) result }
 {
     let made = make_texts(alloc, scan, font, request)?;
-    put_all(out, &[made.head.bytes.as_slice(), made.body.bytes.as_slice()])?;
+    put_all(
+        out,
+        &[made.head.bytes.as_slice(), made.body.bytes.as_slice()],
+    )?;
     Ok(made.report)
 }
 
@@ -184,29 +179,14 @@ pub fn make_strike_with<S: Scan, W: Sink>(
 ) -> Result<Report, Refusal>
     requires { W.fault_count out.old < 2 ^ 63 }
     // The strike is there, and its text was written.
-    ensures text {
-        IfOk result
-            (Text (plan_of font.now request.now.ppem request.now.name.now request.now.chars.now request.now.hinting)
-                (W.held out.old) (W.held out.new))
-    }
+    ensures text { IfOk result (Text (strike_of font.now request.now) (W.held out.old) (W.held out.new)) }
     // The first cause was named, and nothing was written.
-    ensures cause {
-        IfErr result (λ refusal. HasToName refusal →
-            Cause (plan_of font.now request.now.ppem request.now.name.now request.now.chars.now request.now.hinting)
-                (W.held out.old) (W.held out.new) refusal)
-    }
+    ensures cause { IfErr result (λ refusal. HasToName refusal → Cause (strike_of font.now request.now) (W.held out.old) (W.held out.new) refusal) }
     // Nothing was written, or the strike is there and a beginning of its text was written.
-    ensures memory {
-        IsErrOf result Refusal.OutOfMemory →
-            Memory (plan_of font.now request.now.ppem request.now.name.now request.now.chars.now request.now.hinting)
-                (W.held out.old) (W.held out.new)
-    }
+    ensures memory { IsErrOf result Refusal.OutOfMemory → Memory (strike_of font.now request.now) (W.held out.old) (W.held out.new) }
     // The strike is there, exactly the first n bytes of its text were written, and the writer counted a fault.
-    ensures writer {
-        (n : ℕ) → IsErrOf result (Refusal.WriteFailed n) →
-            Writer (plan_of font.now request.now.ppem request.now.name.now request.now.chars.now request.now.hinting)
-                (W.held out.old) (W.held out.new) (W.fault_count out.old) (W.fault_count out.new) n
-    }
+    ensures writer { (n : ℕ) → IsErrOf result (Refusal.WriteFailed n) →
+        Writer (strike_of font.now request.now) (W.held out.old) (W.held out.new) (W.fault_count out.old) (W.fault_count out.new) n }
 {
     make_all(alloc, scan, font, request, out)
 }
@@ -222,29 +202,14 @@ pub fn make_strike<W: Sink>(
 ) -> Result<Report, Refusal>
     requires { W.fault_count out.old < 2 ^ 63 }
     // The strike is there, and its text was written.
-    ensures text {
-        IfOk result
-            (Text (plan_of font.now request.now.ppem request.now.name.now request.now.chars.now request.now.hinting)
-                (W.held out.old) (W.held out.new))
-    }
+    ensures text { IfOk result (Text (strike_of font.now request.now) (W.held out.old) (W.held out.new)) }
     // The first cause was named, and nothing was written.
-    ensures cause {
-        IfErr result (λ refusal. HasToName refusal →
-            Cause (plan_of font.now request.now.ppem request.now.name.now request.now.chars.now request.now.hinting)
-                (W.held out.old) (W.held out.new) refusal)
-    }
+    ensures cause { IfErr result (λ refusal. HasToName refusal → Cause (strike_of font.now request.now) (W.held out.old) (W.held out.new) refusal) }
     // Nothing was written, or the strike is there and a beginning of its text was written.
-    ensures memory {
-        IsErrOf result Refusal.OutOfMemory →
-            Memory (plan_of font.now request.now.ppem request.now.name.now request.now.chars.now request.now.hinting)
-                (W.held out.old) (W.held out.new)
-    }
+    ensures memory { IsErrOf result Refusal.OutOfMemory → Memory (strike_of font.now request.now) (W.held out.old) (W.held out.new) }
     // The strike is there, exactly the first n bytes of its text were written, and the writer counted a fault.
-    ensures writer {
-        (n : ℕ) → IsErrOf result (Refusal.WriteFailed n) →
-            Writer (plan_of font.now request.now.ppem request.now.name.now request.now.chars.now request.now.hinting)
-                (W.held out.old) (W.held out.new) (W.fault_count out.old) (W.fault_count out.new) n
-    }
+    ensures writer { (n : ℕ) → IsErrOf result (Refusal.WriteFailed n) →
+        Writer (strike_of font.now request.now) (W.held out.old) (W.held out.new) (W.fault_count out.old) (W.fault_count out.new) n }
 {
     make_all(alloc, &Plain, font, request, out)
 }

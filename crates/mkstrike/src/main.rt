@@ -5,10 +5,9 @@ ghost use Rattle.std.specs.Prelude.{◌≡◌, ◌⊎◌, ◌<◌, ◌^◌};
 
 use fx_cli::{out_of_memory, run, usage};
 use fx_fixed::{FromReader, Sink, ToSink};
-use std::env;
-use std::io;
 use std::io::ErrorKind;
 use std::process::ExitCode;
+use std::{env, io};
 
 fn main(rt: HostRuntime) -> ExitCode {
     ExitCode::from(status(&rt))
@@ -22,7 +21,11 @@ fn status(rt: &HostRuntime) -> u8 {
         Ok(words) => words,
         Err(fault) => return unread(&mut err, fault),
     };
-    let Ok(texts) = words.iter().map(|word| word.as_str()).collect::<Vec<&str>>(rt.alloc()) else {
+    let Ok(texts) = words
+        .iter()
+        .map(|word| word.as_str())
+        .collect::<Vec<&str>>(rt.alloc())
+    else {
         return out_of_memory(&mut err);
     };
     let mut reader = FromReader::new(rt.stdin());

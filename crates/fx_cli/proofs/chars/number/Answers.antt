@@ -1,4 +1,4 @@
-use Rattle.std.proofs.Common.{rules, arith, ◌≡◌, ◌<◌, ◌≤◌, ◌+◌, ◌*◌, ◌^◌, ◌∙◌, sym, ap, length, get_or, drop, Some, None}
+use Rattle.std.proofs.Common.{rules, arith, ◌≡◌, ◌<◌, ◌∙◌, sym, ap, length, drop, Some, None}
 use Rattle.std.proofs.lemmas.Grind.{common_steps}
 use Rattle.fx_cli.specs.Chars.{number_of, number_after}
 use Rattle.fx_cli.proofs.Numerals.{below_power, below_top, number_after_step, number_after_none, number_after_end, number_of_is, number_of_no, number_of_long}

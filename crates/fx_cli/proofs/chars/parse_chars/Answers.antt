@@ -1,6 +1,5 @@
-use Rattle.std.proofs.Common.{rules, arith, sym, ap, ◌∙◌, ◌≡◌, inl, inr, refl, List, ℕ, ◌∷◌, option_map, IfErr, Err, None, []}
+use Rattle.std.proofs.Common.{rules, arith, sym, ap, ◌∙◌, ◌≡◌, inl, inr, refl, List, ℕ, ◌∷◌, option_map, None, []}
 use Rattle.std.proofs.lemmas.Result.{err_from_is_err_and}
-use Rattle.std.proofs.lemmas.Grind.{common_steps}
 use Rattle.fx_cli.specs.Parts.{left_parts, parts_of}
 use Rattle.fx_cli.specs.Chars.{items_of, numbers_of_items, range_of}
 use Rattle.fx_cli.proofs.Items.{behind, behind_item, none_by_item, none_by_count, all_items}

@@ -1,5 +1,4 @@
-use Rattle.std.proofs.Common.{rules, arith, ◌≡◌, ◌<◌, ◌≤◌, ◌+◌, ◌-◌, ◌∙◌, sym, ap, length, append_assoc, append-nil, ◌++◌, ◌∷◌, [], ℕ, List, subst}
-use Rattle.std.proofs.lemmas.Grind.{common_steps}
+use Rattle.std.proofs.Common.{rules, arith, ◌≡◌, ◌+◌, ◌-◌, ◌∙◌, sym, ap, append_assoc, append-nil, ◌++◌, ◌∷◌, [], ℕ, List}
 use Rattle.fx_cli.specs.Chars.{numbers_from}
 use Rattle.fx_cli.proofs.Numerals.{numbers_from_zero, numbers_more}
 use Rattle.fx_cli.proofs.chars.push_range.Goals as goal

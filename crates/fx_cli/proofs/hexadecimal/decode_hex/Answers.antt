@@ -1,7 +1,7 @@
-use Rattle.std.proofs.Common.{rules, sym, ap, ◌∙◌, ◌≡◌, inl, inr, Ok, Err, List, ℕ, not, filter}
+use Rattle.std.proofs.Common.{sym, ap, ◌∙◌, inl, inr, List, ℕ}
 use Rattle.std.specs.Result.{result_ok}
 use Rattle.hex.specs.Hex.{decode_of}
-use Rattle.fx_cli.specs.Input.{bytes_of_hex, is_blank}
+use Rattle.fx_cli.specs.Input.{bytes_of_hex}
 use Rattle.fx_cli.proofs.hexadecimal.decode_hex.Goals as goal
 
 pub returns-in-Ok-clause-bytes : goal.returns-in-Ok-clause-bytes

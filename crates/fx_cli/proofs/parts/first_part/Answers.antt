@@ -1,4 +1,3 @@
-use Rattle.std.proofs.Common.{lit<, sym, ◌∙◌}
 use Rattle.fx_cli.proofs.Items.{parts_cut, parts_whole}
 use Rattle.fx_cli.proofs.parts.first_part.Goals as goal
 

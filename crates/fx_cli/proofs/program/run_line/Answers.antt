@@ -1,5 +1,4 @@
-use Rattle.std.proofs.Common.{rules, arith, ◌≡◌, ◌==◌, ◌∙◌, ◌<◌, ◌≤◌, ◌⊎◌, inl, inr, ap, ap₂, sym, refl, subst, ℕ, List, ◌∷◌, Bor, Bool, false, take, length, map, not}
-use Rattle.std.specs.List.{position_or_len}
+use Rattle.std.proofs.Common.{arith, ◌≡◌, ◌==◌, ◌∙◌, inl, inr, ap, ap₂, sym, refl, subst, ℕ, List, ◌∷◌, Bor, take, length, map, not}
 use Rattle.std.specs.Str.{IsUtf8}
 use Rattle.std.proofs.lemmas.List.Sums.{prefix_len-le-length}
 use Rattle.std.proofs.lemmas.List.{length-take-le}

@@ -1,6 +1,6 @@
 use Rattle.std.proofs.Common.{rules, ap, ◌∙◌, ◌≡◌, ◌++◌, ◌∷◌, [], map, sym, Bor, List, ℕ, filter}
 use Rattle.fx_cli.specs.Parts.{parts_of}
-use Rattle.fx_cli.specs.Input.{has_bytes, words_of_line}
+use Rattle.fx_cli.specs.Input.{has_bytes}
 use Rattle.fx_cli.proofs.Made.{words_of_line-is}
 use Rattle.fx_cli.proofs.program.words_of_line.Goals as goal
 

@@ -1,4 +1,4 @@
-use Rattle.std.proofs.Common.{◌≡◌, ◌≤◌, ◌+◌, ◌++◌, ◌∷◌, length, Option, Some, None, option_map, map, filter, ℕ, List, Bor}
+use Rattle.std.proofs.Common.{◌≡◌, ◌+◌, ◌++◌, ◌∷◌, length, Option, Some, None, option_map, map, filter, ℕ, List, Bor}
 use Rattle.fx_cli.specs.Parts.{left_parts}
 use Rattle.fx_cli.specs.Input.{has_bytes, words_of_line}
 use Rattle.fx_cli.proofs.program.words_of_line.Given as goal

@@ -1,8 +1,8 @@
-use Rattle.std.proofs.Common.{rules, ◌∙◌, ◌≡◌, ap, sym, inl, inr, refl, List, ℕ, map, option_map, Bor, false, true}
+use Rattle.std.proofs.Common.{rules, ◌∙◌, ◌≡◌, ap, sym, inl, inr, refl, List, ℕ, map, option_map, Bor, false}
 use Rattle.std.specs.List.{list_any}
 use Rattle.std.proofs.lemmas.Result.{err_from_is_err_and}
-use Rattle.clap.specs.Words.{Text, fault_of, matches_of, rows_of, found_of}
-use Rattle.fx_cli.specs.Words.{is_bare, make_app, seen, wish_of_make, wish_of_rows}
+use Rattle.clap.specs.Words.{Text}
+use Rattle.fx_cli.specs.Words.{is_bare, seen, wish_of_make, wish_of_rows}
 use Rattle.fx_cli.proofs.Options.{no_wish, ok_wish, wish_of_bare, wish_of_fault, wish_of_taken}
 use Rattle.fx_cli.proofs.words.read_make.Goals as goal
 

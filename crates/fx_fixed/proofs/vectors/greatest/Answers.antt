@@ -1,4 +1,4 @@
-use Rattle.std.proofs.Common.{◌<◌, ◌≤◌, arith}
+use Rattle.std.proofs.Common.{◌<◌, arith}
 use Rattle.fx_fixed.proofs.Units.{admits_below}
 use Rattle.fx_fixed.proofs.vectors.greatest.Goals as goal
 

@@ -1,4 +1,4 @@
-use Rattle.std.proofs.Common.{◌≡◌, ◌∙◌, ap, FitsSigned, to_z-of_z, rules, ◌+ℤ◌, ◌*ℤ◌}
+use Rattle.std.proofs.Common.{◌∙◌, ap, FitsSigned, to_z-of_z, rules}
 use Rattle.std.specs.Int.{w16, w32, w64, w128}
 use Rattle.fx_fixed.specs.Numbers.{wrapped_of}
 use Rattle.fx_gstate.specs.Vectors.{projection_of}
