@@ -1,4 +1,4 @@
-//! Tests that cross crates: worked strikes, damaged fonts, and readers and writers that fail. Their expected values come from the
+//! Tests that cross crates: worked strikes, listings, damaged fonts, and readers and writers that fail. Their expected values come from the
 //! public formats and from arithmetic by hand, never from the program's own output.
 #![tactic(auto)]
 
@@ -6,6 +6,8 @@
 mod cuts;
 #[cfg(test)]
 mod fonts;
+#[cfg(test)]
+mod listings;
 #[cfg(test)]
 mod strikes;
 #[cfg(test)]

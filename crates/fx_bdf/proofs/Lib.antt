@@ -1,4 +1,3 @@
-pub mod Decimals
 pub mod RowDigits
 pub mod Parts
 pub mod Boxes

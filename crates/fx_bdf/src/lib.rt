@@ -7,7 +7,6 @@
 #![tactic(auto)]
 
 mod bounds;
-mod digits;
 mod glyph;
 mod header;
 pub mod laws;

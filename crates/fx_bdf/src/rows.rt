@@ -3,7 +3,7 @@
 ghost use Rattle.std.specs.Prelude.{◌≡◌, ◌<◌, ◌≤◌, ◌*◌, take, length};
 ghost use Rattle.fx_bdf.specs.Text.{row_digits, pixel, four_pixels};
 
-use crate::digits::hex_digit;
+use fx_fixed::hex_digit;
 
 // The bit of a pixel, 0 past the row's end.
 fn pixel_of(row: &[bool], k: usize) -> u8

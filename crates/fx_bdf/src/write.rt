@@ -5,11 +5,10 @@ ghost use Rattle.std.specs.List.{flat_map};
 ghost use Rattle.fx_fixed.specs.Wrote.{Wrote, WrotePart};
 ghost use Rattle.fx_bdf.specs.Text.{IsName, header_text, head_text, row_text, glyph_text, end_text};
 
-use crate::digits::{Digits, hex_code};
 use crate::glyph::BitGlyph;
 use crate::header::Header;
 use crate::rows::put_row;
-use fx_fixed::{Sink, WriteFailed, put_all};
+use fx_fixed::{Digits, Sink, WriteFailed, put_all, put_part};
 
 /// Writes the lines before the glyphs.
 #[tactic(auto, unfolding(crate::specs::Text::header_text))]
@@ -44,30 +43,6 @@ pub fn write_header<W: Sink>(name: &str, header: &Header, out: &mut W) -> Result
     )
 }
 
-// How many bytes some pieces have.
-fn size(pieces: &[&[u8]]) -> u64
-    requires { length (flat_map (λ p. p.now) pieces.now) < 2 ^ 64 }
-    ensures { result ≡ length (flat_map (λ p. p.now) pieces.now) }
-{
-    let mut sum = 0;
-    'pieces: for piece in pieces {
-        sum += piece.len() as u64;
-    }
-    sum
-}
-
-// Appends several pieces, behind so many bytes of the call; answers how many there are then.
-fn put_part<W: Sink>(out: &mut W, done: u64, pieces: &[&[u8]]) -> Result<u64, WriteFailed>
-    requires faults { W.fault_count out.old < 2 ^ 63 }
-    requires fits { done + length (flat_map (λ p. p.now) pieces.now) < 2 ^ 64 }
-    ensures { WrotePart (W.held out.old) (W.held out.new) (W.fault_count out.old) (W.fault_count out.new) done (flat_map (λ p. p.now) pieces.now) result }
-{
-    match put_all(out, pieces) {
-        Ok(()) => Ok(done + size(pieces)),
-        Err(WriteFailed(n)) => Err(WriteFailed(done + n)),
-    }
-}
-
 // Writes the lines of a glyph before its rows; answers how many bytes they have.
 #[tactic(auto, unfolding(crate::specs::Text::head_text))]
 fn write_head<W: Sink>(glyph: &BitGlyph, out: &mut W) -> Result<u64, WriteFailed>
@@ -82,7 +57,7 @@ fn write_head<W: Sink>(glyph: &BitGlyph, out: &mut W) -> Result<u64, WriteFailed
         0,
         &[
             b"STARTCHAR uni",
-            &hex_code(glyph.code() as u16),
+            Digits::hexadecimal(u64::from(glyph.code()), 4).text(),
             b"\nENCODING ",
             Digits::unsigned(u64::from(glyph.code())).text(),
             b"\nSWIDTH ",

@@ -8,16 +8,16 @@ use Rattle.std.proofs.KnownBytes.{Consumes-trans}
 use Rattle.std.proofs.lemmas.List.{take-append-le, drop-append-le}
 use Rattle.std.proofs.lemmas.List.Folds.{prefix_len-append}
 use Rattle.std.proofs.lemmas.List.{length-take-le}
-use Rattle.std.proofs.lemmas.Bool.{ne_eqb}
+use Rattle.std.proofs.lemmas.Bool.{ne_eqb, lt-ltb}
 use Rattle.fx_strike.specs.declared.refusal.Refusal.{Refusal}
 use Rattle.fx_strike.specs.declared.refusal.Refusal.TheVariants.{BadChars, BadHex, InputTooLarge, OutOfMemory, ReadFailed}
-use Rattle.fx_strike.specs.declared.request.Report.{Report}
+use Rattle.fx_cli.specs.declared.done.Done.{Done}
 use Rattle.fx_cli.specs.declared.fault.Fault.{Fault}
 use Rattle.fx_cli.specs.declared.fault.Fault.TheVariants.{Usage, Early, Late}
 use Rattle.fx_cli.specs.Words.{Asked, wish_of_words}
 use Rattle.fx_cli.specs.Input.{line_of, rest_of, words_of_line}
-use Rattle.fx_cli.specs.Runs.{AreWords, AreWordsBy, Change, Ends, HasLine, IsReason, IsUsageBy, Makes, Stops, Word, font_bytes, has_words, program_of, text_by, text_of}
-use Rattle.fx_cli.specs.Steps.{EndsBehind, IsReasonBehind, MakesBehind, StopsBehind}
+use Rattle.fx_cli.specs.Runs.{AreWords, AreWordsBy, Change, Ends, HasLine, IsReason, IsUsageBy, Does, Stops, Word, font_bytes, has_words, called, text_by, text_of}
+use Rattle.fx_cli.specs.Steps.{EndsBehind, IsReasonBehind, DoesBehind, StopsBehind}
 
 abbrev is_end : ℕ → Bool
 is_end b = b == 10
@@ -47,7 +47,7 @@ pub record IsFirst (given : List Word) (first front : List ℕ) (ended : Bool) (
   pub size : position_or_len is_end first ≤ length first
   pub utf8 : IsUtf8 (line_of first)
   pub short : length (line_of first) ≤ 4096
-  pub words_are : words ≡ program_of given ∷ words_of_line (line_of first)
+  pub words_are : words ≡ called given ∷ words_of_line (line_of first)
   pub front_is : front ≡ rest_of first
 
 either : {P Q : Type 0} (ended : Bool) → (ended ≡ false → P) → (ended ≡ true → Q) → P ⊎ Q
@@ -68,7 +68,7 @@ are_words : {given : List Word} {first front : List ℕ} {ended : Bool} {before 
 are_words {given} {first} {front} {ended} {before} {mid} {words} more left f rest =
     let line : line_of (first ++ more) ≡ line_of first = same_line first more (either ended f.found (λ e. (rest e).0)) in
     let P : Bool → Type 0 = λ b. AreWordsBy b given (first ++ more) left words in
-    let Q : List ℕ → Type 0 = λ xs. HasLine (first ++ more) left × IsUtf8 xs × (length xs ≤ 4096) × (words ≡ program_of given ∷ words_of_line xs) in
+    let Q : List ℕ → Type 0 = λ xs. HasLine (first ++ more) left × IsUtf8 xs × (length xs ≤ 4096) × (words ≡ called given ∷ words_of_line xs) in
     subst P (sym f.none) (subst Q (sym line) (has_line more left f rest, f.utf8, f.short, f.words_are))
 
 text_is : {given : List Word} {first front : List ℕ} {ended : Bool} {before mid : Option (List ℕ)} {words : List Word} (more : List ℕ) → IsFirst given first front ended before mid words → (ended ≡ true → more ≡ []) → text_of given (first ++ more) ≡ front ++ more
@@ -81,8 +81,8 @@ text_is {given} {first} {front} {ended} more f rest =
 abbrev pub from_start : Option (List ℕ) → ℕ → Change → Change
 from_start before calm change = record change { left_before = before; reader_calm = calm }
 
-makes : {given : List Word} {first front : List ℕ} {ended : Bool} {before : Option (List ℕ)} {words : List Word} (calm line : ℕ) (asked : Asked) (change : Change) (answer : Result Report Refusal) → IsFirst given first front ended before change.left_before words → line + length front ≡ length first → wish_of_words words ≡ Some asked → MakesBehind asked line front ended change answer → Makes given (from_start before calm change) answer
-makes {given} {first} {front} {ended} {before} {words} calm line asked change answer f sizes asks m = record {
+does : {given : List Word} {first front : List ℕ} {ended : Bool} {before : Option (List ℕ)} {words : List Word} (calm line : ℕ) (asked : Asked) (change : Change) (answer : Result Done Refusal) → IsFirst given first front ended before change.left_before words → line + length front ≡ length first → wish_of_words words ≡ Some asked → DoesBehind asked line front ended change answer → Does given (from_start before calm change) answer
+does {given} {first} {front} {ended} {before} {words} calm line asked change answer f sizes asks m = record {
   input = first ++ m.more;
   read = Consumes-trans before change.left_before change.left first m.more f.read m.read;
   whole = m.whole;
@@ -116,9 +116,9 @@ stops {given} {first} {front} {ended} {before} {words} calm line asked change re
 }
 
 -- the run behind the line ends the run
-pub line_ends : {given : List Word} {first front : List ℕ} {ended : Bool} {before : Option (List ℕ)} {words : List Word} (calm line : ℕ) (asked : Asked) (change : Change) → calm ≡ change.reader_calm → IsFirst given first front ended before change.left_before words → line + length front ≡ length first → wish_of_words words ≡ Some asked → (outcome : Result Report Fault) → EndsBehind asked line front ended change outcome → Ends given (from_start before calm change) outcome
-line_ends calm line asked change same f sizes asks (Ok report) m = makes calm line asked change (Ok report) f sizes asks m
-line_ends calm line asked change same f sizes asks (Err (Late refusal)) m = makes calm line asked change (Err refusal) f sizes asks m
+pub line_ends : {given : List Word} {first front : List ℕ} {ended : Bool} {before : Option (List ℕ)} {words : List Word} (calm line : ℕ) (asked : Asked) (change : Change) → calm ≡ change.reader_calm → IsFirst given first front ended before change.left_before words → line + length front ≡ length first → wish_of_words words ≡ Some asked → (outcome : Result Done Fault) → EndsBehind asked line front ended change outcome → Ends given (from_start before calm change) outcome
+line_ends calm line asked change same f sizes asks (Ok done) m = does calm line asked change (Ok done) f sizes asks m
+line_ends calm line asked change same f sizes asks (Err (Late refusal)) m = does calm line asked change (Err refusal) f sizes asks m
 line_ends calm line asked change same f sizes asks (Err (Early refusal)) s = stops calm line asked change refusal same f sizes asks s
 line_ends calm line asked change same f sizes asks (Err Usage) s = absurd s
 
@@ -161,3 +161,28 @@ unread given change got fault none read kept calm (inr (e, usage)) =
 pub keeps_same : (o : Option (List ℕ)) → Keeps o o
 keeps_same None = tt
 keeps_same (Some xs) = refl
+
+-- ---- words that were given
+
+pub many_words : (words : List (Bor (List ℕ))) → 1 < length words → has_words (map (λ (word : Bor (List ℕ)). word.now) words) ≡ true
+many_words [] h = absurd (omega arith)
+many_words (word ∷ []) h = absurd (omega arith)
+many_words (word ∷ more ∷ words) h = lt-ltb 1 _ (omega arith)
+
+reads_none : (o : Option (List ℕ)) → Consumes o o []
+reads_none None = tt
+reads_none (Some xs) = refl
+
+-- nothing was read, and they ask for nothing
+pub unasked : (given : List Word) (change : Change) (fault : Fault) → has_words given ≡ true → change.left ≡ change.left_before → change.held ≡ change.held_before → change.writer_faults ≡ change.writer_calm → (fault ≡ Early OutOfMemory) ⊎ ((fault ≡ Usage) × (wish_of_words given ≡ None)) → Ends given change (Err fault)
+unasked given change fault some unread untouched calm why =
+    let P : Option (List ℕ) → Type 0 = λ o. Consumes change.left_before o [] in
+    let Q : Option (List ℕ) → Type 0 = λ o. Keeps change.held_before o in
+    let read : Consumes change.left_before change.left [] = subst P (sym unread) (reads_none change.left_before) in
+    let kept : Keeps change.held_before change.held = subst Q (sym untouched) (keeps_same change.held_before) in
+    let E : Fault → Type 0 = λ f. Ends given change (Err f) in
+    let U : Bool → Type 0 = λ b. IsUsageBy b given [] change.left in
+    elim why [
+      | inl e ↦ subst E (sym e) (record { got = []; read = read; kept = kept; calm = calm; reason = tt })
+      | inr (e, none) ↦ subst E (sym e) (record { got = []; read = read; kept = kept; calm = calm; reason = subst U (sym some) none })
+    ]

@@ -2,18 +2,18 @@
 use Rattle.std.proofs.Common.{◌≡◌, ◌∙◌, ℕ, List, [], ◌∷◌, ◌++◌, filter, refl, sym, ap, Some, Bool, true, false, cond, Result, Ok, Err, append_assoc}
 use Rattle.fx_fixed.specs.Chain.{map_fault}
 use Rattle.fx_strike.specs.declared.refusal.Refusal.{Refusal}
-use Rattle.fx_strike.specs.declared.request.Report.{Report}
+use Rattle.fx_cli.specs.declared.done.Done.{Done}
 use Rattle.fx_cli.specs.declared.fault.Fault.TheVariants.{Late}
 use Rattle.fx_cli.specs.Words.{Asked}
 use Rattle.fx_cli.specs.Input.{has_bytes, words_of_line}
 use Rattle.fx_cli.specs.Parts.{parts_of}
-use Rattle.fx_cli.specs.Runs.{Change, Word, font_bytes}
-use Rattle.fx_cli.specs.Steps.{EndsText, LeavesFont}
+use Rattle.fx_cli.specs.Runs.{Change, Word, TaskLeaves, font_bytes}
+use Rattle.fx_cli.specs.Steps.{EndsText}
 
 -- what comes of a font's bytes ends the run
-pub text_made : (asked : Asked) (numbers text : List ℕ) (change : Change) (font : List ℕ) → font_bytes asked.hex text ≡ Some font → (answer : Result Report Refusal) → LeavesFont asked numbers font change answer → EndsText asked numbers text change (map_fault Late answer)
-text_made asked numbers text change font decoded (Ok report) leaves = record { font = font; decoded = decoded; leaves = leaves }
-text_made asked numbers text change font decoded (Err refusal) leaves = record { font = font; decoded = decoded; leaves = leaves }
+pub text_done : (asked : Asked) (numbers text : List ℕ) (change : Change) (font : List ℕ) → font_bytes asked.hex text ≡ Some font → (answer : Result Done Refusal) → TaskLeaves asked.task numbers font change.held_before change.held change.writer_calm change.writer_faults answer → EndsText asked numbers text change (map_fault Late answer)
+text_done asked numbers text change font decoded (Ok done) leaves = record { font = font; decoded = decoded; leaves = leaves }
+text_done asked numbers text change font decoded (Err refusal) leaves = record { font = font; decoded = decoded; leaves = leaves }
 
 -- ---- the words of a line
 

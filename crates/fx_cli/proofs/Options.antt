@@ -1,10 +1,10 @@
--- The options of `make`, as clap sees them.
-use Rattle.std.proofs.Common.{◌≡◌, ◌∙◌, ℕ, ◌<◌, List, [], ◌∷◌, length, refl, sym, ap, ap₂, Option, Some, None, Bool, true, false, Result, Ok, Err, ◌&&◌, ◌||◌, subst, ◌⊎◌, inr, IfOk, IfErr, option_map}
+-- The options of the commands, as clap sees them.
+use Rattle.std.proofs.Common.{◌≡◌, ◌∙◌, ℕ, ◌<◌, List, [], ◌∷◌, length, refl, sym, ap, ap₂, Option, Some, None, Bool, true, false, Result, Ok, Err, ◌&&◌, ◌||◌, subst, ◌⊎◌, inr, IfOk, IfErr, option_map, option_and_then}
 use Rattle.std.specs.Option.{ok_or}
 use Rattle.fx_strike.specs.declared.refusal.Refusal.TheVariants.{OutOfMemory}
 use Rattle.fx_cli.specs.declared.fault.Fault.{Fault}
 use Rattle.fx_cli.specs.declared.fault.Fault.TheVariants.{Usage, Early}
-use Rattle.fx_cli.specs.declared.words.Wish.{Wish}
+use Rattle.fx_cli.specs.declared.wish.Wish.{Wish}
 use Rattle.std.specs.Prelude.{nat_lt, if◌then◌else◌}
 use Rattle.std.specs.List.{list_all, list_any}
 use Rattle.std.specs.Result.{result_ok}
@@ -13,9 +13,9 @@ use Rattle.std.specs.Str.Parse.{AllDigits, IsNumeral, ParsesUnsigned, digits_val
 use Rattle.std.proofs.lemmas.Bool.{ltb-true, lt-ltb}
 use Rattle.clap.proofs.OnLiterals.{clap_on_literals}
 use Rattle.clap.proofs.WalkLemmas.{both}
-use Rattle.clap.specs.Words.{IsAmong, Kinds, Text, fault_of, is_simple, is_simple_and_free, matches_of}
+use Rattle.clap.specs.Words.{App, IsAmong, Kinds, Row, Text, fault_of, is_simple, is_simple_and_free, matches_of}
 use Rattle.clap.specs.declared.error.kind.ErrorKind.{ErrorKind}
-use Rattle.fx_cli.specs.Words.{Asked, is_bare, is_some_kind, make_app, seen, size_of, wish_of_make, wish_of_rows}
+use Rattle.fx_cli.specs.Words.{Asked, dump_app, is_bare, is_some_kind, make_app, rows_by, seen, size_of}
 
 pub make_is_simple : is_simple make_app ≡ true
 unfolding make_app clap_on_literals
@@ -24,6 +24,14 @@ make_is_simple = refl
 pub make_is_free : is_simple_and_free make_app ≡ true
 unfolding make_app clap_on_literals
 make_is_free = refl
+
+pub dump_is_simple : is_simple dump_app ≡ true
+unfolding dump_app clap_on_literals
+dump_is_simple = refl
+
+pub dump_is_free : is_simple_and_free dump_app ≡ true
+unfolding dump_app clap_on_literals
+dump_is_free = refl
 
 -- decimal digits, as a test
 tests_digits : (ds : List ℕ) → AllDigits 10 ds → list_all (λ d. nat_lt (digit_value d) 10) ds ≡ true
@@ -59,20 +67,17 @@ pub size_parsed : {E : Type 0} (text : List ℕ) (r : Result ℕ E) → ParsesUn
 size_parsed text (Ok n) h = ap (λ (k : ℕ). Some k) h.1 ∙ sym (size_is text ∙ ap (λ (b : Bool). sized b (digits_value 10 (without_leading_plus text))) (size_passes (without_leading_plus text) h.0.0 h.0.1))
 size_parsed text (Err e) h = sym (size_is text ∙ none_sized _ _ (λ passed. h (passed_size (without_leading_plus text) passed)))
 
--- ---- the words from `make` on
+-- ---- the values that words give a command's options
 
 pub among_some : (k : ErrorKind) (ks : Kinds) → IsAmong k ks → ks ≡ [] → ⊥
 among_some k ks h e = let P : Kinds → Type 0 = λ xs. IsAmong k xs in subst P e h
 
-abbrev chosen : Bool → Option Asked → Option Asked
-chosen b o = if b then None else o
+abbrev chosen : Bool → List Row → Option (List Row)
+chosen b rows = if b then None else Some rows
 
-abbrev is_refused : List Text → Bool
-is_refused words = list_any is_bare words || is_some_kind (fault_of make_app words)
-
-wish_of_make-is : (words : List Text) → wish_of_make words ≡ chosen (is_refused words) (wish_of_rows (matches_of make_app words))
-unfolding wish_of_make
-wish_of_make-is words = refl
+rows_by-is : (app : App) (words : List Text) → rows_by app words ≡ chosen (list_any is_bare words || is_some_kind (fault_of app words)) (matches_of app words)
+unfolding rows_by
+rows_by-is app words = refl
 
 or_true : (b : Bool) → b || true ≡ true
 or_true true = refl
@@ -82,19 +87,28 @@ length_some : (ks : Kinds) → (ks ≡ [] → ⊥) → is_some_kind ks ≡ true
 length_some [] h = absurd (h refl)
 length_some (k ∷ ks) h = refl
 
-pub wish_of_bare : (words : List Text) → list_any is_bare words ≡ true → wish_of_make words ≡ None
-wish_of_bare words bare = wish_of_make-is words ∙ ap (λ (b : Bool). chosen (b || is_some_kind (fault_of make_app words)) (wish_of_rows (matches_of make_app words))) bare
+pub rows_of_bare : (app : App) (words : List Text) → list_any is_bare words ≡ true → rows_by app words ≡ None
+rows_of_bare app words bare = rows_by-is app words ∙ ap (λ (b : Bool). chosen (b || is_some_kind (fault_of app words)) (matches_of app words)) bare
 
-pub wish_of_fault : (words : List Text) → (fault_of make_app words ≡ [] → ⊥) → wish_of_make words ≡ None
-wish_of_fault words fault =
-    wish_of_make-is words
-    ∙ ap (λ (b : Bool). chosen (list_any is_bare words || b) (wish_of_rows (matches_of make_app words))) (length_some (fault_of make_app words) fault)
-    ∙ ap (λ (b : Bool). chosen b (wish_of_rows (matches_of make_app words))) (or_true (list_any is_bare words))
+pub rows_of_fault : (app : App) (words : List Text) → (fault_of app words ≡ [] → ⊥) → rows_by app words ≡ None
+rows_of_fault app words fault =
+    rows_by-is app words
+    ∙ ap (λ (b : Bool). chosen (list_any is_bare words || b) (matches_of app words)) (length_some (fault_of app words) fault)
+    ∙ ap (λ (b : Bool). chosen b (matches_of app words)) (or_true (list_any is_bare words))
 
-pub wish_of_taken : (words : List Text) → list_any is_bare words ≡ false → fault_of make_app words ≡ [] → wish_of_make words ≡ wish_of_rows (matches_of make_app words)
-wish_of_taken words bare fault =
-    wish_of_make-is words
-    ∙ ap₂ (λ (b : Bool) (ks : Kinds). chosen (b || is_some_kind ks) (wish_of_rows (matches_of make_app words))) bare fault
+pub rows_of_taken : (app : App) (words : List Text) → list_any is_bare words ≡ false → fault_of app words ≡ [] → rows_by app words ≡ Some (matches_of app words)
+rows_of_taken app words bare fault =
+    rows_by-is app words
+    ∙ ap₂ (λ (b : Bool) (ks : Kinds). chosen (b || is_some_kind ks) (matches_of app words)) bare fault
+
+-- ---- what they ask for
+
+-- there are none, or these
+pub wish_of_none : (make : List Row → Option Asked) (rows : Option (List Row)) → rows ≡ None → option_and_then make rows ≡ None
+wish_of_none make rows e = ap (option_and_then make) e
+
+pub wish_of_some : (make : List Row → Option Asked) (rows : Option (List Row)) (values : List Row) (wish : Option Asked) → rows ≡ Some values → wish ≡ make values → option_and_then make rows ≡ wish
+wish_of_some make rows values wish e h = ap (option_and_then make) e ∙ sym h
 
 -- a wish, or a usage fault where there is none
 pub ok_wish : (asked : Option Asked) (wish : Option Wish) → asked ≡ option_map seen wish → IfOk (ok_or {E = Fault} wish Usage) (λ w. asked ≡ Some (seen w))

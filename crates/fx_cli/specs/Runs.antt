@@ -4,12 +4,14 @@ use Rattle.std.specs.Str.{IsUtf8}
 use Rattle.std.specs.Io.KnownBytes.{Consumes, IsAtEnd, Keeps}
 use Rattle.fx_strike.specs.declared.refusal.Refusal.{Refusal}
 use Rattle.fx_strike.specs.declared.refusal.Refusal.TheVariants.{BadChars, BadHex, InputTooLarge, OutOfMemory, ReadFailed}
-use Rattle.fx_strike.specs.declared.request.Report.{Report}
-use Rattle.fx_strike.specs.Strike.{plan_of}
+use Rattle.fx_strike.specs.Strike.{Plan, plan_of}
 use Rattle.fx_strike.specs.Headline.{Leaves}
+use Rattle.fx_strike.specs.Listings.{Lists, program_of}
+use Rattle.fx_cli.specs.declared.done.Done.{Done}
+use Rattle.fx_cli.specs.declared.done.Done.TheVariants.{Strike, Listing}
 use Rattle.fx_cli.specs.declared.fault.Fault.{Fault}
 use Rattle.fx_cli.specs.declared.fault.Fault.TheVariants.{Usage, Early, Late}
-use Rattle.fx_cli.specs.Words.{Asked, wish_of_words}
+use Rattle.fx_cli.specs.Words.{Asked, Task, strike, listing, StrikeWords, wish_of_words}
 use Rattle.fx_cli.specs.Chars.{numbers_of_list}
 use Rattle.fx_cli.specs.Input.{bytes_of_hex, line_of, rest_of, words_of_line}
 
@@ -32,9 +34,9 @@ pub record Change : Type 0 where
 abbrev pub has_words : List Word → Bool
 has_words words = nat_lt 1 (length words)
 
-abbrev pub program_of : List Word → Word
-program_of [] = codes "mkstrike"
-program_of (program ∷ words) = program
+abbrev pub called : List Word → Word
+called [] = codes "mkstrike"
+called (program ∷ words) = program
 
 -- the input's first line was read whole
 abbrev pub HasLine : List ℕ → Option (List ℕ) → Type 0
@@ -44,7 +46,7 @@ HasLine got left = (length (line_of got) < length got) ⊎ IsAtEnd left
 abbrev pub AreWordsBy : Bool → List Word → List ℕ → Option (List ℕ) → List Word → Type 0
 AreWordsBy true given got left words = words ≡ given
 AreWordsBy false given got left words =
-    HasLine got left × IsUtf8 (line_of got) × (length (line_of got) ≤ 4096) × (words ≡ program_of given ∷ words_of_line (line_of got))
+    HasLine got left × IsUtf8 (line_of got) × (length (line_of got) ≤ 4096) × (words ≡ called given ∷ words_of_line (line_of got))
 
 abbrev pub AreWords : List Word → List ℕ → Option (List ℕ) → List Word → Type 0
 AreWords given got left words = AreWordsBy (has_words given) given got left words
@@ -62,8 +64,26 @@ abbrev pub font_bytes : Bool → List ℕ → Option (List ℕ)
 font_bytes true text = bytes_of_hex text
 font_bytes false text = Some text
 
--- the words ask for a strike, the input was read whole, and the writer has what comes of that font and request
-pub record Makes (given : List Word) (change : Change) (answer : Result Report Refusal) : Type 0 where
+-- the characters that are asked for; a listing has none
+abbrev pub numbers_of : Task → Option (List ℕ)
+numbers_of (strike words) = numbers_of_list words.list
+numbers_of (listing what) = Some []
+
+-- the strike that the words ask for
+abbrev pub strike_by : StrikeWords → List ℕ → List ℕ → Result Plan Refusal
+strike_by words numbers font = plan_of font words.ppem words.name numbers (not words.unhinted)
+
+-- what a task leaves of a font's bytes: its strike, or the listing of a program of it
+abbrev pub TaskLeaves : Task → List ℕ → List ℕ → Option (List ℕ) → Option (List ℕ) → ℕ → ℕ → Result Done Refusal → Type 0
+TaskLeaves (strike words) numbers font old new calm after (Ok (Strike report)) = Leaves (strike_by words numbers font) old new calm after (Ok report)
+TaskLeaves (strike words) numbers font old new calm after (Ok Listing) = ⊥
+TaskLeaves (strike words) numbers font old new calm after (Err refusal) = Leaves (strike_by words numbers font) old new calm after (Err refusal)
+TaskLeaves (listing what) numbers font old new calm after (Ok (Strike report)) = ⊥
+TaskLeaves (listing what) numbers font old new calm after (Ok Listing) = Lists (program_of font what) old new calm after (Ok tt)
+TaskLeaves (listing what) numbers font old new calm after (Err refusal) = Lists (program_of font what) old new calm after (Err refusal)
+
+-- the words ask for something, the input was read whole, and the writer has what comes of that font and request
+pub record Does (given : List Word) (change : Change) (answer : Result Done Refusal) : Type 0 where
   pub input : List ℕ
   pub read : Consumes change.left_before change.left input
   pub whole : IsAtEnd change.left
@@ -73,26 +93,26 @@ pub record Makes (given : List Word) (change : Change) (answer : Result Report R
   pub asked : Asked
   pub asks : wish_of_words words ≡ Some asked
   pub numbers : List ℕ
-  pub listed : numbers_of_list asked.list ≡ Some numbers
+  pub listed : numbers_of asked.task ≡ Some numbers
   pub font : List ℕ
   pub decoded : font_bytes asked.hex (text_of given input) ≡ Some font
-  pub leaves : Leaves (plan_of font asked.ppem asked.name numbers (not asked.unhinted)) change.held_before change.held change.writer_calm change.writer_faults answer
+  pub leaves : TaskLeaves asked.task numbers font change.held_before change.held change.writer_calm change.writer_faults answer
 
 -- the words ask for nothing that there is
 abbrev pub IsUsageBy : Bool → List Word → List ℕ → Option (List ℕ) → Type 0
 IsUsageBy true given got left = wish_of_words given ≡ None
 IsUsageBy false given got left =
     (4096 < length (line_of got))
-    ⊎ (HasLine got left × (¬ (IsUtf8 (line_of got)) ⊎ (wish_of_words (program_of given ∷ words_of_line (line_of got)) ≡ None)))
+    ⊎ (HasLine got left × (¬ (IsUtf8 (line_of got)) ⊎ (wish_of_words (called given ∷ words_of_line (line_of got)) ≡ None)))
 
--- the words ask for a strike, of which P holds
+-- the words ask for something, of which P holds
 abbrev pub Asks : List Word → List ℕ → Option (List ℕ) → (Asked → Type 0) → Type 0
 Asks given got left P = (words : List Word) × (asked : Asked) × AreWords given got left words × (wish_of_words words ≡ Some asked) × P asked
 
--- why a run stopped before the strike
+-- why a run stopped before it came to that
 abbrev pub IsReason : List Word → List ℕ → Change → Fault → Type 0
 IsReason given got change Usage = IsUsageBy (has_words given) given got change.left
-IsReason given got change (Early BadChars) = Asks given got change.left (λ asked. numbers_of_list asked.list ≡ None)
+IsReason given got change (Early BadChars) = Asks given got change.left (λ asked. numbers_of asked.task ≡ None)
 IsReason given got change (Early ReadFailed) = change.reader_faults ≡ change.reader_calm + 1
 IsReason given got change (Early BadHex) = IsAtEnd change.left × Asks given got change.left (λ asked. font_bytes asked.hex (text_of given got) ≡ None)
 IsReason given got change (Early InputTooLarge) = 67108864 < length got
@@ -108,18 +128,18 @@ pub record Stops (given : List Word) (change : Change) (fault : Fault) : Type 0 
   pub reason : IsReason given got change fault
 
 -- how a run ends
-abbrev pub Ends : List Word → Change → Result Report Fault → Type 0
-Ends given change (Ok report) = Makes given change (Ok report)
-Ends given change (Err (Late refusal)) = Makes given change (Err refusal)
+abbrev pub Ends : List Word → Change → Result Done Fault → Type 0
+Ends given change (Ok done) = Does given change (Ok done)
+Ends given change (Err (Late refusal)) = Does given change (Err refusal)
 Ends given change (Err fault) = Stops given change fault
 
 -- the status: 0 done, 1 refused, 2 usage
-abbrev pub status_of : Result Report Fault → ℕ
-status_of (Ok report) = 0
+abbrev pub status_of : Result Done Fault → ℕ
+status_of (Ok done) = 0
 status_of (Err Usage) = 2
 status_of (Err _) = 1
 
 pub record Runs (given : List Word) (change : Change) (status : ℕ) : Type 0 where
-  pub outcome : Result Report Fault
+  pub outcome : Result Done Fault
   pub ends : Ends given change outcome
   pub told : status ≡ status_of outcome

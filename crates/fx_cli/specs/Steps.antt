@@ -1,57 +1,49 @@
 -- The steps of a run behind its words. The line of words had so many bytes with its end, and `front` stood behind it when the line was
 -- read, where the input may have ended.
-use Rattle.std.specs.Prelude.{◌≡◌, ◌⊎◌, ◌+◌, ◌<◌, ◌≤◌, ◌++◌, ℕ, Bool, true, not, List, [], length, Some, None, Result, Ok, Err}
+use Rattle.std.specs.Prelude.{◌≡◌, ◌⊎◌, ◌+◌, ◌<◌, ◌≤◌, ◌++◌, ℕ, Bool, true, List, [], length, Some, None, Result, Ok, Err}
 use Rattle.std.specs.Io.KnownBytes.{Consumes, IsAtEnd, Keeps}
 use Rattle.fx_strike.specs.declared.refusal.Refusal.{Refusal}
 use Rattle.fx_strike.specs.declared.refusal.Refusal.TheVariants.{BadChars, BadHex, InputTooLarge, OutOfMemory, ReadFailed}
-use Rattle.fx_strike.specs.declared.request.Report.{Report}
-use Rattle.fx_strike.specs.Strike.{plan_of}
-use Rattle.fx_strike.specs.Headline.{Leaves}
+use Rattle.fx_cli.specs.declared.done.Done.{Done}
 use Rattle.fx_cli.specs.declared.fault.Fault.{Fault}
 use Rattle.fx_cli.specs.declared.fault.Fault.TheVariants.{Usage, Early, Late}
 use Rattle.fx_cli.specs.Words.{Asked}
-use Rattle.fx_cli.specs.Chars.{numbers_of_list}
-use Rattle.fx_cli.specs.Runs.{Change, font_bytes}
+use Rattle.fx_cli.specs.Runs.{Change, TaskLeaves, font_bytes, numbers_of}
 
 -- the writer is as it was
 abbrev pub IsSpared : Change → Type 0
 IsSpared change = Keeps change.held_before change.held × (change.writer_faults ≡ change.writer_calm)
 
--- what comes of a font's bytes
-abbrev pub LeavesFont : Asked → List ℕ → List ℕ → Change → Result Report Refusal → Type 0
-LeavesFont asked numbers font change answer =
-    Leaves (plan_of font asked.ppem asked.name numbers (not asked.unhinted)) change.held_before change.held change.writer_calm change.writer_faults answer
-
 -- the font's text was decoded, and the writer has what comes of it
-pub record MakesText (asked : Asked) (numbers text : List ℕ) (change : Change) (answer : Result Report Refusal) : Type 0 where
+pub record DoesText (asked : Asked) (numbers text : List ℕ) (change : Change) (answer : Result Done Refusal) : Type 0 where
   pub font : List ℕ
   pub decoded : font_bytes asked.hex text ≡ Some font
-  pub leaves : LeavesFont asked numbers font change answer
+  pub leaves : TaskLeaves asked.task numbers font change.held_before change.held change.writer_calm change.writer_faults answer
 
 -- it was not
 pub record SparesText (asked : Asked) (text : List ℕ) (change : Change) (refusal : Refusal) : Type 0 where
   pub spared : IsSpared change
   pub reason : (refusal ≡ OutOfMemory) ⊎ ((refusal ≡ BadHex) × (font_bytes asked.hex text ≡ None))
 
-abbrev pub EndsText : Asked → List ℕ → List ℕ → Change → Result Report Fault → Type 0
-EndsText asked numbers text change (Ok report) = MakesText asked numbers text change (Ok report)
-EndsText asked numbers text change (Err (Late refusal)) = MakesText asked numbers text change (Err refusal)
+abbrev pub EndsText : Asked → List ℕ → List ℕ → Change → Result Done Fault → Type 0
+EndsText asked numbers text change (Ok done) = DoesText asked numbers text change (Ok done)
+EndsText asked numbers text change (Err (Late refusal)) = DoesText asked numbers text change (Err refusal)
 EndsText asked numbers text change (Err (Early refusal)) = SparesText asked text change refusal
 EndsText asked numbers text change (Err Usage) = ⊥
 
--- the list was read, the input was read on to its end, and its text made a strike
-pub record MakesBehind (asked : Asked) (line : ℕ) (front : List ℕ) (ended : Bool) (change : Change) (answer : Result Report Refusal) : Type 0 where
+-- the list was read, the input was read on to its end, and what was asked for was done with its text
+pub record DoesBehind (asked : Asked) (line : ℕ) (front : List ℕ) (ended : Bool) (change : Change) (answer : Result Done Refusal) : Type 0 where
   pub more : List ℕ
   pub read : Consumes change.left_before change.left more
   pub whole : IsAtEnd change.left
   pub rest : ended ≡ true → more ≡ []
   pub fits : line + length (front ++ more) ≤ 67108864
   pub numbers : List ℕ
-  pub listed : numbers_of_list asked.list ≡ Some numbers
-  pub made : MakesText asked numbers (front ++ more) change answer
+  pub listed : numbers_of asked.task ≡ Some numbers
+  pub made : DoesText asked numbers (front ++ more) change answer
 
 abbrev pub IsReasonBehind : Asked → ℕ → List ℕ → List ℕ → Change → Refusal → Type 0
-IsReasonBehind asked line front more change BadChars = numbers_of_list asked.list ≡ None
+IsReasonBehind asked line front more change BadChars = numbers_of asked.task ≡ None
 IsReasonBehind asked line front more change ReadFailed = change.reader_faults ≡ change.reader_calm + 1
 IsReasonBehind asked line front more change BadHex = IsAtEnd change.left × (font_bytes asked.hex (front ++ more) ≡ None)
 IsReasonBehind asked line front more change InputTooLarge = 67108864 < line + length (front ++ more)
@@ -65,8 +57,8 @@ pub record StopsBehind (asked : Asked) (line : ℕ) (front : List ℕ) (ended : 
   pub spared : IsSpared change
   pub reason : IsReasonBehind asked line front more change refusal
 
-abbrev pub EndsBehind : Asked → ℕ → List ℕ → Bool → Change → Result Report Fault → Type 0
-EndsBehind asked line front ended change (Ok report) = MakesBehind asked line front ended change (Ok report)
-EndsBehind asked line front ended change (Err (Late refusal)) = MakesBehind asked line front ended change (Err refusal)
+abbrev pub EndsBehind : Asked → ℕ → List ℕ → Bool → Change → Result Done Fault → Type 0
+EndsBehind asked line front ended change (Ok done) = DoesBehind asked line front ended change (Ok done)
+EndsBehind asked line front ended change (Err (Late refusal)) = DoesBehind asked line front ended change (Err refusal)
 EndsBehind asked line front ended change (Err (Early refusal)) = StopsBehind asked line front ended change refusal
 EndsBehind asked line front ended change (Err Usage) = ⊥

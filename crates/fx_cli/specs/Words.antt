@@ -1,5 +1,5 @@
 -- What the words of a command line ask for.
-use Rattle.std.specs.Prelude.{ℕ, Bool, true, false, List, [], ◌∷◌, length, codes, Option, Some, None, unwrap_or, option_map, if◌then◌else◌, nat_lt, drop, ◌&&◌, ◌||◌}
+use Rattle.std.specs.Prelude.{ℕ, Bool, true, false, List, [], ◌∷◌, length, codes, Option, Some, None, unwrap_or, option_map, option_and_then, if◌then◌else◌, nat_lt, drop, ◌&&◌, ◌||◌}
 use Rattle.std.specs.List.{list_all, list_any}
 use Rattle.std.specs.Str.{bytes_eq}
 use Rattle.std.specs.Char.{digit_value}
@@ -9,7 +9,11 @@ use Rattle.clap.specs.Simple.{App, new_app, new_rule, with_rule, matches_of}
 use Rattle.clap.specs.Faults.{fault_of}
 use Rattle.clap.specs.Kinds.{Kinds}
 use Rattle.clap.specs.declared.builder.action.ArgAction.TheVariants.{Set, SetTrue}
-use Rattle.fx_cli.specs.declared.words.Wish.{Wish}
+use Rattle.fx_strike.specs.declared.listing.Which.{Which}
+use Rattle.fx_strike.specs.declared.listing.Which.TheVariants.{Fpgm, Prep, Glyph}
+use Rattle.fx_cli.specs.declared.wish.Wish.{Wish}
+use Rattle.fx_cli.specs.declared.wish.Task as told
+use Rattle.fx_cli.specs.declared.wish.Task.TheVariants.{Strike, Listing}
 
 -- an option `--id VALUE`
 abbrev pub option_rule : Text → Rule
@@ -25,18 +29,36 @@ make_app = with_rule (with_rule (with_rule (with_rule (with_rule (new_app (codes
     (option_rule (codes "ppem"))) (option_rule (codes "chars"))) (option_rule (codes "name")))
     (flag_rule (codes "unhinted"))) (flag_rule (codes "hex"))
 
--- what is asked for: the size, the list of characters as text, the name, whether programs are left out, and whether the font is
--- hexadecimal text
-pub record Asked : Type 0 where
+-- the command `dump` with its options
+unfoldable pub dump_app : App
+dump_app = with_rule (with_rule (new_app (codes "dump")) (option_rule (codes "of"))) (flag_rule (codes "hex"))
+
+-- ---- what is asked for
+
+-- a strike: the size, the list of characters as text, the name, and whether programs are left out
+pub record StrikeWords : Type 0 where
   pub ppem : ℕ
   pub list : Text
   pub name : Text
   pub unhinted : Bool
+
+-- a strike, or the listing of a program
+pub data Task : Type 0 where
+  strike : StrikeWords → Task
+  listing : Which → Task
+
+-- a task, and whether the font is hexadecimal text
+pub record Asked : Type 0 where
+  pub task : Task
   pub hex : Bool
 
 -- what the program holds of it
+abbrev pub seen_task : told.Task → Task
+seen_task (Strike w) = strike (record { ppem = w.ppem; list = w.list.now; name = w.name.now; unhinted = w.unhinted })
+seen_task (Listing what) = listing what
+
 abbrev pub seen : Wish → Asked
-seen wish = record { ppem = wish.ppem; list = wish.list.now; name = wish.name.now; unhinted = wish.unhinted; hex = wish.hex }
+seen wish = record { task = seen_task wish.task; hex = wish.hex }
 
 -- a whole number from 0 to 65535 in decimal digits
 unfoldable pub size_of : Text → Option ℕ
@@ -53,21 +75,31 @@ is_true (Some text) = bytes_eq text (codes "true")
 abbrev pub is_given : Text → List Row → Bool
 is_given id rows = is_true (first_of id rows)
 
--- what the values of the options ask for: the size and the list have to be there
-abbrev pub wish_by : Option Text → Option Text → Option Text → Bool → Bool → Option Asked
-wish_by None list name unhinted hex = None
-wish_by (Some size) None name unhinted hex = None
-wish_by (Some size) (Some list) name unhinted hex = option_map (λ ppem. record {
-  ppem = ppem;
-  list = list;
-  name = unwrap_or name (codes "strike");
-  unhinted = unhinted;
+-- what the values of `make`'s options ask for: the size and the list have to be there
+abbrev pub make_by : Option Text → Option Text → Option Text → Bool → Bool → Option Asked
+make_by None list name unhinted hex = None
+make_by (Some size) None name unhinted hex = None
+make_by (Some size) (Some list) name unhinted hex = option_map (λ ppem. record {
+  task = strike (record { ppem = ppem; list = list; name = unwrap_or name (codes "strike"); unhinted = unhinted });
   hex = hex;
 }) (size_of size)
 
-abbrev pub wish_of_rows : List Row → Option Asked
-wish_of_rows rows = wish_by (first_of (codes "ppem") rows) (first_of (codes "chars") rows) (first_of (codes "name") rows)
+abbrev pub make_of_rows : List Row → Option Asked
+make_of_rows rows = make_by (first_of (codes "ppem") rows) (first_of (codes "chars") rows) (first_of (codes "name") rows)
     (is_given (codes "unhinted") rows) (is_given (codes "hex") rows)
+
+-- a program's name: `fpgm`, `prep`, or the number of a glyph
+abbrev pub which_of : Text → Option Which
+which_of text = if bytes_eq text (codes "fpgm") then Some Fpgm else (if bytes_eq text (codes "prep") then Some Prep
+    else option_map Glyph (size_of text))
+
+-- what the values of `dump`'s options ask for: the program has to be named
+abbrev pub dump_by : Option Text → Bool → Option Asked
+dump_by None hex = None
+dump_by (Some name) hex = option_map (λ what. record { task = listing what; hex = hex }) (which_of name)
+
+abbrev pub dump_of_rows : List Row → Option Asked
+dump_of_rows rows = dump_by (first_of (codes "of") rows) (is_given (codes "hex") rows)
 
 -- a word of hyphens alone
 abbrev pub is_bare : Text → Bool
@@ -78,15 +110,24 @@ abbrev pub is_some_kind : Kinds → Bool
 is_some_kind [] = false
 is_some_kind (kind ∷ kinds) = true
 
--- the words from `make` on, by clap
-unfoldable pub wish_of_make : List Text → Option Asked
-wish_of_make words = if list_any is_bare words || is_some_kind (fault_of make_app words) then None
-    else wish_of_rows (matches_of make_app words)
+-- the values that words give a command's options, by clap
+unfoldable pub rows_by : App → List Text → Option (List Row)
+rows_by app words = if list_any is_bare words || is_some_kind (fault_of app words) then None else Some (matches_of app words)
 
-abbrev pub is_make : List Text → Bool
-is_make [] = false
-is_make (word ∷ words) = bytes_eq word (codes "make")
+-- the words from a command's name on
+abbrev pub wish_of_make : List Text → Option Asked
+wish_of_make words = option_and_then make_of_rows (rows_by make_app words)
+
+abbrev pub wish_of_dump : List Text → Option Asked
+wish_of_dump words = option_and_then dump_of_rows (rows_by dump_app words)
+
+-- the first word is the name
+abbrev pub is_command : Text → List Text → Bool
+is_command name [] = false
+is_command name (word ∷ words) = bytes_eq word name
 
 -- the words of a command line, its program's name first
 abbrev pub wish_of_words : List Text → Option Asked
-wish_of_words words = if is_make (drop 1 words) then wish_of_make (drop 1 words) else None
+wish_of_words words =
+    if is_command (codes "make") (drop 1 words) then wish_of_make (drop 1 words)
+    else (if is_command (codes "dump") (drop 1 words) then wish_of_dump (drop 1 words) else None)

@@ -11,9 +11,9 @@ use std::alloc::{AllocError, AllocFailed};
 pub enum Fault {
     /// The words ask for nothing that there is.
     Usage,
-    /// A refusal before the strike was begun.
+    /// A refusal before a strike or a listing was begun.
     Early(Refusal),
-    /// A refusal of the strike.
+    /// A refusal of the strike or of the listing.
     Late(Refusal),
 }
 

@@ -2,6 +2,7 @@
 ghost use Rattle.std.specs.Prelude.{◌≡◌, ◌<◌, ◌^◌};
 ghost use Rattle.fx_cli.specs.Runs.{status_of};
 
+use super::done::Done;
 use super::fault::Fault;
 use fx_fixed::{Sink, put_all};
 use fx_strike::{Refusal, Report};
@@ -34,15 +35,16 @@ fn refused<E: Sink>(err: &mut E, refusal: Refusal) -> u8
 }
 
 // Writes the line of how a run ended, and answers the status.
-pub fn status<E: Sink>(err: &mut E, outcome: &Result<Report, Fault>) -> u8
+pub fn status<E: Sink>(err: &mut E, outcome: &Result<Done, Fault>) -> u8
     requires { E.fault_count err.old < 2 ^ 63 }
     ensures { result ≡ status_of outcome.now }
 {
     match outcome {
-        Ok(report) => {
+        Ok(Done::Strike(report)) => {
             put_report(err, report);
             0
         }
+        Ok(Done::Listing) => 0,
         Err(Fault::Usage) => usage(err),
         Err(Fault::Early(refusal)) | Err(Fault::Late(refusal)) => refused(err, *refusal),
     }

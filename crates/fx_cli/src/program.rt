@@ -1,24 +1,27 @@
 // A run of the program.
-ghost use Rattle.std.specs.Prelude.{◌≡◌, ◌==◌, ◌∷◌, ◌+◌, ◌<◌, ◌≤◌, ◌^◌, length, map, not, true, IfOk};
+ghost use Rattle.std.specs.Prelude.{◌≡◌, ◌⊎◌, ◌==◌, ◌∷◌, ◌+◌, ◌<◌, ◌≤◌, ◌^◌, length, map, not, true, IfOk, IfErr, None, Some};
 ghost use Rattle.std.specs.List.{position_or_len};
 ghost use Rattle.std.specs.Io.KnownBytes.{IsAtEnd};
 ghost use Rattle.fx_fixed.specs.Chain.{map_fault};
 ghost use Rattle.fx_strike.specs.Strike.{plan_of};
 ghost use Rattle.fx_strike.specs.Headline.{Leaves};
-ghost use Rattle.fx_cli.specs.Words.{seen};
+ghost use Rattle.fx_strike.specs.Listings.{Lists, program_of};
+ghost use Rattle.fx_cli.specs.Words.{seen, seen_task};
 ghost use Rattle.fx_cli.specs.Input.{line_of, rest_of, words_of_line};
-ghost use Rattle.fx_cli.specs.Runs.{Ends, Runs, program_of};
+ghost use Rattle.fx_cli.specs.Runs.{Ends, Runs, TaskLeaves, called, numbers_of};
 ghost use Rattle.fx_cli.specs.Steps.{EndsBehind, EndsText};
 
 use super::chars::parse_chars;
+use super::done::Done;
 use super::fault::Fault;
 use super::hexadecimal::decode_hex;
 use super::input::{LINE_ROOM, read_line, read_on};
 use super::lines::status;
 use super::parts::first_part;
-use super::words::{Wish, read};
+use super::wish::{StrikeWords, Task, Wish};
+use super::words::read;
 use fx_fixed::{Sink, Source};
-use fx_strike::{Refusal, Report, Request, make_strike};
+use fx_strike::{Refusal, Report, Request, Which, listing_of, make_strike};
 use std::alloc::{AllocError, Global};
 
 const ROOM: usize = 32_768;
@@ -50,7 +53,7 @@ fn run_words<R: Source, O: Sink>(
     words: &[&str],
     reader: &mut R,
     out: &mut O,
-) -> Result<Report, Fault>
+) -> Result<Done, Fault>
     requires reader { R.fault_count reader.old < 2 ^ 63 }
     requires out { O.fault_count out.old < 2 ^ 63 }
     requires given { 1 < length words.now }
@@ -66,7 +69,7 @@ fn run_line<R: Source, O: Sink>(
     words: &[&str],
     reader: &mut R,
     out: &mut O,
-) -> Result<Report, Fault>
+) -> Result<Done, Fault>
     requires reader { R.fault_count reader.old < 2 ^ 63 }
     requires out { O.fault_count out.old < 2 ^ 63 }
     requires given { length words.now ≤ 1 }
@@ -85,9 +88,9 @@ fn run_line<R: Source, O: Sink>(
     run_wish(alloc, &wish, reader, filled - text.len(), text, ended, out)
 }
 
-// The program's name.
+// What the program is called.
 fn program_name<'a>(words: &[&'a str]) -> &'a str
-    ensures { result.now ≡ program_of (map (λ word. word.now) words.now) }
+    ensures { result.now ≡ called (map (λ word. word.now) words.now) }
 {
     match words.first() {
         Some(program) => program,
@@ -140,64 +143,106 @@ fn run_wish<R: Source, O: Sink>(
     front: &[u8],
     ended: bool,
     out: &mut O,
-) -> Result<Report, Fault>
+) -> Result<Done, Fault>
     requires reader { R.fault_count reader.old < 2 ^ 63 }
     requires out { O.fault_count out.old < 2 ^ 63 }
     requires front { line + length front.now ≤ 67108864 }
     requires ended { ended ≡ true → IsAtEnd (R.left reader.old) }
     ensures { EndsBehind (seen wish.now) line front.now ended (record { left_before = R.left reader.old; left = R.left reader.new; reader_calm = R.fault_count reader.old; reader_faults = R.fault_count reader.new; held_before = O.held out.old; held = O.held out.new; writer_calm = O.fault_count out.old; writer_faults = O.fault_count out.new }) result }
 {
-    let chars = parse_chars(alloc, wish.list)?;
+    let chars = numbers_of(alloc, &wish.task)?;
     let mut room = [0u8; ROOM];
     let input = read_on(alloc, reader, &mut room, line, front, ended)?;
-    make(alloc, wish, &chars, &input, out)
+    run_text(alloc, wish, &chars, &input, out)
 }
 
-// Makes the strike that the words ask for of a font's text.
-fn make<O: Sink>(
+// The characters that a task asks for; a listing has none.
+fn numbers_of(alloc: Global, task: &Task<'_>) -> Result<Vec<u32>, Refusal>
+    ensures numbers { IfOk result (λ chars. numbers_of (seen_task task.now) ≡ Some chars.items) }
+    ensures refused { IfErr result (λ refusal. (refusal ≡ Refusal.OutOfMemory) ⊎ ((refusal ≡ Refusal.BadChars) × (numbers_of (seen_task task.now) ≡ None))) }
+{
+    match task {
+        Task::Strike(words) => parse_chars(alloc, words.list),
+        Task::Listing(_) => Ok(Vec::new(alloc)),
+    }
+}
+
+// Does what the words ask for with a font's text.
+fn run_text<O: Sink>(
     alloc: Global,
     wish: &Wish<'_>,
     chars: &[u32],
     text: &[u8],
     out: &mut O,
-) -> Result<Report, Fault>
+) -> Result<Done, Fault>
     requires { O.fault_count out.old < 2 ^ 63 }
     ensures { EndsText (seen wish.now) chars.now text.now (record { left_before = None; left = None; reader_calm = 0; reader_faults = 0; held_before = O.held out.old; held = O.held out.new; writer_calm = O.fault_count out.old; writer_faults = O.fault_count out.new }) result }
 {
     if wish.hex {
         let font = decode_hex(alloc, text)?;
-        late(put_strike(alloc, wish, chars, &font, out))
+        late(run_task(alloc, &wish.task, chars, &font, out))
     } else {
-        late(put_strike(alloc, wish, chars, text, out))
+        late(run_task(alloc, &wish.task, chars, text, out))
+    }
+}
+
+// Does a task with a font's bytes.
+fn run_task<O: Sink>(
+    alloc: Global,
+    task: &Task<'_>,
+    chars: &[u32],
+    font: &[u8],
+    out: &mut O,
+) -> Result<Done, Refusal>
+    requires { O.fault_count out.old < 2 ^ 63 }
+    ensures { TaskLeaves (seen_task task.now) chars.now font.now (O.held out.old) (O.held out.new) (O.fault_count out.old) (O.fault_count out.new) result }
+{
+    match task {
+        Task::Strike(words) => match put_strike(alloc, words, chars, font, out) {
+            Ok(report) => Ok(Done::Strike(report)),
+            Err(refusal) => Err(refusal),
+        },
+        Task::Listing(what) => match put_listing(font, *what, out) {
+            Ok(()) => Ok(Done::Listing),
+            Err(refusal) => Err(refusal),
+        },
     }
 }
 
 // Makes the strike of a font's bytes.
 fn put_strike<O: Sink>(
     alloc: Global,
-    wish: &Wish<'_>,
+    words: &StrikeWords<'_>,
     chars: &[u32],
     font: &[u8],
     out: &mut O,
 ) -> Result<Report, Refusal>
     requires { O.fault_count out.old < 2 ^ 63 }
-    ensures { Leaves (plan_of font.now wish.now.ppem wish.now.name.now chars.now (not wish.now.unhinted)) (O.held out.old) (O.held out.new) (O.fault_count out.old) (O.fault_count out.new) result }
+    ensures { Leaves (plan_of font.now words.now.ppem words.now.name.now chars.now (not words.now.unhinted)) (O.held out.old) (O.held out.new) (O.fault_count out.old) (O.fault_count out.new) result }
 {
     let request = Request {
-        ppem: wish.ppem,
-        name: wish.name,
+        ppem: words.ppem,
+        name: words.name,
         chars,
-        hinting: !wish.unhinted,
+        hinting: !words.unhinted,
     };
     make_strike(alloc, font, &request, out)
 }
 
-// An answer of the strike as the end of a run.
-fn late(answer: Result<Report, Refusal>) -> Result<Report, Fault>
+// Lists a program of a font's bytes.
+fn put_listing<O: Sink>(font: &[u8], what: Which, out: &mut O) -> Result<(), Refusal>
+    requires { O.fault_count out.old < 2 ^ 63 }
+    ensures { Lists (program_of font.now what) (O.held out.old) (O.held out.new) (O.fault_count out.old) (O.fault_count out.new) result }
+{
+    listing_of(font, what, out)
+}
+
+// A task's answer as the end of a run.
+fn late(answer: Result<Done, Refusal>) -> Result<Done, Fault>
     ensures { result ≡ map_fault Fault.Late answer }
 {
     match answer {
-        Ok(report) => Ok(report),
+        Ok(done) => Ok(done),
         Err(refusal) => Err(Fault::Late(refusal)),
     }
 }

@@ -1,5 +1,6 @@
 ghost use Rattle.std.specs.Prelude.{◌<◌, ◌^◌, None};
 
+use super::done::Done;
 use super::fault::Fault;
 use super::lines::status;
 use super::*;
@@ -102,7 +103,19 @@ fn words(rt: HostRuntime) -> Result<(), Fail> {
         "mkstrike|make|--chars|41",
         "mkstrike|--ppem|0|--chars|41",
         "mkstrike|show|--ppem|16|--char|41",
-        "mkstrike|dump|--of|prep",
+        "mkstrike|dump",
+        "mkstrike|dump|--of",
+        "mkstrike|dump|--of|glyf",
+        "mkstrike|dump|--of|",
+        "mkstrike|dump|--of|65536",
+        "mkstrike|dump|--of|3A",
+        "mkstrike|dump|--of|prep|--of|prep",
+        "mkstrike|dump|--of|prep|more",
+        "mkstrike|dump|--of|prep|--ppem|16",
+        "mkstrike|dump|--of|prep|-",
+        "mkstrike|dump|prep",
+        "mkstrike|dump|--help",
+        "mkstrike|help|dump",
         "mkstrike|make|--ppem|0|--chars|41|--ppem|0",
         "mkstrike|make|--ppem|0|--chars|41|--hex|--hex",
         "mkstrike|make|--ppem|0|--chars|41|more",
@@ -325,11 +338,14 @@ fn other_lines(rt: HostRuntime) -> Result<(), Fail> {
         steps: u64::MAX,
     };
     let mut err = MemorySink::new(rt.alloc(), 256, Limits::NONE)?;
-    assert_eq!(rt; status(&mut err, &Ok(report)), 0);
+    assert_eq!(rt; status(&mut err, &Ok(Done::Strike(report))), 0);
     assert_eq!(rt;
         err.bytes(),
         b"mkstrike: glyphs 4294967295 missing 2 strays 18446744073709551615 steps 18446744073709551615\n".as_slice()
     );
+    let mut err = MemorySink::new(rt.alloc(), 256, Limits::NONE)?;
+    assert_eq!(rt; status(&mut err, &Ok(Done::Listing)), 0);
+    assert!(rt; err.bytes().is_empty());
     let mut err = MemorySink::new(rt.alloc(), 256, Limits::NONE)?;
     assert_eq!(rt; usage(&mut err), 2);
     assert_eq!(rt; err.bytes(), USAGE);
@@ -428,6 +444,60 @@ fn strikes(rt: HostRuntime) -> Result<(), Fail> {
         let ended = run_in_memory(alloc, words, font, Limits::NONE)?;
         assert!(rt; ended.is(1, line), "{words}");
     }
+    Ok(())
+}
+
+// Listings of programs that are not there, and of a glyph that is not.
+#[test]
+fn listings(rt: HostRuntime) -> Result<(), Fail> {
+    let alloc = rt.alloc();
+    for words in [
+        "mkstrike|dump|--hex|--of|fpgm",
+        "mkstrike|dump|--of=prep|--hex",
+        "mkstrike|dump|--of|00003|--hex",
+    ] {
+        assert!(rt;
+            run_in_memory(alloc, words, FONT, Limits::NONE)?.is(0, b""),
+            "{words}"
+        );
+    }
+    for (words, font, line) in [
+        (
+            "mkstrike|dump|--of|4|--hex",
+            FONT,
+            b"mkstrike: 24 BadGlyphNumber 4\n".as_slice(),
+        ),
+        (
+            "mkstrike|dump|--of|prep|--hex",
+            b"4",
+            b"mkstrike: 72 BadHex\n".as_slice(),
+        ),
+        (
+            "mkstrike|dump|--of|prep",
+            FONT,
+            b"mkstrike: 10 NotTrueType\n".as_slice(),
+        ),
+        (
+            "mkstrike",
+            b"dump --of 65535",
+            b"mkstrike: 10 NotTrueType\n".as_slice(),
+        ),
+    ] {
+        assert!(rt;
+            run_in_memory(alloc, words, font, Limits::NONE)?.is(1, line),
+            "{words}"
+        );
+    }
+    let mut broken = MemorySource::new(
+        FONT,
+        Limits {
+            bytes: 10,
+            ..Limits::NONE
+        },
+    );
+    assert!(rt;
+        run_on(alloc, "mkstrike|dump|--of|prep", &mut broken)?.is(1, b"mkstrike: 71 ReadFailed\n")
+    );
     Ok(())
 }
 

@@ -1,25 +1,16 @@
 // The words of a command line.
-ghost use Rattle.std.specs.Prelude.{◌≡◌, ◌⊎◌, ◌==◌, ◌||◌, Bool, None, Some, [], ◌≢◌, codes, length, map, option_map, IfOk, IfErr, IfSome, IfNone, false};
-ghost use Rattle.std.specs.List.{list_any};
+ghost use Rattle.std.specs.Prelude.{◌≡◌, ◌⊎◌, None, Some, codes, map, option_map, IfOk, IfErr};
 ghost use Rattle.std.specs.Str.{bytes_eq};
-ghost use Rattle.clap.specs.Words.{app_of, fault_of, first_of, found_of, matches_of, rows_of, rule_of};
-ghost use Rattle.fx_cli.specs.Words.{flag_rule, is_bare, is_given, is_make, make_app, option_rule, seen, size_of, wish_by, wish_of_make, wish_of_rows, wish_of_words};
+ghost use Rattle.clap.specs.Words.{found_of, rows_of};
+ghost use Rattle.fx_cli.specs.Words.{dump_by, dump_of_rows, is_command, make_by, make_of_rows, seen, which_of, wish_of_dump, wish_of_make, wish_of_words};
 
+use super::commands::{dump_command, make_command};
 use super::fault::Fault;
-use clap::error::ErrorKind;
-use clap::{Arg, ArgAction, ArgMatches, Command};
-use fx_strike::Refusal;
-use std::alloc::{AllocError, Global};
-
-/// What the words ask for.
-#[derive(Clone, Copy)]
-pub struct Wish<'a> {
-    pub ppem: u16,
-    pub list: &'a str,
-    pub name: &'a str,
-    pub unhinted: bool,
-    pub hex: bool,
-}
+use super::values::{is_given, matches, size_of, value};
+use super::wish::{StrikeWords, Task, Wish};
+use clap::ArgMatches;
+use fx_strike::{Refusal, Which};
+use std::alloc::Global;
 
 // Reads the words, of which the first is the program's name.
 pub fn read<'a>(alloc: Global, words: &'a [&'a str]) -> Result<Wish<'a>, Fault>
@@ -27,17 +18,18 @@ pub fn read<'a>(alloc: Global, words: &'a [&'a str]) -> Result<Wish<'a>, Fault>
     ensures fault { IfErr result (λ fault. (fault ≡ Fault.Early Refusal.OutOfMemory) ⊎ ((fault ≡ Fault.Usage) × (wish_of_words (map (λ word. word.now) words.entry.now) ≡ None))) }
 {
     match words.split_first() {
-        Some((_, rest)) if is_make(rest) => read_make(alloc, rest),
+        Some((_, rest)) if is_command("make", rest) => read_make(alloc, rest),
+        Some((_, rest)) if is_command("dump", rest) => read_dump(alloc, rest),
         _ => Err(Fault::Usage),
     }
 }
 
-// The first word is `make`.
-fn is_make(words: &[&str]) -> bool
-    ensures { result ≡ is_make (map (λ word. word.now) words.now) }
+// The first word is this one.
+fn is_command(name: &str, words: &[&str]) -> bool
+    ensures { result ≡ is_command name.now (map (λ word. word.now) words.now) }
 {
     match words.first() {
-        Some(word) => *word == "make",
+        Some(word) => *word == name,
         None => false,
     }
 }
@@ -47,59 +39,24 @@ fn read_make<'a>(alloc: Global, words: &'a [&'a str]) -> Result<Wish<'a>, Fault>
     ensures wish { IfOk result (λ wish. wish_of_make (map (λ word. word.now) words.entry.now) ≡ Some (seen wish)) }
     ensures fault { IfErr result (λ fault. (fault ≡ Fault.Early Refusal.OutOfMemory) ⊎ ((fault ≡ Fault.Usage) × (wish_of_make (map (λ word. word.now) words.entry.now) ≡ None))) }
 {
-    if has_bare(words) {
-        return Err(Fault::Usage);
-    }
-    let matches = matches(alloc, words)?;
-    wish_of(&matches).ok_or(Fault::Usage)
+    let matches = matches(make_command(alloc)?, words)?;
+    make_of(&matches).ok_or(Fault::Usage)
 }
 
-// Some word is of hyphens alone.
-fn has_bare(words: &[&str]) -> bool
-    ensures { result ≡ list_any is_bare (map (λ word. word.now) words.now) }
+// Reads the words from `dump` on.
+fn read_dump<'a>(alloc: Global, words: &'a [&'a str]) -> Result<Wish<'a>, Fault>
+    ensures wish { IfOk result (λ wish. wish_of_dump (map (λ word. word.now) words.entry.now) ≡ Some (seen wish)) }
+    ensures fault { IfErr result (λ fault. (fault ≡ Fault.Early Refusal.OutOfMemory) ⊎ ((fault ≡ Fault.Usage) × (wish_of_dump (map (λ word. word.now) words.entry.now) ≡ None))) }
 {
-    'words: for word in words {
-        if is_bare(word) {
-            return true;
-        }
-    }
-    false
+    let matches = matches(dump_command(alloc)?, words)?;
+    dump_of(&matches).ok_or(Fault::Usage)
 }
 
-// A word of hyphens alone, which clap would take.
-fn is_bare(word: &str) -> bool
-    ensures { result ≡ is_bare word.now }
+// What the values of `make` ask for.
+fn make_of<'a>(matches: &ArgMatches<'a>) -> Option<Wish<'a>>
+    ensures { option_map seen result ≡ make_of_rows (rows_of (found_of matches.now)) }
 {
-    word == "-" || word == "--"
-}
-
-// The values of the options.
-fn matches<'a>(alloc: Global, words: &'a [&'a str]) -> Result<ArgMatches<'a>, Fault>
-    ensures taken { IfOk result (λ m. (fault_of make_app (map (λ word. word.now) words.entry.now) ≡ []) × (rows_of (found_of m) ≡ matches_of make_app (map (λ word. word.now) words.entry.now))) }
-    ensures refused { IfErr result (λ fault. (fault ≡ Fault.Early Refusal.OutOfMemory) ⊎ ((fault ≡ Fault.Usage) × (fault_of make_app (map (λ word. word.now) words.entry.now) ≢ []))) }
-{
-    match make_command(alloc)?.try_get_matches_from(words) {
-        Ok(matches) => Ok(matches),
-        Err(error) => Err(fault_of(error.kind())),
-    }
-}
-
-// The fault of words that clap refuses.
-fn fault_of(kind: ErrorKind) -> Fault
-    ensures memory { kind ≡ ErrorKind.OutOfMemory → result ≡ Fault.Early Refusal.OutOfMemory }
-    ensures cases { (result ≡ Fault.Early Refusal.OutOfMemory) ⊎ (result ≡ Fault.Usage) }
-{
-    match kind {
-        ErrorKind::OutOfMemory => Fault::Early(Refusal::OutOfMemory),
-        _ => Fault::Usage,
-    }
-}
-
-// What the values ask for.
-fn wish_of<'a>(matches: &ArgMatches<'a>) -> Option<Wish<'a>>
-    ensures { option_map seen result ≡ wish_of_rows (rows_of (found_of matches.now)) }
-{
-    wish_by(
+    make_by(
         value(matches, "ppem"),
         value(matches, "chars"),
         value(matches, "name"),
@@ -109,72 +66,54 @@ fn wish_of<'a>(matches: &ArgMatches<'a>) -> Option<Wish<'a>>
 }
 
 // The same of the values one by one.
-fn wish_by<'a>(
+fn make_by<'a>(
     ppem: Option<&'a str>,
     list: Option<&'a str>,
     name: Option<&'a str>,
     unhinted: bool,
     hex: bool,
 ) -> Option<Wish<'a>>
-    ensures { option_map seen result ≡ wish_by (option_map (λ text. text.now) ppem.entry) (option_map (λ text. text.now) list.entry) (option_map (λ text. text.now) name.entry) unhinted hex }
+    ensures { option_map seen result ≡ make_by (option_map (λ text. text.now) ppem.entry) (option_map (λ text. text.now) list.entry) (option_map (λ text. text.now) name.entry) unhinted hex }
 {
     let ppem = size_of(ppem?)?;
     let list = list?;
-    Some(Wish {
+    let words = StrikeWords {
         ppem,
         list,
         name: name.unwrap_or("strike"),
         unhinted,
+    };
+    Some(Wish {
+        task: Task::Strike(words),
         hex,
     })
 }
 
-// An option's value.
-fn value<'a>(matches: &ArgMatches<'a>, id: &str) -> Option<&'a str>
-    ensures { option_map (λ text. text.now) result ≡ first_of id.now (rows_of (found_of matches.now)) }
+// What the values of `dump` ask for.
+fn dump_of<'a>(matches: &ArgMatches<'a>) -> Option<Wish<'a>>
+    ensures { option_map seen result ≡ dump_of_rows (rows_of (found_of matches.now)) }
 {
-    matches.get_str(id)
+    dump_by(value(matches, "of"), is_given(matches, "hex"))
 }
 
-// A whole number from 0 to 65535.
-fn size_of(text: &str) -> Option<u16>
-    ensures { result ≡ size_of text.now }
+// The same of the values one by one.
+fn dump_by<'a>(name: Option<&str>, hex: bool) -> Option<Wish<'a>>
+    ensures { option_map seen result ≡ dump_by (option_map (λ text. text.now) name.entry) hex }
 {
-    text.parse::<u16>().ok()
+    let what = which_of(name?)?;
+    Some(Wish {
+        task: Task::Listing(what),
+        hex,
+    })
 }
 
-// A flag was given.
-fn is_given(matches: &ArgMatches<'_>, id: &str) -> bool
-    ensures { result ≡ is_given id.now (rows_of (found_of matches.now)) }
+// The program of a name.
+fn which_of(name: &str) -> Option<Which>
+    ensures { result ≡ which_of name.now }
 {
-    match value(matches, id) {
-        Some(text) => text == "true",
-        None => false,
+    match name {
+        "fpgm" => Some(Which::Fpgm),
+        "prep" => Some(Which::Prep),
+        _ => size_of(name).map(Which::Glyph),
     }
-}
-
-// `make` with its options.
-fn make_command<'a>(alloc: Global) -> Result<Command<'a>, AllocError>
-    ensures { IfOk result (λ command. app_of command ≡ make_app) }
-{
-    Command::new(alloc, "make")
-        .arg(option(alloc, "ppem"))?
-        .arg(option(alloc, "chars"))?
-        .arg(option(alloc, "name"))?
-        .arg(flag(alloc, "unhinted"))?
-        .arg(flag(alloc, "hex"))
-}
-
-fn option<'a>(alloc: Global, id: &'a str) -> Arg<'a>
-    ensures rule { rule_of result ≡ option_rule id.entry.now }
-    ensures local { result.global ≡ false }
-{
-    Arg::new(alloc, id).long(id).action(ArgAction::Set)
-}
-
-fn flag<'a>(alloc: Global, id: &'a str) -> Arg<'a>
-    ensures rule { rule_of result ≡ flag_rule id.entry.now }
-    ensures local { result.global ≡ false }
-{
-    Arg::new(alloc, id).long(id).action(ArgAction::SetTrue)
 }

@@ -12,7 +12,8 @@ use Rattle.fx_winding.specs.declared.frame.Frame.{Frame}
 use Rattle.fx_contour.specs.declared.fault.ContourFault.{ContourFault}
 use Rattle.fx_contour.specs.declared.fault.ContourFault.TheVariants.{TooFar, TooLarge}
 use Rattle.fx_contour.proofs.Framed.{frame_not_too_large}
-use Rattle.fx_winding.specs.Area.{Place, IsWithin}
+use Rattle.fx_fixed.specs.Ranges.{IsWithin}
+use Rattle.fx_winding.specs.Area.{Place}
 use Rattle.fx_winding.specs.Winding.{Span, centre}
 use Rattle.fx_hint.specs.declared.outline.OutlinePoint.{OutlinePoint}
 use Rattle.fx_contour.specs.Contours.{IsNear, is_within, is_near, NearIsTested, spans_of, drawn_of}

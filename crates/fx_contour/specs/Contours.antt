@@ -2,7 +2,7 @@
 use Rattle.std.specs.Prelude.{◌↔◌, IsTrue, All, ℤ, pos, neg_ℤ, int_le, Bool, not, ◌&&◌, Result, Ok, ℕ, ◌+◌, ◌-◌, ◌^◌, List, [], ◌∷◌, map, take, drop}
 use Rattle.std.specs.List.{list_all}
 use Rattle.fx_fixed.specs.Chain.{◌>>=◌, refuse}
-use Rattle.fx_winding.specs.Area.{IsWithin}
+use Rattle.fx_fixed.specs.Ranges.{IsWithin}
 use Rattle.fx_winding.specs.Winding.{Span}
 use Rattle.fx_winding.specs.Outside.{joined}
 use Rattle.fx_hint.specs.declared.outline.OutlinePoint.{OutlinePoint}

@@ -1,6 +1,6 @@
 //! The bounding box of points.
 ghost use Rattle.std.specs.Prelude.{◌^◌, ◌≡◌, [], map, IsSomeAnd, MatchOption};
-ghost use Rattle.fx_winding.specs.Area.{IsWithin};
+ghost use Rattle.fx_fixed.specs.Ranges.{IsWithin};
 
 use fx_winding::{Piece, Point};
 

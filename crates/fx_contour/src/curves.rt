@@ -1,6 +1,6 @@
 //! From contours to pieces.
 ghost use Rattle.std.specs.Prelude.{◌≡◌, ◌+◌, ◌-◌, ◌≤◌, ◌<◌, ◌^◌, ◌++◌, ◌⊎◌, ◌↔◌, All, IsTrue, IfOk, OnOk, IfErr, IsErrOf, length, map, take, drop, option_map, option_to_list};
-ghost use Rattle.fx_winding.specs.Area.{IsWithin};
+ghost use Rattle.fx_fixed.specs.Ranges.{IsWithin};
 ghost use Rattle.fx_winding.specs.Winding.{place_of, span_of};
 ghost use Rattle.fx_winding.specs.Outside.{AreOfOutline};
 ghost use Rattle.fx_contour.specs.Curve.{doubled as doubled_of, middle as middle_of, joint as joint_of, span_at, first_of, curve_of};

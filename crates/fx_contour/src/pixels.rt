@@ -1,6 +1,6 @@
 //! Pixels of a row or a column.
 ghost use Rattle.std.specs.Prelude.{pos, ◌+ℤ◌, ◌≤ℤ◌, ◌<◌, ◌^◌, MatchOption};
-ghost use Rattle.fx_winding.specs.Area.{IsWithin};
+ghost use Rattle.fx_fixed.specs.Ranges.{IsWithin};
 ghost use Rattle.fx_winding.specs.Limits.{IsPixelNumber};
 
 /// So many pixels in a row or a column, from the first on.

@@ -1,6 +1,8 @@
 pub mod Rounding
 pub mod Units
 pub mod Writing
+pub mod Decimals
+pub mod Hexadecimals
 pub mod Chain
 pub mod Linear
 pub mod Ring

@@ -1,5 +1,5 @@
 -- One text after another on a sink.
-use Rattle.std.proofs.Common.{refl, [], ◌∷◌, zero, suc, drop, get_or, ◌≡◌, ℕ, ◌+◌, ◌-◌, ◌<◌, ◌≤◌, ◌++◌, List, length, take, length-append, length-drop, sym, ap, ◌∙◌, arith, subst, append_assoc, Result, Ok, Err, Option}
+use Rattle.std.proofs.Common.{refl, [], ◌∷◌, zero, suc, drop, get_or, ◌≡◌, ℕ, ◌+◌, ◌-◌, ◌<◌, ◌≤◌, ◌++◌, List, length, take, length-append, length-drop, sym, ap, ◌∙◌, arith, subst, append_assoc, Result, Ok, Err, IfOk, Option}
 use Rattle.std.specs.List.{flat_map}
 use Rattle.std.specs.Io.KnownBytes.{Appends}
 use Rattle.std.proofs.KnownBytes.{Appends-trans}
@@ -68,6 +68,30 @@ pub from_start : {old new : Option (List ℕ)} {calm after : ℕ} {text : List �
 from_start {old} {new} {calm} {after} {text} {d} {e} {r} h p q =
     let P : Result (Unit {0}) WriteFailed → Type 0 = λ s. Wrote old new calm after text s in
     subst P (sym (p ∙ ap Err q)) (record { outcome = from_start_by old new calm after text d h.outcome })
+
+pub from_start_ok : {old new : Option (List ℕ)} {calm after n : ℕ} {text : List ℕ} → WrotePart old new calm after 0 text (Ok n) → Wrote old new calm after text (Ok tt)
+from_start_ok h = record { outcome = (h.outcome.1, h.outcome.2) }
+
+-- the same text, known by another name
+pub wrote_text : {old new : Option (List ℕ)} {calm after : ℕ} {a b : List ℕ} {r : Result (Unit {0}) WriteFailed} → a ≡ b → Wrote old new calm after a r → Wrote old new calm after b r
+wrote_text {old} {new} {calm} {after} {a} {b} {r} e h = let P : List ℕ → Type 0 = λ t. Wrote old new calm after t r in subst P e h
+
+-- a part at the exit of a `?`
+pub part_out : {old new : Option (List ℕ)} {calm after done : ℕ} {text : List ℕ} {d e : WriteFailed} {r : Result ℕ WriteFailed} → WrotePart old new calm after done text (Err d) → r ≡ Err e → e ≡ d → WrotePart old new calm after done text r
+part_out {old} {new} {calm} {after} {done} {text} {d} {e} {r} h p q =
+    let P : Result ℕ WriteFailed → Type 0 = λ s. WrotePart old new calm after done text s in
+    subst P (sym (p ∙ ap Err q)) h
+
+-- how many bytes there are behind a part that was written
+pub part_end : {old new : Option (List ℕ)} {calm after done : ℕ} {text : List ℕ} {n : ℕ} → WrotePart old new calm after done text (Ok n) → n ≡ done + length text
+part_end h = h.outcome.0
+
+short_by : (old new : Option (List ℕ)) (calm after done : ℕ) (text : List ℕ) (r : Result ℕ WriteFailed) (m : ℕ) → WrotePart old new calm after done text r → done + length text ≤ m → IfOk r (λ n. n ≤ m)
+short_by old new calm after done text (Ok n) m h low = omega (arith, h.outcome.0)
+short_by old new calm after done text (Err e) m h low = tt
+
+pub part_short : {old new : Option (List ℕ)} {calm after done : ℕ} {text : List ℕ} {r : Result ℕ WriteFailed} (m : ℕ) → WrotePart old new calm after done text r → done + length text ≤ m → IfOk r (λ n. n ≤ m)
+part_short {old} {new} {calm} {after} {done} {text} {r} m h low = short_by old new calm after done text r m h low
 
 -- ---- a list of pieces
 

@@ -1,5 +1,6 @@
 // A sink and a source in memory, for tests of what is written and read.
 ghost use Rattle.std.specs.Prelude.{◌≡◌, ◌+◌, ◌<◌, ◌≤◌, ◌^◌, [], length, drop, IfOk, IfSome, Some};
+ghost use Rattle.fx_fixed.specs.Memory.{room_of};
 
 use super::sink::Sink;
 use super::source::Source;
@@ -60,12 +61,20 @@ impl MemorySink {
         ensures held { IfOk result (λ s. ⟦<MemorySink as Sink>⟧.held s ≡ Some []) }
         ensures faults { IfOk result (λ s. ⟦<MemorySink as Sink>⟧.fault_count s ≡ 0) }
         ensures limits { IfOk result (λ s. s.limits ≡ limits) }
+        ensures room { IfOk result (λ s. room_of s ≡ room) }
     {
         Ok(MemorySink {
             bytes: Vec::with_capacity(alloc, room)?,
             faults: 0,
             limits,
         })
+    }
+
+    /// How many bytes it holds before it has to grow.
+    pub fn room(&self) -> usize
+        ensures { result ≡ room_of self.now }
+    {
+        self.bytes.capacity()
     }
 
     /// What it holds.

@@ -100,3 +100,28 @@ pub fn put_all<W: Sink>(out: &mut W, pieces: &[&[u8]]) -> Result<(), WriteFailed
     }
     Ok(())
 }
+
+// How many bytes some pieces have.
+fn size(pieces: &[&[u8]]) -> u64
+    requires { length (flat_map (λ p. p.now) pieces.now) < 2 ^ 64 }
+    ensures { result ≡ length (flat_map (λ p. p.now) pieces.now) }
+{
+    let mut sum = 0;
+    'pieces: for piece in pieces {
+        sum += piece.len() as u64;
+    }
+    sum
+}
+
+/// Appends several pieces as a part of a text, behind so many bytes of it; answers how many there are then. A fault's number
+/// counts from the text's first byte.
+pub fn put_part<W: Sink>(out: &mut W, done: u64, pieces: &[&[u8]]) -> Result<u64, WriteFailed>
+    requires faults { W.fault_count out.old < 2 ^ 63 }
+    requires fits { done + length (flat_map (λ p. p.now) pieces.now) < 2 ^ 64 }
+    ensures { WrotePart (W.held out.old) (W.held out.new) (W.fault_count out.old) (W.fault_count out.new) done (flat_map (λ p. p.now) pieces.now) result }
+{
+    match put_all(out, pieces) {
+        Ok(()) => Ok(done + size(pieces)),
+        Err(WriteFailed(n)) => Err(WriteFailed(done + n)),
+    }
+}

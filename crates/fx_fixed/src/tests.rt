@@ -45,6 +45,18 @@ fn directions(rt: HostRuntime) -> Result<(), Fail> {
     Ok(())
 }
 
+#[test]
+fn numbers_as_text(rt: HostRuntime) -> Result<(), Fail> {
+    assert!(rt; Digits::unsigned(0).text() == b"0".as_slice());
+    assert!(rt; Digits::unsigned(u64::MAX).text() == b"18446744073709551615".as_slice());
+    assert!(rt; Digits::signed(i32::MIN).text() == b"-2147483648".as_slice());
+    assert!(rt; Digits::hexadecimal(0, 2).text() == b"00".as_slice());
+    assert!(rt; Digits::hexadecimal(0x2B, 4).text() == b"002B".as_slice());
+    assert!(rt; Digits::hexadecimal(0x1F600, 4).text() == b"1F600".as_slice());
+    assert!(rt; Digits::hexadecimal(u64::MAX, 4).text() == b"FFFFFFFFFFFFFFFF".as_slice());
+    Ok(())
+}
+
 // Sends 13 bytes in three pieces, one of them empty; answers how it went and the faults.
 fn send<W: Sink>(rt: &impl Abort, out: &mut W) -> (Result<(), WriteFailed>, u64) {
     assert!(rt; out.faults() < 100);

@@ -1,6 +1,6 @@
 //! A composite glyph.
 
-ghost use Rattle.std.specs.Prelude.{◌≡◌, ◌≤◌, length, option_map};
+ghost use Rattle.std.specs.Prelude.{◌≡◌, ◌≤◌, ◌<◌, ◌^◌, length, option_map, IfSome};
 ghost use Rattle.fx_glyf.specs.Glyphs.{announced_of, composite_of};
 
 use crate::components::Components;
@@ -20,7 +20,7 @@ pub struct Composite<'a> {
 }
 
 impl<'a> Model for Composite<'a> {
-    ghost use Rattle.std.specs.Prelude.{IsSome, true};
+    ghost use Rattle.std.specs.Prelude.{IsSome, true, length, ◌<◌, ◌^◌};
     ghost use Rattle.fx_glyf.specs.Words.{list_in};
     ghost use Rattle.fx_glyf.specs.Components.{parts_in};
     ghost use Rattle.fx_glyf.specs.Shapes.{Assembly};
@@ -29,12 +29,13 @@ impl<'a> Model for Composite<'a> {
 
     ghost view = { λ c. record { components = list_in (parts_in true c.parts.now); x_min = c.x_min; code = c.code.now } };
 
-    ghost invariant = { λ c. IsSome (parts_in true c.parts.now) };
+    ghost invariant = { λ c. IsSome (parts_in true c.parts.now) × (length c.code.now < 2 ^ 16) };
 }
 
 /// The program behind components, where one is announced.
 fn announced_program(announced: bool, bytes: &[u8]) -> Option<(&[u8], &[u8])>
-    ensures { option_map (λ p. (p.0.now, p.1.now)) result ≡ announced_of announced bytes.now }
+    ensures value { option_map (λ p. (p.0.now, p.1.now)) result ≡ announced_of announced bytes.now }
+    ensures short { IfSome result (λ p. length p.0.now < 2 ^ 16) }
 {
     if announced {
         program(bytes)
@@ -80,7 +81,8 @@ impl<'a> Composite<'a> {
 
     /// The program; empty where no component announces one.
     pub fn code(&self) -> &'a [u8]
-        ensures { result.now ≡ self.now.code }
+        ensures value { result.now ≡ self.now.code }
+        ensures short { length result.now < 2 ^ 16 }
     {
         self.code
     }

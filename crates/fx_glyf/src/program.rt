@@ -1,6 +1,6 @@
 //! The program of a glyph.
 
-ghost use Rattle.std.specs.Prelude.{◌≡◌, option_map};
+ghost use Rattle.std.specs.Prelude.{◌≡◌, ◌<◌, ◌^◌, length, option_map, IfSome};
 ghost use Rattle.fx_glyf.specs.Words.{program_of};
 
 use fx_sfnt::{after, before, u16_in};
@@ -8,7 +8,8 @@ use fx_sfnt::{after, before, u16_in};
 /// A program behind its length, and the bytes after it.
 #[tactic(auto, unfolding(crate::specs::Words::program_of))]
 pub fn program(bytes: &[u8]) -> Option<(&[u8], &[u8])>
-    ensures { option_map (λ p. (p.0.now, p.1.now)) result ≡ program_of bytes.now }
+    ensures value { option_map (λ p. (p.0.now, p.1.now)) result ≡ program_of bytes.now }
+    ensures short { IfSome result (λ p. length p.0.now < 2 ^ 16) }
 {
     if bytes.len() < 2 {
         return None;

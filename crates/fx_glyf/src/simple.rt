@@ -1,6 +1,6 @@
 //! A simple glyph.
 
-ghost use Rattle.std.specs.Prelude.{◌≡◌, ◌≤◌, length};
+ghost use Rattle.std.specs.Prelude.{◌≡◌, ◌≤◌, ◌<◌, ◌^◌, length};
 ghost use Rattle.fx_glyf.specs.Grammar.{AreEnds};
 ghost use Rattle.fx_glyf.specs.Glyphs.{simple_of, x_min_of};
 
@@ -23,7 +23,7 @@ pub struct Simple<'a> {
 }
 
 impl<'a> Model for Simple<'a> {
-    ghost use Rattle.std.specs.Prelude.{◌≡◌, Some, length, ◌*◌, ◌≤◌};
+    ghost use Rattle.std.specs.Prelude.{◌≡◌, Some, length, ◌*◌, ◌≤◌, ◌<◌, ◌^◌};
     ghost use Rattle.fx_glyf.specs.Shapes.{Shape};
     ghost use Rattle.fx_glyf.specs.Words.{words, count_from};
 
@@ -31,7 +31,7 @@ impl<'a> Model for Simple<'a> {
 
     ghost view = { λ s. record { ends = words s.contours s.ends.now; points = s.outline; x_min = s.x_min; code = s.code.now } };
 
-    ghost invariant = { λ s. (2 * s.contours ≤ length s.ends.now) × (count_from 0 (words s.contours s.ends.now) ≡ Some (length s.outline)) };
+    ghost invariant = { λ s. (2 * s.contours ≤ length s.ends.now) × (count_from 0 (words s.contours s.ends.now) ≡ Some (length s.outline)) × (length s.code.now < 2 ^ 16) };
 }
 
 /// The xMin of a header, in FUnits.
@@ -97,7 +97,8 @@ impl<'a> Simple<'a> {
 
     /// The program.
     pub fn code(&self) -> &'a [u8]
-        ensures { result.now ≡ self.now.code }
+        ensures value { result.now ≡ self.now.code }
+        ensures short { length result.now < 2 ^ 16 }
     {
         self.code
     }

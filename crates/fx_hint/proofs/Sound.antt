@@ -12,7 +12,6 @@ use Rattle.fx_glyf.specs.declared.part.Part.{Part}
 use Rattle.fx_glyf.specs.declared.glyph.Glyph as glyf
 use Rattle.fx_glyf.specs.declared.glyph.Glyph.TheVariants.{Empty, Simple, Composite}
 use Rattle.fx_glyf.specs.Shapes.{Shape}
-use Rattle.fx_glyf.specs.Grammar as grammar
 use Rattle.fx_glyf.specs.Glyphs.{glyph_of}
 use Rattle.fx_glyf.proofs.Outlines.{outline_count}
 use Rattle.fx_glyf.proofs.PointsDescribed.{only_points}
@@ -42,11 +41,6 @@ AllCounted make = (g : ℕ) (count : Count) (r : Made × Count) → count.points
 same_ok : {A E : Type 0} (x y : A) → ◌≡◌ {A = Result A E} (Ok x) (Ok y) → x ≡ y
 same_ok x y h = cc
 
--- the grammar's end points are this crate's
-same_ends : (start : ℕ) (es : List ℕ) (n : ℕ) → grammar.AreEnds start es n → AreEnds start es n
-same_ends start [] n h = h
-same_ends start (e ∷ es) n h = (h.0, same_ends (e + 1) es n h.1)
-
 -- the contours of a simple glyph that was read end with its points
 abbrev IsLawful : glyf.Glyph → Type 0
 IsLawful Empty = Unit {0}
@@ -59,7 +53,7 @@ read_lawful bytes g (Simple shape) h =
     let d = found_glyph bytes g (Simple shape) h in
     let n : length shape.points ≡ d.count = outline_count d.count d.rest shape.points (only_points d.count d.rest shape.points d.points_are) in
     let P : ℕ → Type 0 = λ k. AreEnds 0 shape.ends k in
-    subst P (sym n) (same_ends 0 shape.ends d.count d.in_order)
+    subst P (sym n) d.in_order
 read_lawful bytes g (Composite assembly) h = tt
 
 record_kept : (character : ℕ) (count counted : Count) → one_record character count ≡ Ok counted → counted.points ≡ count.points

@@ -1,32 +1,13 @@
 -- What a font that was opened tells of its file.
-use Rattle.std.proofs.Common.{◌≡◌, ℕ, ◌+◌, ◌*◌, ◌<◌, ◌≤◌, Bool, true, false, not, ◌==◌, ◌||◌, nat_lt, List, length, Option, Some, None, Result, Ok, Err, refl, sym, ◌∙◌, subst, codes, arith}
+use Rattle.std.proofs.Common.{◌≡◌, ℕ, ◌+◌, ◌*◌, ◌<◌, ◌≤◌, true, not, ◌==◌, ◌||◌, nat_lt, List, length, Some, Ok, refl, sym, ◌∙◌, subst, codes, arith}
 use Rattle.std.proofs.lemmas.Option.{same_Some}
 use Rattle.std.proofs.lemmas.Bool.{and_parts, or_parts, leb-true, ltb-false, eqb-false, not-false}
-use Rattle.fx_fixed.specs.Chain.{◌>>=◌, refuse, wanted}
+use Rattle.fx_fixed.proofs.Chain.{refuse_then, bind_then, wanted_then, same_Ok}
 use Rattle.fx_sfnt.specs.Fields.{field}
 use Rattle.fx_sfnt.specs.Tables.{Face, font_of, head_of, maxp_of, hhea_of, table_of, is_directory}
 use Rattle.fx_sfnt.specs.declared.fault.FontFault.TheVariants.{NotTrueType, TableMissing, TableShort, BadHead, BadMaxp}
 use Rattle.fx_sfnt.specs.declared.records.Head.{Head}
 use Rattle.fx_sfnt.specs.declared.records.Maxp.{Maxp}
-
--- a step that went on was not refused
-pub refuse_then : {B E : Type 0} {P : Type 0} (b : Bool) (e : E) (f : Unit {0} → Result B E) (y : B) → (refuse b e >>= f) ≡ Ok y → (b ≡ false → f tt ≡ Ok y → P) → P
-refuse_then true e f y h k = absurd (cc)
-refuse_then false e f y h k = k refl h
-
--- a step that went on had a value
-pub bind_then : {A B E : Type 0} {P : Type 0} (r : Result A E) (f : A → Result B E) (y : B) → (r >>= f) ≡ Ok y → ((x : A) → r ≡ Ok x → f x ≡ Ok y → P) → P
-bind_then (Ok x) f y h k = k x refl h
-bind_then (Err e) f y h k = absurd (cc)
-
--- a value that had to be there is there
-pub wanted_then : {A B E : Type 0} {P : Type 0} (o : Option A) (e : E) (f : A → Result B E) (y : B) → (wanted o e >>= f) ≡ Ok y → ((x : A) → o ≡ Some x → f x ≡ Ok y → P) → P
-wanted_then (Some x) e f y h k = k x refl h
-wanted_then None e f y h k = absurd (cc)
-
--- one value
-pub same_Ok : {A E : Type 0} {r : Result A E} (x y : A) → r ≡ Ok x → r ≡ Ok y → x ≡ y
-same_Ok x y h k = cc
 
 -- a directory that is one has its records
 pub directory_whole : (file : List ℕ) → is_directory file ≡ true → 12 + 16 * field 2 file 4 ≤ length file

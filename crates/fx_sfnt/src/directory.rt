@@ -1,6 +1,6 @@
 //! The directory of a font file: where its tables lie (OpenType, "Organization of an OpenType font").
 
-ghost use Rattle.std.specs.Prelude.{◌≡◌, ◌+◌, ◌*◌, ◌≤◌, length, option_map};
+ghost use Rattle.std.specs.Prelude.{◌≡◌, ◌+◌, ◌*◌, ◌^◌, ◌<◌, ◌≤◌, length, option_map, IfSome};
 ghost use Rattle.fx_fixed.specs.Chain.{map_ok};
 ghost use Rattle.fx_sfnt.specs.Fields.{field};
 ghost use Rattle.fx_sfnt.specs.Tables.{table_of, needed, is_directory};
@@ -24,7 +24,8 @@ pub fn is_whole(file: &[u8]) -> bool
 // The table of a tag: that of the first record with the tag.
 pub fn find_table<'a>(file: &'a [u8], tag: [u8; 4]) -> Option<&'a [u8]>
     requires { 12 + 16 * field 2 file.now 4 ≤ length file.now }
-    ensures { option_map (λ t. t.now) result ≡ table_of file.now tag }
+    ensures table { option_map (λ t. t.now) result ≡ table_of file.now tag }
+    ensures short { IfSome result (λ t. length t.now < 2 ^ 32) }
 {
     let count = u16_in(file, 4);
     let want = u32_in(&tag, 0);

@@ -1,6 +1,6 @@
 //! A font over the bytes of its file.
 
-ghost use Rattle.std.specs.Prelude.{◌≡◌, ◌<◌, ◌≤◌, option_map, IsOk};
+ghost use Rattle.std.specs.Prelude.{◌≡◌, ◌<◌, ◌≤◌, ◌^◌, length, option_map, IfSome, IsOk};
 ghost use Rattle.fx_fixed.specs.Chain.{map_ok};
 ghost use Rattle.fx_sfnt.specs.Tables.{table_of, font_of};
 ghost use Rattle.fx_sfnt.specs.Glyphs.{metrics_of, glyph_bytes_of};
@@ -78,7 +78,8 @@ impl<'a> Font<'a> {
     /// The bytes of the table with a tag, where the directory has one: from the first such record's offset, for its length,
     /// ended at the file's end.
     pub fn table(&self, tag: [u8; 4]) -> Option<&'a [u8]>
-        ensures { option_map (λ t. t.now) result ≡ table_of self.now.file tag }
+        ensures table { option_map (λ t. t.now) result ≡ table_of self.now.file tag }
+        ensures short { IfSome result (λ t. length t.now < 2 ^ 32) }
     {
         find_table(self.file, tag)
     }

@@ -20,7 +20,8 @@ pub fn before(bytes: &[u8], count: usize) -> &[u8]
 
 /// The bytes from a place on, `len` of them where there are so many; none where the place is past the end.
 pub fn part(bytes: &[u8], at: usize, len: usize) -> &[u8]
-    ensures { result.now ≡ take len (drop at bytes.now) }
+    ensures value { result.now ≡ take len (drop at bytes.now) }
+    ensures short { length result.now ≤ len }
 {
     if at > bytes.len() {
         return &[];

@@ -1,4 +1,3 @@
-pub mod Extents
 pub mod Rising
 pub mod Sketching
 pub mod Gathering

@@ -1,22 +1,22 @@
 -- A sketch has one glyph, a strike one text, and a character one part in all strikes that hold it.
 use Rattle.std.proofs.Common.{◌≡◌, refl, sym, ap, ◌∙◌, subst, arith, ℕ, zero, suc, ◌<◌, ℤ, pos, Bool, true, false, not, List, [], ◌∷◌, length, get_or, Result, Ok}
 use Rattle.std.specs.Prelude.{IsTrue, Contains, neg_ℤ, filter}
-use Rattle.std.specs.List.{list_all, count_by}
-use Rattle.fx_fixed.specs.Chain.{◌>>=◌, refuse, map_fault, map_chain}
+use Rattle.std.specs.List.{count_by}
+use Rattle.fx_fixed.specs.Chain.{◌>>=◌, map_fault, map_chain}
 use Rattle.fx_fixed.specs.Numbers.{near_of}
-use Rattle.fx_fixed.proofs.Chain.{bind_ok, refuse_ok, map_fault_ok}
+use Rattle.fx_fixed.proofs.Chain.{bind_ok, map_fault_ok}
 use Rattle.fx_sfnt.specs.Tables.{Face, font_of}
 use Rattle.fx_sfnt.specs.Glyphs.{metrics_of}
 use Rattle.fx_sfnt.specs.declared.records.Metrics.{Metrics}
 use Rattle.fx_cmap.specs.Lookup.{Segments, map_of_file}
 use Rattle.fx_hint.specs.Outlines.{Drawing, outline_of}
-use Rattle.fx_contour.specs.Contours.{spans_of}
+use Rattle.fx_winding.specs.Winding.{Span}
+use Rattle.fx_contour.specs.Contours.{drawn_of}
+use Rattle.fx_contour.specs.Frames.{framed_of}
 use Rattle.fx_bdf.specs.Glyphs.{Glyph, TrimmedIsOne, glyph_bit}
 use Rattle.fx_strike.specs.declared.refusal.Refusal.{Refusal}
-use Rattle.fx_strike.specs.declared.refusal.Refusal.TheVariants.{TooFar, GlyphTooLarge}
-use Rattle.fx_strike.specs.Faults.{of_font, of_char_map, of_hint}
+use Rattle.fx_strike.specs.Faults.{of_font, of_char_map, of_hint, of_contour}
 use Rattle.fx_strike.specs.Characters.{rising}
-use Rattle.fx_strike.specs.Limits.{is_near, is_too_large}
 use Rattle.fx_strike.specs.Strike.{Sketch, Plan, AreGlyphsOf, thousandths, pixels, glyph_sketch_of, sketch_of, is_missing, sketches_of, checked, plan_of, strike_text}
 use Rattle.fx_strike.specs.Laws.{GlyphIsOne, TextIsOne, PartIsOne}
 use Rattle.fx_strike.proofs.Sketching.{tight_along}
@@ -63,22 +63,22 @@ text_is_one one plan gs hs p q = ap (strike_text plan) (glyphs_are_one one plan.
 sketch_code : (face : Face) (ppem code glyph : ℕ) (s : Sketch) → glyph_sketch_of face ppem code glyph ≡ Ok s → s.code ≡ code
 unfolding glyph_sketch_of
 sketch_code face ppem code glyph s h =
-    let last : Drawing → Metrics → Sketch = λ d m. record {
+    let last : Drawing → List Span → Metrics → Sketch = λ d ss m. record {
       code = code;
       swidth = thousandths m.advance face.head.units_per_em;
       dwidth = near_of d.advance (pos 64);
-      spans = spans_of d.ends d.points;
+      spans = ss;
       strays = d.strays;
       steps = d.steps;
     } in
-    let measured : Drawing → Result Sketch Refusal = λ d. map_fault of_font (metrics_of face glyph) >>= λ m. Ok (last d m) in
-    let small : Drawing → Result Sketch Refusal = λ d. refuse (is_too_large (spans_of d.ends d.points)) (GlyphTooLarge glyph) >>= λ _. measured d in
-    let a = bind_ok (map_fault of_hint (outline_of face ppem glyph)) (λ d. refuse (not (list_all is_near d.points)) (TooFar glyph) >>= λ _. small d) s h in
-    let b = refuse_ok (not (list_all is_near a.0.points)) (TooFar glyph) (λ _. small a.0) s a.2 in
-    let c = refuse_ok (is_too_large (spans_of a.0.ends a.0.points)) (GlyphTooLarge glyph) (λ _. measured a.0) s b.1 in
-    let d = bind_ok (map_fault of_font (metrics_of face glyph)) (λ m. Ok (last a.0 m)) s c.1 in
-    let e : last a.0 d.0 ≡ s = cc (d.2) in
-    code_along (last a.0 d.0) s code e refl
+    let measured : Drawing → List Span → Result Sketch Refusal = λ d ss. map_fault of_font (metrics_of face glyph) >>= λ m. Ok (last d ss m) in
+    let framed : Drawing → List Span → Result Sketch Refusal = λ d ss. map_fault (of_contour glyph) (framed_of ss) >>= λ _. measured d ss in
+    let a = bind_ok (map_fault of_hint (outline_of face ppem glyph)) (λ d. map_fault (of_contour glyph) (drawn_of d.ends d.points) >>= framed d) s h in
+    let b = bind_ok (map_fault (of_contour glyph) (drawn_of a.0.ends a.0.points)) (framed a.0) s a.2 in
+    let c = bind_ok (map_fault (of_contour glyph) (framed_of b.0)) (λ _. measured a.0 b.0) s b.2 in
+    let d = bind_ok (map_fault of_font (metrics_of face glyph)) (λ m. Ok (last a.0 b.0 m)) s c.2 in
+    let e : last a.0 b.0 d.0 ≡ s = cc (d.2) in
+    code_along (last a.0 b.0 d.0) s code e refl
   where
     code_along : (x s : Sketch) (code : ℕ) → x ≡ s → x.code ≡ code → s.code ≡ code
     code_along x s code e h = sym (ap (λ (y : Sketch). y.code) e) ∙ h

@@ -1,23 +1,11 @@
 -- What the steps on the way to a character's glyph answer.
-use Rattle.std.specs.Prelude.{◌≡◌, ◌↔◌, IsTrue, not, ℕ, ℤ, List, Result, Ok, Err}
-use Rattle.std.specs.List.{list_all}
-use Rattle.fx_fixed.specs.Chain.{◌>>=◌, refuse}
-use Rattle.fx_hint.specs.declared.outline.OutlinePoint.{OutlinePoint}
-use Rattle.fx_contour.specs.Contours.{spans_of}
-use Rattle.fx_strike.specs.declared.refusal.Refusal.TheVariants.{TooFar}
-use Rattle.fx_strike.specs.Limits.{is_near}
+use Rattle.std.specs.Prelude.{◌≡◌, ◌↔◌, IsTrue, ℤ, List, Result, Ok, Err}
 use Rattle.fx_winding.specs.Winding.{Span, IsCovered, centre}
 use Rattle.fx_winding.specs.Bitmaps.{Bits, bit_of}
 use Rattle.fx_strike.specs.declared.refusal.Refusal.{Refusal}
 use Rattle.fx_strike.specs.declared.drawn.Drawn.{Drawn}
 use Rattle.fx_strike.specs.Faults.{Fails}
 use Rattle.fx_strike.specs.Strike.{Sketch, IsGlyphOf}
-
--- the spans of an outline, or that a point of it lies too far out
-abbrev pub spans_due : List ℕ → List OutlinePoint → ℕ → Result (List Span) Refusal
-spans_due ends points glyph = do
-  _ ← refuse (not (list_all is_near points)) (TooFar glyph)
-  Ok (spans_of ends points)
 
 -- of all pixels of the plane just those have a set bit whose centre is covered
 pub record HasBitsOf (spans : List Span) (bits : Bits) : Type 0 where

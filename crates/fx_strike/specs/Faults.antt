@@ -1,5 +1,5 @@
 -- The faults of the crates below as refusals, and what code answers that may want memory.
-use Rattle.std.specs.Prelude.{◌≡◌, Result, Err}
+use Rattle.std.specs.Prelude.{◌≡◌, ℕ, Result, Err}
 use Rattle.fx_sfnt.specs.declared.fault.FontFault.{FontFault}
 use Rattle.fx_sfnt.specs.declared.fault.FontFault.TheVariants as font
 use Rattle.fx_cmap.specs.declared.fault.CharMapFault.{CharMapFault}
@@ -8,8 +8,10 @@ use Rattle.fx_glyf.specs.declared.fault.GlyphFault.{GlyphFault}
 use Rattle.fx_glyf.specs.declared.fault.GlyphFault.TheVariants as glyph
 use Rattle.fx_hint.specs.declared.fault.HintFault.{HintFault}
 use Rattle.fx_hint.specs.declared.fault.HintFault.TheVariants as hint
+use Rattle.fx_contour.specs.declared.fault.ContourFault.{ContourFault}
+use Rattle.fx_contour.specs.declared.fault.ContourFault.TheVariants as contour
 use Rattle.fx_strike.specs.declared.refusal.Refusal.{Refusal}
-use Rattle.fx_strike.specs.declared.refusal.Refusal.TheVariants.{NotTrueType, TableMissing, TableShort, BadHead, BadMaxp, NoCharMap, BadCharMap, BadLoca, GlyphShort, BadContours, ComponentDepth, TooManyComponents, TooManyPoints, BadPointMatch, BadGlyphNumber, WriteFailed, ReadFailed, BadHex, InputTooLarge, OutOfMemory}
+use Rattle.fx_strike.specs.declared.refusal.Refusal.TheVariants.{NotTrueType, TableMissing, TableShort, BadHead, BadMaxp, NoCharMap, BadCharMap, BadLoca, GlyphShort, BadContours, ComponentDepth, TooManyComponents, TooManyPoints, BadPointMatch, BadGlyphNumber, TooFar, GlyphTooLarge, WriteFailed, ReadFailed, BadHex, InputTooLarge, OutOfMemory}
 
 -- a font's fault
 abbrev pub of_font : FontFault → Refusal
@@ -40,6 +42,12 @@ of_hint (hint.TooManyComponents g) = TooManyComponents g
 of_hint (hint.TooManyPoints g) = TooManyPoints g
 of_hint (hint.BadPointMatch g) = BadPointMatch g
 of_hint hint.OutOfMemory = OutOfMemory
+
+-- a fault of the contours of a glyph, or of its frame
+abbrev pub of_contour : ℕ → ContourFault → Refusal
+of_contour glyph contour.TooFar = TooFar glyph
+of_contour glyph contour.TooLarge = GlyphTooLarge glyph
+of_contour glyph contour.OutOfMemory = OutOfMemory
 
 -- a refusal on the way to a value: want of memory, or the cause that is due; the writer, the reader and the input have no part in it
 abbrev pub Fails : {Y : Type 0} → Refusal → Result Y Refusal → Type 0

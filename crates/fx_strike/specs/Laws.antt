@@ -1,21 +1,7 @@
 -- What the definitions of a strike imply.
-use Rattle.std.specs.Prelude.{◌≡◌, ◌↔◌, ℕ, Bool, true, List, Ok, Contains, All}
-use Rattle.std.specs.List.{list_all}
-use Rattle.fx_hint.specs.declared.outline.OutlinePoint.{OutlinePoint}
-use Rattle.fx_winding.specs.Winding.{Span}
-use Rattle.fx_contour.specs.Contours.{IsNear}
-use Rattle.fx_contour.specs.Frames.{AreTooLarge}
+use Rattle.std.specs.Prelude.{◌≡◌, ℕ, Bool, List, Ok, Contains}
 use Rattle.fx_bdf.specs.Glyphs.{Glyph}
-use Rattle.fx_strike.specs.Limits.{is_near, is_too_large}
 use Rattle.fx_strike.specs.Strike.{Sketch, Plan, IsGlyphOf, AreGlyphsOf, plan_of, strike_text}
-
--- the points that are not too far out are those within 2^21
-abbrev pub NearIsNear : Type 0
-NearIsNear = (points : List OutlinePoint) → (list_all is_near points ≡ true) ↔ All IsNear points
-
--- spans are too large just where two pixels of one row, or of one column, 2,048 apart have their centres in the box of their points
-abbrev pub TooLargeIsTooLarge : Type 0
-TooLargeIsTooLarge = (spans : List Span) → (is_too_large spans ≡ true) ↔ AreTooLarge spans
 
 -- a sketch has one glyph
 abbrev pub GlyphIsOne : Type 0

@@ -1,9 +1,9 @@
 pub mod Refusals
 pub mod Characters
-pub mod Limits
 pub mod Faults
 pub mod Strike
 pub mod Headline
+pub mod Listings
 pub mod Drawing
 pub mod Gathering
 pub mod Laws

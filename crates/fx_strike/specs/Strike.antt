@@ -1,6 +1,6 @@
 -- The strike of a font, a size and characters, or the first cause why there is none.
 use Rattle.std.specs.Prelude.{◌≡◌, ◌↔◌, IsTrue, ℕ, ◌*◌, nat_lt, ◌==◌, ◌||◌, not, ℤ, pos, ◌*ℤ◌, neg_ℤ, Bool, List, [], ◌∷◌, ◌++◌, length, map, filter, Result, Ok}
-use Rattle.std.specs.List.{list_any, list_all, count_by, flat_map}
+use Rattle.std.specs.List.{list_any, count_by, flat_map}
 use Rattle.fx_fixed.specs.Chain.{◌>>=◌, refuse, map_fault, map_chain}
 use Rattle.fx_fixed.specs.Numbers.{near_of}
 use Rattle.fx_sfnt.specs.Tables.{Face, font_of}
@@ -8,15 +8,15 @@ use Rattle.fx_sfnt.specs.Glyphs.{metrics_of}
 use Rattle.fx_cmap.specs.Lookup.{Segments, map_of_file, glyph_for}
 use Rattle.fx_hint.specs.Outlines.{outline_of}
 use Rattle.fx_winding.specs.Winding.{Span, IsCovered, centre}
-use Rattle.fx_contour.specs.Contours.{spans_of}
+use Rattle.fx_contour.specs.Contours.{drawn_of}
+use Rattle.fx_contour.specs.Frames.{framed_of}
 use Rattle.fx_bdf.specs.declared.header.Header.{Header}
 use Rattle.fx_bdf.specs.Glyphs.{Glyph, IsTight, IsFormed, glyph_bit, bounds_of}
 use Rattle.fx_bdf.specs.Text.{is_name, header_text, glyph_text, end_text}
 use Rattle.fx_strike.specs.declared.refusal.Refusal.{Refusal}
-use Rattle.fx_strike.specs.declared.refusal.Refusal.TheVariants.{TooFar, GlyphTooLarge, BadSize, BadChars, BadName, NotBuilt}
-use Rattle.fx_strike.specs.Faults.{of_font, of_char_map, of_hint}
+use Rattle.fx_strike.specs.declared.refusal.Refusal.TheVariants.{BadSize, BadChars, BadName, NotBuilt}
+use Rattle.fx_strike.specs.Faults.{of_font, of_char_map, of_hint, of_contour}
 use Rattle.fx_strike.specs.Characters.{rising}
-use Rattle.fx_strike.specs.Limits.{is_near, is_too_large}
 
 -- ---- a character
 
@@ -38,14 +38,14 @@ thousandths advance em = near_of (pos (advance * 1000)) (pos em)
 unfoldable pub glyph_sketch_of : Face → ℕ → ℕ → ℕ → Result Sketch Refusal
 glyph_sketch_of face ppem code glyph = do
   drawing ← map_fault of_hint (outline_of face ppem glyph)
-  _ ← refuse (not (list_all is_near drawing.points)) (TooFar glyph)
-  _ ← refuse (is_too_large (spans_of drawing.ends drawing.points)) (GlyphTooLarge glyph)
+  spans ← map_fault (of_contour glyph) (drawn_of drawing.ends drawing.points)
+  _ ← map_fault (of_contour glyph) (framed_of spans)
   metrics ← map_fault of_font (metrics_of face glyph)
   Ok (record {
     code = code;
     swidth = thousandths metrics.advance face.head.units_per_em;
     dwidth = near_of drawing.advance (pos 64);
-    spans = spans_of drawing.ends drawing.points;
+    spans = spans;
     strays = drawing.strays;
     steps = drawing.steps;
   })

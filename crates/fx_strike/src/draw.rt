@@ -1,21 +1,22 @@
 //! From a glyph's number to its bits.
 ghost use Rattle.std.specs.Prelude.{◌≡◌, ◌≤◌, pos, map, IfOk, IfErr};
-ghost use Rattle.fx_fixed.specs.Chain.{refuse, map_ok, map_fault, GivesUnless};
+ghost use Rattle.fx_fixed.specs.Chain.{map_ok, map_fault, GivesUnless};
 ghost use Rattle.fx_fixed.specs.Numbers.{near_of};
 ghost use Rattle.fx_sfnt.specs.Glyphs.{metrics_of};
 ghost use Rattle.fx_hint.specs.Outlines.{drawing_of_outline, outline_of};
 ghost use Rattle.fx_winding.specs.Winding.{span_of};
 ghost use Rattle.fx_winding.specs.Outside.{AreOfOutline};
-ghost use Rattle.fx_contour.specs.Frames.{IsFrameFor, NothingOutside};
-ghost use Rattle.fx_strike.specs.Faults.{Fails, of_font, of_hint};
-ghost use Rattle.fx_strike.specs.Limits.{is_too_large};
+ghost use Rattle.fx_contour.specs.Contours.{drawn_of};
+ghost use Rattle.fx_contour.specs.Frames.{IsFrameFor, NothingOutside, framed_of};
+ghost use Rattle.fx_strike.specs.Faults.{Fails, of_font, of_hint, of_contour};
 ghost use Rattle.fx_strike.specs.Strike.{thousandths, glyph_sketch_of};
-ghost use Rattle.fx_strike.specs.Drawing.{HasBitsOf, Draws, spans_due};
+ghost use Rattle.fx_strike.specs.Drawing.{HasBitsOf, Draws};
 
 use crate::drawn::Drawn;
+use crate::faults::of_contour;
 use crate::refusal::Refusal;
 use fx_bdf::BitGlyph;
-use fx_contour::{ContourFault, frame, pieces};
+use fx_contour::{frame, pieces};
 use fx_fixed::{near, near_64};
 use fx_hint::{Outline, unhinted};
 use fx_sfnt::Font;
@@ -33,25 +34,24 @@ fn outline_at(alloc: Global, font: &Font<'_>, ppem: u16, glyph: u16) -> Result<O
 
 // The pieces of a glyph's outline; `TooFar` where a point of it lies too far out.
 fn pieces_at(alloc: Global, outline: &Outline, glyph: u16) -> Result<Pieces, Refusal>
-    ensures pieces { GivesUnless Fails (map span_of) result (spans_due outline.now.ends.items outline.now.points.items glyph) }
+    ensures pieces { GivesUnless Fails (map span_of) result (map_fault (of_contour glyph) (drawn_of outline.now.ends.items outline.now.points.items)) }
     ensures closed { IfOk result (λ ps. AreOfOutline (map span_of ps)) }
 {
     match pieces(alloc, outline) {
         Ok(pieces) => Ok(pieces),
-        Err(ContourFault::TooFar) => Err(Refusal::TooFar(glyph)),
-        Err(_) => Err(Refusal::OutOfMemory),
+        Err(fault) => Err(of_contour(glyph, fault)),
     }
 }
 
 // The frame of a glyph's pieces; `GlyphTooLarge` where it has too many pixels.
 fn frame_at(pieces: &Pieces, glyph: u16) -> Result<Option<Frame>, Refusal>
-    ensures small { GivesUnless Fails (λ _. tt) result (refuse (is_too_large (map span_of pieces.now)) (Refusal.GlyphTooLarge glyph)) }
+    ensures small { GivesUnless Fails (λ _. tt) result (map_fault (of_contour glyph) (framed_of (map span_of pieces.now))) }
     ensures frame { IfOk result (λ f. IsFrameFor f (map span_of pieces.now)) }
     ensures outside { IfOk result (λ f. NothingOutside f (map span_of pieces.now)) }
 {
     match frame(pieces) {
         Ok(frame) => Ok(frame),
-        Err(_) => Err(Refusal::GlyphTooLarge(glyph)),
+        Err(fault) => Err(of_contour(glyph, fault)),
     }
 }
 

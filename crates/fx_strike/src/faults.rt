@@ -1,11 +1,12 @@
 //! The faults of the crates below as refusals.
 ghost use Rattle.std.specs.Prelude.{◌≡◌};
 ghost use Rattle.fx_strike.specs.declared.refusal.Refusal.TheVariants.{BadName as BadNameOf, OutOfMemory, WriteFailed as WriteFailedOf};
-ghost use Rattle.fx_strike.specs.Faults.{of_font, of_char_map, of_glyph, of_hint};
+ghost use Rattle.fx_strike.specs.Faults.{of_font, of_char_map, of_glyph, of_hint, of_contour};
 
 use crate::refusal::Refusal;
 use fx_bdf::BadName;
 use fx_cmap::CharMapFault;
+use fx_contour::ContourFault;
 use fx_fixed::WriteFailed;
 use fx_glyf::GlyphFault;
 use fx_hint::HintFault;
@@ -96,5 +97,16 @@ impl From<HintFault> for Refusal {
             HintFault::BadPointMatch(g) => Refusal::BadPointMatch(g),
             HintFault::OutOfMemory => Refusal::OutOfMemory,
         }
+    }
+}
+
+/// What a fault of the contours of a glyph, or of its frame, is refused as.
+pub(crate) fn of_contour(glyph: u16, fault: ContourFault) -> Refusal
+    ensures { result ≡ of_contour glyph fault }
+{
+    match fault {
+        ContourFault::TooFar => Refusal::TooFar(glyph),
+        ContourFault::TooLarge => Refusal::GlyphTooLarge(glyph),
+        ContourFault::OutOfMemory => Refusal::OutOfMemory,
     }
 }

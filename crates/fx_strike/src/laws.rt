@@ -1,17 +1,11 @@
 //! What the definitions imply.
 ghost use Rattle.fx_strike.specs.Characters.{RisingAreRisen, RisenIsOne};
-ghost use Rattle.fx_strike.specs.Laws.{NearIsNear, TooLargeIsTooLarge, GlyphIsOne, TextIsOne, PartIsOne};
+ghost use Rattle.fx_strike.specs.Laws.{GlyphIsOne, TextIsOne, PartIsOne};
 
 /// The code points in rising order rise, and are those that are asked for; no other list is so.
 pub fn rising()
     ensures risen { RisingAreRisen }
     ensures one { RisenIsOne }
-{}
-
-/// The limits of an outline as tests are those of the crates below.
-pub fn limits()
-    ensures near { NearIsNear }
-    ensures too_large { TooLargeIsTooLarge }
 {}
 
 /// A sketch has one glyph, and a strike one text.

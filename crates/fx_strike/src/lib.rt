@@ -17,11 +17,13 @@ mod faults;
 mod gather;
 mod gathered;
 pub mod laws;
+mod listing;
 mod made;
 mod make;
 mod refusal;
 mod request;
 
+pub use listing::{Which, listing_of};
 pub use make::{make_strike, make_strike_with};
 pub use refusal::Refusal;
 pub use request::{Report, Request};

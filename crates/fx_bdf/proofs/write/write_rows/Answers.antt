@@ -1,8 +1,7 @@
 use Rattle.std.proofs.Common.{sym, arith, ap, List, ℕ, [], ◌∷◌, ◌++◌, ◌∙◌}
 use Rattle.fx_bdf.specs.Glyphs.{Box}
 use Rattle.std.proofs.lemmas.Result.{err_from_is_err_and}
-use Rattle.fx_fixed.proofs.Writing.{part_then, part_none, part_text, parts}
-use Rattle.fx_bdf.proofs.Parts.{part_out}
+use Rattle.fx_fixed.proofs.Writing.{part_then, part_none, part_text, parts, part_out}
 use Rattle.fx_bdf.specs.Text.{row_text, row_digits}
 use Rattle.fx_bdf.proofs.write.write_rows.Goals as goal
 

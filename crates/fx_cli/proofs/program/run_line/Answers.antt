@@ -6,7 +6,7 @@ use Rattle.std.proofs.lemmas.Result.{err_from_is_err_and}
 use Rattle.std.proofs.lemmas.Bool.{eqb-false}
 use Rattle.fx_cli.specs.Input.{line_of, words_of_line}
 use Rattle.fx_cli.specs.Words.{seen, wish_of_words}
-use Rattle.fx_cli.specs.Runs.{Change, Word, program_of}
+use Rattle.fx_cli.specs.Runs.{Change, Word, called}
 use Rattle.fx_cli.proofs.FirstLines.{few_words, is_usage, keeps_same, length-line_of, line_ends, line_read, unread}
 use Rattle.fx_cli.proofs.program.run_line.Goals as goal
 
@@ -36,7 +36,7 @@ returns-in_err-wish g c =
     let first : List ℕ = take c.in_ok-filled.filled c.read_line.new.room in
     let all : length first ≡ c.in_ok-filled.filled = length-take-le c.in_ok-filled.filled c.read_line.new.room (omega (arith, c.in_ok-filled.ensures.sizes.1)) in
     let line_is : c.in-Ok.line.now ≡ line_of first = c.in-Ok.ensures.cases.0 ∙ c.cut_line.ensures.line in
-    let words_are : map (λ (word : Bor (List ℕ)). word.now) c.deref.result.now ≡ program_of given ∷ words_of_line (line_of first)
+    let words_are : map (λ (word : Bor (List ℕ)). word.now) c.deref.result.now ≡ called given ∷ words_of_line (line_of first)
     = ap (map (λ (word : Bor (List ℕ)). word.now)) c.deref.ensures.value ∙ c.in_ok-words.ensures ∙ ap₂ (λ (p l : List ℕ). p ∷ words_of_line l) c.program_name.ensures line_is in
     let p = err_from_is_err_and c.from_residual-in_err-wish.result c.from_residual-in_err-wish.ensures.1 in
     rw (p.1, p.2) (unread given _ first c.in_err-wish.field-0.0 (few_words c.args.words.now c.requires.given) c.in_ok-filled.ensures.read (keeps_same (g.O.Sink.held c.args.out.now)) refl (elim c.in_err-wish.ensures.fault [

@@ -1,37 +1,35 @@
-use Rattle.std.proofs.Common.{rules, ◌∙◌, ◌≡◌, ap, sym, inl, inr, refl, List, ℕ, map, option_map, Bor, false}
-use Rattle.std.specs.List.{list_any}
+use Rattle.std.proofs.Common.{◌∙◌, ◌≡◌, ap, sym, inl, inr, List, ℕ, map, option_map, Bor}
 use Rattle.std.proofs.lemmas.Result.{err_from_is_err_and}
-use Rattle.clap.specs.Words.{Text}
-use Rattle.fx_cli.specs.Words.{is_bare, seen, wish_of_make, wish_of_rows}
-use Rattle.fx_cli.proofs.Options.{no_wish, ok_wish, wish_of_bare, wish_of_fault, wish_of_taken}
+use Rattle.clap.specs.Words.{App, Text, is_simple, is_simple_and_free}
+use Rattle.fx_cli.specs.Words.{rows_by, seen, wish_of_make, make_app, make_of_rows}
+use Rattle.fx_cli.proofs.Options.{no_wish, ok_wish, wish_of_none, wish_of_some, make_is_simple, make_is_free}
 use Rattle.fx_cli.proofs.words.read_make.Goals as goal
 
-pub returns-then-has_bare-clause-fault : goal.returns-then-has_bare-clause-fault
-returns-then-has_bare-clause-fault c =
-    let words : List Text = map (λ (word : Bor (List ℕ)). word.now) c.args.words.now in
-    inr (refl, wish_of_bare words (search rules))
+pub matches-requires-clause-simple : goal.matches-requires-clause-simple
+matches-requires-clause-simple c = ap is_simple c.in_ok-make_command.ensures ∙ make_is_simple
+
+pub matches-requires-clause-free : goal.matches-requires-clause-free
+matches-requires-clause-free c = ap is_simple_and_free c.in_ok-make_command.ensures ∙ make_is_free
 
 pub returns-in_err-matches-clause-fault : goal.returns-in_err-matches-clause-fault
 returns-in_err-matches-clause-fault c =
     let words : List Text = map (λ (word : Bor (List ℕ)). word.now) c.args.words.now in
-    let p = err_from_is_err_and c.from_residual.result c.from_residual.ensures.1 in
+    let p = err_from_is_err_and c.from_residual-in_err-matches.result c.from_residual-in_err-matches.ensures.1 in
     rw (p.1, p.2) (elim c.in_err-matches.ensures.refused [
       | inl memory ↦ inl memory
-      | inr (usage, fault) ↦ inr (usage, wish_of_fault words fault)
+      | inr (usage, none) ↦ inr (usage, wish_of_none make_of_rows (rows_by make_app words) (ap (λ (a : App). rows_by a words) (sym c.in_ok-make_command.ensures) ∙ none))
     ])
 
 pub returns-clause-wish : goal.returns-clause-wish
 returns-clause-wish c =
     let words : List Text = map (λ (word : Bor (List ℕ)). word.now) c.args.words.now in
-    let none : list_any is_bare words ≡ false = search rules in
-    let taken : wish_of_make words ≡ option_map seen c.wish_of.result
-    = wish_of_taken words none c.in_ok-matches.ensures.taken.0 ∙ ap wish_of_rows (sym c.in_ok-matches.ensures.taken.1) ∙ sym c.wish_of.ensures in
-    rw c.ok_or.ensures.value (ok_wish (wish_of_make words) c.wish_of.result taken)
+    let rows = ap (λ (a : App). rows_by a words) (sym c.in_ok-make_command.ensures) ∙ c.in_ok-matches.ensures.taken in
+    let taken : wish_of_make words ≡ option_map seen c.make_of.result = wish_of_some make_of_rows (rows_by make_app words) _ _ rows c.make_of.ensures in
+    rw c.ok_or.ensures.value (ok_wish (wish_of_make words) c.make_of.result taken)
 
 pub returns-clause-fault : goal.returns-clause-fault
 returns-clause-fault c =
     let words : List Text = map (λ (word : Bor (List ℕ)). word.now) c.args.words.now in
-    let none : list_any is_bare words ≡ false = search rules in
-    let taken : wish_of_make words ≡ option_map seen c.wish_of.result
-    = wish_of_taken words none c.in_ok-matches.ensures.taken.0 ∙ ap wish_of_rows (sym c.in_ok-matches.ensures.taken.1) ∙ sym c.wish_of.ensures in
-    rw c.ok_or.ensures.value (no_wish (wish_of_make words) c.wish_of.result taken)
+    let rows = ap (λ (a : App). rows_by a words) (sym c.in_ok-make_command.ensures) ∙ c.in_ok-matches.ensures.taken in
+    let taken : wish_of_make words ≡ option_map seen c.make_of.result = wish_of_some make_of_rows (rows_by make_app words) _ _ rows c.make_of.ensures in
+    rw c.ok_or.ensures.value (no_wish (wish_of_make words) c.make_of.result taken)

@@ -31,5 +31,5 @@ with_parts-returns-clause-value g t c = all_taken _ _ _ _ _ _ _ _ c.in-None.ensu
 pub made_of-returns-in_ok-made-in-Composite-clause-value : goal.made_of-returns-in_ok-made-in-Composite-clause-value
 made_of-returns-in_ok-made-in-Composite-clause-value g t c =
     let w = rw (c.components.ensures, c.start-base.ensures, c.is_on-on.ensures) at c.in_ok-made-in-Composite.ensures.value in
-    let v = rw (c.in_ok-made-in-Composite.ensures.kept, c.code-in-Composite.ensures) at c.run_on-in-Composite.ensures.value in
+    let v = rw (c.in_ok-made-in-Composite.ensures.kept, c.code-in-Composite.ensures.value) at c.run_on-in-Composite.ensures.value in
     composite_runs _ _ _ _ _ _ _ _ _ _ _ _ c.in-Composite.is w v

@@ -6,8 +6,8 @@ use Rattle.fx_sfnt.specs.Tables.{records, has_tag, table_bytes}
 use Rattle.fx_sfnt.proofs.Finding.{find_here, find_later}
 use Rattle.fx_sfnt.proofs.directory.find_table.Goals as goal
 
-pub returns-then-u32_in-want : goal.returns-then-u32_in-want
-returns-then-u32_in-want c =
+pub returns-then-u32_in-want-clause-table : goal.returns-then-u32_in-want-clause-table
+returns-then-u32_in-want-clause-table c =
     let left : c.u16_in-count.result - c.records.k ≡ suc (c.u16_in-count.result - c.records.k - 1) = omega arith in
     let hit : has_tag c.args.tag c.records.rest.now ≡ true = eq-eqb _ _ (sym c.u32_in.ensures ∙ c.if-u32_in-want.true ∙ c.u32_in-want.ensures) in
     let found = find_here 16 (has_tag c.args.tag) _ _ _ left hit in

@@ -1,6 +1,6 @@
 use Rattle.std.proofs.Common.{refl}
 use Rattle.fx_winding.specs.Bitmaps.{bit_of}
-use Rattle.fx_bdf.proofs.Decimals.{copied}
+use Rattle.fx_fixed.proofs.Decimals.{copied}
 use Rattle.fx_bdf.proofs.Trimmed.{formed_of, shown}
 use Rattle.fx_bdf.proofs.glyph.BitGlyph.of.Goals as goal
 

@@ -1,0 +1,42 @@
+// The commands and their options.
+ghost use Rattle.std.specs.Prelude.{◌≡◌, codes, IfOk, false};
+ghost use Rattle.clap.specs.Words.{app_of, rule_of};
+ghost use Rattle.fx_cli.specs.Words.{dump_app, flag_rule, make_app, option_rule};
+
+use clap::{Arg, ArgAction, Command};
+use std::alloc::{AllocError, Global};
+
+// `make` with its options.
+pub fn make_command<'a>(alloc: Global) -> Result<Command<'a>, AllocError>
+    ensures { IfOk result (λ command. app_of command ≡ make_app) }
+{
+    Command::new(alloc, "make")
+        .arg(option(alloc, "ppem"))?
+        .arg(option(alloc, "chars"))?
+        .arg(option(alloc, "name"))?
+        .arg(flag(alloc, "unhinted"))?
+        .arg(flag(alloc, "hex"))
+}
+
+// `dump` with its options.
+pub fn dump_command<'a>(alloc: Global) -> Result<Command<'a>, AllocError>
+    ensures { IfOk result (λ command. app_of command ≡ dump_app) }
+{
+    Command::new(alloc, "dump")
+        .arg(option(alloc, "of"))?
+        .arg(flag(alloc, "hex"))
+}
+
+fn option<'a>(alloc: Global, id: &'a str) -> Arg<'a>
+    ensures rule { rule_of result ≡ option_rule id.entry.now }
+    ensures local { result.global ≡ false }
+{
+    Arg::new(alloc, id).long(id).action(ArgAction::Set)
+}
+
+fn flag<'a>(alloc: Global, id: &'a str) -> Arg<'a>
+    ensures rule { rule_of result ≡ flag_rule id.entry.now }
+    ensures local { result.global ≡ false }
+{
+    Arg::new(alloc, id).long(id).action(ArgAction::SetTrue)
+}

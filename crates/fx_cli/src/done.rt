@@ -1,0 +1,12 @@
+// What a run did.
+
+use fx_strike::Report;
+
+/// What a run did.
+#[derive(Clone, Copy, Debug, PartialEq, Eq)]
+pub enum Done {
+    /// It wrote a strike, of which this was counted.
+    Strike(Report),
+    /// It wrote a listing.
+    Listing,
+}

@@ -1,0 +1,28 @@
+// What the words of a command line ask for.
+
+use fx_strike::Which;
+
+/// A task, and whether the font is hexadecimal text.
+#[derive(Clone, Copy)]
+pub struct Wish<'a> {
+    pub task: Task<'a>,
+    pub hex: bool,
+}
+
+/// What is to be written.
+#[derive(Clone, Copy)]
+pub enum Task<'a> {
+    /// A strike.
+    Strike(StrikeWords<'a>),
+    /// The listing of a program.
+    Listing(Which),
+}
+
+/// The words that ask for a strike.
+#[derive(Clone, Copy)]
+pub struct StrikeWords<'a> {
+    pub ppem: u16,
+    pub list: &'a str,
+    pub name: &'a str,
+    pub unhinted: bool,
+}

@@ -1,0 +1,6 @@
+pub mod Chain
+pub mod Seek
+pub mod Numbers
+pub mod Names
+pub mod Line
+pub mod Listing

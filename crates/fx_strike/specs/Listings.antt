@@ -1,0 +1,71 @@
+-- The programs of a font, and what a call that lists one leaves. `old` and `new` are the writer's bytes before and after, where
+-- they are known; `calm` and `after` its faults.
+use Rattle.std.specs.Prelude.{◌≡◌, ℕ, ◌<◌, List, [], codes, length, take, Option, Result, Ok, Err}
+use Rattle.std.specs.Io.KnownBytes.{Appends, Keeps}
+use Rattle.fx_fixed.specs.Chain.{◌>>=◌, map_fault}
+use Rattle.fx_sfnt.specs.Tables.{Face, font_of, table_or_empty}
+use Rattle.fx_sfnt.specs.Glyphs.{glyph_bytes_of}
+use Rattle.fx_glyf.specs.declared.glyph.Glyph as glyf
+use Rattle.fx_glyf.specs.declared.glyph.Glyph.TheVariants.{Empty, Simple, Composite}
+use Rattle.fx_glyf.specs.Glyphs.{glyph_of}
+use Rattle.fx_code.specs.Listing.{listing_text}
+use Rattle.fx_strike.specs.declared.listing.Which.{Which}
+use Rattle.fx_strike.specs.declared.listing.Which.TheVariants as which
+use Rattle.fx_strike.specs.declared.refusal.Refusal.{Refusal}
+use Rattle.fx_strike.specs.declared.refusal.Refusal.TheVariants.{WriteFailed}
+use Rattle.fx_strike.specs.Faults.{of_font, of_glyph}
+
+-- ---- programs
+
+-- the program in a glyph's description
+abbrev pub code_of : glyf.Glyph → List ℕ
+code_of Empty = []
+code_of (Simple shape) = shape.code
+code_of (Composite assembly) = assembly.code
+
+-- a program of an opened font, empty where its table is absent; or the first cause why it can't be read
+abbrev pub program_in : Face → Which → Result (List ℕ) Refusal
+program_in face which.Fpgm = Ok (table_or_empty face.file (codes "fpgm"))
+program_in face which.Prep = Ok (table_or_empty face.file (codes "prep"))
+program_in face (which.Glyph g) = do
+  bytes ← map_fault of_font (glyph_bytes_of face g)
+  glyph ← map_fault of_glyph (glyph_of bytes g)
+  Ok (code_of glyph)
+
+-- and of a font file
+unfoldable pub program_of : List ℕ → Which → Result (List ℕ) Refusal
+program_of file what = do
+  face ← map_fault of_font (font_of file)
+  program_in face what
+
+-- ---- their listing
+
+-- the program is there, and its listing was written
+pub record IsListed (program : Result (List ℕ) Refusal) (old new : Option (List ℕ)) : Type 0 where
+  pub code : List ℕ
+  pub is : program ≡ Ok code
+  pub written : Appends old new (listing_text code)
+
+-- the first cause was named, and nothing was written
+pub record IsNotListed (program : Result (List ℕ) Refusal) (old new : Option (List ℕ)) (refusal : Refusal) : Type 0 where
+  pub first : program ≡ Err refusal
+  pub kept : Keeps old new
+
+-- the writer failed: the program is there, exactly the first n bytes of its listing were written, and the writer counted a fault
+pub record IsListedTo (program : Result (List ℕ) Refusal) (old new : Option (List ℕ)) (calm after n : ℕ) : Type 0 where
+  pub code : List ℕ
+  pub is : program ≡ Ok code
+  pub short : n < length (listing_text code)
+  pub written : Appends old new (take n (listing_text code))
+  pub fault : calm < after
+
+-- a refusal other than a fault of the writer
+abbrev pub IsNoFault : Refusal → Type 0
+IsNoFault (WriteFailed n) = ⊥
+IsNoFault _ = Unit {0}
+
+-- all of it, by the answer
+abbrev pub Lists : Result (List ℕ) Refusal → Option (List ℕ) → Option (List ℕ) → ℕ → ℕ → Result (Unit {0}) Refusal → Type 0
+Lists program old new calm after (Ok _) = IsListed program old new
+Lists program old new calm after (Err (WriteFailed n)) = IsListedTo program old new calm after n
+Lists program old new calm after (Err refusal) = IsNotListed program old new refusal
