@@ -43,26 +43,6 @@ fn start(
     empty_made(alloc, scale, hinted, composite.x_min(), metrics)
 }
 
-/// A simple glyph's scaled points, before its program runs.
-#[tactic(auto, unfolding(crate::specs::Outlines::simple_made))]
-fn simple_made(
-    alloc: Global,
-    scale: Scale,
-    hinted: bool,
-    character: u16,
-    metrics: Metrics,
-    simple: &Simple<'_>,
-    count: &mut Count,
-) -> Result<Made, HintFault>
-    requires { 0 < scale.units }
-    ensures { GivesUnless Fails (λ m. (m, count.new)) result (simple_made scale hinted character metrics simple.now count.old) }
-{
-    let zone = zone_of(alloc, simple, scale)?;
-    count.more_points(character, zone.len())?;
-    let phantoms = PhantomPoints::of_glyph(scale, hinted, simple.x_min(), metrics);
-    Ok(Made { zone, phantoms })
-}
-
 /// The program of a glyph runs on its points and phantom points.
 fn run_on<H: Hinter>(hinter: &mut H, g: u16, code: &[u8], made: Made) -> Result<Made, HintFault>
     ensures kept { H.hinting hinter.new ≡ H.hinting hinter.old }
@@ -73,127 +53,130 @@ fn run_on<H: Hinter>(hinter: &mut H, g: u16, code: &[u8], made: Made) -> Result<
     Ok(made)
 }
 
-/// A glyph made whole, where so many levels of components are allowed below it.
-#[cycle(walk)]
-#[tactic(auto, unfolding(crate::specs::Outlines::whole))]
-fn whole<H: Hinter>(
+/// The walk over the components of one character.
+#[derive(Clone, Copy)]
+struct Walk<'w, 'a> {
     alloc: Global,
-    hinter: &mut H,
-    font: &Font<'_>,
+    font: &'w Font<'a>,
     scale: Scale,
     character: u16,
-    levels: u8,
-    g: u16,
-    count: &mut Count,
-) -> Result<Made, HintFault>
-    requires { 0 < scale.units }
-    ensures kept { H.hinting hinter.new ≡ H.hinting hinter.old }
-    ensures value { GivesUnless Fails (λ m. (m, count.new)) result (whole (H.hinting hinter.old) font.now scale character (component (H.hinting hinter.old) font.now scale character levels) g count.old) }
-{
-    let metrics = font.metrics(g)?;
-    let bytes = font.glyph_bytes(g)?;
-    let glyph = read(bytes, g)?;
-    made_of(
-        alloc, hinter, font, scale, character, levels, g, metrics, glyph, count,
-    )
 }
 
-/// A glyph that has been read, made whole by its own rule.
-#[cycle(walk)]
-#[tactic(auto, unfolding(crate::specs::Outlines::made_of, crate::specs::Outlines::run_on))]
-fn made_of<H: Hinter>(
-    alloc: Global,
-    hinter: &mut H,
-    font: &Font<'_>,
-    scale: Scale,
-    character: u16,
-    levels: u8,
-    g: u16,
-    metrics: Metrics,
-    glyph: Glyph<'_>,
-    count: &mut Count,
-) -> Result<Made, HintFault>
-    requires { 0 < scale.units }
-    ensures kept { H.hinting hinter.new ≡ H.hinting hinter.old }
-    ensures value { GivesUnless Fails (λ m. (m, count.new)) result (made_of (H.hinting hinter.old) scale character (component (H.hinting hinter.old) font.now scale character levels) g metrics glyph.entry count.old) }
-{
-    let on = hinter.is_on();
-    match glyph {
-        Glyph::Empty => Ok(empty_made(alloc, scale, on, 0, metrics)),
-        Glyph::Simple(simple) => {
-            let made = simple_made(alloc, scale, on, character, metrics, &simple, count)?;
-            run_on(hinter, g, simple.code(), made)
+impl<'w, 'a> Walk<'w, 'a> {
+    /// A simple glyph's scaled points, before its program runs.
+    #[tactic(auto, unfolding(crate::specs::Outlines::simple_made))]
+    fn simple_made(
+        &self,
+        hinted: bool,
+        metrics: Metrics,
+        simple: &Simple<'_>,
+        count: &mut Count,
+    ) -> Result<Made, HintFault>
+        requires { 0 < self.now.scale.units }
+        ensures { GivesUnless Fails (λ m. (m, count.new)) result (simple_made self.now.scale hinted self.now.character metrics simple.now count.old) }
+    {
+        let zone = zone_of(self.alloc, simple, self.scale)?;
+        count.more_points(self.character, zone.len())?;
+        let phantoms = PhantomPoints::of_glyph(self.scale, hinted, simple.x_min(), metrics);
+        Ok(Made { zone, phantoms })
+    }
+
+    /// A glyph made whole, where so many levels of components are allowed below it.
+    #[cycle(walk)]
+    #[tactic(auto, unfolding(crate::specs::Outlines::whole))]
+    fn whole<H: Hinter>(
+        &self,
+        hinter: &mut H,
+        levels: u8,
+        g: u16,
+        count: &mut Count,
+    ) -> Result<Made, HintFault>
+        requires { 0 < self.now.scale.units }
+        ensures kept { H.hinting hinter.new ≡ H.hinting hinter.old }
+        ensures value { GivesUnless Fails (λ m. (m, count.new)) result (whole (H.hinting hinter.old) self.now.font.now self.now.scale self.now.character (component (H.hinting hinter.old) self.now.font.now self.now.scale self.now.character levels) g count.old) }
+    {
+        let metrics = self.font.metrics(g)?;
+        let bytes = self.font.glyph_bytes(g)?;
+        let glyph = read(bytes, g)?;
+        self.made_of(hinter, levels, g, metrics, glyph, count)
+    }
+
+    /// A glyph that has been read, made whole by its own rule.
+    #[cycle(walk)]
+    #[tactic(auto, unfolding(crate::specs::Outlines::made_of, crate::specs::Outlines::run_on))]
+    fn made_of<H: Hinter>(
+        &self,
+        hinter: &mut H,
+        levels: u8,
+        g: u16,
+        metrics: Metrics,
+        glyph: Glyph<'_>,
+        count: &mut Count,
+    ) -> Result<Made, HintFault>
+        requires { 0 < self.now.scale.units }
+        ensures kept { H.hinting hinter.new ≡ H.hinting hinter.old }
+        ensures value { GivesUnless Fails (λ m. (m, count.new)) result (made_of (H.hinting hinter.old) self.now.scale self.now.character (component (H.hinting hinter.old) self.now.font.now self.now.scale self.now.character levels) g metrics glyph.entry count.old) }
+    {
+        let on = hinter.is_on();
+        match glyph {
+            Glyph::Empty => Ok(empty_made(self.alloc, self.scale, on, 0, metrics)),
+            Glyph::Simple(simple) => {
+                let made = self.simple_made(on, metrics, &simple, count)?;
+                run_on(hinter, g, simple.code(), made)
+            }
+            Glyph::Composite(composite) => {
+                let base = start(self.alloc, self.scale, on, &composite, metrics);
+                let parts = composite.components();
+                let made = self.with_parts(hinter, levels, g, parts, base, count)?;
+                run_on(hinter, g, composite.code(), made)
+            }
         }
-        Glyph::Composite(composite) => {
-            let base = start(alloc, scale, on, &composite, metrics);
-            let made = with_parts(
-                alloc,
-                hinter,
-                font,
-                scale,
-                character,
-                levels,
-                g,
-                composite.components(),
-                base,
-                count,
-            )?;
-            run_on(hinter, g, composite.code(), made)
+    }
+
+    /// The components of a composite, in order.
+    #[cycle(walk)]
+    fn with_parts<H: Hinter>(
+        &self,
+        hinter: &mut H,
+        levels: u8,
+        g: u16,
+        parts: Components<'_>,
+        base: Made,
+        count: &mut Count,
+    ) -> Result<Made, HintFault>
+        requires { 0 < self.now.scale.units }
+        ensures kept { H.hinting hinter.new ≡ H.hinting hinter.old }
+        ensures value { GivesUnless Fails (λ m. (m, count.new)) result (with_parts self.now.scale (H.hinting hinter.old).on (component (H.hinting hinter.old) self.now.font.now self.now.scale self.now.character levels) g parts.entry base count.old) }
+    {
+        let on = hinter.is_on();
+        let mut base = base;
+        'parts: for part in parts {
+            let made = self.component(hinter, levels, part.glyph, count)?;
+            base = with_part(self.alloc, base, self.scale, on, g, part, made)?;
         }
+        Ok(base)
     }
-}
 
-/// The components of a composite, in order.
-#[cycle(walk)]
-fn with_parts<H: Hinter>(
-    alloc: Global,
-    hinter: &mut H,
-    font: &Font<'_>,
-    scale: Scale,
-    character: u16,
-    levels: u8,
-    g: u16,
-    parts: Components<'_>,
-    base: Made,
-    count: &mut Count,
-) -> Result<Made, HintFault>
-    requires { 0 < scale.units }
-    ensures kept { H.hinting hinter.new ≡ H.hinting hinter.old }
-    ensures value { GivesUnless Fails (λ m. (m, count.new)) result (with_parts scale (H.hinting hinter.old).on (component (H.hinting hinter.old) font.now scale character levels) g parts.entry base count.old) }
-{
-    let on = hinter.is_on();
-    let mut base = base;
-    'parts: for part in parts {
-        let made = component(
-            alloc, hinter, font, scale, character, levels, part.glyph, count,
-        )?;
-        base = with_part(alloc, base, scale, on, g, part, made)?;
+    /// A component made whole, where it and so many levels less one below it are allowed.
+    #[cycle(walk)]
+    #[tactic(auto, unfolding(crate::specs::Outlines::component))]
+    fn component<H: Hinter>(
+        &self,
+        hinter: &mut H,
+        levels: u8,
+        g: u16,
+        count: &mut Count,
+    ) -> Result<Made, HintFault>
+        requires { 0 < self.now.scale.units }
+        ensures kept { H.hinting hinter.new ≡ H.hinting hinter.old }
+        ensures value { GivesUnless Fails (λ m. (m, count.new)) result (component (H.hinting hinter.old) self.now.font.now self.now.scale self.now.character levels g count.old) }
+    {
+        if levels == 0 {
+            return Err(HintFault::ComponentDepth(g));
+        }
+        count.one_record(self.character)?;
+        self.whole(hinter, levels - 1, g, count)
     }
-    Ok(base)
-}
-
-/// A component made whole, where it and so many levels less one below it are allowed.
-#[cycle(walk)]
-#[tactic(auto, unfolding(crate::specs::Outlines::component))]
-fn component<H: Hinter>(
-    alloc: Global,
-    hinter: &mut H,
-    font: &Font<'_>,
-    scale: Scale,
-    character: u16,
-    levels: u8,
-    g: u16,
-    count: &mut Count,
-) -> Result<Made, HintFault>
-    requires { 0 < scale.units }
-    ensures kept { H.hinting hinter.new ≡ H.hinting hinter.old }
-    ensures value { GivesUnless Fails (λ m. (m, count.new)) result (component (H.hinting hinter.old) font.now scale character levels g count.old) }
-{
-    if levels == 0 {
-        return Err(HintFault::ComponentDepth(g));
-    }
-    count.one_record(character)?;
-    whole(alloc, hinter, font, scale, character, levels - 1, g, count)
 }
 
 /// A character's glyph made whole.
@@ -209,9 +192,15 @@ pub fn character_made<H: Hinter>(
     ensures kept { H.hinting hinter.new ≡ H.hinting hinter.old }
     ensures value { GivesUnless Fails (λ m. m) result (character_made (H.hinting hinter.old) font.now scale g) }
 {
+    let walk = Walk {
+        alloc,
+        font,
+        scale,
+        character: g,
+    };
     let mut count = Count {
         records: 0,
         points: 0,
     };
-    whole(alloc, hinter, font, scale, g, 8, g, &mut count)
+    walk.whole(hinter, 8, g, &mut count)
 }

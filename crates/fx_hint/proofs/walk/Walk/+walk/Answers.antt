@@ -1,7 +1,7 @@
 use Rattle.std.proofs.Common.{rules}
 use Rattle.std.proofs.lemmas.Result.{err_from_is_err_and}
 use Rattle.fx_hint.proofs.Walking.{fails_on, refused_at, unplaced_at, taken_at, all_taken, composite_runs}
-use Rattle.fx_hint.proofs.walk.+walk.Goals as goal
+use Rattle.fx_hint.proofs.walk.Walk.+walk.Goals as goal
 
 pub with_parts-returns-in_err-made-clause-value : goal.with_parts-returns-in_err-made-clause-value
 with_parts-returns-in_err-made-clause-value g t c =
@@ -30,6 +30,6 @@ with_parts-returns-clause-value g t c = all_taken _ _ _ _ _ _ _ _ c.in-None.ensu
 
 pub made_of-returns-in_ok-made-in-Composite-clause-value : goal.made_of-returns-in_ok-made-in-Composite-clause-value
 made_of-returns-in_ok-made-in-Composite-clause-value g t c =
-    let w = rw (c.components.ensures, c.start-base.ensures, c.is_on-on.ensures) at c.in_ok-made-in-Composite.ensures.value in
+    let w = rw (c.components-parts.ensures, c.start-base.ensures, c.is_on-on.ensures) at c.in_ok-made-in-Composite.ensures.value in
     let v = rw (c.in_ok-made-in-Composite.ensures.kept, c.code-in-Composite.ensures.value) at c.run_on-in-Composite.ensures.value in
     composite_runs _ _ _ _ _ _ _ _ _ _ _ _ c.in-Composite.is w v
