@@ -17,7 +17,11 @@ pub wanted_then : {A B E : Type 0} {P : Type 0} (o : Option A) (e : E) (f : A �
 wanted_then (Some x) e f y h k = k x refl h
 wanted_then None e f y h k = absurd (cc)
 
--- one value
+-- the values of two answers that are one
+pub ok_injective : {A E : Type 0} (x y : A) → ◌≡◌ {A = Result A E} (Ok x) (Ok y) → x ≡ y
+ok_injective x y h = cc
+
+-- two values of one answer
 pub same_Ok : {A E : Type 0} {r : Result A E} (x y : A) → r ≡ Ok x → r ≡ Ok y → x ≡ y
 same_Ok x y h k = cc
 

@@ -1,4 +1,5 @@
 pub mod Rounding
+pub mod Greatest
 pub mod Units
 pub mod Writing
 pub mod Decimals

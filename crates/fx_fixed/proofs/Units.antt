@@ -1,9 +1,11 @@
 -- A direction has one unit vector, and it is the function's.
-use Rattle.std.proofs.Common.{◌≡◌, ◌≢◌, ℕ, zero, suc, ◌-◌, ◌*◌, ◌<◌, ◌≤◌, Bool, true, false, cond, nat_eq, arith, ℤ, pos, negsuc, neg_ℤ, unsigned_abs, refl, sym, ◌∙◌, ap}
+use Rattle.std.proofs.Common.{◌≡◌, ◌≢◌, ℕ, zero, suc, ◌-◌, ◌*◌, ◌<◌, ◌≤◌, Bool, true, false, cond, nat_eq, arith, ℤ, pos, negsuc, neg_ℤ, unsigned_abs, refl, sym, ◌∙◌}
 use Rattle.std.proofs.Math.Nat.{mul-le-mul_right, mul-le-mul}
 use Rattle.std.proofs.lemmas.Int.{ints, by_lt_z}
 use Rattle.std.proofs.lemmas.Bool.Decides.{nat_tests}
-use Rattle.fx_fixed.specs.Unit.{IsGreatestOrZero, Admits, IsComponent, IsUnit, square_length, admits, greatest_passing, component_size, component_of, unit_of, UnitOfIsUnit}
+use Rattle.fx_fixed.specs.Greatest.{IsGreatestOrZero, greatest_passing}
+use Rattle.fx_fixed.proofs.Greatest.{passing, greatest_below}
+use Rattle.fx_fixed.specs.Unit.{Admits, IsComponent, IsUnit, square_length, admits, component_size, component_of, unit_of, UnitOfIsUnit}
 
 -- what is admitted is admitted further down too
 pub admits_below : (x s j k : ℕ) → 1 ≤ j → j ≤ k → Admits x s k → Admits x s j
@@ -16,27 +18,6 @@ pub admits_small : (x s k : ℕ) → s ≢ 0 → x * x ≤ s → Admits x s k �
 admits_small x s k z h a =
     let past : 16384 < k → ⊥ = λ l. let b = admits_below x s 16385 k (omega arith) l a in omega (arith, b) in
     omega arith
-
--- g is the greatest number up to n that passes, or 0
-record Passing (test : ℕ → Bool) (n g : ℕ) : Type 0 where
-  passes : g ≢ 0 → test g ≡ true
-  greatest : (k : ℕ) → 1 ≤ k → k ≤ n → test k ≡ true → k ≤ g
-
--- one step of the search, by what the test says
-passing_step : (test : ℕ → Bool) (n g : ℕ) (b : Bool) → test (suc n) ≡ b → Passing test n g → Passing test (suc n) (cond b (suc n) g)
-passing_step test n g true e h = record { passes = λ z. e; greatest = λ k one l t. l }
-passing_step test n g false e h = record {
-  passes = h.passes;
-  greatest = λ k one l t.
-      let other : k ≡ suc n → ⊥ = λ i. let clash : true ≡ false = sym t ∙ ap test i ∙ e in cc in
-      h.greatest k one (omega arith) t;
-}
-
--- the search goes down from n
-passing : (test : ℕ → Bool) (n : ℕ) → Passing test n (greatest_passing test n)
-unfolding greatest_passing
-passing test zero = record { passes = λ z. absurd (z refl); greatest = λ k one l t. omega arith }
-passing test (suc n) = passing_step test n (greatest_passing test n) (test (suc n)) refl (passing test n)
 
 -- the test is the rule
 admits_true : (x s c : ℕ) → admits x s c ≡ true → 1 ≤ c → Admits x s c
@@ -82,16 +63,11 @@ unit_of_is_unit x y = unit_at x y (nat_eq (square_length x y) 0) refl
 
 -- ---- one answer
 
--- two greatest numbers of one kind are one
-greatest_one : (P : ℕ → Type 0) (c d : ℕ) → IsGreatestOrZero P c → IsGreatestOrZero P d → c ≤ d
-greatest_one P zero d g h = omega arith
-greatest_one P (suc c) d g h = h.greatest (suc c) (g.member (omega arith))
-
 component_one : (x : ℤ) (s : ℕ) (u v : ℤ) → IsComponent x s u → IsComponent x s v → u ≡ v
 component_one x s u v g h =
     let P = Admits (unsigned_abs x) s in
-    let below = greatest_one P (unsigned_abs u) (unsigned_abs v) g.size h.size in
-    let above = greatest_one P (unsigned_abs v) (unsigned_abs u) h.size g.size in
+    let below = greatest_below P (unsigned_abs u) (unsigned_abs v) g.size h.size in
+    let above = greatest_below P (unsigned_abs v) (unsigned_abs u) h.size g.size in
     by_lt_z x (pos 0) (λ l. omega (arith, ints, g.not_positive (omega (arith, ints)), h.not_positive (omega (arith, ints)))) (λ n. omega (arith, ints, g.not_negative (omega (arith, ints)), h.not_negative (omega (arith, ints))))
 
 pub unit_one : (x y u v u' v' : ℤ) (z : Bool) → nat_eq (square_length x y) 0 ≡ z → IsUnit x y u v → IsUnit x y u' v' → (u ≡ u') × (v ≡ v')

@@ -1,4 +1,5 @@
 pub mod Numbers
+pub mod Greatest
 pub mod Unit
 pub mod Chain
 pub mod Wrote

@@ -1,10 +1,6 @@
 -- The unit vector in 2.14 of a direction (this project's own choice of rounding).
-use Rattle.std.specs.Prelude.{◌≡◌, ℕ, zero, suc, ◌+◌, ◌-◌, ◌*◌, ◌^◌, ◌≤◌, ◌≢◌, Bool, nat_le, ◌==◌, if◌then◌else◌, ℤ, pos, negsuc, neg_ℤ, ◌≤ℤ◌, unsigned_abs}
-
--- c is the greatest number of which P holds, or 0 where it holds of none
-pub record IsGreatestOrZero (P : ℕ → Type 0) (c : ℕ) : Type 0 where
-  pub member : c ≢ 0 → P c
-  pub greatest : (k : ℕ) → P k → k ≤ c
+use Rattle.std.specs.Prelude.{◌≡◌, ℕ, suc, ◌+◌, ◌-◌, ◌*◌, ◌^◌, ◌≤◌, ◌≢◌, Bool, nat_le, ◌==◌, if◌then◌else◌, ℤ, pos, negsuc, neg_ℤ, ◌≤ℤ◌, unsigned_abs}
+use Rattle.fx_fixed.specs.Greatest.{IsGreatestOrZero, greatest_passing}
 
 -- c is no more than half a unit above the exact size of a component, at the squared length s
 abbrev pub Admits : ℕ → ℕ → ℕ → Type 0
@@ -26,11 +22,6 @@ pub record IsUnit (x y u v : ℤ) : Type 0 where
   pub vertical : square_length x y ≢ 0 → IsComponent y (square_length x y) v
 
 -- The same as a function, for definitions that name the answer.
-
--- the greatest number up to n that passes, or 0
-unfoldable pub greatest_passing : (ℕ → Bool) → ℕ → ℕ
-greatest_passing test zero = 0
-greatest_passing test (suc n) = if test (suc n) then suc n else greatest_passing test n
 
 abbrev pub admits : ℕ → ℕ → ℕ → Bool
 admits coordinate s c = nat_le ((2 * c - 1) * (2 * c - 1) * s) (4 * 2 ^ 28 * (coordinate * coordinate))

@@ -1,7 +1,8 @@
 // Unit vectors.
 ghost use Rattle.std.specs.Prelude.{◌≡◌, ◌≢◌, ◌↔◌, ◌+◌, ◌*◌, ◌^◌, ◌<◌, ◌≤◌, IsTrue, unsigned_abs};
 ghost use Rattle.fx_fixed.specs.Ranges.{IsWithin};
-ghost use Rattle.fx_fixed.specs.Unit.{IsGreatestOrZero, Admits, IsComponent, IsUnit, PointsAlong, UnitIsFunctional, UnitOfIsUnit, unit_of};
+ghost use Rattle.fx_fixed.specs.Greatest.{IsGreatestOrZero};
+ghost use Rattle.fx_fixed.specs.Unit.{Admits, IsComponent, IsUnit, PointsAlong, UnitIsFunctional, UnitOfIsUnit, unit_of};
 
 use super::numbers::F2;
 

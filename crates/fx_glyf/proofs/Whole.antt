@@ -6,7 +6,7 @@ use Rattle.std.proofs.lemmas.List.{take-append-drop, length-take-le, drop-take, 
 use Rattle.byteorder.specs.Endian.{big_number}
 use Rattle.byteorder.specs.Numbers.{big_from-take}
 use Rattle.fx_fixed.specs.Chain.{◌>>=◌, refuse, map_ok}
-use Rattle.fx_fixed.proofs.Chain.{refuse_ok, wanted_ok, map_ok_ok}
+use Rattle.fx_fixed.proofs.Chain.{refuse_ok, wanted_ok, map_ok_ok, ok_injective}
 use Rattle.fx_sfnt.specs.Fields.{field}
 use Rattle.fx_glyf.specs.declared.point.Point.{Point}
 use Rattle.fx_glyf.specs.declared.part.Part.{Part}
@@ -24,9 +24,6 @@ use Rattle.fx_glyf.proofs.EndPoints.{ends_counted, ends_count}
 use Rattle.fx_glyf.proofs.PointsDescribed.{found_points, only_points}
 use Rattle.fx_glyf.proofs.PartsDescribed.{found_parts, only_parts}
 use Rattle.fx_glyf.proofs.Programs.{found_program, only_program, found_header, headed}
-
-same_ok : {A E : Type 0} (x y : A) → ◌≡◌ {A = Result A E} (Ok x) (Ok y) → x ≡ y
-same_ok x y h = cc
 
 words_take : (n m : ℕ) (xs : List ℕ) → 2 * n ≤ m → words n (take m xs) ≡ words n xs
 unfolding words
@@ -52,7 +49,7 @@ found_simple bytes g s long low high h =
     let d = wanted_ok _ _ _ _ c.2 in
     let program = found_program (drop (2 * field 2 bytes 0) (drop 10 bytes)) c.0 c.1 in
     let P : Shape → Type 0 = DescribesSimple bytes in
-    subst P (same_ok _ _ d.2) (record {
+    subst P (ok_injective _ _ d.2) (record {
       header = take 10 bytes;
       contours = field 2 bytes 0;
       ends = take (2 * field 2 bytes 0) (drop 10 bytes);
@@ -111,7 +108,7 @@ found_composite bytes g s long high h =
     let parts = found_parts (drop 10 bytes) a.0.0 a.0.1 a.1 in
     let program = found_announced (has_program a.0.0) a.0.1 b.0 b.1 in
     let P : Assembly → Type 0 = DescribesComposite bytes in
-    subst P (same_ok _ _ b.2) (record {
+    subst P (ok_injective _ _ b.2) (record {
       header = take 10 bytes;
       contours = field 2 bytes 0;
       parts = parts.front;
@@ -182,7 +179,7 @@ found_body true below bytes g glyph long n b h =
     let P : Glyph → Type 0 = Describes bytes in
     let k = found_header bytes long in
     let zero_is : field 2 bytes 0 ≡ 0 = eqb-true _ _ n in
-    subst P (same_ok _ _ h) (inr (record {
+    subst P (ok_injective _ _ h) (inr (record {
       header = take 10 bytes;
       rest = drop 10 bytes;
       x_min = x_min_of bytes;
@@ -203,7 +200,7 @@ pub found_glyph : (bytes : List ℕ) (g : ℕ) (glyph : Glyph) → glyph_of byte
 unfolding glyph_of
 found_glyph [] g glyph h =
     let P : Glyph → Type 0 = Describes [] in
-    subst P (same_ok _ _ h) (inl refl)
+    subst P (ok_injective _ _ h) (inl refl)
 found_glyph (b ∷ bytes) g glyph h =
     let a = refuse_ok _ _ _ _ h in
     found_body _ _ (b ∷ bytes) g glyph (ltb-false _ _ a.0) refl refl a.1

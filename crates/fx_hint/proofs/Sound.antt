@@ -1,10 +1,10 @@
 -- A glyph made whole has the points that were counted, and its contours end with them.
-use Rattle.std.proofs.Common.{◌≡◌, ℕ, zero, suc, ◌+◌, ◌≤◌, List, [], ◌∷◌, ◌++◌, length, map, Bool, Result, Ok, refl, sym, ap, ◌∙◌, subst, arith, length-append}
+use Rattle.std.proofs.Common.{◌≡◌, ℕ, zero, suc, ◌+◌, ◌≤◌, List, [], ◌∷◌, ◌++◌, length, map, Bool, Ok, refl, sym, ap, ◌∙◌, subst, arith, length-append}
 use Rattle.std.specs.Prelude.{nat_lt, nat_le}
 use Rattle.std.proofs.lemmas.Bool.{ltb-false}
 use Rattle.std.proofs.lemmas.List.{length-map}
 use Rattle.fx_fixed.specs.Chain.{◌>>=◌, map_fault}
-use Rattle.fx_fixed.proofs.Chain.{bind_ok, refuse_ok, map_fault_ok}
+use Rattle.fx_fixed.proofs.Chain.{bind_ok, refuse_ok, map_fault_ok, ok_injective}
 use Rattle.fx_sfnt.specs.declared.records.Metrics.{Metrics}
 use Rattle.fx_sfnt.specs.Tables.{Face}
 use Rattle.fx_sfnt.specs.Glyphs.{metrics_of, glyph_bytes_of}
@@ -38,9 +38,6 @@ record IsCounted (count : Count) (made : Made) (counted : Count) : Type 0 where
 abbrev AllCounted : Maker → Type 0
 AllCounted make = (g : ℕ) (count : Count) (r : Made × Count) → count.points ≤ 16384 → make g count ≡ Ok r → IsCounted count r.0 r.1
 
-same_ok : {A E : Type 0} (x y : A) → ◌≡◌ {A = Result A E} (Ok x) (Ok y) → x ≡ y
-same_ok x y h = cc
-
 -- the contours of a simple glyph that was read end with its points
 abbrev IsLawful : glyf.Glyph → Type 0
 IsLawful Empty = Unit {0}
@@ -60,14 +57,14 @@ record_kept : (character : ℕ) (count counted : Count) → one_record character
 unfolding one_record
 record_kept character count counted h =
     let r = refuse_ok (nat_le 256 count.records) (TooManyComponents character) (λ _. Ok (record count { records = count.records + 1 })) counted h in
-    ap (λ (c : Count). c.points) (sym (same_ok _ _ r.1))
+    ap (λ (c : Count). c.points) (sym (ok_injective _ _ r.1))
 
 points_counted : (character n : ℕ) (count counted : Count) → more_points character n count ≡ Ok counted → (count.points + n ≡ counted.points) × (counted.points ≤ 16384)
 unfolding more_points
 points_counted character n count counted h =
     let r = refuse_ok (nat_lt 16384 (count.points + n)) (TooManyPoints character) (λ _. Ok (record count { points = count.points + n })) counted h in
     let low = ltb-false 16384 (count.points + n) r.0 in
-    let e : count.points + n ≡ counted.points = ap (λ (c : Count). c.points) (same_ok _ _ r.1) in
+    let e : count.points + n ≡ counted.points = ap (λ (c : Count). c.points) (ok_injective _ _ r.1) in
     (e, omega arith)
 
 simple_counted : (s : Scale) (hinted : Bool) (character : ℕ) (m : Metrics) (shape : Shape) (count : Count) (r : Made × Count) → AreEnds 0 shape.ends (length shape.points) → simple_made s hinted character m shape count ≡ Ok r → IsCounted count r.0 r.1
@@ -78,7 +75,7 @@ simple_counted s hinted character m shape count r a h =
     let n : length (map (scaled_point s) shape.points) ≡ length shape.points = length-map shape.points (scaled_point s) in
     let P : Made × Count → Type 0 = λ q. IsCounted count q.0 q.1 in
     let Q : ℕ → Type 0 = λ k. AreEnds 0 shape.ends k in
-    subst P (same_ok _ _ b.2) (record {
+    subst P (ok_injective _ _ b.2) (record {
       points = ap (λ k. count.points + k) n ∙ c.0;
       few = c.1;
       contours = subst Q (sym n) a;
@@ -93,7 +90,7 @@ run_counted h g code count made r keeps k e =
     let P : Made × Count → Type 0 = λ q. IsCounted count q.0 q.1 in
     let Q : List ℕ → Type 0 = λ es. AreEnds 0 es (length b.0.zone.points) in
     let R : ℕ → Type 0 = λ n. AreEnds 0 made.0.zone.ends n in
-    subst P (same_ok _ _ b.2) (record {
+    subst P (ok_injective _ _ b.2) (record {
       points = ap (λ n. count.points + n) same.0 ∙ k.points;
       few = k.few;
       contours = subst Q (sym same.1) (subst R (sym same.0) k.contours);
@@ -104,7 +101,7 @@ part_joined : (s : Scale) (hinted : Bool) (g : ℕ) (part : Part) (base componen
 unfolding with_part
 part_joined s hinted g part base component more a b h =
     let p = bind_ok (offset_of s hinted g part base.zone component.zone) _ more h in
-    let zone : joined base.zone (laid_figure part p.0 component.zone) ≡ more.zone = ap (λ (m : Made). m.zone) (same_ok _ _ p.2) in
+    let zone : joined base.zone (laid_figure part p.0 component.zone) ≡ more.zone = ap (λ (m : Made). m.zone) (ok_injective _ _ p.2) in
     let n : length (map (laid part p.0) component.zone.points) ≡ length component.zone.points = length-map component.zone.points (laid part p.0) in
     let total : length (base.zone.points ++ map (laid part p.0) component.zone.points) ≡ length base.zone.points + length component.zone.points = length-append base.zone.points _ ∙ ap (λ k. length base.zone.points + k) n in
     let P : Figure → Type 0 = λ f. (length f.points ≡ length base.zone.points + length component.zone.points) × AreEnds 0 f.ends (length f.points) in
@@ -121,7 +118,7 @@ parts_joined : (s : Scale) (hinted : Bool) (make : Maker) (g : ℕ) (parts : Lis
 unfolding with_parts
 parts_joined s hinted make g [] base count r all low a h =
     let P : Made × Count → Type 0 = λ q. AreJoined base count q.0 q.1 in
-    subst P (same_ok _ _ h) (record { points = omega arith; few = low; contours = a })
+    subst P (ok_injective _ _ h) (record { points = omega arith; few = low; contours = a })
 parts_joined s hinted make g (part ∷ parts) base count r all low a h =
     let b = bind_ok (make part.glyph count) _ r h in
     let component = all part.glyph count b.0 low b.1 in
@@ -137,7 +134,7 @@ made_counted : (h : Hinting) (s : Scale) (character : ℕ) (make : Maker) (g : �
 unfolding made_of
 made_counted h s character make g m Empty count r keeps all low lawful e =
     let P : Made × Count → Type 0 = λ q. IsCounted count q.0 q.1 in
-    subst P (same_ok _ _ e) (record { points = omega arith; few = low; contours = refl })
+    subst P (ok_injective _ _ e) (record { points = omega arith; few = low; contours = refl })
 made_counted h s character make g m (Simple shape) count r keeps all low lawful e =
     let b = bind_ok (simple_made s h.on character m shape count) (run_on h g shape.code) r e in
     run_counted h g shape.code count b.0 r keeps (simple_counted s h.on character m shape count b.0 lawful b.1) b.2
@@ -174,4 +171,4 @@ character_sound h face s g made keeps e =
     let n = w.points in
     let f = w.few in
     let P : Made → Type 0 = λ m. IsSound m in
-    subst P (same_ok _ _ b.2) (record { few = omega arith; contours = w.contours })
+    subst P (ok_injective _ _ b.2) (record { few = omega arith; contours = w.contours })

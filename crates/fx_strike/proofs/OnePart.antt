@@ -4,7 +4,7 @@ use Rattle.std.specs.Prelude.{IsTrue, Contains, neg_ℤ, filter}
 use Rattle.std.specs.List.{count_by}
 use Rattle.fx_fixed.specs.Chain.{◌>>=◌, map_fault, map_chain}
 use Rattle.fx_fixed.specs.Numbers.{near_of}
-use Rattle.fx_fixed.proofs.Chain.{bind_ok, map_fault_ok}
+use Rattle.fx_fixed.proofs.Chain.{bind_ok, map_fault_ok, same_Ok}
 use Rattle.fx_sfnt.specs.Tables.{Face, font_of}
 use Rattle.fx_sfnt.specs.Glyphs.{metrics_of}
 use Rattle.fx_sfnt.specs.declared.records.Metrics.{Metrics}
@@ -138,9 +138,6 @@ parts_of file ppem name chars hinting plan h =
     sketches_along : (x plan : Plan) (r : Result (List Sketch) Refusal) → x ≡ plan → r ≡ Ok x.sketches → r ≡ Ok plan.sketches
     sketches_along x plan r e h = h ∙ ap (λ (y : Plan). Ok y.sketches) e
 
-same_ok : {X E : Type 0} (r : Result X E) (x y : X) → r ≡ Ok x → r ≡ Ok y → x ≡ y
-same_ok r x y h g = cc
-
 -- a sketch of a plan is that of its code point
 sketch_there : (file : List ℕ) (ppem : ℕ) (chars : List ℕ) (ss : List Sketch) (p : Parts file ppem chars ss) (s : Sketch) → Contains ss s → sketch_of p.face p.segments ppem s.code ≡ Ok s
 sketch_there file ppem chars ss p s h =
@@ -152,9 +149,9 @@ pub part_is_one : PartIsOne
 part_is_one file ppem hinting name name2 chars chars2 plan plan2 h g s t i j e =
     let p = parts_of file ppem name chars hinting plan h in
     let q = parts_of file ppem name2 chars2 hinting plan2 g in
-    let faces : p.face ≡ q.face = same_ok (font_of file) p.face q.face p.font q.font in
+    let faces : p.face ≡ q.face = same_Ok p.face q.face p.font q.font in
     let F : Face → Type 0 = λ face. map_of_file face.file ≡ Ok p.segments in
-    let maps : p.segments ≡ q.segments = same_ok (map_of_file q.face.file) p.segments q.segments (subst F faces p.map_is) q.map_is in
-    same_ok (sketch_of q.face q.segments ppem t.code) s t
+    let maps : p.segments ≡ q.segments = same_Ok p.segments q.segments (subst F faces p.map_is) q.map_is in
+    same_Ok s t
     (ap (λ (c : ℕ). sketch_of q.face q.segments ppem c) (sym e) ∙ ap (λ (m : Segments). sketch_of q.face m ppem s.code) (sym maps) ∙ ap (λ (f : Face). sketch_of f p.segments ppem s.code) (sym faces) ∙ sketch_there file ppem chars plan.sketches p s i)
     (sketch_there file ppem chars2 plan2.sketches q t j)

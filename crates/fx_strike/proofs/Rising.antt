@@ -8,6 +8,7 @@ use Rattle.std.proofs.lemmas.Bool.Decides.{nat_tests}
 use Rattle.std.proofs.lemmas.List.Kept.{Contains-dedup_nat, Contains-from_dedup}
 use Rattle.std.proofs.lemmas.List.Sorted.{Contains-permutation, IsPermutation-sym}
 use Rattle.std.proofs.lemmas.Map.Keys.{IsStrictlyIncreasing-dedup}
+use Rattle.std.proofs.lemmas.Bool.{or_parts}
 use lib.Dec.{eqb}
 use Rattle.fx_strike.specs.Characters.{with_code, rising, RisingAreRisen, RisenIsOne}
 
@@ -31,10 +32,6 @@ IsIn x (c ∷ cs) = (x ≡ c) ⊎ IsIn x cs
 neither : (a b : Bool) → a ≡ false → b ≡ false → (a || b) ≡ false
 neither true b p q = absurd (cc)
 neither false b p q = q
-
-none_of : (a b : Bool) → (a || b) ≡ false → (a ≡ false) × (b ≡ false)
-none_of true b h = absurd (cc)
-none_of false b h = (refl, h)
 
 by_order : {P : Type 0} (c d : ℕ) → (c < d → P) → (c ≡ d → P) → (d < c → P) → P
 by_order c d f g h = elim (three c d) [ inl p ↦ f p | inr (inl p) ↦ g p | inr (inr p) ↦ h p ]
@@ -204,7 +201,7 @@ any_put : (p : ℕ → Bool) (c : ℕ) (ds : List ℕ) → p c ≡ false → lis
 any_put p c [] h g = neither (p c) false h refl
 any_put p c (d ∷ ds) h g =
     let P : List ℕ → Type 0 = λ xs. list_any p xs ≡ false in
-    let q = none_of (p d) (list_any p ds) g in
+    let q = or_parts (p d) (list_any p ds) g in
     by_order c d
     (λ e. subst P (sym (put_before c d ds e)) (neither (p c) (list_any p (d ∷ ds)) h g))
     (λ e. subst P (sym (put_at c d ds e)) g)
@@ -213,7 +210,7 @@ any_put p c (d ∷ ds) h g =
 any_rising : (p : ℕ → Bool) (chars : List ℕ) → list_any p chars ≡ false → list_any p (rising chars) ≡ false
 unfolding rising
 any_rising p [] h = h
-any_rising p (c ∷ cs) h = let q = none_of (p c) (list_any p cs) h in any_put p c (rising cs) q.0 (any_rising p cs q.1)
+any_rising p (c ∷ cs) h = let q = or_parts (p c) (list_any p cs) h in any_put p c (rising cs) q.0 (any_rising p cs q.1)
 
 -- none is past a limit where none that is asked for is
 pub small_rising : (p : ℕ → Bool) (chars codes : List ℕ) → codes ≡ rising chars → list_any p chars ≡ false → list_any p codes ≡ false

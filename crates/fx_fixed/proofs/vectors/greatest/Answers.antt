@@ -1,11 +1,10 @@
-use Rattle.std.proofs.Common.{◌<◌, arith}
+use Rattle.std.proofs.Common.{arith}
+use Rattle.fx_fixed.specs.Unit.{Admits}
+use Rattle.fx_fixed.proofs.Greatest.{greatest_between}
 use Rattle.fx_fixed.proofs.Units.{admits_below}
 use Rattle.fx_fixed.proofs.vectors.greatest.Goals as goal
 
 pub returns-clause-value : goal.returns-clause-value
-returns-clause-value c = record {
-  member = c.loop-low.invariant.below;
-  greatest = λ k a.
-      let beyond : c.loop-low.low < k → ⊥ = λ l. c.loop-low.invariant.above (admits_below _ _ _ k (omega arith) (omega arith) a) in
-      omega arith;
-}
+returns-clause-value c =
+    let i = c.loop-low.invariant in
+    greatest_between (Admits c.args.coordinate c.args.square) c.loop-low.low c.loop-low.high (admits_below c.args.coordinate c.args.square) i.order (omega arith) i.below i.above

@@ -1,0 +1,42 @@
+-- The greatest number of a kind: there is only one, halving finds it, and so does a search from above.
+use Rattle.std.proofs.Common.{◌≡◌, ◌≢◌, ℕ, zero, suc, ◌+◌, ◌<◌, ◌≤◌, Bool, true, false, cond, arith, refl, sym, ◌∙◌, ap}
+use Rattle.fx_fixed.specs.Greatest.{IsGreatestOrZero, greatest_passing}
+
+-- of two greatest numbers of one kind neither is less
+pub greatest_below : (P : ℕ → Type 0) (c d : ℕ) → IsGreatestOrZero P c → IsGreatestOrZero P d → c ≤ d
+greatest_below P zero d g h = omega arith
+greatest_below P (suc c) d g h = h.greatest (suc c) (g.member (omega arith))
+
+-- so they are one
+pub greatest_one : (P : ℕ → Type 0) (c d : ℕ) → IsGreatestOrZero P c → IsGreatestOrZero P d → c ≡ d
+greatest_one P c d g h = omega (arith, greatest_below P c d g h, greatest_below P d c h g)
+
+-- halving has found it where the low end is of the kind, or 0, and the next number is past the whole kind
+pub greatest_between : (P : ℕ → Type 0) (low high : ℕ) → ((j k : ℕ) → 1 ≤ j → j ≤ k → P k → P j) → low < high → high ≤ low + 1 → (low ≢ 0 → P low) → (P high → ⊥) → IsGreatestOrZero P low
+greatest_between P low high falls order near below above = record {
+  member = below;
+  greatest = λ k a.
+      let beyond : low < k → ⊥ = λ l. above (falls high k (omega arith) (omega arith) a) in
+      omega arith;
+}
+
+-- g is the greatest number up to n that passes, or 0
+pub record Passing (test : ℕ → Bool) (n g : ℕ) : Type 0 where
+  pub passes : g ≢ 0 → test g ≡ true
+  pub greatest : (k : ℕ) → 1 ≤ k → k ≤ n → test k ≡ true → k ≤ g
+
+-- one step of the search, by what the test says
+passing_step : (test : ℕ → Bool) (n g : ℕ) (b : Bool) → test (suc n) ≡ b → Passing test n g → Passing test (suc n) (cond b (suc n) g)
+passing_step test n g true e h = record { passes = λ z. e; greatest = λ k one l t. l }
+passing_step test n g false e h = record {
+  passes = h.passes;
+  greatest = λ k one l t.
+      let other : k ≡ suc n → ⊥ = λ i. let clash : true ≡ false = sym t ∙ ap test i ∙ e in cc in
+      h.greatest k one (omega arith) t;
+}
+
+-- the search goes down from n
+pub passing : (test : ℕ → Bool) (n : ℕ) → Passing test n (greatest_passing test n)
+unfolding greatest_passing
+passing test zero = record { passes = λ z. absurd (z refl); greatest = λ k one l t. omega arith }
+passing test (suc n) = passing_step test n (greatest_passing test n) (test (suc n)) refl (passing test n)
