@@ -1,7 +1,8 @@
 //! The bytes of a program, and how a program goes on from a place.
 
-ghost use Rattle.std.specs.Prelude.{◌≡◌, ℕ, ◌+◌, ◌<◌, List, MatchResult, MatchOption, IfOk, IfErr, IfSome, ◌^◌, length};
+ghost use Rattle.std.specs.Prelude.{◌≡◌, ℕ, ◌+◌, ◌<◌, ◌≤◌, List, MatchResult, MatchOption, IfOk, IfErr, IfSome, ◌^◌, length, if◌then◌else◌};
 ghost use Rattle.fx_code.specs.Chain.{next_place, opcode_at, head_len, data_len, data_at, IsWhole, IsFirst, HasNone, stops_at_false, stops_at_else, LeadsPast, LeadsPastDefinition};
+ghost use Rattle.fx_code.specs.Numbers.{numbers, pushes_words};
 ghost use Rattle.fx_code.specs.Seek.{stops};
 
 use crate::fault::CodeFault;
@@ -35,7 +36,8 @@ fn head_of(opcode: u8) -> usize
 
 // How many bytes of data an opcode has, with the byte after it.
 fn data_of(opcode: u8, count: u8) -> usize
-    ensures { result ≡ data_len opcode count }
+    ensures value { result ≡ data_len opcode count }
+    ensures few { result ≤ (if pushes_words opcode then 510 else 255) }
 {
     match opcode {
         NPUSHB => count as usize,
@@ -79,6 +81,7 @@ impl<'a> Code<'a> {
         ensures next { IfOk result (λ i. i.next ≡ next_place self.now place) }
         ensures fits { IfOk result (λ i. i.next < 2 ^ 63) }
         ensures pushed { IfOk result (λ i. i.pushed.now ≡ data_at self.now place) }
+        ensures few { IfOk result (λ i. length (numbers i.opcode i.pushed.now) ≤ 255) }
         ensures fault { IfErr result (λ e. e ≡ CodeFault.CodeEnd) }
     {
         let Some(opcode) = self.bytes.get(place) else {

@@ -9,6 +9,7 @@ mod code;
 mod fault;
 mod instruction;
 pub mod laws;
+mod line;
 mod listing;
 mod opcode;
 mod seek;
