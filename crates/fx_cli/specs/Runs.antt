@@ -34,6 +34,7 @@ pub record Change : Type 0 where
 abbrev pub has_words : List Word → Bool
 has_words words = nat_lt 1 (length words)
 
+-- what the program is called
 abbrev pub called : List Word → Word
 called [] = codes "mkstrike"
 called (program ∷ words) = program

@@ -198,14 +198,11 @@ fn run_task<O: Sink>(
     ensures { TaskLeaves (seen_task task.now) chars.now font.now (O.held out.old) (O.held out.new) (O.fault_count out.old) (O.fault_count out.new) result }
 {
     match task {
-        Task::Strike(words) => match put_strike(alloc, words, chars, font, out) {
-            Ok(report) => Ok(Done::Strike(report)),
-            Err(refusal) => Err(refusal),
-        },
-        Task::Listing(what) => match put_listing(font, *what, out) {
-            Ok(()) => Ok(Done::Listing),
-            Err(refusal) => Err(refusal),
-        },
+        Task::Strike(words) => Ok(Done::Strike(put_strike(alloc, words, chars, font, out)?)),
+        Task::Listing(what) => {
+            put_listing(font, *what, out)?;
+            Ok(Done::Listing)
+        }
     }
 }
 

@@ -6,7 +6,7 @@ ghost use Rattle.fx_code.specs.Numbers.{numbers};
 ghost use Rattle.fx_code.specs.Line.{head_text, number_text, line_text, cut_text};
 
 use crate::instruction::Instr;
-use crate::opcode::name;
+use crate::opcode::opcode_name;
 use fx_fixed::Digits;
 use std::marker::Model;
 
@@ -108,7 +108,7 @@ impl Line {
         ensures line { self.new ≡ line_text place instr.now.opcode instr.now.pushed.now }
         ensures short { length self.new ≤ 64 * (1 + length instr.now.pushed.now) }
     {
-        self.set_head(place, instr.opcode, name(instr.opcode));
+        self.set_head(place, instr.opcode, opcode_name(instr.opcode));
         self.add_numbers(instr);
         self.add(b"\n");
     }
