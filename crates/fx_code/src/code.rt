@@ -73,7 +73,8 @@ impl<'a> Code<'a> {
         }
     }
 
-    /// The instruction at a place, where it stands there whole.
+    /// The instruction at a place, where it stands there whole; `CodeEnd` where its data are cut, and at or past the program's
+    /// end (Apple TrueType Reference Manual, "NPUSHB", "NPUSHW", "PUSHB", "PUSHW").
     #[tactic(auto, unfolding(crate::specs::Chain::IsWhole, crate::specs::Chain::size_at))]
     pub fn at(&self, place: usize) -> Result<Instr<'a>, CodeFault>
         ensures whole { MatchResult result (λ i. IsWhole self.now place) (λ e. ¬ (IsWhole self.now place)) }
@@ -119,7 +120,8 @@ impl<'a> Code<'a> {
         None
     }
 
-    /// Where a false `IF` goes on, whose next instruction is at `place`: after the first `ELSE` or `EIF` of its own level.
+    /// Where a false `IF` goes on, whose next instruction is at `place`: after the first `ELSE` or `EIF` of its own level;
+    /// `CodeEnd` where there is none (Apple TrueType Reference Manual, "IF").
     pub fn skip_false(&self, place: usize) -> Result<usize, CodeFault>
         ensures { LeadsPast stops_at_false self.now place result }
     {
@@ -129,7 +131,8 @@ impl<'a> Code<'a> {
         }
     }
 
-    /// Where an executed `ELSE` goes on, whose next instruction is at `place`: after the `EIF` of its level.
+    /// Where an executed `ELSE` goes on, whose next instruction is at `place`: after the `EIF` of its level; `CodeEnd` where there
+    /// is none (Apple TrueType Reference Manual, "ELSE").
     pub fn skip_else(&self, place: usize) -> Result<usize, CodeFault>
         ensures { LeadsPast stops_at_else self.now place result }
     {
@@ -139,7 +142,9 @@ impl<'a> Code<'a> {
         }
     }
 
-    /// Where a definition goes on, whose next instruction is at `place`: after its `ENDF`, where no definition begins before that.
+    /// Where a definition goes on, whose next instruction is at `place`: after its `ENDF`; `NestedDefinition` where another
+    /// definition begins before that, whether it ends or not, and `CodeEnd` where neither comes (Apple TrueType Reference Manual,
+    /// "FDEF", "IDEF").
     pub fn skip_def(&self, place: usize) -> Result<usize, CodeFault>
         ensures { LeadsPastDefinition self.now place result }
     {
