@@ -4,6 +4,7 @@ use Rattle.std.proofs.lemmas.List.{drop_more, append-nil, length-take, length-dr
 use Rattle.fx_winding.specs.declared.point.Piece.{Piece}
 use Rattle.fx_hint.specs.declared.outline.OutlinePoint.{OutlinePoint}
 use Rattle.fx_hint.specs.Ends.{AreEnds}
+use Rattle.fx_hint.proofs.Contours.{ends_reach}
 use Rattle.fx_winding.specs.Winding.{Span, span_of}
 use Rattle.fx_winding.specs.Outside.{joined}
 use Rattle.fx_contour.specs.Curve.{curve_of}
@@ -16,10 +17,6 @@ pub record Gathered (made : List Piece) (start : ℕ) (ends : List ℕ) (k : ℕ
   pub few : length made ≤ start
   pub within : start ≤ length points
 
-ends_within : (start : ℕ) (es : List ℕ) (n : ℕ) → AreEnds start es n → start ≤ n
-ends_within start [] n h = omega arith
-ends_within start (e ∷ es) n h = let k = ends_within (e + 1) es n h.1 in omega (arith, h.0)
-
 ends_left_at : (made : List Piece) (start : ℕ) (ends : List ℕ) (k : ℕ) (points : List OutlinePoint) (e d : ℕ) → Gathered made start ends k points → k < length ends → e ≡ get_or ends k d → AreEnds start (e ∷ drop (k + 1) ends) (length points)
 ends_left_at made start ends k points e d g h s =
     let P : List ℕ → Type 0 = λ xs. AreEnds start xs (length points) in
@@ -29,7 +26,7 @@ ends_left_at made start ends k points e d g h s =
 pub next_within : (made : List Piece) (start : ℕ) (ends : List ℕ) (k : ℕ) (points : List OutlinePoint) (e d : ℕ) → Gathered made start ends k points → k < length ends → e ≡ get_or ends k d → (start ≤ e + 1) × (e + 1 ≤ length points)
 next_within made start ends k points e d g h s =
     let l = ends_left_at made start ends k points e d g h s in
-    (l.0, ends_within (e + 1) (drop (k + 1) ends) (length points) l.1)
+    (l.0, ends_reach (e + 1) (drop (k + 1) ends) (length points) l.1)
 
 slice_few : (start next : ℕ) (points : List OutlinePoint) → start ≤ next → next ≤ length points → length (take (next - start) (drop start points)) ≡ next - start
 slice_few start next points h k = let a = length-take (next - start) (drop start points) in let b = length-drop start points in omega arith

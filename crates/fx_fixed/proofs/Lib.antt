@@ -1,5 +1,6 @@
 pub mod Rounding
 pub mod Greatest
+pub mod Rising
 pub mod Units
 pub mod Writing
 pub mod Decimals

@@ -82,10 +82,7 @@ part_out {old} {new} {calm} {after} {done} {text} {d} {e} {r} h p q =
     let P : Result ℕ WriteFailed → Type 0 = λ s. WrotePart old new calm after done text s in
     subst P (sym (p ∙ ap Err q)) h
 
--- how many bytes there are behind a part that was written
-pub part_end : {old new : Option (List ℕ)} {calm after done : ℕ} {text : List ℕ} {n : ℕ} → WrotePart old new calm after done text (Ok n) → n ≡ done + length text
-part_end h = h.outcome.0
-
+-- a part that leaves so few bytes, where it was written
 short_by : (old new : Option (List ℕ)) (calm after done : ℕ) (text : List ℕ) (r : Result ℕ WriteFailed) (m : ℕ) → WrotePart old new calm after done text r → done + length text ≤ m → IfOk r (λ n. n ≤ m)
 short_by old new calm after done text (Ok n) m h low = omega (arith, h.outcome.0)
 short_by old new calm after done text (Err e) m h low = tt
