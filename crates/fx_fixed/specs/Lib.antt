@@ -7,3 +7,5 @@ pub mod Memory
 pub mod Lines
 pub mod Polynomial
 pub mod Ranges
+pub mod Places
+pub mod Sizes

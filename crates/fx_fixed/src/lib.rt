@@ -8,7 +8,9 @@
 mod digits;
 mod memory;
 mod numbers;
+mod places;
 mod sink;
+mod sizes;
 mod source;
 mod vectors;
 
@@ -17,7 +19,9 @@ pub use memory::{Limits, MemorySink, MemorySource};
 pub use numbers::{
     F2, F26, cut, near, near_64, near_16384, rounding_functions, rounding_laws, w32,
 };
+pub use places::{Axis, Place};
 pub use sink::{Sink, ToSink, WriteFailed, put_all, put_part};
+pub use sizes::{MAX_PPEM, Ppem};
 pub use source::{FromReader, Source};
 pub use vectors::{unit, unit_laws};
 

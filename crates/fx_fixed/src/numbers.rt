@@ -1,14 +1,57 @@
 // Exact numbers made whole.
 ghost use Rattle.std.specs.Prelude.{◌≡◌, ◌≢◌, ◌+◌, ◌*◌, ◌/◌, ◌^◌, ◌≤◌, pos, unsigned_abs};
-ghost use Rattle.fx_fixed.specs.Numbers.{IsNear, IsCut, IsWrapped, Nearest, Cut, Wrapped, NearIsFunctional, CutIsFunctional, WrappedIsFunctional, NearOfIsNear, CutOfIsCut, WrappedOfIsWrapped, near_of, cut_of, wrapped_of};
+ghost use Rattle.fx_fixed.specs.Numbers.{IsNear, IsCut, IsWrapped, Nearest, Cut, Wrapped, NearIsFunctional, CutIsFunctional, WrappedIsFunctional, NearOfIsNear, CutOfIsCut, WrappedOfIsWrapped, near_of, cut_of, wrapped_of, sum_of, difference_of};
+
+use std::marker::Model;
 
 /// A number in 26.6: it counts 1/64 pixel (Apple TrueType Reference Manual, "Data types").
 #[derive(Clone, Copy, Debug, PartialEq, Eq)]
 pub struct F26(pub i32);
 
+impl Model for F26 {
+    ghost use Rattle.std.specs.Prelude.{ℤ};
+
+    ghost Value = { ℤ };
+
+    ghost view = { λ n. n.0 };
+
+    ghost inverse = { λ z. record { 0 = z } };
+}
+
+impl F26 {
+    /// The sum, modulo 2^32.
+    pub fn plus(self, by: F26) -> F26
+        ensures { result ≡ sum_of self by }
+    {
+        F26(w32(i128::from(self.0) + i128::from(by.0)))
+    }
+
+    /// The difference, modulo 2^32.
+    pub fn minus(self, by: F26) -> F26
+        ensures { result ≡ difference_of self by }
+    {
+        F26(w32(i128::from(self.0) - i128::from(by.0)))
+    }
+}
+
 /// A number in 2.14: it counts 1/16384 (Apple TrueType Reference Manual, "Data types").
 #[derive(Clone, Copy, Debug, PartialEq, Eq)]
 pub struct F2(pub i16);
+
+impl Model for F2 {
+    ghost use Rattle.std.specs.Prelude.{ℤ};
+
+    ghost Value = { ℤ };
+
+    ghost view = { λ n. n.0 };
+
+    ghost inverse = { λ z. record { 0 = z } };
+}
+
+impl F2 {
+    /// 1.0.
+    pub const ONE: F2 = F2(16384);
+}
 
 /// `n / d` rounded to the nearest whole number, halves away from zero.
 #[tactic(auto, using(crate::proofs::Rounding::same_near, crate::proofs::Rounding::near_bound), unfolding(crate::specs::Numbers::Nearest))]

@@ -10,24 +10,24 @@ use super::numbers::F2;
 /// greatest size that lies no more than half of 1/16384 above the exact one, with its coordinate's sign.
 #[tactic(auto, using(crate::proofs::Units::same_unit), unfolding(crate::specs::Unit::PointsAlong))]
 pub fn unit(dx: i32, dy: i32) -> (F2, F2)
-    ensures direction { PointsAlong dx dy result.0.0 result.1.0 }
-    ensures horizontal { result.0.0 ≡ (unit_of dx dy).0 }
-    ensures vertical { result.1.0 ≡ (unit_of dx dy).1 }
-    ensures within { IsWithin 16384 result.0.0 × IsWithin 16384 result.1.0 }
+    ensures direction { PointsAlong dx dy result.0 result.1 }
+    ensures horizontal { result.0 ≡ (unit_of dx dy).0 }
+    ensures vertical { result.1 ≡ (unit_of dx dy).1 }
+    ensures within { IsWithin 16384 result.0 × IsWithin 16384 result.1 }
 {
     direction(dx, dy)
 }
 
 // By the inequalities.
 fn direction(dx: i32, dy: i32) -> (F2, F2)
-    ensures unit { IsUnit dx dy result.0.0 result.1.0 }
-    ensures within { IsWithin 16384 result.0.0 × IsWithin 16384 result.1.0 }
+    ensures unit { IsUnit dx dy result.0 result.1 }
+    ensures within { IsWithin 16384 result.0 × IsWithin 16384 result.1 }
 {
     let x = u64::from(dx.unsigned_abs());
     let y = u64::from(dy.unsigned_abs());
     let square = squares(x, y);
     if square == 0 {
-        return (F2(16384), F2(0));
+        return (F2::ONE, F2(0));
     }
     (F2(component(dx, square)), F2(component(dy, square)))
 }

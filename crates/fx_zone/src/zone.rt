@@ -3,9 +3,10 @@
 ghost use Rattle.std.specs.Prelude.{◌≡◌, ◌+◌, ◌<◌, ◌≤◌, ◌^◌, [], length, map, slice_get, slice_set, OnOk, OnErr, IfOk, true, false};
 ghost use Rattle.std.specs.List.{All};
 ghost use Rattle.fx_zone.specs.Figures.{Figure, joined, empty_figure, changed};
-ghost use Rattle.fx_zone.specs.Places.{moved, marked};
+ghost use Rattle.fx_zone.specs.Points.{moved, marked};
 
-use crate::point::{Axis, Place, Point};
+use crate::point::Point;
+use fx_fixed::{Axis, Place};
 use std::alloc::{AllocError, Global};
 use std::marker::Model;
 
@@ -93,12 +94,12 @@ impl Zone {
         }
     }
 
-    /// Moves the point of a number, if it is inside: its current place is (x, y) in 26.6 pixels.
-    pub fn set_cur(&mut self, number: usize, x: i32, y: i32)
-        ensures { self.new ≡ changed (moved (record { x = x; y = y })) number self.old }
+    /// Moves the point of a number, if it is inside, to another current place.
+    pub fn set_cur(&mut self, number: usize, cur: Place)
+        ensures { self.new ≡ changed (moved cur) number self.old }
     {
         if let Some(point) = self.point(number) {
-            self.set(number, point.moved(Place { x, y }));
+            self.set(number, point.moved(cur));
         }
     }
 
