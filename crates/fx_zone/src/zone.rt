@@ -1,11 +1,14 @@
 //! Zones.
 
-ghost use Rattle.std.specs.Prelude.{◌≡◌, ◌+◌, ◌<◌, ◌≤◌, ◌^◌, [], length, map, slice_get, slice_set, OnOk, OnErr, IfOk, true, false};
+ghost use Rattle.std.specs.Prelude.{◌≡◌, ◌+◌, ◌<◌, ◌≤◌, ◌^◌, [], length, map, take, slice_get, IfSome, slice_set, OnOk, OnErr, IfOk, true, false};
 ghost use Rattle.std.specs.List.{All};
-ghost use Rattle.fx_zone.specs.Figures.{Figure, joined, empty_figure, changed};
-ghost use Rattle.fx_zone.specs.Points.{moved, marked};
+ghost use Rattle.fx_zone.specs.Figures.{Figure, joined, empty_figure, changed, each_changed, in_range, in_range_without, contour_of, HasShape};
+ghost use Rattle.fx_zone.specs.Points.{moved, marked, shifted as shifted_by, put, laid, settled, curved, flipped};
+ghost use Rattle.fx_zone.specs.Interpolation.{figure_interpolated};
 
+use crate::interpolation::interpolate_contours;
 use crate::point::Point;
+use crate::range::{curve_range, shift_range};
 use fx_fixed::{Axis, Place};
 use std::alloc::{AllocError, Global};
 use std::marker::Model;
@@ -87,7 +90,8 @@ impl Zone {
 
     /// Writes the point of a number, if it is inside.
     pub fn set(&mut self, number: usize, point: Point)
-        ensures { self.new ≡ record self.old { points = slice_set self.old.points number point } }
+        ensures value { self.new ≡ record self.old { points = slice_set self.old.points number point } }
+        ensures shape { HasShape self.old self.new }
     {
         if number < self.points.len() {
             self.points[number] = point;
@@ -96,7 +100,8 @@ impl Zone {
 
     /// Moves the point of a number, if it is inside, to another current place.
     pub fn set_cur(&mut self, number: usize, cur: Place)
-        ensures { self.new ≡ changed (moved cur) number self.old }
+        ensures value { self.new ≡ changed (moved cur) number self.old }
+        ensures shape { HasShape self.old self.new }
     {
         if let Some(point) = self.point(number) {
             self.set(number, point.moved(cur));
@@ -105,7 +110,8 @@ impl Zone {
 
     /// Touches the point of a number along an axis, if it is inside.
     pub fn touch(&mut self, number: usize, axis: Axis)
-        ensures { self.new ≡ changed (marked axis true) number self.old }
+        ensures value { self.new ≡ changed (marked axis true) number self.old }
+        ensures shape { HasShape self.old self.new }
     {
         if let Some(point) = self.point(number) {
             self.set(number, point.marked(axis, true));
@@ -114,11 +120,128 @@ impl Zone {
 
     /// Untouches the point of a number along an axis, if it is inside.
     pub fn untouch(&mut self, number: usize, axis: Axis)
-        ensures { self.new ≡ changed (marked axis false) number self.old }
+        ensures value { self.new ≡ changed (marked axis false) number self.old }
+        ensures shape { HasShape self.old self.new }
     {
         if let Some(point) = self.point(number) {
             self.set(number, point.marked(axis, false));
         }
+    }
+
+    /// Shifts the point of a number, if it is inside, and touches it along the axes that are given.
+    pub fn shift(&mut self, number: usize, by: Place, x: bool, y: bool)
+        ensures value { self.new ≡ changed (shifted_by by x y) number self.old }
+        ensures shape { HasShape self.old self.new }
+    {
+        if number < self.points.len() {
+            self.points[number] = self.points[number].shifted(by, x, y);
+        }
+    }
+
+    /// Puts the point of a number, if it is inside, at another current place, and touches it along both axes.
+    pub fn put(&mut self, number: usize, cur: Place)
+        ensures value { self.new ≡ changed (put cur) number self.old }
+        ensures shape { HasShape self.old self.new }
+    {
+        if number < self.points.len() {
+            self.points[number] = self.points[number].put(cur);
+        }
+    }
+
+    /// Lays the point of a number, if it is inside: its original and current place.
+    pub fn lay(&mut self, number: usize, place: Place)
+        ensures value { self.new ≡ changed (laid place) number self.old }
+        ensures shape { HasShape self.old self.new }
+    {
+        if number < self.points.len() {
+            self.points[number] = self.points[number].laid(place);
+        }
+    }
+
+    /// Takes the current place of the point of a number, if it is inside, for its original one.
+    pub fn settle(&mut self, number: usize)
+        ensures value { self.new ≡ changed settled number self.old }
+        ensures shape { HasShape self.old self.new }
+    {
+        if number < self.points.len() {
+            self.points[number] = self.points[number].settled();
+        }
+    }
+
+    /// Flips the point of a number, if it is inside: on the curve, or off it.
+    pub fn flip(&mut self, number: usize)
+        ensures value { self.new ≡ changed flipped number self.old }
+        ensures shape { HasShape self.old self.new }
+    {
+        if number < self.points.len() {
+            self.points[number] = self.points[number].flipped();
+        }
+    }
+
+    /// The number of a contour's first point, and the one after its last.
+    pub fn contour(&self, number: usize) -> Option<(usize, usize)>
+        ensures value { result ≡ contour_of self.now.ends number }
+        ensures within { IfSome result (λ c. c.1 ≤ length self.now.points) }
+    {
+        let last = *self.ends.get(number)?;
+        let first = if number == 0 {
+            0
+        } else {
+            self.ends[number - 1] + 1
+        };
+        Some((first, last + 1))
+    }
+
+    /// Shifts the points from a number to before another, without one of them, and touches them along the axes that are given.
+    pub fn shift_range(
+        &mut self,
+        first: usize,
+        past: usize,
+        except: Option<usize>,
+        by: Place,
+        x: bool,
+        y: bool,
+    )
+        requires { past ≤ length self.old.points }
+        ensures value { self.new ≡ record self.old { points = each_changed (in_range_without except first past) (shifted_by by x y) 0 self.old.points } }
+        ensures shape { HasShape self.old self.new }
+    {
+        shift_range(&mut self.points, first, past, except, &by, x, y);
+    }
+
+    /// Makes the points from a number to before another ones on the curve, or off it.
+    pub fn curve_range(&mut self, first: usize, past: usize, on: bool)
+        requires { past ≤ length self.old.points }
+        ensures value { self.new ≡ record self.old { points = each_changed (in_range first past) (curved on) 0 self.old.points } }
+        ensures shape { HasShape self.old self.new }
+    {
+        curve_range(&mut self.points, first, past, on);
+    }
+
+    /// Interpolates the untouched points of each contour along an axis (Apple TrueType Reference Manual, "IUP").
+    #[tactic(auto, unfolding(crate::specs::Interpolation::figure_interpolated))]
+    pub fn interpolate(&mut self, axis: Axis)
+        ensures value { self.new ≡ figure_interpolated axis self.old }
+        ensures shape { HasShape self.old self.new }
+    {
+        interpolate_contours(&mut self.points, &self.ends, axis);
+    }
+
+    /// Keeps the first points, which hold all contours.
+    pub fn truncate(&mut self, count: usize)
+        requires { All (λ e. e < count) self.old.ends }
+        ensures { self.new ≡ record self.old { points = take count self.old.points } }
+    {
+        self.points.truncate(count);
+    }
+
+    /// Takes the points of another zone with as many points and the same contours.
+    pub fn copy_from(&mut self, other: &Zone)
+        requires points { length self.old.points ≡ length other.now.points }
+        requires ends { self.old.ends ≡ other.now.ends }
+        ensures { self.new ≡ other.now }
+    {
+        self.points.copy_from_slice(&other.points);
     }
 
     /// Appends points, and contours numbered within these points; where memory is refused,

@@ -1,0 +1,94 @@
+-- Untouched points between touched ones (Apple TrueType Reference Manual, "IUP").
+use Rattle.std.specs.Prelude.{ℕ, suc, ◌-◌, max, ℤ, ◌+ℤ◌, ◌-ℤ◌, ◌*ℤ◌, int_lt, int_le, Bool, if◌then◌else◌, List, [], ◌∷◌, ◌++◌, reverse, take, drop, Option, Some, None}
+use Rattle.fx_fixed.specs.Numbers.{near_of, wrapped_of}
+use Rattle.fx_fixed.specs.Places.{coordinate_of}
+use Rattle.fx_fixed.specs.declared.places.Place.{Place}
+use Rattle.fx_fixed.specs.declared.places.Axis.{Axis}
+use Rattle.fx_fixed.specs.declared.places.Axis.TheVariants.{X, Y}
+use Rattle.fx_zone.specs.declared.point.Point.{Point}
+use Rattle.fx_zone.specs.Points.{moved}
+use Rattle.fx_zone.specs.Figures.{Figure}
+
+-- a place with another coordinate along an axis
+abbrev pub with_coordinate : Axis → ℤ → Place → Place
+with_coordinate X v place = record place { x = v }
+with_coordinate Y v place = record place { y = v }
+
+-- a point's original and current coordinate along an axis, and whether it is touched along it
+abbrev pub org : Axis → Point → ℤ
+org axis p = coordinate_of axis p.org
+
+abbrev pub cur : Axis → Point → ℤ
+cur axis p = coordinate_of axis p.cur
+
+abbrev pub is_touched : Axis → Point → Bool
+is_touched X p = p.touched_x
+is_touched Y p = p.touched_y
+
+-- an original coordinate o, moved as another one was
+abbrev pub moved_with : ℤ → ℤ → ℤ → ℤ
+moved_with o its_org its_cur = wrapped_of (o +ℤ (its_cur -ℤ its_org))
+
+-- o in proportion between two others, lo and hi
+unfoldable pub in_proportion : ℤ → ℤ → ℤ → ℤ → ℤ → ℤ
+in_proportion o lo_org lo_cur hi_org hi_cur = wrapped_of (lo_cur +ℤ near_of ((o -ℤ lo_org) *ℤ (hi_cur -ℤ lo_cur)) (hi_org -ℤ lo_org))
+
+-- where o goes, between lo and hi: with lo if it was not above it, with hi if it was not below it, else in proportion
+unfoldable pub coordinate_between : ℤ → ℤ → ℤ → ℤ → ℤ → ℤ
+coordinate_between o lo_org lo_cur hi_org hi_cur =
+    if int_le o lo_org then moved_with o lo_org lo_cur
+    else if int_le hi_org o then moved_with o hi_org hi_cur
+    else in_proportion o lo_org lo_cur hi_org hi_cur
+
+-- a point between the points lo and hi: one coordinate changes
+abbrev pub placed : Axis → Point → Point → Point → Point
+placed axis lo hi p =
+    moved (with_coordinate axis (coordinate_between (org axis p) (org axis lo) (cur axis lo) (org axis hi) (cur axis hi)) p.cur) p
+
+-- a point between the touched points before and after it: lo is the one with the lesser original coordinate, the one
+-- before if they are equal
+unfoldable pub between : Axis → Point → Point → Point → Point
+between axis before after p = if int_lt (org axis after) (org axis before) then placed axis after before p else placed axis before after p
+
+-- the first touched point of a list
+unfoldable pub first_touched : Axis → List Point → Option Point
+first_touched axis [] = None
+first_touched axis (p ∷ ps) = if is_touched axis p then Some p else first_touched axis ps
+
+-- the number of untouched points before it; of all points if none is touched
+unfoldable pub untouched_run : Axis → List Point → ℕ
+untouched_run axis [] = 0
+untouched_run axis (p ∷ ps) = if is_touched axis p then 0 else suc (untouched_run axis ps)
+
+-- a point between two touched ones, if there are any
+abbrev pub between_any : Axis → Option Point → Option Point → Point → Point
+between_any axis (Some before) (Some after) p = between axis before after p
+between_any axis (Some before) None p = p
+between_any axis None after p = p
+
+-- a point of a contour, with the points before it and those after it. A contour is a cycle: backward from the point come
+-- those before it and then those after it, both the last one first; forward those after it and then those before it
+abbrev pub interpolated : Axis → List Point → Point → List Point → Point
+interpolated axis before p after =
+    if is_touched axis p then p
+    else between_any axis (first_touched axis (reverse before ++ reverse after)) (first_touched axis (after ++ before)) p
+
+-- each point of the rest of a contour
+unfoldable pub each_interpolated : Axis → List Point → List Point → List Point
+each_interpolated axis before [] = []
+each_interpolated axis before (p ∷ after) = interpolated axis before p after ∷ each_interpolated axis (before ++ p ∷ []) after
+
+-- a contour
+unfoldable pub contour_interpolated : Axis → List Point → List Point
+contour_interpolated axis points = each_interpolated axis [] points
+
+-- contours in turn, from the number of the first point on, by the numbers of their last points; an end below the
+-- contour's first point makes no contour; points after the last contour stay
+unfoldable pub contours_interpolated : Axis → ℕ → List ℕ → List Point → List Point
+contours_interpolated axis first [] points = points
+contours_interpolated axis first (end ∷ ends) points =
+    contour_interpolated axis (take (suc end - first) points) ++ contours_interpolated axis (max first (suc end)) ends (drop (suc end - first) points)
+
+-- all contours of a figure
+unfoldable pub figure_interpolated : Axis → Figure → Figure
+figure_interpolated axis f = record f { points = contours_interpolated axis 0 f.ends f.points }

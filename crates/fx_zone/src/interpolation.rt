@@ -1,0 +1,215 @@
+//! Untouched points between touched ones.
+
+ghost use Rattle.std.specs.Prelude.{◌≡◌, ◌≢◌, ◌+◌, ◌≤◌, ◌<◌, ◌^◌, pos, ◌+ℤ◌, ◌-ℤ◌, ◌*ℤ◌, unsigned_abs, length, map, reverse, drop, slice_index_or};
+ghost use Rattle.std.specs.List.{All};
+ghost use Rattle.fx_fixed.specs.Numbers.{wrapped_of};
+ghost use Rattle.fx_zone.specs.Interpolation.{with_coordinate, is_touched, moved_with, in_proportion, coordinate_between, placed, between, first_touched, untouched_run, contour_interpolated, contours_interpolated};
+
+use crate::point::Point;
+use fx_fixed::{Axis, F26, Place, near, w32};
+
+/// The place with another coordinate along an axis.
+fn with_coordinate(place: Place, axis: Axis, coordinate: F26) -> Place
+    ensures { result ≡ with_coordinate axis coordinate place }
+{
+    match axis {
+        Axis::X => Place {
+            x: coordinate,
+            y: place.y,
+        },
+        Axis::Y => Place {
+            x: place.x,
+            y: coordinate,
+        },
+    }
+}
+
+/// Whether a point is touched along an axis.
+fn is_touched(point: &Point, axis: Axis) -> bool
+    ensures { result ≡ is_touched axis point.now }
+{
+    match axis {
+        Axis::X => point.touched_x,
+        Axis::Y => point.touched_y,
+    }
+}
+
+/// An exact difference.
+fn difference(a: F26, b: F26) -> i64
+    ensures value { result ≡ a -ℤ b }
+    ensures bound { unsigned_abs result ≤ 2 ^ 32 }
+{
+    i64::from(a.0) - i64::from(b.0)
+}
+
+/// The exact distance of two numbers that are apart, as a divisor.
+fn distance(from: F26, to: F26) -> i128
+    requires { from ≢ to }
+    ensures value { result ≡ to -ℤ from }
+    ensures bound { unsigned_abs result ≤ 2 ^ 32 }
+    ensures nonzero { result ≢ pos 0 }
+{
+    i128::from(to.0) - i128::from(from.0)
+}
+
+/// An exact product of two differences.
+fn product(a: i64, b: i64) -> i128
+    requires a { unsigned_abs a ≤ 2 ^ 32 }
+    requires b { unsigned_abs b ≤ 2 ^ 32 }
+    ensures value { result ≡ a *ℤ b }
+    ensures bound { unsigned_abs result ≤ 2 ^ 64 }
+{
+    i128::from(a) * i128::from(b)
+}
+
+/// A sum modulo 2^32.
+fn sum(a: F26, b: i128) -> F26
+    requires { unsigned_abs b ≤ 2 ^ 64 }
+    ensures { result ≡ wrapped_of (a +ℤ b) }
+{
+    F26(w32(i128::from(a.0) + b))
+}
+
+/// An original coordinate, moved as another one was.
+fn moved_with(o: F26, its_org: F26, its_cur: F26) -> F26
+    ensures { result ≡ moved_with o its_org its_cur }
+{
+    sum(o, i128::from(difference(its_cur, its_org)))
+}
+
+/// An original coordinate in proportion between two others.
+#[tactic(auto, unfolding(crate::specs::Interpolation::in_proportion))]
+fn in_proportion(o: F26, lo_org: F26, lo_cur: F26, hi_org: F26, hi_cur: F26) -> F26
+    requires { lo_org ≢ hi_org }
+    ensures { result ≡ in_proportion o lo_org lo_cur hi_org hi_cur }
+{
+    let part = product(difference(o, lo_org), difference(hi_cur, lo_cur));
+    sum(lo_cur, near(part, distance(lo_org, hi_org)))
+}
+
+/// Where an original coordinate goes, between two others.
+#[tactic(auto, unfolding(crate::specs::Interpolation::coordinate_between))]
+fn coordinate_between(o: F26, lo_org: F26, lo_cur: F26, hi_org: F26, hi_cur: F26) -> F26
+    ensures { result ≡ coordinate_between o lo_org lo_cur hi_org hi_cur }
+{
+    if o.0 <= lo_org.0 {
+        moved_with(o, lo_org, lo_cur)
+    } else if hi_org.0 <= o.0 {
+        moved_with(o, hi_org, hi_cur)
+    } else {
+        in_proportion(o, lo_org, lo_cur, hi_org, hi_cur)
+    }
+}
+
+/// A point between two others, of which `lo` is the lower.
+fn placed(axis: Axis, lo: &Point, hi: &Point, point: &Point) -> Point
+    ensures { result ≡ placed axis lo.now hi.now point.now }
+{
+    let coordinate = coordinate_between(
+        point.org.along(axis),
+        lo.org.along(axis),
+        lo.cur.along(axis),
+        hi.org.along(axis),
+        hi.cur.along(axis),
+    );
+    point.moved(with_coordinate(point.cur, axis, coordinate))
+}
+
+/// A point between the touched points before and after it.
+#[tactic(auto, unfolding(crate::specs::Interpolation::between))]
+fn between(axis: Axis, before: &Point, after: &Point, point: &Point) -> Point
+    ensures { result ≡ between axis before.now after.now point.now }
+{
+    if after.org.along(axis).0 < before.org.along(axis).0 {
+        placed(axis, after, before, point)
+    } else {
+        placed(axis, before, after, point)
+    }
+}
+
+/// Interpolates a run of untouched points.
+fn interpolate_run(points: &mut [Point], axis: Axis, before: &Point, after: &Point)
+    ensures { points.new ≡ map (between axis before.now after.now) points.old }
+{
+    // The points that were seen are interpolated.
+    'run: for point in points.iter_mut() {
+        *point = between(axis, before, after, point);
+    }
+}
+
+/// The number of untouched points from a number on, before the first touched one; of all points there if none is.
+fn untouched_run(points: &[Point], start: usize, axis: Axis) -> usize
+    requires { start ≤ length points.now }
+    ensures { result ≡ untouched_run axis (drop start points.now) }
+{
+    // The points that were seen are untouched.
+    'run: for end in start..points.len() {
+        if is_touched(&points[end], axis) {
+            return end - start;
+        }
+    }
+    points.len() - start
+}
+
+/// The point of a number.
+fn numbered(points: &[Point], number: usize) -> Point
+    requires { number < length points.now }
+    ensures { result ≡ slice_index_or points.now number result }
+{
+    points[number]
+}
+
+/// The last touched point.
+fn last_touched(points: &[Point], axis: Axis) -> Option<Point>
+    ensures { result ≡ first_touched axis (reverse points.now) }
+{
+    let mut left = points.len();
+    // The points from `left` on are untouched.
+    'last: while left > 0 {
+        left -= 1;
+        let point = numbered(points, left);
+        if is_touched(&point, axis) {
+            return Some(point);
+        }
+    }
+    None
+}
+
+/// Interpolates the untouched points of a contour.
+fn interpolate_contour(points: &mut [Point], axis: Axis)
+    ensures { points.new ≡ contour_interpolated axis points.old }
+{
+    let Some(last) = last_touched(points, axis) else {
+        return;
+    };
+    let mut length = untouched_run(points, 0, axis);
+    let first = numbered(points, length);
+    let mut before = last;
+    let mut start = 0;
+    // The points before `start` are done; `length` untouched ones follow, after the touched point `before`.
+    'runs: while length < points.len() - start {
+        let end = start + length;
+        let after = numbered(points, end);
+        interpolate_run(&mut points[start..end], axis, &before, &after);
+        before = after;
+        start = end + 1;
+        length = untouched_run(points, start, axis);
+    }
+    interpolate_run(&mut points[start..], axis, &before, &first);
+}
+
+/// Interpolates the untouched points of each contour, by the numbers of their last points.
+pub fn interpolate_contours(points: &mut [Point], ends: &[usize], axis: Axis)
+    requires { All (λ e. e < length points.old) ends.now }
+    ensures { points.new ≡ contours_interpolated axis 0 ends.now points.old }
+{
+    let mut first = 0;
+    // The contours before the point `first` are done.
+    'contours: for end in ends.iter() {
+        let past = *end + 1;
+        if first < past {
+            interpolate_contour(&mut points[first..past], axis);
+            first = past;
+        }
+    }
+}

@@ -1,0 +1,50 @@
+//! Changes of the points from a number to before another.
+
+ghost use Rattle.std.specs.Prelude.{◌≡◌, ◌≤◌, length};
+ghost use Rattle.fx_zone.specs.Figures.{each_changed, in_range, in_range_without, is_number};
+ghost use Rattle.fx_zone.specs.Points.{shifted, curved};
+
+use crate::point::Point;
+use fx_fixed::Place;
+
+/// Whether a number is this one.
+fn is_number(number: usize, other: Option<usize>) -> bool
+    ensures { result ≡ is_number number other }
+{
+    match other {
+        Some(other) => number == other,
+        None => false,
+    }
+}
+
+/// Shifts the points of a range, without one of them, and touches them along the axes that are given.
+pub fn shift_range(
+    points: &mut [Point],
+    first: usize,
+    past: usize,
+    except: Option<usize>,
+    by: &Place,
+    x: bool,
+    y: bool,
+)
+    requires { past ≤ length points.old }
+    ensures { points.new ≡ each_changed (in_range_without except first past) (shifted by.now x y) 0 points.old }
+{
+    // The points before `number` are done.
+    'range: for number in first..past {
+        if !is_number(number, except) {
+            points[number] = points[number].shifted(*by, x, y);
+        }
+    }
+}
+
+/// Makes the points of a range ones on the curve, or off it.
+pub fn curve_range(points: &mut [Point], first: usize, past: usize, on: bool)
+    requires { past ≤ length points.old }
+    ensures { points.new ≡ each_changed (in_range first past) (curved on) 0 points.old }
+{
+    // The points before `number` are done.
+    'range: for number in first..past {
+        points[number] = points[number].curved(on);
+    }
+}
