@@ -1,45 +1,41 @@
--- What an instruction changes in the graphics state, and that nothing else changes.
--- Apple TrueType Reference Manual, "Graphics state".
-use Rattle.std.specs.Prelude.{◌≡◌, ℕ, ℤ, pos, true}
-use Rattle.fx_gstate.specs.declared.grids.Grid.{Grid}
-use Rattle.fx_gstate.specs.declared.rounding.RoundState.TheVariants.{ToGrid, Super}
+-- The setters that refuse numbers: each gives the state then, or the fault.
+-- Apple TrueType Reference Manual, SZP0 to SZPS, SLOOP, SDS.
+use Rattle.std.specs.Prelude.{ℤ, Result, Ok}
+use Rattle.fx_fixed.specs.Chain.{◌>>=◌}
+use Rattle.fx_gstate.specs.declared.fault.BadArgument.{BadArgument}
 use Rattle.fx_gstate.specs.declared.state.GState.{GState}
-use Rattle.fx_gstate.specs.declared.vectors.Vector.{Vector}
-use Rattle.fx_gstate.specs.declared.zones.ZonePointer.TheVariants.{Glyph}
-use Rattle.fx_gstate.specs.Rounding.{IsSuperGrid}
+use Rattle.fx_gstate.specs.States.{zone_of, loop_of, delta_shift_of}
 
--- the coordinates of a vector
-abbrev pub pair_of : Vector → ℤ × ℤ
-pair_of v = (v.x, v.y)
+-- SZP0, SZP1, SZP2
+abbrev pub with_zp0 : ℤ → GState → Result GState BadArgument
+with_zp0 n g = do
+  zone ← zone_of n
+  Ok (record g { zp0 = zone })
 
--- v has these coordinates
-pub record Has (v : Vector) (p : ℤ × ℤ) : Type 0 where
-  pub x : v.x ≡ p.0
-  pub y : v.y ≡ p.1
+abbrev pub with_zp1 : ℤ → GState → Result GState BadArgument
+with_zp1 n g = do
+  zone ← zone_of n
+  Ok (record g { zp1 = zone })
 
--- the three vectors become these, and nothing else changes
-pub record SetsVectors (old new : GState) (freedom projection dual : ℤ × ℤ) : Type 0 where
-  pub along : Has new.freedom freedom
-  pub onto : Has new.projection projection
-  pub dual_onto : Has new.dual dual
-  pub rest : new ≡ record old { freedom = new.freedom; projection = new.projection; dual = new.dual }
+abbrev pub with_zp2 : ℤ → GState → Result GState BadArgument
+with_zp2 n g = do
+  zone ← zone_of n
+  Ok (record g { zp2 = zone })
 
--- the round state becomes the grid that SROUND (base 64) or S45ROUND (base 45) makes of n, and nothing else changes
-pub record SetsSuperRound (old new : GState) (base : ℕ) (n : ℤ) : Type 0 where
-  pub grid : Grid
-  pub made : IsSuperGrid base n grid
-  pub is : new ≡ record old { round_state = Super grid }
+-- SZPS
+abbrev pub with_zones : ℤ → GState → Result GState BadArgument
+with_zones n g = do
+  zone ← zone_of n
+  Ok (record g { zp0 = zone; zp1 = zone; zp2 = zone })
 
--- the state that programs begin with
-pub record IsDefault (s : GState) : Type 0 where
-  pub freedom : Has s.freedom (pos 16384, pos 0)
-  pub projection : Has s.projection (pos 16384, pos 0)
-  pub dual : Has s.dual (pos 16384, pos 0)
-  pub points : (s.rp0 ≡ pos 0) × (s.rp1 ≡ pos 0) × (s.rp2 ≡ pos 0)
-  pub zones : (s.zp0 ≡ Glyph) × (s.zp1 ≡ Glyph) × (s.zp2 ≡ Glyph)
-  pub loops : s.loop_count ≡ 1
-  pub rounding : s.round_state ≡ ToGrid
-  pub flip : s.auto_flip ≡ true
-  pub distances : (s.cut_in.0 ≡ pos 68) × (s.minimum_distance.0 ≡ pos 64)
-  pub single : (s.single_width.0 ≡ pos 0) × (s.single_width_cut_in.0 ≡ pos 0)
-  pub deltas : (s.delta_base ≡ pos 9) × (s.delta_shift.shift ≡ 3)
+-- SLOOP
+abbrev pub with_loop : ℤ → GState → Result GState BadArgument
+with_loop n g = do
+  count ← loop_of n
+  Ok (record g { loop_count = count })
+
+-- SDS
+abbrev pub with_delta_shift : ℤ → GState → Result GState BadArgument
+with_delta_shift n g = do
+  shift ← delta_shift_of n
+  Ok (record g { delta_shift = shift })

@@ -1,46 +1,47 @@
-// Shifts along the freedom vector.
-ghost use Rattle.std.specs.Prelude.{◌≡◌, ◌≢◌, ◌^◌, ◌≤◌, pos, ◌+ℤ◌, ◌*ℤ◌, unsigned_abs};
-ghost use Rattle.fx_gstate.specs.Vectors.{dot_of, not_small, shift_of};
+//! Shifts along the freedom vector.
 
-use super::vectors::Vector;
-use fx_fixed::{F26, near, w32};
+ghost use Rattle.std.specs.Prelude.{◌≡◌, ◌≢◌, ◌^◌, ◌≤◌, pos, ◌+ℤ◌, ◌*ℤ◌, unsigned_abs};
+ghost use Rattle.fx_gstate.specs.Vectors.{dot_of, not_small, shift_part_of, shift_of};
+
+use crate::vectors::Vector;
+use fx_fixed::{Axis, F26, Place, near, w32};
 
 /// The shift along the freedom vector that changes the projection by `d` (Apple TrueType Reference Manual, "Freedom vector"): each
-/// coordinate is the nearest to the exact quotient, in 32 bits. Where both vectors are one axis it is `d` along that axis.
-pub fn shift_along(freedom: Vector, projection: Vector, d: F26) -> (F26, F26)
-    ensures x { result.0.0 ≡ shift_of d.0 freedom.x (dot_of freedom.x freedom.y projection.x projection.y) }
-    ensures y { result.1.0 ≡ shift_of d.0 freedom.y (dot_of freedom.x freedom.y projection.x projection.y) }
+/// coordinate is the nearest to the exact quotient, in 32 bits. When both vectors are one axis it is `d` along that axis.
+pub fn shift_along(freedom: Vector, projection: Vector, d: F26) -> Place
+    ensures { result ≡ shift_of freedom projection d }
 {
-    if freedom.x == 16384 && freedom.y == 0 && projection.x == 16384 && projection.y == 0 {
-        return (d, F26(0));
+    if freedom.is_along(Axis::X) && projection.is_along(Axis::X) {
+        return Place::on(Axis::X, d);
     }
-    if freedom.x == 0 && freedom.y == 16384 && projection.x == 0 && projection.y == 16384 {
-        return (F26(0), d);
+    if freedom.is_along(Axis::Y) && projection.is_along(Axis::Y) {
+        return Place::on(Axis::Y, d);
     }
     shifted(freedom, projection, d)
 }
 
-// The same with no shortcut.
-fn shifted(freedom: Vector, projection: Vector, d: F26) -> (F26, F26)
-    ensures x { result.0.0 ≡ shift_of d.0 freedom.x (dot_of freedom.x freedom.y projection.x projection.y) }
-    ensures y { result.1.0 ≡ shift_of d.0 freedom.y (dot_of freedom.x freedom.y projection.x projection.y) }
+/// The same with no shortcut.
+fn shifted(freedom: Vector, projection: Vector, d: F26) -> Place
+    ensures { result ≡ shift_of freedom projection d }
 {
     let by = dot(freedom, projection);
-    (
-        F26(shift(d.0, freedom.x, by)),
-        F26(shift(d.0, freedom.y, by)),
-    )
+    Place {
+        x: F26(shift(d.0, freedom.x().0, by)),
+        y: F26(shift(d.0, freedom.y().0, by)),
+    }
 }
 
-#[tactic(auto, unfolding(crate::specs::Vectors::shift_of))]
+/// One coordinate of the shift, at the product of the vectors.
+#[tactic(auto, unfolding(crate::specs::Vectors::shift_part_of))]
 fn shift(d: i32, along: i16, by: i128) -> i32
     requires nonzero { by ≢ pos 0 }
     requires size { unsigned_abs by ≤ 2 ^ 31 }
-    ensures { result ≡ shift_of d along by }
+    ensures { result ≡ shift_part_of d along by }
 {
     w32(near(numerator(d, along), by))
 }
 
+/// What is divided by the product of the vectors.
 fn numerator(d: i32, along: i16) -> i128
     ensures value { result ≡ d *ℤ along *ℤ pos (2 ^ 14) }
     ensures bound { unsigned_abs result ≤ 2 ^ 60 }
@@ -48,16 +49,21 @@ fn numerator(d: i32, along: i16) -> i128
     i128::from(d) * i128::from(along) * (1 << 14)
 }
 
-// The product of the vectors.
+/// The product of the vectors.
 fn dot(freedom: Vector, projection: Vector) -> i128
-    ensures value { result ≡ dot_of freedom.x freedom.y projection.x projection.y }
+    ensures value { result ≡ dot_of freedom projection }
     ensures nonzero { result ≢ pos 0 }
     ensures size { unsigned_abs result ≤ 2 ^ 31 }
 {
-    not_small(dot_product(freedom.x, freedom.y, projection.x, projection.y))
+    not_small(dot_product(
+        freedom.x().0,
+        freedom.y().0,
+        projection.x().0,
+        projection.y().0,
+    ))
 }
 
-// A product below 1/16 is taken as that of equal vectors, so that a shift stays in reach.
+/// A product below 1/16 is taken as that of equal vectors, so that a shift stays in reach.
 fn not_small(dot: i64) -> i128
     requires { unsigned_abs dot ≤ 2 ^ 31 }
     ensures value { result ≡ not_small dot }
@@ -71,6 +77,7 @@ fn not_small(dot: i64) -> i128
     }
 }
 
+/// The exact product of the vectors.
 fn dot_product(fx: i16, fy: i16, px: i16, py: i16) -> i64
     ensures value { result ≡ fx *ℤ px +ℤ fy *ℤ py }
     ensures size { unsigned_abs result ≤ 2 ^ 31 }
@@ -78,6 +85,7 @@ fn dot_product(fx: i16, fy: i16, px: i16, py: i16) -> i64
     product(fx, px) + product(fy, py)
 }
 
+/// The product of two coordinates.
 fn product(a: i16, b: i16) -> i64
     ensures value { result ≡ a *ℤ b }
     ensures bound { unsigned_abs result ≤ 2 ^ 30 }

@@ -1,19 +1,12 @@
-// The graphics state.
-ghost use Rattle.std.specs.Prelude.{◌≤◌};
+//! The graphics state.
 
-use super::fault::BadArgument;
-use super::moves::shift_along;
-use super::rounding::{RoundState, super_grid, super_grid_45};
-use super::vectors::{Axis, Vector};
-use super::zones::ZonePointer;
-use fx_fixed::F26;
-
-/// A step of deltas is 64 / 2^shift, in 26.6 (Apple TrueType Reference Manual, SDS).
-#[derive(Clone, Copy, Debug, PartialEq, Eq)]
-pub struct DeltaShift {
-    pub shift: u8,
-    ghost at_most_six: { shift ≤ 6 },
-}
+use crate::deltas::{Delta, DeltaForm, DeltaShift};
+use crate::fault::BadArgument;
+use crate::moves::shift_along;
+use crate::rounding::{RoundState, super_grid, super_grid_45};
+use crate::vectors::Vector;
+use crate::zones::ZonePointer;
+use fx_fixed::{Axis, F26, Place};
 
 /// The graphics state (Apple TrueType Reference Manual, "Graphics state").
 #[derive(Clone, Copy, Debug, PartialEq, Eq)]
@@ -53,17 +46,18 @@ pub struct GState {
 }
 
 impl GState {
-    ghost use Rattle.std.specs.Prelude.{◌≡◌, ◌↔◌, ◌⊎◌, pos, ◌<ℤ◌, IsErr, OnOk, OnErr};
-    ghost use Rattle.fx_fixed.specs.Unit.{unit_of};
-    ghost use Rattle.fx_gstate.specs.Vectors.{axis_of, line_of, low_word, projection_of, dot_of, shift_of};
-    ghost use Rattle.fx_gstate.specs.Rounding.{Rounds, rounded_of};
-    ghost use Rattle.fx_gstate.specs.States.{zone_of};
-    ghost use Rattle.fx_gstate.specs.Setters.{IsDefault, SetsVectors, SetsSuperRound, pair_of};
+    ghost use Rattle.std.specs.Prelude.{◌≡◌, OnErr};
+    ghost use Rattle.fx_gstate.specs.Vectors.{axis_of, line_of, words_of, projection_of, shift_of, place_along, has_part};
+    ghost use Rattle.fx_gstate.specs.Rounding.{Rounds, rounded_of, super_grid_of};
+    ghost use Rattle.fx_gstate.specs.declared.rounding.RoundState.TheVariants.{Super};
+    ghost use Rattle.fx_gstate.specs.Deltas.{delta_of};
+    ghost use Rattle.fx_gstate.specs.States.{default_state, leaves};
+    ghost use Rattle.fx_gstate.specs.Setters.{with_zp0, with_zp1, with_zp2, with_zones, with_loop, with_delta_shift};
 
     /// The default state: all vectors the x axis, all zone pointers the glyph's, rounding to grid, auto flip on, cut-in 68, minimum
     /// distance 64, delta base 9 and shift 3, loop 1, and 0 elsewhere.
     pub fn new() -> GState
-        ensures { IsDefault result }
+        ensures { result ≡ default_state }
     {
         let x_axis = Vector::of_axis(Axis::X);
         GState {
@@ -84,43 +78,86 @@ impl GState {
             single_width: F26(0),
             single_width_cut_in: F26(0),
             delta_base: 9,
-            delta_shift: DeltaShift { shift: 3 },
+            delta_shift: DeltaShift::three(),
         }
     }
 
     /// The projection of a difference of current places on the projection vector, in 26.6.
     pub fn project(&self, dx: F26, dy: F26) -> F26
-        ensures { result.0 ≡ projection_of self.now.projection.x self.now.projection.y dx.0 dy.0 }
+        ensures { result ≡ projection_of self.now.projection (record { x = dx; y = dy }) }
     {
-        self.projection.project(dx, dy)
+        self.project_place(Place { x: dx, y: dy })
+    }
+
+    /// The projection of a difference of current places on the projection vector.
+    pub fn project_place(&self, d: Place) -> F26
+        ensures { result ≡ projection_of self.now.projection d }
+    {
+        self.projection.project(d)
     }
 
     /// The projection of a difference of original places on the dual projection vector, in 26.6.
     pub fn dual_project(&self, dx: F26, dy: F26) -> F26
-        ensures { result.0 ≡ projection_of self.now.dual.x self.now.dual.y dx.0 dy.0 }
+        ensures { result ≡ projection_of self.now.dual (record { x = dx; y = dy }) }
     {
-        self.dual.project(dx, dy)
+        self.dual_project_place(Place { x: dx, y: dy })
+    }
+
+    /// The projection of a difference of original places on the dual projection vector.
+    pub fn dual_project_place(&self, d: Place) -> F26
+        ensures { result ≡ projection_of self.now.dual d }
+    {
+        self.dual.project(d)
     }
 
     /// The shift along the freedom vector that changes the projection by `d`, in 26.6.
     pub fn shift_along(&self, d: F26) -> (F26, F26)
-        ensures x { result.0.0 ≡ shift_of d.0 self.now.freedom.x (dot_of self.now.freedom.x self.now.freedom.y self.now.projection.x self.now.projection.y) }
-        ensures y { result.1.0 ≡ shift_of d.0 self.now.freedom.y (dot_of self.now.freedom.x self.now.freedom.y self.now.projection.x self.now.projection.y) }
+        ensures x { result.0 ≡ (shift_of self.now.freedom self.now.projection d).x }
+        ensures y { result.1 ≡ (shift_of self.now.freedom self.now.projection d).y }
+    {
+        let shift = self.shift_place(d);
+        (shift.x, shift.y)
+    }
+
+    /// The shift along the freedom vector that changes the projection by `d`.
+    pub fn shift_place(&self, d: F26) -> Place
+        ensures { result ≡ shift_of self.now.freedom self.now.projection d }
     {
         shift_along(self.freedom, self.projection, d)
     }
 
+    /// The place at a distance from the origin along the freedom vector.
+    pub fn freedom_place(&self, d: F26) -> Place
+        ensures { result ≡ place_along self.now.freedom d }
+    {
+        self.freedom.place_along(d)
+    }
+
+    /// Whether a move along the freedom vector touches a point along an axis.
+    pub fn touches(&self, axis: Axis) -> bool
+        ensures { result ≡ has_part axis self.now.freedom }
+    {
+        self.freedom.has_part(axis)
+    }
+
     /// A distance rounded, in 26.6.
     pub fn round(&self, d: F26) -> F26
-        ensures rounds { Rounds self.now.round_state d.0 result.0 }
-        ensures value { result.0 ≡ rounded_of self.now.round_state d.0 }
+        ensures rounds { Rounds self.now.round_state d result }
+        ensures value { result ≡ rounded_of self.now.round_state d }
     {
         self.round_state.round(d)
     }
 
+    /// What an argument of a delta instruction says.
+    pub fn delta(&self, form: DeltaForm, argument: i32) -> Delta
+        ensures { result ≡ delta_of form self.now.delta_base self.now.delta_shift argument }
+    {
+        Delta::of(form, self.delta_base, self.delta_shift, argument)
+    }
+
     /// SVTCA: the freedom, projection and dual projection vectors become an axis.
     pub fn set_vectors_to_axis(&mut self, axis: Axis)
-        ensures { SetsVectors self.old self.new (axis_of axis) (axis_of axis) (axis_of axis) }
+        ensures { self.new ≡ record self.old { freedom = axis_of axis; projection = axis_of axis; dual = axis_of axis } }
     {
         let vector = Vector::of_axis(axis);
         self.freedom = vector;
@@ -130,52 +167,52 @@ impl GState {
 
     /// SPVTCA: the projection vector and its dual become an axis.
     pub fn set_projection_to_axis(&mut self, axis: Axis)
-        ensures { SetsVectors self.old self.new (pair_of self.old.freedom) (axis_of axis) (axis_of axis) }
+        ensures { self.new ≡ record self.old { projection = axis_of axis; dual = axis_of axis } }
     {
         self.set_projection(Vector::of_axis(axis));
     }
 
     /// SFVTCA: the freedom vector becomes an axis.
     pub fn set_freedom_to_axis(&mut self, axis: Axis)
-        ensures { SetsVectors self.old self.new (axis_of axis) (pair_of self.old.projection) (pair_of self.old.dual) }
+        ensures { self.new ≡ record self.old { freedom = axis_of axis } }
     {
         self.freedom = Vector::of_axis(axis);
     }
 
-    /// SPVTL: the projection vector and its dual become that of a line, whose points' current places differ by (dx, dy), in 26.6;
-    /// turned by 90 degrees counter-clockwise where that is asked for.
-    pub fn set_projection_to_line(&mut self, dx: F26, dy: F26, perpendicular: bool)
-        ensures { SetsVectors self.old self.new (pair_of self.old.freedom) (line_of dx.0 dy.0 perpendicular) (line_of dx.0 dy.0 perpendicular) }
+    /// SPVTL: the projection vector and its dual become that of a line, whose points' current places differ by `d`; turned by 90
+    /// degrees counter-clockwise when that is asked for.
+    pub fn set_projection_to_line(&mut self, d: Place, perpendicular: bool)
+        ensures { self.new ≡ record self.old { projection = line_of d perpendicular; dual = line_of d perpendicular } }
     {
-        self.set_projection(Vector::of_line(dx, dy, perpendicular));
+        self.set_projection(Vector::of_line(d, perpendicular));
     }
 
     /// SFVTL: the freedom vector becomes that of a line.
-    pub fn set_freedom_to_line(&mut self, dx: F26, dy: F26, perpendicular: bool)
-        ensures { SetsVectors self.old self.new (line_of dx.0 dy.0 perpendicular) (pair_of self.old.projection) (pair_of self.old.dual) }
+    pub fn set_freedom_to_line(&mut self, d: Place, perpendicular: bool)
+        ensures { self.new ≡ record self.old { freedom = line_of d perpendicular } }
     {
-        self.freedom = Vector::of_line(dx, dy, perpendicular);
+        self.freedom = Vector::of_line(d, perpendicular);
     }
 
-    /// SDPVTL: the dual projection vector becomes that of a line between original places, which differ by (odx, ody), the projection
-    /// vector that of the same line between current places.
-    pub fn set_dual_to_line(&mut self, odx: F26, ody: F26, dx: F26, dy: F26, perpendicular: bool)
-        ensures { SetsVectors self.old self.new (pair_of self.old.freedom) (line_of dx.0 dy.0 perpendicular) (line_of odx.0 ody.0 perpendicular) }
+    /// SDPVTL: the dual projection vector becomes that of a line between original places, the projection vector that of the same
+    /// line between current places.
+    pub fn set_dual_to_line(&mut self, original: Place, current: Place, perpendicular: bool)
+        ensures { self.new ≡ record self.old { projection = line_of current perpendicular; dual = line_of original perpendicular } }
     {
-        self.dual = Vector::of_line(odx, ody, perpendicular);
-        self.projection = Vector::of_line(dx, dy, perpendicular);
+        self.dual = Vector::of_line(original, perpendicular);
+        self.projection = Vector::of_line(current, perpendicular);
     }
 
     /// SPVFS: the projection vector and its dual become the unit vector of the low words of two stack numbers.
     pub fn set_projection_from_stack(&mut self, x: i32, y: i32)
-        ensures { SetsVectors self.old self.new (pair_of self.old.freedom) (unit_of (low_word x) (low_word y)) (unit_of (low_word x) (low_word y)) }
+        ensures { self.new ≡ record self.old { projection = words_of x y; dual = words_of x y } }
     {
         self.set_projection(Vector::of_words(x, y));
     }
 
     /// SFVFS: the freedom vector becomes the unit vector of the low words of two stack numbers.
     pub fn set_freedom_from_stack(&mut self, x: i32, y: i32)
-        ensures { SetsVectors self.old self.new (unit_of (low_word x) (low_word y)) (pair_of self.old.projection) (pair_of self.old.dual) }
+        ensures { self.new ≡ record self.old { freedom = words_of x y } }
     {
         self.freedom = Vector::of_words(x, y);
     }
@@ -187,7 +224,7 @@ impl GState {
         self.freedom = self.projection;
     }
 
-    // Whatever sets the projection vector by itself sets its dual too.
+    /// Whatever sets the projection vector by itself sets its dual too.
     fn set_projection(&mut self, vector: Vector)
         ensures { self.new ≡ record self.old { projection = vector; dual = vector } }
     {
@@ -216,41 +253,37 @@ impl GState {
         self.rp2 = point;
     }
 
-    /// SZP0: zone pointer 0 becomes zone 0 or 1; else `BadArgument`, and nothing changes.
+    /// SZP0: zone pointer 0 becomes zone 0 or 1; any other number is `BadArgument`, and nothing changes.
     pub fn set_zp0(&mut self, zone: i32) -> Result<(), BadArgument>
-        ensures ok { OnOk result (zone_of zone ≡ Ok self.new.zp0 × (self.new ≡ record self.old { zp0 = self.new.zp0 })) }
-        ensures err { OnErr result (self.new ≡ self.old) }
-        ensures refused { IsErr result ↔ IsErr (zone_of zone) }
+        ensures value { leaves result self.new ≡ with_zp0 zone self.old }
+        ensures kept { OnErr result (self.new ≡ self.old) }
     {
         self.zp0 = ZonePointer::of(zone)?;
         Ok(())
     }
 
-    /// SZP1: zone pointer 1 becomes zone 0 or 1; else `BadArgument`, and nothing changes.
+    /// SZP1: zone pointer 1 becomes zone 0 or 1; any other number is `BadArgument`, and nothing changes.
     pub fn set_zp1(&mut self, zone: i32) -> Result<(), BadArgument>
-        ensures ok { OnOk result (zone_of zone ≡ Ok self.new.zp1 × (self.new ≡ record self.old { zp1 = self.new.zp1 })) }
-        ensures err { OnErr result (self.new ≡ self.old) }
-        ensures refused { IsErr result ↔ IsErr (zone_of zone) }
+        ensures value { leaves result self.new ≡ with_zp1 zone self.old }
+        ensures kept { OnErr result (self.new ≡ self.old) }
     {
         self.zp1 = ZonePointer::of(zone)?;
         Ok(())
     }
 
-    /// SZP2: zone pointer 2 becomes zone 0 or 1; else `BadArgument`, and nothing changes.
+    /// SZP2: zone pointer 2 becomes zone 0 or 1; any other number is `BadArgument`, and nothing changes.
     pub fn set_zp2(&mut self, zone: i32) -> Result<(), BadArgument>
-        ensures ok { OnOk result (zone_of zone ≡ Ok self.new.zp2 × (self.new ≡ record self.old { zp2 = self.new.zp2 })) }
-        ensures err { OnErr result (self.new ≡ self.old) }
-        ensures refused { IsErr result ↔ IsErr (zone_of zone) }
+        ensures value { leaves result self.new ≡ with_zp2 zone self.old }
+        ensures kept { OnErr result (self.new ≡ self.old) }
     {
         self.zp2 = ZonePointer::of(zone)?;
         Ok(())
     }
 
-    /// SZPS: all zone pointers become zone 0 or 1; else `BadArgument`, and nothing changes.
+    /// SZPS: all zone pointers become zone 0 or 1; any other number is `BadArgument`, and nothing changes.
     pub fn set_zone_pointers(&mut self, zone: i32) -> Result<(), BadArgument>
-        ensures ok { OnOk result (zone_of zone ≡ Ok self.new.zp0 × (self.new ≡ record self.old { zp0 = self.new.zp0; zp1 = self.new.zp0; zp2 = self.new.zp0 })) }
-        ensures err { OnErr result (self.new ≡ self.old) }
-        ensures refused { IsErr result ↔ IsErr (zone_of zone) }
+        ensures value { leaves result self.new ≡ with_zones zone self.old }
+        ensures kept { OnErr result (self.new ≡ self.old) }
     {
         let zone = ZonePointer::of(zone)?;
         self.zp0 = zone;
@@ -261,14 +294,13 @@ impl GState {
 
     /// SLOOP: how many points the next loop instruction takes; below 0 it is `BadArgument`, and nothing changes.
     pub fn set_loop(&mut self, count: i32) -> Result<(), BadArgument>
-        ensures ok { OnOk result (pos self.new.loop_count ≡ count × (self.new ≡ record self.old { loop_count = self.new.loop_count })) }
-        ensures err { OnErr result (self.new ≡ self.old) }
-        ensures refused { IsErr result ↔ (count <ℤ pos 0) }
+        ensures value { leaves result self.new ≡ with_loop count self.old }
+        ensures kept { OnErr result (self.new ≡ self.old) }
     {
         if count < 0 {
             return Err(BadArgument);
         }
-        self.loop_count = count as u32;
+        self.loop_count = count.unsigned_abs();
         Ok(())
     }
 
@@ -321,16 +353,12 @@ impl GState {
         self.delta_base = base;
     }
 
-    /// SDS: the delta shift, 0 to 6; else `BadArgument`, and nothing changes.
+    /// SDS: the delta shift, 0 to 6; any other number is `BadArgument`, and nothing changes.
     pub fn set_delta_shift(&mut self, shift: i32) -> Result<(), BadArgument>
-        ensures ok { OnOk result (pos self.new.delta_shift.shift ≡ shift × (self.new ≡ record self.old { delta_shift = self.new.delta_shift })) }
-        ensures err { OnErr result (self.new ≡ self.old) }
-        ensures refused { IsErr result ↔ ((shift <ℤ pos 0) ⊎ (pos 6 <ℤ shift)) }
+        ensures value { leaves result self.new ≡ with_delta_shift shift self.old }
+        ensures kept { OnErr result (self.new ≡ self.old) }
     {
-        if shift < 0 || shift > 6 {
-            return Err(BadArgument);
-        }
-        self.delta_shift = DeltaShift { shift: shift as u8 };
+        self.delta_shift = DeltaShift::of(shift)?;
         Ok(())
     }
 
@@ -343,14 +371,14 @@ impl GState {
 
     /// SROUND: rounding to the grid that the low byte of a stack number names.
     pub fn set_super_round(&mut self, n: i32)
-        ensures { SetsSuperRound self.old self.new 64 n }
+        ensures { self.new ≡ record self.old { round_state = Super (super_grid_of 64 n) } }
     {
         self.round_state = RoundState::Super(super_grid(n));
     }
 
     /// S45ROUND: the same for a grid turned by 45 degrees.
     pub fn set_super_round_45(&mut self, n: i32)
-        ensures { SetsSuperRound self.old self.new 45 n }
+        ensures { self.new ≡ record self.old { round_state = Super (super_grid_of 45 n) } }
     {
         self.round_state = RoundState::Super(super_grid_45(n));
     }

@@ -1,10 +1,18 @@
 use super::*;
-use fx_fixed::F26;
+use fx_fixed::{Axis, F2, F26, Place, Ppem};
 use std::test::Fail;
 
-// A distance rounded by a state, both in 26.6.
+/// A distance rounded by a state, both in 26.6.
 fn rounds(state: RoundState, distance: i32) -> i32 {
     state.round(F26(distance)).0
+}
+
+/// A place in 26.6.
+fn place(x: i32, y: i32) -> Place {
+    Place {
+        x: F26(x),
+        y: F26(y),
+    }
 }
 
 #[test]
@@ -35,13 +43,15 @@ fn grids(rt: HostRuntime) -> Result<(), Fail> {
         (0, 64)
     );
     assert_eq!(rt; rounds(RoundState::Off, -7), -7);
-    let low = RoundState::Super(super_grid(0));
-    assert_eq!(rt;
-        (rounds(low, 1), rounds(low, -1), rounds(low, 0)),
-        (32, -32, 0)
-    );
-    let turned = RoundState::Super(super_grid_45(0x48));
-    assert_eq!(rt; (rounds(turned, 22), rounds(turned, 23)), (0, 45));
+    for (distance, want) in [(1, 32), (-1, -32), (0, 0)] {
+        assert_eq!(rt; rounds(RoundState::Super(super_grid(0)), distance), want);
+    }
+    for (distance, want) in [(22, 0), (23, 45)] {
+        assert_eq!(rt;
+            rounds(RoundState::Super(super_grid_45(0x48)), distance),
+            want
+        );
+    }
     Ok(())
 }
 
@@ -49,25 +59,40 @@ fn grids(rt: HostRuntime) -> Result<(), Fail> {
 fn shifts(rt: HostRuntime) -> Result<(), Fail> {
     let mut state = GState::new();
     assert_eq!(rt; state.shift_along(F26(64)), (F26(64), F26(0)));
-    state.set_freedom_to_line(F26(1), F26(1), false);
+    state.set_freedom_to_line(place(1, 1), false);
     assert_eq!(rt; state.shift_along(F26(64)), (F26(64), F26(64)));
     state.set_freedom_to_axis(Axis::Y);
     assert_eq!(rt; state.shift_along(F26(64)), (F26(0), F26(64)));
     assert_eq!(rt; state.project(F26(3), F26(4)), F26(3));
+    assert_eq!(rt; state.dual_project(F26(3), F26(4)), F26(3));
+    assert_eq!(rt;
+        (state.touches(Axis::X), state.touches(Axis::Y)),
+        (false, true)
+    );
+    assert_eq!(rt; state.freedom_place(F26(-7)), place(0, -7));
     Ok(())
 }
 
 #[test]
 fn lines(rt: HostRuntime) -> Result<(), Fail> {
     let mut state = GState::new();
-    state.set_projection_to_line(F26(3), F26(4), true);
-    assert_eq!(rt; (state.projection.x, state.projection.y), (-13107, 9830));
-    assert_eq!(rt; (state.dual.x, state.dual.y), (-13107, 9830));
-    state.set_dual_to_line(F26(0), F26(5), F26(0), F26(0), true);
-    assert_eq!(rt; (state.projection.x, state.projection.y), (16384, 0));
-    assert_eq!(rt; (state.dual.x, state.dual.y), (-16384, 0));
+    state.set_projection_to_line(place(3, 4), true);
+    assert_eq!(rt;
+        (state.projection.x(), state.projection.y()),
+        (F2(-13107), F2(9830))
+    );
+    assert_eq!(rt; (state.dual.x(), state.dual.y()), (F2(-13107), F2(9830)));
+    state.set_dual_to_line(place(0, 5), place(0, 0), true);
+    assert_eq!(rt;
+        (state.projection.x(), state.projection.y()),
+        (F2(16384), F2(0))
+    );
+    assert_eq!(rt; (state.dual.x(), state.dual.y()), (F2(-16384), F2(0)));
     state.set_freedom_from_stack(0x1_0003, -65532);
-    assert_eq!(rt; (state.freedom.x, state.freedom.y), (9830, 13107));
+    assert_eq!(rt;
+        (state.freedom.x(), state.freedom.y()),
+        (F2(9830), F2(13107))
+    );
     Ok(())
 }
 
@@ -91,8 +116,27 @@ fn arguments(rt: HostRuntime) -> Result<(), Fail> {
         (Ok(()), Ok(()), Ok(()))
     );
     assert_eq!(rt;
-        (state.zp0, state.loop_count, state.delta_shift.shift),
+        (state.zp0, state.loop_count, state.delta_shift.shift()),
         (ZonePointer::Twilight, 0, 6)
     );
+    Ok(())
+}
+
+#[test]
+fn deltas(rt: HostRuntime) -> Result<(), Fail> {
+    let state = GState::new();
+    for (form, argument, ppem, amount) in [
+        (DeltaForm::First, 0x00, 9, -64),
+        (DeltaForm::First, 0x17, 10, -8),
+        (DeltaForm::Second, 0x18, 26, 8),
+        (DeltaForm::Third, -1, 56, 64),
+    ] {
+        let delta = state.delta(form, argument);
+        assert_eq!(rt; (delta.ppem, delta.amount), (ppem, F26(amount)));
+        let here = Ppem::new(ppem as u16);
+        assert_eq!(rt; here.map(|size| delta.acts_at(size)), Some(true));
+        let next = Ppem::new(ppem as u16 + 1);
+        assert_eq!(rt; next.map(|size| delta.acts_at(size)), Some(false));
+    }
     Ok(())
 }

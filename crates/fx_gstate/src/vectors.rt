@@ -1,104 +1,166 @@
-// Unit vectors.
-ghost use Rattle.std.specs.Prelude.{◌≡◌, ◌^◌, pos, neg_ℤ, ◌+ℤ◌, ◌*ℤ◌, unsigned_abs, ◌≤◌};
+//! Unit vectors.
+
+ghost use Rattle.std.specs.Prelude.{◌≡◌, ◌↔◌, IsTrue, ◌^◌, ◌+ℤ◌, ◌*ℤ◌, unsigned_abs, ◌≤◌};
 ghost use Rattle.fx_fixed.specs.Ranges.{IsWithin};
-ghost use Rattle.fx_gstate.specs.Vectors.{axis_of, projection_of, line_of, low_word};
 ghost use Rattle.fx_fixed.specs.Unit.{unit_of};
+ghost use Rattle.fx_gstate.specs.Vectors.{axis_of, projection_of, line_of, low_word, words_of, turned_of, part_of, place_along, has_part};
 
-use fx_fixed::{F2, F26, near_16384, unit, w32};
+use fx_fixed::{Axis, F2, F26, Place, near_16384, unit, w32};
+use std::marker::Model;
 
-/// An axis of the plane.
-#[derive(Clone, Copy, Debug, PartialEq, Eq)]
-pub enum Axis {
-    X,
-    Y,
-}
-
-/// A unit vector, in 2.14.
+/// A unit vector; contracts see its two coordinates in 2.14.
 #[derive(Clone, Copy, Debug, PartialEq, Eq)]
 pub struct Vector {
-    pub x: i16,
-    pub y: i16,
-    ghost near_x: { IsWithin 16384 x },
-    ghost near_y: { IsWithin 16384 y },
+    x: F2,
+    y: F2,
+}
+
+impl Model for Vector {
+    ghost use Rattle.std.specs.Prelude.{ℤ};
+    ghost use Rattle.fx_fixed.specs.Ranges.{IsWithin};
+
+    ghost Value = { ℤ × ℤ };
+
+    ghost view = { λ v. (v.x, v.y) };
+
+    ghost invariant = { λ v. IsWithin 16384 v.x × IsWithin 16384 v.y };
+
+    ghost inverse = { λ v. record { x = v.0; y = v.1 } };
 }
 
 impl Vector {
-    /// The vector of an axis.
-    pub fn of_axis(axis: Axis) -> Vector
-        ensures x { result.x ≡ (axis_of axis).0 }
-        ensures y { result.y ≡ (axis_of axis).1 }
+    /// Its coordinate along the x axis.
+    pub fn x(self) -> F2
+        ensures value { result ≡ self.0 }
+        ensures near { IsWithin 16384 result }
+    {
+        self.x
+    }
+
+    /// Its coordinate along the y axis.
+    pub fn y(self) -> F2
+        ensures value { result ≡ self.1 }
+        ensures near { IsWithin 16384 result }
+    {
+        self.y
+    }
+
+    /// Whether it is the vector of an axis.
+    pub fn is_along(self, axis: Axis) -> bool
+        ensures { IsTrue result ↔ (self ≡ axis_of axis) }
     {
         match axis {
-            Axis::X => Vector { x: 16384, y: 0 },
-            Axis::Y => Vector { x: 0, y: 16384 },
+            Axis::X => self.x.0 == 16384 && self.y.0 == 0,
+            Axis::Y => self.x.0 == 0 && self.y.0 == 16384,
+        }
+    }
+
+    /// Whether its coordinate along an axis is not 0.
+    pub fn has_part(self, axis: Axis) -> bool
+        ensures { result ≡ has_part axis self }
+    {
+        match axis {
+            Axis::X => self.x.0 != 0,
+            Axis::Y => self.y.0 != 0,
+        }
+    }
+
+    /// The vector of an axis.
+    pub fn of_axis(axis: Axis) -> Vector
+        ensures { result ≡ axis_of axis }
+    {
+        match axis {
+            Axis::X => Vector {
+                x: F2::ONE,
+                y: F2(0),
+            },
+            Axis::Y => Vector {
+                x: F2(0),
+                y: F2::ONE,
+            },
         }
     }
 
     /// The unit vector of a direction.
     pub fn along(dx: i32, dy: i32) -> Vector
-        ensures x { result.x ≡ (unit_of dx dy).0 }
-        ensures y { result.y ≡ (unit_of dx dy).1 }
+        ensures { result ≡ unit_of dx dy }
     {
         let (x, y) = unit(dx, dy);
-        Vector { x: x.0, y: y.0 }
+        Vector { x, y }
     }
 
-    /// The vector of a line whose points differ by (dx, dy), in 26.6: turned by 90 degrees counter-clockwise where that is asked
-    /// for; of no difference the x axis, not turned (Apple TrueType Reference Manual, SPVTL).
+    /// The vector of a line whose points differ by `d`: turned by 90 degrees counter-clockwise when that is asked for; of no
+    /// difference the x axis, not turned (Apple TrueType Reference Manual, SPVTL).
     #[tactic(auto, unfolding(crate::specs::Vectors::line_of))]
-    pub fn of_line(dx: F26, dy: F26, perpendicular: bool) -> Vector
-        ensures x { result.x ≡ (line_of dx.0 dy.0 perpendicular).0 }
-        ensures y { result.y ≡ (line_of dx.0 dy.0 perpendicular).1 }
+    pub fn of_line(d: Place, perpendicular: bool) -> Vector
+        ensures { result ≡ line_of d perpendicular }
     {
-        if dx.0 == 0 && dy.0 == 0 {
+        if d.x.0 == 0 && d.y.0 == 0 {
             return Vector::of_axis(Axis::X);
         }
-        let along = Vector::along(dx.0, dy.0);
+        let along = Vector::along(d.x.0, d.y.0);
         if perpendicular { along.turned() } else { along }
     }
 
     /// The unit vector of the low 16 bits of two stack numbers, signed (Apple TrueType Reference Manual, SPVFS).
     pub fn of_words(x: i32, y: i32) -> Vector
-        ensures x { result.x ≡ (unit_of (low_word x) (low_word y)).0 }
-        ensures y { result.y ≡ (unit_of (low_word x) (low_word y)).1 }
+        ensures { result ≡ words_of x y }
     {
         Vector::along(word(x), word(y))
     }
 
     /// The vector turned by 90 degrees counter-clockwise.
     pub fn turned(self) -> Vector
-        ensures x { result.x ≡ neg_ℤ self.y }
-        ensures y { result.y ≡ self.x }
+        ensures { result ≡ turned_of self }
     {
         Vector {
-            x: -self.y,
+            x: F2(-self.y.0),
             y: self.x,
         }
     }
 
-    /// The projection of a difference on the vector: the nearest to the exact product, halves away from zero, in 32 bits.
-    pub fn project(self, dx: F26, dy: F26) -> F26
-        ensures { result.0 ≡ projection_of self.x self.y dx.0 dy.0 }
+    /// The projection of a difference of places on the vector: the nearest to the exact product, halves away from zero, in 32 bits.
+    pub fn project(self, d: Place) -> F26
+        ensures { result ≡ projection_of self d }
     {
-        if self.x == 16384 && self.y == 0 {
-            dx
-        } else if self.x == 0 && self.y == 16384 {
-            dy
+        if self.is_along(Axis::X) {
+            d.x
+        } else if self.is_along(Axis::Y) {
+            d.y
         } else {
-            self.projected(dx, dy)
+            projected(self.x, self.y, d)
         }
     }
 
-    // The same with no shortcut.
-    #[tactic(auto, unfolding(crate::specs::Vectors::projection_of))]
-    fn projected(self, dx: F26, dy: F26) -> F26
-        ensures { result.0 ≡ projection_of self.x self.y dx.0 dy.0 }
+    /// The place at a distance from the origin along the vector, each coordinate rounded as a projection is.
+    pub fn place_along(self, d: F26) -> Place
+        ensures { result ≡ place_along self d }
     {
-        let sum = sum(product(dx.0, self.x), product(dy.0, self.y));
-        F26(w32(i128::from(near_16384(sum))))
+        Place {
+            x: part(d, self.x),
+            y: part(d, self.y),
+        }
     }
 }
 
+/// The projection with no shortcut.
+#[tactic(auto, unfolding(crate::specs::Vectors::projection_of))]
+fn projected(x: F2, y: F2, d: Place) -> F26
+    ensures { result ≡ projection_of (x, y) d }
+{
+    let sum = sum(product(d.x.0, x.0), product(d.y.0, y.0));
+    F26(w32(i128::from(near_16384(sum))))
+}
+
+/// One coordinate of a place along a vector.
+#[tactic(auto, unfolding(crate::specs::Vectors::part_of))]
+fn part(d: F26, along: F2) -> F26
+    ensures { result ≡ part_of d along }
+{
+    F26(w32(i128::from(near_16384(product(d.0, along.0)))))
+}
+
+/// The exact product of a distance and a coordinate of a vector.
 fn product(distance: i32, along: i16) -> i64
     ensures value { result ≡ distance *ℤ along }
     ensures bound { unsigned_abs result ≤ 2 ^ 46 }
@@ -106,6 +168,7 @@ fn product(distance: i32, along: i16) -> i64
     i64::from(distance) * i64::from(along)
 }
 
+/// The sum of two products.
 fn sum(a: i64, b: i64) -> i64
     requires near_a { unsigned_abs a ≤ 2 ^ 46 }
     requires near_b { unsigned_abs b ≤ 2 ^ 46 }
@@ -115,7 +178,7 @@ fn sum(a: i64, b: i64) -> i64
     a + b
 }
 
-// The low 16 bits of a stack number, signed.
+/// The low 16 bits of a stack number, signed.
 fn word(n: i32) -> i32
     ensures { result ≡ low_word n }
 {
