@@ -1,0 +1,76 @@
+-- The points of both zones, as instructions find and change them, and the strays that they count.
+-- Apple TrueType Reference Manual, "Zones"; what a stray does is this project's own choice.
+use Rattle.std.specs.Prelude.{ℕ, ◌+◌, ℤ, pos, negsuc, Bool, true, false, List, Option, Some, None, slice_get}
+use Rattle.fx_fixed.specs.Places.{origin}
+use Rattle.fx_fixed.specs.declared.places.Place.{Place}
+use Rattle.fx_zone.specs.declared.point.Point.{Point}
+use Rattle.fx_zone.specs.Figures.{Figure, HasShape, changed}
+use Rattle.fx_gstate.specs.declared.zones.ZonePointer.{ZonePointer}
+use Rattle.fx_gstate.specs.declared.zones.ZonePointer.TheVariants.{Twilight, Glyph}
+use Rattle.fx_pointops.specs.declared.zones.Zones.{Zones}
+
+-- what a row gives: the zones, and how many strays it counts
+abbrev pub Outcome : Type 0
+Outcome = Zones × ℕ
+
+abbrev pub with_strays : ℕ → Outcome → Outcome
+with_strays n o = (o.0, n + o.1)
+
+-- the zone that a zone pointer names
+abbrev pub zone_at : ZonePointer → Zones → Figure
+zone_at Twilight z = z.twilight
+zone_at Glyph z = z.glyph
+
+abbrev pub is_twilight : ZonePointer → Bool
+is_twilight Twilight = true
+is_twilight Glyph = false
+
+abbrev pub is_same_zone : ZonePointer → ZonePointer → Bool
+is_same_zone Twilight Twilight = true
+is_same_zone Glyph Glyph = true
+is_same_zone _ _ = false
+
+-- the zone that a zone pointer names changed
+abbrev pub on_zone : (Figure → Figure) → ZonePointer → Zones → Zones
+on_zone change Twilight z = record z { twilight = change z.twilight }
+on_zone change Glyph z = record z { glyph = change z.glyph }
+
+-- a stack number as the number of a point or a contour
+abbrev pub index_of : ℤ → Option ℕ
+index_of (pos n) = Some n
+index_of (negsuc n) = None
+
+-- the point of a number, if it is inside
+abbrev pub point_of : Option ℕ → List Point → Option Point
+point_of None points = None
+point_of (Some n) points = slice_get points n
+
+unfoldable pub point_at : ZonePointer → ℤ → Zones → Option Point
+point_at zone n z = point_of (index_of n) (zone_at zone z).points
+
+-- the point of a number changed; nothing if it is outside
+abbrev pub changed_of : (Point → Point) → ZonePointer → Option ℕ → Zones → Zones
+changed_of change zone None z = z
+changed_of change zone (Some n) z = on_zone (changed change n) zone z
+
+unfoldable pub changed_at : (Point → Point) → ZonePointer → ℤ → Zones → Zones
+changed_at change zone n z = changed_of change zone (index_of n) z
+
+-- a point that is not inside is a stray
+abbrev pub stray_of : Option Point → ℕ
+stray_of (Some p) = 0
+stray_of None = 1
+
+-- and reads as (0, 0)
+abbrev pub org_of : Option Point → Place
+org_of (Some p) = p.org
+org_of None = origin
+
+abbrev pub cur_of : Option Point → Place
+cur_of (Some p) = p.cur
+cur_of None = origin
+
+-- as many points, and the same contours, in both zones
+pub record HasShapes (old new : Zones) : Type 0 where
+  pub twilight : HasShape old.twilight new.twilight
+  pub glyph : HasShape old.glyph new.glyph

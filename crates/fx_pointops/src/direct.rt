@@ -1,0 +1,176 @@
+//! The rows that move points directly: to a place, or to a distance from reference point 0.
+
+ghost use Rattle.std.specs.Prelude.{◌≡◌, ◌+◌, ◌≤◌, length, reverse};
+ghost use Rattle.fx_pointops.specs.Zones.{HasShapes};
+ghost use Rattle.fx_pointops.specs.Direct.{untouched_along, utp_of, to_grid, mdap_of, laid_at_distance, moved_to_distance, msirp_of, aligned_to_rp, alignrp_of, half_of, alignpts_of, scfs_of, pixel_shifted, shpix_of, wanted_of, mdrp_of};
+
+use crate::distances::{Relative, kept_by, negative, rounded_by, single};
+use crate::zones::{Zones, cur, is_twilight, org, stray};
+use fx_fixed::{Axis, F26, cut, w32};
+use fx_gstate::GState;
+
+/// The move that puts a coordinate on the grid, or none.
+fn to_grid(g: &GState, rounds: bool, c: F26) -> F26
+    ensures { result ≡ to_grid g.now rounds c }
+{
+    if rounds { g.round(c).minus(c) } else { F26(0) }
+}
+
+/// Half of a distance, cut toward zero.
+fn half(d: F26) -> F26
+    ensures { result ≡ half_of d }
+{
+    F26(w32(cut(i128::from(d.0), 2)))
+}
+
+/// The distance that MDRP moves a point to, of its original one.
+#[tactic(auto, unfolding(crate::specs::Direct::wanted_of))]
+fn wanted(g: &GState, how: Relative, o: F26) -> F26
+    ensures { result ≡ wanted_of g.now how o }
+{
+    let o = single(g, o);
+    kept_by(g, how, o, rounded_by(g, how, o))
+}
+
+impl Zones {
+    /// Untouches a point along an axis, if the freedom vector has a part along it.
+    fn untouch_along(&mut self, g: &GState, axis: Axis, p: i32)
+        ensures value { self.new ≡ untouched_along g.now axis p self.old }
+        ensures shapes { HasShapes self.old self.new }
+    {
+        if g.touches(axis) {
+            self.untouch(g.zp0, p, axis);
+        }
+    }
+
+    /// UTP: untouches a point.
+    #[tactic(auto, unfolding(crate::specs::Direct::utp_of))]
+    pub fn utp(&mut self, g: &GState, p: i32) -> u64
+        ensures value { (self.new, result) ≡ utp_of g.now p self.old }
+        ensures few { result ≤ 1 }
+        ensures shapes { HasShapes self.old self.new }
+    {
+        let point = self.point(g.zp0, p);
+        self.untouch_along(g, Axis::X, p);
+        self.untouch_along(g, Axis::Y, p);
+        stray(&point)
+    }
+
+    /// MDAP: moves a point to its place, or to the rounded one.
+    #[tactic(auto, unfolding(crate::specs::Direct::mdap_of))]
+    pub fn mdap(&mut self, g: &GState, rounds: bool, p: i32) -> u64
+        ensures value { (self.new, result) ≡ mdap_of g.now rounds p self.old }
+        ensures few { result ≤ 1 }
+        ensures shapes { HasShapes self.old self.new }
+    {
+        let point = self.point(g.zp0, p);
+        let d = to_grid(g, rounds, g.project_place(cur(&point)));
+        self.move_by(g, g.zp0, p, d);
+        stray(&point)
+    }
+
+    /// Lays a point of the twilight zone at a distance from reference point 0.
+    fn lay_at_distance(&mut self, g: &GState, p: i32, d: F26)
+        ensures value { self.new ≡ laid_at_distance g.now p d self.old }
+        ensures shapes { HasShapes self.old self.new }
+    {
+        if is_twilight(g.zp1) {
+            let from = org(&self.point(g.zp0, g.rp0));
+            self.lay(g.zp1, p, from.plus(g.shift_place(d)));
+        }
+    }
+
+    /// Moves a point to a distance from reference point 0.
+    fn move_to_distance(&mut self, g: &GState, p: i32, d: F26)
+        ensures value { self.new ≡ moved_to_distance g.now p d self.old }
+        ensures shapes { HasShapes self.old self.new }
+    {
+        let c = self.distance(g, g.zp1, p, g.zp0, g.rp0);
+        self.move_by(g, g.zp1, p, d.minus(c));
+    }
+
+    /// MSIRP: moves a point to a distance from reference point 0.
+    #[tactic(auto, unfolding(crate::specs::Direct::msirp_of))]
+    pub fn msirp(&mut self, g: &GState, p: i32, d: F26) -> u64
+        ensures value { (self.new, result) ≡ msirp_of g.now p d self.old }
+        ensures few { result ≤ 2 }
+        ensures shapes { HasShapes self.old self.new }
+    {
+        let point = self.point(g.zp1, p);
+        let base = self.point(g.zp0, g.rp0);
+        self.lay_at_distance(g, p, d);
+        self.move_to_distance(g, p, d);
+        stray(&point) + stray(&base)
+    }
+
+    /// Moves a point to the distance 0 from reference point 0.
+    #[tactic(auto, unfolding(crate::specs::Direct::aligned_to_rp))]
+    fn align_to_rp(&mut self, g: &GState, p: i32) -> u64
+        ensures value { (self.new, result) ≡ aligned_to_rp g.now p self.old }
+        ensures few { result ≤ 1 }
+        ensures shapes { HasShapes self.old self.new }
+    {
+        let point = self.point(g.zp1, p);
+        let c = self.distance(g, g.zp1, p, g.zp0, g.rp0);
+        self.move_by(g, g.zp1, p, negative(c));
+        stray(&point)
+    }
+
+    /// ALIGNPTS: moves two points to the middle between them.
+    #[tactic(auto, unfolding(crate::specs::Direct::alignpts_of))]
+    pub fn alignpts(&mut self, g: &GState, p: i32, q: i32) -> u64
+        ensures value { (self.new, result) ≡ alignpts_of g.now p q self.old }
+        ensures few { result ≤ 2 }
+        ensures shapes { HasShapes self.old self.new }
+    {
+        let first = self.point(g.zp1, p);
+        let second = self.point(g.zp0, q);
+        let d = self.distance(g, g.zp0, q, g.zp1, p);
+        self.move_by(g, g.zp1, p, half(d));
+        self.move_by(g, g.zp0, q, half(d).minus(d));
+        stray(&first) + stray(&second)
+    }
+
+    /// SCFS: moves a point to a coordinate.
+    #[tactic(auto, unfolding(crate::specs::Direct::scfs_of))]
+    pub fn scfs(&mut self, g: &GState, p: i32, v: F26) -> u64
+        ensures value { (self.new, result) ≡ scfs_of g.now p v self.old }
+        ensures few { result ≤ 1 }
+        ensures shapes { HasShapes self.old self.new }
+    {
+        let point = self.point(g.zp2, p);
+        let d = v.minus(g.project_place(cur(&point)));
+        self.move_by(g, g.zp2, p, d);
+        if is_twilight(g.zp2) {
+            self.settle(g.zp2, p);
+        }
+        stray(&point)
+    }
+
+    /// Shifts a point by a distance along the freedom vector.
+    #[tactic(auto, unfolding(crate::specs::Direct::pixel_shifted))]
+    fn pixel_shift(&mut self, g: &GState, a: F26, p: i32) -> u64
+        ensures value { (self.new, result) ≡ pixel_shifted g.now a p self.old }
+        ensures few { result ≤ 1 }
+        ensures shapes { HasShapes self.old self.new }
+    {
+        let point = self.point(g.zp2, p);
+        self.shift_by(g, g.zp2, p, g.freedom_place(a));
+        stray(&point)
+    }
+
+    /// MDRP: moves a point to its original distance from reference point 0.
+    #[tactic(auto, unfolding(crate::specs::Direct::mdrp_of))]
+    pub fn mdrp(&mut self, g: &GState, how: Relative, p: i32) -> u64
+        ensures value { (self.new, result) ≡ mdrp_of g.now how p self.old }
+        ensures few { result ≤ 2 }
+        ensures shapes { HasShapes self.old self.new }
+    {
+        let point = self.point(g.zp1, p);
+        let base = self.point(g.zp0, g.rp0);
+        let o = g.dual_project_place(org(&point).minus(org(&base)));
+        let c = g.project_place(cur(&point).minus(cur(&base)));
+        self.move_by(g, g.zp1, p, wanted(g, how, o).minus(c));
+        stray(&point) + stray(&base)
+    }
+}

@@ -1,0 +1,81 @@
+//! Places, distances and lines, as instructions measure them.
+
+ghost use Rattle.std.specs.Prelude.{◌≡◌, ◌≤◌};
+ghost use Rattle.fx_pointops.specs.Measure.{gc_of, md_of, line_between, distance_of, original_of};
+
+use crate::zones::{Zones, cur, org, stray};
+use fx_fixed::{F26, Place};
+use fx_gstate::{GState, ZonePointer};
+
+/// The difference of two points' original and of their current places.
+#[derive(Clone, Copy, Debug, PartialEq, Eq)]
+pub struct Line {
+    pub org: Place,
+    pub cur: Place,
+}
+
+impl Zones {
+    /// The current distance of a point from another.
+    pub fn distance(&self, g: &GState, zone: ZonePointer, p: i32, base: ZonePointer, q: i32) -> F26
+        ensures { result ≡ distance_of g.now zone p base q self.now }
+    {
+        let to = cur(&self.point(zone, p));
+        let from = cur(&self.point(base, q));
+        g.project_place(to.minus(from))
+    }
+
+    /// The original distance of a point from another.
+    pub fn original(&self, g: &GState, zone: ZonePointer, p: i32, base: ZonePointer, q: i32) -> F26
+        ensures { result ≡ original_of g.now zone p base q self.now }
+    {
+        let to = org(&self.point(zone, p));
+        let from = org(&self.point(base, q));
+        g.dual_project_place(to.minus(from))
+    }
+
+    /// GC: the coordinate of a point along the projection vector, or its original one along the dual projection vector.
+    #[tactic(auto, unfolding(crate::specs::Measure::gc_of))]
+    pub fn gc(&self, g: &GState, original: bool, p: i32) -> (F26, u64)
+        ensures value { result ≡ gc_of g.now original p self.now }
+        ensures few { result.1 ≤ 1 }
+    {
+        let point = self.point(g.zp2, p);
+        let coordinate = if original {
+            g.dual_project_place(org(&point))
+        } else {
+            g.project_place(cur(&point))
+        };
+        (coordinate, stray(&point))
+    }
+
+    /// MD: the distance of two points, the current or the original one.
+    #[tactic(auto, unfolding(crate::specs::Measure::md_of))]
+    pub fn md(&self, g: &GState, original: bool, p: i32, q: i32) -> (F26, u64)
+        ensures value { result ≡ md_of g.now original p q self.now }
+        ensures few { result.1 ≤ 2 }
+    {
+        let to = self.point(g.zp0, p);
+        let from = self.point(g.zp1, q);
+        let distance = if original {
+            g.dual_project_place(org(&to).minus(org(&from)))
+        } else {
+            g.project_place(cur(&to).minus(cur(&from)))
+        };
+        (distance, stray(&to) + stray(&from))
+    }
+
+    /// SPVTL, SFVTL and SDPVTL: the line to a point from another.
+    #[tactic(auto, unfolding(crate::specs::Measure::line_between))]
+    pub fn line(&self, g: &GState, p1: i32, p2: i32) -> (Line, u64)
+        ensures value { result ≡ line_between g.now p1 p2 self.now }
+        ensures few { result.1 ≤ 2 }
+    {
+        let to = self.point(g.zp1, p1);
+        let from = self.point(g.zp2, p2);
+        let line = Line {
+            org: org(&to).minus(org(&from)),
+            cur: cur(&to).minus(cur(&from)),
+        };
+        (line, stray(&to) + stray(&from))
+    }
+}
