@@ -2,6 +2,7 @@
 
 ghost use Rattle.std.specs.Prelude.{◌≡◌, ◌+◌, ◌≤◌, length, reverse};
 ghost use Rattle.fx_pointops.specs.Zones.{HasShapes};
+ghost use Rattle.fx_pointops.specs.Loops.{each};
 ghost use Rattle.fx_pointops.specs.Direct.{untouched_along, utp_of, to_grid, mdap_of, laid_at_distance, moved_to_distance, msirp_of, aligned_to_rp, alignrp_of, half_of, alignpts_of, scfs_of, pixel_shifted, shpix_of, wanted_of, mdrp_of};
 
 use crate::distances::{Relative, kept_by, negative, rounded_by, single};
@@ -114,6 +115,34 @@ impl Zones {
         let c = self.distance(g, g.zp1, p, g.zp0, g.rp0);
         self.move_by(g, g.zp1, p, negative(c));
         stray(&point)
+    }
+
+    /// Moves points to the distance 0 from reference point 0, the last of the slice first.
+    fn align_each(&mut self, g: &GState, points: &[i32]) -> u64
+        ensures value { (self.new, result) ≡ each (aligned_to_rp g.now) (reverse points.now) self.old }
+        ensures few { result ≤ length points.now }
+        ensures shapes { HasShapes self.old self.new }
+    {
+        let mut strays = 0;
+        let mut left = points.len();
+        // The points from `left` on are done.
+        'points: while left > 0 {
+            left -= 1;
+            strays += self.align_to_rp(g, points[left]);
+        }
+        strays
+    }
+
+    /// ALIGNRP: moves points to the distance 0 from reference point 0.
+    #[tactic(auto, unfolding(crate::specs::Direct::alignrp_of))]
+    pub fn alignrp(&mut self, g: &GState, points: &[i32]) -> u64
+        ensures value { (self.new, result) ≡ alignrp_of g.now (reverse points.now) self.old }
+        ensures few { result ≤ length points.now + 1 }
+        ensures shapes { HasShapes self.old self.new }
+    {
+        let base = self.point(g.zp0, g.rp0);
+        let strays = self.align_each(g, points);
+        stray(&base) + strays
     }
 
     /// ALIGNPTS: moves two points to the middle between them.

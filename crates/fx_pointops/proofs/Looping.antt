@@ -1,0 +1,42 @@
+-- Loops over the points of a row, the last of a slice first.
+-- It serves ALIGNRP, IP, SHP, SHPIX and FLIPPT.
+use Rattle.std.proofs.Common.{◌≡◌, refl, sym, ap, ◌∙◌, arith, ℕ, ℤ, pos, suc, ◌+◌, ◌-◌, ◌<◌, ◌≤◌, List, [], ◌∷◌, length, get_or, take, reverse, add_assoc, add-zero, zero-add}
+use Rattle.std.proofs.Math.Seq.{take-suc}
+use Rattle.std.proofs.lemmas.List.{reverse-append, take_all}
+use Rattle.fx_pointops.specs.declared.zones.Zones.{Zones}
+use Rattle.fx_pointops.specs.Zones.{Outcome, with_strays}
+use Rattle.fx_pointops.specs.Loops.{each, each_pair}
+
+-- the next point of a slice, from its end
+top_first : (xs : List ℤ) (k : ℕ) (d : ℤ) → k < length xs → reverse (take (suc k) xs) ≡ get_or xs k d ∷ reverse (take k xs)
+top_first xs k d h = ap reverse (take-suc xs k d h) ∙ reverse-append (take k xs) (get_or xs k d ∷ [])
+
+added : (m n : ℕ) (o : Outcome) → with_strays m (with_strays n o) ≡ with_strays (m + n) o
+added m n o = ap (λ k. (o.0, k)) (sym (add_assoc m n o.1))
+
+-- all points are left
+pub loop_begun : (steps : ℤ → Zones → Outcome) (xs : List ℤ) (z : Zones) → each steps (reverse xs) z ≡ with_strays 0 (each steps (reverse (take (length xs) xs)) z)
+loop_begun steps xs z = ap (λ l. each steps (reverse l) z) (sym (take_all (length xs) xs (omega arith))) ∙ ap (λ n. ((each steps (reverse (take (length xs) xs)) z).0, n)) (sym (zero-add (each steps (reverse (take (length xs) xs)) z).1))
+
+one_step : (steps : ℤ → Zones → Outcome) (xs : List ℤ) (z y : Zones) (left m : ℕ) (p : ℤ) → 0 < left → left ≤ length xs → p ≡ get_or xs (left - 1) (pos 0) → (y, m) ≡ steps p z
+    → each steps (reverse (take left xs)) z ≡ with_strays m (each steps (reverse (take (left - 1) xs)) y)
+unfolding each
+one_step steps xs z y left m p s w g e =
+    let k : left - 1 < length xs = omega (arith, s, w) in
+    let l : left ≡ suc (left - 1) = omega (arith, s) in
+    ap (λ n. each steps (reverse (take n xs)) z) l
+    ∙ ap (λ l. each steps l z) (top_first xs (left - 1) (pos 0) k ∙ ap (λ q. q ∷ reverse (take (left - 1) xs)) (sym g))
+    ∙ ap (λ (o : Outcome). with_strays o.1 (each steps (reverse (take (left - 1) xs)) o.0)) (sym e)
+
+-- one point more is done
+pub loop_next : (steps : ℤ → Zones → Outcome) (xs : List ℤ) (z y : Zones) (left m n : ℕ) (p : ℤ) (o : Outcome) → 0 < left → left ≤ length xs → p ≡ get_or xs (left - 1) (pos 0) → (y, m) ≡ steps p z → o ≡ with_strays n (each steps (reverse (take left xs)) z)
+    → o ≡ with_strays (n + m) (each steps (reverse (take (left - 1) xs)) y)
+loop_next steps xs z y left m n p o s w g e a =
+    a ∙ ap (with_strays n) (one_step steps xs z y left m p s w g e) ∙ added n m (each steps (reverse (take (left - 1) xs)) y)
+
+-- no point is left
+pub loop_done : (steps : ℤ → Zones → Outcome) (xs : List ℤ) (z : Zones) (left n : ℕ) (o : Outcome) → left ≤ 0 → o ≡ with_strays n (each steps (reverse (take left xs)) z) → (z, n) ≡ o
+unfolding each
+loop_done steps xs z left n o h a =
+    let e : left ≡ 0 = omega (arith, h) in
+    sym (a ∙ ap (λ k. with_strays n (each steps (reverse (take k xs)) z)) e ∙ ap (λ k. (z, k)) (add-zero n))
