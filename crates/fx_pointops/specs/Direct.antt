@@ -13,7 +13,7 @@ use Rattle.fx_gstate.specs.Vectors.{has_part, place_along}
 use Rattle.fx_pointops.specs.declared.distances.Relative.{Relative}
 use Rattle.fx_pointops.specs.declared.zones.Zones.{Zones}
 use Rattle.fx_pointops.specs.Zones.{Outcome, with_strays, is_twilight, changed_at}
-use Rattle.fx_pointops.specs.ShiftPoint.{shifted_by, shift_by, moved_by}
+use Rattle.fx_pointops.specs.ShiftPoint.{shift_by, moved_by, point_shifted}
 use Rattle.fx_pointops.specs.Measure.{org_at, cur_at, stray_at, along, distance_of, original_of}
 use Rattle.fx_pointops.specs.Distances.{negative_of, single_of, rounded_by, kept_by}
 use Rattle.fx_pointops.specs.Loops.{each}
@@ -78,11 +78,8 @@ scfs_of g p v z = (
 
 -- 38 SHPIX  .. p a ->
 -- Each p, of zone 2, is shifted by a along the freedom vector.
-unfoldable pub pixel_shifted : GState → ℤ → ℤ → Zones → Outcome
-pixel_shifted g a p z = (shifted_by g (place_along g.freedom a) g.zp2 p z, stray_at g.zp2 p z)
-
 unfoldable pub shpix_of : GState → List ℤ → ℤ → Zones → Outcome
-shpix_of g points a z = each (pixel_shifted g a) points z
+shpix_of g points a z = each (point_shifted g (place_along g.freedom a)) points z
 
 -- C0-DF MDRP  p ->
 -- p, of zone 1, moves to its original distance from reference point 0, of zone 0, or the single width.

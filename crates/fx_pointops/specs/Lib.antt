@@ -4,3 +4,4 @@ pub mod Measure
 pub mod Distances
 pub mod Loops
 pub mod Direct
+pub mod Indirect

@@ -8,7 +8,7 @@ use Rattle.fx_gstate.specs.declared.state.GState.{GState}
 use Rattle.fx_gstate.specs.declared.zones.ZonePointer.{ZonePointer}
 use Rattle.fx_gstate.specs.Vectors.{has_part, shift_of}
 use Rattle.fx_pointops.specs.declared.zones.Zones.{Zones}
-use Rattle.fx_pointops.specs.Zones.{changed_at}
+use Rattle.fx_pointops.specs.Zones.{Outcome, changed_at, point_at, stray_of}
 
 -- a point shifted, and touched along each axis along which the freedom vector has a part
 unfoldable pub shifted_by : GState → Place → ZonePointer → ℤ → Zones → Zones
@@ -21,3 +21,7 @@ shift_by g d = shift_of g.freedom g.projection d
 -- a point moved by a distance
 unfoldable pub moved_by : GState → ℤ → ZonePointer → ℤ → Zones → Zones
 moved_by g d zone p z = shifted_by g (shift_by g d) zone p z
+
+-- a point of zone 2 shifted, as SHP and SHPIX do
+unfoldable pub point_shifted : GState → Place → ℤ → Zones → Outcome
+point_shifted g by p z = (shifted_by g by g.zp2 p z, stray_of (point_at g.zp2 p z))

@@ -3,7 +3,7 @@
 ghost use Rattle.std.specs.Prelude.{◌≡◌, ◌+◌, ◌≤◌, length, reverse};
 ghost use Rattle.fx_pointops.specs.Zones.{HasShapes};
 ghost use Rattle.fx_pointops.specs.Loops.{each};
-ghost use Rattle.fx_pointops.specs.Direct.{untouched_along, utp_of, to_grid, mdap_of, laid_at_distance, moved_to_distance, msirp_of, aligned_to_rp, alignrp_of, half_of, alignpts_of, scfs_of, pixel_shifted, shpix_of, wanted_of, mdrp_of};
+ghost use Rattle.fx_pointops.specs.Direct.{untouched_along, utp_of, to_grid, mdap_of, laid_at_distance, moved_to_distance, msirp_of, aligned_to_rp, alignrp_of, half_of, alignpts_of, scfs_of, shpix_of, wanted_of, mdrp_of};
 
 use crate::distances::{Relative, kept_by, negative, rounded_by, single};
 use crate::zones::{Zones, cur, is_twilight, org, stray};
@@ -82,7 +82,7 @@ impl Zones {
     }
 
     /// Moves a point to a distance from reference point 0.
-    fn move_to_distance(&mut self, g: &GState, p: i32, d: F26)
+    pub fn move_to_distance(&mut self, g: &GState, p: i32, d: F26)
         ensures value { self.new ≡ moved_to_distance g.now p d self.old }
         ensures shapes { HasShapes self.old self.new }
     {
@@ -176,16 +176,15 @@ impl Zones {
         stray(&point)
     }
 
-    /// Shifts a point by a distance along the freedom vector.
-    #[tactic(auto, unfolding(crate::specs::Direct::pixel_shifted))]
-    fn pixel_shift(&mut self, g: &GState, a: F26, p: i32) -> u64
-        ensures value { (self.new, result) ≡ pixel_shifted g.now a p self.old }
-        ensures few { result ≤ 1 }
+    /// SHPIX: shifts points by a distance along the freedom vector.
+    #[tactic(auto, unfolding(crate::specs::Direct::shpix_of))]
+    pub fn shpix(&mut self, g: &GState, points: &[i32], a: F26) -> u64
+        ensures value { (self.new, result) ≡ shpix_of g.now (reverse points.now) a self.old }
+        ensures few { result ≤ length points.now }
         ensures shapes { HasShapes self.old self.new }
     {
-        let point = self.point(g.zp2, p);
-        self.shift_by(g, g.zp2, p, g.freedom_place(a));
-        stray(&point)
+        let by = g.freedom_place(a);
+        self.shift_each(g, &by, points)
     }
 
     /// MDRP: moves a point to its original distance from reference point 0.

@@ -9,6 +9,7 @@
 
 mod direct;
 mod distances;
+mod indirect;
 mod measure;
 mod shift_point;
 mod zones;

@@ -1,10 +1,11 @@
 //! How instructions move points: along the freedom vector, and touching them.
 
-ghost use Rattle.std.specs.Prelude.{◌≡◌};
+ghost use Rattle.std.specs.Prelude.{◌≡◌, ◌≤◌, length, reverse};
 ghost use Rattle.fx_pointops.specs.Zones.{HasShapes};
-ghost use Rattle.fx_pointops.specs.ShiftPoint.{shifted_by, moved_by};
+ghost use Rattle.fx_pointops.specs.Loops.{each};
+ghost use Rattle.fx_pointops.specs.ShiftPoint.{shifted_by, moved_by, point_shifted};
 
-use crate::zones::Zones;
+use crate::zones::{Zones, stray};
 use fx_fixed::{Axis, F26, Place};
 use fx_gstate::{GState, ZonePointer};
 
@@ -25,5 +26,33 @@ impl Zones {
         ensures shapes { HasShapes self.old self.new }
     {
         self.shift_by(g, zone, p, g.shift_place(d));
+    }
+
+    /// Shifts a point of zone 2.
+    #[tactic(auto, unfolding(crate::specs::ShiftPoint::point_shifted))]
+    fn shift_point(&mut self, g: &GState, by: &Place, p: i32) -> u64
+        ensures value { (self.new, result) ≡ point_shifted g.now by.now p self.old }
+        ensures few { result ≤ 1 }
+        ensures shapes { HasShapes self.old self.new }
+    {
+        let point = self.point(g.zp2, p);
+        self.shift_by(g, g.zp2, p, *by);
+        stray(&point)
+    }
+
+    /// Shifts points of zone 2, the last of the slice first.
+    pub fn shift_each(&mut self, g: &GState, by: &Place, points: &[i32]) -> u64
+        ensures value { (self.new, result) ≡ each (point_shifted g.now by.now) (reverse points.now) self.old }
+        ensures few { result ≤ length points.now }
+        ensures shapes { HasShapes self.old self.new }
+    {
+        let mut strays = 0;
+        let mut left = points.len();
+        // The points from `left` on are done.
+        'points: while left > 0 {
+            left -= 1;
+            strays += self.shift_point(g, by, points[left]);
+        }
+        strays
     }
 }

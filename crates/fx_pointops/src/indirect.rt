@@ -1,0 +1,143 @@
+//! The rows that move points by control values.
+
+ghost use Rattle.std.specs.Prelude.{◌≡◌, ◌≤◌};
+ghost use Rattle.fx_pointops.specs.Zones.{HasShapes};
+ghost use Rattle.fx_pointops.specs.Indirect.{is_cut_off, laid_along, aimed_of, moved_to_coordinate, miap_of, laid_from_rp, is_one_negative, auto_flipped, cut_in_by, controlled_of, moved_to_control, mirp_of};
+
+use crate::distances::{Relative, is_below, kept_by, negative, single, size};
+use crate::zones::{Zones, cur, is_same_zone, is_twilight, org, stray};
+use fx_fixed::F26;
+use fx_gstate::GState;
+
+/// Whether two distances are further apart than the control value cut-in.
+fn is_cut_off(g: &GState, v: F26, o: F26) -> bool
+    ensures { result ≡ is_cut_off g.now v o }
+{
+    is_below(g.cut_in, size(v.minus(o)))
+}
+
+/// The coordinate that MIAP moves a point to.
+#[tactic(auto, unfolding(crate::specs::Indirect::aimed_of))]
+fn aimed(g: &GState, rounds: bool, v: F26, c: F26) -> F26
+    ensures { result ≡ aimed_of g.now rounds v c }
+{
+    if !rounds {
+        v
+    } else if is_cut_off(g, v, c) {
+        g.round(c)
+    } else {
+        g.round(v)
+    }
+}
+
+/// Whether just one of two distances is below 0.
+fn is_one_negative(o: F26, v: F26) -> bool
+    ensures { result ≡ is_one_negative o v }
+{
+    if o.0 < 0 { !(v.0 < 0) } else { v.0 < 0 }
+}
+
+/// The control value, on the side of the original distance if auto flip is on.
+fn auto_flipped(g: &GState, o: F26, v: F26) -> F26
+    ensures { result ≡ auto_flipped g.now o v }
+{
+    if g.auto_flip && is_one_negative(o, v) {
+        negative(v)
+    } else {
+        v
+    }
+}
+
+/// The control value, or the original distance of points of one zone if it is too far from it.
+fn cut_in_by(g: &GState, o: F26, v: F26) -> F26
+    ensures { result ≡ cut_in_by g.now o v }
+{
+    if is_same_zone(g.zp0, g.zp1) && is_cut_off(g, v, o) {
+        o
+    } else {
+        v
+    }
+}
+
+/// The distance that MIRP moves a point to, of its original one and the control value.
+#[tactic(auto, unfolding(crate::specs::Indirect::controlled_of))]
+fn controlled(g: &GState, how: Relative, o: F26, v: F26) -> F26
+    ensures { result ≡ controlled_of g.now how o v }
+{
+    let d = if how.rounds {
+        g.round(cut_in_by(g, o, v))
+    } else {
+        v
+    };
+    kept_by(g, how, o, d)
+}
+
+impl Zones {
+    /// Lays a point of the twilight zone at a control value.
+    fn lay_along(&mut self, g: &GState, p: i32, v: F26)
+        ensures value { self.new ≡ laid_along g.now p v self.old }
+        ensures shapes { HasShapes self.old self.new }
+    {
+        if is_twilight(g.zp0) {
+            self.lay(g.zp0, p, g.freedom_place(v));
+        }
+    }
+
+    /// Moves a point to a control value.
+    fn move_to_coordinate(&mut self, g: &GState, rounds: bool, p: i32, v: F26)
+        ensures value { self.new ≡ moved_to_coordinate g.now rounds p v self.old }
+        ensures shapes { HasShapes self.old self.new }
+    {
+        let c = g.project_place(cur(&self.point(g.zp0, p)));
+        self.move_by(g, g.zp0, p, aimed(g, rounds, v, c).minus(c));
+    }
+
+    /// MIAP: moves a point to a control value.
+    #[tactic(auto, unfolding(crate::specs::Indirect::miap_of))]
+    pub fn miap(&mut self, g: &GState, rounds: bool, p: i32, v: F26) -> u64
+        ensures value { (self.new, result) ≡ miap_of g.now rounds p v self.old }
+        ensures few { result ≤ 1 }
+        ensures shapes { HasShapes self.old self.new }
+    {
+        let point = self.point(g.zp0, p);
+        self.lay_along(g, p, v);
+        self.move_to_coordinate(g, rounds, p, v);
+        stray(&point)
+    }
+
+    /// Lays a point of the twilight zone at a control value from reference point 0.
+    fn lay_from_rp(&mut self, g: &GState, p: i32, v: F26)
+        ensures value { self.new ≡ laid_from_rp g.now p v self.old }
+        ensures shapes { HasShapes self.old self.new }
+    {
+        if is_twilight(g.zp1) {
+            let from = org(&self.point(g.zp0, g.rp0));
+            self.lay(g.zp1, p, from.plus(g.freedom_place(v)));
+        }
+    }
+
+    /// Moves a point to a control value from reference point 0.
+    fn move_to_control(&mut self, g: &GState, how: Relative, p: i32, v: F26)
+        ensures value { self.new ≡ moved_to_control g.now how p v self.old }
+        ensures shapes { HasShapes self.old self.new }
+    {
+        let o = self.original(g, g.zp1, p, g.zp0, g.rp0);
+        let d = controlled(g, how, o, auto_flipped(g, o, v));
+        self.move_to_distance(g, p, d);
+    }
+
+    /// MIRP: moves a point to a control value from reference point 0.
+    #[tactic(auto, unfolding(crate::specs::Indirect::mirp_of))]
+    pub fn mirp(&mut self, g: &GState, how: Relative, p: i32, v: F26) -> u64
+        ensures value { (self.new, result) ≡ mirp_of g.now how p v self.old }
+        ensures few { result ≤ 2 }
+        ensures shapes { HasShapes self.old self.new }
+    {
+        let point = self.point(g.zp1, p);
+        let base = self.point(g.zp0, g.rp0);
+        let v = single(g, v);
+        self.lay_from_rp(g, p, v);
+        self.move_to_control(g, how, p, v);
+        stray(&point) + stray(&base)
+    }
+}
