@@ -3,15 +3,15 @@ use Rattle.std.proofs.Common.{◌≡◌, ◌⊎◌, inl, inr, ℕ, ◌+◌, ◌-
 use Rattle.std.proofs.Math.Nat.{le_refl}
 use Rattle.std.proofs.lemmas.Bool.{cases_lt}
 use Rattle.std.proofs.lemmas.List.{length-take}
-use Rattle.fx_code.specs.Chain.{Chain, first, next, IsWhole, Meets, size_at, next_place, opcode_at, data_at, head_len, level_after}
+use Rattle.fx_code.specs.Chain.{Chain, first, next, IsWhole, Meets, size_at, next_address, opcode_at, data_at, head_len, level_after}
 
 module _ (code : List ℕ) where
-  -- from one place of the chain to another, with the IFs open at each
+  -- from one address of the chain to another, with the IFs open at each
   pub data Onward : ℕ → ℕ → ℕ → ℕ → Type 0 where
     here : {p n : ℕ} → Onward p n p n
-    on : {p n q l : ℕ} → IsWhole code p → Onward (next_place code p) (level_after (opcode_at code p) n) q l → Onward p n q l
+    on : {p n q l : ℕ} → IsWhole code p → Onward (next_address code p) (level_after (opcode_at code p) n) q l → Onward p n q l
 
-  push : {p n q l : ℕ} → Onward p n q l → IsWhole code q → Onward p n (next_place code q) (level_after (opcode_at code q) l)
+  push : {p n q l : ℕ} → Onward p n q l → IsWhole code q → Onward p n (next_address code q) (level_after (opcode_at code q) l)
   push here w = on w here
   push (on v r) w = on v (push r w)
 
@@ -19,31 +19,36 @@ module _ (code : List ℕ) where
   member_onward first = here
   member_onward (next c w) = push (member_onward c) w
 
-  pub next_above : (p : ℕ) → p < next_place code p
+  pub next_above : (p : ℕ) → p < next_address code p
   unfolding size_at
   next_above p = grind arith
 
-  -- its data end before the next place
-  pub data_within : (p : ℕ) → p + 1 + length (data_at code p) ≤ next_place code p
+  -- its data end before the next address
+  pub data_within : (p : ℕ) → p + 1 + length (data_at code p) ≤ next_address code p
   unfolding size_at
   data_within p =
-      let short = length-take (next_place code p - (p + head_len (opcode_at code p))) (drop (p + head_len (opcode_at code p)) code) in
+      let short = length-take (next_address code p - (p + head_len (opcode_at code p))) (drop (p + head_len (opcode_at code p)) code) in
       grind (arith, short)
 
-  pub whole_inside : (p : ℕ) → IsWhole code p → next_place code p ≤ length code
+  pub whole_inside : (p : ℕ) → IsWhole code p → next_address code p ≤ length code
   unfolding IsWhole
   whole_inside p w = w
 
   -- an instruction is whole, or the program ends inside it
   pub whole_or_not : (p : ℕ) → IsWhole code p ⊎ ¬ (IsWhole code p)
   unfolding IsWhole
-  whole_or_not p = elim (cases_lt (length code) (next_place code p)) [ inl h ↦ inr (λ w. absurd (omega arith)) | inr h ↦ inl h ]
+  whole_or_not p = elim (cases_lt (length code) (next_address code p)) [ inl h ↦ inr (λ w. absurd (omega arith)) | inr h ↦ inl h ]
 
-  pub not_inside : (p : ℕ) → ¬ (IsWhole code p) → length code < next_place code p
+  -- none is at the end or past it
+  pub not_whole : (p : ℕ) → length code ≤ p → ¬ (IsWhole code p)
   unfolding IsWhole
-  not_inside p none = elim (cases_lt (length code) (next_place code p)) [ inl h ↦ h | inr h ↦ absurd (none h) ]
+  not_whole p h w = let a = next_above p in absurd (omega arith)
 
-  pub past_end : (p : ℕ) → ¬ (IsWhole code p) → length code ≤ next_place code p
+  pub not_inside : (p : ℕ) → ¬ (IsWhole code p) → length code < next_address code p
+  unfolding IsWhole
+  not_inside p none = elim (cases_lt (length code) (next_address code p)) [ inl h ↦ h | inr h ↦ absurd (none h) ]
+
+  pub past_end : (p : ℕ) → ¬ (IsWhole code p) → length code ≤ next_address code p
   past_end p none = let h = not_inside p none in omega arith
 
   pub onward_above : {p n q l : ℕ} → Onward p n q l → p ≤ q
@@ -51,12 +56,12 @@ module _ (code : List ℕ) where
   onward_above (on {p = p} w r) = let h = onward_above r in omega (arith, next_above p)
 
   -- one instruction on, as a search reads it
-  pub chain_next : {from p n : ℕ} (op p' n' : ℕ) → Chain code from p n → IsWhole code p → op ≡ opcode_at code p → p' ≡ next_place code p → n' ≡ level_after op n → Chain code from p' n'
+  pub chain_next : {from p n : ℕ} (op p' n' : ℕ) → Chain code from p n → IsWhole code p → op ≡ opcode_at code p → p' ≡ next_address code p → n' ≡ level_after op n → Chain code from p' n'
   chain_next op p' n' c w eo ep en = rw (en, eo, ep) (next c w)
 
   module _ (stops : ℕ → ℕ → Bool) where
-    -- past a place that does not end the search
-    pub onward_past : {p n q l : ℕ} (op p' n' : ℕ) → stops op n ≡ false → op ≡ opcode_at code p → p' ≡ next_place code p → n' ≡ level_after op n → Onward p n q l → Meets stops code q l → Onward p' n' q l
+    -- past an address that does not end the search
+    pub onward_past : {p n q l : ℕ} (op p' n' : ℕ) → stops op n ≡ false → op ≡ opcode_at code p → p' ≡ next_address code p → n' ≡ level_after op n → Onward p n q l → Meets stops code q l → Onward p' n' q l
     onward_past op p' n' none eo ep en here m = absurd (let e = m.1 in grind arith)
     onward_past op p' n' none eo ep en (on w r) m = rw (en, eo, ep) r
 

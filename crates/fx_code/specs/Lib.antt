@@ -1,4 +1,6 @@
+pub mod Opcodes
 pub mod Chain
+pub mod Past
 pub mod Seek
 pub mod Numbers
 pub mod Names

@@ -1,7 +1,9 @@
-//! The bytes of a program, and how a program goes on from a place.
+//! The bytes of a program, and how a program continues from an address.
 
 ghost use Rattle.std.specs.Prelude.{◌≡◌, ℕ, ◌+◌, ◌<◌, ◌≤◌, List, MatchResult, MatchOption, IfOk, IfErr, IfSome, ◌^◌, length, if◌then◌else◌};
-ghost use Rattle.fx_code.specs.Chain.{next_place, opcode_at, head_len, data_len, data_at, IsWhole, IsFirst, HasNone, stops_at_false, stops_at_else, LeadsPast, LeadsPastDefinition};
+ghost use Rattle.fx_code.specs.Chain.{next_address, opcode_at, head_len, data_len, has_data, data_at, IsWhole};
+ghost use Rattle.fx_code.specs.Chain.{IsFirst, HasNone, stops_at_false, stops_at_else, LeadsPast, LeadsPastDefinition};
+ghost use Rattle.fx_code.specs.Past.{past_of, past_definition_of};
 ghost use Rattle.fx_code.specs.Numbers.{numbers, pushes_words};
 ghost use Rattle.fx_code.specs.Seek.{stops};
 
@@ -23,7 +25,7 @@ impl<'a> Model for Code<'a> {
     ghost view = { λ c. c.bytes.now };
 }
 
-// How many bytes stand before an opcode's data: itself, and a count where it has one.
+/// How many bytes come before an opcode's data: itself, and a count if it has one.
 fn head_of(opcode: u8) -> usize
     ensures { result ≡ head_len opcode }
 {
@@ -34,7 +36,7 @@ fn head_of(opcode: u8) -> usize
     }
 }
 
-// How many bytes of data an opcode has, with the byte after it.
+/// How many bytes of data an opcode has, with the byte after it.
 fn data_of(opcode: u8, count: u8) -> usize
     ensures value { result ≡ data_len opcode count }
     ensures few { result ≤ (if pushes_words opcode then 510 else 255) }
@@ -46,6 +48,13 @@ fn data_of(opcode: u8, count: u8) -> usize
         0xB8..=0xBF => 2 * (opcode - 0xB7) as usize,
         _ => 0,
     }
+}
+
+/// Whether data may follow an opcode.
+fn has_data(opcode: u8) -> bool
+    ensures { result ≡ has_data opcode }
+{
+    opcode == NPUSHB || opcode == NPUSHW || (0xB0 <= opcode && opcode <= 0xBF)
 }
 
 impl<'a> Code<'a> {
@@ -63,33 +72,40 @@ impl<'a> Code<'a> {
         self.bytes.len()
     }
 
-    /// The opcode at a place, 0 past the end.
-    pub fn opcode(&self, place: usize) -> u8
-        ensures { result ≡ opcode_at self.now place }
+    /// The opcode at an address, 0 past the end.
+    pub fn opcode(&self, address: usize) -> u8
+        ensures { result ≡ opcode_at self.now address }
     {
-        match self.bytes.get(place) {
+        match self.bytes.get(address) {
             Some(opcode) => *opcode,
             None => 0,
         }
     }
 
-    /// The instruction at a place, where it stands there whole; `CodeEnd` where its data are cut, and at or past the program's
+    /// The instruction at an address, if it is there whole; `CodeEnd` if its data are cut, and at or past the program's
     /// end (Apple TrueType Reference Manual, "NPUSHB", "NPUSHW", "PUSHB", "PUSHW").
     #[tactic(auto, unfolding(crate::specs::Chain::IsWhole, crate::specs::Chain::size_at))]
-    pub fn at(&self, place: usize) -> Result<Instr<'a>, CodeFault>
-        ensures whole { MatchResult result (λ i. IsWhole self.now place) (λ e. ¬ (IsWhole self.now place)) }
-        ensures opcode { IfOk result (λ i. i.opcode ≡ opcode_at self.now place) }
-        ensures next { IfOk result (λ i. i.next ≡ next_place self.now place) }
+    pub fn at(&self, address: usize) -> Result<Instr<'a>, CodeFault>
+        ensures whole { MatchResult result (λ i. IsWhole self.now address) (λ e. ¬ (IsWhole self.now address)) }
+        ensures opcode { IfOk result (λ i. i.opcode ≡ opcode_at self.now address) }
+        ensures next { IfOk result (λ i. i.next ≡ next_address self.now address) }
         ensures fits { IfOk result (λ i. i.next < 2 ^ 63) }
-        ensures pushed { IfOk result (λ i. i.pushed.now ≡ data_at self.now place) }
+        ensures pushed { IfOk result (λ i. i.pushed.now ≡ data_at self.now address) }
         ensures few { IfOk result (λ i. length (numbers i.opcode i.pushed.now) ≤ 255) }
         ensures fault { IfErr result (λ e. e ≡ CodeFault.CodeEnd) }
     {
-        let Some(opcode) = self.bytes.get(place) else {
+        let Some(opcode) = self.bytes.get(address) else {
             return Err(CodeFault::CodeEnd);
         };
-        let rest = self.bytes.len() - place;
-        let count = if rest > 1 { self.bytes[place + 1] } else { 0 };
+        if !has_data(*opcode) {
+            return Ok(Instr {
+                opcode: *opcode,
+                pushed: &self.bytes[address + 1..address + 1],
+                next: address + 1,
+            });
+        }
+        let rest = self.bytes.len() - address;
+        let count = if rest > 1 { self.bytes[address + 1] } else { 0 };
         let head = head_of(*opcode);
         let size = head + data_of(*opcode, count);
         if size > rest {
@@ -97,58 +113,85 @@ impl<'a> Code<'a> {
         }
         Ok(Instr {
             opcode: *opcode,
-            pushed: &self.bytes[place + head..place + size],
-            next: place + size,
+            pushed: &self.bytes[address + head..address + size],
+            next: address + size,
         })
     }
 
-    // The least member of the chain from a place that ends the search.
+    /// The least member of the chain from an address that ends the search.
     fn find(&self, from: usize, seek: Seek) -> Option<usize>
-        ensures inside { IfSome result (λ place. place < length self.now) }
-        ensures bound { IfSome result (λ place. place + 1 < 2 ^ 64) }
-        ensures first { MatchOption result (HasNone (stops seek) self.now from) (λ place. IsFirst (stops seek) self.now from place) }
+        ensures inside { IfSome result (λ address. address < length self.now) }
+        ensures bound { IfSome result (λ address. address + 1 < 2 ^ 64) }
+        ensures first { MatchOption result (HasNone (stops seek) self.now from) (λ address. IsFirst (stops seek) self.now from address) }
     {
-        let mut place = from;
+        let mut address = from;
         let mut level: usize = 0;
-        'chain: while let Ok(instr) = self.at(place) {
+        'chain: while let Ok(instr) = self.at(address) {
             if ends(seek, instr.opcode, level) {
-                return Some(place);
+                return Some(address);
             }
             level = level_past(instr.opcode, level);
-            place = instr.next;
+            address = instr.next;
         }
         None
     }
 
-    /// Where a false `IF` goes on, whose next instruction is at `place`: after the first `ELSE` or `EIF` of its own level;
-    /// `CodeEnd` where there is none (Apple TrueType Reference Manual, "IF").
-    pub fn skip_false(&self, place: usize) -> Result<usize, CodeFault>
-        ensures { LeadsPast stops_at_false self.now place result }
+    /// Where a false `IF` continues, whose next instruction is at `address`: after the first `ELSE` or `EIF` of its own level;
+    /// `CodeEnd` if there is none (Apple TrueType Reference Manual, "IF").
+    #[tactic(auto, using(crate::proofs::Exists::same_past))]
+    pub fn skip_false(&self, address: usize) -> Result<usize, CodeFault>
+        ensures past { LeadsPast stops_at_false self.now address result }
+        ensures value { result ≡ past_of stops_at_false self.now address }
     {
-        match self.find(place, Seek::False) {
+        self.skip_false_inner(address)
+    }
+
+    /// The same, with one clause.
+    fn skip_false_inner(&self, address: usize) -> Result<usize, CodeFault>
+        ensures { LeadsPast stops_at_false self.now address result }
+    {
+        match self.find(address, Seek::False) {
             Some(end) => Ok(end + 1),
             None => Err(CodeFault::CodeEnd),
         }
     }
 
-    /// Where an executed `ELSE` goes on, whose next instruction is at `place`: after the `EIF` of its level; `CodeEnd` where there
+    /// Where an executed `ELSE` continues, whose next instruction is at `address`: after the `EIF` of its level; `CodeEnd` if there
     /// is none (Apple TrueType Reference Manual, "ELSE").
-    pub fn skip_else(&self, place: usize) -> Result<usize, CodeFault>
-        ensures { LeadsPast stops_at_else self.now place result }
+    #[tactic(auto, using(crate::proofs::Exists::same_past))]
+    pub fn skip_else(&self, address: usize) -> Result<usize, CodeFault>
+        ensures past { LeadsPast stops_at_else self.now address result }
+        ensures value { result ≡ past_of stops_at_else self.now address }
     {
-        match self.find(place, Seek::Else) {
+        self.skip_else_inner(address)
+    }
+
+    /// The same, with one clause.
+    fn skip_else_inner(&self, address: usize) -> Result<usize, CodeFault>
+        ensures { LeadsPast stops_at_else self.now address result }
+    {
+        match self.find(address, Seek::Else) {
             Some(end) => Ok(end + 1),
             None => Err(CodeFault::CodeEnd),
         }
     }
 
-    /// Where a definition goes on, whose next instruction is at `place`: after its `ENDF`; `NestedDefinition` where another
-    /// definition begins before that, whether it ends or not, and `CodeEnd` where neither comes (Apple TrueType Reference Manual,
+    /// Where a definition continues, whose next instruction is at `address`: after its `ENDF`; `NestedDefinition` if another
+    /// definition begins before that, whether it ends or not, and `CodeEnd` if neither comes (Apple TrueType Reference Manual,
     /// "FDEF", "IDEF").
-    pub fn skip_def(&self, place: usize) -> Result<usize, CodeFault>
-        ensures { LeadsPastDefinition self.now place result }
+    #[tactic(auto, using(crate::proofs::Exists::same_past_definition))]
+    pub fn skip_def(&self, address: usize) -> Result<usize, CodeFault>
+        ensures past { LeadsPastDefinition self.now address result }
+        ensures value { result ≡ past_definition_of self.now address }
     {
-        match self.find(place, Seek::Definition) {
+        self.skip_def_inner(address)
+    }
+
+    /// The same, with one clause.
+    fn skip_def_inner(&self, address: usize) -> Result<usize, CodeFault>
+        ensures { LeadsPastDefinition self.now address result }
+    {
+        match self.find(address, Seek::Definition) {
             Some(end) if self.opcode(end) == ENDF => Ok(end + 1),
             Some(_) => Err(CodeFault::NestedDefinition),
             None => Err(CodeFault::CodeEnd),

@@ -1,16 +1,17 @@
 //! What the definitions imply.
 
-ghost use Rattle.fx_code.specs.Chain.{SkipIsOne, SkipExists, DefinitionSkipIsOne, DefinitionSkipExists};
-ghost use Rattle.fx_code.specs.Listing.{PlacesAreOne, PlacesOfArePlaces};
+ghost use Rattle.fx_code.specs.Chain.{SkipIsOne, DefinitionSkipIsOne};
+ghost use Rattle.fx_code.specs.Past.{PastOfIsPast, PastDefinitionOfIsPast};
+ghost use Rattle.fx_code.specs.Listing.{AddressesAreOne, AddressesOfAreAddresses};
 
 /// A skip has one answer.
 pub fn skip_is_one()
     ensures { SkipIsOne }
 {}
 
-/// A skip has an answer.
+/// A skip has an answer, and `past_of` gives it.
 pub fn skip_exists()
-    ensures { SkipExists }
+    ensures { PastOfIsPast }
 {}
 
 /// A skip past a definition has one answer.
@@ -18,17 +19,17 @@ pub fn definition_skip_is_one()
     ensures { DefinitionSkipIsOne }
 {}
 
-/// A skip past a definition has an answer.
+/// A skip past a definition has an answer, and `past_definition_of` gives it.
 pub fn definition_skip_exists()
-    ensures { DefinitionSkipExists }
+    ensures { PastDefinitionOfIsPast }
 {}
 
-/// A program has one list of places.
-pub fn places_are_one()
-    ensures { PlacesAreOne }
+/// A program has one list of addresses.
+pub fn addresses_are_one()
+    ensures { AddressesAreOne }
 {}
 
-/// The places of a listing are that list.
-pub fn places_of_are_places()
-    ensures { PlacesOfArePlaces }
+/// The addresses of a listing are that list.
+pub fn addresses_of_are_addresses()
+    ensures { AddressesOfAreAddresses }
 {}
