@@ -18,11 +18,11 @@ pub struct Scale {
 
 impl Scale {
     /// A FUnit value at this scale, in 26.6 pixels.
-    pub fn apply(self, v: i32) -> i32
+    pub fn apply(self, v: i32) -> F26
         requires { 0 < self.units }
         ensures { result ≡ scaled_by self v }
     {
-        scaled(v, self.ppem, self.units).0
+        scaled(v, self.ppem, self.units)
     }
 }
 
@@ -33,8 +33,8 @@ impl Scale {
 #[tactic(auto, using(crate::proofs::Exact::unwrapped))]
 pub fn scaled(v: i32, ppem: u16, upem: u16) -> F26
     requires { 0 < upem }
-    ensures value { result.0 ≡ scaled_of v ppem upem }
-    ensures exact { unsigned_abs v ≤ 2 ^ 16 → ppem ≤ 255 → result.0 ≡ near_of (v *ℤ pos (ppem * 64)) (pos upem) }
+    ensures value { result ≡ scaled_of v ppem upem }
+    ensures exact { unsigned_abs v ≤ 2 ^ 16 → ppem ≤ 255 → result ≡ near_of (v *ℤ pos (ppem * 64)) (pos upem) }
 {
     F26(w32(near(sixty_fourths(v, ppem), i128::from(upem))))
 }

@@ -4,8 +4,9 @@ ghost use Rattle.std.specs.Prelude.{◌≡◌, ◌<◌, IfOk, length, map};
 ghost use Rattle.fx_scale.specs.Zones.{scaled_point, zone_of_shape};
 
 use crate::scale::Scale;
+use fx_fixed::Place;
 use fx_glyf::{Ends, Points, Simple};
-use fx_zone::{Place, Zone};
+use fx_zone::Zone;
 use std::alloc::{AllocError, Global};
 
 /// The zone of a simple glyph: its points scaled one by one, original and current places alike, untouched, with its contours
