@@ -25,7 +25,7 @@ fn is_within(z: i32) -> bool
 fn is_near(p: &OutlinePoint) -> bool
     ensures { IsTrue result ↔ IsNear p.now }
 {
-    is_within(p.x) && is_within(p.y)
+    is_within(p.x.0) && is_within(p.y.0)
 }
 
 fn are_near(points: &[OutlinePoint]) -> bool
@@ -39,8 +39,8 @@ fn doubled(p: OutlinePoint) -> Point
     ensures { place_of result ≡ doubled_of p }
 {
     Point {
-        x: 2 * p.x,
-        y: 2 * p.y,
+        x: 2 * p.x.0,
+        y: 2 * p.y.0,
     }
 }
 
@@ -51,8 +51,8 @@ fn middle(p: OutlinePoint, q: OutlinePoint) -> Point
     ensures { place_of result ≡ middle_of p q }
 {
     Point {
-        x: p.x + q.x,
-        y: p.y + q.y,
+        x: p.x.0 + q.x.0,
+        y: p.y.0 + q.y.0,
     }
 }
 
