@@ -115,9 +115,9 @@ drawing_of_made made = record {
   steps = 0;
 }
 
--- a font's scale at so many pixels an em
+-- a font's scale at a size
 abbrev pub scale_of : Face → ℕ → Scale
-scale_of face ppem = record { ppem = ppem; units = face.head.units_per_em; ascender = face.hhea.ascender; descender = face.hhea.descender }
+scale_of face ppem = record { ppem = ppem; units_per_em = face.head.units_per_em; ascender = face.hhea.ascender; descender = face.hhea.descender }
 
 -- the outline of a glyph as hinting makes it
 unfoldable pub outline_with : Hinting → Face → ℕ → ℕ → Result Drawing HintFault

@@ -1,6 +1,6 @@
 //! The outline of a character.
 
-ghost use Rattle.std.specs.Prelude.{◌≡◌, ◌≤◌, ◌<◌, map, length, IfOk};
+ghost use Rattle.std.specs.Prelude.{◌≡◌, ◌<◌, map, length, IfOk};
 ghost use Rattle.std.specs.List.{All};
 ghost use Rattle.fx_fixed.specs.Chain.{GivesUnless};
 ghost use Rattle.fx_hint.specs.Faults.{Fails};
@@ -11,7 +11,7 @@ use crate::hinter::{Hinter, NoHinter};
 use crate::made::Made;
 use crate::outline::{Outline, OutlinePoint};
 use crate::walk::character_made;
-use fx_fixed::F26;
+use fx_fixed::{F26, Ppem};
 use fx_scale::Scale;
 use fx_sfnt::Font;
 use fx_zone::Point;
@@ -22,9 +22,7 @@ use std::alloc::{AllocError, Global};
 ///
 /// The faults come in the order of the walk: for each component record its depth, the number of records, its number and
 /// bytes, its reading, the component itself, its place. `OutOfMemory` may come in place of any of them, and of an outline.
-pub fn unhinted(alloc: Global, font: &Font<'_>, ppem: u16, g: u16) -> Result<Outline, HintFault>
-    requires least { 1 ≤ ppem }
-    requires most { ppem ≤ 255 }
+pub fn unhinted(alloc: Global, font: &Font<'_>, ppem: Ppem, g: u16) -> Result<Outline, HintFault>
     ensures { GivesUnless Fails drawing_of_outline result (outline_of font.now ppem g) }
 {
     let mut hinter = NoHinter;
@@ -37,7 +35,7 @@ pub fn outline_with<H: Hinter>(
     alloc: Global,
     hinter: &mut H,
     font: &Font<'_>,
-    ppem: u16,
+    ppem: Ppem,
     g: u16,
 ) -> Result<Outline, HintFault>
     ensures kept { H.hinting hinter.new ≡ H.hinting hinter.old }
@@ -45,19 +43,18 @@ pub fn outline_with<H: Hinter>(
 {
     let scale = scale_of(font, ppem);
     hinter.keeps_shape();
-    let made = character_made(alloc, hinter, font, scale, g)?;
+    let made = character_made(alloc, hinter, font, &scale, g)?;
     let outline = drawn(alloc, &made)?;
     Ok(outline)
 }
 
 /// The scale of a font at a size.
-fn scale_of(font: &Font<'_>, ppem: u16) -> Scale
-    ensures value { result ≡ scale_of font.now ppem }
-    ensures units { 0 < result.units }
+fn scale_of(font: &Font<'_>, ppem: Ppem) -> Scale
+    ensures { result ≡ scale_of font.now ppem }
 {
     Scale {
         ppem,
-        units: font.head().units_per_em,
+        units_per_em: font.head().units_per_em,
         ascender: font.hhea().ascender,
         descender: font.hhea().descender,
     }

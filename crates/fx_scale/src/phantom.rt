@@ -22,9 +22,8 @@ impl PhantomPoints {
     /// The phantom points of a glyph, from the xMin of its header and its metrics. With hinting on the current x of the first
     /// two and the current y of the last two are at whole pixels.
     #[tactic(auto, unfolding(crate::specs::Phantoms::phantoms_of))]
-    pub fn of_glyph(scale: Scale, hinted: bool, x_min: i16, metrics: Metrics) -> PhantomPoints
-        requires { 0 < scale.units }
-        ensures { result ≡ phantoms_of scale hinted x_min metrics }
+    pub fn of_glyph(scale: &Scale, hinted: bool, x_min: i16, metrics: Metrics) -> PhantomPoints
+        ensures { result ≡ phantoms_of scale.now hinted x_min metrics }
     {
         let origin = scale.apply(margin(x_min, metrics.bearing));
         let advance = origin.plus(scale.apply(i32::from(metrics.advance)));
@@ -59,9 +58,8 @@ impl PhantomPoints {
 }
 
 /// The four phantom points of a glyph, in their order behind its points.
-pub fn phantoms(scale: Scale, hinted: bool, x_min: i16, metrics: Metrics) -> [Point; 4]
-    requires { 0 < scale.units }
-    ensures { result ≡ in_order (phantoms_of scale hinted x_min metrics) }
+pub fn phantoms(scale: &Scale, hinted: bool, x_min: i16, metrics: Metrics) -> [Point; 4]
+    ensures { result ≡ in_order (phantoms_of scale.now hinted x_min metrics) }
 {
     PhantomPoints::of_glyph(scale, hinted, x_min, metrics).in_order()
 }
