@@ -36,18 +36,21 @@ last_get : (p : OutlinePoint) (qs : List OutlinePoint) (d : OutlinePoint) → la
 last_get p [] d = refl
 last_get p (q ∷ qs) d = last_get q qs d
 
-curve_whole : (points : List OutlinePoint) (k : ℕ) (before first d : OutlinePoint) → 0 < k → k + 1 ≡ length points → first ≡ get_or points 0 d → before ≡ get_or points k d → spans_between before points first ≡ curve_of points
-curve_whole [] k before first d h e f b = absurd (omega arith)
-curve_whole (p ∷ []) k before first d h e f b = absurd (omega arith)
-curve_whole (p ∷ q ∷ qs) k before first d h e f b =
-    let n : k ≡ length (q ∷ qs) = omega arith in
-    let l = last_get p (q ∷ qs) d in
-    let s : before ≡ last_of q qs = b ∙ (ap (λ j. get_or (p ∷ q ∷ qs) j d) n ∙ sym l) in
+curve_whole : (points : List OutlinePoint) (k : ℕ) (before first d e : OutlinePoint) → 0 < k → k + 1 ≡ length points
+    → first ≡ get_or points 0 d → before ≡ get_or points k e → spans_between before points first ≡ curve_of points
+curve_whole [] k before first d e h n f b = absurd (omega arith)
+curve_whole (p ∷ []) k before first d e h n f b = absurd (omega arith)
+curve_whole (p ∷ q ∷ qs) k before first d e h n f b =
+    let m : k ≡ length (q ∷ qs) = omega arith in
+    let l = last_get p (q ∷ qs) e in
+    let s : before ≡ last_of q qs = b ∙ (ap (λ j. get_or (p ∷ q ∷ qs) j e) m ∙ sym l) in
     rw (s, f) refl
 
-pub walk_init : (made : List Piece) (points : List OutlinePoint) (k : ℕ) (before first d : OutlinePoint) → All IsNear points → 0 < k → k + 1 ≡ length points → first ≡ get_or points 0 d → before ≡ get_or points k d → Walked made made points 0 before first
-walk_init made points k before first d a h e f b = record {
-  spans = ap (λ ss. map span_of made ++ ss) (curve_whole points k before first d h e f b);
+pub walk_init : (made : List Piece) (points : List OutlinePoint) (k : ℕ) (before first d e : OutlinePoint) → All IsNear points
+    → 0 < k → k + 1 ≡ length points → first ≡ get_or points 0 d → before ≡ get_or points k e
+    → Walked made made points 0 before first
+walk_init made points k before first d e a h n f b = record {
+  spans = ap (λ ss. map span_of made ++ ss) (curve_whole points k before first d e h n f b);
   few = omega arith;
-  near = item_near points k before d a (omega arith) b;
+  near = item_near points k before e a (omega arith) b;
 }

@@ -1,5 +1,5 @@
 //! From contours to pieces.
-ghost use Rattle.std.specs.Prelude.{◌≡◌, ◌+◌, ◌-◌, ◌≤◌, ◌<◌, ◌^◌, ◌++◌, ◌⊎◌, ◌↔◌, All, IsTrue, IfOk, OnOk, IfErr, IsErrOf, length, map, take, drop, option_map, option_to_list};
+ghost use Rattle.std.specs.Prelude.{◌≡◌, pos, ◌+◌, ◌-◌, ◌+ℤ◌, ◌*ℤ◌, ◌≤◌, ◌<◌, ◌^◌, ◌++◌, ◌⊎◌, ◌↔◌, All, IsTrue, IfOk, OnOk, IfErr, IsErrOf, length, map, take, drop, option_map, option_to_list};
 ghost use Rattle.fx_fixed.specs.Ranges.{IsWithin};
 ghost use Rattle.fx_winding.specs.Winding.{place_of, span_of};
 ghost use Rattle.fx_winding.specs.Outside.{AreOfOutline};
@@ -9,6 +9,7 @@ ghost use Rattle.fx_contour.specs.Contours.{spans_of, drawn_of, IsNear};
 ghost use Rattle.fx_contour.specs.Faults.{Fails};
 
 use crate::fault::ContourFault;
+use fx_fixed::F26;
 use fx_hint::{Outline, OutlinePoint};
 use fx_winding::{Piece, Pieces, Point};
 use std::alloc::{AllocError, Global};
@@ -16,10 +17,10 @@ use std::alloc::{AllocError, Global};
 /// How far from the origin a coordinate may lie, in 26.6 pixels.
 const FARTHEST: i32 = 2_097_152;
 
-fn is_within(z: i32) -> bool
+fn is_within(z: F26) -> bool
     ensures { IsTrue result ↔ IsWithin (2 ^ 21) z }
 {
-    -FARTHEST <= z && z <= FARTHEST
+    -FARTHEST <= z.0 && z.0 <= FARTHEST
 }
 
 fn is_near(p: &OutlinePoint) -> bool
@@ -34,33 +35,52 @@ fn are_near(points: &[OutlinePoint]) -> bool
     points.iter().all(|p| is_near(p))
 }
 
-fn doubled(p: OutlinePoint) -> Point
-    requires { IsNear p }
-    ensures { place_of result ≡ doubled_of p }
+/// A coordinate in 1/128 pixel.
+fn twice(z: F26) -> i32
+    requires { IsWithin (2 ^ 21) z }
+    ensures value { result ≡ pos 2 *ℤ z }
+    ensures near { IsWithin (2 ^ 22) result }
+{
+    2 * z.0
+}
+
+/// Half of a sum of two coordinates, in 1/128 pixel.
+fn half_sum(a: F26, b: F26) -> i32
+    requires near_a { IsWithin (2 ^ 21) a }
+    requires near_b { IsWithin (2 ^ 21) b }
+    ensures value { result ≡ a +ℤ b }
+    ensures near { IsWithin (2 ^ 22) result }
+{
+    a.0 + b.0
+}
+
+fn doubled(p: &OutlinePoint) -> Point
+    requires { IsNear p.now }
+    ensures { place_of result ≡ doubled_of p.now }
 {
     Point {
-        x: 2 * p.x,
-        y: 2 * p.y,
+        x: twice(p.x),
+        y: twice(p.y),
     }
 }
 
-/// The midpoint, in units of half the points' unit.
-fn middle(p: OutlinePoint, q: OutlinePoint) -> Point
-    requires near_p { IsNear p }
-    requires near_q { IsNear q }
-    ensures { place_of result ≡ middle_of p q }
+/// The midpoint, in 1/128 pixel.
+fn middle(p: &OutlinePoint, q: &OutlinePoint) -> Point
+    requires near_p { IsNear p.now }
+    requires near_q { IsNear q.now }
+    ensures { place_of result ≡ middle_of p.now q.now }
 {
     Point {
-        x: p.x + q.x,
-        y: p.y + q.y,
+        x: half_sum(p.x, q.x),
+        y: half_sum(p.y, q.y),
     }
 }
 
-/// Where the curve is between two neighbours: at the first that is on it, else half way.
-fn joint(p: OutlinePoint, q: OutlinePoint) -> Point
-    requires near_p { IsNear p }
-    requires near_q { IsNear q }
-    ensures { place_of result ≡ joint_of p q }
+/// The place of the curve between two neighbours: at the first that is on it, else half way.
+fn joint(p: &OutlinePoint, q: &OutlinePoint) -> Point
+    requires near_p { IsNear p.now }
+    requires near_q { IsNear q.now }
+    ensures { place_of result ≡ joint_of p.now q.now }
 {
     if p.on_curve {
         return doubled(p);
@@ -72,11 +92,11 @@ fn joint(p: OutlinePoint, q: OutlinePoint) -> Point
 }
 
 /// What a point q between its neighbours p and r adds.
-fn piece_at(p: OutlinePoint, q: OutlinePoint, r: OutlinePoint) -> Option<Piece>
-    requires near_p { IsNear p }
-    requires near_q { IsNear q }
-    requires near_r { IsNear r }
-    ensures { option_map span_of result ≡ span_at p q r }
+fn piece_at(p: &OutlinePoint, q: &OutlinePoint, r: &OutlinePoint) -> Option<Piece>
+    requires near_p { IsNear p.now }
+    requires near_q { IsNear q.now }
+    requires near_r { IsNear r.now }
+    ensures { option_map span_of result ≡ span_at p.now q.now r.now }
 {
     if !q.on_curve {
         return Some(Piece {
@@ -106,12 +126,16 @@ fn push_some(made: &mut Pieces, piece: Option<Piece>) -> Result<(), AllocError>
 }
 
 /// The point after point i of a contour that begins with `first`.
-fn next_point(points: &[OutlinePoint], i: usize, first: OutlinePoint) -> OutlinePoint
+fn next_point<'p>(
+    points: &'p [OutlinePoint],
+    i: usize,
+    first: &'p OutlinePoint,
+) -> &'p OutlinePoint
     requires { i < length points.now }
-    ensures { result ≡ first_of (drop (i + 1) points.now) first }
+    ensures { result.now ≡ first_of (drop (i + 1) points.now) first.now }
 {
     if i + 1 < points.len() {
-        return points[i + 1];
+        return &points[i + 1];
     }
     first
 }
@@ -125,10 +149,10 @@ fn add_contour(made: &mut Pieces, points: &[OutlinePoint]) -> Result<(), AllocEr
     if points.len() < 2 {
         return Ok(());
     }
-    let first = points[0];
-    let mut before = points[points.len() - 1];
+    let first = &points[0];
+    let mut before = &points[points.len() - 1];
     for i in 0..points.len() {
-        let here = points[i];
+        let here = &points[i];
         let piece = piece_at(before, here, next_point(points, i, first));
         push_some(made, piece)?;
         before = here;

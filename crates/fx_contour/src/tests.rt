@@ -1,10 +1,15 @@
 //! Small outlines, with their pieces and frames by hand.
 use crate::{frame, pieces};
+use fx_fixed::F26;
 use fx_hint::{Outline, OutlinePoint};
 use fx_winding::{Frame, Piece, Point};
 
 fn point(x: i32, y: i32, on_curve: bool) -> OutlinePoint {
-    OutlinePoint { x, y, on_curve }
+    OutlinePoint {
+        x: F26(x),
+        y: F26(y),
+        on_curve,
+    }
 }
 
 fn place(p: Point) -> (i32, i32) {
@@ -55,7 +60,7 @@ fn all_off_the_curve(rt: HostRuntime) {
     let outline = Outline {
         points,
         ends,
-        advance: 0,
+        advance: F26(0),
         strays: 0,
         steps: 0,
     };
@@ -82,7 +87,7 @@ fn on_and_off_in_turn(rt: HostRuntime) {
     let outline = Outline {
         points,
         ends,
-        advance: 0,
+        advance: F26(0),
         strays: 0,
         steps: 0,
     };
@@ -107,7 +112,7 @@ fn two_points_and_lone_points(rt: HostRuntime) {
     let outline = Outline {
         points,
         ends,
-        advance: 0,
+        advance: F26(0),
         strays: 0,
         steps: 0,
     };

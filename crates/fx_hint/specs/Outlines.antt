@@ -1,6 +1,6 @@
 -- The outline of a glyph at a size, by recursion on components, with the first cause why there is none (OpenType, `glyf`).
-use Rattle.std.specs.Prelude.{ℕ, zero, suc, ◌+◌, ◌≤◌, List, [], ◌∷◌, map, length, ℤ, pos, ◌-ℤ◌, Bool, nat_lt, nat_le, Result, Ok, Err}
-use Rattle.fx_fixed.specs.Numbers.{wrapped_of}
+use Rattle.std.specs.Prelude.{ℕ, zero, suc, ◌+◌, ◌≤◌, List, [], ◌∷◌, map, length, ℤ, pos, Bool, nat_lt, nat_le, Result, Ok, Err}
+use Rattle.fx_fixed.specs.Numbers.{difference_of}
 use Rattle.fx_fixed.specs.Chain.{◌>>=◌, refuse, map_fault}
 use Rattle.fx_sfnt.specs.declared.records.Metrics.{Metrics}
 use Rattle.fx_sfnt.specs.Tables.{Face}
@@ -101,27 +101,23 @@ pub record Drawing : Type 0 where
 abbrev pub drawing_of_outline : Outline → Drawing
 drawing_of_outline o = record { points = o.points.items; ends = o.ends.items; advance = o.advance; strays = o.strays; steps = o.steps }
 
--- an x from the first phantom point's current x, modulo 2 ^ 32
-abbrev pub from_origin : ℤ → ℤ → ℤ
-from_origin origin x = wrapped_of (x -ℤ origin)
-
 -- a point of an outline: its current place, moved so that the first phantom point lies at x = 0
 abbrev pub moved_point : ℤ → Point → OutlinePoint
-moved_point origin p = record { x = from_origin origin p.cur.x; y = p.cur.y; on_curve = p.on }
+moved_point origin p = record { x = difference_of p.cur.x origin; y = p.cur.y; on_curve = p.on }
 
 -- the whole outline moved; its advance is the second phantom point's x from the first's
 unfoldable pub drawing_of_made : Made → Drawing
 drawing_of_made made = record {
   points = map (moved_point made.phantoms.origin.cur.x) made.zone.points;
   ends = made.zone.ends;
-  advance = from_origin made.phantoms.origin.cur.x made.phantoms.advance.cur.x;
+  advance = difference_of made.phantoms.advance.cur.x made.phantoms.origin.cur.x;
   strays = 0;
   steps = 0;
 }
 
--- a font's scale at so many pixels an em
+-- a font's scale at a size
 abbrev pub scale_of : Face → ℕ → Scale
-scale_of face ppem = record { ppem = ppem; units = face.head.units_per_em; ascender = face.hhea.ascender; descender = face.hhea.descender }
+scale_of face ppem = record { ppem = ppem; units_per_em = face.head.units_per_em; ascender = face.hhea.ascender; descender = face.hhea.descender }
 
 -- the outline of a glyph as hinting makes it
 unfoldable pub outline_with : Hinting → Face → ℕ → ℕ → Result Drawing HintFault

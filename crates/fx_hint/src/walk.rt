@@ -19,9 +19,8 @@ use fx_zone::Zone;
 use std::alloc::Global;
 
 /// A glyph without points yet.
-fn empty_made(alloc: Global, scale: Scale, hinted: bool, x_min: i16, metrics: Metrics) -> Made
-    requires { 0 < scale.units }
-    ensures { result ≡ record { zone = empty_figure; phantoms = phantoms_of scale hinted x_min metrics } }
+fn empty_made(alloc: Global, scale: &Scale, hinted: bool, x_min: i16, metrics: Metrics) -> Made
+    ensures { result ≡ record { zone = empty_figure; phantoms = phantoms_of scale.now hinted x_min metrics } }
 {
     Made {
         zone: Zone::new(alloc),
@@ -32,13 +31,12 @@ fn empty_made(alloc: Global, scale: Scale, hinted: bool, x_min: i16, metrics: Me
 /// A composite glyph without its components.
 fn start(
     alloc: Global,
-    scale: Scale,
+    scale: &Scale,
     hinted: bool,
     composite: &Composite<'_>,
     metrics: Metrics,
 ) -> Made
-    requires { 0 < scale.units }
-    ensures { result ≡ record { zone = empty_figure; phantoms = phantoms_of scale hinted composite.now.x_min metrics } }
+    ensures { result ≡ record { zone = empty_figure; phantoms = phantoms_of scale.now hinted composite.now.x_min metrics } }
 {
     empty_made(alloc, scale, hinted, composite.x_min(), metrics)
 }
@@ -58,7 +56,7 @@ fn run_on<H: Hinter>(hinter: &mut H, g: u16, code: &[u8], made: Made) -> Result<
 struct Walk<'w, 'a> {
     alloc: Global,
     font: &'w Font<'a>,
-    scale: Scale,
+    scale: &'w Scale,
     character: u16,
 }
 
@@ -72,8 +70,7 @@ impl<'w, 'a> Walk<'w, 'a> {
         simple: &Simple<'_>,
         count: &mut Count,
     ) -> Result<Made, HintFault>
-        requires { 0 < self.now.scale.units }
-        ensures { GivesUnless Fails (λ m. (m, count.new)) result (simple_made self.now.scale hinted self.now.character metrics simple.now count.old) }
+        ensures { GivesUnless Fails (λ m. (m, count.new)) result (simple_made self.now.scale.now hinted self.now.character metrics simple.now count.old) }
     {
         let zone = zone_of(self.alloc, simple, self.scale)?;
         count.more_points(self.character, zone.len())?;
@@ -91,9 +88,8 @@ impl<'w, 'a> Walk<'w, 'a> {
         g: u16,
         count: &mut Count,
     ) -> Result<Made, HintFault>
-        requires { 0 < self.now.scale.units }
         ensures kept { H.hinting hinter.new ≡ H.hinting hinter.old }
-        ensures value { GivesUnless Fails (λ m. (m, count.new)) result (whole (H.hinting hinter.old) self.now.font.now self.now.scale self.now.character (component (H.hinting hinter.old) self.now.font.now self.now.scale self.now.character levels) g count.old) }
+        ensures value { GivesUnless Fails (λ m. (m, count.new)) result (whole (H.hinting hinter.old) self.now.font.now self.now.scale.now self.now.character (component (H.hinting hinter.old) self.now.font.now self.now.scale.now self.now.character levels) g count.old) }
     {
         let metrics = self.font.metrics(g)?;
         let bytes = self.font.glyph_bytes(g)?;
@@ -113,9 +109,8 @@ impl<'w, 'a> Walk<'w, 'a> {
         glyph: Glyph<'_>,
         count: &mut Count,
     ) -> Result<Made, HintFault>
-        requires { 0 < self.now.scale.units }
         ensures kept { H.hinting hinter.new ≡ H.hinting hinter.old }
-        ensures value { GivesUnless Fails (λ m. (m, count.new)) result (made_of (H.hinting hinter.old) self.now.scale self.now.character (component (H.hinting hinter.old) self.now.font.now self.now.scale self.now.character levels) g metrics glyph.entry count.old) }
+        ensures value { GivesUnless Fails (λ m. (m, count.new)) result (made_of (H.hinting hinter.old) self.now.scale.now self.now.character (component (H.hinting hinter.old) self.now.font.now self.now.scale.now self.now.character levels) g metrics glyph.entry count.old) }
     {
         let on = hinter.is_on();
         match glyph {
@@ -144,9 +139,8 @@ impl<'w, 'a> Walk<'w, 'a> {
         base: Made,
         count: &mut Count,
     ) -> Result<Made, HintFault>
-        requires { 0 < self.now.scale.units }
         ensures kept { H.hinting hinter.new ≡ H.hinting hinter.old }
-        ensures value { GivesUnless Fails (λ m. (m, count.new)) result (with_parts self.now.scale (H.hinting hinter.old).on (component (H.hinting hinter.old) self.now.font.now self.now.scale self.now.character levels) g parts.entry base count.old) }
+        ensures value { GivesUnless Fails (λ m. (m, count.new)) result (with_parts self.now.scale.now (H.hinting hinter.old).on (component (H.hinting hinter.old) self.now.font.now self.now.scale.now self.now.character levels) g parts.entry base count.old) }
     {
         let on = hinter.is_on();
         let mut base = base;
@@ -167,9 +161,8 @@ impl<'w, 'a> Walk<'w, 'a> {
         g: u16,
         count: &mut Count,
     ) -> Result<Made, HintFault>
-        requires { 0 < self.now.scale.units }
         ensures kept { H.hinting hinter.new ≡ H.hinting hinter.old }
-        ensures value { GivesUnless Fails (λ m. (m, count.new)) result (component (H.hinting hinter.old) self.now.font.now self.now.scale self.now.character levels g count.old) }
+        ensures value { GivesUnless Fails (λ m. (m, count.new)) result (component (H.hinting hinter.old) self.now.font.now self.now.scale.now self.now.character levels g count.old) }
     {
         if levels == 0 {
             return Err(HintFault::ComponentDepth(g));
@@ -185,12 +178,11 @@ pub fn character_made<H: Hinter>(
     alloc: Global,
     hinter: &mut H,
     font: &Font<'_>,
-    scale: Scale,
+    scale: &Scale,
     g: u16,
 ) -> Result<Made, HintFault>
-    requires { 0 < scale.units }
     ensures kept { H.hinting hinter.new ≡ H.hinting hinter.old }
-    ensures value { GivesUnless Fails (λ m. m) result (character_made (H.hinting hinter.old) font.now scale g) }
+    ensures value { GivesUnless Fails (λ m. m) result (character_made (H.hinting hinter.old) font.now scale.now g) }
 {
     let walk = Walk {
         alloc,

@@ -1,17 +1,17 @@
 //! The outline of a character.
 
-ghost use Rattle.std.specs.Prelude.{◌≡◌, ◌≤◌, ◌<◌, ◌-ℤ◌, map, length, IfOk};
+ghost use Rattle.std.specs.Prelude.{◌≡◌, ◌<◌, map, length, IfOk};
 ghost use Rattle.std.specs.List.{All};
 ghost use Rattle.fx_fixed.specs.Chain.{GivesUnless};
 ghost use Rattle.fx_hint.specs.Faults.{Fails};
-ghost use Rattle.fx_hint.specs.Outlines.{scale_of, from_origin, moved_point, drawing_of_made, drawing_of_outline, outline_with, outline_of, IsSound};
+ghost use Rattle.fx_hint.specs.Outlines.{scale_of, moved_point, drawing_of_made, drawing_of_outline, outline_with, outline_of, IsSound};
 
 use crate::fault::HintFault;
 use crate::hinter::{Hinter, NoHinter};
 use crate::made::Made;
 use crate::outline::{Outline, OutlinePoint};
 use crate::walk::character_made;
-use fx_fixed::w32;
+use fx_fixed::{F26, Ppem};
 use fx_scale::Scale;
 use fx_sfnt::Font;
 use fx_zone::Point;
@@ -22,9 +22,7 @@ use std::alloc::{AllocError, Global};
 ///
 /// The faults come in the order of the walk: for each component record its depth, the number of records, its number and
 /// bytes, its reading, the component itself, its place. `OutOfMemory` may come in place of any of them, and of an outline.
-pub fn unhinted(alloc: Global, font: &Font<'_>, ppem: u16, g: u16) -> Result<Outline, HintFault>
-    requires least { 1 ≤ ppem }
-    requires most { ppem ≤ 255 }
+pub fn unhinted(alloc: Global, font: &Font<'_>, ppem: Ppem, g: u16) -> Result<Outline, HintFault>
     ensures { GivesUnless Fails drawing_of_outline result (outline_of font.now ppem g) }
 {
     let mut hinter = NoHinter;
@@ -37,7 +35,7 @@ pub fn outline_with<H: Hinter>(
     alloc: Global,
     hinter: &mut H,
     font: &Font<'_>,
-    ppem: u16,
+    ppem: Ppem,
     g: u16,
 ) -> Result<Outline, HintFault>
     ensures kept { H.hinting hinter.new ≡ H.hinting hinter.old }
@@ -45,19 +43,18 @@ pub fn outline_with<H: Hinter>(
 {
     let scale = scale_of(font, ppem);
     hinter.keeps_shape();
-    let made = character_made(alloc, hinter, font, scale, g)?;
+    let made = character_made(alloc, hinter, font, &scale, g)?;
     let outline = drawn(alloc, &made)?;
     Ok(outline)
 }
 
 /// The scale of a font at a size.
-fn scale_of(font: &Font<'_>, ppem: u16) -> Scale
-    ensures value { result ≡ scale_of font.now ppem }
-    ensures units { 0 < result.units }
+fn scale_of(font: &Font<'_>, ppem: Ppem) -> Scale
+    ensures { result ≡ scale_of font.now ppem }
 {
     Scale {
         ppem,
-        units: font.head().units_per_em,
+        units_per_em: font.head().units_per_em,
         ascender: font.hhea().ascender,
         descender: font.hhea().descender,
     }
@@ -72,7 +69,7 @@ fn drawn(alloc: Global, made: &Made) -> Result<Outline, AllocError>
     let origin = made.phantoms.origin.cur.x;
     let points = moved_points(alloc, made.zone.points(), origin)?;
     let ends = short_ends(alloc, made.zone.ends())?;
-    let advance = from_origin(made.phantoms.advance.cur.x, origin);
+    let advance = made.phantoms.advance.cur.x.minus(origin);
     Ok(Outline {
         points,
         ends,
@@ -85,7 +82,7 @@ fn drawn(alloc: Global, made: &Made) -> Result<Outline, AllocError>
 fn moved_points(
     alloc: Global,
     points: &[Point],
-    origin: i32,
+    origin: F26,
 ) -> Result<Vec<OutlinePoint>, AllocError>
     ensures { IfOk result (λ v. v.items ≡ map (moved_point origin) points.now) }
 {
@@ -98,20 +95,14 @@ fn moved_points(
     Ok(moved)
 }
 
-fn moved_point(point: Point, origin: i32) -> OutlinePoint
+fn moved_point(point: Point, origin: F26) -> OutlinePoint
     ensures { result ≡ moved_point origin point }
 {
     OutlinePoint {
-        x: from_origin(point.cur.x, origin),
+        x: point.cur.x.minus(origin),
         y: point.cur.y,
         on_curve: point.on,
     }
-}
-
-fn from_origin(x: i32, origin: i32) -> i32
-    ensures { result ≡ from_origin origin x }
-{
-    w32(i128::from(x) - i128::from(origin))
 }
 
 /// The numbers of contours' last points, which are all below 16,384.

@@ -3,10 +3,10 @@ use Rattle.std.specs.Prelude.{ℕ, ℤ, pos, ◌*◌, ◌*ℤ◌}
 use Rattle.fx_fixed.specs.Numbers.{near_of, wrapped_of}
 use Rattle.fx_scale.specs.declared.scale.Scale.{Scale}
 
--- v FUnits at ppem pixels an em of so many units: v * ppem * 64 / units, made whole
+-- v FUnits at a size: v * ppem * 64 / unitsPerEm, rounded
 abbrev pub scaled_of : ℤ → ℕ → ℕ → ℤ
-scaled_of v ppem units = wrapped_of (near_of (v *ℤ pos (ppem * 64)) (pos units))
+scaled_of v ppem units_per_em = wrapped_of (near_of (v *ℤ pos (ppem * 64)) (pos units_per_em))
 
 -- v FUnits at a scale
 abbrev pub scaled_by : Scale → ℤ → ℤ
-scaled_by s v = scaled_of v s.ppem s.units
+scaled_by s v = scaled_of v s.ppem s.units_per_em

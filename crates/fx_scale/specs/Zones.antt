@@ -3,7 +3,7 @@ use Rattle.std.specs.Prelude.{map}
 use Rattle.fx_glyf.specs.declared.point.Point as glyph_point
 use Rattle.fx_glyf.specs.Shapes.{Shape}
 use Rattle.fx_zone.specs.declared.point.Point.{Point}
-use Rattle.fx_zone.specs.Places.{resting}
+use Rattle.fx_zone.specs.Points.{resting}
 use Rattle.fx_zone.specs.Figures.{Figure}
 use Rattle.fx_scale.specs.declared.scale.Scale.{Scale}
 use Rattle.fx_scale.specs.Scaling.{scaled_by}

@@ -7,12 +7,11 @@ use crate::scale::Scale;
 use fx_sfnt::i16_in;
 use std::alloc::{AllocError, Global};
 
-/// The control values of a `cvt ` table's bytes in 26.6 pixels: each `int16` entry scaled; a last odd byte is none (OpenType,
-/// `cvt `).
+/// The control values of a `cvt ` table's bytes, numbers in 26.6: each `int16` entry scaled; a last odd byte is no entry
+/// (OpenType, `cvt `).
 #[tactic(auto, unfolding(crate::specs::Controls::control_values))]
-pub fn cvt_of(alloc: Global, bytes: &[u8], scale: Scale) -> Result<Vec<i32>, AllocError>
-    requires { 0 < scale.units }
-    ensures { IfOk result (λ v. v.items ≡ control_values scale bytes.now) }
+pub fn cvt_of(alloc: Global, bytes: &[u8], scale: &Scale) -> Result<Vec<i32>, AllocError>
+    ensures { IfOk result (λ v. v.items ≡ control_values scale.now bytes.now) }
 {
     let mut values = Vec::with_capacity(alloc, bytes.len() / 2)?;
     'entries: for k in 0..bytes.len() / 2 {
@@ -22,10 +21,9 @@ pub fn cvt_of(alloc: Global, bytes: &[u8], scale: Scale) -> Result<Vec<i32>, All
     Ok(values)
 }
 
-fn entry(scale: Scale, bytes: &[u8], k: usize) -> i32
-    requires units { 0 < scale.units }
-    requires inside { 2 * k + 2 ≤ length bytes.now }
-    ensures { result ≡ control_value scale bytes.now k }
+fn entry(scale: &Scale, bytes: &[u8], k: usize) -> i32
+    requires { 2 * k + 2 ≤ length bytes.now }
+    ensures { result ≡ control_value scale.now bytes.now k }
 {
-    scale.apply(i32::from(i16_in(bytes, 2 * k)))
+    scale.apply(i32::from(i16_in(bytes, 2 * k))).0
 }

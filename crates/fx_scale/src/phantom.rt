@@ -1,14 +1,13 @@
 //! Phantom points.
 
-ghost use Rattle.std.specs.Prelude.{◌≡◌, ◌<◌, ◌-ℤ◌, ◌+ℤ◌, ◌*ℤ◌, pos};
+ghost use Rattle.std.specs.Prelude.{◌≡◌, ◌<◌, ◌-ℤ◌, ◌*ℤ◌, pos};
 ghost use Rattle.fx_fixed.specs.Numbers.{wrapped_of, near_of};
-ghost use Rattle.fx_scale.specs.Scaling.{scaled_by};
-ghost use Rattle.fx_scale.specs.Phantoms.{across, up, phantoms_of, fitted, in_order, untouched_points};
+ghost use Rattle.fx_scale.specs.Phantoms.{phantom_on, phantoms_of, fitted, in_order, untouched_points};
 
 use crate::scale::Scale;
-use fx_fixed::{near, w32};
+use fx_fixed::{Axis, F26, Place, near, w32};
 use fx_sfnt::Metrics;
-use fx_zone::{Place, Point};
+use fx_zone::Point;
 
 /// The four points behind a glyph's points (Apple TrueType Reference Manual, "Instructing TrueType Glyphs": phantom points).
 #[derive(Clone, Copy, Debug, PartialEq, Eq)]
@@ -23,19 +22,18 @@ impl PhantomPoints {
     /// The phantom points of a glyph, from the xMin of its header and its metrics. With hinting on the current x of the first
     /// two and the current y of the last two are at whole pixels.
     #[tactic(auto, unfolding(crate::specs::Phantoms::phantoms_of))]
-    pub fn of_glyph(scale: Scale, hinted: bool, x_min: i16, metrics: Metrics) -> PhantomPoints
-        requires { 0 < scale.units }
-        ensures { result ≡ phantoms_of scale hinted x_min metrics }
+    pub fn of_glyph(scale: &Scale, hinted: bool, x_min: i16, metrics: Metrics) -> PhantomPoints
+        ensures { result ≡ phantoms_of scale.now hinted x_min metrics }
     {
         let origin = scale.apply(margin(x_min, metrics.bearing));
-        let advance = sum(origin, scale.apply(i32::from(metrics.advance)));
+        let advance = origin.plus(scale.apply(i32::from(metrics.advance)));
         let ascender = scale.apply(i32::from(scale.ascender));
         let descender = scale.apply(i32::from(scale.descender));
         PhantomPoints {
-            origin: across(hinted, origin),
-            advance: across(hinted, advance),
-            ascender: up(hinted, ascender),
-            descender: up(hinted, descender),
+            origin: phantom(Axis::X, hinted, origin),
+            advance: phantom(Axis::X, hinted, advance),
+            ascender: phantom(Axis::Y, hinted, ascender),
+            descender: phantom(Axis::Y, hinted, descender),
         }
     }
 
@@ -60,9 +58,8 @@ impl PhantomPoints {
 }
 
 /// The four phantom points of a glyph, in their order behind its points.
-pub fn phantoms(scale: Scale, hinted: bool, x_min: i16, metrics: Metrics) -> [Point; 4]
-    requires { 0 < scale.units }
-    ensures { result ≡ in_order (phantoms_of scale hinted x_min metrics) }
+pub fn phantoms(scale: &Scale, hinted: bool, x_min: i16, metrics: Metrics) -> [Point; 4]
+    ensures { result ≡ in_order (phantoms_of scale.now hinted x_min metrics) }
 {
     PhantomPoints::of_glyph(scale, hinted, x_min, metrics).in_order()
 }
@@ -73,20 +70,12 @@ fn margin(x_min: i16, bearing: i16) -> i32
     i32::from(x_min) - i32::from(bearing)
 }
 
-fn sum(a: i32, b: i32) -> i32
-    ensures { result ≡ wrapped_of (a +ℤ b) }
+/// A phantom point on an axis.
+fn phantom(axis: Axis, hinted: bool, z: F26) -> Point
+    ensures { result ≡ phantom_on axis hinted z }
 {
-    w32(i128::from(a) + i128::from(b))
-}
-
-fn across(hinted: bool, x: i32) -> Point
-    ensures { result ≡ across hinted x }
-{
-    let org = Place { x, y: 0 };
-    let cur = Place {
-        x: fitted(hinted, x),
-        y: 0,
-    };
+    let org = Place::on(axis, z);
+    let cur = Place::on(axis, fitted(hinted, z));
     Point {
         org,
         cur,
@@ -96,32 +85,15 @@ fn across(hinted: bool, x: i32) -> Point
     }
 }
 
-fn up(hinted: bool, y: i32) -> Point
-    ensures { result ≡ up hinted y }
+/// A coordinate, rounded to whole pixels with hinting on.
+pub fn fitted(hinted: bool, z: F26) -> F26
+    ensures { result ≡ fitted hinted z }
 {
-    let org = Place { x: 0, y };
-    let cur = Place {
-        x: 0,
-        y: fitted(hinted, y),
-    };
-    Point {
-        org,
-        cur,
-        on: false,
-        touched_x: false,
-        touched_y: false,
-    }
+    if hinted { whole_pixels(z) } else { z }
 }
 
-/// A value in 26.6 pixels, rounded to whole pixels with hinting on.
-pub fn fitted(hinted: bool, v: i32) -> i32
-    ensures { result ≡ fitted hinted v }
+fn whole_pixels(z: F26) -> F26
+    ensures { result ≡ wrapped_of (pos 64 *ℤ near_of z (pos 64)) }
 {
-    if hinted { whole_pixels(v) } else { v }
-}
-
-fn whole_pixels(v: i32) -> i32
-    ensures { result ≡ wrapped_of (pos 64 *ℤ near_of v (pos 64)) }
-{
-    w32(64 * near(i128::from(v), 64))
+    F26(w32(64 * near(i128::from(z.0), 64)))
 }

@@ -1,42 +1,43 @@
 //! Scaling.
 
-ghost use Rattle.std.specs.Prelude.{◌≡◌, ◌^◌, ◌<◌, ◌≤◌, ◌*◌, pos, ◌*ℤ◌, unsigned_abs};
+ghost use Rattle.std.specs.Prelude.{◌≡◌, ◌^◌, ◌≤◌, ◌*◌, pos, ◌*ℤ◌, unsigned_abs};
 ghost use Rattle.fx_fixed.specs.Numbers.{near_of};
 ghost use Rattle.fx_scale.specs.Scaling.{scaled_of, scaled_by};
 
-use fx_fixed::{F26, near, w32};
+use fx_fixed::{F26, Ppem, near, w32};
+use fx_sfnt::UnitsPerEm;
 
-/// A size, and what of the font belongs to every glyph at it: `ppem` pixels an em of `units` FUnits; ascender and descender
-/// in FUnits.
+/// A size, and what of the font belongs to every glyph at it; ascender and descender in FUnits.
 #[derive(Clone, Copy, Debug, PartialEq, Eq)]
 pub struct Scale {
-    pub ppem: u16,
-    pub units: u16,
+    pub ppem: Ppem,
+    pub units_per_em: UnitsPerEm,
     pub ascender: i16,
     pub descender: i16,
 }
 
 impl Scale {
-    /// A FUnit value at this scale, in 26.6 pixels.
-    pub fn apply(self, v: i32) -> i32
-        requires { 0 < self.units }
-        ensures { result ≡ scaled_by self v }
+    /// A value in FUnits at this scale, in 26.6 pixels.
+    pub fn apply(&self, v: i32) -> F26
+        ensures { result ≡ scaled_by self.now v }
     {
-        scaled(v, self.ppem, self.units).0
+        scaled(v, self.ppem, self.units_per_em)
     }
 }
 
-/// A FUnit value at a size, in 26.6 pixels: `v * ppem * 64 / upem` rounded to the nearest whole number, halves away from zero
-/// (OpenType, "TrueType fundamentals": scaling a glyph outline).
+/// A value in FUnits at a size, in 26.6 pixels: `v * ppem * 64 / unitsPerEm` rounded to the nearest whole number, halves away
+/// from zero (OpenType, "TrueType fundamentals": scaling a glyph outline).
 ///
-/// A font's own values at a lawful size fit 32 bits; others are taken modulo 2^32.
+/// The values in a font fit 32 bits at every size; others are taken modulo 2^32.
 #[tactic(auto, using(crate::proofs::Exact::unwrapped))]
-pub fn scaled(v: i32, ppem: u16, upem: u16) -> F26
-    requires { 0 < upem }
-    ensures value { result.0 ≡ scaled_of v ppem upem }
-    ensures exact { unsigned_abs v ≤ 2 ^ 16 → ppem ≤ 255 → result.0 ≡ near_of (v *ℤ pos (ppem * 64)) (pos upem) }
+pub fn scaled(v: i32, ppem: Ppem, units_per_em: UnitsPerEm) -> F26
+    ensures value { result ≡ scaled_of v ppem units_per_em }
+    ensures exact { unsigned_abs v ≤ 2 ^ 16 → result ≡ near_of (v *ℤ pos (ppem * 64)) (pos units_per_em) }
 {
-    F26(w32(near(sixty_fourths(v, ppem), i128::from(upem))))
+    F26(w32(near(
+        sixty_fourths(v, ppem.pixels()),
+        i128::from(units_per_em.funits()),
+    )))
 }
 
 fn sixty_fourths(v: i32, ppem: u16) -> i128

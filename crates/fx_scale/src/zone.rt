@@ -4,15 +4,15 @@ ghost use Rattle.std.specs.Prelude.{◌≡◌, ◌<◌, IfOk, length, map};
 ghost use Rattle.fx_scale.specs.Zones.{scaled_point, zone_of_shape};
 
 use crate::scale::Scale;
+use fx_fixed::Place;
 use fx_glyf::{Ends, Points, Simple};
-use fx_zone::{Place, Zone};
+use fx_zone::Zone;
 use std::alloc::{AllocError, Global};
 
 /// The zone of a simple glyph: its points scaled one by one, original and current places alike, untouched, with its contours
 /// (OpenType, `glyf`, simple glyph description).
-pub fn zone_of(alloc: Global, simple: &Simple<'_>, scale: Scale) -> Result<Zone, AllocError>
-    requires { 0 < scale.units }
-    ensures { IfOk result (λ z. z ≡ zone_of_shape scale simple.now) }
+pub fn zone_of(alloc: Global, simple: &Simple<'_>, scale: &Scale) -> Result<Zone, AllocError>
+    ensures { IfOk result (λ z. z ≡ zone_of_shape scale.now simple.now) }
 {
     let points = scaled_points(alloc, simple.points(), scale)?;
     let ends = contour_ends(alloc, simple.ends())?;
@@ -22,10 +22,9 @@ pub fn zone_of(alloc: Global, simple: &Simple<'_>, scale: Scale) -> Result<Zone,
 fn scaled_points(
     alloc: Global,
     points: Points<'_>,
-    scale: Scale,
+    scale: &Scale,
 ) -> Result<Vec<fx_zone::Point>, AllocError>
-    requires { 0 < scale.units }
-    ensures { IfOk result (λ v. v.items ≡ map (scaled_point scale) points.entry) }
+    ensures { IfOk result (λ v. v.items ≡ map (scaled_point scale.now) points.entry) }
 {
     let mut scaled = Vec::new(alloc);
     'points: for point in points {
@@ -36,9 +35,8 @@ fn scaled_points(
     Ok(scaled)
 }
 
-fn scaled_point(scale: Scale, point: fx_glyf::Point) -> fx_zone::Point
-    requires { 0 < scale.units }
-    ensures { result ≡ scaled_point scale point }
+fn scaled_point(scale: &Scale, point: fx_glyf::Point) -> fx_zone::Point
+    ensures { result ≡ scaled_point scale.now point }
 {
     let x = scale.apply(i32::from(point.x));
     let y = scale.apply(i32::from(point.y));

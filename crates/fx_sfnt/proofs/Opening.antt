@@ -57,17 +57,6 @@ opened file face h =
     })
     )))))))))))
 
--- the em square of `head`
-pub head_units : (table : List ℕ) (head : Head) → head_of table ≡ Ok head → (16 ≤ head.units_per_em) × (head.units_per_em ≤ 16384)
-unfolding head_of
-head_units table head h =
-    refuse_then (nat_lt (length table) 54) (TableShort (codes "head")) _ head h (λ _ h.
-    refuse_then (not (field 4 table 12 == 0x5F0F3CF5)) BadHead _ head h (λ _ h.
-    refuse_then (nat_lt (field 2 table 18) 16 || nat_lt 16384 (field 2 table 18)) BadHead _ head h (λ tests h.
-    refuse_then (nat_lt 1 (field 2 table 50)) BadHead _ head h (λ _ h.
-    let both = or_parts (nat_lt (field 2 table 18) 16) (nat_lt 16384 (field 2 table 18)) tests in
-    subst (λ (head : Head). (16 ≤ head.units_per_em) × (head.units_per_em ≤ 16384)) (same_Ok _ _ refl h) (ltb-false _ _ both.0, ltb-false _ _ both.1)))))
-
 -- the glyphs of `maxp`
 pub maxp_glyphs : (table : List ℕ) (maxp : Maxp) → maxp_of table ≡ Ok maxp → 0 < maxp.glyphs
 unfolding maxp_of
@@ -78,10 +67,6 @@ maxp_glyphs table maxp h =
     let some : field 2 table 4 ≡ 0 → ⊥ = eqb-false (field 2 table 4) 0 test in
     let above : 0 < field 2 table 4 = omega arith in
     subst (λ (maxp : Maxp). 0 < maxp.glyphs) (same_Ok _ _ refl h) above)))
-
--- the em square of a font
-pub font_units : (file : List ℕ) (face : Face) → font_of file ≡ Ok face → (16 ≤ face.head.units_per_em) × (face.head.units_per_em ≤ 16384)
-font_units file face h = let o = opened file face h in head_units o.head face.head o.head_is
 
 -- the glyphs of a font
 pub font_glyphs : (file : List ℕ) (face : Face) → font_of file ≡ Ok face → 0 < face.maxp.glyphs

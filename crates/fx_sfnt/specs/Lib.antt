@@ -1,3 +1,4 @@
 pub mod Fields
+pub mod Units
 pub mod Tables
 pub mod Glyphs

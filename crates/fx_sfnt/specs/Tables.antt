@@ -3,6 +3,7 @@
 use Rattle.std.specs.Prelude.{ℕ, zero, suc, ◌+◌, ◌*◌, List, [], ◌∷◌, length, take, drop, find, codes, Option, option_map, unwrap_or, Result, Ok, Bool, ◌==◌, ◌||◌, ◌&&◌, not, nat_lt, nat_le}
 use Rattle.fx_fixed.specs.Chain.{◌>>=◌, refuse, wanted}
 use Rattle.fx_sfnt.specs.Fields.{field, signed_field}
+use Rattle.fx_sfnt.specs.Units.{units_per_em_of}
 use Rattle.fx_sfnt.specs.declared.fault.FontFault.{FontFault}
 use Rattle.fx_sfnt.specs.declared.fault.FontFault.TheVariants.{NotTrueType, TableMissing, TableShort, BadHead, BadMaxp}
 use Rattle.fx_sfnt.specs.declared.records.Head.{Head}
@@ -43,9 +44,9 @@ unfoldable pub head_of : List ℕ → Result Head FontFault
 head_of table = do
   _ ← refuse (nat_lt (length table) 54) (TableShort (codes "head"))
   _ ← refuse (not (field 4 table 12 == 0x5F0F3CF5)) BadHead
-  _ ← refuse (nat_lt (field 2 table 18) 16 || nat_lt 16384 (field 2 table 18)) BadHead
+  units_per_em ← wanted (units_per_em_of (field 2 table 18)) BadHead
   _ ← refuse (nat_lt 1 (field 2 table 50)) BadHead
-  Ok (record { units_per_em = field 2 table 18; long_loca = field 2 table 50 == 1 })
+  Ok (record { units_per_em = units_per_em; long_loca = field 2 table 50 == 1 })
 
 -- the fields of `maxp`
 unfoldable pub maxp_of : List ℕ → Result Maxp FontFault

@@ -1,6 +1,6 @@
 //! A font over the bytes of its file.
 
-ghost use Rattle.std.specs.Prelude.{◌≡◌, ◌<◌, ◌≤◌, ◌^◌, length, option_map, IfSome, IsOk};
+ghost use Rattle.std.specs.Prelude.{◌≡◌, ◌<◌, ◌^◌, length, option_map, IfSome, IsOk};
 ghost use Rattle.fx_fixed.specs.Chain.{map_ok};
 ghost use Rattle.fx_sfnt.specs.Tables.{table_of, font_of};
 ghost use Rattle.fx_sfnt.specs.Glyphs.{metrics_of, glyph_bytes_of};
@@ -91,11 +91,9 @@ impl<'a> Font<'a> {
         self.file
     }
 
-    /// The fields of `head`; the em square has 16 to 16384 FUnits.
+    /// The fields of `head`.
     pub fn head(&self) -> Head
-        ensures value { result ≡ self.now.head }
-        ensures at_least { 16 ≤ result.units_per_em }
-        ensures at_most { result.units_per_em ≤ 16384 }
+        ensures { result ≡ self.now.head }
     {
         self.head
     }

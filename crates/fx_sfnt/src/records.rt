@@ -1,10 +1,12 @@
 //! The fields of tables.
 
+use crate::units::UnitsPerEm;
+
 /// The fields of `head` that are read (OpenType, "head").
 #[derive(Clone, Copy, Debug, PartialEq, Eq)]
 pub struct Head {
-    /// FUnits in the side of the em square, 16 to 16384.
-    pub units_per_em: u16,
+    /// The em square.
+    pub units_per_em: UnitsPerEm,
     /// Offsets in `loca` take four bytes; else two, which hold half of the offset.
     pub long_loca: bool,
 }

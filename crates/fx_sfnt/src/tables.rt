@@ -6,6 +6,7 @@ ghost use Rattle.fx_sfnt.specs.Tables.{head_of, maxp_of, hhea_of};
 use crate::fault::FontFault;
 use crate::fields::{i16_in, u16_in, u32_in};
 use crate::records::{Head, Hhea, Maxp};
+use crate::units::UnitsPerEm;
 
 // Reads `head`.
 #[tactic(auto, unfolding(crate::specs::Tables::head_of))]
@@ -18,10 +19,7 @@ pub fn read_head(table: &[u8]) -> Result<Head, FontFault>
     if u32_in(table, 12) != 0x5F0F_3CF5 {
         return Err(FontFault::BadHead);
     }
-    let units_per_em = u16_in(table, 18);
-    if units_per_em < 16 || units_per_em > 16384 {
-        return Err(FontFault::BadHead);
-    }
+    let units_per_em = UnitsPerEm::new(u16_in(table, 18)).ok_or(FontFault::BadHead)?;
     let format = u16_in(table, 50);
     if format > 1 {
         return Err(FontFault::BadHead);

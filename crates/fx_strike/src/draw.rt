@@ -17,7 +17,7 @@ use crate::faults::of_contour;
 use crate::refusal::Refusal;
 use fx_bdf::BitGlyph;
 use fx_contour::{frame, pieces};
-use fx_fixed::{near, near_64};
+use fx_fixed::{F26, Ppem, near, near_64};
 use fx_hint::{Outline, unhinted};
 use fx_sfnt::Font;
 use fx_winding::{Bitmap, Frame, Pieces, Scan, Tally};
@@ -29,6 +29,9 @@ fn outline_at(alloc: Global, font: &Font<'_>, ppem: u16, glyph: u16) -> Result<O
     requires high { ppem ≤ 255 }
     ensures { GivesUnless Fails drawing_of_outline result (map_fault of_hint (outline_of font.now ppem glyph)) }
 {
+    let Some(ppem) = Ppem::new(ppem) else {
+        return Err(Refusal::BadSize);
+    };
     Ok(unhinted(alloc, font, ppem, glyph)?)
 }
 
@@ -60,14 +63,22 @@ fn thousandths_at(font: &Font<'_>, glyph: u16) -> Result<i32, Refusal>
     ensures { result ≡ map_ok (λ m. thousandths m.advance font.now.head.units_per_em) (map_fault of_font (metrics_of font.now glyph)) }
 {
     let advance = i128::from(font.metrics(glyph)?.advance);
-    Ok(near(advance * 1000, i128::from(font.head().units_per_em)) as i32)
+    let em = font.head().units_per_em.funits();
+    Ok(near(advance * 1000, i128::from(em)) as i32)
 }
 
-// An advance of 26.6 pixels in whole pixels.
-fn whole_pixels(advance: i32) -> i32
+// A number of 1/64 pixels in whole pixels.
+fn near_pixels(advance: i32) -> i32
     ensures { result ≡ near_of advance (pos 64) }
 {
     near_64(i64::from(advance)) as i32
+}
+
+// An advance in whole pixels.
+fn whole_pixels(advance: F26) -> i32
+    ensures { result ≡ near_of advance (pos 64) }
+{
+    near_pixels(advance.0)
 }
 
 // The frame without a pixel.

@@ -72,7 +72,7 @@ fn heading(font: &Font<'_>, ppem: u16, gathered: &Gathered) -> Header
     requires { ppem ≤ 255 }
     ensures { result ≡ heading_of font.now ppem gathered.now }
 {
-    let em = font.head().units_per_em;
+    let em = font.head().units_per_em.funits();
     let hhea = font.hhea();
     Header {
         ppem,

@@ -6,5 +6,5 @@ use Rattle.fx_scale.proofs.cvt.cvt_of.Goals as goal
 
 pub entries-preserved : goal.entries-preserved
 entries-preserved c =
-    let more = map-range_with_len_more (control_value c.args.scale c.args.bytes.now) 0 c.entries.k c.entries.k (omega arith) in
+    let more = map-range_with_len_more (control_value c.args.scale.now c.args.bytes.now) 0 c.entries.k c.entries.k (omega arith) in
     grind (arith, common_steps, more)
