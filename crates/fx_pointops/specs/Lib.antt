@@ -5,3 +5,6 @@ pub mod Distances
 pub mod Loops
 pub mod Direct
 pub mod Indirect
+pub mod Shift
+pub mod Interpolate
+pub mod Intersect

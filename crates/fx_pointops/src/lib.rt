@@ -10,7 +10,10 @@
 mod direct;
 mod distances;
 mod indirect;
+mod interpolate;
+mod intersect;
 mod measure;
+mod shift;
 mod shift_point;
 mod zones;
 

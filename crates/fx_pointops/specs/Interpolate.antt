@@ -1,0 +1,29 @@
+-- The row that keeps points in proportion between two reference points.
+-- Apple TrueType Reference Manual, IP. It gives the zones, and the strays.
+use Rattle.std.specs.Prelude.{◌+◌, ℤ, pos, ◌*ℤ◌, if◌then◌else◌, List}
+use Rattle.std.specs.Ordering.{int_eq}
+use Rattle.fx_fixed.specs.Numbers.{near_of, wrapped_of, difference_of}
+use Rattle.fx_gstate.specs.declared.state.GState.{GState}
+use Rattle.fx_pointops.specs.declared.zones.Zones.{Zones}
+use Rattle.fx_pointops.specs.Zones.{Outcome, with_strays}
+use Rattle.fx_pointops.specs.ShiftPoint.{moved_by}
+use Rattle.fx_pointops.specs.Measure.{stray_at, distance_of, original_of}
+use Rattle.fx_pointops.specs.Loops.{each}
+
+-- the distance o in the proportion of cb to ob; o itself if ob is 0
+unfoldable pub in_proportion : ℤ → ℤ → ℤ → ℤ
+in_proportion o cb ob = if int_eq ob (pos 0) then o else wrapped_of (near_of (o *ℤ cb) ob)
+
+-- 39 IP  .. p ->
+-- Each p, of zone 2, moves to the distance from reference point 1, of zone 0, that is to its original one as the current distance cb
+-- of reference point 2, of zone 1, to its original one ob. Both are measured once; reference point 1 may move on the way.
+unfoldable pub point_in_proportion : GState → ℤ → ℤ → ℤ → Zones → Outcome
+point_in_proportion g cb ob p z = (
+  moved_by g (difference_of (in_proportion (original_of g g.zp2 p g.zp0 g.rp1 z) cb ob) (distance_of g g.zp2 p g.zp0 g.rp1 z)) g.zp2 p z,
+  stray_at g.zp2 p z,
+)
+
+unfoldable pub ip_of : GState → List ℤ → Zones → Outcome
+ip_of g points z =
+    with_strays (stray_at g.zp0 g.rp1 z + stray_at g.zp1 g.rp2 z)
+    (each (point_in_proportion g (distance_of g g.zp1 g.rp2 g.zp0 g.rp1 z) (original_of g g.zp1 g.rp2 g.zp0 g.rp1 z)) points z)

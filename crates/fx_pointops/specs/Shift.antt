@@ -1,0 +1,84 @@
+-- The rows that shift points as a reference point was moved.
+-- Apple TrueType Reference Manual, SHP, SHC, SHZ. Each gives the zones, and the strays.
+use Rattle.std.specs.Prelude.{ℕ, ◌+◌, ◌-◌, ℤ, Bool, false, if◌then◌else◌, List, length, Option, Some, None}
+use Rattle.fx_fixed.specs.Places.{place_difference_of}
+use Rattle.fx_fixed.specs.declared.places.Axis.TheVariants.{X, Y}
+use Rattle.fx_fixed.specs.declared.places.Place.{Place}
+use Rattle.fx_zone.specs.Figures.{Figure, each_changed, in_range_without, contour_of}
+use Rattle.fx_zone.specs.Points.{shifted}
+use Rattle.fx_gstate.specs.declared.state.GState.{GState}
+use Rattle.fx_gstate.specs.declared.zones.ZonePointer.{ZonePointer}
+use Rattle.fx_gstate.specs.declared.zones.ZonePointer.TheVariants.{Twilight, Glyph}
+use Rattle.fx_gstate.specs.Vectors.{has_part}
+use Rattle.fx_pointops.specs.declared.zones.Zones.{Zones}
+use Rattle.fx_pointops.specs.Zones.{Outcome, with_strays, zone_at, is_same_zone, on_zone, index_of}
+use Rattle.fx_pointops.specs.ShiftPoint.{shift_by, point_shifted}
+use Rattle.fx_pointops.specs.Measure.{org_at, cur_at, stray_at, along}
+use Rattle.fx_pointops.specs.Loops.{each}
+
+-- the reference point: with 0 point 2, of zone 1; with 1 point 1, of zone 0
+abbrev pub reference_zone : GState → Bool → ZonePointer
+reference_zone g one = if one then g.zp0 else g.zp1
+
+abbrev pub reference_point : GState → Bool → ℤ
+reference_point g one = if one then g.rp1 else g.rp2
+
+abbrev pub reference_stray : GState → Bool → Zones → ℕ
+reference_stray g one z = stray_at (reference_zone g one) (reference_point g one) z
+
+-- the shift that moves a point as far as the reference point was moved
+abbrev pub moved_of : GState → ZonePointer → ℤ → Zones → ℤ
+moved_of g zone p z = along g (place_difference_of (cur_at zone p z) (org_at zone p z))
+
+unfoldable pub reference_shift : GState → Bool → Zones → Place
+reference_shift g one z = shift_by g (moved_of g (reference_zone g one) (reference_point g one) z)
+
+-- the reference point's number, if it is in this zone
+abbrev pub excepted : GState → Bool → ZonePointer → Option ℕ
+excepted g one zone = if is_same_zone (reference_zone g one) zone then index_of (reference_point g one) else None
+
+-- 32-33 SHP  .. p ->
+-- Each p, of zone 2, is shifted.
+unfoldable pub shp_of : GState → Bool → List ℤ → Zones → Outcome
+shp_of g one points z = with_strays (reference_stray g one z) (each (point_shifted g (reference_shift g one z)) points z)
+
+-- the points of a range shifted, but the reference point
+abbrev pub range_shifted : Place → Bool → Bool → Option ℕ → ℕ → ℕ → Figure → Figure
+range_shifted by x y except first past f =
+    record f { points = each_changed (in_range_without except first past) (shifted by x y) 0 f.points }
+
+-- the first point of a contour, and the one after its last, if there is one
+abbrev pub contour_numbered : Option ℕ → Figure → Option (ℕ × ℕ)
+contour_numbered None f = None
+contour_numbered (Some k) f = contour_of f.ends k
+
+abbrev pub contour_at : ZonePointer → ℤ → Zones → Option (ℕ × ℕ)
+contour_at zone k z = contour_numbered (index_of k) (zone_at zone z)
+
+abbrev pub stray_contour : Option (ℕ × ℕ) → ℕ
+stray_contour (Some c) = 0
+stray_contour None = 1
+
+-- 34-35 SHC  k ->
+-- The points of contour k, of zone 2, are shifted, but the reference point. A contour that is not there is a stray.
+abbrev pub contour_shifted : GState → Place → Option ℕ → Option (ℕ × ℕ) → Zones → Zones
+contour_shifted g by except (Some c) z = on_zone (range_shifted by (has_part X g.freedom) (has_part Y g.freedom) except c.0 c.1) g.zp2 z
+contour_shifted g by except None z = z
+
+unfoldable pub shc_of : GState → Bool → ℤ → Zones → Outcome
+shc_of g one k z = (
+  contour_shifted g (reference_shift g one z) (excepted g one g.zp2) (contour_at g.zp2 k z) z,
+  reference_stray g one z + stray_contour (contour_at g.zp2 k z),
+)
+
+-- 36-37 SHZ  z ->
+-- The points of a zone are shifted, but the reference point and a glyph's four phantom points, which stand last. None is touched.
+abbrev pub count_without_phantoms : ZonePointer → Zones → ℕ
+count_without_phantoms Twilight z = length z.twilight.points
+count_without_phantoms Glyph z = length z.glyph.points - 4
+
+unfoldable pub shz_of : GState → Bool → ZonePointer → Zones → Outcome
+shz_of g one zone z = (
+  on_zone (range_shifted (reference_shift g one z) false false (excepted g one zone) 0 (count_without_phantoms zone z)) zone z,
+  reference_stray g one z,
+)

@@ -1,0 +1,95 @@
+//! The row that keeps points in proportion between two reference points.
+
+ghost use Rattle.std.specs.Prelude.{◌≡◌, ◌≢◌, ◌+◌, ◌≤◌, ◌^◌, pos, ◌*ℤ◌, unsigned_abs, length, reverse};
+ghost use Rattle.fx_fixed.specs.Numbers.{near_of, wrapped_of};
+ghost use Rattle.fx_pointops.specs.Zones.{HasShapes};
+ghost use Rattle.fx_pointops.specs.Loops.{each};
+ghost use Rattle.fx_pointops.specs.Interpolate.{in_proportion, point_in_proportion, ip_of};
+
+use crate::zones::{Zones, stray};
+use fx_fixed::{F26, near, w32};
+use fx_gstate::GState;
+
+/// An exact product of two distances.
+fn product(a: F26, b: F26) -> i128
+    ensures value { result ≡ a *ℤ b }
+    ensures bound { unsigned_abs result ≤ 2 ^ 64 }
+{
+    i128::from(a.0) * i128::from(b.0)
+}
+
+/// A distance that is not 0, as a divisor.
+fn divisor(d: F26) -> i128
+    requires { d ≢ pos 0 }
+    ensures value { result ≡ d }
+    ensures bound { unsigned_abs result ≤ 2 ^ 32 }
+    ensures nonzero { result ≢ pos 0 }
+{
+    i128::from(d.0)
+}
+
+/// The distance that is to `o` as `cb` to `ob`.
+fn proportional(o: F26, cb: F26, ob: F26) -> F26
+    requires { ob ≢ pos 0 }
+    ensures { result ≡ wrapped_of (near_of (o *ℤ cb) ob) }
+{
+    F26(w32(near(product(o, cb), divisor(ob))))
+}
+
+/// A distance in the proportion of `cb` to `ob`; the distance itself if `ob` is 0.
+#[tactic(auto, unfolding(crate::specs::Interpolate::in_proportion))]
+fn in_proportion(o: F26, cb: F26, ob: F26) -> F26
+    ensures { result ≡ in_proportion o cb ob }
+{
+    if ob.0 == 0 {
+        o
+    } else {
+        proportional(o, cb, ob)
+    }
+}
+
+impl Zones {
+    /// Moves a point to the distance from reference point 1 that is in proportion.
+    #[tactic(auto, unfolding(crate::specs::Interpolate::point_in_proportion))]
+    fn move_in_proportion(&mut self, g: &GState, cb: &F26, ob: &F26, p: i32) -> u64
+        ensures value { (self.new, result) ≡ point_in_proportion g.now cb.now ob.now p self.old }
+        ensures few { result ≤ 1 }
+        ensures shapes { HasShapes self.old self.new }
+    {
+        let point = self.point(g.zp2, p);
+        let o = self.original(g, g.zp2, p, g.zp0, g.rp1);
+        let c = self.distance(g, g.zp2, p, g.zp0, g.rp1);
+        self.move_by(g, g.zp2, p, in_proportion(o, *cb, *ob).minus(c));
+        stray(&point)
+    }
+
+    /// Moves points to distances in proportion, the last of the slice first.
+    fn move_each_in_proportion(&mut self, g: &GState, cb: &F26, ob: &F26, points: &[i32]) -> u64
+        ensures value { (self.new, result) ≡ each (point_in_proportion g.now cb.now ob.now) (reverse points.now) self.old }
+        ensures few { result ≤ length points.now }
+        ensures shapes { HasShapes self.old self.new }
+    {
+        let mut strays = 0;
+        let mut left = points.len();
+        // The points from `left` on are done.
+        'points: while left > 0 {
+            left -= 1;
+            strays += self.move_in_proportion(g, cb, ob, points[left]);
+        }
+        strays
+    }
+
+    /// IP: keeps points in proportion between reference points 1 and 2.
+    #[tactic(auto, unfolding(crate::specs::Interpolate::ip_of))]
+    pub fn ip(&mut self, g: &GState, points: &[i32]) -> u64
+        ensures value { (self.new, result) ≡ ip_of g.now (reverse points.now) self.old }
+        ensures few { result ≤ length points.now + 2 }
+        ensures shapes { HasShapes self.old self.new }
+    {
+        let base = stray(&self.point(g.zp0, g.rp1)) + stray(&self.point(g.zp1, g.rp2));
+        let ob = self.original(g, g.zp1, g.rp2, g.zp0, g.rp1);
+        let cb = self.distance(g, g.zp1, g.rp2, g.zp0, g.rp1);
+        let strays = self.move_each_in_proportion(g, &cb, &ob, points);
+        base + strays
+    }
+}

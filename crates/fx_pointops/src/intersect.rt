@@ -1,0 +1,139 @@
+//! The row that puts a point where two lines cross.
+
+ghost use Rattle.std.specs.Prelude.{◌≡◌, ◌≢◌, ◌≤◌, ◌^◌, pos, ◌+ℤ◌, ◌-ℤ◌, ◌*ℤ◌, unsigned_abs};
+ghost use Rattle.fx_fixed.specs.Places.{place_sum_of};
+ghost use Rattle.fx_pointops.specs.Zones.{HasShapes};
+ghost use Rattle.fx_pointops.specs.Intersect.{cross_of, part_of, scaled_by, mean_of, middle_of, intersection_of, isect_of};
+
+use crate::zones::{Zones, cur, stray};
+use fx_fixed::{F26, Place, near, w32};
+use fx_gstate::GState;
+
+/// An exact product of two coordinates.
+fn product(a: F26, b: F26) -> i128
+    ensures value { result ≡ a *ℤ b }
+    ensures bound { unsigned_abs result ≤ 2 ^ 62 }
+{
+    i128::from(a.0) * i128::from(b.0)
+}
+
+/// The cross product of two differences of places.
+fn cross(a: &Place, b: &Place) -> i128
+    ensures value { result ≡ cross_of a.now b.now }
+    ensures bound { unsigned_abs result ≤ 2 ^ 63 }
+{
+    product(a.x, b.y) - product(a.y, b.x)
+}
+
+/// An exact product of a cross product and a coordinate.
+fn multiple(n: i128, d: F26) -> i128
+    requires { unsigned_abs n ≤ 2 ^ 63 }
+    ensures value { result ≡ n *ℤ d }
+    ensures bound { unsigned_abs result ≤ 2 ^ 94 }
+{
+    n * i128::from(d.0)
+}
+
+/// A coordinate times the fraction `n / by`.
+#[tactic(auto, unfolding(crate::specs::Intersect::part_of))]
+fn part(n: i128, d: F26, by: i128) -> F26
+    requires numerator { unsigned_abs n ≤ 2 ^ 63 }
+    requires denominator { unsigned_abs by ≤ 2 ^ 63 }
+    requires nonzero { by ≢ pos 0 }
+    ensures { result ≡ part_of n d by }
+{
+    F26(w32(near(multiple(n, d), by)))
+}
+
+/// A difference of places times the fraction `n / by`.
+fn scaled_by(n: i128, by: i128, d: &Place) -> Place
+    requires numerator { unsigned_abs n ≤ 2 ^ 63 }
+    requires denominator { unsigned_abs by ≤ 2 ^ 63 }
+    requires nonzero { by ≢ pos 0 }
+    ensures { result ≡ scaled_by n by d.now }
+{
+    Place {
+        x: part(n, d.x, by),
+        y: part(n, d.y, by),
+    }
+}
+
+/// The sum of two coordinates.
+fn sum(a: F26, b: F26) -> i64
+    ensures value { result ≡ a +ℤ b }
+    ensures bound { unsigned_abs result ≤ 2 ^ 32 }
+{
+    i64::from(a.0) + i64::from(b.0)
+}
+
+/// The sum of two sums.
+fn total(a: i64, b: i64) -> i128
+    requires a { unsigned_abs a ≤ 2 ^ 32 }
+    requires b { unsigned_abs b ≤ 2 ^ 32 }
+    ensures value { result ≡ a +ℤ b }
+    ensures bound { unsigned_abs result ≤ 2 ^ 33 }
+{
+    i128::from(a) + i128::from(b)
+}
+
+/// The mean of four coordinates.
+#[tactic(auto, unfolding(crate::specs::Intersect::mean_of))]
+fn mean(a: F26, b: F26, c: F26, d: F26) -> F26
+    ensures { result ≡ mean_of a b c d }
+{
+    F26(w32(near(total(sum(a, b), sum(c, d)), 4)))
+}
+
+/// The middle of four places.
+fn middle(a0: &Place, a1: &Place, b0: &Place, b1: &Place) -> Place
+    ensures { result ≡ middle_of a0.now a1.now b0.now b1.now }
+{
+    Place {
+        x: mean(a0.x, a1.x, b0.x, b1.x),
+        y: mean(a0.y, a1.y, b0.y, b1.y),
+    }
+}
+
+/// Where two lines cross that are not parallel.
+fn crossing(a0: &Place, da: &Place, db: &Place, e: &Place, by: i128) -> Place
+    requires bound { unsigned_abs by ≤ 2 ^ 63 }
+    requires nonzero { by ≢ pos 0 }
+    ensures { result ≡ place_sum_of a0.now (scaled_by (cross_of e.now db.now) by da.now) }
+{
+    a0.plus(scaled_by(cross(e, db), by, da))
+}
+
+/// Where two lines cross; the middle of their places if they are parallel.
+#[tactic(auto, unfolding(crate::specs::Intersect::intersection_of))]
+fn intersection(a0: &Place, a1: &Place, b0: &Place, b1: &Place) -> Place
+    ensures { result ≡ intersection_of a0.now a1.now b0.now b1.now }
+{
+    let da = a1.minus(*a0);
+    let db = b1.minus(*b0);
+    let e = b0.minus(*a0);
+    let by = cross(&da, &db);
+    if by == 0 {
+        middle(a0, a1, b0, b1)
+    } else {
+        crossing(a0, &da, &db, &e, by)
+    }
+}
+
+impl Zones {
+    /// ISECT: puts a point where two lines cross.
+    #[tactic(auto, unfolding(crate::specs::Intersect::isect_of))]
+    pub fn isect(&mut self, g: &GState, p: i32, a0: i32, a1: i32, b0: i32, b1: i32) -> u64
+        ensures value { (self.new, result) ≡ isect_of g.now p a0 a1 b0 b1 self.old }
+        ensures few { result ≤ 5 }
+        ensures shapes { HasShapes self.old self.new }
+    {
+        let point = self.point(g.zp2, p);
+        let a0 = self.point(g.zp1, a0);
+        let a1 = self.point(g.zp1, a1);
+        let b0 = self.point(g.zp0, b0);
+        let b1 = self.point(g.zp0, b1);
+        let place = intersection(&cur(&a0), &cur(&a1), &cur(&b0), &cur(&b1));
+        self.put(g.zp2, p, place);
+        stray(&point) + stray(&a0) + stray(&a1) + stray(&b0) + stray(&b1)
+    }
+}

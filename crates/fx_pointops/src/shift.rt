@@ -1,0 +1,159 @@
+//! The rows that shift points as a reference point was moved.
+
+ghost use Rattle.std.specs.Prelude.{◌≡◌, ◌+◌, ◌≤◌, length, reverse, IfSome};
+ghost use Rattle.fx_pointops.specs.Zones.{HasShapes, zone_at, on_zone};
+ghost use Rattle.fx_pointops.specs.Shift.{reference_zone, reference_point, reference_stray, reference_shift, excepted, shp_of, range_shifted, contour_at, stray_contour, contour_shifted, shc_of, count_without_phantoms, shz_of};
+
+use crate::zones::{Zones, cur, index_of, is_same_zone, org, stray};
+use fx_fixed::{Axis, Place};
+use fx_gstate::{GState, ZonePointer};
+
+/// The zone of the reference point: of point 1 or of point 2.
+fn reference_zone(g: &GState, one: bool) -> ZonePointer
+    ensures { result ≡ reference_zone g.now one }
+{
+    if one { g.zp0 } else { g.zp1 }
+}
+
+/// The number of the reference point.
+fn reference_point(g: &GState, one: bool) -> i32
+    ensures { result ≡ reference_point g.now one }
+{
+    if one { g.rp1 } else { g.rp2 }
+}
+
+/// The reference point's number, if it is in this zone.
+fn excepted(g: &GState, one: bool, zone: ZonePointer) -> Option<usize>
+    ensures { result ≡ excepted g.now one zone }
+{
+    if is_same_zone(reference_zone(g, one), zone) {
+        index_of(reference_point(g, one))
+    } else {
+        None
+    }
+}
+
+/// 1 if there is no contour, which is a stray, and 0 if there is one.
+fn stray_contour(contour: &Option<(usize, usize)>) -> u64
+    ensures value { result ≡ stray_contour contour.now }
+    ensures few { result ≤ 1 }
+{
+    match contour {
+        Some(_) => 0,
+        None => 1,
+    }
+}
+
+impl Zones {
+    /// 1 if the reference point is a stray, and 0 if it is not.
+    fn reference_stray(&self, g: &GState, one: bool) -> u64
+        ensures value { result ≡ reference_stray g.now one self.now }
+        ensures few { result ≤ 1 }
+    {
+        let zone = reference_zone(g, one);
+        let p = reference_point(g, one);
+        stray(&self.point(zone, p))
+    }
+
+    /// The shift that moves a point as far as the reference point was moved.
+    #[tactic(auto, unfolding(crate::specs::Shift::reference_shift))]
+    fn reference_shift(&self, g: &GState, one: bool) -> Place
+        ensures { result ≡ reference_shift g.now one self.now }
+    {
+        let zone = reference_zone(g, one);
+        let p = reference_point(g, one);
+        let point = self.point(zone, p);
+        g.shift_place(g.project_place(cur(&point).minus(org(&point))))
+    }
+
+    /// SHP: shifts points.
+    #[tactic(auto, unfolding(crate::specs::Shift::shp_of))]
+    pub fn shp(&mut self, g: &GState, one: bool, points: &[i32]) -> u64
+        ensures value { (self.new, result) ≡ shp_of g.now one (reverse points.now) self.old }
+        ensures few { result ≤ length points.now + 1 }
+        ensures shapes { HasShapes self.old self.new }
+    {
+        let base = self.reference_stray(g, one);
+        let by = self.reference_shift(g, one);
+        let strays = self.shift_each(g, &by, points);
+        base + strays
+    }
+
+    /// Shifts the points of a range, without one of them, and touches them along the axes that are given.
+    fn shift_range(
+        &mut self,
+        zone: ZonePointer,
+        first: usize,
+        past: usize,
+        except: Option<usize>,
+        by: Place,
+        x: bool,
+        y: bool,
+    )
+        requires { past ≤ length (zone_at zone self.old).points }
+        ensures value { self.new ≡ on_zone (range_shifted by x y except first past) zone self.old }
+        ensures shapes { HasShapes self.old self.new }
+    {
+        match zone {
+            ZonePointer::Twilight => self.twilight.shift_range(first, past, except, by, x, y),
+            ZonePointer::Glyph => self.glyph.shift_range(first, past, except, by, x, y),
+        }
+    }
+
+    /// The number of a contour's first point, and the one after its last.
+    fn contour(&self, zone: ZonePointer, k: i32) -> Option<(usize, usize)>
+        ensures value { result ≡ contour_at zone k self.now }
+        ensures within { IfSome result (λ c. c.1 ≤ length (zone_at zone self.now).points) }
+    {
+        let index = index_of(k)?;
+        match zone {
+            ZonePointer::Twilight => self.twilight.contour(index),
+            ZonePointer::Glyph => self.glyph.contour(index),
+        }
+    }
+
+    /// SHC: shifts the points of a contour, but the reference point.
+    #[tactic(auto, unfolding(crate::specs::Shift::shc_of))]
+    pub fn shc(&mut self, g: &GState, one: bool, k: i32) -> u64
+        ensures value { (self.new, result) ≡ shc_of g.now one k self.old }
+        ensures few { result ≤ 2 }
+        ensures shapes { HasShapes self.old self.new }
+    {
+        let base = self.reference_stray(g, one);
+        let by = self.reference_shift(g, one);
+        let contour = self.contour(g.zp2, k);
+        if let Some((first, past)) = contour {
+            let except = excepted(g, one, g.zp2);
+            let x = g.touches(Axis::X);
+            let y = g.touches(Axis::Y);
+            self.shift_range(g.zp2, first, past, except, by, x, y);
+        }
+        base + stray_contour(&contour)
+    }
+
+    /// The number of points of a zone without a glyph's four phantom points.
+    fn count_without_phantoms(&self, zone: ZonePointer) -> usize
+        ensures value { result ≡ count_without_phantoms zone self.now }
+        ensures within { result ≤ length (zone_at zone self.now).points }
+    {
+        match zone {
+            ZonePointer::Twilight => self.twilight.len(),
+            ZonePointer::Glyph => self.glyph.len().saturating_sub(4),
+        }
+    }
+
+    /// SHZ: shifts the points of a zone, but the reference point and the phantom points, and touches none.
+    #[tactic(auto, unfolding(crate::specs::Shift::shz_of))]
+    pub fn shz(&mut self, g: &GState, one: bool, zone: ZonePointer) -> u64
+        ensures value { (self.new, result) ≡ shz_of g.now one zone self.old }
+        ensures few { result ≤ 1 }
+        ensures shapes { HasShapes self.old self.new }
+    {
+        let base = self.reference_stray(g, one);
+        let by = self.reference_shift(g, one);
+        let past = self.count_without_phantoms(zone);
+        let except = excepted(g, one, zone);
+        self.shift_range(zone, 0, past, except, by, false, false);
+        base
+    }
+}
