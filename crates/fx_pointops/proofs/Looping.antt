@@ -2,7 +2,7 @@
 -- It serves ALIGNRP, IP, SHP, SHPIX and FLIPPT.
 use Rattle.std.proofs.Common.{◌≡◌, refl, sym, ap, ◌∙◌, arith, ℕ, ℤ, pos, suc, ◌+◌, ◌-◌, ◌<◌, ◌≤◌, List, [], ◌∷◌, length, get_or, take, reverse, add_assoc, add-zero, zero-add}
 use Rattle.std.proofs.Math.Seq.{take-suc}
-use Rattle.std.proofs.lemmas.List.{reverse-append, take_all}
+use Rattle.std.proofs.lemmas.List.{reverse-append, take_all, length-reverse, length-take-le}
 use Rattle.fx_pointops.specs.declared.zones.Zones.{Zones}
 use Rattle.fx_pointops.specs.Zones.{Outcome, with_strays}
 use Rattle.fx_pointops.specs.Loops.{each, each_pair}
@@ -40,3 +40,37 @@ unfolding each
 loop_done steps xs z left n o h a =
     let e : left ≡ 0 = omega (arith, h) in
     sym (a ∙ ap (λ k. with_strays n (each steps (reverse (take k xs)) z)) e ∙ ap (λ k. (z, k)) (add-zero n))
+
+-- ---- pairs
+
+pub pairs_begun : (steps : ℤ → ℤ → Zones → Outcome) (xs : List ℤ) (z : Zones) → each_pair steps (reverse xs) z ≡ with_strays 0 (each_pair steps (reverse (take (length xs) xs)) z)
+pairs_begun steps xs z = ap (λ l. each_pair steps (reverse l) z) (sym (take_all (length xs) xs (omega arith))) ∙ ap (λ n. ((each_pair steps (reverse (take (length xs) xs)) z).0, n)) (sym (zero-add (each_pair steps (reverse (take (length xs) xs)) z).1))
+
+one_pair : (steps : ℤ → ℤ → Zones → Outcome) (xs : List ℤ) (z y : Zones) (left m : ℕ) (p a : ℤ) → 1 < left → left ≤ length xs → p ≡ get_or xs (left - 2 + 1) (pos 0) → a ≡ get_or xs (left - 2) (pos 0) → (y, m) ≡ steps p a z
+    → each_pair steps (reverse (take left xs)) z ≡ with_strays m (each_pair steps (reverse (take (left - 2) xs)) y)
+unfolding each_pair
+one_pair steps xs z y left m p a s w g h e =
+    let k : left - 2 < length xs = omega (arith, s, w) in
+    let j : left - 2 + 1 < length xs = omega (arith, s, w) in
+    let l : left ≡ suc (left - 2 + 1) = omega (arith, s) in
+    let r : left - 2 + 1 ≡ suc (left - 2) = omega arith in
+    ap (λ n. each_pair steps (reverse (take n xs)) z) l
+    ∙ ap (λ l. each_pair steps l z) (top_first xs (left - 2 + 1) (pos 0) j ∙ (λ i. (sym g) i ∷ reverse (take (r i) xs))
+      ∙ ap (λ l. p ∷ l) (top_first xs (left - 2) (pos 0) k ∙ ap (λ q. q ∷ reverse (take (left - 2) xs)) (sym h)))
+    ∙ ap (λ (o : Outcome). with_strays o.1 (each_pair steps (reverse (take (left - 2) xs)) o.0)) (sym e)
+
+pub pairs_next : (steps : ℤ → ℤ → Zones → Outcome) (xs : List ℤ) (z y : Zones) (left m n : ℕ) (p a : ℤ) (o : Outcome) → 1 < left → left ≤ length xs → p ≡ get_or xs (left - 2 + 1) (pos 0) → a ≡ get_or xs (left - 2) (pos 0) → (y, m) ≡ steps p a z → o ≡ with_strays n (each_pair steps (reverse (take left xs)) z)
+    → o ≡ with_strays (n + m) (each_pair steps (reverse (take (left - 2) xs)) y)
+pairs_next steps xs z y left m n p a o s w g h e i =
+    i ∙ ap (with_strays n) (one_pair steps xs z y left m p a s w g h e) ∙ added n m (each_pair steps (reverse (take (left - 2) xs)) y)
+
+few_left : (steps : ℤ → ℤ → Zones → Outcome) (xs : List ℤ) (z : Zones) → length xs ≤ 1 → each_pair steps xs z ≡ (z, 0)
+unfolding each_pair
+few_left steps [] z h = refl
+few_left steps (x ∷ []) z h = refl
+few_left steps (x ∷ y ∷ xs) z h = absurd (omega (arith, h))
+
+pub pairs_done : (steps : ℤ → ℤ → Zones → Outcome) (xs : List ℤ) (z : Zones) (left n : ℕ) (o : Outcome) → left ≤ 1 → left ≤ length xs → o ≡ with_strays n (each_pair steps (reverse (take left xs)) z) → (z, n) ≡ o
+pairs_done steps xs z left n o h w a =
+    let long : length (reverse (take left xs)) ≤ 1 = omega (arith, length-reverse (take left xs), length-take-le left xs w, h) in
+    sym (a ∙ ap (with_strays n) (few_left steps (reverse (take left xs)) z long) ∙ ap (λ k. (z, k)) (add-zero n))

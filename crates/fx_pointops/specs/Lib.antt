@@ -8,3 +8,6 @@ pub mod Indirect
 pub mod Shift
 pub mod Interpolate
 pub mod Intersect
+pub mod Flip
+pub mod Delta
+pub mod Iup

@@ -7,11 +7,14 @@
 //! are this project's own choice.
 #![tactic(auto)]
 
+mod delta;
 mod direct;
 mod distances;
+mod flip;
 mod indirect;
 mod interpolate;
 mod intersect;
+mod iup;
 mod measure;
 mod shift;
 mod shift_point;

@@ -1,0 +1,24 @@
+-- The rows that move points at some sizes.
+-- Apple TrueType Reference Manual, DELTAP1, DELTAP2, DELTAP3. It gives the zones, and the strays.
+use Rattle.std.specs.Prelude.{ℕ, ℤ, pos, if◌then◌else◌, List}
+use Rattle.std.specs.Ordering.{int_eq}
+use Rattle.fx_gstate.specs.declared.deltas.Delta.{Delta}
+use Rattle.fx_gstate.specs.declared.deltas.DeltaForm.{DeltaForm}
+use Rattle.fx_gstate.specs.declared.state.GState.{GState}
+use Rattle.fx_gstate.specs.Deltas.{delta_of}
+use Rattle.fx_pointops.specs.declared.zones.Zones.{Zones}
+use Rattle.fx_pointops.specs.Zones.{Outcome}
+use Rattle.fx_pointops.specs.ShiftPoint.{moved_by}
+use Rattle.fx_pointops.specs.Measure.{stray_at}
+use Rattle.fx_pointops.specs.Loops.{each_pair}
+
+-- 5D DELTAP1, 71 DELTAP2, 72 DELTAP3  .. argument p n ->
+-- Each p, of zone 0, whose argument acts at this size moves by its amount; the others are not looked at.
+abbrev pub point_moved_at : GState → ℕ → Delta → ℤ → Zones → Outcome
+point_moved_at g ppem d p z = if int_eq d.ppem (pos ppem) then (moved_by g d.amount g.zp0 p z, stray_at g.zp0 p z) else (z, 0)
+
+unfoldable pub point_delta : GState → DeltaForm → ℕ → ℤ → ℤ → Zones → Outcome
+point_delta g form ppem p argument z = point_moved_at g ppem (delta_of form g.delta_base g.delta_shift argument) p z
+
+unfoldable pub deltap_of : GState → DeltaForm → ℕ → List ℤ → Zones → Outcome
+deltap_of g form ppem pairs z = each_pair (point_delta g form ppem) pairs z

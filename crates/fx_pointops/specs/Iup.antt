@@ -1,0 +1,10 @@
+-- The row that interpolates untouched points.
+-- Apple TrueType Reference Manual, IUP.
+use Rattle.fx_fixed.specs.declared.places.Axis.{Axis}
+use Rattle.fx_zone.specs.Interpolation.{figure_interpolated}
+use Rattle.fx_pointops.specs.declared.zones.Zones.{Zones}
+
+-- 30 IUP y, 31 IUP x  ->
+-- The untouched points of the glyph zone are interpolated along an axis.
+unfoldable pub iup_of : Axis → Zones → Zones
+iup_of axis z = record z { glyph = figure_interpolated axis z.glyph }

@@ -1,0 +1,55 @@
+//! The rows that move points at some sizes.
+
+ghost use Rattle.std.specs.Prelude.{◌≡◌, ◌≤◌, length, reverse};
+ghost use Rattle.fx_pointops.specs.Zones.{HasShapes};
+ghost use Rattle.fx_pointops.specs.Loops.{each_pair};
+ghost use Rattle.fx_pointops.specs.Delta.{point_delta, deltap_of};
+
+use crate::zones::{Zones, stray};
+use fx_fixed::Ppem;
+use fx_gstate::{DeltaForm, GState};
+
+impl Zones {
+    /// Moves a point if its argument acts at this size.
+    #[tactic(auto, unfolding(crate::specs::Delta::point_delta))]
+    fn move_at_size(&mut self, g: &GState, form: DeltaForm, ppem: &Ppem, p: i32, argument: i32) -> u64
+        ensures value { (self.new, result) ≡ point_delta g.now form ppem.now p argument self.old }
+        ensures few { result ≤ 1 }
+        ensures shapes { HasShapes self.old self.new }
+    {
+        let delta = g.delta(form, argument);
+        let amount = delta.amount;
+        if !delta.acts_at(*ppem) {
+            return 0;
+        }
+        let point = self.point(g.zp0, p);
+        self.move_by(g, g.zp0, p, amount);
+        stray(&point)
+    }
+
+    /// Moves the points of pairs, the last of the slice first.
+    fn move_each_at_size(&mut self, g: &GState, form: DeltaForm, ppem: &Ppem, pairs: &[i32]) -> u64
+        ensures value { (self.new, result) ≡ each_pair (point_delta g.now form ppem.now) (reverse pairs.now) self.old }
+        ensures few { result ≤ length pairs.now }
+        ensures shapes { HasShapes self.old self.new }
+    {
+        let mut strays = 0;
+        let mut left = pairs.len();
+        // The pairs from `left` on are done.
+        'pairs: while left > 1 {
+            left -= 2;
+            strays += self.move_at_size(g, form, ppem, pairs[left + 1], pairs[left]);
+        }
+        strays
+    }
+
+    /// DELTAP1 to DELTAP3: moves the points of pairs at this size. A pair is an argument and, after it, its point.
+    #[tactic(auto, unfolding(crate::specs::Delta::deltap_of))]
+    pub fn deltap(&mut self, g: &GState, form: DeltaForm, ppem: Ppem, pairs: &[i32]) -> u64
+        ensures value { (self.new, result) ≡ deltap_of g.now form ppem (reverse pairs.now) self.old }
+        ensures few { result ≤ length pairs.now }
+        ensures shapes { HasShapes self.old self.new }
+    {
+        self.move_each_at_size(g, form, &ppem, pairs)
+    }
+}

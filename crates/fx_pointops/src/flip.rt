@@ -1,0 +1,92 @@
+//! The rows that turn points on the curve into points off it, and back.
+
+ghost use Rattle.std.specs.Prelude.{◌≡◌, ◌+◌, ◌≤◌, length, reverse};
+ghost use Rattle.fx_zone.specs.Figures.{HasShape};
+ghost use Rattle.fx_pointops.specs.Zones.{HasShapes, index_of};
+ghost use Rattle.fx_pointops.specs.Loops.{each};
+ghost use Rattle.fx_pointops.specs.Flip.{point_flipped, flippt_of, run_curved, range_curved, fliprg_of};
+
+use crate::zones::{Zones, index_of, stray};
+use fx_gstate::{GState, ZonePointer};
+use fx_zone::Zone;
+
+/// Makes the points of a zone from `low` to `high` ones on the curve, or off it, if both are inside.
+fn curve_run(zone: &mut Zone, on: bool, low: usize, high: usize)
+    ensures value { zone.new ≡ run_curved on low high zone.old }
+    ensures shape { HasShape zone.old zone.new }
+{
+    let count = zone.len();
+    if low < count && high < count {
+        zone.curve_range(low, high + 1, on);
+    }
+}
+
+impl Zones {
+    /// Flips a point: on the curve, or off it.
+    #[tactic(auto, unfolding(crate::specs::Flip::point_flipped))]
+    fn flip_point(&mut self, g: &GState, p: i32) -> u64
+        ensures value { (self.new, result) ≡ point_flipped g.now p self.old }
+        ensures few { result ≤ 1 }
+        ensures shapes { HasShapes self.old self.new }
+    {
+        let point = self.point(g.zp0, p);
+        self.flip(g.zp0, p);
+        stray(&point)
+    }
+
+    /// Flips points, the last of the slice first.
+    fn flip_each(&mut self, g: &GState, points: &[i32]) -> u64
+        ensures value { (self.new, result) ≡ each (point_flipped g.now) (reverse points.now) self.old }
+        ensures few { result ≤ length points.now }
+        ensures shapes { HasShapes self.old self.new }
+    {
+        let mut strays = 0;
+        let mut left = points.len();
+        // The points from `left` on are done.
+        'points: while left > 0 {
+            left -= 1;
+            strays += self.flip_point(g, points[left]);
+        }
+        strays
+    }
+
+    /// FLIPPT: flips points.
+    #[tactic(auto, unfolding(crate::specs::Flip::flippt_of))]
+    pub fn flippt(&mut self, g: &GState, points: &[i32]) -> u64
+        ensures value { (self.new, result) ≡ flippt_of g.now (reverse points.now) self.old }
+        ensures few { result ≤ length points.now }
+        ensures shapes { HasShapes self.old self.new }
+    {
+        self.flip_each(g, points)
+    }
+
+    /// Makes the points of a zone from `low` to `high` ones on the curve, or off it, if both are inside.
+    fn curve_range(&mut self, on: bool, zone: ZonePointer, low: i32, high: i32)
+        ensures value { self.new ≡ range_curved on zone (index_of low) (index_of high) self.old }
+        ensures shapes { HasShapes self.old self.new }
+    {
+        let Some(low) = index_of(low) else {
+            return;
+        };
+        let Some(high) = index_of(high) else {
+            return;
+        };
+        match zone {
+            ZonePointer::Twilight => curve_run(&mut self.twilight, on, low, high),
+            ZonePointer::Glyph => curve_run(&mut self.glyph, on, low, high),
+        }
+    }
+
+    /// FLIPRGON and FLIPRGOFF: makes the points from `low` to `high` ones on the curve, or off it.
+    #[tactic(auto, unfolding(crate::specs::Flip::fliprg_of))]
+    pub fn fliprg(&mut self, g: &GState, on: bool, low: i32, high: i32) -> u64
+        ensures value { (self.new, result) ≡ fliprg_of g.now on low high self.old }
+        ensures few { result ≤ 2 }
+        ensures shapes { HasShapes self.old self.new }
+    {
+        let first = self.point(g.zp0, low);
+        let last = self.point(g.zp0, high);
+        self.curve_range(on, g.zp0, low, high);
+        stray(&first) + stray(&last)
+    }
+}
