@@ -1,0 +1,6 @@
+pub mod Steps
+pub mod Reading
+pub mod Looping
+pub mod Keeping
+pub mod KeptShapes
+pub mod Starting

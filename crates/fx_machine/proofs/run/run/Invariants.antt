@@ -1,0 +1,21 @@
+use Rattle.std.proofs.Common.{◌≡◌, ◌-◌, ◌≤◌}
+use Rattle.fx_machine.specs.Programs.{texts}
+use Rattle.fx_machine.specs.Machine.{answer_from, answer_of}
+use Rattle.fx_machine.specs.Table.{row_at}
+use Rattle.fx_machine.specs.Configs.{config_of}
+use Rattle.fx_pointops.specs.Zones.{HasShapes}
+use Rattle.fx_machine.specs.Shapes.{HasSizes}
+use Rattle.fx_machine.proofs.run.run.Given as goal
+
+-- the answer is what is answered from here
+abbrev pub invariant-steps : goal.invariant-steps
+invariant-steps l = record {
+  answer : answer_of (row_at (texts l.programs)) l.limit l.start l.fn.state ≡ answer_from (row_at (texts l.programs)) (l.limit - l.steps) l.steps (config_of l.cursor l.calls l.state);
+  code : l.code ≡ texts l.programs l.cursor.program;
+  counted : l.steps ≤ l.limit;
+  shapes : HasShapes l.fn.state.zones l.state.zones;
+  sizes : HasSizes l.fn.state l.state;
+}
+
+abbrev pub decreases-steps : goal.decreases-steps
+decreases-steps l = l.limit - l.steps

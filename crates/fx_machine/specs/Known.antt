@@ -1,0 +1,113 @@
+-- What a machine of a font at a size knows, and what it answers for a glyph.
+-- Apple TrueType Reference Manual, "Instructing Fonts": the font program, the control value program, glyph programs.
+use Rattle.std.specs.Prelude.{◌≡◌, ℕ, ℤ, ◌+◌, max, pos, List, [], codes, None, Result, Ok, Err, true, false, replicate}
+use Rattle.fx_fixed.specs.Chain.{◌>>=◌, map_fault}
+use Rattle.fx_sfnt.specs.Tables.{Face, table_or_empty}
+use Rattle.fx_zone.specs.Figures.{Figure, empty_figure}
+use Rattle.fx_fixed.specs.Places.{origin}
+use Rattle.fx_zone.specs.Points.{resting}
+use Rattle.fx_scale.specs.declared.scale.Scale.{Scale}
+use Rattle.fx_scale.specs.Controls.{control_values}
+use Rattle.fx_gstate.specs.States.{default_state}
+use Rattle.fx_stackops.specs.Store.{StoreView, room_of}
+use Rattle.fx_machine.specs.Definitions.{Defined}
+use Rattle.fx_machine.specs.declared.program.Program.{Program}
+use Rattle.fx_machine.specs.declared.program.Program.TheVariants.{Font, Prep, Glyph}
+use Rattle.fx_machine.specs.declared.halt.Halt.{Halt}
+use Rattle.fx_machine.specs.declared.halt.MachineFault.{MachineFault}
+use Rattle.fx_machine.specs.declared.halt.MachineFault.TheVariants.{Halted, OutOfMemory}
+use Rattle.fx_machine.specs.declared.ran.Ran.{Ran}
+use Rattle.fx_machine.specs.declared.state.State.{State}
+use Rattle.fx_machine.specs.declared.prepared.Prepared.{Prepared}
+use Rattle.fx_machine.specs.Machine.{answer_of}
+use Rattle.fx_machine.specs.Table.{row_at}
+use Rattle.fx_machine.specs.Configs.{answered}
+use Rattle.fx_zone.specs.Figures.{HasShape}
+use Rattle.fx_machine.specs.Prepared.{glyph_answer}
+
+-- the most instructions that a program may execute
+abbrev pub STEP_LIMIT : ℕ
+STEP_LIMIT = 250000
+
+-- the font, its scale at a size, what prep left, and what fpgm and prep used up
+pub record Known : Type 0 where
+  pub face : Face
+  pub scale : Scale
+  pub prepared : Prepared
+  pub prelude : Ran
+
+-- the bytes of a font's programs, and of a glyph's
+abbrev pub texts_of : Face → List ℕ → Program → List ℕ
+texts_of face code Font = table_or_empty face.file (codes "fpgm")
+texts_of face code Prep = table_or_empty face.file (codes "prep")
+texts_of face code Glyph = code
+
+-- ---- what the programs of a font leave
+
+-- the control values: each entry of `cvt ` scaled
+abbrev pub controls_of : Face → Scale → List ℤ
+controls_of face scale = control_values scale (table_or_empty face.file (codes "cvt "))
+
+-- an empty stack, storage cells of 0, the control values
+abbrev pub first_store : Face → Scale → StoreView
+first_store face scale = record { stack = []; room = room_of face.maxp.stack; storage = replicate face.maxp.storage (pos 0); cvt = controls_of face scale; strays = 0 }
+
+-- the twilight zone: points at (0, 0), without contours
+abbrev pub twilight_of : ℕ → Figure
+twilight_of n = record { points = replicate n (resting origin false); ends = [] }
+
+-- no function and no opcode is defined
+abbrev pub nothing_defined : Face → Defined
+nothing_defined face = record { functions = replicate (max face.maxp.functions 64) None; opcodes = replicate 256 None }
+
+-- the state that fpgm begins with
+abbrev pub first_state : Face → Scale → State
+first_state face scale = record {
+  store = first_store face scale;
+  zones = record { twilight = twilight_of face.maxp.twilight_points; glyph = empty_figure };
+  graphics = default_state;
+  definitions = nothing_defined face;
+  flags = record { no_programs = false; default_state = false };
+  scale = scale;
+  preparing = false;
+}
+
+-- the state that prep begins with, after fpgm
+abbrev pub second_state : State → State
+second_state s = record s { store = record s.store { stack = [] }; graphics = default_state; preparing = true }
+
+-- what prep left
+abbrev pub prepared_from : State → Prepared
+prepared_from s = record { storage = s.store.storage; cvt = s.store.cvt; twilight = s.zones.twilight; graphics = s.graphics; definitions = s.definitions; flags = s.flags }
+
+-- fpgm runs from a state, then prep: what they use up, and the state then
+unfoldable pub prelude_of : (Program → List ℕ) → State → Result (Ran × State) Halt
+prelude_of texts s = do
+  first ← answered texts Font (answer_of (row_at texts) STEP_LIMIT Font s)
+  second ← answered texts Prep (answer_of (row_at texts) STEP_LIMIT Prep (second_state first.1))
+  Ok (record { steps = first.0 + second.0; strays = second.1.store.strays }, second.1)
+
+-- the machine of a font at a scale: fpgm runs, then prep; or the first halt
+unfoldable pub machine_of : Face → Scale → Result Known MachineFault
+machine_of face scale = do
+  ran ← map_fault Halted (prelude_of (texts_of face []) (first_state face scale))
+  Ok (record { face = face; scale = scale; prepared = prepared_from ran.1; prelude = ran.0 })
+
+-- what code answers, with the state that it left
+abbrev pub with_state : Result Ran Halt → State → Result (Ran × State) Halt
+with_state (Ok ran) s = Ok (ran, s)
+with_state (Err halt) s = Err halt
+
+-- a fault that code answers is the one that is due, or out of memory
+abbrev pub Fails : {Y : Type 0} → MachineFault → Result Y MachineFault → Type 0
+Fails OutOfMemory due = Unit {0}
+Fails fault due = due ≡ Err fault
+
+-- ---- what the program of a glyph answers on its points
+
+unfoldable pub glyph_ran : Known → List ℕ → Figure → Result (Ran × Figure) Halt
+glyph_ran known code glyph = glyph_answer (texts_of known.face code) known.prepared known.scale (room_of known.face.maxp.stack) STEP_LIMIT glyph
+
+-- it keeps the number of points and the contours
+abbrev pub GlyphsKeepShape : Type 0
+GlyphsKeepShape = (known : Known) (code : List ℕ) (glyph : Figure) (r : Ran × Figure) → glyph_ran known code glyph ≡ Ok r → HasShape glyph r.1

@@ -1,0 +1,15 @@
+pub mod Effects
+pub mod Runs
+pub mod Machine
+pub mod Causes
+pub mod Definitions
+pub mod Programs
+pub mod Actions
+pub mod Flow
+pub mod StateRows
+pub mod PointRows
+pub mod Table
+pub mod Configs
+pub mod Shapes
+pub mod Prepared
+pub mod Known

@@ -1,0 +1,190 @@
+-- The rows that measure and move points, with their operands and the reference points that they set. All continue at the next address.
+-- Each comment has the opcode, the mnemonic and what becomes of the stack, whose top is written last; what the row does to the points
+-- is said in fx_pointops.
+-- Apple TrueType Reference Manual, "Instruction set".
+use Rattle.std.specs.Prelude.{ℕ, ◌*◌, ℤ, pos, negsuc, int_lt, Bool, unsigned_abs, if◌then◌else◌, List, reverse, drop, Result, Ok}
+use Rattle.fx_fixed.specs.Chain.{◌>>=◌, refuse, map_fault}
+use Rattle.fx_fixed.specs.declared.places.Axis.{Axis}
+use Rattle.fx_gstate.specs.declared.deltas.DeltaForm.{DeltaForm}
+use Rattle.fx_gstate.specs.declared.state.GState.{GState}
+use Rattle.fx_gstate.specs.States.{zone_of}
+use Rattle.fx_stackops.specs.Store.{StoreView, one, two, three, top_numbers, pushed, with_stack, with_strays}
+use Rattle.fx_stackops.specs.Table.{read_of, stray_of}
+use Rattle.fx_pointops.specs.declared.distances.Relative.{Relative}
+use Rattle.fx_pointops.specs.declared.zones.Zones.{Zones}
+use Rattle.fx_pointops.specs.Zones.{Outcome}
+use Rattle.fx_pointops.specs.Measure.{gc_of, md_of}
+use Rattle.fx_pointops.specs.Direct.{utp_of, mdap_of, msirp_of, alignrp_of, alignpts_of, scfs_of, shpix_of, mdrp_of}
+use Rattle.fx_pointops.specs.Indirect.{miap_of, mirp_of}
+use Rattle.fx_pointops.specs.Shift.{shp_of, shc_of, shz_of}
+use Rattle.fx_pointops.specs.Interpolate.{ip_of}
+use Rattle.fx_pointops.specs.Intersect.{isect_of}
+use Rattle.fx_pointops.specs.Flip.{flippt_of, fliprg_of}
+use Rattle.fx_pointops.specs.Delta.{deltap_of}
+use Rattle.fx_pointops.specs.Iup.{iup_of}
+use Rattle.fx_machine.specs.declared.halt.Cause.{Cause}
+use Rattle.fx_machine.specs.declared.halt.Cause.TheVariants.{BadArgument}
+use Rattle.fx_machine.specs.declared.state.State.{State}
+use Rattle.fx_machine.specs.Causes.{of_stack, of_state}
+
+-- ---- words
+
+-- the points that a row leaves, its strays, and what is left of the stack
+abbrev pub with_points : Outcome → StoreView → State → State
+with_points r t s = record s { store = with_strays r.1 t; zones = r.0 }
+
+-- rows of one operand, and of two
+abbrev pub points_by_one : (GState → ℤ → Zones → Outcome) → State → Result State Cause
+points_by_one row s = do
+  x ← map_fault of_stack (one s.store)
+  Ok (with_points (row s.graphics x.0 s.zones) x.1 s)
+
+abbrev pub points_by_two : (GState → ℤ → ℤ → Zones → Outcome) → State → Result State Cause
+points_by_two row s = do
+  x ← map_fault of_stack (two s.store)
+  Ok (with_points (row s.graphics x.0 x.1 s.zones) x.2 s)
+
+-- a loop row takes as many points as loop says, the top of the stack first, and sets loop to 1
+abbrev pub after_loop : Outcome → ℕ → StoreView → State → State
+after_loop r n t s = record s { store = with_strays r.1 (with_stack (drop n t.stack) t); zones = r.0; graphics = record s.graphics { loop_count = 1 } }
+
+abbrev pub loop_on : (GState → List ℤ → Zones → Outcome) → StoreView → State → Result State Cause
+loop_on row t s = do
+  points ← map_fault of_stack (top_numbers s.graphics.loop_count t)
+  Ok (after_loop (row s.graphics (reverse points) s.zones) s.graphics.loop_count t s)
+
+-- a control value, and whether its number is a stray
+abbrev pub control_at : StoreView → ℤ → ℤ
+control_at t n = read_of t.cvt n
+
+-- ---- 0 to 2
+
+-- 0F ISECT  p a0 a1 b0 b1 ->
+unfoldable pub isect_row : State → Result State Cause
+isect_row s = do
+  x ← map_fault of_stack (three s.store)
+  y ← map_fault of_stack (two x.3)
+  Ok (with_points (isect_of s.graphics y.0 y.1 x.0 x.1 x.2 s.zones) y.2 s)
+
+-- 27 ALIGNPTS  p q ->
+unfoldable pub alignpts_row : State → Result State Cause
+alignpts_row = points_by_two alignpts_of
+
+-- 29 UTP  p ->
+unfoldable pub utp_row : State → Result State Cause
+utp_row = points_by_one utp_of
+
+-- 2E-2F MDAP  p ->; rp0 and rp1 become p
+unfoldable pub mdap_row : Bool → State → Result State Cause
+mdap_row rounds s = do
+  x ← map_fault of_stack (one s.store)
+  Ok (with_points (mdap_of s.graphics rounds x.0 s.zones) x.1 (record s { graphics = record s.graphics { rp0 = x.0; rp1 = x.0 } }))
+
+-- ---- 3
+
+-- 30 IUP y, 31 IUP x
+unfoldable pub iup_row : Axis → State → Result State Cause
+iup_row axis s = Ok (record s { zones = iup_of axis s.zones })
+
+-- 32-33 SHP  .. p ->, a loop
+unfoldable pub shp_row : Bool → State → Result State Cause
+shp_row one s = loop_on (λ g points z. shp_of g one points z) s.store s
+
+-- 34-35 SHC  k ->
+unfoldable pub shc_row : Bool → State → Result State Cause
+shc_row one = points_by_one (λ g k z. shc_of g one k z)
+
+-- 36-37 SHZ  z ->
+unfoldable pub shz_row : Bool → State → Result State Cause
+shz_row first s = do
+  x ← map_fault of_stack (one s.store)
+  zone ← map_fault of_state (zone_of x.0)
+  Ok (with_points (shz_of s.graphics first zone s.zones) x.1 s)
+
+-- 38 SHPIX  .. p a ->, a loop
+unfoldable pub shpix_row : State → Result State Cause
+shpix_row s = do
+  x ← map_fault of_stack (one s.store)
+  loop_on (λ g points z. shpix_of g points x.0 z) x.1 s
+
+-- 39 IP  .. p ->, a loop
+unfoldable pub ip_row : State → Result State Cause
+ip_row s = loop_on ip_of s.store s
+
+-- 3A-3B MSIRP  p d ->; rp1 becomes rp0, rp2 becomes p, and with 1 rp0 becomes p
+unfoldable pub msirp_row : Bool → State → Result State Cause
+msirp_row sets s = do
+  x ← map_fault of_stack (two s.store)
+  Ok (with_points (msirp_of s.graphics x.0 x.1 s.zones) x.2
+      (record s { graphics = record s.graphics { rp0 = if sets then x.0 else s.graphics.rp0; rp1 = s.graphics.rp0; rp2 = x.0 } }))
+
+-- 3C ALIGNRP  .. p ->, a loop
+unfoldable pub alignrp_row : State → Result State Cause
+alignrp_row s = loop_on alignrp_of s.store s
+
+-- 3E-3F MIAP  p n ->; rp0 and rp1 become p
+unfoldable pub miap_row : Bool → State → Result State Cause
+miap_row rounds s = do
+  x ← map_fault of_stack (two s.store)
+  Ok (with_points (miap_of s.graphics rounds x.0 (read_of x.2.cvt x.1) s.zones) (with_strays (stray_of x.2.cvt x.1) x.2)
+      (record s { graphics = record s.graphics { rp0 = x.0; rp1 = x.0 } }))
+
+-- ---- 4, 5, 7
+
+-- 46-47 GC  p -> v
+unfoldable pub gc_row : Bool → State → Result State Cause
+gc_row original s = do
+  x ← map_fault of_stack (one s.store)
+  t ← map_fault of_stack (pushed (gc_of s.graphics original x.0 s.zones).0 (with_strays (gc_of s.graphics original x.0 s.zones).1 x.1))
+  Ok (record s { store = t })
+
+-- 48 SCFS  p v ->
+unfoldable pub scfs_row : State → Result State Cause
+scfs_row = points_by_two scfs_of
+
+-- 49-4A MD  p q -> v
+unfoldable pub md_row : Bool → State → Result State Cause
+md_row original s = do
+  x ← map_fault of_stack (two s.store)
+  t ← map_fault of_stack (pushed (md_of s.graphics original x.0 x.1 s.zones).0 (with_strays (md_of s.graphics original x.0 x.1 s.zones).1 x.2))
+  Ok (record s { store = t })
+
+-- 5D DELTAP1, 71 DELTAP2, 72 DELTAP3  .. argument p n ->, n pairs
+unfoldable pub deltap_row : DeltaForm → State → Result State Cause
+deltap_row form s = do
+  x ← map_fault of_stack (one s.store)
+  _ ← refuse (int_lt x.0 (pos 0)) BadArgument
+  pairs ← map_fault of_stack (top_numbers (2 * unsigned_abs x.0) x.1)
+  Ok (with_points (deltap_of s.graphics form s.scale.ppem (reverse pairs) s.zones) (with_stack (drop (2 * unsigned_abs x.0) x.1.stack) x.1) s)
+
+-- ---- 8
+
+-- 80 FLIPPT  .. p ->, a loop
+unfoldable pub flippt_row : State → Result State Cause
+flippt_row s = loop_on flippt_of s.store s
+
+-- 81 FLIPRGON, 82 FLIPRGOFF  low high ->
+unfoldable pub fliprg_row : Bool → State → Result State Cause
+fliprg_row on = points_by_two (λ g low high z. fliprg_of g on low high z)
+
+-- ---- C to F
+
+-- what MDRP and MIRP set: rp1 becomes rp0, rp2 becomes p, and if the row says so rp0 becomes p
+abbrev pub with_references : Relative → ℤ → State → State
+with_references how p s = record s { graphics = record s.graphics { rp0 = if how.sets_rp0 then p else s.graphics.rp0; rp1 = s.graphics.rp0; rp2 = p } }
+
+-- C0-DF MDRP  p ->
+unfoldable pub mdrp_row : Relative → State → Result State Cause
+mdrp_row how s = do
+  x ← map_fault of_stack (one s.store)
+  Ok (with_points (mdrp_of s.graphics how x.0 s.zones) x.1 (with_references how x.0 s))
+
+-- E0-FF MIRP  p n ->; the control value of number -1 is 0, and no stray
+abbrev pub mirp_stray : List ℤ → ℤ → ℕ
+mirp_stray cvt (negsuc 0) = 0
+mirp_stray cvt n = stray_of cvt n
+
+unfoldable pub mirp_row : Relative → State → Result State Cause
+mirp_row how s = do
+  x ← map_fault of_stack (two s.store)
+  Ok (with_points (mirp_of s.graphics how x.0 (read_of x.2.cvt x.1) s.zones) (with_strays (mirp_stray x.2.cvt x.1) x.2) (with_references how x.0 s))

@@ -1,0 +1,58 @@
+-- The state that programs of glyphs begin with, and what they answer.
+-- Apple TrueType Reference Manual, "Instructing Fonts": the control value program, glyph programs; INSTCTRL.
+use Rattle.std.specs.Prelude.{◌≡◌, ℕ, false, if◌then◌else◌, List, [], length, Result, Ok, Err}
+use Rattle.fx_zone.specs.Figures.{Figure}
+use Rattle.fx_scale.specs.declared.scale.Scale.{Scale}
+use Rattle.fx_gstate.specs.declared.state.GState.{GState}
+use Rattle.fx_gstate.specs.States.{default_state}
+use Rattle.fx_machine.specs.declared.program.Program.{Program}
+use Rattle.fx_machine.specs.declared.program.Program.TheVariants.{Glyph}
+use Rattle.fx_machine.specs.declared.state.State.{State}
+use Rattle.fx_machine.specs.declared.state.Flags.{Flags}
+use Rattle.fx_machine.specs.declared.prepared.Prepared.{Prepared}
+use Rattle.fx_machine.specs.declared.halt.Halt.{Halt}
+use Rattle.fx_machine.specs.declared.ran.Ran.{Ran}
+use Rattle.fx_machine.specs.Machine.{answer_of}
+use Rattle.fx_machine.specs.Table.{row_at}
+use Rattle.fx_machine.specs.Configs.{answered}
+use Rattle.fx_zone.specs.Figures.{HasShape}
+
+-- the graphics state that a program of a glyph begins with: as prep left it, but for vectors, reference points, zone pointers, loop
+-- and round state, which are at their defaults; or the default state
+abbrev pub begun : Flags → GState → GState
+begun flags g =
+    if flags.default_state then default_state
+    else record default_state { auto_flip = g.auto_flip; cut_in = g.cut_in; minimum_distance = g.minimum_distance; single_width = g.single_width; single_width_cut_in = g.single_width_cut_in; delta_base = g.delta_base; delta_shift = g.delta_shift }
+
+-- the state that a program of a glyph begins with, on these points
+abbrev pub started : Prepared → Scale → ℕ → Figure → State
+started p scale room glyph = record {
+  store = record { stack = []; room = room; storage = p.storage; cvt = p.cvt; strays = 0 };
+  zones = record { twilight = p.twilight; glyph = glyph };
+  graphics = begun p.flags p.graphics;
+  definitions = p.definitions;
+  flags = p.flags;
+  scale = scale;
+  preparing = false;
+}
+
+-- what it answers: the points then, the instructions executed and the strays; or a halt
+abbrev pub ran_of : Result (ℕ × State) Halt → Result (Ran × Figure) Halt
+ran_of (Ok r) = Ok (record { steps = r.0; strays = r.1.store.strays }, r.1.zones.glyph)
+ran_of (Err halt) = Err halt
+
+unfoldable pub glyph_answer : (Program → List ℕ) → Prepared → Scale → ℕ → ℕ → Figure → Result (Ran × Figure) Halt
+glyph_answer texts p scale room limit glyph = ran_of (answered texts Glyph (answer_of (row_at texts) limit Glyph (started p scale room glyph)))
+
+-- a state has tables of the sizes of prep's
+pub record Fits (p : Prepared) (s : State) : Type 0 where
+  pub storage : length s.store.storage ≡ length p.storage
+  pub cvt : length s.store.cvt ≡ length p.cvt
+  pub functions : length s.definitions.functions ≡ length p.definitions.functions
+  pub opcodes : length s.definitions.opcodes ≡ length p.definitions.opcodes
+  pub twilight : HasShape p.twilight s.zones.twilight
+
+-- what code answers, with the points that it left
+abbrev pub with_zone : Result Ran Halt → Figure → Result (Ran × Figure) Halt
+with_zone (Ok ran) glyph = Ok (ran, glyph)
+with_zone (Err halt) glyph = Err halt

@@ -1,0 +1,10 @@
+-- The bytes of programs.
+use Rattle.std.specs.Prelude.{ℕ, List}
+use Rattle.fx_machine.specs.declared.program.Program.{Program}
+use Rattle.fx_machine.specs.declared.program.Program.TheVariants.{Font, Prep, Glyph}
+use Rattle.fx_machine.specs.declared.program.Programs.{Programs}
+
+abbrev pub texts : Programs → Program → List ℕ
+texts programs Font = programs.font
+texts programs Prep = programs.prep
+texts programs Glyph = programs.glyph

@@ -1,0 +1,18 @@
+//! What an instruction did.
+
+use crate::definitions::Function;
+
+/// What an instruction did, beside what it did to the state.
+#[derive(Clone, Copy, Debug, PartialEq, Eq)]
+pub enum Action {
+    /// The program goes on at an address.
+    Went(usize),
+    /// It calls a function so many times, and then goes on.
+    Called {
+        turns: u32,
+        function: Function,
+        next: usize,
+    },
+    /// The function ends.
+    Returned,
+}

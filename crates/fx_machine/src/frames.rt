@@ -1,0 +1,96 @@
+//! The open calls, and where a run is.
+
+ghost use Rattle.std.specs.Prelude.{◌≡◌, ◌<◌, MatchResult, IfOk, false};
+ghost use Rattle.arrayvec.specs.ArrayVec.{array_vec_len};
+ghost use Rattle.fx_machine.specs.declared.state.State as the_state;
+ghost use Rattle.fx_machine.specs.Table.{effect_of};
+ghost use Rattle.fx_machine.specs.Machine.{moved_by, Moves, Stops, turned};
+ghost use Rattle.fx_machine.specs.Configs.{calls_of, config_of};
+
+use crate::action::Action;
+use crate::definitions::Function;
+use crate::halt::Cause;
+use crate::program::Program;
+use arrayvec::ArrayVec;
+
+/// An open call: the turns of its function that are left after this one, and where it goes on.
+#[derive(Clone, Copy, Debug, PartialEq, Eq, Default)]
+pub struct Frame {
+    pub function: Function,
+    pub left: u32,
+    pub program: Program,
+    pub next: usize,
+}
+
+/// Where a run is.
+#[derive(Drop)]
+pub struct Cursor {
+    pub program: Program,
+    pub address: usize,
+}
+
+/// The open calls.
+#[derive(Drop)]
+pub struct Calls {
+    pub frames: ArrayVec<Frame, 32>,
+}
+
+impl Cursor {
+    // Goes into another turn of a function, or on where there are no more.
+    fn leave(&mut self, calls: &mut Calls, frame: Frame)
+        requires { array_vec_len calls.old.frames < 32 }
+        ensures { (s : the_state.State) → config_of self.new calls.new s ≡ turned frame.left frame.function frame.next (calls_of calls.old) frame.program s }
+    {
+        if frame.left == 0 {
+            self.program = frame.program;
+            self.address = frame.next;
+        } else {
+            self.program = frame.function.program;
+            self.address = frame.function.address;
+            calls.frames.push(Frame {
+                left: frame.left - 1,
+                ..frame
+            });
+        }
+    }
+
+    // Goes where an action leads, and says whether the program may have changed.
+    pub fn follow(&mut self, calls: &mut Calls, action: Action) -> Result<bool, Cause>
+        ensures moved { MatchResult result
+            (λ _. (s : the_state.State) → moved_by (effect_of action s) (calls_of calls.old) self.old.program ≡ Moves (config_of self.new calls.new s))
+            (λ cause. (s : the_state.State) → moved_by (effect_of action s) (calls_of calls.old) self.old.program ≡ Stops cause) }
+        ensures stays { IfOk result (λ left. left ≡ false → self.new.program ≡ self.old.program) }
+    {
+        let depth = calls.frames.len();
+        match action {
+            Action::Went(address) => {
+                self.address = address;
+                Ok(false)
+            }
+            Action::Called {
+                turns,
+                function,
+                next,
+            } => {
+                if depth == 32 {
+                    return Err(Cause::CallDepth);
+                }
+                let frame = Frame {
+                    function,
+                    left: turns,
+                    program: self.program,
+                    next,
+                };
+                self.leave(calls, frame);
+                Ok(true)
+            }
+            Action::Returned => match calls.frames.pop() {
+                None => Err(Cause::StrayEnd),
+                Some(frame) => {
+                    self.leave(calls, frame);
+                    Ok(true)
+                }
+            },
+        }
+    }
+}

@@ -1,0 +1,25 @@
+//! What the definitions imply.
+
+ghost use Rattle.fx_machine.specs.Machine.{AnswerIsOne, AnswerOfIsAnswer};
+ghost use Rattle.fx_machine.specs.Shapes.{RunsKeepShapes};
+ghost use Rattle.fx_machine.specs.Known.{GlyphsKeepShape};
+
+/// A program has one answer.
+pub fn answer_is_one()
+    ensures { AnswerIsOne }
+{}
+
+/// A program has an answer, and `answer_of` gives it.
+pub fn answer_of_is_answer()
+    ensures { AnswerOfIsAnswer }
+{}
+
+/// Programs change neither the number of points nor the contours.
+pub fn runs_keep_shapes()
+    ensures { RunsKeepShapes }
+{}
+
+/// Programs of glyphs change neither the number of points nor the contours.
+pub fn glyphs_keep_shape()
+    ensures { GlyphsKeepShape }
+{}

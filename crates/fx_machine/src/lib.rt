@@ -1,0 +1,27 @@
+//! The machine that runs font programs.
+#![tactic(auto)]
+
+mod action;
+mod definitions;
+mod dispatch;
+mod flow;
+mod frames;
+mod halt;
+pub mod laws;
+mod machine;
+mod point_rows;
+mod prepared;
+mod program;
+mod ran;
+mod run;
+mod state;
+mod state_rows;
+mod step;
+
+pub use definitions::{Definitions, Function};
+pub use halt::{Cause, Halt, MachineFault};
+pub use machine::{Machine, STEP_LIMIT};
+pub use prepared::Prepared;
+pub use program::{Program, Programs};
+pub use ran::Ran;
+pub use state::{Flags, State};

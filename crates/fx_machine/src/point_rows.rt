@@ -1,0 +1,349 @@
+//! The rows that measure and move points, with their operands and the reference points that they set.
+
+ghost use Rattle.std.specs.Prelude.{◌≡◌, ◌≤◌, OnErr, Ok, length, drop, if◌then◌else◌};
+ghost use Rattle.fx_gstate.specs.States.{leaves};
+ghost use Rattle.fx_stackops.specs.Store.{with_stack, with_strays};
+ghost use Rattle.fx_machine.specs.Shapes.{HasSizes};
+ghost use Rattle.fx_machine.specs.PointRows.{isect_row, alignpts_row, utp_row, mdap_row, iup_row, shp_row, shc_row, shz_row, shpix_row, ip_row, msirp_row};
+ghost use Rattle.fx_machine.specs.PointRows.{alignrp_row, miap_row, gc_row, scfs_row, md_row, deltap_row, flippt_row, fliprg_row, mdrp_row, mirp_row, mirp_stray};
+
+use crate::halt::Cause;
+use crate::state::State;
+use fx_fixed::{Axis, F26};
+use fx_gstate::{DeltaForm, ZonePointer};
+use fx_pointops::Relative;
+
+impl State {
+    /// Ends a loop row: takes its points off the stack, counts its strays, and sets loop to 1.
+    fn end_loop(&mut self, count: u32, strays: u64)
+        requires { count ≤ length self.old.store.stack }
+        ensures value { self.new ≡ record self.old {
+            store = with_strays strays (with_stack (drop count self.old.store.stack) self.old.store); graphics = record self.old.graphics { loop_count = 1 } } }
+        ensures sizes { HasSizes self.old self.new }
+    {
+        self.store.drop_top(count);
+        self.store.add_strays(strays);
+        self.graphics.end_loop();
+    }
+
+    /// Reference point 1 becomes reference point 0, and 2 becomes p; 0 becomes p too, if the row says so.
+    fn set_references(&mut self, sets_rp0: bool, p: i32)
+        ensures value { self.new ≡ record self.old { graphics = record self.old.graphics {
+            rp0 = if sets_rp0 then p else self.old.graphics.rp0; rp1 = self.old.graphics.rp0; rp2 = p } } }
+        ensures sizes { HasSizes self.old self.new }
+    {
+        let rp0 = self.graphics.rp0;
+        self.graphics.set_rp1(rp0);
+        self.graphics.set_rp2(p);
+        if sets_rp0 {
+            self.graphics.set_rp0(p);
+        }
+    }
+
+    /// Whether MIRP's control value is a stray, which number -1 is not.
+    fn mirp_stray(&self, number: i32) -> u64
+        ensures value { result ≡ mirp_stray self.now.store.cvt number }
+        ensures few { result ≤ 1 }
+    {
+        if number == -1 {
+            return 0;
+        }
+        u64::from(self.store.control_stray(number))
+    }
+
+    /// ISECT: a point to where two lines cross.
+    #[tactic(auto, unfolding(crate::specs::PointRows::isect_row))]
+    pub(crate) fn isect(&mut self) -> Result<(), Cause>
+        ensures value { leaves result self.new ≡ isect_row self.old }
+        ensures kept { OnErr result (self.new.zones ≡ self.old.zones) }
+        ensures sizes { HasSizes self.old self.new }
+    {
+        let (a1, b0, b1) = self.store.three()?;
+        let (p, a0) = self.store.two()?;
+        let strays = self.zones.isect(&self.graphics, p, a0, a1, b0, b1);
+        self.store.add_strays(strays);
+        Ok(())
+    }
+
+    /// ALIGNPTS: two points to the middle of their projections.
+    #[tactic(auto, unfolding(crate::specs::PointRows::alignpts_row))]
+    pub(crate) fn alignpts(&mut self) -> Result<(), Cause>
+        ensures value { leaves result self.new ≡ alignpts_row self.old }
+        ensures kept { OnErr result (self.new.zones ≡ self.old.zones) }
+        ensures sizes { HasSizes self.old self.new }
+    {
+        let (a, b) = self.store.two()?;
+        let strays = self.zones.alignpts(&self.graphics, a, b);
+        self.store.add_strays(strays);
+        Ok(())
+    }
+
+    /// UTP: untouches a point.
+    #[tactic(auto, unfolding(crate::specs::PointRows::utp_row))]
+    pub(crate) fn utp(&mut self) -> Result<(), Cause>
+        ensures value { leaves result self.new ≡ utp_row self.old }
+        ensures kept { OnErr result (self.new.zones ≡ self.old.zones) }
+        ensures sizes { HasSizes self.old self.new }
+    {
+        let operand = self.store.one()?;
+        let strays = self.zones.utp(&self.graphics, operand);
+        self.store.add_strays(strays);
+        Ok(())
+    }
+
+    /// MDAP: a point to its place, or to the rounded one.
+    #[tactic(auto, unfolding(crate::specs::PointRows::mdap_row))]
+    pub(crate) fn mdap(&mut self, rounds: bool) -> Result<(), Cause>
+        ensures value { leaves result self.new ≡ mdap_row rounds self.old }
+        ensures kept { OnErr result (self.new.zones ≡ self.old.zones) }
+        ensures sizes { HasSizes self.old self.new }
+    {
+        let p = self.store.one()?;
+        let strays = self.zones.mdap(&self.graphics, rounds, p);
+        self.store.add_strays(strays);
+        self.graphics.set_rp0(p);
+        self.graphics.set_rp1(p);
+        Ok(())
+    }
+
+    /// IUP: the untouched points between touched ones.
+    #[tactic(auto, unfolding(crate::specs::PointRows::iup_row))]
+    pub(crate) fn iup(&mut self, axis: Axis)
+        ensures value { Ok self.new ≡ iup_row axis self.old }
+        ensures sizes { HasSizes self.old self.new }
+    {
+        self.zones.iup(axis);
+    }
+
+    /// SHP: points as a reference point was moved.
+    #[tactic(auto, unfolding(crate::specs::PointRows::shp_row))]
+    pub(crate) fn shp(&mut self, first: bool) -> Result<(), Cause>
+        ensures value { leaves result self.new ≡ shp_row first self.old }
+        ensures kept { OnErr result (self.new.zones ≡ self.old.zones) }
+        ensures sizes { HasSizes self.old self.new }
+    {
+        let count = self.graphics.loop_count;
+        let points = self.store.top(count)?;
+        let strays = self.zones.shp(&self.graphics, first, points);
+        self.end_loop(count, strays);
+        Ok(())
+    }
+
+    /// SHC: a contour as a reference point was moved.
+    #[tactic(auto, unfolding(crate::specs::PointRows::shc_row))]
+    pub(crate) fn shc(&mut self, first: bool) -> Result<(), Cause>
+        ensures value { leaves result self.new ≡ shc_row first self.old }
+        ensures kept { OnErr result (self.new.zones ≡ self.old.zones) }
+        ensures sizes { HasSizes self.old self.new }
+    {
+        let operand = self.store.one()?;
+        let strays = self.zones.shc(&self.graphics, first, operand);
+        self.store.add_strays(strays);
+        Ok(())
+    }
+
+    /// SHZ: a zone as a reference point was moved.
+    #[tactic(auto, unfolding(crate::specs::PointRows::shz_row))]
+    pub(crate) fn shz(&mut self, first: bool) -> Result<(), Cause>
+        ensures value { leaves result self.new ≡ shz_row first self.old }
+        ensures kept { OnErr result (self.new.zones ≡ self.old.zones) }
+        ensures sizes { HasSizes self.old self.new }
+    {
+        let zone = self.store.one()?;
+        let zone = ZonePointer::of(zone)?;
+        let strays = self.zones.shz(&self.graphics, first, zone);
+        self.store.add_strays(strays);
+        Ok(())
+    }
+
+    /// SHPIX: points by a distance along the freedom vector.
+    #[tactic(auto, unfolding(crate::specs::PointRows::shpix_row))]
+    pub(crate) fn shpix(&mut self) -> Result<(), Cause>
+        ensures value { leaves result self.new ≡ shpix_row self.old }
+        ensures kept { OnErr result (self.new.zones ≡ self.old.zones) }
+        ensures sizes { HasSizes self.old self.new }
+    {
+        let amount = self.store.one()?;
+        let count = self.graphics.loop_count;
+        let points = self.store.top(count)?;
+        let strays = self.zones.shpix(&self.graphics, points, F26(amount));
+        self.end_loop(count, strays);
+        Ok(())
+    }
+
+    /// IP: points in proportion between two reference points.
+    #[tactic(auto, unfolding(crate::specs::PointRows::ip_row))]
+    pub(crate) fn ip(&mut self) -> Result<(), Cause>
+        ensures value { leaves result self.new ≡ ip_row self.old }
+        ensures kept { OnErr result (self.new.zones ≡ self.old.zones) }
+        ensures sizes { HasSizes self.old self.new }
+    {
+        let count = self.graphics.loop_count;
+        let points = self.store.top(count)?;
+        let strays = self.zones.ip(&self.graphics, points);
+        self.end_loop(count, strays);
+        Ok(())
+    }
+
+    /// MSIRP: a point to a distance from a reference point.
+    #[tactic(auto, unfolding(crate::specs::PointRows::msirp_row))]
+    pub(crate) fn msirp(&mut self, sets_rp0: bool) -> Result<(), Cause>
+        ensures value { leaves result self.new ≡ msirp_row sets_rp0 self.old }
+        ensures kept { OnErr result (self.new.zones ≡ self.old.zones) }
+        ensures sizes { HasSizes self.old self.new }
+    {
+        let (p, distance) = self.store.two()?;
+        let strays = self.zones.msirp(&self.graphics, p, F26(distance));
+        self.store.add_strays(strays);
+        self.set_references(sets_rp0, p);
+        Ok(())
+    }
+
+    /// ALIGNRP: points onto a reference point.
+    #[tactic(auto, unfolding(crate::specs::PointRows::alignrp_row))]
+    pub(crate) fn alignrp(&mut self) -> Result<(), Cause>
+        ensures value { leaves result self.new ≡ alignrp_row self.old }
+        ensures kept { OnErr result (self.new.zones ≡ self.old.zones) }
+        ensures sizes { HasSizes self.old self.new }
+    {
+        let count = self.graphics.loop_count;
+        let points = self.store.top(count)?;
+        let strays = self.zones.alignrp(&self.graphics, points);
+        self.end_loop(count, strays);
+        Ok(())
+    }
+
+    /// MIAP: a point to a control value.
+    #[tactic(auto, unfolding(crate::specs::PointRows::miap_row))]
+    pub(crate) fn miap(&mut self, rounds: bool) -> Result<(), Cause>
+        ensures value { leaves result self.new ≡ miap_row rounds self.old }
+        ensures kept { OnErr result (self.new.zones ≡ self.old.zones) }
+        ensures sizes { HasSizes self.old self.new }
+    {
+        let (p, number) = self.store.two()?;
+        let value = F26(self.store.control(number));
+        self.store.add_strays(u64::from(self.store.control_stray(number)));
+        let strays = self.zones.miap(&self.graphics, rounds, p, value);
+        self.store.add_strays(strays);
+        self.graphics.set_rp0(p);
+        self.graphics.set_rp1(p);
+        Ok(())
+    }
+
+    /// GC: pushes a point's coordinate.
+    #[tactic(auto, unfolding(crate::specs::PointRows::gc_row))]
+    pub(crate) fn gc(&mut self, original: bool) -> Result<(), Cause>
+        ensures value { leaves result self.new ≡ gc_row original self.old }
+        ensures kept { OnErr result (self.new.zones ≡ self.old.zones) }
+        ensures sizes { HasSizes self.old self.new }
+    {
+        let p = self.store.one()?;
+        let (coordinate, strays) = self.zones.gc(&self.graphics, original, p);
+        self.store.add_strays(strays);
+        self.store.push(coordinate.0)?;
+        Ok(())
+    }
+
+    /// SCFS: a point to a coordinate.
+    #[tactic(auto, unfolding(crate::specs::PointRows::scfs_row))]
+    pub(crate) fn scfs(&mut self) -> Result<(), Cause>
+        ensures value { leaves result self.new ≡ scfs_row self.old }
+        ensures kept { OnErr result (self.new.zones ≡ self.old.zones) }
+        ensures sizes { HasSizes self.old self.new }
+    {
+        let (a, b) = self.store.two()?;
+        let strays = self.zones.scfs(&self.graphics, a, F26(b));
+        self.store.add_strays(strays);
+        Ok(())
+    }
+
+    /// MD: pushes the distance of two points.
+    #[tactic(auto, unfolding(crate::specs::PointRows::md_row))]
+    pub(crate) fn md(&mut self, original: bool) -> Result<(), Cause>
+        ensures value { leaves result self.new ≡ md_row original self.old }
+        ensures kept { OnErr result (self.new.zones ≡ self.old.zones) }
+        ensures sizes { HasSizes self.old self.new }
+    {
+        let (p, q) = self.store.two()?;
+        let (distance, strays) = self.zones.md(&self.graphics, original, p, q);
+        self.store.add_strays(strays);
+        self.store.push(distance.0)?;
+        Ok(())
+    }
+
+    /// DELTAP1 to DELTAP3: points by an amount at one size.
+    #[tactic(auto, unfolding(crate::specs::PointRows::deltap_row))]
+    pub(crate) fn deltap(&mut self, form: DeltaForm) -> Result<(), Cause>
+        ensures value { leaves result self.new ≡ deltap_row form self.old }
+        ensures kept { OnErr result (self.new.zones ≡ self.old.zones) }
+        ensures sizes { HasSizes self.old self.new }
+    {
+        let count = self.store.one()?;
+        if count < 0 {
+            return Err(Cause::BadArgument);
+        }
+        let numbers = 2 * count.unsigned_abs();
+        let pairs = self.store.top(numbers)?;
+        let strays = self.zones.deltap(&self.graphics, form, self.scale.ppem, pairs);
+        self.store.drop_top(numbers);
+        self.store.add_strays(strays);
+        Ok(())
+    }
+
+    /// FLIPPT: points on the curve off it, and back.
+    #[tactic(auto, unfolding(crate::specs::PointRows::flippt_row))]
+    pub(crate) fn flippt(&mut self) -> Result<(), Cause>
+        ensures value { leaves result self.new ≡ flippt_row self.old }
+        ensures kept { OnErr result (self.new.zones ≡ self.old.zones) }
+        ensures sizes { HasSizes self.old self.new }
+    {
+        let count = self.graphics.loop_count;
+        let points = self.store.top(count)?;
+        let strays = self.zones.flippt(&self.graphics, points);
+        self.end_loop(count, strays);
+        Ok(())
+    }
+
+    /// FLIPRGON, FLIPRGOFF: a range of points onto the curve, or off it.
+    #[tactic(auto, unfolding(crate::specs::PointRows::fliprg_row))]
+    pub(crate) fn fliprg(&mut self, on: bool) -> Result<(), Cause>
+        ensures value { leaves result self.new ≡ fliprg_row on self.old }
+        ensures kept { OnErr result (self.new.zones ≡ self.old.zones) }
+        ensures sizes { HasSizes self.old self.new }
+    {
+        let (low, high) = self.store.two()?;
+        let strays = self.zones.fliprg(&self.graphics, on, low, high);
+        self.store.add_strays(strays);
+        Ok(())
+    }
+
+    /// MDRP: a point to its original distance from a reference point.
+    #[tactic(auto, unfolding(crate::specs::PointRows::mdrp_row))]
+    pub(crate) fn mdrp(&mut self, how: Relative) -> Result<(), Cause>
+        ensures value { leaves result self.new ≡ mdrp_row how self.old }
+        ensures kept { OnErr result (self.new.zones ≡ self.old.zones) }
+        ensures sizes { HasSizes self.old self.new }
+    {
+        let p = self.store.one()?;
+        let strays = self.zones.mdrp(&self.graphics, how, p);
+        self.store.add_strays(strays);
+        self.set_references(how.sets_rp0, p);
+        Ok(())
+    }
+
+    /// MIRP: a point to a control value from a reference point.
+    #[tactic(auto, unfolding(crate::specs::PointRows::mirp_row))]
+    pub(crate) fn mirp(&mut self, how: Relative) -> Result<(), Cause>
+        ensures value { leaves result self.new ≡ mirp_row how self.old }
+        ensures kept { OnErr result (self.new.zones ≡ self.old.zones) }
+        ensures sizes { HasSizes self.old self.new }
+    {
+        let (p, number) = self.store.two()?;
+        let value = F26(self.store.control(number));
+        self.store.add_strays(self.mirp_stray(number));
+        let strays = self.zones.mirp(&self.graphics, how, p, value);
+        self.store.add_strays(strays);
+        self.set_references(how.sets_rp0, p);
+        Ok(())
+    }
+}

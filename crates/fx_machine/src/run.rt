@@ -1,0 +1,73 @@
+//! Runs, one instruction after the other.
+
+ghost use Rattle.std.specs.Prelude.{◌≡◌, ◌≤◌, IfOk, false};
+ghost use Rattle.fx_machine.specs.Programs.{texts};
+ghost use Rattle.fx_machine.specs.Table.{row_at};
+ghost use Rattle.fx_pointops.specs.Zones.{HasShapes};
+ghost use Rattle.fx_machine.specs.Shapes.{HasSizes};
+ghost use Rattle.fx_machine.specs.Machine.{answer_of};
+ghost use Rattle.fx_machine.specs.Configs.{answered, sees};
+
+use crate::frames::{Calls, Cursor};
+use crate::halt::{Cause, Halt, halted};
+use crate::program::{Program, Programs};
+use crate::state::State;
+use crate::step::advance;
+use arrayvec::ArrayVec;
+use fx_code::Code;
+
+// The bytes of a program, which are those at hand where it was not left.
+fn code_then<'a, 'b>(
+    programs: &'b Programs<'a>,
+    code: &'b Code<'a>,
+    program: Program,
+    left: bool,
+) -> &'b Code<'a>
+    requires { left ≡ false → code.now ≡ texts programs.now program }
+    ensures { result.now ≡ texts programs.now program }
+{
+    if left { programs.code(program) } else { code }
+}
+
+/// Runs a program from its first byte, for at most `limit` instructions: how many it executed, or where and why it halted.
+pub fn run(
+    state: &mut State,
+    programs: &Programs<'_>,
+    start: Program,
+    limit: u32,
+) -> Result<u32, Halt>
+    ensures value { sees result state.new ≡ answered (texts programs.now) start (answer_of (row_at (texts programs.now)) limit start state.old) }
+    ensures few { IfOk result (λ steps. steps ≤ limit) }
+    ensures shapes { HasShapes state.old.zones state.new.zones }
+    ensures sizes { HasSizes state.old state.new }
+{
+    let mut cursor = Cursor {
+        program: start,
+        address: 0,
+    };
+    let mut calls = Calls {
+        frames: ArrayVec::new(),
+    };
+    let mut code = programs.code(start);
+    let mut steps: u32 = 0;
+    'steps: loop {
+        let ended = cursor.address == code.len();
+        if ended && calls.frames.is_empty() {
+            return Ok(steps);
+        }
+        let program = cursor.program;
+        let address = cursor.address;
+        if steps == limit {
+            return Err(halted(code, start, program, address, Cause::StepLimit));
+        }
+        if ended {
+            return Err(halted(code, start, program, address, Cause::StrayEnd));
+        }
+        let left = match advance(&mut cursor, &mut calls, state, code) {
+            Ok(left) => left,
+            Err(cause) => return Err(halted(code, start, program, address, cause)),
+        };
+        code = code_then(programs, code, cursor.program, left);
+        steps += 1;
+    }
+}

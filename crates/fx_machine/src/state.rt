@@ -1,0 +1,120 @@
+//! The state of a machine.
+
+ghost use Rattle.std.specs.Prelude.{◌≡◌, IfOk};
+ghost use Rattle.fx_sfnt.specs.Tables.{table_or_empty};
+ghost use Rattle.fx_machine.specs.Known.{controls_of, first_store, twilight_of, nothing_defined, first_state, second_state};
+
+use crate::definitions::Definitions;
+use fx_gstate::GState;
+use fx_fixed::Place;
+use fx_pointops::Zones;
+use fx_scale::Scale;
+use fx_scale::cvt_of;
+use fx_sfnt::Font;
+use fx_stackops::{Store, Table};
+use fx_zone::{Point, Zone};
+use std::alloc::{AllocError, Global};
+
+/// What `prep` asks for by INSTCTRL.
+#[derive(Clone, Copy, Debug, PartialEq, Eq)]
+pub struct Flags {
+    /// No programs of glyphs are run.
+    pub no_programs: bool,
+    /// They start from the default graphics state.
+    pub default_state: bool,
+}
+
+/// The state that instructions read and change.
+#[derive(Drop)]
+pub struct State {
+    /// The stack, the storage area, the control values and the strays.
+    pub store: Store,
+    /// The points.
+    pub zones: Zones,
+    /// The graphics state.
+    pub graphics: GState,
+    /// The functions, and the definitions of opcodes.
+    pub definitions: Definitions,
+    /// What INSTCTRL set.
+    pub flags: Flags,
+    /// The size, and the FUnits of an em.
+    pub scale: Scale,
+    /// Whether `prep` was started, or a function is run for it.
+    pub preparing: bool,
+}
+
+// A table of a font's programs, which may be absent.
+pub(crate) fn table_or_empty<'a>(font: &Font<'a>, tag: [u8; 4]) -> &'a [u8]
+    ensures { result.now ≡ table_or_empty font.now.file tag }
+{
+    font.table(tag).unwrap_or(&[])
+}
+
+// The control values of a font at a scale.
+#[tactic(auto, using(crate::proofs::Starting::controls_are_numbers))]
+fn controls(alloc: Global, font: &Font<'_>, scale: &Scale) -> Result<Table, AllocError>
+    ensures { IfOk result (λ t. t ≡ controls_of font.now scale.now) }
+{
+    let controls = cvt_of(alloc, table_or_empty(font, *b"cvt "), scale)?;
+    Ok(Table::of(controls))
+}
+
+// The stack, the storage area and the control values that `fpgm` begins with.
+fn first_store(alloc: Global, font: &Font<'_>, scale: &Scale) -> Result<Store, AllocError>
+    ensures { IfOk result (λ s. s ≡ first_store font.now scale.now) }
+{
+    let maxp = font.maxp();
+    let cvt = controls(alloc, font, scale)?;
+    Store::new(alloc, maxp.stack, maxp.storage, cvt)
+}
+
+// The twilight zone of a font: its points at (0, 0), without contours.
+fn twilight(alloc: Global, count: u16) -> Result<Zone, AllocError>
+    ensures { IfOk result (λ z. z ≡ twilight_of count) }
+{
+    let point = Point::resting(Place::origin(), false);
+    let points = vec![in alloc; point; usize::from(count)]?;
+    Ok(Zone::of(alloc, points, Vec::new(alloc)))
+}
+
+// No definitions, of as many functions as a font may have.
+fn nothing_defined(alloc: Global, font: &Font<'_>) -> Result<Definitions, AllocError>
+    ensures { IfOk result (λ d. d ≡ nothing_defined font.now) }
+{
+    Definitions::new(alloc, usize::from(font.maxp().functions.max(64)))
+}
+
+impl State {
+    /// The state that `fpgm` begins with: storage and twilight points are 0, control values are scaled, nothing is defined.
+    pub fn first(alloc: Global, font: &Font<'_>, scale: Scale) -> Result<State, AllocError>
+            ensures { IfOk result (λ s. s ≡ first_state font.now scale) }
+    {
+        let store = first_store(alloc, font, &scale)?;
+        let twilight = twilight(alloc, font.maxp().twilight_points)?;
+        let definitions = nothing_defined(alloc, font)?;
+        Ok(State {
+            store,
+            zones: Zones {
+                twilight,
+                glyph: Zone::new(alloc),
+            },
+            graphics: GState::new(),
+            definitions,
+            flags: Flags {
+                no_programs: false,
+                default_state: false,
+            },
+            scale,
+            preparing: false,
+        })
+    }
+
+    /// Begins `prep`, after `fpgm`.
+    pub fn prepare(&mut self)
+        ensures { self.new ≡ second_state self.old }
+    {
+        self.store.drop_all();
+        self.graphics = GState::new();
+        self.preparing = true;
+    }
+}

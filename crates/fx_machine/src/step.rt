@@ -1,0 +1,68 @@
+//! One instruction.
+
+ghost use Rattle.std.specs.Prelude.{◌≡◌, ◌≢◌, length, MatchResult, OnErr, IfOk, false};
+ghost use Rattle.fx_machine.specs.Table.{row_in, settled};
+ghost use Rattle.fx_machine.specs.Actions.{acts};
+ghost use Rattle.fx_pointops.specs.Zones.{HasShapes};
+ghost use Rattle.fx_machine.specs.Shapes.{HasSizes};
+ghost use Rattle.fx_machine.specs.Machine.{moved_by, Moves, Stops};
+ghost use Rattle.fx_machine.specs.Configs.{calls_of, config_of};
+
+use crate::action::Action;
+use crate::frames::{Calls, Cursor};
+use crate::halt::Cause;
+use crate::program::Program;
+use crate::state::State;
+use fx_code::Code;
+
+// Executes the instruction at an address of a program with these bytes.
+fn execute(
+    state: &mut State,
+    code: &Code<'_>,
+    program: Program,
+    address: usize,
+) -> Result<Action, Cause>
+    requires { address ≢ length code.now }
+    ensures value { settled (acts result state.new) ≡ row_in code.now program address state.old }
+    ensures shapes { HasShapes state.old.zones state.new.zones }
+    ensures sizes { HasSizes state.old state.new }
+{
+    fetch(state, code, program, address)
+}
+
+// Reads it, and does what its row says; where that faults, the points are as they were.
+fn fetch(
+    state: &mut State,
+    code: &Code<'_>,
+    program: Program,
+    address: usize,
+) -> Result<Action, Cause>
+    requires { address ≢ length code.now }
+    ensures value { settled (acts result state.new) ≡ row_in code.now program address state.old }
+    ensures kept { OnErr result (state.new.zones ≡ state.old.zones) }
+    ensures sizes { HasSizes state.old state.new }
+{
+    if address >= code.len() {
+        return Err(Cause::CodeEnd);
+    }
+    state.row(code, code.opcode(address), program, address, address + 1)
+}
+
+// Executes the instruction where the cursor is, and says whether the program may have changed.
+pub fn advance(
+    cursor: &mut Cursor,
+    calls: &mut Calls,
+    state: &mut State,
+    code: &Code<'_>,
+) -> Result<bool, Cause>
+    requires { cursor.old.address ≢ length code.now }
+    ensures moved { MatchResult result
+        (λ _. moved_by (row_in code.now cursor.old.program cursor.old.address state.old) (calls_of calls.old) cursor.old.program ≡ Moves (config_of cursor.new calls.new state.new))
+        (λ cause. moved_by (row_in code.now cursor.old.program cursor.old.address state.old) (calls_of calls.old) cursor.old.program ≡ Stops cause) }
+    ensures stays { IfOk result (λ left. left ≡ false → cursor.new.program ≡ cursor.old.program) }
+    ensures shapes { HasShapes state.old.zones state.new.zones }
+    ensures sizes { HasSizes state.old state.new }
+{
+    let action = execute(state, code, cursor.program, cursor.address)?;
+    cursor.follow(calls, action)
+}
