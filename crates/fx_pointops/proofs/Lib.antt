@@ -1,2 +1,3 @@
 pub mod Looping
 pub mod Multiplying
+pub mod Keeping
