@@ -17,7 +17,8 @@ module _ (code : List ℕ) where
   addresses_end zero p h = refl
   addresses_end (suc most) p h = rw (le-ltb p (length code) h) refl
 
-  pub addresses_more : (most p : ℕ) → p < length code → addresses_from (suc most) code p ≡ p ∷ addresses_from most code (next_address code p)
+  pub addresses_more : (most p : ℕ) → p < length code
+      → addresses_from (suc most) code p ≡ p ∷ addresses_from most code (next_address code p)
   addresses_more most p h = rw (lt-ltb p (length code) h) refl
 
   -- the first of those from the next one on is above it
@@ -36,7 +37,8 @@ module _ (code : List ℕ) where
   ]
 
   -- each is on the chain, and lies in the program
-  addresses_member : (most p n q : ℕ) → Chain code 0 p n → IsIn q (addresses_from most code p) → ((level : ℕ) × Chain code 0 q level) × (q < length code)
+  addresses_member : (most p n q : ℕ) → Chain code 0 p n → IsIn q (addresses_from most code p)
+      → ((level : ℕ) × Chain code 0 q level) × (q < length code)
   addresses_member zero p n q c m = absurd m
   addresses_member (suc most) p n q c m = elim (cases_lt p (length code)) [
     | inl h ↦ elim (rw (addresses_more most p h) at m) [
@@ -50,7 +52,8 @@ module _ (code : List ℕ) where
   ]
 
   -- and each such address is among them
-  addresses_all : (most : ℕ) {p n q l : ℕ} → length code - p ≤ most → Onward code p n q l → q < length code → IsIn q (addresses_from most code p)
+  addresses_all : (most : ℕ) {p n q l : ℕ} → length code - p ≤ most → Onward code p n q l → q < length code
+      → IsIn q (addresses_from most code p)
   addresses_all zero few r h = absurd (let a = onward_above code r in omega arith)
   addresses_all (suc most) {p = p} {q = q} few here h = rw (addresses_more most p h) (inl refl)
   addresses_all (suc most) {p = p} {q = q} few (on w r) h =

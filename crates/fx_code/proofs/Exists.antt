@@ -1,10 +1,12 @@
 -- A skip has an answer, and past_of gives it: the search from address to address finds the first match, or there is none.
-use Rattle.std.proofs.Common.{◌≡◌, inl, inr, ℕ, zero, suc, ◌-◌, ◌≤◌, Bool, true, false, nat_le, List, length, Option, Some, None, Result, MatchOption, arith, refl, rules}
+use Rattle.std.proofs.Common.{◌≡◌, inl, inr, ℕ, zero, suc, ◌-◌, ◌≤◌, Bool, true, false, nat_le, List, length, Option, Some, None}
+use Rattle.std.proofs.Common.{Result, MatchOption, arith, refl, rules}
 use Rattle.std.proofs.lemmas.Bool.{cases_Bool, leb-true, leb-false}
 use Rattle.std.proofs.lemmas.Bool.Decides.{eqb_tells}
 use Rattle.fx_code.specs.declared.fault.CodeFault.{CodeFault}
 use Rattle.fx_code.specs.Opcodes.{ENDF}
-use Rattle.fx_code.specs.Chain.{Chain, first, next, IsWhole, Meets, next_address, level_after, IsFirst, HasNone, LeadsPast, LeadsPastDefinition, stops_at_definition, opcode_at}
+use Rattle.fx_code.specs.Chain.{Chain, first, next, IsWhole, Meets, next_address, level_after, IsFirst, HasNone, LeadsPast}
+use Rattle.fx_code.specs.Chain.{LeadsPastDefinition, stops_at_definition, opcode_at}
 use Rattle.fx_code.specs.Past.{first_from, first_of, after, after_definition, past_of, past_definition_of}
 use Rattle.fx_code.proofs.Onward.{Onward, member_onward, onward_above, onward_past, onward_none, next_above, not_whole}
 use Rattle.fx_code.proofs.Unique.{leads_one, leads_definition_one}
@@ -25,7 +27,8 @@ module _ (code : List ℕ) (from : ℕ) where
     unfolding Found Left
     none_left p n left w q l r m = onward_none code stops w (left q l r m) m
 
-    left_on : (p n : ℕ) → Left p n → stops (opcode_at code p) n ≡ false → Left (next_address code p) (level_after (opcode_at code p) n)
+    left_on : (p n : ℕ) → Left p n → stops (opcode_at code p) n ≡ false
+        → Left (next_address code p) (level_after (opcode_at code p) n)
     unfolding Left
     left_on p n left e q l r m = onward_past code stops _ _ _ e refl refl refl (left q l r m) m
 

@@ -3,7 +3,8 @@ use Rattle.std.proofs.Common.{◌≡◌, ◌⊎◌, inl, inr, ℕ, ◌+◌, ◌-
 use Rattle.std.proofs.Math.Nat.{le_refl}
 use Rattle.std.proofs.lemmas.Bool.{cases_lt}
 use Rattle.std.proofs.lemmas.List.{length-take}
-use Rattle.fx_code.specs.Chain.{Chain, first, next, IsWhole, Meets, size_at, next_address, opcode_at, data_at, head_len, level_after}
+use Rattle.fx_code.specs.Chain.{Chain, first, next, IsWhole, Meets, size_at, next_address, opcode_at, data_at, head_len}
+use Rattle.fx_code.specs.Chain.{level_after}
 
 module _ (code : List ℕ) where
   -- from one address of the chain to another, with the IFs open at each
@@ -56,12 +57,14 @@ module _ (code : List ℕ) where
   onward_above (on {p = p} w r) = let h = onward_above r in omega (arith, next_above p)
 
   -- one instruction on, as a search reads it
-  pub chain_next : {from p n : ℕ} (op p' n' : ℕ) → Chain code from p n → IsWhole code p → op ≡ opcode_at code p → p' ≡ next_address code p → n' ≡ level_after op n → Chain code from p' n'
+  pub chain_next : {from p n : ℕ} (op p' n' : ℕ) → Chain code from p n → IsWhole code p → op ≡ opcode_at code p
+      → p' ≡ next_address code p → n' ≡ level_after op n → Chain code from p' n'
   chain_next op p' n' c w eo ep en = rw (en, eo, ep) (next c w)
 
   module _ (stops : ℕ → ℕ → Bool) where
     -- past an address that does not end the search
-    pub onward_past : {p n q l : ℕ} (op p' n' : ℕ) → stops op n ≡ false → op ≡ opcode_at code p → p' ≡ next_address code p → n' ≡ level_after op n → Onward p n q l → Meets stops code q l → Onward p' n' q l
+    pub onward_past : {p n q l : ℕ} (op p' n' : ℕ) → stops op n ≡ false → op ≡ opcode_at code p → p' ≡ next_address code p
+        → n' ≡ level_after op n → Onward p n q l → Meets stops code q l → Onward p' n' q l
     onward_past op p' n' none eo ep en here m = absurd (let e = m.1 in grind arith)
     onward_past op p' n' none eo ep en (on w r) m = rw (en, eo, ep) r
 

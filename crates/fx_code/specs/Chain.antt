@@ -1,6 +1,7 @@
 -- Instructions, the chain of a program's addresses, and the matches of its structured jumps (Apple TrueType Reference Manual,
 -- "Instructing Fonts": the instruction stream; NPUSHB to PUSHW, IF, ELSE, EIF, FDEF, IDEF, ENDF).
-use Rattle.std.specs.Prelude.{◌≡◌, ◌≢◌, ◌⊎◌, ℕ, ◌+◌, ◌-◌, ◌*◌, ◌≤◌, Bool, ◌&&◌, ◌||◌, ◌==◌, nat_le, if◌then◌else◌, IsTrue, List, length, slice_index, slice_range, Result, MatchResult}
+use Rattle.std.specs.Prelude.{◌≡◌, ◌≢◌, ◌⊎◌, ℕ, ◌+◌, ◌-◌, ◌*◌, ◌≤◌, Bool, ◌&&◌, ◌||◌, ◌==◌, nat_le, if◌then◌else◌, IsTrue, List}
+use Rattle.std.specs.Prelude.{length, slice_index, slice_range, Result, MatchResult}
 use Rattle.fx_code.specs.declared.fault.CodeFault.{CodeFault}
 use Rattle.fx_code.specs.declared.fault.CodeFault.TheVariants.{CodeEnd, NestedDefinition}
 use Rattle.fx_code.specs.Opcodes.{NPUSHB, NPUSHW, PUSHB_1, PUSHB_8, PUSHW_1, PUSHW_8, ELSE, FDEF, ENDF, IF, EIF, IDEF}
@@ -50,7 +51,8 @@ level_after op level = if op == IF then level + 1 else if op == EIF then level -
 -- the least set that holds the address and with each whole instruction's address the next one.
 pub data Chain (code : List ℕ) (from : ℕ) : ℕ → ℕ → Type 0 where
   first : Chain code from from 0
-  next : {address level : ℕ} → Chain code from address level → IsWhole code address → Chain code from (next_address code address) (level_after (opcode_at code address) level)
+  next : {address level : ℕ} → Chain code from address level → IsWhole code address
+      → Chain code from (next_address code address) (level_after (opcode_at code address) level)
 
 -- a false IF continues after an ELSE or EIF of its own level
 unfoldable pub stops_at_false : ℕ → ℕ → Bool

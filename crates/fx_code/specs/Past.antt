@@ -1,5 +1,6 @@
 -- Where a skip continues, as a function beside the relation of Chain: the search from address to address.
-use Rattle.std.specs.Prelude.{ℕ, zero, suc, ◌+◌, Bool, nat_le, ◌==◌, if◌then◌else◌, List, length, Option, Some, None, Result, Ok, Err}
+use Rattle.std.specs.Prelude.{ℕ, zero, suc, ◌+◌, Bool, nat_le, ◌==◌, if◌then◌else◌, List, length, Option, Some, None, Result, Ok}
+use Rattle.std.specs.Prelude.{Err}
 use Rattle.fx_code.specs.declared.fault.CodeFault.{CodeFault}
 use Rattle.fx_code.specs.declared.fault.CodeFault.TheVariants.{CodeEnd, NestedDefinition}
 use Rattle.fx_code.specs.Opcodes.{ENDF}

@@ -1,6 +1,7 @@
 //! The bytes of a program, and how a program continues from an address.
 
-ghost use Rattle.std.specs.Prelude.{◌≡◌, ℕ, ◌+◌, ◌<◌, ◌≤◌, List, MatchResult, MatchOption, IfOk, IfErr, IfSome, ◌^◌, length, if◌then◌else◌};
+ghost use Rattle.std.specs.Prelude.{◌≡◌, ℕ, ◌+◌, ◌<◌, ◌≤◌, List, MatchResult, MatchOption, IfOk, IfErr, IfSome, ◌^◌, length};
+ghost use Rattle.std.specs.Prelude.{if◌then◌else◌};
 ghost use Rattle.fx_code.specs.Chain.{next_address, opcode_at, head_len, data_len, has_data, data_at, IsWhole};
 ghost use Rattle.fx_code.specs.Chain.{IsFirst, HasNone, stops_at_false, stops_at_else, LeadsPast, LeadsPastDefinition};
 ghost use Rattle.fx_code.specs.Past.{past_of, past_definition_of};

@@ -37,7 +37,8 @@ across_axis d =
 
 -- ---- shortcuts for the axes
 
-same_place : {x y x' y' : ℤ} → x ≡ x' → y ≡ y' → (let p : Place = record { x = x; y = y } in p) ≡ (let p : Place = record { x = x'; y = y' } in p)
+same_place : {x y x' y' : ℤ} → x ≡ x' → y ≡ y'
+    → (let p : Place = record { x = x; y = y } in p) ≡ (let p : Place = record { x = x'; y = y' } in p)
 same_place e h = cc
 
 pub on_x : {v : ℤ × ℤ} (d : Place) → FitsSigned w32 d.x → v ≡ axis_of X → d.x ≡ projection_of v d

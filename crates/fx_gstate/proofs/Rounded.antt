@@ -1,21 +1,25 @@
 -- The greatest member of a grid not above a number, and distances rounded to a grid.
 -- Serves `greatest_member`, `round_size`, `Grid::round`, `RoundState::round` and `rounding_laws`.
-use Rattle.std.proofs.Common.{◌≡◌, ℕ, ◌+◌, ◌<◌, ◌≤◌, arith, ℤ, pos, negsuc, neg_ℤ, ◌+ℤ◌, ◌-ℤ◌, ◌*ℤ◌, ◌<ℤ◌, ◌≤ℤ◌, unsigned_abs, ◌∙◌, sym, ap}
+use Rattle.std.proofs.Common.{◌≡◌, ℕ, ◌+◌, ◌<◌, ◌≤◌, arith, ℤ, pos, negsuc, neg_ℤ, ◌+ℤ◌, ◌-ℤ◌, ◌*ℤ◌, ◌<ℤ◌, ◌≤ℤ◌, unsigned_abs}
+use Rattle.std.proofs.Common.{◌∙◌, sym, ap}
 use Rattle.std.proofs.Math.Nat.{mul-le-mul_right}
 use Rattle.std.proofs.lemmas.Int.{ints, by_lt_z}
 use borrow.Author.Differences.{up, down}
 use Rattle.std.specs.Int.{int_rem_euclid, int_div_euclid}
 use Rattle.fx_fixed.proofs.Rounding.{by_quotient}
 use Rattle.fx_fixed.specs.Numbers.{wrapped_of}
-use Rattle.fx_gstate.specs.Grid.{GridView, OnGrid, IsGreatestNotAbove, IsRoundedSize, IsRounded, RoundedIsFunctional, RoundedOfIsRounded, grid_rounded_of, member_of, member_or_phase, with_sign_of}
+use Rattle.fx_gstate.specs.Grid.{GridView, OnGrid, IsGreatestNotAbove, IsRoundedSize, IsRounded, RoundedIsFunctional}
+use Rattle.fx_gstate.specs.Grid.{RoundedOfIsRounded, grid_rounded_of, member_of, member_or_phase, with_sign_of}
 
 -- no member lies between two that follow each other
-no_member_between : (p : ℕ) (phase x q n : ℤ) → x <ℤ (phase +ℤ q *ℤ pos p +ℤ pos p) → (phase +ℤ n *ℤ pos p) ≤ℤ x → (phase +ℤ n *ℤ pos p) ≤ℤ (phase +ℤ q *ℤ pos p)
+no_member_between : (p : ℕ) (phase x q n : ℤ) → x <ℤ (phase +ℤ q *ℤ pos p +ℤ pos p) → (phase +ℤ n *ℤ pos p) ≤ℤ x
+    → (phase +ℤ n *ℤ pos p) ≤ℤ (phase +ℤ q *ℤ pos p)
 no_member_between p phase x q n above below = by_lt_z q n
     (λ l. let m : up q + down n + 1 ≤ up n + down q = omega (arith, ints) in absurd (omega (arith, ints, mul-le-mul_right p m)))
     (λ l. let m : up n + down q ≤ up q + down n = omega (arith, ints) in omega (arith, ints, mul-le-mul_right p m))
 
-pub greatest_by_quotient : (p : ℕ) (phase x m q : ℤ) → m ≡ phase +ℤ q *ℤ pos p → m ≤ℤ x → x <ℤ (m +ℤ pos p) → IsGreatestNotAbove (OnGrid (pos p) phase) x m
+pub greatest_by_quotient : (p : ℕ) (phase x m q : ℤ) → m ≡ phase +ℤ q *ℤ pos p → m ≤ℤ x → x <ℤ (m +ℤ pos p)
+    → IsGreatestNotAbove (OnGrid (pos p) phase) x m
 greatest_by_quotient p phase x m q e low high = record {
   member = record { index = q; is = e };
   not_above = low;
@@ -26,7 +30,8 @@ rem_is : (a : ℤ) (p : ℕ) → 0 < p → (pos 0 ≤ℤ int_rem_euclid a (pos p
 rem_is (pos a) p h = omega (arith, ints)
 rem_is (negsuc a) p h = omega (arith, ints)
 
-pub greatest_by_rem : (period phase x : ℤ) → pos 1 ≤ℤ period → IsGreatestNotAbove (OnGrid period phase) x (x -ℤ int_rem_euclid (x -ℤ phase) period)
+pub greatest_by_rem : (period phase x : ℤ) → pos 1 ≤ℤ period
+    → IsGreatestNotAbove (OnGrid period phase) x (x -ℤ int_rem_euclid (x -ℤ phase) period)
 greatest_by_rem (pos p) phase x h =
     let some : 0 < p = omega (arith, ints) in
     let r = rem_is (x -ℤ phase) p some in
@@ -54,7 +59,8 @@ one_rounded grid d r s g h =
     (λ l. g.not_negative l ∙ ap wrapped_of e ∙ sym (h.not_negative l))
 
 -- the same with each value by its own equation, as code gives them
-pub greatest_from : (period phase x m rem a p : ℤ) → pos 1 ≤ℤ period → rem ≡ int_rem_euclid a p → a ≡ x -ℤ phase → p ≡ period → m ≡ x -ℤ rem → IsGreatestNotAbove (OnGrid period phase) x m
+pub greatest_from : (period phase x m rem a p : ℤ) → pos 1 ≤ℤ period → rem ≡ int_rem_euclid a p → a ≡ x -ℤ phase → p ≡ period
+    → m ≡ x -ℤ rem → IsGreatestNotAbove (OnGrid period phase) x m
 greatest_from period phase x m rem a p h e f g i = rw (i, e, f, g) (greatest_by_rem period phase x h)
 
 pub size_from : (grid : GridView) (s : ℕ) (period phase x member v : ℤ) → IsGreatestNotAbove (OnGrid period phase) x member

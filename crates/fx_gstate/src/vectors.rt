@@ -3,7 +3,8 @@
 ghost use Rattle.std.specs.Prelude.{◌≡◌, ◌↔◌, IsTrue, ◌^◌, ◌+ℤ◌, ◌*ℤ◌, unsigned_abs, ◌≤◌};
 ghost use Rattle.fx_fixed.specs.Ranges.{IsWithin};
 ghost use Rattle.fx_fixed.specs.Unit.{unit_of};
-ghost use Rattle.fx_gstate.specs.Vectors.{axis_of, projection_of, line_of, low_word, words_of, turned_of, part_of, place_along, has_part};
+ghost use Rattle.fx_gstate.specs.Vectors.{axis_of, projection_of, line_of, low_word, words_of, turned_of, part_of, place_along};
+ghost use Rattle.fx_gstate.specs.Vectors.{has_part};
 
 use fx_fixed::{Axis, F2, F26, Place, near_16384, unit, w32};
 use std::marker::Model;

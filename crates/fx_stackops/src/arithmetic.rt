@@ -1,0 +1,198 @@
+//! Arithmetic in 26.6.
+
+ghost use Rattle.std.specs.Prelude.{◌≡◌, ◌≢◌, ◌≤◌, ◌^◌, pos, neg_ℤ, ◌*ℤ◌, unsigned_abs};
+ghost use Rattle.fx_gstate.specs.States.{leaves};
+ghost use Rattle.fx_fixed.specs.Numbers.{near_of, cut_of, wrapped_of};
+ghost use Rattle.fx_stackops.specs.Store.{HasSizes};
+ghost use Rattle.fx_stackops.specs.Rows.{add_of, sub_of, div_of, mul_of, abs_of, neg_of, floor_of, ceiling_of, floored};
+ghost use Rattle.fx_stackops.specs.Rows.{round_of, nround_of, max_of, min_of};
+
+use crate::fault::StackFault;
+use crate::store::Store;
+use fx_fixed::{F26, near_64, w32};
+use fx_gstate::GState;
+
+impl Store {
+    /// ADD: the sum, modulo 2^32.
+    #[tactic(auto, unfolding(crate::specs::Rows::add_of))]
+    pub fn add(&mut self) -> Result<(), StackFault>
+        ensures value { leaves result self.new ≡ add_of self.old }
+        ensures sizes { HasSizes self.old self.new }
+    {
+        let (a, b) = self.two()?;
+        self.put(F26(a).plus(F26(b)).0);
+        Ok(())
+    }
+
+    /// SUB: the difference, modulo 2^32.
+    #[tactic(auto, unfolding(crate::specs::Rows::sub_of))]
+    pub fn sub(&mut self) -> Result<(), StackFault>
+        ensures value { leaves result self.new ≡ sub_of self.old }
+        ensures sizes { HasSizes self.old self.new }
+    {
+        let (a, b) = self.two()?;
+        self.put(F26(a).minus(F26(b)).0);
+        Ok(())
+    }
+
+    /// DIV: the quotient in 26.6 without its fraction; `DivideByZero` if b is 0.
+    #[tactic(auto, unfolding(crate::specs::Rows::div_of))]
+    pub fn div(&mut self) -> Result<(), StackFault>
+        ensures value { leaves result self.new ≡ div_of self.old }
+        ensures sizes { HasSizes self.old self.new }
+    {
+        let (a, b) = self.two()?;
+        if b == 0 {
+            return Err(StackFault::DivideByZero);
+        }
+        self.put(quotient(a, b));
+        Ok(())
+    }
+
+    /// MUL: the product in 26.6, rounded to the nearest.
+    #[tactic(auto, unfolding(crate::specs::Rows::mul_of))]
+    pub fn mul(&mut self) -> Result<(), StackFault>
+        ensures value { leaves result self.new ≡ mul_of self.old }
+        ensures sizes { HasSizes self.old self.new }
+    {
+        let (a, b) = self.two()?;
+        self.put(product(a, b));
+        Ok(())
+    }
+
+    /// ABS: the size, modulo 2^32.
+    #[tactic(auto, unfolding(crate::specs::Rows::abs_of))]
+    pub fn abs(&mut self) -> Result<(), StackFault>
+        ensures value { leaves result self.new ≡ abs_of self.old }
+        ensures sizes { HasSizes self.old self.new }
+    {
+        let a = self.one()?;
+        self.put(w32(i128::from(a.unsigned_abs())));
+        Ok(())
+    }
+
+    /// NEG: the negative, modulo 2^32.
+    #[tactic(auto, unfolding(crate::specs::Rows::neg_of))]
+    pub fn neg(&mut self) -> Result<(), StackFault>
+        ensures value { leaves result self.new ≡ neg_of self.old }
+        ensures sizes { HasSizes self.old self.new }
+    {
+        let a = self.one()?;
+        self.put(w32(-i128::from(a)));
+        Ok(())
+    }
+
+    /// FLOOR: the greatest whole number of pixels not above it.
+    #[tactic(auto, unfolding(crate::specs::Rows::floor_of))]
+    pub fn floor(&mut self) -> Result<(), StackFault>
+        ensures value { leaves result self.new ≡ floor_of self.old }
+        ensures sizes { HasSizes self.old self.new }
+    {
+        let a = self.one()?;
+        self.put(w32(i128::from(floor_64(i64::from(a)))));
+        Ok(())
+    }
+
+    /// CEILING: the least whole number of pixels not below it, modulo 2^32.
+    #[tactic(auto, unfolding(crate::specs::Rows::ceiling_of))]
+    pub fn ceiling(&mut self) -> Result<(), StackFault>
+        ensures value { leaves result self.new ≡ ceiling_of self.old }
+        ensures sizes { HasSizes self.old self.new }
+    {
+        let a = self.one()?;
+        self.put(w32(i128::from(ceiling_64(a))));
+        Ok(())
+    }
+
+    /// ROUND: rounded by the round state.
+    #[tactic(auto, unfolding(crate::specs::Rows::round_of))]
+    pub fn round(&mut self, g: &GState) -> Result<(), StackFault>
+        ensures value { leaves result self.new ≡ round_of g.now self.old }
+        ensures sizes { HasSizes self.old self.new }
+    {
+        let a = self.one()?;
+        self.put(g.round(F26(a)).0);
+        Ok(())
+    }
+
+    /// NROUND: as it is.
+    #[tactic(auto, unfolding(crate::specs::Rows::nround_of))]
+    pub fn nround(&mut self) -> Result<(), StackFault>
+        ensures value { leaves result self.new ≡ nround_of self.old }
+        ensures sizes { HasSizes self.old self.new }
+    {
+        let a = self.one()?;
+        self.put(a);
+        Ok(())
+    }
+
+    /// MAX: the greater.
+    #[tactic(auto, unfolding(crate::specs::Rows::max_of))]
+    pub fn max(&mut self) -> Result<(), StackFault>
+        ensures value { leaves result self.new ≡ max_of self.old }
+        ensures sizes { HasSizes self.old self.new }
+    {
+        let (a, b) = self.two()?;
+        self.put(if a < b { b } else { a });
+        Ok(())
+    }
+
+    /// MIN: the lesser.
+    #[tactic(auto, unfolding(crate::specs::Rows::min_of))]
+    pub fn min(&mut self) -> Result<(), StackFault>
+        ensures value { leaves result self.new ≡ min_of self.old }
+        ensures sizes { HasSizes self.old self.new }
+    {
+        let (a, b) = self.two()?;
+        self.put(if b < a { b } else { a });
+        Ok(())
+    }
+}
+
+/// The product of two numbers in 26.6.
+fn product(a: i32, b: i32) -> i32
+    ensures { result ≡ wrapped_of (near_of (a *ℤ b) (pos 64)) }
+{
+    w32(i128::from(near_64(exact_product(a, b))))
+}
+
+/// The exact product, in 1/4096.
+fn exact_product(a: i32, b: i32) -> i64
+    ensures value { result ≡ a *ℤ b }
+    ensures size { unsigned_abs result ≤ 2 ^ 62 }
+{
+    i64::from(a) * i64::from(b)
+}
+
+/// The quotient of two numbers in 26.6, without its fraction.
+fn quotient(a: i32, b: i32) -> i32
+    requires { b ≢ pos 0 }
+    ensures { result ≡ wrapped_of (cut_of (pos 64 *ℤ a) b) }
+{
+    w32(i128::from(exact_quotient(a, b)))
+}
+
+/// The same, before it is made 32 bits.
+#[tactic(auto, unfolding(fx_fixed::specs::Numbers::cut_of))]
+fn exact_quotient(a: i32, b: i32) -> i64
+    requires { b ≢ pos 0 }
+    ensures { result ≡ cut_of (pos 64 *ℤ a) b }
+{
+    64 * i64::from(a) / i64::from(b)
+}
+
+/// The least multiple of 64 not below a number.
+fn ceiling_64(a: i32) -> i64
+    ensures { result ≡ neg_ℤ (floored (neg_ℤ a)) }
+{
+    -floor_64(-i64::from(a))
+}
+
+/// The greatest multiple of 64 not above a number.
+fn floor_64(a: i64) -> i64
+    requires { unsigned_abs a ≤ 2 ^ 40 }
+    ensures value { result ≡ floored a }
+    ensures size { unsigned_abs result ≤ 2 ^ 41 }
+{
+    a - a.rem_euclid(64)
+}

@@ -1,0 +1,142 @@
+//! Instructions on the storage area and the control values.
+
+ghost use Rattle.std.specs.Prelude.{◌≡◌, ◌+◌, ◌*◌, ◌≤◌, length};
+ghost use Rattle.fx_gstate.specs.States.{leaves};
+ghost use Rattle.fx_stackops.specs.Store.{HasSizes};
+ghost use Rattle.fx_stackops.specs.Rows.{ws_of, rs_of, wcvtp_of, rcvt_of, wcvtf_of, with_control, moved_control, control_pair};
+ghost use Rattle.fx_stackops.specs.Rows.{control_pairs, deltac_of};
+
+use crate::fault::StackFault;
+use crate::store::Store;
+use fx_fixed::{F26, Ppem};
+use fx_gstate::{Delta, DeltaForm, GState};
+
+impl Store {
+    /// WS: writes the storage area.
+    #[tactic(auto, unfolding(crate::specs::Rows::ws_of))]
+    pub fn ws(&mut self) -> Result<(), StackFault>
+        ensures value { leaves result self.new ≡ ws_of self.old }
+        ensures sizes { HasSizes self.old self.new }
+    {
+        let (i, value) = self.two()?;
+        let strays = self.storage().stray(i);
+        self.put_storage(i, value);
+        self.add_strays(strays);
+        Ok(())
+    }
+
+    /// RS: reads the storage area.
+    #[tactic(auto, unfolding(crate::specs::Rows::rs_of))]
+    pub fn rs(&mut self) -> Result<(), StackFault>
+        ensures value { leaves result self.new ≡ rs_of self.old }
+        ensures sizes { HasSizes self.old self.new }
+    {
+        let i = self.one()?;
+        let strays = self.storage().stray(i);
+        self.add_strays(strays);
+        let value = self.storage().read(i);
+        self.put(value);
+        Ok(())
+    }
+
+    /// WCVTP: writes a control value, in 26.6.
+    #[tactic(auto, unfolding(crate::specs::Rows::wcvtp_of))]
+    pub fn wcvtp(&mut self) -> Result<(), StackFault>
+        ensures value { leaves result self.new ≡ wcvtp_of self.old }
+        ensures sizes { HasSizes self.old self.new }
+    {
+        let (i, value) = self.two()?;
+        self.set_control(i, value);
+        Ok(())
+    }
+
+    /// WCVTF: writes a control value, which the caller has scaled from FUnits.
+    #[tactic(auto, unfolding(crate::specs::Rows::wcvtf_of))]
+    pub fn wcvtf(&mut self, scaled: F26) -> Result<(), StackFault>
+        ensures value { leaves result self.new ≡ wcvtf_of scaled self.old }
+        ensures sizes { HasSizes self.old self.new }
+    {
+        let (i, _) = self.two()?;
+        self.set_control(i, scaled.0);
+        Ok(())
+    }
+
+    /// RCVT: reads a control value.
+    #[tactic(auto, unfolding(crate::specs::Rows::rcvt_of))]
+    pub fn rcvt(&mut self) -> Result<(), StackFault>
+        ensures value { leaves result self.new ≡ rcvt_of self.old }
+        ensures sizes { HasSizes self.old self.new }
+    {
+        let i = self.one()?;
+        let strays = self.control_stray(i);
+        self.add_strays(strays);
+        let value = self.control(i);
+        self.put(value);
+        Ok(())
+    }
+
+    /// DELTAC1, DELTAC2, DELTAC3: moves the control values whose arguments act at this size.
+    #[tactic(auto, unfolding(crate::specs::Rows::deltac_of))]
+    pub fn deltac(&mut self, form: DeltaForm, g: &GState, ppem: Ppem) -> Result<(), StackFault>
+        ensures value { leaves result self.new ≡ deltac_of form g.now ppem self.old }
+        ensures sizes { HasSizes self.old self.new }
+    {
+        let n = self.one()?;
+        if n < 0 {
+            return Err(StackFault::BadArgument);
+        }
+        let pairs = n.unsigned_abs();
+        if self.stack_len() < 2 * pairs as usize {
+            return Err(StackFault::StackUnder);
+        }
+        self.move_controls(form, g, ppem, pairs);
+        Ok(())
+    }
+
+    /// Pops pairs that are there, and moves the control values whose arguments act.
+    fn move_controls(&mut self, form: DeltaForm, g: &GState, ppem: Ppem, pairs: u32)
+        requires { 2 * pairs ≤ length self.old.stack }
+        ensures value { self.new ≡ control_pairs form g.now ppem pairs self.old }
+        ensures sizes { HasSizes self.old self.new }
+    {
+        let mut left = pairs;
+        'pairs: while left > 0 {
+            self.move_control(form, g, ppem);
+            left -= 1;
+        }
+    }
+
+    /// Pops one pair that is there, and moves its control value if its argument acts.
+    #[tactic(auto, unfolding(crate::specs::Rows::control_pair))]
+    fn move_control(&mut self, form: DeltaForm, g: &GState, ppem: Ppem)
+        requires { 2 ≤ length self.old.stack }
+        ensures value { self.new ≡ control_pair form g.now ppem self.old }
+        ensures sizes { HasSizes self.old self.new }
+        ensures left { length self.new.stack + 2 ≡ length self.old.stack }
+    {
+        let (argument, number) = self.pair();
+        self.act(g.delta(form, argument), ppem, number);
+    }
+
+    /// Moves a control value, if its argument acts at this size.
+    fn act(&mut self, delta: Delta, ppem: Ppem, number: i32)
+        ensures value { self.new ≡ moved_control ppem delta number self.old }
+        ensures sizes { HasSizes self.old self.new }
+    {
+        let amount = delta.amount;
+        if delta.acts_at(ppem) {
+            let value = F26(self.control(number)).plus(amount);
+            self.set_control(number, value.0);
+        }
+    }
+
+    /// Writes a control value, or counts a stray.
+    pub fn set_control(&mut self, number: i32, x: i32)
+        ensures value { self.new ≡ with_control number x self.old }
+        ensures sizes { HasSizes self.old self.new }
+    {
+        let strays = self.control_stray(number);
+        self.put_control(number, x);
+        self.add_strays(strays);
+    }
+}
