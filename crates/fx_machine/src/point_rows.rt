@@ -48,7 +48,7 @@ impl State {
         if number == -1 {
             return 0;
         }
-        u64::from(self.store.control_stray(number))
+        self.store.control_stray(number)
     }
 
     /// ISECT: a point to where two lines cross.
@@ -222,7 +222,7 @@ impl State {
     {
         let (p, number) = self.store.two()?;
         let value = F26(self.store.control(number));
-        self.store.add_strays(u64::from(self.store.control_stray(number)));
+        self.store.add_strays(self.store.control_stray(number));
         let strays = self.zones.miap(&self.graphics, rounds, p, value);
         self.store.add_strays(strays);
         self.graphics.set_rp0(p);

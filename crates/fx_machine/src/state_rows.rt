@@ -102,8 +102,8 @@ impl State {
         ensures sizes { HasSizes self.old self.new }
     {
         let vector = self.graphics.projection;
-        self.store.push(i32::from(vector.x()))?;
-        self.store.push(i32::from(vector.y()))?;
+        self.store.push(i32::from(vector.x().0))?;
+        self.store.push(i32::from(vector.y().0))?;
         Ok(())
     }
 
@@ -115,8 +115,8 @@ impl State {
         ensures sizes { HasSizes self.old self.new }
     {
         let vector = self.graphics.freedom;
-        self.store.push(i32::from(vector.x()))?;
-        self.store.push(i32::from(vector.y()))?;
+        self.store.push(i32::from(vector.x().0))?;
+        self.store.push(i32::from(vector.y().0))?;
         Ok(())
     }
 
