@@ -39,7 +39,7 @@ three_from (c ∷ []) s = Err StackUnder
 three_from (c ∷ b ∷ []) s = Err StackUnder
 three_from (c ∷ b ∷ a ∷ rest) s = Ok (a, b, c, with_stack rest s)
 
--- one operand and what is left; two and three of them, the deepest first
+-- one operand and what is left; two, three and five of them, the deepest first
 unfoldable pub one : StoreView → Result (ℤ × StoreView) StackFault
 one s = one_from s.stack s
 
@@ -48,6 +48,12 @@ two s = two_from s.stack s
 
 unfoldable pub three : StoreView → Result (ℤ × ℤ × ℤ × StoreView) StackFault
 three s = three_from s.stack s
+
+unfoldable pub five : StoreView → Result (ℤ × ℤ × ℤ × ℤ × ℤ × StoreView) StackFault
+five s = do
+  x ← two s
+  y ← three x.2
+  Ok (y.0, y.1, y.2, x.0, x.1, y.3)
 
 -- the top n numbers of a stack, the deepest first
 unfoldable pub top_numbers : ℕ → StoreView → Result (List ℤ) StackFault
@@ -110,6 +116,10 @@ with_rest_two (Err e) s = Err e
 abbrev pub with_rest_three : {E : Type 0} → Result (ℤ × ℤ × ℤ) E → StoreView → Result (ℤ × ℤ × ℤ × StoreView) E
 with_rest_three (Ok x) s = Ok (x.0, x.1, x.2, s)
 with_rest_three (Err e) s = Err e
+
+abbrev pub with_rest_five : {E : Type 0} → Result (ℤ × ℤ × ℤ × ℤ × ℤ) E → StoreView → Result (ℤ × ℤ × ℤ × ℤ × ℤ × StoreView) E
+with_rest_five (Ok x) s = Ok (x.0, x.1, x.2, x.3, x.4, s)
+with_rest_five (Err e) s = Err e
 
 -- as much room, and tables of the same sizes
 pub record HasSizes (s t : StoreView) : Type 0 where

@@ -7,7 +7,7 @@ ghost use Rattle.fx_gstate.specs.States.{leaves};
 ghost use Rattle.fx_stackops.specs.Table.{AreNumbers, read_of, written_of, stray_of};
 ghost use Rattle.fx_stackops.specs.Store.{room_of, one, two, two_from, three, index_of, element_of, moved_up, top_numbers};
 ghost use Rattle.fx_stackops.specs.Store.{pushed, with_stack, with_strays, HasSizes};
-ghost use Rattle.fx_stackops.specs.Store.{with_rest, with_rest_two, with_rest_three};
+ghost use Rattle.fx_stackops.specs.Store.{five, with_rest, with_rest_two, with_rest_three, with_rest_five};
 
 use crate::fault::StackFault;
 use crate::table::Table;
@@ -101,6 +101,17 @@ impl Store {
             self.cells.at(self.depth + 1),
             self.cells.at(self.depth + 2),
         ))
+    }
+
+    /// Pops five operands, if there are five: the deepest one first.
+    #[tactic(auto, unfolding(crate::specs::Store::five))]
+    pub fn five(&mut self) -> Result<(i32, i32, i32, i32, i32), StackFault>
+        ensures value { with_rest_five result self.new ≡ five self.old }
+        ensures sizes { HasSizes self.old self.new }
+    {
+        let (d, e) = self.two()?;
+        let (a, b, c) = self.three()?;
+        Ok((a, b, c, d, e))
     }
 
     /// The top numbers of the stack, the deepest first, if there are so many.
@@ -213,11 +224,11 @@ impl Store {
     }
 
     /// Counts strays.
-    pub fn add_strays(&mut self, count: u32)
+    pub fn add_strays(&mut self, count: u64)
         ensures value { self.new ≡ with_strays count self.old }
         ensures sizes { HasSizes self.old self.new }
     {
-        self.strays = self.strays.saturating_add(u64::from(count));
+        self.strays = self.strays.saturating_add(count);
     }
 
     /// How many strays were counted.
@@ -257,7 +268,7 @@ impl Store {
     }
 
     /// 1 if a number is outside the control values, which is a stray, else 0.
-    pub fn control_stray(&self, number: i32) -> u32
+    pub fn control_stray(&self, number: i32) -> u64
         ensures { result ≡ stray_of self.now.cvt number }
     {
         self.cvt.stray(number)

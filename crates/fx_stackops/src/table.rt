@@ -110,7 +110,7 @@ impl Table {
     }
 
     /// 1 if a number of a program is outside, which is a stray, else 0.
-    pub fn stray(&self, number: i32) -> u32
+    pub fn stray(&self, number: i32) -> u64
         ensures { result ≡ stray_of self.now number }
     {
         if number >= 0 && (number as usize) < self.len() {

@@ -245,6 +245,16 @@ fn pushes(rt: HostRuntime) -> Result<(), Fail> {
 }
 
 #[test]
+fn operands(rt: HostRuntime) -> Result<(), Fail> {
+    let mut store = store_of(&rt, rt.alloc(), &[1, 2, 3, 4, 5, 6])?;
+    assert_eq!(rt; store.five(), Ok((2, 3, 4, 5, 6)));
+    assert_eq!(rt; store.two(), Err(StackFault::StackUnder));
+    assert_eq!(rt; store.one(), Ok(1));
+    assert_eq!(rt; store.three(), Err(StackFault::StackUnder));
+    Ok(())
+}
+
+#[test]
 fn begins_anew(rt: HostRuntime) -> Result<(), Fail> {
     let mut store = store_of(&rt, rt.alloc(), &[1, 2])?;
     let storage = Table::zeros(rt.alloc(), 4)?;
