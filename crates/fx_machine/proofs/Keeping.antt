@@ -9,16 +9,22 @@ use Rattle.fx_code.specs.declared.fault.CodeFault.{CodeFault}
 use Rattle.fx_gstate.specs.declared.deltas.DeltaForm.{DeltaForm}
 use Rattle.fx_gstate.specs.declared.fault.BadArgument.{BadArgument as BadArgumentOf}
 use Rattle.fx_gstate.specs.declared.state.GState.{GState}
+use Rattle.fx_gstate.specs.declared.rounding.RoundState.TheVariants.{Super}
 use Rattle.fx_gstate.specs.States.{zone_of}
+use Rattle.fx_gstate.specs.Vectors.{line_of, words_of}
+use Rattle.fx_gstate.specs.Rounding.{super_grid_of}
+use Rattle.fx_gstate.specs.Setters.{with_zp0, with_zp1, with_zp2, with_zones, with_loop, with_delta_shift}
+use Rattle.fx_scale.specs.Scaling.{scaled_by}
 use Rattle.fx_stackops.specs.declared.fault.StackFault.{StackFault}
 use Rattle.fx_stackops.specs.Store.{StoreView, one, two, three, top_numbers, pushed}
 use Rattle.fx_pointops.specs.declared.distances.Relative.{Relative}
 use Rattle.fx_pointops.specs.declared.measure.Line.{Line}
 use Rattle.fx_pointops.specs.declared.zones.Zones.{Zones}
 use Rattle.fx_pointops.specs.Zones.{Outcome, HasShapes}
-use Rattle.fx_pointops.specs.Direct.{utp_of, alignrp_of, alignpts_of, scfs_of}
+use Rattle.fx_pointops.specs.Direct.{utp_of, alignrp_of, alignpts_of, scfs_of, shpix_of}
+use Rattle.fx_pointops.specs.Shift.{shp_of, shc_of}
 use Rattle.fx_pointops.specs.Interpolate.{ip_of}
-use Rattle.fx_pointops.specs.Flip.{flippt_of}
+use Rattle.fx_pointops.specs.Flip.{flippt_of, fliprg_of}
 use Rattle.fx_pointops.proofs.Keeping.{shapes_same, shapes_then, utp_keeps, mdap_keeps, msirp_keeps, alignrp_keeps, alignpts_keeps, scfs_keeps, shpix_keeps, mdrp_keeps}
 use Rattle.fx_pointops.proofs.Keeping.{miap_keeps, mirp_keeps, shp_keeps, shc_keeps, shz_keeps, ip_keeps, isect_keeps, flippt_keeps, fliprg_keeps, deltap_keeps, iup_keeps}
 use Rattle.fx_machine.specs.declared.program.Program.{Program}
@@ -118,95 +124,95 @@ pair_keeps v s = plain_bind s.zones (map_fault of_stack (pushed v.0 s.store)) _ 
 
 spvtl_keeps : (turned : Bool) (s : State) → Plain s.zones (spvtl_of turned s)
 unfolding spvtl_of
-spvtl_keeps turned s = line_keeps _ s
+spvtl_keeps turned s = line_keeps (λ l g. record g { projection = line_of l.cur turned; dual = line_of l.cur turned }) s
 
 sfvtl_keeps : (turned : Bool) (s : State) → Plain s.zones (sfvtl_of turned s)
 unfolding sfvtl_of
-sfvtl_keeps turned s = line_keeps _ s
+sfvtl_keeps turned s = line_keeps (λ l g. record g { freedom = line_of l.cur turned }) s
 
 sdpvtl_keeps : (turned : Bool) (s : State) → Plain s.zones (sdpvtl_of turned s)
 unfolding sdpvtl_of
-sdpvtl_keeps turned s = line_keeps _ s
+sdpvtl_keeps turned s = line_keeps (λ l g. record g { projection = line_of l.cur turned; dual = line_of l.org turned }) s
 
 spvfs_keeps : (s : State) → Plain s.zones (spvfs_of s)
 unfolding spvfs_of
-spvfs_keeps s = by_two_keeps _ s
+spvfs_keeps s = by_two_keeps (λ x y g. record g { projection = words_of x y; dual = words_of x y }) s
 
 sfvfs_keeps : (s : State) → Plain s.zones (sfvfs_of s)
 unfolding sfvfs_of
-sfvfs_keeps s = by_two_keeps _ s
+sfvfs_keeps s = by_two_keeps (λ x y g. record g { freedom = words_of x y }) s
 
 gpv_keeps : (s : State) → Plain s.zones (gpv_of s)
 unfolding gpv_of
-gpv_keeps s = pair_keeps _ s
+gpv_keeps s = pair_keeps s.graphics.projection s
 
 gfv_keeps : (s : State) → Plain s.zones (gfv_of s)
 unfolding gfv_of
-gfv_keeps s = pair_keeps _ s
+gfv_keeps s = pair_keeps s.graphics.freedom s
 
 srp0_keeps : (s : State) → Plain s.zones (srp0_of s)
 unfolding srp0_of
-srp0_keeps s = by_one_keeps _ s
+srp0_keeps s = by_one_keeps (λ p g. record g { rp0 = p }) s
 
 srp1_keeps : (s : State) → Plain s.zones (srp1_of s)
 unfolding srp1_of
-srp1_keeps s = by_one_keeps _ s
+srp1_keeps s = by_one_keeps (λ p g. record g { rp1 = p }) s
 
 srp2_keeps : (s : State) → Plain s.zones (srp2_of s)
 unfolding srp2_of
-srp2_keeps s = by_one_keeps _ s
+srp2_keeps s = by_one_keeps (λ p g. record g { rp2 = p }) s
 
 smd_keeps : (s : State) → Plain s.zones (smd_of s)
 unfolding smd_of
-smd_keeps s = by_one_keeps _ s
+smd_keeps s = by_one_keeps (λ v g. record g { minimum_distance = v }) s
 
 scvtci_keeps : (s : State) → Plain s.zones (scvtci_of s)
 unfolding scvtci_of
-scvtci_keeps s = by_one_keeps _ s
+scvtci_keeps s = by_one_keeps (λ v g. record g { cut_in = v }) s
 
 sswci_keeps : (s : State) → Plain s.zones (sswci_of s)
 unfolding sswci_of
-sswci_keeps s = by_one_keeps _ s
+sswci_keeps s = by_one_keeps (λ v g. record g { single_width_cut_in = v }) s
 
 ssw_keeps : (s : State) → Plain s.zones (ssw_of s)
 unfolding ssw_of
-ssw_keeps s = by_one_keeps _ s
+ssw_keeps s = by_one_keeps (λ v g. record g { single_width = scaled_by s.scale v }) s
 
 sdb_keeps : (s : State) → Plain s.zones (sdb_of s)
 unfolding sdb_of
-sdb_keeps s = by_one_keeps _ s
+sdb_keeps s = by_one_keeps (λ n g. record g { delta_base = n }) s
 
 sround_keeps : (s : State) → Plain s.zones (sround_of s)
 unfolding sround_of
-sround_keeps s = by_one_keeps _ s
+sround_keeps s = by_one_keeps (λ n g. record g { round_state = Super (super_grid_of 64 n) }) s
 
 s45round_keeps : (s : State) → Plain s.zones (s45round_of s)
 unfolding s45round_of
-s45round_keeps s = by_one_keeps _ s
+s45round_keeps s = by_one_keeps (λ n g. record g { round_state = Super (super_grid_of 45 n) }) s
 
 szp0_keeps : (s : State) → Plain s.zones (szp0_of s)
 unfolding szp0_of
-szp0_keeps s = in_range_keeps _ s
+szp0_keeps s = in_range_keeps with_zp0 s
 
 szp1_keeps : (s : State) → Plain s.zones (szp1_of s)
 unfolding szp1_of
-szp1_keeps s = in_range_keeps _ s
+szp1_keeps s = in_range_keeps with_zp1 s
 
 szp2_keeps : (s : State) → Plain s.zones (szp2_of s)
 unfolding szp2_of
-szp2_keeps s = in_range_keeps _ s
+szp2_keeps s = in_range_keeps with_zp2 s
 
 szps_keeps : (s : State) → Plain s.zones (szps_of s)
 unfolding szps_of
-szps_keeps s = in_range_keeps _ s
+szps_keeps s = in_range_keeps with_zones s
 
 sloop_keeps : (s : State) → Plain s.zones (sloop_of s)
 unfolding sloop_of
-sloop_keeps s = in_range_keeps _ s
+sloop_keeps s = in_range_keeps with_loop s
 
 sds_keeps : (s : State) → Plain s.zones (sds_of s)
 unfolding sds_of
-sds_keeps s = in_range_keeps _ s
+sds_keeps s = in_range_keeps with_delta_shift s
 
 wcvtf_keeps : (s : State) → Plain s.zones (wcvtf_of s)
 unfolding wcvtf_of Plain
@@ -253,11 +259,11 @@ iup_row_keeps axis s = iup_keeps axis s.zones
 
 shp_row_keeps : (first : Bool) (s : State) → Plain s.zones (shp_row first s)
 unfolding shp_row
-shp_row_keeps first s = loop_keeps _ (λ g ps z. shp_keeps g first ps z) s.store s
+shp_row_keeps first s = loop_keeps (λ g ps z. shp_of g first ps z) (λ g ps z. shp_keeps g first ps z) s.store s
 
 shc_row_keeps : (first : Bool) (s : State) → Plain s.zones (shc_row first s)
 unfolding shc_row
-shc_row_keeps first s = one_point_keeps _ (λ g k z. shc_keeps g first k z) s
+shc_row_keeps first s = one_point_keeps (λ g p z. shc_of g first p z) (λ g k z. shc_keeps g first k z) s
 
 shz_row_keeps : (first : Bool) (s : State) → Plain s.zones (shz_row first s)
 unfolding shz_row Plain
@@ -265,7 +271,7 @@ shz_row_keeps first s = plain_bind s.zones (map_fault of_stack (one s.store)) _ 
 
 shpix_row_keeps : (s : State) → Plain s.zones (shpix_row s)
 unfolding shpix_row
-shpix_row_keeps s = plain_bind s.zones (map_fault of_stack (one s.store)) _ (λ x. loop_keeps _ (λ g ps z. shpix_keeps g ps x.0 z) x.1 s)
+shpix_row_keeps s = plain_bind s.zones (map_fault of_stack (one s.store)) _ (λ x. loop_keeps (λ g ps z. shpix_of g ps x.0 z) (λ g ps z. shpix_keeps g ps x.0 z) x.1 s)
 
 ip_row_keeps : (s : State) → Plain s.zones (ip_row s)
 unfolding ip_row
@@ -305,7 +311,7 @@ flippt_row_keeps s = loop_keeps flippt_of flippt_keeps s.store s
 
 fliprg_row_keeps : (on : Bool) (s : State) → Plain s.zones (fliprg_row on s)
 unfolding fliprg_row
-fliprg_row_keeps on s = two_points_keep _ (λ g low high z. fliprg_keeps g on low high z) s
+fliprg_row_keeps on s = two_points_keep (λ g low high z. fliprg_of g on low high z) (λ g low high z. fliprg_keeps g on low high z) s
 
 mdrp_row_keeps : (how : Relative) (s : State) → Plain s.zones (mdrp_row how s)
 unfolding mdrp_row Plain

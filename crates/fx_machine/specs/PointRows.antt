@@ -3,6 +3,7 @@
 -- is said in fx_pointops.
 -- Apple TrueType Reference Manual, "Instruction set".
 use Rattle.std.specs.Prelude.{ℕ, ◌*◌, ℤ, pos, negsuc, int_lt, Bool, unsigned_abs, if◌then◌else◌, List, reverse, drop, Result, Ok}
+use Rattle.std.specs.Ordering.{int_eq}
 use Rattle.fx_fixed.specs.Chain.{◌>>=◌, refuse, map_fault}
 use Rattle.fx_fixed.specs.declared.places.Axis.{Axis}
 use Rattle.fx_gstate.specs.declared.deltas.DeltaForm.{DeltaForm}
@@ -181,8 +182,7 @@ mdrp_row how s = do
 
 -- E0-FF MIRP  p n ->; the control value of number -1 is 0, and no stray
 abbrev pub mirp_stray : List ℤ → ℤ → ℕ
-mirp_stray cvt (negsuc 0) = 0
-mirp_stray cvt n = stray_of cvt n
+mirp_stray cvt n = if int_eq n (negsuc 0) then 0 else stray_of cvt n
 
 unfoldable pub mirp_row : Relative → State → Result State Cause
 mirp_row how s = do

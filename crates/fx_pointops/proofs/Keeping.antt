@@ -51,7 +51,8 @@ figure_if : (f x y : Figure) (b : Bool) → HasShape f x → HasShape f y → Ha
 figure_if f x y true h g = h
 figure_if f x y false h g = g
 
-zone_keeps : (change : Figure → Figure) → ((f : Figure) → HasShape f (change f)) → (zone : ZonePointer) (z : Zones) → HasShapes z (on_zone change zone z)
+zone_keeps : (change : Figure → Figure) → ((f : Figure) → HasShape f (change f)) → (zone : ZonePointer) (z : Zones)
+    → HasShapes z (on_zone change zone z)
 zone_keeps change h Twilight z = record { twilight = h z.twilight; glyph = shape_same z.glyph }
 zone_keeps change h Glyph z = record { twilight = shape_same z.twilight; glyph = h z.glyph }
 
@@ -71,16 +72,20 @@ moved_keeps : (g : GState) (d : ℤ) (zone : ZonePointer) (p : ℤ) (z : Zones) 
 unfolding moved_by
 moved_keeps g d zone p z = shifted_keeps g (shift_by g d) zone p z
 
-each_keeps : (steps : ℤ → Zones → Outcome) → ((p : ℤ) (z : Zones) → HasShapes z (steps p z).0) → (ps : List ℤ) (z : Zones) → HasShapes z (each steps ps z).0
+each_keeps : (steps : ℤ → Zones → Outcome) → ((p : ℤ) (z : Zones) → HasShapes z (steps p z).0) → (ps : List ℤ) (z : Zones)
+    → HasShapes z (each steps ps z).0
 unfolding each
 each_keeps steps h [] z = shapes_same z
-each_keeps steps h (p ∷ ps) z = shapes_then z (steps p z).0 (each steps ps (steps p z).0).0 (h p z) (each_keeps steps h ps (steps p z).0)
+each_keeps steps h (p ∷ ps) z =
+    shapes_then z (steps p z).0 (each steps ps (steps p z).0).0 (h p z) (each_keeps steps h ps (steps p z).0)
 
-pairs_keep : (steps : ℤ → ℤ → Zones → Outcome) → ((p a : ℤ) (z : Zones) → HasShapes z (steps p a z).0) → (ps : List ℤ) (z : Zones) → HasShapes z (each_pair steps ps z).0
+pairs_keep : (steps : ℤ → ℤ → Zones → Outcome) → ((p a : ℤ) (z : Zones) → HasShapes z (steps p a z).0) → (ps : List ℤ) (z : Zones)
+    → HasShapes z (each_pair steps ps z).0
 unfolding each_pair
 pairs_keep steps h [] z = shapes_same z
 pairs_keep steps h (p ∷ []) z = shapes_same z
-pairs_keep steps h (p ∷ a ∷ ps) z = shapes_then z (steps p a z).0 (each_pair steps ps (steps p a z).0).0 (h p a z) (pairs_keep steps h ps (steps p a z).0)
+pairs_keep steps h (p ∷ a ∷ ps) z =
+    shapes_then z (steps p a z).0 (each_pair steps ps (steps p a z).0).0 (h p a z) (pairs_keep steps h ps (steps p a z).0)
 
 point_shifted_keeps : (g : GState) (by : Place) (p : ℤ) (z : Zones) → HasShapes z (point_shifted g by p z).0
 unfolding point_shifted
@@ -93,7 +98,8 @@ untouched_keeps g axis p z = if_keeps z _ z _ (changed_keeps _ g.zp0 p z) (shape
 
 pub utp_keeps : (g : GState) (p : ℤ) (z : Zones) → HasShapes z (utp_of g p z).0
 unfolding utp_of
-utp_keeps g p z = shapes_then z (untouched_along g X p z) _ (untouched_keeps g X p z) (untouched_keeps g Y p (untouched_along g X p z))
+utp_keeps g p z =
+    shapes_then z (untouched_along g X p z) _ (untouched_keeps g X p z) (untouched_keeps g Y p (untouched_along g X p z))
 
 pub mdap_keeps : (g : GState) (rounds : Bool) (p : ℤ) (z : Zones) → HasShapes z (mdap_of g rounds p z).0
 unfolding mdap_of
@@ -101,7 +107,9 @@ mdap_keeps g rounds p z = moved_keeps g _ g.zp0 p z
 
 pub msirp_keeps : (g : GState) (p d : ℤ) (z : Zones) → HasShapes z (msirp_of g p d z).0
 unfolding msirp_of
-msirp_keeps g p d z = shapes_then z (laid_at_distance g p d z) _ (if_keeps z _ z _ (changed_keeps _ g.zp1 p z) (shapes_same z)) (moved_keeps g _ g.zp1 p _)
+msirp_keeps g p d z =
+    shapes_then z (laid_at_distance g p d z) _ (if_keeps z _ z _ (changed_keeps _ g.zp1 p z) (shapes_same z))
+    (moved_keeps g _ g.zp1 p _)
 
 aligned_keeps : (g : GState) (p : ℤ) (z : Zones) → HasShapes z (aligned_to_rp g p z).0
 unfolding aligned_to_rp
@@ -131,17 +139,22 @@ mdrp_keeps g how p z = moved_keeps g _ g.zp1 p z
 
 pub miap_keeps : (g : GState) (rounds : Bool) (p v : ℤ) (z : Zones) → HasShapes z (miap_of g rounds p v z).0
 unfolding miap_of
-miap_keeps g rounds p v z = shapes_then z (laid_along g p v z) _ (if_keeps z _ z _ (changed_keeps _ g.zp0 p z) (shapes_same z)) (moved_keeps g _ g.zp0 p _)
+miap_keeps g rounds p v z =
+    shapes_then z (laid_along g p v z) _ (if_keeps z _ z _ (changed_keeps _ g.zp0 p z) (shapes_same z))
+    (moved_keeps g _ g.zp0 p _)
 
 pub mirp_keeps : (g : GState) (how : Relative) (p v : ℤ) (z : Zones) → HasShapes z (mirp_of g how p v z).0
 unfolding mirp_of
-mirp_keeps g how p v z = shapes_then z (laid_from_rp g p _ z) _ (if_keeps z _ z _ (changed_keeps _ g.zp1 p z) (shapes_same z)) (moved_keeps g _ g.zp1 p _)
+mirp_keeps g how p v z =
+    shapes_then z (laid_from_rp g p _ z) _ (if_keeps z _ z _ (changed_keeps _ g.zp1 p z) (shapes_same z))
+    (moved_keeps g _ g.zp1 p _)
 
 pub shp_keeps : (g : GState) (one : Bool) (points : List ℤ) (z : Zones) → HasShapes z (shp_of g one points z).0
 unfolding shp_of
 shp_keeps g one points z = each_keeps _ (point_shifted_keeps g _) points z
 
-contour_keeps : (g : GState) (by : Place) (except : Option ℕ) (c : Option (ℕ × ℕ)) (z : Zones) → HasShapes z (contour_shifted g by except c z)
+contour_keeps : (g : GState) (by : Place) (except : Option ℕ) (c : Option (ℕ × ℕ)) (z : Zones)
+    → HasShapes z (contour_shifted g by except c z)
 contour_keeps g by except (Some c) z = zone_keeps _ (each_shape (in_range_without except c.0 c.1) _) g.zp2 z
 contour_keeps g by except None z = shapes_same z
 
@@ -192,7 +205,8 @@ delta_keeps : (g : GState) (form : DeltaForm) (ppem : ℕ) (p a : ℤ) (z : Zone
 unfolding point_delta
 delta_keeps g form ppem p a z = at_size_keeps g ppem (delta_of form g.delta_base g.delta_shift a) p z
 
-pub deltap_keeps : (g : GState) (form : DeltaForm) (ppem : ℕ) (pairs : List ℤ) (z : Zones) → HasShapes z (deltap_of g form ppem pairs z).0
+pub deltap_keeps : (g : GState) (form : DeltaForm) (ppem : ℕ) (pairs : List ℤ) (z : Zones)
+    → HasShapes z (deltap_of g form ppem pairs z).0
 unfolding deltap_of
 deltap_keeps g form ppem pairs z = pairs_keep (point_delta g form ppem) (delta_keeps g form ppem) pairs z
 

@@ -15,10 +15,14 @@ added : (m n : ℕ) (o : Outcome) → with_strays m (with_strays n o) ≡ with_s
 added m n o = ap (λ k. (o.0, k)) (sym (add_assoc m n o.1))
 
 -- all points are left
-pub loop_begun : (steps : ℤ → Zones → Outcome) (xs : List ℤ) (z : Zones) → each steps (reverse xs) z ≡ with_strays 0 (each steps (reverse (take (length xs) xs)) z)
-loop_begun steps xs z = ap (λ l. each steps (reverse l) z) (sym (take_all (length xs) xs (omega arith))) ∙ ap (λ n. ((each steps (reverse (take (length xs) xs)) z).0, n)) (sym (zero-add (each steps (reverse (take (length xs) xs)) z).1))
+pub loop_begun : (steps : ℤ → Zones → Outcome) (xs : List ℤ) (z : Zones)
+    → each steps (reverse xs) z ≡ with_strays 0 (each steps (reverse (take (length xs) xs)) z)
+loop_begun steps xs z = ap (λ l. each steps (reverse l) z) (sym (take_all (length xs) xs (omega arith)))
+    ∙ ap (λ n. ((each steps (reverse (take (length xs) xs)) z).0, n))
+    (sym (zero-add (each steps (reverse (take (length xs) xs)) z).1))
 
-one_step : (steps : ℤ → Zones → Outcome) (xs : List ℤ) (z y : Zones) (left m : ℕ) (p : ℤ) → 0 < left → left ≤ length xs → p ≡ get_or xs (left - 1) (pos 0) → (y, m) ≡ steps p z
+one_step : (steps : ℤ → Zones → Outcome) (xs : List ℤ) (z y : Zones) (left m : ℕ) (p : ℤ) → 0 < left → left ≤ length xs
+    → p ≡ get_or xs (left - 1) (pos 0) → (y, m) ≡ steps p z
     → each steps (reverse (take left xs)) z ≡ with_strays m (each steps (reverse (take (left - 1) xs)) y)
 unfolding each
 one_step steps xs z y left m p s w g e =
@@ -29,13 +33,16 @@ one_step steps xs z y left m p s w g e =
     ∙ ap (λ (o : Outcome). with_strays o.1 (each steps (reverse (take (left - 1) xs)) o.0)) (sym e)
 
 -- one point more is done
-pub loop_next : (steps : ℤ → Zones → Outcome) (xs : List ℤ) (z y : Zones) (left m n : ℕ) (p : ℤ) (o : Outcome) → 0 < left → left ≤ length xs → p ≡ get_or xs (left - 1) (pos 0) → (y, m) ≡ steps p z → o ≡ with_strays n (each steps (reverse (take left xs)) z)
+pub loop_next : (steps : ℤ → Zones → Outcome) (xs : List ℤ) (z y : Zones) (left m n : ℕ) (p : ℤ) (o : Outcome) → 0 < left
+    → left ≤ length xs → p ≡ get_or xs (left - 1) (pos 0) → (y, m) ≡ steps p z
+    → o ≡ with_strays n (each steps (reverse (take left xs)) z)
     → o ≡ with_strays (n + m) (each steps (reverse (take (left - 1) xs)) y)
 loop_next steps xs z y left m n p o s w g e a =
     a ∙ ap (with_strays n) (one_step steps xs z y left m p s w g e) ∙ added n m (each steps (reverse (take (left - 1) xs)) y)
 
 -- no point is left
-pub loop_done : (steps : ℤ → Zones → Outcome) (xs : List ℤ) (z : Zones) (left n : ℕ) (o : Outcome) → left ≤ 0 → o ≡ with_strays n (each steps (reverse (take left xs)) z) → (z, n) ≡ o
+pub loop_done : (steps : ℤ → Zones → Outcome) (xs : List ℤ) (z : Zones) (left n : ℕ) (o : Outcome) → left ≤ 0
+    → o ≡ with_strays n (each steps (reverse (take left xs)) z) → (z, n) ≡ o
 unfolding each
 loop_done steps xs z left n o h a =
     let e : left ≡ 0 = omega (arith, h) in
@@ -43,10 +50,14 @@ loop_done steps xs z left n o h a =
 
 -- ---- pairs
 
-pub pairs_begun : (steps : ℤ → ℤ → Zones → Outcome) (xs : List ℤ) (z : Zones) → each_pair steps (reverse xs) z ≡ with_strays 0 (each_pair steps (reverse (take (length xs) xs)) z)
-pairs_begun steps xs z = ap (λ l. each_pair steps (reverse l) z) (sym (take_all (length xs) xs (omega arith))) ∙ ap (λ n. ((each_pair steps (reverse (take (length xs) xs)) z).0, n)) (sym (zero-add (each_pair steps (reverse (take (length xs) xs)) z).1))
+pub pairs_begun : (steps : ℤ → ℤ → Zones → Outcome) (xs : List ℤ) (z : Zones)
+    → each_pair steps (reverse xs) z ≡ with_strays 0 (each_pair steps (reverse (take (length xs) xs)) z)
+pairs_begun steps xs z = ap (λ l. each_pair steps (reverse l) z) (sym (take_all (length xs) xs (omega arith)))
+    ∙ ap (λ n. ((each_pair steps (reverse (take (length xs) xs)) z).0, n))
+    (sym (zero-add (each_pair steps (reverse (take (length xs) xs)) z).1))
 
-one_pair : (steps : ℤ → ℤ → Zones → Outcome) (xs : List ℤ) (z y : Zones) (left m : ℕ) (p a : ℤ) → 1 < left → left ≤ length xs → p ≡ get_or xs (left - 2 + 1) (pos 0) → a ≡ get_or xs (left - 2) (pos 0) → (y, m) ≡ steps p a z
+one_pair : (steps : ℤ → ℤ → Zones → Outcome) (xs : List ℤ) (z y : Zones) (left m : ℕ) (p a : ℤ) → 1 < left → left ≤ length xs
+    → p ≡ get_or xs (left - 2 + 1) (pos 0) → a ≡ get_or xs (left - 2) (pos 0) → (y, m) ≡ steps p a z
     → each_pair steps (reverse (take left xs)) z ≡ with_strays m (each_pair steps (reverse (take (left - 2) xs)) y)
 unfolding each_pair
 one_pair steps xs z y left m p a s w g h e =
@@ -56,13 +67,16 @@ one_pair steps xs z y left m p a s w g h e =
     let r : left - 2 + 1 ≡ suc (left - 2) = omega arith in
     ap (λ n. each_pair steps (reverse (take n xs)) z) l
     ∙ ap (λ l. each_pair steps l z) (top_first xs (left - 2 + 1) (pos 0) j ∙ (λ i. (sym g) i ∷ reverse (take (r i) xs))
-      ∙ ap (λ l. p ∷ l) (top_first xs (left - 2) (pos 0) k ∙ ap (λ q. q ∷ reverse (take (left - 2) xs)) (sym h)))
+    ∙ ap (λ l. p ∷ l) (top_first xs (left - 2) (pos 0) k ∙ ap (λ q. q ∷ reverse (take (left - 2) xs)) (sym h)))
     ∙ ap (λ (o : Outcome). with_strays o.1 (each_pair steps (reverse (take (left - 2) xs)) o.0)) (sym e)
 
-pub pairs_next : (steps : ℤ → ℤ → Zones → Outcome) (xs : List ℤ) (z y : Zones) (left m n : ℕ) (p a : ℤ) (o : Outcome) → 1 < left → left ≤ length xs → p ≡ get_or xs (left - 2 + 1) (pos 0) → a ≡ get_or xs (left - 2) (pos 0) → (y, m) ≡ steps p a z → o ≡ with_strays n (each_pair steps (reverse (take left xs)) z)
+pub pairs_next : (steps : ℤ → ℤ → Zones → Outcome) (xs : List ℤ) (z y : Zones) (left m n : ℕ) (p a : ℤ) (o : Outcome) → 1 < left
+    → left ≤ length xs → p ≡ get_or xs (left - 2 + 1) (pos 0) → a ≡ get_or xs (left - 2) (pos 0) → (y, m) ≡ steps p a z
+    → o ≡ with_strays n (each_pair steps (reverse (take left xs)) z)
     → o ≡ with_strays (n + m) (each_pair steps (reverse (take (left - 2) xs)) y)
 pairs_next steps xs z y left m n p a o s w g h e i =
-    i ∙ ap (with_strays n) (one_pair steps xs z y left m p a s w g h e) ∙ added n m (each_pair steps (reverse (take (left - 2) xs)) y)
+    i ∙ ap (with_strays n) (one_pair steps xs z y left m p a s w g h e)
+    ∙ added n m (each_pair steps (reverse (take (left - 2) xs)) y)
 
 few_left : (steps : ℤ → ℤ → Zones → Outcome) (xs : List ℤ) (z : Zones) → length xs ≤ 1 → each_pair steps xs z ≡ (z, 0)
 unfolding each_pair
@@ -70,7 +84,8 @@ few_left steps [] z h = refl
 few_left steps (x ∷ []) z h = refl
 few_left steps (x ∷ y ∷ xs) z h = absurd (omega (arith, h))
 
-pub pairs_done : (steps : ℤ → ℤ → Zones → Outcome) (xs : List ℤ) (z : Zones) (left n : ℕ) (o : Outcome) → left ≤ 1 → left ≤ length xs → o ≡ with_strays n (each_pair steps (reverse (take left xs)) z) → (z, n) ≡ o
+pub pairs_done : (steps : ℤ → ℤ → Zones → Outcome) (xs : List ℤ) (z : Zones) (left n : ℕ) (o : Outcome) → left ≤ 1
+    → left ≤ length xs → o ≡ with_strays n (each_pair steps (reverse (take left xs)) z) → (z, n) ≡ o
 pairs_done steps xs z left n o h w a =
     let long : length (reverse (take left xs)) ≤ 1 = omega (arith, length-reverse (take left xs), length-take-le left xs w, h) in
     sym (a ∙ ap (with_strays n) (few_left steps (reverse (take left xs)) z long) ∙ ap (λ k. (z, k)) (add-zero n))

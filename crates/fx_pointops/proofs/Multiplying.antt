@@ -5,7 +5,8 @@ use Rattle.std.proofs.lemmas.Int.{to_z-of_z, fits_signed_mul, unsigned_abs-mul}
 use Rattle.std.proofs.Math.Nat.{mul-le-mul}
 use Rattle.std.specs.Int.{w128}
 
-pub product_is : (n r d : ℤ) → FitsSigned w128 n → FitsSigned w128 r → unsigned_abs n ≤ 2 ^ 63 → unsigned_abs d ≤ 2 ^ 31 → r ≡ d → to_z w128 (of_z w128 (to_z w128 (of_z w128 n) *ℤ to_z w128 (of_z w128 r))) ≡ n *ℤ d
+pub product_is : (n r d : ℤ) → FitsSigned w128 n → FitsSigned w128 r → unsigned_abs n ≤ 2 ^ 63 → unsigned_abs d ≤ 2 ^ 31 → r ≡ d
+    → to_z w128 (of_z w128 (to_z w128 (of_z w128 n) *ℤ to_z w128 (of_z w128 r))) ≡ n *ℤ d
 product_is n r d fn fr bn bd e =
     (λ i. to_z w128 (of_z w128 ((to_z-of_z w128 n fn i) *ℤ ((to_z-of_z w128 r fr ∙ e) i))))
     ∙ to_z-of_z w128 (n *ℤ d) (fits_signed_mul w128 n d (2 ^ 63) (2 ^ 31) bn bd (omega arith))

@@ -19,7 +19,8 @@ in_proportion o cb ob = if int_eq ob (pos 0) then o else wrapped_of (near_of (o 
 -- of reference point 2, of zone 1, to its original one ob. Both are measured once; reference point 1 may move on the way.
 unfoldable pub point_in_proportion : GState → ℤ → ℤ → ℤ → Zones → Outcome
 point_in_proportion g cb ob p z = (
-  moved_by g (difference_of (in_proportion (original_of g g.zp2 p g.zp0 g.rp1 z) cb ob) (distance_of g g.zp2 p g.zp0 g.rp1 z)) g.zp2 p z,
+  moved_by g (difference_of (in_proportion (original_of g g.zp2 p g.zp0 g.rp1 z) cb ob) (distance_of g g.zp2 p g.zp0 g.rp1 z))
+      g.zp2 p z,
   stray_at g.zp2 p z,
 )
 

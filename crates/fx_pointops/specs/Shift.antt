@@ -62,7 +62,8 @@ stray_contour None = 1
 -- 34-35 SHC  k ->
 -- The points of contour k, of zone 2, are shifted, but the reference point. A contour that is not there is a stray.
 abbrev pub contour_shifted : GState → Place → Option ℕ → Option (ℕ × ℕ) → Zones → Zones
-contour_shifted g by except (Some c) z = on_zone (range_shifted by (has_part X g.freedom) (has_part Y g.freedom) except c.0 c.1) g.zp2 z
+contour_shifted g by except (Some c) z =
+    on_zone (range_shifted by (has_part X g.freedom) (has_part Y g.freedom) except c.0 c.1) g.zp2 z
 contour_shifted g by except None z = z
 
 unfoldable pub shc_of : GState → Bool → ℤ → Zones → Outcome

@@ -12,7 +12,14 @@ use fx_gstate::{DeltaForm, GState};
 impl Zones {
     /// Moves a point if its argument acts at this size.
     #[tactic(auto, unfolding(crate::specs::Delta::point_delta))]
-    fn move_at_size(&mut self, g: &GState, form: DeltaForm, ppem: &Ppem, p: i32, argument: i32) -> u64
+    fn move_at_size(
+        &mut self,
+        g: &GState,
+        form: DeltaForm,
+        ppem: &Ppem,
+        p: i32,
+        argument: i32,
+    ) -> u64
         ensures value { (self.new, result) ≡ point_delta g.now form ppem.now p argument self.old }
         ensures few { result ≤ 1 }
         ensures shapes { HasShapes self.old self.new }

@@ -82,7 +82,7 @@ impl Zones {
     }
 
     /// Moves a point to a distance from reference point 0.
-    pub fn move_to_distance(&mut self, g: &GState, p: i32, d: F26)
+    pub(crate) fn move_to_distance(&mut self, g: &GState, p: i32, d: F26)
         ensures value { self.new ≡ moved_to_distance g.now p d self.old }
         ensures shapes { HasShapes self.old self.new }
     {

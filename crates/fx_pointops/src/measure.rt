@@ -16,7 +16,14 @@ pub struct Line {
 
 impl Zones {
     /// The current distance of a point from another.
-    pub fn distance(&self, g: &GState, zone: ZonePointer, p: i32, base: ZonePointer, q: i32) -> F26
+    pub(crate) fn distance(
+        &self,
+        g: &GState,
+        zone: ZonePointer,
+        p: i32,
+        base: ZonePointer,
+        q: i32,
+    ) -> F26
         ensures { result ≡ distance_of g.now zone p base q self.now }
     {
         let to = cur(&self.point(zone, p));
@@ -25,7 +32,14 @@ impl Zones {
     }
 
     /// The original distance of a point from another.
-    pub fn original(&self, g: &GState, zone: ZonePointer, p: i32, base: ZonePointer, q: i32) -> F26
+    pub(crate) fn original(
+        &self,
+        g: &GState,
+        zone: ZonePointer,
+        p: i32,
+        base: ZonePointer,
+        q: i32,
+    ) -> F26
         ensures { result ≡ original_of g.now zone p base q self.now }
     {
         let to = org(&self.point(zone, p));

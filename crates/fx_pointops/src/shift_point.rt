@@ -12,7 +12,7 @@ use fx_gstate::{GState, ZonePointer};
 impl Zones {
     /// Shifts a point, if it is inside, and touches it along each axis along which the freedom vector has a part.
     #[tactic(auto, unfolding(crate::specs::ShiftPoint::shifted_by))]
-    pub fn shift_by(&mut self, g: &GState, zone: ZonePointer, p: i32, by: Place)
+    pub(crate) fn shift_by(&mut self, g: &GState, zone: ZonePointer, p: i32, by: Place)
         ensures value { self.new ≡ shifted_by g.now by zone p self.old }
         ensures shapes { HasShapes self.old self.new }
     {
@@ -21,7 +21,7 @@ impl Zones {
 
     /// Moves a point by a distance, if it is inside.
     #[tactic(auto, unfolding(crate::specs::ShiftPoint::moved_by))]
-    pub fn move_by(&mut self, g: &GState, zone: ZonePointer, p: i32, d: F26)
+    pub(crate) fn move_by(&mut self, g: &GState, zone: ZonePointer, p: i32, d: F26)
         ensures value { self.new ≡ moved_by g.now d zone p self.old }
         ensures shapes { HasShapes self.old self.new }
     {
@@ -41,7 +41,7 @@ impl Zones {
     }
 
     /// Shifts points of zone 2, the last of the slice first.
-    pub fn shift_each(&mut self, g: &GState, by: &Place, points: &[i32]) -> u64
+    pub(crate) fn shift_each(&mut self, g: &GState, by: &Place, points: &[i32]) -> u64
         ensures value { (self.new, result) ≡ each (point_shifted g.now by.now) (reverse points.now) self.old }
         ensures few { result ≤ length points.now }
         ensures shapes { HasShapes self.old self.new }

@@ -86,7 +86,7 @@ impl Zones {
 
     /// The point of a number, if it is inside.
     #[tactic(auto, unfolding(crate::specs::Zones::point_at))]
-    pub fn point(&self, zone: ZonePointer, number: i32) -> Option<Point>
+    pub(crate) fn point(&self, zone: ZonePointer, number: i32) -> Option<Point>
         ensures { result ≡ point_at zone number self.now }
     {
         let index = index_of(number)?;
@@ -98,7 +98,7 @@ impl Zones {
 
     /// Shifts a point, if it is inside, and touches it along the axes that are given.
     #[tactic(auto, unfolding(crate::specs::Zones::changed_at))]
-    pub fn shift(&mut self, zone: ZonePointer, number: i32, by: Place, x: bool, y: bool)
+    pub(crate) fn shift(&mut self, zone: ZonePointer, number: i32, by: Place, x: bool, y: bool)
         ensures value { self.new ≡ changed_at (shifted_by by x y) zone number self.old }
         ensures shapes { HasShapes self.old self.new }
     {
@@ -113,7 +113,7 @@ impl Zones {
 
     /// Untouches a point along an axis, if it is inside.
     #[tactic(auto, unfolding(crate::specs::Zones::changed_at))]
-    pub fn untouch(&mut self, zone: ZonePointer, number: i32, axis: Axis)
+    pub(crate) fn untouch(&mut self, zone: ZonePointer, number: i32, axis: Axis)
         ensures value { self.new ≡ changed_at (marked axis false) zone number self.old }
         ensures shapes { HasShapes self.old self.new }
     {
@@ -128,7 +128,7 @@ impl Zones {
 
     /// Lays a point, if it is inside: its original and current place.
     #[tactic(auto, unfolding(crate::specs::Zones::changed_at))]
-    pub fn lay(&mut self, zone: ZonePointer, number: i32, place: Place)
+    pub(crate) fn lay(&mut self, zone: ZonePointer, number: i32, place: Place)
         ensures value { self.new ≡ changed_at (laid place) zone number self.old }
         ensures shapes { HasShapes self.old self.new }
     {
@@ -143,7 +143,7 @@ impl Zones {
 
     /// Takes the current place of a point, if it is inside, for its original one.
     #[tactic(auto, unfolding(crate::specs::Zones::changed_at))]
-    pub fn settle(&mut self, zone: ZonePointer, number: i32)
+    pub(crate) fn settle(&mut self, zone: ZonePointer, number: i32)
         ensures value { self.new ≡ changed_at settled zone number self.old }
         ensures shapes { HasShapes self.old self.new }
     {
@@ -158,7 +158,7 @@ impl Zones {
 
     /// Puts a point, if it is inside, at another current place, and touches it along both axes.
     #[tactic(auto, unfolding(crate::specs::Zones::changed_at))]
-    pub fn put(&mut self, zone: ZonePointer, number: i32, cur: Place)
+    pub(crate) fn put(&mut self, zone: ZonePointer, number: i32, cur: Place)
         ensures value { self.new ≡ changed_at (put cur) zone number self.old }
         ensures shapes { HasShapes self.old self.new }
     {
@@ -173,7 +173,7 @@ impl Zones {
 
     /// Flips a point, if it is inside: on the curve, or off it.
     #[tactic(auto, unfolding(crate::specs::Zones::changed_at))]
-    pub fn flip(&mut self, zone: ZonePointer, number: i32)
+    pub(crate) fn flip(&mut self, zone: ZonePointer, number: i32)
         ensures value { self.new ≡ changed_at flipped zone number self.old }
         ensures shapes { HasShapes self.old self.new }
     {

@@ -20,7 +20,8 @@ pub hit : (axis : Axis) (p : Point) (ps : List Point) → is_touched axis p ≡ 
 unfolding first_touched
 hit axis p ps h = rw h refl
 
-pub missed : (axis : Axis) (p : Point) (ps : List Point) → is_touched axis p ≡ false → first_touched axis (p ∷ ps) ≡ first_touched axis ps
+pub missed : (axis : Axis) (p : Point) (ps : List Point) → is_touched axis p ≡ false
+    → first_touched axis (p ∷ ps) ≡ first_touched axis ps
 unfolding first_touched
 missed axis p ps h = rw h refl
 
@@ -45,7 +46,8 @@ by_touch : {C : Type 0} (b : Bool) → (b ≡ true → C) → (b ≡ false → C
 by_touch true t f = t refl
 by_touch false t f = f refl
 
-first_of_both : (axis : Axis) (xs ys : List Point) → first_touched axis (xs ++ ys) ≡ or_else (first_touched axis xs) (first_touched axis ys)
+first_of_both : (axis : Axis) (xs ys : List Point)
+    → first_touched axis (xs ++ ys) ≡ or_else (first_touched axis xs) (first_touched axis ys)
 unfolding or_else
 first_of_both axis [] ys = rw (none_in_nothing axis) refl
 first_of_both axis (x ∷ xs) ys = by_touch (is_touched axis x)
@@ -56,10 +58,13 @@ reverse_cons : (p : Point) (ps : List Point) → reverse (p ∷ ps) ≡ reverse 
 reverse_cons p ps = reverse-append (p ∷ []) ps
 
 -- an untouched point at the end changes nothing
-missed_last : (axis : Axis) (xs : List Point) (p : Point) → is_touched axis p ≡ false → first_touched axis (xs ++ (p ∷ [])) ≡ first_touched axis xs
-missed_last axis xs p h = first_of_both axis xs (p ∷ []) ∙ ap (or_else (first_touched axis xs)) (missed axis p [] h ∙ none_in_nothing axis) ∙ or_none (first_touched axis xs)
+missed_last : (axis : Axis) (xs : List Point) (p : Point) → is_touched axis p ≡ false
+    → first_touched axis (xs ++ (p ∷ [])) ≡ first_touched axis xs
+missed_last axis xs p h = first_of_both axis xs (p ∷ [])
+    ∙ ap (or_else (first_touched axis xs)) (missed axis p [] h ∙ none_in_nothing axis) ∙ or_none (first_touched axis xs)
 
-missed_behind : (axis : Axis) (behind : List Point) (p : Point) (ps : List Point) → is_touched axis p ≡ false → first_touched axis (behind ++ reverse (p ∷ ps)) ≡ first_touched axis (behind ++ reverse ps)
+missed_behind : (axis : Axis) (behind : List Point) (p : Point) (ps : List Point) → is_touched axis p ≡ false
+    → first_touched axis (behind ++ reverse (p ∷ ps)) ≡ first_touched axis (behind ++ reverse ps)
 missed_behind axis behind p ps h =
     ap (λ l. first_touched axis (behind ++ l)) (reverse_cons p ps)
     ∙ ap (first_touched axis) (sym (append_assoc behind (reverse ps) (p ∷ [])))
@@ -69,7 +74,8 @@ pub none_backward : (axis : Axis) (xs : List Point) → first_touched axis xs �
 none_backward axis [] h = h
 none_backward axis (x ∷ xs) h = by_touch (is_touched axis x)
     (λ t. some_or_none x (sym (hit axis x xs t) ∙ h))
-    (λ t. ap (first_touched axis) (reverse_cons x xs) ∙ missed_last axis (reverse xs) x t ∙ none_backward axis xs (sym (missed axis x xs t) ∙ h))
+    (λ t. ap (first_touched axis) (reverse_cons x xs) ∙ missed_last axis (reverse xs) x t
+    ∙ none_backward axis xs (sym (missed axis x xs t) ∙ h))
 
 -- ---- runs
 
@@ -77,7 +83,8 @@ run_at : (axis : Axis) (p : Point) (ps : List Point) → is_touched axis p ≡ t
 unfolding untouched_run
 run_at axis p ps h = rw h refl
 
-run_on : (axis : Axis) (p : Point) (ps : List Point) → is_touched axis p ≡ false → untouched_run axis (p ∷ ps) ≡ suc (untouched_run axis ps)
+run_on : (axis : Axis) (p : Point) (ps : List Point) → is_touched axis p ≡ false
+    → untouched_run axis (p ∷ ps) ≡ suc (untouched_run axis ps)
 unfolding untouched_run
 run_on axis p ps h = rw h refl
 
@@ -85,7 +92,8 @@ run_nil : (axis : Axis) → untouched_run axis [] ≡ 0
 unfolding untouched_run
 run_nil axis = refl
 
-pub run_first : (axis : Axis) (xs : List Point) (d : Point) → untouched_run axis xs < length xs → first_touched axis xs ≡ Some (get_or xs (untouched_run axis xs) d)
+pub run_first : (axis : Axis) (xs : List Point) (d : Point) → untouched_run axis xs < length xs
+    → first_touched axis xs ≡ Some (get_or xs (untouched_run axis xs) d)
 run_first axis [] d h = absurd (omega (arith, h))
 run_first axis (x ∷ xs) d h = by_touch (is_touched axis x)
     (λ t. rw (run_at axis x xs t) (hit axis x xs t))
@@ -101,36 +109,54 @@ run_none axis (x ∷ xs) h = by_touch (is_touched axis x)
 
 -- ---- code's loops
 
-take_back : (axis : Axis) (xs : List Point) (k : ℕ) (d : Point) → k < length xs → first_touched axis (reverse (take (suc k) xs)) ≡ first_touched axis (get_or xs k d ∷ reverse (take k xs))
-take_back axis xs k d h = ap (λ l. first_touched axis (reverse l)) (take-suc xs k d h) ∙ ap (first_touched axis) (reverse-append (take k xs) (get_or xs k d ∷ []))
+take_back : (axis : Axis) (xs : List Point) (k : ℕ) (d : Point) → k < length xs
+    → first_touched axis (reverse (take (suc k) xs)) ≡ first_touched axis (get_or xs k d ∷ reverse (take k xs))
+take_back axis xs k d h = ap (λ l. first_touched axis (reverse l)) (take-suc xs k d h)
+    ∙ ap (first_touched axis) (reverse-append (take k xs) (get_or xs k d ∷ []))
 
-pub last_here : (axis : Axis) (xs : List Point) (left : ℕ) (p : Point) → left ≤ length xs → 0 < left → first_touched axis (reverse xs) ≡ first_touched axis (reverse (take left xs)) → p ≡ get_or xs (left - 1) p → is_touched axis p ≡ true → Some p ≡ first_touched axis (reverse xs)
+pub last_here : (axis : Axis) (xs : List Point) (left : ℕ) (p : Point) → left ≤ length xs → 0 < left
+    → first_touched axis (reverse xs) ≡ first_touched axis (reverse (take left xs)) → p ≡ get_or xs (left - 1) p
+    → is_touched axis p ≡ true → Some p ≡ first_touched axis (reverse xs)
 last_here axis xs left p w n s g t =
     let k : left - 1 < length xs = omega (arith, w, n) in
     let e : left ≡ suc (left - 1) = omega (arith, n) in
-    ap Some g ∙ sym (s ∙ ap (λ n. first_touched axis (reverse (take n xs))) e ∙ take_back axis xs (left - 1) p k ∙ hit axis (get_or xs (left - 1) p) (reverse (take (left - 1) xs)) (sym (ap (is_touched axis) g) ∙ t))
+    ap Some g
+    ∙ sym (s ∙ ap (λ n. first_touched axis (reverse (take n xs))) e ∙ take_back axis xs (left - 1) p k
+    ∙ hit axis (get_or xs (left - 1) p) (reverse (take (left - 1) xs)) (sym (ap (is_touched axis) g) ∙ t))
 
-pub last_before : (axis : Axis) (xs : List Point) (left : ℕ) (p : Point) → left ≤ length xs → 0 < left → first_touched axis (reverse xs) ≡ first_touched axis (reverse (take left xs)) → p ≡ get_or xs (left - 1) p → is_touched axis p ≡ false → first_touched axis (reverse xs) ≡ first_touched axis (reverse (take (left - 1) xs))
+pub last_before : (axis : Axis) (xs : List Point) (left : ℕ) (p : Point) → left ≤ length xs → 0 < left
+    → first_touched axis (reverse xs) ≡ first_touched axis (reverse (take left xs)) → p ≡ get_or xs (left - 1) p
+    → is_touched axis p ≡ false → first_touched axis (reverse xs) ≡ first_touched axis (reverse (take (left - 1) xs))
 last_before axis xs left p w n s g t =
     let k : left - 1 < length xs = omega (arith, w, n) in
     let e : left ≡ suc (left - 1) = omega (arith, n) in
-    s ∙ ap (λ n. first_touched axis (reverse (take n xs))) e ∙ take_back axis xs (left - 1) p k ∙ missed axis (get_or xs (left - 1) p) (reverse (take (left - 1) xs)) (sym (ap (is_touched axis) g) ∙ t)
+    s ∙ ap (λ n. first_touched axis (reverse (take n xs))) e ∙ take_back axis xs (left - 1) p k
+    ∙ missed axis (get_or xs (left - 1) p) (reverse (take (left - 1) xs)) (sym (ap (is_touched axis) g) ∙ t)
 
-pub last_none : (axis : Axis) (xs : List Point) (left : ℕ) → left ≡ 0 → first_touched axis (reverse xs) ≡ first_touched axis (reverse (take left xs)) → None ≡ first_touched axis (reverse xs)
+pub last_none : (axis : Axis) (xs : List Point) (left : ℕ) → left ≡ 0
+    → first_touched axis (reverse xs) ≡ first_touched axis (reverse (take left xs)) → None ≡ first_touched axis (reverse xs)
 last_none axis xs left z s = sym (rw z at s ∙ none_in_nothing axis)
 
 -- the run of untouched points from start on, at a number within it
-pub run_here : (axis : Axis) (xs : List Point) (start k : ℕ) (p : Point) → k < length xs → untouched_run axis (drop start xs) ≡ k - start + untouched_run axis (drop k xs) → p ≡ get_or xs k p → is_touched axis p ≡ true → k - start ≡ untouched_run axis (drop start xs)
+pub run_here : (axis : Axis) (xs : List Point) (start k : ℕ) (p : Point) → k < length xs
+    → untouched_run axis (drop start xs) ≡ k - start + untouched_run axis (drop k xs) → p ≡ get_or xs k p
+    → is_touched axis p ≡ true → k - start ≡ untouched_run axis (drop start xs)
 run_here axis xs start k p h i g t =
-    let e = ap (untouched_run axis) (drop-cons xs k p h) ∙ run_at axis (get_or xs k p) (drop (suc k) xs) (sym (ap (is_touched axis) g) ∙ t) in omega (arith, e, i)
+    let e = ap (untouched_run axis) (drop-cons xs k p h)
+    ∙ run_at axis (get_or xs k p) (drop (suc k) xs) (sym (ap (is_touched axis) g) ∙ t) in omega (arith, e, i)
 
-pub run_more : (axis : Axis) (xs : List Point) (start k : ℕ) (p : Point) → start ≤ k → k < length xs → untouched_run axis (drop start xs) ≡ k - start + untouched_run axis (drop k xs) → p ≡ get_or xs k p → is_touched axis p ≡ false → untouched_run axis (drop start xs) ≡ k + 1 - start + untouched_run axis (drop (k + 1) xs)
+pub run_more : (axis : Axis) (xs : List Point) (start k : ℕ) (p : Point) → start ≤ k → k < length xs
+    → untouched_run axis (drop start xs) ≡ k - start + untouched_run axis (drop k xs) → p ≡ get_or xs k p
+    → is_touched axis p ≡ false → untouched_run axis (drop start xs) ≡ k + 1 - start + untouched_run axis (drop (k + 1) xs)
 run_more axis xs start k p l h i g t =
-    let e = ap (untouched_run axis) (drop-cons xs k p h) ∙ run_on axis (get_or xs k p) (drop (suc k) xs) (sym (ap (is_touched axis) g) ∙ t) in
+    let e = ap (untouched_run axis) (drop-cons xs k p h)
+    ∙ run_on axis (get_or xs k p) (drop (suc k) xs) (sym (ap (is_touched axis) g) ∙ t) in
     let s : k + 1 ≡ suc k = omega arith in
     rw s (omega (arith, e, i, l))
 
-pub run_all : (axis : Axis) (xs : List Point) (start k : ℕ) → k ≡ length xs → untouched_run axis (drop start xs) ≡ k - start + untouched_run axis (drop k xs) → length xs - start ≡ untouched_run axis (drop start xs)
+pub run_all : (axis : Axis) (xs : List Point) (start k : ℕ) → k ≡ length xs
+    → untouched_run axis (drop start xs) ≡ k - start + untouched_run axis (drop k xs)
+    → length xs - start ≡ untouched_run axis (drop start xs)
 run_all axis xs start k h i =
     let e = ap (untouched_run axis) (drop_all k xs (omega (arith, h))) ∙ run_nil axis in omega (arith, e, i, h)
 
@@ -146,11 +172,14 @@ swept_nil : (axis : Axis) (first before : Point) → swept axis first before [] 
 unfolding swept
 swept_nil axis first before = refl
 
-swept_at : (axis : Axis) (first before p : Point) (ps : List Point) → is_touched axis p ≡ true → swept axis first before (p ∷ ps) ≡ p ∷ swept axis first p ps
+swept_at : (axis : Axis) (first before p : Point) (ps : List Point) → is_touched axis p ≡ true
+    → swept axis first before (p ∷ ps) ≡ p ∷ swept axis first p ps
 unfolding swept
 swept_at axis first before p ps h = rw h refl
 
-swept_on : (axis : Axis) (first before p : Point) (ps : List Point) → is_touched axis p ≡ false → swept axis first before (p ∷ ps) ≡ between axis before (or_point (first_touched axis ps) first) p ∷ swept axis first before ps
+swept_on : (axis : Axis) (first before p : Point) (ps : List Point) → is_touched axis p ≡ false
+    → swept axis first before (p ∷ ps) ≡ between axis before (or_point (first_touched axis ps) first) p ∷ swept axis first before
+    ps
 unfolding swept
 swept_on axis first before p ps h = rw h refl
 
@@ -158,7 +187,8 @@ swept_on axis first before p ps h = rw h refl
 zipped : Axis → List Point → List Point → List Point
 zipped axis behind [] = []
 zipped axis behind (p ∷ ahead) =
-    (if is_touched axis p then p else between_any axis (first_touched axis (behind ++ reverse ahead)) (first_touched axis (ahead ++ reverse behind)) p)
+    (if is_touched axis p then p else between_any axis (first_touched axis (behind ++ reverse ahead))
+    (first_touched axis (ahead ++ reverse behind)) p)
     ∷ zipped axis (p ∷ behind) ahead
 
 each_zipped : (axis : Axis) (before ahead : List Point) → each_interpolated axis before ahead ≡ zipped axis (reverse before) ahead
@@ -166,17 +196,21 @@ unfolding each_interpolated zipped
 each_zipped axis before [] = refl
 each_zipped axis before (p ∷ ps) =
     let r : reverse (before ++ (p ∷ [])) ≡ p ∷ reverse before = reverse-append before (p ∷ []) in
-    rw (reverse-reverse before) (ap (λ l. interpolated axis before p ps ∷ l) (each_zipped axis (before ++ (p ∷ [])) ps ∙ ap (λ l. zipped axis l ps) r))
+    rw (reverse-reverse before)
+    (ap (λ l. interpolated axis before p ps ∷ l) (each_zipped axis (before ++ (p ∷ [])) ps ∙ ap (λ l. zipped axis l ps) r))
 
 each_nil : (axis : Axis) (behind : List Point) → zipped axis behind [] ≡ []
 unfolding zipped
 each_nil axis behind = refl
 
-each_at : (axis : Axis) (behind : List Point) (p : Point) (ps : List Point) → is_touched axis p ≡ true → zipped axis behind (p ∷ ps) ≡ p ∷ zipped axis (p ∷ behind) ps
+each_at : (axis : Axis) (behind : List Point) (p : Point) (ps : List Point) → is_touched axis p ≡ true
+    → zipped axis behind (p ∷ ps) ≡ p ∷ zipped axis (p ∷ behind) ps
 unfolding zipped
 each_at axis behind p ps h = rw h refl
 
-each_on : (axis : Axis) (behind : List Point) (p : Point) (ps : List Point) (b a : Option Point) → is_touched axis p ≡ false → first_touched axis (behind ++ reverse ps) ≡ b → first_touched axis (ps ++ reverse behind) ≡ a → zipped axis behind (p ∷ ps) ≡ between_any axis b a p ∷ zipped axis (p ∷ behind) ps
+each_on : (axis : Axis) (behind : List Point) (p : Point) (ps : List Point) (b a : Option Point) → is_touched axis p ≡ false
+    → first_touched axis (behind ++ reverse ps) ≡ b → first_touched axis (ps ++ reverse behind) ≡ a
+    → zipped axis behind (p ∷ ps) ≡ between_any axis b a p ∷ zipped axis (p ∷ behind) ps
 unfolding zipped
 each_on axis behind p ps b a h e g = rw (h, e, g) refl
 
@@ -188,26 +222,37 @@ unfolding or_else
 other_way (Some x) b first h = refl
 other_way None b first h = sym (or_none b) ∙ h
 
-ahead_is : (axis : Axis) (first p : Point) (ps behind : List Point) → is_touched axis p ≡ false → first_touched axis (reverse behind ++ (p ∷ ps)) ≡ Some first → first_touched axis (ps ++ reverse behind) ≡ Some (or_point (first_touched axis ps) first)
+ahead_is : (axis : Axis) (first p : Point) (ps behind : List Point) → is_touched axis p ≡ false
+    → first_touched axis (reverse behind ++ (p ∷ ps)) ≡ Some first
+    → first_touched axis (ps ++ reverse behind) ≡ Some (or_point (first_touched axis ps) first)
 ahead_is axis first p ps behind t h =
     first_of_both axis ps (reverse behind)
     ∙ other_way (first_touched axis ps) (first_touched axis (reverse behind)) first
-    (ap (or_else (first_touched axis (reverse behind))) (sym (missed axis p ps t)) ∙ sym (first_of_both axis (reverse behind) (p ∷ ps)) ∙ h)
+    (ap (or_else (first_touched axis (reverse behind))) (sym (missed axis p ps t))
+    ∙ sym (first_of_both axis (reverse behind) (p ∷ ps)) ∙ h)
 
-each_swept : (axis : Axis) (first before : Point) (behind ahead : List Point) → first_touched axis (behind ++ reverse ahead) ≡ Some before → first_touched axis (reverse behind ++ ahead) ≡ Some first → zipped axis behind ahead ≡ swept axis first before ahead
+each_swept : (axis : Axis) (first before : Point) (behind ahead : List Point)
+    → first_touched axis (behind ++ reverse ahead) ≡ Some before → first_touched axis (reverse behind ++ ahead) ≡ Some first
+    → zipped axis behind ahead ≡ swept axis first before ahead
 each_swept axis first before behind [] h g = each_nil axis behind ∙ sym (swept_nil axis first before)
 each_swept axis first before behind (p ∷ ps) h g = by_touch (is_touched axis p)
     (λ t. each_at axis behind p ps t
-    ∙ ap (λ l. p ∷ l) (each_swept axis first p (p ∷ behind) ps (hit axis p (behind ++ reverse ps) t) (ap (first_touched axis) (passed behind p ps) ∙ g))
+    ∙ ap (λ l. p ∷ l)
+    (each_swept axis first p (p ∷ behind) ps (hit axis p (behind ++ reverse ps) t)
+    (ap (first_touched axis) (passed behind p ps) ∙ g))
     ∙ sym (swept_at axis first before p ps t))
     (λ t. let e = sym (missed_behind axis behind p ps t) ∙ h in
-    each_on axis behind p ps (Some before) (Some (or_point (first_touched axis ps) first)) t e (ahead_is axis first p ps behind t g)
+    each_on axis behind p ps (Some before) (Some (or_point (first_touched axis ps) first)) t e
+    (ahead_is axis first p ps behind t g)
     ∙ ap (λ l. between axis before (or_point (first_touched axis ps) first) p ∷ l)
-    (each_swept axis first before (p ∷ behind) ps (missed axis p (behind ++ reverse ps) t ∙ e) (ap (first_touched axis) (passed behind p ps) ∙ g))
+    (each_swept axis first before (p ∷ behind) ps (missed axis p (behind ++ reverse ps) t ∙ e)
+    (ap (first_touched axis) (passed behind p ps) ∙ g))
     ∙ sym (swept_on axis first before p ps t))
 
 -- a contour with touched points is swept
-pub contour_swept : (axis : Axis) (xs : List Point) (last first : Point) (n : ℕ) → Some last ≡ first_touched axis (reverse xs) → untouched_run axis xs < length xs → n ≡ untouched_run axis xs → first ≡ get_or xs n first → contour_interpolated axis xs ≡ swept axis first last xs
+pub contour_swept : (axis : Axis) (xs : List Point) (last first : Point) (n : ℕ) → Some last ≡ first_touched axis (reverse xs)
+    → untouched_run axis xs < length xs → n ≡ untouched_run axis xs → first ≡ get_or xs n first
+    → contour_interpolated axis xs ≡ swept axis first last xs
 unfolding contour_interpolated
 contour_swept axis xs last first n h k r g =
     each_zipped axis [] xs
@@ -215,12 +260,14 @@ contour_swept axis xs last first n h k r g =
     ∙ ap (λ p. swept axis p last xs) (ap (λ n. get_or xs n first) (sym r) ∙ sym g)
 
 -- one without stays
-each_kept : (axis : Axis) (behind ahead : List Point) → first_touched axis behind ≡ None → first_touched axis ahead ≡ None → zipped axis behind ahead ≡ ahead
+each_kept : (axis : Axis) (behind ahead : List Point) → first_touched axis behind ≡ None → first_touched axis ahead ≡ None
+    → zipped axis behind ahead ≡ ahead
 each_kept axis behind [] h g = each_nil axis behind
 each_kept axis behind (p ∷ ps) h g = by_touch (is_touched axis p)
     (λ t. some_or_none p (sym (hit axis p ps t) ∙ g))
     (λ t. let e = sym (missed axis p ps t) ∙ g in
-    let b : first_touched axis (behind ++ reverse ps) ≡ None = first_of_both axis behind (reverse ps) ∙ rw (h, none_backward axis ps e) (or_none None) in
+    let b : first_touched axis (behind ++ reverse ps) ≡ None = first_of_both axis behind (reverse ps)
+    ∙ rw (h, none_backward axis ps e) (or_none None) in
     each_on axis behind p ps None (first_touched axis (ps ++ reverse behind)) t b refl
     ∙ ap (λ l. p ∷ l) (each_kept axis (p ∷ behind) ps (missed axis p behind t ∙ h) e))
 
@@ -228,11 +275,14 @@ pub contour_kept : (axis : Axis) (xs : List Point) → first_touched axis xs ≡
 unfolding contour_interpolated
 contour_kept axis xs h = each_zipped axis [] xs ∙ each_kept axis [] xs (none_in_nothing axis) h
 
-pub contour_kept_backward : (axis : Axis) (xs : List Point) → None ≡ first_touched axis (reverse xs) → contour_interpolated axis xs ≡ xs
-contour_kept_backward axis xs h = contour_kept axis xs (ap (first_touched axis) (sym (reverse-reverse xs)) ∙ none_backward axis (reverse xs) (sym h))
+pub contour_kept_backward : (axis : Axis) (xs : List Point) → None ≡ first_touched axis (reverse xs)
+    → contour_interpolated axis xs ≡ xs
+contour_kept_backward axis xs h =
+    contour_kept axis xs (ap (first_touched axis) (sym (reverse-reverse xs)) ∙ none_backward axis (reverse xs) (sym h))
 
 -- where some point is touched, the first run ends
-pub run_ends : (axis : Axis) (xs : List Point) (last : Point) → Some last ≡ first_touched axis (reverse xs) → untouched_run axis xs < length xs
+pub run_ends : (axis : Axis) (xs : List Point) (last : Point) → Some last ≡ first_touched axis (reverse xs)
+    → untouched_run axis xs < length xs
 run_ends axis xs last h = by_lt_z (pos (untouched_run axis xs)) (pos (length xs))
     (λ l. omega (arith, ints, l))
     (λ l. let k : length xs ≤ untouched_run axis xs = omega (arith, ints, l) in
@@ -240,30 +290,44 @@ run_ends axis xs last h = by_lt_z (pos (untouched_run axis xs)) (pos (length xs)
 
 -- runs of the sweep
 run_swept : (axis : Axis) (first before : Point) (xs : List Point) (d : Point) → untouched_run axis xs < length xs →
-    swept axis first before xs ≡ map (between axis before (get_or xs (untouched_run axis xs) d)) (take (untouched_run axis xs) xs) ++ (get_or xs (untouched_run axis xs) d ∷ swept axis first (get_or xs (untouched_run axis xs) d) (drop (suc (untouched_run axis xs)) xs))
+    swept axis first before xs ≡ map (between axis before (get_or xs (untouched_run axis xs) d))
+    (take (untouched_run axis xs) xs) ++ (get_or xs (untouched_run axis xs) d ∷ swept axis first
+    (get_or xs (untouched_run axis xs) d) (drop (suc (untouched_run axis xs)) xs))
 run_swept axis first before [] d h = absurd (omega (arith, h))
 run_swept axis first before (x ∷ xs) d h = by_touch (is_touched axis x)
     (λ t. rw (run_at axis x xs t) (swept_at axis first before x xs t))
     (λ t. let k : untouched_run axis xs < length xs = omega (arith, rw (run_on axis x xs t) at h) in
-    rw (run_on axis x xs t) (swept_on axis first before x xs t ∙ rw (run_first axis xs d k) (ap (λ l. between axis before (get_or xs (untouched_run axis xs) d) x ∷ l) (run_swept axis first before xs d k))))
+    rw (run_on axis x xs t)
+    (swept_on axis first before x xs t
+    ∙ rw (run_first axis xs d k)
+    (ap (λ l. between axis before (get_or xs (untouched_run axis xs) d) x ∷ l) (run_swept axis first before xs d k))))
 
-pub end_swept : (axis : Axis) (first before : Point) (xs : List Point) → length xs ≤ untouched_run axis xs → swept axis first before xs ≡ map (between axis before first) xs
+pub end_swept : (axis : Axis) (first before : Point) (xs : List Point) → length xs ≤ untouched_run axis xs
+    → swept axis first before xs ≡ map (between axis before first) xs
 end_swept axis first before [] h = swept_nil axis first before
 end_swept axis first before (x ∷ xs) h = by_touch (is_touched axis x)
     (λ t. absurd (omega (arith, rw (run_at axis x xs t) at h)))
     (λ t. let k : length xs ≤ untouched_run axis xs = omega (arith, rw (run_on axis x xs t) at h) in
-    swept_on axis first before x xs t ∙ rw (run_none axis xs k) (ap (λ l. between axis before first x ∷ l) (end_swept axis first before xs k)))
+    swept_on axis first before x xs t
+    ∙ rw (run_none axis xs k) (ap (λ l. between axis before first x ∷ l) (end_swept axis first before xs k)))
 
 -- ---- the runs where they stand
 
-laid : {A : Type 0} (p ys rest : List A) (t : A) (n : ℕ) → n ≡ length p + length ys + 1 → (take n (p ++ (ys ++ (t ∷ rest))) ≡ p ++ (ys ++ (t ∷ []))) × (drop n (p ++ (ys ++ (t ∷ rest))) ≡ rest)
+laid : {A : Type 0} (p ys rest : List A) (t : A) (n : ℕ) → n ≡ length p + length ys + 1
+    → (take n (p ++ (ys ++ (t ∷ rest))) ≡ p ++ (ys ++ (t ∷ []))) × (drop n (p ++ (ys ++ (t ∷ rest))) ≡ rest)
 laid p ys rest t n e =
     let a : p ++ (ys ++ (t ∷ rest)) ≡ (p ++ ys) ++ (t ∷ rest) = sym (append_assoc p ys (t ∷ rest)) in
-    let b : n ≡ length (p ++ ys) + 1 = omega (arith, e, length-append p ys) in
-    (rw (a, b) (take-append-add (p ++ ys) (t ∷ rest) 1) ∙ append_assoc p ys (t ∷ []), rw (a, b) (drop-append-add (p ++ ys) (t ∷ rest) 1))
+    let b : n ≡ length (p ++ ys) + 1 = omega (arith, e, length-append p ys) in (
+      rw (a, b) (take-append-add (p ++ ys) (t ∷ rest) 1)
+          ∙ append_assoc p ys (t ∷ []),
+      rw (a, b) (drop-append-add (p ++ ys) (t ∷ rest) 1),
+    )
 
-put_run_at : (axis : Axis) (first before t : Point) (pts ys : List Point) (start k m : ℕ) (d : Point) → start ≤ length pts → k ≡ untouched_run axis (drop start pts) → k < length pts - start → m ≡ k → t ≡ get_or (drop start pts) k d → ys ≡ map (between axis before t) (take m (drop start pts)) →
-    take (start + k + 1) (put_mid start m pts ys) ++ swept axis first t (drop (start + k + 1) (put_mid start m pts ys)) ≡ take start pts ++ swept axis first before (drop start pts)
+put_run_at : (axis : Axis) (first before t : Point) (pts ys : List Point) (start k m : ℕ) (d : Point) → start ≤ length pts
+    → k ≡ untouched_run axis (drop start pts) → k < length pts - start → m ≡ k → t ≡ get_or (drop start pts) k d
+    → ys ≡ map (between axis before t) (take m (drop start pts)) →
+    take (start + k + 1) (put_mid start m pts ys) ++ swept axis first t (drop (start + k + 1) (put_mid start m pts ys)) ≡ take
+    start pts ++ swept axis first before (drop start pts)
 put_run_at axis first before t pts ys start k m d w r h e g y =
     let p = take start pts in
     let xs = drop start pts in
@@ -272,34 +336,43 @@ put_run_at axis first before t pts ys start k m d w r h e g y =
     let rest = drop (suc k) xs in
     let split : drop m xs ≡ t ∷ rest = rw (e, g) (drop-cons xs k d inside) in
     let put : put_mid start m pts ys ≡ p ++ (ys ++ (t ∷ rest)) = ap (λ l. p ++ (ys ++ l)) split in
-    let long : length ys ≡ k = ap length y ∙ length-map (take m xs) (between axis before t) ∙ length-take-le m xs (omega (arith, e, inside)) ∙ e in
+    let long : length ys ≡ k = ap length y ∙ length-map (take m xs) (between axis before t)
+    ∙ length-take-le m xs (omega (arith, e, inside)) ∙ e in
     let n : start + k + 1 ≡ length p + length ys + 1 = omega (arith, long, length-take-le start pts w) in
     let l = laid p ys rest t (start + k + 1) n in
-    let s : swept axis first before xs ≡ ys ++ (t ∷ swept axis first t rest) = run_swept axis first before xs d touched ∙ rw (← r, ← g, y, e) refl in
+    let s : swept axis first before xs ≡ ys ++ (t ∷ swept axis first t rest) = run_swept axis first before xs d touched
+    ∙ rw (← r, ← g, y, e) refl in
     ap (λ zs. take (start + k + 1) zs ++ swept axis first t (drop (start + k + 1) zs)) put
     ∙ (λ i. (l.0 i) ++ swept axis first t (l.1 i))
     ∙ append_assoc p (ys ++ (t ∷ [])) (swept axis first t rest)
     ∙ ap (λ zs. p ++ zs) (append_assoc ys (t ∷ []) (swept axis first t rest) ∙ sym s)
 
 -- the run before the next touched point is interpolated
-pub put_run : (axis : Axis) (first before t : Point) (pts ys : List Point) (start k m : ℕ) → start ≤ length pts → k ≡ untouched_run axis (drop start pts) → k < length pts - start → m ≡ k → t ≡ get_or pts (start + k) t → ys ≡ map (between axis before t) (take m (drop start pts)) →
-    take (start + k + 1) (put_mid start m pts ys) ++ swept axis first t (drop (start + k + 1) (put_mid start m pts ys)) ≡ take start pts ++ swept axis first before (drop start pts)
-put_run axis first before t pts ys start k m w r h e g y = put_run_at axis first before t pts ys start k m t w r h e (g ∙ sym (get_or-drop start pts k t)) y
+pub put_run : (axis : Axis) (first before t : Point) (pts ys : List Point) (start k m : ℕ) → start ≤ length pts
+    → k ≡ untouched_run axis (drop start pts) → k < length pts - start → m ≡ k → t ≡ get_or pts (start + k) t
+    → ys ≡ map (between axis before t) (take m (drop start pts)) →
+    take (start + k + 1) (put_mid start m pts ys) ++ swept axis first t (drop (start + k + 1) (put_mid start m pts ys)) ≡ take
+    start pts ++ swept axis first before (drop start pts)
+put_run axis first before t pts ys start k m w r h e g y =
+    put_run_at axis first before t pts ys start k m t w r h e (g ∙ sym (get_or-drop start pts k t)) y
 
-pub put_long : (f : Point → Point) (pts ys : List Point) (start m : ℕ) → ys ≡ map f (take m (drop start pts)) → length (put_mid start m pts ys) ≡ length pts
+pub put_long : (f : Point → Point) (pts ys : List Point) (start m : ℕ) → ys ≡ map f (take m (drop start pts))
+    → length (put_mid start m pts ys) ≡ length pts
 put_long f pts ys start m y = same_len_mid start m pts ys (ap length y ∙ length-map (take m (drop start pts)) f)
 
 whole_rest : (l : List Point) (s : ℕ) → take (length l - s) (drop s l) ≡ drop s l
 whole_rest l s = take_all (length l - s) (drop s l) (omega (arith, length-drop s l))
 
 -- the run behind the last touched point
-pub put_end : (axis : Axis) (first before : Point) (pts ys : List Point) (start k : ℕ) → k ≡ untouched_run axis (drop start pts) → length pts - start ≤ k → ys ≡ map (between axis before first) (take (length pts - start) (drop start pts)) →
+pub put_end : (axis : Axis) (first before : Point) (pts ys : List Point) (start k : ℕ) → k ≡ untouched_run axis (drop start pts)
+    → length pts - start ≤ k → ys ≡ map (between axis before first) (take (length pts - start) (drop start pts)) →
     put_mid start (length pts - start) pts ys ≡ take start pts ++ swept axis first before (drop start pts)
 put_end axis first before pts ys start k r h y =
     let xs = drop start pts in
     let all : length xs ≤ untouched_run axis xs = omega (arith, length-drop start pts, h, r) in
     let none : drop (length pts - start) xs ≡ [] = drop_all (length pts - start) xs (omega (arith, length-drop start pts)) in
-    let same : ys ≡ swept axis first before xs = y ∙ ap (map (between axis before first)) (whole_rest pts start) ∙ sym (end_swept axis first before xs all) in
+    let same : ys ≡ swept axis first before xs = y ∙ ap (map (between axis before first)) (whole_rest pts start)
+    ∙ sym (end_swept axis first before xs all) in
     ap (λ l. take start pts ++ (ys ++ l)) none ∙ ap (λ l. take start pts ++ l) (append-nil ys ∙ same)
 
 -- ---- contours
@@ -317,54 +390,76 @@ empty_contour : (axis : Axis) → contour_interpolated axis [] ≡ []
 unfolding contour_interpolated
 empty_contour axis = each_zipped axis [] [] ∙ each_nil axis []
 
-pub contours_begun : (axis : Axis) (ends : List ℕ) (points : List Point) → contours_interpolated axis 0 ends points ≡ take 0 points ++ contours_interpolated axis 0 (drop 0 ends) (drop 0 points)
+pub contours_begun : (axis : Axis) (ends : List ℕ) (points : List Point)
+    → contours_interpolated axis 0 ends points ≡ take 0 points ++ contours_interpolated axis 0 (drop 0 ends) (drop 0 points)
 contours_begun axis ends points = refl
 
 contours_next : (axis : Axis) (first : ℕ) (ends : List ℕ) (points : List Point) (k d : ℕ) → k < length ends →
-    contours_interpolated axis first (drop k ends) points ≡ contour_interpolated axis (take (get_or ends k d + 1 - first) points) ++ contours_interpolated axis (max first (get_or ends k d + 1)) (drop (k + 1) ends) (drop (get_or ends k d + 1 - first) points)
+    contours_interpolated axis first (drop k ends) points ≡ contour_interpolated axis
+    (take (get_or ends k d + 1 - first) points) ++ contours_interpolated axis (max first (get_or ends k d + 1))
+    (drop (k + 1) ends) (drop (get_or ends k d + 1 - first) points)
 unfolding contours_interpolated
 contours_next axis first ends points k d h =
     let e : suc (get_or ends k d) ≡ get_or ends k d + 1 = omega arith in
     ap (λ l. contours_interpolated axis first l points) (drop_more ends k d h)
-    ∙ ap (λ n. contour_interpolated axis (take (n - first) points) ++ contours_interpolated axis (max first n) (drop (k + 1) ends) (drop (n - first) points)) e
+    ∙ ap (λ n. contour_interpolated axis (take (n - first) points) ++ contours_interpolated axis (max first n) (drop (k + 1) ends)
+    (drop (n - first) points)) e
 
-pub contour_empty : (axis : Axis) (first : ℕ) (ends : List ℕ) (points : List Point) (k d : ℕ) → k < length ends → get_or ends k d + 1 ≤ first →
-    take first points ++ contours_interpolated axis first (drop k ends) (drop first points) ≡ take first points ++ contours_interpolated axis first (drop (k + 1) ends) (drop first points)
+pub contour_empty : (axis : Axis) (first : ℕ) (ends : List ℕ) (points : List Point) (k d : ℕ) → k < length ends
+    → get_or ends k d + 1 ≤ first →
+    take first points ++ contours_interpolated axis first (drop k ends) (drop first points) ≡ take first
+    points ++ contours_interpolated axis first (drop (k + 1) ends) (drop first points)
 contour_empty axis first ends points k d h l =
     let z : get_or ends k d + 1 - first ≡ 0 = omega (arith, l) in
     let m : max first (get_or ends k d + 1) ≡ first = omega (arith, l) in
-    ap (λ ys. take first points ++ ys) (contours_next axis first ends (drop first points) k d h ∙ rw (z, m, empty_contour axis) refl)
+    ap (λ ys. take first points ++ ys)
+    (contours_next axis first ends (drop first points) k d h ∙ rw (z, m, empty_contour axis) refl)
 
-pub contour_put : (axis : Axis) (first : ℕ) (ends : List ℕ) (points ys : List Point) (k d : ℕ) → k < length ends → first < get_or ends k d + 1 → get_or ends k d < length points → ys ≡ contour_interpolated axis (take (get_or ends k d + 1 - first) (drop first points)) →
+pub contour_put : (axis : Axis) (first : ℕ) (ends : List ℕ) (points ys : List Point) (k d : ℕ) → k < length ends
+    → first < get_or ends k d + 1 → get_or ends k d < length points
+    → ys ≡ contour_interpolated axis (take (get_or ends k d + 1 - first) (drop first points)) →
     take first points ++ contours_interpolated axis first (drop k ends) (drop first points) ≡
-    take (get_or ends k d + 1) (put_mid first (get_or ends k d + 1 - first) points ys) ++ contours_interpolated axis (get_or ends k d + 1) (drop (k + 1) ends) (drop (get_or ends k d + 1) (put_mid first (get_or ends k d + 1 - first) points ys))
+    take (get_or ends k d + 1) (put_mid first (get_or ends k d + 1 - first) points ys) ++ contours_interpolated axis
+    (get_or ends k d + 1) (drop (k + 1) ends)
+    (drop (get_or ends k d + 1) (put_mid first (get_or ends k d + 1 - first) points ys))
 contour_put axis first ends points ys k d h l w y =
     let past = get_or ends k d + 1 in
     let m : max first past ≡ past = omega (arith, l) in
-    let long : length ys ≡ past - first = ap length y ∙ contour_long axis (take (past - first) (drop first points)) ∙ length-take-le (past - first) (drop first points) (omega (arith, length-drop first points, w)) in
+    let long : length ys ≡ past - first = ap length y ∙ contour_long axis (take (past - first) (drop first points))
+    ∙ length-take-le (past - first) (drop first points) (omega (arith, length-drop first points, w)) in
     let fits : first ≤ length points = omega (arith, l, w) in
-    let t : take past (put_mid first (past - first) points ys) ≡ take first points ++ ys = take-put_mid first (past - first) points ys past (omega (arith, long, l)) fits in
-    let r : drop past (put_mid first (past - first) points ys) ≡ drop past points = drop-put_mid first (past - first) points ys past (omega (arith, l)) fits long in
+    let t : take past (put_mid first (past - first) points ys) ≡ take first points ++ ys =
+    take-put_mid first (past - first) points ys past (omega (arith, long, l)) fits in
+    let r : drop past (put_mid first (past - first) points ys) ≡ drop past points =
+    drop-put_mid first (past - first) points ys past (omega (arith, l)) fits long in
     let q : first + (past - first) ≡ past = omega (arith, l) in
-    let s : drop (past - first) (drop first points) ≡ drop past points = drop-drop (past - first) first points ∙ ap (λ n. drop n points) q in
+    let s : drop (past - first) (drop first points) ≡ drop past points = drop-drop (past - first) first points
+    ∙ ap (λ n. drop n points) q in
     ap (λ zs. take first points ++ zs) (contours_next axis first ends (drop first points) k d h ∙ rw (m, s, ← y) refl)
     ∙ sym (append_assoc (take first points) ys (contours_interpolated axis past (drop (k + 1) ends) (drop past points)))
     ∙ sym (λ i. (t i) ++ contours_interpolated axis past (drop (k + 1) ends) (r i))
 
-pub contour_put_long : (axis : Axis) (points ys : List Point) (first m : ℕ) → ys ≡ contour_interpolated axis (take m (drop first points)) → length (put_mid first m points ys) ≡ length points
-contour_put_long axis points ys first m y = same_len_mid first m points ys (ap length y ∙ contour_long axis (take m (drop first points)))
+pub contour_put_long : (axis : Axis) (points ys : List Point) (first m : ℕ)
+    → ys ≡ contour_interpolated axis (take m (drop first points)) → length (put_mid first m points ys) ≡ length points
+contour_put_long axis points ys first m y =
+    same_len_mid first m points ys (ap length y ∙ contour_long axis (take m (drop first points)))
 
-pub contours_done : (axis : Axis) (first k : ℕ) (ends : List ℕ) (points : List Point) → length ends ≤ k → take first points ++ contours_interpolated axis first (drop k ends) (drop first points) ≡ points
+pub contours_done : (axis : Axis) (first k : ℕ) (ends : List ℕ) (points : List Point) → length ends ≤ k
+    → take first points ++ contours_interpolated axis first (drop k ends) (drop first points) ≡ points
 unfolding contours_interpolated
-contours_done axis first k ends points h = ap (λ l. take first points ++ contours_interpolated axis first l (drop first points)) (drop_all k ends h) ∙ take-append-drop first points
+contours_done axis first k ends points h =
+    ap (λ l. take first points ++ contours_interpolated axis first l (drop first points)) (drop_all k ends h)
+    ∙ take-append-drop first points
 
 -- a figure keeps its number of points
-contours_long : (axis : Axis) (first : ℕ) (ends : List ℕ) (points : List Point) → length (contours_interpolated axis first ends points) ≡ length points
+contours_long : (axis : Axis) (first : ℕ) (ends : List ℕ) (points : List Point)
+    → length (contours_interpolated axis first ends points) ≡ length points
 unfolding contours_interpolated
 contours_long axis first [] points = refl
 contours_long axis first (end ∷ ends) points =
     let n = suc end - first in
-    length-append (contour_interpolated axis (take n points)) (contours_interpolated axis (max first (suc end)) ends (drop n points))
+    length-append (contour_interpolated axis (take n points))
+    (contours_interpolated axis (max first (suc end)) ends (drop n points))
     ∙ (λ i. (contour_long axis (take n points) i) + (contours_long axis (max first (suc end)) ends (drop n points) i))
     ∙ sym (length-append (take n points) (drop n points))
     ∙ ap length (take-append-drop n points)

@@ -31,7 +31,8 @@ moved_with o its_org its_cur = wrapped_of (o +ℤ (its_cur -ℤ its_org))
 
 -- o in proportion between two others, lo and hi
 unfoldable pub in_proportion : ℤ → ℤ → ℤ → ℤ → ℤ → ℤ
-in_proportion o lo_org lo_cur hi_org hi_cur = wrapped_of (lo_cur +ℤ near_of ((o -ℤ lo_org) *ℤ (hi_cur -ℤ lo_cur)) (hi_org -ℤ lo_org))
+in_proportion o lo_org lo_cur hi_org hi_cur =
+    wrapped_of (lo_cur +ℤ near_of ((o -ℤ lo_org) *ℤ (hi_cur -ℤ lo_cur)) (hi_org -ℤ lo_org))
 
 -- where o goes, between lo and hi: with lo if it was not above it, with hi if it was not below it, else in proportion
 unfoldable pub coordinate_between : ℤ → ℤ → ℤ → ℤ → ℤ → ℤ
@@ -48,7 +49,8 @@ placed axis lo hi p =
 -- a point between the touched points before and after it: lo is the one with the lesser original coordinate, the one
 -- before if they are equal
 unfoldable pub between : Axis → Point → Point → Point → Point
-between axis before after p = if int_lt (org axis after) (org axis before) then placed axis after before p else placed axis before after p
+between axis before after p =
+    if int_lt (org axis after) (org axis before) then placed axis after before p else placed axis before after p
 
 -- the first touched point of a list
 unfoldable pub first_touched : Axis → List Point → Option Point
@@ -87,7 +89,8 @@ contour_interpolated axis points = each_interpolated axis [] points
 unfoldable pub contours_interpolated : Axis → ℕ → List ℕ → List Point → List Point
 contours_interpolated axis first [] points = points
 contours_interpolated axis first (end ∷ ends) points =
-    contour_interpolated axis (take (suc end - first) points) ++ contours_interpolated axis (max first (suc end)) ends (drop (suc end - first) points)
+    contour_interpolated axis (take (suc end - first) points) ++ contours_interpolated axis (max first (suc end)) ends
+    (drop (suc end - first) points)
 
 -- all contours of a figure
 unfoldable pub figure_interpolated : Axis → Figure → Figure

@@ -7,13 +7,15 @@ returns-in_default c = sym (contour_kept_backward c.args.axis c.args.points.now 
 
 pub numbered-first-requires : goal.numbered-first-requires
 numbered-first-requires c =
-    rw c.untouched_run-length.ensures (run_ends c.args.axis c.args.points.now c.in-Some.last (sym c.in-Some.is ∙ c.last_touched.ensures))
+    rw c.untouched_run-length.ensures
+    (run_ends c.args.axis c.args.points.now c.in-Some.last (sym c.in-Some.is ∙ c.last_touched.ensures))
 
 pub runs-init : goal.runs-init
 runs-init c =
     let some = sym c.in-Some.is ∙ c.last_touched.ensures in
     record {
-      answer = contour_swept c.args.axis c.args.points.now c.in-Some.last c.numbered-first.result c.untouched_run-length.result some
+      answer = contour_swept c.args.axis c.args.points.now c.in-Some.last c.numbered-first.result c.untouched_run-length.result
+          some
           (run_ends c.args.axis c.args.points.now c.in-Some.last some) c.untouched_run-length.ensures c.numbered-first.ensures;
       run = c.untouched_run-length.ensures;
       within = omega arith;
@@ -26,7 +28,8 @@ runs-preserved c =
     let i = c.runs.invariant in
     let l = put_long _ c.runs.points c.interpolate_run.new.points c.runs.start _ e in
     record {
-      answer = i.answer ∙ sym (put_run c.args.axis _ c.runs.before c.numbered-after.result c.runs.points c.interpolate_run.new.points
+      answer = i.answer
+          ∙ sym (put_run c.args.axis _ c.runs.before c.numbered-after.result c.runs.points c.interpolate_run.new.points
           c.runs.start c.runs.length _ i.within i.run (omega arith) (omega arith) c.numbered-after.ensures e);
       run = c.untouched_run-length-in-runs.ensures;
       within = omega (arith, l);
@@ -36,4 +39,5 @@ runs-preserved c =
 pub returns : goal.returns
 returns c =
     let i = c.runs.invariant in
-    put_end c.args.axis _ c.runs.before c.runs.points c.interpolate_run-2.new.points c.runs.start c.runs.length i.run (omega arith) c.interpolate_run-2.ensures ∙ sym i.answer
+    put_end c.args.axis _ c.runs.before c.runs.points c.interpolate_run-2.new.points c.runs.start c.runs.length i.run
+    (omega arith) c.interpolate_run-2.ensures ∙ sym i.answer

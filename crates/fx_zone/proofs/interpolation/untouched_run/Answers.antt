@@ -4,12 +4,14 @@ use Rattle.fx_zone.proofs.interpolation.untouched_run.Goals as goal
 
 pub returns-then-is_touched : goal.returns-then-is_touched
 returns-then-is_touched c =
-    run_here c.args.axis c.args.points.now c.args.start c.run.end c.index-points-end.result (omega arith) c.run.invariant c.index-points-end.is
+    run_here c.args.axis c.args.points.now c.args.start c.run.end c.index-points-end.result (omega arith) c.run.invariant
+    c.index-points-end.is
     (sym c.is_touched.ensures ∙ c.if-is_touched.true)
 
 pub run-preserved : goal.run-preserved
 run-preserved c =
-    run_more c.args.axis c.args.points.now c.args.start c.run.end c.index-points-end.result (omega arith) (omega arith) c.run.invariant
+    run_more c.args.axis c.args.points.now c.args.start c.run.end c.index-points-end.result (omega arith) (omega arith)
+    c.run.invariant
     c.index-points-end.is (sym c.is_touched.ensures ∙ c.if-is_touched.false)
 
 pub returns : goal.returns

@@ -8,7 +8,8 @@ range-init c = record { done = range_begun (λ n. true) (curved c.args.on) c.arg
 
 pub range-preserved : goal.range-preserved
 range-preserved c = record {
-  done = range_step (λ n. true) (curved c.args.on) c.args.first c.range.number c.args.points.now c.range.points c.index-points-number.result
+  done = range_step (λ n. true) (curved c.args.on) c.args.first c.range.number c.args.points.now c.range.points
+      c.index-points-number.result
       c.curved.result c.range.invariant.done (omega arith) (omega arith) refl c.index-points-number.is c.curved.ensures;
   within = omega arith;
 }
@@ -16,5 +17,6 @@ range-preserved c = record {
 pub returns : goal.returns
 returns c =
     range_all (curved c.args.on) c.args.first c.args.past c.args.points.now c.range.points
-    (range_whole (λ n. true) (curved c.args.on) c.args.first c.args.past c.range.number c.args.points.now c.range.points c.range.invariant.done
+    (range_whole (λ n. true) (curved c.args.on) c.args.first c.args.past c.range.number c.args.points.now c.range.points
+    c.range.invariant.done
     (omega arith) (omega arith) c.range.invariant.within)

@@ -18,4 +18,6 @@ points-preserved c =
     }
 
 pub returns-clause-value : goal.returns-clause-value
-returns-clause-value c = loop_done (aligned_to_rp c.args.g.now) c.args.points.now c.points.self c.points.left c.points.strays _ (omega arith) c.points.invariant.answer
+returns-clause-value c =
+    loop_done (aligned_to_rp c.args.g.now) c.args.points.now c.points.self c.points.left c.points.strays _ (omega arith)
+    c.points.invariant.answer

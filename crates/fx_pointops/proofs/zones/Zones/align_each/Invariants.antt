@@ -6,7 +6,8 @@ use Rattle.fx_pointops.proofs.zones.Zones.align_each.Given as goal
 
 abbrev pub invariant-points : goal.invariant-points
 invariant-points l = record {
-  answer : each (aligned_to_rp l.g) (reverse l.points) l.fn.self ≡ with_strays l.strays (each (aligned_to_rp l.g) (reverse (take l.left l.points)) l.self);
+  answer : each (aligned_to_rp l.g) (reverse l.points) l.fn.self ≡ with_strays l.strays
+      (each (aligned_to_rp l.g) (reverse (take l.left l.points)) l.self);
   within : l.left ≤ length l.points;
   few : l.strays + l.left ≤ length l.points;
   shapes : HasShapes l.fn.self l.self;

@@ -11,7 +11,8 @@ pairs-preserved c =
     let p : FitsSigned w32 (get_or c.args.pairs.now (c.pairs.left - 2 + 1) (pos 0)) = search rules in
     let a : FitsSigned w32 (get_or c.args.pairs.now (c.pairs.left - 2) (pos 0)) = search rules in
     record {
-      answer = pairs_next (point_delta c.args.g.now c.args.form c.args.ppem.now) c.args.pairs.now c.pairs.self c.move_at_size-strays.new.self c.pairs.left
+      answer = pairs_next (point_delta c.args.g.now c.args.form c.args.ppem.now) c.args.pairs.now c.pairs.self
+          c.move_at_size-strays.new.self c.pairs.left
           c.move_at_size-strays.result c.pairs.strays _ _ _ (omega arith) i.within (to_z-of_z p) (to_z-of_z a) s.value i.answer;
       within = omega (arith, i.within);
       few = omega (arith, i.few, s.few);
@@ -20,5 +21,6 @@ pairs-preserved c =
 
 pub returns-clause-value : goal.returns-clause-value
 returns-clause-value c =
-    pairs_done (point_delta c.args.g.now c.args.form c.args.ppem.now) c.args.pairs.now c.pairs.self c.pairs.left c.pairs.strays _ (omega arith)
+    pairs_done (point_delta c.args.g.now c.args.form c.args.ppem.now) c.args.pairs.now c.pairs.self c.pairs.left c.pairs.strays _
+    (omega arith)
     c.pairs.invariant.within c.pairs.invariant.answer

@@ -10,7 +10,8 @@ points-preserved c =
     let s = c.shift_point-strays.ensures in
     let fits : FitsSigned w32 (get_or c.args.points.now (c.points.left - 1) (pos 0)) = search rules in
     record {
-      answer = loop_next (point_shifted c.args.g.now c.args.by.now) c.args.points.now c.points.self c.shift_point-strays.new.self c.points.left
+      answer = loop_next (point_shifted c.args.g.now c.args.by.now) c.args.points.now c.points.self c.shift_point-strays.new.self
+          c.points.left
           c.shift_point-strays.result c.points.strays _ _ (omega arith) i.within (to_z-of_z fits) s.value i.answer;
       within = omega arith;
       few = omega (arith, i.few, s.few);
@@ -18,4 +19,6 @@ points-preserved c =
     }
 
 pub returns-clause-value : goal.returns-clause-value
-returns-clause-value c = loop_done (point_shifted c.args.g.now c.args.by.now) c.args.points.now c.points.self c.points.left c.points.strays _ (omega arith) c.points.invariant.answer
+returns-clause-value c =
+    loop_done (point_shifted c.args.g.now c.args.by.now) c.args.points.now c.points.self c.points.left c.points.strays _
+    (omega arith) c.points.invariant.answer
