@@ -222,7 +222,8 @@ impl State {
     {
         let (p, number) = self.store.two()?;
         let value = F26(self.store.control(number));
-        self.store.add_strays(self.store.control_stray(number));
+        let stray = self.store.control_stray(number);
+        self.store.add_strays(stray);
         let strays = self.zones.miap(&self.graphics, rounds, p, value);
         self.store.add_strays(strays);
         self.graphics.set_rp0(p);
@@ -340,7 +341,8 @@ impl State {
     {
         let (p, number) = self.store.two()?;
         let value = F26(self.store.control(number));
-        self.store.add_strays(self.mirp_stray(number));
+        let stray = self.mirp_stray(number);
+        self.store.add_strays(stray);
         let strays = self.zones.mirp(&self.graphics, how, p, value);
         self.store.add_strays(strays);
         self.set_references(how.sets_rp0, p);

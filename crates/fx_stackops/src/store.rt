@@ -117,7 +117,8 @@ impl Store {
     /// The top numbers of the stack, the deepest first, if there are so many.
     #[tactic(auto, unfolding(crate::specs::Store::top_numbers))]
     pub fn top(&self, count: u32) -> Result<&[i32], StackFault>
-        ensures { map_ok (λ numbers. numbers.now) result ≡ top_numbers count self.now }
+        ensures value { map_ok (λ numbers. numbers.now) result ≡ top_numbers count self.now }
+        ensures inside { OnOk result (count ≤ length self.now.stack) }
     {
         let count = count as usize;
         if self.depth < count {

@@ -5,9 +5,9 @@ use Rattle.fx_stackops.specs.Store.{top_numbers}
 use Rattle.fx_stackops.proofs.Stacks.{top_at}
 use Rattle.fx_stackops.proofs.store.Store.top.Goals as goal
 
-pub returns : goal.returns
+pub returns-clause-value : goal.returns-clause-value
 unfolding top_numbers
-returns c =
+returns-clause-value c =
     let used : c.self.inside.depth ≤ length c.self.inside.cells = c.self.invariant.0 in
     let there : c.args.count ≤ c.self.inside.depth = omega arith in
     let long : length (reverse (take c.self.inside.depth c.self.inside.cells)) ≡ c.self.inside.depth =
