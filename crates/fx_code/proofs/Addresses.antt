@@ -1,4 +1,5 @@
 -- The addresses of a listing are those of the chain.
+-- Serves `laws::addresses_are_one` and `laws::addresses_of_are_addresses`, and Lines.
 use Rattle.std.proofs.Common.{◌≡◌, inl, inr, ℕ, zero, suc, ◌-◌, ◌<◌, ◌≤◌, List, [], ◌∷◌, length, refl, arith}
 use Rattle.std.proofs.lemmas.Bool.{cases_lt, lt-ltb, le-ltb}
 use Rattle.fx_fixed.proofs.Rising.{IsAbove, Rise, IsIn, contains_in, in_contains, rise_increasing, increasing_one}
@@ -12,7 +13,7 @@ addresses_are_one code xs ys f g = increasing_one xs ys f.rising g.rising (λ p 
 -- ---- the addresses from one on
 
 module _ (code : List ℕ) where
-  -- where the program has ended, and where it has not
+  -- when the program has ended, and when it has not
   pub addresses_end : (most p : ℕ) → length code ≤ p → addresses_from most code p ≡ []
   addresses_end zero p h = refl
   addresses_end (suc most) p h = rw (le-ltb p (length code) h) refl

@@ -1,4 +1,5 @@
--- A skip has an answer, and past_of gives it: the search from address to address finds the first match, or there is none.
+-- A skip has a result, and past_of gives it: the search from address to address finds the first match, or there is none.
+-- Serves the skips and their laws.
 use Rattle.std.proofs.Common.{◌≡◌, inl, inr, ℕ, zero, suc, ◌-◌, ◌≤◌, Bool, true, false, nat_le, List, length, Option, Some, None}
 use Rattle.std.proofs.Common.{Result, MatchOption, arith, refl, rules}
 use Rattle.std.proofs.lemmas.Bool.{cases_Bool, leb-true, leb-false}
@@ -62,7 +63,7 @@ module _ (code : List ℕ) (from : ℕ) where
     pub past_is : LeadsPast stops code from (past_of stops code from)
     past_is = past_found (first_of stops code from) found
 
-    -- what code answers is that
+    -- what code returns is that
     pub same_past : {r : Result ℕ CodeFault} → LeadsPast stops code from r → r ≡ past_of stops code from
     same_past {r = r} h = leads_one code from stops r _ h past_is
 

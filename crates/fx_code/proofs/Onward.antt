@@ -1,4 +1,5 @@
--- The chain read from its front, for a search that goes along it.
+-- The chain read from its front, for a search along it.
+-- Serves `find`, `listing` and the laws.
 use Rattle.std.proofs.Common.{◌≡◌, ◌⊎◌, inl, inr, ℕ, ◌+◌, ◌-◌, ◌<◌, ◌≤◌, Bool, false, List, length, drop, arith}
 use Rattle.std.proofs.Math.Nat.{le_refl}
 use Rattle.std.proofs.lemmas.Bool.{cases_lt}
@@ -68,7 +69,7 @@ module _ (code : List ℕ) where
     onward_past op p' n' none eo ep en here m = absurd (let e = m.1 in grind arith)
     onward_past op p' n' none eo ep en (on w r) m = rw (en, eo, ep) r
 
-    -- no match where no instruction stands
+    -- no match if there is no instruction
     pub onward_none : {p n q l : ℕ} → ¬ (IsWhole code p) → Onward p n q l → Meets stops code q l → ⊥
     onward_none none here m = none m.0
     onward_none none (on w r) m = none w

@@ -92,15 +92,23 @@ LeadsPast stops code from r =
 abbrev pub LeadsPastDefinition : List ℕ → ℕ → Result ℕ CodeFault → Type 0
 LeadsPastDefinition code from r =
     MatchResult r
-    (λ after. (address : ℕ) × IsFirst stops_at_definition code from address × (opcode_at code address ≡ ENDF) × (after ≡ address + 1))
-    (λ e. ((e ≡ CodeEnd) × HasNone stops_at_definition code from) ⊎ ((e ≡ NestedDefinition) × ((address : ℕ) × IsFirst stops_at_definition code from address × (opcode_at code address ≢ ENDF))))
+    (λ after.
+    (address : ℕ) × IsFirst stops_at_definition code from address × (opcode_at code address ≡ ENDF) × (after ≡ address + 1))
+    (λ e.
+    ((e ≡ CodeEnd) × HasNone stops_at_definition code from)
+    ⊎ ((e ≡ NestedDefinition)
+    × ((address : ℕ) × IsFirst stops_at_definition code from address × (opcode_at code address ≢ ENDF))))
 
 -- ---- laws
 
--- a skip has one answer
+-- a skip has one result
 abbrev pub SkipIsOne : Type 0
-SkipIsOne = (stops : ℕ → ℕ → Bool) (code : List ℕ) (from : ℕ) (r r' : Result ℕ CodeFault) → LeadsPast stops code from r → LeadsPast stops code from r' → r ≡ r'
+SkipIsOne =
+    (stops : ℕ → ℕ → Bool) (code : List ℕ) (from : ℕ) (r r' : Result ℕ CodeFault)
+    → LeadsPast stops code from r → LeadsPast stops code from r' → r ≡ r'
 
 -- the same past a definition
 abbrev pub DefinitionSkipIsOne : Type 0
-DefinitionSkipIsOne = (code : List ℕ) (from : ℕ) (r r' : Result ℕ CodeFault) → LeadsPastDefinition code from r → LeadsPastDefinition code from r' → r ≡ r'
+DefinitionSkipIsOne =
+    (code : List ℕ) (from : ℕ) (r r' : Result ℕ CodeFault)
+    → LeadsPastDefinition code from r → LeadsPastDefinition code from r' → r ≡ r'

@@ -11,7 +11,11 @@ abbrev pub first_from : (ℕ → ℕ → Bool) → List ℕ → ℕ → ℕ → 
 first_from stops code zero address level = None
 first_from stops code (suc most) address level =
     if nat_le (next_address code address) (length code)
-    then (if stops (opcode_at code address) level then Some address else first_from stops code most (next_address code address) (level_after (opcode_at code address) level))
+    then (
+    if stops (opcode_at code address) level
+    then Some address
+    else first_from stops code most (next_address code address) (level_after (opcode_at code address) level)
+    )
     else None
 
 -- there are no more than bytes

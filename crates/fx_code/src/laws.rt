@@ -4,22 +4,22 @@ ghost use Rattle.fx_code.specs.Chain.{SkipIsOne, DefinitionSkipIsOne};
 ghost use Rattle.fx_code.specs.Past.{PastOfIsPast, PastDefinitionOfIsPast};
 ghost use Rattle.fx_code.specs.Listing.{AddressesAreOne, AddressesOfAreAddresses};
 
-/// A skip has one answer.
+/// A skip has one result.
 pub fn skip_is_one()
     ensures { SkipIsOne }
 {}
 
-/// A skip has an answer, and `past_of` gives it.
+/// A skip has a result, and `past_of` gives it.
 pub fn skip_exists()
     ensures { PastOfIsPast }
 {}
 
-/// A skip past a definition has one answer.
+/// A skip past a definition has one result.
 pub fn definition_skip_is_one()
     ensures { DefinitionSkipIsOne }
 {}
 
-/// A skip past a definition has an answer, and `past_definition_of` gives it.
+/// A skip past a definition has a result, and `past_definition_of` gives it.
 pub fn definition_skip_exists()
     ensures { PastDefinitionOfIsPast }
 {}

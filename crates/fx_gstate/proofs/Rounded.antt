@@ -39,7 +39,7 @@ greatest_by_rem (pos p) phase x h =
     greatest_by_quotient p phase x (x -ℤ int_rem_euclid (x -ℤ phase) (pos p)) (int_div_euclid (x -ℤ phase) (pos p)) (omega (arith, ints, q)) (omega (arith, ints, r)) (omega (arith, ints, r))
 greatest_by_rem (negsuc p) phase x h = absurd (omega (arith, ints))
 
--- ---- one answer
+-- ---- one result
 
 one_greatest : (P : ℤ → Type 0) (x m n : ℤ) → IsGreatestNotAbove P x m → IsGreatestNotAbove P x n → m ≡ n
 one_greatest P x m n g h = let a = g.greatest n h.member h.not_above in let b = h.greatest m g.member g.not_above in omega (arith, ints, a, b)
@@ -107,6 +107,6 @@ rounded_of_is_rounded g d h =
       negative = λ n. ap wrapped_of (sign_turned d (member_or_phase g.phase member) n);
     }
 
--- what is rounded is the function's answer
+-- what is rounded is the function's result
 pub same_rounded : (g : GridView) (d r : ℤ) → pos 1 ≤ℤ g.period → IsRounded g d r → r ≡ grid_rounded_of g d
 same_rounded g d r h is = one_rounded g d r (grid_rounded_of g d) is (rounded_of_is_rounded g d h)

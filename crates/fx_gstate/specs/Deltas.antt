@@ -6,7 +6,7 @@ use Rattle.fx_gstate.specs.declared.deltas.DeltaForm.{DeltaForm}
 use Rattle.fx_gstate.specs.declared.deltas.DeltaForm.TheVariants.{First, Second, Third}
 use Rattle.fx_gstate.specs.Rounding.{low_byte}
 
--- the sizes of a form begin at so many pixels per em above the delta base
+-- how many pixels per em above the delta base the sizes of a form begin
 abbrev pub form_start : DeltaForm → ℕ
 form_start First = 0
 form_start Second = 16

@@ -74,7 +74,7 @@ impl DeltaShift {
     }
 }
 
-/// The three forms of a delta instruction, DELTAP1 to 3 or DELTAC1 to 3: each stands for 16 sizes.
+/// The three forms of a delta instruction, DELTAP1 to 3 or DELTAC1 to 3: each covers 16 sizes.
 #[derive(Clone, Copy, Debug, PartialEq, Eq)]
 pub enum DeltaForm {
     /// The sizes from the delta base on.

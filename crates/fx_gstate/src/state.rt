@@ -39,7 +39,7 @@ pub struct GState {
     pub single_width: F26,
     /// The single width cut-in, in 26.6.
     pub single_width_cut_in: F26,
-    /// The size, in pixels per em, that the first step of deltas stands for.
+    /// The size, in pixels per em, at which the sizes of the first deltas begin.
     pub delta_base: i32,
     /// How small a step of deltas is.
     pub delta_shift: DeltaShift,

@@ -51,8 +51,8 @@ impl Vector {
         ensures { IsTrue result ↔ (self ≡ axis_of axis) }
     {
         match axis {
-            Axis::X => self.x.0 == 16384 && self.y.0 == 0,
-            Axis::Y => self.x.0 == 0 && self.y.0 == 16384,
+            Axis::X => self.x == F2::ONE && self.y == F2(0),
+            Axis::Y => self.x == F2(0) && self.y == F2::ONE,
         }
     }
 

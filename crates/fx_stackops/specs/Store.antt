@@ -15,6 +15,20 @@ pub record StoreView : Type 0 where
   pub cvt : List ℤ
   pub strays : ℕ
 
+-- what is seen of it in cells, of which the first d are used
+abbrev pub view_of : ℕ → List ℤ → List ℤ → List ℤ → ℕ → StoreView
+view_of d cells storage cvt strays = record {
+  stack = reverse (take d cells);
+  room = length cells;
+  storage = storage;
+  cvt = cvt;
+  strays = strays;
+}
+
+-- an empty stack, these tables and no strays
+abbrev pub restarted : ℕ → List ℤ → List ℤ → StoreView
+restarted room storage cvt = record { stack = []; room = room; storage = storage; cvt = cvt; strays = 0 }
+
 -- the stack has room for 32 numbers more than the font says (this project's own choice)
 abbrev pub room_of : ℕ → ℕ
 room_of elements = elements + 32

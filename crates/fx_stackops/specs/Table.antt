@@ -31,4 +31,5 @@ stray_of table n = if is_inside table n then 0 else 1
 
 -- the number at an index moved to the end of the part from there to another
 abbrev pub rotated_of : ℕ → ℕ → List ℤ → List ℤ
-rotated_of from to table = take from table ++ (slice_range table (from + 1) to ++ (slice_index_or table from (pos 0) ∷ drop to table))
+rotated_of from to table =
+    take from table ++ (slice_range table (from + 1) to ++ (slice_index_or table from (pos 0) ∷ drop to table))

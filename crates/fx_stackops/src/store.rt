@@ -7,7 +7,7 @@ ghost use Rattle.fx_gstate.specs.States.{leaves};
 ghost use Rattle.fx_stackops.specs.Table.{AreNumbers, read_of, written_of, stray_of};
 ghost use Rattle.fx_stackops.specs.Store.{room_of, one, two, two_from, three, index_of, element_of, moved_up, top_numbers};
 ghost use Rattle.fx_stackops.specs.Store.{pushed, with_stack, with_strays, HasSizes};
-ghost use Rattle.fx_stackops.specs.Store.{five, with_rest, with_rest_two, with_rest_three, with_rest_five};
+ghost use Rattle.fx_stackops.specs.Store.{restarted, five, with_rest, with_rest_two, with_rest_three, with_rest_five};
 
 use crate::fault::StackFault;
 use crate::table::Table;
@@ -28,12 +28,12 @@ pub struct Store {
 }
 
 impl Model for Store {
-    ghost use Rattle.std.specs.Prelude.{◌≤◌, ◌<◌, ◌^◌, length, reverse, take};
-    ghost use Rattle.fx_stackops.specs.Store.{StoreView};
+    ghost use Rattle.std.specs.Prelude.{◌≤◌, ◌<◌, ◌^◌, length};
+    ghost use Rattle.fx_stackops.specs.Store.{StoreView, view_of};
 
     ghost Value = { StoreView };
 
-    ghost view = { λ s. record { stack = reverse (take s.depth s.cells); room = length s.cells; storage = s.storage; cvt = s.cvt; strays = s.strays } };
+    ghost view = { λ s. view_of s.depth s.cells s.storage s.cvt s.strays };
 
     ghost invariant = { λ s. (s.depth ≤ length s.cells) × (length s.cells < 2 ^ 31) };
 }
@@ -41,7 +41,7 @@ impl Model for Store {
 impl Store {
     /// An empty stack for as many elements as the font says and 32 more, cells of storage, all 0, and these control values.
     pub fn new(alloc: Global, elements: u16, cells: u16, cvt: Table) -> Result<Store, AllocError>
-        ensures { IfOk result (λ s. s ≡ record { stack = []; room = room_of elements; storage = replicate cells (pos 0); cvt = cvt; strays = 0 }) }
+        ensures { IfOk result (λ s. s ≡ restarted (room_of elements) (replicate cells (pos 0)) cvt) }
     {
         let stack = Table::zeros(alloc, usize::from(elements) + SPARE)?;
         let storage = Table::zeros(alloc, usize::from(cells))?;
@@ -114,7 +114,7 @@ impl Store {
         Ok((a, b, c, d, e))
     }
 
-    /// The top numbers of the stack, the deepest first, if there are so many.
+    /// The top numbers of the stack, the deepest first, if there are as many.
     #[tactic(auto, unfolding(crate::specs::Store::top_numbers))]
     pub fn top(&self, count: u32) -> Result<&[i32], StackFault>
         ensures value { map_ok (λ numbers. numbers.now) result ≡ top_numbers count self.now }
@@ -287,7 +287,7 @@ impl Store {
     pub fn restart(&mut self, storage: &Table, cvt: &Table)
         requires storage { length self.old.storage ≡ length storage.now }
         requires cvt { length self.old.cvt ≡ length cvt.now }
-        ensures { self.new ≡ record { stack = []; room = self.old.room; storage = storage.now; cvt = cvt.now; strays = 0 } }
+        ensures { self.new ≡ restarted self.old.room storage.now cvt.now }
     {
         self.depth = 0;
         self.storage.copy_from(storage);
