@@ -24,7 +24,7 @@ use Rattle.fx_pointops.specs.Indirect.{laid_along, moved_to_coordinate, miap_of,
 use Rattle.fx_pointops.specs.Shift.{shp_of, contour_shifted, shc_of, shz_of}
 use Rattle.fx_pointops.specs.Interpolate.{point_in_proportion, ip_of}
 use Rattle.fx_pointops.specs.Intersect.{isect_of}
-use Rattle.fx_pointops.specs.Flip.{point_flipped, flippt_of, run_curved, range_curved, fliprg_of}
+use Rattle.fx_pointops.specs.Flip.{point_flipped, flippt_of, run_curved, run_curved_at, fliprg_of}
 use Rattle.fx_pointops.specs.Delta.{point_moved_at, point_delta, deltap_of}
 use Rattle.fx_pointops.specs.Iup.{iup_of}
 
@@ -189,7 +189,7 @@ flippt_keeps g points z = each_keeps (point_flipped g) (flipped_keeps g) points 
 run_shape : (on : Bool) (low high : ℕ) (f : Figure) → HasShape f (run_curved on low high f)
 run_shape on low high f = figure_if f _ f _ (each_shape (in_range low _) (curved on) f) (shape_same f)
 
-range_keeps : (on : Bool) (zone : ZonePointer) (low high : Option ℕ) (z : Zones) → HasShapes z (range_curved on zone low high z)
+range_keeps : (on : Bool) (zone : ZonePointer) (low high : Option ℕ) (z : Zones) → HasShapes z (run_curved_at on zone low high z)
 range_keeps on zone (Some low) (Some high) z = zone_keeps (run_curved on low high) (run_shape on low high) zone z
 range_keeps on zone (Some low) None z = shapes_same z
 range_keeps on zone None high z = shapes_same z

@@ -11,15 +11,15 @@ use Rattle.fx_pointops.specs.Measure.{stray_at, distance_of, original_of}
 use Rattle.fx_pointops.specs.Loops.{each}
 
 -- the distance o in the proportion of cb to ob; o itself if ob is 0
-unfoldable pub in_proportion : ℤ → ℤ → ℤ → ℤ
-in_proportion o cb ob = if int_eq ob (pos 0) then o else wrapped_of (near_of (o *ℤ cb) ob)
+unfoldable pub proportion_of : ℤ → ℤ → ℤ → ℤ
+proportion_of o cb ob = if int_eq ob (pos 0) then o else wrapped_of (near_of (o *ℤ cb) ob)
 
 -- 39 IP  .. p ->
 -- Each p, of zone 2, moves to the distance from reference point 1, of zone 0, that is to its original one as the current distance cb
 -- of reference point 2, of zone 1, to its original one ob. Both are measured once; reference point 1 may move on the way.
 unfoldable pub point_in_proportion : GState → ℤ → ℤ → ℤ → Zones → Outcome
 point_in_proportion g cb ob p z = (
-  moved_by g (difference_of (in_proportion (original_of g g.zp2 p g.zp0 g.rp1 z) cb ob) (distance_of g g.zp2 p g.zp0 g.rp1 z))
+  moved_by g (difference_of (proportion_of (original_of g g.zp2 p g.zp0 g.rp1 z) cb ob) (distance_of g g.zp2 p g.zp0 g.rp1 z))
       g.zp2 p z,
   stray_at g.zp2 p z,
 )

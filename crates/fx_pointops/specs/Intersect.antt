@@ -16,11 +16,11 @@ abbrev pub cross_of : Place → Place → ℤ
 cross_of a b = a.x *ℤ b.y -ℤ a.y *ℤ b.x
 
 -- d times the fraction n / by
-unfoldable pub part_of : ℤ → ℤ → ℤ → ℤ
-part_of n d by = wrapped_of (near_of (n *ℤ d) by)
+unfoldable pub fraction_of : ℤ → ℤ → ℤ → ℤ
+fraction_of n d by = wrapped_of (near_of (n *ℤ d) by)
 
 abbrev pub scaled_by : ℤ → ℤ → Place → Place
-scaled_by n by d = record { x = part_of n d.x by; y = part_of n d.y by }
+scaled_by n by d = record { x = fraction_of n d.x by; y = fraction_of n d.y by }
 
 -- the middle of four places
 unfoldable pub mean_of : ℤ → ℤ → ℤ → ℤ → ℤ

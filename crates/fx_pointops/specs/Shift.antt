@@ -4,8 +4,7 @@ use Rattle.std.specs.Prelude.{ℕ, ◌+◌, ◌-◌, ℤ, Bool, false, if◌then
 use Rattle.fx_fixed.specs.Places.{place_difference_of}
 use Rattle.fx_fixed.specs.declared.places.Axis.TheVariants.{X, Y}
 use Rattle.fx_fixed.specs.declared.places.Place.{Place}
-use Rattle.fx_zone.specs.Figures.{Figure, each_changed, in_range_without, contour_of}
-use Rattle.fx_zone.specs.Points.{shifted}
+use Rattle.fx_zone.specs.Figures.{Figure, range_shifted, contour_of}
 use Rattle.fx_gstate.specs.declared.state.GState.{GState}
 use Rattle.fx_gstate.specs.declared.zones.ZonePointer.{ZonePointer}
 use Rattle.fx_gstate.specs.declared.zones.ZonePointer.TheVariants.{Twilight, Glyph}
@@ -41,11 +40,6 @@ excepted g one zone = if is_same_zone (reference_zone g one) zone then index_of 
 -- Each p, of zone 2, is shifted.
 unfoldable pub shp_of : GState → Bool → List ℤ → Zones → Outcome
 shp_of g one points z = with_strays (reference_stray g one z) (each (point_shifted g (reference_shift g one z)) points z)
-
--- the points of a range shifted, but the reference point
-abbrev pub range_shifted : Place → Bool → Bool → Option ℕ → ℕ → ℕ → Figure → Figure
-range_shifted by x y except first past f =
-    record f { points = each_changed (in_range_without except first past) (shifted by x y) 0 f.points }
 
 -- the first point of a contour, and the one after its last, if there is one
 abbrev pub contour_numbered : Option ℕ → Figure → Option (ℕ × ℕ)

@@ -4,7 +4,7 @@ ghost use Rattle.std.specs.Prelude.{◌≡◌, ◌+◌, ◌≤◌, length, rever
 ghost use Rattle.fx_zone.specs.Figures.{HasShape};
 ghost use Rattle.fx_pointops.specs.Zones.{HasShapes, index_of};
 ghost use Rattle.fx_pointops.specs.Loops.{each};
-ghost use Rattle.fx_pointops.specs.Flip.{point_flipped, flippt_of, run_curved, range_curved, fliprg_of};
+ghost use Rattle.fx_pointops.specs.Flip.{point_flipped, flippt_of, run_curved, run_curved_at, fliprg_of};
 
 use crate::zones::{Zones, index_of, stray};
 use fx_gstate::{GState, ZonePointer};
@@ -62,7 +62,7 @@ impl Zones {
 
     /// Makes the points of a zone from `low` to `high` ones on the curve, or off it, if both are inside.
     fn curve_range(&mut self, on: bool, zone: ZonePointer, low: i32, high: i32)
-        ensures value { self.new ≡ range_curved on zone (index_of low) (index_of high) self.old }
+        ensures value { self.new ≡ run_curved_at on zone (index_of low) (index_of high) self.old }
         ensures shapes { HasShapes self.old self.new }
     {
         let Some(low) = index_of(low) else {

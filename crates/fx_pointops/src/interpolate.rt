@@ -4,19 +4,12 @@ ghost use Rattle.std.specs.Prelude.{◌≡◌, ◌≢◌, ◌+◌, ◌≤◌, �
 ghost use Rattle.fx_fixed.specs.Numbers.{near_of, wrapped_of};
 ghost use Rattle.fx_pointops.specs.Zones.{HasShapes};
 ghost use Rattle.fx_pointops.specs.Loops.{each};
-ghost use Rattle.fx_pointops.specs.Interpolate.{in_proportion, point_in_proportion, ip_of};
+ghost use Rattle.fx_pointops.specs.Interpolate.{proportion_of, point_in_proportion, ip_of};
 
+use crate::distances::product;
 use crate::zones::{Zones, stray};
 use fx_fixed::{F26, near, w32};
 use fx_gstate::GState;
-
-/// An exact product of two distances.
-fn product(a: F26, b: F26) -> i128
-    ensures value { result ≡ a *ℤ b }
-    ensures bound { unsigned_abs result ≤ 2 ^ 64 }
-{
-    i128::from(a.0) * i128::from(b.0)
-}
 
 /// A distance that is not 0, as a divisor.
 fn divisor(d: F26) -> i128
@@ -37,9 +30,9 @@ fn proportional(o: F26, cb: F26, ob: F26) -> F26
 }
 
 /// A distance in the proportion of `cb` to `ob`; the distance itself if `ob` is 0.
-#[tactic(auto, unfolding(crate::specs::Interpolate::in_proportion))]
-fn in_proportion(o: F26, cb: F26, ob: F26) -> F26
-    ensures { result ≡ in_proportion o cb ob }
+#[tactic(auto, unfolding(crate::specs::Interpolate::proportion_of))]
+fn proportion(o: F26, cb: F26, ob: F26) -> F26
+    ensures { result ≡ proportion_of o cb ob }
 {
     if ob.0 == 0 {
         o
@@ -59,7 +52,7 @@ impl Zones {
         let point = self.point(g.zp2, p);
         let o = self.original(g, g.zp2, p, g.zp0, g.rp1);
         let c = self.distance(g, g.zp2, p, g.zp0, g.rp1);
-        self.move_by(g, g.zp2, p, in_proportion(o, *cb, *ob).minus(c));
+        self.move_by(g, g.zp2, p, proportion(o, *cb, *ob).minus(c));
         stray(&point)
     }
 

@@ -3,19 +3,12 @@
 ghost use Rattle.std.specs.Prelude.{◌≡◌, ◌≢◌, ◌≤◌, ◌^◌, pos, ◌+ℤ◌, ◌-ℤ◌, ◌*ℤ◌, unsigned_abs};
 ghost use Rattle.fx_fixed.specs.Places.{place_sum_of};
 ghost use Rattle.fx_pointops.specs.Zones.{HasShapes};
-ghost use Rattle.fx_pointops.specs.Intersect.{cross_of, part_of, scaled_by, mean_of, middle_of, intersection_of, isect_of};
+ghost use Rattle.fx_pointops.specs.Intersect.{cross_of, fraction_of, scaled_by, mean_of, middle_of, intersection_of, isect_of};
 
+use crate::distances::product;
 use crate::zones::{Zones, cur, stray};
 use fx_fixed::{F26, Place, near, w32};
 use fx_gstate::GState;
-
-/// An exact product of two coordinates.
-fn product(a: F26, b: F26) -> i128
-    ensures value { result ≡ a *ℤ b }
-    ensures bound { unsigned_abs result ≤ 2 ^ 62 }
-{
-    i128::from(a.0) * i128::from(b.0)
-}
 
 /// The cross product of two differences of places.
 fn cross(a: &Place, b: &Place) -> i128
@@ -35,12 +28,12 @@ fn multiple(n: i128, d: F26) -> i128
 }
 
 /// A coordinate times the fraction `n / by`.
-#[tactic(auto, unfolding(crate::specs::Intersect::part_of))]
-fn part(n: i128, d: F26, by: i128) -> F26
+#[tactic(auto, unfolding(crate::specs::Intersect::fraction_of))]
+fn fraction(n: i128, d: F26, by: i128) -> F26
     requires numerator { unsigned_abs n ≤ 2 ^ 63 }
     requires denominator { unsigned_abs by ≤ 2 ^ 63 }
     requires nonzero { by ≢ pos 0 }
-    ensures { result ≡ part_of n d by }
+    ensures { result ≡ fraction_of n d by }
 {
     F26(w32(near(multiple(n, d), by)))
 }
@@ -53,8 +46,8 @@ fn scaled_by(n: i128, by: i128, d: &Place) -> Place
     ensures { result ≡ scaled_by n by d.now }
 {
     Place {
-        x: part(n, d.x, by),
-        y: part(n, d.y, by),
+        x: fraction(n, d.x, by),
+        y: fraction(n, d.y, by),
     }
 }
 

@@ -1,8 +1,9 @@
 //! The rows that shift points as a reference point was moved.
 
 ghost use Rattle.std.specs.Prelude.{◌≡◌, ◌+◌, ◌≤◌, length, reverse, IfSome};
+ghost use Rattle.fx_zone.specs.Figures.{range_shifted};
 ghost use Rattle.fx_pointops.specs.Zones.{HasShapes, zone_at, on_zone};
-ghost use Rattle.fx_pointops.specs.Shift.{reference_zone, reference_point, reference_stray, reference_shift, excepted, shp_of, range_shifted, contour_at, stray_contour, contour_shifted, shc_of, count_without_phantoms, shz_of};
+ghost use Rattle.fx_pointops.specs.Shift.{reference_zone, reference_point, reference_stray, reference_shift, excepted, shp_of, contour_at, stray_contour, contour_shifted, shc_of, count_without_phantoms, shz_of};
 
 use crate::zones::{Zones, cur, index_of, is_same_zone, org, stray};
 use fx_fixed::{Axis, Place};

@@ -81,7 +81,7 @@ pub fn cur(point: &Option<Point>) -> Place
 }
 
 impl Zones {
-    ghost use Rattle.fx_zone.specs.Points.{marked, shifted as shifted_by, laid, settled, put, flipped};
+    ghost use Rattle.fx_zone.specs.Points.{marked, shifted, laid, settled, put, flipped};
     ghost use Rattle.fx_pointops.specs.Zones.{point_at, changed_at, HasShapes};
 
     /// The point of a number, if it is inside.
@@ -99,7 +99,7 @@ impl Zones {
     /// Shifts a point, if it is inside, and touches it along the axes that are given.
     #[tactic(auto, unfolding(crate::specs::Zones::changed_at))]
     pub(crate) fn shift(&mut self, zone: ZonePointer, number: i32, by: Place, x: bool, y: bool)
-        ensures value { self.new ≡ changed_at (shifted_by by x y) zone number self.old }
+        ensures value { self.new ≡ changed_at (shifted by x y) zone number self.old }
         ensures shapes { HasShapes self.old self.new }
     {
         let Some(index) = index_of(number) else {

@@ -2,8 +2,8 @@
 
 ghost use Rattle.std.specs.Prelude.{◌≡◌, ◌+◌, ◌<◌, ◌≤◌, ◌^◌, [], length, map, take, slice_get, IfSome, slice_set, OnOk, OnErr, IfOk, true, false};
 ghost use Rattle.std.specs.List.{All};
-ghost use Rattle.fx_zone.specs.Figures.{Figure, joined, empty_figure, changed, each_changed, in_range, in_range_without, contour_of, HasShape};
-ghost use Rattle.fx_zone.specs.Points.{moved, marked, shifted as shifted_by, put, laid, settled, curved, flipped};
+ghost use Rattle.fx_zone.specs.Figures.{Figure, joined, empty_figure, changed, range_shifted, range_curved, contour_of, HasShape};
+ghost use Rattle.fx_zone.specs.Points.{moved, marked, shifted as shifted_by, put, laid, settled, flipped};
 ghost use Rattle.fx_zone.specs.Interpolation.{figure_interpolated};
 
 use crate::interpolation::interpolate_contours;
@@ -203,7 +203,7 @@ impl Zone {
         y: bool,
     )
         requires { past ≤ length self.old.points }
-        ensures value { self.new ≡ record self.old { points = each_changed (in_range_without except first past) (shifted_by by x y) 0 self.old.points } }
+        ensures value { self.new ≡ range_shifted by x y except first past self.old }
         ensures shape { HasShape self.old self.new }
     {
         shift_range(&mut self.points, first, past, except, &by, x, y);
@@ -212,7 +212,7 @@ impl Zone {
     /// Makes the points from a number to before another ones on the curve, or off it.
     pub fn curve_range(&mut self, first: usize, past: usize, on: bool)
         requires { past ≤ length self.old.points }
-        ensures value { self.new ≡ record self.old { points = each_changed (in_range first past) (curved on) 0 self.old.points } }
+        ensures value { self.new ≡ range_curved on first past self.old }
         ensures shape { HasShape self.old self.new }
     {
         curve_range(&mut self.points, first, past, on);
