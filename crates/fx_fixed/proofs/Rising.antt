@@ -1,4 +1,5 @@
 -- Lists of numbers that rise, by recursion and in std's words: two with the same members are one.
+-- For lists of code points in rising order, in the crates above.
 use Rattle.std.proofs.Common.{◌≡◌, ◌⊎◌, inl, inr, refl, sym, ap, ◌∙◌, subst, arith, ℕ, zero, suc, ◌+◌, ◌<◌, List, [], ◌∷◌, length, get_or}
 use Rattle.std.specs.Prelude.{Contains}
 use Rattle.std.specs.List.Sorted.{IsStrictlyIncreasing}
@@ -49,11 +50,11 @@ increasing_rise (c ∷ d ∷ ds) h = (h 0 (omega arith), increasing_rise (d ∷ 
 
 -- ---- one list
 
--- what is behind the first is above it
-behind_above : (c x : ℕ) (cs : List ℕ) → IsAbove c cs → Rise cs → IsIn x cs → c < x
-behind_above c x [] a h g = absurd g
-behind_above c x (d ∷ ds) a h (inl g) = subst (λ z. c < z) (sym g) a
-behind_above c x (d ∷ ds) a h (inr g) = let low : d < x = behind_above d x ds h.0 h.1 g in omega arith
+-- what comes after the first is above it
+after_above : (c x : ℕ) (cs : List ℕ) → IsAbove c cs → Rise cs → IsIn x cs → c < x
+after_above c x [] a h g = absurd g
+after_above c x (d ∷ ds) a h (inl g) = subst (λ z. c < z) (sym g) a
+after_above c x (d ∷ ds) a h (inr g) = let low : d < x = after_above d x ds h.0 h.1 g in omega arith
 
 -- two with the same members
 one_list : (xs ys : List ℕ) → Rise xs → Rise ys → ((x : ℕ) → IsIn x xs → IsIn x ys) → ((x : ℕ) → IsIn x ys → IsIn x xs) → xs ≡ ys
@@ -61,9 +62,9 @@ one_list [] [] p q f g = refl
 one_list [] (d ∷ ds) p q f g = absurd (g d (inl refl))
 one_list (c ∷ cs) [] p q f g = absurd (f c (inl refl))
 one_list (c ∷ cs) (d ∷ ds) p q f g =
-    let e : c ≡ d = elim (f c (inl refl)) [ inl h ↦ h | inr h ↦ elim (g d (inl refl)) [ inl k ↦ sym k | inr k ↦ absurd (clash c d (behind_above d c ds q.0 q.1 h) (behind_above c d cs p.0 p.1 k)) ] ] in
-    let there : (x : ℕ) → IsIn x cs → IsIn x ds = λ x h. elim (f x (inr h)) [ inr k ↦ k | inl k ↦ absurd (itself c x (behind_above c x cs p.0 p.1 h) (k ∙ sym e)) ] in
-    let back : (x : ℕ) → IsIn x ds → IsIn x cs = λ x h. elim (g x (inr h)) [ inr k ↦ k | inl k ↦ absurd (itself d x (behind_above d x ds q.0 q.1 h) (k ∙ e)) ] in
+    let e : c ≡ d = elim (f c (inl refl)) [ inl h ↦ h | inr h ↦ elim (g d (inl refl)) [ inl k ↦ sym k | inr k ↦ absurd (clash c d (after_above d c ds q.0 q.1 h) (after_above c d cs p.0 p.1 k)) ] ] in
+    let there : (x : ℕ) → IsIn x cs → IsIn x ds = λ x h. elim (f x (inr h)) [ inr k ↦ k | inl k ↦ absurd (itself c x (after_above c x cs p.0 p.1 h) (k ∙ sym e)) ] in
+    let back : (x : ℕ) → IsIn x ds → IsIn x cs = λ x h. elim (g x (inr h)) [ inr k ↦ k | inl k ↦ absurd (itself d x (after_above d x ds q.0 q.1 h) (k ∙ e)) ] in
     ap (λ z. z ∷ cs) e ∙ ap (λ zs. d ∷ zs) (one_list cs ds p.1 q.1 there back)
   where
     clash : (c d : ℕ) → d < c → c < d → ⊥

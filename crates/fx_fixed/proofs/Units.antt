@@ -1,4 +1,5 @@
 -- A direction has one unit vector, and it is the function's.
+-- For `unit`, and the laws of its definitions.
 use Rattle.std.proofs.Common.{◌≡◌, ◌≢◌, ℕ, zero, suc, ◌-◌, ◌*◌, ◌<◌, ◌≤◌, Bool, true, false, cond, nat_eq, arith, ℤ, pos, negsuc, neg_ℤ, unsigned_abs, refl, sym, ◌∙◌}
 use Rattle.std.proofs.Math.Nat.{mul-le-mul_right, mul-le-mul}
 use Rattle.std.proofs.lemmas.Int.{ints, by_lt_z}
@@ -61,7 +62,7 @@ pub unit_of_is_unit : UnitOfIsUnit
 unfolding unit_of
 unit_of_is_unit x y = unit_at x y (nat_eq (square_length x y) 0) refl
 
--- ---- one answer
+-- ---- one vector
 
 component_one : (x : ℤ) (s : ℕ) (u v : ℤ) → IsComponent x s u → IsComponent x s v → u ≡ v
 component_one x s u v g h =
@@ -78,6 +79,6 @@ unit_one x y u v u' v' false e g h =
     let n : square_length x y ≢ 0 = λ z. grind (arith, nat_tests) in
     (component_one x (square_length x y) u u' (g.horizontal n) (h.horizontal n), component_one y (square_length x y) v v' (g.vertical n) (h.vertical n))
 
--- the unit vector is the function's answer
+-- the unit vector is the function's value
 pub same_unit : (x y u v : ℤ) → IsUnit x y u v → (u ≡ (unit_of x y).0) × (v ≡ (unit_of x y).1)
 same_unit x y u v h = unit_one x y u v (unit_of x y).0 (unit_of x y).1 (nat_eq (square_length x y) 0) refl h (unit_of_is_unit x y)

@@ -1,4 +1,5 @@
 -- End points, one at a time, and what they tell.
+-- For `count_points`, and for `Simple::ends`.
 use Rattle.std.proofs.Common.{◌≡◌, ℕ, suc, ◌+◌, ◌<◌, ◌≤◌, Bool, true, false, List, [], ◌∷◌, drop, cond, Option, Some, None, refl, ap, ◌∙◌}
 use Rattle.std.proofs.lemmas.Bool.{lt-ltb, le-ltb, ltb-false}
 use Rattle.std.proofs.lemmas.Option.{same_Some, none-some}
@@ -21,7 +22,7 @@ pub ends_none : (start n : ℕ) (bytes : List ℕ) → n ≡ 0 → count_from st
 unfolding count_from words
 ends_none start n bytes e = ap (λ (k : ℕ). count_from start (words k bytes)) e
 
--- a value behind a test that went on
+-- a value after a test that continued
 pub guarded : {X : Type 0} (b : Bool) (o : Option X) (y : X) → cond b None o ≡ Some y → (b ≡ false) × (o ≡ Some y)
 guarded {X} true o y e = absurd (none-some _ e)
 guarded {X} false o y e = (refl, e)

@@ -1,4 +1,5 @@
 -- Reading the points of a simple glyph against the grammar, both ways.
+-- For the clauses of `read` on simple glyphs.
 use Rattle.std.proofs.Common.{◌≡◌, ℕ, zero, suc, ◌-◌, ◌<◌, ◌≤◌, Bool, true, false, List, [], ◌∷◌, ◌++◌, length, take, drop, replicate, Some, None, cond, refl, sym, ap, ◌∙◌, arith, subst, append_assoc}
 use Rattle.std.specs.Prelude.{option_and_then}
 use Rattle.std.specs.List.{flat_map}
@@ -9,12 +10,12 @@ use Rattle.byteorder.specs.Endian.{big_number}
 use Rattle.byteorder.specs.Numbers.{big_from-take, big_from-append}
 use Rattle.fx_glyf.proofs.Outlines.{of_flags, of_xs, of_ys}
 use Rattle.fx_glyf.specs.declared.point.Point.{Point}
-use Rattle.fx_glyf.specs.Points.{Cursor, x_short, x_same, y_short, y_same, repeats, next_flag, flags_from, delta_of, delta_by, deltas_from, outline_of, start}
+use Rattle.fx_glyf.specs.Points.{Cursor, x_short_vector, x_is_same_or_positive_x_short_vector, y_short_vector, y_is_same_or_positive_y_short_vector, repeat_flag, next_flag, flags_from, delta_of, delta_by, deltas_from, glyph_points_of, start}
 use Rattle.fx_glyf.specs.Words.{with_front, has}
 use Rattle.fx_glyf.specs.Grammar.{Run, run_bytes, run_flags, AreRuns, SpellsBy, SpellsAll, DescribesPoints}
 use Rattle.fx_glyf.proofs.Steps.{front_is}
 
--- where the flags are read
+-- the state of reading flags
 abbrev cursor : ℕ → ℕ → List ℕ → Cursor
 cursor again flag bytes = record { again = again; flag = flag; bytes = bytes }
 
@@ -24,9 +25,9 @@ run flag again = record { flag = flag; again = again }
 -- a flag that is read is a run
 record Ran (bytes : List ℕ) (d : Cursor) : Type 0 where
   bytes_are : bytes ≡ run_bytes (run d.flag d.again) ++ d.bytes
-  once : has d.flag repeats ≡ false → d.again ≡ 0
+  once : has d.flag repeat_flag ≡ false → d.again ≡ 0
 
-ran_long : (t : Bool) (f r : ℕ) (bytes : List ℕ) (d : Cursor) → has f repeats ≡ t → cond t (Some (cursor r f bytes)) (Some (cursor 0 f (r ∷ bytes))) ≡ Some d → Ran (f ∷ r ∷ bytes) d
+ran_long : (t : Bool) (f r : ℕ) (bytes : List ℕ) (d : Cursor) → has f repeat_flag ≡ t → cond t (Some (cursor r f bytes)) (Some (cursor 0 f (r ∷ bytes))) ≡ Some d → Ran (f ∷ r ∷ bytes) d
 ran_long true f r bytes d h e =
     let P : Cursor → Type 0 = Ran (f ∷ r ∷ bytes) in
     subst P (same_Some _ _ e) (record {
@@ -40,7 +41,7 @@ ran_long false f r bytes d h e =
       once = λ g. refl;
     })
 
-ran_short : (t : Bool) (f : ℕ) (d : Cursor) → has f repeats ≡ t → cond t None (Some (cursor 0 f [])) ≡ Some d → Ran (f ∷ []) d
+ran_short : (t : Bool) (f : ℕ) (d : Cursor) → has f repeat_flag ≡ t → cond t None (Some (cursor 0 f [])) ≡ Some d → Ran (f ∷ []) d
 ran_short true f d h e = absurd (none-some _ e)
 ran_short false f d h e =
     let P : Cursor → Type 0 = Ran (f ∷ []) in
@@ -55,7 +56,7 @@ one_run flag [] d e = absurd (none-some _ e)
 one_run flag (f ∷ []) d e = ran_short _ f d refl e
 one_run flag (f ∷ r ∷ bytes) d e = ran_long _ f r bytes d refl e
 
-run_one_by : (t : Bool) (flag f a : ℕ) (rest : List ℕ) → has f repeats ≡ t → (t ≡ false → a ≡ 0) → next_flag (cursor 0 flag (cond t (f ∷ a ∷ []) (f ∷ []) ++ rest)) ≡ Some (cursor a f rest)
+run_one_by : (t : Bool) (flag f a : ℕ) (rest : List ℕ) → has f repeat_flag ≡ t → (t ≡ false → a ≡ 0) → next_flag (cursor 0 flag (cond t (f ∷ a ∷ []) (f ∷ []) ++ rest)) ≡ Some (cursor a f rest)
 unfolding next_flag
 run_one_by true flag f a rest h g = ap (λ (b : Bool). cond b (Some (cursor a f rest)) (Some (cursor 0 f (a ∷ rest)))) h
 run_one_by false flag f a [] h g =
@@ -63,7 +64,7 @@ run_one_by false flag f a [] h g =
 run_one_by false flag f a (x ∷ xs) h g =
     ap (λ (b : Bool). cond b (Some (cursor x f xs)) (Some (cursor 0 f (x ∷ xs)))) h ∙ ap (λ (n : ℕ). Some (cursor n f (x ∷ xs))) (sym (g refl))
 
-run_one : (flag : ℕ) (r : Run) (rest : List ℕ) → (has r.flag repeats ≡ false → r.again ≡ 0) → next_flag (cursor 0 flag (run_bytes r ++ rest)) ≡ Some (cursor r.again r.flag rest)
+run_one : (flag : ℕ) (r : Run) (rest : List ℕ) → (has r.flag repeat_flag ≡ false → r.again ≡ 0) → next_flag (cursor 0 flag (run_bytes r ++ rest)) ≡ Some (cursor r.again r.flag rest)
 run_one flag r rest h = run_one_by _ flag r.flag r.again rest refl h
 
 -- flags that are read are those of runs
@@ -199,15 +200,15 @@ all_read short same (f ∷ fs) (d ∷ ds) front rest h =
     ∙ ap (with_front d) (all_read short same fs ds h.1 rest h.4)
 
 -- what is read is described by the bytes
-pub found_points : (count : ℕ) (bytes : List ℕ) (points : List Point) → outline_of count bytes ≡ Some points → DescribesPoints count bytes points
-unfolding outline_of
+pub found_points : (count : ℕ) (bytes : List ℕ) (points : List Point) → glyph_points_of count bytes ≡ Some points → DescribesPoints count bytes points
+unfolding glyph_points_of
 found_points count bytes points e =
     option_and_then_some of_flags (flags_from count (start bytes)) points e (λ fs qf wf.
-    option_and_then_some (of_xs fs.0) (deltas_from x_short x_same fs.0 fs.1) points wf (λ xs qx wx.
-    option_and_then_some (of_ys fs.0 xs.0) (deltas_from y_short y_same fs.0 xs.1) points wx (λ ys qy wy.
+    option_and_then_some (of_xs fs.0) (deltas_from x_short_vector x_is_same_or_positive_x_short_vector fs.0 fs.1) points wf (λ xs qx wx.
+    option_and_then_some (of_ys fs.0 xs.0) (deltas_from y_short_vector y_is_same_or_positive_y_short_vector fs.0 xs.1) points wx (λ ys qy wy.
     let r = runs_of count 0 0 bytes fs.0 fs.1 qf in
-    let x = all_spelled x_short x_same fs.0 fs.1 xs.0 xs.1 qx in
-    let y = all_spelled y_short y_same fs.0 xs.1 ys.0 ys.1 qy in
+    let x = all_spelled x_short_vector x_is_same_or_positive_x_short_vector fs.0 fs.1 xs.0 xs.1 qx in
+    let y = all_spelled y_short_vector y_is_same_or_positive_y_short_vector fs.0 xs.1 ys.0 ys.1 qy in
     let P : ℕ → Type 0 = λ n. AreRuns n r.runs in
     let same : count - 0 ≡ count = omega arith in
     record {
@@ -227,13 +228,13 @@ found_points count bytes points e =
     })))
 
 -- what the bytes describe is read
-pub only_points : (count : ℕ) (bytes : List ℕ) (points : List Point) → DescribesPoints count bytes points → outline_of count bytes ≡ Some points
-unfolding outline_of
+pub only_points : (count : ℕ) (bytes : List ℕ) (points : List Point) → DescribesPoints count bytes points → glyph_points_of count bytes ≡ Some points
+unfolding glyph_points_of
 only_points count bytes points d =
     let P : ℕ → Type 0 = λ n. AreRuns n d.runs in
     let same : count ≡ count - 0 = omega arith in
-    ap (outline_of count) d.split
+    ap (glyph_points_of count) d.split
     ∙ ap (option_and_then of_flags) (runs_read count 0 0 d.runs (d.xs ++ (d.ys ++ d.after)) (subst P same d.are_runs) ∙ ap (λ (fs : List ℕ). Some (fs, d.xs ++ (d.ys ++ d.after))) (sym d.flags_are))
-    ∙ ap (option_and_then (of_xs d.flags)) (all_read x_short x_same d.flags d.dxs d.xs (d.ys ++ d.after) d.xs_are)
-    ∙ ap (option_and_then (of_ys d.flags d.dxs)) (all_read y_short y_same d.flags d.dys d.ys d.after d.ys_are)
+    ∙ ap (option_and_then (of_xs d.flags)) (all_read x_short_vector x_is_same_or_positive_x_short_vector d.flags d.dxs d.xs (d.ys ++ d.after) d.xs_are)
+    ∙ ap (option_and_then (of_ys d.flags d.dxs)) (all_read y_short_vector y_is_same_or_positive_y_short_vector d.flags d.dys d.ys d.after d.ys_are)
     ∙ ap Some (sym d.points_are)

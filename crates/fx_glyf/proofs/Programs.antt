@@ -1,4 +1,5 @@
 -- A header and a program against the grammar, both ways.
+-- For the clauses of `read`.
 use Rattle.std.proofs.Common.{◌≡◌, ℕ, ◌≤◌, Bool, List, ◌++◌, length, take, drop, cond, Some, None, refl, sym, ap, ◌∙◌, arith, subst, append_assoc, length-append}
 use Rattle.std.specs.Prelude.{ℤ, nat_lt}
 use Rattle.std.specs.Int.{w16, cast_signed}
@@ -76,7 +77,7 @@ pub record Headed (bytes rest : List ℕ) (contours : ℕ) (x_min : ℤ) : Type 
   pub long : 10 ≤ length bytes
   pub contours_are : field 2 bytes 0 ≡ contours
   pub x_min_is : x_min_of bytes ≡ x_min
-  pub behind : drop 10 bytes ≡ rest
+  pub rest_is : drop 10 bytes ≡ rest
 
 pub headed : (bytes header rest : List ℕ) (contours : ℕ) (x_min : ℤ) → bytes ≡ header ++ rest → IsHeader header contours x_min → Headed bytes rest contours x_min
 headed bytes header rest contours x_min e h =
@@ -86,5 +87,5 @@ headed bytes header rest contours x_min e h =
       long = omega (arith, h.size);
       contours_are = field-front 0 header rest (omega (arith, h.size)) ∙ sym h.contours_are;
       x_min_is = ap (cast_signed w16) (field-front 2 header rest (omega (arith, h.size))) ∙ sym h.x_min_is;
-      behind = drop_at header rest 10 h.size;
+      rest_is = drop_at header rest 10 h.size;
     })

@@ -1,10 +1,11 @@
 -- Flags and deltas, one point at a time.
+-- For `Flags::next`, `skip_flags`, `skip_deltas` and the iterator `Points`.
 use Rattle.std.proofs.Common.{◌≡◌, ℕ, suc, ◌+◌, ◌%◌, List, [], ◌∷◌, Option, Some, None, refl, sym, ap, ◌∙◌, subst}
 use Rattle.std.specs.Prelude.{IsSome, option_map, option_and_then}
 use Rattle.std.proofs.lemmas.Option.{same_Some, none-some}
 use Rattle.fx_glyf.specs.declared.point.Point.{Point}
 use Rattle.fx_glyf.specs.Words.{with_front, list_in}
-use Rattle.fx_glyf.specs.Points.{Cursor, x_short, x_same, y_short, y_same, next_flag, flags_from, delta_of, deltas_from, points_of, point_at}
+use Rattle.fx_glyf.specs.Points.{Cursor, x_short_vector, x_is_same_or_positive_x_short_vector, y_short_vector, y_is_same_or_positive_y_short_vector, next_flag, flags_from, delta_of, deltas_from, points_of, point_at}
 
 pub front_some : {X : Type 0} (x : X) (o : Option (List X × List ℕ)) → IsSome (with_front x o) → IsSome o
 front_some x None h = h
@@ -75,14 +76,14 @@ unfolding points_of
 points_none dxs dys x y = refl
 
 -- the first point, and those after it
-pub points_step : (f : ℕ) (fs xs ys xs' ys' : List ℕ) (dx dy x y : ℕ) → Some (dx, xs') ≡ delta_of x_short x_same f xs → Some (dy, ys') ≡ delta_of y_short y_same f ys → IsSome (deltas_from x_short x_same (f ∷ fs) xs) → IsSome (deltas_from y_short y_same (f ∷ fs) ys)
-    → points_of (f ∷ fs) (list_in (deltas_from x_short x_same (f ∷ fs) xs)) (list_in (deltas_from y_short y_same (f ∷ fs) ys)) x y
-    ≡ point_at ((x + dx) % 65536) ((y + dy) % 65536) f ∷ points_of fs (list_in (deltas_from x_short x_same fs xs')) (list_in (deltas_from y_short y_same fs ys')) ((x + dx) % 65536) ((y + dy) % 65536)
+pub points_step : (f : ℕ) (fs xs ys xs' ys' : List ℕ) (dx dy x y : ℕ) → Some (dx, xs') ≡ delta_of x_short_vector x_is_same_or_positive_x_short_vector f xs → Some (dy, ys') ≡ delta_of y_short_vector y_is_same_or_positive_y_short_vector f ys → IsSome (deltas_from x_short_vector x_is_same_or_positive_x_short_vector (f ∷ fs) xs) → IsSome (deltas_from y_short_vector y_is_same_or_positive_y_short_vector (f ∷ fs) ys)
+    → points_of (f ∷ fs) (list_in (deltas_from x_short_vector x_is_same_or_positive_x_short_vector (f ∷ fs) xs)) (list_in (deltas_from y_short_vector y_is_same_or_positive_y_short_vector (f ∷ fs) ys)) x y
+    ≡ point_at ((x + dx) % 65536) ((y + dy) % 65536) f ∷ points_of fs (list_in (deltas_from x_short_vector x_is_same_or_positive_x_short_vector fs xs')) (list_in (deltas_from y_short_vector y_is_same_or_positive_y_short_vector fs ys')) ((x + dx) % 65536) ((y + dy) % 65536)
 points_step f fs xs ys xs' ys' dx dy x y ex ey hx hy =
-    let sx = stepped _ _ _ (deltas_at x_short x_same f fs xs dx xs' ex) hx in
-    let sy = stepped _ _ _ (deltas_at y_short y_same f fs ys dy ys' ey) hy in
-    ap (λ (ds : List ℕ). points_of (f ∷ fs) ds (list_in (deltas_from y_short y_same (f ∷ fs) ys)) x y) sx.list
-    ∙ ap (λ (ds : List ℕ). points_of (f ∷ fs) (dx ∷ list_in (deltas_from x_short x_same fs xs')) ds x y) sy.list
+    let sx = stepped _ _ _ (deltas_at x_short_vector x_is_same_or_positive_x_short_vector f fs xs dx xs' ex) hx in
+    let sy = stepped _ _ _ (deltas_at y_short_vector y_is_same_or_positive_y_short_vector f fs ys dy ys' ey) hy in
+    ap (λ (ds : List ℕ). points_of (f ∷ fs) ds (list_in (deltas_from y_short_vector y_is_same_or_positive_y_short_vector (f ∷ fs) ys)) x y) sx.list
+    ∙ ap (λ (ds : List ℕ). points_of (f ∷ fs) (dx ∷ list_in (deltas_from x_short_vector x_is_same_or_positive_x_short_vector fs xs')) ds x y) sy.list
     ∙ points_at f fs dx dy _ _ x y
 
 pub flags_done : (n : ℕ) (c : Cursor) → n ≡ 0 → option_map (λ r. r.1) (flags_from n c) ≡ Some c.bytes
@@ -97,13 +98,13 @@ pub points_end : (fs dxs dys : List ℕ) (x y : ℕ) → fs ≡ [] → points_of
 points_end fs dxs dys x y e = ap (λ (gs : List ℕ). points_of gs dxs dys x y) e ∙ points_none dxs dys x y
 
 -- the same as `points_step`, for values that are known by equations
-pub points_first : (gs : List ℕ) (f : ℕ) (fs xs ys xs' ys' : List ℕ) (dx dy x y x' y' : ℕ) (p : Point) → gs ≡ f ∷ fs → Some (dx, xs') ≡ delta_of x_short x_same f xs → Some (dy, ys') ≡ delta_of y_short y_same f ys → IsSome (deltas_from x_short x_same gs xs) → IsSome (deltas_from y_short y_same gs ys)
+pub points_first : (gs : List ℕ) (f : ℕ) (fs xs ys xs' ys' : List ℕ) (dx dy x y x' y' : ℕ) (p : Point) → gs ≡ f ∷ fs → Some (dx, xs') ≡ delta_of x_short_vector x_is_same_or_positive_x_short_vector f xs → Some (dy, ys') ≡ delta_of y_short_vector y_is_same_or_positive_y_short_vector f ys → IsSome (deltas_from x_short_vector x_is_same_or_positive_x_short_vector gs xs) → IsSome (deltas_from y_short_vector y_is_same_or_positive_y_short_vector gs ys)
     → x' ≡ (x + dx) % 65536 → y' ≡ (y + dy) % 65536 → p ≡ point_at x' y' f
-    → points_of gs (list_in (deltas_from x_short x_same gs xs)) (list_in (deltas_from y_short y_same gs ys)) x y ≡ p ∷ points_of fs (list_in (deltas_from x_short x_same fs xs')) (list_in (deltas_from y_short y_same fs ys')) x' y'
+    → points_of gs (list_in (deltas_from x_short_vector x_is_same_or_positive_x_short_vector gs xs)) (list_in (deltas_from y_short_vector y_is_same_or_positive_y_short_vector gs ys)) x y ≡ p ∷ points_of fs (list_in (deltas_from x_short_vector x_is_same_or_positive_x_short_vector fs xs')) (list_in (deltas_from y_short_vector y_is_same_or_positive_y_short_vector fs ys')) x' y'
 points_first gs f fs xs ys xs' ys' dx dy x y x' y' p e ex ey hx hy nx ny np =
-    let P : List ℕ → Type 0 = λ hs. IsSome (deltas_from x_short x_same hs xs) in
-    let Q : List ℕ → Type 0 = λ hs. IsSome (deltas_from y_short y_same hs ys) in
-    ap (λ (hs : List ℕ). points_of hs (list_in (deltas_from x_short x_same hs xs)) (list_in (deltas_from y_short y_same hs ys)) x y) e
+    let P : List ℕ → Type 0 = λ hs. IsSome (deltas_from x_short_vector x_is_same_or_positive_x_short_vector hs xs) in
+    let Q : List ℕ → Type 0 = λ hs. IsSome (deltas_from y_short_vector y_is_same_or_positive_y_short_vector hs ys) in
+    ap (λ (hs : List ℕ). points_of hs (list_in (deltas_from x_short_vector x_is_same_or_positive_x_short_vector hs xs)) (list_in (deltas_from y_short_vector y_is_same_or_positive_y_short_vector hs ys)) x y) e
     ∙ points_step f fs xs ys xs' ys' dx dy x y ex ey (subst P e hx) (subst Q e hy)
     ∙ (rw (np, nx, ny) refl)
 

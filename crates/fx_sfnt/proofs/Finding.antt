@@ -1,4 +1,5 @@
 -- The search for a record, one record at a time.
+-- For the loops over records, of `find_table` here and of `first_subtable` in fx_cmap.
 use Rattle.std.proofs.Common.{◌≡◌, ℕ, suc, Bool, true, false, List, drop, cond, Some, ap, ◌∙◌}
 use Rattle.std.specs.List.{find}
 use Rattle.fx_sfnt.specs.Tables.{records}

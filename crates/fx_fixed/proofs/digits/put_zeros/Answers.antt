@@ -8,7 +8,7 @@ zeros-preserved c =
     let i = c.zeros.invariant in
     record {
       before = omega arith;
-      len = length-set c.zeros.room (c.zeros.at - 1) 48 ∙ i.len;
+      len = length-set c.zeros.buffer (c.zeros.at - 1) 48 ∙ i.len;
       few = omega arith;
       zeros = zero_more _ _ _ _ (omega arith) (omega arith) i.before i.zeros;
     }

@@ -19,5 +19,5 @@ records-preserved c =
     let miss : has_tag c.args.tag c.records.rest.now ≡ false = ne_eqb _ _ (λ e. c.if-u32_in-want.false (c.u32_in.ensures ∙ e ∙ sym c.u32_in-want.ensures)) in
     record {
       same = ap (λ bytes. find (has_tag c.args.tag) (records 16 (c.u16_in-count.result - (c.records.k + 1)) bytes)) c.after-rest-in-records.ensures ∙ sym (find_later 16 (has_tag c.args.tag) _ _ _ left miss) ∙ c.records.invariant.same;
-      room = omega (arith, ap length c.after-rest-in-records.ensures, length-drop 16 c.records.rest.now);
+      inside = omega (arith, ap length c.after-rest-in-records.ensures, length-drop 16 c.records.rest.now);
     }
