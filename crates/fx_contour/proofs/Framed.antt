@@ -1,4 +1,5 @@
 -- The frame from the bounding box.
+-- For the clauses of `frame`.
 use Rattle.std.proofs.Common.{◌≡◌, subst, ℕ, ◌<◌, ◌≤◌, inl, inr, ℤ, pos, ◌+ℤ◌, List, arith, ◌↔◌}
 use Rattle.fx_fixed.proofs.Linear.{signed_linear}
 use Rattle.fx_winding.specs.Winding.{Span, centre}
@@ -9,7 +10,7 @@ use Rattle.std.proofs.Common.{Option, Some, None, Result, Ok, Err, IfOk, IfErr}
 use Rattle.std.specs.Prelude.{IsErrOf}
 use Rattle.fx_contour.specs.declared.fault.ContourFault.{ContourFault}
 use Rattle.fx_contour.specs.declared.fault.ContourFault.TheVariants.{TooLarge}
-use Rattle.fx_contour.specs.Frames.{IsInBox, IsFrameOf, IsFrameFor, HaveNoPixel, AreTooLarge}
+use Rattle.fx_contour.specs.Frames.{IsInBoundingBox, IsFrameOf, IsFrameFor, HaveNoPixel, AreTooLarge}
 use Rattle.fx_winding.specs.Frames.{IsFrom}
 use Rattle.fx_contour.specs.Bounds.{left_side, right_side, bottom_side, top_side, AreBounds, IsCentreIn, ArePixels, AreNoPixels}
 
@@ -25,7 +26,7 @@ same_none l h l' h' e f k =
     let Q : ℤ → Type 0 = λ y. AreNoPixels l' y in
     subst Q f (subst P e k)
 
-box_from : (b : Bounds) (ss : List Span) (i j : ℤ) → AreBounds b ss → IsCentreIn b.left b.right i → IsCentreIn b.bottom b.top j → IsInBox (centre i j) ss
+box_from : (b : Bounds) (ss : List Span) (i j : ℤ) → AreBounds b ss → IsCentreIn b.left b.right i → IsCentreIn b.bottom b.top j → IsInBoundingBox (centre i j) ss
 box_from b ss i j a x y = record {
   left = (a.sides left_side (centre i j).x).1 x.0;
   right = (a.sides right_side (centre i j).x).1 x.1;
@@ -33,10 +34,10 @@ box_from b ss i j a x y = record {
   top = (a.sides top_side (centre i j).y).1 y.1;
 }
 
-column_in : (b : Bounds) (ss : List Span) (i j : ℤ) → AreBounds b ss → IsInBox (centre i j) ss → IsCentreIn b.left b.right i
+column_in : (b : Bounds) (ss : List Span) (i j : ℤ) → AreBounds b ss → IsInBoundingBox (centre i j) ss → IsCentreIn b.left b.right i
 column_in b ss i j a h = ((a.sides left_side (centre i j).x).0 h.left, (a.sides right_side (centre i j).x).0 h.right)
 
-row_in : (b : Bounds) (ss : List Span) (i j : ℤ) → AreBounds b ss → IsInBox (centre i j) ss → IsCentreIn b.bottom b.top j
+row_in : (b : Bounds) (ss : List Span) (i j : ℤ) → AreBounds b ss → IsInBoundingBox (centre i j) ss → IsCentreIn b.bottom b.top j
 row_in b ss i j a h = ((a.sides bottom_side (centre i j).y).0 h.bottom, (a.sides top_side (centre i j).y).0 h.top)
 
 pub no_columns : (b : Bounds) (ss : List Span) → AreBounds b ss → AreNoPixels b.left b.right → HaveNoPixel ss

@@ -1,4 +1,5 @@
 -- The contours of an outline, one after the other.
+-- For the loop of `pieces`.
 use Rattle.std.proofs.Common.{◌≡◌, refl, sym, subst, ◌∙◌, ℕ, zero, suc, ◌+◌, ◌-◌, ◌<◌, ◌≤◌, List, [], ◌∷◌, ◌++◌, map, drop, take, length, get_or, append_assoc, arith}
 use Rattle.std.proofs.lemmas.List.{drop_more, append-nil, length-take, length-drop}
 use Rattle.fx_winding.specs.declared.point.Piece.{Piece}
@@ -10,7 +11,7 @@ use Rattle.fx_winding.specs.Outside.{joined}
 use Rattle.fx_contour.specs.Curve.{curve_of}
 use Rattle.fx_contour.specs.Contours.{contours_from}
 
--- the pieces made are those of the first k contours, and start is where the next one begins
+-- the pieces made are those of the first k contours, and the next one begins at start
 pub record Gathered (made : List Piece) (start : ℕ) (ends : List ℕ) (k : ℕ) (points : List OutlinePoint) : Type 0 where
   pub spans : map span_of made ++ joined (map curve_of (contours_from start (drop k ends) points)) ≡ joined (map curve_of (contours_from 0 ends points))
   pub ends_left : AreEnds start (drop k ends) (length points)
@@ -40,11 +41,11 @@ gather_more made after start ends k points e d g h s m n =
     let all = joined (map curve_of (contours_from 0 ends points)) in
     let P : List ℕ → Type 0 = λ xs. map span_of made ++ joined (map curve_of (contours_from start xs points)) ≡ all in
     let Q : ℕ → Type 0 = λ x. map span_of made ++ joined (map curve_of (contours_from start (x ∷ drop (k + 1) ends) points)) ≡ all in
-    let whole : map span_of made ++ (c ++ rest) ≡ all = subst Q (sym s) (subst P (drop_more ends k d h) g.spans) in
+    let all_spans : map span_of made ++ (c ++ rest) ≡ all = subst Q (sym s) (subst P (drop_more ends k d h) g.spans) in
     let R : List Span → Type 0 = λ xs. xs ++ rest ≡ all in
     let f = slice_few start (e + 1) points w.0 w.1 in
     record {
-      spans = subst R (sym m) (append_assoc (map span_of made) c rest ∙ whole);
+      spans = subst R (sym m) (append_assoc (map span_of made) c rest ∙ all_spans);
       ends_left = l.1;
       few = (let x = g.few in let y = w.0 in omega arith);
       within = w.1;

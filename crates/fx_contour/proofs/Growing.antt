@@ -1,4 +1,5 @@
 -- Bounding boxes, point by point.
+-- For `Bounds` and its loop.
 use Rattle.std.proofs.Common.{◌≡◌, sym, subst, ℕ, zero, suc, ◌+◌, ◌<◌, ◌≤◌, drop, length, map, get_or, ◌⊎◌, inl, inr, ℤ, ◌≤ℤ◌, List, [], ◌∷◌, Option, None, IsSomeAnd, refl, arith, ◌↔◌}
 use Rattle.std.specs.Int.{int_min, int_max}
 use Rattle.std.proofs.lemmas.Int.{ints, clamps, by_lt_z}
@@ -90,8 +91,8 @@ remains_more b c ps n s h e r g =
     let rest = map span_of (drop (n + 1) ps) in
     let P : List Piece → Type 0 = λ xs. Remains b ss (map span_of xs) in
     let Q : Piece → Type 0 = λ x. Remains b ss (span_of x ∷ rest) in
-    let whole = subst Q (sym e) (subst P (drop_more ps n s h) r) in
-    record { sides = λ side t. one_less (HaveAny (IsOut side t) ss) (Reaches b side t) (Reaches c side t) (HasAny (IsOut side t) (span_of s)) (HaveAny (IsOut side t) rest) (whole.sides side t) (g.sides side t) }
+    let all_spans = subst Q (sym e) (subst P (drop_more ps n s h) r) in
+    record { sides = λ side t. one_less (HaveAny (IsOut side t) ss) (Reaches b side t) (Reaches c side t) (HasAny (IsOut side t) (span_of s)) (HaveAny (IsOut side t) rest) (all_spans.sides side t) (g.sides side t) }
 
 none_left : (X A : Type 0) → X ↔ (A ⊎ ⊥) → X ↔ A
 none_left X A h = (λ x. there (h.0 x), λ a. h.1 (inl a))
@@ -103,8 +104,8 @@ none_left X A h = (λ x. there (h.0 x), λ a. h.1 (inl a))
 pub remains_end : (b : Bounds) (ps : List Piece) (n : ℕ) → length ps ≤ n → Remains b (map span_of ps) (map span_of (drop n ps)) → AreBounds b (map span_of ps)
 remains_end b ps n h r =
     let P : List Piece → Type 0 = λ xs. Remains b (map span_of ps) (map span_of xs) in
-    let whole = subst P (drop_all n ps h) r in
-    record { sides = λ side t. none_left (HaveAny (IsOut side t) (map span_of ps)) (Reaches b side t) (whole.sides side t) }
+    let all_spans = subst P (drop_all n ps h) r in
+    record { sides = λ side t. none_left (HaveAny (IsOut side t) (map span_of ps)) (Reaches b side t) (all_spans.sides side t) }
   where
     drop_all : (n : ℕ) (xs : List Piece) → length xs ≤ n → drop n xs ≡ []
     drop_all zero [] h = refl

@@ -1,4 +1,5 @@
--- A font's value at a lawful size needs no wrapping.
+-- A value in a font at a valid size needs no wrapping.
+-- For the clause `exact` of `scaled`.
 use Rattle.std.proofs.Common.{◌≡◌, ℕ, ◌≤◌, ◌<◌, ◌^◌, ◌*◌, ℤ, pos, ◌*ℤ◌, unsigned_abs, FitsSigned, arith, ◌∙◌, ap}
 use Rattle.std.proofs.lemmas.Int.{ints, int_wrap_fits, unsigned_abs-mul}
 use Rattle.std.proofs.Math.Nat.{mul-le-mul}

@@ -38,13 +38,13 @@ returns-clause-closed c =
     let contours = contours_from 0 o.ends.items o.points.items in
     (map curve_of contours, all_closed contours, sym (gather_end c.loop-end.made c.loop-end.start o.ends.items c.loop-end.end-index o.points.items c.loop-end.invariant (omega arith)))
 
-pub returns-then-not-are_near-clause-exact : goal.returns-then-not-are_near-clause-exact
-returns-then-not-are_near-clause-exact c =
+pub returns-then-not-are_in_reach-clause-exact : goal.returns-then-not-are_in_reach-clause-exact
+returns-then-not-are_in_reach-clause-exact c =
     let o = c.args.outline.now in
-    drawn_far o.ends.items o.points.items c.deref.result.now c.are_near.result c.deref.ensures.value c.are_near.ensures c.if-not-are_near.true
+    drawn_far o.ends.items o.points.items c.deref.result.now c.are_in_reach.result c.deref.ensures.value c.are_in_reach.ensures c.if-not-are_in_reach.true
 
 pub returns-clause-exact : goal.returns-clause-exact
 returns-clause-exact c =
     let o = c.args.outline.now in
     let ends = ap length c.deref-end-items.ensures.value in
-    drawn_near o.ends.items o.points.items c.deref.result.now c.are_near.result (map span_of c.loop-end.made) c.deref.ensures.value c.are_near.ensures c.if-not-are_near.false (gather_end c.loop-end.made c.loop-end.start o.ends.items c.loop-end.end-index o.points.items c.loop-end.invariant (omega arith))
+    drawn_near o.ends.items o.points.items c.deref.result.now c.are_in_reach.result (map span_of c.loop-end.made) c.deref.ensures.value c.are_in_reach.ensures c.if-not-are_in_reach.false (gather_end c.loop-end.made c.loop-end.start o.ends.items c.loop-end.end-index o.points.items c.loop-end.invariant (omega arith))

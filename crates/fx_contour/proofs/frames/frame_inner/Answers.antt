@@ -2,7 +2,7 @@ use Rattle.std.proofs.Common.{map, arith, refl}
 use Rattle.std.proofs.lemmas.Int.{ints}
 use Rattle.fx_winding.specs.Winding.{span_of}
 use Rattle.fx_contour.proofs.Framed.{same_pixels, same_none, no_columns, no_rows, too_wide, too_high, is_frame}
-use Rattle.fx_contour.proofs.frames.frame_of.Goals as goal
+use Rattle.fx_contour.proofs.frames.frame_inner.Goals as goal
 
 pub returns-in_default-between-clause-ok : goal.returns-in_default-between-clause-ok
 returns-in_default-between-clause-ok c =
