@@ -23,3 +23,6 @@ pub use made::Made;
 pub use limits::{MAX_COMPONENTS, MAX_DEPTH, MAX_POINTS};
 pub use outline::{Outline, OutlinePoint};
 pub use outlines::{outline_with, unhinted};
+
+#[cfg(test)]
+mod tests;
