@@ -13,12 +13,15 @@ unfolding segment_of
 end_code_is cmap start count k = refl
 
 -- the end codes from a segment on, if there is one
-pub falls_step : (f : ℕ → Segment) (before k next n m last : ℕ) → n ≡ suc m → next ≡ suc k → (f k).end_code ≡ last → falls before (each_number f k n) ≡ (nat_lt last before || falls last (each_number f next m))
+pub falls_step : (f : ℕ → Segment) (before k next n m last : ℕ) → n ≡ suc m → next ≡ suc k → (f k).end_code ≡ last
+    → falls before (each_number f k n) ≡ (nat_lt last before || falls last (each_number f next m))
 falls_step f before k next n m last h i e =
-    ap (λ (x : ℕ). falls before (each_number f k x)) h ∙ ap (λ (x : ℕ). nat_lt x before || falls x (each_number f (suc k) m)) e ∙ ap (λ (x : ℕ). nat_lt last before || falls last (each_number f x m)) (sym i)
+    ap (λ (x : ℕ). falls before (each_number f k x)) h ∙ ap (λ (x : ℕ). nat_lt x before || falls x (each_number f (suc k) m)) e
+    ∙ ap (λ (x : ℕ). nat_lt last before || falls last (each_number f x m)) (sym i)
 
 -- end codes that do not fall are at least the number below them
-pub falls_above : (f : ℕ → Segment) (before k n j i : ℕ) → i ≡ k + j → falls before (each_number f k n) ≡ false → j < n → before ≤ (f i).end_code
+pub falls_above : (f : ℕ → Segment) (before k n j i : ℕ) → i ≡ k + j → falls before (each_number f k n) ≡ false → j < n
+    → before ≤ (f i).end_code
 falls_above f before k zero j i e h lt = absurd (omega arith)
 falls_above f before k (suc n) zero i e h lt =
     let parts = or_parts (nat_lt (f k).end_code before) (falls (f k).end_code (each_number f (suc k) n)) h in
@@ -32,7 +35,8 @@ falls_above f before k (suc n) (suc j) i e h lt =
     omega arith
 
 -- end codes that do not fall are in order
-pub falls_between : (f : ℕ → Segment) (before k n a b i j : ℕ) → i ≡ k + a → j ≡ k + b → falls before (each_number f k n) ≡ false → a ≤ b → b < n → (f i).end_code ≤ (f j).end_code
+pub falls_between : (f : ℕ → Segment) (before k n a b i j : ℕ) → i ≡ k + a → j ≡ k + b → falls before (each_number f k n) ≡ false
+    → a ≤ b → b < n → (f i).end_code ≤ (f j).end_code
 falls_between f before k zero a b i j e d h le lt = absurd (omega arith)
 falls_between f before k (suc n) zero zero i j e d h le lt =
     let same : i ≡ j = omega arith in
@@ -48,18 +52,23 @@ falls_between f before k (suc n) (suc a) (suc b) i j e d h le lt =
     falls_between f (f k).end_code (suc k) n a b i j (omega arith) (omega arith) parts.1 (omega arith) (omega arith)
 
 -- what is found first
-pub found_at : (f : ℕ → Segment) (p : Segment → Bool) (k n j i : ℕ) → i ≡ k + j → j < n → ((x : ℕ) → k ≤ x → x < i → p (f x) ≡ false) → p (f i) ≡ true → find p (each_number f k n) ≡ Some (f i)
+pub found_at : (f : ℕ → Segment) (p : Segment → Bool) (k n j i : ℕ) → i ≡ k + j → j < n
+    → ((x : ℕ) → k ≤ x → x < i → p (f x) ≡ false) → p (f i) ≡ true → find p (each_number f k n) ≡ Some (f i)
 found_at f p k zero j i e lt before here = absurd (omega arith)
 found_at f p k (suc n) zero i e lt before here =
     let same : k ≡ i = omega arith in
-    ap (λ (x : ℕ). cond (p (f x)) (Some (f x)) (find p (each_number f (suc k) n))) same ∙ ap (λ (b : Bool). cond b (Some (f i)) (find p (each_number f (suc k) n))) here
+    ap (λ (x : ℕ). cond (p (f x)) (Some (f x)) (find p (each_number f (suc k) n))) same
+    ∙ ap (λ (b : Bool). cond b (Some (f i)) (find p (each_number f (suc k) n))) here
 found_at f p k (suc n) (suc j) i e lt before here =
     let first : p (f k) ≡ false = before k (omega arith) (omega arith) in
-    ap (λ (b : Bool). cond b (Some (f k)) (find p (each_number f (suc k) n))) first ∙ found_at f p (suc k) n j i (omega arith) (omega arith) (λ x above below. before x (omega arith) below) here
+    ap (λ (b : Bool). cond b (Some (f k)) (find p (each_number f (suc k) n))) first
+    ∙ found_at f p (suc k) n j i (omega arith) (omega arith) (λ x above below. before x (omega arith) below) here
 
 -- what is not found
-pub found_none : (f : ℕ → Segment) (p : Segment → Bool) (k n : ℕ) → ((x : ℕ) → k ≤ x → x < k + n → p (f x) ≡ false) → find p (each_number f k n) ≡ None
+pub found_none : (f : ℕ → Segment) (p : Segment → Bool) (k n : ℕ) → ((x : ℕ) → k ≤ x → x < k + n → p (f x) ≡ false)
+    → find p (each_number f k n) ≡ None
 found_none f p k zero before = refl
 found_none f p k (suc n) before =
     let first : p (f k) ≡ false = before k (omega arith) (omega arith) in
-    ap (λ (b : Bool). cond b (Some (f k)) (find p (each_number f (suc k) n))) first ∙ found_none f p (suc k) n (λ x above below. before x (omega arith) (omega arith))
+    ap (λ (b : Bool). cond b (Some (f k)) (find p (each_number f (suc k) n))) first
+    ∙ found_none f p (suc k) n (λ x above below. before x (omega arith) (omega arith))

@@ -14,7 +14,8 @@ pub record Segments : Type 0 where
   pub cmap : List ℕ
   pub segments : List Segment
 
--- the segment with a number, of `count` segments in the subtable at an offset: endCode, startCode, idDelta, idRangeOffset and its offset
+-- the segment with a number, of `count` segments in the subtable at an offset: endCode, startCode, idDelta, idRangeOffset and its
+-- offset
 unfoldable pub segment_of : List ℕ → ℕ → ℕ → ℕ → Segment
 segment_of cmap start count k = record {
   end_code = field 2 cmap (start + 14 + 2 * k);
@@ -47,15 +48,19 @@ has_format_4 cmap start = is_four (number_at 2 cmap start) where
 
 -- an encoding record (platform, encoding, offset) has the platform, an encoding in the range, and a subtable of format 4
 abbrev pub is_record_of : ℕ → ℕ → ℕ → List ℕ → List ℕ → Bool
-is_record_of platform low high cmap entry = field 2 entry 0 == platform && (nat_le low (field 2 entry 2) && nat_le (field 2 entry 2) high) && has_format_4 cmap (field 4 entry 4)
+is_record_of platform low high cmap entry =
+    field 2 entry 0 == platform && (nat_le low (field 2 entry 2) && nat_le (field 2 entry 2) high) && has_format_4 cmap
+    (field 4 entry 4)
 
 -- the offset of the subtable of the first such record
 abbrev pub first_subtable_of : ℕ → ℕ → ℕ → List ℕ → Option ℕ
-first_subtable_of platform low high cmap = option_map (λ entry. field 4 entry 4) (find (is_record_of platform low high cmap) (records 8 (field 2 cmap 2) (drop 4 cmap)))
+first_subtable_of platform low high cmap =
+    option_map (λ entry. field 4 entry 4) (find (is_record_of platform low high cmap) (records 8 (field 2 cmap 2) (drop 4 cmap)))
 
 -- the offset of the subtable that is taken: Windows with Unicode, else Unicode, else Windows with symbols
 abbrev pub chosen_subtable_of : List ℕ → Option ℕ
-chosen_subtable_of cmap = option_or (first_subtable_of 3 1 1 cmap) (option_or (first_subtable_of 0 0 3 cmap) (first_subtable_of 3 0 0 cmap))
+chosen_subtable_of cmap =
+    option_or (first_subtable_of 3 1 1 cmap) (option_or (first_subtable_of 0 0 3 cmap) (first_subtable_of 3 0 0 cmap))
 
 -- the character map in the bytes of `cmap`, or the first fault
 unfoldable pub char_map_of : List ℕ → Result Segments CharMapFault

@@ -40,7 +40,9 @@ impl Segment {
         if self.id_range_offset == 0xFFFF {
             return 0;
         }
-        let at = self.offset + self.id_range_offset as usize + 2 * (code - self.start_code as u32) as usize;
+        let at = self.offset
+            + self.id_range_offset as usize
+            + 2 * (code - self.start_code as u32) as usize;
         match u16_at(cmap, at) {
             Some(id) if id != 0 => plus_id_delta(id, self.id_delta),
             _ => 0,

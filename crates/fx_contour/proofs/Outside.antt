@@ -43,7 +43,10 @@ beside p ss n =
     (either (λ q. p.y <ℤ q.y) (λ q. q.y ≤ℤ p.y) (λ q. order p.y q.y) ss)
     (either (λ q. q.y <ℤ p.y) (λ q. p.y ≤ℤ q.y) (λ q. order q.y p.y) ss)
   where
-    by : All (HasAll (λ q. p.x <ℤ q.x)) ss ⊎ HaveAny (λ q. q.x ≤ℤ p.x) ss → All (HasAll (λ q. q.x <ℤ p.x)) ss ⊎ HaveAny (λ q. p.x ≤ℤ q.x) ss → All (HasAll (λ q. p.y <ℤ q.y)) ss ⊎ HaveAny (λ q. q.y ≤ℤ p.y) ss → All (HasAll (λ q. q.y <ℤ p.y)) ss ⊎ HaveAny (λ q. p.y ≤ℤ q.y) ss → IsBeside p ss
+    by : All (HasAll (λ q. p.x <ℤ q.x)) ss ⊎ HaveAny (λ q. q.x ≤ℤ p.x) ss
+        → All (HasAll (λ q. q.x <ℤ p.x)) ss ⊎ HaveAny (λ q. p.x ≤ℤ q.x) ss
+        → All (HasAll (λ q. p.y <ℤ q.y)) ss ⊎ HaveAny (λ q. q.y ≤ℤ p.y) ss
+        → All (HasAll (λ q. q.y <ℤ p.y)) ss ⊎ HaveAny (λ q. p.y ≤ℤ q.y) ss → IsBeside p ss
     by (inl a) b c d = inl a
     by (inr a) (inl b) c d = inr (inl b)
     by (inr a) (inr b) (inl c) d = inr (inr (inl c))

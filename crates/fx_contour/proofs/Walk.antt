@@ -21,10 +21,13 @@ drop_near zero xs h = h
 drop_near (suc i) [] h = h
 drop_near (suc i) (x ∷ xs) h = drop_near i xs (All-tail IsInReach x xs h)
 
-pub next_near : (points : List OutlinePoint) (i : ℕ) (first next : OutlinePoint) → All IsInReach points → IsInReach first → next ≡ first_or (drop (i + 1) points) first → IsInReach next
-next_near points i first next h n e = subst IsInReach (sym e) (first_near (drop (i + 1) points) first (drop_near (i + 1) points h) n)
+pub next_near : (points : List OutlinePoint) (i : ℕ) (first next : OutlinePoint) → All IsInReach points → IsInReach first
+    → next ≡ first_or (drop (i + 1) points) first → IsInReach next
+next_near points i first next h n e =
+    subst IsInReach (sym e) (first_near (drop (i + 1) points) first (drop_near (i + 1) points h) n)
 
-pub item_near : (points : List OutlinePoint) (i : ℕ) (p d : OutlinePoint) → All IsInReach points → i < length points → p ≡ get_or points i d → IsInReach p
+pub item_near : (points : List OutlinePoint) (i : ℕ) (p d : OutlinePoint) → All IsInReach points → i < length points
+    → p ≡ get_or points i d → IsInReach p
 item_near points i p d h k e = subst IsInReach (sym e) (h i d k)
 
 -- the pieces made since start are those of the first i points

@@ -46,7 +46,8 @@ IsFrameFor (Some f) ss = IsFrameOf f ss
 -- two pixels of one row, or of one column, as far apart as the greatest side have their centres in the bounding box
 abbrev pub AreTooLarge : List Span → Type 0
 AreTooLarge ss =
-    (col : ℤ) × (row : ℤ) × IsInBoundingBox (centre col row) ss × (IsInBoundingBox (centre (col +ℤ pos greatest_side) row) ss ⊎ IsInBoundingBox (centre col (row +ℤ pos greatest_side)) ss)
+    (col : ℤ) × (row : ℤ) × IsInBoundingBox (centre col row) ss
+    × (IsInBoundingBox (centre (col +ℤ pos greatest_side) row) ss ⊎ IsInBoundingBox (centre col (row +ℤ pos greatest_side)) ss)
 
 -- a pixel lies in the frame, if there is one
 abbrev pub IsInside : Option Frame → ℤ → ℤ → Type 0
@@ -71,7 +72,8 @@ have_any test (s ∷ ss) = has_any test s || have_any test ss
 -- p lies in the closed bounding box
 abbrev pub is_in_bounding_box : Place → List Span → Bool
 is_in_bounding_box p ss =
-    have_any (λ q. int_le q.x p.x) ss && (have_any (λ q. int_le p.x q.x) ss && (have_any (λ q. int_le q.y p.y) ss && have_any (λ q. int_le p.y q.y) ss))
+    have_any (λ q. int_le q.x p.x) ss && (have_any (λ q. int_le p.x q.x) ss &&
+    (have_any (λ q. int_le q.y p.y) ss && have_any (λ q. int_le p.y q.y) ss))
 
 -- the first pixel of a row or a column whose centre lies at z or beyond
 abbrev pub first_from : ℤ → ℤ
@@ -80,7 +82,9 @@ first_from z = int_div_euclid (z +ℤ pos 63) (pos 128)
 -- the pixel in this column and row is in the box, and one as far from it as the greatest side
 abbrev pub is_large_from : List Span → ℤ → ℤ → Bool
 is_large_from ss col row =
-    is_in_bounding_box (centre col row) ss && (is_in_bounding_box (centre (col +ℤ pos greatest_side) row) ss || is_in_bounding_box (centre col (row +ℤ pos greatest_side)) ss)
+    is_in_bounding_box (centre col row) ss &&
+    (is_in_bounding_box (centre (col +ℤ pos greatest_side) row) ss || is_in_bounding_box
+    (centre col (row +ℤ pos greatest_side)) ss)
 
 -- the box is too large from the first column right of one of the points and the first row above one of them
 unfoldable pub is_too_large : List Span → Bool

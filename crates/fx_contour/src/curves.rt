@@ -133,11 +133,7 @@ fn push_some(made: &mut Pieces, piece: Option<Piece>) -> Result<(), AllocError>
 }
 
 /// The point after point i of a contour that begins with `first`.
-fn next_point<'p>(
-    points: &'p [OutlinePoint],
-    i: usize,
-    first: &'p OutlinePoint,
-) -> &'p OutlinePoint
+fn next_point<'p>(points: &'p [OutlinePoint], i: usize, first: &'p OutlinePoint) -> &'p OutlinePoint
     requires { i < length points.now }
     ensures { result.now ≡ first_or (drop (i + 1) points.now) first.now }
 {

@@ -10,7 +10,8 @@ use Rattle.std.specs.Fmt.{decimal, signed_decimal}
 use Rattle.fx_fixed.proofs.Linear.{signed}
 
 -- the bytes from the offset of the last write on
-pub put_here : (buffer : List ℕ) (at v : ℕ) → 0 < at → at ≤ length buffer → drop (at - 1) (set buffer (at - 1) v) ≡ v ∷ drop at buffer
+pub put_here : (buffer : List ℕ) (at v : ℕ) → 0 < at → at ≤ length buffer
+    → drop (at - 1) (set buffer (at - 1) v) ≡ v ∷ drop at buffer
 put_here buffer at v some within =
     let back : at - 1 + 1 ≡ at = omega arith in
     drop-set buffer (at - 1) v (omega arith) ∙ ap (λ (i : ℕ). v ∷ drop i buffer) back
@@ -34,7 +35,8 @@ fits_more base left zero at e low h =
 fits_more base left (suc m) at e low h = omega arith
 
 -- one digit more was put
-pub digit_more : (n left at : ℕ) (buffer : List ℕ) → 0 < at → at ≤ length buffer → 10 ≤ left → left < 2 ^ 64 → decimal n ≡ decimal left ++ drop at buffer
+pub digit_more : (n left at : ℕ) (buffer : List ℕ) → 0 < at → at ≤ length buffer → 10 ≤ left → left < 2 ^ 64
+    → decimal n ≡ decimal left ++ drop at buffer
     → decimal n ≡ decimal (left / 10) ++ drop (at - 1) (set buffer (at - 1) (48 + left % 10))
 digit_more n left at buffer some within low high h =
     h ∙ ap (λ (d : List ℕ). d ++ drop at buffer) (decimal_step left low high)
@@ -42,14 +44,16 @@ digit_more n left at buffer some within low high h =
     ∙ ap (λ (d : List ℕ). decimal (left / 10) ++ d) (sym (put_here buffer at (48 + left % 10) some within))
 
 -- the first digit was put
-pub digit_first : (n left at : ℕ) (buffer : List ℕ) → 0 < at → at ≤ length buffer → left < 10 → decimal n ≡ decimal left ++ drop at buffer
+pub digit_first : (n left at : ℕ) (buffer : List ℕ) → 0 < at → at ≤ length buffer → left < 10
+    → decimal n ≡ decimal left ++ drop at buffer
     → drop (at - 1) (set buffer (at - 1) (48 + left)) ≡ decimal n
 digit_first n left at buffer some within low h =
     put_here buffer at (48 + left) some within ∙ sym (h ∙ ap (λ (d : List ℕ). d ++ drop at buffer) (decimal_digit left low))
 
 -- a number of at most 19 digits leaves a byte before them
 pub fits_before : (n at : ℕ) (buffer : List ℕ) → length buffer ≡ 20 → drop at buffer ≡ decimal n → n < 10 ^ 19 → n < 2 ^ 64 → 0 < at
-fits_before n zero buffer len is few small = let digits : length (decimal n) ≤ 19 = length-decimal-le 19 n (lit< tt) few small in absurd (omega (arith, ap length is))
+fits_before n zero buffer len is few small =
+    let digits : length (decimal n) ≤ 19 = length-decimal-le 19 n (lit< tt) few small in absurd (omega (arith, ap length is))
 fits_before n (suc at) buffer len is few small = omega arith
 
 -- a signed number that was copied is the number
@@ -57,15 +61,20 @@ pub copied : (z : ℤ) → FitsSigned w32 z → to_z w32 (of_z w32 z) ≡ z
 copied z fits = to_z-of_z w32 z fits
 
 -- its text is that of the number
-pub copied_text : {t v : List ℕ} {z : ℤ} → FitsSigned w32 z → t ≡ v → v ≡ signed_decimal (to_z w32 (of_z w32 z)) → t ≡ signed_decimal z
+pub copied_text : {t v : List ℕ} {z : ℤ} → FitsSigned w32 z → t ≡ v → v ≡ signed_decimal (to_z w32 (of_z w32 z))
+    → t ≡ signed_decimal z
 copied_text {t} {v} {z} fits e is = e ∙ is ∙ ap signed_decimal (copied z fits)
 
 -- the text of a number that is not below 0
-pub signed_above : (z : ℤ) (n : ℕ) → pos 0 ≤ℤ z → FitsSigned w32 z → n ≡ unsigned_abs (to_z w32 (of_z w32 z)) → decimal n ≡ signed_decimal z
+pub signed_above : (z : ℤ) (n : ℕ) → pos 0 ≤ℤ z → FitsSigned w32 z → n ≡ unsigned_abs (to_z w32 (of_z w32 z))
+    → decimal n ≡ signed_decimal z
 signed_above (pos n) k h fits is = ap decimal (is ∙ ap unsigned_abs (copied (pos n) fits))
 signed_above (negsuc n) k h fits is = absurd (omega (arith, signed))
 
 -- the text of a number below 0: its sign, and its size
-pub signed_below : (z : ℤ) (n at : ℕ) (buffer : List ℕ) → z <ℤ pos 0 → FitsSigned w32 z → n ≡ unsigned_abs (to_z w32 (of_z w32 z)) → 0 < at → at ≤ length buffer → drop at buffer ≡ decimal n → drop (at - 1) (set buffer (at - 1) 45) ≡ signed_decimal z
+pub signed_below : (z : ℤ) (n at : ℕ) (buffer : List ℕ) → z <ℤ pos 0 → FitsSigned w32 z → n ≡ unsigned_abs (to_z w32 (of_z w32 z))
+    → 0 < at → at ≤ length buffer → drop at buffer ≡ decimal n → drop (at - 1) (set buffer (at - 1) 45) ≡ signed_decimal z
 signed_below (pos n) k at buffer h fits size some within is = absurd (omega (arith, signed))
-signed_below (negsuc n) k at buffer h fits size some within is = put_here buffer at 45 some within ∙ ap (λ (d : List ℕ). 45 ∷ d) (is ∙ ap decimal (size ∙ ap unsigned_abs (copied (negsuc n) fits)))
+signed_below (negsuc n) k at buffer h fits size some within is =
+    put_here buffer at 45 some within
+    ∙ ap (λ (d : List ℕ). 45 ∷ d) (is ∙ ap decimal (size ∙ ap unsigned_abs (copied (negsuc n) fits)))

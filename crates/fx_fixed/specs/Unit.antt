@@ -35,7 +35,9 @@ component_of (pos n) s = pos (component_size n s)
 component_of (negsuc n) s = neg_ℤ (pos (component_size (suc n) s))
 
 unfoldable pub unit_of : ℤ → ℤ → ℤ × ℤ
-unit_of x y = if square_length x y == 0 then (pos one_in_2_14, pos 0) else (component_of x (square_length x y), component_of y (square_length x y))
+unit_of x y =
+    if square_length x y == 0 then (pos one_in_2_14, pos 0) else
+    (component_of x (square_length x y), component_of y (square_length x y))
 
 -- a direction has one unit vector
 abbrev pub UnitIsFunctional : Type 0

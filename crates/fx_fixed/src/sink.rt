@@ -93,7 +93,8 @@ fn put_piece<W: Sink>(out: &mut W, done: u64, piece: &[u8]) -> Result<u64, Write
 pub fn put_all<W: Sink>(out: &mut W, pieces: &[&[u8]]) -> Result<(), WriteFailed>
     requires faults { W.fault_count out.old < 2 ^ 63 }
     requires fits { length (flat_map (λ p. p.now) pieces.now) < 2 ^ 64 }
-    ensures { Wrote (W.held out.old) (W.held out.new) (W.fault_count out.old) (W.fault_count out.new) (flat_map (λ p. p.now) pieces.now) result }
+    ensures { Wrote (W.held out.old) (W.held out.new) (W.fault_count out.old) (W.fault_count out.new)
+        (flat_map (λ p. p.now) pieces.now) result }
 {
     let mut done = 0;
     'pieces: for piece in pieces {
@@ -119,7 +120,8 @@ fn size(pieces: &[&[u8]]) -> u64
 pub fn put_part<W: Sink>(out: &mut W, done: u64, pieces: &[&[u8]]) -> Result<u64, WriteFailed>
     requires faults { W.fault_count out.old < 2 ^ 63 }
     requires fits { done + length (flat_map (λ p. p.now) pieces.now) < 2 ^ 64 }
-    ensures { WrotePart (W.held out.old) (W.held out.new) (W.fault_count out.old) (W.fault_count out.new) done (flat_map (λ p. p.now) pieces.now) result }
+    ensures { WrotePart (W.held out.old) (W.held out.new) (W.fault_count out.old) (W.fault_count out.new) done
+        (flat_map (λ p. p.now) pieces.now) result }
 {
     match put_all(out, pieces) {
         Ok(()) => Ok(done + size(pieces)),

@@ -8,15 +8,23 @@ use Rattle.byteorder.specs.Endian.{big_number}
 use Rattle.fx_glyf.specs.Words.{words, count_from}
 use Rattle.fx_glyf.specs.Grammar.{AreEnds}
 
-pub ends_step : (start n m : ℕ) (bytes : List ℕ) → n ≡ suc m → count_from start (words n bytes) ≡ cond (nat_lt (big_number 2 bytes + 1) start) None (count_from (big_number 2 bytes + 1) (words m (drop 2 bytes)))
+pub ends_step : (start n m : ℕ) (bytes : List ℕ) → n ≡ suc m
+    → count_from start (words n bytes) ≡ cond (nat_lt (big_number 2 bytes + 1) start) None
+    (count_from (big_number 2 bytes + 1) (words m (drop 2 bytes)))
 unfolding count_from words
 ends_step start n m bytes e = ap (λ (k : ℕ). count_from start (words k bytes)) e
 
-pub ends_fall : (start n m : ℕ) (bytes : List ℕ) → n ≡ suc m → big_number 2 bytes + 1 < start → count_from start (words n bytes) ≡ None
-ends_fall start n m bytes e h = ends_step start n m bytes e ∙ ap (λ (b : Bool). cond b None (count_from (big_number 2 bytes + 1) (words m (drop 2 bytes)))) (lt-ltb _ _ h)
+pub ends_fall : (start n m : ℕ) (bytes : List ℕ) → n ≡ suc m → big_number 2 bytes + 1 < start
+    → count_from start (words n bytes) ≡ None
+ends_fall start n m bytes e h =
+    ends_step start n m bytes e
+    ∙ ap (λ (b : Bool). cond b None (count_from (big_number 2 bytes + 1) (words m (drop 2 bytes)))) (lt-ltb _ _ h)
 
-pub ends_more : (start n m : ℕ) (bytes : List ℕ) → n ≡ suc m → start ≤ big_number 2 bytes + 1 → count_from start (words n bytes) ≡ count_from (big_number 2 bytes + 1) (words m (drop 2 bytes))
-ends_more start n m bytes e h = ends_step start n m bytes e ∙ ap (λ (b : Bool). cond b None (count_from (big_number 2 bytes + 1) (words m (drop 2 bytes)))) (le-ltb _ _ h)
+pub ends_more : (start n m : ℕ) (bytes : List ℕ) → n ≡ suc m → start ≤ big_number 2 bytes + 1
+    → count_from start (words n bytes) ≡ count_from (big_number 2 bytes + 1) (words m (drop 2 bytes))
+ends_more start n m bytes e h =
+    ends_step start n m bytes e
+    ∙ ap (λ (b : Bool). cond b None (count_from (big_number 2 bytes + 1) (words m (drop 2 bytes)))) (le-ltb _ _ h)
 
 pub ends_none : (start n : ℕ) (bytes : List ℕ) → n ≡ 0 → count_from start (words n bytes) ≡ Some start
 unfolding count_from words

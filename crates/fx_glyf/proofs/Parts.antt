@@ -49,7 +49,8 @@ shorter bytes d e =
     let four : 4 ≤ part_size (field 2 bytes 0) = omega arith in
     omega (arith, n.inside, four, ap length n.rest, length-drop (part_size (field 2 bytes 0)) bytes)
 
-step_same : {X Y : Type 0} (o : Option X) (f g : X → Option Y) → ((x : X) → o ≡ Some x → f x ≡ g x) → option_and_then f o ≡ option_and_then g o
+step_same : {X Y : Type 0} (o : Option X) (f g : X → Option Y) → ((x : X) → o ≡ Some x → f x ≡ g x)
+    → option_and_then f o ≡ option_and_then g o
 step_same None f g h = refl
 step_same (Some x) f g h = h x refl
 
@@ -62,11 +63,13 @@ abbrev within_most : ℕ → Part × List ℕ → Option (List Part × List ℕ)
 within_most most d = with_front d.0 (parts_from (is_followed d.0) most d.1)
 
 -- there is no component without a byte
-none_there : (f : Part × List ℕ → Option (List Part × List ℕ)) (bytes : List ℕ) → length bytes ≤ 0 → option_and_then f (next_part bytes) ≡ None
+none_there : (f : Part × List ℕ → Option (List Part × List ℕ)) (bytes : List ℕ) → length bytes ≤ 0
+    → option_and_then f (next_part bytes) ≡ None
 none_there f bytes h = step_none (next_part bytes) f (λ d e. let s = shorter bytes d e in omega arith)
 
 -- a bound above the number of bytes changes nothing
-room_enough : (more : Bool) (n m : ℕ) (bytes : List ℕ) → length bytes ≤ n → length bytes ≤ m → parts_from more n bytes ≡ parts_from more m bytes
+room_enough : (more : Bool) (n m : ℕ) (bytes : List ℕ) → length bytes ≤ n → length bytes ≤ m
+    → parts_from more n bytes ≡ parts_from more m bytes
 unfolding parts_from
 room_enough false n m bytes h k = refl
 room_enough true zero zero bytes h k = refl
@@ -91,7 +94,8 @@ parts_step (b ∷ bytes) =
     ap (with_front d.0) (room_enough (is_followed d.0) (length bytes) (length d.1) d.1 (omega arith) (omega arith)))
 
 -- the next component is d's
-pub parts_at : (bytes : List ℕ) (p : Part) (rest : List ℕ) → Some (p, rest) ≡ next_part bytes → parts_in true bytes ≡ with_front p (parts_in (is_followed p) rest)
+pub parts_at : (bytes : List ℕ) (p : Part) (rest : List ℕ) → Some (p, rest) ≡ next_part bytes
+    → parts_in true bytes ≡ with_front p (parts_in (is_followed p) rest)
 parts_at bytes p rest e = parts_step bytes ∙ ap (option_and_then and_rest) (sym e)
 
 -- there is no next component
@@ -107,23 +111,31 @@ parts_done bytes = refl
 abbrev pub ending_with : Bool → List Part × List ℕ → Bool × List ℕ
 ending_with announced parts = (announced || has_program parts.0, parts.1)
 
-ending_front : (announced : Bool) (p : Part) (o : Option (List Part × List ℕ)) → option_map (ending_with (announced || has p.flags we_have_instructions)) o ≡ option_map (ending_with announced) (with_front p o)
+ending_front : (announced : Bool) (p : Part) (o : Option (List Part × List ℕ))
+    → option_map (ending_with (announced || has p.flags we_have_instructions)) o ≡ option_map (ending_with announced)
+    (with_front p o)
 ending_front announced p None = refl
-ending_front announced p (Some r) = ap (λ (b : Bool). Some (b, r.1)) (or_assoc announced (has p.flags we_have_instructions) (has_program r.0))
+ending_front announced p (Some r) =
+    ap (λ (b : Bool). Some (b, r.1)) (or_assoc announced (has p.flags we_have_instructions) (has_program r.0))
 
-pub parts_passed : (announced more : Bool) (bytes : List ℕ) (p : Part) (rest : List ℕ) (says after : Bool) → more ≡ true → Some (p, rest) ≡ next_part bytes → says ≡ has p.flags we_have_instructions → after ≡ is_followed p
+pub parts_passed : (announced more : Bool) (bytes : List ℕ) (p : Part) (rest : List ℕ) (says after : Bool) → more ≡ true
+    → Some (p, rest) ≡ next_part bytes → says ≡ has p.flags we_have_instructions → after ≡ is_followed p
     → option_map (ending_with (announced || says)) (parts_in after rest) ≡ option_map (ending_with announced) (parts_in more bytes)
 parts_passed announced more bytes p rest says after m e s a =
     ap (λ (b : Bool). option_map (ending_with (announced || b)) (parts_in after rest)) s
     ∙ ap (λ (b : Bool). option_map (ending_with (announced || has p.flags we_have_instructions)) (parts_in b rest)) a
     ∙ ending_front announced p _
-    ∙ sym (ap (λ (b : Bool). option_map (ending_with announced) (parts_in b bytes)) m ∙ ap (option_map (ending_with announced)) (parts_at bytes p rest e))
+    ∙ sym (ap (λ (b : Bool). option_map (ending_with announced) (parts_in b bytes)) m
+    ∙ ap (option_map (ending_with announced)) (parts_at bytes p rest e))
 
-pub parts_stopped : (announced more : Bool) (bytes : List ℕ) → more ≡ true → None ≡ next_part bytes → None ≡ option_map (ending_with announced) (parts_in more bytes)
+pub parts_stopped : (announced more : Bool) (bytes : List ℕ) → more ≡ true → None ≡ next_part bytes
+    → None ≡ option_map (ending_with announced) (parts_in more bytes)
 parts_stopped announced more bytes m e =
-    sym (ap (λ (b : Bool). option_map (ending_with announced) (parts_in b bytes)) m ∙ ap (option_map (ending_with announced)) (parts_short bytes e))
+    sym (ap (λ (b : Bool). option_map (ending_with announced) (parts_in b bytes)) m
+    ∙ ap (option_map (ending_with announced)) (parts_short bytes e))
 
-pub parts_ended : (announced more : Bool) (bytes : List ℕ) → more ≡ false → Some (announced, bytes) ≡ option_map (ending_with announced) (parts_in more bytes)
+pub parts_ended : (announced more : Bool) (bytes : List ℕ) → more ≡ false
+    → Some (announced, bytes) ≡ option_map (ending_with announced) (parts_in more bytes)
 parts_ended announced more bytes m =
     sym (ap (λ (b : Bool). option_map (ending_with announced) (parts_in b bytes)) m
     ∙ ap (option_map (ending_with announced)) (parts_done bytes) ∙ ap (λ (b : Bool). Some (b, bytes)) (or-false announced))
@@ -133,17 +145,20 @@ pub parts_none : (more : Bool) (bytes : List ℕ) → more ≡ false → list_in
 parts_none more bytes m = ap (λ (b : Bool). list_in (parts_in b bytes)) m ∙ ap list_in (parts_done bytes)
 
 -- what holds after one component was taken
-pub part_stepped : (more : Bool) (bytes : List ℕ) (p : Part) (rest : List ℕ) (after : Bool) → more ≡ true → Some (p, rest) ≡ next_part bytes → after ≡ is_followed p → IsSome (parts_in more bytes)
+pub part_stepped : (more : Bool) (bytes : List ℕ) (p : Part) (rest : List ℕ) (after : Bool) → more ≡ true
+    → Some (p, rest) ≡ next_part bytes → after ≡ is_followed p → IsSome (parts_in more bytes)
     → Stepped (parts_in more bytes) (parts_in after rest) p
 part_stepped more bytes p rest after m e a h =
-    stepped _ _ _ (ap (λ (b : Bool). parts_in b bytes) m ∙ parts_at bytes p rest e ∙ ap (λ (b : Bool). with_front p (parts_in b rest)) (sym a)) h
+    stepped _ _ _ (ap (λ (b : Bool). parts_in b bytes) m ∙ parts_at bytes p rest e
+    ∙ ap (λ (b : Bool). with_front p (parts_in b rest)) (sym a)) h
 
 -- a component is found if one is to come
 pub part_there : (more : Bool) (bytes : List ℕ) → more ≡ true → None ≡ next_part bytes → IsSome (parts_in more bytes) → ⊥
 part_there more bytes m e h = none_absurd _ (ap (λ (b : Bool). parts_in b bytes) m ∙ parts_short bytes e) h
 
 -- the bytes of a component are those of its flags
-pub part_taken : (n : ℕ) (bytes taken : List ℕ) → n ≡ part_size (field 2 bytes 0) → n ≤ length bytes → taken ≡ take n bytes → part_size (field 2 taken 0) ≤ length taken
+pub part_taken : (n : ℕ) (bytes taken : List ℕ) → n ≡ part_size (field 2 bytes 0) → n ≤ length bytes → taken ≡ take n bytes
+    → part_size (field 2 taken 0) ≤ length taken
 part_taken n bytes taken e h t =
     let four : 2 ≤ part_size (field 2 bytes 0) = omega arith in
     let same : field 2 taken 0 ≡ field 2 bytes 0 = ap (λ (xs : List ℕ). field 2 xs 0) t ∙ field-taken 0 n bytes (omega arith) in

@@ -41,7 +41,9 @@ args_size flags = if has flags arg_1_and_2_are_words then 4 else 2
 
 -- the bytes of the scales
 abbrev pub scales_size : ℕ → ℕ
-scales_size flags = if has flags we_have_a_scale then 2 else (if has flags we_have_an_x_and_y_scale then 4 else (if has flags we_have_a_two_by_two then 8 else 0))
+scales_size flags =
+    if has flags we_have_a_scale then 2 else
+    (if has flags we_have_an_x_and_y_scale then 4 else (if has flags we_have_a_two_by_two then 8 else 0))
 
 -- the bytes of a component with these flags: flags, glyph, arguments, scales
 abbrev pub part_size : ℕ → ℕ
@@ -57,7 +59,8 @@ argument_by false false bytes k = pos (slice_index bytes k)
 abbrev pub argument_of : ℕ → List ℕ → ℕ → ℤ
 argument_of flags bytes k = argument_by (has flags arg_1_and_2_are_words) (has flags args_are_xy_values) bytes k
 
--- the numbers a, b, c, d, in 2.14, of x' = a x + c y, y' = b x + d y: whether there is one scale, or else two (x and y), or else all four
+-- the numbers a, b, c, d, in 2.14, of x' = a x + c y, y' = b x + d y: whether there is one scale, or else two (x and y), or else
+-- all four
 unfoldable pub scales_by : Bool → Bool → Bool → List ℕ → ℤ × ℤ × ℤ × ℤ
 scales_by true two four bytes = (signed_field bytes 0, pos 0, pos 0, signed_field bytes 0)
 scales_by false true four bytes = (signed_field bytes 0, pos 0, pos 0, signed_field bytes 2)
@@ -65,16 +68,26 @@ scales_by false false true bytes = (signed_field bytes 0, signed_field bytes 2, 
 scales_by false false false bytes = (pos one_in_2_14, pos 0, pos 0, pos one_in_2_14)
 
 abbrev pub scales_of : ℕ → List ℕ → ℤ × ℤ × ℤ × ℤ
-scales_of flags bytes = scales_by (has flags we_have_a_scale) (has flags we_have_an_x_and_y_scale) (has flags we_have_a_two_by_two) bytes
+scales_of flags bytes =
+    scales_by (has flags we_have_a_scale) (has flags we_have_an_x_and_y_scale) (has flags we_have_a_two_by_two) bytes
 
 -- the component that bytes are
 unfoldable pub part_of : List ℕ → Part
 part_of bytes = with_flags (field 2 bytes 0) (drop 4 bytes) where
   with_scales : ℕ → ℤ × ℤ → ℤ × ℤ × ℤ × ℤ → Part
-  with_scales flags args scales = record { glyph = field 2 bytes 2; args = args; flags = flags; a = scales.0; b = scales.1; c = scales.2; d = scales.3 }
+  with_scales flags args scales = record {
+    glyph = field 2 bytes 2;
+    args = args;
+    flags = flags;
+    a = scales.0;
+    b = scales.1;
+    c = scales.2;
+    d = scales.3;
+  }
 
   with_flags : ℕ → List ℕ → Part
-  with_flags flags rest = with_scales flags (argument_of flags rest 0, argument_of flags rest 1) (scales_of flags (drop (args_size flags) rest))
+  with_flags flags rest = with_scales flags (argument_of flags rest 0, argument_of flags rest 1)
+      (scales_of flags (drop (args_size flags) rest))
 
 -- the component at the front of bytes, and the bytes after it
 unfoldable pub next_part : List ℕ → Option (Part × List ℕ)

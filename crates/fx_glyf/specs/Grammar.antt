@@ -41,7 +41,8 @@ Spells short same flag d bytes = SpellsBy (has flag short) (has flag same) d byt
 -- one delta for each flag
 abbrev pub SpellsAll : ℕ → ℕ → List ℕ → List ℕ → List ℕ → Type 0
 SpellsAll short same [] [] bytes = bytes ≡ []
-SpellsAll short same (f ∷ fs) (d ∷ ds) bytes = (front : List ℕ) × (back : List ℕ) × (bytes ≡ front ++ back) × Spells short same f d front × SpellsAll short same fs ds back
+SpellsAll short same (f ∷ fs) (d ∷ ds) bytes =
+    (front : List ℕ) × (back : List ℕ) × (bytes ≡ front ++ back) × Spells short same f d front × SpellsAll short same fs ds back
 SpellsAll short same _ _ bytes = ⊥
 
 -- `count` points, as runs of flags, x deltas and y deltas
@@ -98,7 +99,9 @@ pub record DescribesSimple (bytes : List ℕ) (s : SimpleView) : Type 0 where
 -- component records, one after the other
 abbrev pub SpellsParts : List Part → List ℕ → Type 0
 SpellsParts [] bytes = bytes ≡ []
-SpellsParts (p ∷ ps) bytes = (front : List ℕ) × (back : List ℕ) × (bytes ≡ front ++ back) × (length front ≡ part_size p.flags) × (p ≡ part_of front) × SpellsParts ps back
+SpellsParts (p ∷ ps) bytes =
+    (front : List ℕ) × (back : List ℕ) × (bytes ≡ front ++ back) × (length front ≡ part_size p.flags) × (p ≡ part_of front)
+    × SpellsParts ps back
 
 -- exactly the components before the last say that another follows
 abbrev pub AreComponents : List Part → Type 0

@@ -12,7 +12,8 @@ unfoldable pub words : ℕ → List ℕ → List ℕ
 words zero bytes = []
 words (suc n) bytes = big_number 2 bytes ∷ words n (drop 2 bytes)
 
--- the number of points, by the end points of contours: one more than the last, if none is below the one before it; start is the number of the first contour's first point
+-- the number of points, by the end points of contours: one more than the last, if none is below the one before it; start is the
+-- number of the first contour's first point
 unfoldable pub count_from : ℕ → List ℕ → Option ℕ
 count_from start [] = Some start
 count_from start (e ∷ es) = if nat_lt (e + 1) start then None else count_from (e + 1) es

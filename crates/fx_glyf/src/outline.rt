@@ -3,7 +3,10 @@
 ghost use Rattle.std.specs.Prelude.{◌≡◌};
 ghost use Rattle.fx_glyf.specs.Points.{glyph_points_of};
 
-use crate::flags::{Flags, X_IS_SAME_OR_POSITIVE_X_SHORT_VECTOR, X_SHORT_VECTOR, Y_IS_SAME_OR_POSITIVE_Y_SHORT_VECTOR, Y_SHORT_VECTOR, skip_flags};
+use crate::flags::{
+    Flags, X_IS_SAME_OR_POSITIVE_X_SHORT_VECTOR, X_SHORT_VECTOR,
+    Y_IS_SAME_OR_POSITIVE_Y_SHORT_VECTOR, Y_SHORT_VECTOR, skip_flags,
+};
 use crate::points::{Points, skip_deltas};
 use std::marker::Model;
 
@@ -27,8 +30,10 @@ impl<'a> Model for Outline<'a> {
     ghost view = { λ o. points_seen (list_in (flags_from o.count (start o.flags.now))) o.xs.now o.ys.now 0 0 };
 
     ghost invariant = { λ o. IsSome (flags_from o.count (start o.flags.now))
-        × IsSome (deltas_from x_short_vector x_is_same_or_positive_x_short_vector (list_in (flags_from o.count (start o.flags.now))) o.xs.now)
-        × IsSome (deltas_from y_short_vector y_is_same_or_positive_y_short_vector (list_in (flags_from o.count (start o.flags.now))) o.ys.now) };
+        × IsSome (deltas_from x_short_vector x_is_same_or_positive_x_short_vector
+        (list_in (flags_from o.count (start o.flags.now))) o.xs.now)
+        × IsSome (deltas_from y_short_vector y_is_same_or_positive_y_short_vector
+        (list_in (flags_from o.count (start o.flags.now))) o.ys.now) };
 }
 
 impl<'a> Outline<'a> {
@@ -39,10 +44,20 @@ impl<'a> Outline<'a> {
         let Some(xs) = skip_flags(count, flags) else {
             return None;
         };
-        let Some(ys) = skip_deltas(X_SHORT_VECTOR, X_IS_SAME_OR_POSITIVE_X_SHORT_VECTOR, Flags::new(count, flags), xs) else {
+        let Some(ys) = skip_deltas(
+            X_SHORT_VECTOR,
+            X_IS_SAME_OR_POSITIVE_X_SHORT_VECTOR,
+            Flags::new(count, flags),
+            xs,
+        ) else {
             return None;
         };
-        let Some(_) = skip_deltas(Y_SHORT_VECTOR, Y_IS_SAME_OR_POSITIVE_Y_SHORT_VECTOR, Flags::new(count, flags), ys) else {
+        let Some(_) = skip_deltas(
+            Y_SHORT_VECTOR,
+            Y_IS_SAME_OR_POSITIVE_Y_SHORT_VECTOR,
+            Flags::new(count, flags),
+            ys,
+        ) else {
             return None;
         };
         Some(Outline {

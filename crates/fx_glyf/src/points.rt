@@ -4,7 +4,10 @@ ghost use Rattle.std.specs.Prelude.{◌≡◌, ◌+◌, ◌-◌, ◌%◌, ◌≤
 ghost use Rattle.fx_glyf.specs.Words.{list_in};
 ghost use Rattle.fx_glyf.specs.Points.{x_short_vector, y_short_vector, x_is_same_or_positive_x_short_vector, y_is_same_or_positive_y_short_vector, delta_of, deltas_from, points_of, point_at, points_seen};
 
-use crate::flags::{Flags, ON_CURVE_POINT, X_IS_SAME_OR_POSITIVE_X_SHORT_VECTOR, X_SHORT_VECTOR, Y_IS_SAME_OR_POSITIVE_Y_SHORT_VECTOR, Y_SHORT_VECTOR, has};
+use crate::flags::{
+    Flags, ON_CURVE_POINT, X_IS_SAME_OR_POSITIVE_X_SHORT_VECTOR, X_SHORT_VECTOR,
+    Y_IS_SAME_OR_POSITIVE_Y_SHORT_VECTOR, Y_SHORT_VECTOR, has,
+};
 use crate::point::Point;
 use fx_fixed::after;
 use fx_sfnt::u16_in;
@@ -71,9 +74,13 @@ impl<'a> Model for Points<'a> {
 
     ghost Value = { List Point };
 
-    ghost view = { λ p. points_of p.flags (list_in (deltas_from x_short_vector x_is_same_or_positive_x_short_vector p.flags p.xs.now)) (list_in (deltas_from y_short_vector y_is_same_or_positive_y_short_vector p.flags p.ys.now)) p.x p.y };
+    ghost view = { λ p. points_of p.flags
+        (list_in (deltas_from x_short_vector x_is_same_or_positive_x_short_vector p.flags p.xs.now))
+        (list_in (deltas_from y_short_vector y_is_same_or_positive_y_short_vector p.flags p.ys.now))
+        p.x p.y };
 
-    ghost invariant = { λ p. IsSome (deltas_from x_short_vector x_is_same_or_positive_x_short_vector p.flags p.xs.now) × IsSome (deltas_from y_short_vector y_is_same_or_positive_y_short_vector p.flags p.ys.now) };
+    ghost invariant = { λ p. IsSome (deltas_from x_short_vector x_is_same_or_positive_x_short_vector p.flags p.xs.now)
+        × IsSome (deltas_from y_short_vector y_is_same_or_positive_y_short_vector p.flags p.ys.now) };
 }
 
 impl<'a> Points<'a> {
@@ -107,8 +114,18 @@ impl<'a> Iterator for Points<'a> {
             return None;
         };
         match (
-            delta(X_SHORT_VECTOR, X_IS_SAME_OR_POSITIVE_X_SHORT_VECTOR, flag, self.xs),
-            delta(Y_SHORT_VECTOR, Y_IS_SAME_OR_POSITIVE_Y_SHORT_VECTOR, flag, self.ys),
+            delta(
+                X_SHORT_VECTOR,
+                X_IS_SAME_OR_POSITIVE_X_SHORT_VECTOR,
+                flag,
+                self.xs,
+            ),
+            delta(
+                Y_SHORT_VECTOR,
+                Y_IS_SAME_OR_POSITIVE_Y_SHORT_VECTOR,
+                flag,
+                self.ys,
+            ),
         ) {
             (Some((dx, xs)), Some((dy, ys))) => {
                 self.xs = xs;

@@ -4,7 +4,10 @@ ghost use Rattle.std.specs.Prelude.{◌≡◌, ◌+◌, ◌*◌, ◌≤◌, true
 ghost use Rattle.fx_sfnt.specs.Fields.{field};
 ghost use Rattle.fx_glyf.specs.Components.{args_size, scales_size, part_size, argument_of, scales_of, part_of, next_part, parts_in, ending_of};
 
-use crate::part::{ARG_1_AND_2_ARE_WORDS, ARGS_ARE_XY_VALUES, Part, WE_HAVE_A_SCALE, WE_HAVE_A_TWO_BY_TWO, WE_HAVE_AN_X_AND_Y_SCALE, has};
+use crate::part::{
+    ARG_1_AND_2_ARE_WORDS, ARGS_ARE_XY_VALUES, Part, WE_HAVE_A_SCALE, WE_HAVE_A_TWO_BY_TWO,
+    WE_HAVE_AN_X_AND_Y_SCALE, has,
+};
 use fx_fixed::{F2, after, before};
 use fx_sfnt::{i16_in, u16_in};
 
@@ -12,7 +15,11 @@ use fx_sfnt::{i16_in, u16_in};
 fn args_size(flags: u16) -> usize
     ensures { result ≡ args_size flags }
 {
-    if has(flags, ARG_1_AND_2_ARE_WORDS) { 4 } else { 2 }
+    if has(flags, ARG_1_AND_2_ARE_WORDS) {
+        4
+    } else {
+        2
+    }
 }
 
 /// The bytes of the scales.
@@ -37,7 +44,10 @@ fn argument(flags: u16, bytes: &[u8], k: usize) -> i32
     requires inside { args_size flags ≤ length bytes.now }
     ensures { result ≡ argument_of flags bytes.now k }
 {
-    match (has(flags, ARG_1_AND_2_ARE_WORDS), has(flags, ARGS_ARE_XY_VALUES)) {
+    match (
+        has(flags, ARG_1_AND_2_ARE_WORDS),
+        has(flags, ARGS_ARE_XY_VALUES),
+    ) {
         (true, true) => i32::from(i16_in(bytes, 2 * k)),
         (true, false) => i32::from(u16_in(bytes, 2 * k)),
         (false, true) => i32::from(bytes[k].cast_signed()),

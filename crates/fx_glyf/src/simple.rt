@@ -32,7 +32,9 @@ impl<'a> Model for Simple<'a> {
 
     ghost view = { λ s. record { ends = words s.contours s.ends.now; points = s.outline; x_min = s.x_min; code = s.code.now } };
 
-    ghost invariant = { λ s. (2 * s.contours ≤ length s.ends.now) × (count_from 0 (words s.contours s.ends.now) ≡ Some (length s.outline)) × (length s.code.now < 2 ^ 16) };
+    ghost invariant = { λ s. (2 * s.contours ≤ length s.ends.now)
+        × (count_from 0 (words s.contours s.ends.now) ≡ Some (length s.outline))
+        × (length s.code.now < 2 ^ 16) };
 }
 
 /// The xMin of a header, in FUnits.

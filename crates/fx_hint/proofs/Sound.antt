@@ -38,7 +38,8 @@ record IsCounted (count : Count) (made : Made) (counted : Count) : Type 0 where
   contours : AreEnds 0 made.zone.ends (length made.zone.points)
 
 abbrev AllCounted : Maker → Type 0
-AllCounted make = (g : ℕ) (count : Count) (r : Made × Count) → count.points ≤ max_points → make g count ≡ Ok r → IsCounted count r.0 r.1
+AllCounted make =
+    (g : ℕ) (count : Count) (r : Made × Count) → count.points ≤ max_points → make g count ≡ Ok r → IsCounted count r.0 r.1
 
 -- the contours of a simple glyph that was read end with its points
 abbrev IsValid : glyf.Glyph → Type 0
@@ -50,7 +51,8 @@ read_valid : (bytes : List ℕ) (g : ℕ) (glyph : glyf.Glyph) → glyph_of byte
 read_valid bytes g Empty h = tt
 read_valid bytes g (Simple shape) h =
     let d = found_glyph bytes g (Simple shape) h in
-    let n : length shape.points ≡ d.count = outline_count d.count d.rest shape.points (only_points d.count d.rest shape.points d.points_are) in
+    let n : length shape.points ≡ d.count =
+    outline_count d.count d.rest shape.points (only_points d.count d.rest shape.points d.points_are) in
     let P : ℕ → Type 0 = λ k. AreEnds 0 shape.ends k in
     subst P (sym n) d.in_order
 read_valid bytes g (Composite assembly) h = tt
@@ -58,21 +60,26 @@ read_valid bytes g (Composite assembly) h = tt
 component_kept : (root : ℕ) (count counted : Count) → one_component root count ≡ Ok counted → counted.points ≡ count.points
 unfolding one_component
 component_kept root count counted h =
-    let r = refuse_ok (nat_le max_components count.records) (TooManyComponents root) (λ _. Ok (record count { records = count.records + 1 })) counted h in
+    let r = refuse_ok (nat_le max_components count.records) (TooManyComponents root)
+    (λ _. Ok (record count { records = count.records + 1 })) counted h in
     ap (λ (c : Count). c.points) (sym (ok_injective _ _ r.1))
 
-points_counted : (root n : ℕ) (count counted : Count) → more_points root n count ≡ Ok counted → (count.points + n ≡ counted.points) × (counted.points ≤ max_points)
+points_counted : (root n : ℕ) (count counted : Count) → more_points root n count ≡ Ok counted
+    → (count.points + n ≡ counted.points) × (counted.points ≤ max_points)
 unfolding more_points
 points_counted root n count counted h =
-    let r = refuse_ok (nat_lt max_points (count.points + n)) (TooManyPoints root) (λ _. Ok (record count { points = count.points + n })) counted h in
+    let r = refuse_ok (nat_lt max_points (count.points + n)) (TooManyPoints root)
+    (λ _. Ok (record count { points = count.points + n })) counted h in
     let low = ltb-false max_points (count.points + n) r.0 in
     let e : count.points + n ≡ counted.points = ap (λ (c : Count). c.points) (ok_injective _ _ r.1) in
     (e, omega arith)
 
-simple_counted : (s : Scale) (hinted : Bool) (root : ℕ) (m : Metrics) (shape : SimpleView) (count : Count) (r : Made × Count) → AreEnds 0 shape.ends (length shape.points) → simple_made s hinted root m shape count ≡ Ok r → IsCounted count r.0 r.1
+simple_counted : (s : Scale) (hinted : Bool) (root : ℕ) (m : Metrics) (shape : SimpleView) (count : Count) (r : Made × Count)
+    → AreEnds 0 shape.ends (length shape.points) → simple_made s hinted root m shape count ≡ Ok r → IsCounted count r.0 r.1
 unfolding simple_made
 simple_counted s hinted root m shape count r a h =
-    let b = bind_ok (more_points root (length shape.points) count) (λ counted. Ok (record { zone = zone_of_simple s shape; phantoms = phantoms_of s hinted shape.x_min m }, counted)) r h in
+    let b = bind_ok (more_points root (length shape.points) count)
+    (λ counted. Ok (record { zone = zone_of_simple s shape; phantoms = phantoms_of s hinted shape.x_min m }, counted)) r h in
     let c = points_counted root (length shape.points) count b.0 b.1 in
     let n : length (map (scaled_point s) shape.points) ≡ length shape.points = length-map shape.points (scaled_point s) in
     let P : Made × Count → Type 0 = λ q. IsCounted count q.0 q.1 in
@@ -84,7 +91,8 @@ simple_counted s hinted root m shape count r a h =
     })
 
 -- a program keeps what was counted
-run_counted : (h : Hinting) (g : ℕ) (code : List ℕ) (count : Count) (made r : Made × Count) → KeepsShape h → IsCounted count made.0 made.1 → run_on h g code made ≡ Ok r → IsCounted count r.0 r.1
+run_counted : (h : Hinting) (g : ℕ) (code : List ℕ) (count : Count) (made r : Made × Count) → KeepsShape h
+    → IsCounted count made.0 made.1 → run_on h g code made ≡ Ok r → IsCounted count r.0 r.1
 unfolding run_on
 run_counted h g code count made r keeps k e =
     let b = bind_ok (h.run g code made.0) (λ ran. Ok (ran, made.1)) r e in
@@ -99,16 +107,28 @@ run_counted h g code count made r keeps k e =
     })
 
 -- a component after the points so far
-part_joined : (s : Scale) (hinted : Bool) (g : ℕ) (part : Part) (base component more : Made) → AreEnds 0 base.zone.ends (length base.zone.points) → AreEnds 0 component.zone.ends (length component.zone.points) → with_part s hinted g part base component ≡ Ok more → (length more.zone.points ≡ length base.zone.points + length component.zone.points) × AreEnds 0 more.zone.ends (length more.zone.points)
+part_joined : (s : Scale) (hinted : Bool) (g : ℕ) (part : Part) (base component more : Made)
+    → AreEnds 0 base.zone.ends (length base.zone.points) → AreEnds 0 component.zone.ends (length component.zone.points)
+    → with_part s hinted g part base component ≡ Ok more
+    → (length more.zone.points ≡ length base.zone.points + length component.zone.points)
+    × AreEnds 0 more.zone.ends (length more.zone.points)
 unfolding with_part
 part_joined s hinted g part base component more a b h =
     let p = bind_ok (offset_of s hinted g part base.zone component.zone) _ more h in
-    let zone : joined base.zone (laid_figure part p.0 component.zone) ≡ more.zone = ap (λ (m : Made). m.zone) (ok_injective _ _ p.2) in
-    let n : length (map (laid part p.0) component.zone.points) ≡ length component.zone.points = length-map component.zone.points (laid part p.0) in
-    let total : length (base.zone.points ++ map (laid part p.0) component.zone.points) ≡ length base.zone.points + length component.zone.points = length-append base.zone.points _ ∙ ap (λ k. length base.zone.points + k) n in
-    let P : Figure → Type 0 = λ f. (length f.points ≡ length base.zone.points + length component.zone.points) × AreEnds 0 f.ends (length f.points) in
+    let zone : joined base.zone (laid_figure part p.0 component.zone) ≡ more.zone =
+    ap (λ (m : Made). m.zone) (ok_injective _ _ p.2) in
+    let n : length (map (laid part p.0) component.zone.points) ≡ length component.zone.points =
+    length-map component.zone.points (laid part p.0) in
+    let total : length (base.zone.points ++ map (laid part p.0) component.zone.points) ≡ length base.zone.points + length
+    component.zone.points = length-append base.zone.points _ ∙ ap (λ k. length base.zone.points + k) n in
+    let P : Figure → Type 0 =
+    λ f. (length f.points ≡ length base.zone.points + length component.zone.points) × AreEnds 0 f.ends (length f.points) in
     let Q : ℕ → Type 0 = λ k. AreEnds 0 (base.zone.ends ++ map (λ e. length base.zone.points + e) component.zone.ends) k in
-    subst P zone (total, subst Q (sym total) (ends_joined base.zone.ends (length base.zone.points) component.zone.ends (length component.zone.points) a b))
+    subst P zone (
+      total,
+      subst Q (sym total)
+          (ends_joined base.zone.ends (length base.zone.points) component.zone.ends (length component.zone.points) a b),
+    )
 
 -- components after the points so far
 record AreJoined (base : Made) (count : Count) (made : Made) (counted : Count) : Type 0 where
@@ -116,7 +136,10 @@ record AreJoined (base : Made) (count : Count) (made : Made) (counted : Count) :
   few : counted.points ≤ max_points
   contours : AreEnds 0 made.zone.ends (length made.zone.points)
 
-parts_joined : (s : Scale) (hinted : Bool) (make : Maker) (g : ℕ) (parts : List Part) (base : Made) (count : Count) (r : Made × Count) → AllCounted make → count.points ≤ max_points → AreEnds 0 base.zone.ends (length base.zone.points) → with_parts s hinted make g parts base count ≡ Ok r → AreJoined base count r.0 r.1
+parts_joined : (s : Scale) (hinted : Bool) (make : Maker) (g : ℕ) (parts : List Part) (base : Made) (count : Count)
+    (r : Made × Count)
+    → AllCounted make → count.points ≤ max_points → AreEnds 0 base.zone.ends (length base.zone.points)
+    → with_parts s hinted make g parts base count ≡ Ok r → AreJoined base count r.0 r.1
 unfolding with_parts
 parts_joined s hinted make g [] base count r all low a h =
     let P : Made × Count → Type 0 = λ q. AreJoined base count q.0 q.1 in
@@ -132,7 +155,10 @@ parts_joined s hinted make g (part ∷ parts) base count r all low a h =
     let two = rest.points in
     record { points = omega arith; few = rest.few; contours = rest.contours }
 
-made_counted : (h : Hinting) (s : Scale) (root : ℕ) (make : Maker) (g : ℕ) (m : Metrics) (glyph : glyf.Glyph) (count : Count) (r : Made × Count) → KeepsShape h → AllCounted make → count.points ≤ max_points → IsValid glyph → made_of h s root make g m glyph count ≡ Ok r → IsCounted count r.0 r.1
+made_counted : (h : Hinting) (s : Scale) (root : ℕ) (make : Maker) (g : ℕ) (m : Metrics) (glyph : glyf.Glyph) (count : Count)
+    (r : Made × Count)
+    → KeepsShape h → AllCounted make → count.points ≤ max_points → IsValid glyph → made_of h s root make g m glyph count ≡ Ok r
+    → IsCounted count r.0 r.1
 unfolding made_of
 made_counted h s root make g m Empty count r keeps all low valid e =
     let P : Made × Count → Type 0 = λ q. IsCounted count q.0 q.1 in
@@ -141,35 +167,49 @@ made_counted h s root make g m (Simple shape) count r keeps all low valid e =
     let b = bind_ok (simple_made s h.on root m shape count) (run_on h g shape.code) r e in
     run_counted h g shape.code count b.0 r keeps (simple_counted s h.on root m shape count b.0 valid b.1) b.2
 made_counted h s root make g m (Composite assembly) count r keeps all low valid e =
-    let b = bind_ok (with_parts s h.on make g assembly.components (record { zone = empty_figure; phantoms = phantoms_of s h.on assembly.x_min m }) count) (run_on h g assembly.code) r e in
-    let j = parts_joined s h.on make g assembly.components (record { zone = empty_figure; phantoms = phantoms_of s h.on assembly.x_min m }) count b.0 all low refl b.1 in
+    let b = bind_ok (with_parts s h.on make g assembly.components
+    (record { zone = empty_figure; phantoms = phantoms_of s h.on assembly.x_min m }) count) (run_on h g assembly.code) r e in
+    let j = parts_joined s h.on make g assembly.components
+    (record { zone = empty_figure; phantoms = phantoms_of s h.on assembly.x_min m }) count b.0 all low refl b.1 in
     let n = j.points in
     run_counted h g assembly.code count b.0 r keeps (record { points = omega arith; few = j.few; contours = j.contours }) b.2
 
-assembled_counted : (h : Hinting) (face : Face) (s : Scale) (root : ℕ) (make : Maker) (g : ℕ) (count : Count) (r : Made × Count) → KeepsShape h → AllCounted make → count.points ≤ max_points → assembled h face s root make g count ≡ Ok r → IsCounted count r.0 r.1
+assembled_counted : (h : Hinting) (face : Face) (s : Scale) (root : ℕ) (make : Maker) (g : ℕ) (count : Count) (r : Made × Count)
+    → KeepsShape h → AllCounted make → count.points ≤ max_points → assembled h face s root make g count ≡ Ok r
+    → IsCounted count r.0 r.1
 unfolding assembled
 assembled_counted h face s root make g count r keeps all low e =
-    let m = bind_ok (map_fault Font (metrics_of face g)) (λ m. map_fault Font (glyph_bytes_of face g) >>= λ bytes. map_fault Glyph (glyph_of bytes g) >>= λ glyph. made_of h s root make g m glyph count) r e in
-    let bytes = bind_ok (map_fault Font (glyph_bytes_of face g)) (λ bytes. map_fault Glyph (glyph_of bytes g) >>= λ glyph. made_of h s root make g m.0 glyph count) r m.2 in
+    let m = bind_ok (map_fault Font (metrics_of face g))
+    (λ m. map_fault Font (glyph_bytes_of face g) >>= λ bytes. map_fault Glyph
+    (glyph_of bytes g) >>= λ glyph. made_of h s root make g m glyph count) r e in
+    let bytes = bind_ok (map_fault Font (glyph_bytes_of face g))
+    (λ bytes. map_fault Glyph (glyph_of bytes g) >>= λ glyph. made_of h s root make g m.0 glyph count) r m.2 in
     let glyph = bind_ok (map_fault Glyph (glyph_of bytes.0 g)) (λ glyph. made_of h s root make g m.0 glyph count) r bytes.2 in
-    made_counted h s root make g m.0 glyph.0 count r keeps all low (read_valid bytes.0 g glyph.0 (map_fault_ok Glyph (glyph_of bytes.0 g) glyph.0 glyph.1)) glyph.2
+    made_counted h s root make g m.0 glyph.0 count r keeps all low
+    (read_valid bytes.0 g glyph.0 (map_fault_ok Glyph (glyph_of bytes.0 g) glyph.0 glyph.1)) glyph.2
 
-component_counted : (h : Hinting) (face : Face) (s : Scale) (root levels : ℕ) → KeepsShape h → AllCounted (component h face s root levels)
+component_counted : (h : Hinting) (face : Face) (s : Scale) (root levels : ℕ) → KeepsShape h
+    → AllCounted (component h face s root levels)
 unfolding component
 component_counted h face s root zero keeps g count r low e = absurd (cc)
 component_counted h face s root (suc levels) keeps g count r low e =
-    let b = bind_ok (one_component root count) (λ counted. assembled h face s root (component h face s root levels) g counted) r e in
+    let b =
+    bind_ok (one_component root count) (λ counted. assembled h face s root (component h face s root levels) g counted) r e in
     let same = component_kept root count b.0 b.1 in
-    let w = assembled_counted h face s root (component h face s root levels) g b.0 r keeps (component_counted h face s root levels keeps) (omega arith) b.2 in
+    let w = assembled_counted h face s root (component h face s root levels) g b.0 r keeps
+    (component_counted h face s root levels keeps) (omega arith) b.2 in
     let n = w.points in
     record { points = omega arith; few = w.few; contours = w.contours }
 
 -- an assembled root is sound
-pub root_sound : (h : Hinting) (face : Face) (s : Scale) (g : ℕ) (made : Made) → KeepsShape h → root_made h face s g ≡ Ok made → IsSound made
+pub root_sound : (h : Hinting) (face : Face) (s : Scale) (g : ℕ) (made : Made) → KeepsShape h → root_made h face s g ≡ Ok made
+    → IsSound made
 unfolding root_made
 root_sound h face s g made keeps e =
-    let b = bind_ok (assembled h face s g (component h face s g max_depth) g (record { records = 0; points = 0 })) (λ m. Ok m.0) made e in
-    let w = assembled_counted h face s g (component h face s g max_depth) g (record { records = 0; points = 0 }) b.0 keeps (component_counted h face s g max_depth keeps) (omega arith) b.1 in
+    let b = bind_ok (assembled h face s g (component h face s g max_depth) g (record { records = 0; points = 0 }))
+    (λ m. Ok m.0) made e in
+    let w = assembled_counted h face s g (component h face s g max_depth) g (record { records = 0; points = 0 }) b.0 keeps
+    (component_counted h face s g max_depth keeps) (omega arith) b.1 in
     let n = w.points in
     let f = w.few in
     let P : Made → Type 0 = λ m. IsSound m in

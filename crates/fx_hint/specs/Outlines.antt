@@ -69,7 +69,8 @@ made_of h s root make g m (Simple shape) count = do
   made ← simple_made s h.on root m shape count
   run_on h g shape.code made
 made_of h s root make g m (Composite assembly) count = do
-  made ← with_parts s h.on make g assembly.components (record { zone = empty_figure; phantoms = phantoms_of s h.on assembly.x_min m }) count
+  made ← with_parts s h.on make g assembly.components
+      (record { zone = empty_figure; phantoms = phantoms_of s h.on assembly.x_min m }) count
   run_on h g assembly.code made
 
 -- a glyph: its number and bytes, its reading, and then itself
@@ -119,7 +120,8 @@ moved_outline_of made = record {
 
 -- a font's scale at a size
 abbrev pub scale_of : Face → ℕ → Scale
-scale_of face ppem = record { ppem = ppem; units_per_em = face.head.units_per_em; ascender = face.hhea.ascender; descender = face.hhea.descender }
+scale_of face ppem =
+    record { ppem = ppem; units_per_em = face.head.units_per_em; ascender = face.hhea.ascender; descender = face.hhea.descender }
 
 -- the outline of a glyph as hinting makes it
 unfoldable pub outline_with : Hinting → Face → ℕ → ℕ → Result OutlineView HintFault

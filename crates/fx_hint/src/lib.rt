@@ -2,15 +2,15 @@
 //!
 //! An outline is assembled by recursion on components: a simple glyph's points are scaled; a composite's components are
 //! assembled one after the other, each by its rule, transformed and placed. At the end the outline of the root, the glyph that
-//! is asked for, is moved so that its first phantom point lies at x = 0. What hinting adds, rounding and the programs of glyphs, is one parameter, a
-//! [`Hinter`]; [`NoHinter`] does neither.
+//! is asked for, is moved so that its first phantom point lies at x = 0. What hinting adds, rounding and the programs of
+//! glyphs, is one parameter, a [`Hinter`]; [`NoHinter`] does neither.
 #![tactic(auto)]
 
 mod count;
 mod fault;
 mod hinter;
-mod made;
 mod limits;
+mod made;
 mod outline;
 mod outlines;
 mod part;
@@ -19,8 +19,8 @@ mod walk;
 pub use count::Count;
 pub use fault::HintFault;
 pub use hinter::{Hinter, NoHinter};
-pub use made::Made;
 pub use limits::{MAX_COMPONENTS, MAX_DEPTH, MAX_POINTS};
+pub use made::Made;
 pub use outline::{Outline, OutlinePoint};
 pub use outlines::{outline_with, unhinted};
 

@@ -71,7 +71,8 @@ impl<'w, 'a> Walk<'w, 'a> {
         simple: &Simple<'_>,
         count: &mut Count,
     ) -> Result<Made, HintFault>
-        ensures { GivesUnless Fails (λ m. (m, count.new)) result (simple_made self.now.scale.now hinted self.now.root metrics simple.now count.old) }
+        ensures { GivesUnless Fails (λ m. (m, count.new)) result
+            (simple_made self.now.scale.now hinted self.now.root metrics simple.now count.old) }
     {
         let zone = zone_of(self.alloc, simple, self.scale)?;
         count.more_points(self.root, zone.len())?;
@@ -90,7 +91,9 @@ impl<'w, 'a> Walk<'w, 'a> {
         count: &mut Count,
     ) -> Result<Made, HintFault>
         ensures kept { H.hinting hinter.new ≡ H.hinting hinter.old }
-        ensures value { GivesUnless Fails (λ m. (m, count.new)) result (assembled (H.hinting hinter.old) self.now.font.now self.now.scale.now self.now.root (component (H.hinting hinter.old) self.now.font.now self.now.scale.now self.now.root levels) g count.old) }
+        ensures value { GivesUnless Fails (λ m. (m, count.new)) result
+            (assembled (H.hinting hinter.old) self.now.font.now self.now.scale.now self.now.root
+            (component (H.hinting hinter.old) self.now.font.now self.now.scale.now self.now.root levels) g count.old) }
     {
         let metrics = self.font.metrics(g)?;
         let bytes = self.font.glyph_bytes(g)?;
@@ -111,7 +114,10 @@ impl<'w, 'a> Walk<'w, 'a> {
         count: &mut Count,
     ) -> Result<Made, HintFault>
         ensures kept { H.hinting hinter.new ≡ H.hinting hinter.old }
-        ensures value { GivesUnless Fails (λ m. (m, count.new)) result (made_of (H.hinting hinter.old) self.now.scale.now self.now.root (component (H.hinting hinter.old) self.now.font.now self.now.scale.now self.now.root levels) g metrics glyph.entry count.old) }
+        ensures value { GivesUnless Fails (λ m. (m, count.new)) result
+            (made_of (H.hinting hinter.old) self.now.scale.now self.now.root
+            (component (H.hinting hinter.old) self.now.font.now self.now.scale.now self.now.root levels)
+            g metrics glyph.entry count.old) }
     {
         let on = hinter.is_on();
         match glyph {
@@ -141,7 +147,10 @@ impl<'w, 'a> Walk<'w, 'a> {
         count: &mut Count,
     ) -> Result<Made, HintFault>
         ensures kept { H.hinting hinter.new ≡ H.hinting hinter.old }
-        ensures value { GivesUnless Fails (λ m. (m, count.new)) result (with_parts self.now.scale.now (H.hinting hinter.old).on (component (H.hinting hinter.old) self.now.font.now self.now.scale.now self.now.root levels) g parts.entry base count.old) }
+        ensures value { GivesUnless Fails (λ m. (m, count.new)) result
+            (with_parts self.now.scale.now (H.hinting hinter.old).on
+            (component (H.hinting hinter.old) self.now.font.now self.now.scale.now self.now.root levels)
+            g parts.entry base count.old) }
     {
         let on = hinter.is_on();
         let mut base = base;
@@ -163,7 +172,8 @@ impl<'w, 'a> Walk<'w, 'a> {
         count: &mut Count,
     ) -> Result<Made, HintFault>
         ensures kept { H.hinting hinter.new ≡ H.hinting hinter.old }
-        ensures value { GivesUnless Fails (λ m. (m, count.new)) result (component (H.hinting hinter.old) self.now.font.now self.now.scale.now self.now.root levels g count.old) }
+        ensures value { GivesUnless Fails (λ m. (m, count.new)) result
+            (component (H.hinting hinter.old) self.now.font.now self.now.scale.now self.now.root levels g count.old) }
     {
         if levels == 0 {
             return Err(HintFault::ComponentDepth(g));

@@ -70,6 +70,9 @@ fn a_zone_of_16384_points(rt: HostRuntime) -> Result<(), Fail> {
     let zone = zone(rt.alloc(), &bytes)?;
     assert_eq!(rt; zone.len(), 16384);
     assert_eq!(rt; zone.ends(), [16383].as_slice());
-    assert_eq!(rt; zone.point(16383), Some(Point::resting(Place::origin(), true)));
+    assert_eq!(rt;
+        zone.point(16383),
+        Some(Point::resting(Place::origin(), true))
+    );
     Ok(())
 }

@@ -39,10 +39,12 @@ opened file face h =
     bind_then (head_of head) _ face h (λ head_fields head_is h.
     bind_then (maxp_of maxp) _ face h (λ maxp_fields maxp_is h.
     bind_then (hhea_of hhea) _ face h (λ hhea_fields _ h.
-    refuse_then (hhea_fields.number_of_h_metrics == 0 || nat_lt (length hmtx) (4 * hhea_fields.number_of_h_metrics)) (TableShort (codes "hmtx")) _ face h (λ tests h.
+    refuse_then (hhea_fields.number_of_h_metrics == 0 || nat_lt (length hmtx) (4 * hhea_fields.number_of_h_metrics))
+    (TableShort (codes "hmtx")) _ face h (λ tests h.
     let both = or_parts (hhea_fields.number_of_h_metrics == 0) (nat_lt (length hmtx) (4 * hhea_fields.number_of_h_metrics)) tests in
     let some : hhea_fields.number_of_h_metrics ≡ 0 → ⊥ = eqb-false hhea_fields.number_of_h_metrics 0 both.0 in
-    let inside : 4 * hhea_fields.number_of_h_metrics ≤ length hmtx = ltb-false (length hmtx) (4 * hhea_fields.number_of_h_metrics) both.1 in
+    let inside : 4 * hhea_fields.number_of_h_metrics ≤ length hmtx =
+    ltb-false (length hmtx) (4 * hhea_fields.number_of_h_metrics) both.1 in
     subst (Opened file) (same_Ok _ _ refl h) (record {
       records = directory_records file (not-false _ directory);
       head = head;
@@ -73,7 +75,8 @@ pub font_glyphs : (file : List ℕ) (face : Face) → font_of file ≡ Ok face �
 font_glyphs file face h = let o = opened file face h in maxp_glyphs o.maxp face.maxp o.maxp_is
 
 -- `hmtx` has its pairs
-pub font_pairs : (file : List ℕ) (face : Face) (hmtx : List ℕ) → font_of file ≡ Ok face → table_of file (codes "hmtx") ≡ Some hmtx → 4 * face.hhea.number_of_h_metrics ≤ length hmtx
+pub font_pairs : (file : List ℕ) (face : Face) (hmtx : List ℕ) → font_of file ≡ Ok face → table_of file (codes "hmtx") ≡ Some hmtx
+    → 4 * face.hhea.number_of_h_metrics ≤ length hmtx
 font_pairs file face hmtx h t = let o = opened file face h in
     let same : o.hmtx ≡ hmtx = same_Some _ _ (sym o.hmtx_is ∙ t) in
     subst (λ (table : List ℕ). 4 * face.hhea.number_of_h_metrics ≤ length table) same o.inside

@@ -27,7 +27,11 @@ unfoldable pub metrics_of : Face → ℕ → Result Metrics FontFault
 metrics_of face g = do
   _ ← refuse (nat_le face.maxp.num_glyphs g) (BadGlyphNumber g)
   let hmtx = table_or_empty face.file (codes "hmtx") in
-      Ok (record { advance_width = advance_width_of hmtx face.hhea.number_of_h_metrics g; lsb = lsb_of hmtx face.hhea.number_of_h_metrics g })
+      Ok (record {
+        advance_width = advance_width_of hmtx face.hhea.number_of_h_metrics g;
+        lsb = lsb_of hmtx
+            face.hhea.number_of_h_metrics g;
+      })
 
 -- the offset of a number in `loca`: two bytes that hold half of it, or four
 abbrev pub loca_offset_of : LocFormat → List ℕ → ℕ → Option ℕ

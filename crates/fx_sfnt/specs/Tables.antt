@@ -19,7 +19,9 @@ records size (suc n) bytes = bytes ∷ records size n (drop size bytes)
 
 -- the directory has a version that is read, 1.0 or `true`, and its records lie in the file
 abbrev pub is_directory : List ℕ → Bool
-is_directory file = nat_le 12 (length file) && (field 4 file 0 == 0x00010000 || field 4 file 0 == 0x74727565) && nat_le (12 + 16 * field 2 file 4) (length file)
+is_directory file =
+    nat_le 12 (length file) && (field 4 file 0 == 0x00010000 || field 4 file 0 == 0x74727565) && nat_le (12 + 16 * field 2 file 4)
+    (length file)
 
 -- a table record (tag, checksum, offset, length) has the tag
 abbrev pub has_tag : List ℕ → List ℕ → Bool

@@ -11,7 +11,16 @@ halving-preserved-then-end_code-code c =
       ordered = omega arith;
       within = c.halving.invariant.within;
       before = λ k lt.
-          let order = falls_between f 0 0 c.args.count k middle k middle (omega arith) (omega arith) c.requires.rising (omega arith) (omega arith) in
-          omega (arith, order, end_code_is c.args.cmap.now c.args.start c.args.count k, end_code_is c.args.cmap.now c.args.start c.args.count middle, c.end_code.ensures, c.if-end_code-code.true);
+          let order = falls_between f 0 0 c.args.count k middle k middle (omega arith) (omega arith) c.requires.rising (omega arith)
+          (omega arith) in
+          omega (
+            arith,
+            order,
+            end_code_is c.args.cmap.now c.args.start c.args.count k,
+            end_code_is c.args.cmap.now c.args.start
+                c.args.count middle,
+            c.end_code.ensures,
+            c.if-end_code-code.true,
+          );
       reaches = c.halving.invariant.reaches;
     }

@@ -9,15 +9,23 @@ returns-then-end-before c =
     let f = segment_of c.args.cmap.now c.args.start c.args.count in
     let left : c.args.count - c.segments.k ≡ suc (c.args.count - (c.segments.k + 1)) = omega arith in
     let next : c.segments.k + 1 ≡ suc c.segments.k = omega arith in
-    let step = falls_step f c.segments.before c.segments.k (c.segments.k + 1) (c.args.count - c.segments.k) (c.args.count - (c.segments.k + 1)) c.end_code-end.result left next (end_code_is c.args.cmap.now c.args.start c.args.count c.segments.k ∙ sym c.end_code-end.ensures) in
+    let step = falls_step f c.segments.before c.segments.k (c.segments.k + 1) (c.args.count - c.segments.k)
+    (c.args.count - (c.segments.k + 1)) c.end_code-end.result left next
+    (end_code_is c.args.cmap.now c.args.start c.args.count c.segments.k ∙ sym c.end_code-end.ensures) in
     let below : nat_lt c.end_code-end.result c.segments.before ≡ true = lt-ltb _ _ c.if-end-before.true in
-    sym (ap (λ (b : Bool). b || falls c.end_code-end.result (each_number f (c.segments.k + 1) (c.args.count - (c.segments.k + 1)))) below) ∙ sym step ∙ c.segments.invariant
+    sym (ap (λ (b : Bool). b || falls c.end_code-end.result (each_number f (c.segments.k + 1) (c.args.count - (c.segments.k + 1))))
+    below)
+    ∙ sym step ∙ c.segments.invariant
 
 pub segments-preserved : goal.segments-preserved
 segments-preserved c =
     let f = segment_of c.args.cmap.now c.args.start c.args.count in
     let left : c.args.count - c.segments.k ≡ suc (c.args.count - (c.segments.k + 1)) = omega arith in
     let next : c.segments.k + 1 ≡ suc c.segments.k = omega arith in
-    let step = falls_step f c.segments.before c.segments.k (c.segments.k + 1) (c.args.count - c.segments.k) (c.args.count - (c.segments.k + 1)) c.end_code-end.result left next (end_code_is c.args.cmap.now c.args.start c.args.count c.segments.k ∙ sym c.end_code-end.ensures) in
+    let step = falls_step f c.segments.before c.segments.k (c.segments.k + 1) (c.args.count - c.segments.k)
+    (c.args.count - (c.segments.k + 1)) c.end_code-end.result left next
+    (end_code_is c.args.cmap.now c.args.start c.args.count c.segments.k ∙ sym c.end_code-end.ensures) in
     let above : nat_lt c.end_code-end.result c.segments.before ≡ false = le-ltb _ _ c.if-end-before.false in
-    sym (ap (λ (b : Bool). b || falls c.end_code-end.result (each_number f (c.segments.k + 1) (c.args.count - (c.segments.k + 1)))) above) ∙ sym step ∙ c.segments.invariant
+    sym (ap (λ (b : Bool). b || falls c.end_code-end.result (each_number f (c.segments.k + 1) (c.args.count - (c.segments.k + 1))))
+    above)
+    ∙ sym step ∙ c.segments.invariant

@@ -22,4 +22,5 @@ returns-clause-digits c =
 pub returns-clause-before : goal.returns-clause-before
 returns-clause-before c few =
     let i = c.digits.invariant in
-    fits_before c.args.number (c.digits.at - 1) _ (length-set c.digits.buffer (c.digits.at - 1) (48 + c.digits.left) ∙ i.len) (digit_first _ _ _ _ i.some (omega arith) c.digits-test.false i.digits) few (omega arith)
+    fits_before c.args.number (c.digits.at - 1) _ (length-set c.digits.buffer (c.digits.at - 1) (48 + c.digits.left) ∙ i.len)
+    (digit_first _ _ _ _ i.some (omega arith) c.digits-test.false i.digits) few (omega arith)

@@ -13,13 +13,15 @@ digits-preserved c =
       within = omega arith;
       some = omega arith;
       len = length-set c.digits.buffer (c.digits.at - 1) _ ∙ i.len;
-      digits = hex_more c.args.number c.digits.left c.digits.at _ c.digits.buffer (omega arith) (omega arith) c.digits-test.true c.hex_digit.ensures i.digits;
+      digits = hex_more c.args.number c.digits.left c.digits.at _ c.digits.buffer (omega arith)
+          (omega arith) c.digits-test.true c.hex_digit.ensures i.digits;
       fits = fits_left 16 _ _ _ (omega arith) e i.fits;
     }
 
 pub returns-clause-digits : goal.returns-clause-digits
 returns-clause-digits c =
-    let i = c.digits.invariant in hex_first c.args.number c.digits.left c.digits.at _ c.digits.buffer (omega arith) (omega arith) c.digits-test.false c.hex_digit-2.ensures i.digits
+    let i = c.digits.invariant in hex_first c.args.number c.digits.left c.digits.at _ c.digits.buffer (omega arith)
+    (omega arith) c.digits-test.false c.hex_digit-2.ensures i.digits
 
 pub digits-init : goal.digits-init
 digits-init c = record {

@@ -14,4 +14,5 @@ zeros-preserved c =
     }
 
 pub returns-clause-zeros : goal.returns-clause-zeros
-returns-clause-zeros c = let i = c.zeros.invariant in zeros_all _ _ _ _ _ (search rules) i.before (omega arith) i.few (omega arith) i.zeros
+returns-clause-zeros c =
+    let i = c.zeros.invariant in zeros_all _ _ _ _ _ (search rules) i.before (omega arith) i.few (omega arith) i.zeros

@@ -20,7 +20,8 @@ ends-preserved c =
     let end = c.from-end.ensures ∙ c.u16_in.ensures in
     record {
       same = ap (λ (n : ℕ). count_from (n + 1) (words (c.args.contours - (c.ends._k + 1)) c.after-rest.result.now)) end
-          ∙ ap (λ (bytes : List ℕ). count_from (big_number 2 c.ends.rest.now + 1) (words (c.args.contours - (c.ends._k + 1)) bytes)) c.after-rest.ensures
+          ∙ ap (λ (bytes : List ℕ). count_from (big_number 2 c.ends.rest.now + 1) (words (c.args.contours - (c.ends._k + 1)) bytes))
+          c.after-rest.ensures
           ∙ sym (ends_more _ _ _ _ more (subst P end c.if-end-count.false)) ∙ c.ends.invariant.same;
       inside = omega (arith, ap length c.after-rest.ensures, length-drop 2 c.ends.rest.now);
     }

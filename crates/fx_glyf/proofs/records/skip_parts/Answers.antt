@@ -13,7 +13,8 @@ parts-smaller c = shorter _ (c.in_ok-part.part, c.in_ok-part.after_it.now) (sym 
 
 pub parts-preserved : goal.parts-preserved
 parts-preserved c =
-    parts_passed _ _ _ _ _ _ _ c.parts-test.true c.in_ok-part.ensures c.has_program-announced.ensures c.is_followed-more.ensures ∙ c.parts.invariant
+    parts_passed _ _ _ _ _ _ _ c.parts-test.true c.in_ok-part.ensures c.has_program-announced.ensures c.is_followed-more.ensures
+    ∙ c.parts.invariant
 
 pub returns : goal.returns
 returns c = parts_ended _ _ _ c.parts-test.false ∙ c.parts.invariant
