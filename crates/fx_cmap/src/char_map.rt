@@ -11,14 +11,14 @@ use std::marker::Model;
 
 /// A character map: a view over the bytes of `cmap`, and which subtable of format 4 is taken.
 ///
-/// Every value stands for a map in which `CharMap::open` found no fault; its end codes do not fall.
+/// Its map is one in which `CharMap::open` found no fault; its end codes do not fall.
 #[derive(Drop)]
 pub struct CharMap<'a> {
     cmap: &'a [u8],
-    // Where the subtable begins in `cmap`.
+    // The offset of the subtable in `cmap`.
     start: u32,
     // The number of its segments.
-    count: u16,
+    seg_count: u16,
 }
 
 impl<'a> Model for CharMap<'a> {
@@ -27,18 +27,18 @@ impl<'a> Model for CharMap<'a> {
 
     ghost Value = { Segments };
 
-    ghost view = { λ m. record { cmap = m.cmap.now; segments = segments_of m.cmap.now m.start m.count } };
+    ghost view = { λ m. record { cmap = m.cmap.now; segments = segments_of m.cmap.now m.start m.seg_count } };
 
-    ghost invariant = { λ m. (m.start + 16 + 8 * m.count ≤ length m.cmap.now)
-        × (falls 0 (segments_of m.cmap.now m.start m.count) ≡ false) };
+    ghost invariant = { λ m. (m.start + 16 + 8 * m.seg_count ≤ length m.cmap.now)
+        × (falls 0 (segments_of m.cmap.now m.start m.seg_count) ≡ false) };
 }
 
 impl<'a> CharMap<'a> {
-    /// Reads the character map of a font, or answers the first fault.
+    /// Reads the character map of a font, or returns the first fault.
     ///
-    /// `NoCharMap` where there is no `cmap`; `BadCharMap` where its header or its records are cut; `NoCharMap` where no record
-    /// that is looked for has a subtable of format 4; `BadCharMap` where `cmap` ends before that subtable's segCountX2 or
-    /// before the fields of its segments do, or where its end codes fall. Among the records the first one for Windows with
+    /// `NoCharMap` if there is no `cmap`; `BadCharMap` if its header or its records are cut; `NoCharMap` if no record that is
+    /// looked for has a subtable of format 4; `BadCharMap` if `cmap` ends before that subtable's segCountX2 or before the
+    /// fields of its segments do, or if its end codes fall. Among the records the first one for Windows with
     /// Unicode (3, 1) is taken, else the first for Unicode (0, 0 to 3), else the first for Windows with symbols (3, 0).
     #[tactic(auto, unfolding(crate::specs::Lookup::map_of_file))]
     pub fn open(font: &Font<'a>) -> Result<CharMap<'a>, CharMapFault>
@@ -50,7 +50,7 @@ impl<'a> CharMap<'a> {
         }
     }
 
-    // Reads the character map in the bytes of `cmap`.
+    /// Reads the character map in the bytes of `cmap`.
     #[tactic(auto, unfolding(crate::specs::Lookup::char_map_of))]
     fn read(cmap: &'a [u8]) -> Result<CharMap<'a>, CharMapFault>
         ensures { result ≡ char_map_of cmap.now }
@@ -65,24 +65,29 @@ impl<'a> CharMap<'a> {
         if cmap.len() < start as usize + 8 {
             return Err(CharMapFault::BadCharMap);
         }
-        let count = u16_in(cmap, start as usize + 6) / 2;
-        if cmap.len() < start as usize + 16 + 8 * count as usize {
+        let seg_count_x2 = u16_in(cmap, start as usize + 6);
+        let seg_count = seg_count_x2 / 2;
+        if cmap.len() < start as usize + 16 + 8 * seg_count as usize {
             return Err(CharMapFault::BadCharMap);
         }
-        if is_falling(cmap, start, count) {
+        if is_falling(cmap, start, seg_count) {
             return Err(CharMapFault::BadCharMap);
         }
-        Ok(CharMap { cmap, start, count })
+        Ok(CharMap {
+            cmap,
+            start,
+            seg_count,
+        })
     }
 
-    /// The glyph of a character code, 0 where it has none; for every number (OpenType, "Format 4").
+    /// The glyph of a character code, 0 if it has none; for every number (OpenType, "Format 4").
     ///
     /// The segment that counts is the first whose end code is at least the code; it is found by halving, so a call takes a time
     /// logarithmic in the number of segments.
     pub fn glyph(&self, code: u32) -> u16
         ensures { result ≡ glyph_for self.now code }
     {
-        match find_segment(self.cmap, self.start, self.count, code) {
+        match find_segment(self.cmap, self.start, self.seg_count, code) {
             Some(segment) => segment.glyph(self.cmap, code),
             None => 0,
         }

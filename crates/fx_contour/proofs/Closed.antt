@@ -1,28 +1,39 @@
 -- The curve of a contour is a closed chain, and the one by midpoints.
+-- For the laws of `laws.rt`, and for the clause `closed` of `pieces`.
 use Rattle.std.proofs.Common.{◌≡◌, refl, sym, subst, ℤ, pos, Bool, true, false, List, [], ◌∷◌, ◌++◌, map, Some, None, option_to_list, if◌then◌else◌, ◌||◌}
 use Rattle.fx_winding.specs.Area.{Place}
 use Rattle.fx_winding.specs.Winding.{Span}
 use Rattle.fx_winding.specs.Outside.{Leads, IsOutline}
 use Rattle.fx_hint.specs.declared.outline.OutlinePoint.{OutlinePoint}
-use Rattle.fx_contour.specs.Curve.{Knot, doubled, middle, joint, span_at, first_of, last_of, spans_between, curve_of, CurvesAreClosed, knot_of, midpoint, with_midpoints, head_or, along, CurveIsByMidpoints}
+use Rattle.fx_contour.specs.Curve.{Knot, doubled_of, middle_of, joint_of, span_at, first_or, last_or, spans_between, curve_of, CurvesAreClosed, knot_of, midpoint, with_midpoints, head_or, along, CurveIsByMidpoints}
 
--- what q adds leads from the joint before it to the joint after it
-one : (p q r : OutlinePoint) (ss : List Span) (y : Place) → Leads (joint q r) ss y → Leads (joint p q) (option_to_list (span_at p q r) ++ ss) y
+-- what q adds leads from the joint_of before it to the joint_of after it
+one : (p q r : OutlinePoint) (ss : List Span) (y : Place) → Leads (joint_of q r) ss y
+    → Leads (joint_of p q) (option_to_list (span_at p q r) ++ ss) y
 one p q r ss y h = by p.on_curve q.on_curve r.on_curve h
   where
-    by : (a b c : Bool) → Leads (if b then doubled q else (if c then doubled r else middle q r)) ss y → Leads (if a then doubled p else (if b then doubled q else middle p q)) (option_to_list (if b then (if a then Some (record { a = doubled p; b = None; c = doubled q }) else None) else Some (record { a = if a then doubled p else (if b then doubled q else middle p q); b = Some (doubled q); c = if b then doubled q else (if c then doubled r else middle q r) })) ++ ss) y
+    by : (a b c : Bool) → Leads (if b then doubled_of q else (if c then doubled_of r else middle_of q r)) ss y
+        → Leads (if a then doubled_of p else (if b then doubled_of q else middle_of p q))
+        (option_to_list (if b then (if a then Some (record { a = doubled_of p; b = None; c = doubled_of q }) else None) else Some
+        (record {
+          a = if a then doubled_of p else (if b then doubled_of q else middle_of p q);
+          b = Some
+              (doubled_of q);
+          c = if b then doubled_of q else (if c then doubled_of r else middle_of q r);
+        })) ++ ss) y
     by true true c h = (refl, h)
     by false true c h = h
     by a false c h = (refl, h)
 
-chain : (p : OutlinePoint) (qs : List OutlinePoint) (r : OutlinePoint) → Leads (joint p (first_of qs r)) (spans_between p qs r) (joint (last_of p qs) r)
+chain : (p : OutlinePoint) (qs : List OutlinePoint) (r : OutlinePoint)
+    → Leads (joint_of p (first_or qs r)) (spans_between p qs r) (joint_of (last_or p qs) r)
 chain p [] r = refl
-chain p (q ∷ qs) r = one p q (first_of qs r) (spans_between q qs r) (joint (last_of q qs) r) (chain q qs r)
+chain p (q ∷ qs) r = one p q (first_or qs r) (spans_between q qs r) (joint_of (last_or q qs) r) (chain q qs r)
 
 pub closed : CurvesAreClosed
 closed [] = (record { x = pos 0; y = pos 0 }, refl)
-closed (p ∷ []) = (doubled p, refl)
-closed (p ∷ q ∷ qs) = (joint (last_of q qs) p, chain (last_of q qs) (p ∷ q ∷ qs) p)
+closed (p ∷ []) = (doubled_of p, refl)
+closed (p ∷ q ∷ qs) = (joint_of (last_or q qs) p, chain (last_or q qs) (p ∷ q ∷ qs) p)
 
 -- the knot after q's
 abbrev next_knot : OutlinePoint → OutlinePoint → Knot
@@ -31,19 +42,25 @@ next_knot q s = head_or (midpoint q s) (knot_of s)
 head_more : (q s : OutlinePoint) (qs : List OutlinePoint) (k : Knot) → head_or (with_midpoints q (s ∷ qs)) k ≡ next_knot q s
 head_more q s qs k = by q.on_curve s.on_curve
   where
-    by : (a b : Bool) → head_or ((if a || b then [] else (record { at = middle q s; on_curve = true } ∷ [])) ++ (knot_of s ∷ with_midpoints s qs)) k ≡ head_or (if a || b then [] else (record { at = middle q s; on_curve = true } ∷ [])) (knot_of s)
+    by : (a b : Bool) → head_or ((if a || b then [] else (record { at = middle_of q s; on_curve = true } ∷ [])) ++
+        (knot_of s ∷ with_midpoints s qs)) k ≡ head_or
+        (if a || b then [] else (record { at = middle_of q s; on_curve = true } ∷ [])) (knot_of s)
     by true b = refl
     by false true = refl
     by false false = refl
 
-head_with_midpoints : (q : OutlinePoint) (qs : List OutlinePoint) (r : OutlinePoint) → head_or (with_midpoints q qs) (next_knot (last_of q qs) r) ≡ next_knot q (first_of qs r)
+head_with_midpoints : (q : OutlinePoint) (qs : List OutlinePoint) (r : OutlinePoint)
+    → head_or (with_midpoints q qs) (next_knot (last_or q qs) r) ≡ next_knot q (first_or qs r)
 head_with_midpoints q [] r = refl
-head_with_midpoints q (s ∷ qs) r = head_more q s qs (next_knot (last_of s qs) r)
+head_with_midpoints q (s ∷ qs) r = head_more q s qs (next_knot (last_or s qs) r)
 
 point : ℤ → ℤ → Bool → OutlinePoint
 point x y b = record { x = x; y = y; on_curve = b }
 
-step : (px py qx qy sx sy : ℤ) (a b c : Bool) (ks : List Knot) (k : Knot) (ss : List Span) → along (knot_of (point qx qy b)) ks k ≡ ss → head_or ks k ≡ next_knot (point qx qy b) (point sx sy c) → along (knot_of (point px py a)) (midpoint (point px py a) (point qx qy b) ++ (knot_of (point qx qy b) ∷ ks)) k ≡ option_to_list (span_at (point px py a) (point qx qy b) (point sx sy c)) ++ ss
+step : (px py qx qy sx sy : ℤ) (a b c : Bool) (ks : List Knot) (k : Knot) (ss : List Span)
+    → along (knot_of (point qx qy b)) ks k ≡ ss → head_or ks k ≡ next_knot (point qx qy b) (point sx sy c)
+    → along (knot_of (point px py a)) (midpoint (point px py a) (point qx qy b) ++ (knot_of (point qx qy b) ∷ ks)) k ≡
+    option_to_list (span_at (point px py a) (point qx qy b) (point sx sy c)) ++ ss
 unfolding point
 step px py qx qy sx sy true true c ks k ss e h = cc
 step px py qx qy sx sy false true c ks k ss e h = e
@@ -52,18 +69,20 @@ step px py qx qy sx sy true false false ks k ss e h = cc
 step px py qx qy sx sy false false true ks k ss e h = cc
 step px py qx qy sx sy false false false ks k ss e h = cc
 
-same : (p : OutlinePoint) (qs : List OutlinePoint) (r : OutlinePoint) → along (knot_of p) (with_midpoints p qs) (next_knot (last_of p qs) r) ≡ spans_between p qs r
+same : (p : OutlinePoint) (qs : List OutlinePoint) (r : OutlinePoint)
+    → along (knot_of p) (with_midpoints p qs) (next_knot (last_or p qs) r) ≡ spans_between p qs r
 unfolding point
 same p [] r = refl
 same p (q ∷ qs) r =
-    let s = first_of qs r in
-    step p.x p.y q.x q.y s.x s.y p.on_curve q.on_curve s.on_curve (with_midpoints q qs) (next_knot (last_of q qs) r) (spans_between q qs r) (same q qs r) (head_with_midpoints q qs r)
+    let s = first_or qs r in
+    step p.x p.y q.x q.y s.x s.y p.on_curve q.on_curve s.on_curve (with_midpoints q qs) (next_knot (last_or q qs) r)
+    (spans_between q qs r) (same q qs r) (head_with_midpoints q qs r)
 
 pub by_midpoints : CurveIsByMidpoints
 by_midpoints [] = refl
 by_midpoints (p ∷ []) = refl
 by_midpoints (p ∷ q ∷ qs) =
-    let before = last_of q qs in
+    let before = last_or q qs in
     let P : Knot → Type 0 = λ k. curve_of (p ∷ q ∷ qs) ≡ along (knot_of before) (with_midpoints before (p ∷ q ∷ qs)) k in
     subst P (sym (head_more before p (q ∷ qs) (knot_of p))) (sym (same before (p ∷ q ∷ qs) p))
 

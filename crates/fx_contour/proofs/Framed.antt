@@ -1,4 +1,5 @@
 -- The frame from the bounding box.
+-- For the clauses of `frame`.
 use Rattle.std.proofs.Common.{◌≡◌, subst, ℕ, ◌<◌, ◌≤◌, inl, inr, ℤ, pos, ◌+ℤ◌, List, arith, ◌↔◌}
 use Rattle.fx_fixed.proofs.Linear.{signed_linear}
 use Rattle.fx_winding.specs.Winding.{Span, centre}
@@ -9,7 +10,7 @@ use Rattle.std.proofs.Common.{Option, Some, None, Result, Ok, Err, IfOk, IfErr}
 use Rattle.std.specs.Prelude.{IsErrOf}
 use Rattle.fx_contour.specs.declared.fault.ContourFault.{ContourFault}
 use Rattle.fx_contour.specs.declared.fault.ContourFault.TheVariants.{TooLarge}
-use Rattle.fx_contour.specs.Frames.{IsInBox, IsFrameOf, IsFrameFor, HaveNoPixel, AreTooLarge}
+use Rattle.fx_contour.specs.Frames.{IsInBoundingBox, IsFrameOf, IsFrameFor, HaveNoPixel, AreTooLarge}
 use Rattle.fx_winding.specs.Frames.{IsFrom}
 use Rattle.fx_contour.specs.Bounds.{left_side, right_side, bottom_side, top_side, AreBounds, IsCentreIn, ArePixels, AreNoPixels}
 
@@ -25,7 +26,8 @@ same_none l h l' h' e f k =
     let Q : ℤ → Type 0 = λ y. AreNoPixels l' y in
     subst Q f (subst P e k)
 
-box_from : (b : Bounds) (ss : List Span) (i j : ℤ) → AreBounds b ss → IsCentreIn b.left b.right i → IsCentreIn b.bottom b.top j → IsInBox (centre i j) ss
+box_from : (b : Bounds) (ss : List Span) (i j : ℤ) → AreBounds b ss → IsCentreIn b.left b.right i → IsCentreIn b.bottom b.top j
+    → IsInBoundingBox (centre i j) ss
 box_from b ss i j a x y = record {
   left = (a.sides left_side (centre i j).x).1 x.0;
   right = (a.sides right_side (centre i j).x).1 x.1;
@@ -33,10 +35,10 @@ box_from b ss i j a x y = record {
   top = (a.sides top_side (centre i j).y).1 y.1;
 }
 
-column_in : (b : Bounds) (ss : List Span) (i j : ℤ) → AreBounds b ss → IsInBox (centre i j) ss → IsCentreIn b.left b.right i
+column_in : (b : Bounds) (ss : List Span) (i j : ℤ) → AreBounds b ss → IsInBoundingBox (centre i j) ss → IsCentreIn b.left b.right i
 column_in b ss i j a h = ((a.sides left_side (centre i j).x).0 h.left, (a.sides right_side (centre i j).x).0 h.right)
 
-row_in : (b : Bounds) (ss : List Span) (i j : ℤ) → AreBounds b ss → IsInBox (centre i j) ss → IsCentreIn b.bottom b.top j
+row_in : (b : Bounds) (ss : List Span) (i j : ℤ) → AreBounds b ss → IsInBoundingBox (centre i j) ss → IsCentreIn b.bottom b.top j
 row_in b ss i j a h = ((a.sides bottom_side (centre i j).y).0 h.bottom, (a.sides top_side (centre i j).y).0 h.top)
 
 pub no_columns : (b : Bounds) (ss : List Span) → AreBounds b ss → AreNoPixels b.left b.right → HaveNoPixel ss
@@ -51,7 +53,8 @@ first_in first count h = (omega (arith, signed_linear), omega (arith, signed_lin
 far_in : (first : ℤ) (count : ℕ) → 2048 < count → IsFrom first count (first +ℤ pos 2048)
 far_in first count h = (omega (arith, signed_linear), omega (arith, signed_linear))
 
-pub too_wide : (b : Bounds) (ss : List Span) (s r : Pixels) → AreBounds b ss → ArePixels s b.left b.right → ArePixels r b.bottom b.top → 2048 < s.count → AreTooLarge ss
+pub too_wide : (b : Bounds) (ss : List Span) (s r : Pixels) → AreBounds b ss → ArePixels s b.left b.right
+    → ArePixels r b.bottom b.top → 2048 < s.count → AreTooLarge ss
 too_wide b ss s r a h k n =
     let row = (k r.first).0 (first_in r.first r.count r.some) in (
       s.first,
@@ -60,7 +63,8 @@ too_wide b ss s r a h k n =
       inl (box_from b ss (s.first +ℤ pos 2048) r.first a ((h (s.first +ℤ pos 2048)).0 (far_in s.first s.count n)) row),
     )
 
-pub too_high : (b : Bounds) (ss : List Span) (s r : Pixels) → AreBounds b ss → ArePixels s b.left b.right → ArePixels r b.bottom b.top → 2048 < r.count → AreTooLarge ss
+pub too_high : (b : Bounds) (ss : List Span) (s r : Pixels) → AreBounds b ss → ArePixels s b.left b.right
+    → ArePixels r b.bottom b.top → 2048 < r.count → AreTooLarge ss
 too_high b ss s r a h k n =
     let column = (h s.first).0 (first_in s.first s.count s.some) in (
       s.first,
@@ -69,13 +73,18 @@ too_high b ss s r a h k n =
       inr (box_from b ss s.first (r.first +ℤ pos 2048) a column ((k (r.first +ℤ pos 2048)).0 (far_in r.first r.count n))),
     )
 
-pub is_frame : (b : Bounds) (ss : List Span) (s r : Pixels) (f : Frame) → AreBounds b ss → ArePixels s b.left b.right → ArePixels r b.bottom b.top → s.first ≡ f.left → s.count ≡ f.width → r.first ≡ f.bottom → r.count ≡ f.height → IsFrameOf f ss
+pub is_frame : (b : Bounds) (ss : List Span) (s r : Pixels) (f : Frame) → AreBounds b ss → ArePixels s b.left b.right
+    → ArePixels r b.bottom b.top → s.first ≡ f.left → s.count ≡ f.width → r.first ≡ f.bottom → r.count ≡ f.height → IsFrameOf f ss
 is_frame b ss s r f a h k fl fw fb fh = record {
   columns = rw (← fw) s.some;
   rows = rw (← fh) r.some;
   pixels = λ i j. (
     λ p. box_from b ss i j a ((h i).0 (rw (fl, fw) p.column)) ((k j).0 (rw (fb, fh) p.row)),
-    λ p. record { column = rw (← fl, ← fw) ((h i).1 (column_in b ss i j a p)); row = rw (← fb, ← fh) ((k j).1 (row_in b ss i j a p)) },
+    λ p. record {
+      column = rw (← fl, ← fw) ((h i).1 (column_in b ss i j a p));
+      row = rw (← fb, ← fh)
+          ((k j).1 (row_in b ss i j a p));
+    },
   );
 }
 
@@ -84,9 +93,12 @@ apart first count n h (a, b) (c, d) = omega (arith, signed_linear)
 
 pub frame_not_too_large : (f : Option Frame) (ss : List Span) → IsFrameFor f ss → ¬ (AreTooLarge ss)
 frame_not_too_large None ss n (i, j, h, k) = n i j h
-frame_not_too_large (Some f) ss n (i, j, h, inl k) = apart f.left f.width i f.columns.few ((n.pixels i j).1 h).column ((n.pixels (i +ℤ pos 2048) j).1 k).column
-frame_not_too_large (Some f) ss n (i, j, h, inr k) = apart f.bottom f.height j f.rows.few ((n.pixels i j).1 h).row ((n.pixels i (j +ℤ pos 2048)).1 k).row
+frame_not_too_large (Some f) ss n (i, j, h, inl k) =
+    apart f.left f.width i f.columns.few ((n.pixels i j).1 h).column ((n.pixels (i +ℤ pos 2048) j).1 k).column
+frame_not_too_large (Some f) ss n (i, j, h, inr k) =
+    apart f.bottom f.height j f.rows.few ((n.pixels i j).1 h).row ((n.pixels i (j +ℤ pos 2048)).1 k).row
 
-pub too_large_is : (r : Result (Option Frame) ContourFault) (ss : List Span) → IfOk r (λ f. IsFrameFor f ss) → IfErr r (λ e. (e ≡ TooLarge) × AreTooLarge ss) → IsErrOf r TooLarge ↔ AreTooLarge ss
+pub too_large_is : (r : Result (Option Frame) ContourFault) (ss : List Span) → IfOk r (λ f. IsFrameFor f ss)
+    → IfErr r (λ e. (e ≡ TooLarge) × AreTooLarge ss) → IsErrOf r TooLarge ↔ AreTooLarge ss
 too_large_is (Ok f) ss h k = (λ e. absurd (cc), λ t. absurd (frame_not_too_large f ss h t))
 too_large_is (Err e) ss h k = (λ _. k.1, λ _. let x = k.0 in cc)

@@ -1,4 +1,5 @@
 -- The contours of an outline, one after the other.
+-- For the loop of `pieces`.
 use Rattle.std.proofs.Common.{◌≡◌, refl, sym, subst, ◌∙◌, ℕ, zero, suc, ◌+◌, ◌-◌, ◌<◌, ◌≤◌, List, [], ◌∷◌, ◌++◌, map, drop, take, length, get_or, append_assoc, arith}
 use Rattle.std.proofs.lemmas.List.{drop_more, append-nil, length-take, length-drop}
 use Rattle.fx_winding.specs.declared.point.Piece.{Piece}
@@ -10,28 +11,37 @@ use Rattle.fx_winding.specs.Outside.{joined}
 use Rattle.fx_contour.specs.Curve.{curve_of}
 use Rattle.fx_contour.specs.Contours.{contours_from}
 
--- the pieces made are those of the first k contours, and start is where the next one begins
+-- the pieces made are those of the first k contours, and the next one begins at start
 pub record Gathered (made : List Piece) (start : ℕ) (ends : List ℕ) (k : ℕ) (points : List OutlinePoint) : Type 0 where
-  pub spans : map span_of made ++ joined (map curve_of (contours_from start (drop k ends) points)) ≡ joined (map curve_of (contours_from 0 ends points))
+  pub spans : map span_of made ++ joined (map curve_of (contours_from start (drop k ends) points)) ≡ joined
+      (map curve_of (contours_from 0 ends points))
   pub ends_left : AreEnds start (drop k ends) (length points)
   pub few : length made ≤ start
   pub within : start ≤ length points
 
-ends_left_at : (made : List Piece) (start : ℕ) (ends : List ℕ) (k : ℕ) (points : List OutlinePoint) (e d : ℕ) → Gathered made start ends k points → k < length ends → e ≡ get_or ends k d → AreEnds start (e ∷ drop (k + 1) ends) (length points)
+ends_left_at : (made : List Piece) (start : ℕ) (ends : List ℕ) (k : ℕ) (points : List OutlinePoint) (e d : ℕ)
+    → Gathered made start ends k points → k < length ends → e ≡ get_or ends k d
+    → AreEnds start (e ∷ drop (k + 1) ends) (length points)
 ends_left_at made start ends k points e d g h s =
     let P : List ℕ → Type 0 = λ xs. AreEnds start xs (length points) in
     let Q : ℕ → Type 0 = λ x. AreEnds start (x ∷ drop (k + 1) ends) (length points) in
     subst Q (sym s) (subst P (drop_more ends k d h) g.ends_left)
 
-pub next_within : (made : List Piece) (start : ℕ) (ends : List ℕ) (k : ℕ) (points : List OutlinePoint) (e d : ℕ) → Gathered made start ends k points → k < length ends → e ≡ get_or ends k d → (start ≤ e + 1) × (e + 1 ≤ length points)
+pub next_within : (made : List Piece) (start : ℕ) (ends : List ℕ) (k : ℕ) (points : List OutlinePoint) (e d : ℕ)
+    → Gathered made start ends k points → k < length ends → e ≡ get_or ends k d → (start ≤ e + 1) × (e + 1 ≤ length points)
 next_within made start ends k points e d g h s =
     let l = ends_left_at made start ends k points e d g h s in
     (l.0, ends_reach (e + 1) (drop (k + 1) ends) (length points) l.1)
 
-slice_few : (start next : ℕ) (points : List OutlinePoint) → start ≤ next → next ≤ length points → length (take (next - start) (drop start points)) ≡ next - start
-slice_few start next points h k = let a = length-take (next - start) (drop start points) in let b = length-drop start points in omega arith
+slice_few : (start next : ℕ) (points : List OutlinePoint) → start ≤ next → next ≤ length points
+    → length (take (next - start) (drop start points)) ≡ next - start
+slice_few start next points h k =
+    let a = length-take (next - start) (drop start points) in let b = length-drop start points in omega arith
 
-pub gather_more : (made after : List Piece) (start : ℕ) (ends : List ℕ) (k : ℕ) (points : List OutlinePoint) (e d : ℕ) → Gathered made start ends k points → k < length ends → e ≡ get_or ends k d → map span_of after ≡ map span_of made ++ curve_of (take (e + 1 - start) (drop start points)) → length after ≤ length made + length (take (e + 1 - start) (drop start points)) → Gathered after (e + 1) ends (k + 1) points
+pub gather_more : (made after : List Piece) (start : ℕ) (ends : List ℕ) (k : ℕ) (points : List OutlinePoint) (e d : ℕ)
+    → Gathered made start ends k points → k < length ends → e ≡ get_or ends k d
+    → map span_of after ≡ map span_of made ++ curve_of (take (e + 1 - start) (drop start points))
+    → length after ≤ length made + length (take (e + 1 - start) (drop start points)) → Gathered after (e + 1) ends (k + 1) points
 gather_more made after start ends k points e d g h s m n =
     let l = ends_left_at made start ends k points e d g h s in
     let w = next_within made start ends k points e d g h s in
@@ -39,12 +49,13 @@ gather_more made after start ends k points e d g h s m n =
     let rest = joined (map curve_of (contours_from (e + 1) (drop (k + 1) ends) points)) in
     let all = joined (map curve_of (contours_from 0 ends points)) in
     let P : List ℕ → Type 0 = λ xs. map span_of made ++ joined (map curve_of (contours_from start xs points)) ≡ all in
-    let Q : ℕ → Type 0 = λ x. map span_of made ++ joined (map curve_of (contours_from start (x ∷ drop (k + 1) ends) points)) ≡ all in
-    let whole : map span_of made ++ (c ++ rest) ≡ all = subst Q (sym s) (subst P (drop_more ends k d h) g.spans) in
+    let Q : ℕ → Type 0 =
+    λ x. map span_of made ++ joined (map curve_of (contours_from start (x ∷ drop (k + 1) ends) points)) ≡ all in
+    let all_spans : map span_of made ++ (c ++ rest) ≡ all = subst Q (sym s) (subst P (drop_more ends k d h) g.spans) in
     let R : List Span → Type 0 = λ xs. xs ++ rest ≡ all in
     let f = slice_few start (e + 1) points w.0 w.1 in
     record {
-      spans = subst R (sym m) (append_assoc (map span_of made) c rest ∙ whole);
+      spans = subst R (sym m) (append_assoc (map span_of made) c rest ∙ all_spans);
       ends_left = l.1;
       few = (let x = g.few in let y = w.0 in omega arith);
       within = w.1;
@@ -56,7 +67,9 @@ drop_all (suc n) [] h = refl
 drop_all zero (x ∷ xs) h = absurd (omega arith)
 drop_all (suc n) (x ∷ xs) h = drop_all n xs (omega arith)
 
-pub gather_end : (made : List Piece) (start : ℕ) (ends : List ℕ) (k : ℕ) (points : List OutlinePoint) → Gathered made start ends k points → length ends ≤ k → map span_of made ≡ joined (map curve_of (contours_from 0 ends points))
+pub gather_end : (made : List Piece) (start : ℕ) (ends : List ℕ) (k : ℕ) (points : List OutlinePoint)
+    → Gathered made start ends k points → length ends ≤ k → map span_of made ≡ joined (map curve_of (contours_from 0 ends points))
 gather_end made start ends k points g h =
-    let P : List ℕ → Type 0 = λ xs. map span_of made ++ joined (map curve_of (contours_from start xs points)) ≡ joined (map curve_of (contours_from 0 ends points)) in
+    let P : List ℕ → Type 0 = λ xs. map span_of made ++ joined (map curve_of (contours_from start xs points)) ≡ joined
+    (map curve_of (contours_from 0 ends points)) in
     sym (append-nil (map span_of made)) ∙ subst P (drop_all k ends h) g.spans

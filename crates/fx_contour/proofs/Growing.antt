@@ -1,4 +1,5 @@
 -- Bounding boxes, point by point.
+-- For `Bounds` and its loop.
 use Rattle.std.proofs.Common.{◌≡◌, sym, subst, ℕ, zero, suc, ◌+◌, ◌<◌, ◌≤◌, drop, length, map, get_or, ◌⊎◌, inl, inr, ℤ, ◌≤ℤ◌, List, [], ◌∷◌, Option, None, IsSomeAnd, refl, arith, ◌↔◌}
 use Rattle.std.specs.Int.{int_min, int_max}
 use Rattle.std.proofs.lemmas.Int.{ints, clamps, by_lt_z}
@@ -11,20 +12,23 @@ use Rattle.fx_contour.specs.Frames.{HasAny, HaveAny}
 use Rattle.fx_contour.specs.Bounds.{Side, left_side, right_side, bottom_side, top_side, IsOut, Reaches, Grows, AreBounds}
 
 least_is : (r l x t : ℤ) → r ≡ int_min l x → (r ≤ℤ t) ↔ ((l ≤ℤ t) ⊎ (x ≤ℤ t))
-least_is r l x t e = (λ h. by_lt_z l x (λ k. inl (omega (arith, ints, clamps))) (λ k. inr (omega (arith, ints, clamps))), λ h. back h)
+least_is r l x t e =
+    (λ h. by_lt_z l x (λ k. inl (omega (arith, ints, clamps))) (λ k. inr (omega (arith, ints, clamps))), λ h. back h)
   where
     back : (l ≤ℤ t) ⊎ (x ≤ℤ t) → r ≤ℤ t
     back (inl h) = omega (arith, ints, clamps)
     back (inr h) = omega (arith, ints, clamps)
 
 greatest_is : (r l x t : ℤ) → r ≡ int_max l x → (t ≤ℤ r) ↔ ((t ≤ℤ l) ⊎ (t ≤ℤ x))
-greatest_is r l x t e = (λ h. by_lt_z l x (λ k. inr (omega (arith, ints, clamps))) (λ k. inl (omega (arith, ints, clamps))), λ h. back h)
+greatest_is r l x t e =
+    (λ h. by_lt_z l x (λ k. inr (omega (arith, ints, clamps))) (λ k. inl (omega (arith, ints, clamps))), λ h. back h)
   where
     back : (t ≤ℤ l) ⊎ (t ≤ℤ x) → t ≤ℤ r
     back (inl h) = omega (arith, ints, clamps)
     back (inr h) = omega (arith, ints, clamps)
 
-pub point_grows : (b c : Bounds) (p : Place) → c.left ≡ int_min b.left p.x → c.right ≡ int_max b.right p.x → c.bottom ≡ int_min b.bottom p.y → c.top ≡ int_max b.top p.y → Grows b c (λ P. P p)
+pub point_grows : (b c : Bounds) (p : Place) → c.left ≡ int_min b.left p.x → c.right ≡ int_max b.right p.x
+    → c.bottom ≡ int_min b.bottom p.y → c.top ≡ int_max b.top p.y → Grows b c (λ P. P p)
 point_grows b c p l r d u = record { sides = λ side t. at side t }
   where
     at : (side : Side) (t : ℤ) → Reaches c side t ↔ (Reaches b side t ⊎ IsOut side t p)
@@ -52,10 +56,16 @@ two A B C R S h k = (λ c. there (k.0 c), λ x. back x)
 
 -- a box that grows by R and then by S grows by both
 then : (a b c : Bounds) (R S : (Place → Type 0) → Type 0) → Grows a b R → Grows b c S → Grows a c (λ P. R P ⊎ S P)
-then a b c R S h k = record { sides = λ side t. two (Reaches a side t) (Reaches b side t) (Reaches c side t) (R (IsOut side t)) (S (IsOut side t)) (h.sides side t) (k.sides side t) }
+then a b c R S h k =
+    record {
+      sides = λ side t. two (Reaches a side t) (Reaches b side t) (Reaches c side t) (R (IsOut side t)) (S (IsOut side t))
+          (h.sides side t) (k.sides side t);
+    }
 
-pub span_grows : (a b c d : Bounds) (s : Span) → Grows a b (λ P. P s.a) → Grows b c (λ P. IsSomeAnd s.b P) → Grows c d (λ P. P s.c) → Grows a d (λ P. HasAny P s)
-span_grows a b c d s h k l = then a b d (λ P. P s.a) (λ P. IsSomeAnd s.b P ⊎ P s.c) h (then b c d (λ P. IsSomeAnd s.b P) (λ P. P s.c) k l)
+pub span_grows : (a b c d : Bounds) (s : Span) → Grows a b (λ P. P s.a) → Grows b c (λ P. IsSomeAnd s.b P) → Grows c d (λ P. P s.c)
+    → Grows a d (λ P. HasAny P s)
+span_grows a b c d s h k l =
+    then a b d (λ P. P s.a) (λ P. IsSomeAnd s.b P ⊎ P s.c) h (then b c d (λ P. IsSomeAnd s.b P) (λ P. P s.c) k l)
 
 pub stays : (b : Bounds) (o : Option Place) → o ≡ None → Grows b b (λ P. IsSomeAnd o P)
 stays b o e = record { sides = λ side t. (λ h. inl h, λ h. back side t h) }
@@ -84,14 +94,19 @@ one_less X A B R S h k = (λ x. there (h.0 x), λ y. back y)
         more (inl a) = h.1 (inl a)
         more (inr r) = h.1 (inr (inl r))
 
-pub remains_more : (b c : Bounds) (ps : List Piece) (n : ℕ) (s : Piece) → n < length ps → s ≡ get_or ps n s → Remains b (map span_of ps) (map span_of (drop n ps)) → Grows b c (λ P. HasAny P (span_of s)) → Remains c (map span_of ps) (map span_of (drop (n + 1) ps))
+pub remains_more : (b c : Bounds) (ps : List Piece) (n : ℕ) (s : Piece) → n < length ps → s ≡ get_or ps n s
+    → Remains b (map span_of ps) (map span_of (drop n ps)) → Grows b c (λ P. HasAny P (span_of s))
+    → Remains c (map span_of ps) (map span_of (drop (n + 1) ps))
 remains_more b c ps n s h e r g =
     let ss = map span_of ps in
     let rest = map span_of (drop (n + 1) ps) in
     let P : List Piece → Type 0 = λ xs. Remains b ss (map span_of xs) in
     let Q : Piece → Type 0 = λ x. Remains b ss (span_of x ∷ rest) in
-    let whole = subst Q (sym e) (subst P (drop_more ps n s h) r) in
-    record { sides = λ side t. one_less (HaveAny (IsOut side t) ss) (Reaches b side t) (Reaches c side t) (HasAny (IsOut side t) (span_of s)) (HaveAny (IsOut side t) rest) (whole.sides side t) (g.sides side t) }
+    let all_spans = subst Q (sym e) (subst P (drop_more ps n s h) r) in
+    record {
+      sides = λ side t. one_less (HaveAny (IsOut side t) ss) (Reaches b side t) (Reaches c side t)
+          (HasAny (IsOut side t) (span_of s)) (HaveAny (IsOut side t) rest) (all_spans.sides side t) (g.sides side t);
+    }
 
 none_left : (X A : Type 0) → X ↔ (A ⊎ ⊥) → X ↔ A
 none_left X A h = (λ x. there (h.0 x), λ a. h.1 (inl a))
@@ -100,11 +115,12 @@ none_left X A h = (λ x. there (h.0 x), λ a. h.1 (inl a))
     there (inl a) = a
     there (inr n) = absurd n
 
-pub remains_end : (b : Bounds) (ps : List Piece) (n : ℕ) → length ps ≤ n → Remains b (map span_of ps) (map span_of (drop n ps)) → AreBounds b (map span_of ps)
+pub remains_end : (b : Bounds) (ps : List Piece) (n : ℕ) → length ps ≤ n → Remains b (map span_of ps) (map span_of (drop n ps))
+    → AreBounds b (map span_of ps)
 remains_end b ps n h r =
     let P : List Piece → Type 0 = λ xs. Remains b (map span_of ps) (map span_of xs) in
-    let whole = subst P (drop_all n ps h) r in
-    record { sides = λ side t. none_left (HaveAny (IsOut side t) (map span_of ps)) (Reaches b side t) (whole.sides side t) }
+    let all_spans = subst P (drop_all n ps h) r in
+    record { sides = λ side t. none_left (HaveAny (IsOut side t) (map span_of ps)) (Reaches b side t) (all_spans.sides side t) }
   where
     drop_all : (n : ℕ) (xs : List Piece) → length xs ≤ n → drop n xs ≡ []
     drop_all zero [] h = refl
@@ -120,9 +136,15 @@ first_too X A f = (λ x. inr x, λ y. back y)
     back (inr x) = x
 
 -- the first piece's first point lies in the box of all
-pub remains_first : (b : Bounds) (ps : List Piece) (d : Piece) → 0 < length ps → b.left ≡ (get_or ps 0 d).a.x → b.right ≡ (get_or ps 0 d).a.x → b.bottom ≡ (get_or ps 0 d).a.y → b.top ≡ (get_or ps 0 d).a.y → Remains b (map span_of ps) (map span_of ps)
+pub remains_first : (b : Bounds) (ps : List Piece) (d : Piece) → 0 < length ps → b.left ≡ (get_or ps 0 d).a.x
+    → b.right ≡ (get_or ps 0 d).a.x → b.bottom ≡ (get_or ps 0 d).a.y → b.top ≡ (get_or ps 0 d).a.y
+    → Remains b (map span_of ps) (map span_of ps)
 remains_first b [] d h l r u v = absurd (omega arith)
-remains_first b (s ∷ ps) d h l r u v = record { sides = λ side t. first_too (HaveAny (IsOut side t) (map span_of (s ∷ ps))) (Reaches b side t) (λ k. inl (inl (at side t k))) }
+remains_first b (s ∷ ps) d h l r u v =
+    record {
+      sides = λ side t. first_too (HaveAny (IsOut side t) (map span_of (s ∷ ps))) (Reaches b side t)
+          (λ k. inl (inl (at side t k)));
+    }
   where
     at : (side : Side) (t : ℤ) → Reaches b side t → IsOut side t (span_of s).a
     at left_side t k = rw l at k

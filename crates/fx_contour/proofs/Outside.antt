@@ -1,4 +1,5 @@
 -- A pixel outside the frame is not covered.
+-- For the clause `outside` of `frame`.
 use Rattle.std.proofs.Common.{subst, ◌⊎◌, inl, inr, ℤ, ◌≤ℤ◌, ◌<ℤ◌, List, [], ◌∷◌, Option, Some, None, IsSomeAnd, All}
 use Rattle.std.proofs.lemmas.Int.{by_lt_z}
 use Rattle.std.proofs.lemmas.List.Elements.{All-nil, All-cons}
@@ -7,7 +8,7 @@ use Rattle.fx_winding.specs.Winding.{Span, centre, IsCovered}
 use Rattle.fx_winding.specs.Outside.{HasAll, OptionAll, IsBeside, joined, AreOfOutline}
 use Rattle.fx_winding.specs.declared.frame.Frame.{Frame}
 use Rattle.fx_winding.proofs.Beside.{nothing_outside}
-use Rattle.fx_contour.specs.Frames.{HasAny, HaveAny, IsInBox, IsFrameFor, NothingOutside}
+use Rattle.fx_contour.specs.Frames.{HasAny, HaveAny, IsInBoundingBox, IsFrameFor, NothingOutsideFrame}
 
 piece_either : (P Q : Place → Type 0) → ((q : Place) → P q ⊎ Q q) → (s : Span) → HasAll P s ⊎ HasAny Q s
 piece_either P Q d s = by (d s.a) (option s.b) (d s.c)
@@ -34,7 +35,7 @@ either P Q d (s ∷ ss) = by (piece_either P Q d s) (either P Q d ss)
 order : (a b : ℤ) → (a <ℤ b) ⊎ (b ≤ℤ a)
 order a b = by_lt_z a b (λ h. inl h) (λ h. inr h)
 
-beside : (p : Place) (ss : List Span) → ¬ (IsInBox p ss) → IsBeside p ss
+beside : (p : Place) (ss : List Span) → ¬ (IsInBoundingBox p ss) → IsBeside p ss
 beside p ss n =
     by
     (either (λ q. p.x <ℤ q.x) (λ q. q.x ≤ℤ p.x) (λ q. order p.x q.x) ss)
@@ -42,18 +43,21 @@ beside p ss n =
     (either (λ q. p.y <ℤ q.y) (λ q. q.y ≤ℤ p.y) (λ q. order p.y q.y) ss)
     (either (λ q. q.y <ℤ p.y) (λ q. p.y ≤ℤ q.y) (λ q. order q.y p.y) ss)
   where
-    by : All (HasAll (λ q. p.x <ℤ q.x)) ss ⊎ HaveAny (λ q. q.x ≤ℤ p.x) ss → All (HasAll (λ q. q.x <ℤ p.x)) ss ⊎ HaveAny (λ q. p.x ≤ℤ q.x) ss → All (HasAll (λ q. p.y <ℤ q.y)) ss ⊎ HaveAny (λ q. q.y ≤ℤ p.y) ss → All (HasAll (λ q. q.y <ℤ p.y)) ss ⊎ HaveAny (λ q. p.y ≤ℤ q.y) ss → IsBeside p ss
+    by : All (HasAll (λ q. p.x <ℤ q.x)) ss ⊎ HaveAny (λ q. q.x ≤ℤ p.x) ss
+        → All (HasAll (λ q. q.x <ℤ p.x)) ss ⊎ HaveAny (λ q. p.x ≤ℤ q.x) ss
+        → All (HasAll (λ q. p.y <ℤ q.y)) ss ⊎ HaveAny (λ q. q.y ≤ℤ p.y) ss
+        → All (HasAll (λ q. q.y <ℤ p.y)) ss ⊎ HaveAny (λ q. p.y ≤ℤ q.y) ss → IsBeside p ss
     by (inl a) b c d = inl a
     by (inr a) (inl b) c d = inr (inl b)
     by (inr a) (inr b) (inl c) d = inr (inr (inl c))
     by (inr a) (inr b) (inr c) (inl d) = inr (inr (inr d))
     by (inr a) (inr b) (inr c) (inr d) = absurd (n (record { left = a; right = b; bottom = c; top = d }))
 
-not_covered : (p : Place) (ss : List Span) → AreOfOutline ss → ¬ (IsInBox p ss) → ¬ (IsCovered p ss)
+not_covered : (p : Place) (ss : List Span) → AreOfOutline ss → ¬ (IsInBoundingBox p ss) → ¬ (IsCovered p ss)
 not_covered p ss (contours, o, e) n k =
-    let P : List Span → Type 0 = λ xs. ¬ (IsInBox p xs) → ¬ (IsCovered p xs) in
+    let P : List Span → Type 0 = λ xs. ¬ (IsInBoundingBox p xs) → ¬ (IsCovered p xs) in
     subst P e (λ m. nothing_outside p contours o (beside p (joined contours) m)) n k
 
-pub nothing_outside_frame : (ss : List Span) (f : Option Frame) → IsFrameFor f ss → NothingOutside f ss
+pub nothing_outside_frame : (ss : List Span) (f : Option Frame) → IsFrameFor f ss → NothingOutsideFrame f ss
 nothing_outside_frame ss None h o col row n = not_covered (centre col row) ss o (h col row)
 nothing_outside_frame ss (Some f) h o col row n = not_covered (centre col row) ss o (λ b. n ((h.pixels col row).1 b))

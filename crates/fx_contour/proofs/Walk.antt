@@ -1,56 +1,60 @@
 -- A walk along a contour adds its pieces.
+-- For the loop of `add_contour`.
 use Rattle.std.proofs.Common.{◌≡◌, refl, sym, ap, subst, ◌∙◌, ℕ, zero, suc, ◌+◌, ◌<◌, ◌≤◌, ℤ, List, [], ◌∷◌, ◌++◌, All, map, drop, length, get_or, arith}
 use Rattle.std.proofs.lemmas.List.Elements.{All-head, All-tail}
 use Rattle.fx_winding.specs.declared.point.Piece.{Piece}
 use Rattle.fx_winding.specs.Area.{Place}
 use Rattle.fx_winding.specs.Winding.{span_of}
 use Rattle.fx_hint.specs.declared.outline.OutlinePoint.{OutlinePoint}
-use Rattle.fx_contour.specs.Curve.{first_of, last_of, spans_between, curve_of}
-use Rattle.fx_contour.specs.Contours.{IsNear}
+use Rattle.fx_contour.specs.Curve.{first_or, last_or, spans_between, curve_of}
+use Rattle.fx_contour.specs.Contours.{IsInReach}
 
 pub place_same : (x y x' y' : ℤ) → x ≡ x' → y ≡ y' → ◌≡◌ {A = Place} (record { x = x; y = y }) (record { x = x'; y = y' })
 place_same x y x' y' e f = cc
 
-first_near : (qs : List OutlinePoint) (r : OutlinePoint) → All IsNear qs → IsNear r → IsNear (first_of qs r)
+first_near : (qs : List OutlinePoint) (r : OutlinePoint) → All IsInReach qs → IsInReach r → IsInReach (first_or qs r)
 first_near [] r h n = n
-first_near (q ∷ qs) r h n = All-head IsNear q qs h
+first_near (q ∷ qs) r h n = All-head IsInReach q qs h
 
-pub drop_near : (i : ℕ) (xs : List OutlinePoint) → All IsNear xs → All IsNear (drop i xs)
+pub drop_near : (i : ℕ) (xs : List OutlinePoint) → All IsInReach xs → All IsInReach (drop i xs)
 drop_near zero xs h = h
 drop_near (suc i) [] h = h
-drop_near (suc i) (x ∷ xs) h = drop_near i xs (All-tail IsNear x xs h)
+drop_near (suc i) (x ∷ xs) h = drop_near i xs (All-tail IsInReach x xs h)
 
-pub next_near : (points : List OutlinePoint) (i : ℕ) (first next : OutlinePoint) → All IsNear points → IsNear first → next ≡ first_of (drop (i + 1) points) first → IsNear next
-next_near points i first next h n e = subst IsNear (sym e) (first_near (drop (i + 1) points) first (drop_near (i + 1) points h) n)
+pub next_near : (points : List OutlinePoint) (i : ℕ) (first next : OutlinePoint) → All IsInReach points → IsInReach first
+    → next ≡ first_or (drop (i + 1) points) first → IsInReach next
+next_near points i first next h n e =
+    subst IsInReach (sym e) (first_near (drop (i + 1) points) first (drop_near (i + 1) points h) n)
 
-pub item_near : (points : List OutlinePoint) (i : ℕ) (p d : OutlinePoint) → All IsNear points → i < length points → p ≡ get_or points i d → IsNear p
-item_near points i p d h k e = subst IsNear (sym e) (h i d k)
+pub item_near : (points : List OutlinePoint) (i : ℕ) (p d : OutlinePoint) → All IsInReach points → i < length points
+    → p ≡ get_or points i d → IsInReach p
+item_near points i p d h k e = subst IsInReach (sym e) (h i d k)
 
 -- the pieces made since start are those of the first i points
 pub record Walked (made start : List Piece) (points : List OutlinePoint) (i : ℕ) (before first : OutlinePoint) : Type 0 where
   pub spans : map span_of made ++ spans_between before (drop i points) first ≡ map span_of start ++ curve_of points
   pub few : length made ≤ length start + i
-  pub near : IsNear before
+  pub near : IsInReach before
 
-last_get : (p : OutlinePoint) (qs : List OutlinePoint) (d : OutlinePoint) → last_of p qs ≡ get_or (p ∷ qs) (length qs) d
+last_get : (p : OutlinePoint) (qs : List OutlinePoint) (d : OutlinePoint) → last_or p qs ≡ get_or (p ∷ qs) (length qs) d
 last_get p [] d = refl
 last_get p (q ∷ qs) d = last_get q qs d
 
-curve_whole : (points : List OutlinePoint) (k : ℕ) (before first d e : OutlinePoint) → 0 < k → k + 1 ≡ length points
+curve_from_last : (points : List OutlinePoint) (k : ℕ) (before first d e : OutlinePoint) → 0 < k → k + 1 ≡ length points
     → first ≡ get_or points 0 d → before ≡ get_or points k e → spans_between before points first ≡ curve_of points
-curve_whole [] k before first d e h n f b = absurd (omega arith)
-curve_whole (p ∷ []) k before first d e h n f b = absurd (omega arith)
-curve_whole (p ∷ q ∷ qs) k before first d e h n f b =
+curve_from_last [] k before first d e h n f b = absurd (omega arith)
+curve_from_last (p ∷ []) k before first d e h n f b = absurd (omega arith)
+curve_from_last (p ∷ q ∷ qs) k before first d e h n f b =
     let m : k ≡ length (q ∷ qs) = omega arith in
     let l = last_get p (q ∷ qs) e in
-    let s : before ≡ last_of q qs = b ∙ (ap (λ j. get_or (p ∷ q ∷ qs) j e) m ∙ sym l) in
+    let s : before ≡ last_or q qs = b ∙ (ap (λ j. get_or (p ∷ q ∷ qs) j e) m ∙ sym l) in
     rw (s, f) refl
 
-pub walk_init : (made : List Piece) (points : List OutlinePoint) (k : ℕ) (before first d e : OutlinePoint) → All IsNear points
+pub walk_init : (made : List Piece) (points : List OutlinePoint) (k : ℕ) (before first d e : OutlinePoint) → All IsInReach points
     → 0 < k → k + 1 ≡ length points → first ≡ get_or points 0 d → before ≡ get_or points k e
     → Walked made made points 0 before first
 walk_init made points k before first d e a h n f b = record {
-  spans = ap (λ ss. map span_of made ++ ss) (curve_whole points k before first d e h n f b);
+  spans = ap (λ ss. map span_of made ++ ss) (curve_from_last points k before first d e h n f b);
   few = omega arith;
   near = item_near points k before e a (omega arith) b;
 }

@@ -28,11 +28,11 @@ Reaches b right_side t = t ≤ℤ b.right
 Reaches b bottom_side t = b.bottom ≤ℤ t
 Reaches b top_side t = t ≤ℤ b.top
 
--- new is the least box round old and the points of which R tells that one has P
+-- new is the least box around old and the points of which R tells that one has P
 pub record Grows (old new : Bounds) (R : (Place → Type 0) → Type 0) : Type 0 where
   pub sides : (side : Side) (t : ℤ) → Reaches new side t ↔ (Reaches old side t ⊎ R (IsOut side t))
 
--- b is the least box round the points of the spans
+-- b is the least box around the points of the spans
 pub record AreBounds (b : Bounds) (ss : List Span) : Type 0 where
   pub sides : (side : Side) (t : ℤ) → HaveAny (IsOut side t) ss ↔ Reaches b side t
 

@@ -22,7 +22,7 @@ HaveAny P [] = ⊥
 HaveAny P (s ∷ ss) = HasAny P s ⊎ HaveAny P ss
 
 -- p lies in the closed bounding box of the points of the spans
-pub record IsInBox (p : Place) (ss : List Span) : Type 0 where
+pub record IsInBoundingBox (p : Place) (ss : List Span) : Type 0 where
   pub left : HaveAny (λ q. q.x ≤ℤ p.x) ss
   pub right : HaveAny (λ q. p.x ≤ℤ q.x) ss
   pub bottom : HaveAny (λ q. q.y ≤ℤ p.y) ss
@@ -32,13 +32,13 @@ pub record IsInBox (p : Place) (ss : List Span) : Type 0 where
 pub record IsFrameOf (f : Frame) (ss : List Span) : Type 0 where
   pub columns : 0 < f.width
   pub rows : 0 < f.height
-  pub pixels : (i j : ℤ) → IsInFrame f i j ↔ IsInBox (centre i j) ss
+  pub pixels : (i j : ℤ) → IsInFrame f i j ↔ IsInBoundingBox (centre i j) ss
 
 -- no pixel's centre lies in the bounding box
 abbrev pub HaveNoPixel : List Span → Type 0
-HaveNoPixel ss = (col row : ℤ) → ¬ (IsInBox (centre col row) ss)
+HaveNoPixel ss = (col row : ℤ) → ¬ (IsInBoundingBox (centre col row) ss)
 
--- the frame of the spans, or none where they have no pixel
+-- the frame of the spans, or none if they have no pixel
 abbrev pub IsFrameFor : Option Frame → List Span → Type 0
 IsFrameFor None ss = HaveNoPixel ss
 IsFrameFor (Some f) ss = IsFrameOf f ss
@@ -46,16 +46,17 @@ IsFrameFor (Some f) ss = IsFrameOf f ss
 -- two pixels of one row, or of one column, as far apart as the greatest side have their centres in the bounding box
 abbrev pub AreTooLarge : List Span → Type 0
 AreTooLarge ss =
-    (col : ℤ) × (row : ℤ) × IsInBox (centre col row) ss × (IsInBox (centre (col +ℤ pos greatest_side) row) ss ⊎ IsInBox (centre col (row +ℤ pos greatest_side)) ss)
+    (col : ℤ) × (row : ℤ) × IsInBoundingBox (centre col row) ss
+    × (IsInBoundingBox (centre (col +ℤ pos greatest_side) row) ss ⊎ IsInBoundingBox (centre col (row +ℤ pos greatest_side)) ss)
 
 -- a pixel lies in the frame, if there is one
 abbrev pub IsInside : Option Frame → ℤ → ℤ → Type 0
 IsInside None col row = ⊥
 IsInside (Some f) col row = IsInFrame f col row
 
--- a pixel outside the frame is not covered, where the spans are those of closed contours
-abbrev pub NothingOutside : Option Frame → List Span → Type 0
-NothingOutside f ss = AreOfOutline ss → (col row : ℤ) → ¬ (IsInside f col row) → ¬ (IsCovered (centre col row) ss)
+-- a pixel outside the frame is not covered, if the spans are those of closed contours
+abbrev pub NothingOutsideFrame : Option Frame → List Span → Type 0
+NothingOutsideFrame f ss = AreOfOutline ss → (col row : ℤ) → ¬ (IsInside f col row) → ¬ (IsCovered (centre col row) ss)
 
 -- ---- too large, as a test
 
@@ -69,9 +70,10 @@ have_any test [] = false
 have_any test (s ∷ ss) = has_any test s || have_any test ss
 
 -- p lies in the closed bounding box
-abbrev pub is_in_box : Place → List Span → Bool
-is_in_box p ss =
-    have_any (λ q. int_le q.x p.x) ss && (have_any (λ q. int_le p.x q.x) ss && (have_any (λ q. int_le q.y p.y) ss && have_any (λ q. int_le p.y q.y) ss))
+abbrev pub is_in_bounding_box : Place → List Span → Bool
+is_in_bounding_box p ss =
+    have_any (λ q. int_le q.x p.x) ss && (have_any (λ q. int_le p.x q.x) ss &&
+    (have_any (λ q. int_le q.y p.y) ss && have_any (λ q. int_le p.y q.y) ss))
 
 -- the first pixel of a row or a column whose centre lies at z or beyond
 abbrev pub first_from : ℤ → ℤ
@@ -80,7 +82,9 @@ first_from z = int_div_euclid (z +ℤ pos 63) (pos 128)
 -- the pixel in this column and row is in the box, and one as far from it as the greatest side
 abbrev pub is_large_from : List Span → ℤ → ℤ → Bool
 is_large_from ss col row =
-    is_in_box (centre col row) ss && (is_in_box (centre (col +ℤ pos greatest_side) row) ss || is_in_box (centre col (row +ℤ pos greatest_side)) ss)
+    is_in_bounding_box (centre col row) ss &&
+    (is_in_bounding_box (centre (col +ℤ pos greatest_side) row) ss || is_in_bounding_box
+    (centre col (row +ℤ pos greatest_side)) ss)
 
 -- the box is too large from the first column right of one of the points and the first row above one of them
 unfoldable pub is_too_large : List Span → Bool

@@ -1,11 +1,13 @@
 //! From contours to pieces.
+
 ghost use Rattle.std.specs.Prelude.{◌≡◌, pos, ◌+◌, ◌-◌, ◌+ℤ◌, ◌*ℤ◌, ◌≤◌, ◌<◌, ◌^◌, ◌++◌, ◌⊎◌, ◌↔◌, All, IsTrue, IfOk, OnOk, IfErr, IsErrOf, length, map, take, drop, option_map, option_to_list};
 ghost use Rattle.fx_fixed.specs.Ranges.{IsWithin};
+ghost use Rattle.fx_hint.specs.Limits.{max_points};
 ghost use Rattle.fx_winding.specs.Winding.{place_of, span_of};
 ghost use Rattle.fx_winding.specs.Outside.{AreOfOutline};
-ghost use Rattle.fx_contour.specs.Curve.{doubled as doubled_of, middle as middle_of, joint as joint_of, span_at, first_of, curve_of};
+ghost use Rattle.fx_contour.specs.Curve.{doubled_of, middle_of, joint_of, span_at, first_or, curve_of};
 ghost use Rattle.fx_fixed.specs.Chain.{GivesUnless};
-ghost use Rattle.fx_contour.specs.Contours.{spans_of, drawn_of, IsNear};
+ghost use Rattle.fx_contour.specs.Contours.{farthest, spans_of, drawn_of, IsInReach};
 ghost use Rattle.fx_contour.specs.Faults.{Fails};
 
 use crate::fault::ContourFault;
@@ -14,30 +16,33 @@ use fx_hint::{Outline, OutlinePoint};
 use fx_winding::{Piece, Pieces, Point};
 use std::alloc::{AllocError, Global};
 
-/// How far from the origin a coordinate may lie, in 26.6 pixels.
-const FARTHEST: i32 = 2_097_152;
+/// The greatest distance of a point from either axis, in 26.6 pixels.
+const FARTHEST: i32 = 1 << 21;
 
+/// Whether a coordinate is within the limit.
 fn is_within(z: F26) -> bool
-    ensures { IsTrue result ↔ IsWithin (2 ^ 21) z }
+    ensures { IsTrue result ↔ IsWithin farthest z }
 {
     -FARTHEST <= z.0 && z.0 <= FARTHEST
 }
 
-fn is_near(p: &OutlinePoint) -> bool
-    ensures { IsTrue result ↔ IsNear p.now }
+/// Whether a point is within the limit.
+fn is_in_reach(p: &OutlinePoint) -> bool
+    ensures { IsTrue result ↔ IsInReach p.now }
 {
     is_within(p.x) && is_within(p.y)
 }
 
-fn are_near(points: &[OutlinePoint]) -> bool
-    ensures { IsTrue result ↔ All IsNear points.now }
+/// Whether all points are within the limit.
+fn are_in_reach(points: &[OutlinePoint]) -> bool
+    ensures { IsTrue result ↔ All IsInReach points.now }
 {
-    points.iter().all(|p| is_near(p))
+    points.iter().all(|p| is_in_reach(p))
 }
 
 /// A coordinate in 1/128 pixel.
 fn twice(z: F26) -> i32
-    requires { IsWithin (2 ^ 21) z }
+    requires { IsWithin farthest z }
     ensures value { result ≡ pos 2 *ℤ z }
     ensures near { IsWithin (2 ^ 22) result }
 {
@@ -46,16 +51,17 @@ fn twice(z: F26) -> i32
 
 /// Half of a sum of two coordinates, in 1/128 pixel.
 fn half_sum(a: F26, b: F26) -> i32
-    requires near_a { IsWithin (2 ^ 21) a }
-    requires near_b { IsWithin (2 ^ 21) b }
+    requires near_a { IsWithin farthest a }
+    requires near_b { IsWithin farthest b }
     ensures value { result ≡ a +ℤ b }
     ensures near { IsWithin (2 ^ 22) result }
 {
     a.0 + b.0
 }
 
+/// A point in 1/128 pixel.
 fn doubled(p: &OutlinePoint) -> Point
-    requires { IsNear p.now }
+    requires { IsInReach p.now }
     ensures { place_of result ≡ doubled_of p.now }
 {
     Point {
@@ -66,8 +72,8 @@ fn doubled(p: &OutlinePoint) -> Point
 
 /// The midpoint, in 1/128 pixel.
 fn middle(p: &OutlinePoint, q: &OutlinePoint) -> Point
-    requires near_p { IsNear p.now }
-    requires near_q { IsNear q.now }
+    requires near_p { IsInReach p.now }
+    requires near_q { IsInReach q.now }
     ensures { place_of result ≡ middle_of p.now q.now }
 {
     Point {
@@ -78,8 +84,8 @@ fn middle(p: &OutlinePoint, q: &OutlinePoint) -> Point
 
 /// The place of the curve between two neighbours: at the first that is on it, else half way.
 fn joint(p: &OutlinePoint, q: &OutlinePoint) -> Point
-    requires near_p { IsNear p.now }
-    requires near_q { IsNear q.now }
+    requires near_p { IsInReach p.now }
+    requires near_q { IsInReach q.now }
     ensures { place_of result ≡ joint_of p.now q.now }
 {
     if p.on_curve {
@@ -93,9 +99,9 @@ fn joint(p: &OutlinePoint, q: &OutlinePoint) -> Point
 
 /// What a point q between its neighbours p and r adds.
 fn piece_at(p: &OutlinePoint, q: &OutlinePoint, r: &OutlinePoint) -> Option<Piece>
-    requires near_p { IsNear p.now }
-    requires near_q { IsNear q.now }
-    requires near_r { IsNear r.now }
+    requires near_p { IsInReach p.now }
+    requires near_q { IsInReach q.now }
+    requires near_r { IsInReach r.now }
     ensures { option_map span_of result ≡ span_at p.now q.now r.now }
 {
     if !q.on_curve {
@@ -115,8 +121,9 @@ fn piece_at(p: &OutlinePoint, q: &OutlinePoint, r: &OutlinePoint) -> Option<Piec
     None
 }
 
+/// Adds a piece, if there is one.
 fn push_some(made: &mut Pieces, piece: Option<Piece>) -> Result<(), AllocError>
-    requires { length made.old < 16384 }
+    requires { length made.old < max_points }
     ensures ok { OnOk result (made.new ≡ made.old ++ option_to_list piece) }
 {
     match piece {
@@ -126,13 +133,9 @@ fn push_some(made: &mut Pieces, piece: Option<Piece>) -> Result<(), AllocError>
 }
 
 /// The point after point i of a contour that begins with `first`.
-fn next_point<'p>(
-    points: &'p [OutlinePoint],
-    i: usize,
-    first: &'p OutlinePoint,
-) -> &'p OutlinePoint
+fn next_point<'p>(points: &'p [OutlinePoint], i: usize, first: &'p OutlinePoint) -> &'p OutlinePoint
     requires { i < length points.now }
-    ensures { result.now ≡ first_of (drop (i + 1) points.now) first.now }
+    ensures { result.now ≡ first_or (drop (i + 1) points.now) first.now }
 {
     if i + 1 < points.len() {
         return &points[i + 1];
@@ -140,9 +143,10 @@ fn next_point<'p>(
     first
 }
 
+/// Adds the pieces of a contour.
 fn add_contour(made: &mut Pieces, points: &[OutlinePoint]) -> Result<(), AllocError>
-    requires near { All IsNear points.now }
-    requires room { length made.old + length points.now ≤ 16384 }
+    requires near { All IsInReach points.now }
+    requires few { length made.old + length points.now ≤ max_points }
     ensures ok { OnOk result (map span_of made.new ≡ map span_of made.old ++ curve_of points.now) }
     ensures few { OnOk result (length made.new ≤ length made.old + length points.now) }
 {
@@ -160,6 +164,7 @@ fn add_contour(made: &mut Pieces, points: &[OutlinePoint]) -> Result<(), AllocEr
     Ok(())
 }
 
+/// The points of a contour, from `start` to the one before `next`.
 fn contour(points: &[OutlinePoint], start: usize, next: usize) -> &[OutlinePoint]
     requires order { start ≤ next }
     requires within { next ≤ length points.now }
@@ -169,15 +174,15 @@ fn contour(points: &[OutlinePoint], start: usize, next: usize) -> &[OutlinePoint
 }
 
 /// The pieces of an outline, in 1/128 pixel: those of each contour, a closed chain, one contour after the other. A contour of
-/// fewer than two points has none. `TooFar` where a point, of whatever contour, lies past ±2^21 in 26.6 pixels.
+/// fewer than two points has none. `TooFar` if a point, of any contour, lies more than `FARTHEST` from an axis.
 pub fn pieces(alloc: Global, outline: &Outline) -> Result<Pieces, ContourFault>
     ensures ok { IfOk result (λ ps. map span_of ps ≡ spans_of outline.now.ends.items outline.now.points.items) }
     ensures closed { IfOk result (λ ps. AreOfOutline (map span_of ps)) }
     ensures exact { GivesUnless Fails (map span_of) result (drawn_of outline.now.ends.items outline.now.points.items) }
-    ensures far { IsErrOf result ContourFault.TooFar ↔ ¬ (All IsNear outline.now.points.items) }
+    ensures far { IsErrOf result ContourFault.TooFar ↔ ¬ (All IsInReach outline.now.points.items) }
     ensures other { IfErr result (λ e. (e ≡ ContourFault.TooFar) ⊎ (e ≡ ContourFault.OutOfMemory)) }
 {
-    if !are_near(&outline.points) {
+    if !are_in_reach(&outline.points) {
         return Err(ContourFault::TooFar);
     }
     let mut made = Pieces::new(alloc);

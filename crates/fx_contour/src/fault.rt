@@ -1,4 +1,5 @@
 //! Why an outline has no pieces or no frame.
+
 ghost use Rattle.std.specs.Prelude.{◌≡◌};
 ghost use Rattle.fx_contour.specs.declared.fault.ContourFault.TheVariants.{OutOfMemory};
 
@@ -8,13 +9,13 @@ use thiserror::Error;
 /// Why an outline has no pieces or no frame.
 #[derive(Clone, Copy, Debug, PartialEq, Eq, Error)]
 pub enum ContourFault {
-    /// A point lies past ±2^21 in 26.6 pixels.
+    /// A point lies more than 2^21 from an axis, in 26.6 pixels.
     #[error("a point of the outline lies too far out")]
     TooFar,
     /// A side of the frame has more than 2,048 pixels.
     #[error("the frame has more than 2,048 pixels a side")]
     TooLarge,
-    /// There was no memory for the pieces.
+    /// Out of memory.
     #[error("out of memory")]
     OutOfMemory,
 }

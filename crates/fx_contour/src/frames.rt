@@ -1,8 +1,9 @@
 //! The box of pixels around pieces.
+
 ghost use Rattle.std.specs.Prelude.{◌≡◌, ◌↔◌, map, IfOk, IfErr, IsErrOf};
 ghost use Rattle.fx_fixed.specs.Chain.{map_ok};
 ghost use Rattle.fx_winding.specs.Winding.{span_of};
-ghost use Rattle.fx_contour.specs.Frames.{IsFrameFor, AreTooLarge, NothingOutside, framed_of};
+ghost use Rattle.fx_contour.specs.Frames.{IsFrameFor, AreTooLarge, NothingOutsideFrame, framed_of};
 
 use crate::bounds::Bounds;
 use crate::fault::ContourFault;
@@ -13,18 +14,19 @@ use fx_winding::{Frame, Piece, Pieces};
 const GREATEST_SIDE: u32 = 2048;
 
 /// The least box of pixels that holds every pixel whose centre lies in the closed bounding box of the points of the pieces,
-/// control points too; `None` where it holds no pixel, `TooLarge` past 2,048 pixels a side. A pixel outside it is not set.
+/// control points too; `None` if it holds no pixel, `TooLarge` past `GREATEST_SIDE` pixels a side. A pixel outside it is not set.
 pub fn frame(pieces: &Pieces) -> Result<Option<Frame>, ContourFault>
     ensures ok { IfOk result (λ f. IsFrameFor f (map span_of pieces.now)) }
-    ensures outside { IfOk result (λ f. NothingOutside f (map span_of pieces.now)) }
+    ensures outside { IfOk result (λ f. NothingOutsideFrame f (map span_of pieces.now)) }
     ensures too_large { IsErrOf result ContourFault.TooLarge ↔ AreTooLarge (map span_of pieces.now) }
     ensures fault { IfErr result (λ e. (e ≡ ContourFault.TooLarge) × AreTooLarge (map span_of pieces.now)) }
     ensures exact { map_ok (λ _. tt) result ≡ framed_of (map span_of pieces.now) }
 {
-    frame_of(pieces.as_slice())
+    frame_inner(pieces.as_slice())
 }
 
-fn frame_of(pieces: &[Piece]) -> Result<Option<Frame>, ContourFault>
+/// The same, with its clauses for each result.
+fn frame_inner(pieces: &[Piece]) -> Result<Option<Frame>, ContourFault>
     ensures ok { IfOk result (λ f. IsFrameFor f (map span_of pieces.now)) }
     ensures fault { IfErr result (λ e. (e ≡ ContourFault.TooLarge) × AreTooLarge (map span_of pieces.now)) }
 {

@@ -1,5 +1,5 @@
 //! Laws of the curve of a contour, over the definitions.
-ghost use Rattle.fx_contour.specs.Contours.{NearIsTested};
+ghost use Rattle.fx_contour.specs.Contours.{ReachIsTested};
 ghost use Rattle.fx_contour.specs.Curve.{CurvesAreClosed, CurveIsByMidpoints};
 ghost use Rattle.fx_contour.specs.Frames.{LargeIsTested};
 
@@ -14,8 +14,8 @@ pub fn by_midpoints()
     ensures { CurveIsByMidpoints }
 {}
 
-/// The tests of an outline's points and of the size of a frame decide the facts that they stand for.
+/// The test of an outline's points decides whether they are within the limit, and the test of a frame's size whether it is.
 pub fn tested()
-    ensures near { NearIsTested }
+    ensures near { ReachIsTested }
     ensures large { LargeIsTested }
 {}

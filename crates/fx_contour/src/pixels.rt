@@ -3,7 +3,7 @@ ghost use Rattle.std.specs.Prelude.{pos, ◌+ℤ◌, ◌≤ℤ◌, ◌<◌, ◌^
 ghost use Rattle.fx_fixed.specs.Ranges.{IsWithin};
 ghost use Rattle.fx_winding.specs.Limits.{IsPixelNumber};
 
-/// So many pixels in a row or a column, from the first on.
+/// `count` pixels in a row or a column, from the first on.
 #[derive(Clone, Copy)]
 pub(crate) struct Pixels {
     pub first: i32,

@@ -3,6 +3,7 @@ use crate::{frame, pieces};
 use fx_fixed::F26;
 use fx_hint::{Outline, OutlinePoint};
 use fx_winding::{Frame, Piece, Point};
+use std::test::Fail;
 
 fn point(x: i32, y: i32, on_curve: bool) -> OutlinePoint {
     OutlinePoint {
@@ -118,4 +119,24 @@ fn two_points_and_lone_points(rt: HostRuntime) {
     };
     let arcs = [[(0, 64), (384, 64), (0, 64)]];
     assert!(rt; makes(&rt, &outline, &arcs, (0, 0, 3, 1)));
+}
+
+#[test]
+fn pieces_of_16384_points(rt: HostRuntime) -> Result<(), Fail> {
+    let alloc = rt.alloc();
+    // One point many times over: its lines have no length.
+    let points = Vec::from_array(alloc, [point(64, 64, true); 16384])?;
+    let ends = Vec::from_array(alloc, [16383u16])?;
+    let outline = Outline {
+        points,
+        ends,
+        advance: F26(0),
+        strays: 0,
+        steps: 0,
+    };
+    let made = pieces(alloc, &outline)?;
+    assert_eq!(rt; made.len(), 16384);
+    let last = made.as_slice().last().copied();
+    assert_eq!(rt; last.map(|piece| place(piece.c)), Some((128, 128)));
+    Ok(())
 }

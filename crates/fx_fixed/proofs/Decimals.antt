@@ -1,4 +1,5 @@
 -- Digits that are put from the last to the first.
+-- For `Digits::unsigned` and `Digits::signed`, whose loops write from the end of a buffer.
 use Rattle.std.proofs.Common.{◌≡◌, ◌+◌, ◌-◌, ◌*◌, ◌/◌, ◌%◌, ◌^◌, ◌<◌, ◌≤◌, ◌++◌, ◌∷◌, [], zero, suc, length, drop, sym, ap, ◌∙◌, arith, List, ℕ, append_assoc, subst, lit<, ℤ, pos, negsuc, unsigned_abs, ◌<ℤ◌, ◌≤ℤ◌, FitsSigned, to_z, of_z, w32}
 use Rattle.std.proofs.lemmas.Int.{to_z-of_z}
 use Rattle.std.proofs.Math.Nat.{div-lt_iff_lt-mul, pow-suc, pow-zero}
@@ -8,63 +9,72 @@ use Rattle.std.proofs.lemmas.List.{drop-set}
 use Rattle.std.specs.Fmt.{decimal, signed_decimal}
 use Rattle.fx_fixed.proofs.Linear.{signed}
 
--- what stands from the place of the last write on
-pub put_here : (room : List ℕ) (at v : ℕ) → 0 < at → at ≤ length room → drop (at - 1) (set room (at - 1) v) ≡ v ∷ drop at room
-put_here room at v some within =
+-- the bytes from the offset of the last write on
+pub put_here : (buffer : List ℕ) (at v : ℕ) → 0 < at → at ≤ length buffer
+    → drop (at - 1) (set buffer (at - 1) v) ≡ v ∷ drop at buffer
+put_here buffer at v some within =
     let back : at - 1 + 1 ≡ at = omega arith in
-    drop-set room (at - 1) v (omega arith) ∙ ap (λ (i : ℕ). v ∷ drop i room) back
+    drop-set buffer (at - 1) v (omega arith) ∙ ap (λ (i : ℕ). v ∷ drop i buffer) back
 
--- there is room for the digits that are left
-pub room_left : (base left m at : ℕ) → 0 < base → at ≡ suc m → left < base ^ at → left / base < base ^ m
-room_left base left m at some e h =
+-- the digits that are left fit
+pub fits_left : (base left m at : ℕ) → 0 < base → at ≡ suc m → left < base ^ at → left / base < base ^ m
+fits_left base left m at some e h =
     let P : ℕ → Type 0 = λ n. left < base ^ n in
     let g : left < base ^ suc m = subst P e h in
     let Q : ℕ → Type 0 = λ n. left < n in
     (div-lt_iff_lt-mul some).1 (subst Q (pow-suc base m) g)
 
--- more than one digit is left, so there is room for more than one
-pub more_room : (base left m at : ℕ) → at ≡ suc m → base ≤ left → left < base ^ at → 0 < m
-more_room base left zero at e low h =
+-- more than one digit is left, so more than one fits
+pub fits_more : (base left m at : ℕ) → at ≡ suc m → base ≤ left → left < base ^ at → 0 < m
+fits_more base left zero at e low h =
     let P : ℕ → Type 0 = λ n. left < base ^ n in
     let g : left < base ^ suc zero = subst P e h in
     let Q : ℕ → Type 0 = λ n. left < n in
     let k = subst Q (pow-suc base zero) g in
     absurd (omega (arith, ap (λ (x : ℕ). x * base) (pow-zero base)))
-more_room base left (suc m) at e low h = omega arith
+fits_more base left (suc m) at e low h = omega arith
 
 -- one digit more was put
-pub digit_more : (n left at : ℕ) (room : List ℕ) → 0 < at → at ≤ length room → 10 ≤ left → left < 2 ^ 64 → decimal n ≡ decimal left ++ drop at room
-    → decimal n ≡ decimal (left / 10) ++ drop (at - 1) (set room (at - 1) (48 + left % 10))
-digit_more n left at room some within low high h =
-    h ∙ ap (λ (d : List ℕ). d ++ drop at room) (decimal_step left low high)
-    ∙ append_assoc (decimal (left / 10)) ((48 + left % 10) ∷ []) (drop at room)
-    ∙ ap (λ (d : List ℕ). decimal (left / 10) ++ d) (sym (put_here room at (48 + left % 10) some within))
+pub digit_more : (n left at : ℕ) (buffer : List ℕ) → 0 < at → at ≤ length buffer → 10 ≤ left → left < 2 ^ 64
+    → decimal n ≡ decimal left ++ drop at buffer
+    → decimal n ≡ decimal (left / 10) ++ drop (at - 1) (set buffer (at - 1) (48 + left % 10))
+digit_more n left at buffer some within low high h =
+    h ∙ ap (λ (d : List ℕ). d ++ drop at buffer) (decimal_step left low high)
+    ∙ append_assoc (decimal (left / 10)) ((48 + left % 10) ∷ []) (drop at buffer)
+    ∙ ap (λ (d : List ℕ). decimal (left / 10) ++ d) (sym (put_here buffer at (48 + left % 10) some within))
 
 -- the first digit was put
-pub digit_first : (n left at : ℕ) (room : List ℕ) → 0 < at → at ≤ length room → left < 10 → decimal n ≡ decimal left ++ drop at room
-    → drop (at - 1) (set room (at - 1) (48 + left)) ≡ decimal n
-digit_first n left at room some within low h =
-    put_here room at (48 + left) some within ∙ sym (h ∙ ap (λ (d : List ℕ). d ++ drop at room) (decimal_digit left low))
+pub digit_first : (n left at : ℕ) (buffer : List ℕ) → 0 < at → at ≤ length buffer → left < 10
+    → decimal n ≡ decimal left ++ drop at buffer
+    → drop (at - 1) (set buffer (at - 1) (48 + left)) ≡ decimal n
+digit_first n left at buffer some within low h =
+    put_here buffer at (48 + left) some within ∙ sym (h ∙ ap (λ (d : List ℕ). d ++ drop at buffer) (decimal_digit left low))
 
--- a number of at most 19 digits leaves room before them
-pub room_before : (n at : ℕ) (room : List ℕ) → length room ≡ 20 → drop at room ≡ decimal n → n < 10 ^ 19 → n < 2 ^ 64 → 0 < at
-room_before n zero room len is few small = let digits : length (decimal n) ≤ 19 = length-decimal-le 19 n (lit< tt) few small in absurd (omega (arith, ap length is))
-room_before n (suc at) room len is few small = omega arith
+-- a number of at most 19 digits leaves a byte before them
+pub fits_before : (n at : ℕ) (buffer : List ℕ) → length buffer ≡ 20 → drop at buffer ≡ decimal n → n < 10 ^ 19 → n < 2 ^ 64 → 0 < at
+fits_before n zero buffer len is few small =
+    let digits : length (decimal n) ≤ 19 = length-decimal-le 19 n (lit< tt) few small in absurd (omega (arith, ap length is))
+fits_before n (suc at) buffer len is few small = omega arith
 
 -- a signed number that was copied is the number
 pub copied : (z : ℤ) → FitsSigned w32 z → to_z w32 (of_z w32 z) ≡ z
 copied z fits = to_z-of_z w32 z fits
 
 -- its text is that of the number
-pub copied_text : {t v : List ℕ} {z : ℤ} → FitsSigned w32 z → t ≡ v → v ≡ signed_decimal (to_z w32 (of_z w32 z)) → t ≡ signed_decimal z
+pub copied_text : {t v : List ℕ} {z : ℤ} → FitsSigned w32 z → t ≡ v → v ≡ signed_decimal (to_z w32 (of_z w32 z))
+    → t ≡ signed_decimal z
 copied_text {t} {v} {z} fits e is = e ∙ is ∙ ap signed_decimal (copied z fits)
 
 -- the text of a number that is not below 0
-pub signed_above : (z : ℤ) (n : ℕ) → pos 0 ≤ℤ z → FitsSigned w32 z → n ≡ unsigned_abs (to_z w32 (of_z w32 z)) → decimal n ≡ signed_decimal z
+pub signed_above : (z : ℤ) (n : ℕ) → pos 0 ≤ℤ z → FitsSigned w32 z → n ≡ unsigned_abs (to_z w32 (of_z w32 z))
+    → decimal n ≡ signed_decimal z
 signed_above (pos n) k h fits is = ap decimal (is ∙ ap unsigned_abs (copied (pos n) fits))
 signed_above (negsuc n) k h fits is = absurd (omega (arith, signed))
 
 -- the text of a number below 0: its sign, and its size
-pub signed_below : (z : ℤ) (n at : ℕ) (room : List ℕ) → z <ℤ pos 0 → FitsSigned w32 z → n ≡ unsigned_abs (to_z w32 (of_z w32 z)) → 0 < at → at ≤ length room → drop at room ≡ decimal n → drop (at - 1) (set room (at - 1) 45) ≡ signed_decimal z
-signed_below (pos n) k at room h fits size some within is = absurd (omega (arith, signed))
-signed_below (negsuc n) k at room h fits size some within is = put_here room at 45 some within ∙ ap (λ (d : List ℕ). 45 ∷ d) (is ∙ ap decimal (size ∙ ap unsigned_abs (copied (negsuc n) fits)))
+pub signed_below : (z : ℤ) (n at : ℕ) (buffer : List ℕ) → z <ℤ pos 0 → FitsSigned w32 z → n ≡ unsigned_abs (to_z w32 (of_z w32 z))
+    → 0 < at → at ≤ length buffer → drop at buffer ≡ decimal n → drop (at - 1) (set buffer (at - 1) 45) ≡ signed_decimal z
+signed_below (pos n) k at buffer h fits size some within is = absurd (omega (arith, signed))
+signed_below (negsuc n) k at buffer h fits size some within is =
+    put_here buffer at 45 some within
+    ∙ ap (λ (d : List ℕ). 45 ∷ d) (is ∙ ap decimal (size ∙ ap unsigned_abs (copied (negsuc n) fits)))

@@ -1,4 +1,5 @@
 -- The greatest number of a kind: there is only one, halving finds it, and so does a search from above.
+-- For halving, and for the uniqueness of `unit`.
 use Rattle.std.proofs.Common.{◌≡◌, ◌≢◌, ℕ, zero, suc, ◌+◌, ◌<◌, ◌≤◌, Bool, true, false, cond, arith, refl, sym, ◌∙◌, ap}
 use Rattle.fx_fixed.specs.Greatest.{IsGreatestOrZero, greatest_passing}
 
@@ -11,8 +12,9 @@ greatest_below P (suc c) d g h = h.greatest (suc c) (g.member (omega arith))
 pub greatest_one : (P : ℕ → Type 0) (c d : ℕ) → IsGreatestOrZero P c → IsGreatestOrZero P d → c ≡ d
 greatest_one P c d g h = omega (arith, greatest_below P c d g h, greatest_below P d c h g)
 
--- halving has found it where the low end is of the kind, or 0, and the next number is past the whole kind
-pub greatest_between : (P : ℕ → Type 0) (low high : ℕ) → ((j k : ℕ) → 1 ≤ j → j ≤ k → P k → P j) → low < high → high ≤ low + 1 → (low ≢ 0 → P low) → (P high → ⊥) → IsGreatestOrZero P low
+-- halving has found it if the low end is of the kind, or 0, and the next number is past all of the kind
+pub greatest_between : (P : ℕ → Type 0) (low high : ℕ) → ((j k : ℕ) → 1 ≤ j → j ≤ k → P k → P j) → low < high → high ≤ low + 1
+    → (low ≢ 0 → P low) → (P high → ⊥) → IsGreatestOrZero P low
 greatest_between P low high falls order near below above = record {
   member = below;
   greatest = λ k a.
@@ -26,7 +28,8 @@ pub record Passing (test : ℕ → Bool) (n g : ℕ) : Type 0 where
   pub greatest : (k : ℕ) → 1 ≤ k → k ≤ n → test k ≡ true → k ≤ g
 
 -- one step of the search, by what the test says
-passing_step : (test : ℕ → Bool) (n g : ℕ) (b : Bool) → test (suc n) ≡ b → Passing test n g → Passing test (suc n) (cond b (suc n) g)
+passing_step : (test : ℕ → Bool) (n g : ℕ) (b : Bool) → test (suc n) ≡ b → Passing test n g
+    → Passing test (suc n) (cond b (suc n) g)
 passing_step test n g true e h = record { passes = λ z. e; greatest = λ k one l t. l }
 passing_step test n g false e h = record {
   passes = h.passes;

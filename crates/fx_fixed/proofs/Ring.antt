@@ -1,4 +1,5 @@
 -- Identities of polynomials: two expressions with one normal form have one value.
+-- For products of signed numbers, in all crates.
 use Rattle.std.proofs.Common.{◌≡◌, refl, sym, ap, ◌∙◌, subst, ℕ, zero, suc, ◌*◌, ℤ, pos, negsuc, ◌+ℤ◌, ◌-ℤ◌, ◌*ℤ◌, neg_ℤ, List, [], ◌∷◌, Bool, true, false, cond, ◌&&◌, eqb, leb, T, arith}
 use Rattle.std.proofs.lemmas.Int.{ints}
 use borrow.Author.Differences.{up, down, same_in, sum_is_lem, product_is}
@@ -69,29 +70,40 @@ with_var_is : (env : List ℤ) (v : ℕ) (m : List ℕ) → mono_value env (with
 with_var_is env v [] = refl
 with_var_is env v (w ∷ m) = by (with_var_is env v m) (leb v w)
   where
-    by : mono_value env (with_var v m) ≡ at env v *ℤ mono_value env m → (b : Bool) → mono_value env (cond b (v ∷ w ∷ m) (w ∷ with_var v m)) ≡ at env v *ℤ (at env w *ℤ mono_value env m)
+    by : mono_value env (with_var v m) ≡ at env v *ℤ mono_value env m → (b : Bool)
+        → mono_value env (cond b (v ∷ w ∷ m) (w ∷ with_var v m)) ≡ at env v *ℤ (at env w *ℤ mono_value env m)
     by ih true = refl
     by ih false = ap (λ z. at env w *ℤ z) ih ∙ swap (at env w) (at env v) (mono_value env m)
 
 mono_mul_is : (env : List ℤ) (m n : List ℕ) → mono_value env (mono_mul m n) ≡ mono_value env m *ℤ mono_value env n
 mono_mul_is env [] n = sym (one-*ℤ (mono_value env n))
-mono_mul_is env (v ∷ m) n = with_var_is env v (mono_mul m n) ∙ ap (λ z. at env v *ℤ z) (mono_mul_is env m n) ∙ sym (*ℤ_assoc (at env v) (mono_value env m) (mono_value env n))
+mono_mul_is env (v ∷ m) n =
+    with_var_is env v (mono_mul m n) ∙ ap (λ z. at env v *ℤ z) (mono_mul_is env m n)
+    ∙ sym (*ℤ_assoc (at env v) (mono_value env m) (mono_value env n))
 
-with_term_is : (env : List ℤ) (c : ℤ) (m : List ℕ) (p : Poly) → poly_value env (with_term c m p) ≡ c *ℤ mono_value env m +ℤ poly_value env p
+with_term_is : (env : List ℤ) (c : ℤ) (m : List ℕ) (p : Poly)
+    → poly_value env (with_term c m p) ≡ c *ℤ mono_value env m +ℤ poly_value env p
 with_term_is env c m nil = refl
 with_term_is env c m (term d n p) = by (with_term_is env c m p) (same_mono m n) refl
   where
-    by : poly_value env (with_term c m p) ≡ c *ℤ mono_value env m +ℤ poly_value env p → (b : Bool) → same_mono m n ≡ b → poly_value env (cond b (term (c +ℤ d) n p) (term d n (with_term c m p))) ≡ c *ℤ mono_value env m +ℤ (d *ℤ mono_value env n +ℤ poly_value env p)
+    by : poly_value env (with_term c m p) ≡ c *ℤ mono_value env m +ℤ poly_value env p → (b : Bool) → same_mono m n ≡ b
+        → poly_value env (cond b (term (c +ℤ d) n p) (term d n (with_term c m p))) ≡ c *ℤ mono_value env m +ℤ
+        (d *ℤ mono_value env n +ℤ poly_value env p)
     by ih true e =
-        ap (λ z. z +ℤ poly_value env p) (+ℤ-*ℤ c d (mono_value env n)) ∙ sym (assoc_sum (c *ℤ mono_value env n) (d *ℤ mono_value env n) (poly_value env p))
+        ap (λ z. z +ℤ poly_value env p) (+ℤ-*ℤ c d (mono_value env n))
+        ∙ sym (assoc_sum (c *ℤ mono_value env n) (d *ℤ mono_value env n) (poly_value env p))
         ∙ ap (λ k. c *ℤ mono_value env k +ℤ (d *ℤ mono_value env n +ℤ poly_value env p)) (sym (same_mono_is m n (subst T (sym e) tt)))
-    by ih false e = ap (λ z. d *ℤ mono_value env n +ℤ z) ih ∙ swap_sum (d *ℤ mono_value env n) (c *ℤ mono_value env m) (poly_value env p)
+    by ih false e = ap (λ z. d *ℤ mono_value env n +ℤ z) ih
+        ∙ swap_sum (d *ℤ mono_value env n) (c *ℤ mono_value env m) (poly_value env p)
 
 poly_add_is : (env : List ℤ) (p q : Poly) → poly_value env (poly_add p q) ≡ poly_value env p +ℤ poly_value env q
 poly_add_is env nil q = omega (arith, ints)
-poly_add_is env (term c m p) q = with_term_is env c m (poly_add p q) ∙ ap (λ z. c *ℤ mono_value env m +ℤ z) (poly_add_is env p q) ∙ assoc_sum (c *ℤ mono_value env m) (poly_value env p) (poly_value env q)
+poly_add_is env (term c m p) q =
+    with_term_is env c m (poly_add p q) ∙ ap (λ z. c *ℤ mono_value env m +ℤ z) (poly_add_is env p q)
+    ∙ assoc_sum (c *ℤ mono_value env m) (poly_value env p) (poly_value env q)
 
-poly_scale_is : (env : List ℤ) (c : ℤ) (m : List ℕ) (p : Poly) → poly_value env (poly_scale c m p) ≡ (c *ℤ mono_value env m) *ℤ poly_value env p
+poly_scale_is : (env : List ℤ) (c : ℤ) (m : List ℕ) (p : Poly)
+    → poly_value env (poly_scale c m p) ≡ (c *ℤ mono_value env m) *ℤ poly_value env p
 poly_scale_is env c m nil = sym (*ℤ_zero (c *ℤ mono_value env m))
 poly_scale_is env c m (term d n p) =
     (λ i. (c *ℤ d) *ℤ mono_mul_is env m n i +ℤ poly_scale_is env c m p i)
@@ -116,7 +128,8 @@ normal_is env (var n) = variable_is (at env n)
 normal_is env (num z) = number_is z
 normal_is env (a ⊞ b) = poly_add_is env (normal a) (normal b) ∙ (λ i. normal_is env a i +ℤ normal_is env b i)
 normal_is env (a ⊠ b) = poly_mul_is env (normal a) (normal b) ∙ (λ i. normal_is env a i *ℤ normal_is env b i)
-normal_is env (minus a) = poly_scale_is env (negsuc 0) [] (normal a) ∙ neg-*ℤ (poly_value env (normal a)) ∙ ap neg_ℤ (normal_is env a)
+normal_is env (minus a) =
+    poly_scale_is env (negsuc 0) [] (normal a) ∙ neg-*ℤ (poly_value env (normal a)) ∙ ap neg_ℤ (normal_is env a)
 
 all_zero_is : (env : List ℤ) (p : Poly) → T (all_zero p) → poly_value env p ≡ pos 0
 all_zero_is env nil t = refl
@@ -129,4 +142,5 @@ equal_from_difference a b h = omega (arith, ints)
 
 -- a ≡ b at any variables, where a - b has only zero coefficients: `ring env a b tt`
 pub ring : (env : List ℤ) (a b : Expr) → T (all_zero (normal (a ⊟ b))) → value env a ≡ value env b
-ring env a b t = equal_from_difference (value env a) (value env b) (sym (normal_is env (a ⊟ b)) ∙ all_zero_is env (normal (a ⊟ b)) t)
+ring env a b t =
+    equal_from_difference (value env a) (value env b) (sym (normal_is env (a ⊟ b)) ∙ all_zero_is env (normal (a ⊟ b)) t)

@@ -1,4 +1,5 @@
 -- A direction has one unit vector, and it is the function's.
+-- For `unit`, and the laws of its definitions.
 use Rattle.std.proofs.Common.{◌≡◌, ◌≢◌, ℕ, zero, suc, ◌-◌, ◌*◌, ◌<◌, ◌≤◌, Bool, true, false, cond, nat_eq, arith, ℤ, pos, negsuc, neg_ℤ, unsigned_abs, refl, sym, ◌∙◌}
 use Rattle.std.proofs.Math.Nat.{mul-le-mul_right, mul-le-mul}
 use Rattle.std.proofs.lemmas.Int.{ints, by_lt_z}
@@ -49,35 +50,71 @@ abs_neg : (m : ℕ) → unsigned_abs (neg_ℤ (pos m)) ≡ m
 abs_neg m = omega (arith, ints)
 
 component_is : (x : ℤ) (s : ℕ) → s ≢ 0 → unsigned_abs x * unsigned_abs x ≤ s → IsComponent x s (component_of x s)
-component_is (pos zero) s z h = record { size = size_is 0 s z h; not_negative = λ i. omega (arith, ints); not_positive = λ i. omega (arith, ints, none_at_zero s (component_size 0 s) z (size_is 0 s z h)) }
-component_is (pos (suc n)) s z h = record { size = size_is (suc n) s z h; not_negative = λ i. omega (arith, ints); not_positive = λ i. absurd (omega (arith, ints)) }
-component_is (negsuc n) s z h = record { size = rw (abs_neg (component_size (suc n) s)) (size_is (suc n) s z h); not_negative = λ i. absurd (omega (arith, ints)); not_positive = λ i. omega (arith, ints) }
+component_is (pos zero) s z h =
+    record {
+      size = size_is 0 s z h;
+      not_negative = λ i. omega (arith, ints);
+      not_positive = λ i. omega
+          (arith, ints, none_at_zero s (component_size 0 s) z (size_is 0 s z h));
+    }
+component_is (pos (suc n)) s z h =
+    record {
+      size = size_is (suc n) s z h;
+      not_negative = λ i. omega (arith, ints);
+      not_positive = λ i. absurd
+          (omega (arith, ints));
+    }
+component_is (negsuc n) s z h =
+    record {
+      size = rw (abs_neg (component_size (suc n) s)) (size_is (suc n) s z h);
+      not_negative = λ i. absurd
+          (omega (arith, ints));
+      not_positive = λ i. omega (arith, ints);
+    }
 
-unit_at : (x y : ℤ) (b : Bool) → nat_eq (square_length x y) 0 ≡ b → let w : ℤ × ℤ = cond b (pos 16384, pos 0) (component_of x (square_length x y), component_of y (square_length x y)) in IsUnit x y w.0 w.1
-unit_at x y true e = record { none = λ z. (refl, refl); horizontal = λ n. absurd (n (grind (arith, nat_tests))); vertical = λ n. absurd (n (grind (arith, nat_tests))) }
-unit_at x y false e = record { none = λ z. absurd (grind (arith, nat_tests)); horizontal = λ n. component_is x (square_length x y) n (omega arith); vertical = λ n. component_is y (square_length x y) n (omega arith) }
+unit_at : (x y : ℤ) (b : Bool) → nat_eq (square_length x y) 0 ≡ b → let w : ℤ
+    × ℤ = cond b (pos 16384, pos 0) (component_of x (square_length x y), component_of y (square_length x y)) in IsUnit x y w.0 w.1
+unit_at x y true e =
+    record {
+      none = λ z. (refl, refl);
+      horizontal = λ n. absurd (n (grind (arith, nat_tests)));
+      vertical = λ n. absurd
+          (n (grind (arith, nat_tests)));
+    }
+unit_at x y false e =
+    record {
+      none = λ z. absurd (grind (arith, nat_tests));
+      horizontal = λ n. component_is x (square_length x y) n
+          (omega arith);
+      vertical = λ n. component_is y (square_length x y) n (omega arith);
+    }
 
 pub unit_of_is_unit : UnitOfIsUnit
 unfolding unit_of
 unit_of_is_unit x y = unit_at x y (nat_eq (square_length x y) 0) refl
 
--- ---- one answer
+-- ---- one vector
 
 component_one : (x : ℤ) (s : ℕ) (u v : ℤ) → IsComponent x s u → IsComponent x s v → u ≡ v
 component_one x s u v g h =
     let P = Admits (unsigned_abs x) s in
     let below = greatest_below P (unsigned_abs u) (unsigned_abs v) g.size h.size in
     let above = greatest_below P (unsigned_abs v) (unsigned_abs u) h.size g.size in
-    by_lt_z x (pos 0) (λ l. omega (arith, ints, g.not_positive (omega (arith, ints)), h.not_positive (omega (arith, ints)))) (λ n. omega (arith, ints, g.not_negative (omega (arith, ints)), h.not_negative (omega (arith, ints))))
+    by_lt_z x (pos 0) (λ l. omega (arith, ints, g.not_positive (omega (arith, ints)), h.not_positive (omega (arith, ints))))
+    (λ n. omega (arith, ints, g.not_negative (omega (arith, ints)), h.not_negative (omega (arith, ints))))
 
-pub unit_one : (x y u v u' v' : ℤ) (z : Bool) → nat_eq (square_length x y) 0 ≡ z → IsUnit x y u v → IsUnit x y u' v' → (u ≡ u') × (v ≡ v')
+pub unit_one : (x y u v u' v' : ℤ) (z : Bool) → nat_eq (square_length x y) 0 ≡ z → IsUnit x y u v → IsUnit x y u' v'
+    → (u ≡ u') × (v ≡ v')
 unit_one x y u v u' v' true e g h =
     let z : square_length x y ≡ 0 = grind (arith, nat_tests) in
     ((g.none z).0 ∙ sym (h.none z).0, (g.none z).1 ∙ sym (h.none z).1)
 unit_one x y u v u' v' false e g h =
-    let n : square_length x y ≢ 0 = λ z. grind (arith, nat_tests) in
-    (component_one x (square_length x y) u u' (g.horizontal n) (h.horizontal n), component_one y (square_length x y) v v' (g.vertical n) (h.vertical n))
+    let n : square_length x y ≢ 0 = λ z. grind (arith, nat_tests) in (
+      component_one x (square_length x y) u u' (g.horizontal n) (h.horizontal n),
+      component_one y (square_length x y) v v'
+          (g.vertical n) (h.vertical n),
+    )
 
--- the unit vector is the function's answer
+-- the unit vector is the function's value
 pub same_unit : (x y u v : ℤ) → IsUnit x y u v → (u ≡ (unit_of x y).0) × (v ≡ (unit_of x y).1)
 same_unit x y u v h = unit_one x y u v (unit_of x y).0 (unit_of x y).1 (nat_eq (square_length x y) 0) refl h (unit_of_is_unit x y)

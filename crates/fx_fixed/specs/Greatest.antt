@@ -1,7 +1,7 @@
 -- The greatest number of a kind.
 use Rattle.std.specs.Prelude.{◌≢◌, ℕ, zero, suc, ◌≤◌, Bool, if◌then◌else◌}
 
--- c is the greatest number of which P holds, or 0 where it holds of none
+-- c is the greatest number of which P holds, or 0 if it holds of none
 pub record IsGreatestOrZero (P : ℕ → Type 0) (c : ℕ) : Type 0 where
   pub member : c ≢ 0 → P c
   pub greatest : (k : ℕ) → P k → k ≤ c

@@ -13,6 +13,6 @@ abbrev pub text_of : List (List (List ℕ)) → List ℕ
 text_of [] = []
 text_of (words ∷ lines) = line_before words (text_of lines)
 
--- a number in upper case hexadecimal digits, as many as it has, with zeros before them where it has fewer than so many
+-- a number in upper case hexadecimal digits, with zeros before them if it has fewer than `least`
 unfoldable pub hexadecimal : ℕ → ℕ → List ℕ
 hexadecimal least n = replicate (least - length (digits 16 true n)) 48 ++ digits 16 true n

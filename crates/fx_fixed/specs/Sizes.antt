@@ -1,4 +1,4 @@
--- The sizes at which strikes are made (this project's own limit).
+-- The sizes at which strikes are made (a limit of this project).
 use Rattle.std.specs.Prelude.{ℕ, ◌≤◌, ◌==◌, ◌||◌, nat_lt, if◌then◌else◌, Option, Some, None}
 
 -- the greatest size, in pixels per em

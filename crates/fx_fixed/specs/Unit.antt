@@ -1,5 +1,6 @@
--- The unit vector in 2.14 of a direction (this project's own choice of rounding).
+-- The unit vector in 2.14 of a direction (its rounding is a choice of this project).
 use Rattle.std.specs.Prelude.{◌≡◌, ℕ, suc, ◌+◌, ◌-◌, ◌*◌, ◌^◌, ◌≤◌, ◌≢◌, Bool, nat_le, ◌==◌, if◌then◌else◌, ℤ, pos, negsuc, neg_ℤ, ◌≤ℤ◌, unsigned_abs}
+use Rattle.fx_fixed.specs.Numbers.{one_in_2_14}
 use Rattle.fx_fixed.specs.Greatest.{IsGreatestOrZero, greatest_passing}
 
 -- c is no more than half a unit above the exact size of a component, at the squared length s
@@ -17,30 +18,32 @@ square_length x y = unsigned_abs x * unsigned_abs x + unsigned_abs y * unsigned_
 
 -- (u, v) is the unit vector of the direction (x, y), the x axis for no direction
 pub record IsUnit (x y u v : ℤ) : Type 0 where
-  pub none : square_length x y ≡ 0 → (u ≡ pos 16384) × (v ≡ pos 0)
+  pub none : square_length x y ≡ 0 → (u ≡ pos one_in_2_14) × (v ≡ pos 0)
   pub horizontal : square_length x y ≢ 0 → IsComponent x (square_length x y) u
   pub vertical : square_length x y ≢ 0 → IsComponent y (square_length x y) v
 
--- The same as a function, for definitions that name the answer.
+-- The same as a function, for definitions that name the vector.
 
 abbrev pub admits : ℕ → ℕ → ℕ → Bool
 admits coordinate s c = nat_le ((2 * c - 1) * (2 * c - 1) * s) (4 * 2 ^ 28 * (coordinate * coordinate))
 
 unfoldable pub component_size : ℕ → ℕ → ℕ
-component_size coordinate s = greatest_passing (admits coordinate s) 16384
+component_size coordinate s = greatest_passing (admits coordinate s) one_in_2_14
 
 abbrev pub component_of : ℤ → ℕ → ℤ
 component_of (pos n) s = pos (component_size n s)
 component_of (negsuc n) s = neg_ℤ (pos (component_size (suc n) s))
 
 unfoldable pub unit_of : ℤ → ℤ → ℤ × ℤ
-unit_of x y = if square_length x y == 0 then (pos 16384, pos 0) else (component_of x (square_length x y), component_of y (square_length x y))
+unit_of x y =
+    if square_length x y == 0 then (pos one_in_2_14, pos 0) else
+    (component_of x (square_length x y), component_of y (square_length x y))
 
 -- a direction has one unit vector
 abbrev pub UnitIsFunctional : Type 0
 UnitIsFunctional = (x y u v u' v' : ℤ) → IsUnit x y u v → IsUnit x y u' v' → (u ≡ u') × (v ≡ v')
 
--- unit_of is the answer of IsUnit
+-- unit_of is the value of IsUnit
 abbrev pub UnitOfIsUnit : Type 0
 UnitOfIsUnit = (x y : ℤ) → IsUnit x y (unit_of x y).0 (unit_of x y).1
 

@@ -1,4 +1,4 @@
-//! Numbers as text, in fixed room.
+//! Numbers as text, in a fixed buffer.
 
 ghost use Rattle.std.specs.Prelude.{◌≡◌, ◌<◌, ◌≤◌, ◌^◌, ◌-◌, ◌++◌, ℕ, List, true, length, drop, replicate};
 ghost use Rattle.std.specs.Fmt.{decimal, signed_decimal, digit_glyph, digits};
@@ -9,14 +9,14 @@ use std::marker::Model;
 /// A number's digits, seen as their text.
 #[derive(Drop)]
 pub struct Digits {
-    room: [u8; 20],
+    buffer: [u8; 20],
     at: usize,
 }
 
 impl Model for Digits {
     ghost Value = { List ℕ };
 
-    ghost view = { λ d. drop d.at d.room };
+    ghost view = { λ d. drop d.at d.buffer };
 
     ghost invariant = { λ d. d.at ≤ 20 };
 }
@@ -26,34 +26,34 @@ impl Digits {
     pub fn unsigned(number: u64) -> Digits
         ensures { result ≡ decimal number }
     {
-        let mut room = [0; 20];
-        let at = put_decimal(number, &mut room);
-        Digits { room, at }
+        let mut buffer = [0; 20];
+        let at = put_decimal(number, &mut buffer);
+        Digits { buffer, at }
     }
 
-    /// A signed number in decimal, with its sign where it is below 0.
+    /// A signed number in decimal, with its sign if it is below 0.
     pub fn signed(number: i32) -> Digits
         ensures { result ≡ signed_decimal number }
     {
-        let mut room = [0; 20];
-        let at = put_decimal(u64::from(number.unsigned_abs()), &mut room);
+        let mut buffer = [0; 20];
+        let at = put_decimal(u64::from(number.unsigned_abs()), &mut buffer);
         if number >= 0 {
-            return Digits { room, at };
+            return Digits { buffer, at };
         }
-        room[at - 1] = b'-';
-        Digits { room, at: at - 1 }
+        buffer[at - 1] = b'-';
+        Digits { buffer, at: at - 1 }
     }
 
-    /// A number in upper case hexadecimal digits, with zeros before them where it has fewer than so many.
+    /// A number in upper case hexadecimal digits, with zeros before them if it has fewer than `least`.
     #[tactic(auto, unfolding(crate::specs::Lines::hexadecimal))]
     pub fn hexadecimal(number: u64, least: usize) -> Digits
         requires { least ≤ 20 }
         ensures { result ≡ hexadecimal least number }
     {
-        let mut room = [0; 20];
-        let first = put_hexadecimal(number, &mut room);
-        let at = put_zeros(least, first, &mut room);
-        Digits { room, at }
+        let mut buffer = [0; 20];
+        let first = put_hexadecimal(number, &mut buffer);
+        let at = put_zeros(least, first, &mut buffer);
+        Digits { buffer, at }
     }
 
     /// The text.
@@ -61,56 +61,56 @@ impl Digits {
         ensures value { result.now ≡ self.now }
         ensures short { length result.now ≤ 20 }
     {
-        &self.room[self.at..]
+        &self.buffer[self.at..]
     }
 }
 
-// The digits of a number at the end of the room; answers where they begin.
-fn put_decimal(number: u64, room: &mut [u8; 20]) -> usize
+/// Writes the digits of a number at the end of the buffer, and returns the offset of the first.
+fn put_decimal(number: u64, buffer: &mut [u8; 20]) -> usize
     ensures within { result ≤ 20 }
-    ensures digits { drop result room.new ≡ decimal number }
+    ensures digits { drop result buffer.new ≡ decimal number }
     ensures before { number < 10 ^ 19 → 0 < result }
 {
     let mut at: usize = 20;
     let mut left = number;
     'digits: while left >= 10 {
         at -= 1;
-        room[at] = b'0' + (left % 10) as u8;
+        buffer[at] = b'0' + (left % 10) as u8;
         left /= 10;
     }
     at -= 1;
-    room[at] = b'0' + left as u8;
+    buffer[at] = b'0' + left as u8;
     at
 }
 
-// The same in base 16.
-fn put_hexadecimal(number: u64, room: &mut [u8; 20]) -> usize
+/// The same in base 16.
+fn put_hexadecimal(number: u64, buffer: &mut [u8; 20]) -> usize
     ensures within { result ≤ 20 }
-    ensures digits { drop result room.new ≡ digits 16 true number }
+    ensures digits { drop result buffer.new ≡ digits 16 true number }
 {
     let mut at: usize = 20;
     let mut left = number;
     'digits: while left >= 16 {
         at -= 1;
-        room[at] = hex_digit((left % 16) as u8);
+        buffer[at] = hex_digit((left % 16) as u8);
         left /= 16;
     }
     at -= 1;
-    room[at] = hex_digit(left as u8);
+    buffer[at] = hex_digit(left as u8);
     at
 }
 
-// Zeros before what stands at the end of the room, so that there is so much; answers where it begins then.
-fn put_zeros(least: usize, first: usize, room: &mut [u8; 20]) -> usize
+/// Writes zeros before the digits from `first` on, so that there are `least` in all, and returns the offset of the first.
+fn put_zeros(least: usize, first: usize, buffer: &mut [u8; 20]) -> usize
     requires some { least ≤ 20 }
     requires within { first ≤ 20 }
     ensures within { result ≤ 20 }
-    ensures zeros { drop result room.new ≡ replicate (least - length (drop first room.old)) 48 ++ drop first room.old }
+    ensures zeros { drop result buffer.new ≡ replicate (least - length (drop first buffer.old)) 48 ++ drop first buffer.old }
 {
     let mut at = first;
     'zeros: while 20 - at < least {
         at -= 1;
-        room[at] = b'0';
+        buffer[at] = b'0';
     }
     at
 }

@@ -11,6 +11,7 @@ mod numbers;
 mod places;
 mod sink;
 mod sizes;
+mod slices;
 mod source;
 mod vectors;
 
@@ -22,6 +23,7 @@ pub use numbers::{
 pub use places::{Axis, Place};
 pub use sink::{Sink, ToSink, WriteFailed, put_all, put_part};
 pub use sizes::{MAX_PPEM, Ppem};
+pub use slices::{after, before, part};
 pub use source::{FromReader, Source};
 pub use vectors::{unit, unit_laws};
 

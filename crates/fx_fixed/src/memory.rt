@@ -1,21 +1,22 @@
-// A sink and a source in memory, for tests of what is written and read.
+//! A sink and a source in memory, for tests of what is written and read.
+
 ghost use Rattle.std.specs.Prelude.{◌≡◌, ◌+◌, ◌<◌, ◌≤◌, ◌^◌, [], length, drop, IfOk, IfSome, Some};
-ghost use Rattle.fx_fixed.specs.Memory.{room_of};
+ghost use Rattle.fx_fixed.specs.Memory.{capacity_of};
 
 use super::sink::Sink;
 use super::source::Source;
 use std::alloc::{AllocError, Global};
 
-/// How far a sink or a source in memory goes.
+/// The limits of a sink or a source in memory.
 #[derive(Clone, Copy, Debug, PartialEq, Eq)]
 pub struct Limits {
-    /// Each call is at fault once so many bytes were moved.
+    /// Each call is at fault once this number of bytes was moved.
     pub bytes: usize,
 
     /// The most bytes that one call moves; at 0 each call is at fault.
     pub step: usize,
 
-    /// One call is at fault, the first when so many bytes were moved.
+    /// One call is at fault, the first after this number of bytes was moved.
     pub hiccup: Option<usize>,
 }
 
@@ -27,7 +28,7 @@ impl Limits {
         hiccup: None,
     };
 
-    // How many of the bytes asked for the next call may move, behind so many; none at a fault.
+    /// The number of bytes that the next call may move, of those asked for, after `done` bytes; none at a fault.
     fn moved(&mut self, done: usize, asked: usize) -> Option<usize>
         ensures most { IfSome result (λ n. n ≤ asked) }
         ensures some { IfSome result (λ n. 0 < asked → 0 < n) }
@@ -36,43 +37,43 @@ impl Limits {
             self.hiccup = None;
             return None;
         }
-        let room = self.bytes.saturating_sub(done).min(self.step).min(asked);
-        if room == 0 && asked > 0 {
+        let most = self.bytes.saturating_sub(done).min(self.step).min(asked);
+        if most == 0 && asked > 0 {
             None
         } else {
-            Some(room)
+            Some(most)
         }
     }
 }
 
-/// A sink that holds what it took. Want of memory is a fault too.
+/// A sink that holds what it took. To be out of memory is a fault too.
 #[derive(Drop)]
 pub struct MemorySink {
     bytes: Vec<u8>,
     faults: u64,
 
-    /// How far it goes.
+    /// Its limits.
     pub limits: Limits,
 }
 
 impl MemorySink {
-    /// An empty sink, with room for so many bytes made beforehand.
-    pub fn new(alloc: Global, room: usize, limits: Limits) -> Result<MemorySink, AllocError>
+    /// An empty sink that holds `capacity` bytes before it has to grow.
+    pub fn new(alloc: Global, capacity: usize, limits: Limits) -> Result<MemorySink, AllocError>
         ensures held { IfOk result (λ s. ⟦<MemorySink as Sink>⟧.held s ≡ Some []) }
         ensures faults { IfOk result (λ s. ⟦<MemorySink as Sink>⟧.fault_count s ≡ 0) }
         ensures limits { IfOk result (λ s. s.limits ≡ limits) }
-        ensures room { IfOk result (λ s. room_of s ≡ room) }
+        ensures capacity { IfOk result (λ s. capacity_of s ≡ capacity) }
     {
         Ok(MemorySink {
-            bytes: Vec::with_capacity(alloc, room)?,
+            bytes: Vec::with_capacity(alloc, capacity)?,
             faults: 0,
             limits,
         })
     }
 
-    /// How many bytes it holds before it has to grow.
-    pub fn room(&self) -> usize
-        ensures { result ≡ room_of self.now }
+    /// The number of bytes that it holds before it has to grow.
+    pub fn capacity(&self) -> usize
+        ensures { result ≡ capacity_of self.now }
     {
         self.bytes.capacity()
     }
@@ -112,7 +113,7 @@ pub struct MemorySource<'a> {
     done: usize,
     faults: u64,
 
-    /// How far it goes.
+    /// Its limits.
     pub limits: Limits,
 }
 
@@ -137,14 +138,14 @@ impl<'a> Source for MemorySource<'a> {
 
     ghost fault_count = { λ s. s.faults };
 
-    fn take(&mut self, room: &mut [u8]) -> Option<usize> {
-        let Some(most) = self.limits.moved(self.done, room.len()) else {
+    fn take(&mut self, buffer: &mut [u8]) -> Option<usize> {
+        let Some(most) = self.limits.moved(self.done, buffer.len()) else {
             self.faults += 1;
             return None;
         };
         let n = most.min(self.left.len());
         let (front, rest) = self.left.split_at(n);
-        room[..n].copy_from_slice(front);
+        buffer[..n].copy_from_slice(front);
         self.left = rest;
         self.done = self.done.saturating_add(n);
         Some(n)

@@ -1,4 +1,5 @@
-// Exact numbers made whole.
+//! Numbers in 26.6 and 2.14, and the rounding of exact numbers.
+
 ghost use Rattle.std.specs.Prelude.{◌≡◌, ◌≢◌, ◌+◌, ◌*◌, ◌/◌, ◌^◌, ◌≤◌, pos, unsigned_abs};
 ghost use Rattle.fx_fixed.specs.Numbers.{IsNear, IsCut, IsWrapped, Nearest, Cut, Wrapped, NearIsFunctional, CutIsFunctional, WrappedIsFunctional, NearOfIsNear, CutOfIsCut, WrappedOfIsWrapped, near_of, cut_of, wrapped_of, sum_of, difference_of};
 
@@ -49,7 +50,7 @@ impl Model for F2 {
 }
 
 impl F2 {
-    /// 1.0.
+    /// 1.0, as `one_in_2_14` of the definitions.
     pub const ONE: F2 = F2(16384);
 }
 
@@ -66,7 +67,7 @@ pub fn near(n: i128, d: i128) -> i128
     nearest(n, d)
 }
 
-// The sign and the size apart.
+/// The quotient by its sign and its size.
 fn nearest(n: i128, d: i128) -> i128
     requires nonzero { d ≢ pos 0 }
     requires size { unsigned_abs n ≤ 2 ^ 100 }
@@ -77,7 +78,7 @@ fn nearest(n: i128, d: i128) -> i128
     if (n < 0) == (d < 0) { size } else { -size }
 }
 
-// The same of sizes.
+/// The same of sizes.
 fn nearest_size(n: u128, d: u128) -> u128
     requires nonzero { d ≢ 0 }
     requires size { n ≤ 2 ^ 100 }
@@ -99,6 +100,7 @@ pub fn cut(n: i128, d: i128) -> i128
     quotient(n, d)
 }
 
+/// The quotient of the language.
 fn quotient(n: i128, d: i128) -> i128
     requires nonzero { d ≢ pos 0 }
     requires size { unsigned_abs n ≤ 2 ^ 100 }
@@ -117,6 +119,7 @@ pub fn w32(n: i128) -> i32
     wrapped(n)
 }
 
+/// The remainder, from -2^31 on.
 fn wrapped(n: i128) -> i32
     ensures { IsWrapped n result }
 {
@@ -156,7 +159,7 @@ pub fn near_16384(n: i64) -> i64
     }
 }
 
-/// `near`, `cut` and `w32` each have one answer.
+/// `near`, `cut` and `w32` each have one value.
 pub fn rounding_laws()
     ensures near { NearIsFunctional }
     ensures cut { CutIsFunctional }

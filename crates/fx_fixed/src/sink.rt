@@ -1,4 +1,5 @@
-// Where bytes go.
+//! Sinks of bytes.
+
 ghost use Rattle.std.specs.Prelude.{◌≡◌, ℕ, ◌+◌, ◌^◌, ◌<◌, ◌≤◌, List, Option, take, length, IfSome, OnSome, IfNone};
 ghost use Rattle.std.specs.Io.KnownBytes.{Appends, Keeps};
 ghost use Rattle.std.specs.List.{flat_map};
@@ -7,14 +8,14 @@ ghost use Rattle.fx_fixed.specs.Wrote.{Wrote, WrotePart};
 use std::io::Write;
 use thiserror::Error;
 
-/// A sink was at fault after it had taken so many bytes of what one call gave it.
+/// A sink was at fault after it had taken this number of bytes of what one call gave it.
 #[derive(Clone, Copy, Debug, PartialEq, Eq, Error)]
 #[error("the writer failed after {0} bytes")]
 pub struct WriteFailed(pub u64);
 
 /// Takes bytes, and counts the calls that took none for a fault.
 pub trait Sink {
-    // The bytes that it holds, where they are known.
+    // The bytes that it holds, if they are known.
     ghost held: { Self → Option (List ℕ) };
 
     // The faults so far.
@@ -72,7 +73,7 @@ impl<W: Write> Sink for ToSink<W> {
     }
 }
 
-// Appends one piece, behind so many bytes of the call; answers how many there are then.
+/// Appends one piece, after `done` bytes of the call, and returns the number of bytes then.
 fn put_piece<W: Sink>(out: &mut W, done: u64, piece: &[u8]) -> Result<u64, WriteFailed>
     requires faults { W.fault_count out.old < 2 ^ 63 }
     requires fits { done + length piece.now < 2 ^ 64 }
@@ -92,7 +93,8 @@ fn put_piece<W: Sink>(out: &mut W, done: u64, piece: &[u8]) -> Result<u64, Write
 pub fn put_all<W: Sink>(out: &mut W, pieces: &[&[u8]]) -> Result<(), WriteFailed>
     requires faults { W.fault_count out.old < 2 ^ 63 }
     requires fits { length (flat_map (λ p. p.now) pieces.now) < 2 ^ 64 }
-    ensures { Wrote (W.held out.old) (W.held out.new) (W.fault_count out.old) (W.fault_count out.new) (flat_map (λ p. p.now) pieces.now) result }
+    ensures { Wrote (W.held out.old) (W.held out.new) (W.fault_count out.old) (W.fault_count out.new)
+        (flat_map (λ p. p.now) pieces.now) result }
 {
     let mut done = 0;
     'pieces: for piece in pieces {
@@ -101,7 +103,7 @@ pub fn put_all<W: Sink>(out: &mut W, pieces: &[&[u8]]) -> Result<(), WriteFailed
     Ok(())
 }
 
-// How many bytes some pieces have.
+/// The number of bytes of some pieces.
 fn size(pieces: &[&[u8]]) -> u64
     requires { length (flat_map (λ p. p.now) pieces.now) < 2 ^ 64 }
     ensures { result ≡ length (flat_map (λ p. p.now) pieces.now) }
@@ -113,12 +115,13 @@ fn size(pieces: &[&[u8]]) -> u64
     sum
 }
 
-/// Appends several pieces as a part of a text, behind so many bytes of it; answers how many there are then. A fault's number
-/// counts from the text's first byte.
+/// Appends several pieces as a part of a text, after `done` bytes of it, and returns the number of bytes then. A fault's
+/// number counts from the text's first byte.
 pub fn put_part<W: Sink>(out: &mut W, done: u64, pieces: &[&[u8]]) -> Result<u64, WriteFailed>
     requires faults { W.fault_count out.old < 2 ^ 63 }
     requires fits { done + length (flat_map (λ p. p.now) pieces.now) < 2 ^ 64 }
-    ensures { WrotePart (W.held out.old) (W.held out.new) (W.fault_count out.old) (W.fault_count out.new) done (flat_map (λ p. p.now) pieces.now) result }
+    ensures { WrotePart (W.held out.old) (W.held out.new) (W.fault_count out.old) (W.fault_count out.new) done
+        (flat_map (λ p. p.now) pieces.now) result }
 {
     match put_all(out, pieces) {
         Ok(()) => Ok(done + size(pieces)),

@@ -57,7 +57,7 @@ fn numbers_as_text(rt: HostRuntime) -> Result<(), Fail> {
     Ok(())
 }
 
-// Sends 13 bytes in three pieces, one of them empty; answers how it went and the faults.
+// Sends 13 bytes in three pieces, one of them empty; returns how it went and the faults.
 fn send<W: Sink>(rt: &impl Abort, out: &mut W) -> (Result<(), WriteFailed>, u64) {
     assert!(rt; out.faults() < 100);
     let sent = put_all(out, &[b"STARTFONT ", b"", b"2.1"]);
@@ -140,22 +140,22 @@ impl Read for Broken {
 
 #[test]
 fn sources_give_and_fail(rt: HostRuntime) -> Result<(), Fail> {
-    let mut room = [0u8; 4];
+    let mut buffer = [0u8; 4];
     let mut broken = FromReader::new(Broken);
-    assert_eq!(rt; (broken.take(&mut room), broken.faults()), (None, 1));
+    assert_eq!(rt; (broken.take(&mut buffer), broken.faults()), (None, 1));
     let limits = Limits {
         bytes: 5,
         step: 3,
         hiccup: None,
     };
     let mut source = MemorySource::new(b"F1.ttf", limits);
-    assert_eq!(rt; source.take(&mut room), Some(3));
-    assert_eq!(rt; source.take(&mut room), Some(2));
-    assert!(rt; room == *b"tt.\0");
-    assert_eq!(rt; (source.take(&mut room), source.faults()), (None, 1));
+    assert_eq!(rt; source.take(&mut buffer), Some(3));
+    assert_eq!(rt; source.take(&mut buffer), Some(2));
+    assert!(rt; buffer == *b"tt.\0");
+    assert_eq!(rt; (source.take(&mut buffer), source.faults()), (None, 1));
     let mut whole = MemorySource::new(b"F1", Limits::NONE);
     assert_eq!(rt;
-        (whole.take(&mut room), whole.take(&mut room)),
+        (whole.take(&mut buffer), whole.take(&mut buffer)),
         (Some(2), Some(0))
     );
     Ok(())

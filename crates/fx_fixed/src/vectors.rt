@@ -1,4 +1,5 @@
-// Unit vectors.
+//! Unit vectors.
+
 ghost use Rattle.std.specs.Prelude.{◌≡◌, ◌≢◌, ◌↔◌, ◌+◌, ◌*◌, ◌^◌, ◌<◌, ◌≤◌, IsTrue, unsigned_abs};
 ghost use Rattle.fx_fixed.specs.Ranges.{IsWithin};
 ghost use Rattle.fx_fixed.specs.Greatest.{IsGreatestOrZero};
@@ -18,7 +19,7 @@ pub fn unit(dx: i32, dy: i32) -> (F2, F2)
     direction(dx, dy)
 }
 
-// By the inequalities.
+/// The unit vector, by the inequalities.
 fn direction(dx: i32, dy: i32) -> (F2, F2)
     ensures unit { IsUnit dx dy result.0 result.1 }
     ensures within { IsWithin 16384 result.0 × IsWithin 16384 result.1 }
@@ -32,7 +33,7 @@ fn direction(dx: i32, dy: i32) -> (F2, F2)
     (F2(component(dx, square)), F2(component(dy, square)))
 }
 
-// The squared length.
+/// The squared length.
 fn squares(x: u64, y: u64) -> u64
     requires x_size { x ≤ 2 ^ 31 }
     requires y_size { y ≤ 2 ^ 31 }
@@ -42,7 +43,7 @@ fn squares(x: u64, y: u64) -> u64
     x * x + y * y
 }
 
-// One component, at a squared length.
+/// One component, at a squared length.
 fn component(coordinate: i32, square: u64) -> i16
     requires positive { square ≢ 0 }
     requires bound { square ≤ 2 ^ 63 }
@@ -54,7 +55,7 @@ fn component(coordinate: i32, square: u64) -> i16
     if coordinate < 0 { -size } else { size }
 }
 
-// The greatest size that is admitted, by halving.
+/// The greatest size that is admitted, by halving.
 fn greatest(coordinate: u32, square: u64) -> u16
     requires positive { square ≢ 0 }
     requires bound { square ≤ 2 ^ 63 }
@@ -75,7 +76,7 @@ fn greatest(coordinate: u32, square: u64) -> u16
     low
 }
 
-// Whether a size is admitted.
+/// Whether a size is admitted.
 fn is_admitted(coordinate: u32, square: u64, size: u16) -> bool
     requires positive { 0 < size }
     requires size { size ≤ 16384 }

@@ -1,4 +1,5 @@
 -- End points, one at a time, and what they tell.
+-- For `count_points`, and for `Simple::ends`.
 use Rattle.std.proofs.Common.{◌≡◌, ℕ, suc, ◌+◌, ◌<◌, ◌≤◌, Bool, true, false, List, [], ◌∷◌, drop, cond, Option, Some, None, refl, ap, ◌∙◌}
 use Rattle.std.proofs.lemmas.Bool.{lt-ltb, le-ltb, ltb-false}
 use Rattle.std.proofs.lemmas.Option.{same_Some, none-some}
@@ -7,21 +8,29 @@ use Rattle.byteorder.specs.Endian.{big_number}
 use Rattle.fx_glyf.specs.Words.{words, count_from}
 use Rattle.fx_glyf.specs.Grammar.{AreEnds}
 
-pub ends_step : (start n m : ℕ) (bytes : List ℕ) → n ≡ suc m → count_from start (words n bytes) ≡ cond (nat_lt (big_number 2 bytes + 1) start) None (count_from (big_number 2 bytes + 1) (words m (drop 2 bytes)))
+pub ends_step : (start n m : ℕ) (bytes : List ℕ) → n ≡ suc m
+    → count_from start (words n bytes) ≡ cond (nat_lt (big_number 2 bytes + 1) start) None
+    (count_from (big_number 2 bytes + 1) (words m (drop 2 bytes)))
 unfolding count_from words
 ends_step start n m bytes e = ap (λ (k : ℕ). count_from start (words k bytes)) e
 
-pub ends_fall : (start n m : ℕ) (bytes : List ℕ) → n ≡ suc m → big_number 2 bytes + 1 < start → count_from start (words n bytes) ≡ None
-ends_fall start n m bytes e h = ends_step start n m bytes e ∙ ap (λ (b : Bool). cond b None (count_from (big_number 2 bytes + 1) (words m (drop 2 bytes)))) (lt-ltb _ _ h)
+pub ends_fall : (start n m : ℕ) (bytes : List ℕ) → n ≡ suc m → big_number 2 bytes + 1 < start
+    → count_from start (words n bytes) ≡ None
+ends_fall start n m bytes e h =
+    ends_step start n m bytes e
+    ∙ ap (λ (b : Bool). cond b None (count_from (big_number 2 bytes + 1) (words m (drop 2 bytes)))) (lt-ltb _ _ h)
 
-pub ends_more : (start n m : ℕ) (bytes : List ℕ) → n ≡ suc m → start ≤ big_number 2 bytes + 1 → count_from start (words n bytes) ≡ count_from (big_number 2 bytes + 1) (words m (drop 2 bytes))
-ends_more start n m bytes e h = ends_step start n m bytes e ∙ ap (λ (b : Bool). cond b None (count_from (big_number 2 bytes + 1) (words m (drop 2 bytes)))) (le-ltb _ _ h)
+pub ends_more : (start n m : ℕ) (bytes : List ℕ) → n ≡ suc m → start ≤ big_number 2 bytes + 1
+    → count_from start (words n bytes) ≡ count_from (big_number 2 bytes + 1) (words m (drop 2 bytes))
+ends_more start n m bytes e h =
+    ends_step start n m bytes e
+    ∙ ap (λ (b : Bool). cond b None (count_from (big_number 2 bytes + 1) (words m (drop 2 bytes)))) (le-ltb _ _ h)
 
 pub ends_none : (start n : ℕ) (bytes : List ℕ) → n ≡ 0 → count_from start (words n bytes) ≡ Some start
 unfolding count_from words
 ends_none start n bytes e = ap (λ (k : ℕ). count_from start (words k bytes)) e
 
--- a value behind a test that went on
+-- a value after a test that continued
 pub guarded : {X : Type 0} (b : Bool) (o : Option X) (y : X) → cond b None o ≡ Some y → (b ≡ false) × (o ≡ Some y)
 guarded {X} true o y e = absurd (none-some _ e)
 guarded {X} false o y e = (refl, e)

@@ -5,4 +5,4 @@ pub mod Parts
 pub mod PointsDescribed
 pub mod PartsDescribed
 pub mod Programs
-pub mod Whole
+pub mod Described

@@ -1,10 +1,11 @@
--- When the points of a glyph are all there.
+-- When the bytes of a glyph's points are complete.
+-- For `Outline::read` and what it keeps.
 use Rattle.std.proofs.Common.{◌≡◌, ℕ, zero, suc, List, [], ◌∷◌, length, Option, Some, None, refl, sym, ap, ◌∙◌, arith}
 use Rattle.std.proofs.lemmas.Option.{option_and_then_some, same_Some}
 use Rattle.std.specs.Prelude.{option_map, option_and_then}
 use Rattle.fx_glyf.specs.declared.point.Point.{Point}
 use Rattle.fx_glyf.specs.Words.{list_in, with_front}
-use Rattle.fx_glyf.specs.Points.{Cursor, x_short, x_same, y_short, y_same, next_flag, flags_from, delta_of, deltas_from, points_of, outline_of, start, seen}
+use Rattle.fx_glyf.specs.Points.{Cursor, x_short_vector, x_is_same_or_positive_x_short_vector, y_short_vector, y_is_same_or_positive_y_short_vector, next_flag, flags_from, delta_of, deltas_from, points_of, glyph_points_of, start, points_seen}
 use Rattle.fx_glyf.proofs.Steps.{front_is}
 
 pub known : {X : Type 0} (o : Option (List X × List ℕ)) (r : List ℕ) → Some r ≡ option_map (λ p. p.1) o → o ≡ Some (list_in o, r)
@@ -20,41 +21,59 @@ abbrev pub of_ys : List ℕ → List ℕ → List ℕ × List ℕ → Option (Li
 of_ys fs dxs ys = Some (points_of fs dxs ys.0 0 0)
 
 abbrev pub of_xs : List ℕ → List ℕ × List ℕ → Option (List Point)
-of_xs fs xs = option_and_then (of_ys fs xs.0) (deltas_from y_short y_same fs xs.1)
+of_xs fs xs = option_and_then (of_ys fs xs.0) (deltas_from y_short_vector y_is_same_or_positive_y_short_vector fs xs.1)
 
 abbrev pub of_flags : List ℕ × List ℕ → Option (List Point)
-of_flags fs = option_and_then (of_xs fs.0) (deltas_from x_short x_same fs.0 fs.1)
+of_flags fs = option_and_then (of_xs fs.0) (deltas_from x_short_vector x_is_same_or_positive_x_short_vector fs.0 fs.1)
 
-pub outline_is : (n : ℕ) (bytes : List ℕ) → outline_of n bytes ≡ option_and_then of_flags (flags_from n (start bytes))
-unfolding outline_of
+pub outline_is : (n : ℕ) (bytes : List ℕ) → glyph_points_of n bytes ≡ option_and_then of_flags (flags_from n (start bytes))
+unfolding glyph_points_of
 outline_is n bytes = refl
 
-pub no_flags : (n : ℕ) (bytes : List ℕ) → None ≡ option_map (λ p. p.1) (flags_from n (start bytes)) → None ≡ outline_of n bytes
+pub no_flags : (n : ℕ) (bytes : List ℕ) → None ≡ option_map (λ p. p.1) (flags_from n (start bytes)) → None ≡ glyph_points_of n bytes
 no_flags n bytes e = sym (outline_is n bytes ∙ ap (option_and_then of_flags) (unknown _ e))
 
-pub after_flags : (n : ℕ) (bytes xs : List ℕ) → Some xs ≡ option_map (λ p. p.1) (flags_from n (start bytes)) → outline_of n bytes ≡ of_flags (list_in (flags_from n (start bytes)), xs)
+pub after_flags : (n : ℕ) (bytes xs : List ℕ) → Some xs ≡ option_map (λ p. p.1) (flags_from n (start bytes))
+    → glyph_points_of n bytes ≡ of_flags (list_in (flags_from n (start bytes)), xs)
 after_flags n bytes xs e = outline_is n bytes ∙ ap (option_and_then of_flags) (known _ xs e)
 
-pub no_xs : (n : ℕ) (bytes xs : List ℕ) → Some xs ≡ option_map (λ p. p.1) (flags_from n (start bytes)) → None ≡ option_map (λ p. p.1) (deltas_from x_short x_same (list_in (flags_from n (start bytes))) xs) → None ≡ outline_of n bytes
-no_xs n bytes xs e f = sym (after_flags n bytes xs e ∙ ap (option_and_then (of_xs (list_in (flags_from n (start bytes))))) (unknown _ f))
+pub no_xs : (n : ℕ) (bytes xs : List ℕ) → Some xs ≡ option_map (λ p. p.1) (flags_from n (start bytes))
+    → None ≡ option_map (λ p. p.1) (deltas_from x_short_vector x_is_same_or_positive_x_short_vector
+    (list_in (flags_from n (start bytes))) xs)
+    → None ≡ glyph_points_of n bytes
+no_xs n bytes xs e f =
+    sym (after_flags n bytes xs e ∙ ap (option_and_then (of_xs (list_in (flags_from n (start bytes))))) (unknown _ f))
 
-pub after_xs : (n : ℕ) (bytes xs ys : List ℕ) → Some xs ≡ option_map (λ p. p.1) (flags_from n (start bytes)) → Some ys ≡ option_map (λ p. p.1) (deltas_from x_short x_same (list_in (flags_from n (start bytes))) xs)
-    → outline_of n bytes ≡ of_xs (list_in (flags_from n (start bytes))) (list_in (deltas_from x_short x_same (list_in (flags_from n (start bytes))) xs), ys)
-after_xs n bytes xs ys e f = after_flags n bytes xs e ∙ ap (option_and_then (of_xs (list_in (flags_from n (start bytes))))) (known _ ys f)
+pub after_xs : (n : ℕ) (bytes xs ys : List ℕ) → Some xs ≡ option_map (λ p. p.1) (flags_from n (start bytes))
+    → Some ys ≡ option_map (λ p. p.1) (deltas_from x_short_vector x_is_same_or_positive_x_short_vector
+    (list_in (flags_from n (start bytes))) xs)
+    → glyph_points_of n bytes ≡ of_xs (list_in (flags_from n (start bytes)))
+    (list_in (deltas_from x_short_vector x_is_same_or_positive_x_short_vector (list_in (flags_from n (start bytes))) xs), ys)
+after_xs n bytes xs ys e f =
+    after_flags n bytes xs e ∙ ap (option_and_then (of_xs (list_in (flags_from n (start bytes))))) (known _ ys f)
 
-pub no_ys : (n : ℕ) (bytes xs ys : List ℕ) → Some xs ≡ option_map (λ p. p.1) (flags_from n (start bytes)) → Some ys ≡ option_map (λ p. p.1) (deltas_from x_short x_same (list_in (flags_from n (start bytes))) xs)
-    → None ≡ option_map (λ p. p.1) (deltas_from y_short y_same (list_in (flags_from n (start bytes))) ys) → None ≡ outline_of n bytes
+pub no_ys : (n : ℕ) (bytes xs ys : List ℕ) → Some xs ≡ option_map (λ p. p.1) (flags_from n (start bytes))
+    → Some ys ≡ option_map (λ p. p.1) (deltas_from x_short_vector x_is_same_or_positive_x_short_vector
+    (list_in (flags_from n (start bytes))) xs)
+    → None ≡ option_map (λ p. p.1) (deltas_from y_short_vector y_is_same_or_positive_y_short_vector
+    (list_in (flags_from n (start bytes))) ys) → None ≡ glyph_points_of n bytes
 no_ys n bytes xs ys e f g = sym (after_xs n bytes xs ys e f ∙ ap (option_and_then (of_ys _ _)) (unknown _ g))
 
-pub all_there : (n : ℕ) (bytes xs ys rest : List ℕ) → Some xs ≡ option_map (λ p. p.1) (flags_from n (start bytes)) → Some ys ≡ option_map (λ p. p.1) (deltas_from x_short x_same (list_in (flags_from n (start bytes))) xs)
-    → Some rest ≡ option_map (λ p. p.1) (deltas_from y_short y_same (list_in (flags_from n (start bytes))) ys) → Some (seen (list_in (flags_from n (start bytes))) xs ys 0 0) ≡ outline_of n bytes
+pub all_there : (n : ℕ) (bytes xs ys rest : List ℕ) → Some xs ≡ option_map (λ p. p.1) (flags_from n (start bytes))
+    → Some ys ≡ option_map (λ p. p.1) (deltas_from x_short_vector x_is_same_or_positive_x_short_vector
+    (list_in (flags_from n (start bytes))) xs)
+    → Some rest ≡ option_map (λ p. p.1) (deltas_from y_short_vector y_is_same_or_positive_y_short_vector
+    (list_in (flags_from n (start bytes))) ys)
+    → Some (points_seen (list_in (flags_from n (start bytes))) xs ys 0 0) ≡ glyph_points_of n bytes
 all_there n bytes xs ys rest e f g = sym (after_xs n bytes xs ys e f ∙ ap (option_and_then (of_ys _ _)) (known _ rest g))
 
 -- the same of equal flags
-pub at_flags : (short same : ℕ) (fs gs bytes : List ℕ) (o : Option (List ℕ)) → fs ≡ gs → o ≡ option_map (λ p. p.1) (deltas_from short same fs bytes) → o ≡ option_map (λ p. p.1) (deltas_from short same gs bytes)
-at_flags short same fs gs bytes o e h = h ∙ ap (λ (hs : List ℕ). option_map (λ (p : List ℕ × List ℕ). p.1) (deltas_from short same hs bytes)) e
+pub at_flags : (short same : ℕ) (fs gs bytes : List ℕ) (o : Option (List ℕ)) → fs ≡ gs
+    → o ≡ option_map (λ p. p.1) (deltas_from short same fs bytes) → o ≡ option_map (λ p. p.1) (deltas_from short same gs bytes)
+at_flags short same fs gs bytes o e h =
+    h ∙ ap (λ (hs : List ℕ). option_map (λ (p : List ℕ × List ℕ). p.1) (deltas_from short same hs bytes)) e
 
--- so many flags, deltas and points are read
+-- as many flags, deltas and points are read as asked for
 flags_count : (n : ℕ) (c : Cursor) (fs rest : List ℕ) → flags_from n c ≡ Some (fs, rest) → length fs ≡ n
 unfolding flags_from
 flags_count zero c fs rest e = ap length (sym (ap (λ (r : List ℕ × List ℕ). r.0) (same_Some _ _ e)))
@@ -63,27 +82,34 @@ flags_count (suc n) c fs rest e =
     let f = front_is d.flag _ fs rest w in
     ap length f.2 ∙ ap suc (flags_count n d f.0 rest f.1))
 
-deltas_count : (short same : ℕ) (fs bytes ds rest : List ℕ) → deltas_from short same fs bytes ≡ Some (ds, rest) → length ds ≡ length fs
+deltas_count : (short same : ℕ) (fs bytes ds rest : List ℕ) → deltas_from short same fs bytes ≡ Some (ds, rest)
+    → length ds ≡ length fs
 unfolding deltas_from
 deltas_count short same [] bytes ds rest e = ap length (sym (ap (λ (r : List ℕ × List ℕ). r.0) (same_Some _ _ e)))
 deltas_count short same (f ∷ fs) bytes ds rest e =
-    option_and_then_some (λ (d : ℕ × List ℕ). with_front d.0 (deltas_from short same fs d.1)) (delta_of short same f bytes) (ds, rest) e (λ d q w.
+    option_and_then_some (λ (d : ℕ × List ℕ). with_front d.0 (deltas_from short same fs d.1)) (delta_of short same f bytes)
+    (ds, rest) e (λ d q w.
     let g = front_is d.0 _ ds rest w in
     ap length g.2 ∙ ap suc (deltas_count short same fs d.1 g.0 rest g.1))
 
-points_count : (fs dxs dys : List ℕ) (x y : ℕ) → length dxs ≡ length fs → length dys ≡ length fs → length (points_of fs dxs dys x y) ≡ length fs
+points_count : (fs dxs dys : List ℕ) (x y : ℕ) → length dxs ≡ length fs → length dys ≡ length fs
+    → length (points_of fs dxs dys x y) ≡ length fs
 unfolding points_of
 points_count [] dxs dys x y h k = refl
 points_count (f ∷ fs) [] dys x y h k = absurd (omega arith)
 points_count (f ∷ fs) (dx ∷ dxs) [] x y h k = absurd (omega arith)
 points_count (f ∷ fs) (dx ∷ dxs) (dy ∷ dys) x y h k = ap suc (points_count fs dxs dys _ _ (omega arith) (omega arith))
 
-pub outline_count : (count : ℕ) (bytes : List ℕ) (points : List Point) → outline_of count bytes ≡ Some points → length points ≡ count
-unfolding outline_of
+pub outline_count : (count : ℕ) (bytes : List ℕ) (points : List Point) → glyph_points_of count bytes ≡ Some points
+    → length points ≡ count
+unfolding glyph_points_of
 outline_count count bytes points e =
     option_and_then_some of_flags (flags_from count (start bytes)) points e (λ fs qf wf.
-    option_and_then_some (of_xs fs.0) (deltas_from x_short x_same fs.0 fs.1) points wf (λ xs qx wx.
-    option_and_then_some (of_ys fs.0 xs.0) (deltas_from y_short y_same fs.0 xs.1) points wx (λ ys qy wy.
+    option_and_then_some (of_xs fs.0) (deltas_from x_short_vector x_is_same_or_positive_x_short_vector fs.0 fs.1) points wf
+    (λ xs qx wx.
+    option_and_then_some (of_ys fs.0 xs.0) (deltas_from y_short_vector y_is_same_or_positive_y_short_vector fs.0 xs.1) points wx
+    (λ ys qy wy.
     ap length (sym (same_Some _ _ wy))
-    ∙ points_count fs.0 xs.0 ys.0 0 0 (deltas_count x_short x_same fs.0 fs.1 xs.0 xs.1 qx) (deltas_count y_short y_same fs.0 xs.1 ys.0 ys.1 qy)
+    ∙ points_count fs.0 xs.0 ys.0 0 0 (deltas_count x_short_vector x_is_same_or_positive_x_short_vector fs.0 fs.1 xs.0 xs.1 qx)
+    (deltas_count y_short_vector y_is_same_or_positive_y_short_vector fs.0 xs.1 ys.0 ys.1 qy)
     ∙ flags_count count (start bytes) fs.0 fs.1 qf)))

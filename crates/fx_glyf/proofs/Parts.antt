@@ -1,4 +1,5 @@
 -- Component records, one at a time.
+-- For `next_part`, `skip_parts` and the iterator `Components`.
 use Rattle.std.proofs.Common.{◌≡◌, ℕ, zero, suc, ◌+◌, ◌-◌, ◌<◌, ◌≤◌, Bool, true, false, List, [], ◌∷◌, length, take, drop, Option, Some, None, refl, sym, ap, ◌∙◌, arith, length-drop}
 use Rattle.std.specs.Prelude.{IsSome, option_map, option_and_then, ◌||◌}
 use Rattle.std.proofs.lemmas.Option.{same_Some}
@@ -10,7 +11,7 @@ use Rattle.byteorder.specs.Numbers.{big_from-take}
 use Rattle.fx_sfnt.specs.Fields.{field}
 use Rattle.fx_glyf.specs.declared.part.Part.{Part}
 use Rattle.fx_glyf.specs.Words.{has, with_front, list_in}
-use Rattle.fx_glyf.specs.Components.{part_size, part_of, next_part, is_followed, parts_from, parts_in, has_program, instructions}
+use Rattle.fx_glyf.specs.Components.{part_size, part_of, next_part, is_followed, parts_from, parts_in, has_program, we_have_instructions}
 use Rattle.fx_glyf.proofs.EndPoints.{guarded}
 use Rattle.fx_glyf.proofs.Steps.{Stepped, stepped, none_absurd}
 
@@ -24,7 +25,7 @@ field-taken at m bytes h =
 
 -- what the next component is, and what is left
 pub record Next (bytes : List ℕ) (d : Part × List ℕ) : Type 0 where
-  pub room : part_size (field 2 bytes 0) ≤ length bytes
+  pub inside : part_size (field 2 bytes 0) ≤ length bytes
   pub part : d.0 ≡ part_of (take (part_size (field 2 bytes 0)) bytes)
   pub rest : d.1 ≡ drop (part_size (field 2 bytes 0)) bytes
 
@@ -35,7 +36,7 @@ next_is bytes d e =
     let b = guarded _ _ _ a.1 in
     let q = same_Some _ _ b.1 in
     record {
-      room = ltb-false _ _ b.0;
+      inside = ltb-false _ _ b.0;
       part = sym (ap (λ (x : Part × List ℕ). x.0) q);
       rest = sym (ap (λ (x : Part × List ℕ). x.1) q);
     }
@@ -46,9 +47,10 @@ shorter bytes d e =
     let n = next_is bytes d e in
     let size = part_size (field 2 bytes 0) in
     let four : 4 ≤ part_size (field 2 bytes 0) = omega arith in
-    omega (arith, n.room, four, ap length n.rest, length-drop (part_size (field 2 bytes 0)) bytes)
+    omega (arith, n.inside, four, ap length n.rest, length-drop (part_size (field 2 bytes 0)) bytes)
 
-step_same : {X Y : Type 0} (o : Option X) (f g : X → Option Y) → ((x : X) → o ≡ Some x → f x ≡ g x) → option_and_then f o ≡ option_and_then g o
+step_same : {X Y : Type 0} (o : Option X) (f g : X → Option Y) → ((x : X) → o ≡ Some x → f x ≡ g x)
+    → option_and_then f o ≡ option_and_then g o
 step_same None f g h = refl
 step_same (Some x) f g h = h x refl
 
@@ -56,23 +58,25 @@ step_none : {X Y : Type 0} (o : Option X) (f : X → Option Y) → ((x : X) → 
 step_none None f h = refl
 step_none (Some x) f h = absurd (h x refl)
 
--- a component, and those that follow it in so much room
-abbrev in_room : ℕ → Part × List ℕ → Option (List Part × List ℕ)
-in_room room d = with_front d.0 (parts_from (is_followed d.0) room d.1)
+-- a component, and those that follow it, at most `most` of them
+abbrev within_most : ℕ → Part × List ℕ → Option (List Part × List ℕ)
+within_most most d = with_front d.0 (parts_from (is_followed d.0) most d.1)
 
--- there is no component where there is no byte
-none_there : (f : Part × List ℕ → Option (List Part × List ℕ)) (bytes : List ℕ) → length bytes ≤ 0 → option_and_then f (next_part bytes) ≡ None
+-- there is no component without a byte
+none_there : (f : Part × List ℕ → Option (List Part × List ℕ)) (bytes : List ℕ) → length bytes ≤ 0
+    → option_and_then f (next_part bytes) ≡ None
 none_there f bytes h = step_none (next_part bytes) f (λ d e. let s = shorter bytes d e in omega arith)
 
--- more room than there are bytes changes nothing
-room_enough : (more : Bool) (n m : ℕ) (bytes : List ℕ) → length bytes ≤ n → length bytes ≤ m → parts_from more n bytes ≡ parts_from more m bytes
+-- a bound above the number of bytes changes nothing
+room_enough : (more : Bool) (n m : ℕ) (bytes : List ℕ) → length bytes ≤ n → length bytes ≤ m
+    → parts_from more n bytes ≡ parts_from more m bytes
 unfolding parts_from
 room_enough false n m bytes h k = refl
 room_enough true zero zero bytes h k = refl
-room_enough true zero (suc m) bytes h k = sym (none_there (in_room m) bytes h)
-room_enough true (suc n) zero bytes h k = none_there (in_room n) bytes k
+room_enough true zero (suc m) bytes h k = sym (none_there (within_most m) bytes h)
+room_enough true (suc n) zero bytes h k = none_there (within_most n) bytes k
 room_enough true (suc n) (suc m) bytes h k =
-    step_same (next_part bytes) (in_room n) (in_room m) (λ d e.
+    step_same (next_part bytes) (within_most n) (within_most m) (λ d e.
     let s = shorter bytes d e in
     ap (with_front d.0) (room_enough (is_followed d.0) n m d.1 (omega arith) (omega arith)))
 
@@ -85,12 +89,13 @@ pub parts_step : (bytes : List ℕ) → parts_in true bytes ≡ option_and_then 
 unfolding parts_from
 parts_step [] = sym (none_there and_rest [] (omega arith))
 parts_step (b ∷ bytes) =
-    step_same (next_part (b ∷ bytes)) (in_room (length bytes)) and_rest (λ d e.
+    step_same (next_part (b ∷ bytes)) (within_most (length bytes)) and_rest (λ d e.
     let s = shorter (b ∷ bytes) d e in
     ap (with_front d.0) (room_enough (is_followed d.0) (length bytes) (length d.1) d.1 (omega arith) (omega arith)))
 
 -- the next component is d's
-pub parts_at : (bytes : List ℕ) (p : Part) (rest : List ℕ) → Some (p, rest) ≡ next_part bytes → parts_in true bytes ≡ with_front p (parts_in (is_followed p) rest)
+pub parts_at : (bytes : List ℕ) (p : Part) (rest : List ℕ) → Some (p, rest) ≡ next_part bytes
+    → parts_in true bytes ≡ with_front p (parts_in (is_followed p) rest)
 parts_at bytes p rest e = parts_step bytes ∙ ap (option_and_then and_rest) (sym e)
 
 -- there is no next component
@@ -102,27 +107,35 @@ pub parts_done : (bytes : List ℕ) → parts_in false bytes ≡ Some ([], bytes
 unfolding parts_from
 parts_done bytes = refl
 
--- the next component is passed: what was announced before, and what stands behind the rest
+-- the next component is passed: what was announced before, and what comes after the rest
 abbrev pub ending_with : Bool → List Part × List ℕ → Bool × List ℕ
 ending_with announced parts = (announced || has_program parts.0, parts.1)
 
-ending_front : (announced : Bool) (p : Part) (o : Option (List Part × List ℕ)) → option_map (ending_with (announced || has p.flags instructions)) o ≡ option_map (ending_with announced) (with_front p o)
+ending_front : (announced : Bool) (p : Part) (o : Option (List Part × List ℕ))
+    → option_map (ending_with (announced || has p.flags we_have_instructions)) o ≡ option_map (ending_with announced)
+    (with_front p o)
 ending_front announced p None = refl
-ending_front announced p (Some r) = ap (λ (b : Bool). Some (b, r.1)) (or_assoc announced (has p.flags instructions) (has_program r.0))
+ending_front announced p (Some r) =
+    ap (λ (b : Bool). Some (b, r.1)) (or_assoc announced (has p.flags we_have_instructions) (has_program r.0))
 
-pub parts_passed : (announced more : Bool) (bytes : List ℕ) (p : Part) (rest : List ℕ) (says after : Bool) → more ≡ true → Some (p, rest) ≡ next_part bytes → says ≡ has p.flags instructions → after ≡ is_followed p
+pub parts_passed : (announced more : Bool) (bytes : List ℕ) (p : Part) (rest : List ℕ) (says after : Bool) → more ≡ true
+    → Some (p, rest) ≡ next_part bytes → says ≡ has p.flags we_have_instructions → after ≡ is_followed p
     → option_map (ending_with (announced || says)) (parts_in after rest) ≡ option_map (ending_with announced) (parts_in more bytes)
 parts_passed announced more bytes p rest says after m e s a =
     ap (λ (b : Bool). option_map (ending_with (announced || b)) (parts_in after rest)) s
-    ∙ ap (λ (b : Bool). option_map (ending_with (announced || has p.flags instructions)) (parts_in b rest)) a
+    ∙ ap (λ (b : Bool). option_map (ending_with (announced || has p.flags we_have_instructions)) (parts_in b rest)) a
     ∙ ending_front announced p _
-    ∙ sym (ap (λ (b : Bool). option_map (ending_with announced) (parts_in b bytes)) m ∙ ap (option_map (ending_with announced)) (parts_at bytes p rest e))
+    ∙ sym (ap (λ (b : Bool). option_map (ending_with announced) (parts_in b bytes)) m
+    ∙ ap (option_map (ending_with announced)) (parts_at bytes p rest e))
 
-pub parts_stopped : (announced more : Bool) (bytes : List ℕ) → more ≡ true → None ≡ next_part bytes → None ≡ option_map (ending_with announced) (parts_in more bytes)
+pub parts_stopped : (announced more : Bool) (bytes : List ℕ) → more ≡ true → None ≡ next_part bytes
+    → None ≡ option_map (ending_with announced) (parts_in more bytes)
 parts_stopped announced more bytes m e =
-    sym (ap (λ (b : Bool). option_map (ending_with announced) (parts_in b bytes)) m ∙ ap (option_map (ending_with announced)) (parts_short bytes e))
+    sym (ap (λ (b : Bool). option_map (ending_with announced) (parts_in b bytes)) m
+    ∙ ap (option_map (ending_with announced)) (parts_short bytes e))
 
-pub parts_ended : (announced more : Bool) (bytes : List ℕ) → more ≡ false → Some (announced, bytes) ≡ option_map (ending_with announced) (parts_in more bytes)
+pub parts_ended : (announced more : Bool) (bytes : List ℕ) → more ≡ false
+    → Some (announced, bytes) ≡ option_map (ending_with announced) (parts_in more bytes)
 parts_ended announced more bytes m =
     sym (ap (λ (b : Bool). option_map (ending_with announced) (parts_in b bytes)) m
     ∙ ap (option_map (ending_with announced)) (parts_done bytes) ∙ ap (λ (b : Bool). Some (b, bytes)) (or-false announced))
@@ -131,18 +144,21 @@ parts_ended announced more bytes m =
 pub parts_none : (more : Bool) (bytes : List ℕ) → more ≡ false → list_in (parts_in more bytes) ≡ []
 parts_none more bytes m = ap (λ (b : Bool). list_in (parts_in b bytes)) m ∙ ap list_in (parts_done bytes)
 
--- what holds where one component was taken
-pub part_stepped : (more : Bool) (bytes : List ℕ) (p : Part) (rest : List ℕ) (after : Bool) → more ≡ true → Some (p, rest) ≡ next_part bytes → after ≡ is_followed p → IsSome (parts_in more bytes)
+-- what holds after one component was taken
+pub part_stepped : (more : Bool) (bytes : List ℕ) (p : Part) (rest : List ℕ) (after : Bool) → more ≡ true
+    → Some (p, rest) ≡ next_part bytes → after ≡ is_followed p → IsSome (parts_in more bytes)
     → Stepped (parts_in more bytes) (parts_in after rest) p
 part_stepped more bytes p rest after m e a h =
-    stepped _ _ _ (ap (λ (b : Bool). parts_in b bytes) m ∙ parts_at bytes p rest e ∙ ap (λ (b : Bool). with_front p (parts_in b rest)) (sym a)) h
+    stepped _ _ _ (ap (λ (b : Bool). parts_in b bytes) m ∙ parts_at bytes p rest e
+    ∙ ap (λ (b : Bool). with_front p (parts_in b rest)) (sym a)) h
 
--- a component is there where it is to come
+-- a component is found if one is to come
 pub part_there : (more : Bool) (bytes : List ℕ) → more ≡ true → None ≡ next_part bytes → IsSome (parts_in more bytes) → ⊥
 part_there more bytes m e h = none_absurd _ (ap (λ (b : Bool). parts_in b bytes) m ∙ parts_short bytes e) h
 
 -- the bytes of a component are those of its flags
-pub part_taken : (n : ℕ) (bytes taken : List ℕ) → n ≡ part_size (field 2 bytes 0) → n ≤ length bytes → taken ≡ take n bytes → part_size (field 2 taken 0) ≤ length taken
+pub part_taken : (n : ℕ) (bytes taken : List ℕ) → n ≡ part_size (field 2 bytes 0) → n ≤ length bytes → taken ≡ take n bytes
+    → part_size (field 2 taken 0) ≤ length taken
 part_taken n bytes taken e h t =
     let four : 2 ≤ part_size (field 2 bytes 0) = omega arith in
     let same : field 2 taken 0 ≡ field 2 bytes 0 = ap (λ (xs : List ℕ). field 2 xs 0) t ∙ field-taken 0 n bytes (omega arith) in

@@ -1,4 +1,5 @@
 -- Reading component records against the grammar, both ways.
+-- For the clauses of `read` on composites.
 use Rattle.std.proofs.Common.{◌≡◌, ℕ, zero, suc, ◌+◌, ◌≤◌, Bool, true, false, List, [], ◌∷◌, ◌++◌, length, take, drop, cond, Some, None, refl, sym, ap, ◌∙◌, arith, subst, append_assoc, length-append}
 use Rattle.std.specs.Prelude.{option_and_then, nat_lt}
 use Rattle.std.proofs.lemmas.Option.{option_and_then_some, same_Some, none-some}
@@ -50,26 +51,39 @@ record Found (more : Bool) (bytes : List ℕ) (ps : List Part) (rest : List ℕ)
   spells : SpellsParts ps front
   follow : Follow more ps
 
-found_in : (more : Bool) (room : ℕ) (bytes : List ℕ) (ps : List Part) (rest : List ℕ) → parts_from more room bytes ≡ Some (ps, rest) → Found more bytes ps rest
+found_in : (more : Bool) (most : ℕ) (bytes : List ℕ) (ps : List Part) (rest : List ℕ) → parts_from more most bytes ≡ Some (ps, rest)
+    → Found more bytes ps rest
 unfolding parts_from
-found_in false room bytes ps rest e =
+found_in false most bytes ps rest e =
     let q = same_Some _ _ e in
     let P : List Part × List ℕ → Type 0 = λ r. Found false bytes r.0 r.1 in
     subst P q (record { front = []; split = refl; spells = refl; follow = refl })
 found_in true zero bytes ps rest e = absurd (none-some _ e)
-found_in true (suc room) bytes ps rest e =
-    option_and_then_some (λ (d : Part × List ℕ). with_front d.0 (parts_from (is_followed d.0) room d.1)) (next_part bytes) (ps, rest) e (λ d q w.
+found_in true (suc most) bytes ps rest e =
+    option_and_then_some (λ (d : Part × List ℕ). with_front d.0 (parts_from (is_followed d.0) most d.1)) (next_part bytes)
+    (ps, rest) e (λ d q w.
     let n = next_is bytes d q in
     let f = front_is d.0 _ ps rest w in
-    let i = found_in (is_followed d.0) room d.1 f.0 rest f.1 in
+    let i = found_in (is_followed d.0) most d.1 f.0 rest f.1 in
     let size = part_size (field 2 bytes 0) in
     let four : 2 ≤ part_size (field 2 bytes 0) = omega arith in
-    let flags : d.0.flags ≡ field 2 bytes 0 = ap (λ (p : Part). p.flags) n.part ∙ part_flags (take (part_size (field 2 bytes 0)) bytes) ∙ field-taken 0 (part_size (field 2 bytes 0)) bytes (omega arith) in
+    let flags : d.0.flags ≡ field 2 bytes 0 = ap (λ (p : Part). p.flags) n.part
+    ∙ part_flags (take (part_size (field 2 bytes 0)) bytes) ∙ field-taken 0 (part_size (field 2 bytes 0)) bytes (omega arith) in
     let P : List Part → Type 0 = λ qs. Found true bytes qs rest in
     subst P (sym f.2) (record {
       front = take (part_size (field 2 bytes 0)) bytes ++ i.front;
-      split = sym (take-append-drop (part_size (field 2 bytes 0)) bytes) ∙ ap (λ (x : List ℕ). take (part_size (field 2 bytes 0)) bytes ++ x) (sym n.rest ∙ i.split) ∙ sym (append_assoc (take (part_size (field 2 bytes 0)) bytes) i.front rest);
-      spells = (take (part_size (field 2 bytes 0)) bytes, i.front, refl, length-take-le (part_size (field 2 bytes 0)) bytes n.room ∙ ap part_size (sym flags), n.part, i.spells);
+      split = sym (take-append-drop (part_size (field 2 bytes 0)) bytes)
+          ∙ ap (λ (x : List ℕ). take (part_size (field 2 bytes 0)) bytes ++ x) (sym n.rest ∙ i.split)
+          ∙ sym (append_assoc (take (part_size (field 2 bytes 0)) bytes) i.front rest);
+      spells = (
+        take (part_size (field 2 bytes 0)) bytes,
+        i.front,
+        refl,
+        length-take-le (part_size (field 2 bytes 0)) bytes n.inside
+            ∙ ap part_size (sym flags),
+        n.part,
+        i.spells,
+      );
       follow = (refl, i.follow);
     }))
 
@@ -80,13 +94,15 @@ pub record PartsFound (bytes : List ℕ) (ps : List Part) (rest : List ℕ) : Ty
   pub spells : SpellsParts ps front
   pub last : AreComponents ps
 
-pub found_parts : (bytes : List ℕ) (ps : List Part) (rest : List ℕ) → parts_in true bytes ≡ Some (ps, rest) → PartsFound bytes ps rest
+pub found_parts : (bytes : List ℕ) (ps : List Part) (rest : List ℕ) → parts_in true bytes ≡ Some (ps, rest)
+    → PartsFound bytes ps rest
 found_parts bytes ps rest e =
     let f = found_in true (length bytes) bytes ps rest e in
     record { front = f.front; split = f.split; spells = f.spells; last = components_follow ps f.follow }
 
 -- the bytes of a component are read as it
-next_read : (p : Part) (front rest : List ℕ) → length front ≡ part_size p.flags → p ≡ part_of front → next_part (front ++ rest) ≡ Some (p, rest)
+next_read : (p : Part) (front rest : List ℕ) → length front ≡ part_size p.flags → p ≡ part_of front
+    → next_part (front ++ rest) ≡ Some (p, rest)
 unfolding next_part
 next_read p front rest h e =
     let flags : p.flags ≡ field 2 front 0 = ap (λ (q : Part). q.flags) e ∙ part_flags front in
@@ -96,35 +112,52 @@ next_read p front rest h e =
     let long = length-append front rest in
     let a : 4 ≤ length (front ++ rest) = omega arith in
     let b : part_size (field 2 (front ++ rest) 0) ≤ length (front ++ rest) = omega arith in
-    let gives : Part × List ℕ = (part_of (take (part_size (field 2 (front ++ rest) 0)) (front ++ rest)), drop (part_size (field 2 (front ++ rest) 0)) (front ++ rest)) in
-    ap (λ (t : Bool). cond t None (cond (nat_lt (length (front ++ rest)) (part_size (field 2 (front ++ rest) 0))) None (Some (part_of (take (part_size (field 2 (front ++ rest) 0)) (front ++ rest)), drop (part_size (field 2 (front ++ rest) 0)) (front ++ rest))))) (le-ltb _ _ a)
-    ∙ ap (λ (t : Bool). cond t None (Some (part_of (take (part_size (field 2 (front ++ rest) 0)) (front ++ rest)), drop (part_size (field 2 (front ++ rest) 0)) (front ++ rest)))) (le-ltb _ _ b)
+    let gives : Part × List ℕ = (
+      part_of (take (part_size (field 2 (front ++ rest) 0)) (front ++ rest)),
+      drop
+          (part_size (field 2 (front ++ rest) 0)) (front ++ rest),
+    ) in
+    ap (λ (t : Bool). cond t None (cond (nat_lt (length (front ++ rest)) (part_size (field 2 (front ++ rest) 0))) None
+    (Some (
+      part_of (take (part_size (field 2 (front ++ rest) 0)) (front ++ rest)),
+      drop (part_size (field 2 (front ++ rest) 0))
+          (front ++ rest),
+    )))) (le-ltb _ _ a)
+    ∙ ap (λ (t : Bool). cond t None (Some (
+      part_of (take (part_size (field 2 (front ++ rest) 0)) (front ++ rest)),
+      drop
+          (part_size (field 2 (front ++ rest) 0)) (front ++ rest),
+    ))) (le-ltb _ _ b)
     ∙ ap (λ (n : ℕ). Some (part_of (take n (front ++ rest)), drop n (front ++ rest))) size
     ∙ ap (λ (x : List ℕ). Some (part_of x, drop (length front) (front ++ rest))) (take_at front rest (length front) refl)
     ∙ ap (λ (x : List ℕ). Some (part_of front, x)) (drop_at front rest (length front) refl)
     ∙ ap (λ (q : Part). Some (q, rest)) (sym e)
 
-read_in : (more : Bool) (ps : List Part) (front rest : List ℕ) (room : ℕ) → SpellsParts ps front → Follow more ps → length front ≤ room → parts_from more room (front ++ rest) ≡ Some (ps, rest)
+read_in : (more : Bool) (ps : List Part) (front rest : List ℕ) (most : ℕ) → SpellsParts ps front → Follow more ps
+    → length front ≤ most → parts_from more most (front ++ rest) ≡ Some (ps, rest)
 unfolding parts_from
-read_in false [] front rest room h k l = ap (λ (x : List ℕ). Some ([], x ++ rest)) h
-read_in true [] front rest room h k l = absurd (cc)
-read_in false (p ∷ ps) front rest room h k l = let e : false ≡ true = k.0 in absurd (cc)
+read_in false [] front rest most h k l = ap (λ (x : List ℕ). Some ([], x ++ rest)) h
+read_in true [] front rest most h k l = absurd (cc)
+read_in false (p ∷ ps) front rest most h k l = let e : false ≡ true = k.0 in absurd (cc)
 read_in true (p ∷ ps) front rest zero h k l =
     let four : 4 ≤ part_size p.flags = omega arith in
     let long : length front ≡ length h.0 + length h.1 = ap length h.2 ∙ length-append h.0 h.1 in
     let size : length h.0 ≡ part_size p.flags = h.3 in
     absurd (omega arith)
-read_in true (p ∷ ps) front rest (suc room) h k l =
+read_in true (p ∷ ps) front rest (suc most) h k l =
     let four : 4 ≤ part_size p.flags = omega arith in
     let long : length front ≡ length h.0 + length h.1 = ap length h.2 ∙ length-append h.0 h.1 in
     let size : length h.0 ≡ part_size p.flags = h.3 in
     let bytes : front ++ rest ≡ h.0 ++ (h.1 ++ rest) = ap (λ (x : List ℕ). x ++ rest) h.2 ∙ append_assoc h.0 h.1 rest in
-    ap (λ (x : List ℕ). option_and_then (λ (d : Part × List ℕ). with_front d.0 (parts_from (is_followed d.0) room d.1)) (next_part x)) bytes
-    ∙ ap (option_and_then (λ (d : Part × List ℕ). with_front d.0 (parts_from (is_followed d.0) room d.1))) (next_read p h.0 (h.1 ++ rest) h.3 h.4)
-    ∙ ap (with_front p) (read_in (is_followed p) ps h.1 rest room h.5 k.1 (omega arith))
+    ap (λ (x : List ℕ). option_and_then (λ (d : Part × List ℕ). with_front d.0 (parts_from (is_followed d.0) most d.1))
+    (next_part x)) bytes
+    ∙ ap (option_and_then (λ (d : Part × List ℕ). with_front d.0 (parts_from (is_followed d.0) most d.1)))
+    (next_read p h.0 (h.1 ++ rest) h.3 h.4)
+    ∙ ap (with_front p) (read_in (is_followed p) ps h.1 rest most h.5 k.1 (omega arith))
 
 -- what the bytes describe is read
-pub only_parts : (ps : List Part) (front rest : List ℕ) → SpellsParts ps front → AreComponents ps → parts_in true (front ++ rest) ≡ Some (ps, rest)
+pub only_parts : (ps : List Part) (front rest : List ℕ) → SpellsParts ps front → AreComponents ps
+    → parts_in true (front ++ rest) ≡ Some (ps, rest)
 only_parts ps front rest h k =
     let long = length-append front rest in
     read_in true ps front rest (length (front ++ rest)) h (follow_components ps k) (omega arith)

@@ -1,4 +1,5 @@
 -- Reading the points of a simple glyph against the grammar, both ways.
+-- For the clauses of `read` on simple glyphs.
 use Rattle.std.proofs.Common.{◌≡◌, ℕ, zero, suc, ◌-◌, ◌<◌, ◌≤◌, Bool, true, false, List, [], ◌∷◌, ◌++◌, length, take, drop, replicate, Some, None, cond, refl, sym, ap, ◌∙◌, arith, subst, append_assoc}
 use Rattle.std.specs.Prelude.{option_and_then}
 use Rattle.std.specs.List.{flat_map}
@@ -9,12 +10,12 @@ use Rattle.byteorder.specs.Endian.{big_number}
 use Rattle.byteorder.specs.Numbers.{big_from-take, big_from-append}
 use Rattle.fx_glyf.proofs.Outlines.{of_flags, of_xs, of_ys}
 use Rattle.fx_glyf.specs.declared.point.Point.{Point}
-use Rattle.fx_glyf.specs.Points.{Cursor, x_short, x_same, y_short, y_same, repeats, next_flag, flags_from, delta_of, delta_by, deltas_from, outline_of, start}
+use Rattle.fx_glyf.specs.Points.{Cursor, x_short_vector, x_is_same_or_positive_x_short_vector, y_short_vector, y_is_same_or_positive_y_short_vector, repeat_flag, next_flag, flags_from, delta_of, delta_by, deltas_from, glyph_points_of, start}
 use Rattle.fx_glyf.specs.Words.{with_front, has}
 use Rattle.fx_glyf.specs.Grammar.{Run, run_bytes, run_flags, AreRuns, SpellsBy, SpellsAll, DescribesPoints}
 use Rattle.fx_glyf.proofs.Steps.{front_is}
 
--- where the flags are read
+-- the state of reading flags
 abbrev cursor : ℕ → ℕ → List ℕ → Cursor
 cursor again flag bytes = record { again = again; flag = flag; bytes = bytes }
 
@@ -24,9 +25,10 @@ run flag again = record { flag = flag; again = again }
 -- a flag that is read is a run
 record Ran (bytes : List ℕ) (d : Cursor) : Type 0 where
   bytes_are : bytes ≡ run_bytes (run d.flag d.again) ++ d.bytes
-  once : has d.flag repeats ≡ false → d.again ≡ 0
+  once : has d.flag repeat_flag ≡ false → d.again ≡ 0
 
-ran_long : (t : Bool) (f r : ℕ) (bytes : List ℕ) (d : Cursor) → has f repeats ≡ t → cond t (Some (cursor r f bytes)) (Some (cursor 0 f (r ∷ bytes))) ≡ Some d → Ran (f ∷ r ∷ bytes) d
+ran_long : (t : Bool) (f r : ℕ) (bytes : List ℕ) (d : Cursor) → has f repeat_flag ≡ t
+    → cond t (Some (cursor r f bytes)) (Some (cursor 0 f (r ∷ bytes))) ≡ Some d → Ran (f ∷ r ∷ bytes) d
 ran_long true f r bytes d h e =
     let P : Cursor → Type 0 = Ran (f ∷ r ∷ bytes) in
     subst P (same_Some _ _ e) (record {
@@ -40,7 +42,7 @@ ran_long false f r bytes d h e =
       once = λ g. refl;
     })
 
-ran_short : (t : Bool) (f : ℕ) (d : Cursor) → has f repeats ≡ t → cond t None (Some (cursor 0 f [])) ≡ Some d → Ran (f ∷ []) d
+ran_short : (t : Bool) (f : ℕ) (d : Cursor) → has f repeat_flag ≡ t → cond t None (Some (cursor 0 f [])) ≡ Some d → Ran (f ∷ []) d
 ran_short true f d h e = absurd (none-some _ e)
 ran_short false f d h e =
     let P : Cursor → Type 0 = Ran (f ∷ []) in
@@ -55,15 +57,18 @@ one_run flag [] d e = absurd (none-some _ e)
 one_run flag (f ∷ []) d e = ran_short _ f d refl e
 one_run flag (f ∷ r ∷ bytes) d e = ran_long _ f r bytes d refl e
 
-run_one_by : (t : Bool) (flag f a : ℕ) (rest : List ℕ) → has f repeats ≡ t → (t ≡ false → a ≡ 0) → next_flag (cursor 0 flag (cond t (f ∷ a ∷ []) (f ∷ []) ++ rest)) ≡ Some (cursor a f rest)
+run_one_by : (t : Bool) (flag f a : ℕ) (rest : List ℕ) → has f repeat_flag ≡ t → (t ≡ false → a ≡ 0)
+    → next_flag (cursor 0 flag (cond t (f ∷ a ∷ []) (f ∷ []) ++ rest)) ≡ Some (cursor a f rest)
 unfolding next_flag
 run_one_by true flag f a rest h g = ap (λ (b : Bool). cond b (Some (cursor a f rest)) (Some (cursor 0 f (a ∷ rest)))) h
 run_one_by false flag f a [] h g =
     ap (λ (b : Bool). cond b None (Some (cursor 0 f []))) h ∙ ap (λ (n : ℕ). Some (cursor n f [])) (sym (g refl))
 run_one_by false flag f a (x ∷ xs) h g =
-    ap (λ (b : Bool). cond b (Some (cursor x f xs)) (Some (cursor 0 f (x ∷ xs)))) h ∙ ap (λ (n : ℕ). Some (cursor n f (x ∷ xs))) (sym (g refl))
+    ap (λ (b : Bool). cond b (Some (cursor x f xs)) (Some (cursor 0 f (x ∷ xs)))) h
+    ∙ ap (λ (n : ℕ). Some (cursor n f (x ∷ xs))) (sym (g refl))
 
-run_one : (flag : ℕ) (r : Run) (rest : List ℕ) → (has r.flag repeats ≡ false → r.again ≡ 0) → next_flag (cursor 0 flag (run_bytes r ++ rest)) ≡ Some (cursor r.again r.flag rest)
+run_one : (flag : ℕ) (r : Run) (rest : List ℕ) → (has r.flag repeat_flag ≡ false → r.again ≡ 0)
+    → next_flag (cursor 0 flag (run_bytes r ++ rest)) ≡ Some (cursor r.again r.flag rest)
 run_one flag r rest h = run_one_by _ flag r.flag r.again rest refl h
 
 -- flags that are read are those of runs
@@ -79,7 +84,8 @@ same_tail {X} {Y} x y e = ap (λ (p : X × Y). p.1) e
 same_head : {X Y : Type 0} (x y : X × Y) → x ≡ y → x.0 ≡ y.0
 same_head {X} {Y} x y e = ap (λ (p : X × Y). p.0) e
 
-runs_of : (n again flag : ℕ) (bytes fs rest : List ℕ) → flags_from n (cursor again flag bytes) ≡ Some (fs, rest) → Runs n again flag bytes fs rest
+runs_of : (n again flag : ℕ) (bytes fs rest : List ℕ) → flags_from n (cursor again flag bytes) ≡ Some (fs, rest)
+    → Runs n again flag bytes fs rest
 unfolding flags_from next_flag
 runs_of zero again flag bytes fs rest e =
     let q = same_Some _ _ e in
@@ -91,7 +97,8 @@ runs_of (suc n) (suc again) flag bytes fs rest e =
     let less : n - again ≡ suc n - suc again = omega arith in
     record { runs = i.runs; split = i.split; are = subst P less i.are; flags = f.2 ∙ ap (λ (hs : List ℕ). flag ∷ hs) i.flags }
 runs_of (suc n) zero flag bytes fs rest e =
-    option_and_then_some (λ (d : Cursor). with_front d.flag (flags_from n d)) (next_flag (cursor 0 flag bytes)) (fs, rest) e (λ d q w.
+    option_and_then_some (λ (d : Cursor). with_front d.flag (flags_from n d)) (next_flag (cursor 0 flag bytes)) (fs, rest) e
+    (λ d q w.
     let f = front_is d.flag _ fs rest w in
     let i = runs_of n d.again d.flag d.bytes f.0 rest f.1 in
     let r = one_run flag bytes d q in
@@ -102,13 +109,16 @@ runs_of (suc n) zero flag bytes fs rest e =
     let more : 0 < suc n = omega arith in
     record {
       runs = run d.flag d.again ∷ i.runs;
-      split = r.bytes_are ∙ ap (λ (x : List ℕ). run_bytes (run d.flag d.again) ++ x) i.split ∙ sym (append_assoc (run_bytes (run d.flag d.again)) (flat_map run_bytes i.runs) rest);
+      split = r.bytes_are ∙ ap (λ (x : List ℕ). run_bytes (run d.flag d.again) ++ x) i.split
+          ∙ sym (append_assoc (run_bytes (run d.flag d.again)) (flat_map run_bytes i.runs) rest);
       are = subst Q same (more, r.once, subst P less i.are);
       flags = f.2 ∙ ap (λ (hs : List ℕ). d.flag ∷ hs) i.flags;
     })
 
 -- runs are read
-runs_read : (n again flag : ℕ) (runs : List Run) (rest : List ℕ) → AreRuns (n - again) runs → flags_from n (cursor again flag (flat_map run_bytes runs ++ rest)) ≡ Some (take n (replicate again flag ++ flat_map run_flags runs), rest)
+runs_read : (n again flag : ℕ) (runs : List Run) (rest : List ℕ) → AreRuns (n - again) runs
+    → flags_from n (cursor again flag (flat_map run_bytes runs ++ rest)) ≡ Some
+    (take n (replicate again flag ++ flat_map run_flags runs), rest)
 unfolding flags_from next_flag
 runs_read zero again flag [] rest h = refl
 runs_read zero again flag (r ∷ rs) rest h = let g : 0 < 0 - again = h.0 in absurd (omega arith)
@@ -134,7 +144,8 @@ record Spelled (short same : Bool) (bytes : List ℕ) (d : ℕ) (rest : List ℕ
   split : bytes ≡ front ++ rest
   spells : SpellsBy short same d front
 
-spelled : (short same : Bool) (bytes : List ℕ) (d : ℕ) (rest : List ℕ) → delta_by short same bytes ≡ Some (d, rest) → Spelled short same bytes d rest
+spelled : (short same : Bool) (bytes : List ℕ) (d : ℕ) (rest : List ℕ) → delta_by short same bytes ≡ Some (d, rest)
+    → Spelled short same bytes d rest
 unfolding delta_by
 spelled true same [] d rest e = absurd (none-some _ e)
 spelled true same (b ∷ bytes) d rest e =
@@ -153,7 +164,8 @@ spelled false false bytes d rest e =
     }
 
 -- a delta that is spelled so is read
-delta_read : (short same : Bool) (d : ℕ) (front rest : List ℕ) → SpellsBy short same d front → delta_by short same (front ++ rest) ≡ Some (d, rest)
+delta_read : (short same : Bool) (d : ℕ) (front rest : List ℕ) → SpellsBy short same d front
+    → delta_by short same (front ++ rest) ≡ Some (d, rest)
 unfolding delta_by
 delta_read true same d front rest h =
     ap (λ (x : List ℕ). delta_by true same (x ++ rest)) h.1 ∙ ap (λ (n : ℕ). Some (n, rest)) (sym h.2)
@@ -170,14 +182,16 @@ record AllSpelled (short same : ℕ) (fs bytes ds rest : List ℕ) : Type 0 wher
   split : bytes ≡ front ++ rest
   spells : SpellsAll short same fs ds front
 
-all_spelled : (short same : ℕ) (fs bytes ds rest : List ℕ) → deltas_from short same fs bytes ≡ Some (ds, rest) → AllSpelled short same fs bytes ds rest
+all_spelled : (short same : ℕ) (fs bytes ds rest : List ℕ) → deltas_from short same fs bytes ≡ Some (ds, rest)
+    → AllSpelled short same fs bytes ds rest
 unfolding deltas_from
 all_spelled short same [] bytes ds rest e =
     let q = same_Some _ _ e in
     let P : List ℕ → Type 0 = λ xs. SpellsAll short same [] xs [] in
     record { front = []; split = same_tail _ _ q; spells = subst P (same_head _ _ q) refl }
 all_spelled short same (f ∷ fs) bytes ds rest e =
-    option_and_then_some (λ (d : ℕ × List ℕ). with_front d.0 (deltas_from short same fs d.1)) (delta_of short same f bytes) (ds, rest) e (λ d q w.
+    option_and_then_some (λ (d : ℕ × List ℕ). with_front d.0 (deltas_from short same fs d.1)) (delta_of short same f bytes)
+    (ds, rest) e (λ d q w.
     let g = front_is d.0 _ ds rest w in
     let s = spelled _ _ bytes d.0 d.1 q in
     let i = all_spelled short same fs d.1 g.0 rest g.1 in
@@ -188,26 +202,31 @@ all_spelled short same (f ∷ fs) bytes ds rest e =
       spells = subst P (sym g.2) (s.front, i.front, refl, s.spells, i.spells);
     })
 
-all_read : (short same : ℕ) (fs ds front rest : List ℕ) → SpellsAll short same fs ds front → deltas_from short same fs (front ++ rest) ≡ Some (ds, rest)
+all_read : (short same : ℕ) (fs ds front rest : List ℕ) → SpellsAll short same fs ds front
+    → deltas_from short same fs (front ++ rest) ≡ Some (ds, rest)
 unfolding deltas_from
 all_read short same [] [] front rest h = ap (λ (x : List ℕ). Some ([], x ++ rest)) h
 all_read short same [] (d ∷ ds) front rest h = absurd h
 all_read short same (f ∷ fs) [] front rest h = absurd h
 all_read short same (f ∷ fs) (d ∷ ds) front rest h =
     ap (λ (x : List ℕ). deltas_from short same (f ∷ fs) x) (ap (λ (x : List ℕ). x ++ rest) h.2 ∙ append_assoc h.0 h.1 rest)
-    ∙ ap (option_and_then (λ (d : ℕ × List ℕ). with_front d.0 (deltas_from short same fs d.1))) (delta_read _ _ d h.0 (h.1 ++ rest) h.3)
+    ∙ ap (option_and_then (λ (d : ℕ × List ℕ). with_front d.0 (deltas_from short same fs d.1)))
+    (delta_read _ _ d h.0 (h.1 ++ rest) h.3)
     ∙ ap (with_front d) (all_read short same fs ds h.1 rest h.4)
 
 -- what is read is described by the bytes
-pub found_points : (count : ℕ) (bytes : List ℕ) (points : List Point) → outline_of count bytes ≡ Some points → DescribesPoints count bytes points
-unfolding outline_of
+pub found_points : (count : ℕ) (bytes : List ℕ) (points : List Point) → glyph_points_of count bytes ≡ Some points
+    → DescribesPoints count bytes points
+unfolding glyph_points_of
 found_points count bytes points e =
     option_and_then_some of_flags (flags_from count (start bytes)) points e (λ fs qf wf.
-    option_and_then_some (of_xs fs.0) (deltas_from x_short x_same fs.0 fs.1) points wf (λ xs qx wx.
-    option_and_then_some (of_ys fs.0 xs.0) (deltas_from y_short y_same fs.0 xs.1) points wx (λ ys qy wy.
+    option_and_then_some (of_xs fs.0) (deltas_from x_short_vector x_is_same_or_positive_x_short_vector fs.0 fs.1) points wf
+    (λ xs qx wx.
+    option_and_then_some (of_ys fs.0 xs.0) (deltas_from y_short_vector y_is_same_or_positive_y_short_vector fs.0 xs.1) points wx
+    (λ ys qy wy.
     let r = runs_of count 0 0 bytes fs.0 fs.1 qf in
-    let x = all_spelled x_short x_same fs.0 fs.1 xs.0 xs.1 qx in
-    let y = all_spelled y_short y_same fs.0 xs.1 ys.0 ys.1 qy in
+    let x = all_spelled x_short_vector x_is_same_or_positive_x_short_vector fs.0 fs.1 xs.0 xs.1 qx in
+    let y = all_spelled y_short_vector y_is_same_or_positive_y_short_vector fs.0 xs.1 ys.0 ys.1 qy in
     let P : ℕ → Type 0 = λ n. AreRuns n r.runs in
     let same : count - 0 ≡ count = omega arith in
     record {
@@ -227,13 +246,17 @@ found_points count bytes points e =
     })))
 
 -- what the bytes describe is read
-pub only_points : (count : ℕ) (bytes : List ℕ) (points : List Point) → DescribesPoints count bytes points → outline_of count bytes ≡ Some points
-unfolding outline_of
+pub only_points : (count : ℕ) (bytes : List ℕ) (points : List Point) → DescribesPoints count bytes points
+    → glyph_points_of count bytes ≡ Some points
+unfolding glyph_points_of
 only_points count bytes points d =
     let P : ℕ → Type 0 = λ n. AreRuns n d.runs in
     let same : count ≡ count - 0 = omega arith in
-    ap (outline_of count) d.split
-    ∙ ap (option_and_then of_flags) (runs_read count 0 0 d.runs (d.xs ++ (d.ys ++ d.after)) (subst P same d.are_runs) ∙ ap (λ (fs : List ℕ). Some (fs, d.xs ++ (d.ys ++ d.after))) (sym d.flags_are))
-    ∙ ap (option_and_then (of_xs d.flags)) (all_read x_short x_same d.flags d.dxs d.xs (d.ys ++ d.after) d.xs_are)
-    ∙ ap (option_and_then (of_ys d.flags d.dxs)) (all_read y_short y_same d.flags d.dys d.ys d.after d.ys_are)
+    ap (glyph_points_of count) d.split
+    ∙ ap (option_and_then of_flags) (runs_read count 0 0 d.runs (d.xs ++ (d.ys ++ d.after)) (subst P same d.are_runs)
+    ∙ ap (λ (fs : List ℕ). Some (fs, d.xs ++ (d.ys ++ d.after))) (sym d.flags_are))
+    ∙ ap (option_and_then (of_xs d.flags)) (all_read x_short_vector x_is_same_or_positive_x_short_vector d.flags d.dxs d.xs
+    (d.ys ++ d.after) d.xs_are)
+    ∙ ap (option_and_then (of_ys d.flags d.dxs))
+    (all_read y_short_vector y_is_same_or_positive_y_short_vector d.flags d.dys d.ys d.after d.ys_are)
     ∙ ap Some (sym d.points_are)

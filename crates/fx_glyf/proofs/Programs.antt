@@ -1,4 +1,5 @@
 -- A header and a program against the grammar, both ways.
+-- For the clauses of `read`.
 use Rattle.std.proofs.Common.{◌≡◌, ℕ, ◌≤◌, Bool, List, ◌++◌, length, take, drop, cond, Some, None, refl, sym, ap, ◌∙◌, arith, subst, append_assoc, length-append}
 use Rattle.std.specs.Prelude.{ℤ, nat_lt}
 use Rattle.std.specs.Int.{w16, cast_signed}
@@ -31,7 +32,8 @@ found_program bytes p e =
     let P : List ℕ × List ℕ → Type 0 = λ q. ProgramFound bytes q.0 q.1 in
     subst P (same_Some _ _ b.1) (record {
       front = take 2 bytes ++ take (big_number 2 bytes) (drop 2 bytes);
-      split = sym (take-append-drop 2 bytes) ∙ ap (λ (x : List ℕ). take 2 bytes ++ x) (sym (take-append-drop (big_number 2 bytes) (drop 2 bytes)))
+      split = sym (take-append-drop 2 bytes)
+          ∙ ap (λ (x : List ℕ). take 2 bytes ++ x) (sym (take-append-drop (big_number 2 bytes) (drop 2 bytes)))
           ∙ sym (append_assoc (take 2 bytes) (take (big_number 2 bytes) (drop 2 bytes)) (drop (big_number 2 bytes) (drop 2 bytes)));
       spells = record {
         size = take 2 bytes;
@@ -41,13 +43,16 @@ found_program bytes p e =
       };
     })
 
-program_there : (bytes code rest : List ℕ) → 2 ≤ length bytes → drop 2 bytes ≡ code ++ rest → field 2 bytes 0 ≡ length code → program_of bytes ≡ Some (code, rest)
+program_there : (bytes code rest : List ℕ) → 2 ≤ length bytes → drop 2 bytes ≡ code ++ rest → field 2 bytes 0 ≡ length code
+    → program_of bytes ≡ Some (code, rest)
 unfolding program_of
 program_there bytes code rest two tail size =
     let long = length-append code rest in
     let b : field 2 bytes 0 ≤ length (drop 2 bytes) = omega (arith, ap length tail) in
-    ap (λ (t : Bool). cond t None (cond (nat_lt (length (drop 2 bytes)) (field 2 bytes 0)) None (Some (take (field 2 bytes 0) (drop 2 bytes), drop (field 2 bytes 0) (drop 2 bytes))))) (le-ltb _ _ two)
-    ∙ ap (λ (t : Bool). cond t None (Some (take (field 2 bytes 0) (drop 2 bytes), drop (field 2 bytes 0) (drop 2 bytes)))) (le-ltb _ _ b)
+    ap (λ (t : Bool). cond t None (cond (nat_lt (length (drop 2 bytes)) (field 2 bytes 0)) None
+    (Some (take (field 2 bytes 0) (drop 2 bytes), drop (field 2 bytes 0) (drop 2 bytes))))) (le-ltb _ _ two)
+    ∙ ap (λ (t : Bool). cond t None (Some (take (field 2 bytes 0) (drop 2 bytes), drop (field 2 bytes 0) (drop 2 bytes))))
+    (le-ltb _ _ b)
     ∙ ap (λ (n : ℕ). Some (take n (drop 2 bytes), drop n (drop 2 bytes))) size
     ∙ ap (λ (x : List ℕ). Some (take (length code) x, drop (length code) x)) tail
     ∙ ap (λ (x : List ℕ). Some (x, drop (length code) (code ++ rest))) (take_at code rest (length code) refl)
@@ -60,7 +65,8 @@ only_program code front rest d =
     let bytes : front ++ rest ≡ d.size ++ (code ++ rest) = ap (λ (x : List ℕ). x ++ rest) d.split ∙ append_assoc d.size code rest in
     let long = length-append d.size (code ++ rest) in
     let two : 2 ≤ length (d.size ++ (code ++ rest)) = omega (arith, d.size_is) in
-    let size : big_number 2 (d.size ++ (code ++ rest)) ≡ length code = big_from-append 2 d.size (code ++ rest) (omega (arith, d.size_is)) ∙ sym d.code_is in
+    let size : big_number 2 (d.size ++ (code ++ rest)) ≡ length code =
+    big_from-append 2 d.size (code ++ rest) (omega (arith, d.size_is)) ∙ sym d.code_is in
     ap program_of bytes ∙ program_there (d.size ++ (code ++ rest)) code rest two (drop_at d.size (code ++ rest) 2 d.size_is) size
 
 -- ten bytes are a header
@@ -76,9 +82,10 @@ pub record Headed (bytes rest : List ℕ) (contours : ℕ) (x_min : ℤ) : Type 
   pub long : 10 ≤ length bytes
   pub contours_are : field 2 bytes 0 ≡ contours
   pub x_min_is : x_min_of bytes ≡ x_min
-  pub behind : drop 10 bytes ≡ rest
+  pub rest_is : drop 10 bytes ≡ rest
 
-pub headed : (bytes header rest : List ℕ) (contours : ℕ) (x_min : ℤ) → bytes ≡ header ++ rest → IsHeader header contours x_min → Headed bytes rest contours x_min
+pub headed : (bytes header rest : List ℕ) (contours : ℕ) (x_min : ℤ) → bytes ≡ header ++ rest → IsHeader header contours x_min
+    → Headed bytes rest contours x_min
 headed bytes header rest contours x_min e h =
     let long = length-append header rest in
     let P : List ℕ → Type 0 = λ xs. Headed xs rest contours x_min in
@@ -86,5 +93,5 @@ headed bytes header rest contours x_min e h =
       long = omega (arith, h.size);
       contours_are = field-front 0 header rest (omega (arith, h.size)) ∙ sym h.contours_are;
       x_min_is = ap (cast_signed w16) (field-front 2 header rest (omega (arith, h.size))) ∙ sym h.x_min_is;
-      behind = drop_at header rest 10 h.size;
+      rest_is = drop_at header rest 10 h.size;
     })

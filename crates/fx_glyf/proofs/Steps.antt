@@ -1,10 +1,11 @@
 -- Flags and deltas, one point at a time.
+-- For `Flags::next`, `skip_flags`, `skip_deltas` and the iterator `Points`.
 use Rattle.std.proofs.Common.{◌≡◌, ℕ, suc, ◌+◌, ◌%◌, List, [], ◌∷◌, Option, Some, None, refl, sym, ap, ◌∙◌, subst}
 use Rattle.std.specs.Prelude.{IsSome, option_map, option_and_then}
 use Rattle.std.proofs.lemmas.Option.{same_Some, none-some}
 use Rattle.fx_glyf.specs.declared.point.Point.{Point}
 use Rattle.fx_glyf.specs.Words.{with_front, list_in}
-use Rattle.fx_glyf.specs.Points.{Cursor, x_short, x_same, y_short, y_same, next_flag, flags_from, delta_of, deltas_from, points_of, point_at}
+use Rattle.fx_glyf.specs.Points.{Cursor, x_short_vector, x_is_same_or_positive_x_short_vector, y_short_vector, y_is_same_or_positive_y_short_vector, next_flag, flags_from, delta_of, deltas_from, points_of, point_at}
 
 pub front_some : {X : Type 0} (x : X) (o : Option (List X × List ℕ)) → IsSome (with_front x o) → IsSome o
 front_some x None h = h
@@ -14,12 +15,14 @@ pub front_list : {X : Type 0} (x : X) (o : Option (List X × List ℕ)) → IsSo
 front_list x None h = absurd (cc)
 front_list x (Some r) h = refl
 
-pub front_rest : {X : Type 0} (x : X) (o : Option (List X × List ℕ)) → option_map (λ r. r.1) (with_front x o) ≡ option_map (λ r. r.1) o
+pub front_rest : {X : Type 0} (x : X) (o : Option (List X × List ℕ))
+    → option_map (λ r. r.1) (with_front x o) ≡ option_map (λ r. r.1) o
 front_rest x None = refl
 front_rest x (Some r) = refl
 
 -- a list that was read with a first item, by its parts
-pub front_is : {X : Type 0} (x : X) (o : Option (List X × List ℕ)) (xs : List X) (rest : List ℕ) → with_front x o ≡ Some (xs, rest) → (ys : List X) × (o ≡ Some (ys, rest)) × (xs ≡ x ∷ ys)
+pub front_is : {X : Type 0} (x : X) (o : Option (List X × List ℕ)) (xs : List X) (rest : List ℕ) → with_front x o ≡ Some (xs, rest)
+    → (ys : List X) × (o ≡ Some (ys, rest)) × (xs ≡ x ∷ ys)
 front_is {X} x None xs rest e = absurd (none-some _ e)
 front_is {X} x (Some p) xs rest e =
     let q = same_Some _ _ e in
@@ -43,14 +46,18 @@ flags_short n m c h e =
     ap (λ (k : ℕ). flags_from k c) h ∙ ap (option_and_then (λ (x : Cursor). with_front x.flag (flags_from m x))) (sym e)
 
 -- the next delta is d
-pub deltas_at : (short same f : ℕ) (fs bytes : List ℕ) (d : ℕ) (rest : List ℕ) → Some (d, rest) ≡ delta_of short same f bytes → deltas_from short same (f ∷ fs) bytes ≡ with_front d (deltas_from short same fs rest)
+pub deltas_at : (short same f : ℕ) (fs bytes : List ℕ) (d : ℕ) (rest : List ℕ) → Some (d, rest) ≡ delta_of short same f bytes
+    → deltas_from short same (f ∷ fs) bytes ≡ with_front d (deltas_from short same fs rest)
 unfolding deltas_from
-deltas_at short same f fs bytes d rest e = ap (option_and_then (λ (x : ℕ × List ℕ). with_front x.0 (deltas_from short same fs x.1))) (sym e)
+deltas_at short same f fs bytes d rest e =
+    ap (option_and_then (λ (x : ℕ × List ℕ). with_front x.0 (deltas_from short same fs x.1))) (sym e)
 
 -- there is no next delta
-pub deltas_short : (short same f : ℕ) (fs bytes : List ℕ) → None ≡ delta_of short same f bytes → deltas_from short same (f ∷ fs) bytes ≡ None
+pub deltas_short : (short same f : ℕ) (fs bytes : List ℕ) → None ≡ delta_of short same f bytes
+    → deltas_from short same (f ∷ fs) bytes ≡ None
 unfolding deltas_from
-deltas_short short same f fs bytes e = ap (option_and_then (λ (x : ℕ × List ℕ). with_front x.0 (deltas_from short same fs x.1))) (sym e)
+deltas_short short same f fs bytes e =
+    ap (option_and_then (λ (x : ℕ × List ℕ). with_front x.0 (deltas_from short same fs x.1))) (sym e)
 
 pub none_absurd : {X : Type 0} (o : Option X) → o ≡ None → IsSome o → ⊥
 none_absurd {X} o e h = let P : Option X → Type 0 = IsSome in let n : IsSome {T = X} None = subst P e h in cc
@@ -66,7 +73,9 @@ stepped {X} old new x e h =
     let some = front_some x new (subst P e h) in
     record { some = some; list = ap list_in e ∙ front_list x new some }
 
-pub points_at : (f : ℕ) (fs : List ℕ) (dx dy : ℕ) (dxs dys : List ℕ) (x y : ℕ) → points_of (f ∷ fs) (dx ∷ dxs) (dy ∷ dys) x y ≡ point_at ((x + dx) % 65536) ((y + dy) % 65536) f ∷ points_of fs dxs dys ((x + dx) % 65536) ((y + dy) % 65536)
+pub points_at : (f : ℕ) (fs : List ℕ) (dx dy : ℕ) (dxs dys : List ℕ) (x y : ℕ)
+    → points_of (f ∷ fs) (dx ∷ dxs) (dy ∷ dys) x y ≡ point_at ((x + dx) % 65536) ((y + dy) % 65536) f ∷ points_of fs dxs dys
+    ((x + dx) % 65536) ((y + dy) % 65536)
 unfolding points_of
 points_at f fs dx dy dxs dys x y = refl
 
@@ -75,14 +84,23 @@ unfolding points_of
 points_none dxs dys x y = refl
 
 -- the first point, and those after it
-pub points_step : (f : ℕ) (fs xs ys xs' ys' : List ℕ) (dx dy x y : ℕ) → Some (dx, xs') ≡ delta_of x_short x_same f xs → Some (dy, ys') ≡ delta_of y_short y_same f ys → IsSome (deltas_from x_short x_same (f ∷ fs) xs) → IsSome (deltas_from y_short y_same (f ∷ fs) ys)
-    → points_of (f ∷ fs) (list_in (deltas_from x_short x_same (f ∷ fs) xs)) (list_in (deltas_from y_short y_same (f ∷ fs) ys)) x y
-    ≡ point_at ((x + dx) % 65536) ((y + dy) % 65536) f ∷ points_of fs (list_in (deltas_from x_short x_same fs xs')) (list_in (deltas_from y_short y_same fs ys')) ((x + dx) % 65536) ((y + dy) % 65536)
+pub points_step : (f : ℕ) (fs xs ys xs' ys' : List ℕ) (dx dy x y : ℕ)
+    → Some (dx, xs') ≡ delta_of x_short_vector x_is_same_or_positive_x_short_vector f xs
+    → Some (dy, ys') ≡ delta_of y_short_vector y_is_same_or_positive_y_short_vector f ys
+    → IsSome (deltas_from x_short_vector x_is_same_or_positive_x_short_vector (f ∷ fs) xs)
+    → IsSome (deltas_from y_short_vector y_is_same_or_positive_y_short_vector (f ∷ fs) ys)
+    → points_of (f ∷ fs) (list_in (deltas_from x_short_vector x_is_same_or_positive_x_short_vector (f ∷ fs) xs))
+    (list_in (deltas_from y_short_vector y_is_same_or_positive_y_short_vector (f ∷ fs) ys)) x y
+    ≡ point_at ((x + dx) % 65536) ((y + dy) % 65536) f ∷ points_of fs
+    (list_in (deltas_from x_short_vector x_is_same_or_positive_x_short_vector fs xs'))
+    (list_in (deltas_from y_short_vector y_is_same_or_positive_y_short_vector fs ys')) ((x + dx) % 65536) ((y + dy) % 65536)
 points_step f fs xs ys xs' ys' dx dy x y ex ey hx hy =
-    let sx = stepped _ _ _ (deltas_at x_short x_same f fs xs dx xs' ex) hx in
-    let sy = stepped _ _ _ (deltas_at y_short y_same f fs ys dy ys' ey) hy in
-    ap (λ (ds : List ℕ). points_of (f ∷ fs) ds (list_in (deltas_from y_short y_same (f ∷ fs) ys)) x y) sx.list
-    ∙ ap (λ (ds : List ℕ). points_of (f ∷ fs) (dx ∷ list_in (deltas_from x_short x_same fs xs')) ds x y) sy.list
+    let sx = stepped _ _ _ (deltas_at x_short_vector x_is_same_or_positive_x_short_vector f fs xs dx xs' ex) hx in
+    let sy = stepped _ _ _ (deltas_at y_short_vector y_is_same_or_positive_y_short_vector f fs ys dy ys' ey) hy in
+    ap (λ (ds : List ℕ). points_of (f ∷ fs) ds
+    (list_in (deltas_from y_short_vector y_is_same_or_positive_y_short_vector (f ∷ fs) ys)) x y) sx.list
+    ∙ ap (λ (ds : List ℕ). points_of (f ∷ fs)
+    (dx ∷ list_in (deltas_from x_short_vector x_is_same_or_positive_x_short_vector fs xs')) ds x y) sy.list
     ∙ points_at f fs dx dy _ _ x y
 
 pub flags_done : (n : ℕ) (c : Cursor) → n ≡ 0 → option_map (λ r. r.1) (flags_from n c) ≡ Some c.bytes
@@ -97,29 +115,42 @@ pub points_end : (fs dxs dys : List ℕ) (x y : ℕ) → fs ≡ [] → points_of
 points_end fs dxs dys x y e = ap (λ (gs : List ℕ). points_of gs dxs dys x y) e ∙ points_none dxs dys x y
 
 -- the same as `points_step`, for values that are known by equations
-pub points_first : (gs : List ℕ) (f : ℕ) (fs xs ys xs' ys' : List ℕ) (dx dy x y x' y' : ℕ) (p : Point) → gs ≡ f ∷ fs → Some (dx, xs') ≡ delta_of x_short x_same f xs → Some (dy, ys') ≡ delta_of y_short y_same f ys → IsSome (deltas_from x_short x_same gs xs) → IsSome (deltas_from y_short y_same gs ys)
+pub points_first : (gs : List ℕ) (f : ℕ) (fs xs ys xs' ys' : List ℕ) (dx dy x y x' y' : ℕ) (p : Point) → gs ≡ f ∷ fs
+    → Some (dx, xs') ≡ delta_of x_short_vector x_is_same_or_positive_x_short_vector f xs
+    → Some (dy, ys') ≡ delta_of y_short_vector y_is_same_or_positive_y_short_vector f ys
+    → IsSome (deltas_from x_short_vector x_is_same_or_positive_x_short_vector gs xs)
+    → IsSome (deltas_from y_short_vector y_is_same_or_positive_y_short_vector gs ys)
     → x' ≡ (x + dx) % 65536 → y' ≡ (y + dy) % 65536 → p ≡ point_at x' y' f
-    → points_of gs (list_in (deltas_from x_short x_same gs xs)) (list_in (deltas_from y_short y_same gs ys)) x y ≡ p ∷ points_of fs (list_in (deltas_from x_short x_same fs xs')) (list_in (deltas_from y_short y_same fs ys')) x' y'
+    → points_of gs (list_in (deltas_from x_short_vector x_is_same_or_positive_x_short_vector gs xs))
+    (list_in (deltas_from y_short_vector y_is_same_or_positive_y_short_vector gs ys)) x y ≡ p ∷ points_of fs
+    (list_in (deltas_from x_short_vector x_is_same_or_positive_x_short_vector fs xs'))
+    (list_in (deltas_from y_short_vector y_is_same_or_positive_y_short_vector fs ys')) x' y'
 points_first gs f fs xs ys xs' ys' dx dy x y x' y' p e ex ey hx hy nx ny np =
-    let P : List ℕ → Type 0 = λ hs. IsSome (deltas_from x_short x_same hs xs) in
-    let Q : List ℕ → Type 0 = λ hs. IsSome (deltas_from y_short y_same hs ys) in
-    ap (λ (hs : List ℕ). points_of hs (list_in (deltas_from x_short x_same hs xs)) (list_in (deltas_from y_short y_same hs ys)) x y) e
+    let P : List ℕ → Type 0 = λ hs. IsSome (deltas_from x_short_vector x_is_same_or_positive_x_short_vector hs xs) in
+    let Q : List ℕ → Type 0 = λ hs. IsSome (deltas_from y_short_vector y_is_same_or_positive_y_short_vector hs ys) in
+    ap (λ (hs : List ℕ). points_of hs (list_in (deltas_from x_short_vector x_is_same_or_positive_x_short_vector hs xs))
+    (list_in (deltas_from y_short_vector y_is_same_or_positive_y_short_vector hs ys)) x y) e
     ∙ points_step f fs xs ys xs' ys' dx dy x y ex ey (subst P e hx) (subst Q e hy)
     ∙ (rw (np, nx, ny) refl)
 
 -- one delta more was passed
-pub deltas_passed : (short same : ℕ) (gs : List ℕ) (f : ℕ) (fs bytes : List ℕ) (d : ℕ) (rest : List ℕ) → gs ≡ f ∷ fs → Some (d, rest) ≡ delta_of short same f bytes → option_map (λ r. r.1) (deltas_from short same fs rest) ≡ option_map (λ r. r.1) (deltas_from short same gs bytes)
+pub deltas_passed : (short same : ℕ) (gs : List ℕ) (f : ℕ) (fs bytes : List ℕ) (d : ℕ) (rest : List ℕ) → gs ≡ f ∷ fs
+    → Some (d, rest) ≡ delta_of short same f bytes
+    → option_map (λ r. r.1) (deltas_from short same fs rest) ≡ option_map (λ r. r.1) (deltas_from short same gs bytes)
 deltas_passed short same gs f fs bytes d rest e h =
     sym (ap (λ (hs : List ℕ). option_map (λ (r : List ℕ × List ℕ). r.1) (deltas_from short same hs bytes)) e
     ∙ ap (option_map (λ (r : List ℕ × List ℕ). r.1)) (deltas_at short same f fs bytes d rest h) ∙ front_rest _ _)
 
 -- there is no further delta
-pub deltas_stopped : (short same : ℕ) (gs : List ℕ) (f : ℕ) (fs bytes : List ℕ) → gs ≡ f ∷ fs → None ≡ delta_of short same f bytes → None ≡ option_map (λ r. r.1) (deltas_from short same gs bytes)
+pub deltas_stopped : (short same : ℕ) (gs : List ℕ) (f : ℕ) (fs bytes : List ℕ) → gs ≡ f ∷ fs → None ≡ delta_of short same f bytes
+    → None ≡ option_map (λ r. r.1) (deltas_from short same gs bytes)
 deltas_stopped short same gs f fs bytes e h =
     sym (ap (λ (hs : List ℕ). option_map (λ (r : List ℕ × List ℕ). r.1) (deltas_from short same hs bytes)) e
     ∙ ap (option_map (λ (r : List ℕ × List ℕ). r.1)) (deltas_short short same f fs bytes h))
 
 -- all the deltas were passed
-pub deltas_end : (short same : ℕ) (gs bytes : List ℕ) → gs ≡ [] → Some bytes ≡ option_map (λ r. r.1) (deltas_from short same gs bytes)
+pub deltas_end : (short same : ℕ) (gs bytes : List ℕ) → gs ≡ []
+    → Some bytes ≡ option_map (λ r. r.1) (deltas_from short same gs bytes)
 deltas_end short same gs bytes e =
-    sym (ap (λ (hs : List ℕ). option_map (λ (r : List ℕ × List ℕ). r.1) (deltas_from short same hs bytes)) e ∙ deltas_done short same bytes)
+    sym (ap (λ (hs : List ℕ). option_map (λ (r : List ℕ × List ℕ). r.1) (deltas_from short same hs bytes)) e
+    ∙ deltas_done short same bytes)

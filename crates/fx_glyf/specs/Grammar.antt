@@ -4,32 +4,32 @@ use Rattle.std.specs.List.{flat_map}
 use Rattle.byteorder.specs.Endian.{big_number}
 use Rattle.fx_sfnt.specs.Fields.{field, signed_field}
 use Rattle.fx_glyf.specs.Words.{has, words}
-use Rattle.fx_glyf.specs.Points.{x_short, y_short, x_same, y_same, repeats, points_of}
+use Rattle.fx_glyf.specs.Points.{x_short_vector, y_short_vector, x_is_same_or_positive_x_short_vector, y_is_same_or_positive_y_short_vector, repeat_flag, points_of}
 use Rattle.fx_glyf.specs.Components.{part_of, part_size, is_followed, has_program}
-use Rattle.fx_glyf.specs.Shapes.{Shape, Assembly}
+use Rattle.fx_glyf.specs.Shapes.{SimpleView, CompositeView}
 use Rattle.fx_glyf.specs.declared.point.Point.{Point}
 use Rattle.fx_glyf.specs.declared.part.Part.{Part}
 use Rattle.fx_glyf.specs.declared.glyph.Glyph.{Glyph}
 use Rattle.fx_glyf.specs.declared.glyph.Glyph.TheVariants.{Empty, Simple, Composite}
 
--- a flag, and for how many further points it stands
+-- a flag, and the number of further points with it
 pub record Run : Type 0 where
   pub flag : ℕ
   pub again : ℕ
 
 -- a flag that repeats is followed by that number
 abbrev pub run_bytes : Run → List ℕ
-run_bytes r = if has r.flag repeats then r.flag ∷ r.again ∷ [] else r.flag ∷ []
+run_bytes r = if has r.flag repeat_flag then r.flag ∷ r.again ∷ [] else r.flag ∷ []
 
 abbrev pub run_flags : Run → List ℕ
 run_flags r = replicate (suc r.again) r.flag
 
--- runs for so many points: each begins at a point that has no flag yet, the last may go past the last point
+-- runs for `left` points: each begins at a point that has no flag yet, and the last may go past the last point
 abbrev pub AreRuns : ℕ → List Run → Type 0
 AreRuns left [] = left ≡ 0
-AreRuns left (r ∷ rs) = (0 < left) × (has r.flag repeats ≡ false → r.again ≡ 0) × AreRuns (left - suc r.again) rs
+AreRuns left (r ∷ rs) = (0 < left) × (has r.flag repeat_flag ≡ false → r.again ≡ 0) × AreRuns (left - suc r.again) rs
 
--- the bytes that stand for a delta modulo 2 ^ 16, by whether its flag says short, and whether it says same (or, of a short one, positive)
+-- the bytes of a delta modulo 2 ^ 16, by whether its flag says short, and whether it says same (or, of a short one, positive)
 abbrev pub SpellsBy : Bool → Bool → ℕ → List ℕ → Type 0
 SpellsBy true same d bytes = (b : ℕ) × (bytes ≡ b ∷ []) × (d ≡ (if same then b else (65536 - b) % 65536))
 SpellsBy false true d bytes = (bytes ≡ []) × (d ≡ 0)
@@ -41,10 +41,11 @@ Spells short same flag d bytes = SpellsBy (has flag short) (has flag same) d byt
 -- one delta for each flag
 abbrev pub SpellsAll : ℕ → ℕ → List ℕ → List ℕ → List ℕ → Type 0
 SpellsAll short same [] [] bytes = bytes ≡ []
-SpellsAll short same (f ∷ fs) (d ∷ ds) bytes = (front : List ℕ) × (back : List ℕ) × (bytes ≡ front ++ back) × Spells short same f d front × SpellsAll short same fs ds back
+SpellsAll short same (f ∷ fs) (d ∷ ds) bytes =
+    (front : List ℕ) × (back : List ℕ) × (bytes ≡ front ++ back) × Spells short same f d front × SpellsAll short same fs ds back
 SpellsAll short same _ _ bytes = ⊥
 
--- so many points, as runs of flags, x deltas and y deltas
+-- `count` points, as runs of flags, x deltas and y deltas
 pub record DescribesPoints (count : ℕ) (bytes : List ℕ) (points : List Point) : Type 0 where
   pub runs : List Run
   pub flags : List ℕ
@@ -56,16 +57,16 @@ pub record DescribesPoints (count : ℕ) (bytes : List ℕ) (points : List Point
   pub split : bytes ≡ flat_map run_bytes runs ++ (xs ++ (ys ++ after))
   pub are_runs : AreRuns count runs
   pub flags_are : flags ≡ take count (flat_map run_flags runs)
-  pub xs_are : SpellsAll x_short x_same flags dxs xs
-  pub ys_are : SpellsAll y_short y_same flags dys ys
+  pub xs_are : SpellsAll x_short_vector x_is_same_or_positive_x_short_vector flags dxs xs
+  pub ys_are : SpellsAll y_short_vector y_is_same_or_positive_y_short_vector flags dys ys
   pub points_are : points ≡ points_of flags dxs dys 0 0
 
--- end points do not fall, and the last one + 1 is the number of points; start is where the first contour begins
+-- end points do not fall, and the last one + 1 is the number of points; start is the number of the first contour's first point
 abbrev pub AreEnds : ℕ → List ℕ → ℕ → Type 0
 AreEnds start [] count = start ≡ count
 AreEnds start (e ∷ es) count = (start ≤ e + 1) × AreEnds (e + 1) es count
 
--- a program behind its length of two bytes
+-- a program after its length of two bytes
 pub record SpellsProgram (code bytes : List ℕ) : Type 0 where
   pub size : List ℕ
   pub size_is : length size ≡ 2
@@ -79,7 +80,7 @@ pub record IsHeader (bytes : List ℕ) (contours : ℕ) (x_min : ℤ) : Type 0 w
   pub x_min_is : x_min ≡ signed_field bytes 2
 
 -- a simple glyph, of 1 to 32,767 contours: header, end points, program, points
-pub record DescribesSimple (bytes : List ℕ) (s : Shape) : Type 0 where
+pub record DescribesSimple (bytes : List ℕ) (s : SimpleView) : Type 0 where
   pub header : List ℕ
   pub contours : ℕ
   pub ends : List ℕ
@@ -98,21 +99,23 @@ pub record DescribesSimple (bytes : List ℕ) (s : Shape) : Type 0 where
 -- component records, one after the other
 abbrev pub SpellsParts : List Part → List ℕ → Type 0
 SpellsParts [] bytes = bytes ≡ []
-SpellsParts (p ∷ ps) bytes = (front : List ℕ) × (back : List ℕ) × (bytes ≡ front ++ back) × (length front ≡ part_size p.flags) × (p ≡ part_of front) × SpellsParts ps back
+SpellsParts (p ∷ ps) bytes =
+    (front : List ℕ) × (back : List ℕ) × (bytes ≡ front ++ back) × (length front ≡ part_size p.flags) × (p ≡ part_of front)
+    × SpellsParts ps back
 
--- just the components before the last say that another follows
+-- exactly the components before the last say that another follows
 abbrev pub AreComponents : List Part → Type 0
 AreComponents [] = ⊥
 AreComponents (p ∷ []) = is_followed p ≡ false
 AreComponents (p ∷ q ∷ ps) = (is_followed p ≡ true) × AreComponents (q ∷ ps)
 
--- a program, where one is announced
+-- a program, if one is announced
 abbrev pub SpellsAnnounced : Bool → List ℕ → List ℕ → Type 0
 SpellsAnnounced true code bytes = SpellsProgram code bytes
 SpellsAnnounced false code bytes = (code ≡ []) × (bytes ≡ [])
 
 -- a composite glyph, whose number of contours is below 0 as a signed number: header, component records, program
-pub record DescribesComposite (bytes : List ℕ) (s : Assembly) : Type 0 where
+pub record DescribesComposite (bytes : List ℕ) (s : CompositeView) : Type 0 where
   pub header : List ℕ
   pub contours : ℕ
   pub parts : List ℕ

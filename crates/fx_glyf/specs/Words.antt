@@ -12,12 +12,13 @@ unfoldable pub words : ℕ → List ℕ → List ℕ
 words zero bytes = []
 words (suc n) bytes = big_number 2 bytes ∷ words n (drop 2 bytes)
 
--- the number of points, by the end points of contours: one more than the last, where none is below the one before it; start is where the first contour begins
+-- the number of points, by the end points of contours: one more than the last, if none is below the one before it; start is the
+-- number of the first contour's first point
 unfoldable pub count_from : ℕ → List ℕ → Option ℕ
 count_from start [] = Some start
 count_from start (e ∷ es) = if nat_lt (e + 1) start then None else count_from (e + 1) es
 
--- a program behind its length of two bytes, and the bytes after it
+-- a program after its length of two bytes, and the bytes after it
 unfoldable pub program_of : List ℕ → Option (List ℕ × List ℕ)
 program_of bytes =
     if nat_lt (length bytes) 2 then None

@@ -5,10 +5,10 @@ ghost use Rattle.fx_glyf.specs.Words.{list_in};
 ghost use Rattle.fx_glyf.specs.Components.{parts_in};
 
 use crate::part::Part;
-use crate::records::{is_followed, next_part};
+use crate::records::next_part;
 use std::marker::Model;
 
-/// The components that are left, which are all there.
+/// The components that are left; their bytes are complete.
 #[derive(Drop)]
 pub struct Components<'a> {
     more: bool,
@@ -54,7 +54,7 @@ impl<'a> Iterator for Components<'a> {
         match next_part(self.bytes) {
             None => None,
             Some((part, bytes)) => {
-                self.more = is_followed(part);
+                self.more = part.is_followed();
                 self.bytes = bytes;
                 Some(part)
             }

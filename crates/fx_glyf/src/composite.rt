@@ -8,7 +8,7 @@ use crate::fault::GlyphFault;
 use crate::program::program;
 use crate::records::skip_parts;
 use crate::simple::x_min;
-use fx_sfnt::after;
+use fx_fixed::after;
 use std::marker::Model;
 
 /// A glyph of components, in its bytes (OpenType, `glyf`, composite glyph description).
@@ -23,16 +23,16 @@ impl<'a> Model for Composite<'a> {
     ghost use Rattle.std.specs.Prelude.{IsSome, true, length, ◌<◌, ◌^◌};
     ghost use Rattle.fx_glyf.specs.Words.{list_in};
     ghost use Rattle.fx_glyf.specs.Components.{parts_in};
-    ghost use Rattle.fx_glyf.specs.Shapes.{Assembly};
+    ghost use Rattle.fx_glyf.specs.Shapes.{CompositeView};
 
-    ghost Value = { Assembly };
+    ghost Value = { CompositeView };
 
     ghost view = { λ c. record { components = list_in (parts_in true c.parts.now); x_min = c.x_min; code = c.code.now } };
 
     ghost invariant = { λ c. IsSome (parts_in true c.parts.now) × (length c.code.now < 2 ^ 16) };
 }
 
-/// The program behind components, where one is announced.
+/// The program after components, if one is announced.
 fn announced_program(announced: bool, bytes: &[u8]) -> Option<(&[u8], &[u8])>
     ensures value { option_map (λ p. (p.0.now, p.1.now)) result ≡ announced_of announced bytes.now }
     ensures short { IfSome result (λ p. length p.0.now < 2 ^ 16) }
@@ -45,7 +45,7 @@ fn announced_program(announced: bool, bytes: &[u8]) -> Option<(&[u8], &[u8])>
 }
 
 impl<'a> Composite<'a> {
-    /// Reads the components and the program behind the header; g is the glyph's number.
+    /// Reads the components and the program after the header; g is the glyph's number.
     #[tactic(auto, unfolding(crate::specs::Glyphs::composite_of))]
     pub(crate) fn read(bytes: &'a [u8], g: u16) -> Result<Composite<'a>, GlyphFault>
         requires { 10 ≤ length bytes.now }
@@ -79,7 +79,7 @@ impl<'a> Composite<'a> {
         self.x_min
     }
 
-    /// The program; empty where no component announces one.
+    /// The program; empty if no component announces one.
     pub fn code(&self) -> &'a [u8]
         ensures value { result.now ≡ self.now.code }
         ensures short { length result.now < 2 ^ 16 }

@@ -3,12 +3,12 @@
 ghost use Rattle.std.specs.Prelude.{◌≡◌, ◌*◌, ◌≤◌, length};
 ghost use Rattle.fx_glyf.specs.Words.{words, count_from};
 
-use byteorder::{BigEndian, ByteOrder};
-use fx_sfnt::after;
+use fx_fixed::after;
+use fx_sfnt::u16_in;
 use std::marker::Model;
 
-/// The number of points, one more than the last end point; none where an end point is below the
-/// one before it.
+/// The number of points, one more than the last end point; none if an end point is below the one before it.
+#[tactic(auto, unfolding(fx_sfnt::specs::Fields::field))]
 pub fn count_points(contours: u16, bytes: &[u8]) -> Option<u32>
     requires { 2 * contours ≤ length bytes.now }
     ensures { result ≡ count_from 0 (words contours bytes.now) }
@@ -16,7 +16,7 @@ pub fn count_points(contours: u16, bytes: &[u8]) -> Option<u32>
     let mut count = 0;
     let mut rest = bytes;
     'ends: for _k in 0..contours {
-        let end = u32::from(BigEndian::read_u16(rest));
+        let end = u32::from(u16_in(rest, 0));
         if end + 1 < count {
             return None;
         }
@@ -45,7 +45,7 @@ impl<'a> Model for Ends<'a> {
 }
 
 impl<'a> Ends<'a> {
-    /// So many end points at the front of the bytes.
+    /// The end points of `left` contours at the front of the bytes.
     pub(crate) fn new(left: u16, bytes: &'a [u8]) -> Ends<'a>
         requires { 2 * left ≤ length bytes.now }
         ensures { result ≡ words left bytes.now }
@@ -63,12 +63,12 @@ impl<'a> Iterator for Ends<'a> {
 
     ghost remaining = { item_count (λ ns. ns) };
 
-    #[tactic(auto, unfolding(crate::specs::Words::words))]
+    #[tactic(auto, unfolding(crate::specs::Words::words, fx_sfnt::specs::Fields::field))]
     fn next(&mut self) -> Option<u16> {
         if self.left == 0 {
             return None;
         }
-        let end = BigEndian::read_u16(self.bytes);
+        let end = u16_in(self.bytes, 0);
         self.left -= 1;
         self.bytes = after(self.bytes, 2);
         Some(end)

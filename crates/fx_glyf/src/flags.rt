@@ -7,22 +7,22 @@ ghost use Rattle.fx_glyf.specs.Points.{next_flag, flags_from};
 use std::marker::Model;
 
 /// The point is on the curve.
-pub const ON_CURVE: u8 = 0x01;
+pub const ON_CURVE_POINT: u8 = 0x01;
 
 /// The delta of x is one byte.
-pub const X_SHORT: u8 = 0x02;
+pub const X_SHORT_VECTOR: u8 = 0x02;
 
 /// The delta of y is one byte.
-pub const Y_SHORT: u8 = 0x04;
+pub const Y_SHORT_VECTOR: u8 = 0x04;
 
-/// The next byte says for how many further points the flag stands.
-pub const REPEATS: u8 = 0x08;
+/// The next byte is the number of further points with this flag.
+pub const REPEAT_FLAG: u8 = 0x08;
 
-/// The delta of x is 0, or positive where it is short.
-pub const X_SAME: u8 = 0x10;
+/// The delta of x is 0, or positive if it is short.
+pub const X_IS_SAME_OR_POSITIVE_X_SHORT_VECTOR: u8 = 0x10;
 
-/// The delta of y is 0, or positive where it is short.
-pub const Y_SAME: u8 = 0x20;
+/// The delta of y is 0, or positive if it is short.
+pub const Y_IS_SAME_OR_POSITIVE_Y_SHORT_VECTOR: u8 = 0x20;
 
 /// Whether a flag has a bit, by its mask.
 pub fn has(flag: u8, mask: u8) -> bool
@@ -31,7 +31,7 @@ pub fn has(flag: u8, mask: u8) -> bool
     flag & mask != 0
 }
 
-/// The next flag, how often it stands again after that, and the bytes behind it.
+/// The number of further points with the next flag, that flag, and the bytes after it.
 #[tactic(auto, unfolding(crate::specs::Points::next_flag))]
 pub fn next_flag(again: u8, flag: u8, bytes: &[u8]) -> Option<(u8, u8, &[u8])>
     ensures { option_map (λ s. record { again = s.0; flag = s.1; bytes = s.2.now }) result
@@ -43,7 +43,7 @@ pub fn next_flag(again: u8, flag: u8, bytes: &[u8]) -> Option<(u8, u8, &[u8])>
     match bytes {
         [] => None,
         [flag, rest @ ..] => {
-            if !has(*flag, REPEATS) {
+            if !has(*flag, REPEAT_FLAG) {
                 return Some((0, *flag, rest));
             }
             match rest {
@@ -54,7 +54,7 @@ pub fn next_flag(again: u8, flag: u8, bytes: &[u8]) -> Option<(u8, u8, &[u8])>
     }
 }
 
-/// The bytes after the flags of so many points.
+/// The bytes after the flags of `count` points.
 pub fn skip_flags(count: u32, bytes: &[u8]) -> Option<&[u8]>
     ensures { option_map (λ r. r.now) result
         ≡ option_map (λ r. r.1) (flags_from count (record { again = 0; flag = 0; bytes = bytes.now })) }
@@ -63,15 +63,15 @@ pub fn skip_flags(count: u32, bytes: &[u8]) -> Option<&[u8]>
     let mut flag = 0;
     let mut rest = bytes;
     'flags: for _k in 0..count {
-        let (next_again, next, behind) = next_flag(again, flag, rest)?;
+        let (next_again, next, after_it) = next_flag(again, flag, rest)?;
         again = next_again;
         flag = next;
-        rest = behind;
+        rest = after_it;
     }
     Some(rest)
 }
 
-/// The flags of points that are left, which are all there.
+/// The flags of points that are left; their bytes are complete.
 #[derive(Drop)]
 pub struct Flags<'a> {
     left: u32,
@@ -93,7 +93,7 @@ impl<'a> Model for Flags<'a> {
 }
 
 impl<'a> Flags<'a> {
-    /// The flags of so many points at the front of the bytes.
+    /// The flags of `left` points at the front of the bytes.
     pub fn new(left: u32, bytes: &'a [u8]) -> Flags<'a>
         requires { IsSome (flags_from left (record { again = 0; flag = 0; bytes = bytes.now })) }
         ensures { result ≡ list_in (flags_from left (record { again = 0; flag = 0; bytes = bytes.now })) }

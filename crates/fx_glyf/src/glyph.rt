@@ -3,7 +3,7 @@
 use crate::composite::Composite;
 use crate::simple::Simple;
 
-/// A glyph in its bytes, which are all there.
+/// A glyph in its bytes, which are complete.
 #[derive(Drop)]
 pub enum Glyph<'a> {
     /// No contour, no component, no program; its xMin counts as 0.

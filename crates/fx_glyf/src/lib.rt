@@ -1,7 +1,7 @@
 //! Glyph descriptions of a TrueType font: the bytes of one glyph of `glyf`, read in place.
 //!
-//! `read` checks the bytes once and answers a glyph over them, or the first fault; the iterators
-//! of a glyph then decode in place. Nothing here takes memory: no function takes an allocator,
+//! `read` checks the bytes once and returns a glyph over them, or the first fault; the iterators of a
+//! glyph then decode in place. Nothing here takes memory: no function takes an allocator,
 //! and no value holds one.
 #![tactic(auto)]
 

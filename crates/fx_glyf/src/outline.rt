@@ -1,9 +1,12 @@
-//! Flags and deltas that are all there.
+//! Flags and deltas whose bytes are complete.
 
 ghost use Rattle.std.specs.Prelude.{◌≡◌};
-ghost use Rattle.fx_glyf.specs.Points.{outline_of};
+ghost use Rattle.fx_glyf.specs.Points.{glyph_points_of};
 
-use crate::flags::{Flags, X_SAME, X_SHORT, Y_SAME, Y_SHORT, skip_flags};
+use crate::flags::{
+    Flags, X_IS_SAME_OR_POSITIVE_X_SHORT_VECTOR, X_SHORT_VECTOR,
+    Y_IS_SAME_OR_POSITIVE_Y_SHORT_VECTOR, Y_SHORT_VECTOR, skip_flags,
+};
 use crate::points::{Points, skip_deltas};
 use std::marker::Model;
 
@@ -20,29 +23,41 @@ impl<'a> Model for Outline<'a> {
     ghost use Rattle.std.specs.Prelude.{List, IsSome};
     ghost use Rattle.fx_glyf.specs.declared.point.Point.{Point};
     ghost use Rattle.fx_glyf.specs.Words.{list_in};
-    ghost use Rattle.fx_glyf.specs.Points.{x_short, y_short, x_same, y_same, flags_from, deltas_from, seen, start};
+    ghost use Rattle.fx_glyf.specs.Points.{x_short_vector, y_short_vector, x_is_same_or_positive_x_short_vector, y_is_same_or_positive_y_short_vector, flags_from, deltas_from, points_seen, start};
 
     ghost Value = { List Point };
 
-    ghost view = { λ o. seen (list_in (flags_from o.count (start o.flags.now))) o.xs.now o.ys.now 0 0 };
+    ghost view = { λ o. points_seen (list_in (flags_from o.count (start o.flags.now))) o.xs.now o.ys.now 0 0 };
 
     ghost invariant = { λ o. IsSome (flags_from o.count (start o.flags.now))
-        × IsSome (deltas_from x_short x_same (list_in (flags_from o.count (start o.flags.now))) o.xs.now)
-        × IsSome (deltas_from y_short y_same (list_in (flags_from o.count (start o.flags.now))) o.ys.now) };
+        × IsSome (deltas_from x_short_vector x_is_same_or_positive_x_short_vector
+        (list_in (flags_from o.count (start o.flags.now))) o.xs.now)
+        × IsSome (deltas_from y_short_vector y_is_same_or_positive_y_short_vector
+        (list_in (flags_from o.count (start o.flags.now))) o.ys.now) };
 }
 
 impl<'a> Outline<'a> {
-    /// So many points at the front of the bytes, if they are all there.
+    /// `count` points at the front of the bytes, if their bytes are complete.
     pub fn read(count: u32, flags: &'a [u8]) -> Option<Outline<'a>>
-        ensures { result ≡ outline_of count flags.now }
+        ensures { result ≡ glyph_points_of count flags.now }
     {
         let Some(xs) = skip_flags(count, flags) else {
             return None;
         };
-        let Some(ys) = skip_deltas(X_SHORT, X_SAME, Flags::new(count, flags), xs) else {
+        let Some(ys) = skip_deltas(
+            X_SHORT_VECTOR,
+            X_IS_SAME_OR_POSITIVE_X_SHORT_VECTOR,
+            Flags::new(count, flags),
+            xs,
+        ) else {
             return None;
         };
-        let Some(_) = skip_deltas(Y_SHORT, Y_SAME, Flags::new(count, flags), ys) else {
+        let Some(_) = skip_deltas(
+            Y_SHORT_VECTOR,
+            Y_IS_SAME_OR_POSITIVE_Y_SHORT_VECTOR,
+            Flags::new(count, flags),
+            ys,
+        ) else {
             return None;
         };
         Some(Outline {

@@ -2,16 +2,19 @@
 
 ghost use Rattle.std.specs.Prelude.{◌≡◌, ◌+◌, ◌-◌, ◌%◌, ◌≤◌, ◌∷◌, [], IsSome, MatchOption, length, drop, option_map};
 ghost use Rattle.fx_glyf.specs.Words.{list_in};
-ghost use Rattle.fx_glyf.specs.Points.{x_short, y_short, x_same, y_same, delta_of, deltas_from, points_of, point_at, seen};
+ghost use Rattle.fx_glyf.specs.Points.{x_short_vector, y_short_vector, x_is_same_or_positive_x_short_vector, y_is_same_or_positive_y_short_vector, delta_of, deltas_from, points_of, point_at, points_seen};
 
-use crate::flags::{Flags, ON_CURVE, X_SAME, X_SHORT, Y_SAME, Y_SHORT, has};
+use crate::flags::{
+    Flags, ON_CURVE_POINT, X_IS_SAME_OR_POSITIVE_X_SHORT_VECTOR, X_SHORT_VECTOR,
+    Y_IS_SAME_OR_POSITIVE_Y_SHORT_VECTOR, Y_SHORT_VECTOR, has,
+};
 use crate::point::Point;
-use byteorder::{BigEndian, ByteOrder};
-use fx_sfnt::after;
+use fx_fixed::after;
+use fx_sfnt::u16_in;
 use std::marker::Model;
 
-/// The delta of one coordinate of a point, and the bytes behind it.
-#[tactic(auto, unfolding(crate::specs::Points::delta_by))]
+/// The delta of one coordinate of a point, and the bytes after it.
+#[tactic(auto, unfolding(crate::specs::Points::delta_by, fx_sfnt::specs::Fields::field))]
 pub fn delta(short: u8, same: u8, flag: u8, bytes: &[u8]) -> Option<(u16, &[u8])>
     ensures { option_map (λ d. (d.0, d.1.now)) result ≡ delta_of short same flag bytes.now }
 {
@@ -37,7 +40,7 @@ pub fn delta(short: u8, same: u8, flag: u8, bytes: &[u8]) -> Option<(u16, &[u8])
     if bytes.len() < 2 {
         return None;
     }
-    Some((BigEndian::read_u16(bytes), after(bytes, 2)))
+    Some((u16_in(bytes, 0), after(bytes, 2)))
 }
 
 /// The bytes after the deltas of points with these flags.
@@ -47,8 +50,8 @@ pub fn skip_deltas<'a>(short: u8, same: u8, flags: Flags<'_>, bytes: &'a [u8]) -
     let mut flags = flags;
     let mut rest = bytes;
     'deltas: while let Some(flag) = flags.next() {
-        let (_, behind) = delta(short, same, flag, rest)?;
-        rest = behind;
+        let (_, after_it) = delta(short, same, flag, rest)?;
+        rest = after_it;
     }
     Some(rest)
 }
@@ -67,21 +70,25 @@ impl<'a> Model for Points<'a> {
     ghost use Rattle.std.specs.Prelude.{List, IsSome};
     ghost use Rattle.fx_glyf.specs.declared.point.Point.{Point};
     ghost use Rattle.fx_glyf.specs.Words.{list_in};
-    ghost use Rattle.fx_glyf.specs.Points.{x_short, y_short, x_same, y_same, deltas_from, points_of};
+    ghost use Rattle.fx_glyf.specs.Points.{x_short_vector, y_short_vector, x_is_same_or_positive_x_short_vector, y_is_same_or_positive_y_short_vector, deltas_from, points_of};
 
     ghost Value = { List Point };
 
-    ghost view = { λ p. points_of p.flags (list_in (deltas_from x_short x_same p.flags p.xs.now)) (list_in (deltas_from y_short y_same p.flags p.ys.now)) p.x p.y };
+    ghost view = { λ p. points_of p.flags
+        (list_in (deltas_from x_short_vector x_is_same_or_positive_x_short_vector p.flags p.xs.now))
+        (list_in (deltas_from y_short_vector y_is_same_or_positive_y_short_vector p.flags p.ys.now))
+        p.x p.y };
 
-    ghost invariant = { λ p. IsSome (deltas_from x_short x_same p.flags p.xs.now) × IsSome (deltas_from y_short y_same p.flags p.ys.now) };
+    ghost invariant = { λ p. IsSome (deltas_from x_short_vector x_is_same_or_positive_x_short_vector p.flags p.xs.now)
+        × IsSome (deltas_from y_short_vector y_is_same_or_positive_y_short_vector p.flags p.ys.now) };
 }
 
 impl<'a> Points<'a> {
     /// The points of these flags and deltas.
     pub(crate) fn new(flags: Flags<'a>, xs: &'a [u8], ys: &'a [u8]) -> Points<'a>
-        requires x { IsSome (deltas_from x_short x_same flags xs.now) }
-        requires y { IsSome (deltas_from y_short y_same flags ys.now) }
-        ensures { result ≡ seen flags.entry xs.now ys.now 0 0 }
+        requires x { IsSome (deltas_from x_short_vector x_is_same_or_positive_x_short_vector flags xs.now) }
+        requires y { IsSome (deltas_from y_short_vector y_is_same_or_positive_y_short_vector flags ys.now) }
+        ensures { result ≡ points_seen flags.entry xs.now ys.now 0 0 }
     {
         Points {
             flags,
@@ -107,8 +114,18 @@ impl<'a> Iterator for Points<'a> {
             return None;
         };
         match (
-            delta(X_SHORT, X_SAME, flag, self.xs),
-            delta(Y_SHORT, Y_SAME, flag, self.ys),
+            delta(
+                X_SHORT_VECTOR,
+                X_IS_SAME_OR_POSITIVE_X_SHORT_VECTOR,
+                flag,
+                self.xs,
+            ),
+            delta(
+                Y_SHORT_VECTOR,
+                Y_IS_SAME_OR_POSITIVE_Y_SHORT_VECTOR,
+                flag,
+                self.ys,
+            ),
         ) {
             (Some((dx, xs)), Some((dy, ys))) => {
                 self.xs = xs;
@@ -138,6 +155,7 @@ fn opposite(by: u16) -> u16
     if by == 0 { 0 } else { u16::MAX - by + 1 }
 }
 
+/// A point at coordinates modulo 2 ^ 16, which are signed.
 #[tactic(auto, unfolding(crate::specs::Points::point_at))]
 fn point(x: u16, y: u16, flag: u8) -> Point
     ensures { result ≡ point_at x y flag }
@@ -145,6 +163,6 @@ fn point(x: u16, y: u16, flag: u8) -> Point
     Point {
         x: x.cast_signed(),
         y: y.cast_signed(),
-        on_curve: has(flag, ON_CURVE),
+        on_curve: has(flag, ON_CURVE_POINT),
     }
 }

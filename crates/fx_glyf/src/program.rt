@@ -3,9 +3,10 @@
 ghost use Rattle.std.specs.Prelude.{◌≡◌, ◌<◌, ◌^◌, length, option_map, IfSome};
 ghost use Rattle.fx_glyf.specs.Words.{program_of};
 
-use fx_sfnt::{after, before, u16_in};
+use fx_fixed::{after, before};
+use fx_sfnt::u16_in;
 
-/// A program behind its length, and the bytes after it.
+/// A program after its length, and the bytes after it.
 #[tactic(auto, unfolding(crate::specs::Words::program_of))]
 pub fn program(bytes: &[u8]) -> Option<(&[u8], &[u8])>
     ensures value { option_map (λ p. (p.0.now, p.1.now)) result ≡ program_of bytes.now }

@@ -13,9 +13,9 @@ use fx_sfnt::u16_in;
 
 /// Reads the bytes of a glyph, whose number is g (OpenType, `glyf`).
 ///
-/// The answer is the one glyph that the grammar finds in a front of the bytes, else the first
-/// fault: `GlyphShort` where the header or the end points are cut, else `BadContours` where an
-/// end point is below the one before it, else `GlyphShort`.
+/// The result is the one glyph that the grammar finds in a front of the bytes, else the first
+/// fault: `GlyphShort` if the header or the end points are cut, else `BadContours` if an end point
+/// is below the one before it, else `GlyphShort`.
 pub fn read<'a>(bytes: &'a [u8], g: u16) -> Result<Glyph<'a>, GlyphFault>
     ensures exact { result ≡ glyph_of bytes.now g }
     // What is read is described by the bytes.
@@ -23,12 +23,12 @@ pub fn read<'a>(bytes: &'a [u8], g: u16) -> Result<Glyph<'a>, GlyphFault>
     // What the bytes describe is read, and nothing else is.
     ensures only { (glyph : Glyph) → Describes bytes.now glyph → result ≡ Ok glyph }
 {
-    read_glyph(bytes, g)
+    read_inner(bytes, g)
 }
 
-/// The same, by its parts.
+/// The same, by the number of contours.
 #[tactic(auto, unfolding(crate::specs::Glyphs::glyph_of))]
-fn read_glyph<'a>(bytes: &'a [u8], g: u16) -> Result<Glyph<'a>, GlyphFault>
+fn read_inner<'a>(bytes: &'a [u8], g: u16) -> Result<Glyph<'a>, GlyphFault>
     ensures { result ≡ glyph_of bytes.now g }
 {
     if bytes.is_empty() {

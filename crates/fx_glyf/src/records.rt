@@ -2,56 +2,35 @@
 
 ghost use Rattle.std.specs.Prelude.{◌≡◌, ◌+◌, ◌*◌, ◌≤◌, true, length, option_map};
 ghost use Rattle.fx_sfnt.specs.Fields.{field};
-ghost use Rattle.fx_glyf.specs.Words.{has};
-ghost use Rattle.fx_glyf.specs.Components.{args_size, scales_size, part_size, argument_of, scales_of, part_of, next_part, is_followed, parts_in, ending_of};
+ghost use Rattle.fx_glyf.specs.Components.{args_size, scales_size, part_size, argument_of, scales_of, part_of, next_part, parts_in, ending_of};
 
-use crate::part::Part;
-use fx_sfnt::{after, before, i16_in, u16_in};
-
-/// Both arguments are words, else bytes.
-const ARGS_ARE_WORDS: u16 = 0x0001;
-
-/// The arguments are offsets, else numbers of points.
-const ARGS_ARE_OFFSETS: u16 = 0x0002;
-
-/// One scale, for x and y.
-const ONE_SCALE: u16 = 0x0008;
-
-/// Another component follows.
-const MORE_COMPONENTS: u16 = 0x0020;
-
-/// A scale for x and one for y.
-const TWO_SCALES: u16 = 0x0040;
-
-/// All four numbers of the transformation.
-const FOUR_SCALES: u16 = 0x0080;
-
-/// A program follows the last component.
-const INSTRUCTIONS: u16 = 0x0100;
-
-/// Whether flags have a bit, by its mask.
-fn has(flags: u16, mask: u16) -> bool
-    ensures { result ≡ has flags mask }
-{
-    flags & mask != 0
-}
+use crate::part::{
+    ARG_1_AND_2_ARE_WORDS, ARGS_ARE_XY_VALUES, Part, WE_HAVE_A_SCALE, WE_HAVE_A_TWO_BY_TWO,
+    WE_HAVE_AN_X_AND_Y_SCALE, has,
+};
+use fx_fixed::{F2, after, before};
+use fx_sfnt::{i16_in, u16_in};
 
 /// The bytes of both arguments.
 fn args_size(flags: u16) -> usize
     ensures { result ≡ args_size flags }
 {
-    if has(flags, ARGS_ARE_WORDS) { 4 } else { 2 }
+    if has(flags, ARG_1_AND_2_ARE_WORDS) {
+        4
+    } else {
+        2
+    }
 }
 
 /// The bytes of the scales.
 fn scales_size(flags: u16) -> usize
     ensures { result ≡ scales_size flags }
 {
-    if has(flags, ONE_SCALE) {
+    if has(flags, WE_HAVE_A_SCALE) {
         2
-    } else if has(flags, TWO_SCALES) {
+    } else if has(flags, WE_HAVE_AN_X_AND_Y_SCALE) {
         4
-    } else if has(flags, FOUR_SCALES) {
+    } else if has(flags, WE_HAVE_A_TWO_BY_TWO) {
         8
     } else {
         0
@@ -62,10 +41,13 @@ fn scales_size(flags: u16) -> usize
 #[tactic(auto, unfolding(crate::specs::Components::argument_by))]
 fn argument(flags: u16, bytes: &[u8], k: usize) -> i32
     requires which { k ≤ 1 }
-    requires room { args_size flags ≤ length bytes.now }
+    requires inside { args_size flags ≤ length bytes.now }
     ensures { result ≡ argument_of flags bytes.now k }
 {
-    match (has(flags, ARGS_ARE_WORDS), has(flags, ARGS_ARE_OFFSETS)) {
+    match (
+        has(flags, ARG_1_AND_2_ARE_WORDS),
+        has(flags, ARGS_ARE_XY_VALUES),
+    ) {
         (true, true) => i32::from(i16_in(bytes, 2 * k)),
         (true, false) => i32::from(u16_in(bytes, 2 * k)),
         (false, true) => i32::from(bytes[k].cast_signed()),
@@ -79,11 +61,11 @@ fn scales(flags: u16, bytes: &[u8]) -> (i16, i16, i16, i16)
     requires { scales_size flags ≤ length bytes.now }
     ensures { result ≡ scales_of flags bytes.now }
 {
-    if has(flags, ONE_SCALE) {
+    if has(flags, WE_HAVE_A_SCALE) {
         (i16_in(bytes, 0), 0, 0, i16_in(bytes, 0))
-    } else if has(flags, TWO_SCALES) {
+    } else if has(flags, WE_HAVE_AN_X_AND_Y_SCALE) {
         (i16_in(bytes, 0), 0, 0, i16_in(bytes, 2))
-    } else if has(flags, FOUR_SCALES) {
+    } else if has(flags, WE_HAVE_A_TWO_BY_TWO) {
         (
             i16_in(bytes, 0),
             i16_in(bytes, 2),
@@ -91,7 +73,7 @@ fn scales(flags: u16, bytes: &[u8]) -> (i16, i16, i16, i16)
             i16_in(bytes, 6),
         )
     } else {
-        (16384, 0, 0, 16384)
+        (F2::ONE.0, 0, 0, F2::ONE.0)
     }
 }
 
@@ -131,13 +113,6 @@ pub fn next_part(bytes: &[u8]) -> Option<(Part, &[u8])>
     Some((part(before(bytes, size)), after(bytes, size)))
 }
 
-/// Whether another component follows.
-pub fn is_followed(part: Part) -> bool
-    ensures { result ≡ is_followed part }
-{
-    has(part.flags, MORE_COMPONENTS)
-}
-
 /// Whether any component announces a program, and the bytes after the last.
 pub fn skip_parts(bytes: &[u8]) -> Option<(bool, &[u8])>
     ensures { option_map (λ p. (p.0, p.1.now)) result ≡ option_map ending_of (parts_in true bytes.now) }
@@ -146,10 +121,10 @@ pub fn skip_parts(bytes: &[u8]) -> Option<(bool, &[u8])>
     let mut more = true;
     let mut rest = bytes;
     'parts: while more {
-        let (part, behind) = next_part(rest)?;
-        announced |= has(part.flags, INSTRUCTIONS);
-        more = is_followed(part);
-        rest = behind;
+        let (part, after_it) = next_part(rest)?;
+        announced |= part.has_program();
+        more = part.is_followed();
+        rest = after_it;
     }
     Some((announced, rest))
 }

@@ -9,7 +9,8 @@ use crate::fault::GlyphFault;
 use crate::outline::Outline;
 use crate::points::Points;
 use crate::program::program;
-use fx_sfnt::{after, i16_in};
+use fx_fixed::after;
+use fx_sfnt::i16_in;
 use std::marker::Model;
 
 /// A glyph of contours, in its bytes (OpenType, `glyf`, simple glyph description).
@@ -24,14 +25,16 @@ pub struct Simple<'a> {
 
 impl<'a> Model for Simple<'a> {
     ghost use Rattle.std.specs.Prelude.{◌≡◌, Some, length, ◌*◌, ◌≤◌, ◌<◌, ◌^◌};
-    ghost use Rattle.fx_glyf.specs.Shapes.{Shape};
+    ghost use Rattle.fx_glyf.specs.Shapes.{SimpleView};
     ghost use Rattle.fx_glyf.specs.Words.{words, count_from};
 
-    ghost Value = { Shape };
+    ghost Value = { SimpleView };
 
     ghost view = { λ s. record { ends = words s.contours s.ends.now; points = s.outline; x_min = s.x_min; code = s.code.now } };
 
-    ghost invariant = { λ s. (2 * s.contours ≤ length s.ends.now) × (count_from 0 (words s.contours s.ends.now) ≡ Some (length s.outline)) × (length s.code.now < 2 ^ 16) };
+    ghost invariant = { λ s. (2 * s.contours ≤ length s.ends.now)
+        × (count_from 0 (words s.contours s.ends.now) ≡ Some (length s.outline))
+        × (length s.code.now < 2 ^ 16) };
 }
 
 /// The xMin of a header, in FUnits.
@@ -43,7 +46,7 @@ pub fn x_min(bytes: &[u8]) -> i16
 }
 
 impl<'a> Simple<'a> {
-    /// Reads a glyph of so many contours behind its header; g is the glyph's number.
+    /// Reads a glyph of `contours` contours after its header; g is the glyph's number.
     #[tactic(auto, unfolding(crate::specs::Glyphs::simple_of))]
     pub(crate) fn read(contours: u16, bytes: &'a [u8], g: u16) -> Result<Simple<'a>, GlyphFault>
         requires { 10 ≤ length bytes.now }

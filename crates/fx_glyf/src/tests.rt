@@ -31,7 +31,7 @@ fn cut_or_falling(rt: HostRuntime) {
 
 #[test]
 fn three_points_at_zero(rt: HostRuntime) -> Result<(), Fail> {
-    // The run goes on past the last point.
+    // The run continues past the last point.
     let bytes = b"\x00\x01\x00\x00\x00\x00\x00\x00\x00\x00\x00\x02\x00\x00\x39\x09";
     let origin = Point {
         x: 0,

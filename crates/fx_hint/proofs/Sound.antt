@@ -1,4 +1,5 @@
--- A glyph made whole has the points that were counted, and its contours end with them.
+-- An assembled glyph has the points that were counted, and its contours end with them.
+-- For `outline_with`, whose outline keeps its limits.
 use Rattle.std.proofs.Common.{◌≡◌, ℕ, zero, suc, ◌+◌, ◌≤◌, List, [], ◌∷◌, ◌++◌, length, map, Bool, Ok, refl, sym, ap, ◌∙◌, subst, arith, length-append}
 use Rattle.std.specs.Prelude.{nat_lt, nat_le}
 use Rattle.std.proofs.lemmas.Bool.{ltb-false}
@@ -11,67 +12,75 @@ use Rattle.fx_sfnt.specs.Glyphs.{metrics_of, glyph_bytes_of}
 use Rattle.fx_glyf.specs.declared.part.Part.{Part}
 use Rattle.fx_glyf.specs.declared.glyph.Glyph as glyf
 use Rattle.fx_glyf.specs.declared.glyph.Glyph.TheVariants.{Empty, Simple, Composite}
-use Rattle.fx_glyf.specs.Shapes.{Shape}
+use Rattle.fx_glyf.specs.Shapes.{SimpleView}
 use Rattle.fx_glyf.specs.Glyphs.{glyph_of}
 use Rattle.fx_glyf.proofs.Outlines.{outline_count}
 use Rattle.fx_glyf.proofs.PointsDescribed.{only_points}
-use Rattle.fx_glyf.proofs.Whole.{found_glyph}
+use Rattle.fx_glyf.proofs.Described.{found_glyph}
 use Rattle.fx_zone.specs.Figures.{Figure, empty_figure, joined}
 use Rattle.fx_scale.specs.declared.scale.Scale.{Scale}
 use Rattle.fx_scale.specs.Phantoms.{phantoms_of}
-use Rattle.fx_scale.specs.Zones.{scaled_point, zone_of_shape}
+use Rattle.fx_scale.specs.Zones.{scaled_point, zone_of_simple}
 use Rattle.fx_hint.specs.declared.count.Count.{Count}
 use Rattle.fx_hint.specs.declared.made.Made.{Made}
 use Rattle.fx_hint.specs.declared.fault.HintFault.TheVariants.{Font, Glyph, TooManyComponents, TooManyPoints}
+use Rattle.fx_hint.specs.Limits.{max_points, max_components, max_depth}
 use Rattle.fx_hint.specs.Ends.{AreEnds}
 use Rattle.fx_hint.specs.Hinting.{Hinting, KeepsShape}
 use Rattle.fx_hint.specs.Parts.{laid, laid_figure, offset_of, with_part}
-use Rattle.fx_hint.specs.Outlines.{Maker, one_record, more_points, simple_made, run_on, with_parts, made_of, whole, component, character_made, IsSound}
+use Rattle.fx_hint.specs.Outlines.{Maker, one_component, more_points, simple_made, run_on, with_parts, made_of, assembled, component, root_made, IsSound}
 use Rattle.fx_hint.proofs.Contours.{ends_joined}
 
--- the points of a glyph made whole were counted, and its contours end with them
+-- the points of an assembled glyph were counted, and its contours end with them
 record IsCounted (count : Count) (made : Made) (counted : Count) : Type 0 where
   points : count.points + length made.zone.points ≡ counted.points
-  few : counted.points ≤ 16384
+  few : counted.points ≤ max_points
   contours : AreEnds 0 made.zone.ends (length made.zone.points)
 
 abbrev AllCounted : Maker → Type 0
-AllCounted make = (g : ℕ) (count : Count) (r : Made × Count) → count.points ≤ 16384 → make g count ≡ Ok r → IsCounted count r.0 r.1
+AllCounted make =
+    (g : ℕ) (count : Count) (r : Made × Count) → count.points ≤ max_points → make g count ≡ Ok r → IsCounted count r.0 r.1
 
 -- the contours of a simple glyph that was read end with its points
-abbrev IsLawful : glyf.Glyph → Type 0
-IsLawful Empty = Unit {0}
-IsLawful (Simple shape) = AreEnds 0 shape.ends (length shape.points)
-IsLawful (Composite assembly) = Unit {0}
+abbrev IsValid : glyf.Glyph → Type 0
+IsValid Empty = Unit {0}
+IsValid (Simple shape) = AreEnds 0 shape.ends (length shape.points)
+IsValid (Composite assembly) = Unit {0}
 
-read_lawful : (bytes : List ℕ) (g : ℕ) (glyph : glyf.Glyph) → glyph_of bytes g ≡ Ok glyph → IsLawful glyph
-read_lawful bytes g Empty h = tt
-read_lawful bytes g (Simple shape) h =
+read_valid : (bytes : List ℕ) (g : ℕ) (glyph : glyf.Glyph) → glyph_of bytes g ≡ Ok glyph → IsValid glyph
+read_valid bytes g Empty h = tt
+read_valid bytes g (Simple shape) h =
     let d = found_glyph bytes g (Simple shape) h in
-    let n : length shape.points ≡ d.count = outline_count d.count d.rest shape.points (only_points d.count d.rest shape.points d.points_are) in
+    let n : length shape.points ≡ d.count =
+    outline_count d.count d.rest shape.points (only_points d.count d.rest shape.points d.points_are) in
     let P : ℕ → Type 0 = λ k. AreEnds 0 shape.ends k in
     subst P (sym n) d.in_order
-read_lawful bytes g (Composite assembly) h = tt
+read_valid bytes g (Composite assembly) h = tt
 
-record_kept : (character : ℕ) (count counted : Count) → one_record character count ≡ Ok counted → counted.points ≡ count.points
-unfolding one_record
-record_kept character count counted h =
-    let r = refuse_ok (nat_le 256 count.records) (TooManyComponents character) (λ _. Ok (record count { records = count.records + 1 })) counted h in
+component_kept : (root : ℕ) (count counted : Count) → one_component root count ≡ Ok counted → counted.points ≡ count.points
+unfolding one_component
+component_kept root count counted h =
+    let r = refuse_ok (nat_le max_components count.records) (TooManyComponents root)
+    (λ _. Ok (record count { records = count.records + 1 })) counted h in
     ap (λ (c : Count). c.points) (sym (ok_injective _ _ r.1))
 
-points_counted : (character n : ℕ) (count counted : Count) → more_points character n count ≡ Ok counted → (count.points + n ≡ counted.points) × (counted.points ≤ 16384)
+points_counted : (root n : ℕ) (count counted : Count) → more_points root n count ≡ Ok counted
+    → (count.points + n ≡ counted.points) × (counted.points ≤ max_points)
 unfolding more_points
-points_counted character n count counted h =
-    let r = refuse_ok (nat_lt 16384 (count.points + n)) (TooManyPoints character) (λ _. Ok (record count { points = count.points + n })) counted h in
-    let low = ltb-false 16384 (count.points + n) r.0 in
+points_counted root n count counted h =
+    let r = refuse_ok (nat_lt max_points (count.points + n)) (TooManyPoints root)
+    (λ _. Ok (record count { points = count.points + n })) counted h in
+    let low = ltb-false max_points (count.points + n) r.0 in
     let e : count.points + n ≡ counted.points = ap (λ (c : Count). c.points) (ok_injective _ _ r.1) in
     (e, omega arith)
 
-simple_counted : (s : Scale) (hinted : Bool) (character : ℕ) (m : Metrics) (shape : Shape) (count : Count) (r : Made × Count) → AreEnds 0 shape.ends (length shape.points) → simple_made s hinted character m shape count ≡ Ok r → IsCounted count r.0 r.1
+simple_counted : (s : Scale) (hinted : Bool) (root : ℕ) (m : Metrics) (shape : SimpleView) (count : Count) (r : Made × Count)
+    → AreEnds 0 shape.ends (length shape.points) → simple_made s hinted root m shape count ≡ Ok r → IsCounted count r.0 r.1
 unfolding simple_made
-simple_counted s hinted character m shape count r a h =
-    let b = bind_ok (more_points character (length shape.points) count) (λ counted. Ok (record { zone = zone_of_shape s shape; phantoms = phantoms_of s hinted shape.x_min m }, counted)) r h in
-    let c = points_counted character (length shape.points) count b.0 b.1 in
+simple_counted s hinted root m shape count r a h =
+    let b = bind_ok (more_points root (length shape.points) count)
+    (λ counted. Ok (record { zone = zone_of_simple s shape; phantoms = phantoms_of s hinted shape.x_min m }, counted)) r h in
+    let c = points_counted root (length shape.points) count b.0 b.1 in
     let n : length (map (scaled_point s) shape.points) ≡ length shape.points = length-map shape.points (scaled_point s) in
     let P : Made × Count → Type 0 = λ q. IsCounted count q.0 q.1 in
     let Q : ℕ → Type 0 = λ k. AreEnds 0 shape.ends k in
@@ -82,7 +91,8 @@ simple_counted s hinted character m shape count r a h =
     })
 
 -- a program keeps what was counted
-run_counted : (h : Hinting) (g : ℕ) (code : List ℕ) (count : Count) (made r : Made × Count) → KeepsShape h → IsCounted count made.0 made.1 → run_on h g code made ≡ Ok r → IsCounted count r.0 r.1
+run_counted : (h : Hinting) (g : ℕ) (code : List ℕ) (count : Count) (made r : Made × Count) → KeepsShape h
+    → IsCounted count made.0 made.1 → run_on h g code made ≡ Ok r → IsCounted count r.0 r.1
 unfolding run_on
 run_counted h g code count made r keeps k e =
     let b = bind_ok (h.run g code made.0) (λ ran. Ok (ran, made.1)) r e in
@@ -96,25 +106,40 @@ run_counted h g code count made r keeps k e =
       contours = subst Q (sym same.1) (subst R (sym same.0) k.contours);
     })
 
--- a component behind the points so far
-part_joined : (s : Scale) (hinted : Bool) (g : ℕ) (part : Part) (base component more : Made) → AreEnds 0 base.zone.ends (length base.zone.points) → AreEnds 0 component.zone.ends (length component.zone.points) → with_part s hinted g part base component ≡ Ok more → (length more.zone.points ≡ length base.zone.points + length component.zone.points) × AreEnds 0 more.zone.ends (length more.zone.points)
+-- a component after the points so far
+part_joined : (s : Scale) (hinted : Bool) (g : ℕ) (part : Part) (base component more : Made)
+    → AreEnds 0 base.zone.ends (length base.zone.points) → AreEnds 0 component.zone.ends (length component.zone.points)
+    → with_part s hinted g part base component ≡ Ok more
+    → (length more.zone.points ≡ length base.zone.points + length component.zone.points)
+    × AreEnds 0 more.zone.ends (length more.zone.points)
 unfolding with_part
 part_joined s hinted g part base component more a b h =
     let p = bind_ok (offset_of s hinted g part base.zone component.zone) _ more h in
-    let zone : joined base.zone (laid_figure part p.0 component.zone) ≡ more.zone = ap (λ (m : Made). m.zone) (ok_injective _ _ p.2) in
-    let n : length (map (laid part p.0) component.zone.points) ≡ length component.zone.points = length-map component.zone.points (laid part p.0) in
-    let total : length (base.zone.points ++ map (laid part p.0) component.zone.points) ≡ length base.zone.points + length component.zone.points = length-append base.zone.points _ ∙ ap (λ k. length base.zone.points + k) n in
-    let P : Figure → Type 0 = λ f. (length f.points ≡ length base.zone.points + length component.zone.points) × AreEnds 0 f.ends (length f.points) in
+    let zone : joined base.zone (laid_figure part p.0 component.zone) ≡ more.zone =
+    ap (λ (m : Made). m.zone) (ok_injective _ _ p.2) in
+    let n : length (map (laid part p.0) component.zone.points) ≡ length component.zone.points =
+    length-map component.zone.points (laid part p.0) in
+    let total : length (base.zone.points ++ map (laid part p.0) component.zone.points) ≡ length base.zone.points + length
+    component.zone.points = length-append base.zone.points _ ∙ ap (λ k. length base.zone.points + k) n in
+    let P : Figure → Type 0 =
+    λ f. (length f.points ≡ length base.zone.points + length component.zone.points) × AreEnds 0 f.ends (length f.points) in
     let Q : ℕ → Type 0 = λ k. AreEnds 0 (base.zone.ends ++ map (λ e. length base.zone.points + e) component.zone.ends) k in
-    subst P zone (total, subst Q (sym total) (ends_joined base.zone.ends (length base.zone.points) component.zone.ends (length component.zone.points) a b))
+    subst P zone (
+      total,
+      subst Q (sym total)
+          (ends_joined base.zone.ends (length base.zone.points) component.zone.ends (length component.zone.points) a b),
+    )
 
--- components behind the points so far
+-- components after the points so far
 record AreJoined (base : Made) (count : Count) (made : Made) (counted : Count) : Type 0 where
   points : count.points + length made.zone.points ≡ length base.zone.points + counted.points
-  few : counted.points ≤ 16384
+  few : counted.points ≤ max_points
   contours : AreEnds 0 made.zone.ends (length made.zone.points)
 
-parts_joined : (s : Scale) (hinted : Bool) (make : Maker) (g : ℕ) (parts : List Part) (base : Made) (count : Count) (r : Made × Count) → AllCounted make → count.points ≤ 16384 → AreEnds 0 base.zone.ends (length base.zone.points) → with_parts s hinted make g parts base count ≡ Ok r → AreJoined base count r.0 r.1
+parts_joined : (s : Scale) (hinted : Bool) (make : Maker) (g : ℕ) (parts : List Part) (base : Made) (count : Count)
+    (r : Made × Count)
+    → AllCounted make → count.points ≤ max_points → AreEnds 0 base.zone.ends (length base.zone.points)
+    → with_parts s hinted make g parts base count ≡ Ok r → AreJoined base count r.0 r.1
 unfolding with_parts
 parts_joined s hinted make g [] base count r all low a h =
     let P : Made × Count → Type 0 = λ q. AreJoined base count q.0 q.1 in
@@ -130,44 +155,61 @@ parts_joined s hinted make g (part ∷ parts) base count r all low a h =
     let two = rest.points in
     record { points = omega arith; few = rest.few; contours = rest.contours }
 
-made_counted : (h : Hinting) (s : Scale) (character : ℕ) (make : Maker) (g : ℕ) (m : Metrics) (glyph : glyf.Glyph) (count : Count) (r : Made × Count) → KeepsShape h → AllCounted make → count.points ≤ 16384 → IsLawful glyph → made_of h s character make g m glyph count ≡ Ok r → IsCounted count r.0 r.1
+made_counted : (h : Hinting) (s : Scale) (root : ℕ) (make : Maker) (g : ℕ) (m : Metrics) (glyph : glyf.Glyph) (count : Count)
+    (r : Made × Count)
+    → KeepsShape h → AllCounted make → count.points ≤ max_points → IsValid glyph → made_of h s root make g m glyph count ≡ Ok r
+    → IsCounted count r.0 r.1
 unfolding made_of
-made_counted h s character make g m Empty count r keeps all low lawful e =
+made_counted h s root make g m Empty count r keeps all low valid e =
     let P : Made × Count → Type 0 = λ q. IsCounted count q.0 q.1 in
     subst P (ok_injective _ _ e) (record { points = omega arith; few = low; contours = refl })
-made_counted h s character make g m (Simple shape) count r keeps all low lawful e =
-    let b = bind_ok (simple_made s h.on character m shape count) (run_on h g shape.code) r e in
-    run_counted h g shape.code count b.0 r keeps (simple_counted s h.on character m shape count b.0 lawful b.1) b.2
-made_counted h s character make g m (Composite assembly) count r keeps all low lawful e =
-    let b = bind_ok (with_parts s h.on make g assembly.components (record { zone = empty_figure; phantoms = phantoms_of s h.on assembly.x_min m }) count) (run_on h g assembly.code) r e in
-    let j = parts_joined s h.on make g assembly.components (record { zone = empty_figure; phantoms = phantoms_of s h.on assembly.x_min m }) count b.0 all low refl b.1 in
+made_counted h s root make g m (Simple shape) count r keeps all low valid e =
+    let b = bind_ok (simple_made s h.on root m shape count) (run_on h g shape.code) r e in
+    run_counted h g shape.code count b.0 r keeps (simple_counted s h.on root m shape count b.0 valid b.1) b.2
+made_counted h s root make g m (Composite assembly) count r keeps all low valid e =
+    let b = bind_ok (with_parts s h.on make g assembly.components
+    (record { zone = empty_figure; phantoms = phantoms_of s h.on assembly.x_min m }) count) (run_on h g assembly.code) r e in
+    let j = parts_joined s h.on make g assembly.components
+    (record { zone = empty_figure; phantoms = phantoms_of s h.on assembly.x_min m }) count b.0 all low refl b.1 in
     let n = j.points in
     run_counted h g assembly.code count b.0 r keeps (record { points = omega arith; few = j.few; contours = j.contours }) b.2
 
-whole_counted : (h : Hinting) (face : Face) (s : Scale) (character : ℕ) (make : Maker) (g : ℕ) (count : Count) (r : Made × Count) → KeepsShape h → AllCounted make → count.points ≤ 16384 → whole h face s character make g count ≡ Ok r → IsCounted count r.0 r.1
-unfolding whole
-whole_counted h face s character make g count r keeps all low e =
-    let m = bind_ok (map_fault Font (metrics_of face g)) (λ m. map_fault Font (glyph_bytes_of face g) >>= λ bytes. map_fault Glyph (glyph_of bytes g) >>= λ glyph. made_of h s character make g m glyph count) r e in
-    let bytes = bind_ok (map_fault Font (glyph_bytes_of face g)) (λ bytes. map_fault Glyph (glyph_of bytes g) >>= λ glyph. made_of h s character make g m.0 glyph count) r m.2 in
-    let glyph = bind_ok (map_fault Glyph (glyph_of bytes.0 g)) (λ glyph. made_of h s character make g m.0 glyph count) r bytes.2 in
-    made_counted h s character make g m.0 glyph.0 count r keeps all low (read_lawful bytes.0 g glyph.0 (map_fault_ok Glyph (glyph_of bytes.0 g) glyph.0 glyph.1)) glyph.2
+assembled_counted : (h : Hinting) (face : Face) (s : Scale) (root : ℕ) (make : Maker) (g : ℕ) (count : Count) (r : Made × Count)
+    → KeepsShape h → AllCounted make → count.points ≤ max_points → assembled h face s root make g count ≡ Ok r
+    → IsCounted count r.0 r.1
+unfolding assembled
+assembled_counted h face s root make g count r keeps all low e =
+    let m = bind_ok (map_fault Font (metrics_of face g))
+    (λ m. map_fault Font (glyph_bytes_of face g) >>= λ bytes. map_fault Glyph
+    (glyph_of bytes g) >>= λ glyph. made_of h s root make g m glyph count) r e in
+    let bytes = bind_ok (map_fault Font (glyph_bytes_of face g))
+    (λ bytes. map_fault Glyph (glyph_of bytes g) >>= λ glyph. made_of h s root make g m.0 glyph count) r m.2 in
+    let glyph = bind_ok (map_fault Glyph (glyph_of bytes.0 g)) (λ glyph. made_of h s root make g m.0 glyph count) r bytes.2 in
+    made_counted h s root make g m.0 glyph.0 count r keeps all low
+    (read_valid bytes.0 g glyph.0 (map_fault_ok Glyph (glyph_of bytes.0 g) glyph.0 glyph.1)) glyph.2
 
-component_counted : (h : Hinting) (face : Face) (s : Scale) (character levels : ℕ) → KeepsShape h → AllCounted (component h face s character levels)
+component_counted : (h : Hinting) (face : Face) (s : Scale) (root levels : ℕ) → KeepsShape h
+    → AllCounted (component h face s root levels)
 unfolding component
-component_counted h face s character zero keeps g count r low e = absurd (cc)
-component_counted h face s character (suc levels) keeps g count r low e =
-    let b = bind_ok (one_record character count) (λ counted. whole h face s character (component h face s character levels) g counted) r e in
-    let same = record_kept character count b.0 b.1 in
-    let w = whole_counted h face s character (component h face s character levels) g b.0 r keeps (component_counted h face s character levels keeps) (omega arith) b.2 in
+component_counted h face s root zero keeps g count r low e = absurd (cc)
+component_counted h face s root (suc levels) keeps g count r low e =
+    let b =
+    bind_ok (one_component root count) (λ counted. assembled h face s root (component h face s root levels) g counted) r e in
+    let same = component_kept root count b.0 b.1 in
+    let w = assembled_counted h face s root (component h face s root levels) g b.0 r keeps
+    (component_counted h face s root levels keeps) (omega arith) b.2 in
     let n = w.points in
     record { points = omega arith; few = w.few; contours = w.contours }
 
--- a character's glyph made whole is sound
-pub character_sound : (h : Hinting) (face : Face) (s : Scale) (g : ℕ) (made : Made) → KeepsShape h → character_made h face s g ≡ Ok made → IsSound made
-unfolding character_made
-character_sound h face s g made keeps e =
-    let b = bind_ok (whole h face s g (component h face s g 8) g (record { records = 0; points = 0 })) (λ m. Ok m.0) made e in
-    let w = whole_counted h face s g (component h face s g 8) g (record { records = 0; points = 0 }) b.0 keeps (component_counted h face s g 8 keeps) (omega arith) b.1 in
+-- an assembled root is sound
+pub root_sound : (h : Hinting) (face : Face) (s : Scale) (g : ℕ) (made : Made) → KeepsShape h → root_made h face s g ≡ Ok made
+    → IsSound made
+unfolding root_made
+root_sound h face s g made keeps e =
+    let b = bind_ok (assembled h face s g (component h face s g max_depth) g (record { records = 0; points = 0 }))
+    (λ m. Ok m.0) made e in
+    let w = assembled_counted h face s g (component h face s g max_depth) g (record { records = 0; points = 0 }) b.0 keeps
+    (component_counted h face s g max_depth keeps) (omega arith) b.1 in
     let n = w.points in
     let f = w.few in
     let P : Made → Type 0 = λ m. IsSound m in

@@ -14,4 +14,6 @@ no_hinting = record { on = false; run = λ g code made. Ok made }
 
 -- no program changes the number of points or the contours
 abbrev pub KeepsShape : Hinting → Type 0
-KeepsShape h = (g : ℕ) (code : List ℕ) (made ran : Made) → h.run g code made ≡ Ok ran → (length ran.zone.points ≡ length made.zone.points) × (ran.zone.ends ≡ made.zone.ends)
+KeepsShape h =
+    (g : ℕ) (code : List ℕ) (made ran : Made) → h.run g code made ≡ Ok ran → (length ran.zone.points ≡ length made.zone.points)
+    × (ran.zone.ends ≡ made.zone.ends)

@@ -1,4 +1,4 @@
--- The outline of a glyph at a size, by recursion on components, with the first cause why there is none (OpenType, `glyf`).
+-- The outline of a glyph at a size, by recursion on components, or the first cause why there is none (OpenType, `glyf`).
 use Rattle.std.specs.Prelude.{ℕ, zero, suc, ◌+◌, ◌≤◌, List, [], ◌∷◌, map, length, ℤ, pos, Bool, nat_lt, nat_le, Result, Ok, Err}
 use Rattle.fx_fixed.specs.Numbers.{difference_of}
 use Rattle.fx_fixed.specs.Chain.{◌>>=◌, refuse, map_fault}
@@ -8,44 +8,45 @@ use Rattle.fx_sfnt.specs.Glyphs.{metrics_of, glyph_bytes_of}
 use Rattle.fx_glyf.specs.declared.part.Part.{Part}
 use Rattle.fx_glyf.specs.declared.glyph.Glyph as glyf
 use Rattle.fx_glyf.specs.declared.glyph.Glyph.TheVariants.{Empty, Simple, Composite}
-use Rattle.fx_glyf.specs.Shapes.{Shape}
+use Rattle.fx_glyf.specs.Shapes.{SimpleView}
 use Rattle.fx_glyf.specs.Glyphs.{glyph_of}
 use Rattle.fx_zone.specs.declared.point.Point.{Point}
 use Rattle.fx_zone.specs.Figures.{empty_figure}
 use Rattle.fx_scale.specs.declared.scale.Scale.{Scale}
 use Rattle.fx_scale.specs.Phantoms.{phantoms_of}
-use Rattle.fx_scale.specs.Zones.{zone_of_shape}
+use Rattle.fx_scale.specs.Zones.{zone_of_simple}
 use Rattle.fx_hint.specs.declared.count.Count.{Count}
 use Rattle.fx_hint.specs.declared.made.Made.{Made}
 use Rattle.fx_hint.specs.declared.outline.OutlinePoint.{OutlinePoint}
 use Rattle.fx_hint.specs.declared.outline.Outline.{Outline}
 use Rattle.fx_hint.specs.declared.fault.HintFault.{HintFault}
 use Rattle.fx_hint.specs.declared.fault.HintFault.TheVariants.{Font, Glyph, ComponentDepth, TooManyComponents, TooManyPoints}
+use Rattle.fx_hint.specs.Limits.{max_points, max_components, max_depth}
 use Rattle.fx_hint.specs.Ends.{AreEnds}
 use Rattle.fx_hint.specs.Hinting.{Hinting, no_hinting}
 use Rattle.fx_hint.specs.Parts.{with_part}
 
--- what makes a component whole: its glyph, and what the character has used up so far
+-- what assembles a component, from its glyph and the counts so far
 abbrev pub Maker : Type 0
 Maker = ℕ → Count → Result (Made × Count) HintFault
 
--- one component record more: at most 256 in the whole tree of the character
-unfoldable pub one_record : ℕ → Count → Result Count HintFault
-one_record character count = do
-  _ ← refuse (nat_le 256 count.records) (TooManyComponents character)
+-- one component record more: at most max_components below the root
+unfoldable pub one_component : ℕ → Count → Result Count HintFault
+one_component root count = do
+  _ ← refuse (nat_le max_components count.records) (TooManyComponents root)
   Ok (record count { records = count.records + 1 })
 
--- so many points more: at most 16,384 in the whole tree of the character
+-- n points more: at most max_points in the outline of the root
 unfoldable pub more_points : ℕ → ℕ → Count → Result Count HintFault
-more_points character n count = do
-  _ ← refuse (nat_lt 16384 (count.points + n)) (TooManyPoints character)
+more_points root n count = do
+  _ ← refuse (nat_lt max_points (count.points + n)) (TooManyPoints root)
   Ok (record count { points = count.points + n })
 
 -- a simple glyph, before its program runs
-unfoldable pub simple_made : Scale → Bool → ℕ → Metrics → Shape → Count → Result (Made × Count) HintFault
-simple_made s hinted character m shape count = do
-  counted ← more_points character (length shape.points) count
-  Ok (record { zone = zone_of_shape s shape; phantoms = phantoms_of s hinted shape.x_min m }, counted)
+unfoldable pub simple_made : Scale → Bool → ℕ → Metrics → SimpleView → Count → Result (Made × Count) HintFault
+simple_made s hinted root m shape count = do
+  counted ← more_points root (length shape.points) count
+  Ok (record { zone = zone_of_simple s shape; phantoms = phantoms_of s hinted shape.x_min m }, counted)
 
 -- the program of a glyph runs on its points and phantom points
 unfoldable pub run_on : Hinting → ℕ → List ℕ → Made × Count → Result (Made × Count) HintFault
@@ -53,7 +54,7 @@ run_on h g code made = do
   ran ← h.run g code made.0
   Ok (ran, made.1)
 
--- the components of a composite g in order, each made whole
+-- the components of a composite g in order, each assembled
 unfoldable pub with_parts : Scale → Bool → Maker → ℕ → List Part → Made → Count → Result (Made × Count) HintFault
 with_parts s hinted make g [] base count = Ok (base, count)
 with_parts s hinted make g (part ∷ parts) base count = do
@@ -61,53 +62,55 @@ with_parts s hinted make g (part ∷ parts) base count = do
   more ← with_part s hinted g part base component.0
   with_parts s hinted make g parts more component.1
 
--- a glyph that has been read, made whole by its own rule
+-- a glyph that has been read, assembled by its rule
 unfoldable pub made_of : Hinting → Scale → ℕ → Maker → ℕ → Metrics → glyf.Glyph → Count → Result (Made × Count) HintFault
-made_of h s character make g m Empty count = Ok (record { zone = empty_figure; phantoms = phantoms_of s h.on (pos 0) m }, count)
-made_of h s character make g m (Simple shape) count = do
-  made ← simple_made s h.on character m shape count
+made_of h s root make g m Empty count = Ok (record { zone = empty_figure; phantoms = phantoms_of s h.on (pos 0) m }, count)
+made_of h s root make g m (Simple shape) count = do
+  made ← simple_made s h.on root m shape count
   run_on h g shape.code made
-made_of h s character make g m (Composite assembly) count = do
-  made ← with_parts s h.on make g assembly.components (record { zone = empty_figure; phantoms = phantoms_of s h.on assembly.x_min m }) count
+made_of h s root make g m (Composite assembly) count = do
+  made ← with_parts s h.on make g assembly.components
+      (record { zone = empty_figure; phantoms = phantoms_of s h.on assembly.x_min m }) count
   run_on h g assembly.code made
 
 -- a glyph: its number and bytes, its reading, and then itself
-unfoldable pub whole : Hinting → Face → Scale → ℕ → Maker → ℕ → Count → Result (Made × Count) HintFault
-whole h face s character make g count = do
+unfoldable pub assembled : Hinting → Face → Scale → ℕ → Maker → ℕ → Count → Result (Made × Count) HintFault
+assembled h face s root make g count = do
   m ← map_fault Font (metrics_of face g)
   bytes ← map_fault Font (glyph_bytes_of face g)
   glyph ← map_fault Glyph (glyph_of bytes g)
-  made_of h s character make g m glyph count
+  made_of h s root make g m glyph count
 
--- a component, where so many levels are allowed from here on
+-- a component, with this number of levels allowed from here on
 unfoldable pub component : Hinting → Face → Scale → ℕ → ℕ → ℕ → Count → Result (Made × Count) HintFault
-component h face s character zero = λ g count. Err (ComponentDepth g)
-component h face s character (suc levels) = λ g count. one_record character count >>= λ counted. whole h face s character (component h face s character levels) g counted
+component h face s root zero = λ g count. Err (ComponentDepth g)
+component h face s root (suc levels) = λ g count.
+    one_component root count >>= λ counted. assembled h face s root (component h face s root levels) g counted
 
--- a character's glyph, at depth 0: components lie at depth 8 at most
-unfoldable pub character_made : Hinting → Face → Scale → ℕ → Result Made HintFault
-character_made h face s g = do
-  made ← whole h face s g (component h face s g 8) g (record { records = 0; points = 0 })
+-- a root, at depth 0: components lie at depth max_depth at most
+unfoldable pub root_made : Hinting → Face → Scale → ℕ → Result Made HintFault
+root_made h face s g = do
+  made ← assembled h face s g (component h face s g max_depth) g (record { records = 0; points = 0 })
   Ok made.0
 
 -- what an outline is seen as
-pub record Drawing : Type 0 where
+pub record OutlineView : Type 0 where
   pub points : List OutlinePoint
   pub ends : List ℕ
   pub advance : ℤ
   pub strays : ℕ
   pub steps : ℕ
 
-abbrev pub drawing_of_outline : Outline → Drawing
-drawing_of_outline o = record { points = o.points.items; ends = o.ends.items; advance = o.advance; strays = o.strays; steps = o.steps }
+abbrev pub view_of_outline : Outline → OutlineView
+view_of_outline o = record { points = o.points.items; ends = o.ends.items; advance = o.advance; strays = o.strays; steps = o.steps }
 
 -- a point of an outline: its current place, moved so that the first phantom point lies at x = 0
 abbrev pub moved_point : ℤ → Point → OutlinePoint
 moved_point origin p = record { x = difference_of p.cur.x origin; y = p.cur.y; on_curve = p.on }
 
--- the whole outline moved; its advance is the second phantom point's x from the first's
-unfoldable pub drawing_of_made : Made → Drawing
-drawing_of_made made = record {
+-- the outline moved; its advance is the second phantom point's x from the first's
+unfoldable pub moved_outline_of : Made → OutlineView
+moved_outline_of made = record {
   points = map (moved_point made.phantoms.origin.cur.x) made.zone.points;
   ends = made.zone.ends;
   advance = difference_of made.phantoms.advance.cur.x made.phantoms.origin.cur.x;
@@ -117,19 +120,20 @@ drawing_of_made made = record {
 
 -- a font's scale at a size
 abbrev pub scale_of : Face → ℕ → Scale
-scale_of face ppem = record { ppem = ppem; units_per_em = face.head.units_per_em; ascender = face.hhea.ascender; descender = face.hhea.descender }
+scale_of face ppem =
+    record { ppem = ppem; units_per_em = face.head.units_per_em; ascender = face.hhea.ascender; descender = face.hhea.descender }
 
 -- the outline of a glyph as hinting makes it
-unfoldable pub outline_with : Hinting → Face → ℕ → ℕ → Result Drawing HintFault
+unfoldable pub outline_with : Hinting → Face → ℕ → ℕ → Result OutlineView HintFault
 outline_with h face ppem g = do
-  made ← character_made h face (scale_of face ppem) g
-  Ok (drawing_of_made made)
+  made ← root_made h face (scale_of face ppem) g
+  Ok (moved_outline_of made)
 
 -- the outline of a glyph with hinting off
-abbrev pub outline_of : Face → ℕ → ℕ → Result Drawing HintFault
+abbrev pub outline_of : Face → ℕ → ℕ → Result OutlineView HintFault
 outline_of face ppem g = outline_with no_hinting face ppem g
 
--- a glyph made whole has at most 16,384 points, and its contours end with them
+-- an assembled glyph has at most max_points points, and its contours end with them
 pub record IsSound (made : Made) : Type 0 where
-  pub few : length made.zone.points ≤ 16384
+  pub few : length made.zone.points ≤ max_points
   pub contours : AreEnds 0 made.zone.ends (length made.zone.points)

@@ -1,13 +1,14 @@
-//! What a character has used up.
+//! What the walk below a root has used up.
 
 ghost use Rattle.std.specs.Prelude.{◌≡◌, ◌≤◌};
 ghost use Rattle.fx_fixed.specs.Chain.{GivesUnless};
 ghost use Rattle.fx_hint.specs.Faults.{Fails};
-ghost use Rattle.fx_hint.specs.Outlines.{one_record, more_points};
+ghost use Rattle.fx_hint.specs.Outlines.{one_component, more_points};
 
 use crate::fault::HintFault;
+use crate::limits::{MAX_COMPONENTS, MAX_POINTS};
 
-/// Component records and points of a character's whole tree so far.
+/// Component records and points so far, of a root and all components below it.
 #[derive(Clone, Copy, Debug, PartialEq, Eq)]
 pub struct Count {
     pub records: u32,
@@ -15,25 +16,25 @@ pub struct Count {
 }
 
 impl Count {
-    /// Counts a component record: at most 256 in the whole tree of the character.
-    #[tactic(auto, unfolding(crate::specs::Outlines::one_record))]
-    pub fn one_record(&mut self, character: u16) -> Result<(), HintFault>
-        ensures { GivesUnless Fails (λ _. self.new) result (one_record character self.old) }
+    /// Counts a component record: at most `MAX_COMPONENTS` below the root.
+    #[tactic(auto, unfolding(crate::specs::Outlines::one_component))]
+    pub fn one_component(&mut self, root: u16) -> Result<(), HintFault>
+        ensures { GivesUnless Fails (λ _. self.new) result (one_component root self.old) }
     {
-        if self.records >= 256 {
-            return Err(HintFault::TooManyComponents(character));
+        if self.records >= MAX_COMPONENTS {
+            return Err(HintFault::TooManyComponents(root));
         }
         self.records += 1;
         Ok(())
     }
 
-    /// Counts points: at most 16,384 in the whole tree of the character.
+    /// Counts points: at most `MAX_POINTS` in the outline of the root.
     #[tactic(auto, unfolding(crate::specs::Outlines::more_points))]
-    pub fn more_points(&mut self, character: u16, points: usize) -> Result<(), HintFault>
-        ensures { GivesUnless Fails (λ _. self.new) result (more_points character points self.old) }
+    pub fn more_points(&mut self, root: u16, points: usize) -> Result<(), HintFault>
+        ensures { GivesUnless Fails (λ _. self.new) result (more_points root points self.old) }
     {
-        if self.points > 16384 || points > 16384 - self.points as usize {
-            return Err(HintFault::TooManyPoints(character));
+        if self.points > MAX_POINTS || points > (MAX_POINTS - self.points) as usize {
+            return Err(HintFault::TooManyPoints(root));
         }
         self.points += points as u32;
         Ok(())

@@ -1,4 +1,4 @@
-//! Why a character has no outline.
+//! Why a glyph has no outline.
 
 ghost use Rattle.std.specs.Prelude.{◌≡◌};
 ghost use Rattle.fx_hint.specs.declared.fault.HintFault.TheVariants.{Font, Glyph, OutOfMemory};
@@ -8,28 +8,28 @@ use fx_sfnt::FontFault;
 use std::alloc::AllocError;
 use thiserror::Error;
 
-/// The first fault on the way to a character's outline.
+/// The first fault on the way to the outline of a root, the glyph that is asked for.
 #[derive(Clone, Copy, Debug, PartialEq, Eq, Error)]
 pub enum HintFault {
-    /// A glyph's number, or where its bytes lie: of the character's glyph or of a component.
+    /// The number of a glyph, or the offsets of its bytes: of the root or of a component.
     #[error("{0}")]
     Font(FontFault),
-    /// A glyph's bytes: of the character's glyph or of a component.
+    /// The bytes of a glyph: of the root or of a component.
     #[error("{0}")]
     Glyph(GlyphFault),
-    /// This component lies deeper than 8 levels below the character's glyph.
+    /// This component lies deeper than `MAX_DEPTH` levels below the root.
     #[error("component {0} lies too deep")]
     ComponentDepth(u16),
-    /// The tree of this character's glyph has more than 256 component records.
+    /// There are more than `MAX_COMPONENTS` component records below this root.
     #[error("glyph {0} has too many components")]
     TooManyComponents(u16),
-    /// The outline of this character's glyph has more than 16,384 points.
+    /// The outline of this root has more than `MAX_POINTS` points.
     #[error("glyph {0} has too many points")]
     TooManyPoints(u16),
-    /// A component of this composite is placed by the number of a point that there is not.
-    #[error("a component of glyph {0} is placed by a point that there is not")]
+    /// A component of this composite is placed by the number of a point that does not exist.
+    #[error("a component of glyph {0} is placed by a point that does not exist")]
     BadPointMatch(u16),
-    /// A growth was refused.
+    /// Out of memory.
     #[error("out of memory")]
     OutOfMemory,
 }

@@ -24,8 +24,8 @@ pub trait Hinter {
         ensures kept { hinting self.new ≡ hinting self.old }
         ensures value { GivesUnless Fails (λ _. made.new) result ((hinting self.old).run g code.now made.old) };
 
-    /// No program changes the number of points or the contours.
-    fn keeps_shape(&self)
+    /// The law: no program changes the number of points or the contours.
+    fn law_keeps_shape(&self)
         ensures { KeepsShape (hinting self.now) };
 }
 
@@ -46,5 +46,5 @@ impl Hinter for NoHinter {
         Ok(())
     }
 
-    fn keeps_shape(&self) {}
+    fn law_keeps_shape(&self) {}
 }

@@ -5,11 +5,12 @@ ghost use Rattle.fx_fixed.specs.Chain.{GivesUnless};
 ghost use Rattle.fx_zone.specs.Figures.{empty_figure};
 ghost use Rattle.fx_scale.specs.Phantoms.{phantoms_of};
 ghost use Rattle.fx_hint.specs.Faults.{Fails};
-ghost use Rattle.fx_hint.specs.Outlines.{simple_made, whole, component, with_parts, made_of, character_made};
+ghost use Rattle.fx_hint.specs.Outlines.{simple_made, assembled, component, with_parts, made_of, root_made};
 
 use crate::count::Count;
 use crate::fault::HintFault;
 use crate::hinter::Hinter;
+use crate::limits::MAX_DEPTH;
 use crate::made::Made;
 use crate::part::with_part;
 use fx_glyf::{Components, Composite, Glyph, Simple, read};
@@ -51,13 +52,13 @@ fn run_on<H: Hinter>(hinter: &mut H, g: u16, code: &[u8], made: Made) -> Result<
     Ok(made)
 }
 
-/// The walk over the components of one character.
+/// The walk over the components below one root.
 #[derive(Clone, Copy)]
 struct Walk<'w, 'a> {
     alloc: Global,
     font: &'w Font<'a>,
     scale: &'w Scale,
-    character: u16,
+    root: u16,
 }
 
 impl<'w, 'a> Walk<'w, 'a> {
@@ -70,18 +71,19 @@ impl<'w, 'a> Walk<'w, 'a> {
         simple: &Simple<'_>,
         count: &mut Count,
     ) -> Result<Made, HintFault>
-        ensures { GivesUnless Fails (λ m. (m, count.new)) result (simple_made self.now.scale.now hinted self.now.character metrics simple.now count.old) }
+        ensures { GivesUnless Fails (λ m. (m, count.new)) result
+            (simple_made self.now.scale.now hinted self.now.root metrics simple.now count.old) }
     {
         let zone = zone_of(self.alloc, simple, self.scale)?;
-        count.more_points(self.character, zone.len())?;
+        count.more_points(self.root, zone.len())?;
         let phantoms = PhantomPoints::of_glyph(self.scale, hinted, simple.x_min(), metrics);
         Ok(Made { zone, phantoms })
     }
 
-    /// A glyph made whole, where so many levels of components are allowed below it.
+    /// A glyph assembled, with `levels` levels of components allowed below it.
     #[cycle(walk)]
-    #[tactic(auto, unfolding(crate::specs::Outlines::whole))]
-    fn whole<H: Hinter>(
+    #[tactic(auto, unfolding(crate::specs::Outlines::assembled))]
+    fn assembled<H: Hinter>(
         &self,
         hinter: &mut H,
         levels: u8,
@@ -89,7 +91,9 @@ impl<'w, 'a> Walk<'w, 'a> {
         count: &mut Count,
     ) -> Result<Made, HintFault>
         ensures kept { H.hinting hinter.new ≡ H.hinting hinter.old }
-        ensures value { GivesUnless Fails (λ m. (m, count.new)) result (whole (H.hinting hinter.old) self.now.font.now self.now.scale.now self.now.character (component (H.hinting hinter.old) self.now.font.now self.now.scale.now self.now.character levels) g count.old) }
+        ensures value { GivesUnless Fails (λ m. (m, count.new)) result
+            (assembled (H.hinting hinter.old) self.now.font.now self.now.scale.now self.now.root
+            (component (H.hinting hinter.old) self.now.font.now self.now.scale.now self.now.root levels) g count.old) }
     {
         let metrics = self.font.metrics(g)?;
         let bytes = self.font.glyph_bytes(g)?;
@@ -97,7 +101,7 @@ impl<'w, 'a> Walk<'w, 'a> {
         self.made_of(hinter, levels, g, metrics, glyph, count)
     }
 
-    /// A glyph that has been read, made whole by its own rule.
+    /// A glyph that has been read, assembled by its rule.
     #[cycle(walk)]
     #[tactic(auto, unfolding(crate::specs::Outlines::made_of, crate::specs::Outlines::run_on))]
     fn made_of<H: Hinter>(
@@ -110,7 +114,10 @@ impl<'w, 'a> Walk<'w, 'a> {
         count: &mut Count,
     ) -> Result<Made, HintFault>
         ensures kept { H.hinting hinter.new ≡ H.hinting hinter.old }
-        ensures value { GivesUnless Fails (λ m. (m, count.new)) result (made_of (H.hinting hinter.old) self.now.scale.now self.now.character (component (H.hinting hinter.old) self.now.font.now self.now.scale.now self.now.character levels) g metrics glyph.entry count.old) }
+        ensures value { GivesUnless Fails (λ m. (m, count.new)) result
+            (made_of (H.hinting hinter.old) self.now.scale.now self.now.root
+            (component (H.hinting hinter.old) self.now.font.now self.now.scale.now self.now.root levels)
+            g metrics glyph.entry count.old) }
     {
         let on = hinter.is_on();
         match glyph {
@@ -140,7 +147,10 @@ impl<'w, 'a> Walk<'w, 'a> {
         count: &mut Count,
     ) -> Result<Made, HintFault>
         ensures kept { H.hinting hinter.new ≡ H.hinting hinter.old }
-        ensures value { GivesUnless Fails (λ m. (m, count.new)) result (with_parts self.now.scale.now (H.hinting hinter.old).on (component (H.hinting hinter.old) self.now.font.now self.now.scale.now self.now.character levels) g parts.entry base count.old) }
+        ensures value { GivesUnless Fails (λ m. (m, count.new)) result
+            (with_parts self.now.scale.now (H.hinting hinter.old).on
+            (component (H.hinting hinter.old) self.now.font.now self.now.scale.now self.now.root levels)
+            g parts.entry base count.old) }
     {
         let on = hinter.is_on();
         let mut base = base;
@@ -151,7 +161,7 @@ impl<'w, 'a> Walk<'w, 'a> {
         Ok(base)
     }
 
-    /// A component made whole, where it and so many levels less one below it are allowed.
+    /// A component assembled, with `levels` levels allowed from here on.
     #[cycle(walk)]
     #[tactic(auto, unfolding(crate::specs::Outlines::component))]
     fn component<H: Hinter>(
@@ -162,19 +172,20 @@ impl<'w, 'a> Walk<'w, 'a> {
         count: &mut Count,
     ) -> Result<Made, HintFault>
         ensures kept { H.hinting hinter.new ≡ H.hinting hinter.old }
-        ensures value { GivesUnless Fails (λ m. (m, count.new)) result (component (H.hinting hinter.old) self.now.font.now self.now.scale.now self.now.character levels g count.old) }
+        ensures value { GivesUnless Fails (λ m. (m, count.new)) result
+            (component (H.hinting hinter.old) self.now.font.now self.now.scale.now self.now.root levels g count.old) }
     {
         if levels == 0 {
             return Err(HintFault::ComponentDepth(g));
         }
-        count.one_record(self.character)?;
-        self.whole(hinter, levels - 1, g, count)
+        count.one_component(self.root)?;
+        self.assembled(hinter, levels - 1, g, count)
     }
 }
 
-/// A character's glyph made whole.
-#[tactic(auto, unfolding(crate::specs::Outlines::character_made))]
-pub fn character_made<H: Hinter>(
+/// A root assembled.
+#[tactic(auto, unfolding(crate::specs::Outlines::root_made))]
+pub fn root_made<H: Hinter>(
     alloc: Global,
     hinter: &mut H,
     font: &Font<'_>,
@@ -182,17 +193,17 @@ pub fn character_made<H: Hinter>(
     g: u16,
 ) -> Result<Made, HintFault>
     ensures kept { H.hinting hinter.new ≡ H.hinting hinter.old }
-    ensures value { GivesUnless Fails (λ m. m) result (character_made (H.hinting hinter.old) font.now scale.now g) }
+    ensures value { GivesUnless Fails (λ m. m) result (root_made (H.hinting hinter.old) font.now scale.now g) }
 {
     let walk = Walk {
         alloc,
         font,
         scale,
-        character: g,
+        root: g,
     };
     let mut count = Count {
         records: 0,
         points: 0,
     };
-    walk.whole(hinter, 8, g, &mut count)
+    walk.assembled(hinter, MAX_DEPTH, g, &mut count)
 }

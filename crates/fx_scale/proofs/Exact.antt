@@ -1,4 +1,5 @@
--- A font's value at a lawful size needs no wrapping.
+-- A value in a font at a valid size needs no wrapping.
+-- For the clause `exact` of `scaled`.
 use Rattle.std.proofs.Common.{◌≡◌, ℕ, ◌≤◌, ◌<◌, ◌^◌, ◌*◌, ℤ, pos, ◌*ℤ◌, unsigned_abs, FitsSigned, arith, ◌∙◌, ap}
 use Rattle.std.proofs.lemmas.Int.{ints, int_wrap_fits, unsigned_abs-mul}
 use Rattle.std.proofs.Math.Nat.{mul-le-mul}
@@ -18,5 +19,9 @@ small v p h k =
     omega (arith, unsigned_abs-mul v (pos (p * 64)), f)
 
 -- the near value of a font's value, whose size is at most the product's
-pub exact : (v : ℤ) (p : ℕ) (n q r : ℤ) → n ≡ v *ℤ pos (p * 64) → unsigned_abs q ≤ unsigned_abs n → r ≡ wrapped_of q → unsigned_abs v ≤ 2 ^ 16 → p ≤ 255 → r ≡ q
-exact v p n q r e b w h k = w ∙ unwrapped q (let s = small v p h k in let t : unsigned_abs n ≡ unsigned_abs (v *ℤ pos (p * 64)) = ap unsigned_abs e in omega (arith, s, t, b))
+pub exact : (v : ℤ) (p : ℕ) (n q r : ℤ) → n ≡ v *ℤ pos (p * 64) → unsigned_abs q ≤ unsigned_abs n → r ≡ wrapped_of q
+    → unsigned_abs v ≤ 2 ^ 16 → p ≤ 255 → r ≡ q
+exact v p n q r e b w h k =
+    w
+    ∙ unwrapped q (let s = small v p h k in let t : unsigned_abs n ≡ unsigned_abs (v *ℤ pos (p * 64)) = ap unsigned_abs e in omega
+    (arith, s, t, b))

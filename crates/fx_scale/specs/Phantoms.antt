@@ -11,7 +11,7 @@ use Rattle.fx_scale.specs.declared.scale.Scale.{Scale}
 use Rattle.fx_scale.specs.declared.phantom.PhantomPoints.{PhantomPoints}
 use Rattle.fx_scale.specs.Scaling.{scaled_by}
 
--- with hinting on at whole pixels, else as it is
+-- a coordinate, at whole pixels with hinting on
 abbrev pub fitted : Bool → ℤ → ℤ
 fitted hinted z = if hinted then wrapped_of (pos 64 *ℤ near_of z (pos 64)) else z
 
@@ -28,16 +28,21 @@ phantom_on axis hinted z = record {
 -- the four phantom points of a glyph: its origin, its advance, the font's ascender and descender
 unfoldable pub phantoms_of : Scale → Bool → ℤ → Metrics → PhantomPoints
 phantoms_of s hinted x_min m = record {
-  origin = phantom_on X hinted (scaled_by s (x_min -ℤ m.bearing));
-  advance = phantom_on X hinted (sum_of (scaled_by s (x_min -ℤ m.bearing)) (scaled_by s (pos m.advance)));
+  origin = phantom_on X hinted (scaled_by s (x_min -ℤ m.lsb));
+  advance = phantom_on X hinted (sum_of (scaled_by s (x_min -ℤ m.lsb)) (scaled_by s (pos m.advance_width)));
   ascender = phantom_on Y hinted (scaled_by s s.ascender);
   descender = phantom_on Y hinted (scaled_by s s.descender);
 }
 
--- the four in their order behind a glyph's points
+-- the four in their order after a glyph's points
 abbrev pub in_order : PhantomPoints → List Point
 in_order ps = ps.origin ∷ ps.advance ∷ ps.ascender ∷ ps.descender ∷ []
 
--- phantom points untouched, each with its own original and its own current place
+-- phantom points untouched, each with its original and its current place
 abbrev pub untouched_points : PhantomPoints → PhantomPoints
-untouched_points ps = record { origin = untouched ps.origin; advance = untouched ps.advance; ascender = untouched ps.ascender; descender = untouched ps.descender }
+untouched_points ps = record {
+  origin = untouched ps.origin;
+  advance = untouched ps.advance;
+  ascender = untouched ps.ascender;
+  descender = untouched ps.descender;
+}

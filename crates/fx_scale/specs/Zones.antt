@@ -1,7 +1,7 @@
 -- A simple glyph's points at a size (OpenType, `glyf`).
 use Rattle.std.specs.Prelude.{map}
 use Rattle.fx_glyf.specs.declared.point.Point as glyph_point
-use Rattle.fx_glyf.specs.Shapes.{Shape}
+use Rattle.fx_glyf.specs.Shapes.{SimpleView}
 use Rattle.fx_zone.specs.declared.point.Point.{Point}
 use Rattle.fx_zone.specs.Points.{resting}
 use Rattle.fx_zone.specs.Figures.{Figure}
@@ -13,5 +13,5 @@ abbrev pub scaled_point : Scale → glyph_point.Point → Point
 scaled_point s p = resting (record { x = scaled_by s p.x; y = scaled_by s p.y }) p.on_curve
 
 -- the points and contours of a simple glyph
-abbrev pub zone_of_shape : Scale → Shape → Figure
-zone_of_shape s shape = record { points = map (scaled_point s) shape.points; ends = shape.ends }
+abbrev pub zone_of_simple : Scale → SimpleView → Figure
+zone_of_simple s shape = record { points = map (scaled_point s) shape.points; ends = shape.ends }

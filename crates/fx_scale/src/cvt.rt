@@ -16,11 +16,12 @@ pub fn cvt_of(alloc: Global, bytes: &[u8], scale: &Scale) -> Result<Vec<i32>, Al
     let mut values = Vec::with_capacity(alloc, bytes.len() / 2)?;
     'entries: for k in 0..bytes.len() / 2 {
         let value = entry(scale, bytes, k);
-        values.push(value).map_err(|_| AllocError)?;
+        values.push(value)?;
     }
     Ok(values)
 }
 
+/// The control value of a number.
 fn entry(scale: &Scale, bytes: &[u8], k: usize) -> i32
     requires { 2 * k + 2 ≤ length bytes.now }
     ensures { result ≡ control_value scale.now bytes.now k }

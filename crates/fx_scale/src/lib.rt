@@ -13,3 +13,6 @@ pub use cvt::cvt_of;
 pub use phantom::{PhantomPoints, fitted, phantoms};
 pub use scale::{Scale, scaled};
 pub use zone::zone_of;
+
+#[cfg(test)]
+mod tests;

@@ -9,7 +9,7 @@ use fx_fixed::{Axis, F26, Place, near, w32};
 use fx_sfnt::Metrics;
 use fx_zone::Point;
 
-/// The four points behind a glyph's points (Apple TrueType Reference Manual, "Instructing TrueType Glyphs": phantom points).
+/// The four points after a glyph's points (Apple TrueType Reference Manual, "Instructing TrueType Glyphs": phantom points).
 #[derive(Clone, Copy, Debug, PartialEq, Eq)]
 pub struct PhantomPoints {
     pub origin: Point,
@@ -25,8 +25,8 @@ impl PhantomPoints {
     pub fn of_glyph(scale: &Scale, hinted: bool, x_min: i16, metrics: Metrics) -> PhantomPoints
         ensures { result ≡ phantoms_of scale.now hinted x_min metrics }
     {
-        let origin = scale.apply(margin(x_min, metrics.bearing));
-        let advance = origin.plus(scale.apply(i32::from(metrics.advance)));
+        let origin = scale.apply(margin(x_min, metrics.lsb));
+        let advance = origin.plus(scale.apply(i32::from(metrics.advance_width)));
         let ascender = scale.apply(i32::from(scale.ascender));
         let descender = scale.apply(i32::from(scale.descender));
         PhantomPoints {
@@ -37,14 +37,14 @@ impl PhantomPoints {
         }
     }
 
-    /// The four in their order behind a glyph's points.
+    /// The four in their order after a glyph's points.
     pub fn in_order(self) -> [Point; 4]
         ensures { result ≡ in_order self }
     {
         [self.origin, self.advance, self.ascender, self.descender]
     }
 
-    /// The same points, untouched: each keeps its own original and its own current place.
+    /// The same points, untouched: each keeps its original and its current place.
     pub fn untouched(self) -> PhantomPoints
         ensures { result ≡ untouched_points self }
     {
@@ -57,17 +57,18 @@ impl PhantomPoints {
     }
 }
 
-/// The four phantom points of a glyph, in their order behind its points.
+/// The four phantom points of a glyph, in their order after its points.
 pub fn phantoms(scale: &Scale, hinted: bool, x_min: i16, metrics: Metrics) -> [Point; 4]
     ensures { result ≡ in_order (phantoms_of scale.now hinted x_min metrics) }
 {
     PhantomPoints::of_glyph(scale, hinted, x_min, metrics).in_order()
 }
 
-fn margin(x_min: i16, bearing: i16) -> i32
-    ensures { result ≡ x_min -ℤ bearing }
+/// The x of the origin, in FUnits.
+fn margin(x_min: i16, lsb: i16) -> i32
+    ensures { result ≡ x_min -ℤ lsb }
 {
-    i32::from(x_min) - i32::from(bearing)
+    i32::from(x_min) - i32::from(lsb)
 }
 
 /// A phantom point on an axis.
@@ -92,6 +93,7 @@ pub fn fitted(hinted: bool, z: F26) -> F26
     if hinted { whole_pixels(z) } else { z }
 }
 
+/// A coordinate, rounded to whole pixels.
 fn whole_pixels(z: F26) -> F26
     ensures { result ≡ wrapped_of (pos 64 *ℤ near_of z (pos 64)) }
 {

@@ -40,6 +40,7 @@ pub fn scaled(v: i32, ppem: Ppem, units_per_em: UnitsPerEm) -> F26
     )))
 }
 
+/// A value times the number of 1/64 pixels in an em.
 fn sixty_fourths(v: i32, ppem: u16) -> i128
     ensures value { result ≡ v *ℤ pos (ppem * 64) }
     ensures size { unsigned_abs result ≤ 2 ^ 60 }

@@ -1,29 +1,29 @@
 -- What a font that was opened tells of its file.
+-- For the clauses of a `Font`'s methods on its fields.
 use Rattle.std.proofs.Common.{◌≡◌, ℕ, ◌+◌, ◌*◌, ◌<◌, ◌≤◌, true, not, ◌==◌, ◌||◌, nat_lt, List, length, Some, Ok, refl, sym, ◌∙◌, subst, codes, arith}
 use Rattle.std.proofs.lemmas.Option.{same_Some}
 use Rattle.std.proofs.lemmas.Bool.{and_parts, or_parts, leb-true, ltb-false, eqb-false, not-false}
 use Rattle.fx_fixed.proofs.Chain.{refuse_then, bind_then, wanted_then, same_Ok}
 use Rattle.fx_sfnt.specs.Fields.{field}
 use Rattle.fx_sfnt.specs.Tables.{Face, font_of, head_of, maxp_of, hhea_of, table_of, is_directory}
-use Rattle.fx_sfnt.specs.declared.fault.FontFault.TheVariants.{NotTrueType, TableMissing, TableShort, BadHead, BadMaxp}
-use Rattle.fx_sfnt.specs.declared.records.Head.{Head}
+use Rattle.fx_sfnt.specs.declared.fault.FontFault.TheVariants.{NotTrueType, TableMissing, TableShort, BadMaxp}
 use Rattle.fx_sfnt.specs.declared.records.Maxp.{Maxp}
 
--- a directory that is one has its records
-pub directory_whole : (file : List ℕ) → is_directory file ≡ true → 12 + 16 * field 2 file 4 ≤ length file
-directory_whole file h = leb-true _ _ ((and_parts _ _ h).1)
+-- the file of a directory includes its records
+pub directory_records : (file : List ℕ) → is_directory file ≡ true → 12 + 16 * field 2 file 4 ≤ length file
+directory_records file h = leb-true _ _ ((and_parts _ _ h).1)
 
 -- what was checked of a file that is a font's
 pub record Opened (file : List ℕ) (face : Face) : Type 0 where
-  pub whole : 12 + 16 * field 2 file 4 ≤ length file
+  pub records : 12 + 16 * field 2 file 4 ≤ length file
   pub head : List ℕ
   pub maxp : List ℕ
   pub hmtx : List ℕ
   pub head_is : head_of head ≡ Ok face.head
   pub maxp_is : maxp_of maxp ≡ Ok face.maxp
   pub hmtx_is : table_of file (codes "hmtx") ≡ Some hmtx
-  pub pairs : 0 < face.hhea.metrics
-  pub room : 4 * face.hhea.metrics ≤ length hmtx
+  pub pairs : 0 < face.hhea.number_of_h_metrics
+  pub inside : 4 * face.hhea.number_of_h_metrics ≤ length hmtx
   pub file_is : face.file ≡ file
 
 pub opened : (file : List ℕ) (face : Face) → font_of file ≡ Ok face → Opened file face
@@ -39,12 +39,14 @@ opened file face h =
     bind_then (head_of head) _ face h (λ head_fields head_is h.
     bind_then (maxp_of maxp) _ face h (λ maxp_fields maxp_is h.
     bind_then (hhea_of hhea) _ face h (λ hhea_fields _ h.
-    refuse_then (hhea_fields.metrics == 0 || nat_lt (length hmtx) (4 * hhea_fields.metrics)) (TableShort (codes "hmtx")) _ face h (λ tests h.
-    let both = or_parts (hhea_fields.metrics == 0) (nat_lt (length hmtx) (4 * hhea_fields.metrics)) tests in
-    let some : hhea_fields.metrics ≡ 0 → ⊥ = eqb-false hhea_fields.metrics 0 both.0 in
-    let room : 4 * hhea_fields.metrics ≤ length hmtx = ltb-false (length hmtx) (4 * hhea_fields.metrics) both.1 in
+    refuse_then (hhea_fields.number_of_h_metrics == 0 || nat_lt (length hmtx) (4 * hhea_fields.number_of_h_metrics))
+    (TableShort (codes "hmtx")) _ face h (λ tests h.
+    let both = or_parts (hhea_fields.number_of_h_metrics == 0) (nat_lt (length hmtx) (4 * hhea_fields.number_of_h_metrics)) tests in
+    let some : hhea_fields.number_of_h_metrics ≡ 0 → ⊥ = eqb-false hhea_fields.number_of_h_metrics 0 both.0 in
+    let inside : 4 * hhea_fields.number_of_h_metrics ≤ length hmtx =
+    ltb-false (length hmtx) (4 * hhea_fields.number_of_h_metrics) both.1 in
     subst (Opened file) (same_Ok _ _ refl h) (record {
-      whole = directory_whole file (not-false _ directory);
+      records = directory_records file (not-false _ directory);
       head = head;
       maxp = maxp;
       hmtx = hmtx;
@@ -52,13 +54,13 @@ opened file face h =
       maxp_is = maxp_is;
       hmtx_is = hmtx_is;
       pairs = omega arith;
-      room = room;
+      inside = inside;
       file_is = refl;
     })
     )))))))))))
 
 -- the glyphs of `maxp`
-pub maxp_glyphs : (table : List ℕ) (maxp : Maxp) → maxp_of table ≡ Ok maxp → 0 < maxp.glyphs
+pub maxp_glyphs : (table : List ℕ) (maxp : Maxp) → maxp_of table ≡ Ok maxp → 0 < maxp.num_glyphs
 unfolding maxp_of
 maxp_glyphs table maxp h =
     refuse_then (nat_lt (length table) 32) (TableShort (codes "maxp")) _ maxp h (λ _ h.
@@ -66,14 +68,15 @@ maxp_glyphs table maxp h =
     refuse_then (field 2 table 4 == 0) BadMaxp _ maxp h (λ test h.
     let some : field 2 table 4 ≡ 0 → ⊥ = eqb-false (field 2 table 4) 0 test in
     let above : 0 < field 2 table 4 = omega arith in
-    subst (λ (maxp : Maxp). 0 < maxp.glyphs) (same_Ok _ _ refl h) above)))
+    subst (λ (maxp : Maxp). 0 < maxp.num_glyphs) (same_Ok _ _ refl h) above)))
 
 -- the glyphs of a font
-pub font_glyphs : (file : List ℕ) (face : Face) → font_of file ≡ Ok face → 0 < face.maxp.glyphs
+pub font_glyphs : (file : List ℕ) (face : Face) → font_of file ≡ Ok face → 0 < face.maxp.num_glyphs
 font_glyphs file face h = let o = opened file face h in maxp_glyphs o.maxp face.maxp o.maxp_is
 
 -- `hmtx` has its pairs
-pub font_pairs : (file : List ℕ) (face : Face) (hmtx : List ℕ) → font_of file ≡ Ok face → table_of file (codes "hmtx") ≡ Some hmtx → 4 * face.hhea.metrics ≤ length hmtx
+pub font_pairs : (file : List ℕ) (face : Face) (hmtx : List ℕ) → font_of file ≡ Ok face → table_of file (codes "hmtx") ≡ Some hmtx
+    → 4 * face.hhea.number_of_h_metrics ≤ length hmtx
 font_pairs file face hmtx h t = let o = opened file face h in
     let same : o.hmtx ≡ hmtx = same_Some _ _ (sym o.hmtx_is ∙ t) in
-    subst (λ (table : List ℕ). 4 * face.hhea.metrics ≤ length table) same o.room
+    subst (λ (table : List ℕ). 4 * face.hhea.number_of_h_metrics ≤ length table) same o.inside

@@ -1,23 +1,27 @@
 -- The directory of a font file, and the fields of its tables.
 -- OpenType, "Organization of an OpenType font", "head", "maxp", "hhea", "hmtx".
-use Rattle.std.specs.Prelude.{ℕ, zero, suc, ◌+◌, ◌*◌, List, [], ◌∷◌, length, take, drop, find, codes, Option, option_map, unwrap_or, Result, Ok, Bool, ◌==◌, ◌||◌, ◌&&◌, not, nat_lt, nat_le}
+use Rattle.std.specs.Prelude.{ℕ, zero, suc, ◌+◌, ◌*◌, List, [], ◌∷◌, length, take, drop, find, codes, Option, Some, None, option_map, unwrap_or, Result, Ok, Bool, ◌==◌, ◌||◌, ◌&&◌, not, nat_lt, nat_le, if◌then◌else◌}
 use Rattle.fx_fixed.specs.Chain.{◌>>=◌, refuse, wanted}
 use Rattle.fx_sfnt.specs.Fields.{field, signed_field}
 use Rattle.fx_sfnt.specs.Units.{units_per_em_of}
 use Rattle.fx_sfnt.specs.declared.fault.FontFault.{FontFault}
 use Rattle.fx_sfnt.specs.declared.fault.FontFault.TheVariants.{NotTrueType, TableMissing, TableShort, BadHead, BadMaxp}
 use Rattle.fx_sfnt.specs.declared.records.Head.{Head}
+use Rattle.fx_sfnt.specs.declared.records.LocFormat.{LocFormat}
+use Rattle.fx_sfnt.specs.declared.records.LocFormat.TheVariants.{Short, Long}
 use Rattle.fx_sfnt.specs.declared.records.Maxp.{Maxp}
 use Rattle.fx_sfnt.specs.declared.records.Hhea.{Hhea}
 
--- the records of so many bytes each that stand in front of a list of bytes, each with what follows it
+-- the first n records, of `size` bytes each, of a list of bytes, each with what follows it
 abbrev pub records : ℕ → ℕ → List ℕ → List (List ℕ)
 records size zero bytes = []
 records size (suc n) bytes = bytes ∷ records size n (drop size bytes)
 
 -- the directory has a version that is read, 1.0 or `true`, and its records lie in the file
 abbrev pub is_directory : List ℕ → Bool
-is_directory file = nat_le 12 (length file) && (field 4 file 0 == 0x00010000 || field 4 file 0 == 0x74727565) && nat_le (12 + 16 * field 2 file 4) (length file)
+is_directory file =
+    nat_le 12 (length file) && (field 4 file 0 == 0x00010000 || field 4 file 0 == 0x74727565) && nat_le (12 + 16 * field 2 file 4)
+    (length file)
 
 -- a table record (tag, checksum, offset, length) has the tag
 abbrev pub has_tag : List ℕ → List ℕ → Bool
@@ -35,9 +39,13 @@ table_of file tag = option_map (table_bytes file) (find (has_tag tag) (records 1
 abbrev pub table_or_empty : List ℕ → List ℕ → List ℕ
 table_or_empty file tag = unwrap_or (table_of file tag) []
 
--- the table of a tag that has to be there
-abbrev pub needed : List ℕ → List ℕ → Result (List ℕ) FontFault
-needed file tag = wanted (table_of file tag) (TableMissing tag)
+-- a table that is required
+abbrev pub required_table_of : List ℕ → List ℕ → Result (List ℕ) FontFault
+required_table_of file tag = wanted (table_of file tag) (TableMissing tag)
+
+-- the format of `loca`, by its number
+abbrev pub loc_format_of : ℕ → Option LocFormat
+loc_format_of n = if n == 0 then Some Short else if n == 1 then Some Long else None
 
 -- the fields of `head`
 unfoldable pub head_of : List ℕ → Result Head FontFault
@@ -45,8 +53,8 @@ head_of table = do
   _ ← refuse (nat_lt (length table) 54) (TableShort (codes "head"))
   _ ← refuse (not (field 4 table 12 == 0x5F0F3CF5)) BadHead
   units_per_em ← wanted (units_per_em_of (field 2 table 18)) BadHead
-  _ ← refuse (nat_lt 1 (field 2 table 50)) BadHead
-  Ok (record { units_per_em = units_per_em; long_loca = field 2 table 50 == 1 })
+  index_to_loc_format ← wanted (loc_format_of (field 2 table 50)) BadHead
+  Ok (record { units_per_em = units_per_em; index_to_loc_format = index_to_loc_format })
 
 -- the fields of `maxp`
 unfoldable pub maxp_of : List ℕ → Result Maxp FontFault
@@ -54,13 +62,19 @@ maxp_of table = do
   _ ← refuse (nat_lt (length table) 32) (TableShort (codes "maxp"))
   _ ← refuse (not (field 4 table 0 == 0x00010000)) BadMaxp
   _ ← refuse (field 2 table 4 == 0) BadMaxp
-  Ok (record { glyphs = field 2 table 4; twilight_points = field 2 table 16; storage = field 2 table 18; functions = field 2 table 20; stack = field 2 table 24 })
+  Ok (record {
+    num_glyphs = field 2 table 4;
+    max_twilight_points = field 2 table 16;
+    max_storage = field 2 table 18;
+    max_function_defs = field 2 table 20;
+    max_stack_elements = field 2 table 24;
+  })
 
 -- the fields of `hhea`
 unfoldable pub hhea_of : List ℕ → Result Hhea FontFault
 hhea_of table = do
   _ ← refuse (nat_lt (length table) 36) (TableShort (codes "hhea"))
-  Ok (record { ascender = signed_field table 4; descender = signed_field table 6; metrics = field 2 table 34 })
+  Ok (record { ascender = signed_field table 4; descender = signed_field table 6; number_of_h_metrics = field 2 table 34 })
 
 -- what a font is seen as: its file, and the fields of its tables
 pub record Face : Type 0 where
@@ -73,14 +87,14 @@ pub record Face : Type 0 where
 unfoldable pub font_of : List ℕ → Result Face FontFault
 font_of file = do
   _ ← refuse (not (is_directory file)) NotTrueType
-  head ← needed file (codes "head")
-  maxp ← needed file (codes "maxp")
-  hhea ← needed file (codes "hhea")
-  hmtx ← needed file (codes "hmtx")
-  _ ← needed file (codes "loca")
-  _ ← needed file (codes "glyf")
+  head ← required_table_of file (codes "head")
+  maxp ← required_table_of file (codes "maxp")
+  hhea ← required_table_of file (codes "hhea")
+  hmtx ← required_table_of file (codes "hmtx")
+  _ ← required_table_of file (codes "loca")
+  _ ← required_table_of file (codes "glyf")
   head ← head_of head
   maxp ← maxp_of maxp
   hhea ← hhea_of hhea
-  _ ← refuse (hhea.metrics == 0 || nat_lt (length hmtx) (4 * hhea.metrics)) (TableShort (codes "hmtx"))
+  _ ← refuse (hhea.number_of_h_metrics == 0 || nat_lt (length hmtx) (4 * hhea.number_of_h_metrics)) (TableShort (codes "hmtx"))
   Ok (record { file = file; head = head; maxp = maxp; hhea = hhea })

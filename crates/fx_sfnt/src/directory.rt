@@ -1,16 +1,16 @@
-//! The directory of a font file: where its tables lie (OpenType, "Organization of an OpenType font").
+//! The directory of a font file, which names its tables (OpenType, "Organization of an OpenType font").
 
 ghost use Rattle.std.specs.Prelude.{◌≡◌, ◌+◌, ◌*◌, ◌^◌, ◌<◌, ◌≤◌, length, option_map, IfSome};
 ghost use Rattle.fx_fixed.specs.Chain.{map_ok};
 ghost use Rattle.fx_sfnt.specs.Fields.{field};
-ghost use Rattle.fx_sfnt.specs.Tables.{table_of, needed, is_directory};
+ghost use Rattle.fx_sfnt.specs.Tables.{table_of, required_table_of, is_directory};
 
 use crate::fault::FontFault;
 use crate::fields::{u16_in, u32_in};
-use crate::slices::{after, part};
+use fx_fixed::{after, part};
 
-// Whether the directory has a version that is read, and its records lie in the file.
-pub fn is_whole(file: &[u8]) -> bool
+/// Whether the directory has a version that is read, and the file includes its records.
+pub fn is_directory(file: &[u8]) -> bool
     ensures { result ≡ is_directory file.now }
 {
     if file.len() < 12 {
@@ -21,7 +21,7 @@ pub fn is_whole(file: &[u8]) -> bool
     (version == 0x0001_0000 || version == 0x7472_7565) && 12 + 16 * count <= file.len()
 }
 
-// The table of a tag: that of the first record with the tag.
+/// The table of a tag: that of the first record with the tag.
 pub fn find_table<'a>(file: &'a [u8], tag: [u8; 4]) -> Option<&'a [u8]>
     requires { 12 + 16 * field 2 file.now 4 ≤ length file.now }
     ensures table { option_map (λ t. t.now) result ≡ table_of file.now tag }
@@ -41,10 +41,10 @@ pub fn find_table<'a>(file: &'a [u8], tag: [u8; 4]) -> Option<&'a [u8]>
     None
 }
 
-// The table of a tag that has to be there.
-pub fn need<'a>(file: &'a [u8], tag: [u8; 4]) -> Result<&'a [u8], FontFault>
+/// A table that is required.
+pub fn required_table<'a>(file: &'a [u8], tag: [u8; 4]) -> Result<&'a [u8], FontFault>
     requires { 12 + 16 * field 2 file.now 4 ≤ length file.now }
-    ensures { map_ok (λ t. t.now) result ≡ needed file.now tag }
+    ensures { map_ok (λ t. t.now) result ≡ required_table_of file.now tag }
 {
     find_table(file, tag).ok_or(FontFault::TableMissing(tag))
 }

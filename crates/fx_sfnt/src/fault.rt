@@ -1,4 +1,4 @@
-//! Why a file is no font that is read, or a glyph has no bytes.
+//! Why a file is not a font that is read, or a glyph has no bytes.
 
 use thiserror::Error;
 
@@ -8,10 +8,10 @@ pub enum FontFault {
     /// The directory is cut, or has a version other than 1.0 and `true`.
     #[error("the file is no TrueType font")]
     NotTrueType,
-    /// A table that has to be there is not in the directory.
+    /// A required table is not in the directory.
     #[error("the table with tag {0:?} is missing")]
     TableMissing([u8; 4]),
-    /// A table is shorter than its fields need.
+    /// A table is shorter than its fields required_table.
     #[error("the table with tag {0:?} is too short")]
     TableShort([u8; 4]),
     /// `head` has another magic number, a size of the em square outside 16 to 16384, or a format of `loca` above 1.

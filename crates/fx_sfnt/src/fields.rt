@@ -1,11 +1,11 @@
-//! Big-endian numbers at a place of a slice of bytes (OpenType, "Data types").
+//! Big-endian numbers at an offset of a slice of bytes (OpenType, "Data types").
 
 ghost use Rattle.std.specs.Prelude.{◌≡◌, ◌+◌, ◌≤◌, length};
 ghost use Rattle.fx_sfnt.specs.Fields.{number_at, field, signed_at, signed_field};
 
 use byteorder::{BigEndian, ByteOrder};
 
-/// The `uint16` at a place, where its two bytes lie inside.
+/// The `uint16` at an offset, if its two bytes are inside.
 pub fn u16_at(bytes: &[u8], at: usize) -> Option<u16>
     ensures { result ≡ number_at 2 bytes.now at }
 {
@@ -15,7 +15,7 @@ pub fn u16_at(bytes: &[u8], at: usize) -> Option<u16>
     Some(u16_in(bytes, at))
 }
 
-/// The `int16` at a place, where its two bytes lie inside.
+/// The `int16` at an offset, if its two bytes are inside.
 pub fn i16_at(bytes: &[u8], at: usize) -> Option<i16>
     ensures { result ≡ signed_at bytes.now at }
 {
@@ -25,7 +25,7 @@ pub fn i16_at(bytes: &[u8], at: usize) -> Option<i16>
     Some(i16_in(bytes, at))
 }
 
-/// The `uint32` at a place, where its four bytes lie inside.
+/// The `uint32` at an offset, if its four bytes are inside.
 pub fn u32_at(bytes: &[u8], at: usize) -> Option<u32>
     ensures { result ≡ number_at 4 bytes.now at }
 {
@@ -35,7 +35,7 @@ pub fn u32_at(bytes: &[u8], at: usize) -> Option<u32>
     Some(u32_in(bytes, at))
 }
 
-/// The `uint16` at a place; its two bytes have to lie inside.
+/// The `uint16` at an offset; its two bytes are inside.
 #[tactic(auto, unfolding(crate::specs::Fields::field))]
 pub fn u16_in(bytes: &[u8], at: usize) -> u16
     requires { at + 2 ≤ length bytes.now }
@@ -44,7 +44,7 @@ pub fn u16_in(bytes: &[u8], at: usize) -> u16
     BigEndian::read_u16(&bytes[at..])
 }
 
-/// The `int16` at a place; its two bytes have to lie inside.
+/// The `int16` at an offset; its two bytes are inside.
 #[tactic(auto, unfolding(crate::specs::Fields::field))]
 pub fn i16_in(bytes: &[u8], at: usize) -> i16
     requires { at + 2 ≤ length bytes.now }
@@ -53,7 +53,7 @@ pub fn i16_in(bytes: &[u8], at: usize) -> i16
     BigEndian::read_i16(&bytes[at..])
 }
 
-/// The `uint32` at a place; its four bytes have to lie inside.
+/// The `uint32` at an offset; its four bytes are inside.
 #[tactic(auto, unfolding(crate::specs::Fields::field))]
 pub fn u32_in(bytes: &[u8], at: usize) -> u32
     requires { at + 4 ≤ length bytes.now }

@@ -5,16 +5,16 @@ ghost use Rattle.fx_fixed.specs.Chain.{map_ok};
 ghost use Rattle.fx_sfnt.specs.Tables.{table_of, font_of};
 ghost use Rattle.fx_sfnt.specs.Glyphs.{metrics_of, glyph_bytes_of};
 
-use crate::directory::{find_table, is_whole, need};
+use crate::directory::{find_table, is_directory, required_table};
 use crate::fault::FontFault;
-use crate::glyphs::{advance_at, bearing_at, part_at};
+use crate::glyphs::{advance_width, glyph_data, lsb};
 use crate::records::{Head, Hhea, Maxp, Metrics};
 use crate::tables::{read_head, read_hhea, read_maxp};
 use std::marker::Model;
 
 /// A font: a view over the bytes of its file, with the fields of its tables.
 ///
-/// Every value stands for a file in which `Font::open` found no fault.
+/// Its file is one in which `Font::open` found no fault.
 #[derive(Drop)]
 pub struct Font<'a> {
     file: &'a [u8],
@@ -43,25 +43,25 @@ impl<'a> Model for Font<'a> {
 impl<'a> Font<'a> {
     /// Reads the font of a file: its fields, or the first fault.
     ///
-    /// The checks come in this order: the directory; the tables `head`, `maxp`, `hhea`, `hmtx`, `loca`, `glyf` are there; then
+    /// The checks come in this order: the directory; that there are tables `head`, `maxp`, `hhea`, `hmtx`, `loca`, `glyf`; then
     /// the length and the fields of `head`, `maxp`, `hhea`; then the length of `hmtx`.
     #[tactic(auto, unfolding(crate::specs::Tables::font_of))]
     pub fn open(file: &'a [u8]) -> Result<Font<'a>, FontFault>
         ensures { result ≡ font_of file.now }
     {
-        if !is_whole(file) {
+        if !is_directory(file) {
             return Err(FontFault::NotTrueType);
         }
-        let head = need(file, *b"head")?;
-        let maxp = need(file, *b"maxp")?;
-        let hhea = need(file, *b"hhea")?;
-        let hmtx = need(file, *b"hmtx")?;
-        let loca = need(file, *b"loca")?;
-        let glyf = need(file, *b"glyf")?;
+        let head = required_table(file, *b"head")?;
+        let maxp = required_table(file, *b"maxp")?;
+        let hhea = required_table(file, *b"hhea")?;
+        let hmtx = required_table(file, *b"hmtx")?;
+        let loca = required_table(file, *b"loca")?;
+        let glyf = required_table(file, *b"glyf")?;
         let head = read_head(head)?;
         let maxp = read_maxp(maxp)?;
         let hhea = read_hhea(hhea)?;
-        if hhea.metrics == 0 || hmtx.len() < 4 * hhea.metrics as usize {
+        if hhea.number_of_h_metrics == 0 || hmtx.len() < 4 * hhea.number_of_h_metrics as usize {
             return Err(FontFault::TableShort(*b"hmtx"));
         }
         Ok(Font {
@@ -75,8 +75,8 @@ impl<'a> Font<'a> {
         })
     }
 
-    /// The bytes of the table with a tag, where the directory has one: from the first such record's offset, for its length,
-    /// ended at the file's end.
+    /// The bytes of the table with a tag, if the directory has one: from the first such record's offset, for its length, cut at
+    /// the file's end.
     pub fn table(&self, tag: [u8; 4]) -> Option<&'a [u8]>
         ensures table { option_map (λ t. t.now) result ≡ table_of self.now.file tag }
         ensures short { IfSome result (λ t. length t.now < 2 ^ 32) }
@@ -101,7 +101,7 @@ impl<'a> Font<'a> {
     /// The fields of `maxp`; there is a glyph.
     pub fn maxp(&self) -> Maxp
         ensures value { result ≡ self.now.maxp }
-        ensures glyphs { 0 < result.glyphs }
+        ensures glyphs { 0 < result.num_glyphs }
     {
         self.maxp
     }
@@ -109,43 +109,43 @@ impl<'a> Font<'a> {
     /// The fields of `hhea`; `hmtx` has a pair.
     pub fn hhea(&self) -> Hhea
         ensures value { result ≡ self.now.hhea }
-        ensures metrics { 0 < result.metrics }
+        ensures metrics { 0 < result.number_of_h_metrics }
     {
         self.hhea
     }
 
-    /// A glyph's advance and left bearing, in FUnits; or `BadGlyphNumber`, where there is no such glyph.
+    /// A glyph's advance and left side bearing, in FUnits; or `BadGlyphNumber` if there is no such glyph.
     ///
     /// A glyph past the pairs of `hmtx` has the last pair's advance, and a bearing past its end is 0 (OpenType, "hmtx").
     #[tactic(auto, unfolding(crate::specs::Glyphs::metrics_of))]
     pub fn metrics(&self, glyph: u16) -> Result<Metrics, FontFault>
         ensures value { result ≡ metrics_of self.now glyph }
-        ensures given { glyph < self.now.maxp.glyphs → IsOk result }
+        ensures given { glyph < self.now.maxp.num_glyphs → IsOk result }
     {
-        if glyph >= self.maxp.glyphs {
+        if glyph >= self.maxp.num_glyphs {
             return Err(FontFault::BadGlyphNumber(glyph));
         }
         Ok(Metrics {
-            advance: advance_at(self.hmtx, self.hhea.metrics, glyph),
-            bearing: bearing_at(self.hmtx, self.hhea.metrics, glyph),
+            advance_width: advance_width(self.hmtx, self.hhea.number_of_h_metrics, glyph),
+            lsb: lsb(self.hmtx, self.hhea.number_of_h_metrics, glyph),
         })
     }
 
-    /// A glyph's bytes, ended at the end of `glyf`; equal offsets in `loca` give none.
+    /// A glyph's bytes, cut at the end of `glyf`; equal offsets in `loca` give none.
     ///
-    /// `BadGlyphNumber` where there is no such glyph; `BadLoca` where one of its two offsets does not lie whole in `loca`, the
-    /// end is below the start, or the start is past `glyf` and the two are not equal (OpenType, "loca", "glyf").
+    /// `BadGlyphNumber` if there is no such glyph; `BadLoca` if `loca` does not include all bytes of its two offsets, the end is
+    /// below the start, or the start is past `glyf` and the two are not equal (OpenType, "loca", "glyf").
     #[tactic(auto, unfolding(crate::specs::Glyphs::glyph_bytes_of))]
     pub fn glyph_bytes(&self, glyph: u16) -> Result<&'a [u8], FontFault>
         ensures { map_ok (λ b. b.now) result ≡ glyph_bytes_of self.now glyph }
     {
-        if glyph >= self.maxp.glyphs {
+        if glyph >= self.maxp.num_glyphs {
             return Err(FontFault::BadGlyphNumber(glyph));
         }
-        part_at(self.head.long_loca, self.loca, self.glyf, glyph)
+        glyph_data(self.head.index_to_loc_format, self.loca, self.glyf, glyph)
     }
 
-    /// The same view once more, for a call that takes a font by value.
+    /// The same view again, for a call that takes a font by value.
     pub fn shared(&self) -> Font<'a>
         ensures { result ≡ self.now }
     {

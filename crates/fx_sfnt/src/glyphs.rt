@@ -2,24 +2,25 @@
 
 ghost use Rattle.std.specs.Prelude.{◌≡◌, ◌*◌, ◌^◌, ◌<◌, ◌≤◌, length};
 ghost use Rattle.fx_fixed.specs.Chain.{map_ok};
-ghost use Rattle.fx_sfnt.specs.Glyphs.{advance_of, bearing_of, offset_in, part_of};
+ghost use Rattle.fx_sfnt.specs.Glyphs.{advance_width_of, lsb_of, loca_offset_of, glyph_data_of};
 
 use crate::fault::FontFault;
 use crate::fields::{i16_at, u16_at, u16_in, u32_at};
-use crate::slices::part;
+use crate::records::LocFormat;
+use fx_fixed::part;
 
-// The advance of a glyph, where `hmtx` has so many pairs.
-pub fn advance_at(hmtx: &[u8], pairs: u16, glyph: u16) -> u16
+/// The advance of a glyph, by the number of pairs in `hmtx`.
+pub fn advance_width(hmtx: &[u8], pairs: u16, glyph: u16) -> u16
     requires some { 0 < pairs }
-    requires room { 4 * pairs ≤ length hmtx.now }
-    ensures { result ≡ advance_of hmtx.now pairs glyph }
+    requires inside { 4 * pairs ≤ length hmtx.now }
+    ensures { result ≡ advance_width_of hmtx.now pairs glyph }
 {
     u16_in(hmtx, 4 * glyph.min(pairs - 1) as usize)
 }
 
-// The left bearing of a glyph, where `hmtx` has so many pairs.
-pub fn bearing_at(hmtx: &[u8], pairs: u16, glyph: u16) -> i16
-    ensures { result ≡ bearing_of hmtx.now pairs glyph }
+/// The left side bearing of a glyph, by the number of pairs in `hmtx`.
+pub fn lsb(hmtx: &[u8], pairs: u16, glyph: u16) -> i16
+    ensures { result ≡ lsb_of hmtx.now pairs glyph }
 {
     let at = if glyph < pairs {
         4 * glyph as usize + 2
@@ -29,32 +30,35 @@ pub fn bearing_at(hmtx: &[u8], pairs: u16, glyph: u16) -> i16
     i16_at(hmtx, at).unwrap_or(0)
 }
 
-// One of the offsets in `loca`.
-fn offset_at(long: bool, loca: &[u8], number: usize) -> Option<usize>
+/// One of the offsets in `loca`.
+fn loca_offset(format: LocFormat, loca: &[u8], number: usize) -> Option<usize>
     requires { number < 2 ^ 32 }
-    ensures { result ≡ offset_in long loca.now number }
+    ensures { result ≡ loca_offset_of format loca.now number }
 {
-    if long {
-        let offset = u32_at(loca, 4 * number)?;
-        Some(offset as usize)
-    } else {
-        let half = u16_at(loca, 2 * number)?;
-        Some(2 * half as usize)
+    match format {
+        LocFormat::Short => {
+            let half = u16_at(loca, 2 * number)?;
+            Some(2 * half as usize)
+        }
+        LocFormat::Long => {
+            let offset = u32_at(loca, 4 * number)?;
+            Some(offset as usize)
+        }
     }
 }
 
-// A glyph's part of `glyf`.
-#[tactic(auto, unfolding(crate::specs::Glyphs::part_of))]
-pub fn part_at<'a>(
-    long: bool,
+/// A glyph's part of `glyf`.
+#[tactic(auto, unfolding(crate::specs::Glyphs::glyph_data_of))]
+pub fn glyph_data<'a>(
+    format: LocFormat,
     loca: &[u8],
     glyf: &'a [u8],
     glyph: u16,
 ) -> Result<&'a [u8], FontFault>
-    ensures { map_ok (λ b. b.now) result ≡ part_of long loca.now glyf.now glyph }
+    ensures { map_ok (λ b. b.now) result ≡ glyph_data_of format loca.now glyf.now glyph }
 {
-    let start = offset_at(long, loca, glyph as usize).ok_or(FontFault::BadLoca(glyph))?;
-    let end = offset_at(long, loca, glyph as usize + 1).ok_or(FontFault::BadLoca(glyph))?;
+    let start = loca_offset(format, loca, glyph as usize).ok_or(FontFault::BadLoca(glyph))?;
+    let end = loca_offset(format, loca, glyph as usize + 1).ok_or(FontFault::BadLoca(glyph))?;
     if end < start {
         return Err(FontFault::BadLoca(glyph));
     }

@@ -10,13 +10,11 @@ mod fields;
 mod font;
 mod glyphs;
 mod records;
-mod slices;
 mod tables;
 mod units;
 
 pub use fault::FontFault;
 pub use fields::{i16_at, i16_in, u16_at, u16_in, u32_at, u32_in};
 pub use font::Font;
-pub use records::{Head, Hhea, Maxp, Metrics};
-pub use slices::{after, before, part};
+pub use records::{Head, Hhea, LocFormat, Maxp, Metrics};
 pub use units::UnitsPerEm;

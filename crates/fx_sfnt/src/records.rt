@@ -7,23 +7,32 @@ use crate::units::UnitsPerEm;
 pub struct Head {
     /// The em square.
     pub units_per_em: UnitsPerEm,
-    /// Offsets in `loca` take four bytes; else two, which hold half of the offset.
-    pub long_loca: bool,
+    /// How `loca` holds an offset.
+    pub index_to_loc_format: LocFormat,
 }
 
-/// The fields of `maxp` that are read, as they stand in the table (OpenType, "maxp" version 1.0).
+/// How `loca` holds an offset (OpenType, "head", indexToLocFormat).
+#[derive(Clone, Copy, Debug, PartialEq, Eq)]
+pub enum LocFormat {
+    /// Two bytes, which hold half of the offset.
+    Short,
+    /// Four bytes.
+    Long,
+}
+
+/// The fields of `maxp` that are read, as the table has them (OpenType, "maxp" version 1.0).
 #[derive(Clone, Copy, Debug, PartialEq, Eq)]
 pub struct Maxp {
     /// The number of glyphs, not 0.
-    pub glyphs: u16,
+    pub num_glyphs: u16,
     /// The number of points in the twilight zone.
-    pub twilight_points: u16,
+    pub max_twilight_points: u16,
     /// The number of storage cells.
-    pub storage: u16,
+    pub max_storage: u16,
     /// The number of functions that font programs define.
-    pub functions: u16,
-    /// The depth of the stack that font programs need.
-    pub stack: u16,
+    pub max_function_defs: u16,
+    /// The depth of the stack that font programs required_table.
+    pub max_stack_elements: u16,
 }
 
 /// The fields of `hhea` that are read (OpenType, "hhea").
@@ -34,14 +43,14 @@ pub struct Hhea {
     /// Height above the baseline of the lowest point, in FUnits; mostly negative.
     pub descender: i16,
     /// The number of pairs in `hmtx`, not 0.
-    pub metrics: u16,
+    pub number_of_h_metrics: u16,
 }
 
 /// A glyph's horizontal metrics, in FUnits (OpenType, "hmtx").
 #[derive(Clone, Copy, Debug, PartialEq, Eq)]
 pub struct Metrics {
-    /// How far the next glyph stands to the right.
-    pub advance: u16,
-    /// From the origin to the glyph's left edge.
-    pub bearing: i16,
+    /// How far the pen moves to the right.
+    pub advance_width: u16,
+    /// The left side bearing: from the origin to the glyph's left edge.
+    pub lsb: i16,
 }

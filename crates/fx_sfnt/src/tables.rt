@@ -1,14 +1,25 @@
 //! The fields of `head`, `maxp` and `hhea`.
 
 ghost use Rattle.std.specs.Prelude.{◌≡◌};
-ghost use Rattle.fx_sfnt.specs.Tables.{head_of, maxp_of, hhea_of};
+ghost use Rattle.fx_sfnt.specs.Tables.{loc_format_of, head_of, maxp_of, hhea_of};
 
 use crate::fault::FontFault;
 use crate::fields::{i16_in, u16_in, u32_in};
-use crate::records::{Head, Hhea, Maxp};
+use crate::records::{Head, Hhea, LocFormat, Maxp};
 use crate::units::UnitsPerEm;
 
-// Reads `head`.
+/// The format of `loca`, by its number.
+fn loc_format(number: u16) -> Option<LocFormat>
+    ensures { result ≡ loc_format_of number }
+{
+    match number {
+        0 => Some(LocFormat::Short),
+        1 => Some(LocFormat::Long),
+        _ => None,
+    }
+}
+
+/// Reads `head`.
 #[tactic(auto, unfolding(crate::specs::Tables::head_of))]
 pub fn read_head(table: &[u8]) -> Result<Head, FontFault>
     ensures { result ≡ head_of table.now }
@@ -20,17 +31,14 @@ pub fn read_head(table: &[u8]) -> Result<Head, FontFault>
         return Err(FontFault::BadHead);
     }
     let units_per_em = UnitsPerEm::new(u16_in(table, 18)).ok_or(FontFault::BadHead)?;
-    let format = u16_in(table, 50);
-    if format > 1 {
-        return Err(FontFault::BadHead);
-    }
+    let index_to_loc_format = loc_format(u16_in(table, 50)).ok_or(FontFault::BadHead)?;
     Ok(Head {
         units_per_em,
-        long_loca: format == 1,
+        index_to_loc_format,
     })
 }
 
-// Reads `maxp`.
+/// Reads `maxp`.
 #[tactic(auto, unfolding(crate::specs::Tables::maxp_of))]
 pub fn read_maxp(table: &[u8]) -> Result<Maxp, FontFault>
     ensures { result ≡ maxp_of table.now }
@@ -38,20 +46,20 @@ pub fn read_maxp(table: &[u8]) -> Result<Maxp, FontFault>
     if table.len() < 32 {
         return Err(FontFault::TableShort(*b"maxp"));
     }
-    let glyphs = u16_in(table, 4);
-    if u32_in(table, 0) != 0x0001_0000 || glyphs == 0 {
+    let num_glyphs = u16_in(table, 4);
+    if u32_in(table, 0) != 0x0001_0000 || num_glyphs == 0 {
         return Err(FontFault::BadMaxp);
     }
     Ok(Maxp {
-        glyphs,
-        twilight_points: u16_in(table, 16),
-        storage: u16_in(table, 18),
-        functions: u16_in(table, 20),
-        stack: u16_in(table, 24),
+        num_glyphs,
+        max_twilight_points: u16_in(table, 16),
+        max_storage: u16_in(table, 18),
+        max_function_defs: u16_in(table, 20),
+        max_stack_elements: u16_in(table, 24),
     })
 }
 
-// Reads `hhea`.
+/// Reads `hhea`.
 #[tactic(auto, unfolding(crate::specs::Tables::hhea_of))]
 pub fn read_hhea(table: &[u8]) -> Result<Hhea, FontFault>
     ensures { result ≡ hhea_of table.now }
@@ -62,6 +70,6 @@ pub fn read_hhea(table: &[u8]) -> Result<Hhea, FontFault>
     Ok(Hhea {
         ascender: i16_in(table, 4),
         descender: i16_in(table, 6),
-        metrics: u16_in(table, 34),
+        number_of_h_metrics: u16_in(table, 34),
     })
 }

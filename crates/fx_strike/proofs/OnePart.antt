@@ -9,7 +9,7 @@ use Rattle.fx_sfnt.specs.Tables.{Face, font_of}
 use Rattle.fx_sfnt.specs.Glyphs.{metrics_of}
 use Rattle.fx_sfnt.specs.declared.records.Metrics.{Metrics}
 use Rattle.fx_cmap.specs.Lookup.{Segments, map_of_file}
-use Rattle.fx_hint.specs.Outlines.{Drawing, outline_of}
+use Rattle.fx_hint.specs.Outlines.{OutlineView, outline_of}
 use Rattle.fx_winding.specs.Winding.{Span}
 use Rattle.fx_contour.specs.Contours.{drawn_of}
 use Rattle.fx_contour.specs.Frames.{framed_of}
@@ -63,16 +63,16 @@ text_is_one one plan gs hs p q = ap (strike_text plan) (glyphs_are_one one plan.
 sketch_code : (face : Face) (ppem code glyph : ℕ) (s : Sketch) → glyph_sketch_of face ppem code glyph ≡ Ok s → s.code ≡ code
 unfolding glyph_sketch_of
 sketch_code face ppem code glyph s h =
-    let last : Drawing → List Span → Metrics → Sketch = λ d ss m. record {
+    let last : OutlineView → List Span → Metrics → Sketch = λ d ss m. record {
       code = code;
-      swidth = thousandths m.advance face.head.units_per_em;
+      swidth = thousandths m.advance_width face.head.units_per_em;
       dwidth = near_of d.advance (pos 64);
       spans = ss;
       strays = d.strays;
       steps = d.steps;
     } in
-    let measured : Drawing → List Span → Result Sketch Refusal = λ d ss. map_fault of_font (metrics_of face glyph) >>= λ m. Ok (last d ss m) in
-    let framed : Drawing → List Span → Result Sketch Refusal = λ d ss. map_fault (of_contour glyph) (framed_of ss) >>= λ _. measured d ss in
+    let measured : OutlineView → List Span → Result Sketch Refusal = λ d ss. map_fault of_font (metrics_of face glyph) >>= λ m. Ok (last d ss m) in
+    let framed : OutlineView → List Span → Result Sketch Refusal = λ d ss. map_fault (of_contour glyph) (framed_of ss) >>= λ _. measured d ss in
     let a = bind_ok (map_fault of_hint (outline_of face ppem glyph)) (λ d. map_fault (of_contour glyph) (drawn_of d.ends d.points) >>= framed d) s h in
     let b = bind_ok (map_fault (of_contour glyph) (drawn_of a.0.ends a.0.points)) (framed a.0) s a.2 in
     let c = bind_ok (map_fault (of_contour glyph) (framed_of b.0)) (λ _. measured a.0 b.0) s b.2 in

@@ -8,7 +8,7 @@ use Rattle.fx_fixed.proofs.Chain.{map_ok_ok}
 use Rattle.fx_sfnt.specs.Tables.{Face}
 use Rattle.fx_sfnt.specs.Glyphs.{metrics_of}
 use Rattle.fx_sfnt.specs.declared.records.Metrics.{Metrics}
-use Rattle.fx_hint.specs.Outlines.{Drawing, outline_of}
+use Rattle.fx_hint.specs.Outlines.{OutlineView, outline_of}
 use Rattle.fx_winding.specs.Winding.{Span}
 use Rattle.fx_winding.specs.Bitmaps.{Bits, bit_of}
 use Rattle.fx_contour.specs.Contours.{drawn_of}
@@ -45,14 +45,14 @@ tight_along box a b e h =
     }
 
 -- all checks passed: the sketch is there
-sketch_is : (face : Face) (ppem code glyph : ℕ) (drawing : Drawing) (ss : List Span) (m : Metrics)
+sketch_is : (face : Face) (ppem code glyph : ℕ) (drawing : OutlineView) (ss : List Span) (m : Metrics)
     → map_fault of_hint (outline_of face ppem glyph) ≡ Ok drawing
     → map_fault (of_contour glyph) (drawn_of drawing.ends drawing.points) ≡ Ok ss
     → map_fault (of_contour glyph) (framed_of ss) ≡ Ok tt
     → map_fault of_font (metrics_of face glyph) ≡ Ok m
     → glyph_sketch_of face ppem code glyph ≡ Ok (record {
       code = code;
-      swidth = thousandths m.advance face.head.units_per_em;
+      swidth = thousandths m.advance_width face.head.units_per_em;
       dwidth = near_of drawing.advance (pos 64);
       spans = ss;
       strays = drawing.strays;
@@ -62,11 +62,11 @@ unfolding glyph_sketch_of
 sketch_is face ppem code glyph drawing ss m e1 e2 e3 e4 = rw (e1, e2, e3, e4)
 
 -- all steps went well: the glyph is that of the sketch
-pub drawn_whole : (face : Face) (ppem code glyph : ℕ) (drawing : Drawing) (ss : List Span) (swidth : ℤ) (bits : Bits) (made : Drawn) (code' : ℕ) (swidth' dwidth' : ℤ)
+pub drawn_whole : (face : Face) (ppem code glyph : ℕ) (drawing : OutlineView) (ss : List Span) (swidth : ℤ) (bits : Bits) (made : Drawn) (code' : ℕ) (swidth' dwidth' : ℤ)
     → map_fault of_hint (outline_of face ppem glyph) ≡ Ok drawing
     → map_fault (of_contour glyph) (drawn_of drawing.ends drawing.points) ≡ Ok ss
     → map_fault (of_contour glyph) (framed_of ss) ≡ Ok tt
-    → Ok swidth ≡ map_ok (λ (m : Metrics). thousandths m.advance face.head.units_per_em) (map_fault of_font (metrics_of face glyph))
+    → Ok swidth ≡ map_ok (λ (m : Metrics). thousandths m.advance_width face.head.units_per_em) (map_fault of_font (metrics_of face glyph))
     → HasBitsOf ss bits
     → IsTrimmed code' swidth' dwidth' (bit_of bits) made.glyph
     → code' ≡ code
@@ -76,11 +76,11 @@ pub drawn_whole : (face : Face) (ppem code glyph : ℕ) (drawing : Drawing) (ss 
     → made.steps ≡ drawing.steps
     → (sketch : Sketch) × (glyph_sketch_of face ppem code glyph ≡ Ok sketch) × IsDrawnOf sketch made
 drawn_whole face ppem code glyph drawing ss swidth bits made code' swidth' dwidth' h1 h2 h3 h4 b t c s d strays steps =
-    let m = map_ok_ok (λ (m : Metrics). thousandths m.advance face.head.units_per_em) (map_fault of_font (metrics_of face glyph)) swidth (sym h4) in
+    let m = map_ok_ok (λ (m : Metrics). thousandths m.advance_width face.head.units_per_em) (map_fault of_font (metrics_of face glyph)) swidth (sym h4) in
     let P : Bool → Type 0 = λ x. IsTrue x in (
       record {
         code = code;
-        swidth = thousandths m.0.advance face.head.units_per_em;
+        swidth = thousandths m.0.advance_width face.head.units_per_em;
         dwidth = near_of drawing.advance (pos 64);
         spans = ss;
         strays = drawing.strays;

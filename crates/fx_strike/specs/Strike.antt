@@ -43,7 +43,7 @@ glyph_sketch_of face ppem code glyph = do
   metrics ← map_fault of_font (metrics_of face glyph)
   Ok (record {
     code = code;
-    swidth = thousandths metrics.advance face.head.units_per_em;
+    swidth = thousandths metrics.advance_width face.head.units_per_em;
     dwidth = near_of drawing.advance (pos 64);
     spans = spans;
     strays = drawing.strays;

@@ -3,11 +3,11 @@ ghost use Rattle.std.specs.Prelude.{◌≡◌, ◌≤◌, pos, map, IfOk, IfErr}
 ghost use Rattle.fx_fixed.specs.Chain.{map_ok, map_fault, GivesUnless};
 ghost use Rattle.fx_fixed.specs.Numbers.{near_of};
 ghost use Rattle.fx_sfnt.specs.Glyphs.{metrics_of};
-ghost use Rattle.fx_hint.specs.Outlines.{drawing_of_outline, outline_of};
+ghost use Rattle.fx_hint.specs.Outlines.{view_of_outline, outline_of};
 ghost use Rattle.fx_winding.specs.Winding.{span_of};
 ghost use Rattle.fx_winding.specs.Outside.{AreOfOutline};
 ghost use Rattle.fx_contour.specs.Contours.{drawn_of};
-ghost use Rattle.fx_contour.specs.Frames.{IsFrameFor, NothingOutside, framed_of};
+ghost use Rattle.fx_contour.specs.Frames.{IsFrameFor, NothingOutsideFrame, framed_of};
 ghost use Rattle.fx_strike.specs.Faults.{Fails, of_font, of_hint, of_contour};
 ghost use Rattle.fx_strike.specs.Strike.{thousandths, glyph_sketch_of};
 ghost use Rattle.fx_strike.specs.Drawing.{HasBitsOf, Draws};
@@ -27,7 +27,7 @@ use std::alloc::Global;
 fn outline_at(alloc: Global, font: &Font<'_>, ppem: u16, glyph: u16) -> Result<Outline, Refusal>
     requires low { 1 ≤ ppem }
     requires high { ppem ≤ 255 }
-    ensures { GivesUnless Fails drawing_of_outline result (map_fault of_hint (outline_of font.now ppem glyph)) }
+    ensures { GivesUnless Fails view_of_outline result (map_fault of_hint (outline_of font.now ppem glyph)) }
 {
     let Some(ppem) = Ppem::new(ppem) else {
         return Err(Refusal::BadSize);
@@ -50,7 +50,7 @@ fn pieces_at(alloc: Global, outline: &Outline, glyph: u16) -> Result<Pieces, Ref
 fn frame_at(pieces: &Pieces, glyph: u16) -> Result<Option<Frame>, Refusal>
     ensures small { GivesUnless Fails (λ _. tt) result (map_fault (of_contour glyph) (framed_of (map span_of pieces.now))) }
     ensures frame { IfOk result (λ f. IsFrameFor f (map span_of pieces.now)) }
-    ensures outside { IfOk result (λ f. NothingOutside f (map span_of pieces.now)) }
+    ensures outside { IfOk result (λ f. NothingOutsideFrame f (map span_of pieces.now)) }
 {
     match frame(pieces) {
         Ok(frame) => Ok(frame),
@@ -60,9 +60,9 @@ fn frame_at(pieces: &Pieces, glyph: u16) -> Result<Option<Frame>, Refusal>
 
 // The advance of a glyph in 1/1000 of an em.
 fn thousandths_at(font: &Font<'_>, glyph: u16) -> Result<i32, Refusal>
-    ensures { result ≡ map_ok (λ m. thousandths m.advance font.now.head.units_per_em) (map_fault of_font (metrics_of font.now glyph)) }
+    ensures { result ≡ map_ok (λ m. thousandths m.advance_width font.now.head.units_per_em) (map_fault of_font (metrics_of font.now glyph)) }
 {
-    let advance = i128::from(font.metrics(glyph)?.advance);
+    let advance = i128::from(font.metrics(glyph)?.advance_width);
     let em = font.head().units_per_em.funits();
     Ok(near(advance * 1000, i128::from(em)) as i32)
 }
@@ -102,7 +102,7 @@ fn bitmap_of<S: Scan>(
     frame: Option<Frame>,
 ) -> Result<Bitmap, Refusal>
     requires closed { AreOfOutline (map span_of pieces.now) }
-    requires outside { NothingOutside frame (map span_of pieces.now) }
+    requires outside { NothingOutsideFrame frame (map span_of pieces.now) }
     ensures bits { IfOk result (HasBitsOf (map span_of pieces.now)) }
     ensures fault { IfErr result (λ e. e ≡ Refusal.OutOfMemory) }
 {

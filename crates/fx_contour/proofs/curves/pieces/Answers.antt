@@ -14,7 +14,8 @@ contour-requires c =
     let ends = c.deref-end-items.ensures.value in
     let points = ap length c.deref-in-loop-end.ensures.value in
     let inside : c.loop-end.end-index < length o.ends.items = (let e = ap length ends in omega arith) in
-    let w = next_within c.loop-end.made c.loop-end.start o.ends.items c.loop-end.end-index o.points.items c.from-next.result 0 c.loop-end.invariant inside (c.from-next.ensures ∙ ap (λ xs. get_or xs c.loop-end.end-index 0) ends) in
+    let w = next_within c.loop-end.made c.loop-end.start o.ends.items c.loop-end.end-index o.points.items c.from-next.result 0
+    c.loop-end.invariant inside (c.from-next.ensures ∙ ap (λ xs. get_or xs c.loop-end.end-index 0) ends) in
     record { order = w.0; within = omega (arith, w.1, points) }
 
 pub loop-end-preserved : goal.loop-end-preserved
@@ -24,10 +25,12 @@ loop-end-preserved c =
     let next = c.from-next.result + 1 in
     let ends = c.deref-end-items.ensures.value in
     let inside : c.loop-end.end-index < length o.ends.items = (let e = ap length ends in omega arith) in
-    let slice : c.contour.result.now ≡ take (next - start) (drop start o.points.items) = c.contour.ensures ∙ ap (λ xs. take (next - start) (drop start xs)) c.deref-in-loop-end.ensures.value in
+    let slice : c.contour.result.now ≡ take (next - start) (drop start o.points.items) =
+    c.contour.ensures ∙ ap (λ xs. take (next - start) (drop start xs)) c.deref-in-loop-end.ensures.value in
     let P : List OutlinePoint → Type 0 = λ xs. map span_of c.add_contour.new.made ≡ map span_of c.loop-end.made ++ curve_of xs in
     let Q : List OutlinePoint → Type 0 = λ xs. length c.add_contour.new.made ≤ length c.loop-end.made + length xs in
-    gather_more c.loop-end.made c.add_contour.new.made start o.ends.items c.loop-end.end-index o.points.items c.from-next.result 0 c.loop-end.invariant inside (c.from-next.ensures ∙ ap (λ xs. get_or xs c.loop-end.end-index 0) ends)
+    gather_more c.loop-end.made c.add_contour.new.made start o.ends.items c.loop-end.end-index o.points.items c.from-next.result 0
+    c.loop-end.invariant inside (c.from-next.ensures ∙ ap (λ xs. get_or xs c.loop-end.end-index 0) ends)
     (subst P slice c.in_ok-add_contour.ensures.ok)
     (subst Q slice c.in_ok-add_contour.ensures.few)
 
@@ -35,16 +38,25 @@ pub returns-clause-closed : goal.returns-clause-closed
 returns-clause-closed c =
     let o = c.args.outline.now in
     let ends = ap length c.deref-end-items.ensures.value in
-    let contours = contours_from 0 o.ends.items o.points.items in
-    (map curve_of contours, all_closed contours, sym (gather_end c.loop-end.made c.loop-end.start o.ends.items c.loop-end.end-index o.points.items c.loop-end.invariant (omega arith)))
+    let contours = contours_from 0 o.ends.items o.points.items in (
+      map curve_of contours,
+      all_closed contours,
+      sym
+          (gather_end c.loop-end.made c.loop-end.start o.ends.items c.loop-end.end-index o.points.items c.loop-end.invariant
+          (omega arith)),
+    )
 
-pub returns-then-not-are_near-clause-exact : goal.returns-then-not-are_near-clause-exact
-returns-then-not-are_near-clause-exact c =
+pub returns-then-not-are_in_reach-clause-exact : goal.returns-then-not-are_in_reach-clause-exact
+returns-then-not-are_in_reach-clause-exact c =
     let o = c.args.outline.now in
-    drawn_far o.ends.items o.points.items c.deref.result.now c.are_near.result c.deref.ensures.value c.are_near.ensures c.if-not-are_near.true
+    drawn_far o.ends.items o.points.items c.deref.result.now c.are_in_reach.result c.deref.ensures.value c.are_in_reach.ensures
+    c.if-not-are_in_reach.true
 
 pub returns-clause-exact : goal.returns-clause-exact
 returns-clause-exact c =
     let o = c.args.outline.now in
     let ends = ap length c.deref-end-items.ensures.value in
-    drawn_near o.ends.items o.points.items c.deref.result.now c.are_near.result (map span_of c.loop-end.made) c.deref.ensures.value c.are_near.ensures c.if-not-are_near.false (gather_end c.loop-end.made c.loop-end.start o.ends.items c.loop-end.end-index o.points.items c.loop-end.invariant (omega arith))
+    drawn_near o.ends.items o.points.items c.deref.result.now c.are_in_reach.result
+    (map span_of c.loop-end.made) c.deref.ensures.value c.are_in_reach.ensures c.if-not-are_in_reach.false
+    (gather_end c.loop-end.made c.loop-end.start o.ends.items c.loop-end.end-index o.points.items c.loop-end.invariant
+    (omega arith))

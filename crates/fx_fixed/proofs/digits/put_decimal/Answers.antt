@@ -1,6 +1,6 @@
 use Rattle.std.proofs.Common.{◌≡◌, ◌+◌, ◌-◌, ◌%◌, suc, ◌∙◌, arith}
 use Rattle.std.proofs.lemmas.List.{length-set}
-use Rattle.fx_fixed.proofs.Decimals.{room_left, more_room, digit_more, digit_first, room_before}
+use Rattle.fx_fixed.proofs.Decimals.{fits_left, fits_more, digit_more, digit_first, fits_before}
 use Rattle.fx_fixed.proofs.digits.put_decimal.Goals as goal
 
 pub digits-preserved : goal.digits-preserved
@@ -9,10 +9,10 @@ digits-preserved c =
     let e : c.digits.at ≡ suc (c.digits.at - 1) = omega arith in
     record {
       within = omega arith;
-      some = more_room 10 _ _ _ e c.digits-test.true i.room;
-      len = length-set c.digits.room (c.digits.at - 1) (48 + c.digits.left % 10) ∙ i.len;
+      some = fits_more 10 _ _ _ e c.digits-test.true i.fits;
+      len = length-set c.digits.buffer (c.digits.at - 1) (48 + c.digits.left % 10) ∙ i.len;
       digits = digit_more _ _ _ _ i.some (omega arith) c.digits-test.true (omega arith) i.digits;
-      room = room_left 10 _ _ _ (omega arith) e i.room;
+      fits = fits_left 10 _ _ _ (omega arith) e i.fits;
     }
 
 pub returns-clause-digits : goal.returns-clause-digits
@@ -22,4 +22,5 @@ returns-clause-digits c =
 pub returns-clause-before : goal.returns-clause-before
 returns-clause-before c few =
     let i = c.digits.invariant in
-    room_before c.args.number (c.digits.at - 1) _ (length-set c.digits.room (c.digits.at - 1) (48 + c.digits.left) ∙ i.len) (digit_first _ _ _ _ i.some (omega arith) c.digits-test.false i.digits) few (omega arith)
+    fits_before c.args.number (c.digits.at - 1) _ (length-set c.digits.buffer (c.digits.at - 1) (48 + c.digits.left) ∙ i.len)
+    (digit_first _ _ _ _ i.some (omega arith) c.digits-test.false i.digits) few (omega arith)

@@ -6,9 +6,9 @@ abbrev pub invariant-digits : goal.invariant-digits
 invariant-digits l = record {
   within : l.at ≤ 20;
   some : 0 < l.at;
-  len : length l.room ≡ 20;
-  digits : decimal l.number ≡ decimal l.left ++ drop l.at l.room;
-  room : l.left < 10 ^ l.at;
+  len : length l.buffer ≡ 20;
+  digits : decimal l.number ≡ decimal l.left ++ drop l.at l.buffer;
+  fits : l.left < 10 ^ l.at;
 }
 
 abbrev pub decreases-digits : goal.decreases-digits

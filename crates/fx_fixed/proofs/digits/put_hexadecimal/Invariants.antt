@@ -6,9 +6,9 @@ abbrev pub invariant-digits : goal.invariant-digits
 invariant-digits l = record {
   within : l.at ≤ 20;
   some : 4 < l.at;
-  len : length l.room ≡ 20;
-  digits : digits_onto (l.at + 44) 16 true l.left (drop l.at l.room) ≡ digits 16 true l.number;
-  room : l.left < 16 ^ (l.at - 4);
+  len : length l.buffer ≡ 20;
+  digits : digits_onto (l.at + 44) 16 true l.left (drop l.at l.buffer) ≡ digits 16 true l.number;
+  fits : l.left < 16 ^ (l.at - 4);
 }
 
 abbrev pub decreases-digits : goal.decreases-digits

@@ -8,10 +8,11 @@ zeros-preserved c =
     let i = c.zeros.invariant in
     record {
       before = omega arith;
-      len = length-set c.zeros.room (c.zeros.at - 1) 48 ∙ i.len;
+      len = length-set c.zeros.buffer (c.zeros.at - 1) 48 ∙ i.len;
       few = omega arith;
       zeros = zero_more _ _ _ _ (omega arith) (omega arith) i.before i.zeros;
     }
 
 pub returns-clause-zeros : goal.returns-clause-zeros
-returns-clause-zeros c = let i = c.zeros.invariant in zeros_all _ _ _ _ _ (search rules) i.before (omega arith) i.few (omega arith) i.zeros
+returns-clause-zeros c =
+    let i = c.zeros.invariant in zeros_all _ _ _ _ _ (search rules) i.before (omega arith) i.few (omega arith) i.zeros

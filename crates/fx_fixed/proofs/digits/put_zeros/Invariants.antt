@@ -4,9 +4,9 @@ use Rattle.fx_fixed.proofs.digits.put_zeros.Given as goal
 abbrev pub invariant-zeros : goal.invariant-zeros
 invariant-zeros l = record {
   before : l.at ≤ l.first;
-  len : length l.room ≡ 20;
+  len : length l.buffer ≡ 20;
   few : l.first - l.at ≤ l.least - (20 - l.first);
-  zeros : drop l.at l.room ≡ replicate (l.first - l.at) 48 ++ drop l.first l.fn.room;
+  zeros : drop l.at l.buffer ≡ replicate (l.first - l.at) 48 ++ drop l.first l.fn.buffer;
 }
 
 abbrev pub decreases-zeros : goal.decreases-zeros

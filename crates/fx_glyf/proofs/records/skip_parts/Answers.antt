@@ -9,11 +9,12 @@ returns-in_err-part c =
     ∙ parts_stopped _ _ _ c.parts-test.true c.in_err-part.ensures ∙ c.parts.invariant
 
 pub parts-smaller : goal.parts-smaller
-parts-smaller c = shorter _ (c.in_ok-part.part, c.in_ok-part.behind.now) (sym c.in_ok-part.ensures)
+parts-smaller c = shorter _ (c.in_ok-part.part, c.in_ok-part.after_it.now) (sym c.in_ok-part.ensures)
 
 pub parts-preserved : goal.parts-preserved
 parts-preserved c =
-    parts_passed _ _ _ _ _ _ _ c.parts-test.true c.in_ok-part.ensures c.has-announced.ensures c.is_followed-more.ensures ∙ c.parts.invariant
+    parts_passed _ _ _ _ _ _ _ c.parts-test.true c.in_ok-part.ensures c.has_program-announced.ensures c.is_followed-more.ensures
+    ∙ c.parts.invariant
 
 pub returns : goal.returns
 returns c = parts_ended _ _ _ c.parts-test.false ∙ c.parts.invariant

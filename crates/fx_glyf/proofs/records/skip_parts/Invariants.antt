@@ -4,7 +4,7 @@ use Rattle.fx_glyf.specs.Components.{parts_in, ending_of}
 use Rattle.fx_glyf.proofs.Parts.{ending_with}
 use Rattle.fx_glyf.proofs.records.skip_parts.Given as goal
 
--- what stands behind the components that are left stands behind all
+-- what comes after the components that are left comes after all
 abbrev pub invariant-parts : goal.invariant-parts
 invariant-parts l = option_map (ending_with l.announced) (parts_in l.more l.rest) ≡ option_map ending_of (parts_in true l.bytes)
 

@@ -15,4 +15,5 @@ returns-clause-exact c h =
     let near = simp to_z-of_z at c.near.ensures.value in
     let bound = simp to_z-of_z at c.near.ensures.bound in
     let wrap = simp to_z-of_z at c.w32.ensures.value in
-    simp to_z-of_z (exact c.args.v c.args.ppem c.sixty_fourths.result c.near.result c.w32.result v bound wrap h most ∙ (cc (near, v, c.from.ensures, c.funits.ensures.value)))
+    simp to_z-of_z (exact c.args.v c.args.ppem c.sixty_fourths.result c.near.result c.w32.result v bound wrap h most
+    ∙ (cc (near, v, c.from.ensures, c.funits.ensures.value)))

@@ -10,10 +10,14 @@ nonempty (suc n) b e f = omega arith
 pub loop-piece-init : goal.loop-piece-init
 loop-piece-init c =
     let e = c.around-bounds.ensures in
-    remains_first c.around-bounds.result c.args.pieces.now c.index-pieces-0.result (nonempty (length c.args.pieces.now) c.is_empty.result c.is_empty.ensures c.if-is_empty.false) e.left e.right e.bottom e.top
+    remains_first c.around-bounds.result c.args.pieces.now c.index-pieces-0.result
+    (nonempty (length c.args.pieces.now) c.is_empty.result c.is_empty.ensures c.if-is_empty.false) e.left e.right e.bottom e.top
 
 pub loop-piece-preserved : goal.loop-piece-preserved
-loop-piece-preserved c = remains_more c.loop-piece.bounds c.with_piece-bounds.result c.args.pieces.now c.loop-piece.piece-index c.piece-item.result c.loop-piece-test.true c.piece-item.is c.loop-piece.invariant c.with_piece-bounds.ensures
+loop-piece-preserved c =
+    remains_more c.loop-piece.bounds c.with_piece-bounds.result c.args.pieces.now c.loop-piece.piece-index c.piece-item.result
+    c.loop-piece-test.true c.piece-item.is c.loop-piece.invariant c.with_piece-bounds.ensures
 
 pub returns : goal.returns
-returns c = remains_end c.loop-piece.bounds c.args.pieces.now c.loop-piece.piece-index c.loop-piece-test.false c.loop-piece.invariant
+returns c =
+    remains_end c.loop-piece.bounds c.args.pieces.now c.loop-piece.piece-index c.loop-piece-test.false c.loop-piece.invariant

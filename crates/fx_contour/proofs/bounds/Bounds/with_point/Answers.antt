@@ -12,4 +12,6 @@ invariant_of-result c = record {
 }
 
 pub returns : goal.returns
-returns c = point_grows _ _ _ (omega (arith, ints, clamps)) (omega (arith, ints, clamps)) (omega (arith, ints, clamps)) (omega (arith, ints, clamps))
+returns c =
+    point_grows _ _ _ (omega (arith, ints, clamps)) (omega (arith, ints, clamps)) (omega (arith, ints, clamps))
+    (omega (arith, ints, clamps))

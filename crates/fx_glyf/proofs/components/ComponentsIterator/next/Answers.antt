@@ -8,16 +8,19 @@ returns-then-not-self-clause-steps c =
     (none, none)
 
 pub invariant_of-self : goal.invariant_of-self
-invariant_of-self c = (part_stepped _ _ _ _ _ c.if-not-self.false c.in-Some.ensures c.is_followed-self-inside.ensures c.self.invariant).some
+invariant_of-self c =
+    (part_stepped _ _ _ _ _ c.if-not-self.false c.in-Some.ensures c.is_followed-self-inside.ensures c.self.invariant).some
 
 pub returns-in-None-clause-steps : goal.returns-in-None-clause-steps
 returns-in-None-clause-steps c = absurd (part_there _ _ c.if-not-self.false c.in-None.ensures c.self.invariant)
 
 pub returns-in-Some-clause-steps : goal.returns-in-Some-clause-steps
 returns-in-Some-clause-steps c =
-    sym c.self.view_is ∙ (part_stepped _ _ _ _ _ c.if-not-self.false c.in-Some.ensures c.is_followed-self-inside.ensures c.self.invariant).list
+    sym c.self.view_is
+    ∙ (part_stepped _ _ _ _ _ c.if-not-self.false c.in-Some.ensures c.is_followed-self-inside.ensures c.self.invariant).list
 
 pub returns-in-Some-clause-goes : goal.returns-in-Some-clause-goes
 returns-in-Some-clause-goes c =
-    let steps = sym c.self.view_is ∙ (part_stepped _ _ _ _ _ c.if-not-self.false c.in-Some.ensures c.is_followed-self-inside.ensures c.self.invariant).list in
+    let steps = sym c.self.view_is ∙ (part_stepped _ _ _ _ _ c.if-not-self.false c.in-Some.ensures c.is_followed-self-inside.ensures
+    c.self.invariant).list in
     search (rules, steps)

@@ -7,14 +7,16 @@ pub with_parts-returns-in_err-made-clause-value : goal.with_parts-returns-in_err
 with_parts-returns-in_err-made-clause-value g t c =
     let p = err_from_is_err_and c.from_residual.result c.from_residual.ensures.1 in
     let v = rw c.parts.invariant.kept at c.in_err-made.ensures.value in
-    rw (p.1, p.2) (fails_on c.in_err-made.field-0.0 _ _ (λ e h. refused_at _ _ _ _ _ _ _ _ _ _ e c.in-Some.ensures.steps c.parts.invariant.left h) v)
+    rw (p.1, p.2) (fails_on c.in_err-made.field-0.0 _ _
+    (λ e h. refused_at _ _ _ _ _ _ _ _ _ _ e c.in-Some.ensures.steps c.parts.invariant.left h) v)
 
 pub with_parts-returns-in_err-base-clause-value : goal.with_parts-returns-in_err-base-clause-value
 with_parts-returns-in_err-base-clause-value g t c =
     let p = err_from_is_err_and c.from_residual-in_err-base.result c.from_residual-in_err-base.ensures.1 in
     let v = rw c.parts.invariant.kept at c.in_ok-made.ensures.value in
     let w = rw c.is_on-on.ensures at c.in_err-base.ensures in
-    rw (p.1, p.2) (fails_on c.in_err-base.field-0.0 _ _ (λ e h. unplaced_at _ _ _ _ _ _ _ _ _ _ _ _ e c.in-Some.ensures.steps c.parts.invariant.left v h) w)
+    rw (p.1, p.2) (fails_on c.in_err-base.field-0.0 _ _
+    (λ e h. unplaced_at _ _ _ _ _ _ _ _ _ _ _ _ e c.in-Some.ensures.steps c.parts.invariant.left v h) w)
 
 pub with_parts-parts-preserved : goal.with_parts-parts-preserved
 with_parts-parts-preserved g t c =

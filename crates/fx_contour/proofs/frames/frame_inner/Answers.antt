@@ -2,17 +2,19 @@ use Rattle.std.proofs.Common.{map, arith, refl}
 use Rattle.std.proofs.lemmas.Int.{ints}
 use Rattle.fx_winding.specs.Winding.{span_of}
 use Rattle.fx_contour.proofs.Framed.{same_pixels, same_none, no_columns, no_rows, too_wide, too_high, is_frame}
-use Rattle.fx_contour.proofs.frames.frame_of.Goals as goal
+use Rattle.fx_contour.proofs.frames.frame_inner.Goals as goal
 
 pub returns-in_default-between-clause-ok : goal.returns-in_default-between-clause-ok
 returns-in_default-between-clause-ok c =
     let b = c.in-Some.bounds in
-    no_columns b (map span_of c.args.pieces.now) c.in-Some.ensures (same_none _ _ b.left b.right (omega (arith, ints)) (omega (arith, ints)) c.in_default-between.ensures)
+    no_columns b (map span_of c.args.pieces.now) c.in-Some.ensures
+    (same_none _ _ b.left b.right (omega (arith, ints)) (omega (arith, ints)) c.in_default-between.ensures)
 
 pub returns-in_default-between-2-clause-ok : goal.returns-in_default-between-2-clause-ok
 returns-in_default-between-2-clause-ok c =
     let b = c.in-Some.bounds in
-    no_rows b (map span_of c.args.pieces.now) c.in-Some.ensures (same_none _ _ b.bottom b.top (omega (arith, ints)) (omega (arith, ints)) c.in_default-between-2.ensures)
+    no_rows b (map span_of c.args.pieces.now) c.in-Some.ensures
+    (same_none _ _ b.bottom b.top (omega (arith, ints)) (omega (arith, ints)) c.in_default-between-2.ensures)
 
 pub returns-then-columns-gt-GREATEST_SIDE-clause-fault : goal.returns-then-columns-gt-GREATEST_SIDE-clause-fault
 returns-then-columns-gt-GREATEST_SIDE-clause-fault c =
@@ -22,7 +24,8 @@ returns-then-columns-gt-GREATEST_SIDE-clause-fault c =
       refl,
       too_wide b (map span_of c.args.pieces.now) s r c.in-Some.ensures
           (same_pixels s _ _ b.left b.right (omega (arith, ints)) (omega (arith, ints)) c.in-Some-between.ensures)
-          (same_pixels r _ _ b.bottom b.top (omega (arith, ints)) (omega (arith, ints)) c.in-Some-between-2.ensures) c.if-columns-gt-GREATEST_SIDE.true,
+          (same_pixels r _ _ b.bottom b.top (omega (arith, ints)) (omega (arith, ints)) c.in-Some-between-2.ensures)
+          c.if-columns-gt-GREATEST_SIDE.true,
     )
 
 pub returns-then-rows-gt-GREATEST_SIDE-clause-fault : goal.returns-then-rows-gt-GREATEST_SIDE-clause-fault
@@ -33,7 +36,8 @@ returns-then-rows-gt-GREATEST_SIDE-clause-fault c =
       refl,
       too_high b (map span_of c.args.pieces.now) s r c.in-Some.ensures
           (same_pixels s _ _ b.left b.right (omega (arith, ints)) (omega (arith, ints)) c.in-Some-between.ensures)
-          (same_pixels r _ _ b.bottom b.top (omega (arith, ints)) (omega (arith, ints)) c.in-Some-between-2.ensures) c.if-rows-gt-GREATEST_SIDE.true,
+          (same_pixels r _ _ b.bottom b.top (omega (arith, ints)) (omega (arith, ints)) c.in-Some-between-2.ensures)
+          c.if-rows-gt-GREATEST_SIDE.true,
     )
 
 pub returns-clause-ok : goal.returns-clause-ok

@@ -1,16 +1,17 @@
-//! The outline of a character.
+//! The outline of a glyph.
 
 ghost use Rattle.std.specs.Prelude.{◌≡◌, ◌<◌, map, length, IfOk};
 ghost use Rattle.std.specs.List.{All};
 ghost use Rattle.fx_fixed.specs.Chain.{GivesUnless};
+ghost use Rattle.fx_hint.specs.Limits.{max_points};
 ghost use Rattle.fx_hint.specs.Faults.{Fails};
-ghost use Rattle.fx_hint.specs.Outlines.{scale_of, moved_point, drawing_of_made, drawing_of_outline, outline_with, outline_of, IsSound};
+ghost use Rattle.fx_hint.specs.Outlines.{scale_of, moved_point, moved_outline_of, view_of_outline, outline_with, outline_of, IsSound};
 
 use crate::fault::HintFault;
 use crate::hinter::{Hinter, NoHinter};
 use crate::made::Made;
 use crate::outline::{Outline, OutlinePoint};
-use crate::walk::character_made;
+use crate::walk::root_made;
 use fx_fixed::{F26, Ppem};
 use fx_scale::Scale;
 use fx_sfnt::Font;
@@ -23,7 +24,7 @@ use std::alloc::{AllocError, Global};
 /// The faults come in the order of the walk: for each component record its depth, the number of records, its number and
 /// bytes, its reading, the component itself, its place. `OutOfMemory` may come in place of any of them, and of an outline.
 pub fn unhinted(alloc: Global, font: &Font<'_>, ppem: Ppem, g: u16) -> Result<Outline, HintFault>
-    ensures { GivesUnless Fails drawing_of_outline result (outline_of font.now ppem g) }
+    ensures { GivesUnless Fails view_of_outline result (outline_of font.now ppem g) }
 {
     let mut hinter = NoHinter;
     outline_with(alloc, &mut hinter, font, ppem, g)
@@ -39,12 +40,12 @@ pub fn outline_with<H: Hinter>(
     g: u16,
 ) -> Result<Outline, HintFault>
     ensures kept { H.hinting hinter.new ≡ H.hinting hinter.old }
-    ensures value { GivesUnless Fails drawing_of_outline result (outline_with (H.hinting hinter.old) font.now ppem g) }
+    ensures value { GivesUnless Fails view_of_outline result (outline_with (H.hinting hinter.old) font.now ppem g) }
 {
     let scale = scale_of(font, ppem);
-    hinter.keeps_shape();
-    let made = character_made(alloc, hinter, font, &scale, g)?;
-    let outline = drawn(alloc, &made)?;
+    hinter.law_keeps_shape();
+    let made = root_made(alloc, hinter, font, &scale, g)?;
+    let outline = moved_outline(alloc, &made)?;
     Ok(outline)
 }
 
@@ -60,11 +61,11 @@ fn scale_of(font: &Font<'_>, ppem: Ppem) -> Scale
     }
 }
 
-/// The whole outline moved, so that its first phantom point lies at x = 0.
-#[tactic(auto, unfolding(crate::specs::Outlines::drawing_of_made))]
-fn drawn(alloc: Global, made: &Made) -> Result<Outline, AllocError>
+/// The outline moved, so that its first phantom point lies at x = 0.
+#[tactic(auto, unfolding(crate::specs::Outlines::moved_outline_of))]
+fn moved_outline(alloc: Global, made: &Made) -> Result<Outline, AllocError>
     requires { IsSound made.now }
-    ensures { IfOk result (λ o. drawing_of_outline o ≡ drawing_of_made made.now) }
+    ensures { IfOk result (λ o. view_of_outline o ≡ moved_outline_of made.now) }
 {
     let origin = made.phantoms.origin.cur.x;
     let points = moved_points(alloc, made.zone.points(), origin)?;
@@ -79,6 +80,7 @@ fn drawn(alloc: Global, made: &Made) -> Result<Outline, AllocError>
     })
 }
 
+/// The points moved, in their order.
 fn moved_points(
     alloc: Global,
     points: &[Point],
@@ -88,13 +90,12 @@ fn moved_points(
 {
     let mut moved = Vec::with_capacity(alloc, points.len())?;
     'points: for point in points {
-        moved
-            .push(moved_point(*point, origin))
-            .map_err(|_| AllocError)?;
+        moved.push(moved_point(*point, origin))?;
     }
     Ok(moved)
 }
 
+/// A point at its current place, moved so that the origin lies at x = 0.
 fn moved_point(point: Point, origin: F26) -> OutlinePoint
     ensures { result ≡ moved_point origin point }
 {
@@ -105,14 +106,14 @@ fn moved_point(point: Point, origin: F26) -> OutlinePoint
     }
 }
 
-/// The numbers of contours' last points, which are all below 16,384.
+/// The numbers of contours' last points, which are all below `MAX_POINTS`.
 fn short_ends(alloc: Global, ends: &[usize]) -> Result<Vec<u16>, AllocError>
-    requires { All (λ e. e < 16384) ends.now }
+    requires { All (λ e. e < max_points) ends.now }
     ensures { IfOk result (λ v. v.items ≡ ends.now) }
 {
     let mut short = Vec::with_capacity(alloc, ends.len())?;
     'ends: for end in ends {
-        short.push(*end as u16).map_err(|_| AllocError)?;
+        short.push(*end as u16)?;
     }
     Ok(short)
 }

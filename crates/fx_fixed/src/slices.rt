@@ -2,7 +2,7 @@
 
 ghost use Rattle.std.specs.Prelude.{◌≡◌, ◌≤◌, length, take, drop};
 
-/// The bytes behind the first `count`.
+/// The bytes after the first `count`.
 pub fn after(bytes: &[u8], count: usize) -> &[u8]
     requires { count ≤ length bytes.now }
     ensures { result.now ≡ drop count bytes.now }
@@ -18,7 +18,7 @@ pub fn before(bytes: &[u8], count: usize) -> &[u8]
     &bytes[..count]
 }
 
-/// The bytes from a place on, `len` of them where there are so many; none where the place is past the end.
+/// The bytes from an offset on, at most `len` of them; none if the offset is past the end.
 pub fn part(bytes: &[u8], at: usize, len: usize) -> &[u8]
     ensures value { result.now ≡ take len (drop at bytes.now) }
     ensures short { length result.now ≤ len }

@@ -1,4 +1,5 @@
--- Whole glyphs against the grammar, both ways.
+-- Glyphs against the grammar, both ways.
+-- For the clauses of `read`.
 use Rattle.std.proofs.Common.{◌≡◌, ℕ, zero, suc, ◌+◌, ◌-◌, ◌*◌, ◌<◌, ◌≤◌, Bool, true, false, List, [], ◌∷◌, ◌++◌, length, take, drop, cond, Some, Result, Ok, Err, inl, inr, refl, sym, ap, ◌∙◌, arith, subst, length-append}
 use Rattle.std.specs.Prelude.{nat_lt, ◌==◌, IfOk}
 use Rattle.std.proofs.lemmas.Bool.{ltb-false, ltb-true, lt-ltb, le-ltb, eqb-true, eqb-false, ne_eqb}
@@ -15,9 +16,9 @@ use Rattle.fx_glyf.specs.declared.fault.GlyphFault.TheVariants.{GlyphShort}
 use Rattle.fx_glyf.specs.declared.glyph.Glyph.{Glyph}
 use Rattle.fx_glyf.specs.declared.glyph.Glyph.TheVariants.{Empty, Simple, Composite}
 use Rattle.fx_glyf.specs.Words.{words, count_from, program_of}
-use Rattle.fx_glyf.specs.Points.{outline_of}
+use Rattle.fx_glyf.specs.Points.{glyph_points_of}
 use Rattle.fx_glyf.specs.Components.{parts_in, has_program}
-use Rattle.fx_glyf.specs.Shapes.{Shape, Assembly}
+use Rattle.fx_glyf.specs.Shapes.{SimpleView, CompositeView}
 use Rattle.fx_glyf.specs.Grammar.{SpellsAnnounced, DescribesSimple, DescribesComposite, Describes}
 use Rattle.fx_glyf.specs.Glyphs.{x_min_of, simple_of, announced_of, composite_of, body_of, glyph_of}
 use Rattle.fx_glyf.proofs.EndPoints.{ends_counted, ends_count}
@@ -30,7 +31,8 @@ unfolding words
 words_take zero m xs h = refl
 words_take (suc n) m xs h =
     let e : 2 + (m - 2) ≡ m = omega arith in
-    let tail : drop 2 (take m xs) ≡ take (m - 2) (drop 2 xs) = ap (λ (k : ℕ). drop 2 (take k xs)) (sym e) ∙ drop-take 2 (m - 2) xs in
+    let tail : drop 2 (take m xs) ≡ take (m - 2) (drop 2 xs) =
+    ap (λ (k : ℕ). drop 2 (take k xs)) (sym e) ∙ drop-take 2 (m - 2) xs in
     ap (λ (w : ℕ). w ∷ words n (drop 2 (take m xs))) (big_from-take 0 2 m xs (omega arith))
     ∙ ap (λ (t : List ℕ). big_number 2 xs ∷ words n t) tail
     ∙ ap (λ (t : List ℕ). big_number 2 xs ∷ t) (words_take n (m - 2) (drop 2 xs) (omega arith))
@@ -39,7 +41,8 @@ words_front : (n : ℕ) (xs ys : List ℕ) → length xs ≡ 2 * n → words n (
 words_front n xs ys h = sym (words_take n (2 * n) (xs ++ ys) (omega arith)) ∙ ap (words n) (take_at xs ys (2 * n) h)
 
 -- a simple glyph that is read is described by the bytes
-found_simple : (bytes : List ℕ) (g : ℕ) (s : Shape) → 10 ≤ length bytes → 0 < field 2 bytes 0 → field 2 bytes 0 < 32768 → simple_of (field 2 bytes 0) bytes g ≡ Ok s → DescribesSimple bytes s
+found_simple : (bytes : List ℕ) (g : ℕ) (s : SimpleView) → 10 ≤ length bytes → 0 < field 2 bytes 0 → field 2 bytes 0 < 32768
+    → simple_of (field 2 bytes 0) bytes g ≡ Ok s → DescribesSimple bytes s
 unfolding simple_of
 found_simple bytes g s long low high h =
     let n = field 2 bytes 0 in
@@ -48,7 +51,7 @@ found_simple bytes g s long low high h =
     let c = wanted_ok _ _ _ _ b.2 in
     let d = wanted_ok _ _ _ _ c.2 in
     let program = found_program (drop (2 * field 2 bytes 0) (drop 10 bytes)) c.0 c.1 in
-    let P : Shape → Type 0 = DescribesSimple bytes in
+    let P : SimpleView → Type 0 = DescribesSimple bytes in
     subst P (ok_injective _ _ d.2) (record {
       header = take 10 bytes;
       contours = field 2 bytes 0;
@@ -57,7 +60,8 @@ found_simple bytes g s long low high h =
       rest = c.0.1;
       count = b.0;
       split = sym (take-append-drop 10 bytes) ∙ ap (λ (x : List ℕ). take 10 bytes ++ x)
-          (sym (take-append-drop (2 * field 2 bytes 0) (drop 10 bytes)) ∙ ap (λ (x : List ℕ). take (2 * field 2 bytes 0) (drop 10 bytes) ++ x) program.split);
+          (sym (take-append-drop (2 * field 2 bytes 0) (drop 10 bytes))
+          ∙ ap (λ (x : List ℕ). take (2 * field 2 bytes 0) (drop 10 bytes) ++ x) program.split);
       header_is = found_header bytes long;
       some_contours = (low, high);
       ends_size = length-take-le (2 * field 2 bytes 0) (drop 10 bytes) (ltb-false _ _ a.0);
@@ -67,54 +71,66 @@ found_simple bytes g s long low high h =
       points_are = found_points b.0 c.0.1 d.0 d.1;
     })
 
--- reading, where the parts are there
-simple_there : (contours : ℕ) (bytes : List ℕ) (g count : ℕ) (code rest : List ℕ) (points : List Point) → 2 * contours ≤ length (drop 10 bytes) → count_from 0 (words contours (drop 10 bytes)) ≡ Some count
-    → program_of (drop (2 * contours) (drop 10 bytes)) ≡ Some (code, rest) → outline_of count rest ≡ Some points
-    → simple_of contours bytes g ≡ Ok (record { ends = words contours (drop 10 bytes); points = points; x_min = x_min_of bytes; code = code })
+-- reading, if the parts are found
+simple_there : (contours : ℕ) (bytes : List ℕ) (g count : ℕ) (code rest : List ℕ) (points : List Point)
+    → 2 * contours ≤ length (drop 10 bytes) → count_from 0 (words contours (drop 10 bytes)) ≡ Some count
+    → program_of (drop (2 * contours) (drop 10 bytes)) ≡ Some (code, rest) → glyph_points_of count rest ≡ Some points
+    → simple_of contours bytes g ≡ Ok (record
+    { ends = words contours (drop 10 bytes); points = points; x_min = x_min_of bytes; code = code })
 unfolding simple_of
 simple_there contours bytes g count code rest points a b c d = simp (le-ltb _ _ a, b, c, d)
 
 -- a simple glyph that the bytes describe is read
-only_simple : (bytes : List ℕ) (g : ℕ) (s : Shape) (d : DescribesSimple bytes s) → simple_of d.contours bytes g ≡ Ok s
+only_simple : (bytes : List ℕ) (g : ℕ) (s : SimpleView) (d : DescribesSimple bytes s) → simple_of d.contours bytes g ≡ Ok s
 only_simple bytes g s d =
     let h = headed bytes d.header (d.ends ++ (d.program ++ d.rest)) d.contours s.x_min d.split d.header_is in
     let long = length-append d.ends (d.program ++ d.rest) in
-    let room : 2 * d.contours ≤ length (drop 10 bytes) = omega (arith, ap length h.behind, d.ends_size) in
-    let ends : words d.contours (drop 10 bytes) ≡ s.ends = ap (words d.contours) h.behind ∙ words_front d.contours d.ends (d.program ++ d.rest) d.ends_size ∙ sym d.ends_are in
-    let count : count_from 0 (words d.contours (drop 10 bytes)) ≡ Some d.count = ap (count_from 0) ends ∙ ends_count 0 s.ends d.count d.in_order in
-    let behind : drop (2 * d.contours) (drop 10 bytes) ≡ d.program ++ d.rest = ap (drop (2 * d.contours)) h.behind ∙ drop_at d.ends (d.program ++ d.rest) (2 * d.contours) d.ends_size in
-    let program : program_of (drop (2 * d.contours) (drop 10 bytes)) ≡ Some (s.code, d.rest) = ap program_of behind ∙ only_program s.code d.program d.rest d.program_is in
-    simple_there d.contours bytes g d.count s.code d.rest s.points room count program (only_points d.count d.rest s.points d.points_are)
+    let inside : 2 * d.contours ≤ length (drop 10 bytes) = omega (arith, ap length h.rest_is, d.ends_size) in
+    let ends : words d.contours (drop 10 bytes) ≡ s.ends =
+    ap (words d.contours) h.rest_is ∙ words_front d.contours d.ends (d.program ++ d.rest) d.ends_size ∙ sym d.ends_are in
+    let count : count_from 0 (words d.contours (drop 10 bytes)) ≡ Some d.count =
+    ap (count_from 0) ends ∙ ends_count 0 s.ends d.count d.in_order in
+    let behind : drop (2 * d.contours) (drop 10 bytes) ≡ d.program ++ d.rest =
+    ap (drop (2 * d.contours)) h.rest_is ∙ drop_at d.ends (d.program ++ d.rest) (2 * d.contours) d.ends_size in
+    let program : program_of (drop (2 * d.contours) (drop 10 bytes)) ≡ Some (s.code, d.rest) =
+    ap program_of behind ∙ only_program s.code d.program d.rest d.program_is in
+    simple_there d.contours bytes g d.count s.code d.rest s.points inside count program
+    (only_points d.count d.rest s.points d.points_are)
     ∙ (rw (ends, h.x_min_is) refl)
 
 -- a program that is announced
-found_announced : (announced : Bool) (bytes : List ℕ) (p : List ℕ × List ℕ) → announced_of announced bytes ≡ Some p → (front : List ℕ) × (bytes ≡ front ++ p.1) × SpellsAnnounced announced p.0 front
+found_announced : (announced : Bool) (bytes : List ℕ) (p : List ℕ × List ℕ) → announced_of announced bytes ≡ Some p
+    → (front : List ℕ) × (bytes ≡ front ++ p.1) × SpellsAnnounced announced p.0 front
 found_announced true bytes p e = let f = found_program bytes p e in (f.front, f.split, f.spells)
 found_announced false bytes p e =
     let P : List ℕ × List ℕ → Type 0 = λ q. (front : List ℕ) × (bytes ≡ front ++ q.1) × SpellsAnnounced false q.0 front in
     let q : ([], bytes) ≡ p = cc in
     subst P q ([], refl, (refl, refl))
 
-only_announced : (announced : Bool) (code front rest : List ℕ) → SpellsAnnounced announced code front → announced_of announced (front ++ rest) ≡ Some (code, rest)
+only_announced : (announced : Bool) (code front rest : List ℕ) → SpellsAnnounced announced code front
+    → announced_of announced (front ++ rest) ≡ Some (code, rest)
 only_announced true code front rest h = only_program code front rest h
-only_announced false code front rest h = ap (λ (x : List ℕ). Some ([], x ++ rest)) h.1 ∙ ap (λ (x : List ℕ). Some (x, rest)) (sym h.0)
+only_announced false code front rest h =
+    ap (λ (x : List ℕ). Some ([], x ++ rest)) h.1 ∙ ap (λ (x : List ℕ). Some (x, rest)) (sym h.0)
 
 -- a composite glyph that is read is described by the bytes
-found_composite : (bytes : List ℕ) (g : ℕ) (s : Assembly) → 10 ≤ length bytes → 32768 ≤ field 2 bytes 0 → composite_of bytes g ≡ Ok s → DescribesComposite bytes s
+found_composite : (bytes : List ℕ) (g : ℕ) (s : CompositeView) → 10 ≤ length bytes → 32768 ≤ field 2 bytes 0
+    → composite_of bytes g ≡ Ok s → DescribesComposite bytes s
 unfolding composite_of
 found_composite bytes g s long high h =
     let a = wanted_ok _ _ _ _ h in
     let b = wanted_ok _ _ _ _ a.2 in
     let parts = found_parts (drop 10 bytes) a.0.0 a.0.1 a.1 in
     let program = found_announced (has_program a.0.0) a.0.1 b.0 b.1 in
-    let P : Assembly → Type 0 = DescribesComposite bytes in
+    let P : CompositeView → Type 0 = DescribesComposite bytes in
     subst P (ok_injective _ _ b.2) (record {
       header = take 10 bytes;
       contours = field 2 bytes 0;
       parts = parts.front;
       program = program.0;
       rest = b.0.1;
-      split = sym (take-append-drop 10 bytes) ∙ ap (λ (x : List ℕ). take 10 bytes ++ x) (parts.split ∙ ap (λ (x : List ℕ). parts.front ++ x) program.1);
+      split = sym (take-append-drop 10 bytes)
+          ∙ ap (λ (x : List ℕ). take 10 bytes ++ x) (parts.split ∙ ap (λ (x : List ℕ). parts.front ++ x) program.1);
       header_is = found_header bytes long;
       below_zero = high;
       components_are = parts.spells;
@@ -122,32 +138,38 @@ found_composite bytes g s long high h =
       program_is = program.2;
     })
 
-composite_there : (bytes : List ℕ) (g : ℕ) (parts : List Part) (behind code rest : List ℕ) → parts_in true (drop 10 bytes) ≡ Some (parts, behind) → announced_of (has_program parts) behind ≡ Some (code, rest)
+composite_there : (bytes : List ℕ) (g : ℕ) (parts : List Part) (behind code rest : List ℕ)
+    → parts_in true (drop 10 bytes) ≡ Some (parts, behind) → announced_of (has_program parts) behind ≡ Some (code, rest)
     → composite_of bytes g ≡ Ok (record { components = parts; x_min = x_min_of bytes; code = code })
 unfolding composite_of
 composite_there bytes g parts behind code rest a b = simp (a, b)
 
 -- a composite glyph that the bytes describe is read
-only_composite : (bytes : List ℕ) (g : ℕ) (s : Assembly) → DescribesComposite bytes s → composite_of bytes g ≡ Ok s
+only_composite : (bytes : List ℕ) (g : ℕ) (s : CompositeView) → DescribesComposite bytes s → composite_of bytes g ≡ Ok s
 only_composite bytes g s d =
     let h = headed bytes d.header (d.parts ++ (d.program ++ d.rest)) d.contours s.x_min d.split d.header_is in
-    let parts : parts_in true (drop 10 bytes) ≡ Some (s.components, d.program ++ d.rest) = ap (parts_in true) h.behind ∙ only_parts s.components d.parts (d.program ++ d.rest) d.components_are d.last_is in
-    composite_there bytes g s.components (d.program ++ d.rest) s.code d.rest parts (only_announced (has_program s.components) s.code d.program d.rest d.program_is)
+    let parts : parts_in true (drop 10 bytes) ≡ Some (s.components, d.program ++ d.rest) =
+    ap (parts_in true) h.rest_is ∙ only_parts s.components d.parts (d.program ++ d.rest) d.components_are d.last_is in
+    composite_there bytes g s.components (d.program ++ d.rest) s.code d.rest parts
+    (only_announced (has_program s.components) s.code d.program d.rest d.program_is)
     ∙ (rw h.x_min_is refl)
 
 -- bytes that are a header and more are read by the number of contours
 glyph_long : (bytes : List ℕ) (g : ℕ) → 10 ≤ length bytes → glyph_of bytes g ≡ body_of (field 2 bytes 0) bytes g
 unfolding glyph_of
 glyph_long [] g h = absurd (omega arith)
-glyph_long (b ∷ bytes) g h = ap (λ (t : Bool). refuse t (GlyphShort g) >>= λ _. body_of (field 2 (b ∷ bytes) 0) (b ∷ bytes) g) (le-ltb _ _ h)
+glyph_long (b ∷ bytes) g h =
+    ap (λ (t : Bool). refuse t (GlyphShort g) >>= λ _. body_of (field 2 (b ∷ bytes) 0) (b ∷ bytes) g) (le-ltb _ _ h)
 
 body_none : (contours : ℕ) (bytes : List ℕ) (g : ℕ) → contours ≡ 0 → body_of contours bytes g ≡ Ok Empty
 body_none contours bytes g e = ap (λ (n : ℕ). body_of n bytes g) e
 
-body_simple : (contours : ℕ) (bytes : List ℕ) (g : ℕ) (s : Shape) → 0 < contours → contours < 32768 → simple_of contours bytes g ≡ Ok s → body_of contours bytes g ≡ Ok (Simple s)
+body_simple : (contours : ℕ) (bytes : List ℕ) (g : ℕ) (s : SimpleView) → 0 < contours → contours < 32768
+    → simple_of contours bytes g ≡ Ok s → body_of contours bytes g ≡ Ok (Simple s)
 body_simple contours bytes g s low high e = simp (ne_eqb contours 0 (λ z. omega arith), lt-ltb _ _ high, e)
 
-body_composite : (contours : ℕ) (bytes : List ℕ) (g : ℕ) (s : Assembly) → 32768 ≤ contours → composite_of bytes g ≡ Ok s → body_of contours bytes g ≡ Ok (Composite s)
+body_composite : (contours : ℕ) (bytes : List ℕ) (g : ℕ) (s : CompositeView) → 32768 ≤ contours → composite_of bytes g ≡ Ok s
+    → body_of contours bytes g ≡ Ok (Composite s)
 body_composite contours bytes g s high e = simp (ne_eqb contours 0 (λ z. omega arith), le-ltb _ _ high, e)
 
 -- what the bytes describe is read
@@ -159,21 +181,25 @@ only_glyph bytes g Empty (inr d) =
     glyph_long bytes g h.long ∙ body_none _ bytes g h.contours_are
 only_glyph bytes g (Simple s) d =
     let h = headed bytes d.header (d.ends ++ (d.program ++ d.rest)) d.contours s.x_min d.split d.header_is in
-    glyph_long bytes g h.long ∙ ap (λ (n : ℕ). body_of n bytes g) h.contours_are ∙ body_simple d.contours bytes g s d.some_contours.0 d.some_contours.1 (only_simple bytes g s d)
+    glyph_long bytes g h.long ∙ ap (λ (n : ℕ). body_of n bytes g) h.contours_are
+    ∙ body_simple d.contours bytes g s d.some_contours.0 d.some_contours.1 (only_simple bytes g s d)
 only_glyph bytes g (Composite s) d =
     let h = headed bytes d.header (d.parts ++ (d.program ++ d.rest)) d.contours s.x_min d.split d.header_is in
-    glyph_long bytes g h.long ∙ ap (λ (n : ℕ). body_of n bytes g) h.contours_are ∙ body_composite d.contours bytes g s d.below_zero (only_composite bytes g s d)
+    glyph_long bytes g h.long ∙ ap (λ (n : ℕ). body_of n bytes g) h.contours_are
+    ∙ body_composite d.contours bytes g s d.below_zero (only_composite bytes g s d)
 
--- what holds of each value that a result may have, seen otherwise, holds of the one that it has
-seen_ok : {A B E : Type 0} (view : A → B) (r : Result A E) (y : B) (P : B → Type 0) → map_ok view r ≡ Ok y → ((x : A) → r ≡ Ok x → P (view x)) → P y
+-- what holds of each value that a result may have, points_seen otherwise, holds of the one that it has
+seen_ok : {A B E : Type 0} (view : A → B) (r : Result A E) (y : B) (P : B → Type 0) → map_ok view r ≡ Ok y
+    → ((x : A) → r ≡ Ok x → P (view x)) → P y
 seen_ok view r y P h k = let m = map_ok_ok view r y h in subst P m.2 (k m.0 m.1)
 
--- the glyph behind a header, by what was tested of the number of contours
+-- the glyph after a header, by what was tested of the number of contours
 abbrev body_by : Bool → Bool → ℕ → List ℕ → ℕ → Result Glyph GlyphFault
 body_by none below contours bytes g =
     cond none (Ok Empty) (cond below (map_ok Simple (simple_of contours bytes g)) (map_ok Composite (composite_of bytes g)))
 
-found_body : (none below : Bool) (bytes : List ℕ) (g : ℕ) (glyph : Glyph) → 10 ≤ length bytes → (field 2 bytes 0 == 0) ≡ none → nat_lt (field 2 bytes 0) 32768 ≡ below
+found_body : (none below : Bool) (bytes : List ℕ) (g : ℕ) (glyph : Glyph) → 10 ≤ length bytes → (field 2 bytes 0 == 0) ≡ none
+    → nat_lt (field 2 bytes 0) 32768 ≡ below
     → body_by none below (field 2 bytes 0) bytes g ≡ Ok glyph → Describes bytes glyph
 found_body true below bytes g glyph long n b h =
     let P : Glyph → Type 0 = Describes bytes in
