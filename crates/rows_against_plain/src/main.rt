@@ -3,7 +3,7 @@
 //!     rows_against_plain CONTOURS [SEED] < FONT
 //!
 //! Of the font on standard input, if it is not empty, each glyph is scanned at 12, 16, 33 and 128 pixels an em, without
-//! hinting. For each kind the program tells how many outlines it compared, how many pixels they have and how many outlines
+//! hinting. For each kind the program writes how many outlines it compared, how many pixels they have and how many outlines
 //! differ.
 #![tactic(auto)]
 
@@ -12,7 +12,7 @@ ghost use Rattle.std.specs.Prelude.{◌≤◌};
 mod random;
 
 use crate::random::Random;
-use anyhow::{Result, anyhow};
+use anyhow::{Result, bail};
 use fx_contour::{frame, pieces};
 use fx_hint::unhinted;
 use fx_rows::Rows;
@@ -51,9 +51,9 @@ impl Counts {
 
 /// Whether two bitmaps have the same bits in a frame.
 fn are_same(one: &Bitmap, other: &Bitmap, frame: Frame) -> bool {
-    for up in 0..frame.height {
+    'rows: for up in 0..frame.height {
         let row = frame.bottom + up as i32;
-        for across in 0..frame.width {
+        'columns: for across in 0..frame.width {
             let col = frame.left + across as i32;
             if one.bit(col, row) != other.bit(col, row) {
                 return false;
@@ -75,7 +75,7 @@ fn scans_agree(alloc: Global, pieces: &Pieces, frame: Frame) -> Result<bool, Sca
 fn random_outlines(alloc: Global, contours: u32, seed: u64) -> Result<Counts> {
     let mut random = Random::new(seed);
     let mut counts = Counts::NONE;
-    for k in 0..contours - contours / 3 {
+    'outlines: for k in 0..contours - contours / 3 {
         let outline = random.outline(alloc, 1 + k % 2)?;
         let frame = random.frame();
         counts = counts.with(frame, scans_agree(alloc, &outline, frame)?);
@@ -89,7 +89,7 @@ fn glyphs(alloc: Global, font: &Font<'_>, ppem: u16) -> Result<Counts>
     requires most { ppem ≤ 255 }
 {
     let mut counts = Counts::NONE;
-    for glyph in 0..font.maxp().glyphs {
+    'glyphs: for glyph in 0..font.maxp().glyphs {
         let outline = unhinted(alloc, font, ppem, glyph)?;
         let pieces = pieces(alloc, &outline)?;
         if let Some(frame) = frame(&pieces)? {
@@ -99,8 +99,8 @@ fn glyphs(alloc: Global, font: &Font<'_>, ppem: u16) -> Result<Counts>
     Ok(counts)
 }
 
-/// Tells what was compared.
-fn tell(rt: &HostRuntime, what: &str, counts: Counts) -> Result<()> {
+/// Writes what was compared.
+fn report(rt: &HostRuntime, what: &str, counts: Counts) -> Result<()> {
     let Counts {
         outlines,
         pixels,
@@ -113,9 +113,9 @@ fn tell(rt: &HostRuntime, what: &str, counts: Counts) -> Result<()> {
 /// Compares the glyphs of a font at each size.
 fn font(rt: &HostRuntime, file: &[u8]) -> Result<()> {
     let font = Font::open(file)?;
-    for ppem in [12, 16, 33, 128] {
+    'sizes: for ppem in [12, 16, 33, 128] {
         let what = format!(in rt.alloc(); "at {ppem} pixels an em")?;
-        tell(rt, what.as_str(), glyphs(rt.alloc(), &font, ppem)?)?;
+        report(rt, what.as_str(), glyphs(rt.alloc(), &font, ppem)?)?;
     }
     Ok(())
 }
@@ -123,10 +123,12 @@ fn font(rt: &HostRuntime, file: &[u8]) -> Result<()> {
 fn main(rt: HostRuntime) -> Result<()> {
     let words = env::args(&rt)?.collect::<Vec<String>>(rt.alloc())?;
     let number = |at: usize| words.get(at).and_then(|word| word.parse::<u32>().ok());
-    let contours = number(1).ok_or(anyhow!(in rt.alloc(); "CONTOURS [SEED] < FONT"))?;
+    let Some(contours) = number(1) else {
+        bail!("rows_against_plain CONTOURS [SEED] < FONT");
+    };
     let seed = number(2).unwrap_or(1);
     let counts = random_outlines(rt.alloc(), contours, u64::from(seed))?;
-    tell(&rt, "random", counts)?;
+    report(&rt, "random", counts)?;
     let mut file = Vec::new(rt.alloc());
     rt.stdin().read_to_end(&mut file)?;
     if !file.is_empty() {

@@ -1,5 +1,7 @@
 //! Random outlines, closed, of lines and arcs: many with points on centres of pixels, on one line or at one place.
 
+ghost use Rattle.std.specs.Prelude.{◌<◌};
+
 use fx_winding::{Frame, Piece, Pieces, Point};
 use std::alloc::{AllocError, Global};
 
@@ -64,7 +66,7 @@ impl Random {
         let count = 1 + self.below(8);
         let mut before = start;
         let mut here = start;
-        for k in 0..count {
+        'pieces: for k in 0..count {
             let control = self.after(before, here);
             let is_arc = self.below(2) == 0;
             let drawn = self.after(if is_arc { control } else { before }, here);
@@ -85,7 +87,7 @@ impl Random {
     /// An outline of this many closed contours.
     pub fn outline(&mut self, alloc: Global, contours: u32) -> Result<Pieces, AllocError> {
         let mut pieces = Pieces::new(alloc);
-        for _ in 0..contours {
+        'contours: for _ in 0..contours {
             self.contour(&mut pieces)?;
         }
         Ok(pieces)
