@@ -1,5 +1,5 @@
 -- The columns of a strip that can be on a piece.
-use Rattle.std.specs.Prelude.{◌≡◌, ◌⊎◌, ◌↔◌, ℕ, ◌-◌, ◌≤◌, ◌<◌, ℤ, pos, ◌+ℤ◌, Option, Some, None}
+use Rattle.std.specs.Prelude.{◌≡◌, ◌⊎◌, ◌↔◌, ℕ, ◌-◌, ◌≤◌, ◌<◌, pos, ◌+ℤ◌, Option, Some, None}
 use Rattle.fx_winding.specs.Winding.{Span, IsOn, region}
 use Rattle.fx_rows.specs.declared.part.OnRow.{OnRow}
 use Rattle.fx_rows.specs.declared.strip.Strip.{Strip}
