@@ -9,6 +9,8 @@ mod fonts;
 #[cfg(test)]
 mod listings;
 #[cfg(test)]
+mod scans;
+#[cfg(test)]
 mod strikes;
 #[cfg(test)]
 mod writers;

@@ -8,10 +8,7 @@ ghost use Rattle.fx_contour.specs.Frames.{IsFrameFor, AreTooLarge, NothingOutsid
 use crate::bounds::Bounds;
 use crate::fault::ContourFault;
 use crate::pixels::Pixels;
-use fx_winding::{Frame, Piece, Pieces};
-
-/// The greatest number of pixels in a side of a frame.
-const GREATEST_SIDE: u32 = 2048;
+use fx_winding::{Frame, MAX_SIDE, Piece, Pieces};
 
 /// The least box of pixels that holds every pixel whose centre lies in the closed bounding box of the points of the pieces,
 /// control points too; `None` if it holds no pixel, `TooLarge` past `GREATEST_SIDE` pixels a side. A pixel outside it is not set.
@@ -39,10 +36,10 @@ fn frame_inner(pieces: &[Piece]) -> Result<Option<Frame>, ContourFault>
     let Some(rows) = Pixels::between(bounds.bottom, bounds.top) else {
         return Ok(None);
     };
-    if columns.count > GREATEST_SIDE {
+    if columns.count > MAX_SIDE {
         return Err(ContourFault::TooLarge);
     }
-    if rows.count > GREATEST_SIDE {
+    if rows.count > MAX_SIDE {
         return Err(ContourFault::TooLarge);
     }
     Ok(Some(Frame {

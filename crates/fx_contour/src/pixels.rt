@@ -1,7 +1,7 @@
 //! Pixels of a row or a column.
 ghost use Rattle.std.specs.Prelude.{pos, ◌+ℤ◌, ◌≤ℤ◌, ◌<◌, ◌^◌, MatchOption};
 ghost use Rattle.fx_fixed.specs.Ranges.{IsWithin};
-ghost use Rattle.fx_winding.specs.Limits.{IsPixelNumber};
+ghost use Rattle.fx_winding.specs.Limits.{IsPixelNumber, end_of_pixels};
 
 /// `count` pixels in a row or a column, from the first on.
 #[derive(Clone, Copy)]
@@ -10,7 +10,7 @@ pub(crate) struct Pixels {
     pub count: u32,
     ghost some: { 0 < count },
     ghost first_number: { IsPixelNumber first },
-    ghost last_number: { (first +ℤ pos count) ≤ℤ pos 32768 },
+    ghost last_number: { (first +ℤ pos count) ≤ℤ end_of_pixels },
 }
 
 impl Pixels {

@@ -16,8 +16,9 @@ use crate::request::{Report, Request};
 use fx_bdf::{Header, check_name, write_end, write_header};
 use fx_cmap::CharMap;
 use fx_fixed::{Sink, near, put_all};
+use fx_rows::Rows;
 use fx_sfnt::Font;
-use fx_winding::{Plain, Scan};
+use fx_winding::Scan;
 use std::alloc::Global;
 
 // A code point past U+FFFF.
@@ -193,7 +194,7 @@ pub fn make_strike_with<S: Scan, W: Sink>(
 
 /// Makes the strike of a font and writes its text.
 ///
-/// As `make_strike_with`, with the scan that tests each pixel's centre by the rule itself.
+/// As `make_strike_with`, with the scan by rows.
 pub fn make_strike<W: Sink>(
     alloc: Global,
     font: &[u8],
@@ -211,5 +212,5 @@ pub fn make_strike<W: Sink>(
     ensures writer { (n : ℕ) → IsErrOf result (Refusal.WriteFailed n) →
         Writer (strike_of font.now request.now) (W.held out.old) (W.held out.new) (W.fault_count out.old) (W.fault_count out.new) n }
 {
-    make_all(alloc, &Plain, font, request, out)
+    make_all(alloc, &Rows, font, request, out)
 }

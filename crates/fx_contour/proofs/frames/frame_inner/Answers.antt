@@ -16,8 +16,8 @@ returns-in_default-between-2-clause-ok c =
     no_rows b (map span_of c.args.pieces.now) c.in-Some.ensures
     (same_none _ _ b.bottom b.top (omega (arith, ints)) (omega (arith, ints)) c.in_default-between-2.ensures)
 
-pub returns-then-columns-gt-GREATEST_SIDE-clause-fault : goal.returns-then-columns-gt-GREATEST_SIDE-clause-fault
-returns-then-columns-gt-GREATEST_SIDE-clause-fault c =
+pub returns-then-columns-gt-MAX_SIDE-clause-fault : goal.returns-then-columns-gt-MAX_SIDE-clause-fault
+returns-then-columns-gt-MAX_SIDE-clause-fault c =
     let b = c.in-Some.bounds in
     let s = c.in-Some-between.columns in
     let r = c.in-Some-between-2.rows in (
@@ -25,11 +25,11 @@ returns-then-columns-gt-GREATEST_SIDE-clause-fault c =
       too_wide b (map span_of c.args.pieces.now) s r c.in-Some.ensures
           (same_pixels s _ _ b.left b.right (omega (arith, ints)) (omega (arith, ints)) c.in-Some-between.ensures)
           (same_pixels r _ _ b.bottom b.top (omega (arith, ints)) (omega (arith, ints)) c.in-Some-between-2.ensures)
-          c.if-columns-gt-GREATEST_SIDE.true,
+          c.if-columns-gt-MAX_SIDE.true,
     )
 
-pub returns-then-rows-gt-GREATEST_SIDE-clause-fault : goal.returns-then-rows-gt-GREATEST_SIDE-clause-fault
-returns-then-rows-gt-GREATEST_SIDE-clause-fault c =
+pub returns-then-rows-gt-MAX_SIDE-clause-fault : goal.returns-then-rows-gt-MAX_SIDE-clause-fault
+returns-then-rows-gt-MAX_SIDE-clause-fault c =
     let b = c.in-Some.bounds in
     let s = c.in-Some-between.columns in
     let r = c.in-Some-between-2.rows in (
@@ -37,7 +37,7 @@ returns-then-rows-gt-GREATEST_SIDE-clause-fault c =
       too_high b (map span_of c.args.pieces.now) s r c.in-Some.ensures
           (same_pixels s _ _ b.left b.right (omega (arith, ints)) (omega (arith, ints)) c.in-Some-between.ensures)
           (same_pixels r _ _ b.bottom b.top (omega (arith, ints)) (omega (arith, ints)) c.in-Some-between-2.ensures)
-          c.if-rows-gt-GREATEST_SIDE.true,
+          c.if-rows-gt-MAX_SIDE.true,
     )
 
 pub returns-clause-ok : goal.returns-clause-ok

@@ -1,0 +1,9 @@
+-- What only private contracts cite.
+pub mod Strips
+pub mod Runs
+pub mod Sides
+pub mod Arcs
+pub mod Candidates
+pub mod Inside
+pub mod Sums
+pub mod Near

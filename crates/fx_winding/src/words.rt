@@ -1,0 +1,30 @@
+//! Rows of pixels as words of 32 bits, the leftmost pixel the highest bit of the first word.
+
+ghost use Rattle.std.specs.Prelude.{◌≡◌, ◌≢◌, ◌↔◌, IsTrue, ℕ, ◌/◌, ◌<◌, ◌≤◌, length};
+ghost use Rattle.fx_winding.specs.Limits.{greatest_side};
+ghost use Rattle.fx_winding.specs.Bitmaps.{words_for as words_for_of, word_bit};
+
+/// The number of words that hold a row of this width.
+pub fn words_for(width: u32) -> usize
+    requires { width ≤ greatest_side }
+    ensures { result ≡ words_for_of width }
+{
+    (width as usize + 31) / 32
+}
+
+/// Whether the bit of a pixel of a row is set.
+pub fn is_set(words: &[u32], i: usize) -> bool
+    requires { i / 32 < length words.now }
+    ensures { IsTrue result ↔ (word_bit words.now i ≡ 1) }
+{
+    words[i / 32] >> (31 - i % 32) & 1 == 1
+}
+
+/// Sets the bit of a pixel of a row.
+pub fn set_bit(words: &mut [u32], i: usize)
+    requires { i / 32 < length words.old }
+    ensures here { word_bit words.new i ≡ 1 }
+    ensures others { (j : ℕ) → j ≢ i → word_bit words.new j ≡ word_bit words.old j }
+{
+    words[i / 32] |= 1 << (31 - i % 32);
+}

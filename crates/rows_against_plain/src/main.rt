@@ -1,0 +1,138 @@
+//! Compares the scan by rows with the scan by pixels, bit for bit: in random outlines, and in each glyph of a font.
+//!
+//!     rows_against_plain CONTOURS [SEED] < FONT
+//!
+//! Of the font on standard input, if it is not empty, each glyph is scanned at 12, 16, 33 and 128 pixels an em, without
+//! hinting. For each kind the program writes how many outlines it compared, how many pixels they have and how many outlines
+//! differ.
+#![tactic(auto)]
+
+ghost use Rattle.std.specs.Prelude.{◌≤◌};
+
+mod random;
+
+use crate::random::Random;
+use anyhow::{Result, bail};
+use fx_contour::{frame, pieces};
+use fx_hint::unhinted;
+use fx_rows::Rows;
+use fx_sfnt::Font;
+use fx_winding::{Bitmap, Frame, Pieces, Plain, Scan, ScanFault, Tally};
+use std::alloc::Global;
+use std::env;
+use std::io::Read;
+
+/// What was compared.
+#[derive(Clone, Copy)]
+struct Counts {
+    outlines: u64,
+    pixels: u64,
+    differing: u64,
+}
+
+impl Counts {
+    /// Nothing yet.
+    const NONE: Counts = Counts {
+        outlines: 0,
+        pixels: 0,
+        differing: 0,
+    };
+
+    /// With one outline more.
+    fn with(self, frame: Frame, same: bool) -> Counts {
+        let pixels = u64::from(frame.width) * u64::from(frame.height);
+        Counts {
+            outlines: self.outlines.saturating_add(1),
+            pixels: self.pixels.saturating_add(pixels),
+            differing: self.differing.saturating_add(u64::from(!same)),
+        }
+    }
+}
+
+/// Whether two bitmaps have the same bits in a frame.
+fn are_same(one: &Bitmap, other: &Bitmap, frame: Frame) -> bool {
+    'rows: for up in 0..frame.height {
+        let row = frame.bottom + up as i32;
+        'columns: for across in 0..frame.width {
+            let col = frame.left + across as i32;
+            if one.bit(col, row) != other.bit(col, row) {
+                return false;
+            }
+        }
+    }
+    true
+}
+
+/// Whether both scans of an outline set the same bits.
+fn scans_agree(alloc: Global, pieces: &Pieces, frame: Frame) -> Result<bool, ScanFault> {
+    let mut tally = Tally::new();
+    let by_rows = Rows.scan(alloc, pieces, frame, &mut tally)?;
+    let by_pixels = Plain.scan(alloc, pieces, frame, &mut tally)?;
+    Ok(are_same(&by_rows, &by_pixels, frame))
+}
+
+/// Compares random outlines, each of one or two contours, until there are this many contours.
+fn random_outlines(alloc: Global, contours: u32, seed: u64) -> Result<Counts> {
+    let mut random = Random::new(seed);
+    let mut counts = Counts::NONE;
+    'outlines: for k in 0..contours - contours / 3 {
+        let outline = random.outline(alloc, 1 + k % 2)?;
+        let frame = random.frame();
+        counts = counts.with(frame, scans_agree(alloc, &outline, frame)?);
+    }
+    Ok(counts)
+}
+
+/// Compares each glyph of a font that has an outline and a frame, at a size.
+fn glyphs(alloc: Global, font: &Font<'_>, ppem: u16) -> Result<Counts>
+    requires least { 1 ≤ ppem }
+    requires most { ppem ≤ 255 }
+{
+    let mut counts = Counts::NONE;
+    'glyphs: for glyph in 0..font.maxp().glyphs {
+        let outline = unhinted(alloc, font, ppem, glyph)?;
+        let pieces = pieces(alloc, &outline)?;
+        if let Some(frame) = frame(&pieces)? {
+            counts = counts.with(frame, scans_agree(alloc, &pieces, frame)?);
+        }
+    }
+    Ok(counts)
+}
+
+/// Writes what was compared.
+fn report(rt: &HostRuntime, what: &str, counts: Counts) -> Result<()> {
+    let Counts {
+        outlines,
+        pixels,
+        differing,
+    } = counts;
+    println!(rt; "{what}: {outlines} outlines, {pixels} pixels, {differing} differ")?;
+    Ok(())
+}
+
+/// Compares the glyphs of a font at each size.
+fn font(rt: &HostRuntime, file: &[u8]) -> Result<()> {
+    let font = Font::open(file)?;
+    'sizes: for ppem in [12, 16, 33, 128] {
+        let what = format!(in rt.alloc(); "at {ppem} pixels an em")?;
+        report(rt, what.as_str(), glyphs(rt.alloc(), &font, ppem)?)?;
+    }
+    Ok(())
+}
+
+fn main(rt: HostRuntime) -> Result<()> {
+    let words = env::args(&rt)?.collect::<Vec<String>>(rt.alloc())?;
+    let number = |at: usize| words.get(at).and_then(|word| word.parse::<u32>().ok());
+    let Some(contours) = number(1) else {
+        bail!("rows_against_plain CONTOURS [SEED] < FONT");
+    };
+    let seed = number(2).unwrap_or(1);
+    let counts = random_outlines(rt.alloc(), contours, u64::from(seed))?;
+    report(&rt, "random", counts)?;
+    let mut file = Vec::new(rt.alloc());
+    rt.stdin().read_to_end(&mut file)?;
+    if !file.is_empty() {
+        font(&rt, file.as_slice())?;
+    }
+    Ok(())
+}
