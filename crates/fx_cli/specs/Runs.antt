@@ -4,7 +4,7 @@ use Rattle.std.specs.Str.{IsUtf8}
 use Rattle.std.specs.Io.KnownBytes.{Consumes, IsAtEnd, Keeps}
 use Rattle.fx_strike.specs.declared.refusal.Refusal.{Refusal}
 use Rattle.fx_strike.specs.declared.refusal.Refusal.TheVariants.{BadChars, BadHex, InputTooLarge, OutOfMemory, ReadFailed}
-use Rattle.fx_strike.specs.Strike.{Plan, plan_of}
+use Rattle.fx_strike.specs.Strike.{Plan, Opening, opened_of, plan_of}
 use Rattle.fx_strike.specs.Headline.{Leaves}
 use Rattle.fx_strike.specs.Listings.{Lists, program_of}
 use Rattle.fx_cli.specs.declared.done.Done.{Done}
@@ -74,11 +74,15 @@ numbers_of (listing what) = Some []
 abbrev pub strike_by : StrikeWords → List ℕ → List ℕ → Result Plan Refusal
 strike_by words numbers font = plan_of font words.ppem words.name numbers (not words.unhinted)
 
+-- what that comes to before memory is taken
+abbrev pub opening_by : StrikeWords → List ℕ → List ℕ → Opening
+opening_by words numbers font = opened_of font words.ppem words.name numbers (not words.unhinted)
+
 -- what a task leaves of a font's bytes: its strike, or the listing of a program of it
 abbrev pub TaskLeaves : Task → List ℕ → List ℕ → Option (List ℕ) → Option (List ℕ) → ℕ → ℕ → Result Done Refusal → Type 0
-TaskLeaves (strike words) numbers font old new calm after (Ok (Strike report)) = Leaves (strike_by words numbers font) old new calm after (Ok report)
+TaskLeaves (strike words) numbers font old new calm after (Ok (Strike report)) = Leaves (opening_by words numbers font) (strike_by words numbers font) old new calm after (Ok report)
 TaskLeaves (strike words) numbers font old new calm after (Ok Listing) = ⊥
-TaskLeaves (strike words) numbers font old new calm after (Err refusal) = Leaves (strike_by words numbers font) old new calm after (Err refusal)
+TaskLeaves (strike words) numbers font old new calm after (Err refusal) = Leaves (opening_by words numbers font) (strike_by words numbers font) old new calm after (Err refusal)
 TaskLeaves (listing what) numbers font old new calm after (Ok (Strike report)) = ⊥
 TaskLeaves (listing what) numbers font old new calm after (Ok Listing) = Lists (program_of font what) old new calm after (Ok tt)
 TaskLeaves (listing what) numbers font old new calm after (Err refusal) = Lists (program_of font what) old new calm after (Err refusal)

@@ -17,7 +17,7 @@ use Rattle.fx_bdf.specs.Glyphs.{Glyph, TrimmedIsOne, glyph_bit}
 use Rattle.fx_strike.specs.declared.refusal.Refusal.{Refusal}
 use Rattle.fx_strike.specs.Faults.{of_font, of_char_map, of_hint, of_contour}
 use Rattle.fx_strike.specs.Characters.{rising}
-use Rattle.fx_strike.specs.Strike.{Sketch, Plan, AreGlyphsOf, thousandths, pixels, glyph_sketch_of, sketch_of, is_missing, sketches_of, checked, plan_of, strike_text}
+use Rattle.fx_strike.specs.Strike.{Sketch, Plan, AreGlyphsOf, thousandths, pixels, glyph_sketch_of, sketch_of, is_missing, sketches_of, checked, opened_of, plan_in, plan_of, strike_text}
 use Rattle.fx_strike.specs.Laws.{GlyphIsOne, TextIsOne, PartIsOne}
 use Rattle.fx_strike.proofs.Sketching.{tight_along}
 
@@ -110,7 +110,7 @@ record Parts (file : List ℕ) (ppem : ℕ) (chars : List ℕ) (ss : List Sketch
   sketches : sketches_of face segments ppem (rising chars) ≡ Ok ss
 
 parts_of : (file : List ℕ) (ppem : ℕ) (name chars : List ℕ) (hinting : Bool) (plan : Plan) → plan_of file ppem name chars hinting ≡ Ok plan → Parts file ppem chars plan.sketches
-unfolding plan_of
+unfolding opened_of plan_in plan_of
 parts_of file ppem name chars hinting plan h =
     let last : Face → Segments → List Sketch → Plan = λ face segments ss. record {
       name = name;
@@ -120,12 +120,14 @@ parts_of file ppem name chars hinting plan h =
       sketches = ss;
       missing = count_by (is_missing segments) (rising chars);
     } in
-    let sketched : Face → Segments → Result Plan Refusal = λ face segments. sketches_of face segments ppem (rising chars) >>= λ ss. Ok (last face segments ss) in
-    let mapped : Face → Result Plan Refusal = λ face. map_fault of_char_map (map_of_file face.file) >>= λ segments. sketched face segments in
-    let a = bind_ok (checked ppem name chars hinting) (λ _. map_fault of_font (font_of file) >>= mapped) plan h in
-    let b = bind_ok (map_fault of_font (font_of file)) mapped plan a.2 in
-    let c = bind_ok (map_fault of_char_map (map_of_file b.0.file)) (sketched b.0) plan b.2 in
-    let d = bind_ok (sketches_of b.0 c.0 ppem (rising chars)) (λ ss. Ok (last b.0 c.0 ss)) plan c.2 in
+    let mapped : Face → Result (Face × Segments) Refusal = λ face. map_fault of_char_map (map_of_file face.file) >>= λ segments. Ok (face, segments) in
+    let o = bind_ok (opened_of file ppem name chars hinting) (λ opened. plan_in opened.0 opened.1 ppem name chars) plan h in
+    let a = bind_ok (checked ppem name chars hinting) (λ _. map_fault of_font (font_of file) >>= mapped) o.0 o.1 in
+    let b = bind_ok (map_fault of_font (font_of file)) mapped o.0 a.2 in
+    let c = bind_ok (map_fault of_char_map (map_of_file b.0.file)) (λ segments. Ok (b.0, segments)) o.0 b.2 in
+    let pair : (b.0, c.0) ≡ o.0 = cc (c.2) in
+    let P : Face × Segments → Type 0 = λ x. plan_in x.0 x.1 ppem name chars ≡ Ok plan in
+    let d = bind_ok (sketches_of b.0 c.0 ppem (rising chars)) (λ ss. Ok (last b.0 c.0 ss)) plan (subst P (sym {a = (b.0, c.0)} pair) o.2) in
     let e : last b.0 c.0 d.0 ≡ plan = cc (d.2) in
     record {
       face = b.0;
