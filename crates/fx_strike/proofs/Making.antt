@@ -24,16 +24,19 @@ use Rattle.fx_strike.proofs.Gathering.{fails_on}
 
 -- ---- where the plan stops
 
-plan_unopened : (file : List ℕ) (ppem : ℕ) (name chars : List ℕ) (hinting : Bool) (d : Refusal) → opened_of file ppem name chars hinting ≡ Err d → plan_of file ppem name chars hinting ≡ Err d
+plan_unopened : (file : List ℕ) (ppem : ℕ) (name chars : List ℕ) (hinting : Bool) (d : Refusal)
+    → opened_of file ppem name chars hinting ≡ Err d → plan_of file ppem name chars hinting ≡ Err d
 unfolding plan_of
 plan_unopened file ppem name chars hinting d h = rw h
 
-plan_opened : (file : List ℕ) (ppem : ℕ) (name chars : List ℕ) (hinting : Bool) (face : Face) (segments : Segments) → opened_of file ppem name chars hinting ≡ Ok (face, segments)
+plan_opened : (file : List ℕ) (ppem : ℕ) (name chars : List ℕ) (hinting : Bool) (face : Face) (segments : Segments)
+    → opened_of file ppem name chars hinting ≡ Ok (face, segments)
     → plan_of file ppem name chars hinting ≡ plan_in face segments ppem name chars
 unfolding plan_of
 plan_opened file ppem name chars hinting face segments h = rw h
 
-plan_refused : (face : Face) (segments : Segments) (ppem : ℕ) (name chars : List ℕ) (d : Refusal) → sketches_of face segments ppem (rising chars) ≡ Err d → plan_in face segments ppem name chars ≡ Err d
+plan_refused : (face : Face) (segments : Segments) (ppem : ℕ) (name chars : List ℕ) (d : Refusal)
+    → sketches_of face segments ppem (rising chars) ≡ Err d → plan_in face segments ppem name chars ≡ Err d
 unfolding plan_in
 plan_refused face segments ppem name chars d h = rw h
 
@@ -47,7 +50,8 @@ whole_plan ppem name chars face segments ss = record {
   missing = count_by (is_missing segments) (rising chars);
 }
 
-plan_whole : (face : Face) (segments : Segments) (ppem : ℕ) (name chars : List ℕ) (ss : List Sketch) → sketches_of face segments ppem (rising chars) ≡ Ok ss
+plan_whole : (face : Face) (segments : Segments) (ppem : ℕ) (name chars : List ℕ) (ss : List Sketch)
+    → sketches_of face segments ppem (rising chars) ≡ Ok ss
     → plan_in face segments ppem name chars ≡ Ok (whole_plan ppem name chars face segments ss)
 unfolding plan_in
 plan_whole face segments ppem name chars ss h = rw h
@@ -65,7 +69,8 @@ fails_cause d due c h = h
 makes_err : (due : Result Plan Refusal) (r : Result Made Refusal) (e d : Refusal) → r ≡ Err e → e ≡ d → Fails d due → Makes due r
 makes_err due r e d p q f = let P : Result Made Refusal → Type 0 = λ s. Makes due s in subst P (sym (p ∙ ap Err q)) f
 
-pub unopened : (file : List ℕ) (ppem : ℕ) (name chars : List ℕ) (hinting : Bool) (r : Result Made Refusal) (e d : Refusal) → r ≡ Err e → e ≡ d
+pub unopened : (file : List ℕ) (ppem : ℕ) (name chars : List ℕ) (hinting : Bool) (r : Result Made Refusal) (e d : Refusal)
+    → r ≡ Err e → e ≡ d
     → Err d ≡ opened_of file ppem name chars hinting → IsCause d → Makes (plan_of file ppem name chars hinting) r
 unopened file ppem name chars hinting r e d p q h c =
     makes_err (plan_of file ppem name chars hinting) r e d p q (fails_cause d (plan_of file ppem name chars hinting) c (plan_unopened file ppem name chars hinting d (sym h)))
@@ -83,7 +88,8 @@ ungathered face segments ppem name chars codes r e d p q c f =
 
 -- ---- what is made
 
-made_of : (face : Face) (segments : Segments) (ppem : ℕ) (name chars : List ℕ) (gathered : Gathered) (made : Made) → Holds face segments ppem (rising chars) gathered
+made_of : (face : Face) (segments : Segments) (ppem : ℕ) (name chars : List ℕ) (gathered : Gathered) (made : Made)
+    → Holds face segments ppem (rising chars) gathered
     → Finishes name (heading_of face ppem gathered) gathered made → IsMadeOf (plan_in face segments ppem name chars) made
 unfolding strike_text
 made_of face segments ppem name chars gathered made g f =
@@ -118,7 +124,8 @@ finished face segments ppem name chars codes gathered header (Err d) c g q f e =
 -- ---- words for answers
 
 -- FUnits in whole pixels, as the code casts them
-pub whole_is : (units : ℤ) (ppem em : ℕ) (f g h r : ℤ) → FitsSigned w32 units → unsigned_abs units ≤ 32768 → ppem ≤ 255 → em < 2 ^ 16 → f ≡ to_z w32 (of_z w32 units) → g ≡ pos ppem → h ≡ pos em
+pub whole_is : (units : ℤ) (ppem em : ℕ) (f g h r : ℤ) → FitsSigned w32 units → unsigned_abs units ≤ 32768 → ppem ≤ 255
+    → em < 2 ^ 16 → f ≡ to_z w32 (of_z w32 units) → g ≡ pos ppem → h ≡ pos em
     → r ≡ near_of (to_z w128 (of_z w128 (to_z w128 (of_z w128 f) *ℤ to_z w128 (of_z w128 g)))) (to_z w128 (of_z w128 h))
     → unsigned_abs r ≤ unsigned_abs (to_z w128 (of_z w128 (to_z w128 (of_z w128 f) *ℤ to_z w128 (of_z w128 g))))
     → to_z w32 (of_z w32 (to_z w128 (of_z w128 r))) ≡ pixels units ppem em

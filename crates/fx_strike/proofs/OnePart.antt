@@ -84,7 +84,8 @@ sketch_code face ppem code glyph s h =
     code_along x s code e h = sym (ap (λ (y : Sketch). y.code) e) ∙ h
 
 -- what a chain gives at a place is what its step gives of something
-chain_at : {A B : Type 0} (f : A → Result B Refusal) (xs : List A) (ys : List B) → map_chain f xs ≡ Ok ys → (k : ℕ) (d : B) → k < length ys → (x : A) × (f x ≡ Ok (get_or ys k d))
+chain_at : {A B : Type 0} (f : A → Result B Refusal) (xs : List A) (ys : List B) → map_chain f xs ≡ Ok ys → (k : ℕ) (d : B)
+    → k < length ys → (x : A) × (f x ≡ Ok (get_or ys k d))
 chain_at {A} {B} f [] ys h k d l = let e : [] ≡ ys = cc in let L : List B → Type 0 = λ zs. k < length zs in absurd (below_none k (subst L (sym e) l))
   where
     below_none : (k : ℕ) → k < 0 → ⊥
@@ -97,19 +98,22 @@ chain_at {A} {B} f (x ∷ xs) ys h k d l =
     let L : List B → Type 0 = λ zs. k < length zs in
     subst P e (at f x p.0 q.0 p.1 (chain_at f xs q.0 q.1) k d (subst L (sym e) l))
   where
-    at : {A B : Type 0} (f : A → Result B Refusal) (x : A) (y : B) (ys : List B) → f x ≡ Ok y → ((k : ℕ) (d : B) → k < length ys → (z : A) × (f z ≡ Ok (get_or ys k d))) → (k : ℕ) (d : B) → k < length (y ∷ ys) → (z : A) × (f z ≡ Ok (get_or (y ∷ ys) k d))
+    at : {A B : Type 0} (f : A → Result B Refusal) (x : A) (y : B) (ys : List B) → f x ≡ Ok y
+        → ((k : ℕ) (d : B) → k < length ys → (z : A) × (f z ≡ Ok (get_or ys k d))) → (k : ℕ) (d : B) → k < length (y ∷ ys)
+        → (z : A) × (f z ≡ Ok (get_or (y ∷ ys) k d))
     at f x y ys p r zero d l = (x, p)
     at f x y ys p r (suc k) d l = r k d (omega arith)
 
 -- the parts of a plan
-record Parts (file : List ℕ) (ppem : ℕ) (chars : List ℕ) (ss : List Sketch) : Type 0 where
-  face : Face
-  segments : Segments
-  font : font_of file ≡ Ok face
-  map_is : map_of_file face.file ≡ Ok segments
-  sketches : sketches_of face segments ppem (rising chars) ≡ Ok ss
+pub record Parts (file : List ℕ) (ppem : ℕ) (chars : List ℕ) (ss : List Sketch) : Type 0 where
+  pub face : Face
+  pub segments : Segments
+  pub font : font_of file ≡ Ok face
+  pub map_is : map_of_file face.file ≡ Ok segments
+  pub sketches : sketches_of face segments ppem (rising chars) ≡ Ok ss
 
-parts_of : (file : List ℕ) (ppem : ℕ) (name chars : List ℕ) (hinting : Bool) (plan : Plan) → plan_of file ppem name chars hinting ≡ Ok plan → Parts file ppem chars plan.sketches
+pub parts_of : (file : List ℕ) (ppem : ℕ) (name chars : List ℕ) (hinting : Bool) (plan : Plan)
+    → plan_of file ppem name chars hinting ≡ Ok plan → Parts file ppem chars plan.sketches
 unfolding opened_of plan_in plan_of
 parts_of file ppem name chars hinting plan h =
     let last : Face → Segments → List Sketch → Plan = λ face segments ss. record {
@@ -141,7 +145,8 @@ parts_of file ppem name chars hinting plan h =
     sketches_along x plan r e h = h ∙ ap (λ (y : Plan). Ok y.sketches) e
 
 -- a sketch of a plan is that of its code point
-sketch_there : (file : List ℕ) (ppem : ℕ) (chars : List ℕ) (ss : List Sketch) (p : Parts file ppem chars ss) (s : Sketch) → Contains ss s → sketch_of p.face p.segments ppem s.code ≡ Ok s
+sketch_there : (file : List ℕ) (ppem : ℕ) (chars : List ℕ) (ss : List Sketch) (p : Parts file ppem chars ss) (s : Sketch)
+    → Contains ss s → sketch_of p.face p.segments ppem s.code ≡ Ok s
 sketch_there file ppem chars ss p s h =
     let x = chain_at (sketch_of p.face p.segments ppem) (filter (λ c. not (is_missing p.segments c)) (rising chars)) ss p.sketches h.0 s h.1 in
     let here : sketch_of p.face p.segments ppem x.0 ≡ Ok s = x.1 ∙ ap Ok h.2 in
