@@ -7,6 +7,8 @@ mod cuts;
 #[cfg(test)]
 mod fonts;
 #[cfg(test)]
+mod large;
+#[cfg(test)]
 mod listings;
 #[cfg(test)]
 mod scans;

@@ -16,7 +16,7 @@ use Rattle.fx_cli.specs.declared.fault.Fault.{Fault}
 use Rattle.fx_cli.specs.declared.fault.Fault.TheVariants.{Usage, Early, Late}
 use Rattle.fx_cli.specs.Words.{Asked, wish_of_words}
 use Rattle.fx_cli.specs.Input.{line_of, rest_of, words_of_line}
-use Rattle.fx_cli.specs.Runs.{AreWords, AreWordsBy, Change, Ends, HasLine, IsReason, IsUsageBy, Does, Stops, Word, font_bytes, has_words, called, text_by, text_of}
+use Rattle.fx_cli.specs.Runs.{AreWords, AreWordsBy, Change, Ends, HasLine, IsReadForWords, IsReason, IsUsageBy, Does, Runs, Stops, Word, font_bytes, has_words, called, text_by, text_of}
 use Rattle.fx_cli.specs.Steps.{EndsBehind, IsReasonBehind, DoesBehind, StopsBehind}
 
 abbrev is_end : ℕ → Bool
@@ -43,6 +43,7 @@ same_rest first more (inr e) =
 pub record IsFirst (given : List Word) (first front : List ℕ) (ended : Bool) (before mid : Option (List ℕ)) (words : List Word) : Type 0 where
   pub none : has_words given ≡ false
   pub read : Consumes before mid first
+  pub room : length first ≤ 4097
   pub found : ended ≡ false → position_or_len is_end first < length first
   pub size : position_or_len is_end first ≤ length first
   pub utf8 : IsUtf8 (line_of first)
@@ -77,6 +78,10 @@ text_is {given} {first} {front} {ended} more f rest =
     ∙ same_rest first more (either ended f.found rest)
     ∙ ap (λ (xs : List ℕ). xs ++ more) (sym f.front_is)
 
+-- no more than a line was read for the words
+pub for_line : (given : List Word) (got : List ℕ) (change : Change) → has_words given ≡ false → length got ≤ 4097 → change.reader_faults ≡ change.reader_calm → IsReadForWords (has_words given) got change
+for_line given got change none few calm = let P : Bool → Type 0 = λ b. IsReadForWords b got change in subst P (sym none) (few, calm)
+
 -- the same change of the world, from before the line was read
 abbrev pub from_start : Option (List ℕ) → ℕ → Change → Change
 from_start before calm change = record change { left_before = before; reader_calm = calm }
@@ -99,7 +104,10 @@ does {given} {first} {front} {ended} {before} {words} calm line asked change ans
 }
 
 reasons : {given : List Word} {first front : List ℕ} {ended : Bool} {before : Option (List ℕ)} {words : List Word} (calm line : ℕ) (asked : Asked) (change : Change) (more : List ℕ) → calm ≡ change.reader_calm → IsFirst given first front ended before change.left_before words → line + length front ≡ length first → wish_of_words words ≡ Some asked → (ended ≡ true → (more ≡ []) × IsAtEnd change.left) → (refusal : Refusal) → IsReasonBehind asked line front more change refusal → IsReason given (first ++ more) (from_start before calm change) (Early refusal)
-reasons {words = words} calm line asked change more same f sizes asks rest BadChars h = (words, asked, are_words more change.left f rest, asks, h)
+reasons {given = given} {first = first} {before = before} {words = words} calm line asked change more same f sizes asks rest BadChars h = (
+  (words, asked, are_words more change.left f rest, asks, h.0),
+  for_line given (first ++ more) (from_start before calm change) f.none (omega (arith, length-append first more, ap length h.1, f.room)) (h.2.1 ∙ sym same),
+)
 reasons calm line asked change more same f sizes asks rest ReadFailed h = h ∙ ap (λ (n : ℕ). n + 1) (sym same)
 reasons {words = words} calm line asked change more same f sizes asks rest BadHex h = (h.0, (words, asked, are_words more change.left f rest, asks, ap (font_bytes asked.hex) (text_is more f (λ e. (rest e).0)) ∙ h.1))
 reasons {first = first} {front = front} calm line asked change more same f sizes asks rest InputTooLarge h = omega (arith, h, sizes, length-append first more, length-append front more)
@@ -150,13 +158,14 @@ line_read first left (inl h) = inl (omega (arith, length-line_of first))
 line_read first left (inr h) = inr h
 
 -- the words were not read, or ask for nothing
-pub unread : (given : List Word) (change : Change) (got : List ℕ) (fault : Fault) → has_words given ≡ false → Consumes change.left_before change.left got → Keeps change.held_before change.held → change.writer_faults ≡ change.writer_calm → (fault ≡ Early OutOfMemory) ⊎ ((fault ≡ Usage) × IsUsageBy false given got change.left) → Ends given change (Err fault)
-unread given change got fault none read kept calm (inl e) =
+pub unread : (given : List Word) (change : Change) (got : List ℕ) (fault : Fault) → has_words given ≡ false → length got ≤ 4097 → change.reader_faults ≡ change.reader_calm
+    → Consumes change.left_before change.left got → Keeps change.held_before change.held → change.writer_faults ≡ change.writer_calm → (fault ≡ Early OutOfMemory) ⊎ ((fault ≡ Usage) × IsUsageBy false given got change.left) → Ends given change (Err fault)
+unread given change got fault none few quiet read kept calm (inl e) =
     let P : Fault → Type 0 = λ f. Ends given change (Err f) in
     subst P (sym e) (record { got = got; read = read; kept = kept; calm = calm; reason = tt })
-unread given change got fault none read kept calm (inr (e, usage)) =
+unread given change got fault none few quiet read kept calm (inr (e, usage)) =
     let P : Fault → Type 0 = λ f. Ends given change (Err f) in
-    subst P (sym e) (record { got = got; read = read; kept = kept; calm = calm; reason = is_usage given got change.left none usage })
+    subst P (sym e) (record { got = got; read = read; kept = kept; calm = calm; reason = (is_usage given got change.left none usage, for_line given got change none few quiet) })
 
 pub keeps_same : (o : Option (List ℕ)) → Keeps o o
 keeps_same None = tt
@@ -174,15 +183,24 @@ reads_none None = tt
 reads_none (Some xs) = refl
 
 -- nothing was read, and they ask for nothing
-pub unasked : (given : List Word) (change : Change) (fault : Fault) → has_words given ≡ true → change.left ≡ change.left_before → change.held ≡ change.held_before → change.writer_faults ≡ change.writer_calm → (fault ≡ Early OutOfMemory) ⊎ ((fault ≡ Usage) × (wish_of_words given ≡ None)) → Ends given change (Err fault)
-unasked given change fault some unread untouched calm why =
+pub unasked : (given : List Word) (change : Change) (fault : Fault) → has_words given ≡ true → change.left ≡ change.left_before → change.reader_faults ≡ change.reader_calm → change.held ≡ change.held_before → change.writer_faults ≡ change.writer_calm → (fault ≡ Early OutOfMemory) ⊎ ((fault ≡ Usage) × (wish_of_words given ≡ None)) → Ends given change (Err fault)
+unasked given change fault some same quiet untouched calm why =
     let P : Option (List ℕ) → Type 0 = λ o. Consumes change.left_before o [] in
     let Q : Option (List ℕ) → Type 0 = λ o. Keeps change.held_before o in
-    let read : Consumes change.left_before change.left [] = subst P (sym unread) (reads_none change.left_before) in
+    let read : Consumes change.left_before change.left [] = subst P (sym same) (reads_none change.left_before) in
     let kept : Keeps change.held_before change.held = subst Q (sym untouched) (keeps_same change.held_before) in
     let E : Fault → Type 0 = λ f. Ends given change (Err f) in
-    let U : Bool → Type 0 = λ b. IsUsageBy b given [] change.left in
+    let U : Bool → Type 0 = λ b. IsUsageBy b given [] change.left × IsReadForWords b [] change in
     elim why [
       | inl e ↦ subst E (sym e) (record { got = []; read = read; kept = kept; calm = calm; reason = tt })
-      | inr (e, none) ↦ subst E (sym e) (record { got = []; read = read; kept = kept; calm = calm; reason = subst U (sym some) none })
+      | inr (e, none) ↦ subst E (sym e) (record { got = []; read = read; kept = kept; calm = calm; reason = subst U (sym some) (none, (same, quiet)) })
     ]
+
+-- there was no memory for the words
+pub wordless : (given : List Word) (left held : Option (List ℕ)) (calm quiet status : ℕ) → status ≡ 1
+    → Runs given (record { left_before = left; left = left; reader_calm = calm; reader_faults = calm; held_before = held; held = held; writer_calm = quiet; writer_faults = quiet }) status
+wordless given left held calm quiet status e = record {
+  outcome = Err (Early OutOfMemory);
+  ends = record { got = []; read = reads_none left; kept = keeps_same held; calm = refl; reason = tt };
+  told = e;
+}

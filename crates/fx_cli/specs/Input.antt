@@ -1,5 +1,5 @@
 -- The bytes of an input.
-use Rattle.std.specs.Prelude.{ℕ, ◌==◌, ◌||◌, Bool, not, List, filter, length, Option, ◌≡◌, ◌<◌, ◌+◌}
+use Rattle.std.specs.Prelude.{ℕ, ◌==◌, ◌||◌, Bool, not, List, filter, length, Option, ◌≡◌, ◌<◌, ◌≤◌, ◌+◌}
 use Rattle.std.specs.List.{before_first, after_first}
 use Rattle.std.specs.Result.{result_ok}
 use Rattle.hex.specs.Hex.{decode_of}
@@ -40,6 +40,6 @@ IsReadCause _ size calm after = ⊥
 
 -- why there is no first line: more than 4,096 bytes of it, or a fault of the reader
 abbrev pub IsLineCause : Fault → List ℕ → ℕ → ℕ → Type 0
-IsLineCause Usage got calm after = 4096 < length (line_of got)
+IsLineCause Usage got calm after = (4096 < length (line_of got)) × (length got ≤ 4097) × (after ≡ calm)
 IsLineCause (Early ReadFailed) got calm after = after ≡ calm + 1
 IsLineCause _ got calm after = ⊥

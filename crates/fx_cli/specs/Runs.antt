@@ -2,9 +2,11 @@
 use Rattle.std.specs.Prelude.{◌≡◌, ◌⊎◌, ◌+◌, ◌<◌, ◌≤◌, ℕ, Bool, true, false, not, nat_lt, List, [], ◌∷◌, length, codes, Option, Some, None, Result, Ok, Err}
 use Rattle.std.specs.Str.{IsUtf8}
 use Rattle.std.specs.Io.KnownBytes.{Consumes, IsAtEnd, Keeps}
+use Rattle.std.specs.declared.io.ErrorKind.{ErrorKind}
+use Rattle.std.specs.declared.io.ErrorKind.TheVariants as kind
 use Rattle.fx_strike.specs.declared.refusal.Refusal.{Refusal}
 use Rattle.fx_strike.specs.declared.refusal.Refusal.TheVariants.{BadChars, BadHex, InputTooLarge, OutOfMemory, ReadFailed}
-use Rattle.fx_strike.specs.Strike.{Plan, plan_of}
+use Rattle.fx_strike.specs.Strike.{Plan, Opening, opened_of, plan_of}
 use Rattle.fx_strike.specs.Headline.{Leaves}
 use Rattle.fx_strike.specs.Listings.{Lists, program_of}
 use Rattle.fx_cli.specs.declared.done.Done.{Done}
@@ -74,11 +76,15 @@ numbers_of (listing what) = Some []
 abbrev pub strike_by : StrikeWords → List ℕ → List ℕ → Result Plan Refusal
 strike_by words numbers font = plan_of font words.ppem words.name numbers (not words.unhinted)
 
+-- what that comes to before memory is taken
+abbrev pub opening_by : StrikeWords → List ℕ → List ℕ → Opening
+opening_by words numbers font = opened_of font words.ppem words.name numbers (not words.unhinted)
+
 -- what a task leaves of a font's bytes: its strike, or the listing of a program of it
 abbrev pub TaskLeaves : Task → List ℕ → List ℕ → Option (List ℕ) → Option (List ℕ) → ℕ → ℕ → Result Done Refusal → Type 0
-TaskLeaves (strike words) numbers font old new calm after (Ok (Strike report)) = Leaves (strike_by words numbers font) old new calm after (Ok report)
+TaskLeaves (strike words) numbers font old new calm after (Ok (Strike report)) = Leaves (opening_by words numbers font) (strike_by words numbers font) old new calm after (Ok report)
 TaskLeaves (strike words) numbers font old new calm after (Ok Listing) = ⊥
-TaskLeaves (strike words) numbers font old new calm after (Err refusal) = Leaves (strike_by words numbers font) old new calm after (Err refusal)
+TaskLeaves (strike words) numbers font old new calm after (Err refusal) = Leaves (opening_by words numbers font) (strike_by words numbers font) old new calm after (Err refusal)
 TaskLeaves (listing what) numbers font old new calm after (Ok (Strike report)) = ⊥
 TaskLeaves (listing what) numbers font old new calm after (Ok Listing) = Lists (program_of font what) old new calm after (Ok tt)
 TaskLeaves (listing what) numbers font old new calm after (Err refusal) = Lists (program_of font what) old new calm after (Err refusal)
@@ -106,14 +112,23 @@ IsUsageBy false given got left =
     (4096 < length (line_of got))
     ⊎ (HasLine got left × (¬ (IsUtf8 (line_of got)) ⊎ (wish_of_words (called given ∷ words_of_line (line_of got)) ≡ None)))
 
+-- the reader is as it was
+abbrev pub IsUnread : Change → Type 0
+IsUnread change = (change.left ≡ change.left_before) × (change.reader_faults ≡ change.reader_calm)
+
+-- nothing was read where words were given; else no more than the first line with what came along, at most 4,097 bytes, without a fault
+abbrev pub IsReadForWords : Bool → List ℕ → Change → Type 0
+IsReadForWords true got change = IsUnread change
+IsReadForWords false got change = (length got ≤ 4097) × (change.reader_faults ≡ change.reader_calm)
+
 -- the words ask for something, of which P holds
 abbrev pub Asks : List Word → List ℕ → Option (List ℕ) → (Asked → Type 0) → Type 0
 Asks given got left P = (words : List Word) × (asked : Asked) × AreWords given got left words × (wish_of_words words ≡ Some asked) × P asked
 
 -- why a run stopped before it came to that
 abbrev pub IsReason : List Word → List ℕ → Change → Fault → Type 0
-IsReason given got change Usage = IsUsageBy (has_words given) given got change.left
-IsReason given got change (Early BadChars) = Asks given got change.left (λ asked. numbers_of asked.task ≡ None)
+IsReason given got change Usage = IsUsageBy (has_words given) given got change.left × IsReadForWords (has_words given) got change
+IsReason given got change (Early BadChars) = Asks given got change.left (λ asked. numbers_of asked.task ≡ None) × IsReadForWords (has_words given) got change
 IsReason given got change (Early ReadFailed) = change.reader_faults ≡ change.reader_calm + 1
 IsReason given got change (Early BadHex) = IsAtEnd change.left × Asks given got change.left (λ asked. font_bytes asked.hex (text_of given got) ≡ None)
 IsReason given got change (Early InputTooLarge) = 67108864 < length got
@@ -134,6 +149,10 @@ Ends given change (Ok done) = Does given change (Ok done)
 Ends given change (Err (Late refusal)) = Does given change (Err refusal)
 Ends given change (Err fault) = Stops given change fault
 
+-- nothing was read or written
+abbrev pub IsUntouched : Change → Type 0
+IsUntouched change = IsUnread change × (change.held ≡ change.held_before) × (change.writer_faults ≡ change.writer_calm)
+
 -- the status: 0 done, 1 refused, 2 usage
 abbrev pub status_of : Result Done Fault → ℕ
 status_of (Ok done) = 0
@@ -144,3 +163,13 @@ pub record Runs (given : List Word) (change : Change) (status : ℕ) : Type 0 wh
   pub outcome : Result Done Fault
   pub ends : Ends given change outcome
   pub told : status ≡ status_of outcome
+
+-- the status of words that the system does not give: no memory, or a word that is no text
+abbrev pub unread_status : ErrorKind → ℕ
+unread_status kind.OutOfMemory = 1
+unread_status _ = 2
+
+-- the run of the words that the system gives, or nothing but the status where it gives none
+abbrev pub Starts : Result (List Word) ErrorKind → Change → ℕ → Type 0
+Starts (Ok given) change status = Runs given change status
+Starts (Err fault) change status = IsUntouched change × (status ≡ unread_status fault)

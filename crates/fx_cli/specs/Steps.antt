@@ -8,7 +8,7 @@ use Rattle.fx_cli.specs.declared.done.Done.{Done}
 use Rattle.fx_cli.specs.declared.fault.Fault.{Fault}
 use Rattle.fx_cli.specs.declared.fault.Fault.TheVariants.{Usage, Early, Late}
 use Rattle.fx_cli.specs.Words.{Asked}
-use Rattle.fx_cli.specs.Runs.{Change, TaskLeaves, font_bytes, numbers_of}
+use Rattle.fx_cli.specs.Runs.{Change, IsUnread, TaskLeaves, font_bytes, numbers_of}
 
 -- the writer is as it was
 abbrev pub IsSpared : Change → Type 0
@@ -43,7 +43,7 @@ pub record DoesBehind (asked : Asked) (line : ℕ) (front : List ℕ) (ended : B
   pub made : DoesText asked numbers (front ++ more) change answer
 
 abbrev pub IsReasonBehind : Asked → ℕ → List ℕ → List ℕ → Change → Refusal → Type 0
-IsReasonBehind asked line front more change BadChars = numbers_of asked.task ≡ None
+IsReasonBehind asked line front more change BadChars = (numbers_of asked.task ≡ None) × (more ≡ []) × IsUnread change
 IsReasonBehind asked line front more change ReadFailed = change.reader_faults ≡ change.reader_calm + 1
 IsReasonBehind asked line front more change BadHex = IsAtEnd change.left × (font_bytes asked.hex (front ++ more) ≡ None)
 IsReasonBehind asked line front more change InputTooLarge = 67108864 < line + length (front ++ more)

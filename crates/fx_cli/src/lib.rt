@@ -11,13 +11,14 @@ mod input;
 mod lines;
 mod parts;
 mod program;
+mod start;
 mod values;
 mod wish;
 mod words;
 
 pub use chars::parse_chars;
-pub use lines::{out_of_memory, usage};
 pub use program::run;
+pub use start::{run_given, run_program};
 
 #[cfg(test)]
 mod tests;

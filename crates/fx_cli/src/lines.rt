@@ -8,7 +8,7 @@ use fx_fixed::{Sink, put_all};
 use fx_strike::{Refusal, Report};
 use std::fmt::{Display, InlineText};
 
-/// Writes the line of words that ask for nothing that there is, and answers the status.
+// Writes the line of words that ask for nothing that there is, and answers the status.
 pub fn usage<E: Sink>(err: &mut E) -> u8
     requires { E.fault_count err.old < 2 ^ 63 }
     ensures { result ≡ 2 }
@@ -17,7 +17,7 @@ pub fn usage<E: Sink>(err: &mut E) -> u8
     2
 }
 
-/// Writes the line of want of memory, and answers the status.
+// Writes the line of want of memory, and answers the status.
 pub fn out_of_memory<E: Sink>(err: &mut E) -> u8
     requires { E.fault_count err.old < 2 ^ 63 }
     ensures { result ≡ 1 }

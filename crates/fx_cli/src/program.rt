@@ -3,7 +3,7 @@ ghost use Rattle.std.specs.Prelude.{◌≡◌, ◌⊎◌, ◌==◌, ◌∷◌, �
 ghost use Rattle.std.specs.List.{position_or_len};
 ghost use Rattle.std.specs.Io.KnownBytes.{IsAtEnd};
 ghost use Rattle.fx_fixed.specs.Chain.{map_fault};
-ghost use Rattle.fx_strike.specs.Strike.{plan_of};
+ghost use Rattle.fx_strike.specs.Strike.{opened_of, plan_of};
 ghost use Rattle.fx_strike.specs.Headline.{Leaves};
 ghost use Rattle.fx_strike.specs.Listings.{Lists, program_of};
 ghost use Rattle.fx_cli.specs.Words.{seen, seen_task};
@@ -215,7 +215,7 @@ fn put_strike<O: Sink>(
     out: &mut O,
 ) -> Result<Report, Refusal>
     requires { O.fault_count out.old < 2 ^ 63 }
-    ensures { Leaves (plan_of font.now words.now.ppem words.now.name.now chars.now (not words.now.unhinted)) (O.held out.old) (O.held out.new) (O.fault_count out.old) (O.fault_count out.new) result }
+    ensures { Leaves (opened_of font.now words.now.ppem words.now.name.now chars.now (not words.now.unhinted)) (plan_of font.now words.now.ppem words.now.name.now chars.now (not words.now.unhinted)) (O.held out.old) (O.held out.new) (O.fault_count out.old) (O.fault_count out.new) result }
 {
     let request = Request {
         ppem: words.ppem,

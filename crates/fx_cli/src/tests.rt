@@ -2,11 +2,12 @@ ghost use Rattle.std.specs.Prelude.{◌<◌, ◌^◌, None};
 
 use super::done::Done;
 use super::fault::Fault;
-use super::lines::status;
+use super::lines::{out_of_memory, status, usage};
 use super::*;
 use fx_fixed::{Limits, MemorySink, MemorySource, Sink, Source};
 use fx_strike::{Refusal, Report};
 use std::alloc::{AllocError, Global};
+use std::io;
 use std::test::Fail;
 
 // How a run ended.
@@ -90,6 +91,7 @@ fn words(rt: HostRuntime) -> Result<(), Fail> {
         "mkstrike|make|--ppem|0|--chars=",
         "mkstrike|make|--ppem|0|--chars|110000",
         "|make|--ppem=256|--chars=41|--name=-",
+        "mkstrike|make|--ppem|0|--chars|41|--name=-misc-fixed-medium-r-normal--16-160-72-72-c-80-iso10646-1",
     ] {
         assert!(rt;
             run_in_memory(rt.alloc(), words, b"", Limits::NONE)?.is(1, SIZE),
@@ -126,6 +128,8 @@ fn words(rt: HostRuntime) -> Result<(), Fail> {
         "mkstrike|make|--ppem|0|--chars|41|--name|-",
         "mkstrike|make|--ppem|0|--chars|41|--name|-x",
         "mkstrike|make|--ppem|0|--chars|--hex",
+        "mkstrike|make|--ppem|0|--chars|-x",
+        "mkstrike|make|--ppem|-1|--chars|41",
         "mkstrike|make|--pp|0|--chars|41",
         "mkstrike|make|--ppem|0|--chars|41|--unhinted=yes",
         "mkstrike|make|--ppem|0|--chars|41|--hex=",
@@ -248,6 +252,81 @@ fn failing_readers(rt: HostRuntime) -> Result<(), Fail> {
     Ok(())
 }
 
+// The request is refused before anything is read: usage, then 61 of the list's form. Then the input is read, and 60 comes after it.
+#[test]
+fn what_is_refused_unread(rt: HostRuntime) -> Result<(), Fail> {
+    let failed = b"mkstrike: 71 ReadFailed\n".as_slice();
+    for (words, status, line, faults) in [
+        ("mkstrike|make|--ppem|16", 2, USAGE, 0),
+        ("mkstrike|show", 2, USAGE, 0),
+        ("mkstrike|dump|--of|glyf", 2, USAGE, 0),
+        ("mkstrike|make|--ppem|0|--chars|42-41", 1, CHARS, 0),
+        ("mkstrike|make|--hex|--ppem|16|--chars|4x", 1, CHARS, 0),
+        ("mkstrike|make|--ppem|0|--chars|41", 1, failed, 1),
+        ("mkstrike|make|--ppem|16|--chars|110000", 1, failed, 1),
+        ("mkstrike|dump|--of|prep", 1, failed, 1),
+        ("mkstrike", 1, failed, 1),
+    ] {
+        let limits = Limits {
+            bytes: 0,
+            ..Limits::NONE
+        };
+        let mut reader = MemorySource::new(b"4x", limits);
+        let ended = run_on(rt.alloc(), words, &mut reader)?;
+        assert!(rt; ended.is(status, line), "{words}");
+        assert_eq!(rt; reader.faults(), faults, "{words}");
+    }
+    // The input's form is looked at last: 61 and 71 come before 72.
+    for (words, line) in [
+        ("mkstrike|make|--hex|--ppem|16|--chars|4x", CHARS),
+        (
+            "mkstrike|make|--hex|--ppem|16|--chars|41",
+            b"mkstrike: 72 BadHex\n".as_slice(),
+        ),
+    ] {
+        assert!(rt;
+            run_in_memory(rt.alloc(), words, b"4x", Limits::NONE)?.is(1, line),
+            "{words}"
+        );
+    }
+    let limits = Limits {
+        bytes: 2,
+        ..Limits::NONE
+    };
+    let words = "mkstrike|make|--hex|--ppem|16|--chars|41";
+    assert!(rt; run_in_memory(rt.alloc(), words, b"4x", limits)?.is(1, failed));
+    Ok(())
+}
+
+// Words that the system gives, and faults in their place.
+#[test]
+fn given_words(rt: HostRuntime) -> Result<(), Fail> {
+    let alloc = rt.alloc();
+    for (words, status, line) in [
+        (Ok(vec![in alloc; "mkstrike".to_string(alloc)?]?), 1, SIZE),
+        (
+            Ok(vec![in alloc; "mkstrike".to_string(alloc)?, "show".to_string(alloc)?]?),
+            2,
+            USAGE,
+        ),
+        (
+            Err(io::Error::from(io::ErrorKind::OutOfMemory)),
+            1,
+            b"mkstrike: 90 OutOfMemory\n".as_slice(),
+        ),
+        (Err(io::Error::from(io::ErrorKind::InvalidData)), 2, USAGE),
+    ] {
+        let mut reader = MemorySource::new(b"make --ppem 0 --chars 41", Limits::NONE);
+        let mut out = MemorySink::new(alloc, 64, Limits::NONE)?;
+        let mut err = MemorySink::new(alloc, 64, Limits::NONE)?;
+        let answer = run_given(alloc, &words, &mut reader, &mut out, &mut err);
+        assert_eq!(rt; answer, status);
+        assert!(rt; out.bytes().is_empty());
+        assert_eq!(rt; err.bytes(), line);
+    }
+    Ok(())
+}
+
 // So many bytes, as the room has them.
 #[derive(Drop)]
 struct Bytes {
@@ -331,18 +410,32 @@ fn refusals(rt: HostRuntime) -> Result<(), Fail> {
 // The lines of the other ends.
 #[test]
 fn other_lines(rt: HostRuntime) -> Result<(), Fail> {
-    let report = Report {
+    let most = Report {
         glyphs: u32::MAX,
-        missing: 2,
+        missing: u32::MAX,
         strays: u64::MAX,
         steps: u64::MAX,
     };
-    let mut err = MemorySink::new(rt.alloc(), 256, Limits::NONE)?;
-    assert_eq!(rt; status(&mut err, &Ok(Done::Strike(report))), 0);
-    assert_eq!(rt;
-        err.bytes(),
-        b"mkstrike: glyphs 4294967295 missing 2 strays 18446744073709551615 steps 18446744073709551615\n".as_slice()
-    );
+    let each = Report {
+        glyphs: 1,
+        missing: 20,
+        strays: 300,
+        steps: 4000,
+    };
+    for (report, line) in [
+        (
+            most,
+            b"mkstrike: glyphs 4294967295 missing 4294967295 strays 18446744073709551615 steps 18446744073709551615\n".as_slice(),
+        ),
+        (
+            each,
+            b"mkstrike: glyphs 1 missing 20 strays 300 steps 4000\n".as_slice(),
+        ),
+    ] {
+        let mut err = MemorySink::new(rt.alloc(), 256, Limits::NONE)?;
+        assert_eq!(rt; status(&mut err, &Ok(Done::Strike(report))), 0);
+        assert_eq!(rt; err.bytes(), line);
+    }
     let mut err = MemorySink::new(rt.alloc(), 256, Limits::NONE)?;
     assert_eq!(rt; status(&mut err, &Ok(Done::Listing)), 0);
     assert!(rt; err.bytes().is_empty());

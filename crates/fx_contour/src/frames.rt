@@ -11,7 +11,7 @@ use crate::pixels::Pixels;
 use fx_winding::{Frame, MAX_SIDE, Piece, Pieces};
 
 /// The least box of pixels that holds every pixel whose centre lies in the closed bounding box of the points of the pieces,
-/// control points too; `None` if it holds no pixel, `TooLarge` past `GREATEST_SIDE` pixels a side. A pixel outside it is not set.
+/// control points too; `None` if it holds no pixel, `TooLarge` past `MAX_SIDE` pixels a side. A pixel outside it is not set.
 pub fn frame(pieces: &Pieces) -> Result<Option<Frame>, ContourFault>
     ensures ok { IfOk result (λ f. IsFrameFor f (map span_of pieces.now)) }
     ensures outside { IfOk result (λ f. NothingOutsideFrame f (map span_of pieces.now)) }

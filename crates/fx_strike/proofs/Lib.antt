@@ -3,3 +3,7 @@ pub mod Sketching
 pub mod Gathering
 pub mod Making
 pub mod OnePart
+pub mod Covering
+pub mod Near
+pub mod Trimming
+pub mod Existing

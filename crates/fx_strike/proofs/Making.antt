@@ -1,44 +1,44 @@
 -- From what was made to what a call leaves.
-use Rattle.std.proofs.Common.{◌≡◌, sym, ap, ◌∙◌, subst, arith, ℕ, ◌<◌, ◌≤◌, ◌^◌, ℤ, pos, Bool, true, false, not, List, ◌++◌, map, length, Result, Ok, Err, FitsSigned, w32, to_z, of_z, lit<}
+use Rattle.std.proofs.Common.{◌≡◌, sym, ap, ◌∙◌, subst, arith, ℕ, ◌<◌, ◌≤◌, ◌^◌, ℤ, pos, Bool, List, ◌++◌, map, length, Result, Ok, Err, FitsSigned, w32, to_z, of_z, lit<}
 use Rattle.std.specs.Int.{w128}
-use Rattle.std.specs.Prelude.{nat_lt, ◌==◌, ◌||◌, ◌*ℤ◌, neg_ℤ, unsigned_abs, IfOk, IfErr}
-use Rattle.std.specs.List.{list_any, count_by}
+use Rattle.std.specs.Prelude.{◌*ℤ◌, neg_ℤ, unsigned_abs, IfOk, IfErr}
+use Rattle.std.specs.List.{count_by}
 use Rattle.std.proofs.lemmas.Int.{ints, fits_signed_mul, fits_signed_from_abs, unsigned_abs-mul}
 use Rattle.std.proofs.Math.Nat.{mul-le-mul_left}
-use Rattle.fx_fixed.specs.Chain.{◌>>=◌, refuse}
 use Rattle.fx_fixed.specs.Numbers.{near_of}
-use Rattle.fx_sfnt.specs.Tables.{Face, font_of}
-use Rattle.fx_cmap.specs.Lookup.{Segments, map_of_file}
-use Rattle.fx_cmap.specs.declared.fault.CharMapFault.{CharMapFault}
-use Rattle.fx_cmap.specs.declared.fault.CharMapFault.TheVariants as char_map
+use Rattle.fx_sfnt.specs.Tables.{Face}
+use Rattle.fx_cmap.specs.Lookup.{Segments}
 use Rattle.fx_bdf.specs.declared.header.Header.{Header}
 use Rattle.fx_bdf.specs.Glyphs.{Box, bounds_of}
-use Rattle.fx_bdf.specs.Text.{is_name, header_text, end_text}
+use Rattle.fx_bdf.specs.Text.{header_text, end_text}
 use Rattle.fx_strike.specs.declared.refusal.Refusal.{Refusal}
-use Rattle.fx_strike.specs.declared.refusal.Refusal.TheVariants.{OutOfMemory, BadSize, BadChars, BadName, NotBuilt}
+use Rattle.fx_strike.specs.declared.refusal.Refusal.TheVariants.{WriteFailed, ReadFailed, BadHex, InputTooLarge, OutOfMemory}
 use Rattle.fx_strike.specs.declared.gathered.Gathered.{Gathered}
 use Rattle.fx_strike.specs.declared.made.Made.{Made}
-use Rattle.fx_strike.specs.Faults.{Fails, of_char_map}
+use Rattle.fx_strike.specs.Faults.{Fails}
 use Rattle.fx_strike.specs.Characters.{rising}
-use Rattle.fx_strike.specs.Strike.{Sketch, Plan, pixels, is_missing, sketches_of, checked, plan_of, strike_text}
+use Rattle.fx_strike.specs.Strike.{Sketch, Plan, pixels, is_missing, sketches_of, opened_of, plan_in, plan_of, strike_text}
+use Rattle.fx_strike.specs.Headline.{IsCause}
 use Rattle.fx_strike.specs.Gathering.{Holds, heading_of, Finishes, IsMadeOf, Makes}
 use Rattle.fx_strike.proofs.Gathering.{fails_on}
 
 -- ---- where the plan stops
 
-pub plan_checked : (file : List ℕ) (ppem : ℕ) (name chars : List ℕ) (hinting : Bool) (d : Refusal) → checked ppem name chars hinting ≡ Err d → plan_of file ppem name chars hinting ≡ Err d
+plan_unopened : (file : List ℕ) (ppem : ℕ) (name chars : List ℕ) (hinting : Bool) (d : Refusal)
+    → opened_of file ppem name chars hinting ≡ Err d → plan_of file ppem name chars hinting ≡ Err d
 unfolding plan_of
-plan_checked file ppem name chars hinting d h = rw h
+plan_unopened file ppem name chars hinting d h = rw h
 
-plan_unmapped : (file : List ℕ) (ppem : ℕ) (name chars : List ℕ) (hinting : Bool) (face : Face) (f : CharMapFault)
-    → checked ppem name chars hinting ≡ Ok tt → font_of file ≡ Ok face → map_of_file face.file ≡ Err f → plan_of file ppem name chars hinting ≡ Err (of_char_map f)
+plan_opened : (file : List ℕ) (ppem : ℕ) (name chars : List ℕ) (hinting : Bool) (face : Face) (segments : Segments)
+    → opened_of file ppem name chars hinting ≡ Ok (face, segments)
+    → plan_of file ppem name chars hinting ≡ plan_in face segments ppem name chars
 unfolding plan_of
-plan_unmapped file ppem name chars hinting face f h k m = rw (h, k, m)
+plan_opened file ppem name chars hinting face segments h = rw h
 
-plan_refused : (file : List ℕ) (ppem : ℕ) (name chars : List ℕ) (hinting : Bool) (face : Face) (segments : Segments) (d : Refusal)
-    → checked ppem name chars hinting ≡ Ok tt → font_of file ≡ Ok face → map_of_file face.file ≡ Ok segments → sketches_of face segments ppem (rising chars) ≡ Err d → plan_of file ppem name chars hinting ≡ Err d
-unfolding plan_of
-plan_refused file ppem name chars hinting face segments d h k m s = rw (h, k, m, s)
+plan_refused : (face : Face) (segments : Segments) (ppem : ℕ) (name chars : List ℕ) (d : Refusal)
+    → sketches_of face segments ppem (rising chars) ≡ Err d → plan_in face segments ppem name chars ≡ Err d
+unfolding plan_in
+plan_refused face segments ppem name chars d h = rw h
 
 abbrev whole_plan : ℕ → List ℕ → List ℕ → Face → Segments → List Sketch → Plan
 whole_plan ppem name chars face segments ss = record {
@@ -50,57 +50,49 @@ whole_plan ppem name chars face segments ss = record {
   missing = count_by (is_missing segments) (rising chars);
 }
 
-plan_whole : (file : List ℕ) (ppem : ℕ) (name chars : List ℕ) (hinting : Bool) (face : Face) (segments : Segments) (ss : List Sketch)
-    → checked ppem name chars hinting ≡ Ok tt → font_of file ≡ Ok face → map_of_file face.file ≡ Ok segments → sketches_of face segments ppem (rising chars) ≡ Ok ss → plan_of file ppem name chars hinting ≡ Ok (whole_plan ppem name chars face segments ss)
-unfolding plan_of
-plan_whole file ppem name chars hinting face segments ss h k m s = rw (h, k, m, s)
+plan_whole : (face : Face) (segments : Segments) (ppem : ℕ) (name chars : List ℕ) (ss : List Sketch)
+    → sketches_of face segments ppem (rising chars) ≡ Ok ss
+    → plan_in face segments ppem name chars ≡ Ok (whole_plan ppem name chars face segments ss)
+unfolding plan_in
+plan_whole face segments ppem name chars ss h = rw h
 
 -- ---- refusals that are due
 
-due_along : {Y : Type 0} (e d : Refusal) (due : Result Y Refusal) → e ≡ d → Fails e due → Fails d due
-due_along {Y} e d due q f = let P : Refusal → Type 0 = λ x. Fails x due in subst P q f
-
-four_checks : {Y : Type 0} (a b c h : Bool) (d : Refusal) (due : Result Y Refusal)
-    → (refuse a BadSize >>= λ _. refuse b BadChars >>= λ _. refuse c BadName >>= λ _. refuse h NotBuilt) ≡ Err d → due ≡ Err d → Fails d due
-four_checks true b c h d due g e = let q : BadSize ≡ d = cc in due_along BadSize d due q (e ∙ ap Err (sym q))
-four_checks false true c h d due g e = let q : BadChars ≡ d = cc in due_along BadChars d due q (e ∙ ap Err (sym q))
-four_checks false false true h d due g e = let q : BadName ≡ d = cc in due_along BadName d due q (e ∙ ap Err (sym q))
-four_checks false false false true d due g e = let q : NotBuilt ≡ d = cc in due_along NotBuilt d due q (e ∙ ap Err (sym q))
-four_checks false false false false d due g e = absurd (cc)
-
-fails_checked : (file : List ℕ) (ppem : ℕ) (name chars : List ℕ) (hinting : Bool) (d : Refusal) → checked ppem name chars hinting ≡ Err d → Fails d (plan_of file ppem name chars hinting)
-unfolding checked
-fails_checked file ppem name chars hinting d h =
-    four_checks (ppem == 0 || nat_lt 255 ppem) (nat_lt 65536 (length chars) || list_any (nat_lt 65535) chars) (not (is_name name)) hinting d (plan_of file ppem name chars hinting) h (plan_checked file ppem name chars hinting d h)
-
-fails_char_map : {Y : Type 0} (f : CharMapFault) (due : Result Y Refusal) → due ≡ Err (of_char_map f) → Fails (of_char_map f) due
-fails_char_map char_map.NoCharMap due h = h
-fails_char_map char_map.BadCharMap due h = h
+fails_cause : {Y : Type 0} (d : Refusal) (due : Result Y Refusal) → IsCause d → due ≡ Err d → Fails d due
+fails_cause OutOfMemory due c h = tt
+fails_cause (WriteFailed n) due c h = absurd c
+fails_cause ReadFailed due c h = absurd c
+fails_cause BadHex due c h = absurd c
+fails_cause InputTooLarge due c h = absurd c
+fails_cause d due c h = h
 
 makes_err : (due : Result Plan Refusal) (r : Result Made Refusal) (e d : Refusal) → r ≡ Err e → e ≡ d → Fails d due → Makes due r
 makes_err due r e d p q f = let P : Result Made Refusal → Type 0 = λ s. Makes due s in subst P (sym (p ∙ ap Err q)) f
 
-pub unchecked : (file : List ℕ) (ppem : ℕ) (name chars : List ℕ) (hinting : Bool) (r : Result Made Refusal) (e d : Refusal) → r ≡ Err e → e ≡ d → Err d ≡ checked ppem name chars hinting → Makes (plan_of file ppem name chars hinting) r
-unchecked file ppem name chars hinting r e d p q h = makes_err (plan_of file ppem name chars hinting) r e d p q (fails_checked file ppem name chars hinting d (sym h))
+pub unopened : (file : List ℕ) (ppem : ℕ) (name chars : List ℕ) (hinting : Bool) (r : Result Made Refusal) (e d : Refusal)
+    → r ≡ Err e → e ≡ d
+    → Err d ≡ opened_of file ppem name chars hinting → IsCause d → Makes (plan_of file ppem name chars hinting) r
+unopened file ppem name chars hinting r e d p q h c =
+    makes_err (plan_of file ppem name chars hinting) r e d p q (fails_cause d (plan_of file ppem name chars hinting) c (plan_unopened file ppem name chars hinting d (sym h)))
 
-pub unmapped : (file : List ℕ) (ppem : ℕ) (name chars : List ℕ) (hinting : Bool) (face : Face) (f : CharMapFault) (r : Result Made Refusal) (e : Refusal) → r ≡ Err e → e ≡ of_char_map f
-    → Ok tt ≡ checked ppem name chars hinting → Ok face ≡ font_of file → Err f ≡ map_of_file face.file → Makes (plan_of file ppem name chars hinting) r
-unmapped file ppem name chars hinting face f r e p q h k m =
-    makes_err (plan_of file ppem name chars hinting) r e (of_char_map f) p q (fails_char_map f (plan_of file ppem name chars hinting) (plan_unmapped file ppem name chars hinting face f (sym h) (sym k) (sym m)))
+pub opened : (file : List ℕ) (ppem : ℕ) (name chars : List ℕ) (hinting : Bool) (face : Face) (segments : Segments) (r : Result Made Refusal)
+    → Ok (face, segments) ≡ opened_of file ppem name chars hinting → Makes (plan_in face segments ppem name chars) r → Makes (plan_of file ppem name chars hinting) r
+opened file ppem name chars hinting face segments r h m =
+    let P : Result Plan Refusal → Type 0 = λ due. Makes due r in subst P (sym (plan_opened file ppem name chars hinting face segments (sym h))) m
 
-pub ungathered : (file : List ℕ) (ppem : ℕ) (name chars : List ℕ) (hinting : Bool) (face : Face) (segments : Segments) (codes : List ℕ) (r : Result Made Refusal) (e d : Refusal) → r ≡ Err e → e ≡ d
-    → Ok tt ≡ checked ppem name chars hinting → Ok face ≡ font_of file → Ok segments ≡ map_of_file face.file → codes ≡ rising chars → Fails d (sketches_of face segments ppem codes) → Makes (plan_of file ppem name chars hinting) r
-ungathered file ppem name chars hinting face segments codes r e d p q h k m c f =
-    makes_err (plan_of file ppem name chars hinting) r e d p q (fails_on d (sketches_of face segments ppem codes) (plan_of file ppem name chars hinting)
-    (λ x g. plan_refused file ppem name chars hinting face segments x (sym h) (sym k) (sym m) (ap (sketches_of face segments ppem) (sym c) ∙ g)) f)
+pub ungathered : (face : Face) (segments : Segments) (ppem : ℕ) (name chars codes : List ℕ) (r : Result Made Refusal) (e d : Refusal) → r ≡ Err e → e ≡ d
+    → codes ≡ rising chars → Fails d (sketches_of face segments ppem codes) → Makes (plan_in face segments ppem name chars) r
+ungathered face segments ppem name chars codes r e d p q c f =
+    makes_err (plan_in face segments ppem name chars) r e d p q (fails_on d (sketches_of face segments ppem codes) (plan_in face segments ppem name chars)
+    (λ x g. plan_refused face segments ppem name chars x (ap (sketches_of face segments ppem) (sym c) ∙ g)) f)
 
 -- ---- what is made
 
-made_of : (file : List ℕ) (ppem : ℕ) (name chars : List ℕ) (hinting : Bool) (face : Face) (segments : Segments) (gathered : Gathered) (made : Made)
-    → Ok tt ≡ checked ppem name chars hinting → Ok face ≡ font_of file → Ok segments ≡ map_of_file face.file → Holds face segments ppem (rising chars) gathered
-    → Finishes name (heading_of face ppem gathered) gathered made → IsMadeOf (plan_of file ppem name chars hinting) made
+made_of : (face : Face) (segments : Segments) (ppem : ℕ) (name chars : List ℕ) (gathered : Gathered) (made : Made)
+    → Holds face segments ppem (rising chars) gathered
+    → Finishes name (heading_of face ppem gathered) gathered made → IsMadeOf (plan_in face segments ppem name chars) made
 unfolding strike_text
-made_of file ppem name chars hinting face segments gathered made h k m g f =
+made_of face segments ppem name chars gathered made g f =
     let heading : Box → ℕ → Header = λ b n. record {
       ppem = ppem;
       bounds = b;
@@ -113,26 +105,27 @@ made_of file ppem name chars hinting face segments gathered made h k m g f =
     record {
       plan = whole_plan ppem name chars face segments g.sketches;
       glyphs = g.glyphs;
-      is = plan_whole file ppem name chars hinting face segments g.sketches (sym h) (sym k) (sym m) g.planned;
+      is = plan_whole face segments ppem name chars g.sketches g.planned;
       drawn = g.drawn;
       text = ap (λ (t : List ℕ). t ++ made.body.bytes.items) (f.head ∙ heads) ∙ ap (λ (t : List ℕ). header_text name (heading (bounds_of (map (λ x. x.box) g.glyphs)) (length g.sketches)) ++ t) (f.body ∙ ap (λ (t : List ℕ). t ++ end_text) g.text);
       told = record { glyphs = f.glyphs ∙ g.count; missing = f.missing ∙ g.missing; strays = f.strays ∙ g.strays; steps = f.steps ∙ g.steps };
     }
 
-pub finished : (file : List ℕ) (ppem : ℕ) (name chars : List ℕ) (hinting : Bool) (face : Face) (segments : Segments) (codes : List ℕ) (gathered : Gathered) (header : Header) (r : Result Made Refusal)
-    → Ok tt ≡ checked ppem name chars hinting → Ok face ≡ font_of file → Ok segments ≡ map_of_file face.file → codes ≡ rising chars → Holds face segments ppem codes gathered
-    → header ≡ heading_of face ppem gathered → IfOk r (Finishes name header gathered) → IfErr r (λ e. e ≡ OutOfMemory) → Makes (plan_of file ppem name chars hinting) r
-finished file ppem name chars hinting face segments codes gathered header (Ok made) h k m c g q f e =
+pub finished : (face : Face) (segments : Segments) (ppem : ℕ) (name chars codes : List ℕ) (gathered : Gathered) (header : Header) (r : Result Made Refusal)
+    → codes ≡ rising chars → Holds face segments ppem codes gathered
+    → header ≡ heading_of face ppem gathered → IfOk r (Finishes name header gathered) → IfErr r (λ e. e ≡ OutOfMemory) → Makes (plan_in face segments ppem name chars) r
+finished face segments ppem name chars codes gathered header (Ok made) c g q f e =
     let P : List ℕ → Type 0 = λ xs. Holds face segments ppem xs gathered in
     let Q : Header → Type 0 = λ x. Finishes name x gathered made in
-    made_of file ppem name chars hinting face segments gathered made h k m (subst P c g) (subst Q q f)
-finished file ppem name chars hinting face segments codes gathered header (Err d) h k m c g q f e =
-    let P : Refusal → Type 0 = λ x. Fails x (plan_of file ppem name chars hinting) in subst P (sym e) tt
+    made_of face segments ppem name chars gathered made (subst P c g) (subst Q q f)
+finished face segments ppem name chars codes gathered header (Err d) c g q f e =
+    let P : Refusal → Type 0 = λ x. Fails x (plan_in face segments ppem name chars) in subst P (sym e) tt
 
 -- ---- words for answers
 
 -- FUnits in whole pixels, as the code casts them
-pub whole_is : (units : ℤ) (ppem em : ℕ) (f g h r : ℤ) → FitsSigned w32 units → unsigned_abs units ≤ 32768 → ppem ≤ 255 → em < 2 ^ 16 → f ≡ to_z w32 (of_z w32 units) → g ≡ pos ppem → h ≡ pos em
+pub whole_is : (units : ℤ) (ppem em : ℕ) (f g h r : ℤ) → FitsSigned w32 units → unsigned_abs units ≤ 32768 → ppem ≤ 255
+    → em < 2 ^ 16 → f ≡ to_z w32 (of_z w32 units) → g ≡ pos ppem → h ≡ pos em
     → r ≡ near_of (to_z w128 (of_z w128 (to_z w128 (of_z w128 f) *ℤ to_z w128 (of_z w128 g)))) (to_z w128 (of_z w128 h))
     → unsigned_abs r ≤ unsigned_abs (to_z w128 (of_z w128 (to_z w128 (of_z w128 f) *ℤ to_z w128 (of_z w128 g))))
     → to_z w32 (of_z w32 (to_z w128 (of_z w128 r))) ≡ pixels units ppem em

@@ -17,7 +17,7 @@ use Rattle.fx_bdf.specs.Glyphs.{Glyph, TrimmedIsOne, glyph_bit}
 use Rattle.fx_strike.specs.declared.refusal.Refusal.{Refusal}
 use Rattle.fx_strike.specs.Faults.{of_font, of_char_map, of_hint, of_contour}
 use Rattle.fx_strike.specs.Characters.{rising}
-use Rattle.fx_strike.specs.Strike.{Sketch, Plan, AreGlyphsOf, thousandths, pixels, glyph_sketch_of, sketch_of, is_missing, sketches_of, checked, plan_of, strike_text}
+use Rattle.fx_strike.specs.Strike.{Sketch, Plan, AreGlyphsOf, thousandths, pixels, glyph_sketch_of, sketch_of, is_missing, sketches_of, checked, opened_of, plan_in, plan_of, strike_text}
 use Rattle.fx_strike.specs.Laws.{GlyphIsOne, TextIsOne, PartIsOne}
 use Rattle.fx_strike.proofs.Sketching.{tight_along}
 
@@ -84,7 +84,8 @@ sketch_code face ppem code glyph s h =
     code_along x s code e h = sym (ap (λ (y : Sketch). y.code) e) ∙ h
 
 -- what a chain gives at a place is what its step gives of something
-chain_at : {A B : Type 0} (f : A → Result B Refusal) (xs : List A) (ys : List B) → map_chain f xs ≡ Ok ys → (k : ℕ) (d : B) → k < length ys → (x : A) × (f x ≡ Ok (get_or ys k d))
+chain_at : {A B : Type 0} (f : A → Result B Refusal) (xs : List A) (ys : List B) → map_chain f xs ≡ Ok ys → (k : ℕ) (d : B)
+    → k < length ys → (x : A) × (f x ≡ Ok (get_or ys k d))
 chain_at {A} {B} f [] ys h k d l = let e : [] ≡ ys = cc in let L : List B → Type 0 = λ zs. k < length zs in absurd (below_none k (subst L (sym e) l))
   where
     below_none : (k : ℕ) → k < 0 → ⊥
@@ -97,20 +98,23 @@ chain_at {A} {B} f (x ∷ xs) ys h k d l =
     let L : List B → Type 0 = λ zs. k < length zs in
     subst P e (at f x p.0 q.0 p.1 (chain_at f xs q.0 q.1) k d (subst L (sym e) l))
   where
-    at : {A B : Type 0} (f : A → Result B Refusal) (x : A) (y : B) (ys : List B) → f x ≡ Ok y → ((k : ℕ) (d : B) → k < length ys → (z : A) × (f z ≡ Ok (get_or ys k d))) → (k : ℕ) (d : B) → k < length (y ∷ ys) → (z : A) × (f z ≡ Ok (get_or (y ∷ ys) k d))
+    at : {A B : Type 0} (f : A → Result B Refusal) (x : A) (y : B) (ys : List B) → f x ≡ Ok y
+        → ((k : ℕ) (d : B) → k < length ys → (z : A) × (f z ≡ Ok (get_or ys k d))) → (k : ℕ) (d : B) → k < length (y ∷ ys)
+        → (z : A) × (f z ≡ Ok (get_or (y ∷ ys) k d))
     at f x y ys p r zero d l = (x, p)
     at f x y ys p r (suc k) d l = r k d (omega arith)
 
 -- the parts of a plan
-record Parts (file : List ℕ) (ppem : ℕ) (chars : List ℕ) (ss : List Sketch) : Type 0 where
-  face : Face
-  segments : Segments
-  font : font_of file ≡ Ok face
-  map_is : map_of_file face.file ≡ Ok segments
-  sketches : sketches_of face segments ppem (rising chars) ≡ Ok ss
+pub record Parts (file : List ℕ) (ppem : ℕ) (chars : List ℕ) (ss : List Sketch) : Type 0 where
+  pub face : Face
+  pub segments : Segments
+  pub font : font_of file ≡ Ok face
+  pub map_is : map_of_file face.file ≡ Ok segments
+  pub sketches : sketches_of face segments ppem (rising chars) ≡ Ok ss
 
-parts_of : (file : List ℕ) (ppem : ℕ) (name chars : List ℕ) (hinting : Bool) (plan : Plan) → plan_of file ppem name chars hinting ≡ Ok plan → Parts file ppem chars plan.sketches
-unfolding plan_of
+pub parts_of : (file : List ℕ) (ppem : ℕ) (name chars : List ℕ) (hinting : Bool) (plan : Plan)
+    → plan_of file ppem name chars hinting ≡ Ok plan → Parts file ppem chars plan.sketches
+unfolding opened_of plan_in plan_of
 parts_of file ppem name chars hinting plan h =
     let last : Face → Segments → List Sketch → Plan = λ face segments ss. record {
       name = name;
@@ -120,12 +124,14 @@ parts_of file ppem name chars hinting plan h =
       sketches = ss;
       missing = count_by (is_missing segments) (rising chars);
     } in
-    let sketched : Face → Segments → Result Plan Refusal = λ face segments. sketches_of face segments ppem (rising chars) >>= λ ss. Ok (last face segments ss) in
-    let mapped : Face → Result Plan Refusal = λ face. map_fault of_char_map (map_of_file face.file) >>= λ segments. sketched face segments in
-    let a = bind_ok (checked ppem name chars hinting) (λ _. map_fault of_font (font_of file) >>= mapped) plan h in
-    let b = bind_ok (map_fault of_font (font_of file)) mapped plan a.2 in
-    let c = bind_ok (map_fault of_char_map (map_of_file b.0.file)) (sketched b.0) plan b.2 in
-    let d = bind_ok (sketches_of b.0 c.0 ppem (rising chars)) (λ ss. Ok (last b.0 c.0 ss)) plan c.2 in
+    let mapped : Face → Result (Face × Segments) Refusal = λ face. map_fault of_char_map (map_of_file face.file) >>= λ segments. Ok (face, segments) in
+    let o = bind_ok (opened_of file ppem name chars hinting) (λ opened. plan_in opened.0 opened.1 ppem name chars) plan h in
+    let a = bind_ok (checked ppem name chars hinting) (λ _. map_fault of_font (font_of file) >>= mapped) o.0 o.1 in
+    let b = bind_ok (map_fault of_font (font_of file)) mapped o.0 a.2 in
+    let c = bind_ok (map_fault of_char_map (map_of_file b.0.file)) (λ segments. Ok (b.0, segments)) o.0 b.2 in
+    let pair : (b.0, c.0) ≡ o.0 = cc (c.2) in
+    let P : Face × Segments → Type 0 = λ x. plan_in x.0 x.1 ppem name chars ≡ Ok plan in
+    let d = bind_ok (sketches_of b.0 c.0 ppem (rising chars)) (λ ss. Ok (last b.0 c.0 ss)) plan (subst P (sym {a = (b.0, c.0)} pair) o.2) in
     let e : last b.0 c.0 d.0 ≡ plan = cc (d.2) in
     record {
       face = b.0;
@@ -139,7 +145,8 @@ parts_of file ppem name chars hinting plan h =
     sketches_along x plan r e h = h ∙ ap (λ (y : Plan). Ok y.sketches) e
 
 -- a sketch of a plan is that of its code point
-sketch_there : (file : List ℕ) (ppem : ℕ) (chars : List ℕ) (ss : List Sketch) (p : Parts file ppem chars ss) (s : Sketch) → Contains ss s → sketch_of p.face p.segments ppem s.code ≡ Ok s
+sketch_there : (file : List ℕ) (ppem : ℕ) (chars : List ℕ) (ss : List Sketch) (p : Parts file ppem chars ss) (s : Sketch)
+    → Contains ss s → sketch_of p.face p.segments ppem s.code ≡ Ok s
 sketch_there file ppem chars ss p s h =
     let x = chain_at (sketch_of p.face p.segments ppem) (filter (λ c. not (is_missing p.segments c)) (rising chars)) ss p.sketches h.0 s h.1 in
     let here : sketch_of p.face p.segments ppem x.0 ≡ Ok s = x.1 ∙ ap Ok h.2 in

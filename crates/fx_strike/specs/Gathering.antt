@@ -1,18 +1,27 @@
 -- What is made of code points so far, and of a strike before its first byte is written.
-use Rattle.std.specs.Prelude.{◌≡◌, neg_ℤ, ℕ, ◌+◌, List, [], ◌++◌, length, map, Result, Ok, Err}
-use Rattle.std.specs.List.{flat_map, sum_by, count_by}
+use Rattle.std.specs.Prelude.{◌≡◌, neg_ℤ, ℕ, ◌+◌, ◌≤◌, nat_lt, false, List, [], ◌++◌, length, map, Result, Ok, Err}
+use Rattle.std.specs.List.{flat_map, sum_by, count_by, list_any}
 use Rattle.fx_sfnt.specs.Tables.{Face}
 use Rattle.fx_cmap.specs.Lookup.{Segments}
 use Rattle.fx_bdf.specs.declared.header.Header.{Header}
 use Rattle.fx_bdf.specs.Glyphs.{Glyph, IsPlaced, no_box, joined, bounds_of}
-use Rattle.fx_bdf.specs.Text.{header_text, glyph_text, end_text}
+use Rattle.fx_bdf.specs.Text.{IsName, header_text, glyph_text, end_text}
 use Rattle.fx_strike.specs.declared.refusal.Refusal.{Refusal}
 use Rattle.fx_strike.specs.declared.drawn.Drawn.{Drawn}
 use Rattle.fx_strike.specs.declared.gathered.Gathered.{Gathered}
 use Rattle.fx_strike.specs.declared.made.Made.{Made}
+use Rattle.fx_strike.specs.declared.request.Request.{Request}
 use Rattle.fx_strike.specs.Faults.{Fails}
 use Rattle.fx_strike.specs.Headline.{counted, IsReportOf}
 use Rattle.fx_strike.specs.Strike.{Sketch, Plan, AreGlyphsOf, is_missing, sketches_of, pixels, strike_text}
+
+-- a request within its limits
+pub record IsChecked (request : Request) : Type 0 where
+  pub low : 1 ≤ request.ppem
+  pub high : request.ppem ≤ 255
+  pub few : length request.chars.now ≤ 65536
+  pub small : list_any (nat_lt 65535) request.chars.now ≡ false
+  pub name : IsName request.name.now
 
 -- no glyph
 pub record IsEmpty (new : Gathered) : Type 0 where

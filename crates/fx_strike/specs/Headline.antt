@@ -1,6 +1,6 @@
 -- What a call that makes a strike answers and leaves. `old` and `new` are the writer's bytes before and after, where they are
 -- known; `calm` and `after` its faults.
-use Rattle.std.specs.Prelude.{◌≡◌, ℕ, ◌^◌, ◌-◌, ◌<◌, min, List, length, take, Option, Result, Ok, Err, ◌⊎◌}
+use Rattle.std.specs.Prelude.{◌≡◌, ℕ, ◌+◌, ◌^◌, ◌-◌, ◌<◌, min, List, length, take, Option, Result, Ok, Err, IsOk, ◌⊎◌}
 use Rattle.std.specs.Io.KnownBytes.{Appends, Keeps}
 use Rattle.std.specs.List.{sum_by}
 use Rattle.fx_bdf.specs.Glyphs.{Glyph}
@@ -8,11 +8,15 @@ use Rattle.fx_strike.specs.declared.refusal.Refusal.{Refusal}
 use Rattle.fx_strike.specs.declared.refusal.Refusal.TheVariants.{WriteFailed, ReadFailed, BadHex, InputTooLarge, OutOfMemory}
 use Rattle.fx_strike.specs.declared.request.Report.{Report}
 use Rattle.fx_strike.specs.declared.request.Request.{Request}
-use Rattle.fx_strike.specs.Strike.{Plan, AreGlyphsOf, strike_text, plan_of}
+use Rattle.fx_strike.specs.Strike.{Opening, Plan, AreGlyphsOf, opened_of, plan_of, strike_text}
 
 -- the strike of a font file that is asked for, or the first cause why there is none
 abbrev pub strike_of : List ℕ → Request → Result Plan Refusal
 strike_of file request = plan_of file request.ppem request.name.now request.chars.now request.hinting
+
+-- what a request for it comes to before memory is taken: the opened font and its character map, or the first cause
+abbrev pub opening_of : List ℕ → Request → Opening
+opening_of file request = opened_of file request.ppem request.name.now request.chars.now request.hinting
 
 -- a count that stays at the greatest u64
 abbrev pub counted : ℕ → ℕ
@@ -25,13 +29,14 @@ pub record IsReportOf (plan : Plan) (report : Report) : Type 0 where
   pub strays : report.strays ≡ counted (sum_by (λ s. s.strays) plan.sketches)
   pub steps : report.steps ≡ counted (sum_by (λ s. s.steps) plan.sketches)
 
--- the strike is there, and its text was written
-pub record Text (strike : Result Plan Refusal) (old new : Option (List ℕ)) (report : Report) : Type 0 where
+-- the strike is there, its text was written, and the writer counted no fault
+pub record Text (strike : Result Plan Refusal) (old new : Option (List ℕ)) (calm after : ℕ) (report : Report) : Type 0 where
   pub plan : Plan
   pub glyphs : List Glyph
   pub is : strike ≡ Ok plan
   pub drawn : AreGlyphsOf plan.sketches glyphs
   pub written : Appends old new (strike_text plan glyphs)
+  pub quiet : after ≡ calm
   pub told : IsReportOf plan report
 
 -- a refusal that names a cause: neither want of memory nor a fault of the writer, the reader or the input
@@ -43,11 +48,12 @@ IsCause BadHex = ⊥
 IsCause InputTooLarge = ⊥
 IsCause _ = Unit {0}
 
--- the first cause was named, and nothing was written
-pub record Cause (strike : Result Plan Refusal) (old new : Option (List ℕ)) (refusal : Refusal) : Type 0 where
+-- the first cause was named, nothing was written, and the writer counted no fault
+pub record Cause (strike : Result Plan Refusal) (old new : Option (List ℕ)) (calm after : ℕ) (refusal : Refusal) : Type 0 where
   pub cause : IsCause refusal
   pub first : strike ≡ Err refusal
   pub kept : Keeps old new
+  pub quiet : after ≡ calm
 
 -- the strike is there, and exactly a beginning of n bytes of its text was written
 pub record Begun (strike : Result Plan Refusal) (old new : Option (List ℕ)) (n : ℕ) : Type 0 where
@@ -58,14 +64,19 @@ pub record Begun (strike : Result Plan Refusal) (old new : Option (List ℕ)) (n
   pub short : n < length (strike_text plan glyphs)
   pub written : Appends old new (take n (strike_text plan glyphs))
 
--- memory was wanted: nothing was written, or the strike is there and a beginning of its text was written
-abbrev pub Memory : Result Plan Refusal → Option (List ℕ) → Option (List ℕ) → Type 0
-Memory strike old new = Keeps old new ⊎ ((n : ℕ) × Begun strike old new n)
+-- memory was wanted: nothing was written, or the strike is there and a beginning of its text was written; the writer counted no fault
+pub record Memory (strike : Result Plan Refusal) (old new : Option (List ℕ)) (calm after : ℕ) : Type 0 where
+  pub begun : Keeps old new ⊎ ((n : ℕ) × Begun strike old new n)
+  pub quiet : after ≡ calm
 
--- the writer failed: the strike is there, exactly the first n bytes of its text were written, and the writer counted a fault
+-- memory is wanted late: after a request passed its checks, and its font and character map opened
+abbrev pub Late : Opening → Type 0
+Late opening = IsOk opening
+
+-- the writer failed: the strike is there, exactly the first n bytes of its text were written, and the writer counted one fault
 pub record Writer (strike : Result Plan Refusal) (old new : Option (List ℕ)) (calm after n : ℕ) : Type 0 where
   pub begun : Begun strike old new n
-  pub fault : calm < after
+  pub fault : after ≡ calm + 1
 
 -- each refusal but want of memory and a fault of the writer has to name a cause
 abbrev pub HasToName : Refusal → Type 0
@@ -74,8 +85,8 @@ HasToName (WriteFailed n) = ⊥
 HasToName _ = Unit {0}
 
 -- all of it, by the answer
-abbrev pub Leaves : Result Plan Refusal → Option (List ℕ) → Option (List ℕ) → ℕ → ℕ → Result Report Refusal → Type 0
-Leaves strike old new calm after (Ok report) = Text strike old new report
-Leaves strike old new calm after (Err OutOfMemory) = Memory strike old new
-Leaves strike old new calm after (Err (WriteFailed n)) = Writer strike old new calm after n
-Leaves strike old new calm after (Err refusal) = Cause strike old new refusal
+abbrev pub Leaves : Opening → Result Plan Refusal → Option (List ℕ) → Option (List ℕ) → ℕ → ℕ → Result Report Refusal → Type 0
+Leaves opening strike old new calm after (Ok report) = Text strike old new calm after report
+Leaves opening strike old new calm after (Err OutOfMemory) = Late opening × Memory strike old new calm after
+Leaves opening strike old new calm after (Err (WriteFailed n)) = Writer strike old new calm after n
+Leaves opening strike old new calm after (Err refusal) = Cause strike old new calm after refusal

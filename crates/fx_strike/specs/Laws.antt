@@ -11,6 +11,12 @@ GlyphIsOne = (sketch : Sketch) (g h : Glyph) → IsGlyphOf sketch g → IsGlyphO
 abbrev pub TextIsOne : Type 0
 TextIsOne = (plan : Plan) (gs hs : List Glyph) → AreGlyphsOf plan.sketches gs → AreGlyphsOf plan.sketches hs → strike_text plan gs ≡ strike_text plan hs
 
+-- a strike has its glyphs: where no cause stands against it there is one, whatever memory there is
+abbrev pub StrikeExists : Type 0
+StrikeExists =
+    (file : List ℕ) (ppem : ℕ) (name chars : List ℕ) (hinting : Bool) (plan : Plan)
+    → plan_of file ppem name chars hinting ≡ Ok plan → (gs : List Glyph) × AreGlyphsOf plan.sketches gs
+
 -- a character's part depends on the font, the size, hinting and its code point alone: it is the same in all strikes of those
 abbrev pub PartIsOne : Type 0
 PartIsOne =

@@ -1,6 +1,6 @@
 -- The programs of a font, and what a call that lists one leaves. `old` and `new` are the writer's bytes before and after, where
 -- they are known; `calm` and `after` its faults.
-use Rattle.std.specs.Prelude.{◌≡◌, ℕ, ◌<◌, List, [], codes, length, take, Option, Result, Ok, Err}
+use Rattle.std.specs.Prelude.{◌≡◌, ℕ, ◌+◌, ◌<◌, List, [], codes, length, take, Option, Result, Ok, Err}
 use Rattle.std.specs.Io.KnownBytes.{Appends, Keeps}
 use Rattle.fx_fixed.specs.Chain.{◌>>=◌, map_fault}
 use Rattle.fx_sfnt.specs.Tables.{Face, font_of, table_or_empty}
@@ -40,24 +40,26 @@ program_of file what = do
 
 -- ---- their listing
 
--- the program is there, and its listing was written
-pub record IsListed (program : Result (List ℕ) Refusal) (old new : Option (List ℕ)) : Type 0 where
+-- the program is there, its listing was written, and the writer counted no fault
+pub record IsListed (program : Result (List ℕ) Refusal) (old new : Option (List ℕ)) (calm after : ℕ) : Type 0 where
   pub code : List ℕ
   pub is : program ≡ Ok code
   pub written : Appends old new (listing_text code)
+  pub quiet : after ≡ calm
 
--- the first cause was named, and nothing was written
-pub record IsNotListed (program : Result (List ℕ) Refusal) (old new : Option (List ℕ)) (refusal : Refusal) : Type 0 where
+-- the first cause was named, nothing was written, and the writer counted no fault
+pub record IsNotListed (program : Result (List ℕ) Refusal) (old new : Option (List ℕ)) (calm after : ℕ) (refusal : Refusal) : Type 0 where
   pub first : program ≡ Err refusal
   pub kept : Keeps old new
+  pub quiet : after ≡ calm
 
--- the writer failed: the program is there, exactly the first n bytes of its listing were written, and the writer counted a fault
+-- the writer failed: the program is there, exactly the first n bytes of its listing were written, and the writer counted one fault
 pub record IsListedTo (program : Result (List ℕ) Refusal) (old new : Option (List ℕ)) (calm after n : ℕ) : Type 0 where
   pub code : List ℕ
   pub is : program ≡ Ok code
   pub short : n < length (listing_text code)
   pub written : Appends old new (take n (listing_text code))
-  pub fault : calm < after
+  pub fault : after ≡ calm + 1
 
 -- a refusal other than a fault of the writer
 abbrev pub IsNoFault : Refusal → Type 0
@@ -66,6 +68,6 @@ IsNoFault _ = Unit {0}
 
 -- all of it, by the answer
 abbrev pub Lists : Result (List ℕ) Refusal → Option (List ℕ) → Option (List ℕ) → ℕ → ℕ → Result (Unit {0}) Refusal → Type 0
-Lists program old new calm after (Ok _) = IsListed program old new
+Lists program old new calm after (Ok _) = IsListed program old new calm after
 Lists program old new calm after (Err (WriteFailed n)) = IsListedTo program old new calm after n
-Lists program old new calm after (Err refusal) = IsNotListed program old new refusal
+Lists program old new calm after (Err refusal) = IsNotListed program old new calm after refusal

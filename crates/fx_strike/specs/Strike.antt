@@ -85,12 +85,21 @@ checked ppem name chars hinting = do
   _ ← refuse (not (is_name name)) BadName
   refuse hinting NotBuilt
 
--- the strike of a font file, a size, a name and characters, or the first cause why there is none
-unfoldable pub plan_of : List ℕ → ℕ → List ℕ → List ℕ → Bool → Result Plan Refusal
-plan_of file ppem name chars hinting = do
+-- an opened font with its character map, or the first cause why there is none
+abbrev pub Opening : Type 0
+Opening = Result (Face × Segments) Refusal
+
+-- what takes no memory: the request passes its checks, the font opens and its character map does; or the first cause
+unfoldable pub opened_of : List ℕ → ℕ → List ℕ → List ℕ → Bool → Opening
+opened_of file ppem name chars hinting = do
   _ ← checked ppem name chars hinting
   face ← map_fault of_font (font_of file)
   segments ← map_fault of_char_map (map_of_file face.file)
+  Ok (face, segments)
+
+-- the strike of an opened font, a size, a name and characters, or the first cause why there is none
+unfoldable pub plan_in : Face → Segments → ℕ → List ℕ → List ℕ → Result Plan Refusal
+plan_in face segments ppem name chars = do
   sketches ← sketches_of face segments ppem (rising chars)
   Ok (record {
     name = name;
@@ -100,6 +109,12 @@ plan_of file ppem name chars hinting = do
     sketches = sketches;
     missing = count_by (is_missing segments) (rising chars);
   })
+
+-- the strike of a font file, a size, a name and characters, or the first cause why there is none
+unfoldable pub plan_of : List ℕ → ℕ → List ℕ → List ℕ → Bool → Result Plan Refusal
+plan_of file ppem name chars hinting = do
+  opened ← opened_of file ppem name chars hinting
+  plan_in opened.0 opened.1 ppem name chars
 
 -- ---- its bits and its text
 

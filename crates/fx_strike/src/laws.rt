@@ -1,6 +1,6 @@
 //! What the definitions imply.
 ghost use Rattle.fx_strike.specs.Characters.{RisingAreRisen, RisenIsOne};
-ghost use Rattle.fx_strike.specs.Laws.{GlyphIsOne, TextIsOne, PartIsOne};
+ghost use Rattle.fx_strike.specs.Laws.{GlyphIsOne, TextIsOne, StrikeExists, PartIsOne};
 
 /// The code points in rising order rise, and are those that are asked for; no other list is so.
 pub fn rising()
@@ -15,6 +15,11 @@ pub fn text()
 {
     fx_bdf::laws::trimmed();
 }
+
+/// Where no cause stands against a strike, there are glyphs of its sketches.
+pub fn exists()
+    ensures { StrikeExists }
+{}
 
 /// A character's part depends on the font, the size, hinting and its code point alone.
 pub fn part()

@@ -82,11 +82,12 @@ fn list<W: Sink>(font: &[u8], what: Which, out: &mut W) -> Result<(), Refusal>
 /// After `WriteFailed` the writer holds the first so many bytes of the listing. No memory is taken.
 pub fn listing_of<W: Sink>(font: &[u8], what: Which, out: &mut W) -> Result<(), Refusal>
     requires { W.fault_count out.old < 2 ^ 63 }
-    // The program is there, and its listing was written.
-    ensures text { IfOk result (λ _. IsListed (program_of font.now what) (W.held out.old) (W.held out.new)) }
-    // The first cause was named, and nothing was written.
-    ensures cause { IfErr result (λ refusal. IsNoFault refusal → IsNotListed (program_of font.now what) (W.held out.old) (W.held out.new) refusal) }
-    // The program is there, exactly the first n bytes of its listing were written, and the writer counted a fault.
+    // The program is there, its listing was written, and the writer counted no fault.
+    ensures text { IfOk result (λ _. IsListed (program_of font.now what) (W.held out.old) (W.held out.new) (W.fault_count out.old) (W.fault_count out.new)) }
+    // The first cause was named, nothing was written, and the writer counted no fault.
+    ensures cause { IfErr result (λ refusal. IsNoFault refusal →
+        IsNotListed (program_of font.now what) (W.held out.old) (W.held out.new) (W.fault_count out.old) (W.fault_count out.new) refusal) }
+    // The program is there, exactly the first n bytes of its listing were written, and the writer counted one fault.
     ensures writer { (n : ℕ) → IsErrOf result (Refusal.WriteFailed n) →
         IsListedTo (program_of font.now what) (W.held out.old) (W.held out.new) (W.fault_count out.old) (W.fault_count out.new) n }
 {

@@ -2,9 +2,9 @@
 ghost use Rattle.std.specs.Prelude.{◌≡◌, ◌≤◌, ◌<◌, ◌^◌, ◌||◌, ◌++◌, ℕ, unsigned_abs, false, nat_lt, length, IfOk, IfErr, OnOk, IsErrOf};
 ghost use Rattle.std.specs.List.{list_any};
 ghost use Rattle.fx_bdf.specs.Text.{IsName, header_text, end_text};
-ghost use Rattle.fx_strike.specs.Strike.{checked, pixels};
-ghost use Rattle.fx_strike.specs.Gathering.{heading_of, Finishes, Makes};
-ghost use Rattle.fx_strike.specs.Headline.{Text, Cause, Memory, Writer, HasToName, Leaves, strike_of};
+ghost use Rattle.fx_strike.specs.Strike.{checked, pixels, plan_in};
+ghost use Rattle.fx_strike.specs.Gathering.{IsChecked, heading_of, Finishes, Makes};
+ghost use Rattle.fx_strike.specs.Headline.{Text, Cause, Memory, Late, Writer, IsCause, HasToName, Leaves, opening_of, strike_of};
 
 use crate::characters::rising_codes;
 use crate::draft::Draft;
@@ -39,11 +39,8 @@ fn are_bad(chars: &[u32]) -> bool
 #[tactic(auto, unfolding(crate::specs::Strike::checked))]
 fn check(request: &Request<'_>) -> Result<(), Refusal>
     ensures due { result ≡ checked request.now.ppem request.now.name.now request.now.chars.now request.now.hinting }
-    ensures low { OnOk result (1 ≤ request.now.ppem) }
-    ensures high { OnOk result (request.now.ppem ≤ 255) }
-    ensures few { OnOk result (length request.now.chars.now ≤ 65536) }
-    ensures small { OnOk result (list_any (nat_lt 65535) request.now.chars.now ≡ false) }
-    ensures name { OnOk result (IsName request.now.name.now) }
+    ensures named { IfErr result IsCause }
+    ensures passed { OnOk result (IsChecked request.now) }
 {
     if request.ppem == 0 || request.ppem > 255 {
         return Err(Refusal::BadSize);
@@ -56,6 +53,19 @@ fn check(request: &Request<'_>) -> Result<(), Refusal>
         return Err(Refusal::NotBuilt);
     }
     Ok(())
+}
+
+// The font and its character map, for a request that passes its checks. No memory is taken.
+#[tactic(auto, unfolding(crate::specs::Strike::opened_of))]
+fn open<'a>(file: &'a [u8], request: &Request<'_>) -> Result<(Font<'a>, CharMap<'a>), Refusal>
+    ensures due { result ≡ opening_of file.now request.now }
+    ensures named { IfErr result IsCause }
+    ensures passed { OnOk result (IsChecked request.now) }
+{
+    check(request)?;
+    let font = Font::open(file)?;
+    let map = CharMap::open(&font)?;
+    Ok((font, map))
 }
 
 // FUnits in whole pixels.
@@ -128,23 +138,35 @@ fn finish(alloc: Global, name: &str, header: &Header, gathered: Gathered) -> Res
     Ok(Made { head, body, report })
 }
 
+// All that is made of an opened font before the first byte is written.
+fn make_opened<S: Scan>(
+    alloc: Global,
+    scan: &S,
+    font: &Font<'_>,
+    map: &CharMap<'_>,
+    request: &Request<'_>,
+) -> Result<Made, Refusal>
+    requires { IsChecked request.now }
+    ensures { Makes (plan_in font.now map.now request.now.ppem request.now.name.now request.now.chars.now) result }
+{
+    let codes = rising_codes(alloc, request.chars)?;
+    let gathered = gather(alloc, scan, font, map, request.ppem, &codes)?;
+    let header = heading(font, request.ppem, &gathered);
+    finish(alloc, request.name, &header, gathered)
+}
+
 // All that is made before the first byte is written.
-#[tactic(auto, unfolding(crate::specs::Strike::plan_of))]
 fn make_texts<S: Scan>(
     alloc: Global,
     scan: &S,
     file: &[u8],
     request: &Request<'_>,
 ) -> Result<Made, Refusal>
-    ensures { Makes (strike_of file.now request.now) result }
+    ensures made { Makes (strike_of file.now request.now) result }
+    ensures late { IsErrOf result Refusal.OutOfMemory → Late (opening_of file.now request.now) }
 {
-    check(request)?;
-    let font = Font::open(file)?;
-    let map = CharMap::open(&font)?;
-    let codes = rising_codes(alloc, request.chars)?;
-    let gathered = gather(alloc, scan, &font, &map, request.ppem, &codes)?;
-    let header = heading(&font, request.ppem, &gathered);
-    finish(alloc, request.name, &header, gathered)
+    let (font, map) = open(file, request)?;
+    make_opened(alloc, scan, &font, &map, request)
 }
 
 fn make_all<S: Scan, W: Sink>(
@@ -155,7 +177,7 @@ fn make_all<S: Scan, W: Sink>(
     out: &mut W,
 ) -> Result<Report, Refusal>
     requires { W.fault_count out.old < 2 ^ 63 }
-    ensures { Leaves (strike_of font.now request.now) (W.held out.old) (W.held out.new) (W.fault_count out.old) (W.fault_count out.new) result }
+    ensures { Leaves (opening_of font.now request.now) (strike_of font.now request.now) (W.held out.old) (W.held out.new) (W.fault_count out.old) (W.fault_count out.new) result }
 {
     let made = make_texts(alloc, scan, font, request)?;
     put_all(
@@ -169,7 +191,7 @@ fn make_all<S: Scan, W: Sink>(
 ///
 /// Nothing is written before the whole text is made. The first cause is answered, in this order: the size, the characters, the
 /// name, hinting; the font's tables, its character map; then the characters in rising order, each by its outline, then how far
-/// out it lies and how large it is. `OutOfMemory` may come in place of any step behind the character map. After `WriteFailed`
+/// out it lies and how large it is. `OutOfMemory` may come in place of any step behind the character map, and of none before it. After `WriteFailed`
 /// the writer holds the first so many bytes of the text, and after any other refusal nothing was written.
 pub fn make_strike_with<S: Scan, W: Sink>(
     alloc: Global,
@@ -179,13 +201,17 @@ pub fn make_strike_with<S: Scan, W: Sink>(
     out: &mut W,
 ) -> Result<Report, Refusal>
     requires { W.fault_count out.old < 2 ^ 63 }
-    // The strike is there, and its text was written.
-    ensures text { IfOk result (Text (strike_of font.now request.now) (W.held out.old) (W.held out.new)) }
-    // The first cause was named, and nothing was written.
-    ensures cause { IfErr result (λ refusal. HasToName refusal → Cause (strike_of font.now request.now) (W.held out.old) (W.held out.new) refusal) }
-    // Nothing was written, or the strike is there and a beginning of its text was written.
-    ensures memory { IsErrOf result Refusal.OutOfMemory → Memory (strike_of font.now request.now) (W.held out.old) (W.held out.new) }
-    // The strike is there, exactly the first n bytes of its text were written, and the writer counted a fault.
+    // The strike is there, its text was written, and the writer counted no fault.
+    ensures text { IfOk result (Text (strike_of font.now request.now) (W.held out.old) (W.held out.new) (W.fault_count out.old) (W.fault_count out.new)) }
+    // The first cause was named, nothing was written, and the writer counted no fault.
+    ensures cause { IfErr result (λ refusal. HasToName refusal →
+        Cause (strike_of font.now request.now) (W.held out.old) (W.held out.new) (W.fault_count out.old) (W.fault_count out.new) refusal) }
+    // Nothing was written, or the strike is there and a beginning of its text was written; and the writer counted no fault.
+    ensures memory { IsErrOf result Refusal.OutOfMemory →
+        Memory (strike_of font.now request.now) (W.held out.old) (W.held out.new) (W.fault_count out.old) (W.fault_count out.new) }
+    // The request passed its checks, and the font and its character map opened.
+    ensures late { IsErrOf result Refusal.OutOfMemory → Late (opening_of font.now request.now) }
+    // The strike is there, exactly the first n bytes of its text were written, and the writer counted one fault.
     ensures writer { (n : ℕ) → IsErrOf result (Refusal.WriteFailed n) →
         Writer (strike_of font.now request.now) (W.held out.old) (W.held out.new) (W.fault_count out.old) (W.fault_count out.new) n }
 {
@@ -202,13 +228,17 @@ pub fn make_strike<W: Sink>(
     out: &mut W,
 ) -> Result<Report, Refusal>
     requires { W.fault_count out.old < 2 ^ 63 }
-    // The strike is there, and its text was written.
-    ensures text { IfOk result (Text (strike_of font.now request.now) (W.held out.old) (W.held out.new)) }
-    // The first cause was named, and nothing was written.
-    ensures cause { IfErr result (λ refusal. HasToName refusal → Cause (strike_of font.now request.now) (W.held out.old) (W.held out.new) refusal) }
-    // Nothing was written, or the strike is there and a beginning of its text was written.
-    ensures memory { IsErrOf result Refusal.OutOfMemory → Memory (strike_of font.now request.now) (W.held out.old) (W.held out.new) }
-    // The strike is there, exactly the first n bytes of its text were written, and the writer counted a fault.
+    // The strike is there, its text was written, and the writer counted no fault.
+    ensures text { IfOk result (Text (strike_of font.now request.now) (W.held out.old) (W.held out.new) (W.fault_count out.old) (W.fault_count out.new)) }
+    // The first cause was named, nothing was written, and the writer counted no fault.
+    ensures cause { IfErr result (λ refusal. HasToName refusal →
+        Cause (strike_of font.now request.now) (W.held out.old) (W.held out.new) (W.fault_count out.old) (W.fault_count out.new) refusal) }
+    // Nothing was written, or the strike is there and a beginning of its text was written; and the writer counted no fault.
+    ensures memory { IsErrOf result Refusal.OutOfMemory →
+        Memory (strike_of font.now request.now) (W.held out.old) (W.held out.new) (W.fault_count out.old) (W.fault_count out.new) }
+    // The request passed its checks, and the font and its character map opened.
+    ensures late { IsErrOf result Refusal.OutOfMemory → Late (opening_of font.now request.now) }
+    // The strike is there, exactly the first n bytes of its text were written, and the writer counted one fault.
     ensures writer { (n : ℕ) → IsErrOf result (Refusal.WriteFailed n) →
         Writer (strike_of font.now request.now) (W.held out.old) (W.held out.new) (W.fault_count out.old) (W.fault_count out.new) n }
 {

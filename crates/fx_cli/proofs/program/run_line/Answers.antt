@@ -7,7 +7,7 @@ use Rattle.std.proofs.lemmas.Bool.{eqb-false}
 use Rattle.fx_cli.specs.Input.{line_of, words_of_line}
 use Rattle.fx_cli.specs.Words.{seen, wish_of_words}
 use Rattle.fx_cli.specs.Runs.{Change, Word, called}
-use Rattle.fx_cli.proofs.FirstLines.{few_words, is_usage, keeps_same, length-line_of, line_ends, line_read, unread}
+use Rattle.fx_cli.proofs.FirstLines.{few_words, is_usage, for_line, keeps_same, length-line_of, line_ends, line_read, unread}
 use Rattle.fx_cli.proofs.program.run_line.Goals as goal
 
 pub returns-in_default : goal.returns-in_default
@@ -21,13 +21,16 @@ returns-in_default g c =
       read = c.in_ok-filled.ensures.read;
       kept = keeps_same (g.O.Sink.held c.args.out.now);
       calm = refl;
-      reason = is_usage given first (g.R.Source.left c.read_line.new.reader) (few_words c.args.words.now c.requires.given) (inr (
-        line_read first (g.R.Source.left c.read_line.new.reader) (elim c.in_ok-filled.ensures.whole [
-          | inl h ↦ inl (omega (arith, h, all, c.in_ok-filled.ensures.line))
-          | inr h ↦ inr h
-        ]),
-        inl (subst P c.cut_line.ensures.line c.in_default.ensures.cases.0),
-      ));
+      reason = (
+        is_usage given first (g.R.Source.left c.read_line.new.reader) (few_words c.args.words.now c.requires.given) (inr (
+          line_read first (g.R.Source.left c.read_line.new.reader) (elim c.in_ok-filled.ensures.whole [
+            | inl h ↦ inl (omega (arith, h, all, c.in_ok-filled.ensures.line))
+            | inr h ↦ inr h
+          ]),
+          inl (subst P c.cut_line.ensures.line c.in_default.ensures.cases.0),
+        )),
+        for_line given first _ (few_words c.args.words.now c.requires.given) (omega (arith, all, c.in_ok-filled.ensures.sizes.1)) c.in_ok-filled.ensures.calm,
+      );
     }
 
 pub returns-in_err-wish : goal.returns-in_err-wish
@@ -39,7 +42,7 @@ returns-in_err-wish g c =
     let words_are : map (λ (word : Bor (List ℕ)). word.now) c.deref.result.now ≡ called given ∷ words_of_line (line_of first)
     = ap (map (λ (word : Bor (List ℕ)). word.now)) c.deref.ensures.value ∙ c.in_ok-words.ensures ∙ ap₂ (λ (p l : List ℕ). p ∷ words_of_line l) c.program_name.ensures line_is in
     let p = err_from_is_err_and c.from_residual-in_err-wish.result c.from_residual-in_err-wish.ensures.1 in
-    rw (p.1, p.2) (unread given _ first c.in_err-wish.field-0.0 (few_words c.args.words.now c.requires.given) c.in_ok-filled.ensures.read (keeps_same (g.O.Sink.held c.args.out.now)) refl (elim c.in_err-wish.ensures.fault [
+    rw (p.1, p.2) (unread given _ first c.in_err-wish.field-0.0 (few_words c.args.words.now c.requires.given) (omega (arith, all, c.in_ok-filled.ensures.sizes.1)) c.in_ok-filled.ensures.calm c.in_ok-filled.ensures.read (keeps_same (g.O.Sink.held c.args.out.now)) refl (elim c.in_err-wish.ensures.fault [
       | inl e ↦ inl e
       | inr (e, none) ↦ inr (
         e,
@@ -74,6 +77,7 @@ returns g c =
     (record {
       none = few_words c.args.words.now c.requires.given;
       read = c.in_ok-filled.ensures.read;
+      room = omega (arith, all, c.in_ok-filled.ensures.sizes.1);
       found = λ e. let apart = eqb-false c.in_ok-filled.end c.in_ok-filled.filled e in omega (arith, all, c.in_ok-filled.ensures.line, c.in_ok-filled.ensures.sizes.0, apart);
       size = prefix_len-le-length (λ b. not (b == 10)) first;
       utf8 = subst IsUtf8 c.cut_line.ensures.line c.in-Ok.ensures.cases.1;

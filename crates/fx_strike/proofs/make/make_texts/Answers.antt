@@ -1,34 +1,14 @@
-use Rattle.std.proofs.Common.{◌∙◌, nat_lt}
 use Rattle.std.proofs.lemmas.Result.{err_from_is_err_and}
-use Rattle.fx_strike.proofs.Rising.{few_rising, small_rising}
-use Rattle.fx_strike.proofs.Making.{unchecked, unmapped, ungathered, finished}
+use Rattle.fx_strike.proofs.Making.{unopened, opened}
 use Rattle.fx_strike.proofs.make.make_texts.Goals as goal
 
-pub returns-in_err-check : goal.returns-in_err-check
-returns-in_err-check g c =
+pub returns-in_err-font-clause-made : goal.returns-in_err-font-clause-made
+returns-in_err-font-clause-made g c =
     let p = err_from_is_err_and c.from_residual.result c.from_residual.ensures.1 in
-    unchecked c.args.file.now c.args.request.now.ppem c.args.request.now.name.now c.args.request.now.chars.now c.args.request.now.hinting c.from_residual.result p.0 c.in_err-check.field-0.0 p.1 p.2 (c.in_err-check.ensures).due
+    unopened c.args.file.now c.args.request.now.ppem c.args.request.now.name.now c.args.request.now.chars.now c.args.request.now.hinting c.from_residual.result p.0 c.in_err-font.field-0.0 p.1 p.2
+    (c.in_err-font.ensures).due (c.in_err-font.ensures).named
 
-pub returns-in_err-map : goal.returns-in_err-map
-returns-in_err-map g c =
-    let p = err_from_is_err_and c.from_residual-in_err-map.result c.from_residual-in_err-map.ensures.1 in
-    unmapped c.args.file.now c.args.request.now.ppem c.args.request.now.name.now c.args.request.now.chars.now c.args.request.now.hinting c.in_ok-font.font c.in_err-map.field-0.0 c.from_residual-in_err-map.result p.0 p.1 p.2
-    (c.in_ok-check.ensures).due c.in_ok-font.ensures c.in_err-map.ensures
-
-pub gather-requires-clause-few : goal.gather-requires-clause-few
-gather-requires-clause-few g c = few_rising c.args.request.now.chars.now c.deref.result.now (c.deref.ensures.value ∙ c.in_ok-codes.ensures) (c.in_ok-check.ensures).few
-
-pub gather-requires-clause-small : goal.gather-requires-clause-small
-gather-requires-clause-small g c = small_rising (nat_lt 65535) c.args.request.now.chars.now c.deref.result.now (c.deref.ensures.value ∙ c.in_ok-codes.ensures) (c.in_ok-check.ensures).small
-
-pub returns-in_err-gathered : goal.returns-in_err-gathered
-returns-in_err-gathered g c =
-    let p = err_from_is_err_and c.from_residual-in_err-gathered.result c.from_residual-in_err-gathered.ensures.1 in
-    ungathered c.args.file.now c.args.request.now.ppem c.args.request.now.name.now c.args.request.now.chars.now c.args.request.now.hinting c.in_ok-font.font c.in_ok-map.map c.deref.result.now
-    c.from_residual-in_err-gathered.result p.0 c.in_err-gathered.field-0.0 p.1 p.2
-    (c.in_ok-check.ensures).due c.in_ok-font.ensures c.in_ok-map.ensures (c.deref.ensures.value ∙ c.in_ok-codes.ensures) c.in_err-gathered.ensures
-
-pub returns : goal.returns
-returns g c =
-    finished c.args.file.now c.args.request.now.ppem c.args.request.now.name.now c.args.request.now.chars.now c.args.request.now.hinting c.in_ok-font.font c.in_ok-map.map c.deref.result.now c.in_ok-gathered.gathered c.heading-header.result c.finish.result
-    (c.in_ok-check.ensures).due c.in_ok-font.ensures c.in_ok-map.ensures (c.deref.ensures.value ∙ c.in_ok-codes.ensures) c.in_ok-gathered.ensures c.heading-header.ensures c.finish.ensures.ok c.finish.ensures.err
+pub returns-clause-made : goal.returns-clause-made
+returns-clause-made g c =
+    opened c.args.file.now c.args.request.now.ppem c.args.request.now.name.now c.args.request.now.chars.now c.args.request.now.hinting c.in_ok-font.font c.in_ok-font.map c.make_opened.result
+    (c.in_ok-font.ensures).due c.make_opened.ensures

@@ -1,0 +1,92 @@
+-- Whether a place is covered can be decided by a test.
+-- Serves the law that a strike exists, with Existing.
+use Rattle.std.proofs.Common.{◌≡◌, refl, sym, subst, inl, inr, ◌⊎◌, zero, suc, ℤ, pos, ◌-ℤ◌, ◌*ℤ◌, ◌+ℤ◌, ◌≤ℤ◌, ◌<ℤ◌, int_le, int_lt, Bool, false, not, ◌&&◌, ◌||◌, List, [], ◌∷◌, Option, Some, None, Any, Decides, arith}
+use Rattle.std.specs.Ordering.{int_eq}
+use Rattle.std.proofs.lemmas.Int.{ints}
+use Rattle.std.proofs.lemmas.Bool.Decides.{Decides-like, Decides-and, Decides-or, Decides-not, Decides-int_eq}
+use Rattle.fx_contour.proofs.Decided.{le_decides}
+use Rattle.fx_winding.specs.Area.{Place, area, gap_of}
+use Rattle.fx_winding.specs.Winding.{Span, weight_a, weight_b, weight_c, IsBetween, IsOnLine, AreOnArc, IsOnCurve, IsBeforeTurn, IsInRange, IsOnFlatArc, IsOnPart, IsOn, winding, IsCovered}
+
+-- a test that decides
+abbrev pub Test : Type 0 → Type 0
+Test P = (t : Bool) × Decides t P
+
+both : {P Q : Type 0} → Test P → Test Q → Test (P × Q)
+both p q = (p.0 && q.0, Decides-and p.0 q.0 p.1 q.1)
+
+one : {P Q : Type 0} → Test P → Test Q → Test (P ⊎ Q)
+one p q = (p.0 || q.0, Decides-or p.0 q.0 p.1 q.1)
+
+none : {P : Type 0} → Test P → Test (¬ P)
+none p = (not p.0, Decides-not p.0 p.1)
+
+like : {P Q : Type 0} → (P → Q) → (Q → P) → Test P → Test Q
+like f g p = (p.0, Decides-like p.0 f g p.1)
+
+three : {P Q R : Type 0} → Test P → Test Q → Test R → Test (P × Q × R)
+three p q r = like (λ h. (h.0, h.1.0, h.1.1)) (λ h. (h.0, (h.1, h.2))) (both p (both q r))
+
+le : (x y : ℤ) → Test (x ≤ℤ y)
+le x y = (int_le x y, le_decides x y)
+
+lt : (x y : ℤ) → Test (x <ℤ y)
+lt x y = (int_lt x y, (λ t. omega (arith, ints), λ h. sym (omega (arith, ints))))
+
+eq : (x y : ℤ) → Test (x ≡ y)
+eq x y = (int_eq x y, Decides-int_eq x y)
+
+between : (a c p : ℤ) → Test (IsBetween a c p)
+between a c p = one (both (le a p) (le p c)) (both (le c p) (le p a))
+
+on_line : (a c p : Place) → Test (IsOnLine a c p)
+on_line a c p =
+    like (λ h. record { collinear = h.0; between_x = h.1.0; between_y = h.1.1 }) (λ h. (h.collinear, (h.between_x, h.between_y)))
+    (both (eq (area a c p) (pos 0)) (both (between a.x c.x p.x) (between a.y c.y p.y)))
+
+on_arc : (u v w : ℤ) → Test (AreOnArc u v w)
+on_arc u v w = like (λ h. (h.0, h.1, h.2.0, h.2.1)) (λ h. (h.0, h.1, (h.2, h.3))) (three (le (pos 0) u) (le (pos 0) v) (both (le (pos 0) w) (eq (gap_of u v w) (pos 0))))
+
+on_curve : (a b c p : Place) → Test (IsOnCurve a b c p)
+on_curve a b c p =
+    like (λ h. record { bent = h.0; on_arc = h.1 }) (λ h. (h.bent, h.on_arc))
+    (both (none (eq (area a b c) (pos 0))) (on_arc (weight_a a b c p) (weight_b a b c p) (weight_c a b c p)))
+
+before_turn : (a b c p : ℤ) → Test (IsBeforeTurn a b c p)
+before_turn a b c p = le (a *ℤ c -ℤ b *ℤ b) (p *ℤ (a -ℤ pos 2 *ℤ b +ℤ c))
+
+in_range : (a b c p : ℤ) → Test (IsInRange a b c p)
+in_range a b c p =
+    like (λ h. record { low = h.0; high = h.1 }) (λ h. (h.low, h.high))
+    (both (one (le a p) (one (le c p) (three (lt b a) (lt b c) (before_turn a b c p))))
+    (one (le p a) (one (le p c) (three (lt a b) (lt c b) (before_turn a b c p)))))
+
+on_flat_arc : (a b c p : Place) → Test (IsOnFlatArc a b c p)
+on_flat_arc a b c p =
+    like (λ h. record { flat = h.0; with_ab = h.1.0; with_bc = h.1.1.0; with_ac = h.1.1.1.0; range_x = h.1.1.1.1.0; range_y = h.1.1.1.1.1 })
+    (λ h. (h.flat, (h.with_ab, (h.with_bc, (h.with_ac, (h.range_x, h.range_y))))))
+    (both (eq (area a b c) (pos 0)) (both (eq (area a b p) (pos 0)) (both (eq (area b c p) (pos 0)) (both (eq (area a c p) (pos 0))
+    (both (in_range a.x b.x c.x p.x) (in_range a.y b.y c.y p.y))))))
+
+on_part : (a : Place) (b : Option Place) (c p : Place) → Test (IsOnPart a b c p)
+on_part a None c p = on_line a c p
+on_part a (Some b) c p = one (on_curve a b c p) (on_flat_arc a b c p)
+
+any_first : {X : Type 0} (P : X → Type 0) (x : X) (xs : List X) → P x ⊎ Any P xs → Any P (x ∷ xs)
+any_first P x xs (inl h) = (0, x, omega arith, refl, h)
+any_first P x xs (inr (k, y, l, e, h)) = (suc k, y, omega arith, e, h)
+
+any_where : {X : Type 0} (P : X → Type 0) (x : X) (xs : List X) → Any P (x ∷ xs) → P x ⊎ Any P xs
+any_where P x xs (zero, y, l, e, h) = inl (subst P (sym e) h)
+any_where P x xs (suc k, y, l, e, h) = inr (k, y, omega arith, e, h)
+
+any_none : {X : Type 0} (P : X → Type 0) → Any P [] → ⊥
+any_none P (k, y, l, e, h) = absurd (omega arith)
+
+on_any : (p : Place) (ss : List Span) → Test (Any (IsOn p) ss)
+on_any p [] = (false, (λ e. absurd (cc), λ h. absurd (any_none (IsOn p) h)))
+on_any p (s ∷ ss) = like (any_first (IsOn p) s ss) (any_where (IsOn p) s ss) (one (on_part s.a s.b s.c p) (on_any p ss))
+
+pub covered : (p : Place) (ss : List Span) → Test (IsCovered p ss)
+unfolding IsCovered
+covered p ss = one (on_any p ss) (none (eq (winding p ss) (pos 0)))
