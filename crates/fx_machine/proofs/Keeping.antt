@@ -21,6 +21,7 @@ use Rattle.fx_pointops.specs.declared.distances.Relative.{Relative}
 use Rattle.fx_pointops.specs.declared.measure.Line.{Line}
 use Rattle.fx_pointops.specs.declared.zones.Zones.{Zones}
 use Rattle.fx_pointops.specs.Zones.{Outcome, HasShapes}
+use Rattle.fx_pointops.specs.Distances.{relative_of}
 use Rattle.fx_pointops.specs.Direct.{utp_of, alignrp_of, alignpts_of, scfs_of, shpix_of}
 use Rattle.fx_pointops.specs.Shift.{shp_of, shc_of}
 use Rattle.fx_pointops.specs.Interpolate.{ip_of}
@@ -46,7 +47,7 @@ use Rattle.fx_machine.specs.StateRows.{srp0_of, srp1_of, srp2_of, szp0_of, szp1_
 use Rattle.fx_machine.specs.StateRows.{sdb_of, sds_of, wcvtf_of, sround_of, s45round_of, instctrl_of}
 use Rattle.fx_machine.specs.PointRows.{points_by_one, points_by_two, loop_on, isect_row, alignpts_row, utp_row, mdap_row, iup_row, shp_row, shc_row, shz_row, shpix_row}
 use Rattle.fx_machine.specs.PointRows.{ip_row, msirp_row, alignrp_row, miap_row, gc_row, scfs_row, md_row, deltap_row, flippt_row, fliprg_row, mdrp_row, mirp_row}
-use Rattle.fx_machine.specs.Table.{row_0, row_1, row_2, row_3, row_4, row_5, row_6, row_7, row_8, plain_of, then_at, row_of, row_in, row_at, settled}
+use Rattle.fx_machine.specs.Table.{row_0, row_1, row_2, row_3, row_4, row_5, row_6, row_7, row_8, relative_row, plain_of, then_at, row_of, row_in, row_at, settled}
 use Rattle.fx_machine.specs.Actions.{acts}
 use Rattle.fx_machine.specs.Shapes.{HasSizes, FinishesAlike}
 
@@ -359,10 +360,14 @@ row_8_keeps : (op : ℕ) (s : State) → Plain s.zones (row_8 op s)
 unfolding row_8
 row_8_keeps op s = search (plain_if s.zones, store_keeps, flippt_row_keeps, fliprg_row_keeps, sdpvtl_keeps, instctrl_keeps) depth 40 fits 8000
 
+relative_keeps : (op : ℕ) (s : State) → Plain s.zones (relative_row op s)
+unfolding relative_row
+relative_keeps op s = plain_if s.zones (nat_le 0xE0 op) _ _ (mirp_row_keeps (relative_of op) s) (mdrp_row_keeps (relative_of op) s)
+
 plain_keeps : (op : ℕ) (s : State) → Plain s.zones (plain_of op s)
 unfolding plain_of
 plain_keeps op s =
-    search (plain_if s.zones, mirp_row_keeps, mdrp_row_keeps, row_0_keeps, row_1_keeps, row_2_keeps, row_3_keeps, row_4_keeps, row_5_keeps, row_6_keeps, row_7_keeps, row_8_keeps) depth 40 fits 8000
+    search (plain_if s.zones, row_0_keeps, row_1_keeps, row_2_keeps, row_3_keeps, row_4_keeps, row_5_keeps, row_6_keeps, row_7_keeps, row_8_keeps) depth 40 fits 8000
 
 -- ---- rows that may continue elsewhere
 
@@ -444,7 +449,7 @@ then_keeps next z (Err c) h = tt
 row_keeps : (op : ℕ) (bytes code : List ℕ) (w : Program) (address next : ℕ) (s : State) → Acts s.zones (row_of op bytes code w address next s)
 unfolding row_of
 row_keeps op bytes code w address next s =
-    search (acts_if s.zones, led_keeps, went_keeps, returned_keeps, then_keeps, store_keeps, plain_keeps, if_keeps, jmpr_keeps, jrot_keeps, jrof_keeps, call_keeps,
+    search (acts_if s.zones, led_keeps, went_keeps, returned_keeps, then_keeps, store_keeps, relative_keeps, plain_keeps, if_keeps, jmpr_keeps, jrot_keeps, jrof_keeps, call_keeps,
       loopcall_keeps, fdef_keeps, idef_keeps, undefined_keeps, shapes_same s.zones) depth 40 fits 8000
 
 -- ---- runs

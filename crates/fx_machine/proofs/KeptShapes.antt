@@ -23,5 +23,5 @@ keeps texts s (Exhausted w p) r h e = absurd (cc)
 pub glyphs_keep : (known : Known) (code : List ℕ) (glyph : Figure) (r : Ran × Figure) → glyph_ran known code glyph ≡ Ok r → HasShape glyph r.1
 unfolding glyph_ran glyph_answer
 glyphs_keep known code glyph r e =
-    let s = started known.prepared known.scale (room_of known.face.maxp.stack) glyph in
+    let s = started known.prepared known.scale (room_of known.face.maxp.max_stack_elements) glyph in
     keeps (texts_of known.face code) s _ r (runs_keep (texts_of known.face code) STEP_LIMIT Glyph s) e

@@ -50,7 +50,7 @@ controls_of face scale = control_values scale (table_or_empty face.file (codes "
 
 -- an empty stack, storage cells of 0, the control values
 abbrev pub first_store : Face → Scale → StoreView
-first_store face scale = record { stack = []; room = room_of face.maxp.stack; storage = replicate face.maxp.storage (pos 0); cvt = controls_of face scale; strays = 0 }
+first_store face scale = record { stack = []; room = room_of face.maxp.max_stack_elements; storage = replicate face.maxp.max_storage (pos 0); cvt = controls_of face scale; strays = 0 }
 
 -- the twilight zone: points at (0, 0), without contours
 abbrev pub twilight_of : ℕ → Figure
@@ -58,13 +58,13 @@ twilight_of n = record { points = replicate n (resting origin false); ends = [] 
 
 -- no function and no opcode is defined
 abbrev pub nothing_defined : Face → Defined
-nothing_defined face = record { functions = replicate (max face.maxp.functions 64) None; opcodes = replicate 256 None }
+nothing_defined face = record { functions = replicate (max face.maxp.max_function_defs 64) None; opcodes = replicate 256 None }
 
 -- the state that fpgm begins with
 abbrev pub first_state : Face → Scale → State
 first_state face scale = record {
   store = first_store face scale;
-  zones = record { twilight = twilight_of face.maxp.twilight_points; glyph = empty_figure };
+  zones = record { twilight = twilight_of face.maxp.max_twilight_points; glyph = empty_figure };
   graphics = default_state;
   definitions = nothing_defined face;
   flags = record { no_programs = false; default_state = false };
@@ -106,7 +106,7 @@ Fails fault due = due ≡ Err fault
 -- ---- what the program of a glyph answers on its points
 
 unfoldable pub glyph_ran : Known → List ℕ → Figure → Result (Ran × Figure) Halt
-glyph_ran known code glyph = glyph_answer (texts_of known.face code) known.prepared known.scale (room_of known.face.maxp.stack) STEP_LIMIT glyph
+glyph_ran known code glyph = glyph_answer (texts_of known.face code) known.prepared known.scale (room_of known.face.maxp.max_stack_elements) STEP_LIMIT glyph
 
 -- it keeps the number of points and the contours
 abbrev pub GlyphsKeepShape : Type 0

@@ -186,12 +186,14 @@ row_8 op s =
     else if op == 0x8D then on_store ignored_of s
     else instctrl_of s
 
--- by the high nibble; C0 to DF MDRP, E0 to FF MIRP
+-- C0 to DF MDRP, E0 to FF MIRP
+unfoldable pub relative_row : ℕ → State → Result State Cause
+relative_row op s = if nat_le 0xE0 op then mirp_row (relative_of op) s else mdrp_row (relative_of op) s
+
+-- by the high nibble
 unfoldable pub plain_of : ℕ → State → Result State Cause
 plain_of op s =
-    if nat_le 0xE0 op then mirp_row (relative_of op) s
-    else if nat_le 0xC0 op then mdrp_row (relative_of op) s
-    else if op / 16 == 0 then row_0 op s
+    if op / 16 == 0 then row_0 op s
     else if op / 16 == 1 then row_1 op s
     else if op / 16 == 2 then row_2 op s
     else if op / 16 == 3 then row_3 op s
@@ -221,6 +223,7 @@ then_at next r = do
 unfoldable pub row_of : ℕ → List ℕ → List ℕ → Program → ℕ → ℕ → State → Result (Action × State) Cause
 row_of op bytes code w address next s =
     if is_push op then then_at next (on_store (push_of (numbers op bytes)) s)
+    else if nat_le 0xC0 op then then_at next (relative_row op s)
     else if is_undefined op then undefined_of op next s
     else if op == IF then if_of code next s
     else if op == ELSE then led (past_of stops_at_else code next) s

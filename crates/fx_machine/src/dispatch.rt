@@ -3,7 +3,7 @@
 ghost use Rattle.std.specs.Prelude.{◌≡◌, OnErr, ◌+◌};
 ghost use Rattle.fx_machine.specs.Actions.{acts};
 ghost use Rattle.fx_machine.specs.Shapes.{HasSizes};
-ghost use Rattle.fx_machine.specs.Table.{row_here};
+ghost use Rattle.fx_machine.specs.Table.{relative_row, then_at, row_here};
 
 use crate::action::Action;
 use crate::halt::Cause;
@@ -15,6 +15,22 @@ use fx_gstate::{DeltaForm, RoundState};
 use fx_pointops::Relative;
 
 impl State {
+    /// MDRP and MIRP.
+    #[tactic(auto, unfolding(crate::specs::Table::relative_row))]
+    fn relative(&mut self, opcode: u8, next: usize) -> Result<Action, Cause>
+        ensures value { acts result self.new ≡ then_at next (relative_row opcode self.old) }
+        ensures kept { OnErr result (self.new.zones ≡ self.old.zones) }
+        ensures sizes { HasSizes self.old self.new }
+    {
+        let how = Relative::of(opcode);
+        if opcode >= 0xE0 {
+            self.mirp(how)?;
+        } else {
+            self.mdrp(how)?;
+        }
+        Ok(Action::Went(next))
+    }
+
     /// The row of the opcode at an address of a program: each instruction by its opcode, the ranges last.
     #[tactic(auto, unfolding(crate::specs::Table::row_here, crate::specs::Table::row_of, crate::specs::Table::plain_of, crate::specs::Table::row_0, crate::specs::Table::row_1, crate::specs::Table::row_2, crate::specs::Table::row_3, crate::specs::Table::row_4, crate::specs::Table::row_5, crate::specs::Table::row_6, crate::specs::Table::row_7, crate::specs::Table::row_8))]
     pub fn row(
@@ -136,8 +152,14 @@ impl State {
             0x65 => self.store.neg()?,
             0x66 => self.store.floor()?,
             0x67 => self.store.ceiling()?,
-            0x68..=0x6B => self.store.round(&self.graphics)?,
-            0x6C..=0x6F => self.store.nround()?,
+            0x68 => self.store.round(&self.graphics)?,
+            0x69 => self.store.round(&self.graphics)?,
+            0x6A => self.store.round(&self.graphics)?,
+            0x6B => self.store.round(&self.graphics)?,
+            0x6C => self.store.nround()?,
+            0x6D => self.store.nround()?,
+            0x6E => self.store.nround()?,
+            0x6F => self.store.nround()?,
             0x70 => self.wcvtf()?,
             0x71 => self.deltap(DeltaForm::Second)?,
             0x72 => self.deltap(DeltaForm::Third)?,
@@ -169,8 +191,7 @@ impl State {
             0x8C => self.store.min()?,
             0x8D => self.store.ignored()?,
             0x8E => self.instctrl()?,
-            0xC0..=0xDF => self.mdrp(Relative::of(opcode))?,
-            0xE0..=0xFF => self.mirp(Relative::of(opcode))?,
+            0xC0..=0xFF => return self.relative(opcode, next),
             NPUSHB | NPUSHW | 0xB0..=0xBF => return self.push(code, address),
             0x8F..=0xAF => return self.undefined(opcode, next),
         }

@@ -92,7 +92,7 @@ impl<'a> Model for Machine<'a> {
 
     ghost view = { λ m. record { face = m.font; scale = m.state.scale; prepared = m.prepared; prelude = m.prelude } };
 
-    ghost invariant = { λ m. (Fits m.prepared m.state) × (m.state.store.room ≡ room_of m.font.maxp.stack)
+    ghost invariant = { λ m. (Fits m.prepared m.state) × (m.state.store.room ≡ room_of m.font.maxp.max_stack_elements)
         × (m.font_program.now ≡ table_or_empty m.font.file (codes "fpgm")) × (m.prep.now ≡ table_or_empty m.font.file (codes "prep")) };
 }
 

@@ -65,7 +65,7 @@ fn first_store(alloc: Global, font: &Font<'_>, scale: &Scale) -> Result<Store, A
 {
     let maxp = font.maxp();
     let cvt = controls(alloc, font, scale)?;
-    Store::new(alloc, maxp.stack, maxp.storage, cvt)
+    Store::new(alloc, maxp.max_stack_elements, maxp.max_storage, cvt)
 }
 
 // The twilight zone of a font: its points at (0, 0), without contours.
@@ -81,7 +81,7 @@ fn twilight(alloc: Global, count: u16) -> Result<Zone, AllocError>
 fn nothing_defined(alloc: Global, font: &Font<'_>) -> Result<Definitions, AllocError>
     ensures { IfOk result (λ d. d ≡ nothing_defined font.now) }
 {
-    Definitions::new(alloc, usize::from(font.maxp().functions.max(64)))
+    Definitions::new(alloc, usize::from(font.maxp().max_function_defs.max(64)))
 }
 
 impl State {
@@ -90,7 +90,7 @@ impl State {
             ensures { IfOk result (λ s. s ≡ first_state font.now scale) }
     {
         let store = first_store(alloc, font, &scale)?;
-        let twilight = twilight(alloc, font.maxp().twilight_points)?;
+        let twilight = twilight(alloc, font.maxp().max_twilight_points)?;
         let definitions = nothing_defined(alloc, font)?;
         Ok(State {
             store,

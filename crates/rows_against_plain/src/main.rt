@@ -7,13 +7,12 @@
 //! differ.
 #![tactic(auto)]
 
-ghost use Rattle.std.specs.Prelude.{◌≤◌};
-
 mod random;
 
 use crate::random::Random;
 use anyhow::{Result, bail};
 use fx_contour::{frame, pieces};
+use fx_fixed::Ppem;
 use fx_hint::unhinted;
 use fx_rows::Rows;
 use fx_sfnt::Font;
@@ -84,12 +83,9 @@ fn random_outlines(alloc: Global, contours: u32, seed: u64) -> Result<Counts> {
 }
 
 /// Compares each glyph of a font that has an outline and a frame, at a size.
-fn glyphs(alloc: Global, font: &Font<'_>, ppem: u16) -> Result<Counts>
-    requires least { 1 ≤ ppem }
-    requires most { ppem ≤ 255 }
-{
+fn glyphs(alloc: Global, font: &Font<'_>, ppem: Ppem) -> Result<Counts> {
     let mut counts = Counts::NONE;
-    'glyphs: for glyph in 0..font.maxp().glyphs {
+    'glyphs: for glyph in 0..font.maxp().num_glyphs {
         let outline = unhinted(alloc, font, ppem, glyph)?;
         let pieces = pieces(alloc, &outline)?;
         if let Some(frame) = frame(&pieces)? {
@@ -113,8 +109,11 @@ fn report(rt: &HostRuntime, what: &str, counts: Counts) -> Result<()> {
 /// Compares the glyphs of a font at each size.
 fn font(rt: &HostRuntime, file: &[u8]) -> Result<()> {
     let font = Font::open(file)?;
-    'sizes: for ppem in [12, 16, 33, 128] {
-        let what = format!(in rt.alloc(); "at {ppem} pixels an em")?;
+    'sizes: for pixels in [12, 16, 33, 128] {
+        let Some(ppem) = Ppem::new(pixels) else {
+            bail!("{pixels} is no size");
+        };
+        let what = format!(in rt.alloc(); "at {pixels} pixels an em")?;
         report(rt, what.as_str(), glyphs(rt.alloc(), &font, ppem)?)?;
     }
     Ok(())
