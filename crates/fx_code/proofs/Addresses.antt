@@ -8,7 +8,9 @@ use Rattle.fx_code.specs.Listing.{addresses_from, addresses_of, AddressesAreOne,
 use Rattle.fx_code.proofs.Onward.{whole_or_not, past_end, Onward, here, on, member_onward, onward_above, next_above}
 
 pub addresses_are_one : AddressesAreOne
-addresses_are_one code xs ys f g = increasing_one xs ys f.rising g.rising (λ p m. (g.members p).1 ((f.members p).0 m)) (λ p m. (f.members p).1 ((g.members p).0 m))
+addresses_are_one code xs ys f g =
+    increasing_one xs ys f.rising g.rising (λ p m. (g.members p).1 ((f.members p).0 m))
+    (λ p m. (f.members p).1 ((g.members p).0 m))
 
 -- ---- the addresses from one on
 
@@ -69,6 +71,7 @@ addresses_of_are_addresses code = record {
   rising = rise_increasing (addresses_from (length code) code 0) (addresses_rising code (length code) 0);
   members = λ q. (
     λ m. addresses_member code (length code) 0 0 q first (contains_in q (addresses_from (length code) code 0) m),
-    λ x. in_contains q (addresses_from (length code) code 0) (addresses_all code (length code) (omega arith) (member_onward code x.0.1) x.1),
+    λ x. in_contains q (addresses_from (length code) code 0)
+        (addresses_all code (length code) (omega arith) (member_onward code x.0.1) x.1),
   );
 }

@@ -22,7 +22,8 @@ module _ (code : List ℕ) (from : ℕ) where
 
     here_first : (p n : ℕ) → Chain code from p n → Left p n → IsWhole code p → stops (opcode_at code p) n ≡ true → Found (Some p)
     unfolding Found Left
-    here_first p n c left w e = record { level = n; member = c; meets = (w, search (rules, e)); least = λ q l r m. onward_above code (left q l r m) }
+    here_first p n c left w e =
+        record { level = n; member = c; meets = (w, search (rules, e)); least = λ q l r m. onward_above code (left q l r m) }
 
     none_left : (p n : ℕ) → Left p n → ¬ (IsWhole code p) → Found None
     unfolding Found Left
@@ -46,7 +47,8 @@ module _ (code : List ℕ) (from : ℕ) where
     look (suc most) p n small c left = elim (cases_Bool (nat_le (next_address code p) (length code))) [
       | inl w ↦ elim (cases_Bool (stops (opcode_at code p) n)) [
         | inl e ↦ rw (w, e) (here_first p n c left (whole_here p w) e)
-        | inr e ↦ rw (w, e) (look most (next_address code p) (level_after (opcode_at code p) n) (let a = next_above code p in let b = leb-true _ _ w in omega arith) (next c (whole_here p w)) (left_on p n left e))
+        | inr e ↦ rw (w, e) (look most (next_address code p) (level_after (opcode_at code p) n)
+            (let a = next_above code p in let b = leb-true _ _ w in omega arith) (next c (whole_here p w)) (left_on p n left e))
       ]
       | inr w ↦ rw w (none_left p n left (cut_here p w))
     ]

@@ -29,7 +29,9 @@ module _ (code : List ℕ) where
   pub data_within : (p : ℕ) → p + 1 + length (data_at code p) ≤ next_address code p
   unfolding size_at
   data_within p =
-      let short = length-take (next_address code p - (p + head_len (opcode_at code p))) (drop (p + head_len (opcode_at code p)) code) in
+      let short =
+      length-take (next_address code p - (p + head_len (opcode_at code p))) (drop (p + head_len (opcode_at code p)) code)
+      in
       grind (arith, short)
 
   pub whole_inside : (p : ℕ) → IsWhole code p → next_address code p ≤ length code

@@ -127,6 +127,7 @@ impl<'a> Code<'a> {
     {
         let mut address = from;
         let mut level: usize = 0;
+        // No member of the chain before this address ends the search.
         'chain: while let Ok(instr) = self.at(address) {
             if ends(seek, instr.opcode, level) {
                 return Some(address);

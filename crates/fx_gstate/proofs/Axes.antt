@@ -15,7 +15,8 @@ pub on_axis : (d e r : ℤ) → FitsSigned w32 r → d +ℤ e ≡ r *ℤ pos 163
 on_axis d e r f a =
     let near : IsNear (d +ℤ e) (pos 16384) r = record { nearest = omega (arith, ints); half_away = λ h. omega (arith, ints) } in
     let nonzero : pos 16384 ≢ pos 0 = λ (z : pos 16384 ≡ pos 0). omega (arith, ints, z) in
-    rw (← same_near (d +ℤ e) (pos 16384) r nonzero near) (same_wrapped r r (record { fits = f; congruent = (pos 0, omega (arith, ints)) }))
+    rw (← same_near (d +ℤ e) (pos 16384) r nonzero near)
+    (same_wrapped r r (record { fits = f; congruent = (pos 0, omega (arith, ints)) }))
 
 -- ---- shifts
 
@@ -23,17 +24,23 @@ on_axis d e r f a =
 pub along_axis : (d : ℤ) → FitsSigned w32 d → d ≡ shift_part_of d (pos 16384) (pos 268435456)
 unfolding shift_part_of
 along_axis d f =
-    let near : IsNear (d *ℤ pos 16384 *ℤ pos 16384) (pos 268435456) d = record { nearest = omega (arith, ints); half_away = λ h. omega (arith, ints) } in
+    let near : IsNear (d *ℤ pos 16384 *ℤ pos 16384) (pos 268435456) d =
+    record { nearest = omega (arith, ints); half_away = λ h. omega (arith, ints) }
+    in
     let nonzero : pos 268435456 ≢ pos 0 = λ (z : pos 268435456 ≡ pos 0). omega (arith, ints, z) in
-    rw (← same_near (d *ℤ pos 16384 *ℤ pos 16384) (pos 268435456) d nonzero near) (same_wrapped d d (record { fits = f; congruent = (pos 0, omega (arith, ints)) }))
+    rw (← same_near (d *ℤ pos 16384 *ℤ pos 16384) (pos 268435456) d nonzero near)
+    (same_wrapped d d (record { fits = f; congruent = (pos 0, omega (arith, ints)) }))
 
 -- and across it 0
 pub across_axis : (d : ℤ) → pos 0 ≡ shift_part_of d (pos 0) (pos 268435456)
 unfolding shift_part_of
 across_axis d =
-    let near : IsNear (d *ℤ pos 0 *ℤ pos 16384) (pos 268435456) (pos 0) = record { nearest = omega (arith, ints); half_away = λ h. omega (arith, ints) } in
+    let near : IsNear (d *ℤ pos 0 *ℤ pos 16384) (pos 268435456) (pos 0) =
+    record { nearest = omega (arith, ints); half_away = λ h. omega (arith, ints) }
+    in
     let nonzero : pos 268435456 ≢ pos 0 = λ (z : pos 268435456 ≡ pos 0). omega (arith, ints, z) in
-    rw (← same_near (d *ℤ pos 0 *ℤ pos 16384) (pos 268435456) (pos 0) nonzero near) (same_wrapped (pos 0) (pos 0) (record { fits = omega (arith, ints); congruent = (pos 0, omega (arith, ints)) }))
+    rw (← same_near (d *ℤ pos 0 *ℤ pos 16384) (pos 268435456) (pos 0) nonzero near)
+    (same_wrapped (pos 0) (pos 0) (record { fits = omega (arith, ints); congruent = (pos 0, omega (arith, ints)) }))
 
 -- ---- shortcuts for the axes
 

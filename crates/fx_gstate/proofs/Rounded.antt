@@ -36,13 +36,15 @@ greatest_by_rem (pos p) phase x h =
     let some : 0 < p = omega (arith, ints) in
     let r = rem_is (x -ℤ phase) p some in
     let q = by_quotient (x -ℤ phase) p some in
-    greatest_by_quotient p phase x (x -ℤ int_rem_euclid (x -ℤ phase) (pos p)) (int_div_euclid (x -ℤ phase) (pos p)) (omega (arith, ints, q)) (omega (arith, ints, r)) (omega (arith, ints, r))
+    greatest_by_quotient p phase x (x -ℤ int_rem_euclid (x -ℤ phase) (pos p)) (int_div_euclid (x -ℤ phase) (pos p))
+    (omega (arith, ints, q)) (omega (arith, ints, r)) (omega (arith, ints, r))
 greatest_by_rem (negsuc p) phase x h = absurd (omega (arith, ints))
 
 -- ---- one result
 
 one_greatest : (P : ℤ → Type 0) (x m n : ℤ) → IsGreatestNotAbove P x m → IsGreatestNotAbove P x n → m ≡ n
-one_greatest P x m n g h = let a = g.greatest n h.member h.not_above in let b = h.greatest m g.member g.not_above in omega (arith, ints, a, b)
+one_greatest P x m n g h =
+    let a = g.greatest n h.member h.not_above in let b = h.greatest m g.member g.not_above in omega (arith, ints, a, b)
 
 one_size : (grid : GridView) (s : ℕ) (v w : ℤ) → IsRoundedSize grid s v → IsRoundedSize grid s w → v ≡ w
 one_size grid s v w g h =
@@ -66,7 +68,8 @@ greatest_from period phase x m rem a p h e f g i = rw (i, e, f, g) (greatest_by_
 pub size_from : (grid : GridView) (s : ℕ) (period phase x member v : ℤ) → IsGreatestNotAbove (OnGrid period phase) x member
     → period ≡ grid.period → phase ≡ grid.phase → x ≡ pos s +ℤ grid.threshold → (pos 0 ≤ℤ member → v ≡ member)
     → (member <ℤ pos 0 → v ≡ grid.phase) → IsRoundedSize grid s v
-size_from grid s period phase x member v g p q e k r = record { member = member; greatest = rw (p, q, e) at g; kept = k; raised = r }
+size_from grid s period phase x member v g p q e k r =
+    record { member = member; greatest = rw (p, q, e) at g; kept = k; raised = r }
 
 pub rounded_from : (grid : GridView) (d r : ℤ) (s : ℕ) (size signed : ℤ) → IsRoundedSize grid s size → s ≡ unsigned_abs d
     → (pos 0 ≤ℤ d → signed ≡ size) → (d <ℤ pos 0 → signed ≡ neg_ℤ size) → r ≡ wrapped_of signed → IsRounded grid d r

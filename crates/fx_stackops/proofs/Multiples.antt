@@ -16,6 +16,8 @@ ceiled_is_least a =
       member = record { index = neg_ℤ g.member.index; is = omega (arith, ints, g.member.is) };
       not_below = omega (arith, ints, g.not_above);
       least = λ k p l.
-          let q = g.greatest (neg_ℤ k) (record { index = neg_ℤ p.index; is = omega (arith, ints, p.is) }) (omega (arith, ints, l)) in
+          let q =
+          g.greatest (neg_ℤ k) (record { index = neg_ℤ p.index; is = omega (arith, ints, p.is) }) (omega (arith, ints, l))
+          in
           omega (arith, ints, q);
     }

@@ -55,7 +55,8 @@ element_at xs d k h m =
 module _ (A B : List ℤ) (x : ℤ) where
   below_is : reverse (A ++ x ∷ B) ≡ reverse B ++ x ∷ reverse A
   below_is =
-      reverse-append A (x ∷ B) ∙ ap (λ (l : List ℤ). l ++ reverse A) (reverse-append (x ∷ []) B) ∙ append_assoc (reverse B) (x ∷ []) (reverse A)
+      reverse-append A (x ∷ B) ∙ ap (λ (l : List ℤ). l ++ reverse A) (reverse-append (x ∷ []) B)
+      ∙ append_assoc (reverse B) (x ∷ []) (reverse A)
 
   above_is : reverse (A ++ (B ++ x ∷ [])) ≡ x ∷ (reverse B ++ reverse A)
   above_is = reverse-append A (B ++ x ∷ []) ∙ ap (λ (l : List ℤ). l ++ reverse A) (reverse-append B (x ∷ []))
@@ -63,12 +64,20 @@ module _ (A B : List ℤ) (x : ℤ) where
   rest_is : drop (length B + 1) (reverse B ++ x ∷ reverse A) ≡ reverse A
   rest_is =
       ap (drop (length B + 1)) (sym (append_assoc (reverse B) (x ∷ []) (reverse A)))
-      ∙ drop_at (reverse B ++ x ∷ []) (reverse A) (length B + 1) (length-append (reverse B) (x ∷ []) ∙ ap (λ (n : ℕ). n + 1) (length-reverse B))
+      ∙ drop_at (reverse B ++ x ∷ []) (reverse A) (length B + 1)
+      (length-append (reverse B) (x ∷ []) ∙ ap (λ (n : ℕ). n + 1) (length-reverse B))
 
   moved_parts : moved_up (length B) (reverse (A ++ x ∷ B)) ≡ reverse (A ++ (B ++ x ∷ []))
   moved_parts =
       let n = length-reverse B in
-      rw (below_is, above_is, get_or_at (reverse B) x (reverse A) (pos 0) (length B) n, take_at (reverse B) (x ∷ reverse A) (length B) n, rest_is) refl
+      rw (
+        below_is,
+        above_is,
+        get_or_at (reverse B) x (reverse A) (pos 0) (length B) n,
+        take_at (reverse B) (x ∷ reverse A)
+            (length B) n,
+        rest_is,
+      ) refl
 
 -- the first d cells, of which k are above the cell a
 module _ (xs : List ℤ) (a k d : ℕ) (e : a + (k + 1) ≡ d) (m : d ≤ length xs) where
@@ -93,11 +102,21 @@ module _ (xs : List ℤ) (a k d : ℕ) (e : a + (k + 1) ≡ d) (m : d ≤ length
   rotated_are : take d (rotated_of a d xs) ≡ take a xs ++ (above ++ slice_index_or xs a (pos 0) ∷ [])
   rotated_are =
       let x = slice_index_or xs a (pos 0) in
-      let regrouped = append_assoc (take a xs) (above ++ x ∷ []) (drop d xs) ∙ ap (λ (l : List ℤ). take a xs ++ l) (append_assoc above (x ∷ []) (drop d xs)) in
-      let long : length (take a xs ++ (above ++ x ∷ [])) ≡ d =
-      omega (arith, length-append (take a xs) (above ++ x ∷ []), length-append above (x ∷ []), length-take-le a xs (omega arith), length_above)
+      let regrouped =
+      append_assoc (take a xs) (above ++ x ∷ []) (drop d xs)
+      ∙ ap (λ (l : List ℤ). take a xs ++ l) (append_assoc above (x ∷ []) (drop d xs))
       in
-      ap (λ (l : List ℤ). take d (take a xs ++ (l ++ x ∷ drop d xs))) range_is ∙ ap (take d) (sym regrouped) ∙ take_at (take a xs ++ (above ++ x ∷ [])) (drop d xs) d long
+      let long : length (take a xs ++ (above ++ x ∷ [])) ≡ d =
+      omega (
+        arith,
+        length-append (take a xs) (above ++ x ∷ []),
+        length-append above (x ∷ []),
+        length-take-le a xs (omega arith),
+        length_above,
+      )
+      in
+      ap (λ (l : List ℤ). take d (take a xs ++ (l ++ x ∷ drop d xs))) range_is ∙ ap (take d) (sym regrouped)
+      ∙ take_at (take a xs ++ (above ++ x ∷ [])) (drop d xs) d long
 
   moved_from : reverse (take d (rotated_of a d xs)) ≡ moved_up k (reverse (take d xs))
   moved_from =

@@ -31,6 +31,7 @@ impl Store {
         ensures value { self.new ≡ with_stack (reverse (numbers instr.now.opcode instr.now.pushed.now) ++ self.old.stack) self.old }
         ensures sizes { HasSizes self.old self.new }
     {
+        // The first i numbers are on the stack.
         'numbers: for i in 0..instr.count() {
             self.put(instr.number(i));
         }

@@ -100,6 +100,7 @@ impl Store {
         ensures sizes { HasSizes self.old self.new }
     {
         let mut left = pairs;
+        // The pairs that are left give the rest of the result.
         'pairs: while left > 0 {
             self.move_control(form, g, ppem);
             left -= 1;

@@ -11,7 +11,14 @@ returns-clause-value c =
     let used : c.self.inside.depth ≤ length c.self.inside.cells = c.self.invariant.0 in
     let there : c.args.count ≤ c.self.inside.depth = omega arith in
     let long : length (reverse (take c.self.inside.depth c.self.inside.cells)) ≡ c.self.inside.depth =
-    omega (arith, length-reverse (take c.self.inside.depth c.self.inside.cells), length-take-le c.self.inside.depth c.self.inside.cells used)
+    omega (
+      arith,
+      length-reverse (take c.self.inside.depth c.self.inside.cells),
+      length-take-le c.self.inside.depth c.self.inside.cells used,
+    )
     in
-    let enough : nat_lt (length (reverse (take c.self.inside.depth c.self.inside.cells))) c.args.count ≡ false = le-ltb _ _ (omega arith) in
-    rw (← c.self.view_is, enough, c.numbers.ensures) (ap Ok (top_at c.self.inside.cells c.self.inside.depth c.args.count there used))
+    let enough : nat_lt (length (reverse (take c.self.inside.depth c.self.inside.cells))) c.args.count ≡ false =
+    le-ltb _ _ (omega arith)
+    in
+    rw (← c.self.view_is, enough, c.numbers.ensures)
+    (ap Ok (top_at c.self.inside.cells c.self.inside.depth c.args.count there used))
