@@ -1,12 +1,12 @@
 -- Every row keeps the number of points and the contours of both zones.
 -- It serves the law that whole runs keep them.
-use Rattle.std.proofs.Common.{refl, ℕ, ℤ, Bool, true, false, if◌then◌else◌, List, [], ◌∷◌, Option, Some, None}
+use Rattle.std.proofs.Common.{ℕ, ℤ, Bool, true, false, if◌then◌else◌, List, [], ◌∷◌, Option, Some, None}
 use Rattle.fx_fixed.specs.declared.places.Axis.{Axis}
 use Rattle.fx_fixed.specs.declared.places.Axis.TheVariants.{X, Y}
 use Rattle.fx_fixed.specs.declared.places.Place.{Place}
 use Rattle.fx_zone.specs.declared.point.Point.{Point}
 use Rattle.fx_zone.specs.Figures.{Figure, HasShape, changed, in_range, in_range_without}
-use Rattle.fx_zone.specs.Points.{shifted, curved}
+use Rattle.fx_zone.specs.Points.{curved}
 use Rattle.fx_zone.proofs.Shapes.{shape_same, shape_then, changed_shape, each_shape, interpolated_shape}
 use Rattle.fx_gstate.specs.declared.deltas.Delta.{Delta}
 use Rattle.fx_gstate.specs.declared.deltas.DeltaForm.{DeltaForm}
@@ -19,8 +19,8 @@ use Rattle.fx_pointops.specs.declared.zones.Zones.{Zones}
 use Rattle.fx_pointops.specs.Zones.{Outcome, HasShapes, on_zone, index_of, changed_of, changed_at}
 use Rattle.fx_pointops.specs.ShiftPoint.{shifted_by, shift_by, moved_by, point_shifted}
 use Rattle.fx_pointops.specs.Loops.{each, each_pair}
-use Rattle.fx_pointops.specs.Direct.{untouched_along, utp_of, mdap_of, laid_at_distance, moved_to_distance, msirp_of, aligned_to_rp, alignrp_of, half_of, met_at, alignpts_of, settled_if_twilight, scfs_of, shpix_of, mdrp_of}
-use Rattle.fx_pointops.specs.Indirect.{laid_along, moved_to_coordinate, miap_of, laid_from_rp, moved_to_control, mirp_of}
+use Rattle.fx_pointops.specs.Direct.{untouched_along, utp_of, mdap_of, laid_at_distance, msirp_of, aligned_to_rp, alignrp_of, alignpts_of, scfs_of, shpix_of, mdrp_of}
+use Rattle.fx_pointops.specs.Indirect.{laid_along, miap_of, laid_from_rp, mirp_of}
 use Rattle.fx_pointops.specs.Shift.{shp_of, contour_shifted, shc_of, shz_of}
 use Rattle.fx_pointops.specs.Interpolate.{point_in_proportion, ip_of}
 use Rattle.fx_pointops.specs.Intersect.{isect_of}

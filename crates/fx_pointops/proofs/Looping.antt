@@ -1,8 +1,8 @@
 -- Loops over the points of a row, the last of a slice first.
 -- It serves ALIGNRP, IP, SHP, SHPIX and FLIPPT.
-use Rattle.std.proofs.Common.{◌≡◌, refl, sym, ap, ◌∙◌, arith, ℕ, ℤ, pos, suc, ◌+◌, ◌-◌, ◌<◌, ◌≤◌, List, [], ◌∷◌, length, get_or, take, reverse, add_assoc, add-zero, zero-add}
+use Rattle.std.proofs.Common.{◌≡◌, refl, sym, ap, ◌∙◌, arith, ℕ, ℤ, pos, suc, ◌+◌, ◌-◌, ◌<◌, ◌≤◌, List, [], ◌∷◌, length, get_or, take, reverse, add_assoc, add-zero}
 use Rattle.std.proofs.Math.Seq.{take-suc}
-use Rattle.std.proofs.lemmas.List.{reverse-append, take_all, length-reverse, length-take-le}
+use Rattle.std.proofs.lemmas.List.{reverse-append, length-reverse, length-take-le}
 use Rattle.fx_pointops.specs.declared.zones.Zones.{Zones}
 use Rattle.fx_pointops.specs.Zones.{Outcome, with_strays}
 use Rattle.fx_pointops.specs.Loops.{each, each_pair}
@@ -13,13 +13,6 @@ top_first xs k d h = ap reverse (take-suc xs k d h) ∙ reverse-append (take k x
 
 added : (m n : ℕ) (o : Outcome) → with_strays m (with_strays n o) ≡ with_strays (m + n) o
 added m n o = ap (λ k. (o.0, k)) (sym (add_assoc m n o.1))
-
--- all points are left
-pub loop_begun : (steps : ℤ → Zones → Outcome) (xs : List ℤ) (z : Zones)
-    → each steps (reverse xs) z ≡ with_strays 0 (each steps (reverse (take (length xs) xs)) z)
-loop_begun steps xs z = ap (λ l. each steps (reverse l) z) (sym (take_all (length xs) xs (omega arith)))
-    ∙ ap (λ n. ((each steps (reverse (take (length xs) xs)) z).0, n))
-    (sym (zero-add (each steps (reverse (take (length xs) xs)) z).1))
 
 one_step : (steps : ℤ → Zones → Outcome) (xs : List ℤ) (z y : Zones) (left m : ℕ) (p : ℤ) → 0 < left → left ≤ length xs
     → p ≡ get_or xs (left - 1) (pos 0) → (y, m) ≡ steps p z
@@ -49,12 +42,6 @@ loop_done steps xs z left n o h a =
     sym (a ∙ ap (λ k. with_strays n (each steps (reverse (take k xs)) z)) e ∙ ap (λ k. (z, k)) (add-zero n))
 
 -- ---- pairs
-
-pub pairs_begun : (steps : ℤ → ℤ → Zones → Outcome) (xs : List ℤ) (z : Zones)
-    → each_pair steps (reverse xs) z ≡ with_strays 0 (each_pair steps (reverse (take (length xs) xs)) z)
-pairs_begun steps xs z = ap (λ l. each_pair steps (reverse l) z) (sym (take_all (length xs) xs (omega arith)))
-    ∙ ap (λ n. ((each_pair steps (reverse (take (length xs) xs)) z).0, n))
-    (sym (zero-add (each_pair steps (reverse (take (length xs) xs)) z).1))
 
 one_pair : (steps : ℤ → ℤ → Zones → Outcome) (xs : List ℤ) (z y : Zones) (left m : ℕ) (p a : ℤ) → 1 < left → left ≤ length xs
     → p ≡ get_or xs (left - 2 + 1) (pos 0) → a ≡ get_or xs (left - 2) (pos 0) → (y, m) ≡ steps p a z

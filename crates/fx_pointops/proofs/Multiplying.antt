@@ -1,6 +1,6 @@
 -- A product of two numbers of 128 bits that does not overflow.
 -- It serves the fractions of ISECT.
-use Rattle.std.proofs.Common.{◌≡◌, ◌≤◌, ◌^◌, ◌*◌, ◌∙◌, sym, ap, refl, ℤ, FitsSigned, unsigned_abs, to_z, of_z, rules, arith, ◌*ℤ◌}
+use Rattle.std.proofs.Common.{◌≡◌, ◌≤◌, ◌^◌, ◌∙◌, ℤ, FitsSigned, unsigned_abs, to_z, of_z, arith, ◌*ℤ◌}
 use Rattle.std.proofs.lemmas.Int.{to_z-of_z, fits_signed_mul, unsigned_abs-mul}
 use Rattle.std.proofs.Math.Nat.{mul-le-mul}
 use Rattle.std.specs.Int.{w128}

@@ -1,6 +1,6 @@
 -- Distances in 26.6: sizes, signs, the single width and the minimum distance.
 -- Apple TrueType Reference Manual, MDRP, MIRP, SSW, SMD. Sizes and negatives are taken modulo 2 ^ 32.
-use Rattle.std.specs.Prelude.{◌/◌, ◌%◌, ◌==◌, ℕ, ℤ, pos, neg_ℤ, int_lt, Bool, if◌then◌else◌, unsigned_abs}
+use Rattle.std.specs.Prelude.{◌/◌, ◌%◌, ◌==◌, ℕ, ℤ, pos, neg_ℤ, int_lt, if◌then◌else◌, unsigned_abs}
 use Rattle.fx_fixed.specs.Numbers.{wrapped_of, difference_of}
 use Rattle.fx_gstate.specs.declared.state.GState.{GState}
 use Rattle.fx_gstate.specs.Rounding.{rounded_of}

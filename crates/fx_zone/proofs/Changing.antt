@@ -1,11 +1,11 @@
 -- A loop that changes the points of a range, each where it is.
 -- It serves the shifts and the flags of ranges of points.
-use Rattle.std.proofs.Common.{◌≡◌, ◌≢◌, refl, sym, ap, ◌∙◌, arith, ℕ, zero, suc, ◌+◌, ◌<◌, ◌≤◌, max, Bool, true, false, ◌&&◌, not, if◌then◌else◌, List, [], ◌∷◌, length, get_or, set, Option}
+use Rattle.std.proofs.Common.{◌≡◌, ◌≢◌, refl, sym, ap, ◌∙◌, arith, ℕ, zero, suc, ◌+◌, ◌<◌, ◌≤◌, max, Bool, true, false, ◌&&◌, if◌then◌else◌, List, [], ◌∷◌, length, get_or, set}
 use Rattle.std.specs.Prelude.{nat_eq, nat_le, nat_lt}
 use Rattle.std.proofs.Math.Bool.{and-true}
-use Rattle.std.proofs.lemmas.Bool.{lt-ltb, le-ltb, ltb-true, ltb-false, le-leb, leb-true, leb-false, eqb-true, eqb-false}
+use Rattle.std.proofs.lemmas.Bool.{lt-ltb, le-ltb, ltb-true, ltb-false, le-leb, leb-true, eqb-true, eqb-false}
 use Rattle.fx_zone.specs.declared.point.Point.{Point}
-use Rattle.fx_zone.specs.Figures.{each_changed, in_range, in_range_without, is_number}
+use Rattle.fx_zone.specs.Figures.{each_changed, in_range}
 
 -- tests that agree on all numbers from n on choose the same points
 pub same_each : (f g : ℕ → Bool) (change : Point → Point) (n : ℕ) (xs : List Point) → ((m : ℕ) → n ≤ m → f m ≡ g m)

@@ -390,10 +390,6 @@ empty_contour : (axis : Axis) → contour_interpolated axis [] ≡ []
 unfolding contour_interpolated
 empty_contour axis = each_zipped axis [] [] ∙ each_nil axis []
 
-pub contours_begun : (axis : Axis) (ends : List ℕ) (points : List Point)
-    → contours_interpolated axis 0 ends points ≡ take 0 points ++ contours_interpolated axis 0 (drop 0 ends) (drop 0 points)
-contours_begun axis ends points = refl
-
 contours_next : (axis : Axis) (first : ℕ) (ends : List ℕ) (points : List Point) (k d : ℕ) → k < length ends →
     contours_interpolated axis first (drop k ends) points ≡ contour_interpolated axis
     (take (get_or ends k d + 1 - first) points) ++ contours_interpolated axis (max first (get_or ends k d + 1))
@@ -438,11 +434,6 @@ contour_put axis first ends points ys k d h l w y =
     ap (λ zs. take first points ++ zs) (contours_next axis first ends (drop first points) k d h ∙ rw (m, s, ← y) refl)
     ∙ sym (append_assoc (take first points) ys (contours_interpolated axis past (drop (k + 1) ends) (drop past points)))
     ∙ sym (λ i. (t i) ++ contours_interpolated axis past (drop (k + 1) ends) (r i))
-
-pub contour_put_long : (axis : Axis) (points ys : List Point) (first m : ℕ)
-    → ys ≡ contour_interpolated axis (take m (drop first points)) → length (put_mid first m points ys) ≡ length points
-contour_put_long axis points ys first m y =
-    same_len_mid first m points ys (ap length y ∙ contour_long axis (take m (drop first points)))
 
 pub contours_done : (axis : Axis) (first k : ℕ) (ends : List ℕ) (points : List Point) → length ends ≤ k
     → take first points ++ contours_interpolated axis first (drop k ends) (drop first points) ≡ points

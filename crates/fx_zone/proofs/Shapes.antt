@@ -1,8 +1,8 @@
 -- What changes of points keep: how many there are, and the contours.
 -- It serves the shape of a zone after each call, here and for instructions.
-use Rattle.std.proofs.Common.{◌≡◌, refl, ap, ◌∙◌, ℕ, zero, suc, Bool, List, [], ◌∷◌, length, Option, Some, None, set, if◌then◌else◌}
+use Rattle.std.proofs.Common.{◌≡◌, refl, ap, ◌∙◌, ℕ, suc, Bool, List, [], ◌∷◌, length, Option, Some, None}
 use Rattle.std.proofs.lemmas.List.{length-set}
-use Rattle.std.specs.Prelude.{slice_get, slice_set, option_map}
+use Rattle.std.specs.Prelude.{slice_get, option_map}
 use Rattle.fx_fixed.specs.declared.places.Axis.{Axis}
 use Rattle.fx_zone.specs.declared.point.Point.{Point}
 use Rattle.fx_zone.specs.Figures.{Figure, HasShape, changed, written, each_changed}

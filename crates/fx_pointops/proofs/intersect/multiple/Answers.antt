@@ -1,4 +1,4 @@
-use Rattle.std.proofs.Common.{◌≡◌, ◌≤◌, ◌^◌, ◌∙◌, FitsSigned, unsigned_abs, to_z-of_z, rules, arith}
+use Rattle.std.proofs.Common.{◌≤◌, ◌^◌, ◌∙◌, FitsSigned, unsigned_abs, to_z-of_z, rules}
 use Rattle.std.specs.Int.{w32, w128}
 use Rattle.fx_pointops.proofs.Multiplying.{product_is, product_bound}
 use Rattle.fx_pointops.proofs.intersect.multiple.Goals as goal

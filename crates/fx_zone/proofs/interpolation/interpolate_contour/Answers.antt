@@ -1,4 +1,4 @@
-use Rattle.std.proofs.Common.{◌+◌, ◌-◌, ◌<◌, length, arith, sym, ◌∙◌, refl}
+use Rattle.std.proofs.Common.{arith, sym, ◌∙◌, refl}
 use Rattle.fx_zone.proofs.Interpolating.{contour_kept_backward, run_ends, contour_swept, put_run, put_long, put_end}
 use Rattle.fx_zone.proofs.interpolation.interpolate_contour.Goals as goal
 
