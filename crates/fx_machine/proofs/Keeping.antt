@@ -449,8 +449,26 @@ then_keeps next z (Err c) h = tt
 row_keeps : (op : ℕ) (bytes code : List ℕ) (w : Program) (address next : ℕ) (s : State) → Acts s.zones (row_of op bytes code w address next s)
 unfolding row_of
 row_keeps op bytes code w address next s =
-    search (acts_if s.zones, led_keeps, went_keeps, returned_keeps, then_keeps, store_keeps, relative_keeps, plain_keeps, if_keeps, jmpr_keeps, jrot_keeps, jrof_keeps, call_keeps,
-      loopcall_keeps, fdef_keeps, idef_keeps, undefined_keeps, shapes_same s.zones) depth 40 fits 8000
+    search (
+      acts_if s.zones,
+      led_keeps,
+      went_keeps,
+      returned_keeps,
+      then_keeps,
+      store_keeps,
+      relative_keeps,
+      plain_keeps,
+      if_keeps,
+      jmpr_keeps,
+      jrot_keeps,
+      jrof_keeps,
+      call_keeps,
+      loopcall_keeps,
+      fdef_keeps,
+      idef_keeps,
+      undefined_keeps,
+      shapes_same s.zones,
+    ) depth 40 fits 8000
 
 -- ---- runs
 

@@ -1,4 +1,5 @@
 -- Programs of glyphs keep the number of points and the contours.
+-- It serves the law of the same name.
 use Rattle.std.proofs.Common.{◌≡◌, ℕ, List, Ok, subst}
 use Rattle.fx_zone.specs.Figures.{Figure}
 use Rattle.fx_machine.specs.declared.program.Program.{Program}

@@ -1,4 +1,5 @@
 -- The row as code reads it.
+-- It serves the step: the row of the opcode alone is that of the instruction with its data.
 use Rattle.std.proofs.Common.{◌≡◌, ◌≢◌, ℕ, ◌+◌, ◌<◌, ◌≤◌, Bool, true, false, List, length, Result, inl, inr, refl, arith}
 use Rattle.std.proofs.lemmas.Bool.{ne_eqb, le-leb, lt-leb}
 use Rattle.std.proofs.lemmas.Bool.Decides.{leb_tells}
@@ -12,7 +13,7 @@ use Rattle.fx_machine.specs.declared.state.State.{State}
 use Rattle.fx_machine.specs.Effects.{Fails}
 use Rattle.fx_machine.specs.Table.{is_push, relative_row, then_at, push_row, row_of, row_here, row_in, settled}
 
--- an opcode that pushes nothing stands alone
+-- an opcode that pushes nothing has no data
 lone : (code : List ℕ) (p : ℕ) → is_push (opcode_at code p) ≡ false → size_at code p ≡ 1
 unfolding size_at
 lone code p e = grind arith

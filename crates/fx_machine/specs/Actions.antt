@@ -1,4 +1,4 @@
--- What code answers of an instruction.
+-- What code returns of an instruction.
 use Rattle.std.specs.Prelude.{Result, Ok, Err}
 use Rattle.fx_machine.specs.declared.halt.Cause.{Cause}
 use Rattle.fx_machine.specs.declared.action.Action.{Action}

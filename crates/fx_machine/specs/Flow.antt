@@ -30,7 +30,7 @@ if_of code next s = do
   x ← map_fault of_stack (one s.store)
   if int_eq x.0 (pos 0) then led (past_of stops_at_false code next) (record s { store = x.1 }) else Ok (Went next, record s { store = x.1 })
 
--- a jump, which has to stay in the program
+-- a jump, which must stay in the program
 unfoldable pub jumped : ℕ → ℤ → State → Result (Action × State) Cause
 jumped size (pos address) s = if nat_le address size then Ok (Went address, s) else Err BadJump
 jumped size (negsuc _) s = Err BadJump
@@ -53,7 +53,7 @@ jrof_of size address next s = do
   x ← map_fault of_stack (two s.store)
   if int_eq x.1 (pos 0) then jumped size (pos address +ℤ x.0) (record s { store = x.2 }) else Ok (Went next, record s { store = x.2 })
 
--- a call of a function, which has to be defined
+-- a call of a function, which must be defined
 unfoldable pub called : ℕ → Option Function → Cause → ℕ → State → Result (Action × State) Cause
 called turns (Some f) fault next s = Ok (Called turns f next, s)
 called turns None fault next s = Err fault

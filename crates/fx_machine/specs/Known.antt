@@ -1,4 +1,4 @@
--- What a machine of a font at a size knows, and what it answers for a glyph.
+-- What a machine of a font at a size knows, and what becomes of a glyph's program.
 -- Apple TrueType Reference Manual, "Instructing Fonts": the font program, the control value program, glyph programs.
 use Rattle.std.specs.Prelude.{◌≡◌, ℕ, ℤ, ◌+◌, max, pos, List, [], codes, None, Result, Ok, Err, true, false, replicate}
 use Rattle.fx_fixed.specs.Chain.{◌>>=◌, map_fault}
@@ -93,17 +93,17 @@ machine_of face scale = do
   ran ← map_fault Halted (prelude_of (texts_of face []) (first_state face scale))
   Ok (record { face = face; scale = scale; prepared = prepared_from ran.1; prelude = ran.0 })
 
--- what code answers, with the state that it left
+-- what code returns, with the state that it left
 abbrev pub with_state : Result Ran Halt → State → Result (Ran × State) Halt
 with_state (Ok ran) s = Ok (ran, s)
 with_state (Err halt) s = Err halt
 
--- a fault that code answers is the one that is due, or out of memory
+-- a fault that code returns is the one that is due, or out of memory
 abbrev pub Fails : {Y : Type 0} → MachineFault → Result Y MachineFault → Type 0
 Fails OutOfMemory due = Unit {0}
 Fails fault due = due ≡ Err fault
 
--- ---- what the program of a glyph answers on its points
+-- ---- what becomes of the program of a glyph on its points
 
 unfoldable pub glyph_ran : Known → List ℕ → Figure → Result (Ran × Figure) Halt
 glyph_ran known code glyph = glyph_answer (texts_of known.face code) known.prepared known.scale (room_of known.face.maxp.max_stack_elements) STEP_LIMIT glyph

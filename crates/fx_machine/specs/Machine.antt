@@ -9,11 +9,11 @@ use Rattle.fx_machine.specs.declared.state.State.{State}
 use Rattle.fx_machine.specs.Effects.{Effect, Ends, Fails, Goes, Calls, Returns}
 use Rattle.fx_machine.specs.Runs.{Verdict, Finished, Halted, Exhausted, Answer, MAX_DEPTH}
 
--- the open calls, the innermost first, and where the machine is in which state
+-- the open calls, the innermost first, the address that the machine has reached, and its state
 pub data Config : Type 0 where
   config : (calls : List Frame) (program : Program) (address : ℕ) (s : State) → Config
 
--- before so many turns of a function
+-- before some turns of a function
 abbrev pub turned : ℕ → Function → ℕ → List Frame → Program → State → Config
 turned zero f next K w s = config K w next s
 turned (suc k) f next K w s = config (record { function = f; left = k; program = w; next = next } ∷ K) f.program f.address s
@@ -40,19 +40,19 @@ verdict_by after n w p s Finishes = Finished n s
 verdict_by after n w p s (Stops cause) = Halted cause w p
 verdict_by after n w p s (Moves to) = after to
 
--- the verdict where no more instruction may be executed
+-- the verdict if no more instruction may be executed
 abbrev pub verdict_at_limit : ℕ → Program → ℕ → State → Move → Verdict
 verdict_at_limit n w p s Finishes = Finished n s
 verdict_at_limit n w p s (Stops cause) = Exhausted w p
 verdict_at_limit n w p s (Moves to) = Exhausted w p
 
 module _ (row : Program → ℕ → State → Effect) where
-  -- what the machine answers where so many more instructions may be executed, after so many
+  -- the verdict if `left` more instructions may be executed, after n
   unfoldable pub answer_from : ℕ → ℕ → Config → Verdict
   answer_from zero n (config K w p s) = verdict_at_limit n w p s (moved_by (row w p s) K w)
   answer_from (suc left) n (config K w p s) = verdict_by (λ to. answer_from left (suc n) to) n w p s (moved_by (row w p s) K w)
 
-  -- the answer of a program, where at most so many instructions may be executed
+  -- the answer of a program, if at most `limit` instructions may be executed
   abbrev pub answer_of : ℕ → Program → State → Verdict
   answer_of limit w s = answer_from limit 0 (config [] w 0 s)
 

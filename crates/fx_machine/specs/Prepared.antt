@@ -1,4 +1,4 @@
--- The state that programs of glyphs begin with, and what they answer.
+-- The state that programs of glyphs begin with, and what becomes of them.
 -- Apple TrueType Reference Manual, "Instructing Fonts": the control value program, glyph programs; INSTCTRL.
 use Rattle.std.specs.Prelude.{◌≡◌, ℕ, false, if◌then◌else◌, List, [], length, Result, Ok, Err}
 use Rattle.fx_zone.specs.Figures.{Figure}
@@ -36,7 +36,7 @@ started p scale room glyph = record {
   preparing = false;
 }
 
--- what it answers: the points then, the instructions executed and the strays; or a halt
+-- what becomes of it: the points then, the instructions executed and the strays; or a halt
 abbrev pub ran_of : Result (ℕ × State) Halt → Result (Ran × Figure) Halt
 ran_of (Ok r) = Ok (record { steps = r.0; strays = r.1.store.strays }, r.1.zones.glyph)
 ran_of (Err halt) = Err halt
@@ -52,7 +52,7 @@ pub record Fits (p : Prepared) (s : State) : Type 0 where
   pub opcodes : length s.definitions.opcodes ≡ length p.definitions.opcodes
   pub twilight : HasShape p.twilight s.zones.twilight
 
--- what code answers, with the points that it left
+-- what code returns, with the points that it left
 abbrev pub with_zone : Result Ran Halt → Figure → Result (Ran × Figure) Halt
 with_zone (Ok ran) glyph = Ok (ran, glyph)
 with_zone (Err halt) glyph = Err halt

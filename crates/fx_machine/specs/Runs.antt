@@ -20,12 +20,12 @@ abbrev pub IsLast : How → Type 0
 IsLast Returned = ⊥
 IsLast _ = Unit {0}
 
--- where a run starts: at an address, or before so many more turns of a function, after which it goes on at an address
+-- where a run starts: at an address, or before some more turns of a function, after which it continues at an address
 pub data Start : Type 0 where
   At : (address : ℕ) → Start
   Turns : (turns : ℕ) (function : Function) (next : ℕ) → Start
 
--- what a program answers: it finished after so many instructions in a state, halted at an address, or used up its instructions there
+-- what becomes of a program: it finished after some instructions in a state, halted at an address, or used up its instructions there
 pub data Verdict : Type 0 where
   Finished : (steps : ℕ) (s : State) → Verdict
   Halted : (cause : Cause) (program : Program) (address : ℕ) → Verdict
@@ -62,11 +62,11 @@ module _ (row : Program → ℕ → State → Effect) where
     -- a turn that does not return is the last
     last_turn : {w : Program} {d m k next : ℕ} {f : Function} {s t : State} {how : How} → Runs f.program (At f.address) (suc d) s m t how → IsLast how → Runs w (Turns (suc k) f next) d s m t how
 
-  -- A program's answer, where at most so many instructions may be executed.
+  -- A program's answer, if at most `limit` instructions may be executed.
   pub data Answer (limit : ℕ) (w : Program) (s : State) : Verdict → Type 0 where
     finished : {n : ℕ} {u : State} → n ≤ limit → Runs w (At 0) 0 s n u Ended → Answer limit w s (Finished n u)
     faulted : {n : ℕ} {u : State} {c : Cause} {v : Program} {p : ℕ} → n < limit → Runs w (At 0) 0 s n u (Faulted c v p) → Answer limit w s (Halted c v p)
-    -- else it stops where the run of the limit is open
+    -- else it stops at the address before which the run of the limit is open
     stopped : {u : State} {v : Program} {p : ℕ}
         → ((n : ℕ) (t : State) → n ≤ limit → Runs w (At 0) 0 s n t Ended → ⊥)
         → ((n : ℕ) (t : State) (c : Cause) (x : Program) (q : ℕ) → n < limit → Runs w (At 0) 0 s n t (Faulted c x q) → ⊥)

@@ -44,7 +44,7 @@ by_two set s = do
   x ← map_fault of_stack (two s.store)
   Ok (record s { store = x.2; graphics = set x.0 x.1 s.graphics })
 
--- a row that changes it by one operand, which has to be in range
+-- a row that changes it by one operand, which must be in range
 abbrev pub by_one_in_range : (ℤ → GState → Result GState BadArgument) → State → Result State Cause
 by_one_in_range set s = do
   x ← map_fault of_stack (one s.store)

@@ -5,9 +5,9 @@ use crate::definitions::Function;
 /// What an instruction did, beside what it did to the state.
 #[derive(Clone, Copy, Debug, PartialEq, Eq)]
 pub enum Action {
-    /// The program goes on at an address.
+    /// The program continues at an address.
     Went(usize),
-    /// It calls a function so many times, and then goes on.
+    /// It calls a function several times, and then continues.
     Called {
         turns: u32,
         function: Function,

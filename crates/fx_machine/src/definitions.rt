@@ -30,7 +30,7 @@ impl Model for Definitions {
 }
 
 impl Definitions {
-    /// None of so many functions, and of no opcode.
+    /// No definition, of this number of functions and of each opcode.
     pub fn new(alloc: Global, functions: usize) -> Result<Definitions, AllocError>
         ensures { IfOk result (λ d. d ≡ record { functions = replicate functions None; opcodes = replicate 256 None }) }
     {

@@ -163,9 +163,15 @@ impl State {
             0x70 => self.wcvtf()?,
             0x71 => self.deltap(DeltaForm::Second)?,
             0x72 => self.deltap(DeltaForm::Third)?,
-            0x73 => self.store.deltac(DeltaForm::First, &self.graphics, self.scale.ppem)?,
-            0x74 => self.store.deltac(DeltaForm::Second, &self.graphics, self.scale.ppem)?,
-            0x75 => self.store.deltac(DeltaForm::Third, &self.graphics, self.scale.ppem)?,
+            0x73 => self
+                .store
+                .deltac(DeltaForm::First, &self.graphics, self.scale.ppem)?,
+            0x74 => self
+                .store
+                .deltac(DeltaForm::Second, &self.graphics, self.scale.ppem)?,
+            0x75 => self
+                .store
+                .deltac(DeltaForm::Third, &self.graphics, self.scale.ppem)?,
             0x76 => self.sround()?,
             0x77 => self.s45round()?,
             0x78 => return self.jrot(code.len(), address, next),

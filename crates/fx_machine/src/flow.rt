@@ -130,7 +130,12 @@ impl State {
 
     /// FDEF: defines a function.
     #[tactic(auto, unfolding(crate::specs::Flow::fdef_of))]
-    pub(crate) fn fdef(&mut self, code: &Code<'_>, program: Program, next: usize) -> Result<Action, Cause>
+    pub(crate) fn fdef(
+        &mut self,
+        code: &Code<'_>,
+        program: Program,
+        next: usize,
+    ) -> Result<Action, Cause>
         ensures value { acts result self.new ≡ fdef_of code.now program next self.old }
         ensures kept { OnErr result (self.new.zones ≡ self.old.zones) }
         ensures sizes { HasSizes self.old self.new }

@@ -13,7 +13,7 @@ use crate::halt::Cause;
 use crate::program::Program;
 use arrayvec::ArrayVec;
 
-/// An open call: the turns of its function that are left after this one, and where it goes on.
+/// An open call: the turns of its function that are left after this one, and where it continues.
 #[derive(Clone, Copy, Debug, PartialEq, Eq, Default)]
 pub struct Frame {
     pub function: Function,
@@ -36,7 +36,7 @@ pub struct Calls {
 }
 
 impl Cursor {
-    // Goes into another turn of a function, or on where there are no more.
+    /// Begins another turn of a function, or continues after the last.
     fn leave(&mut self, calls: &mut Calls, frame: Frame)
         requires { array_vec_len calls.old.frames < 32 }
         ensures { (s : the_state.State) → config_of self.new calls.new s ≡ turned frame.left frame.function frame.next (calls_of calls.old) frame.program s }
@@ -54,7 +54,7 @@ impl Cursor {
         }
     }
 
-    // Goes where an action leads, and says whether the program may have changed.
+    /// Goes where an action leads, and says whether the program may have changed.
     pub fn follow(&mut self, calls: &mut Calls, action: Action) -> Result<bool, Cause>
         ensures moved { MatchResult result
             (λ _. (s : the_state.State) → moved_by (effect_of action s) (calls_of calls.old) self.old.program ≡ Moves (config_of self.new calls.new s))

@@ -72,7 +72,7 @@ impl From<CodeFault> for Cause {
     }
 }
 
-/// Where and why a program halted: at which address of which program, whose opcode there is this (0 past the end).
+/// Where and why a program halted; the opcode is the one at that address, 0 past the end.
 #[derive(Clone, Copy, Debug, PartialEq, Eq)]
 pub struct Halt {
     pub cause: Cause,
@@ -84,8 +84,14 @@ pub struct Halt {
     pub opcode: u8,
 }
 
-// A halt at an address of a program with these bytes.
-pub(crate) fn halted(code: &Code<'_>, during: Program, program: Program, address: usize, cause: Cause) -> Halt
+/// A halt at an address of a program with these bytes.
+pub(crate) fn halted(
+    code: &Code<'_>,
+    during: Program,
+    program: Program,
+    address: usize,
+    cause: Cause,
+) -> Halt
     ensures { result ≡ record { cause = cause; during = during; program = program; address = address; opcode = opcode_at code.now address } }
 {
     Halt {

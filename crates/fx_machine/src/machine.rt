@@ -12,8 +12,8 @@ ghost use Rattle.fx_machine.specs.Known.{Fails, with_state, prelude_of, machine_
 use crate::halt::{Halt, MachineFault};
 use crate::prepared::Prepared;
 use crate::program::{Program, Programs};
-use crate::run::run;
 use crate::ran::Ran;
+use crate::run::run;
 use crate::state::{State, table_or_empty};
 use fx_code::Code;
 use fx_scale::Scale;
@@ -26,8 +26,8 @@ use std::mem::swap;
 /// The most instructions that a program may execute.
 pub const STEP_LIMIT: u32 = 250_000;
 
-// Runs the program of a glyph on its points, from what `prep` left: what it has used up, or where and why it halted. The points
-// keep their number and contours, and the state its sizes, also after a halt.
+/// Runs the program of a glyph on its points, from what `prep` left: what it has used up, or where and why it halted. The points
+/// keep their number and contours, and the state its sizes, also after a halt.
 #[tactic(auto, unfolding(crate::specs::Prepared::glyph_answer))]
 fn run_from(
     state: &mut State,
@@ -54,7 +54,7 @@ fn run_from(
     })
 }
 
-// Runs `fpgm`, then `prep`: what they have used up, or the first halt.
+/// Runs `fpgm`, then `prep`: what they have used up, or the first halt.
 #[tactic(auto, unfolding(crate::specs::Known::prelude_of))]
 fn run_prelude(state: &mut State, programs: &Programs<'_>) -> Result<Ran, Halt>
     ensures value { with_state result state.new ≡ prelude_of (texts programs.now) state.old }

@@ -18,7 +18,9 @@ impl State {
     fn end_loop(&mut self, count: u32, strays: u64)
         requires { count ≤ length self.old.store.stack }
         ensures value { self.new ≡ record self.old {
-            store = with_strays strays (with_stack (drop count self.old.store.stack) self.old.store); graphics = record self.old.graphics { loop_count = 1 } } }
+          store = with_strays strays (with_stack (drop count self.old.store.stack) self.old.store);
+          graphics = record self.old.graphics { loop_count = 1 };
+        } }
         ensures sizes { HasSizes self.old self.new }
     {
         self.store.drop_top(count);
@@ -28,8 +30,13 @@ impl State {
 
     /// Reference point 1 becomes reference point 0, and 2 becomes p; 0 becomes p too, if the row says so.
     fn set_references(&mut self, sets_rp0: bool, p: i32)
-        ensures value { self.new ≡ record self.old { graphics = record self.old.graphics {
-            rp0 = if sets_rp0 then p else self.old.graphics.rp0; rp1 = self.old.graphics.rp0; rp2 = p } } }
+        ensures value { self.new ≡ record self.old {
+          graphics = record self.old.graphics {
+            rp0 = if sets_rp0 then p else self.old.graphics.rp0;
+            rp1 = self.old.graphics.rp0;
+            rp2 = p;
+          };
+        } }
         ensures sizes { HasSizes self.old self.new }
     {
         let rp0 = self.graphics.rp0;
@@ -285,7 +292,9 @@ impl State {
         }
         let numbers = 2 * count.unsigned_abs();
         let pairs = self.store.top(numbers)?;
-        let strays = self.zones.deltap(&self.graphics, form, self.scale.ppem, pairs);
+        let strays = self
+            .zones
+            .deltap(&self.graphics, form, self.scale.ppem, pairs);
         self.store.drop_top(numbers);
         self.store.add_strays(strays);
         Ok(())

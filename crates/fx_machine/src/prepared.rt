@@ -23,7 +23,7 @@ pub struct Prepared {
 }
 
 impl Prepared {
-    /// Room for what programs leave of a state.
+    /// Tables of the sizes of a state's, for what programs leave.
     pub fn like(alloc: Global, state: &State) -> Result<Prepared, AllocError>
         requires { length state.now.definitions.opcodes ≡ 256 }
         ensures { IfOk result (λ p. Fits p state.now) }
@@ -56,7 +56,7 @@ impl Prepared {
     }
 }
 
-// A zone with the same points and contours.
+/// A zone with the same points and contours.
 fn copy_of(alloc: Global, zone: &Zone) -> Result<Zone, AllocError>
     ensures { IfOk result (λ z. z ≡ zone.now) }
 {
@@ -65,7 +65,7 @@ fn copy_of(alloc: Global, zone: &Zone) -> Result<Zone, AllocError>
     Ok(Zone::of(alloc, points, ends))
 }
 
-// The graphics state that a program of a glyph begins with.
+/// The graphics state that a program of a glyph begins with.
 fn begun(flags: Flags, g: &GState) -> GState
     ensures { result ≡ begun flags g.now }
 {

@@ -16,7 +16,7 @@ use crate::step::advance;
 use arrayvec::ArrayVec;
 use fx_code::Code;
 
-// The bytes of a program, which are those at hand where it was not left.
+/// The bytes of a program, which are those at hand if it was not left.
 fn code_then<'a, 'b>(
     programs: &'b Programs<'a>,
     code: &'b Code<'a>,

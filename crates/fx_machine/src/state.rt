@@ -5,11 +5,10 @@ ghost use Rattle.fx_sfnt.specs.Tables.{table_or_empty};
 ghost use Rattle.fx_machine.specs.Known.{controls_of, first_store, twilight_of, nothing_defined, first_state, second_state};
 
 use crate::definitions::Definitions;
-use fx_gstate::GState;
 use fx_fixed::Place;
+use fx_gstate::GState;
 use fx_pointops::Zones;
-use fx_scale::Scale;
-use fx_scale::cvt_of;
+use fx_scale::{Scale, cvt_of};
 use fx_sfnt::Font;
 use fx_stackops::{Store, Table};
 use fx_zone::{Point, Zone};
@@ -27,7 +26,7 @@ pub struct Flags {
 /// The state that instructions read and change.
 #[derive(Drop)]
 pub struct State {
-    /// The stack, the storage area, the control values and the strays.
+    //// The stack, the storage area, the control values and the strays.
     pub store: Store,
     /// The points.
     pub zones: Zones,
@@ -43,14 +42,14 @@ pub struct State {
     pub preparing: bool,
 }
 
-// A table of a font's programs, which may be absent.
+/// A table of a font's programs, which may be absent.
 pub(crate) fn table_or_empty<'a>(font: &Font<'a>, tag: [u8; 4]) -> &'a [u8]
     ensures { result.now ≡ table_or_empty font.now.file tag }
 {
     font.table(tag).unwrap_or(&[])
 }
 
-// The control values of a font at a scale.
+/// The control values of a font at a scale.
 #[tactic(auto, using(crate::proofs::Starting::controls_are_numbers))]
 fn controls(alloc: Global, font: &Font<'_>, scale: &Scale) -> Result<Table, AllocError>
     ensures { IfOk result (λ t. t ≡ controls_of font.now scale.now) }
@@ -59,7 +58,7 @@ fn controls(alloc: Global, font: &Font<'_>, scale: &Scale) -> Result<Table, Allo
     Ok(Table::of(controls))
 }
 
-// The stack, the storage area and the control values that `fpgm` begins with.
+/// The stack, the storage area and the control values that `fpgm` begins with.
 fn first_store(alloc: Global, font: &Font<'_>, scale: &Scale) -> Result<Store, AllocError>
     ensures { IfOk result (λ s. s ≡ first_store font.now scale.now) }
 {
@@ -68,7 +67,7 @@ fn first_store(alloc: Global, font: &Font<'_>, scale: &Scale) -> Result<Store, A
     Store::new(alloc, maxp.max_stack_elements, maxp.max_storage, cvt)
 }
 
-// The twilight zone of a font: its points at (0, 0), without contours.
+/// The twilight zone of a font: its points at (0, 0), without contours.
 fn twilight(alloc: Global, count: u16) -> Result<Zone, AllocError>
     ensures { IfOk result (λ z. z ≡ twilight_of count) }
 {
@@ -77,7 +76,7 @@ fn twilight(alloc: Global, count: u16) -> Result<Zone, AllocError>
     Ok(Zone::of(alloc, points, Vec::new(alloc)))
 }
 
-// No definitions, of as many functions as a font may have.
+/// No definitions, of as many functions as a font may have.
 fn nothing_defined(alloc: Global, font: &Font<'_>) -> Result<Definitions, AllocError>
     ensures { IfOk result (λ d. d ≡ nothing_defined font.now) }
 {
@@ -87,7 +86,7 @@ fn nothing_defined(alloc: Global, font: &Font<'_>) -> Result<Definitions, AllocE
 impl State {
     /// The state that `fpgm` begins with: storage and twilight points are 0, control values are scaled, nothing is defined.
     pub fn first(alloc: Global, font: &Font<'_>, scale: Scale) -> Result<State, AllocError>
-            ensures { IfOk result (λ s. s ≡ first_state font.now scale) }
+        ensures { IfOk result (λ s. s ≡ first_state font.now scale) }
     {
         let store = first_store(alloc, font, &scale)?;
         let twilight = twilight(alloc, font.maxp().max_twilight_points)?;

@@ -15,7 +15,7 @@ use crate::program::Program;
 use crate::state::State;
 use fx_code::Code;
 
-// Executes the instruction at an address of a program with these bytes.
+/// Executes the instruction at an address of a program with these bytes.
 fn execute(
     state: &mut State,
     code: &Code<'_>,
@@ -30,7 +30,7 @@ fn execute(
     fetch(state, code, program, address)
 }
 
-// Reads it, and does what its row says; where that faults, the points are as they were.
+/// Reads it, and does what its row says; if that faults, the points are as they were.
 fn fetch(
     state: &mut State,
     code: &Code<'_>,
@@ -48,7 +48,7 @@ fn fetch(
     state.row(code, code.opcode(address), program, address, address + 1)
 }
 
-// Executes the instruction where the cursor is, and says whether the program may have changed.
+/// Executes the instruction at the cursor, and says whether the program may have changed.
 pub fn advance(
     cursor: &mut Cursor,
     calls: &mut Calls,
