@@ -67,7 +67,7 @@ shc_of g one k z = (
 )
 
 -- 36-37 SHZ  z ->
--- The points of a zone are shifted, but the reference point and a glyph's four phantom points, which stand last. None is touched.
+-- The points of a zone are shifted, but the reference point and a glyph's four phantom points, which are the last. None is touched.
 abbrev pub count_without_phantoms : ZonePointer → Zones → ℕ
 count_without_phantoms Twilight z = length z.twilight.points
 count_without_phantoms Glyph z = length z.glyph.points - 4

@@ -30,7 +30,7 @@ fn aimed(g: &GState, rounds: bool, v: F26, c: F26) -> F26
     }
 }
 
-/// Whether just one of two distances is below 0.
+/// Whether exactly one of two distances is below 0.
 fn is_one_negative(o: F26, v: F26) -> bool
     ensures { result ≡ is_one_negative o v }
 {

@@ -14,7 +14,7 @@ use std::alloc::{AllocError, Global};
 use std::marker::Model;
 
 /// Points, and the number of each contour's last point. A contour's points follow the last
-/// point of the contour before it; points behind the last contour belong to none, as a glyph's
+/// point of the contour before it; points after the last contour belong to none, as a glyph's
 /// phantom points do (OpenType, `glyf`).
 #[derive(Drop)]
 pub struct Zone {
@@ -244,7 +244,7 @@ impl Zone {
         self.points.copy_from_slice(&other.points);
     }
 
-    /// Appends points, and contours numbered within these points; where memory is refused,
+    /// Appends points, and contours numbered within these points; if memory is refused,
     /// nothing changes.
     pub fn append(&mut self, points: &[Point], ends: &[usize]) -> Result<(), AllocError>
         requires { All (λ e. e < length points.now) ends.now }
