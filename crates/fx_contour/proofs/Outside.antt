@@ -1,4 +1,4 @@
--- A pixel outside the frame is not covered.
+-- A pixel outside the frame is not covered, since a place that is covered is in the bounding box.
 -- For the clause `outside` of `frame`.
 use Rattle.std.proofs.Common.{subst, ◌⊎◌, inl, inr, ℤ, ◌≤ℤ◌, ◌<ℤ◌, List, [], ◌∷◌, Option, Some, None, IsSomeAnd, All}
 use Rattle.std.proofs.lemmas.Int.{by_lt_z}
@@ -35,8 +35,9 @@ either P Q d (s ∷ ss) = by (piece_either P Q d s) (either P Q d ss)
 order : (a b : ℤ) → (a <ℤ b) ⊎ (b ≤ℤ a)
 order a b = by_lt_z a b (λ h. inl h) (λ h. inr h)
 
-beside : (p : Place) (ss : List Span) → ¬ (IsInBoundingBox p ss) → IsBeside p ss
-beside p ss n =
+-- a place is in the bounding box, or beside it
+in_or_beside : (p : Place) (ss : List Span) → IsInBoundingBox p ss ⊎ IsBeside p ss
+in_or_beside p ss =
     by
     (either (λ q. p.x <ℤ q.x) (λ q. q.x ≤ℤ p.x) (λ q. order p.x q.x) ss)
     (either (λ q. q.x <ℤ p.x) (λ q. p.x ≤ℤ q.x) (λ q. order q.x p.x) ss)
@@ -46,18 +47,19 @@ beside p ss n =
     by : All (HasAll (λ q. p.x <ℤ q.x)) ss ⊎ HaveAny (λ q. q.x ≤ℤ p.x) ss
         → All (HasAll (λ q. q.x <ℤ p.x)) ss ⊎ HaveAny (λ q. p.x ≤ℤ q.x) ss
         → All (HasAll (λ q. p.y <ℤ q.y)) ss ⊎ HaveAny (λ q. q.y ≤ℤ p.y) ss
-        → All (HasAll (λ q. q.y <ℤ p.y)) ss ⊎ HaveAny (λ q. p.y ≤ℤ q.y) ss → IsBeside p ss
-    by (inl a) b c d = inl a
-    by (inr a) (inl b) c d = inr (inl b)
-    by (inr a) (inr b) (inl c) d = inr (inr (inl c))
-    by (inr a) (inr b) (inr c) (inl d) = inr (inr (inr d))
-    by (inr a) (inr b) (inr c) (inr d) = absurd (n (record { left = a; right = b; bottom = c; top = d }))
+        → All (HasAll (λ q. q.y <ℤ p.y)) ss ⊎ HaveAny (λ q. p.y ≤ℤ q.y) ss → IsInBoundingBox p ss ⊎ IsBeside p ss
+    by (inl a) b c d = inr (inl a)
+    by (inr a) (inl b) c d = inr (inr (inl b))
+    by (inr a) (inr b) (inl c) d = inr (inr (inr (inl c)))
+    by (inr a) (inr b) (inr c) (inl d) = inr (inr (inr (inr d)))
+    by (inr a) (inr b) (inr c) (inr d) = inl (record { left = a; right = b; bottom = c; top = d })
 
-not_covered : (p : Place) (ss : List Span) → AreOfOutline ss → ¬ (IsInBoundingBox p ss) → ¬ (IsCovered p ss)
-not_covered p ss (contours, o, e) n k =
-    let P : List Span → Type 0 = λ xs. ¬ (IsInBoundingBox p xs) → ¬ (IsCovered p xs) in
-    subst P e (λ m. nothing_outside p contours o (beside p (joined contours) m)) n k
+-- a place that is covered is in the bounding box
+pub in_box : (p : Place) (ss : List Span) → AreOfOutline ss → IsCovered p ss → IsInBoundingBox p ss
+in_box p ss (contours, o, e) k =
+    let P : List Span → Type 0 = λ xs. IsCovered p xs → IsInBoundingBox p xs in
+    subst P e (λ c. elim (in_or_beside p (joined contours)) [ inl h ↦ h | inr b ↦ absurd (nothing_outside p contours o b c) ]) k
 
 pub nothing_outside_frame : (ss : List Span) (f : Option Frame) → IsFrameFor f ss → NothingOutsideFrame f ss
-nothing_outside_frame ss None h o col row n = not_covered (centre col row) ss o (h col row)
-nothing_outside_frame ss (Some f) h o col row n = not_covered (centre col row) ss o (λ b. n ((h.pixels col row).1 b))
+nothing_outside_frame ss None h o col row n k = h col row (in_box (centre col row) ss o k)
+nothing_outside_frame ss (Some f) h o col row n k = n ((h.pixels col row).1 (in_box (centre col row) ss o k))
