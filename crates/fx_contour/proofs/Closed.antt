@@ -1,11 +1,13 @@
 -- The curve of a contour is a closed chain, and the one by midpoints.
 -- For the laws of `laws.rt`, and for the clause `closed` of `pieces`.
-use Rattle.std.proofs.Common.{◌≡◌, refl, sym, subst, ℤ, pos, Bool, true, false, List, [], ◌∷◌, ◌++◌, map, Some, None, option_to_list, if◌then◌else◌, ◌||◌}
+use Rattle.std.proofs.Common.{◌≡◌, refl, sym, subst, ℤ, pos, Bool, true, false, List, [], ◌∷◌, ◌++◌, map, Some, None}
+use Rattle.std.proofs.Common.{option_to_list, if◌then◌else◌, ◌||◌}
 use Rattle.fx_winding.specs.Area.{Place}
 use Rattle.fx_winding.specs.Winding.{Span}
 use Rattle.fx_winding.specs.Outside.{Leads, IsOutline}
 use Rattle.fx_hint.specs.declared.outline.OutlinePoint.{OutlinePoint}
-use Rattle.fx_contour.specs.Curve.{Knot, doubled_of, middle_of, joint_of, span_at, first_or, last_or, spans_between, curve_of, CurvesAreClosed, knot_of, midpoint, with_midpoints, head_or, along, CurveIsByMidpoints}
+use Rattle.fx_contour.specs.Curve.{Knot, doubled_of, middle_of, joint_of, span_at, first_or, last_or, spans_between, curve_of}
+use Rattle.fx_contour.specs.Curve.{CurvesAreClosed, knot_of, midpoint, with_midpoints, head_or, along, CurveIsByMidpoints}
 
 -- what q adds leads from the joint_of before it to the joint_of after it
 one : (p q r : OutlinePoint) (ss : List Span) (y : Place) → Leads (joint_of q r) ss y

@@ -1,6 +1,8 @@
 -- The tests decide the facts that they test.
 -- For the clauses `exact` of `pieces` and `frame`, and for the law `tested`.
-use Rattle.std.proofs.Common.{◌≡◌, ◌↔◌, IsTrue, refl, sym, subst, ◌^◌, inl, inr, ℤ, pos, negsuc, neg_ℤ, ◌+ℤ◌, ◌*ℤ◌, ◌≤ℤ◌, int_le, ℕ, ◌⊎◌, Bool, true, false, ◌&&◌, ◌||◌, List, [], ◌∷◌, Option, Some, None, IsSomeAnd, All, Result, Ok, Err, Decides, IfOk, IfErr, arith}
+use Rattle.std.proofs.Common.{◌≡◌, ◌↔◌, IsTrue, refl, sym, subst, ◌^◌, inl, inr, ℤ, pos, negsuc, neg_ℤ, ◌+ℤ◌, ◌*ℤ◌, ◌≤ℤ◌, int_le, ℕ}
+use Rattle.std.proofs.Common.{◌⊎◌, Bool, true, false, ◌&&◌, ◌||◌, List, [], ◌∷◌, Option, Some, None, IsSomeAnd, All, Result, Ok}
+use Rattle.std.proofs.Common.{Err, Decides, IfOk, IfErr, arith}
 use Rattle.std.proofs.lemmas.Int.{ints}
 use Rattle.std.proofs.lemmas.Bool.Decides.{Decides-like, Decides-and, Decides-or, Decides-by_and}
 use Rattle.std.specs.List.{list_all}
@@ -18,7 +20,8 @@ use Rattle.fx_winding.specs.Area.{Place}
 use Rattle.fx_winding.specs.Winding.{Span, centre}
 use Rattle.fx_hint.specs.declared.outline.OutlinePoint.{OutlinePoint}
 use Rattle.fx_contour.specs.Contours.{farthest, IsInReach, is_within, is_in_reach, ReachIsTested, spans_of, drawn_of}
-use Rattle.fx_contour.specs.Frames.{HasAny, HaveAny, IsInBoundingBox, AreTooLarge, has_any, have_any, is_in_bounding_box, first_from, is_large_from, is_too_large, LargeIsTested, IsFrameFor, framed_of}
+use Rattle.fx_contour.specs.Frames.{HasAny, HaveAny, IsInBoundingBox, AreTooLarge, has_any, have_any, is_in_bounding_box}
+use Rattle.fx_contour.specs.Frames.{first_from, is_large_from, is_too_large, LargeIsTested, IsFrameFor, framed_of}
 
 pub le_decides : (x y : ℤ) → Decides (int_le x y) (x ≤ℤ y)
 le_decides x y = (λ t. omega (arith, ints), λ h. sym (omega (arith, ints)))

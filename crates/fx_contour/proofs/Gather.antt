@@ -1,6 +1,7 @@
 -- The contours of an outline, one after the other.
 -- For the loop of `pieces`.
-use Rattle.std.proofs.Common.{◌≡◌, refl, sym, subst, ◌∙◌, ℕ, zero, suc, ◌+◌, ◌-◌, ◌<◌, ◌≤◌, List, [], ◌∷◌, ◌++◌, map, drop, take, length, get_or, append_assoc, arith}
+use Rattle.std.proofs.Common.{◌≡◌, refl, sym, subst, ◌∙◌, ℕ, zero, suc, ◌+◌, ◌-◌, ◌<◌, ◌≤◌, List, [], ◌∷◌, ◌++◌, map, drop, take}
+use Rattle.std.proofs.Common.{length, get_or, append_assoc, arith}
 use Rattle.std.proofs.lemmas.List.{drop_more, append-nil, length-take, length-drop}
 use Rattle.fx_winding.specs.declared.point.Piece.{Piece}
 use Rattle.fx_hint.specs.declared.outline.OutlinePoint.{OutlinePoint}

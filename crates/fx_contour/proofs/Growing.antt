@@ -1,6 +1,7 @@
 -- Bounding boxes, point by point.
 -- For `Bounds` and its loop.
-use Rattle.std.proofs.Common.{◌≡◌, sym, subst, ℕ, zero, suc, ◌+◌, ◌<◌, ◌≤◌, drop, length, map, get_or, ◌⊎◌, inl, inr, ℤ, ◌≤ℤ◌, List, [], ◌∷◌, Option, None, IsSomeAnd, refl, arith, ◌↔◌}
+use Rattle.std.proofs.Common.{◌≡◌, sym, subst, ℕ, zero, suc, ◌+◌, ◌<◌, ◌≤◌, drop, length, map, get_or, ◌⊎◌, inl, inr, ℤ, ◌≤ℤ◌, List}
+use Rattle.std.proofs.Common.{[], ◌∷◌, Option, None, IsSomeAnd, refl, arith, ◌↔◌}
 use Rattle.std.specs.Int.{int_min, int_max}
 use Rattle.std.proofs.lemmas.Int.{ints, clamps, by_lt_z}
 use Rattle.std.proofs.lemmas.List.{drop_more}

@@ -1,6 +1,7 @@
 -- A scan of the frame gives the bit of every pixel of the plane.
 -- For the bits of a glyph, in fx_strike.
-use Rattle.std.proofs.Common.{◌≡◌, refl, sym, ◌↔◌, subst, IsTrue, ℕ, ℤ, pos, ◌+ℤ◌, ◌<ℤ◌, int_le, int_lt, Bool, true, false, ◌&&◌, List, Some, Decides, arith}
+use Rattle.std.proofs.Common.{◌≡◌, refl, sym, ◌↔◌, subst, IsTrue, ℕ, ℤ, pos, ◌+ℤ◌, ◌<ℤ◌, int_le, int_lt, Bool, true, false, ◌&&◌}
+use Rattle.std.proofs.Common.{List, Some, Decides, arith}
 use Rattle.std.proofs.lemmas.Int.{ints}
 use Rattle.std.proofs.lemmas.Bool.Decides.{Decides-like, Decides-and}
 use Rattle.fx_winding.specs.declared.frame.Frame.{Frame}

@@ -1,5 +1,6 @@
 -- The curves of an outline, one contour after the other (OpenType, "glyf", endPtsOfContours).
-use Rattle.std.specs.Prelude.{◌↔◌, IsTrue, All, ℤ, pos, neg_ℤ, int_le, Bool, not, ◌&&◌, Result, Ok, ℕ, ◌+◌, ◌-◌, ◌^◌, List, [], ◌∷◌, map, take, drop}
+use Rattle.std.specs.Prelude.{◌↔◌, IsTrue, All, ℤ, pos, neg_ℤ, int_le, Bool, not, ◌&&◌, Result, Ok, ℕ, ◌+◌, ◌-◌, ◌^◌, List, [], ◌∷◌}
+use Rattle.std.specs.Prelude.{map, take, drop}
 use Rattle.std.specs.List.{list_all}
 use Rattle.fx_fixed.specs.Chain.{◌>>=◌, refuse}
 use Rattle.fx_fixed.specs.Ranges.{IsWithin}

@@ -1,6 +1,8 @@
 -- Digits that are put from the last to the first.
 -- For `Digits::unsigned` and `Digits::signed`, whose loops write from the end of a buffer.
-use Rattle.std.proofs.Common.{◌≡◌, ◌+◌, ◌-◌, ◌*◌, ◌/◌, ◌%◌, ◌^◌, ◌<◌, ◌≤◌, ◌++◌, ◌∷◌, [], zero, suc, length, drop, sym, ap, ◌∙◌, arith, List, ℕ, append_assoc, subst, lit<, ℤ, pos, negsuc, unsigned_abs, ◌<ℤ◌, ◌≤ℤ◌, FitsSigned, to_z, of_z, w32}
+use Rattle.std.proofs.Common.{◌≡◌, ◌+◌, ◌-◌, ◌*◌, ◌/◌, ◌%◌, ◌^◌, ◌<◌, ◌≤◌, ◌++◌, ◌∷◌, [], zero, suc, length, drop, sym, ap, ◌∙◌}
+use Rattle.std.proofs.Common.{arith, List, ℕ, append_assoc, subst, lit<, ℤ, pos, negsuc, unsigned_abs, ◌<ℤ◌, ◌≤ℤ◌, FitsSigned, to_z}
+use Rattle.std.proofs.Common.{of_z, w32}
 use Rattle.std.proofs.lemmas.Int.{to_z-of_z}
 use Rattle.std.proofs.Math.Nat.{div-lt_iff_lt-mul, pow-suc, pow-zero}
 use Rattle.std.proofs.Math.ListN.{set}

@@ -1,6 +1,7 @@
 -- Hexadecimal digits that are put from the last to the first, and zeros before them.
 -- For `Digits::hexadecimal`, whose loops write from the end of a buffer.
-use Rattle.std.proofs.Common.{◌≡◌, ◌+◌, ◌-◌, ◌/◌, ◌%◌, ◌<◌, ◌≤◌, ◌++◌, ◌∷◌, [], zero, suc, length, length-drop, drop, replicate, sym, ap, ◌∙◌, arith, List, ℕ, Bool, true, false, refl, if◌then◌else◌, ◌==◌}
+use Rattle.std.proofs.Common.{◌≡◌, ◌+◌, ◌-◌, ◌/◌, ◌%◌, ◌<◌, ◌≤◌, ◌++◌, ◌∷◌, [], zero, suc, length, length-drop, drop, replicate}
+use Rattle.std.proofs.Common.{sym, ap, ◌∙◌, arith, List, ℕ, Bool, true, false, refl, if◌then◌else◌, ◌==◌}
 use Rattle.std.proofs.Math.ListN.{set}
 use Rattle.std.proofs.lemmas.Bool.{ne_eqb}
 use Rattle.std.specs.Fmt.{digits, digits_onto, digit_glyph}

@@ -1,10 +1,12 @@
 -- Identities of polynomials: two expressions with one normal form have one value.
 -- For products of signed numbers, in all crates.
-use Rattle.std.proofs.Common.{◌≡◌, refl, sym, ap, ◌∙◌, subst, ℕ, zero, suc, ◌*◌, ℤ, pos, negsuc, ◌+ℤ◌, ◌-ℤ◌, ◌*ℤ◌, neg_ℤ, List, [], ◌∷◌, Bool, true, false, cond, ◌&&◌, eqb, leb, T, arith}
+use Rattle.std.proofs.Common.{◌≡◌, refl, sym, ap, ◌∙◌, subst, ℕ, zero, suc, ◌*◌, ℤ, pos, negsuc, ◌+ℤ◌, ◌-ℤ◌, ◌*ℤ◌, neg_ℤ, List, []}
+use Rattle.std.proofs.Common.{◌∷◌, Bool, true, false, cond, ◌&&◌, eqb, leb, T, arith}
 use Rattle.std.proofs.lemmas.Int.{ints}
 use borrow.Author.Differences.{up, down, same_in, sum_is_lem, product_is}
 use lib.Dec.{eqb→eq}
-use Rattle.fx_fixed.specs.Polynomial.{Expr, var, num, ◌⊞◌, ◌⊠◌, minus, ◌⊟◌, at, value, Poly, nil, term, mono_value, poly_value, with_var, mono_mul, same_mono, with_term, poly_add, poly_scale, poly_mul, normal, all_zero}
+use Rattle.fx_fixed.specs.Polynomial.{Expr, var, num, ◌⊞◌, ◌⊠◌, minus, ◌⊟◌, at, value, Poly, nil, term, mono_value, poly_value}
+use Rattle.fx_fixed.specs.Polynomial.{with_var, mono_mul, same_mono, with_term, poly_add, poly_scale, poly_mul, normal, all_zero}
 
 pub *ℤ-+ℤ : (a b c : ℤ) → a *ℤ (b +ℤ c) ≡ a *ℤ b +ℤ a *ℤ c
 *ℤ-+ℤ a b c =
@@ -92,7 +94,8 @@ with_term_is env c m (term d n p) = by (with_term_is env c m p) (same_mono m n) 
     by ih true e =
         ap (λ z. z +ℤ poly_value env p) (+ℤ-*ℤ c d (mono_value env n))
         ∙ sym (assoc_sum (c *ℤ mono_value env n) (d *ℤ mono_value env n) (poly_value env p))
-        ∙ ap (λ k. c *ℤ mono_value env k +ℤ (d *ℤ mono_value env n +ℤ poly_value env p)) (sym (same_mono_is m n (subst T (sym e) tt)))
+        ∙ ap (λ k. c *ℤ mono_value env k +ℤ (d *ℤ mono_value env n +ℤ poly_value env p))
+            (sym (same_mono_is m n (subst T (sym e) tt)))
     by ih false e = ap (λ z. d *ℤ mono_value env n +ℤ z) ih
         ∙ swap_sum (d *ℤ mono_value env n) (c *ℤ mono_value env m) (poly_value env p)
 

@@ -1,12 +1,14 @@
 -- A direction has one unit vector, and it is the function's.
 -- For `unit`, and the laws of its definitions.
-use Rattle.std.proofs.Common.{◌≡◌, ◌≢◌, ℕ, zero, suc, ◌-◌, ◌*◌, ◌<◌, ◌≤◌, Bool, true, false, cond, nat_eq, arith, ℤ, pos, negsuc, neg_ℤ, unsigned_abs, refl, sym, ◌∙◌}
+use Rattle.std.proofs.Common.{◌≡◌, ◌≢◌, ℕ, zero, suc, ◌-◌, ◌*◌, ◌<◌, ◌≤◌, Bool, true, false, cond, nat_eq, arith, ℤ, pos, negsuc}
+use Rattle.std.proofs.Common.{neg_ℤ, unsigned_abs, refl, sym, ◌∙◌}
 use Rattle.std.proofs.Math.Nat.{mul-le-mul_right, mul-le-mul}
 use Rattle.std.proofs.lemmas.Int.{ints, by_lt_z}
 use Rattle.std.proofs.lemmas.Bool.Decides.{nat_tests}
 use Rattle.fx_fixed.specs.Greatest.{IsGreatestOrZero, greatest_passing}
 use Rattle.fx_fixed.proofs.Greatest.{passing, greatest_below}
-use Rattle.fx_fixed.specs.Unit.{Admits, IsComponent, IsUnit, square_length, admits, component_size, component_of, unit_of, UnitOfIsUnit}
+use Rattle.fx_fixed.specs.Unit.{Admits, IsComponent, IsUnit, square_length, admits, component_size, component_of, unit_of}
+use Rattle.fx_fixed.specs.Unit.{UnitOfIsUnit}
 
 -- what is admitted is admitted further down too
 pub admits_below : (x s j k : ℕ) → 1 ≤ j → j ≤ k → Admits x s k → Admits x s j

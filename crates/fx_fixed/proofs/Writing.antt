@@ -1,6 +1,7 @@
 -- One text after another on a sink.
 -- For calls that write a text in several steps, in all crates that write.
-use Rattle.std.proofs.Common.{refl, [], ◌∷◌, zero, suc, drop, get_or, ◌≡◌, ℕ, ◌+◌, ◌-◌, ◌<◌, ◌≤◌, ◌++◌, List, length, take, length-append, length-drop, sym, ap, ◌∙◌, arith, subst, append_assoc, Result, Ok, Err, IfOk, Option}
+use Rattle.std.proofs.Common.{refl, [], ◌∷◌, zero, suc, drop, get_or, ◌≡◌, ℕ, ◌+◌, ◌-◌, ◌<◌, ◌≤◌, ◌++◌, List, length, take}
+use Rattle.std.proofs.Common.{length-append, length-drop, sym, ap, ◌∙◌, arith, subst, append_assoc, Result, Ok, Err, IfOk, Option}
 use Rattle.std.specs.List.{flat_map}
 use Rattle.std.specs.Io.KnownBytes.{Appends}
 use Rattle.std.proofs.KnownBytes.{Appends-trans}

@@ -1,5 +1,6 @@
 -- The unit vector in 2.14 of a direction (its rounding is a choice of this project).
-use Rattle.std.specs.Prelude.{◌≡◌, ℕ, suc, ◌+◌, ◌-◌, ◌*◌, ◌^◌, ◌≤◌, ◌≢◌, Bool, nat_le, ◌==◌, if◌then◌else◌, ℤ, pos, negsuc, neg_ℤ, ◌≤ℤ◌, unsigned_abs}
+use Rattle.std.specs.Prelude.{◌≡◌, ℕ, suc, ◌+◌, ◌-◌, ◌*◌, ◌^◌, ◌≤◌, ◌≢◌, Bool, nat_le, ◌==◌, if◌then◌else◌, ℤ, pos, negsuc, neg_ℤ}
+use Rattle.std.specs.Prelude.{◌≤ℤ◌, unsigned_abs}
 use Rattle.fx_fixed.specs.Numbers.{one_in_2_14}
 use Rattle.fx_fixed.specs.Greatest.{IsGreatestOrZero, greatest_passing}
 

@@ -5,7 +5,9 @@ use Rattle.std.proofs.lemmas.Option.{option_and_then_some, same_Some}
 use Rattle.std.specs.Prelude.{option_map, option_and_then}
 use Rattle.fx_glyf.specs.declared.point.Point.{Point}
 use Rattle.fx_glyf.specs.Words.{list_in, with_front}
-use Rattle.fx_glyf.specs.Points.{Cursor, x_short_vector, x_is_same_or_positive_x_short_vector, y_short_vector, y_is_same_or_positive_y_short_vector, next_flag, flags_from, delta_of, deltas_from, points_of, glyph_points_of, start, points_seen}
+use Rattle.fx_glyf.specs.Points.{Cursor, x_short_vector, x_is_same_or_positive_x_short_vector, y_short_vector}
+use Rattle.fx_glyf.specs.Points.{y_is_same_or_positive_y_short_vector, next_flag, flags_from, delta_of, deltas_from, points_of}
+use Rattle.fx_glyf.specs.Points.{glyph_points_of, start, points_seen}
 use Rattle.fx_glyf.proofs.Steps.{front_is}
 
 pub known : {X : Type 0} (o : Option (List X × List ℕ)) (r : List ℕ) → Some r ≡ option_map (λ p. p.1) o → o ≡ Some (list_in o, r)

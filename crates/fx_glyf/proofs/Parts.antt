@@ -1,6 +1,7 @@
 -- Component records, one at a time.
 -- For `next_part`, `skip_parts` and the iterator `Components`.
-use Rattle.std.proofs.Common.{◌≡◌, ℕ, zero, suc, ◌+◌, ◌-◌, ◌<◌, ◌≤◌, Bool, true, false, List, [], ◌∷◌, length, take, drop, Option, Some, None, refl, sym, ap, ◌∙◌, arith, length-drop}
+use Rattle.std.proofs.Common.{◌≡◌, ℕ, zero, suc, ◌+◌, ◌-◌, ◌<◌, ◌≤◌, Bool, true, false, List, [], ◌∷◌, length, take, drop, Option}
+use Rattle.std.proofs.Common.{Some, None, refl, sym, ap, ◌∙◌, arith, length-drop}
 use Rattle.std.specs.Prelude.{IsSome, option_map, option_and_then, ◌||◌}
 use Rattle.std.proofs.lemmas.Option.{same_Some}
 use Rattle.std.proofs.lemmas.Bool.{ltb-false}
@@ -11,7 +12,8 @@ use Rattle.byteorder.specs.Numbers.{big_from-take}
 use Rattle.fx_sfnt.specs.Fields.{field}
 use Rattle.fx_glyf.specs.declared.part.Part.{Part}
 use Rattle.fx_glyf.specs.Words.{has, with_front, list_in}
-use Rattle.fx_glyf.specs.Components.{part_size, part_of, next_part, is_followed, parts_from, parts_in, has_program, we_have_instructions}
+use Rattle.fx_glyf.specs.Components.{part_size, part_of, next_part, is_followed, parts_from, parts_in, has_program}
+use Rattle.fx_glyf.specs.Components.{we_have_instructions}
 use Rattle.fx_glyf.proofs.EndPoints.{guarded}
 use Rattle.fx_glyf.proofs.Steps.{Stepped, stepped, none_absurd}
 

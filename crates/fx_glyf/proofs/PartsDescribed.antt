@@ -1,6 +1,7 @@
 -- Reading component records against the grammar, both ways.
 -- For the clauses of `read` on composites.
-use Rattle.std.proofs.Common.{◌≡◌, ℕ, zero, suc, ◌+◌, ◌≤◌, Bool, true, false, List, [], ◌∷◌, ◌++◌, length, take, drop, cond, Some, None, refl, sym, ap, ◌∙◌, arith, subst, append_assoc, length-append}
+use Rattle.std.proofs.Common.{◌≡◌, ℕ, zero, suc, ◌+◌, ◌≤◌, Bool, true, false, List, [], ◌∷◌, ◌++◌, length, take, drop, cond, Some}
+use Rattle.std.proofs.Common.{None, refl, sym, ap, ◌∙◌, arith, subst, append_assoc, length-append}
 use Rattle.std.specs.Prelude.{option_and_then, nat_lt}
 use Rattle.std.proofs.lemmas.Option.{option_and_then_some, same_Some, none-some}
 use Rattle.std.proofs.lemmas.Bool.{le-ltb}

@@ -1,6 +1,7 @@
 -- Reading the points of a simple glyph against the grammar, both ways.
 -- For the clauses of `read` on simple glyphs.
-use Rattle.std.proofs.Common.{◌≡◌, ℕ, zero, suc, ◌-◌, ◌<◌, ◌≤◌, Bool, true, false, List, [], ◌∷◌, ◌++◌, length, take, drop, replicate, Some, None, cond, refl, sym, ap, ◌∙◌, arith, subst, append_assoc}
+use Rattle.std.proofs.Common.{◌≡◌, ℕ, zero, suc, ◌-◌, ◌<◌, ◌≤◌, Bool, true, false, List, [], ◌∷◌, ◌++◌, length, take, drop}
+use Rattle.std.proofs.Common.{replicate, Some, None, cond, refl, sym, ap, ◌∙◌, arith, subst, append_assoc}
 use Rattle.std.specs.Prelude.{option_and_then}
 use Rattle.std.specs.List.{flat_map}
 use Rattle.std.proofs.lemmas.Option.{option_and_then_some, same_Some, none-some}
@@ -10,7 +11,9 @@ use Rattle.byteorder.specs.Endian.{big_number}
 use Rattle.byteorder.specs.Numbers.{big_from-take, big_from-append}
 use Rattle.fx_glyf.proofs.Outlines.{of_flags, of_xs, of_ys}
 use Rattle.fx_glyf.specs.declared.point.Point.{Point}
-use Rattle.fx_glyf.specs.Points.{Cursor, x_short_vector, x_is_same_or_positive_x_short_vector, y_short_vector, y_is_same_or_positive_y_short_vector, repeat_flag, next_flag, flags_from, delta_of, delta_by, deltas_from, glyph_points_of, start}
+use Rattle.fx_glyf.specs.Points.{Cursor, x_short_vector, x_is_same_or_positive_x_short_vector, y_short_vector}
+use Rattle.fx_glyf.specs.Points.{y_is_same_or_positive_y_short_vector, repeat_flag, next_flag, flags_from, delta_of, delta_by}
+use Rattle.fx_glyf.specs.Points.{deltas_from, glyph_points_of, start}
 use Rattle.fx_glyf.specs.Words.{with_front, has}
 use Rattle.fx_glyf.specs.Grammar.{Run, run_bytes, run_flags, AreRuns, SpellsBy, SpellsAll, DescribesPoints}
 use Rattle.fx_glyf.proofs.Steps.{front_is}

@@ -5,7 +5,9 @@ use Rattle.std.specs.Prelude.{IsSome, option_map, option_and_then}
 use Rattle.std.proofs.lemmas.Option.{same_Some, none-some}
 use Rattle.fx_glyf.specs.declared.point.Point.{Point}
 use Rattle.fx_glyf.specs.Words.{with_front, list_in}
-use Rattle.fx_glyf.specs.Points.{Cursor, x_short_vector, x_is_same_or_positive_x_short_vector, y_short_vector, y_is_same_or_positive_y_short_vector, next_flag, flags_from, delta_of, deltas_from, points_of, point_at}
+use Rattle.fx_glyf.specs.Points.{Cursor, x_short_vector, x_is_same_or_positive_x_short_vector, y_short_vector}
+use Rattle.fx_glyf.specs.Points.{y_is_same_or_positive_y_short_vector, next_flag, flags_from, delta_of, deltas_from, points_of}
+use Rattle.fx_glyf.specs.Points.{point_at}
 
 pub front_some : {X : Type 0} (x : X) (o : Option (List X × List ℕ)) → IsSome (with_front x o) → IsSome o
 front_some x None h = h

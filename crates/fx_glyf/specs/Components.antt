@@ -1,5 +1,6 @@
 -- The components of a composite glyph (OpenType, `glyf`, composite glyph description).
-use Rattle.std.specs.Prelude.{ℕ, zero, suc, ◌+◌, ◌*◌, ℤ, pos, List, [], length, take, drop, slice_index, Option, Some, None, option_and_then, Bool, true, false, nat_lt, if◌then◌else◌}
+use Rattle.std.specs.Prelude.{ℕ, zero, suc, ◌+◌, ◌*◌, ℤ, pos, List, [], length, take, drop, slice_index, Option, Some, None}
+use Rattle.std.specs.Prelude.{option_and_then, Bool, true, false, nat_lt, if◌then◌else◌}
 use Rattle.std.specs.Int.{w8, cast_signed}
 use Rattle.std.specs.List.{list_any}
 use Rattle.fx_fixed.specs.Numbers.{one_in_2_14}

@@ -1,5 +1,6 @@
 -- Reading a glyph, with the first fault.
-use Rattle.std.specs.Prelude.{ℕ, ◌*◌, ℤ, List, [], ◌∷◌, length, drop, Option, Some, Result, Ok, Bool, true, false, ◌==◌, nat_lt, if◌then◌else◌}
+use Rattle.std.specs.Prelude.{ℕ, ◌*◌, ℤ, List, [], ◌∷◌, length, drop, Option, Some, Result, Ok, Bool, true, false, ◌==◌, nat_lt}
+use Rattle.std.specs.Prelude.{if◌then◌else◌}
 use Rattle.fx_fixed.specs.Chain.{◌>>=◌, refuse, wanted, map_ok}
 use Rattle.fx_sfnt.specs.Fields.{field, signed_field}
 use Rattle.fx_glyf.specs.Words.{words, count_from, program_of}

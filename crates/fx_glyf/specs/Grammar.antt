@@ -1,10 +1,12 @@
 -- The grammar of a glyph's bytes (OpenType, `glyf`): what a split of them describes.
-use Rattle.std.specs.Prelude.{◌≡◌, ℕ, ℤ, suc, ◌+◌, ◌-◌, ◌%◌, ◌*◌, ◌<◌, ◌≤◌, ◌⊎◌, List, [], ◌∷◌, ◌++◌, length, take, replicate, Bool, true, false, if◌then◌else◌}
+use Rattle.std.specs.Prelude.{◌≡◌, ℕ, ℤ, suc, ◌+◌, ◌-◌, ◌%◌, ◌*◌, ◌<◌, ◌≤◌, ◌⊎◌, List, [], ◌∷◌, ◌++◌, length, take, replicate, Bool}
+use Rattle.std.specs.Prelude.{true, false, if◌then◌else◌}
 use Rattle.std.specs.List.{flat_map}
 use Rattle.byteorder.specs.Endian.{big_number}
 use Rattle.fx_sfnt.specs.Fields.{field, signed_field}
 use Rattle.fx_glyf.specs.Words.{has, words}
-use Rattle.fx_glyf.specs.Points.{x_short_vector, y_short_vector, x_is_same_or_positive_x_short_vector, y_is_same_or_positive_y_short_vector, repeat_flag, points_of}
+use Rattle.fx_glyf.specs.Points.{x_short_vector, y_short_vector, x_is_same_or_positive_x_short_vector}
+use Rattle.fx_glyf.specs.Points.{y_is_same_or_positive_y_short_vector, repeat_flag, points_of}
 use Rattle.fx_glyf.specs.Components.{part_of, part_size, is_followed, has_program}
 use Rattle.fx_glyf.specs.Shapes.{SimpleView, CompositeView}
 use Rattle.fx_glyf.specs.declared.point.Point.{Point}

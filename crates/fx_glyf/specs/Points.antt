@@ -1,5 +1,6 @@
 -- Reading the flags and the coordinates of a simple glyph (OpenType, `glyf`, simple glyph table).
-use Rattle.std.specs.Prelude.{ℕ, zero, suc, ◌+◌, ◌-◌, ◌%◌, List, [], ◌∷◌, length, drop, Option, Some, None, option_and_then, Bool, true, false, nat_lt, if◌then◌else◌}
+use Rattle.std.specs.Prelude.{ℕ, zero, suc, ◌+◌, ◌-◌, ◌%◌, List, [], ◌∷◌, length, drop, Option, Some, None, option_and_then, Bool}
+use Rattle.std.specs.Prelude.{true, false, nat_lt, if◌then◌else◌}
 use Rattle.std.specs.Int.{w16, cast_signed}
 use Rattle.byteorder.specs.Endian.{big_number}
 use Rattle.fx_glyf.specs.Words.{has, with_front, list_in}

@@ -1,5 +1,6 @@
 -- What all parts of a glyph's bytes are read with (OpenType, `glyf`).
-use Rattle.std.specs.Prelude.{ℕ, zero, suc, ◌+◌, List, [], ◌∷◌, length, take, drop, Option, Some, None, Bool, ◌==◌, not, nat_lt, if◌then◌else◌, bit_and}
+use Rattle.std.specs.Prelude.{ℕ, zero, suc, ◌+◌, List, [], ◌∷◌, length, take, drop, Option, Some, None, Bool, ◌==◌, not, nat_lt}
+use Rattle.std.specs.Prelude.{if◌then◌else◌, bit_and}
 use Rattle.byteorder.specs.Endian.{big_number}
 use Rattle.fx_sfnt.specs.Fields.{field}
 

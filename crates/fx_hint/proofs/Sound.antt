@@ -1,6 +1,7 @@
 -- An assembled glyph has the points that were counted, and its contours end with them.
 -- For `outline_with`, whose outline keeps its limits.
-use Rattle.std.proofs.Common.{◌≡◌, ℕ, zero, suc, ◌+◌, ◌≤◌, List, [], ◌∷◌, ◌++◌, length, map, Bool, Ok, refl, sym, ap, ◌∙◌, subst, arith, length-append}
+use Rattle.std.proofs.Common.{◌≡◌, ℕ, zero, suc, ◌+◌, ◌≤◌, List, [], ◌∷◌, ◌++◌, length, map, Bool, Ok, refl, sym, ap, ◌∙◌, subst}
+use Rattle.std.proofs.Common.{arith, length-append}
 use Rattle.std.specs.Prelude.{nat_lt, nat_le}
 use Rattle.std.proofs.lemmas.Bool.{ltb-false}
 use Rattle.std.proofs.lemmas.List.{length-map}
@@ -28,7 +29,8 @@ use Rattle.fx_hint.specs.Limits.{max_points, max_components, max_depth}
 use Rattle.fx_hint.specs.Ends.{AreEnds}
 use Rattle.fx_hint.specs.Hinting.{Hinting, KeepsShape}
 use Rattle.fx_hint.specs.Parts.{laid, laid_figure, offset_of, with_part}
-use Rattle.fx_hint.specs.Outlines.{Maker, one_component, more_points, simple_made, run_on, with_parts, made_of, assembled, component, root_made, IsSound}
+use Rattle.fx_hint.specs.Outlines.{Maker, one_component, more_points, simple_made, run_on, with_parts, made_of, assembled}
+use Rattle.fx_hint.specs.Outlines.{component, root_made, IsSound}
 use Rattle.fx_hint.proofs.Contours.{ends_joined}
 
 -- the points of an assembled glyph were counted, and its contours end with them

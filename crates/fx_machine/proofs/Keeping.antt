@@ -1,6 +1,7 @@
 -- No row changes the number of points or the contours.
 -- It serves the law that programs keep shapes, over definitions, and the same clause of each instruction and run in code.
-use Rattle.std.proofs.Common.{◌≡◌, ℕ, zero, suc, ℤ, pos, negsuc, ◌*◌, ◌+ℤ◌, List, [], ◌∷◌, length, reverse, Bool, true, false, Option, Some, None, Result, Ok, Err, refl, ◌∙◌, if◌then◌else◌}
+use Rattle.std.proofs.Common.{◌≡◌, ℕ, zero, suc, ℤ, pos, negsuc, ◌*◌, ◌+ℤ◌, List, [], ◌∷◌, length, reverse, Bool, true, false}
+use Rattle.std.proofs.Common.{Option, Some, None, Result, Ok, Err, refl, ◌∙◌, if◌then◌else◌}
 use Rattle.std.specs.Prelude.{OnErr, nat_lt, nat_le, int_lt, unsigned_abs}
 use Rattle.std.specs.Ordering.{int_eq}
 use Rattle.fx_fixed.specs.declared.places.Axis.{Axis}
@@ -26,8 +27,10 @@ use Rattle.fx_pointops.specs.Direct.{utp_of, alignrp_of, alignpts_of, scfs_of, s
 use Rattle.fx_pointops.specs.Shift.{shp_of, shc_of}
 use Rattle.fx_pointops.specs.Interpolate.{ip_of}
 use Rattle.fx_pointops.specs.Flip.{flippt_of, fliprg_of}
-use Rattle.fx_pointops.proofs.Keeping.{shapes_same, shapes_then, utp_keeps, mdap_keeps, msirp_keeps, alignrp_keeps, alignpts_keeps, scfs_keeps, shpix_keeps, mdrp_keeps}
-use Rattle.fx_pointops.proofs.Keeping.{miap_keeps, mirp_keeps, shp_keeps, shc_keeps, shz_keeps, ip_keeps, isect_keeps, flippt_keeps, fliprg_keeps, deltap_keeps, iup_keeps}
+use Rattle.fx_pointops.proofs.Keeping.{shapes_same, shapes_then, utp_keeps, mdap_keeps, msirp_keeps, alignrp_keeps, alignpts_keeps}
+use Rattle.fx_pointops.proofs.Keeping.{scfs_keeps, shpix_keeps, mdrp_keeps}
+use Rattle.fx_pointops.proofs.Keeping.{miap_keeps, mirp_keeps, shp_keeps, shc_keeps, shz_keeps, ip_keeps, isect_keeps, flippt_keeps}
+use Rattle.fx_pointops.proofs.Keeping.{fliprg_keeps, deltap_keeps, iup_keeps}
 use Rattle.fx_machine.specs.declared.program.Program.{Program}
 use Rattle.fx_machine.specs.declared.definitions.Function.{Function}
 use Rattle.fx_machine.specs.declared.halt.Cause.{Cause}
@@ -40,14 +43,21 @@ use Rattle.fx_machine.specs.Causes.{of_stack, of_state}
 use Rattle.fx_machine.specs.Definitions.{function_at}
 use Rattle.fx_machine.specs.Effects.{Effect, Ends, Fails, Goes, Calls, Returns}
 use Rattle.fx_machine.specs.Runs.{Verdict, Finished, Halted, Exhausted, MAX_DEPTH}
-use Rattle.fx_machine.specs.Machine.{Config, config, turned, Move, Finishes, Stops, Moves, moved_by, answer_from, answer_of, verdict_by, verdict_at_limit}
-use Rattle.fx_machine.specs.Flow.{led, jumped, called, times, if_of, jmpr_of, jrot_of, jrof_of, call_of, loopcall_of, fdef_of, idef_of, undefined_of}
-use Rattle.fx_machine.specs.StateRows.{on_store, on_graphics, by_one, by_two, by_one_in_range, by_line, pushed_pair, spvtl_of, sfvtl_of, sdpvtl_of, spvfs_of, sfvfs_of, gpv_of, gfv_of}
-use Rattle.fx_machine.specs.StateRows.{srp0_of, srp1_of, srp2_of, szp0_of, szp1_of, szp2_of, szps_of, sloop_of, smd_of, scvtci_of, sswci_of, ssw_of}
+use Rattle.fx_machine.specs.Machine.{Config, config, turned, Move, Finishes, Stops, Moves, moved_by, answer_from, answer_of}
+use Rattle.fx_machine.specs.Machine.{verdict_by, verdict_at_limit}
+use Rattle.fx_machine.specs.Flow.{led, jumped, called, times, if_of, jmpr_of, jrot_of, jrof_of, call_of, loopcall_of, fdef_of}
+use Rattle.fx_machine.specs.Flow.{idef_of, undefined_of}
+use Rattle.fx_machine.specs.StateRows.{on_store, on_graphics, by_one, by_two, by_one_in_range, by_line, pushed_pair, spvtl_of}
+use Rattle.fx_machine.specs.StateRows.{sfvtl_of, sdpvtl_of, spvfs_of, sfvfs_of, gpv_of, gfv_of}
+use Rattle.fx_machine.specs.StateRows.{srp0_of, srp1_of, srp2_of, szp0_of, szp1_of, szp2_of, szps_of, sloop_of, smd_of, scvtci_of}
+use Rattle.fx_machine.specs.StateRows.{sswci_of, ssw_of}
 use Rattle.fx_machine.specs.StateRows.{sdb_of, sds_of, wcvtf_of, sround_of, s45round_of, instctrl_of}
-use Rattle.fx_machine.specs.PointRows.{points_by_one, points_by_two, loop_on, isect_row, alignpts_row, utp_row, mdap_row, iup_row, shp_row, shc_row, shz_row, shpix_row}
-use Rattle.fx_machine.specs.PointRows.{ip_row, msirp_row, alignrp_row, miap_row, gc_row, scfs_row, md_row, deltap_row, flippt_row, fliprg_row, mdrp_row, mirp_row}
-use Rattle.fx_machine.specs.Table.{row_0, row_1, row_2, row_3, row_4, row_5, row_6, row_7, row_8, relative_row, plain_of, then_at, row_of, row_in, row_at, settled}
+use Rattle.fx_machine.specs.PointRows.{points_by_one, points_by_two, loop_on, isect_row, alignpts_row, utp_row, mdap_row, iup_row}
+use Rattle.fx_machine.specs.PointRows.{shp_row, shc_row, shz_row, shpix_row}
+use Rattle.fx_machine.specs.PointRows.{ip_row, msirp_row, alignrp_row, miap_row, gc_row, scfs_row, md_row, deltap_row, flippt_row}
+use Rattle.fx_machine.specs.PointRows.{fliprg_row, mdrp_row, mirp_row}
+use Rattle.fx_machine.specs.Table.{row_0, row_1, row_2, row_3, row_4, row_5, row_6, row_7, row_8, relative_row, plain_of, then_at}
+use Rattle.fx_machine.specs.Table.{row_of, row_in, row_at, settled}
 use Rattle.fx_machine.specs.Actions.{acts}
 use Rattle.fx_machine.specs.Shapes.{HasSizes, FinishesAlike}
 
@@ -58,7 +68,8 @@ sized s = record { store = record { room = refl; storage = refl; cvt = refl }; f
 
 pub sized_then : {s t u : State} → HasSizes s t → HasSizes t u → HasSizes s u
 sized_then h k = record {
-  store = record { room = k.store.room ∙ h.store.room; storage = k.store.storage ∙ h.store.storage; cvt = k.store.cvt ∙ h.store.cvt };
+  store = record { room = k.store.room ∙ h.store.room; storage = k.store.storage ∙ h.store.storage;
+      cvt = k.store.cvt ∙ h.store.cvt };
   functions = k.functions ∙ h.functions;
   opcodes = k.opcodes ∙ h.opcodes;
   scale = k.scale ∙ h.scale;
@@ -113,7 +124,8 @@ by_two_keeps set s = plain_bind s.zones (map_fault of_stack (two s.store)) _ (λ
 
 in_range_keeps : (set : ℤ → GState → Result GState BadArgumentOf) (s : State) → Plain s.zones (by_one_in_range set s)
 unfolding Plain
-in_range_keeps set s = plain_bind s.zones (map_fault of_stack (one s.store)) _ (λ x. plain_bind s.zones (map_fault of_state (set x.0 s.graphics)) _ (λ g. shapes_same s.zones))
+in_range_keeps set s = plain_bind s.zones (map_fault of_stack (one s.store)) _
+    (λ x. plain_bind s.zones (map_fault of_state (set x.0 s.graphics)) _ (λ g. shapes_same s.zones))
 
 line_keeps : (set : Line → GState → GState) (s : State) → Plain s.zones (by_line set s)
 unfolding Plain
@@ -121,7 +133,8 @@ line_keeps set s = plain_bind s.zones (map_fault of_stack (two s.store)) _ (λ x
 
 pair_keeps : (v : ℤ × ℤ) (s : State) → Plain s.zones (pushed_pair v s)
 unfolding Plain
-pair_keeps v s = plain_bind s.zones (map_fault of_stack (pushed v.0 s.store)) _ (λ t. plain_bind s.zones (map_fault of_stack (pushed v.1 t)) _ (λ u. shapes_same s.zones))
+pair_keeps v s = plain_bind s.zones (map_fault of_stack (pushed v.0 s.store)) _
+    (λ t. plain_bind s.zones (map_fault of_stack (pushed v.1 t)) _ (λ u. shapes_same s.zones))
 
 spvtl_keeps : (turned : Bool) (s : State) → Plain s.zones (spvtl_of turned s)
 unfolding spvtl_of
@@ -225,22 +238,27 @@ instctrl_keeps s = plain_bind s.zones (map_fault of_stack (two s.store)) _ (λ x
 
 -- ---- rows that move points
 
-one_point_keeps : (row : GState → ℤ → Zones → Outcome) → ((g : GState) (p : ℤ) (z : Zones) → HasShapes z (row g p z).0) → (s : State) → Plain s.zones (points_by_one row s)
+one_point_keeps : (row : GState → ℤ → Zones → Outcome) → ((g : GState) (p : ℤ) (z : Zones) → HasShapes z (row g p z).0)
+    → (s : State) → Plain s.zones (points_by_one row s)
 unfolding Plain
 one_point_keeps row all s = plain_bind s.zones (map_fault of_stack (one s.store)) _ (λ x. all s.graphics x.0 s.zones)
 
-two_points_keep : (row : GState → ℤ → ℤ → Zones → Outcome) → ((g : GState) (p q : ℤ) (z : Zones) → HasShapes z (row g p q z).0) → (s : State) → Plain s.zones (points_by_two row s)
+two_points_keep : (row : GState → ℤ → ℤ → Zones → Outcome) → ((g : GState) (p q : ℤ) (z : Zones) → HasShapes z (row g p q z).0)
+    → (s : State) → Plain s.zones (points_by_two row s)
 unfolding Plain
 two_points_keep row all s = plain_bind s.zones (map_fault of_stack (two s.store)) _ (λ x. all s.graphics x.0 x.1 s.zones)
 
-loop_keeps : (row : GState → List ℤ → Zones → Outcome) → ((g : GState) (ps : List ℤ) (z : Zones) → HasShapes z (row g ps z).0) → (t : StoreView) (s : State)
+loop_keeps : (row : GState → List ℤ → Zones → Outcome) → ((g : GState) (ps : List ℤ) (z : Zones) → HasShapes z (row g ps z).0)
+    → (t : StoreView) (s : State)
     → Plain s.zones (loop_on row t s)
 unfolding Plain
-loop_keeps row all t s = plain_bind s.zones (map_fault of_stack (top_numbers s.graphics.loop_count t)) _ (λ ps. all s.graphics (reverse ps) s.zones)
+loop_keeps row all t s =
+    plain_bind s.zones (map_fault of_stack (top_numbers s.graphics.loop_count t)) _ (λ ps. all s.graphics (reverse ps) s.zones)
 
 isect_row_keeps : (s : State) → Plain s.zones (isect_row s)
 unfolding isect_row Plain
-isect_row_keeps s = plain_bind s.zones (map_fault of_stack (three s.store)) _ (λ x. plain_bind s.zones (map_fault of_stack (two x.3)) _ (λ y. isect_keeps s.graphics y.0 y.1 x.0 x.1 x.2 s.zones))
+isect_row_keeps s = plain_bind s.zones (map_fault of_stack (three s.store)) _
+    (λ x. plain_bind s.zones (map_fault of_stack (two x.3)) _ (λ y. isect_keeps s.graphics y.0 y.1 x.0 x.1 x.2 s.zones))
 
 alignpts_row_keeps : (s : State) → Plain s.zones (alignpts_row s)
 unfolding alignpts_row
@@ -268,11 +286,13 @@ shc_row_keeps first s = one_point_keeps (λ g p z. shc_of g first p z) (λ g k z
 
 shz_row_keeps : (first : Bool) (s : State) → Plain s.zones (shz_row first s)
 unfolding shz_row Plain
-shz_row_keeps first s = plain_bind s.zones (map_fault of_stack (one s.store)) _ (λ x. plain_bind s.zones (map_fault of_state (zone_of x.0)) _ (λ zone. shz_keeps s.graphics first zone s.zones))
+shz_row_keeps first s = plain_bind s.zones (map_fault of_stack (one s.store)) _
+    (λ x. plain_bind s.zones (map_fault of_state (zone_of x.0)) _ (λ zone. shz_keeps s.graphics first zone s.zones))
 
 shpix_row_keeps : (s : State) → Plain s.zones (shpix_row s)
 unfolding shpix_row
-shpix_row_keeps s = plain_bind s.zones (map_fault of_stack (one s.store)) _ (λ x. loop_keeps (λ g ps z. shpix_of g ps x.0 z) (λ g ps z. shpix_keeps g ps x.0 z) x.1 s)
+shpix_row_keeps s = plain_bind s.zones (map_fault of_stack (one s.store)) _
+    (λ x. loop_keeps (λ g ps z. shpix_of g ps x.0 z) (λ g ps z. shpix_keeps g ps x.0 z) x.1 s)
 
 ip_row_keeps : (s : State) → Plain s.zones (ip_row s)
 unfolding ip_row
@@ -292,7 +312,8 @@ miap_row_keeps rounds s = plain_bind s.zones (map_fault of_stack (two s.store)) 
 
 gc_row_keeps : (original : Bool) (s : State) → Plain s.zones (gc_row original s)
 unfolding gc_row Plain
-gc_row_keeps original s = plain_bind s.zones (map_fault of_stack (one s.store)) _ (λ x. plain_bind s.zones (map_fault of_stack (pushed _ _)) _ (λ t. shapes_same s.zones))
+gc_row_keeps original s = plain_bind s.zones (map_fault of_stack (one s.store)) _
+    (λ x. plain_bind s.zones (map_fault of_stack (pushed _ _)) _ (λ t. shapes_same s.zones))
 
 scfs_row_keeps : (s : State) → Plain s.zones (scfs_row s)
 unfolding scfs_row
@@ -300,11 +321,15 @@ scfs_row_keeps s = two_points_keep scfs_of scfs_keeps s
 
 md_row_keeps : (original : Bool) (s : State) → Plain s.zones (md_row original s)
 unfolding md_row Plain
-md_row_keeps original s = plain_bind s.zones (map_fault of_stack (two s.store)) _ (λ x. plain_bind s.zones (map_fault of_stack (pushed _ _)) _ (λ t. shapes_same s.zones))
+md_row_keeps original s = plain_bind s.zones (map_fault of_stack (two s.store)) _
+    (λ x. plain_bind s.zones (map_fault of_stack (pushed _ _)) _ (λ t. shapes_same s.zones))
 
 deltap_row_keeps : (form : DeltaForm) (s : State) → Plain s.zones (deltap_row form s)
 unfolding deltap_row Plain
-deltap_row_keeps form s = plain_bind s.zones (map_fault of_stack (one s.store)) _ (λ x. plain_bind s.zones (refuse (int_lt x.0 (pos 0)) BadArgument) _ (λ u. plain_bind s.zones (map_fault of_stack (top_numbers (2 * unsigned_abs x.0) x.1)) _ (λ ps. deltap_keeps s.graphics form s.scale.ppem (reverse ps) s.zones)))
+deltap_row_keeps form s = plain_bind s.zones (map_fault of_stack (one s.store)) _
+    (λ x. plain_bind s.zones (refuse (int_lt x.0 (pos 0)) BadArgument) _
+    (λ u. plain_bind s.zones (map_fault of_stack (top_numbers (2 * unsigned_abs x.0) x.1)) _
+    (λ ps. deltap_keeps s.graphics form s.scale.ppem (reverse ps) s.zones)))
 
 flippt_row_keeps : (s : State) → Plain s.zones (flippt_row s)
 unfolding flippt_row
@@ -326,11 +351,13 @@ mirp_row_keeps how s = plain_bind s.zones (map_fault of_stack (two s.store)) _ (
 
 row_0_keeps : (op : ℕ) (s : State) → Plain s.zones (row_0 op s)
 unfolding row_0
-row_0_keeps op s = search (plain_if s.zones, graphics_keeps, spvtl_keeps, sfvtl_keeps, spvfs_keeps, sfvfs_keeps, gpv_keeps, gfv_keeps, isect_row_keeps) depth 40 fits 8000
+row_0_keeps op s = search (plain_if s.zones, graphics_keeps, spvtl_keeps, sfvtl_keeps, spvfs_keeps, sfvfs_keeps, gpv_keeps,
+    gfv_keeps, isect_row_keeps) depth 40 fits 8000
 
 row_1_keeps : (op : ℕ) (s : State) → Plain s.zones (row_1 op s)
 unfolding row_1
-row_1_keeps op s = search (plain_if s.zones, graphics_keeps, srp0_keeps, srp1_keeps, srp2_keeps, szp0_keeps, szp1_keeps, szp2_keeps, szps_keeps, sloop_keeps, smd_keeps, scvtci_keeps, sswci_keeps, ssw_keeps) depth 40 fits 8000
+row_1_keeps op s = search (plain_if s.zones, graphics_keeps, srp0_keeps, srp1_keeps, srp2_keeps, szp0_keeps, szp1_keeps, szp2_keeps,
+    szps_keeps, sloop_keeps, smd_keeps, scvtci_keeps, sswci_keeps, ssw_keeps) depth 40 fits 8000
 
 row_2_keeps : (op : ℕ) (s : State) → Plain s.zones (row_2 op s)
 unfolding row_2
@@ -338,11 +365,13 @@ row_2_keeps op s = search (plain_if s.zones, store_keeps, alignpts_row_keeps, ut
 
 row_3_keeps : (op : ℕ) (s : State) → Plain s.zones (row_3 op s)
 unfolding row_3
-row_3_keeps op s = search (plain_if s.zones, graphics_keeps, iup_row_keeps, shp_row_keeps, shc_row_keeps, shz_row_keeps, shpix_row_keeps, ip_row_keeps, msirp_row_keeps, alignrp_row_keeps, miap_row_keeps) depth 40 fits 8000
+row_3_keeps op s = search (plain_if s.zones, graphics_keeps, iup_row_keeps, shp_row_keeps, shc_row_keeps, shz_row_keeps,
+    shpix_row_keeps, ip_row_keeps, msirp_row_keeps, alignrp_row_keeps, miap_row_keeps) depth 40 fits 8000
 
 row_4_keeps : (op : ℕ) (s : State) → Plain s.zones (row_4 op s)
 unfolding row_4
-row_4_keeps op s = search (plain_if s.zones, graphics_keeps, store_keeps, gc_row_keeps, scfs_row_keeps, md_row_keeps) depth 40 fits 8000
+row_4_keeps op s =
+    search (plain_if s.zones, graphics_keeps, store_keeps, gc_row_keeps, scfs_row_keeps, md_row_keeps) depth 40 fits 8000
 
 row_5_keeps : (op : ℕ) (s : State) → Plain s.zones (row_5 op s)
 unfolding row_5
@@ -354,11 +383,13 @@ row_6_keeps op s = search (plain_if s.zones, store_keeps) depth 40 fits 8000
 
 row_7_keeps : (op : ℕ) (s : State) → Plain s.zones (row_7 op s)
 unfolding row_7
-row_7_keeps op s = search (plain_if s.zones, graphics_keeps, store_keeps, wcvtf_keeps, deltap_row_keeps, sround_keeps, s45round_keeps) depth 40 fits 8000
+row_7_keeps op s = search (plain_if s.zones, graphics_keeps, store_keeps, wcvtf_keeps, deltap_row_keeps, sround_keeps,
+    s45round_keeps) depth 40 fits 8000
 
 row_8_keeps : (op : ℕ) (s : State) → Plain s.zones (row_8 op s)
 unfolding row_8
-row_8_keeps op s = search (plain_if s.zones, store_keeps, flippt_row_keeps, fliprg_row_keeps, sdpvtl_keeps, instctrl_keeps) depth 40 fits 8000
+row_8_keeps op s =
+    search (plain_if s.zones, store_keeps, flippt_row_keeps, fliprg_row_keeps, sdpvtl_keeps, instctrl_keeps) depth 40 fits 8000
 
 relative_keeps : (op : ℕ) (s : State) → Plain s.zones (relative_row op s)
 unfolding relative_row
@@ -367,7 +398,8 @@ relative_keeps op s = plain_if s.zones (nat_le 0xE0 op) _ _ (mirp_row_keeps (rel
 plain_keeps : (op : ℕ) (s : State) → Plain s.zones (plain_of op s)
 unfolding plain_of
 plain_keeps op s =
-    search (plain_if s.zones, row_0_keeps, row_1_keeps, row_2_keeps, row_3_keeps, row_4_keeps, row_5_keeps, row_6_keeps, row_7_keeps, row_8_keeps) depth 40 fits 8000
+    search (plain_if s.zones, row_0_keeps, row_1_keeps, row_2_keeps, row_3_keeps, row_4_keeps, row_5_keeps, row_6_keeps,
+        row_7_keeps, row_8_keeps) depth 40 fits 8000
 
 -- ---- rows that may continue elsewhere
 
@@ -385,7 +417,8 @@ unfolding jumped Acts
 jumped_keeps size (pos address) z t h = acts_if z (nat_le address size) _ _ h tt
 jumped_keeps size (negsuc address) z t h = tt
 
-called_keeps : (k : ℕ) (f : Option Function) (c : Cause) (next : ℕ) (z : Zones) (t : State) → HasShapes z t.zones → Acts z (called k f c next t)
+called_keeps : (k : ℕ) (f : Option Function) (c : Cause) (next : ℕ) (z : Zones) (t : State) → HasShapes z t.zones
+    → Acts z (called k f c next t)
 unfolding called Acts
 called_keeps k (Some f) c next z t h = h
 called_keeps k None c next z t h = tt
@@ -398,44 +431,66 @@ times_keeps (negsuc n) f next z t h = h
 
 if_keeps : (code : List ℕ) (next : ℕ) (s : State) → Acts s.zones (if_of code next s)
 unfolding if_of Acts
-if_keeps code next s = search (acts_if s.zones, acts_bind s.zones, shapes_same s.zones, led_keeps, jumped_keeps, called_keeps, times_keeps)
+if_keeps code next s =
+    search (acts_if s.zones, acts_bind s.zones, shapes_same s.zones, led_keeps, jumped_keeps, called_keeps, times_keeps)
 
 jmpr_keeps : (size address : ℕ) (s : State) → Acts s.zones (jmpr_of size address s)
 unfolding jmpr_of
 jmpr_keeps size address s =
-    acts_bind s.zones (map_fault of_stack (one s.store)) (λ x. jumped size (pos address +ℤ x.0) (record s { store = x.1 })) (λ x. jumped_keeps size (pos address +ℤ x.0) s.zones (record s { store = x.1 }) (shapes_same s.zones))
+    acts_bind s.zones (map_fault of_stack (one s.store)) (λ x. jumped size (pos address +ℤ x.0) (record s { store = x.1 }))
+        (λ x. jumped_keeps size (pos address +ℤ x.0) s.zones (record s { store = x.1 }) (shapes_same s.zones))
 
 jrot_keeps : (size address next : ℕ) (s : State) → Acts s.zones (jrot_of size address next s)
 unfolding jrot_of
 jrot_keeps size address next s =
-    acts_bind s.zones (map_fault of_stack (two s.store)) (λ x. if int_eq x.1 (pos 0) then Ok (Went next, record s { store = x.2 }) else jumped size (pos address +ℤ x.0) (record s { store = x.2 })) (λ x. acts_if s.zones (int_eq x.1 (pos 0)) (Ok (Went next, record s { store = x.2 })) (jumped size (pos address +ℤ x.0) (record s { store = x.2 })) (went_keeps next s.zones (record s { store = x.2 }) (shapes_same s.zones)) (jumped_keeps size (pos address +ℤ x.0) s.zones (record s { store = x.2 }) (shapes_same s.zones)))
+    acts_bind s.zones (map_fault of_stack (two s.store))
+        (λ x. if int_eq x.1 (pos 0) then Ok (Went next, record s { store = x.2 }) else jumped size (pos address +ℤ x.0)
+        (record s { store = x.2 })) (λ x. acts_if s.zones (int_eq x.1 (pos 0)) (Ok (Went next, record s { store = x.2 }))
+        (jumped size (pos address +ℤ x.0) (record s { store = x.2 }))
+        (went_keeps next s.zones (record s { store = x.2 }) (shapes_same s.zones))
+        (jumped_keeps size (pos address +ℤ x.0) s.zones (record s { store = x.2 }) (shapes_same s.zones)))
 
 jrof_keeps : (size address next : ℕ) (s : State) → Acts s.zones (jrof_of size address next s)
 unfolding jrof_of
 jrof_keeps size address next s =
-    acts_bind s.zones (map_fault of_stack (two s.store)) (λ x. if int_eq x.1 (pos 0) then jumped size (pos address +ℤ x.0) (record s { store = x.2 }) else Ok (Went next, record s { store = x.2 })) (λ x. acts_if s.zones (int_eq x.1 (pos 0)) (jumped size (pos address +ℤ x.0) (record s { store = x.2 })) (Ok (Went next, record s { store = x.2 })) (jumped_keeps size (pos address +ℤ x.0) s.zones (record s { store = x.2 }) (shapes_same s.zones)) (went_keeps next s.zones (record s { store = x.2 }) (shapes_same s.zones)))
+    acts_bind s.zones (map_fault of_stack (two s.store))
+        (λ x. if int_eq x.1 (pos 0) then jumped size (pos address +ℤ x.0) (record s { store = x.2 }) else
+        Ok (Went next, record s { store = x.2 }))
+        (λ x. acts_if s.zones (int_eq x.1 (pos 0)) (jumped size (pos address +ℤ x.0) (record s { store = x.2 }))
+        (Ok (Went next, record s { store = x.2 }))
+        (jumped_keeps size (pos address +ℤ x.0) s.zones (record s { store = x.2 }) (shapes_same s.zones))
+        (went_keeps next s.zones (record s { store = x.2 }) (shapes_same s.zones)))
 
 call_keeps : (next : ℕ) (s : State) → Acts s.zones (call_of next s)
 unfolding call_of
 call_keeps next s =
-    acts_bind s.zones (map_fault of_stack (one s.store)) (λ x. called 1 (function_at s.definitions.functions x.0) NoFunction next (record s { store = x.1 })) (λ x. called_keeps 1 (function_at s.definitions.functions x.0) NoFunction next s.zones (record s { store = x.1 }) (shapes_same s.zones))
+    acts_bind s.zones (map_fault of_stack (one s.store))
+        (λ x. called 1 (function_at s.definitions.functions x.0) NoFunction next (record s { store = x.1 }))
+        (λ x. called_keeps 1 (function_at s.definitions.functions x.0) NoFunction next s.zones (record s { store = x.1 })
+        (shapes_same s.zones))
 
 loopcall_keeps : (next : ℕ) (s : State) → Acts s.zones (loopcall_of next s)
 unfolding loopcall_of
 loopcall_keeps next s =
-    acts_bind s.zones (map_fault of_stack (two s.store)) (λ x. times x.0 (function_at s.definitions.functions x.1) next (record s { store = x.2 })) (λ x. times_keeps x.0 (function_at s.definitions.functions x.1) next s.zones (record s { store = x.2 }) (shapes_same s.zones))
+    acts_bind s.zones (map_fault of_stack (two s.store))
+        (λ x. times x.0 (function_at s.definitions.functions x.1) next (record s { store = x.2 }))
+        (λ x. times_keeps x.0 (function_at s.definitions.functions x.1) next s.zones (record s { store = x.2 })
+        (shapes_same s.zones))
 
 fdef_keeps : (code : List ℕ) (w : Program) (next : ℕ) (s : State) → Acts s.zones (fdef_of code w next s)
 unfolding fdef_of Acts
-fdef_keeps code w next s = search (acts_if s.zones, acts_bind s.zones, shapes_same s.zones, led_keeps, jumped_keeps, called_keeps, times_keeps)
+fdef_keeps code w next s =
+    search (acts_if s.zones, acts_bind s.zones, shapes_same s.zones, led_keeps, jumped_keeps, called_keeps, times_keeps)
 
 idef_keeps : (code : List ℕ) (w : Program) (next : ℕ) (s : State) → Acts s.zones (idef_of code w next s)
 unfolding idef_of Acts
-idef_keeps code w next s = search (acts_if s.zones, acts_bind s.zones, shapes_same s.zones, led_keeps, jumped_keeps, called_keeps, times_keeps)
+idef_keeps code w next s =
+    search (acts_if s.zones, acts_bind s.zones, shapes_same s.zones, led_keeps, jumped_keeps, called_keeps, times_keeps)
 
 undefined_keeps : (op next : ℕ) (s : State) → Acts s.zones (undefined_of op next s)
 unfolding undefined_of Acts
-undefined_keeps op next s = search (acts_if s.zones, acts_bind s.zones, shapes_same s.zones, led_keeps, jumped_keeps, called_keeps, times_keeps)
+undefined_keeps op next s =
+    search (acts_if s.zones, acts_bind s.zones, shapes_same s.zones, led_keeps, jumped_keeps, called_keeps, times_keeps)
 
 returned_keeps : (z : Zones) (t : State) → HasShapes z t.zones → Acts z (Ok (Returned, t))
 unfolding Acts
@@ -446,7 +501,8 @@ unfolding Plain Acts
 then_keeps next z (Ok t) h = h
 then_keeps next z (Err c) h = tt
 
-row_keeps : (op : ℕ) (bytes code : List ℕ) (w : Program) (address next : ℕ) (s : State) → Acts s.zones (row_of op bytes code w address next s)
+row_keeps : (op : ℕ) (bytes code : List ℕ) (w : Program) (address next : ℕ) (s : State)
+    → Acts s.zones (row_of op bytes code w address next s)
 unfolding row_of
 row_keeps op bytes code w address next s =
     search (
@@ -495,7 +551,8 @@ unfolding row_in KeepsEffect
 at_keeps code w p s = search (effect_if s.zones, settled_keeps, row_keeps)
 
 -- what code did: on Ok by the row, else nothing
-pub code_keeps : (code : List ℕ) (w : Program) (p : ℕ) (s t : State) (r : Result Action Cause) → settled (acts r t) ≡ row_in code w p s → OnErr r (t.zones ≡ s.zones) → HasShapes s.zones t.zones
+pub code_keeps : (code : List ℕ) (w : Program) (p : ℕ) (s t : State) (r : Result Action Cause)
+    → settled (acts r t) ≡ row_in code w p s → OnErr r (t.zones ≡ s.zones) → HasShapes s.zones t.zones
 unfolding KeepsEffect
 code_keeps code w p s t (Ok (Went q)) e k = rw (← e) at (at_keeps code w p s)
 code_keeps code w p s t (Ok (Called n f next)) e k = rw (← e) at (at_keeps code w p s)
@@ -511,7 +568,8 @@ KeepsMove z Finishes = Unit {0}
 KeepsMove z (Stops c) = Unit {0}
 KeepsMove z (Moves d) = HasShapes z (zones_of d)
 
-turned_keeps : (z : Zones) (k : ℕ) (f : Function) (next : ℕ) (K : List Frame) (w : Program) (t : State) → HasShapes z t.zones → HasShapes z (zones_of (turned k f next K w t))
+turned_keeps : (z : Zones) (k : ℕ) (f : Function) (next : ℕ) (K : List Frame) (w : Program) (t : State) → HasShapes z t.zones
+    → HasShapes z (zones_of (turned k f next K w t))
 unfolding zones_of
 turned_keeps z zero f next K w t h = h
 turned_keeps z (suc k) f next K w t h = h
@@ -549,7 +607,8 @@ module _ (texts : Program → List ℕ) where
   keeps_none n K w p s (Stops c) = tt
   keeps_none n K w p s (Moves d) = tt
 
-  keeps_one : (after : Config → Verdict) (n : ℕ) (w : Program) (p : ℕ) (s : State) (m : Move) → KeepsMove s.zones m → ((d : Config) → Alike (zones_of d) (after d)) → Alike s.zones (verdict_by after n w p s m)
+  keeps_one : (after : Config → Verdict) (n : ℕ) (w : Program) (p : ℕ) (s : State) (m : Move) → KeepsMove s.zones m
+      → ((d : Config) → Alike (zones_of d) (after d)) → Alike s.zones (verdict_by after n w p s m)
   unfolding Alike KeepsMove
   keeps_one after n w p s Finishes h more = shapes_same s.zones
   keeps_one after n w p s (Stops c) h more = tt
@@ -558,7 +617,9 @@ module _ (texts : Program → List ℕ) where
   keeps_from : (left n : ℕ) (c : Config) → Alike (zones_of c) (answer_from (row_at texts) left n c)
   unfolding answer_from zones_of
   keeps_from zero n (config K w p s) = keeps_none n K w p s (moved_by (row_at texts w p s) K w)
-  keeps_from (suc left) n (config K w p s) = keeps_one (λ to. answer_from (row_at texts) left (suc n) to) n w p s (moved_by (row_at texts w p s) K w) (move_keeps s.zones (row_at texts w p s) K w (at_keeps (texts w) w p s)) (λ d. keeps_from left (suc n) d)
+  keeps_from (suc left) n (config K w p s) = keeps_one (λ to. answer_from (row_at texts) left (suc n) to) n w p s
+      (moved_by (row_at texts w p s) K w) (move_keeps s.zones (row_at texts w p s) K w (at_keeps (texts w) w p s))
+      (λ d. keeps_from left (suc n) d)
 
   finishes : (s : State) (v : Verdict) → Alike s.zones v → FinishesAlike s v
   unfolding Alike

@@ -16,12 +16,15 @@ use Rattle.fx_stackops.specs.Store.{room_of}
 use Rattle.fx_machine.proofs.Keeping.{runs_keep}
 use Rattle.fx_fixed.proofs.Chain.{ok_injective}
 
-keeps : (texts : Program → List ℕ) (s : State) (v : Verdict) (r : Ran × Figure) → FinishesAlike s v → ran_of (answered texts Glyph v) ≡ Ok r → HasShape s.zones.glyph r.1
-keeps texts s (Finished n t) r h e = let P : Ran × Figure → Type 0 = λ q. HasShape s.zones.glyph q.1 in subst P (ok_injective _ _ e) h.glyph
+keeps : (texts : Program → List ℕ) (s : State) (v : Verdict) (r : Ran × Figure) → FinishesAlike s v
+    → ran_of (answered texts Glyph v) ≡ Ok r → HasShape s.zones.glyph r.1
+keeps texts s (Finished n t) r h e =
+    let P : Ran × Figure → Type 0 = λ q. HasShape s.zones.glyph q.1 in subst P (ok_injective _ _ e) h.glyph
 keeps texts s (Halted c w p) r h e = absurd (cc)
 keeps texts s (Exhausted w p) r h e = absurd (cc)
 
-pub glyphs_keep : (known : Known) (code : List ℕ) (glyph : Figure) (r : Ran × Figure) → glyph_ran known code glyph ≡ Ok r → HasShape glyph r.1
+pub glyphs_keep : (known : Known) (code : List ℕ) (glyph : Figure) (r : Ran × Figure) → glyph_ran known code glyph ≡ Ok r
+    → HasShape glyph r.1
 unfolding glyph_ran glyph_answer
 glyphs_keep known code glyph r e =
     let s = started known.prepared known.scale (room_of known.face.maxp.max_stack_elements) glyph in

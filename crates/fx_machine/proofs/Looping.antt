@@ -1,6 +1,7 @@
 -- The loop's exits and its step.
 -- It serves the run of a program.
-use Rattle.std.proofs.Common.{◌≡◌, ℕ, suc, ◌+◌, ◌-◌, ◌<◌, List, [], ◌∷◌, length, reverse, Result, Ok, Err, inl, inr, refl, ◌∙◌, arith}
+use Rattle.std.proofs.Common.{◌≡◌, ℕ, suc, ◌+◌, ◌-◌, ◌<◌, List, [], ◌∷◌, length, reverse, Result, Ok, Err, inl, inr, refl, ◌∙◌}
+use Rattle.std.proofs.Common.{arith}
 use Rattle.std.proofs.lemmas.Bool.{eq-eqb, cases_lt, lt-ltb, le-ltb}
 use Rattle.std.proofs.lemmas.Bool.Decides.{eqb_tells, leb_tells}
 use Rattle.std.proofs.lemmas.List.{length-reverse}
@@ -20,8 +21,10 @@ use Rattle.fx_machine.specs.Table.{row_at, row_in, settled}
 use Rattle.fx_machine.specs.Configs.{answered}
 use Rattle.fx_machine.proofs.Steps.{go_moves, go_stops, go_finishes, go_limit_moves, go_limit_stops, Takes}
 
-module _ (texts : Program → List ℕ) (start : Program) (limit : ℕ) (first now : State) (n : ℕ) (items : List Frame) (w : Program) (p : ℕ)
-    (h : answer_of (row_at texts) limit start first ≡ answer_from (row_at texts) (limit - n) n (config (reverse items) w p now)) where
+module _ (texts : Program → List ℕ) (start : Program) (limit : ℕ) (first now : State) (n : ℕ) (items : List Frame) (w : Program)
+    (p : ℕ)
+    (h : answer_of (row_at texts) limit start first ≡ answer_from (row_at texts) (limit - n) n (config (reverse items) w p now))
+        where
   abbrev Due : Result (ℕ × State) Halt
   Due = answered texts start (answer_of (row_at texts) limit start first)
 
@@ -43,7 +46,8 @@ module _ (texts : Program → List ℕ) (start : Program) (limit : ℕ) (first n
 
   pub finished_here : p ≡ length (texts w) → length items ≡ 0 → Ok (n, now) ≡ Due
   finished_here e z =
-      let t : Takes (row_at texts) (reverse items) w p now Finishes = record { is = rw (at_end e) (no_calls (reverse items) (rw length-reverse z)) } in
+      let t : Takes (row_at texts) (reverse items) w p now Finishes =
+              record { is = rw (at_end e) (no_calls (reverse items) (rw length-reverse z)) } in
       rw (h, go_finishes (row_at texts) (limit - n) n (reverse items) w p now t) refl
 
   pub halted_here : (cause : Cause) → n < limit → moved_by (row_at texts w p now) (reverse items) w ≡ Stops cause
@@ -67,7 +71,8 @@ module _ (texts : Program → List ℕ) (start : Program) (limit : ℕ) (first n
   not_finished (Ok (Returned, t)) [] e = absurd cc
   not_finished (Ok (Returned, t)) (g ∷ K) e = absurd cc
 
-  limit_by : (K : List Frame) (m : Move) → moved_by (row_at texts w p now) K w ≡ m → (m ≡ Finishes → ⊥) → answer_from (row_at texts) 0 n (config K w p now) ≡ Exhausted w p
+  limit_by : (K : List Frame) (m : Move) → moved_by (row_at texts w p now) K w ≡ m → (m ≡ Finishes → ⊥)
+      → answer_from (row_at texts) 0 n (config K w p now) ≡ Exhausted w p
   limit_by K Finishes e none = absurd (none refl)
   limit_by K (Stops c) e none = go_limit_stops (row_at texts) n K w p now c (record { is = e })
   limit_by K (Moves d) e none = go_limit_moves (row_at texts) n K w p now d (record { is = e })
@@ -86,7 +91,8 @@ module _ (texts : Program → List ℕ) (start : Program) (limit : ℕ) (first n
       → Err (record { cause = StepLimit; during = start; program = w; address = p; opcode = opcode_at (texts w) p }) ≡ Due
   limit_here e none =
       let z : limit - n ≡ 0 = omega arith in
-      rw (h, z, limit_by (reverse items) (moved_by (row_at texts w p now) (reverse items) w) refl (λ f. let x = finishes_only (reverse items) f in none x.0 (rw length-reverse at x.1))) refl
+      rw (h, z, limit_by (reverse items) (moved_by (row_at texts w p now) (reverse items) w) refl
+          (λ f. let x = finishes_only (reverse items) f in none x.0 (rw length-reverse at x.1))) refl
 
   pub stepped : (d : Config) → n < limit → moved_by (row_at texts w p now) (reverse items) w ≡ Moves d
       → answer_of (row_at texts) limit start first ≡ answer_from (row_at texts) (limit - (n + 1)) (n + 1) d

@@ -35,7 +35,8 @@ pub row_there : (w : Program) (p : ℕ) (s : State) (x : Result (Action × State
 row_there w p s x code op h eo m = rw (m, eo) (there_by (is_push (opcode_at code p)) w p s code refl h)
 
 -- and where its data are cut
-pub row_cut : (w : Program) (p : ℕ) (s : State) (code : List ℕ) → p ≢ length code → ¬ (IsWhole code p) → Fails CodeEnd ≡ row_in code w p s
+pub row_cut : (w : Program) (p : ℕ) (s : State) (code : List ℕ) → p ≢ length code → ¬ (IsWhole code p)
+    → Fails CodeEnd ≡ row_in code w p s
 unfolding row_in
 row_cut w p s code n h =
     let past : length code < next_address code p = not_inside code p h in
@@ -54,7 +55,8 @@ unfolding row_here row_of
 relative_here op code w p next s h e = rw (not_push op h, le-leb 0xC0 op h, e) refl
 
 -- the pushes
-pub push_here : (op : ℕ) (code : List ℕ) (w : Program) (p : ℕ) (s : State) → is_push op ≡ true → push_row code p s ≡ row_here op code w p s
+pub push_here : (op : ℕ) (code : List ℕ) (w : Program) (p : ℕ) (s : State) → is_push op ≡ true
+    → push_row code p s ≡ row_here op code w p s
 unfolding row_here
 push_here op code w p s h = rw h refl
 

@@ -21,7 +21,8 @@ use Rattle.fx_machine.specs.declared.state.State.{State}
 use Rattle.fx_machine.specs.Machine.{answer_of}
 use Rattle.fx_machine.specs.Table.{row_at}
 use Rattle.fx_machine.specs.Configs.{answered}
-use Rattle.fx_machine.specs.Known.{STEP_LIMIT, Known, Fails, texts_of, first_state, second_state, prepared_from, prelude_of, machine_of, with_state}
+use Rattle.fx_machine.specs.Known.{STEP_LIMIT, Known, Fails, texts_of, first_state, second_state, prepared_from, prelude_of}
+use Rattle.fx_machine.specs.Known.{machine_of, with_state}
 use Rattle.std.specs.Int.{w32}
 use Rattle.std.specs.Prelude.{codes}
 
@@ -34,13 +35,16 @@ controls_are_numbers s bytes = all_numbers s bytes _
 
 -- ---- fpgm, then prep
 
-module _ (texts : Program → List ℕ) (s t : State) (n : ℕ) (h : Ok (n, t) ≡ answered texts Font (answer_of (row_at texts) STEP_LIMIT Font s)) where
-  pub prep_ends : (m x : ℕ) (u : State) → x ≡ u.store.strays → Ok (m, u) ≡ answered texts Prep (answer_of (row_at texts) STEP_LIMIT Prep (second_state t))
+module _ (texts : Program → List ℕ) (s t : State) (n : ℕ)
+    (h : Ok (n, t) ≡ answered texts Font (answer_of (row_at texts) STEP_LIMIT Font s)) where
+  pub prep_ends : (m x : ℕ) (u : State) → x ≡ u.store.strays
+      → Ok (m, u) ≡ answered texts Prep (answer_of (row_at texts) STEP_LIMIT Prep (second_state t))
       → Ok (record { steps = n + m; strays = x }, u) ≡ prelude_of texts s
   unfolding prelude_of
   prep_ends m x u i k = rw (← h, ← k, i) refl
 
-  pub prep_halts : (u : State) (r : Result Ran Halt) (e d : Halt) → r ≡ Err e → e ≡ d → Err d ≡ answered texts Prep (answer_of (row_at texts) STEP_LIMIT Prep (second_state t))
+  pub prep_halts : (u : State) (r : Result Ran Halt) (e d : Halt) → r ≡ Err e → e ≡ d
+      → Err d ≡ answered texts Prep (answer_of (row_at texts) STEP_LIMIT Prep (second_state t))
       → with_state r u ≡ prelude_of texts s
   unfolding prelude_of
   prep_halts u r e d i j k = rw (← h, ← k, i, j) refl
@@ -48,19 +52,22 @@ module _ (texts : Program → List ℕ) (s t : State) (n : ℕ) (h : Ok (n, t) �
 -- ---- a machine
 
 module _ (face : Face) (scale : Scale) (a b g : List ℕ) (s : State)
-    (ea : a ≡ table_or_empty face.file (codes "fpgm")) (eb : b ≡ table_or_empty face.file (codes "prep")) (eg : g ≡ []) (es : s ≡ first_state face scale) where
+    (ea : a ≡ table_or_empty face.file (codes "fpgm")) (eb : b ≡ table_or_empty face.file (codes "prep")) (eg : g ≡ [])
+        (es : s ≡ first_state face scale) where
   abbrev these : Program → List ℕ
   these = texts (record { font = a; prep = b; glyph = g })
 
   same_run : (x : Result (Ran × State) Halt) → x ≡ prelude_of these s → x ≡ prelude_of (texts_of face []) (first_state face scale)
   same_run x k = rw (ea, eb, eg, es) at k
 
-  pub machine_halts : (r : Result Known MachineFault) (x : MachineFault) (d : Halt) → r ≡ Err x → x ≡ Halted d → Err d ≡ prelude_of these s
+  pub machine_halts : (r : Result Known MachineFault) (x : MachineFault) (d : Halt) → r ≡ Err x → x ≡ Halted d
+      → Err d ≡ prelude_of these s
       → GivesUnless Fails (λ m. m) r (machine_of face scale)
   unfolding machine_of
   machine_halts r x d i j k = let e = same_run (Err d) k in rw (i, j, ← e) refl
 
-  pub machine_is : (ran : Ran) (t : State) (p : Prepared) (z : Scale) → z ≡ scale → p ≡ prepared_from t → Ok (ran, t) ≡ prelude_of these s
+  pub machine_is : (ran : Ran) (t : State) (p : Prepared) (z : Scale) → z ≡ scale → p ≡ prepared_from t
+      → Ok (ran, t) ≡ prelude_of these s
       → machine_of face scale ≡ Ok (record { face = face; scale = z; prepared = p; prelude = ran })
   unfolding machine_of
   machine_is ran t p z i j k = let e = same_run (Ok (ran, t)) k in rw (i, j, ← e) refl

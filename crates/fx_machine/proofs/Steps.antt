@@ -1,5 +1,6 @@
 -- The function's answer is the relation's, and there is no other.
-use Rattle.std.proofs.Common.{◌≡◌, ◌⊎◌, inl, inr, ℕ, zero, suc, ◌+◌, ◌-◌, ◌<◌, ◌≤◌, List, [], ◌∷◌, length, refl, sym, ap, ◌∙◌, arith, add-zero, zero-add}
+use Rattle.std.proofs.Common.{◌≡◌, ◌⊎◌, inl, inr, ℕ, zero, suc, ◌+◌, ◌-◌, ◌<◌, ◌≤◌, List, [], ◌∷◌, length, refl, sym, ap, ◌∙◌}
+use Rattle.std.proofs.Common.{arith, add-zero, zero-add}
 use Rattle.std.proofs.Math.Numerals.{one-add}
 use Rattle.std.proofs.lemmas.Bool.{cases_lt, lt-ltb, le-ltb}
 use Rattle.fx_machine.specs.declared.program.Program.{Program}
@@ -9,7 +10,9 @@ use Rattle.fx_machine.specs.declared.halt.Cause.TheVariants.{CallDepth}
 use Rattle.fx_machine.specs.declared.frames.Frame.{Frame}
 use Rattle.fx_machine.specs.declared.state.State.{State}
 use Rattle.fx_machine.specs.Effects.{Effect, Ends, Fails, Goes, Calls, Returns}
-use Rattle.fx_machine.specs.Runs.{How, Ended, Returned, Faulted, Open, IsLast, Start, At, Turns, MAX_DEPTH, Runs, open_at, ends, ends_inside, fails, goes, returns, returns_outside, calls, too_deep, done, turn, last_turn, Verdict, Finished, Halted, Exhausted, Answer, finished, faulted, stopped}
+use Rattle.fx_machine.specs.Runs.{How, Ended, Returned, Faulted, Open, IsLast, Start, At, Turns, MAX_DEPTH, Runs, open_at, ends}
+use Rattle.fx_machine.specs.Runs.{ends_inside, fails, goes, returns, returns_outside, calls, too_deep, done, turn, last_turn}
+use Rattle.fx_machine.specs.Runs.{Verdict, Finished, Halted, Exhausted, Answer, finished, faulted, stopped}
 use Rattle.fx_machine.specs.Machine.{Config, config, turned, Move, Finishes, Stops, Moves, moved_by, answer_from, answer_of}
 
 module _ (row : Program → ℕ → State → Effect) where
@@ -22,24 +25,29 @@ module _ (row : Program → ℕ → State → Effect) where
   pub record Takes (K : List Frame) (w : Program) (p : ℕ) (s : State) (m : Move) : Type 0 where
     pub is : moved_by (row w p s) K w ≡ m
 
-  pub go_moves : (left n : ℕ) (K : List Frame) (w : Program) (p : ℕ) (s : State) (d : Config) → Takes K w p s (Moves d) → go (suc left) n (config K w p s) ≡ go left (suc n) d
+  pub go_moves : (left n : ℕ) (K : List Frame) (w : Program) (p : ℕ) (s : State) (d : Config) → Takes K w p s (Moves d)
+      → go (suc left) n (config K w p s) ≡ go left (suc n) d
   unfolding answer_from
   go_moves left n K w p s d e = rw e.is refl
 
-  pub go_stops : (left n : ℕ) (K : List Frame) (w : Program) (p : ℕ) (s : State) (c : Cause) → Takes K w p s (Stops c) → go (suc left) n (config K w p s) ≡ Halted c w p
+  pub go_stops : (left n : ℕ) (K : List Frame) (w : Program) (p : ℕ) (s : State) (c : Cause) → Takes K w p s (Stops c)
+      → go (suc left) n (config K w p s) ≡ Halted c w p
   unfolding answer_from
   go_stops left n K w p s c e = rw e.is refl
 
-  pub go_finishes : (left n : ℕ) (K : List Frame) (w : Program) (p : ℕ) (s : State) → Takes K w p s Finishes → go left n (config K w p s) ≡ Finished n s
+  pub go_finishes : (left n : ℕ) (K : List Frame) (w : Program) (p : ℕ) (s : State) → Takes K w p s Finishes
+      → go left n (config K w p s) ≡ Finished n s
   unfolding answer_from
   go_finishes zero n K w p s e = rw e.is refl
   go_finishes (suc left) n K w p s e = rw e.is refl
 
-  pub go_limit_moves : (n : ℕ) (K : List Frame) (w : Program) (p : ℕ) (s : State) (d : Config) → Takes K w p s (Moves d) → go zero n (config K w p s) ≡ Exhausted w p
+  pub go_limit_moves : (n : ℕ) (K : List Frame) (w : Program) (p : ℕ) (s : State) (d : Config) → Takes K w p s (Moves d)
+      → go zero n (config K w p s) ≡ Exhausted w p
   unfolding answer_from
   go_limit_moves n K w p s d e = rw e.is refl
 
-  pub go_limit_stops : (n : ℕ) (K : List Frame) (w : Program) (p : ℕ) (s : State) (c : Cause) → Takes K w p s (Stops c) → go zero n (config K w p s) ≡ Exhausted w p
+  pub go_limit_stops : (n : ℕ) (K : List Frame) (w : Program) (p : ℕ) (s : State) (c : Cause) → Takes K w p s (Stops c)
+      → go zero n (config K w p s) ≡ Exhausted w p
   unfolding answer_from
   go_limit_stops n K w p s c e = rw e.is refl
 
@@ -53,7 +61,8 @@ module _ (row : Program → ℕ → State → Effect) where
   skip_none c = record { skips = λ k m. rw (zero-add k, zero-add m) refl }
 
   skip_one : {K : List Frame} {w : Program} {p : ℕ} {s : State} {d : Config} → Takes K w p s (Moves d) → Skips (config K w p s) 1 d
-  skip_one {K = K} {w = w} {p = p} {s = s} {d = d} e = record { skips = λ k m. rw (one-add k, one-add m) (go_moves k m K w p s d e) }
+  skip_one {K = K} {w = w} {p = p} {s = s} {d = d} e =
+      record { skips = λ k m. rw (one-add k, one-add m) (go_moves k m K w p s d e) }
 
   skip_then : {c d e : Config} {m n : ℕ} → Skips c m d → Skips d n e → Skips c (m + n) e
   skip_then {m = m} {n = n} x y = record {
@@ -72,7 +81,8 @@ module _ (row : Program → ℕ → State → Effect) where
   Comes c n (g ∷ K) u Returned = Skips c n (turned g.left g.function g.next K g.program u)
 
   -- what comes of a later configuration comes of an earlier one
-  comes_before : {c d : Config} {m : ℕ} (n : ℕ) (K : List Frame) (u : State) (how : How) → Skips c m d → Comes d n K u how → Comes c (m + n) K u how
+  comes_before : {c d : Config} {m : ℕ} (n : ℕ) (K : List Frame) (u : State) (how : How) → Skips c m d → Comes d n K u how
+      → Comes c (m + n) K u how
   unfolding Comes
   comes_before {m = m} n K u Ended x y = λ k j.
       let a : m + n + k ≡ m + (n + k) = omega arith in
@@ -85,7 +95,8 @@ module _ (row : Program → ℕ → State → Effect) where
   comes_before n [] u Returned x y = y
   comes_before n (g ∷ K) u Returned x y = skip_then x y
 
-  comes_step : {K' : List Frame} {w : Program} {p : ℕ} {s : State} {d : Config} (n : ℕ) (K : List Frame) (u : State) (how : How) → Takes K' w p s (Moves d) → Comes d n K u how → Comes (config K' w p s) (suc n) K u how
+  comes_step : {K' : List Frame} {w : Program} {p : ℕ} {s : State} {d : Config} (n : ℕ) (K : List Frame) (u : State) (how : How)
+      → Takes K' w p s (Moves d) → Comes d n K u how → Comes (config K' w p s) (suc n) K u how
   comes_step n K u how e x = rw (← one-add n) (comes_before n K u how (skip_one e) x)
 
   -- the calls do not matter to a run that does not come back
@@ -100,12 +111,14 @@ module _ (row : Program → ℕ → State → Effect) where
   unfolding Comes
   comes_end {w = w} {p = p} {s = s} e k m = rw (zero-add k, zero-add m) (go_finishes k m [] w p s e)
 
-  comes_fault : {K : List Frame} {w : Program} {p : ℕ} {s : State} {c : Cause} → Takes K w p s (Stops c) → Comes (config K w p s) 0 K s (Faulted c w p)
+  comes_fault : {K : List Frame} {w : Program} {p : ℕ} {s : State} {c : Cause} → Takes K w p s (Stops c)
+      → Comes (config K w p s) 0 K s (Faulted c w p)
   unfolding Comes
   comes_fault {K = K} {w = w} {p = p} {s = s} {c = c} e k m = rw (zero-add (suc k)) (go_stops k m K w p s c e)
 
   -- what an effect takes
-  takes : {K : List Frame} {w : Program} {p : ℕ} {s : State} {x : Effect} {m : Move} → row w p s ≡ x → moved_by x K w ≡ m → Takes K w p s m
+  takes : {K : List Frame} {w : Program} {p : ℕ} {s : State} {x : Effect} {m : Move} → row w p s ≡ x → moved_by x K w ≡ m
+      → Takes K w p s m
   takes e h = record { is = rw e h }
 
   -- the configuration of a start within these open calls
@@ -113,10 +126,12 @@ module _ (row : Program → ℕ → State → Effect) where
   begun (At p) K w s = config K w p s
   begun (Turns k f next) K w s = turned k f next K w s
 
-  called : (K : List Frame) (w : Program) (k : ℕ) (f : Function) (next : ℕ) (t : State) → length K < MAX_DEPTH → moved_by (Calls k f next t) K w ≡ Moves (turned k f next K w t)
+  called : (K : List Frame) (w : Program) (k : ℕ) (f : Function) (next : ℕ) (t : State) → length K < MAX_DEPTH
+      → moved_by (Calls k f next t) K w ≡ Moves (turned k f next K w t)
   called K w k f next t h = rw (lt-ltb (length K) MAX_DEPTH h) refl
 
-  deep : (K : List Frame) (w : Program) (k : ℕ) (f : Function) (next : ℕ) (t : State) → MAX_DEPTH ≤ length K → moved_by (Calls k f next t) K w ≡ Stops CallDepth
+  deep : (K : List Frame) (w : Program) (k : ℕ) (f : Function) (next : ℕ) (t : State) → MAX_DEPTH ≤ length K
+      → moved_by (Calls k f next t) K w ≡ Stops CallDepth
   deep K w k f next t h = rw (le-ltb (length K) MAX_DEPTH h) refl
 
   -- a run is so many steps of the function, within any open calls
@@ -134,13 +149,16 @@ module _ (row : Program → ℕ → State → Effect) where
   comes_of (returns x) (g ∷ K) e = skip_one (takes x refl)
   comes_of (returns_outside x) [] e = comes_fault (takes x refl)
   comes_of (returns_outside x) (g ∷ K) e = absurd (omega arith)
-  comes_of (calls {w = w} {n = n} {u = u} {how = how} x d r) K e = comes_step n K u how (takes x (called K w _ _ _ _ (rw e d))) (comes_of r K e)
+  comes_of (calls {w = w} {n = n} {u = u} {how = how} x d r) K e =
+      comes_step n K u how (takes x (called K w _ _ _ _ (rw e d))) (comes_of r K e)
   comes_of (too_deep {w = w} x d) K e = comes_fault (takes x (deep K w _ _ _ _ (rw e d)))
   comes_of (done r) K e = comes_of r K e
   comes_of (turn {w = w} {m = m} {n = n} {k = k} {next = next} {f = f} {u = u} {how = how} r r') K e =
-      comes_before n K u how (comes_of r (record { function = f; left = k; program = w; next = next } ∷ K) (ap suc e)) (comes_of r' K e)
+      comes_before n K u how (comes_of r (record { function = f; left = k; program = w; next = next } ∷ K) (ap suc e))
+          (comes_of r' K e)
   comes_of (last_turn {w = w} {m = m} {k = k} {next = next} {f = f} {t = t} {how = how} r l) K e =
-      comes_last _ m (record { function = f; left = k; program = w; next = next } ∷ K) K t how l (comes_of r (record { function = f; left = k; program = w; next = next } ∷ K) (ap suc e))
+      comes_last _ m (record { function = f; left = k; program = w; next = next } ∷ K) K t how l
+          (comes_of r (record { function = f; left = k; program = w; next = next } ∷ K) (ap suc e))
 
   -- ---- from the function to runs
 
@@ -149,10 +167,12 @@ module _ (row : Program → ℕ → State → Effect) where
   Rest [] w st s n u how = Runs row w st 0 s n u how
   Rest (g ∷ K) w st s n u how =
       (Runs row w st (suc (length K)) s n u how × IsLast how)
-      ⊎ ((m k : ℕ) × (t : State) × Runs row w st (suc (length K)) s m t Returned × Rest K g.program (Turns g.left g.function g.next) t k u how × (n ≡ m + k))
+      ⊎ ((m k : ℕ) × (t : State) × Runs row w st (suc (length K)) s m t Returned × Rest K g.program (Turns g.left g.function g.next)
+          t k u how × (n ≡ m + k))
 
   -- a run that does not come back is all that is left
-  rest_last : (K : List Frame) {w : Program} {st : Start} {s : State} {n : ℕ} {u : State} {how : How} → Runs row w st (length K) s n u how → IsLast how → Rest K w st s n u how
+  rest_last : (K : List Frame) {w : Program} {st : Start} {s : State} {n : ℕ} {u : State} {how : How}
+      → Runs row w st (length K) s n u how → IsLast how → Rest K w st s n u how
   unfolding Rest
   rest_last [] r l = r
   rest_last (g ∷ K) r l = inl (r, l)
@@ -183,10 +203,13 @@ module _ (row : Program → ℕ → State → Effect) where
   Leads K w p s (Stops c) = Left (config K w p s) 0 s (Faulted c w p)
   Leads K w p s (Moves d) = (n : ℕ) (u : State) (how : How) → Left d n u how → Left (config K w p s) (suc n) u how
 
-  leads_call : (K : List Frame) (w : Program) (p : ℕ) (s : State) (k : ℕ) (f : Function) (next : ℕ) (t : State) → row w p s ≡ Calls k f next t → Leads K w p s (moved_by (Calls k f next t) K w)
+  leads_call : (K : List Frame) (w : Program) (p : ℕ) (s : State) (k : ℕ) (f : Function) (next : ℕ) (t : State)
+      → row w p s ≡ Calls k f next t → Leads K w p s (moved_by (Calls k f next t) K w)
   unfolding Leads Left
   leads_call K w p s k f next t e = elim (cases_lt (length K) MAX_DEPTH) [
-    | inl h ↦ rw (lt-ltb (length K) MAX_DEPTH h) (λ n u how r. rw (← one-add n) (rest_before K 1 n u how (λ m t h' x. rw one-add (calls e h x)) (rest_turned k f next K w t n u how r)))
+    | inl h ↦ rw (lt-ltb (length K) MAX_DEPTH h)
+        (λ n u how r. rw (← one-add n) (rest_before K 1 n u how (λ m t h' x. rw one-add (calls e h x))
+        (rest_turned k f next K w t n u how r)))
     | inr h ↦ rw (le-ltb (length K) MAX_DEPTH h) (rest_last K (too_deep e h) tt)
   ]
 
@@ -198,17 +221,21 @@ module _ (row : Program → ℕ → State → Effect) where
   leads K w p s (Goes q t) e = λ n u how r. rw (← one-add n) (rest_before K 1 n u how (λ m t h x. rw one-add (goes e x)) r)
   leads K w p s (Calls k f next t) e = leads_call K w p s k f next t e
   leads [] w p s (Returns t) e = returns_outside e
-  leads (g ∷ K) w p s (Returns t) e = λ n u how r. inr (1, n, t, returns e, rest_turned g.left g.function g.next K g.program t n u how r, sym (one-add n))
+  leads (g ∷ K) w p s (Returns t) e =
+      λ n u how r. inr (1, n, t, returns e, rest_turned g.left g.function g.next K g.program t n u how r, sym (one-add n))
 
   -- what a verdict comes from, where so many more instructions may be executed, after so many
   data Came (left : ℕ) (c : Config) (n : ℕ) : Verdict → Type 0 where
     came_end : (k : ℕ) (u : State) → k ≤ left → Left c k u Ended → Came left c n (Finished (k + n) u)
-    came_fault : (k : ℕ) (u : State) {x : Cause} {v : Program} {p : ℕ} → k < left → Left c k u (Faulted x v p) → Came left c n (Halted x v p)
+    came_fault : (k : ℕ) (u : State) {x : Cause} {v : Program} {p : ℕ} → k < left → Left c k u (Faulted x v p)
+        → Came left c n (Halted x v p)
     came_open : (u : State) {v : Program} {p : ℕ} → Left c left u (Open v p) → Came left c n (Exhausted v p)
 
-  came_step : {left n : ℕ} {K : List Frame} {w : Program} {p : ℕ} {s : State} {d : Config} {v : Verdict} → Leads K w p s (Moves d) → Came left d (suc n) v → Came (suc left) (config K w p s) n v
+  came_step : {left n : ℕ} {K : List Frame} {w : Program} {p : ℕ} {s : State} {d : Config} {v : Verdict} → Leads K w p s (Moves d)
+      → Came left d (suc n) v → Came (suc left) (config K w p s) n v
   unfolding Leads
-  came_step {n = n} l (came_end k u h r) = let e : k + suc n ≡ suc k + n = omega arith in rw e (came_end (suc k) u (omega arith) (l _ _ _ r))
+  came_step {n = n} l (came_end k u h r) =
+      let e : k + suc n ≡ suc k + n = omega arith in rw e (came_end (suc k) u (omega arith) (l _ _ _ r))
   came_step l (came_fault k u h r) = came_fault (suc k) u (omega arith) (l _ _ _ r)
   came_step l (came_open u r) = came_open u (l _ _ _ r)
 
@@ -216,25 +243,31 @@ module _ (row : Program → ℕ → State → Effect) where
   unfolding Left
   came_here K w p s n = came_open s (rest_last K open_at tt)
 
-  came_finish : (left n : ℕ) (K : List Frame) (w : Program) (p : ℕ) (s : State) → Leads K w p s Finishes → Came left (config K w p s) n (Finished n s)
+  came_finish : (left n : ℕ) (K : List Frame) (w : Program) (p : ℕ) (s : State) → Leads K w p s Finishes
+      → Came left (config K w p s) n (Finished n s)
   unfolding Leads
-  came_finish left n K w p s l = let x : Came left (config K w p s) n (Finished (0 + n) s) = came_end 0 s (omega arith) l in rw (zero-add n) at x
+  came_finish left n K w p s l =
+      let x : Came left (config K w p s) n (Finished (0 + n) s) = came_end 0 s (omega arith) l in rw (zero-add n) at x
 
-  came_none : (n : ℕ) (K : List Frame) (w : Program) (p : ℕ) (s : State) (m : Move) → Takes K w p s m → Leads K w p s m → Came zero (config K w p s) n (go zero n (config K w p s))
+  came_none : (n : ℕ) (K : List Frame) (w : Program) (p : ℕ) (s : State) (m : Move) → Takes K w p s m → Leads K w p s m
+      → Came zero (config K w p s) n (go zero n (config K w p s))
   came_none n K w p s Finishes e l = rw (go_finishes zero n K w p s e) (came_finish zero n K w p s l)
   came_none n K w p s (Stops c) e l = rw (go_limit_stops n K w p s c e) (came_here K w p s n)
   came_none n K w p s (Moves d) e l = rw (go_limit_moves n K w p s d e) (came_here K w p s n)
 
   came_one : (left n : ℕ) (K : List Frame) (w : Program) (p : ℕ) (s : State) (m : Move) → Takes K w p s m → Leads K w p s m
-      → ((d : Config) → Came left d (suc n) (go left (suc n) d)) → Came (suc left) (config K w p s) n (go (suc left) n (config K w p s))
+      → ((d : Config) → Came left d (suc n) (go left (suc n) d))
+      → Came (suc left) (config K w p s) n (go (suc left) n (config K w p s))
   unfolding Leads
   came_one left n K w p s Finishes e l more = rw (go_finishes (suc left) n K w p s e) (came_finish (suc left) n K w p s l)
   came_one left n K w p s (Stops c) e l more = rw (go_stops left n K w p s c e) (came_fault 0 s (omega arith) l)
   came_one left n K w p s (Moves d) e l more = rw (go_moves left n K w p s d e) (came_step l (more d))
 
   came : (left n : ℕ) (c : Config) → Came left c n (go left n c)
-  came zero n (config K w p s) = came_none n K w p s (moved_by (row w p s) K w) (record { is = refl }) (leads K w p s (row w p s) refl)
-  came (suc left) n (config K w p s) = came_one left n K w p s (moved_by (row w p s) K w) (record { is = refl }) (leads K w p s (row w p s) refl) (λ d. came left (suc n) d)
+  came zero n (config K w p s) =
+      came_none n K w p s (moved_by (row w p s) K w) (record { is = refl }) (leads K w p s (row w p s) refl)
+  came (suc left) n (config K w p s) = came_one left n K w p s (moved_by (row w p s) K w) (record { is = refl })
+      (leads K w p s (row w p s) refl) (λ d. came left (suc n) d)
 
   -- ---- the laws
 
@@ -244,20 +277,26 @@ module _ (row : Program → ℕ → State → Effect) where
 
     answer_end : {n : ℕ} {u : State} → n ≤ limit → Runs row w (At 0) 0 s n u Ended → go limit 0 top ≡ Finished n u
     unfolding Comes begun
-    answer_end {n = n} {u = u} h r = let e : n + (limit - n) ≡ limit = omega arith in rw (e, add-zero n) at (comes_of r [] refl (limit - n) 0)
+    answer_end {n = n} {u = u} h r =
+        let e : n + (limit - n) ≡ limit = omega arith in rw (e, add-zero n) at (comes_of r [] refl (limit - n) 0)
 
-    answer_fault : {n : ℕ} {u : State} {x : Cause} {v : Program} {p : ℕ} → n < limit → Runs row w (At 0) 0 s n u (Faulted x v p) → go limit 0 top ≡ Halted x v p
+    answer_fault : {n : ℕ} {u : State} {x : Cause} {v : Program} {p : ℕ} → n < limit → Runs row w (At 0) 0 s n u (Faulted x v p)
+        → go limit 0 top ≡ Halted x v p
     unfolding Comes begun
-    answer_fault {n = n} h r = let e : n + suc (limit - suc n) ≡ limit = omega arith in rw e at (comes_of r [] refl (limit - suc n) 0)
+    answer_fault {n = n} h r =
+        let e : n + suc (limit - suc n) ≡ limit = omega arith in rw e at (comes_of r [] refl (limit - suc n) 0)
 
-    answer_open : {u : State} {v : Program} {p : ℕ} → Runs row w (At 0) 0 s limit u (Open v p) → (L : List Frame) × (go limit 0 top ≡ go 0 limit (config L v p u))
+    answer_open : {u : State} {v : Program} {p : ℕ} → Runs row w (At 0) 0 s limit u (Open v p)
+        → (L : List Frame) × (go limit 0 top ≡ go 0 limit (config L v p u))
     unfolding Comes begun
     answer_open r = let x = comes_of r [] refl in (x.0, rw (add-zero limit) at (x.1.skips 0 0))
 
-    no_end : {n : ℕ} {t : State} {v : Program} {p : ℕ} → go limit 0 top ≡ Exhausted v p → n ≤ limit → Runs row w (At 0) 0 s n t Ended → ⊥
+    no_end : {n : ℕ} {t : State} {v : Program} {p : ℕ} → go limit 0 top ≡ Exhausted v p → n ≤ limit
+        → Runs row w (At 0) 0 s n t Ended → ⊥
     no_end e h r = let x = answer_end h r in cc
 
-    no_fault : {n : ℕ} {t : State} {c : Cause} {x v : Program} {q p : ℕ} → go limit 0 top ≡ Exhausted v p → n < limit → Runs row w (At 0) 0 s n t (Faulted c x q) → ⊥
+    no_fault : {n : ℕ} {t : State} {c : Cause} {x v : Program} {q p : ℕ} → go limit 0 top ≡ Exhausted v p → n < limit
+        → Runs row w (At 0) 0 s n t (Faulted c x q) → ⊥
     no_fault e h r = let x = answer_fault h r in cc
 
     answer_came : (v : Verdict) → go limit 0 top ≡ v → Came limit top 0 v → Answer row limit w s v
@@ -270,12 +309,14 @@ module _ (row : Program → ℕ → State → Effect) where
     answer_is = answer_came (go limit 0 top) refl (came limit 0 top)
 
     -- where the function is at the limit
-    at_limit : (n : ℕ) (K : List Frame) (v : Program) (p : ℕ) (t : State) (m : Move) → Takes K v p t m → (go 0 n (config K v p t) ≡ Exhausted v p) ⊎ (go 0 n (config K v p t) ≡ Finished n t)
+    at_limit : (n : ℕ) (K : List Frame) (v : Program) (p : ℕ) (t : State) (m : Move) → Takes K v p t m
+        → (go 0 n (config K v p t) ≡ Exhausted v p) ⊎ (go 0 n (config K v p t) ≡ Finished n t)
     at_limit n K v p t Finishes e = inr (go_finishes zero n K v p t e)
     at_limit n K v p t (Stops c) e = inl (go_limit_stops n K v p t c e)
     at_limit n K v p t (Moves d) e = inl (go_limit_moves n K v p t d e)
 
-    not_finished : {m : ℕ} {u : State} → ((n : ℕ) (t : State) → n ≤ limit → Runs row w (At 0) 0 s n t Ended → ⊥) → Answer row limit w s (Finished m u) → ⊥
+    not_finished : {m : ℕ} {u : State} → ((n : ℕ) (t : State) → n ≤ limit → Runs row w (At 0) 0 s n t Ended → ⊥)
+        → Answer row limit w s (Finished m u) → ⊥
     not_finished none (finished {n = n} {u = u} h r) = none n u h r
 
     -- any answer is the function's

@@ -5,7 +5,8 @@ use Rattle.fx_gstate.specs.declared.fault.BadArgument.{BadArgument as BadArgumen
 use Rattle.fx_stackops.specs.declared.fault.StackFault.{StackFault}
 use Rattle.fx_stackops.specs.declared.fault.StackFault.TheVariants as stack
 use Rattle.fx_machine.specs.declared.halt.Cause.{Cause}
-use Rattle.fx_machine.specs.declared.halt.Cause.TheVariants.{StackUnder, StackOver, CodeEnd, DivideByZero, BadArgument, NestedDefinition}
+use Rattle.fx_machine.specs.declared.halt.Cause.TheVariants.{StackUnder, StackOver, CodeEnd, DivideByZero, BadArgument}
+use Rattle.fx_machine.specs.declared.halt.Cause.TheVariants.{NestedDefinition}
 
 -- a fault of the stack
 abbrev pub of_stack : StackFault → Cause

@@ -21,8 +21,10 @@ config_of cursor calls s = config (calls_of calls) cursor.program cursor.address
 -- what a verdict says of a program that was started: the instructions and the state, or a halt
 abbrev pub answered : (Program → List ℕ) → Program → Verdict → Result (ℕ × State) Halt
 answered texts during (Finished steps s) = Ok (steps, s)
-answered texts during (Halted cause w p) = Err (record { cause = cause; during = during; program = w; address = p; opcode = opcode_at (texts w) p })
-answered texts during (Exhausted w p) = Err (record { cause = StepLimit; during = during; program = w; address = p; opcode = opcode_at (texts w) p })
+answered texts during (Halted cause w p) =
+    Err (record { cause = cause; during = during; program = w; address = p; opcode = opcode_at (texts w) p })
+answered texts during (Exhausted w p) = Err (record { cause = StepLimit; during = during; program = w; address = p;
+    opcode = opcode_at (texts w) p })
 
 -- what code returns, with the state that it left
 abbrev pub sees : Result ℕ Halt → State → Result (ℕ × State) Halt

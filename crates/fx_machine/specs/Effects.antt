@@ -4,7 +4,8 @@ use Rattle.fx_machine.specs.declared.definitions.Function.{Function}
 use Rattle.fx_machine.specs.declared.halt.Cause.{Cause}
 use Rattle.fx_machine.specs.declared.state.State.{State}
 
--- at the end of the bytes there is none; else it faults, continues at an address, calls a function several times and then continues, or
+-- at the end of the bytes there is none; else it faults, continues at an address, calls a function several times and then
+-- continues, or
 -- returns
 pub data Effect : Type 0 where
   Ends : Effect

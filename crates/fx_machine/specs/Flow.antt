@@ -1,7 +1,8 @@
 -- The rows that may continue elsewhere. `next` is the address after the instruction.
 -- Each comment has the opcode, the mnemonic and what becomes of the stack, whose top is written last.
 -- Apple TrueType Reference Manual, "Managing the flow of control"; FDEF, IDEF, CALL, LOOPCALL.
-use Rattle.std.specs.Prelude.{ℕ, zero, suc, ℤ, pos, negsuc, ◌+ℤ◌, nat_le, nat_lt, if◌then◌else◌, List, length, slice_index_or, slice_set, Option, Some, None, Result, Ok, Err}
+use Rattle.std.specs.Prelude.{ℕ, zero, suc, ℤ, pos, negsuc, ◌+ℤ◌, nat_le, nat_lt, if◌then◌else◌, List, length, slice_index_or}
+use Rattle.std.specs.Prelude.{slice_set, Option, Some, None, Result, Ok, Err}
 use Rattle.std.specs.Ordering.{int_eq}
 use Rattle.fx_fixed.specs.Chain.{◌>>=◌, map_fault}
 use Rattle.fx_code.specs.declared.fault.CodeFault.{CodeFault}
@@ -28,7 +29,8 @@ led r s = do
 unfoldable pub if_of : List ℕ → ℕ → State → Result (Action × State) Cause
 if_of code next s = do
   x ← map_fault of_stack (one s.store)
-  if int_eq x.0 (pos 0) then led (past_of stops_at_false code next) (record s { store = x.1 }) else Ok (Went next, record s { store = x.1 })
+  if int_eq x.0 (pos 0) then led (past_of stops_at_false code next) (record s { store = x.1 }) else
+      Ok (Went next, record s { store = x.1 })
 
 -- a jump, which must stay in the program
 unfoldable pub jumped : ℕ → ℤ → State → Result (Action × State) Cause
@@ -45,13 +47,15 @@ jmpr_of size address s = do
 unfoldable pub jrot_of : ℕ → ℕ → ℕ → State → Result (Action × State) Cause
 jrot_of size address next s = do
   x ← map_fault of_stack (two s.store)
-  if int_eq x.1 (pos 0) then Ok (Went next, record s { store = x.2 }) else jumped size (pos address +ℤ x.0) (record s { store = x.2 })
+  if int_eq x.1 (pos 0) then Ok (Went next, record s { store = x.2 }) else jumped size (pos address +ℤ x.0)
+      (record s { store = x.2 })
 
 -- 79 JROF  o e ->; jumps if e is 0
 unfoldable pub jrof_of : ℕ → ℕ → ℕ → State → Result (Action × State) Cause
 jrof_of size address next s = do
   x ← map_fault of_stack (two s.store)
-  if int_eq x.1 (pos 0) then jumped size (pos address +ℤ x.0) (record s { store = x.2 }) else Ok (Went next, record s { store = x.2 })
+  if int_eq x.1 (pos 0) then jumped size (pos address +ℤ x.0) (record s { store = x.2 }) else
+      Ok (Went next, record s { store = x.2 })
 
 -- a call of a function, which must be defined
 unfoldable pub called : ℕ → Option Function → Cause → ℕ → State → Result (Action × State) Cause
@@ -85,14 +89,18 @@ unfoldable pub fdef_of : List ℕ → Program → ℕ → State → Result (Acti
 fdef_of code w next s = do
   x ← map_fault of_stack (one s.store)
   n ← number_below (length s.definitions.functions) x.0
-  led (past_definition_of code next) (record s { store = x.1; definitions = record s.definitions { functions = slice_set s.definitions.functions n (Some (record { program = w; address = next })) } })
+  led (past_definition_of code next) (record s
+      { store = x.1; definitions =
+      record s.definitions { functions = slice_set s.definitions.functions n (Some (record { program = w; address = next })) } })
 
 -- 89 IDEF  o ->
 unfoldable pub idef_of : List ℕ → Program → ℕ → State → Result (Action × State) Cause
 idef_of code w next s = do
   x ← map_fault of_stack (one s.store)
   n ← number_below 256 x.0
-  led (past_definition_of code next) (record s { store = x.1; definitions = record s.definitions { opcodes = slice_set s.definitions.opcodes n (Some (record { program = w; address = next })) } })
+  led (past_definition_of code next) (record s
+      { store = x.1; definitions =
+      record s.definitions { opcodes = slice_set s.definitions.opcodes n (Some (record { program = w; address = next })) } })
 
 -- an opcode without a row runs its definition
 unfoldable pub undefined_of : ℕ → ℕ → State → Result (Action × State) Cause

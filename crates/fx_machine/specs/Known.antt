@@ -50,7 +50,8 @@ controls_of face scale = control_values scale (table_or_empty face.file (codes "
 
 -- an empty stack, storage cells of 0, the control values
 abbrev pub first_store : Face → Scale → StoreView
-first_store face scale = record { stack = []; room = room_of face.maxp.max_stack_elements; storage = replicate face.maxp.max_storage (pos 0); cvt = controls_of face scale; strays = 0 }
+first_store face scale = record { stack = []; room = room_of face.maxp.max_stack_elements;
+    storage = replicate face.maxp.max_storage (pos 0); cvt = controls_of face scale; strays = 0 }
 
 -- the twilight zone: points at (0, 0), without contours
 abbrev pub twilight_of : ℕ → Figure
@@ -78,7 +79,8 @@ second_state s = record s { store = record s.store { stack = [] }; graphics = de
 
 -- what prep left
 abbrev pub prepared_from : State → Prepared
-prepared_from s = record { storage = s.store.storage; cvt = s.store.cvt; twilight = s.zones.twilight; graphics = s.graphics; definitions = s.definitions; flags = s.flags }
+prepared_from s = record { storage = s.store.storage; cvt = s.store.cvt; twilight = s.zones.twilight; graphics = s.graphics;
+    definitions = s.definitions; flags = s.flags }
 
 -- fpgm runs from a state, then prep: what they use up, and the state then
 unfoldable pub prelude_of : (Program → List ℕ) → State → Result (Ran × State) Halt
@@ -106,8 +108,10 @@ Fails fault due = due ≡ Err fault
 -- ---- what becomes of the program of a glyph on its points
 
 unfoldable pub glyph_ran : Known → List ℕ → Figure → Result (Ran × Figure) Halt
-glyph_ran known code glyph = glyph_answer (texts_of known.face code) known.prepared known.scale (room_of known.face.maxp.max_stack_elements) STEP_LIMIT glyph
+glyph_ran known code glyph = glyph_answer (texts_of known.face code) known.prepared known.scale
+    (room_of known.face.maxp.max_stack_elements) STEP_LIMIT glyph
 
 -- it keeps the number of points and the contours
 abbrev pub GlyphsKeepShape : Type 0
-GlyphsKeepShape = (known : Known) (code : List ℕ) (glyph : Figure) (r : Ran × Figure) → glyph_ran known code glyph ≡ Ok r → HasShape glyph r.1
+GlyphsKeepShape =
+    (known : Known) (code : List ℕ) (glyph : Figure) (r : Ran × Figure) → glyph_ran known code glyph ≡ Ok r → HasShape glyph r.1

@@ -60,8 +60,10 @@ module _ (row : Program → ℕ → State → Effect) where
 
 -- a program has one answer
 abbrev pub AnswerIsOne : Type 0
-AnswerIsOne = (row : Program → ℕ → State → Effect) (limit : ℕ) (w : Program) (s : State) (v v' : Verdict) → Answer row limit w s v → Answer row limit w s v' → v ≡ v'
+AnswerIsOne = (row : Program → ℕ → State → Effect) (limit : ℕ) (w : Program) (s : State) (v v' : Verdict) → Answer row limit w s v
+    → Answer row limit w s v' → v ≡ v'
 
 -- and answer_of gives it
 abbrev pub AnswerOfIsAnswer : Type 0
-AnswerOfIsAnswer = (row : Program → ℕ → State → Effect) (limit : ℕ) (w : Program) (s : State) → Answer row limit w s (answer_of row limit w s)
+AnswerOfIsAnswer =
+    (row : Program → ℕ → State → Effect) (limit : ℕ) (w : Program) (s : State) → Answer row limit w s (answer_of row limit w s)

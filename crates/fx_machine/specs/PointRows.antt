@@ -1,5 +1,7 @@
--- The rows that measure and move points, with their operands and the reference points that they set. All continue at the next address.
--- Each comment has the opcode, the mnemonic and what becomes of the stack, whose top is written last; what the row does to the points
+-- The rows that measure and move points, with their operands and the reference points that they set. All continue at the next
+-- address.
+-- Each comment has the opcode, the mnemonic and what becomes of the stack, whose top is written last; what the row does to the
+-- points
 -- is said in fx_pointops.
 -- Apple TrueType Reference Manual, "Instruction set".
 use Rattle.std.specs.Prelude.{ℕ, ◌*◌, ℤ, pos, negsuc, int_lt, Bool, unsigned_abs, if◌then◌else◌, List, reverse, drop, Result, Ok}
@@ -47,7 +49,8 @@ points_by_two row s = do
 
 -- a loop row takes as many points as loop says, the top of the stack first, and sets loop to 1
 abbrev pub after_loop : Outcome → ℕ → StoreView → State → State
-after_loop r n t s = record s { store = with_strays r.1 (with_stack (drop n t.stack) t); zones = r.0; graphics = record s.graphics { loop_count = 1 } }
+after_loop r n t s = record s { store = with_strays r.1 (with_stack (drop n t.stack) t); zones = r.0;
+    graphics = record s.graphics { loop_count = 1 } }
 
 abbrev pub loop_on : (GState → List ℤ → Zones → Outcome) → StoreView → State → Result State Cause
 loop_on row t s = do
@@ -136,7 +139,8 @@ miap_row rounds s = do
 unfoldable pub gc_row : Bool → State → Result State Cause
 gc_row original s = do
   x ← map_fault of_stack (one s.store)
-  t ← map_fault of_stack (pushed (gc_of s.graphics original x.0 s.zones).0 (with_strays (gc_of s.graphics original x.0 s.zones).1 x.1))
+  t ← map_fault of_stack (pushed (gc_of s.graphics original x.0 s.zones).0
+      (with_strays (gc_of s.graphics original x.0 s.zones).1 x.1))
   Ok (record s { store = t })
 
 -- 48 SCFS  p v ->
@@ -147,7 +151,8 @@ scfs_row = points_by_two scfs_of
 unfoldable pub md_row : Bool → State → Result State Cause
 md_row original s = do
   x ← map_fault of_stack (two s.store)
-  t ← map_fault of_stack (pushed (md_of s.graphics original x.0 x.1 s.zones).0 (with_strays (md_of s.graphics original x.0 x.1 s.zones).1 x.2))
+  t ← map_fault of_stack (pushed (md_of s.graphics original x.0 x.1 s.zones).0
+      (with_strays (md_of s.graphics original x.0 x.1 s.zones).1 x.2))
   Ok (record s { store = t })
 
 -- 5D DELTAP1, 71 DELTAP2, 72 DELTAP3  .. argument p n ->, n pairs
@@ -156,7 +161,8 @@ deltap_row form s = do
   x ← map_fault of_stack (one s.store)
   _ ← refuse (int_lt x.0 (pos 0)) BadArgument
   pairs ← map_fault of_stack (top_numbers (2 * unsigned_abs x.0) x.1)
-  Ok (with_points (deltap_of s.graphics form s.scale.ppem (reverse pairs) s.zones) (with_stack (drop (2 * unsigned_abs x.0) x.1.stack) x.1) s)
+  Ok (with_points (deltap_of s.graphics form s.scale.ppem (reverse pairs) s.zones)
+      (with_stack (drop (2 * unsigned_abs x.0) x.1.stack) x.1) s)
 
 -- ---- 8
 
@@ -172,7 +178,8 @@ fliprg_row on = points_by_two (λ g low high z. fliprg_of g on low high z)
 
 -- what MDRP and MIRP set: rp1 becomes rp0, rp2 becomes p, and if the row says so rp0 becomes p
 abbrev pub with_references : Relative → ℤ → State → State
-with_references how p s = record s { graphics = record s.graphics { rp0 = if how.sets_rp0 then p else s.graphics.rp0; rp1 = s.graphics.rp0; rp2 = p } }
+with_references how p s = record s { graphics =
+    record s.graphics { rp0 = if how.sets_rp0 then p else s.graphics.rp0; rp1 = s.graphics.rp0; rp2 = p } }
 
 -- C0-DF MDRP  p ->
 unfoldable pub mdrp_row : Relative → State → Result State Cause
@@ -187,4 +194,5 @@ mirp_stray cvt n = if int_eq n (negsuc 0) then 0 else stray_of cvt n
 unfoldable pub mirp_row : Relative → State → Result State Cause
 mirp_row how s = do
   x ← map_fault of_stack (two s.store)
-  Ok (with_points (mirp_of s.graphics how x.0 (read_of x.2.cvt x.1) s.zones) (with_strays (mirp_stray x.2.cvt x.1) x.2) (with_references how x.0 s))
+  Ok (with_points (mirp_of s.graphics how x.0 (read_of x.2.cvt x.1) s.zones) (with_strays (mirp_stray x.2.cvt x.1) x.2)
+      (with_references how x.0 s))

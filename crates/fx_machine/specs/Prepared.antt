@@ -22,7 +22,9 @@ use Rattle.fx_zone.specs.Figures.{HasShape}
 abbrev pub begun : Flags → GState → GState
 begun flags g =
     if flags.default_state then default_state
-    else record default_state { auto_flip = g.auto_flip; cut_in = g.cut_in; minimum_distance = g.minimum_distance; single_width = g.single_width; single_width_cut_in = g.single_width_cut_in; delta_base = g.delta_base; delta_shift = g.delta_shift }
+    else record default_state { auto_flip = g.auto_flip; cut_in = g.cut_in; minimum_distance = g.minimum_distance;
+        single_width = g.single_width; single_width_cut_in = g.single_width_cut_in; delta_base = g.delta_base;
+        delta_shift = g.delta_shift }
 
 -- the state that a program of a glyph begins with, on these points
 abbrev pub started : Prepared → Scale → ℕ → Figure → State
@@ -42,7 +44,8 @@ ran_of (Ok r) = Ok (record { steps = r.0; strays = r.1.store.strays }, r.1.zones
 ran_of (Err halt) = Err halt
 
 unfoldable pub glyph_answer : (Program → List ℕ) → Prepared → Scale → ℕ → ℕ → Figure → Result (Ran × Figure) Halt
-glyph_answer texts p scale room limit glyph = ran_of (answered texts Glyph (answer_of (row_at texts) limit Glyph (started p scale room glyph)))
+glyph_answer texts p scale room limit glyph =
+    ran_of (answered texts Glyph (answer_of (row_at texts) limit Glyph (started p scale room glyph)))
 
 -- a state has tables of the sizes of prep's
 pub record Fits (p : Prepared) (s : State) : Type 0 where

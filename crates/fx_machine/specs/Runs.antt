@@ -25,7 +25,8 @@ pub data Start : Type 0 where
   At : (address : ℕ) → Start
   Turns : (turns : ℕ) (function : Function) (next : ℕ) → Start
 
--- what becomes of a program: it finished after some instructions in a state, halted at an address, or used up its instructions there
+-- what becomes of a program: it finished after some instructions in a state, halted at an address, or used up its instructions
+-- there
 pub data Verdict : Type 0 where
   Finished : (steps : ℕ) (s : State) → Verdict
   Halted : (cause : Cause) (program : Program) (address : ℕ) → Verdict
@@ -48,24 +49,32 @@ module _ (row : Program → ℕ → State → Effect) where
     -- an instruction that faults is not counted
     fails : {w : Program} {p d : ℕ} {s : State} {c : Cause} → row w p s ≡ Fails c → Runs w (At p) d s 0 s (Faulted c w p)
     -- any other counts one, before the rest
-    goes : {w : Program} {p d n q : ℕ} {s t u : State} {how : How} → row w p s ≡ Goes q t → Runs w (At q) d t n u how → Runs w (At p) d s (suc n) u how
+    goes : {w : Program} {p d n q : ℕ} {s t u : State} {how : How} → row w p s ≡ Goes q t → Runs w (At q) d t n u how
+        → Runs w (At p) d s (suc n) u how
     -- the end of a function
     returns : {w : Program} {p d : ℕ} {s t : State} → row w p s ≡ Returns t → Runs w (At p) (suc d) s 1 t Returned
     returns_outside : {w : Program} {p : ℕ} {s t : State} → row w p s ≡ Returns t → Runs w (At p) 0 s 0 s (Faulted StrayEnd w p)
     -- a call counts one, before its turns
-    calls : {w : Program} {p d n k next : ℕ} {f : Function} {s t u : State} {how : How} → row w p s ≡ Calls k f next t → d < MAX_DEPTH → Runs w (Turns k f next) d t n u how → Runs w (At p) d s (suc n) u how
-    too_deep : {w : Program} {p d k next : ℕ} {f : Function} {s t : State} → row w p s ≡ Calls k f next t → MAX_DEPTH ≤ d → Runs w (At p) d s 0 s (Faulted CallDepth w p)
+    calls : {w : Program} {p d n k next : ℕ} {f : Function} {s t u : State} {how : How} → row w p s ≡ Calls k f next t
+        → d < MAX_DEPTH → Runs w (Turns k f next) d t n u how → Runs w (At p) d s (suc n) u how
+    too_deep : {w : Program} {p d k next : ℕ} {f : Function} {s t : State} → row w p s ≡ Calls k f next t → MAX_DEPTH ≤ d
+        → Runs w (At p) d s 0 s (Faulted CallDepth w p)
     -- no more turns
-    done : {w : Program} {d n next : ℕ} {f : Function} {s u : State} {how : How} → Runs w (At next) d s n u how → Runs w (Turns 0 f next) d s n u how
+    done : {w : Program} {d n next : ℕ} {f : Function} {s u : State} {how : How} → Runs w (At next) d s n u how
+        → Runs w (Turns 0 f next) d s n u how
     -- a turn: a run of the function in its own bytes that returns, and then the other turns
-    turn : {w : Program} {d m n k next : ℕ} {f : Function} {s t u : State} {how : How} → Runs f.program (At f.address) (suc d) s m t Returned → Runs w (Turns k f next) d t n u how → Runs w (Turns (suc k) f next) d s (m + n) u how
+    turn : {w : Program} {d m n k next : ℕ} {f : Function} {s t u : State} {how : How}
+        → Runs f.program (At f.address) (suc d) s m t Returned → Runs w (Turns k f next) d t n u how
+        → Runs w (Turns (suc k) f next) d s (m + n) u how
     -- a turn that does not return is the last
-    last_turn : {w : Program} {d m k next : ℕ} {f : Function} {s t : State} {how : How} → Runs f.program (At f.address) (suc d) s m t how → IsLast how → Runs w (Turns (suc k) f next) d s m t how
+    last_turn : {w : Program} {d m k next : ℕ} {f : Function} {s t : State} {how : How}
+        → Runs f.program (At f.address) (suc d) s m t how → IsLast how → Runs w (Turns (suc k) f next) d s m t how
 
   -- A program's answer, if at most `limit` instructions may be executed.
   pub data Answer (limit : ℕ) (w : Program) (s : State) : Verdict → Type 0 where
     finished : {n : ℕ} {u : State} → n ≤ limit → Runs w (At 0) 0 s n u Ended → Answer limit w s (Finished n u)
-    faulted : {n : ℕ} {u : State} {c : Cause} {v : Program} {p : ℕ} → n < limit → Runs w (At 0) 0 s n u (Faulted c v p) → Answer limit w s (Halted c v p)
+    faulted : {n : ℕ} {u : State} {c : Cause} {v : Program} {p : ℕ} → n < limit → Runs w (At 0) 0 s n u (Faulted c v p)
+        → Answer limit w s (Halted c v p)
     -- else it stops at the address before which the run of the limit is open
     stopped : {u : State} {v : Program} {p : ℕ}
         → ((n : ℕ) (t : State) → n ≤ limit → Runs w (At 0) 0 s n t Ended → ⊥)

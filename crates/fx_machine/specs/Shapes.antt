@@ -22,4 +22,5 @@ FinishesAlike s (Finished steps t) = HasShapes s.zones t.zones
 FinishesAlike s _ = Unit {0}
 
 abbrev pub RunsKeepShapes : Type 0
-RunsKeepShapes = (texts : Program → List ℕ) (limit : ℕ) (w : Program) (s : State) → FinishesAlike s (answer_of (row_at texts) limit w s)
+RunsKeepShapes =
+    (texts : Program → List ℕ) (limit : ℕ) (w : Program) (s : State) → FinishesAlike s (answer_of (row_at texts) limit w s)

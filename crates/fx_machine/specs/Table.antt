@@ -1,6 +1,7 @@
 -- The instruction table: what the instruction at an address of a program does. No row speaks of frames.
 -- Apple TrueType Reference Manual, "Instruction set"; the rows by the high nibble of the opcode.
-use Rattle.std.specs.Prelude.{ℕ, ◌+◌, ◌/◌, [], true, false, Bool, ◌&&◌, ◌||◌, ◌==◌, nat_le, if◌then◌else◌, List, length, Result, Ok, Err}
+use Rattle.std.specs.Prelude.{ℕ, ◌+◌, ◌/◌, [], true, false, Bool, ◌&&◌, ◌||◌, ◌==◌, nat_le, if◌then◌else◌, List, length, Result, Ok}
+use Rattle.std.specs.Prelude.{Err}
 use Rattle.fx_fixed.specs.Chain.{◌>>=◌}
 use Rattle.fx_fixed.specs.declared.places.Axis.TheVariants.{X, Y}
 use Rattle.fx_code.specs.Opcodes.{NPUSHB, NPUSHW, PUSHB_1, PUSHW_8, ELSE, FDEF, ENDF, IF, EIF, IDEF}
@@ -10,7 +11,8 @@ use Rattle.fx_code.specs.Numbers.{numbers}
 use Rattle.fx_gstate.specs.declared.deltas.DeltaForm.TheVariants.{First, Second, Third}
 use Rattle.fx_gstate.specs.declared.rounding.RoundState.TheVariants.{ToGrid, ToHalfGrid, ToDoubleGrid, DownToGrid, UpToGrid, Off}
 use Rattle.fx_gstate.specs.Vectors.{axis_of}
-use Rattle.fx_stackops.specs.Rows.{dup_of, pop_of, clear_of, swap_of, depth_of, cindex_of, mindex_of, push_of, ws_of, rs_of, wcvtp_of, rcvt_of, size_of}
+use Rattle.fx_stackops.specs.Rows.{dup_of, pop_of, clear_of, swap_of, depth_of, cindex_of, mindex_of, push_of, ws_of, rs_of}
+use Rattle.fx_stackops.specs.Rows.{wcvtp_of, rcvt_of, size_of}
 use Rattle.fx_stackops.specs.Rows.{lt_of, lteq_of, gt_of, gteq_of, eq_of, neq_of, odd_of, even_of, and_of, or_of, not_of}
 use Rattle.fx_stackops.specs.Rows.{add_of, sub_of, div_of, mul_of, abs_of, neg_of, floor_of, ceiling_of, round_of, nround_of}
 use Rattle.fx_stackops.specs.Rows.{deltac_of, ignored_of, getinfo_of, roll_of, max_of, min_of}
@@ -24,10 +26,13 @@ use Rattle.fx_machine.specs.declared.state.State.{State}
 use Rattle.fx_machine.specs.Effects.{Effect, Ends, Fails, Goes, Calls, Returns}
 use Rattle.fx_machine.specs.Flow.{led, if_of, jmpr_of, jrot_of, jrof_of, call_of, loopcall_of, fdef_of, idef_of, undefined_of}
 use Rattle.fx_machine.specs.StateRows.{on_store, on_graphics, spvtl_of, sfvtl_of, sdpvtl_of, spvfs_of, sfvfs_of, gpv_of, gfv_of}
-use Rattle.fx_machine.specs.StateRows.{srp0_of, srp1_of, srp2_of, szp0_of, szp1_of, szp2_of, szps_of, sloop_of, smd_of, scvtci_of, sswci_of, ssw_of}
+use Rattle.fx_machine.specs.StateRows.{srp0_of, srp1_of, srp2_of, szp0_of, szp1_of, szp2_of, szps_of, sloop_of, smd_of, scvtci_of}
+use Rattle.fx_machine.specs.StateRows.{sswci_of, ssw_of}
 use Rattle.fx_machine.specs.StateRows.{sdb_of, sds_of, wcvtf_of, sround_of, s45round_of, instctrl_of}
-use Rattle.fx_machine.specs.PointRows.{isect_row, alignpts_row, utp_row, mdap_row, iup_row, shp_row, shc_row, shz_row, shpix_row, ip_row}
-use Rattle.fx_machine.specs.PointRows.{msirp_row, alignrp_row, miap_row, gc_row, scfs_row, md_row, deltap_row, flippt_row, fliprg_row, mdrp_row, mirp_row}
+use Rattle.fx_machine.specs.PointRows.{isect_row, alignpts_row, utp_row, mdap_row, iup_row, shp_row, shc_row, shz_row, shpix_row}
+use Rattle.fx_machine.specs.PointRows.{ip_row}
+use Rattle.fx_machine.specs.PointRows.{msirp_row, alignrp_row, miap_row, gc_row, scfs_row, md_row, deltap_row, flippt_row}
+use Rattle.fx_machine.specs.PointRows.{fliprg_row, mdrp_row, mirp_row}
 
 -- ---- the rows that continue at the next address
 

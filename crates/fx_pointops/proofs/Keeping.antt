@@ -19,7 +19,8 @@ use Rattle.fx_pointops.specs.declared.zones.Zones.{Zones}
 use Rattle.fx_pointops.specs.Zones.{Outcome, HasShapes, on_zone, index_of, changed_of, changed_at}
 use Rattle.fx_pointops.specs.ShiftPoint.{shifted_by, shift_by, moved_by, point_shifted}
 use Rattle.fx_pointops.specs.Loops.{each, each_pair}
-use Rattle.fx_pointops.specs.Direct.{untouched_along, utp_of, mdap_of, laid_at_distance, msirp_of, aligned_to_rp, alignrp_of, alignpts_of, scfs_of, shpix_of, mdrp_of}
+use Rattle.fx_pointops.specs.Direct.{untouched_along, utp_of, mdap_of, laid_at_distance, msirp_of, aligned_to_rp, alignrp_of}
+use Rattle.fx_pointops.specs.Direct.{alignpts_of, scfs_of, shpix_of, mdrp_of}
 use Rattle.fx_pointops.specs.Indirect.{laid_along, miap_of, laid_from_rp, mirp_of}
 use Rattle.fx_pointops.specs.Shift.{shp_of, contour_shifted, shc_of, shz_of}
 use Rattle.fx_pointops.specs.Interpolate.{point_in_proportion, ip_of}

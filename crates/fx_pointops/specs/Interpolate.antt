@@ -15,7 +15,8 @@ unfoldable pub proportion_of : ℤ → ℤ → ℤ → ℤ
 proportion_of o cb ob = if int_eq ob (pos 0) then o else wrapped_of (near_of (o *ℤ cb) ob)
 
 -- 39 IP  .. p ->
--- Each p, of zone 2, moves to the distance from reference point 1, of zone 0, that is to its original one as the current distance cb
+-- Each p, of zone 2, moves to the distance from reference point 1, of zone 0, that is to its original one as the current distance
+-- cb
 -- of reference point 2, of zone 1, to its original one ob. Both are measured once; reference point 1 may move on the way.
 unfoldable pub point_in_proportion : GState → ℤ → ℤ → ℤ → Zones → Outcome
 point_in_proportion g cb ob p z = (

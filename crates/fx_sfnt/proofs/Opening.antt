@@ -1,6 +1,7 @@
 -- What a font that was opened tells of its file.
 -- For the clauses of a `Font`'s methods on its fields.
-use Rattle.std.proofs.Common.{◌≡◌, ℕ, ◌+◌, ◌*◌, ◌<◌, ◌≤◌, true, not, ◌==◌, ◌||◌, nat_lt, List, length, Some, Ok, refl, sym, ◌∙◌, subst, codes, arith}
+use Rattle.std.proofs.Common.{◌≡◌, ℕ, ◌+◌, ◌*◌, ◌<◌, ◌≤◌, true, not, ◌==◌, ◌||◌, nat_lt, List, length, Some, Ok, refl, sym, ◌∙◌}
+use Rattle.std.proofs.Common.{subst, codes, arith}
 use Rattle.std.proofs.lemmas.Option.{same_Some}
 use Rattle.std.proofs.lemmas.Bool.{and_parts, or_parts, leb-true, ltb-false, eqb-false, not-false}
 use Rattle.fx_fixed.proofs.Chain.{refuse_then, bind_then, wanted_then, same_Ok}

@@ -1,6 +1,7 @@
 -- A glyph's metrics, and its bytes.
 -- OpenType, "hmtx", "loca", "glyf".
-use Rattle.std.specs.Prelude.{ℕ, ◌+◌, ◌-◌, ◌*◌, min, ℤ, pos, List, length, take, drop, codes, Option, option_map, unwrap_or, Result, Ok, ◌==◌, ◌&&◌, not, nat_lt, nat_le, if◌then◌else◌}
+use Rattle.std.specs.Prelude.{ℕ, ◌+◌, ◌-◌, ◌*◌, min, ℤ, pos, List, length, take, drop, codes, Option, option_map, unwrap_or, Result}
+use Rattle.std.specs.Prelude.{Ok, ◌==◌, ◌&&◌, not, nat_lt, nat_le, if◌then◌else◌}
 use Rattle.fx_fixed.specs.Chain.{◌>>=◌, refuse, wanted}
 use Rattle.fx_sfnt.specs.Fields.{field, number_at, signed_at}
 use Rattle.fx_sfnt.specs.Tables.{Face, table_or_empty}

@@ -1,6 +1,7 @@
 -- The directory of a font file, and the fields of its tables.
 -- OpenType, "Organization of an OpenType font", "head", "maxp", "hhea", "hmtx".
-use Rattle.std.specs.Prelude.{ℕ, zero, suc, ◌+◌, ◌*◌, List, [], ◌∷◌, length, take, drop, find, codes, Option, Some, None, option_map, unwrap_or, Result, Ok, Bool, ◌==◌, ◌||◌, ◌&&◌, not, nat_lt, nat_le, if◌then◌else◌}
+use Rattle.std.specs.Prelude.{ℕ, zero, suc, ◌+◌, ◌*◌, List, [], ◌∷◌, length, take, drop, find, codes, Option, Some, None}
+use Rattle.std.specs.Prelude.{option_map, unwrap_or, Result, Ok, Bool, ◌==◌, ◌||◌, ◌&&◌, not, nat_lt, nat_le, if◌then◌else◌}
 use Rattle.fx_fixed.specs.Chain.{◌>>=◌, refuse, wanted}
 use Rattle.fx_sfnt.specs.Fields.{field, signed_field}
 use Rattle.fx_sfnt.specs.Units.{units_per_em_of}

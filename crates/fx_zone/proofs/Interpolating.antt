@@ -1,14 +1,17 @@
 -- The sweep over a contour, proved equal to the rule for one point.
 -- It serves the interpolation of untouched points.
-use Rattle.std.proofs.Common.{◌≡◌, refl, sym, ap, ◌∙◌, arith, ℕ, suc, ◌+◌, ◌-◌, ◌<◌, ◌≤◌, max, Bool, true, false, if◌then◌else◌, List, [], ◌∷◌, ◌++◌, length, get_or, take, drop, map, reverse, pos, Option, Some, None}
+use Rattle.std.proofs.Common.{◌≡◌, refl, sym, ap, ◌∙◌, arith, ℕ, suc, ◌+◌, ◌-◌, ◌<◌, ◌≤◌, max, Bool, true, false, if◌then◌else◌}
+use Rattle.std.proofs.Common.{List, [], ◌∷◌, ◌++◌, length, get_or, take, drop, map, reverse, pos, Option, Some, None}
 use Rattle.std.proofs.Math.Seq.{take-suc, drop-cons, take-append-add, drop-append-add}
-use Rattle.std.proofs.lemmas.List.{append_assoc, append-nil, reverse-append, length-append, length-take-le, length-drop, length-map, reverse-reverse, drop_all, take_all, get_or-drop, drop-drop, drop_more, take-append-drop}
+use Rattle.std.proofs.lemmas.List.{append_assoc, append-nil, reverse-append, length-append, length-take-le, length-drop, length-map}
+use Rattle.std.proofs.lemmas.List.{reverse-reverse, drop_all, take_all, get_or-drop, drop-drop, drop_more, take-append-drop}
 use Rattle.std.proofs.lemmas.Slice.{take-put_mid, drop-put_mid}
 use borrow.Rule.Slice.PartMut.{put_mid, same_len_mid}
 use Rattle.std.proofs.lemmas.Int.{ints, by_lt_z}
 use Rattle.fx_zone.specs.declared.point.Point.{Point}
 use Rattle.fx_fixed.specs.declared.places.Axis.{Axis}
-use Rattle.fx_zone.specs.Interpolation.{is_touched, between, between_any, first_touched, untouched_run, interpolated, each_interpolated, contour_interpolated, contours_interpolated, figure_interpolated}
+use Rattle.fx_zone.specs.Interpolation.{is_touched, between, between_any, first_touched, untouched_run, interpolated}
+use Rattle.fx_zone.specs.Interpolation.{each_interpolated, contour_interpolated, contours_interpolated, figure_interpolated}
 use Rattle.fx_zone.specs.Figures.{Figure}
 
 -- ---- the first touched point

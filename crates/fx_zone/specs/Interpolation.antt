@@ -1,5 +1,6 @@
 -- Untouched points between touched ones (Apple TrueType Reference Manual, "IUP").
-use Rattle.std.specs.Prelude.{ℕ, suc, ◌-◌, max, ℤ, ◌+ℤ◌, ◌-ℤ◌, ◌*ℤ◌, int_lt, int_le, Bool, if◌then◌else◌, List, [], ◌∷◌, ◌++◌, reverse, take, drop, Option, Some, None}
+use Rattle.std.specs.Prelude.{ℕ, suc, ◌-◌, max, ℤ, ◌+ℤ◌, ◌-ℤ◌, ◌*ℤ◌, int_lt, int_le, Bool, if◌then◌else◌, List, [], ◌∷◌, ◌++◌}
+use Rattle.std.specs.Prelude.{reverse, take, drop, Option, Some, None}
 use Rattle.fx_fixed.specs.Numbers.{near_of, wrapped_of}
 use Rattle.fx_fixed.specs.Places.{coordinate_of}
 use Rattle.fx_fixed.specs.declared.places.Place.{Place}

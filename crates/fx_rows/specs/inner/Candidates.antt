@@ -19,5 +19,6 @@ pub record IsCandidate (s : Span) (strip : Strip) (r : Columns) : Type 0 where
   pub only : (k : ℕ) → strip.start ≤ k → k < strip.stop → IsOn (place_at strip k) s → (k ≡ r.first) ⊎ (k ≡ r.last)
 
 abbrev pub AreCandidates : Span → Strip → Option Columns → Type 0
-AreCandidates s strip None = (k : ℕ) → strip.start ≤ k → k < strip.stop → (region (place_at strip k) s ≡ pos 0) × (¬ (IsOn (place_at strip k) s))
+AreCandidates s strip None =
+    (k : ℕ) → strip.start ≤ k → k < strip.stop → (region (place_at strip k) s ≡ pos 0) × (¬ (IsOn (place_at strip k) s))
 AreCandidates s strip (Some r) = IsCandidate s strip r

@@ -8,4 +8,5 @@ returns-in_err-second-clause-value c =
     prep_halts _ _ _ _ c.in_ok-first.ensures.value _ _ _ _ p.1 p.2 (rw c.prepare.ensures at c.in_err-second.ensures.value)
 
 pub returns-clause-value : goal.returns-clause-value
-returns-clause-value c = prep_ends _ _ _ _ c.in_ok-first.ensures.value _ _ _ c.strays.ensures (rw c.prepare.ensures at c.in_ok-second.ensures.value)
+returns-clause-value c =
+    prep_ends _ _ _ _ c.in_ok-first.ensures.value _ _ _ c.strays.ensures (rw c.prepare.ensures at c.in_ok-second.ensures.value)

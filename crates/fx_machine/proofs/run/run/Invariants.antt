@@ -10,7 +10,8 @@ use Rattle.fx_machine.proofs.run.run.Given as goal
 -- the answer is what is answered from here
 abbrev pub invariant-steps : goal.invariant-steps
 invariant-steps l = record {
-  answer : answer_of (row_at (texts l.programs)) l.limit l.start l.fn.state ≡ answer_from (row_at (texts l.programs)) (l.limit - l.steps) l.steps (config_of l.cursor l.calls l.state);
+  answer : answer_of (row_at (texts l.programs)) l.limit l.start l.fn.state ≡ answer_from (row_at (texts l.programs))
+      (l.limit - l.steps) l.steps (config_of l.cursor l.calls l.state);
   code : l.code ≡ texts l.programs l.cursor.program;
   counted : l.steps ≤ l.limit;
   shapes : HasShapes l.fn.state.zones l.state.zones;

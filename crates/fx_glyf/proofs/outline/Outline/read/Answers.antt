@@ -5,7 +5,8 @@ pub returns-in_default : goal.returns-in_default
 returns-in_default c = no_flags _ _ c.in_default.ensures
 
 pub returns-in_default-skip_deltas : goal.returns-in_default-skip_deltas
-returns-in_default-skip_deltas c = no_xs _ _ _ c.in-Some.ensures (at_flags _ _ _ _ _ _ c.new.ensures c.in_default-skip_deltas.ensures)
+returns-in_default-skip_deltas c =
+    no_xs _ _ _ c.in-Some.ensures (at_flags _ _ _ _ _ _ c.new.ensures c.in_default-skip_deltas.ensures)
 
 pub returns-in_default-skip_deltas-2 : goal.returns-in_default-skip_deltas-2
 returns-in_default-skip_deltas-2 c =
