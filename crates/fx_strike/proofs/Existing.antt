@@ -226,4 +226,4 @@ glyphs_of_sketches face segments ppem (c ∷ cs) ss h =
 pub strike_exists : StrikeExists
 strike_exists file ppem name chars hinting plan h =
     let p = parts_of file ppem name chars hinting plan h in
-    glyphs_of_sketches p.face p.segments ppem (filter (λ c. not (is_missing p.segments c)) (rising chars)) plan.sketches p.sketches
+    glyphs_of_sketches p.face p.segments p.size (filter (λ c. not (is_missing p.segments c)) (rising chars)) plan.sketches p.sketches

@@ -18,6 +18,7 @@ use Rattle.fx_strike.specs.declared.refusal.Refusal.TheVariants.{OutOfMemory, Wr
 use Rattle.fx_strike.specs.declared.drawn.Drawn.{Drawn}
 use Rattle.fx_strike.specs.declared.gathered.Gathered.{Gathered}
 use Rattle.fx_strike.specs.Faults.{Fails}
+use Rattle.fx_strike.specs.Limits.{max_code}
 use Rattle.fx_strike.specs.Strike.{Sketch, IsGlyphOf, AreGlyphsOf, glyph_sketch_of, sketch_of, is_missing, sketches_of}
 use Rattle.fx_strike.specs.Headline.{counted}
 use Rattle.fx_strike.specs.Drawing.{IsDrawnOf}
@@ -25,17 +26,17 @@ use Rattle.fx_strike.specs.Gathering.{IsEmpty, Adds, Holds, Gathers}
 
 -- ---- code points within the limit
 
-not_any : (c : ℕ) (cs : List ℕ) → list_any (nat_lt 65535) (c ∷ cs) ≡ false → (c < 2 ^ 16) × (list_any (nat_lt 65535) cs ≡ false)
-not_any c cs h = (low c (list_any (nat_lt 65535) cs) h, rest (nat_lt 65535 c) (list_any (nat_lt 65535) cs) h)
+not_any : (c : ℕ) (cs : List ℕ) → list_any (nat_lt max_code) (c ∷ cs) ≡ false → (c < 2 ^ 16) × (list_any (nat_lt max_code) cs ≡ false)
+not_any c cs h = (low c (list_any (nat_lt max_code) cs) h, rest (nat_lt max_code c) (list_any (nat_lt max_code) cs) h)
   where
-    low : (c : ℕ) (b : Bool) → (nat_lt 65535 c || b) ≡ false → c < 2 ^ 16
+    low : (c : ℕ) (b : Bool) → (nat_lt max_code c || b) ≡ false → c < 2 ^ 16
     low c b h = grind (arith, nat_tests)
 
     rest : (a b : Bool) → (a || b) ≡ false → b ≡ false
     rest true b h = absurd (cc)
     rest false b h = h
 
-pub code_fits : (codes : List ℕ) (i : ℕ) → list_any (nat_lt 65535) codes ≡ false → i < length codes → get_or codes i 0 < 2 ^ 16
+pub code_fits : (codes : List ℕ) (i : ℕ) → list_any (nat_lt max_code) codes ≡ false → i < length codes → get_or codes i 0 < 2 ^ 16
 code_fits [] i h g = absurd (omega arith)
 code_fits (c ∷ cs) zero h g = (not_any c cs h).0
 code_fits (c ∷ cs) (suc i) h g = code_fits cs i (not_any c cs h).1 (omega arith)

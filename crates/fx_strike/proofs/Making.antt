@@ -6,6 +6,7 @@ use Rattle.std.specs.List.{count_by}
 use Rattle.std.proofs.lemmas.Int.{ints, fits_signed_mul, fits_signed_from_abs, unsigned_abs-mul}
 use Rattle.std.proofs.Math.Nat.{mul-le-mul_left}
 use Rattle.fx_fixed.specs.Numbers.{near_of}
+use Rattle.fx_fixed.specs.Sizes.{IsPpem, max_ppem}
 use Rattle.fx_sfnt.specs.Tables.{Face}
 use Rattle.fx_cmap.specs.Lookup.{Segments}
 use Rattle.fx_bdf.specs.declared.header.Header.{Header}
@@ -29,11 +30,11 @@ plan_unopened : (file : List ℕ) (ppem : ℕ) (name chars : List ℕ) (hinting 
 unfolding plan_of
 plan_unopened file ppem name chars hinting d h = rw h
 
-plan_opened : (file : List ℕ) (ppem : ℕ) (name chars : List ℕ) (hinting : Bool) (face : Face) (segments : Segments)
-    → opened_of file ppem name chars hinting ≡ Ok (face, segments)
-    → plan_of file ppem name chars hinting ≡ plan_in face segments ppem name chars
+plan_opened : (file : List ℕ) (ppem : ℕ) (name chars : List ℕ) (hinting : Bool) (size : ℕ) (face : Face) (segments : Segments)
+    → opened_of file ppem name chars hinting ≡ Ok (size, face, segments)
+    → plan_of file ppem name chars hinting ≡ plan_in face segments size name chars
 unfolding plan_of
-plan_opened file ppem name chars hinting face segments h = rw h
+plan_opened file ppem name chars hinting size face segments h = rw h
 
 plan_refused : (face : Face) (segments : Segments) (ppem : ℕ) (name chars : List ℕ) (d : Refusal)
     → sketches_of face segments ppem (rising chars) ≡ Err d → plan_in face segments ppem name chars ≡ Err d
@@ -75,10 +76,12 @@ pub unopened : (file : List ℕ) (ppem : ℕ) (name chars : List ℕ) (hinting :
 unopened file ppem name chars hinting r e d p q h c =
     makes_err (plan_of file ppem name chars hinting) r e d p q (fails_cause d (plan_of file ppem name chars hinting) c (plan_unopened file ppem name chars hinting d (sym h)))
 
-pub opened : (file : List ℕ) (ppem : ℕ) (name chars : List ℕ) (hinting : Bool) (face : Face) (segments : Segments) (r : Result Made Refusal)
-    → Ok (face, segments) ≡ opened_of file ppem name chars hinting → Makes (plan_in face segments ppem name chars) r → Makes (plan_of file ppem name chars hinting) r
-opened file ppem name chars hinting face segments r h m =
-    let P : Result Plan Refusal → Type 0 = λ due. Makes due r in subst P (sym (plan_opened file ppem name chars hinting face segments (sym h))) m
+pub opened : (file : List ℕ) (ppem : ℕ) (name chars : List ℕ) (hinting : Bool) (size : ℕ) (face : Face) (segments : Segments)
+    (r : Result Made Refusal) → Ok (size, face, segments) ≡ opened_of file ppem name chars hinting
+    → Makes (plan_in face segments size name chars) r → Makes (plan_of file ppem name chars hinting) r
+opened file ppem name chars hinting size face segments r h m =
+    let P : Result Plan Refusal → Type 0 = λ due. Makes due r in
+    subst P (sym (plan_opened file ppem name chars hinting size face segments (sym h))) m
 
 pub ungathered : (face : Face) (segments : Segments) (ppem : ℕ) (name chars codes : List ℕ) (r : Result Made Refusal) (e d : Refusal) → r ≡ Err e → e ≡ d
     → codes ≡ rising chars → Fails d (sketches_of face segments ppem codes) → Makes (plan_in face segments ppem name chars) r
@@ -123,8 +126,11 @@ finished face segments ppem name chars codes gathered header (Err d) c g q f e =
 
 -- ---- words for answers
 
+pub most : {pixels ppem : ℕ} → pixels ≡ ppem → IsPpem pixels → ppem ≤ max_ppem
+most e h = omega (arith, e, h.most)
+
 -- FUnits in whole pixels, as the code casts them
-pub whole_is : (units : ℤ) (ppem em : ℕ) (f g h r : ℤ) → FitsSigned w32 units → unsigned_abs units ≤ 32768 → ppem ≤ 255
+pub whole_is : (units : ℤ) (ppem em : ℕ) (f g h r : ℤ) → FitsSigned w32 units → unsigned_abs units ≤ 32768 → ppem ≤ max_ppem
     → em < 2 ^ 16 → f ≡ to_z w32 (of_z w32 units) → g ≡ pos ppem → h ≡ pos em
     → r ≡ near_of (to_z w128 (of_z w128 (to_z w128 (of_z w128 f) *ℤ to_z w128 (of_z w128 g)))) (to_z w128 (of_z w128 h))
     → unsigned_abs r ≤ unsigned_abs (to_z w128 (of_z w128 (to_z w128 (of_z w128 f) *ℤ to_z w128 (of_z w128 g))))

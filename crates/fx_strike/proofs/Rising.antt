@@ -11,6 +11,7 @@ use Rattle.std.proofs.lemmas.Map.Keys.{IsStrictlyIncreasing-dedup}
 use Rattle.std.proofs.lemmas.Bool.{or_parts}
 use lib.Dec.{eqb}
 use Rattle.fx_fixed.proofs.Rising.{IsAbove, Rise, IsIn, contains_in, in_contains, rise_increasing, increasing_one}
+use Rattle.fx_strike.specs.Limits.{max_characters}
 use Rattle.fx_strike.specs.Characters.{with_code, rising, RisingAreRisen, RisenIsOne}
 
 -- ---- one code point put in its place
@@ -126,7 +127,7 @@ length_rising (c ∷ cs) = omega (arith, length_rising cs, length_put c (rising 
         (λ e. subst P (sym (put_behind c d ds e)) (omega (arith, length_put c ds)))
 
 -- the same for a copy
-pub few_rising : (chars codes : List ℕ) → codes ≡ rising chars → length chars ≤ 65536 → length codes ≤ 65536
+pub few_rising : (chars codes : List ℕ) → codes ≡ rising chars → length chars ≤ max_characters → length codes ≤ max_characters
 few_rising chars codes e h = omega (arith, ap length e, length_rising chars)
 
 any_put : (p : ℕ → Bool) (c : ℕ) (ds : List ℕ) → p c ≡ false → list_any p ds ≡ false → list_any p (with_code c ds) ≡ false

@@ -12,15 +12,14 @@ use Rattle.fx_strike.specs.declared.gathered.Gathered.{Gathered}
 use Rattle.fx_strike.specs.declared.made.Made.{Made}
 use Rattle.fx_strike.specs.declared.request.Request.{Request}
 use Rattle.fx_strike.specs.Faults.{Fails}
+use Rattle.fx_strike.specs.Limits.{max_characters, max_code}
 use Rattle.fx_strike.specs.Headline.{counted, IsReportOf}
 use Rattle.fx_strike.specs.Strike.{Sketch, Plan, AreGlyphsOf, is_missing, sketches_of, pixels, strike_text}
 
--- a request within its limits
+-- a request with characters and a name within their limits
 pub record IsChecked (request : Request) : Type 0 where
-  pub low : 1 ≤ request.ppem
-  pub high : request.ppem ≤ 255
-  pub few : length request.chars.now ≤ 65536
-  pub small : list_any (nat_lt 65535) request.chars.now ≡ false
+  pub few : length request.chars.now ≤ max_characters
+  pub small : list_any (nat_lt max_code) request.chars.now ≡ false
   pub name : IsName request.name.now
 
 -- no glyph

@@ -24,14 +24,9 @@ use fx_winding::{Bitmap, Frame, Pieces, Scan, Tally};
 use std::alloc::Global;
 
 // The scaled outline of a glyph.
-fn outline_at(alloc: Global, font: &Font<'_>, ppem: u16, glyph: u16) -> Result<Outline, Refusal>
-    requires low { 1 ≤ ppem }
-    requires high { ppem ≤ 255 }
+fn outline_at(alloc: Global, font: &Font<'_>, ppem: Ppem, glyph: u16) -> Result<Outline, Refusal>
     ensures { GivesUnless Fails view_of_outline result (map_fault of_hint (outline_of font.now ppem glyph)) }
 {
-    let Some(ppem) = Ppem::new(ppem) else {
-        return Err(Refusal::BadSize);
-    };
     Ok(unhinted(alloc, font, ppem, glyph)?)
 }
 
@@ -119,12 +114,10 @@ pub(crate) fn draw<S: Scan>(
     alloc: Global,
     scan: &S,
     font: &Font<'_>,
-    ppem: u16,
+    ppem: Ppem,
     code: u32,
     glyph: u16,
 ) -> Result<Drawn, Refusal>
-    requires low { 1 ≤ ppem }
-    requires high { ppem ≤ 255 }
     ensures sketch { Draws (glyph_sketch_of font.now ppem code glyph) result }
     ensures code { IfOk result (λ d. d.glyph.code ≡ code) }
 {

@@ -20,6 +20,7 @@ pub(crate) struct Gathered {
 impl Gathered {
     ghost use Rattle.std.specs.Prelude.{◌≡◌, ◌<◌, ◌^◌, OnOk, IfErr, []};
     ghost use Rattle.fx_bdf.specs.Glyphs.{IsPlaced};
+    ghost use Rattle.fx_strike.specs.Limits.{max_characters};
     ghost use Rattle.fx_strike.specs.Gathering.{IsEmpty, Adds};
 
     /// No glyph.
@@ -40,7 +41,7 @@ impl Gathered {
     pub(crate) fn add(&mut self, drawn: &Drawn) -> Result<(), Refusal>
         requires calm { self.old.draft.faults ≡ 0 }
         requires code { drawn.now.glyph.code < 2 ^ 16 }
-        requires room { self.old.glyphs < 65536 }
+        requires few { self.old.glyphs < max_characters }
         requires placed { IsPlaced self.old.bounds }
         ensures ok { OnOk result (Adds self.old self.new drawn.now) }
         ensures err { IfErr result (λ e. e ≡ Refusal.OutOfMemory) }

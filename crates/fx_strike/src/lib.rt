@@ -18,12 +18,14 @@ mod faults;
 mod gather;
 mod gathered;
 pub mod laws;
+mod limits;
 mod listing;
 mod made;
 mod make;
 mod refusal;
 mod request;
 
+pub use limits::{MAX_CHARACTERS, MAX_CODE};
 pub use listing::{Which, listing_of};
 pub use make::{make_strike, make_strike_with};
 pub use refusal::Refusal;

@@ -2,6 +2,7 @@
 ghost use Rattle.std.specs.Prelude.{◌≡◌, ◌≤◌, ◌<◌, ◌^◌, ◌||◌, ◌++◌, ℕ, unsigned_abs, false, nat_lt, length, IfOk, IfErr, OnOk, IsErrOf};
 ghost use Rattle.std.specs.List.{list_any};
 ghost use Rattle.fx_bdf.specs.Text.{IsName, header_text, end_text};
+ghost use Rattle.fx_strike.specs.Limits.{max_characters, max_code};
 ghost use Rattle.fx_strike.specs.Strike.{checked, pixels, plan_in};
 ghost use Rattle.fx_strike.specs.Gathering.{IsChecked, heading_of, Finishes, Makes};
 ghost use Rattle.fx_strike.specs.Headline.{Text, Cause, Memory, Late, Writer, IsCause, HasToName, Leaves, opening_of, strike_of};
@@ -10,12 +11,13 @@ use crate::characters::rising_codes;
 use crate::draft::Draft;
 use crate::gather::gather;
 use crate::gathered::Gathered;
+use crate::limits::{MAX_CHARACTERS, MAX_CODE};
 use crate::made::Made;
 use crate::refusal::Refusal;
 use crate::request::{Report, Request};
 use fx_bdf::{Header, check_name, write_end, write_header};
 use fx_cmap::CharMap;
-use fx_fixed::{Sink, near, put_all};
+use fx_fixed::{Ppem, Sink, near, put_all};
 use fx_rows::Rows;
 use fx_sfnt::Font;
 use fx_winding::Scan;
@@ -23,28 +25,28 @@ use std::alloc::Global;
 
 // A code point past U+FFFF.
 fn is_past(chars: &[u32]) -> bool
-    ensures { result ≡ list_any (nat_lt 65535) chars.now }
+    ensures { result ≡ list_any (nat_lt max_code) chars.now }
 {
-    chars.iter().any(|code| 65535 < *code)
+    chars.iter().any(|code| MAX_CODE < *code)
 }
 
 // Too many code points, or one past the last.
 fn are_bad(chars: &[u32]) -> bool
-    ensures { result ≡ (nat_lt 65536 (length chars.now) || list_any (nat_lt 65535) chars.now) }
+    ensures { result ≡ (nat_lt max_characters (length chars.now) || list_any (nat_lt max_code) chars.now) }
 {
-    65536 < chars.len() || is_past(chars)
+    MAX_CHARACTERS < chars.len() || is_past(chars)
 }
 
-// What is refused whatever the font.
+// The size, if the request is not refused whatever the font.
 #[tactic(auto, unfolding(crate::specs::Strike::checked))]
-fn check(request: &Request<'_>) -> Result<(), Refusal>
+fn check(request: &Request<'_>) -> Result<Ppem, Refusal>
     ensures due { result ≡ checked request.now.ppem request.now.name.now request.now.chars.now request.now.hinting }
     ensures named { IfErr result IsCause }
     ensures passed { OnOk result (IsChecked request.now) }
 {
-    if request.ppem == 0 || request.ppem > 255 {
+    let Some(ppem) = Ppem::new(request.ppem) else {
         return Err(Refusal::BadSize);
-    }
+    };
     if are_bad(request.chars) {
         return Err(Refusal::BadChars);
     }
@@ -52,41 +54,42 @@ fn check(request: &Request<'_>) -> Result<(), Refusal>
     if request.hinting {
         return Err(Refusal::NotBuilt);
     }
-    Ok(())
+    Ok(ppem)
 }
 
-// The font and its character map, for a request that passes its checks. No memory is taken.
+// The size, the font and its character map, for a request that passes its checks. No memory is taken.
 #[tactic(auto, unfolding(crate::specs::Strike::opened_of))]
-fn open<'a>(file: &'a [u8], request: &Request<'_>) -> Result<(Font<'a>, CharMap<'a>), Refusal>
+fn open<'a>(
+    file: &'a [u8],
+    request: &Request<'_>,
+) -> Result<(Ppem, Font<'a>, CharMap<'a>), Refusal>
     ensures due { result ≡ opening_of file.now request.now }
     ensures named { IfErr result IsCause }
     ensures passed { OnOk result (IsChecked request.now) }
 {
-    check(request)?;
+    let ppem = check(request)?;
     let font = Font::open(file)?;
     let map = CharMap::open(&font)?;
-    Ok((font, map))
+    Ok((ppem, font, map))
 }
 
 // FUnits in whole pixels.
-fn whole_pixels(units: i32, ppem: u16, em: u16) -> i32
+fn whole_pixels(units: i32, ppem: Ppem, em: u16) -> i32
     requires units { unsigned_abs units ≤ 32768 }
-    requires size { ppem ≤ 255 }
     requires em { 16 ≤ em }
     ensures { result ≡ pixels units ppem em }
 {
-    near(i128::from(units) * i128::from(ppem), i128::from(em)) as i32
+    near(i128::from(units) * i128::from(ppem.pixels()), i128::from(em)) as i32
 }
 
 // What the lines before the glyphs tell.
-fn heading(font: &Font<'_>, ppem: u16, gathered: &Gathered) -> Header
-    requires { ppem ≤ 255 }
+fn heading(font: &Font<'_>, ppem: Ppem, gathered: &Gathered) -> Header
     ensures { result ≡ heading_of font.now ppem gathered.now }
 {
     let em = font.head().units_per_em.funits();
     let hhea = font.hhea();
     Header {
-        ppem,
+        ppem: ppem.pixels(),
         bounds: gathered.bounds,
         ascent: whole_pixels(i32::from(hhea.ascender), ppem, em),
         descent: whole_pixels(-i32::from(hhea.descender), ppem, em),
@@ -144,14 +147,15 @@ fn make_opened<S: Scan>(
     scan: &S,
     font: &Font<'_>,
     map: &CharMap<'_>,
+    ppem: Ppem,
     request: &Request<'_>,
 ) -> Result<Made, Refusal>
     requires { IsChecked request.now }
-    ensures { Makes (plan_in font.now map.now request.now.ppem request.now.name.now request.now.chars.now) result }
+    ensures { Makes (plan_in font.now map.now ppem request.now.name.now request.now.chars.now) result }
 {
     let codes = rising_codes(alloc, request.chars)?;
-    let gathered = gather(alloc, scan, font, map, request.ppem, &codes)?;
-    let header = heading(font, request.ppem, &gathered);
+    let gathered = gather(alloc, scan, font, map, ppem, &codes)?;
+    let header = heading(font, ppem, &gathered);
     finish(alloc, request.name, &header, gathered)
 }
 
@@ -165,8 +169,8 @@ fn make_texts<S: Scan>(
     ensures made { Makes (strike_of file.now request.now) result }
     ensures late { IsErrOf result Refusal.OutOfMemory → Late (opening_of file.now request.now) }
 {
-    let (font, map) = open(file, request)?;
-    make_opened(alloc, scan, &font, &map, request)
+    let (ppem, font, map) = open(file, request)?;
+    make_opened(alloc, scan, &font, &map, ppem, request)
 }
 
 fn make_all<S: Scan, W: Sink>(
