@@ -64,7 +64,7 @@ chain_refused f (z ∷ zs) x ys made e h g =
     refused : {A B : Type 0} (f : A → Result B Refusal) (z : A) (zs : List A) (x : A) (ys : List A) (e : Refusal) (c : B) → f z ≡ Ok c → map_chain f (zs ++ x ∷ ys) ≡ Err e → map_chain f (z ∷ (zs ++ x ∷ ys)) ≡ Err e
     refused f z zs x ys e c p r = rw (p, r)
 
--- a refusal is passed on where it is one of the whole
+-- a refusal is passed on if it is one of the whole chain
 pub fails_on : {Y Z : Type 0} (d : Refusal) (a : Result Y Refusal) (b : Result Z Refusal) → ((e : Refusal) → a ≡ Err e → b ≡ Err e) → Fails d a → Fails d b
 fails_on OutOfMemory a b h f = tt
 fails_on (WriteFailed n) a b h f = f
@@ -114,7 +114,7 @@ holds_none face segments ppem new h =
       planned = refl;
       drawn = tt;
       text = h.text;
-      calm = h.calm;
+      faults = h.faults;
       bounds = h.bounds;
       placed = subst P (sym h.bounds) (record { left = omega arith; right = omega arith; bottom = omega arith; top = omega arith });
       count = h.glyphs;
@@ -132,13 +132,13 @@ holds_push face segments ppem codes c old new sketch drawn h m s d a = record {
   planned = ap (map_chain (sketch_of face segments ppem)) (kept segments c m codes []) ∙ chain_push (sketch_of face segments ppem) (filter (λ x. not (is_missing segments x)) codes) c h.sketches sketch h.planned s;
   drawn = glyphs_push h.sketches h.glyphs sketch drawn.glyph h.drawn d.glyph;
   text = a.text ∙ ap (λ (t : List ℕ). t ++ glyph_text drawn.glyph) h.text ∙ sym (text_push h.glyphs drawn.glyph);
-  calm = a.calm;
+  faults = a.faults;
   bounds = a.bounds ∙ ap (λ (b : Box). joined b drawn.glyph.box) h.bounds ∙ sym (bounds_push h.glyphs drawn.glyph);
   placed = a.placed;
   count = omega (arith, a.glyphs, h.count, length-append h.sketches (sketch ∷ []));
   missing = a.missing ∙ h.missing ∙ sym (count_one (is_missing segments) codes c 0 (ap (λ (b : Bool). cond b 1 0) m) ∙ (let z : count_by (is_missing segments) codes + 0 ≡ count_by (is_missing segments) codes = omega arith in z));
-  strays = sum_push (λ x. x.strays) h.sketches sketch old.strays drawn.strays new.strays h.strays d.strays a.strays;
-  steps = sum_push (λ x. x.steps) h.sketches sketch old.steps drawn.steps new.steps h.steps d.steps a.steps;
+  strays = sum_push (λ x. x.strays) h.sketches sketch old.report.strays drawn.strays new.report.strays h.strays d.strays a.strays;
+  steps = sum_push (λ x. x.steps) h.sketches sketch old.report.steps drawn.steps new.report.steps h.steps d.steps a.steps;
   each = omega (arith, a.glyphs, a.missing, h.each, length-append codes (c ∷ []));
 }
 

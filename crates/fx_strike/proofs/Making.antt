@@ -16,6 +16,7 @@ use Rattle.fx_strike.specs.declared.refusal.Refusal.{Refusal}
 use Rattle.fx_strike.specs.declared.refusal.Refusal.TheVariants.{WriteFailed, ReadFailed, BadHex, InputTooLarge, OutOfMemory}
 use Rattle.fx_strike.specs.declared.gathered.Gathered.{Gathered}
 use Rattle.fx_strike.specs.declared.made.Made.{Made}
+use Rattle.fx_strike.specs.declared.request.Report.{Report}
 use Rattle.fx_strike.specs.Faults.{Fails}
 use Rattle.fx_strike.specs.Characters.{rising}
 use Rattle.fx_strike.specs.Strike.{Sketch, Plan, pixels, is_missing, sketches_of, opened_of, plan_in, plan_of, strike_text}
@@ -23,7 +24,7 @@ use Rattle.fx_strike.specs.Headline.{IsCause}
 use Rattle.fx_strike.specs.Gathering.{Holds, heading_of, Finishes, IsMadeOf, Makes}
 use Rattle.fx_strike.proofs.Gathering.{fails_on}
 
--- ---- where the plan stops
+-- ---- when the plan stops
 
 plan_unopened : (file : List ℕ) (ppem : ℕ) (name chars : List ℕ) (hinting : Bool) (d : Refusal)
     → opened_of file ppem name chars hinting ≡ Err d → plan_of file ppem name chars hinting ≡ Err d
@@ -104,14 +105,19 @@ made_of face segments ppem name chars gathered made g f =
       glyphs = n;
     } in
     let heads : header_text name (heading_of face ppem gathered) ≡ header_text name (heading (bounds_of (map (λ x. x.box) g.glyphs)) (length g.sketches))
-    = ap (λ (b : Box). header_text name (heading b gathered.glyphs)) g.bounds ∙ ap (λ (n : ℕ). header_text name (heading (bounds_of (map (λ x. x.box) g.glyphs)) n)) g.count in
+    = ap (λ (b : Box). header_text name (heading b gathered.report.glyphs)) g.bounds ∙ ap (λ (n : ℕ). header_text name (heading (bounds_of (map (λ x. x.box) g.glyphs)) n)) g.count in
     record {
       plan = whole_plan ppem name chars face segments g.sketches;
       glyphs = g.glyphs;
       is = plan_whole face segments ppem name chars g.sketches g.planned;
       drawn = g.drawn;
       text = ap (λ (t : List ℕ). t ++ made.body.bytes.items) (f.head ∙ heads) ∙ ap (λ (t : List ℕ). header_text name (heading (bounds_of (map (λ x. x.box) g.glyphs)) (length g.sketches)) ++ t) (f.body ∙ ap (λ (t : List ℕ). t ++ end_text) g.text);
-      told = record { glyphs = f.glyphs ∙ g.count; missing = f.missing ∙ g.missing; strays = f.strays ∙ g.strays; steps = f.steps ∙ g.steps };
+      told = record {
+        glyphs = ap (λ (r : Report). r.glyphs) f.report ∙ g.count;
+        missing = ap (λ (r : Report). r.missing) f.report ∙ g.missing;
+        strays = ap (λ (r : Report). r.strays) f.report ∙ g.strays;
+        steps = ap (λ (r : Report). r.steps) f.report ∙ g.steps;
+      };
     }
 
 pub finished : (face : Face) (segments : Segments) (ppem : ℕ) (name chars codes : List ℕ) (gathered : Gathered) (header : Header) (r : Result Made Refusal)
@@ -124,7 +130,7 @@ finished face segments ppem name chars codes gathered header (Ok made) c g q f e
 finished face segments ppem name chars codes gathered header (Err d) c g q f e =
     let P : Refusal → Type 0 = λ x. Fails x (plan_in face segments ppem name chars) in subst P (sym e) tt
 
--- ---- words for answers
+-- ---- lemmas for answers
 
 pub most : {pixels ppem : ℕ} → pixels ≡ ppem → IsPpem pixels → ppem ≤ max_ppem
 most e h = omega (arith, e, h.most)

@@ -32,7 +32,7 @@ pub record Sketch : Type 0 where
   pub strays : ℕ
   pub steps : ℕ
 
--- an advance of FUnits in 1/1000 of an em of so many FUnits
+-- an advance of FUnits in 1/1000 of an em, which is `em` FUnits
 abbrev pub thousandths : ℕ → ℕ → ℤ
 thousandths advance em = near_of (pos (advance * 1000)) (pos em)
 
@@ -93,7 +93,7 @@ checked ppem name chars hinting = do
 abbrev pub Opening : Type 0
 Opening = Result (ℕ × Face × Segments) Refusal
 
--- what takes no memory: the request passes its checks, the font opens and its character map does; or the first cause
+-- what takes no memory: the request passes its checks, and the font and its character map open; or the first cause
 unfoldable pub opened_of : List ℕ → ℕ → List ℕ → List ℕ → Bool → Opening
 opened_of file ppem name chars hinting = do
   size ← checked ppem name chars hinting
@@ -122,7 +122,7 @@ plan_of file ppem name chars hinting = do
 
 -- ---- its bits and its text
 
--- the glyph of a sketch: of all pixels of the plane just those are set whose centre is covered, in their tight box
+-- the glyph of a sketch: of all pixels of the plane exactly those are set whose centre is covered, in their tight box
 pub record IsGlyphOf (sketch : Sketch) (glyph : Glyph) : Type 0 where
   pub code : glyph.code ≡ sketch.code
   pub swidth : glyph.swidth ≡ sketch.swidth
@@ -137,7 +137,7 @@ AreGlyphsOf [] [] = Unit {0}
 AreGlyphsOf (s ∷ ss) (g ∷ gs) = IsGlyphOf s g × AreGlyphsOf ss gs
 AreGlyphsOf _ _ = ⊥
 
--- what the lines before the glyphs tell
+-- the numbers in the lines before the glyphs
 abbrev pub header_of : Plan → List Glyph → Header
 header_of plan glyphs = record {
   ppem = plan.ppem;

@@ -30,7 +30,7 @@ pub(crate) fn gather<S: Scan>(
     'codes: for code in codes {
         let glyph = map.glyph(*code);
         if glyph == 0 {
-            gathered.missing += 1;
+            gathered.report.missing += 1;
             continue;
         }
         let drawn = draw(alloc, scan, font, ppem, *code, glyph)?;

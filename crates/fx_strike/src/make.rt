@@ -23,21 +23,21 @@ use fx_sfnt::Font;
 use fx_winding::Scan;
 use std::alloc::Global;
 
-// A code point past U+FFFF.
+/// Whether a code point is past U+FFFF.
 fn is_past(chars: &[u32]) -> bool
     ensures { result ≡ list_any (nat_lt max_code) chars.now }
 {
     chars.iter().any(|code| MAX_CODE < *code)
 }
 
-// Too many code points, or one past the last.
+/// Whether there are too many code points, or one past U+FFFF.
 fn are_bad(chars: &[u32]) -> bool
     ensures { result ≡ (nat_lt max_characters (length chars.now) || list_any (nat_lt max_code) chars.now) }
 {
     MAX_CHARACTERS < chars.len() || is_past(chars)
 }
 
-// The size, if the request is not refused whatever the font.
+/// The size, if the request is not refused whatever the font.
 #[tactic(auto, unfolding(crate::specs::Strike::checked))]
 fn check(request: &Request<'_>) -> Result<Ppem, Refusal>
     ensures due { result ≡ checked request.now.ppem request.now.name.now request.now.chars.now request.now.hinting }
@@ -57,7 +57,7 @@ fn check(request: &Request<'_>) -> Result<Ppem, Refusal>
     Ok(ppem)
 }
 
-// The size, the font and its character map, for a request that passes its checks. No memory is taken.
+/// The size, the font and its character map, for a request that passes its checks. No memory is taken.
 #[tactic(auto, unfolding(crate::specs::Strike::opened_of))]
 fn open<'a>(
     file: &'a [u8],
@@ -73,7 +73,7 @@ fn open<'a>(
     Ok((ppem, font, map))
 }
 
-// FUnits in whole pixels.
+/// FUnits in whole pixels.
 fn whole_pixels(units: i32, ppem: Ppem, em: u16) -> i32
     requires units { unsigned_abs units ≤ 32768 }
     requires em { 16 ≤ em }
@@ -82,7 +82,7 @@ fn whole_pixels(units: i32, ppem: Ppem, em: u16) -> i32
     near(i128::from(units) * i128::from(ppem.pixels()), i128::from(em)) as i32
 }
 
-// What the lines before the glyphs tell.
+/// The numbers in the lines before the glyphs.
 fn heading(font: &Font<'_>, ppem: Ppem, gathered: &Gathered) -> Header
     ensures { result ≡ heading_of font.now ppem gathered.now }
 {
@@ -93,11 +93,11 @@ fn heading(font: &Font<'_>, ppem: Ppem, gathered: &Gathered) -> Header
         bounds: gathered.bounds,
         ascent: whole_pixels(i32::from(hhea.ascender), ppem, em),
         descent: whole_pixels(-i32::from(hhea.descender), ppem, em),
-        glyphs: gathered.glyphs,
+        glyphs: gathered.report.glyphs,
     }
 }
 
-// The lines before the glyphs, in memory.
+/// The lines before the glyphs, in memory.
 fn head_text(alloc: Global, name: &str, header: &Header) -> Result<Draft, Refusal>
     requires { IsName name.now }
     ensures text { IfOk result (λ d. d.bytes.items ≡ header_text name.now header.now) }
@@ -110,7 +110,7 @@ fn head_text(alloc: Global, name: &str, header: &Header) -> Result<Draft, Refusa
     }
 }
 
-// The lines of the glyphs with the one behind them, in memory.
+/// The lines of the glyphs and the one after them, in memory.
 fn body_text(draft: Draft) -> Result<Draft, Refusal>
     requires { draft.faults ≡ 0 }
     ensures text { IfOk result (λ d. d.bytes.items ≡ draft.bytes.items ++ end_text) }
@@ -123,25 +123,20 @@ fn body_text(draft: Draft) -> Result<Draft, Refusal>
     }
 }
 
-// Puts the lines round those of the glyphs.
+/// Adds the lines before and after those of the glyphs.
 fn finish(alloc: Global, name: &str, header: &Header, gathered: Gathered) -> Result<Made, Refusal>
-    requires calm { gathered.draft.faults ≡ 0 }
+    requires faults { gathered.draft.faults ≡ 0 }
     requires name { IsName name.now }
     ensures ok { IfOk result (Finishes name.now header.now gathered) }
     ensures err { IfErr result (λ e. e ≡ Refusal.OutOfMemory) }
 {
-    let report = Report {
-        glyphs: gathered.glyphs,
-        missing: gathered.missing,
-        strays: gathered.strays,
-        steps: gathered.steps,
-    };
+    let report = gathered.report;
     let body = body_text(gathered.draft)?;
     let head = head_text(alloc, name, header)?;
     Ok(Made { head, body, report })
 }
 
-// All that is made of an opened font before the first byte is written.
+/// All that is made of an opened font before the first byte is written.
 fn make_opened<S: Scan>(
     alloc: Global,
     scan: &S,
@@ -159,7 +154,7 @@ fn make_opened<S: Scan>(
     finish(alloc, request.name, &header, gathered)
 }
 
-// All that is made before the first byte is written.
+/// Makes everything that precedes the first byte written.
 fn make_texts<S: Scan>(
     alloc: Global,
     scan: &S,
@@ -173,7 +168,8 @@ fn make_texts<S: Scan>(
     make_opened(alloc, scan, &font, &map, ppem, request)
 }
 
-fn make_all<S: Scan, W: Sink>(
+/// The same, with its clauses as one.
+fn make_strike_inner<S: Scan, W: Sink>(
     alloc: Global,
     scan: &S,
     font: &[u8],
@@ -181,7 +177,8 @@ fn make_all<S: Scan, W: Sink>(
     out: &mut W,
 ) -> Result<Report, Refusal>
     requires { W.fault_count out.old < 2 ^ 63 }
-    ensures { Leaves (opening_of font.now request.now) (strike_of font.now request.now) (W.held out.old) (W.held out.new) (W.fault_count out.old) (W.fault_count out.new) result }
+    ensures { Leaves (opening_of font.now request.now) (strike_of font.now request.now) (W.held out.old) (W.held out.new)
+        (W.fault_count out.old) (W.fault_count out.new) result }
 {
     let made = make_texts(alloc, scan, font, request)?;
     put_all(
@@ -193,10 +190,11 @@ fn make_all<S: Scan, W: Sink>(
 
 /// Makes the strike of a font and writes its text, with a scan of the caller's choice.
 ///
-/// Nothing is written before the whole text is made. The first cause is answered, in this order: the size, the characters, the
-/// name, hinting; the font's tables, its character map; then the characters in rising order, each by its outline, then how far
-/// out it lies and how large it is. `OutOfMemory` may come in place of any step behind the character map, and of none before it. After `WriteFailed`
-/// the writer holds the first so many bytes of the text, and after any other refusal nothing was written.
+/// Nothing is written before the complete text is made. The first cause is returned, in this order: the size, the characters,
+/// the name, hinting; the font's tables, its character map; then the characters in rising order, each by its outline, then how
+/// far out it lies and how large it is. `OutOfMemory` may be returned in place of any step after the character map, and of none
+/// before it. After `WriteFailed(n)` the writer holds the first n bytes of the text; after any other refusal but `OutOfMemory`
+/// nothing was written.
 pub fn make_strike_with<S: Scan, W: Sink>(
     alloc: Global,
     scan: &S,
@@ -205,26 +203,28 @@ pub fn make_strike_with<S: Scan, W: Sink>(
     out: &mut W,
 ) -> Result<Report, Refusal>
     requires { W.fault_count out.old < 2 ^ 63 }
-    // The strike is there, its text was written, and the writer counted no fault.
-    ensures text { IfOk result (Text (strike_of font.now request.now) (W.held out.old) (W.held out.new) (W.fault_count out.old) (W.fault_count out.new)) }
+    // The strike exists, its text was written, and the writer counted no fault.
+    ensures text { IfOk result
+        (Text (strike_of font.now request.now) (W.held out.old) (W.held out.new) (W.fault_count out.old) (W.fault_count out.new)) }
     // The first cause was named, nothing was written, and the writer counted no fault.
     ensures cause { IfErr result (λ refusal. HasToName refusal →
-        Cause (strike_of font.now request.now) (W.held out.old) (W.held out.new) (W.fault_count out.old) (W.fault_count out.new) refusal) }
-    // Nothing was written, or the strike is there and a beginning of its text was written; and the writer counted no fault.
+        Cause (strike_of font.now request.now) (W.held out.old) (W.held out.new)
+            (W.fault_count out.old) (W.fault_count out.new) refusal) }
+    // Nothing was written, or the strike exists and a beginning of its text was written; and the writer counted no fault.
     ensures memory { IsErrOf result Refusal.OutOfMemory →
         Memory (strike_of font.now request.now) (W.held out.old) (W.held out.new) (W.fault_count out.old) (W.fault_count out.new) }
     // The request passed its checks, and the font and its character map opened.
     ensures late { IsErrOf result Refusal.OutOfMemory → Late (opening_of font.now request.now) }
-    // The strike is there, exactly the first n bytes of its text were written, and the writer counted one fault.
+    // The strike exists, exactly the first n bytes of its text were written, and the writer counted one fault.
     ensures writer { (n : ℕ) → IsErrOf result (Refusal.WriteFailed n) →
         Writer (strike_of font.now request.now) (W.held out.old) (W.held out.new) (W.fault_count out.old) (W.fault_count out.new) n }
 {
-    make_all(alloc, scan, font, request, out)
+    make_strike_inner(alloc, scan, font, request, out)
 }
 
 /// Makes the strike of a font and writes its text.
 ///
-/// As `make_strike_with`, with the scan by rows.
+/// This is `make_strike_with` with the scan by rows.
 pub fn make_strike<W: Sink>(
     alloc: Global,
     font: &[u8],
@@ -232,19 +232,21 @@ pub fn make_strike<W: Sink>(
     out: &mut W,
 ) -> Result<Report, Refusal>
     requires { W.fault_count out.old < 2 ^ 63 }
-    // The strike is there, its text was written, and the writer counted no fault.
-    ensures text { IfOk result (Text (strike_of font.now request.now) (W.held out.old) (W.held out.new) (W.fault_count out.old) (W.fault_count out.new)) }
+    // The strike exists, its text was written, and the writer counted no fault.
+    ensures text { IfOk result
+        (Text (strike_of font.now request.now) (W.held out.old) (W.held out.new) (W.fault_count out.old) (W.fault_count out.new)) }
     // The first cause was named, nothing was written, and the writer counted no fault.
     ensures cause { IfErr result (λ refusal. HasToName refusal →
-        Cause (strike_of font.now request.now) (W.held out.old) (W.held out.new) (W.fault_count out.old) (W.fault_count out.new) refusal) }
-    // Nothing was written, or the strike is there and a beginning of its text was written; and the writer counted no fault.
+        Cause (strike_of font.now request.now) (W.held out.old) (W.held out.new)
+            (W.fault_count out.old) (W.fault_count out.new) refusal) }
+    // Nothing was written, or the strike exists and a beginning of its text was written; and the writer counted no fault.
     ensures memory { IsErrOf result Refusal.OutOfMemory →
         Memory (strike_of font.now request.now) (W.held out.old) (W.held out.new) (W.fault_count out.old) (W.fault_count out.new) }
     // The request passed its checks, and the font and its character map opened.
     ensures late { IsErrOf result Refusal.OutOfMemory → Late (opening_of font.now request.now) }
-    // The strike is there, exactly the first n bytes of its text were written, and the writer counted one fault.
+    // The strike exists, exactly the first n bytes of its text were written, and the writer counted one fault.
     ensures writer { (n : ℕ) → IsErrOf result (Refusal.WriteFailed n) →
         Writer (strike_of font.now request.now) (W.held out.old) (W.held out.new) (W.fault_count out.old) (W.fault_count out.new) n }
 {
-    make_all(alloc, &Rows, font, request, out)
+    make_strike_inner(alloc, &Rows, font, request, out)
 }
