@@ -5,11 +5,12 @@ use Rattle.std.proofs.lemmas.Bool.{lt-ltb, le-ltb}
 use Rattle.std.proofs.lemmas.List.Splits.{slice_split_none, slice_split_first}
 use Rattle.std.proofs.lemmas.List.Sums.{fails_before_first}
 use Rattle.std.proofs.lemmas.Grind.{common_steps}
+use Rattle.fx_strike.specs.Limits.{max_characters}
 use Rattle.fx_cli.specs.Chars.{few, items_of, numbers_between, numbers_of_items, numbers_of_list, number_of, pair_of, range_of}
 use Rattle.fx_cli.specs.Parts.{parts_of}
 use Rattle.fx_cli.proofs.Numerals.{length-numbers_from}
 
--- what the items give behind the numbers so far
+-- what the items give after the numbers so far
 abbrev pub behind : List ℕ → Option (List ℕ) → Option (List ℕ)
 behind chars = option_map (λ more. chars ++ more)
 
@@ -39,13 +40,13 @@ behind_item chars range item items e =
     ap (behind chars) (numbers_of_items-cons item items ∙ ap (option_and_then (λ r. option_map (λ more. numbers_between r ++ more) (numbers_of_items items))) e)
     ∙ regrouped chars (numbers_between range) (numbers_of_items items)
 
-few_not : (xs : List ℕ) → 65536 < length xs → few xs ≡ None
+few_not : (xs : List ℕ) → max_characters < length xs → few xs ≡ None
 few_not xs h = grind (arith, common_steps)
 
-few_are : (xs : List ℕ) → length xs ≤ 65536 → few xs ≡ Some xs
+few_are : (xs : List ℕ) → length xs ≤ max_characters → few xs ≡ Some xs
 few_are xs h = grind (arith, common_steps)
 
-too_many : (chars : List ℕ) (o : Option (List ℕ)) → 65536 < length chars → option_and_then few (behind chars o) ≡ None
+too_many : (chars : List ℕ) (o : Option (List ℕ)) → max_characters < length chars → option_and_then few (behind chars o) ≡ None
 too_many chars None h = refl
 too_many chars (Some zs) h = few_not (chars ++ zs) (omega (arith, length-append chars zs))
 
@@ -56,7 +57,7 @@ none_by_item text chars item items so_far e =
     ∙ ap (option_and_then few) (so_far ∙ ap (behind chars) (numbers_of_items-cons item items ∙ ap (option_and_then (λ r. option_map (λ more. numbers_between r ++ more) (numbers_of_items items))) e))
 
 -- an item with too many numbers
-pub none_by_count : (text chars item : List ℕ) (range : ℕ × ℕ) (items : List (List ℕ)) → numbers_of_items (items_of text) ≡ behind chars (numbers_of_items (item ∷ items)) → range_of item ≡ Some range → 65536 < length chars + (range.1 - range.0 + 1) → numbers_of_list text ≡ None
+pub none_by_count : (text chars item : List ℕ) (range : ℕ × ℕ) (items : List (List ℕ)) → numbers_of_items (items_of text) ≡ behind chars (numbers_of_items (item ∷ items)) → range_of item ≡ Some range → max_characters < length chars + (range.1 - range.0 + 1) → numbers_of_list text ≡ None
 none_by_count text chars item range items so_far e h =
     let count : length (numbers_between range) ≡ range.1 - range.0 + 1 = length-numbers_from range.0 (range.1 - range.0 + 1) in
     numbers_of_list-is text
@@ -64,7 +65,7 @@ none_by_count text chars item range items so_far e h =
     ∙ too_many (chars ++ numbers_between range) (numbers_of_items items) (omega (arith, count, length-append chars (numbers_between range)))
 
 -- no item is left
-pub all_items : (text chars : List ℕ) → numbers_of_items (items_of text) ≡ behind chars (numbers_of_items []) → length chars ≤ 65536 → numbers_of_list text ≡ Some chars
+pub all_items : (text chars : List ℕ) → numbers_of_items (items_of text) ≡ behind chars (numbers_of_items []) → length chars ≤ max_characters → numbers_of_list text ≡ Some chars
 all_items text chars so_far h =
     numbers_of_list-is text
     ∙ ap (option_and_then few) (so_far ∙ ap (behind chars) numbers_of_items-nil ∙ ap (λ (l : List ℕ). Some l) (append-nil chars))

@@ -1,6 +1,6 @@
 pub mod Numerals
 pub mod Items
-pub mod Rooms
+pub mod Buffers
 pub mod Options
 pub mod Made
 pub mod FirstLines

@@ -36,11 +36,11 @@ number_after_nil n = refl
 number_after_at : (n i : ℕ) (ds : List ℕ) → i < length ds → number_after n (drop i ds) ≡ option_and_then (λ value. number_after (n * 16 + value) (drop (i + 1) ds)) (hex_digit_value (get_or ds i 0))
 number_after_at n i ds h = ap (number_after n) (drop-cons ds i 0 h) ∙ number_after_cons n (get_or ds i 0) (drop (suc i) ds) ∙ ap (λ (j : ℕ). option_and_then (λ value. number_after (n * 16 + value) (drop j ds)) (hex_digit_value (get_or ds i 0))) (sym (add-one i))
 
--- the number goes on behind a digit
+-- the number continues after a digit
 pub number_after_step : (n i v : ℕ) (ds : List ℕ) → i < length ds → hex_digit_value (get_or ds i 0) ≡ Some v → number_after n (drop i ds) ≡ number_after (n * 16 + v) (drop (i + 1) ds)
 number_after_step n i v ds h e = number_after_at n i ds h ∙ ap (option_and_then (λ value. number_after (n * 16 + value) (drop (i + 1) ds))) e
 
--- there is none where a byte is no digit
+-- there is none if a byte is not a digit
 pub number_after_none : (n i : ℕ) (ds : List ℕ) → i < length ds → hex_digit_value (get_or ds i 0) ≡ None → number_after n (drop i ds) ≡ None
 number_after_none n i ds h e = number_after_at n i ds h ∙ ap (option_and_then (λ value. number_after (n * 16 + value) (drop (i + 1) ds))) e
 

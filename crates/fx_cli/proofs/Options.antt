@@ -67,7 +67,7 @@ pub size_parsed : {E : Type 0} (text : List ℕ) (r : Result ℕ E) → ParsesUn
 size_parsed text (Ok n) h = ap (λ (k : ℕ). Some k) h.1 ∙ sym (size_is text ∙ ap (λ (b : Bool). sized b (digits_value 10 (without_leading_plus text))) (size_passes (without_leading_plus text) h.0.0 h.0.1))
 size_parsed text (Err e) h = sym (size_is text ∙ none_sized _ _ (λ passed. h (passed_size (without_leading_plus text) passed)))
 
--- ---- the values that words give a command's options
+-- ---- the values that arguments give a command's options
 
 pub among_some : (k : ErrorKind) (ks : Kinds) → IsAmong k ks → ks ≡ [] → ⊥
 among_some k ks h e = let P : Kinds → Type 0 = λ xs. IsAmong k xs in subst P e h
@@ -110,7 +110,7 @@ wish_of_none make rows e = ap (option_and_then make) e
 pub wish_of_some : (make : List Row → Option Asked) (rows : Option (List Row)) (values : List Row) (wish : Option Asked) → rows ≡ Some values → wish ≡ make values → option_and_then make rows ≡ wish
 wish_of_some make rows values wish e h = ap (option_and_then make) e ∙ sym h
 
--- a wish, or a usage fault where there is none
+-- a wish, or a usage fault if there is none
 pub ok_wish : (asked : Option Asked) (wish : Option Wish) → asked ≡ option_map seen wish → IfOk (ok_or {E = Fault} wish Usage) (λ w. asked ≡ Some (seen w))
 ok_wish asked None e = tt
 ok_wish asked (Some w) e = e

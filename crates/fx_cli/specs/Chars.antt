@@ -1,7 +1,9 @@
--- The characters that a list asks for: items joined by commas, each a number of one to six hexadecimal digits or two such joined by '-'.
+-- The characters that a list asks for: items joined by commas, each a number of one to six hexadecimal digits or two such
+-- joined by '-'.
 use Rattle.std.specs.Prelude.{ℕ, zero, suc, ◌+◌, ◌-◌, ◌*◌, ◌==◌, ◌&&◌, nat_lt, nat_le, List, [], ◌∷◌, ◌++◌, length, Option, Some, None, option_map, option_and_then, if◌then◌else◌}
 use Rattle.std.specs.List.{position_or_len, before_first, after_first}
 use Rattle.hex.specs.Hex.{hex_digit_value}
+use Rattle.fx_strike.specs.Limits.{max_characters}
 use Rattle.fx_cli.specs.Parts.{parts_of}
 
 -- the number that hexadecimal digits write when they follow those of n
@@ -13,7 +15,7 @@ number_after n (digit ∷ digits) = option_and_then (λ value. number_after (n *
 unfoldable pub number_of : List ℕ → Option ℕ
 number_of text = if nat_lt 0 (length text) && nat_le (length text) 6 then number_after 0 text else None
 
--- from low to high, where low is no higher
+-- from low to high, if low is not higher
 abbrev pub pair_of : Option ℕ → Option ℕ → Option (ℕ × ℕ)
 pair_of low high = option_and_then (λ l. option_and_then (λ h. if nat_le l h then Some (l, h) else None) high) low
 
@@ -24,7 +26,7 @@ range_of item =
     then pair_of (number_of (before_first (λ b. b == 45) item)) (number_of (after_first (λ b. b == 45) item))
     else pair_of (number_of item) (number_of item)
 
--- so many numbers, from low on
+-- `count` numbers, from low on
 unfoldable pub numbers_from : ℕ → ℕ → List ℕ
 numbers_from low zero = []
 numbers_from low (suc count) = low ∷ numbers_from (low + 1) count
@@ -38,15 +40,15 @@ unfoldable pub numbers_of_items : List (List ℕ) → Option (List ℕ)
 numbers_of_items [] = Some []
 numbers_of_items (item ∷ items) = option_and_then (λ range. option_map (λ more. numbers_between range ++ more) (numbers_of_items items)) (range_of item)
 
--- no more than 65,536 of them
+-- at most max_characters of them
 abbrev pub few : List ℕ → Option (List ℕ)
-few numbers = if nat_le (length numbers) 65536 then Some numbers else None
+few numbers = if nat_le (length numbers) max_characters then Some numbers else None
 
 -- the items of a list; an empty text has none
 abbrev pub items_of : List ℕ → List (List ℕ)
 items_of [] = []
 items_of (b ∷ text) = parts_of 44 (b ∷ text)
 
--- the numbers of a list, in their order; none where its form is wrong
+-- the numbers of a list, in their order; none if its form is wrong
 unfoldable pub numbers_of_list : List ℕ → Option (List ℕ)
 numbers_of_list text = option_and_then few (numbers_of_items (items_of text))

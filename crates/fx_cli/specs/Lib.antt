@@ -4,3 +4,4 @@ pub mod Words
 pub mod Input
 pub mod Runs
 pub mod Steps
+pub mod Limits

@@ -1,9 +1,10 @@
--- The steps of a run behind its words. The line of words had so many bytes with its end, and `front` stood behind it when the line was
--- read, where the input may have ended.
+-- The steps of a run after its arguments. The line of arguments had `line` bytes with its end, and the bytes `front` were read
+-- after it; `ended` if the input ended there.
 use Rattle.std.specs.Prelude.{◌≡◌, ◌⊎◌, ◌+◌, ◌<◌, ◌≤◌, ◌++◌, ℕ, Bool, true, List, [], length, Some, None, Result, Ok, Err}
 use Rattle.std.specs.Io.KnownBytes.{Consumes, IsAtEnd, Keeps}
 use Rattle.fx_strike.specs.declared.refusal.Refusal.{Refusal}
 use Rattle.fx_strike.specs.declared.refusal.Refusal.TheVariants.{BadChars, BadHex, InputTooLarge, OutOfMemory, ReadFailed}
+use Rattle.fx_cli.specs.Limits.{max_input}
 use Rattle.fx_cli.specs.declared.done.Done.{Done}
 use Rattle.fx_cli.specs.declared.fault.Fault.{Fault}
 use Rattle.fx_cli.specs.declared.fault.Fault.TheVariants.{Usage, Early, Late}
@@ -12,13 +13,14 @@ use Rattle.fx_cli.specs.Runs.{Change, IsUnread, TaskLeaves, font_bytes, numbers_
 
 -- the writer is as it was
 abbrev pub IsSpared : Change → Type 0
-IsSpared change = Keeps change.held_before change.held × (change.writer_faults ≡ change.writer_calm)
+IsSpared change = Keeps change.held_before change.held × (change.writer_faults ≡ change.writer_faults_before)
 
 -- the font's text was decoded, and the writer has what comes of it
 pub record DoesText (asked : Asked) (numbers text : List ℕ) (change : Change) (answer : Result Done Refusal) : Type 0 where
   pub font : List ℕ
   pub decoded : font_bytes asked.hex text ≡ Some font
-  pub leaves : TaskLeaves asked.task numbers font change.held_before change.held change.writer_calm change.writer_faults answer
+  pub leaves : TaskLeaves asked.task numbers font change.held_before change.held change.writer_faults_before
+      change.writer_faults answer
 
 -- it was not
 pub record SparesText (asked : Asked) (text : List ℕ) (change : Change) (refusal : Refusal) : Type 0 where
@@ -32,33 +34,35 @@ EndsText asked numbers text change (Err (Early refusal)) = SparesText asked text
 EndsText asked numbers text change (Err Usage) = ⊥
 
 -- the list was read, the input was read on to its end, and what was asked for was done with its text
-pub record DoesBehind (asked : Asked) (line : ℕ) (front : List ℕ) (ended : Bool) (change : Change) (answer : Result Done Refusal) : Type 0 where
+pub record DoesAfter (asked : Asked) (line : ℕ) (front : List ℕ) (ended : Bool) (change : Change)
+    (answer : Result Done Refusal) : Type 0 where
   pub more : List ℕ
   pub read : Consumes change.left_before change.left more
   pub whole : IsAtEnd change.left
   pub rest : ended ≡ true → more ≡ []
-  pub fits : line + length (front ++ more) ≤ 67108864
+  pub fits : line + length (front ++ more) ≤ max_input
   pub numbers : List ℕ
   pub listed : numbers_of asked.task ≡ Some numbers
   pub made : DoesText asked numbers (front ++ more) change answer
 
-abbrev pub IsReasonBehind : Asked → ℕ → List ℕ → List ℕ → Change → Refusal → Type 0
-IsReasonBehind asked line front more change BadChars = (numbers_of asked.task ≡ None) × (more ≡ []) × IsUnread change
-IsReasonBehind asked line front more change ReadFailed = change.reader_faults ≡ change.reader_calm + 1
-IsReasonBehind asked line front more change BadHex = IsAtEnd change.left × (font_bytes asked.hex (front ++ more) ≡ None)
-IsReasonBehind asked line front more change InputTooLarge = 67108864 < line + length (front ++ more)
-IsReasonBehind asked line front more change OutOfMemory = Unit {0}
-IsReasonBehind asked line front more change _ = ⊥
+abbrev pub IsReasonAfter : Asked → ℕ → List ℕ → List ℕ → Change → Refusal → Type 0
+IsReasonAfter asked line front more change BadChars = (numbers_of asked.task ≡ None) × (more ≡ []) × IsUnread change
+IsReasonAfter asked line front more change ReadFailed = change.reader_faults ≡ change.reader_faults_before + 1
+IsReasonAfter asked line front more change BadHex = IsAtEnd change.left × (font_bytes asked.hex (front ++ more) ≡ None)
+IsReasonAfter asked line front more change InputTooLarge = max_input < line + length (front ++ more)
+IsReasonAfter asked line front more change OutOfMemory = Unit {0}
+IsReasonAfter asked line front more change _ = ⊥
 
-pub record StopsBehind (asked : Asked) (line : ℕ) (front : List ℕ) (ended : Bool) (change : Change) (refusal : Refusal) : Type 0 where
+pub record StopsAfter (asked : Asked) (line : ℕ) (front : List ℕ) (ended : Bool) (change : Change) (refusal : Refusal)
+    : Type 0 where
   pub more : List ℕ
   pub read : Consumes change.left_before change.left more
   pub rest : ended ≡ true → (more ≡ []) × IsAtEnd change.left
   pub spared : IsSpared change
-  pub reason : IsReasonBehind asked line front more change refusal
+  pub reason : IsReasonAfter asked line front more change refusal
 
-abbrev pub EndsBehind : Asked → ℕ → List ℕ → Bool → Change → Result Done Fault → Type 0
-EndsBehind asked line front ended change (Ok done) = DoesBehind asked line front ended change (Ok done)
-EndsBehind asked line front ended change (Err (Late refusal)) = DoesBehind asked line front ended change (Err refusal)
-EndsBehind asked line front ended change (Err (Early refusal)) = StopsBehind asked line front ended change refusal
-EndsBehind asked line front ended change (Err Usage) = ⊥
+abbrev pub EndsAfter : Asked → ℕ → List ℕ → Bool → Change → Result Done Fault → Type 0
+EndsAfter asked line front ended change (Ok done) = DoesAfter asked line front ended change (Ok done)
+EndsAfter asked line front ended change (Err (Late refusal)) = DoesAfter asked line front ended change (Err refusal)
+EndsAfter asked line front ended change (Err (Early refusal)) = StopsAfter asked line front ended change refusal
+EndsAfter asked line front ended change (Err Usage) = ⊥

@@ -1,4 +1,4 @@
--- What the words of a command line ask for.
+-- What the arguments of a command line ask for.
 use Rattle.std.specs.Prelude.{ℕ, Bool, true, false, List, [], ◌∷◌, length, codes, Option, Some, None, unwrap_or, option_map, option_and_then, if◌then◌else◌, nat_lt, drop, ◌&&◌, ◌||◌}
 use Rattle.std.specs.List.{list_all, list_any}
 use Rattle.std.specs.Str.{bytes_eq}
@@ -60,7 +60,7 @@ seen_task (Listing what) = listing what
 abbrev pub seen : Wish → Asked
 seen wish = record { task = seen_task wish.task; hex = wish.hex }
 
--- a whole number from 0 to 65535 in decimal digits
+-- a whole number from 0 to 65,535 in decimal digits
 unfoldable pub size_of : Text → Option ℕ
 size_of text =
     let ds = without_leading_plus text in
@@ -75,7 +75,7 @@ is_true (Some text) = bytes_eq text (codes "true")
 abbrev pub is_given : Text → List Row → Bool
 is_given id rows = is_true (first_of id rows)
 
--- what the values of `make`'s options ask for: the size and the list have to be there
+-- what the values of `make`'s options ask for: the size and the list are required
 abbrev pub make_by : Option Text → Option Text → Option Text → Bool → Bool → Option Asked
 make_by None list name unhinted hex = None
 make_by (Some size) None name unhinted hex = None
@@ -93,7 +93,7 @@ abbrev pub which_of : Text → Option Which
 which_of text = if bytes_eq text (codes "fpgm") then Some Fpgm else (if bytes_eq text (codes "prep") then Some Prep
     else option_map Glyph (size_of text))
 
--- what the values of `dump`'s options ask for: the program has to be named
+-- what the values of `dump`'s options ask for: the program's name is required
 abbrev pub dump_by : Option Text → Bool → Option Asked
 dump_by None hex = None
 dump_by (Some name) hex = option_map (λ what. record { task = listing what; hex = hex }) (which_of name)
@@ -101,7 +101,7 @@ dump_by (Some name) hex = option_map (λ what. record { task = listing what; hex
 abbrev pub dump_of_rows : List Row → Option Asked
 dump_of_rows rows = dump_by (first_of (codes "of") rows) (is_given (codes "hex") rows)
 
--- a word of hyphens alone
+-- an argument that has only hyphens
 abbrev pub is_bare : Text → Bool
 is_bare word = bytes_eq word (codes "-") || bytes_eq word (codes "--")
 
@@ -110,11 +110,11 @@ abbrev pub is_some_kind : Kinds → Bool
 is_some_kind [] = false
 is_some_kind (kind ∷ kinds) = true
 
--- the values that words give a command's options, by clap
+-- the values that arguments give a command's options, by clap
 unfoldable pub rows_by : App → List Text → Option (List Row)
 rows_by app words = if list_any is_bare words || is_some_kind (fault_of app words) then None else Some (matches_of app words)
 
--- the words from a command's name on
+-- the arguments from a command's name on
 abbrev pub wish_of_make : List Text → Option Asked
 wish_of_make words = option_and_then make_of_rows (rows_by make_app words)
 

@@ -1,20 +1,20 @@
-// Lists of characters.
+//! Lists of characters.
 ghost use Rattle.std.specs.Prelude.{◌≡◌, ◌⊎◌, ◌+◌, ◌-◌, ◌<◌, ◌≤◌, ◌++◌, length, option_and_then, IfOk, IfErr, IfSome, OnOk, vec_len};
+ghost use Rattle.fx_strike.specs.Limits.{max_characters};
 ghost use Rattle.fx_cli.specs.Chars.{number_of, numbers_between, numbers_of_list, pair_of, range_of};
 ghost use Rattle.hex.specs.Hex.{hex_digit_value};
 
-use super::parts::first_part;
-use fx_strike::Refusal;
+use crate::parts::first_part;
+use fx_strike::{MAX_CHARACTERS, Refusal};
 use std::alloc::Global;
 
-const MOST_CHARS: usize = 65_536;
-
 /// The numbers of a list of characters, in their order: items joined by commas, each a number of one to six hexadecimal digits
-/// or two such joined by `-`, low first. The empty text is the empty list. `BadChars` where its form is wrong or it has more
-/// than 65,536 numbers; else only want of memory.
+/// or two such joined by `-`, low first. The empty text is the empty list. `BadChars` if its form is wrong or it has more
+/// than `MAX_CHARACTERS` numbers; any other refusal is `OutOfMemory`.
 pub fn parse_chars(alloc: Global, list: &str) -> Result<Vec<u32>, Refusal>
     ensures numbers { IfOk result (λ chars. numbers_of_list list.now ≡ Some chars.items) }
-    ensures refused { IfErr result (λ refusal. (refusal ≡ Refusal.OutOfMemory) ⊎ ((refusal ≡ Refusal.BadChars) × (numbers_of_list list.now ≡ None))) }
+    ensures refused { IfErr result (λ refusal.
+        (refusal ≡ Refusal.OutOfMemory) ⊎ ((refusal ≡ Refusal.BadChars) × (numbers_of_list list.now ≡ None))) }
 {
     let mut chars = Vec::new(alloc);
     let mut left = if list.is_empty() { None } else { Some(list) };
@@ -29,7 +29,7 @@ pub fn parse_chars(alloc: Global, list: &str) -> Result<Vec<u32>, Refusal>
     Ok(chars)
 }
 
-// The first and the last number of an item.
+/// The first and the last number of an item.
 fn range(item: &str) -> Option<(u32, u32)>
     ensures value { result ≡ range_of item.now }
     ensures order { IfSome result (λ range. range.0 ≤ range.1) }
@@ -43,7 +43,7 @@ fn range(item: &str) -> Option<(u32, u32)>
     }
 }
 
-// Two numbers, low first.
+/// Two numbers, low first.
 fn pair(low: Option<u32>, high: Option<u32>) -> Option<(u32, u32)>
     ensures value { result ≡ pair_of low high }
     ensures order { IfSome result (λ range. range.0 ≤ range.1) }
@@ -54,7 +54,7 @@ fn pair(low: Option<u32>, high: Option<u32>) -> Option<(u32, u32)>
     }
 }
 
-// A number of one to six hexadecimal digits.
+/// A number of one to six hexadecimal digits.
 fn number(text: &str) -> Option<u32>
     ensures { result ≡ number_of text.now }
 {
@@ -69,7 +69,7 @@ fn number(text: &str) -> Option<u32>
     Some(number)
 }
 
-// The value of a hexadecimal digit in either case.
+/// The value of a hexadecimal digit in either case.
 fn digit_value(digit: u8) -> Option<u8>
     ensures value { result ≡ hex_digit_value digit }
     ensures bound { IfSome result (λ value. value < 16) }
@@ -82,14 +82,15 @@ fn digit_value(digit: u8) -> Option<u8>
     }
 }
 
-// Appends all numbers from one to the other.
+/// Appends all numbers from one to the other.
 fn push_range(chars: &mut Vec<u32>, low: u32, high: u32) -> Result<(), Refusal>
     requires order { low ≤ high }
-    requires room { vec_len chars.old ≤ 65536 }
-    ensures ok { OnOk result ((chars.new.items ≡ chars.old.items ++ numbers_between (low, high)) × (vec_len chars.new ≤ 65536)) }
-    ensures err { IfErr result (λ refusal. (refusal ≡ Refusal.OutOfMemory) ⊎ ((refusal ≡ Refusal.BadChars) × (65536 < vec_len chars.old + (high - low + 1)))) }
+    requires few { vec_len chars.old ≤ max_characters }
+    ensures ok { OnOk result ((chars.new.items ≡ chars.old.items ++ numbers_between (low, high)) × (vec_len chars.new ≤ max_characters)) }
+    ensures err { IfErr result (λ refusal. (refusal ≡ Refusal.OutOfMemory)
+        ⊎ ((refusal ≡ Refusal.BadChars) × (max_characters < vec_len chars.old + (high - low + 1)))) }
 {
-    if (high - low) as usize >= MOST_CHARS - chars.len() {
+    if (high - low) as usize >= MAX_CHARACTERS - chars.len() {
         return Err(Refusal::BadChars);
     }
     'numbers: for k in 0..high - low + 1 {

@@ -1,4 +1,4 @@
-// The commands and their options.
+//! The commands and their options.
 ghost use Rattle.std.specs.Prelude.{◌≡◌, codes, IfOk, false};
 ghost use Rattle.clap.specs.Words.{app_of, rule_of};
 ghost use Rattle.fx_cli.specs.Words.{dump_app, flag_rule, make_app, option_rule};
@@ -6,7 +6,7 @@ ghost use Rattle.fx_cli.specs.Words.{dump_app, flag_rule, make_app, option_rule}
 use clap::{Arg, ArgAction, Command};
 use std::alloc::{AllocError, Global};
 
-// `make` with its options.
+/// `make` with its options.
 pub fn make_command<'a>(alloc: Global) -> Result<Command<'a>, AllocError>
     ensures { IfOk result (λ command. app_of command ≡ make_app) }
 {
@@ -18,7 +18,7 @@ pub fn make_command<'a>(alloc: Global) -> Result<Command<'a>, AllocError>
         .arg(flag(alloc, "hex"))
 }
 
-// `dump` with its options.
+/// `dump` with its options.
 pub fn dump_command<'a>(alloc: Global) -> Result<Command<'a>, AllocError>
     ensures { IfOk result (λ command. app_of command ≡ dump_app) }
 {
@@ -27,6 +27,7 @@ pub fn dump_command<'a>(alloc: Global) -> Result<Command<'a>, AllocError>
         .arg(flag(alloc, "hex"))
 }
 
+/// An option that takes a value.
 fn option<'a>(alloc: Global, id: &'a str) -> Arg<'a>
     ensures rule { rule_of result ≡ option_rule id.entry.now }
     ensures local { result.global ≡ false }
@@ -34,6 +35,7 @@ fn option<'a>(alloc: Global, id: &'a str) -> Arg<'a>
     Arg::new(alloc, id).long(id).action(ArgAction::Set)
 }
 
+/// A flag.
 fn flag<'a>(alloc: Global, id: &'a str) -> Arg<'a>
     ensures rule { rule_of result ≡ flag_rule id.entry.now }
     ensures local { result.global ≡ false }

@@ -1,4 +1,4 @@
-// What a run did.
+//! What a run did.
 
 use fx_strike::Report;
 

@@ -1,4 +1,4 @@
-// Why a run did not end well.
+//! Faults of a run.
 ghost use Rattle.std.specs.Prelude.{◌≡◌};
 ghost use Rattle.fx_cli.specs.declared.fault.Fault.TheVariants.{Early};
 ghost use Rattle.fx_strike.specs.declared.refusal.Refusal.TheVariants.{OutOfMemory};
@@ -6,10 +6,10 @@ ghost use Rattle.fx_strike.specs.declared.refusal.Refusal.TheVariants.{OutOfMemo
 use fx_strike::Refusal;
 use std::alloc::{AllocError, AllocFailed};
 
-/// Why a run did not end well.
+/// Why a run failed.
 #[derive(Clone, Copy, Debug, PartialEq, Eq)]
 pub enum Fault {
-    /// The words ask for nothing that there is.
+    /// The arguments are invalid.
     Usage,
     /// A refusal before a strike or a listing was begun.
     Early(Refusal),

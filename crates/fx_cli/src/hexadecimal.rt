@@ -1,4 +1,4 @@
-// Bytes as hexadecimal text.
+//! Bytes as hexadecimal text.
 ghost use Rattle.std.specs.Prelude.{◌≡◌, ◌⊎◌, ◌==◌, ◌||◌, not, filter, IfOk, IfErr};
 ghost use Rattle.fx_cli.specs.Input.{bytes_of_hex, is_blank};
 
@@ -6,10 +6,11 @@ use fx_strike::Refusal;
 use hex::FromHexError;
 use std::alloc::{AllocError, Global};
 
-// The bytes of a text of hexadecimal digits and blanks.
+/// The bytes of a text of hexadecimal digits and blanks.
 pub fn decode_hex(alloc: Global, text: &[u8]) -> Result<Vec<u8>, Refusal>
     ensures bytes { IfOk result (λ bytes. bytes_of_hex text.now ≡ Some bytes.items) }
-    ensures refused { IfErr result (λ refusal. (refusal ≡ Refusal.OutOfMemory) ⊎ ((refusal ≡ Refusal.BadHex) × (bytes_of_hex text.now ≡ None))) }
+    ensures refused { IfErr result (λ refusal. (refusal ≡ Refusal.OutOfMemory)
+        ⊎ ((refusal ≡ Refusal.BadHex) × (bytes_of_hex text.now ≡ None))) }
 {
     match hex::decode(alloc, digits(alloc, text)?) {
         Ok(bytes) => Ok(bytes),
@@ -17,7 +18,7 @@ pub fn decode_hex(alloc: Global, text: &[u8]) -> Result<Vec<u8>, Refusal>
     }
 }
 
-// The refusal of a text that was not decoded.
+/// The refusal of a text that was not decoded.
 fn refusal_of(fault: FromHexError) -> Refusal
     ensures memory { fault ≡ FromHexError.OutOfMemory → result ≡ Refusal.OutOfMemory }
     ensures cases { (result ≡ Refusal.OutOfMemory) ⊎ (result ≡ Refusal.BadHex) }
@@ -28,7 +29,7 @@ fn refusal_of(fault: FromHexError) -> Refusal
     }
 }
 
-// The text without its blanks.
+/// The text without its blanks.
 fn digits(alloc: Global, text: &[u8]) -> Result<Vec<u8>, AllocError>
     ensures { IfOk result (λ digits. digits.items ≡ filter (λ b. not (is_blank b)) text.now) }
 {
@@ -38,7 +39,7 @@ fn digits(alloc: Global, text: &[u8]) -> Result<Vec<u8>, AllocError>
         .collect(alloc)
 }
 
-// A space, a tab, CR or LF.
+/// Whether a byte is a space, a tab, CR or LF.
 fn is_blank(b: u8) -> bool
     ensures { result ≡ is_blank b }
 {

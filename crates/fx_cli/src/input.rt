@@ -1,69 +1,74 @@
-// Reading the input.
+//! Reading the input.
 ghost use Rattle.std.specs.Prelude.{◌≡◌, ◌⊎◌, ◌==◌, ℕ, List, [], true, ◌+◌, ◌<◌, ◌≤◌, ◌^◌, ◌++◌, length, take, position, IfOk, IfErr, IfSome, OnOk};
 ghost use Rattle.std.specs.List.{position_or_len};
 ghost use Rattle.std.specs.Io.KnownBytes.{Consumes, IsAtEnd};
+ghost use Rattle.fx_cli.specs.Limits.{max_input, max_line};
 ghost use Rattle.fx_cli.specs.Input.{IsLineCause, IsReadCause};
 
-use super::fault::Fault;
+use crate::fault::Fault;
+use crate::limits::{MAX_INPUT, MAX_LINE};
 use fx_fixed::Source;
 use fx_strike::Refusal;
 use std::alloc::Global;
 
-pub const MOST_BYTES: usize = 67_108_864;
+/// The size of a buffer for a line of arguments with its end.
+pub const LINE_BUFFER: usize = MAX_LINE + 1;
 
-pub const LINE_ROOM: usize = 4_097;
-
-// Reads to the end of the input, of which a line and what stands in front were read before, perhaps to its end. Answers what stands
-// behind the line.
+/// Reads to the end of the input, of which a line and the bytes `front` were read before; `ended` if that was its end.
+/// Returns what follows the line.
 pub fn read_on<R: Source>(
     alloc: Global,
     reader: &mut R,
-    room: &mut [u8],
+    buffer: &mut [u8],
     line: usize,
     front: &[u8],
     ended: bool,
 ) -> Result<Vec<u8>, Refusal>
     requires faults { R.fault_count reader.old < 2 ^ 63 }
-    requires room { 0 < length room.old }
-    requires front { line + length front.now ≤ 67108864 }
+    requires buffer { 0 < length buffer.old }
+    requires front { line + length front.now ≤ max_input }
     requires ended { ended ≡ true → IsAtEnd (R.left reader.old) }
-    ensures whole { IfOk result (λ input. (got : List ℕ) × Consumes (R.left reader.old) (R.left reader.new) got × IsAtEnd (R.left reader.new) × (input.items ≡ front.now ++ got) × (ended ≡ true → got ≡ [])) }
-    ensures fits { IfOk result (λ input. line + length input.items ≤ 67108864) }
-    ensures cut { IfErr result (λ refusal. (got : List ℕ) × Consumes (R.left reader.old) (R.left reader.new) got × IsReadCause refusal (line + length (front.now ++ got)) (R.fault_count reader.old) (R.fault_count reader.new) × (ended ≡ true → (got ≡ []) × IsAtEnd (R.left reader.new))) }
+    ensures whole { IfOk result (λ input. (got : List ℕ) × Consumes (R.left reader.old) (R.left reader.new) got
+        × IsAtEnd (R.left reader.new) × (input.items ≡ front.now ++ got) × (ended ≡ true → got ≡ [])) }
+    ensures fits { IfOk result (λ input. line + length input.items ≤ max_input) }
+    ensures cut { IfErr result (λ refusal. (got : List ℕ) × Consumes (R.left reader.old) (R.left reader.new) got
+        × IsReadCause refusal (line + length (front.now ++ got)) (R.fault_count reader.old) (R.fault_count reader.new)
+        × (ended ≡ true → (got ≡ []) × IsAtEnd (R.left reader.new))) }
 {
     let mut input = Vec::from_slice(alloc, front)?;
     if ended {
         return Ok(input);
     }
-    'reading: while input.len() <= MOST_BYTES - line {
-        match reader.take(room) {
+    'reading: while input.len() <= MAX_INPUT - line {
+        match reader.take(buffer) {
             None => return Err(Refusal::ReadFailed),
             Some(0) => return Ok(input),
-            Some(n) => input.extend_from_slice(&room[..n])?,
+            Some(n) => input.extend_from_slice(&buffer[..n])?,
         }
     }
     Err(Refusal::InputTooLarge)
 }
 
-// Reads until the room holds the whole first line. Answers how many bytes it holds then, and how many of them the line has.
-pub fn read_line<R: Source>(reader: &mut R, room: &mut [u8]) -> Result<(usize, usize), Fault>
+/// Reads until the buffer holds the complete first line. Returns how many bytes it holds then, and how many of them the line has.
+pub fn read_line<R: Source>(reader: &mut R, buffer: &mut [u8]) -> Result<(usize, usize), Fault>
     requires faults { R.fault_count reader.old < 2 ^ 63 }
-    requires room { length room.old ≡ 4097 }
-    ensures sizes { IfOk result (λ sizes. (sizes.1 ≤ sizes.0) × (sizes.0 ≤ 4097) × (sizes.1 ≤ 4096)) }
-    ensures read { IfOk result (λ sizes. Consumes (R.left reader.old) (R.left reader.new) (take sizes.0 room.new)) }
-    ensures line { IfOk result (λ sizes. sizes.1 ≡ position_or_len (λ b. b == 10) (take sizes.0 room.new)) }
-    ensures calm { OnOk result (R.fault_count reader.new ≡ R.fault_count reader.old) }
+    requires buffer { length buffer.old ≡ max_line + 1 }
+    ensures sizes { IfOk result (λ sizes. (sizes.1 ≤ sizes.0) × (sizes.0 ≤ max_line + 1) × (sizes.1 ≤ max_line)) }
+    ensures read { IfOk result (λ sizes. Consumes (R.left reader.old) (R.left reader.new) (take sizes.0 buffer.new)) }
+    ensures line { IfOk result (λ sizes. sizes.1 ≡ position_or_len (λ b. b == 10) (take sizes.0 buffer.new)) }
+    ensures quiet { OnOk result (R.fault_count reader.new ≡ R.fault_count reader.old) }
     ensures whole { IfOk result (λ sizes. (sizes.1 < sizes.0) ⊎ IsAtEnd (R.left reader.new)) }
-    ensures cut { IfErr result (λ fault. (got : List ℕ) × Consumes (R.left reader.old) (R.left reader.new) got × IsLineCause fault got (R.fault_count reader.old) (R.fault_count reader.new)) }
+    ensures cut { IfErr result (λ fault. (got : List ℕ) × Consumes (R.left reader.old) (R.left reader.new) got
+        × IsLineCause fault got (R.fault_count reader.old) (R.fault_count reader.new)) }
 {
     let mut filled = 0;
-    'reading: while filled < room.len() {
-        match reader.take(&mut room[filled..]) {
+    'reading: while filled < buffer.len() {
+        match reader.take(&mut buffer[filled..]) {
             None => return Err(Fault::Early(Refusal::ReadFailed)),
             Some(0) => return Ok((filled, filled)),
             Some(n) => filled += n,
         }
-        let end = line_len(&room[..filled]);
+        let end = line_len(&buffer[..filled]);
         if end < filled {
             return Ok((filled, end));
         }
@@ -71,7 +76,7 @@ pub fn read_line<R: Source>(reader: &mut R, room: &mut [u8]) -> Result<(usize, u
     Err(Fault::Usage)
 }
 
-// How many bytes stand before the first LF.
+/// The number of bytes before the first LF.
 fn line_len(bytes: &[u8]) -> usize
     ensures value { result ≡ position_or_len (λ b. b == 10) bytes.now }
     ensures bound { result ≤ length bytes.now }
@@ -79,7 +84,7 @@ fn line_len(bytes: &[u8]) -> usize
     line_end(bytes).unwrap_or(bytes.len())
 }
 
-// The place of the first LF.
+/// The index of the first LF.
 fn line_end(bytes: &[u8]) -> Option<usize>
     ensures value { result ≡ position (λ b. b == 10) bytes.now }
     ensures bound { IfSome result (λ at. at < length bytes.now) }

@@ -1,4 +1,4 @@
-//! The command line of `mkstrike`: words and a font in; a strike or the listing of a program, a line for people and a status
+//! The command line of `mkstrike`: arguments and a font in; a strike or the listing of a program, a line for people and a status
 //! out.
 #![tactic(auto)]
 
@@ -8,6 +8,7 @@ mod done;
 mod fault;
 mod hexadecimal;
 mod input;
+mod limits;
 mod lines;
 mod parts;
 mod program;

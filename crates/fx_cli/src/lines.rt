@@ -1,14 +1,14 @@
-// Lines for people. They are made in fixed room, so that want of memory can be told.
+//! Lines for people. They are made in a fixed buffer, so that the line of `OutOfMemory` can be written.
 ghost use Rattle.std.specs.Prelude.{◌≡◌, ◌<◌, ◌^◌};
 ghost use Rattle.fx_cli.specs.Runs.{status_of};
 
-use super::done::Done;
-use super::fault::Fault;
+use crate::done::Done;
+use crate::fault::Fault;
 use fx_fixed::{Sink, put_all};
 use fx_strike::{Refusal, Report};
 use std::fmt::{Display, InlineText};
 
-// Writes the line of words that ask for nothing that there is, and answers the status.
+/// Writes the line of invalid arguments, and returns the status.
 pub fn usage<E: Sink>(err: &mut E) -> u8
     requires { E.fault_count err.old < 2 ^ 63 }
     ensures { result ≡ 2 }
@@ -17,7 +17,7 @@ pub fn usage<E: Sink>(err: &mut E) -> u8
     2
 }
 
-// Writes the line of want of memory, and answers the status.
+/// Writes the line of `OutOfMemory`, and returns the status.
 pub fn out_of_memory<E: Sink>(err: &mut E) -> u8
     requires { E.fault_count err.old < 2 ^ 63 }
     ensures { result ≡ 1 }
@@ -25,7 +25,7 @@ pub fn out_of_memory<E: Sink>(err: &mut E) -> u8
     refused(err, Refusal::OutOfMemory)
 }
 
-// Writes the line of a refusal, and answers the status.
+/// Writes the line of a refusal, and returns the status.
 fn refused<E: Sink>(err: &mut E, refusal: Refusal) -> u8
     requires { E.fault_count err.old < 2 ^ 63 }
     ensures { result ≡ 1 }
@@ -34,7 +34,7 @@ fn refused<E: Sink>(err: &mut E, refusal: Refusal) -> u8
     1
 }
 
-// Writes the line of how a run ended, and answers the status.
+/// Writes the line of how a run ended, and returns the status.
 pub fn status<E: Sink>(err: &mut E, outcome: &Result<Done, Fault>) -> u8
     requires { E.fault_count err.old < 2 ^ 63 }
     ensures { result ≡ status_of outcome.now }
@@ -50,6 +50,7 @@ pub fn status<E: Sink>(err: &mut E, outcome: &Result<Done, Fault>) -> u8
     }
 }
 
+/// Writes the line of what was counted over a strike.
 fn put_report<E: Sink>(err: &mut E, report: &Report)
     requires { E.fault_count err.old < 2 ^ 63 }
 {
@@ -62,7 +63,7 @@ fn put_report<E: Sink>(err: &mut E, report: &Report)
     );
 }
 
-// Writes a line. A sink at fault is let be.
+/// Writes a line. A fault of the sink is ignored.
 fn put_line<E: Sink, D: Display + Drop>(err: &mut E, line: D)
     requires { E.fault_count err.old < 2 ^ 63 }
 {

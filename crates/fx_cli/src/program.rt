@@ -1,32 +1,34 @@
-// A run of the program.
+//! A run of the program.
 ghost use Rattle.std.specs.Prelude.{◌≡◌, ◌⊎◌, ◌==◌, ◌∷◌, ◌+◌, ◌<◌, ◌≤◌, ◌^◌, length, map, not, true, IfOk, IfErr, None, Some};
 ghost use Rattle.std.specs.List.{position_or_len};
 ghost use Rattle.std.specs.Io.KnownBytes.{IsAtEnd};
 ghost use Rattle.fx_fixed.specs.Chain.{map_fault};
 ghost use Rattle.fx_strike.specs.Strike.{opened_of, plan_of};
 ghost use Rattle.fx_strike.specs.Headline.{Leaves};
-ghost use Rattle.fx_strike.specs.Listings.{Lists, program_of};
+ghost use Rattle.fx_cli.specs.Limits.{max_input};
 ghost use Rattle.fx_cli.specs.Words.{seen, seen_task};
 ghost use Rattle.fx_cli.specs.Input.{line_of, rest_of, words_of_line};
 ghost use Rattle.fx_cli.specs.Runs.{Ends, Runs, TaskLeaves, called, numbers_of};
-ghost use Rattle.fx_cli.specs.Steps.{EndsBehind, EndsText};
+ghost use Rattle.fx_cli.specs.Steps.{EndsAfter, EndsText};
 
-use super::chars::parse_chars;
-use super::done::Done;
-use super::fault::Fault;
-use super::hexadecimal::decode_hex;
-use super::input::{LINE_ROOM, read_line, read_on};
-use super::lines::status;
-use super::parts::first_part;
-use super::wish::{StrikeWords, Task, Wish};
-use super::words::read;
+use crate::chars::parse_chars;
+use crate::done::Done;
+use crate::fault::Fault;
+use crate::hexadecimal::decode_hex;
+use crate::input::{LINE_BUFFER, read_line, read_on};
+use crate::lines::status;
+use crate::parts::first_part;
+use crate::wish::{StrikeWords, Task, Wish};
+use crate::words::read;
 use fx_fixed::{Sink, Source};
-use fx_strike::{Refusal, Report, Request, Which, listing_of, make_strike};
+use fx_strike::{Refusal, Report, Request, listing_of, make_strike};
 use std::alloc::{AllocError, Global};
 
-const ROOM: usize = 32_768;
+/// The size of the buffer that the input is read through.
+const BUFFER: usize = 32_768;
 
-/// Runs the program on words, of which the first is the program's name. Answers the status: 0 done, 1 refused, 2 usage.
+/// Runs the program on the words of a command line: the program's name, then its arguments. Returns the status: 0 done,
+/// 1 refused, 2 usage.
 pub fn run<R: Source, O: Sink, E: Sink>(
     alloc: Global,
     words: &[&str],
@@ -37,7 +39,11 @@ pub fn run<R: Source, O: Sink, E: Sink>(
     requires reader { R.fault_count reader.old < 2 ^ 63 }
     requires out { O.fault_count out.old < 2 ^ 63 }
     requires err { E.fault_count err.old < 2 ^ 63 }
-    ensures { Runs (map (λ word. word.now) words.now) (record { left_before = R.left reader.old; left = R.left reader.new; reader_calm = R.fault_count reader.old; reader_faults = R.fault_count reader.new; held_before = O.held out.old; held = O.held out.new; writer_calm = O.fault_count out.old; writer_faults = O.fault_count out.new }) result }
+    ensures { Runs (map (λ word. word.now) words.now) (record {
+        left_before = R.left reader.old; left = R.left reader.new;
+        reader_faults_before = R.fault_count reader.old; reader_faults = R.fault_count reader.new;
+        held_before = O.held out.old; held = O.held out.new;
+        writer_faults_before = O.fault_count out.old; writer_faults = O.fault_count out.new }) result }
 {
     let outcome = if words.len() > 1 {
         run_words(alloc, words, reader, out)
@@ -47,7 +53,7 @@ pub fn run<R: Source, O: Sink, E: Sink>(
     status(err, &outcome)
 }
 
-// The words are given, and the input is the font.
+/// The arguments are given, and the input is the font.
 fn run_words<R: Source, O: Sink>(
     alloc: Global,
     words: &[&str],
@@ -57,13 +63,17 @@ fn run_words<R: Source, O: Sink>(
     requires reader { R.fault_count reader.old < 2 ^ 63 }
     requires out { O.fault_count out.old < 2 ^ 63 }
     requires given { 1 < length words.now }
-    ensures { Ends (map (λ word. word.now) words.now) (record { left_before = R.left reader.old; left = R.left reader.new; reader_calm = R.fault_count reader.old; reader_faults = R.fault_count reader.new; held_before = O.held out.old; held = O.held out.new; writer_calm = O.fault_count out.old; writer_faults = O.fault_count out.new }) result }
+    ensures { Ends (map (λ word. word.now) words.now) (record {
+        left_before = R.left reader.old; left = R.left reader.new;
+        reader_faults_before = R.fault_count reader.old; reader_faults = R.fault_count reader.new;
+        held_before = O.held out.old; held = O.held out.new;
+        writer_faults_before = O.fault_count out.old; writer_faults = O.fault_count out.new }) result }
 {
     let wish = read(alloc, words)?;
     run_wish(alloc, &wish, reader, 0, &[], false, out)
 }
 
-// The input's first line is the words, and what stands behind it the font.
+/// The input's first line holds the arguments, and what follows it is the font.
 fn run_line<R: Source, O: Sink>(
     alloc: Global,
     words: &[&str],
@@ -73,9 +83,13 @@ fn run_line<R: Source, O: Sink>(
     requires reader { R.fault_count reader.old < 2 ^ 63 }
     requires out { O.fault_count out.old < 2 ^ 63 }
     requires given { length words.now ≤ 1 }
-    ensures { Ends (map (λ word. word.now) words.now) (record { left_before = R.left reader.old; left = R.left reader.new; reader_calm = R.fault_count reader.old; reader_faults = R.fault_count reader.new; held_before = O.held out.old; held = O.held out.new; writer_calm = O.fault_count out.old; writer_faults = O.fault_count out.new }) result }
+    ensures { Ends (map (λ word. word.now) words.now) (record {
+        left_before = R.left reader.old; left = R.left reader.new;
+        reader_faults_before = R.fault_count reader.old; reader_faults = R.fault_count reader.new;
+        held_before = O.held out.old; held = O.held out.new;
+        writer_faults_before = O.fault_count out.old; writer_faults = O.fault_count out.new }) result }
 {
-    let mut front = [0u8; LINE_ROOM];
+    let mut front = [0u8; LINE_BUFFER];
     let (filled, end) = read_line(reader, &mut front)?;
     let got = &front[..filled];
     let (line, text) = cut_line(got, end);
@@ -88,7 +102,7 @@ fn run_line<R: Source, O: Sink>(
     run_wish(alloc, &wish, reader, filled - text.len(), text, ended, out)
 }
 
-// What the program is called.
+/// The program's name.
 fn program_name<'a>(words: &[&'a str]) -> &'a str
     ensures { result.now ≡ called (map (λ word. word.now) words.now) }
 {
@@ -98,7 +112,7 @@ fn program_name<'a>(words: &[&'a str]) -> &'a str
     }
 }
 
-// The first line, which ends at a place, and what stands behind it.
+/// The first line, which ends at the index `end`, and what follows it.
 fn cut_line(got: &[u8], end: usize) -> (&[u8], &[u8])
     requires place { end ≡ position_or_len (λ b. b == 10) got.now }
     requires within { end ≤ length got.now }
@@ -113,13 +127,14 @@ fn cut_line(got: &[u8], end: usize) -> (&[u8], &[u8])
     }
 }
 
-// The words of a line, behind the program's name.
+/// The words of a line, after the program's name.
 fn words_of_line<'a>(
     alloc: Global,
     program: &'a str,
     line: &'a str,
 ) -> Result<Vec<&'a str>, AllocError>
-    ensures { IfOk result (λ words. map (λ word. word.now) words.items ≡ program.entry.now ∷ words_of_line line.entry.now) }
+    ensures { IfOk result (λ words.
+        map (λ word. word.now) words.items ≡ program.entry.now ∷ words_of_line line.entry.now) }
 {
     let mut all = Vec::new(alloc);
     all.push(program)?;
@@ -134,7 +149,8 @@ fn words_of_line<'a>(
     Ok(all)
 }
 
-// Does what the words ask for, behind a line of words and what was read behind it, where the input may have ended.
+/// Does what the arguments ask for, after a line of arguments of `line` bytes and the bytes `front` that were read after it;
+/// `ended` if the input ended there.
 fn run_wish<R: Source, O: Sink>(
     alloc: Global,
     wish: &Wish<'_>,
@@ -146,20 +162,25 @@ fn run_wish<R: Source, O: Sink>(
 ) -> Result<Done, Fault>
     requires reader { R.fault_count reader.old < 2 ^ 63 }
     requires out { O.fault_count out.old < 2 ^ 63 }
-    requires front { line + length front.now ≤ 67108864 }
+    requires front { line + length front.now ≤ max_input }
     requires ended { ended ≡ true → IsAtEnd (R.left reader.old) }
-    ensures { EndsBehind (seen wish.now) line front.now ended (record { left_before = R.left reader.old; left = R.left reader.new; reader_calm = R.fault_count reader.old; reader_faults = R.fault_count reader.new; held_before = O.held out.old; held = O.held out.new; writer_calm = O.fault_count out.old; writer_faults = O.fault_count out.new }) result }
+    ensures { EndsAfter (seen wish.now) line front.now ended (record {
+        left_before = R.left reader.old; left = R.left reader.new;
+        reader_faults_before = R.fault_count reader.old; reader_faults = R.fault_count reader.new;
+        held_before = O.held out.old; held = O.held out.new;
+        writer_faults_before = O.fault_count out.old; writer_faults = O.fault_count out.new }) result }
 {
     let chars = numbers_of(alloc, &wish.task)?;
-    let mut room = [0u8; ROOM];
-    let input = read_on(alloc, reader, &mut room, line, front, ended)?;
+    let mut buffer = [0u8; BUFFER];
+    let input = read_on(alloc, reader, &mut buffer, line, front, ended)?;
     run_text(alloc, wish, &chars, &input, out)
 }
 
-// The characters that a task asks for; a listing has none.
+/// The characters that a task asks for; a listing has none.
 fn numbers_of(alloc: Global, task: &Task<'_>) -> Result<Vec<u32>, Refusal>
     ensures numbers { IfOk result (λ chars. numbers_of (seen_task task.now) ≡ Some chars.items) }
-    ensures refused { IfErr result (λ refusal. (refusal ≡ Refusal.OutOfMemory) ⊎ ((refusal ≡ Refusal.BadChars) × (numbers_of (seen_task task.now) ≡ None))) }
+    ensures refused { IfErr result (λ refusal. (refusal ≡ Refusal.OutOfMemory)
+        ⊎ ((refusal ≡ Refusal.BadChars) × (numbers_of (seen_task task.now) ≡ None))) }
 {
     match task {
         Task::Strike(words) => parse_chars(alloc, words.list),
@@ -167,7 +188,7 @@ fn numbers_of(alloc: Global, task: &Task<'_>) -> Result<Vec<u32>, Refusal>
     }
 }
 
-// Does what the words ask for with a font's text.
+/// Does what the arguments ask for with a font's text.
 fn run_text<O: Sink>(
     alloc: Global,
     wish: &Wish<'_>,
@@ -176,7 +197,10 @@ fn run_text<O: Sink>(
     out: &mut O,
 ) -> Result<Done, Fault>
     requires { O.fault_count out.old < 2 ^ 63 }
-    ensures { EndsText (seen wish.now) chars.now text.now (record { left_before = None; left = None; reader_calm = 0; reader_faults = 0; held_before = O.held out.old; held = O.held out.new; writer_calm = O.fault_count out.old; writer_faults = O.fault_count out.new }) result }
+    ensures { EndsText (seen wish.now) chars.now text.now (record {
+        left_before = None; left = None; reader_faults_before = 0; reader_faults = 0;
+        held_before = O.held out.old; held = O.held out.new;
+        writer_faults_before = O.fault_count out.old; writer_faults = O.fault_count out.new }) result }
 {
     if wish.hex {
         let font = decode_hex(alloc, text)?;
@@ -186,7 +210,7 @@ fn run_text<O: Sink>(
     }
 }
 
-// Does a task with a font's bytes.
+/// Does a task with a font's bytes.
 fn run_task<O: Sink>(
     alloc: Global,
     task: &Task<'_>,
@@ -195,18 +219,19 @@ fn run_task<O: Sink>(
     out: &mut O,
 ) -> Result<Done, Refusal>
     requires { O.fault_count out.old < 2 ^ 63 }
-    ensures { TaskLeaves (seen_task task.now) chars.now font.now (O.held out.old) (O.held out.new) (O.fault_count out.old) (O.fault_count out.new) result }
+    ensures { TaskLeaves (seen_task task.now) chars.now font.now (O.held out.old) (O.held out.new)
+        (O.fault_count out.old) (O.fault_count out.new) result }
 {
     match task {
         Task::Strike(words) => Ok(Done::Strike(put_strike(alloc, words, chars, font, out)?)),
         Task::Listing(what) => {
-            put_listing(font, *what, out)?;
+            listing_of(font, *what, out)?;
             Ok(Done::Listing)
         }
     }
 }
 
-// Makes the strike of a font's bytes.
+/// Makes the strike of a font's bytes.
 fn put_strike<O: Sink>(
     alloc: Global,
     words: &StrikeWords<'_>,
@@ -215,7 +240,8 @@ fn put_strike<O: Sink>(
     out: &mut O,
 ) -> Result<Report, Refusal>
     requires { O.fault_count out.old < 2 ^ 63 }
-    ensures { Leaves (opened_of font.now words.now.ppem words.now.name.now chars.now (not words.now.unhinted)) (plan_of font.now words.now.ppem words.now.name.now chars.now (not words.now.unhinted)) (O.held out.old) (O.held out.new) (O.fault_count out.old) (O.fault_count out.new) result }
+    ensures { Leaves (opened_of font.now words.now.ppem words.now.name.now chars.now (not words.now.unhinted))
+        (plan_of font.now words.now.ppem words.now.name.now chars.now (not words.now.unhinted)) (O.held out.old) (O.held out.new) (O.fault_count out.old) (O.fault_count out.new) result }
 {
     let request = Request {
         ppem: words.ppem,
@@ -226,19 +252,11 @@ fn put_strike<O: Sink>(
     make_strike(alloc, font, &request, out)
 }
 
-// Lists a program of a font's bytes.
-fn put_listing<O: Sink>(font: &[u8], what: Which, out: &mut O) -> Result<(), Refusal>
-    requires { O.fault_count out.old < 2 ^ 63 }
-    ensures { Lists (program_of font.now what) (O.held out.old) (O.held out.new) (O.fault_count out.old) (O.fault_count out.new) result }
+/// A task's result as the end of a run.
+fn late(outcome: Result<Done, Refusal>) -> Result<Done, Fault>
+    ensures { result ≡ map_fault Fault.Late outcome }
 {
-    listing_of(font, what, out)
-}
-
-// A task's answer as the end of a run.
-fn late(answer: Result<Done, Refusal>) -> Result<Done, Fault>
-    ensures { result ≡ map_fault Fault.Late answer }
-{
-    match answer {
+    match outcome {
         Ok(done) => Ok(done),
         Err(refusal) => Err(Fault::Late(refusal)),
     }

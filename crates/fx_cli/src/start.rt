@@ -1,17 +1,17 @@
-// The start of the program.
+//! The start of the program.
 ghost use Rattle.std.specs.Prelude.{◌≡◌, ◌<◌, ◌^◌, map, string_bytes, IfOk};
 ghost use Rattle.fx_fixed.specs.Chain.{map_fault, map_ok};
 ghost use Rattle.fx_cli.specs.Runs.{Starts, unread_status};
 ghost use Rattle.std.specs.IoError.{error_kind};
 
-use super::lines::{out_of_memory, usage};
-use super::program::run;
+use crate::lines::{out_of_memory, usage};
+use crate::program::run;
 use fx_fixed::{FromReader, Sink, Source, ToSink};
 use std::alloc::{AllocError, Global};
 use std::io::{ErrorKind, Write};
 use std::{env, io};
 
-/// Runs the program on the words that the system gives, from standard input to standard output, with its lines for people to `err`.
+/// Runs the program on the arguments that the system gives, from standard input to standard output, with its lines for people to `err`.
 /// Returns the status. Nothing is buffered between it and the system's files, so that no byte is lost after it returns.
 pub fn run_program<E: Write + Drop>(rt: &HostRuntime, err: E) -> u8 {
     let words = words(rt);
@@ -21,13 +21,13 @@ pub fn run_program<E: Write + Drop>(rt: &HostRuntime, err: E) -> u8 {
     run_given(rt.alloc(), &words, &mut reader, &mut out, &mut err)
 }
 
-// The words that the system gives, the program's name first.
+/// The words that the system gives: the program's name, then its arguments.
 fn words(rt: &HostRuntime) -> io::Result<Vec<String>> {
     Ok(env::args(rt)?.collect(rt.alloc())?)
 }
 
-/// Runs the program on words, of which the first is its name, or on the fault that came in place of them: out of memory, or a word
-/// that is not text, which is a usage fault. Returns the status.
+/// Runs the program on the words of a command line, of which the first is its name, or on the fault that came in place of them:
+/// out of memory, or an argument that is not text, which is a usage fault. Returns the status.
 pub fn run_given<R: Source, O: Sink, E: Sink>(
     alloc: Global,
     words: &io::Result<Vec<String>>,
@@ -38,7 +38,11 @@ pub fn run_given<R: Source, O: Sink, E: Sink>(
     requires reader { R.fault_count reader.old < 2 ^ 63 }
     requires out { O.fault_count out.old < 2 ^ 63 }
     requires err { E.fault_count err.old < 2 ^ 63 }
-    ensures { Starts (map_fault error_kind (map_ok (λ words. map string_bytes words.items) words.now)) (record { left_before = R.left reader.old; left = R.left reader.new; reader_calm = R.fault_count reader.old; reader_faults = R.fault_count reader.new; held_before = O.held out.old; held = O.held out.new; writer_calm = O.fault_count out.old; writer_faults = O.fault_count out.new }) result }
+    ensures { Starts (map_fault error_kind (map_ok (λ words. map string_bytes words.items) words.now)) (record {
+        left_before = R.left reader.old; left = R.left reader.new;
+        reader_faults_before = R.fault_count reader.old; reader_faults = R.fault_count reader.new;
+        held_before = O.held out.old; held = O.held out.new;
+        writer_faults_before = O.fault_count out.old; writer_faults = O.fault_count out.new }) result }
 {
     match words {
         Ok(words) => match texts_of(alloc, words) {
@@ -49,7 +53,7 @@ pub fn run_given<R: Source, O: Sink, E: Sink>(
     }
 }
 
-// The words as texts.
+/// The words as texts.
 fn texts_of<'a>(alloc: Global, words: &'a [String]) -> Result<Vec<&'a str>, AllocError>
     ensures { IfOk result (λ texts. map (λ text. text.now) texts.items ≡ map string_bytes words.entry.now) }
 {
@@ -60,7 +64,7 @@ fn texts_of<'a>(alloc: Global, words: &'a [String]) -> Result<Vec<&'a str>, Allo
     Ok(texts)
 }
 
-// Writes why there are no words, and returns the status.
+/// Writes why there are no arguments, and returns the status.
 fn unread<E: Sink>(err: &mut E, kind: ErrorKind) -> u8
     requires { E.fault_count err.old < 2 ^ 63 }
     ensures { result ≡ unread_status kind }

@@ -1,21 +1,23 @@
-// The values that words give a command's options.
+//! The values that arguments give a command's options.
 ghost use Rattle.std.specs.Prelude.{◌≡◌, ◌⊎◌, ◌==◌, ◌||◌, None, Some, true, map, option_map, IfOk, IfErr};
 ghost use Rattle.std.specs.List.{list_any};
 ghost use Rattle.std.specs.Str.{bytes_eq};
 ghost use Rattle.clap.specs.Words.{app_of, first_of, found_of, is_simple, is_simple_and_free, rows_of};
 ghost use Rattle.fx_cli.specs.Words.{is_bare, is_given, rows_by, size_of};
 
-use super::fault::Fault;
+use crate::fault::Fault;
 use clap::error::ErrorKind;
 use clap::{ArgMatches, Command};
 use fx_strike::Refusal;
 
-// The values of a command's options.
+/// The values of a command's options.
 pub fn matches<'a>(command: Command<'a>, words: &'a [&'a str]) -> Result<ArgMatches<'a>, Fault>
     requires simple { is_simple (app_of command) ≡ true }
     requires free { is_simple_and_free (app_of command) ≡ true }
-    ensures taken { IfOk result (λ m. rows_by (app_of command.entry) (map (λ word. word.now) words.entry.now) ≡ Some (rows_of (found_of m))) }
-    ensures refused { IfErr result (λ fault. (fault ≡ Fault.Early Refusal.OutOfMemory) ⊎ ((fault ≡ Fault.Usage) × (rows_by (app_of command.entry) (map (λ word. word.now) words.entry.now) ≡ None))) }
+    ensures taken { IfOk result (λ m.
+        rows_by (app_of command.entry) (map (λ word. word.now) words.entry.now) ≡ Some (rows_of (found_of m))) }
+    ensures refused { IfErr result (λ fault. (fault ≡ Fault.Early Refusal.OutOfMemory)
+        ⊎ ((fault ≡ Fault.Usage) × (rows_by (app_of command.entry) (map (λ word. word.now) words.entry.now) ≡ None))) }
 {
     if has_bare(words) {
         return Err(Fault::Usage);
@@ -26,7 +28,7 @@ pub fn matches<'a>(command: Command<'a>, words: &'a [&'a str]) -> Result<ArgMatc
     }
 }
 
-// Some word is of hyphens alone.
+/// Whether some argument has only hyphens.
 fn has_bare(words: &[&str]) -> bool
     ensures { result ≡ list_any is_bare (map (λ word. word.now) words.now) }
 {
@@ -38,14 +40,14 @@ fn has_bare(words: &[&str]) -> bool
     false
 }
 
-// A word of hyphens alone, which clap would take.
+/// Whether an argument has only hyphens, which clap would take.
 fn is_bare(word: &str) -> bool
     ensures { result ≡ is_bare word.now }
 {
     word == "-" || word == "--"
 }
 
-// The fault of words that clap refuses.
+/// The fault of arguments that clap refuses.
 fn fault_of(kind: ErrorKind) -> Fault
     ensures memory { kind ≡ ErrorKind.OutOfMemory → result ≡ Fault.Early Refusal.OutOfMemory }
     ensures cases { (result ≡ Fault.Early Refusal.OutOfMemory) ⊎ (result ≡ Fault.Usage) }
@@ -56,14 +58,14 @@ fn fault_of(kind: ErrorKind) -> Fault
     }
 }
 
-// An option's value.
+/// An option's value.
 pub fn value<'a>(matches: &ArgMatches<'a>, id: &str) -> Option<&'a str>
     ensures { option_map (λ text. text.now) result ≡ first_of id.now (rows_of (found_of matches.now)) }
 {
     matches.get_str(id)
 }
 
-// A flag was given.
+/// Whether a flag was given.
 pub fn is_given(matches: &ArgMatches<'_>, id: &str) -> bool
     ensures { result ≡ is_given id.now (rows_of (found_of matches.now)) }
 {
@@ -73,7 +75,7 @@ pub fn is_given(matches: &ArgMatches<'_>, id: &str) -> bool
     }
 }
 
-// A whole number from 0 to 65535.
+/// A whole number from 0 to 65,535.
 pub fn size_of(text: &str) -> Option<u16>
     ensures { result ≡ size_of text.now }
 {

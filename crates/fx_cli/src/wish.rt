@@ -1,4 +1,4 @@
-// What the words of a command line ask for.
+//! What the arguments of a command line ask for.
 
 use fx_strike::Which;
 
@@ -18,7 +18,7 @@ pub enum Task<'a> {
     Listing(Which),
 }
 
-/// The words that ask for a strike.
+/// The arguments that ask for a strike.
 #[derive(Clone, Copy)]
 pub struct StrikeWords<'a> {
     pub ppem: u16,

@@ -1,21 +1,23 @@
-// The words of a command line.
+//! The arguments of a command line.
 ghost use Rattle.std.specs.Prelude.{◌≡◌, ◌⊎◌, None, Some, codes, map, option_map, IfOk, IfErr};
 ghost use Rattle.std.specs.Str.{bytes_eq};
 ghost use Rattle.clap.specs.Words.{found_of, rows_of};
-ghost use Rattle.fx_cli.specs.Words.{dump_by, dump_of_rows, is_command, make_by, make_of_rows, seen, which_of, wish_of_dump, wish_of_make, wish_of_words};
+ghost use Rattle.fx_cli.specs.Words.{dump_by, dump_of_rows, is_command, make_by, make_of_rows, seen};
+ghost use Rattle.fx_cli.specs.Words.{which_of, wish_of_dump, wish_of_make, wish_of_words};
 
-use super::commands::{dump_command, make_command};
-use super::fault::Fault;
-use super::values::{is_given, matches, size_of, value};
-use super::wish::{StrikeWords, Task, Wish};
+use crate::commands::{dump_command, make_command};
+use crate::fault::Fault;
+use crate::values::{is_given, matches, size_of, value};
+use crate::wish::{StrikeWords, Task, Wish};
 use clap::ArgMatches;
 use fx_strike::{Refusal, Which};
 use std::alloc::Global;
 
-// Reads the words, of which the first is the program's name.
+/// Reads the words, of which the first is the program's name.
 pub fn read<'a>(alloc: Global, words: &'a [&'a str]) -> Result<Wish<'a>, Fault>
     ensures wish { IfOk result (λ wish. wish_of_words (map (λ word. word.now) words.entry.now) ≡ Some (seen wish)) }
-    ensures fault { IfErr result (λ fault. (fault ≡ Fault.Early Refusal.OutOfMemory) ⊎ ((fault ≡ Fault.Usage) × (wish_of_words (map (λ word. word.now) words.entry.now) ≡ None))) }
+    ensures fault { IfErr result (λ fault. (fault ≡ Fault.Early Refusal.OutOfMemory)
+        ⊎ ((fault ≡ Fault.Usage) × (wish_of_words (map (λ word. word.now) words.entry.now) ≡ None))) }
 {
     match words.split_first() {
         Some((_, rest)) if is_command("make", rest) => read_make(alloc, rest),
@@ -24,7 +26,7 @@ pub fn read<'a>(alloc: Global, words: &'a [&'a str]) -> Result<Wish<'a>, Fault>
     }
 }
 
-// The first word is this one.
+/// Whether the first word is this one.
 fn is_command(name: &str, words: &[&str]) -> bool
     ensures { result ≡ is_command name.now (map (λ word. word.now) words.now) }
 {
@@ -34,25 +36,27 @@ fn is_command(name: &str, words: &[&str]) -> bool
     }
 }
 
-// Reads the words from `make` on.
+/// Reads the arguments from `make` on.
 fn read_make<'a>(alloc: Global, words: &'a [&'a str]) -> Result<Wish<'a>, Fault>
     ensures wish { IfOk result (λ wish. wish_of_make (map (λ word. word.now) words.entry.now) ≡ Some (seen wish)) }
-    ensures fault { IfErr result (λ fault. (fault ≡ Fault.Early Refusal.OutOfMemory) ⊎ ((fault ≡ Fault.Usage) × (wish_of_make (map (λ word. word.now) words.entry.now) ≡ None))) }
+    ensures fault { IfErr result (λ fault. (fault ≡ Fault.Early Refusal.OutOfMemory)
+        ⊎ ((fault ≡ Fault.Usage) × (wish_of_make (map (λ word. word.now) words.entry.now) ≡ None))) }
 {
     let matches = matches(make_command(alloc)?, words)?;
     make_of(&matches).ok_or(Fault::Usage)
 }
 
-// Reads the words from `dump` on.
+/// Reads the arguments from `dump` on.
 fn read_dump<'a>(alloc: Global, words: &'a [&'a str]) -> Result<Wish<'a>, Fault>
     ensures wish { IfOk result (λ wish. wish_of_dump (map (λ word. word.now) words.entry.now) ≡ Some (seen wish)) }
-    ensures fault { IfErr result (λ fault. (fault ≡ Fault.Early Refusal.OutOfMemory) ⊎ ((fault ≡ Fault.Usage) × (wish_of_dump (map (λ word. word.now) words.entry.now) ≡ None))) }
+    ensures fault { IfErr result (λ fault. (fault ≡ Fault.Early Refusal.OutOfMemory)
+        ⊎ ((fault ≡ Fault.Usage) × (wish_of_dump (map (λ word. word.now) words.entry.now) ≡ None))) }
 {
     let matches = matches(dump_command(alloc)?, words)?;
     dump_of(&matches).ok_or(Fault::Usage)
 }
 
-// What the values of `make` ask for.
+/// What the values of `make` ask for.
 fn make_of<'a>(matches: &ArgMatches<'a>) -> Option<Wish<'a>>
     ensures { option_map seen result ≡ make_of_rows (rows_of (found_of matches.now)) }
 {
@@ -65,7 +69,7 @@ fn make_of<'a>(matches: &ArgMatches<'a>) -> Option<Wish<'a>>
     )
 }
 
-// The same of the values one by one.
+/// The same of the values one by one.
 fn make_by<'a>(
     ppem: Option<&'a str>,
     list: Option<&'a str>,
@@ -73,7 +77,8 @@ fn make_by<'a>(
     unhinted: bool,
     hex: bool,
 ) -> Option<Wish<'a>>
-    ensures { option_map seen result ≡ make_by (option_map (λ text. text.now) ppem.entry) (option_map (λ text. text.now) list.entry) (option_map (λ text. text.now) name.entry) unhinted hex }
+    ensures { option_map seen result ≡ make_by (option_map (λ text. text.now) ppem.entry)
+        (option_map (λ text. text.now) list.entry) (option_map (λ text. text.now) name.entry) unhinted hex }
 {
     let ppem = size_of(ppem?)?;
     let list = list?;
@@ -89,14 +94,14 @@ fn make_by<'a>(
     })
 }
 
-// What the values of `dump` ask for.
+/// What the values of `dump` ask for.
 fn dump_of<'a>(matches: &ArgMatches<'a>) -> Option<Wish<'a>>
     ensures { option_map seen result ≡ dump_of_rows (rows_of (found_of matches.now)) }
 {
     dump_by(value(matches, "of"), is_given(matches, "hex"))
 }
 
-// The same of the values one by one.
+/// The same of the values one by one.
 fn dump_by<'a>(name: Option<&str>, hex: bool) -> Option<Wish<'a>>
     ensures { option_map seen result ≡ dump_by (option_map (λ text. text.now) name.entry) hex }
 {
@@ -107,7 +112,7 @@ fn dump_by<'a>(name: Option<&str>, hex: bool) -> Option<Wish<'a>>
     })
 }
 
-// The program of a name.
+/// The program of a name.
 fn which_of(name: &str) -> Option<Which>
     ensures { result ≡ which_of name.now }
 {

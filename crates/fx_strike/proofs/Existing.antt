@@ -12,13 +12,13 @@ use Rattle.fx_sfnt.specs.Tables.{Face}
 use Rattle.fx_sfnt.specs.Glyphs.{metrics_of}
 use Rattle.fx_sfnt.specs.declared.records.Metrics.{Metrics}
 use Rattle.fx_cmap.specs.Lookup.{Segments, glyph_for}
-use Rattle.fx_hint.specs.Outlines.{Drawing, outline_of}
+use Rattle.fx_hint.specs.Outlines.{OutlineView, outline_of}
 use Rattle.fx_winding.specs.Area.{Place}
 use Rattle.fx_winding.specs.Winding.{Span, IsCovered, centre}
 use Rattle.fx_winding.specs.Outside.{HasAll, OptionAll, IsBeside, AreOfOutline, joined}
 use Rattle.fx_winding.proofs.Beside.{nothing_outside}
 use Rattle.fx_contour.specs.Contours.{drawn_of}
-use Rattle.fx_contour.specs.Frames.{HasAny, HaveAny, IsInBox, AreTooLarge, framed_of}
+use Rattle.fx_contour.specs.Frames.{HasAny, HaveAny, IsInBoundingBox, AreTooLarge, framed_of}
 use Rattle.fx_bdf.specs.Glyphs.{Glyph, glyph_bit}
 use Rattle.fx_strike.specs.declared.refusal.Refusal.{Refusal}
 use Rattle.fx_strike.specs.Faults.{of_font, of_hint, of_contour}
@@ -58,7 +58,7 @@ either P Q d (s ∷ ss) = by (piece_either P Q d s) (either P Q d ss)
 order : (a b : ℤ) → (a <ℤ b) ⊎ (b ≤ℤ a)
 order a b = by_lt_z a b (λ h. inl h) (λ h. inr h)
 
-in_or_beside : (p : Place) (ss : List Span) → IsInBox p ss ⊎ IsBeside p ss
+in_or_beside : (p : Place) (ss : List Span) → IsInBoundingBox p ss ⊎ IsBeside p ss
 in_or_beside p ss =
     by
     (either (λ q. p.x <ℤ q.x) (λ q. q.x ≤ℤ p.x) (λ q. order p.x q.x) ss)
@@ -69,39 +69,39 @@ in_or_beside p ss =
     by : All (HasAll (λ q. p.x <ℤ q.x)) ss ⊎ HaveAny (λ q. q.x ≤ℤ p.x) ss
         → All (HasAll (λ q. q.x <ℤ p.x)) ss ⊎ HaveAny (λ q. p.x ≤ℤ q.x) ss
         → All (HasAll (λ q. p.y <ℤ q.y)) ss ⊎ HaveAny (λ q. q.y ≤ℤ p.y) ss → All (HasAll (λ q. q.y <ℤ p.y)) ss ⊎ HaveAny (λ q. p.y ≤ℤ q.y) ss
-        → IsInBox p ss ⊎ IsBeside p ss
+        → IsInBoundingBox p ss ⊎ IsBeside p ss
     by (inl a) b c d = inr (inl a)
     by (inr a) (inl b) c d = inr (inr (inl b))
     by (inr a) (inr b) (inl c) d = inr (inr (inr (inl c)))
     by (inr a) (inr b) (inr c) (inl d) = inr (inr (inr (inr d)))
     by (inr a) (inr b) (inr c) (inr d) = inl (record { left = a; right = b; bottom = c; top = d })
 
-in_box : (p : Place) (ss : List Span) → AreOfOutline ss → IsCovered p ss → IsInBox p ss
+in_box : (p : Place) (ss : List Span) → AreOfOutline ss → IsCovered p ss → IsInBoundingBox p ss
 in_box p ss (contours, o, e) k =
-    let P : List Span → Type 0 = λ xs. IsCovered p xs → IsInBox p xs in
+    let P : List Span → Type 0 = λ xs. IsCovered p xs → IsInBoundingBox p xs in
     subst P e (λ c. elim (in_or_beside p (joined contours)) [ inl h ↦ h | inr b ↦ absurd (nothing_outside p contours o b c) ]) k
 
 -- ---- the pixels that are covered
 
-column_from : (col row : ℤ) (ss : List Span) → AreNear ss → IsInBox (centre col row) ss → negsuc 32767 ≤ℤ col
+column_from : (col row : ℤ) (ss : List Span) → AreNear ss → IsInBoundingBox (centre col row) ss → negsuc 32767 ≤ℤ col
 column_from col row ss n h = let q = have_near (λ q. q.x ≤ℤ (centre col row).x) ss h.left n in at q.0.x q.1 q.2.0.0
   where
     at : (x : ℤ) → x ≤ℤ (pos 128 *ℤ col +ℤ pos 64) → negsuc 4194303 ≤ℤ x → negsuc 32767 ≤ℤ col
     at x h k = omega (arith, signed, h, k)
 
-column_to : (col row : ℤ) (ss : List Span) → AreNear ss → IsInBox (centre col row) ss → col <ℤ pos 32768
+column_to : (col row : ℤ) (ss : List Span) → AreNear ss → IsInBoundingBox (centre col row) ss → col <ℤ pos 32768
 column_to col row ss n h = let q = have_near (λ q. (centre col row).x ≤ℤ q.x) ss h.right n in at q.0.x q.1 q.2.0.1
   where
     at : (x : ℤ) → (pos 128 *ℤ col +ℤ pos 64) ≤ℤ x → x ≤ℤ pos 4194304 → col <ℤ pos 32768
     at x h k = omega (arith, signed, h, k)
 
-row_from : (col row : ℤ) (ss : List Span) → AreNear ss → IsInBox (centre col row) ss → negsuc 32767 ≤ℤ row
+row_from : (col row : ℤ) (ss : List Span) → AreNear ss → IsInBoundingBox (centre col row) ss → negsuc 32767 ≤ℤ row
 row_from col row ss n h = let q = have_near (λ q. q.y ≤ℤ (centre col row).y) ss h.bottom n in at q.0.y q.1 q.2.1.0
   where
     at : (y : ℤ) → y ≤ℤ (pos 128 *ℤ row +ℤ pos 64) → negsuc 4194303 ≤ℤ y → negsuc 32767 ≤ℤ row
     at y h k = omega (arith, signed, h, k)
 
-row_to : (col row : ℤ) (ss : List Span) → AreNear ss → IsInBox (centre col row) ss → row <ℤ pos 32768
+row_to : (col row : ℤ) (ss : List Span) → AreNear ss → IsInBoundingBox (centre col row) ss → row <ℤ pos 32768
 row_to col row ss n h = let q = have_near (λ q. (centre col row).y ≤ℤ q.y) ss h.top n in at q.0.y q.1 q.2.1.1
   where
     at : (y : ℤ) → (pos 128 *ℤ row +ℤ pos 64) ≤ℤ y → y ≤ℤ pos 4194304 → row <ℤ pos 32768
@@ -114,8 +114,8 @@ up_from x a b h k = omega (arith, signed, h, k)
 down_from : (x a b : ℤ) → (pos 128 *ℤ b +ℤ pos 64) ≤ℤ x → a ≤ℤ b → (pos 128 *ℤ a +ℤ pos 64) ≤ℤ x
 down_from x a b h k = omega (arith, signed, h, k)
 
-not_wide : (ss : List Span) → (AreTooLarge ss → ⊥) → (col row col2 row2 : ℤ) → IsInBox (centre col row) ss
-    → IsInBox (centre col2 row2) ss → col2 <ℤ (col +ℤ pos 2048)
+not_wide : (ss : List Span) → (AreTooLarge ss → ⊥) → (col row col2 row2 : ℤ) → IsInBoundingBox (centre col row) ss
+    → IsInBoundingBox (centre col2 row2) ss → col2 <ℤ (col +ℤ pos 2048)
 not_wide ss small col row col2 row2 h k = elim (order col2 (col +ℤ pos 2048)) [
   | inl l ↦ l
   | inr far ↦ absurd (small (
@@ -131,8 +131,8 @@ not_wide ss small col row col2 row2 h k = elim (order col2 (col +ℤ pos 2048)) 
   ))
 ]
 
-not_high : (ss : List Span) → (AreTooLarge ss → ⊥) → (col row col2 row2 : ℤ) → IsInBox (centre col row) ss
-    → IsInBox (centre col2 row2) ss → row2 <ℤ (row +ℤ pos 2048)
+not_high : (ss : List Span) → (AreTooLarge ss → ⊥) → (col row col2 row2 : ℤ) → IsInBoundingBox (centre col row) ss
+    → IsInBoundingBox (centre col2 row2) ss → row2 <ℤ (row +ℤ pos 2048)
 not_high ss small col row col2 row2 h k = elim (order row2 (row +ℤ pos 2048)) [
   | inl l ↦ l
   | inr far ↦ absurd (small (
@@ -154,7 +154,7 @@ bit_by ss col row = (covered (centre col row) ss).0
 
 are_small : (ss : List Span) → AreDrawn ss → (AreTooLarge ss → ⊥) → AreSmall (bit_by ss) (negsuc 32767) 65536
 are_small ss d small =
-    let box : (col row : ℤ) → bit_by ss col row ≡ true → IsInBox (centre col row) ss = λ col row h. in_box (centre col row) ss d.closed ((covered (centre col row) ss).1.0 h) in
+    let box : (col row : ℤ) → bit_by ss col row ≡ true → IsInBoundingBox (centre col row) ss = λ col row h. in_box (centre col row) ss d.closed ((covered (centre col row) ss).1.0 h) in
     let to : (z : ℤ) → z <ℤ pos 32768 → z <ℤ (negsuc 32767 +ℤ pos 65536) = λ z h. h in
     record {
       from = omega (arith, ints);
@@ -186,16 +186,16 @@ glyph_of_sketch : (face : Face) (ppem code glyph : ℕ) (s : Sketch) → glyph_s
     → (g : Glyph) × IsGlyphOf s g
 unfolding glyph_sketch_of
 glyph_of_sketch face ppem code glyph s h =
-    let last : Drawing → List Span → Metrics → Sketch = λ d ss m. record {
+    let last : OutlineView → List Span → Metrics → Sketch = λ d ss m. record {
       code = code;
-      swidth = thousandths m.advance face.head.units_per_em;
+      swidth = thousandths m.advance_width face.head.units_per_em;
       dwidth = near_of d.advance (pos 64);
       spans = ss;
       strays = d.strays;
       steps = d.steps;
     } in
-    let measured : Drawing → List Span → Result Sketch Refusal = λ d ss. map_fault of_font (metrics_of face glyph) >>= λ m. Ok (last d ss m) in
-    let framed : Drawing → List Span → Result Sketch Refusal = λ d ss. map_fault (of_contour glyph) (framed_of ss) >>= λ _. measured d ss in
+    let measured : OutlineView → List Span → Result Sketch Refusal = λ d ss. map_fault of_font (metrics_of face glyph) >>= λ m. Ok (last d ss m) in
+    let framed : OutlineView → List Span → Result Sketch Refusal = λ d ss. map_fault (of_contour glyph) (framed_of ss) >>= λ _. measured d ss in
     let a = bind_ok (map_fault of_hint (outline_of face ppem glyph)) (λ d. map_fault (of_contour glyph) (drawn_of d.ends d.points) >>= framed d) s h in
     let b = bind_ok (map_fault (of_contour glyph) (drawn_of a.0.ends a.0.points)) (framed a.0) s a.2 in
     let c = bind_ok (map_fault (of_contour glyph) (framed_of b.0)) (λ _. measured a.0 b.0) s b.2 in
@@ -226,4 +226,4 @@ glyphs_of_sketches face segments ppem (c ∷ cs) ss h =
 pub strike_exists : StrikeExists
 strike_exists file ppem name chars hinting plan h =
     let p = parts_of file ppem name chars hinting plan h in
-    glyphs_of_sketches p.face p.segments ppem (filter (λ c. not (is_missing p.segments c)) (rising chars)) plan.sketches p.sketches
+    glyphs_of_sketches p.face p.segments p.size (filter (λ c. not (is_missing p.segments c)) (rising chars)) plan.sketches p.sketches

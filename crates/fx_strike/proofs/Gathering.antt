@@ -18,6 +18,7 @@ use Rattle.fx_strike.specs.declared.refusal.Refusal.TheVariants.{OutOfMemory, Wr
 use Rattle.fx_strike.specs.declared.drawn.Drawn.{Drawn}
 use Rattle.fx_strike.specs.declared.gathered.Gathered.{Gathered}
 use Rattle.fx_strike.specs.Faults.{Fails}
+use Rattle.fx_strike.specs.Limits.{max_code}
 use Rattle.fx_strike.specs.Strike.{Sketch, IsGlyphOf, AreGlyphsOf, glyph_sketch_of, sketch_of, is_missing, sketches_of}
 use Rattle.fx_strike.specs.Headline.{counted}
 use Rattle.fx_strike.specs.Drawing.{IsDrawnOf}
@@ -25,17 +26,17 @@ use Rattle.fx_strike.specs.Gathering.{IsEmpty, Adds, Holds, Gathers}
 
 -- ---- code points within the limit
 
-not_any : (c : ℕ) (cs : List ℕ) → list_any (nat_lt 65535) (c ∷ cs) ≡ false → (c < 2 ^ 16) × (list_any (nat_lt 65535) cs ≡ false)
-not_any c cs h = (low c (list_any (nat_lt 65535) cs) h, rest (nat_lt 65535 c) (list_any (nat_lt 65535) cs) h)
+not_any : (c : ℕ) (cs : List ℕ) → list_any (nat_lt max_code) (c ∷ cs) ≡ false → (c < 2 ^ 16) × (list_any (nat_lt max_code) cs ≡ false)
+not_any c cs h = (low c (list_any (nat_lt max_code) cs) h, rest (nat_lt max_code c) (list_any (nat_lt max_code) cs) h)
   where
-    low : (c : ℕ) (b : Bool) → (nat_lt 65535 c || b) ≡ false → c < 2 ^ 16
+    low : (c : ℕ) (b : Bool) → (nat_lt max_code c || b) ≡ false → c < 2 ^ 16
     low c b h = grind (arith, nat_tests)
 
     rest : (a b : Bool) → (a || b) ≡ false → b ≡ false
     rest true b h = absurd (cc)
     rest false b h = h
 
-pub code_fits : (codes : List ℕ) (i : ℕ) → list_any (nat_lt 65535) codes ≡ false → i < length codes → get_or codes i 0 < 2 ^ 16
+pub code_fits : (codes : List ℕ) (i : ℕ) → list_any (nat_lt max_code) codes ≡ false → i < length codes → get_or codes i 0 < 2 ^ 16
 code_fits [] i h g = absurd (omega arith)
 code_fits (c ∷ cs) zero h g = (not_any c cs h).0
 code_fits (c ∷ cs) (suc i) h g = code_fits cs i (not_any c cs h).1 (omega arith)
@@ -63,7 +64,7 @@ chain_refused f (z ∷ zs) x ys made e h g =
     refused : {A B : Type 0} (f : A → Result B Refusal) (z : A) (zs : List A) (x : A) (ys : List A) (e : Refusal) (c : B) → f z ≡ Ok c → map_chain f (zs ++ x ∷ ys) ≡ Err e → map_chain f (z ∷ (zs ++ x ∷ ys)) ≡ Err e
     refused f z zs x ys e c p r = rw (p, r)
 
--- a refusal is passed on where it is one of the whole
+-- a refusal is passed on if it is one of the whole chain
 pub fails_on : {Y Z : Type 0} (d : Refusal) (a : Result Y Refusal) (b : Result Z Refusal) → ((e : Refusal) → a ≡ Err e → b ≡ Err e) → Fails d a → Fails d b
 fails_on OutOfMemory a b h f = tt
 fails_on (WriteFailed n) a b h f = f
@@ -113,7 +114,7 @@ holds_none face segments ppem new h =
       planned = refl;
       drawn = tt;
       text = h.text;
-      calm = h.calm;
+      faults = h.faults;
       bounds = h.bounds;
       placed = subst P (sym h.bounds) (record { left = omega arith; right = omega arith; bottom = omega arith; top = omega arith });
       count = h.glyphs;
@@ -131,13 +132,13 @@ holds_push face segments ppem codes c old new sketch drawn h m s d a = record {
   planned = ap (map_chain (sketch_of face segments ppem)) (kept segments c m codes []) ∙ chain_push (sketch_of face segments ppem) (filter (λ x. not (is_missing segments x)) codes) c h.sketches sketch h.planned s;
   drawn = glyphs_push h.sketches h.glyphs sketch drawn.glyph h.drawn d.glyph;
   text = a.text ∙ ap (λ (t : List ℕ). t ++ glyph_text drawn.glyph) h.text ∙ sym (text_push h.glyphs drawn.glyph);
-  calm = a.calm;
+  faults = a.faults;
   bounds = a.bounds ∙ ap (λ (b : Box). joined b drawn.glyph.box) h.bounds ∙ sym (bounds_push h.glyphs drawn.glyph);
   placed = a.placed;
   count = omega (arith, a.glyphs, h.count, length-append h.sketches (sketch ∷ []));
   missing = a.missing ∙ h.missing ∙ sym (count_one (is_missing segments) codes c 0 (ap (λ (b : Bool). cond b 1 0) m) ∙ (let z : count_by (is_missing segments) codes + 0 ≡ count_by (is_missing segments) codes = omega arith in z));
-  strays = sum_push (λ x. x.strays) h.sketches sketch old.strays drawn.strays new.strays h.strays d.strays a.strays;
-  steps = sum_push (λ x. x.steps) h.sketches sketch old.steps drawn.steps new.steps h.steps d.steps a.steps;
+  strays = sum_push (λ x. x.strays) h.sketches sketch old.report.strays drawn.strays new.report.strays h.strays d.strays a.strays;
+  steps = sum_push (λ x. x.steps) h.sketches sketch old.report.steps drawn.steps new.report.steps h.steps d.steps a.steps;
   each = omega (arith, a.glyphs, a.missing, h.each, length-append codes (c ∷ []));
 }
 

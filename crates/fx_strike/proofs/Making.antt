@@ -6,6 +6,7 @@ use Rattle.std.specs.List.{count_by}
 use Rattle.std.proofs.lemmas.Int.{ints, fits_signed_mul, fits_signed_from_abs, unsigned_abs-mul}
 use Rattle.std.proofs.Math.Nat.{mul-le-mul_left}
 use Rattle.fx_fixed.specs.Numbers.{near_of}
+use Rattle.fx_fixed.specs.Sizes.{IsPpem, max_ppem}
 use Rattle.fx_sfnt.specs.Tables.{Face}
 use Rattle.fx_cmap.specs.Lookup.{Segments}
 use Rattle.fx_bdf.specs.declared.header.Header.{Header}
@@ -15,6 +16,7 @@ use Rattle.fx_strike.specs.declared.refusal.Refusal.{Refusal}
 use Rattle.fx_strike.specs.declared.refusal.Refusal.TheVariants.{WriteFailed, ReadFailed, BadHex, InputTooLarge, OutOfMemory}
 use Rattle.fx_strike.specs.declared.gathered.Gathered.{Gathered}
 use Rattle.fx_strike.specs.declared.made.Made.{Made}
+use Rattle.fx_strike.specs.declared.request.Report.{Report}
 use Rattle.fx_strike.specs.Faults.{Fails}
 use Rattle.fx_strike.specs.Characters.{rising}
 use Rattle.fx_strike.specs.Strike.{Sketch, Plan, pixels, is_missing, sketches_of, opened_of, plan_in, plan_of, strike_text}
@@ -22,18 +24,18 @@ use Rattle.fx_strike.specs.Headline.{IsCause}
 use Rattle.fx_strike.specs.Gathering.{Holds, heading_of, Finishes, IsMadeOf, Makes}
 use Rattle.fx_strike.proofs.Gathering.{fails_on}
 
--- ---- where the plan stops
+-- ---- when the plan stops
 
 plan_unopened : (file : List ℕ) (ppem : ℕ) (name chars : List ℕ) (hinting : Bool) (d : Refusal)
     → opened_of file ppem name chars hinting ≡ Err d → plan_of file ppem name chars hinting ≡ Err d
 unfolding plan_of
 plan_unopened file ppem name chars hinting d h = rw h
 
-plan_opened : (file : List ℕ) (ppem : ℕ) (name chars : List ℕ) (hinting : Bool) (face : Face) (segments : Segments)
-    → opened_of file ppem name chars hinting ≡ Ok (face, segments)
-    → plan_of file ppem name chars hinting ≡ plan_in face segments ppem name chars
+plan_opened : (file : List ℕ) (ppem : ℕ) (name chars : List ℕ) (hinting : Bool) (size : ℕ) (face : Face) (segments : Segments)
+    → opened_of file ppem name chars hinting ≡ Ok (size, face, segments)
+    → plan_of file ppem name chars hinting ≡ plan_in face segments size name chars
 unfolding plan_of
-plan_opened file ppem name chars hinting face segments h = rw h
+plan_opened file ppem name chars hinting size face segments h = rw h
 
 plan_refused : (face : Face) (segments : Segments) (ppem : ℕ) (name chars : List ℕ) (d : Refusal)
     → sketches_of face segments ppem (rising chars) ≡ Err d → plan_in face segments ppem name chars ≡ Err d
@@ -75,10 +77,12 @@ pub unopened : (file : List ℕ) (ppem : ℕ) (name chars : List ℕ) (hinting :
 unopened file ppem name chars hinting r e d p q h c =
     makes_err (plan_of file ppem name chars hinting) r e d p q (fails_cause d (plan_of file ppem name chars hinting) c (plan_unopened file ppem name chars hinting d (sym h)))
 
-pub opened : (file : List ℕ) (ppem : ℕ) (name chars : List ℕ) (hinting : Bool) (face : Face) (segments : Segments) (r : Result Made Refusal)
-    → Ok (face, segments) ≡ opened_of file ppem name chars hinting → Makes (plan_in face segments ppem name chars) r → Makes (plan_of file ppem name chars hinting) r
-opened file ppem name chars hinting face segments r h m =
-    let P : Result Plan Refusal → Type 0 = λ due. Makes due r in subst P (sym (plan_opened file ppem name chars hinting face segments (sym h))) m
+pub opened : (file : List ℕ) (ppem : ℕ) (name chars : List ℕ) (hinting : Bool) (size : ℕ) (face : Face) (segments : Segments)
+    (r : Result Made Refusal) → Ok (size, face, segments) ≡ opened_of file ppem name chars hinting
+    → Makes (plan_in face segments size name chars) r → Makes (plan_of file ppem name chars hinting) r
+opened file ppem name chars hinting size face segments r h m =
+    let P : Result Plan Refusal → Type 0 = λ due. Makes due r in
+    subst P (sym (plan_opened file ppem name chars hinting size face segments (sym h))) m
 
 pub ungathered : (face : Face) (segments : Segments) (ppem : ℕ) (name chars codes : List ℕ) (r : Result Made Refusal) (e d : Refusal) → r ≡ Err e → e ≡ d
     → codes ≡ rising chars → Fails d (sketches_of face segments ppem codes) → Makes (plan_in face segments ppem name chars) r
@@ -101,14 +105,19 @@ made_of face segments ppem name chars gathered made g f =
       glyphs = n;
     } in
     let heads : header_text name (heading_of face ppem gathered) ≡ header_text name (heading (bounds_of (map (λ x. x.box) g.glyphs)) (length g.sketches))
-    = ap (λ (b : Box). header_text name (heading b gathered.glyphs)) g.bounds ∙ ap (λ (n : ℕ). header_text name (heading (bounds_of (map (λ x. x.box) g.glyphs)) n)) g.count in
+    = ap (λ (b : Box). header_text name (heading b gathered.report.glyphs)) g.bounds ∙ ap (λ (n : ℕ). header_text name (heading (bounds_of (map (λ x. x.box) g.glyphs)) n)) g.count in
     record {
       plan = whole_plan ppem name chars face segments g.sketches;
       glyphs = g.glyphs;
       is = plan_whole face segments ppem name chars g.sketches g.planned;
       drawn = g.drawn;
       text = ap (λ (t : List ℕ). t ++ made.body.bytes.items) (f.head ∙ heads) ∙ ap (λ (t : List ℕ). header_text name (heading (bounds_of (map (λ x. x.box) g.glyphs)) (length g.sketches)) ++ t) (f.body ∙ ap (λ (t : List ℕ). t ++ end_text) g.text);
-      told = record { glyphs = f.glyphs ∙ g.count; missing = f.missing ∙ g.missing; strays = f.strays ∙ g.strays; steps = f.steps ∙ g.steps };
+      told = record {
+        glyphs = ap (λ (r : Report). r.glyphs) f.report ∙ g.count;
+        missing = ap (λ (r : Report). r.missing) f.report ∙ g.missing;
+        strays = ap (λ (r : Report). r.strays) f.report ∙ g.strays;
+        steps = ap (λ (r : Report). r.steps) f.report ∙ g.steps;
+      };
     }
 
 pub finished : (face : Face) (segments : Segments) (ppem : ℕ) (name chars codes : List ℕ) (gathered : Gathered) (header : Header) (r : Result Made Refusal)
@@ -121,10 +130,13 @@ finished face segments ppem name chars codes gathered header (Ok made) c g q f e
 finished face segments ppem name chars codes gathered header (Err d) c g q f e =
     let P : Refusal → Type 0 = λ x. Fails x (plan_in face segments ppem name chars) in subst P (sym e) tt
 
--- ---- words for answers
+-- ---- lemmas for answers
+
+pub most : {pixels ppem : ℕ} → pixels ≡ ppem → IsPpem pixels → ppem ≤ max_ppem
+most e h = omega (arith, e, h.most)
 
 -- FUnits in whole pixels, as the code casts them
-pub whole_is : (units : ℤ) (ppem em : ℕ) (f g h r : ℤ) → FitsSigned w32 units → unsigned_abs units ≤ 32768 → ppem ≤ 255
+pub whole_is : (units : ℤ) (ppem em : ℕ) (f g h r : ℤ) → FitsSigned w32 units → unsigned_abs units ≤ 32768 → ppem ≤ max_ppem
     → em < 2 ^ 16 → f ≡ to_z w32 (of_z w32 units) → g ≡ pos ppem → h ≡ pos em
     → r ≡ near_of (to_z w128 (of_z w128 (to_z w128 (of_z w128 f) *ℤ to_z w128 (of_z w128 g)))) (to_z w128 (of_z w128 h))
     → unsigned_abs r ≤ unsigned_abs (to_z w128 (of_z w128 (to_z w128 (of_z w128 f) *ℤ to_z w128 (of_z w128 g))))

@@ -13,11 +13,11 @@ use Rattle.fx_winding.specs.Winding.{Span}
 use Rattle.fx_winding.specs.Outside.{HasAll, OptionAll, AreOfOutline, joined}
 use Rattle.fx_hint.specs.declared.outline.OutlinePoint.{OutlinePoint}
 use Rattle.fx_contour.specs.declared.fault.ContourFault.TheVariants.{TooFar, TooLarge}
-use Rattle.fx_contour.specs.Curve.{doubled, middle, joint, span_at, first_of, last_of, spans_between, curve_of}
-use Rattle.fx_contour.specs.Contours.{IsNear, is_near, contours_from, spans_of, drawn_of}
+use Rattle.fx_contour.specs.Curve.{doubled_of, middle_of, joint_of, span_at, first_or, last_or, spans_between, curve_of}
+use Rattle.fx_contour.specs.Contours.{IsInReach, is_in_reach, contours_from, spans_of, drawn_of}
 use Rattle.fx_contour.specs.Frames.{HaveAny, AreTooLarge, is_too_large, framed_of}
 use Rattle.fx_contour.proofs.Closed.{all_closed}
-use Rattle.fx_contour.proofs.Decided.{near_is_tested, large_is_tested}
+use Rattle.fx_contour.proofs.Decided.{reach_is_tested, large_is_tested}
 
 -- ---- near
 
@@ -31,15 +31,15 @@ AreNear (s ∷ ss) = HasAll IsNearPlace s × AreNear ss
 
 abbrev NearPoints : List OutlinePoint → Type 0
 NearPoints [] = Unit {0}
-NearPoints (p ∷ ps) = IsNear p × NearPoints ps
+NearPoints (p ∷ ps) = IsInReach p × NearPoints ps
 
-doubled_near : (p : OutlinePoint) → IsNear p → IsNearPlace (doubled p)
+doubled_near : (p : OutlinePoint) → IsInReach p → IsNearPlace (doubled_of p)
 doubled_near p h = (twice p.x h.0, twice p.y h.1)
   where
     twice : (z : ℤ) → IsWithin (2 ^ 21) z → IsWithin (2 ^ 22) (pos 2 *ℤ z)
     twice z h = (omega (arith, signed, h), omega (arith, signed, h))
 
-middle_near : (p q : OutlinePoint) → IsNear p → IsNear q → IsNearPlace (middle p q)
+middle_near : (p q : OutlinePoint) → IsInReach p → IsInReach q → IsNearPlace (middle_of p q)
 middle_near p q h k =
     ((omega (arith, signed_linear, h.0, k.0), omega (arith, signed_linear, h.0, k.0)), (omega (arith, signed_linear, h.1, k.1), omega (arith, signed_linear, h.1, k.1)))
 
@@ -47,10 +47,10 @@ either : (P : Place → Type 0) (t : Bool) (x y : Place) → P x → P y → P (
 either P true x y h k = h
 either P false x y h k = k
 
-joint_near : (p q : OutlinePoint) → IsNear p → IsNear q → IsNearPlace (joint p q)
+joint_near : (p q : OutlinePoint) → IsInReach p → IsInReach q → IsNearPlace (joint_of p q)
 joint_near p q h k =
-    either IsNearPlace p.on_curve (doubled p) (if q.on_curve then doubled q else middle p q) (doubled_near p h)
-    (either IsNearPlace q.on_curve (doubled q) (middle p q) (doubled_near q k) (middle_near p q h k))
+    either IsNearPlace p.on_curve (doubled_of p) (if q.on_curve then doubled_of q else middle_of p q) (doubled_near p h)
+    (either IsNearPlace q.on_curve (doubled_of q) (middle_of p q) (doubled_near q k) (middle_near p q h k))
 
 append_near : (ss ts : List Span) → AreNear ss → AreNear ts → AreNear (ss ++ ts)
 append_near [] ts h k = k
@@ -62,29 +62,29 @@ listed_near true true s r h k = (h, tt)
 listed_near true false s r h k = tt
 listed_near false u s r h k = (k, tt)
 
-span_near : (p q r : OutlinePoint) → IsNear p → IsNear q → IsNear r → AreNear (option_to_list (span_at p q r))
+span_near : (p q r : OutlinePoint) → IsInReach p → IsInReach q → IsInReach r → AreNear (option_to_list (span_at p q r))
 span_near p q r h k l =
-    listed_near q.on_curve p.on_curve (record { a = doubled p; b = None; c = doubled q }) (record { a = joint p q; b = Some (doubled q); c = joint q r })
+    listed_near q.on_curve p.on_curve (record { a = doubled_of p; b = None; c = doubled_of q }) (record { a = joint_of p q; b = Some (doubled_of q); c = joint_of q r })
     (doubled_near p h, tt, doubled_near q k) (joint_near p q h k, doubled_near q k, joint_near q r k l)
 
-first_near : (qs : List OutlinePoint) (r : OutlinePoint) → NearPoints qs → IsNear r → IsNear (first_of qs r)
+first_near : (qs : List OutlinePoint) (r : OutlinePoint) → NearPoints qs → IsInReach r → IsInReach (first_or qs r)
 first_near [] r h k = k
 first_near (q ∷ qs) r h k = h.0
 
-last_near : (p : OutlinePoint) (qs : List OutlinePoint) → IsNear p → NearPoints qs → IsNear (last_of p qs)
+last_near : (p : OutlinePoint) (qs : List OutlinePoint) → IsInReach p → NearPoints qs → IsInReach (last_or p qs)
 last_near p [] h k = h
 last_near p (q ∷ qs) h k = last_near q qs k.0 k.1
 
-between_near : (p : OutlinePoint) (qs : List OutlinePoint) (r : OutlinePoint) → IsNear p → NearPoints qs → IsNear r
+between_near : (p : OutlinePoint) (qs : List OutlinePoint) (r : OutlinePoint) → IsInReach p → NearPoints qs → IsInReach r
     → AreNear (spans_between p qs r)
 between_near p [] r h k l = tt
 between_near p (q ∷ qs) r h k l =
-    append_near (option_to_list (span_at p q (first_of qs r))) (spans_between q qs r) (span_near p q (first_of qs r) h k.0 (first_near qs r k.1 l)) (between_near q qs r k.0 k.1 l)
+    append_near (option_to_list (span_at p q (first_or qs r))) (spans_between q qs r) (span_near p q (first_or qs r) h k.0 (first_near qs r k.1 l)) (between_near q qs r k.0 k.1 l)
 
 curve_near : (ps : List OutlinePoint) → NearPoints ps → AreNear (curve_of ps)
 curve_near [] h = tt
 curve_near (p ∷ []) h = tt
-curve_near (p ∷ q ∷ qs) h = between_near (last_of q qs) (p ∷ q ∷ qs) p (last_near q qs h.1.0 h.1.1) h h.0
+curve_near (p ∷ q ∷ qs) h = between_near (last_or q qs) (p ∷ q ∷ qs) p (last_near q qs h.1.0 h.1.1) h h.0
 
 take_near : (n : ℕ) (ps : List OutlinePoint) → NearPoints ps → NearPoints (take n ps)
 take_near zero ps h = tt
@@ -103,7 +103,7 @@ contours_near start (e ∷ es) ps h =
     append_near (curve_of (take (e + 1 - start) (drop start ps))) (joined (map curve_of (contours_from (e + 1) es ps)))
     (curve_near (take (e + 1 - start) (drop start ps)) (take_near (e + 1 - start) (drop start ps) (drop_near start ps h))) (contours_near (e + 1) es ps h)
 
-points_near : (ps : List OutlinePoint) → AllByRecursion IsNear ps → NearPoints ps
+points_near : (ps : List OutlinePoint) → AllByRecursion IsInReach ps → NearPoints ps
 points_near [] h = tt
 points_near (p ∷ ps) h = (h.0, points_near ps h.1)
 
@@ -120,11 +120,11 @@ not_false false h = absurd (cc)
 pub are_drawn : (ends : List ℕ) (points : List OutlinePoint) (ss : List Span) → drawn_of ends points ≡ Ok ss → AreDrawn ss
 unfolding drawn_of
 are_drawn ends points ss h =
-    let p = refuse_ok (not (list_all is_near points)) TooFar (λ _. Ok (spans_of ends points)) ss h in
-    let near = (near_is_tested points).0 (not_false (list_all is_near points) p.0) in
+    let p = refuse_ok (not (list_all is_in_reach points)) TooFar (λ _. Ok (spans_of ends points)) ss h in
+    let near = (reach_is_tested points).0 (not_false (list_all is_in_reach points) p.0) in
     let same : spans_of ends points ≡ ss = cc (p.1) in
     subst AreDrawn same (record {
-      near = contours_near 0 ends points (points_near points (recursion_from_All IsNear points near));
+      near = contours_near 0 ends points (points_near points (recursion_from_All IsInReach points near));
       closed = (map curve_of (contours_from 0 ends points), all_closed (contours_from 0 ends points), refl);
     })
 

@@ -1,9 +1,10 @@
 -- A sketch has one glyph, a strike one text, and a character one part in all strikes that hold it.
 use Rattle.std.proofs.Common.{◌≡◌, refl, sym, ap, ◌∙◌, subst, arith, ℕ, zero, suc, ◌<◌, ℤ, pos, Bool, true, false, not, List, [], ◌∷◌, length, get_or, Result, Ok}
-use Rattle.std.specs.Prelude.{IsTrue, Contains, neg_ℤ, filter}
-use Rattle.std.specs.List.{count_by}
-use Rattle.fx_fixed.specs.Chain.{◌>>=◌, map_fault, map_chain}
+use Rattle.std.specs.Prelude.{IsTrue, Contains, neg_ℤ, filter, nat_lt, ◌||◌}
+use Rattle.std.specs.List.{count_by, list_any}
+use Rattle.fx_fixed.specs.Chain.{◌>>=◌, refuse, wanted, map_fault, map_chain}
 use Rattle.fx_fixed.specs.Numbers.{near_of}
+use Rattle.fx_fixed.specs.Sizes.{ppem_of}
 use Rattle.fx_fixed.proofs.Chain.{bind_ok, map_fault_ok, same_Ok}
 use Rattle.fx_sfnt.specs.Tables.{Face, font_of}
 use Rattle.fx_sfnt.specs.Glyphs.{metrics_of}
@@ -14,7 +15,10 @@ use Rattle.fx_winding.specs.Winding.{Span}
 use Rattle.fx_contour.specs.Contours.{drawn_of}
 use Rattle.fx_contour.specs.Frames.{framed_of}
 use Rattle.fx_bdf.specs.Glyphs.{Glyph, TrimmedIsOne, glyph_bit}
+use Rattle.fx_bdf.specs.Text.{is_name}
 use Rattle.fx_strike.specs.declared.refusal.Refusal.{Refusal}
+use Rattle.fx_strike.specs.declared.refusal.Refusal.TheVariants.{BadSize, BadChars, BadName, NotBuilt}
+use Rattle.fx_strike.specs.Limits.{max_characters, max_code}
 use Rattle.fx_strike.specs.Faults.{of_font, of_char_map, of_hint, of_contour}
 use Rattle.fx_strike.specs.Characters.{rising}
 use Rattle.fx_strike.specs.Strike.{Sketch, Plan, AreGlyphsOf, thousandths, pixels, glyph_sketch_of, sketch_of, is_missing, sketches_of, checked, opened_of, plan_in, plan_of, strike_text}
@@ -104,41 +108,61 @@ chain_at {A} {B} f (x ∷ xs) ys h k d l =
     at f x y ys p r zero d l = (x, p)
     at f x y ys p r (suc k) d l = r k d (omega arith)
 
+-- the size of a request that passes its checks
+size_of_checked : (ppem : ℕ) (name chars : List ℕ) (hinting : Bool) (size : ℕ) → checked ppem name chars hinting ≡ Ok size
+    → wanted (ppem_of ppem) BadSize ≡ Ok size
+unfolding checked
+size_of_checked ppem name chars hinting size h =
+    let many : Bool = nat_lt max_characters (length chars) || list_any (nat_lt max_code) chars in
+    let unhinted : ℕ → Result ℕ Refusal = λ n. refuse hinting NotBuilt >>= λ _. Ok n in
+    let named : ℕ → Result ℕ Refusal = λ n. refuse (not (is_name name)) BadName >>= λ _. unhinted n in
+    let a = bind_ok (wanted (ppem_of ppem) BadSize) (λ n. refuse many BadChars >>= λ _. named n) size h in
+    let b = bind_ok (refuse many BadChars) (λ _. named a.0) size a.2 in
+    let c = bind_ok (refuse (not (is_name name)) BadName) (λ _. unhinted a.0) size b.2 in
+    let d = bind_ok (refuse hinting NotBuilt) (λ _. Ok a.0) size c.2 in
+    a.1 ∙ d.2
+
 -- the parts of a plan
 pub record Parts (file : List ℕ) (ppem : ℕ) (chars : List ℕ) (ss : List Sketch) : Type 0 where
+  pub size : ℕ
   pub face : Face
   pub segments : Segments
+  pub sized : wanted (ppem_of ppem) BadSize ≡ Ok size
   pub font : font_of file ≡ Ok face
   pub map_is : map_of_file face.file ≡ Ok segments
-  pub sketches : sketches_of face segments ppem (rising chars) ≡ Ok ss
+  pub sketches : sketches_of face segments size (rising chars) ≡ Ok ss
 
 pub parts_of : (file : List ℕ) (ppem : ℕ) (name chars : List ℕ) (hinting : Bool) (plan : Plan)
     → plan_of file ppem name chars hinting ≡ Ok plan → Parts file ppem chars plan.sketches
 unfolding opened_of plan_in plan_of
 parts_of file ppem name chars hinting plan h =
-    let last : Face → Segments → List Sketch → Plan = λ face segments ss. record {
+    let last : ℕ → Face → Segments → List Sketch → Plan = λ size face segments ss. record {
       name = name;
-      ppem = ppem;
-      ascent = pixels face.hhea.ascender ppem face.head.units_per_em;
-      descent = pixels (neg_ℤ face.hhea.descender) ppem face.head.units_per_em;
+      ppem = size;
+      ascent = pixels face.hhea.ascender size face.head.units_per_em;
+      descent = pixels (neg_ℤ face.hhea.descender) size face.head.units_per_em;
       sketches = ss;
       missing = count_by (is_missing segments) (rising chars);
     } in
-    let mapped : Face → Result (Face × Segments) Refusal = λ face. map_fault of_char_map (map_of_file face.file) >>= λ segments. Ok (face, segments) in
-    let o = bind_ok (opened_of file ppem name chars hinting) (λ opened. plan_in opened.0 opened.1 ppem name chars) plan h in
-    let a = bind_ok (checked ppem name chars hinting) (λ _. map_fault of_font (font_of file) >>= mapped) o.0 o.1 in
-    let b = bind_ok (map_fault of_font (font_of file)) mapped o.0 a.2 in
-    let c = bind_ok (map_fault of_char_map (map_of_file b.0.file)) (λ segments. Ok (b.0, segments)) o.0 b.2 in
-    let pair : (b.0, c.0) ≡ o.0 = cc (c.2) in
-    let P : Face × Segments → Type 0 = λ x. plan_in x.0 x.1 ppem name chars ≡ Ok plan in
-    let d = bind_ok (sketches_of b.0 c.0 ppem (rising chars)) (λ ss. Ok (last b.0 c.0 ss)) plan (subst P (sym {a = (b.0, c.0)} pair) o.2) in
-    let e : last b.0 c.0 d.0 ≡ plan = cc (d.2) in
+    let mapped : ℕ → Face → Result (ℕ × Face × Segments) Refusal
+    = λ size face. map_fault of_char_map (map_of_file face.file) >>= λ segments. Ok (size, face, segments) in
+    let o = bind_ok (opened_of file ppem name chars hinting) (λ opened. plan_in opened.1 opened.2 opened.0 name chars) plan h in
+    let a = bind_ok (checked ppem name chars hinting) (λ size. map_fault of_font (font_of file) >>= mapped size) o.0 o.1 in
+    let b = bind_ok (map_fault of_font (font_of file)) (mapped a.0) o.0 a.2 in
+    let c = bind_ok (map_fault of_char_map (map_of_file b.0.file)) (λ segments. Ok (a.0, b.0, segments)) o.0 b.2 in
+    let all : (a.0, b.0, c.0) ≡ o.0 = cc (c.2) in
+    let P : ℕ × Face × Segments → Type 0 = λ x. plan_in x.1 x.2 x.0 name chars ≡ Ok plan in
+    let d = bind_ok (sketches_of b.0 c.0 a.0 (rising chars)) (λ ss. Ok (last a.0 b.0 c.0 ss)) plan
+    (subst P (sym {a = (a.0, b.0, c.0)} all) o.2) in
+    let e : last a.0 b.0 c.0 d.0 ≡ plan = cc (d.2) in
     record {
+      size = a.0;
       face = b.0;
       segments = c.0;
+      sized = size_of_checked ppem name chars hinting a.0 a.1;
       font = map_fault_ok of_font (font_of file) b.0 b.1;
       map_is = map_fault_ok of_char_map (map_of_file b.0.file) c.0 c.1;
-      sketches = sketches_along (last b.0 c.0 d.0) plan (sketches_of b.0 c.0 ppem (rising chars)) e d.1;
+      sketches = sketches_along (last a.0 b.0 c.0 d.0) plan (sketches_of b.0 c.0 a.0 (rising chars)) e d.1;
     }
   where
     sketches_along : (x plan : Plan) (r : Result (List Sketch) Refusal) → x ≡ plan → r ≡ Ok x.sketches → r ≡ Ok plan.sketches
@@ -146,11 +170,12 @@ parts_of file ppem name chars hinting plan h =
 
 -- a sketch of a plan is that of its code point
 sketch_there : (file : List ℕ) (ppem : ℕ) (chars : List ℕ) (ss : List Sketch) (p : Parts file ppem chars ss) (s : Sketch)
-    → Contains ss s → sketch_of p.face p.segments ppem s.code ≡ Ok s
+    → Contains ss s → sketch_of p.face p.segments p.size s.code ≡ Ok s
 sketch_there file ppem chars ss p s h =
-    let x = chain_at (sketch_of p.face p.segments ppem) (filter (λ c. not (is_missing p.segments c)) (rising chars)) ss p.sketches h.0 s h.1 in
-    let here : sketch_of p.face p.segments ppem x.0 ≡ Ok s = x.1 ∙ ap Ok h.2 in
-    ap (sketch_of p.face p.segments ppem) (sketch_code p.face ppem x.0 _ s here) ∙ here
+    let codes : List ℕ = filter (λ c. not (is_missing p.segments c)) (rising chars) in
+    let x = chain_at (sketch_of p.face p.segments p.size) codes ss p.sketches h.0 s h.1 in
+    let here : sketch_of p.face p.segments p.size x.0 ≡ Ok s = x.1 ∙ ap Ok h.2 in
+    ap (sketch_of p.face p.segments p.size) (sketch_code p.face p.size x.0 _ s here) ∙ here
 
 pub part_is_one : PartIsOne
 part_is_one file ppem hinting name name2 chars chars2 plan plan2 h g s t i j e =
@@ -159,6 +184,10 @@ part_is_one file ppem hinting name name2 chars chars2 plan plan2 h g s t i j e =
     let faces : p.face ≡ q.face = same_Ok p.face q.face p.font q.font in
     let F : Face → Type 0 = λ face. map_of_file face.file ≡ Ok p.segments in
     let maps : p.segments ≡ q.segments = same_Ok p.segments q.segments (subst F faces p.map_is) q.map_is in
+    let sizes : p.size ≡ q.size = same_Ok p.size q.size p.sized q.sized in
     same_Ok s t
-    (ap (λ (c : ℕ). sketch_of q.face q.segments ppem c) (sym e) ∙ ap (λ (m : Segments). sketch_of q.face m ppem s.code) (sym maps) ∙ ap (λ (f : Face). sketch_of f p.segments ppem s.code) (sym faces) ∙ sketch_there file ppem chars plan.sketches p s i)
+    (ap (λ (c : ℕ). sketch_of q.face q.segments q.size c) (sym e)
+    ∙ ap (λ (m : Segments). sketch_of q.face m q.size s.code) (sym maps)
+    ∙ ap (λ (f : Face). sketch_of f p.segments q.size s.code) (sym faces)
+    ∙ ap (λ (n : ℕ). sketch_of p.face p.segments n s.code) (sym sizes) ∙ sketch_there file ppem chars plan.sketches p s i)
     (sketch_there file ppem chars2 plan2.sketches q t j)

@@ -1,4 +1,5 @@
--- The code points in rising order: they rise, they are those that are asked for, and no other list is so.
+-- The code points in rising order: they rise, they are those of the request, and no other list is so.
+-- Serves the law `rising`, and the answers of `rising_codes` and `make_opened`.
 use Rattle.std.proofs.Common.{◌≡◌, ◌⊎◌, inl, inr, refl, sym, ap, ◌∙◌, subst, arith, ℕ, suc, ◌<◌, ◌≤◌, Bool, true, false, List, [], ◌∷◌, length}
 use Rattle.std.specs.Prelude.{◌||◌}
 use Rattle.std.specs.List.{dedup, list_any}
@@ -11,6 +12,7 @@ use Rattle.std.proofs.lemmas.Map.Keys.{IsStrictlyIncreasing-dedup}
 use Rattle.std.proofs.lemmas.Bool.{or_parts}
 use lib.Dec.{eqb}
 use Rattle.fx_fixed.proofs.Rising.{IsAbove, Rise, IsIn, contains_in, in_contains, rise_increasing, increasing_one}
+use Rattle.fx_strike.specs.Limits.{max_characters}
 use Rattle.fx_strike.specs.Characters.{with_code, rising, RisingAreRisen, RisenIsOne}
 
 -- ---- one code point put in its place
@@ -31,8 +33,8 @@ put_before c d ds h = grind (arith, nat_tests)
 put_at : (c d : ℕ) (ds : List ℕ) → c ≡ d → with_code c (d ∷ ds) ≡ d ∷ ds
 put_at c d ds h = grind (arith, nat_tests)
 
-put_behind : (c d : ℕ) (ds : List ℕ) → d < c → with_code c (d ∷ ds) ≡ d ∷ with_code c ds
-put_behind c d ds h = grind (arith, nat_tests)
+put_after : (c d : ℕ) (ds : List ℕ) → d < c → with_code c (d ∷ ds) ≡ d ∷ with_code c ds
+put_after c d ds h = grind (arith, nat_tests)
 
 above_put : (b c : ℕ) (ds : List ℕ) → b < c → IsAbove b ds → IsAbove b (with_code c ds)
 above_put b c [] h g = h
@@ -41,7 +43,7 @@ above_put b c (d ∷ ds) h g =
     by_order c d
     (λ e. subst P (sym (put_before c d ds e)) h)
     (λ e. subst P (sym (put_at c d ds e)) g)
-    (λ e. subst P (sym (put_behind c d ds e)) g)
+    (λ e. subst P (sym (put_after c d ds e)) g)
 
 put_rises : (c : ℕ) (ds : List ℕ) → Rise ds → Rise (with_code c ds)
 put_rises c [] h = (tt, tt)
@@ -50,9 +52,9 @@ put_rises c (d ∷ ds) h =
     by_order c d
     (λ e. subst P (sym (put_before c d ds e)) (e, h))
     (λ e. subst P (sym (put_at c d ds e)) h)
-    (λ e. subst P (sym (put_behind c d ds e)) (above_put d c ds e h.0, put_rises c ds h.1))
+    (λ e. subst P (sym (put_after c d ds e)) (above_put d c ds e h.0, put_rises c ds h.1))
 
--- what is put in, and what stands there
+-- what is put in, and what was there
 put_in : (x c : ℕ) (ds : List ℕ) → (x ≡ c) ⊎ IsIn x ds → IsIn x (with_code c ds)
 put_in x c [] h = h
 put_in x c (d ∷ ds) h =
@@ -60,7 +62,7 @@ put_in x c (d ∷ ds) h =
     by_order c d
     (λ e. subst P (sym (put_before c d ds e)) h)
     (λ e. subst P (sym (put_at c d ds e)) (elim h [ inl p ↦ inl (p ∙ e) | inr p ↦ p ]))
-    (λ e. subst P (sym (put_behind c d ds e)) (elim h [ inl p ↦ inr (put_in x c ds (inl p)) | inr (inl p) ↦ inl p | inr (inr p) ↦ inr (put_in x c ds (inr p)) ]))
+    (λ e. subst P (sym (put_after c d ds e)) (elim h [ inl p ↦ inr (put_in x c ds (inl p)) | inr (inl p) ↦ inl p | inr (inr p) ↦ inr (put_in x c ds (inr p)) ]))
 
 put_from : (x c : ℕ) (ds : List ℕ) → IsIn x (with_code c ds) → (x ≡ c) ⊎ IsIn x ds
 put_from x c [] h = h
@@ -69,7 +71,7 @@ put_from x c (d ∷ ds) h =
     by_order c d
     (λ e. subst P (put_before c d ds e) h)
     (λ e. inr (subst P (put_at c d ds e) h))
-    (λ e. elim (subst P (put_behind c d ds e) h) [ inl p ↦ inr (inl p) | inr p ↦ past x c d ds (put_from x c ds p) ])
+    (λ e. elim (subst P (put_after c d ds e) h) [ inl p ↦ inr (inl p) | inr p ↦ past x c d ds (put_from x c ds p) ])
   where
     past : (x c d : ℕ) (ds : List ℕ) → (x ≡ c) ⊎ IsIn x ds → (x ≡ c) ⊎ ((x ≡ d) ⊎ IsIn x ds)
     past x c d ds (inl p) = inl p
@@ -110,7 +112,7 @@ sorted_is_rising chars sorted codes p s e =
       same = λ c. (λ h. Contains-permutation sorted chars c (IsPermutation-sym chars sorted p) (Contains-from_dedup eqb sorted c h), λ h. Contains-dedup_nat sorted c (Contains-permutation chars sorted c p h));
     }) (rising_are_risen chars)
 
--- no more than are asked for
+-- no more than the request has
 pub length_rising : (chars : List ℕ) → length (rising chars) ≤ length chars
 unfolding rising
 length_rising [] = omega arith
@@ -123,10 +125,10 @@ length_rising (c ∷ cs) = omega (arith, length_rising cs, length_put c (rising 
         by_order c d
         (λ e. subst P (sym (put_before c d ds e)) (omega arith))
         (λ e. subst P (sym (put_at c d ds e)) (omega arith))
-        (λ e. subst P (sym (put_behind c d ds e)) (omega (arith, length_put c ds)))
+        (λ e. subst P (sym (put_after c d ds e)) (omega (arith, length_put c ds)))
 
 -- the same for a copy
-pub few_rising : (chars codes : List ℕ) → codes ≡ rising chars → length chars ≤ 65536 → length codes ≤ 65536
+pub few_rising : (chars codes : List ℕ) → codes ≡ rising chars → length chars ≤ max_characters → length codes ≤ max_characters
 few_rising chars codes e h = omega (arith, ap length e, length_rising chars)
 
 any_put : (p : ℕ → Bool) (c : ℕ) (ds : List ℕ) → p c ≡ false → list_any p ds ≡ false → list_any p (with_code c ds) ≡ false
@@ -137,13 +139,13 @@ any_put p c (d ∷ ds) h g =
     by_order c d
     (λ e. subst P (sym (put_before c d ds e)) (neither (p c) (list_any p (d ∷ ds)) h g))
     (λ e. subst P (sym (put_at c d ds e)) g)
-    (λ e. subst P (sym (put_behind c d ds e)) (neither (p d) (list_any p (with_code c ds)) q.0 (any_put p c ds h q.1)))
+    (λ e. subst P (sym (put_after c d ds e)) (neither (p d) (list_any p (with_code c ds)) q.0 (any_put p c ds h q.1)))
 
 any_rising : (p : ℕ → Bool) (chars : List ℕ) → list_any p chars ≡ false → list_any p (rising chars) ≡ false
 unfolding rising
 any_rising p [] h = h
 any_rising p (c ∷ cs) h = let q = or_parts (p c) (list_any p cs) h in any_put p c (rising cs) q.0 (any_rising p cs q.1)
 
--- none is past a limit where none that is asked for is
+-- none is past a limit if none of the request is
 pub small_rising : (p : ℕ → Bool) (chars codes : List ℕ) → codes ≡ rising chars → list_any p chars ≡ false → list_any p codes ≡ false
 small_rising p chars codes e h = ap (list_any p) e ∙ any_rising p chars h

@@ -101,7 +101,7 @@ drawn_whole face ppem code glyph drawing ss swidth bits made code' swidth' dwidt
       },
     )
 
--- ---- words for answers
+-- ---- lemmas for answers
 
 -- the result of a rounding, as the code casts it
 pub near_64_is : (a f r : ℤ) → FitsSigned w32 a → f ≡ to_z w32 (of_z w32 a) → r ≡ near_of (to_z w64 (of_z w64 f)) (pos 64) → r ≡ near_of a (pos 64)

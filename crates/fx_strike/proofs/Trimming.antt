@@ -5,7 +5,7 @@ use Rattle.std.specs.Prelude.{if◌then◌else◌}
 use Rattle.std.proofs.lemmas.Bool.Decides.{Decides-below_or}
 use Rattle.std.proofs.lemmas.Int.{ints}
 use Rattle.fx_fixed.proofs.Linear.{signed_linear}
-use Rattle.fx_cmap.specs.Lookup.{numbered}
+use Rattle.fx_cmap.specs.Lookup.{each_number}
 use Rattle.fx_winding.specs.Frames.{steps}
 use Rattle.fx_bdf.specs.Glyphs.{Box, Glyph, HasSides, IsFormed, IsTrimmed, is_in_box, no_box, last_of, glyph_bit}
 use Rattle.fx_bdf.proofs.Boxes.{from_true, steps_above, steps_below, in_columns, in_rows}
@@ -80,16 +80,16 @@ some_decides p n = Decides-below_or p (λ k. p k ≡ true) (some p) (λ k. (λ e
 
 -- ---- lists by numbers
 
-get_numbered : {X : Type 0} (f : ℕ → X) (s n k : ℕ) (d : X) → k < n → get_or (numbered f s n) k d ≡ f (s + k)
+get_numbered : {X : Type 0} (f : ℕ → X) (s n k : ℕ) (d : X) → k < n → get_or (each_number f s n) k d ≡ f (s + k)
 get_numbered f s zero k d l = absurd (omega arith)
 get_numbered f s (suc n) zero d l = let e : s ≡ s + 0 = omega arith in ap f e
 get_numbered f s (suc n) (suc k) d l = let e : suc s + k ≡ s + suc k = omega arith in get_numbered f (suc s) n k d (omega arith) ∙ ap f e
 
-length_numbered : {X : Type 0} (f : ℕ → X) (s n : ℕ) → length (numbered f s n) ≡ n
+length_numbered : {X : Type 0} (f : ℕ → X) (s n : ℕ) → length (each_number f s n) ≡ n
 length_numbered f s zero = refl
 length_numbered f s (suc n) = ap suc (length_numbered f (suc s) n)
 
-all_numbered : {X : Type 0} (P : X → Type 0) (f : ℕ → X) (s n : ℕ) → ((k : ℕ) → P (f k)) → All P (numbered f s n)
+all_numbered : {X : Type 0} (P : X → Type 0) (f : ℕ → X) (s n : ℕ) → ((k : ℕ) → P (f k)) → All P (each_number f s n)
 all_numbered P f s n h k d l = subst P (sym (get_numbered f s n k d (omega (arith, length_numbered f s n)))) (h (s + k))
 
 -- ---- the glyph of bits
@@ -146,7 +146,7 @@ bare bit code swidth dwidth none =
 
 -- the rows of the bits in a box
 abbrev line_of : (ℤ → ℤ → Bool) → Box → ℕ → List Bool
-line_of bit box k = numbered (λ c. bit (box.left +ℤ pos c) (box.bottom +ℤ pos (box.height - 1 - k))) 0 box.width
+line_of bit box k = each_number (λ c. bit (box.left +ℤ pos c) (box.bottom +ℤ pos (box.height - 1 - k))) 0 box.width
 
 module _ (bit : ℤ → ℤ → Bool) (base : ℤ) (n : ℕ) where
   -- the bit at these steps from the base
@@ -217,7 +217,7 @@ module _ (bit : ℤ → ℤ → Bool) (base : ℤ) (n : ℕ) where
       }
 
   formed_of : (code : ℕ) (swidth dwidth : ℤ) (c : Reach has_column n) (r : Reach has_row n) → AreSmall bit base n
-      → IsFormed (record { code = code; swidth = swidth; dwidth = dwidth; box = box_of c r; rows = numbered (line_of bit (box_of c r)) 0 (r.last - r.first + 1) })
+      → IsFormed (record { code = code; swidth = swidth; dwidth = dwidth; box = box_of c r; rows = each_number (line_of bit (box_of c r)) 0 (r.last - r.first + 1) })
   formed_of code swidth dwidth c r s =
       let left = column_of c.first c.at_first in
       let right = column_of c.last c.at_last in
@@ -240,7 +240,7 @@ module _ (bit : ℤ → ℤ → Bool) (base : ℤ) (n : ℕ) where
 
   -- the bit of the glyph in its box
   cell : (box : Box) (col row : ℤ) → is_in_box box col row ≡ true
-      → get_or (get_or (numbered (line_of bit box) 0 box.height) (box.height - 1 - steps box.bottom row) []) (steps box.left col) false ≡ bit col row
+      → get_or (get_or (each_number (line_of bit box) 0 box.height) (box.height - 1 - steps box.bottom row) []) (steps box.left col) false ≡ bit col row
   cell box col row h =
       let x = in_columns box col row h in
       let y = in_rows box col row h in
@@ -255,7 +255,7 @@ module _ (bit : ℤ → ℤ → Bool) (base : ℤ) (n : ℕ) where
 
   abbrev glyph_at : ℕ → ℤ → ℤ → Reach has_column n → Reach has_row n → Glyph
   glyph_at code swidth dwidth c r =
-      record { code = code; swidth = swidth; dwidth = dwidth; box = box_of c r; rows = numbered (line_of bit (box_of c r)) 0 (r.last - r.first + 1) }
+      record { code = code; swidth = swidth; dwidth = dwidth; box = box_of c r; rows = each_number (line_of bit (box_of c r)) 0 (r.last - r.first + 1) }
 
   bits_at : (code : ℕ) (swidth dwidth : ℤ) (c : Reach has_column n) (r : Reach has_row n) → AreSmall bit base n
       → (col row : ℤ) (t : Bool) → is_in_box (box_of c r) col row ≡ t → glyph_bit (glyph_at code swidth dwidth c r) col row ≡ bit col row

@@ -1,4 +1,4 @@
--- What the steps on the way to a character's glyph answer.
+-- What the steps on the way to a character's glyph return.
 use Rattle.std.specs.Prelude.{◌≡◌, ◌↔◌, IsTrue, ℤ, List, Result, Ok, Err}
 use Rattle.fx_winding.specs.Winding.{Span, IsCovered, centre}
 use Rattle.fx_winding.specs.Bitmaps.{Bits, bit_of}
@@ -7,7 +7,7 @@ use Rattle.fx_strike.specs.declared.drawn.Drawn.{Drawn}
 use Rattle.fx_strike.specs.Faults.{Fails}
 use Rattle.fx_strike.specs.Strike.{Sketch, IsGlyphOf}
 
--- of all pixels of the plane just those have a set bit whose centre is covered
+-- of all pixels of the plane exactly those have a set bit whose centre is covered
 pub record HasBitsOf (spans : List Span) (bits : Bits) : Type 0 where
   pub each : (col row : ℤ) → IsTrue (bit_of bits col row) ↔ IsCovered (centre col row) spans
 
@@ -17,7 +17,7 @@ pub record IsDrawnOf (sketch : Sketch) (drawn : Drawn) : Type 0 where
   pub strays : drawn.strays ≡ sketch.strays
   pub steps : drawn.steps ≡ sketch.steps
 
--- a character is made where its sketch is due; a refusal is one that is due, or want of memory
+-- a character is made if its sketch is due; a refusal is one that is due, or out of memory
 abbrev pub Draws : Result Sketch Refusal → Result Drawn Refusal → Type 0
 Draws due (Ok drawn) = (sketch : Sketch) × (due ≡ Ok sketch) × IsDrawnOf sketch drawn
 Draws due (Err refusal) = Fails refusal due

@@ -1,4 +1,4 @@
--- The faults of the crates below as refusals, and what code answers that may want memory.
+-- The faults of the crates below as refusals, and what code returns that may run out of memory.
 use Rattle.std.specs.Prelude.{◌≡◌, ℕ, Result, Err}
 use Rattle.fx_sfnt.specs.declared.fault.FontFault.{FontFault}
 use Rattle.fx_sfnt.specs.declared.fault.FontFault.TheVariants as font
@@ -49,7 +49,7 @@ of_contour glyph contour.TooFar = TooFar glyph
 of_contour glyph contour.TooLarge = GlyphTooLarge glyph
 of_contour glyph contour.OutOfMemory = OutOfMemory
 
--- a refusal on the way to a value: want of memory, or the cause that is due; the writer, the reader and the input have no part in it
+-- a refusal on the way to a value: out of memory, or the cause that is due; the writer, the reader and the input have no part in it
 abbrev pub Fails : {Y : Type 0} → Refusal → Result Y Refusal → Type 0
 Fails OutOfMemory due = Unit {0}
 Fails (WriteFailed n) due = ⊥

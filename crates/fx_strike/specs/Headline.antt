@@ -1,5 +1,5 @@
--- What a call that makes a strike answers and leaves. `old` and `new` are the writer's bytes before and after, where they are
--- known; `calm` and `after` its faults.
+-- What a call that makes a strike returns and leaves. `old` and `new` are the writer's bytes before and after, if they are
+-- known; `faults_before` and `faults_after` its faults.
 use Rattle.std.specs.Prelude.{◌≡◌, ℕ, ◌+◌, ◌^◌, ◌-◌, ◌<◌, min, List, length, take, Option, Result, Ok, Err, IsOk, ◌⊎◌}
 use Rattle.std.specs.Io.KnownBytes.{Appends, Keeps}
 use Rattle.std.specs.List.{sum_by}
@@ -10,11 +10,11 @@ use Rattle.fx_strike.specs.declared.request.Report.{Report}
 use Rattle.fx_strike.specs.declared.request.Request.{Request}
 use Rattle.fx_strike.specs.Strike.{Opening, Plan, AreGlyphsOf, opened_of, plan_of, strike_text}
 
--- the strike of a font file that is asked for, or the first cause why there is none
+-- the requested strike of a font file, or the first cause why there is none
 abbrev pub strike_of : List ℕ → Request → Result Plan Refusal
 strike_of file request = plan_of file request.ppem request.name.now request.chars.now request.hinting
 
--- what a request for it comes to before memory is taken: the opened font and its character map, or the first cause
+-- the outcome of a request before memory is taken: the size, the opened font and its character map; or the first cause
 abbrev pub opening_of : List ℕ → Request → Opening
 opening_of file request = opened_of file request.ppem request.name.now request.chars.now request.hinting
 
@@ -29,17 +29,18 @@ pub record IsReportOf (plan : Plan) (report : Report) : Type 0 where
   pub strays : report.strays ≡ counted (sum_by (λ s. s.strays) plan.sketches)
   pub steps : report.steps ≡ counted (sum_by (λ s. s.steps) plan.sketches)
 
--- the strike is there, its text was written, and the writer counted no fault
-pub record Text (strike : Result Plan Refusal) (old new : Option (List ℕ)) (calm after : ℕ) (report : Report) : Type 0 where
+-- the strike exists, its text was written, and the writer counted no fault
+pub record Text (strike : Result Plan Refusal) (old new : Option (List ℕ)) (faults_before faults_after : ℕ) (report : Report)
+    : Type 0 where
   pub plan : Plan
   pub glyphs : List Glyph
   pub is : strike ≡ Ok plan
   pub drawn : AreGlyphsOf plan.sketches glyphs
   pub written : Appends old new (strike_text plan glyphs)
-  pub quiet : after ≡ calm
+  pub quiet : faults_after ≡ faults_before
   pub told : IsReportOf plan report
 
--- a refusal that names a cause: neither want of memory nor a fault of the writer, the reader or the input
+-- a refusal that names a cause: neither out of memory nor a fault of the writer, the reader or the input
 abbrev pub IsCause : Refusal → Type 0
 IsCause OutOfMemory = ⊥
 IsCause (WriteFailed n) = ⊥
@@ -49,13 +50,14 @@ IsCause InputTooLarge = ⊥
 IsCause _ = Unit {0}
 
 -- the first cause was named, nothing was written, and the writer counted no fault
-pub record Cause (strike : Result Plan Refusal) (old new : Option (List ℕ)) (calm after : ℕ) (refusal : Refusal) : Type 0 where
+pub record Cause (strike : Result Plan Refusal) (old new : Option (List ℕ)) (faults_before faults_after : ℕ)
+    (refusal : Refusal) : Type 0 where
   pub cause : IsCause refusal
   pub first : strike ≡ Err refusal
   pub kept : Keeps old new
-  pub quiet : after ≡ calm
+  pub quiet : faults_after ≡ faults_before
 
--- the strike is there, and exactly a beginning of n bytes of its text was written
+-- the strike exists, and exactly a beginning of n bytes of its text was written
 pub record Begun (strike : Result Plan Refusal) (old new : Option (List ℕ)) (n : ℕ) : Type 0 where
   pub plan : Plan
   pub glyphs : List Glyph
@@ -64,29 +66,30 @@ pub record Begun (strike : Result Plan Refusal) (old new : Option (List ℕ)) (n
   pub short : n < length (strike_text plan glyphs)
   pub written : Appends old new (take n (strike_text plan glyphs))
 
--- memory was wanted: nothing was written, or the strike is there and a beginning of its text was written; the writer counted no fault
-pub record Memory (strike : Result Plan Refusal) (old new : Option (List ℕ)) (calm after : ℕ) : Type 0 where
+-- out of memory: nothing was written, or the strike exists and a beginning of its text was written; the writer counted no fault
+pub record Memory (strike : Result Plan Refusal) (old new : Option (List ℕ)) (faults_before faults_after : ℕ) : Type 0 where
   pub begun : Keeps old new ⊎ ((n : ℕ) × Begun strike old new n)
-  pub quiet : after ≡ calm
+  pub quiet : faults_after ≡ faults_before
 
--- memory is wanted late: after a request passed its checks, and its font and character map opened
+-- memory is taken late: after a request passed its checks, and its font and character map opened
 abbrev pub Late : Opening → Type 0
 Late opening = IsOk opening
 
--- the writer failed: the strike is there, exactly the first n bytes of its text were written, and the writer counted one fault
-pub record Writer (strike : Result Plan Refusal) (old new : Option (List ℕ)) (calm after n : ℕ) : Type 0 where
+-- the writer failed: the strike exists, exactly the first n bytes of its text were written, and the writer counted one fault
+pub record Writer (strike : Result Plan Refusal) (old new : Option (List ℕ)) (faults_before faults_after n : ℕ) : Type 0 where
   pub begun : Begun strike old new n
-  pub fault : after ≡ calm + 1
+  pub fault : faults_after ≡ faults_before + 1
 
--- each refusal but want of memory and a fault of the writer has to name a cause
+-- each refusal must name a cause, except out of memory and a fault of the writer
 abbrev pub HasToName : Refusal → Type 0
 HasToName OutOfMemory = ⊥
 HasToName (WriteFailed n) = ⊥
 HasToName _ = Unit {0}
 
--- all of it, by the answer
-abbrev pub Leaves : Opening → Result Plan Refusal → Option (List ℕ) → Option (List ℕ) → ℕ → ℕ → Result Report Refusal → Type 0
-Leaves opening strike old new calm after (Ok report) = Text strike old new calm after report
-Leaves opening strike old new calm after (Err OutOfMemory) = Late opening × Memory strike old new calm after
-Leaves opening strike old new calm after (Err (WriteFailed n)) = Writer strike old new calm after n
-Leaves opening strike old new calm after (Err refusal) = Cause strike old new calm after refusal
+-- all of it, by the result
+abbrev pub Leaves : Opening → Result Plan Refusal → Option (List ℕ) → Option (List ℕ) → ℕ → ℕ → Result Report Refusal
+    → Type 0
+Leaves opening strike old new faults_before faults_after (Ok report) = Text strike old new faults_before faults_after report
+Leaves opening strike old new faults_before faults_after (Err OutOfMemory) = Late opening × Memory strike old new faults_before faults_after
+Leaves opening strike old new faults_before faults_after (Err (WriteFailed n)) = Writer strike old new faults_before faults_after n
+Leaves opening strike old new faults_before faults_after (Err refusal) = Cause strike old new faults_before faults_after refusal

@@ -11,7 +11,7 @@ GlyphIsOne = (sketch : Sketch) (g h : Glyph) → IsGlyphOf sketch g → IsGlyphO
 abbrev pub TextIsOne : Type 0
 TextIsOne = (plan : Plan) (gs hs : List Glyph) → AreGlyphsOf plan.sketches gs → AreGlyphsOf plan.sketches hs → strike_text plan gs ≡ strike_text plan hs
 
--- a strike has its glyphs: where no cause stands against it there is one, whatever memory there is
+-- a strike has its glyphs: if no cause refuses it there is one, however much memory there is
 abbrev pub StrikeExists : Type 0
 StrikeExists =
     (file : List ℕ) (ppem : ℕ) (name chars : List ℕ) (hinting : Bool) (plan : Plan)

@@ -7,3 +7,4 @@ pub mod Listings
 pub mod Drawing
 pub mod Gathering
 pub mod Laws
+pub mod Limits

@@ -1,5 +1,5 @@
--- The programs of a font, and what a call that lists one leaves. `old` and `new` are the writer's bytes before and after, where
--- they are known; `calm` and `after` its faults.
+-- The programs of a font, and what a call that lists one leaves. `old` and `new` are the writer's bytes before and after, if
+-- they are known; `faults_before` and `faults_after` its faults.
 use Rattle.std.specs.Prelude.{◌≡◌, ℕ, ◌+◌, ◌<◌, List, [], codes, length, take, Option, Result, Ok, Err}
 use Rattle.std.specs.Io.KnownBytes.{Appends, Keeps}
 use Rattle.fx_fixed.specs.Chain.{◌>>=◌, map_fault}
@@ -23,7 +23,7 @@ code_of Empty = []
 code_of (Simple shape) = shape.code
 code_of (Composite assembly) = assembly.code
 
--- a program of an opened font, empty where its table is absent; or the first cause why it can't be read
+-- a program of an opened font, empty if its table is absent; or the first cause why it can't be read
 abbrev pub program_in : Face → Which → Result (List ℕ) Refusal
 program_in face which.Fpgm = Ok (table_or_empty face.file (codes "fpgm"))
 program_in face which.Prep = Ok (table_or_empty face.file (codes "prep"))
@@ -40,34 +40,36 @@ program_of file what = do
 
 -- ---- their listing
 
--- the program is there, its listing was written, and the writer counted no fault
-pub record IsListed (program : Result (List ℕ) Refusal) (old new : Option (List ℕ)) (calm after : ℕ) : Type 0 where
+-- the program exists, its listing was written, and the writer counted no fault
+pub record IsListed (program : Result (List ℕ) Refusal) (old new : Option (List ℕ)) (faults_before faults_after : ℕ) : Type 0 where
   pub code : List ℕ
   pub is : program ≡ Ok code
   pub written : Appends old new (listing_text code)
-  pub quiet : after ≡ calm
+  pub quiet : faults_after ≡ faults_before
 
 -- the first cause was named, nothing was written, and the writer counted no fault
-pub record IsNotListed (program : Result (List ℕ) Refusal) (old new : Option (List ℕ)) (calm after : ℕ) (refusal : Refusal) : Type 0 where
+pub record IsNotListed (program : Result (List ℕ) Refusal) (old new : Option (List ℕ)) (faults_before faults_after : ℕ)
+    (refusal : Refusal) : Type 0 where
   pub first : program ≡ Err refusal
   pub kept : Keeps old new
-  pub quiet : after ≡ calm
+  pub quiet : faults_after ≡ faults_before
 
--- the writer failed: the program is there, exactly the first n bytes of its listing were written, and the writer counted one fault
-pub record IsListedTo (program : Result (List ℕ) Refusal) (old new : Option (List ℕ)) (calm after n : ℕ) : Type 0 where
+-- the writer failed: the program exists, exactly the first n bytes of its listing were written, and the writer counted one fault
+pub record IsListedTo (program : Result (List ℕ) Refusal) (old new : Option (List ℕ)) (faults_before faults_after n : ℕ) : Type 0 where
   pub code : List ℕ
   pub is : program ≡ Ok code
   pub short : n < length (listing_text code)
   pub written : Appends old new (take n (listing_text code))
-  pub fault : after ≡ calm + 1
+  pub fault : faults_after ≡ faults_before + 1
 
 -- a refusal other than a fault of the writer
 abbrev pub IsNoFault : Refusal → Type 0
 IsNoFault (WriteFailed n) = ⊥
 IsNoFault _ = Unit {0}
 
--- all of it, by the answer
-abbrev pub Lists : Result (List ℕ) Refusal → Option (List ℕ) → Option (List ℕ) → ℕ → ℕ → Result (Unit {0}) Refusal → Type 0
-Lists program old new calm after (Ok _) = IsListed program old new calm after
-Lists program old new calm after (Err (WriteFailed n)) = IsListedTo program old new calm after n
-Lists program old new calm after (Err refusal) = IsNotListed program old new calm after refusal
+-- all of it, by the result
+abbrev pub Lists : Result (List ℕ) Refusal → Option (List ℕ) → Option (List ℕ) → ℕ → ℕ → Result (Unit {0}) Refusal
+    → Type 0
+Lists program old new faults_before faults_after (Ok _) = IsListed program old new faults_before faults_after
+Lists program old new faults_before faults_after (Err (WriteFailed n)) = IsListedTo program old new faults_before faults_after n
+Lists program old new faults_before faults_after (Err refusal) = IsNotListed program old new faults_before faults_after refusal

@@ -1,8 +1,9 @@
 -- The strike of a font, a size and characters, or the first cause why there is none.
 use Rattle.std.specs.Prelude.{◌≡◌, ◌↔◌, IsTrue, ℕ, ◌*◌, nat_lt, ◌==◌, ◌||◌, not, ℤ, pos, ◌*ℤ◌, neg_ℤ, Bool, List, [], ◌∷◌, ◌++◌, length, map, filter, Result, Ok}
 use Rattle.std.specs.List.{list_any, count_by, flat_map}
-use Rattle.fx_fixed.specs.Chain.{◌>>=◌, refuse, map_fault, map_chain}
+use Rattle.fx_fixed.specs.Chain.{◌>>=◌, refuse, wanted, map_fault, map_chain}
 use Rattle.fx_fixed.specs.Numbers.{near_of}
+use Rattle.fx_fixed.specs.Sizes.{ppem_of}
 use Rattle.fx_sfnt.specs.Tables.{Face, font_of}
 use Rattle.fx_sfnt.specs.Glyphs.{metrics_of}
 use Rattle.fx_cmap.specs.Lookup.{Segments, map_of_file, glyph_for}
@@ -17,6 +18,7 @@ use Rattle.fx_strike.specs.declared.refusal.Refusal.{Refusal}
 use Rattle.fx_strike.specs.declared.refusal.Refusal.TheVariants.{BadSize, BadChars, BadName, NotBuilt}
 use Rattle.fx_strike.specs.Faults.{of_font, of_char_map, of_hint, of_contour}
 use Rattle.fx_strike.specs.Characters.{rising}
+use Rattle.fx_strike.specs.Limits.{max_characters, max_code}
 
 -- ---- a character
 
@@ -30,7 +32,7 @@ pub record Sketch : Type 0 where
   pub strays : ℕ
   pub steps : ℕ
 
--- an advance of FUnits in 1/1000 of an em of so many FUnits
+-- an advance of FUnits in 1/1000 of an em, which is `em` FUnits
 abbrev pub thousandths : ℕ → ℕ → ℤ
 thousandths advance em = near_of (pos (advance * 1000)) (pos em)
 
@@ -77,25 +79,27 @@ pixels units ppem em = near_of (units *ℤ pos ppem) (pos em)
 abbrev pub sketches_of : Face → Segments → ℕ → List ℕ → Result (List Sketch) Refusal
 sketches_of face segments ppem codes = map_chain (sketch_of face segments ppem) (filter (λ c. not (is_missing segments c)) codes)
 
--- what is refused whatever the font: a size, characters or a name past their limits; and font programs are not run yet
-unfoldable pub checked : ℕ → List ℕ → List ℕ → Bool → Result (Unit {0}) Refusal
+-- the size, if the request is not refused whatever the font: a size, characters or a name past their limits; and font programs
+-- are not run yet
+unfoldable pub checked : ℕ → List ℕ → List ℕ → Bool → Result ℕ Refusal
 checked ppem name chars hinting = do
-  _ ← refuse (ppem == 0 || nat_lt 255 ppem) BadSize
-  _ ← refuse (nat_lt 65536 (length chars) || list_any (nat_lt 65535) chars) BadChars
+  size ← wanted (ppem_of ppem) BadSize
+  _ ← refuse (nat_lt max_characters (length chars) || list_any (nat_lt max_code) chars) BadChars
   _ ← refuse (not (is_name name)) BadName
-  refuse hinting NotBuilt
+  _ ← refuse hinting NotBuilt
+  Ok size
 
--- an opened font with its character map, or the first cause why there is none
+-- a valid size and an opened font with its character map, or the first cause why there is none
 abbrev pub Opening : Type 0
-Opening = Result (Face × Segments) Refusal
+Opening = Result (ℕ × Face × Segments) Refusal
 
--- what takes no memory: the request passes its checks, the font opens and its character map does; or the first cause
+-- what takes no memory: the request passes its checks, and the font and its character map open; or the first cause
 unfoldable pub opened_of : List ℕ → ℕ → List ℕ → List ℕ → Bool → Opening
 opened_of file ppem name chars hinting = do
-  _ ← checked ppem name chars hinting
+  size ← checked ppem name chars hinting
   face ← map_fault of_font (font_of file)
   segments ← map_fault of_char_map (map_of_file face.file)
-  Ok (face, segments)
+  Ok (size, face, segments)
 
 -- the strike of an opened font, a size, a name and characters, or the first cause why there is none
 unfoldable pub plan_in : Face → Segments → ℕ → List ℕ → List ℕ → Result Plan Refusal
@@ -114,11 +118,11 @@ plan_in face segments ppem name chars = do
 unfoldable pub plan_of : List ℕ → ℕ → List ℕ → List ℕ → Bool → Result Plan Refusal
 plan_of file ppem name chars hinting = do
   opened ← opened_of file ppem name chars hinting
-  plan_in opened.0 opened.1 ppem name chars
+  plan_in opened.1 opened.2 opened.0 name chars
 
 -- ---- its bits and its text
 
--- the glyph of a sketch: of all pixels of the plane just those are set whose centre is covered, in their tight box
+-- the glyph of a sketch: of all pixels of the plane exactly those are set whose centre is covered, in their tight box
 pub record IsGlyphOf (sketch : Sketch) (glyph : Glyph) : Type 0 where
   pub code : glyph.code ≡ sketch.code
   pub swidth : glyph.swidth ≡ sketch.swidth
@@ -133,7 +137,7 @@ AreGlyphsOf [] [] = Unit {0}
 AreGlyphsOf (s ∷ ss) (g ∷ gs) = IsGlyphOf s g × AreGlyphsOf ss gs
 AreGlyphsOf _ _ = ⊥
 
--- what the lines before the glyphs tell
+-- the numbers in the lines before the glyphs
 abbrev pub header_of : Plan → List Glyph → Header
 header_of plan glyphs = record {
   ppem = plan.ppem;

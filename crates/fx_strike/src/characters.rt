@@ -1,4 +1,4 @@
-//! The characters that are asked for.
+//! The characters of a request.
 ghost use Rattle.std.specs.Prelude.{◌≡◌, nat_eq, IfOk};
 ghost use Rattle.std.specs.List.{dedup};
 ghost use Rattle.std.specs.List.Sorted.{IsPermutation, IsSorted};
@@ -7,7 +7,7 @@ ghost use Rattle.fx_strike.specs.Characters.{rising};
 
 use std::alloc::{AllocError, Global};
 
-// The code points in order, each as often as it is asked for.
+/// The code points in order, each as often as in the request.
 fn sorted(alloc: Global, chars: &[u32]) -> Result<Vec<u32>, AllocError>
     ensures same { IfOk result (λ v. IsPermutation chars.now v.items) }
     ensures sorted { IfOk result (λ v. IsSorted nat_cmp v.items) }
@@ -17,7 +17,7 @@ fn sorted(alloc: Global, chars: &[u32]) -> Result<Vec<u32>, AllocError>
     Ok(codes)
 }
 
-// Code points with each run of equal ones made one.
+/// Code points with each run of equal ones replaced by one.
 fn each_once(codes: Vec<u32>) -> Vec<u32>
     ensures { result.items ≡ dedup nat_eq codes.items }
 {

@@ -4,7 +4,7 @@ ghost use Rattle.std.specs.Prelude.{◌≡◌, [], Some};
 use fx_fixed::Sink;
 use std::alloc::Global;
 
-/// A text in memory, before it is written. Want of memory is its only fault.
+/// A text in memory, before it is written. Out of memory is its only fault.
 #[derive(Drop)]
 pub(crate) struct Draft {
     pub bytes: Vec<u8>,
@@ -15,7 +15,7 @@ impl Draft {
     /// An empty text. It takes no memory yet, and keeps the allocator.
     pub(crate) fn new(alloc: Global) -> Draft
         ensures bytes { result.bytes.items ≡ [] }
-        ensures calm { result.faults ≡ 0 }
+        ensures faults { result.faults ≡ 0 }
     {
         Draft {
             bytes: Vec::new(alloc),

@@ -23,21 +23,17 @@ use fx_sfnt::Font;
 use fx_winding::{Bitmap, Frame, Pieces, Scan, Tally};
 use std::alloc::Global;
 
-// The scaled outline of a glyph.
-fn outline_at(alloc: Global, font: &Font<'_>, ppem: u16, glyph: u16) -> Result<Outline, Refusal>
-    requires low { 1 ≤ ppem }
-    requires high { ppem ≤ 255 }
+/// The scaled outline of a glyph.
+fn outline_at(alloc: Global, font: &Font<'_>, ppem: Ppem, glyph: u16) -> Result<Outline, Refusal>
     ensures { GivesUnless Fails view_of_outline result (map_fault of_hint (outline_of font.now ppem glyph)) }
 {
-    let Some(ppem) = Ppem::new(ppem) else {
-        return Err(Refusal::BadSize);
-    };
     Ok(unhinted(alloc, font, ppem, glyph)?)
 }
 
-// The pieces of a glyph's outline; `TooFar` where a point of it lies too far out.
+/// The pieces of a glyph's outline; `TooFar` if a point of it lies too far out.
 fn pieces_at(alloc: Global, outline: &Outline, glyph: u16) -> Result<Pieces, Refusal>
-    ensures pieces { GivesUnless Fails (map span_of) result (map_fault (of_contour glyph) (drawn_of outline.now.ends.items outline.now.points.items)) }
+    ensures pieces { GivesUnless Fails (map span_of) result
+        (map_fault (of_contour glyph) (drawn_of outline.now.ends.items outline.now.points.items)) }
     ensures closed { IfOk result (λ ps. AreOfOutline (map span_of ps)) }
 {
     match pieces(alloc, outline) {
@@ -46,7 +42,7 @@ fn pieces_at(alloc: Global, outline: &Outline, glyph: u16) -> Result<Pieces, Ref
     }
 }
 
-// The frame of a glyph's pieces; `GlyphTooLarge` where it has too many pixels.
+/// The frame of a glyph's pieces; `GlyphTooLarge` if it has too many pixels.
 fn frame_at(pieces: &Pieces, glyph: u16) -> Result<Option<Frame>, Refusal>
     ensures small { GivesUnless Fails (λ _. tt) result (map_fault (of_contour glyph) (framed_of (map span_of pieces.now))) }
     ensures frame { IfOk result (λ f. IsFrameFor f (map span_of pieces.now)) }
@@ -58,30 +54,31 @@ fn frame_at(pieces: &Pieces, glyph: u16) -> Result<Option<Frame>, Refusal>
     }
 }
 
-// The advance of a glyph in 1/1000 of an em.
+/// The advance of a glyph in 1/1000 of an em.
 fn thousandths_at(font: &Font<'_>, glyph: u16) -> Result<i32, Refusal>
-    ensures { result ≡ map_ok (λ m. thousandths m.advance_width font.now.head.units_per_em) (map_fault of_font (metrics_of font.now glyph)) }
+    ensures { result ≡ map_ok (λ m. thousandths m.advance_width font.now.head.units_per_em)
+        (map_fault of_font (metrics_of font.now glyph)) }
 {
     let advance = i128::from(font.metrics(glyph)?.advance_width);
     let em = font.head().units_per_em.funits();
     Ok(near(advance * 1000, i128::from(em)) as i32)
 }
 
-// A number of 1/64 pixels in whole pixels.
+/// A number of 1/64 pixels in whole pixels.
 fn near_pixels(advance: i32) -> i32
     ensures { result ≡ near_of advance (pos 64) }
 {
     near_64(i64::from(advance)) as i32
 }
 
-// An advance in whole pixels.
+/// An advance in whole pixels.
 fn whole_pixels(advance: F26) -> i32
     ensures { result ≡ near_of advance (pos 64) }
 {
     near_pixels(advance.0)
 }
 
-// The frame without a pixel.
+/// The frame without a pixel.
 fn no_frame() -> Frame
     ensures width { result.width ≡ 0 }
     ensures height { result.height ≡ 0 }
@@ -94,7 +91,7 @@ fn no_frame() -> Frame
     }
 }
 
-// The bits of closed contours in their frame; none where there is no frame.
+/// The bits of closed contours in their frame; none if there is no frame.
 fn bitmap_of<S: Scan>(
     alloc: Global,
     scan: &S,
@@ -119,12 +116,10 @@ pub(crate) fn draw<S: Scan>(
     alloc: Global,
     scan: &S,
     font: &Font<'_>,
-    ppem: u16,
+    ppem: Ppem,
     code: u32,
     glyph: u16,
 ) -> Result<Drawn, Refusal>
-    requires low { 1 ≤ ppem }
-    requires high { ppem ≤ 255 }
     ensures sketch { Draws (glyph_sketch_of font.now ppem code glyph) result }
     ensures code { IfOk result (λ d. d.glyph.code ≡ code) }
 {

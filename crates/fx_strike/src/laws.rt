@@ -2,7 +2,7 @@
 ghost use Rattle.fx_strike.specs.Characters.{RisingAreRisen, RisenIsOne};
 ghost use Rattle.fx_strike.specs.Laws.{GlyphIsOne, TextIsOne, StrikeExists, PartIsOne};
 
-/// The code points in rising order rise, and are those that are asked for; no other list is so.
+/// The code points in rising order rise, and are those of the request; no other list is so.
 pub fn rising()
     ensures risen { RisingAreRisen }
     ensures one { RisenIsOne }
@@ -16,7 +16,7 @@ pub fn text()
     fx_bdf::laws::trimmed();
 }
 
-/// Where no cause stands against a strike, there are glyphs of its sketches.
+/// If no cause refuses a strike, there are glyphs of its sketches.
 pub fn exists()
     ensures { StrikeExists }
 {}

@@ -1,7 +1,7 @@
 //! The listing of a font's program.
 ghost use Rattle.std.specs.Prelude.{◌≡◌, ◌<◌, ◌^◌, ℕ, length, IfOk, IfErr, IsErrOf};
 ghost use Rattle.fx_fixed.specs.Chain.{map_ok};
-ghost use Rattle.fx_strike.specs.Listings.{program_in, program_of, code_of, IsListed, IsListedTo, IsNotListed, IsNoFault, Lists};
+ghost use Rattle.fx_strike.specs.Listings.{program_in, program_of, code_of, IsListed, IsListedTo, IsNotListed, IsNoFault};
 
 use crate::refusal::Refusal;
 use fx_code::Code;
@@ -20,7 +20,7 @@ pub enum Which {
     Glyph(u16),
 }
 
-// The program in a glyph's description; an empty glyph has none.
+/// The program in a glyph's description; an empty glyph has none.
 fn code_of<'a>(glyph: &Glyph<'a>) -> &'a [u8]
     ensures value { result.now ≡ code_of glyph.now }
     ensures short { length result.now < 2 ^ 16 }
@@ -32,7 +32,7 @@ fn code_of<'a>(glyph: &Glyph<'a>) -> &'a [u8]
     }
 }
 
-// The program of a glyph.
+/// The program of a glyph.
 fn glyph_program<'a>(font: &Font<'a>, g: u16) -> Result<&'a [u8], Refusal>
     ensures value { map_ok (λ p. p.now) result ≡ program_in font.now (Which.Glyph g) }
     ensures short { IfOk result (λ p. length p.now < 2 ^ 32) }
@@ -42,7 +42,7 @@ fn glyph_program<'a>(font: &Font<'a>, g: u16) -> Result<&'a [u8], Refusal>
     Ok(code_of(&glyph))
 }
 
-// A program of a font; an absent table is an empty one.
+/// A program of a font; an absent table is an empty one.
 fn program_in<'a>(font: &Font<'a>, what: Which) -> Result<&'a [u8], Refusal>
     ensures value { map_ok (λ p. p.now) result ≡ program_in font.now what }
     ensures short { IfOk result (λ p. length p.now < 2 ^ 32) }
@@ -55,7 +55,7 @@ fn program_in<'a>(font: &Font<'a>, what: Which) -> Result<&'a [u8], Refusal>
     }
 }
 
-// A program of a font file.
+/// A program of a font file.
 #[tactic(auto, unfolding(crate::specs::Listings::program_of))]
 fn program_of(font: &[u8], what: Which) -> Result<&[u8], Refusal>
     ensures value { map_ok (λ p. p.now) result ≡ program_of font.now what }
@@ -66,30 +66,25 @@ fn program_of(font: &[u8], what: Which) -> Result<&[u8], Refusal>
     program_in(&font, what)
 }
 
-fn list<W: Sink>(font: &[u8], what: Which, out: &mut W) -> Result<(), Refusal>
+/// Writes the listing of one of a font's programs: a line for each instruction, with its address, its opcode, its name and the
+/// numbers that it pushes. A program that is absent or empty has no line.
+///
+/// The first cause is returned, and nothing is written: the font's tables, then the glyph's number, its offsets and its bytes.
+/// After `WriteFailed(n)` the writer holds the first n bytes of the listing. No memory is taken.
+pub fn listing_of<W: Sink>(font: &[u8], what: Which, out: &mut W) -> Result<(), Refusal>
     requires { W.fault_count out.old < 2 ^ 63 }
-    ensures { Lists (program_of font.now what) (W.held out.old) (W.held out.new) (W.fault_count out.old) (W.fault_count out.new) result }
+    // The program exists, its listing was written, and the writer counted no fault.
+    ensures text { IfOk result (λ _.
+        IsListed (program_of font.now what) (W.held out.old) (W.held out.new) (W.fault_count out.old) (W.fault_count out.new)) }
+    // The first cause was named, nothing was written, and the writer counted no fault.
+    ensures cause { IfErr result (λ refusal. IsNoFault refusal →
+        IsNotListed (program_of font.now what) (W.held out.old) (W.held out.new)
+            (W.fault_count out.old) (W.fault_count out.new) refusal) }
+    // The program exists, exactly the first n bytes of its listing were written, and the writer counted one fault.
+    ensures writer { (n : ℕ) → IsErrOf result (Refusal.WriteFailed n) →
+        IsListedTo (program_of font.now what) (W.held out.old) (W.held out.new) (W.fault_count out.old) (W.fault_count out.new) n }
 {
     let code = Code::new(program_of(font, what)?);
     code.listing(out)?;
     Ok(())
-}
-
-/// Writes the listing of one of a font's programs: a line for each instruction, with its place, its opcode, its name and the
-/// numbers that it pushes. A program that is absent or empty has no line.
-///
-/// The first cause is answered, and nothing is written: the font's tables, then the glyph's number, its offsets and its bytes.
-/// After `WriteFailed` the writer holds the first so many bytes of the listing. No memory is taken.
-pub fn listing_of<W: Sink>(font: &[u8], what: Which, out: &mut W) -> Result<(), Refusal>
-    requires { W.fault_count out.old < 2 ^ 63 }
-    // The program is there, its listing was written, and the writer counted no fault.
-    ensures text { IfOk result (λ _. IsListed (program_of font.now what) (W.held out.old) (W.held out.new) (W.fault_count out.old) (W.fault_count out.new)) }
-    // The first cause was named, nothing was written, and the writer counted no fault.
-    ensures cause { IfErr result (λ refusal. IsNoFault refusal →
-        IsNotListed (program_of font.now what) (W.held out.old) (W.held out.new) (W.fault_count out.old) (W.fault_count out.new) refusal) }
-    // The program is there, exactly the first n bytes of its listing were written, and the writer counted one fault.
-    ensures writer { (n : ℕ) → IsErrOf result (Refusal.WriteFailed n) →
-        IsListedTo (program_of font.now what) (W.held out.old) (W.held out.new) (W.fault_count out.old) (W.fault_count out.new) n }
-{
-    list(font, what, out)
 }

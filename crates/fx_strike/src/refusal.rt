@@ -5,11 +5,11 @@ ghost use Rattle.fx_strike.specs.Refusals.{number_of, name_of, entry_of};
 use std::fmt;
 use thiserror::Error;
 
-/// Why there is no strike, or why it was not written whole. A `u16` is the number of a glyph.
+/// Why there is no strike, or why it was not written completely. A `u16` is the number of a glyph.
 #[derive(Clone, Copy, Debug, PartialEq, Eq, Error)]
 #[error("{number} {name}{fields}", number = self.number(), name = self.name(), fields = Fields(*self))]
 pub enum Refusal {
-    /// The file is no TrueType font, or its table directory is cut.
+    /// The file is not a TrueType font, or its table directory is cut.
     NotTrueType,
     /// The font lacks a table.
     TableMissing([u8; 4]),
@@ -35,7 +35,7 @@ pub enum Refusal {
     TooManyComponents(u16),
     /// An outline has more than 16,384 points.
     TooManyPoints(u16),
-    /// A composite matches a point that is not there.
+    /// A composite matches a point that does not exist.
     BadPointMatch(u16),
     /// The font has no glyph of this number.
     BadGlyphNumber(u16),
@@ -45,26 +45,26 @@ pub enum Refusal {
     GlyphTooLarge(u16),
     /// The size is 0 or above 255 pixels.
     BadSize,
-    /// More than 65,536 characters were asked for, or one above U+FFFF.
+    /// The request has more than `MAX_CHARACTERS` characters, or one above `MAX_CODE`.
     BadChars,
     /// The name is not 1 to 255 printing bytes of ASCII, or has a space first or last.
     BadName,
-    /// The writer failed after so many bytes.
+    /// The writer failed after this number of bytes.
     WriteFailed(u64),
     /// The reader failed.
     ReadFailed,
-    /// The input is no hexadecimal text.
+    /// The input is not hexadecimal text.
     BadHex,
     /// The input has more than 67,108,864 bytes.
     InputTooLarge,
     /// Memory ran out.
     OutOfMemory,
-    /// What was asked for is not built yet.
+    /// The request is for something that is not built yet.
     NotBuilt,
 }
 
 impl Refusal {
-    // The number and the name, in one table.
+    /// The number and the name, in one table.
     fn entry(self) -> (u8, &'static str)
         ensures number { result.0 ≡ number_of self }
         ensures name { result.1.now ≡ name_of self }
@@ -114,7 +114,7 @@ impl Refusal {
     }
 }
 
-// What a refusal tells besides its name, each after a space.
+/// The fields of a refusal, which follow its name, each after a space.
 #[derive(Clone, Copy)]
 struct Fields(Refusal);
 

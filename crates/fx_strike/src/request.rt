@@ -1,11 +1,11 @@
-//! What is asked for, and what is counted.
+//! Requests, and what is counted over a strike.
 
-/// A strike that is asked for.
+/// A request for a strike.
 #[derive(Clone, Copy, Debug)]
 pub struct Request<'a> {
-    /// Pixels of an em, 1 to 255; another number is refused.
+    /// Pixels of an em, 1 to 255; any other number is refused.
     pub ppem: u16,
-    /// The font's name: 1 to 255 printed characters of ASCII, no space first or last; another text is refused.
+    /// The font's name: 1 to 255 printed characters of ASCII, no space first or last; any other text is refused.
     pub name: &'a str,
     /// Code points up to U+FFFF, at most 65,536 of them; their order and repeats do not count.
     pub chars: &'a [u32],
@@ -16,12 +16,12 @@ pub struct Request<'a> {
 /// What was counted over a strike.
 #[derive(Clone, Copy, Debug, PartialEq, Eq)]
 pub struct Report {
-    /// The glyphs that were written: the characters asked for that the font has, each once.
+    /// The number of glyphs written: one for each requested character that the font has.
     pub glyphs: u32,
-    /// The characters asked for that the font lacks, each once.
+    /// The number of requested characters that the font does not have.
     pub missing: u32,
-    /// The numbers outside their tables that font programs named; the count stays at the greatest u64.
+    /// The numbers outside their tables that font programs named; the count stays at the greatest `u64`.
     pub strays: u64,
-    /// The instructions that font programs executed; the count stays at the greatest u64.
+    /// The instructions that font programs executed; the count stays at the greatest `u64`.
     pub steps: u64,
 }

@@ -1,4 +1,5 @@
 use Rattle.std.proofs.Common.{◌≡◌, ◌≤◌, ◌+◌, vec_len, length, Option, Some, None, option_map, ℕ, List}
+use Rattle.fx_strike.specs.Limits.{max_characters}
 use Rattle.fx_cli.specs.Parts.{left_parts}
 use Rattle.fx_cli.specs.Chars.{items_of, numbers_of_items}
 use Rattle.fx_cli.proofs.Items.{behind}
@@ -11,7 +12,7 @@ size_left (Some text) = length text + 1
 abbrev pub invariant-items : goal.invariant-items
 invariant-items l = record {
   so_far : numbers_of_items (items_of l.list) ≡ behind l.chars.items (numbers_of_items (left_parts 44 (option_map (λ text. text.now) l.left)));
-  count : vec_len l.chars ≤ 65536;
+  count : vec_len l.chars ≤ max_characters;
 }
 
 abbrev pub decreases-items : goal.decreases-items

@@ -2,7 +2,7 @@ use Rattle.std.proofs.Common.{◌∙◌, ap, ◌==◌, ◌≤◌, ℕ, Option, l
 use Rattle.std.proofs.lemmas.List.Sums.{prefix_len-le-length}
 use Rattle.std.specs.List.{position_or_len}
 use Rattle.std.specs.Prelude.{unwrap_or}
-use Rattle.fx_cli.proofs.Rooms.{place_or_len}
+use Rattle.fx_cli.proofs.Buffers.{place_or_len}
 use Rattle.fx_cli.proofs.input.line_len.Goals as goal
 
 pub returns-clause-value : goal.returns-clause-value

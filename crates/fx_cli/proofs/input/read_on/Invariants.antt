@@ -1,5 +1,6 @@
-use Rattle.std.proofs.Common.{◌≡◌, ◌-◌, ◌++◌, List, ℕ, vec_len}
+use Rattle.std.proofs.Common.{◌≡◌, ◌+◌, ◌-◌, ◌++◌, List, ℕ, vec_len}
 use Rattle.std.specs.Io.KnownBytes.{Consumes}
+use Rattle.fx_cli.specs.Limits.{max_input}
 use Rattle.fx_cli.proofs.input.read_on.Given as goal
 
 abbrev pub invariant-reading : goal.invariant-reading
@@ -7,8 +8,8 @@ invariant-reading g l = record {
   got : List ℕ;
   took : Consumes (g.R.Source.left l.initial.reader) (g.R.Source.left l.reader) got;
   items : l.input.items ≡ l.front ++ got;
-  calm : g.R.Source.fault_count l.reader ≡ g.R.Source.fault_count l.initial.reader;
+  quiet : g.R.Source.fault_count l.reader ≡ g.R.Source.fault_count l.initial.reader;
 }
 
 abbrev pub decreases-reading : goal.decreases-reading
-decreases-reading g l = 67108865 - vec_len l.input
+decreases-reading g l = max_input + 1 - vec_len l.input
