@@ -11,6 +11,8 @@ mod large;
 #[cfg(test)]
 mod listings;
 #[cfg(test)]
+mod programs;
+#[cfg(test)]
 mod scans;
 #[cfg(test)]
 mod strikes;

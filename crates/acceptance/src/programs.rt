@@ -1,0 +1,497 @@
+// Programs of fonts on the machine: worked programs, and how far they reach.
+use crate::fonts::{bytes, fixture, patch};
+use fx_code::Code;
+use fx_fixed::{F26, Place, Ppem};
+use fx_machine::{Cause, Halt, Machine, MachineFault, Program, Ran};
+use fx_scale::Scale;
+use fx_sfnt::{Font, u32_at};
+use fx_zone::{Point, Zone};
+use std::alloc::Global;
+use std::process::Abort;
+use std::test::Fail;
+
+// The tables that are added to the fixture, as hexadecimal text.
+#[derive(Clone, Copy, Drop)]
+struct Tables {
+    fpgm: &'static str,
+    prep: &'static str,
+    cvt: &'static str,
+}
+
+const NO_TABLES: Tables = Tables {
+    fpgm: "",
+    prep: "",
+    cvt: "",
+};
+
+// A number in four bytes, the highest first.
+fn put(bytes: &mut Vec<u8>, number: usize) -> Result<(), Fail> {
+    bytes.extend_from_slice(&u32::try_from(number)?.to_be_bytes())?;
+    Ok(())
+}
+
+// The fixture's directory, of seven records, as it is when three more stand behind it.
+fn directory(alloc: Global, fixture: &[u8]) -> Result<Vec<u8>, Fail> {
+    let mut directory = Vec::from_slice(alloc, fixture.get(..124).ok_or("no directory")?)?;
+    patch(&mut directory, 5, &[10])?;
+    for k in 0..7 {
+        let at = 20 + 16 * k;
+        let offset = u32_at(fixture, at).ok_or("no record")?;
+        patch(&mut directory, at, &offset.saturating_add(48).to_be_bytes())?;
+    }
+    Ok(directory)
+}
+
+// The fixture with further tables: their records stand behind the others, they themselves at the end.
+fn with_tables(alloc: Global, tables: &Tables) -> Result<Vec<u8>, Fail> {
+    let fixture = fixture(alloc)?;
+    let entries = [
+        ("fpgm", tables.fpgm),
+        ("prep", tables.prep),
+        ("cvt ", tables.cvt),
+    ];
+    let mut font = directory(alloc, &fixture)?;
+    let mut rest = Vec::from_slice(alloc, fixture.get(124..).ok_or("no tables")?)?;
+    for (tag, text) in entries {
+        let table = bytes(alloc, text)?;
+        font.extend_from_slice(tag.as_bytes())?;
+        put(&mut font, 0)?;
+        put(&mut font, rest.len().saturating_add(124 + 48))?;
+        put(&mut font, table.len())?;
+        rest.extend_from_slice(table.as_slice())?;
+    }
+    font.extend_from_slice(rest.as_slice())?;
+    Ok(font)
+}
+
+// The machine of a font at 16 pixels an em, or the halt of its programs.
+fn machine<'a>(alloc: Global, file: &'a [u8]) -> Result<Result<Machine<'a>, Halt>, Fail> {
+    let font = Font::open(file)?;
+    let scale = Scale {
+        ppem: Ppem::new(16).ok_or("no size")?,
+        units_per_em: font.head().units_per_em,
+        ascender: font.hhea().ascender,
+        descender: font.hhea().descender,
+    };
+    match Machine::new(alloc, font, scale) {
+        Ok(machine) => Ok(Ok(machine)),
+        Err(MachineFault::Halted(halt)) => Ok(Err(halt)),
+        Err(fault) => Err(fault.into()),
+    }
+}
+
+// A point at rest on the curve.
+fn at(x: i32, y: i32) -> Point {
+    let place = Place {
+        x: F26(x),
+        y: F26(y),
+    };
+    Point::resting(place, true)
+}
+
+// The square from (0, 0) to (90, 90), with its phantom points.
+fn square(alloc: Global) -> Result<Zone, Fail> {
+    let points = [
+        at(0, 0),
+        at(90, 0),
+        at(90, 90),
+        at(0, 90),
+        at(0, 0),
+        at(384, 0),
+        at(0, 800),
+        at(0, -224),
+    ];
+    let mut zone = Zone::new(alloc);
+    zone.append(&points, &[3])?;
+    Ok(zone)
+}
+
+// The current x of its corners.
+fn corners(zone: &Zone) -> [i32; 4] {
+    let mut places = [0; 4];
+    for (place, point) in places.iter_mut().zip(zone.points().iter()) {
+        *place = point.cur.x.0;
+    }
+    places
+}
+
+// A program of a glyph, in a font with these tables, on the square: the answer, and the corners' current x if it ended well.
+#[derive(Drop)]
+struct Row {
+    what: &'static str,
+    tables: Tables,
+    code: &'static str,
+    want: Result<Ran, Halt>,
+    corners: [i32; 4],
+}
+
+// An end after so many instructions, without strays.
+fn steps(steps: u32) -> Result<Ran, Halt> {
+    Ok(Ran { steps, strays: 0 })
+}
+
+// A halt of a glyph's program, in its own bytes.
+fn halt(cause: Cause, address: usize, opcode: u8) -> Result<Ran, Halt> {
+    Err(Halt {
+        cause,
+        during: Program::Glyph,
+        program: Program::Glyph,
+        address,
+        opcode,
+    })
+}
+
+// Runs each program in a machine of its own.
+fn run(rt: &impl Abort, alloc: Global, rows: &[Row]) -> Result<(), Fail> {
+    for row in rows {
+        let file = with_tables(alloc, &row.tables)?;
+        let mut machine = machine(alloc, file.as_slice())?.ok().ok_or(row.what)?;
+        let code = bytes(alloc, row.code)?;
+        let mut zone = square(alloc)?;
+        let answer = machine.run_glyph(Code::new(code.as_slice()), &mut zone);
+        assert!(rt; answer == row.want, "{}", row.what);
+        if answer.is_ok() {
+            assert_eq!(rt; corners(&zone), row.corners, "{}", row.what);
+        }
+        assert_eq!(rt; zone.len(), 8, "{}", row.what);
+    }
+    Ok(())
+}
+
+// A program that defines what opcode 91 does: it pushes 7.
+const IDEF: Tables = Tables {
+    fpgm: "b0 91 89 b0 07 2d",
+    ..NO_TABLES
+};
+
+#[test]
+fn definitions_of_opcodes(rt: HostRuntime) -> Result<(), Fail> {
+    run(
+        &rt,
+        rt.alloc(),
+        &[
+            Row {
+                what: "an opcode that fpgm defines",
+                tables: IDEF,
+                code: "91",
+                want: steps(3),
+                corners: [0, 90, 90, 0],
+            },
+            Row {
+                what: "what it pushes shifts point 1",
+                tables: IDEF,
+                code: "b0 01 91 38",
+                want: steps(5),
+                corners: [0, 97, 90, 0],
+            },
+            Row {
+                what: "a function of fpgm runs in the bytes of fpgm",
+                tables: Tables {
+                    fpgm: "b0 00 2c b0 05 2d",
+                    ..NO_TABLES
+                },
+                code: "b0 01 b0 00 2b 38",
+                want: steps(6),
+                corners: [0, 95, 90, 0],
+            },
+            Row {
+                what: "an opcode that nothing defines",
+                tables: NO_TABLES,
+                code: "91",
+                want: halt(Cause::BadOpcode, 0, 0x91),
+                corners: [0; 4],
+            },
+            Row {
+                what: "a definition of an opcode that has a row is not used: 1 and 2 are added, and point 3 moves to 8",
+                tables: Tables {
+                    fpgm: "b0 60 89 2d",
+                    ..NO_TABLES
+                },
+                code: "b2 78 01 02 60 b0 01 5d",
+                want: steps(4),
+                corners: [0, 90, 90, 8],
+            },
+        ],
+    )
+}
+
+#[test]
+fn jumps_and_matches(rt: HostRuntime) -> Result<(), Fail> {
+    run(
+        &rt,
+        rt.alloc(),
+        &[
+            Row {
+                what: "a jump back, for ever",
+                tables: NO_TABLES,
+                code: "b8 ff fd 1c",
+                want: halt(Cause::StepLimit, 0, 0xB8),
+                corners: [0; 4],
+            },
+            Row {
+                what: "a jump to the end",
+                tables: NO_TABLES,
+                code: "b0 01 1c",
+                want: steps(2),
+                corners: [0, 90, 90, 0],
+            },
+            Row {
+                what: "a jump past the end",
+                tables: NO_TABLES,
+                code: "b0 02 1c",
+                want: halt(Cause::BadJump, 2, 0x1C),
+                corners: [0; 4],
+            },
+            Row {
+                what: "a jump past the end that is not taken",
+                tables: NO_TABLES,
+                code: "b1 09 00 78 b1 09 01 79",
+                want: steps(4),
+                corners: [0, 90, 90, 0],
+            },
+            Row {
+                what: "opcodes of IF in data that is skipped",
+                tables: NO_TABLES,
+                code: "b0 00 58 b1 59 1b 1b b0 07 59",
+                want: steps(4),
+                corners: [0, 90, 90, 0],
+            },
+            Row {
+                what: "the same, whose 7 shifts point 1",
+                tables: NO_TABLES,
+                code: "b0 00 58 b1 59 1b 1b b0 07 59 b0 01 23 38",
+                want: steps(7),
+                corners: [0, 97, 90, 0],
+            },
+            Row {
+                what: "the same without its last byte",
+                tables: NO_TABLES,
+                code: "b0 00 58 b1 59 1b 1b b0 07",
+                want: steps(3),
+                corners: [0, 90, 90, 0],
+            },
+            Row {
+                what: "the same with its first eight bytes",
+                tables: NO_TABLES,
+                code: "b0 00 58 b1 59 1b 1b b0",
+                want: halt(Cause::CodeEnd, 7, 0xB0),
+                corners: [0; 4],
+            },
+        ],
+    )
+}
+
+#[test]
+fn points(rt: HostRuntime) -> Result<(), Fail> {
+    let moved = Tables {
+        cvt: "0046",
+        ..NO_TABLES
+    };
+    run(
+        &rt,
+        rt.alloc(),
+        &[
+            Row {
+                what: "a point that is not there",
+                tables: NO_TABLES,
+                code: "b0 08 2e",
+                want: Ok(Ran {
+                    steps: 2,
+                    strays: 1,
+                }),
+                corners: [0, 90, 90, 0],
+            },
+            Row {
+                what: "to the grid, and the points between",
+                tables: NO_TABLES,
+                code: "7c b1 01 00 2e 2f 31",
+                want: steps(5),
+                corners: [0, 128, 128, 0],
+            },
+            Row {
+                what: "a delta for this size",
+                tables: NO_TABLES,
+                code: "b2 78 01 01 5d",
+                want: steps(2),
+                corners: [0, 98, 90, 0],
+            },
+            Row {
+                what: "a delta for another size",
+                tables: NO_TABLES,
+                code: "b2 68 01 01 5d",
+                want: steps(2),
+                corners: [0, 90, 90, 0],
+            },
+            Row {
+                what: "a control value of 70",
+                tables: moved,
+                code: "b1 01 00 fc",
+                want: steps(2),
+                corners: [0, 64, 90, 0],
+            },
+            Row {
+                what: "it leaves point 1 as the reference point 0, to which point 2 is moved",
+                tables: moved,
+                code: "b1 01 00 fc b0 02 3c",
+                want: steps(4),
+                corners: [0, 64, 64, 0],
+            },
+        ],
+    )
+}
+
+// Calls of an empty function, each 32,767 times.
+const SEVEN: &str = "b0 00 2c 2d
+    b8 7f ff b0 00 2a b8 7f ff b0 00 2a b8 7f ff b0 00 2a b8 7f ff b0 00 2a
+    b8 7f ff b0 00 2a b8 7f ff b0 00 2a b8 7f ff b0 00 2a";
+
+const EIGHT: &str = "b0 00 2c 2d
+    b8 7f ff b0 00 2a b8 7f ff b0 00 2a b8 7f ff b0 00 2a b8 7f ff b0 00 2a
+    b8 7f ff b0 00 2a b8 7f ff b0 00 2a b8 7f ff b0 00 2a b8 7f ff b0 00 2a";
+
+// A font with this `fpgm` has this machine, or none.
+fn prelude(
+    rt: &impl Abort,
+    alloc: Global,
+    fpgm: &'static str,
+    want: Result<Ran, Halt>,
+) -> Result<(), Fail> {
+    let tables = Tables { fpgm, ..NO_TABLES };
+    let file = with_tables(alloc, &tables)?;
+    let answer = match machine(alloc, file.as_slice())? {
+        Ok(machine) => Ok(machine.prelude()),
+        Err(halt) => Err(halt),
+    };
+    assert!(rt; answer == want, "{fpgm}");
+    Ok(())
+}
+
+// A halt of `fpgm`, in its own bytes.
+fn font_halt(cause: Cause, address: usize, opcode: u8) -> Result<Ran, Halt> {
+    Err(Halt {
+        cause,
+        during: Program::Font,
+        program: Program::Font,
+        address,
+        opcode,
+    })
+}
+
+#[test]
+fn calls(rt: HostRuntime) -> Result<(), Fail> {
+    let alloc = rt.alloc();
+    prelude(&rt, alloc, "", steps(0))?;
+    prelude(&rt, alloc, SEVEN, steps(229_392))?;
+    prelude(&rt, alloc, EIGHT, font_halt(Cause::StepLimit, 3, 0x2D))?;
+    let within_itself = "b0 00 2c b0 00 2b 2d b0 00 2b";
+    prelude(
+        &rt,
+        alloc,
+        within_itself,
+        font_halt(Cause::CallDepth, 5, 0x2B),
+    )?;
+    prelude(&rt, alloc, "2d", font_halt(Cause::StrayEnd, 0, 0x2D))?;
+    let past_its_end = "b0 00 2c b0 05 1c 2d b0 00 2b";
+    prelude(&rt, alloc, past_its_end, font_halt(Cause::StrayEnd, 10, 0))?;
+    // The function that is called twice defines another one of its number, which the second turn does not run.
+    let meanwhile = "b0 00 2c b0 09 1c 2d b1 02 00 2a b0 08 1c b0 00 2c b0 09 2d 2d";
+    prelude(&rt, alloc, meanwhile, steps(16))
+}
+
+// A program that a machine runs on a square of its own; the corners' x then.
+fn ran(
+    rt: &impl Abort,
+    alloc: Global,
+    machine: &mut Machine,
+    code: &str,
+    want: Result<Ran, Halt>,
+    places: [i32; 4],
+) -> Result<(), Fail> {
+    let code_bytes = bytes(alloc, code)?;
+    let mut zone = square(alloc)?;
+    let answer = machine.run_glyph(Code::new(code_bytes.as_slice()), &mut zone);
+    assert!(rt; answer == want, "{code}");
+    assert_eq!(rt; corners(&zone), places, "{code}");
+    Ok(())
+}
+
+// The first program writes storage, a control value, a function and the twilight point, and halts or not; the second
+// one sees nothing of it.
+#[test]
+fn nothing_is_kept_between_glyphs(rt: HostRuntime) -> Result<(), Fail> {
+    let alloc = rt.alloc();
+    let tables = Tables {
+        cvt: "0000",
+        ..NO_TABLES
+    };
+    let file = with_tables(alloc, &tables)?;
+    let mut machine = machine(alloc, file.as_slice())?.ok().ok_or("a halt")?;
+    let resting = [0, 90, 90, 0];
+    // Point 1 is shifted by a storage cell, by a control value, by the place of the twilight point.
+    let storage = "b1 01 00 43 38";
+    let control = "b1 01 00 45 38";
+    let twilight = "b0 01 b0 00 15 b0 00 46 b0 01 15 38";
+    let missing = halt(Cause::NoFunction, 2, 0x2B);
+    for end in ["", "91"] {
+        let want = if end.is_empty() {
+            steps(10)
+        } else {
+            halt(Cause::BadOpcode, 19, 0x91)
+        };
+        let first = format!(in alloc;
+            "b0 01 2c 2d b1 00 40 42 b1 00 40 44 b0 00 16 b1 00 40 3a {end}"
+        )?;
+        ran(&rt, alloc, &mut machine, &first, want, resting)?;
+        ran(&rt, alloc, &mut machine, storage, steps(3), resting)?;
+        ran(&rt, alloc, &mut machine, control, steps(3), resting)?;
+        ran(&rt, alloc, &mut machine, twilight, steps(8), resting)?;
+        ran(&rt, alloc, &mut machine, "b0 01 2b", missing, resting)?;
+    }
+    let within_one = "b1 00 40 42 b1 01 00 43 38";
+    ran(
+        &rt,
+        alloc,
+        &mut machine,
+        within_one,
+        steps(5),
+        [0, 154, 90, 0],
+    )?;
+    ran(&rt, alloc, &mut machine, storage, steps(3), resting)
+}
+
+// INSTCTRL while `prep` runs, in a program of a glyph, and while `fpgm` runs.
+#[test]
+fn what_prep_asks_for(rt: HostRuntime) -> Result<(), Fail> {
+    let alloc = rt.alloc();
+    let in_prep = Tables {
+        prep: "b1 01 01 8e",
+        ..NO_TABLES
+    };
+    let file = with_tables(alloc, &in_prep)?;
+    let first = machine(alloc, file.as_slice())?.ok().ok_or("a halt")?;
+    assert!(rt; first.skips_programs());
+    assert!(rt;
+        first.prelude()
+            == Ran {
+                steps: 2,
+                strays: 0
+            }
+    );
+    let in_fpgm = Tables {
+        fpgm: "b1 01 01 8e",
+        ..NO_TABLES
+    };
+    let file = with_tables(alloc, &in_fpgm)?;
+    let mut second = machine(alloc, file.as_slice())?.ok().ok_or("a halt")?;
+    assert!(rt; !second.skips_programs());
+    ran(
+        &rt,
+        alloc,
+        &mut second,
+        "b1 01 01 8e",
+        steps(2),
+        [0, 90, 90, 0],
+    )?;
+    assert!(rt; !second.skips_programs());
+    Ok(())
+}
