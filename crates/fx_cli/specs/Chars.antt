@@ -1,6 +1,7 @@
 -- The characters that a list asks for: items joined by commas, each a number of one to six hexadecimal digits or two such
 -- joined by '-'.
-use Rattle.std.specs.Prelude.{ℕ, zero, suc, ◌+◌, ◌-◌, ◌*◌, ◌==◌, ◌&&◌, nat_lt, nat_le, List, [], ◌∷◌, ◌++◌, length, Option, Some, None, option_map, option_and_then, if◌then◌else◌}
+use Rattle.std.specs.Prelude.{ℕ, zero, suc, ◌+◌, ◌-◌, ◌*◌, ◌==◌, ◌&&◌, nat_lt, nat_le, List, [], ◌∷◌, ◌++◌, length, Option, Some}
+use Rattle.std.specs.Prelude.{None, option_map, option_and_then, if◌then◌else◌}
 use Rattle.std.specs.List.{position_or_len, before_first, after_first}
 use Rattle.hex.specs.Hex.{hex_digit_value}
 use Rattle.fx_strike.specs.Limits.{max_characters}
@@ -38,7 +39,8 @@ numbers_between range = numbers_from range.0 (range.1 - range.0 + 1)
 -- those of all items, in their order
 unfoldable pub numbers_of_items : List (List ℕ) → Option (List ℕ)
 numbers_of_items [] = Some []
-numbers_of_items (item ∷ items) = option_and_then (λ range. option_map (λ more. numbers_between range ++ more) (numbers_of_items items)) (range_of item)
+numbers_of_items (item ∷ items) =
+    option_and_then (λ range. option_map (λ more. numbers_between range ++ more) (numbers_of_items items)) (range_of item)
 
 -- at most max_characters of them
 abbrev pub few : List ℕ → Option (List ℕ)

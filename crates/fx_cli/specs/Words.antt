@@ -1,5 +1,6 @@
 -- What the arguments of a command line ask for.
-use Rattle.std.specs.Prelude.{ℕ, Bool, true, false, List, [], ◌∷◌, length, codes, Option, Some, None, unwrap_or, option_map, option_and_then, if◌then◌else◌, nat_lt, drop, ◌&&◌, ◌||◌}
+use Rattle.std.specs.Prelude.{ℕ, Bool, true, false, List, [], ◌∷◌, length, codes, Option, Some, None, unwrap_or, option_map}
+use Rattle.std.specs.Prelude.{option_and_then, if◌then◌else◌, nat_lt, drop, ◌&&◌, ◌||◌}
 use Rattle.std.specs.List.{list_all, list_any}
 use Rattle.std.specs.Str.{bytes_eq}
 use Rattle.std.specs.Char.{digit_value}

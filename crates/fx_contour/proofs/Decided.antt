@@ -1,6 +1,6 @@
 -- The tests decide the facts that they test.
 -- For the clauses `exact` of `pieces` and `frame`, and for the law `tested`.
-use Rattle.std.proofs.Common.{◌≡◌, ◌↔◌, IsTrue, refl, sym, subst, ◌^◌, inl, inr, ℤ, pos, negsuc, neg_ℤ, ◌+ℤ◌, ◌*ℤ◌, ◌≤ℤ◌, int_le, ℕ}
+use Rattle.std.proofs.Common.{◌≡◌, ◌↔◌, IsTrue, refl, sym, subst, inl, inr, ℤ, pos, negsuc, neg_ℤ, ◌+ℤ◌, ◌*ℤ◌, ◌≤ℤ◌, int_le, ℕ}
 use Rattle.std.proofs.Common.{◌⊎◌, Bool, true, false, ◌&&◌, ◌||◌, List, [], ◌∷◌, Option, Some, None, IsSomeAnd, All, Result, Ok}
 use Rattle.std.proofs.Common.{Err, Decides, IfOk, IfErr, arith}
 use Rattle.std.proofs.lemmas.Int.{ints}

@@ -1,7 +1,7 @@
 -- What a machine begins with.
 -- Control values are numbers of 32 bits; the tables that hold what programs leave have the sizes of the first state's.
-use Rattle.std.proofs.Common.{◌≡◌, ℕ, ℤ, ◌+◌, List, [], map, Result, Ok, Err, FitsSigned, refl}
-use Rattle.std.specs.List.{All, range_with_len}
+use Rattle.std.proofs.Common.{◌≡◌, ℕ, ◌+◌, List, [], map, Result, Ok, Err, FitsSigned, refl}
+use Rattle.std.specs.List.{All}
 use Rattle.std.proofs.lemmas.List.Elements.{All-map}
 use Rattle.fx_fixed.proofs.Rounding.{wrapped_of_is_wrapped}
 use Rattle.fx_fixed.specs.Chain.{GivesUnless}

@@ -1,4 +1,5 @@
 -- The function's answer is the relation's, and there is no other.
+-- Serves the laws of `answer_of` and the loop of `run`.
 use Rattle.std.proofs.Common.{◌≡◌, ◌⊎◌, inl, inr, ℕ, zero, suc, ◌+◌, ◌-◌, ◌<◌, ◌≤◌, List, [], ◌∷◌, length, refl, sym, ap, ◌∙◌}
 use Rattle.std.proofs.Common.{arith, add-zero, zero-add}
 use Rattle.std.proofs.Math.Numerals.{one-add}

@@ -1,7 +1,7 @@
 -- The rows that read or change the graphics state, and those of the stack that need it. All continue at the next address.
 -- Each comment has the opcode, the mnemonic and what becomes of the stack, whose top is written last.
 -- Apple TrueType Reference Manual, "Instruction set"; "Graphics state".
-use Rattle.std.specs.Prelude.{ℕ, ℤ, pos, Bool, ◌&&◌, not, if◌then◌else◌, Result, Ok, Err}
+use Rattle.std.specs.Prelude.{ℕ, ℤ, pos, Bool, not, if◌then◌else◌, Result, Ok}
 use Rattle.std.specs.Ordering.{int_eq}
 use Rattle.fx_fixed.specs.Chain.{◌>>=◌, map_fault}
 use Rattle.fx_scale.specs.Scaling.{scaled_by}

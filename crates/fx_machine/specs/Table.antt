@@ -19,7 +19,7 @@ use Rattle.fx_stackops.specs.Rows.{deltac_of, ignored_of, getinfo_of, roll_of, m
 use Rattle.fx_pointops.specs.Distances.{relative_of}
 use Rattle.fx_machine.specs.declared.program.Program.{Program}
 use Rattle.fx_machine.specs.declared.halt.Cause.{Cause}
-use Rattle.fx_machine.specs.declared.halt.Cause.TheVariants.{BadOpcode, CodeEnd}
+use Rattle.fx_machine.specs.declared.halt.Cause.TheVariants.{CodeEnd}
 use Rattle.fx_machine.specs.declared.action.Action.{Action}
 use Rattle.fx_machine.specs.declared.action.Action.TheVariants.{Went, Called, Returned}
 use Rattle.fx_machine.specs.declared.state.State.{State}

@@ -1,12 +1,14 @@
 -- Whether a place is covered can be decided by a test.
 -- Serves the law that a strike exists, with Existing.
-use Rattle.std.proofs.Common.{◌≡◌, refl, sym, subst, inl, inr, ◌⊎◌, zero, suc, ℤ, pos, ◌-ℤ◌, ◌*ℤ◌, ◌+ℤ◌, ◌≤ℤ◌, ◌<ℤ◌, int_le, int_lt, Bool, false, not, ◌&&◌, ◌||◌, List, [], ◌∷◌, Option, Some, None, Any, Decides, arith}
+use Rattle.std.proofs.Common.{◌≡◌, refl, sym, subst, inl, inr, ◌⊎◌, zero, suc, ℤ, pos, ◌-ℤ◌, ◌*ℤ◌, ◌+ℤ◌, ◌≤ℤ◌, ◌<ℤ◌, int_le, int_lt}
+use Rattle.std.proofs.Common.{Bool, false, not, ◌&&◌, ◌||◌, List, [], ◌∷◌, Option, Some, None, Any, Decides, arith}
 use Rattle.std.specs.Ordering.{int_eq}
 use Rattle.std.proofs.lemmas.Int.{ints}
 use Rattle.std.proofs.lemmas.Bool.Decides.{Decides-like, Decides-and, Decides-or, Decides-not, Decides-int_eq}
 use Rattle.fx_contour.proofs.Decided.{le_decides}
 use Rattle.fx_winding.specs.Area.{Place, area, gap_of}
-use Rattle.fx_winding.specs.Winding.{Span, weight_a, weight_b, weight_c, IsBetween, IsOnLine, AreOnArc, IsOnCurve, IsBeforeTurn, IsInRange, IsOnFlatArc, IsOnPart, IsOn, winding, IsCovered}
+use Rattle.fx_winding.specs.Winding.{Span, weight_a, weight_b, weight_c, IsBetween, IsOnLine, AreOnArc, IsOnCurve, IsBeforeTurn}
+use Rattle.fx_winding.specs.Winding.{IsInRange, IsOnFlatArc, IsOnPart, IsOn, winding, IsCovered}
 
 -- a test that decides
 abbrev pub Test : Type 0 → Type 0
@@ -45,7 +47,8 @@ on_line a c p =
     (both (eq (area a c p) (pos 0)) (both (between a.x c.x p.x) (between a.y c.y p.y)))
 
 on_arc : (u v w : ℤ) → Test (AreOnArc u v w)
-on_arc u v w = like (λ h. (h.0, h.1, h.2.0, h.2.1)) (λ h. (h.0, h.1, (h.2, h.3))) (three (le (pos 0) u) (le (pos 0) v) (both (le (pos 0) w) (eq (gap_of u v w) (pos 0))))
+on_arc u v w = like (λ h. (h.0, h.1, h.2.0, h.2.1)) (λ h. (h.0, h.1, (h.2, h.3)))
+    (three (le (pos 0) u) (le (pos 0) v) (both (le (pos 0) w) (eq (gap_of u v w) (pos 0))))
 
 on_curve : (a b c p : Place) → Test (IsOnCurve a b c p)
 on_curve a b c p =
@@ -63,7 +66,8 @@ in_range a b c p =
 
 on_flat_arc : (a b c p : Place) → Test (IsOnFlatArc a b c p)
 on_flat_arc a b c p =
-    like (λ h. record { flat = h.0; with_ab = h.1.0; with_bc = h.1.1.0; with_ac = h.1.1.1.0; range_x = h.1.1.1.1.0; range_y = h.1.1.1.1.1 })
+    like (λ h. record { flat = h.0; with_ab = h.1.0; with_bc = h.1.1.0; with_ac = h.1.1.1.0; range_x = h.1.1.1.1.0;
+        range_y = h.1.1.1.1.1 })
     (λ h. (h.flat, (h.with_ab, (h.with_bc, (h.with_ac, (h.range_x, h.range_y))))))
     (both (eq (area a b c) (pos 0)) (both (eq (area a b p) (pos 0)) (both (eq (area b c p) (pos 0)) (both (eq (area a c p) (pos 0))
     (both (in_range a.x b.x c.x p.x) (in_range a.y b.y c.y p.y))))))

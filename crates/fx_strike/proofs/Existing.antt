@@ -1,9 +1,9 @@
 -- Where a plan is due there are glyphs of its sketches.
 -- Serves the law that a strike exists.
-use Rattle.std.proofs.Common.{◌≡◌, sym, ◌∙◌, subst, inl, inr, ◌⊎◌, ℕ, ℤ, pos, negsuc, ◌+ℤ◌, ◌*ℤ◌, ◌≤ℤ◌, ◌<ℤ◌, Bool, true, not, List, [], ◌∷◌, Option, Some, None, IsSomeAnd, All, Result, Ok, arith}
+use Rattle.std.proofs.Common.{◌≡◌, sym, ◌∙◌, subst, inl, inr, ℕ, ℤ, pos, negsuc, ◌+ℤ◌, ◌*ℤ◌, ◌≤ℤ◌, ◌<ℤ◌, Bool, true, not, List, []}
+use Rattle.std.proofs.Common.{◌∷◌, Result, Ok, arith}
 use Rattle.std.specs.Prelude.{filter}
-use Rattle.std.proofs.lemmas.Int.{by_lt_z, ints}
-use Rattle.std.proofs.lemmas.List.Elements.{All-nil, All-cons}
+use Rattle.std.proofs.lemmas.Int.{ints}
 use Rattle.fx_fixed.specs.Chain.{◌>>=◌, map_fault, map_chain}
 use Rattle.fx_fixed.specs.Numbers.{near_of}
 use Rattle.fx_fixed.proofs.Chain.{bind_ok, map_fault_ok}
@@ -13,12 +13,10 @@ use Rattle.fx_sfnt.specs.Glyphs.{metrics_of}
 use Rattle.fx_sfnt.specs.declared.records.Metrics.{Metrics}
 use Rattle.fx_cmap.specs.Lookup.{Segments, glyph_for}
 use Rattle.fx_hint.specs.Outlines.{OutlineView, outline_of}
-use Rattle.fx_winding.specs.Area.{Place}
-use Rattle.fx_winding.specs.Winding.{Span, IsCovered, centre}
-use Rattle.fx_winding.specs.Outside.{HasAll, OptionAll, IsBeside, AreOfOutline, joined}
-use Rattle.fx_winding.proofs.Beside.{nothing_outside}
+use Rattle.fx_winding.specs.Winding.{Span, centre}
 use Rattle.fx_contour.specs.Contours.{drawn_of}
-use Rattle.fx_contour.specs.Frames.{HasAny, HaveAny, IsInBoundingBox, AreTooLarge, framed_of}
+use Rattle.fx_contour.specs.Frames.{IsInBoundingBox, AreTooLarge, framed_of}
+use Rattle.fx_contour.proofs.Outside.{in_box}
 use Rattle.fx_bdf.specs.Glyphs.{Glyph, glyph_bit}
 use Rattle.fx_strike.specs.declared.refusal.Refusal.{Refusal}
 use Rattle.fx_strike.specs.Faults.{of_font, of_hint, of_contour}
@@ -30,56 +28,6 @@ use Rattle.fx_strike.proofs.OnePart.{parts_of}
 use Rattle.fx_strike.proofs.Covering.{covered}
 use Rattle.fx_strike.proofs.Near.{AreNear, AreDrawn, are_drawn, not_large, have_near, have_more}
 use Rattle.fx_strike.proofs.Trimming.{AreSmall, trimmed}
-
--- ---- in the bounding box, or beside it
-
-piece_either : (P Q : Place → Type 0) → ((q : Place) → P q ⊎ Q q) → (s : Span) → HasAll P s ⊎ HasAny Q s
-piece_either P Q d s = by (d s.a) (option s.b) (d s.c)
-  where
-    option : (b : Option Place) → OptionAll P b ⊎ IsSomeAnd b Q
-    option None = inl tt
-    option (Some b) = d b
-
-    by : P s.a ⊎ Q s.a → OptionAll P s.b ⊎ IsSomeAnd s.b Q → P s.c ⊎ Q s.c → HasAll P s ⊎ HasAny Q s
-    by (inl a) (inl b) (inl c) = inl (a, b, c)
-    by (inr a) b c = inr (inl a)
-    by (inl a) (inr b) c = inr (inr (inl b))
-    by (inl a) (inl b) (inr c) = inr (inr (inr c))
-
-either : (P Q : Place → Type 0) → ((q : Place) → P q ⊎ Q q) → (ss : List Span) → All (HasAll P) ss ⊎ HaveAny Q ss
-either P Q d [] = inl (All-nil (HasAll P))
-either P Q d (s ∷ ss) = by (piece_either P Q d s) (either P Q d ss)
-  where
-    by : HasAll P s ⊎ HasAny Q s → All (HasAll P) ss ⊎ HaveAny Q ss → All (HasAll P) (s ∷ ss) ⊎ HaveAny Q (s ∷ ss)
-    by (inl h) (inl hs) = inl (All-cons (HasAll P) s ss h hs)
-    by (inr h) r = inr (inl h)
-    by (inl h) (inr hs) = inr (inr hs)
-
-order : (a b : ℤ) → (a <ℤ b) ⊎ (b ≤ℤ a)
-order a b = by_lt_z a b (λ h. inl h) (λ h. inr h)
-
-in_or_beside : (p : Place) (ss : List Span) → IsInBoundingBox p ss ⊎ IsBeside p ss
-in_or_beside p ss =
-    by
-    (either (λ q. p.x <ℤ q.x) (λ q. q.x ≤ℤ p.x) (λ q. order p.x q.x) ss)
-    (either (λ q. q.x <ℤ p.x) (λ q. p.x ≤ℤ q.x) (λ q. order q.x p.x) ss)
-    (either (λ q. p.y <ℤ q.y) (λ q. q.y ≤ℤ p.y) (λ q. order p.y q.y) ss)
-    (either (λ q. q.y <ℤ p.y) (λ q. p.y ≤ℤ q.y) (λ q. order q.y p.y) ss)
-  where
-    by : All (HasAll (λ q. p.x <ℤ q.x)) ss ⊎ HaveAny (λ q. q.x ≤ℤ p.x) ss
-        → All (HasAll (λ q. q.x <ℤ p.x)) ss ⊎ HaveAny (λ q. p.x ≤ℤ q.x) ss
-        → All (HasAll (λ q. p.y <ℤ q.y)) ss ⊎ HaveAny (λ q. q.y ≤ℤ p.y) ss → All (HasAll (λ q. q.y <ℤ p.y)) ss ⊎ HaveAny (λ q. p.y ≤ℤ q.y) ss
-        → IsInBoundingBox p ss ⊎ IsBeside p ss
-    by (inl a) b c d = inr (inl a)
-    by (inr a) (inl b) c d = inr (inr (inl b))
-    by (inr a) (inr b) (inl c) d = inr (inr (inr (inl c)))
-    by (inr a) (inr b) (inr c) (inl d) = inr (inr (inr (inr d)))
-    by (inr a) (inr b) (inr c) (inr d) = inl (record { left = a; right = b; bottom = c; top = d })
-
-in_box : (p : Place) (ss : List Span) → AreOfOutline ss → IsCovered p ss → IsInBoundingBox p ss
-in_box p ss (contours, o, e) k =
-    let P : List Span → Type 0 = λ xs. IsCovered p xs → IsInBoundingBox p xs in
-    subst P e (λ c. elim (in_or_beside p (joined contours)) [ inl h ↦ h | inr b ↦ absurd (nothing_outside p contours o b c) ]) k
 
 -- ---- the pixels that are covered
 
@@ -123,8 +71,10 @@ not_wide ss small col row col2 row2 h k = elim (order col2 (col +ℤ pos 2048)) 
     row,
     h,
     inl (record {
-      left = have_more (λ q. q.x ≤ℤ (centre col row).x) (λ q. q.x ≤ℤ (centre (col +ℤ pos 2048) row).x) (λ q l. up_from q.x col (col +ℤ pos 2048) l (omega (arith, ints))) ss h.left;
-      right = have_more (λ q. (centre col2 row2).x ≤ℤ q.x) (λ q. (centre (col +ℤ pos 2048) row).x ≤ℤ q.x) (λ q l. down_from q.x (col +ℤ pos 2048) col2 l far) ss k.right;
+      left = have_more (λ q. q.x ≤ℤ (centre col row).x) (λ q. q.x ≤ℤ (centre (col +ℤ pos 2048) row).x)
+          (λ q l. up_from q.x col (col +ℤ pos 2048) l (omega (arith, ints))) ss h.left;
+      right = have_more (λ q. (centre col2 row2).x ≤ℤ q.x) (λ q. (centre (col +ℤ pos 2048) row).x ≤ℤ q.x)
+          (λ q l. down_from q.x (col +ℤ pos 2048) col2 l far) ss k.right;
       bottom = h.bottom;
       top = h.top;
     }),
@@ -142,8 +92,10 @@ not_high ss small col row col2 row2 h k = elim (order row2 (row +ℤ pos 2048)) 
     inr (record {
       left = h.left;
       right = h.right;
-      bottom = have_more (λ q. q.y ≤ℤ (centre col row).y) (λ q. q.y ≤ℤ (centre col (row +ℤ pos 2048)).y) (λ q l. up_from q.y row (row +ℤ pos 2048) l (omega (arith, ints))) ss h.bottom;
-      top = have_more (λ q. (centre col2 row2).y ≤ℤ q.y) (λ q. (centre col (row +ℤ pos 2048)).y ≤ℤ q.y) (λ q l. down_from q.y (row +ℤ pos 2048) row2 l far) ss k.top;
+      bottom = have_more (λ q. q.y ≤ℤ (centre col row).y) (λ q. q.y ≤ℤ (centre col (row +ℤ pos 2048)).y)
+          (λ q l. up_from q.y row (row +ℤ pos 2048) l (omega (arith, ints))) ss h.bottom;
+      top = have_more (λ q. (centre col2 row2).y ≤ℤ q.y) (λ q. (centre col (row +ℤ pos 2048)).y ≤ℤ q.y)
+          (λ q l. down_from q.y (row +ℤ pos 2048) row2 l far) ss k.top;
     }),
   ))
 ]
@@ -154,7 +106,8 @@ bit_by ss col row = (covered (centre col row) ss).0
 
 are_small : (ss : List Span) → AreDrawn ss → (AreTooLarge ss → ⊥) → AreSmall (bit_by ss) (negsuc 32767) 65536
 are_small ss d small =
-    let box : (col row : ℤ) → bit_by ss col row ≡ true → IsInBoundingBox (centre col row) ss = λ col row h. in_box (centre col row) ss d.closed ((covered (centre col row) ss).1.0 h) in
+    let box : (col row : ℤ) → bit_by ss col row ≡ true → IsInBoundingBox (centre col row) ss =
+            λ col row h. in_box (centre col row) ss d.closed ((covered (centre col row) ss).1.0 h) in
     let to : (z : ℤ) → z <ℤ pos 32768 → z <ℤ (negsuc 32767 +ℤ pos 65536) = λ z h. h in
     record {
       from = omega (arith, ints);
@@ -176,7 +129,8 @@ glyph_of_spans s d small =
         code = t.1.code_is;
         swidth = t.1.swidth_is;
         dwidth = t.1.dwidth_is;
-        bits = λ col row. (λ h. (covered (centre col row) s.spans).1.0 (sym (bits col row) ∙ h), λ h. bits col row ∙ (covered (centre col row) s.spans).1.1 h);
+        bits = λ col row. (λ h. (covered (centre col row) s.spans).1.0 (sym (bits col row) ∙ h), λ h. bits col row ∙
+            (covered (centre col row) s.spans).1.1 h);
         tight = tight_along t.0.box (bit_by s.spans) (glyph_bit t.0) (λ col row. sym (bits col row)) t.1.tight;
         formed = t.1.formed;
       },
@@ -194,9 +148,12 @@ glyph_of_sketch face ppem code glyph s h =
       strays = d.strays;
       steps = d.steps;
     } in
-    let measured : OutlineView → List Span → Result Sketch Refusal = λ d ss. map_fault of_font (metrics_of face glyph) >>= λ m. Ok (last d ss m) in
-    let framed : OutlineView → List Span → Result Sketch Refusal = λ d ss. map_fault (of_contour glyph) (framed_of ss) >>= λ _. measured d ss in
-    let a = bind_ok (map_fault of_hint (outline_of face ppem glyph)) (λ d. map_fault (of_contour glyph) (drawn_of d.ends d.points) >>= framed d) s h in
+    let measured : OutlineView → List Span → Result Sketch Refusal =
+            λ d ss. map_fault of_font (metrics_of face glyph) >>= λ m. Ok (last d ss m) in
+    let framed : OutlineView → List Span → Result Sketch Refusal =
+            λ d ss. map_fault (of_contour glyph) (framed_of ss) >>= λ _. measured d ss in
+    let a = bind_ok (map_fault of_hint (outline_of face ppem glyph))
+            (λ d. map_fault (of_contour glyph) (drawn_of d.ends d.points) >>= framed d) s h in
     let b = bind_ok (map_fault (of_contour glyph) (drawn_of a.0.ends a.0.points)) (framed a.0) s a.2 in
     let c = bind_ok (map_fault (of_contour glyph) (framed_of b.0)) (λ _. measured a.0 b.0) s b.2 in
     let d = bind_ok (map_fault of_font (metrics_of face glyph)) (λ m. Ok (last a.0 b.0 m)) s c.2 in
@@ -215,7 +172,9 @@ glyphs_of_sketches face segments ppem [] ss h =
     let P : List Sketch → Type 0 = λ xs. (gs : List Glyph) × AreGlyphsOf xs gs in
     subst P e ([], tt)
 glyphs_of_sketches face segments ppem (c ∷ cs) ss h =
-    let p = bind_ok (sketch_of face segments ppem c) (λ y. map_chain (sketch_of face segments ppem) cs >>= λ zs. Ok (y ∷ zs)) ss h in
+    let p =
+            bind_ok (sketch_of face segments ppem c) (λ y. map_chain (sketch_of face segments ppem) cs >>= λ zs. Ok (y ∷ zs)) ss
+            h in
     let q = bind_ok (map_chain (sketch_of face segments ppem) cs) (λ zs. Ok (p.0 ∷ zs)) ss p.2 in
     let e : p.0 ∷ q.0 ≡ ss = cc (q.2) in
     let g = glyph_of_sketch face ppem c (glyph_for segments c) p.0 p.1 in
@@ -226,4 +185,5 @@ glyphs_of_sketches face segments ppem (c ∷ cs) ss h =
 pub strike_exists : StrikeExists
 strike_exists file ppem name chars hinting plan h =
     let p = parts_of file ppem name chars hinting plan h in
-    glyphs_of_sketches p.face p.segments p.size (filter (λ c. not (is_missing p.segments c)) (rising chars)) plan.sketches p.sketches
+    glyphs_of_sketches p.face p.segments p.size (filter (λ c. not (is_missing p.segments c)) (rising chars)) plan.sketches
+        p.sketches

@@ -1,5 +1,7 @@
 -- A sketch has one glyph, a strike one text, and a character one part in all strikes that hold it.
-use Rattle.std.proofs.Common.{◌≡◌, refl, sym, ap, ◌∙◌, subst, arith, ℕ, zero, suc, ◌<◌, ℤ, pos, Bool, true, false, not, List, [], ◌∷◌, length, get_or, Result, Ok}
+-- Serves the laws `part` and `text`, and the law that a strike exists.
+use Rattle.std.proofs.Common.{◌≡◌, refl, sym, ap, ◌∙◌, subst, arith, ℕ, zero, suc, ◌<◌, ℤ, pos, Bool, true, false, not, List, []}
+use Rattle.std.proofs.Common.{◌∷◌, length, get_or, Result, Ok}
 use Rattle.std.specs.Prelude.{IsTrue, Contains, neg_ℤ, filter, nat_lt, ◌||◌}
 use Rattle.std.specs.List.{count_by, list_any}
 use Rattle.fx_fixed.specs.Chain.{◌>>=◌, refuse, wanted, map_fault, map_chain}
@@ -21,7 +23,8 @@ use Rattle.fx_strike.specs.declared.refusal.Refusal.TheVariants.{BadSize, BadCha
 use Rattle.fx_strike.specs.Limits.{max_characters, max_code}
 use Rattle.fx_strike.specs.Faults.{of_font, of_char_map, of_hint, of_contour}
 use Rattle.fx_strike.specs.Characters.{rising}
-use Rattle.fx_strike.specs.Strike.{Sketch, Plan, AreGlyphsOf, thousandths, pixels, glyph_sketch_of, sketch_of, is_missing, sketches_of, checked, opened_of, plan_in, plan_of, strike_text}
+use Rattle.fx_strike.specs.Strike.{Sketch, Plan, AreGlyphsOf, thousandths, pixels, glyph_sketch_of, sketch_of, is_missing}
+use Rattle.fx_strike.specs.Strike.{sketches_of, checked, opened_of, plan_in, plan_of, strike_text}
 use Rattle.fx_strike.specs.Laws.{GlyphIsOne, TextIsOne, PartIsOne}
 use Rattle.fx_strike.proofs.Sketching.{tight_along}
 
@@ -36,7 +39,8 @@ same_bit false false f g = refl
 pub glyph_is_one : TrimmedIsOne → GlyphIsOne
 glyph_is_one one s g h p q =
     one s.code s.swidth s.dwidth (glyph_bit g) g h
-    (record { code_is = p.code; swidth_is = p.swidth; dwidth_is = p.dwidth; bits = λ col row. refl; tight = p.tight; formed = p.formed })
+    (record { code_is = p.code; swidth_is = p.swidth; dwidth_is = p.dwidth; bits = λ col row. refl; tight = p.tight;
+        formed = p.formed })
     (record {
       code_is = q.code;
       swidth_is = q.swidth;
@@ -47,7 +51,8 @@ glyph_is_one one s g h p q =
     })
   where
     same : (col row : ℤ) → glyph_bit h col row ≡ glyph_bit g col row
-    same col row = same_bit (glyph_bit h col row) (glyph_bit g col row) (λ x. (p.bits col row).1 ((q.bits col row).0 x)) (λ x. (q.bits col row).1 ((p.bits col row).0 x))
+    same col row = same_bit (glyph_bit h col row) (glyph_bit g col row) (λ x. (p.bits col row).1 ((q.bits col row).0 x))
+        (λ x. (q.bits col row).1 ((p.bits col row).0 x))
 
 glyphs_are_one : GlyphIsOne → (ss : List Sketch) (gs hs : List Glyph) → AreGlyphsOf ss gs → AreGlyphsOf ss hs → gs ≡ hs
 glyphs_are_one one [] [] [] p q = refl
@@ -75,9 +80,12 @@ sketch_code face ppem code glyph s h =
       strays = d.strays;
       steps = d.steps;
     } in
-    let measured : OutlineView → List Span → Result Sketch Refusal = λ d ss. map_fault of_font (metrics_of face glyph) >>= λ m. Ok (last d ss m) in
-    let framed : OutlineView → List Span → Result Sketch Refusal = λ d ss. map_fault (of_contour glyph) (framed_of ss) >>= λ _. measured d ss in
-    let a = bind_ok (map_fault of_hint (outline_of face ppem glyph)) (λ d. map_fault (of_contour glyph) (drawn_of d.ends d.points) >>= framed d) s h in
+    let measured : OutlineView → List Span → Result Sketch Refusal =
+            λ d ss. map_fault of_font (metrics_of face glyph) >>= λ m. Ok (last d ss m) in
+    let framed : OutlineView → List Span → Result Sketch Refusal =
+            λ d ss. map_fault (of_contour glyph) (framed_of ss) >>= λ _. measured d ss in
+    let a = bind_ok (map_fault of_hint (outline_of face ppem glyph))
+            (λ d. map_fault (of_contour glyph) (drawn_of d.ends d.points) >>= framed d) s h in
     let b = bind_ok (map_fault (of_contour glyph) (drawn_of a.0.ends a.0.points)) (framed a.0) s a.2 in
     let c = bind_ok (map_fault (of_contour glyph) (framed_of b.0)) (λ _. measured a.0 b.0) s b.2 in
     let d = bind_ok (map_fault of_font (metrics_of face glyph)) (λ m. Ok (last a.0 b.0 m)) s c.2 in
@@ -90,7 +98,8 @@ sketch_code face ppem code glyph s h =
 -- what a chain gives at a place is what its step gives of something
 chain_at : {A B : Type 0} (f : A → Result B Refusal) (xs : List A) (ys : List B) → map_chain f xs ≡ Ok ys → (k : ℕ) (d : B)
     → k < length ys → (x : A) × (f x ≡ Ok (get_or ys k d))
-chain_at {A} {B} f [] ys h k d l = let e : [] ≡ ys = cc in let L : List B → Type 0 = λ zs. k < length zs in absurd (below_none k (subst L (sym e) l))
+chain_at {A} {B} f [] ys h k d l =
+    let e : [] ≡ ys = cc in let L : List B → Type 0 = λ zs. k < length zs in absurd (below_none k (subst L (sym e) l))
   where
     below_none : (k : ℕ) → k < 0 → ⊥
     below_none k h = omega arith

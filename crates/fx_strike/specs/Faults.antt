@@ -11,7 +11,11 @@ use Rattle.fx_hint.specs.declared.fault.HintFault.TheVariants as hint
 use Rattle.fx_contour.specs.declared.fault.ContourFault.{ContourFault}
 use Rattle.fx_contour.specs.declared.fault.ContourFault.TheVariants as contour
 use Rattle.fx_strike.specs.declared.refusal.Refusal.{Refusal}
-use Rattle.fx_strike.specs.declared.refusal.Refusal.TheVariants.{NotTrueType, TableMissing, TableShort, BadHead, BadMaxp, NoCharMap, BadCharMap, BadLoca, GlyphShort, BadContours, ComponentDepth, TooManyComponents, TooManyPoints, BadPointMatch, BadGlyphNumber, TooFar, GlyphTooLarge, WriteFailed, ReadFailed, BadHex, InputTooLarge, OutOfMemory}
+use Rattle.fx_strike.specs.declared.refusal.Refusal.TheVariants.{NotTrueType, TableMissing, TableShort, BadHead, BadMaxp, NoCharMap}
+use Rattle.fx_strike.specs.declared.refusal.Refusal.TheVariants.{BadCharMap, BadLoca, GlyphShort, BadContours, ComponentDepth}
+use Rattle.fx_strike.specs.declared.refusal.Refusal.TheVariants.{TooManyComponents, TooManyPoints, BadPointMatch, BadGlyphNumber}
+use Rattle.fx_strike.specs.declared.refusal.Refusal.TheVariants.{TooFar, GlyphTooLarge, WriteFailed, ReadFailed, BadHex}
+use Rattle.fx_strike.specs.declared.refusal.Refusal.TheVariants.{InputTooLarge, OutOfMemory}
 
 -- a font's fault
 abbrev pub of_font : FontFault → Refusal

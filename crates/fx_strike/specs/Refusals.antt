@@ -1,7 +1,11 @@
 -- The numbers and names of the refusals.
 use Rattle.std.specs.Prelude.{ℕ, List, codes}
 use Rattle.fx_strike.specs.declared.refusal.Refusal.{Refusal}
-use Rattle.fx_strike.specs.declared.refusal.Refusal.TheVariants.{NotTrueType, TableMissing, TableShort, BadHead, BadMaxp, NoCharMap, BadCharMap, BadLoca, GlyphShort, BadContours, ComponentDepth, TooManyComponents, TooManyPoints, BadPointMatch, BadGlyphNumber, TooFar, GlyphTooLarge, BadSize, BadChars, BadName, WriteFailed, ReadFailed, BadHex, InputTooLarge, OutOfMemory, NotBuilt}
+use Rattle.fx_strike.specs.declared.refusal.Refusal.TheVariants.{NotTrueType, TableMissing, TableShort, BadHead, BadMaxp, NoCharMap}
+use Rattle.fx_strike.specs.declared.refusal.Refusal.TheVariants.{BadCharMap, BadLoca, GlyphShort, BadContours, ComponentDepth}
+use Rattle.fx_strike.specs.declared.refusal.Refusal.TheVariants.{TooManyComponents, TooManyPoints, BadPointMatch, BadGlyphNumber}
+use Rattle.fx_strike.specs.declared.refusal.Refusal.TheVariants.{TooFar, GlyphTooLarge, BadSize, BadChars, BadName, WriteFailed}
+use Rattle.fx_strike.specs.declared.refusal.Refusal.TheVariants.{ReadFailed, BadHex, InputTooLarge, OutOfMemory, NotBuilt}
 
 -- a refusal's number and name
 abbrev pub entry_of : Refusal → ℕ × List ℕ

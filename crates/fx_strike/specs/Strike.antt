@@ -1,5 +1,6 @@
 -- The strike of a font, a size and characters, or the first cause why there is none.
-use Rattle.std.specs.Prelude.{◌≡◌, ◌↔◌, IsTrue, ℕ, ◌*◌, nat_lt, ◌==◌, ◌||◌, not, ℤ, pos, ◌*ℤ◌, neg_ℤ, Bool, List, [], ◌∷◌, ◌++◌, length, map, filter, Result, Ok}
+use Rattle.std.specs.Prelude.{◌≡◌, ◌↔◌, IsTrue, ℕ, ◌*◌, nat_lt, ◌==◌, ◌||◌, not, ℤ, pos, ◌*ℤ◌, neg_ℤ, Bool, List, [], ◌∷◌, ◌++◌}
+use Rattle.std.specs.Prelude.{length, map, filter, Result, Ok}
 use Rattle.std.specs.List.{list_any, count_by, flat_map}
 use Rattle.fx_fixed.specs.Chain.{◌>>=◌, refuse, wanted, map_fault, map_chain}
 use Rattle.fx_fixed.specs.Numbers.{near_of}

@@ -1,7 +1,8 @@
 use Rattle.std.proofs.Common.{rules, arith, ◌≡◌, ◌<◌, ◌∙◌, sym, ap, length, drop, Some, None}
 use Rattle.std.proofs.lemmas.Grind.{common_steps}
 use Rattle.fx_cli.specs.Chars.{number_of, number_after}
-use Rattle.fx_cli.proofs.Numerals.{below_power, below_top, number_after_step, number_after_none, number_after_end, number_of_is, number_of_no, number_of_long}
+use Rattle.fx_cli.proofs.Numerals.{below_power, below_top, number_after_step, number_after_none, number_after_end, number_of_is}
+use Rattle.fx_cli.proofs.Numerals.{number_of_no, number_of_long}
 use Rattle.fx_cli.proofs.chars.number.Goals as goal
 use Rattle.fx_cli.proofs.chars.number.Goals.{then-is_empty-via-then-is_empty, then-is_empty-via-else-is_empty+then-digits-gt6}
 
@@ -23,8 +24,10 @@ overflow_add-number c =
 
 pub digits-preserved : goal.digits-preserved
 digits-preserved c = record {
-  so_far = c.digits.invariant.so_far ∙ number_after_step c.digits.number c.digits.digit-index c.from.result c.as_bytes-digits.result.now (omega arith) (search rules);
-  bound = below_power c.digits.digit-index c.digits.number c.from.result (omega arith) c.digits.invariant.bound (omega (arith, c.in_ok-digit_value.ensures.bound));
+  so_far = c.digits.invariant.so_far ∙ number_after_step c.digits.number c.digits.digit-index c.from.result
+      c.as_bytes-digits.result.now (omega arith) (search rules);
+  bound = below_power c.digits.digit-index c.digits.number c.from.result (omega arith) c.digits.invariant.bound
+      (omega (arith, c.in_ok-digit_value.ensures.bound));
 }
 
 pub returns-in_err-digit_value : goal.returns-in_err-digit_value
@@ -34,7 +37,8 @@ returns-in_err-digit_value c =
     let stops : number_after c.digits.number (drop c.digits.digit-index c.as_bytes-digits.result.now) ≡ None
     = number_after_none c.digits.number c.digits.digit-index c.as_bytes-digits.result.now (omega arith) (search rules) in
     let none : c.from_residual.result ≡ None = search rules in
-    none ∙ sym (ap number_of (sym text_is) ∙ number_of_is c.as_bytes-digits.result.now some (omega arith) ∙ c.digits.invariant.so_far ∙ stops)
+    none ∙ sym (ap number_of (sym text_is) ∙ number_of_is c.as_bytes-digits.result.now some (omega arith) ∙
+        c.digits.invariant.so_far ∙ stops)
 
 pub returns : goal.returns
 returns c =
@@ -42,4 +46,5 @@ returns c =
     let some : 0 < length c.as_bytes-digits.result.now = grind (arith, common_steps) in
     let stops : number_after c.digits.number (drop c.digits.digit-index c.as_bytes-digits.result.now) ≡ Some c.digits.number
     = number_after_end c.digits.number c.digits.digit-index c.as_bytes-digits.result.now (omega arith) in
-    sym (ap number_of (sym text_is) ∙ number_of_is c.as_bytes-digits.result.now some (omega arith) ∙ c.digits.invariant.so_far ∙ stops)
+    sym (ap number_of (sym text_is) ∙ number_of_is c.as_bytes-digits.result.now some (omega arith) ∙ c.digits.invariant.so_far ∙
+        stops)
