@@ -32,7 +32,8 @@ either P Q d (s ∷ ss) = by (piece_either P Q d s) (either P Q d ss)
     by (inr h) r = inr (inl h)
     by (inl h) (inr hs) = inr (inr hs)
 
-order : (a b : ℤ) → (a <ℤ b) ⊎ (b ≤ℤ a)
+-- an integer is below another, or at least it
+pub order : (a b : ℤ) → (a <ℤ b) ⊎ (b ≤ℤ a)
 order a b = by_lt_z a b (λ h. inl h) (λ h. inr h)
 
 -- a place is in the bounding box, or beside it

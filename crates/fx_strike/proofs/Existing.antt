@@ -16,7 +16,7 @@ use Rattle.fx_hint.specs.Outlines.{OutlineView, outline_of}
 use Rattle.fx_winding.specs.Winding.{Span, centre}
 use Rattle.fx_contour.specs.Contours.{drawn_of}
 use Rattle.fx_contour.specs.Frames.{IsInBoundingBox, AreTooLarge, framed_of}
-use Rattle.fx_contour.proofs.Outside.{in_box}
+use Rattle.fx_contour.proofs.Outside.{order, in_box}
 use Rattle.fx_bdf.specs.Glyphs.{Glyph, glyph_bit}
 use Rattle.fx_strike.specs.declared.refusal.Refusal.{Refusal}
 use Rattle.fx_strike.specs.Faults.{of_font, of_hint, of_contour}
