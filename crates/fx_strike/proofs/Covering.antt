@@ -45,7 +45,9 @@ on_line a c p =
     (both (eq (area a c p) (pos 0)) (both (between a.x c.x p.x) (between a.y c.y p.y)))
 
 on_arc : (u v w : ℤ) → Test (AreOnArc u v w)
-on_arc u v w = like (λ h. (h.0, h.1, h.2.0, h.2.1)) (λ h. (h.0, h.1, (h.2, h.3))) (three (le (pos 0) u) (le (pos 0) v) (both (le (pos 0) w) (eq (gap_of u v w) (pos 0))))
+on_arc u v w =
+    like (λ h. (h.0, h.1, h.2.0, h.2.1)) (λ h. (h.0, h.1, (h.2, h.3)))
+        (three (le (pos 0) u) (le (pos 0) v) (both (le (pos 0) w) (eq (gap_of u v w) (pos 0))))
 
 on_curve : (a b c p : Place) → Test (IsOnCurve a b c p)
 on_curve a b c p =
@@ -63,9 +65,11 @@ in_range a b c p =
 
 on_flat_arc : (a b c p : Place) → Test (IsOnFlatArc a b c p)
 on_flat_arc a b c p =
-    like (λ h. record { flat = h.0; with_ab = h.1.0; with_bc = h.1.1.0; with_ac = h.1.1.1.0; range_x = h.1.1.1.1.0; range_y = h.1.1.1.1.1 })
+    like (λ h. record { flat = h.0; with_ab = h.1.0; with_bc = h.1.1.0; with_ac = h.1.1.1.0; range_x = h.1.1.1.1.0;
+    range_y = h.1.1.1.1.1 })
     (λ h. (h.flat, (h.with_ab, (h.with_bc, (h.with_ac, (h.range_x, h.range_y))))))
-    (both (eq (area a b c) (pos 0)) (both (eq (area a b p) (pos 0)) (both (eq (area b c p) (pos 0)) (both (eq (area a c p) (pos 0))
+    (both (eq (area a b c) (pos 0))
+        (both (eq (area a b p) (pos 0)) (both (eq (area b c p) (pos 0)) (both (eq (area a c p) (pos 0))
     (both (in_range a.x b.x c.x p.x) (in_range a.y b.y c.y p.y))))))
 
 on_part : (a : Place) (b : Option Place) (c p : Place) → Test (IsOnPart a b c p)

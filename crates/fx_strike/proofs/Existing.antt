@@ -68,7 +68,8 @@ in_or_beside p ss =
   where
     by : All (HasAll (λ q. p.x <ℤ q.x)) ss ⊎ HaveAny (λ q. q.x ≤ℤ p.x) ss
         → All (HasAll (λ q. q.x <ℤ p.x)) ss ⊎ HaveAny (λ q. p.x ≤ℤ q.x) ss
-        → All (HasAll (λ q. p.y <ℤ q.y)) ss ⊎ HaveAny (λ q. q.y ≤ℤ p.y) ss → All (HasAll (λ q. q.y <ℤ p.y)) ss ⊎ HaveAny (λ q. p.y ≤ℤ q.y) ss
+        → All (HasAll (λ q. p.y <ℤ q.y)) ss ⊎ HaveAny (λ q. q.y ≤ℤ p.y) ss
+        → All (HasAll (λ q. q.y <ℤ p.y)) ss ⊎ HaveAny (λ q. p.y ≤ℤ q.y) ss
         → IsInBoundingBox p ss ⊎ IsBeside p ss
     by (inl a) b c d = inr (inl a)
     by (inr a) (inl b) c d = inr (inr (inl b))
@@ -123,8 +124,10 @@ not_wide ss small col row col2 row2 h k = elim (order col2 (col +ℤ pos 2048)) 
     row,
     h,
     inl (record {
-      left = have_more (λ q. q.x ≤ℤ (centre col row).x) (λ q. q.x ≤ℤ (centre (col +ℤ pos 2048) row).x) (λ q l. up_from q.x col (col +ℤ pos 2048) l (omega (arith, ints))) ss h.left;
-      right = have_more (λ q. (centre col2 row2).x ≤ℤ q.x) (λ q. (centre (col +ℤ pos 2048) row).x ≤ℤ q.x) (λ q l. down_from q.x (col +ℤ pos 2048) col2 l far) ss k.right;
+      left = have_more (λ q. q.x ≤ℤ (centre col row).x) (λ q. q.x ≤ℤ (centre (col +ℤ pos 2048) row).x)
+          (λ q l. up_from q.x col (col +ℤ pos 2048) l (omega (arith, ints))) ss h.left;
+      right = have_more (λ q. (centre col2 row2).x ≤ℤ q.x) (λ q. (centre (col +ℤ pos 2048) row).x ≤ℤ q.x)
+          (λ q l. down_from q.x (col +ℤ pos 2048) col2 l far) ss k.right;
       bottom = h.bottom;
       top = h.top;
     }),
@@ -142,8 +145,10 @@ not_high ss small col row col2 row2 h k = elim (order row2 (row +ℤ pos 2048)) 
     inr (record {
       left = h.left;
       right = h.right;
-      bottom = have_more (λ q. q.y ≤ℤ (centre col row).y) (λ q. q.y ≤ℤ (centre col (row +ℤ pos 2048)).y) (λ q l. up_from q.y row (row +ℤ pos 2048) l (omega (arith, ints))) ss h.bottom;
-      top = have_more (λ q. (centre col2 row2).y ≤ℤ q.y) (λ q. (centre col (row +ℤ pos 2048)).y ≤ℤ q.y) (λ q l. down_from q.y (row +ℤ pos 2048) row2 l far) ss k.top;
+      bottom = have_more (λ q. q.y ≤ℤ (centre col row).y) (λ q. q.y ≤ℤ (centre col (row +ℤ pos 2048)).y)
+          (λ q l. up_from q.y row (row +ℤ pos 2048) l (omega (arith, ints))) ss h.bottom;
+      top = have_more (λ q. (centre col2 row2).y ≤ℤ q.y) (λ q. (centre col (row +ℤ pos 2048)).y ≤ℤ q.y)
+          (λ q l. down_from q.y (row +ℤ pos 2048) row2 l far) ss k.top;
     }),
   ))
 ]
@@ -154,12 +159,15 @@ bit_by ss col row = (covered (centre col row) ss).0
 
 are_small : (ss : List Span) → AreDrawn ss → (AreTooLarge ss → ⊥) → AreSmall (bit_by ss) (negsuc 32767) 65536
 are_small ss d small =
-    let box : (col row : ℤ) → bit_by ss col row ≡ true → IsInBoundingBox (centre col row) ss = λ col row h. in_box (centre col row) ss d.closed ((covered (centre col row) ss).1.0 h) in
+    let box : (col row : ℤ) → bit_by ss col row ≡ true
+        → IsInBoundingBox (centre col row) ss =
+        λ col row h. in_box (centre col row) ss d.closed ((covered (centre col row) ss).1.0 h) in
     let to : (z : ℤ) → z <ℤ pos 32768 → z <ℤ (negsuc 32767 +ℤ pos 65536) = λ z h. h in
     record {
       from = omega (arith, ints);
       to = omega (arith, ints);
-      columns = λ col row h. (column_from col row ss d.near (box col row h), to col (column_to col row ss d.near (box col row h)));
+      columns =
+          λ col row h. (column_from col row ss d.near (box col row h), to col (column_to col row ss d.near (box col row h)));
       rows = λ col row h. (row_from col row ss d.near (box col row h), to row (row_to col row ss d.near (box col row h)));
       narrow = λ col row col2 row2 h k. not_wide ss small col row col2 row2 (box col row h) (box col2 row2 k);
       low = λ col row col2 row2 h k. not_high ss small col row col2 row2 (box col row h) (box col2 row2 k);
@@ -176,7 +184,9 @@ glyph_of_spans s d small =
         code = t.1.code_is;
         swidth = t.1.swidth_is;
         dwidth = t.1.dwidth_is;
-        bits = λ col row. (λ h. (covered (centre col row) s.spans).1.0 (sym (bits col row) ∙ h), λ h. bits col row ∙ (covered (centre col row) s.spans).1.1 h);
+        bits =
+            λ col row. (λ h. (covered (centre col row) s.spans).1.0 (sym (bits col row) ∙ h),
+            λ h. bits col row ∙ (covered (centre col row) s.spans).1.1 h);
         tight = tight_along t.0.box (bit_by s.spans) (glyph_bit t.0) (λ col row. sym (bits col row)) t.1.tight;
         formed = t.1.formed;
       },
@@ -194,9 +204,12 @@ glyph_of_sketch face ppem code glyph s h =
       strays = d.strays;
       steps = d.steps;
     } in
-    let measured : OutlineView → List Span → Result Sketch Refusal = λ d ss. map_fault of_font (metrics_of face glyph) >>= λ m. Ok (last d ss m) in
-    let framed : OutlineView → List Span → Result Sketch Refusal = λ d ss. map_fault (of_contour glyph) (framed_of ss) >>= λ _. measured d ss in
-    let a = bind_ok (map_fault of_hint (outline_of face ppem glyph)) (λ d. map_fault (of_contour glyph) (drawn_of d.ends d.points) >>= framed d) s h in
+    let measured : OutlineView → List Span
+        → Result Sketch Refusal = λ d ss. map_fault of_font (metrics_of face glyph) >>= λ m. Ok (last d ss m) in
+    let framed : OutlineView → List Span
+        → Result Sketch Refusal = λ d ss. map_fault (of_contour glyph) (framed_of ss) >>= λ _. measured d ss in
+    let a = bind_ok (map_fault of_hint (outline_of face ppem glyph))
+        (λ d. map_fault (of_contour glyph) (drawn_of d.ends d.points) >>= framed d) s h in
     let b = bind_ok (map_fault (of_contour glyph) (drawn_of a.0.ends a.0.points)) (framed a.0) s a.2 in
     let c = bind_ok (map_fault (of_contour glyph) (framed_of b.0)) (λ _. measured a.0 b.0) s b.2 in
     let d = bind_ok (map_fault of_font (metrics_of face glyph)) (λ m. Ok (last a.0 b.0 m)) s c.2 in
@@ -206,7 +219,9 @@ glyph_of_sketch face ppem code glyph s h =
     along (last a.0 b.0 d.0) s e drawn small
   where
     along : (x s : Sketch) → x ≡ s → AreDrawn x.spans → (AreTooLarge x.spans → ⊥) → (g : Glyph) × IsGlyphOf s g
-    along x s e drawn small = let P : Sketch → Type 0 = λ y. (g : Glyph) × IsGlyphOf y g in subst P e (glyph_of_spans x drawn small)
+    along x s e drawn small =
+        let P : Sketch → Type 0 = λ y. (g : Glyph) × IsGlyphOf y g in
+        subst P e (glyph_of_spans x drawn small)
 
 glyphs_of_sketches : (face : Face) (segments : Segments) (ppem : ℕ) (codes : List ℕ) (ss : List Sketch)
     → map_chain (sketch_of face segments ppem) codes ≡ Ok ss → (gs : List Glyph) × AreGlyphsOf ss gs
@@ -215,7 +230,8 @@ glyphs_of_sketches face segments ppem [] ss h =
     let P : List Sketch → Type 0 = λ xs. (gs : List Glyph) × AreGlyphsOf xs gs in
     subst P e ([], tt)
 glyphs_of_sketches face segments ppem (c ∷ cs) ss h =
-    let p = bind_ok (sketch_of face segments ppem c) (λ y. map_chain (sketch_of face segments ppem) cs >>= λ zs. Ok (y ∷ zs)) ss h in
+    let p = bind_ok (sketch_of face segments ppem c)
+        (λ y. map_chain (sketch_of face segments ppem) cs >>= λ zs. Ok (y ∷ zs)) ss h in
     let q = bind_ok (map_chain (sketch_of face segments ppem) cs) (λ zs. Ok (p.0 ∷ zs)) ss p.2 in
     let e : p.0 ∷ q.0 ≡ ss = cc (q.2) in
     let g = glyph_of_sketch face ppem c (glyph_for segments c) p.0 p.1 in
@@ -226,4 +242,5 @@ glyphs_of_sketches face segments ppem (c ∷ cs) ss h =
 pub strike_exists : StrikeExists
 strike_exists file ppem name chars hinting plan h =
     let p = parts_of file ppem name chars hinting plan h in
-    glyphs_of_sketches p.face p.segments p.size (filter (λ c. not (is_missing p.segments c)) (rising chars)) plan.sketches p.sketches
+    glyphs_of_sketches p.face p.segments p.size (filter (λ c. not (is_missing p.segments c)) (rising chars)) plan.sketches
+        p.sketches

@@ -75,7 +75,8 @@ pub unopened : (file : List ℕ) (ppem : ℕ) (name chars : List ℕ) (hinting :
     → r ≡ Err e → e ≡ d
     → Err d ≡ opened_of file ppem name chars hinting → IsCause d → Makes (plan_of file ppem name chars hinting) r
 unopened file ppem name chars hinting r e d p q h c =
-    makes_err (plan_of file ppem name chars hinting) r e d p q (fails_cause d (plan_of file ppem name chars hinting) c (plan_unopened file ppem name chars hinting d (sym h)))
+    makes_err (plan_of file ppem name chars hinting) r e d p q
+        (fails_cause d (plan_of file ppem name chars hinting) c (plan_unopened file ppem name chars hinting d (sym h)))
 
 pub opened : (file : List ℕ) (ppem : ℕ) (name chars : List ℕ) (hinting : Bool) (size : ℕ) (face : Face) (segments : Segments)
     (r : Result Made Refusal) → Ok (size, face, segments) ≡ opened_of file ppem name chars hinting
@@ -84,10 +85,12 @@ opened file ppem name chars hinting size face segments r h m =
     let P : Result Plan Refusal → Type 0 = λ due. Makes due r in
     subst P (sym (plan_opened file ppem name chars hinting size face segments (sym h))) m
 
-pub ungathered : (face : Face) (segments : Segments) (ppem : ℕ) (name chars codes : List ℕ) (r : Result Made Refusal) (e d : Refusal) → r ≡ Err e → e ≡ d
+pub ungathered : (face : Face) (segments : Segments) (ppem : ℕ) (name chars codes : List ℕ) (r : Result Made Refusal)
+    (e d : Refusal) → r ≡ Err e → e ≡ d
     → codes ≡ rising chars → Fails d (sketches_of face segments ppem codes) → Makes (plan_in face segments ppem name chars) r
 ungathered face segments ppem name chars codes r e d p q c f =
-    makes_err (plan_in face segments ppem name chars) r e d p q (fails_on d (sketches_of face segments ppem codes) (plan_in face segments ppem name chars)
+    makes_err (plan_in face segments ppem name chars) r e d p q
+        (fails_on d (sketches_of face segments ppem codes) (plan_in face segments ppem name chars)
     (λ x g. plan_refused face segments ppem name chars x (ap (sketches_of face segments ppem) (sym c) ∙ g)) f)
 
 -- ---- what is made
@@ -104,14 +107,18 @@ made_of face segments ppem name chars gathered made g f =
       descent = pixels (neg_ℤ face.hhea.descender) ppem face.head.units_per_em;
       glyphs = n;
     } in
-    let heads : header_text name (heading_of face ppem gathered) ≡ header_text name (heading (bounds_of (map (λ x. x.box) g.glyphs)) (length g.sketches))
-    = ap (λ (b : Box). header_text name (heading b gathered.report.glyphs)) g.bounds ∙ ap (λ (n : ℕ). header_text name (heading (bounds_of (map (λ x. x.box) g.glyphs)) n)) g.count in
+    let heads : header_text name (heading_of face ppem gathered) ≡ header_text name
+        (heading (bounds_of (map (λ x. x.box) g.glyphs)) (length g.sketches))
+    = ap (λ (b : Box). header_text name (heading b gathered.report.glyphs)) g.bounds
+        ∙ ap (λ (n : ℕ). header_text name (heading (bounds_of (map (λ x. x.box) g.glyphs)) n)) g.count in
     record {
       plan = whole_plan ppem name chars face segments g.sketches;
       glyphs = g.glyphs;
       is = plan_whole face segments ppem name chars g.sketches g.planned;
       drawn = g.drawn;
-      text = ap (λ (t : List ℕ). t ++ made.body.bytes.items) (f.head ∙ heads) ∙ ap (λ (t : List ℕ). header_text name (heading (bounds_of (map (λ x. x.box) g.glyphs)) (length g.sketches)) ++ t) (f.body ∙ ap (λ (t : List ℕ). t ++ end_text) g.text);
+      text = ap (λ (t : List ℕ). t ++ made.body.bytes.items) (f.head ∙ heads)
+          ∙ ap (λ (t : List ℕ). header_text name (heading (bounds_of (map (λ x. x.box) g.glyphs)) (length g.sketches)) ++ t)
+          (f.body ∙ ap (λ (t : List ℕ). t ++ end_text) g.text);
       told = record {
         glyphs = ap (λ (r : Report). r.glyphs) f.report ∙ g.count;
         missing = ap (λ (r : Report). r.missing) f.report ∙ g.missing;
@@ -120,9 +127,11 @@ made_of face segments ppem name chars gathered made g f =
       };
     }
 
-pub finished : (face : Face) (segments : Segments) (ppem : ℕ) (name chars codes : List ℕ) (gathered : Gathered) (header : Header) (r : Result Made Refusal)
+pub finished : (face : Face) (segments : Segments) (ppem : ℕ) (name chars codes : List ℕ) (gathered : Gathered) (header : Header)
+    (r : Result Made Refusal)
     → codes ≡ rising chars → Holds face segments ppem codes gathered
-    → header ≡ heading_of face ppem gathered → IfOk r (Finishes name header gathered) → IfErr r (λ e. e ≡ OutOfMemory) → Makes (plan_in face segments ppem name chars) r
+    → header ≡ heading_of face ppem gathered → IfOk r (Finishes name header gathered) → IfErr r (λ e. e ≡ OutOfMemory)
+    → Makes (plan_in face segments ppem name chars) r
 finished face segments ppem name chars codes gathered header (Ok made) c g q f e =
     let P : List ℕ → Type 0 = λ xs. Holds face segments ppem xs gathered in
     let Q : Header → Type 0 = λ x. Finishes name x gathered made in
@@ -148,11 +157,14 @@ whole_is units ppem em f g h r fits few size small p q s e b =
     let product : FitsSigned w32 (units *ℤ pos ppem) = fits_signed_mul w32 units (pos ppem) 32768 255 few size (lit< tt) in
     let wide : to_z w128 (of_z w128 (units *ℤ pos ppem)) ≡ units *ℤ pos ppem = cast_wide (units *ℤ pos ppem) product in
     let whole : to_z w128 (of_z w128 (to_z w128 (of_z w128 f) *ℤ to_z w128 (of_z w128 g))) ≡ units *ℤ pos ppem
-    = ap (λ (z : ℤ). to_z w128 (of_z w128 (z *ℤ to_z w128 (of_z w128 g)))) one ∙ ap (λ (z : ℤ). to_z w128 (of_z w128 (units *ℤ z))) two ∙ wide in
-    let near : r ≡ near_of (units *ℤ pos ppem) (pos em) = e ∙ ap (λ (z : ℤ). near_of z (to_z w128 (of_z w128 h))) whole ∙ ap (near_of (units *ℤ pos ppem)) three in
+    = ap (λ (z : ℤ). to_z w128 (of_z w128 (z *ℤ to_z w128 (of_z w128 g)))) one
+        ∙ ap (λ (z : ℤ). to_z w128 (of_z w128 (units *ℤ z))) two ∙ wide in
+    let near : r ≡ near_of (units *ℤ pos ppem) (pos em) = e ∙ ap (λ (z : ℤ). near_of z (to_z w128 (of_z w128 h))) whole
+        ∙ ap (near_of (units *ℤ pos ppem)) three in
     let L : ℤ → Type 0 = λ z. unsigned_abs r ≤ unsigned_abs z in
     let bound : unsigned_abs r ≤ unsigned_abs (units *ℤ pos ppem) = subst L whole b in
-    let few_pixels : unsigned_abs (units *ℤ pos ppem) ≤ 8355840 = omega (arith, unsigned_abs-mul units (pos ppem), mul-le-mul_left (unsigned_abs units) size) in
+    let few_pixels : unsigned_abs (units *ℤ pos ppem) ≤ 8355840 =
+        omega (arith, unsigned_abs-mul units (pos ppem), mul-le-mul_left (unsigned_abs units) size) in
     cast_back r (pixels units ppem em) (fits_signed_from_abs w32 r (omega arith)) near
   where
     cast_wide : (z : ℤ) → FitsSigned w32 z → to_z w128 (of_z w128 z) ≡ z

@@ -36,7 +36,8 @@ same_bit false false f g = refl
 pub glyph_is_one : TrimmedIsOne → GlyphIsOne
 glyph_is_one one s g h p q =
     one s.code s.swidth s.dwidth (glyph_bit g) g h
-    (record { code_is = p.code; swidth_is = p.swidth; dwidth_is = p.dwidth; bits = λ col row. refl; tight = p.tight; formed = p.formed })
+    (record { code_is = p.code; swidth_is = p.swidth; dwidth_is = p.dwidth; bits = λ col row. refl; tight = p.tight;
+    formed = p.formed })
     (record {
       code_is = q.code;
       swidth_is = q.swidth;
@@ -47,7 +48,9 @@ glyph_is_one one s g h p q =
     })
   where
     same : (col row : ℤ) → glyph_bit h col row ≡ glyph_bit g col row
-    same col row = same_bit (glyph_bit h col row) (glyph_bit g col row) (λ x. (p.bits col row).1 ((q.bits col row).0 x)) (λ x. (q.bits col row).1 ((p.bits col row).0 x))
+    same col row =
+        same_bit (glyph_bit h col row) (glyph_bit g col row) (λ x. (p.bits col row).1 ((q.bits col row).0 x))
+            (λ x. (q.bits col row).1 ((p.bits col row).0 x))
 
 glyphs_are_one : GlyphIsOne → (ss : List Sketch) (gs hs : List Glyph) → AreGlyphsOf ss gs → AreGlyphsOf ss hs → gs ≡ hs
 glyphs_are_one one [] [] [] p q = refl
@@ -75,9 +78,12 @@ sketch_code face ppem code glyph s h =
       strays = d.strays;
       steps = d.steps;
     } in
-    let measured : OutlineView → List Span → Result Sketch Refusal = λ d ss. map_fault of_font (metrics_of face glyph) >>= λ m. Ok (last d ss m) in
-    let framed : OutlineView → List Span → Result Sketch Refusal = λ d ss. map_fault (of_contour glyph) (framed_of ss) >>= λ _. measured d ss in
-    let a = bind_ok (map_fault of_hint (outline_of face ppem glyph)) (λ d. map_fault (of_contour glyph) (drawn_of d.ends d.points) >>= framed d) s h in
+    let measured : OutlineView → List Span
+        → Result Sketch Refusal = λ d ss. map_fault of_font (metrics_of face glyph) >>= λ m. Ok (last d ss m) in
+    let framed : OutlineView → List Span
+        → Result Sketch Refusal = λ d ss. map_fault (of_contour glyph) (framed_of ss) >>= λ _. measured d ss in
+    let a = bind_ok (map_fault of_hint (outline_of face ppem glyph))
+        (λ d. map_fault (of_contour glyph) (drawn_of d.ends d.points) >>= framed d) s h in
     let b = bind_ok (map_fault (of_contour glyph) (drawn_of a.0.ends a.0.points)) (framed a.0) s a.2 in
     let c = bind_ok (map_fault (of_contour glyph) (framed_of b.0)) (λ _. measured a.0 b.0) s b.2 in
     let d = bind_ok (map_fault of_font (metrics_of face glyph)) (λ m. Ok (last a.0 b.0 m)) s c.2 in
@@ -90,7 +96,8 @@ sketch_code face ppem code glyph s h =
 -- what a chain gives at a place is what its step gives of something
 chain_at : {A B : Type 0} (f : A → Result B Refusal) (xs : List A) (ys : List B) → map_chain f xs ≡ Ok ys → (k : ℕ) (d : B)
     → k < length ys → (x : A) × (f x ≡ Ok (get_or ys k d))
-chain_at {A} {B} f [] ys h k d l = let e : [] ≡ ys = cc in let L : List B → Type 0 = λ zs. k < length zs in absurd (below_none k (subst L (sym e) l))
+chain_at {A} {B} f [] ys h k d l = let e : [] ≡ ys = cc in let L : List B → Type 0 = λ zs. k < length zs in
+    absurd (below_none k (subst L (sym e) l))
   where
     below_none : (k : ℕ) → k < 0 → ⊥
     below_none k h = omega arith

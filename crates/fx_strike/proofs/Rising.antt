@@ -62,7 +62,8 @@ put_in x c (d ∷ ds) h =
     by_order c d
     (λ e. subst P (sym (put_before c d ds e)) h)
     (λ e. subst P (sym (put_at c d ds e)) (elim h [ inl p ↦ inl (p ∙ e) | inr p ↦ p ]))
-    (λ e. subst P (sym (put_after c d ds e)) (elim h [ inl p ↦ inr (put_in x c ds (inl p)) | inr (inl p) ↦ inl p | inr (inr p) ↦ inr (put_in x c ds (inr p)) ]))
+    (λ e. subst P (sym (put_after c d ds e))
+        (elim h [ inl p ↦ inr (put_in x c ds (inl p)) | inr (inl p) ↦ inl p | inr (inr p) ↦ inr (put_in x c ds (inr p)) ]))
 
 put_from : (x c : ℕ) (ds : List ℕ) → IsIn x (with_code c ds) → (x ≡ c) ⊎ IsIn x ds
 put_from x c [] h = h
@@ -98,18 +99,22 @@ rising_from x (c ∷ cs) h = elim (put_from x c (rising cs) h) [ inl p ↦ inl p
 pub rising_are_risen : RisingAreRisen
 rising_are_risen chars = record {
   rise = rise_increasing (rising chars) (rising_rises chars);
-  same = λ c. (λ h. in_contains c chars (rising_from c chars (contains_in c (rising chars) h)), λ h. in_contains c (rising chars) (rising_in c chars (contains_in c chars h)));
+  same = λ c. (λ h. in_contains c chars (rising_from c chars (contains_in c (rising chars) h)), λ h. in_contains c (rising chars)
+      (rising_in c chars (contains_in c chars h)));
 }
 
 pub risen_is_one : RisenIsOne
-risen_is_one chars codes others p q = increasing_one codes others p.rise q.rise (λ x h. (q.same x).1 ((p.same x).0 h)) (λ x h. (p.same x).1 ((q.same x).0 h))
+risen_is_one chars codes others p q =
+    increasing_one codes others p.rise q.rise (λ x h. (q.same x).1 ((p.same x).0 h)) (λ x h. (p.same x).1 ((q.same x).0 h))
 
 -- sorted and without repeats
-pub sorted_is_rising : (chars sorted codes : List ℕ) → IsPermutation chars sorted → IsSorted nat_cmp sorted → codes ≡ dedup eqb sorted → codes ≡ rising chars
+pub sorted_is_rising : (chars sorted codes : List ℕ) → IsPermutation chars sorted → IsSorted nat_cmp sorted
+    → codes ≡ dedup eqb sorted → codes ≡ rising chars
 sorted_is_rising chars sorted codes p s e =
     e ∙ risen_is_one chars (dedup eqb sorted) (rising chars) (record {
       rise = IsStrictlyIncreasing-dedup sorted s;
-      same = λ c. (λ h. Contains-permutation sorted chars c (IsPermutation-sym chars sorted p) (Contains-from_dedup eqb sorted c h), λ h. Contains-dedup_nat sorted c (Contains-permutation chars sorted c p h));
+      same = λ c. (λ h. Contains-permutation sorted chars c (IsPermutation-sym chars sorted p)
+          (Contains-from_dedup eqb sorted c h), λ h. Contains-dedup_nat sorted c (Contains-permutation chars sorted c p h));
     }) (rising_are_risen chars)
 
 -- no more than the request has
@@ -147,5 +152,6 @@ any_rising p [] h = h
 any_rising p (c ∷ cs) h = let q = or_parts (p c) (list_any p cs) h in any_put p c (rising cs) q.0 (any_rising p cs q.1)
 
 -- none is past a limit if none of the request is
-pub small_rising : (p : ℕ → Bool) (chars codes : List ℕ) → codes ≡ rising chars → list_any p chars ≡ false → list_any p codes ≡ false
+pub small_rising : (p : ℕ → Bool) (chars codes : List ℕ) → codes ≡ rising chars → list_any p chars ≡ false
+    → list_any p codes ≡ false
 small_rising p chars codes e h = ap (list_any p) e ∙ any_rising p chars h

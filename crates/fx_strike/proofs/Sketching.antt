@@ -62,11 +62,13 @@ unfolding glyph_sketch_of
 sketch_is face ppem code glyph drawing ss m e1 e2 e3 e4 = rw (e1, e2, e3, e4)
 
 -- all steps went well: the glyph is that of the sketch
-pub drawn_whole : (face : Face) (ppem code glyph : ℕ) (drawing : OutlineView) (ss : List Span) (swidth : ℤ) (bits : Bits) (made : Drawn) (code' : ℕ) (swidth' dwidth' : ℤ)
+pub drawn_whole : (face : Face) (ppem code glyph : ℕ) (drawing : OutlineView) (ss : List Span) (swidth : ℤ) (bits : Bits)
+    (made : Drawn) (code' : ℕ) (swidth' dwidth' : ℤ)
     → map_fault of_hint (outline_of face ppem glyph) ≡ Ok drawing
     → map_fault (of_contour glyph) (drawn_of drawing.ends drawing.points) ≡ Ok ss
     → map_fault (of_contour glyph) (framed_of ss) ≡ Ok tt
-    → Ok swidth ≡ map_ok (λ (m : Metrics). thousandths m.advance_width face.head.units_per_em) (map_fault of_font (metrics_of face glyph))
+    → Ok swidth ≡ map_ok (λ (m : Metrics). thousandths m.advance_width face.head.units_per_em)
+    (map_fault of_font (metrics_of face glyph))
     → HasBitsOf ss bits
     → IsTrimmed code' swidth' dwidth' (bit_of bits) made.glyph
     → code' ≡ code
@@ -76,7 +78,8 @@ pub drawn_whole : (face : Face) (ppem code glyph : ℕ) (drawing : OutlineView) 
     → made.steps ≡ drawing.steps
     → (sketch : Sketch) × (glyph_sketch_of face ppem code glyph ≡ Ok sketch) × IsDrawnOf sketch made
 drawn_whole face ppem code glyph drawing ss swidth bits made code' swidth' dwidth' h1 h2 h3 h4 b t c s d strays steps =
-    let m = map_ok_ok (λ (m : Metrics). thousandths m.advance_width face.head.units_per_em) (map_fault of_font (metrics_of face glyph)) swidth (sym h4) in
+    let m = map_ok_ok (λ (m : Metrics). thousandths m.advance_width face.head.units_per_em)
+        (map_fault of_font (metrics_of face glyph)) swidth (sym h4) in
     let P : Bool → Type 0 = λ x. IsTrue x in (
       record {
         code = code;
@@ -92,7 +95,9 @@ drawn_whole face ppem code glyph drawing ss swidth bits made code' swidth' dwidt
           code = t.code_is ∙ c;
           swidth = t.swidth_is ∙ s ∙ sym m.2;
           dwidth = t.dwidth_is ∙ d;
-          bits = λ col row. (λ g. (b.each col row).0 (subst P (t.bits col row) g), λ g. subst P (sym (t.bits col row)) ((b.each col row).1 g));
+          bits = λ col
+              row. (λ g. (b.each col row).0 (subst P (t.bits col row) g), λ g. subst P (sym (t.bits col row))
+                  ((b.each col row).1 g));
           tight = tight_along made.glyph.box (bit_of bits) (glyph_bit made.glyph) (λ col row. sym (t.bits col row)) t.tight;
           formed = t.formed;
         };
@@ -104,7 +109,8 @@ drawn_whole face ppem code glyph drawing ss swidth bits made code' swidth' dwidt
 -- ---- lemmas for answers
 
 -- the result of a rounding, as the code casts it
-pub near_64_is : (a f r : ℤ) → FitsSigned w32 a → f ≡ to_z w32 (of_z w32 a) → r ≡ near_of (to_z w64 (of_z w64 f)) (pos 64) → r ≡ near_of a (pos 64)
+pub near_64_is : (a f r : ℤ) → FitsSigned w32 a → f ≡ to_z w32 (of_z w32 a) → r ≡ near_of (to_z w64 (of_z w64 f)) (pos 64)
+    → r ≡ near_of a (pos 64)
 near_64_is a f r h e q =
     let same : f ≡ a = omega (arith, ints) in
     let wide : to_z w64 (of_z w64 f) ≡ a = omega (arith, ints) in
@@ -117,7 +123,8 @@ pub cast_is : (z r : ℤ) → FitsSigned w32 z → r ≡ z → to_z w32 (of_z w3
 cast_is z r h e = omega (arith, ints)
 
 -- an advance in whole pixels, as the code casts it
-pub width_is : (a r : ℤ) → FitsSigned w32 a → r ≡ near_of (to_z w32 (of_z w32 a)) (pos 64) → to_z w32 (of_z w32 r) ≡ near_of a (pos 64)
+pub width_is : (a r : ℤ) → FitsSigned w32 a → r ≡ near_of (to_z w32 (of_z w32 a)) (pos 64)
+    → to_z w32 (of_z w32 r) ≡ near_of a (pos 64)
 width_is a r h e =
     let same : to_z w32 (of_z w32 a) ≡ a = omega (arith, ints) in
     let whole : r ≡ near_of a (pos 64) = e ∙ ap (λ (z : ℤ). near_of z (pos 64)) same in

@@ -42,7 +42,8 @@ reach_more p n true e (inl none) = inr (record {
   below = omega arith;
   at_first = e;
   at_last = e;
-  holds = λ k l h. split {P = (n ≤ k) × (k ≤ n)} k n (λ low. absurd (not_both (p k) (none k low) h)) (λ high. (high, omega arith));
+  holds = λ k l h. split {P = (n ≤ k) × (k ≤ n)} k n (λ low. absurd (not_both (p k) (none k low) h))
+      (λ high. (high, omega arith));
 })
 reach_more p n false e (inr r) = inr (record {
   first = r.first;
@@ -62,7 +63,8 @@ reach_more p n true e (inr r) = inr (record {
   below = omega arith;
   at_first = r.at_first;
   at_last = e;
-  holds = λ k l h. split {P = (r.first ≤ k) × (k ≤ n)} k n (λ low. let s = r.holds k low h in (s.0, omega arith)) (λ high. (omega (arith, r.order, r.below), omega arith));
+  holds = λ k l h. split {P = (r.first ≤ k) × (k ≤ n)} k n (λ low. let s = r.holds k low h in (s.0, omega arith))
+      (λ high. (omega (arith, r.order, r.below), omega arith));
 })
 
 reach : (p : ℕ → Bool) (n : ℕ) → ((k : ℕ) → k < n → p k ≡ false) ⊎ Reach p n
@@ -83,7 +85,8 @@ some_decides p n = Decides-below_or p (λ k. p k ≡ true) (some p) (λ k. (λ e
 get_numbered : {X : Type 0} (f : ℕ → X) (s n k : ℕ) (d : X) → k < n → get_or (each_number f s n) k d ≡ f (s + k)
 get_numbered f s zero k d l = absurd (omega arith)
 get_numbered f s (suc n) zero d l = let e : s ≡ s + 0 = omega arith in ap f e
-get_numbered f s (suc n) (suc k) d l = let e : suc s + k ≡ s + suc k = omega arith in get_numbered f (suc s) n k d (omega arith) ∙ ap f e
+get_numbered f s (suc n) (suc k) d l = let e : suc s + k ≡ s + suc k = omega arith in
+    get_numbered f (suc s) n k d (omega arith) ∙ ap f e
 
 length_numbered : {X : Type 0} (f : ℕ → X) (s n : ℕ) → length (each_number f s n) ≡ n
 length_numbered f s zero = refl
@@ -100,7 +103,8 @@ record Offset (base : ℤ) (n : ℕ) (z : ℤ) : Type 0 where
   is : z ≡ base +ℤ pos at
 
 offset : (base z : ℤ) (n : ℕ) → base ≤ℤ z → z <ℤ (base +ℤ pos n) → Offset base n z
-offset base z n h k = let e = steps_above base z h in record { at = steps base z; below = omega (arith, signed_linear, e, k); is = e }
+offset base z n h k = let e = steps_above base z h in
+    record { at = steps base z; below = omega (arith, signed_linear, e, k); is = e }
 
 -- what is asked of the bits
 pub record AreSmall (bit : ℤ → ℤ → Bool) (base : ℤ) (n : ℕ) : Type 0 where
@@ -113,15 +117,21 @@ pub record AreSmall (bit : ℤ → ℤ → Bool) (base : ℤ) (n : ℕ) : Type 0
 
 outside_box : (g : Glyph) (col row : ℤ) → is_in_box g.box col row ≡ false → glyph_bit g col row ≡ false
 unfolding glyph_bit
-outside_box g col row h = ap (λ (t : Bool). if t then get_or (get_or g.rows (g.box.height - 1 - steps g.box.bottom row) []) (steps g.box.left col) false else false) h
+outside_box g col row h =
+    ap (λ (t : Bool). if t then get_or (get_or g.rows (g.box.height - 1 - steps g.box.bottom row) []) (steps g.box.left col) false
+        else false) h
 
 inside_box : (g : Glyph) (col row : ℤ) → is_in_box g.box col row ≡ true
     → glyph_bit g col row ≡ get_or (get_or g.rows (g.box.height - 1 - steps g.box.bottom row) []) (steps g.box.left col) false
 unfolding glyph_bit
-inside_box g col row h = ap (λ (t : Bool). if t then get_or (get_or g.rows (g.box.height - 1 - steps g.box.bottom row) []) (steps g.box.left col) false else false) h
+inside_box g col row h =
+    ap (λ (t : Bool). if t then get_or (get_or g.rows (g.box.height - 1 - steps g.box.bottom row) []) (steps g.box.left col) false
+        else false) h
 
 empty_box : (col row : ℤ) → is_in_box no_box col row ≡ false
-empty_box col row = not_true (is_in_box no_box col row) (λ h. let p = from_true (pos 0) col 0 (in_columns no_box col row h) in absurd (omega (arith, signed_linear, p)))
+empty_box col row =
+    not_true (is_in_box no_box col row) (λ h. let p = from_true (pos 0) col 0 (in_columns no_box col row h) in
+    absurd (omega (arith, signed_linear, p)))
 
 bare : (bit : ℤ → ℤ → Bool) (code : ℕ) (swidth dwidth : ℤ) → ((col row : ℤ) → bit col row ≡ false)
     → (g : Glyph) × IsTrimmed code swidth dwidth bit g
@@ -139,7 +149,8 @@ bare bit code swidth dwidth none =
           width = λ k d l. absurd (omega arith);
           high = omega arith;
           wide = omega arith;
-          placed = record { left = omega (arith, ints); right = omega (arith, ints); bottom = omega (arith, ints); top = omega (arith, ints) };
+          placed = record { left = omega (arith, ints); right = omega (arith, ints); bottom = omega (arith, ints);
+          top = omega (arith, ints) };
         };
       },
     )
@@ -172,7 +183,9 @@ module _ (bit : ℤ → ℤ → Bool) (base : ℤ) (n : ℕ) where
   in_row i j l h = (some_decides (λ k. at_steps k j) n).1 (i, l, h)
 
   abbrev box_of : Reach has_column n → Reach has_row n → Box
-  box_of c r = record { width = c.last - c.first + 1; height = r.last - r.first + 1; left = base +ℤ pos c.first; bottom = base +ℤ pos r.first }
+  box_of c r =
+      record { width = c.last - c.first + 1; height = r.last - r.first + 1; left = base +ℤ pos c.first;
+      bottom = base +ℤ pos r.first }
 
   last_is : (first last : ℕ) → first ≤ last → last_of (base +ℤ pos first) (last - first + 1) ≡ base +ℤ pos last
   last_is first last h = omega (arith, signed_linear)
@@ -200,8 +213,10 @@ module _ (bit : ℤ → ℤ → Bool) (base : ℤ) (n : ℕ) where
       let e = f.across.is in
       let g = f.up.is in
       and_yes _ _
-      (from_order (base +ℤ pos c.first) col (c.last - c.first + 1) (omega (arith, signed_linear, e, x)) (omega (arith, signed_linear, e, x, c.order)))
-      (from_order (base +ℤ pos r.first) row (r.last - r.first + 1) (omega (arith, signed_linear, g, y)) (omega (arith, signed_linear, g, y, r.order)))
+      (from_order (base +ℤ pos c.first) col (c.last - c.first + 1) (omega (arith, signed_linear, e, x))
+          (omega (arith, signed_linear, e, x, c.order)))
+      (from_order (base +ℤ pos r.first) row (r.last - r.first + 1) (omega (arith, signed_linear, g, y))
+          (omega (arith, signed_linear, g, y, r.order)))
 
   sides_of : (c : Reach has_column n) (r : Reach has_row n) → HasSides (box_of c r) bit
   sides_of c r =
@@ -217,7 +232,9 @@ module _ (bit : ℤ → ℤ → Bool) (base : ℤ) (n : ℕ) where
       }
 
   formed_of : (code : ℕ) (swidth dwidth : ℤ) (c : Reach has_column n) (r : Reach has_row n) → AreSmall bit base n
-      → IsFormed (record { code = code; swidth = swidth; dwidth = dwidth; box = box_of c r; rows = each_number (line_of bit (box_of c r)) 0 (r.last - r.first + 1) })
+      → IsFormed
+      (record { code = code; swidth = swidth; dwidth = dwidth; box = box_of c r;
+      rows = each_number (line_of bit (box_of c r)) 0 (r.last - r.first + 1) })
   formed_of code swidth dwidth c r s =
       let left = column_of c.first c.at_first in
       let right = column_of c.last c.at_last in
@@ -227,7 +244,8 @@ module _ (bit : ℤ → ℤ → Bool) (base : ℤ) (n : ℕ) where
       let high = s.low (base +ℤ pos bottom.0) (base +ℤ pos r.first) (base +ℤ pos top.0) (base +ℤ pos r.last) bottom.2 top.2 in
       record {
         height = length_numbered (line_of bit (box_of c r)) 0 (r.last - r.first + 1);
-        width = all_numbered (λ (row : List Bool). length row ≡ c.last - c.first + 1) (line_of bit (box_of c r)) 0 (r.last - r.first + 1) (λ k. length_numbered _ 0 (c.last - c.first + 1));
+        width = all_numbered (λ (row : List Bool). length row ≡ c.last - c.first + 1) (line_of bit (box_of c r)) 0
+            (r.last - r.first + 1) (λ k. length_numbered _ 0 (c.last - c.first + 1));
         high = omega (arith, signed_linear, high);
         wide = omega (arith, signed_linear, wide);
         placed = record {
@@ -240,28 +258,37 @@ module _ (bit : ℤ → ℤ → Bool) (base : ℤ) (n : ℕ) where
 
   -- the bit of the glyph in its box
   cell : (box : Box) (col row : ℤ) → is_in_box box col row ≡ true
-      → get_or (get_or (each_number (line_of bit box) 0 box.height) (box.height - 1 - steps box.bottom row) []) (steps box.left col) false ≡ bit col row
+      → get_or (get_or (each_number (line_of bit box) 0 box.height) (box.height - 1 - steps box.bottom row) [])
+      (steps box.left col) false ≡ bit col row
   cell box col row h =
       let x = in_columns box col row h in
       let y = in_rows box col row h in
       let across = steps_below box.left col box.width x in
       let up = steps_below box.bottom row box.height y in
-      let col_is : box.left +ℤ pos (0 + steps box.left col) ≡ col = let e = steps_above box.left col (from_true box.left col box.width x).0 in omega (arith, signed_linear, e) in
+      let col_is : box.left +ℤ pos (0 + steps box.left col) ≡ col = let e =
+          steps_above box.left col (from_true box.left col box.width x).0 in omega (arith, signed_linear, e) in
       let row_is : box.bottom +ℤ pos (box.height - 1 - (0 + (box.height - 1 - steps box.bottom row))) ≡ row
       = let e = steps_above box.bottom row (from_true box.bottom row box.height y).0 in omega (arith, signed_linear, e, up) in
-      ap (λ (l : List Bool). get_or l (steps box.left col) false) (get_numbered (line_of bit box) 0 box.height (box.height - 1 - steps box.bottom row) [] (omega (arith, up)))
-      ∙ get_numbered (λ c. bit (box.left +ℤ pos c) (box.bottom +ℤ pos (box.height - 1 - (0 + (box.height - 1 - steps box.bottom row))))) 0 box.width (steps box.left col) false across
+      ap (λ (l : List Bool). get_or l (steps box.left col) false)
+          (get_numbered (line_of bit box) 0 box.height (box.height - 1 - steps box.bottom row) [] (omega (arith, up)))
+      ∙ get_numbered
+      (λ c. bit (box.left +ℤ pos c) (box.bottom +ℤ pos (box.height - 1 - (0 + (box.height - 1 - steps box.bottom row))))) 0
+          box.width (steps box.left col) false across
       ∙ ap₂ bit col_is row_is
 
   abbrev glyph_at : ℕ → ℤ → ℤ → Reach has_column n → Reach has_row n → Glyph
   glyph_at code swidth dwidth c r =
-      record { code = code; swidth = swidth; dwidth = dwidth; box = box_of c r; rows = each_number (line_of bit (box_of c r)) 0 (r.last - r.first + 1) }
+      record { code = code; swidth = swidth; dwidth = dwidth; box = box_of c r;
+      rows = each_number (line_of bit (box_of c r)) 0 (r.last - r.first + 1) }
 
   bits_at : (code : ℕ) (swidth dwidth : ℤ) (c : Reach has_column n) (r : Reach has_row n) → AreSmall bit base n
-      → (col row : ℤ) (t : Bool) → is_in_box (box_of c r) col row ≡ t → glyph_bit (glyph_at code swidth dwidth c r) col row ≡ bit col row
-  bits_at code swidth dwidth c r s col row true e = inside_box (glyph_at code swidth dwidth c r) col row e ∙ cell (box_of c r) col row e
+      → (col row : ℤ) (t : Bool) → is_in_box (box_of c r) col row ≡ t
+      → glyph_bit (glyph_at code swidth dwidth c r) col row ≡ bit col row
+  bits_at code swidth dwidth c r s col row true e = inside_box (glyph_at code swidth dwidth c r) col row e
+      ∙ cell (box_of c r) col row e
   bits_at code swidth dwidth c r s col row false e =
-      outside_box (glyph_at code swidth dwidth c r) col row e ∙ sym (not_true (bit col row) (λ h. not_both (is_in_box (box_of c r) col row) e (holds_of c r s col row h)))
+      outside_box (glyph_at code swidth dwidth c r) col row e
+          ∙ sym (not_true (bit col row) (λ h. not_both (is_in_box (box_of c r) col row) e (holds_of c r s col row h)))
 
   glyph_in : (code : ℕ) (swidth dwidth : ℤ) (c : Reach has_column n) (r : Reach has_row n) → AreSmall bit base n
       → (g : Glyph) × IsTrimmed code swidth dwidth bit g
@@ -280,9 +307,11 @@ module _ (bit : ℤ → ℤ → Bool) (base : ℤ) (n : ℕ) where
   pub trimmed : (code : ℕ) (swidth dwidth : ℤ) → AreSmall bit base n → (g : Glyph) × IsTrimmed code swidth dwidth bit g
   trimmed code swidth dwidth s = elim (reach has_column n) [
     | inl none ↦ bare bit code swidth dwidth (λ col row. not_true (bit col row) (λ h.
-        let f = steps_of s col row h in not_both (has_column f.across.at) (none f.across.at f.across.below) (in_column f.across.at f.up.at f.up.below f.here)))
+        let f = steps_of s col row h in
+        not_both (has_column f.across.at) (none f.across.at f.across.below) (in_column f.across.at f.up.at f.up.below f.here)))
     | inr c ↦ elim (reach has_row n) [
-      | inl none ↦ let j = column_of c.first c.at_first in absurd (not_both (has_row j.0) (none j.0 j.1) (in_row c.first j.0 (omega (arith, c.order, c.below)) j.2))
+      | inl none ↦ let j = column_of c.first c.at_first in
+      absurd (not_both (has_row j.0) (none j.0 j.1) (in_row c.first j.0 (omega (arith, c.order, c.below)) j.2))
       | inr r ↦ glyph_in code swidth dwidth c r s
     ]
   ]

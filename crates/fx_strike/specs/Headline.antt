@@ -90,6 +90,7 @@ HasToName _ = Unit {0}
 abbrev pub Leaves : Opening → Result Plan Refusal → Option (List ℕ) → Option (List ℕ) → ℕ → ℕ → Result Report Refusal
     → Type 0
 Leaves opening strike old new faults_before faults_after (Ok report) = Text strike old new faults_before faults_after report
-Leaves opening strike old new faults_before faults_after (Err OutOfMemory) = Late opening × Memory strike old new faults_before faults_after
+Leaves opening strike old new faults_before faults_after (Err OutOfMemory) =
+    Late opening × Memory strike old new faults_before faults_after
 Leaves opening strike old new faults_before faults_after (Err (WriteFailed n)) = Writer strike old new faults_before faults_after n
 Leaves opening strike old new faults_before faults_after (Err refusal) = Cause strike old new faults_before faults_after refusal

@@ -9,7 +9,9 @@ GlyphIsOne = (sketch : Sketch) (g h : Glyph) → IsGlyphOf sketch g → IsGlyphO
 
 -- hence a strike has one text
 abbrev pub TextIsOne : Type 0
-TextIsOne = (plan : Plan) (gs hs : List Glyph) → AreGlyphsOf plan.sketches gs → AreGlyphsOf plan.sketches hs → strike_text plan gs ≡ strike_text plan hs
+TextIsOne =
+    (plan : Plan) (gs hs : List Glyph)
+    → AreGlyphsOf plan.sketches gs → AreGlyphsOf plan.sketches hs → strike_text plan gs ≡ strike_text plan hs
 
 -- a strike has its glyphs: if no cause refuses it there is one, however much memory there is
 abbrev pub StrikeExists : Type 0

@@ -55,7 +55,8 @@ pub record IsNotListed (program : Result (List ℕ) Refusal) (old new : Option (
   pub quiet : faults_after ≡ faults_before
 
 -- the writer failed: the program exists, exactly the first n bytes of its listing were written, and the writer counted one fault
-pub record IsListedTo (program : Result (List ℕ) Refusal) (old new : Option (List ℕ)) (faults_before faults_after n : ℕ) : Type 0 where
+pub record IsListedTo (program : Result (List ℕ) Refusal) (old new : Option (List ℕ)) (faults_before faults_after n : ℕ)
+    : Type 0 where
   pub code : List ℕ
   pub is : program ≡ Ok code
   pub short : n < length (listing_text code)
