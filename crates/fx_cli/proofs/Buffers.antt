@@ -11,7 +11,8 @@ use Rattle.std.proofs.lemmas.Bool.{ltb-false}
 use borrow.Rule.Slice.PartMut.{put_mid, post_of}
 
 -- the front of a buffer that was filled further
-take_filled : (buffer ys : List ℕ) (at n : ℕ) → at ≤ length buffer → n ≤ length ys → take (at + n) (put_mid at (length buffer - at) buffer ys) ≡ take at buffer ++ take n ys
+take_filled : (buffer ys : List ℕ) (at n : ℕ) → at ≤ length buffer → n ≤ length ys
+    → take (at + n) (put_mid at (length buffer - at) buffer ys) ≡ take at buffer ++ take n ys
 take_filled buffer ys at n h g =
     let size : length (take at buffer) ≡ at = grind (arith, common_steps) in
     let post = post_of at (length buffer - at) buffer in
@@ -19,23 +20,29 @@ take_filled buffer ys at n h g =
     ∙ (take-append-add (take at buffer) (ys ++ post) n)
     ∙ ap (λ (xs : List ℕ). take at buffer ++ xs) (take-append-le n ys post g)
 
-pub filled_more : (old now new : Option (List ℕ)) (buffer ys : List ℕ) (at n : ℕ) → at ≤ length buffer → n ≤ length ys → Consumes old now (take at buffer) → Consumes now new (take n ys) → Consumes old new (take (at + n) (put_mid at (length buffer - at) buffer ys))
+pub filled_more : (old now new : Option (List ℕ)) (buffer ys : List ℕ) (at n : ℕ) → at ≤ length buffer → n ≤ length ys
+    → Consumes old now (take at buffer) → Consumes now new (take n ys)
+    → Consumes old new (take (at + n) (put_mid at (length buffer - at) buffer ys))
 filled_more old now new buffer ys at n h g before after =
     let P : List ℕ → Type 0 = λ xs. Consumes old new xs in
     subst P (sym (take_filled buffer ys at n h g)) (Consumes-trans old now new (take at buffer) (take n ys) before after)
 
 -- the index of the first that passes, or the length
-pub place_or_len : (p : ℕ → Bool) (xs : List ℕ) → position_or_len p xs ≤ length xs → unwrap_or (position p xs) (length xs) ≡ position_or_len p xs
+pub place_or_len : (p : ℕ → Bool) (xs : List ℕ) → position_or_len p xs ≤ length xs
+    → unwrap_or (position p xs) (length xs) ≡ position_or_len p xs
 place_or_len p xs h = go (nat_lt (position_or_len p xs) (length xs)) refl
   where
-    go : (b : Bool) → nat_lt (position_or_len p xs) (length xs) ≡ b → unwrap_or (cond b (Some (position_or_len p xs)) None) (length xs) ≡ position_or_len p xs
+    go : (b : Bool) → nat_lt (position_or_len p xs) (length xs) ≡ b
+        → unwrap_or (cond b (Some (position_or_len p xs)) None) (length xs) ≡ position_or_len p xs
     go true e = refl
     go false e = let low : length xs ≤ position_or_len p xs = ltb-false _ _ e in omega arith
 
 pub length_take_most : (k : ℕ) (xs : List ℕ) → length (take k xs) ≤ k
 length_take_most k xs = grind (arith, common_steps)
 
-pub filled_within : (buffer ys : List ℕ) (at n : ℕ) → at ≤ length buffer → n ≤ length ys → at + n ≤ length (put_mid at (length buffer - at) buffer ys)
+pub filled_within : (buffer ys : List ℕ) (at n : ℕ) → at ≤ length buffer → n ≤ length ys
+    → at + n ≤ length (put_mid at (length buffer - at) buffer ys)
 filled_within buffer ys at n h g =
     let size : length (take at buffer) ≡ at = grind (arith, common_steps) in
-    omega (arith, length-append (take at buffer) (ys ++ post_of at (length buffer - at) buffer), length-append ys (post_of at (length buffer - at) buffer))
+    omega (arith, length-append (take at buffer) (ys ++ post_of at (length buffer - at) buffer), length-append ys
+        (post_of at (length buffer - at) buffer))

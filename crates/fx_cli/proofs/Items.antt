@@ -14,7 +14,9 @@ use Rattle.fx_cli.proofs.Numerals.{length-numbers_from}
 abbrev pub behind : List ℕ → Option (List ℕ) → Option (List ℕ)
 behind chars = option_map (λ more. chars ++ more)
 
-numbers_of_items-cons : (item : List ℕ) (items : List (List ℕ)) → numbers_of_items (item ∷ items) ≡ option_and_then (λ range. option_map (λ more. numbers_between range ++ more) (numbers_of_items items)) (range_of item)
+numbers_of_items-cons : (item : List ℕ) (items : List (List ℕ))
+    → numbers_of_items (item ∷ items) ≡ option_and_then
+    (λ range. option_map (λ more. numbers_between range ++ more) (numbers_of_items items)) (range_of item)
 unfolding numbers_of_items
 numbers_of_items-cons item items = refl
 
@@ -35,9 +37,12 @@ behind-nil None = refl
 behind-nil (Some zs) = refl
 
 -- one item more
-pub behind_item : (chars : List ℕ) (range : ℕ × ℕ) (item : List ℕ) (items : List (List ℕ)) → range_of item ≡ Some range → behind chars (numbers_of_items (item ∷ items)) ≡ behind (chars ++ numbers_between range) (numbers_of_items items)
+pub behind_item : (chars : List ℕ) (range : ℕ × ℕ) (item : List ℕ) (items : List (List ℕ)) → range_of item ≡ Some range
+    → behind chars (numbers_of_items (item ∷ items)) ≡ behind (chars ++ numbers_between range) (numbers_of_items items)
 behind_item chars range item items e =
-    ap (behind chars) (numbers_of_items-cons item items ∙ ap (option_and_then (λ r. option_map (λ more. numbers_between r ++ more) (numbers_of_items items))) e)
+    ap (behind chars)
+        (numbers_of_items-cons item items
+            ∙ ap (option_and_then (λ r. option_map (λ more. numbers_between r ++ more) (numbers_of_items items))) e)
     ∙ regrouped chars (numbers_between range) (numbers_of_items items)
 
 few_not : (xs : List ℕ) → max_characters < length xs → few xs ≡ None
@@ -51,21 +56,30 @@ too_many chars None h = refl
 too_many chars (Some zs) h = few_not (chars ++ zs) (omega (arith, length-append chars zs))
 
 -- an item that is none
-pub none_by_item : (text chars item : List ℕ) (items : List (List ℕ)) → numbers_of_items (items_of text) ≡ behind chars (numbers_of_items (item ∷ items)) → range_of item ≡ None → numbers_of_list text ≡ None
+pub none_by_item : (text chars item : List ℕ) (items : List (List ℕ))
+    → numbers_of_items (items_of text) ≡ behind chars (numbers_of_items (item ∷ items)) → range_of item ≡ None
+    → numbers_of_list text ≡ None
 none_by_item text chars item items so_far e =
     numbers_of_list-is text
-    ∙ ap (option_and_then few) (so_far ∙ ap (behind chars) (numbers_of_items-cons item items ∙ ap (option_and_then (λ r. option_map (λ more. numbers_between r ++ more) (numbers_of_items items))) e))
+    ∙ ap (option_and_then few)
+    (so_far ∙ ap (behind chars)
+        (numbers_of_items-cons item items
+            ∙ ap (option_and_then (λ r. option_map (λ more. numbers_between r ++ more) (numbers_of_items items))) e))
 
 -- an item with too many numbers
-pub none_by_count : (text chars item : List ℕ) (range : ℕ × ℕ) (items : List (List ℕ)) → numbers_of_items (items_of text) ≡ behind chars (numbers_of_items (item ∷ items)) → range_of item ≡ Some range → max_characters < length chars + (range.1 - range.0 + 1) → numbers_of_list text ≡ None
+pub none_by_count : (text chars item : List ℕ) (range : ℕ × ℕ) (items : List (List ℕ))
+    → numbers_of_items (items_of text) ≡ behind chars (numbers_of_items (item ∷ items)) → range_of item ≡ Some range
+    → max_characters < length chars + (range.1 - range.0 + 1) → numbers_of_list text ≡ None
 none_by_count text chars item range items so_far e h =
     let count : length (numbers_between range) ≡ range.1 - range.0 + 1 = length-numbers_from range.0 (range.1 - range.0 + 1) in
     numbers_of_list-is text
     ∙ ap (option_and_then few) (so_far ∙ behind_item chars range item items e)
-    ∙ too_many (chars ++ numbers_between range) (numbers_of_items items) (omega (arith, count, length-append chars (numbers_between range)))
+    ∙ too_many (chars ++ numbers_between range) (numbers_of_items items)
+    (omega (arith, count, length-append chars (numbers_between range)))
 
 -- no item is left
-pub all_items : (text chars : List ℕ) → numbers_of_items (items_of text) ≡ behind chars (numbers_of_items []) → length chars ≤ max_characters → numbers_of_list text ≡ Some chars
+pub all_items : (text chars : List ℕ) → numbers_of_items (items_of text) ≡ behind chars (numbers_of_items [])
+    → length chars ≤ max_characters → numbers_of_list text ≡ Some chars
 all_items text chars so_far h =
     numbers_of_list-is text
     ∙ ap (option_and_then few) (so_far ∙ ap (behind chars) numbers_of_items-nil ∙ ap (λ (l : List ℕ). Some l) (append-nil chars))
@@ -75,22 +89,31 @@ pub before_items : (items : List (List ℕ)) → numbers_of_items items ≡ behi
 before_items items = sym (behind-nil (numbers_of_items items))
 
 -- an item with a '-', and one without
-pub range_cut : (item low high : List ℕ) → low ≡ before_first (λ b. b == 45) item → high ≡ after_first (λ b. b == 45) item → position_or_len (λ b. b == 45) item < length item → range_of item ≡ pair_of (number_of low) (number_of high)
+pub range_cut : (item low high : List ℕ) → low ≡ before_first (λ b. b == 45) item → high ≡ after_first (λ b. b == 45) item
+    → position_or_len (λ b. b == 45) item < length item → range_of item ≡ pair_of (number_of low) (number_of high)
 unfolding range_of
 range_cut item low high l h within =
-    ap (λ (t : Bool). if t then pair_of (number_of (before_first (λ b. b == 45) item)) (number_of (after_first (λ b. b == 45) item)) else pair_of (number_of item) (number_of item)) (lt-ltb _ _ within)
+    ap (λ (t : Bool). if t then pair_of (number_of (before_first (λ b. b == 45) item))
+        (number_of (after_first (λ b. b == 45) item)) else pair_of (number_of item) (number_of item)) (lt-ltb _ _ within)
     ∙ ap₂ (λ (x y : List ℕ). pair_of (number_of x) (number_of y)) (sym l) (sym h)
 
-pub range_whole : (item : List ℕ) → position_or_len (λ b. b == 45) item ≡ length item → range_of item ≡ pair_of (number_of item) (number_of item)
+pub range_whole : (item : List ℕ) → position_or_len (λ b. b == 45) item ≡ length item
+    → range_of item ≡ pair_of (number_of item) (number_of item)
 unfolding range_of
 range_whole item none =
-    ap (λ (t : Bool). if t then pair_of (number_of (before_first (λ b. b == 45) item)) (number_of (after_first (λ b. b == 45) item)) else pair_of (number_of item) (number_of item)) (le-ltb _ _ (omega (arith, none)))
+    ap (λ (t : Bool). if t then pair_of (number_of (before_first (λ b. b == 45) item))
+        (number_of (after_first (λ b. b == 45) item)) else pair_of (number_of item) (number_of item))
+            (le-ltb _ _ (omega (arith, none)))
 
 -- a text with a separator, and one without
-pub parts_cut : (separator : ℕ) (text part more : List ℕ) → part ≡ before_first (λ b. b == separator) text → more ≡ after_first (λ b. b == separator) text → position_or_len (λ b. b == separator) text < length text → parts_of separator text ≡ part ∷ parts_of separator more
+pub parts_cut : (separator : ℕ) (text part more : List ℕ) → part ≡ before_first (λ b. b == separator) text
+    → more ≡ after_first (λ b. b == separator) text → position_or_len (λ b. b == separator) text < length text
+    → parts_of separator text ≡ part ∷ parts_of separator more
 parts_cut separator text part more p m within =
     slice_split_first (λ b. b == separator) text 0 within ∙ ap₂ (λ (x y : List ℕ). x ∷ parts_of separator y) (sym p) (sym m)
 
-pub parts_whole : (separator : ℕ) (text : List ℕ) → position_or_len (λ b. b == separator) text ≡ length text → parts_of separator text ≡ text ∷ []
+pub parts_whole : (separator : ℕ) (text : List ℕ) → position_or_len (λ b. b == separator) text ≡ length text
+    → parts_of separator text ≡ text ∷ []
 parts_whole separator text none =
-    slice_split_none (λ b. b == separator) text (λ k d lt. fails_before_first (λ b. b == separator) text k d (omega (arith, none, lt)))
+    slice_split_none (λ b. b == separator) text
+        (λ k d lt. fails_before_first (λ b. b == separator) text k d (omega (arith, none, lt)))

@@ -25,7 +25,8 @@ below_top (suc (suc (suc (suc (suc zero))))) n low h = omega arith
 below_top (suc (suc (suc (suc (suc (suc zero)))))) n low h = omega arith
 below_top (suc (suc (suc (suc (suc (suc (suc i))))))) n low h = absurd (omega arith)
 
-number_after_cons : (n d : ℕ) (ds : List ℕ) → number_after n (d ∷ ds) ≡ option_and_then (λ value. number_after (n * 16 + value) ds) (hex_digit_value d)
+number_after_cons : (n d : ℕ) (ds : List ℕ)
+    → number_after n (d ∷ ds) ≡ option_and_then (λ value. number_after (n * 16 + value) ds) (hex_digit_value d)
 unfolding number_after
 number_after_cons n d ds = refl
 
@@ -33,16 +34,24 @@ pub number_after_nil : (n : ℕ) → number_after n [] ≡ Some n
 unfolding number_after
 number_after_nil n = refl
 
-number_after_at : (n i : ℕ) (ds : List ℕ) → i < length ds → number_after n (drop i ds) ≡ option_and_then (λ value. number_after (n * 16 + value) (drop (i + 1) ds)) (hex_digit_value (get_or ds i 0))
-number_after_at n i ds h = ap (number_after n) (drop-cons ds i 0 h) ∙ number_after_cons n (get_or ds i 0) (drop (suc i) ds) ∙ ap (λ (j : ℕ). option_and_then (λ value. number_after (n * 16 + value) (drop j ds)) (hex_digit_value (get_or ds i 0))) (sym (add-one i))
+number_after_at : (n i : ℕ) (ds : List ℕ) → i < length ds
+    → number_after n (drop i ds) ≡ option_and_then (λ value. number_after (n * 16 + value) (drop (i + 1) ds))
+    (hex_digit_value (get_or ds i 0))
+number_after_at n i ds h = ap (number_after n) (drop-cons ds i 0 h) ∙ number_after_cons n (get_or ds i 0) (drop (suc i) ds)
+    ∙ ap (λ (j : ℕ). option_and_then (λ value. number_after (n * 16 + value) (drop j ds)) (hex_digit_value (get_or ds i 0)))
+    (sym (add-one i))
 
 -- the number continues after a digit
-pub number_after_step : (n i v : ℕ) (ds : List ℕ) → i < length ds → hex_digit_value (get_or ds i 0) ≡ Some v → number_after n (drop i ds) ≡ number_after (n * 16 + v) (drop (i + 1) ds)
-number_after_step n i v ds h e = number_after_at n i ds h ∙ ap (option_and_then (λ value. number_after (n * 16 + value) (drop (i + 1) ds))) e
+pub number_after_step : (n i v : ℕ) (ds : List ℕ) → i < length ds → hex_digit_value (get_or ds i 0) ≡ Some v
+    → number_after n (drop i ds) ≡ number_after (n * 16 + v) (drop (i + 1) ds)
+number_after_step n i v ds h e = number_after_at n i ds h
+    ∙ ap (option_and_then (λ value. number_after (n * 16 + value) (drop (i + 1) ds))) e
 
 -- there is none if a byte is not a digit
-pub number_after_none : (n i : ℕ) (ds : List ℕ) → i < length ds → hex_digit_value (get_or ds i 0) ≡ None → number_after n (drop i ds) ≡ None
-number_after_none n i ds h e = number_after_at n i ds h ∙ ap (option_and_then (λ value. number_after (n * 16 + value) (drop (i + 1) ds))) e
+pub number_after_none : (n i : ℕ) (ds : List ℕ) → i < length ds → hex_digit_value (get_or ds i 0) ≡ None
+    → number_after n (drop i ds) ≡ None
+number_after_none n i ds h e = number_after_at n i ds h
+    ∙ ap (option_and_then (λ value. number_after (n * 16 + value) (drop (i + 1) ds))) e
 
 pub number_after_end : (n i : ℕ) (ds : List ℕ) → length ds ≤ i → number_after n (drop i ds) ≡ Some n
 number_after_end n i ds h =
@@ -63,7 +72,8 @@ unfolding numbers_from
 numbers_from_suc low count = refl
 
 numbers_push : (low count : ℕ) → numbers_from low (suc count) ≡ numbers_from low count ++ (low + count) ∷ []
-numbers_push low zero = numbers_from_suc low 0 ∙ ap (λ (xs : List ℕ). low ∷ xs) (numbers_from_zero (low + 1)) ∙ ap (λ (n : ℕ). n ∷ []) (omega arith) ∙ ap (λ (xs : List ℕ). xs ++ (low + 0) ∷ []) (sym (numbers_from_zero low))
+numbers_push low zero = numbers_from_suc low 0 ∙ ap (λ (xs : List ℕ). low ∷ xs) (numbers_from_zero (low + 1))
+    ∙ ap (λ (n : ℕ). n ∷ []) (omega arith) ∙ ap (λ (xs : List ℕ). xs ++ (low + 0) ∷ []) (sym (numbers_from_zero low))
 numbers_push low (suc count) =
     let last : low + 1 + count ≡ low + suc count = omega arith in
     numbers_from_suc low (suc count)
@@ -75,7 +85,8 @@ numbers_more low count = ap (numbers_from low) (add-one count) ∙ numbers_push 
 
 pub length-numbers_from : (low count : ℕ) → length (numbers_from low count) ≡ count
 length-numbers_from low zero = ap (length {A = ℕ}) (numbers_from_zero low)
-length-numbers_from low (suc count) = ap (length {A = ℕ}) (numbers_from_suc low count) ∙ ap suc (length-numbers_from (low + 1) count)
+length-numbers_from low (suc count) = ap (length {A = ℕ}) (numbers_from_suc low count)
+    ∙ ap suc (length-numbers_from (low + 1) count)
 
 pub number_of_no : (text : List ℕ) → length text ≡ 0 → number_of text ≡ None
 unfolding number_of

@@ -43,10 +43,13 @@ digits_tested [] h = tt
 digits_tested (d ∷ ds) h = let p = both _ _ h in (ltb-true _ _ p.0, digits_tested ds p.1)
 
 -- what is parsed as a number is a size
-size_passes : (ds : List ℕ) → IsNumeral 10 ds → digits_value 10 ds < 65536 → nat_lt 0 (length ds) && (list_all (λ d. nat_lt (digit_value d) 10) ds && nat_lt (digits_value 10 ds) 65536) ≡ true
+size_passes : (ds : List ℕ) → IsNumeral 10 ds → digits_value 10 ds < 65536
+    → nat_lt 0 (length ds) && (list_all (λ d. nat_lt (digit_value d) 10) ds && nat_lt (digits_value 10 ds) 65536) ≡ true
 size_passes ds h g = ap₂ ◌&&◌ (lt-ltb _ _ h.0) (ap₂ ◌&&◌ (tests_digits ds h.1) (lt-ltb _ _ g))
 
-passed_size : (ds : List ℕ) → nat_lt 0 (length ds) && (list_all (λ d. nat_lt (digit_value d) 10) ds && nat_lt (digits_value 10 ds) 65536) ≡ true → IsNumeral 10 ds × (digits_value 10 ds < 65536)
+passed_size : (ds : List ℕ)
+    → nat_lt 0 (length ds) && (list_all (λ d. nat_lt (digit_value d) 10) ds && nat_lt (digits_value 10 ds) 65536) ≡ true
+    → IsNumeral 10 ds × (digits_value 10 ds < 65536)
 passed_size ds e =
     let p = both _ _ e in
     let q = both _ _ p.1 in
@@ -55,7 +58,11 @@ passed_size ds e =
 abbrev sized : Bool → ℕ → Option ℕ
 sized b n = if b then Some n else None
 
-size_is : (text : List ℕ) → size_of text ≡ sized (nat_lt 0 (length (without_leading_plus text)) && (list_all (λ d. nat_lt (digit_value d) 10) (without_leading_plus text) && nat_lt (digits_value 10 (without_leading_plus text)) 65536)) (digits_value 10 (without_leading_plus text))
+size_is : (text : List ℕ)
+    → size_of text ≡ sized
+    (nat_lt 0
+        (length (without_leading_plus text)) && (list_all (λ d. nat_lt (digit_value d) 10) (without_leading_plus text) && nat_lt
+            (digits_value 10 (without_leading_plus text)) 65536)) (digits_value 10 (without_leading_plus text))
 unfolding size_of
 size_is text = refl
 
@@ -64,7 +71,10 @@ none_sized true n h = absurd (h refl)
 none_sized false n h = refl
 
 pub size_parsed : {E : Type 0} (text : List ℕ) (r : Result ℕ E) → ParsesUnsigned 16 10 text r → result_ok r ≡ size_of text
-size_parsed text (Ok n) h = ap (λ (k : ℕ). Some k) h.1 ∙ sym (size_is text ∙ ap (λ (b : Bool). sized b (digits_value 10 (without_leading_plus text))) (size_passes (without_leading_plus text) h.0.0 h.0.1))
+size_parsed text (Ok n) h = ap (λ (k : ℕ). Some k) h.1
+    ∙ sym (size_is text
+    ∙ ap (λ (b : Bool). sized b (digits_value 10 (without_leading_plus text)))
+    (size_passes (without_leading_plus text) h.0.0 h.0.1))
 size_parsed text (Err e) h = sym (size_is text ∙ none_sized _ _ (λ passed. h (passed_size (without_leading_plus text) passed)))
 
 -- ---- the values that arguments give a command's options
@@ -75,7 +85,8 @@ among_some k ks h e = let P : Kinds → Type 0 = λ xs. IsAmong k xs in subst P 
 abbrev chosen : Bool → List Row → Option (List Row)
 chosen b rows = if b then None else Some rows
 
-rows_by-is : (app : App) (words : List Text) → rows_by app words ≡ chosen (list_any is_bare words || is_some_kind (fault_of app words)) (matches_of app words)
+rows_by-is : (app : App) (words : List Text)
+    → rows_by app words ≡ chosen (list_any is_bare words || is_some_kind (fault_of app words)) (matches_of app words)
 unfolding rows_by
 rows_by-is app words = refl
 
@@ -88,7 +99,8 @@ length_some [] h = absurd (h refl)
 length_some (k ∷ ks) h = refl
 
 pub rows_of_bare : (app : App) (words : List Text) → list_any is_bare words ≡ true → rows_by app words ≡ None
-rows_of_bare app words bare = rows_by-is app words ∙ ap (λ (b : Bool). chosen (b || is_some_kind (fault_of app words)) (matches_of app words)) bare
+rows_of_bare app words bare = rows_by-is app words
+    ∙ ap (λ (b : Bool). chosen (b || is_some_kind (fault_of app words)) (matches_of app words)) bare
 
 pub rows_of_fault : (app : App) (words : List Text) → (fault_of app words ≡ [] → ⊥) → rows_by app words ≡ None
 rows_of_fault app words fault =
@@ -96,7 +108,8 @@ rows_of_fault app words fault =
     ∙ ap (λ (b : Bool). chosen (list_any is_bare words || b) (matches_of app words)) (length_some (fault_of app words) fault)
     ∙ ap (λ (b : Bool). chosen b (matches_of app words)) (or_true (list_any is_bare words))
 
-pub rows_of_taken : (app : App) (words : List Text) → list_any is_bare words ≡ false → fault_of app words ≡ [] → rows_by app words ≡ Some (matches_of app words)
+pub rows_of_taken : (app : App) (words : List Text) → list_any is_bare words ≡ false → fault_of app words ≡ []
+    → rows_by app words ≡ Some (matches_of app words)
 rows_of_taken app words bare fault =
     rows_by-is app words
     ∙ ap₂ (λ (b : Bool) (ks : Kinds). chosen (b || is_some_kind ks) (matches_of app words)) bare fault
@@ -107,14 +120,17 @@ rows_of_taken app words bare fault =
 pub wish_of_none : (make : List Row → Option Asked) (rows : Option (List Row)) → rows ≡ None → option_and_then make rows ≡ None
 wish_of_none make rows e = ap (option_and_then make) e
 
-pub wish_of_some : (make : List Row → Option Asked) (rows : Option (List Row)) (values : List Row) (wish : Option Asked) → rows ≡ Some values → wish ≡ make values → option_and_then make rows ≡ wish
+pub wish_of_some : (make : List Row → Option Asked) (rows : Option (List Row)) (values : List Row) (wish : Option Asked)
+    → rows ≡ Some values → wish ≡ make values → option_and_then make rows ≡ wish
 wish_of_some make rows values wish e h = ap (option_and_then make) e ∙ sym h
 
 -- a wish, or a usage fault if there is none
-pub ok_wish : (asked : Option Asked) (wish : Option Wish) → asked ≡ option_map seen wish → IfOk (ok_or {E = Fault} wish Usage) (λ w. asked ≡ Some (seen w))
+pub ok_wish : (asked : Option Asked) (wish : Option Wish) → asked ≡ option_map seen wish
+    → IfOk (ok_or {E = Fault} wish Usage) (λ w. asked ≡ Some (seen w))
 ok_wish asked None e = tt
 ok_wish asked (Some w) e = e
 
-pub no_wish : (asked : Option Asked) (wish : Option Wish) → asked ≡ option_map seen wish → IfErr (ok_or {E = Fault} wish Usage) (λ fault. (fault ≡ Early OutOfMemory) ⊎ ((fault ≡ Usage) × (asked ≡ None)))
+pub no_wish : (asked : Option Asked) (wish : Option Wish) → asked ≡ option_map seen wish
+    → IfErr (ok_or {E = Fault} wish Usage) (λ fault. (fault ≡ Early OutOfMemory) ⊎ ((fault ≡ Usage) × (asked ≡ None)))
 no_wish asked None e = inr (refl, e)
 no_wish asked (Some w) e = tt

@@ -38,7 +38,8 @@ numbers_between range = numbers_from range.0 (range.1 - range.0 + 1)
 -- those of all items, in their order
 unfoldable pub numbers_of_items : List (List ℕ) → Option (List ℕ)
 numbers_of_items [] = Some []
-numbers_of_items (item ∷ items) = option_and_then (λ range. option_map (λ more. numbers_between range ++ more) (numbers_of_items items)) (range_of item)
+numbers_of_items (item ∷ items) =
+    option_and_then (λ range. option_map (λ more. numbers_between range ++ more) (numbers_of_items items)) (range_of item)
 
 -- at most max_characters of them
 abbrev pub few : List ℕ → Option (List ℕ)

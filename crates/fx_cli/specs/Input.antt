@@ -41,6 +41,7 @@ IsReadCause _ size faults_before faults_after = ⊥
 
 -- why there is no first line: it has more than max_line bytes, or a fault of the reader
 abbrev pub IsLineCause : Fault → List ℕ → ℕ → ℕ → Type 0
-IsLineCause Usage got faults_before faults_after = (max_line < length (line_of got)) × (length got ≤ max_line + 1) × (faults_after ≡ faults_before)
+IsLineCause Usage got faults_before faults_after =
+    (max_line < length (line_of got)) × (length got ≤ max_line + 1) × (faults_after ≡ faults_before)
 IsLineCause (Early ReadFailed) got faults_before faults_after = faults_after ≡ faults_before + 1
 IsLineCause _ got faults_before faults_after = ⊥

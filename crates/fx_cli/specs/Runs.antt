@@ -51,7 +51,8 @@ HasLine got left = (length (line_of got) < length got) ⊎ IsAtEnd left
 abbrev pub AreWordsBy : Bool → List Word → List ℕ → Option (List ℕ) → List Word → Type 0
 AreWordsBy true given got left words = words ≡ given
 AreWordsBy false given got left words =
-    HasLine got left × IsUtf8 (line_of got) × (length (line_of got) ≤ max_line) × (words ≡ called given ∷ words_of_line (line_of got))
+    HasLine got left × IsUtf8 (line_of got) × (length (line_of got) ≤ max_line)
+    × (words ≡ called given ∷ words_of_line (line_of got))
 
 abbrev pub AreWords : List Word → List ℕ → Option (List ℕ) → List Word → Type 0
 AreWords given got left words = AreWordsBy (has_words given) given got left words
@@ -132,14 +133,17 @@ IsReadForWords false got change = (length got ≤ max_line + 1) × (change.reade
 
 -- the arguments are valid, and P holds for what they ask for
 abbrev pub Asks : List Word → List ℕ → Option (List ℕ) → (Asked → Type 0) → Type 0
-Asks given got left P = (words : List Word) × (asked : Asked) × AreWords given got left words × (wish_of_words words ≡ Some asked) × P asked
+Asks given got left P =
+    (words : List Word) × (asked : Asked) × AreWords given got left words × (wish_of_words words ≡ Some asked) × P asked
 
 -- why a run stopped before it came to that
 abbrev pub IsReason : List Word → List ℕ → Change → Fault → Type 0
 IsReason given got change Usage = IsUsageBy (has_words given) given got change.left × IsReadForWords (has_words given) got change
-IsReason given got change (Early BadChars) = Asks given got change.left (λ asked. numbers_of asked.task ≡ None) × IsReadForWords (has_words given) got change
+IsReason given got change (Early BadChars) =
+    Asks given got change.left (λ asked. numbers_of asked.task ≡ None) × IsReadForWords (has_words given) got change
 IsReason given got change (Early ReadFailed) = change.reader_faults ≡ change.reader_faults_before + 1
-IsReason given got change (Early BadHex) = IsAtEnd change.left × Asks given got change.left (λ asked. font_bytes asked.hex (text_of given got) ≡ None)
+IsReason given got change (Early BadHex) =
+    IsAtEnd change.left × Asks given got change.left (λ asked. font_bytes asked.hex (text_of given got) ≡ None)
 IsReason given got change (Early InputTooLarge) = max_input < length got
 IsReason given got change (Early OutOfMemory) = Unit {0}
 IsReason given got change _ = ⊥

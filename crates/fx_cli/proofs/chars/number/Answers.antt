@@ -13,18 +13,23 @@ returns-then-is_empty c = elim c.then-is_empty.branch [
 
 pub overflow_mul-number : goal.overflow_mul-number
 overflow_mul-number c =
-    let top : c.digits.number < 16777216 = below_top c.digits.digit-index c.digits.number (omega arith) c.digits.invariant.bound in
+    let top : c.digits.number < 16777216 =
+        below_top c.digits.digit-index c.digits.number (omega arith) c.digits.invariant.bound in
     omega arith
 
 pub overflow_add-number : goal.overflow_add-number
 overflow_add-number c =
-    let top : c.digits.number < 16777216 = below_top c.digits.digit-index c.digits.number (omega arith) c.digits.invariant.bound in
+    let top : c.digits.number < 16777216 =
+        below_top c.digits.digit-index c.digits.number (omega arith) c.digits.invariant.bound in
     omega (arith, c.in_ok-digit_value.ensures.bound)
 
 pub digits-preserved : goal.digits-preserved
 digits-preserved c = record {
-  so_far = c.digits.invariant.so_far ∙ number_after_step c.digits.number c.digits.digit-index c.from.result c.as_bytes-digits.result.now (omega arith) (search rules);
-  bound = below_power c.digits.digit-index c.digits.number c.from.result (omega arith) c.digits.invariant.bound (omega (arith, c.in_ok-digit_value.ensures.bound));
+  so_far = c.digits.invariant.so_far
+      ∙ number_after_step c.digits.number c.digits.digit-index c.from.result c.as_bytes-digits.result.now (omega arith)
+      (search rules);
+  bound = below_power c.digits.digit-index c.digits.number c.from.result (omega arith) c.digits.invariant.bound
+      (omega (arith, c.in_ok-digit_value.ensures.bound));
 }
 
 pub returns-in_err-digit_value : goal.returns-in_err-digit_value
@@ -34,7 +39,8 @@ returns-in_err-digit_value c =
     let stops : number_after c.digits.number (drop c.digits.digit-index c.as_bytes-digits.result.now) ≡ None
     = number_after_none c.digits.number c.digits.digit-index c.as_bytes-digits.result.now (omega arith) (search rules) in
     let none : c.from_residual.result ≡ None = search rules in
-    none ∙ sym (ap number_of (sym text_is) ∙ number_of_is c.as_bytes-digits.result.now some (omega arith) ∙ c.digits.invariant.so_far ∙ stops)
+    none ∙ sym (ap number_of (sym text_is) ∙ number_of_is c.as_bytes-digits.result.now some (omega arith)
+        ∙ c.digits.invariant.so_far ∙ stops)
 
 pub returns : goal.returns
 returns c =
@@ -42,4 +48,5 @@ returns c =
     let some : 0 < length c.as_bytes-digits.result.now = grind (arith, common_steps) in
     let stops : number_after c.digits.number (drop c.digits.digit-index c.as_bytes-digits.result.now) ≡ Some c.digits.number
     = number_after_end c.digits.number c.digits.digit-index c.as_bytes-digits.result.now (omega arith) in
-    sym (ap number_of (sym text_is) ∙ number_of_is c.as_bytes-digits.result.now some (omega arith) ∙ c.digits.invariant.so_far ∙ stops)
+    sym (ap number_of (sym text_is) ∙ number_of_is c.as_bytes-digits.result.now some (omega arith) ∙ c.digits.invariant.so_far
+        ∙ stops)

@@ -11,7 +11,8 @@ size_left (Some text) = length text + 1
 
 abbrev pub invariant-items : goal.invariant-items
 invariant-items l = record {
-  so_far : numbers_of_items (items_of l.list) ≡ behind l.chars.items (numbers_of_items (left_parts 44 (option_map (λ text. text.now) l.left)));
+  so_far : numbers_of_items (items_of l.list) ≡ behind l.chars.items
+      (numbers_of_items (left_parts 44 (option_map (λ text. text.now) l.left)));
   count : vec_len l.chars ≤ max_characters;
 }
 

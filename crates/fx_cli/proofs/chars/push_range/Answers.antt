@@ -5,7 +5,8 @@ use Rattle.fx_cli.proofs.chars.push_range.Goals as goal
 
 pub numbers-init : goal.numbers-init
 numbers-init c = record {
-  items = sym (ap (λ (xs : List ℕ). c.args.chars.now.items ++ xs) (numbers_from_zero c.args.low) ∙ append-nil c.args.chars.now.items);
+  items = sym (ap (λ (xs : List ℕ). c.args.chars.now.items ++ xs) (numbers_from_zero c.args.low)
+      ∙ append-nil c.args.chars.now.items);
   count = omega arith;
 }
 
@@ -22,4 +23,5 @@ numbers-preserved c = record {
 pub returns-clause-ok : goal.returns-clause-ok
 returns-clause-ok c =
     let all : c.numbers.k ≡ c.args.high - c.args.low + 1 = omega arith in
-    (c.numbers.invariant.items ∙ ap (λ (k : ℕ). c.args.chars.now.items ++ numbers_from c.args.low k) all, omega (arith, c.numbers.invariant.count))
+    (c.numbers.invariant.items
+        ∙ ap (λ (k : ℕ). c.args.chars.now.items ++ numbers_from c.args.low k) all, omega (arith, c.numbers.invariant.count))

@@ -14,7 +14,8 @@ pub returns-in_default : goal.returns-in_default
 returns-in_default g c =
     let given : List Word = map (λ (word : Bor (List ℕ)). word.now) c.args.words.now in
     let first : List ℕ = take c.in_ok-filled.filled c.read_line.new.buffer in
-    let all : length first ≡ c.in_ok-filled.filled = length-take-le c.in_ok-filled.filled c.read_line.new.buffer (omega (arith, c.in_ok-filled.ensures.sizes.1)) in
+    let all : length first ≡ c.in_ok-filled.filled =
+        length-take-le c.in_ok-filled.filled c.read_line.new.buffer (omega (arith, c.in_ok-filled.ensures.sizes.1)) in
     let P : List ℕ → Type 0 = λ xs. IsUtf8 xs → ⊥ in
     record {
       got = first;
@@ -29,7 +30,8 @@ returns-in_default g c =
           ]),
           inl (subst P c.cut_line.ensures.line c.in_default.ensures.cases.0),
         )),
-        for_line given first _ (few_words c.args.words.now c.requires.given) (omega (arith, all, c.in_ok-filled.ensures.sizes.1)) c.in_ok-filled.ensures.quiet,
+        for_line given first _ (few_words c.args.words.now c.requires.given) (omega (arith, all, c.in_ok-filled.ensures.sizes.1))
+            c.in_ok-filled.ensures.quiet,
       );
     }
 
@@ -37,12 +39,17 @@ pub returns-in_err-wish : goal.returns-in_err-wish
 returns-in_err-wish g c =
     let given : List Word = map (λ (word : Bor (List ℕ)). word.now) c.args.words.now in
     let first : List ℕ = take c.in_ok-filled.filled c.read_line.new.buffer in
-    let all : length first ≡ c.in_ok-filled.filled = length-take-le c.in_ok-filled.filled c.read_line.new.buffer (omega (arith, c.in_ok-filled.ensures.sizes.1)) in
+    let all : length first ≡ c.in_ok-filled.filled =
+        length-take-le c.in_ok-filled.filled c.read_line.new.buffer (omega (arith, c.in_ok-filled.ensures.sizes.1)) in
     let line_is : c.in-Ok.line.now ≡ line_of first = c.in-Ok.ensures.cases.0 ∙ c.cut_line.ensures.line in
     let words_are : map (λ (word : Bor (List ℕ)). word.now) c.deref.result.now ≡ called given ∷ words_of_line (line_of first)
-    = ap (map (λ (word : Bor (List ℕ)). word.now)) c.deref.ensures.value ∙ c.in_ok-words.ensures ∙ ap₂ (λ (p l : List ℕ). p ∷ words_of_line l) c.program_name.ensures line_is in
+    = ap (map (λ (word : Bor (List ℕ)). word.now)) c.deref.ensures.value ∙ c.in_ok-words.ensures
+        ∙ ap₂ (λ (p l : List ℕ). p ∷ words_of_line l) c.program_name.ensures line_is in
     let p = err_from_is_err_and c.from_residual-in_err-wish.result c.from_residual-in_err-wish.ensures.1 in
-    rw (p.1, p.2) (unread given _ first c.in_err-wish.field-0.0 (few_words c.args.words.now c.requires.given) (omega (arith, all, c.in_ok-filled.ensures.sizes.1)) c.in_ok-filled.ensures.quiet c.in_ok-filled.ensures.read (keeps_same (g.O.Sink.held c.args.out.now)) refl (elim c.in_err-wish.ensures.fault [
+    rw (p.1, p.2)
+        (unread given _ first c.in_err-wish.field-0.0 (few_words c.args.words.now c.requires.given)
+            (omega (arith, all, c.in_ok-filled.ensures.sizes.1)) c.in_ok-filled.ensures.quiet c.in_ok-filled.ensures.read
+                (keeps_same (g.O.Sink.held c.args.out.now)) refl (elim c.in_err-wish.ensures.fault [
       | inl e ↦ inl e
       | inr (e, none) ↦ inr (
         e,
@@ -60,7 +67,8 @@ pub returns : goal.returns
 returns g c =
     let given : List Word = map (λ (word : Bor (List ℕ)). word.now) c.args.words.now in
     let first : List ℕ = take c.in_ok-filled.filled c.read_line.new.buffer in
-    let all : length first ≡ c.in_ok-filled.filled = length-take-le c.in_ok-filled.filled c.read_line.new.buffer (omega (arith, c.in_ok-filled.ensures.sizes.1)) in
+    let all : length first ≡ c.in_ok-filled.filled =
+        length-take-le c.in_ok-filled.filled c.read_line.new.buffer (omega (arith, c.in_ok-filled.ensures.sizes.1)) in
     let line_is : c.in-Ok.line.now ≡ line_of first = c.in-Ok.ensures.cases.0 ∙ c.cut_line.ensures.line in
     let change : Change = record {
       left_before = g.R.Source.left c.read_line.new.reader;
@@ -72,17 +80,21 @@ returns g c =
       writer_faults_before = g.O.Sink.fault_count c.args.out.now;
       writer_faults = g.O.Sink.fault_count c.run_wish.new.out;
     } in
-    line_ends {given = given} {first = first} {front = c.cut_line.result.1.now} {ended = c.in_ok-filled.end == c.in_ok-filled.filled} {before = g.R.Source.left c.args.reader.now} {words = map (λ (word : Bor (List ℕ)). word.now) c.deref.result.now}
+    line_ends {given = given} {first = first} {front = c.cut_line.result.1.now}
+        {ended = c.in_ok-filled.end == c.in_ok-filled.filled} {before = g.R.Source.left c.args.reader.now}
+            {words = map (λ (word : Bor (List ℕ)). word.now) c.deref.result.now}
     (g.R.Source.fault_count c.args.reader.now) _ (seen c.in_ok-wish.wish) change (sym c.in_ok-filled.ensures.quiet)
     (record {
       none = few_words c.args.words.now c.requires.given;
       read = c.in_ok-filled.ensures.read;
       few = omega (arith, all, c.in_ok-filled.ensures.sizes.1);
-      found = λ e. let apart = eqb-false c.in_ok-filled.end c.in_ok-filled.filled e in omega (arith, all, c.in_ok-filled.ensures.line, c.in_ok-filled.ensures.sizes.0, apart);
+      found = λ e. let apart = eqb-false c.in_ok-filled.end c.in_ok-filled.filled e in
+      omega (arith, all, c.in_ok-filled.ensures.line, c.in_ok-filled.ensures.sizes.0, apart);
       size = prefix_len-le-length (λ b. not (b == 10)) first;
       utf8 = subst IsUtf8 c.cut_line.ensures.line c.in-Ok.ensures.cases.1;
       short = omega (arith, length-line_of first, c.in_ok-filled.ensures.line, c.in_ok-filled.ensures.sizes.2);
-      words_are = ap (map (λ (word : Bor (List ℕ)). word.now)) c.deref.ensures.value ∙ c.in_ok-words.ensures ∙ ap₂ (λ (p l : List ℕ). p ∷ words_of_line l) c.program_name.ensures line_is;
+      words_are = ap (map (λ (word : Bor (List ℕ)). word.now)) c.deref.ensures.value ∙ c.in_ok-words.ensures
+          ∙ ap₂ (λ (p l : List ℕ). p ∷ words_of_line l) c.program_name.ensures line_is;
       front_is = c.cut_line.ensures.rest;
     })
     (omega (arith, all, c.cut_line.ensures.size))

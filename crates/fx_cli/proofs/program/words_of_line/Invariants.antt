@@ -8,7 +8,9 @@ size_left None = 0
 size_left (Some text) = length text + 1
 
 abbrev pub invariant-words : goal.invariant-words
-invariant-words l = map (λ (word : Bor (List ℕ)). word.now) l.all.items ++ filter has_bytes (left_parts 32 (option_map (λ text. text.now) l.left)) ≡ l.program ∷ words_of_line l.line
+invariant-words l =
+    map (λ (word : Bor (List ℕ)). word.now) l.all.items ++ filter has_bytes
+        (left_parts 32 (option_map (λ text. text.now) l.left)) ≡ l.program ∷ words_of_line l.line
 
 abbrev pub decreases-words : goal.decreases-words
 decreases-words l = size_left (option_map (λ text. text.now) l.left)
