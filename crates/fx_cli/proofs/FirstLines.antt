@@ -74,7 +74,8 @@ has_line {given} {first} {front} {ended} {before} {mid} {words} more left f rest
     (λ e.
     let found = f.found e in
     let line : line_of (first ++ more) ≡ line_of first = same_line first more (inl found) in
-    let size : length (line_of first) ≡ position_or_len is_end first = length-take-le (position_or_len is_end first) first f.size in
+    let size : length (line_of first) ≡ position_or_len is_end first =
+        length-take-le (position_or_len is_end first) first f.size in
     let P : List ℕ → Type 0 = λ xs. length xs < length (first ++ more) in
     subst P (sym line) (omega (arith, size, length-append first more)))
     (λ e. (rest e).1)
@@ -191,7 +192,8 @@ pub line_in_buffer : (buffer : List ℕ) (filled end : ℕ) → end ≤ filled �
     → line_of (take filled buffer) ≡ take end buffer
 line_in_buffer buffer filled end h e = ap (λ (k : ℕ). take k (take filled buffer)) (sym e) ∙ take_take end filled buffer h
 
-pub few_words : (words : List (Bor (List ℕ))) → length words ≤ 1 → has_words (map (λ (word : Bor (List ℕ)). word.now) words) ≡ false
+pub few_words : (words : List (Bor (List ℕ))) → length words ≤ 1
+    → has_words (map (λ (word : Bor (List ℕ)). word.now) words) ≡ false
 few_words [] h = refl
 few_words (word ∷ []) h = refl
 few_words (word ∷ more ∷ words) h = absurd (omega arith)
@@ -225,7 +227,8 @@ keeps_same (Some xs) = refl
 
 -- ---- arguments that were given
 
-pub many_words : (words : List (Bor (List ℕ))) → 1 < length words → has_words (map (λ (word : Bor (List ℕ)). word.now) words) ≡ true
+pub many_words : (words : List (Bor (List ℕ))) → 1 < length words
+    → has_words (map (λ (word : Bor (List ℕ)). word.now) words) ≡ true
 many_words [] h = absurd (omega arith)
 many_words (word ∷ []) h = absurd (omega arith)
 many_words (word ∷ more ∷ words) h = lt-ltb 1 _ (omega arith)

@@ -86,7 +86,8 @@ fn digit_value(digit: u8) -> Option<u8>
 fn push_range(chars: &mut Vec<u32>, low: u32, high: u32) -> Result<(), Refusal>
     requires order { low ≤ high }
     requires few { vec_len chars.old ≤ max_characters }
-    ensures ok { OnOk result ((chars.new.items ≡ chars.old.items ++ numbers_between (low, high)) × (vec_len chars.new ≤ max_characters)) }
+    ensures ok { OnOk result (
+        (chars.new.items ≡ chars.old.items ++ numbers_between (low, high)) × (vec_len chars.new ≤ max_characters)) }
     ensures err { IfErr result (λ refusal. (refusal ≡ Refusal.OutOfMemory)
         ⊎ ((refusal ≡ Refusal.BadChars) × (max_characters < vec_len chars.old + (high - low + 1)))) }
 {

@@ -241,7 +241,8 @@ fn put_strike<O: Sink>(
 ) -> Result<Report, Refusal>
     requires { O.fault_count out.old < 2 ^ 63 }
     ensures { Leaves (opened_of font.now words.now.ppem words.now.name.now chars.now (not words.now.unhinted))
-        (plan_of font.now words.now.ppem words.now.name.now chars.now (not words.now.unhinted)) (O.held out.old) (O.held out.new) (O.fault_count out.old) (O.fault_count out.new) result }
+        (plan_of font.now words.now.ppem words.now.name.now chars.now (not words.now.unhinted))
+        (O.held out.old) (O.held out.new) (O.fault_count out.old) (O.fault_count out.new) result }
 {
     let request = Request {
         ppem: words.ppem,

@@ -11,7 +11,8 @@ use std::alloc::{AllocError, Global};
 use std::io::{ErrorKind, Write};
 use std::{env, io};
 
-/// Runs the program on the arguments that the system gives, from standard input to standard output, with its lines for people to `err`.
+/// Runs the program on the arguments that the system gives, from standard input to standard output, with its lines for people
+/// to `err`.
 /// Returns the status. Nothing is buffered between it and the system's files, so that no byte is lost after it returns.
 pub fn run_program<E: Write + Drop>(rt: &HostRuntime, err: E) -> u8 {
     let words = words(rt);

@@ -112,7 +112,8 @@ are_small ss d small =
     record {
       from = omega (arith, ints);
       to = omega (arith, ints);
-      columns = λ col row h. (column_from col row ss d.near (box col row h), to col (column_to col row ss d.near (box col row h)));
+      columns =
+          λ col row h. (column_from col row ss d.near (box col row h), to col (column_to col row ss d.near (box col row h)));
       rows = λ col row h. (row_from col row ss d.near (box col row h), to row (row_to col row ss d.near (box col row h)));
       narrow = λ col row col2 row2 h k. not_wide ss small col row col2 row2 (box col row h) (box col2 row2 k);
       low = λ col row col2 row2 h k. not_high ss small col row col2 row2 (box col row h) (box col2 row2 k);
@@ -163,7 +164,9 @@ glyph_of_sketch face ppem code glyph s h =
     along (last a.0 b.0 d.0) s e drawn small
   where
     along : (x s : Sketch) → x ≡ s → AreDrawn x.spans → (AreTooLarge x.spans → ⊥) → (g : Glyph) × IsGlyphOf s g
-    along x s e drawn small = let P : Sketch → Type 0 = λ y. (g : Glyph) × IsGlyphOf y g in subst P e (glyph_of_spans x drawn small)
+    along x s e drawn small =
+        let P : Sketch → Type 0 = λ y. (g : Glyph) × IsGlyphOf y g in
+        subst P e (glyph_of_spans x drawn small)
 
 glyphs_of_sketches : (face : Face) (segments : Segments) (ppem : ℕ) (codes : List ℕ) (ss : List Sketch)
     → map_chain (sketch_of face segments ppem) codes ≡ Ok ss → (gs : List Glyph) × AreGlyphsOf ss gs

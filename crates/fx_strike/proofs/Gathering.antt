@@ -122,7 +122,8 @@ sum_push f ss s total more new h k e =
     by_sum (sum_by f ss) (f s) (sum_by f (ss ++ s ∷ [])) total more new
         (a ∙ (let b : sum_by f ss + (0 + f s) ≡ sum_by f ss + f s = omega arith in b)) h k e
   where
-    by_sum : (a b c total more new : ℕ) → c ≡ a + b → total ≡ counted a → more ≡ b → new ≡ counted (total + more) → new ≡ counted c
+    by_sum : (a b c total more new : ℕ) → c ≡ a + b → total ≡ counted a → more ≡ b → new ≡ counted (total + more)
+        → new ≡ counted c
     by_sum a b c total more new p h k e = omega arith
 
 pub holds_none : (face : Face) (segments : Segments) (ppem : ℕ) (new : Gathered) → IsEmpty new → Holds face segments ppem [] new
@@ -136,7 +137,8 @@ holds_none face segments ppem new h =
       text = h.text;
       faults = h.faults;
       bounds = h.bounds;
-      placed = subst P (sym h.bounds) (record { left = omega arith; right = omega arith; bottom = omega arith; top = omega arith });
+      placed = subst P (sym h.bounds)
+          (record { left = omega arith; right = omega arith; bottom = omega arith; top = omega arith });
       count = h.glyphs;
       missing = h.missing;
       strays = h.strays;

@@ -43,7 +43,8 @@ reach_more p n true e (inl none) = inr (record {
   below = omega arith;
   at_first = e;
   at_last = e;
-  holds = λ k l h. split {P = (n ≤ k) × (k ≤ n)} k n (λ low. absurd (not_both (p k) (none k low) h)) (λ high. (high, omega arith));
+  holds = λ k l h. split {P = (n ≤ k) × (k ≤ n)} k n (λ low. absurd (not_both (p k) (none k low) h))
+      (λ high. (high, omega arith));
 })
 reach_more p n false e (inr r) = inr (record {
   first = r.first;

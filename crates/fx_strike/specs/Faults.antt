@@ -53,7 +53,7 @@ of_contour glyph contour.TooFar = TooFar glyph
 of_contour glyph contour.TooLarge = GlyphTooLarge glyph
 of_contour glyph contour.OutOfMemory = OutOfMemory
 
--- a refusal on the way to a value: out of memory, or the cause that is due; the writer, the reader and the input have no part in it
+-- a refusal on the way to a value: out of memory, or the cause that is due; never one of the writer, the reader or the input
 abbrev pub Fails : {Y : Type 0} → Refusal → Result Y Refusal → Type 0
 Fails OutOfMemory due = Unit {0}
 Fails (WriteFailed n) due = ⊥

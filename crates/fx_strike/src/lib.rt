@@ -6,8 +6,8 @@
 //! or that it is out of memory, or a fault of the writer. `specs/Strike` says what a strike is, `specs/Headline` what a call
 //! returns and leaves; both cite the definitions of the crates below and nothing of their code.
 //!
-//! The complete text of a strike is made in memory before its first byte is written. Beside the text only one glyph's pieces and bits
-//! are held at a time. `listing_of` writes the listing of a program straight to the writer, and takes no memory.
+//! The complete text of a strike is made in memory before its first byte is written. Beside the text only one glyph's pieces
+//! and bits are held at a time. `listing_of` writes the listing of a program straight to the writer, and takes no memory.
 #![tactic(auto)]
 
 mod characters;

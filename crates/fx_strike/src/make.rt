@@ -217,7 +217,8 @@ pub fn make_strike_with<S: Scan, W: Sink>(
     ensures late { IsErrOf result Refusal.OutOfMemory → Late (opening_of font.now request.now) }
     // The strike exists, exactly the first n bytes of its text were written, and the writer counted one fault.
     ensures writer { (n : ℕ) → IsErrOf result (Refusal.WriteFailed n) →
-        Writer (strike_of font.now request.now) (W.held out.old) (W.held out.new) (W.fault_count out.old) (W.fault_count out.new) n }
+        Writer (strike_of font.now request.now) (W.held out.old) (W.held out.new)
+            (W.fault_count out.old) (W.fault_count out.new) n }
 {
     make_strike_inner(alloc, scan, font, request, out)
 }
@@ -246,7 +247,8 @@ pub fn make_strike<W: Sink>(
     ensures late { IsErrOf result Refusal.OutOfMemory → Late (opening_of font.now request.now) }
     // The strike exists, exactly the first n bytes of its text were written, and the writer counted one fault.
     ensures writer { (n : ℕ) → IsErrOf result (Refusal.WriteFailed n) →
-        Writer (strike_of font.now request.now) (W.held out.old) (W.held out.new) (W.fault_count out.old) (W.fault_count out.new) n }
+        Writer (strike_of font.now request.now) (W.held out.old) (W.held out.new)
+            (W.fault_count out.old) (W.fault_count out.new) n }
 {
     make_strike_inner(alloc, &Rows, font, request, out)
 }

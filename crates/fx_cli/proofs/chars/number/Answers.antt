@@ -14,12 +14,14 @@ returns-then-is_empty c = elim c.then-is_empty.branch [
 
 pub overflow_mul-number : goal.overflow_mul-number
 overflow_mul-number c =
-    let top : c.digits.number < 16777216 = below_top c.digits.digit-index c.digits.number (omega arith) c.digits.invariant.bound in
+    let top : c.digits.number < 16777216 =
+        below_top c.digits.digit-index c.digits.number (omega arith) c.digits.invariant.bound in
     omega arith
 
 pub overflow_add-number : goal.overflow_add-number
 overflow_add-number c =
-    let top : c.digits.number < 16777216 = below_top c.digits.digit-index c.digits.number (omega arith) c.digits.invariant.bound in
+    let top : c.digits.number < 16777216 =
+        below_top c.digits.digit-index c.digits.number (omega arith) c.digits.invariant.bound in
     omega (arith, c.in_ok-digit_value.ensures.bound)
 
 pub digits-preserved : goal.digits-preserved
