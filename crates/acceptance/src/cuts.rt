@@ -1,12 +1,12 @@
-// The fixture font cut short, at every length.
+//! The fixture font cut short, at every length.
 use crate::fonts::fixture;
 use fx_fixed::{Limits, MemorySink};
 use fx_strike::{Refusal, Report, Request, make_strike};
 use std::alloc::{AllocError, Global};
 use std::test::Fail;
 
-// What a strike of the character 41 gives where the font ends after so many bytes: the counts and the lines of its box, or the
-// refusal.
+/// What a strike of the character 41 gives if the font ends after this number of bytes: the counts and the lines of its box, or the
+/// refusal.
 fn expected(length: usize) -> Result<&'static str, Refusal> {
     match length {
         0..=123 => Err(Refusal::NotTrueType),
@@ -24,7 +24,7 @@ fn expected(length: usize) -> Result<&'static str, Refusal> {
     }
 }
 
-// The answer for a front of the font, and what was written.
+/// The result for a front of the font, and what was written.
 fn strike(
     alloc: Global,
     front: &[u8],
@@ -36,8 +36,8 @@ fn strike(
         hinting: false,
     };
     let mut out = MemorySink::new(alloc, 512, Limits::NONE)?;
-    let answer = make_strike(alloc, front, &request, &mut out);
-    Ok((out, answer))
+    let result = make_strike(alloc, front, &request, &mut out);
+    Ok((out, result))
 }
 
 #[test]
@@ -45,14 +45,14 @@ fn every_front_of_a_font(rt: HostRuntime) -> Result<(), Fail> {
     let font = fixture(rt.alloc())?;
     assert_eq!(rt; font.len(), 382);
     for length in 0..383usize {
-        let (out, answer) = strike(rt.alloc(), &font[..length])?;
+        let (out, result) = strike(rt.alloc(), &font[..length])?;
         match expected(length) {
             Err(refusal) => {
-                assert_eq!(rt; answer, Err(refusal), "{length}");
+                assert_eq!(rt; result, Err(refusal), "{length}");
                 assert!(rt; out.bytes().is_empty(), "{length}");
             }
             Ok(lines) => {
-                assert!(rt; answer.is_ok(), "{length}");
+                assert!(rt; result.is_ok(), "{length}");
                 assert!(rt; out.bytes().ends_with(lines.as_bytes()), "{length}");
             }
         }

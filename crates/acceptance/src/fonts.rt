@@ -1,4 +1,4 @@
-// The fixture font, whole and with parts replaced.
+//! The fixture font, complete and with parts replaced.
 use hex;
 use std::alloc::Global;
 use std::test::Fail;
@@ -35,7 +35,7 @@ pub const RING: &str = "0002 0000 0000 0140 0140 0003 0007 0000
 /// Its glyph 3: an arc over its chord.
 pub const ARC: &str = "0001 0000 0000 0080 0080 0002 0000 31 36 17 40 40 80 80 00";
 
-/// The bytes that hexadecimal text stands for; white space parts them.
+/// The bytes of hexadecimal text; white space separates them.
 pub fn bytes(alloc: Global, text: &str) -> Result<Vec<u8>, Fail> {
     let mut digits = Vec::new(alloc);
     for &byte in text.as_bytes() {
@@ -67,7 +67,7 @@ pub fn font(alloc: Global, second: &str, third: &str) -> Result<Vec<u8>, Fail> {
     Ok(font)
 }
 
-/// The fixture font as it stands, of 382 bytes.
+/// The fixture font unchanged, of 382 bytes.
 pub fn fixture(alloc: Global) -> Result<Vec<u8>, Fail> {
     font(alloc, RING, ARC)
 }

@@ -1,23 +1,23 @@
-// A strike of more than a megabyte of text, and one with a large glyph.
+//! A strike of more than a megabyte of text, and one with a large glyph.
 use crate::fonts::{self, ARC, bytes, fixture, patch};
 use fx_fixed::{Limits, MemorySink, Sink};
 use fx_strike::{Report, Request, make_strike};
 use std::alloc::Global;
 use std::test::Fail;
 
-// The code points from 20 to 401F.
+/// The code points from 20 to 401F.
 const FIRST: u32 = 0x20;
 
 const COUNT: u32 = 0x4000;
 
-// A character map with one segment of them, each with glyph 1 of its array.
+/// A character map with one segment of them, each with glyph 1 of its array.
 const MAP: &str = "
     0000 0001 0003 0001 0000000c
     0004 8020 0000 0004 0004 0001 0000
     401f ffff 0000 0020 ffff 0000 0001 0004 0000
 ";
 
-// The fixture font with that map at its end.
+/// The fixture font with that map at its end.
 fn font(alloc: Global) -> Result<Vec<u8>, Fail> {
     let mut font = fixture(alloc)?;
     let mut map = bytes(alloc, MAP)?;
@@ -57,20 +57,20 @@ fn a_large_strike(rt: HostRuntime) -> Result<(), Fail> {
         hinting: false,
     };
     let mut out = MemorySink::new(alloc, 0, Limits::NONE)?;
-    let answer = make_strike(alloc, &font, &request, &mut out);
+    let result = make_strike(alloc, &font, &request, &mut out);
     let report = Report {
         glyphs: COUNT,
         missing: 0,
         strays: 0,
         steps: 0,
     };
-    assert_eq!(rt; answer, Ok(report));
+    assert_eq!(rt; result, Ok(report));
     assert_eq!(rt; out.faults(), 0);
     assert!(rt; out.bytes() == text.as_bytes());
     Ok(())
 }
 
-// A square of 128 units a side, which is 512 pixels at 64 pixels an em of 16 units.
+/// A square of 128 units a side, which is 512 pixels at 64 pixels an em of 16 units.
 const SQUARE: &str =
     "0001 0000 0000 0000 0000 0003 0000 01010101 0000 0080 0000 ff80 0000 0000 0080 0000";
 

@@ -1,5 +1,5 @@
-//! Tests that cross crates: worked strikes, listings, damaged fonts, and readers and writers that fail. Their expected values come from the
-//! public formats and from arithmetic by hand, never from the program's own output.
+//! Tests that cross crates: worked strikes, listings, damaged fonts, and readers and writers that fail. Their expected values
+//! come from the public formats and from arithmetic by hand, never from the program's own output.
 #![tactic(auto)]
 
 #[cfg(test)]

@@ -1,4 +1,4 @@
-// Listings of font programs, through the program's command.
+//! Listings of font programs, through the program's command.
 use crate::fonts::{ARC, RING, bytes, fixture, font, patch};
 use fx_cli::run;
 use fx_fixed::{Limits, MemorySink, MemorySource};
@@ -6,7 +6,7 @@ use std::alloc::Global;
 use std::process::Abort;
 use std::test::Fail;
 
-// `dump` of a program of a font writes this listing, or this line to standard error.
+/// `dump` of a program of a font writes this listing, or this line to standard error.
 fn dumps(
     rt: &impl Abort,
     alloc: Global,
@@ -26,7 +26,7 @@ fn dumps(
     Ok(())
 }
 
-// The arc with a program of ten bytes, and with the first eight of them.
+/// The arc with a program of ten bytes, and with the first eight of them.
 const WHOLE: &str =
     "0001 0000 0000 0080 0080 0002 000a b0 00 58 b1 59 1b 1b b0 07 59 31 36 17 40 40 80 80 00";
 
@@ -54,7 +54,7 @@ fn the_program_of_a_glyph(rt: HostRuntime) -> Result<(), Fail> {
         "0000 B0 PUSHB 0\n0002 58 IF\n0003 B1 PUSHB 89 27\n0006 1B ELSE\n0007 B0 CUT\n",
         "",
     )?;
-    // The program of a composite stands behind its components.
+    // The program of a composite comes after its components.
     let composite = font(
         alloc,
         "ffff 0000 0000 0080 0080 0102 0003 00 00 0003 b8 ff fd",
@@ -107,7 +107,7 @@ fn programs_of_damaged_glyphs(rt: HostRuntime) -> Result<(), Fail> {
     )
 }
 
-// The fixture with a table of this tag at its end, in place of its character map, which no listing looks at.
+/// The fixture with a table of this tag at its end, in place of its character map, which no listing looks at.
 fn with_table(alloc: Global, tag: &[u8], program: &str) -> Result<Vec<u8>, Fail> {
     let mut font = fixture(alloc)?;
     let program = bytes(alloc, program)?;

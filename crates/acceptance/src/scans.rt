@@ -51,8 +51,8 @@ fn the_widest_row(rt: HostRuntime) -> Result<(), Fail> {
     assert!(rt; out.bytes().ends_with(end.as_slice()));
     let wider = font(rt.alloc(), RING, WIDER)?;
     let mut out = MemorySink::new(rt.alloc(), 4096, Limits::NONE)?;
-    let answer = make_strike_with(rt.alloc(), &Few, wider.as_slice(), &request, &mut out);
-    assert_eq!(rt; answer, Err(Refusal::GlyphTooLarge(3)));
+    let result = make_strike_with(rt.alloc(), &Few, wider.as_slice(), &request, &mut out);
+    assert_eq!(rt; result, Err(Refusal::GlyphTooLarge(3)));
     assert!(rt; out.bytes().is_empty());
     Ok(())
 }

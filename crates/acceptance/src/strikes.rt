@@ -1,4 +1,4 @@
-// Worked strikes, through the call that makes them.
+//! Worked strikes, through the call that makes them.
 use crate::fonts::{ARC, RING, STRIKE, fixture, font, patch};
 use fx_fixed::{Limits, MemorySink, Sink};
 use fx_strike::{Refusal, Report, Request, make_strike};
@@ -6,7 +6,7 @@ use std::alloc::Global;
 use std::process::Abort;
 use std::test::Fail;
 
-// An unhinted request for a size and characters.
+/// An unhinted request for a size and characters.
 fn request<'a>(ppem: u16, chars: &'a [u32]) -> Request<'a> {
     Request {
         ppem,
@@ -16,7 +16,7 @@ fn request<'a>(ppem: u16, chars: &'a [u32]) -> Request<'a> {
     }
 }
 
-// A strike in memory, and its counts.
+/// A strike in memory, and its counts.
 fn strike(
     rt: &impl Abort,
     alloc: Global,
@@ -29,7 +29,7 @@ fn strike(
     Ok((out, report))
 }
 
-// The lines of the only character of a strike, from its box on, stand at the end.
+/// The lines of the only character of a strike, from its box on, are at the end.
 fn ends_so(rt: &impl Abort, out: &MemorySink, lines: &str) {
     let text = out.bytes();
     let tail = b"ENDCHAR\nENDFONT\n";
@@ -38,14 +38,14 @@ fn ends_so(rt: &impl Abort, out: &MemorySink, lines: &str) {
     assert!(rt; text[..front].ends_with(lines.as_bytes()), "{lines}");
 }
 
-// A glyph in place of the arc, and the lines of the character 42 at 16 pixels an em.
+/// A glyph in place of the arc, and the lines of the character 42 at 16 pixels an em.
 struct Row {
     what: &'static str,
     glyph: &'static str,
     lines: &'static str,
 }
 
-// At this size a font unit is 1/64 pixel.
+/// At this size a font unit is 1/64 pixel.
 const ROWS: [Row; 9] = [
     Row {
         what: "one pixel whose centre lies inside",
@@ -122,7 +122,7 @@ fn the_fixture(rt: HostRuntime) -> Result<(), Fail> {
     Ok(())
 }
 
-// Half the size: 8 pixels an em.
+/// Half the size: 8 pixels an em.
 #[test]
 fn half_the_size(rt: HostRuntime) -> Result<(), Fail> {
     let font = fixture(rt.alloc())?;
@@ -161,7 +161,7 @@ fn characters_are_counted_once(rt: HostRuntime) -> Result<(), Fail> {
     Ok(())
 }
 
-// A composite in place of the ring, its left bearing, and the lines of the character 41 at 16 pixels an em.
+/// A composite in place of the ring, its left bearing, and the lines of the character 41 at 16 pixels an em.
 struct Composite {
     what: &'static str,
     glyph: &'static str,
@@ -208,7 +208,7 @@ fn composites(rt: HostRuntime) -> Result<(), Fail> {
     Ok(())
 }
 
-// A composite of so many components, each glyph 3 at the offset 0.
+/// A composite of this number of components, each glyph 3 at the offset 0.
 fn of_components(alloc: Global, count: usize) -> Result<String, Fail> {
     let mut text = String::from_str(alloc, "ffff 0000 0000 0080 0080")?;
     for _ in 1..count {
@@ -235,7 +235,7 @@ fn components_up_to_a_limit(rt: HostRuntime) -> Result<(), Fail> {
     )
 }
 
-// A glyph whose points are all 0, as many as the last end point says, by runs of 256 flags, and more flags behind them.
+/// A glyph whose points are all 0, as many as the last end point says, by runs of 256 flags, and more flags after them.
 fn of_points(alloc: Global, last: &str, more: &str) -> Result<String, Fail> {
     let mut text = String::from_str(alloc, "0001 0000 0000 0000 0000 ")?;
     text.push_str(last)?;
@@ -300,7 +300,7 @@ fn damaged_glyphs(rt: HostRuntime) -> Result<(), Fail> {
     )
 }
 
-// A strike of one character at 16 pixels an em is refused, and nothing is written.
+/// A strike of one character at 16 pixels an em is refused, and nothing is written.
 fn refused(
     rt: &impl Abort,
     alloc: Global,
@@ -309,8 +309,8 @@ fn refused(
     refusal: Refusal,
 ) -> Result<(), Fail> {
     let mut out = MemorySink::new(alloc, 4096, Limits::NONE)?;
-    let answer = make_strike(alloc, font, &request(16, &[code]), &mut out);
-    assert_eq!(rt; answer, Err(refusal));
+    let result = make_strike(alloc, font, &request(16, &[code]), &mut out);
+    assert_eq!(rt; result, Err(refusal));
     assert!(rt; out.bytes().is_empty());
     Ok(())
 }
@@ -334,8 +334,8 @@ fn requests_that_are_refused(rt: HostRuntime) -> Result<(), Fail> {
         (hinted, Refusal::NotBuilt),
     ] {
         let mut out = MemorySink::new(rt.alloc(), 4096, Limits::NONE)?;
-        let answer = make_strike(rt.alloc(), font.as_slice(), &request, &mut out);
-        assert_eq!(rt; answer, Err(refusal));
+        let result = make_strike(rt.alloc(), font.as_slice(), &request, &mut out);
+        assert_eq!(rt; result, Err(refusal));
         assert!(rt; out.bytes().is_empty());
     }
     Ok(())

@@ -1,4 +1,4 @@
-// Writers that fail, and writers that take little.
+//! Writers that fail, and writers that take little.
 use crate::fonts::{STRIKE, fixture};
 use fx_fixed::{Limits, MemorySink, Sink};
 use fx_strike::{Refusal, Report, Request, make_strike};
@@ -6,7 +6,7 @@ use std::alloc::Global;
 use std::process::Abort;
 use std::test::Fail;
 
-// The worked strike on a sink with limits.
+/// The worked strike on a sink with limits.
 fn strike(
     rt: &impl Abort,
     alloc: Global,
@@ -21,8 +21,8 @@ fn strike(
     };
     let mut out = MemorySink::new(alloc, 399, limits)?;
     assert_eq!(rt; out.faults(), 0);
-    let answer = make_strike(alloc, font, &request, &mut out);
-    Ok((out, answer))
+    let result = make_strike(alloc, font, &request, &mut out);
+    Ok((out, result))
 }
 
 #[test]
@@ -35,8 +35,8 @@ fn a_writer_that_fails_after_each_byte(rt: HostRuntime) -> Result<(), Fail> {
             bytes,
             ..Limits::NONE
         };
-        let (out, answer) = strike(&rt, rt.alloc(), font.as_slice(), limits)?;
-        assert_eq!(rt; answer, Err(Refusal::WriteFailed(bytes as u64)));
+        let (out, result) = strike(&rt, rt.alloc(), font.as_slice(), limits)?;
+        assert_eq!(rt; result, Err(Refusal::WriteFailed(bytes as u64)));
         assert!(rt; out.bytes() == &text[..bytes], "{bytes}");
         assert_eq!(rt; out.faults(), 1);
     }
@@ -50,8 +50,8 @@ fn a_writer_that_takes_one_byte_a_call(rt: HostRuntime) -> Result<(), Fail> {
         step: 1,
         ..Limits::NONE
     };
-    let (out, answer) = strike(&rt, rt.alloc(), font.as_slice(), limits)?;
-    assert!(rt; answer.is_ok());
+    let (out, result) = strike(&rt, rt.alloc(), font.as_slice(), limits)?;
+    assert!(rt; result.is_ok());
     assert!(rt; out.bytes() == STRIKE.as_bytes());
     Ok(())
 }
@@ -64,8 +64,8 @@ fn a_writer_that_fails_once(rt: HostRuntime) -> Result<(), Fail> {
         step: 10,
         ..Limits::NONE
     };
-    let (out, answer) = strike(&rt, rt.alloc(), font.as_slice(), limits)?;
-    assert_eq!(rt; answer, Err(Refusal::WriteFailed(10)));
+    let (out, result) = strike(&rt, rt.alloc(), font.as_slice(), limits)?;
+    assert_eq!(rt; result, Err(Refusal::WriteFailed(10)));
     assert!(rt; out.bytes() == b"STARTFONT ".as_slice());
     Ok(())
 }

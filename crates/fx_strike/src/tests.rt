@@ -1,11 +1,11 @@
-// What no clause says.
+//! Tests of what the contracts don't say.
 use crate::{Refusal, Request, make_strike_with};
 use fx_fixed::{Limits, MemorySink};
 use fx_winding::{Bitmap, Frame, Pieces, Scan, ScanFault, Tally};
 use std::alloc::Global;
 use std::test::Fail;
 
-// A font of four glyphs with the characters 20, 41 and 42, of which the first has no outline.
+/// A font of four glyphs with the characters 20, 41 and 42, of which the first has no outline.
 const FONT: &[u8] = b"\
     \x00\x01\x00\x00\x00\x07\x00\x40\x00\x02\x00\x30\x63\x6d\x61\x70\x00\x00\x00\x00\x00\x00\x01\x04\x00\x00\x00\x34\x67\x6c\x79\x66\
     \x00\x00\x00\x00\x00\x00\x01\x44\x00\x00\x00\x3a\x68\x65\x61\x64\x00\x00\x00\x00\x00\x00\x00\x7c\x00\x00\x00\x36\x68\x68\x65\x61\
@@ -21,7 +21,7 @@ const FONT: &[u8] = b"\
     \x60\x80\x01\x40\xe0\x80\x80\x00\x00\x01\x00\x00\x00\x00\x00\x80\x00\x80\x00\x02\x00\x00\x31\x36\x17\x40\x40\x80\x80\x00\
 ";
 
-// A scan that never has memory.
+/// A scan that is always out of memory.
 struct Refusing;
 
 impl Scan for Refusing {
@@ -45,8 +45,8 @@ fn the_scan_is_asked(rt: HostRuntime) -> Result<(), Fail> {
         chars: &[0x41],
         hinting: false,
     };
-    let answer = make_strike_with(rt.alloc(), &Refusing, FONT, &request, &mut out);
-    assert_eq!(rt; answer, Err(Refusal::OutOfMemory));
+    let result = make_strike_with(rt.alloc(), &Refusing, FONT, &request, &mut out);
+    assert_eq!(rt; result, Err(Refusal::OutOfMemory));
     assert_eq!(rt; out.bytes(), b"".as_slice());
     Ok(())
 }

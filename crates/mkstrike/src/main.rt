@@ -1,7 +1,7 @@
 //! `mkstrike`: makes a strike in the Bitmap Distribution Format of a TrueType font on standard input.
 //!
-//! Its stored run has words that are refused, and an input whose first line would be a strike's: so a program that ignores its
-//! words, or its status, or writes a line for people to standard output, does not pass.
+//! Its stored run has arguments that are refused, and an input whose first line would be a strike's: so a program that ignores
+//! its arguments, or its status, or writes a line for people to standard output, does not pass.
 #![tactic(auto)]
 
 use fx_cli::run_program;

@@ -1,4 +1,4 @@
-//! The program as `mkstrike`, with standard error joined to standard output: its stored run compares both.
+//! The same program as `mkstrike`, with standard error joined to standard output: its stored run compares both.
 #![tactic(auto)]
 
 use fx_cli::run_program;
