@@ -1,4 +1,4 @@
-// Programs of fonts on the machine: worked programs, and how far they reach.
+// Programs of fonts on the machine: worked programs, their limits, and what passes from one to another.
 use crate::fonts::{bytes, fixture, patch};
 use fx_code::Code;
 use fx_fixed::{F26, Place, Ppem};
@@ -115,7 +115,7 @@ fn corners(zone: &Zone) -> [i32; 4] {
     places
 }
 
-// A program of a glyph, in a font with these tables, on the square: the answer, and the corners' current x if it ended well.
+// A program of a glyph, in a font with these tables, on the square: what it returns, and the corners' current x if it ended well.
 #[derive(Drop)]
 struct Row {
     what: &'static str,
@@ -349,7 +349,7 @@ const EIGHT: &str = "b0 00 2c 2d
     b8 7f ff b0 00 2a b8 7f ff b0 00 2a b8 7f ff b0 00 2a b8 7f ff b0 00 2a
     b8 7f ff b0 00 2a b8 7f ff b0 00 2a b8 7f ff b0 00 2a b8 7f ff b0 00 2a";
 
-// A font with this `fpgm` has this machine, or none.
+// What a font with this `fpgm` uses up before any glyph, or where it halts.
 fn prelude(
     rt: &impl Abort,
     alloc: Global,
@@ -398,7 +398,7 @@ fn calls(rt: HostRuntime) -> Result<(), Fail> {
     prelude(&rt, alloc, meanwhile, steps(16))
 }
 
-// A program that a machine runs on a square of its own; the corners' x then.
+// Runs a program on a square of its own: what it returns, and the corners' current x, also after a halt.
 fn ran(
     rt: &impl Abort,
     alloc: Global,
@@ -415,8 +415,8 @@ fn ran(
     Ok(())
 }
 
-// The first program writes storage, a control value, a function and the twilight point, and halts or not; the second
-// one sees nothing of it.
+// The first program defines a function and writes storage, a control value and the twilight point, and halts or not; the programs
+// after it see nothing of that.
 #[test]
 fn nothing_is_kept_between_glyphs(rt: HostRuntime) -> Result<(), Fail> {
     let alloc = rt.alloc();
@@ -457,6 +457,46 @@ fn nothing_is_kept_between_glyphs(rt: HostRuntime) -> Result<(), Fail> {
         [0, 154, 90, 0],
     )?;
     ran(&rt, alloc, &mut machine, storage, steps(3), resting)
+}
+
+// `prep` sets the delta base to 10: a delta for 16 at the base 9 is one for 17, but if INSTCTRL asks for the default state.
+#[test]
+fn the_state_that_prep_leaves(rt: HostRuntime) -> Result<(), Fail> {
+    let base = Tables {
+        prep: "b0 0a 5e",
+        ..NO_TABLES
+    };
+    let default = Tables {
+        prep: "b0 0a 5e b1 01 02 8e",
+        ..NO_TABLES
+    };
+    run(
+        &rt,
+        rt.alloc(),
+        &[
+            Row {
+                what: "a delta for 17",
+                tables: base,
+                code: "b2 78 01 01 5d",
+                want: steps(2),
+                corners: [0, 90, 90, 0],
+            },
+            Row {
+                what: "a delta for 16",
+                tables: base,
+                code: "b2 68 01 01 5d",
+                want: steps(2),
+                corners: [0, 98, 90, 0],
+            },
+            Row {
+                what: "a delta for 16 in the default state",
+                tables: default,
+                code: "b2 78 01 01 5d",
+                want: steps(2),
+                corners: [0, 98, 90, 0],
+            },
+        ],
+    )
 }
 
 // INSTCTRL while `prep` runs, in a program of a glyph, and while `fpgm` runs.
