@@ -121,8 +121,25 @@ struct Row {
     what: &'static str,
     tables: Tables,
     code: &'static str,
-    want: Result<Ran, Halt>,
+    want: Want,
     corners: [i32; 4],
+}
+
+// How a program of a glyph ends: after so many instructions, without strays or with so many, or by a halt in its own bytes.
+#[derive(Clone, Copy, Drop)]
+enum Want {
+    Steps(u32),
+    Strays(u32, u64),
+    Halts(Cause, usize, u8),
+}
+
+// What it returns then.
+fn answer_of(want: Want) -> Result<Ran, Halt> {
+    match want {
+        Want::Steps(steps) => Ok(Ran { steps, strays: 0 }),
+        Want::Strays(steps, strays) => Ok(Ran { steps, strays }),
+        Want::Halts(cause, address, opcode) => halt(cause, address, opcode),
+    }
 }
 
 // An end after so many instructions, without strays.
@@ -149,7 +166,7 @@ fn run(rt: &impl Abort, alloc: Global, rows: &[Row]) -> Result<(), Fail> {
         let code = bytes(alloc, row.code)?;
         let mut zone = square(alloc)?;
         let answer = machine.run_glyph(Code::new(code.as_slice()), &mut zone);
-        assert!(rt; answer == row.want, "{}", row.what);
+        assert!(rt; answer == answer_of(row.want), "{}", row.what);
         if answer.is_ok() {
             assert_eq!(rt; corners(&zone), row.corners, "{}", row.what);
         }
@@ -164,180 +181,172 @@ const IDEF: Tables = Tables {
     ..NO_TABLES
 };
 
+const DEFINITIONS: [Row; 5] = [
+    Row {
+        what: "an opcode that fpgm defines",
+        tables: IDEF,
+        code: "91",
+        want: Want::Steps(3),
+        corners: [0, 90, 90, 0],
+    },
+    Row {
+        what: "what it pushes shifts point 1",
+        tables: IDEF,
+        code: "b0 01 91 38",
+        want: Want::Steps(5),
+        corners: [0, 97, 90, 0],
+    },
+    Row {
+        what: "a function of fpgm runs in the bytes of fpgm",
+        tables: Tables {
+            fpgm: "b0 00 2c b0 05 2d",
+            ..NO_TABLES
+        },
+        code: "b0 01 b0 00 2b 38",
+        want: Want::Steps(6),
+        corners: [0, 95, 90, 0],
+    },
+    Row {
+        what: "an opcode that nothing defines",
+        tables: NO_TABLES,
+        code: "91",
+        want: Want::Halts(Cause::BadOpcode, 0, 0x91),
+        corners: [0; 4],
+    },
+    Row {
+        what: "a definition of an opcode that has a row is not used: 1 and 2 are added, and point 3 moves to 8",
+        tables: Tables {
+            fpgm: "b0 60 89 2d",
+            ..NO_TABLES
+        },
+        code: "b2 78 01 02 60 b0 01 5d",
+        want: Want::Steps(4),
+        corners: [0, 90, 90, 8],
+    },
+];
+
 #[test]
 fn definitions_of_opcodes(rt: HostRuntime) -> Result<(), Fail> {
-    run(
-        &rt,
-        rt.alloc(),
-        &[
-            Row {
-                what: "an opcode that fpgm defines",
-                tables: IDEF,
-                code: "91",
-                want: steps(3),
-                corners: [0, 90, 90, 0],
-            },
-            Row {
-                what: "what it pushes shifts point 1",
-                tables: IDEF,
-                code: "b0 01 91 38",
-                want: steps(5),
-                corners: [0, 97, 90, 0],
-            },
-            Row {
-                what: "a function of fpgm runs in the bytes of fpgm",
-                tables: Tables {
-                    fpgm: "b0 00 2c b0 05 2d",
-                    ..NO_TABLES
-                },
-                code: "b0 01 b0 00 2b 38",
-                want: steps(6),
-                corners: [0, 95, 90, 0],
-            },
-            Row {
-                what: "an opcode that nothing defines",
-                tables: NO_TABLES,
-                code: "91",
-                want: halt(Cause::BadOpcode, 0, 0x91),
-                corners: [0; 4],
-            },
-            Row {
-                what: "a definition of an opcode that has a row is not used: 1 and 2 are added, and point 3 moves to 8",
-                tables: Tables {
-                    fpgm: "b0 60 89 2d",
-                    ..NO_TABLES
-                },
-                code: "b2 78 01 02 60 b0 01 5d",
-                want: steps(4),
-                corners: [0, 90, 90, 8],
-            },
-        ],
-    )
+    run(&rt, rt.alloc(), &DEFINITIONS)
 }
+
+const JUMPS: [Row; 8] = [
+    Row {
+        what: "a jump back, for ever",
+        tables: NO_TABLES,
+        code: "b8 ff fd 1c",
+        want: Want::Halts(Cause::StepLimit, 0, 0xB8),
+        corners: [0; 4],
+    },
+    Row {
+        what: "a jump to the end",
+        tables: NO_TABLES,
+        code: "b0 01 1c",
+        want: Want::Steps(2),
+        corners: [0, 90, 90, 0],
+    },
+    Row {
+        what: "a jump past the end",
+        tables: NO_TABLES,
+        code: "b0 02 1c",
+        want: Want::Halts(Cause::BadJump, 2, 0x1C),
+        corners: [0; 4],
+    },
+    Row {
+        what: "a jump past the end that is not taken",
+        tables: NO_TABLES,
+        code: "b1 09 00 78 b1 09 01 79",
+        want: Want::Steps(4),
+        corners: [0, 90, 90, 0],
+    },
+    Row {
+        what: "opcodes of IF in data that is skipped",
+        tables: NO_TABLES,
+        code: "b0 00 58 b1 59 1b 1b b0 07 59",
+        want: Want::Steps(4),
+        corners: [0, 90, 90, 0],
+    },
+    Row {
+        what: "the same, whose 7 shifts point 1",
+        tables: NO_TABLES,
+        code: "b0 00 58 b1 59 1b 1b b0 07 59 b0 01 23 38",
+        want: Want::Steps(7),
+        corners: [0, 97, 90, 0],
+    },
+    Row {
+        what: "the same without its last byte",
+        tables: NO_TABLES,
+        code: "b0 00 58 b1 59 1b 1b b0 07",
+        want: Want::Steps(3),
+        corners: [0, 90, 90, 0],
+    },
+    Row {
+        what: "the same with its first eight bytes",
+        tables: NO_TABLES,
+        code: "b0 00 58 b1 59 1b 1b b0",
+        want: Want::Halts(Cause::CodeEnd, 7, 0xB0),
+        corners: [0; 4],
+    },
+];
 
 #[test]
 fn jumps_and_matches(rt: HostRuntime) -> Result<(), Fail> {
-    run(
-        &rt,
-        rt.alloc(),
-        &[
-            Row {
-                what: "a jump back, for ever",
-                tables: NO_TABLES,
-                code: "b8 ff fd 1c",
-                want: halt(Cause::StepLimit, 0, 0xB8),
-                corners: [0; 4],
-            },
-            Row {
-                what: "a jump to the end",
-                tables: NO_TABLES,
-                code: "b0 01 1c",
-                want: steps(2),
-                corners: [0, 90, 90, 0],
-            },
-            Row {
-                what: "a jump past the end",
-                tables: NO_TABLES,
-                code: "b0 02 1c",
-                want: halt(Cause::BadJump, 2, 0x1C),
-                corners: [0; 4],
-            },
-            Row {
-                what: "a jump past the end that is not taken",
-                tables: NO_TABLES,
-                code: "b1 09 00 78 b1 09 01 79",
-                want: steps(4),
-                corners: [0, 90, 90, 0],
-            },
-            Row {
-                what: "opcodes of IF in data that is skipped",
-                tables: NO_TABLES,
-                code: "b0 00 58 b1 59 1b 1b b0 07 59",
-                want: steps(4),
-                corners: [0, 90, 90, 0],
-            },
-            Row {
-                what: "the same, whose 7 shifts point 1",
-                tables: NO_TABLES,
-                code: "b0 00 58 b1 59 1b 1b b0 07 59 b0 01 23 38",
-                want: steps(7),
-                corners: [0, 97, 90, 0],
-            },
-            Row {
-                what: "the same without its last byte",
-                tables: NO_TABLES,
-                code: "b0 00 58 b1 59 1b 1b b0 07",
-                want: steps(3),
-                corners: [0, 90, 90, 0],
-            },
-            Row {
-                what: "the same with its first eight bytes",
-                tables: NO_TABLES,
-                code: "b0 00 58 b1 59 1b 1b b0",
-                want: halt(Cause::CodeEnd, 7, 0xB0),
-                corners: [0; 4],
-            },
-        ],
-    )
+    run(&rt, rt.alloc(), &JUMPS)
 }
+
+const MOVED: Tables = Tables {
+    cvt: "0046",
+    ..NO_TABLES
+};
+
+const POINTS: [Row; 6] = [
+    Row {
+        what: "a point that is not there",
+        tables: NO_TABLES,
+        code: "b0 08 2e",
+        want: Want::Strays(2, 1),
+        corners: [0, 90, 90, 0],
+    },
+    Row {
+        what: "to the grid, and the points between",
+        tables: NO_TABLES,
+        code: "7c b1 01 00 2e 2f 31",
+        want: Want::Steps(5),
+        corners: [0, 128, 128, 0],
+    },
+    Row {
+        what: "a delta for this size",
+        tables: NO_TABLES,
+        code: "b2 78 01 01 5d",
+        want: Want::Steps(2),
+        corners: [0, 98, 90, 0],
+    },
+    Row {
+        what: "a delta for another size",
+        tables: NO_TABLES,
+        code: "b2 68 01 01 5d",
+        want: Want::Steps(2),
+        corners: [0, 90, 90, 0],
+    },
+    Row {
+        what: "a control value of 70",
+        tables: MOVED,
+        code: "b1 01 00 fc",
+        want: Want::Steps(2),
+        corners: [0, 64, 90, 0],
+    },
+    Row {
+        what: "it leaves point 1 as the reference point 0, to which point 2 is moved",
+        tables: MOVED,
+        code: "b1 01 00 fc b0 02 3c",
+        want: Want::Steps(4),
+        corners: [0, 64, 64, 0],
+    },
+];
 
 #[test]
 fn points(rt: HostRuntime) -> Result<(), Fail> {
-    let moved = Tables {
-        cvt: "0046",
-        ..NO_TABLES
-    };
-    run(
-        &rt,
-        rt.alloc(),
-        &[
-            Row {
-                what: "a point that is not there",
-                tables: NO_TABLES,
-                code: "b0 08 2e",
-                want: Ok(Ran {
-                    steps: 2,
-                    strays: 1,
-                }),
-                corners: [0, 90, 90, 0],
-            },
-            Row {
-                what: "to the grid, and the points between",
-                tables: NO_TABLES,
-                code: "7c b1 01 00 2e 2f 31",
-                want: steps(5),
-                corners: [0, 128, 128, 0],
-            },
-            Row {
-                what: "a delta for this size",
-                tables: NO_TABLES,
-                code: "b2 78 01 01 5d",
-                want: steps(2),
-                corners: [0, 98, 90, 0],
-            },
-            Row {
-                what: "a delta for another size",
-                tables: NO_TABLES,
-                code: "b2 68 01 01 5d",
-                want: steps(2),
-                corners: [0, 90, 90, 0],
-            },
-            Row {
-                what: "a control value of 70",
-                tables: moved,
-                code: "b1 01 00 fc",
-                want: steps(2),
-                corners: [0, 64, 90, 0],
-            },
-            Row {
-                what: "it leaves point 1 as the reference point 0, to which point 2 is moved",
-                tables: moved,
-                code: "b1 01 00 fc b0 02 3c",
-                want: steps(4),
-                corners: [0, 64, 64, 0],
-            },
-        ],
-    )
+    run(&rt, rt.alloc(), &POINTS)
 }
 
 // Calls of an empty function, each 32,767 times.
@@ -460,43 +469,43 @@ fn nothing_is_kept_between_glyphs(rt: HostRuntime) -> Result<(), Fail> {
 }
 
 // `prep` sets the delta base to 10: a delta for 16 at the base 9 is one for 17, but if INSTCTRL asks for the default state.
+const BASE: Tables = Tables {
+    prep: "b0 0a 5e",
+    ..NO_TABLES
+};
+
+const DEFAULT: Tables = Tables {
+    prep: "b0 0a 5e b1 01 02 8e",
+    ..NO_TABLES
+};
+
+const PREPARED: [Row; 3] = [
+    Row {
+        what: "a delta for 17",
+        tables: BASE,
+        code: "b2 78 01 01 5d",
+        want: Want::Steps(2),
+        corners: [0, 90, 90, 0],
+    },
+    Row {
+        what: "a delta for 16",
+        tables: BASE,
+        code: "b2 68 01 01 5d",
+        want: Want::Steps(2),
+        corners: [0, 98, 90, 0],
+    },
+    Row {
+        what: "a delta for 16 in the default state",
+        tables: DEFAULT,
+        code: "b2 78 01 01 5d",
+        want: Want::Steps(2),
+        corners: [0, 98, 90, 0],
+    },
+];
+
 #[test]
 fn the_state_that_prep_leaves(rt: HostRuntime) -> Result<(), Fail> {
-    let base = Tables {
-        prep: "b0 0a 5e",
-        ..NO_TABLES
-    };
-    let default = Tables {
-        prep: "b0 0a 5e b1 01 02 8e",
-        ..NO_TABLES
-    };
-    run(
-        &rt,
-        rt.alloc(),
-        &[
-            Row {
-                what: "a delta for 17",
-                tables: base,
-                code: "b2 78 01 01 5d",
-                want: steps(2),
-                corners: [0, 90, 90, 0],
-            },
-            Row {
-                what: "a delta for 16",
-                tables: base,
-                code: "b2 68 01 01 5d",
-                want: steps(2),
-                corners: [0, 98, 90, 0],
-            },
-            Row {
-                what: "a delta for 16 in the default state",
-                tables: default,
-                code: "b2 78 01 01 5d",
-                want: steps(2),
-                corners: [0, 98, 90, 0],
-            },
-        ],
-    )
+    run(&rt, rt.alloc(), &PREPARED)
 }
 
 // INSTCTRL while `prep` runs, in a program of a glyph, and while `fpgm` runs.
