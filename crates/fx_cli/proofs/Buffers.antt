@@ -46,5 +46,9 @@ pub filled_within : (buffer ys : List ℕ) (at n : ℕ) → at ≤ length buffer
     → at + n ≤ length (put_mid at (length buffer - at) buffer ys)
 filled_within buffer ys at n h g =
     let size : length (take at buffer) ≡ at = grind (arith, common_steps) in
-    omega (arith, length-append (take at buffer) (ys ++ post_of at (length buffer - at) buffer), length-append ys
-        (post_of at (length buffer - at) buffer))
+    omega (
+      arith,
+      length-append (take at buffer) (ys ++ post_of at (length buffer - at) buffer),
+      length-append ys
+          (post_of at (length buffer - at) buffer),
+    )

@@ -33,7 +33,7 @@ same_place : (first more : List ℕ) → position_or_len is_end first < length f
 same_place first more h =
     prefix_len-append (λ b. not (is_end b)) first more
     ∙ ap (λ (t : Bool). cond t (length first + prefix_len (λ b. not (is_end b)) more) (position_or_len is_end first))
-        (ne_eqb (position_or_len is_end first) (length first) (omega arith))
+    (ne_eqb (position_or_len is_end first) (length first) (omega arith))
 
 pub same_line : (first more : List ℕ) → (position_or_len is_end first < length first) ⊎ (more ≡ [])
     → line_of (first ++ more) ≡ line_of first
@@ -75,7 +75,7 @@ has_line {given} {first} {front} {ended} {before} {mid} {words} more left f rest
     let found = f.found e in
     let line : line_of (first ++ more) ≡ line_of first = same_line first more (inl found) in
     let size : length (line_of first) ≡ position_or_len is_end first =
-        length-take-le (position_or_len is_end first) first f.size in
+    length-take-le (position_or_len is_end first) first f.size in
     let P : List ℕ → Type 0 = λ xs. length xs < length (first ++ more) in
     subst P (sym line) (omega (arith, size, length-append first more)))
     (λ e. (rest e).1)
@@ -87,7 +87,7 @@ are_words {given} {first} {front} {ended} {before} {mid} {words} more left f res
     let line : line_of (first ++ more) ≡ line_of first = same_line first more (either ended f.found (λ e. (rest e).0)) in
     let P : Bool → Type 0 = λ b. AreWordsBy b given (first ++ more) left words in
     let Q : List ℕ → Type 0 =
-            λ xs. HasLine (first ++ more) left × IsUtf8 xs × (length xs ≤ max_line) × (words ≡ called given ∷ words_of_line xs) in
+    λ xs. HasLine (first ++ more) left × IsUtf8 xs × (length xs ≤ max_line) × (words ≡ called given ∷ words_of_line xs) in
     subst P (sym f.none) (subst Q (sym line) (has_line more left f rest, f.utf8, f.short, f.words_are))
 
 text_is : {given : List Word} {first front : List ℕ} {ended : Bool} {before mid : Option (List ℕ)} {words : List Word}
@@ -136,14 +136,22 @@ reasons : {given : List Word} {first front : List ℕ} {ended : Bool} {before : 
     → IsReason given (first ++ more) (from_start before faults_before change) (Early refusal)
 reasons {given = given} {first = first} {before = before} {words = words} faults_before line asked change more same f sizes asks
     rest BadChars h = (
-  (words, asked, are_words more change.left f rest, asks, h.0),
-  for_line given (first ++ more) (from_start before faults_before change) f.none
-      (omega (arith, length-append first more, ap length h.1, f.few)) (h.2.1 ∙ sym same),
-)
+      (words, asked, are_words more change.left f rest, asks, h.0),
+      for_line given (first ++ more) (from_start before faults_before change) f.none
+          (omega (arith, length-append first more, ap length h.1, f.few)) (h.2.1 ∙ sym same),
+    )
 reasons faults_before line asked change more same f sizes asks rest ReadFailed h = h ∙ ap (λ (n : ℕ). n + 1) (sym same)
-reasons {words = words} faults_before line asked change more same f sizes asks rest BadHex h =
-    (h.0, (words, asked, are_words more change.left f rest, asks, ap (font_bytes asked.hex) (text_is more f (λ e. (rest e).0)) ∙
-    h.1))
+reasons {words = words} faults_before line asked change more same f sizes asks rest BadHex h = (
+  h.0,
+  (
+    words,
+    asked,
+    are_words more change.left f rest,
+    asks,
+    ap (font_bytes asked.hex) (text_is more f (λ e. (rest e).0)) ∙
+        h.1,
+  ),
+)
 reasons {first = first} {front = front} faults_before line asked change more same f sizes asks rest InputTooLarge h =
     omega (arith, h, sizes, length-append first more, length-append front more)
 reasons faults_before line asked change more same f sizes asks rest OutOfMemory h = tt
@@ -218,8 +226,13 @@ unread given change got fault none few quiet read kept spared (inl e) =
     subst P (sym e) (record { got = got; read = read; kept = kept; quiet = spared; reason = tt })
 unread given change got fault none few quiet read kept spared (inr (e, usage)) =
     let P : Fault → Type 0 = λ f. Ends given change (Err f) in
-    subst P (sym e) (record { got = got; read = read; kept = kept; quiet = spared;
-        reason = (is_usage given got change.left none usage, for_line given got change none few quiet) })
+    subst P (sym e) (record {
+      got = got;
+      read = read;
+      kept = kept;
+      quiet = spared;
+      reason = (is_usage given got change.left none usage, for_line given got change none few quiet);
+    })
 
 pub keeps_same : (o : Option (List ℕ)) → Keeps o o
 keeps_same None = tt
@@ -251,14 +264,27 @@ unasked given change fault some same quiet untouched spared why =
     let U : Bool → Type 0 = λ b. IsUsageBy b given [] change.left × IsReadForWords b [] change in
     elim why [
       | inl e ↦ subst E (sym e) (record { got = []; read = read; kept = kept; quiet = spared; reason = tt })
-      | inr (e, none) ↦ subst E (sym e) (record { got = []; read = read; kept = kept; quiet = spared;
-          reason = subst U (sym some) (none, (same, quiet)) })
+      | inr (e, none) ↦ subst E (sym e) (record {
+        got = [];
+        read = read;
+        kept = kept;
+        quiet = spared;
+        reason = subst U (sym some) (none, (same, quiet));
+      })
     ]
 
 -- there was no memory for the arguments
 pub wordless : (given : List Word) (left held : Option (List ℕ)) (read_faults write_faults status : ℕ) → status ≡ 1
-    → Runs given (record { left_before = left; left = left; reader_faults_before = read_faults; reader_faults = read_faults;
-        held_before = held; held = held; writer_faults_before = write_faults; writer_faults = write_faults }) status
+    → Runs given (record {
+      left_before = left;
+      left = left;
+      reader_faults_before = read_faults;
+      reader_faults = read_faults;
+      held_before = held;
+      held = held;
+      writer_faults_before = write_faults;
+      writer_faults = write_faults;
+    }) status
 wordless given left held read_faults write_faults status e = record {
   outcome = Err (Early OutOfMemory);
   ends = record { got = []; read = reads_none left; kept = keeps_same held; quiet = refl; reason = tt };

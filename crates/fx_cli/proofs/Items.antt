@@ -44,7 +44,7 @@ pub behind_item : (chars : List ℕ) (range : ℕ × ℕ) (item : List ℕ) (ite
     → behind chars (numbers_of_items (item ∷ items)) ≡ behind (chars ++ numbers_between range) (numbers_of_items items)
 behind_item chars range item items e =
     ap (behind chars) (numbers_of_items-cons item items ∙
-        ap (option_and_then (λ r. option_map (λ more. numbers_between r ++ more) (numbers_of_items items))) e)
+    ap (option_and_then (λ r. option_map (λ more. numbers_between r ++ more) (numbers_of_items items))) e)
     ∙ regrouped chars (numbers_between range) (numbers_of_items items)
 
 few_not : (xs : List ℕ) → max_characters < length xs → few xs ≡ None
@@ -64,8 +64,8 @@ pub none_by_item : (text chars item : List ℕ) (items : List (List ℕ))
 none_by_item text chars item items so_far e =
     numbers_of_list-is text
     ∙ ap (option_and_then few) (so_far ∙ ap (behind chars)
-        (numbers_of_items-cons item items ∙ ap (option_and_then (λ r. option_map (λ more. numbers_between r ++ more)
-        (numbers_of_items items))) e))
+    (numbers_of_items-cons item items ∙ ap (option_and_then (λ r. option_map (λ more. numbers_between r ++ more)
+    (numbers_of_items items))) e))
 
 -- an item with too many numbers
 pub none_by_count : (text chars item : List ℕ) (range : ℕ × ℕ) (items : List (List ℕ))
@@ -76,7 +76,7 @@ none_by_count text chars item range items so_far e h =
     numbers_of_list-is text
     ∙ ap (option_and_then few) (so_far ∙ behind_item chars range item items e)
     ∙ too_many (chars ++ numbers_between range) (numbers_of_items items)
-        (omega (arith, count, length-append chars (numbers_between range)))
+    (omega (arith, count, length-append chars (numbers_between range)))
 
 -- no item is left
 pub all_items : (text chars : List ℕ) → numbers_of_items (items_of text) ≡ behind chars (numbers_of_items [])
@@ -95,7 +95,7 @@ pub range_cut : (item low high : List ℕ) → low ≡ before_first (λ b. b == 
 unfolding range_of
 range_cut item low high l h within =
     ap (λ (t : Bool). if t then pair_of (number_of (before_first (λ b. b == 45) item)) (number_of (after_first (λ b. b == 45) item))
-        else pair_of (number_of item) (number_of item)) (lt-ltb _ _ within)
+    else pair_of (number_of item) (number_of item)) (lt-ltb _ _ within)
     ∙ ap₂ (λ (x y : List ℕ). pair_of (number_of x) (number_of y)) (sym l) (sym h)
 
 pub range_whole : (item : List ℕ) → position_or_len (λ b. b == 45) item ≡ length item
@@ -103,7 +103,7 @@ pub range_whole : (item : List ℕ) → position_or_len (λ b. b == 45) item ≡
 unfolding range_of
 range_whole item none =
     ap (λ (t : Bool). if t then pair_of (number_of (before_first (λ b. b == 45) item)) (number_of (after_first (λ b. b == 45) item))
-        else pair_of (number_of item) (number_of item)) (le-ltb _ _ (omega (arith, none)))
+    else pair_of (number_of item) (number_of item)) (le-ltb _ _ (omega (arith, none)))
 
 -- a text with a separator, and one without
 pub parts_cut : (separator : ℕ) (text part more : List ℕ) → part ≡ before_first (λ b. b == separator) text
@@ -116,4 +116,4 @@ pub parts_whole : (separator : ℕ) (text : List ℕ) → position_or_len (λ b.
     → parts_of separator text ≡ text ∷ []
 parts_whole separator text none =
     slice_split_none (λ b. b == separator) text
-        (λ k d lt. fails_before_first (λ b. b == separator) text k d (omega (arith, none, lt)))
+    (λ k d lt. fails_before_first (λ b. b == separator) text k d (omega (arith, none, lt)))

@@ -53,7 +53,7 @@ abbrev pub AreWordsBy : Bool → List Word → List ℕ → Option (List ℕ) �
 AreWordsBy true given got left words = words ≡ given
 AreWordsBy false given got left words =
     HasLine got left × IsUtf8 (line_of got) × (length (line_of got) ≤ max_line) ×
-        (words ≡ called given ∷ words_of_line (line_of got))
+    (words ≡ called given ∷ words_of_line (line_of got))
 
 abbrev pub AreWords : List Word → List ℕ → Option (List ℕ) → List Word → Type 0
 AreWords given got left words = AreWordsBy (has_words given) given got left words

@@ -40,10 +40,15 @@ pub fn run<R: Source, O: Sink, E: Sink>(
     requires out { O.fault_count out.old < 2 ^ 63 }
     requires err { E.fault_count err.old < 2 ^ 63 }
     ensures { Runs (map (λ word. word.now) words.now) (record {
-        left_before = R.left reader.old; left = R.left reader.new;
-        reader_faults_before = R.fault_count reader.old; reader_faults = R.fault_count reader.new;
-        held_before = O.held out.old; held = O.held out.new;
-        writer_faults_before = O.fault_count out.old; writer_faults = O.fault_count out.new }) result }
+      left_before = R.left reader.old;
+      left = R.left reader.new;
+      reader_faults_before = R.fault_count reader.old;
+      reader_faults = R.fault_count reader.new;
+      held_before = O.held out.old;
+      held = O.held out.new;
+      writer_faults_before = O.fault_count out.old;
+      writer_faults = O.fault_count out.new;
+    }) result }
 {
     let outcome = if words.len() > 1 {
         run_words(alloc, words, reader, out)
@@ -64,10 +69,15 @@ fn run_words<R: Source, O: Sink>(
     requires out { O.fault_count out.old < 2 ^ 63 }
     requires given { 1 < length words.now }
     ensures { Ends (map (λ word. word.now) words.now) (record {
-        left_before = R.left reader.old; left = R.left reader.new;
-        reader_faults_before = R.fault_count reader.old; reader_faults = R.fault_count reader.new;
-        held_before = O.held out.old; held = O.held out.new;
-        writer_faults_before = O.fault_count out.old; writer_faults = O.fault_count out.new }) result }
+      left_before = R.left reader.old;
+      left = R.left reader.new;
+      reader_faults_before = R.fault_count reader.old;
+      reader_faults = R.fault_count reader.new;
+      held_before = O.held out.old;
+      held = O.held out.new;
+      writer_faults_before = O.fault_count out.old;
+      writer_faults = O.fault_count out.new;
+    }) result }
 {
     let wish = read(alloc, words)?;
     run_wish(alloc, &wish, reader, 0, &[], false, out)
@@ -84,10 +94,15 @@ fn run_line<R: Source, O: Sink>(
     requires out { O.fault_count out.old < 2 ^ 63 }
     requires given { length words.now ≤ 1 }
     ensures { Ends (map (λ word. word.now) words.now) (record {
-        left_before = R.left reader.old; left = R.left reader.new;
-        reader_faults_before = R.fault_count reader.old; reader_faults = R.fault_count reader.new;
-        held_before = O.held out.old; held = O.held out.new;
-        writer_faults_before = O.fault_count out.old; writer_faults = O.fault_count out.new }) result }
+      left_before = R.left reader.old;
+      left = R.left reader.new;
+      reader_faults_before = R.fault_count reader.old;
+      reader_faults = R.fault_count reader.new;
+      held_before = O.held out.old;
+      held = O.held out.new;
+      writer_faults_before = O.fault_count out.old;
+      writer_faults = O.fault_count out.new;
+    }) result }
 {
     let mut front = [0u8; LINE_BUFFER];
     let (filled, end) = read_line(reader, &mut front)?;
@@ -165,10 +180,15 @@ fn run_wish<R: Source, O: Sink>(
     requires front { line + length front.now ≤ max_input }
     requires ended { ended ≡ true → IsAtEnd (R.left reader.old) }
     ensures { EndsAfter (seen wish.now) line front.now ended (record {
-        left_before = R.left reader.old; left = R.left reader.new;
-        reader_faults_before = R.fault_count reader.old; reader_faults = R.fault_count reader.new;
-        held_before = O.held out.old; held = O.held out.new;
-        writer_faults_before = O.fault_count out.old; writer_faults = O.fault_count out.new }) result }
+      left_before = R.left reader.old;
+      left = R.left reader.new;
+      reader_faults_before = R.fault_count reader.old;
+      reader_faults = R.fault_count reader.new;
+      held_before = O.held out.old;
+      held = O.held out.new;
+      writer_faults_before = O.fault_count out.old;
+      writer_faults = O.fault_count out.new;
+    }) result }
 {
     let chars = numbers_of(alloc, &wish.task)?;
     let mut buffer = [0u8; BUFFER];
@@ -198,9 +218,15 @@ fn run_text<O: Sink>(
 ) -> Result<Done, Fault>
     requires { O.fault_count out.old < 2 ^ 63 }
     ensures { EndsText (seen wish.now) chars.now text.now (record {
-        left_before = None; left = None; reader_faults_before = 0; reader_faults = 0;
-        held_before = O.held out.old; held = O.held out.new;
-        writer_faults_before = O.fault_count out.old; writer_faults = O.fault_count out.new }) result }
+      left_before = None;
+      left = None;
+      reader_faults_before = 0;
+      reader_faults = 0;
+      held_before = O.held out.old;
+      held = O.held out.new;
+      writer_faults_before = O.fault_count out.old;
+      writer_faults = O.fault_count out.new;
+    }) result }
 {
     if wish.hex {
         let font = decode_hex(alloc, text)?;

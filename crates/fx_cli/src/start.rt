@@ -40,10 +40,15 @@ pub fn run_given<R: Source, O: Sink, E: Sink>(
     requires out { O.fault_count out.old < 2 ^ 63 }
     requires err { E.fault_count err.old < 2 ^ 63 }
     ensures { Starts (map_fault error_kind (map_ok (λ words. map string_bytes words.items) words.now)) (record {
-        left_before = R.left reader.old; left = R.left reader.new;
-        reader_faults_before = R.fault_count reader.old; reader_faults = R.fault_count reader.new;
-        held_before = O.held out.old; held = O.held out.new;
-        writer_faults_before = O.fault_count out.old; writer_faults = O.fault_count out.new }) result }
+      left_before = R.left reader.old;
+      left = R.left reader.new;
+      reader_faults_before = R.fault_count reader.old;
+      reader_faults = R.fault_count reader.new;
+      held_before = O.held out.old;
+      held = O.held out.new;
+      writer_faults_before = O.fault_count out.old;
+      writer_faults = O.fault_count out.new;
+    }) result }
 {
     match words {
         Ok(words) => match texts_of(alloc, words) {

@@ -95,7 +95,7 @@ with_term_is env c m (term d n p) = by (with_term_is env c m p) (same_mono m n) 
         ap (λ z. z +ℤ poly_value env p) (+ℤ-*ℤ c d (mono_value env n))
         ∙ sym (assoc_sum (c *ℤ mono_value env n) (d *ℤ mono_value env n) (poly_value env p))
         ∙ ap (λ k. c *ℤ mono_value env k +ℤ (d *ℤ mono_value env n +ℤ poly_value env p))
-            (sym (same_mono_is m n (subst T (sym e) tt)))
+        (sym (same_mono_is m n (subst T (sym e) tt)))
     by ih false e = ap (λ z. d *ℤ mono_value env n +ℤ z) ih
         ∙ swap_sum (d *ℤ mono_value env n) (c *ℤ mono_value env m) (poly_value env p)
 

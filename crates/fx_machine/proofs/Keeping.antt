@@ -68,8 +68,11 @@ sized s = record { store = record { room = refl; storage = refl; cvt = refl }; f
 
 pub sized_then : {s t u : State} → HasSizes s t → HasSizes t u → HasSizes s u
 sized_then h k = record {
-  store = record { room = k.store.room ∙ h.store.room; storage = k.store.storage ∙ h.store.storage;
-      cvt = k.store.cvt ∙ h.store.cvt };
+  store = record {
+    room = k.store.room ∙ h.store.room;
+    storage = k.store.storage ∙ h.store.storage;
+    cvt = k.store.cvt ∙ h.store.cvt;
+  };
   functions = k.functions ∙ h.functions;
   opcodes = k.opcodes ∙ h.opcodes;
   scale = k.scale ∙ h.scale;
@@ -351,13 +354,36 @@ mirp_row_keeps how s = plain_bind s.zones (map_fault of_stack (two s.store)) _ (
 
 row_0_keeps : (op : ℕ) (s : State) → Plain s.zones (row_0 op s)
 unfolding row_0
-row_0_keeps op s = search (plain_if s.zones, graphics_keeps, spvtl_keeps, sfvtl_keeps, spvfs_keeps, sfvfs_keeps, gpv_keeps,
-    gfv_keeps, isect_row_keeps) depth 40 fits 8000
+row_0_keeps op s = search (
+  plain_if s.zones,
+  graphics_keeps,
+  spvtl_keeps,
+  sfvtl_keeps,
+  spvfs_keeps,
+  sfvfs_keeps,
+  gpv_keeps,
+  gfv_keeps,
+  isect_row_keeps,
+) depth 40 fits 8000
 
 row_1_keeps : (op : ℕ) (s : State) → Plain s.zones (row_1 op s)
 unfolding row_1
-row_1_keeps op s = search (plain_if s.zones, graphics_keeps, srp0_keeps, srp1_keeps, srp2_keeps, szp0_keeps, szp1_keeps, szp2_keeps,
-    szps_keeps, sloop_keeps, smd_keeps, scvtci_keeps, sswci_keeps, ssw_keeps) depth 40 fits 8000
+row_1_keeps op s = search (
+  plain_if s.zones,
+  graphics_keeps,
+  srp0_keeps,
+  srp1_keeps,
+  srp2_keeps,
+  szp0_keeps,
+  szp1_keeps,
+  szp2_keeps,
+  szps_keeps,
+  sloop_keeps,
+  smd_keeps,
+  scvtci_keeps,
+  sswci_keeps,
+  ssw_keeps,
+) depth 40 fits 8000
 
 row_2_keeps : (op : ℕ) (s : State) → Plain s.zones (row_2 op s)
 unfolding row_2
@@ -365,8 +391,19 @@ row_2_keeps op s = search (plain_if s.zones, store_keeps, alignpts_row_keeps, ut
 
 row_3_keeps : (op : ℕ) (s : State) → Plain s.zones (row_3 op s)
 unfolding row_3
-row_3_keeps op s = search (plain_if s.zones, graphics_keeps, iup_row_keeps, shp_row_keeps, shc_row_keeps, shz_row_keeps,
-    shpix_row_keeps, ip_row_keeps, msirp_row_keeps, alignrp_row_keeps, miap_row_keeps) depth 40 fits 8000
+row_3_keeps op s = search (
+  plain_if s.zones,
+  graphics_keeps,
+  iup_row_keeps,
+  shp_row_keeps,
+  shc_row_keeps,
+  shz_row_keeps,
+  shpix_row_keeps,
+  ip_row_keeps,
+  msirp_row_keeps,
+  alignrp_row_keeps,
+  miap_row_keeps,
+) depth 40 fits 8000
 
 row_4_keeps : (op : ℕ) (s : State) → Plain s.zones (row_4 op s)
 unfolding row_4
@@ -383,8 +420,15 @@ row_6_keeps op s = search (plain_if s.zones, store_keeps) depth 40 fits 8000
 
 row_7_keeps : (op : ℕ) (s : State) → Plain s.zones (row_7 op s)
 unfolding row_7
-row_7_keeps op s = search (plain_if s.zones, graphics_keeps, store_keeps, wcvtf_keeps, deltap_row_keeps, sround_keeps,
-    s45round_keeps) depth 40 fits 8000
+row_7_keeps op s = search (
+  plain_if s.zones,
+  graphics_keeps,
+  store_keeps,
+  wcvtf_keeps,
+  deltap_row_keeps,
+  sround_keeps,
+  s45round_keeps,
+) depth 40 fits 8000
 
 row_8_keeps : (op : ℕ) (s : State) → Plain s.zones (row_8 op s)
 unfolding row_8
@@ -398,8 +442,18 @@ relative_keeps op s = plain_if s.zones (nat_le 0xE0 op) _ _ (mirp_row_keeps (rel
 plain_keeps : (op : ℕ) (s : State) → Plain s.zones (plain_of op s)
 unfolding plain_of
 plain_keeps op s =
-    search (plain_if s.zones, row_0_keeps, row_1_keeps, row_2_keeps, row_3_keeps, row_4_keeps, row_5_keeps, row_6_keeps,
-        row_7_keeps, row_8_keeps) depth 40 fits 8000
+    search (
+      plain_if s.zones,
+      row_0_keeps,
+      row_1_keeps,
+      row_2_keeps,
+      row_3_keeps,
+      row_4_keeps,
+      row_5_keeps,
+      row_6_keeps,
+      row_7_keeps,
+      row_8_keeps,
+    ) depth 40 fits 8000
 
 -- ---- rows that may continue elsewhere
 
@@ -438,44 +492,44 @@ jmpr_keeps : (size address : ℕ) (s : State) → Acts s.zones (jmpr_of size add
 unfolding jmpr_of
 jmpr_keeps size address s =
     acts_bind s.zones (map_fault of_stack (one s.store)) (λ x. jumped size (pos address +ℤ x.0) (record s { store = x.1 }))
-        (λ x. jumped_keeps size (pos address +ℤ x.0) s.zones (record s { store = x.1 }) (shapes_same s.zones))
+    (λ x. jumped_keeps size (pos address +ℤ x.0) s.zones (record s { store = x.1 }) (shapes_same s.zones))
 
 jrot_keeps : (size address next : ℕ) (s : State) → Acts s.zones (jrot_of size address next s)
 unfolding jrot_of
 jrot_keeps size address next s =
     acts_bind s.zones (map_fault of_stack (two s.store))
-        (λ x. if int_eq x.1 (pos 0) then Ok (Went next, record s { store = x.2 }) else jumped size (pos address +ℤ x.0)
-        (record s { store = x.2 })) (λ x. acts_if s.zones (int_eq x.1 (pos 0)) (Ok (Went next, record s { store = x.2 }))
-        (jumped size (pos address +ℤ x.0) (record s { store = x.2 }))
-        (went_keeps next s.zones (record s { store = x.2 }) (shapes_same s.zones))
-        (jumped_keeps size (pos address +ℤ x.0) s.zones (record s { store = x.2 }) (shapes_same s.zones)))
+    (λ x. if int_eq x.1 (pos 0) then Ok (Went next, record s { store = x.2 }) else jumped size (pos address +ℤ x.0)
+    (record s { store = x.2 })) (λ x. acts_if s.zones (int_eq x.1 (pos 0)) (Ok (Went next, record s { store = x.2 }))
+    (jumped size (pos address +ℤ x.0) (record s { store = x.2 }))
+    (went_keeps next s.zones (record s { store = x.2 }) (shapes_same s.zones))
+    (jumped_keeps size (pos address +ℤ x.0) s.zones (record s { store = x.2 }) (shapes_same s.zones)))
 
 jrof_keeps : (size address next : ℕ) (s : State) → Acts s.zones (jrof_of size address next s)
 unfolding jrof_of
 jrof_keeps size address next s =
     acts_bind s.zones (map_fault of_stack (two s.store))
-        (λ x. if int_eq x.1 (pos 0) then jumped size (pos address +ℤ x.0) (record s { store = x.2 }) else
-        Ok (Went next, record s { store = x.2 }))
-        (λ x. acts_if s.zones (int_eq x.1 (pos 0)) (jumped size (pos address +ℤ x.0) (record s { store = x.2 }))
-        (Ok (Went next, record s { store = x.2 }))
-        (jumped_keeps size (pos address +ℤ x.0) s.zones (record s { store = x.2 }) (shapes_same s.zones))
-        (went_keeps next s.zones (record s { store = x.2 }) (shapes_same s.zones)))
+    (λ x. if int_eq x.1 (pos 0) then jumped size (pos address +ℤ x.0) (record s { store = x.2 }) else
+    Ok (Went next, record s { store = x.2 }))
+    (λ x. acts_if s.zones (int_eq x.1 (pos 0)) (jumped size (pos address +ℤ x.0) (record s { store = x.2 }))
+    (Ok (Went next, record s { store = x.2 }))
+    (jumped_keeps size (pos address +ℤ x.0) s.zones (record s { store = x.2 }) (shapes_same s.zones))
+    (went_keeps next s.zones (record s { store = x.2 }) (shapes_same s.zones)))
 
 call_keeps : (next : ℕ) (s : State) → Acts s.zones (call_of next s)
 unfolding call_of
 call_keeps next s =
     acts_bind s.zones (map_fault of_stack (one s.store))
-        (λ x. called 1 (function_at s.definitions.functions x.0) NoFunction next (record s { store = x.1 }))
-        (λ x. called_keeps 1 (function_at s.definitions.functions x.0) NoFunction next s.zones (record s { store = x.1 })
-        (shapes_same s.zones))
+    (λ x. called 1 (function_at s.definitions.functions x.0) NoFunction next (record s { store = x.1 }))
+    (λ x. called_keeps 1 (function_at s.definitions.functions x.0) NoFunction next s.zones (record s { store = x.1 })
+    (shapes_same s.zones))
 
 loopcall_keeps : (next : ℕ) (s : State) → Acts s.zones (loopcall_of next s)
 unfolding loopcall_of
 loopcall_keeps next s =
     acts_bind s.zones (map_fault of_stack (two s.store))
-        (λ x. times x.0 (function_at s.definitions.functions x.1) next (record s { store = x.2 }))
-        (λ x. times_keeps x.0 (function_at s.definitions.functions x.1) next s.zones (record s { store = x.2 })
-        (shapes_same s.zones))
+    (λ x. times x.0 (function_at s.definitions.functions x.1) next (record s { store = x.2 }))
+    (λ x. times_keeps x.0 (function_at s.definitions.functions x.1) next s.zones (record s { store = x.2 })
+    (shapes_same s.zones))
 
 fdef_keeps : (code : List ℕ) (w : Program) (next : ℕ) (s : State) → Acts s.zones (fdef_of code w next s)
 unfolding fdef_of Acts

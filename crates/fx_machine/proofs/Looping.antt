@@ -24,80 +24,84 @@ use Rattle.fx_machine.proofs.Steps.{go_moves, go_stops, go_finishes, go_limit_mo
 module _ (texts : Program → List ℕ) (start : Program) (limit : ℕ) (first now : State) (n : ℕ) (items : List Frame) (w : Program)
     (p : ℕ)
     (h : answer_of (row_at texts) limit start first ≡ answer_from (row_at texts) (limit - n) n (config (reverse items) w p now))
-        where
-  abbrev Due : Result (ℕ × State) Halt
-  Due = answered texts start (answer_of (row_at texts) limit start first)
+  where
+    abbrev Due : Result (ℕ × State) Halt
+    Due = answered texts start (answer_of (row_at texts) limit start first)
 
-  at_end : p ≡ length (texts w) → row_at texts w p now ≡ Ends
-  unfolding row_in
-  at_end e = rw (eq-eqb p (length (texts w)) e) refl
+    at_end : p ≡ length (texts w) → row_at texts w p now ≡ Ends
+    unfolding row_in
+    at_end e = rw (eq-eqb p (length (texts w)) e) refl
 
-  no_calls : (K : List Frame) → length K ≡ 0 → moved_by Ends K w ≡ Finishes
-  no_calls [] z = refl
-  no_calls (g ∷ K) z = absurd (omega arith)
+    no_calls : (K : List Frame) → length K ≡ 0 → moved_by Ends K w ≡ Finishes
+    no_calls [] z = refl
+    no_calls (g ∷ K) z = absurd (omega arith)
 
-  ends_only : (K : List Frame) → moved_by Ends K w ≡ Finishes → length K ≡ 0
-  ends_only [] e = refl
-  ends_only (g ∷ K) e = absurd cc
+    ends_only : (K : List Frame) → moved_by Ends K w ≡ Finishes → length K ≡ 0
+    ends_only [] e = refl
+    ends_only (g ∷ K) e = absurd cc
 
-  some_calls : (K : List Frame) → 0 < length K → moved_by Ends K w ≡ Stops StrayEnd
-  some_calls [] z = absurd (omega arith)
-  some_calls (g ∷ K) z = refl
+    some_calls : (K : List Frame) → 0 < length K → moved_by Ends K w ≡ Stops StrayEnd
+    some_calls [] z = absurd (omega arith)
+    some_calls (g ∷ K) z = refl
 
-  pub finished_here : p ≡ length (texts w) → length items ≡ 0 → Ok (n, now) ≡ Due
-  finished_here e z =
-      let t : Takes (row_at texts) (reverse items) w p now Finishes =
-              record { is = rw (at_end e) (no_calls (reverse items) (rw length-reverse z)) } in
-      rw (h, go_finishes (row_at texts) (limit - n) n (reverse items) w p now t) refl
+    pub finished_here : p ≡ length (texts w) → length items ≡ 0 → Ok (n, now) ≡ Due
+    finished_here e z =
+        let t : Takes (row_at texts) (reverse items) w p now Finishes =
+        record { is = rw (at_end e) (no_calls (reverse items) (rw length-reverse z)) } in
+        rw (h, go_finishes (row_at texts) (limit - n) n (reverse items) w p now t) refl
 
-  pub halted_here : (cause : Cause) → n < limit → moved_by (row_at texts w p now) (reverse items) w ≡ Stops cause
-      → Err (record { cause = cause; during = start; program = w; address = p; opcode = opcode_at (texts w) p }) ≡ Due
-  halted_here cause lt m =
-      let e : limit - n ≡ suc (limit - suc n) = omega arith in
-      rw (h, e, go_stops (row_at texts) (limit - suc n) n (reverse items) w p now cause (record { is = m })) refl
+    pub halted_here : (cause : Cause) → n < limit → moved_by (row_at texts w p now) (reverse items) w ≡ Stops cause
+        → Err (record { cause = cause; during = start; program = w; address = p; opcode = opcode_at (texts w) p }) ≡ Due
+    halted_here cause lt m =
+        let e : limit - n ≡ suc (limit - suc n) = omega arith in
+        rw (h, e, go_stops (row_at texts) (limit - suc n) n (reverse items) w p now cause (record { is = m })) refl
 
-  pub stray_here : n < limit → p ≡ length (texts w) → 0 < length items
-      → Err (record { cause = StrayEnd; during = start; program = w; address = p; opcode = opcode_at (texts w) p }) ≡ Due
-  stray_here lt e z = halted_here StrayEnd lt (rw (at_end e) (some_calls (reverse items) (rw length-reverse z)))
+    pub stray_here : n < limit → p ≡ length (texts w) → 0 < length items
+        → Err (record { cause = StrayEnd; during = start; program = w; address = p; opcode = opcode_at (texts w) p }) ≡ Due
+    stray_here lt e z = halted_here StrayEnd lt (rw (at_end e) (some_calls (reverse items) (rw length-reverse z)))
 
-  -- what comes of an instruction that is there is not the end
-  not_finished : (r : Result (Action × State) Cause) (K : List Frame) → moved_by (settled r) K w ≡ Finishes → ⊥
-  not_finished (Err c) K e = absurd cc
-  not_finished (Ok (Went q, t)) K e = absurd cc
-  not_finished (Ok (Called k f next, t)) K e = elim (cases_lt (length K) MAX_DEPTH) [
-    | inl l ↦ absurd (let x = rw (lt-ltb (length K) MAX_DEPTH l) at e in cc)
-    | inr l ↦ absurd (let x = rw (le-ltb (length K) MAX_DEPTH l) at e in cc)
-  ]
-  not_finished (Ok (Returned, t)) [] e = absurd cc
-  not_finished (Ok (Returned, t)) (g ∷ K) e = absurd cc
-
-  limit_by : (K : List Frame) (m : Move) → moved_by (row_at texts w p now) K w ≡ m → (m ≡ Finishes → ⊥)
-      → answer_from (row_at texts) 0 n (config K w p now) ≡ Exhausted w p
-  limit_by K Finishes e none = absurd (none refl)
-  limit_by K (Stops c) e none = go_limit_stops (row_at texts) n K w p now c (record { is = e })
-  limit_by K (Moves d) e none = go_limit_moves (row_at texts) n K w p now d (record { is = e })
-
-  finishes_only : (K : List Frame) → moved_by (row_at texts w p now) K w ≡ Finishes → (p ≡ length (texts w)) × (length K ≡ 0)
-  unfolding row_in
-  finishes_only K e = elim (eqb_tells p (length (texts w))) [
-    | inl x ↦ (x.1, ends_only K (rw x.0 at e))
-    | inr x ↦ elim (leb_tells (next_address (texts w) p) (length (texts w))) [
-      | inl y ↦ absurd (not_finished _ K (rw (x.0, y.0) at e))
-      | inr y ↦ absurd (let z = rw (x.0, y.0) at e in cc)
+    -- what comes of an instruction that is there is not the end
+    not_finished : (r : Result (Action × State) Cause) (K : List Frame) → moved_by (settled r) K w ≡ Finishes → ⊥
+    not_finished (Err c) K e = absurd cc
+    not_finished (Ok (Went q, t)) K e = absurd cc
+    not_finished (Ok (Called k f next, t)) K e = elim (cases_lt (length K) MAX_DEPTH) [
+      | inl l ↦ absurd (let x = rw (lt-ltb (length K) MAX_DEPTH l) at e in cc)
+      | inr l ↦ absurd (let x = rw (le-ltb (length K) MAX_DEPTH l) at e in cc)
     ]
-  ]
+    not_finished (Ok (Returned, t)) [] e = absurd cc
+    not_finished (Ok (Returned, t)) (g ∷ K) e = absurd cc
 
-  pub limit_here : n ≡ limit → (p ≡ length (texts w) → length items ≡ 0 → ⊥)
-      → Err (record { cause = StepLimit; during = start; program = w; address = p; opcode = opcode_at (texts w) p }) ≡ Due
-  limit_here e none =
-      let z : limit - n ≡ 0 = omega arith in
-      rw (h, z, limit_by (reverse items) (moved_by (row_at texts w p now) (reverse items) w) refl
-          (λ f. let x = finishes_only (reverse items) f in none x.0 (rw length-reverse at x.1))) refl
+    limit_by : (K : List Frame) (m : Move) → moved_by (row_at texts w p now) K w ≡ m → (m ≡ Finishes → ⊥)
+        → answer_from (row_at texts) 0 n (config K w p now) ≡ Exhausted w p
+    limit_by K Finishes e none = absurd (none refl)
+    limit_by K (Stops c) e none = go_limit_stops (row_at texts) n K w p now c (record { is = e })
+    limit_by K (Moves d) e none = go_limit_moves (row_at texts) n K w p now d (record { is = e })
 
-  pub stepped : (d : Config) → n < limit → moved_by (row_at texts w p now) (reverse items) w ≡ Moves d
-      → answer_of (row_at texts) limit start first ≡ answer_from (row_at texts) (limit - (n + 1)) (n + 1) d
-  stepped d lt m =
-      let e : limit - n ≡ suc (limit - suc n) = omega arith in
-      let q : n + 1 ≡ suc n = omega arith in
-      let x = go_moves (row_at texts) (limit - suc n) n (reverse items) w p now d (record { is = m }) in
-      rw q (h ∙ rw e x)
+    finishes_only : (K : List Frame) → moved_by (row_at texts w p now) K w ≡ Finishes → (p ≡ length (texts w)) × (length K ≡ 0)
+    unfolding row_in
+    finishes_only K e = elim (eqb_tells p (length (texts w))) [
+      | inl x ↦ (x.1, ends_only K (rw x.0 at e))
+      | inr x ↦ elim (leb_tells (next_address (texts w) p) (length (texts w))) [
+        | inl y ↦ absurd (not_finished _ K (rw (x.0, y.0) at e))
+        | inr y ↦ absurd (let z = rw (x.0, y.0) at e in cc)
+      ]
+    ]
+
+    pub limit_here : n ≡ limit → (p ≡ length (texts w) → length items ≡ 0 → ⊥)
+        → Err (record { cause = StepLimit; during = start; program = w; address = p; opcode = opcode_at (texts w) p }) ≡ Due
+    limit_here e none =
+        let z : limit - n ≡ 0 = omega arith in
+        rw (
+          h,
+          z,
+          limit_by (reverse items) (moved_by (row_at texts w p now) (reverse items) w) refl
+              (λ f. let x = finishes_only (reverse items) f in none x.0 (rw length-reverse at x.1)),
+        ) refl
+
+    pub stepped : (d : Config) → n < limit → moved_by (row_at texts w p now) (reverse items) w ≡ Moves d
+        → answer_of (row_at texts) limit start first ≡ answer_from (row_at texts) (limit - (n + 1)) (n + 1) d
+    stepped d lt m =
+        let e : limit - n ≡ suc (limit - suc n) = omega arith in
+        let q : n + 1 ≡ suc n = omega arith in
+        let x = go_moves (row_at texts) (limit - suc n) n (reverse items) w p now d (record { is = m }) in
+        rw q (h ∙ rw e x)

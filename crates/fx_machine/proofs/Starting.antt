@@ -53,7 +53,7 @@ module _ (texts : Program → List ℕ) (s t : State) (n : ℕ)
 
 module _ (face : Face) (scale : Scale) (a b g : List ℕ) (s : State)
     (ea : a ≡ table_or_empty face.file (codes "fpgm")) (eb : b ≡ table_or_empty face.file (codes "prep")) (eg : g ≡ [])
-        (es : s ≡ first_state face scale) where
+    (es : s ≡ first_state face scale) where
   abbrev these : Program → List ℕ
   these = texts (record { font = a; prep = b; glyph = g })
 

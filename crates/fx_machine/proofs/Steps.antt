@@ -156,10 +156,10 @@ module _ (row : Program → ℕ → State → Effect) where
   comes_of (done r) K e = comes_of r K e
   comes_of (turn {w = w} {m = m} {n = n} {k = k} {next = next} {f = f} {u = u} {how = how} r r') K e =
       comes_before n K u how (comes_of r (record { function = f; left = k; program = w; next = next } ∷ K) (ap suc e))
-          (comes_of r' K e)
+      (comes_of r' K e)
   comes_of (last_turn {w = w} {m = m} {k = k} {next = next} {f = f} {t = t} {how = how} r l) K e =
       comes_last _ m (record { function = f; left = k; program = w; next = next } ∷ K) K t how l
-          (comes_of r (record { function = f; left = k; program = w; next = next } ∷ K) (ap suc e))
+      (comes_of r (record { function = f; left = k; program = w; next = next } ∷ K) (ap suc e))
 
   -- ---- from the function to runs
 
@@ -169,7 +169,7 @@ module _ (row : Program → ℕ → State → Effect) where
   Rest (g ∷ K) w st s n u how =
       (Runs row w st (suc (length K)) s n u how × IsLast how)
       ⊎ ((m k : ℕ) × (t : State) × Runs row w st (suc (length K)) s m t Returned × Rest K g.program (Turns g.left g.function g.next)
-          t k u how × (n ≡ m + k))
+      t k u how × (n ≡ m + k))
 
   -- a run that does not come back is all that is left
   rest_last : (K : List Frame) {w : Program} {st : Start} {s : State} {n : ℕ} {u : State} {how : How}

@@ -23,8 +23,13 @@ abbrev pub answered : (Program → List ℕ) → Program → Verdict → Result 
 answered texts during (Finished steps s) = Ok (steps, s)
 answered texts during (Halted cause w p) =
     Err (record { cause = cause; during = during; program = w; address = p; opcode = opcode_at (texts w) p })
-answered texts during (Exhausted w p) = Err (record { cause = StepLimit; during = during; program = w; address = p;
-    opcode = opcode_at (texts w) p })
+answered texts during (Exhausted w p) = Err (record {
+  cause = StepLimit;
+  during = during;
+  program = w;
+  address = p;
+  opcode = opcode_at (texts w) p;
+})
 
 -- what code returns, with the state that it left
 abbrev pub sees : Result ℕ Halt → State → Result (ℕ × State) Halt

@@ -89,18 +89,22 @@ unfoldable pub fdef_of : List ℕ → Program → ℕ → State → Result (Acti
 fdef_of code w next s = do
   x ← map_fault of_stack (one s.store)
   n ← number_below (length s.definitions.functions) x.0
-  led (past_definition_of code next) (record s
-      { store = x.1; definitions =
-      record s.definitions { functions = slice_set s.definitions.functions n (Some (record { program = w; address = next })) } })
+  led (past_definition_of code next) (record s {
+    store = x.1;
+    definitions =
+        record s.definitions { functions = slice_set s.definitions.functions n (Some (record { program = w; address = next })) };
+  })
 
 -- 89 IDEF  o ->
 unfoldable pub idef_of : List ℕ → Program → ℕ → State → Result (Action × State) Cause
 idef_of code w next s = do
   x ← map_fault of_stack (one s.store)
   n ← number_below 256 x.0
-  led (past_definition_of code next) (record s
-      { store = x.1; definitions =
-      record s.definitions { opcodes = slice_set s.definitions.opcodes n (Some (record { program = w; address = next })) } })
+  led (past_definition_of code next) (record s {
+    store = x.1;
+    definitions =
+        record s.definitions { opcodes = slice_set s.definitions.opcodes n (Some (record { program = w; address = next })) };
+  })
 
 -- an opcode without a row runs its definition
 unfoldable pub undefined_of : ℕ → ℕ → State → Result (Action × State) Cause

@@ -50,8 +50,13 @@ controls_of face scale = control_values scale (table_or_empty face.file (codes "
 
 -- an empty stack, storage cells of 0, the control values
 abbrev pub first_store : Face → Scale → StoreView
-first_store face scale = record { stack = []; room = room_of face.maxp.max_stack_elements;
-    storage = replicate face.maxp.max_storage (pos 0); cvt = controls_of face scale; strays = 0 }
+first_store face scale = record {
+  stack = [];
+  room = room_of face.maxp.max_stack_elements;
+  storage = replicate face.maxp.max_storage (pos 0);
+  cvt = controls_of face scale;
+  strays = 0;
+}
 
 -- the twilight zone: points at (0, 0), without contours
 abbrev pub twilight_of : ℕ → Figure
@@ -79,8 +84,14 @@ second_state s = record s { store = record s.store { stack = [] }; graphics = de
 
 -- what prep left
 abbrev pub prepared_from : State → Prepared
-prepared_from s = record { storage = s.store.storage; cvt = s.store.cvt; twilight = s.zones.twilight; graphics = s.graphics;
-    definitions = s.definitions; flags = s.flags }
+prepared_from s = record {
+  storage = s.store.storage;
+  cvt = s.store.cvt;
+  twilight = s.zones.twilight;
+  graphics = s.graphics;
+  definitions = s.definitions;
+  flags = s.flags;
+}
 
 -- fpgm runs from a state, then prep: what they use up, and the state then
 unfoldable pub prelude_of : (Program → List ℕ) → State → Result (Ran × State) Halt

@@ -49,8 +49,11 @@ points_by_two row s = do
 
 -- a loop row takes as many points as loop says, the top of the stack first, and sets loop to 1
 abbrev pub after_loop : Outcome → ℕ → StoreView → State → State
-after_loop r n t s = record s { store = with_strays r.1 (with_stack (drop n t.stack) t); zones = r.0;
-    graphics = record s.graphics { loop_count = 1 } }
+after_loop r n t s = record s {
+  store = with_strays r.1 (with_stack (drop n t.stack) t);
+  zones = r.0;
+  graphics = record s.graphics { loop_count = 1 };
+}
 
 abbrev pub loop_on : (GState → List ℤ → Zones → Outcome) → StoreView → State → Result State Cause
 loop_on row t s = do
@@ -178,8 +181,10 @@ fliprg_row on = points_by_two (λ g low high z. fliprg_of g on low high z)
 
 -- what MDRP and MIRP set: rp1 becomes rp0, rp2 becomes p, and if the row says so rp0 becomes p
 abbrev pub with_references : Relative → ℤ → State → State
-with_references how p s = record s { graphics =
-    record s.graphics { rp0 = if how.sets_rp0 then p else s.graphics.rp0; rp1 = s.graphics.rp0; rp2 = p } }
+with_references how p s = record s {
+  graphics =
+      record s.graphics { rp0 = if how.sets_rp0 then p else s.graphics.rp0; rp1 = s.graphics.rp0; rp2 = p };
+}
 
 -- C0-DF MDRP  p ->
 unfoldable pub mdrp_row : Relative → State → Result State Cause

@@ -22,9 +22,15 @@ use Rattle.fx_zone.specs.Figures.{HasShape}
 abbrev pub begun : Flags → GState → GState
 begun flags g =
     if flags.default_state then default_state
-    else record default_state { auto_flip = g.auto_flip; cut_in = g.cut_in; minimum_distance = g.minimum_distance;
-        single_width = g.single_width; single_width_cut_in = g.single_width_cut_in; delta_base = g.delta_base;
-        delta_shift = g.delta_shift }
+    else record default_state {
+      auto_flip = g.auto_flip;
+      cut_in = g.cut_in;
+      minimum_distance = g.minimum_distance;
+      single_width = g.single_width;
+      single_width_cut_in = g.single_width_cut_in;
+      delta_base = g.delta_base;
+      delta_shift = g.delta_shift;
+    }
 
 -- the state that a program of a glyph begins with, on these points
 abbrev pub started : Prepared → Scale → ℕ → Figure → State

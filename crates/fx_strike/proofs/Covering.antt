@@ -66,11 +66,17 @@ in_range a b c p =
 
 on_flat_arc : (a b c p : Place) → Test (IsOnFlatArc a b c p)
 on_flat_arc a b c p =
-    like (λ h. record { flat = h.0; with_ab = h.1.0; with_bc = h.1.1.0; with_ac = h.1.1.1.0; range_x = h.1.1.1.1.0;
-        range_y = h.1.1.1.1.1 })
+    like (λ h. record {
+      flat = h.0;
+      with_ab = h.1.0;
+      with_bc = h.1.1.0;
+      with_ac = h.1.1.1.0;
+      range_x = h.1.1.1.1.0;
+      range_y = h.1.1.1.1.1;
+    })
     (λ h. (h.flat, (h.with_ab, (h.with_bc, (h.with_ac, (h.range_x, h.range_y))))))
     (both (eq (area a b c) (pos 0))
-        (both (eq (area a b p) (pos 0)) (both (eq (area b c p) (pos 0)) (both (eq (area a c p) (pos 0))
+    (both (eq (area a b p) (pos 0)) (both (eq (area b c p) (pos 0)) (both (eq (area a c p) (pos 0))
     (both (in_range a.x b.x c.x p.x) (in_range a.y b.y c.y p.y))))))
 
 on_part : (a : Place) (b : Option Place) (c p : Place) → Test (IsOnPart a b c p)

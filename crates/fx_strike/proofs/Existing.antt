@@ -107,7 +107,7 @@ bit_by ss col row = (covered (centre col row) ss).0
 are_small : (ss : List Span) → AreDrawn ss → (AreTooLarge ss → ⊥) → AreSmall (bit_by ss) (negsuc 32767) 65536
 are_small ss d small =
     let box : (col row : ℤ) → bit_by ss col row ≡ true → IsInBoundingBox (centre col row) ss =
-            λ col row h. in_box (centre col row) ss d.closed ((covered (centre col row) ss).1.0 h) in
+    λ col row h. in_box (centre col row) ss d.closed ((covered (centre col row) ss).1.0 h) in
     let to : (z : ℤ) → z <ℤ pos 32768 → z <ℤ (negsuc 32767 +ℤ pos 65536) = λ z h. h in
     record {
       from = omega (arith, ints);
@@ -130,8 +130,11 @@ glyph_of_spans s d small =
         code = t.1.code_is;
         swidth = t.1.swidth_is;
         dwidth = t.1.dwidth_is;
-        bits = λ col row. (λ h. (covered (centre col row) s.spans).1.0 (sym (bits col row) ∙ h), λ h. bits col row ∙
-            (covered (centre col row) s.spans).1.1 h);
+        bits = λ col row. (
+          λ h. (covered (centre col row) s.spans).1.0 (sym (bits col row) ∙ h),
+          λ h. bits col row ∙
+              (covered (centre col row) s.spans).1.1 h,
+        );
         tight = tight_along t.0.box (bit_by s.spans) (glyph_bit t.0) (λ col row. sym (bits col row)) t.1.tight;
         formed = t.1.formed;
       },
@@ -150,11 +153,11 @@ glyph_of_sketch face ppem code glyph s h =
       steps = d.steps;
     } in
     let measured : OutlineView → List Span → Result Sketch Refusal =
-            λ d ss. map_fault of_font (metrics_of face glyph) >>= λ m. Ok (last d ss m) in
+    λ d ss. map_fault of_font (metrics_of face glyph) >>= λ m. Ok (last d ss m) in
     let framed : OutlineView → List Span → Result Sketch Refusal =
-            λ d ss. map_fault (of_contour glyph) (framed_of ss) >>= λ _. measured d ss in
+    λ d ss. map_fault (of_contour glyph) (framed_of ss) >>= λ _. measured d ss in
     let a = bind_ok (map_fault of_hint (outline_of face ppem glyph))
-            (λ d. map_fault (of_contour glyph) (drawn_of d.ends d.points) >>= framed d) s h in
+    (λ d. map_fault (of_contour glyph) (drawn_of d.ends d.points) >>= framed d) s h in
     let b = bind_ok (map_fault (of_contour glyph) (drawn_of a.0.ends a.0.points)) (framed a.0) s a.2 in
     let c = bind_ok (map_fault (of_contour glyph) (framed_of b.0)) (λ _. measured a.0 b.0) s b.2 in
     let d = bind_ok (map_fault of_font (metrics_of face glyph)) (λ m. Ok (last a.0 b.0 m)) s c.2 in
@@ -176,8 +179,8 @@ glyphs_of_sketches face segments ppem [] ss h =
     subst P e ([], tt)
 glyphs_of_sketches face segments ppem (c ∷ cs) ss h =
     let p =
-            bind_ok (sketch_of face segments ppem c) (λ y. map_chain (sketch_of face segments ppem) cs >>= λ zs. Ok (y ∷ zs)) ss
-            h in
+    bind_ok (sketch_of face segments ppem c) (λ y. map_chain (sketch_of face segments ppem) cs >>= λ zs. Ok (y ∷ zs)) ss
+    h in
     let q = bind_ok (map_chain (sketch_of face segments ppem) cs) (λ zs. Ok (p.0 ∷ zs)) ss p.2 in
     let e : p.0 ∷ q.0 ≡ ss = cc (q.2) in
     let g = glyph_of_sketch face ppem c (glyph_for segments c) p.0 p.1 in
@@ -189,4 +192,4 @@ pub strike_exists : StrikeExists
 strike_exists file ppem name chars hinting plan h =
     let p = parts_of file ppem name chars hinting plan h in
     glyphs_of_sketches p.face p.segments p.size (filter (λ c. not (is_missing p.segments c)) (rising chars)) plan.sketches
-        p.sketches
+    p.sketches

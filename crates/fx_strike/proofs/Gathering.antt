@@ -120,7 +120,7 @@ sum_push : (f : Sketch → ℕ) (ss : List Sketch) (s : Sketch) (total more new 
 sum_push f ss s total more new h k e =
     let a : sum_by f (ss ++ s ∷ []) ≡ sum_by f ss + (0 + f s) = sum_by-append f ss (s ∷ []) in
     by_sum (sum_by f ss) (f s) (sum_by f (ss ++ s ∷ [])) total more new
-        (a ∙ (let b : sum_by f ss + (0 + f s) ≡ sum_by f ss + f s = omega arith in b)) h k e
+    (a ∙ (let b : sum_by f ss + (0 + f s) ≡ sum_by f ss + f s = omega arith in b)) h k e
   where
     by_sum : (a b c total more new : ℕ) → c ≡ a + b → total ≡ counted a → more ≡ b → new ≡ counted (total + more)
         → new ≡ counted c
@@ -190,9 +190,9 @@ pub drawn_at : (face : Face) (segments : Segments) (ppem : ℕ) (codes : List �
 drawn_at face segments ppem codes i glyph old new drawn l h e m d a =
     let P : List ℕ → Type 0 = λ xs. Holds face segments ppem xs new in
     subst P (sym (take_more codes i 0 l))
-        (holds_push face segments ppem (take i codes) (get_or codes i 0) old new d.0 drawn h
-        (missing_is segments (get_or codes i 0) glyph e false (not_zero glyph m))
-        (sym (same_sketch face segments ppem (get_or codes i 0) glyph e) ∙ d.1) d.2 a)
+    (holds_push face segments ppem (take i codes) (get_or codes i 0) old new d.0 drawn h
+    (missing_is segments (get_or codes i 0) glyph e false (not_zero glyph m))
+    (sym (same_sketch face segments ppem (get_or codes i 0) glyph e) ∙ d.1) d.2 a)
 
 pub refused_at : (face : Face) (segments : Segments) (ppem : ℕ) (codes : List ℕ) (i glyph : ℕ) (old : Gathered) (refusal : Refusal)
     → i < length codes → Holds face segments ppem (take i codes) old → glyph ≡ glyph_for segments (get_or codes i 0)
@@ -201,13 +201,13 @@ pub refused_at : (face : Face) (segments : Segments) (ppem : ℕ) (codes : List 
 refused_at face segments ppem codes i glyph old refusal l h e m f =
     fails_on refusal (glyph_sketch_of face ppem (get_or codes i 0) glyph) (sketches_of face segments ppem codes) (λ d k.
     ap (sketches_of face segments ppem) (sym (take-append-drop i codes) ∙ ap (λ (xs : List ℕ). take i codes ++ xs)
-        (drop_more codes i 0 l))
+    (drop_more codes i 0 l))
     ∙ ap (map_chain (sketch_of face segments ppem))
-        (kept segments (get_or codes i 0) (missing_is segments (get_or codes i 0) glyph e false (not_zero glyph m)) (take i codes)
-        (drop (i + 1) codes))
+    (kept segments (get_or codes i 0) (missing_is segments (get_or codes i 0) glyph e false (not_zero glyph m)) (take i codes)
+    (drop (i + 1) codes))
     ∙ chain_refused (sketch_of face segments ppem) (filter (λ x. not (is_missing segments x)) (take i codes)) (get_or codes i 0)
-        (filter (λ x. not (is_missing segments x)) (drop (i + 1) codes)) h.sketches d h.planned
-        (sym (same_sketch face segments ppem (get_or codes i 0) glyph e) ∙ k)) f
+    (filter (λ x. not (is_missing segments x)) (drop (i + 1) codes)) h.sketches d h.planned
+    (sym (same_sketch face segments ppem (get_or codes i 0) glyph e) ∙ k)) f
 
 -- what is passed on at the exit of a `?`
 pub gathers_err : (face : Face) (segments : Segments) (ppem : ℕ) (codes : List ℕ) (r : Result Gathered Refusal) (e d : Refusal)

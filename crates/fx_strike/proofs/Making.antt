@@ -78,7 +78,7 @@ pub unopened : (file : List ℕ) (ppem : ℕ) (name chars : List ℕ) (hinting :
     → Err d ≡ opened_of file ppem name chars hinting → IsCause d → Makes (plan_of file ppem name chars hinting) r
 unopened file ppem name chars hinting r e d p q h c =
     makes_err (plan_of file ppem name chars hinting) r e d p q
-        (fails_cause d (plan_of file ppem name chars hinting) c (plan_unopened file ppem name chars hinting d (sym h)))
+    (fails_cause d (plan_of file ppem name chars hinting) c (plan_unopened file ppem name chars hinting d (sym h)))
 
 pub opened : (file : List ℕ) (ppem : ℕ) (name chars : List ℕ) (hinting : Bool) (size : ℕ) (face : Face) (segments : Segments)
     (r : Result Made Refusal) → Ok (size, face, segments) ≡ opened_of file ppem name chars hinting
@@ -92,7 +92,7 @@ pub ungathered : (face : Face) (segments : Segments) (ppem : ℕ) (name chars co
     → codes ≡ rising chars → Fails d (sketches_of face segments ppem codes) → Makes (plan_in face segments ppem name chars) r
 ungathered face segments ppem name chars codes r e d p q c f =
     makes_err (plan_in face segments ppem name chars) r e d p q
-        (fails_on d (sketches_of face segments ppem codes) (plan_in face segments ppem name chars)
+    (fails_on d (sketches_of face segments ppem codes) (plan_in face segments ppem name chars)
     (λ x g. plan_refused face segments ppem name chars x (ap (sketches_of face segments ppem) (sym c) ∙ g)) f)
 
 -- ---- what is made
@@ -110,9 +110,9 @@ made_of face segments ppem name chars gathered made g f =
       glyphs = n;
     } in
     let heads : header_text name (heading_of face ppem gathered) ≡ header_text name
-            (heading (bounds_of (map (λ x. x.box) g.glyphs)) (length g.sketches))
+    (heading (bounds_of (map (λ x. x.box) g.glyphs)) (length g.sketches))
     = ap (λ (b : Box). header_text name (heading b gathered.report.glyphs)) g.bounds ∙
-        ap (λ (n : ℕ). header_text name (heading (bounds_of (map (λ x. x.box) g.glyphs)) n)) g.count in
+    ap (λ (n : ℕ). header_text name (heading (bounds_of (map (λ x. x.box) g.glyphs)) n)) g.count in
     record {
       plan = whole_plan ppem name chars face segments g.sketches;
       glyphs = g.glyphs;
@@ -160,13 +160,13 @@ whole_is units ppem em f g h r fits few size small p q s e b =
     let wide : to_z w128 (of_z w128 (units *ℤ pos ppem)) ≡ units *ℤ pos ppem = cast_wide (units *ℤ pos ppem) product in
     let whole : to_z w128 (of_z w128 (to_z w128 (of_z w128 f) *ℤ to_z w128 (of_z w128 g))) ≡ units *ℤ pos ppem
     = ap (λ (z : ℤ). to_z w128 (of_z w128 (z *ℤ to_z w128 (of_z w128 g)))) one ∙ ap (λ (z : ℤ). to_z w128 (of_z w128 (units *ℤ z)))
-        two ∙ wide in
+    two ∙ wide in
     let near : r ≡ near_of (units *ℤ pos ppem) (pos em) =
-            e ∙ ap (λ (z : ℤ). near_of z (to_z w128 (of_z w128 h))) whole ∙ ap (near_of (units *ℤ pos ppem)) three in
+    e ∙ ap (λ (z : ℤ). near_of z (to_z w128 (of_z w128 h))) whole ∙ ap (near_of (units *ℤ pos ppem)) three in
     let L : ℤ → Type 0 = λ z. unsigned_abs r ≤ unsigned_abs z in
     let bound : unsigned_abs r ≤ unsigned_abs (units *ℤ pos ppem) = subst L whole b in
     let few_pixels : unsigned_abs (units *ℤ pos ppem) ≤ 8355840 =
-            omega (arith, unsigned_abs-mul units (pos ppem), mul-le-mul_left (unsigned_abs units) size) in
+    omega (arith, unsigned_abs-mul units (pos ppem), mul-le-mul_left (unsigned_abs units) size) in
     cast_back r (pixels units ppem em) (fits_signed_from_abs w32 r (omega arith)) near
   where
     cast_wide : (z : ℤ) → FitsSigned w32 z → to_z w128 (of_z w128 z) ≡ z

@@ -41,9 +41,10 @@ doubled_near p h = (twice p.x h.0, twice p.y h.1)
     twice z h = (omega (arith, signed, h), omega (arith, signed, h))
 
 middle_near : (p q : OutlinePoint) → IsInReach p → IsInReach q → IsNearPlace (middle_of p q)
-middle_near p q h k =
-    ((omega (arith, signed_linear, h.0, k.0), omega (arith, signed_linear, h.0, k.0)),
-        (omega (arith, signed_linear, h.1, k.1), omega (arith, signed_linear, h.1, k.1)))
+middle_near p q h k = (
+  (omega (arith, signed_linear, h.0, k.0), omega (arith, signed_linear, h.0, k.0)),
+  (omega (arith, signed_linear, h.1, k.1), omega (arith, signed_linear, h.1, k.1)),
+)
 
 either : (P : Place → Type 0) (t : Bool) (x y : Place) → P x → P y → P (if t then x else y)
 either P true x y h k = h
@@ -67,7 +68,7 @@ listed_near false u s r h k = (k, tt)
 span_near : (p q r : OutlinePoint) → IsInReach p → IsInReach q → IsInReach r → AreNear (option_to_list (span_at p q r))
 span_near p q r h k l =
     listed_near q.on_curve p.on_curve (record { a = doubled_of p; b = None; c = doubled_of q })
-        (record { a = joint_of p q; b = Some (doubled_of q); c = joint_of q r })
+    (record { a = joint_of p q; b = Some (doubled_of q); c = joint_of q r })
     (doubled_near p h, tt, doubled_near q k) (joint_near p q h k, doubled_near q k, joint_near q r k l)
 
 first_near : (qs : List OutlinePoint) (r : OutlinePoint) → NearPoints qs → IsInReach r → IsInReach (first_or qs r)
@@ -83,7 +84,7 @@ between_near : (p : OutlinePoint) (qs : List OutlinePoint) (r : OutlinePoint) �
 between_near p [] r h k l = tt
 between_near p (q ∷ qs) r h k l =
     append_near (option_to_list (span_at p q (first_or qs r))) (spans_between q qs r)
-        (span_near p q (first_or qs r) h k.0 (first_near qs r k.1 l)) (between_near q qs r k.0 k.1 l)
+    (span_near p q (first_or qs r) h k.0 (first_near qs r k.1 l)) (between_near q qs r k.0 k.1 l)
 
 curve_near : (ps : List OutlinePoint) → NearPoints ps → AreNear (curve_of ps)
 curve_near [] h = tt
@@ -106,7 +107,7 @@ contours_near start [] ps h = tt
 contours_near start (e ∷ es) ps h =
     append_near (curve_of (take (e + 1 - start) (drop start ps))) (joined (map curve_of (contours_from (e + 1) es ps)))
     (curve_near (take (e + 1 - start) (drop start ps)) (take_near (e + 1 - start) (drop start ps) (drop_near start ps h)))
-        (contours_near (e + 1) es ps h)
+    (contours_near (e + 1) es ps h)
 
 points_near : (ps : List OutlinePoint) → AllByRecursion IsInReach ps → NearPoints ps
 points_near [] h = tt

@@ -39,8 +39,14 @@ same_bit false false f g = refl
 pub glyph_is_one : TrimmedIsOne → GlyphIsOne
 glyph_is_one one s g h p q =
     one s.code s.swidth s.dwidth (glyph_bit g) g h
-    (record { code_is = p.code; swidth_is = p.swidth; dwidth_is = p.dwidth; bits = λ col row. refl; tight = p.tight;
-        formed = p.formed })
+    (record {
+      code_is = p.code;
+      swidth_is = p.swidth;
+      dwidth_is = p.dwidth;
+      bits = λ col row. refl;
+      tight = p.tight;
+      formed = p.formed;
+    })
     (record {
       code_is = q.code;
       swidth_is = q.swidth;
@@ -81,11 +87,11 @@ sketch_code face ppem code glyph s h =
       steps = d.steps;
     } in
     let measured : OutlineView → List Span → Result Sketch Refusal =
-            λ d ss. map_fault of_font (metrics_of face glyph) >>= λ m. Ok (last d ss m) in
+    λ d ss. map_fault of_font (metrics_of face glyph) >>= λ m. Ok (last d ss m) in
     let framed : OutlineView → List Span → Result Sketch Refusal =
-            λ d ss. map_fault (of_contour glyph) (framed_of ss) >>= λ _. measured d ss in
+    λ d ss. map_fault (of_contour glyph) (framed_of ss) >>= λ _. measured d ss in
     let a = bind_ok (map_fault of_hint (outline_of face ppem glyph))
-            (λ d. map_fault (of_contour glyph) (drawn_of d.ends d.points) >>= framed d) s h in
+    (λ d. map_fault (of_contour glyph) (drawn_of d.ends d.points) >>= framed d) s h in
     let b = bind_ok (map_fault (of_contour glyph) (drawn_of a.0.ends a.0.points)) (framed a.0) s a.2 in
     let c = bind_ok (map_fault (of_contour glyph) (framed_of b.0)) (λ _. measured a.0 b.0) s b.2 in
     let d = bind_ok (map_fault of_font (metrics_of face glyph)) (λ m. Ok (last a.0 b.0 m)) s c.2 in

@@ -64,7 +64,7 @@ put_in x c (d ∷ ds) h =
     (λ e. subst P (sym (put_before c d ds e)) h)
     (λ e. subst P (sym (put_at c d ds e)) (elim h [ inl p ↦ inl (p ∙ e) | inr p ↦ p ]))
     (λ e. subst P (sym (put_after c d ds e))
-        (elim h [ inl p ↦ inr (put_in x c ds (inl p)) | inr (inl p) ↦ inl p | inr (inr p) ↦ inr (put_in x c ds (inr p)) ]))
+    (elim h [ inl p ↦ inr (put_in x c ds (inl p)) | inr (inl p) ↦ inl p | inr (inr p) ↦ inr (put_in x c ds (inr p)) ]))
 
 put_from : (x c : ℕ) (ds : List ℕ) → IsIn x (with_code c ds) → (x ≡ c) ⊎ IsIn x ds
 put_from x c [] h = h
@@ -100,8 +100,11 @@ rising_from x (c ∷ cs) h = elim (put_from x c (rising cs) h) [ inl p ↦ inl p
 pub rising_are_risen : RisingAreRisen
 rising_are_risen chars = record {
   rise = rise_increasing (rising chars) (rising_rises chars);
-  same = λ c. (λ h. in_contains c chars (rising_from c chars (contains_in c (rising chars) h)), λ h. in_contains c (rising chars)
-      (rising_in c chars (contains_in c chars h)));
+  same = λ c. (
+    λ h. in_contains c chars (rising_from c chars (contains_in c (rising chars) h)),
+    λ h. in_contains c (rising chars)
+        (rising_in c chars (contains_in c chars h)),
+  );
 }
 
 pub risen_is_one : RisenIsOne
@@ -114,8 +117,10 @@ pub sorted_is_rising : (chars sorted codes : List ℕ) → IsPermutation chars s
 sorted_is_rising chars sorted codes p s e =
     e ∙ risen_is_one chars (dedup eqb sorted) (rising chars) (record {
       rise = IsStrictlyIncreasing-dedup sorted s;
-      same = λ c. (λ h. Contains-permutation sorted chars c (IsPermutation-sym chars sorted p) (Contains-from_dedup eqb sorted c h),
-          λ h. Contains-dedup_nat sorted c (Contains-permutation chars sorted c p h));
+      same = λ c. (
+        λ h. Contains-permutation sorted chars c (IsPermutation-sym chars sorted p) (Contains-from_dedup eqb sorted c h),
+        λ h. Contains-dedup_nat sorted c (Contains-permutation chars sorted c p h),
+      );
     }) (rising_are_risen chars)
 
 -- no more than the request has

@@ -70,7 +70,7 @@ pub drawn_whole : (face : Face) (ppem code glyph : ℕ) (drawing : OutlineView) 
     → map_fault (of_contour glyph) (drawn_of drawing.ends drawing.points) ≡ Ok ss
     → map_fault (of_contour glyph) (framed_of ss) ≡ Ok tt
     → Ok swidth ≡ map_ok (λ (m : Metrics). thousandths m.advance_width face.head.units_per_em)
-        (map_fault of_font (metrics_of face glyph))
+    (map_fault of_font (metrics_of face glyph))
     → HasBitsOf ss bits
     → IsTrimmed code' swidth' dwidth' (bit_of bits) made.glyph
     → code' ≡ code
@@ -81,7 +81,7 @@ pub drawn_whole : (face : Face) (ppem code glyph : ℕ) (drawing : OutlineView) 
     → (sketch : Sketch) × (glyph_sketch_of face ppem code glyph ≡ Ok sketch) × IsDrawnOf sketch made
 drawn_whole face ppem code glyph drawing ss swidth bits made code' swidth' dwidth' h1 h2 h3 h4 b t c s d strays steps =
     let m = map_ok_ok (λ (m : Metrics). thousandths m.advance_width face.head.units_per_em)
-            (map_fault of_font (metrics_of face glyph)) swidth (sym h4) in
+    (map_fault of_font (metrics_of face glyph)) swidth (sym h4) in
     let P : Bool → Type 0 = λ x. IsTrue x in (
       record {
         code = code;
@@ -97,8 +97,11 @@ drawn_whole face ppem code glyph drawing ss swidth bits made code' swidth' dwidt
           code = t.code_is ∙ c;
           swidth = t.swidth_is ∙ s ∙ sym m.2;
           dwidth = t.dwidth_is ∙ d;
-          bits = λ col row. (λ g. (b.each col row).0 (subst P (t.bits col row) g), λ g. subst P (sym (t.bits col row))
-              ((b.each col row).1 g));
+          bits = λ col row. (
+            λ g. (b.each col row).0 (subst P (t.bits col row) g),
+            λ g. subst P (sym (t.bits col row))
+                ((b.each col row).1 g),
+          );
           tight = tight_along made.glyph.box (bit_of bits) (glyph_bit made.glyph) (λ col row. sym (t.bits col row)) t.tight;
           formed = t.formed;
         };

@@ -147,8 +147,12 @@ bare bit code swidth dwidth none =
           width = λ k d l. absurd (omega arith);
           high = omega arith;
           wide = omega arith;
-          placed = record { left = omega (arith, ints); right = omega (arith, ints); bottom = omega (arith, ints);
-              top = omega (arith, ints) };
+          placed = record {
+            left = omega (arith, ints);
+            right = omega (arith, ints);
+            bottom = omega (arith, ints);
+            top = omega (arith, ints);
+          };
         };
       },
     )
@@ -181,8 +185,12 @@ module _ (bit : ℤ → ℤ → Bool) (base : ℤ) (n : ℕ) where
   in_row i j l h = (some_decides (λ k. at_steps k j) n).1 (i, l, h)
 
   abbrev box_of : Reach has_column n → Reach has_row n → Box
-  box_of c r = record { width = c.last - c.first + 1; height = r.last - r.first + 1; left = base +ℤ pos c.first;
-      bottom = base +ℤ pos r.first }
+  box_of c r = record {
+    width = c.last - c.first + 1;
+    height = r.last - r.first + 1;
+    left = base +ℤ pos c.first;
+    bottom = base +ℤ pos r.first;
+  }
 
   last_is : (first last : ℕ) → first ≤ last → last_of (base +ℤ pos first) (last - first + 1) ≡ base +ℤ pos last
   last_is first last h = omega (arith, signed_linear)
@@ -211,9 +219,9 @@ module _ (bit : ℤ → ℤ → Bool) (base : ℤ) (n : ℕ) where
       let g = f.up.is in
       and_yes _ _
       (from_order (base +ℤ pos c.first) col (c.last - c.first + 1) (omega (arith, signed_linear, e, x))
-          (omega (arith, signed_linear, e, x, c.order)))
+      (omega (arith, signed_linear, e, x, c.order)))
       (from_order (base +ℤ pos r.first) row (r.last - r.first + 1) (omega (arith, signed_linear, g, y))
-          (omega (arith, signed_linear, g, y, r.order)))
+      (omega (arith, signed_linear, g, y, r.order)))
 
   sides_of : (c : Reach has_column n) (r : Reach has_row n) → HasSides (box_of c r) bit
   sides_of c r =
@@ -229,8 +237,13 @@ module _ (bit : ℤ → ℤ → Bool) (base : ℤ) (n : ℕ) where
       }
 
   formed_of : (code : ℕ) (swidth dwidth : ℤ) (c : Reach has_column n) (r : Reach has_row n) → AreSmall bit base n
-      → IsFormed (record { code = code; swidth = swidth; dwidth = dwidth; box = box_of c r;
-          rows = each_number (line_of bit (box_of c r)) 0 (r.last - r.first + 1) })
+      → IsFormed (record {
+        code = code;
+        swidth = swidth;
+        dwidth = dwidth;
+        box = box_of c r;
+        rows = each_number (line_of bit (box_of c r)) 0 (r.last - r.first + 1);
+      })
   formed_of code swidth dwidth c r s =
       let left = column_of c.first c.at_first in
       let right = column_of c.last c.at_last in
@@ -255,27 +268,32 @@ module _ (bit : ℤ → ℤ → Bool) (base : ℤ) (n : ℕ) where
   -- the bit of the glyph in its box
   cell : (box : Box) (col row : ℤ) → is_in_box box col row ≡ true
       → get_or (get_or (each_number (line_of bit box) 0 box.height) (box.height - 1 - steps box.bottom row) []) (steps box.left col)
-          false ≡ bit col row
+      false ≡ bit col row
   cell box col row h =
       let x = in_columns box col row h in
       let y = in_rows box col row h in
       let across = steps_below box.left col box.width x in
       let up = steps_below box.bottom row box.height y in
       let col_is : box.left +ℤ pos (0 + steps box.left col) ≡ col =
-              let e = steps_above box.left col (from_true box.left col box.width x).0 in omega (arith, signed_linear, e) in
+      let e = steps_above box.left col (from_true box.left col box.width x).0 in omega (arith, signed_linear, e) in
       let row_is : box.bottom +ℤ pos (box.height - 1 - (0 + (box.height - 1 - steps box.bottom row))) ≡ row
       = let e = steps_above box.bottom row (from_true box.bottom row box.height y).0 in omega (arith, signed_linear, e, up) in
       ap (λ (l : List Bool). get_or l (steps box.left col) false)
-          (get_numbered (line_of bit box) 0 box.height (box.height - 1 - steps box.bottom row) [] (omega (arith, up)))
+      (get_numbered (line_of bit box) 0 box.height (box.height - 1 - steps box.bottom row) [] (omega (arith, up)))
       ∙ get_numbered (λ c. bit (box.left +ℤ pos c)
-          (box.bottom +ℤ pos (box.height - 1 - (0 + (box.height - 1 - steps box.bottom row))))) 0 box.width (steps box.left col)
-          false across
+      (box.bottom +ℤ pos (box.height - 1 - (0 + (box.height - 1 - steps box.bottom row))))) 0 box.width (steps box.left col)
+      false across
       ∙ ap₂ bit col_is row_is
 
   abbrev glyph_at : ℕ → ℤ → ℤ → Reach has_column n → Reach has_row n → Glyph
   glyph_at code swidth dwidth c r =
-      record { code = code; swidth = swidth; dwidth = dwidth; box = box_of c r;
-          rows = each_number (line_of bit (box_of c r)) 0 (r.last - r.first + 1) }
+      record {
+        code = code;
+        swidth = swidth;
+        dwidth = dwidth;
+        box = box_of c r;
+        rows = each_number (line_of bit (box_of c r)) 0 (r.last - r.first + 1);
+      }
 
   bits_at : (code : ℕ) (swidth dwidth : ℤ) (c : Reach has_column n) (r : Reach has_row n) → AreSmall bit base n
       → (col row : ℤ) (t : Bool) → is_in_box (box_of c r) col row ≡ t
@@ -284,7 +302,7 @@ module _ (bit : ℤ → ℤ → Bool) (base : ℤ) (n : ℕ) where
       inside_box (glyph_at code swidth dwidth c r) col row e ∙ cell (box_of c r) col row e
   bits_at code swidth dwidth c r s col row false e =
       outside_box (glyph_at code swidth dwidth c r) col row e ∙
-          sym (not_true (bit col row) (λ h. not_both (is_in_box (box_of c r) col row) e (holds_of c r s col row h)))
+      sym (not_true (bit col row) (λ h. not_both (is_in_box (box_of c r) col row) e (holds_of c r s col row h)))
 
   glyph_in : (code : ℕ) (swidth dwidth : ℤ) (c : Reach has_column n) (r : Reach has_row n) → AreSmall bit base n
       → (g : Glyph) × IsTrimmed code swidth dwidth bit g
@@ -304,7 +322,7 @@ module _ (bit : ℤ → ℤ → Bool) (base : ℤ) (n : ℕ) where
   trimmed code swidth dwidth s = elim (reach has_column n) [
     | inl none ↦ bare bit code swidth dwidth (λ col row. not_true (bit col row) (λ h.
         let f = steps_of s col row h in not_both (has_column f.across.at) (none f.across.at f.across.below)
-            (in_column f.across.at f.up.at f.up.below f.here)))
+        (in_column f.across.at f.up.at f.up.below f.here)))
     | inr c ↦ elim (reach has_row n) [
       | inl none ↦ let j = column_of c.first c.at_first in
           absurd (not_both (has_row j.0) (none j.0 j.1) (in_row c.first j.0 (omega (arith, c.order, c.below)) j.2))

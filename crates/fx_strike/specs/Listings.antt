@@ -56,12 +56,12 @@ pub record IsNotListed (program : Result (List ℕ) Refusal) (old new : Option (
 
 -- the writer failed: the program exists, exactly the first n bytes of its listing were written, and the writer counted one fault
 pub record IsListedTo (program : Result (List ℕ) Refusal) (old new : Option (List ℕ)) (faults_before faults_after n : ℕ) : Type 0
-    where
-  pub code : List ℕ
-  pub is : program ≡ Ok code
-  pub short : n < length (listing_text code)
-  pub written : Appends old new (take n (listing_text code))
-  pub fault : faults_after ≡ faults_before + 1
+  where
+    pub code : List ℕ
+    pub is : program ≡ Ok code
+    pub short : n < length (listing_text code)
+    pub written : Appends old new (take n (listing_text code))
+    pub fault : faults_after ≡ faults_before + 1
 
 -- a refusal other than a fault of the writer
 abbrev pub IsNoFault : Refusal → Type 0

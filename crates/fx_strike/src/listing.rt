@@ -79,7 +79,7 @@ pub fn listing_of<W: Sink>(font: &[u8], what: Which, out: &mut W) -> Result<(), 
     // The first cause was named, nothing was written, and the writer counted no fault.
     ensures cause { IfErr result (λ refusal. IsNoFault refusal →
         IsNotListed (program_of font.now what) (W.held out.old) (W.held out.new)
-            (W.fault_count out.old) (W.fault_count out.new) refusal) }
+        (W.fault_count out.old) (W.fault_count out.new) refusal) }
     // The program exists, exactly the first n bytes of its listing were written, and the writer counted one fault.
     ensures writer { (n : ℕ) → IsErrOf result (Refusal.WriteFailed n) →
         IsListedTo (program_of font.now what) (W.held out.old) (W.held out.new) (W.fault_count out.old) (W.fault_count out.new) n }

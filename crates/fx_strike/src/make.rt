@@ -59,10 +59,7 @@ fn check(request: &Request<'_>) -> Result<Ppem, Refusal>
 
 /// The size, the font and its character map, for a request that passes its checks. No memory is taken.
 #[tactic(auto, unfolding(crate::specs::Strike::opened_of))]
-fn open<'a>(
-    file: &'a [u8],
-    request: &Request<'_>,
-) -> Result<(Ppem, Font<'a>, CharMap<'a>), Refusal>
+fn open<'a>(file: &'a [u8], request: &Request<'_>) -> Result<(Ppem, Font<'a>, CharMap<'a>), Refusal>
     ensures due { result ≡ opening_of file.now request.now }
     ensures named { IfErr result IsCause }
     ensures passed { OnOk result (IsChecked request.now) }
@@ -79,7 +76,10 @@ fn whole_pixels(units: i32, ppem: Ppem, em: u16) -> i32
     requires em { 16 ≤ em }
     ensures { result ≡ pixels units ppem em }
 {
-    near(i128::from(units) * i128::from(ppem.pixels()), i128::from(em)) as i32
+    near(
+        i128::from(units) * i128::from(ppem.pixels()),
+        i128::from(em),
+    ) as i32
 }
 
 /// The numbers in the lines before the glyphs.
@@ -209,7 +209,7 @@ pub fn make_strike_with<S: Scan, W: Sink>(
     // The first cause was named, nothing was written, and the writer counted no fault.
     ensures cause { IfErr result (λ refusal. HasToName refusal →
         Cause (strike_of font.now request.now) (W.held out.old) (W.held out.new)
-            (W.fault_count out.old) (W.fault_count out.new) refusal) }
+        (W.fault_count out.old) (W.fault_count out.new) refusal) }
     // Nothing was written, or the strike exists and a beginning of its text was written; and the writer counted no fault.
     ensures memory { IsErrOf result Refusal.OutOfMemory →
         Memory (strike_of font.now request.now) (W.held out.old) (W.held out.new) (W.fault_count out.old) (W.fault_count out.new) }
@@ -218,7 +218,7 @@ pub fn make_strike_with<S: Scan, W: Sink>(
     // The strike exists, exactly the first n bytes of its text were written, and the writer counted one fault.
     ensures writer { (n : ℕ) → IsErrOf result (Refusal.WriteFailed n) →
         Writer (strike_of font.now request.now) (W.held out.old) (W.held out.new)
-            (W.fault_count out.old) (W.fault_count out.new) n }
+        (W.fault_count out.old) (W.fault_count out.new) n }
 {
     make_strike_inner(alloc, scan, font, request, out)
 }
@@ -239,7 +239,7 @@ pub fn make_strike<W: Sink>(
     // The first cause was named, nothing was written, and the writer counted no fault.
     ensures cause { IfErr result (λ refusal. HasToName refusal →
         Cause (strike_of font.now request.now) (W.held out.old) (W.held out.new)
-            (W.fault_count out.old) (W.fault_count out.new) refusal) }
+        (W.fault_count out.old) (W.fault_count out.new) refusal) }
     // Nothing was written, or the strike exists and a beginning of its text was written; and the writer counted no fault.
     ensures memory { IsErrOf result Refusal.OutOfMemory →
         Memory (strike_of font.now request.now) (W.held out.old) (W.held out.new) (W.fault_count out.old) (W.fault_count out.new) }
@@ -248,7 +248,7 @@ pub fn make_strike<W: Sink>(
     // The strike exists, exactly the first n bytes of its text were written, and the writer counted one fault.
     ensures writer { (n : ℕ) → IsErrOf result (Refusal.WriteFailed n) →
         Writer (strike_of font.now request.now) (W.held out.old) (W.held out.new)
-            (W.fault_count out.old) (W.fault_count out.new) n }
+        (W.fault_count out.old) (W.fault_count out.new) n }
 {
     make_strike_inner(alloc, &Rows, font, request, out)
 }

@@ -15,13 +15,13 @@ returns-then-is_empty c = elim c.then-is_empty.branch [
 pub overflow_mul-number : goal.overflow_mul-number
 overflow_mul-number c =
     let top : c.digits.number < 16777216 =
-        below_top c.digits.digit-index c.digits.number (omega arith) c.digits.invariant.bound in
+    below_top c.digits.digit-index c.digits.number (omega arith) c.digits.invariant.bound in
     omega arith
 
 pub overflow_add-number : goal.overflow_add-number
 overflow_add-number c =
     let top : c.digits.number < 16777216 =
-        below_top c.digits.digit-index c.digits.number (omega arith) c.digits.invariant.bound in
+    below_top c.digits.digit-index c.digits.number (omega arith) c.digits.invariant.bound in
     omega (arith, c.in_ok-digit_value.ensures.bound)
 
 pub digits-preserved : goal.digits-preserved
@@ -40,7 +40,7 @@ returns-in_err-digit_value c =
     = number_after_none c.digits.number c.digits.digit-index c.as_bytes-digits.result.now (omega arith) (search rules) in
     let none : c.from_residual.result ≡ None = search rules in
     none ∙ sym (ap number_of (sym text_is) ∙ number_of_is c.as_bytes-digits.result.now some (omega arith) ∙
-        c.digits.invariant.so_far ∙ stops)
+    c.digits.invariant.so_far ∙ stops)
 
 pub returns : goal.returns
 returns c =
@@ -49,4 +49,4 @@ returns c =
     let stops : number_after c.digits.number (drop c.digits.digit-index c.as_bytes-digits.result.now) ≡ Some c.digits.number
     = number_after_end c.digits.number c.digits.digit-index c.as_bytes-digits.result.now (omega arith) in
     sym (ap number_of (sym text_is) ∙ number_of_is c.as_bytes-digits.result.now some (omega arith) ∙ c.digits.invariant.so_far ∙
-        stops)
+    stops)

@@ -9,4 +9,4 @@ unfolding dump_app
 returns c =
     let one = c.in_ok-arg.ensures.shape c.option.ensures.local ∙ ap₂ with_rule c.new.ensures.app c.option.ensures.rule in
     IfOk-weaker c.arg-2.result _ _ (λ command h. h.shape c.flag.ensures.local ∙ ap₂ with_rule one c.flag.ensures.rule)
-        c.arg-2.ensures
+    c.arg-2.ensures

@@ -12,4 +12,4 @@ returns c =
     let three = c.in_ok-arg-3.ensures.shape c.option-3.ensures.local ∙ ap₂ with_rule two c.option-3.ensures.rule in
     let four = c.in_ok-arg-4.ensures.shape c.flag.ensures.local ∙ ap₂ with_rule three c.flag.ensures.rule in
     IfOk-weaker c.arg-5.result _ _ (λ command h. h.shape c.flag-2.ensures.local ∙ ap₂ with_rule four c.flag-2.ensures.rule)
-        c.arg-5.ensures
+    c.arg-5.ensures

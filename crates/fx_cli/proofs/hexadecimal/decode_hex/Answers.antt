@@ -8,7 +8,7 @@ pub returns-in-Ok-clause-bytes : goal.returns-in-Ok-clause-bytes
 unfolding bytes_of_hex
 returns-in-Ok-clause-bytes c =
     ap (λ (digits : List ℕ). result_ok (decode_of digits)) (sym c.in_ok-digits.ensures) ∙ ap (result_ok {T = List ℕ})
-        c.in-Ok.ensures.ok
+    c.in-Ok.ensures.ok
 
 pub returns-in-Err-clause-refused : goal.returns-in-Err-clause-refused
 unfolding bytes_of_hex
@@ -16,7 +16,10 @@ returns-in-Err-clause-refused c = elim c.in-Err.ensures.err [
   | inl e ↦ inl (c.refusal_of.ensures.memory e)
   | inr e ↦ elim c.refusal_of.ensures.cases [
     | inl memory ↦ inl memory
-    | inr bad ↦ inr (bad, ap (λ (digits : List ℕ). result_ok (decode_of digits)) (sym c.in_ok-digits.ensures) ∙
-        ap (result_ok {T = List ℕ}) e)
+    | inr bad ↦ inr (
+      bad,
+      ap (λ (digits : List ℕ). result_ok (decode_of digits)) (sym c.in_ok-digits.ensures) ∙
+          ap (result_ok {T = List ℕ}) e,
+    )
   ]
 ]

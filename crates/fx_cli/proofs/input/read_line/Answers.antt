@@ -6,8 +6,8 @@ use Rattle.fx_cli.proofs.input.read_line.Goals as goal
 pub returns-then-end-filled-clause-read : goal.returns-then-end-filled-clause-read
 returns-then-end-filled-clause-read g c =
     filled_more (g.R.Source.left c.args.reader.now) (g.R.Source.left c.reading.reader) (g.R.Source.left c.take.new.self)
-        c.reading.buffer c.take.new.buffer c.reading.filled c.in-Some.n c.reading.invariant.within c.in-Some.ensures.count
-        c.reading.invariant.took c.in-Some.ensures.bytes
+    c.reading.buffer c.take.new.buffer c.reading.filled c.in-Some.n c.reading.invariant.within c.in-Some.ensures.count
+    c.reading.invariant.took c.in-Some.ensures.bytes
 
 pub reading-preserved : goal.reading-preserved
 reading-preserved g c = record {
@@ -16,7 +16,7 @@ reading-preserved g c = record {
       c.reading.invariant.took c.in-Some.ensures.bytes;
   no_line =
       let most = length_take_most (c.reading.filled + c.in-Some.n)
-          (put_mid c.reading.filled (length c.reading.buffer - c.reading.filled) c.reading.buffer c.take.new.buffer) in
+      (put_mid c.reading.filled (length c.reading.buffer - c.reading.filled) c.reading.buffer c.take.new.buffer) in
       omega (arith, c.line_len-end.ensures.value, c.line_len-end.ensures.bound);
   within = filled_within c.reading.buffer c.take.new.buffer c.reading.filled c.in-Some.n c.reading.invariant.within
       c.in-Some.ensures.count;

@@ -6,8 +6,13 @@ use Rattle.fx_cli.proofs.input.read_on.Goals as goal
 pub returns-in_err-extend_from_slice-in-Some-clause-cut : goal.returns-in_err-extend_from_slice-in-Some-clause-cut
 returns-in_err-extend_from_slice-in-Some-clause-cut g c =
     let p = err_from_is_err_and c.from_residual-in_err-extend_from_slice-in-Some.result
-            c.from_residual-in_err-extend_from_slice-in-Some.ensures.1 in
-    rw (p.1, p.2) (c.reading.invariant.got ++ take c.in-Some.n c.take.new.buffer, Consumes-trans (g.R.Source.left c.args.reader.now)
-        (g.R.Source.left c.reading.reader) (g.R.Source.left c.take.new.self) c.reading.invariant.got
-        (take c.in-Some.n c.take.new.buffer) c.reading.invariant.took c.in-Some.ensures.bytes, tt, λ e.
-        absurd (true≢false (sym e ∙ c.if-ended.false)))
+    c.from_residual-in_err-extend_from_slice-in-Some.ensures.1 in
+    rw (p.1, p.2) (
+      c.reading.invariant.got ++ take c.in-Some.n c.take.new.buffer,
+      Consumes-trans (g.R.Source.left c.args.reader.now)
+          (g.R.Source.left c.reading.reader) (g.R.Source.left c.take.new.self) c.reading.invariant.got
+          (take c.in-Some.n c.take.new.buffer) c.reading.invariant.took c.in-Some.ensures.bytes,
+      tt,
+      λ e.
+          absurd (true≢false (sym e ∙ c.if-ended.false)),
+    )

@@ -15,7 +15,7 @@ returns-in_default g c =
     let given : List Word = map (λ (word : Bor (List ℕ)). word.now) c.args.words.now in
     let first : List ℕ = take c.in_ok-filled.filled c.read_line.new.buffer in
     let all : length first ≡ c.in_ok-filled.filled =
-            length-take-le c.in_ok-filled.filled c.read_line.new.buffer (omega (arith, c.in_ok-filled.ensures.sizes.1)) in
+    length-take-le c.in_ok-filled.filled c.read_line.new.buffer (omega (arith, c.in_ok-filled.ensures.sizes.1)) in
     let P : List ℕ → Type 0 = λ xs. IsUtf8 xs → ⊥ in
     record {
       got = first;
@@ -40,15 +40,15 @@ returns-in_err-wish g c =
     let given : List Word = map (λ (word : Bor (List ℕ)). word.now) c.args.words.now in
     let first : List ℕ = take c.in_ok-filled.filled c.read_line.new.buffer in
     let all : length first ≡ c.in_ok-filled.filled =
-            length-take-le c.in_ok-filled.filled c.read_line.new.buffer (omega (arith, c.in_ok-filled.ensures.sizes.1)) in
+    length-take-le c.in_ok-filled.filled c.read_line.new.buffer (omega (arith, c.in_ok-filled.ensures.sizes.1)) in
     let line_is : c.in-Ok.line.now ≡ line_of first = c.in-Ok.ensures.cases.0 ∙ c.cut_line.ensures.line in
     let words_are : map (λ (word : Bor (List ℕ)). word.now) c.deref.result.now ≡ called given ∷ words_of_line (line_of first)
     = ap (map (λ (word : Bor (List ℕ)). word.now)) c.deref.ensures.value ∙ c.in_ok-words.ensures ∙
-        ap₂ (λ (p l : List ℕ). p ∷ words_of_line l) c.program_name.ensures line_is in
+    ap₂ (λ (p l : List ℕ). p ∷ words_of_line l) c.program_name.ensures line_is in
     let p = err_from_is_err_and c.from_residual-in_err-wish.result c.from_residual-in_err-wish.ensures.1 in
     rw (p.1, p.2) (unread given _ first c.in_err-wish.field-0.0 (few_words c.args.words.now c.requires.given)
-        (omega (arith, all, c.in_ok-filled.ensures.sizes.1)) c.in_ok-filled.ensures.quiet c.in_ok-filled.ensures.read
-        (keeps_same (g.O.Sink.held c.args.out.now)) refl (elim c.in_err-wish.ensures.fault [
+    (omega (arith, all, c.in_ok-filled.ensures.sizes.1)) c.in_ok-filled.ensures.quiet c.in_ok-filled.ensures.read
+    (keeps_same (g.O.Sink.held c.args.out.now)) refl (elim c.in_err-wish.ensures.fault [
       | inl e ↦ inl e
       | inr (e, none) ↦ inr (
         e,
@@ -67,7 +67,7 @@ returns g c =
     let given : List Word = map (λ (word : Bor (List ℕ)). word.now) c.args.words.now in
     let first : List ℕ = take c.in_ok-filled.filled c.read_line.new.buffer in
     let all : length first ≡ c.in_ok-filled.filled =
-            length-take-le c.in_ok-filled.filled c.read_line.new.buffer (omega (arith, c.in_ok-filled.ensures.sizes.1)) in
+    length-take-le c.in_ok-filled.filled c.read_line.new.buffer (omega (arith, c.in_ok-filled.ensures.sizes.1)) in
     let line_is : c.in-Ok.line.now ≡ line_of first = c.in-Ok.ensures.cases.0 ∙ c.cut_line.ensures.line in
     let change : Change = record {
       left_before = g.R.Source.left c.read_line.new.reader;
@@ -80,8 +80,8 @@ returns g c =
       writer_faults = g.O.Sink.fault_count c.run_wish.new.out;
     } in
     line_ends {given = given} {first = first} {front = c.cut_line.result.1.now}
-        {ended = c.in_ok-filled.end == c.in_ok-filled.filled} {before = g.R.Source.left c.args.reader.now}
-        {words = map (λ (word : Bor (List ℕ)). word.now) c.deref.result.now}
+    {ended = c.in_ok-filled.end == c.in_ok-filled.filled} {before = g.R.Source.left c.args.reader.now}
+    {words = map (λ (word : Bor (List ℕ)). word.now) c.deref.result.now}
     (g.R.Source.fault_count c.args.reader.now) _ (seen c.in_ok-wish.wish) change (sym c.in_ok-filled.ensures.quiet)
     (record {
       none = few_words c.args.words.now c.requires.given;

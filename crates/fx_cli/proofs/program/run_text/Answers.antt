@@ -8,13 +8,13 @@ pub returns-in_ok-font : goal.returns-in_ok-font
 returns-in_ok-font g c =
     let decoded : font_bytes c.args.wish.now.hex c.args.text.now ≡ Some c.deref.result.now
     = ap (λ (b : Bool). font_bytes b c.args.text.now) c.if-wish.true ∙
-        (c.in_ok-font.ensures.bytes ∙ ap Some (sym c.deref.ensures.value)) in
+    (c.in_ok-font.ensures.bytes ∙ ap Some (sym c.deref.ensures.value)) in
     rw c.late.ensures (text_done (seen c.args.wish.now) c.args.chars.now c.args.text.now _ c.deref.result.now decoded
-        c.run_task.result c.run_task.ensures)
+    c.run_task.result c.run_task.ensures)
 
 pub returns-else-wish : goal.returns-else-wish
 returns-else-wish g c =
     let decoded : font_bytes c.args.wish.now.hex c.args.text.now ≡ Some c.args.text.now
     = ap (λ (b : Bool). font_bytes b c.args.text.now) c.if-wish.false in
     rw c.late-else-wish.ensures (text_done (seen c.args.wish.now) c.args.chars.now c.args.text.now _ c.args.text.now decoded
-        c.run_task-else-wish.result c.run_task-else-wish.ensures)
+    c.run_task-else-wish.result c.run_task-else-wish.ensures)

@@ -7,4 +7,4 @@ pub returns-in_err-wish : goal.returns-in_err-wish
 returns-in_err-wish g c =
     let p = err_from_is_err_and c.from_residual.result c.from_residual.ensures.1 in
     rw (p.1, p.2) (unasked _ _ c.in_err-wish.field-0.0 (many_words c.args.words.now c.requires.given) refl refl refl refl
-        c.in_err-wish.ensures.fault)
+    c.in_err-wish.ensures.fault)

@@ -17,8 +17,11 @@ returns-in_err-matches-clause-fault c =
     let p = err_from_is_err_and c.from_residual-in_err-matches.result c.from_residual-in_err-matches.ensures.1 in
     rw (p.1, p.2) (elim c.in_err-matches.ensures.refused [
       | inl memory ↦ inl memory
-      | inr (usage, none) ↦ inr (usage, wish_of_none make_of_rows (rows_by make_app words)
-          (ap (λ (a : App). rows_by a words) (sym c.in_ok-make_command.ensures) ∙ none))
+      | inr (usage, none) ↦ inr (
+        usage,
+        wish_of_none make_of_rows (rows_by make_app words)
+            (ap (λ (a : App). rows_by a words) (sym c.in_ok-make_command.ensures) ∙ none),
+      )
     ])
 
 pub returns-clause-wish : goal.returns-clause-wish
@@ -26,7 +29,7 @@ returns-clause-wish c =
     let words : List Text = map (λ (word : Bor (List ℕ)). word.now) c.args.words.now in
     let rows = ap (λ (a : App). rows_by a words) (sym c.in_ok-make_command.ensures) ∙ c.in_ok-matches.ensures.taken in
     let taken : wish_of_make words ≡ option_map seen c.make_of.result =
-            wish_of_some make_of_rows (rows_by make_app words) _ _ rows c.make_of.ensures in
+    wish_of_some make_of_rows (rows_by make_app words) _ _ rows c.make_of.ensures in
     rw c.ok_or.ensures.value (ok_wish (wish_of_make words) c.make_of.result taken)
 
 pub returns-clause-fault : goal.returns-clause-fault
@@ -34,5 +37,5 @@ returns-clause-fault c =
     let words : List Text = map (λ (word : Bor (List ℕ)). word.now) c.args.words.now in
     let rows = ap (λ (a : App). rows_by a words) (sym c.in_ok-make_command.ensures) ∙ c.in_ok-matches.ensures.taken in
     let taken : wish_of_make words ≡ option_map seen c.make_of.result =
-            wish_of_some make_of_rows (rows_by make_app words) _ _ rows c.make_of.ensures in
+    wish_of_some make_of_rows (rows_by make_app words) _ _ rows c.make_of.ensures in
     rw c.ok_or.ensures.value (no_wish (wish_of_make words) c.make_of.result taken)

@@ -6,8 +6,13 @@ use Rattle.fx_machine.proofs.run.run.Goals as goal
 use Rattle.fx_machine.proofs.run.run.Goals.{else-ended-via-then-ended+else-is_empty, else-ended-via-else-ended}
 
 pub steps-init : goal.steps-init
-steps-init c = record { answer = search rules; code = c.code-code.ensures; counted = omega arith;
-    shapes = shapes_same c.args.state.now.zones; sizes = sized c.args.state.now }
+steps-init c = record {
+  answer = search rules;
+  code = c.code-code.ensures;
+  counted = omega arith;
+  shapes = shapes_same c.args.state.now.zones;
+  sizes = sized c.args.state.now;
+}
 
 pub returns-then-is_empty-clause-value : goal.returns-then-is_empty-clause-value
 returns-then-is_empty-clause-value c =
@@ -16,20 +21,26 @@ returns-then-is_empty-clause-value c =
 pub returns-then-steps-limit-clause-value : goal.returns-then-steps-limit-clause-value
 returns-then-steps-limit-clause-value c = rw (c.halted.ensures, c.steps.invariant.code)
     (limit_here _ _ _ _ _ _ c.steps.calls.frames.items _ _ c.steps.invariant.answer c.if-steps-limit.true
-    (elim c.else-ended.branch [ else-ended-via-then-ended+else-is_empty w ↦ (λ e z. grind arith) | else-ended-via-else-ended w ↦
-        (λ e z. w.if-ended.false (cc)) ]))
+    (elim c.else-ended.branch [
+      | else-ended-via-then-ended+else-is_empty w ↦ (λ e z. grind arith)
+      | else-ended-via-else-ended w ↦
+          (λ e z. w.if-ended.false (cc))
+    ]))
 
 pub returns-then-ended-2-clause-value : goal.returns-then-ended-2-clause-value
 returns-then-ended-2-clause-value c = rw (c.halted-then-ended-2.ensures, c.steps.invariant.code)
     (stray_here _ _ _ _ c.steps.state _ c.steps.calls.frames.items _ _ c.steps.invariant.answer (omega arith) (cc)
-    (elim c.else-ended.branch [ else-ended-via-then-ended+else-is_empty w ↦ grind arith | else-ended-via-else-ended w ↦
-        absurd (w.if-ended.false c.if-ended-2.true) ]))
+    (elim c.else-ended.branch [
+      | else-ended-via-then-ended+else-is_empty w ↦ grind arith
+      | else-ended-via-else-ended w ↦
+          absurd (w.if-ended.false c.if-ended-2.true)
+    ]))
 
 pub returns-in-Err-clause-value : goal.returns-in-Err-clause-value
 returns-in-Err-clause-value c =
     rw (c.halted-in-Err.ensures, c.steps.invariant.code)
-        (halted_here _ _ _ _ c.steps.state _ c.steps.calls.frames.items _ _ c.steps.invariant.answer _ (omega arith)
-        (rw c.steps.invariant.code at c.in-Err.ensures.moved))
+    (halted_here _ _ _ _ c.steps.state _ c.steps.calls.frames.items _ _ c.steps.invariant.answer _ (omega arith)
+    (rw c.steps.invariant.code at c.in-Err.ensures.moved))
 
 pub returns-in-Err-clause-shapes : goal.returns-in-Err-clause-shapes
 returns-in-Err-clause-shapes c = shapes_then _ _ _ c.steps.invariant.shapes c.in-Err.ensures.shapes

@@ -17,13 +17,13 @@ pub returns-in_err-gathered : goal.returns-in_err-gathered
 returns-in_err-gathered g c =
     let p = err_from_is_err_and c.from_residual-in_err-gathered.result c.from_residual-in_err-gathered.ensures.1 in
     ungathered c.args.font.now c.args.map.now c.args.ppem c.args.request.now.name.now c.args.request.now.chars.now
-        c.deref.result.now
+    c.deref.result.now
     c.from_residual-in_err-gathered.result p.0 c.in_err-gathered.field-0.0 p.1 p.2
     (c.deref.ensures.value ∙ c.in_ok-codes.ensures) c.in_err-gathered.ensures
 
 pub returns : goal.returns
 returns g c =
     finished c.args.font.now c.args.map.now c.args.ppem c.args.request.now.name.now c.args.request.now.chars.now c.deref.result.now
-        c.in_ok-gathered.gathered c.heading-header.result c.finish.result
+    c.in_ok-gathered.gathered c.heading-header.result c.finish.result
     (c.deref.ensures.value ∙ c.in_ok-codes.ensures) c.in_ok-gathered.ensures c.heading-header.ensures c.finish.ensures.ok
-        c.finish.ensures.err
+    c.finish.ensures.err

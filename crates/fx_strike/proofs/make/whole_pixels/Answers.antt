@@ -5,6 +5,6 @@ use Rattle.fx_strike.proofs.make.whole_pixels.Goals as goal
 pub returns : goal.returns
 returns c =
     whole_is c.args.units c.args.ppem c.args.em c.from.result c.from-2.result c.from-3.result c.near.result c.ranges.units
-        c.requires.units (most c.pixels.ensures.value c.pixels.ensures.valid) (search rules)
+    c.requires.units (most c.pixels.ensures.value c.pixels.ensures.valid) (search rules)
     c.from.ensures (c.from-2.ensures ∙ ap pos c.pixels.ensures.value) c.from-3.ensures
     c.near.ensures.value c.near.ensures.bound
