@@ -424,8 +424,32 @@ fn ran(
     Ok(())
 }
 
-// The first program defines a function and writes storage, a control value and the twilight point, and halts or not; the programs
-// after it see nothing of that.
+// The places of the corners of a square that nothing moves.
+const RESTING: [i32; 4] = [0, 90, 90, 0];
+
+// A program that shifts point 1 by a storage cell.
+const BY_STORAGE: &str = "b1 01 00 43 38";
+
+// Runs a program, and then programs that shift point 1 by a storage cell, by a control value and by the place of the twilight point,
+// and one that calls function 1: they see nothing of what it did.
+fn ran_apart(
+    rt: &impl Abort,
+    alloc: Global,
+    machine: &mut Machine,
+    first: &str,
+    want: Result<Ran, Halt>,
+) -> Result<(), Fail> {
+    let control = "b1 01 00 45 38";
+    let twilight = "b0 01 b0 00 15 b0 00 46 b0 01 15 38";
+    let missing = halt(Cause::NoFunction, 2, 0x2B);
+    ran(rt, alloc, machine, first, want, RESTING)?;
+    ran(rt, alloc, machine, BY_STORAGE, steps(3), RESTING)?;
+    ran(rt, alloc, machine, control, steps(3), RESTING)?;
+    ran(rt, alloc, machine, twilight, steps(8), RESTING)?;
+    ran(rt, alloc, machine, "b0 01 2b", missing, RESTING)
+}
+
+// The first program defines a function and writes storage, a control value and the twilight point, and halts or not.
 #[test]
 fn nothing_is_kept_between_glyphs(rt: HostRuntime) -> Result<(), Fail> {
     let alloc = rt.alloc();
@@ -435,37 +459,23 @@ fn nothing_is_kept_between_glyphs(rt: HostRuntime) -> Result<(), Fail> {
     };
     let file = with_tables(alloc, &tables)?;
     let mut machine = machine(alloc, file.as_slice())?.ok().ok_or("a halt")?;
-    let resting = [0, 90, 90, 0];
-    // Point 1 is shifted by a storage cell, by a control value, by the place of the twilight point.
-    let storage = "b1 01 00 43 38";
-    let control = "b1 01 00 45 38";
-    let twilight = "b0 01 b0 00 15 b0 00 46 b0 01 15 38";
-    let missing = halt(Cause::NoFunction, 2, 0x2B);
-    for end in ["", "91"] {
-        let want = if end.is_empty() {
-            steps(10)
-        } else {
-            halt(Cause::BadOpcode, 19, 0x91)
-        };
-        let first = format!(in alloc;
-            "b0 01 2c 2d b1 00 40 42 b1 00 40 44 b0 00 16 b1 00 40 3a {end}"
-        )?;
-        ran(&rt, alloc, &mut machine, &first, want, resting)?;
-        ran(&rt, alloc, &mut machine, storage, steps(3), resting)?;
-        ran(&rt, alloc, &mut machine, control, steps(3), resting)?;
-        ran(&rt, alloc, &mut machine, twilight, steps(8), resting)?;
-        ran(&rt, alloc, &mut machine, "b0 01 2b", missing, resting)?;
-    }
-    let within_one = "b1 00 40 42 b1 01 00 43 38";
-    ran(
-        &rt,
-        alloc,
-        &mut machine,
-        within_one,
-        steps(5),
-        [0, 154, 90, 0],
-    )?;
-    ran(&rt, alloc, &mut machine, storage, steps(3), resting)
+    let ends = "b0 01 2c 2d b1 00 40 42 b1 00 40 44 b0 00 16 b1 00 40 3a";
+    ran_apart(&rt, alloc, &mut machine, ends, steps(10))?;
+    let halts = "b0 01 2c 2d b1 00 40 42 b1 00 40 44 b0 00 16 b1 00 40 3a 91";
+    let at_its_end = halt(Cause::BadOpcode, 19, 0x91);
+    ran_apart(&rt, alloc, &mut machine, halts, at_its_end)
+}
+
+// Storage that one program writes and reads moves point 1, and the next program does not see it.
+#[test]
+fn storage_within_a_program(rt: HostRuntime) -> Result<(), Fail> {
+    let alloc = rt.alloc();
+    let file = with_tables(alloc, &NO_TABLES)?;
+    let mut machine = machine(alloc, file.as_slice())?.ok().ok_or("a halt")?;
+    let within = "b1 00 40 42 b1 01 00 43 38";
+    let moved = [0, 154, 90, 0];
+    ran(&rt, alloc, &mut machine, within, steps(5), moved)?;
+    ran(&rt, alloc, &mut machine, BY_STORAGE, steps(3), RESTING)
 }
 
 // `prep` sets the delta base to 10: a delta for 16 at the base 9 is one for 17, but if INSTCTRL asks for the default state.
