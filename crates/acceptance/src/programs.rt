@@ -518,39 +518,38 @@ fn the_state_that_prep_leaves(rt: HostRuntime) -> Result<(), Fail> {
     run(&rt, rt.alloc(), &PREPARED)
 }
 
-// INSTCTRL while `prep` runs, in a program of a glyph, and while `fpgm` runs.
+// INSTCTRL that asks for no programs of glyphs.
+const NO_PROGRAMS: &str = "b1 01 01 8e";
+
+// What a machine of a font with these tables says of programs of glyphs.
+fn skips(rt: &impl Abort, alloc: Global, tables: &Tables, want: bool) -> Result<(), Fail> {
+    let file = with_tables(alloc, tables)?;
+    let machine = machine(alloc, file.as_slice())?.ok().ok_or("a halt")?;
+    assert!(rt; machine.skips_programs() == want);
+    Ok(())
+}
+
 #[test]
-fn what_prep_asks_for(rt: HostRuntime) -> Result<(), Fail> {
+fn only_prep_asks_for_no_programs(rt: HostRuntime) -> Result<(), Fail> {
     let alloc = rt.alloc();
     let in_prep = Tables {
-        prep: "b1 01 01 8e",
+        prep: NO_PROGRAMS,
         ..NO_TABLES
     };
-    let file = with_tables(alloc, &in_prep)?;
-    let first = machine(alloc, file.as_slice())?.ok().ok_or("a halt")?;
-    assert!(rt; first.skips_programs());
-    assert!(rt;
-        first.prelude()
-            == Ran {
-                steps: 2,
-                strays: 0
-            }
-    );
     let in_fpgm = Tables {
-        fpgm: "b1 01 01 8e",
+        fpgm: NO_PROGRAMS,
         ..NO_TABLES
     };
-    let file = with_tables(alloc, &in_fpgm)?;
-    let mut second = machine(alloc, file.as_slice())?.ok().ok_or("a halt")?;
-    assert!(rt; !second.skips_programs());
-    ran(
-        &rt,
-        alloc,
-        &mut second,
-        "b1 01 01 8e",
-        steps(2),
-        [0, 90, 90, 0],
-    )?;
-    assert!(rt; !second.skips_programs());
+    skips(&rt, alloc, &in_prep, true)?;
+    skips(&rt, alloc, &in_fpgm, false)
+}
+
+#[test]
+fn a_glyph_asks_for_no_programs(rt: HostRuntime) -> Result<(), Fail> {
+    let alloc = rt.alloc();
+    let file = with_tables(alloc, &NO_TABLES)?;
+    let mut machine = machine(alloc, file.as_slice())?.ok().ok_or("a halt")?;
+    ran(&rt, alloc, &mut machine, NO_PROGRAMS, steps(2), RESTING)?;
+    assert!(rt; !machine.skips_programs());
     Ok(())
 }
