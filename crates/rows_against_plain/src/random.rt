@@ -85,7 +85,7 @@ impl Random {
     }
 
     /// An outline of this many closed contours.
-    pub fn outline(&mut self, alloc: Global, contours: u32) -> Result<Pieces, AllocError> {
+    pub(crate) fn outline(&mut self, alloc: Global, contours: u32) -> Result<Pieces, AllocError> {
         let mut pieces = Pieces::new(alloc);
         'contours: for _ in 0..contours {
             self.contour(&mut pieces)?;
@@ -94,7 +94,7 @@ impl Random {
     }
 
     /// A frame of at most 64 pixels a side, which may cut an outline off.
-    pub fn frame(&mut self) -> Frame {
+    pub(crate) fn frame(&mut self) -> Frame {
         let left = self.below(40) as i32 - 24;
         let bottom = self.below(40) as i32 - 24;
         Frame {
