@@ -5,16 +5,26 @@
 #[cfg(test)]
 mod cuts;
 #[cfg(test)]
+mod damaged;
+#[cfg(test)]
 mod fonts;
+#[cfg(test)]
+mod hinted;
 #[cfg(test)]
 mod large;
 #[cfg(test)]
 mod listings;
 #[cfg(test)]
+mod maps;
+#[cfg(test)]
 mod programs;
 #[cfg(test)]
 mod scans;
 #[cfg(test)]
+mod sizes;
+#[cfg(test)]
 mod strikes;
+#[cfg(test)]
+mod tables;
 #[cfg(test)]
 mod writers;

@@ -1,79 +1,26 @@
 // Programs of fonts on the machine: worked programs, their limits, and what passes from one to another.
-use crate::fonts::{bytes, fixture, patch};
+use crate::fonts::{bytes, fixture};
+use crate::tables::{self, NO_TABLES, Tables};
 use fx_code::Code;
 use fx_fixed::{F26, Place, Ppem};
-use fx_machine::{Cause, Halt, Machine, MachineFault, Program, Ran};
-use fx_scale::Scale;
-use fx_sfnt::{Font, u32_at};
+use fx_machine::{Cause, FontProgram, Halt, Machine, MachineFault, Ran};
+use fx_sfnt::Font;
 use fx_zone::{Point, Zone};
 use std::alloc::Global;
 use std::process::Abort;
 use std::test::Fail;
 
-// The tables that are added to the fixture, as hexadecimal text.
-#[derive(Clone, Copy, Drop)]
-struct Tables {
-    fpgm: &'static str,
-    prep: &'static str,
-    cvt: &'static str,
-}
-
-const NO_TABLES: Tables = Tables {
-    fpgm: "",
-    prep: "",
-    cvt: "",
-};
-
-// A number in four bytes, the highest first.
-fn put(bytes: &mut Vec<u8>, number: usize) -> Result<(), Fail> {
-    bytes.extend_from_slice(&u32::try_from(number)?.to_be_bytes())?;
-    Ok(())
-}
-
-// The fixture's directory, of seven records, as it is when three more stand behind it.
-fn directory(alloc: Global, fixture: &[u8]) -> Result<Vec<u8>, Fail> {
-    let mut directory = Vec::from_slice(alloc, fixture.get(..124).ok_or("no directory")?)?;
-    patch(&mut directory, 5, &[10])?;
-    for k in 0..7 {
-        let at = 20 + 16 * k;
-        let offset = u32_at(fixture, at).ok_or("no record")?;
-        patch(&mut directory, at, &offset.saturating_add(48).to_be_bytes())?;
-    }
-    Ok(directory)
-}
-
-// The fixture with further tables: their records stand behind the others, they themselves at the end.
+// The fixture with further tables.
 fn with_tables(alloc: Global, tables: &Tables) -> Result<Vec<u8>, Fail> {
     let fixture = fixture(alloc)?;
-    let entries = [
-        ("fpgm", tables.fpgm),
-        ("prep", tables.prep),
-        ("cvt ", tables.cvt),
-    ];
-    let mut font = directory(alloc, &fixture)?;
-    let mut rest = Vec::from_slice(alloc, fixture.get(124..).ok_or("no tables")?)?;
-    for (tag, text) in entries {
-        let table = bytes(alloc, text)?;
-        font.extend_from_slice(tag.as_bytes())?;
-        put(&mut font, 0)?;
-        put(&mut font, rest.len().saturating_add(124 + 48))?;
-        put(&mut font, table.len())?;
-        rest.extend_from_slice(table.as_slice())?;
-    }
-    font.extend_from_slice(rest.as_slice())?;
-    Ok(font)
+    tables::with_tables(alloc, fixture.as_slice(), tables)
 }
 
 // The machine of a font at 16 pixels an em, or the halt of its programs.
 fn machine<'a>(alloc: Global, file: &'a [u8]) -> Result<Result<Machine<'a>, Halt>, Fail> {
     let font = Font::open(file)?;
-    let scale = Scale {
-        ppem: Ppem::new(16).ok_or("no size")?,
-        units_per_em: font.head().units_per_em,
-        ascender: font.hhea().ascender,
-        descender: font.hhea().descender,
-    };
-    match Machine::new(alloc, font, scale) {
+    let ppem = Ppem::new(16).ok_or("no size")?;
+    match Machine::new(alloc, font, ppem) {
         Ok(machine) => Ok(Ok(machine)),
         Err(MachineFault::Halted(halt)) => Ok(Err(halt)),
         Err(fault) => Err(fault.into()),
@@ -147,12 +94,15 @@ fn steps(steps: u32) -> Result<Ran, Halt> {
     Ok(Ran { steps, strays: 0 })
 }
 
+// The number of the glyph whose programs are run.
+const GLYPH: u16 = 5;
+
 // A halt of a glyph's program, in its own bytes.
 fn halt(cause: Cause, address: usize, opcode: u8) -> Result<Ran, Halt> {
     Err(Halt {
         cause,
-        during: Program::Glyph,
-        program: Program::Glyph,
+        during: FontProgram::Glyph(GLYPH),
+        program: FontProgram::Glyph(GLYPH),
         address,
         opcode,
     })
@@ -165,7 +115,7 @@ fn run(rt: &impl Abort, alloc: Global, rows: &[Row]) -> Result<(), Fail> {
         let mut machine = machine(alloc, file.as_slice())?.ok().ok_or(row.what)?;
         let code = bytes(alloc, row.code)?;
         let mut zone = square(alloc)?;
-        let answer = machine.run_glyph(Code::new(code.as_slice()), &mut zone);
+        let answer = machine.run_glyph(GLYPH, Code::new(code.as_slice()), &mut zone);
         assert!(rt; answer == answer_of(row.want), "{}", row.what);
         if answer.is_ok() {
             assert_eq!(rt; corners(&zone), row.corners, "{}", row.what);
@@ -379,8 +329,8 @@ fn prelude(
 fn font_halt(cause: Cause, address: usize, opcode: u8) -> Result<Ran, Halt> {
     Err(Halt {
         cause,
-        during: Program::Font,
-        program: Program::Font,
+        during: FontProgram::Fpgm,
+        program: FontProgram::Fpgm,
         address,
         opcode,
     })
@@ -418,7 +368,7 @@ fn ran(
 ) -> Result<(), Fail> {
     let code_bytes = bytes(alloc, code)?;
     let mut zone = square(alloc)?;
-    let answer = machine.run_glyph(Code::new(code_bytes.as_slice()), &mut zone);
+    let answer = machine.run_glyph(GLYPH, Code::new(code_bytes.as_slice()), &mut zone);
     assert!(rt; answer == want, "{code}");
     assert_eq!(rt; corners(&zone), places, "{code}");
     Ok(())

@@ -318,20 +318,15 @@ fn refused(
 #[test]
 fn requests_that_are_refused(rt: HostRuntime) -> Result<(), Fail> {
     let font = fixture(rt.alloc())?;
-    let hinted = Request {
-        hinting: true,
-        ..request(16, &[0x41])
-    };
     let nameless = Request {
         name: " F1",
         ..request(16, &[0x41])
     };
     for (request, refusal) in [
         (request(0, &[0x11_0000]), Refusal::BadSize),
-        (request(256, &[]), Refusal::BadSize),
-        (request(16, &[0x1_0000]), Refusal::BadChars),
+        (request(1025, &[]), Refusal::BadSize),
+        (request(16, &[0x11_0000]), Refusal::BadChars),
         (nameless, Refusal::BadName),
-        (hinted, Refusal::NotBuilt),
     ] {
         let mut out = MemorySink::new(rt.alloc(), 4096, Limits::NONE)?;
         let result = make_strike(rt.alloc(), font.as_slice(), &request, &mut out);

@@ -1,8 +1,8 @@
 -- A run whose arguments are in the first line of its input.
--- Serves the answers of `run_line`, `run_words` and `run_given`.
-use Rattle.std.proofs.Common.{◌≡◌, ◌∙◌, ◌==◌, ◌⊎◌, inl, inr, ℕ, zero, suc, ◌+◌, ◌<◌, ◌≤◌, List, [], ◌∷◌, ◌++◌, length, take, drop}
+-- Serves the answers of `run_line`, `run_arguments` and `run_given`.
+use Rattle.std.proofs.Common.{◌≡◌, ◌∙◌, ◌==◌, ◌⊎◌, inl, inr, ℕ, ◌+◌, ◌<◌, ◌≤◌, List, [], ◌∷◌, ◌++◌, length, take, drop}
 use Rattle.std.proofs.Common.{not, refl, sym, ap, subst, arith, Option, Some, None, Bool, true, false, cond, Result, Ok, Err}
-use Rattle.std.proofs.Common.{append-nil, length-append, map, Bor}
+use Rattle.std.proofs.Common.{append-nil, length-append, Bor}
 use Rattle.std.proofs.lemmas.List.Sums.{prefix_len-le-length}
 use Rattle.std.specs.Str.{IsUtf8}
 use Rattle.std.specs.List.{position_or_len, prefix_len}
@@ -10,18 +10,20 @@ use Rattle.std.specs.Io.KnownBytes.{Consumes, IsAtEnd, Keeps}
 use Rattle.std.proofs.KnownBytes.{Consumes-trans}
 use Rattle.std.proofs.lemmas.List.{take-append-le, drop-append-le}
 use Rattle.std.proofs.lemmas.List.Folds.{prefix_len-append}
-use Rattle.std.proofs.lemmas.List.{length-take-le}
-use Rattle.std.proofs.lemmas.Bool.{ne_eqb, lt-ltb}
+use Rattle.std.proofs.lemmas.List.{length-take-le, length-drop}
+use Rattle.std.proofs.lemmas.Bool.{ne_eqb, eqb-false, lt-ltb}
 use Rattle.fx_strike.specs.declared.refusal.Refusal.{Refusal}
 use Rattle.fx_strike.specs.declared.refusal.Refusal.TheVariants.{BadChars, BadHex, InputTooLarge, OutOfMemory, ReadFailed}
 use Rattle.fx_cli.specs.Limits.{max_line}
 use Rattle.fx_cli.specs.declared.done.Done.{Done}
 use Rattle.fx_cli.specs.declared.fault.Fault.{Fault}
 use Rattle.fx_cli.specs.declared.fault.Fault.TheVariants.{Usage, Early, Late}
-use Rattle.fx_cli.specs.Words.{Asked, wish_of_words}
-use Rattle.fx_cli.specs.Input.{line_of, rest_of, words_of_line}
-use Rattle.fx_cli.specs.Runs.{AreWords, AreWordsBy, Change, Ends, HasLine, IsReadForWords, IsReason, IsUsageBy, Does, Runs, Stops}
-use Rattle.fx_cli.specs.Runs.{Word, font_bytes, has_words, called, text_by, text_of}
+use Rattle.fx_cli.specs.Arguments.{WishView, texts, wish_of_arguments}
+use Rattle.fx_cli.specs.ReadAhead.{ahead_of}
+use Rattle.fx_cli.specs.Input.{line_of, rest_of, arguments_of_line}
+use Rattle.fx_cli.specs.Runs.{AreArguments, AreArgumentsBy, Change, Ends, HasLine, IsReadForArguments, IsReason, IsSpared}
+use Rattle.fx_cli.specs.Runs.{IsUnread, IsUsageBy, Does, Runs, Stops, font_bytes, has_arguments, called, text_by, text_of}
+use Rattle.clap.specs.Walk.{Text}
 use Rattle.fx_cli.specs.Steps.{EndsAfter, IsReasonAfter, DoesAfter, StopsAfter}
 
 abbrev is_end : ℕ → Bool
@@ -35,13 +37,13 @@ same_place first more h =
     ∙ ap (λ (t : Bool). cond t (length first + prefix_len (λ b. not (is_end b)) more) (position_or_len is_end first))
     (ne_eqb (position_or_len is_end first) (length first) (omega arith))
 
-pub same_line : (first more : List ℕ) → (position_or_len is_end first < length first) ⊎ (more ≡ [])
+same_line : (first more : List ℕ) → (position_or_len is_end first < length first) ⊎ (more ≡ [])
     → line_of (first ++ more) ≡ line_of first
 same_line first more (inl h) = ap (λ (k : ℕ). take k (first ++ more)) (same_place first more h) ∙
     take-append-le (position_or_len is_end first) first more (omega arith)
 same_line first more (inr e) = ap line_of (ap (λ (xs : List ℕ). first ++ xs) e ∙ append-nil first)
 
-pub same_rest : (first more : List ℕ) → (position_or_len is_end first < length first) ⊎ (more ≡ [])
+same_rest : (first more : List ℕ) → (position_or_len is_end first < length first) ⊎ (more ≡ [])
     → rest_of (first ++ more) ≡ rest_of first ++ more
 same_rest first more (inl h) = ap (λ (k : ℕ). drop (k + 1) (first ++ more)) (same_place first more h) ∙
     drop-append-le (position_or_len is_end first + 1) first more (omega arith)
@@ -50,165 +52,157 @@ same_rest first more (inr e) =
     ∙ sym (append-nil (rest_of first))
     ∙ ap (λ (xs : List ℕ). rest_of first ++ xs) (sym e)
 
+size_at_most : (first : List ℕ) → position_or_len is_end first ≤ length first
+size_at_most first = prefix_len-le-length (λ b. not (is_end b)) first
+
+-- the line of what was read ends where it was found
+pub length-line_of : (first : List ℕ) → length (line_of first) ≡ position_or_len is_end first
+length-line_of first = length-take-le (position_or_len is_end first) first (size_at_most first)
+
+found_before_end : (first : List ℕ) → (ahead_of first).ended ≡ false → position_or_len is_end first < length first
+found_before_end first e =
+    let apart = eqb-false (position_or_len is_end first) (length first) e in
+    omega (arith, size_at_most first, apart)
+
+ahead_size : (first : List ℕ) → (ahead_of first).line + length (ahead_of first).text ≡ length first
+ahead_size first = omega (arith, length-drop (position_or_len is_end first + 1) first)
+
 -- what is known when the first line was read and its arguments ask for something
-pub record IsFirst (given : List Word) (first front : List ℕ) (ended : Bool) (before mid : Option (List ℕ)) (words : List Word) :
-    Type 0 where
-  pub none : has_words given ≡ false
+pub record IsFirst (given : List Text) (first : List ℕ) (before mid : Option (List ℕ)) (arguments : List Text) : Type 0 where
+  pub none : has_arguments given ≡ false
   pub read : Consumes before mid first
   pub few : length first ≤ max_line + 1
-  pub found : ended ≡ false → position_or_len is_end first < length first
-  pub size : position_or_len is_end first ≤ length first
   pub utf8 : IsUtf8 (line_of first)
   pub short : length (line_of first) ≤ max_line
-  pub words_are : words ≡ called given ∷ words_of_line (line_of first)
-  pub front_is : front ≡ rest_of first
+  pub arguments_are : arguments ≡ called given ∷ arguments_of_line (line_of first)
 
 either : {P Q : Type 0} (ended : Bool) → (ended ≡ false → P) → (ended ≡ true → Q) → P ⊎ Q
 either true p q = inr (q refl)
 either false p q = inl (p refl)
 
-has_line : {given : List Word} {first front : List ℕ} {ended : Bool} {before mid : Option (List ℕ)} {words : List Word}
-    (more : List ℕ) (left : Option (List ℕ)) → IsFirst given first front ended before mid words
-    → (ended ≡ true → (more ≡ []) × IsAtEnd left) → HasLine (first ++ more) left
-has_line {given} {first} {front} {ended} {before} {mid} {words} more left f rest = either ended
+has_line : {given : List Text} {first : List ℕ} {before mid : Option (List ℕ)} {arguments : List Text}
+    (more : List ℕ) (left : Option (List ℕ)) → IsFirst given first before mid arguments
+    → ((ahead_of first).ended ≡ true → (more ≡ []) × IsAtEnd left) → HasLine (first ++ more) left
+has_line {given} {first} {before} {mid} {arguments} more left f rest = either (ahead_of first).ended
     (λ e.
-    let found = f.found e in
+    let found = found_before_end first e in
     let line : line_of (first ++ more) ≡ line_of first = same_line first more (inl found) in
-    let size : length (line_of first) ≡ position_or_len is_end first =
-    length-take-le (position_or_len is_end first) first f.size in
     let P : List ℕ → Type 0 = λ xs. length xs < length (first ++ more) in
-    subst P (sym line) (omega (arith, size, length-append first more)))
+    subst P (sym line) (omega (arith, length-line_of first, length-append first more)))
     (λ e. (rest e).1)
 
-are_words : {given : List Word} {first front : List ℕ} {ended : Bool} {before mid : Option (List ℕ)} {words : List Word}
-    (more : List ℕ) (left : Option (List ℕ)) → IsFirst given first front ended before mid words
-    → (ended ≡ true → (more ≡ []) × IsAtEnd left) → AreWords given (first ++ more) left words
-are_words {given} {first} {front} {ended} {before} {mid} {words} more left f rest =
-    let line : line_of (first ++ more) ≡ line_of first = same_line first more (either ended f.found (λ e. (rest e).0)) in
-    let P : Bool → Type 0 = λ b. AreWordsBy b given (first ++ more) left words in
+are_arguments : {given : List Text} {first : List ℕ} {before mid : Option (List ℕ)} {arguments : List Text}
+    (more : List ℕ) (left : Option (List ℕ)) → IsFirst given first before mid arguments
+    → ((ahead_of first).ended ≡ true → (more ≡ []) × IsAtEnd left) → AreArguments given (first ++ more) left arguments
+are_arguments {given} {first} {before} {mid} {arguments} more left f rest =
+    let line : line_of (first ++ more) ≡ line_of first =
+    same_line first more (either (ahead_of first).ended (found_before_end first) (λ e. (rest e).0)) in
+    let P : Bool → Type 0 = λ b. AreArgumentsBy b given (first ++ more) left arguments in
     let Q : List ℕ → Type 0 =
-    λ xs. HasLine (first ++ more) left × IsUtf8 xs × (length xs ≤ max_line) × (words ≡ called given ∷ words_of_line xs) in
-    subst P (sym f.none) (subst Q (sym line) (has_line more left f rest, f.utf8, f.short, f.words_are))
+    λ xs. HasLine (first ++ more) left × IsUtf8 xs × (length xs ≤ max_line) × (arguments ≡ called given ∷ arguments_of_line xs) in
+    subst P (sym f.none) (subst Q (sym line) (has_line more left f rest, f.utf8, f.short, f.arguments_are))
 
-text_is : {given : List Word} {first front : List ℕ} {ended : Bool} {before mid : Option (List ℕ)} {words : List Word}
-    (more : List ℕ) → IsFirst given first front ended before mid words → (ended ≡ true → more ≡ [])
-    → text_of given (first ++ more) ≡ front ++ more
-text_is {given} {first} {front} {ended} more f rest =
+text_is : {given : List Text} {first : List ℕ} {before mid : Option (List ℕ)} {arguments : List Text}
+    (more : List ℕ) → IsFirst given first before mid arguments → ((ahead_of first).ended ≡ true → more ≡ [])
+    → text_of given (first ++ more) ≡ rest_of first ++ more
+text_is {given} {first} more f rest =
     ap (λ (b : Bool). text_by b (first ++ more)) f.none
-    ∙ same_rest first more (either ended f.found rest)
-    ∙ ap (λ (xs : List ℕ). xs ++ more) (sym f.front_is)
+    ∙ same_rest first more (either (ahead_of first).ended (found_before_end first) rest)
 
 -- no more than a line was read for the arguments
-pub for_line : (given : List Word) (got : List ℕ) (change : Change) → has_words given ≡ false → length got ≤ max_line + 1
-    → change.reader_faults ≡ change.reader_faults_before → IsReadForWords (has_words given) got change
-for_line given got change none few same = let P : Bool → Type 0 = λ b. IsReadForWords b got change in subst P (sym none) (few, same)
+pub for_line : (given : List Text) (got : List ℕ) (source : Change) → has_arguments given ≡ false → length got ≤ max_line + 1
+    → source.faults ≡ source.faults_before → IsReadForArguments (has_arguments given) got source
+for_line given got source none few same =
+    let P : Bool → Type 0 = λ b. IsReadForArguments b got source in
+    subst P (sym none) (few, same)
 
--- the same change of the world, from before the line was read
+-- the same change of the source, from before the line was read
 abbrev pub from_start : Option (List ℕ) → ℕ → Change → Change
-from_start before faults_before change = record change { left_before = before; reader_faults_before = faults_before }
+from_start before faults_before source = record source { bytes_before = before; faults_before = faults_before }
 
-does : {given : List Word} {first front : List ℕ} {ended : Bool} {before : Option (List ℕ)} {words : List Word}
-    (faults_before line : ℕ) (asked : Asked) (change : Change) (answer : Result Done Refusal)
-    → IsFirst given first front ended before change.left_before words → line + length front ≡ length first
-    → wish_of_words words ≡ Some asked → DoesAfter asked line front ended change answer
-    → Does given (from_start before faults_before change) answer
-does {given} {first} {front} {ended} {before} {words} faults_before line asked change answer f sizes asks m = record {
+does : {given : List Text} {first : List ℕ} {before : Option (List ℕ)} {arguments : List Text}
+    (faults_before : ℕ) (wish : WishView) (source sink : Change) (answer : Result Done Refusal)
+    → IsFirst given first before source.bytes_before arguments → wish_of_arguments arguments ≡ Some wish
+    → DoesAfter wish (ahead_of first) source sink answer
+    → Does given (from_start before faults_before source) sink answer
+does {given} {first} {before} {arguments} faults_before wish source sink answer f asks m = record {
   input = first ++ m.more;
-  read = Consumes-trans before change.left_before change.left first m.more f.read m.read;
+  read = Consumes-trans before source.bytes_before source.bytes first m.more f.read m.read;
   whole = m.whole;
-  fits = omega (arith, m.fits, sizes, length-append first m.more, length-append front m.more);
-  words = words;
-  are = are_words m.more change.left f (λ e. (m.rest e, m.whole));
-  asked = asked;
+  fits = omega (arith, m.fits, ahead_size first, length-append first m.more, length-append (rest_of first) m.more);
+  arguments = arguments;
+  are = are_arguments m.more source.bytes f (λ e. (m.rest e, m.whole));
+  wish = wish;
   asks = asks;
-  numbers = m.numbers;
-  listed = m.listed;
+  job = m.job;
+  readable = m.readable;
   font = m.made.font;
-  decoded = ap (font_bytes asked.hex) (text_is m.more f m.rest) ∙ m.made.decoded;
+  decoded = ap (font_bytes wish.hex) (text_is m.more f m.rest) ∙ m.made.decoded;
   leaves = m.made.leaves;
 }
 
-reasons : {given : List Word} {first front : List ℕ} {ended : Bool} {before : Option (List ℕ)} {words : List Word}
-    (faults_before line : ℕ) (asked : Asked) (change : Change) (more : List ℕ) → faults_before ≡ change.reader_faults_before
-    → IsFirst given first front ended before change.left_before words → line + length front ≡ length first
-    → wish_of_words words ≡ Some asked → (ended ≡ true → (more ≡ []) × IsAtEnd change.left) → (refusal : Refusal)
-    → IsReasonAfter asked line front more change refusal
-    → IsReason given (first ++ more) (from_start before faults_before change) (Early refusal)
-reasons {given = given} {first = first} {before = before} {words = words} faults_before line asked change more same f sizes asks
-    rest BadChars h = (
-      (words, asked, are_words more change.left f rest, asks, h.0),
-      for_line given (first ++ more) (from_start before faults_before change) f.none
+reasons : {given : List Text} {first : List ℕ} {before : Option (List ℕ)} {arguments : List Text}
+    (faults_before : ℕ) (wish : WishView) (source : Change) (more : List ℕ) → faults_before ≡ source.faults_before
+    → IsFirst given first before source.bytes_before arguments → wish_of_arguments arguments ≡ Some wish
+    → ((ahead_of first).ended ≡ true → (more ≡ []) × IsAtEnd source.bytes) → (refusal : Refusal)
+    → IsReasonAfter wish (ahead_of first) more source refusal
+    → IsReason given (first ++ more) (from_start before faults_before source) (Early refusal)
+reasons {given = given} {first = first} {before = before} {arguments = arguments} faults_before wish source more same f asks rest
+    BadChars h = (
+      (arguments, wish, are_arguments more source.bytes f rest, asks, h.0),
+      for_line given (first ++ more) (from_start before faults_before source) f.none
           (omega (arith, length-append first more, ap length h.1, f.few)) (h.2.1 ∙ sym same),
     )
-reasons faults_before line asked change more same f sizes asks rest ReadFailed h = h ∙ ap (λ (n : ℕ). n + 1) (sym same)
-reasons {words = words} faults_before line asked change more same f sizes asks rest BadHex h = (
+reasons faults_before wish source more same f asks rest ReadFailed h = h ∙ ap (λ (n : ℕ). n + 1) (sym same)
+reasons {arguments = arguments} faults_before wish source more same f asks rest BadHex h = (
   h.0,
   (
-    words,
-    asked,
-    are_words more change.left f rest,
+    arguments,
+    wish,
+    are_arguments more source.bytes f rest,
     asks,
-    ap (font_bytes asked.hex) (text_is more f (λ e. (rest e).0)) ∙
-        h.1,
+    ap (font_bytes wish.hex) (text_is more f (λ e. (rest e).0)) ∙ h.1,
   ),
 )
-reasons {first = first} {front = front} faults_before line asked change more same f sizes asks rest InputTooLarge h =
-    omega (arith, h, sizes, length-append first more, length-append front more)
-reasons faults_before line asked change more same f sizes asks rest OutOfMemory h = tt
-reasons faults_before line asked change more same f sizes asks rest _ h = absurd h
+reasons {first = first} faults_before wish source more same f asks rest InputTooLarge h =
+    omega (arith, h, ahead_size first, length-append first more, length-append (rest_of first) more)
+reasons faults_before wish source more same f asks rest OutOfMemory h = tt
+reasons faults_before wish source more same f asks rest _ h = absurd h
 
-stops : {given : List Word} {first front : List ℕ} {ended : Bool} {before : Option (List ℕ)} {words : List Word}
-    (faults_before line : ℕ) (asked : Asked) (change : Change) (refusal : Refusal) → faults_before ≡ change.reader_faults_before
-    → IsFirst given first front ended before change.left_before words → line + length front ≡ length first
-    → wish_of_words words ≡ Some asked → StopsAfter asked line front ended change refusal
-    → Stops given (from_start before faults_before change) (Early refusal)
-stops {given} {first} {front} {ended} {before} {words} faults_before line asked change refusal same f sizes asks s = record {
+stops : {given : List Text} {first : List ℕ} {before : Option (List ℕ)} {arguments : List Text}
+    (faults_before : ℕ) (wish : WishView) (source sink : Change) (refusal : Refusal) → faults_before ≡ source.faults_before
+    → IsFirst given first before source.bytes_before arguments → wish_of_arguments arguments ≡ Some wish
+    → StopsAfter wish (ahead_of first) source sink refusal
+    → Stops given (from_start before faults_before source) sink (Early refusal)
+stops {given} {first} {before} {arguments} faults_before wish source sink refusal same f asks s = record {
   got = first ++ s.more;
-  read = Consumes-trans before change.left_before change.left first s.more f.read s.read;
-  kept = s.spared.0;
-  quiet = s.spared.1;
-  reason = reasons faults_before line asked change s.more same f sizes asks s.rest refusal s.reason;
+  read = Consumes-trans before source.bytes_before source.bytes first s.more f.read s.read;
+  spared = s.spared;
+  reason = reasons faults_before wish source s.more same f asks s.rest refusal s.reason;
 }
 
 -- the run after the line ends the run
-pub line_ends : {given : List Word} {first front : List ℕ} {ended : Bool} {before : Option (List ℕ)} {words : List Word}
-    (faults_before line : ℕ) (asked : Asked) (change : Change) → faults_before ≡ change.reader_faults_before
-    → IsFirst given first front ended before change.left_before words → line + length front ≡ length first
-    → wish_of_words words ≡ Some asked → (outcome : Result Done Fault) → EndsAfter asked line front ended change outcome
-    → Ends given (from_start before faults_before change) outcome
-line_ends faults_before line asked change same f sizes asks (Ok done) m =
-    does faults_before line asked change (Ok done) f sizes asks m
-line_ends faults_before line asked change same f sizes asks (Err (Late refusal)) m =
-    does faults_before line asked change (Err refusal) f sizes asks m
-line_ends faults_before line asked change same f sizes asks (Err (Early refusal)) s =
-    stops faults_before line asked change refusal same f sizes asks s
-line_ends faults_before line asked change same f sizes asks (Err Usage) s = absurd s
+pub line_ends : {given : List Text} {first : List ℕ} {before : Option (List ℕ)} {arguments : List Text}
+    (faults_before : ℕ) (wish : WishView) (source sink : Change) → faults_before ≡ source.faults_before
+    → IsFirst given first before source.bytes_before arguments → wish_of_arguments arguments ≡ Some wish
+    → (outcome : Result Done Fault) → EndsAfter wish (ahead_of first) source sink outcome
+    → Ends given (from_start before faults_before source) sink outcome
+line_ends faults_before wish source sink same f asks (Ok done) m = does faults_before wish source sink (Ok done) f asks m
+line_ends faults_before wish source sink same f asks (Err (Late refusal)) m =
+    does faults_before wish source sink (Err refusal) f asks m
+line_ends faults_before wish source sink same f asks (Err (Early refusal)) s =
+    stops faults_before wish source sink refusal same f asks s
+line_ends faults_before wish source sink same f asks (Err Usage) s = absurd s
 
 -- a line whose arguments are invalid
-pub is_usage : (given : List Word) (got : List ℕ) (left : Option (List ℕ)) → has_words given ≡ false
-    → IsUsageBy false given got left → IsUsageBy (has_words given) given got left
+pub is_usage : (given : List Text) (got : List ℕ) (left : Option (List ℕ)) → has_arguments given ≡ false
+    → IsUsageBy false given got left → IsUsageBy (has_arguments given) given got left
 is_usage given got left none h = let P : Bool → Type 0 = λ b. IsUsageBy b given got left in subst P (sym none) h
 
-take_take : (k n : ℕ) (xs : List ℕ) → k ≤ n → take k (take n xs) ≡ take k xs
-take_take zero n xs h = refl
-take_take (suc k) zero xs h = absurd (omega arith)
-take_take (suc k) (suc n) [] h = refl
-take_take (suc k) (suc n) (x ∷ xs) h = ap (λ (ys : List ℕ). x ∷ ys) (take_take k n xs (omega arith))
-
--- the line in the buffer that it was read into
-pub line_in_buffer : (buffer : List ℕ) (filled end : ℕ) → end ≤ filled → end ≡ position_or_len is_end (take filled buffer)
-    → line_of (take filled buffer) ≡ take end buffer
-line_in_buffer buffer filled end h e = ap (λ (k : ℕ). take k (take filled buffer)) (sym e) ∙ take_take end filled buffer h
-
-pub few_words : (words : List (Bor (List ℕ))) → length words ≤ 1
-    → has_words (map (λ (word : Bor (List ℕ)). word.now) words) ≡ false
-few_words [] h = refl
-few_words (word ∷ []) h = refl
-few_words (word ∷ more ∷ words) h = absurd (omega arith)
-
--- the line of what was read ends where it was found
-pub length-line_of : (first : List ℕ) → length (line_of first) ≡ position_or_len is_end first
-length-line_of first = length-take-le (position_or_len is_end first) first (prefix_len-le-length (λ b. not (is_end b)) first)
+pub few_arguments : (arguments : List (Bor Text)) → length arguments ≤ 1 → has_arguments (texts arguments) ≡ false
+few_arguments [] h = refl
+few_arguments (argument ∷ []) h = refl
+few_arguments (argument ∷ more ∷ arguments) h = absurd (omega arith)
 
 pub line_read : (first : List ℕ) (left : Option (List ℕ)) → (position_or_len is_end first < length first) ⊎ IsAtEnd left
     → HasLine first left
@@ -216,22 +210,20 @@ line_read first left (inl h) = inl (omega (arith, length-line_of first))
 line_read first left (inr h) = inr h
 
 -- the arguments were not read, or are invalid
-pub unread : (given : List Word) (change : Change) (got : List ℕ) (fault : Fault) → has_words given ≡ false
-    → length got ≤ max_line + 1 → change.reader_faults ≡ change.reader_faults_before
-    → Consumes change.left_before change.left got → Keeps change.held_before change.held
-    → change.writer_faults ≡ change.writer_faults_before
-    → (fault ≡ Early OutOfMemory) ⊎ ((fault ≡ Usage) × IsUsageBy false given got change.left) → Ends given change (Err fault)
-unread given change got fault none few quiet read kept spared (inl e) =
-    let P : Fault → Type 0 = λ f. Ends given change (Err f) in
-    subst P (sym e) (record { got = got; read = read; kept = kept; quiet = spared; reason = tt })
-unread given change got fault none few quiet read kept spared (inr (e, usage)) =
-    let P : Fault → Type 0 = λ f. Ends given change (Err f) in
+pub unread : (given : List Text) (source sink : Change) (got : List ℕ) (fault : Fault) → has_arguments given ≡ false
+    → length got ≤ max_line + 1 → source.faults ≡ source.faults_before → Consumes source.bytes_before source.bytes got
+    → IsSpared sink → (fault ≡ Early OutOfMemory) ⊎ ((fault ≡ Usage) × IsUsageBy false given got source.bytes)
+    → Ends given source sink (Err fault)
+unread given source sink got fault none few quiet read spared (inl e) =
+    let P : Fault → Type 0 = λ f. Ends given source sink (Err f) in
+    subst P (sym e) (record { got = got; read = read; spared = spared; reason = tt })
+unread given source sink got fault none few quiet read spared (inr (e, usage)) =
+    let P : Fault → Type 0 = λ f. Ends given source sink (Err f) in
     subst P (sym e) (record {
       got = got;
       read = read;
-      kept = kept;
-      quiet = spared;
-      reason = (is_usage given got change.left none usage, for_line given got change none few quiet);
+      spared = spared;
+      reason = (is_usage given got source.bytes none usage, for_line given got source none few quiet);
     })
 
 pub keeps_same : (o : Option (List ℕ)) → Keeps o o
@@ -240,53 +232,45 @@ keeps_same (Some xs) = refl
 
 -- ---- arguments that were given
 
-pub many_words : (words : List (Bor (List ℕ))) → 1 < length words
-    → has_words (map (λ (word : Bor (List ℕ)). word.now) words) ≡ true
-many_words [] h = absurd (omega arith)
-many_words (word ∷ []) h = absurd (omega arith)
-many_words (word ∷ more ∷ words) h = lt-ltb 1 _ (omega arith)
+pub many_arguments : (arguments : List (Bor Text)) → 1 < length arguments → has_arguments (texts arguments) ≡ true
+many_arguments [] h = absurd (omega arith)
+many_arguments (argument ∷ []) h = absurd (omega arith)
+many_arguments (argument ∷ more ∷ arguments) h = lt-ltb 1 _ (omega arith)
 
 reads_none : (o : Option (List ℕ)) → Consumes o o []
 reads_none None = tt
 reads_none (Some xs) = refl
 
 -- nothing was read, and they are invalid
-pub unasked : (given : List Word) (change : Change) (fault : Fault) → has_words given ≡ true → change.left ≡ change.left_before
-    → change.reader_faults ≡ change.reader_faults_before → change.held ≡ change.held_before
-    → change.writer_faults ≡ change.writer_faults_before
-    → (fault ≡ Early OutOfMemory) ⊎ ((fault ≡ Usage) × (wish_of_words given ≡ None)) → Ends given change (Err fault)
-unasked given change fault some same quiet untouched spared why =
-    let P : Option (List ℕ) → Type 0 = λ o. Consumes change.left_before o [] in
-    let Q : Option (List ℕ) → Type 0 = λ o. Keeps change.held_before o in
-    let read : Consumes change.left_before change.left [] = subst P (sym same) (reads_none change.left_before) in
-    let kept : Keeps change.held_before change.held = subst Q (sym untouched) (keeps_same change.held_before) in
-    let E : Fault → Type 0 = λ f. Ends given change (Err f) in
-    let U : Bool → Type 0 = λ b. IsUsageBy b given [] change.left × IsReadForWords b [] change in
+pub unasked : (given : List Text) (source sink : Change) (fault : Fault) → has_arguments given ≡ true → IsUnread source
+    → (sink.bytes ≡ sink.bytes_before) × (sink.faults ≡ sink.faults_before)
+    → (fault ≡ Early OutOfMemory) ⊎ ((fault ≡ Usage) × (wish_of_arguments given ≡ None)) → Ends given source sink (Err fault)
+unasked given source sink fault some same untouched why =
+    let P : Option (List ℕ) → Type 0 = λ o. Consumes source.bytes_before o [] in
+    let Q : Option (List ℕ) → Type 0 = λ o. Keeps sink.bytes_before o in
+    let read : Consumes source.bytes_before source.bytes [] = subst P (sym same.0) (reads_none source.bytes_before) in
+    let spared : IsSpared sink = (subst Q (sym untouched.0) (keeps_same sink.bytes_before), untouched.1) in
+    let E : Fault → Type 0 = λ f. Ends given source sink (Err f) in
+    let U : Bool → Type 0 = λ b. IsUsageBy b given [] source.bytes × IsReadForArguments b [] source in
     elim why [
-      | inl e ↦ subst E (sym e) (record { got = []; read = read; kept = kept; quiet = spared; reason = tt })
+      | inl e ↦ subst E (sym e) (record { got = []; read = read; spared = spared; reason = tt })
       | inr (e, none) ↦ subst E (sym e) (record {
         got = [];
         read = read;
-        kept = kept;
-        quiet = spared;
-        reason = subst U (sym some) (none, (same, quiet));
+        spared = spared;
+        reason = subst U (sym some) (none, same);
       })
     ]
 
+-- a source or a sink that was not used
+abbrev pub unchanged : Option (List ℕ) → ℕ → Change
+unchanged bytes faults = record { bytes_before = bytes; bytes = bytes; faults_before = faults; faults = faults }
+
 -- there was no memory for the arguments
-pub wordless : (given : List Word) (left held : Option (List ℕ)) (read_faults write_faults status : ℕ) → status ≡ 1
-    → Runs given (record {
-      left_before = left;
-      left = left;
-      reader_faults_before = read_faults;
-      reader_faults = read_faults;
-      held_before = held;
-      held = held;
-      writer_faults_before = write_faults;
-      writer_faults = write_faults;
-    }) status
-wordless given left held read_faults write_faults status e = record {
+pub without_arguments : (given : List Text) (left held : Option (List ℕ)) (read_faults write_faults status : ℕ) → status ≡ 1
+    → Runs given (unchanged left read_faults) (unchanged held write_faults) status
+without_arguments given left held read_faults write_faults status e = record {
   outcome = Err (Early OutOfMemory);
-  ends = record { got = []; read = reads_none left; kept = keeps_same held; quiet = refl; reason = tt };
+  ends = record { got = []; read = reads_none left; spared = (keeps_same held, refl); reason = tt };
   told = e;
 }

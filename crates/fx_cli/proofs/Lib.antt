@@ -4,3 +4,4 @@ pub mod Buffers
 pub mod Options
 pub mod Made
 pub mod FirstLines
+pub mod Pictures

@@ -1,39 +1,40 @@
 -- The steps of a run.
--- Serves `words_of_line` and `run_text`.
+-- Serves `arguments_of_line` and `run_text`.
 use Rattle.std.proofs.Common.{◌≡◌, ◌∙◌, ℕ, List, [], ◌∷◌, ◌++◌, filter, refl, sym, ap, Some, Bool, true, false, cond, Result, Ok}
 use Rattle.std.proofs.Common.{Err, append_assoc}
 use Rattle.fx_fixed.specs.Chain.{map_fault}
 use Rattle.fx_strike.specs.declared.refusal.Refusal.{Refusal}
 use Rattle.fx_cli.specs.declared.done.Done.{Done}
 use Rattle.fx_cli.specs.declared.fault.Fault.TheVariants.{Late}
-use Rattle.fx_cli.specs.Words.{Asked}
-use Rattle.fx_cli.specs.Input.{has_bytes, words_of_line}
+use Rattle.fx_cli.specs.Jobs.{JobView}
+use Rattle.fx_cli.specs.Input.{has_bytes, arguments_of_line}
 use Rattle.fx_cli.specs.Parts.{parts_of}
-use Rattle.fx_cli.specs.Runs.{Change, Word, TaskLeaves, font_bytes}
+use Rattle.fx_cli.specs.Runs.{Change, JobLeaves, font_bytes}
+use Rattle.clap.specs.Walk.{Text}
 use Rattle.fx_cli.specs.Steps.{EndsText}
 
 -- what comes of a font's bytes ends the run
-pub text_done : (asked : Asked) (numbers text : List ℕ) (change : Change) (font : List ℕ) → font_bytes asked.hex text ≡ Some font
-    → (answer : Result Done Refusal) → TaskLeaves asked.task numbers font change.held_before change.held change.writer_faults_before
-    change.writer_faults answer → EndsText asked numbers text change (map_fault Late answer)
-text_done asked numbers text change font decoded (Ok done) leaves = record { font = font; decoded = decoded; leaves = leaves }
-text_done asked numbers text change font decoded (Err refusal) leaves = record { font = font; decoded = decoded; leaves = leaves }
+pub text_done : (job : JobView) (hex : Bool) (text : List ℕ) (sink : Change) (font : List ℕ) → font_bytes hex text ≡ Some font
+    → (answer : Result Done Refusal) → JobLeaves job font sink answer → EndsText job hex text sink (map_fault Late answer)
+text_done job hex text sink font decoded (Ok done) leaves = record { font = font; decoded = decoded; leaves = leaves }
+text_done job hex text sink font decoded (Err refusal) leaves = record { font = font; decoded = decoded; leaves = leaves }
 
 -- ---- the arguments of a line
 
-kept_by : (word : Word) (more : List Word) (b : Bool) → has_bytes word ≡ b
-    → filter has_bytes (word ∷ more) ≡ cond b (word ∷ filter has_bytes more) (filter has_bytes more)
-kept_by word more b e = ap (λ (t : Bool). cond t (word ∷ filter has_bytes more) (filter has_bytes more)) e
+kept_by : (argument : Text) (more : List Text) (b : Bool) → has_bytes argument ≡ b
+    → filter has_bytes (argument ∷ more) ≡ cond b (argument ∷ filter has_bytes more) (filter has_bytes more)
+kept_by argument more b e = ap (λ (t : Bool). cond t (argument ∷ filter has_bytes more) (filter has_bytes more)) e
 
-pub word_kept : (words : List Word) (word : Word) (more : List Word) → has_bytes word ≡ true
-    → words ++ filter has_bytes (word ∷ more) ≡ (words ++ word ∷ []) ++ filter has_bytes more
-word_kept words word more e =
-    ap (λ (ws : List Word). words ++ ws) (kept_by word more true e) ∙ sym (append_assoc words (word ∷ []) (filter has_bytes more))
+pub argument_kept : (arguments : List Text) (argument : Text) (more : List Text) → has_bytes argument ≡ true
+    → arguments ++ filter has_bytes (argument ∷ more) ≡ (arguments ++ argument ∷ []) ++ filter has_bytes more
+argument_kept arguments argument more e =
+    ap (λ (ws : List Text). arguments ++ ws) (kept_by argument more true e)
+    ∙ sym (append_assoc arguments (argument ∷ []) (filter has_bytes more))
 
-pub word_left : (words : List Word) (word : Word) (more : List Word) → has_bytes word ≡ false
-    → words ++ filter has_bytes (word ∷ more) ≡ words ++ filter has_bytes more
-word_left words word more e = ap (λ (ws : List Word). words ++ ws) (kept_by word more false e)
+pub argument_left : (arguments : List Text) (argument : Text) (more : List Text) → has_bytes argument ≡ false
+    → arguments ++ filter has_bytes (argument ∷ more) ≡ arguments ++ filter has_bytes more
+argument_left arguments argument more e = ap (λ (ws : List Text). arguments ++ ws) (kept_by argument more false e)
 
-pub words_of_line-is : (line : List ℕ) → words_of_line line ≡ filter has_bytes (parts_of 32 line)
-unfolding words_of_line
-words_of_line-is line = refl
+pub arguments_of_line-is : (line : List ℕ) → arguments_of_line line ≡ filter has_bytes (parts_of 32 line)
+unfolding arguments_of_line
+arguments_of_line-is line = refl

@@ -1,5 +1,5 @@
 -- The options of the commands, as clap sees them.
--- Serves the words of the commands: `read_make`, `read_dump`, `size_of`.
+-- Serves the arguments of the commands: `read_make`, `read_show`, `read_dump`, `size_of`.
 use Rattle.std.proofs.Common.{◌≡◌, ◌∙◌, ℕ, ◌<◌, List, [], ◌∷◌, length, refl, sym, ap, ap₂, Option, Some, None, Bool, true, false}
 use Rattle.std.proofs.Common.{Result, Ok, Err, ◌&&◌, ◌||◌, subst, ◌⊎◌, inr, IfOk, IfErr, option_map, option_and_then}
 use Rattle.std.specs.Option.{ok_or}
@@ -17,7 +17,7 @@ use Rattle.clap.proofs.OnLiterals.{clap_on_literals}
 use Rattle.clap.proofs.WalkLemmas.{both}
 use Rattle.clap.specs.Words.{App, IsAmong, Kinds, Row, Text, fault_of, is_simple, is_simple_and_free, matches_of}
 use Rattle.clap.specs.declared.error.kind.ErrorKind.{ErrorKind}
-use Rattle.fx_cli.specs.Words.{Asked, dump_app, is_bare, is_some_kind, make_app, rows_by, seen, size_of}
+use Rattle.fx_cli.specs.Arguments.{WishView, dump_app, is_bare, is_some_kind, make_app, rows_by, seen, show_app, size_of}
 
 pub make_is_simple : is_simple make_app ≡ true
 unfolding make_app clap_on_literals
@@ -26,6 +26,14 @@ make_is_simple = refl
 pub make_is_free : is_simple_and_free make_app ≡ true
 unfolding make_app clap_on_literals
 make_is_free = refl
+
+pub show_is_simple : is_simple show_app ≡ true
+unfolding show_app clap_on_literals
+show_is_simple = refl
+
+pub show_is_free : is_simple_and_free show_app ≡ true
+unfolding show_app clap_on_literals
+show_is_free = refl
 
 pub dump_is_simple : is_simple dump_app ≡ true
 unfolding dump_app clap_on_literals
@@ -85,10 +93,11 @@ among_some k ks h e = let P : Kinds → Type 0 = λ xs. IsAmong k xs in subst P 
 abbrev chosen : Bool → List Row → Option (List Row)
 chosen b rows = if b then None else Some rows
 
-rows_by-is : (app : App) (words : List Text)
-    → rows_by app words ≡ chosen (list_any is_bare words || is_some_kind (fault_of app words)) (matches_of app words)
+rows_by-is : (app : App) (arguments : List Text)
+    → rows_by app arguments
+    ≡ chosen (list_any is_bare arguments || is_some_kind (fault_of app arguments)) (matches_of app arguments)
 unfolding rows_by
-rows_by-is app words = refl
+rows_by-is app arguments = refl
 
 or_true : (b : Bool) → b || true ≡ true
 or_true true = refl
@@ -98,39 +107,41 @@ length_some : (ks : Kinds) → (ks ≡ [] → ⊥) → is_some_kind ks ≡ true
 length_some [] h = absurd (h refl)
 length_some (k ∷ ks) h = refl
 
-pub rows_of_bare : (app : App) (words : List Text) → list_any is_bare words ≡ true → rows_by app words ≡ None
-rows_of_bare app words bare =
-    rows_by-is app words ∙ ap (λ (b : Bool). chosen (b || is_some_kind (fault_of app words)) (matches_of app words)) bare
+pub rows_of_bare : (app : App) (arguments : List Text) → list_any is_bare arguments ≡ true → rows_by app arguments ≡ None
+rows_of_bare app arguments bare =
+    rows_by-is app arguments
+    ∙ ap (λ (b : Bool). chosen (b || is_some_kind (fault_of app arguments)) (matches_of app arguments)) bare
 
-pub rows_of_fault : (app : App) (words : List Text) → (fault_of app words ≡ [] → ⊥) → rows_by app words ≡ None
-rows_of_fault app words fault =
-    rows_by-is app words
-    ∙ ap (λ (b : Bool). chosen (list_any is_bare words || b) (matches_of app words)) (length_some (fault_of app words) fault)
-    ∙ ap (λ (b : Bool). chosen b (matches_of app words)) (or_true (list_any is_bare words))
+pub rows_of_fault : (app : App) (arguments : List Text) → (fault_of app arguments ≡ [] → ⊥) → rows_by app arguments ≡ None
+rows_of_fault app arguments fault =
+    rows_by-is app arguments
+    ∙ ap (λ (b : Bool). chosen (list_any is_bare arguments || b) (matches_of app arguments))
+    (length_some (fault_of app arguments) fault)
+    ∙ ap (λ (b : Bool). chosen b (matches_of app arguments)) (or_true (list_any is_bare arguments))
 
-pub rows_of_taken : (app : App) (words : List Text) → list_any is_bare words ≡ false → fault_of app words ≡ []
-    → rows_by app words ≡ Some (matches_of app words)
-rows_of_taken app words bare fault =
-    rows_by-is app words
-    ∙ ap₂ (λ (b : Bool) (ks : Kinds). chosen (b || is_some_kind ks) (matches_of app words)) bare fault
+pub rows_of_taken : (app : App) (arguments : List Text) → list_any is_bare arguments ≡ false → fault_of app arguments ≡ []
+    → rows_by app arguments ≡ Some (matches_of app arguments)
+rows_of_taken app arguments bare fault =
+    rows_by-is app arguments
+    ∙ ap₂ (λ (b : Bool) (ks : Kinds). chosen (b || is_some_kind ks) (matches_of app arguments)) bare fault
 
 -- ---- what they ask for
 
 -- there are none, or these
-pub wish_of_none : (make : List Row → Option Asked) (rows : Option (List Row)) → rows ≡ None → option_and_then make rows ≡ None
+pub wish_of_none : (make : List Row → Option WishView) (rows : Option (List Row)) → rows ≡ None → option_and_then make rows ≡ None
 wish_of_none make rows e = ap (option_and_then make) e
 
-pub wish_of_some : (make : List Row → Option Asked) (rows : Option (List Row)) (values : List Row) (wish : Option Asked)
+pub wish_of_some : (make : List Row → Option WishView) (rows : Option (List Row)) (values : List Row) (wish : Option WishView)
     → rows ≡ Some values → wish ≡ make values → option_and_then make rows ≡ wish
 wish_of_some make rows values wish e h = ap (option_and_then make) e ∙ sym h
 
 -- a wish, or a usage fault if there is none
-pub ok_wish : (asked : Option Asked) (wish : Option Wish) → asked ≡ option_map seen wish
-    → IfOk (ok_or {E = Fault} wish Usage) (λ w. asked ≡ Some (seen w))
-ok_wish asked None e = tt
-ok_wish asked (Some w) e = e
+pub ok_wish : (due : Option WishView) (wish : Option Wish) → due ≡ option_map seen wish
+    → IfOk (ok_or {E = Fault} wish Usage) (λ w. due ≡ Some (seen w))
+ok_wish due None e = tt
+ok_wish due (Some w) e = e
 
-pub no_wish : (asked : Option Asked) (wish : Option Wish) → asked ≡ option_map seen wish
-    → IfErr (ok_or {E = Fault} wish Usage) (λ fault. (fault ≡ Early OutOfMemory) ⊎ ((fault ≡ Usage) × (asked ≡ None)))
-no_wish asked None e = inr (refl, e)
-no_wish asked (Some w) e = tt
+pub no_wish : (due : Option WishView) (wish : Option Wish) → due ≡ option_map seen wish
+    → IfErr (ok_or {E = Fault} wish Usage) (λ fault. (fault ≡ Early OutOfMemory) ⊎ ((fault ≡ Usage) × (due ≡ None)))
+no_wish due None e = inr (refl, e)
+no_wish due (Some w) e = tt

@@ -26,11 +26,11 @@ abbrev pub rest_of : List ℕ → List ℕ
 rest_of input = after_first (λ b. b == 10) input
 
 abbrev pub has_bytes : List ℕ → Bool
-has_bytes word = not (length word == 0)
+has_bytes argument = not (length argument == 0)
 
--- the words of a line, separated by spaces
-unfoldable pub words_of_line : List ℕ → List (List ℕ)
-words_of_line line = filter has_bytes (parts_of 32 line)
+-- the arguments of a line, separated by spaces
+unfoldable pub arguments_of_line : List ℕ → List (List ℕ)
+arguments_of_line line = filter has_bytes (parts_of 32 line)
 
 -- why reading stopped before the end: more than max_input bytes, a fault of the reader, or out of memory
 abbrev pub IsReadCause : Refusal → ℕ → ℕ → ℕ → Type 0

@@ -1,7 +1,10 @@
 pub mod Parts
 pub mod Chars
-pub mod Words
+pub mod Arguments
 pub mod Input
+pub mod ReadAhead
+pub mod Pictures
+pub mod Jobs
 pub mod Runs
 pub mod Steps
 pub mod Limits

@@ -1,68 +1,62 @@
--- The steps of a run after its arguments. The line of arguments had `line` bytes with its end, and the bytes `front` were read
--- after it; `ended` if the input ended there.
+-- The steps of a run after its arguments.
 use Rattle.std.specs.Prelude.{◌≡◌, ◌⊎◌, ◌+◌, ◌<◌, ◌≤◌, ◌++◌, ℕ, Bool, true, List, [], length, Some, None, Result, Ok, Err}
-use Rattle.std.specs.Io.KnownBytes.{Consumes, IsAtEnd, Keeps}
+use Rattle.std.specs.Io.KnownBytes.{Consumes, IsAtEnd}
 use Rattle.fx_strike.specs.declared.refusal.Refusal.{Refusal}
 use Rattle.fx_strike.specs.declared.refusal.Refusal.TheVariants.{BadChars, BadHex, InputTooLarge, OutOfMemory, ReadFailed}
 use Rattle.fx_cli.specs.Limits.{max_input}
 use Rattle.fx_cli.specs.declared.done.Done.{Done}
 use Rattle.fx_cli.specs.declared.fault.Fault.{Fault}
 use Rattle.fx_cli.specs.declared.fault.Fault.TheVariants.{Usage, Early, Late}
-use Rattle.fx_cli.specs.Words.{Asked}
-use Rattle.fx_cli.specs.Runs.{Change, IsUnread, TaskLeaves, font_bytes, numbers_of}
+use Rattle.fx_cli.specs.Arguments.{WishView}
+use Rattle.fx_cli.specs.Jobs.{JobView, job_of}
+use Rattle.fx_cli.specs.ReadAhead.{ReadAheadView}
+use Rattle.fx_cli.specs.Runs.{Change, IsSpared, IsUnread, JobLeaves, font_bytes}
 
--- the writer is as it was
-abbrev pub IsSpared : Change → Type 0
-IsSpared change = Keeps change.held_before change.held × (change.writer_faults ≡ change.writer_faults_before)
-
--- the font's text was decoded, and the writer has what comes of it
-pub record DoesText (asked : Asked) (numbers text : List ℕ) (change : Change) (answer : Result Done Refusal) : Type 0 where
+-- the font's text, hexadecimal if `hex`, was decoded, and the sink has what comes of it
+pub record DoesText (job : JobView) (hex : Bool) (text : List ℕ) (sink : Change) (answer : Result Done Refusal) : Type 0 where
   pub font : List ℕ
-  pub decoded : font_bytes asked.hex text ≡ Some font
-  pub leaves : TaskLeaves asked.task numbers font change.held_before change.held change.writer_faults_before
-      change.writer_faults answer
+  pub decoded : font_bytes hex text ≡ Some font
+  pub leaves : JobLeaves job font sink answer
 
 -- it was not
-pub record SparesText (asked : Asked) (text : List ℕ) (change : Change) (refusal : Refusal) : Type 0 where
-  pub spared : IsSpared change
-  pub reason : (refusal ≡ OutOfMemory) ⊎ ((refusal ≡ BadHex) × (font_bytes asked.hex text ≡ None))
+pub record SparesText (hex : Bool) (text : List ℕ) (sink : Change) (refusal : Refusal) : Type 0 where
+  pub spared : IsSpared sink
+  pub reason : (refusal ≡ OutOfMemory) ⊎ ((refusal ≡ BadHex) × (font_bytes hex text ≡ None))
 
-abbrev pub EndsText : Asked → List ℕ → List ℕ → Change → Result Done Fault → Type 0
-EndsText asked numbers text change (Ok done) = DoesText asked numbers text change (Ok done)
-EndsText asked numbers text change (Err (Late refusal)) = DoesText asked numbers text change (Err refusal)
-EndsText asked numbers text change (Err (Early refusal)) = SparesText asked text change refusal
-EndsText asked numbers text change (Err Usage) = ⊥
+abbrev pub EndsText : JobView → Bool → List ℕ → Change → Result Done Fault → Type 0
+EndsText job hex text sink (Ok done) = DoesText job hex text sink (Ok done)
+EndsText job hex text sink (Err (Late refusal)) = DoesText job hex text sink (Err refusal)
+EndsText job hex text sink (Err (Early refusal)) = SparesText hex text sink refusal
+EndsText job hex text sink (Err Usage) = ⊥
 
--- the list was read, the input was read on to its end, and what was asked for was done with its text
-pub record DoesAfter (asked : Asked) (line : ℕ) (front : List ℕ) (ended : Bool) (change : Change)
-    (answer : Result Done Refusal) : Type 0 where
+-- the characters were read, the source was read on to its end, and what was asked for was done with its text
+pub record DoesAfter (wish : WishView) (ahead : ReadAheadView) (source sink : Change) (answer : Result Done Refusal) : Type 0 where
   pub more : List ℕ
-  pub read : Consumes change.left_before change.left more
-  pub whole : IsAtEnd change.left
-  pub rest : ended ≡ true → more ≡ []
-  pub fits : line + length (front ++ more) ≤ max_input
-  pub numbers : List ℕ
-  pub listed : numbers_of asked.task ≡ Some numbers
-  pub made : DoesText asked numbers (front ++ more) change answer
+  pub read : Consumes source.bytes_before source.bytes more
+  pub whole : IsAtEnd source.bytes
+  pub rest : ahead.ended ≡ true → more ≡ []
+  pub fits : ahead.line + length (ahead.text ++ more) ≤ max_input
+  pub job : JobView
+  pub readable : job_of wish.task ≡ Some job
+  pub made : DoesText job wish.hex (ahead.text ++ more) sink answer
 
-abbrev pub IsReasonAfter : Asked → ℕ → List ℕ → List ℕ → Change → Refusal → Type 0
-IsReasonAfter asked line front more change BadChars = (numbers_of asked.task ≡ None) × (more ≡ []) × IsUnread change
-IsReasonAfter asked line front more change ReadFailed = change.reader_faults ≡ change.reader_faults_before + 1
-IsReasonAfter asked line front more change BadHex = IsAtEnd change.left × (font_bytes asked.hex (front ++ more) ≡ None)
-IsReasonAfter asked line front more change InputTooLarge = max_input < line + length (front ++ more)
-IsReasonAfter asked line front more change OutOfMemory = Unit {0}
-IsReasonAfter asked line front more change _ = ⊥
+abbrev pub IsReasonAfter : WishView → ReadAheadView → List ℕ → Change → Refusal → Type 0
+IsReasonAfter wish ahead more source BadChars = (job_of wish.task ≡ None) × (more ≡ []) × IsUnread source
+IsReasonAfter wish ahead more source ReadFailed = source.faults ≡ source.faults_before + 1
+IsReasonAfter wish ahead more source BadHex = IsAtEnd source.bytes × (font_bytes wish.hex (ahead.text ++ more) ≡ None)
+IsReasonAfter wish ahead more source InputTooLarge = max_input < ahead.line + length (ahead.text ++ more)
+IsReasonAfter wish ahead more source OutOfMemory = Unit {0}
+IsReasonAfter wish ahead more source _ = ⊥
 
-pub record StopsAfter (asked : Asked) (line : ℕ) (front : List ℕ) (ended : Bool) (change : Change) (refusal : Refusal)
-    : Type 0 where
+pub record StopsAfter (wish : WishView) (ahead : ReadAheadView) (source sink : Change) (refusal : Refusal) : Type 0 where
   pub more : List ℕ
-  pub read : Consumes change.left_before change.left more
-  pub rest : ended ≡ true → (more ≡ []) × IsAtEnd change.left
-  pub spared : IsSpared change
-  pub reason : IsReasonAfter asked line front more change refusal
+  pub read : Consumes source.bytes_before source.bytes more
+  pub rest : ahead.ended ≡ true → (more ≡ []) × IsAtEnd source.bytes
+  pub spared : IsSpared sink
+  pub reason : IsReasonAfter wish ahead more source refusal
 
-abbrev pub EndsAfter : Asked → ℕ → List ℕ → Bool → Change → Result Done Fault → Type 0
-EndsAfter asked line front ended change (Ok done) = DoesAfter asked line front ended change (Ok done)
-EndsAfter asked line front ended change (Err (Late refusal)) = DoesAfter asked line front ended change (Err refusal)
-EndsAfter asked line front ended change (Err (Early refusal)) = StopsAfter asked line front ended change refusal
-EndsAfter asked line front ended change (Err Usage) = ⊥
+abbrev pub EndsAfter : WishView → ReadAheadView → Change → Change → Result Done Fault → Type 0
+EndsAfter wish ahead source sink (Ok done) = DoesAfter wish ahead source sink (Ok done)
+EndsAfter wish ahead source sink (Err (Late refusal)) = DoesAfter wish ahead source sink (Err refusal)
+EndsAfter wish ahead source sink (Err (Early refusal)) = StopsAfter wish ahead source sink refusal
+EndsAfter wish ahead source sink (Err Usage) = ⊥

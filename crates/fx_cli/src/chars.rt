@@ -55,7 +55,7 @@ fn pair(low: Option<u32>, high: Option<u32>) -> Option<(u32, u32)>
 }
 
 /// A number of one to six hexadecimal digits.
-fn number(text: &str) -> Option<u32>
+pub fn number(text: &str) -> Option<u32>
     ensures { result ≡ number_of text.now }
 {
     let digits = text.as_bytes();

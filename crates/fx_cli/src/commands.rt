@@ -1,7 +1,7 @@
 //! The commands and their options.
 ghost use Rattle.std.specs.Prelude.{◌≡◌, codes, IfOk, false};
 ghost use Rattle.clap.specs.Words.{app_of, rule_of};
-ghost use Rattle.fx_cli.specs.Words.{dump_app, flag_rule, make_app, option_rule};
+ghost use Rattle.fx_cli.specs.Arguments.{dump_app, flag_rule, make_app, option_rule, show_app};
 
 use clap::{Arg, ArgAction, Command};
 use std::alloc::{AllocError, Global};
@@ -14,6 +14,17 @@ pub fn make_command<'a>(alloc: Global) -> Result<Command<'a>, AllocError>
         .arg(option(alloc, "ppem"))?
         .arg(option(alloc, "chars"))?
         .arg(option(alloc, "name"))?
+        .arg(flag(alloc, "unhinted"))?
+        .arg(flag(alloc, "hex"))
+}
+
+/// `show` with its options.
+pub fn show_command<'a>(alloc: Global) -> Result<Command<'a>, AllocError>
+    ensures { IfOk result (λ command. app_of command ≡ show_app) }
+{
+    Command::new(alloc, "show")
+        .arg(option(alloc, "ppem"))?
+        .arg(option(alloc, "char"))?
         .arg(flag(alloc, "unhinted"))?
         .arg(flag(alloc, "hex"))
 }

@@ -7,6 +7,8 @@ use fx_strike::Report;
 pub enum Done {
     /// It wrote a strike, of which this was counted.
     Strike(Report),
+    /// It wrote a picture.
+    Picture,
     /// It wrote a listing.
     Listing,
 }

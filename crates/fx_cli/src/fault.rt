@@ -11,9 +11,9 @@ use std::alloc::{AllocError, AllocFailed};
 pub enum Fault {
     /// The arguments are invalid.
     Usage,
-    /// A refusal before a strike or a listing was begun.
+    /// A refusal before the job was begun.
     Early(Refusal),
-    /// A refusal of the strike or of the listing.
+    /// A refusal of the job: of the strike, the picture or the listing.
     Late(Refusal),
 }
 

@@ -1,53 +1,17 @@
 //! Reading the input.
-ghost use Rattle.std.specs.Prelude.{◌≡◌, ◌⊎◌, ◌==◌, ℕ, List, [], true, ◌+◌, ◌<◌, ◌≤◌, ◌^◌, ◌++◌, length, take, position, IfOk, IfErr, IfSome, OnOk};
+ghost use Rattle.std.specs.Prelude.{◌≡◌, ◌⊎◌, ◌==◌, ℕ, List, ◌+◌, ◌<◌, ◌≤◌, ◌^◌, length, take, position, IfOk, IfErr, IfSome, OnOk};
 ghost use Rattle.std.specs.List.{position_or_len};
 ghost use Rattle.std.specs.Io.KnownBytes.{Consumes, IsAtEnd};
-ghost use Rattle.fx_cli.specs.Limits.{max_input, max_line};
-ghost use Rattle.fx_cli.specs.Input.{IsLineCause, IsReadCause};
+ghost use Rattle.fx_cli.specs.Limits.{max_line};
+ghost use Rattle.fx_cli.specs.Input.{IsLineCause};
 
 use crate::fault::Fault;
-use crate::limits::{MAX_INPUT, MAX_LINE};
+use crate::limits::MAX_LINE;
 use fx_fixed::Source;
 use fx_strike::Refusal;
-use std::alloc::Global;
 
 /// The size of a buffer for a line of arguments with its end.
 pub const LINE_BUFFER: usize = MAX_LINE + 1;
-
-/// Reads to the end of the input, of which a line and the bytes `front` were read before; `ended` if that was its end.
-/// Returns what follows the line.
-pub fn read_on<R: Source>(
-    alloc: Global,
-    reader: &mut R,
-    buffer: &mut [u8],
-    line: usize,
-    front: &[u8],
-    ended: bool,
-) -> Result<Vec<u8>, Refusal>
-    requires faults { R.fault_count reader.old < 2 ^ 63 }
-    requires buffer { 0 < length buffer.old }
-    requires front { line + length front.now ≤ max_input }
-    requires ended { ended ≡ true → IsAtEnd (R.left reader.old) }
-    ensures whole { IfOk result (λ input. (got : List ℕ) × Consumes (R.left reader.old) (R.left reader.new) got
-        × IsAtEnd (R.left reader.new) × (input.items ≡ front.now ++ got) × (ended ≡ true → got ≡ [])) }
-    ensures fits { IfOk result (λ input. line + length input.items ≤ max_input) }
-    ensures cut { IfErr result (λ refusal. (got : List ℕ) × Consumes (R.left reader.old) (R.left reader.new) got
-        × IsReadCause refusal (line + length (front.now ++ got)) (R.fault_count reader.old) (R.fault_count reader.new)
-        × (ended ≡ true → (got ≡ []) × IsAtEnd (R.left reader.new))) }
-{
-    let mut input = Vec::from_slice(alloc, front)?;
-    if ended {
-        return Ok(input);
-    }
-    'reading: while input.len() <= MAX_INPUT - line {
-        match reader.take(buffer) {
-            None => return Err(Refusal::ReadFailed),
-            Some(0) => return Ok(input),
-            Some(n) => input.extend_from_slice(&buffer[..n])?,
-        }
-    }
-    Err(Refusal::InputTooLarge)
-}
 
 /// Reads until the buffer holds the complete first line. Returns how many bytes it holds then, and how many of them the line has.
 pub fn read_line<R: Source>(reader: &mut R, buffer: &mut [u8]) -> Result<(usize, usize), Fault>

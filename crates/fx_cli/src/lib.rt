@@ -1,21 +1,25 @@
-//! The command line of `mkstrike`: arguments and a font in; a strike or the listing of a program, a line for people and a status
-//! out.
+//! The command line of `mkstrike`: arguments and a font in; a strike, the picture of a character or the listing of a program, a
+//! line for people and a status out.
 #![tactic(auto)]
 
+mod arguments;
 mod chars;
 mod commands;
 mod done;
 mod fault;
 mod hexadecimal;
 mod input;
+mod job;
 mod limits;
 mod lines;
 mod parts;
+mod picture;
 mod program;
+mod read_ahead;
+mod show;
 mod start;
 mod values;
 mod wish;
-mod words;
 
 pub use chars::parse_chars;
 pub use program::run;

@@ -44,7 +44,7 @@ pub fn status<E: Sink>(err: &mut E, outcome: &Result<Done, Fault>) -> u8
             put_report(err, report);
             0
         }
-        Ok(Done::Listing) => 0,
+        Ok(Done::Picture) | Ok(Done::Listing) => 0,
         Err(Fault::Usage) => usage(err),
         Err(Fault::Early(refusal)) | Err(Fault::Late(refusal)) => refused(err, *refusal),
     }

@@ -1,7 +1,8 @@
 //! The start of the program.
 ghost use Rattle.std.specs.Prelude.{◌≡◌, ◌<◌, ◌^◌, map, string_bytes, IfOk};
 ghost use Rattle.fx_fixed.specs.Chain.{map_fault, map_ok};
-ghost use Rattle.fx_cli.specs.Runs.{Starts, unread_status};
+ghost use Rattle.fx_cli.specs.Arguments.{texts};
+ghost use Rattle.fx_cli.specs.Runs.{Starts, change_of, unread_status};
 ghost use Rattle.std.specs.IoError.{error_kind};
 
 use crate::lines::{out_of_memory, usage};
@@ -15,23 +16,23 @@ use std::{env, io};
 /// to `err`.
 /// Returns the status. Nothing is buffered between it and the system's files, so that no byte is lost after it returns.
 pub fn run_program<E: Write + Drop>(rt: &HostRuntime, err: E) -> u8 {
-    let words = words(rt);
+    let arguments = arguments(rt);
     let mut reader = FromReader::new(rt.stdin());
     let mut out = ToSink::new(rt.stdout());
     let mut err = ToSink::new(err);
-    run_given(rt.alloc(), &words, &mut reader, &mut out, &mut err)
+    run_given(rt.alloc(), &arguments, &mut reader, &mut out, &mut err)
 }
 
-/// The words that the system gives: the program's name, then its arguments.
-fn words(rt: &HostRuntime) -> io::Result<Vec<String>> {
+/// The arguments that the system gives, the program's name first.
+fn arguments(rt: &HostRuntime) -> io::Result<Vec<String>> {
     Ok(env::args(rt)?.collect(rt.alloc())?)
 }
 
-/// Runs the program on the words of a command line, of which the first is its name, or on the fault that came in place of them:
-/// out of memory, or an argument that is not text, which is a usage fault. Returns the status.
+/// Runs the program on the arguments of a command line, the program's name first; or on the fault that came in place of them: out
+/// of memory, or an argument that is not text, which is a usage fault. Returns the status.
 pub fn run_given<R: Source, O: Sink, E: Sink>(
     alloc: Global,
-    words: &io::Result<Vec<String>>,
+    arguments: &io::Result<Vec<String>>,
     reader: &mut R,
     out: &mut O,
     err: &mut E,
@@ -39,19 +40,11 @@ pub fn run_given<R: Source, O: Sink, E: Sink>(
     requires reader { R.fault_count reader.old < 2 ^ 63 }
     requires out { O.fault_count out.old < 2 ^ 63 }
     requires err { E.fault_count err.old < 2 ^ 63 }
-    ensures { Starts (map_fault error_kind (map_ok (λ words. map string_bytes words.items) words.now)) (record {
-      left_before = R.left reader.old;
-      left = R.left reader.new;
-      reader_faults_before = R.fault_count reader.old;
-      reader_faults = R.fault_count reader.new;
-      held_before = O.held out.old;
-      held = O.held out.new;
-      writer_faults_before = O.fault_count out.old;
-      writer_faults = O.fault_count out.new;
-    }) result }
+    ensures { Starts (map_fault error_kind (map_ok (λ arguments. map string_bytes arguments.items) arguments.now))
+        (change_of R.left R.fault_count reader.old reader.new) (change_of O.held O.fault_count out.old out.new) result }
 {
-    match words {
-        Ok(words) => match texts_of(alloc, words) {
+    match arguments {
+        Ok(arguments) => match texts_of(alloc, arguments) {
             Ok(texts) => run(alloc, &texts, reader, out, err),
             Err(_) => out_of_memory(err),
         },
@@ -59,13 +52,13 @@ pub fn run_given<R: Source, O: Sink, E: Sink>(
     }
 }
 
-/// The words as texts.
-fn texts_of<'a>(alloc: Global, words: &'a [String]) -> Result<Vec<&'a str>, AllocError>
-    ensures { IfOk result (λ texts. map (λ text. text.now) texts.items ≡ map string_bytes words.entry.now) }
+/// The arguments as texts.
+fn texts_of<'a>(alloc: Global, arguments: &'a [String]) -> Result<Vec<&'a str>, AllocError>
+    ensures { IfOk result (λ all. texts all.items ≡ map string_bytes arguments.entry.now) }
 {
     let mut texts = Vec::new(alloc);
-    'words: for word in words {
-        texts.push(word.as_str())?;
+    'arguments: for argument in arguments {
+        texts.push(argument.as_str())?;
     }
     Ok(texts)
 }

@@ -3,7 +3,7 @@ ghost use Rattle.std.specs.Prelude.{◌≡◌, ◌⊎◌, ◌==◌, ◌||◌, No
 ghost use Rattle.std.specs.List.{list_any};
 ghost use Rattle.std.specs.Str.{bytes_eq};
 ghost use Rattle.clap.specs.Words.{app_of, first_of, found_of, is_simple, is_simple_and_free, rows_of};
-ghost use Rattle.fx_cli.specs.Words.{is_bare, is_given, rows_by, size_of};
+ghost use Rattle.fx_cli.specs.Arguments.{is_bare, is_given, rows_by, size_of, texts};
 
 use crate::fault::Fault;
 use clap::error::ErrorKind;
@@ -11,29 +11,29 @@ use clap::{ArgMatches, Command};
 use fx_strike::Refusal;
 
 /// The values of a command's options.
-pub fn matches<'a>(command: Command<'a>, words: &'a [&'a str]) -> Result<ArgMatches<'a>, Fault>
+pub fn matches<'a>(command: Command<'a>, arguments: &'a [&'a str]) -> Result<ArgMatches<'a>, Fault>
     requires simple { is_simple (app_of command) ≡ true }
     requires free { is_simple_and_free (app_of command) ≡ true }
     ensures taken { IfOk result (λ m.
-        rows_by (app_of command.entry) (map (λ word. word.now) words.entry.now) ≡ Some (rows_of (found_of m))) }
+        rows_by (app_of command.entry) (texts arguments.entry.now) ≡ Some (rows_of (found_of m))) }
     ensures refused { IfErr result (λ fault. (fault ≡ Fault.Early Refusal.OutOfMemory)
-        ⊎ ((fault ≡ Fault.Usage) × (rows_by (app_of command.entry) (map (λ word. word.now) words.entry.now) ≡ None))) }
+        ⊎ ((fault ≡ Fault.Usage) × (rows_by (app_of command.entry) (texts arguments.entry.now) ≡ None))) }
 {
-    if has_bare(words) {
+    if has_bare(arguments) {
         return Err(Fault::Usage);
     }
-    match command.try_get_matches_from(words) {
+    match command.try_get_matches_from(arguments) {
         Ok(matches) => Ok(matches),
         Err(error) => Err(fault_of(error.kind())),
     }
 }
 
 /// Whether some argument has only hyphens.
-fn has_bare(words: &[&str]) -> bool
-    ensures { result ≡ list_any is_bare (map (λ word. word.now) words.now) }
+fn has_bare(arguments: &[&str]) -> bool
+    ensures { result ≡ list_any is_bare (texts arguments.now) }
 {
-    'words: for word in words {
-        if is_bare(word) {
+    'arguments: for argument in arguments {
+        if is_bare(argument) {
             return true;
         }
     }
@@ -41,10 +41,10 @@ fn has_bare(words: &[&str]) -> bool
 }
 
 /// Whether an argument has only hyphens, which clap would take.
-fn is_bare(word: &str) -> bool
-    ensures { result ≡ is_bare word.now }
+fn is_bare(argument: &str) -> bool
+    ensures { result ≡ is_bare argument.now }
 {
-    word == "-" || word == "--"
+    argument == "-" || argument == "--"
 }
 
 /// The fault of arguments that clap refuses.

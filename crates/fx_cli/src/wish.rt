@@ -13,16 +13,26 @@ pub struct Wish<'a> {
 #[derive(Clone, Copy)]
 pub enum Task<'a> {
     /// A strike.
-    Strike(StrikeWords<'a>),
+    Strike(MakeArguments<'a>),
+    /// The picture of a character.
+    Picture(ShowArguments<'a>),
     /// The listing of a program.
     Listing(Which),
 }
 
-/// The arguments that ask for a strike.
+/// The arguments of `make`.
 #[derive(Clone, Copy)]
-pub struct StrikeWords<'a> {
+pub struct MakeArguments<'a> {
     pub ppem: u16,
     pub list: &'a str,
     pub name: &'a str,
+    pub unhinted: bool,
+}
+
+/// The arguments of `show`.
+#[derive(Clone, Copy)]
+pub struct ShowArguments<'a> {
+    pub ppem: u16,
+    pub number: &'a str,
     pub unhinted: bool,
 }

@@ -1,59 +1,66 @@
--- The list of segments, one segment at a time, and the search in it.
--- For the loops of `is_falling` and `first_reaching`, and for `find_segment`.
+-- A list of segments or groups, one at a time, and the search in it.
+-- For the loops of `is_falling` and `first_reaching`, and for `find_segment` and `find_group`.
 use Rattle.std.proofs.Common.{◌≡◌, ℕ, zero, suc, ◌+◌, ◌*◌, ◌<◌, ◌≤◌, Bool, true, false, ◌||◌, cond, nat_lt, List, Some, None, refl}
 use Rattle.std.proofs.Common.{sym, ap, ◌∙◌, arith}
 use Rattle.std.specs.List.{find}
 use Rattle.std.proofs.lemmas.Bool.{or_parts, ltb-false}
 use Rattle.fx_sfnt.specs.Fields.{field}
-use Rattle.fx_cmap.specs.Lookup.{segment_of, each_number, falls}
-use Rattle.fx_cmap.specs.declared.segment.Segment.{Segment}
+use Rattle.fx_cmap.specs.Subtables.{each_number, falls}
+use Rattle.fx_cmap.specs.Segments.{segment_of}
+use Rattle.fx_cmap.specs.Groups.{group_of}
 
--- the end code of a segment
+-- the last code of a segment
 pub end_code_is : (cmap : List ℕ) (start count k : ℕ) → (segment_of cmap start count k).end_code ≡ field 2 cmap (start + 14 + 2 * k)
 unfolding segment_of
 end_code_is cmap start count k = refl
 
--- the end codes from a segment on, if there is one
-pub falls_step : (f : ℕ → Segment) (before k next n m last : ℕ) → n ≡ suc m → next ≡ suc k → (f k).end_code ≡ last
-    → falls before (each_number f k n) ≡ (nat_lt last before || falls last (each_number f next m))
-falls_step f before k next n m last h i e =
-    ap (λ (x : ℕ). falls before (each_number f k x)) h ∙ ap (λ (x : ℕ). nat_lt x before || falls x (each_number f (suc k) m)) e
-    ∙ ap (λ (x : ℕ). nat_lt last before || falls last (each_number f x m)) (sym i)
+-- the last code of a group
+pub end_char_code_is : (cmap : List ℕ) (start k : ℕ) → (group_of cmap start k).end_char_code ≡ field 4 cmap (start + 20 + 12 * k)
+unfolding group_of
+end_char_code_is cmap start k = refl
 
--- end codes that do not fall are at least the number below them
-pub falls_above : (f : ℕ → Segment) (before k n j i : ℕ) → i ≡ k + j → falls before (each_number f k n) ≡ false → j < n
-    → before ≤ (f i).end_code
-falls_above f before k zero j i e h lt = absurd (omega arith)
-falls_above f before k (suc n) zero i e h lt =
-    let parts = or_parts (nat_lt (f k).end_code before) (falls (f k).end_code (each_number f (suc k) n)) h in
-    let here : before ≤ (f k).end_code = ltb-false (f k).end_code before parts.0 in
+-- the last codes from a number on, if there is one
+pub falls_step : {X : Type 0} (last : X → ℕ) (f : ℕ → X) (before k next n m code : ℕ) → n ≡ suc m → next ≡ suc k
+    → last (f k) ≡ code → falls last before (each_number f k n) ≡ (nat_lt code before || falls last code (each_number f next m))
+falls_step last f before k next n m code h i e =
+    ap (λ (x : ℕ). falls last before (each_number f k x)) h
+    ∙ ap (λ (x : ℕ). nat_lt x before || falls last x (each_number f (suc k) m)) e
+    ∙ ap (λ (x : ℕ). nat_lt code before || falls last code (each_number f x m)) (sym i)
+
+-- last codes that do not fall are at least the number below them
+pub falls_above : {X : Type 0} (last : X → ℕ) (f : ℕ → X) (before k n j i : ℕ) → i ≡ k + j
+    → falls last before (each_number f k n) ≡ false → j < n → before ≤ last (f i)
+falls_above last f before k zero j i e h lt = absurd (omega arith)
+falls_above last f before k (suc n) zero i e h lt =
+    let parts = or_parts (nat_lt (last (f k)) before) (falls last (last (f k)) (each_number f (suc k) n)) h in
+    let here : before ≤ last (f k) = ltb-false (last (f k)) before parts.0 in
     let same : i ≡ k = omega arith in
-    omega (arith, ap (λ (x : ℕ). (f x).end_code) same)
-falls_above f before k (suc n) (suc j) i e h lt =
-    let parts = or_parts (nat_lt (f k).end_code before) (falls (f k).end_code (each_number f (suc k) n)) h in
-    let here : before ≤ (f k).end_code = ltb-false (f k).end_code before parts.0 in
-    let later : (f k).end_code ≤ (f i).end_code = falls_above f (f k).end_code (suc k) n j i (omega arith) parts.1 (omega arith) in
+    omega (arith, ap (λ (x : ℕ). last (f x)) same)
+falls_above last f before k (suc n) (suc j) i e h lt =
+    let parts = or_parts (nat_lt (last (f k)) before) (falls last (last (f k)) (each_number f (suc k) n)) h in
+    let here : before ≤ last (f k) = ltb-false (last (f k)) before parts.0 in
+    let later : last (f k) ≤ last (f i) = falls_above last f (last (f k)) (suc k) n j i (omega arith) parts.1 (omega arith) in
     omega arith
 
--- end codes that do not fall are in order
-pub falls_between : (f : ℕ → Segment) (before k n a b i j : ℕ) → i ≡ k + a → j ≡ k + b → falls before (each_number f k n) ≡ false
-    → a ≤ b → b < n → (f i).end_code ≤ (f j).end_code
-falls_between f before k zero a b i j e d h le lt = absurd (omega arith)
-falls_between f before k (suc n) zero zero i j e d h le lt =
+-- last codes that do not fall are in order
+pub falls_between : {X : Type 0} (last : X → ℕ) (f : ℕ → X) (before k n a b i j : ℕ) → i ≡ k + a → j ≡ k + b
+    → falls last before (each_number f k n) ≡ false → a ≤ b → b < n → last (f i) ≤ last (f j)
+falls_between last f before k zero a b i j e d h le lt = absurd (omega arith)
+falls_between last f before k (suc n) zero zero i j e d h le lt =
     let same : i ≡ j = omega arith in
-    omega (arith, ap (λ (x : ℕ). (f x).end_code) same)
-falls_between f before k (suc n) zero (suc b) i j e d h le lt =
-    let parts = or_parts (nat_lt (f k).end_code before) (falls (f k).end_code (each_number f (suc k) n)) h in
-    let later : (f k).end_code ≤ (f j).end_code = falls_above f (f k).end_code (suc k) n b j (omega arith) parts.1 (omega arith) in
+    omega (arith, ap (λ (x : ℕ). last (f x)) same)
+falls_between last f before k (suc n) zero (suc b) i j e d h le lt =
+    let parts = or_parts (nat_lt (last (f k)) before) (falls last (last (f k)) (each_number f (suc k) n)) h in
+    let later : last (f k) ≤ last (f j) = falls_above last f (last (f k)) (suc k) n b j (omega arith) parts.1 (omega arith) in
     let same : i ≡ k = omega arith in
-    omega (arith, ap (λ (x : ℕ). (f x).end_code) same)
-falls_between f before k (suc n) (suc a) zero i j e d h le lt = absurd (omega arith)
-falls_between f before k (suc n) (suc a) (suc b) i j e d h le lt =
-    let parts = or_parts (nat_lt (f k).end_code before) (falls (f k).end_code (each_number f (suc k) n)) h in
-    falls_between f (f k).end_code (suc k) n a b i j (omega arith) (omega arith) parts.1 (omega arith) (omega arith)
+    omega (arith, ap (λ (x : ℕ). last (f x)) same)
+falls_between last f before k (suc n) (suc a) zero i j e d h le lt = absurd (omega arith)
+falls_between last f before k (suc n) (suc a) (suc b) i j e d h le lt =
+    let parts = or_parts (nat_lt (last (f k)) before) (falls last (last (f k)) (each_number f (suc k) n)) h in
+    falls_between last f (last (f k)) (suc k) n a b i j (omega arith) (omega arith) parts.1 (omega arith) (omega arith)
 
 -- what is found first
-pub found_at : (f : ℕ → Segment) (p : Segment → Bool) (k n j i : ℕ) → i ≡ k + j → j < n
+pub found_at : {X : Type 0} (f : ℕ → X) (p : X → Bool) (k n j i : ℕ) → i ≡ k + j → j < n
     → ((x : ℕ) → k ≤ x → x < i → p (f x) ≡ false) → p (f i) ≡ true → find p (each_number f k n) ≡ Some (f i)
 found_at f p k zero j i e lt before here = absurd (omega arith)
 found_at f p k (suc n) zero i e lt before here =
@@ -66,7 +73,7 @@ found_at f p k (suc n) (suc j) i e lt before here =
     ∙ found_at f p (suc k) n j i (omega arith) (omega arith) (λ x above below. before x (omega arith) below) here
 
 -- what is not found
-pub found_none : (f : ℕ → Segment) (p : Segment → Bool) (k n : ℕ) → ((x : ℕ) → k ≤ x → x < k + n → p (f x) ≡ false)
+pub found_none : {X : Type 0} (f : ℕ → X) (p : X → Bool) (k n : ℕ) → ((x : ℕ) → k ≤ x → x < k + n → p (f x) ≡ false)
     → find p (each_number f k n) ≡ None
 found_none f p k zero before = refl
 found_none f p k (suc n) before =

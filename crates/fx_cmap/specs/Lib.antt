@@ -1,1 +1,4 @@
+pub mod Subtables
+pub mod Segments
+pub mod Groups
 pub mod Lookup

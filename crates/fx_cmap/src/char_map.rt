@@ -4,42 +4,36 @@ ghost use Rattle.std.specs.Prelude.{◌≡◌};
 ghost use Rattle.fx_cmap.specs.Lookup.{char_map_of, map_of_file, glyph_for};
 
 use crate::fault::CharMapFault;
-use crate::records::chosen_subtable;
-use crate::segments::{find_segment, is_falling};
+use crate::groups::Groups;
+use crate::mapping::Mapping;
+use crate::records::{format_4, format_12};
+use crate::segments::Segments;
 use fx_sfnt::{Font, u16_in};
 use std::marker::Model;
 
-/// A character map: a view over the bytes of `cmap`, and which subtable of format 4 is taken.
-///
-/// Its map is one in which `CharMap::open` found no fault; its end codes do not fall.
+/// A character map: a view over the bytes of `cmap`, in which `CharMap::open` found no fault.
 #[derive(Drop)]
 pub struct CharMap<'a> {
-    cmap: &'a [u8],
-    // The offset of the subtable in `cmap`.
-    start: u32,
-    // The number of its segments.
-    seg_count: u16,
+    mapping: Mapping<'a>,
 }
 
 impl<'a> Model for CharMap<'a> {
-    ghost use Rattle.fx_cmap.specs.Lookup.{Segments, segments_of, falls};
-    ghost use Rattle.std.specs.Prelude.{◌≡◌, ◌+◌, ◌*◌, ◌≤◌, length, false};
+    ghost use Rattle.fx_cmap.specs.declared.mapping.Mapping.{Mapping};
 
-    ghost Value = { Segments };
+    ghost Value = { Mapping };
 
-    ghost view = { λ m. record { cmap = m.cmap.now; segments = segments_of m.cmap.now m.start m.seg_count } };
-
-    ghost invariant = { λ m. (m.start + 16 + 8 * m.seg_count ≤ length m.cmap.now)
-        × (falls 0 (segments_of m.cmap.now m.start m.seg_count) ≡ false) };
+    ghost view = { λ m. m.mapping };
 }
 
 impl<'a> CharMap<'a> {
     /// Reads the character map of a font, or returns the first fault.
     ///
     /// `NoCharMap` if there is no `cmap`; `BadCharMap` if its header or its records are cut; `NoCharMap` if no record that is
-    /// looked for has a subtable of format 4; `BadCharMap` if `cmap` ends before that subtable's segCountX2 or before the
-    /// fields of its segments do, or if its end codes fall. Among the records the first one for Windows with
-    /// Unicode (3, 1) is taken, else the first for Unicode (0, 0 to 3), else the first for Windows with symbols (3, 0).
+    /// looked for has a subtable of its format; `BadCharMap` if `cmap` ends before the header of the subtable that is taken or
+    /// before the fields of its segments or groups do, or if its last codes fall. Among the records whose subtable has format 12
+    /// the first one for Windows with all of Unicode (3, 10) is taken, else the first for Unicode (0, 0 to 6). If there is none,
+    /// among those of format 4 the first one for Windows with Unicode (3, 1), else the first for Unicode (0, 0 to 3), else the
+    /// first for Windows with symbols (3, 0).
     #[tactic(auto, unfolding(crate::specs::Lookup::map_of_file))]
     pub fn open(font: &Font<'a>) -> Result<CharMap<'a>, CharMapFault>
         ensures { result ≡ map_of_file font.now.file }
@@ -61,35 +55,26 @@ impl<'a> CharMap<'a> {
         if cmap.len() < 4 + 8 * u16_in(cmap, 2) as usize {
             return Err(CharMapFault::BadCharMap);
         }
-        let start = chosen_subtable(cmap).ok_or(CharMapFault::NoCharMap)?;
-        if cmap.len() < start as usize + 8 {
-            return Err(CharMapFault::BadCharMap);
-        }
-        let seg_count_x2 = u16_in(cmap, start as usize + 6);
-        let seg_count = seg_count_x2 / 2;
-        if cmap.len() < start as usize + 16 + 8 * seg_count as usize {
-            return Err(CharMapFault::BadCharMap);
-        }
-        if is_falling(cmap, start, seg_count) {
-            return Err(CharMapFault::BadCharMap);
-        }
-        Ok(CharMap {
-            cmap,
-            start,
-            seg_count,
-        })
+        let mapping = if let Some(start) = format_12(cmap) {
+            Mapping::Groups(Groups::read(cmap, start)?)
+        } else if let Some(start) = format_4(cmap) {
+            Mapping::Segments(Segments::read(cmap, start)?)
+        } else {
+            return Err(CharMapFault::NoCharMap);
+        };
+        Ok(CharMap { mapping })
     }
 
-    /// The glyph of a character code, 0 if it has none; for every number (OpenType, "Format 4").
+    /// The glyph of a character code, 0 if it has none; for every number (OpenType, "Format 4" and "Format 12").
     ///
-    /// The segment that counts is the first whose end code is at least the code; it is found by halving, so a call takes a time
-    /// logarithmic in the number of segments.
+    /// The segment or group that counts is the first whose last code is at least the code; it is found by halving, so a call
+    /// takes a time logarithmic in their number.
     pub fn glyph(&self, code: u32) -> u16
         ensures { result ≡ glyph_for self.now code }
     {
-        match find_segment(self.cmap, self.start, self.seg_count, code) {
-            Some(segment) => segment.glyph(self.cmap, code),
-            None => 0,
+        match &self.mapping {
+            Mapping::Segments(segments) => segments.glyph(code),
+            Mapping::Groups(groups) => groups.glyph(code),
         }
     }
 }
@@ -115,6 +100,27 @@ mod tests {
         assert_eq!(rt; map.glyph(0x43), 0);
         assert_eq!(rt; map.glyph(0xFFFF), 0);
         assert_eq!(rt; map.glyph(0x1_0041), 0);
+        Ok(())
+    }
+
+    // Two groups, for Windows with all of Unicode: 41 to 42 from glyph 2 on, and 1F600.
+    const GROUPS: &[u8] = &[
+        0, 0, 0, 1, 0, 3, 0, 10, 0, 0, 0, 12, // header, and the record for Windows with all of Unicode
+        0, 12, 0, 0, 0, 0, 0, 0x28, 0, 0, 0, 0, 0, 0, 0, 2, // format 12 with two groups
+        0, 0, 0, 0x41, 0, 0, 0, 0x42, 0, 0, 0, 2, // the first group
+        0, 1, 0xF6, 0, 0, 1, 0xF6, 0, 0, 0, 0, 3, // the second group
+    ];
+
+    #[test]
+    fn groups_are_looked_up(rt: HostRuntime) -> Result<(), Fail> {
+        let map = CharMap::read(GROUPS)?;
+        assert_eq!(rt; map.glyph(0x40), 0);
+        assert_eq!(rt; map.glyph(0x41), 2);
+        assert_eq!(rt; map.glyph(0x42), 3);
+        assert_eq!(rt; map.glyph(0x43), 0);
+        assert_eq!(rt; map.glyph(0x1_F5FF), 0);
+        assert_eq!(rt; map.glyph(0x1_F600), 3);
+        assert_eq!(rt; map.glyph(0x1_F601), 0);
         Ok(())
     }
 

@@ -1,11 +1,14 @@
 //! The character map of a TrueType font: which glyph a character has.
 //!
 //! A [`CharMap`] is a view over the bytes of `cmap`; nothing here takes memory. The rules are those of the OpenType
-//! specification, "cmap" and "Format 4: Segment mapping to delta values".
+//! specification, "cmap", "Format 4: Segment mapping to delta values" and "Format 12: Segmented coverage".
 #![tactic(auto)]
 
 mod char_map;
 mod fault;
+mod group;
+mod groups;
+mod mapping;
 mod records;
 mod segment;
 mod segments;

@@ -1,7 +1,7 @@
 //! One segment of a character map.
 
 ghost use Rattle.std.specs.Prelude.{◌≡◌};
-ghost use Rattle.fx_cmap.specs.Lookup.{plus_id_delta};
+ghost use Rattle.fx_cmap.specs.Segments.{plus_id_delta};
 
 use fx_sfnt::u16_at;
 
@@ -22,14 +22,14 @@ pub struct Segment {
 
 impl Segment {
     ghost use Rattle.std.specs.Prelude.{◌≡◌, ◌^◌, ◌<◌, ◌≤◌};
-    ghost use Rattle.fx_cmap.specs.Lookup.{glyph_in};
+    ghost use Rattle.fx_cmap.specs.Segments.{glyph_in_segment};
 
     /// The glyph of a code that this segment counts for.
-    #[tactic(auto, unfolding(crate::specs::Lookup::glyph_in))]
+    #[tactic(auto, unfolding(crate::specs::Segments::glyph_in_segment))]
     pub fn glyph(&self, cmap: &[u8], code: u32) -> u16
         requires offset { self.now.offset < 2 ^ 40 }
         requires reaches { code ≤ self.now.end_code }
-        ensures { result ≡ glyph_in cmap.now self.now code }
+        ensures { result ≡ glyph_in_segment cmap.now self.now code }
     {
         if code < self.start_code as u32 {
             return 0;

@@ -1,11 +1,71 @@
 //! The segments of a subtable of format 4.
 
-ghost use Rattle.std.specs.Prelude.{◌≡◌, ℕ, ◌+◌, ◌*◌, ◌^◌, ◌<◌, ◌≤◌, length, find, nat_le, false, IfSome};
+ghost use Rattle.std.specs.Prelude.{◌≡◌, ℕ, ◌+◌, ◌*◌, ◌^◌, ◌<◌, ◌≤◌, length, false, IfSome};
 ghost use Rattle.fx_sfnt.specs.Fields.{field};
-ghost use Rattle.fx_cmap.specs.Lookup.{segment_of, segments_of, falls};
+ghost use Rattle.fx_cmap.specs.Segments.{segment_of, segments_of, segments_fall, segment_for, segments_at, glyph_by_segments};
 
+use crate::fault::CharMapFault;
 use crate::segment::Segment;
 use fx_sfnt::u16_in;
+use std::marker::Model;
+
+/// A subtable of format 4 in the bytes of `cmap`. Its end codes do not fall.
+#[derive(Drop)]
+pub struct Segments<'a> {
+    cmap: &'a [u8],
+    // The offset of the subtable in `cmap`.
+    start: u32,
+    // The number of its segments.
+    seg_count: u16,
+}
+
+impl<'a> Model for Segments<'a> {
+    ghost use Rattle.std.specs.Prelude.{◌≡◌, ◌+◌, ◌*◌, ◌≤◌, length, false};
+    ghost use Rattle.fx_cmap.specs.Segments.{SegmentsView, segments_of, segments_fall};
+
+    ghost Value = { SegmentsView };
+
+    ghost view = { λ s. record { cmap = s.cmap.now; segments = segments_of s.cmap.now s.start s.seg_count } };
+
+    ghost invariant = { λ s. (s.start + 16 + 8 * s.seg_count ≤ length s.cmap.now)
+        × (segments_fall (segments_of s.cmap.now s.start s.seg_count) ≡ false) };
+}
+
+impl<'a> Segments<'a> {
+    /// Reads the subtable at an offset of `cmap`, or returns the first fault; its length and language are not looked at.
+    #[tactic(auto, unfolding(crate::specs::Segments::segments_at))]
+    pub fn read(cmap: &'a [u8], start: u32) -> Result<Segments<'a>, CharMapFault>
+        ensures { result ≡ segments_at cmap.now start }
+    {
+        let at = start as usize;
+        if cmap.len() < at + 8 {
+            return Err(CharMapFault::BadCharMap);
+        }
+        let seg_count_x2 = u16_in(cmap, at + 6);
+        let seg_count = seg_count_x2 / 2;
+        if cmap.len() < at + 16 + 8 * seg_count as usize {
+            return Err(CharMapFault::BadCharMap);
+        }
+        if is_falling(cmap, start, seg_count) {
+            return Err(CharMapFault::BadCharMap);
+        }
+        Ok(Segments {
+            cmap,
+            start,
+            seg_count,
+        })
+    }
+
+    /// The glyph of a code, 0 if it has none; it has none past U+FFFF.
+    pub fn glyph(&self, code: u32) -> u16
+        ensures { result ≡ glyph_by_segments self.now code }
+    {
+        match find_segment(self.cmap, self.start, self.seg_count, code) {
+            Some(segment) => segment.glyph(self.cmap, code),
+            None => 0,
+        }
+    }
+}
 
 /// The end code of a segment.
 fn end_code(cmap: &[u8], start: u32, k: u16) -> u16
@@ -16,7 +76,7 @@ fn end_code(cmap: &[u8], start: u32, k: u16) -> u16
 }
 
 /// The segment with a number.
-#[tactic(auto, unfolding(crate::specs::Lookup::segment_of))]
+#[tactic(auto, unfolding(crate::specs::Segments::segment_of))]
 fn segment(cmap: &[u8], start: u32, count: u16, k: u16) -> Segment
     requires inside { start + 16 + 8 * count ≤ length cmap.now }
     requires within { k < count }
@@ -35,9 +95,9 @@ fn segment(cmap: &[u8], start: u32, count: u16, k: u16) -> Segment
 }
 
 /// Whether some end code is below the one before it.
-pub fn is_falling(cmap: &[u8], start: u32, count: u16) -> bool
+fn is_falling(cmap: &[u8], start: u32, count: u16) -> bool
     requires { start + 16 + 8 * count ≤ length cmap.now }
-    ensures { result ≡ falls 0 (segments_of cmap.now start count) }
+    ensures { result ≡ segments_fall (segments_of cmap.now start count) }
 {
     let mut before = 0;
     'segments: for k in 0..count {
@@ -53,7 +113,7 @@ pub fn is_falling(cmap: &[u8], start: u32, count: u16) -> bool
 /// The number of the first segment whose end code is at least the code, or that of all segments; by halving.
 fn first_reaching(cmap: &[u8], start: u32, count: u16, code: u32) -> u16
     requires inside { start + 16 + 8 * count ≤ length cmap.now }
-    requires rising { falls 0 (segments_of cmap.now start count) ≡ false }
+    requires rising { segments_fall (segments_of cmap.now start count) ≡ false }
     ensures within { result ≤ count }
     ensures before { (k : ℕ) → k < result → field 2 cmap.now (start + 14 + 2 * k) < code }
     ensures reaches { result < count → code ≤ field 2 cmap.now (start + 14 + 2 * result) }
@@ -72,10 +132,10 @@ fn first_reaching(cmap: &[u8], start: u32, count: u16, code: u32) -> u16
 }
 
 /// The first segment whose end code is at least the code; the end codes do not fall.
-pub fn find_segment(cmap: &[u8], start: u32, count: u16, code: u32) -> Option<Segment>
+fn find_segment(cmap: &[u8], start: u32, count: u16, code: u32) -> Option<Segment>
     requires inside { start + 16 + 8 * count ≤ length cmap.now }
-    requires rising { falls 0 (segments_of cmap.now start count) ≡ false }
-    ensures value { result ≡ find (λ s. nat_le code s.end_code) (segments_of cmap.now start count) }
+    requires rising { segments_fall (segments_of cmap.now start count) ≡ false }
+    ensures value { result ≡ segment_for (segments_of cmap.now start count) code }
     ensures reaches { IfSome result (λ s. code ≤ s.end_code) }
     ensures offset { IfSome result (λ s. s.offset < 2 ^ 40) }
 {

@@ -16,9 +16,10 @@ use Rattle.fx_contour.specs.declared.fault.ContourFault.{ContourFault}
 use Rattle.fx_contour.specs.declared.fault.ContourFault.TheVariants.{TooFar, TooLarge}
 use Rattle.fx_contour.proofs.Framed.{frame_not_too_large}
 use Rattle.fx_fixed.specs.Ranges.{IsWithin}
+use Rattle.fx_winding.specs.Limits.{greatest_side}
 use Rattle.fx_winding.specs.Area.{Place}
 use Rattle.fx_winding.specs.Winding.{Span, centre}
-use Rattle.fx_hint.specs.declared.outline.OutlinePoint.{OutlinePoint}
+use Rattle.fx_hint.specs.declared.points.OutlinePoint.{OutlinePoint}
 use Rattle.fx_contour.specs.Contours.{farthest, IsInReach, is_within, is_in_reach, ReachIsTested, spans_of, drawn_of}
 use Rattle.fx_contour.specs.Frames.{HasAny, HaveAny, IsInBoundingBox, AreTooLarge, has_any, have_any, is_in_bounding_box}
 use Rattle.fx_contour.specs.Frames.{first_from, is_large_from, is_too_large, LargeIsTested, IsFrameFor, framed_of}
@@ -65,16 +66,17 @@ box_decides p ss =
 
 abbrev IsLargeFrom : List Span → ℤ → ℤ → Type 0
 IsLargeFrom ss i j =
-    IsInBoundingBox (centre i j) ss × (IsInBoundingBox (centre (i +ℤ pos 2048) j) ss ⊎ IsInBoundingBox
-    (centre i (j +ℤ pos 2048)) ss)
+    IsInBoundingBox (centre i j) ss × (IsInBoundingBox (centre (i +ℤ pos greatest_side) j) ss ⊎ IsInBoundingBox
+    (centre i (j +ℤ pos greatest_side)) ss)
 
 large_decides : (ss : List Span) (i j : ℤ) → Decides (is_large_from ss i j) (IsLargeFrom ss i j)
 large_decides ss i j =
     Decides-and (is_in_bounding_box (centre i j) ss)
-    (is_in_bounding_box (centre (i +ℤ pos 2048) j) ss || is_in_bounding_box (centre i (j +ℤ pos 2048)) ss)
+    (is_in_bounding_box (centre (i +ℤ pos greatest_side) j) ss || is_in_bounding_box (centre i (j +ℤ pos greatest_side)) ss)
     (box_decides (centre i j) ss)
-    (Decides-or (is_in_bounding_box (centre (i +ℤ pos 2048) j) ss) (is_in_bounding_box (centre i (j +ℤ pos 2048)) ss)
-    (box_decides (centre (i +ℤ pos 2048) j) ss) (box_decides (centre i (j +ℤ pos 2048)) ss))
+    (Decides-or (is_in_bounding_box (centre (i +ℤ pos greatest_side) j) ss)
+    (is_in_bounding_box (centre i (j +ℤ pos greatest_side)) ss)
+    (box_decides (centre (i +ℤ pos greatest_side) j) ss) (box_decides (centre i (j +ℤ pos greatest_side)) ss))
 
 -- a point that has P, and with it all that a point of the spans gives
 some_one : (P : Place → Type 0) (X : Type 0) (ss : List Span) → HaveAny P ss
@@ -126,11 +128,13 @@ large_at ss i j i' j' q r h m n x y kx ky = (
   by h.1,
 )
   where
-    by : IsInBoundingBox (centre (i +ℤ pos 2048) j) ss ⊎ IsInBoundingBox (centre i (j +ℤ pos 2048)) ss
-        → IsInBoundingBox (centre (i' +ℤ pos 2048) j') ss ⊎ IsInBoundingBox (centre i' (j' +ℤ pos 2048)) ss
-    by (inl k) = inl (before (centre (i +ℤ pos 2048) j) (centre (i' +ℤ pos 2048) j') ss q r k m n (omega (arith, ints))
+    by : IsInBoundingBox (centre (i +ℤ pos greatest_side) j) ss ⊎ IsInBoundingBox (centre i (j +ℤ pos greatest_side)) ss
+        → IsInBoundingBox (centre (i' +ℤ pos greatest_side) j') ss ⊎ IsInBoundingBox (centre i' (j' +ℤ pos greatest_side)) ss
+    by (inl k) = inl (before (centre (i +ℤ pos greatest_side) j) (centre (i' +ℤ pos greatest_side) j') ss q r k m n
+        (omega (arith, ints))
         (omega (arith, ints)) (omega (arith, ints)) (omega (arith, ints)))
-    by (inr k) = inr (before (centre i (j +ℤ pos 2048)) (centre i' (j' +ℤ pos 2048)) ss q r k m n (omega (arith, ints))
+    by (inr k) = inr (before (centre i (j +ℤ pos greatest_side)) (centre i' (j' +ℤ pos greatest_side)) ss q r k m n
+        (omega (arith, ints))
         (omega (arith, ints)) (omega (arith, ints)) (omega (arith, ints)))
 
 abbrev Row : List Span → Place → Type 0

@@ -2,6 +2,7 @@
 -- For the clauses of `frame`.
 use Rattle.std.proofs.Common.{◌≡◌, subst, ℕ, ◌<◌, ◌≤◌, inl, inr, ℤ, pos, ◌+ℤ◌, List, arith, ◌↔◌}
 use Rattle.fx_fixed.proofs.Linear.{signed_linear}
+use Rattle.fx_winding.specs.Limits.{greatest_side}
 use Rattle.fx_winding.specs.Winding.{Span, centre}
 use Rattle.fx_contour.specs.declared.bounds.Bounds.{Bounds}
 use Rattle.fx_contour.specs.declared.pixels.Pixels.{Pixels}
@@ -50,27 +51,29 @@ no_rows b ss a n col row h = n row (row_in b ss col row a h)
 first_in : (first : ℤ) (count : ℕ) → 0 < count → IsFrom first count first
 first_in first count h = (omega (arith, signed_linear), omega (arith, signed_linear))
 
-far_in : (first : ℤ) (count : ℕ) → 2048 < count → IsFrom first count (first +ℤ pos 2048)
+far_in : (first : ℤ) (count : ℕ) → greatest_side < count → IsFrom first count (first +ℤ pos greatest_side)
 far_in first count h = (omega (arith, signed_linear), omega (arith, signed_linear))
 
 pub too_wide : (b : Bounds) (ss : List Span) (s r : Pixels) → AreBounds b ss → ArePixels s b.left b.right
-    → ArePixels r b.bottom b.top → 2048 < s.count → AreTooLarge ss
+    → ArePixels r b.bottom b.top → greatest_side < s.count → AreTooLarge ss
 too_wide b ss s r a h k n =
     let row = (k r.first).0 (first_in r.first r.count r.some) in (
       s.first,
       r.first,
       box_from b ss s.first r.first a ((h s.first).0 (first_in s.first s.count s.some)) row,
-      inl (box_from b ss (s.first +ℤ pos 2048) r.first a ((h (s.first +ℤ pos 2048)).0 (far_in s.first s.count n)) row),
+      inl (box_from b ss (s.first +ℤ pos greatest_side) r.first a
+          ((h (s.first +ℤ pos greatest_side)).0 (far_in s.first s.count n)) row),
     )
 
 pub too_high : (b : Bounds) (ss : List Span) (s r : Pixels) → AreBounds b ss → ArePixels s b.left b.right
-    → ArePixels r b.bottom b.top → 2048 < r.count → AreTooLarge ss
+    → ArePixels r b.bottom b.top → greatest_side < r.count → AreTooLarge ss
 too_high b ss s r a h k n =
     let column = (h s.first).0 (first_in s.first s.count s.some) in (
       s.first,
       r.first,
       box_from b ss s.first r.first a column ((k r.first).0 (first_in r.first r.count r.some)),
-      inr (box_from b ss s.first (r.first +ℤ pos 2048) a column ((k (r.first +ℤ pos 2048)).0 (far_in r.first r.count n))),
+      inr (box_from b ss s.first (r.first +ℤ pos greatest_side) a column
+          ((k (r.first +ℤ pos greatest_side)).0 (far_in r.first r.count n))),
     )
 
 pub is_frame : (b : Bounds) (ss : List Span) (s r : Pixels) (f : Frame) → AreBounds b ss → ArePixels s b.left b.right
@@ -88,15 +91,16 @@ is_frame b ss s r f a h k fl fw fb fh = record {
   );
 }
 
-apart : (first : ℤ) (count : ℕ) (n : ℤ) → count ≤ 2048 → IsFrom first count n → ¬ (IsFrom first count (n +ℤ pos 2048))
+apart : (first : ℤ) (count : ℕ) (n : ℤ) → count ≤ greatest_side → IsFrom first count n
+    → ¬ (IsFrom first count (n +ℤ pos greatest_side))
 apart first count n h (a, b) (c, d) = omega (arith, signed_linear)
 
 pub frame_not_too_large : (f : Option Frame) (ss : List Span) → IsFrameFor f ss → ¬ (AreTooLarge ss)
 frame_not_too_large None ss n (i, j, h, k) = n i j h
 frame_not_too_large (Some f) ss n (i, j, h, inl k) =
-    apart f.left f.width i f.columns.few ((n.pixels i j).1 h).column ((n.pixels (i +ℤ pos 2048) j).1 k).column
+    apart f.left f.width i f.columns.few ((n.pixels i j).1 h).column ((n.pixels (i +ℤ pos greatest_side) j).1 k).column
 frame_not_too_large (Some f) ss n (i, j, h, inr k) =
-    apart f.bottom f.height j f.rows.few ((n.pixels i j).1 h).row ((n.pixels i (j +ℤ pos 2048)).1 k).row
+    apart f.bottom f.height j f.rows.few ((n.pixels i j).1 h).row ((n.pixels i (j +ℤ pos greatest_side)).1 k).row
 
 pub too_large_is : (r : Result (Option Frame) ContourFault) (ss : List Span) → IfOk r (λ f. IsFrameFor f ss)
     → IfErr r (λ e. (e ≡ TooLarge) × AreTooLarge ss) → IsErrOf r TooLarge ↔ AreTooLarge ss

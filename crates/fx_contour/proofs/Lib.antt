@@ -6,3 +6,6 @@ pub mod Walk
 pub mod Gather
 pub mod Decided
 pub mod Plane
+pub mod Drawn
+pub mod Shifted
+pub mod Reversed

@@ -6,7 +6,7 @@ use Rattle.std.proofs.lemmas.List.Elements.{All-head, All-tail}
 use Rattle.fx_winding.specs.declared.point.Piece.{Piece}
 use Rattle.fx_winding.specs.Area.{Place}
 use Rattle.fx_winding.specs.Winding.{span_of}
-use Rattle.fx_hint.specs.declared.outline.OutlinePoint.{OutlinePoint}
+use Rattle.fx_hint.specs.declared.points.OutlinePoint.{OutlinePoint}
 use Rattle.fx_contour.specs.Curve.{first_or, last_or, spans_between, curve_of}
 use Rattle.fx_contour.specs.Contours.{IsInReach}
 

@@ -1,5 +1,6 @@
 pub mod Curve
 pub mod Contours
+pub mod Moves
 pub mod Frames
 pub mod Faults
 pub mod Bounds

@@ -12,8 +12,8 @@ pub enum ContourFault {
     /// A point lies more than 2^21 from an axis, in 26.6 pixels.
     #[error("a point of the outline lies too far out")]
     TooFar,
-    /// A side of the frame has more than 2,048 pixels.
-    #[error("the frame has more than 2,048 pixels a side")]
+    /// A side of the frame has more than 8,192 pixels.
+    #[error("the frame has more than 8,192 pixels a side")]
     TooLarge,
     /// Out of memory.
     #[error("out of memory")]

@@ -2,6 +2,7 @@
 ghost use Rattle.fx_contour.specs.Contours.{ReachIsTested};
 ghost use Rattle.fx_contour.specs.Curve.{CurvesAreClosed, CurveIsByMidpoints};
 ghost use Rattle.fx_contour.specs.Frames.{LargeIsTested};
+ghost use Rattle.fx_contour.specs.Moves.{ShiftMovesSpans, ShiftMovesBits, ReversalReversesContours, ReversalReversesSpans, ReversalKeepsBits};
 
 /// The curve of a contour is a closed chain: each span begins where the one before it ends, the first where the last ends.
 pub fn closed()
@@ -18,4 +19,17 @@ pub fn by_midpoints()
 pub fn tested()
     ensures near { ReachIsTested }
     ensures large { LargeIsTested }
+{}
+
+/// Moving every point by whole pixels moves the bits, where both outlines are within the limits.
+pub fn shift()
+    ensures spans { ShiftMovesSpans }
+    ensures bits { ShiftMovesBits }
+{}
+
+/// Reversing every contour leaves every bit as it is: its pieces become the reversed pieces, in another order.
+pub fn reversal()
+    ensures contours { ReversalReversesContours }
+    ensures spans { ReversalReversesSpans }
+    ensures bits { ReversalKeepsBits }
 {}

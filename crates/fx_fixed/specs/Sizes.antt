@@ -3,7 +3,7 @@ use Rattle.std.specs.Prelude.{ℕ, ◌≤◌, ◌==◌, ◌||◌, nat_lt, if◌t
 
 -- the greatest size, in pixels per em
 abbrev pub max_ppem : ℕ
-max_ppem = 255
+max_ppem = 1024
 
 -- a valid size in pixels per em
 pub record IsPpem (n : ℕ) : Type 0 where

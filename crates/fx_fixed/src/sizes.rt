@@ -6,7 +6,7 @@ ghost use Rattle.fx_fixed.specs.Sizes.{IsPpem, ppem_of};
 use std::marker::Model;
 
 /// The greatest size in pixels per em.
-pub const MAX_PPEM: u16 = 255;
+pub const MAX_PPEM: u16 = 1_024;
 
 /// A valid size in pixels per em, 1 to `MAX_PPEM`; contracts see it as its number.
 #[derive(Clone, Copy, Debug, PartialEq, Eq)]

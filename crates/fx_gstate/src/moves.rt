@@ -3,8 +3,9 @@
 ghost use Rattle.std.specs.Prelude.{◌≡◌, ◌≢◌, ◌^◌, ◌≤◌, pos, ◌+ℤ◌, ◌*ℤ◌, unsigned_abs};
 ghost use Rattle.fx_gstate.specs.Vectors.{dot_of, not_small, shift_part_of, shift_of};
 
+use crate::quotients::near_quotient;
 use crate::vectors::Vector;
-use fx_fixed::{Axis, F26, Place, near, w32};
+use fx_fixed::{Axis, F26, Place, w32};
 
 /// The shift along the freedom vector that changes the projection by `d` (Apple TrueType Reference Manual, "Freedom vector"): each
 /// coordinate is the nearest to the exact quotient, in 32 bits. When both vectors are one axis it is `d` along that axis.
@@ -33,24 +34,24 @@ fn shifted(freedom: Vector, projection: Vector, d: F26) -> Place
 
 /// One coordinate of the shift, at the product of the vectors.
 #[tactic(auto, unfolding(crate::specs::Vectors::shift_part_of))]
-fn shift(d: i32, along: i16, by: i128) -> i32
+fn shift(d: i32, along: i16, by: i64) -> i32
     requires nonzero { by ≢ pos 0 }
     requires size { unsigned_abs by ≤ 2 ^ 31 }
     ensures { result ≡ shift_part_of d along by }
 {
-    w32(near(numerator(d, along), by))
+    w32(i128::from(near_quotient(numerator(d, along), by)))
 }
 
 /// What is divided by the product of the vectors.
-fn numerator(d: i32, along: i16) -> i128
+fn numerator(d: i32, along: i16) -> i64
     ensures value { result ≡ d *ℤ along *ℤ pos (2 ^ 14) }
     ensures bound { unsigned_abs result ≤ 2 ^ 60 }
 {
-    i128::from(d) * i128::from(along) * (1 << 14)
+    i64::from(d) * i64::from(along) * (1 << 14)
 }
 
 /// The product of the vectors.
-fn dot(freedom: Vector, projection: Vector) -> i128
+fn dot(freedom: Vector, projection: Vector) -> i64
     ensures value { result ≡ dot_of freedom projection }
     ensures nonzero { result ≢ pos 0 }
     ensures size { unsigned_abs result ≤ 2 ^ 31 }
@@ -64,7 +65,7 @@ fn dot(freedom: Vector, projection: Vector) -> i128
 }
 
 /// A product below 1/16 is taken as that of equal vectors, so that a shift stays in reach.
-fn not_small(dot: i64) -> i128
+fn not_small(dot: i64) -> i64
     requires { unsigned_abs dot ≤ 2 ^ 31 }
     ensures value { result ≡ not_small dot }
     ensures nonzero { result ≢ pos 0 }
@@ -73,7 +74,7 @@ fn not_small(dot: i64) -> i128
     if dot.unsigned_abs() < 1 << 24 {
         1 << 28
     } else {
-        i128::from(dot)
+        dot
     }
 }
 

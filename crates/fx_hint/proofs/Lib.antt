@@ -1,3 +1,9 @@
 pub mod Walking
 pub mod Contours
 pub mod Sound
+mod Places
+mod Steps
+mod Programs
+mod Machines
+mod Turning
+mod Joined

@@ -27,10 +27,11 @@ use Rattle.fx_hint.specs.declared.made.Made.{Made}
 use Rattle.fx_hint.specs.declared.fault.HintFault.TheVariants.{Font, Glyph, TooManyComponents, TooManyPoints}
 use Rattle.fx_hint.specs.Limits.{max_points, max_components, max_depth}
 use Rattle.fx_hint.specs.Ends.{AreEnds}
-use Rattle.fx_hint.specs.Hinting.{Hinting, KeepsShape}
+use Rattle.fx_hint.specs.declared.count.Spent.{Spent}
+use Rattle.fx_hint.specs.Hinting.{Hinting, KeepsShape, spent_with}
 use Rattle.fx_hint.specs.Parts.{laid, laid_figure, offset_of, with_part}
 use Rattle.fx_hint.specs.Outlines.{Maker, one_component, more_points, simple_made, run_on, with_parts, made_of, assembled}
-use Rattle.fx_hint.specs.Outlines.{component, root_made, IsSound}
+use Rattle.fx_hint.specs.Outlines.{component, nothing_counted, root_made, IsSound}
 use Rattle.fx_hint.proofs.Contours.{ends_joined}
 
 -- the points of an assembled glyph were counted, and its contours end with them
@@ -97,10 +98,10 @@ run_counted : (h : Hinting) (g : ℕ) (code : List ℕ) (count : Count) (made r 
     → IsCounted count made.0 made.1 → run_on h g code made ≡ Ok r → IsCounted count r.0 r.1
 unfolding run_on
 run_counted h g code count made r keeps k e =
-    let b = bind_ok (h.run g code made.0) (λ ran. Ok (ran, made.1)) r e in
+    let b = bind_ok (h.run g code made.0) (λ ran. Ok (ran.0, record made.1 { spent = spent_with made.1.spent ran.1 })) r e in
     let same = keeps g code made.0 b.0 b.1 in
     let P : Made × Count → Type 0 = λ q. IsCounted count q.0 q.1 in
-    let Q : List ℕ → Type 0 = λ es. AreEnds 0 es (length b.0.zone.points) in
+    let Q : List ℕ → Type 0 = λ es. AreEnds 0 es (length b.0.0.zone.points) in
     let R : ℕ → Type 0 = λ n. AreEnds 0 made.0.zone.ends n in
     subst P (ok_injective _ _ b.2) (record {
       points = ap (λ n. count.points + n) same.0 ∙ k.points;
@@ -204,15 +205,14 @@ component_counted h face s root (suc levels) keeps g count r low e =
     record { points = omega arith; few = w.few; contours = w.contours }
 
 -- an assembled root is sound
-pub root_sound : (h : Hinting) (face : Face) (s : Scale) (g : ℕ) (made : Made) → KeepsShape h → root_made h face s g ≡ Ok made
-    → IsSound made
+pub root_sound : (h : Hinting) (face : Face) (s : Scale) (g : ℕ) (made : Made × Spent) → KeepsShape h
+    → root_made h face s g ≡ Ok made → IsSound made.0
 unfolding root_made
 root_sound h face s g made keeps e =
-    let b = bind_ok (assembled h face s g (component h face s g max_depth) g (record { records = 0; points = 0 }))
-    (λ m. Ok m.0) made e in
-    let w = assembled_counted h face s g (component h face s g max_depth) g (record { records = 0; points = 0 }) b.0 keeps
+    let b = bind_ok (assembled h face s g (component h face s g max_depth) g nothing_counted) (λ m. Ok (m.0, m.1.spent)) made e in
+    let w = assembled_counted h face s g (component h face s g max_depth) g nothing_counted b.0 keeps
     (component_counted h face s g max_depth keeps) (omega arith) b.1 in
     let n = w.points in
     let f = w.few in
-    let P : Made → Type 0 = λ m. IsSound m in
+    let P : Made × Spent → Type 0 = λ m. IsSound m.0 in
     subst P (ok_injective _ _ b.2) (record { few = omega arith; contours = w.contours })

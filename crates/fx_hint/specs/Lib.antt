@@ -3,4 +3,7 @@ pub mod Ends
 pub mod Faults
 pub mod Parts
 pub mod Hinting
+pub mod Programmed
 pub mod Outlines
+pub mod Machines
+pub mod inner

@@ -13,17 +13,24 @@ use Rattle.fx_glyf.specs.Glyphs.{glyph_of}
 use Rattle.fx_zone.specs.declared.point.Point.{Point}
 use Rattle.fx_zone.specs.Figures.{empty_figure}
 use Rattle.fx_scale.specs.declared.scale.Scale.{Scale}
+use Rattle.fx_scale.specs.Scaling.{scale_of}
 use Rattle.fx_scale.specs.Phantoms.{phantoms_of}
 use Rattle.fx_scale.specs.Zones.{zone_of_simple}
+use Rattle.fx_machine.specs.declared.halt.MachineFault.{MachineFault}
+use Rattle.fx_machine.specs.declared.halt.MachineFault.TheVariants as machine_fault
+use Rattle.fx_machine.specs.Known.{machine_of}
 use Rattle.fx_hint.specs.declared.count.Count.{Count}
+use Rattle.fx_hint.specs.declared.count.Spent.{Spent}
 use Rattle.fx_hint.specs.declared.made.Made.{Made}
-use Rattle.fx_hint.specs.declared.outline.OutlinePoint.{OutlinePoint}
-use Rattle.fx_hint.specs.declared.outline.Outline.{Outline}
+use Rattle.fx_hint.specs.declared.points.OutlinePoint.{OutlinePoint}
+use Rattle.fx_hint.specs.declared.points.Outline.{Outline}
 use Rattle.fx_hint.specs.declared.fault.HintFault.{HintFault}
 use Rattle.fx_hint.specs.declared.fault.HintFault.TheVariants.{Font, Glyph, ComponentDepth, TooManyComponents, TooManyPoints}
+use Rattle.fx_hint.specs.declared.fault.HintFault.TheVariants.{Halted, OutOfMemory}
 use Rattle.fx_hint.specs.Limits.{max_points, max_components, max_depth}
 use Rattle.fx_hint.specs.Ends.{AreEnds}
-use Rattle.fx_hint.specs.Hinting.{Hinting, no_hinting}
+use Rattle.fx_hint.specs.Hinting.{Hinting, no_hinting, nothing_spent, spent_with}
+use Rattle.fx_hint.specs.Programmed.{hinting_of}
 use Rattle.fx_hint.specs.Parts.{with_part}
 
 -- what assembles a component, from its glyph and the counts so far
@@ -48,11 +55,11 @@ simple_made s hinted root m shape count = do
   counted ← more_points root (length shape.points) count
   Ok (record { zone = zone_of_simple s shape; phantoms = phantoms_of s hinted shape.x_min m }, counted)
 
--- the program of a glyph runs on its points and phantom points
+-- the program of a glyph runs on its points and phantom points; what it uses up is counted
 unfoldable pub run_on : Hinting → ℕ → List ℕ → Made × Count → Result (Made × Count) HintFault
 run_on h g code made = do
   ran ← h.run g code made.0
-  Ok (ran, made.1)
+  Ok (ran.0, record made.1 { spent = spent_with made.1.spent ran.1 })
 
 -- the components of a composite g in order, each assembled
 unfoldable pub with_parts : Scale → Bool → Maker → ℕ → List Part → Made → Count → Result (Made × Count) HintFault
@@ -87,11 +94,15 @@ component h face s root zero = λ g count. Err (ComponentDepth g)
 component h face s root (suc levels) = λ g count.
     one_component root count >>= λ counted. assembled h face s root (component h face s root levels) g counted
 
--- a root, at depth 0: components lie at depth max_depth at most
-unfoldable pub root_made : Hinting → Face → Scale → ℕ → Result Made HintFault
+-- before the walk
+abbrev pub nothing_counted : Count
+nothing_counted = record { records = 0; points = 0; spent = nothing_spent }
+
+-- a root, at depth 0: components lie at depth max_depth at most; and what all programs together used up
+unfoldable pub root_made : Hinting → Face → Scale → ℕ → Result (Made × Spent) HintFault
 root_made h face s g = do
-  made ← assembled h face s g (component h face s g max_depth) g (record { records = 0; points = 0 })
-  Ok made.0
+  made ← assembled h face s g (component h face s g max_depth) g nothing_counted
+  Ok (made.0, made.1.spent)
 
 -- what an outline is seen as
 pub record OutlineView : Type 0 where
@@ -109,29 +120,36 @@ abbrev pub moved_point : ℤ → Point → OutlinePoint
 moved_point origin p = record { x = difference_of p.cur.x origin; y = p.cur.y; on_curve = p.on }
 
 -- the outline moved; its advance is the second phantom point's x from the first's
-unfoldable pub moved_outline_of : Made → OutlineView
-moved_outline_of made = record {
+unfoldable pub moved_outline_of : Made → Spent → OutlineView
+moved_outline_of made spent = record {
   points = map (moved_point made.phantoms.origin.cur.x) made.zone.points;
   ends = made.zone.ends;
   advance = difference_of made.phantoms.advance.cur.x made.phantoms.origin.cur.x;
-  strays = 0;
-  steps = 0;
+  strays = spent.strays;
+  steps = spent.steps;
 }
-
--- a font's scale at a size
-abbrev pub scale_of : Face → ℕ → Scale
-scale_of face ppem =
-    record { ppem = ppem; units_per_em = face.head.units_per_em; ascender = face.hhea.ascender; descender = face.hhea.descender }
 
 -- the outline of a glyph as hinting makes it
 unfoldable pub outline_with : Hinting → Face → ℕ → ℕ → Result OutlineView HintFault
 outline_with h face ppem g = do
   made ← root_made h face (scale_of face ppem) g
-  Ok (moved_outline_of made)
+  Ok (moved_outline_of made.0 made.1)
 
 -- the outline of a glyph with hinting off
 abbrev pub outline_of : Face → ℕ → ℕ → Result OutlineView HintFault
 outline_of face ppem g = outline_with no_hinting face ppem g
+
+-- why there is no machine, as a cause why there is no outline
+abbrev pub of_machine : MachineFault → HintFault
+of_machine (machine_fault.Halted halt) = Halted halt
+of_machine machine_fault.OutOfMemory = OutOfMemory
+
+-- the outline of a glyph with hinting on: fpgm and prep run, and then the programs of the glyph and of its components, each from
+-- what prep left. It depends on the font, the size and the glyph alone
+unfoldable pub hinted_outline_of : Face → ℕ → ℕ → Result OutlineView HintFault
+hinted_outline_of face ppem g = do
+  known ← map_fault of_machine (machine_of face ppem)
+  outline_with (hinting_of known) face ppem g
 
 -- an assembled glyph has at most max_points points, and its contours end with them
 pub record IsSound (made : Made) : Type 0 where

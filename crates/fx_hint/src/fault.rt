@@ -1,9 +1,10 @@
 //! Why a glyph has no outline.
 
 ghost use Rattle.std.specs.Prelude.{◌≡◌};
-ghost use Rattle.fx_hint.specs.declared.fault.HintFault.TheVariants.{Font, Glyph, OutOfMemory};
+ghost use Rattle.fx_hint.specs.declared.fault.HintFault.TheVariants.{Font, Glyph, Halted, OutOfMemory};
 
 use fx_glyf::GlyphFault;
+use fx_machine::Halt;
 use fx_sfnt::FontFault;
 use std::alloc::AllocError;
 use thiserror::Error;
@@ -29,6 +30,9 @@ pub enum HintFault {
     /// A component of this composite is placed by the number of a point that does not exist.
     #[error("a component of glyph {0} is placed by a point that does not exist")]
     BadPointMatch(u16),
+    /// The program of a glyph halted: of the root or of a component.
+    #[error("{0}")]
+    Halted(Halt),
     /// Out of memory.
     #[error("out of memory")]
     OutOfMemory,
@@ -47,6 +51,14 @@ impl From<GlyphFault> for HintFault {
 
     fn from(fault: GlyphFault) -> HintFault {
         HintFault::Glyph(fault)
+    }
+}
+
+impl From<Halt> for HintFault {
+    ghost from_gives = { λ h e. e ≡ Halted h };
+
+    fn from(halt: Halt) -> HintFault {
+        HintFault::Halted(halt)
     }
 }
 

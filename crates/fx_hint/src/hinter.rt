@@ -5,6 +5,7 @@ ghost use Rattle.fx_fixed.specs.Chain.{GivesUnless};
 ghost use Rattle.fx_hint.specs.Faults.{Fails};
 ghost use Rattle.fx_hint.specs.Hinting.{Hinting, KeepsShape, no_hinting};
 
+use crate::count::Spent;
 use crate::fault::HintFault;
 use crate::made::Made;
 
@@ -13,16 +14,22 @@ use crate::made::Made;
 pub trait Hinter {
     ghost use Rattle.fx_hint.specs.Hinting.{Hinting};
 
+    // What stays as it is, whatever runs.
+    ghost Known: { Type 0 };
+
+    ghost known: { Self → Known };
+
     ghost hinting: { Self → Hinting };
 
     /// Whether hinting is on.
     fn is_on(&self) -> bool
         ensures { result ≡ (hinting self.now).on };
 
-    /// Runs the program of glyph `g` on its points and phantom points.
-    fn run(&mut self, g: u16, code: &[u8], made: &mut Made) -> Result<(), HintFault>
+    /// Runs the program of glyph `g` on its points and phantom points: what it used up.
+    fn run(&mut self, g: u16, code: &[u8], made: &mut Made) -> Result<Spent, HintFault>
+        ensures known { known self.new ≡ known self.old }
         ensures kept { hinting self.new ≡ hinting self.old }
-        ensures value { GivesUnless Fails (λ _. made.new) result ((hinting self.old).run g code.now made.old) };
+        ensures value { GivesUnless Fails (λ spent. (made.new, spent)) result ((hinting self.old).run g code.now made.old) };
 
     /// The law: no program changes the number of points or the contours.
     fn law_keeps_shape(&self)
@@ -36,14 +43,18 @@ pub struct NoHinter;
 impl Hinter for NoHinter {
     ghost use Rattle.fx_hint.specs.Hinting.{no_hinting};
 
+    ghost Known = { Unit {0} };
+
+    ghost known = { λ _. tt };
+
     ghost hinting = { λ _. no_hinting };
 
     fn is_on(&self) -> bool {
         false
     }
 
-    fn run(&mut self, _g: u16, _code: &[u8], _made: &mut Made) -> Result<(), HintFault> {
-        Ok(())
+    fn run(&mut self, _g: u16, _code: &[u8], _made: &mut Made) -> Result<Spent, HintFault> {
+        Ok(Spent::nothing())
     }
 
     fn law_keeps_shape(&self) {}

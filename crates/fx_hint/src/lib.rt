@@ -3,26 +3,28 @@
 //! An outline is assembled by recursion on components: a simple glyph's points are scaled; a composite's components are
 //! assembled one after the other, each by its rule, transformed and placed. At the end the outline of the root, the glyph that
 //! is asked for, is moved so that its first phantom point lies at x = 0. What hinting adds, rounding and the programs of
-//! glyphs, is one parameter, a [`Hinter`]; [`NoHinter`] does neither.
+//! glyphs, is one parameter, a [`Hinter`]: a machine of the font at the size, or [`NoHinter`], which does neither.
 #![tactic(auto)]
 
+mod below;
 mod count;
 mod fault;
 mod hinter;
 mod limits;
 mod made;
-mod outline;
 mod outlines;
 mod part;
+mod points;
+mod programmed;
 mod walk;
 
-pub use count::Count;
+pub use count::{Count, Spent};
 pub use fault::HintFault;
 pub use hinter::{Hinter, NoHinter};
 pub use limits::{MAX_COMPONENTS, MAX_DEPTH, MAX_POINTS};
 pub use made::Made;
-pub use outline::{Outline, OutlinePoint};
-pub use outlines::{outline_with, unhinted};
+pub use outlines::{outline, outline_with};
+pub use points::{Outline, OutlinePoint};
 
 #[cfg(test)]
 mod tests;

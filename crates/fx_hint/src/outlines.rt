@@ -1,33 +1,51 @@
 //! The outline of a glyph.
 
-ghost use Rattle.std.specs.Prelude.{◌≡◌, ◌<◌, map, length, IfOk};
+ghost use Rattle.std.specs.Prelude.{◌≡◌, ◌<◌, map, length, Ok, IfOk};
 ghost use Rattle.std.specs.List.{All};
 ghost use Rattle.fx_fixed.specs.Chain.{GivesUnless};
+ghost use Rattle.fx_machine.specs.Known.{machine_of};
 ghost use Rattle.fx_hint.specs.Limits.{max_points};
 ghost use Rattle.fx_hint.specs.Faults.{Fails};
-ghost use Rattle.fx_hint.specs.Outlines.{scale_of, moved_point, moved_outline_of, view_of_outline, outline_with, outline_of, IsSound};
+ghost use Rattle.fx_hint.specs.Outlines.{moved_point, moved_outline_of, view_of_outline, outline_with, hinted_outline_of, IsSound};
+ghost use Rattle.fx_hint.specs.Machines.{hinting_with, IfMachine, IsOf, KnowsSame};
 
+use crate::count::Spent;
 use crate::fault::HintFault;
 use crate::hinter::{Hinter, NoHinter};
 use crate::made::Made;
-use crate::outline::{Outline, OutlinePoint};
+use crate::points::{Outline, OutlinePoint};
 use crate::walk::root_made;
 use fx_fixed::{F26, Ppem};
+use fx_machine::Machine;
 use fx_scale::Scale;
 use fx_sfnt::Font;
 use fx_zone::Point;
 use std::alloc::{AllocError, Global};
 
-/// The outline of glyph `g` at `ppem` pixels an em, scaled, its composites put together, with hinting off: no program runs,
-/// and nothing but the scaled values themselves is rounded.
+/// The outline of glyph `g` at `ppem` pixels an em, scaled, its composites put together. A machine is one of this font and size,
+/// and hints it; nothing that it ran before has a part in the outline. Without a machine hinting is off: no program runs, and
+/// nothing but the scaled values themselves is rounded.
 ///
 /// The faults come in the order of the walk: for each component record its depth, the number of records, its number and
-/// bytes, its reading, the component itself, its place. `OutOfMemory` may come in place of any of them, and of an outline.
-pub fn unhinted(alloc: Global, font: &Font<'_>, ppem: Ppem, g: u16) -> Result<Outline, HintFault>
-    ensures { GivesUnless Fails view_of_outline result (outline_of font.now ppem g) }
+/// bytes, its reading, the number of points, its program, its place. `OutOfMemory` may come in place of any of them, and of an
+/// outline.
+pub fn outline(
+    alloc: Global,
+    font: &Font<'_>,
+    ppem: Ppem,
+    machine: Option<&mut Machine<'_>>,
+    g: u16,
+) -> Result<Outline, HintFault>
+    requires { IfMachine (IsOf font.now ppem) machine }
+    ensures value { GivesUnless Fails view_of_outline result (outline_with (hinting_with machine.entry) font.now ppem g) }
+    ensures hinted { IfMachine (λ known. machine_of font.now ppem ≡ Ok known
+        → GivesUnless Fails view_of_outline result (hinted_outline_of font.now ppem g)) machine.entry }
+    ensures kept { KnowsSame machine.entry machine.exit }
 {
-    let mut hinter = NoHinter;
-    outline_with(alloc, &mut hinter, font, ppem, g)
+    match machine {
+        None => outline_with(alloc, &mut NoHinter, font, ppem, g),
+        Some(machine) => outline_with(alloc, machine, font, ppem, g),
+    }
 }
 
 /// The outline of glyph `g` at `ppem` pixels an em, as a hinter makes it.
@@ -39,33 +57,22 @@ pub fn outline_with<H: Hinter>(
     ppem: Ppem,
     g: u16,
 ) -> Result<Outline, HintFault>
+    ensures known { H.known hinter.new ≡ H.known hinter.old }
     ensures kept { H.hinting hinter.new ≡ H.hinting hinter.old }
     ensures value { GivesUnless Fails view_of_outline result (outline_with (H.hinting hinter.old) font.now ppem g) }
 {
-    let scale = scale_of(font, ppem);
+    let scale = Scale::of(font, ppem);
     hinter.law_keeps_shape();
-    let made = root_made(alloc, hinter, font, &scale, g)?;
-    let outline = moved_outline(alloc, &made)?;
+    let (made, spent) = root_made(alloc, hinter, font, &scale, g)?;
+    let outline = moved_outline(alloc, &made, spent)?;
     Ok(outline)
-}
-
-/// The scale of a font at a size.
-fn scale_of(font: &Font<'_>, ppem: Ppem) -> Scale
-    ensures { result ≡ scale_of font.now ppem }
-{
-    Scale {
-        ppem,
-        units_per_em: font.head().units_per_em,
-        ascender: font.hhea().ascender,
-        descender: font.hhea().descender,
-    }
 }
 
 /// The outline moved, so that its first phantom point lies at x = 0.
 #[tactic(auto, unfolding(crate::specs::Outlines::moved_outline_of))]
-fn moved_outline(alloc: Global, made: &Made) -> Result<Outline, AllocError>
+fn moved_outline(alloc: Global, made: &Made, spent: Spent) -> Result<Outline, AllocError>
     requires { IsSound made.now }
-    ensures { IfOk result (λ o. view_of_outline o ≡ moved_outline_of made.now) }
+    ensures { IfOk result (λ o. view_of_outline o ≡ moved_outline_of made.now spent) }
 {
     let origin = made.phantoms.origin.cur.x;
     let points = moved_points(alloc, made.zone.points(), origin)?;
@@ -75,8 +82,8 @@ fn moved_outline(alloc: Global, made: &Made) -> Result<Outline, AllocError>
         points,
         ends,
         advance,
-        strays: 0,
-        steps: 0,
+        strays: spent.strays,
+        steps: spent.steps,
     })
 }
 

@@ -1,6 +1,6 @@
 //! Outlines with memory at hand, at a small and a large input.
 
-use crate::{OutlinePoint, unhinted};
+use crate::{OutlinePoint, outline};
 use fx_fixed::{F26, Ppem};
 use fx_sfnt::Font;
 use std::test::Fail;
@@ -35,7 +35,7 @@ fn point(x: i32, y: i32) -> OutlinePoint {
 fn an_outline_of_eight_points(rt: HostRuntime) -> Result<(), Fail> {
     let font = Font::open(FONT)?;
     let ppem = Ppem::new(16).ok_or("size")?;
-    let outline = unhinted(rt.alloc(), &font, ppem, 2)?;
+    let outline = outline(rt.alloc(), &font, ppem, None, 2)?;
     let points = [
         point(0, 0),
         point(320, 0),
@@ -74,7 +74,7 @@ fn an_outline_of_16384_points(rt: HostRuntime) -> Result<(), Fail> {
     let bytes = large();
     let font = Font::open(&bytes)?;
     let ppem = Ppem::new(255).ok_or("size")?;
-    let outline = unhinted(rt.alloc(), &font, ppem, 2)?;
+    let outline = outline(rt.alloc(), &font, ppem, None, 2)?;
     assert_eq!(rt; outline.points.len(), 16384);
     assert!(rt; outline.points.last().copied() == Some(point(0, 0)));
     assert_eq!(rt; outline.ends.as_slice(), [16383].as_slice());

@@ -1,19 +1,23 @@
 //! The walk over components.
 
-ghost use Rattle.std.specs.Prelude.{◌≡◌, ◌<◌};
-ghost use Rattle.fx_fixed.specs.Chain.{GivesUnless};
+ghost use Rattle.std.specs.Prelude.{◌≡◌, ◌+◌, ◌<◌, ◌≤◌, OnOk};
+ghost use Rattle.fx_fixed.specs.Chain.{GivesUnless, map_ok};
 ghost use Rattle.fx_zone.specs.Figures.{empty_figure};
 ghost use Rattle.fx_scale.specs.Phantoms.{phantoms_of};
 ghost use Rattle.fx_hint.specs.Faults.{Fails};
-ghost use Rattle.fx_hint.specs.Outlines.{simple_made, assembled, component, with_parts, made_of, root_made};
+ghost use Rattle.fx_hint.specs.Outlines.{simple_made, assembled, component, run_on, root_made};
+ghost use Rattle.fx_hint.specs.Limits.{max_components, max_depth};
+ghost use Rattle.fx_hint.specs.Parts.{with_part};
+ghost use Rattle.fx_hint.specs.inner.Steps.{begun, begun_by, begun_component, left};
 
-use crate::count::Count;
+use crate::below::{Below, OpenComposite, Waiting};
+use crate::count::{Count, Spent};
 use crate::fault::HintFault;
 use crate::hinter::Hinter;
 use crate::limits::MAX_DEPTH;
 use crate::made::Made;
 use crate::part::with_part;
-use fx_glyf::{Components, Composite, Glyph, Simple, read};
+use fx_glyf::{Composite, Glyph, Simple, read};
 use fx_scale::{PhantomPoints, Scale, zone_of};
 use fx_sfnt::{Font, Metrics};
 use fx_zone::Zone;
@@ -42,14 +46,34 @@ fn start(
     empty_made(alloc, scale, hinted, composite.x_min(), metrics)
 }
 
-/// The program of a glyph runs on its points and phantom points.
-fn run_on<H: Hinter>(hinter: &mut H, g: u16, code: &[u8], made: Made) -> Result<Made, HintFault>
+/// The program of a glyph runs on its points and phantom points; what it uses up is counted.
+#[tactic(auto, unfolding(crate::specs::Outlines::run_on))]
+fn run_on<H: Hinter>(
+    hinter: &mut H,
+    g: u16,
+    code: &[u8],
+    made: Made,
+    count: &mut Count,
+) -> Result<Made, HintFault>
+    ensures known { H.known hinter.new ≡ H.known hinter.old }
     ensures kept { H.hinting hinter.new ≡ H.hinting hinter.old }
-    ensures value { GivesUnless Fails (λ m. m) result ((H.hinting hinter.old).run g code.now made) }
+    ensures value { GivesUnless Fails (λ m. (m, count.new)) result
+        (run_on (H.hinting hinter.old) g code.now (made, count.old)) }
+    ensures records { OnOk result (count.new.records ≡ count.old.records) }
 {
     let mut made = made;
-    hinter.run(g, code, &mut made)?;
+    let spent = hinter.run(g, code, &mut made)?;
+    count.spent = count.spent.plus(spent);
     Ok(made)
+}
+
+/// A glyph that has been begun.
+#[derive(Drop)]
+pub enum Step<'a> {
+    /// An assembled glyph.
+    Assembled(Made),
+    /// A composite whose components come next.
+    Open(OpenComposite<'a>),
 }
 
 /// The walk over the components below one root.
@@ -71,8 +95,9 @@ impl<'w, 'a> Walk<'w, 'a> {
         simple: &Simple<'_>,
         count: &mut Count,
     ) -> Result<Made, HintFault>
-        ensures { GivesUnless Fails (λ m. (m, count.new)) result
+        ensures value { GivesUnless Fails (λ m. (m, count.new)) result
             (simple_made self.now.scale.now hinted self.now.root metrics simple.now count.old) }
+        ensures records { OnOk result (count.new.records ≡ count.old.records) }
     {
         let zone = zone_of(self.alloc, simple, self.scale)?;
         count.more_points(self.root, zone.len())?;
@@ -80,110 +105,176 @@ impl<'w, 'a> Walk<'w, 'a> {
         Ok(Made { zone, phantoms })
     }
 
-    /// A glyph assembled, with `levels` levels of components allowed below it.
-    #[cycle(walk)]
-    #[tactic(auto, unfolding(crate::specs::Outlines::assembled))]
-    fn assembled<H: Hinter>(
+    /// A glyph begun: its number and bytes, its reading; and then it is assembled, or open.
+    #[tactic(auto, unfolding(crate::specs::inner::Steps::begun))]
+    fn begun<H: Hinter>(
         &self,
         hinter: &mut H,
-        levels: u8,
         g: u16,
         count: &mut Count,
-    ) -> Result<Made, HintFault>
+    ) -> Result<Step<'a>, HintFault>
+        ensures known { H.known hinter.new ≡ H.known hinter.old }
         ensures kept { H.hinting hinter.new ≡ H.hinting hinter.old }
-        ensures value { GivesUnless Fails (λ m. (m, count.new)) result
-            (assembled (H.hinting hinter.old) self.now.font.now self.now.scale.now self.now.root
-            (component (H.hinting hinter.old) self.now.font.now self.now.scale.now self.now.root levels) g count.old) }
+        ensures value { GivesUnless Fails (λ step. (step, count.new)) result
+            (begun (H.hinting hinter.old) self.now.font.now self.now.scale.now self.now.root g count.old) }
+        ensures records { OnOk result (count.new.records ≡ count.old.records) }
     {
         let metrics = self.font.metrics(g)?;
         let bytes = self.font.glyph_bytes(g)?;
         let glyph = read(bytes, g)?;
-        self.made_of(hinter, levels, g, metrics, glyph, count)
+        self.begun_by(hinter, g, metrics, glyph, count)
     }
 
-    /// A glyph that has been read, assembled by its rule.
-    #[cycle(walk)]
-    #[tactic(auto, unfolding(crate::specs::Outlines::made_of, crate::specs::Outlines::run_on))]
-    fn made_of<H: Hinter>(
+    /// A glyph that has been read, begun: an empty or a simple one is assembled, a composite is open.
+    #[tactic(auto, unfolding(crate::specs::inner::Steps::begun_by))]
+    fn begun_by<H: Hinter>(
         &self,
         hinter: &mut H,
-        levels: u8,
         g: u16,
         metrics: Metrics,
-        glyph: Glyph<'_>,
+        glyph: Glyph<'a>,
         count: &mut Count,
-    ) -> Result<Made, HintFault>
+    ) -> Result<Step<'a>, HintFault>
+        ensures known { H.known hinter.new ≡ H.known hinter.old }
         ensures kept { H.hinting hinter.new ≡ H.hinting hinter.old }
-        ensures value { GivesUnless Fails (λ m. (m, count.new)) result
-            (made_of (H.hinting hinter.old) self.now.scale.now self.now.root
-            (component (H.hinting hinter.old) self.now.font.now self.now.scale.now self.now.root levels)
-            g metrics glyph.entry count.old) }
+        ensures value { GivesUnless Fails (λ step. (step, count.new)) result
+            (begun_by (H.hinting hinter.old) self.now.scale.now self.now.root g metrics glyph.entry count.old) }
+        ensures records { OnOk result (count.new.records ≡ count.old.records) }
     {
         let on = hinter.is_on();
         match glyph {
-            Glyph::Empty => Ok(empty_made(self.alloc, self.scale, on, 0, metrics)),
+            Glyph::Empty => Ok(Step::Assembled(empty_made(self.alloc, self.scale, on, 0, metrics))),
             Glyph::Simple(simple) => {
                 let made = self.simple_made(on, metrics, &simple, count)?;
-                run_on(hinter, g, simple.code(), made)
+                let made = run_on(hinter, g, simple.code(), made, count)?;
+                Ok(Step::Assembled(made))
             }
             Glyph::Composite(composite) => {
                 let base = start(self.alloc, self.scale, on, &composite, metrics);
                 let parts = composite.components();
-                let made = self.with_parts(hinter, levels, g, parts, base, count)?;
-                run_on(hinter, g, composite.code(), made)
+                Ok(Step::Open(OpenComposite {
+                    g,
+                    glyph: composite,
+                    parts,
+                    base,
+                }))
             }
         }
     }
 
-    /// The components of a composite, in order.
-    #[cycle(walk)]
-    fn with_parts<H: Hinter>(
-        &self,
-        hinter: &mut H,
-        levels: u8,
-        g: u16,
-        parts: Components<'_>,
-        base: Made,
-        count: &mut Count,
-    ) -> Result<Made, HintFault>
-        ensures kept { H.hinting hinter.new ≡ H.hinting hinter.old }
-        ensures value { GivesUnless Fails (λ m. (m, count.new)) result
-            (with_parts self.now.scale.now (H.hinting hinter.old).on
-            (component (H.hinting hinter.old) self.now.font.now self.now.scale.now self.now.root levels)
-            g parts.entry base count.old) }
-    {
-        let on = hinter.is_on();
-        let mut base = base;
-        'parts: for part in parts {
-            let made = self.component(hinter, levels, part.glyph, count)?;
-            base = with_part(self.alloc, base, self.scale, on, g, part, made)?;
-        }
-        Ok(base)
-    }
-
-    /// A component assembled, with `levels` levels allowed from here on.
-    #[cycle(walk)]
-    #[tactic(auto, unfolding(crate::specs::Outlines::component))]
-    fn component<H: Hinter>(
+    /// A component begun, with `levels` levels allowed from here on.
+    #[tactic(auto, unfolding(crate::specs::inner::Steps::begun_component))]
+    fn begun_component<H: Hinter>(
         &self,
         hinter: &mut H,
         levels: u8,
         g: u16,
         count: &mut Count,
-    ) -> Result<Made, HintFault>
+    ) -> Result<Step<'a>, HintFault>
+        ensures known { H.known hinter.new ≡ H.known hinter.old }
         ensures kept { H.hinting hinter.new ≡ H.hinting hinter.old }
-        ensures value { GivesUnless Fails (λ m. (m, count.new)) result
-            (component (H.hinting hinter.old) self.now.font.now self.now.scale.now self.now.root levels g count.old) }
+        ensures value { GivesUnless Fails (λ step. (step, count.new)) result
+            (begun_component (H.hinting hinter.old) self.now.font.now self.now.scale.now self.now.root levels g count.old) }
+        ensures records { OnOk result ((count.new.records ≡ count.old.records + 1) × (count.new.records ≤ max_components)) }
+        ensures level { OnOk result (0 < levels) }
     {
         if levels == 0 {
             return Err(HintFault::ComponentDepth(g));
         }
         count.one_component(self.root)?;
-        self.assembled(hinter, levels - 1, g, count)
+        self.begun(hinter, g, count)
+    }
+
+    /// A waiting composite with its component.
+    fn joined(
+        &self,
+        hinted: bool,
+        waiting: Waiting<'a>,
+        made: Made,
+    ) -> Result<OpenComposite<'a>, HintFault>
+        ensures { GivesUnless Fails (λ c. c) result (map_ok (λ more. record waiting.entry.composite { base = more })
+            (with_part self.now.scale.now hinted waiting.entry.composite.g waiting.entry.part waiting.entry.composite.base made)) }
+    {
+        let Waiting { part, composite } = waiting;
+        let OpenComposite {
+            g,
+            glyph,
+            parts,
+            base,
+        } = composite;
+        let base = with_part(base, self.scale, hinted, g, part, made)?;
+        Ok(OpenComposite {
+            g,
+            glyph,
+            parts,
+            base,
+        })
+    }
+
+    /// The root assembled.
+    fn assembled<H: Hinter>(&self, hinter: &mut H, count: &mut Count) -> Result<Made, HintFault>
+        requires { count.old.records ≤ max_components }
+        ensures known { H.known hinter.new ≡ H.known hinter.old }
+        ensures kept { H.hinting hinter.new ≡ H.hinting hinter.old }
+        ensures value { GivesUnless Fails (λ m. (m, count.new)) result
+            (assembled (H.hinting hinter.old) self.now.font.now self.now.scale.now self.now.root
+            (component (H.hinting hinter.old) self.now.font.now self.now.scale.now self.now.root max_depth) self.now.root count.old) }
+    {
+        match self.begun(hinter, self.root, count)? {
+            Step::Assembled(made) => Ok(made),
+            Step::Open(open) => self.closed(hinter, open, count),
+        }
+    }
+
+    /// An open root assembled, step by step: the composites that wait for a component lie in a list, so that the walk is one loop.
+    fn closed<H: Hinter>(
+        &self,
+        hinter: &mut H,
+        root: OpenComposite<'a>,
+        count: &mut Count,
+    ) -> Result<Made, HintFault>
+        requires { count.old.records ≤ max_components }
+        ensures known { H.known hinter.new ≡ H.known hinter.old }
+        ensures kept { H.hinting hinter.new ≡ H.hinting hinter.old }
+        ensures value { GivesUnless Fails (λ m. (m, count.new)) result
+            (left (H.hinting hinter.old) self.now.font.now self.now.scale.now self.now.root max_depth root.entry count.old) }
+    {
+        let on = hinter.is_on();
+        let mut below = Below::new(self.alloc);
+        let mut step = Step::Open(root);
+        // What the root gives stays the same: what was begun, and then each composite that waits, with what is assembled below it.
+        'steps: loop {
+            match step {
+                Step::Assembled(made) => match below.pop() {
+                    None => return Ok(made),
+                    Some(waiting) => step = Step::Open(self.joined(on, waiting, made)?),
+                },
+                Step::Open(open) => {
+                    let mut open = open;
+                    match open.parts.next() {
+                        None => step = Step::Assembled(run_on(
+                            hinter,
+                            open.g,
+                            open.glyph.code(),
+                            open.base,
+                            count,
+                        )?),
+                        Some(part) => {
+                            let levels = MAX_DEPTH - below.len() as u8;
+                            step = self.begun_component(hinter, levels, part.glyph, count)?;
+                            below.push(Waiting {
+                                part,
+                                composite: open,
+                            })?;
+                        }
+                    }
+                }
+            }
+        }
     }
 }
 
-/// A root assembled.
+/// A root assembled, and what all programs together used up.
 #[tactic(auto, unfolding(crate::specs::Outlines::root_made))]
 pub fn root_made<H: Hinter>(
     alloc: Global,
@@ -191,9 +282,10 @@ pub fn root_made<H: Hinter>(
     font: &Font<'_>,
     scale: &Scale,
     g: u16,
-) -> Result<Made, HintFault>
+) -> Result<(Made, Spent), HintFault>
+    ensures known { H.known hinter.new ≡ H.known hinter.old }
     ensures kept { H.hinting hinter.new ≡ H.hinting hinter.old }
-    ensures value { GivesUnless Fails (λ m. m) result (root_made (H.hinting hinter.old) font.now scale.now g) }
+    ensures value { GivesUnless Fails (λ r. (r.0, r.1)) result (root_made (H.hinting hinter.old) font.now scale.now g) }
 {
     let walk = Walk {
         alloc,
@@ -204,6 +296,8 @@ pub fn root_made<H: Hinter>(
     let mut count = Count {
         records: 0,
         points: 0,
+        spent: Spent::nothing(),
     };
-    walk.assembled(hinter, MAX_DEPTH, g, &mut count)
+    let made = walk.assembled(hinter, &mut count)?;
+    Ok((made, count.spent))
 }

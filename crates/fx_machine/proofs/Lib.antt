@@ -4,3 +4,4 @@ pub mod Looping
 pub mod Keeping
 pub mod KeptShapes
 pub mod Starting
+pub mod Named

@@ -5,7 +5,7 @@ use Rattle.std.proofs.Common.{arith}
 use Rattle.std.proofs.lemmas.Bool.{eq-eqb, cases_lt, lt-ltb, le-ltb}
 use Rattle.std.proofs.lemmas.Bool.Decides.{eqb_tells, leb_tells}
 use Rattle.std.proofs.lemmas.List.{length-reverse}
-use Rattle.fx_code.specs.Chain.{opcode_at, next_address}
+use Rattle.fx_code.specs.Chain.{next_address}
 use Rattle.fx_machine.specs.declared.program.Program.{Program}
 use Rattle.fx_machine.specs.declared.halt.Cause.{Cause}
 use Rattle.fx_machine.specs.declared.halt.Cause.TheVariants.{StepLimit, StrayEnd}
@@ -18,15 +18,15 @@ use Rattle.fx_machine.specs.Effects.{Ends}
 use Rattle.fx_machine.specs.Runs.{Exhausted, MAX_DEPTH}
 use Rattle.fx_machine.specs.Machine.{Config, config, Move, Finishes, Stops, Moves, moved_by, answer_from, answer_of}
 use Rattle.fx_machine.specs.Table.{row_at, row_in, settled}
-use Rattle.fx_machine.specs.Configs.{answered}
+use Rattle.fx_machine.specs.Configs.{answered, halt_at}
 use Rattle.fx_machine.proofs.Steps.{go_moves, go_stops, go_finishes, go_limit_moves, go_limit_stops, Takes}
 
-module _ (texts : Program → List ℕ) (start : Program) (limit : ℕ) (first now : State) (n : ℕ) (items : List Frame) (w : Program)
+module _ (texts : Program → List ℕ) (g : ℕ) (start : Program) (limit : ℕ) (first now : State) (n : ℕ) (items : List Frame) (w : Program)
     (p : ℕ)
     (h : answer_of (row_at texts) limit start first ≡ answer_from (row_at texts) (limit - n) n (config (reverse items) w p now))
   where
     abbrev Due : Result (ℕ × State) Halt
-    Due = answered texts start (answer_of (row_at texts) limit start first)
+    Due = answered texts g start (answer_of (row_at texts) limit start first)
 
     at_end : p ≡ length (texts w) → row_at texts w p now ≡ Ends
     unfolding row_in
@@ -51,13 +51,13 @@ module _ (texts : Program → List ℕ) (start : Program) (limit : ℕ) (first n
         rw (h, go_finishes (row_at texts) (limit - n) n (reverse items) w p now t) refl
 
     pub halted_here : (cause : Cause) → n < limit → moved_by (row_at texts w p now) (reverse items) w ≡ Stops cause
-        → Err (record { cause = cause; during = start; program = w; address = p; opcode = opcode_at (texts w) p }) ≡ Due
+        → Err (halt_at texts g start w p cause) ≡ Due
     halted_here cause lt m =
         let e : limit - n ≡ suc (limit - suc n) = omega arith in
         rw (h, e, go_stops (row_at texts) (limit - suc n) n (reverse items) w p now cause (record { is = m })) refl
 
     pub stray_here : n < limit → p ≡ length (texts w) → 0 < length items
-        → Err (record { cause = StrayEnd; during = start; program = w; address = p; opcode = opcode_at (texts w) p }) ≡ Due
+        → Err (halt_at texts g start w p StrayEnd) ≡ Due
     stray_here lt e z = halted_here StrayEnd lt (rw (at_end e) (some_calls (reverse items) (rw length-reverse z)))
 
     -- what comes of an instruction that is there is not the end
@@ -88,7 +88,7 @@ module _ (texts : Program → List ℕ) (start : Program) (limit : ℕ) (first n
     ]
 
     pub limit_here : n ≡ limit → (p ≡ length (texts w) → length items ≡ 0 → ⊥)
-        → Err (record { cause = StepLimit; during = start; program = w; address = p; opcode = opcode_at (texts w) p }) ≡ Due
+        → Err (halt_at texts g start w p StepLimit) ≡ Due
     limit_here e none =
         let z : limit - n ≡ 0 = omega arith in
         rw (

@@ -1,12 +1,13 @@
 -- What a machine of a font at a size knows, and what becomes of a glyph's program.
 -- Apple TrueType Reference Manual, "Instructing Fonts": the font program, the control value program, glyph programs.
-use Rattle.std.specs.Prelude.{◌≡◌, ℕ, ℤ, ◌+◌, max, pos, List, [], codes, None, Result, Ok, Err, true, false, replicate}
+use Rattle.std.specs.Prelude.{◌≡◌, ℕ, ℤ, ◌+◌, max, pos, List, [], reverse, codes, None, Result, Ok, Err, true, false, replicate}
 use Rattle.fx_fixed.specs.Chain.{◌>>=◌, map_fault}
 use Rattle.fx_sfnt.specs.Tables.{Face, table_or_empty}
 use Rattle.fx_zone.specs.Figures.{Figure, empty_figure}
 use Rattle.fx_fixed.specs.Places.{origin}
 use Rattle.fx_zone.specs.Points.{resting}
 use Rattle.fx_scale.specs.declared.scale.Scale.{Scale}
+use Rattle.fx_scale.specs.Scaling.{scale_of}
 use Rattle.fx_scale.specs.Controls.{control_values}
 use Rattle.fx_gstate.specs.States.{default_state}
 use Rattle.fx_stackops.specs.Store.{StoreView, room_of}
@@ -23,18 +24,23 @@ use Rattle.fx_machine.specs.Machine.{answer_of}
 use Rattle.fx_machine.specs.Table.{row_at}
 use Rattle.fx_machine.specs.Configs.{answered}
 use Rattle.fx_zone.specs.Figures.{HasShape}
-use Rattle.fx_machine.specs.Prepared.{glyph_answer}
+use Rattle.fx_machine.specs.Prepared.{glyph_end, ran_of}
 
 -- the most instructions that a program may execute
 abbrev pub STEP_LIMIT : ℕ
 STEP_LIMIT = 250000
 
--- the font, its scale at a size, what prep left, and what fpgm and prep used up
+-- the font, the size, what prep left, and what fpgm and prep used up
 pub record Known : Type 0 where
   pub face : Face
-  pub scale : Scale
+  pub ppem : ℕ
   pub prepared : Prepared
   pub prelude : Ran
+
+-- what is seen of a machine: what it knows, and the stack that the last program that ended well left, the deepest number first
+pub record MachineView : Type 0 where
+  pub known : Known
+  pub final_stack : List ℤ
 
 -- the bytes of a font's programs, and of a glyph's
 abbrev pub texts_of : Face → List ℕ → Program → List ℕ
@@ -96,15 +102,25 @@ prepared_from s = record {
 -- fpgm runs from a state, then prep: what they use up, and the state then
 unfoldable pub prelude_of : (Program → List ℕ) → State → Result (Ran × State) Halt
 prelude_of texts s = do
-  first ← answered texts Font (answer_of (row_at texts) STEP_LIMIT Font s)
-  second ← answered texts Prep (answer_of (row_at texts) STEP_LIMIT Prep (second_state first.1))
+  first ← answered texts 0 Font (answer_of (row_at texts) STEP_LIMIT Font s)
+  second ← answered texts 0 Prep (answer_of (row_at texts) STEP_LIMIT Prep (second_state first.1))
   Ok (record { steps = first.0 + second.0; strays = second.1.store.strays }, second.1)
 
--- the machine of a font at a scale: fpgm runs, then prep; or the first halt
-unfoldable pub machine_of : Face → Scale → Result Known MachineFault
-machine_of face scale = do
-  ran ← map_fault Halted (prelude_of (texts_of face []) (first_state face scale))
-  Ok (record { face = face; scale = scale; prepared = prepared_from ran.1; prelude = ran.0 })
+-- those of a font at a size
+unfoldable pub font_ran : Face → ℕ → Result (Ran × State) MachineFault
+font_ran face ppem = map_fault Halted (prelude_of (texts_of face []) (first_state face (scale_of face ppem)))
+
+-- the machine of a font at a size: fpgm runs, then prep; or the first halt
+unfoldable pub machine_of : Face → ℕ → Result Known MachineFault
+machine_of face ppem = do
+  ran ← font_ran face ppem
+  Ok (record { face = face; ppem = ppem; prepared = prepared_from ran.1; prelude = ran.0 })
+
+-- and the stack that prep leaves, the deepest number first
+unfoldable pub final_stack_of : Face → ℕ → Result (List ℤ) MachineFault
+final_stack_of face ppem = do
+  ran ← font_ran face ppem
+  Ok (reverse ran.1.store.stack)
 
 -- what code returns, with the state that it left
 abbrev pub with_state : Result Ran Halt → State → Result (Ran × State) Halt
@@ -118,11 +134,21 @@ Fails fault due = due ≡ Err fault
 
 -- ---- what becomes of the program of a glyph on its points
 
-unfoldable pub glyph_ran : Known → List ℕ → Figure → Result (Ran × Figure) Halt
-glyph_ran known code glyph = glyph_answer (texts_of known.face code) known.prepared known.scale
+-- the program of glyph g: the instructions executed and the state then; or a halt
+unfoldable pub glyph_run : Known → ℕ → List ℕ → Figure → Result (ℕ × State) Halt
+glyph_run known g code glyph = glyph_end (texts_of known.face code) g known.prepared (scale_of known.face known.ppem)
     (room_of known.face.maxp.max_stack_elements) STEP_LIMIT glyph
+
+-- what is told of it
+unfoldable pub glyph_ran : Known → ℕ → List ℕ → Figure → Result (Ran × Figure) Halt
+glyph_ran known g code glyph = ran_of (glyph_run known g code glyph)
 
 -- it keeps the number of points and the contours
 abbrev pub GlyphsKeepShape : Type 0
-GlyphsKeepShape =
-    (known : Known) (code : List ℕ) (glyph : Figure) (r : Ran × Figure) → glyph_ran known code glyph ≡ Ok r → HasShape glyph r.1
+GlyphsKeepShape = (known : Known) (g : ℕ) (code : List ℕ) (glyph : Figure) (r : Ran × Figure) → glyph_ran known g code glyph ≡ Ok r
+    → HasShape glyph r.1
+
+-- what fpgm and prep used up has no part in it
+abbrev pub GlyphsDependOnPrepared : Type 0
+GlyphsDependOnPrepared = (a b : Known) → a.face ≡ b.face → a.ppem ≡ b.ppem → a.prepared ≡ b.prepared
+    → (g : ℕ) (code : List ℕ) (glyph : Figure) → glyph_ran a g code glyph ≡ glyph_ran b g code glyph

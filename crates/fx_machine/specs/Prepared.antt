@@ -1,6 +1,6 @@
 -- The state that programs of glyphs begin with, and what becomes of them.
 -- Apple TrueType Reference Manual, "Instructing Fonts": the control value program, glyph programs; INSTCTRL.
-use Rattle.std.specs.Prelude.{◌≡◌, ℕ, false, if◌then◌else◌, List, [], length, Result, Ok, Err}
+use Rattle.std.specs.Prelude.{◌≡◌, ℕ, ℤ, false, if◌then◌else◌, List, [], length, reverse, Result, Ok, Err}
 use Rattle.fx_zone.specs.Figures.{Figure}
 use Rattle.fx_scale.specs.declared.scale.Scale.{Scale}
 use Rattle.fx_gstate.specs.declared.state.GState.{GState}
@@ -44,14 +44,20 @@ started p scale room glyph = record {
   preparing = false;
 }
 
--- what becomes of it: the points then, the instructions executed and the strays; or a halt
+-- what a program with a glyph's number comes to: the instructions executed and the state then; or a halt
+unfoldable pub glyph_end : (Program → List ℕ) → ℕ → Prepared → Scale → ℕ → ℕ → Figure → Result (ℕ × State) Halt
+glyph_end texts g p scale room limit glyph =
+    answered texts g Glyph (answer_of (row_at texts) limit Glyph (started p scale room glyph))
+
+-- what is told of it: the points then, the instructions executed and the strays; or the halt
 abbrev pub ran_of : Result (ℕ × State) Halt → Result (Ran × Figure) Halt
 ran_of (Ok r) = Ok (record { steps = r.0; strays = r.1.store.strays }, r.1.zones.glyph)
 ran_of (Err halt) = Err halt
 
-unfoldable pub glyph_answer : (Program → List ℕ) → Prepared → Scale → ℕ → ℕ → Figure → Result (Ran × Figure) Halt
-glyph_answer texts p scale room limit glyph =
-    ran_of (answered texts Glyph (answer_of (row_at texts) limit Glyph (started p scale room glyph)))
+-- the stack that it leaves, the deepest number first; if it halts the one from before
+abbrev pub stack_after : Result (ℕ × State) Halt → List ℤ → List ℤ
+stack_after (Ok r) before = reverse r.1.store.stack
+stack_after (Err halt) before = before
 
 -- a state has tables of the sizes of prep's
 pub record Fits (p : Prepared) (s : State) : Type 0 where

@@ -1,13 +1,14 @@
 -- The instruction table: what the instruction at an address of a program does. No row speaks of frames.
 -- Apple TrueType Reference Manual, "Instruction set"; the rows by the high nibble of the opcode.
-use Rattle.std.specs.Prelude.{ℕ, ◌+◌, ◌/◌, [], true, false, Bool, ◌&&◌, ◌||◌, ◌==◌, nat_le, if◌then◌else◌, List, length, Result, Ok}
-use Rattle.std.specs.Prelude.{Err}
+use Rattle.std.specs.Prelude.{◌≡◌, ◌<◌, ℕ, ◌+◌, ◌/◌, [], true, false, Bool, ◌&&◌, ◌||◌, ◌==◌, nat_le, if◌then◌else◌, List, length}
+use Rattle.std.specs.Prelude.{codes, Result, Ok, Err}
 use Rattle.fx_fixed.specs.Chain.{◌>>=◌}
 use Rattle.fx_fixed.specs.declared.places.Axis.TheVariants.{X, Y}
 use Rattle.fx_code.specs.Opcodes.{NPUSHB, NPUSHW, PUSHB_1, PUSHW_8, ELSE, FDEF, ENDF, IF, EIF, IDEF}
 use Rattle.fx_code.specs.Chain.{opcode_at, data_at, next_address, stops_at_else}
 use Rattle.fx_code.specs.Past.{past_of}
 use Rattle.fx_code.specs.Numbers.{numbers}
+use Rattle.fx_code.specs.Names.{name_of}
 use Rattle.fx_gstate.specs.declared.deltas.DeltaForm.TheVariants.{First, Second, Third}
 use Rattle.fx_gstate.specs.declared.rounding.RoundState.TheVariants.{ToGrid, ToHalfGrid, ToDoubleGrid, DownToGrid, UpToGrid, Off}
 use Rattle.fx_gstate.specs.Vectors.{axis_of}
@@ -213,6 +214,11 @@ plain_of op s =
 -- the opcodes without a row, which run an instruction that a program has defined
 abbrev pub is_undefined : ℕ → Bool
 is_undefined op = op == 0x28 || op == 0x7B || op == 0x83 || op == 0x84 || nat_le 0x8F op && nat_le op 0xAF
+
+-- they are those that have no name
+abbrev pub EveryRowIsNamed : Type 0
+EveryRowIsNamed = (op : ℕ) → op < 256
+    → (is_undefined op ≡ true → name_of op ≡ codes "UNDEFINED") × (name_of op ≡ codes "UNDEFINED" → is_undefined op ≡ true)
 
 -- the opcodes that push numbers
 abbrev pub is_push : ℕ → Bool

@@ -1,11 +1,12 @@
 //! Why and where a program halts.
 
 ghost use Rattle.std.specs.Prelude.{◌≡◌};
-ghost use Rattle.fx_code.specs.Chain.{opcode_at};
-ghost use Rattle.fx_machine.specs.Causes.{of_stack, of_state, of_code};
+ghost use Rattle.fx_machine.specs.Causes.{of_stack, of_state, of_code, number_of, name_of};
+ghost use Rattle.fx_machine.specs.Programs.{texts};
+ghost use Rattle.fx_machine.specs.Configs.{halt_at};
 
-use crate::program::Program;
-use fx_code::{Code, CodeFault};
+use crate::program::{FontProgram, Program, Programs};
+use fx_code::CodeFault;
 use fx_gstate::BadArgument;
 use fx_stackops::StackFault;
 use std::alloc::AllocError;
@@ -72,34 +73,72 @@ impl From<CodeFault> for Cause {
     }
 }
 
+impl Cause {
+    /// The number and the name, in one table.
+    fn entry(self) -> (u8, &'static str)
+        ensures number { result.0 ≡ number_of self }
+        ensures name { result.1.now ≡ name_of self }
+    {
+        match self {
+            Cause::StackUnder => (30, "StackUnder"),
+            Cause::StackOver => (31, "StackOver"),
+            Cause::BadOpcode => (32, "BadOpcode"),
+            Cause::CodeEnd => (33, "CodeEnd"),
+            Cause::BadJump => (34, "BadJump"),
+            Cause::NoFunction => (35, "NoFunction"),
+            Cause::CallDepth => (36, "CallDepth"),
+            Cause::StepLimit => (37, "StepLimit"),
+            Cause::DivideByZero => (38, "DivideByZero"),
+            Cause::BadArgument => (39, "BadArgument"),
+            Cause::NestedDefinition => (40, "NestedDefinition"),
+            Cause::StrayEnd => (41, "StrayEnd"),
+        }
+    }
+
+    /// The cause's number among the refusals of a strike.
+    pub fn number(self) -> u8
+        ensures { result ≡ number_of self }
+    {
+        self.entry().0
+    }
+
+    /// The cause's name.
+    pub fn name(self) -> &'static str
+        ensures { result.now ≡ name_of self }
+    {
+        self.entry().1
+    }
+}
+
 /// Where and why a program halted; the opcode is the one at that address, 0 past the end.
-#[derive(Clone, Copy, Debug, PartialEq, Eq)]
+#[derive(Clone, Copy, Debug, PartialEq, Eq, Error)]
+#[error("{number} {name} during {during} in {program} at {address} opcode {opcode:02X}", number = self.cause.number(), name = self.cause.name())]
 pub struct Halt {
     pub cause: Cause,
     /// The program that was started.
-    pub during: Program,
+    pub during: FontProgram,
     /// The one whose bytes hold the address.
-    pub program: Program,
+    pub program: FontProgram,
     pub address: usize,
     pub opcode: u8,
 }
 
-/// A halt at an address of a program with these bytes.
+/// A halt at an address of a program.
 pub(crate) fn halted(
-    code: &Code<'_>,
+    programs: &Programs<'_>,
     during: Program,
     program: Program,
     address: usize,
     cause: Cause,
 ) -> Halt
-    ensures { result ≡ record { cause = cause; during = during; program = program; address = address; opcode = opcode_at code.now address } }
+    ensures { result ≡ halt_at (texts programs.now) programs.now.number during program address cause }
 {
     Halt {
         cause,
-        during,
-        program,
+        during: programs.name(during),
+        program: programs.name(program),
         address,
-        opcode: code.opcode(address),
+        opcode: programs.code(program).opcode(address),
     }
 }
 
@@ -107,7 +146,7 @@ pub(crate) fn halted(
 #[derive(Clone, Copy, Debug, PartialEq, Eq, Error)]
 pub enum MachineFault {
     /// `fpgm` or `prep` halted.
-    #[error("a program of the font halted")]
+    #[error("{0}")]
     Halted(Halt),
     /// Memory ran out.
     #[error("out of memory")]

@@ -2,7 +2,8 @@
 
 ghost use Rattle.fx_machine.specs.Machine.{AnswerIsOne, AnswerOfIsAnswer};
 ghost use Rattle.fx_machine.specs.Shapes.{RunsKeepShapes};
-ghost use Rattle.fx_machine.specs.Known.{GlyphsKeepShape};
+ghost use Rattle.fx_machine.specs.Table.{EveryRowIsNamed};
+ghost use Rattle.fx_machine.specs.Known.{GlyphsKeepShape, GlyphsDependOnPrepared};
 
 /// A program has one answer.
 pub fn answer_is_one()
@@ -22,4 +23,14 @@ pub fn runs_keep_shapes()
 /// Programs of glyphs change neither the number of points nor the contours.
 pub fn glyphs_keep_shape()
     ensures { GlyphsKeepShape }
+{}
+
+/// What becomes of a glyph's program depends on the font, the size and what `prep` left alone.
+pub fn glyphs_depend_on_prepared()
+    ensures { GlyphsDependOnPrepared }
+{}
+
+/// The opcodes without a row are those without a name.
+pub fn every_row_is_named()
+    ensures { EveryRowIsNamed }
 {}

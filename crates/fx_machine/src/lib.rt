@@ -4,6 +4,7 @@
 mod action;
 mod definitions;
 mod dispatch;
+mod final_stack;
 mod flow;
 mod frames;
 mod halt;
@@ -22,6 +23,6 @@ pub use definitions::{Definitions, Function};
 pub use halt::{Cause, Halt, MachineFault};
 pub use machine::{Machine, STEP_LIMIT};
 pub use prepared::Prepared;
-pub use program::{Program, Programs};
+pub use program::{FontProgram, Program, Programs};
 pub use ran::Ran;
 pub use state::{Flags, State};

@@ -6,9 +6,10 @@ ghost use Rattle.fx_machine.specs.Programs.{texts};
 ghost use Rattle.fx_zone.specs.Figures.{HasShape};
 ghost use Rattle.fx_pointops.specs.Zones.{HasShapes};
 ghost use Rattle.fx_machine.specs.Shapes.{HasSizes};
-ghost use Rattle.fx_machine.specs.Prepared.{Fits, glyph_answer, with_zone};
-ghost use Rattle.fx_machine.specs.Known.{Fails, with_state, prelude_of, machine_of, glyph_ran};
+ghost use Rattle.fx_machine.specs.Prepared.{Fits, glyph_end, ran_of, stack_after, with_zone};
+ghost use Rattle.fx_machine.specs.Known.{Fails, with_state, prelude_of, machine_of, final_stack_of, glyph_run, glyph_ran};
 
+use crate::final_stack::FinalStack;
 use crate::halt::{Halt, MachineFault};
 use crate::prepared::Prepared;
 use crate::program::{Program, Programs};
@@ -16,6 +17,7 @@ use crate::ran::Ran;
 use crate::run::run;
 use crate::state::{State, table_or_empty};
 use fx_code::Code;
+use fx_fixed::Ppem;
 use fx_scale::Scale;
 use fx_sfnt::Font;
 use fx_zone::Zone;
@@ -27,27 +29,34 @@ use std::mem::swap;
 pub const STEP_LIMIT: u32 = 250_000;
 
 /// Runs the program of a glyph on its points, from what `prep` left: what it has used up, or where and why it halted. The points
-/// keep their number and contours, and the state its sizes, also after a halt.
-#[tactic(auto, unfolding(crate::specs::Prepared::glyph_answer))]
+/// keep their number and contours, and the state its sizes, also after a halt; the final stack changes only if it ends well.
+#[tactic(auto, unfolding(crate::specs::Prepared::glyph_end))]
 fn run_from(
     state: &mut State,
     prepared: &Prepared,
     programs: &Programs<'_>,
     limit: u32,
     zone: &mut Zone,
+    final_stack: &mut FinalStack,
 ) -> Result<Ran, Halt>
-    requires { Fits prepared.now state.old }
-    ensures value { with_zone result zone.new ≡ glyph_answer (texts programs.now) prepared.now state.old.scale state.old.store.room limit zone.old }
+    requires fits { Fits prepared.now state.old }
+    requires room { final_stack.old.room ≡ state.old.store.room }
+    ensures value { with_zone result zone.new
+        ≡ ran_of (glyph_end (texts programs.now) programs.now.number prepared.now state.old.scale state.old.store.room limit zone.old) }
+    ensures stack { final_stack.new.numbers
+        ≡ stack_after (glyph_end (texts programs.now) programs.now.number prepared.now state.old.scale state.old.store.room limit zone.old) final_stack.old.numbers }
     ensures shape { HasShape zone.old zone.new }
     ensures fits { Fits prepared.now state.new }
     ensures room { state.new.store.room ≡ state.old.store.room }
     ensures scale { state.new.scale ≡ state.old.scale }
+    ensures stack_room { final_stack.new.room ≡ final_stack.old.room }
 {
     swap(&mut state.zones.glyph, zone);
     state.restart(prepared);
     let answer = run(state, programs, Program::Glyph, limit);
     swap(&mut state.zones.glyph, zone);
     let steps = answer?;
+    final_stack.take(state.store.numbers());
     Ok(Ran {
         steps,
         strays: state.store.strays(),
@@ -57,6 +66,7 @@ fn run_from(
 /// Runs `fpgm`, then `prep`: what they have used up, or the first halt.
 #[tactic(auto, unfolding(crate::specs::Known::prelude_of))]
 fn run_prelude(state: &mut State, programs: &Programs<'_>) -> Result<Ran, Halt>
+    requires { programs.now.number ≡ 0 }
     ensures value { with_state result state.new ≡ prelude_of (texts programs.now) state.old }
     ensures shapes { HasShapes state.old.zones state.new.zones }
     ensures sizes { HasSizes state.old state.new }
@@ -79,28 +89,35 @@ pub struct Machine<'a> {
     prepared: Prepared,
     prelude: Ran,
     state: State,
+    final_stack: FinalStack,
 }
 
 impl<'a> Model for Machine<'a> {
     ghost use Rattle.std.specs.Prelude.{◌≡◌, codes};
     ghost use Rattle.fx_sfnt.specs.Tables.{table_or_empty};
+    ghost use Rattle.fx_scale.specs.Scaling.{scale_of};
     ghost use Rattle.fx_machine.specs.Prepared.{Fits};
-    ghost use Rattle.fx_machine.specs.Known.{Known};
+    ghost use Rattle.fx_machine.specs.Known.{MachineView};
     ghost use Rattle.fx_stackops.specs.Store.{room_of};
 
-    ghost Value = { Known };
+    ghost Value = { MachineView };
 
-    ghost view = { λ m. record { face = m.font; scale = m.state.scale; prepared = m.prepared; prelude = m.prelude } };
+    ghost view = { λ m. record {
+      known = record { face = m.font; ppem = m.state.scale.ppem; prepared = m.prepared; prelude = m.prelude };
+      final_stack = m.final_stack.numbers;
+    } };
 
     ghost invariant = { λ m. (Fits m.prepared m.state) × (m.state.store.room ≡ room_of m.font.maxp.max_stack_elements)
-        × (m.font_program.now ≡ table_or_empty m.font.file (codes "fpgm")) × (m.prep.now ≡ table_or_empty m.font.file (codes "prep")) };
+        × (m.font_program.now ≡ table_or_empty m.font.file (codes "fpgm")) × (m.prep.now ≡ table_or_empty m.font.file (codes "prep"))
+        × (m.state.scale ≡ scale_of m.font m.state.scale.ppem) × (m.final_stack.room ≡ m.state.store.room) };
 }
 
 impl<'a> Machine<'a> {
-    /// The machine of a font at a scale: `fpgm` runs, then `prep`. It takes all its memory before the first instruction.
-    #[tactic(auto, unfolding(crate::specs::Known::machine_of))]
-    pub fn new(alloc: Global, font: Font<'a>, scale: Scale) -> Result<Machine<'a>, MachineFault>
-        ensures { GivesUnless Fails (λ m. m) result (machine_of font.entry scale) }
+    /// The machine of a font at a size: `fpgm` runs, then `prep`. It takes all its memory before the first instruction.
+    #[tactic(auto, unfolding(crate::specs::Known::machine_of, crate::specs::Known::final_stack_of, crate::specs::Known::font_ran))]
+    pub fn new(alloc: Global, font: Font<'a>, ppem: Ppem) -> Result<Machine<'a>, MachineFault>
+        ensures value { GivesUnless Fails (λ m. m.known) result (machine_of font.entry ppem) }
+        ensures stack { GivesUnless Fails (λ m. m.final_stack) result (final_stack_of font.entry ppem) }
     {
         let font_program = table_or_empty(&font, *b"fpgm");
         let prep = table_or_empty(&font, *b"prep");
@@ -108,11 +125,15 @@ impl<'a> Machine<'a> {
             font: Code::new(font_program),
             prep: Code::new(prep),
             glyph: Code::new(&[]),
+            number: 0,
         };
+        let scale = Scale::of(&font, ppem);
         let mut state = State::first(alloc, &font, scale)?;
         let mut prepared = Prepared::like(alloc, &state)?;
+        let mut final_stack = FinalStack::new(alloc, state.store.stack_room())?;
         let prelude = run_prelude(&mut state, &programs)?;
         prepared.take(&state);
+        final_stack.take(state.store.numbers());
         Ok(Machine {
             font,
             font_program,
@@ -120,41 +141,74 @@ impl<'a> Machine<'a> {
             prepared,
             prelude,
             state,
+            final_stack,
         })
+    }
+
+    /// The font.
+    pub fn font(&self) -> Font<'a>
+        ensures { result ≡ self.now.known.face }
+    {
+        self.font.shared()
+    }
+
+    /// The size.
+    pub fn ppem(&self) -> Ppem
+        ensures { result ≡ self.now.known.ppem }
+    {
+        self.state.scale.ppem
+    }
+
+    /// What `prep` left.
+    pub fn prepared(&self) -> &Prepared
+        ensures { result.now ≡ self.now.known.prepared }
+    {
+        &self.prepared
     }
 
     /// Whether `prep` asked for no programs of glyphs.
     pub fn skips_programs(&self) -> bool
-        ensures { result ≡ self.now.prepared.flags.no_programs }
+        ensures { result ≡ self.now.known.prepared.flags.no_programs }
     {
         self.prepared.flags.no_programs
     }
 
     /// What `fpgm` and `prep` used up.
     pub fn prelude(&self) -> Ran
-        ensures { result ≡ self.now.prelude }
+        ensures { result ≡ self.now.known.prelude }
     {
         self.prelude
     }
 
-    /// Runs the program of a glyph on its points, from what `prep` left: what it has used up, or where and why it halted. The
-    /// points keep their number and contours, also after a halt, and nothing passes from one glyph to another.
-    #[tactic(auto, unfolding(crate::specs::Known::glyph_ran))]
-    pub fn run_glyph(&mut self, code: Code<'_>, zone: &mut Zone) -> Result<Ran, Halt>
-        ensures value { with_zone result zone.new ≡ glyph_ran self.old code.entry zone.old }
+    /// The stack that the last program that ended well left, the deepest number first: `prep`, or a program of a glyph.
+    pub fn final_stack(&self) -> &[i32]
+        ensures { result.now ≡ self.now.final_stack }
+    {
+        self.final_stack.numbers()
+    }
+
+    /// Runs the program of glyph `g` on its points, from what `prep` left: what it has used up, or where and why it halted. The
+    /// points keep their number and contours, also after a halt. Nothing passes from one glyph to another; the final stack is that
+    /// of this run if it ended well, and else as it was.
+    #[tactic(auto, unfolding(crate::specs::Known::glyph_ran, crate::specs::Known::glyph_run))]
+    pub fn run_glyph(&mut self, g: u16, code: Code<'_>, zone: &mut Zone) -> Result<Ran, Halt>
+        ensures value { with_zone result zone.new ≡ glyph_ran self.old.known g code.entry zone.old }
         ensures shape { HasShape zone.old zone.new }
-        ensures kept { self.new ≡ self.old }
+        ensures kept { self.new.known ≡ self.old.known }
+        ensures stack { self.new.final_stack ≡ stack_after (glyph_run self.old.known g code.entry zone.old) self.old.final_stack }
     {
         let programs = Programs {
             font: Code::new(self.font_program),
             prep: Code::new(self.prep),
             glyph: code,
+            number: g,
         };
         let Machine {
             prepared,
             state,
+            final_stack,
             ..
         } = self;
-        run_from(state, prepared, &programs, STEP_LIMIT, zone)
+        run_from(state, prepared, &programs, STEP_LIMIT, zone, final_stack)
     }
 }

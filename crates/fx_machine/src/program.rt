@@ -1,9 +1,10 @@
 //! Which program's bytes run.
 
 ghost use Rattle.std.specs.Prelude.{◌≡◌};
-ghost use Rattle.fx_machine.specs.Programs.{texts};
+ghost use Rattle.fx_machine.specs.Programs.{texts, named};
 
 use fx_code::Code;
+use std::fmt;
 
 /// Which program's bytes.
 #[derive(Clone, Copy, Debug, PartialEq, Eq, Default)]
@@ -17,12 +18,31 @@ pub enum Program {
     Glyph,
 }
 
-/// The bytes of `fpgm`, of `prep` and of the program of a glyph.
+/// A program of a font by its name; that of a glyph has the glyph's number.
+#[derive(Clone, Copy, Debug, PartialEq, Eq)]
+pub enum FontProgram {
+    Fpgm,
+    Prep,
+    Glyph(u16),
+}
+
+impl fmt::Display for FontProgram {
+    fn fmt<W: fmt::Write>(&self, f: &mut fmt::Formatter<W>) -> fmt::Result {
+        match *self {
+            FontProgram::Fpgm => f.write_str("fpgm"),
+            FontProgram::Prep => f.write_str("prep"),
+            FontProgram::Glyph(g) => write!(f, "glyph {g}"),
+        }
+    }
+}
+
+/// The bytes of `fpgm`, of `prep` and of the program of a glyph, and the glyph's number.
 #[derive(Drop)]
 pub struct Programs<'a> {
     pub font: Code<'a>,
     pub prep: Code<'a>,
     pub glyph: Code<'a>,
+    pub number: u16,
 }
 
 impl<'a> Programs<'a> {
@@ -34,6 +54,17 @@ impl<'a> Programs<'a> {
             Program::Font => &self.font,
             Program::Prep => &self.prep,
             Program::Glyph => &self.glyph,
+        }
+    }
+
+    /// The name of a program.
+    pub fn name(&self, program: Program) -> FontProgram
+        ensures { result ≡ named self.now.number program }
+    {
+        match program {
+            Program::Font => FontProgram::Fpgm,
+            Program::Prep => FontProgram::Prep,
+            Program::Glyph => FontProgram::Glyph(self.number),
         }
     }
 }

@@ -36,7 +36,7 @@ pub fn run(
     start: Program,
     limit: u32,
 ) -> Result<u32, Halt>
-    ensures value { sees result state.new ≡ answered (texts programs.now) start (answer_of (row_at (texts programs.now)) limit start state.old) }
+    ensures value { sees result state.new ≡ answered (texts programs.now) programs.now.number start (answer_of (row_at (texts programs.now)) limit start state.old) }
     ensures few { IfOk result (λ steps. steps ≤ limit) }
     ensures shapes { HasShapes state.old.zones state.new.zones }
     ensures sizes { HasSizes state.old state.new }
@@ -58,14 +58,14 @@ pub fn run(
         let program = cursor.program;
         let address = cursor.address;
         if steps == limit {
-            return Err(halted(code, start, program, address, Cause::StepLimit));
+            return Err(halted(programs, start, program, address, Cause::StepLimit));
         }
         if ended {
-            return Err(halted(code, start, program, address, Cause::StrayEnd));
+            return Err(halted(programs, start, program, address, Cause::StrayEnd));
         }
         let left = match advance(&mut cursor, &mut calls, state, code) {
             Ok(left) => left,
-            Err(cause) => return Err(halted(code, start, program, address, cause)),
+            Err(cause) => return Err(halted(programs, start, program, address, cause)),
         };
         code = code_then(programs, code, cursor.program, left);
         steps += 1;

@@ -52,11 +52,11 @@ pub fn negative(d: F26) -> F26
 }
 
 /// An exact product of two distances.
-pub fn product(a: F26, b: F26) -> i128
+pub fn product(a: F26, b: F26) -> i64
     ensures value { result ≡ a *ℤ b }
     ensures bound { unsigned_abs result ≤ 2 ^ 62 }
 {
-    i128::from(a.0) * i128::from(b.0)
+    i64::from(a.0) * i64::from(b.0)
 }
 
 /// A width on the side of a distance; 0 counts as positive.

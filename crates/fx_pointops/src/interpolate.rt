@@ -8,17 +8,17 @@ ghost use Rattle.fx_pointops.specs.Interpolate.{proportion_of, point_in_proporti
 
 use crate::distances::product;
 use crate::zones::{Zones, stray};
-use fx_fixed::{F26, near, w32};
-use fx_gstate::GState;
+use fx_fixed::{F26, w32};
+use fx_gstate::{GState, near_quotient};
 
 /// A distance that is not 0, as a divisor.
-fn divisor(d: F26) -> i128
+fn divisor(d: F26) -> i64
     requires { d ≢ pos 0 }
     ensures value { result ≡ d }
     ensures bound { unsigned_abs result ≤ 2 ^ 32 }
     ensures nonzero { result ≢ pos 0 }
 {
-    i128::from(d.0)
+    i64::from(d.0)
 }
 
 /// The distance that is to `o` as `cb` to `ob`.
@@ -26,7 +26,7 @@ fn proportional(o: F26, cb: F26, ob: F26) -> F26
     requires { ob ≢ pos 0 }
     ensures { result ≡ wrapped_of (near_of (o *ℤ cb) ob) }
 {
-    F26(w32(near(product(o, cb), divisor(ob))))
+    F26(w32(i128::from(near_quotient(product(o, cb), divisor(ob)))))
 }
 
 /// A distance in the proportion of `cb` to `ob`; the distance itself if `ob` is 0.

@@ -15,7 +15,7 @@ fn cross(a: &Place, b: &Place) -> i128
     ensures value { result ≡ cross_of a.now b.now }
     ensures bound { unsigned_abs result ≤ 2 ^ 63 }
 {
-    product(a.x, b.y) - product(a.y, b.x)
+    i128::from(product(a.x, b.y)) - i128::from(product(a.y, b.x))
 }
 
 /// An exact product of a cross product and a coordinate.

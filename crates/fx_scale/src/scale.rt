@@ -2,10 +2,10 @@
 
 ghost use Rattle.std.specs.Prelude.{◌≡◌, ◌^◌, ◌≤◌, ◌*◌, pos, ◌*ℤ◌, unsigned_abs};
 ghost use Rattle.fx_fixed.specs.Numbers.{near_of};
-ghost use Rattle.fx_scale.specs.Scaling.{scaled_of, scaled_by};
+ghost use Rattle.fx_scale.specs.Scaling.{scaled_of, scaled_by, scale_of};
 
 use fx_fixed::{F26, Ppem, near, w32};
-use fx_sfnt::UnitsPerEm;
+use fx_sfnt::{Font, UnitsPerEm};
 
 /// A size, and what of the font belongs to every glyph at it; ascender and descender in FUnits.
 #[derive(Clone, Copy, Debug, PartialEq, Eq)]
@@ -17,6 +17,18 @@ pub struct Scale {
 }
 
 impl Scale {
+    /// A font's scale at a size.
+    pub fn of(font: &Font<'_>, ppem: Ppem) -> Scale
+        ensures { result ≡ scale_of font.now ppem }
+    {
+        Scale {
+            ppem,
+            units_per_em: font.head().units_per_em,
+            ascender: font.hhea().ascender,
+            descender: font.hhea().descender,
+        }
+    }
+
     /// A value in FUnits at this scale, in 26.6 pixels.
     pub fn apply(&self, v: i32) -> F26
         ensures { result ≡ scaled_by self.now v }
@@ -28,10 +40,11 @@ impl Scale {
 /// A value in FUnits at a size, in 26.6 pixels: `v * ppem * 64 / unitsPerEm` rounded to the nearest whole number, halves away
 /// from zero (OpenType, "TrueType fundamentals": scaling a glyph outline).
 ///
-/// The values in a font fit 32 bits at every size; others are taken modulo 2^32.
+/// The values in a font, and differences of two of them, are within 2^28 at every size; others are taken modulo 2^32.
 #[tactic(auto, using(crate::proofs::Exact::unwrapped))]
 pub fn scaled(v: i32, ppem: Ppem, units_per_em: UnitsPerEm) -> F26
     ensures value { result ≡ scaled_of v ppem units_per_em }
+    ensures within { unsigned_abs v ≤ 65535 → unsigned_abs result ≤ 2 ^ 28 }
     ensures exact { unsigned_abs v ≤ 2 ^ 16 → result ≡ near_of (v *ℤ pos (ppem * 64)) (pos units_per_em) }
 {
     F26(w32(near(

@@ -127,6 +127,14 @@ impl Store {
         Ok(&self.cells.numbers()[self.depth - count..self.depth])
     }
 
+    /// The numbers of the stack, the deepest first.
+    pub fn numbers(&self) -> &[i32]
+        ensures value { result.now ≡ reverse self.now.stack }
+        ensures most { length result.now ≤ self.now.room }
+    {
+        &self.cells.numbers()[..self.depth]
+    }
+
     /// Pops numbers that are there.
     pub fn drop_top(&mut self, count: u32)
         requires { count ≤ length self.old.stack }

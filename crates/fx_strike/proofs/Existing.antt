@@ -11,8 +11,11 @@ use Rattle.fx_fixed.proofs.Linear.{signed}
 use Rattle.fx_sfnt.specs.Tables.{Face}
 use Rattle.fx_sfnt.specs.Glyphs.{metrics_of}
 use Rattle.fx_sfnt.specs.declared.records.Metrics.{Metrics}
-use Rattle.fx_cmap.specs.Lookup.{Segments, glyph_for}
-use Rattle.fx_hint.specs.Outlines.{OutlineView, outline_of}
+use Rattle.fx_cmap.specs.Lookup.{glyph_for}
+use Rattle.fx_cmap.specs.declared.mapping.Mapping.{Mapping}
+use Rattle.fx_hint.specs.Hinting.{Hinting}
+use Rattle.fx_hint.specs.Outlines.{OutlineView, outline_with}
+use Rattle.fx_winding.specs.Limits.{greatest_side}
 use Rattle.fx_winding.specs.Winding.{Span, centre}
 use Rattle.fx_contour.specs.Contours.{drawn_of}
 use Rattle.fx_contour.specs.Frames.{IsInBoundingBox, AreTooLarge, framed_of}
@@ -63,18 +66,18 @@ down_from : (x a b : ℤ) → (pos 128 *ℤ b +ℤ pos 64) ≤ℤ x → a ≤ℤ
 down_from x a b h k = omega (arith, signed, h, k)
 
 not_wide : (ss : List Span) → (AreTooLarge ss → ⊥) → (col row col2 row2 : ℤ) → IsInBoundingBox (centre col row) ss
-    → IsInBoundingBox (centre col2 row2) ss → col2 <ℤ (col +ℤ pos 2048)
-not_wide ss small col row col2 row2 h k = elim (order col2 (col +ℤ pos 2048)) [
+    → IsInBoundingBox (centre col2 row2) ss → col2 <ℤ (col +ℤ pos greatest_side)
+not_wide ss small col row col2 row2 h k = elim (order col2 (col +ℤ pos greatest_side)) [
   | inl l ↦ l
   | inr far ↦ absurd (small (
     col,
     row,
     h,
     inl (record {
-      left = have_more (λ q. q.x ≤ℤ (centre col row).x) (λ q. q.x ≤ℤ (centre (col +ℤ pos 2048) row).x)
-          (λ q l. up_from q.x col (col +ℤ pos 2048) l (omega (arith, ints))) ss h.left;
-      right = have_more (λ q. (centre col2 row2).x ≤ℤ q.x) (λ q. (centre (col +ℤ pos 2048) row).x ≤ℤ q.x)
-          (λ q l. down_from q.x (col +ℤ pos 2048) col2 l far) ss k.right;
+      left = have_more (λ q. q.x ≤ℤ (centre col row).x) (λ q. q.x ≤ℤ (centre (col +ℤ pos greatest_side) row).x)
+          (λ q l. up_from q.x col (col +ℤ pos greatest_side) l (omega (arith, ints))) ss h.left;
+      right = have_more (λ q. (centre col2 row2).x ≤ℤ q.x) (λ q. (centre (col +ℤ pos greatest_side) row).x ≤ℤ q.x)
+          (λ q l. down_from q.x (col +ℤ pos greatest_side) col2 l far) ss k.right;
       bottom = h.bottom;
       top = h.top;
     }),
@@ -82,8 +85,8 @@ not_wide ss small col row col2 row2 h k = elim (order col2 (col +ℤ pos 2048)) 
 ]
 
 not_high : (ss : List Span) → (AreTooLarge ss → ⊥) → (col row col2 row2 : ℤ) → IsInBoundingBox (centre col row) ss
-    → IsInBoundingBox (centre col2 row2) ss → row2 <ℤ (row +ℤ pos 2048)
-not_high ss small col row col2 row2 h k = elim (order row2 (row +ℤ pos 2048)) [
+    → IsInBoundingBox (centre col2 row2) ss → row2 <ℤ (row +ℤ pos greatest_side)
+not_high ss small col row col2 row2 h k = elim (order row2 (row +ℤ pos greatest_side)) [
   | inl l ↦ l
   | inr far ↦ absurd (small (
     col,
@@ -92,10 +95,10 @@ not_high ss small col row col2 row2 h k = elim (order row2 (row +ℤ pos 2048)) 
     inr (record {
       left = h.left;
       right = h.right;
-      bottom = have_more (λ q. q.y ≤ℤ (centre col row).y) (λ q. q.y ≤ℤ (centre col (row +ℤ pos 2048)).y)
-          (λ q l. up_from q.y row (row +ℤ pos 2048) l (omega (arith, ints))) ss h.bottom;
-      top = have_more (λ q. (centre col2 row2).y ≤ℤ q.y) (λ q. (centre col (row +ℤ pos 2048)).y ≤ℤ q.y)
-          (λ q l. down_from q.y (row +ℤ pos 2048) row2 l far) ss k.top;
+      bottom = have_more (λ q. q.y ≤ℤ (centre col row).y) (λ q. q.y ≤ℤ (centre col (row +ℤ pos greatest_side)).y)
+          (λ q l. up_from q.y row (row +ℤ pos greatest_side) l (omega (arith, ints))) ss h.bottom;
+      top = have_more (λ q. (centre col2 row2).y ≤ℤ q.y) (λ q. (centre col (row +ℤ pos greatest_side)).y ≤ℤ q.y)
+          (λ q l. down_from q.y (row +ℤ pos greatest_side) row2 l far) ss k.top;
     }),
   ))
 ]
@@ -140,10 +143,11 @@ glyph_of_spans s d small =
       },
     )
 
-glyph_of_sketch : (face : Face) (ppem code glyph : ℕ) (s : Sketch) → glyph_sketch_of face ppem code glyph ≡ Ok s
+glyph_of_sketch : (hinting : Hinting) (face : Face) (ppem code glyph : ℕ) (s : Sketch)
+    → glyph_sketch_of hinting face ppem code glyph ≡ Ok s
     → (g : Glyph) × IsGlyphOf s g
 unfolding glyph_sketch_of
-glyph_of_sketch face ppem code glyph s h =
+glyph_of_sketch hinting face ppem code glyph s h =
     let last : OutlineView → List Span → Metrics → Sketch = λ d ss m. record {
       code = code;
       swidth = thousandths m.advance_width face.head.units_per_em;
@@ -156,7 +160,7 @@ glyph_of_sketch face ppem code glyph s h =
     λ d ss. map_fault of_font (metrics_of face glyph) >>= λ m. Ok (last d ss m) in
     let framed : OutlineView → List Span → Result Sketch Refusal =
     λ d ss. map_fault (of_contour glyph) (framed_of ss) >>= λ _. measured d ss in
-    let a = bind_ok (map_fault of_hint (outline_of face ppem glyph))
+    let a = bind_ok (map_fault of_hint (outline_with hinting face ppem glyph))
     (λ d. map_fault (of_contour glyph) (drawn_of d.ends d.points) >>= framed d) s h in
     let b = bind_ok (map_fault (of_contour glyph) (drawn_of a.0.ends a.0.points)) (framed a.0) s a.2 in
     let c = bind_ok (map_fault (of_contour glyph) (framed_of b.0)) (λ _. measured a.0 b.0) s b.2 in
@@ -171,25 +175,27 @@ glyph_of_sketch face ppem code glyph s h =
         let P : Sketch → Type 0 = λ y. (g : Glyph) × IsGlyphOf y g in
         subst P e (glyph_of_spans x drawn small)
 
-glyphs_of_sketches : (face : Face) (segments : Segments) (ppem : ℕ) (codes : List ℕ) (ss : List Sketch)
-    → map_chain (sketch_of face segments ppem) codes ≡ Ok ss → (gs : List Glyph) × AreGlyphsOf ss gs
-glyphs_of_sketches face segments ppem [] ss h =
+glyphs_of_sketches : (hinting : Hinting) (face : Face) (segments : Mapping) (ppem : ℕ) (codes : List ℕ) (ss : List Sketch)
+    → map_chain (sketch_of hinting face segments ppem) codes ≡ Ok ss → (gs : List Glyph) × AreGlyphsOf ss gs
+glyphs_of_sketches hinting face segments ppem [] ss h =
     let e : [] ≡ ss = cc in
     let P : List Sketch → Type 0 = λ xs. (gs : List Glyph) × AreGlyphsOf xs gs in
     subst P e ([], tt)
-glyphs_of_sketches face segments ppem (c ∷ cs) ss h =
+glyphs_of_sketches hinting face segments ppem (c ∷ cs) ss h =
     let p =
-    bind_ok (sketch_of face segments ppem c) (λ y. map_chain (sketch_of face segments ppem) cs >>= λ zs. Ok (y ∷ zs)) ss
+    bind_ok (sketch_of hinting face segments ppem c)
+    (λ y. map_chain (sketch_of hinting face segments ppem) cs >>= λ zs. Ok (y ∷ zs)) ss
     h in
-    let q = bind_ok (map_chain (sketch_of face segments ppem) cs) (λ zs. Ok (p.0 ∷ zs)) ss p.2 in
+    let q = bind_ok (map_chain (sketch_of hinting face segments ppem) cs) (λ zs. Ok (p.0 ∷ zs)) ss p.2 in
     let e : p.0 ∷ q.0 ≡ ss = cc (q.2) in
-    let g = glyph_of_sketch face ppem c (glyph_for segments c) p.0 p.1 in
-    let gs = glyphs_of_sketches face segments ppem cs q.0 q.1 in
+    let g = glyph_of_sketch hinting face ppem c (glyph_for segments c) p.0 p.1 in
+    let gs = glyphs_of_sketches hinting face segments ppem cs q.0 q.1 in
     let P : List Sketch → Type 0 = λ xs. (gs : List Glyph) × AreGlyphsOf xs gs in
     subst P e (g.0 ∷ gs.0, (g.1, gs.1))
 
 pub strike_exists : StrikeExists
 strike_exists file ppem name chars hinting plan h =
     let p = parts_of file ppem name chars hinting plan h in
-    glyphs_of_sketches p.face p.segments p.size (filter (λ c. not (is_missing p.segments c)) (rising chars)) plan.sketches
+    glyphs_of_sketches p.prelude.hinting p.face p.segments p.size (filter (λ c. not (is_missing p.segments c)) (rising chars))
+    plan.sketches
     p.sketches

@@ -1,8 +1,10 @@
 pub mod Rising
 pub mod Sketching
-pub mod Gathering
+pub mod Seeing
 pub mod Making
+pub mod Lines
 pub mod OnePart
+pub mod OneCharacter
 pub mod Covering
 pub mod Near
 pub mod Trimming

@@ -1,64 +1,74 @@
--- From what was made to what a call leaves.
--- Serves `make_opened`, `whole_pixels` and `make_texts`.
-use Rattle.std.proofs.Common.{◌≡◌, sym, ap, ◌∙◌, subst, arith, ℕ, ◌<◌, ◌≤◌, ◌^◌, ℤ, pos, Bool, List, ◌++◌, map, length, Result, Ok}
+-- From what was seen to a survey, and from a survey and what was written to what a call leaves.
+-- Serves `survey_after`, `survey_inner`, `write_after`, `make_strike_inner` and `whole_pixels`.
+use Rattle.std.proofs.Common.{refl, sym, ap, subst, ◌≡◌, ◌∙◌, arith, inl, ℕ, ◌+◌, ◌<◌, ◌≤◌, ◌^◌, ℤ, pos, Bool, true, List, map}
+use Rattle.std.proofs.Common.{Option, Some, None, Result, Ok}
 use Rattle.std.proofs.Common.{Err, FitsSigned, w32, to_z, of_z, lit<}
 use Rattle.std.specs.Int.{w128}
-use Rattle.std.specs.Prelude.{◌*ℤ◌, neg_ℤ, unsigned_abs, IfOk, IfErr}
-use Rattle.std.specs.List.{count_by}
+use Rattle.std.specs.Prelude.{◌*ℤ◌, neg_ℤ, unsigned_abs, IsOk}
+use Rattle.std.specs.Io.KnownBytes.{Keeps}
+use Rattle.std.specs.List.{count_by, sum_by}
 use Rattle.std.proofs.lemmas.Int.{ints, fits_signed_mul, fits_signed_from_abs, unsigned_abs-mul}
 use Rattle.std.proofs.Math.Nat.{mul-le-mul_left}
+use Rattle.fx_fixed.specs.Chain.{map_fault}
 use Rattle.fx_fixed.specs.Numbers.{near_of}
 use Rattle.fx_fixed.specs.Sizes.{IsPpem, max_ppem}
 use Rattle.fx_sfnt.specs.Tables.{Face}
-use Rattle.fx_cmap.specs.Lookup.{Segments}
+use Rattle.fx_cmap.specs.declared.mapping.Mapping.{Mapping}
+use Rattle.fx_machine.specs.Known.{Known, machine_of}
+use Rattle.fx_hint.specs.Hinting.{Hinting}
+use Rattle.fx_hint.specs.Programmed.{hinting_of}
+use Rattle.fx_machine.specs.declared.ran.Ran.{Ran}
 use Rattle.fx_bdf.specs.declared.header.Header.{Header}
 use Rattle.fx_bdf.specs.Glyphs.{Box, bounds_of}
-use Rattle.fx_bdf.specs.Text.{header_text, end_text}
 use Rattle.fx_strike.specs.declared.refusal.Refusal.{Refusal}
 use Rattle.fx_strike.specs.declared.refusal.Refusal.TheVariants.{WriteFailed, ReadFailed, BadHex, InputTooLarge, OutOfMemory}
-use Rattle.fx_strike.specs.declared.gathered.Gathered.{Gathered}
-use Rattle.fx_strike.specs.declared.made.Made.{Made}
+use Rattle.fx_strike.specs.declared.seen.Seen.{Seen}
 use Rattle.fx_strike.specs.declared.request.Report.{Report}
-use Rattle.fx_strike.specs.Faults.{Fails}
+use Rattle.fx_strike.specs.declared.request.Survey.{Survey}
+use Rattle.fx_strike.specs.Faults.{Fails, of_machine}
 use Rattle.fx_strike.specs.Characters.{rising}
-use Rattle.fx_strike.specs.Strike.{Sketch, Plan, pixels, is_missing, sketches_of, opened_of, plan_in, plan_of, strike_text}
-use Rattle.fx_strike.specs.Headline.{IsCause}
-use Rattle.fx_strike.specs.Gathering.{Holds, heading_of, Finishes, IsMadeOf, Makes}
-use Rattle.fx_strike.proofs.Gathering.{fails_on}
+use Rattle.fx_strike.specs.Strike.{Sketch, Prelude, Opening, Plan, prelude_of, prelude_for, pixels, is_missing, sketches_of}
+use Rattle.fx_strike.specs.Strike.{opened_of, plan_after, plan_in, plan_of}
+use Rattle.fx_strike.specs.Headline.{counted, IsCause, Surveyed, Leaves}
+use Rattle.fx_strike.specs.Surveying.{Holds, seen_prelude, survey_from, Surveys}
+use Rattle.fx_strike.proofs.Seeing.{fails_on}
 
 -- ---- when the plan stops
 
 plan_unopened : (file : List ℕ) (ppem : ℕ) (name chars : List ℕ) (hinting : Bool) (d : Refusal)
-    → opened_of file ppem name chars hinting ≡ Err d → plan_of file ppem name chars hinting ≡ Err d
+    → opened_of file ppem name chars ≡ Err d → plan_of file ppem name chars hinting ≡ Err d
 unfolding plan_of
 plan_unopened file ppem name chars hinting d h = rw h
 
-plan_opened : (file : List ℕ) (ppem : ℕ) (name chars : List ℕ) (hinting : Bool) (size : ℕ) (face : Face) (segments : Segments)
-    → opened_of file ppem name chars hinting ≡ Ok (size, face, segments)
-    → plan_of file ppem name chars hinting ≡ plan_in face segments size name chars
+plan_opened : (file : List ℕ) (ppem : ℕ) (name chars : List ℕ) (hinting : Bool) (size : ℕ) (face : Face) (segments : Mapping)
+    → opened_of file ppem name chars ≡ Ok (size, face, segments)
+    → plan_of file ppem name chars hinting ≡ plan_in face segments size name chars hinting
 unfolding plan_of
 plan_opened file ppem name chars hinting size face segments h = rw h
 
-plan_refused : (face : Face) (segments : Segments) (ppem : ℕ) (name chars : List ℕ) (d : Refusal)
-    → sketches_of face segments ppem (rising chars) ≡ Err d → plan_in face segments ppem name chars ≡ Err d
-unfolding plan_in
-plan_refused face segments ppem name chars d h = rw h
+plan_refused : (prelude : Prelude) (face : Face) (segments : Mapping) (ppem : ℕ) (name chars : List ℕ) (d : Refusal)
+    → sketches_of prelude.hinting face segments ppem (rising chars) ≡ Err d
+    → plan_after prelude face segments ppem name chars ≡ Err d
+unfolding plan_after
+plan_refused prelude face segments ppem name chars d h = rw h
 
-abbrev whole_plan : ℕ → List ℕ → List ℕ → Face → Segments → List Sketch → Plan
-whole_plan ppem name chars face segments ss = record {
+abbrev whole_plan : Prelude → ℕ → List ℕ → List ℕ → Face → Mapping → List Sketch → Plan
+whole_plan prelude ppem name chars face segments ss = record {
   name = name;
   ppem = ppem;
   ascent = pixels face.hhea.ascender ppem face.head.units_per_em;
   descent = pixels (neg_ℤ face.hhea.descender) ppem face.head.units_per_em;
   sketches = ss;
   missing = count_by (is_missing segments) (rising chars);
+  strays = prelude.strays;
+  steps = prelude.steps;
 }
 
-plan_whole : (face : Face) (segments : Segments) (ppem : ℕ) (name chars : List ℕ) (ss : List Sketch)
-    → sketches_of face segments ppem (rising chars) ≡ Ok ss
-    → plan_in face segments ppem name chars ≡ Ok (whole_plan ppem name chars face segments ss)
-unfolding plan_in
-plan_whole face segments ppem name chars ss h = rw h
+plan_whole : (prelude : Prelude) (face : Face) (segments : Mapping) (ppem : ℕ) (name chars : List ℕ) (ss : List Sketch)
+    → sketches_of prelude.hinting face segments ppem (rising chars) ≡ Ok ss
+    → plan_after prelude face segments ppem name chars ≡ Ok (whole_plan prelude ppem name chars face segments ss)
+unfolding plan_after
+plan_whole prelude face segments ppem name chars ss h = rw h
 
 -- ---- refusals that are due
 
@@ -70,38 +80,78 @@ fails_cause BadHex due c h = absurd c
 fails_cause InputTooLarge due c h = absurd c
 fails_cause d due c h = h
 
-makes_err : (due : Result Plan Refusal) (r : Result Made Refusal) (e d : Refusal) → r ≡ Err e → e ≡ d → Fails d due → Makes due r
-makes_err due r e d p q f = let P : Result Made Refusal → Type 0 = λ s. Makes due s in subst P (sym (p ∙ ap Err q)) f
+-- a refusal on the way, and nothing was written
+fails_leaves : (opening : Opening) (due : Result Plan Refusal) (old new : Option (List ℕ)) (faults_before faults_after : ℕ)
+    (d : Refusal)
+    → IsOk opening → Keeps old new → faults_after ≡ faults_before → Fails d due
+    → Leaves opening due old new faults_before faults_after (Err d)
+fails_leaves opening due old new faults_before faults_after OutOfMemory o k q f =
+    (o, record { begun = inl k; quiet = q })
+fails_leaves opening due old new faults_before faults_after (WriteFailed n) o k q f = absurd f
+fails_leaves opening due old new faults_before faults_after ReadFailed o k q f = absurd f
+fails_leaves opening due old new faults_before faults_after BadHex o k q f = absurd f
+fails_leaves opening due old new faults_before faults_after InputTooLarge o k q f = absurd f
+fails_leaves opening due old new faults_before faults_after d o k q f = record { cause = tt; first = f; kept = k; quiet = q }
 
-pub unopened : (file : List ℕ) (ppem : ℕ) (name chars : List ℕ) (hinting : Bool) (r : Result Made Refusal) (e d : Refusal)
+-- the first cause before anything was made, and nothing was written
+cause_leaves : (opening : Opening) (due : Result Plan Refusal) (old new : Option (List ℕ)) (faults_before faults_after : ℕ)
+    (d : Refusal)
+    → IsCause d → Keeps old new → faults_after ≡ faults_before → due ≡ Err d
+    → Leaves opening due old new faults_before faults_after (Err d)
+cause_leaves opening due old new faults_before faults_after OutOfMemory c k q f = absurd c
+cause_leaves opening due old new faults_before faults_after (WriteFailed n) c k q f = absurd c
+cause_leaves opening due old new faults_before faults_after d c k q f = record { cause = c; first = f; kept = k; quiet = q }
+
+keeps_same : (old : Option (List ℕ)) → Keeps old old
+keeps_same None = tt
+keeps_same (Some xs) = refl
+
+leaves_err : (opening : Opening) (due : Result Plan Refusal) (old new : Option (List ℕ)) (faults_before faults_after : ℕ)
+    (r : Result Report Refusal) (e d : Refusal) → r ≡ Err e → e ≡ d
+    → Leaves opening due old new faults_before faults_after (Err d) → Leaves opening due old new faults_before faults_after r
+leaves_err opening due old new faults_before faults_after r e d p q h =
+    let P : Result Report Refusal → Type 0 = λ s. Leaves opening due old new faults_before faults_after s in
+    subst P (sym (p ∙ ap Err q)) h
+
+-- ---- a survey
+
+surveys_err : (due : Result Plan Refusal) (r : Result Survey Refusal) (e d : Refusal) → r ≡ Err e → e ≡ d → Fails d due
+    → Surveys due r
+surveys_err due r e d p q f = let P : Result Survey Refusal → Type 0 = λ s. Surveys due s in subst P (sym (p ∙ ap Err q)) f
+
+pub unopened : (file : List ℕ) (ppem : ℕ) (name chars : List ℕ) (hinting : Bool) (r : Result Survey Refusal) (e d : Refusal)
     → r ≡ Err e → e ≡ d
-    → Err d ≡ opened_of file ppem name chars hinting → IsCause d → Makes (plan_of file ppem name chars hinting) r
+    → Err d ≡ opened_of file ppem name chars → IsCause d → Surveys (plan_of file ppem name chars hinting) r
 unopened file ppem name chars hinting r e d p q h c =
-    makes_err (plan_of file ppem name chars hinting) r e d p q
+    surveys_err (plan_of file ppem name chars hinting) r e d p q
     (fails_cause d (plan_of file ppem name chars hinting) c (plan_unopened file ppem name chars hinting d (sym h)))
 
-pub opened : (file : List ℕ) (ppem : ℕ) (name chars : List ℕ) (hinting : Bool) (size : ℕ) (face : Face) (segments : Segments)
-    (r : Result Made Refusal) → Ok (size, face, segments) ≡ opened_of file ppem name chars hinting
-    → Makes (plan_in face segments size name chars) r → Makes (plan_of file ppem name chars hinting) r
+pub opened : (file : List ℕ) (ppem : ℕ) (name chars : List ℕ) (hinting : Bool) (size : ℕ) (face : Face) (segments : Mapping)
+    (r : Result Survey Refusal) → Ok (size, face, segments) ≡ opened_of file ppem name chars
+    → Surveys (plan_in face segments size name chars hinting) r → Surveys (plan_of file ppem name chars hinting) r
 opened file ppem name chars hinting size face segments r h m =
-    let P : Result Plan Refusal → Type 0 = λ due. Makes due r in
+    let P : Result Plan Refusal → Type 0 = λ due. Surveys due r in
     subst P (sym (plan_opened file ppem name chars hinting size face segments (sym h))) m
 
-pub ungathered : (face : Face) (segments : Segments) (ppem : ℕ) (name chars codes : List ℕ) (r : Result Made Refusal)
-    (e d : Refusal) → r ≡ Err e → e ≡ d
-    → codes ≡ rising chars → Fails d (sketches_of face segments ppem codes) → Makes (plan_in face segments ppem name chars) r
-ungathered face segments ppem name chars codes r e d p q c f =
-    makes_err (plan_in face segments ppem name chars) r e d p q
-    (fails_on d (sketches_of face segments ppem codes) (plan_in face segments ppem name chars)
-    (λ x g. plan_refused face segments ppem name chars x (ap (sketches_of face segments ppem) (sym c) ∙ g)) f)
+pub unseen : (prelude : Prelude) (face : Face) (segments : Mapping) (ppem : ℕ) (name chars codes : List ℕ)
+    (r : Result Survey Refusal) (e d : Refusal) → r ≡ Err e → e ≡ d
+    → codes ≡ rising chars → Fails d (sketches_of prelude.hinting face segments ppem codes)
+    → Surveys (plan_after prelude face segments ppem name chars) r
+unseen prelude face segments ppem name chars codes r e d p q c f =
+    surveys_err (plan_after prelude face segments ppem name chars) r e d p q
+    (fails_on d (sketches_of prelude.hinting face segments ppem codes) (plan_after prelude face segments ppem name chars)
+    (λ x g. plan_refused prelude face segments ppem name chars x
+    (ap (sketches_of prelude.hinting face segments ppem) (sym c) ∙ g)) f)
 
--- ---- what is made
+-- a count goes on after what was counted before
+counted_on : (before after total : ℕ) → after ≡ counted total → counted (before + after) ≡ counted (before + total)
+counted_on before after total h = omega arith
 
-made_of : (face : Face) (segments : Segments) (ppem : ℕ) (name chars : List ℕ) (gathered : Gathered) (made : Made)
-    → Holds face segments ppem (rising chars) gathered
-    → Finishes name (heading_of face ppem gathered) gathered made → IsMadeOf (plan_in face segments ppem name chars) made
-unfolding strike_text
-made_of face segments ppem name chars gathered made g f =
+surveyed_here : (hinting : Hinting) (prelude : Ran) (face : Face) (segments : Mapping) (ppem : ℕ) (name chars : List ℕ)
+    (seen : Seen)
+    → Holds hinting face segments ppem (rising chars) seen
+    → Surveyed (plan_after (seen_prelude hinting prelude) face segments ppem name chars) (survey_from prelude face ppem seen)
+surveyed_here hinting prelude face segments ppem name chars seen g =
     let heading : Box → ℕ → Header = λ b n. record {
       ppem = ppem;
       bounds = b;
@@ -109,37 +159,73 @@ made_of face segments ppem name chars gathered made g f =
       descent = pixels (neg_ℤ face.hhea.descender) ppem face.head.units_per_em;
       glyphs = n;
     } in
-    let heads : header_text name (heading_of face ppem gathered) ≡ header_text name
-    (heading (bounds_of (map (λ x. x.box) g.glyphs)) (length g.sketches))
-    = ap (λ (b : Box). header_text name (heading b gathered.report.glyphs)) g.bounds ∙
-    ap (λ (n : ℕ). header_text name (heading (bounds_of (map (λ x. x.box) g.glyphs)) n)) g.count in
     record {
-      plan = whole_plan ppem name chars face segments g.sketches;
+      plan = whole_plan (seen_prelude hinting prelude) ppem name chars face segments g.sketches;
       glyphs = g.glyphs;
-      is = plan_whole face segments ppem name chars g.sketches g.planned;
+      is = plan_whole (seen_prelude hinting prelude) face segments ppem name chars g.sketches g.planned;
       drawn = g.drawn;
-      text = ap (λ (t : List ℕ). t ++ made.body.bytes.items) (f.head ∙ heads) ∙
-          ap (λ (t : List ℕ). header_text name (heading (bounds_of (map (λ x. x.box) g.glyphs)) (length g.sketches)) ++ t)
-          (f.body ∙ ap (λ (t : List ℕ). t ++ end_text) g.text);
+      header = ap (λ (b : Box). heading b seen.report.glyphs) g.bounds ∙
+          ap (λ (n : ℕ). heading (bounds_of (map (λ x. x.box) g.glyphs)) n) g.count;
       told = record {
-        glyphs = ap (λ (r : Report). r.glyphs) f.report ∙ g.count;
-        missing = ap (λ (r : Report). r.missing) f.report ∙ g.missing;
-        strays = ap (λ (r : Report). r.strays) f.report ∙ g.strays;
-        steps = ap (λ (r : Report). r.steps) f.report ∙ g.steps;
+        glyphs = g.count;
+        missing = g.missing;
+        strays = counted_on prelude.strays seen.report.strays (sum_by (λ s. s.strays) g.sketches) g.strays;
+        steps = counted_on prelude.steps seen.report.steps (sum_by (λ s. s.steps) g.sketches) g.steps;
       };
     }
 
-pub finished : (face : Face) (segments : Segments) (ppem : ℕ) (name chars codes : List ℕ) (gathered : Gathered) (header : Header)
-    (r : Result Made Refusal)
-    → codes ≡ rising chars → Holds face segments ppem codes gathered
-    → header ≡ heading_of face ppem gathered → IfOk r (Finishes name header gathered) → IfErr r (λ e. e ≡ OutOfMemory)
-    → Makes (plan_in face segments ppem name chars) r
-finished face segments ppem name chars codes gathered header (Ok made) c g q f e =
-    let P : List ℕ → Type 0 = λ xs. Holds face segments ppem xs gathered in
-    let Q : Header → Type 0 = λ x. Finishes name x gathered made in
-    made_of face segments ppem name chars gathered made (subst P c g) (subst Q q f)
-finished face segments ppem name chars codes gathered header (Err d) c g q f e =
-    let P : Refusal → Type 0 = λ x. Fails x (plan_in face segments ppem name chars) in subst P (sym e) tt
+pub surveyed : (hinting : Hinting) (prelude : Ran) (face : Face) (segments : Mapping) (ppem : ℕ) (name chars codes : List ℕ)
+    (seen : Seen) (survey : Survey)
+    → codes ≡ rising chars → Holds hinting face segments ppem codes seen → survey ≡ survey_from prelude face ppem seen
+    → Surveyed (plan_after (seen_prelude hinting prelude) face segments ppem name chars) survey
+surveyed hinting prelude face segments ppem name chars codes seen survey c g e =
+    let P : List ℕ → Type 0 = λ xs. Holds hinting face segments ppem xs seen in
+    let Q : Survey → Type 0 = λ s. Surveyed (plan_after (seen_prelude hinting prelude) face segments ppem name chars) s in
+    subst Q (sym e) (surveyed_here hinting prelude face segments ppem name chars seen (subst P c g))
+
+-- ---- what a call leaves
+
+pub not_opened : (file : List ℕ) (ppem : ℕ) (name chars : List ℕ) (hinting : Bool) (old : Option (List ℕ)) (faults : ℕ)
+    (r : Result Report Refusal) (e d : Refusal) → r ≡ Err e → e ≡ d
+    → Err d ≡ opened_of file ppem name chars → IsCause d
+    → Leaves (opened_of file ppem name chars) (plan_of file ppem name chars hinting) old old faults faults r
+not_opened file ppem name chars hinting old faults r e d p q h c =
+    leaves_err (opened_of file ppem name chars) (plan_of file ppem name chars hinting) old old faults faults r e d p q
+    (cause_leaves (opened_of file ppem name chars) (plan_of file ppem name chars hinting) old old faults faults d c
+    (keeps_same old) refl (plan_unopened file ppem name chars hinting d (sym h)))
+
+pub once_opened : (file : List ℕ) (ppem : ℕ) (name chars : List ℕ) (hinting : Bool) (size : ℕ) (face : Face) (segments : Mapping)
+    (old new : Option (List ℕ)) (faults_before faults_after : ℕ) (r : Result Report Refusal)
+    → Ok (size, face, segments) ≡ opened_of file ppem name chars
+    → Leaves (Ok (size, face, segments)) (plan_in face segments size name chars hinting) old new faults_before faults_after r
+    → Leaves (opened_of file ppem name chars) (plan_of file ppem name chars hinting) old new faults_before faults_after r
+once_opened file ppem name chars hinting size face segments old new faults_before faults_after r h m =
+    let P : Result Plan Refusal → Type 0 = λ due. Leaves (Ok (size, face, segments)) due old new faults_before faults_after r in
+    let Q : Opening → Type 0 = λ o. Leaves o (plan_of file ppem name chars hinting) old new faults_before faults_after r in
+    subst Q h (subst P (sym (plan_opened file ppem name chars hinting size face segments (sym h))) m)
+
+pub not_surveyed : (opening : Opening) (due : Result Plan Refusal) (old : Option (List ℕ)) (faults : ℕ) (r : Result Report Refusal)
+    (e d : Refusal) → IsOk opening → r ≡ Err e → e ≡ d → Fails d due → Leaves opening due old old faults faults r
+not_surveyed opening due old faults r e d o p q f =
+    leaves_err opening due old old faults faults r e d p q
+    (fails_leaves opening due old old faults faults d o (keeps_same old) refl f)
+
+plan_prepared : (face : Face) (segments : Mapping) (ppem : ℕ) (name chars : List ℕ) (known : Known)
+    → map_fault of_machine (machine_of face ppem) ≡ Ok known
+    → plan_in face segments ppem name chars true ≡ plan_after (prelude_of known) face segments ppem name chars
+unfolding plan_in prelude_for
+plan_prepared face segments ppem name chars known h = rw h
+
+pub prepared_leaves : (opening : Opening) (face : Face) (segments : Mapping) (ppem : ℕ) (name chars : List ℕ) (hinting : Bool)
+    (known : Known) (prelude : Ran) (old new : Option (List ℕ)) (faults_before faults_after : ℕ) (r : Result Report Refusal)
+    → hinting ≡ true → map_fault of_machine (machine_of face ppem) ≡ Ok known → prelude ≡ known.prelude
+    → Leaves opening (plan_after (seen_prelude (hinting_of known) prelude) face segments ppem name chars) old new faults_before
+    faults_after r
+    → Leaves opening (plan_in face segments ppem name chars hinting) old new faults_before faults_after r
+prepared_leaves opening face segments ppem name chars hinting known prelude old new faults_before faults_after r on h e m =
+    let P : Result Plan Refusal → Type 0 = λ due. Leaves opening due old new faults_before faults_after r in
+    subst P (ap (λ (x : Ran). plan_after (seen_prelude (hinting_of known) x) face segments ppem name chars) e
+    ∙ sym (ap (plan_in face segments ppem name chars) on ∙ plan_prepared face segments ppem name chars known h)) m
 
 -- ---- lemmas for answers
 
@@ -156,7 +242,7 @@ whole_is units ppem em f g h r fits few size small p q s e b =
     let one : to_z w128 (of_z w128 f) ≡ units = omega (arith, ints) in
     let two : to_z w128 (of_z w128 g) ≡ pos ppem = omega (arith, ints) in
     let three : to_z w128 (of_z w128 h) ≡ pos em = omega (arith, ints) in
-    let product : FitsSigned w32 (units *ℤ pos ppem) = fits_signed_mul w32 units (pos ppem) 32768 255 few size (lit< tt) in
+    let product : FitsSigned w32 (units *ℤ pos ppem) = fits_signed_mul w32 units (pos ppem) 32768 max_ppem few size (lit< tt) in
     let wide : to_z w128 (of_z w128 (units *ℤ pos ppem)) ≡ units *ℤ pos ppem = cast_wide (units *ℤ pos ppem) product in
     let whole : to_z w128 (of_z w128 (to_z w128 (of_z w128 f) *ℤ to_z w128 (of_z w128 g))) ≡ units *ℤ pos ppem
     = ap (λ (z : ℤ). to_z w128 (of_z w128 (z *ℤ to_z w128 (of_z w128 g)))) one ∙ ap (λ (z : ℤ). to_z w128 (of_z w128 (units *ℤ z)))
@@ -165,7 +251,7 @@ whole_is units ppem em f g h r fits few size small p q s e b =
     e ∙ ap (λ (z : ℤ). near_of z (to_z w128 (of_z w128 h))) whole ∙ ap (near_of (units *ℤ pos ppem)) three in
     let L : ℤ → Type 0 = λ z. unsigned_abs r ≤ unsigned_abs z in
     let bound : unsigned_abs r ≤ unsigned_abs (units *ℤ pos ppem) = subst L whole b in
-    let few_pixels : unsigned_abs (units *ℤ pos ppem) ≤ 8355840 =
+    let few_pixels : unsigned_abs (units *ℤ pos ppem) ≤ 33554432 =
     omega (arith, unsigned_abs-mul units (pos ppem), mul-le-mul_left (unsigned_abs units) size) in
     cast_back r (pixels units ppem em) (fits_signed_from_abs w32 r (omega arith)) near
   where

@@ -10,7 +10,8 @@ use Rattle.fx_fixed.proofs.Chain.{map_ok_ok}
 use Rattle.fx_sfnt.specs.Tables.{Face}
 use Rattle.fx_sfnt.specs.Glyphs.{metrics_of}
 use Rattle.fx_sfnt.specs.declared.records.Metrics.{Metrics}
-use Rattle.fx_hint.specs.Outlines.{OutlineView, outline_of}
+use Rattle.fx_hint.specs.Hinting.{Hinting}
+use Rattle.fx_hint.specs.Outlines.{OutlineView, outline_with}
 use Rattle.fx_winding.specs.Winding.{Span}
 use Rattle.fx_winding.specs.Bitmaps.{Bits, bit_of}
 use Rattle.fx_contour.specs.Contours.{drawn_of}
@@ -47,12 +48,12 @@ tight_along box a b e h =
     }
 
 -- all checks passed: the sketch is there
-sketch_is : (face : Face) (ppem code glyph : ℕ) (drawing : OutlineView) (ss : List Span) (m : Metrics)
-    → map_fault of_hint (outline_of face ppem glyph) ≡ Ok drawing
+sketch_is : (hinting : Hinting) (face : Face) (ppem code glyph : ℕ) (drawing : OutlineView) (ss : List Span) (m : Metrics)
+    → map_fault of_hint (outline_with hinting face ppem glyph) ≡ Ok drawing
     → map_fault (of_contour glyph) (drawn_of drawing.ends drawing.points) ≡ Ok ss
     → map_fault (of_contour glyph) (framed_of ss) ≡ Ok tt
     → map_fault of_font (metrics_of face glyph) ≡ Ok m
-    → glyph_sketch_of face ppem code glyph ≡ Ok (record {
+    → glyph_sketch_of hinting face ppem code glyph ≡ Ok (record {
       code = code;
       swidth = thousandths m.advance_width face.head.units_per_em;
       dwidth = near_of drawing.advance (pos 64);
@@ -61,12 +62,13 @@ sketch_is : (face : Face) (ppem code glyph : ℕ) (drawing : OutlineView) (ss : 
       steps = drawing.steps;
     })
 unfolding glyph_sketch_of
-sketch_is face ppem code glyph drawing ss m e1 e2 e3 e4 = rw (e1, e2, e3, e4)
+sketch_is hinting face ppem code glyph drawing ss m e1 e2 e3 e4 = rw (e1, e2, e3, e4)
 
 -- all steps went well: the glyph is that of the sketch
-pub drawn_whole : (face : Face) (ppem code glyph : ℕ) (drawing : OutlineView) (ss : List Span) (swidth : ℤ) (bits : Bits)
+pub drawn_whole : (hinting : Hinting) (face : Face) (ppem code glyph : ℕ) (drawing : OutlineView) (ss : List Span)
+    (swidth : ℤ) (bits : Bits)
     (made : Drawn) (code' : ℕ) (swidth' dwidth' : ℤ)
-    → map_fault of_hint (outline_of face ppem glyph) ≡ Ok drawing
+    → map_fault of_hint (outline_with hinting face ppem glyph) ≡ Ok drawing
     → map_fault (of_contour glyph) (drawn_of drawing.ends drawing.points) ≡ Ok ss
     → map_fault (of_contour glyph) (framed_of ss) ≡ Ok tt
     → Ok swidth ≡ map_ok (λ (m : Metrics). thousandths m.advance_width face.head.units_per_em)
@@ -78,8 +80,8 @@ pub drawn_whole : (face : Face) (ppem code glyph : ℕ) (drawing : OutlineView) 
     → dwidth' ≡ near_of drawing.advance (pos 64)
     → made.strays ≡ drawing.strays
     → made.steps ≡ drawing.steps
-    → (sketch : Sketch) × (glyph_sketch_of face ppem code glyph ≡ Ok sketch) × IsDrawnOf sketch made
-drawn_whole face ppem code glyph drawing ss swidth bits made code' swidth' dwidth' h1 h2 h3 h4 b t c s d strays steps =
+    → (sketch : Sketch) × (glyph_sketch_of hinting face ppem code glyph ≡ Ok sketch) × IsDrawnOf sketch made
+drawn_whole hinting face ppem code glyph drawing ss swidth bits made code' swidth' dwidth' h1 h2 h3 h4 b t c s d strays steps =
     let m = map_ok_ok (λ (m : Metrics). thousandths m.advance_width face.head.units_per_em)
     (map_fault of_font (metrics_of face glyph)) swidth (sym h4) in
     let P : Bool → Type 0 = λ x. IsTrue x in (
@@ -91,7 +93,7 @@ drawn_whole face ppem code glyph drawing ss swidth bits made code' swidth' dwidt
         strays = drawing.strays;
         steps = drawing.steps;
       },
-      sketch_is face ppem code glyph drawing ss m.0 h1 h2 h3 m.1,
+      sketch_is hinting face ppem code glyph drawing ss m.0 h1 h2 h3 m.1,
       record {
         glyph = record {
           code = t.code_is ∙ c;

@@ -1,4 +1,4 @@
--- Bits of the plane that all lie in a square, less than 2,048 columns and rows apart, have a glyph.
+-- Bits of the plane that all lie in a square, less than the greatest side apart, have a glyph.
 -- Serves the law that a strike exists, with Existing.
 use Rattle.std.proofs.Common.{◌≡◌, refl, sym, ap, ap₂, ◌∙◌, subst, inl, inr, ◌⊎◌, ℕ, zero, suc, ◌+◌, ◌-◌, ◌<◌, ◌≤◌, ℤ, pos, negsuc}
 use Rattle.std.proofs.Common.{◌+ℤ◌, ◌≤ℤ◌, ◌<ℤ◌, Bool, true, false, ◌||◌, List, [], length, get_or, All, Decides, true≢false, arith}
@@ -6,7 +6,8 @@ use Rattle.std.specs.Prelude.{if◌then◌else◌}
 use Rattle.std.proofs.lemmas.Bool.Decides.{Decides-below_or}
 use Rattle.std.proofs.lemmas.Int.{ints}
 use Rattle.fx_fixed.proofs.Linear.{signed_linear}
-use Rattle.fx_cmap.specs.Lookup.{each_number}
+use Rattle.fx_cmap.specs.Subtables.{each_number}
+use Rattle.fx_winding.specs.Limits.{greatest_side}
 use Rattle.fx_winding.specs.Frames.{steps}
 use Rattle.fx_bdf.specs.Glyphs.{Box, Glyph, HasSides, IsFormed, IsTrimmed, is_in_box, no_box, last_of, glyph_bit}
 use Rattle.fx_bdf.proofs.Boxes.{from_true, steps_above, steps_below, in_columns, in_rows}
@@ -113,8 +114,8 @@ pub record AreSmall (bit : ℤ → ℤ → Bool) (base : ℤ) (n : ℕ) : Type 0
   pub to : (base +ℤ pos n) ≤ℤ pos 32768
   pub columns : (col row : ℤ) → bit col row ≡ true → (base ≤ℤ col) × (col <ℤ (base +ℤ pos n))
   pub rows : (col row : ℤ) → bit col row ≡ true → (base ≤ℤ row) × (row <ℤ (base +ℤ pos n))
-  pub narrow : (col row col2 row2 : ℤ) → bit col row ≡ true → bit col2 row2 ≡ true → col2 <ℤ (col +ℤ pos 2048)
-  pub low : (col row col2 row2 : ℤ) → bit col row ≡ true → bit col2 row2 ≡ true → row2 <ℤ (row +ℤ pos 2048)
+  pub narrow : (col row col2 row2 : ℤ) → bit col row ≡ true → bit col2 row2 ≡ true → col2 <ℤ (col +ℤ pos greatest_side)
+  pub low : (col row col2 row2 : ℤ) → bit col row ≡ true → bit col2 row2 ≡ true → row2 <ℤ (row +ℤ pos greatest_side)
 
 outside_box : (g : Glyph) (col row : ℤ) → is_in_box g.box col row ≡ false → glyph_bit g col row ≡ false
 unfolding glyph_bit

@@ -6,6 +6,8 @@ use Rattle.fx_cmap.specs.declared.fault.CharMapFault.{CharMapFault}
 use Rattle.fx_cmap.specs.declared.fault.CharMapFault.TheVariants as char_map
 use Rattle.fx_glyf.specs.declared.fault.GlyphFault.{GlyphFault}
 use Rattle.fx_glyf.specs.declared.fault.GlyphFault.TheVariants as glyph
+use Rattle.fx_machine.specs.declared.halt.MachineFault.{MachineFault}
+use Rattle.fx_machine.specs.declared.halt.MachineFault.TheVariants as machine
 use Rattle.fx_hint.specs.declared.fault.HintFault.{HintFault}
 use Rattle.fx_hint.specs.declared.fault.HintFault.TheVariants as hint
 use Rattle.fx_contour.specs.declared.fault.ContourFault.{ContourFault}
@@ -13,9 +15,9 @@ use Rattle.fx_contour.specs.declared.fault.ContourFault.TheVariants as contour
 use Rattle.fx_strike.specs.declared.refusal.Refusal.{Refusal}
 use Rattle.fx_strike.specs.declared.refusal.Refusal.TheVariants.{NotTrueType, TableMissing, TableShort, BadHead, BadMaxp, NoCharMap}
 use Rattle.fx_strike.specs.declared.refusal.Refusal.TheVariants.{BadCharMap, BadLoca, GlyphShort, BadContours, ComponentDepth}
-use Rattle.fx_strike.specs.declared.refusal.Refusal.TheVariants.{TooManyComponents, TooManyPoints, BadPointMatch, BadGlyphNumber}
-use Rattle.fx_strike.specs.declared.refusal.Refusal.TheVariants.{TooFar, GlyphTooLarge, WriteFailed, ReadFailed, BadHex}
-use Rattle.fx_strike.specs.declared.refusal.Refusal.TheVariants.{InputTooLarge, OutOfMemory}
+use Rattle.fx_strike.specs.declared.refusal.Refusal.TheVariants.{TooManyComponents, TooManyPoints, BadPointMatch}
+use Rattle.fx_strike.specs.declared.refusal.Refusal.TheVariants.{BadGlyphNumber, Halted, TooFar, GlyphTooLarge, WriteFailed}
+use Rattle.fx_strike.specs.declared.refusal.Refusal.TheVariants.{ReadFailed, BadHex, InputTooLarge, OutOfMemory}
 
 -- a font's fault
 abbrev pub of_font : FontFault → Refusal
@@ -37,6 +39,11 @@ abbrev pub of_glyph : GlyphFault → Refusal
 of_glyph (glyph.GlyphShort g) = GlyphShort g
 of_glyph (glyph.BadContours g) = BadContours g
 
+-- a fault of the machine that runs a font's programs
+abbrev pub of_machine : MachineFault → Refusal
+of_machine (machine.Halted halt) = Halted halt
+of_machine machine.OutOfMemory = OutOfMemory
+
 -- an outline's fault
 abbrev pub of_hint : HintFault → Refusal
 of_hint (hint.Font fault) = of_font fault
@@ -45,6 +52,7 @@ of_hint (hint.ComponentDepth g) = ComponentDepth g
 of_hint (hint.TooManyComponents g) = TooManyComponents g
 of_hint (hint.TooManyPoints g) = TooManyPoints g
 of_hint (hint.BadPointMatch g) = BadPointMatch g
+of_hint (hint.Halted halt) = Halted halt
 of_hint hint.OutOfMemory = OutOfMemory
 
 -- a fault of the contours of a glyph, or of its frame

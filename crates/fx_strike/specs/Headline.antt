@@ -1,14 +1,16 @@
 -- What a call that makes a strike returns and leaves. `old` and `new` are the writer's bytes before and after, if they are
 -- known; `faults_before` and `faults_after` its faults.
-use Rattle.std.specs.Prelude.{◌≡◌, ℕ, ◌+◌, ◌^◌, ◌-◌, ◌<◌, min, List, length, take, Option, Result, Ok, Err, IsOk, ◌⊎◌}
+use Rattle.std.specs.Prelude.{◌≡◌, ℕ, ◌+◌, ◌^◌, ◌-◌, ◌<◌, min, List, length, take, Option, Some, None, Result, Ok, Err, IsOk, ◌⊎◌}
 use Rattle.std.specs.Io.KnownBytes.{Appends, Keeps}
 use Rattle.std.specs.List.{sum_by}
+use Rattle.fx_bdf.specs.declared.header.Header.{Header}
 use Rattle.fx_bdf.specs.Glyphs.{Glyph}
 use Rattle.fx_strike.specs.declared.refusal.Refusal.{Refusal}
 use Rattle.fx_strike.specs.declared.refusal.Refusal.TheVariants.{WriteFailed, ReadFailed, BadHex, InputTooLarge, OutOfMemory}
 use Rattle.fx_strike.specs.declared.request.Report.{Report}
 use Rattle.fx_strike.specs.declared.request.Request.{Request}
-use Rattle.fx_strike.specs.Strike.{Opening, Plan, AreGlyphsOf, opened_of, plan_of, strike_text}
+use Rattle.fx_strike.specs.declared.request.Survey.{Survey}
+use Rattle.fx_strike.specs.Strike.{Sketch, Opening, Plan, IsGlyphOf, AreGlyphsOf, header_of, opened_of, plan_of, strike_text}
 
 -- the requested strike of a font file, or the first cause why there is none
 abbrev pub strike_of : List ℕ → Request → Result Plan Refusal
@@ -16,18 +18,18 @@ strike_of file request = plan_of file request.ppem request.name.now request.char
 
 -- the outcome of a request before memory is taken: the size, the opened font and its character map; or the first cause
 abbrev pub opening_of : List ℕ → Request → Opening
-opening_of file request = opened_of file request.ppem request.name.now request.chars.now request.hinting
+opening_of file request = opened_of file request.ppem request.name.now request.chars.now
 
 -- a count that stays at the greatest u64
 abbrev pub counted : ℕ → ℕ
 counted n = min n (2 ^ 64 - 1)
 
--- what is counted over a strike, each character once
+-- what is counted over a strike: `fpgm` and `prep` once, and each character once
 pub record IsReportOf (plan : Plan) (report : Report) : Type 0 where
   pub glyphs : report.glyphs ≡ length plan.sketches
   pub missing : report.missing ≡ plan.missing
-  pub strays : report.strays ≡ counted (sum_by (λ s. s.strays) plan.sketches)
-  pub steps : report.steps ≡ counted (sum_by (λ s. s.steps) plan.sketches)
+  pub strays : report.strays ≡ counted (plan.strays + sum_by (λ s. s.strays) plan.sketches)
+  pub steps : report.steps ≡ counted (plan.steps + sum_by (λ s. s.steps) plan.sketches)
 
 -- the strike exists, its text was written, and the writer counted no fault
 pub record Text (strike : Result Plan Refusal) (old new : Option (List ℕ)) (faults_before faults_after : ℕ) (report : Report)
@@ -94,3 +96,36 @@ Leaves opening strike old new faults_before faults_after (Err OutOfMemory) =
     Late opening × Memory strike old new faults_before faults_after
 Leaves opening strike old new faults_before faults_after (Err (WriteFailed n)) = Writer strike old new faults_before faults_after n
 Leaves opening strike old new faults_before faults_after (Err refusal) = Cause strike old new faults_before faults_after refusal
+
+-- ---- a survey
+
+-- the numbers in the lines before the glyphs, as a survey has them
+abbrev pub surveyed_header : ℕ → Survey → Header
+surveyed_header ppem survey = record {
+  ppem = ppem;
+  bounds = survey.bounds;
+  ascent = survey.ascent;
+  descent = survey.descent;
+  glyphs = survey.glyphs;
+}
+
+-- what is counted over a strike, as a survey has it
+abbrev pub surveyed_report : Survey → Report
+surveyed_report survey =
+    record { glyphs = survey.glyphs; missing = survey.missing; strays = survey.strays; steps = survey.steps }
+
+-- the strike exists, and these are the numbers of its header, and what is counted over it
+pub record Surveyed (strike : Result Plan Refusal) (survey : Survey) : Type 0 where
+  pub plan : Plan
+  pub glyphs : List Glyph
+  pub is : strike ≡ Ok plan
+  pub drawn : AreGlyphsOf plan.sketches glyphs
+  pub header : surveyed_header plan.ppem survey ≡ header_of plan glyphs
+  pub told : IsReportOf plan (surveyed_report survey)
+
+-- ---- one character
+
+-- the glyph of a sketch that is due; none if the font lacks the character
+abbrev pub IsOneOf : Result (Option Sketch) Refusal → Option Glyph → Type 0
+IsOneOf due None = due ≡ Ok None
+IsOneOf due (Some glyph) = (sketch : Sketch) × (due ≡ Ok (Some sketch)) × IsGlyphOf sketch glyph

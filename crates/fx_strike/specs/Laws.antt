@@ -1,7 +1,9 @@
 -- What the definitions of a strike imply.
-use Rattle.std.specs.Prelude.{◌≡◌, ℕ, Bool, List, Ok, Contains}
+use Rattle.std.specs.Prelude.{◌≡◌, ℕ, Bool, true, List, [], ◌∷◌, slice_get, Option, Ok, Contains}
+use Rattle.fx_fixed.specs.Chain.{map_ok}
 use Rattle.fx_bdf.specs.Glyphs.{Glyph}
-use Rattle.fx_strike.specs.Strike.{Sketch, Plan, IsGlyphOf, AreGlyphsOf, plan_of, strike_text}
+use Rattle.fx_bdf.specs.Text.{is_name}
+use Rattle.fx_strike.specs.Strike.{Sketch, Plan, IsGlyphOf, AreGlyphsOf, plan_of, one_of, strike_text}
 
 -- a sketch has one glyph
 abbrev pub GlyphIsOne : Type 0
@@ -24,3 +26,13 @@ PartIsOne =
     (file : List ℕ) (ppem : ℕ) (hinting : Bool) (name other_name chars other_chars : List ℕ) (plan other : Plan)
     → plan_of file ppem name chars hinting ≡ Ok plan → plan_of file ppem other_name other_chars hinting ≡ Ok other
     → (s t : Sketch) → Contains plan.sketches s → Contains other.sketches t → s.code ≡ t.code → s ≡ t
+
+-- the first sketch of a strike, if it has one
+abbrev pub only_sketch : Plan → Option Sketch
+only_sketch plan = slice_get plan.sketches 0
+
+-- one character is the part of a strike of that character alone, or is refused as that strike is, whatever its name
+abbrev pub OneIsOfStrike : Type 0
+OneIsOfStrike =
+    (file : List ℕ) (ppem : ℕ) (name : List ℕ) (code : ℕ) (hinting : Bool) → is_name name ≡ true
+    → one_of file ppem code hinting ≡ map_ok only_sketch (plan_of file ppem name (code ∷ []) hinting)

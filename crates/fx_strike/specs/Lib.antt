@@ -5,6 +5,7 @@ pub mod Strike
 pub mod Headline
 pub mod Listings
 pub mod Drawing
-pub mod Gathering
+pub mod Surveying
+pub mod Writing
 pub mod Laws
 pub mod Limits

@@ -5,6 +5,6 @@ use Rattle.std.specs.Prelude.{ℕ}
 abbrev pub max_characters : ℕ
 max_characters = 65536
 
--- the greatest code point of a request, U+FFFF
+-- the greatest code point of a request, U+10FFFF, which is the last of Unicode
 abbrev pub max_code : ℕ
-max_code = 65535
+max_code = 0x10FFFF

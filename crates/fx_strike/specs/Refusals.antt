@@ -1,13 +1,14 @@
 -- The numbers and names of the refusals.
 use Rattle.std.specs.Prelude.{ℕ, List, codes}
+use Rattle.fx_machine.specs.Causes.{entry_of as cause_entry_of}
 use Rattle.fx_strike.specs.declared.refusal.Refusal.{Refusal}
 use Rattle.fx_strike.specs.declared.refusal.Refusal.TheVariants.{NotTrueType, TableMissing, TableShort, BadHead, BadMaxp, NoCharMap}
 use Rattle.fx_strike.specs.declared.refusal.Refusal.TheVariants.{BadCharMap, BadLoca, GlyphShort, BadContours, ComponentDepth}
 use Rattle.fx_strike.specs.declared.refusal.Refusal.TheVariants.{TooManyComponents, TooManyPoints, BadPointMatch, BadGlyphNumber}
 use Rattle.fx_strike.specs.declared.refusal.Refusal.TheVariants.{TooFar, GlyphTooLarge, BadSize, BadChars, BadName, WriteFailed}
-use Rattle.fx_strike.specs.declared.refusal.Refusal.TheVariants.{ReadFailed, BadHex, InputTooLarge, OutOfMemory, NotBuilt}
+use Rattle.fx_strike.specs.declared.refusal.Refusal.TheVariants.{ReadFailed, BadHex, InputTooLarge, OutOfMemory, Halted}
 
--- a refusal's number and name
+-- a refusal's number and name; those of a halt are its cause's
 abbrev pub entry_of : Refusal → ℕ × List ℕ
 entry_of NotTrueType = (10, codes "NotTrueType")
 entry_of (TableMissing _) = (11, codes "TableMissing")
@@ -24,6 +25,7 @@ entry_of (TooManyComponents _) = (21, codes "TooManyComponents")
 entry_of (TooManyPoints _) = (22, codes "TooManyPoints")
 entry_of (BadPointMatch _) = (23, codes "BadPointMatch")
 entry_of (BadGlyphNumber _) = (24, codes "BadGlyphNumber")
+entry_of (Halted halt) = cause_entry_of halt.cause
 entry_of (TooFar _) = (51, codes "TooFar")
 entry_of (GlyphTooLarge _) = (52, codes "GlyphTooLarge")
 entry_of BadSize = (60, codes "BadSize")
@@ -34,7 +36,6 @@ entry_of ReadFailed = (71, codes "ReadFailed")
 entry_of BadHex = (72, codes "BadHex")
 entry_of InputTooLarge = (73, codes "InputTooLarge")
 entry_of OutOfMemory = (90, codes "OutOfMemory")
-entry_of NotBuilt = (99, codes "NotBuilt")
 
 abbrev pub number_of : Refusal → ℕ
 number_of refusal = (entry_of refusal).0

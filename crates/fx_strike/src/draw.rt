@@ -3,7 +3,7 @@ ghost use Rattle.std.specs.Prelude.{◌≡◌, ◌≤◌, pos, map, IfOk, IfErr}
 ghost use Rattle.fx_fixed.specs.Chain.{map_ok, map_fault, GivesUnless};
 ghost use Rattle.fx_fixed.specs.Numbers.{near_of};
 ghost use Rattle.fx_sfnt.specs.Glyphs.{metrics_of};
-ghost use Rattle.fx_hint.specs.Outlines.{view_of_outline, outline_of};
+ghost use Rattle.fx_hint.specs.Outlines.{view_of_outline, outline_with};
 ghost use Rattle.fx_winding.specs.Winding.{span_of};
 ghost use Rattle.fx_winding.specs.Outside.{AreOfOutline};
 ghost use Rattle.fx_contour.specs.Contours.{drawn_of};
@@ -18,16 +18,24 @@ use crate::refusal::Refusal;
 use fx_bdf::BitGlyph;
 use fx_contour::{frame, pieces};
 use fx_fixed::{F26, Ppem, near, near_64};
-use fx_hint::{Outline, unhinted};
+use fx_hint::{Hinter, Outline, outline_with};
 use fx_sfnt::Font;
 use fx_winding::{Bitmap, Frame, Pieces, Scan, Tally};
 use std::alloc::Global;
 
-/// The scaled outline of a glyph.
-fn outline_at(alloc: Global, font: &Font<'_>, ppem: Ppem, glyph: u16) -> Result<Outline, Refusal>
-    ensures { GivesUnless Fails view_of_outline result (map_fault of_hint (outline_of font.now ppem glyph)) }
+/// The outline of a glyph, scaled and hinted.
+fn outline_at<H: Hinter>(
+    alloc: Global,
+    hinter: &mut H,
+    font: &Font<'_>,
+    ppem: Ppem,
+    glyph: u16,
+) -> Result<Outline, Refusal>
+    ensures kept { H.hinting hinter.new ≡ H.hinting hinter.old }
+    ensures value { GivesUnless Fails view_of_outline result
+        (map_fault of_hint (outline_with (H.hinting hinter.old) font.now ppem glyph)) }
 {
-    Ok(unhinted(alloc, font, ppem, glyph)?)
+    Ok(outline_with(alloc, hinter, font, ppem, glyph)?)
 }
 
 /// The pieces of a glyph's outline; `TooFar` if a point of it lies too far out.
@@ -112,18 +120,20 @@ fn bitmap_of<S: Scan>(
 
 /// The character of a code point with this glyph, or the first cause why there is none.
 #[tactic(auto, unfolding(crate::specs::Strike::glyph_sketch_of))]
-pub(crate) fn draw<S: Scan>(
+pub(crate) fn draw<S: Scan, H: Hinter>(
     alloc: Global,
     scan: &S,
+    hinter: &mut H,
     font: &Font<'_>,
     ppem: Ppem,
     code: u32,
     glyph: u16,
 ) -> Result<Drawn, Refusal>
-    ensures sketch { Draws (glyph_sketch_of font.now ppem code glyph) result }
+    ensures kept { H.hinting hinter.new ≡ H.hinting hinter.old }
+    ensures sketch { Draws (glyph_sketch_of (H.hinting hinter.old) font.now ppem code glyph) result }
     ensures code { IfOk result (λ d. d.glyph.code ≡ code) }
 {
-    let outline = outline_at(alloc, font, ppem, glyph)?;
+    let outline = outline_at(alloc, hinter, font, ppem, glyph)?;
     let pieces = pieces_at(alloc, &outline, glyph)?;
     let frame = frame_at(&pieces, glyph)?;
     let swidth = thousandths_at(font, glyph)?;

@@ -1,7 +1,7 @@
 //! The faults of the crates below as refusals.
 ghost use Rattle.std.specs.Prelude.{◌≡◌};
 ghost use Rattle.fx_strike.specs.declared.refusal.Refusal.TheVariants.{BadName as BadNameOf, OutOfMemory, WriteFailed as WriteFailedOf};
-ghost use Rattle.fx_strike.specs.Faults.{of_font, of_char_map, of_glyph, of_hint, of_contour};
+ghost use Rattle.fx_strike.specs.Faults.{of_font, of_char_map, of_glyph, of_machine, of_hint, of_contour};
 
 use crate::refusal::Refusal;
 use fx_bdf::BadName;
@@ -10,6 +10,7 @@ use fx_contour::ContourFault;
 use fx_fixed::WriteFailed;
 use fx_glyf::GlyphFault;
 use fx_hint::HintFault;
+use fx_machine::MachineFault;
 use fx_sfnt::FontFault;
 use fx_winding::ScanFault;
 use std::alloc::AllocError;
@@ -84,6 +85,17 @@ impl From<GlyphFault> for Refusal {
     }
 }
 
+impl From<MachineFault> for Refusal {
+    ghost from_gives = { λ f e. e ≡ of_machine f };
+
+    fn from(fault: MachineFault) -> Refusal {
+        match fault {
+            MachineFault::Halted(halt) => Refusal::Halted(halt),
+            MachineFault::OutOfMemory => Refusal::OutOfMemory,
+        }
+    }
+}
+
 impl From<HintFault> for Refusal {
     ghost from_gives = { λ f e. e ≡ of_hint f };
 
@@ -95,6 +107,7 @@ impl From<HintFault> for Refusal {
             HintFault::TooManyComponents(g) => Refusal::TooManyComponents(g),
             HintFault::TooManyPoints(g) => Refusal::TooManyPoints(g),
             HintFault::BadPointMatch(g) => Refusal::BadPointMatch(g),
+            HintFault::Halted(halt) => Refusal::Halted(halt),
             HintFault::OutOfMemory => Refusal::OutOfMemory,
         }
     }

@@ -1,6 +1,6 @@
 //! What the definitions imply.
 ghost use Rattle.fx_strike.specs.Characters.{RisingAreRisen, RisenIsOne};
-ghost use Rattle.fx_strike.specs.Laws.{GlyphIsOne, TextIsOne, StrikeExists, PartIsOne};
+ghost use Rattle.fx_strike.specs.Laws.{GlyphIsOne, TextIsOne, StrikeExists, PartIsOne, OneIsOfStrike};
 
 /// The code points in rising order rise, and are those of the request; no other list is so.
 pub fn rising()
@@ -24,4 +24,9 @@ pub fn exists()
 /// A character's part depends on the font, the size, hinting and its code point alone.
 pub fn part()
     ensures { PartIsOne }
+{}
+
+/// One character is the part of a strike of that character alone, or is refused as that strike is, whatever its name.
+pub fn one()
+    ensures { OneIsOfStrike }
 {}

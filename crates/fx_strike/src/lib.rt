@@ -2,12 +2,14 @@
 //! listings of a font's own programs.
 //!
 //! `make_strike` writes exactly the text of the strike whose every bit is set exactly when the pixel's centre lies on the outline
-//! of the scaled glyph, or has a winding number other than 0 about it; or it names the first cause why no such strike exists,
-//! or that it is out of memory, or a fault of the writer. `specs/Strike` says what a strike is, `specs/Headline` what a call
-//! returns and leaves; both cite the definitions of the crates below and nothing of their code.
+//! that the font's programs make of the scaled glyph, or has a winding number other than 0 about it (with hinting off no program
+//! runs); or it names the first cause why no such strike exists, or that it is out of memory, or a fault of the writer.
+//! `specs/Strike` says what a strike is, `specs/Headline` what a call returns and leaves; both cite the definitions of the crates
+//! below and nothing of their code. `one` makes one character alone.
 //!
-//! The complete text of a strike is made in memory before its first byte is written. Beside the text only one glyph's pieces
-//! and bits are held at a time. `listing_of` writes the listing of a program straight to the writer, and takes no memory.
+//! A strike is made in two passes over its characters: the first surveys it, so that no byte is written of a strike that is
+//! refused; the second makes each character again and writes it. Only one character is held at a time. `survey` is the first
+//! pass alone. `listing_of` writes the listing of a program straight to the writer, and takes no memory.
 #![tactic(auto)]
 
 mod characters;
@@ -15,21 +17,28 @@ mod draft;
 mod draw;
 mod drawn;
 mod faults;
-mod gather;
-mod gathered;
+mod first_pass;
 pub mod laws;
 mod limits;
 mod listing;
-mod made;
 mod make;
+mod one_character;
+mod open;
+mod opened;
+mod prelude;
 mod refusal;
 mod request;
+mod second_pass;
+mod seen;
+mod surveying;
 
 pub use limits::{MAX_CHARACTERS, MAX_CODE};
 pub use listing::{Which, listing_of};
 pub use make::{make_strike, make_strike_with};
+pub use one_character::one;
 pub use refusal::Refusal;
-pub use request::{Report, Request};
+pub use request::{Report, Request, Survey};
+pub use surveying::survey;
 
 #[cfg(test)]
 mod tests;

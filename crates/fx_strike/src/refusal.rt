@@ -2,6 +2,7 @@
 ghost use Rattle.std.specs.Prelude.{◌≡◌};
 ghost use Rattle.fx_strike.specs.Refusals.{number_of, name_of, entry_of};
 
+use fx_machine::Halt;
 use std::fmt;
 use thiserror::Error;
 
@@ -39,11 +40,13 @@ pub enum Refusal {
     BadPointMatch(u16),
     /// The font has no glyph of this number.
     BadGlyphNumber(u16),
+    /// A program of the font halted.
+    Halted(Halt),
     /// A point of an outline lies past 2^21 in 26.6 pixels.
     TooFar(u16),
-    /// A glyph has more than 2,048 pixels a side.
+    /// A glyph has more than 8,192 pixels a side.
     GlyphTooLarge(u16),
-    /// The size is 0 or above 255 pixels.
+    /// The size is 0 or above 1,024 pixels.
     BadSize,
     /// The request has more than `MAX_CHARACTERS` characters, or one above `MAX_CODE`.
     BadChars,
@@ -59,8 +62,6 @@ pub enum Refusal {
     InputTooLarge,
     /// Memory ran out.
     OutOfMemory,
-    /// The request is for something that is not built yet.
-    NotBuilt,
 }
 
 impl Refusal {
@@ -85,6 +86,7 @@ impl Refusal {
             Refusal::TooManyPoints(_) => (22, "TooManyPoints"),
             Refusal::BadPointMatch(_) => (23, "BadPointMatch"),
             Refusal::BadGlyphNumber(_) => (24, "BadGlyphNumber"),
+            Refusal::Halted(halt) => (halt.cause.number(), halt.cause.name()),
             Refusal::TooFar(_) => (51, "TooFar"),
             Refusal::GlyphTooLarge(_) => (52, "GlyphTooLarge"),
             Refusal::BadSize => (60, "BadSize"),
@@ -95,7 +97,6 @@ impl Refusal {
             Refusal::BadHex => (72, "BadHex"),
             Refusal::InputTooLarge => (73, "InputTooLarge"),
             Refusal::OutOfMemory => (90, "OutOfMemory"),
-            Refusal::NotBuilt => (99, "NotBuilt"),
         }
     }
 
@@ -138,6 +139,11 @@ impl fmt::Display for Fields {
             | Refusal::BadGlyphNumber(g)
             | Refusal::TooFar(g)
             | Refusal::GlyphTooLarge(g) => write!(f, " {g}"),
+            Refusal::Halted(halt) => write!(
+                f,
+                " during {} in {} at {} opcode {:02X}",
+                halt.during, halt.program, halt.address, halt.opcode
+            ),
             Refusal::WriteFailed(n) => write!(f, " {n}"),
             _ => Ok(()),
         }

@@ -1,13 +1,16 @@
-//! Requests, and what is counted over a strike.
+//! Requests, and what is told of a strike.
+
+use fx_bdf::{Bounds, Header};
+use fx_fixed::Ppem;
 
 /// A request for a strike.
 #[derive(Clone, Copy, Debug)]
 pub struct Request<'a> {
-    /// Pixels of an em, 1 to 255; any other number is refused.
+    /// Pixels of an em, 1 to 1,024; any other number is refused.
     pub ppem: u16,
     /// The font's name: 1 to 255 printed characters of ASCII, no space first or last; any other text is refused.
     pub name: &'a str,
-    /// Code points up to U+FFFF, at most 65,536 of them; their order and repeats do not count.
+    /// Code points up to U+10FFFF, at most 65,536 of them; their order and repeats do not count.
     pub chars: &'a [u32],
     /// Whether the font's programs are run.
     pub hinting: bool,
@@ -24,4 +27,53 @@ pub struct Report {
     pub strays: u64,
     /// The instructions that font programs executed; the count stays at the greatest `u64`.
     pub steps: u64,
+}
+
+/// What is known of a strike before its first byte is written: the numbers of its header, and what is counted over it.
+#[derive(Clone, Copy, Debug, PartialEq, Eq)]
+pub struct Survey {
+    /// The least box that holds the boxes of all glyphs.
+    pub bounds: Bounds,
+    /// The font's ascent in pixels.
+    pub ascent: i32,
+    /// The font's descent in pixels.
+    pub descent: i32,
+    /// The number of glyphs: one for each requested character that the font has.
+    pub glyphs: u32,
+    /// The number of requested characters that the font does not have.
+    pub missing: u32,
+    /// The numbers outside their tables that font programs named; the count stays at the greatest `u64`.
+    pub strays: u64,
+    /// The instructions that font programs executed; the count stays at the greatest `u64`.
+    pub steps: u64,
+}
+
+impl Survey {
+    ghost use Rattle.std.specs.Prelude.{◌≡◌};
+    ghost use Rattle.fx_strike.specs.Headline.{surveyed_header, surveyed_report};
+
+    /// The numbers in the lines before the glyphs.
+    pub(crate) fn header(&self, ppem: Ppem) -> Header
+        ensures { result ≡ surveyed_header ppem self.now }
+    {
+        Header {
+            ppem: ppem.pixels(),
+            bounds: self.bounds,
+            ascent: self.ascent,
+            descent: self.descent,
+            glyphs: self.glyphs,
+        }
+    }
+
+    /// What is counted over the strike.
+    pub(crate) fn report(&self) -> Report
+        ensures { result ≡ surveyed_report self.now }
+    {
+        Report {
+            glyphs: self.glyphs,
+            missing: self.missing,
+            strays: self.strays,
+            steps: self.steps,
+        }
+    }
 }

@@ -1,7 +1,9 @@
 //! Tests of what the contracts don't say.
-use crate::{Refusal, Request, make_strike_with};
+use crate::{Refusal, Request, Survey, make_strike, make_strike_with, one, survey};
+use fx_bdf::Bounds;
 use fx_fixed::{Limits, MemorySink};
-use fx_winding::{Bitmap, Frame, Pieces, Scan, ScanFault, Tally};
+use fx_machine::{Cause, FontProgram, Halt};
+use fx_winding::{Bitmap, Frame, Pieces, Plain, Scan, ScanFault, Tally};
 use std::alloc::Global;
 use std::test::Fail;
 
@@ -52,13 +54,82 @@ fn the_scan_is_asked(rt: HostRuntime) -> Result<(), Fail> {
 }
 
 #[test]
+fn one_character_is_made(rt: HostRuntime) -> Result<(), Fail> {
+    for hinting in [false, true] {
+        let glyph = one(rt.alloc(), FONT, 16, 0x42, hinting)?;
+        assert_eq!(rt;
+            glyph.as_ref().map(|glyph| glyph.bbox()),
+            Some((2, 1, 0, 0))
+        );
+        let missing = one(rt.alloc(), FONT, 16, 0x21, hinting)?;
+        assert!(rt; missing.is_none());
+    }
+    Ok(())
+}
+
+#[test]
+fn a_strike_is_surveyed(rt: HostRuntime) -> Result<(), Fail> {
+    let request = Request {
+        ppem: 16,
+        name: "F1",
+        chars: &[0x42, 0x41, 0x21, 0x41],
+        hinting: true,
+    };
+    let told = Survey {
+        bounds: Bounds {
+            width: 5,
+            height: 5,
+            left: 0,
+            bottom: 0,
+        },
+        ascent: 13,
+        descent: 4,
+        glyphs: 2,
+        missing: 1,
+        strays: 0,
+        steps: 0,
+    };
+    assert_eq!(rt; survey(rt.alloc(), &Plain, FONT, &request), Ok(told));
+    Ok(())
+}
+
+#[test]
+fn nothing_is_written_of_a_refused_strike(rt: HostRuntime) -> Result<(), Fail> {
+    let mut font = Vec::from_slice(rt.alloc(), FONT)?;
+    // The end of the last glyph in `loca`.
+    if let Some(end) = font.get_mut(321) {
+        *end = 0x13;
+    }
+    let mut out = MemorySink::new(rt.alloc(), 512, Limits::NONE)?;
+    let request = Request {
+        ppem: 16,
+        name: "F1",
+        chars: &[0x41, 0x42],
+        hinting: false,
+    };
+    let result = make_strike(rt.alloc(), &font, &request, &mut out);
+    assert_eq!(rt; result, Err(Refusal::GlyphShort(3)));
+    assert_eq!(rt; out.bytes(), b"".as_slice());
+    Ok(())
+}
+
+#[test]
 fn refusals_show_number_name_and_fields(rt: HostRuntime) -> Result<(), Fail> {
     for (refusal, text) in [
         (Refusal::NotTrueType, "10 NotTrueType"),
         (Refusal::TableShort(*b"maxp"), "12 TableShort maxp"),
         (Refusal::BadGlyphNumber(7), "24 BadGlyphNumber 7"),
         (Refusal::WriteFailed(10), "70 WriteFailed 10"),
-        (Refusal::NotBuilt, "99 NotBuilt"),
+        (
+            Refusal::Halted(Halt {
+                cause: Cause::NoFunction,
+                during: FontProgram::Glyph(5),
+                program: FontProgram::Fpgm,
+                address: 17,
+                opcode: 0x2B,
+            }),
+            "35 NoFunction during glyph 5 in fpgm at 17 opcode 2B",
+        ),
     ] {
         assert_eq!(rt; format!(in rt.alloc(); "{refusal}")?.as_str(), text);
     }

@@ -9,6 +9,7 @@ use crate::point::Point;
 use fx_fixed::{Axis, F26, Place, near, w32};
 
 /// The place with another coordinate along an axis.
+#[inline(always)]
 fn with_coordinate(place: Place, axis: Axis, coordinate: F26) -> Place
     ensures { result ≡ with_coordinate axis coordinate place }
 {
@@ -25,6 +26,7 @@ fn with_coordinate(place: Place, axis: Axis, coordinate: F26) -> Place
 }
 
 /// Whether a point is touched along an axis.
+#[inline(always)]
 fn is_touched(point: &Point, axis: Axis) -> bool
     ensures { result ≡ is_touched axis point.now }
 {
@@ -102,6 +104,7 @@ fn coordinate_between(o: F26, lo_org: F26, lo_cur: F26, hi_org: F26, hi_cur: F26
 }
 
 /// A point between two others, of which `lo` is the lower.
+#[inline(always)]
 fn placed(axis: Axis, lo: &Point, hi: &Point, point: &Point) -> Point
     ensures { result ≡ placed axis lo.now hi.now point.now }
 {
@@ -116,6 +119,7 @@ fn placed(axis: Axis, lo: &Point, hi: &Point, point: &Point) -> Point
 }
 
 /// A point between the touched points before and after it.
+#[inline(always)]
 #[tactic(auto, unfolding(crate::specs::Interpolation::between))]
 fn between(axis: Axis, before: &Point, after: &Point, point: &Point) -> Point
     ensures { result ≡ between axis before.now after.now point.now }
@@ -128,6 +132,7 @@ fn between(axis: Axis, before: &Point, after: &Point, point: &Point) -> Point
 }
 
 /// Interpolates a run of untouched points.
+#[inline(always)]
 fn interpolate_run(points: &mut [Point], axis: Axis, before: &Point, after: &Point)
     ensures { points.new ≡ map (between axis before.now after.now) points.old }
 {
@@ -138,6 +143,7 @@ fn interpolate_run(points: &mut [Point], axis: Axis, before: &Point, after: &Poi
 }
 
 /// The number of untouched points from a number on, before the first touched one; of all points there if none is.
+#[inline(always)]
 fn untouched_run(points: &[Point], start: usize, axis: Axis) -> usize
     requires { start ≤ length points.now }
     ensures { result ≡ untouched_run axis (drop start points.now) }
@@ -160,6 +166,7 @@ fn numbered(points: &[Point], number: usize) -> Point
 }
 
 /// The last touched point.
+#[inline(always)]
 fn last_touched(points: &[Point], axis: Axis) -> Option<Point>
     ensures { result ≡ first_touched axis (reverse points.now) }
 {
@@ -176,6 +183,7 @@ fn last_touched(points: &[Point], axis: Axis) -> Option<Point>
 }
 
 /// Interpolates the untouched points of a contour.
+#[inline(always)]
 fn interpolate_contour(points: &mut [Point], axis: Axis)
     ensures { points.new ≡ contour_interpolated axis points.old }
 {
@@ -199,6 +207,7 @@ fn interpolate_contour(points: &mut [Point], axis: Axis)
 }
 
 /// Interpolates the untouched points of each contour, by the numbers of their last points.
+#[inline(always)]
 pub fn interpolate_contours(points: &mut [Point], ends: &[usize], axis: Axis)
     requires { All (λ e. e < length points.old) ends.now }
     ensures { points.new ≡ contours_interpolated axis 0 ends.now points.old }

@@ -218,13 +218,17 @@ impl Zone {
         curve_range(&mut self.points, first, past, on);
     }
 
-    /// Interpolates the untouched points of each contour along an axis (Apple TrueType Reference Manual, "IUP").
+    /// Interpolates the untouched points of each contour along an axis (Apple TrueType Reference Manual, "IUP"). It is compiled
+    /// once for each axis.
     #[tactic(auto, unfolding(crate::specs::Interpolation::figure_interpolated))]
     pub fn interpolate(&mut self, axis: Axis)
         ensures value { self.new ≡ figure_interpolated axis self.old }
         ensures shape { HasShape self.old self.new }
     {
-        interpolate_contours(&mut self.points, &self.ends, axis);
+        match axis {
+            Axis::X => interpolate_contours(&mut self.points, &self.ends, Axis::X),
+            Axis::Y => interpolate_contours(&mut self.points, &self.ends, Axis::Y),
+        }
     }
 
     /// Keeps the first points, which hold all contours.

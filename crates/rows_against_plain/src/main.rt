@@ -13,7 +13,7 @@ use crate::random::Random;
 use anyhow::{Result, bail};
 use fx_contour::{frame, pieces};
 use fx_fixed::Ppem;
-use fx_hint::unhinted;
+use fx_hint::outline;
 use fx_rows::Rows;
 use fx_sfnt::Font;
 use fx_winding::{Bitmap, Frame, Pieces, Plain, Scan, ScanFault, Tally};
@@ -86,7 +86,7 @@ fn random_outlines(alloc: Global, contours: u32, seed: u64) -> Result<Counts> {
 fn glyphs(alloc: Global, font: &Font<'_>, ppem: Ppem) -> Result<Counts> {
     let mut counts = Counts::NONE;
     'glyphs: for glyph in 0..font.maxp().num_glyphs {
-        let outline = unhinted(alloc, font, ppem, glyph)?;
+        let outline = outline(alloc, font, ppem, None, glyph)?;
         let pieces = pieces(alloc, &outline)?;
         if let Some(frame) = frame(&pieces)? {
             counts = counts.with(frame, scans_agree(alloc, &pieces, frame)?);

@@ -1,7 +1,7 @@
 use Rattle.std.proofs.Common.{◌∙◌, ap₂}
 use Rattle.std.proofs.lemmas.Result.{IfOk-weaker}
 use Rattle.clap.specs.Words.{with_rule}
-use Rattle.fx_cli.specs.Words.{dump_app}
+use Rattle.fx_cli.specs.Arguments.{dump_app}
 use Rattle.fx_cli.proofs.commands.dump_command.Goals as goal
 
 pub returns : goal.returns

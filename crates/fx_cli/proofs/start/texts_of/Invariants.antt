@@ -1,5 +1,6 @@
-use Rattle.std.proofs.Common.{◌≡◌, take, map, string_bytes, Bor, List, ℕ}
+use Rattle.std.proofs.Common.{◌≡◌, take, map, string_bytes}
+use Rattle.fx_cli.specs.Arguments.{texts}
 use Rattle.fx_cli.proofs.start.texts_of.Given as goal
 
-abbrev pub invariant-words : goal.invariant-words
-invariant-words l = map (λ (text : Bor (List ℕ)). text.now) l.texts.items ≡ map string_bytes (take l.word-index l.words)
+abbrev pub invariant-arguments : goal.invariant-arguments
+invariant-arguments l = texts l.texts.items ≡ map string_bytes (take l.argument-index l.arguments)

@@ -1,6 +1,6 @@
 use Rattle.std.proofs.Common.{nat_le, Some, ap, sym, ◌∙◌, arith}
 use Rattle.std.proofs.lemmas.Bool.{le-leb, lt-leb}
-use Rattle.fx_cmap.specs.Lookup.{segment_of}
+use Rattle.fx_cmap.specs.Segments.{segment_of}
 use Rattle.fx_cmap.specs.declared.segment.Segment.{Segment}
 use Rattle.fx_cmap.proofs.Searching.{end_code_is, found_at, found_none}
 use Rattle.fx_cmap.proofs.segments.find_segment.Goals as goal

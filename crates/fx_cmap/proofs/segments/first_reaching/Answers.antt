@@ -1,5 +1,6 @@
 use Rattle.std.proofs.Common.{◌+◌, ◌-◌, ◌/◌, arith}
-use Rattle.fx_cmap.specs.Lookup.{segment_of}
+use Rattle.fx_cmap.specs.Segments.{segment_of}
+use Rattle.fx_cmap.specs.declared.segment.Segment.{Segment}
 use Rattle.fx_cmap.proofs.Searching.{end_code_is, falls_between}
 use Rattle.fx_cmap.proofs.segments.first_reaching.Goals as goal
 
@@ -11,8 +12,8 @@ halving-preserved-then-end_code-code c =
       ordered = omega arith;
       within = c.halving.invariant.within;
       before = λ k lt.
-          let order = falls_between f 0 0 c.args.count k middle k middle (omega arith) (omega arith) c.requires.rising (omega arith)
-          (omega arith) in
+          let order = falls_between (λ (s : Segment). s.end_code) f 0 0 c.args.count k middle k middle
+          (omega arith) (omega arith) c.requires.rising (omega arith) (omega arith) in
           omega (
             arith,
             order,

@@ -16,11 +16,11 @@ steps-init c = record {
 
 pub returns-then-is_empty-clause-value : goal.returns-then-is_empty-clause-value
 returns-then-is_empty-clause-value c =
-    finished_here _ _ _ _ _ _ c.steps.calls.frames.items _ _ c.steps.invariant.answer (cc) (grind arith)
+    finished_here _ _ _ _ _ _ _ c.steps.calls.frames.items _ _ c.steps.invariant.answer (cc) (grind arith)
 
 pub returns-then-steps-limit-clause-value : goal.returns-then-steps-limit-clause-value
-returns-then-steps-limit-clause-value c = rw (c.halted.ensures, c.steps.invariant.code)
-    (limit_here _ _ _ _ _ _ c.steps.calls.frames.items _ _ c.steps.invariant.answer c.if-steps-limit.true
+returns-then-steps-limit-clause-value c = rw c.halted.ensures
+    (limit_here _ _ _ _ _ _ _ c.steps.calls.frames.items _ _ c.steps.invariant.answer c.if-steps-limit.true
     (elim c.else-ended.branch [
       | else-ended-via-then-ended+else-is_empty w ↦ (λ e z. grind arith)
       | else-ended-via-else-ended w ↦
@@ -28,8 +28,8 @@ returns-then-steps-limit-clause-value c = rw (c.halted.ensures, c.steps.invarian
     ]))
 
 pub returns-then-ended-2-clause-value : goal.returns-then-ended-2-clause-value
-returns-then-ended-2-clause-value c = rw (c.halted-then-ended-2.ensures, c.steps.invariant.code)
-    (stray_here _ _ _ _ c.steps.state _ c.steps.calls.frames.items _ _ c.steps.invariant.answer (omega arith) (cc)
+returns-then-ended-2-clause-value c = rw c.halted-then-ended-2.ensures
+    (stray_here _ _ _ _ _ c.steps.state _ c.steps.calls.frames.items _ _ c.steps.invariant.answer (omega arith) (cc)
     (elim c.else-ended.branch [
       | else-ended-via-then-ended+else-is_empty w ↦ grind arith
       | else-ended-via-else-ended w ↦
@@ -38,8 +38,8 @@ returns-then-ended-2-clause-value c = rw (c.halted-then-ended-2.ensures, c.steps
 
 pub returns-in-Err-clause-value : goal.returns-in-Err-clause-value
 returns-in-Err-clause-value c =
-    rw (c.halted-in-Err.ensures, c.steps.invariant.code)
-    (halted_here _ _ _ _ c.steps.state _ c.steps.calls.frames.items _ _ c.steps.invariant.answer _ (omega arith)
+    rw c.halted-in-Err.ensures
+    (halted_here _ _ _ _ _ c.steps.state _ c.steps.calls.frames.items _ _ c.steps.invariant.answer _ (omega arith)
     (rw c.steps.invariant.code at c.in-Err.ensures.moved))
 
 pub returns-in-Err-clause-shapes : goal.returns-in-Err-clause-shapes
@@ -50,7 +50,7 @@ returns-in-Err-clause-sizes c = sized_then c.steps.invariant.sizes c.in-Err.ensu
 
 pub steps-preserved : goal.steps-preserved
 steps-preserved c = record {
-  answer = stepped _ _ _ _ _ _ c.steps.calls.frames.items _ _ c.steps.invariant.answer _ (omega arith)
+  answer = stepped _ 0 _ _ _ _ _ c.steps.calls.frames.items _ _ c.steps.invariant.answer _ (omega arith)
       (rw c.steps.invariant.code at c.in-Ok.ensures.moved);
   code = c.code_then-code.ensures;
   counted = omega arith;

@@ -1,0 +1,69 @@
+//! Fonts with each byte in turn set to others, hinted and not.
+use crate::fonts::{fixture, font, patch};
+use crate::hinted::{READING, STORING};
+use crate::tables::{Tables, with_tables};
+use fx_fixed::{Limits, MemorySink};
+use fx_strike::{Request, make_strike};
+use std::alloc::Global;
+use std::process::Abort;
+use std::test::Fail;
+
+/// A strike of a font with one byte set to another ends well, or a cause is named and nothing is written.
+fn ends(
+    rt: &impl Abort,
+    alloc: Global,
+    font: &[u8],
+    at: usize,
+    value: u8,
+    hinting: bool,
+) -> Result<(), Fail> {
+    let mut damaged = Vec::from_slice(alloc, font)?;
+    patch(&mut damaged, at, &[value])?;
+    let request = Request {
+        ppem: 16,
+        name: "F1",
+        chars: &[0x20, 0x41, 0x42],
+        hinting,
+    };
+    let mut out = MemorySink::new(alloc, 4096, Limits::NONE)?;
+    match make_strike(alloc, damaged.as_slice(), &request, &mut out) {
+        Ok(_) => assert!(rt; out.bytes().ends_with(b"ENDFONT\n"), "{at} {value}"),
+        Err(refusal) => {
+            assert!(rt;
+                refusal.number() >= 10 && refusal.number() <= 62,
+                "{at} {value}"
+            );
+            assert!(rt; out.bytes().is_empty(), "{at} {value}");
+        }
+    }
+    Ok(())
+}
+
+/// The same for each byte of a font.
+fn each_byte(rt: &impl Abort, alloc: Global, font: &[u8], hinting: bool) -> Result<(), Fail> {
+    for at in 0..font.len() {
+        for value in [0x00, 0x7F, 0x80, 0xFF] {
+            ends(rt, alloc, font, at, value, hinting)?;
+        }
+    }
+    Ok(())
+}
+
+#[test]
+fn unhinted(rt: HostRuntime) -> Result<(), Fail> {
+    let font = fixture(rt.alloc())?;
+    each_byte(&rt, rt.alloc(), font.as_slice(), false)
+}
+
+/// A font with a function, a control value program and two glyphs' programs.
+#[test]
+fn hinted(rt: HostRuntime) -> Result<(), Fail> {
+    let base = font(rt.alloc(), STORING, READING)?;
+    let tables = Tables {
+        fpgm: "B0 00 2C B0 05 2D",
+        prep: "B0 00 2B 21",
+        cvt: "0000",
+    };
+    let font = with_tables(rt.alloc(), base.as_slice(), &tables)?;
+    each_byte(&rt, rt.alloc(), font.as_slice(), true)
+}

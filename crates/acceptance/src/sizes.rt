@@ -1,0 +1,123 @@
+//! The greatest sizes: 1,024 pixels an em, and 8,192 pixels a side.
+use crate::fonts::{RING, fixture, font};
+use fx_fixed::{Limits, MemorySink};
+use fx_rows::Rows;
+use fx_strike::{Refusal, Request, make_strike, make_strike_with};
+use fx_winding::{Bitmap, Frame, Pieces, Scan, ScanFault, Tally};
+use std::alloc::Global;
+use std::test::Fail;
+
+/// The scan by rows, if it makes at most 4 * 1 * (6 * 14 + 12) = 384 tests: the limit of four pieces in one row of 8,192 pixels.
+struct Few;
+
+impl Scan for Few {
+    fn scan(
+        &self,
+        alloc: Global,
+        pieces: &Pieces,
+        frame: Frame,
+        tally: &mut Tally,
+    ) -> Result<Bitmap, ScanFault> {
+        let bitmap = Rows.scan(alloc, pieces, frame, tally)?;
+        if tally.tests() > 384 {
+            return Err(ScanFault::OutOfMemory);
+        }
+        Ok(bitmap)
+    }
+}
+
+/// A request without hinting for a strike named F1.
+fn request(ppem: u16, chars: &[u32]) -> Request<'_> {
+    Request {
+        ppem,
+        name: "F1",
+        chars,
+        hinting: false,
+    }
+}
+
+/// A rectangle of 8,192 by 1 FUnits: as many pixels at 1,024 pixels an em.
+const WIDEST: &str =
+    "0001 0000 0000 0000 0000 0003 0000 01010101 0000 2000 0000 e000 0000 0000 0001 0000";
+
+/// A rectangle that is one pixel wider.
+const WIDER: &str =
+    "0001 0000 0000 0000 0000 0003 0000 01010101 0000 2001 0000 dfff 0000 0000 0001 0000";
+
+#[test]
+fn the_widest_row(rt: HostRuntime) -> Result<(), Fail> {
+    let request = request(1024, &[0x42]);
+    let widest = font(rt.alloc(), RING, WIDEST)?;
+    let mut out = MemorySink::new(rt.alloc(), 4096, Limits::NONE)?;
+    make_strike_with(rt.alloc(), &Few, widest.as_slice(), &request, &mut out)?;
+    let mut end = b"BBX 8192 1 0 0\nBITMAP\n".to_vec(rt.alloc())?;
+    end.extend_from_slice(vec![in rt.alloc(); b'F'; 2048]?.as_slice())?;
+    end.extend_from_slice(b"\nENDCHAR\nENDFONT\n")?;
+    assert!(rt; out.bytes().ends_with(end.as_slice()));
+    let wider = font(rt.alloc(), RING, WIDER)?;
+    let mut out = MemorySink::new(rt.alloc(), 4096, Limits::NONE)?;
+    let result = make_strike_with(rt.alloc(), &Few, wider.as_slice(), &request, &mut out);
+    assert_eq!(rt; result, Err(Refusal::GlyphTooLarge(3)));
+    assert!(rt; out.bytes().is_empty());
+    Ok(())
+}
+
+/// A rectangle of 16,392 by 8 FUnits: 2,049 by 1 pixels at 128 pixels an em.
+const WIDE: &str =
+    "0001 0000 0000 0000 0000 0003 0000 01010101 0000 4008 0000 bff8 0000 0000 0008 0000";
+
+#[test]
+fn a_row_of_2049_pixels(rt: HostRuntime) -> Result<(), Fail> {
+    let wide = font(rt.alloc(), RING, WIDE)?;
+    let mut out = MemorySink::new(rt.alloc(), 4096, Limits::NONE)?;
+    make_strike(
+        rt.alloc(),
+        wide.as_slice(),
+        &request(128, &[0x42]),
+        &mut out,
+    )?;
+    let mut end = b"BBX 2049 1 0 0\nBITMAP\n".to_vec(rt.alloc())?;
+    end.extend_from_slice(vec![in rt.alloc(); b'F'; 512]?.as_slice())?;
+    end.extend_from_slice(b"80\nENDCHAR\nENDFONT\n")?;
+    assert!(rt; out.bytes().ends_with(end.as_slice()));
+    Ok(())
+}
+
+/// The lines of a strike of the character 41 at 1,024 pixels an em, before its rows.
+const HEAD: &[u8] =
+    b"STARTFONT 2.1\nFONT F1\nSIZE 1024 72 72\nFONTBOUNDINGBOX 320 320 0 0\nSTARTPROPERTIES 2\nFONT_ASCENT 800\nFONT_DESCENT 224\nENDPROPERTIES\nCHARS 1\nSTARTCHAR uni0041\nENCODING 65\nSWIDTH 375 0\nDWIDTH 384 0\nBBX 320 320 0 0\nBITMAP\n";
+
+#[test]
+fn the_greatest_size(rt: HostRuntime) -> Result<(), Fail> {
+    let font = fixture(rt.alloc())?;
+    let mut out = MemorySink::new(rt.alloc(), 0, Limits::NONE)?;
+    make_strike(
+        rt.alloc(),
+        font.as_slice(),
+        &request(1024, &[0x41]),
+        &mut out,
+    )?;
+    let mut want = HEAD.to_vec(rt.alloc())?;
+    for row in 0..320u32 {
+        for byte in 0..40u32 {
+            let hole = 96 <= row && row < 224 && 12 <= byte && byte < 28;
+            want.extend_from_slice(if hole { b"00" } else { b"FF" })?;
+        }
+        want.push(b'\n')?;
+    }
+    want.extend_from_slice(b"ENDCHAR\nENDFONT\n")?;
+    assert!(rt; out.bytes() == want.as_slice());
+    Ok(())
+}
+
+#[test]
+fn sizes_up_to_1024(rt: HostRuntime) -> Result<(), Fail> {
+    let font = fixture(rt.alloc())?;
+    for (ppem, ok) in [(256, true), (1024, true), (1025, false)] {
+        let mut out = MemorySink::new(rt.alloc(), 0, Limits::NONE)?;
+        let result = make_strike(rt.alloc(), font.as_slice(), &request(ppem, &[]), &mut out);
+        assert_eq!(rt; result.is_ok(), ok, "{ppem}");
+        assert!(rt; ok || result == Err(Refusal::BadSize), "{ppem}");
+    }
+    Ok(())
+}

@@ -1,0 +1,16 @@
+use Rattle.std.proofs.Common.{◌≡◌, ◌+◌, ◌++◌, ◌∷◌, length, Option, Some, None, option_map, filter, ℕ, List}
+use Rattle.fx_cli.specs.Parts.{left_parts}
+use Rattle.fx_cli.specs.Input.{has_bytes, arguments_of_line}
+use Rattle.fx_cli.specs.Arguments.{texts}
+use Rattle.fx_cli.proofs.program.arguments_of_line.Given as goal
+
+abbrev size_left : Option (List ℕ) → ℕ
+size_left None = 0
+size_left (Some text) = length text + 1
+
+abbrev pub invariant-arguments : goal.invariant-arguments
+invariant-arguments l = texts l.all.items ++ filter has_bytes
+    (left_parts 32 (option_map (λ text. text.now) l.left)) ≡ l.program ∷ arguments_of_line l.line
+
+abbrev pub decreases-arguments : goal.decreases-arguments
+decreases-arguments l = size_left (option_map (λ text. text.now) l.left)

@@ -1,0 +1,59 @@
+-- Hinting by the programs of a font.
+-- Apple TrueType Reference Manual, "Instructing TrueType Glyphs": phantom points; "The Instruction Set": INSTCTRL.
+use Rattle.std.specs.Prelude.{ℕ, ◌+◌, List, [], length, take, true, false, ◌||◌, nat_eq, if◌then◌else◌, Option, Some, None, slice_get}
+use Rattle.std.specs.Prelude.{Result, Ok}
+use Rattle.fx_fixed.specs.Chain.{◌>>=◌, map_fault}
+use Rattle.fx_fixed.specs.Places.{origin}
+use Rattle.fx_zone.specs.declared.point.Point.{Point}
+use Rattle.fx_zone.specs.Points.{resting}
+use Rattle.fx_zone.specs.Figures.{Figure, joined}
+use Rattle.fx_scale.specs.declared.phantom.PhantomPoints.{PhantomPoints}
+use Rattle.fx_scale.specs.Phantoms.{in_order}
+use Rattle.fx_machine.specs.Known.{Known, glyph_ran}
+use Rattle.fx_hint.specs.declared.count.Spent.{Spent}
+use Rattle.fx_hint.specs.declared.made.Made.{Made}
+use Rattle.fx_hint.specs.declared.fault.HintFault.{HintFault}
+use Rattle.fx_hint.specs.declared.fault.HintFault.TheVariants.{Halted}
+use Rattle.fx_hint.specs.Hinting.{Hinting, nothing_spent}
+
+-- a glyph's points with its phantom points after them, as its program sees them
+abbrev pub with_phantoms : Made → Figure
+with_phantoms made = joined made.zone (record { points = in_order made.phantoms; ends = [] })
+
+-- a point that is there
+abbrev pub point_or : Option Point → Point
+point_or (Some p) = p
+point_or None = resting origin false
+
+-- the point of a number
+abbrev pub point_at : List Point → ℕ → Point
+point_at points n = point_or (slice_get points n)
+
+-- the four points from a number on
+abbrev pub phantoms_at : List Point → ℕ → PhantomPoints
+phantoms_at points first = record {
+  origin = point_at points first;
+  advance = point_at points (first + 1);
+  ascender = point_at points (first + 2);
+  descender = point_at points (first + 3);
+}
+
+-- n points and the four phantom points after them, taken apart
+abbrev pub parted : ℕ → Figure → Made
+parted n f = record { zone = record { points = take n f.points; ends = f.ends }; phantoms = phantoms_at f.points n }
+
+-- the program of a glyph runs on its points: the points after it, and what it used up; or a halt
+unfoldable pub program_run : Known → ℕ → List ℕ → Made → Result (Made × Spent) HintFault
+program_run known g code made = do
+  r ← map_fault Halted (glyph_ran known g code (with_phantoms made))
+  Ok (parted (length made.zone.points) r.1, record { steps = r.0.steps; strays = r.0.strays })
+
+-- no program runs if there are no bytes, or if prep set the first flag of INSTCTRL
+unfoldable pub hinted : Known → ℕ → List ℕ → Made → Result (Made × Spent) HintFault
+hinted known g code made =
+    if known.prepared.flags.no_programs || nat_eq (length code) 0 then Ok (made, nothing_spent)
+    else program_run known g code made
+
+-- hinting by the programs of a font at a size, with what fpgm and prep left
+abbrev pub hinting_of : Known → Hinting
+hinting_of known = record { on = true; run = hinted known }

@@ -1,0 +1,85 @@
+-- The walk over components by its steps, with the composites that are open.
+use Rattle.std.specs.Prelude.{ℕ, zero, suc, ◌-◌, List, [], ◌∷◌, pos, Result, Ok, Err}
+use Rattle.fx_fixed.specs.Chain.{◌>>=◌, map_fault}
+use Rattle.fx_sfnt.specs.declared.records.Metrics.{Metrics}
+use Rattle.fx_sfnt.specs.Tables.{Face}
+use Rattle.fx_sfnt.specs.Glyphs.{metrics_of, glyph_bytes_of}
+use Rattle.fx_glyf.specs.declared.glyph.Glyph as glyf
+use Rattle.fx_glyf.specs.declared.glyph.Glyph.TheVariants.{Empty, Simple, Composite}
+use Rattle.fx_glyf.specs.Glyphs.{glyph_of}
+use Rattle.fx_zone.specs.Figures.{empty_figure}
+use Rattle.fx_scale.specs.declared.scale.Scale.{Scale}
+use Rattle.fx_scale.specs.Phantoms.{phantoms_of}
+use Rattle.fx_hint.specs.declared.count.Count.{Count}
+use Rattle.fx_hint.specs.declared.made.Made.{Made}
+use Rattle.fx_hint.specs.declared.below.OpenComposite.{OpenComposite}
+use Rattle.fx_hint.specs.declared.below.Waiting.{Waiting}
+use Rattle.fx_hint.specs.declared.walk.Step.{Step}
+use Rattle.fx_hint.specs.declared.walk.Step.TheVariants.{Assembled, Open}
+use Rattle.fx_hint.specs.declared.fault.HintFault.{HintFault}
+use Rattle.fx_hint.specs.declared.fault.HintFault.TheVariants.{Font, Glyph, ComponentDepth}
+use Rattle.fx_hint.specs.Hinting.{Hinting}
+use Rattle.fx_hint.specs.Parts.{with_part}
+use Rattle.fx_hint.specs.Outlines.{one_component, simple_made, run_on, with_parts, component}
+
+-- what becomes of a glyph, and the counts then
+abbrev pub Outcome : Type 0
+Outcome = Result (Made × Count) HintFault
+
+-- a glyph that has been read, begun: an empty or a simple one is assembled, a composite is open
+unfoldable pub begun_by : Hinting → Scale → ℕ → ℕ → Metrics → glyf.Glyph → Count → Result (Step × Count) HintFault
+begun_by h s root g m Empty count =
+    Ok (Assembled (record { zone = empty_figure; phantoms = phantoms_of s h.on (pos 0) m }), count)
+begun_by h s root g m (Simple shape) count = do
+  made ← simple_made s h.on root m shape count
+  ran ← run_on h g shape.code made
+  Ok (Assembled ran.0, ran.1)
+begun_by h s root g m (Composite assembly) count = Ok (
+  Open (record {
+    g = g;
+    glyph = assembly;
+    parts = assembly.components;
+    base = record { zone = empty_figure; phantoms = phantoms_of s h.on assembly.x_min m };
+  }),
+  count,
+)
+
+-- a glyph, begun: its number and bytes, its reading
+unfoldable pub begun : Hinting → Face → Scale → ℕ → ℕ → Count → Result (Step × Count) HintFault
+begun h face s root g count = do
+  m ← map_fault Font (metrics_of face g)
+  bytes ← map_fault Font (glyph_bytes_of face g)
+  glyph ← map_fault Glyph (glyph_of bytes g)
+  begun_by h s root g m glyph count
+
+-- a component, begun, with this number of levels allowed from here on
+unfoldable pub begun_component : Hinting → Face → Scale → ℕ → ℕ → ℕ → Count → Result (Step × Count) HintFault
+begun_component h face s root zero g count = Err (ComponentDepth g)
+begun_component h face s root (suc levels) g count = one_component root count >>= λ counted. begun h face s root g counted
+
+-- what an open composite gives, with this number of levels allowed below it
+abbrev pub left : Hinting → Face → Scale → ℕ → ℕ → OpenComposite → Count → Outcome
+left h face s root levels c count =
+    with_parts s h.on (component h face s root levels) c.g c.parts c.base count >>= run_on h c.g c.glyph.code
+
+-- what a glyph gives that has been begun
+abbrev pub given_by : Hinting → Face → Scale → ℕ → ℕ → Step × Count → Outcome
+given_by h face s root levels (Assembled made, count) = Ok (made, count)
+given_by h face s root levels (Open c, count) = left h face s root levels c count
+
+-- what a waiting composite gives with its component
+abbrev pub goes_into : Hinting → Face → Scale → ℕ → ℕ → Waiting → Made × Count → Outcome
+goes_into h face s root levels w r = do
+  more ← with_part s h.on w.composite.g w.part w.composite.base r.0
+  left h face s root levels (record w.composite { base = more }) r.1
+
+-- what the root gives: composites wait, the root first, with this number of levels allowed below it; the innermost one's
+-- component gives r
+unfoldable pub rest_of : Hinting → Face → Scale → ℕ → ℕ → List Waiting → Outcome → Outcome
+rest_of h face s root levels [] r = r
+rest_of h face s root levels (w ∷ ws) r = rest_of h face s root (levels - 1) ws r >>= goes_into h face s root levels w
+
+-- an open composite has one step more
+abbrev pub weight : Step → ℕ
+weight (Assembled made) = 0
+weight (Open c) = 1

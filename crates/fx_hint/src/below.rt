@@ -1,0 +1,82 @@
+//! Open composites.
+
+ghost use Rattle.std.specs.Prelude.{◌≡◌, ◌++◌, [], ◌∷◌, length, MatchOption, OnOk};
+ghost use Rattle.fx_hint.specs.inner.Places.{present};
+
+use crate::made::Made;
+use fx_glyf::{Components, Composite, Part};
+use smallvec::SmallVec;
+use std::alloc::{AllocError, Global};
+use std::marker::Model;
+
+/// A composite that is open: the components that are left, and its points so far with its phantom points.
+#[derive(Drop)]
+pub struct OpenComposite<'a> {
+    pub g: u16,
+    pub glyph: Composite<'a>,
+    pub parts: Components<'a>,
+    pub base: Made,
+}
+
+/// An open composite that waits for one of its components.
+#[derive(Drop)]
+pub struct Waiting<'a> {
+    pub part: Part,
+    pub composite: OpenComposite<'a>,
+}
+
+/// The composites that wait, the root first. With the innermost open composite, which does not wait, there are at most nine; so
+/// the list takes no memory.
+#[derive(Drop)]
+pub struct Below<'a> {
+    places: SmallVec<Option<Waiting<'a>>, 8>,
+}
+
+impl<'a> Model for Below<'a> {
+    ghost use Rattle.std.specs.Prelude.{List, IsSome};
+    ghost use Rattle.std.specs.List.{All};
+    ghost use Rattle.fx_hint.specs.declared.below.Waiting.{Waiting};
+    ghost use Rattle.fx_hint.specs.inner.Places.{present};
+
+    ghost Value = { List Waiting };
+
+    ghost view = { λ b. present b.places.items };
+
+    ghost invariant = { λ b. All IsSome b.places.items };
+}
+
+impl<'a> Below<'a> {
+    /// No composite waits.
+    pub fn new(alloc: Global) -> Below<'a>
+        ensures { result ≡ [] }
+    {
+        Below {
+            places: SmallVec::new(alloc),
+        }
+    }
+
+    /// The number of composites that wait.
+    pub fn len(&self) -> usize
+        ensures { result ≡ length self.now }
+    {
+        self.places.len()
+    }
+
+    /// One more composite waits.
+    pub fn push(&mut self, waiting: Waiting<'a>) -> Result<(), AllocError>
+        ensures { OnOk result (self.new ≡ self.old ++ waiting.entry ∷ []) }
+    {
+        self.places.push(Some(waiting))?;
+        Ok(())
+    }
+
+    /// The innermost composite that waits, if there is one; it waits no more.
+    pub fn pop(&mut self) -> Option<Waiting<'a>>
+        ensures { MatchOption result (self.old ≡ []) (λ w. self.old ≡ self.new ++ w ∷ []) }
+    {
+        match self.places.pop() {
+            Some(place) => place,
+            None => None,
+        }
+    }
+}

@@ -1,0 +1,219 @@
+-- What is seen of code points, one after the other.
+-- Serves `see`, and what a call leaves (`Making`, `Writing`).
+use Rattle.std.proofs.Common.{◌≡◌, refl, sym, ap, ◌∙◌, subst, arith, ℕ, suc, zero, ◌+◌, ◌<◌, ◌≤◌, Bool, true, false, not, List, []}
+use Rattle.std.proofs.Common.{◌∷◌, ◌++◌, map, length, take, drop, get_or, length-append, Result, Ok, Err, cond}
+use Rattle.std.specs.Prelude.{nat_lt, ◌==◌, ◌||◌, filter}
+use Rattle.std.specs.List.{list_any, sum_by, count_by}
+use Rattle.std.proofs.lemmas.Bool.Decides.{nat_tests}
+use Rattle.std.proofs.lemmas.List.{take_more, drop_more, map-append, take-append-drop}
+use Rattle.std.proofs.lemmas.List.Elements.{filter-append}
+use Rattle.std.proofs.lemmas.List.Sums.{fold-append, sum_by-append}
+use Rattle.fx_fixed.specs.Chain.{◌>>=◌, map_chain}
+use Rattle.fx_fixed.proofs.Chain.{bind_ok}
+use Rattle.fx_sfnt.specs.Tables.{Face}
+use Rattle.fx_cmap.specs.Lookup.{glyph_for}
+use Rattle.fx_cmap.specs.declared.mapping.Mapping.{Mapping}
+use Rattle.fx_hint.specs.Hinting.{Hinting}
+use Rattle.fx_bdf.specs.Glyphs.{Glyph, Box, IsPlaced, no_box, joined, bounds_of}
+use Rattle.fx_strike.specs.declared.refusal.Refusal.{Refusal}
+use Rattle.fx_strike.specs.declared.refusal.Refusal.TheVariants.{OutOfMemory, WriteFailed, ReadFailed, BadHex, InputTooLarge}
+use Rattle.fx_strike.specs.declared.drawn.Drawn.{Drawn}
+use Rattle.fx_strike.specs.declared.seen.Seen.{Seen}
+use Rattle.fx_strike.specs.Faults.{Fails}
+use Rattle.fx_strike.specs.Limits.{max_code}
+use Rattle.fx_strike.specs.Strike.{Sketch, IsGlyphOf, AreGlyphsOf, glyph_sketch_of, sketch_of, is_missing, sketches_of}
+use Rattle.fx_strike.specs.Headline.{counted}
+use Rattle.fx_strike.specs.Drawing.{IsDrawnOf}
+use Rattle.fx_strike.specs.Surveying.{IsEmpty, Adds, Holds, Sees}
+
+-- ---- code points within the limit
+
+not_any : (c : ℕ) (cs : List ℕ) → list_any (nat_lt max_code) (c ∷ cs) ≡ false
+    → (c ≤ max_code) × (list_any (nat_lt max_code) cs ≡ false)
+not_any c cs h = (low c (list_any (nat_lt max_code) cs) h, rest (nat_lt max_code c) (list_any (nat_lt max_code) cs) h)
+  where
+    low : (c : ℕ) (b : Bool) → (nat_lt max_code c || b) ≡ false → c ≤ max_code
+    low c b h = grind (arith, nat_tests)
+
+    rest : (a b : Bool) → (a || b) ≡ false → b ≡ false
+    rest true b h = absurd (cc)
+    rest false b h = h
+
+pub code_fits : (codes : List ℕ) (i : ℕ) → list_any (nat_lt max_code) codes ≡ false → i < length codes
+    → get_or codes i 0 ≤ max_code
+code_fits [] i h g = absurd (omega arith)
+code_fits (c ∷ cs) zero h g = (not_any c cs h).0
+code_fits (c ∷ cs) (suc i) h g = code_fits cs i (not_any c cs h).1 (omega arith)
+
+-- ---- chains
+
+chain_push : {A B : Type 0} (f : A → Result B Refusal) (xs : List A) (x : A) (made : List B) (b : B) → map_chain f xs ≡ Ok made
+    → f x ≡ Ok b → map_chain f (xs ++ x ∷ []) ≡ Ok (made ++ b ∷ [])
+chain_push f [] x made b h g = let e : [] ≡ made = cc in rw (g, ← e)
+chain_push f (y ∷ ys) x made b h g =
+    let p = bind_ok (f y) (λ c. map_chain f ys >>= λ cs. Ok (c ∷ cs)) made h in
+    let q = bind_ok (map_chain f ys) (λ cs. Ok (p.0 ∷ cs)) made p.2 in
+    let e : p.0 ∷ q.0 ≡ made = cc (q.2) in
+    pushed f y ys x made b p.0 q.0 p.1 e (chain_push f ys x q.0 b q.1 g)
+  where
+    pushed : {A B : Type 0} (f : A → Result B Refusal) (y : A) (ys : List A) (x : A) (made : List B) (b c : B) (cs : List B)
+        → f y ≡ Ok c → c ∷ cs ≡ made → map_chain f (ys ++ x ∷ []) ≡ Ok (cs ++ b ∷ [])
+        → map_chain f (y ∷ (ys ++ x ∷ [])) ≡ Ok (made ++ b ∷ [])
+    pushed f y ys x made b c cs p e r = rw (p, r, ← e)
+
+chain_refused : {A B : Type 0} (f : A → Result B Refusal) (xs : List A) (x : A) (ys : List A) (made : List B) (e : Refusal)
+    → map_chain f xs ≡ Ok made → f x ≡ Err e → map_chain f (xs ++ x ∷ ys) ≡ Err e
+chain_refused f [] x ys made e h g = rw g
+chain_refused f (z ∷ zs) x ys made e h g =
+    let p = bind_ok (f z) (λ c. map_chain f zs >>= λ cs. Ok (c ∷ cs)) made h in
+    let q = bind_ok (map_chain f zs) (λ cs. Ok (p.0 ∷ cs)) made p.2 in
+    refused f z zs x ys e p.0 p.1 (chain_refused f zs x ys q.0 e q.1 g)
+  where
+    refused : {A B : Type 0} (f : A → Result B Refusal) (z : A) (zs : List A) (x : A) (ys : List A) (e : Refusal) (c : B)
+        → f z ≡ Ok c → map_chain f (zs ++ x ∷ ys) ≡ Err e → map_chain f (z ∷ (zs ++ x ∷ ys)) ≡ Err e
+    refused f z zs x ys e c p r = rw (p, r)
+
+-- a refusal is passed on if it is one of the whole chain
+pub fails_on : {Y Z : Type 0} (d : Refusal) (a : Result Y Refusal) (b : Result Z Refusal) → ((e : Refusal) → a ≡ Err e → b ≡ Err e)
+    → Fails d a → Fails d b
+fails_on OutOfMemory a b h f = tt
+fails_on (WriteFailed n) a b h f = f
+fails_on ReadFailed a b h f = f
+fails_on BadHex a b h f = f
+fails_on InputTooLarge a b h f = f
+fails_on d a b h f = h d f
+
+-- ---- one code point more
+
+kept : (segments : Mapping) (c : ℕ) → is_missing segments c ≡ false → (codes rest : List ℕ)
+    → filter (λ d. not (is_missing segments d)) (codes ++ c ∷ rest) ≡ filter (λ d. not (is_missing segments d)) codes ++ c ∷
+    filter (λ d. not (is_missing segments d)) rest
+kept segments c h codes rest = filter-append (λ d. not (is_missing segments d)) codes (c ∷ rest) ∙
+    ap (λ (xs : List ℕ). filter (λ d. not (is_missing segments d)) codes ++ xs)
+    (first (is_missing segments c) h (filter (λ d. not (is_missing segments d)) rest))
+  where
+    first : (b : Bool) → b ≡ false → (xs : List ℕ) → cond (not b) (c ∷ xs) xs ≡ c ∷ xs
+    first true h xs = absurd (cc)
+    first false h xs = refl
+
+count_one : (p : ℕ → Bool) (codes : List ℕ) (c n : ℕ) → cond (p c) 1 0 ≡ n → count_by p (codes ++ c ∷ []) ≡ count_by p codes + n
+count_one p codes c n h = sum_by-append (λ d. cond (p d) 1 0) codes (c ∷ []) ∙ ap (λ (m : ℕ). count_by p codes + m)
+    (let e : 0 + cond (p c) 1 0 ≡ n = omega (arith, h) in e)
+
+glyphs_push : (ss : List Sketch) (gs : List Glyph) (s : Sketch) (g : Glyph) → AreGlyphsOf ss gs → IsGlyphOf s g
+    → AreGlyphsOf (ss ++ s ∷ []) (gs ++ g ∷ [])
+glyphs_push [] [] s g h k = (k, tt)
+glyphs_push (t ∷ ts) (f ∷ fs) s g h k = (h.0, glyphs_push ts fs s g h.1 k)
+glyphs_push [] (f ∷ fs) s g h k = absurd h
+glyphs_push (t ∷ ts) [] s g h k = absurd h
+
+bounds_push : (gs : List Glyph) (g : Glyph)
+    → bounds_of (map (λ h. h.box) (gs ++ g ∷ [])) ≡ joined (bounds_of (map (λ h. h.box) gs)) g.box
+bounds_push gs g = ap bounds_of (map-append (λ (h : Glyph). h.box) gs (g ∷ [])) ∙ fold-append joined no_box
+    (map (λ (h : Glyph). h.box) gs) (g.box ∷ [])
+
+sum_push : (f : Sketch → ℕ) (ss : List Sketch) (s : Sketch) (total more new : ℕ) → total ≡ counted (sum_by f ss) → more ≡ f s
+    → new ≡ counted (total + more) → new ≡ counted (sum_by f (ss ++ s ∷ []))
+sum_push f ss s total more new h k e =
+    let a : sum_by f (ss ++ s ∷ []) ≡ sum_by f ss + (0 + f s) = sum_by-append f ss (s ∷ []) in
+    by_sum (sum_by f ss) (f s) (sum_by f (ss ++ s ∷ [])) total more new
+    (a ∙ (let b : sum_by f ss + (0 + f s) ≡ sum_by f ss + f s = omega arith in b)) h k e
+  where
+    by_sum : (a b c total more new : ℕ) → c ≡ a + b → total ≡ counted a → more ≡ b → new ≡ counted (total + more)
+        → new ≡ counted c
+    by_sum a b c total more new p h k e = omega arith
+
+pub holds_none : (hinting : Hinting) (face : Face) (segments : Mapping) (ppem : ℕ) (new : Seen) → IsEmpty new
+    → Holds hinting face segments ppem [] new
+holds_none hinting face segments ppem new h =
+    let P : Box → Type 0 = λ b. IsPlaced b in
+    record {
+      sketches = [];
+      glyphs = [];
+      planned = refl;
+      drawn = tt;
+      bounds = h.bounds;
+      placed = subst P (sym h.bounds)
+          (record { left = omega arith; right = omega arith; bottom = omega arith; top = omega arith });
+      count = h.glyphs;
+      missing = h.missing;
+      strays = h.strays;
+      steps = h.steps;
+      each = omega (arith, h.glyphs, h.missing);
+    }
+
+holds_push : (hinting : Hinting) (face : Face) (segments : Mapping) (ppem : ℕ) (codes : List ℕ) (c : ℕ) (old new : Seen)
+    (sketch : Sketch)
+    (drawn : Drawn)
+    → Holds hinting face segments ppem codes old → is_missing segments c ≡ false
+    → sketch_of hinting face segments ppem c ≡ Ok sketch
+    → IsDrawnOf sketch drawn → Adds old new drawn → Holds hinting face segments ppem (codes ++ c ∷ []) new
+holds_push hinting face segments ppem codes c old new sketch drawn h m s d a = record {
+  sketches = h.sketches ++ sketch ∷ [];
+  glyphs = h.glyphs ++ drawn.glyph ∷ [];
+  planned = ap (map_chain (sketch_of hinting face segments ppem)) (kept segments c m codes []) ∙
+      chain_push (sketch_of hinting face segments ppem)
+      (filter (λ x. not (is_missing segments x)) codes) c h.sketches sketch h.planned s;
+  drawn = glyphs_push h.sketches h.glyphs sketch drawn.glyph h.drawn d.glyph;
+  bounds = a.bounds ∙ ap (λ (b : Box). joined b drawn.glyph.box) h.bounds ∙ sym (bounds_push h.glyphs drawn.glyph);
+  placed = a.placed;
+  count = omega (arith, a.glyphs, h.count, length-append h.sketches (sketch ∷ []));
+  missing = a.missing ∙ h.missing ∙ sym (count_one (is_missing segments) codes c 0 (ap (λ (b : Bool). cond b 1 0) m) ∙
+      (let z : count_by (is_missing segments) codes + 0 ≡ count_by (is_missing segments) codes = omega arith in z));
+  strays = sum_push (λ x. x.strays) h.sketches sketch old.report.strays drawn.strays new.report.strays h.strays d.strays a.strays;
+  steps = sum_push (λ x. x.steps) h.sketches sketch old.report.steps drawn.steps new.report.steps h.steps d.steps a.steps;
+  each = omega (arith, a.glyphs, a.missing, h.each, length-append codes (c ∷ []));
+}
+
+-- ---- the same at a place of the code points
+
+pub not_zero : (n : ℕ) → (n ≡ 0 → ⊥) → (n == 0) ≡ false
+not_zero zero h = absurd (h refl)
+not_zero (suc n) h = grind (arith, nat_tests)
+
+pub missing_is : (segments : Mapping) (c glyph : ℕ) → glyph ≡ glyph_for segments c → (b : Bool) → (glyph == 0) ≡ b
+    → is_missing segments c ≡ b
+missing_is segments c glyph e b h = ap (λ (g : ℕ). g == 0) (sym e) ∙ h
+
+pub same_sketch : (hinting : Hinting) (face : Face) (segments : Mapping) (ppem c glyph : ℕ) → glyph ≡ glyph_for segments c
+    → glyph_sketch_of hinting face ppem c glyph ≡ sketch_of hinting face segments ppem c
+same_sketch hinting face segments ppem c glyph e = ap (λ (g : ℕ). glyph_sketch_of hinting face ppem c g) e
+
+pub drawn_at : (hinting : Hinting) (face : Face) (segments : Mapping) (ppem : ℕ) (codes : List ℕ) (i glyph : ℕ)
+    (old new : Seen) (drawn : Drawn)
+    → i < length codes → Holds hinting face segments ppem (take i codes) old → glyph ≡ glyph_for segments (get_or codes i 0)
+    → (glyph ≡ 0 → ⊥)
+    → (sketch : Sketch) × (glyph_sketch_of hinting face ppem (get_or codes i 0) glyph ≡ Ok sketch) × IsDrawnOf sketch drawn
+    → Adds old new drawn → Holds hinting face segments ppem (take (i + 1) codes) new
+drawn_at hinting face segments ppem codes i glyph old new drawn l h e m d a =
+    let P : List ℕ → Type 0 = λ xs. Holds hinting face segments ppem xs new in
+    subst P (sym (take_more codes i 0 l))
+    (holds_push hinting face segments ppem (take i codes) (get_or codes i 0) old new d.0 drawn h
+    (missing_is segments (get_or codes i 0) glyph e false (not_zero glyph m))
+    (sym (same_sketch hinting face segments ppem (get_or codes i 0) glyph e) ∙ d.1) d.2 a)
+
+pub refused_at : (hinting : Hinting) (face : Face) (segments : Mapping) (ppem : ℕ) (codes : List ℕ) (i glyph : ℕ)
+    (old : Seen) (refusal : Refusal)
+    → i < length codes → Holds hinting face segments ppem (take i codes) old → glyph ≡ glyph_for segments (get_or codes i 0)
+    → (glyph ≡ 0 → ⊥)
+    → Fails refusal (glyph_sketch_of hinting face ppem (get_or codes i 0) glyph)
+    → Fails refusal (sketches_of hinting face segments ppem codes)
+refused_at hinting face segments ppem codes i glyph old refusal l h e m f =
+    fails_on refusal (glyph_sketch_of hinting face ppem (get_or codes i 0) glyph) (sketches_of hinting face segments ppem codes)
+    (λ d k.
+    ap (sketches_of hinting face segments ppem) (sym (take-append-drop i codes) ∙ ap (λ (xs : List ℕ). take i codes ++ xs)
+    (drop_more codes i 0 l))
+    ∙ ap (map_chain (sketch_of hinting face segments ppem))
+    (kept segments (get_or codes i 0) (missing_is segments (get_or codes i 0) glyph e false (not_zero glyph m)) (take i codes)
+    (drop (i + 1) codes))
+    ∙ chain_refused (sketch_of hinting face segments ppem) (filter (λ x. not (is_missing segments x)) (take i codes))
+    (get_or codes i 0)
+    (filter (λ x. not (is_missing segments x)) (drop (i + 1) codes)) h.sketches d h.planned
+    (sym (same_sketch hinting face segments ppem (get_or codes i 0) glyph e) ∙ k)) f
+
+-- what is passed on at the exit of a `?`
+pub sees_err : (hinting : Hinting) (face : Face) (segments : Mapping) (ppem : ℕ) (codes : List ℕ) (r : Result Seen Refusal)
+    (e d : Refusal)
+    → r ≡ Err e → e ≡ d → Fails d (sketches_of hinting face segments ppem codes) → Sees hinting face segments ppem codes r
+sees_err hinting face segments ppem codes r e d p q f =
+    let P : Result Seen Refusal → Type 0 = λ s. Sees hinting face segments ppem codes s in subst P (sym (p ∙ ap Err q)) f

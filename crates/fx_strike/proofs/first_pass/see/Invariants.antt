@@ -1,0 +1,10 @@
+use Rattle.std.proofs.Common.{◌≡◌, take}
+use Rattle.fx_strike.specs.Surveying.{Holds}
+use Rattle.fx_strike.proofs.first_pass.see.Given as goal
+
+-- hinting is as it was, and the code points so far were seen
+abbrev pub invariant-codes : goal.invariant-codes
+invariant-codes g l = record {
+  kept : g.H.Hinter.hinting l.hinter ≡ g.H.Hinter.hinting l.fn.hinter;
+  held : Holds (g.H.Hinter.hinting l.fn.hinter) l.opened.font l.opened.map l.opened.ppem (take l.code-index l.codes) l.seen;
+}

@@ -1,0 +1,33 @@
+use Rattle.std.proofs.Common.{refl, ◌∙◌, arith}
+use Rattle.std.proofs.lemmas.Result.{err_from_is_err_and}
+use Rattle.fx_strike.proofs.Seeing.{code_fits}
+use Rattle.fx_strike.proofs.Lines.{left_all, left_more, left_failed}
+use Rattle.fx_strike.proofs.second_pass.write_all.Goals as goal
+
+pub codes-init : goal.codes-init
+codes-init g c = record {
+  kept = refl;
+  quiet = refl;
+  few = omega arith;
+  lines = λ text h. left_all _ _ _ _ _ _ _ text h;
+}
+
+pub write_one-requires-clause-code : goal.write_one-requires-clause-code
+write_one-requires-clause-code g c = code_fits c.args.codes.now c.codes.code-index c.requires.small c.codes-test.true
+
+pub returns-in_err-done-clause-lines : goal.returns-in_err-done-clause-lines
+returns-in_err-done-clause-lines g c text h =
+    let p = err_from_is_err_and c.from_residual.result c.from_residual.ensures.1 in
+    let w = rw c.codes.invariant.kept at (c.in_err-done.ensures).lines in
+    left_failed _ _ _ _ _ _ _ _ _ _ _ _ _ _ text c.from_residual.result p.0 c.in_err-done.field-0.0 p.1 p.2
+    c.codes-test.true c.codes.invariant.quiet (c.codes.invariant.lines text h) w
+
+pub codes-preserved : goal.codes-preserved
+codes-preserved g c =
+    let w = rw c.codes.invariant.kept at (c.in_ok-done.ensures).lines in
+    record {
+      kept = (c.in_ok-done.ensures).kept ∙ c.codes.invariant.kept;
+      quiet = (c.in_ok-done.ensures).quiet ∙ c.codes.invariant.quiet;
+      few = omega (arith, (c.in_ok-done.ensures).short, c.codes.invariant.few);
+      lines = λ text h. left_more _ _ _ _ _ _ _ _ _ _ _ _ _ _ text c.codes-test.true (c.codes.invariant.lines text h) w;
+    }

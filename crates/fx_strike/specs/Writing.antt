@@ -1,0 +1,47 @@
+-- What is written of a strike. `old` and `new` are the writer's bytes before and after, if they are known; `faults_before` and
+-- `faults_after` its faults.
+use Rattle.std.specs.Prelude.{◌≡◌, ℕ, ◌+◌, ◌<◌, Bool, true, false, List, [], ◌∷◌, ◌++◌, length, take, Option, Result, Ok, Err}
+use Rattle.std.specs.Io.KnownBytes.{Appends}
+use Rattle.fx_sfnt.specs.Tables.{Face}
+use Rattle.fx_cmap.specs.declared.mapping.Mapping.{Mapping}
+use Rattle.fx_hint.specs.Hinting.{Hinting}
+use Rattle.fx_bdf.specs.Glyphs.{Glyph}
+use Rattle.fx_bdf.specs.Text.{glyph_text}
+use Rattle.fx_strike.specs.declared.refusal.Refusal.{Refusal}
+use Rattle.fx_strike.specs.declared.refusal.Refusal.TheVariants.{WriteFailed, OutOfMemory}
+use Rattle.fx_strike.specs.Strike.{Sketch, IsGlyphOf, sketch_of, is_missing}
+
+-- ---- lines
+
+-- the lines of a code point: none if the font lacks it, else those of its glyph
+abbrev pub AreLinesBy : Bool → Result Sketch Refusal → List ℕ → Type 0
+AreLinesBy true due text = text ≡ []
+AreLinesBy false due text =
+    (sketch : Sketch) × (glyph : Glyph) × (due ≡ Ok sketch) × IsGlyphOf sketch glyph × (text ≡ glyph_text glyph)
+
+pub record AreLinesOf (hinting : Hinting) (face : Face) (segments : Mapping) (ppem code : ℕ) (text : List ℕ) : Type 0 where
+  pub lines : AreLinesBy (is_missing segments code) (sketch_of hinting face segments ppem code) text
+
+-- the lines of code points, one after the other
+abbrev pub AreAllLinesOf : Hinting → Face → Mapping → ℕ → List ℕ → List ℕ → Type 0
+AreAllLinesOf hinting face segments ppem [] text = text ≡ []
+AreAllLinesOf hinting face segments ppem (c ∷ cs) text =
+    (here rest : List ℕ) × AreLinesOf hinting face segments ppem c here × AreAllLinesOf hinting face segments ppem cs rest
+    × (text ≡ here ++ rest)
+
+-- ---- as much of a text as was written
+
+-- all of a part, after `done` bytes of the text; or exactly its first k bytes, when memory ran out or the writer failed
+abbrev pub WritesBy : Option (List ℕ) → Option (List ℕ) → ℕ → ℕ → ℕ → List ℕ → Result ℕ Refusal → Type 0
+WritesBy old new faults_before faults_after done text (Ok n) =
+    (n ≡ done + length text) × Appends old new text × (faults_after ≡ faults_before)
+WritesBy old new faults_before faults_after done text (Err OutOfMemory) =
+    (k : ℕ) × (k < length text) × Appends old new (take k text) × (faults_after ≡ faults_before)
+WritesBy old new faults_before faults_after done text (Err (WriteFailed n)) =
+    (k : ℕ) × (k < length text) × (n ≡ done + k) × Appends old new (take k text) × (faults_after ≡ faults_before + 1)
+WritesBy old new faults_before faults_after done text (Err _) = ⊥
+
+-- the same as a record, so that a proof finds its arguments
+pub record Writes (old new : Option (List ℕ)) (faults_before faults_after done : ℕ) (text : List ℕ) (result : Result ℕ Refusal)
+    : Type 0 where
+  pub outcome : WritesBy old new faults_before faults_after done text result

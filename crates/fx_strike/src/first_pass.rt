@@ -1,0 +1,92 @@
+//! The first pass over the characters: a survey of the strike.
+ghost use Rattle.std.specs.Prelude.{◌≡◌, ◌≤◌, unsigned_abs, length};
+ghost use Rattle.fx_strike.specs.Limits.{max_characters};
+ghost use Rattle.fx_strike.specs.Characters.{rising};
+ghost use Rattle.fx_strike.specs.Strike.{pixels, plan_after};
+ghost use Rattle.fx_strike.specs.Surveying.{Sees, Surveys, seen_prelude, survey_from};
+
+use crate::draw::draw;
+use crate::opened::Opened;
+use crate::refusal::Refusal;
+use crate::request::{Request, Survey};
+use crate::seen::Seen;
+use fx_fixed::{Ppem, near};
+use fx_hint::Hinter;
+use fx_machine::Ran;
+use fx_winding::Scan;
+use std::alloc::Global;
+
+/// What is seen of code points, in their order; or the first cause why one has no glyph.
+fn see<S: Scan, H: Hinter>(
+    alloc: Global,
+    scan: &S,
+    hinter: &mut H,
+    opened: &Opened<'_>,
+    codes: &[u32],
+) -> Result<Seen, Refusal>
+    requires few { length codes.now ≤ max_characters }
+    ensures kept { H.hinting hinter.new ≡ H.hinting hinter.old }
+    ensures seen { Sees (H.hinting hinter.old) opened.now.font opened.now.map opened.now.ppem codes.now result }
+{
+    let mut seen = Seen::new();
+    'codes: for code in codes {
+        let glyph = opened.map.glyph(*code);
+        if glyph == 0 {
+            seen.report.missing += 1;
+            continue;
+        }
+        let drawn = draw(alloc, scan, hinter, &opened.font, opened.ppem, *code, glyph)?;
+        seen.add(&drawn);
+    }
+    Ok(seen)
+}
+
+/// FUnits in whole pixels.
+fn whole_pixels(units: i32, ppem: Ppem, em: u16) -> i32
+    requires units { unsigned_abs units ≤ 32768 }
+    requires em { 16 ≤ em }
+    ensures { result ≡ pixels units ppem em }
+{
+    near(
+        i128::from(units) * i128::from(ppem.pixels()),
+        i128::from(em),
+    ) as i32
+}
+
+/// The survey of the code points that were seen, with what `fpgm` and `prep` counted.
+fn survey_from(prelude: Ran, opened: &Opened<'_>, seen: Seen) -> Survey
+    ensures { result ≡ survey_from prelude opened.now.font opened.now.ppem seen }
+{
+    let em = opened.font.head().units_per_em.funits();
+    let hhea = opened.font.hhea();
+    let report = seen.report;
+    Survey {
+        bounds: seen.bounds,
+        ascent: whole_pixels(i32::from(hhea.ascender), opened.ppem, em),
+        descent: whole_pixels(-i32::from(hhea.descender), opened.ppem, em),
+        glyphs: report.glyphs,
+        missing: report.missing,
+        strays: prelude.strays.saturating_add(report.strays),
+        steps: u64::from(prelude.steps).saturating_add(report.steps),
+    }
+}
+
+/// The survey of a strike, once `fpgm` and `prep` ran; `codes` are the code points of the request.
+pub(crate) fn survey_after<S: Scan, H: Hinter>(
+    alloc: Global,
+    scan: &S,
+    hinter: &mut H,
+    prelude: Ran,
+    opened: &Opened<'_>,
+    request: &Request<'_>,
+    codes: &[u32],
+) -> Result<Survey, Refusal>
+    requires few { length codes.now ≤ max_characters }
+    requires rising { codes.now ≡ rising request.now.chars.now }
+    ensures kept { H.hinting hinter.new ≡ H.hinting hinter.old }
+    ensures survey { Surveys (plan_after (seen_prelude (H.hinting hinter.old) prelude) opened.now.font opened.now.map
+        opened.now.ppem request.now.name.now request.now.chars.now) result }
+{
+    let seen = see(alloc, scan, hinter, opened, codes)?;
+    Ok(survey_from(prelude, opened, seen))
+}

@@ -1,0 +1,91 @@
+//! One character of a font.
+ghost use Rattle.std.specs.Prelude.{◌≡◌, IfOk, IfErr, IsErrOf};
+ghost use Rattle.fx_strike.specs.Faults.{Fails};
+ghost use Rattle.fx_strike.specs.Strike.{opened_one_of, one_after, one_in, one_of};
+ghost use Rattle.fx_strike.specs.Headline.{IsOneOf, Late};
+ghost use Rattle.fx_strike.specs.Drawing.{Finds};
+
+use crate::draw::draw;
+use crate::open::open_one;
+use crate::opened::Opened;
+use crate::prelude::machine_at;
+use crate::refusal::Refusal;
+use fx_bdf::BitGlyph;
+use fx_hint::{Hinter, NoHinter};
+use fx_rows::Rows;
+use std::alloc::Global;
+
+/// The glyph of a code point of an opened font, once `fpgm` and `prep` ran; none if the font lacks it.
+#[tactic(auto, unfolding(crate::specs::Strike::one_after))]
+fn one_after<H: Hinter>(
+    alloc: Global,
+    hinter: &mut H,
+    opened: &Opened<'_>,
+    code: u32,
+) -> Result<Option<BitGlyph>, Refusal>
+    ensures { Finds (one_after (H.hinting hinter.old) opened.now.font opened.now.map opened.now.ppem code) result }
+{
+    let glyph = opened.map.glyph(code);
+    if glyph == 0 {
+        return Ok(None);
+    }
+    let drawn = draw(alloc, &Rows, hinter, &opened.font, opened.ppem, code, glyph)?;
+    Ok(Some(drawn.glyph))
+}
+
+/// The glyph of a code point of an opened font; none if the font lacks it. With hinting on, the font's programs run first.
+#[tactic(auto, unfolding(crate::specs::Strike::one_in, crate::specs::Strike::prelude_for))]
+fn one_in(
+    alloc: Global,
+    opened: &Opened<'_>,
+    code: u32,
+    hinting: bool,
+) -> Result<Option<BitGlyph>, Refusal>
+    ensures { Finds (one_in opened.now.font opened.now.map opened.now.ppem code hinting) result }
+{
+    if hinting {
+        let mut machine = machine_at(alloc, &opened.font, opened.ppem)?;
+        one_after(alloc, &mut machine, opened, code)
+    } else {
+        one_after(alloc, &mut NoHinter, opened, code)
+    }
+}
+
+/// The same for a font file.
+#[tactic(auto, unfolding(crate::specs::Strike::one_of))]
+fn one_inner(
+    alloc: Global,
+    font: &[u8],
+    ppem: u16,
+    code: u32,
+    hinting: bool,
+) -> Result<Option<BitGlyph>, Refusal>
+    ensures due { Finds (one_of font.now ppem code hinting) result }
+    ensures late { IsErrOf result Refusal.OutOfMemory → Late (opened_one_of font.now ppem code) }
+{
+    let opened = open_one(font, ppem, code)?;
+    one_in(alloc, &opened, code, hinting)
+}
+
+/// Makes the glyph of one character of a font at a size: its bits, in their tight box, and its advances. None if the font lacks
+/// the character.
+///
+/// The first cause is returned, as for the strike of that one character: the size, the code point; the font's tables, its
+/// character map; with hinting on `fpgm`, then `prep`; then the character. `OutOfMemory` may be returned in place of any step
+/// after the character map, and of none before it.
+pub fn one(
+    alloc: Global,
+    font: &[u8],
+    ppem: u16,
+    code: u32,
+    hinting: bool,
+) -> Result<Option<BitGlyph>, Refusal>
+    // The glyph is that of the character, or the font lacks it.
+    ensures glyph { IfOk result (IsOneOf (one_of font.now ppem code hinting)) }
+    // The first cause was named, or memory ran out.
+    ensures cause { IfErr result (λ refusal. Fails refusal (one_of font.now ppem code hinting)) }
+    // Memory is taken late: after the size and the code point are within their limits, and the font and its map opened.
+    ensures late { IsErrOf result Refusal.OutOfMemory → Late (opened_one_of font.now ppem code) }
+{
+    one_inner(alloc, font, ppem, code, hinting)
+}

@@ -1,0 +1,103 @@
+-- The places half way between two, and the halves of an arc that they make.
+-- Serves `halves`, and the law of halves.
+use Rattle.std.proofs.Common.{◌≡◌, refl, sym, ap, ◌∙◌, ℤ, pos, ◌+ℤ◌, ◌-ℤ◌, ◌*ℤ◌, ◌≤ℤ◌, Bool, true, false, if◌then◌else◌, Option}
+use Rattle.std.proofs.Common.{Some}
+use Rattle.std.proofs.Common.{None, negsuc, option_map, arith}
+use Rattle.std.specs.Prelude.{option_and_then}
+use Rattle.std.specs.Int.{int_div_euclid, int_rem_euclid}
+use Rattle.std.specs.Ordering.{int_eq}
+use Rattle.std.proofs.lemmas.Int.{ints}
+use Rattle.fx_fixed.proofs.Rounding.{by_quotient}
+use Rattle.fx_winding.specs.Area.{Place, place}
+use Rattle.fx_winding.specs.Winding.{Span}
+use Rattle.fx_winding.specs.Halving.{HalfIsExact, half_of, middle_of, two_arcs, halves_of_part}
+
+pub middle_without_x : (p q : Place) → half_of (p.x +ℤ q.x) ≡ None → middle_of p q ≡ None
+middle_without_x p q h = ap (option_and_then (λ x. option_map (place x) (half_of (p.y +ℤ q.y)))) h
+
+pub middle_without_y : (p q : Place) (x : ℤ) → half_of (p.x +ℤ q.x) ≡ Some x → half_of (p.y +ℤ q.y) ≡ None → middle_of p q ≡ None
+middle_without_y p q x h k =
+    ap (option_and_then (λ x. option_map (place x) (half_of (p.y +ℤ q.y)))) h ∙ ap (option_map (place x)) k
+
+pub middle_with : (p q : Place) (x y : ℤ) → half_of (p.x +ℤ q.x) ≡ Some x → half_of (p.y +ℤ q.y) ≡ Some y
+    → middle_of p q ≡ Some (place x y)
+middle_with p q x y h k =
+    ap (option_and_then (λ x. option_map (place x) (half_of (p.y +ℤ q.y)))) h ∙ ap (option_map (place x)) k
+
+-- ---- what halves are
+-- the place as far past q as q is from p
+abbrev pub beyond : Place → Place → Place
+beyond p q = place ((q.x +ℤ q.x) -ℤ p.x) ((q.y +ℤ q.y) -ℤ p.y)
+
+half_is : (z h : ℤ) → half_of z ≡ Some h → pos 2 *ℤ h ≡ z
+half_is z h e = by (int_div_euclid z (pos 2)) (int_eq (pos 2 *ℤ int_div_euclid z (pos 2)) z) refl e
+  where
+    by : (q : ℤ) (t : Bool) → int_eq (pos 2 *ℤ q) z ≡ t → ◌≡◌ {A = Option ℤ} (if t then Some q else None) (Some h) → pos 2 *ℤ h ≡ z
+    by q true t e = let k : q ≡ h = cc in let s : pos 2 *ℤ q ≡ z = grind (arith, ints) in ap (λ x. pos 2 *ℤ x) (sym k) ∙ s
+    by q false t e = absurd (cc)
+
+half_found : (z h : ℤ) → pos 2 *ℤ h ≡ z → half_of z ≡ Some h
+half_found z h e = by (int_div_euclid z (pos 2)) quotient
+  where
+    small : (n : ℤ) → (pos 0 ≤ℤ int_rem_euclid n (pos 2)) × (int_rem_euclid n (pos 2) ≤ℤ pos 1)
+    small (pos a) = (omega (arith, ints), omega (arith, ints))
+    small (negsuc a) = (omega (arith, ints), omega (arith, ints))
+
+    quotient : int_div_euclid z (pos 2) ≡ h
+    quotient = let q = by_quotient z 2 (omega arith) in let r = small z in omega (arith, ints, q, r, e)
+
+    test : (x y : ℤ) → x ≡ y → int_eq x y ≡ true
+    test x y k = grind (arith, ints)
+
+    by : (q : ℤ) → q ≡ h → ◌≡◌ {A = Option ℤ} (if int_eq (pos 2 *ℤ q) z then Some q else None) (Some h)
+    by q s = let t = test (pos 2 *ℤ q) z (ap (λ x. pos 2 *ℤ x) s ∙ e) in rw (t, s) refl
+
+pub half_is_exact : HalfIsExact
+half_is_exact z h = (λ e. half_is z h e, λ e. half_found z h e)
+
+-- a middle's second place is as far past it as the first is before it
+middle_is : (p q r : Place) → middle_of p q ≡ Some r → q ≡ beyond p r
+middle_is p q r e = by (half_of (p.x +ℤ q.x)) (half_of (p.y +ℤ q.y)) refl refl e
+  where
+    apart : (x y z : ℤ) → pos 2 *ℤ z ≡ x +ℤ y → y ≡ (z +ℤ z) -ℤ x
+    apart x y z e = omega (arith, ints)
+
+    by : (m n : Option ℤ) → half_of (p.x +ℤ q.x) ≡ m → half_of (p.y +ℤ q.y) ≡ n
+        → option_and_then (λ x. option_map (place x) n) m ≡ Some r → q ≡ beyond p r
+    by None n h k e = absurd (cc)
+    by (Some x) None h k e = absurd (cc)
+    by (Some x) (Some y) h k e =
+        let s : place x y ≡ r = cc in
+        let ex : x ≡ r.x = ap (λ t. t.x) s in
+        let ey : y ≡ r.y = ap (λ t. t.y) s in
+        let hx = half_is (p.x +ℤ q.x) x h in
+        let hy = half_is (p.y +ℤ q.y) y k in
+        λ i. record {
+          x = (apart p.x q.x r.x (ap (λ z. pos 2 *ℤ z) (sym ex) ∙ hx)) i;
+          y =
+              (apart p.y q.y r.y (ap (λ z. pos 2 *ℤ z) (sym ey) ∙ hy)) i;
+        }
+
+-- the middles of an arc that has halves
+pub record Cut (a b c m n j : Place) : Type 0 where
+  pub b_is : b ≡ beyond a m
+  pub n_is : n ≡ beyond m j
+  pub c_is : c ≡ beyond b n
+
+pub halves_are : (a b c : Place) (f g : Span) → halves_of_part a (Some b) c ≡ Some (f, g)
+    → (m : Place) × (n : Place) × (j : Place) × Cut a b c m n j × ((f, g) ≡ two_arcs a m j n c)
+halves_are a b c f g e = by (middle_of a b) (middle_of b c) refl refl e
+  where
+    join : (m n : Place) (j : Option Place) → middle_of a b ≡ Some m → middle_of b c ≡ Some n → middle_of m n ≡ j
+        → option_map (λ j. two_arcs a m j n c) j ≡ Some (f, g)
+        → (m : Place) × (n : Place) × (j : Place) × Cut a b c m n j × ((f, g) ≡ two_arcs a m j n c)
+    join m n None h k l e = absurd (cc)
+    join m n (Some j) h k l e =
+        (m, n, j, record { b_is = middle_is a b m h; n_is = middle_is m n j l; c_is = middle_is b c n k }, (cc))
+
+    by : (m n : Option Place) → middle_of a b ≡ m → middle_of b c ≡ n
+        → option_and_then (λ m. option_and_then (λ n. option_map (λ j. two_arcs a m j n c) (middle_of m n)) n) m ≡ Some (f, g)
+        → (m : Place) × (n : Place) × (j : Place) × Cut a b c m n j × ((f, g) ≡ two_arcs a m j n c)
+    by None n h k e = absurd (cc)
+    by (Some m) None h k e = absurd (cc)
+    by (Some m) (Some n) h k e = join m n (middle_of m n) h k refl e

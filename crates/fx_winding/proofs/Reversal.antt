@@ -1,0 +1,180 @@
+-- A reversed piece adds the negative of what the piece adds to a winding number, and has the same places on it.
+-- Serves the law `reversal`, and halves, the second of which is the first of the reversed arc.
+use Rattle.std.proofs.Common.{◌≡◌, refl, sym, ap, ◌∙◌, ◌⊎◌, inl, inr, zero, suc, ℤ, pos, negsuc, ◌+ℤ◌, ◌-ℤ◌}
+use Rattle.std.proofs.Common.{◌*ℤ◌, neg_ℤ, int_lt, ◌&&◌, ◌||◌, [], ◌∷◌, Option, Some, None, map}
+use Rattle.std.proofs.Common.{arith}
+use Rattle.std.specs.Ordering.{int_eq}
+use Rattle.std.proofs.lemmas.Int.{ints}
+use Rattle.fx_fixed.specs.Polynomial.{var, num, ◌⊞◌, ◌⊠◌, minus, ◌⊟◌}
+use Rattle.fx_fixed.proofs.Ring.{ring}
+use Rattle.fx_fixed.proofs.Linear.{signed_linear}
+use Rattle.fx_winding.specs.Area.{Place, area, gap_of}
+use Rattle.fx_winding.specs.Winding.{sign, weight_a, weight_b, weight_c, is_right_of_chord, chord_crossing}
+use Rattle.fx_winding.specs.Winding.{region_part, IsOnPart, IsBetween, IsInRange, IsAboveLow, IsBelowHigh, AreOnArc}
+use Rattle.fx_winding.specs.Winding.{IsBeforeTurn}
+use Rattle.fx_winding.specs.Moves.{reversed, ReversalNegates, ReversalKeepsCover}
+use Rattle.fx_winding.proofs.Crossings.{crossing_number, area_turn}
+use Rattle.fx_winding.proofs.Triangle.{area_expr}
+use Rattle.fx_winding.proofs.Regions.{IsInRegion, region_cases, region_in, region_out}
+use Rattle.fx_winding.proofs.Covers.{covered_permutation, covered_map}
+
+crossing_number_back : (ay cy py s : ℤ) → crossing_number cy ay py (neg_ℤ s) ≡ neg_ℤ (crossing_number ay cy py s)
+crossing_number_back ay cy py s = grind (arith, ints)
+
+pub crossing_back : (a c p : Place) → chord_crossing c a p ≡ neg_ℤ (chord_crossing a c p)
+crossing_back a c p =
+    ap (crossing_number c.y a.y p.y) (area_turn c.x c.y a.x a.y p.x p.y) ∙ crossing_number_back a.y c.y p.y (area a c p)
+
+sign_back : (z : ℤ) → sign (neg_ℤ z) ≡ neg_ℤ (sign z)
+sign_back (pos zero) = refl
+sign_back (pos (suc n)) = refl
+sign_back (negsuc n) = refl
+
+pub area_back : (a b c : Place) → area c b a ≡ neg_ℤ (area a b c)
+area_back a b c =
+    let x = var 0 in let x' = var 1 in
+    let y = var 2 in let y' = var 3 in
+    let z = var 4 in let z' = var 5 in
+    ring (a.x ∷ a.y ∷ b.x ∷ b.y ∷ c.x ∷ c.y ∷ []) (area_expr z z' y y' x x') (minus (area_expr x x' y y' z z')) tt
+
+minus_both : (x y : ℤ) → neg_ℤ x *ℤ neg_ℤ y ≡ x *ℤ y
+minus_both x y = ring (x ∷ y ∷ []) (minus (var 0) ⊠ minus (var 1)) (var 0 ⊠ var 1) tt
+
+pub sign_area_back : (a b c : Place) → sign (area c b a) ≡ neg_ℤ (sign (area a b c))
+sign_area_back a b c = ap sign (area_back a b c) ∙ sign_back (area a b c)
+
+pub weight_a-back : (a b c p : Place) → weight_a c b a p ≡ weight_c a b c p
+weight_a-back a b c p = (λ i. sign_area_back a b c i *ℤ area_back a b p i) ∙ minus_both (sign (area a b c)) (area a b p)
+
+pub weight_b-back : (a b c p : Place) → weight_b c b a p ≡ weight_b a b c p
+weight_b-back a b c p = (λ i. sign_area_back a b c i *ℤ area_back a p c i) ∙ minus_both (sign (area a b c)) (area a p c)
+
+pub weight_c-back : (a b c p : Place) → weight_c c b a p ≡ weight_a a b c p
+weight_c-back a b c p = (λ i. sign_area_back a b c i *ℤ area_back p b c i) ∙ minus_both (sign (area a b c)) (area p b c)
+
+pub gap_back : (u v w : ℤ) → gap_of w v u ≡ gap_of u v w
+gap_back u v w =
+    ring (u ∷ v ∷ w ∷ []) (num (pos 4) ⊠ (var 2 ⊠ var 0) ⊟ var 1 ⊠ var 1) (num (pos 4) ⊠ (var 0 ⊠ var 2) ⊟ var 1 ⊠ var 1) tt
+
+pub right_back : (a b c : Place) → is_right_of_chord c b a ≡ is_right_of_chord a b c
+right_back a b c = tests (area c b a *ℤ (a.y -ℤ c.y)) (area a b c *ℤ (c.y -ℤ a.y)) a.y b.y c.y same
+  where
+    same : area c b a *ℤ (a.y -ℤ c.y) ≡ area a b c *ℤ (c.y -ℤ a.y)
+    same = ap (λ z. z *ℤ (a.y -ℤ c.y)) (area_back a b c)
+        ∙ ring (area a b c ∷ a.y ∷ c.y ∷ []) (minus (var 0) ⊠ (var 1 ⊟ var 2)) (var 0 ⊠ (var 2 ⊟ var 1)) tt
+
+    tests : (d d' ay b cy : ℤ) → d ≡ d'
+        → (int_lt (pos 0) d || (int_eq cy ay && int_lt cy b)) ≡ (int_lt (pos 0) d' || (int_eq ay cy && int_lt ay b))
+    tests d d' ay b cy e = grind (arith, ints)
+
+-- ---- the region
+pub in_region_back : (a b c p : Place) → IsInRegion a b c p → IsInRegion c b a p
+in_region_back a b c p (inl (u, v, w, g)) =
+    inl (
+      rw (weight_a-back a b c p) w,
+      rw (weight_b-back a b c p) v,
+      rw (weight_c-back a b c p) u,
+      rw (
+        weight_a-back a b c p,
+        weight_b-back a b c p,
+        weight_c-back a b c p,
+        gap_back (weight_a a b c p) (weight_b a b c p)
+            (weight_c a b c p),
+      ) g,
+    )
+in_region_back a b c p (inr (v, u, w, r)) =
+    inr (weight_b-back a b c p ∙ v, rw (weight_a-back a b c p) w, rw (weight_c-back a b c p) u, right_back a b c ∙ r)
+
+pub region_part_back : (a : Place) (b : Option Place) (c p : Place) → region_part c b a p ≡ neg_ℤ (region_part a b c p)
+region_part_back a None c p = refl
+region_part_back a (Some b) c p = by (region_cases a b c p)
+  where
+    by : IsInRegion a b c p ⊎ (¬ (IsInRegion a b c p)) → region_part c (Some b) a p ≡ neg_ℤ (region_part a (Some b) c p)
+    by (inl h) = region_in c b a p (in_region_back a b c p h) ∙ sign_area_back a b c ∙ ap neg_ℤ (sym (region_in a b c p h))
+    by (inr n) = region_out c b a p (λ h. n (in_region_back c b a p h)) ∙ ap neg_ℤ (sym (region_out a b c p n))
+
+-- ---- on a piece
+none_back : (z w : ℤ) → w ≡ neg_ℤ z → z ≡ pos 0 → w ≡ pos 0
+none_back z w e h = omega (arith, signed_linear)
+
+none_from : (z w : ℤ) → w ≡ neg_ℤ z → w ≡ pos 0 → z ≡ pos 0
+none_from z w e h = omega (arith, signed_linear)
+
+between_back : (a c p : ℤ) → IsBetween a c p → IsBetween c a p
+between_back a c p (inl h) = inr h
+between_back a c p (inr h) = inl h
+
+turn_back : (a b c p : ℤ) → IsBeforeTurn a b c p → IsBeforeTurn c b a p
+turn_back a b c p h =
+    let e : c *ℤ a -ℤ b *ℤ b ≡ a *ℤ c -ℤ b *ℤ b =
+    ring (a ∷ b ∷ c ∷ []) (var 2 ⊠ var 0 ⊟ var 1 ⊠ var 1) (var 0 ⊠ var 2 ⊟ var 1 ⊠ var 1) tt in
+    let f : p *ℤ (c -ℤ pos 2 *ℤ b +ℤ a) ≡ p *ℤ (a -ℤ pos 2 *ℤ b +ℤ c) =
+    ring (a ∷ b ∷ c ∷ p ∷ []) (var 3 ⊠ (var 2 ⊟ num (pos 2) ⊠ var 1 ⊞ var 0)) (var 3 ⊠ (var 0 ⊟ num (pos 2) ⊠ var 1 ⊞ var 2)) tt in
+    rw (e, f) h
+
+range_back : (a b c p : ℤ) → IsInRange a b c p → IsInRange c b a p
+range_back a b c p r = record { low = low r.low; high = high r.high }
+  where
+    low : IsAboveLow a b c p → IsAboveLow c b a p
+    low (inl h) = inr (inl h)
+    low (inr (inl h)) = inl h
+    low (inr (inr (k, l, t))) = inr (inr (l, k, turn_back a b c p t))
+
+    high : IsBelowHigh a b c p → IsBelowHigh c b a p
+    high (inl h) = inr (inl h)
+    high (inr (inl h)) = inl h
+    high (inr (inr (k, l, t))) = inr (inr (l, k, turn_back a b c p t))
+
+arc_back : (a b c p : Place) → AreOnArc (weight_a a b c p) (weight_b a b c p) (weight_c a b c p)
+    → AreOnArc (weight_a c b a p) (weight_b c b a p) (weight_c c b a p)
+arc_back a b c p (u, v, w, g) = (
+  rw (weight_a-back a b c p) w,
+  rw (weight_b-back a b c p) v,
+  rw (weight_c-back a b c p) u,
+  rw (weight_a-back a b c p, weight_b-back a b c p, weight_c-back a b c p)
+      (gap_back (weight_a a b c p) (weight_b a b c p) (weight_c a b c p) ∙ g),
+)
+
+pub on_part_back : (a : Place) (b : Option Place) (c p : Place) → IsOnPart a b c p → IsOnPart c b a p
+on_part_back a None c p on =
+    record {
+      collinear = none_back (area a c p) (area c a p) (area_turn c.x c.y a.x a.y p.x p.y) on.collinear;
+      between_x = between_back a.x c.x p.x on.between_x;
+      between_y = between_back a.y c.y p.y on.between_y;
+    }
+on_part_back a (Some b) c p (inl on) =
+    inl (record {
+      bent = λ e. on.bent (none_from (area a b c) (area c b a) (area_back a b c) e);
+      on_arc =
+          arc_back a b c p on.on_arc;
+    })
+on_part_back a (Some b) c p (inr on) =
+    inr (record {
+      flat = none_back (area a b c) (area c b a) (area_back a b c) on.flat;
+      with_ab = none_back (area b c p) (area c b p) (area_turn c.x c.y b.x b.y p.x p.y) on.with_bc;
+      with_bc = none_back (area a b p) (area b a p) (area_turn b.x b.y a.x a.y p.x p.y) on.with_ab;
+      with_ac = none_back (area a c p) (area c a p) (area_turn c.x c.y a.x a.y p.x p.y) on.with_ac;
+      range_x = range_back a.x b.x c.x p.x on.range_x;
+      range_y = range_back a.y b.y c.y p.y on.range_y;
+    })
+
+pub reversal_negates : ReversalNegates
+reversal_negates p s = (
+  (λ h. on_part_back s.c s.b s.a p h, λ h. on_part_back s.a s.b s.c p h),
+  crossing_back s.a s.c p,
+  region_part_back s.a s.b s.c p,
+)
+
+-- ---- all pieces of a list
+minus_sum : (x y : ℤ) → neg_ℤ (x +ℤ y) ≡ neg_ℤ x +ℤ neg_ℤ y
+minus_sum x y = omega (arith, signed_linear)
+
+minus_none : (z : ℤ) → neg_ℤ z ≡ pos 0 → z ≡ pos 0
+minus_none z h = omega (arith, signed_linear)
+
+pub reversal_keeps_cover : ReversalKeepsCover
+reversal_keeps_cover p ss ts h =
+    let kept = covered_permutation p (map reversed ss) ts h in
+    let same = covered_map p p reversed neg_ℤ minus_sum refl minus_none (λ s. (reversal_negates p s).0)
+    (λ s. (reversal_negates p s).1) (λ s. (reversal_negates p s).2) ss in
+    (λ k. same.0 (kept.0 k), λ k. kept.1 (same.1 k))

@@ -1,0 +1,201 @@
+-- A piece that is moved covers the places that it covered, moved with it.
+-- Serves the law `shift`.
+use Rattle.std.proofs.Common.{◌≡◌, refl, sym, ap, ◌∙◌, subst, ◌↔◌, inl, inr, ℤ, pos, ◌+ℤ◌, ◌-ℤ◌, ◌*ℤ◌, ◌≤ℤ◌, int_lt}
+use Rattle.std.proofs.Common.{◌&&◌, ◌||◌, if◌then◌else◌, [], ◌∷◌, Option, Some, None, map, option_map, arith}
+use Rattle.std.specs.Ordering.{int_eq}
+use Rattle.std.proofs.lemmas.Int.{ints}
+use Rattle.fx_fixed.specs.Polynomial.{var, num, ◌⊞◌, ◌⊠◌, ◌⊟◌}
+use Rattle.fx_fixed.proofs.Ring.{ring}
+use Rattle.fx_fixed.proofs.Linear.{signed_linear}
+use Rattle.fx_winding.specs.Area.{Place, area}
+use Rattle.fx_winding.specs.Winding.{sign, weight_a, weight_b, weight_c, is_inside, is_on_chord, is_right_of_chord, chord_crossing}
+use Rattle.fx_winding.specs.Winding.{region_part, IsOnPart, IsBetween, IsInRange, IsAboveLow, IsBelowHigh, AreOnArc}
+use Rattle.fx_winding.specs.Winding.{IsBeforeTurn, IsCovered, centre}
+use Rattle.fx_winding.specs.Moves.{shifted_place, shifted, ShiftMovesCover, ShiftMovesBits}
+use Rattle.fx_winding.proofs.Crossings.{crossing_number}
+use Rattle.fx_winding.proofs.Triangle.{area_expr}
+use Rattle.fx_winding.proofs.Covers.{covered_map}
+
+area_shift : (x y : ℤ) (a b c : Place) → area (shifted_place x y a) (shifted_place x y b) (shifted_place x y c) ≡ area a b c
+area_shift x y a b c =
+    let e = var 0 in let e' = var 1 in
+    let f = var 2 in let f' = var 3 in
+    let g = var 4 in let g' = var 5 in
+    let t = var 6 in let t' = var 7 in
+    ring (a.x ∷ a.y ∷ b.x ∷ b.y ∷ c.x ∷ c.y ∷ x ∷ y ∷ [])
+    (area_expr (e ⊞ t) (e' ⊞ t') (f ⊞ t) (f' ⊞ t') (g ⊞ t) (g' ⊞ t')) (area_expr e e' f f' g g') tt
+
+crossing_number_shift : (t ay cy py s : ℤ) → crossing_number (ay +ℤ t) (cy +ℤ t) (py +ℤ t) s ≡ crossing_number ay cy py s
+crossing_number_shift t ay cy py s = grind (arith, ints)
+
+crossing_shift : (x y : ℤ) (a c p : Place)
+    → chord_crossing (shifted_place x y a) (shifted_place x y c) (shifted_place x y p) ≡ chord_crossing a c p
+crossing_shift x y a c p =
+    ap (crossing_number (a.y +ℤ y) (c.y +ℤ y) (p.y +ℤ y)) (area_shift x y a c p) ∙ crossing_number_shift y a.y c.y p.y (area a c p)
+
+-- ---- the weights and the region
+sign_shift : (x y : ℤ) (a b c : Place)
+    → sign (area (shifted_place x y a) (shifted_place x y b) (shifted_place x y c)) ≡ sign (area a b c)
+sign_shift x y a b c = ap sign (area_shift x y a b c)
+
+weight_a-shift : (x y : ℤ) (a b c p : Place)
+    → weight_a (shifted_place x y a) (shifted_place x y b) (shifted_place x y c) (shifted_place x y p) ≡ weight_a a b c p
+weight_a-shift x y a b c p = λ i. sign_shift x y a b c i *ℤ area_shift x y p b c i
+
+weight_b-shift : (x y : ℤ) (a b c p : Place)
+    → weight_b (shifted_place x y a) (shifted_place x y b) (shifted_place x y c) (shifted_place x y p) ≡ weight_b a b c p
+weight_b-shift x y a b c p = λ i. sign_shift x y a b c i *ℤ area_shift x y a p c i
+
+weight_c-shift : (x y : ℤ) (a b c p : Place)
+    → weight_c (shifted_place x y a) (shifted_place x y b) (shifted_place x y c) (shifted_place x y p) ≡ weight_c a b c p
+weight_c-shift x y a b c p = λ i. sign_shift x y a b c i *ℤ area_shift x y a b p i
+
+right_shift : (x y : ℤ) (a b c : Place)
+    → is_right_of_chord (shifted_place x y a) (shifted_place x y b) (shifted_place x y c) ≡ is_right_of_chord a b c
+right_shift x y a b c =
+    tests (area (shifted_place x y a) (shifted_place x y b) (shifted_place x y c) *ℤ ((c.y +ℤ y) -ℤ (a.y +ℤ y)))
+    (area a b c *ℤ (c.y -ℤ a.y)) a.y b.y c.y y same
+  where
+    same : area (shifted_place x y a) (shifted_place x y b) (shifted_place x y c) *ℤ ((c.y +ℤ y) -ℤ (a.y +ℤ y)) ≡ area a b c *ℤ
+        (c.y -ℤ a.y)
+    same = ap (λ z. z *ℤ ((c.y +ℤ y) -ℤ (a.y +ℤ y))) (area_shift x y a b c)
+        ∙ ring (area a b c ∷ a.y ∷ c.y ∷ y ∷ []) (var 0 ⊠ ((var 2 ⊞ var 3) ⊟ (var 1 ⊞ var 3))) (var 0 ⊠ (var 2 ⊟ var 1)) tt
+
+    tests : (d d' ay b cy t : ℤ) → d ≡ d'
+        → (int_lt (pos 0) d || (int_eq (ay +ℤ t) (cy +ℤ t) && int_lt (ay +ℤ t) (b +ℤ t))) ≡ (int_lt (pos 0) d' ||
+        (int_eq ay cy && int_lt ay b))
+    tests d d' ay b cy t e = grind (arith, ints)
+
+region_part_shift : (x y : ℤ) (a : Place) (b : Option Place) (c p : Place)
+    → region_part (shifted_place x y a) (option_map (shifted_place x y) b) (shifted_place x y c) (shifted_place x y p) ≡ region_part
+    a b c p
+region_part_shift x y a None c p = refl
+region_part_shift x y a (Some b) c p =
+    λ i. if is_inside (weight_a-shift x y a b c p i) (weight_b-shift x y a b c p i) (weight_c-shift x y a b c p i)
+    || (is_on_chord (weight_a-shift x y a b c p i) (weight_b-shift x y a b c p i) (weight_c-shift x y a b c p i)
+    && right_shift x y a b c i) then sign_shift x y a b c i else pos 0
+
+-- ---- on a piece
+between_shift : (t a c p : ℤ) → IsBetween (a +ℤ t) (c +ℤ t) (p +ℤ t) ↔ IsBetween a c p
+between_shift t a c p = (λ h. from h, λ h. to h)
+  where
+    from : IsBetween (a +ℤ t) (c +ℤ t) (p +ℤ t) → IsBetween a c p
+    from (inl h) = inl (omega (arith, signed_linear, h), omega (arith, signed_linear, h))
+    from (inr h) = inr (omega (arith, signed_linear, h), omega (arith, signed_linear, h))
+
+    to : IsBetween a c p → IsBetween (a +ℤ t) (c +ℤ t) (p +ℤ t)
+    to (inl h) = inl (omega (arith, signed_linear, h), omega (arith, signed_linear, h))
+    to (inr h) = inr (omega (arith, signed_linear, h), omega (arith, signed_linear, h))
+
+turn_shift : (t a b c p : ℤ) → IsBeforeTurn (a +ℤ t) (b +ℤ t) (c +ℤ t) (p +ℤ t) ↔ IsBeforeTurn a b c p
+turn_shift t a b c p =
+    let e : (p +ℤ t) *ℤ ((a +ℤ t) -ℤ pos 2 *ℤ (b +ℤ t) +ℤ (c +ℤ t)) -ℤ ((a +ℤ t) *ℤ (c +ℤ t) -ℤ (b +ℤ t) *ℤ (b +ℤ t)) ≡ p *ℤ
+    (a -ℤ pos 2 *ℤ b +ℤ c) -ℤ (a *ℤ c -ℤ b *ℤ b) =
+    ring (a ∷ b ∷ c ∷ p ∷ t ∷ [])
+    ((var 3 ⊞ var 4) ⊠ ((var 0 ⊞ var 4) ⊟ num (pos 2) ⊠ (var 1 ⊞ var 4) ⊞ (var 2 ⊞ var 4)) ⊟
+    ((var 0 ⊞ var 4) ⊠ (var 2 ⊞ var 4) ⊟ (var 1 ⊞ var 4) ⊠ (var 1 ⊞ var 4)))
+    (var 3 ⊠ (var 0 ⊟ num (pos 2) ⊠ var 1 ⊞ var 2) ⊟ (var 0 ⊠ var 2 ⊟ var 1 ⊠ var 1)) tt in
+    same_order ((p +ℤ t) *ℤ ((a +ℤ t) -ℤ pos 2 *ℤ (b +ℤ t) +ℤ (c +ℤ t))) ((a +ℤ t) *ℤ (c +ℤ t) -ℤ (b +ℤ t) *ℤ (b +ℤ t))
+    (p *ℤ (a -ℤ pos 2 *ℤ b +ℤ c)) (a *ℤ c -ℤ b *ℤ b) e
+  where
+    same_order : (m n m' n' : ℤ) → m -ℤ n ≡ m' -ℤ n' → (n ≤ℤ m) ↔ (n' ≤ℤ m')
+    same_order m n m' n' e = (λ h. omega (arith, signed_linear), λ h. omega (arith, signed_linear))
+
+range_shift : (t a b c p : ℤ) → IsInRange (a +ℤ t) (b +ℤ t) (c +ℤ t) (p +ℤ t) ↔ IsInRange a b c p
+range_shift t a b c p =
+    (λ r. record { low = low r.low; high = high r.high }, λ r. record { low = low_to r.low; high = high_to r.high })
+  where
+    low : IsAboveLow (a +ℤ t) (b +ℤ t) (c +ℤ t) (p +ℤ t) → IsAboveLow a b c p
+    low (inl h) = inl (omega (arith, signed_linear, h))
+    low (inr (inl h)) = inr (inl (omega (arith, signed_linear, h)))
+    low (inr (inr (k, l, m))) =
+        inr (inr (omega (arith, signed_linear, k), omega (arith, signed_linear, l), (turn_shift t a b c p).0 m))
+
+    low_to : IsAboveLow a b c p → IsAboveLow (a +ℤ t) (b +ℤ t) (c +ℤ t) (p +ℤ t)
+    low_to (inl h) = inl (omega (arith, signed_linear, h))
+    low_to (inr (inl h)) = inr (inl (omega (arith, signed_linear, h)))
+    low_to (inr (inr (k, l, m))) =
+        inr (inr (omega (arith, signed_linear, k), omega (arith, signed_linear, l), (turn_shift t a b c p).1 m))
+
+    high : IsBelowHigh (a +ℤ t) (b +ℤ t) (c +ℤ t) (p +ℤ t) → IsBelowHigh a b c p
+    high (inl h) = inl (omega (arith, signed_linear, h))
+    high (inr (inl h)) = inr (inl (omega (arith, signed_linear, h)))
+    high (inr (inr (k, l, m))) =
+        inr (inr (omega (arith, signed_linear, k), omega (arith, signed_linear, l), (turn_shift t a b c p).0 m))
+
+    high_to : IsBelowHigh a b c p → IsBelowHigh (a +ℤ t) (b +ℤ t) (c +ℤ t) (p +ℤ t)
+    high_to (inl h) = inl (omega (arith, signed_linear, h))
+    high_to (inr (inl h)) = inr (inl (omega (arith, signed_linear, h)))
+    high_to (inr (inr (k, l, m))) =
+        inr (inr (omega (arith, signed_linear, k), omega (arith, signed_linear, l), (turn_shift t a b c p).1 m))
+
+arc_shift : (x y : ℤ) (a b c p : Place)
+    → AreOnArc (weight_a (shifted_place x y a) (shifted_place x y b) (shifted_place x y c) (shifted_place x y p))
+    (weight_b (shifted_place x y a) (shifted_place x y b) (shifted_place x y c) (shifted_place x y p))
+    (weight_c (shifted_place x y a) (shifted_place x y b) (shifted_place x y c) (shifted_place x y p)) ↔ AreOnArc
+    (weight_a a b c p) (weight_b a b c p) (weight_c a b c p)
+arc_shift x y a b c p = same (weight_a-shift x y a b c p) (weight_b-shift x y a b c p) (weight_c-shift x y a b c p)
+  where
+    same : {u v w u' v' w' : ℤ} → u ≡ u' → v ≡ v' → w ≡ w' → AreOnArc u v w ↔ AreOnArc u' v' w'
+    same eu ev ew = (λ h. rw (← eu, ← ev, ← ew) h, λ h. rw (eu, ev, ew) h)
+
+on_part_shift : (x y : ℤ) (a : Place) (b : Option Place) (c p : Place)
+    → IsOnPart (shifted_place x y a) (option_map (shifted_place x y) b) (shifted_place x y c)
+    (shifted_place x y p) ↔ IsOnPart a b c p
+on_part_shift x y a None c p = (
+  λ on. record {
+    collinear = sym (area_shift x y a c p) ∙ on.collinear;
+    between_x = (between_shift x a.x c.x p.x).0 on.between_x;
+    between_y = (between_shift y a.y c.y p.y).0 on.between_y;
+  },
+  λ on. record {
+    collinear = area_shift x y a c p ∙ on.collinear;
+    between_x = (between_shift x a.x c.x p.x).1 on.between_x;
+    between_y = (between_shift y a.y c.y p.y).1 on.between_y;
+  },
+)
+on_part_shift x y a (Some b) c p = (λ on. from on, λ on. to on)
+  where
+    from : IsOnPart (shifted_place x y a) (Some (shifted_place x y b)) (shifted_place x y c) (shifted_place x y p)
+        → IsOnPart a (Some b) c p
+    from (inl on) =
+        inl (record { bent = λ e. on.bent (area_shift x y a b c ∙ e); on_arc = (arc_shift x y a b c p).0 on.on_arc })
+    from (inr on) =
+        inr (record {
+          flat = sym (area_shift x y a b c) ∙ on.flat;
+          with_ab = sym (area_shift x y a b p) ∙ on.with_ab;
+          with_bc = sym (area_shift x y b c p) ∙ on.with_bc;
+          with_ac = sym (area_shift x y a c p) ∙ on.with_ac;
+          range_x = (range_shift x a.x b.x c.x p.x).0 on.range_x;
+          range_y = (range_shift y a.y b.y c.y p.y).0 on.range_y;
+        })
+
+    to : IsOnPart a (Some b) c p
+        → IsOnPart (shifted_place x y a) (Some (shifted_place x y b)) (shifted_place x y c) (shifted_place x y p)
+    to (inl on) =
+        inl (record { bent = λ e. on.bent (sym (area_shift x y a b c) ∙ e); on_arc = (arc_shift x y a b c p).1 on.on_arc })
+    to (inr on) =
+        inr (record {
+          flat = area_shift x y a b c ∙ on.flat;
+          with_ab = area_shift x y a b p ∙ on.with_ab;
+          with_bc = area_shift x y b c p ∙ on.with_bc;
+          with_ac = area_shift x y a c p ∙ on.with_ac;
+          range_x = (range_shift x a.x b.x c.x p.x).1 on.range_x;
+          range_y = (range_shift y a.y b.y c.y p.y).1 on.range_y;
+        })
+
+-- ---- all pieces of a list
+pub shift_moves_cover : ShiftMovesCover
+shift_moves_cover x y p ss =
+    covered_map p (shifted_place x y p) (shifted x y) (λ z. z) (λ m n. refl) refl (λ z e. e) (λ s. on_part_shift x y s.a s.b s.c p)
+    (λ s. crossing_shift x y s.a s.c p) (λ s. region_part_shift x y s.a s.b s.c p) ss
+
+pub shift_moves_bits : ShiftMovesBits
+shift_moves_bits k l i j ss =
+    subst (λ q. IsCovered q (map (shifted (pos 128 *ℤ k) (pos 128 *ℤ l)) ss) ↔ IsCovered (centre i j) ss)
+    (λ t. record { x = along i k t; y = along j l t }) (shift_moves_cover (pos 128 *ℤ k) (pos 128 *ℤ l) (centre i j) ss)
+  where
+    along : (i k : ℤ) → (pos 128 *ℤ i +ℤ pos 64) +ℤ pos 128 *ℤ k ≡ pos 128 *ℤ (i +ℤ k) +ℤ pos 64
+    along i k =
+        ring (i ∷ k ∷ []) ((num (pos 128) ⊠ var 0 ⊞ num (pos 64)) ⊞ num (pos 128) ⊠ var 1)
+        (num (pos 128) ⊠ (var 0 ⊞ var 1) ⊞ num (pos 64)) tt
