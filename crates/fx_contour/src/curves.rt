@@ -185,7 +185,7 @@ pub fn pieces(alloc: Global, outline: &Outline) -> Result<Pieces, ContourFault>
     if !are_in_reach(&outline.points) {
         return Err(ContourFault::TooFar);
     }
-    let mut made = Pieces::new(alloc);
+    let mut made = Pieces::with_capacity(alloc, outline.points.len())?;
     let mut start = 0;
     for end in &outline.ends {
         let next = usize::from(*end) + 1;
