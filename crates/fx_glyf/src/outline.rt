@@ -59,10 +59,10 @@ impl<'a> Outline<'a> {
     }
 
     /// The number of points.
-    pub fn len(&self) -> usize
+    pub fn len(&self) -> u32
         ensures { result ≡ length self.now }
     {
-        self.count as usize
+        self.count
     }
 
     /// The points.

@@ -76,14 +76,14 @@ impl<'a> Simple<'a> {
     }
 
     /// The number of contours.
-    pub fn contour_count(&self) -> usize
+    pub fn contour_count(&self) -> u16
         ensures { result ≡ length self.now.ends }
     {
-        usize::from(self.contours)
+        self.contours
     }
 
     /// The number of points of all contours.
-    pub fn point_count(&self) -> usize
+    pub fn point_count(&self) -> u32
         ensures { result ≡ length self.now.points }
     {
         self.outline.len()

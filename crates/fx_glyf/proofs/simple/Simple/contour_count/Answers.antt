@@ -5,4 +5,4 @@ use Rattle.fx_glyf.proofs.simple.Simple.contour_count.Goals as goal
 
 pub returns : goal.returns
 returns c =
-    c.from.ensures ∙ sym (ap (λ (s : SimpleView). length s.ends) (sym c.self.view_is) ∙ length-words _ _)
+    sym (ap (λ (s : SimpleView). length s.ends) (sym c.self.view_is) ∙ length-words _ _)
