@@ -1,5 +1,6 @@
 pub mod Steps
 pub mod Outlines
+pub mod Sizes
 pub mod EndPoints
 pub mod Parts
 pub mod PointsDescribed

@@ -2,7 +2,7 @@
 -- For `Outline::read` and what it keeps.
 use Rattle.std.proofs.Common.{◌≡◌, ℕ, zero, suc, List, [], ◌∷◌, length, Option, Some, None, refl, sym, ap, ◌∙◌, arith}
 use Rattle.std.proofs.lemmas.Option.{option_and_then_some, same_Some}
-use Rattle.std.specs.Prelude.{option_map, option_and_then}
+use Rattle.std.specs.Prelude.{option_map, option_and_then, IsSome}
 use Rattle.fx_glyf.specs.declared.point.Point.{Point}
 use Rattle.fx_glyf.specs.Words.{list_in, with_front}
 use Rattle.fx_glyf.specs.Points.{Cursor, x_short_vector, x_is_same_or_positive_x_short_vector, y_short_vector}
@@ -69,12 +69,6 @@ pub all_there : (n : ℕ) (bytes xs ys rest : List ℕ) → Some xs ≡ option_m
     → Some (points_seen (list_in (flags_from n (start bytes))) xs ys 0 0) ≡ glyph_points_of n bytes
 all_there n bytes xs ys rest e f g = sym (after_xs n bytes xs ys e f ∙ ap (option_and_then (of_ys _ _)) (known _ rest g))
 
--- the same of equal flags
-pub at_flags : (short same : ℕ) (fs gs bytes : List ℕ) (o : Option (List ℕ)) → fs ≡ gs
-    → o ≡ option_map (λ p. p.1) (deltas_from short same fs bytes) → o ≡ option_map (λ p. p.1) (deltas_from short same gs bytes)
-at_flags short same fs gs bytes o e h =
-    h ∙ ap (λ (hs : List ℕ). option_map (λ (p : List ℕ × List ℕ). p.1) (deltas_from short same hs bytes)) e
-
 -- as many flags, deltas and points are read as asked for
 flags_count : (n : ℕ) (c : Cursor) (fs rest : List ℕ) → flags_from n c ≡ Some (fs, rest) → length fs ≡ n
 unfolding flags_from
@@ -115,3 +109,19 @@ outline_count count bytes points e =
     ∙ points_count fs.0 xs.0 ys.0 0 0 (deltas_count x_short_vector x_is_same_or_positive_x_short_vector fs.0 fs.1 xs.0 xs.1 qx)
     (deltas_count y_short_vector y_is_same_or_positive_y_short_vector fs.0 xs.1 ys.0 ys.1 qy)
     ∙ flags_count count (start bytes) fs.0 fs.1 qf)))
+
+-- points whose bytes are complete are as many as asked for
+pub seen_count : (count : ℕ) (bytes xs ys : List ℕ) → IsSome (flags_from count (start bytes))
+    → IsSome (deltas_from x_short_vector x_is_same_or_positive_x_short_vector (list_in (flags_from count (start bytes))) xs)
+    → IsSome (deltas_from y_short_vector y_is_same_or_positive_y_short_vector (list_in (flags_from count (start bytes))) ys)
+    → length (points_seen (list_in (flags_from count (start bytes))) xs ys 0 0) ≡ count
+seen_count count bytes xs ys hf hx hy =
+    let f = some_read _ hf in
+    let x = some_read _ hx in
+    let y = some_read _ hy in
+    let flags = flags_count count (start bytes) _ f.0 f.1 in
+    points_count _ _ _ 0 0 (deltas_count _ _ _ _ _ x.0 x.1) (deltas_count _ _ _ _ _ y.0 y.1) ∙ flags
+  where
+    some_read : {X : Type 0} (o : Option (List X × List ℕ)) → IsSome o → (rest : List ℕ) × (o ≡ Some (list_in o, rest))
+    some_read {X} None h = absurd (cc)
+    some_read {X} (Some p) h = (p.1, refl)

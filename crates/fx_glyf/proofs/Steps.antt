@@ -1,5 +1,5 @@
 -- Flags and deltas, one point at a time.
--- For `Flags::next`, `skip_flags`, `skip_deltas` and the iterator `Points`.
+-- For `Flags::next`, `measured` and the iterator `Points`.
 use Rattle.std.proofs.Common.{◌≡◌, ℕ, suc, ◌+◌, ◌%◌, List, [], ◌∷◌, Option, Some, None, refl, sym, ap, ◌∙◌, subst}
 use Rattle.std.specs.Prelude.{IsSome, option_map, option_and_then}
 use Rattle.std.proofs.lemmas.Option.{same_Some, none-some}
@@ -105,10 +105,6 @@ points_step f fs xs ys xs' ys' dx dy x y ex ey hx hy =
     (dx ∷ list_in (deltas_from x_short_vector x_is_same_or_positive_x_short_vector fs xs')) ds x y) sy.list
     ∙ points_at f fs dx dy _ _ x y
 
-pub flags_done : (n : ℕ) (c : Cursor) → n ≡ 0 → option_map (λ r. r.1) (flags_from n c) ≡ Some c.bytes
-unfolding flags_from
-flags_done n c h = ap (λ (m : ℕ). option_map (λ (r : List ℕ × List ℕ). r.1) (flags_from m c)) h
-
 pub deltas_done : (short same : ℕ) (bytes : List ℕ) → option_map (λ r. r.1) (deltas_from short same [] bytes) ≡ Some bytes
 unfolding deltas_from
 deltas_done short same bytes = refl
@@ -134,25 +130,3 @@ points_first gs f fs xs ys xs' ys' dx dy x y x' y' p e ex ey hx hy nx ny np =
     (list_in (deltas_from y_short_vector y_is_same_or_positive_y_short_vector hs ys)) x y) e
     ∙ points_step f fs xs ys xs' ys' dx dy x y ex ey (subst P e hx) (subst Q e hy)
     ∙ (rw (np, nx, ny) refl)
-
--- one delta more was passed
-pub deltas_passed : (short same : ℕ) (gs : List ℕ) (f : ℕ) (fs bytes : List ℕ) (d : ℕ) (rest : List ℕ) → gs ≡ f ∷ fs
-    → Some (d, rest) ≡ delta_of short same f bytes
-    → option_map (λ r. r.1) (deltas_from short same fs rest) ≡ option_map (λ r. r.1) (deltas_from short same gs bytes)
-deltas_passed short same gs f fs bytes d rest e h =
-    sym (ap (λ (hs : List ℕ). option_map (λ (r : List ℕ × List ℕ). r.1) (deltas_from short same hs bytes)) e
-    ∙ ap (option_map (λ (r : List ℕ × List ℕ). r.1)) (deltas_at short same f fs bytes d rest h) ∙ front_rest _ _)
-
--- there is no further delta
-pub deltas_stopped : (short same : ℕ) (gs : List ℕ) (f : ℕ) (fs bytes : List ℕ) → gs ≡ f ∷ fs → None ≡ delta_of short same f bytes
-    → None ≡ option_map (λ r. r.1) (deltas_from short same gs bytes)
-deltas_stopped short same gs f fs bytes e h =
-    sym (ap (λ (hs : List ℕ). option_map (λ (r : List ℕ × List ℕ). r.1) (deltas_from short same hs bytes)) e
-    ∙ ap (option_map (λ (r : List ℕ × List ℕ). r.1)) (deltas_short short same f fs bytes h))
-
--- all the deltas were passed
-pub deltas_end : (short same : ℕ) (gs bytes : List ℕ) → gs ≡ []
-    → Some bytes ≡ option_map (λ r. r.1) (deltas_from short same gs bytes)
-deltas_end short same gs bytes e =
-    sym (ap (λ (hs : List ℕ). option_map (λ (r : List ℕ × List ℕ). r.1) (deltas_from short same hs bytes)) e
-    ∙ deltas_done short same bytes)

@@ -4,3 +4,4 @@ pub mod Components
 pub mod Shapes
 pub mod Grammar
 pub mod Glyphs
+pub mod inner

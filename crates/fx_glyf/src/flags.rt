@@ -1,7 +1,8 @@
 //! The flags of a glyph's points.
 
-ghost use Rattle.std.specs.Prelude.{◌≡◌, ◌+◌, ◌≤◌, ◌∷◌, [], IsSome, MatchOption, length, drop, option_map};
+ghost use Rattle.std.specs.Prelude.{◌≡◌, ◌+◌, ◌*◌, ◌≤◌, ◌∷◌, [], IsSome, MatchOption, length, drop, option_map};
 ghost use Rattle.fx_glyf.specs.Words.{has, list_in};
+ghost use Rattle.fx_glyf.specs.inner.Sizes.{delta_size, measured_of};
 ghost use Rattle.fx_glyf.specs.Points.{next_flag, flags_from};
 
 use std::marker::Model;
@@ -54,21 +55,62 @@ pub fn next_flag(again: u8, flag: u8, bytes: &[u8]) -> Option<(u8, u8, &[u8])>
     }
 }
 
-/// The bytes after the flags of `count` points.
-pub fn skip_flags(count: u32, bytes: &[u8]) -> Option<&[u8]>
-    ensures { option_map (λ r. r.now) result
-        ≡ option_map (λ r. r.1) (flags_from count (record { again = 0; flag = 0; bytes = bytes.now })) }
+/// The number of bytes of a delta with this flag; short and same are the masks of the coordinate.
+#[tactic(auto, unfolding(crate::specs::inner::Sizes::delta_size))]
+fn delta_size(short: u8, same: u8, flag: u8) -> usize
+    ensures value { result ≡ delta_size short same flag }
+    ensures size { result ≤ 2 }
 {
-    let mut again = 0;
-    let mut flag = 0;
+    if has(flag, short) {
+        return 1;
+    }
+    if has(flag, same) { 0 } else { 2 }
+}
+
+/// The number of bytes of the deltas of so many points with this flag.
+fn run_size(points: u32, short: u8, same: u8, flag: u8) -> usize
+    ensures value { result ≡ points * delta_size short same flag }
+    ensures size { result ≤ 2 * points }
+{
+    points as usize * delta_size(short, same, flag)
+}
+
+/// What flags say of the bytes after them: how many the x deltas take, and how many the y deltas.
+#[derive(Drop)]
+pub struct Measure<'a> {
+    pub xs: usize,
+    pub ys: usize,
+    pub rest: &'a [u8],
+}
+
+/// The measure of the flags of `count` points, and the bytes after them.
+pub fn measured(count: u32, bytes: &[u8]) -> Option<Measure<'_>>
+    ensures { option_map (λ m. record { xs = m.xs; ys = m.ys; rest = m.rest.now }) result ≡ measured_of count bytes.now }
+{
+    let mut left = count;
+    let mut xs = 0;
+    let mut ys = 0;
     let mut rest = bytes;
-    'flags: for _k in 0..count {
-        let (next_again, next, after_it) = next_flag(again, flag, rest)?;
-        again = next_again;
-        flag = next;
+    // With the flags that are left, what was added up gives the measure of all.
+    'runs: while left > 0 {
+        let (again, flag, after_it) = next_flag(0, 0, rest)?;
+        let points = left.min(u32::from(again) + 1);
+        xs += run_size(
+            points,
+            X_SHORT_VECTOR,
+            X_IS_SAME_OR_POSITIVE_X_SHORT_VECTOR,
+            flag,
+        );
+        ys += run_size(
+            points,
+            Y_SHORT_VECTOR,
+            Y_IS_SAME_OR_POSITIVE_Y_SHORT_VECTOR,
+            flag,
+        );
+        left -= points;
         rest = after_it;
     }
-    Some(rest)
+    Some(Measure { xs, ys, rest })
 }
 
 /// The flags of points that are left; their bytes are complete.

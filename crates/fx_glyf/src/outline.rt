@@ -1,13 +1,11 @@
 //! Flags and deltas whose bytes are complete.
 
-ghost use Rattle.std.specs.Prelude.{◌≡◌};
+ghost use Rattle.std.specs.Prelude.{◌≡◌, length};
 ghost use Rattle.fx_glyf.specs.Points.{glyph_points_of};
 
-use crate::flags::{
-    Flags, X_IS_SAME_OR_POSITIVE_X_SHORT_VECTOR, X_SHORT_VECTOR,
-    Y_IS_SAME_OR_POSITIVE_Y_SHORT_VECTOR, Y_SHORT_VECTOR, skip_flags,
-};
-use crate::points::{Points, skip_deltas};
+use crate::flags::{Flags, measured};
+use crate::points::Points;
+use fx_fixed::after;
 use std::marker::Model;
 
 /// The points of a glyph, in their bytes.
@@ -41,31 +39,30 @@ impl<'a> Outline<'a> {
     pub fn read(count: u32, flags: &'a [u8]) -> Option<Outline<'a>>
         ensures { result ≡ glyph_points_of count flags.now }
     {
-        let Some(xs) = skip_flags(count, flags) else {
+        let Some(measure) = measured(count, flags) else {
             return None;
         };
-        let Some(ys) = skip_deltas(
-            X_SHORT_VECTOR,
-            X_IS_SAME_OR_POSITIVE_X_SHORT_VECTOR,
-            Flags::new(count, flags),
-            xs,
-        ) else {
+        let xs = measure.rest;
+        if xs.len() < measure.xs {
             return None;
-        };
-        let Some(_) = skip_deltas(
-            Y_SHORT_VECTOR,
-            Y_IS_SAME_OR_POSITIVE_Y_SHORT_VECTOR,
-            Flags::new(count, flags),
-            ys,
-        ) else {
+        }
+        let ys = after(xs, measure.xs);
+        if ys.len() < measure.ys {
             return None;
-        };
+        }
         Some(Outline {
             count,
             flags,
             xs,
             ys,
         })
+    }
+
+    /// The number of points.
+    pub fn len(&self) -> u32
+        ensures { result ≡ length self.now }
+    {
+        self.count
     }
 
     /// The points.

@@ -43,19 +43,6 @@ pub fn delta(short: u8, same: u8, flag: u8, bytes: &[u8]) -> Option<(u16, &[u8])
     Some((u16_in(bytes, 0), after(bytes, 2)))
 }
 
-/// The bytes after the deltas of points with these flags.
-pub fn skip_deltas<'a>(short: u8, same: u8, flags: Flags<'_>, bytes: &'a [u8]) -> Option<&'a [u8]>
-    ensures { option_map (λ r. r.now) result ≡ option_map (λ r. r.1) (deltas_from short same flags.entry bytes.now) }
-{
-    let mut flags = flags;
-    let mut rest = bytes;
-    'deltas: while let Some(flag) = flags.next() {
-        let (_, after_it) = delta(short, same, flag, rest)?;
-        rest = after_it;
-    }
-    Some(rest)
-}
-
 /// The points that are left.
 #[derive(Drop)]
 pub struct Points<'a> {

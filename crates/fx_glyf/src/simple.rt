@@ -75,6 +75,20 @@ impl<'a> Simple<'a> {
         })
     }
 
+    /// The number of contours.
+    pub fn contour_count(&self) -> u16
+        ensures { result ≡ length self.now.ends }
+    {
+        self.contours
+    }
+
+    /// The number of points of all contours.
+    pub fn point_count(&self) -> u32
+        ensures { result ≡ length self.now.points }
+    {
+        self.outline.len()
+    }
+
     /// The number of the last point of each contour.
     pub fn ends(&self) -> Ends<'a>
         ensures ends { result ≡ self.now.ends }

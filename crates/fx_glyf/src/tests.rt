@@ -40,6 +40,7 @@ fn three_points_at_zero(rt: HostRuntime) -> Result<(), Fail> {
     };
     let mut count = 0u8;
     if let Glyph::Simple(simple) = read(bytes, 7)? {
+        assert_eq!(rt; (simple.contour_count(), simple.point_count()), (1, 3));
         for point in simple.points() {
             assert_eq!(rt; point, origin);
             count = count.wrapping_add(1);

@@ -1,11 +1,12 @@
 //! The points of a simple glyph at a size.
 
 ghost use Rattle.std.specs.Prelude.{◌≡◌, ◌<◌, IfOk, length, map};
+ghost use Rattle.std.specs.List.{All};
 ghost use Rattle.fx_scale.specs.Zones.{scaled_point, zone_of_simple};
 
 use crate::scale::Scale;
 use fx_fixed::Place;
-use fx_glyf::{Ends, Points, Simple};
+use fx_glyf::Simple;
 use fx_zone::Zone;
 use std::alloc::{AllocError, Global};
 
@@ -14,22 +15,26 @@ use std::alloc::{AllocError, Global};
 pub fn zone_of(alloc: Global, simple: &Simple<'_>, scale: &Scale) -> Result<Zone, AllocError>
     ensures { IfOk result (λ z. z ≡ zone_of_simple scale.now simple.now) }
 {
-    let points = scaled_points(alloc, simple.points(), scale)?;
-    let ends = contour_ends(alloc, simple.ends())?;
+    let points = scaled_points(alloc, simple, scale)?;
+    let ends = contour_ends(alloc, simple)?;
     Ok(Zone::of(alloc, points, ends))
 }
 
-/// The points scaled, in their order.
+/// The number of phantom points, which may be appended to a glyph's points.
+const PHANTOM_POINTS: usize = 4;
+
+/// The points scaled, in their order, with room for the phantom points.
 fn scaled_points(
     alloc: Global,
-    points: Points<'_>,
+    simple: &Simple<'_>,
     scale: &Scale,
 ) -> Result<Vec<fx_zone::Point>, AllocError>
-    ensures { IfOk result (λ v. v.items ≡ map (scaled_point scale.now) points.entry) }
+    ensures { IfOk result (λ v. v.items ≡ map (scaled_point scale.now) simple.now.points) }
 {
-    let mut scaled = Vec::new(alloc);
-    'points: for point in points {
-        scaled.push(scaled_point(scale, point))?;
+    let mut scaled = Vec::with_capacity(alloc, simple.point_count() as usize + PHANTOM_POINTS)?;
+    // The points so far are scaled, and there is room for those that are left.
+    'points: for point in simple.points() {
+        scaled.push_reserved(scaled_point(scale, point));
     }
     Ok(scaled)
 }
@@ -44,12 +49,15 @@ fn scaled_point(scale: &Scale, point: fx_glyf::Point) -> fx_zone::Point
 }
 
 /// The number of each contour's last point.
-fn contour_ends(alloc: Global, ends: Ends<'_>) -> Result<Vec<usize>, AllocError>
-    ensures { IfOk result (λ v. v.items ≡ ends.entry) }
+fn contour_ends(alloc: Global, simple: &Simple<'_>) -> Result<Vec<usize>, AllocError>
+    ensures value { IfOk result (λ v. v.items ≡ simple.now.ends) }
+    ensures below { IfOk result (λ v. All (λ e. e < length simple.now.points) v.items) }
 {
-    let mut numbers = Vec::new(alloc);
-    'ends: for end in ends {
-        numbers.push(usize::from(end))?;
+    let mut numbers = Vec::with_capacity(alloc, usize::from(simple.contour_count()))?;
+    let ends = simple.ends();
+    // There is room for the ends that are left.
+    'contours: for end in ends {
+        numbers.push_reserved(usize::from(end));
     }
     Ok(numbers)
 }

@@ -1,8 +1,8 @@
-//! Changes of the points from a number to before another.
+//! Changes of the points from a number to before another, and of all points.
 
-ghost use Rattle.std.specs.Prelude.{◌≡◌, ◌≤◌, length};
+ghost use Rattle.std.specs.Prelude.{◌≡◌, ◌≤◌, length, map};
 ghost use Rattle.fx_zone.specs.Figures.{each_changed, in_range, in_range_without, is_number};
-ghost use Rattle.fx_zone.specs.Points.{shifted, curved};
+ghost use Rattle.fx_zone.specs.Points.{rested, shifted, curved};
 
 use crate::point::Point;
 use fx_fixed::Place;
@@ -46,5 +46,15 @@ pub fn curve_range(points: &mut [Point], first: usize, past: usize, on: bool)
     // The points before `number` are done.
     'range: for number in first..past {
         points[number] = points[number].curved(on);
+    }
+}
+
+/// Shifts all points from their current places, where they rest untouched.
+pub fn rest_points(points: &mut [Point], by: &Place)
+    ensures { points.new ≡ map (rested by.now) points.old }
+{
+    // The points before `point` are done.
+    'points: for point in points.iter_mut() {
+        *point = point.rested(*by);
     }
 }

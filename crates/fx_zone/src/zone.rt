@@ -1,14 +1,14 @@
 //! Zones.
 
-ghost use Rattle.std.specs.Prelude.{◌≡◌, ◌+◌, ◌<◌, ◌≤◌, ◌^◌, [], length, map, take, slice_get, IfSome, slice_set, OnOk, OnErr, IfOk, true, false};
+ghost use Rattle.std.specs.Prelude.{◌≡◌, ◌+◌, ◌<◌, ◌≤◌, ◌^◌, ◌++◌, [], length, map, take, slice_get, IfSome, slice_set, OnOk, OnErr, true, false};
 ghost use Rattle.std.specs.List.{All};
-ghost use Rattle.fx_zone.specs.Figures.{Figure, joined, empty_figure, changed, range_shifted, range_curved, contour_of, HasShape};
+ghost use Rattle.fx_zone.specs.Figures.{Figure, joined, empty_figure, changed, range_shifted, range_curved, figure_rested, contour_of, HasShape};
 ghost use Rattle.fx_zone.specs.Points.{moved, marked, shifted as shifted_by, put, laid, settled, flipped};
 ghost use Rattle.fx_zone.specs.Interpolation.{figure_interpolated};
 
 use crate::interpolation::interpolate_contours;
 use crate::point::Point;
-use crate::range::{curve_range, shift_range};
+use crate::range::{curve_range, rest_points, shift_range};
 use fx_fixed::{Axis, Place};
 use std::alloc::{AllocError, Global};
 use std::marker::Model;
@@ -231,6 +231,14 @@ impl Zone {
         }
     }
 
+    /// Shifts all points from their current places, and lets them rest there, untouched.
+    pub fn rest_shifted(&mut self, by: Place)
+        ensures value { self.new ≡ figure_rested by self.old }
+        ensures shape { HasShape self.old self.new }
+    {
+        rest_points(&mut self.points, &by);
+    }
+
     /// Keeps the first points, which hold all contours.
     pub fn truncate(&mut self, count: usize)
         requires { All (λ e. e < count) self.old.ends }
@@ -255,35 +263,29 @@ impl Zone {
         ensures done { OnOk result (self.new ≡ joined self.old (record { points = points.now; ends = ends.now })) }
         ensures kept { OnErr result (self.new ≡ self.old) }
     {
+        let first = self.points.len();
         self.points.reserve(points.len())?;
-        let ends = shifted(self.alloc, ends, self.points.len(), points.len())?;
-        self.ends.extend_from_slice(&ends)?;
+        append_shifted(&mut self.ends, ends, first, points.len())?;
         self.points.extend_from_slice(points)
     }
 }
 
-/// Numbers counted from `first` on.
-fn shifted(
-    alloc: Global,
-    ends: &[usize],
+/// Appends numbers, counted from `first` on; if memory is refused, nothing changes.
+fn append_shifted(
+    numbers: &mut Vec<usize>,
+    more: &[usize],
     first: usize,
     count: usize,
-) -> Result<Vec<usize>, AllocError>
-    requires below { All (λ e. e < count) ends.now }
+) -> Result<(), AllocError>
+    requires below { All (λ e. e < count) more.now }
     requires room { first + count < 2 ^ 64 }
-    ensures { IfOk result (λ v. v.items ≡ map (λ e. first + e) ends.now) }
+    ensures done { OnOk result (numbers.new.items ≡ numbers.old.items ++ map (λ e. first + e) more.now) }
+    ensures kept { OnErr result (numbers.new.items ≡ numbers.old.items) }
 {
-    let mut moved = Vec::from_slice(alloc, ends)?;
-    shift(&mut moved, first, count);
-    Ok(moved)
-}
-
-fn shift(ends: &mut [usize], first: usize, count: usize)
-    requires below { All (λ e. e < count) ends.old }
-    requires room { first + count < 2 ^ 64 }
-    ensures { ends.new ≡ map (λ e. first + e) ends.old }
-{
-    'ends: for end in ends.iter_mut() {
-        *end = first + *end;
+    numbers.reserve(more.len())?;
+    // The numbers before `number` are appended, and there is room for those that are left.
+    'numbers: for number in more {
+        numbers.push_reserved(first + *number);
     }
+    Ok(())
 }
