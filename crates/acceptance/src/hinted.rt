@@ -180,3 +180,52 @@ fn a_halt_in_a_function(rt: HostRuntime) -> Result<(), Fail> {
         "mkstrike: 38 DivideByZero during glyph 3 in fpgm at 6 opcode 62\n",
     )
 }
+
+/// The arc with a program that calls function 0, which does nothing, seven times 32,767 times and once as often as `last` says.
+fn of_calls(alloc: Global, last: &str) -> Result<String, Fail> {
+    let mut text = String::from_str(alloc, "0001 0000 0000 0080 0080 0002 0030")?;
+    for _ in 0..7 {
+        text.push_str(" B8 7F FF B0 00 2A")?;
+    }
+    text.push_str(" B8 ")?;
+    text.push_str(last)?;
+    text.push_str(" B0 00 2A 31 36 17 40 40 80 80 00")?;
+    Ok(text)
+}
+
+/// Three components of glyph 3, at the offset 0.
+const THREE: &str = "ffff 0000 0000 0080 0080 0022 0003 00 00 0022 0003 00 00 0002 0003 00 00";
+
+/// A font program that defines function 0, which does nothing.
+const EMPTY_FUNCTION: Tables = Tables {
+    fpgm: "B0 00 2C 2D",
+    ..NO_TABLES
+};
+
+/// 7 * 32,770 and 20,610 instructions are just 250,000, for each of three components; `fpgm` executes two.
+#[test]
+fn programs_at_their_limit(rt: HostRuntime) -> Result<(), Fail> {
+    let glyph = of_calls(rt.alloc(), "50 7F")?;
+    let base = font(rt.alloc(), THREE, glyph.as_str())?;
+    let font = with_tables(rt.alloc(), base.as_slice(), &EMPTY_FUNCTION)?;
+    let (out, result) = strike(rt.alloc(), font.as_slice(), &[0x41])?;
+    assert_eq!(rt; result, counts(1, 750_002));
+    assert!(rt;
+        out.bytes()
+            .ends_with(b"BBX 2 1 0 0\nBITMAP\nC0\nENDCHAR\nENDFONT\n")
+    );
+    Ok(())
+}
+
+/// One call more, and the last instruction of the function is past the limit.
+#[test]
+fn a_program_past_its_limit(rt: HostRuntime) -> Result<(), Fail> {
+    let glyph = of_calls(rt.alloc(), "50 80")?;
+    halts(
+        &rt,
+        rt.alloc(),
+        glyph.as_str(),
+        &EMPTY_FUNCTION,
+        "mkstrike: 37 StepLimit during glyph 3 in fpgm at 3 opcode 2D\n",
+    )
+}

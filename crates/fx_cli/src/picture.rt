@@ -27,7 +27,8 @@ pub fn put_shown<O: Sink>(glyph: &Option<BitGlyph>, out: &mut O) -> Result<(), W
 #[tactic(auto, unfolding(crate::specs::Pictures::picture_of))]
 fn put_picture<O: Sink>(glyph: &BitGlyph, out: &mut O) -> Result<(), WriteFailed>
     requires { O.fault_count out.old < 2 ^ 63 }
-    ensures { Wrote (O.held out.old) (O.held out.new) (O.fault_count out.old) (O.fault_count out.new) (picture_of glyph.now) result }
+    ensures { Wrote (O.held out.old) (O.held out.new) (O.fault_count out.old) (O.fault_count out.new)
+        (picture_of glyph.now) result }
 {
     if glyph.bounds().is_empty() {
         put_all(out, &[b"empty\n"])

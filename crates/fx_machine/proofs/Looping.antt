@@ -21,8 +21,8 @@ use Rattle.fx_machine.specs.Table.{row_at, row_in, settled}
 use Rattle.fx_machine.specs.Configs.{answered, halt_at}
 use Rattle.fx_machine.proofs.Steps.{go_moves, go_stops, go_finishes, go_limit_moves, go_limit_stops, Takes}
 
-module _ (texts : Program → List ℕ) (g : ℕ) (start : Program) (limit : ℕ) (first now : State) (n : ℕ) (items : List Frame) (w : Program)
-    (p : ℕ)
+module _ (texts : Program → List ℕ) (g : ℕ) (start : Program) (limit : ℕ) (first now : State) (n : ℕ) (items : List Frame)
+    (w : Program) (p : ℕ)
     (h : answer_of (row_at texts) limit start first ≡ answer_from (row_at texts) (limit - n) n (config (reverse items) w p now))
   where
     abbrev Due : Result (ℕ × State) Halt

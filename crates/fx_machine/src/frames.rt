@@ -39,7 +39,8 @@ impl Cursor {
     /// Begins another turn of a function, or continues after the last.
     fn leave(&mut self, calls: &mut Calls, frame: Frame)
         requires { array_vec_len calls.old.frames < 32 }
-        ensures { (s : the_state.State) → config_of self.new calls.new s ≡ turned frame.left frame.function frame.next (calls_of calls.old) frame.program s }
+        ensures { (s : the_state.State) → config_of self.new calls.new s
+            ≡ turned frame.left frame.function frame.next (calls_of calls.old) frame.program s }
     {
         if frame.left == 0 {
             self.program = frame.program;
@@ -57,7 +58,8 @@ impl Cursor {
     /// Goes where an action leads, and says whether the program may have changed.
     pub fn follow(&mut self, calls: &mut Calls, action: Action) -> Result<bool, Cause>
         ensures moved { MatchResult result
-            (λ _. (s : the_state.State) → moved_by (effect_of action s) (calls_of calls.old) self.old.program ≡ Moves (config_of self.new calls.new s))
+            (λ _. (s : the_state.State) → moved_by (effect_of action s) (calls_of calls.old) self.old.program
+                ≡ Moves (config_of self.new calls.new s))
             (λ cause. (s : the_state.State) → moved_by (effect_of action s) (calls_of calls.old) self.old.program ≡ Stops cause) }
         ensures stays { IfOk result (λ left. left ≡ false → self.new.program ≡ self.old.program) }
     {

@@ -41,10 +41,11 @@ fn run_from(
 ) -> Result<Ran, Halt>
     requires fits { Fits prepared.now state.old }
     requires room { final_stack.old.room ≡ state.old.store.room }
-    ensures value { with_zone result zone.new
-        ≡ ran_of (glyph_end (texts programs.now) programs.now.number prepared.now state.old.scale state.old.store.room limit zone.old) }
-    ensures stack { final_stack.new.numbers
-        ≡ stack_after (glyph_end (texts programs.now) programs.now.number prepared.now state.old.scale state.old.store.room limit zone.old) final_stack.old.numbers }
+    ensures value { with_zone result zone.new ≡ ran_of
+        (glyph_end (texts programs.now) programs.now.number prepared.now state.old.scale state.old.store.room limit zone.old) }
+    ensures stack { final_stack.new.numbers ≡ stack_after
+        (glyph_end (texts programs.now) programs.now.number prepared.now state.old.scale state.old.store.room limit zone.old)
+        final_stack.old.numbers }
     ensures shape { HasShape zone.old zone.new }
     ensures fits { Fits prepared.now state.new }
     ensures room { state.new.store.room ≡ state.old.store.room }

@@ -36,7 +36,8 @@ pub fn run(
     start: Program,
     limit: u32,
 ) -> Result<u32, Halt>
-    ensures value { sees result state.new ≡ answered (texts programs.now) programs.now.number start (answer_of (row_at (texts programs.now)) limit start state.old) }
+    ensures value { sees result state.new
+        ≡ answered (texts programs.now) programs.now.number start (answer_of (row_at (texts programs.now)) limit start state.old) }
     ensures few { IfOk result (λ steps. steps ≤ limit) }
     ensures shapes { HasShapes state.old.zones state.new.zones }
     ensures sizes { HasSizes state.old state.new }

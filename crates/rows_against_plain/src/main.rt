@@ -3,8 +3,8 @@
 //!     rows_against_plain CONTOURS [SEED] < FONT
 //!
 //! Of the font on standard input, if it is not empty, each glyph is scanned at 12, 16, 33 and 128 pixels an em, without
-//! hinting. For each kind the program writes how many outlines it compared, how many pixels they have and how many outlines
-//! differ.
+//! hinting. Each outline is scanned once more with the halves of each arc that has any in its place. For each kind the program
+//! writes how many outlines it compared, how many pixels they have, how many outlines differ, and how many differ with halves.
 #![tactic(auto)]
 
 mod random;
@@ -16,10 +16,13 @@ use fx_fixed::Ppem;
 use fx_hint::outline;
 use fx_rows::Rows;
 use fx_sfnt::Font;
-use fx_winding::{Bitmap, Frame, Pieces, Plain, Scan, ScanFault, Tally};
+use fx_winding::{Bitmap, Frame, Piece, Pieces, Plain, Scan, Tally, halves};
 use std::alloc::Global;
 use std::env;
 use std::io::Read;
+
+/// The most pieces that a list holds.
+pub const MOST_PIECES: usize = 65_536;
 
 /// What was compared.
 #[derive(Clone, Copy)]
@@ -27,6 +30,14 @@ struct Counts {
     outlines: u64,
     pixels: u64,
     differing: u64,
+    differing_with_halves: u64,
+}
+
+/// What the scan by rows sets the same: the bits of the scan by pixels, and its own with halves in place of arcs.
+#[derive(Clone, Copy)]
+struct Agreement {
+    with_pixels: bool,
+    with_halves: bool,
 }
 
 impl Counts {
@@ -35,15 +46,19 @@ impl Counts {
         outlines: 0,
         pixels: 0,
         differing: 0,
+        differing_with_halves: 0,
     };
 
     /// With one outline more.
-    fn with(self, frame: Frame, same: bool) -> Counts {
+    fn with(self, frame: Frame, same: Agreement) -> Counts {
         let pixels = u64::from(frame.width) * u64::from(frame.height);
         Counts {
             outlines: self.outlines.saturating_add(1),
             pixels: self.pixels.saturating_add(pixels),
-            differing: self.differing.saturating_add(u64::from(!same)),
+            differing: self.differing.saturating_add(u64::from(!same.with_pixels)),
+            differing_with_halves: self
+                .differing_with_halves
+                .saturating_add(u64::from(!same.with_halves)),
         }
     }
 }
@@ -62,12 +77,39 @@ fn are_same(one: &Bitmap, other: &Bitmap, frame: Frame) -> bool {
     true
 }
 
-/// Whether both scans of an outline set the same bits.
-fn scans_agree(alloc: Global, pieces: &Pieces, frame: Frame) -> Result<bool, ScanFault> {
+/// Adds a piece, if the list has room.
+fn add(pieces: &mut Pieces, piece: Piece) -> Result<()> {
+    if pieces.len() >= MOST_PIECES {
+        bail!("more than {MOST_PIECES} pieces");
+    }
+    Ok(pieces.push(piece)?)
+}
+
+/// The outline with the halves of each arc that has any in its place.
+fn halved(alloc: Global, pieces: &Pieces) -> Result<Pieces> {
+    let mut halved = Pieces::new(alloc);
+    'pieces: for piece in pieces.as_slice() {
+        match halves(piece) {
+            None => add(&mut halved, *piece)?,
+            Some((first, second)) => {
+                add(&mut halved, first)?;
+                add(&mut halved, second)?;
+            }
+        }
+    }
+    Ok(halved)
+}
+
+/// What the scan by rows of an outline sets the same.
+fn compare(alloc: Global, pieces: &Pieces, frame: Frame) -> Result<Agreement> {
     let mut tally = Tally::new();
     let by_rows = Rows.scan(alloc, pieces, frame, &mut tally)?;
     let by_pixels = Plain.scan(alloc, pieces, frame, &mut tally)?;
-    Ok(are_same(&by_rows, &by_pixels, frame))
+    let with_halves = Rows.scan(alloc, &halved(alloc, pieces)?, frame, &mut tally)?;
+    Ok(Agreement {
+        with_pixels: are_same(&by_rows, &by_pixels, frame),
+        with_halves: are_same(&by_rows, &with_halves, frame),
+    })
 }
 
 /// Compares random outlines, each of one or two contours, until there are this many contours.
@@ -77,7 +119,7 @@ fn random_outlines(alloc: Global, contours: u32, seed: u64) -> Result<Counts> {
     'outlines: for k in 0..contours - contours / 3 {
         let outline = random.outline(alloc, 1 + k % 2)?;
         let frame = random.frame();
-        counts = counts.with(frame, scans_agree(alloc, &outline, frame)?);
+        counts = counts.with(frame, compare(alloc, &outline, frame)?);
     }
     Ok(counts)
 }
@@ -89,7 +131,7 @@ fn glyphs(alloc: Global, font: &Font<'_>, ppem: Ppem) -> Result<Counts> {
         let outline = outline(alloc, font, ppem, None, glyph)?;
         let pieces = pieces(alloc, &outline)?;
         if let Some(frame) = frame(&pieces)? {
-            counts = counts.with(frame, scans_agree(alloc, &pieces, frame)?);
+            counts = counts.with(frame, compare(alloc, &pieces, frame)?);
         }
     }
     Ok(counts)
@@ -101,8 +143,11 @@ fn report(rt: &HostRuntime, what: &str, counts: Counts) -> Result<()> {
         outlines,
         pixels,
         differing,
+        differing_with_halves,
     } = counts;
-    println!(rt; "{what}: {outlines} outlines, {pixels} pixels, {differing} differ")?;
+    println!(rt;
+        "{what}: {outlines} outlines, {pixels} pixels, {differing} differ, {differing_with_halves} with halves"
+    )?;
     Ok(())
 }
 

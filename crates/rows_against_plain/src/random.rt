@@ -2,6 +2,7 @@
 
 ghost use Rattle.std.specs.Prelude.{◌<◌};
 
+use crate::MOST_PIECES;
 use fx_winding::{Frame, Piece, Pieces, Point};
 use std::alloc::{AllocError, Global};
 
@@ -71,7 +72,7 @@ impl Random {
             let is_arc = self.below(2) == 0;
             let drawn = self.after(if is_arc { control } else { before }, here);
             let end = if k + 1 == count { start } else { drawn };
-            if pieces.len() < 65_536 {
+            if pieces.len() < MOST_PIECES {
                 pieces.push(Piece {
                     a: point(here),
                     b: if is_arc { Some(point(control)) } else { None },

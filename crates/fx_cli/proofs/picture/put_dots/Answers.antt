@@ -12,5 +12,6 @@ pixels-preserved c =
       long = length-set c.pixels.buffer c.pixels.j c.dot.result ∙ c.pixels.invariant.long;
       dots = dots_more c.args.glyph.now c.args.i c.pixels.j c.pixels.buffer c.dot.result c.bounds-width.ensures.formed c.requires
           (omega (arith, wide))
-          (omega (arith, wide, c.bounds-width.ensures.formed.wide, c.pixels.invariant.long)) (c.dot.ensures ∙ ap dot_of c.is_set.ensures) c.pixels.invariant.dots;
+          (omega (arith, wide, c.bounds-width.ensures.formed.wide, c.pixels.invariant.long))
+          (c.dot.ensures ∙ ap dot_of c.is_set.ensures) c.pixels.invariant.dots;
     }
