@@ -1,41 +1,85 @@
 -- Places that a transformation leaves where they are.
 -- For components without a transformation.
-use Rattle.std.proofs.Common.{◌≡◌, ℕ, ◌^◌, ℤ, pos, ◌+ℤ◌, ◌-ℤ◌, ◌*ℤ◌, unsigned_abs, FitsSigned, arith, ◌∙◌, ap, sym, to_z, of_z, to_z-of_z}
-use Rattle.std.proofs.lemmas.Int.{ints, int_wrap_fits}
+use Rattle.std.proofs.Common.{◌≡◌, ℕ, ◌^◌, ℤ, pos, ◌+ℤ◌, ◌-ℤ◌, ◌*ℤ◌, unsigned_abs, FitsSigned, arith, ◌∙◌, ap, sym, refl, to_z, of_z}
+use Rattle.std.proofs.Common.{to_z-of_z, List, [], ◌∷◌, map}
+use Rattle.std.proofs.lemmas.Int.{ints, int_wrap_fits, int_wrap-add_left}
 use Rattle.std.specs.Int.{w16, w32}
 use Rattle.fx_fixed.specs.declared.places.Place.{Place}
 use Rattle.fx_glyf.specs.declared.part.Part.{Part}
-use Rattle.fx_fixed.specs.Numbers.{IsNear, near_of, wrapped_of}
+use Rattle.fx_fixed.specs.Numbers.{IsNear, near_of, wrapped_of, sum_of}
 use Rattle.fx_fixed.proofs.Rounding.{same_near}
-use Rattle.fx_hint.specs.Parts.{weighted_of, turned}
+use Rattle.fx_zone.specs.declared.point.Point.{Point}
+use Rattle.fx_zone.specs.Points.{resting, rested}
+use Rattle.fx_zone.specs.Figures.{Figure, figure_rested}
+use Rattle.fx_hint.specs.Parts.{weighted_of, turned, laid, laid_figure}
+use Rattle.fx_hint.specs.inner.Plain.{IsPlain}
 
 near_itself : (n x : ℤ) → n ≡ x *ℤ pos (2 ^ 14) → IsNear n (pos (2 ^ 14)) x
 near_itself n x e =
     let none : unsigned_abs (n -ℤ x *ℤ pos (2 ^ 14)) ≡ 0 = omega (arith, ints) in
     record { nearest = omega (arith, none); half_away = λ h. absurd (omega (arith, none, h)) }
 
-wrapped_itself : (n x : ℤ) → FitsSigned w32 x → n ≡ x *ℤ pos (2 ^ 14) → wrapped_of (near_of n (pos (2 ^ 14))) ≡ x
+wrapped_near : (n x : ℤ) → n ≡ x *ℤ pos (2 ^ 14) → wrapped_of (near_of n (pos (2 ^ 14))) ≡ wrapped_of x
+wrapped_near n x e =
+    ap wrapped_of (sym (same_near n (pos (2 ^ 14)) x (λ h. absurd (omega (arith, ints, h))) (near_itself n x e)))
+
+first_wrapped : (x y : ℤ) → weighted_of (pos (2 ^ 14)) x (pos 0) y ≡ wrapped_of x
+first_wrapped x y = wrapped_near (pos (2 ^ 14) *ℤ x +ℤ pos 0 *ℤ y) x (omega (arith, ints))
+
+second_wrapped : (x y : ℤ) → weighted_of (pos 0) x (pos (2 ^ 14)) y ≡ wrapped_of y
+second_wrapped x y = wrapped_near (pos 0 *ℤ x +ℤ pos (2 ^ 14) *ℤ y) y (omega (arith, ints))
+
+wrapped_itself : (x : ℤ) → FitsSigned w32 x → wrapped_of x ≡ x
 unfolding wrapped_of
-wrapped_itself n x f e =
-    ap wrapped_of (sym (same_near n (pos (2 ^ 14)) x (λ h. absurd (omega (arith, ints, h))) (near_itself n x e))) ∙ int_wrap_fits w32 x f
-
-first_unchanged : (x y : ℤ) → FitsSigned w32 x → weighted_of (pos 16384) x (pos 0) y ≡ x
-first_unchanged x y f = wrapped_itself (pos 16384 *ℤ x +ℤ pos 0 *ℤ y) x f (omega (arith, ints))
-
-second_unchanged : (x y : ℤ) → FitsSigned w32 y → weighted_of (pos 0) x (pos 16384) y ≡ y
-second_unchanged x y f = wrapped_itself (pos 0 *ℤ x +ℤ pos 16384 *ℤ y) y f (omega (arith, ints))
+wrapped_itself x f = int_wrap_fits w32 x f
 
 from_word : (a : ℤ) (n : ℕ) → FitsSigned w16 a → of_z w16 a ≡ n → a ≡ to_z w16 n
 from_word a n f e = simp to_z-of_z at (ap (to_z w16) e)
 
 -- no scale but 1
-pub turned_itself : (part : Part) (place : Place) → FitsSigned w16 part.a → FitsSigned w16 part.b → FitsSigned w16 part.c
-    → FitsSigned w16 part.d → FitsSigned w32 place.x → FitsSigned w32 place.y → of_z w16 part.a ≡ 16384 → of_z w16 part.b ≡ 0
-    → of_z w16 part.c ≡ 0 → of_z w16 part.d ≡ 16384 → place ≡ turned part place
-turned_itself part place fa fb fc fd fx fy ea eb ec ed =
-    let a : part.a ≡ pos 16384 = from_word part.a 16384 fa ea in
-    let b : part.b ≡ pos 0 = from_word part.b 0 fb eb in
-    let c : part.c ≡ pos 0 = from_word part.c 0 fc ec in
-    let d : part.d ≡ pos 16384 = from_word part.d 16384 fd ed in
-    rw (a, b, c, d) (ap (λ v. record { x = v; y = place.y }) (sym (first_unchanged place.x place.y fx))
-    ∙ ap (λ v. record { x = weighted_of (pos 16384) place.x (pos 0) place.y; y = v }) (sym (second_unchanged place.x place.y fy)))
+pub plain_part : (part : Part) → FitsSigned w16 part.a → FitsSigned w16 part.b → FitsSigned w16 part.c → FitsSigned w16 part.d
+    → of_z w16 part.a ≡ 16384 → of_z w16 part.b ≡ 0 → of_z w16 part.c ≡ 0 → of_z w16 part.d ≡ 16384 → IsPlain part
+plain_part part fa fb fc fd ea eb ec ed =
+    record {
+      a_is = from_word part.a 16384 fa ea;
+      b_is = from_word part.b 0 fb eb;
+      c_is = from_word part.c 0 fc ec;
+      d_is = from_word part.d 16384 fd ed;
+    }
+
+turned_plain : (part : Part) (p : Place) → IsPlain part → turned part p ≡ record { x = wrapped_of p.x; y = wrapped_of p.y }
+turned_plain part p h =
+    rw (h.a_is, h.b_is, h.c_is, h.d_is) (ap (λ v. record { x = v; y = weighted_of (pos 0) p.x (pos (2 ^ 14)) p.y })
+    (first_wrapped p.x p.y)
+    ∙ ap (λ v. record { x = wrapped_of p.x; y = v }) (second_wrapped p.x p.y))
+
+pub turned_itself : (part : Part) (place : Place) → IsPlain part → FitsSigned w32 place.x → FitsSigned w32 place.y
+    → place ≡ turned part place
+turned_itself part place h fx fy =
+    sym (turned_plain part place h
+    ∙ ap (λ v. record { x = v; y = wrapped_of place.y }) (wrapped_itself place.x fx)
+    ∙ ap (λ v. record { x = place.x; y = v }) (wrapped_itself place.y fy))
+
+-- a sum is wrapped once, whether or not its first part is
+sum_wrapped : (x by : ℤ) → sum_of (wrapped_of x) by ≡ sum_of x by
+unfolding wrapped_of
+sum_wrapped x by = int_wrap-add_left w32 x by
+
+laid_plain : (part : Part) (offset : Place) (p : Point) → IsPlain part → laid part offset p ≡ rested offset p
+laid_plain part offset p h =
+    ap (λ (q : Place). resting (record { x = sum_of q.x offset.x; y = sum_of q.y offset.y }) p.on) (turned_plain part p.cur h)
+    ∙ ap (λ v. resting (record { x = v; y = sum_of (wrapped_of p.cur.y) offset.y }) p.on) (sum_wrapped p.cur.x offset.x)
+    ∙ ap (λ v. resting (record { x = sum_of p.cur.x offset.x; y = v }) p.on) (sum_wrapped p.cur.y offset.y)
+
+points_plain : (part : Part) (offset : Place) (ps : List Point) → IsPlain part
+    → map (laid part offset) ps ≡ map (rested offset) ps
+points_plain part offset [] h = refl
+points_plain part offset (p ∷ ps) h =
+    ap (λ (q : Point). q ∷ map (laid part offset) ps) (laid_plain part offset p h)
+    ∙ ap (λ (qs : List Point). rested offset p ∷ qs) (points_plain part offset ps h)
+
+-- all points of a component without a transformation are laid by one shift
+pub figure_plain : (part : Part) (offset : Place) (f : Figure) → IsPlain part
+    → figure_rested offset f ≡ laid_figure part offset f
+figure_plain part offset f h =
+    ap (λ (ps : List Point). record { points = ps; ends = f.ends }) (sym (points_plain part offset f.points h))

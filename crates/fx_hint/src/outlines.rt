@@ -96,8 +96,9 @@ fn moved_points(
     ensures { IfOk result (λ v. v.items ≡ map (moved_point origin) points.now) }
 {
     let mut moved = Vec::with_capacity(alloc, points.len())?;
+    // The points before this one are moved, and there is room for the others.
     'points: for point in points {
-        moved.push(moved_point(*point, origin))?;
+        moved.push_reserved(moved_point(*point, origin));
     }
     Ok(moved)
 }
@@ -119,8 +120,9 @@ fn short_ends(alloc: Global, ends: &[usize]) -> Result<Vec<u16>, AllocError>
     ensures { IfOk result (λ v. v.items ≡ ends.now) }
 {
     let mut short = Vec::with_capacity(alloc, ends.len())?;
+    // There is room for the numbers that are left.
     'ends: for end in ends {
-        short.push(*end as u16)?;
+        short.push_reserved(*end as u16);
     }
     Ok(short)
 }

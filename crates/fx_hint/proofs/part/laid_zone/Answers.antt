@@ -1,21 +1,6 @@
-use Rattle.std.proofs.Common.{ap, arith, ◌∙◌, ◌<◌, length, List, get_or}
-use Rattle.fx_zone.specs.declared.point.Point.{Point}
-use Rattle.fx_zone.specs.Figures.{Figure}
-use Rattle.fx_zone.proofs.Laying.{more_written}
-use Rattle.fx_hint.specs.Parts.{laid}
+use Rattle.std.proofs.Common.{◌∙◌}
+use Rattle.fx_hint.proofs.Turning.{figure_plain}
 use Rattle.fx_hint.proofs.part.laid_zone.Goals as goal
 
-pub points-preserved : goal.points-preserved
-points-preserved c =
-    let n = c.len-count.ensures in
-    let inside : c.points.number < length c.args.zone.points = omega arith in
-    let read = c.index-points-number.is
-    ∙ ap (λ (ps : List Point). get_or ps c.points.number c.index-points-number.result) c.points-in-points.ensures in
-    record {
-      points = ap (λ (f : Figure). f.points) c.set.ensures.value
-          ∙ more_written (laid c.args.part c.args.offset.now) c.args.zone.points c.points.zone.points c.points.number
-          c.laid-point.result c.index-points-number.result inside c.points.invariant.points
-          (c.laid-point.ensures ∙ ap (laid c.args.part c.args.offset.now) read);
-      ends = ap (λ (f : Figure). f.ends) c.set.ensures.value ∙ c.points.invariant.ends;
-      count = c.set.ensures.shape.points ∙ c.points.invariant.count;
-    }
+pub returns-then-is_plain : goal.returns-then-is_plain
+returns-then-is_plain c = c.rest_shifted.ensures.value ∙ figure_plain _ _ _ (c.is_plain.ensures c.if-is_plain.true)
