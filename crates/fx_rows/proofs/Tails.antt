@@ -1,0 +1,75 @@
+-- The bits of a word from a column on.
+-- Serves the words whose bits change at a column.
+use Rattle.std.proofs.Common.{◌≡◌, ◌⊎◌, inl, inr, ◌∙◌, ap, ℕ, suc, ◌+◌, ◌-◌, ◌/◌, ◌*◌, ◌<◌, ◌≤◌, ◌^◌, min, arith, w32, bit_and, bit_or}
+use Rattle.std.specs.Int.{bit_at}
+use Rattle.std.specs.Int.Count.{count_leading_zeros}
+use Rattle.std.proofs.lemmas.Nat.{leading_top, and_le_l}
+use Rattle.std.proofs.Math.Nat.{pow-succ', div-le_self}
+use Rattle.std.proofs.lemmas.Nat.Bits.{bit_at_or, bit_at_and, bit_at_not, bit_at-lt, bit_at_above, bit_at_ones, bit_at_ones_above}
+use Rattle.std.proofs.lemmas.Nat.Bits.{bit_at_cat_high, ones_shr}
+
+-- a number from 2 ^ j up to below 2 ^ (j + 1) has the bit j
+top_bit : (a j : ℕ) → 2 ^ j ≤ a → a < 2 ^ suc j → bit_at a j ≡ 1
+top_bit a j h k =
+    let e : a ≡ 1 * 2 ^ j + (a - 2 ^ j) = omega arith in
+    let twice : 2 ^ suc j ≡ 2 * 2 ^ j = pow-succ' 2 j in
+    let none : j - j ≡ 0 = omega arith in
+    ap (λ n. bit_at n j) e
+    ∙ bit_at_cat_high 1 j (a - 2 ^ j) j (omega (arith, twice, h, k)) (omega arith)
+    ∙ ap (bit_at 1) none
+
+pub first_bit : (a : ℕ) → 0 < a → a < 4294967296 → bit_at a (31 - count_leading_zeros 32 a) ≡ 1
+first_bit a h k =
+    let t = leading_top 32 a h k in
+    let e : 31 - count_leading_zeros 32 a ≡ t.0 = omega (arith, t.1) in
+    ap (bit_at a) e ∙ top_bit a t.0 t.2 t.3
+
+pub none_before : (a i : ℕ) → 0 < a → a < 4294967296 → i < count_leading_zeros 32 a → bit_at a (31 - i) ≡ 0
+none_before a i h k l = let t = leading_top 32 a h k in bit_at_above a (suc t.0) (31 - i) t.3 (omega (arith, t.1))
+
+-- the word of all bits from a column on
+abbrev tail : ℕ → ℕ
+tail c = 4294967295 / 2 ^ c
+
+tail_before : (c i : ℕ) → c < 32 → i < c → bit_at (tail c) (31 - i) ≡ 0
+tail_before c i h l =
+    ap (λ n. bit_at n (31 - i)) (ones_shr 32 c (omega arith)) ∙ bit_at_ones_above (32 - c) (31 - i) (omega arith)
+
+tail_from : (c i : ℕ) → c < 32 → c ≤ i → i < 32 → bit_at (tail c) (31 - i) ≡ 1
+tail_from c i h l k = ap (λ n. bit_at n (31 - i)) (ones_shr 32 c (omega arith)) ∙ bit_at_ones (32 - c) (31 - i) (omega arith)
+
+tail_fits : (c : ℕ) → c < 32 → tail c < 4294967296
+tail_fits c h = omega (arith, div-le_self 4294967295 (2 ^ c))
+
+pub set_before : (word c i : ℕ) → c < 32 → i < c → bit_at (bit_or word (tail c)) (31 - i) ≡ bit_at word (31 - i)
+set_before word c i h l = omega (arith, bit_at_or word (tail c) (31 - i), tail_before c i h l)
+
+pub set_from : (word c i : ℕ) → c < 32 → c ≤ i → i < 32 → bit_at (bit_or word (tail c)) (31 - i) ≡ 1
+set_from word c i h l k = omega (arith, bit_at_or word (tail c) (31 - i), tail_from c i h l k, bit_at-lt word (31 - i))
+
+kept : (word c i : ℕ) → c < 32 → i < 32
+    → bit_at (bit_and word (4294967295 - tail c)) (31 - i) ≡ min (bit_at word (31 - i)) (1 - bit_at (tail c) (31 - i))
+kept word c i h k =
+    bit_at_and word (4294967295 - tail c) (31 - i)
+    ∙ ap (min (bit_at word (31 - i))) (bit_at_not w32 (tail c) (31 - i) (tail_fits c h) (omega arith))
+
+pub clear_before : (word c i : ℕ) → c < 32 → i < c → bit_at (bit_and word (4294967295 - tail c)) (31 - i) ≡ bit_at word (31 - i)
+clear_before word c i h l =
+    omega (arith, kept word c i h (omega arith), tail_before c i h l, bit_at-lt word (31 - i))
+
+pub clear_from : (word c i : ℕ) → c < 32 → c ≤ i → i < 32 → bit_at (bit_and word (4294967295 - tail c)) (31 - i) ≡ 0
+clear_from word c i h l k = omega (arith, kept word c i h k, tail_from c i h l k)
+
+-- a word without one of its bits is less
+pub fewer : (word m j : ℕ) → bit_at word j ≡ 1 → bit_at (bit_and word m) j ≡ 0 → bit_and word m < word
+fewer word m j h k = by (order (bit_and word m) word)
+  where
+    order : (a b : ℕ) → (a < b) ⊎ (b ≤ a)
+    order a b = grind arith
+
+    by : (bit_and word m < word) ⊎ (word ≤ bit_and word m) → bit_and word m < word
+    by (inl l) = l
+    by (inr l) =
+        let same : bit_and word m ≡ word = omega (arith, and_le_l word m) in
+        let bit = ap (λ n. bit_at n j) same in
+        absurd (omega (arith, h, k, bit))
