@@ -1,13 +1,15 @@
 -- A list of segments or groups, one at a time, and the search in it.
--- For the loops of `is_falling` and `first_reaching`, and for `find_segment` and `find_group`.
+-- For the loops of `is_falling` and `first_reaching`, and for `find_segment`, `find_group` and `gap_end`.
 use Rattle.std.proofs.Common.{◌≡◌, ℕ, zero, suc, ◌+◌, ◌*◌, ◌<◌, ◌≤◌, Bool, true, false, ◌||◌, cond, nat_lt, List, Some, None, refl}
 use Rattle.std.proofs.Common.{sym, ap, ◌∙◌, arith}
 use Rattle.std.specs.List.{find}
-use Rattle.std.proofs.lemmas.Bool.{or_parts, ltb-false}
+use Rattle.std.proofs.lemmas.Bool.{or_parts, ltb-false, lt-ltb}
 use Rattle.fx_sfnt.specs.Fields.{field}
 use Rattle.fx_cmap.specs.Subtables.{each_number, falls}
-use Rattle.fx_cmap.specs.Segments.{segment_of}
-use Rattle.fx_cmap.specs.Groups.{group_of}
+use Rattle.fx_cmap.specs.Segments.{segment_of, glyph_in_segment}
+use Rattle.fx_cmap.specs.Groups.{group_of, glyph_in_group}
+use Rattle.fx_cmap.specs.declared.segment.Segment.{Segment}
+use Rattle.fx_cmap.specs.declared.group.Group.{Group}
 
 -- the last code of a segment
 pub end_code_is : (cmap : List ℕ) (start count k : ℕ) → (segment_of cmap start count k).end_code ≡ field 2 cmap (start + 14 + 2 * k)
@@ -80,3 +82,13 @@ found_none f p k (suc n) before =
     let first : p (f k) ≡ false = before k (omega arith) (omega arith) in
     ap (λ (b : Bool). cond b (Some (f k)) (find p (each_number f (suc k) n))) first
     ∙ found_none f p (suc k) n (λ x above below. before x (omega arith) (omega arith))
+
+-- a code below a segment's first one has no glyph in it
+pub none_below_segment : (cmap : List ℕ) (s : Segment) (code : ℕ) → code < s.start_code → glyph_in_segment cmap s code ≡ 0
+unfolding glyph_in_segment
+none_below_segment cmap s code h = rw (lt-ltb code s.start_code h) refl
+
+-- a code below a group's first one has no glyph in it
+pub none_below_group : (g : Group) (code : ℕ) → code < g.start_char_code → glyph_in_group g code ≡ 0
+unfolding glyph_in_group
+none_below_group g code h = rw (lt-ltb code g.start_char_code h) refl

@@ -1,6 +1,6 @@
 //! A character map over the bytes of `cmap`.
 
-ghost use Rattle.std.specs.Prelude.{◌≡◌};
+ghost use Rattle.std.specs.Prelude.{◌≡◌, ℕ, ◌<◌, ◌≤◌};
 ghost use Rattle.fx_cmap.specs.Lookup.{char_map_of, map_of_file, glyph_for};
 
 use crate::cursor::Cursor;
@@ -91,6 +91,16 @@ impl<'a> CharMap<'a> {
         match &self.mapping {
             Mapping::Segments(segments) => segments.glyph(near, code),
             Mapping::Groups(groups) => groups.glyph(near, code),
+        }
+    }
+
+    /// A code up to which, from the given one on, no code has a glyph; `near` is as in `glyph_near`.
+    pub(crate) fn gap_end(&self, near: u32, code: u32) -> u32
+        ensures { (c : ℕ) → code ≤ c → c < result → glyph_for self.now c ≡ 0 }
+    {
+        match &self.mapping {
+            Mapping::Segments(segments) => segments.gap_end(near, code),
+            Mapping::Groups(groups) => groups.gap_end(near, code),
         }
     }
 }

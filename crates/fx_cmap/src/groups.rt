@@ -67,6 +67,14 @@ impl<'a> Groups<'a> {
             None => 0,
         }
     }
+
+    /// A code up to which, from the given one on, no code has a glyph. It is the first code of the group with the number `near`
+    /// where that group counts for the given code, else 0, which says nothing.
+    pub fn gap_end(&self, near: u32, code: u32) -> u32
+        ensures { (c : ℕ) → code ≤ c → c < result → glyph_by_groups self.now c ≡ 0 }
+    {
+        gap_end(self.cmap, self.start, self.num_groups, near, code)
+    }
 }
 
 /// The last code of a group.
@@ -178,4 +186,21 @@ fn find_group(cmap: &[u8], start: u32, count: u32, near: &mut u32, code: u32) ->
         return None;
     }
     Some(group(cmap, start, k))
+}
+
+/// A code up to which, from the given one on, no code has a glyph: the group with the number `near` counts for all of them, if it
+/// counts for the first, and begins above them.
+fn gap_end(cmap: &[u8], start: u32, count: u32, near: u32, code: u32) -> u32
+    requires inside { start + 16 + 12 * count ≤ length cmap.now }
+    requires rising { groups_fall (groups_of cmap.now start count) ≡ false }
+    ensures { (c : ℕ) → code ≤ c → c < result → glyph_by_groups (groups_of cmap.now start count) c ≡ 0 }
+{
+    if near >= count {
+        return 0;
+    }
+    if !is_first_reaching(cmap, start, count, near, code) {
+        return 0;
+    }
+    let group = group(cmap, start, near);
+    group.start_char_code.min(group.end_char_code)
 }

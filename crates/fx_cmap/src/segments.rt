@@ -2,7 +2,7 @@
 
 ghost use Rattle.std.specs.Prelude.{◌≡◌, ℕ, ◌+◌, ◌*◌, ◌^◌, ◌<◌, ◌≤◌, length, false, IfSome, IsTrue};
 ghost use Rattle.fx_sfnt.specs.Fields.{field};
-ghost use Rattle.fx_cmap.specs.Segments.{segment_of, segments_of, segments_fall, segment_for, segments_at, glyph_by_segments};
+ghost use Rattle.fx_cmap.specs.Segments.{segment_of, segments_of, segments_fall, segment_for, segments_at, glyph_by_segment, glyph_by_segments};
 
 use crate::fault::CharMapFault;
 use crate::segment::Segment;
@@ -66,6 +66,14 @@ impl<'a> Segments<'a> {
             Some(segment) => segment.glyph(self.cmap, code),
             None => 0,
         }
+    }
+
+    /// A code up to which, from the given one on, no code has a glyph. It is the first code of the segment with the number `near`
+    /// where that segment counts for the given code, else 0, which says nothing.
+    pub fn gap_end(&self, near: u32, code: u32) -> u32
+        ensures { (c : ℕ) → code ≤ c → c < result → glyph_by_segments self.now c ≡ 0 }
+    {
+        gap_end(self.cmap, self.start, self.seg_count, near, code)
     }
 }
 
@@ -185,4 +193,21 @@ fn find_segment(cmap: &[u8], start: u32, count: u32, near: &mut u32, code: u32) 
         return None;
     }
     Some(segment(cmap, start, count, k))
+}
+
+/// A code up to which, from the given one on, no code has a glyph: the segment with the number `near` counts for all of them, if
+/// it counts for the first, and begins above them.
+fn gap_end(cmap: &[u8], start: u32, count: u32, near: u32, code: u32) -> u32
+    requires inside { start + 16 + 8 * count ≤ length cmap.now }
+    requires rising { segments_fall (segments_of cmap.now start count) ≡ false }
+    ensures { (c : ℕ) → code ≤ c → c < result → glyph_by_segment cmap.now c (segment_for (segments_of cmap.now start count) c) ≡ 0 }
+{
+    if near >= count {
+        return 0;
+    }
+    if !is_first_reaching(cmap, start, count, near, code) {
+        return 0;
+    }
+    let segment = segment(cmap, start, count, near);
+    u32::from(segment.start_code.min(segment.end_code))
 }

@@ -19,6 +19,13 @@ use std::alloc::{AllocError, Global};
 /// The greatest distance of a point from either axis, in 26.6 pixels.
 const FARTHEST: i32 = 1 << 21;
 
+/// The piece that one point of a contour adds, if it adds one, and the place of the curve after the point.
+#[derive(Clone, Copy)]
+struct Step {
+    piece: Option<Piece>,
+    to: Point,
+}
+
 /// Whether a coordinate is within the limit.
 fn is_within(z: F26) -> bool
     ensures { IsTrue result ↔ IsWithin farthest z }
@@ -97,28 +104,39 @@ fn joint(p: &OutlinePoint, q: &OutlinePoint) -> Point
     middle(p, q)
 }
 
-/// What a point q between its neighbours p and r adds.
-fn piece_at(p: &OutlinePoint, q: &OutlinePoint, r: &OutlinePoint) -> Option<Piece>
-    requires near_p { IsInReach p.now }
+/// What a point q between its neighbours p and r adds, and the place of the curve between q and r; `from` is the one between p
+/// and q.
+fn step_at(p: &OutlinePoint, q: &OutlinePoint, r: &OutlinePoint, from: Point) -> Step
     requires near_q { IsInReach q.now }
     requires near_r { IsInReach r.now }
-    ensures { option_map span_of result ≡ span_at p.now q.now r.now }
+    requires from { place_of from ≡ joint_of p.now q.now }
+    ensures piece { option_map span_of result.piece ≡ span_at p.now q.now r.now }
+    ensures to { place_of result.to ≡ joint_of q.now r.now }
 {
+    let to = joint(q, r);
     if !q.on_curve {
-        return Some(Piece {
-            a: joint(p, q),
+        let arc = Piece {
+            a: from,
             b: Some(doubled(q)),
-            c: joint(q, r),
-        });
+            c: to,
+        };
+        return Step {
+            piece: Some(arc),
+            to,
+        };
     }
     if p.on_curve {
-        return Some(Piece {
-            a: doubled(p),
+        let line = Piece {
+            a: from,
             b: None,
-            c: doubled(q),
-        });
+            c: to,
+        };
+        return Step {
+            piece: Some(line),
+            to,
+        };
     }
-    None
+    Step { piece: None, to }
 }
 
 /// Adds a piece, if there is one.
@@ -155,11 +173,13 @@ fn add_contour(made: &mut Pieces, points: &[OutlinePoint]) -> Result<(), AllocEr
     }
     let first = &points[0];
     let mut before = &points[points.len() - 1];
+    let mut from = joint(before, first);
     for i in 0..points.len() {
         let here = &points[i];
-        let piece = piece_at(before, here, next_point(points, i, first));
-        push_some(made, piece)?;
+        let step = step_at(before, here, next_point(points, i, first), from);
+        push_some(made, step.piece)?;
         before = here;
+        from = step.to;
     }
     Ok(())
 }
