@@ -3,6 +3,7 @@
 ghost use Rattle.std.specs.Prelude.{◌≡◌};
 ghost use Rattle.fx_cmap.specs.Lookup.{char_map_of, map_of_file, glyph_for};
 
+use crate::cursor::Cursor;
 use crate::fault::CharMapFault;
 use crate::groups::Groups;
 use crate::mapping::Mapping;
@@ -65,6 +66,13 @@ impl<'a> CharMap<'a> {
         Ok(CharMap { mapping })
     }
 
+    /// A cursor, by which looking up codes in rising order is quick.
+    pub fn cursor(&self) -> Cursor<'_, 'a>
+        ensures { result ≡ self.now }
+    {
+        Cursor::new(self)
+    }
+
     /// The glyph of a character code, 0 if it has none; for every number (OpenType, "Format 4" and "Format 12").
     ///
     /// The segment or group that counts is the first whose last code is at least the code; it is found by halving, so a call
@@ -72,9 +80,17 @@ impl<'a> CharMap<'a> {
     pub fn glyph(&self, code: u32) -> u16
         ensures { result ≡ glyph_for self.now code }
     {
+        self.cursor().glyph(code)
+    }
+
+    /// The same; the search begins at the segment or group with the number `near`, which becomes that of the one that is found.
+    #[inline]
+    pub(crate) fn glyph_near(&self, near: &mut u32, code: u32) -> u16
+        ensures { result ≡ glyph_for self.now code }
+    {
         match &self.mapping {
-            Mapping::Segments(segments) => segments.glyph(code),
-            Mapping::Groups(groups) => groups.glyph(code),
+            Mapping::Segments(segments) => segments.glyph(near, code),
+            Mapping::Groups(groups) => groups.glyph(near, code),
         }
     }
 }
@@ -121,6 +137,46 @@ mod tests {
         assert_eq!(rt; map.glyph(0x1_F5FF), 0);
         assert_eq!(rt; map.glyph(0x1_F600), 3);
         assert_eq!(rt; map.glyph(0x1_F601), 0);
+        Ok(())
+    }
+
+    #[test]
+    fn a_cursor_finds_what_the_map_does(rt: HostRuntime) -> Result<(), Fail> {
+        let map = CharMap::read(TWO)?;
+        let mut cursor = map.cursor();
+        let rising = [
+            (0x40, 0),
+            (0x41, 12),
+            (0x42, 0),
+            (0x43, 0),
+            (0xFFFF, 0),
+            (0x1_0041, 0),
+        ];
+        'rising: for (code, glyph) in rising {
+            assert_eq!(rt; cursor.glyph(code), glyph);
+        }
+        'falling: for (code, glyph) in [
+            (0xFFFF, 0),
+            (0x41, 12),
+            (0x40, 0),
+            (0x1_0041, 0),
+            (0x41, 12),
+        ] {
+            assert_eq!(rt; cursor.glyph(code), glyph);
+        }
+        let map = CharMap::read(GROUPS)?;
+        let mut cursor = map.cursor();
+        'groups: for (code, glyph) in [
+            (0x41, 2),
+            (0x42, 3),
+            (0x43, 0),
+            (0x1_F600, 3),
+            (0x1_F601, 0),
+            (0x41, 2),
+            (0x40, 0),
+        ] {
+            assert_eq!(rt; cursor.glyph(code), glyph);
+        }
         Ok(())
     }
 

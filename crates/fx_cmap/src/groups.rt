@@ -1,6 +1,6 @@
 //! The groups of a subtable of format 12.
 
-ghost use Rattle.std.specs.Prelude.{◌≡◌, ℕ, ◌+◌, ◌*◌, ◌<◌, ◌≤◌, length, false};
+ghost use Rattle.std.specs.Prelude.{◌≡◌, ℕ, ◌+◌, ◌*◌, ◌<◌, ◌≤◌, length, false, IsTrue};
 ghost use Rattle.fx_sfnt.specs.Fields.{field};
 ghost use Rattle.fx_cmap.specs.Groups.{group_of, groups_of, groups_fall, group_for, groups_at, glyph_by_groups};
 
@@ -56,11 +56,13 @@ impl<'a> Groups<'a> {
         })
     }
 
-    /// The glyph of a code, 0 if it has none.
-    pub fn glyph(&self, code: u32) -> u16
+    /// The glyph of a code, 0 if it has none. The search begins at the group with the number `near`, which becomes that of the
+    /// group that is found, or the number of all groups.
+    #[inline]
+    pub fn glyph(&self, near: &mut u32, code: u32) -> u16
         ensures { result ≡ glyph_by_groups self.now code }
     {
-        match find_group(self.cmap, self.start, self.num_groups, code) {
+        match find_group(self.cmap, self.start, self.num_groups, near, code) {
             Some(group) => group.glyph(code),
             None => 0,
         }
@@ -126,13 +128,52 @@ fn first_reaching(cmap: &[u8], start: u32, count: u32, code: u32) -> u32
     low
 }
 
-/// The first group whose last code is at least the code; the last codes do not fall.
-fn find_group(cmap: &[u8], start: u32, count: u32, code: u32) -> Option<Group>
+/// Whether a number is that of the first group whose last code is at least the code, or that of all groups.
+#[inline]
+fn is_first_reaching(cmap: &[u8], start: u32, count: u32, k: u32, code: u32) -> bool
+    requires inside { start + 16 + 12 * count ≤ length cmap.now }
+    requires rising { groups_fall (groups_of cmap.now start count) ≡ false }
+    ensures within { IsTrue result → k ≤ count }
+    ensures before { IsTrue result → (j : ℕ) → j < k → field 4 cmap.now (start + 20 + 12 * j) < code }
+    ensures reaches { IsTrue result → k < count → code ≤ field 4 cmap.now (start + 20 + 12 * k) }
+{
+    if k > count {
+        return false;
+    }
+    if k < count && end_char_code(cmap, start, k) < code {
+        return false;
+    }
+    k == 0 || end_char_code(cmap, start, k - 1) < code
+}
+
+/// The same number as `first_reaching` returns: `near` or the one after it if it is one of them, else found by halving.
+#[inline]
+fn first_reaching_near(cmap: &[u8], start: u32, count: u32, near: u32, code: u32) -> u32
+    requires inside { start + 16 + 12 * count ≤ length cmap.now }
+    requires rising { groups_fall (groups_of cmap.now start count) ≡ false }
+    ensures within { result ≤ count }
+    ensures before { (k : ℕ) → k < result → field 4 cmap.now (start + 20 + 12 * k) < code }
+    ensures reaches { result < count → code ≤ field 4 cmap.now (start + 20 + 12 * result) }
+{
+    if is_first_reaching(cmap, start, count, near, code) {
+        return near;
+    }
+    if near < count && is_first_reaching(cmap, start, count, near + 1, code) {
+        return near + 1;
+    }
+    first_reaching(cmap, start, count, code)
+}
+
+/// The first group whose last code is at least the code; the last codes do not fall. The search begins at the group with the
+/// number `near`, which becomes that of the group that is found, or the number of all groups.
+#[inline]
+fn find_group(cmap: &[u8], start: u32, count: u32, near: &mut u32, code: u32) -> Option<Group>
     requires inside { start + 16 + 12 * count ≤ length cmap.now }
     requires rising { groups_fall (groups_of cmap.now start count) ≡ false }
     ensures { result ≡ group_for (groups_of cmap.now start count) code }
 {
-    let k = first_reaching(cmap, start, count, code);
+    let k = first_reaching_near(cmap, start, count, *near, code);
+    *near = k;
     if k == count {
         return None;
     }

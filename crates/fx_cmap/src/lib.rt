@@ -5,6 +5,7 @@
 #![tactic(auto)]
 
 mod char_map;
+mod cursor;
 mod fault;
 mod group;
 mod groups;
@@ -14,4 +15,5 @@ mod segment;
 mod segments;
 
 pub use char_map::CharMap;
+pub use cursor::Cursor;
 pub use fault::CharMapFault;

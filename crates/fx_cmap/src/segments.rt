@@ -1,6 +1,6 @@
 //! The segments of a subtable of format 4.
 
-ghost use Rattle.std.specs.Prelude.{◌≡◌, ℕ, ◌+◌, ◌*◌, ◌^◌, ◌<◌, ◌≤◌, length, false, IfSome};
+ghost use Rattle.std.specs.Prelude.{◌≡◌, ℕ, ◌+◌, ◌*◌, ◌^◌, ◌<◌, ◌≤◌, length, false, IfSome, IsTrue};
 ghost use Rattle.fx_sfnt.specs.Fields.{field};
 ghost use Rattle.fx_cmap.specs.Segments.{segment_of, segments_of, segments_fall, segment_for, segments_at, glyph_by_segments};
 
@@ -16,7 +16,7 @@ pub struct Segments<'a> {
     // The offset of the subtable in `cmap`.
     start: u32,
     // The number of its segments.
-    seg_count: u16,
+    seg_count: u32,
 }
 
 impl<'a> Model for Segments<'a> {
@@ -42,7 +42,7 @@ impl<'a> Segments<'a> {
             return Err(CharMapFault::BadCharMap);
         }
         let seg_count_x2 = u16_in(cmap, at + 6);
-        let seg_count = seg_count_x2 / 2;
+        let seg_count = u32::from(seg_count_x2 / 2);
         if cmap.len() < at + 16 + 8 * seg_count as usize {
             return Err(CharMapFault::BadCharMap);
         }
@@ -56,11 +56,13 @@ impl<'a> Segments<'a> {
         })
     }
 
-    /// The glyph of a code, 0 if it has none; it has none past U+FFFF.
-    pub fn glyph(&self, code: u32) -> u16
+    /// The glyph of a code, 0 if it has none; it has none past U+FFFF. The search begins at the segment with the number `near`,
+    /// which becomes that of the segment that is found, or the number of all segments.
+    #[inline]
+    pub fn glyph(&self, near: &mut u32, code: u32) -> u16
         ensures { result ≡ glyph_by_segments self.now code }
     {
-        match find_segment(self.cmap, self.start, self.seg_count, code) {
+        match find_segment(self.cmap, self.start, self.seg_count, near, code) {
             Some(segment) => segment.glyph(self.cmap, code),
             None => 0,
         }
@@ -68,7 +70,7 @@ impl<'a> Segments<'a> {
 }
 
 /// The end code of a segment.
-fn end_code(cmap: &[u8], start: u32, k: u16) -> u16
+fn end_code(cmap: &[u8], start: u32, k: u32) -> u16
     requires { start + 16 + 2 * k ≤ length cmap.now }
     ensures { result ≡ field 2 cmap.now (start + 14 + 2 * k) }
 {
@@ -77,7 +79,7 @@ fn end_code(cmap: &[u8], start: u32, k: u16) -> u16
 
 /// The segment with a number.
 #[tactic(auto, unfolding(crate::specs::Segments::segment_of))]
-fn segment(cmap: &[u8], start: u32, count: u16, k: u16) -> Segment
+fn segment(cmap: &[u8], start: u32, count: u32, k: u32) -> Segment
     requires inside { start + 16 + 8 * count ≤ length cmap.now }
     requires within { k < count }
     ensures value { result ≡ segment_of cmap.now start count k }
@@ -95,7 +97,7 @@ fn segment(cmap: &[u8], start: u32, count: u16, k: u16) -> Segment
 }
 
 /// Whether some end code is below the one before it.
-fn is_falling(cmap: &[u8], start: u32, count: u16) -> bool
+fn is_falling(cmap: &[u8], start: u32, count: u32) -> bool
     requires { start + 16 + 8 * count ≤ length cmap.now }
     ensures { result ≡ segments_fall (segments_of cmap.now start count) }
 {
@@ -111,7 +113,7 @@ fn is_falling(cmap: &[u8], start: u32, count: u16) -> bool
 }
 
 /// The number of the first segment whose end code is at least the code, or that of all segments; by halving.
-fn first_reaching(cmap: &[u8], start: u32, count: u16, code: u32) -> u16
+fn first_reaching(cmap: &[u8], start: u32, count: u32, code: u32) -> u32
     requires inside { start + 16 + 8 * count ≤ length cmap.now }
     requires rising { segments_fall (segments_of cmap.now start count) ≡ false }
     ensures within { result ≤ count }
@@ -131,15 +133,54 @@ fn first_reaching(cmap: &[u8], start: u32, count: u16, code: u32) -> u16
     low
 }
 
-/// The first segment whose end code is at least the code; the end codes do not fall.
-fn find_segment(cmap: &[u8], start: u32, count: u16, code: u32) -> Option<Segment>
+/// Whether a number is that of the first segment whose end code is at least the code, or that of all segments.
+#[inline]
+fn is_first_reaching(cmap: &[u8], start: u32, count: u32, k: u32, code: u32) -> bool
+    requires inside { start + 16 + 8 * count ≤ length cmap.now }
+    requires rising { segments_fall (segments_of cmap.now start count) ≡ false }
+    ensures within { IsTrue result → k ≤ count }
+    ensures before { IsTrue result → (j : ℕ) → j < k → field 2 cmap.now (start + 14 + 2 * j) < code }
+    ensures reaches { IsTrue result → k < count → code ≤ field 2 cmap.now (start + 14 + 2 * k) }
+{
+    if k > count {
+        return false;
+    }
+    if k < count && (end_code(cmap, start, k) as u32) < code {
+        return false;
+    }
+    k == 0 || (end_code(cmap, start, k - 1) as u32) < code
+}
+
+/// The same number as `first_reaching` returns: `near` or the one after it if it is one of them, else found by halving.
+#[inline]
+fn first_reaching_near(cmap: &[u8], start: u32, count: u32, near: u32, code: u32) -> u32
+    requires inside { start + 16 + 8 * count ≤ length cmap.now }
+    requires rising { segments_fall (segments_of cmap.now start count) ≡ false }
+    ensures within { result ≤ count }
+    ensures before { (k : ℕ) → k < result → field 2 cmap.now (start + 14 + 2 * k) < code }
+    ensures reaches { result < count → code ≤ field 2 cmap.now (start + 14 + 2 * result) }
+{
+    if is_first_reaching(cmap, start, count, near, code) {
+        return near;
+    }
+    if near < count && is_first_reaching(cmap, start, count, near + 1, code) {
+        return near + 1;
+    }
+    first_reaching(cmap, start, count, code)
+}
+
+/// The first segment whose end code is at least the code; the end codes do not fall. The search begins at the segment with the
+/// number `near`, which becomes that of the segment that is found, or the number of all segments.
+#[inline]
+fn find_segment(cmap: &[u8], start: u32, count: u32, near: &mut u32, code: u32) -> Option<Segment>
     requires inside { start + 16 + 8 * count ≤ length cmap.now }
     requires rising { segments_fall (segments_of cmap.now start count) ≡ false }
     ensures value { result ≡ segment_for (segments_of cmap.now start count) code }
     ensures reaches { IfSome result (λ s. code ≤ s.end_code) }
     ensures offset { IfSome result (λ s. s.offset < 2 ^ 40) }
 {
-    let k = first_reaching(cmap, start, count, code);
+    let k = first_reaching_near(cmap, start, count, *near, code);
+    *near = k;
     if k == count {
         return None;
     }

@@ -22,7 +22,7 @@ use Rattle.fx_winding.specs.Winding.{Span, centre}
 use Rattle.fx_hint.specs.declared.points.OutlinePoint.{OutlinePoint}
 use Rattle.fx_contour.specs.Contours.{farthest, IsInReach, is_within, is_in_reach, ReachIsTested, spans_of, drawn_of}
 use Rattle.fx_contour.specs.Frames.{HasAny, HaveAny, IsInBoundingBox, AreTooLarge, has_any, have_any, is_in_bounding_box}
-use Rattle.fx_contour.specs.Frames.{first_from, is_large_from, is_too_large, LargeIsTested, IsFrameFor, framed_of}
+use Rattle.fx_contour.specs.Frames.{first_from, is_large_from, is_too_large, LargeIsTested, IsFrameFor, framed_of, outline_framed_of}
 
 pub le_decides : (x y : ℤ) → Decides (int_le x y) (x ≤ℤ y)
 le_decides x y = (λ t. omega (arith, ints), λ h. sym (omega (arith, ints)))
@@ -184,3 +184,13 @@ unfolding framed_of
 framed_is (Ok f) ss h k =
     rw (false_from_ne_true (is_too_large ss) (λ e. frame_not_too_large f ss h ((large_is_tested ss).0 e))) refl
 framed_is (Err e) ss h k = rw ((large_is_tested ss).1 k.1, k.0) refl
+
+pub outline_framed_far : (ends : List ℕ) (points xs : List OutlinePoint) (r : Bool) → xs ≡ points
+    → (IsTrue r ↔ All IsInReach xs) → r ≡ false → Err TooFar ≡ outline_framed_of ends points
+outline_framed_far ends points xs r e d f = rw (drawn_far ends points xs r e d f) refl
+
+pub outline_framed_near : (ends : List ℕ) (points xs : List OutlinePoint) (r : Bool) (f : Result (Option Frame) ContourFault)
+    → xs ≡ points → (IsTrue r ↔ All IsInReach xs) → r ≡ true → IfOk f (λ x. IsFrameFor x (spans_of ends points))
+    → IfErr f (λ e. (e ≡ TooLarge) × AreTooLarge (spans_of ends points)) → map_ok (λ _. tt) f ≡ outline_framed_of ends points
+outline_framed_near ends points xs r f e d t h k =
+    rw (drawn_near ends points xs r (spans_of ends points) e d t refl) (framed_is f (spans_of ends points) h k)

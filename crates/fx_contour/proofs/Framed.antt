@@ -13,7 +13,7 @@ use Rattle.fx_contour.specs.declared.fault.ContourFault.{ContourFault}
 use Rattle.fx_contour.specs.declared.fault.ContourFault.TheVariants.{TooLarge}
 use Rattle.fx_contour.specs.Frames.{IsInBoundingBox, IsFrameOf, IsFrameFor, HaveNoPixel, AreTooLarge}
 use Rattle.fx_winding.specs.Frames.{IsFrom}
-use Rattle.fx_contour.specs.Bounds.{left_side, right_side, bottom_side, top_side, AreBounds, IsCentreIn, ArePixels, AreNoPixels}
+use Rattle.fx_contour.specs.Bounds.{left_side, right_side, bottom_side, top_side, AreBounds, AreBoundsOf, IsCentreIn, ArePixels, AreNoPixels}
 
 pub same_pixels : (s : Pixels) (l h l' h' : ℤ) → l ≡ l' → h ≡ h' → ArePixels s l h → ArePixels s l' h'
 same_pixels s l h l' h' e f k =
@@ -41,6 +41,10 @@ column_in b ss i j a h = ((a.sides left_side (centre i j).x).0 h.left, (a.sides 
 
 row_in : (b : Bounds) (ss : List Span) (i j : ℤ) → AreBounds b ss → IsInBoundingBox (centre i j) ss → IsCentreIn b.bottom b.top j
 row_in b ss i j a h = ((a.sides bottom_side (centre i j).y).0 h.bottom, (a.sides top_side (centre i j).y).0 h.top)
+
+pub no_box : (o : Option Bounds) (ss : List Span) → o ≡ None → AreBoundsOf o ss → HaveNoPixel ss
+no_box o ss e a col row h =
+    let P : Option Bounds → Type 0 = λ x. AreBoundsOf x ss in ((subst P e a).sides left_side (centre col row).x).0 h.left
 
 pub no_columns : (b : Bounds) (ss : List Span) → AreBounds b ss → AreNoPixels b.left b.right → HaveNoPixel ss
 no_columns b ss a n col row h = n col (column_in b ss col row a h)

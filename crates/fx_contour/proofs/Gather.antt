@@ -20,18 +20,19 @@ pub record Gathered (made : List Piece) (start : ℕ) (ends : List ℕ) (k : ℕ
   pub few : length made ≤ start
   pub within : start ≤ length points
 
-ends_left_at : (made : List Piece) (start : ℕ) (ends : List ℕ) (k : ℕ) (points : List OutlinePoint) (e d : ℕ)
-    → Gathered made start ends k points → k < length ends → e ≡ get_or ends k d
+pub ends_left_at : (start : ℕ) (ends : List ℕ) (k : ℕ) (points : List OutlinePoint) (e d : ℕ)
+    → AreEnds start (drop k ends) (length points) → k < length ends → e ≡ get_or ends k d
     → AreEnds start (e ∷ drop (k + 1) ends) (length points)
-ends_left_at made start ends k points e d g h s =
+ends_left_at start ends k points e d a h s =
     let P : List ℕ → Type 0 = λ xs. AreEnds start xs (length points) in
     let Q : ℕ → Type 0 = λ x. AreEnds start (x ∷ drop (k + 1) ends) (length points) in
-    subst Q (sym s) (subst P (drop_more ends k d h) g.ends_left)
+    subst Q (sym s) (subst P (drop_more ends k d h) a)
 
-pub next_within : (made : List Piece) (start : ℕ) (ends : List ℕ) (k : ℕ) (points : List OutlinePoint) (e d : ℕ)
-    → Gathered made start ends k points → k < length ends → e ≡ get_or ends k d → (start ≤ e + 1) × (e + 1 ≤ length points)
-next_within made start ends k points e d g h s =
-    let l = ends_left_at made start ends k points e d g h s in
+pub next_within : (start : ℕ) (ends : List ℕ) (k : ℕ) (points : List OutlinePoint) (e d : ℕ)
+    → AreEnds start (drop k ends) (length points) → k < length ends → e ≡ get_or ends k d
+    → (start ≤ e + 1) × (e + 1 ≤ length points)
+next_within start ends k points e d a h s =
+    let l = ends_left_at start ends k points e d a h s in
     (l.0, ends_reach (e + 1) (drop (k + 1) ends) (length points) l.1)
 
 slice_few : (start next : ℕ) (points : List OutlinePoint) → start ≤ next → next ≤ length points
@@ -44,8 +45,8 @@ pub gather_more : (made after : List Piece) (start : ℕ) (ends : List ℕ) (k :
     → map span_of after ≡ map span_of made ++ curve_of (take (e + 1 - start) (drop start points))
     → length after ≤ length made + length (take (e + 1 - start) (drop start points)) → Gathered after (e + 1) ends (k + 1) points
 gather_more made after start ends k points e d g h s m n =
-    let l = ends_left_at made start ends k points e d g h s in
-    let w = next_within made start ends k points e d g h s in
+    let l = ends_left_at start ends k points e d g.ends_left h s in
+    let w = next_within start ends k points e d g.ends_left h s in
     let c = curve_of (take (e + 1 - start) (drop start points)) in
     let rest = joined (map curve_of (contours_from (e + 1) (drop (k + 1) ends) points)) in
     let all = joined (map curve_of (contours_from 0 ends points)) in
@@ -62,7 +63,7 @@ gather_more made after start ends k points e d g h s m n =
       within = w.1;
     }
 
-drop_all : (n : ℕ) (xs : List ℕ) → length xs ≤ n → drop n xs ≡ []
+pub drop_all : (n : ℕ) (xs : List ℕ) → length xs ≤ n → drop n xs ≡ []
 drop_all zero [] h = refl
 drop_all (suc n) [] h = refl
 drop_all zero (x ∷ xs) h = absurd (omega arith)

@@ -1,7 +1,7 @@
 -- Bounding boxes, point by point.
 -- For `Bounds` and its loop.
 use Rattle.std.proofs.Common.{◌≡◌, sym, subst, ℕ, zero, suc, ◌+◌, ◌<◌, ◌≤◌, drop, length, map, get_or, ◌⊎◌, inl, inr, ℤ, ◌≤ℤ◌, List}
-use Rattle.std.proofs.Common.{[], ◌∷◌, Option, None, IsSomeAnd, refl, arith, ◌↔◌}
+use Rattle.std.proofs.Common.{[], ◌∷◌, Option, None, Some, IsSomeAnd, refl, arith, ◌↔◌}
 use Rattle.std.specs.Int.{int_min, int_max}
 use Rattle.std.proofs.lemmas.Int.{ints, clamps, by_lt_z}
 use Rattle.std.proofs.lemmas.List.{drop_more}
@@ -11,6 +11,7 @@ use Rattle.fx_winding.specs.Winding.{Span, span_of}
 use Rattle.fx_contour.specs.declared.bounds.Bounds.{Bounds}
 use Rattle.fx_contour.specs.Frames.{HasAny, HaveAny}
 use Rattle.fx_contour.specs.Bounds.{Side, left_side, right_side, bottom_side, top_side, IsOut, Reaches, Grows, AreBounds}
+use Rattle.fx_contour.specs.Bounds.{AreBoundsOf}
 
 least_is : (r l x t : ℤ) → r ≡ int_min l x → (r ≤ℤ t) ↔ ((l ≤ℤ t) ⊎ (x ≤ℤ t))
 least_is r l x t e =
@@ -79,7 +80,7 @@ stays b o e = record { sides = λ side t. (λ h. inl h, λ h. back side t h) }
 pub record Remains (b : Bounds) (ss rest : List Span) : Type 0 where
   pub sides : (side : Side) (t : ℤ) → HaveAny (IsOut side t) ss ↔ (Reaches b side t ⊎ HaveAny (IsOut side t) rest)
 
-one_less : (X A B R S : Type 0) → X ↔ (A ⊎ (R ⊎ S)) → B ↔ (A ⊎ R) → X ↔ (B ⊎ S)
+pub one_less : (X A B R S : Type 0) → X ↔ (A ⊎ (R ⊎ S)) → B ↔ (A ⊎ R) → X ↔ (B ⊎ S)
 one_less X A B R S h k = (λ x. there (h.0 x), λ y. back y)
   where
     there : A ⊎ (R ⊎ S) → B ⊎ S
@@ -109,7 +110,7 @@ remains_more b c ps n s h e r g =
           (HasAny (IsOut side t) (span_of s)) (HaveAny (IsOut side t) rest) (all_spans.sides side t) (g.sides side t);
     }
 
-none_left : (X A : Type 0) → X ↔ (A ⊎ ⊥) → X ↔ A
+pub none_left : (X A : Type 0) → X ↔ (A ⊎ ⊥) → X ↔ A
 none_left X A h = (λ x. there (h.0 x), λ a. h.1 (inl a))
   where
     there : A ⊎ ⊥ → A
@@ -129,7 +130,7 @@ remains_end b ps n h r =
     drop_all zero (x ∷ xs) h = absurd (omega arith)
     drop_all (suc n) (x ∷ xs) h = drop_all n xs (omega arith)
 
-first_too : (X A : Type 0) → (A → X) → X ↔ (A ⊎ X)
+pub first_too : (X A : Type 0) → (A → X) → X ↔ (A ⊎ X)
 first_too X A f = (λ x. inr x, λ y. back y)
   where
     back : A ⊎ X → X
@@ -152,3 +153,24 @@ remains_first b (s ∷ ps) d h l r u v =
     at right_side t k = rw r at k
     at bottom_side t k = rw u at k
     at top_side t k = rw v at k
+
+-- no piece has no box
+pub none_of : (ps : List Piece) → length ps ≡ 0 → AreBoundsOf None (map span_of ps)
+none_of [] h = record { sides = λ side t. (λ n. n, λ n. n) }
+none_of (s ∷ ps) h = absurd (omega arith)
+
+-- a box around the spans
+pub some_of : (b : Bounds) (ss : List Span) → AreBounds b ss → AreBoundsOf (Some b) ss
+some_of b ss h = record { sides = h.sides }
+
+pub some_bounds : (o : Option Bounds) (b : Bounds) (ss : List Span) → o ≡ Some b → AreBoundsOf o ss → AreBounds b ss
+some_bounds o b ss e a =
+    let P : Option Bounds → Type 0 = λ x. AreBoundsOf x ss in let h = subst P e a in record { sides = h.sides }
+
+-- a box around a point reaches to the point
+pub around_reaches : (b : Bounds) (p : Place) → b.left ≡ p.x → b.right ≡ p.x → b.bottom ≡ p.y → b.top ≡ p.y → (side : Side) (t : ℤ)
+    → Reaches b side t → IsOut side t p
+around_reaches b p l r u v left_side t k = rw l at k
+around_reaches b p l r u v right_side t k = rw r at k
+around_reaches b p l r u v bottom_side t k = rw u at k
+around_reaches b p l r u v top_side t k = rw v at k

@@ -1,6 +1,8 @@
 pub mod Closed
 pub mod Outside
 pub mod Growing
+pub mod Hull
+pub mod Enclosing
 pub mod Framed
 pub mod Walk
 pub mod Gather

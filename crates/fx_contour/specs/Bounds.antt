@@ -1,10 +1,12 @@
 -- The bounding box of points, and the pixels of a row or a column.
-use Rattle.std.specs.Prelude.{◌⊎◌, ℤ, pos, ◌+ℤ◌, ◌*ℤ◌, ◌≤ℤ◌, List, ◌↔◌}
+use Rattle.std.specs.Prelude.{◌⊎◌, ℤ, pos, ◌+ℤ◌, ◌*ℤ◌, ◌≤ℤ◌, List, [], ◌∷◌, Option, Some, None, ◌↔◌}
 use Rattle.fx_winding.specs.Area.{Place}
 use Rattle.fx_winding.specs.Winding.{Span}
 use Rattle.fx_winding.specs.Frames.{IsFrom}
 use Rattle.fx_contour.specs.declared.bounds.Bounds.{Bounds}
 use Rattle.fx_contour.specs.declared.pixels.Pixels.{Pixels}
+use Rattle.fx_hint.specs.declared.points.OutlinePoint.{OutlinePoint}
+use Rattle.fx_contour.specs.Curve.{doubled_of}
 use Rattle.fx_contour.specs.Frames.{HaveAny}
 
 -- the four sides of a box
@@ -35,6 +37,24 @@ pub record Grows (old new : Bounds) (R : (Place → Type 0) → Type 0) : Type 0
 -- b is the least box around the points of the spans
 pub record AreBounds (b : Bounds) (ss : List Span) : Type 0 where
   pub sides : (side : Side) (t : ℤ) → HaveAny (IsOut side t) ss ↔ Reaches b side t
+
+-- the box, if there is one, reaches t on this side
+abbrev pub DoesReach : Option Bounds → Side → ℤ → Type 0
+DoesReach None side t = ⊥
+DoesReach (Some b) side t = Reaches b side t
+
+-- new is the least box around old, if there is one, and the points of which R tells that one has P
+pub record HaveGrown (old new : Option Bounds) (R : (Place → Type 0) → Type 0) : Type 0 where
+  pub sides : (side : Side) (t : ℤ) → DoesReach new side t ↔ (DoesReach old side t ⊎ R (IsOut side t))
+
+-- b is the least box around the points of the spans, and none if they have no point
+pub record AreBoundsOf (b : Option Bounds) (ss : List Span) : Type 0 where
+  pub sides : (side : Side) (t : ℤ) → HaveAny (IsOut side t) ss ↔ DoesReach b side t
+
+-- one of the points, in 1/128 pixel, has P
+abbrev pub HavePoint : (Place → Type 0) → List OutlinePoint → Type 0
+HavePoint P [] = ⊥
+HavePoint P (p ∷ ps) = P (doubled_of p) ⊎ HavePoint P ps
 
 -- the centre of pixel n lies from low to high
 abbrev pub IsCentreIn : ℤ → ℤ → ℤ → Type 0

@@ -1,15 +1,17 @@
 -- The frame: the box of pixels whose centres lie in the closed bounding box of the points of the spans.
-use Rattle.std.specs.Prelude.{IsTrue, ◌⊎◌, ◌<◌, ℤ, pos, ◌+ℤ◌, ◌≤ℤ◌, int_le, Bool, false, ◌&&◌, ◌||◌, Result, List, [], ◌∷◌, Option}
+use Rattle.std.specs.Prelude.{IsTrue, ◌⊎◌, ◌<◌, ℕ, ℤ, pos, ◌+ℤ◌, ◌≤ℤ◌, int_le, Bool, false, ◌&&◌, ◌||◌, Result, List, [], ◌∷◌, Option}
 use Rattle.std.specs.Prelude.{Some, None, IsSomeAnd, ◌↔◌}
 use Rattle.std.specs.Int.{int_div_euclid}
 use Rattle.std.specs.Option.{option_map_or}
-use Rattle.fx_fixed.specs.Chain.{refuse}
+use Rattle.fx_fixed.specs.Chain.{◌>>=◌, refuse}
 use Rattle.fx_winding.specs.Area.{Place}
 use Rattle.fx_winding.specs.Winding.{Span, centre, IsCovered}
 use Rattle.fx_winding.specs.declared.frame.Frame.{Frame}
 use Rattle.fx_winding.specs.Frames.{IsInFrame}
 use Rattle.fx_winding.specs.Limits.{greatest_side}
 use Rattle.fx_winding.specs.Outside.{AreOfOutline}
+use Rattle.fx_hint.specs.declared.points.OutlinePoint.{OutlinePoint}
+use Rattle.fx_contour.specs.Contours.{drawn_of}
 use Rattle.fx_contour.specs.declared.fault.ContourFault.{ContourFault}
 use Rattle.fx_contour.specs.declared.fault.ContourFault.TheVariants.{TooLarge}
 
@@ -98,3 +100,7 @@ LargeIsTested = (ss : List Span) → IsTrue (is_too_large ss) ↔ AreTooLarge ss
 -- whether the frame keeps its limit
 unfoldable pub framed_of : List Span → Result (Unit {0}) ContourFault
 framed_of ss = refuse (is_too_large ss) TooLarge
+
+-- whether no point of an outline lies too far out and its frame keeps its limit; the first fault
+abbrev pub outline_framed_of : List ℕ → List OutlinePoint → Result (Unit {0}) ContourFault
+outline_framed_of ends points = drawn_of ends points >>= framed_of

@@ -1,7 +1,9 @@
 //! The bounding box of points.
-ghost use Rattle.std.specs.Prelude.{◌^◌, ◌≡◌, [], map, IsSomeAnd, MatchOption};
+ghost use Rattle.std.specs.Prelude.{◌^◌, ◌≡◌, map, All, IsSomeAnd};
 ghost use Rattle.fx_fixed.specs.Ranges.{IsWithin};
 
+use crate::curves::{contour, doubled};
+use fx_hint::{Outline, OutlinePoint};
 use fx_winding::{Piece, Point};
 
 /// The least box that holds some points, in 1/128 pixel.
@@ -19,8 +21,10 @@ pub(crate) struct Bounds {
 
 impl Bounds {
     ghost use Rattle.fx_winding.specs.Winding.{place_of, maybe_place_of, span_of};
-    ghost use Rattle.fx_contour.specs.Frames.{HasAny};
-    ghost use Rattle.fx_contour.specs.Bounds.{Grows, AreBounds};
+    ghost use Rattle.fx_contour.specs.Curve.{curve_of};
+    ghost use Rattle.fx_contour.specs.Contours.{IsInReach, spans_of};
+    ghost use Rattle.fx_contour.specs.Frames.{HasAny, HaveAny};
+    ghost use Rattle.fx_contour.specs.Bounds.{Grows, HaveGrown, HavePoint, AreBoundsOf};
 
     fn around(p: Point) -> Bounds
         ensures left { result.left ≡ p.x }
@@ -66,7 +70,7 @@ impl Bounds {
 
     /// The bounding box of all points of the pieces, control points too.
     pub(crate) fn of(pieces: &[Piece]) -> Option<Bounds>
-        ensures { MatchOption result (pieces.now ≡ []) (λ b. AreBounds b (map span_of pieces.now)) }
+        ensures { AreBoundsOf result (map span_of pieces.now) }
     {
         if pieces.is_empty() {
             return None;
@@ -76,5 +80,46 @@ impl Bounds {
             bounds = bounds.with_piece(piece);
         }
         Some(bounds)
+    }
+    /// The box with the points of a contour.
+    fn with_points(self, points: &[OutlinePoint]) -> Bounds
+        requires { All IsInReach points.now }
+        ensures { Grows self result (λ P. HavePoint P points.now) }
+    {
+        let mut bounds = self;
+        for p in points {
+            bounds = bounds.with_point(doubled(p));
+        }
+        bounds
+    }
+
+    /// The box, if there is one, with the curve of a contour: a contour of fewer than two points has none.
+    fn with_contour(bounds: Option<Bounds>, points: &[OutlinePoint]) -> Option<Bounds>
+        requires { All IsInReach points.now }
+        ensures { HaveGrown bounds result (λ P. HaveAny P (curve_of points.now)) }
+    {
+        if points.len() < 2 {
+            return bounds;
+        }
+        match bounds {
+            None => Some(Bounds::around(doubled(&points[0])).with_points(points)),
+            Some(bounds) => Some(bounds.with_points(points)),
+        }
+    }
+
+    /// The bounding box of all points of the pieces of an outline, found from its points: the other points of its pieces lie
+    /// half way between two of them.
+    pub(crate) fn of_outline(outline: &Outline) -> Option<Bounds>
+        requires { All IsInReach outline.now.points.items }
+        ensures { AreBoundsOf result (spans_of outline.now.ends.items outline.now.points.items) }
+    {
+        let mut bounds = None;
+        let mut start = 0;
+        for end in &outline.ends {
+            let next = usize::from(*end) + 1;
+            bounds = Bounds::with_contour(bounds, contour(&outline.points, start, next));
+            start = next;
+        }
+        bounds
     }
 }

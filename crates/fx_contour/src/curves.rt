@@ -34,7 +34,7 @@ fn is_in_reach(p: &OutlinePoint) -> bool
 }
 
 /// Whether all points are within the limit.
-fn are_in_reach(points: &[OutlinePoint]) -> bool
+pub(crate) fn are_in_reach(points: &[OutlinePoint]) -> bool
     ensures { IsTrue result ↔ All IsInReach points.now }
 {
     points.iter().all(|p| is_in_reach(p))
@@ -60,7 +60,7 @@ fn half_sum(a: F26, b: F26) -> i32
 }
 
 /// A point in 1/128 pixel.
-fn doubled(p: &OutlinePoint) -> Point
+pub(crate) fn doubled(p: &OutlinePoint) -> Point
     requires { IsInReach p.now }
     ensures { place_of result ≡ doubled_of p.now }
 {
@@ -165,7 +165,7 @@ fn add_contour(made: &mut Pieces, points: &[OutlinePoint]) -> Result<(), AllocEr
 }
 
 /// The points of a contour, from `start` to the one before `next`.
-fn contour(points: &[OutlinePoint], start: usize, next: usize) -> &[OutlinePoint]
+pub(crate) fn contour(points: &[OutlinePoint], start: usize, next: usize) -> &[OutlinePoint]
     requires order { start ≤ next }
     requires within { next ≤ length points.now }
     ensures { result.now ≡ take (next - start) (drop start points.now) }

@@ -1,7 +1,8 @@
 //! The pieces of an outline, lines and quadratic arcs, and the box of pixels around them.
 //!
 //! An outline's points are in 26.6 pixels and its pieces in 1/128 pixel, so that a midpoint of two points is exact.
-//! `pieces` makes each contour one closed chain of pieces; `frame` gives the least box of pixels that can hold a set one.
+//! `pieces` makes each contour one closed chain of pieces; `frame` gives the least box of pixels that can hold a set one, and
+//! `outline_frame` gives it without making the pieces.
 #![tactic(auto)]
 
 mod bounds;
@@ -13,7 +14,7 @@ mod pixels;
 
 pub use curves::pieces;
 pub use fault::ContourFault;
-pub use frames::frame;
+pub use frames::{frame, outline_frame};
 
 #[cfg(test)]
 mod tests;

@@ -1,5 +1,5 @@
 //! Small outlines, with their pieces and frames by hand.
-use crate::{frame, pieces};
+use crate::{ContourFault, frame, outline_frame, pieces};
 use fx_fixed::F26;
 use fx_hint::{Outline, OutlinePoint};
 use fx_winding::{Frame, Piece, Point};
@@ -38,9 +38,13 @@ fn makes(
     let Ok(Some(f)) = frame(&made) else {
         return false;
     };
+    let Ok(Some(by_points)) = outline_frame(outline) else {
+        return false;
+    };
     let list = made.as_slice();
     list.len() == arcs.len()
         && sides(f) == box_sides
+        && sides(by_points) == box_sides
         && list
             .iter()
             .zip(arcs.iter())
@@ -119,6 +123,28 @@ fn two_points_and_lone_points(rt: HostRuntime) {
     };
     let arcs = [[(0, 64), (384, 64), (0, 64)]];
     assert!(rt; makes(&rt, &outline, &arcs, (0, 0, 3, 1)));
+}
+
+#[test]
+fn a_lone_point_may_be_too_far(rt: HostRuntime) {
+    let alloc = rt.alloc();
+    // 2^21 + 1, one more than the limit, in a contour of its own.
+    let points = [
+        point(0, 0, true),
+        point(64, 64, true),
+        point(2_097_153, 0, true),
+    ];
+    let points = Vec::from_array(alloc, points).expect(&rt, "memory");
+    let ends = Vec::from_array(alloc, [1u16, 2]).expect(&rt, "memory");
+    let outline = Outline {
+        points,
+        ends,
+        advance: F26(0),
+        strays: 0,
+        steps: 0,
+    };
+    let far = outline_frame(&outline).err();
+    assert!(rt; far == Some(ContourFault::TooFar));
 }
 
 #[test]

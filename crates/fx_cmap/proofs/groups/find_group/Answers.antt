@@ -11,24 +11,24 @@ returns-then-k-count c =
     lt-leb _ _ (omega (
       arith,
       end_char_code_is c.args.cmap.now c.args.start x,
-      c.first_reaching-k.ensures.before x
+      c.first_reaching_near-k.ensures.before x
           (omega arith),
     ))))
 
 pub returns : goal.returns
 returns c =
     let f = group_of c.args.cmap.now c.args.start in
-    let k = c.first_reaching-k.result in
+    let k = c.first_reaching_near-k.result in
     ap Some c.group.ensures
     ∙ sym (found_at f (λ g. nat_le c.args.code g.end_char_code) 0 c.args.count k k (omega arith) (omega arith)
     (λ x above below. lt-leb _ _ (omega (
       arith,
       end_char_code_is c.args.cmap.now c.args.start x,
-      c.first_reaching-k.ensures.before x below,
+      c.first_reaching_near-k.ensures.before x below,
     )))
     (le-leb _ _ (omega (
       arith,
       end_char_code_is c.args.cmap.now c.args.start k,
-      c.first_reaching-k.ensures.reaches
+      c.first_reaching_near-k.ensures.reaches
           (omega arith),
     ))))

@@ -12,34 +12,34 @@ returns-then-k-count-clause-value c =
     lt-leb _ _ (omega (
       arith,
       end_code_is c.args.cmap.now c.args.start c.args.count x,
-      c.first_reaching-k.ensures.before x
+      c.first_reaching_near-k.ensures.before x
           (omega arith),
     ))))
 
 pub returns-clause-value : goal.returns-clause-value
 returns-clause-value c =
     let f = segment_of c.args.cmap.now c.args.start c.args.count in
-    let k = c.first_reaching-k.result in
+    let k = c.first_reaching_near-k.result in
     ap Some c.segment.ensures.value
     ∙ sym (found_at f (λ s. nat_le c.args.code s.end_code) 0 c.args.count k k (omega arith) (omega arith)
     (λ x above below. lt-leb _ _ (omega (
       arith,
       end_code_is c.args.cmap.now c.args.start c.args.count x,
-      c.first_reaching-k.ensures.before x below,
+      c.first_reaching_near-k.ensures.before x below,
     )))
     (le-leb _ _ (omega (
       arith,
       end_code_is c.args.cmap.now c.args.start c.args.count k,
-      c.first_reaching-k.ensures.reaches
+      c.first_reaching_near-k.ensures.reaches
           (omega arith),
     ))))
 
 pub returns-clause-reaches : goal.returns-clause-reaches
 returns-clause-reaches c =
-    let k = c.first_reaching-k.result in
+    let k = c.first_reaching_near-k.result in
     omega (
       arith,
       ap (λ (s : Segment). s.end_code) c.segment.ensures.value,
       end_code_is c.args.cmap.now c.args.start c.args.count k,
-      c.first_reaching-k.ensures.reaches (omega arith),
+      c.first_reaching_near-k.ensures.reaches (omega arith),
     )

@@ -14,8 +14,8 @@ contour-requires c =
     let ends = c.deref-end-items.ensures.value in
     let points = ap length c.deref-in-loop-end.ensures.value in
     let inside : c.loop-end.end-index < length o.ends.items = (let e = ap length ends in omega arith) in
-    let w = next_within c.loop-end.made c.loop-end.start o.ends.items c.loop-end.end-index o.points.items c.from-next.result 0
-    c.loop-end.invariant inside (c.from-next.ensures ∙ ap (λ xs. get_or xs c.loop-end.end-index 0) ends) in
+    let w = next_within c.loop-end.start o.ends.items c.loop-end.end-index o.points.items c.from-next.result 0
+    c.loop-end.invariant.ends_left inside (c.from-next.ensures ∙ ap (λ xs. get_or xs c.loop-end.end-index 0) ends) in
     record { order = w.0; within = omega (arith, w.1, points) }
 
 pub loop-end-preserved : goal.loop-end-preserved

@@ -1,6 +1,8 @@
-use Rattle.std.proofs.Common.{◌≡◌, ◌<◌, length, arith, ℕ, zero, suc, Bool, false}
+use Rattle.std.proofs.Common.{◌≡◌, ◌<◌, length, arith, ℕ, zero, suc, Bool, false, map, sym, ◌∙◌}
+use Rattle.std.proofs.lemmas.Bool.{eqb-true}
+use Rattle.fx_winding.specs.Winding.{span_of}
 use Rattle.std.specs.Bool.{◌==◌}
-use Rattle.fx_contour.proofs.Growing.{remains_first, remains_more, remains_end}
+use Rattle.fx_contour.proofs.Growing.{remains_first, remains_more, remains_end, none_of, some_of}
 use Rattle.fx_contour.proofs.bounds.Bounds.of.Goals as goal
 
 nonempty : (n : ℕ) (b : Bool) → b ≡ (n == 0) → b ≡ false → 0 < n
@@ -18,6 +20,11 @@ loop-piece-preserved c =
     remains_more c.loop-piece.bounds c.with_piece-bounds.result c.args.pieces.now c.loop-piece.piece-index c.piece-item.result
     c.loop-piece-test.true c.piece-item.is c.loop-piece.invariant c.with_piece-bounds.ensures
 
+pub returns-then-is_empty : goal.returns-then-is_empty
+returns-then-is_empty c =
+    none_of c.args.pieces.now (eqb-true (length c.args.pieces.now) 0 (sym c.is_empty.ensures ∙ c.if-is_empty.true))
+
 pub returns : goal.returns
 returns c =
-    remains_end c.loop-piece.bounds c.args.pieces.now c.loop-piece.piece-index c.loop-piece-test.false c.loop-piece.invariant
+    some_of c.loop-piece.bounds (map span_of c.args.pieces.now)
+    (remains_end c.loop-piece.bounds c.args.pieces.now c.loop-piece.piece-index c.loop-piece-test.false c.loop-piece.invariant)

@@ -1,51 +1,54 @@
-use Rattle.std.proofs.Common.{map, arith, refl}
+use Rattle.std.proofs.Common.{arith, refl}
 use Rattle.std.proofs.lemmas.Int.{ints}
-use Rattle.fx_winding.specs.Winding.{span_of}
-use Rattle.fx_contour.proofs.Framed.{same_pixels, same_none, no_columns, no_rows, too_wide, too_high, is_frame}
-use Rattle.fx_contour.proofs.frames.frame_inner.Goals as goal
+use Rattle.fx_contour.proofs.Framed.{same_pixels, same_none, no_box, no_columns, no_rows, too_wide, too_high, is_frame}
+use Rattle.fx_contour.proofs.Growing.{some_bounds}
+use Rattle.fx_contour.proofs.frames.frame_around.Goals as goal
+
+pub returns-in_default-clause-ok : goal.returns-in_default-clause-ok
+returns-in_default-clause-ok c ss a = no_box c.args.bounds ss c.in_default.is a
 
 pub returns-in_default-between-clause-ok : goal.returns-in_default-between-clause-ok
-returns-in_default-between-clause-ok c =
+returns-in_default-between-clause-ok c ss a =
     let b = c.in-Some.bounds in
-    no_columns b (map span_of c.args.pieces.now) c.in-Some.ensures
+    no_columns b ss (some_bounds c.args.bounds b ss c.in-Some.is a)
     (same_none _ _ b.left b.right (omega (arith, ints)) (omega (arith, ints)) c.in_default-between.ensures)
 
 pub returns-in_default-between-2-clause-ok : goal.returns-in_default-between-2-clause-ok
-returns-in_default-between-2-clause-ok c =
+returns-in_default-between-2-clause-ok c ss a =
     let b = c.in-Some.bounds in
-    no_rows b (map span_of c.args.pieces.now) c.in-Some.ensures
+    no_rows b ss (some_bounds c.args.bounds b ss c.in-Some.is a)
     (same_none _ _ b.bottom b.top (omega (arith, ints)) (omega (arith, ints)) c.in_default-between-2.ensures)
 
 pub returns-then-columns-gt-MAX_SIDE-clause-fault : goal.returns-then-columns-gt-MAX_SIDE-clause-fault
-returns-then-columns-gt-MAX_SIDE-clause-fault c =
+returns-then-columns-gt-MAX_SIDE-clause-fault c ss a =
     let b = c.in-Some.bounds in
     let s = c.in-Some-between.columns in
     let r = c.in-Some-between-2.rows in (
       refl,
-      too_wide b (map span_of c.args.pieces.now) s r c.in-Some.ensures
+      too_wide b ss s r (some_bounds c.args.bounds b ss c.in-Some.is a)
           (same_pixels s _ _ b.left b.right (omega (arith, ints)) (omega (arith, ints)) c.in-Some-between.ensures)
           (same_pixels r _ _ b.bottom b.top (omega (arith, ints)) (omega (arith, ints)) c.in-Some-between-2.ensures)
           c.if-columns-gt-MAX_SIDE.true,
     )
 
 pub returns-then-rows-gt-MAX_SIDE-clause-fault : goal.returns-then-rows-gt-MAX_SIDE-clause-fault
-returns-then-rows-gt-MAX_SIDE-clause-fault c =
+returns-then-rows-gt-MAX_SIDE-clause-fault c ss a =
     let b = c.in-Some.bounds in
     let s = c.in-Some-between.columns in
     let r = c.in-Some-between-2.rows in (
       refl,
-      too_high b (map span_of c.args.pieces.now) s r c.in-Some.ensures
+      too_high b ss s r (some_bounds c.args.bounds b ss c.in-Some.is a)
           (same_pixels s _ _ b.left b.right (omega (arith, ints)) (omega (arith, ints)) c.in-Some-between.ensures)
           (same_pixels r _ _ b.bottom b.top (omega (arith, ints)) (omega (arith, ints)) c.in-Some-between-2.ensures)
           c.if-rows-gt-MAX_SIDE.true,
     )
 
 pub returns-clause-ok : goal.returns-clause-ok
-returns-clause-ok c =
+returns-clause-ok c ss a =
     let b = c.in-Some.bounds in
     let s = c.in-Some-between.columns in
     let r = c.in-Some-between-2.rows in
-    is_frame b (map span_of c.args.pieces.now) s r _ c.in-Some.ensures
+    is_frame b ss s r _ (some_bounds c.args.bounds b ss c.in-Some.is a)
     (same_pixels s _ _ b.left b.right (omega (arith, ints)) (omega (arith, ints)) c.in-Some-between.ensures)
     (same_pixels r _ _ b.bottom b.top (omega (arith, ints)) (omega (arith, ints)) c.in-Some-between-2.ensures)
     (omega (arith, ints)) refl (omega (arith, ints)) refl

@@ -1,0 +1,44 @@
+//! A character map that is read at one code after the other.
+
+ghost use Rattle.std.specs.Prelude.{◌≡◌};
+ghost use Rattle.fx_cmap.specs.Lookup.{glyph_for};
+
+use crate::char_map::CharMap;
+use std::marker::Model;
+
+/// A character map with the place where it was read last. Contracts see it as the map.
+///
+/// It returns the glyphs that the map does, and is quick for codes in rising order: most of them lie in the segment or group
+/// that was found last, or in the next one.
+#[derive(Drop)]
+pub struct Cursor<'m, 'a> {
+    map: &'m CharMap<'a>,
+    // The number of the segment or group that was found last.
+    near: u32,
+}
+
+impl<'m, 'a> Model for Cursor<'m, 'a> {
+    ghost use Rattle.fx_cmap.specs.declared.mapping.Mapping.{Mapping};
+
+    ghost Value = { Mapping };
+
+    ghost view = { λ c. c.map.now };
+}
+
+impl<'m, 'a> Cursor<'m, 'a> {
+    /// A cursor at the first segment or group of a map.
+    pub fn new(map: &'m CharMap<'a>) -> Cursor<'m, 'a>
+        ensures { result ≡ map.now }
+    {
+        Cursor { map, near: 0 }
+    }
+
+    /// The glyph of a character code, 0 if it has none; for every number, in any order.
+    #[inline]
+    pub fn glyph(&mut self, code: u32) -> u16
+        ensures value { result ≡ glyph_for self.old code }
+        ensures kept { self.new ≡ self.old }
+    {
+        self.map.glyph_near(&mut self.near, code)
+    }
+}

@@ -1,0 +1,191 @@
+-- The bounding box of the curve of a contour is that of its points: its other points lie half way between two of them.
+-- For `Bounds::with_contour`.
+use Rattle.std.proofs.Common.{◌≡◌, ◌⊎◌, inl, inr, ℤ, Bool, true, false, List, [], ◌∷◌, ◌++◌, Option, Some, None, refl}
+use Rattle.std.proofs.Common.{sym, subst, arith, option_to_list, if◌then◌else◌, ◌↔◌}
+use Rattle.std.proofs.lemmas.Int.{ints, by_lt_z}
+use Rattle.fx_winding.specs.Area.{Place}
+use Rattle.fx_winding.specs.Winding.{Span}
+use Rattle.fx_hint.specs.declared.points.OutlinePoint.{OutlinePoint}
+use Rattle.fx_contour.specs.Curve.{doubled_of, middle_of, joint_of, span_at, first_or, last_or, spans_between, curve_of}
+use Rattle.fx_contour.specs.Frames.{HasAny, HaveAny}
+use Rattle.fx_contour.specs.Bounds.{Side, left_side, right_side, bottom_side, top_side, IsOut, HavePoint}
+
+-- a midpoint that has P lies between two points of which one has P
+abbrev pub IsOfEnds : (Place → Type 0) → Type 0
+IsOfEnds P = (p q : OutlinePoint) → P (middle_of p q) → P (doubled_of p) ⊎ P (doubled_of q)
+
+pub out_of_ends : (side : Side) (t : ℤ) → IsOfEnds (IsOut side t)
+out_of_ends left_side t p q h = by_lt_z p.x q.x (λ k. inl (omega (arith, ints))) (λ k. inr (omega (arith, ints)))
+out_of_ends right_side t p q h = by_lt_z p.x q.x (λ k. inr (omega (arith, ints))) (λ k. inl (omega (arith, ints)))
+out_of_ends bottom_side t p q h = by_lt_z p.y q.y (λ k. inl (omega (arith, ints))) (λ k. inr (omega (arith, ints)))
+out_of_ends top_side t p q h = by_lt_z p.y q.y (λ k. inr (omega (arith, ints))) (λ k. inl (omega (arith, ints)))
+
+-- ---- lists of spans, one after the other
+
+pub have_either : (P : Place → Type 0) (xs ys : List Span) → HaveAny P (xs ++ ys) → HaveAny P xs ⊎ HaveAny P ys
+have_either P [] ys h = inr h
+have_either P (x ∷ xs) ys (inl h) = inl (inl h)
+have_either P (x ∷ xs) ys (inr h) = elim (have_either P xs ys h) [ inl a ↦ inl (inr a) | inr b ↦ inr b ]
+
+pub have_left : (P : Place → Type 0) (xs ys : List Span) → HaveAny P xs → HaveAny P (xs ++ ys)
+have_left P [] ys h = absurd h
+have_left P (x ∷ xs) ys (inl h) = inl h
+have_left P (x ∷ xs) ys (inr h) = inr (have_left P xs ys h)
+
+pub have_right : (P : Place → Type 0) (xs ys : List Span) → HaveAny P ys → HaveAny P (xs ++ ys)
+have_right P [] ys h = h
+have_right P (x ∷ xs) ys h = inr (have_right P xs ys h)
+
+-- ---- each point of the curve
+
+joint_one : (P : Place → Type 0) → IsOfEnds P → (p q : OutlinePoint) → P (joint_of p q) → P (doubled_of p) ⊎ P (doubled_of q)
+joint_one P d p q h = by p.on_curve q.on_curve h
+  where
+    by : (a b : Bool) → P (if a then doubled_of p else (if b then doubled_of q else middle_of p q))
+        → P (doubled_of p) ⊎ P (doubled_of q)
+    by true b k = inl k
+    by false true k = inr k
+    by false false k = d p q k
+
+-- a point of what q adds gives one of the three
+span_one : (P : Place → Type 0) → IsOfEnds P → (p q r : OutlinePoint) → HaveAny P (option_to_list (span_at p q r))
+    → P (doubled_of p) ⊎ (P (doubled_of q) ⊎ P (doubled_of r))
+span_one P d p q r h = by p.on_curve q.on_curve h
+  where
+    arc : HasAny P (record { a = joint_of p q; b = Some (doubled_of q); c = joint_of q r })
+        → P (doubled_of p) ⊎ (P (doubled_of q) ⊎ P (doubled_of r))
+    arc (inl k) = elim (joint_one P d p q k) [ inl a ↦ inl a | inr b ↦ inr (inl b) ]
+    arc (inr (inl k)) = inr (inl k)
+    arc (inr (inr k)) = inr (joint_one P d q r k)
+
+    by : (a b : Bool) → HaveAny P (option_to_list (if b then
+        (if a then Some (record { a = doubled_of p; b = None; c = doubled_of q }) else None) else Some (record {
+          a = joint_of p q;
+          b = Some (doubled_of q);
+          c = joint_of q r;
+        }))) → P (doubled_of p) ⊎ (P (doubled_of q) ⊎ P (doubled_of r))
+    by true true (inl (inl k)) = inl k
+    by true true (inl (inr (inl k))) = absurd k
+    by true true (inl (inr (inr k))) = inr (inl k)
+    by true true (inr k) = absurd k
+    by false true k = absurd k
+    by a false (inl k) = arc k
+    by a false (inr k) = absurd k
+
+first_one : (P : Place → Type 0) (qs : List OutlinePoint) (r : OutlinePoint) → P (doubled_of (first_or qs r))
+    → HavePoint P qs ⊎ P (doubled_of r)
+first_one P [] r h = inr h
+first_one P (q ∷ qs) r h = inl (inl h)
+
+last_one : (P : Place → Type 0) (q : OutlinePoint) (qs : List OutlinePoint) → P (doubled_of (last_or q qs)) → HavePoint P (q ∷ qs)
+last_one P q [] h = inl h
+last_one P q (s ∷ qs) h = inr (last_one P s qs h)
+
+between_one : (P : Place → Type 0) → IsOfEnds P → (p : OutlinePoint) (qs : List OutlinePoint) (r : OutlinePoint)
+    → HaveAny P (spans_between p qs r) → P (doubled_of p) ⊎ (HavePoint P qs ⊎ P (doubled_of r))
+between_one P d p [] r h = absurd h
+between_one P d p (q ∷ qs) r h =
+    by (have_either P (option_to_list (span_at p q (first_or qs r))) (spans_between q qs r) h) (between_one P d q qs r)
+  where
+    later : HavePoint P qs ⊎ P (doubled_of r) → P (doubled_of p) ⊎ (HavePoint P (q ∷ qs) ⊎ P (doubled_of r))
+    later (inl k) = inr (inl (inr k))
+    later (inr k) = inr (inr k)
+
+    here : P (doubled_of p) ⊎ (P (doubled_of q) ⊎ P (doubled_of (first_or qs r)))
+        → P (doubled_of p) ⊎ (HavePoint P (q ∷ qs) ⊎ P (doubled_of r))
+    here (inl k) = inl k
+    here (inr (inl k)) = inr (inl (inl k))
+    here (inr (inr k)) = later (first_one P qs r k)
+
+    there : P (doubled_of q) ⊎ (HavePoint P qs ⊎ P (doubled_of r)) → P (doubled_of p) ⊎ (HavePoint P (q ∷ qs) ⊎ P (doubled_of r))
+    there (inl k) = inr (inl (inl k))
+    there (inr k) = later k
+
+    by : HaveAny P (option_to_list (span_at p q (first_or qs r))) ⊎ HaveAny P (spans_between q qs r)
+        → (HaveAny P (spans_between q qs r) → P (doubled_of q) ⊎ (HavePoint P qs ⊎ P (doubled_of r)))
+        → P (doubled_of p) ⊎ (HavePoint P (q ∷ qs) ⊎ P (doubled_of r))
+    by (inl k) more = here (span_one P d p q (first_or qs r) k)
+    by (inr k) more = there (more k)
+
+curve_point : (P : Place → Type 0) → IsOfEnds P → (p q : OutlinePoint) (qs : List OutlinePoint) → HaveAny P (curve_of (p ∷ q ∷ qs))
+    → HavePoint P (p ∷ q ∷ qs)
+curve_point P d p q qs h = by (between_one P d (last_or q qs) (p ∷ q ∷ qs) p h)
+  where
+    by : P (doubled_of (last_or q qs)) ⊎ (HavePoint P (p ∷ q ∷ qs) ⊎ P (doubled_of p)) → HavePoint P (p ∷ q ∷ qs)
+    by (inl k) = inr (last_one P q qs k)
+    by (inr (inl k)) = k
+    by (inr (inr k)) = inl k
+
+-- ---- each point of the contour
+
+on_or_off : (b : Bool) → (b ≡ true) ⊎ (b ≡ false)
+on_or_off true = inl refl
+on_or_off false = inr refl
+
+arc_at : (p q r : OutlinePoint) → q.on_curve ≡ false
+    → span_at p q r ≡ Some (record { a = joint_of p q; b = Some (doubled_of q); c = joint_of q r })
+arc_at p q r e = rw e refl
+
+line_at : (p q r : OutlinePoint) → q.on_curve ≡ true → p.on_curve ≡ true
+    → span_at p q r ≡ Some (record { a = doubled_of p; b = None; c = doubled_of q })
+line_at p q r e f = rw (e, f) refl
+
+joint_at : (p q : OutlinePoint) → p.on_curve ≡ false → q.on_curve ≡ true → joint_of p q ≡ doubled_of q
+joint_at p q e f = rw (e, f) refl
+
+have_span : (P : Place → Type 0) (o : Option Span) (s : Span) → o ≡ Some s → HasAny P s → HaveAny P (option_to_list o)
+have_span P o s e h = subst (λ (x : Option Span). HaveAny P (option_to_list x)) (sym e) (inl h)
+
+-- p is off the curve and q on it, so that the arc of p ends in q; and q has P
+record Ends (P : Place → Type 0) (p q : OutlinePoint) : Type 0 where
+  off : p.on_curve ≡ false
+  on : q.on_curve ≡ true
+  has : P (doubled_of q)
+
+arc_ends : (P : Place → Type 0) (p q r : OutlinePoint) → Ends P q r → HaveAny P (option_to_list (span_at p q r))
+arc_ends P p q r e =
+    have_span P (span_at p q r) (record { a = joint_of p q; b = Some (doubled_of q); c = joint_of q r }) (arc_at p q r e.off)
+    (inr (inr (subst P (sym (joint_at q r e.off e.on)) e.has)))
+
+-- the last point's arc ends in r
+last_arc : (P : Place → Type 0) (p q : OutlinePoint) (qs : List OutlinePoint) (r : OutlinePoint) → Ends P (last_or q qs) r
+    → HaveAny P (spans_between p (q ∷ qs) r)
+last_arc P p q [] r e = have_left P (option_to_list (span_at p q r)) [] (arc_ends P p q r e)
+last_arc P p q (s ∷ qs) r e =
+    have_right P (option_to_list (span_at p q s)) (spans_between q (s ∷ qs) r) (last_arc P q s qs r e)
+
+-- a point of the list is one of a span, or p's arc ends in it
+point_one : (P : Place → Type 0) (p : OutlinePoint) (qs : List OutlinePoint) (r : OutlinePoint) → HavePoint P qs
+    → HaveAny P (spans_between p qs r) ⊎ Ends P p (first_or qs r)
+point_one P p [] r h = absurd h
+point_one P p (q ∷ qs) r (inl h) = by (on_or_off q.on_curve) (on_or_off p.on_curve)
+  where
+    by : (q.on_curve ≡ true) ⊎ (q.on_curve ≡ false) → (p.on_curve ≡ true) ⊎ (p.on_curve ≡ false)
+        → HaveAny P (spans_between p (q ∷ qs) r) ⊎ Ends P p q
+    by (inr e) f =
+        inl (have_left P (option_to_list (span_at p q (first_or qs r))) (spans_between q qs r)
+        (have_span P (span_at p q (first_or qs r)) _ (arc_at p q (first_or qs r) e) (inr (inl h))))
+    by (inl e) (inl f) =
+        inl (have_left P (option_to_list (span_at p q (first_or qs r))) (spans_between q qs r)
+        (have_span P (span_at p q (first_or qs r)) _ (line_at p q (first_or qs r) e f) (inr (inr h))))
+    by (inl e) (inr f) = inr (record { off = f; on = e; has = h })
+point_one P p (q ∷ qs) r (inr h) = by (point_one P q qs r h)
+  where
+    by : HaveAny P (spans_between q qs r) ⊎ Ends P q (first_or qs r) → HaveAny P (spans_between p (q ∷ qs) r) ⊎ Ends P p q
+    by (inl k) = inl (have_right P (option_to_list (span_at p q (first_or qs r))) (spans_between q qs r) k)
+    by (inr e) =
+        inl (have_left P (option_to_list (span_at p q (first_or qs r))) (spans_between q qs r)
+        (arc_ends P p q (first_or qs r) e))
+
+point_curve : (P : Place → Type 0) (p q : OutlinePoint) (qs : List OutlinePoint) → HavePoint P (p ∷ q ∷ qs)
+    → HaveAny P (curve_of (p ∷ q ∷ qs))
+point_curve P p q qs h = by (point_one P (last_or q qs) (p ∷ q ∷ qs) p h)
+  where
+    by : HaveAny P (curve_of (p ∷ q ∷ qs)) ⊎ Ends P (last_or q qs) p → HaveAny P (curve_of (p ∷ q ∷ qs))
+    by (inl k) = k
+    by (inr e) = last_arc P (last_or q qs) p (q ∷ qs) p e
+
+-- a side of the curve is one of its points
+pub hull : (side : Side) (t : ℤ) (p q : OutlinePoint) (qs : List OutlinePoint)
+    → HaveAny (IsOut side t) (curve_of (p ∷ q ∷ qs)) ↔ HavePoint (IsOut side t) (p ∷ q ∷ qs)
+hull side t p q qs = (curve_point (IsOut side t) (out_of_ends side t) p q qs, point_curve (IsOut side t) p q qs)
