@@ -124,7 +124,7 @@ are_small ss d small =
 
 -- ---- glyphs
 
-glyph_of_spans : (s : Sketch) → AreDrawn s.spans → (AreTooLarge s.spans → ⊥) → (g : Glyph) × IsGlyphOf s g
+pub glyph_of_spans : (s : Sketch) → AreDrawn s.spans → (AreTooLarge s.spans → ⊥) → (g : Glyph) × IsGlyphOf s g
 glyph_of_spans s d small =
     let t = trimmed (bit_by s.spans) (negsuc 32767) 65536 s.code s.swidth s.dwidth (are_small s.spans d small) in
     let bits : (col row : ℤ) → glyph_bit t.0 col row ≡ bit_by s.spans col row = t.1.bits in (
@@ -175,27 +175,27 @@ glyph_of_sketch hinting face ppem code glyph s h =
         let P : Sketch → Type 0 = λ y. (g : Glyph) × IsGlyphOf y g in
         subst P e (glyph_of_spans x drawn small)
 
-glyphs_of_sketches : (hinting : Hinting) (face : Face) (segments : Mapping) (ppem : ℕ) (codes : List ℕ) (ss : List Sketch)
-    → map_chain (sketch_of hinting face segments ppem) codes ≡ Ok ss → (gs : List Glyph) × AreGlyphsOf ss gs
-glyphs_of_sketches hinting face segments ppem [] ss h =
+glyphs_of_sketches : (hinting : Hinting) (face : Face) (mapping : Mapping) (ppem : ℕ) (codes : List ℕ) (ss : List Sketch)
+    → map_chain (sketch_of hinting face mapping ppem) codes ≡ Ok ss → (gs : List Glyph) × AreGlyphsOf ss gs
+glyphs_of_sketches hinting face mapping ppem [] ss h =
     let e : [] ≡ ss = cc in
     let P : List Sketch → Type 0 = λ xs. (gs : List Glyph) × AreGlyphsOf xs gs in
     subst P e ([], tt)
-glyphs_of_sketches hinting face segments ppem (c ∷ cs) ss h =
+glyphs_of_sketches hinting face mapping ppem (c ∷ cs) ss h =
     let p =
-    bind_ok (sketch_of hinting face segments ppem c)
-    (λ y. map_chain (sketch_of hinting face segments ppem) cs >>= λ zs. Ok (y ∷ zs)) ss
+    bind_ok (sketch_of hinting face mapping ppem c)
+    (λ y. map_chain (sketch_of hinting face mapping ppem) cs >>= λ zs. Ok (y ∷ zs)) ss
     h in
-    let q = bind_ok (map_chain (sketch_of hinting face segments ppem) cs) (λ zs. Ok (p.0 ∷ zs)) ss p.2 in
+    let q = bind_ok (map_chain (sketch_of hinting face mapping ppem) cs) (λ zs. Ok (p.0 ∷ zs)) ss p.2 in
     let e : p.0 ∷ q.0 ≡ ss = cc (q.2) in
-    let g = glyph_of_sketch hinting face ppem c (glyph_for segments c) p.0 p.1 in
-    let gs = glyphs_of_sketches hinting face segments ppem cs q.0 q.1 in
+    let g = glyph_of_sketch hinting face ppem c (glyph_for mapping c) p.0 p.1 in
+    let gs = glyphs_of_sketches hinting face mapping ppem cs q.0 q.1 in
     let P : List Sketch → Type 0 = λ xs. (gs : List Glyph) × AreGlyphsOf xs gs in
     subst P e (g.0 ∷ gs.0, (g.1, gs.1))
 
 pub strike_exists : StrikeExists
 strike_exists file ppem name chars hinting plan h =
     let p = parts_of file ppem name chars hinting plan h in
-    glyphs_of_sketches p.prelude.hinting p.face p.segments p.size (filter (λ c. not (is_missing p.segments c)) (rising chars))
+    glyphs_of_sketches p.prelude.hinting p.face p.mapping p.size (filter (λ c. not (is_missing p.mapping c)) (rising chars))
     plan.sketches
     p.sketches

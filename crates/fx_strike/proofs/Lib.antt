@@ -9,3 +9,4 @@ pub mod Covering
 pub mod Near
 pub mod Trimming
 pub mod Existing
+pub mod Enclosed

@@ -30,8 +30,8 @@ use Rattle.fx_strike.specs.Characters.{rising}
 use Rattle.fx_strike.specs.Strike.{Sketch, Prelude, Opening, Plan, prelude_of, prelude_for, pixels, is_missing, sketches_of}
 use Rattle.fx_strike.specs.Strike.{opened_of, plan_after, plan_in, plan_of}
 use Rattle.fx_strike.specs.Headline.{counted, IsCause, Surveyed, Leaves}
-use Rattle.fx_strike.specs.Surveying.{Holds, seen_prelude, survey_from, Surveys}
-use Rattle.fx_strike.proofs.Seeing.{fails_on}
+use Rattle.fx_strike.specs.inner.Surveying.{Holds, seen_prelude, survey_from, Surveys}
+use Rattle.fx_strike.proofs.Sketching.{fails_on}
 
 -- ---- when the plan stops
 
@@ -40,35 +40,35 @@ plan_unopened : (file : List ℕ) (ppem : ℕ) (name chars : List ℕ) (hinting 
 unfolding plan_of
 plan_unopened file ppem name chars hinting d h = rw h
 
-plan_opened : (file : List ℕ) (ppem : ℕ) (name chars : List ℕ) (hinting : Bool) (size : ℕ) (face : Face) (segments : Mapping)
-    → opened_of file ppem name chars ≡ Ok (size, face, segments)
-    → plan_of file ppem name chars hinting ≡ plan_in face segments size name chars hinting
+plan_opened : (file : List ℕ) (ppem : ℕ) (name chars : List ℕ) (hinting : Bool) (size : ℕ) (face : Face) (mapping : Mapping)
+    → opened_of file ppem name chars ≡ Ok (size, face, mapping)
+    → plan_of file ppem name chars hinting ≡ plan_in face mapping size name chars hinting
 unfolding plan_of
-plan_opened file ppem name chars hinting size face segments h = rw h
+plan_opened file ppem name chars hinting size face mapping h = rw h
 
-plan_refused : (prelude : Prelude) (face : Face) (segments : Mapping) (ppem : ℕ) (name chars : List ℕ) (d : Refusal)
-    → sketches_of prelude.hinting face segments ppem (rising chars) ≡ Err d
-    → plan_after prelude face segments ppem name chars ≡ Err d
+plan_refused : (prelude : Prelude) (face : Face) (mapping : Mapping) (ppem : ℕ) (name chars : List ℕ) (d : Refusal)
+    → sketches_of prelude.hinting face mapping ppem (rising chars) ≡ Err d
+    → plan_after prelude face mapping ppem name chars ≡ Err d
 unfolding plan_after
-plan_refused prelude face segments ppem name chars d h = rw h
+plan_refused prelude face mapping ppem name chars d h = rw h
 
 abbrev whole_plan : Prelude → ℕ → List ℕ → List ℕ → Face → Mapping → List Sketch → Plan
-whole_plan prelude ppem name chars face segments ss = record {
+whole_plan prelude ppem name chars face mapping ss = record {
   name = name;
   ppem = ppem;
   ascent = pixels face.hhea.ascender ppem face.head.units_per_em;
   descent = pixels (neg_ℤ face.hhea.descender) ppem face.head.units_per_em;
   sketches = ss;
-  missing = count_by (is_missing segments) (rising chars);
+  missing = count_by (is_missing mapping) (rising chars);
   strays = prelude.strays;
   steps = prelude.steps;
 }
 
-plan_whole : (prelude : Prelude) (face : Face) (segments : Mapping) (ppem : ℕ) (name chars : List ℕ) (ss : List Sketch)
-    → sketches_of prelude.hinting face segments ppem (rising chars) ≡ Ok ss
-    → plan_after prelude face segments ppem name chars ≡ Ok (whole_plan prelude ppem name chars face segments ss)
+plan_whole : (prelude : Prelude) (face : Face) (mapping : Mapping) (ppem : ℕ) (name chars : List ℕ) (ss : List Sketch)
+    → sketches_of prelude.hinting face mapping ppem (rising chars) ≡ Ok ss
+    → plan_after prelude face mapping ppem name chars ≡ Ok (whole_plan prelude ppem name chars face mapping ss)
 unfolding plan_after
-plan_whole prelude face segments ppem name chars ss h = rw h
+plan_whole prelude face mapping ppem name chars ss h = rw h
 
 -- ---- refusals that are due
 
@@ -126,32 +126,32 @@ unopened file ppem name chars hinting r e d p q h c =
     surveys_err (plan_of file ppem name chars hinting) r e d p q
     (fails_cause d (plan_of file ppem name chars hinting) c (plan_unopened file ppem name chars hinting d (sym h)))
 
-pub opened : (file : List ℕ) (ppem : ℕ) (name chars : List ℕ) (hinting : Bool) (size : ℕ) (face : Face) (segments : Mapping)
-    (r : Result Survey Refusal) → Ok (size, face, segments) ≡ opened_of file ppem name chars
-    → Surveys (plan_in face segments size name chars hinting) r → Surveys (plan_of file ppem name chars hinting) r
-opened file ppem name chars hinting size face segments r h m =
+pub opened : (file : List ℕ) (ppem : ℕ) (name chars : List ℕ) (hinting : Bool) (size : ℕ) (face : Face) (mapping : Mapping)
+    (r : Result Survey Refusal) → Ok (size, face, mapping) ≡ opened_of file ppem name chars
+    → Surveys (plan_in face mapping size name chars hinting) r → Surveys (plan_of file ppem name chars hinting) r
+opened file ppem name chars hinting size face mapping r h m =
     let P : Result Plan Refusal → Type 0 = λ due. Surveys due r in
-    subst P (sym (plan_opened file ppem name chars hinting size face segments (sym h))) m
+    subst P (sym (plan_opened file ppem name chars hinting size face mapping (sym h))) m
 
-pub unseen : (prelude : Prelude) (face : Face) (segments : Mapping) (ppem : ℕ) (name chars codes : List ℕ)
+pub unseen : (prelude : Prelude) (face : Face) (mapping : Mapping) (ppem : ℕ) (name chars codes : List ℕ)
     (r : Result Survey Refusal) (e d : Refusal) → r ≡ Err e → e ≡ d
-    → codes ≡ rising chars → Fails d (sketches_of prelude.hinting face segments ppem codes)
-    → Surveys (plan_after prelude face segments ppem name chars) r
-unseen prelude face segments ppem name chars codes r e d p q c f =
-    surveys_err (plan_after prelude face segments ppem name chars) r e d p q
-    (fails_on d (sketches_of prelude.hinting face segments ppem codes) (plan_after prelude face segments ppem name chars)
-    (λ x g. plan_refused prelude face segments ppem name chars x
-    (ap (sketches_of prelude.hinting face segments ppem) (sym c) ∙ g)) f)
+    → codes ≡ rising chars → Fails d (sketches_of prelude.hinting face mapping ppem codes)
+    → Surveys (plan_after prelude face mapping ppem name chars) r
+unseen prelude face mapping ppem name chars codes r e d p q c f =
+    surveys_err (plan_after prelude face mapping ppem name chars) r e d p q
+    (fails_on d (sketches_of prelude.hinting face mapping ppem codes) (plan_after prelude face mapping ppem name chars)
+    (λ x g. plan_refused prelude face mapping ppem name chars x
+    (ap (sketches_of prelude.hinting face mapping ppem) (sym c) ∙ g)) f)
 
 -- a count goes on after what was counted before
 counted_on : (before after total : ℕ) → after ≡ counted total → counted (before + after) ≡ counted (before + total)
 counted_on before after total h = omega arith
 
-surveyed_here : (hinting : Hinting) (prelude : Ran) (face : Face) (segments : Mapping) (ppem : ℕ) (name chars : List ℕ)
+surveyed_here : (hinting : Hinting) (prelude : Ran) (face : Face) (mapping : Mapping) (ppem : ℕ) (name chars : List ℕ)
     (seen : Seen)
-    → Holds hinting face segments ppem (rising chars) seen
-    → Surveyed (plan_after (seen_prelude hinting prelude) face segments ppem name chars) (survey_from prelude face ppem seen)
-surveyed_here hinting prelude face segments ppem name chars seen g =
+    → Holds hinting face mapping ppem (rising chars) seen
+    → Surveyed (plan_after (seen_prelude hinting prelude) face mapping ppem name chars) (survey_from prelude face ppem seen)
+surveyed_here hinting prelude face mapping ppem name chars seen g =
     let heading : Box → ℕ → Header = λ b n. record {
       ppem = ppem;
       bounds = b;
@@ -160,9 +160,9 @@ surveyed_here hinting prelude face segments ppem name chars seen g =
       glyphs = n;
     } in
     record {
-      plan = whole_plan (seen_prelude hinting prelude) ppem name chars face segments g.sketches;
+      plan = whole_plan (seen_prelude hinting prelude) ppem name chars face mapping g.sketches;
       glyphs = g.glyphs;
-      is = plan_whole (seen_prelude hinting prelude) face segments ppem name chars g.sketches g.planned;
+      is = plan_whole (seen_prelude hinting prelude) face mapping ppem name chars g.sketches g.planned;
       drawn = g.drawn;
       header = ap (λ (b : Box). heading b seen.report.glyphs) g.bounds ∙
           ap (λ (n : ℕ). heading (bounds_of (map (λ x. x.box) g.glyphs)) n) g.count;
@@ -174,14 +174,14 @@ surveyed_here hinting prelude face segments ppem name chars seen g =
       };
     }
 
-pub surveyed : (hinting : Hinting) (prelude : Ran) (face : Face) (segments : Mapping) (ppem : ℕ) (name chars codes : List ℕ)
+pub surveyed : (hinting : Hinting) (prelude : Ran) (face : Face) (mapping : Mapping) (ppem : ℕ) (name chars codes : List ℕ)
     (seen : Seen) (survey : Survey)
-    → codes ≡ rising chars → Holds hinting face segments ppem codes seen → survey ≡ survey_from prelude face ppem seen
-    → Surveyed (plan_after (seen_prelude hinting prelude) face segments ppem name chars) survey
-surveyed hinting prelude face segments ppem name chars codes seen survey c g e =
-    let P : List ℕ → Type 0 = λ xs. Holds hinting face segments ppem xs seen in
-    let Q : Survey → Type 0 = λ s. Surveyed (plan_after (seen_prelude hinting prelude) face segments ppem name chars) s in
-    subst Q (sym e) (surveyed_here hinting prelude face segments ppem name chars seen (subst P c g))
+    → codes ≡ rising chars → Holds hinting face mapping ppem codes seen → survey ≡ survey_from prelude face ppem seen
+    → Surveyed (plan_after (seen_prelude hinting prelude) face mapping ppem name chars) survey
+surveyed hinting prelude face mapping ppem name chars codes seen survey c g e =
+    let P : List ℕ → Type 0 = λ xs. Holds hinting face mapping ppem xs seen in
+    let Q : Survey → Type 0 = λ s. Surveyed (plan_after (seen_prelude hinting prelude) face mapping ppem name chars) s in
+    subst Q (sym e) (surveyed_here hinting prelude face mapping ppem name chars seen (subst P c g))
 
 -- ---- what a call leaves
 
@@ -194,15 +194,15 @@ not_opened file ppem name chars hinting old faults r e d p q h c =
     (cause_leaves (opened_of file ppem name chars) (plan_of file ppem name chars hinting) old old faults faults d c
     (keeps_same old) refl (plan_unopened file ppem name chars hinting d (sym h)))
 
-pub once_opened : (file : List ℕ) (ppem : ℕ) (name chars : List ℕ) (hinting : Bool) (size : ℕ) (face : Face) (segments : Mapping)
+pub once_opened : (file : List ℕ) (ppem : ℕ) (name chars : List ℕ) (hinting : Bool) (size : ℕ) (face : Face) (mapping : Mapping)
     (old new : Option (List ℕ)) (faults_before faults_after : ℕ) (r : Result Report Refusal)
-    → Ok (size, face, segments) ≡ opened_of file ppem name chars
-    → Leaves (Ok (size, face, segments)) (plan_in face segments size name chars hinting) old new faults_before faults_after r
+    → Ok (size, face, mapping) ≡ opened_of file ppem name chars
+    → Leaves (Ok (size, face, mapping)) (plan_in face mapping size name chars hinting) old new faults_before faults_after r
     → Leaves (opened_of file ppem name chars) (plan_of file ppem name chars hinting) old new faults_before faults_after r
-once_opened file ppem name chars hinting size face segments old new faults_before faults_after r h m =
-    let P : Result Plan Refusal → Type 0 = λ due. Leaves (Ok (size, face, segments)) due old new faults_before faults_after r in
+once_opened file ppem name chars hinting size face mapping old new faults_before faults_after r h m =
+    let P : Result Plan Refusal → Type 0 = λ due. Leaves (Ok (size, face, mapping)) due old new faults_before faults_after r in
     let Q : Opening → Type 0 = λ o. Leaves o (plan_of file ppem name chars hinting) old new faults_before faults_after r in
-    subst Q h (subst P (sym (plan_opened file ppem name chars hinting size face segments (sym h))) m)
+    subst Q h (subst P (sym (plan_opened file ppem name chars hinting size face mapping (sym h))) m)
 
 pub not_surveyed : (opening : Opening) (due : Result Plan Refusal) (old : Option (List ℕ)) (faults : ℕ) (r : Result Report Refusal)
     (e d : Refusal) → IsOk opening → r ≡ Err e → e ≡ d → Fails d due → Leaves opening due old old faults faults r
@@ -210,22 +210,22 @@ not_surveyed opening due old faults r e d o p q f =
     leaves_err opening due old old faults faults r e d p q
     (fails_leaves opening due old old faults faults d o (keeps_same old) refl f)
 
-plan_prepared : (face : Face) (segments : Mapping) (ppem : ℕ) (name chars : List ℕ) (known : Known)
+plan_prepared : (face : Face) (mapping : Mapping) (ppem : ℕ) (name chars : List ℕ) (known : Known)
     → map_fault of_machine (machine_of face ppem) ≡ Ok known
-    → plan_in face segments ppem name chars true ≡ plan_after (prelude_of known) face segments ppem name chars
+    → plan_in face mapping ppem name chars true ≡ plan_after (prelude_of known) face mapping ppem name chars
 unfolding plan_in prelude_for
-plan_prepared face segments ppem name chars known h = rw h
+plan_prepared face mapping ppem name chars known h = rw h
 
-pub prepared_leaves : (opening : Opening) (face : Face) (segments : Mapping) (ppem : ℕ) (name chars : List ℕ) (hinting : Bool)
+pub prepared_leaves : (opening : Opening) (face : Face) (mapping : Mapping) (ppem : ℕ) (name chars : List ℕ) (hinting : Bool)
     (known : Known) (prelude : Ran) (old new : Option (List ℕ)) (faults_before faults_after : ℕ) (r : Result Report Refusal)
     → hinting ≡ true → map_fault of_machine (machine_of face ppem) ≡ Ok known → prelude ≡ known.prelude
-    → Leaves opening (plan_after (seen_prelude (hinting_of known) prelude) face segments ppem name chars) old new faults_before
+    → Leaves opening (plan_after (seen_prelude (hinting_of known) prelude) face mapping ppem name chars) old new faults_before
     faults_after r
-    → Leaves opening (plan_in face segments ppem name chars hinting) old new faults_before faults_after r
-prepared_leaves opening face segments ppem name chars hinting known prelude old new faults_before faults_after r on h e m =
+    → Leaves opening (plan_in face mapping ppem name chars hinting) old new faults_before faults_after r
+prepared_leaves opening face mapping ppem name chars hinting known prelude old new faults_before faults_after r on h e m =
     let P : Result Plan Refusal → Type 0 = λ due. Leaves opening due old new faults_before faults_after r in
-    subst P (ap (λ (x : Ran). plan_after (seen_prelude (hinting_of known) x) face segments ppem name chars) e
-    ∙ sym (ap (plan_in face segments ppem name chars) on ∙ plan_prepared face segments ppem name chars known h)) m
+    subst P (ap (λ (x : Ran). plan_after (seen_prelude (hinting_of known) x) face mapping ppem name chars) e
+    ∙ sym (ap (plan_in face mapping ppem name chars) on ∙ plan_prepared face mapping ppem name chars known h)) m
 
 -- ---- lemmas for answers
 

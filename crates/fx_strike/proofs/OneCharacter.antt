@@ -31,31 +31,31 @@ one_step f code last false same = by_result (f code)
     by_result (Ok s) = ap (λ (ss : List Sketch). Ok (slice_get ss 0)) (sym (same (s ∷ [])))
     by_result (Err e) = refl
 
-after_is : (prelude : Prelude) (face : Face) (segments : Mapping) (ppem : ℕ) (name : List ℕ) (code : ℕ)
-    → one_after prelude.hinting face segments ppem code ≡
-    map_ok only_sketch (plan_after prelude face segments ppem name (code ∷ []))
+after_is : (prelude : Prelude) (face : Face) (mapping : Mapping) (ppem : ℕ) (name : List ℕ) (code : ℕ)
+    → one_after prelude.hinting face mapping ppem code ≡
+    map_ok only_sketch (plan_after prelude face mapping ppem name (code ∷ []))
 unfolding rising one_after plan_after
-after_is prelude face segments ppem name code =
-    one_step (sketch_of prelude.hinting face segments ppem) code (λ ss. record {
+after_is prelude face mapping ppem name code =
+    one_step (sketch_of prelude.hinting face mapping ppem) code (λ ss. record {
       name = name;
       ppem = ppem;
       ascent = pixels face.hhea.ascender ppem face.head.units_per_em;
       descent = pixels (neg_ℤ face.hhea.descender) ppem face.head.units_per_em;
       sketches = ss;
-      missing = count_by (is_missing segments) (code ∷ []);
+      missing = count_by (is_missing mapping) (code ∷ []);
       strays = prelude.strays;
       steps = prelude.steps;
-    }) (is_missing segments code) (λ ss. refl)
+    }) (is_missing mapping code) (λ ss. refl)
 
-in_is : (face : Face) (segments : Mapping) (ppem : ℕ) (name : List ℕ) (code : ℕ) (hinting : Bool)
-    → one_in face segments ppem code hinting ≡ map_ok only_sketch (plan_in face segments ppem name (code ∷ []) hinting)
+in_is : (face : Face) (mapping : Mapping) (ppem : ℕ) (name : List ℕ) (code : ℕ) (hinting : Bool)
+    → one_in face mapping ppem code hinting ≡ map_ok only_sketch (plan_in face mapping ppem name (code ∷ []) hinting)
 unfolding one_in plan_in
-in_is face segments ppem name code hinting = by_prelude (prelude_for face ppem hinting)
+in_is face mapping ppem name code hinting = by_prelude (prelude_for face ppem hinting)
   where
     by_prelude : (r : Result Prelude Refusal)
-        → (r >>= λ p. one_after p.hinting face segments ppem code) ≡
-        map_ok only_sketch (r >>= λ p. plan_after p face segments ppem name (code ∷ []))
-    by_prelude (Ok p) = after_is p face segments ppem name code
+        → (r >>= λ p. one_after p.hinting face mapping ppem code) ≡
+        map_ok only_sketch (r >>= λ p. plan_after p face mapping ppem name (code ∷ []))
+    by_prelude (Ok p) = after_is p face mapping ppem name code
     by_prelude (Err e) = refl
 
 -- ---- a font file

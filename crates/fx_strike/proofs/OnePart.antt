@@ -79,7 +79,7 @@ text_is_one one plan gs hs p q = ap (strike_text plan) (glyphs_are_one one plan.
 -- ---- one part
 
 -- a sketch has the code point that it is of
-sketch_code : (hinting : Hinting) (face : Face) (ppem code glyph : ℕ) (s : Sketch)
+pub sketch_code : (hinting : Hinting) (face : Face) (ppem code glyph : ℕ) (s : Sketch)
     → glyph_sketch_of hinting face ppem code glyph ≡ Ok s → s.code ≡ code
 unfolding glyph_sketch_of
 sketch_code hinting face ppem code glyph s h =
@@ -146,17 +146,17 @@ size_of_checked ppem name chars size h =
     size_of_sized ppem chars size (a.1 ∙ b.2)
 
 -- the parts of a font that opens
-pub record FontParts (file : List ℕ) (face : Face) (segments : Mapping) : Type 0 where
+pub record FontParts (file : List ℕ) (face : Face) (mapping : Mapping) : Type 0 where
   pub font : font_of file ≡ Ok face
-  pub map_is : map_of_file face.file ≡ Ok segments
+  pub map_is : map_of_file face.file ≡ Ok mapping
 
 font_parts : (file : List ℕ) (f : Face × Mapping) → font_with_map file ≡ Ok f → FontParts file f.0 f.1
 unfolding font_with_map
 font_parts file f h =
     let mapped : Face → Result (Face × Mapping) Refusal
-    = λ face. map_fault of_char_map (map_of_file face.file) >>= λ segments. Ok (face, segments) in
+    = λ face. map_fault of_char_map (map_of_file face.file) >>= λ mapping. Ok (face, mapping) in
     let b = bind_ok (map_fault of_font (font_of file)) mapped f h in
-    let c = bind_ok (map_fault of_char_map (map_of_file b.0.file)) (λ segments. Ok (b.0, segments)) f b.2 in
+    let c = bind_ok (map_fault of_char_map (map_of_file b.0.file)) (λ mapping. Ok (b.0, mapping)) f b.2 in
     let all : (b.0, c.0) ≡ f = cc (c.2) in
     let P : Face × Mapping → Type 0 = λ x. FontParts file x.0 x.1 in
     subst P all (record {
@@ -168,24 +168,24 @@ font_parts file f h =
 pub record Parts (file : List ℕ) (ppem : ℕ) (chars : List ℕ) (hinting : Bool) (ss : List Sketch) : Type 0 where
   pub size : ℕ
   pub face : Face
-  pub segments : Mapping
+  pub mapping : Mapping
   pub prelude : Prelude
   pub sized_is : wanted (ppem_of ppem) BadSize ≡ Ok size
-  pub font : FontParts file face segments
+  pub font : FontParts file face mapping
   pub prelude_is : prelude_for face size hinting ≡ Ok prelude
-  pub sketches : sketches_of prelude.hinting face segments size (rising chars) ≡ Ok ss
+  pub sketches : sketches_of prelude.hinting face mapping size (rising chars) ≡ Ok ss
 
 pub parts_of : (file : List ℕ) (ppem : ℕ) (name chars : List ℕ) (hinting : Bool) (plan : Plan)
     → plan_of file ppem name chars hinting ≡ Ok plan → Parts file ppem chars hinting plan.sketches
 unfolding opened_of plan_after plan_in plan_of
 parts_of file ppem name chars hinting plan h =
-    let last : Prelude → ℕ → Face → Mapping → List Sketch → Plan = λ prelude size face segments ss. record {
+    let last : Prelude → ℕ → Face → Mapping → List Sketch → Plan = λ prelude size face mapping ss. record {
       name = name;
       ppem = size;
       ascent = pixels face.hhea.ascender size face.head.units_per_em;
       descent = pixels (neg_ℤ face.hhea.descender) size face.head.units_per_em;
       sketches = ss;
-      missing = count_by (is_missing segments) (rising chars);
+      missing = count_by (is_missing mapping) (rising chars);
       strays = prelude.strays;
       steps = prelude.steps;
     } in
@@ -201,7 +201,7 @@ parts_of file ppem name chars hinting plan h =
     record {
       size = a.0;
       face = b.0.0;
-      segments = b.0.1;
+      mapping = b.0.1;
       prelude = c.0;
       sized_is = size_of_checked ppem name chars a.0 a.1;
       font = font_parts file b.0 b.1;
@@ -215,29 +215,29 @@ parts_of file ppem name chars hinting plan h =
 -- a sketch of a plan is that of its code point
 sketch_there : (file : List ℕ) (ppem : ℕ) (chars : List ℕ) (hinting : Bool) (ss : List Sketch)
     (p : Parts file ppem chars hinting ss) (s : Sketch)
-    → Contains ss s → sketch_of p.prelude.hinting p.face p.segments p.size s.code ≡ Ok s
+    → Contains ss s → sketch_of p.prelude.hinting p.face p.mapping p.size s.code ≡ Ok s
 sketch_there file ppem chars hinting ss p s h =
-    let codes : List ℕ = filter (λ c. not (is_missing p.segments c)) (rising chars) in
-    let x = chain_at (sketch_of p.prelude.hinting p.face p.segments p.size) codes ss p.sketches h.0 s h.1 in
-    let here : sketch_of p.prelude.hinting p.face p.segments p.size x.0 ≡ Ok s = x.1 ∙ ap Ok h.2 in
-    ap (sketch_of p.prelude.hinting p.face p.segments p.size) (sketch_code p.prelude.hinting p.face p.size x.0 _ s here) ∙ here
+    let codes : List ℕ = filter (λ c. not (is_missing p.mapping c)) (rising chars) in
+    let x = chain_at (sketch_of p.prelude.hinting p.face p.mapping p.size) codes ss p.sketches h.0 s h.1 in
+    let here : sketch_of p.prelude.hinting p.face p.mapping p.size x.0 ≡ Ok s = x.1 ∙ ap Ok h.2 in
+    ap (sketch_of p.prelude.hinting p.face p.mapping p.size) (sketch_code p.prelude.hinting p.face p.size x.0 _ s here) ∙ here
 
 pub part_is_one : PartIsOne
 part_is_one file ppem hinting name name2 chars chars2 plan plan2 h g s t i j e =
     let p = parts_of file ppem name chars hinting plan h in
     let q = parts_of file ppem name2 chars2 hinting plan2 g in
     let faces : p.face ≡ q.face = same_Ok p.face q.face p.font.font q.font.font in
-    let F : Face → Type 0 = λ face. map_of_file face.file ≡ Ok p.segments in
-    let maps : p.segments ≡ q.segments = same_Ok p.segments q.segments (subst F faces p.font.map_is) q.font.map_is in
+    let F : Face → Type 0 = λ face. map_of_file face.file ≡ Ok p.mapping in
+    let maps : p.mapping ≡ q.mapping = same_Ok p.mapping q.mapping (subst F faces p.font.map_is) q.font.map_is in
     let sizes : p.size ≡ q.size = same_Ok p.size q.size p.sized_is q.sized_is in
     let G : Face → Type 0 = λ face. prelude_for face p.size hinting ≡ Ok p.prelude in
     let N : ℕ → Type 0 = λ size. prelude_for q.face size hinting ≡ Ok p.prelude in
     let preludes : p.prelude ≡ q.prelude = same_Ok p.prelude q.prelude (subst N sizes (subst G faces p.prelude_is)) q.prelude_is in
     same_Ok s t
-    (ap (λ (c : ℕ). sketch_of q.prelude.hinting q.face q.segments q.size c) (sym e)
-    ∙ ap (λ (r : Prelude). sketch_of r.hinting q.face q.segments q.size s.code) (sym preludes)
+    (ap (λ (c : ℕ). sketch_of q.prelude.hinting q.face q.mapping q.size c) (sym e)
+    ∙ ap (λ (r : Prelude). sketch_of r.hinting q.face q.mapping q.size s.code) (sym preludes)
     ∙ ap (λ (m : Mapping). sketch_of p.prelude.hinting q.face m q.size s.code) (sym maps)
-    ∙ ap (λ (f : Face). sketch_of p.prelude.hinting f p.segments q.size s.code) (sym faces)
-    ∙ ap (λ (n : ℕ). sketch_of p.prelude.hinting p.face p.segments n s.code) (sym sizes)
+    ∙ ap (λ (f : Face). sketch_of p.prelude.hinting f p.mapping q.size s.code) (sym faces)
+    ∙ ap (λ (n : ℕ). sketch_of p.prelude.hinting p.face p.mapping n s.code) (sym sizes)
     ∙ sketch_there file ppem chars hinting plan.sketches p s i)
     (sketch_there file ppem chars2 hinting plan2.sketches q t j)

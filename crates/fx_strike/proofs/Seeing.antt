@@ -16,15 +16,13 @@ use Rattle.fx_cmap.specs.declared.mapping.Mapping.{Mapping}
 use Rattle.fx_hint.specs.Hinting.{Hinting}
 use Rattle.fx_bdf.specs.Glyphs.{Glyph, Box, IsPlaced, no_box, joined, bounds_of}
 use Rattle.fx_strike.specs.declared.refusal.Refusal.{Refusal}
-use Rattle.fx_strike.specs.declared.refusal.Refusal.TheVariants.{OutOfMemory, WriteFailed, ReadFailed, BadHex, InputTooLarge}
-use Rattle.fx_strike.specs.declared.drawn.Drawn.{Drawn}
 use Rattle.fx_strike.specs.declared.seen.Seen.{Seen}
 use Rattle.fx_strike.specs.Faults.{Fails}
 use Rattle.fx_strike.specs.Limits.{max_code}
 use Rattle.fx_strike.specs.Strike.{Sketch, IsGlyphOf, AreGlyphsOf, glyph_sketch_of, sketch_of, is_missing, sketches_of}
 use Rattle.fx_strike.specs.Headline.{counted}
-use Rattle.fx_strike.specs.Drawing.{IsDrawnOf}
-use Rattle.fx_strike.specs.Surveying.{IsEmpty, Adds, Holds, Sees}
+use Rattle.fx_strike.specs.inner.Surveying.{IsEmpty, Has, Holds, Sees}
+use Rattle.fx_strike.proofs.Sketching.{fails_on}
 
 -- ---- code points within the limit
 
@@ -73,24 +71,14 @@ chain_refused f (z ∷ zs) x ys made e h g =
         → f z ≡ Ok c → map_chain f (zs ++ x ∷ ys) ≡ Err e → map_chain f (z ∷ (zs ++ x ∷ ys)) ≡ Err e
     refused f z zs x ys e c p r = rw (p, r)
 
--- a refusal is passed on if it is one of the whole chain
-pub fails_on : {Y Z : Type 0} (d : Refusal) (a : Result Y Refusal) (b : Result Z Refusal) → ((e : Refusal) → a ≡ Err e → b ≡ Err e)
-    → Fails d a → Fails d b
-fails_on OutOfMemory a b h f = tt
-fails_on (WriteFailed n) a b h f = f
-fails_on ReadFailed a b h f = f
-fails_on BadHex a b h f = f
-fails_on InputTooLarge a b h f = f
-fails_on d a b h f = h d f
-
 -- ---- one code point more
 
-kept : (segments : Mapping) (c : ℕ) → is_missing segments c ≡ false → (codes rest : List ℕ)
-    → filter (λ d. not (is_missing segments d)) (codes ++ c ∷ rest) ≡ filter (λ d. not (is_missing segments d)) codes ++ c ∷
-    filter (λ d. not (is_missing segments d)) rest
-kept segments c h codes rest = filter-append (λ d. not (is_missing segments d)) codes (c ∷ rest) ∙
-    ap (λ (xs : List ℕ). filter (λ d. not (is_missing segments d)) codes ++ xs)
-    (first (is_missing segments c) h (filter (λ d. not (is_missing segments d)) rest))
+kept : (mapping : Mapping) (c : ℕ) → is_missing mapping c ≡ false → (codes rest : List ℕ)
+    → filter (λ d. not (is_missing mapping d)) (codes ++ c ∷ rest) ≡ filter (λ d. not (is_missing mapping d)) codes ++ c ∷
+    filter (λ d. not (is_missing mapping d)) rest
+kept mapping c h codes rest = filter-append (λ d. not (is_missing mapping d)) codes (c ∷ rest) ∙
+    ap (λ (xs : List ℕ). filter (λ d. not (is_missing mapping d)) codes ++ xs)
+    (first (is_missing mapping c) h (filter (λ d. not (is_missing mapping d)) rest))
   where
     first : (b : Bool) → b ≡ false → (xs : List ℕ) → cond (not b) (c ∷ xs) xs ≡ c ∷ xs
     first true h xs = absurd (cc)
@@ -123,9 +111,9 @@ sum_push f ss s total more new h k e =
         → new ≡ counted c
     by_sum a b c total more new p h k e = omega arith
 
-pub holds_none : (hinting : Hinting) (face : Face) (segments : Mapping) (ppem : ℕ) (new : Seen) → IsEmpty new
-    → Holds hinting face segments ppem [] new
-holds_none hinting face segments ppem new h =
+pub holds_none : (hinting : Hinting) (face : Face) (mapping : Mapping) (ppem : ℕ) (new : Seen) → IsEmpty new
+    → Holds hinting face mapping ppem [] new
+holds_none hinting face mapping ppem new h =
     let P : Box → Type 0 = λ b. IsPlaced b in
     record {
       sketches = [];
@@ -142,26 +130,25 @@ holds_none hinting face segments ppem new h =
       each = omega (arith, h.glyphs, h.missing);
     }
 
-holds_push : (hinting : Hinting) (face : Face) (segments : Mapping) (ppem : ℕ) (codes : List ℕ) (c : ℕ) (old new : Seen)
+holds_push : (hinting : Hinting) (face : Face) (mapping : Mapping) (ppem : ℕ) (codes : List ℕ) (c : ℕ) (old new : Seen)
     (sketch : Sketch)
-    (drawn : Drawn)
-    → Holds hinting face segments ppem codes old → is_missing segments c ≡ false
-    → sketch_of hinting face segments ppem c ≡ Ok sketch
-    → IsDrawnOf sketch drawn → Adds old new drawn → Holds hinting face segments ppem (codes ++ c ∷ []) new
-holds_push hinting face segments ppem codes c old new sketch drawn h m s d a = record {
+    → Holds hinting face mapping ppem codes old → is_missing mapping c ≡ false
+    → sketch_of hinting face mapping ppem c ≡ Ok sketch
+    → Has sketch old new → Holds hinting face mapping ppem (codes ++ c ∷ []) new
+holds_push hinting face mapping ppem codes c old new sketch h m s a = record {
   sketches = h.sketches ++ sketch ∷ [];
-  glyphs = h.glyphs ++ drawn.glyph ∷ [];
-  planned = ap (map_chain (sketch_of hinting face segments ppem)) (kept segments c m codes []) ∙
-      chain_push (sketch_of hinting face segments ppem)
-      (filter (λ x. not (is_missing segments x)) codes) c h.sketches sketch h.planned s;
-  drawn = glyphs_push h.sketches h.glyphs sketch drawn.glyph h.drawn d.glyph;
-  bounds = a.bounds ∙ ap (λ (b : Box). joined b drawn.glyph.box) h.bounds ∙ sym (bounds_push h.glyphs drawn.glyph);
+  glyphs = h.glyphs ++ a.glyph ∷ [];
+  planned = ap (map_chain (sketch_of hinting face mapping ppem)) (kept mapping c m codes []) ∙
+      chain_push (sketch_of hinting face mapping ppem)
+      (filter (λ x. not (is_missing mapping x)) codes) c h.sketches sketch h.planned s;
+  drawn = glyphs_push h.sketches h.glyphs sketch a.glyph h.drawn a.drawn;
+  bounds = a.bounds ∙ ap (λ (b : Box). joined b a.glyph.box) h.bounds ∙ sym (bounds_push h.glyphs a.glyph);
   placed = a.placed;
   count = omega (arith, a.glyphs, h.count, length-append h.sketches (sketch ∷ []));
-  missing = a.missing ∙ h.missing ∙ sym (count_one (is_missing segments) codes c 0 (ap (λ (b : Bool). cond b 1 0) m) ∙
-      (let z : count_by (is_missing segments) codes + 0 ≡ count_by (is_missing segments) codes = omega arith in z));
-  strays = sum_push (λ x. x.strays) h.sketches sketch old.report.strays drawn.strays new.report.strays h.strays d.strays a.strays;
-  steps = sum_push (λ x. x.steps) h.sketches sketch old.report.steps drawn.steps new.report.steps h.steps d.steps a.steps;
+  missing = a.missing ∙ h.missing ∙ sym (count_one (is_missing mapping) codes c 0 (ap (λ (b : Bool). cond b 1 0) m) ∙
+      (let z : count_by (is_missing mapping) codes + 0 ≡ count_by (is_missing mapping) codes = omega arith in z));
+  strays = sum_push (λ x. x.strays) h.sketches sketch old.report.strays sketch.strays new.report.strays h.strays refl a.strays;
+  steps = sum_push (λ x. x.steps) h.sketches sketch old.report.steps sketch.steps new.report.steps h.steps refl a.steps;
   each = omega (arith, a.glyphs, a.missing, h.each, length-append codes (c ∷ []));
 }
 
@@ -171,49 +158,49 @@ pub not_zero : (n : ℕ) → (n ≡ 0 → ⊥) → (n == 0) ≡ false
 not_zero zero h = absurd (h refl)
 not_zero (suc n) h = grind (arith, nat_tests)
 
-pub missing_is : (segments : Mapping) (c glyph : ℕ) → glyph ≡ glyph_for segments c → (b : Bool) → (glyph == 0) ≡ b
-    → is_missing segments c ≡ b
-missing_is segments c glyph e b h = ap (λ (g : ℕ). g == 0) (sym e) ∙ h
+pub missing_is : (mapping : Mapping) (c glyph : ℕ) → glyph ≡ glyph_for mapping c → (b : Bool) → (glyph == 0) ≡ b
+    → is_missing mapping c ≡ b
+missing_is mapping c glyph e b h = ap (λ (g : ℕ). g == 0) (sym e) ∙ h
 
-pub same_sketch : (hinting : Hinting) (face : Face) (segments : Mapping) (ppem c glyph : ℕ) → glyph ≡ glyph_for segments c
-    → glyph_sketch_of hinting face ppem c glyph ≡ sketch_of hinting face segments ppem c
-same_sketch hinting face segments ppem c glyph e = ap (λ (g : ℕ). glyph_sketch_of hinting face ppem c g) e
+pub same_sketch : (hinting : Hinting) (face : Face) (mapping : Mapping) (ppem c glyph : ℕ) → glyph ≡ glyph_for mapping c
+    → glyph_sketch_of hinting face ppem c glyph ≡ sketch_of hinting face mapping ppem c
+same_sketch hinting face mapping ppem c glyph e = ap (λ (g : ℕ). glyph_sketch_of hinting face ppem c g) e
 
-pub drawn_at : (hinting : Hinting) (face : Face) (segments : Mapping) (ppem : ℕ) (codes : List ℕ) (i glyph : ℕ)
-    (old new : Seen) (drawn : Drawn)
-    → i < length codes → Holds hinting face segments ppem (take i codes) old → glyph ≡ glyph_for segments (get_or codes i 0)
+pub seen_at : (hinting : Hinting) (face : Face) (mapping : Mapping) (ppem : ℕ) (codes : List ℕ) (i glyph : ℕ)
+    (old new : Seen)
+    → i < length codes → Holds hinting face mapping ppem (take i codes) old → glyph ≡ glyph_for mapping (get_or codes i 0)
     → (glyph ≡ 0 → ⊥)
-    → (sketch : Sketch) × (glyph_sketch_of hinting face ppem (get_or codes i 0) glyph ≡ Ok sketch) × IsDrawnOf sketch drawn
-    → Adds old new drawn → Holds hinting face segments ppem (take (i + 1) codes) new
-drawn_at hinting face segments ppem codes i glyph old new drawn l h e m d a =
-    let P : List ℕ → Type 0 = λ xs. Holds hinting face segments ppem xs new in
+    → (sketch : Sketch) × (glyph_sketch_of hinting face ppem (get_or codes i 0) glyph ≡ Ok sketch) × Has sketch old new
+    → Holds hinting face mapping ppem (take (i + 1) codes) new
+seen_at hinting face mapping ppem codes i glyph old new l h e m d =
+    let P : List ℕ → Type 0 = λ xs. Holds hinting face mapping ppem xs new in
     subst P (sym (take_more codes i 0 l))
-    (holds_push hinting face segments ppem (take i codes) (get_or codes i 0) old new d.0 drawn h
-    (missing_is segments (get_or codes i 0) glyph e false (not_zero glyph m))
-    (sym (same_sketch hinting face segments ppem (get_or codes i 0) glyph e) ∙ d.1) d.2 a)
+    (holds_push hinting face mapping ppem (take i codes) (get_or codes i 0) old new d.0 h
+    (missing_is mapping (get_or codes i 0) glyph e false (not_zero glyph m))
+    (sym (same_sketch hinting face mapping ppem (get_or codes i 0) glyph e) ∙ d.1) d.2)
 
-pub refused_at : (hinting : Hinting) (face : Face) (segments : Mapping) (ppem : ℕ) (codes : List ℕ) (i glyph : ℕ)
+pub refused_at : (hinting : Hinting) (face : Face) (mapping : Mapping) (ppem : ℕ) (codes : List ℕ) (i glyph : ℕ)
     (old : Seen) (refusal : Refusal)
-    → i < length codes → Holds hinting face segments ppem (take i codes) old → glyph ≡ glyph_for segments (get_or codes i 0)
+    → i < length codes → Holds hinting face mapping ppem (take i codes) old → glyph ≡ glyph_for mapping (get_or codes i 0)
     → (glyph ≡ 0 → ⊥)
     → Fails refusal (glyph_sketch_of hinting face ppem (get_or codes i 0) glyph)
-    → Fails refusal (sketches_of hinting face segments ppem codes)
-refused_at hinting face segments ppem codes i glyph old refusal l h e m f =
-    fails_on refusal (glyph_sketch_of hinting face ppem (get_or codes i 0) glyph) (sketches_of hinting face segments ppem codes)
+    → Fails refusal (sketches_of hinting face mapping ppem codes)
+refused_at hinting face mapping ppem codes i glyph old refusal l h e m f =
+    fails_on refusal (glyph_sketch_of hinting face ppem (get_or codes i 0) glyph) (sketches_of hinting face mapping ppem codes)
     (λ d k.
-    ap (sketches_of hinting face segments ppem) (sym (take-append-drop i codes) ∙ ap (λ (xs : List ℕ). take i codes ++ xs)
+    ap (sketches_of hinting face mapping ppem) (sym (take-append-drop i codes) ∙ ap (λ (xs : List ℕ). take i codes ++ xs)
     (drop_more codes i 0 l))
-    ∙ ap (map_chain (sketch_of hinting face segments ppem))
-    (kept segments (get_or codes i 0) (missing_is segments (get_or codes i 0) glyph e false (not_zero glyph m)) (take i codes)
+    ∙ ap (map_chain (sketch_of hinting face mapping ppem))
+    (kept mapping (get_or codes i 0) (missing_is mapping (get_or codes i 0) glyph e false (not_zero glyph m)) (take i codes)
     (drop (i + 1) codes))
-    ∙ chain_refused (sketch_of hinting face segments ppem) (filter (λ x. not (is_missing segments x)) (take i codes))
+    ∙ chain_refused (sketch_of hinting face mapping ppem) (filter (λ x. not (is_missing mapping x)) (take i codes))
     (get_or codes i 0)
-    (filter (λ x. not (is_missing segments x)) (drop (i + 1) codes)) h.sketches d h.planned
-    (sym (same_sketch hinting face segments ppem (get_or codes i 0) glyph e) ∙ k)) f
+    (filter (λ x. not (is_missing mapping x)) (drop (i + 1) codes)) h.sketches d h.planned
+    (sym (same_sketch hinting face mapping ppem (get_or codes i 0) glyph e) ∙ k)) f
 
 -- what is passed on at the exit of a `?`
-pub sees_err : (hinting : Hinting) (face : Face) (segments : Mapping) (ppem : ℕ) (codes : List ℕ) (r : Result Seen Refusal)
+pub sees_err : (hinting : Hinting) (face : Face) (mapping : Mapping) (ppem : ℕ) (codes : List ℕ) (r : Result Seen Refusal)
     (e d : Refusal)
-    → r ≡ Err e → e ≡ d → Fails d (sketches_of hinting face segments ppem codes) → Sees hinting face segments ppem codes r
-sees_err hinting face segments ppem codes r e d p q f =
-    let P : Result Seen Refusal → Type 0 = λ s. Sees hinting face segments ppem codes s in subst P (sym (p ∙ ap Err q)) f
+    → r ≡ Err e → e ≡ d → Fails d (sketches_of hinting face mapping ppem codes) → Sees hinting face mapping ppem codes r
+sees_err hinting face mapping ppem codes r e d p q f =
+    let P : Result Seen Refusal → Type 0 = λ s. Sees hinting face mapping ppem codes s in subst P (sym (p ∙ ap Err q)) f

@@ -1,26 +1,33 @@
 -- From a glyph's number to its bits: what each step says of the sketch that is due.
--- Serves `draw` and `near_pixels`, and the laws.
-use Rattle.std.proofs.Common.{◌≡◌, inl, inr, sym, ap, ◌∙◌, subst, arith, ℕ, ℤ, pos, negsuc, Bool, List, Ok, FitsSigned, w32, w64}
-use Rattle.std.proofs.Common.{to_z, of_z}
+-- Serves `sketch_at`, `draw` and `near_pixels`, the first pass and the laws.
+use Rattle.std.proofs.Common.{◌≡◌, inl, inr, refl, sym, ap, ◌∙◌, subst, arith, ℕ, ℤ, pos, negsuc, Bool, List, Result, Ok, Err}
+use Rattle.std.proofs.Common.{FitsSigned, w32, w64, to_z, of_z}
 use Rattle.std.specs.Prelude.{IsTrue}
 use Rattle.std.proofs.lemmas.Int.{ints}
-use Rattle.fx_fixed.specs.Chain.{map_ok, map_fault}
+use Rattle.fx_fixed.specs.Chain.{◌>>=◌, map_ok, map_fault}
 use Rattle.fx_fixed.specs.Numbers.{near_of}
-use Rattle.fx_fixed.proofs.Chain.{map_ok_ok}
+use Rattle.fx_fixed.proofs.Chain.{bind_ok, map_ok_ok, map_fault_ok}
 use Rattle.fx_sfnt.specs.Tables.{Face}
 use Rattle.fx_sfnt.specs.Glyphs.{metrics_of}
 use Rattle.fx_sfnt.specs.declared.records.Metrics.{Metrics}
+use Rattle.fx_sfnt.specs.declared.fault.FontFault.{FontFault}
+use Rattle.fx_sfnt.specs.declared.fault.FontFault.TheVariants.{NotTrueType, TableMissing, TableShort, BadHead, BadMaxp, BadLoca}
+use Rattle.fx_sfnt.specs.declared.fault.FontFault.TheVariants.{BadGlyphNumber}
 use Rattle.fx_hint.specs.Hinting.{Hinting}
-use Rattle.fx_hint.specs.Outlines.{OutlineView, outline_with}
+use Rattle.fx_hint.specs.Outlines.{OutlineView, view_of_outline, outline_with}
 use Rattle.fx_winding.specs.Winding.{Span}
 use Rattle.fx_winding.specs.Bitmaps.{Bits, bit_of}
+use Rattle.fx_contour.specs.declared.fault.ContourFault.{ContourFault}
 use Rattle.fx_contour.specs.Contours.{drawn_of}
 use Rattle.fx_contour.specs.Frames.{framed_of}
-use Rattle.fx_bdf.specs.Glyphs.{Box, IsTight, IsTrimmed, glyph_bit}
-use Rattle.fx_strike.specs.Faults.{of_font, of_hint, of_contour}
-use Rattle.fx_strike.specs.Strike.{Sketch, thousandths, glyph_sketch_of}
-use Rattle.fx_strike.specs.Drawing.{HasBitsOf, IsDrawnOf}
+use Rattle.fx_bdf.specs.Glyphs.{Box, Glyph, IsTight, IsTrimmed, glyph_bit}
+use Rattle.fx_strike.specs.declared.refusal.Refusal.{Refusal}
+use Rattle.fx_strike.specs.declared.refusal.Refusal.TheVariants.{OutOfMemory, WriteFailed, ReadFailed, BadHex, InputTooLarge}
+use Rattle.fx_strike.specs.Faults.{Fails, of_font, of_hint, of_contour}
+use Rattle.fx_strike.specs.Strike.{Sketch, IsGlyphOf, thousandths, glyph_sketch_of}
+use Rattle.fx_strike.specs.inner.Drawing.{HasBitsOf, IsSketchedOf, Sketches, IsDrawnOf}
 use Rattle.fx_strike.specs.declared.drawn.Drawn.{Drawn}
+use Rattle.fx_strike.specs.declared.sketched.Sketched.{Sketched}
 
 -- ---- whole pixels fit
 
@@ -64,53 +71,172 @@ sketch_is : (hinting : Hinting) (face : Face) (ppem code glyph : ℕ) (drawing :
 unfolding glyph_sketch_of
 sketch_is hinting face ppem code glyph drawing ss m e1 e2 e3 e4 = rw (e1, e2, e3, e4)
 
--- all steps went well: the glyph is that of the sketch
-pub drawn_whole : (hinting : Hinting) (face : Face) (ppem code glyph : ℕ) (drawing : OutlineView) (ss : List Span)
-    (swidth : ℤ) (bits : Bits)
-    (made : Drawn) (code' : ℕ) (swidth' dwidth' : ℤ)
-    → map_fault of_hint (outline_with hinting face ppem glyph) ≡ Ok drawing
-    → map_fault (of_contour glyph) (drawn_of drawing.ends drawing.points) ≡ Ok ss
+-- the sketch of a glyph before its bits, by its spans and its metrics
+abbrev sketch_by : Face → ℕ → Sketched → List Span → Metrics → Sketch
+sketch_by face code made ss m = record {
+  code = code;
+  swidth = thousandths m.advance_width face.head.units_per_em;
+  dwidth = near_of made.outline.advance (pos 64);
+  spans = ss;
+  strays = made.outline.strays;
+  steps = made.outline.steps;
+}
+
+-- all steps went well: the glyph before its bits is that of the sketch
+sketched_whole : (hinting : Hinting) (face : Face) (ppem code glyph : ℕ) (made : Sketched) (ss : List Span) (swidth : ℤ)
+    → map_fault of_hint (outline_with hinting face ppem glyph) ≡ Ok (view_of_outline made.outline)
+    → drawn_of made.outline.ends.items made.outline.points.items ≡ Ok ss
+    → framed_of ss ≡ Ok tt
+    → Ok swidth ≡ map_ok (λ (m : Metrics). thousandths m.advance_width face.head.units_per_em)
+    (map_fault of_font (metrics_of face glyph))
+    → made.swidth ≡ swidth
+    → (m : Metrics) × (glyph_sketch_of hinting face ppem code glyph ≡ Ok (sketch_by face code made ss m))
+    × IsSketchedOf (sketch_by face code made ss m) made
+sketched_whole hinting face ppem code glyph made ss swidth h1 h2 h3 h4 s =
+    let m = map_ok_ok (λ (m : Metrics). thousandths m.advance_width face.head.units_per_em)
+    (map_fault of_font (metrics_of face glyph)) swidth (sym h4) in (
+      m.0,
+      sketch_is hinting face ppem code glyph (view_of_outline made.outline) ss m.0 h1 (ap (map_fault (of_contour glyph)) h2)
+          (ap (map_fault (of_contour glyph)) h3) m.1,
+      record { spans = h2; small = h3; swidth = s ∙ sym m.2; dwidth = refl; strays = refl; steps = refl },
+    )
+
+-- and so is the glyph with its bits
+pub drawn_whole : (hinting : Hinting) (face : Face) (ppem code glyph : ℕ) (made : Sketched) (ss : List Span) (swidth : ℤ)
+    (drawn : Drawn) (code2 : ℕ)
+    → map_fault of_hint (outline_with hinting face ppem glyph) ≡ Ok (view_of_outline made.outline)
+    → map_fault (of_contour glyph) (drawn_of made.outline.ends.items made.outline.points.items) ≡ Ok ss
     → map_fault (of_contour glyph) (framed_of ss) ≡ Ok tt
     → Ok swidth ≡ map_ok (λ (m : Metrics). thousandths m.advance_width face.head.units_per_em)
     (map_fault of_font (metrics_of face glyph))
-    → HasBitsOf ss bits
-    → IsTrimmed code' swidth' dwidth' (bit_of bits) made.glyph
-    → code' ≡ code
-    → swidth' ≡ swidth
-    → dwidth' ≡ near_of drawing.advance (pos 64)
-    → made.strays ≡ drawing.strays
-    → made.steps ≡ drawing.steps
-    → (sketch : Sketch) × (glyph_sketch_of hinting face ppem code glyph ≡ Ok sketch) × IsDrawnOf sketch made
-drawn_whole hinting face ppem code glyph drawing ss swidth bits made code' swidth' dwidth' h1 h2 h3 h4 b t c s d strays steps =
-    let m = map_ok_ok (λ (m : Metrics). thousandths m.advance_width face.head.units_per_em)
-    (map_fault of_font (metrics_of face glyph)) swidth (sym h4) in
-    let P : Bool → Type 0 = λ x. IsTrue x in (
+    → made.swidth ≡ swidth
+    → ((sketch : Sketch) → IsSketchedOf sketch made → sketch.code ≡ code2 → sketch.spans ≡ ss → IsGlyphOf sketch drawn.glyph)
+    → code2 ≡ code
+    → drawn.strays ≡ made.outline.strays
+    → drawn.steps ≡ made.outline.steps
+    → (sketch : Sketch) × (glyph_sketch_of hinting face ppem code glyph ≡ Ok sketch) × IsDrawnOf sketch drawn
+drawn_whole hinting face ppem code glyph made ss swidth drawn code2 h1 h2 h3 h4 s of c strays steps =
+    let w = sketched_whole hinting face ppem code glyph made ss swidth h1
+    (map_fault_ok (of_contour glyph) (drawn_of made.outline.ends.items made.outline.points.items) ss h2)
+    (map_fault_ok (of_contour glyph) (framed_of ss) tt h3) h4 s in (
+      sketch_by face code made ss w.0,
+      w.1,
       record {
-        code = code;
-        swidth = thousandths m.0.advance_width face.head.units_per_em;
-        dwidth = near_of drawing.advance (pos 64);
-        spans = ss;
-        strays = drawing.strays;
-        steps = drawing.steps;
-      },
-      sketch_is hinting face ppem code glyph drawing ss m.0 h1 h2 h3 m.1,
-      record {
-        glyph = record {
-          code = t.code_is ∙ c;
-          swidth = t.swidth_is ∙ s ∙ sym m.2;
-          dwidth = t.dwidth_is ∙ d;
-          bits = λ col row. (
-            λ g. (b.each col row).0 (subst P (t.bits col row) g),
-            λ g. subst P (sym (t.bits col row))
-                ((b.each col row).1 g),
-          );
-          tight = tight_along made.glyph.box (bit_of bits) (glyph_bit made.glyph) (λ col row. sym (t.bits col row)) t.tight;
-          formed = t.formed;
-        };
+        glyph = of (sketch_by face code made ss w.0) w.2 (sym c) refl;
         strays = strays;
         steps = steps;
       },
     )
+
+-- the same where the checks of the spans and of the frame are one
+pub sketched_framed : (hinting : Hinting) (face : Face) (ppem code glyph : ℕ) (made : Sketched) (swidth : ℤ)
+    → map_fault of_hint (outline_with hinting face ppem glyph) ≡ Ok (view_of_outline made.outline)
+    → map_fault (of_contour glyph) (drawn_of made.outline.ends.items made.outline.points.items >>= framed_of) ≡ Ok tt
+    → Ok swidth ≡ map_ok (λ (m : Metrics). thousandths m.advance_width face.head.units_per_em)
+    (map_fault of_font (metrics_of face glyph))
+    → made.swidth ≡ swidth
+    → (sketch : Sketch) × (glyph_sketch_of hinting face ppem code glyph ≡ Ok sketch) × IsSketchedOf sketch made
+sketched_framed hinting face ppem code glyph made swidth h1 h2 h4 s =
+    let drawn : Result (List Span) ContourFault = drawn_of made.outline.ends.items made.outline.points.items in
+    let p = bind_ok drawn framed_of tt (map_fault_ok (of_contour glyph) (drawn >>= framed_of) tt h2) in
+    let w = sketched_whole hinting face ppem code glyph made p.0 swidth h1 p.1 p.2 h4 s in
+    (sketch_by face code made p.0 w.0, w.1, w.2)
+
+-- the glyph of a sketch, by its bits
+pub glyph_whole : (sketch : Sketch) (made : Sketched) (ss : List Span) (bits : Bits) (g : Glyph) (code code2 : ℕ)
+    (swidth dwidth : ℤ)
+    → HasBitsOf ss bits → IsTrimmed code2 swidth dwidth (bit_of bits) g → code2 ≡ code → swidth ≡ made.swidth
+    → dwidth ≡ near_of made.outline.advance (pos 64)
+    → IsSketchedOf sketch made → sketch.code ≡ code → sketch.spans ≡ ss → IsGlyphOf sketch g
+glyph_whole sketch made ss bits g code code2 swidth dwidth b t c s d is e spans =
+    let P : Bool → Type 0 = λ x. IsTrue x in
+    let Q : List Span → Type 0 = λ xs. HasBitsOf xs bits in
+    let here : HasBitsOf sketch.spans bits = subst Q (sym spans) b in
+    record {
+      code = t.code_is ∙ c ∙ sym e;
+      swidth = t.swidth_is ∙ s ∙ is.swidth;
+      dwidth = t.dwidth_is ∙ d ∙ is.dwidth;
+      bits = λ col row. (
+        λ g. (here.each col row).0 (subst P (t.bits col row) g),
+        λ g. subst P (sym (t.bits col row))
+            ((here.each col row).1 g),
+      );
+      tight = tight_along g.box (bit_of bits) (glyph_bit g) (λ col row. sym (t.bits col row)) t.tight;
+      formed = t.formed;
+    }
+
+-- ---- a step was refused
+
+-- a refusal is passed on if it is one of the whole chain
+pub fails_on : {Y Z : Type 0} (d : Refusal) (a : Result Y Refusal) (b : Result Z Refusal) → ((e : Refusal) → a ≡ Err e → b ≡ Err e)
+    → Fails d a → Fails d b
+fails_on OutOfMemory a b h f = tt
+fails_on (WriteFailed n) a b h f = f
+fails_on ReadFailed a b h f = f
+fails_on BadHex a b h f = f
+fails_on InputTooLarge a b h f = f
+fails_on d a b h f = h d f
+
+-- no outline
+pub no_outline : (hinting : Hinting) (face : Face) (ppem code glyph : ℕ) (d : Refusal)
+    → Fails d (map_fault of_hint (outline_with hinting face ppem glyph)) → Fails d (glyph_sketch_of hinting face ppem code glyph)
+unfolding glyph_sketch_of
+no_outline hinting face ppem code glyph d f =
+    fails_on d (map_fault of_hint (outline_with hinting face ppem glyph)) (glyph_sketch_of hinting face ppem code glyph)
+    (λ e k. rw k refl) f
+
+-- two checks whose faults are seen alike
+both_checked : {A B C D E : Type 0} (view : D → E) (a : Result A D) (f : A → Result B D) (g : A → B → Result C E) (e : E)
+    → map_fault view (a >>= f) ≡ Err e → (map_fault view a >>= λ x. map_fault view (f x) >>= g x) ≡ Err e
+both_checked view (Ok x) f g e h = rw h refl
+both_checked view (Err d) f g e h = let same : view d ≡ e = cc in ap Err same
+
+-- the outline lies too far out or is too large
+pub no_frame : (hinting : Hinting) (face : Face) (ppem code glyph : ℕ) (drawing : OutlineView) (d : Refusal)
+    → map_fault of_hint (outline_with hinting face ppem glyph) ≡ Ok drawing
+    → Fails d (map_fault (of_contour glyph) (drawn_of drawing.ends drawing.points >>= framed_of))
+    → Fails d (glyph_sketch_of hinting face ppem code glyph)
+unfolding glyph_sketch_of
+no_frame hinting face ppem code glyph drawing d h f =
+    fails_on d (map_fault (of_contour glyph) (drawn_of drawing.ends drawing.points >>= framed_of))
+    (glyph_sketch_of hinting face ppem code glyph)
+    (λ e k. rw h (both_checked (of_contour glyph) (drawn_of drawing.ends drawing.points) framed_of _ e k)) f
+
+font_fails : {Y : Type 0} (f : FontFault) (due : Result Y Refusal) → due ≡ Err (of_font f) → Fails (of_font f) due
+font_fails NotTrueType due h = h
+font_fails (TableMissing tag) due h = h
+font_fails (TableShort tag) due h = h
+font_fails BadHead due h = h
+font_fails BadMaxp due h = h
+font_fails (BadLoca g) due h = h
+font_fails (BadGlyphNumber g) due h = h
+
+refused_metrics : {Y : Type 0} (view : Metrics → ℤ) (m : Result Metrics FontFault) (d : Refusal) (due : Result Y Refusal)
+    → Err d ≡ map_ok view (map_fault of_font m) → ((f : FontFault) → m ≡ Err f → due ≡ Err (of_font f)) → Fails d due
+refused_metrics view (Ok m) d due h g = absurd (cc)
+refused_metrics view (Err f) d due h g =
+    let P : Refusal → Type 0 = λ e. Fails e due in
+    let same : of_font f ≡ d = cc in subst P same (font_fails f due (g f refl))
+
+-- no advance
+pub no_advance : (hinting : Hinting) (face : Face) (ppem code glyph : ℕ) (drawing : OutlineView) (d : Refusal)
+    → map_fault of_hint (outline_with hinting face ppem glyph) ≡ Ok drawing
+    → map_fault (of_contour glyph) (drawn_of drawing.ends drawing.points >>= framed_of) ≡ Ok tt
+    → Err d ≡ map_ok (λ (m : Metrics). thousandths m.advance_width face.head.units_per_em)
+    (map_fault of_font (metrics_of face glyph))
+    → Fails d (glyph_sketch_of hinting face ppem code glyph)
+unfolding glyph_sketch_of
+no_advance hinting face ppem code glyph drawing d h1 h2 h3 =
+    let drawn : Result (List Span) ContourFault = drawn_of drawing.ends drawing.points in
+    let p = bind_ok drawn framed_of tt (map_fault_ok (of_contour glyph) (drawn >>= framed_of) tt h2) in
+    refused_metrics (λ (m : Metrics). thousandths m.advance_width face.head.units_per_em) (metrics_of face glyph) d
+    (glyph_sketch_of hinting face ppem code glyph) h3
+    (λ f k. rw (h1, ap (map_fault (of_contour glyph)) p.1, ap (map_fault (of_contour glyph)) p.2, k) refl)
+
+-- what is passed on at the exit of a `?`
+pub sketches_err : (due : Result Sketch Refusal) (r : Result Sketched Refusal) (e d : Refusal) → r ≡ Err e → e ≡ d → Fails d due
+    → Sketches due r
+sketches_err due r e d p q f = let P : Result Sketched Refusal → Type 0 = λ s. Sketches due s in subst P (sym (p ∙ ap Err q)) f
 
 -- ---- lemmas for answers
 

@@ -4,8 +4,6 @@ pub mod Faults
 pub mod Strike
 pub mod Headline
 pub mod Listings
-pub mod Drawing
-pub mod Surveying
-pub mod Writing
 pub mod Laws
 pub mod Limits
+pub mod inner

@@ -82,11 +82,11 @@ glyph_sketch_of hinting face ppem code glyph = do
 
 -- the sketch of a code point
 abbrev pub sketch_of : Hinting → Face → Mapping → ℕ → ℕ → Result Sketch Refusal
-sketch_of hinting face segments ppem code = glyph_sketch_of hinting face ppem code (glyph_for segments code)
+sketch_of hinting face mapping ppem code = glyph_sketch_of hinting face ppem code (glyph_for mapping code)
 
 -- the font has no glyph for a code point
 abbrev pub is_missing : Mapping → ℕ → Bool
-is_missing segments code = glyph_for segments code == 0
+is_missing mapping code = glyph_for mapping code == 0
 
 -- ---- the strike
 
@@ -107,8 +107,8 @@ pixels units ppem em = near_of (units *ℤ pos ppem) (pos em)
 
 -- the sketches of code points that the font has
 abbrev pub sketches_of : Hinting → Face → Mapping → ℕ → List ℕ → Result (List Sketch) Refusal
-sketches_of hinting face segments ppem codes =
-    map_chain (sketch_of hinting face segments ppem) (filter (λ c. not (is_missing segments c)) codes)
+sketches_of hinting face mapping ppem codes =
+    map_chain (sketch_of hinting face mapping ppem) (filter (λ c. not (is_missing mapping c)) codes)
 
 -- the size, if neither it nor the characters are past their limits
 unfoldable pub sized : ℕ → List ℕ → Result ℕ Refusal
@@ -128,8 +128,8 @@ checked ppem name chars = do
 unfoldable pub font_with_map : List ℕ → Result (Face × Mapping) Refusal
 font_with_map file = do
   face ← map_fault of_font (font_of file)
-  segments ← map_fault of_char_map (map_of_file face.file)
-  Ok (face, segments)
+  mapping ← map_fault of_char_map (map_of_file face.file)
+  Ok (face, mapping)
 
 -- a valid size and an opened font with its character map, or the first cause why there is none
 abbrev pub Opening : Type 0
@@ -144,24 +144,24 @@ opened_of file ppem name chars = do
 
 -- the strike of an opened font, a size, a name and characters, once its programs ran
 unfoldable pub plan_after : Prelude → Face → Mapping → ℕ → List ℕ → List ℕ → Result Plan Refusal
-plan_after prelude face segments ppem name chars = do
-  sketches ← sketches_of prelude.hinting face segments ppem (rising chars)
+plan_after prelude face mapping ppem name chars = do
+  sketches ← sketches_of prelude.hinting face mapping ppem (rising chars)
   Ok (record {
     name = name;
     ppem = ppem;
     ascent = pixels face.hhea.ascender ppem face.head.units_per_em;
     descent = pixels (neg_ℤ face.hhea.descender) ppem face.head.units_per_em;
     sketches = sketches;
-    missing = count_by (is_missing segments) (rising chars);
+    missing = count_by (is_missing mapping) (rising chars);
     strays = prelude.strays;
     steps = prelude.steps;
   })
 
 -- the strike of an opened font, a size, a name and characters, or the first cause why there is none
 unfoldable pub plan_in : Face → Mapping → ℕ → List ℕ → List ℕ → Bool → Result Plan Refusal
-plan_in face segments ppem name chars hinting = do
+plan_in face mapping ppem name chars hinting = do
   prelude ← prelude_for face ppem hinting
-  plan_after prelude face segments ppem name chars
+  plan_after prelude face mapping ppem name chars
 
 -- the strike of a font file, a size, a name and characters, or the first cause why there is none
 unfoldable pub plan_of : List ℕ → ℕ → List ℕ → List ℕ → Bool → Result Plan Refusal
@@ -180,14 +180,14 @@ opened_one_of file ppem code = do
 
 -- the sketch of a code point of an opened font whose programs ran, none if the font lacks it; or the first cause
 unfoldable pub one_after : Hinting → Face → Mapping → ℕ → ℕ → Result (Option Sketch) Refusal
-one_after hinting face segments ppem code =
-    if is_missing segments code then Ok None else map_ok Some (sketch_of hinting face segments ppem code)
+one_after hinting face mapping ppem code =
+    if is_missing mapping code then Ok None else map_ok Some (sketch_of hinting face mapping ppem code)
 
 -- the sketch of a code point of an opened font, none if the font lacks it; or the first cause
 unfoldable pub one_in : Face → Mapping → ℕ → ℕ → Bool → Result (Option Sketch) Refusal
-one_in face segments ppem code hinting = do
+one_in face mapping ppem code hinting = do
   prelude ← prelude_for face ppem hinting
-  one_after prelude.hinting face segments ppem code
+  one_after prelude.hinting face mapping ppem code
 
 -- and of a font file: it is refused as the strike of that one character is, but for its name
 unfoldable pub one_of : List ℕ → ℕ → ℕ → Bool → Result (Option Sketch) Refusal

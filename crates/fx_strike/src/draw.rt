@@ -1,45 +1,30 @@
 //! From a glyph's number to its bits.
-ghost use Rattle.std.specs.Prelude.{◌≡◌, ◌≤◌, pos, map, IfOk, IfErr};
-ghost use Rattle.fx_fixed.specs.Chain.{map_ok, map_fault, GivesUnless};
+ghost use Rattle.std.specs.Prelude.{◌≡◌, pos, map, IfOk, IfErr};
+ghost use Rattle.fx_fixed.specs.Chain.{map_fault, GivesUnless};
 ghost use Rattle.fx_fixed.specs.Numbers.{near_of};
-ghost use Rattle.fx_sfnt.specs.Glyphs.{metrics_of};
-ghost use Rattle.fx_hint.specs.Outlines.{view_of_outline, outline_with};
 ghost use Rattle.fx_winding.specs.Winding.{span_of};
 ghost use Rattle.fx_winding.specs.Outside.{AreOfOutline};
 ghost use Rattle.fx_contour.specs.Contours.{drawn_of};
 ghost use Rattle.fx_contour.specs.Frames.{IsFrameFor, NothingOutsideFrame, framed_of};
-ghost use Rattle.fx_strike.specs.Faults.{Fails, of_font, of_hint, of_contour};
-ghost use Rattle.fx_strike.specs.Strike.{thousandths, glyph_sketch_of};
-ghost use Rattle.fx_strike.specs.Drawing.{HasBitsOf, Draws};
+ghost use Rattle.fx_strike.specs.Faults.{Fails, of_contour};
+ghost use Rattle.fx_strike.specs.Strike.{Sketch, IsGlyphOf, glyph_sketch_of};
+ghost use Rattle.fx_strike.specs.inner.Drawing.{HasBitsOf, IsSketchedOf, Draws};
 
 use crate::drawn::Drawn;
 use crate::faults::of_contour;
 use crate::refusal::Refusal;
+use crate::sketch::{outline_at, thousandths_at};
+use crate::sketched::Sketched;
 use fx_bdf::BitGlyph;
 use fx_contour::{frame, pieces};
-use fx_fixed::{F26, Ppem, near, near_64};
-use fx_hint::{Hinter, Outline, outline_with};
+use fx_fixed::{F26, Ppem, near_64};
+use fx_hint::{Hinter, Outline};
 use fx_sfnt::Font;
 use fx_winding::{Bitmap, Frame, Pieces, Scan, Tally};
 use std::alloc::Global;
 
-/// The outline of a glyph, scaled and hinted.
-fn outline_at<H: Hinter>(
-    alloc: Global,
-    hinter: &mut H,
-    font: &Font<'_>,
-    ppem: Ppem,
-    glyph: u16,
-) -> Result<Outline, Refusal>
-    ensures kept { H.hinting hinter.new ≡ H.hinting hinter.old }
-    ensures value { GivesUnless Fails view_of_outline result
-        (map_fault of_hint (outline_with (H.hinting hinter.old) font.now ppem glyph)) }
-{
-    Ok(outline_with(alloc, hinter, font, ppem, glyph)?)
-}
-
 /// The pieces of a glyph's outline; `TooFar` if a point of it lies too far out.
-fn pieces_at(alloc: Global, outline: &Outline, glyph: u16) -> Result<Pieces, Refusal>
+pub(crate) fn pieces_at(alloc: Global, outline: &Outline, glyph: u16) -> Result<Pieces, Refusal>
     ensures pieces { GivesUnless Fails (map span_of) result
         (map_fault (of_contour glyph) (drawn_of outline.now.ends.items outline.now.points.items)) }
     ensures closed { IfOk result (λ ps. AreOfOutline (map span_of ps)) }
@@ -51,7 +36,7 @@ fn pieces_at(alloc: Global, outline: &Outline, glyph: u16) -> Result<Pieces, Ref
 }
 
 /// The frame of a glyph's pieces; `GlyphTooLarge` if it has too many pixels.
-fn frame_at(pieces: &Pieces, glyph: u16) -> Result<Option<Frame>, Refusal>
+pub(crate) fn frame_at(pieces: &Pieces, glyph: u16) -> Result<Option<Frame>, Refusal>
     ensures small { GivesUnless Fails (λ _. tt) result (map_fault (of_contour glyph) (framed_of (map span_of pieces.now))) }
     ensures frame { IfOk result (λ f. IsFrameFor f (map span_of pieces.now)) }
     ensures outside { IfOk result (λ f. NothingOutsideFrame f (map span_of pieces.now)) }
@@ -60,16 +45,6 @@ fn frame_at(pieces: &Pieces, glyph: u16) -> Result<Option<Frame>, Refusal>
         Ok(frame) => Ok(frame),
         Err(fault) => Err(of_contour(glyph, fault)),
     }
-}
-
-/// The advance of a glyph in 1/1000 of an em.
-fn thousandths_at(font: &Font<'_>, glyph: u16) -> Result<i32, Refusal>
-    ensures { result ≡ map_ok (λ m. thousandths m.advance_width font.now.head.units_per_em)
-        (map_fault of_font (metrics_of font.now glyph)) }
-{
-    let advance = i128::from(font.metrics(glyph)?.advance_width);
-    let em = font.head().units_per_em.funits();
-    Ok(near(advance * 1000, i128::from(em)) as i32)
 }
 
 /// A number of 1/64 pixels in whole pixels.
@@ -118,6 +93,26 @@ fn bitmap_of<S: Scan>(
     Ok(scan.scan(alloc, pieces, frame, &mut tally)?)
 }
 
+/// The glyph of a code point: the bits of the pieces of its outline, in their tight box, and its advances.
+pub(crate) fn glyph_of<S: Scan>(
+    alloc: Global,
+    scan: &S,
+    code: u32,
+    sketched: &Sketched,
+    pieces: &Pieces,
+) -> Result<BitGlyph, Refusal>
+    requires closed { AreOfOutline (map span_of pieces.now) }
+    requires outside { NothingOutsideFrame sketched.now.frame (map span_of pieces.now) }
+    ensures glyph { IfOk result (λ g. (sketch : Sketch) → IsSketchedOf sketch sketched.now → sketch.code ≡ code →
+        sketch.spans ≡ map span_of pieces.now → IsGlyphOf sketch g) }
+    ensures code { IfOk result (λ g. g.code ≡ code) }
+    ensures fault { IfErr result (λ e. e ≡ Refusal.OutOfMemory) }
+{
+    let bitmap = bitmap_of(alloc, scan, pieces, sketched.frame)?;
+    let dwidth = whole_pixels(sketched.outline.advance);
+    Ok(BitGlyph::of(alloc, code, sketched.swidth, dwidth, &bitmap)?)
+}
+
 /// The character of a code point with this glyph, or the first cause why there is none.
 #[tactic(auto, unfolding(crate::specs::Strike::glyph_sketch_of))]
 pub(crate) fn draw<S: Scan, H: Hinter>(
@@ -137,11 +132,15 @@ pub(crate) fn draw<S: Scan, H: Hinter>(
     let pieces = pieces_at(alloc, &outline, glyph)?;
     let frame = frame_at(&pieces, glyph)?;
     let swidth = thousandths_at(font, glyph)?;
-    let bitmap = bitmap_of(alloc, scan, &pieces, frame)?;
-    let glyph = BitGlyph::of(alloc, code, swidth, whole_pixels(outline.advance), &bitmap)?;
+    let sketched = Sketched {
+        outline,
+        frame,
+        swidth,
+    };
+    let glyph = glyph_of(alloc, scan, code, &sketched, &pieces)?;
     Ok(Drawn {
         glyph,
-        strays: outline.strays,
-        steps: outline.steps,
+        strays: sketched.outline.strays,
+        steps: sketched.outline.steps,
     })
 }

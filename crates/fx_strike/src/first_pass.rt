@@ -1,20 +1,73 @@
 //! The first pass over the characters: a survey of the strike.
-ghost use Rattle.std.specs.Prelude.{◌≡◌, ◌≤◌, unsigned_abs, length};
+ghost use Rattle.std.specs.Prelude.{◌≡◌, ◌<◌, ◌≤◌, unsigned_abs, length};
 ghost use Rattle.fx_strike.specs.Limits.{max_characters};
 ghost use Rattle.fx_strike.specs.Characters.{rising};
-ghost use Rattle.fx_strike.specs.Strike.{pixels, plan_after};
-ghost use Rattle.fx_strike.specs.Surveying.{Sees, Surveys, seen_prelude, survey_from};
+ghost use Rattle.fx_contour.specs.Contours.{spans_of};
+ghost use Rattle.fx_contour.specs.Frames.{NothingOutsideFrame};
+ghost use Rattle.fx_bdf.specs.Glyphs.{IsPlaced};
+ghost use Rattle.fx_strike.specs.Strike.{Sketch, pixels, glyph_sketch_of, plan_after};
+ghost use Rattle.fx_strike.specs.inner.Drawing.{IsSketchedOf};
+ghost use Rattle.fx_strike.specs.inner.Surveying.{Joins, SeesOne, Sees, Surveys, seen_prelude, survey_from};
 
-use crate::draw::draw;
+use crate::draw::{glyph_of, pieces_at};
 use crate::opened::Opened;
 use crate::refusal::Refusal;
 use crate::request::{Request, Survey};
 use crate::seen::Seen;
+use crate::sketch::sketch_at;
+use crate::sketched::Sketched;
+use crate::within::lies_in;
+use fx_bdf::Bounds;
 use fx_fixed::{Ppem, near};
 use fx_hint::Hinter;
 use fx_machine::Ran;
 use fx_winding::Scan;
 use std::alloc::Global;
+
+/// The least box that holds a box and the box of a character's glyph. The glyph's bits are made only if its frame does not lie
+/// in the box: all its bits lie in its frame.
+fn bounds_with<S: Scan>(
+    alloc: Global,
+    scan: &S,
+    bounds: Bounds,
+    code: u32,
+    glyph: u16,
+    sketched: &Sketched,
+) -> Result<Bounds, Refusal>
+    requires placed { IsPlaced bounds }
+    requires outside { NothingOutsideFrame sketched.now.frame
+        (spans_of sketched.now.outline.ends.items sketched.now.outline.points.items) }
+    ensures { (sketch : Sketch) → IsSketchedOf sketch sketched.now → sketch.code ≡ code → Joins sketch bounds result }
+{
+    if lies_in(sketched.frame, bounds) {
+        return Ok(bounds);
+    }
+    let pieces = pieces_at(alloc, &sketched.outline, glyph)?;
+    let glyph = glyph_of(alloc, scan, code, sketched, &pieces)?;
+    Ok(bounds.joined(glyph.bounds()))
+}
+
+/// Adds what is seen of a character with this glyph; or the first cause why it has none.
+fn see_one<S: Scan, H: Hinter>(
+    alloc: Global,
+    scan: &S,
+    hinter: &mut H,
+    opened: &Opened<'_>,
+    code: u32,
+    glyph: u16,
+    seen: &mut Seen,
+) -> Result<(), Refusal>
+    requires few { seen.old.report.glyphs < max_characters }
+    requires placed { IsPlaced seen.old.bounds }
+    ensures kept { H.hinting hinter.new ≡ H.hinting hinter.old }
+    ensures seen { SeesOne (glyph_sketch_of (H.hinting hinter.old) opened.now.font opened.now.ppem code glyph)
+        seen.old seen.new result }
+{
+    let sketched = sketch_at(alloc, hinter, &opened.font, opened.ppem, glyph)?;
+    let bounds = bounds_with(alloc, scan, seen.bounds, code, glyph, &sketched)?;
+    seen.add(bounds, &sketched.outline);
+    Ok(())
+}
 
 /// What is seen of code points, in their order; or the first cause why one has no glyph.
 fn see<S: Scan, H: Hinter>(
@@ -29,14 +82,14 @@ fn see<S: Scan, H: Hinter>(
     ensures seen { Sees (H.hinting hinter.old) opened.now.font opened.now.map opened.now.ppem codes.now result }
 {
     let mut seen = Seen::new();
+    let mut map = opened.map.cursor();
     'codes: for code in codes {
-        let glyph = opened.map.glyph(*code);
+        let glyph = map.glyph(*code);
         if glyph == 0 {
             seen.report.missing += 1;
             continue;
         }
-        let drawn = draw(alloc, scan, hinter, &opened.font, opened.ppem, *code, glyph)?;
-        seen.add(&drawn);
+        see_one(alloc, scan, hinter, opened, *code, glyph, &mut seen)?;
     }
     Ok(seen)
 }

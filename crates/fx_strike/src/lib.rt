@@ -13,7 +13,6 @@
 #![tactic(auto)]
 
 mod characters;
-mod draft;
 mod draw;
 mod drawn;
 mod faults;
@@ -30,7 +29,10 @@ mod refusal;
 mod request;
 mod second_pass;
 mod seen;
+mod sketch;
+mod sketched;
 mod surveying;
+mod within;
 
 pub use limits::{MAX_CHARACTERS, MAX_CODE};
 pub use listing::{Which, listing_of};

@@ -1,7 +1,7 @@
 //! From a font and a request to a strike.
 ghost use Rattle.std.specs.Prelude.{◌<◌, ◌^◌, ℕ, Ok, IfOk, IfErr, IsErrOf};
 ghost use Rattle.fx_strike.specs.Strike.{plan_after, plan_in};
-ghost use Rattle.fx_strike.specs.Surveying.{IsChecked, seen_prelude};
+ghost use Rattle.fx_strike.specs.inner.Surveying.{IsChecked, seen_prelude};
 ghost use Rattle.fx_strike.specs.Headline.{Text, Cause, Memory, Late, Writer, HasToName, Leaves, opening_of, strike_of};
 
 use crate::characters::rising_codes;

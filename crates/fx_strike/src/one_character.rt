@@ -3,7 +3,7 @@ ghost use Rattle.std.specs.Prelude.{◌≡◌, IfOk, IfErr, IsErrOf};
 ghost use Rattle.fx_strike.specs.Faults.{Fails};
 ghost use Rattle.fx_strike.specs.Strike.{opened_one_of, one_after, one_in, one_of};
 ghost use Rattle.fx_strike.specs.Headline.{IsOneOf, Late};
-ghost use Rattle.fx_strike.specs.Drawing.{Finds};
+ghost use Rattle.fx_strike.specs.inner.Drawing.{Finds};
 
 use crate::draw::draw;
 use crate::open::open_one;

@@ -4,7 +4,7 @@ ghost use Rattle.std.specs.List.{list_any};
 ghost use Rattle.fx_fixed.specs.Chain.{map_ok};
 ghost use Rattle.fx_strike.specs.Limits.{max_characters, max_code};
 ghost use Rattle.fx_strike.specs.Strike.{sized, checked, font_with_map, opened_one_of};
-ghost use Rattle.fx_strike.specs.Surveying.{IsChecked};
+ghost use Rattle.fx_strike.specs.inner.Surveying.{IsChecked};
 ghost use Rattle.fx_strike.specs.Headline.{IsCause, opening_of};
 
 use crate::limits::{MAX_CHARACTERS, MAX_CODE};

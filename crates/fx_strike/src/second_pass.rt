@@ -1,47 +1,35 @@
 //! The second pass over the characters: each is made again and written.
-ghost use Rattle.std.specs.Prelude.{◌≡◌, ◌≤◌, ◌<◌, ◌^◌, ◌+◌, ◌++◌, ℕ, List, false, nat_lt, length, IfOk, IfErr, OnOk};
+ghost use Rattle.std.specs.Prelude.{◌≡◌, ◌≤◌, ◌<◌, ◌^◌, ◌+◌, ◌++◌, ℕ, List, false, nat_lt, length, IfOk, OnOk};
 ghost use Rattle.std.specs.List.{list_any};
-ghost use Rattle.fx_bdf.specs.Text.{IsName, header_text, glyph_text, end_text};
+ghost use Rattle.fx_cmap.specs.Lookup.{glyph_for};
+ghost use Rattle.fx_bdf.specs.Text.{IsName, header_text, end_text};
 ghost use Rattle.fx_strike.specs.Limits.{max_characters, max_code};
-ghost use Rattle.fx_strike.specs.Writing.{AreLinesOf, AreAllLinesOf, Writes};
+ghost use Rattle.fx_strike.specs.inner.Writing.{AreLinesOf, AreAllLinesOf, Writes};
 
-use crate::draft::Draft;
 use crate::draw::draw;
 use crate::opened::Opened;
 use crate::refusal::Refusal;
-use fx_bdf::{BitGlyph, Header, write_glyph, write_header};
+use fx_bdf::{Header, write_glyph, write_header};
 use fx_fixed::{Sink, put_part};
 use fx_hint::Hinter;
 use fx_winding::Scan;
 use std::alloc::Global;
 
-/// The lines of a glyph, in memory.
-fn glyph_lines(alloc: Global, glyph: &BitGlyph) -> Result<Draft, Refusal>
-    requires { glyph.now.code ≤ max_code }
-    ensures lines { IfOk result (λ d. d.bytes.items ≡ glyph_text glyph.now) }
-    ensures short { IfOk result (λ d. length d.bytes.items ≤ 2 ^ 33) }
-    ensures err { IfErr result (λ e. e ≡ Refusal.OutOfMemory) }
-{
-    let mut draft = Draft::new(alloc);
-    match write_glyph(glyph, &mut draft) {
-        Ok(()) => Ok(draft),
-        Err(_) => Err(Refusal::OutOfMemory),
-    }
-}
-
 /// Makes a character and writes its lines, after `done` bytes of the text, and returns the number of bytes then. A character
-/// that the font lacks has none.
+/// that the font lacks, whose glyph is 0, has none.
 fn write_one<S: Scan, H: Hinter, W: Sink>(
     alloc: Global,
     scan: &S,
     hinter: &mut H,
     opened: &Opened<'_>,
     code: u32,
+    glyph: u16,
     done: u64,
     out: &mut W,
 ) -> Result<u64, Refusal>
     requires faults { W.fault_count out.old < 2 ^ 63 }
     requires code { code ≤ max_code }
+    requires glyph { glyph ≡ glyph_for opened.now.map code }
     requires fits { done + 2 ^ 33 < 2 ^ 64 }
     ensures kept { H.hinting hinter.new ≡ H.hinting hinter.old }
     ensures quiet { OnOk result (W.fault_count out.new ≡ W.fault_count out.old) }
@@ -50,13 +38,11 @@ fn write_one<S: Scan, H: Hinter, W: Sink>(
         Writes (W.held out.old) (W.held out.new) (W.fault_count out.old) (W.fault_count out.new) done text result }
 {
     fx_bdf::laws::trimmed();
-    let glyph = opened.map.glyph(code);
     if glyph == 0 {
         return Ok(done);
     }
     let drawn = draw(alloc, scan, hinter, &opened.font, opened.ppem, code, glyph)?;
-    let lines = glyph_lines(alloc, &drawn.glyph)?;
-    Ok(put_part(out, done, &[lines.bytes.as_slice()])?)
+    Ok(write_glyph(&drawn.glyph, done, out)?)
 }
 
 /// Makes the characters of code points in their order, and writes their lines.
@@ -80,8 +66,10 @@ fn write_all<S: Scan, H: Hinter, W: Sink>(
         text → Writes (W.held out.old) (W.held out.new) (W.fault_count out.old) (W.fault_count out.new) done text result }
 {
     let mut done = done;
+    let mut map = opened.map.cursor();
     'codes: for code in codes {
-        done = write_one(alloc, scan, hinter, opened, *code, done, out)?;
+        let glyph = map.glyph(*code);
+        done = write_one(alloc, scan, hinter, opened, *code, glyph, done, out)?;
     }
     Ok(done)
 }

@@ -1,8 +1,8 @@
 //! What is seen of the characters so far.
 
-use crate::drawn::Drawn;
 use crate::request::Report;
 use fx_bdf::Bounds;
+use fx_hint::Outline;
 
 /// The least box that holds the boxes of the glyphs so far, and what is counted over them.
 #[derive(Clone, Copy)]
@@ -13,9 +13,8 @@ pub(crate) struct Seen {
 
 impl Seen {
     ghost use Rattle.std.specs.Prelude.{◌<◌};
-    ghost use Rattle.fx_bdf.specs.Glyphs.{IsPlaced};
     ghost use Rattle.fx_strike.specs.Limits.{max_characters};
-    ghost use Rattle.fx_strike.specs.Surveying.{IsEmpty, Adds};
+    ghost use Rattle.fx_strike.specs.inner.Surveying.{IsEmpty, Adds};
 
     /// No character.
     pub(crate) fn new() -> Seen
@@ -32,15 +31,14 @@ impl Seen {
         }
     }
 
-    /// Adds a character's glyph.
-    pub(crate) fn add(&mut self, drawn: &Drawn)
+    /// Adds a character: the box of the glyphs up to it, and what its programs counted.
+    pub(crate) fn add(&mut self, bounds: Bounds, outline: &Outline)
         requires few { self.old.report.glyphs < max_characters }
-        requires placed { IsPlaced self.old.bounds }
-        ensures { Adds self.old self.new drawn.now }
+        ensures { Adds self.old self.new bounds outline.now }
     {
-        self.bounds = self.bounds.joined(drawn.glyph.bounds());
+        self.bounds = bounds;
         self.report.glyphs += 1;
-        self.report.strays = self.report.strays.saturating_add(drawn.strays);
-        self.report.steps = self.report.steps.saturating_add(drawn.steps);
+        self.report.strays = self.report.strays.saturating_add(outline.strays);
+        self.report.steps = self.report.steps.saturating_add(outline.steps);
     }
 }

@@ -1,7 +1,7 @@
 //! The survey of a strike.
 ghost use Rattle.std.specs.Prelude.{IfOk, IfErr, IsErrOf};
 ghost use Rattle.fx_strike.specs.Strike.{plan_after, plan_in};
-ghost use Rattle.fx_strike.specs.Surveying.{IsChecked, Surveys, seen_prelude};
+ghost use Rattle.fx_strike.specs.inner.Surveying.{IsChecked, Surveys, seen_prelude};
 ghost use Rattle.fx_strike.specs.Faults.{Fails};
 ghost use Rattle.fx_strike.specs.Headline.{Surveyed, Late, opening_of, strike_of};
 

@@ -1,5 +1,5 @@
 use Rattle.std.proofs.lemmas.Result.{err_from_is_err_and}
-use Rattle.fx_strike.specs.Surveying.{seen_prelude}
+use Rattle.fx_strike.specs.inner.Surveying.{seen_prelude}
 use Rattle.fx_strike.proofs.Making.{unseen, surveyed}
 use Rattle.fx_strike.proofs.first_pass.survey_after.Goals as goal
 

@@ -7,6 +7,7 @@ use Rattle.fx_strike.proofs.second_pass.write_all.Goals as goal
 pub codes-init : goal.codes-init
 codes-init g c = record {
   kept = refl;
+  map = c.cursor-map.ensures;
   quiet = refl;
   few = omega arith;
   lines = λ text h. left_all _ _ _ _ _ _ _ text h;
@@ -14,6 +15,9 @@ codes-init g c = record {
 
 pub write_one-requires-clause-code : goal.write_one-requires-clause-code
 write_one-requires-clause-code g c = code_fits c.args.codes.now c.codes.code-index c.requires.small c.codes-test.true
+
+pub write_one-requires-clause-glyph : goal.write_one-requires-clause-glyph
+write_one-requires-clause-glyph g c = rw c.codes.invariant.map at c.glyph-glyph.ensures.value
 
 pub returns-in_err-done-clause-lines : goal.returns-in_err-done-clause-lines
 returns-in_err-done-clause-lines g c text h =
@@ -27,6 +31,7 @@ codes-preserved g c =
     let w = rw c.codes.invariant.kept at (c.in_ok-done.ensures).lines in
     record {
       kept = (c.in_ok-done.ensures).kept ∙ c.codes.invariant.kept;
+      map = c.glyph-glyph.ensures.kept ∙ c.codes.invariant.map;
       quiet = (c.in_ok-done.ensures).quiet ∙ c.codes.invariant.quiet;
       few = omega (arith, (c.in_ok-done.ensures).short, c.codes.invariant.few);
       lines = λ text h. left_more _ _ _ _ _ _ _ _ _ _ _ _ _ _ text c.codes-test.true (c.codes.invariant.lines text h) w;

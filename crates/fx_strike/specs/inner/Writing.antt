@@ -19,14 +19,14 @@ AreLinesBy true due text = text ≡ []
 AreLinesBy false due text =
     (sketch : Sketch) × (glyph : Glyph) × (due ≡ Ok sketch) × IsGlyphOf sketch glyph × (text ≡ glyph_text glyph)
 
-pub record AreLinesOf (hinting : Hinting) (face : Face) (segments : Mapping) (ppem code : ℕ) (text : List ℕ) : Type 0 where
-  pub lines : AreLinesBy (is_missing segments code) (sketch_of hinting face segments ppem code) text
+pub record AreLinesOf (hinting : Hinting) (face : Face) (mapping : Mapping) (ppem code : ℕ) (text : List ℕ) : Type 0 where
+  pub lines : AreLinesBy (is_missing mapping code) (sketch_of hinting face mapping ppem code) text
 
 -- the lines of code points, one after the other
 abbrev pub AreAllLinesOf : Hinting → Face → Mapping → ℕ → List ℕ → List ℕ → Type 0
-AreAllLinesOf hinting face segments ppem [] text = text ≡ []
-AreAllLinesOf hinting face segments ppem (c ∷ cs) text =
-    (here rest : List ℕ) × AreLinesOf hinting face segments ppem c here × AreAllLinesOf hinting face segments ppem cs rest
+AreAllLinesOf hinting face mapping ppem [] text = text ≡ []
+AreAllLinesOf hinting face mapping ppem (c ∷ cs) text =
+    (here rest : List ℕ) × AreLinesOf hinting face mapping ppem c here × AreAllLinesOf hinting face mapping ppem cs rest
     × (text ≡ here ++ rest)
 
 -- ---- as much of a text as was written

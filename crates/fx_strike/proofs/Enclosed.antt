@@ -1,0 +1,225 @@
+-- A glyph whose frame lies in a box leaves that box as it is.
+-- Serves `lies_in`, `bounds_with` and `see_one`.
+use Rattle.std.proofs.Common.{◌≡◌, refl, sym, ap, ◌∙◌, subst, inl, inr, ℕ, ◌+◌, ◌<◌, ℤ, pos, ◌+ℤ◌, ◌≤ℤ◌, ◌<ℤ◌, Bool, true}
+use Rattle.std.proofs.Common.{false, true≢false, not, ◌||◌, List, Option, Some, None, Result, Ok, Err, arith}
+use Rattle.std.specs.Prelude.{IsTrue, ◌==◌, int_le, if◌then◌else◌}
+use Rattle.std.specs.List.{list_all}
+use Rattle.std.specs.Int.{int_min, int_max}
+use Rattle.std.proofs.lemmas.Bool.{eqb-true, and_parts}
+use Rattle.std.proofs.lemmas.Int.{ints, int_min_is, int_max_is}
+use Rattle.fx_fixed.specs.Chain.{map_fault}
+use Rattle.fx_fixed.proofs.Linear.{signed_linear}
+use Rattle.fx_fixed.proofs.Chain.{refuse_ok, map_fault_ok, same_Ok}
+use Rattle.fx_winding.specs.Winding.{Span}
+use Rattle.fx_winding.specs.Frames.{is_from, steps}
+use Rattle.fx_winding.specs.declared.frame.Frame.{Frame}
+use Rattle.fx_hint.specs.declared.points.OutlinePoint.{OutlinePoint}
+use Rattle.fx_contour.specs.declared.fault.ContourFault.{ContourFault}
+use Rattle.fx_contour.specs.declared.fault.ContourFault.TheVariants.{TooFar}
+use Rattle.fx_contour.specs.Contours.{is_in_reach, spans_of, drawn_of}
+use Rattle.fx_contour.specs.Frames.{IsInside, NothingOutsideFrame}
+use Rattle.fx_bdf.specs.Glyphs.{Box, Glyph, HasSides, IsTight, IsPlaced, is_in_box, is_empty, around, joined, last_of}
+use Rattle.fx_bdf.specs.Glyphs.{glyph_bit}
+use Rattle.fx_bdf.proofs.Boxes.{from_true, steps_above, in_columns, in_rows}
+use Rattle.fx_bdf.proofs.Trims.{from_order, and_yes}
+use Rattle.fx_strike.specs.declared.refusal.Refusal.{Refusal}
+use Rattle.fx_strike.specs.declared.refusal.Refusal.TheVariants.{OutOfMemory}
+use Rattle.fx_strike.specs.declared.sketched.Sketched.{Sketched}
+use Rattle.fx_strike.specs.declared.seen.Seen.{Seen}
+use Rattle.fx_strike.specs.Faults.{Fails, of_contour}
+use Rattle.fx_strike.specs.Strike.{Sketch, IsGlyphOf}
+use Rattle.fx_strike.specs.Headline.{counted}
+use Rattle.fx_strike.specs.inner.Drawing.{are_among, lies_in, IsSketchedOf}
+use Rattle.fx_strike.specs.inner.Surveying.{Adds, Joins, Has, SeesOne}
+use Rattle.fx_strike.proofs.Near.{are_drawn, not_large}
+use Rattle.fx_strike.proofs.Existing.{glyph_of_spans}
+use Rattle.fx_strike.proofs.Lines.{only_memory}
+
+-- ---- a box that holds the bits of another
+
+-- the sides of a box against those of one that lies in it
+record Encloses (big small : Box) : Type 0 where
+  left : big.left ≤ℤ small.left
+  right : last_of small.left small.width <ℤ (big.left +ℤ pos big.width)
+  bottom : big.bottom ≤ℤ small.bottom
+  top : last_of small.bottom small.height <ℤ (big.bottom +ℤ pos big.height)
+  wide : 0 < big.width
+  high : 0 < big.height
+
+across : (b : Box) (col row : ℤ) → IsTrue (is_in_box b col row) → (b.left ≤ℤ col) × (col <ℤ (b.left +ℤ pos b.width))
+across b col row h = from_true b.left col b.width (in_columns b col row h)
+
+up : (b : Box) (col row : ℤ) → IsTrue (is_in_box b col row) → (b.bottom ≤ℤ row) × (row <ℤ (b.bottom +ℤ pos b.height))
+up b col row h = from_true b.bottom row b.height (in_rows b col row h)
+
+some_of : (first n : ℤ) (count : ℕ) → first ≤ℤ n → n <ℤ (first +ℤ pos count) → 0 < count
+some_of first n count h k = omega (arith, signed_linear, h, k)
+
+encloses : (big small : Box) (bit : ℤ → ℤ → Bool) → HasSides small bit
+    → ((col row : ℤ) → IsTrue (bit col row) → IsTrue (is_in_box big col row)) → Encloses big small
+encloses big small bit s h =
+    let l = h small.left s.left.0 s.left.1 in
+    let r = h (last_of small.left small.width) s.right.0 s.right.1 in
+    let b = h s.bottom.0 small.bottom s.bottom.1 in
+    let t = h s.top.0 (last_of small.bottom small.height) s.top.1 in
+    let x = across big small.left s.left.0 l in
+    let y = up big s.bottom.0 small.bottom b in
+    record {
+      left = x.0;
+      right = (across big (last_of small.left small.width) s.right.0 r).1;
+      bottom = y.0;
+      top = (up big s.top.0 (last_of small.bottom small.height) t).1;
+      wide = some_of big.left small.left big.width x.0 x.1;
+      high = some_of big.bottom small.bottom big.height y.0 y.1;
+    }
+
+-- a run of numbers within another, together with it
+start_kept : (a b : ℤ) → a ≤ℤ b → int_min a b ≡ a
+start_kept a b h = let m = int_min_is a b in omega (arith, signed_linear, h, m)
+
+count_kept : (a b : ℤ) (m n : ℕ) → a ≤ℤ b → last_of b n <ℤ (a +ℤ pos m)
+    → steps (int_min a b) (int_max (a +ℤ pos m) (b +ℤ pos n)) ≡ m
+count_kept a b m n h k =
+    let s : int_min a b ≡ a = start_kept a b h in
+    let x = int_max_is (a +ℤ pos m) (b +ℤ pos n) in
+    let e : int_max (a +ℤ pos m) (b +ℤ pos n) ≡ a +ℤ pos m = omega (arith, signed_linear, x, k) in
+    let up : a +ℤ pos m ≡ a +ℤ pos (steps a (a +ℤ pos m)) =
+    steps_above a (a +ℤ pos m) (omega (arith, signed_linear)) in
+    ap (λ (z : ℤ). steps z (int_max (a +ℤ pos m) (b +ℤ pos n))) s ∙ ap (steps a) e ∙
+    (let c : steps a (a +ℤ pos m) ≡ m = omega (arith, signed_linear, up) in c)
+
+around_kept : (big small : Box) → Encloses big small → around big small ≡ big
+unfolding around
+around_kept big small e = λ i. record {
+  width = count_kept big.left small.left big.width small.width e.left e.right i;
+  height = count_kept big.bottom small.bottom big.height small.height e.bottom e.top i;
+  left = start_kept big.left small.left e.left i;
+  bottom = start_kept big.bottom small.bottom e.bottom i;
+}
+
+not_empty : (w h : ℕ) → 0 < w → 0 < h → (w == 0 || h == 0) ≡ true → ⊥
+not_empty w h p q e = grind (arith, eqb-true)
+
+kept_by : (big small : Box) (t u : Bool) → is_empty small ≡ t → is_empty big ≡ u → Encloses big small
+    → (if t then big else (if u then small else around big small)) ≡ big
+kept_by big small true u e f h = refl
+kept_by big small false true e f h = absurd (not_empty big.width big.height h.wide h.high f)
+kept_by big small false false e f h = around_kept big small h
+
+-- a tight box all whose bits lie in another leaves that one as it is
+joined_kept : (big box : Box) (bit : ℤ → ℤ → Bool) → IsTight box bit
+    → ((col row : ℤ) → IsTrue (bit col row) → IsTrue (is_in_box big col row)) → joined big box ≡ big
+joined_kept big box bit t h = elim t.sides [
+  | inl e ↦ let P : Box → Type 0 = λ b. joined big b ≡ big in subst P (sym e) refl
+  | inr s ↦ kept_by big box (is_empty box) (is_empty big) refl refl (encloses big box bit s h)
+]
+
+-- ---- the frame of a glyph in a box
+
+among : (first : ℤ) (count : ℕ) (other : ℤ) (more : ℕ) → are_among first count other more ≡ true
+    → (other ≤ℤ first) × ((first +ℤ pos count) ≤ℤ (other +ℤ pos more))
+among first count other more h = (grind (arith, ints), grind (arith, ints))
+
+pub among_is : (end more_end first other : ℤ) (count more : ℕ) → end ≡ first +ℤ pos count → more_end ≡ other +ℤ pos more
+    → int_le other first ≡ true → int_le end more_end ≡ are_among first count other more
+among_is end more_end first other count more p q h = rw (p, q, h) refl
+
+-- each pixel of a frame that lies in a box is one of the box
+pub pixels_in : (frame : Option Frame) (box : Box) → lies_in frame box ≡ true → (col row : ℤ) → IsInside frame col row
+    → IsTrue (is_in_box box col row)
+pixels_in None box h col row i = absurd i
+pixels_in (Some f) box h col row i =
+    let p = and_parts (are_among f.left f.width box.left box.width) (are_among f.bottom f.height box.bottom box.height) h in
+    let x = among f.left f.width box.left box.width p.0 in
+    let y = among f.bottom f.height box.bottom box.height p.1 in
+    and_yes (is_from box.left box.width col) (is_from box.bottom box.height row)
+    (from_order box.left col box.width (omega (arith, signed_linear, x.0, i.column.0))
+    (omega (arith, signed_linear, x.1, i.column.1)))
+    (from_order box.bottom row box.height (omega (arith, signed_linear, y.0, i.row.0))
+    (omega (arith, signed_linear, y.1, i.row.1)))
+
+-- a pixel is in the box if it can't be outside the frame
+not_outside : (b : Bool) → (b ≡ false → ⊥) → b ≡ true
+not_outside true h = refl
+not_outside false h = absurd (h refl)
+
+-- the spans of an outline within the limit
+pub spans_drawn : (ends : List ℕ) (points : List OutlinePoint) (ss : List Span) → drawn_of ends points ≡ Ok ss
+    → spans_of ends points ≡ ss
+unfolding drawn_of
+spans_drawn ends points ss h =
+    let p = refuse_ok (not (list_all is_in_reach points)) TooFar (λ _. Ok (spans_of ends points)) ss h in cc (p.1)
+
+-- and of its pieces
+pub pieces_drawn : (sketch : Sketch) (made : Sketched) (glyph : ℕ) (ss : List Span) → IsSketchedOf sketch made
+    → map_fault (of_contour glyph) (drawn_of made.outline.ends.items made.outline.points.items) ≡ Ok ss → sketch.spans ≡ ss
+pieces_drawn sketch made glyph ss is h =
+    let drawn : Result (List Span) ContourFault = drawn_of made.outline.ends.items made.outline.points.items in
+    same_Ok sketch.spans ss is.spans (map_fault_ok (of_contour glyph) drawn ss h)
+
+pub outside_drawn : (made : Sketched) (glyph : ℕ) (ss : List Span)
+    → NothingOutsideFrame made.frame (spans_of made.outline.ends.items made.outline.points.items)
+    → map_fault (of_contour glyph) (drawn_of made.outline.ends.items made.outline.points.items) ≡ Ok ss
+    → NothingOutsideFrame made.frame ss
+outside_drawn made glyph ss outside h =
+    let drawn : Result (List Span) ContourFault = drawn_of made.outline.ends.items made.outline.points.items in
+    let N : List Span → Type 0 = λ xs. NothingOutsideFrame made.frame xs in
+    subst N (spans_drawn made.outline.ends.items made.outline.points.items ss (map_fault_ok (of_contour glyph) drawn ss h)) outside
+
+pub skipped : (sketch : Sketch) (made : Sketched) (box : Box)
+    → NothingOutsideFrame made.frame (spans_of made.outline.ends.items made.outline.points.items)
+    → ((col row : ℤ) → IsInside made.frame col row → IsTrue (is_in_box box col row))
+    → IsPlaced box → IsSketchedOf sketch made → Joins sketch box (Ok box)
+skipped sketch made box outside inside placed is =
+    let drawn = are_drawn made.outline.ends.items made.outline.points.items sketch.spans is.spans in
+    let g = glyph_of_spans sketch drawn (not_large sketch.spans is.small) in
+    let N : List Span → Type 0 = λ ss. NothingOutsideFrame made.frame ss in
+    let none = subst N (spans_drawn made.outline.ends.items made.outline.points.items sketch.spans is.spans) outside in
+    let bits : (col row : ℤ) → IsTrue (glyph_bit g.0 col row) → IsTrue (is_in_box box col row) =
+    λ col row t. not_outside (is_in_box box col row) (λ f. none drawn.closed col row
+    (λ i. true≢false (sym (inside col row i) ∙ f)) ((g.1.bits col row).0 t)) in
+    (g.0, g.1, sym (joined_kept box g.0.box (glyph_bit g.0) g.1.tight bits), placed)
+
+-- ---- the steps of the first pass
+
+-- the box of a glyph that was made
+pub joins_made : (sketch : Sketch) (box new : Box) (g : Glyph) → IsGlyphOf sketch g → new ≡ joined box g.box → IsPlaced new
+    → Joins sketch box (Ok new)
+joins_made sketch box new g is e placed = (g, is, e, placed)
+
+-- a refusal on the way to a glyph whose sketch is there is out of memory
+pub joins_refused : (sketch : Sketch) (box : Box) (r : Result Box Refusal) (e d : Refusal) → r ≡ Err e → e ≡ d → d ≡ OutOfMemory
+    → Joins sketch box r
+joins_refused sketch box r e d p q m =
+    let P : Result Box Refusal → Type 0 = λ s. Joins sketch box s in subst P (sym (p ∙ ap Err (q ∙ m))) refl
+
+pub only_memory_drawn : (sketch : Sketch) (made : Sketched) (glyph : ℕ) (d : Refusal) → IsSketchedOf sketch made
+    → Fails d (map_fault (of_contour glyph) (drawn_of made.outline.ends.items made.outline.points.items)) → d ≡ OutOfMemory
+only_memory_drawn sketch made glyph d is f =
+    only_memory d (map_fault (of_contour glyph) (drawn_of made.outline.ends.items made.outline.points.items)) sketch.spans
+    (ap (map_fault (of_contour glyph)) is.spans) f
+
+-- a character that was not seen
+pub sees_one_err : (due : Result Sketch Refusal) (old new : Seen) (r : Result (Unit {0}) Refusal) (e d : Refusal) → r ≡ Err e
+    → e ≡ d → Fails d due → SeesOne due old new r
+sees_one_err due old new r e d p q f =
+    let P : Result (Unit {0}) Refusal → Type 0 = λ s. SeesOne due old new s in subst P (sym (p ∙ ap Err q)) f
+
+pub memory_fails : {Y : Type 0} (d : Refusal) (due : Result Y Refusal) → d ≡ OutOfMemory → Fails d due
+memory_fails d due m = let P : Refusal → Type 0 = λ e. Fails e due in subst P (sym m) tt
+
+-- a character was added
+pub has_added : (sketch : Sketch) (made : Sketched) (old new : Seen) (box : Box) → IsSketchedOf sketch made
+    → Joins sketch old.bounds (Ok box) → Adds old new box made.outline → Has sketch old new
+has_added sketch made old new box is j a =
+    let P : Box → Type 0 = λ b. IsPlaced b in
+    record {
+      glyph = j.0;
+      drawn = j.1;
+      bounds = a.bounds_is ∙ j.2;
+      placed = subst P (sym a.bounds_is) j.3;
+      glyphs = a.glyphs;
+      missing = a.missing;
+      strays = a.strays ∙ ap (λ (n : ℕ). counted (old.report.strays + n)) is.strays;
+      steps = a.steps ∙ ap (λ (n : ℕ). counted (old.report.steps + n)) is.steps;
+    }

@@ -1,0 +1,60 @@
+-- What the steps on the way to a character's glyph return.
+use Rattle.std.specs.Prelude.{◌≡◌, ◌↔◌, IsTrue, ℕ, ℤ, pos, ◌+ℤ◌, int_le, Bool, true, ◌&&◌, List, Option, Some, None}
+use Rattle.std.specs.Prelude.{Result, Ok, Err}
+use Rattle.fx_fixed.specs.Numbers.{near_of}
+use Rattle.fx_winding.specs.Winding.{Span, IsCovered, centre}
+use Rattle.fx_winding.specs.Bitmaps.{Bits, bit_of}
+use Rattle.fx_winding.specs.declared.frame.Frame.{Frame}
+use Rattle.fx_contour.specs.Contours.{drawn_of}
+use Rattle.fx_contour.specs.Frames.{framed_of}
+use Rattle.fx_bdf.specs.Glyphs.{Box, Glyph}
+use Rattle.fx_strike.specs.declared.refusal.Refusal.{Refusal}
+use Rattle.fx_strike.specs.declared.drawn.Drawn.{Drawn}
+use Rattle.fx_strike.specs.declared.sketched.Sketched.{Sketched}
+use Rattle.fx_strike.specs.Faults.{Fails}
+use Rattle.fx_strike.specs.Strike.{Sketch, IsGlyphOf}
+use Rattle.fx_strike.specs.Headline.{IsOneOf}
+
+-- of all pixels of the plane exactly those have a set bit whose centre is covered
+pub record HasBitsOf (spans : List Span) (bits : Bits) : Type 0 where
+  pub each : (col row : ℤ) → IsTrue (bit_of bits col row) ↔ IsCovered (centre col row) spans
+
+-- count numbers from first on are all among more numbers from other on
+abbrev pub are_among : ℤ → ℕ → ℤ → ℕ → Bool
+are_among first count other more = int_le other first && int_le (first +ℤ pos count) (other +ℤ pos more)
+
+-- the columns and rows of the frame are all among those of the box; no frame lies in every box
+abbrev pub lies_in : Option Frame → Box → Bool
+lies_in None box = true
+lies_in (Some f) box =
+    are_among f.left f.width box.left box.width && are_among f.bottom f.height box.bottom box.height
+
+-- a glyph before its bits is that of its sketch
+pub record IsSketchedOf (sketch : Sketch) (sketched : Sketched) : Type 0 where
+  pub spans : drawn_of sketched.outline.ends.items sketched.outline.points.items ≡ Ok sketch.spans
+  pub small : framed_of sketch.spans ≡ Ok tt
+  pub swidth : sketched.swidth ≡ sketch.swidth
+  pub dwidth : near_of sketched.outline.advance (pos 64) ≡ sketch.dwidth
+  pub strays : sketched.outline.strays ≡ sketch.strays
+  pub steps : sketched.outline.steps ≡ sketch.steps
+
+-- a glyph before its bits is made if its sketch is due; a refusal is one that is due, or out of memory
+abbrev pub Sketches : Result Sketch Refusal → Result Sketched Refusal → Type 0
+Sketches due (Ok sketched) = (sketch : Sketch) × (due ≡ Ok sketch) × IsSketchedOf sketch sketched
+Sketches due (Err refusal) = Fails refusal due
+
+-- a character as it was made is that of its sketch
+pub record IsDrawnOf (sketch : Sketch) (drawn : Drawn) : Type 0 where
+  pub glyph : IsGlyphOf sketch drawn.glyph
+  pub strays : drawn.strays ≡ sketch.strays
+  pub steps : drawn.steps ≡ sketch.steps
+
+-- a character is made if its sketch is due; a refusal is one that is due, or out of memory
+abbrev pub Draws : Result Sketch Refusal → Result Drawn Refusal → Type 0
+Draws due (Ok drawn) = (sketch : Sketch) × (due ≡ Ok sketch) × IsDrawnOf sketch drawn
+Draws due (Err refusal) = Fails refusal due
+
+-- one character is made if it is due; a refusal is one that is due, or out of memory
+abbrev pub Finds : Result (Option Sketch) Refusal → Result (Option Glyph) Refusal → Type 0
+Finds due (Ok glyph) = IsOneOf due glyph
+Finds due (Err refusal) = Fails refusal due

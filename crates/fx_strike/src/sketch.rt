@@ -1,0 +1,82 @@
+//! From a glyph's number to its outline, its frame and its advance.
+ghost use Rattle.std.specs.Prelude.{◌≡◌, ℕ, IfOk};
+ghost use Rattle.fx_fixed.specs.Chain.{map_ok, map_fault, GivesUnless};
+ghost use Rattle.fx_sfnt.specs.Glyphs.{metrics_of};
+ghost use Rattle.fx_hint.specs.Outlines.{view_of_outline, outline_with};
+ghost use Rattle.fx_contour.specs.Contours.{spans_of};
+ghost use Rattle.fx_contour.specs.Frames.{IsFrameFor, NothingOutsideFrame, outline_framed_of};
+ghost use Rattle.fx_strike.specs.Faults.{Fails, of_font, of_hint, of_contour};
+ghost use Rattle.fx_strike.specs.Strike.{thousandths, glyph_sketch_of};
+ghost use Rattle.fx_strike.specs.inner.Drawing.{Sketches};
+
+use crate::faults::of_contour;
+use crate::refusal::Refusal;
+use crate::sketched::Sketched;
+use fx_contour::outline_frame;
+use fx_fixed::{Ppem, near};
+use fx_hint::{Hinter, Outline, outline_with};
+use fx_sfnt::Font;
+use fx_winding::Frame;
+use std::alloc::Global;
+
+/// The outline of a glyph, scaled and hinted.
+pub(crate) fn outline_at<H: Hinter>(
+    alloc: Global,
+    hinter: &mut H,
+    font: &Font<'_>,
+    ppem: Ppem,
+    glyph: u16,
+) -> Result<Outline, Refusal>
+    ensures kept { H.hinting hinter.new ≡ H.hinting hinter.old }
+    ensures value { GivesUnless Fails view_of_outline result
+        (map_fault of_hint (outline_with (H.hinting hinter.old) font.now ppem glyph)) }
+{
+    Ok(outline_with(alloc, hinter, font, ppem, glyph)?)
+}
+
+/// The frame of an outline; `TooFar` if a point of it lies too far out, `GlyphTooLarge` if it has too many pixels.
+fn frame_of_outline(outline: &Outline, glyph: u16) -> Result<Option<Frame>, Refusal>
+    ensures checked { GivesUnless Fails (λ _. tt) result (map_fault (of_contour glyph)
+        (outline_framed_of outline.now.ends.items outline.now.points.items)) }
+    ensures frame { IfOk result (λ f. IsFrameFor f (spans_of outline.now.ends.items outline.now.points.items)) }
+    ensures outside { IfOk result (λ f. NothingOutsideFrame f (spans_of outline.now.ends.items outline.now.points.items)) }
+{
+    match outline_frame(outline) {
+        Ok(frame) => Ok(frame),
+        Err(fault) => Err(of_contour(glyph, fault)),
+    }
+}
+
+/// The advance of a glyph in 1/1000 of an em.
+pub(crate) fn thousandths_at(font: &Font<'_>, glyph: u16) -> Result<i32, Refusal>
+    ensures { result ≡ map_ok (λ m. thousandths m.advance_width font.now.head.units_per_em)
+        (map_fault of_font (metrics_of font.now glyph)) }
+{
+    let advance = i128::from(font.metrics(glyph)?.advance_width);
+    let em = font.head().units_per_em.funits();
+    Ok(near(advance * 1000, i128::from(em)) as i32)
+}
+
+/// A glyph before its bits, or the first cause why there is none: its outline, then how far out it lies and how large it is,
+/// then its advance.
+pub(crate) fn sketch_at<H: Hinter>(
+    alloc: Global,
+    hinter: &mut H,
+    font: &Font<'_>,
+    ppem: Ppem,
+    glyph: u16,
+) -> Result<Sketched, Refusal>
+    ensures kept { H.hinting hinter.new ≡ H.hinting hinter.old }
+    ensures sketch { (code : ℕ) → Sketches (glyph_sketch_of (H.hinting hinter.old) font.now ppem code glyph) result }
+    ensures frame { IfOk result (λ s. IsFrameFor s.frame (spans_of s.outline.ends.items s.outline.points.items)) }
+    ensures outside { IfOk result (λ s. NothingOutsideFrame s.frame (spans_of s.outline.ends.items s.outline.points.items)) }
+{
+    let outline = outline_at(alloc, hinter, font, ppem, glyph)?;
+    let frame = frame_of_outline(&outline, glyph)?;
+    let swidth = thousandths_at(font, glyph)?;
+    Ok(Sketched {
+        outline,
+        frame,
+        swidth,
+    })
+}
