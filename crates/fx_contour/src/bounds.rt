@@ -81,6 +81,7 @@ impl Bounds {
         }
         Some(bounds)
     }
+
     /// The box with the points of a contour.
     fn with_points(self, points: &[OutlinePoint]) -> Bounds
         requires { All IsInReach points.now }
