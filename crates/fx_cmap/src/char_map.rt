@@ -80,7 +80,8 @@ impl<'a> CharMap<'a> {
     pub fn glyph(&self, code: u32) -> u16
         ensures { result ≡ glyph_for self.now code }
     {
-        self.cursor().glyph(code)
+        let mut near = 0;
+        self.glyph_near(&mut near, code)
     }
 
     /// The same; the search begins at the segment or group with the number `near`, which becomes that of the one that is found.

@@ -22,7 +22,8 @@ use Rattle.fx_winding.specs.Winding.{Span, centre}
 use Rattle.fx_hint.specs.declared.points.OutlinePoint.{OutlinePoint}
 use Rattle.fx_contour.specs.Contours.{farthest, IsInReach, is_within, is_in_reach, ReachIsTested, spans_of, drawn_of}
 use Rattle.fx_contour.specs.Frames.{HasAny, HaveAny, IsInBoundingBox, AreTooLarge, has_any, have_any, is_in_bounding_box}
-use Rattle.fx_contour.specs.Frames.{first_from, is_large_from, is_too_large, LargeIsTested, IsFrameFor, framed_of, outline_framed_of}
+use Rattle.fx_contour.specs.Frames.{first_from, is_large_from, is_too_large, LargeIsTested, IsFrameFor, framed_of}
+use Rattle.fx_contour.specs.Frames.{outline_framed_of}
 
 pub le_decides : (x y : ℤ) → Decides (int_le x y) (x ≤ℤ y)
 le_decides x y = (λ t. omega (arith, ints), λ h. sym (omega (arith, ints)))

@@ -1,7 +1,7 @@
 -- The bounding box of the contours of an outline, point by point and contour by contour.
 -- For `Bounds::with_points`, `Bounds::with_contour` and `Bounds::of_outline`.
-use Rattle.std.proofs.Common.{◌≡◌, sym, subst, refl, ℕ, zero, suc, ◌+◌, ◌-◌, ◌<◌, ◌≤◌, drop, take, length, map, get_or, ◌⊎◌, inl, inr}
-use Rattle.std.proofs.Common.{ℤ, List, [], ◌∷◌, ◌++◌, Option, Some, None, arith, ◌↔◌}
+use Rattle.std.proofs.Common.{◌≡◌, sym, subst, refl, ℕ, zero, suc, ◌+◌, ◌-◌, ◌<◌, ◌≤◌, drop, take, length, map, get_or, ◌⊎◌}
+use Rattle.std.proofs.Common.{inl, inr, ℤ, List, [], ◌∷◌, ◌++◌, Option, Some, None, arith, ◌↔◌}
 use Rattle.std.proofs.lemmas.List.{drop_more}
 use Rattle.fx_winding.specs.Area.{Place}
 use Rattle.fx_winding.specs.Winding.{Span}

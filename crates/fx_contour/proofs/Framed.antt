@@ -13,7 +13,8 @@ use Rattle.fx_contour.specs.declared.fault.ContourFault.{ContourFault}
 use Rattle.fx_contour.specs.declared.fault.ContourFault.TheVariants.{TooLarge}
 use Rattle.fx_contour.specs.Frames.{IsInBoundingBox, IsFrameOf, IsFrameFor, HaveNoPixel, AreTooLarge}
 use Rattle.fx_winding.specs.Frames.{IsFrom}
-use Rattle.fx_contour.specs.Bounds.{left_side, right_side, bottom_side, top_side, AreBounds, AreBoundsOf, IsCentreIn, ArePixels, AreNoPixels}
+use Rattle.fx_contour.specs.Bounds.{left_side, right_side, bottom_side, top_side, AreBounds, AreBoundsOf}
+use Rattle.fx_contour.specs.Bounds.{IsCentreIn, ArePixels, AreNoPixels}
 
 pub same_pixels : (s : Pixels) (l h l' h' : ℤ) → l ≡ l' → h ≡ h' → ArePixels s l h → ArePixels s l' h'
 same_pixels s l h l' h' e f k =

@@ -1,6 +1,6 @@
 -- The frame: the box of pixels whose centres lie in the closed bounding box of the points of the spans.
-use Rattle.std.specs.Prelude.{IsTrue, ◌⊎◌, ◌<◌, ℕ, ℤ, pos, ◌+ℤ◌, ◌≤ℤ◌, int_le, Bool, false, ◌&&◌, ◌||◌, Result, List, [], ◌∷◌, Option}
-use Rattle.std.specs.Prelude.{Some, None, IsSomeAnd, ◌↔◌}
+use Rattle.std.specs.Prelude.{IsTrue, ◌⊎◌, ◌<◌, ℕ, ℤ, pos, ◌+ℤ◌, ◌≤ℤ◌, int_le, Bool, false, ◌&&◌, ◌||◌, Result, List, [], ◌∷◌}
+use Rattle.std.specs.Prelude.{Option, Some, None, IsSomeAnd, ◌↔◌}
 use Rattle.std.specs.Int.{int_div_euclid}
 use Rattle.std.specs.Option.{option_map_or}
 use Rattle.fx_fixed.specs.Chain.{◌>>=◌, refuse}
