@@ -7,7 +7,7 @@ use Rattle.std.proofs.KnownBytes.{Appends-nil}
 use Rattle.fx_fixed.specs.declared.sink.WriteFailed.{WriteFailed}
 use Rattle.fx_fixed.specs.Wrote.{WrotePart}
 use Rattle.fx_fixed.proofs.Writing.{part_then, part_none, part_text, part_out}
-use Rattle.fx_bdf.specs.Buffer.{BufferView, Adds, AddsBy}
+use Rattle.fx_bdf.specs.inner.Buffer.{BufferView, Adds, AddsBy}
 
 -- nothing was put
 nothing : (old : Option (List ℕ)) (faults done : ℕ) → WrotePart old old faults faults done [] (Ok done)

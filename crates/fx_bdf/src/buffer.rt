@@ -3,7 +3,7 @@
 ghost use Rattle.std.specs.Prelude.{◌≡◌, ◌+◌, ◌++◌, ◌<◌, ◌≤◌, ◌^◌, [], take, drop, length, IfOk};
 ghost use Rattle.std.specs.List.{flat_map};
 ghost use Rattle.fx_fixed.specs.Wrote.{WrotePart};
-ghost use Rattle.fx_bdf.specs.Buffer.{Adds};
+ghost use Rattle.fx_bdf.specs.inner.Buffer.{Adds};
 
 use fx_fixed::{Sink, WriteFailed, put_part};
 use std::marker::Model;
@@ -21,7 +21,7 @@ pub struct Buffer {
 
 impl Model for Buffer {
     ghost use Rattle.std.specs.Prelude.{◌≤◌, take};
-    ghost use Rattle.fx_bdf.specs.Buffer.{BufferView};
+    ghost use Rattle.fx_bdf.specs.inner.Buffer.{BufferView};
     ghost use Rattle.fx_bdf.specs.declared.buffer.TheConstants.{CAPACITY};
 
     ghost Value = { BufferView };

@@ -2,7 +2,7 @@ use Rattle.std.proofs.Common.{take}
 use Rattle.std.specs.List.{flat_map}
 use Rattle.std.specs.Prelude.{Ok}
 use Rattle.fx_bdf.specs.Text.{row_text}
-use Rattle.fx_bdf.specs.Buffer.{Adds}
+use Rattle.fx_bdf.specs.inner.Buffer.{Adds}
 use Rattle.fx_bdf.proofs.write.add_rows.Given as goal
 
 -- the rows so far were added
