@@ -1,0 +1,114 @@
+//! A buffer before a sink, so that many short pieces of a text cost few calls.
+
+ghost use Rattle.std.specs.Prelude.{◌≡◌, ◌+◌, ◌++◌, ◌<◌, ◌≤◌, ◌^◌, [], take, drop, length, IfOk};
+ghost use Rattle.std.specs.List.{flat_map};
+ghost use Rattle.fx_fixed.specs.Wrote.{WrotePart};
+ghost use Rattle.fx_bdf.specs.Buffer.{Adds};
+
+use fx_fixed::{Sink, WriteFailed, put_part};
+use std::marker::Model;
+
+/// How many bytes a buffer holds. It is filled with zeros once a glyph.
+pub const CAPACITY: usize = 1024;
+
+/// A text on its way to a sink: the sink took its first bytes, and the buffer holds those that wait.
+#[derive(Drop)]
+pub struct Buffer {
+    bytes: [u8; CAPACITY],
+    used: usize,
+    done: u64,
+}
+
+impl Model for Buffer {
+    ghost use Rattle.std.specs.Prelude.{◌≤◌, take};
+    ghost use Rattle.fx_bdf.specs.Buffer.{BufferView};
+    ghost use Rattle.fx_bdf.specs.declared.buffer.TheConstants.{CAPACITY};
+
+    ghost Value = { BufferView };
+
+    ghost view = { λ b. record { done = b.done; waiting = take b.used b.bytes } };
+
+    ghost invariant = { λ b. b.used ≤ CAPACITY };
+}
+
+/// Writes `part` over the bytes from `start` on.
+fn put(bytes: &mut [u8], start: usize, part: &[u8])
+    requires { start + length part.now ≤ length bytes.old }
+    ensures { bytes.new ≡ take start bytes.old ++ (part.now ++ drop (start + length part.now) bytes.old) }
+{
+    let over = &mut bytes[start..start + part.len()];
+    over.copy_from_slice(part);
+}
+
+impl Buffer {
+    /// An empty buffer, after `done` bytes of a text.
+    pub fn new(done: u64) -> Buffer
+        ensures { result ≡ record { done = done; waiting = [] } }
+    {
+        Buffer {
+            bytes: [0; CAPACITY],
+            used: 0,
+            done,
+        }
+    }
+
+    /// Puts the bytes that wait, and returns the number of bytes of the text then.
+    pub fn flush<W: Sink>(&mut self, out: &mut W) -> Result<u64, WriteFailed>
+        requires faults { W.fault_count out.old < 2 ^ 63 }
+        requires fits { self.old.done + length self.old.waiting < 2 ^ 64 }
+        ensures wrote { WrotePart (W.held out.old) (W.held out.new) (W.fault_count out.old) (W.fault_count out.new) self.old.done
+            self.old.waiting result }
+        ensures empty { IfOk result (λ n. self.new ≡ record { done = n; waiting = [] }) }
+    {
+        self.done = put_part(out, self.done, &[&self.bytes[..self.used]])?;
+        self.used = 0;
+        Ok(self.done)
+    }
+
+    /// Sees to it that `count` bytes more fit: where they don't, it puts those that wait.
+    pub fn free<W: Sink>(&mut self, count: usize, out: &mut W) -> Result<(), WriteFailed>
+        requires count { count ≤ CAPACITY }
+        requires faults { W.fault_count out.old < 2 ^ 63 }
+        requires fits { self.old.done + length self.old.waiting < 2 ^ 64 }
+        ensures adds { Adds (W.held out.old) (W.held out.new) (W.fault_count out.old) (W.fault_count out.new) self.old self.new []
+            result }
+        ensures free { IfOk result (λ _. length self.new.waiting + count ≤ CAPACITY) }
+    {
+        if count > CAPACITY - self.used {
+            self.flush(out)?;
+        }
+        Ok(())
+    }
+
+    /// Adds a piece that fits.
+    pub fn add(&mut self, piece: &[u8])
+        requires { length self.old.waiting + length piece.now ≤ CAPACITY }
+        ensures waiting { self.new.waiting ≡ self.old.waiting ++ piece.now }
+        ensures done { self.new.done ≡ self.old.done }
+    {
+        put(&mut self.bytes, self.used, piece);
+        self.used += piece.len();
+    }
+
+    /// Adds several pieces that fit.
+    pub fn add_all(&mut self, pieces: &[&[u8]])
+        requires { length self.old.waiting + length (flat_map (λ p. p.now) pieces.now) ≤ CAPACITY }
+        ensures waiting { self.new.waiting ≡ self.old.waiting ++ flat_map (λ p. p.now) pieces.now }
+        ensures done { self.new.done ≡ self.old.done }
+    {
+        'pieces: for piece in pieces {
+            self.add(piece);
+        }
+    }
+
+    /// Adds the first `count` of eight bytes; all eight have to fit.
+    pub fn add_front(&mut self, eight: [u8; 8], count: usize)
+        requires fits { length self.old.waiting + 8 ≤ CAPACITY }
+        requires count { count ≤ 8 }
+        ensures waiting { self.new.waiting ≡ self.old.waiting ++ take count eight }
+        ensures done { self.new.done ≡ self.old.done }
+    {
+        put(&mut self.bytes, self.used, &eight);
+        self.used += count;
+    }
+}
