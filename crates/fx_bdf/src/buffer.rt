@@ -9,7 +9,7 @@ use fx_fixed::{Sink, WriteFailed, put_part};
 use std::marker::Model;
 
 /// How many bytes a buffer holds. It is filled with zeros once a glyph.
-pub const CAPACITY: usize = 1024;
+pub const CAPACITY: usize = 2048;
 
 /// A text on its way to a sink: the sink took its first bytes, and the buffer holds those that wait.
 #[derive(Drop)]
