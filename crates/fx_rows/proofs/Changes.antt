@@ -234,6 +234,7 @@ pub record SettledTo (first now : List ℤ) (touched touching : List ℕ) (line 
   pub bits : (k : ℕ) → k < 32 * w → word_bit lining k ≡ count_bit (before (k + 1) first) (word_bit line k)
   pub rest : (v : ℕ) → w ≤ v → get_or lining v 0 ≡ get_or line v 0
   pub marks : (v : ℕ) → w ≤ v → get_or touching v 0 ≡ get_or touched v 0
+  pub untouched : (v : ℕ) → v < w → get_or touching v 0 ≡ 0
   pub clear : (k : ℕ) → k < 32 * w → get_or now k (pos 0) ≡ pos 0
   pub kept : (k : ℕ) → 32 * w ≤ k → get_or now k (pos 0) ≡ get_or first k (pos 0)
 
@@ -279,6 +280,7 @@ settled_more first now now' touched touching line lining count count' w word s l
   rest = λ v h. let ne : v ≢ w = omega arith in get_or-set_other lining w v (bit_or (get_or lining w 0) word) 0 ne ∙
       s.rest v (omega arith);
   marks = λ v h. let ne : v ≢ w = omega arith in get_or-set_other touching w v 0 0 ne ∙ s.marks v (omega arith);
+  untouched = λ v h. by_untouched v h (equal v w);
   clear = λ k h. by_clear k h (order k (32 * w));
   kept = λ k h. high k (omega arith) ∙ s.kept k (omega arith);
 }
@@ -306,6 +308,10 @@ settled_more first now now' touched touching line lining count count' w word s l
         bit_at_or (get_or lining w 0) word (31 - i)
         ∙ ap (λ n. max n (bit_at word (31 - i))) old
         ∙ either z b (bit_at word (31 - i)) (bit_at-lt (get_or line ((32 * w + i) / 32) 0) (31 - (32 * w + i) % 32)) new
+
+    by_untouched : (v : ℕ) → v < w + 1 → (v ≡ w) ⊎ (v ≢ w) → get_or (set touching w 0) v 0 ≡ 0
+    by_untouched v h (inl e) = ap (λ (n : ℕ). get_or (set touching w 0) n 0) e ∙ get_or-set_same touching w 0 0 wide
+    by_untouched v h (inr n) = get_or-set_other touching w v 0 0 n ∙ s.untouched v (omega arith)
 
     by_clear : (k : ℕ) → k < 32 * (w + 1) → (k < 32 * w) ⊎ (32 * w ≤ k) → get_or now' k (pos 0) ≡ pos 0
     by_clear k h (inl l) = low k l ∙ s.clear k l

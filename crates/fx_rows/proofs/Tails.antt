@@ -1,12 +1,13 @@
 -- The bits of a word from a column on.
 -- Serves the words whose bits change at a column.
-use Rattle.std.proofs.Common.{◌≡◌, ◌⊎◌, inl, inr, ◌∙◌, ap, ℕ, suc, ◌+◌, ◌-◌, ◌/◌, ◌*◌, ◌<◌, ◌≤◌, ◌^◌, min, arith, w32, bit_and, bit_or}
+use Rattle.std.proofs.Common.{◌≡◌, ◌⊎◌, inl, inr, ◌∙◌, ap, ℕ, suc, ◌+◌, ◌-◌, ◌/◌, ◌*◌, ◌<◌, ◌≤◌, ◌^◌, min, arith}
+use Rattle.std.proofs.Common.{w32, bit_and, bit_or, ◌%◌}
 use Rattle.std.specs.Int.{bit_at}
 use Rattle.std.specs.Int.Count.{count_leading_zeros}
 use Rattle.std.proofs.lemmas.Nat.{leading_top, and_le_l}
 use Rattle.std.proofs.Math.Nat.{pow-succ', div-le_self}
 use Rattle.std.proofs.lemmas.Nat.Bits.{bit_at_or, bit_at_and, bit_at_not, bit_at-lt, bit_at_above, bit_at_ones, bit_at_ones_above}
-use Rattle.std.proofs.lemmas.Nat.Bits.{bit_at_cat_high, ones_shr}
+use Rattle.std.proofs.lemmas.Nat.Bits.{bit_at_cat_high, bit_at_mask_inside, bit_at_mask_below, ones_shr, ones_shl}
 
 -- a number from 2 ^ j up to below 2 ^ (j + 1) has the bit j
 top_bit : (a j : ℕ) → 2 ^ j ≤ a → a < 2 ^ suc j → bit_at a j ≡ 1
@@ -59,6 +60,27 @@ clear_before word c i h l =
 
 pub clear_from : (word c i : ℕ) → c < 32 → c ≤ i → i < 32 → bit_at (bit_and word (4294967295 - tail c)) (31 - i) ≡ 0
 clear_from word c i h l k = omega (arith, kept word c i h k, tail_from c i h l k)
+
+-- ---- the word of the bits from a column to another
+head_fits : (a : ℕ) → a < 32 → 4294967295 * 2 ^ a % 4294967296 ≡ 4294967296 - 2 ^ a
+head_fits a h = ones_shl 32 a (omega arith)
+
+pub between_inside : (b a i : ℕ) → b < 32 → a < 32 → b ≤ i → i + a < 32
+    → bit_at (bit_and (tail b) (4294967295 * 2 ^ a % 4294967296)) (31 - i) ≡ 1
+between_inside b a i h k l m =
+    let x = tail_from b i h l (omega arith) in
+    let y : bit_at (4294967295 * 2 ^ a % 4294967296) (31 - i) ≡ 1 =
+    ap (λ (n : ℕ). bit_at n (31 - i)) (head_fits a k) ∙ bit_at_mask_inside a 32 (31 - i) (omega arith) (omega arith) in
+    omega (arith, bit_at_and (tail b) (4294967295 * 2 ^ a % 4294967296) (31 - i), x, y)
+
+pub between_outside : (b a i : ℕ) → b < 32 → a < 32 → i < 32 → (i < b) ⊎ (32 ≤ i + a)
+    → bit_at (bit_and (tail b) (4294967295 * 2 ^ a % 4294967296)) (31 - i) ≡ 0
+between_outside b a i h k l (inl m) =
+    let x = tail_before b i h m in omega (arith, bit_at_and (tail b) (4294967295 * 2 ^ a % 4294967296) (31 - i), x)
+between_outside b a i h k l (inr m) =
+    let y : bit_at (4294967295 * 2 ^ a % 4294967296) (31 - i) ≡ 0 =
+    ap (λ (n : ℕ). bit_at n (31 - i)) (head_fits a k) ∙ bit_at_mask_below a 32 (31 - i) (omega arith) in
+    omega (arith, bit_at_and (tail b) (4294967295 * 2 ^ a % 4294967296) (31 - i), y)
 
 -- a word without one of its bits is less
 pub fewer : (word m j : ℕ) → bit_at word j ≡ 1 → bit_at (bit_and word m) j ≡ 0 → bit_and word m < word

@@ -51,6 +51,7 @@ fn settle_word(diff: &mut [i32], touched: u32, from: usize, count: &mut i32) -> 
 {
     let mut bits = with_rest(0, 0, *count != 0);
     let mut left = touched;
+    // The touched columns before those left are settled; from the last of them on, all bits are that of the count.
     'columns: while left != 0 {
         let column = first_column(left);
         let at = from + column as usize;
@@ -68,10 +69,13 @@ pub fn settle(diff: &mut [i32], touched: &mut [u32], line: &mut [u32])
     requires words { length touched.old ≡ length line.old }
     requires touched { AreTouched diff.old touched.old }
     requires small { (k : ℕ) → IsWithin (2 ^ 20) (before k diff.old) }
-    ensures bits { (k : ℕ) → k < 32 * length line.old → word_bit line.new k ≡ count_bit (before (k + 1) diff.old) (word_bit line.old k) }
+    ensures bits { (k : ℕ) → k < 32 * length line.old →
+        word_bit line.new k ≡ count_bit (before (k + 1) diff.old) (word_bit line.old k) }
     ensures clear { AreZero diff.new }
+    ensures untouched { (w : ℕ) → get_or touched.new w 0 ≡ 0 }
 {
     let mut count = 0;
+    // The words before w are settled, and the count is that of the last column of the word before.
     'words: for w in 0..line.len() {
         line[w] |= settle_word(diff, touched[w], 32 * w, &mut count);
         touched[w] = 0;

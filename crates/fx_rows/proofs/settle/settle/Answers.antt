@@ -9,6 +9,7 @@ words-init c = record {
   bits = λ k h. absurd (omega arith);
   rest = λ v h. refl;
   marks = λ v h. refl;
+  untouched = λ v h. absurd (omega arith);
   clear = λ k h. absurd (omega arith);
   kept = λ k h. refl;
 }

@@ -38,11 +38,12 @@ columns-preserved c =
     let b = c.requires.small (k + 1) (omega (arith, f.within)) in
     let new : ℤ = to_z w32 (of_z w32 (to_z w32 (of_z w32 c.columns.count) +ℤ to_z w32
     (of_z w32 (get_or c.columns.diff (c.args.from + k) (pos 0))))) in
-    let sum : new ≡ c.columns.count +ℤ get_or c.columns.diff (c.args.from + k) (pos 0) = omega (arith, signed_linear, to, at, a, b) in
+    let sum : new ≡ c.columns.count +ℤ get_or c.columns.diff (c.args.from + k) (pos 0) =
+    omega (arith, signed_linear, to, at, a, b) in
     let fits : FitsSigned w32 new = omega (arith, signed_linear, to, at, a, b) in
     settling_more c.args.diff.now c.columns.diff c.args.from c.args.count.now c.columns.count new c.columns.bits
-    c.with_rest-bits-in-columns.result c.columns.left c.without_column-left.result k i f.within (omega (arith, f.within)) f.set f.before
-    sum c.with_rest-bits-in-columns.ensures.before
+    c.with_rest-bits-in-columns.result c.columns.left c.without_column-left.result k i f.within (omega (arith, f.within)) f.set
+    f.before sum c.with_rest-bits-in-columns.ensures.before
     (λ j h l. c.with_rest-bits-in-columns.ensures.rest j h l ∙ bit_is new fits)
     c.without_column-left.ensures.here c.without_column-left.ensures.others
 
