@@ -42,7 +42,8 @@ pub(crate) fn region_cells(
     requires order { columns.first ≤ columns.last }
     requires value { value ≢ pos 0 }
     requires small { IsWithin 1 value }
-    ensures { (f : ℕ → ℤ) → (start stop : ℕ) → IsCore f start stop columns on_first on_last own value → AreCells f start stop result }
+    ensures { (f : ℕ → ℤ) → (start stop : ℕ) → IsCore f start stop columns on_first on_last own value →
+        AreCells f start stop result }
 {
     let first = first_inside(columns.first, on_first);
     let end = end_inside(columns.last, on_last);

@@ -13,11 +13,13 @@ region_cells-requires-clause-value c =
 
 pub returns-in-None-clause-region : goal.returns-in-None-clause-region
 returns-in-None-clause-region c = λ k h l.
-    (none_at (span_of c.args.piece.now) c.args.sided.strip c.args.gaps c.requires.bent c.requires.gaps k (c.in-None.ensures k h l)).0
+    (none_at (span_of c.args.piece.now) c.args.sided.strip c.args.gaps c.requires.bent c.requires.gaps k
+    (c.in-None.ensures k h l)).0
 
 pub returns-in-None-clause-on : goal.returns-in-None-clause-on
 returns-in-None-clause-on c = none_on (span_of c.args.piece.now) c.args.sided.strip (λ k h l.
-    (none_at (span_of c.args.piece.now) c.args.sided.strip c.args.gaps c.requires.bent c.requires.gaps k (c.in-None.ensures k h l)).1)
+    (none_at (span_of c.args.piece.now) c.args.sided.strip c.args.gaps c.requires.bent c.requires.gaps k
+    (c.in-None.ensures k h l)).1)
 
 pub returns-in-Some-clause-region : goal.returns-in-Some-clause-region
 returns-in-Some-clause-region c =

@@ -19,7 +19,8 @@ pub returns-then-weight-lt0-clause-narrowed : goal.returns-then-weight-lt0-claus
 returns-then-weight-lt0-clause-narrowed c =
     let s = c.args.piece.now in
     let w = c.turned-weight.result in
-    let e = weight_is c.args.areas c.total_of.result w c.total_of.ensures.value c.total_of.ensures.size c.turned-weight.ensures.value in
+    let e = weight_is c.args.areas c.total_of.result w c.total_of.ensures.value c.total_of.ensures.size
+    c.turned-weight.ensures.value in
     let low : w <ℤ pos 0 = omega (arith, signed_linear, c.turned-weight.ensures.size) in
     narrowed_beyond (span_of s) c.args.strip c.cut_of.result c.requires.bent
     (λ k. let q = level_weight s c.args.b c.args.strip c.args.areas w c.requires.middle c.requires.areas c.requires.level e k in
@@ -33,7 +34,8 @@ pub returns-then-weight-gt0-clause-sided : goal.returns-then-weight-gt0-clause-s
 returns-then-weight-gt0-clause-sided c =
     let s = c.args.piece.now in
     let w = c.turned-weight.result in
-    let e = weight_is c.args.areas c.total_of.result w c.total_of.ensures.value c.total_of.ensures.size c.turned-weight.ensures.value in
+    let e = weight_is c.args.areas c.total_of.result w c.total_of.ensures.value c.total_of.ensures.size
+    c.turned-weight.ensures.value in
     let high : pos 0 <ℤ w = omega (arith, signed_linear, c.turned-weight.ensures.size) in
     sided_above (span_of s) c.args.strip c.requires.bent
     (λ k. let q = level_weight s c.args.b c.args.strip c.args.areas w c.requires.middle c.requires.areas c.requires.level e k in
@@ -43,7 +45,8 @@ pub returns-then-piece-b-clause-sided : goal.returns-then-piece-b-clause-sided
 returns-then-piece-b-clause-sided c =
     let s = c.args.piece.now in
     let w = c.turned-weight.result in
-    let e = weight_is c.args.areas c.total_of.result w c.total_of.ensures.value c.total_of.ensures.size c.turned-weight.ensures.value in
+    let e = weight_is c.args.areas c.total_of.result w c.total_of.ensures.value c.total_of.ensures.size
+    c.turned-weight.ensures.value in
     let none : w ≡ pos 0 = omega (arith, signed_linear, c.turned-weight.ensures.size) in
     sided_level s c.args.b c.args.strip c.requires.bent c.requires.middle c.requires.level (omega (arith, signed_linear))
     (λ k. level_weight s c.args.b c.args.strip c.args.areas w c.requires.middle c.requires.areas c.requires.level e k ∙ none)
@@ -52,7 +55,8 @@ pub returns-clause-sided : goal.returns-clause-sided
 returns-clause-sided c =
     let s = c.args.piece.now in
     let w = c.turned-weight.result in
-    let e = weight_is c.args.areas c.total_of.result w c.total_of.ensures.value c.total_of.ensures.size c.turned-weight.ensures.value in
+    let e = weight_is c.args.areas c.total_of.result w c.total_of.ensures.value c.total_of.ensures.size
+    c.turned-weight.ensures.value in
     let none : w ≡ pos 0 = omega (arith, signed_linear, c.turned-weight.ensures.size) in
     sided_on_level s c.args.b c.args.strip c.requires.bent c.requires.middle c.requires.level (omega (arith, signed_linear))
     (λ k. level_weight s c.args.b c.args.strip c.args.areas w c.requires.middle c.requires.areas c.requires.level e k ∙ none)

@@ -6,6 +6,6 @@ yes : (b : Bool) → b ≡ true → IsTrue b
 yes b e = grind arith
 
 pub returns-then-passes-2 : goal.returns-then-passes-2
-returns-then-passes-2 c = none_above c.args.p c.args.start c.args.stop c.peak_of-peak.result c.peak_of-peak.ensures.from
-    c.peak_of-peak.ensures.within c.peak_of-peak.ensures.climbs c.peak_of-peak.ensures.drops
-    (c.passes-2.ensures.0 (yes c.passes-2.result c.if-passes-2.true))
+returns-then-passes-2 c = none_above c.args.g c.parabola_of.result c.args.start c.args.stop c.peak_of-peak.result
+    c.parabola_of.ensures c.peak_of-peak.ensures.from c.peak_of-peak.ensures.within c.peak_of-peak.ensures.climbs
+    c.peak_of-peak.ensures.drops (c.passes-2.ensures.0 (yes c.passes-2.result c.if-passes-2.true))
