@@ -1,6 +1,6 @@
 //! Words of pixels as hexadecimal digits.
 
-ghost use Rattle.std.specs.Prelude.{◌≡◌, ◌<◌, ◌/◌, ◌%◌, ◌^◌, [], ◌∷◌, true};
+ghost use Rattle.std.specs.Prelude.{◌≡◌, ◌+◌, ◌*◌, ◌<◌, ◌/◌, ◌%◌, ◌^◌, [], ◌∷◌, true};
 ghost use Rattle.std.specs.Fmt.{digit_glyph};
 
 /// The two digits of each byte in turn.
@@ -12,15 +12,15 @@ static PAIRS: [u8; 512] = *b"\
         C0C1C2C3C4C5C6C7C8C9CACBCCCDCECFD0D1D2D3D4D5D6D7D8D9DADBDCDDDEDFE0E1E2E3E4E5E6E7E8E9EAEBECEDEEEF\
         F0F1F2F3F4F5F6F7F8F9FAFBFCFDFEFF";
 
-/// The two upper case hexadecimal digits of a byte.
+/// The two upper case hexadecimal digits of a byte, the second times 256.
 #[inline(always)]
-fn pair(byte: u32) -> (u8, u8)
+fn pair(byte: u32) -> u64
     requires { byte < 256 }
-    ensures high { result.0 ≡ digit_glyph true (byte / 16) }
-    ensures low { result.1 ≡ digit_glyph true (byte % 16) }
+    ensures value { result ≡ digit_glyph true (byte / 16) + 256 * digit_glyph true (byte % 16) }
+    ensures short { result < 65536 }
 {
     let at = byte as usize * 2;
-    (PAIRS[at], PAIRS[at + 1])
+    u64::from(PAIRS[at]) + u64::from(PAIRS[at + 1]) * 256
 }
 
 /// The eight digits of a word, that of the highest four bits first.
@@ -31,9 +31,9 @@ pub fn word_digits(word: u32) -> [u8; 8]
         ∷ digit_glyph true (word / 2 ^ 12 % 16) ∷ digit_glyph true (word / 2 ^ 8 % 16)
         ∷ digit_glyph true (word / 2 ^ 4 % 16) ∷ digit_glyph true (word % 16) ∷ [] }
 {
-    let (a, b) = pair(word >> 24);
-    let (c, d) = pair((word >> 16) % 256);
-    let (e, f) = pair((word >> 8) % 256);
-    let (g, h) = pair(word % 256);
-    [a, b, c, d, e, f, g, h]
+    let a = pair(word >> 24);
+    let b = pair((word >> 16) % 256);
+    let c = pair((word >> 8) % 256);
+    let d = pair(word % 256);
+    (a + b * 0x1_0000 + c * 0x1_0000_0000 + d * 0x1_0000_0000_0000).to_le_bytes()
 }

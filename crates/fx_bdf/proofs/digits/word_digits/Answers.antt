@@ -1,10 +1,9 @@
-use Rattle.fx_bdf.proofs.Pairs.{eight_digits}
+use Rattle.std.proofs.Common.{◌∙◌}
+use Rattle.fx_bdf.proofs.Pairs.{word_bytes}
 use Rattle.fx_bdf.proofs.digits.word_digits.Goals as goal
 
 pub returns : goal.returns
 returns c =
-    let a = c.pair-a.ensures in
-    let b = c.pair-c.ensures in
-    let d = c.pair-e.ensures in
-    let e = c.pair-g.ensures in
-    eight_digits c.args.word c.ranges.word.fits a.high a.low b.high b.low d.high d.low e.high e.low
+    c.to_le_bytes.ensures
+    ∙ word_bytes c.args.word c.ranges.word.fits c.pair-a.ensures.value c.pair-b.ensures.value c.pair-c.ensures.value
+    c.pair-d.ensures.value

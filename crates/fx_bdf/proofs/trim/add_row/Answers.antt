@@ -1,10 +1,9 @@
-use Rattle.std.proofs.Common.{◌≡◌, ℕ, ◌∙◌, ◌+◌, ◌-◌, ◌*◌, ◌/◌, ◌<◌, get_or, pos, ◌+ℤ◌, ap, length, arith, to_z, of_z, w32}
+use Rattle.std.proofs.Common.{◌≡◌, ℕ, ◌∙◌, ◌-◌, ◌*◌, ◌<◌, pos, ◌+ℤ◌, ap, length, arith, to_z, of_z, w32}
 use Rattle.fx_fixed.proofs.Linear.{signed_linear}
 use Rattle.fx_winding.specs.declared.frame.Frame.{Frame}
 use Rattle.fx_winding.specs.Frames.{steps}
-use Rattle.fx_bdf.proofs.Packing.{held, moved, moved_row, moved_words}
+use Rattle.fx_bdf.proofs.Packing.{held, moved, few_across, moved_row, moved_words}
 use Rattle.fx_bdf.proofs.BoxRows.{moved_none, moved_more}
-use Rattle.fx_bdf.proofs.Shifts.{moved_word}
 use Rattle.fx_winding.specs.Bitmaps.{words_for}
 use Rattle.fx_bdf.proofs.trim.add_row.Goals as goal
 
@@ -19,26 +18,24 @@ row-words-requires c =
     let row = c.requires.row in
     (omega (arith, signed_linear, at, low), omega (arith, signed_linear, at, high, row))
 
+pub word_from-requires : goal.word_from-requires
+word_from-requires c =
+    let p = c.requires.placed in
+    let m = c.args.bitmap.now.frame.columns in
+    let left : to_z w32 (of_z w32 c.args.b.left) ≡ c.args.b.left = omega (arith, signed_linear, p.left, p.right) in
+    let side = ap (λ (f : Frame). f.left) c.frame-frame.ensures.value in
+    let edge : to_z w32 (of_z w32 c.frame-frame.result.left) ≡ c.args.bitmap.now.frame.left =
+    omega (arith, signed_linear, side, m.from, m.to) in
+    let from : c.distance-from.result ≡ steps c.args.bitmap.now.frame.left c.args.b.left =
+    c.distance-from.ensures ∙ (λ i. steps (edge i) (left i)) in
+    let few = few_across c.args.bitmap.now c.args.b c.distance-from.result c.requires.tight (omega (arith, c.requires.row)) from in
+    omega (arith, few, c.requires.wide)
+
 pub words-init : goal.words-init
-words-init c =
-    let words = c.row-words.result.now in
-    let none : c.distance-from.result / 32 ≡ c.distance-from.result / 32 + 0 = omega arith in
-    record {
-      moved = moved_none c.args.rows.now.items words c.distance-from.result;
-      high = c.word_at-high.ensures ∙ ap (λ (n : ℕ). get_or words n 0) none;
-    }
+words-init c = moved_none c.args.rows.now.items c.row-words.result.now c.distance-from.result
 
 pub words-preserved : goal.words-preserved
-words-preserved c =
-    let words = c.row-words.result.now in
-    let from = c.distance-from.result in
-    let next : from / 32 + c.words.k + 1 ≡ from / 32 + (c.words.k + 1) = omega arith in
-    record {
-      moved = moved_more c.joined.result c.words.invariant.moved c.in_ok-push.ensures.items
-          (moved_word words from c.words.k c.words.high c.word_at-low.result c.joined.result c.words.invariant.high
-          c.word_at-low.ensures c.joined.ensures.high c.joined.ensures.low);
-      high = c.word_at-low.ensures ∙ ap (λ (n : ℕ). get_or words n 0) next;
-    }
+words-preserved c = moved_more c.word_from.result c.words.invariant c.in_ok-push.ensures.items c.word_from.ensures
 
 pub returns : goal.returns
 returns c =
@@ -55,7 +52,7 @@ returns c =
     let r = moved c.args.bitmap.now c.args.b c.args.i c.distance-from.result c.row-words.result.now
     (to_z w32 (of_z w32 c.above.result)) c.requires.tight c.requires.row at from c.row-words.ensures.words
     c.row-words.ensures.value in
-    let m = c.words.invariant.moved in
+    let m = c.words.invariant in
     let long : length m.out ≡ words_for c.args.b.width = omega (arith, m.long, c.words_for-k-end.ensures) in
     let same = λ (k : ℕ) (h : k < 32 * length m.out). m.same k (omega (arith, h, m.long)) in
     record {
