@@ -55,24 +55,17 @@ pub fn next_flag(again: u8, flag: u8, bytes: &[u8]) -> Option<(u8, u8, &[u8])>
     }
 }
 
-/// The number of bytes of a delta with this flag; short and same are the masks of the coordinate.
+/// The number of bytes of the deltas of so many points with this flag; short and same are the masks of the coordinate.
 #[tactic(auto, unfolding(crate::specs::inner::Sizes::delta_size))]
-fn delta_size(short: u8, same: u8, flag: u8) -> usize
-    ensures value { result ≡ delta_size short same flag }
-    ensures size { result ≤ 2 }
-{
-    if has(flag, short) {
-        return 1;
-    }
-    if has(flag, same) { 0 } else { 2 }
-}
-
-/// The number of bytes of the deltas of so many points with this flag.
 fn run_size(points: u32, short: u8, same: u8, flag: u8) -> usize
     ensures value { result ≡ points * delta_size short same flag }
     ensures size { result ≤ 2 * points }
 {
-    points as usize * delta_size(short, same, flag)
+    let points = points as usize;
+    if has(flag, short) {
+        return points;
+    }
+    if has(flag, same) { 0 } else { 2 * points }
 }
 
 /// What flags say of the bytes after them: how many the x deltas take, and how many the y deltas.

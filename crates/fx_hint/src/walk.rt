@@ -16,7 +16,7 @@ use crate::fault::HintFault;
 use crate::hinter::Hinter;
 use crate::limits::MAX_DEPTH;
 use crate::made::Made;
-use crate::part::with_part;
+use crate::part::add_part;
 use fx_glyf::{Composite, Glyph, Simple, read};
 use fx_scale::{PhantomPoints, Scale, zone_of};
 use fx_sfnt::{Font, Metrics};
@@ -196,19 +196,10 @@ impl<'w, 'a> Walk<'w, 'a> {
             (with_part self.now.scale.now hinted waiting.entry.composite.g waiting.entry.part waiting.entry.composite.base made)) }
     {
         let Waiting { part, composite } = waiting;
-        let OpenComposite {
-            g,
-            glyph,
-            parts,
-            base,
-        } = composite;
-        let base = with_part(base, self.scale, hinted, g, part, made)?;
-        Ok(OpenComposite {
-            g,
-            glyph,
-            parts,
-            base,
-        })
+        let mut composite = composite;
+        let g = composite.g;
+        add_part(&mut composite.base, self.scale, hinted, g, part, made)?;
+        Ok(composite)
     }
 
     /// The root assembled.
