@@ -1,18 +1,17 @@
 -- A glyph whose frame lies in a box leaves that box as it is.
--- Serves `lies_in`, `bounds_with` and `see_one`.
+-- Serves `are_among`, `bounds_with` and `see_one`.
 use Rattle.std.proofs.Common.{◌≡◌, refl, sym, ap, ◌∙◌, subst, inl, inr, ℕ, ◌+◌, ◌<◌, ℤ, pos, ◌+ℤ◌, ◌≤ℤ◌, ◌<ℤ◌, Bool, true}
-use Rattle.std.proofs.Common.{false, true≢false, not, ◌||◌, List, Option, Some, None, Result, Ok, Err, arith}
+use Rattle.std.proofs.Common.{false, true≢false, not, ◌||◌, List, Result, Ok, Err, arith}
 use Rattle.std.specs.Prelude.{IsTrue, ◌==◌, int_le, if◌then◌else◌}
 use Rattle.std.specs.List.{list_all}
 use Rattle.std.specs.Int.{int_min, int_max}
-use Rattle.std.proofs.lemmas.Bool.{eqb-true, and_parts}
-use Rattle.std.proofs.lemmas.Int.{ints, int_min_is, int_max_is}
+use Rattle.std.proofs.lemmas.Bool.{eqb-true}
+use Rattle.std.proofs.lemmas.Int.{int_min_is, int_max_is}
 use Rattle.fx_fixed.specs.Chain.{map_fault}
 use Rattle.fx_fixed.proofs.Linear.{signed_linear}
 use Rattle.fx_fixed.proofs.Chain.{refuse_ok, map_fault_ok, same_Ok}
 use Rattle.fx_winding.specs.Winding.{Span}
-use Rattle.fx_winding.specs.Frames.{is_from, steps}
-use Rattle.fx_winding.specs.declared.frame.Frame.{Frame}
+use Rattle.fx_winding.specs.Frames.{steps}
 use Rattle.fx_hint.specs.declared.points.OutlinePoint.{OutlinePoint}
 use Rattle.fx_contour.specs.declared.fault.ContourFault.{ContourFault}
 use Rattle.fx_contour.specs.declared.fault.ContourFault.TheVariants.{TooFar}
@@ -21,7 +20,6 @@ use Rattle.fx_contour.specs.Frames.{IsInside, NothingOutsideFrame}
 use Rattle.fx_bdf.specs.Glyphs.{Box, Glyph, HasSides, IsTight, IsPlaced, is_in_box, is_empty, around, joined, last_of}
 use Rattle.fx_bdf.specs.Glyphs.{glyph_bit}
 use Rattle.fx_bdf.proofs.Boxes.{from_true, steps_above, in_columns, in_rows}
-use Rattle.fx_bdf.proofs.Trims.{from_order, and_yes}
 use Rattle.fx_strike.specs.declared.refusal.Refusal.{Refusal}
 use Rattle.fx_strike.specs.declared.refusal.Refusal.TheVariants.{OutOfMemory}
 use Rattle.fx_strike.specs.declared.sketched.Sketched.{Sketched}
@@ -29,7 +27,7 @@ use Rattle.fx_strike.specs.declared.seen.Seen.{Seen}
 use Rattle.fx_strike.specs.Faults.{Fails, of_contour}
 use Rattle.fx_strike.specs.Strike.{Sketch, IsGlyphOf}
 use Rattle.fx_strike.specs.Headline.{counted}
-use Rattle.fx_strike.specs.inner.Drawing.{are_among, lies_in, IsSketchedOf}
+use Rattle.fx_strike.specs.inner.Drawing.{are_among, IsSketchedOf}
 use Rattle.fx_strike.specs.inner.Surveying.{Adds, Joins, Has, SeesOne}
 use Rattle.fx_strike.proofs.Near.{are_drawn, not_large}
 use Rattle.fx_strike.proofs.Existing.{glyph_of_spans}
@@ -116,27 +114,10 @@ joined_kept big box bit t h = elim t.sides [
 
 -- ---- the frame of a glyph in a box
 
-among : (first : ℤ) (count : ℕ) (other : ℤ) (more : ℕ) → are_among first count other more ≡ true
-    → (other ≤ℤ first) × ((first +ℤ pos count) ≤ℤ (other +ℤ pos more))
-among first count other more h = (grind (arith, ints), grind (arith, ints))
-
+-- the test of two runs, as the code has it
 pub among_is : (end more_end first other : ℤ) (count more : ℕ) → end ≡ first +ℤ pos count → more_end ≡ other +ℤ pos more
     → int_le other first ≡ true → int_le end more_end ≡ are_among first count other more
 among_is end more_end first other count more p q h = rw (p, q, h) refl
-
--- each pixel of a frame that lies in a box is one of the box
-pub pixels_in : (frame : Option Frame) (box : Box) → lies_in frame box ≡ true → (col row : ℤ) → IsInside frame col row
-    → IsTrue (is_in_box box col row)
-pixels_in None box h col row i = absurd i
-pixels_in (Some f) box h col row i =
-    let p = and_parts (are_among f.left f.width box.left box.width) (are_among f.bottom f.height box.bottom box.height) h in
-    let x = among f.left f.width box.left box.width p.0 in
-    let y = among f.bottom f.height box.bottom box.height p.1 in
-    and_yes (is_from box.left box.width col) (is_from box.bottom box.height row)
-    (from_order box.left col box.width (omega (arith, signed_linear, x.0, i.column.0))
-    (omega (arith, signed_linear, x.1, i.column.1)))
-    (from_order box.bottom row box.height (omega (arith, signed_linear, y.0, i.row.0))
-    (omega (arith, signed_linear, y.1, i.row.1)))
 
 -- a pixel is in the box if it can't be outside the frame
 not_outside : (b : Bool) → (b ≡ false → ⊥) → b ≡ true
@@ -204,9 +185,6 @@ pub sees_one_err : (due : Result Sketch Refusal) (old new : Seen) (r : Result (U
     → e ≡ d → Fails d due → SeesOne due old new r
 sees_one_err due old new r e d p q f =
     let P : Result (Unit {0}) Refusal → Type 0 = λ s. SeesOne due old new s in subst P (sym (p ∙ ap Err q)) f
-
-pub memory_fails : {Y : Type 0} (d : Refusal) (due : Result Y Refusal) → d ≡ OutOfMemory → Fails d due
-memory_fails d due m = let P : Refusal → Type 0 = λ e. Fails e due in subst P (sym m) tt
 
 -- a character was added
 pub has_added : (sketch : Sketch) (made : Sketched) (old new : Seen) (box : Box) → IsSketchedOf sketch made

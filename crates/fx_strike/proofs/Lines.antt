@@ -26,13 +26,11 @@ use Rattle.fx_strike.specs.declared.request.Survey.{Survey}
 use Rattle.fx_strike.specs.Characters.{rising}
 use Rattle.fx_strike.specs.declared.refusal.Refusal.{Refusal}
 use Rattle.fx_strike.specs.declared.refusal.Refusal.TheVariants.{WriteFailed, ReadFailed, BadHex, InputTooLarge, OutOfMemory}
-use Rattle.fx_strike.specs.declared.drawn.Drawn.{Drawn}
 use Rattle.fx_strike.specs.Faults.{Fails}
 use Rattle.fx_strike.specs.Strike.{Sketch, Prelude, Plan, Opening, IsGlyphOf, AreGlyphsOf, pixels, glyph_sketch_of, sketch_of}
 use Rattle.fx_strike.specs.Strike.{is_missing, sketches_of, plan_after, strike_text}
 use Rattle.fx_strike.specs.Headline.{IsReportOf, Surveyed, Leaves, surveyed_header, surveyed_report}
 use Rattle.fx_strike.specs.inner.Surveying.{seen_prelude}
-use Rattle.fx_strike.specs.inner.Drawing.{IsDrawnOf}
 use Rattle.fx_strike.specs.inner.Writing.{AreLinesBy, AreLinesOf, AreAllLinesOf, WritesBy, Writes}
 use Rattle.fx_strike.proofs.OnePart.{glyph_is_one}
 use Rattle.fx_strike.proofs.Seeing.{missing_is, not_zero, same_sketch}
@@ -192,16 +190,16 @@ due_lines hinting face mapping ppem code glyph text e m h =
     (missing_is mapping code glyph e false (not_zero glyph m)) h.lines in
     record { sketch = x.0; bits = x.1; is = same_sketch hinting face mapping ppem code glyph e ∙ x.2; of = x.3; text_is = x.4 }
 
-pub drawn_lines : TrimmedIsOne → (hinting : Hinting) (face : Face) (mapping : Mapping) (ppem code glyph : ℕ) (drawn : Drawn)
+pub drawn_lines : TrimmedIsOne → (hinting : Hinting) (face : Face) (mapping : Mapping) (ppem code glyph : ℕ) (g : Glyph)
     (text : List ℕ)
     → glyph ≡ glyph_for mapping code → (glyph ≡ 0 → ⊥)
-    → (sketch : Sketch) × (glyph_sketch_of hinting face ppem code glyph ≡ Ok sketch) × IsDrawnOf sketch drawn
-    → AreLinesOf hinting face mapping ppem code text → glyph_text drawn.glyph ≡ text
-drawn_lines one hinting face mapping ppem code glyph drawn text e m d h =
+    → (sketch : Sketch) × (glyph_sketch_of hinting face ppem code glyph ≡ Ok sketch) × IsGlyphOf sketch g
+    → AreLinesOf hinting face mapping ppem code text → glyph_text g ≡ text
+drawn_lines one hinting face mapping ppem code glyph g text e m d h =
     let x = due_lines hinting face mapping ppem code glyph text e m h in
-    let P : Sketch → Type 0 = λ s. IsGlyphOf s drawn.glyph in
-    let here : IsGlyphOf x.sketch drawn.glyph = subst P (same_Ok d.0 x.sketch d.1 x.is) d.2.glyph in
-    ap glyph_text (glyph_is_one one x.sketch drawn.glyph x.bits here x.of) ∙ sym x.text_is
+    let P : Sketch → Type 0 = λ s. IsGlyphOf s g in
+    let here : IsGlyphOf x.sketch g = subst P (same_Ok d.0 x.sketch d.1 x.is) d.2 in
+    ap glyph_text (glyph_is_one one x.sketch g x.bits here x.of) ∙ sym x.text_is
 
 -- nothing was written of it when memory ran out
 pub writes_undrawn : (hinting : Hinting) (face : Face) (mapping : Mapping) (ppem code glyph : ℕ) (old : Option (List ℕ))

@@ -2,7 +2,7 @@
 -- Serves `sketch_at`, `draw` and `near_pixels`, the first pass and the laws.
 use Rattle.std.proofs.Common.{◌≡◌, inl, inr, refl, sym, ap, ◌∙◌, subst, arith, ℕ, ℤ, pos, negsuc, Bool, List, Result, Ok, Err}
 use Rattle.std.proofs.Common.{FitsSigned, w32, w64, to_z, of_z}
-use Rattle.std.specs.Prelude.{IsTrue}
+use Rattle.std.specs.Prelude.{IsTrue, IfOk, IfErr}
 use Rattle.std.proofs.lemmas.Int.{ints}
 use Rattle.fx_fixed.specs.Chain.{◌>>=◌, map_ok, map_fault}
 use Rattle.fx_fixed.specs.Numbers.{near_of}
@@ -25,8 +25,7 @@ use Rattle.fx_strike.specs.declared.refusal.Refusal.{Refusal}
 use Rattle.fx_strike.specs.declared.refusal.Refusal.TheVariants.{OutOfMemory, WriteFailed, ReadFailed, BadHex, InputTooLarge}
 use Rattle.fx_strike.specs.Faults.{Fails, of_font, of_hint, of_contour}
 use Rattle.fx_strike.specs.Strike.{Sketch, IsGlyphOf, thousandths, glyph_sketch_of}
-use Rattle.fx_strike.specs.inner.Drawing.{HasBitsOf, IsSketchedOf, Sketches, IsDrawnOf}
-use Rattle.fx_strike.specs.declared.drawn.Drawn.{Drawn}
+use Rattle.fx_strike.specs.inner.Drawing.{HasBitsOf, IsSketchedOf, Sketches, Draws}
 use Rattle.fx_strike.specs.declared.sketched.Sketched.{Sketched}
 
 -- ---- whole pixels fit
@@ -101,32 +100,29 @@ sketched_whole hinting face ppem code glyph made ss swidth h1 h2 h3 h4 s =
       record { spans = h2; small = h3; swidth = s ∙ sym m.2; dwidth = refl; strays = refl; steps = refl },
     )
 
--- and so is the glyph with its bits
+-- out of memory is a refusal whatever was due
+pub memory_fails : {Y : Type 0} (d : Refusal) (due : Result Y Refusal) → d ≡ OutOfMemory → Fails d due
+memory_fails d due m = let P : Refusal → Type 0 = λ e. Fails e due in subst P (sym m) tt
+
+-- and so is the glyph with its bits, if memory is not out
 pub drawn_whole : (hinting : Hinting) (face : Face) (ppem code glyph : ℕ) (made : Sketched) (ss : List Span) (swidth : ℤ)
-    (drawn : Drawn) (code2 : ℕ)
+    (r : Result Glyph Refusal)
     → map_fault of_hint (outline_with hinting face ppem glyph) ≡ Ok (view_of_outline made.outline)
     → map_fault (of_contour glyph) (drawn_of made.outline.ends.items made.outline.points.items) ≡ Ok ss
     → map_fault (of_contour glyph) (framed_of ss) ≡ Ok tt
     → Ok swidth ≡ map_ok (λ (m : Metrics). thousandths m.advance_width face.head.units_per_em)
     (map_fault of_font (metrics_of face glyph))
     → made.swidth ≡ swidth
-    → ((sketch : Sketch) → IsSketchedOf sketch made → sketch.code ≡ code2 → sketch.spans ≡ ss → IsGlyphOf sketch drawn.glyph)
-    → code2 ≡ code
-    → drawn.strays ≡ made.outline.strays
-    → drawn.steps ≡ made.outline.steps
-    → (sketch : Sketch) × (glyph_sketch_of hinting face ppem code glyph ≡ Ok sketch) × IsDrawnOf sketch drawn
-drawn_whole hinting face ppem code glyph made ss swidth drawn code2 h1 h2 h3 h4 s of c strays steps =
+    → IfOk r (λ g. (sketch : Sketch) → IsSketchedOf sketch made → sketch.code ≡ code → sketch.spans ≡ ss → IsGlyphOf sketch g)
+    → IfErr r (λ e. e ≡ OutOfMemory)
+    → Draws (glyph_sketch_of hinting face ppem code glyph) r
+drawn_whole hinting face ppem code glyph made ss swidth (Ok g) h1 h2 h3 h4 s of m =
     let w = sketched_whole hinting face ppem code glyph made ss swidth h1
     (map_fault_ok (of_contour glyph) (drawn_of made.outline.ends.items made.outline.points.items) ss h2)
-    (map_fault_ok (of_contour glyph) (framed_of ss) tt h3) h4 s in (
-      sketch_by face code made ss w.0,
-      w.1,
-      record {
-        glyph = of (sketch_by face code made ss w.0) w.2 (sym c) refl;
-        strays = strays;
-        steps = steps;
-      },
-    )
+    (map_fault_ok (of_contour glyph) (framed_of ss) tt h3) h4 s in
+    (sketch_by face code made ss w.0, w.1, of (sketch_by face code made ss w.0) w.2 refl refl)
+drawn_whole hinting face ppem code glyph made ss swidth (Err e) h1 h2 h3 h4 s of m =
+    memory_fails e (glyph_sketch_of hinting face ppem code glyph) m
 
 -- the same where the checks of the spans and of the frame are one
 pub sketched_framed : (hinting : Hinting) (face : Face) (ppem code glyph : ℕ) (made : Sketched) (swidth : ℤ)

@@ -10,7 +10,6 @@ ghost use Rattle.fx_strike.specs.Faults.{Fails, of_contour};
 ghost use Rattle.fx_strike.specs.Strike.{Sketch, IsGlyphOf, glyph_sketch_of};
 ghost use Rattle.fx_strike.specs.inner.Drawing.{HasBitsOf, IsSketchedOf, Draws};
 
-use crate::drawn::Drawn;
 use crate::faults::of_contour;
 use crate::refusal::Refusal;
 use crate::sketch::{outline_at, thousandths_at};
@@ -113,7 +112,7 @@ pub(crate) fn glyph_of<S: Scan>(
     Ok(BitGlyph::of(alloc, code, sketched.swidth, dwidth, &bitmap)?)
 }
 
-/// The character of a code point with this glyph, or the first cause why there is none.
+/// The glyph of a code point by its number in the font, or the first cause why there is none.
 #[tactic(auto, unfolding(crate::specs::Strike::glyph_sketch_of))]
 pub(crate) fn draw<S: Scan, H: Hinter>(
     alloc: Global,
@@ -123,10 +122,10 @@ pub(crate) fn draw<S: Scan, H: Hinter>(
     ppem: Ppem,
     code: u32,
     glyph: u16,
-) -> Result<Drawn, Refusal>
+) -> Result<BitGlyph, Refusal>
     ensures kept { H.hinting hinter.new ≡ H.hinting hinter.old }
     ensures sketch { Draws (glyph_sketch_of (H.hinting hinter.old) font.now ppem code glyph) result }
-    ensures code { IfOk result (λ d. d.glyph.code ≡ code) }
+    ensures code { IfOk result (λ g. g.code ≡ code) }
 {
     let outline = outline_at(alloc, hinter, font, ppem, glyph)?;
     let pieces = pieces_at(alloc, &outline, glyph)?;
@@ -137,10 +136,5 @@ pub(crate) fn draw<S: Scan, H: Hinter>(
         frame,
         swidth,
     };
-    let glyph = glyph_of(alloc, scan, code, &sketched, &pieces)?;
-    Ok(Drawn {
-        glyph,
-        strays: sketched.outline.strays,
-        steps: sketched.outline.steps,
-    })
+    glyph_of(alloc, scan, code, &sketched, &pieces)
 }

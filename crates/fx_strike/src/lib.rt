@@ -8,13 +8,13 @@
 //! below and nothing of their code. `one` makes one character alone.
 //!
 //! A strike is made in two passes over its characters: the first surveys it, so that no byte is written of a strike that is
-//! refused; the second makes each character again and writes it. Only one character is held at a time. `survey` is the first
-//! pass alone. `listing_of` writes the listing of a program straight to the writer, and takes no memory.
+//! refused; the second makes each character again and writes it. Only one character is held at a time. The first pass makes a
+//! glyph's bits only if its frame is not in the box of the glyphs so far, which they could not widen. `survey` is the first pass
+//! alone. `listing_of` writes the listing of a program straight to the writer, and takes no memory.
 #![tactic(auto)]
 
 mod characters;
 mod draw;
-mod drawn;
 mod faults;
 mod first_pass;
 pub mod laws;

@@ -30,7 +30,7 @@ fn one_after<H: Hinter>(
         return Ok(None);
     }
     let drawn = draw(alloc, &Rows, hinter, &opened.font, opened.ppem, code, glyph)?;
-    Ok(Some(drawn.glyph))
+    Ok(Some(drawn))
 }
 
 /// The glyph of a code point of an opened font; none if the font lacks it. With hinting on, the font's programs run first.

@@ -42,7 +42,7 @@ fn write_one<S: Scan, H: Hinter, W: Sink>(
         return Ok(done);
     }
     let drawn = draw(alloc, scan, hinter, &opened.font, opened.ppem, code, glyph)?;
-    Ok(write_glyph(&drawn.glyph, done, out)?)
+    Ok(write_glyph(&drawn, done, out)?)
 }
 
 /// Makes the characters of code points in their order, and writes their lines.

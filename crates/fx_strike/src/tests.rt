@@ -38,6 +38,24 @@ impl Scan for Refusing {
     }
 }
 
+/// A scan that is out of memory for frames of less than three columns.
+struct OfWideFrames;
+
+impl Scan for OfWideFrames {
+    fn scan(
+        &self,
+        alloc: Global,
+        pieces: &Pieces,
+        frame: Frame,
+        tally: &mut Tally,
+    ) -> Result<Bitmap, ScanFault> {
+        if frame.width < 3 {
+            return Err(ScanFault::OutOfMemory);
+        }
+        Plain.scan(alloc, pieces, frame, tally)
+    }
+}
+
 #[test]
 fn the_scan_is_asked(rt: HostRuntime) -> Result<(), Fail> {
     let mut out = MemorySink::new(rt.alloc(), 512, Limits::NONE)?;
@@ -90,6 +108,36 @@ fn a_strike_is_surveyed(rt: HostRuntime) -> Result<(), Fail> {
         steps: 0,
     };
     assert_eq!(rt; survey(rt.alloc(), &Plain, FONT, &request), Ok(told));
+    Ok(())
+}
+
+/// The frame of character 42, two columns wide, lies in the box of character 41: the survey doesn't scan it.
+#[test]
+fn a_survey_scans_what_may_widen_its_box(rt: HostRuntime) -> Result<(), Fail> {
+    let request = Request {
+        ppem: 16,
+        name: "F1",
+        chars: &[0x41, 0x42],
+        hinting: false,
+    };
+    let told = survey(rt.alloc(), &OfWideFrames, FONT, &request).map(|told| told.bounds);
+    assert_eq!(rt;
+        told,
+        Ok(Bounds {
+            width: 5,
+            height: 5,
+            left: 0,
+            bottom: 0
+        })
+    );
+    let alone = Request {
+        chars: &[0x42],
+        ..request
+    };
+    assert_eq!(rt;
+        survey(rt.alloc(), &OfWideFrames, FONT, &alone),
+        Err(Refusal::OutOfMemory)
+    );
     Ok(())
 }
 

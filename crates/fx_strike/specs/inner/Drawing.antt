@@ -9,7 +9,6 @@ use Rattle.fx_contour.specs.Contours.{drawn_of}
 use Rattle.fx_contour.specs.Frames.{framed_of}
 use Rattle.fx_bdf.specs.Glyphs.{Box, Glyph}
 use Rattle.fx_strike.specs.declared.refusal.Refusal.{Refusal}
-use Rattle.fx_strike.specs.declared.drawn.Drawn.{Drawn}
 use Rattle.fx_strike.specs.declared.sketched.Sketched.{Sketched}
 use Rattle.fx_strike.specs.Faults.{Fails}
 use Rattle.fx_strike.specs.Strike.{Sketch, IsGlyphOf}
@@ -43,15 +42,9 @@ abbrev pub Sketches : Result Sketch Refusal → Result Sketched Refusal → Type
 Sketches due (Ok sketched) = (sketch : Sketch) × (due ≡ Ok sketch) × IsSketchedOf sketch sketched
 Sketches due (Err refusal) = Fails refusal due
 
--- a character as it was made is that of its sketch
-pub record IsDrawnOf (sketch : Sketch) (drawn : Drawn) : Type 0 where
-  pub glyph : IsGlyphOf sketch drawn.glyph
-  pub strays : drawn.strays ≡ sketch.strays
-  pub steps : drawn.steps ≡ sketch.steps
-
--- a character is made if its sketch is due; a refusal is one that is due, or out of memory
-abbrev pub Draws : Result Sketch Refusal → Result Drawn Refusal → Type 0
-Draws due (Ok drawn) = (sketch : Sketch) × (due ≡ Ok sketch) × IsDrawnOf sketch drawn
+-- the glyph of a sketch is made if the sketch is due; a refusal is one that is due, or out of memory
+abbrev pub Draws : Result Sketch Refusal → Result Glyph Refusal → Type 0
+Draws due (Ok glyph) = (sketch : Sketch) × (due ≡ Ok sketch) × IsGlyphOf sketch glyph
 Draws due (Err refusal) = Fails refusal due
 
 -- one character is made if it is due; a refusal is one that is due, or out of memory

@@ -1,4 +1,4 @@
-use Rattle.std.proofs.Common.{arith, refl, map, to_z, of_z}
+use Rattle.std.proofs.Common.{arith, map, to_z, of_z}
 use Rattle.std.specs.Int.{w32}
 use Rattle.std.proofs.lemmas.Int.{ints}
 use Rattle.fx_winding.specs.Winding.{span_of}
@@ -13,6 +13,6 @@ returns-clause-sketch g c =
       frame = c.in_ok-frame.frame;
       swidth = to_z w32 (of_z w32 c.in_ok-swidth.swidth);
     })
-    (map span_of c.in_ok-pieces.pieces) c.in_ok-swidth.swidth _ _
+    (map span_of c.in_ok-pieces.pieces) c.in_ok-swidth.swidth c.glyph_of.result
     c.in_ok-outline.ensures.value c.in_ok-pieces.ensures.pieces c.in_ok-frame.ensures.small c.in_ok-swidth.ensures
-    (omega (arith, ints)) c.in_ok-glyph.ensures.glyph (omega (arith, ints)) refl refl
+    (omega (arith, ints)) c.glyph_of.ensures.glyph c.glyph_of.ensures.fault

@@ -1,6 +1,7 @@
 use Rattle.std.proofs.lemmas.Result.{err_from_is_err_and}
 use Rattle.fx_strike.proofs.OnePart.{sketch_code}
-use Rattle.fx_strike.proofs.Enclosed.{has_added, sees_one_err, memory_fails}
+use Rattle.fx_strike.proofs.Sketching.{memory_fails}
+use Rattle.fx_strike.proofs.Enclosed.{has_added, sees_one_err}
 use Rattle.fx_strike.proofs.first_pass.see_one.Goals as goal
 
 pub returns-in_err-bounds-clause-seen : goal.returns-in_err-bounds-clause-seen

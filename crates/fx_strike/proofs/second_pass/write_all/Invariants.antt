@@ -3,7 +3,8 @@ use Rattle.fx_strike.specs.inner.Writing.{AreAllLinesOf}
 use Rattle.fx_strike.proofs.Lines.{Left}
 use Rattle.fx_strike.proofs.second_pass.write_all.Given as goal
 
--- hinting and the writer's faults are as they were, the cursor is one over the character map, and the lines of the code points so far were written
+-- hinting and the writer's faults are as they were, the cursor is one over the character map, and the lines of the code points
+-- so far were written
 abbrev pub invariant-codes : goal.invariant-codes
 invariant-codes g l = record {
   kept : g.H.Hinter.hinting l.hinter ≡ g.H.Hinter.hinting l.fn.hinter;

@@ -9,7 +9,8 @@ pub returns-in_err-outline-clause-sketch : goal.returns-in_err-outline-clause-sk
 returns-in_err-outline-clause-sketch g c code =
     let p = err_from_is_err_and c.from_residual.result c.from_residual.ensures.1 in
     sketches_err _ c.from_residual.result p.0 c.in_err-outline.field-0.0 p.1 p.2
-    (no_outline (g.H.Hinter.hinting c.args.hinter.now) c.args.font.now c.args.ppem code c.args.glyph _ c.in_err-outline.ensures.value)
+    (no_outline (g.H.Hinter.hinting c.args.hinter.now) c.args.font.now c.args.ppem code c.args.glyph _
+    c.in_err-outline.ensures.value)
 
 pub returns-in_err-frame-clause-sketch : goal.returns-in_err-frame-clause-sketch
 returns-in_err-frame-clause-sketch g c code =
