@@ -1,5 +1,6 @@
 -- What only private contracts cite.
 pub mod Strips
+pub mod Points
 pub mod Runs
 pub mod Sides
 pub mod Arcs
