@@ -7,7 +7,7 @@ use Rattle.fx_rows.proofs.intervals.met_part.Goals as goal
 
 pub returns-clause-part : goal.returns-clause-part
 returns-clause-part c =
-    let s = span_of c.args.piece.now in
+    let s = span_of c.args.bounded.now.piece in
     let t = c.strip_of-strip.result in
     let copy : to_z w32 (of_z w32 c.args.row) ≡ c.args.row = omega (arith, signed_linear) in
     let row : t.row ≡ c.args.row = c.strip_of-strip.ensures.row ∙ copy in
