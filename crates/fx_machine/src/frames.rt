@@ -59,7 +59,7 @@ impl Cursor {
     pub fn follow(&mut self, calls: &mut Calls, action: Action) -> Result<bool, Cause>
         ensures moved { MatchResult result
             (λ _. (s : the_state.State) → moved_by (effect_of action s) (calls_of calls.old) self.old.program
-                ≡ Moves (config_of self.new calls.new s))
+            ≡ Moves (config_of self.new calls.new s))
             (λ cause. (s : the_state.State) → moved_by (effect_of action s) (calls_of calls.old) self.old.program ≡ Stops cause) }
         ensures stays { IfOk result (λ left. left ≡ false → self.new.program ≡ self.old.program) }
     {

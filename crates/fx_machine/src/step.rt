@@ -58,9 +58,9 @@ pub fn advance(
     requires { cursor.old.address ≢ length code.now }
     ensures moved { MatchResult result
         (λ _. moved_by (row_in code.now cursor.old.program cursor.old.address state.old) (calls_of calls.old) cursor.old.program
-            ≡ Moves (config_of cursor.new calls.new state.new))
+        ≡ Moves (config_of cursor.new calls.new state.new))
         (λ cause. moved_by (row_in code.now cursor.old.program cursor.old.address state.old) (calls_of calls.old)
-            cursor.old.program ≡ Stops cause) }
+        cursor.old.program ≡ Stops cause) }
     ensures stays { IfOk result (λ left. left ≡ false → cursor.new.program ≡ cursor.old.program) }
     ensures shapes { HasShapes state.old.zones state.new.zones }
     ensures sizes { HasSizes state.old state.new }
