@@ -351,7 +351,7 @@ static const struct { int number; const char *name; char kind; } refusals[] = {
     {24, "BadGlyphNumber", 'g'}, {30, "StackUnder", 'h'}, {31, "StackOver", 'h'}, {32, "BadOpcode", 'h'}, {33, "CodeEnd", 'h'},
     {34, "BadJump", 'h'}, {35, "NoFunction", 'h'}, {36, "CallDepth", 'h'}, {37, "StepLimit", 'h'}, {38, "DivideByZero", 'h'},
     {39, "BadArgument", 'h'}, {40, "NestedDefinition", 'h'}, {41, "StrayEnd", 'h'}, {51, "TooFar", 'g'}, {52, "GlyphTooLarge", 'g'},
-    {60, "BadSize", ' '}, {61, "BadChars", ' '}, {72, "BadHex", ' '}, {99, "NotBuilt", ' '}};
+    {60, "BadSize", ' '}, {61, "BadChars", ' '}, {72, "BadHex", ' '}};
 
 static regex_t report_form, field_forms[4];
 

@@ -36,7 +36,7 @@ fn directory(alloc: Global, font: &[u8]) -> Result<Vec<u8>, Fail> {
     Ok(directory)
 }
 
-/// A font with further tables: their records are behind the others, they themselves at the end.
+/// A font with further tables: their records come after the others, they themselves at the end.
 pub fn with_tables(alloc: Global, base: &[u8], tables: &Tables) -> Result<Vec<u8>, Fail> {
     let entries = [
         ("fpgm", tables.fpgm),

@@ -65,7 +65,7 @@ impl Buffer {
         Ok(self.done)
     }
 
-    /// Sees to it that `count` bytes more fit: where they don't, it puts those that wait.
+    /// Makes sure that `count` bytes more fit: if they don't, it puts those that wait.
     pub fn free<W: Sink>(&mut self, count: usize, out: &mut W) -> Result<(), WriteFailed>
         requires count { count ≤ CAPACITY }
         requires faults { W.fault_count out.old < 2 ^ 63 }

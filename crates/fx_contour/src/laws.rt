@@ -21,7 +21,7 @@ pub fn tested()
     ensures large { LargeIsTested }
 {}
 
-/// Moving every point by whole pixels moves the bits, where both outlines are within the limits.
+/// Moving every point by whole pixels moves the bits, if both outlines are within the limits.
 pub fn shift()
     ensures spans { ShiftMovesSpans }
     ensures bits { ShiftMovesBits }

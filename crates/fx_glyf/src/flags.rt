@@ -55,7 +55,7 @@ pub fn next_flag(again: u8, flag: u8, bytes: &[u8]) -> Option<(u8, u8, &[u8])>
     }
 }
 
-/// The number of bytes of the deltas of so many points with this flag; short and same are the masks of the coordinate.
+/// The number of bytes of the deltas of some points with this flag; short and same are the masks of the coordinate.
 #[tactic(auto, unfolding(crate::specs::inner::Sizes::delta_size))]
 fn run_size(points: u32, short: u8, same: u8, flag: u8) -> usize
     ensures value { result ≡ points * delta_size short same flag }

@@ -33,7 +33,7 @@ fn write_front(cells: &mut [i32], numbers: &[i32])
 }
 
 impl FinalStack {
-    /// An empty one, with room for so many numbers.
+    /// An empty one, with room for some numbers.
     pub fn new(alloc: Global, room: usize) -> Result<FinalStack, AllocError>
         ensures { IfOk result (λ s. s ≡ record { numbers = []; room = room }) }
     {
