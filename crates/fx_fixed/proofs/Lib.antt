@@ -1,4 +1,6 @@
 pub mod Rounding
+pub mod Dividing
+pub mod Order
 pub mod Greatest
 pub mod Rising
 pub mod Units

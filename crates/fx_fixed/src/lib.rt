@@ -9,6 +9,7 @@ mod digits;
 mod memory;
 mod numbers;
 mod places;
+mod quotients;
 mod sink;
 mod sizes;
 mod slices;
@@ -21,6 +22,7 @@ pub use numbers::{
     F2, F26, cut, near, near_64, near_16384, rounding_functions, rounding_laws, w32,
 };
 pub use places::{Axis, Place};
+pub use quotients::near_quotient;
 pub use sink::{Sink, ToSink, WriteFailed, put_all, put_part};
 pub use sizes::{MAX_PPEM, Ppem};
 pub use slices::{after, before, part};

@@ -3,9 +3,8 @@
 ghost use Rattle.std.specs.Prelude.{◌≡◌, ◌≢◌, ◌^◌, ◌≤◌, pos, ◌+ℤ◌, ◌*ℤ◌, unsigned_abs};
 ghost use Rattle.fx_gstate.specs.Vectors.{dot_of, not_small, shift_part_of, shift_of};
 
-use crate::quotients::near_quotient;
 use crate::vectors::Vector;
-use fx_fixed::{Axis, F26, Place, w32};
+use fx_fixed::{Axis, F26, Place, near_quotient, w32};
 
 /// The shift along the freedom vector that changes the projection by `d` (Apple TrueType Reference Manual, "Freedom vector"): each
 /// coordinate is the nearest to the exact quotient, in 32 bits. When both vectors are one axis it is `d` along that axis.

@@ -8,8 +8,8 @@ ghost use Rattle.fx_pointops.specs.Interpolate.{proportion_of, point_in_proporti
 
 use crate::distances::product;
 use crate::zones::{Zones, stray};
-use fx_fixed::{F26, w32};
-use fx_gstate::{GState, near_quotient};
+use fx_fixed::{F26, near_quotient, w32};
+use fx_gstate::GState;
 
 /// A distance that is not 0, as a divisor.
 fn divisor(d: F26) -> i64

@@ -3,9 +3,9 @@
 ghost use Rattle.std.specs.Prelude.{◌≡◌, ◌≢◌, ◌≤◌, ◌<◌, ◌^◌, pos, unsigned_abs};
 ghost use Rattle.fx_fixed.specs.Numbers.{near_of, near_size};
 
-/// `n / d` rounded to the nearest whole number, halves away from zero: `near` of fx_fixed for numbers of which 64 bits hold the
+/// `n / d` rounded to the nearest whole number, halves away from zero: `near` for numbers of which 64 bits hold the
 /// double.
-#[tactic(auto, unfolding(fx_fixed::specs::Numbers::near_of))]
+#[tactic(auto, unfolding(crate::specs::Numbers::near_of))]
 pub fn near_quotient(n: i64, d: i64) -> i64
     requires nonzero { d ≢ pos 0 }
     requires size { unsigned_abs n ≤ 2 ^ 62 }
