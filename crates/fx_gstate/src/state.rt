@@ -46,7 +46,7 @@ pub struct GState {
 }
 
 impl GState {
-    ghost use Rattle.std.specs.Prelude.{◌≡◌, OnErr};
+    ghost use Rattle.std.specs.Prelude.{◌≡◌, OnErr, IfSome};
     ghost use Rattle.fx_gstate.specs.Vectors.{axis_of, line_of, words_of, projection_of, shift_of, place_along, has_part};
     ghost use Rattle.fx_gstate.specs.Rounding.{Rounds, rounded_of, super_grid_of};
     ghost use Rattle.fx_gstate.specs.declared.rounding.RoundState.TheVariants.{Super};
@@ -126,6 +126,19 @@ impl GState {
         shift_along(self.freedom, self.projection, d)
     }
 
+    /// The axis along which both the freedom and the projection vector lie, if they lie along one.
+    pub fn axis(&self) -> Option<Axis>
+        ensures { IfSome result (λ axis. (self.now.freedom ≡ axis_of axis) × (self.now.projection ≡ axis_of axis)) }
+    {
+        if self.freedom.is_along(Axis::X) && self.projection.is_along(Axis::X) {
+            return Some(Axis::X);
+        }
+        if self.freedom.is_along(Axis::Y) && self.projection.is_along(Axis::Y) {
+            return Some(Axis::Y);
+        }
+        None
+    }
+
     /// The place at a distance from the origin along the freedom vector.
     pub fn freedom_place(&self, d: F26) -> Place
         ensures { result ≡ place_along self.now.freedom d }
@@ -140,12 +153,15 @@ impl GState {
         self.freedom.has_part(axis)
     }
 
-    /// A distance rounded, in 26.6.
+    /// A distance rounded, in 26.6. The usual state has its own path, without the table of states.
     pub fn round(&self, d: F26) -> F26
         ensures rounds { Rounds self.now.round_state d result }
         ensures value { result ≡ rounded_of self.now.round_state d }
     {
-        self.round_state.round(d)
+        match self.round_state {
+            RoundState::ToGrid => RoundState::ToGrid.round(d),
+            state => state.round(d),
+        }
     }
 
     /// What an argument of a delta instruction says.

@@ -1,6 +1,7 @@
 //! The instruction table.
 
 ghost use Rattle.std.specs.Prelude.{◌≡◌, OnErr, ◌+◌};
+ghost use Rattle.fx_gstate.specs.States.{leaves};
 ghost use Rattle.fx_machine.specs.Actions.{acts};
 ghost use Rattle.fx_machine.specs.Shapes.{HasSizes};
 ghost use Rattle.fx_machine.specs.Table.{relative_row, then_at, row_here};
@@ -17,17 +18,27 @@ use fx_pointops::Relative;
 impl State {
     /// MDRP and MIRP.
     #[tactic(auto, unfolding(crate::specs::Table::relative_row))]
-    fn relative(&mut self, opcode: u8, next: usize) -> Result<Action, Cause>
-        ensures value { acts result self.new ≡ then_at next (relative_row opcode self.old) }
+    fn move_relative(&mut self, opcode: u8) -> Result<(), Cause>
+        ensures value { leaves result self.new ≡ relative_row opcode self.old }
         ensures kept { OnErr result (self.new.zones ≡ self.old.zones) }
         ensures sizes { HasSizes self.old self.new }
     {
         let how = Relative::of(opcode);
         if opcode >= 0xE0 {
-            self.mirp(how)?;
+            self.mirp(how)
         } else {
-            self.mdrp(how)?;
+            self.mdrp(how)
         }
+    }
+
+    /// The same as an action. It is inlined, so that no action goes through memory.
+    #[inline(always)]
+    fn relative(&mut self, opcode: u8, next: usize) -> Result<Action, Cause>
+        ensures value { acts result self.new ≡ then_at next (relative_row opcode self.old) }
+        ensures kept { OnErr result (self.new.zones ≡ self.old.zones) }
+        ensures sizes { HasSizes self.old self.new }
+    {
+        self.move_relative(opcode)?;
         Ok(Action::Went(next))
     }
 

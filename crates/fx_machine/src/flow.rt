@@ -193,6 +193,7 @@ impl State {
     }
 
     /// PUSHB, PUSHW, NPUSHB, NPUSHW: pushes data.
+    #[inline(always)]
     #[tactic(auto, unfolding(crate::specs::Table::push_row, fx_code::specs::Chain::IsWhole))]
     pub(crate) fn push(&mut self, code: &Code<'_>, address: usize) -> Result<Action, Cause>
         ensures value { acts result self.new ≡ push_row code.now address self.old }

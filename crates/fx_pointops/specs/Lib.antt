@@ -11,3 +11,4 @@ pub mod Intersect
 pub mod Flip
 pub mod Delta
 pub mod Iup
+pub mod inner

@@ -194,11 +194,30 @@ impl Zones {
         ensures few { result ≤ 2 }
         ensures shapes { HasShapes self.old self.new }
     {
+        let Some(point) = self.point(g.zp1, p) else {
+            return self.mdrp_by_strays(g, how, p);
+        };
+        let Some(base) = self.point(g.zp0, g.rp0) else {
+            return self.mdrp_by_strays(g, how, p);
+        };
+        let o = g.dual_project_place(point.org.minus(base.org));
+        let c = g.project_place(point.cur.minus(base.cur));
+        self.move_by(g, g.zp1, p, wanted(g, how, o).minus(c));
+        0
+    }
+
+    /// The same if one of the two may be a stray.
+    #[inline(never)]
+    #[tactic(auto, unfolding(crate::specs::Direct::mdrp_of))]
+    fn mdrp_by_strays(&mut self, g: &GState, how: Relative, p: i32) -> u64
+        ensures value { (self.new, result) ≡ mdrp_of g.now how p self.old }
+        ensures few { result ≤ 2 }
+        ensures shapes { HasShapes self.old self.new }
+    {
         let point = self.point(g.zp1, p);
         let base = self.point(g.zp0, g.rp0);
-        let o = g.dual_project_place(org(&point).minus(org(&base)));
-        let c = g.project_place(cur(&point).minus(cur(&base)));
-        self.move_by(g, g.zp1, p, wanted(g, how, o).minus(c));
+        let o = self.original(g, g.zp1, p, g.zp0, g.rp0);
+        self.move_to_distance(g, p, wanted(g, how, o));
         stray(&point) + stray(&base)
     }
 }

@@ -49,6 +49,26 @@ impl Zones {
         ensures few { result ≤ 1 }
         ensures shapes { HasShapes self.old self.new }
     {
+        let Some(point) = self.point(g.zp2, p) else {
+            return self.move_stray_in_proportion(g, cb, ob, p);
+        };
+        let Some(base) = self.point(g.zp0, g.rp1) else {
+            return self.move_stray_in_proportion(g, cb, ob, p);
+        };
+        let o = g.dual_project_place(point.org.minus(base.org));
+        let c = g.project_place(point.cur.minus(base.cur));
+        self.move_by(g, g.zp2, p, proportion(o, *cb, *ob).minus(c));
+        0
+    }
+
+    /// The same if one of the two may be a stray.
+    #[inline(never)]
+    #[tactic(auto, unfolding(crate::specs::Interpolate::point_in_proportion))]
+    fn move_stray_in_proportion(&mut self, g: &GState, cb: &F26, ob: &F26, p: i32) -> u64
+        ensures value { (self.new, result) ≡ point_in_proportion g.now cb.now ob.now p self.old }
+        ensures few { result ≤ 1 }
+        ensures shapes { HasShapes self.old self.new }
+    {
         let point = self.point(g.zp2, p);
         let o = self.original(g, g.zp2, p, g.zp0, g.rp1);
         let c = self.distance(g, g.zp2, p, g.zp0, g.rp1);

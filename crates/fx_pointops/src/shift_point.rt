@@ -19,9 +19,23 @@ impl Zones {
         self.shift(zone, p, by, g.touches(Axis::X), g.touches(Axis::Y));
     }
 
-    /// Moves a point by a distance, if it is inside.
-    #[tactic(auto, unfolding(crate::specs::ShiftPoint::moved_by))]
+    /// Moves a point by a distance, if it is inside. Along an axis it is known which axis it touches.
+    #[tactic(auto, unfolding(crate::specs::ShiftPoint::moved_by, crate::specs::ShiftPoint::shifted_by))]
     pub(crate) fn move_by(&mut self, g: &GState, zone: ZonePointer, p: i32, d: F26)
+        ensures value { self.new ≡ moved_by g.now d zone p self.old }
+        ensures shapes { HasShapes self.old self.new }
+    {
+        match g.axis() {
+            Some(Axis::X) => self.shift(zone, p, g.shift_place(d), true, false),
+            Some(Axis::Y) => self.shift(zone, p, g.shift_place(d), false, true),
+            None => self.move_aslant(g, zone, p, d),
+        }
+    }
+
+    /// The same along any vectors.
+    #[inline(never)]
+    #[tactic(auto, unfolding(crate::specs::ShiftPoint::moved_by))]
+    fn move_aslant(&mut self, g: &GState, zone: ZonePointer, p: i32, d: F26)
         ensures value { self.new ≡ moved_by g.now d zone p self.old }
         ensures shapes { HasShapes self.old self.new }
     {

@@ -3,27 +3,10 @@
 ghost use Rattle.std.specs.Prelude.{◌≡◌, ◌≢◌, ◌+◌, ◌≤◌, ◌<◌, ◌^◌, pos, ◌+ℤ◌, ◌-ℤ◌, ◌*ℤ◌, unsigned_abs, length, map, reverse, drop, slice_index_or};
 ghost use Rattle.std.specs.List.{All};
 ghost use Rattle.fx_fixed.specs.Numbers.{wrapped_of};
-ghost use Rattle.fx_zone.specs.Interpolation.{with_coordinate, is_touched, moved_with, in_proportion, coordinate_between, placed, between, first_touched, untouched_run, contour_interpolated, contours_interpolated};
+ghost use Rattle.fx_zone.specs.Interpolation.{is_touched, moved_with, in_proportion, coordinate_between, placed, between, first_touched, untouched_run, contour_interpolated, contours_interpolated};
 
 use crate::point::Point;
-use fx_fixed::{Axis, F26, Place, near, w32};
-
-/// The place with another coordinate along an axis.
-#[inline(always)]
-fn with_coordinate(place: Place, axis: Axis, coordinate: F26) -> Place
-    ensures { result ≡ with_coordinate axis coordinate place }
-{
-    match axis {
-        Axis::X => Place {
-            x: coordinate,
-            y: place.y,
-        },
-        Axis::Y => Place {
-            x: place.x,
-            y: coordinate,
-        },
-    }
-}
+use fx_fixed::{Axis, F26, near, near_quotient, w32};
 
 /// Whether a point is touched along an axis.
 #[inline(always)]
@@ -45,13 +28,13 @@ fn difference(a: F26, b: F26) -> i64
 }
 
 /// The exact distance of two numbers that are apart, as a divisor.
-fn distance(from: F26, to: F26) -> i128
+fn distance(from: F26, to: F26) -> i64
     requires { from ≢ to }
     ensures value { result ≡ to -ℤ from }
     ensures bound { unsigned_abs result ≤ 2 ^ 32 }
     ensures nonzero { result ≢ pos 0 }
 {
-    i128::from(to.0) - i128::from(from.0)
+    i64::from(to.0) - i64::from(from.0)
 }
 
 /// An exact product of two differences.
@@ -62,6 +45,16 @@ fn product(a: i64, b: i64) -> i128
     ensures bound { unsigned_abs result ≤ 2 ^ 64 }
 {
     i128::from(a) * i128::from(b)
+}
+
+/// The same of lesser differences, in 64 bits.
+fn short_product(a: i64, b: i64) -> i64
+    requires a { unsigned_abs a ≤ 2 ^ 31 }
+    requires b { unsigned_abs b ≤ 2 ^ 31 }
+    ensures value { result ≡ a *ℤ b }
+    ensures bound { unsigned_abs result ≤ 2 ^ 62 }
+{
+    a * b
 }
 
 /// A sum modulo 2^32.
@@ -79,14 +72,20 @@ fn moved_with(o: F26, its_org: F26, its_cur: F26) -> F26
     sum(o, i128::from(difference(its_cur, its_org)))
 }
 
-/// An original coordinate in proportion between two others.
+/// An original coordinate in proportion between two others. Distances of less than 2^25 pixels, the common case, need 64 bits.
 #[tactic(auto, unfolding(crate::specs::Interpolation::in_proportion))]
 fn in_proportion(o: F26, lo_org: F26, lo_cur: F26, hi_org: F26, hi_cur: F26) -> F26
     requires { lo_org ≢ hi_org }
     ensures { result ≡ in_proportion o lo_org lo_cur hi_org hi_cur }
 {
-    let part = product(difference(o, lo_org), difference(hi_cur, lo_cur));
-    sum(lo_cur, near(part, distance(lo_org, hi_org)))
+    let part = difference(o, lo_org);
+    let whole = difference(hi_cur, lo_cur);
+    let apart = distance(lo_org, hi_org);
+    if part.unsigned_abs() <= 1 << 31 && whole.unsigned_abs() <= 1 << 31 {
+        let moved = near_quotient(short_product(part, whole), apart);
+        return sum(lo_cur, i128::from(moved));
+    }
+    sum(lo_cur, near(product(part, whole), i128::from(apart)))
 }
 
 /// Where an original coordinate goes, between two others.
@@ -103,10 +102,10 @@ fn coordinate_between(o: F26, lo_org: F26, lo_cur: F26, hi_org: F26, hi_cur: F26
     }
 }
 
-/// A point between two others, of which `lo` is the lower.
+/// Moves a point between two others, of which `lo` is the lower: one coordinate is written.
 #[inline(always)]
-fn placed(axis: Axis, lo: &Point, hi: &Point, point: &Point) -> Point
-    ensures { result ≡ placed axis lo.now hi.now point.now }
+fn place(axis: Axis, lo: &Point, hi: &Point, point: &mut Point)
+    ensures { point.new ≡ placed axis lo.now hi.now point.old }
 {
     let coordinate = coordinate_between(
         point.org.along(axis),
@@ -115,19 +114,22 @@ fn placed(axis: Axis, lo: &Point, hi: &Point, point: &Point) -> Point
         hi.org.along(axis),
         hi.cur.along(axis),
     );
-    point.moved(with_coordinate(point.cur, axis, coordinate))
+    match axis {
+        Axis::X => point.cur.x = coordinate,
+        Axis::Y => point.cur.y = coordinate,
+    }
 }
 
-/// A point between the touched points before and after it.
+/// Moves a point between the touched points before and after it.
 #[inline(always)]
 #[tactic(auto, unfolding(crate::specs::Interpolation::between))]
-fn between(axis: Axis, before: &Point, after: &Point, point: &Point) -> Point
-    ensures { result ≡ between axis before.now after.now point.now }
+fn place_between(axis: Axis, before: &Point, after: &Point, point: &mut Point)
+    ensures { point.new ≡ between axis before.now after.now point.old }
 {
     if after.org.along(axis).0 < before.org.along(axis).0 {
-        placed(axis, after, before, point)
+        place(axis, after, before, point);
     } else {
-        placed(axis, before, after, point)
+        place(axis, before, after, point);
     }
 }
 
@@ -138,7 +140,7 @@ fn interpolate_run(points: &mut [Point], axis: Axis, before: &Point, after: &Poi
 {
     // The points that were seen are interpolated.
     'run: for point in points.iter_mut() {
-        *point = between(axis, before, after, point);
+        place_between(axis, before, after, point);
     }
 }
 
