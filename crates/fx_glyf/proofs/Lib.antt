@@ -7,3 +7,5 @@ pub mod PointsDescribed
 pub mod PartsDescribed
 pub mod Programs
 pub mod Described
+pub mod Held
+pub mod FlagSizes

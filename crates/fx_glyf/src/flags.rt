@@ -1,10 +1,11 @@
 //! The flags of a glyph's points.
 
-ghost use Rattle.std.specs.Prelude.{◌≡◌, ◌+◌, ◌*◌, ◌≤◌, ◌∷◌, [], IsSome, MatchOption, length, drop, option_map};
+ghost use Rattle.std.specs.Prelude.{◌≡◌, ◌≤◌, ◌∷◌, [], IsSome, MatchOption, option_map};
 ghost use Rattle.fx_glyf.specs.Words.{has, list_in};
 ghost use Rattle.fx_glyf.specs.inner.Sizes.{delta_size, measured_of};
-ghost use Rattle.fx_glyf.specs.Points.{next_flag, flags_from};
+ghost use Rattle.fx_glyf.specs.Points.{x_short_vector, y_short_vector, x_is_same_or_positive_x_short_vector, y_is_same_or_positive_y_short_vector, next_flag, flags_from, start};
 
+use fx_fixed::after;
 use std::marker::Model;
 
 /// The point is on the curve.
@@ -32,15 +33,11 @@ pub fn has(flag: u8, mask: u8) -> bool
     flag & mask != 0
 }
 
-/// The number of further points with the next flag, that flag, and the bytes after it.
+/// The run at the front of flags: the number of further points with its flag, that flag, and the bytes after it.
 #[tactic(auto, unfolding(crate::specs::Points::next_flag))]
-pub fn next_flag(again: u8, flag: u8, bytes: &[u8]) -> Option<(u8, u8, &[u8])>
-    ensures { option_map (λ s. record { again = s.0; flag = s.1; bytes = s.2.now }) result
-        ≡ next_flag (record { again = again; flag = flag; bytes = bytes.now }) }
+fn run(bytes: &[u8]) -> Option<(u8, u8, &[u8])>
+    ensures { option_map (λ s. record { again = s.0; flag = s.1; bytes = s.2.now }) result ≡ next_flag (start bytes.now) }
 {
-    if again > 0 {
-        return Some((again - 1, flag, bytes));
-    }
     match bytes {
         [] => None,
         [flag, rest @ ..] => {
@@ -55,17 +52,47 @@ pub fn next_flag(again: u8, flag: u8, bytes: &[u8]) -> Option<(u8, u8, &[u8])>
     }
 }
 
-/// The number of bytes of the deltas of some points with this flag; short and same are the masks of the coordinate.
-#[tactic(auto, unfolding(crate::specs::inner::Sizes::delta_size))]
-fn run_size(points: u32, short: u8, same: u8, flag: u8) -> usize
-    ensures value { result ≡ points * delta_size short same flag }
-    ensures size { result ≤ 2 * points }
+/// The number of further points with the next flag, that flag, and the bytes after it; the bytes hold it.
+fn next_flag(again: u8, flag: u8, bytes: &[u8]) -> (u8, u8, &[u8])
+    requires { IsSome (next_flag (record { again = again; flag = flag; bytes = bytes.now })) }
+    ensures { Some (record { again = result.0; flag = result.1; bytes = result.2.now })
+        ≡ next_flag (record { again = again; flag = flag; bytes = bytes.now }) }
 {
-    let points = points as usize;
-    if has(flag, short) {
-        return points;
+    if again > 0 {
+        return (again - 1, flag, bytes);
     }
-    if has(flag, same) { 0 } else { 2 * points }
+    let flag = bytes[0];
+    if has(flag, REPEAT_FLAG) {
+        (bytes[1], flag, after(bytes, 2))
+    } else {
+        (0, flag, after(bytes, 1))
+    }
+}
+
+/// How many bytes the delta of x takes, by bits 1 to 5 of the flag: 1 if it is short, else 0 if it is the same, else 2.
+static X_SIZES: [usize; 32] = [
+    2, 1, 2, 1, 2, 1, 2, 1, 0, 1, 0, 1, 0, 1, 0, 1, 2, 1, 2, 1, 2, 1, 2, 1, 0, 1, 0, 1, 0, 1, 0, 1,
+];
+
+/// The same of the delta of y.
+static Y_SIZES: [usize; 32] = [
+    2, 2, 1, 1, 2, 2, 1, 1, 2, 2, 1, 1, 2, 2, 1, 1, 0, 0, 1, 1, 0, 0, 1, 1, 0, 0, 1, 1, 0, 0, 1, 1,
+];
+
+/// The bytes of the delta of x with this flag.
+fn x_size(flag: u8) -> usize
+    ensures value { result ≡ delta_size x_short_vector x_is_same_or_positive_x_short_vector flag }
+    ensures size { result ≤ 2 }
+{
+    X_SIZES[usize::from(flag >> 1) % 32]
+}
+
+/// The bytes of the delta of y with this flag.
+fn y_size(flag: u8) -> usize
+    ensures value { result ≡ delta_size y_short_vector y_is_same_or_positive_y_short_vector flag }
+    ensures size { result ≤ 2 }
+{
+    Y_SIZES[usize::from(flag >> 1) % 32]
 }
 
 /// What flags say of the bytes after them: how many the x deltas take, and how many the y deltas.
@@ -76,32 +103,29 @@ pub struct Measure<'a> {
     pub rest: &'a [u8],
 }
 
-/// The measure of the flags of `count` points, and the bytes after them.
+/// The measure of the flags of `count` points, and the bytes after them. Apart from what calls it, its loop has registers enough.
+#[inline(never)]
 pub fn measured(count: u32, bytes: &[u8]) -> Option<Measure<'_>>
     ensures { option_map (λ m. record { xs = m.xs; ys = m.ys; rest = m.rest.now }) result ≡ measured_of count bytes.now }
 {
-    let mut left = count;
+    let mut left = count as usize;
     let mut xs = 0;
     let mut ys = 0;
     let mut rest = bytes;
     // With the flags that are left, what was added up gives the measure of all.
     'runs: while left > 0 {
-        let (again, flag, after_it) = next_flag(0, 0, rest)?;
-        let points = left.min(u32::from(again) + 1);
-        xs += run_size(
-            points,
-            X_SHORT_VECTOR,
-            X_IS_SAME_OR_POSITIVE_X_SHORT_VECTOR,
-            flag,
-        );
-        ys += run_size(
-            points,
-            Y_SHORT_VECTOR,
-            Y_IS_SAME_OR_POSITIVE_Y_SHORT_VECTOR,
-            flag,
-        );
-        left -= points;
+        let (again, flag, after_it) = run(rest)?;
         rest = after_it;
+        if again == 0 {
+            xs += x_size(flag);
+            ys += y_size(flag);
+            left -= 1;
+        } else {
+            let points = left.min(usize::from(again) + 1);
+            xs += points * x_size(flag);
+            ys += points * y_size(flag);
+            left -= points;
+        }
     }
     Some(Measure { xs, ys, rest })
 }
@@ -148,15 +172,11 @@ impl<'a> Flags<'a> {
         if self.left == 0 {
             return None;
         }
-        match next_flag(self.again, self.flag, self.bytes) {
-            None => None,
-            Some((again, flag, bytes)) => {
-                self.left -= 1;
-                self.again = again;
-                self.flag = flag;
-                self.bytes = bytes;
-                Some(flag)
-            }
-        }
+        let (again, flag, bytes) = next_flag(self.again, self.flag, self.bytes);
+        self.left -= 1;
+        self.again = again;
+        self.flag = flag;
+        self.bytes = bytes;
+        Some(flag)
     }
 }

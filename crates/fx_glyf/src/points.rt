@@ -13,34 +13,24 @@ use fx_fixed::after;
 use fx_sfnt::u16_in;
 use std::marker::Model;
 
-/// The delta of one coordinate of a point, and the bytes after it.
-#[tactic(auto, unfolding(crate::specs::Points::delta_by, fx_sfnt::specs::Fields::field))]
-pub fn delta(short: u8, same: u8, flag: u8, bytes: &[u8]) -> Option<(u16, &[u8])>
-    ensures { option_map (λ d. (d.0, d.1.now)) result ≡ delta_of short same flag bytes.now }
+/// The delta of one coordinate of a point, and the bytes after it; the bytes hold it.
+fn delta(short: u8, same: u8, flag: u8, bytes: &[u8]) -> (u16, &[u8])
+    requires { IsSome (delta_of short same flag bytes.now) }
+    ensures { Some (result.0, result.1.now) ≡ delta_of short same flag bytes.now }
 {
     if has(flag, short) {
-        return match bytes {
-            [] => None,
-            [size, rest @ ..] => {
-                let size = u16::from(*size);
-                Some((
-                    if has(flag, same) {
-                        size
-                    } else {
-                        opposite(size)
-                    },
-                    rest,
-                ))
-            }
+        let size = u16::from(bytes[0]);
+        let by = if has(flag, same) {
+            size
+        } else {
+            opposite(size)
         };
+        return (by, after(bytes, 1));
     }
     if has(flag, same) {
-        return Some((0, bytes));
+        return (0, bytes);
     }
-    if bytes.len() < 2 {
-        return None;
-    }
-    Some((u16_in(bytes, 0), after(bytes, 2)))
+    (u16_in(bytes, 0), after(bytes, 2))
 }
 
 /// The points that are left.
@@ -100,31 +90,25 @@ impl<'a> Iterator for Points<'a> {
         let Some(flag) = self.flags.next() else {
             return None;
         };
-        match (
-            delta(
-                X_SHORT_VECTOR,
-                X_IS_SAME_OR_POSITIVE_X_SHORT_VECTOR,
-                flag,
-                self.xs,
-            ),
-            delta(
-                Y_SHORT_VECTOR,
-                Y_IS_SAME_OR_POSITIVE_Y_SHORT_VECTOR,
-                flag,
-                self.ys,
-            ),
-        ) {
-            (Some((dx, xs)), Some((dy, ys))) => {
-                self.xs = xs;
-                self.ys = ys;
-                let x = moved(self.x, dx);
-                let y = moved(self.y, dy);
-                self.x = x;
-                self.y = y;
-                Some(point(x, y, flag))
-            }
-            _ => None,
-        }
+        let (dx, xs) = delta(
+            X_SHORT_VECTOR,
+            X_IS_SAME_OR_POSITIVE_X_SHORT_VECTOR,
+            flag,
+            self.xs,
+        );
+        let (dy, ys) = delta(
+            Y_SHORT_VECTOR,
+            Y_IS_SAME_OR_POSITIVE_Y_SHORT_VECTOR,
+            flag,
+            self.ys,
+        );
+        let x = moved(self.x, dx);
+        let y = moved(self.y, dy);
+        self.xs = xs;
+        self.ys = ys;
+        self.x = x;
+        self.y = y;
+        Some(point(x, y, flag))
     }
 }
 

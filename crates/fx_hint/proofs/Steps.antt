@@ -250,6 +250,33 @@ module _ (h : Hinting) (face : Face) (s : Scale) (root : ℕ) where
       ((q >>= given_by h face s root (max_depth - length below - 1)) >>= goes_into h face s root (max_depth - length below) w)) begun
       ∙ rest_refused max_depth below d
 
+  -- the next component is assembled at once, and goes into the composite
+  pub fills : (below : List Waiting) (levels : ℕ) (c : OpenComposite) (part : Part) (parts : List Part) (made more : Made)
+      (count counted : Count) (due : Outcome)
+      → rest_of h face s root max_depth below (given_by h face s root (max_depth - length below) (Open c, count)) ≡ due
+      → c.parts ≡ part ∷ parts → levels ≡ max_depth - length below
+      → begun_component h face s root levels part.glyph count ≡ Ok (Assembled made, counted)
+      → with_part s h.on c.g part c.base made ≡ Ok more
+      → rest_of h face s root max_depth below
+      (given_by h face s root (max_depth - length below) (Open (record c { parts = parts; base = more }), counted)) ≡ due
+  fills below levels c part parts made more count counted due i e l b j =
+      let w : Waiting = record { part = part; composite = record c { parts = parts } } in
+      joins below (below ++ w ∷ []) w made counted (record c { parts = parts; base = more }) due
+      (descends below (below ++ w ∷ []) levels c part parts (Assembled made) count counted due i e l b refl) refl
+      (ap (map_ok (λ (m : Made). record w.composite { base = m })) j)
+
+  pub not_filled : (below : List Waiting) (levels : ℕ) (c : OpenComposite) (part : Part) (parts : List Part) (made : Made)
+      (count counted : Count) (due : Outcome) (d : HintFault)
+      → rest_of h face s root max_depth below (given_by h face s root (max_depth - length below) (Open c, count)) ≡ due
+      → c.parts ≡ part ∷ parts → levels ≡ max_depth - length below
+      → begun_component h face s root levels part.glyph count ≡ Ok (Assembled made, counted)
+      → with_part s h.on c.g part c.base made ≡ Err d → due ≡ Err d
+  not_filled below levels c part parts made count counted due d i e l b j =
+      let w : Waiting = record { part = part; composite = record c { parts = parts } } in
+      not_joined below (below ++ w ∷ []) w made counted due d
+      (descends below (below ++ w ∷ []) levels c part parts (Assembled made) count counted due i e l b refl) refl
+      (ap (map_ok (λ (m : Made). record w.composite { base = m })) j)
+
   -- no composite waits: the root is assembled
   pub done : (all : List Waiting) (made : Made) (count : Count) (due : Outcome)
       → rest_of h face s root max_depth all (Ok (made, count)) ≡ due → all ≡ [] → due ≡ Ok (made, count)

@@ -52,19 +52,18 @@ fn run_on<H: Hinter>(
     hinter: &mut H,
     g: u16,
     code: &[u8],
-    made: Made,
+    made: &mut Made,
     count: &mut Count,
-) -> Result<Made, HintFault>
+) -> Result<(), HintFault>
     ensures known { H.known hinter.new ≡ H.known hinter.old }
     ensures kept { H.hinting hinter.new ≡ H.hinting hinter.old }
-    ensures value { GivesUnless Fails (λ m. (m, count.new)) result
-        (run_on (H.hinting hinter.old) g code.now (made, count.old)) }
+    ensures value { GivesUnless Fails (λ _. (made.new, count.new)) result
+        (run_on (H.hinting hinter.old) g code.now (made.old, count.old)) }
     ensures records { OnOk result (count.new.records ≡ count.old.records) }
 {
-    let mut made = made;
-    let spent = hinter.run(g, code, &mut made)?;
+    let spent = hinter.run(g, code, made)?;
     count.spent = count.spent.plus(spent);
-    Ok(made)
+    Ok(())
 }
 
 /// A glyph that has been begun.
@@ -145,8 +144,8 @@ impl<'w, 'a> Walk<'w, 'a> {
         match glyph {
             Glyph::Empty => Ok(Step::Assembled(empty_made(self.alloc, self.scale, on, 0, metrics))),
             Glyph::Simple(simple) => {
-                let made = self.simple_made(on, metrics, &simple, count)?;
-                let made = run_on(hinter, g, simple.code(), made, count)?;
+                let mut made = self.simple_made(on, metrics, &simple, count)?;
+                run_on(hinter, g, simple.code(), &mut made, count)?;
                 Ok(Step::Assembled(made))
             }
             Glyph::Composite(composite) => {
@@ -232,32 +231,34 @@ impl<'w, 'a> Walk<'w, 'a> {
     {
         let on = hinter.is_on();
         let mut below = Below::new(self.alloc);
-        let mut step = Step::Open(root);
-        // What the root gives stays the same: what was begun, and then each composite that waits, with what is assembled below it.
+        let mut open = root;
+        // What the root gives stays the same: what the innermost open composite gives with its components that are left, and then
+        // each composite that waits, with what is assembled below it.
         'steps: loop {
-            match step {
-                Step::Assembled(made) => match below.pop() {
-                    None => return Ok(made),
-                    Some(waiting) => step = Step::Open(self.joined(on, waiting, made)?),
-                },
-                Step::Open(open) => {
-                    let mut open = open;
-                    match open.parts.next() {
-                        None => step = Step::Assembled(run_on(
-                            hinter,
-                            open.g,
-                            open.glyph.code(),
-                            open.base,
-                            count,
-                        )?),
-                        Some(part) => {
-                            let levels = MAX_DEPTH - below.len() as u8;
-                            step = self.begun_component(hinter, levels, part.glyph, count)?;
+            match open.parts.next() {
+                Some(part) => {
+                    let levels = MAX_DEPTH - below.len() as u8;
+                    let step = self.begun_component(hinter, levels, part.glyph, count)?;
+                    match step {
+                        Step::Assembled(made) => {
+                            let g = open.g;
+                            add_part(&mut open.base, self.scale, on, g, part, made)?;
+                        }
+                        Step::Open(deeper) => {
                             below.push(Waiting {
                                 part,
                                 composite: open,
                             })?;
+                            open = deeper;
                         }
+                    }
+                }
+                None => {
+                    let mut made = open.base;
+                    run_on(hinter, open.g, open.glyph.code(), &mut made, count)?;
+                    match below.pop() {
+                        None => return Ok(made),
+                        Some(waiting) => open = self.joined(on, waiting, made)?,
                     }
                 }
             }

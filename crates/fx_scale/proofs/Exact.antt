@@ -1,10 +1,11 @@
 -- A value in a font at a valid size needs no wrapping.
 -- For the clauses of `scaled`.
-use Rattle.std.proofs.Common.{◌≡◌, ℕ, ◌+◌, ◌≤◌, ◌<◌, ◌^◌, ◌*◌, ℤ, pos, ◌*ℤ◌, ◌-ℤ◌, unsigned_abs, FitsSigned, arith, ◌∙◌, ap}
+use Rattle.std.proofs.Common.{◌≡◌, ◌≢◌, ℕ, ◌+◌, ◌≤◌, ◌<◌, ◌^◌, ◌*◌, ℤ, pos, ◌*ℤ◌, ◌-ℤ◌, unsigned_abs, FitsSigned, arith, ◌∙◌, ap, refl}
 use Rattle.std.proofs.lemmas.Int.{ints, int_wrap_fits, unsigned_abs-mul}
 use Rattle.std.proofs.Math.Nat.{mul-le-mul, mul-le-mul_left}
 use Rattle.std.specs.Int.{w32}
-use Rattle.fx_fixed.specs.Numbers.{IsNear, Nearest, wrapped_of}
+use Rattle.fx_fixed.specs.Numbers.{IsNear, Nearest, near_of, wrapped_of}
+use Rattle.fx_fixed.proofs.Rounding.{near_of_is_near}
 use Rattle.fx_fixed.specs.Sizes.{IsPpem}
 use Rattle.fx_sfnt.specs.Units.{IsUnitsPerEm}
 
@@ -49,3 +50,14 @@ pub exact : (v : ℤ) (p d : ℕ) (n q r : ℤ) → n ≡ v *ℤ pos (p * 64) �
     → unsigned_abs v ≤ 2 ^ 16 → IsPpem p → IsUnitsPerEm d → r ≡ q
 exact v p d n q r e near w h k u =
     let s = within (2 ^ 16) v p d n q e near h k u in w ∙ unwrapped q (omega (arith, s))
+
+-- what a value of the font is near needs no wrapping
+pub exact_of : (v : ℤ) (p d : ℕ) → unsigned_abs v ≤ 2 ^ 16 → IsPpem p → IsUnitsPerEm d
+    → wrapped_of (near_of (v *ℤ pos (p * 64)) (pos d)) ≡ near_of (v *ℤ pos (p * 64)) (pos d)
+unfolding Nearest
+exact_of v p d h k u =
+    exact v p d (v *ℤ pos (p * 64)) (near_of (v *ℤ pos (p * 64)) (pos d)) _ refl
+    (near_of_is_near (v *ℤ pos (p * 64)) (pos d) (not_zero d u)) refl h k u
+  where
+    not_zero : (d : ℕ) → IsUnitsPerEm d → pos d ≢ pos 0
+    not_zero d u = λ e. let l = u.least in omega (arith, ints, e)

@@ -5,7 +5,7 @@ ghost use Rattle.fx_fixed.specs.Numbers.{wrapped_of, near_of};
 ghost use Rattle.fx_scale.specs.Phantoms.{phantom_on, phantoms_of, fitted, in_order, untouched_points};
 
 use crate::scale::Scale;
-use fx_fixed::{Axis, F26, Place, near, w32};
+use fx_fixed::{Axis, F26, Place, near_64, w32};
 use fx_sfnt::Metrics;
 use fx_zone::Point;
 
@@ -97,5 +97,5 @@ pub fn fitted(hinted: bool, z: F26) -> F26
 fn whole_pixels(z: F26) -> F26
     ensures { result ≡ wrapped_of (pos 64 *ℤ near_of z (pos 64)) }
 {
-    F26(w32(64 * near(i128::from(z.0), 64)))
+    F26(w32(64 * i128::from(near_64(i64::from(z.0)))))
 }

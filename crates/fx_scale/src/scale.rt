@@ -1,7 +1,8 @@
 //! Scaling.
 
 ghost use Rattle.std.specs.Prelude.{◌≡◌, ◌^◌, ◌≤◌, ◌*◌, pos, ◌*ℤ◌, unsigned_abs};
-ghost use Rattle.fx_fixed.specs.Numbers.{near_of};
+ghost use Rattle.fx_fixed.specs.Numbers.{near_of, near_size, wrapped_of};
+ghost use Rattle.fx_sfnt.specs.Units.{IsUnitsPerEm};
 ghost use Rattle.fx_scale.specs.Scaling.{scaled_of, scaled_by, scale_of};
 
 use fx_fixed::{F26, Ppem, near, w32};
@@ -41,22 +42,59 @@ impl Scale {
 /// from zero (OpenType, "TrueType fundamentals": scaling a glyph outline).
 ///
 /// The values in a font, and differences of two of them, are within 2^28 at every size; others are taken modulo 2^32.
-#[tactic(auto, using(crate::proofs::Exact::unwrapped))]
 pub fn scaled(v: i32, ppem: Ppem, units_per_em: UnitsPerEm) -> F26
     ensures value { result ≡ scaled_of v ppem units_per_em }
     ensures within { unsigned_abs v ≤ 65535 → unsigned_abs result ≤ 2 ^ 28 }
     ensures exact { unsigned_abs v ≤ 2 ^ 16 → result ≡ near_of (v *ℤ pos (ppem * 64)) (pos units_per_em) }
 {
-    F26(w32(near(
-        sixty_fourths(v, ppem.pixels()),
-        i128::from(units_per_em.funits()),
-    )))
+    let em = u32::from(ppem.pixels()) * 64;
+    let funits = u32::from(units_per_em.funits());
+    if v.unsigned_abs() > MAX_SHORT {
+        return scaled_long(v, em, funits);
+    }
+    scaled_short(v, em, funits)
+}
+
+/// The greatest size of a value that is scaled in 32 bits, as are all that a font has, and differences of two of them.
+const MAX_SHORT: u32 = 65_535;
+
+/// A value scaled in 32 bits; `em` is the number of 1/64 pixels in an em.
+fn scaled_short(v: i32, em: u32, funits: u32) -> F26
+    requires value_size { unsigned_abs v ≤ 65535 }
+    requires em_size { em ≤ 65536 }
+    requires units { IsUnitsPerEm funits }
+    ensures value { result ≡ near_of (v *ℤ pos em) (pos funits) }
+    ensures size { unsigned_abs result ≤ 2 ^ 28 }
+{
+    let size = rounded_quotient(v.unsigned_abs() * em, funits) as i32;
+    F26(if v < 0 { -size } else { size })
+}
+
+/// `n / d` rounded to the nearest whole number, halves up.
+fn rounded_quotient(n: u32, d: u32) -> u32
+    requires size { n ≤ 4294901760 }
+    requires divisor { IsUnitsPerEm d }
+    ensures value { result ≡ near_size n d }
+    ensures size { result ≤ 2 ^ 28 }
+{
+    (n + d / 2) / d
+}
+
+/// A value of any size scaled; no value of a font is as large.
+#[cold]
+fn scaled_long(v: i32, em: u32, funits: u32) -> F26
+    requires em_size { em ≤ 65536 }
+    requires units { IsUnitsPerEm funits }
+    ensures { result ≡ wrapped_of (near_of (v *ℤ pos em) (pos funits)) }
+{
+    F26(w32(near(sixty_fourths(v, em), i128::from(funits))))
 }
 
 /// A value times the number of 1/64 pixels in an em.
-fn sixty_fourths(v: i32, ppem: u16) -> i128
-    ensures value { result ≡ v *ℤ pos (ppem * 64) }
+fn sixty_fourths(v: i32, em: u32) -> i128
+    requires { em ≤ 65536 }
+    ensures value { result ≡ v *ℤ pos em }
     ensures size { unsigned_abs result ≤ 2 ^ 60 }
 {
-    i128::from(v) * i128::from(u32::from(ppem) * 64)
+    i128::from(v) * i128::from(em)
 }

@@ -32,9 +32,11 @@ fn scaled_points(
     ensures { IfOk result (λ v. v.items ≡ map (scaled_point scale.now) simple.now.points) }
 {
     let mut scaled = Vec::with_capacity(alloc, simple.point_count() as usize + PHANTOM_POINTS)?;
+    // A copy, which no write to the list can change, so that it is read once.
+    let scale = *scale;
     // The points so far are scaled, and there is room for those that are left.
     'points: for point in simple.points() {
-        scaled.push_reserved(scaled_point(scale, point));
+        scaled.push_reserved(scaled_point(&scale, point));
     }
     Ok(scaled)
 }

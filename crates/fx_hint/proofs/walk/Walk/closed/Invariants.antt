@@ -1,6 +1,6 @@
 use Rattle.std.proofs.Common.{◌≡◌, ◌+◌, ◌-◌, ◌*◌, ◌≤◌, length}
 use Rattle.fx_hint.specs.Limits.{max_components, max_depth}
-use Rattle.fx_hint.specs.inner.Steps.{left, given_by, rest_of, weight}
+use Rattle.fx_hint.specs.inner.Steps.{left, rest_of}
 use Rattle.fx_hint.proofs.walk.Walk.closed.Given as goal
 
 -- what the root gives by the steps that are left is what it gives
@@ -9,13 +9,12 @@ invariant-steps g l = record {
   known : g.H.Hinter.known l.hinter ≡ g.H.Hinter.known l.fn.hinter;
   kept : g.H.Hinter.hinting l.hinter ≡ g.H.Hinter.hinting l.fn.hinter;
   due : rest_of (g.H.Hinter.hinting l.fn.hinter) l.self.font.now l.self.scale.now l.self.root max_depth l.below
-      (given_by (g.H.Hinter.hinting l.fn.hinter) l.self.font.now l.self.scale.now l.self.root (max_depth - length l.below)
-      (l.step, l.count))
+      (left (g.H.Hinter.hinting l.fn.hinter) l.self.font.now l.self.scale.now l.self.root (max_depth - length l.below) l.open l.count)
       ≡ left (g.H.Hinter.hinting l.fn.hinter) l.self.font.now l.self.scale.now l.self.root max_depth l.fn.root l.fn.count;
   deep : length l.below ≤ max_depth;
   few : l.count.records ≤ max_components;
 }
 
--- a component takes a record; each composite is opened, and waits, once
+-- a component takes a record; each composite waits once
 abbrev pub decreases-steps : goal.decreases-steps
-decreases-steps g l = 4 * (max_components - l.count.records) + 2 * length l.below + weight l.step
+decreases-steps g l = 2 * (max_components - l.count.records) + length l.below

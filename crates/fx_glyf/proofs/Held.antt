@@ -1,0 +1,131 @@
+-- Flags and deltas that bytes are known to hold: how many bytes they take, and which they are.
+-- For `next_flag`, `delta` and the iterators over flags and points.
+use Rattle.std.proofs.Common.{◌≡◌, ℕ, zero, suc, ◌-◌, ◌<◌, ◌≤◌, ◌%◌, List, [], ◌∷◌, length, drop, get_or, Option, Some, None}
+use Rattle.std.proofs.Common.{Bool, true, false, cond, refl, sym, ap, subst, arith, inl, inr}
+use Rattle.std.specs.Prelude.{IsSome, option_and_then}
+use Rattle.std.proofs.lemmas.Bool.{cases_lt, lt-ltb, le-ltb}
+use Rattle.byteorder.specs.Endian.{big_number}
+use Rattle.fx_sfnt.specs.Fields.{field}
+use Rattle.fx_glyf.specs.Words.{has, with_front}
+use Rattle.fx_glyf.specs.Points.{Cursor, repeat_flag, next_flag, flags_from, delta_by, delta_of, deltas_from}
+
+-- ---- flags
+
+-- the bytes hold a flag if they hold that of another point
+pub flag_held : (left : ℕ) (c : Cursor) → (left ≡ 0 → ⊥) → IsSome (flags_from left c) → IsSome (next_flag c)
+unfolding flags_from
+flag_held zero c more h = absurd (more refl)
+flag_held (suc left) c more h = first_held (λ (d : Cursor). with_front d.flag (flags_from left d)) (next_flag c) h
+  where
+    first_held : {X : Type 0} {Y : Type 0} (f : X → Option Y) (o : Option X) → IsSome (option_and_then f o) → IsSome o
+    first_held f None h = absurd (cc)
+    first_held f (Some x) h = refl
+
+-- a flag takes a byte
+pub one_byte : (again flag : ℕ) (bytes : List ℕ) → again ≤ 0
+    → IsSome (next_flag (record { again = again; flag = flag; bytes = bytes })) → 1 ≤ length bytes
+unfolding next_flag
+one_byte (suc again) flag bytes low h = absurd (omega arith)
+one_byte zero flag [] low h = absurd (cc)
+one_byte zero flag (f ∷ bytes) low h = omega arith
+
+-- a flag that is repeated takes two
+pub two_bytes : (again flag : ℕ) (bytes : List ℕ) → again ≤ 0 → has (get_or bytes 0 0) repeat_flag ≡ true
+    → IsSome (next_flag (record { again = again; flag = flag; bytes = bytes })) → 2 ≤ length bytes
+unfolding next_flag
+two_bytes (suc again) flag bytes low r h = absurd (omega arith)
+two_bytes zero flag [] low r h = absurd (cc)
+two_bytes zero flag (f ∷ []) low r h =
+    let P : Bool → Type 0 = λ b. IsSome {T = Cursor} (cond b None (Some (record { again = 0; flag = f; bytes = [] }))) in
+    let none : IsSome {T = Cursor} None = subst P r h in
+    absurd (cc)
+two_bytes zero flag (f ∷ g ∷ bytes) low r h = omega arith
+
+-- the flag of the point before, once more
+pub flag_again : (again flag : ℕ) (bytes : List ℕ) → 0 < again
+    → Some (record { again = again - 1; flag = flag; bytes = bytes })
+    ≡ next_flag (record { again = again; flag = flag; bytes = bytes })
+unfolding next_flag
+flag_again zero flag bytes h = absurd (omega arith)
+flag_again (suc again) flag bytes h =
+    let same : suc again - 1 ≡ again = omega arith in
+    ap (λ (n : ℕ). Some (record { again = n; flag = flag; bytes = bytes })) same
+
+-- a flag that is repeated, with the number after it
+pub flag_repeated : (again flag : ℕ) (bytes rest : List ℕ) → again ≤ 0 → has (get_or bytes 0 0) repeat_flag ≡ true
+    → 2 ≤ length bytes → rest ≡ drop 2 bytes
+    → Some (record { again = get_or bytes 1 0; flag = get_or bytes 0 0; bytes = rest })
+    ≡ next_flag (record { again = again; flag = flag; bytes = bytes })
+unfolding next_flag
+flag_repeated (suc again) flag bytes rest low r h e = absurd (omega arith)
+flag_repeated zero flag [] rest low r h e = absurd (omega arith)
+flag_repeated zero flag (f ∷ []) rest low r h e = absurd (omega arith)
+flag_repeated zero flag (f ∷ g ∷ bytes) rest low r h e = rw (r, e) refl
+
+-- a flag that is not repeated
+pub flag_alone : (again flag : ℕ) (bytes rest : List ℕ) → again ≤ 0 → has (get_or bytes 0 0) repeat_flag ≡ false
+    → 1 ≤ length bytes → rest ≡ drop 1 bytes
+    → Some (record { again = 0; flag = get_or bytes 0 0; bytes = rest })
+    ≡ next_flag (record { again = again; flag = flag; bytes = bytes })
+unfolding next_flag
+flag_alone (suc again) flag bytes rest low r h e = absurd (omega arith)
+flag_alone zero flag [] rest low r h e = absurd (omega arith)
+flag_alone zero flag (f ∷ []) rest low r h e = rw (r, e) refl
+flag_alone zero flag (f ∷ g ∷ bytes) rest low r h e = rw (r, e) refl
+
+-- ---- deltas
+
+-- the bytes hold the first of some deltas
+pub delta_held : (short same f : ℕ) (gs fs bytes : List ℕ) → gs ≡ f ∷ fs → IsSome (deltas_from short same gs bytes)
+    → IsSome (delta_of short same f bytes)
+unfolding deltas_from
+delta_held short same f gs fs bytes e h =
+    let P : List ℕ → Type 0 = λ hs. IsSome (deltas_from short same hs bytes) in
+    first_held (λ (d : ℕ × List ℕ). with_front d.0 (deltas_from short same fs d.1)) (delta_of short same f bytes) (subst P e h)
+  where
+    first_held : {X : Type 0} {Y : Type 0} (f : X → Option Y) (o : Option X) → IsSome (option_and_then f o) → IsSome o
+    first_held f None h = absurd (cc)
+    first_held f (Some x) h = refl
+
+-- a short delta takes a byte
+pub short_held : (short same : Bool) (bytes : List ℕ) → short ≡ true → IsSome (delta_by short same bytes) → 1 ≤ length bytes
+unfolding delta_by
+short_held false same bytes e h = absurd (cc)
+short_held true same [] e h = absurd (cc)
+short_held true same (b ∷ bytes) e h = omega arith
+
+-- a delta that is neither short nor the same takes two
+pub word_held : (short same : Bool) (bytes : List ℕ) → short ≡ false → same ≡ false → IsSome (delta_by short same bytes)
+    → 2 ≤ length bytes
+unfolding delta_by
+word_held true same bytes e f h = absurd (cc)
+word_held false true bytes e f h = absurd (cc)
+word_held false false bytes e f h =
+    let P : Bool → Type 0 = λ b. IsSome {T = ℕ × List ℕ} (cond b None (Some (big_number 2 bytes, drop 2 bytes))) in
+    elim (cases_lt (length bytes) 2) [
+      | inl l ↦ let none : IsSome {T = ℕ × List ℕ} None = subst P (lt-ltb _ _ l) h in absurd (cc)
+      | inr l ↦ l
+    ]
+
+pub short_is : (short same positive : Bool) (bytes rest : List ℕ) (by : ℕ) → short ≡ true → positive ≡ same
+    → 1 ≤ length bytes → rest ≡ drop 1 bytes
+    → by ≡ cond positive (get_or bytes 0 0) ((65536 - get_or bytes 0 0) % 65536)
+    → Some (by, rest) ≡ delta_by short same bytes
+unfolding delta_by
+short_is false same positive bytes rest by e f h r b = absurd (cc)
+short_is true same positive [] rest by e f h r b = absurd (omega arith)
+short_is true same positive (x ∷ bytes) rest by e f h r b = rw (b, r, f) refl
+
+pub same_is : (short same : Bool) (bytes : List ℕ) → short ≡ false → same ≡ true → Some (0, bytes) ≡ delta_by short same bytes
+unfolding delta_by
+same_is true same bytes e f = absurd (cc)
+same_is false true bytes e f = refl
+same_is false false bytes e f = absurd (cc)
+
+pub word_is : (short same : Bool) (bytes rest : List ℕ) (by : ℕ) → short ≡ false → same ≡ false → 2 ≤ length bytes
+    → by ≡ field 2 bytes 0 → rest ≡ drop 2 bytes → Some (by, rest) ≡ delta_by short same bytes
+unfolding delta_by field
+word_is true same bytes rest by e f h b r = absurd (cc)
+word_is false true bytes rest by e f h b r = absurd (cc)
+word_is false false bytes rest by e f h b r =
+    rw (b, r) (sym (ap (λ (c : Bool). cond c None (Some (big_number 2 bytes, drop 2 bytes))) (le-ltb _ _ h)))
