@@ -174,7 +174,8 @@ fn add_contour(made: &mut Pieces, points: &[OutlinePoint]) -> Result<(), AllocEr
     let first = &points[0];
     let mut before = &points[points.len() - 1];
     let mut from = joint(before, first);
-    for i in 0..points.len() {
+    // The pieces of the points before i were added; the curve has come to `from`, between `before` and the point i.
+    'points: for i in 0..points.len() {
         let here = &points[i];
         let step = step_at(before, here, next_point(points, i, first), from);
         push_some(made, step.piece)?;
@@ -207,7 +208,8 @@ pub fn pieces(alloc: Global, outline: &Outline) -> Result<Pieces, ContourFault>
     }
     let mut made = Pieces::with_capacity(alloc, outline.points.len())?;
     let mut start = 0;
-    for end in &outline.ends {
+    // The pieces of the contours so far were added, and the next one begins at `start`.
+    'contours: for end in &outline.ends {
         let next = usize::from(*end) + 1;
         add_contour(&mut made, contour(&outline.points, start, next))?;
         start = next;

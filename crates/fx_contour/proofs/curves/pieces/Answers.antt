@@ -12,25 +12,25 @@ pub contour-requires : goal.contour-requires
 contour-requires c =
     let o = c.args.outline.now in
     let ends = c.deref-end-items.ensures.value in
-    let points = ap length c.deref-in-loop-end.ensures.value in
-    let inside : c.loop-end.end-index < length o.ends.items = (let e = ap length ends in omega arith) in
-    let w = next_within c.loop-end.start o.ends.items c.loop-end.end-index o.points.items c.from-next.result 0
-    c.loop-end.invariant.ends_left inside (c.from-next.ensures ∙ ap (λ xs. get_or xs c.loop-end.end-index 0) ends) in
+    let points = ap length c.deref-in-contours.ensures.value in
+    let inside : c.contours.end-index < length o.ends.items = (let e = ap length ends in omega arith) in
+    let w = next_within c.contours.start o.ends.items c.contours.end-index o.points.items c.from-next.result 0
+    c.contours.invariant.ends_left inside (c.from-next.ensures ∙ ap (λ xs. get_or xs c.contours.end-index 0) ends) in
     record { order = w.0; within = omega (arith, w.1, points) }
 
-pub loop-end-preserved : goal.loop-end-preserved
-loop-end-preserved c =
+pub contours-preserved : goal.contours-preserved
+contours-preserved c =
     let o = c.args.outline.now in
-    let start = c.loop-end.start in
+    let start = c.contours.start in
     let next = c.from-next.result + 1 in
     let ends = c.deref-end-items.ensures.value in
-    let inside : c.loop-end.end-index < length o.ends.items = (let e = ap length ends in omega arith) in
+    let inside : c.contours.end-index < length o.ends.items = (let e = ap length ends in omega arith) in
     let slice : c.contour.result.now ≡ take (next - start) (drop start o.points.items) =
-    c.contour.ensures ∙ ap (λ xs. take (next - start) (drop start xs)) c.deref-in-loop-end.ensures.value in
-    let P : List OutlinePoint → Type 0 = λ xs. map span_of c.add_contour.new.made ≡ map span_of c.loop-end.made ++ curve_of xs in
-    let Q : List OutlinePoint → Type 0 = λ xs. length c.add_contour.new.made ≤ length c.loop-end.made + length xs in
-    gather_more c.loop-end.made c.add_contour.new.made start o.ends.items c.loop-end.end-index o.points.items c.from-next.result 0
-    c.loop-end.invariant inside (c.from-next.ensures ∙ ap (λ xs. get_or xs c.loop-end.end-index 0) ends)
+    c.contour.ensures ∙ ap (λ xs. take (next - start) (drop start xs)) c.deref-in-contours.ensures.value in
+    let P : List OutlinePoint → Type 0 = λ xs. map span_of c.add_contour.new.made ≡ map span_of c.contours.made ++ curve_of xs in
+    let Q : List OutlinePoint → Type 0 = λ xs. length c.add_contour.new.made ≤ length c.contours.made + length xs in
+    gather_more c.contours.made c.add_contour.new.made start o.ends.items c.contours.end-index o.points.items c.from-next.result 0
+    c.contours.invariant inside (c.from-next.ensures ∙ ap (λ xs. get_or xs c.contours.end-index 0) ends)
     (subst P slice c.in_ok-add_contour.ensures.ok)
     (subst Q slice c.in_ok-add_contour.ensures.few)
 
@@ -42,7 +42,7 @@ returns-clause-closed c =
       map curve_of contours,
       all_closed contours,
       sym
-          (gather_end c.loop-end.made c.loop-end.start o.ends.items c.loop-end.end-index o.points.items c.loop-end.invariant
+          (gather_end c.contours.made c.contours.start o.ends.items c.contours.end-index o.points.items c.contours.invariant
           (omega arith)),
     )
 
@@ -57,6 +57,6 @@ returns-clause-exact c =
     let o = c.args.outline.now in
     let ends = ap length c.deref-end-items.ensures.value in
     drawn_near o.ends.items o.points.items c.deref.result.now c.are_in_reach.result
-    (map span_of c.loop-end.made) c.deref.ensures.value c.are_in_reach.ensures c.if-not-are_in_reach.false
-    (gather_end c.loop-end.made c.loop-end.start o.ends.items c.loop-end.end-index o.points.items c.loop-end.invariant
+    (map span_of c.contours.made) c.deref.ensures.value c.are_in_reach.ensures c.if-not-are_in_reach.false
+    (gather_end c.contours.made c.contours.start o.ends.items c.contours.end-index o.points.items c.contours.invariant
     (omega arith))
