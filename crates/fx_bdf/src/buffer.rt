@@ -8,8 +8,9 @@ ghost use Rattle.fx_bdf.specs.inner.Buffer.{Adds};
 use fx_fixed::{Sink, WriteFailed, put_part};
 use std::marker::Model;
 
-/// How many bytes a buffer holds. It is filled with zeros once a glyph.
-pub const CAPACITY: usize = 2048;
+/// How many bytes a buffer holds. It is filled with zeros once a glyph: below 2,048 bytes that takes a C library some dozens of
+/// instructions, from there on many count one a byte.
+pub const CAPACITY: usize = 1984;
 
 /// A text on its way to a sink: the sink took its first bytes, and the buffer holds those that wait.
 #[derive(Drop)]
