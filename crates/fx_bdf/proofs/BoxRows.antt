@@ -9,18 +9,12 @@ use Rattle.fx_winding.specs.Bitmaps.{words_for, word_bit, bits_in, cut, rows_of,
 use Rattle.fx_winding.proofs.Grid.{length-cut, cut-row, row_fits}
 use Rattle.fx_bdf.specs.Glyphs.{Box}
 use Rattle.fx_bdf.specs.Lines.{IsRow, AreRows, AddsRow}
+use Rattle.fx_bdf.specs.inner.Moved.{AreMoved}
 use Rattle.fx_bdf.proofs.Trims.{split}
 use Rattle.fx_bdf.proofs.Packing.{word_more}
 use Rattle.fx_bdf.proofs.Shifts.{shifted_bit}
 
 -- ---- one row
-
--- k words were added that hold the bits of a row from one pixel on
-pub record AreMoved (old now words : List ℕ) (k from : ℕ) : Type 0 where
-  pub out : List ℕ
-  pub added : now ≡ old ++ out
-  pub long : length out ≡ k
-  pub same : (i : ℕ) → i < 32 * k → word_bit out i ≡ word_bit words (from + i)
 
 pub moved_none : (old words : List ℕ) (from : ℕ) → AreMoved old old words 0 from
 moved_none old words from = record {
@@ -54,6 +48,14 @@ moved_word words from k shift high low w s h l in_high in_low i small =
     ∙ (λ j. bit_at ((h ∙ ap (λ n. get_or words n 0) first) j) (31 - (by j + i))))
     (λ m. in_low i small (omega (arith, by, m))
     ∙ (λ j. bit_at ((l ∙ ap (λ n. get_or words n 0) second) j) (63 - (by j + i))))
+
+-- a word that is copied as it is
+pub copied_word : (words : List ℕ) (from k w : ℕ) → from % 32 ≡ 0 → w ≡ get_or words (from / 32 + k) 0 → (i : ℕ) → i < 32
+    → bit_at w (31 - i) ≡ word_bit words (from + 32 * k + i)
+copied_word words from k w s h i small =
+    let at : from / 32 + k ≡ (from + 32 * k + i) / 32 = omega (arith, s) in
+    let by : 31 - i ≡ 31 - (from + 32 * k + i) % 32 = omega (arith, s, small) in
+    (λ j. bit_at ((h ∙ ap (λ n. get_or words n 0) at) j) (by j))
 
 -- ---- all rows
 

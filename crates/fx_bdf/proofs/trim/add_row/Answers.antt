@@ -1,7 +1,6 @@
-use Rattle.std.proofs.Common.{◌≡◌, refl, ℕ, ◌∙◌, ◌-◌, ◌*◌, ◌%◌, ◌<◌, pos, ◌+ℤ◌, ap, length, get_or, arith, to_z, of_z, w32}
+use Rattle.std.proofs.Common.{◌≡◌, ℕ, ◌-◌, ◌*◌, ◌<◌, pos, ◌+ℤ◌, length, arith, to_z, of_z, w32}
 use Rattle.fx_fixed.proofs.Linear.{signed_linear}
-use Rattle.fx_bdf.proofs.Packing.{held, moved, moved_row, moved_words}
-use Rattle.fx_bdf.proofs.BoxRows.{moved_none, moved_more, moved_word}
+use Rattle.fx_bdf.proofs.Packing.{held, moved, few_across, moved_row, moved_words}
 use Rattle.fx_winding.specs.Bitmaps.{words_for}
 use Rattle.fx_bdf.proofs.trim.add_row.Goals as goal
 
@@ -16,19 +15,10 @@ row-words-requires c =
     let row = c.requires.row in
     (omega (arith, signed_linear, at, low), omega (arith, signed_linear, at, high, row))
 
-pub words-init : goal.words-init
-words-init c = record {
-  moved = moved_none c.args.rows.now.items c.row-words.result.now c.args.from;
-  high = c.word_at-high.ensures ∙ ap (λ n. get_or c.row-words.result.now n 0) (omega arith);
-}
-
-pub words-preserved : goal.words-preserved
-words-preserved c = record {
-  moved = moved_more c.joined.result c.words.invariant.moved c.in_ok-push.ensures.items
-      (moved_word c.row-words.result.now c.args.from c.words.k (c.args.from % 32) c.words.high c.word_at-low.result c.joined.result
-      refl c.words.invariant.high c.word_at-low.ensures c.joined.ensures.high c.joined.ensures.low);
-  high = c.word_at-low.ensures ∙ ap (λ n. get_or c.row-words.result.now n 0) (omega arith);
-}
+pub add_words-requires-clause-near : goal.add_words-requires-clause-near
+add_words-requires-clause-near c =
+    let few = few_across c.args.bitmap.now c.args.b c.args.from c.requires.tight (omega (arith, c.requires.row)) c.requires.from in
+    omega (arith, few)
 
 pub returns : goal.returns
 returns c =
@@ -38,8 +28,8 @@ returns c =
     let r = moved c.args.bitmap.now c.args.b c.args.i c.args.from c.row-words.result.now
     (to_z w32 (of_z w32 c.above.result)) c.requires.tight c.requires.row at c.requires.from c.row-words.ensures.words
     c.row-words.ensures.value in
-    let m = c.words.invariant.moved in
-    let long : length m.out ≡ words_for c.args.b.width = omega (arith, m.long, c.words_for-k-end.ensures) in
+    let m = c.in_ok-add_words.ensures in
+    let long : length m.out ≡ words_for c.args.b.width = omega (arith, m.long, c.words_for.ensures) in
     let same = λ (k : ℕ) (h : k < 32 * length m.out). m.same k (omega (arith, h, m.long)) in
     record {
       row = m.out;

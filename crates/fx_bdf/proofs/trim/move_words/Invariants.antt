@@ -1,6 +1,6 @@
 use Rattle.std.proofs.Common.{◌≡◌, ◌+◌, ◌/◌, get_or}
-use Rattle.fx_bdf.proofs.BoxRows.{AreMoved}
-use Rattle.fx_bdf.proofs.trim.add_row.Given as goal
+use Rattle.fx_bdf.specs.inner.Moved.{AreMoved}
+use Rattle.fx_bdf.proofs.trim.move_words.Given as goal
 
 abbrev pub invariant-words : goal.invariant-words
 invariant-words l = record {
