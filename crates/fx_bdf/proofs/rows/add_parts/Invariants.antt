@@ -3,7 +3,7 @@ use Rattle.std.specs.Prelude.{Ok}
 use Rattle.fx_winding.specs.Bitmaps.{bits_in}
 use Rattle.fx_bdf.specs.Text.{row_digits}
 use Rattle.fx_bdf.specs.inner.Buffer.{Adds}
-use Rattle.fx_bdf.proofs.rows.add_row.Given as goal
+use Rattle.fx_bdf.proofs.rows.add_parts.Given as goal
 
 -- the digits of the words so far were added
 abbrev pub invariant-parts : goal.invariant-parts
