@@ -1,6 +1,7 @@
 -- The rows of a box in one list of words.
 -- Serves the trimming of a bitmap to its tight box and the rows of a glyph.
-use Rattle.std.proofs.Common.{◌≡◌, ℕ, ◌+◌, ◌-◌, ◌*◌, ◌<◌, ◌≤◌, ℤ, List, [], ◌∷◌, ◌++◌, Bool, length, take, drop, get_or}
+use Rattle.std.proofs.Common.{◌≡◌, ℕ, ◌+◌, ◌-◌, ◌*◌, ◌/◌, ◌%◌, ◌<◌, ◌≤◌, ℤ, List, [], ◌∷◌, ◌++◌, Bool, length, take, drop}
+use Rattle.std.proofs.Common.{get_or}
 use Rattle.std.proofs.Common.{sym, ap, ◌∙◌, subst, arith, length-append, length-drop, append_assoc, append-nil}
 use Rattle.std.specs.Int.{bit_at}
 use Rattle.std.proofs.lemmas.List.{length-map, get_or-map, take-append-le, drop-append-le, take_all, drop_at}
@@ -8,17 +9,12 @@ use Rattle.fx_winding.specs.Bitmaps.{words_for, word_bit, bits_in, cut, rows_of,
 use Rattle.fx_winding.proofs.Grid.{length-cut, cut-row, row_fits}
 use Rattle.fx_bdf.specs.Glyphs.{Box}
 use Rattle.fx_bdf.specs.Lines.{IsRow, AreRows, AddsRow}
+use Rattle.fx_bdf.specs.inner.Moved.{AreMoved}
 use Rattle.fx_bdf.proofs.Trims.{split}
 use Rattle.fx_bdf.proofs.Packing.{word_more}
+use Rattle.fx_bdf.proofs.Shifts.{shifted_bit}
 
 -- ---- one row
-
--- k words were added that hold the bits of a row from one pixel on
-pub record AreMoved (old now words : List ℕ) (k from : ℕ) : Type 0 where
-  pub out : List ℕ
-  pub added : now ≡ old ++ out
-  pub long : length out ≡ k
-  pub same : (i : ℕ) → i < 32 * k → word_bit out i ≡ word_bit words (from + i)
 
 pub moved_none : (old words : List ℕ) (from : ℕ) → AreMoved old old words 0 from
 moved_none old words from = record {
@@ -36,6 +32,30 @@ moved_more {old} {now} {new} {words} {k} {from} w m e here = record {
   long = omega (arith, m.long, length-append m.out (w ∷ []));
   same = word_more m.out (m.out ++ w ∷ []) words k from w m.long (λ i. m.out ++ w ∷ []) here m.same;
 }
+
+-- 32 bits of a row from pixel from + 32 * k on, of two words of the row
+pub moved_word : (words : List ℕ) (from k shift high low w : ℕ) → shift ≡ from % 32 → high ≡ get_or words (from / 32 + k) 0
+    → low ≡ get_or words (from / 32 + 1 + k) 0
+    → ((i : ℕ) → shift + i < 32 → bit_at w (31 - i) ≡ bit_at high (31 - (shift + i)))
+    → ((i : ℕ) → i < 32 → 32 ≤ shift + i → bit_at w (31 - i) ≡ bit_at low (63 - (shift + i)))
+    → (i : ℕ) → i < 32 → bit_at w (31 - i) ≡ word_bit words (from + 32 * k + i)
+moved_word words from k shift high low w s h l in_high in_low i small =
+    let by : shift ≡ (from + 32 * k) % 32 = omega (arith, s) in
+    let first : from / 32 + k ≡ (from + 32 * k) / 32 = omega arith in
+    let second : from / 32 + 1 + k ≡ (from + 32 * k) / 32 + 1 = omega arith in
+    shifted_bit words (from + 32 * k) w i small
+    (λ m. in_high i (omega (arith, by, m))
+    ∙ (λ j. bit_at ((h ∙ ap (λ n. get_or words n 0) first) j) (31 - (by j + i))))
+    (λ m. in_low i small (omega (arith, by, m))
+    ∙ (λ j. bit_at ((l ∙ ap (λ n. get_or words n 0) second) j) (63 - (by j + i))))
+
+-- a word that is copied as it is
+pub copied_word : (words : List ℕ) (from k w : ℕ) → from % 32 ≡ 0 → w ≡ get_or words (from / 32 + k) 0 → (i : ℕ) → i < 32
+    → bit_at w (31 - i) ≡ word_bit words (from + 32 * k + i)
+copied_word words from k w s h i small =
+    let at : from / 32 + k ≡ (from + 32 * k + i) / 32 = omega (arith, s) in
+    let by : 31 - i ≡ 31 - (from + 32 * k + i) % 32 = omega (arith, s, small) in
+    (λ j. bit_at ((h ∙ ap (λ n. get_or words n 0) at) j) (by j))
 
 -- ---- all rows
 

@@ -1,15 +1,17 @@
 //! A buffer before a sink, so that many short pieces of a text cost few calls.
 
-ghost use Rattle.std.specs.Prelude.{◌≡◌, ◌+◌, ◌++◌, ◌<◌, ◌≤◌, ◌^◌, [], take, drop, length, IfOk};
+ghost use Rattle.std.specs.Prelude.{◌≡◌, ◌+◌, ◌++◌, ◌*◌, ◌<◌, ◌≤◌, ◌^◌, [], take, drop, length, IfOk};
 ghost use Rattle.std.specs.List.{flat_map};
 ghost use Rattle.fx_fixed.specs.Wrote.{WrotePart};
-ghost use Rattle.fx_bdf.specs.inner.Buffer.{Adds};
+ghost use Rattle.fx_bdf.specs.inner.Buffer.{Adds, word_text};
 
+use crate::digits::word_digits;
 use fx_fixed::{Sink, WriteFailed, put_part};
 use std::marker::Model;
 
-/// How many bytes a buffer holds. It is filled with zeros once a glyph.
-pub const CAPACITY: usize = 2048;
+/// How many bytes a buffer holds. It is filled with zeros once a glyph: below 2,048 bytes that takes a C library some dozens of
+/// instructions, from there on many count one a byte.
+pub const CAPACITY: usize = 1984;
 
 /// A text on its way to a sink: the sink took its first bytes, and the buffer holds those that wait.
 #[derive(Drop)]
@@ -38,6 +40,18 @@ fn put(bytes: &mut [u8], start: usize, part: &[u8])
 {
     let over = &mut bytes[start..start + part.len()];
     over.copy_from_slice(part);
+}
+
+/// Writes the digits of words, eight each, over the bytes from `start` on.
+fn put_words(bytes: &mut [u8], start: usize, words: &[u32])
+    requires { start + 8 * length words.now ≤ length bytes.old }
+    ensures long { length bytes.new ≡ length bytes.old }
+    ensures text { take (start + 8 * length words.now) bytes.new ≡ take start bytes.old ++ flat_map word_text words.now }
+{
+    // The digits of the words before k were written.
+    'words: for k in 0..words.len() {
+        put(bytes, start + 8 * k, &word_digits(words[k]));
+    }
 }
 
 impl Buffer {
@@ -101,14 +115,14 @@ impl Buffer {
         }
     }
 
-    /// Adds the first `count` of eight bytes; all eight have to fit.
-    pub fn add_front(&mut self, eight: [u8; 8], count: usize)
-        requires fits { length self.old.waiting + 8 ≤ CAPACITY }
-        requires count { count ≤ 8 }
-        ensures waiting { self.new.waiting ≡ self.old.waiting ++ take count eight }
+    /// Adds the first `count` of the digits of words; all of their digits have to fit.
+    pub fn add_words(&mut self, words: &[u32], count: usize)
+        requires fits { length self.old.waiting + 8 * length words.now ≤ CAPACITY }
+        requires count { count ≤ 8 * length words.now }
+        ensures waiting { self.new.waiting ≡ self.old.waiting ++ take count (flat_map word_text words.now) }
         ensures done { self.new.done ≡ self.old.done }
     {
-        put(&mut self.bytes, self.used, &eight);
+        put_words(&mut self.bytes, self.used, words);
         self.used += count;
     }
 }

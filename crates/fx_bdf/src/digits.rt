@@ -1,7 +1,8 @@
 //! Words of pixels as hexadecimal digits.
 
-ghost use Rattle.std.specs.Prelude.{◌≡◌, ◌+◌, ◌*◌, ◌<◌, ◌/◌, ◌%◌, ◌^◌, [], ◌∷◌, true};
+ghost use Rattle.std.specs.Prelude.{◌≡◌, ◌+◌, ◌*◌, ◌<◌, ◌/◌, ◌%◌, true};
 ghost use Rattle.std.specs.Fmt.{digit_glyph};
+ghost use Rattle.fx_bdf.specs.inner.Buffer.{word_text};
 
 /// The two digits of each byte in turn.
 static PAIRS: [u8; 512] = *b"\
@@ -26,10 +27,7 @@ fn pair(byte: u32) -> u64
 /// The eight digits of a word, that of the highest four bits first.
 #[inline(always)]
 pub fn word_digits(word: u32) -> [u8; 8]
-    ensures { result ≡ digit_glyph true (word / 2 ^ 28 % 16) ∷ digit_glyph true (word / 2 ^ 24 % 16)
-        ∷ digit_glyph true (word / 2 ^ 20 % 16) ∷ digit_glyph true (word / 2 ^ 16 % 16)
-        ∷ digit_glyph true (word / 2 ^ 12 % 16) ∷ digit_glyph true (word / 2 ^ 8 % 16)
-        ∷ digit_glyph true (word / 2 ^ 4 % 16) ∷ digit_glyph true (word % 16) ∷ [] }
+    ensures { result ≡ word_text word }
 {
     let a = pair(word >> 24);
     let b = pair((word >> 16) % 256);

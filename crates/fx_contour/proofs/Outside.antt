@@ -1,8 +1,8 @@
 -- A pixel outside the frame is not covered, since a place that is covered is in the bounding box.
 -- For the clause `outside` of `frame`.
-use Rattle.std.proofs.Common.{subst, ◌⊎◌, inl, inr, ℤ, ◌≤ℤ◌, ◌<ℤ◌, List, [], ◌∷◌, Option, Some, None, IsSomeAnd, All}
-use Rattle.std.proofs.lemmas.Int.{by_lt_z}
+use Rattle.std.proofs.Common.{subst, ◌⊎◌, inl, inr, ◌≤ℤ◌, ◌<ℤ◌, List, [], ◌∷◌, Option, Some, None, IsSomeAnd, All}
 use Rattle.std.proofs.lemmas.List.Elements.{All-nil, All-cons}
+use Rattle.fx_fixed.proofs.Order.{below_or_not_ℤ}
 use Rattle.fx_winding.specs.Area.{Place}
 use Rattle.fx_winding.specs.Winding.{Span, centre, IsCovered}
 use Rattle.fx_winding.specs.Outside.{HasAll, OptionAll, IsBeside, joined, AreOfOutline}
@@ -32,18 +32,14 @@ either P Q d (s ∷ ss) = by (piece_either P Q d s) (either P Q d ss)
     by (inr h) r = inr (inl h)
     by (inl h) (inr hs) = inr (inr hs)
 
--- an integer is below another, or at least it
-pub order : (a b : ℤ) → (a <ℤ b) ⊎ (b ≤ℤ a)
-order a b = by_lt_z a b (λ h. inl h) (λ h. inr h)
-
 -- a place is in the bounding box, or beside it
 in_or_beside : (p : Place) (ss : List Span) → IsInBoundingBox p ss ⊎ IsBeside p ss
 in_or_beside p ss =
     by
-    (either (λ q. p.x <ℤ q.x) (λ q. q.x ≤ℤ p.x) (λ q. order p.x q.x) ss)
-    (either (λ q. q.x <ℤ p.x) (λ q. p.x ≤ℤ q.x) (λ q. order q.x p.x) ss)
-    (either (λ q. p.y <ℤ q.y) (λ q. q.y ≤ℤ p.y) (λ q. order p.y q.y) ss)
-    (either (λ q. q.y <ℤ p.y) (λ q. p.y ≤ℤ q.y) (λ q. order q.y p.y) ss)
+    (either (λ q. p.x <ℤ q.x) (λ q. q.x ≤ℤ p.x) (λ q. below_or_not_ℤ p.x q.x) ss)
+    (either (λ q. q.x <ℤ p.x) (λ q. p.x ≤ℤ q.x) (λ q. below_or_not_ℤ q.x p.x) ss)
+    (either (λ q. p.y <ℤ q.y) (λ q. q.y ≤ℤ p.y) (λ q. below_or_not_ℤ p.y q.y) ss)
+    (either (λ q. q.y <ℤ p.y) (λ q. p.y ≤ℤ q.y) (λ q. below_or_not_ℤ q.y p.y) ss)
   where
     by : All (HasAll (λ q. p.x <ℤ q.x)) ss ⊎ HaveAny (λ q. q.x ≤ℤ p.x) ss
         → All (HasAll (λ q. q.x <ℤ p.x)) ss ⊎ HaveAny (λ q. p.x ≤ℤ q.x) ss

@@ -76,7 +76,8 @@ impl Bounds {
             return None;
         }
         let mut bounds = Bounds::around(pieces[0].a);
-        for piece in pieces {
+        // The box is that of the pieces so far.
+        'pieces: for piece in pieces {
             bounds = bounds.with_piece(piece);
         }
         Some(bounds)
@@ -88,7 +89,8 @@ impl Bounds {
         ensures { Grows self result (λ P. HavePoint P points.now) }
     {
         let mut bounds = self;
-        for p in points {
+        // The box is that of `self` and the points so far.
+        'points: for p in points {
             bounds = bounds.with_point(doubled(p));
         }
         bounds
@@ -116,7 +118,8 @@ impl Bounds {
     {
         let mut bounds = None;
         let mut start = 0;
-        for end in &outline.ends {
+        // The box is that of the contours so far, and the next one begins at `start`.
+        'contours: for end in &outline.ends {
             let next = usize::from(*end) + 1;
             bounds = Bounds::with_contour(bounds, contour(&outline.points, start, next));
             start = next;

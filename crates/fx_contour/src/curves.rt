@@ -33,18 +33,16 @@ fn is_within(z: F26) -> bool
     -FARTHEST <= z.0 && z.0 <= FARTHEST
 }
 
-/// Whether a point is within the limit.
-fn is_in_reach(p: &OutlinePoint) -> bool
-    ensures { IsTrue result ↔ IsInReach p.now }
-{
-    is_within(p.x) && is_within(p.y)
-}
-
 /// Whether all points are within the limit.
 pub(crate) fn are_in_reach(points: &[OutlinePoint]) -> bool
     ensures { IsTrue result ↔ All IsInReach points.now }
 {
-    points.iter().all(|p| is_in_reach(p))
+    let mut near = true;
+    // Whether the points so far are within the limit. No early exit: so several points are tested at a time.
+    'points: for p in points {
+        near &= is_within(p.x) & is_within(p.y);
+    }
+    near
 }
 
 /// A coordinate in 1/128 pixel.
@@ -174,7 +172,8 @@ fn add_contour(made: &mut Pieces, points: &[OutlinePoint]) -> Result<(), AllocEr
     let first = &points[0];
     let mut before = &points[points.len() - 1];
     let mut from = joint(before, first);
-    for i in 0..points.len() {
+    // The pieces of the points before i were added; the curve has come to `from`, between `before` and the point i.
+    'points: for i in 0..points.len() {
         let here = &points[i];
         let step = step_at(before, here, next_point(points, i, first), from);
         push_some(made, step.piece)?;
@@ -193,8 +192,26 @@ pub(crate) fn contour(points: &[OutlinePoint], start: usize, next: usize) -> &[O
     &points[start..next]
 }
 
-/// The pieces of an outline, in 1/128 pixel: those of each contour, a closed chain, one contour after the other. A contour of
-/// fewer than two points has none. `TooFar` if a point, of any contour, lies more than `FARTHEST` from an axis.
+/// The pieces of an outline whose points are all within the limit, in 1/128 pixel: those of each contour, a closed chain, one
+/// contour after the other. A contour of fewer than two points has none.
+pub fn pieces_in_reach(alloc: Global, outline: &Outline) -> Result<Pieces, AllocError>
+    requires reach { All IsInReach outline.now.points.items }
+    ensures ok { IfOk result (λ ps. map span_of ps ≡ spans_of outline.now.ends.items outline.now.points.items) }
+    ensures closed { IfOk result (λ ps. AreOfOutline (map span_of ps)) }
+{
+    let mut made = Pieces::with_capacity(alloc, outline.points.len())?;
+    let mut start = 0;
+    // The pieces of the contours so far were added, and the next one begins at `start`.
+    'contours: for end in &outline.ends {
+        let next = usize::from(*end) + 1;
+        add_contour(&mut made, contour(&outline.points, start, next))?;
+        start = next;
+    }
+    Ok(made)
+}
+
+/// The pieces of an outline, as `pieces_in_reach` returns them. `TooFar` if a point, of any contour, lies more than `FARTHEST`
+/// from an axis.
 pub fn pieces(alloc: Global, outline: &Outline) -> Result<Pieces, ContourFault>
     ensures ok { IfOk result (λ ps. map span_of ps ≡ spans_of outline.now.ends.items outline.now.points.items) }
     ensures closed { IfOk result (λ ps. AreOfOutline (map span_of ps)) }
@@ -205,12 +222,5 @@ pub fn pieces(alloc: Global, outline: &Outline) -> Result<Pieces, ContourFault>
     if !are_in_reach(&outline.points) {
         return Err(ContourFault::TooFar);
     }
-    let mut made = Pieces::with_capacity(alloc, outline.points.len())?;
-    let mut start = 0;
-    for end in &outline.ends {
-        let next = usize::from(*end) + 1;
-        add_contour(&mut made, contour(&outline.points, start, next))?;
-        start = next;
-    }
-    Ok(made)
+    Ok(pieces_in_reach(alloc, outline)?)
 }

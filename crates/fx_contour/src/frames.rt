@@ -1,10 +1,10 @@
 //! The box of pixels around pieces.
 
-ghost use Rattle.std.specs.Prelude.{◌≡◌, ◌↔◌, List, map, IfOk, IfErr, IsErrOf};
+ghost use Rattle.std.specs.Prelude.{◌≡◌, ◌↔◌, List, map, All, IfOk, IfErr, IsErrOf};
 ghost use Rattle.fx_fixed.specs.Chain.{map_ok};
 ghost use Rattle.fx_winding.specs.Winding.{Span, span_of};
 ghost use Rattle.fx_contour.specs.Bounds.{AreBoundsOf};
-ghost use Rattle.fx_contour.specs.Contours.{spans_of};
+ghost use Rattle.fx_contour.specs.Contours.{spans_of, IsInReach};
 ghost use Rattle.fx_contour.specs.Frames.{IsFrameFor, AreTooLarge, NothingOutsideFrame, framed_of, outline_framed_of};
 
 use crate::bounds::Bounds;
@@ -32,6 +32,7 @@ pub fn outline_frame(outline: &Outline) -> Result<Option<Frame>, ContourFault>
     ensures exact { map_ok (λ _. tt) result ≡ outline_framed_of outline.now.ends.items outline.now.points.items }
     ensures ok { IfOk result (λ f. IsFrameFor f (spans_of outline.now.ends.items outline.now.points.items)) }
     ensures outside { IfOk result (λ f. NothingOutsideFrame f (spans_of outline.now.ends.items outline.now.points.items)) }
+    ensures reach { IfOk result (λ _. All IsInReach outline.now.points.items) }
 {
     if !are_in_reach(&outline.points) {
         return Err(ContourFault::TooFar);

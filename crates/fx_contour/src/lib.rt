@@ -12,7 +12,7 @@ mod frames;
 pub mod laws;
 mod pixels;
 
-pub use curves::pieces;
+pub use curves::{pieces, pieces_in_reach};
 pub use fault::ContourFault;
 pub use frames::{frame, outline_frame};
 

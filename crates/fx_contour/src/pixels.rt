@@ -1,7 +1,10 @@
 //! Pixels of a row or a column.
+
 ghost use Rattle.std.specs.Prelude.{pos, ◌+ℤ◌, ◌≤ℤ◌, ◌<◌, ◌^◌, MatchOption};
 ghost use Rattle.fx_fixed.specs.Ranges.{IsWithin};
 ghost use Rattle.fx_winding.specs.Limits.{IsPixelNumber, end_of_pixels};
+
+use fx_winding::first_from;
 
 /// `count` pixels in a row or a column, from the first on.
 #[derive(Clone, Copy)]
@@ -16,21 +19,20 @@ pub(crate) struct Pixels {
 impl Pixels {
     ghost use Rattle.fx_contour.specs.Bounds.{AreNoPixels, ArePixels};
 
-    /// The pixels whose centres lie from `low` to `high`, in 1/128 pixel: the centre of pixel n lies at 128n + 64. Sums are
-    /// moved by 32,768 pixels, so that none is below 0.
+    /// The pixels whose centres lie from `low` to `high`, in 1/128 pixel.
     pub(crate) fn between(low: i32, high: i32) -> Option<Pixels>
         requires near_low { IsWithin (2 ^ 22) low }
         requires near_high { IsWithin (2 ^ 22) high }
         ensures { MatchOption result (AreNoPixels low high) (λ s. ArePixels s low high) }
     {
-        let first = (low + 4_194_367) as u32 / 128;
-        let end = (high + 4_194_368) as u32 / 128;
+        let first = first_from(low);
+        let end = first_from(high + 1);
         if end <= first {
             return None;
         }
         Some(Pixels {
-            first: first as i32 - 32768,
-            count: end - first,
+            first,
+            count: (end - first) as u32,
         })
     }
 }

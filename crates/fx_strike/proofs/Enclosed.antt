@@ -7,13 +7,11 @@ use Rattle.std.specs.List.{list_all}
 use Rattle.std.specs.Int.{int_min, int_max}
 use Rattle.std.proofs.lemmas.Bool.{eqb-true}
 use Rattle.std.proofs.lemmas.Int.{int_min_is, int_max_is}
-use Rattle.fx_fixed.specs.Chain.{map_fault}
 use Rattle.fx_fixed.proofs.Linear.{signed_linear}
-use Rattle.fx_fixed.proofs.Chain.{refuse_ok, map_fault_ok, same_Ok}
+use Rattle.fx_fixed.proofs.Chain.{refuse_ok}
 use Rattle.fx_winding.specs.Winding.{Span}
 use Rattle.fx_winding.specs.Frames.{steps}
 use Rattle.fx_hint.specs.declared.points.OutlinePoint.{OutlinePoint}
-use Rattle.fx_contour.specs.declared.fault.ContourFault.{ContourFault}
 use Rattle.fx_contour.specs.declared.fault.ContourFault.TheVariants.{TooFar}
 use Rattle.fx_contour.specs.Contours.{is_in_reach, spans_of, drawn_of}
 use Rattle.fx_contour.specs.Frames.{IsInside, NothingOutsideFrame}
@@ -24,14 +22,13 @@ use Rattle.fx_strike.specs.declared.refusal.Refusal.{Refusal}
 use Rattle.fx_strike.specs.declared.refusal.Refusal.TheVariants.{OutOfMemory}
 use Rattle.fx_strike.specs.declared.sketched.Sketched.{Sketched}
 use Rattle.fx_strike.specs.declared.seen.Seen.{Seen}
-use Rattle.fx_strike.specs.Faults.{Fails, of_contour}
+use Rattle.fx_strike.specs.Faults.{Fails}
 use Rattle.fx_strike.specs.Strike.{Sketch, IsGlyphOf}
 use Rattle.fx_strike.specs.Headline.{counted}
 use Rattle.fx_strike.specs.inner.Drawing.{are_among, IsSketchedOf}
 use Rattle.fx_strike.specs.inner.Surveying.{Adds, Joins, Has, SeesOne}
 use Rattle.fx_strike.proofs.Near.{are_drawn, not_large}
 use Rattle.fx_strike.proofs.Existing.{glyph_of_spans}
-use Rattle.fx_strike.proofs.Lines.{only_memory}
 
 -- ---- a box that holds the bits of another
 
@@ -131,21 +128,11 @@ unfolding drawn_of
 spans_drawn ends points ss h =
     let p = refuse_ok (not (list_all is_in_reach points)) TooFar (λ _. Ok (spans_of ends points)) ss h in cc (p.1)
 
--- and of its pieces
-pub pieces_drawn : (sketch : Sketch) (made : Sketched) (glyph : ℕ) (ss : List Span) → IsSketchedOf sketch made
-    → map_fault (of_contour glyph) (drawn_of made.outline.ends.items made.outline.points.items) ≡ Ok ss → sketch.spans ≡ ss
-pieces_drawn sketch made glyph ss is h =
-    let drawn : Result (List Span) ContourFault = drawn_of made.outline.ends.items made.outline.points.items in
-    same_Ok sketch.spans ss is.spans (map_fault_ok (of_contour glyph) drawn ss h)
-
-pub outside_drawn : (made : Sketched) (glyph : ℕ) (ss : List Span)
-    → NothingOutsideFrame made.frame (spans_of made.outline.ends.items made.outline.points.items)
-    → map_fault (of_contour glyph) (drawn_of made.outline.ends.items made.outline.points.items) ≡ Ok ss
-    → NothingOutsideFrame made.frame ss
-outside_drawn made glyph ss outside h =
-    let drawn : Result (List Span) ContourFault = drawn_of made.outline.ends.items made.outline.points.items in
-    let N : List Span → Type 0 = λ xs. NothingOutsideFrame made.frame xs in
-    subst N (spans_drawn made.outline.ends.items made.outline.points.items ss (map_fault_ok (of_contour glyph) drawn ss h)) outside
+-- and of a sketch
+pub sketch_spans : (sketch : Sketch) (made : Sketched) (ss : List Span) → IsSketchedOf sketch made
+    → ss ≡ spans_of made.outline.ends.items made.outline.points.items → sketch.spans ≡ ss
+sketch_spans sketch made ss is e =
+    sym (e ∙ spans_drawn made.outline.ends.items made.outline.points.items sketch.spans is.spans)
 
 pub skipped : (sketch : Sketch) (made : Sketched) (box : Box)
     → NothingOutsideFrame made.frame (spans_of made.outline.ends.items made.outline.points.items)
@@ -173,12 +160,6 @@ pub joins_refused : (sketch : Sketch) (box : Box) (r : Result Box Refusal) (e d 
     → Joins sketch box r
 joins_refused sketch box r e d p q m =
     let P : Result Box Refusal → Type 0 = λ s. Joins sketch box s in subst P (sym (p ∙ ap Err (q ∙ m))) refl
-
-pub only_memory_drawn : (sketch : Sketch) (made : Sketched) (glyph : ℕ) (d : Refusal) → IsSketchedOf sketch made
-    → Fails d (map_fault (of_contour glyph) (drawn_of made.outline.ends.items made.outline.points.items)) → d ≡ OutOfMemory
-only_memory_drawn sketch made glyph d is f =
-    only_memory d (map_fault (of_contour glyph) (drawn_of made.outline.ends.items made.outline.points.items)) sketch.spans
-    (ap (map_fault (of_contour glyph)) is.spans) f
 
 -- a character that was not seen
 pub sees_one_err : (due : Result Sketch Refusal) (old new : Seen) (r : Result (Unit {0}) Refusal) (e d : Refusal) → r ≡ Err e

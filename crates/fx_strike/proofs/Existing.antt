@@ -19,7 +19,8 @@ use Rattle.fx_winding.specs.Limits.{greatest_side}
 use Rattle.fx_winding.specs.Winding.{Span, centre}
 use Rattle.fx_contour.specs.Contours.{drawn_of}
 use Rattle.fx_contour.specs.Frames.{IsInBoundingBox, AreTooLarge, framed_of}
-use Rattle.fx_contour.proofs.Outside.{order, in_box}
+use Rattle.fx_fixed.proofs.Order.{below_or_not_ℤ}
+use Rattle.fx_contour.proofs.Outside.{in_box}
 use Rattle.fx_bdf.specs.Glyphs.{Glyph, glyph_bit}
 use Rattle.fx_strike.specs.declared.refusal.Refusal.{Refusal}
 use Rattle.fx_strike.specs.Faults.{of_font, of_hint, of_contour}
@@ -67,7 +68,7 @@ down_from x a b h k = omega (arith, signed, h, k)
 
 not_wide : (ss : List Span) → (AreTooLarge ss → ⊥) → (col row col2 row2 : ℤ) → IsInBoundingBox (centre col row) ss
     → IsInBoundingBox (centre col2 row2) ss → col2 <ℤ (col +ℤ pos greatest_side)
-not_wide ss small col row col2 row2 h k = elim (order col2 (col +ℤ pos greatest_side)) [
+not_wide ss small col row col2 row2 h k = elim (below_or_not_ℤ col2 (col +ℤ pos greatest_side)) [
   | inl l ↦ l
   | inr far ↦ absurd (small (
     col,
@@ -86,7 +87,7 @@ not_wide ss small col row col2 row2 h k = elim (order col2 (col +ℤ pos greates
 
 not_high : (ss : List Span) → (AreTooLarge ss → ⊥) → (col row col2 row2 : ℤ) → IsInBoundingBox (centre col row) ss
     → IsInBoundingBox (centre col2 row2) ss → row2 <ℤ (row +ℤ pos greatest_side)
-not_high ss small col row col2 row2 h k = elim (order row2 (row +ℤ pos greatest_side)) [
+not_high ss small col row col2 row2 h k = elim (below_or_not_ℤ row2 (row +ℤ pos greatest_side)) [
   | inl l ↦ l
   | inr far ↦ absurd (small (
     col,

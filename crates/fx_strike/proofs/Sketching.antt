@@ -104,25 +104,12 @@ sketched_whole hinting face ppem code glyph made ss swidth h1 h2 h3 h4 s =
 pub memory_fails : {Y : Type 0} (d : Refusal) (due : Result Y Refusal) → d ≡ OutOfMemory → Fails d due
 memory_fails d due m = let P : Refusal → Type 0 = λ e. Fails e due in subst P (sym m) tt
 
--- and so is the glyph with its bits, if memory is not out
-pub drawn_whole : (hinting : Hinting) (face : Face) (ppem code glyph : ℕ) (made : Sketched) (ss : List Span) (swidth : ℤ)
-    (r : Result Glyph Refusal)
-    → map_fault of_hint (outline_with hinting face ppem glyph) ≡ Ok (view_of_outline made.outline)
-    → map_fault (of_contour glyph) (drawn_of made.outline.ends.items made.outline.points.items) ≡ Ok ss
-    → map_fault (of_contour glyph) (framed_of ss) ≡ Ok tt
-    → Ok swidth ≡ map_ok (λ (m : Metrics). thousandths m.advance_width face.head.units_per_em)
-    (map_fault of_font (metrics_of face glyph))
-    → made.swidth ≡ swidth
-    → IfOk r (λ g. (sketch : Sketch) → IsSketchedOf sketch made → sketch.code ≡ code → sketch.spans ≡ ss → IsGlyphOf sketch g)
-    → IfErr r (λ e. e ≡ OutOfMemory)
-    → Draws (glyph_sketch_of hinting face ppem code glyph) r
-drawn_whole hinting face ppem code glyph made ss swidth (Ok g) h1 h2 h3 h4 s of m =
-    let w = sketched_whole hinting face ppem code glyph made ss swidth h1
-    (map_fault_ok (of_contour glyph) (drawn_of made.outline.ends.items made.outline.points.items) ss h2)
-    (map_fault_ok (of_contour glyph) (framed_of ss) tt h3) h4 s in
-    (sketch_by face code made ss w.0, w.1, of (sketch_by face code made ss w.0) w.2 refl refl)
-drawn_whole hinting face ppem code glyph made ss swidth (Err e) h1 h2 h3 h4 s of m =
-    memory_fails e (glyph_sketch_of hinting face ppem code glyph) m
+-- the glyph of a sketch with its bits, if memory is not out
+pub drawn_whole : (due : Result Sketch Refusal) (sketch : Sketch) (made : Sketched) (code : ℕ) (r : Result Glyph Refusal)
+    → due ≡ Ok sketch → IsSketchedOf sketch made → sketch.code ≡ code
+    → IfOk r (λ g. (s : Sketch) → IsSketchedOf s made → s.code ≡ code → IsGlyphOf s g) → IfErr r (λ e. e ≡ OutOfMemory) → Draws due r
+drawn_whole due sketch made code (Ok g) h is e of m = (sketch, h, of sketch is e)
+drawn_whole due sketch made code (Err e) h is k of m = memory_fails e due m
 
 -- the same where the checks of the spans and of the frame are one
 pub sketched_framed : (hinting : Hinting) (face : Face) (ppem code glyph : ℕ) (made : Sketched) (swidth : ℤ)

@@ -1,15 +1,15 @@
 //! The first pass over the characters: a survey of the strike.
-ghost use Rattle.std.specs.Prelude.{◌≡◌, ◌<◌, ◌≤◌, unsigned_abs, length};
+ghost use Rattle.std.specs.Prelude.{◌≡◌, ◌<◌, ◌≤◌, All, unsigned_abs, length};
 ghost use Rattle.fx_strike.specs.Limits.{max_characters};
 ghost use Rattle.fx_strike.specs.Characters.{rising};
-ghost use Rattle.fx_contour.specs.Contours.{spans_of};
+ghost use Rattle.fx_contour.specs.Contours.{IsInReach, spans_of};
 ghost use Rattle.fx_contour.specs.Frames.{NothingOutsideFrame};
 ghost use Rattle.fx_bdf.specs.Glyphs.{IsPlaced};
 ghost use Rattle.fx_strike.specs.Strike.{Sketch, pixels, glyph_sketch_of, plan_after};
 ghost use Rattle.fx_strike.specs.inner.Drawing.{IsSketchedOf};
 ghost use Rattle.fx_strike.specs.inner.Surveying.{Joins, SeesOne, Sees, Surveys, seen_prelude, survey_from};
 
-use crate::draw::{glyph_of, pieces_at};
+use crate::draw::glyph_of;
 use crate::opened::Opened;
 use crate::refusal::Refusal;
 use crate::request::{Request, Survey};
@@ -31,10 +31,10 @@ fn bounds_with<S: Scan>(
     scan: &S,
     bounds: Bounds,
     code: u32,
-    glyph: u16,
     sketched: &Sketched,
 ) -> Result<Bounds, Refusal>
     requires placed { IsPlaced bounds }
+    requires reach { All IsInReach sketched.now.outline.points.items }
     requires outside { NothingOutsideFrame sketched.now.frame
         (spans_of sketched.now.outline.ends.items sketched.now.outline.points.items) }
     ensures { (sketch : Sketch) → IsSketchedOf sketch sketched.now → sketch.code ≡ code → Joins sketch bounds result }
@@ -42,8 +42,7 @@ fn bounds_with<S: Scan>(
     if lies_in(sketched.frame, bounds) {
         return Ok(bounds);
     }
-    let pieces = pieces_at(alloc, &sketched.outline, glyph)?;
-    let glyph = glyph_of(alloc, scan, code, sketched, &pieces)?;
+    let glyph = glyph_of(alloc, scan, code, sketched)?;
     Ok(bounds.joined(glyph.bounds()))
 }
 
@@ -64,7 +63,7 @@ fn see_one<S: Scan, H: Hinter>(
         seen.old seen.new result }
 {
     let sketched = sketch_at(alloc, hinter, &opened.font, opened.ppem, glyph)?;
-    let bounds = bounds_with(alloc, scan, seen.bounds, code, glyph, &sketched)?;
+    let bounds = bounds_with(alloc, scan, seen.bounds, code, &sketched)?;
     seen.add(bounds, &sketched.outline);
     Ok(())
 }

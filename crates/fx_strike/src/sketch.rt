@@ -1,9 +1,9 @@
 //! From a glyph's number to its outline, its frame and its advance.
-ghost use Rattle.std.specs.Prelude.{◌≡◌, ℕ, IfOk};
+ghost use Rattle.std.specs.Prelude.{◌≡◌, ℕ, All, IfOk};
 ghost use Rattle.fx_fixed.specs.Chain.{map_ok, map_fault, GivesUnless};
 ghost use Rattle.fx_sfnt.specs.Glyphs.{metrics_of};
 ghost use Rattle.fx_hint.specs.Outlines.{view_of_outline, outline_with};
-ghost use Rattle.fx_contour.specs.Contours.{spans_of};
+ghost use Rattle.fx_contour.specs.Contours.{IsInReach, spans_of};
 ghost use Rattle.fx_contour.specs.Frames.{IsFrameFor, NothingOutsideFrame, outline_framed_of};
 ghost use Rattle.fx_strike.specs.Faults.{Fails, of_font, of_hint, of_contour};
 ghost use Rattle.fx_strike.specs.Strike.{thousandths, glyph_sketch_of};
@@ -20,7 +20,7 @@ use fx_winding::Frame;
 use std::alloc::Global;
 
 /// The outline of a glyph, scaled and hinted.
-pub(crate) fn outline_at<H: Hinter>(
+fn outline_at<H: Hinter>(
     alloc: Global,
     hinter: &mut H,
     font: &Font<'_>,
@@ -40,6 +40,7 @@ fn frame_of_outline(outline: &Outline, glyph: u16) -> Result<Option<Frame>, Refu
         (outline_framed_of outline.now.ends.items outline.now.points.items)) }
     ensures frame { IfOk result (λ f. IsFrameFor f (spans_of outline.now.ends.items outline.now.points.items)) }
     ensures outside { IfOk result (λ f. NothingOutsideFrame f (spans_of outline.now.ends.items outline.now.points.items)) }
+    ensures reach { IfOk result (λ _. All IsInReach outline.now.points.items) }
 {
     match outline_frame(outline) {
         Ok(frame) => Ok(frame),
@@ -48,7 +49,7 @@ fn frame_of_outline(outline: &Outline, glyph: u16) -> Result<Option<Frame>, Refu
 }
 
 /// The advance of a glyph in 1/1000 of an em.
-pub(crate) fn thousandths_at(font: &Font<'_>, glyph: u16) -> Result<i32, Refusal>
+fn thousandths_at(font: &Font<'_>, glyph: u16) -> Result<i32, Refusal>
     ensures { result ≡ map_ok (λ m. thousandths m.advance_width font.now.head.units_per_em)
         (map_fault of_font (metrics_of font.now glyph)) }
 {
@@ -70,6 +71,7 @@ pub(crate) fn sketch_at<H: Hinter>(
     ensures sketch { (code : ℕ) → Sketches (glyph_sketch_of (H.hinting hinter.old) font.now ppem code glyph) result }
     ensures frame { IfOk result (λ s. IsFrameFor s.frame (spans_of s.outline.ends.items s.outline.points.items)) }
     ensures outside { IfOk result (λ s. NothingOutsideFrame s.frame (spans_of s.outline.ends.items s.outline.points.items)) }
+    ensures reach { IfOk result (λ s. All IsInReach s.outline.points.items) }
 {
     let outline = outline_at(alloc, hinter, font, ppem, glyph)?;
     let frame = frame_of_outline(&outline, glyph)?;

@@ -1,19 +1,22 @@
-use Rattle.std.proofs.Common.{ℕ, ◌*◌, List, [], ◌∷◌, ◌++◌, ◌∙◌, ap, arith, length-take, take}
+use Rattle.std.proofs.Common.{[], ◌∷◌, arith}
 use Rattle.std.proofs.lemmas.Result.{err_from_is_err_and}
 use Rattle.fx_winding.specs.Bitmaps.{bits_in}
 use Rattle.fx_winding.proofs.Grid.{length-bits_in}
-use Rattle.fx_bdf.specs.Text.{row_digits}
-use Rattle.fx_bdf.proofs.RowDigits.{length-row_digits, digits_more, digits_all, digits_from}
-use Rattle.fx_bdf.proofs.Adding.{adds_then, adds_none, adds_text, adds_here, adds_out, adds_count}
+use Rattle.fx_bdf.proofs.RowDigits.{length-row_digits}
+use Rattle.fx_bdf.proofs.Adding.{adds_then, adds_none, adds_here, adds_out, adds_count}
 use Rattle.fx_bdf.proofs.rows.add_row.Goals as goal
+
+pub returns-in_err-add_digits : goal.returns-in_err-add_digits
+returns-in_err-add_digits g c =
+    let p = err_from_is_err_and c.from_residual.result c.from_residual.ensures.1 in
+    adds_out (adds_none (10 ∷ []) c.in_err-add_digits.ensures) p.1 p.2
 
 pub free-requires-clause-fits : goal.free-requires-clause-fits
 free-requires-clause-fits g c =
     let row = bits_in c.args.width c.args.words.now in
     omega (
       arith,
-      adds_count c.words.invariant,
-      length-take (8 * c.words.k) (row_digits row),
+      adds_count c.in_ok-add_digits.ensures,
       length-row_digits row,
       length-bits_in c.args.width c.args.words.now,
       c.requires.wide,
@@ -22,40 +25,10 @@ free-requires-clause-fits g c =
 
 pub returns-in_err-free : goal.returns-in_err-free
 returns-in_err-free g c =
-    let p = err_from_is_err_and c.from_residual.result c.from_residual.ensures.1 in
-    adds_out (adds_text (digits_from (8 * c.words.k) (row_digits (bits_in c.args.width c.args.words.now)))
-    (adds_then c.words.invariant (adds_none _ c.in_err-free.ensures.adds))) p.1 p.2
-
-pub words-preserved : goal.words-preserved
-words-preserved g c =
-    let all = row_digits (bits_in c.args.width c.args.words.now) in
-    let text = ap (λ (t : List ℕ). take (8 * c.words.k) all ++ take c.min.result t) c.word_digits.ensures
-    ∙ digits_more c.args.width c.args.words.now c.words.k c.min.result c.requires.words c.words-test.true c.min.ensures in
-    adds_text text (adds_then c.words.invariant (adds_then c.in_ok-free.ensures.adds
-    (adds_here c.add_front.ensures.waiting c.add_front.ensures.done)))
-
-pub free-requires-2-clause-fits : goal.free-requires-2-clause-fits
-free-requires-2-clause-fits g c =
-    let row = bits_in c.args.width c.args.words.now in
-    omega (
-      arith,
-      adds_count c.words.invariant,
-      length-take (8 * c.words.k) (row_digits row),
-      length-row_digits row,
-      length-bits_in c.args.width c.args.words.now,
-      c.requires.wide,
-      c.requires.fits,
-    )
-
-pub returns-in_err-free-2 : goal.returns-in_err-free-2
-returns-in_err-free-2 g c =
-    let p = err_from_is_err_and c.from_residual-in_err-free-2.result c.from_residual-in_err-free-2.ensures.1 in
-    adds_out (adds_text (digits_from (8 * c.words.k) (row_digits (bits_in c.args.width c.args.words.now)))
-    (adds_then c.words.invariant (adds_none _ c.in_err-free-2.ensures.adds))) p.1 p.2
+    let p = err_from_is_err_and c.from_residual-in_err-free.result c.from_residual-in_err-free.ensures.1 in
+    adds_out (adds_then c.in_ok-add_digits.ensures (adds_none (10 ∷ []) c.in_err-free.ensures.adds)) p.1 p.2
 
 pub returns : goal.returns
 returns g c =
-    let text = ap (λ (t : List ℕ). t ++ 10 ∷ []) (digits_all c.args.width c.args.words.now c.words.k c.requires.words
-    c.words-test.false) in
-    adds_text text (adds_then c.words.invariant (adds_then c.in_ok-free-2.ensures.adds
-    (adds_here c.add.ensures.waiting c.add.ensures.done)))
+    adds_then c.in_ok-add_digits.ensures (adds_then c.in_ok-free.ensures.adds
+    (adds_here c.add.ensures.waiting c.add.ensures.done))

@@ -4,8 +4,8 @@ use Rattle.fx_contour.specs.Curve.{joint_of}
 use Rattle.fx_contour.proofs.Walk.{walk_init, walk_more, first_is, next_near, item_near}
 use Rattle.fx_contour.proofs.curves.add_contour.Goals as goal
 
-pub loop-i-init : goal.loop-i-init
-loop-i-init c = record {
+pub points-init : goal.points-init
+points-init c = record {
   walked = walk_init c.args.made.now c.args.points.now (length c.args.points.now - 1)
       c.index-points-points.result c.index-points-0.result _ _
       c.requires.near (omega arith) (omega arith) c.index-points-0.is c.index-points-points.is;
@@ -13,17 +13,17 @@ loop-i-init c = record {
       (first_is c.args.points.now c.index-points-0.result c.index-points-0.result _ (omega arith) c.index-points-0.is);
 }
 
-pub loop-i-preserved : goal.loop-i-preserved
-loop-i-preserved c = record {
-  walked = walk_more c.loop-i.made c.push_some.new.made c.args.made.now c.args.points.now c.loop-i.i c.loop-i.before.now
+pub points-preserved : goal.points-preserved
+points-preserved c = record {
+  walked = walk_more c.points.made c.push_some.new.made c.args.made.now c.args.points.now c.points.i c.points.before.now
       c.index-points-i.result c.next_point.result.now c.index-points-0.result _ c.step_at-step.result.piece (omega arith)
       c.index-points-i.is c.next_point.ensures c.step_at-step.ensures.piece c.in_ok-push_some.ensures.ok
-      (item_near c.args.points.now c.loop-i.i c.index-points-i.result _ c.requires.near (omega arith) c.index-points-i.is)
-      c.loop-i.invariant.walked;
+      (item_near c.args.points.now c.points.i c.index-points-i.result _ c.requires.near (omega arith) c.index-points-i.is)
+      c.points.invariant.walked;
   from = c.step_at-step.ensures.to ∙ ap (λ (r : OutlinePoint). joint_of c.index-points-i.result r) c.next_point.ensures;
 }
 
 pub step_at-step-requires-clause-near_r : goal.step_at-step-requires-clause-near_r
 step_at-step-requires-clause-near_r c =
-    next_near c.args.points.now c.loop-i.i c.index-points-0.result c.next_point.result.now c.requires.near
+    next_near c.args.points.now c.points.i c.index-points-0.result c.next_point.result.now c.requires.near
     (item_near c.args.points.now 0 c.index-points-0.result _ c.requires.near (omega arith) c.index-points-0.is) c.next_point.ensures

@@ -1,50 +1,7 @@
-use Rattle.std.proofs.Common.{◌≡◌, ◌<◌, ◌≤◌, ◌+◌, ◌-◌, ◌++◌, ap, sym, ◌∙◌, subst, get_or, length, take, drop, map, arith, List}
-use Rattle.fx_hint.specs.declared.points.OutlinePoint.{OutlinePoint}
+use Rattle.std.proofs.Common.{map}
 use Rattle.fx_winding.specs.Winding.{span_of}
-use Rattle.fx_contour.specs.Curve.{curve_of}
-use Rattle.fx_contour.specs.Contours.{contours_from}
-use Rattle.fx_contour.proofs.Gather.{next_within, gather_more, gather_end}
 use Rattle.fx_contour.proofs.Decided.{drawn_near, drawn_far}
-use Rattle.fx_contour.proofs.Closed.{all_closed}
 use Rattle.fx_contour.proofs.curves.pieces.Goals as goal
-
-pub contour-requires : goal.contour-requires
-contour-requires c =
-    let o = c.args.outline.now in
-    let ends = c.deref-end-items.ensures.value in
-    let points = ap length c.deref-in-loop-end.ensures.value in
-    let inside : c.loop-end.end-index < length o.ends.items = (let e = ap length ends in omega arith) in
-    let w = next_within c.loop-end.start o.ends.items c.loop-end.end-index o.points.items c.from-next.result 0
-    c.loop-end.invariant.ends_left inside (c.from-next.ensures ∙ ap (λ xs. get_or xs c.loop-end.end-index 0) ends) in
-    record { order = w.0; within = omega (arith, w.1, points) }
-
-pub loop-end-preserved : goal.loop-end-preserved
-loop-end-preserved c =
-    let o = c.args.outline.now in
-    let start = c.loop-end.start in
-    let next = c.from-next.result + 1 in
-    let ends = c.deref-end-items.ensures.value in
-    let inside : c.loop-end.end-index < length o.ends.items = (let e = ap length ends in omega arith) in
-    let slice : c.contour.result.now ≡ take (next - start) (drop start o.points.items) =
-    c.contour.ensures ∙ ap (λ xs. take (next - start) (drop start xs)) c.deref-in-loop-end.ensures.value in
-    let P : List OutlinePoint → Type 0 = λ xs. map span_of c.add_contour.new.made ≡ map span_of c.loop-end.made ++ curve_of xs in
-    let Q : List OutlinePoint → Type 0 = λ xs. length c.add_contour.new.made ≤ length c.loop-end.made + length xs in
-    gather_more c.loop-end.made c.add_contour.new.made start o.ends.items c.loop-end.end-index o.points.items c.from-next.result 0
-    c.loop-end.invariant inside (c.from-next.ensures ∙ ap (λ xs. get_or xs c.loop-end.end-index 0) ends)
-    (subst P slice c.in_ok-add_contour.ensures.ok)
-    (subst Q slice c.in_ok-add_contour.ensures.few)
-
-pub returns-clause-closed : goal.returns-clause-closed
-returns-clause-closed c =
-    let o = c.args.outline.now in
-    let ends = ap length c.deref-end-items.ensures.value in
-    let contours = contours_from 0 o.ends.items o.points.items in (
-      map curve_of contours,
-      all_closed contours,
-      sym
-          (gather_end c.loop-end.made c.loop-end.start o.ends.items c.loop-end.end-index o.points.items c.loop-end.invariant
-          (omega arith)),
-    )
 
 pub returns-then-not-are_in_reach-clause-exact : goal.returns-then-not-are_in_reach-clause-exact
 returns-then-not-are_in_reach-clause-exact c =
@@ -55,8 +12,6 @@ returns-then-not-are_in_reach-clause-exact c =
 pub returns-clause-exact : goal.returns-clause-exact
 returns-clause-exact c =
     let o = c.args.outline.now in
-    let ends = ap length c.deref-end-items.ensures.value in
     drawn_near o.ends.items o.points.items c.deref.result.now c.are_in_reach.result
-    (map span_of c.loop-end.made) c.deref.ensures.value c.are_in_reach.ensures c.if-not-are_in_reach.false
-    (gather_end c.loop-end.made c.loop-end.start o.ends.items c.loop-end.end-index o.points.items c.loop-end.invariant
-    (omega arith))
+    (map span_of c.in_ok-pieces_in_reach.field-0) c.deref.ensures.value c.are_in_reach.ensures c.if-not-are_in_reach.false
+    c.in_ok-pieces_in_reach.ensures.ok

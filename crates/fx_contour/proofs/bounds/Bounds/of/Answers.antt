@@ -9,16 +9,16 @@ nonempty : (n : ℕ) (b : Bool) → b ≡ (n == 0) → b ≡ false → 0 < n
 nonempty zero b e f = absurd (cc)
 nonempty (suc n) b e f = omega arith
 
-pub loop-piece-init : goal.loop-piece-init
-loop-piece-init c =
+pub pieces-init : goal.pieces-init
+pieces-init c =
     let e = c.around-bounds.ensures in
     remains_first c.around-bounds.result c.args.pieces.now c.index-pieces-0.result
     (nonempty (length c.args.pieces.now) c.is_empty.result c.is_empty.ensures c.if-is_empty.false) e.left e.right e.bottom e.top
 
-pub loop-piece-preserved : goal.loop-piece-preserved
-loop-piece-preserved c =
-    remains_more c.loop-piece.bounds c.with_piece-bounds.result c.args.pieces.now c.loop-piece.piece-index c.piece-item.result
-    c.loop-piece-test.true c.piece-item.is c.loop-piece.invariant c.with_piece-bounds.ensures
+pub pieces-preserved : goal.pieces-preserved
+pieces-preserved c =
+    remains_more c.pieces.bounds c.with_piece-bounds.result c.args.pieces.now c.pieces.piece-index c.piece-item.result
+    c.pieces-test.true c.piece-item.is c.pieces.invariant c.with_piece-bounds.ensures
 
 pub returns-then-is_empty : goal.returns-then-is_empty
 returns-then-is_empty c =
@@ -26,5 +26,5 @@ returns-then-is_empty c =
 
 pub returns : goal.returns
 returns c =
-    some_of c.loop-piece.bounds (map span_of c.args.pieces.now)
-    (remains_end c.loop-piece.bounds c.args.pieces.now c.loop-piece.piece-index c.loop-piece-test.false c.loop-piece.invariant)
+    some_of c.pieces.bounds (map span_of c.args.pieces.now)
+    (remains_end c.pieces.bounds c.args.pieces.now c.pieces.piece-index c.pieces-test.false c.pieces.invariant)

@@ -12,29 +12,29 @@ contour-requires c =
     let o = c.args.outline.now in
     let ends = c.deref-end-items.ensures.value in
     let points = ap length c.deref.ensures.value in
-    let inside : c.loop-end.end-index < length o.ends.items = (let e = ap length ends in omega arith) in
-    let w = next_within c.loop-end.start o.ends.items c.loop-end.end-index o.points.items c.from-next.result 0
-    c.loop-end.invariant.ends_left inside (c.from-next.ensures ∙ ap (λ xs. get_or xs c.loop-end.end-index 0) ends) in
+    let inside : c.contours.end-index < length o.ends.items = (let e = ap length ends in omega arith) in
+    let w = next_within c.contours.start o.ends.items c.contours.end-index o.points.items c.from-next.result 0
+    c.contours.invariant.ends_left inside (c.from-next.ensures ∙ ap (λ xs. get_or xs c.contours.end-index 0) ends) in
     record { order = w.0; within = omega (arith, w.1, points) }
 
-pub loop-end-preserved : goal.loop-end-preserved
-loop-end-preserved c =
+pub contours-preserved : goal.contours-preserved
+contours-preserved c =
     let o = c.args.outline.now in
-    let start = c.loop-end.start in
+    let start = c.contours.start in
     let next = c.from-next.result + 1 in
     let ends = c.deref-end-items.ensures.value in
-    let inside : c.loop-end.end-index < length o.ends.items = (let e = ap length ends in omega arith) in
+    let inside : c.contours.end-index < length o.ends.items = (let e = ap length ends in omega arith) in
     let slice : c.contour.result.now ≡ take (next - start) (drop start o.points.items) =
     c.contour.ensures ∙ ap (λ xs. take (next - start) (drop start xs)) c.deref.ensures.value in
     let P : List OutlinePoint → Type 0 =
-    λ xs. HaveGrown c.loop-end.bounds c.with_contour-bounds.result (λ P. HaveAny P (curve_of xs)) in
-    enclosed_more c.loop-end.bounds c.with_contour-bounds.result start o.ends.items c.loop-end.end-index o.points.items
-    c.from-next.result 0 c.loop-end.invariant inside
-    (c.from-next.ensures ∙ ap (λ xs. get_or xs c.loop-end.end-index 0) ends) (subst P slice c.with_contour-bounds.ensures)
+    λ xs. HaveGrown c.contours.bounds c.with_contour-bounds.result (λ P. HaveAny P (curve_of xs)) in
+    enclosed_more c.contours.bounds c.with_contour-bounds.result start o.ends.items c.contours.end-index o.points.items
+    c.from-next.result 0 c.contours.invariant inside
+    (c.from-next.ensures ∙ ap (λ xs. get_or xs c.contours.end-index 0) ends) (subst P slice c.with_contour-bounds.ensures)
 
 pub returns : goal.returns
 returns c =
     let o = c.args.outline.now in
     let ends = ap length c.deref-end-items.ensures.value in
-    enclosed_end c.loop-end.bounds c.loop-end.start o.ends.items c.loop-end.end-index o.points.items c.loop-end.invariant
+    enclosed_end c.contours.bounds c.contours.start o.ends.items c.contours.end-index o.points.items c.contours.invariant
     (omega arith)

@@ -1,5 +1,5 @@
 use Rattle.fx_contour.proofs.Enclosing.{Enclosed}
 use Rattle.fx_contour.proofs.bounds.Bounds.of_outline.Given as goal
 
-abbrev pub invariant-loop-end : goal.invariant-loop-end
-invariant-loop-end l = Enclosed l.bounds l.start l.outline.ends.items l.end-index l.outline.points.items
+abbrev pub invariant-contours : goal.invariant-contours
+invariant-contours l = Enclosed l.bounds l.start l.outline.ends.items l.end-index l.outline.points.items

@@ -1,0 +1,8 @@
+use Rattle.std.proofs.Common.{◌≡◌, ◌+◌, ◌*◌, ◌++◌, take}
+use Rattle.std.specs.List.{flat_map}
+use Rattle.fx_bdf.specs.inner.Buffer.{word_text}
+use Rattle.fx_bdf.proofs.buffer.put_words.Given as goal
+
+-- the digits of the words so far were written
+abbrev pub invariant-words : goal.invariant-words
+invariant-words l = take (l.start + 8 * l.k) l.bytes ≡ take l.start l.fn.bytes ++ flat_map word_text (take l.k l.words)

@@ -1,5 +1,0 @@
-use Rattle.fx_contour.proofs.Gather.{Gathered}
-use Rattle.fx_contour.proofs.curves.pieces.Given as goal
-
-abbrev pub invariant-loop-end : goal.invariant-loop-end
-invariant-loop-end l = Gathered l.made l.start l.outline.ends.items l.end-index l.outline.points.items

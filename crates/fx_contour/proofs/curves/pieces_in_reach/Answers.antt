@@ -1,0 +1,52 @@
+use Rattle.std.proofs.Common.{◌≡◌, ◌<◌, ◌≤◌, ◌+◌, ◌-◌, ◌++◌, ap, sym, ◌∙◌, subst, get_or, length, take, drop, map, arith, List}
+use Rattle.fx_hint.specs.declared.points.OutlinePoint.{OutlinePoint}
+use Rattle.fx_winding.specs.Winding.{span_of}
+use Rattle.fx_contour.specs.Curve.{curve_of}
+use Rattle.fx_contour.specs.Contours.{contours_from}
+use Rattle.fx_contour.proofs.Gather.{next_within, gather_more, gather_end}
+use Rattle.fx_contour.proofs.Closed.{all_closed}
+use Rattle.fx_contour.proofs.curves.pieces_in_reach.Goals as goal
+
+pub contour-requires : goal.contour-requires
+contour-requires c =
+    let o = c.args.outline.now in
+    let ends = c.deref-end-items.ensures.value in
+    let points = ap length c.deref.ensures.value in
+    let inside : c.contours.end-index < length o.ends.items = (let e = ap length ends in omega arith) in
+    let w = next_within c.contours.start o.ends.items c.contours.end-index o.points.items c.from-next.result 0
+    c.contours.invariant.ends_left inside (c.from-next.ensures ∙ ap (λ xs. get_or xs c.contours.end-index 0) ends) in
+    record { order = w.0; within = omega (arith, w.1, points) }
+
+pub contours-preserved : goal.contours-preserved
+contours-preserved c =
+    let o = c.args.outline.now in
+    let start = c.contours.start in
+    let next = c.from-next.result + 1 in
+    let ends = c.deref-end-items.ensures.value in
+    let inside : c.contours.end-index < length o.ends.items = (let e = ap length ends in omega arith) in
+    let slice : c.contour.result.now ≡ take (next - start) (drop start o.points.items) =
+    c.contour.ensures ∙ ap (λ xs. take (next - start) (drop start xs)) c.deref.ensures.value in
+    let P : List OutlinePoint → Type 0 = λ xs. map span_of c.add_contour.new.made ≡ map span_of c.contours.made ++ curve_of xs in
+    let Q : List OutlinePoint → Type 0 = λ xs. length c.add_contour.new.made ≤ length c.contours.made + length xs in
+    gather_more c.contours.made c.add_contour.new.made start o.ends.items c.contours.end-index o.points.items c.from-next.result 0
+    c.contours.invariant inside (c.from-next.ensures ∙ ap (λ xs. get_or xs c.contours.end-index 0) ends)
+    (subst P slice c.in_ok-add_contour.ensures.ok)
+    (subst Q slice c.in_ok-add_contour.ensures.few)
+
+pub returns-clause-closed : goal.returns-clause-closed
+returns-clause-closed c =
+    let o = c.args.outline.now in
+    let ends = ap length c.deref-end-items.ensures.value in
+    let contours = contours_from 0 o.ends.items o.points.items in (
+      map curve_of contours,
+      all_closed contours,
+      sym
+          (gather_end c.contours.made c.contours.start o.ends.items c.contours.end-index o.points.items c.contours.invariant
+          (omega arith)),
+    )
+
+pub returns-clause-ok : goal.returns-clause-ok
+returns-clause-ok c =
+    let o = c.args.outline.now in
+    let ends = ap length c.deref-end-items.ensures.value in
+    gather_end c.contours.made c.contours.start o.ends.items c.contours.end-index o.points.items c.contours.invariant (omega arith)
