@@ -94,6 +94,10 @@ failed {old} {new} {faults_before} {after} {done} {was} {now} {text} {d} {e} {r}
 
 -- ---- several parts
 
+-- two parts one after the other
+pub then_more : {now new : List ℕ} (old a b : List ℕ) → now ≡ old ++ a → new ≡ now ++ b → new ≡ old ++ (a ++ b)
+then_more old a b e f = f ∙ ap (λ (t : List ℕ). t ++ b) e ∙ append_assoc old a b
+
 -- one part more
 pub parts_more : {X : Type 0} (f : X → List ℕ) (xs : List X) (i : ℕ) (d : X) → i < length xs
     → flat_map f (take i xs) ++ f (get_or xs i d) ≡ flat_map f (take (i + 1) xs)

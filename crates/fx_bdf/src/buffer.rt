@@ -2,11 +2,12 @@
 
 ghost use Rattle.std.specs.Prelude.{◌≡◌, ◌+◌, ◌++◌, ◌*◌, ◌<◌, ◌≤◌, ◌^◌, [], take, drop, length, IfOk};
 ghost use Rattle.std.specs.List.{flat_map};
+ghost use Rattle.std.specs.Fmt.{decimal, signed_decimal};
 ghost use Rattle.fx_fixed.specs.Wrote.{WrotePart};
 ghost use Rattle.fx_bdf.specs.inner.Buffer.{Adds, word_text};
 
 use crate::digits::word_digits;
-use fx_fixed::{Sink, WriteFailed, put_part};
+use fx_fixed::{Digits, Sink, WriteFailed, put_part};
 use std::marker::Model;
 
 /// How many bytes a buffer holds. It is filled with zeros once a glyph: below 2,048 bytes that takes a C library some dozens of
@@ -104,15 +105,26 @@ impl Buffer {
         self.used += piece.len();
     }
 
-    /// Adds several pieces that fit.
-    pub fn add_all(&mut self, pieces: &[&[u8]])
-        requires { length self.old.waiting + length (flat_map (λ p. p.now) pieces.now) ≤ CAPACITY }
-        ensures waiting { self.new.waiting ≡ self.old.waiting ++ flat_map (λ p. p.now) pieces.now }
+    /// Adds a piece and a number in decimal; the piece and 20 bytes have to fit.
+    pub fn add_unsigned(&mut self, piece: &[u8], number: u32)
+        requires { length self.old.waiting + length piece.now + 20 ≤ CAPACITY }
+        ensures waiting { self.new.waiting ≡ self.old.waiting ++ (piece.now ++ decimal number) }
+        ensures short { length (decimal number) ≤ 20 }
         ensures done { self.new.done ≡ self.old.done }
     {
-        'pieces: for piece in pieces {
-            self.add(piece);
-        }
+        self.add(piece);
+        self.add(Digits::unsigned(u64::from(number)).text());
+    }
+
+    /// The same with a signed number.
+    pub fn add_signed(&mut self, piece: &[u8], number: i32)
+        requires { length self.old.waiting + length piece.now + 20 ≤ CAPACITY }
+        ensures waiting { self.new.waiting ≡ self.old.waiting ++ (piece.now ++ signed_decimal number) }
+        ensures short { length (signed_decimal number) ≤ 20 }
+        ensures done { self.new.done ≡ self.old.done }
+    {
+        self.add(piece);
+        self.add(Digits::signed(number).text());
     }
 
     /// Adds the first `count` of the digits of words; all of their digits have to fit.
