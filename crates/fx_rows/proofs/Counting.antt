@@ -5,6 +5,7 @@ use Rattle.std.proofs.Common.{◌+ℤ◌, ◌-ℤ◌, ◌*ℤ◌, ◌≤ℤ◌, 
 use Rattle.std.proofs.lemmas.Int.{ints}
 use Rattle.fx_fixed.proofs.Linear.{signed_linear}
 use Rattle.fx_winding.specs.Area.{Place, area}
+use Rattle.fx_winding.specs.Winding.{IsOn}
 use Rattle.fx_winding.specs.Winding.{Span, sign, weight_b, region_part, chord_crossing, IsOnPart}
 use Rattle.fx_rows.specs.declared.strip.Strip.{Strip}
 use Rattle.fx_rows.specs.declared.cells.Cut.{Cut}
@@ -15,7 +16,13 @@ use Rattle.fx_rows.specs.inner.Sides.{place_at, side, IsAcross, IsEdge}
 use Rattle.fx_rows.specs.inner.Arcs.{gap, IsTurnedPart}
 use Rattle.fx_rows.specs.inner.Candidates.{IsOnStrip}
 use Rattle.fx_rows.specs.inner.Cuts.{IsInner, side_at, Counts, CountsAt, CountsFirst, IsLast, IsCut}
-use Rattle.fx_rows.proofs.Sides.{crossing_of_left, crossing_of_rest}
+use Rattle.fx_winding.proofs.Beside.{left_off, right_off}
+use Rattle.fx_winding.proofs.Crossings.{crossing_left, left_of_rising, left_of_falling, right_of_rising, right_of_falling}
+use Rattle.fx_rows.specs.inner.Points.{IsPointOf, AreAcross}
+use Rattle.fx_rows.specs.declared.part.OnRow.TheVariants.{None as Nowhere}
+use Rattle.fx_rows.proofs.Points.{to_all}
+use Rattle.fx_rows.proofs.Contacts.{none_on}
+use Rattle.fx_rows.proofs.Sides.{crossing_of_left, crossing_of_rest, counted_up, counted_down, sign_above, sign_below}
 use Rattle.fx_rows.proofs.Weights.{gap_w, gap_of_weights, above_from}
 use Rattle.fx_rows.proofs.Narrows.{rises, weight_right, weight_left, own_right, not_own_left}
 use Rattle.fx_rows.proofs.Regions.{no_region_beyond, no_region_below, region_of_gap, not_owned, on_from_gap, on_gap}
@@ -345,3 +352,51 @@ line_is_cut s strip cut flat inner e value on = record {
   within = e.within;
   on = on;
 }
+
+-- ---- for a piece whose box has no column's centre in it
+left_crossing : (a c p : Place) → IsInner a.y c.y p.y → p.x <ℤ a.x → p.x <ℤ c.x → chord_crossing a c p ≡ sign (c.y -ℤ a.y)
+left_crossing a c p (inl h) l m =
+    let low : a.y ≤ℤ p.y = omega (arith, signed_linear, h.0) in
+    counted_up a.y c.y p.y (area a c p) low h.1 (left_of_rising a.x a.y c.x c.y p.x p.y low h.1 l m)
+    ∙ sym (sign_above (c.y -ℤ a.y) (omega (arith, signed_linear, h.0, h.1)))
+left_crossing a c p (inr h) l m =
+    let low : c.y ≤ℤ p.y = omega (arith, signed_linear, h.0) in
+    counted_down a.y c.y p.y (area a c p) low h.1 (left_of_falling a.x a.y c.x c.y p.x p.y low h.1 l m)
+    ∙ sym (sign_below (c.y -ℤ a.y) (omega (arith, signed_linear, h.0, h.1)))
+
+right_crossing : (a c p : Place) → a.x <ℤ p.x → c.x <ℤ p.x → chord_crossing a c p ≡ pos 0
+right_crossing a c p l m = crossing_left a.y c.y p.y (area a c p)
+    (λ h k. right_of_rising a.x a.y c.x c.y p.x p.y h k l m)
+    (λ h k. right_of_falling a.x a.y c.x c.y p.x p.y h k l m)
+
+pub clear_is_cut : (s : Span) (strip : Strip) (cut : Cut) (first end : ℤ) → AreAcross s first end → end ≤ℤ first
+    → IsInner s.a.y s.c.y (pos 128 *ℤ strip.row +ℤ pos 64) → cut.end ≤ strip.stop
+    → ((k : ℕ) → k < cut.end → (strip.base +ℤ pos k) <ℤ first)
+    → ((k : ℕ) → cut.end ≤ k → k < strip.stop → first ≤ℤ (strip.base +ℤ pos k)) → cut.value ≡ sign (s.c.y -ℤ s.a.y)
+    → cut.on ≡ Nowhere → IsCut s strip cut
+clear_is_cut s strip cut first end h clear inner within before rest value none = record {
+  inside = λ k l m o off. first_only _ _ _
+      (left_crossing s.a s.c (place_at strip k) inner (left k o s.a (inl refl)) (left k o s.c (inr (inr refl))) ∙ sym value)
+      (left_off (place_at strip k) s (to_all (λ q. (place_at strip k).x <ℤ q.x) s (left k o))).0;
+  outside = λ k l m o off. both_zero _ _
+      (right_crossing s.a s.c (place_at strip k) (right k o m s.a (inl refl)) (right k o m s.c (inr (inr refl))))
+      (right_off (place_at strip k) s (to_all (λ q. q.x <ℤ (place_at strip k).x) s (right k o m))).0;
+  within = within;
+  on = subst (IsOnStrip s strip) (sym none) (none_on s strip (λ k l m. off k m (order k cut.end)));
+}
+  where
+    order : (x y : ℕ) → (x < y) ⊎ (y ≤ x)
+    order x y = grind arith
+
+    left : (k : ℕ) → k < cut.end → (q : Place) → IsPointOf q s → (place_at strip k).x <ℤ q.x
+    left k o q i = h.0 (strip.base +ℤ pos k) (before k o) q i
+
+    past : (k : ℕ) → cut.end ≤ k → k < strip.stop → end ≤ℤ (strip.base +ℤ pos k)
+    past k o m = let r = rest k o m in omega (arith, signed_linear)
+
+    right : (k : ℕ) → cut.end ≤ k → k < strip.stop → (q : Place) → IsPointOf q s → q.x <ℤ (place_at strip k).x
+    right k o m q i = h.1 (strip.base +ℤ pos k) (past k o m) q i
+
+    off : (k : ℕ) → k < strip.stop → (k < cut.end) ⊎ (cut.end ≤ k) → ¬ (IsOn (place_at strip k) s)
+    off k m (inl o) = (left_off (place_at strip k) s (to_all (λ q. (place_at strip k).x <ℤ q.x) s (left k o))).1
+    off k m (inr o) = (right_off (place_at strip k) s (to_all (λ q. q.x <ℤ (place_at strip k).x) s (right k o m))).1

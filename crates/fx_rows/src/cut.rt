@@ -10,11 +10,14 @@ ghost use Rattle.fx_rows.specs.inner.Runs.{gap_at};
 ghost use Rattle.fx_rows.specs.inner.Sides.{place_at};
 ghost use Rattle.fx_rows.specs.inner.Arcs.{AreAreas};
 ghost use Rattle.fx_rows.specs.inner.Candidates.{IsOnStrip};
+ghost use Rattle.fx_rows.specs.inner.Points.{AreAcross};
 ghost use Rattle.fx_rows.specs.inner.Cuts.{IsInner, side_at, CountsAt, CountsFirst, IsLast, IsCut, IsMaybeCut};
 
+use crate::across::Across;
 use crate::arc::{gaps_of, total_of};
 use crate::cells::Cut;
 use crate::chord::{edge_of, rise_sign, slope_of};
+use crate::narrow::columns_before;
 use crate::on::{on_edge, on_one};
 use crate::parabola::Gaps;
 use crate::part::OnRow;
@@ -139,12 +142,30 @@ fn line_cut(piece: &Piece, strip: Strip, areas: Weights, tally: &mut Tally) -> C
     }
 }
 
+/// What a piece adds whose box has no column's centre in it: the columns are left of all of it or right of all of it.
+fn clear_cut(piece: &Piece, across: Across, strip: Strip) -> Cut
+    requires across { AreAcross (span_of piece.now) across.first across.end }
+    requires clear { across.end ≤ℤ across.first }
+    requires inner { IsInner piece.now.a.y piece.now.c.y (pos 128 *ℤ strip.row +ℤ pos 64) }
+    ensures { IsCut (span_of piece.now) strip result }
+{
+    Cut {
+        end: columns_before(strip, across.first),
+        value: rise_sign(piece.a.y, piece.c.y),
+        on: OnRow::None,
+    }
+}
+
 /// What a piece adds, but of an arc on one line.
-pub(crate) fn cut_of(piece: &Piece, strip: Strip, guess: u32, tally: &mut Tally) -> Option<Cut>
+pub(crate) fn cut_of(piece: &Piece, across: Across, strip: Strip, tally: &mut Tally) -> Option<Cut>
+    requires across { AreAcross (span_of piece.now) across.first across.end }
     requires inner { IsInner piece.now.a.y piece.now.c.y (pos 128 *ℤ strip.row +ℤ pos 64) }
     ensures cut { IsMaybeCut (span_of piece.now) strip result }
     ensures count { tally.new.count ≤ tally.old.count + 2 }
 {
+    if across.end <= across.first {
+        return Some(clear_cut(piece, across, strip));
+    }
     let areas = areas_at(piece, strip, 0, tally);
     match piece.b {
         None => Some(line_cut(piece, strip, areas, tally)),
@@ -152,6 +173,7 @@ pub(crate) fn cut_of(piece: &Piece, strip: Strip, guess: u32, tally: &mut Tally)
             if total_of(areas) == 0 {
                 return None;
             }
+            let guess = columns_before(strip, across.first);
             Some(arc_cut(piece, b, strip, areas, guess, tally))
         }
     }

@@ -22,6 +22,7 @@ cut_of-requires c =
     let row : n ≡ c.strip_of-strip.result.row = sym (c.strip_of-strip.ensures.row ∙ nn) in
     let y' = y ∙ ap (λ (r : ℤ). pos 128 *ℤ r +ℤ pos 64) row in
     record {
+      across = c.args.bounded.now.between;
       inner = subst (λ z. z) (λ j. IsInner (aa j) (ee j) (y' j)) (c.is_inner.ensures.0 (yes c.is_inner.result c.if-is_inner.true));
     }
 
