@@ -15,10 +15,10 @@ use Rattle.fx_rows.specs.inner.Runs.{gap_at}
 use Rattle.fx_rows.specs.inner.Sides.{place_at, side, IsAcross, IsEdge}
 use Rattle.fx_rows.specs.inner.Arcs.{gap, IsTurnedPart}
 use Rattle.fx_rows.specs.inner.Candidates.{IsOnStrip}
-use Rattle.fx_rows.specs.inner.Cuts.{IsInner, side_at, Counts, CountsAt, CountsFirst, IsLast, IsCut}
+use Rattle.fx_rows.specs.inner.Cuts.{side_at, Counts, CountsAt, CountsFirst, IsLast, IsCut}
 use Rattle.fx_winding.proofs.Beside.{left_off, right_off}
 use Rattle.fx_winding.proofs.Crossings.{crossing_left, left_of_rising, left_of_falling, right_of_rising, right_of_falling}
-use Rattle.fx_rows.specs.inner.Points.{IsPointOf, AreAcross}
+use Rattle.fx_rows.specs.inner.Points.{IsPointOf, AreAcross, IsInner, IsRise}
 use Rattle.fx_rows.specs.declared.part.OnRow.TheVariants.{None as Nowhere}
 use Rattle.fx_rows.proofs.Points.{to_all}
 use Rattle.fx_rows.proofs.Contacts.{none_on}
@@ -400,3 +400,29 @@ clear_is_cut s strip cut first end h clear inner within before rest value none =
     off : (k : ℕ) → k < strip.stop → (k < cut.end) ⊎ (cut.end ≤ k) → ¬ (IsOn (place_at strip k) s)
     off k m (inl o) = (left_off (place_at strip k) s (to_all (λ q. (place_at strip k).x <ℤ q.x) s (left k o))).1
     off k m (inr o) = (right_off (place_at strip k) s (to_all (λ q. q.x <ℤ (place_at strip k).x) s (right k o m))).1
+
+-- ---- the heights of a chord's ends
+pub rise_inner : (s : Span) (foot head value y : ℤ) → IsRise s foot head value → foot <ℤ y → y <ℤ head → IsInner s.a.y s.c.y y
+rise_inner s foot head value y h l m = by (order s.a.y s.c.y)
+  where
+    order : (x y : ℤ) → (x <ℤ y) ⊎ (y ≤ℤ x)
+    order x y = grind (arith, ints)
+
+    by : (s.a.y <ℤ s.c.y) ⊎ (s.c.y ≤ℤ s.a.y) → IsInner s.a.y s.c.y y
+    by (inl o) = let e = h.up o in inl (subst (λ z. z <ℤ y) e.0 l, subst (λ z. y <ℤ z) e.1 m)
+    by (inr o) = let e = h.down o in inr (subst (λ z. z <ℤ y) e.0 l, subst (λ z. y <ℤ z) e.1 m)
+
+pub rise_sign : (s : Span) (foot head value y : ℤ) → IsRise s foot head value → foot <ℤ y → y <ℤ head
+    → value ≡ sign (s.c.y -ℤ s.a.y)
+rise_sign s foot head value y h l m = by (order s.a.y s.c.y)
+  where
+    order : (x y : ℤ) → (x <ℤ y) ⊎ (y ≤ℤ x)
+    order x y = grind (arith, ints)
+
+    by : (s.a.y <ℤ s.c.y) ⊎ (s.c.y ≤ℤ s.a.y) → value ≡ sign (s.c.y -ℤ s.a.y)
+    by (inl o) = let e = h.up o in e.2 ∙ sym (sign_above (s.c.y -ℤ s.a.y) (omega (arith, signed_linear)))
+    by (inr o) =
+        let e = h.down o in
+        let foot_is = e.0 in
+        let head_is = e.1 in
+        e.2 ∙ sym (sign_below (s.c.y -ℤ s.a.y) (omega (arith, signed_linear)))

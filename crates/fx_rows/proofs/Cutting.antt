@@ -8,7 +8,7 @@ use Rattle.fx_fixed.proofs.Linear.{signed, signed_linear}
 use Rattle.fx_fixed.proofs.Signs.{product_at_least_zero, product_above_zero, square_at_least_zero}
 use Rattle.fx_winding.specs.Area.{Place, area, area_of, gap_of}
 use Rattle.fx_winding.specs.Winding.{sign, weight_a, weight_b, weight_c}
-use Rattle.fx_rows.specs.inner.Cuts.{IsInner}
+use Rattle.fx_rows.specs.inner.Points.{IsInner}
 use Rattle.fx_rows.proofs.Weights.{drop_factor_strict, zero_square, above_from, gap_w, sign_square, step_a, step_c}
 
 -- ---- over plain numbers: with x = su + iv and y = sw + jv, where s = i + j, the gap times s² is this

@@ -1,22 +1,24 @@
 //! Rows between the ends of a slanted chord. There the crossing and the region of a piece together are one value before a column
 //! and 0 from it on, but for the columns on the piece, which are set anyway.
 
-ghost use Rattle.std.specs.Prelude.{◌≡◌, ◌≢◌, ◌⊎◌, ℕ, ◌+◌, ◌*◌, ◌^◌, ◌<◌, ◌≤◌, min, pos, ◌+ℤ◌, ◌*ℤ◌, ◌<ℤ◌, ◌≤ℤ◌, IsTrue, ◌↔◌};
+ghost use Rattle.std.specs.Prelude.{◌≡◌, ◌≢◌, ◌⊎◌, ℕ, ◌+◌, ◌*◌, ◌^◌, ◌<◌, ◌≤◌, min, pos, ◌+ℤ◌, ◌-ℤ◌, ◌*ℤ◌, ◌<ℤ◌, ◌≤ℤ◌, IsTrue, ◌↔◌};
 ghost use Rattle.std.specs.Prelude.{Some, None};
+ghost use Rattle.fx_fixed.specs.Ranges.{IsWithin};
 ghost use Rattle.fx_winding.specs.Limits.{greatest_side};
-ghost use Rattle.fx_winding.specs.Winding.{span_of, IsOn};
+ghost use Rattle.fx_winding.specs.Winding.{span_of, sign, IsOn};
 ghost use Rattle.fx_rows.specs.Parts.{IsBent};
 ghost use Rattle.fx_rows.specs.inner.Runs.{gap_at};
 ghost use Rattle.fx_rows.specs.inner.Sides.{place_at};
 ghost use Rattle.fx_rows.specs.inner.Arcs.{AreAreas};
 ghost use Rattle.fx_rows.specs.inner.Candidates.{IsOnStrip};
-ghost use Rattle.fx_rows.specs.inner.Points.{AreAcross};
-ghost use Rattle.fx_rows.specs.inner.Cuts.{IsInner, side_at, CountsAt, CountsFirst, IsLast, IsCut, IsMaybeCut};
+ghost use Rattle.fx_rows.specs.inner.Points.{AreAcross, IsInner};
+ghost use Rattle.fx_rows.specs.inner.Cuts.{side_at, CountsAt, CountsFirst, IsLast, IsCut, IsMaybeCut};
 
 use crate::across::Across;
 use crate::arc::{gaps_of, total_of};
+use crate::bounded::Bounded;
 use crate::cells::Cut;
-use crate::chord::{edge_of, rise_sign, slope_of};
+use crate::chord::{edge_of, slope_of};
 use crate::narrow::columns_before;
 use crate::on::{on_edge, on_one};
 use crate::parabola::Gaps;
@@ -25,6 +27,7 @@ use crate::rest::is_right;
 use crate::search::{is_below, is_zero, within};
 use crate::slope::{Slope, is_left};
 use crate::strip::{Strip, areas_at};
+use crate::trend::{Trend, guess_of, note_end};
 use fx_winding::{Piece, Point, Tally, Weights};
 
 /// A bent arc along a row that passes between its ends: the sides of its chord, its gap, and whether it is right of the chord.
@@ -104,11 +107,14 @@ fn arc_cut(
     strip: Strip,
     areas: Weights,
     guess: u32,
+    value: i32,
     tally: &mut Tally,
 ) -> Cut
     requires middle { piece.now.b ≡ Some b }
     requires bent { IsBent (span_of piece.now) }
     requires inner { IsInner piece.now.a.y piece.now.c.y (pos 128 *ℤ strip.row +ℤ pos 64) }
+    requires value { value ≡ sign (piece.now.c.y -ℤ piece.now.a.y) }
+    requires small { IsWithin 1 value }
     requires areas { AreAreas (span_of piece.now) (place_at strip 0) areas }
     ensures cut { IsCut (span_of piece.now) strip result }
     ensures count { tally.new.count ≤ tally.old.count + 1 }
@@ -121,15 +127,17 @@ fn arc_cut(
     let end = count_of(bend, guess, strip.stop);
     Cut {
         end,
-        value: rise_sign(piece.a.y, piece.c.y),
+        value,
         on: on_end(piece, bend, strip, end, tally),
     }
 }
 
 /// What a line adds.
-fn line_cut(piece: &Piece, strip: Strip, areas: Weights, tally: &mut Tally) -> Cut
+fn line_cut(piece: &Piece, strip: Strip, areas: Weights, value: i32, tally: &mut Tally) -> Cut
     requires line { piece.now.b ≡ None }
     requires inner { IsInner piece.now.a.y piece.now.c.y (pos 128 *ℤ strip.row +ℤ pos 64) }
+    requires value { value ≡ sign (piece.now.c.y -ℤ piece.now.a.y) }
+    requires small { IsWithin 1 value }
     requires areas { AreAreas (span_of piece.now) (place_at strip 0) areas }
     ensures cut { IsCut (span_of piece.now) strip result }
     ensures count { tally.new.count ≤ tally.old.count + 1 }
@@ -137,44 +145,56 @@ fn line_cut(piece: &Piece, strip: Strip, areas: Weights, tally: &mut Tally) -> C
     let edge = edge_of(piece, strip, areas);
     Cut {
         end: edge.at,
-        value: rise_sign(piece.a.y, piece.c.y),
+        value,
         on: on_edge(piece, strip, edge, tally),
     }
 }
 
 /// What a piece adds whose box has no column's centre in it: the columns are left of all of it or right of all of it.
-fn clear_cut(piece: &Piece, across: Across, strip: Strip) -> Cut
+fn clear_cut(piece: &Piece, across: Across, strip: Strip, value: i32) -> Cut
     requires across { AreAcross (span_of piece.now) across.first across.end }
     requires clear { across.end ≤ℤ across.first }
     requires inner { IsInner piece.now.a.y piece.now.c.y (pos 128 *ℤ strip.row +ℤ pos 64) }
+    requires value { value ≡ sign (piece.now.c.y -ℤ piece.now.a.y) }
+    requires small { IsWithin 1 value }
     ensures { IsCut (span_of piece.now) strip result }
 {
     Cut {
         end: columns_before(strip, across.first),
-        value: rise_sign(piece.a.y, piece.c.y),
+        value,
         on: OnRow::None,
     }
 }
 
 /// What a piece adds, but of an arc on one line.
-pub(crate) fn cut_of(piece: &Piece, across: Across, strip: Strip, tally: &mut Tally) -> Option<Cut>
-    requires across { AreAcross (span_of piece.now) across.first across.end }
-    requires inner { IsInner piece.now.a.y piece.now.c.y (pos 128 *ℤ strip.row +ℤ pos 64) }
-    ensures cut { IsMaybeCut (span_of piece.now) strip result }
+pub(crate) fn cut_of(
+    bounded: &Bounded,
+    strip: Strip,
+    trends: &mut [Trend],
+    tally: &mut Tally,
+) -> Option<Cut>
+    requires foot { bounded.now.rise.foot <ℤ (pos 128 *ℤ strip.row +ℤ pos 64) }
+    requires head { (pos 128 *ℤ strip.row +ℤ pos 64) <ℤ bounded.now.rise.head }
+    ensures cut { IsMaybeCut (span_of bounded.now.piece) strip result }
     ensures count { tally.new.count ≤ tally.old.count + 2 }
 {
+    let piece = &bounded.piece;
+    let across = bounded.across;
+    let value = bounded.rise.value;
     if across.end <= across.first {
-        return Some(clear_cut(piece, across, strip));
+        return Some(clear_cut(piece, across, strip, value));
     }
     let areas = areas_at(piece, strip, 0, tally);
     match piece.b {
-        None => Some(line_cut(piece, strip, areas, tally)),
+        None => Some(line_cut(piece, strip, areas, value, tally)),
         Some(b) => {
             if total_of(areas) == 0 {
                 return None;
             }
-            let guess = columns_before(strip, across.first);
-            Some(arc_cut(piece, b, strip, areas, guess, tally))
+            let guess = guess_of(trends, bounded, strip);
+            let cut = arc_cut(piece, b, strip, areas, guess, value, tally);
+            note_end(trends, bounded, strip, cut.end);
+            Some(cut)
         }
     }
 }

@@ -15,10 +15,6 @@ use Rattle.fx_rows.specs.inner.Sides.{place_at}
 use Rattle.fx_rows.specs.inner.Candidates.{IsOnStrip}
 use Rattle.fx_rows.specs.inner.Sums.{before, AreWithin, AreTouched, is_marked, Marks}
 
--- the height y is strictly between two ends
-abbrev pub IsInner : ℤ → ℤ → ℤ → Type 0
-IsInner a c y = ((a <ℤ y) × (y <ℤ c)) ⊎ ((c <ℤ y) × (y <ℤ a))
-
 -- the value of a slope at a column
 abbrev pub side_at : Slope → ℕ → ℤ
 side_at s k = s.start +ℤ pos k *ℤ s.step

@@ -1,6 +1,6 @@
-use Rattle.std.proofs.Common.{◌≡◌, ◌∙◌, ◌-ℤ◌, arith, w32, w64, to_z, of_z}
+use Rattle.std.proofs.Common.{◌≡◌, ◌∙◌, arith, w32, w64, to_z, of_z}
 use Rattle.fx_fixed.proofs.Linear.{signed_linear}
-use Rattle.fx_winding.specs.Winding.{span_of, sign}
+use Rattle.fx_winding.specs.Winding.{span_of}
 use Rattle.fx_rows.specs.declared.cut.Bend.{Bend}
 use Rattle.fx_rows.specs.inner.Sides.{place_at}
 use Rattle.fx_rows.proofs.Gaps.{total_of_areas}
@@ -33,10 +33,8 @@ returns-clause-cut c =
     let p = c.args.piece.now in
     let s = span_of p in
     let d : Bend = record { slope = c.slope_of.result; gaps = c.gaps_of.result; right = c.is_right.result } in
-    let aa : to_z w32 (of_z w32 p.a.y) ≡ p.a.y = omega (arith, signed_linear) in
-    let cc : to_z w32 (of_z w32 p.c.y) ≡ p.c.y = omega (arith, signed_linear) in
-    let v : to_z w32 (of_z w32 c.rise_sign.result) ≡ c.rise_sign.result = omega (arith, signed_linear) in
+    let v : to_z w32 (of_z w32 c.args.value) ≡ c.args.value = omega (arith, signed_linear, c.requires.small) in
     arc_is_cut s c.args.strip d _
     (bends s.a s.b s.c c.args.strip d c.requires.bent c.requires.inner c.is_right.ensures c.slope_of.ensures c.gaps_of.ensures)
     c.count_of-end.ensures.within c.count_of-end.ensures.inside c.count_of-end.ensures.outside
-    (v ∙ c.rise_sign.ensures.value ∙ (λ j. sign (cc j -ℤ aa j))) c.on_end.ensures.on
+    (v ∙ c.requires.value) c.on_end.ensures.on

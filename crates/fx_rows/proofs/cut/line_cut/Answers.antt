@@ -1,6 +1,6 @@
-use Rattle.std.proofs.Common.{◌≡◌, ◌∙◌, ◌-ℤ◌, arith, w32, to_z, of_z}
+use Rattle.std.proofs.Common.{◌≡◌, ◌∙◌, arith, w32, to_z, of_z}
 use Rattle.fx_fixed.proofs.Linear.{signed_linear}
-use Rattle.fx_winding.specs.Winding.{span_of, sign}
+use Rattle.fx_winding.specs.Winding.{span_of}
 use Rattle.fx_rows.proofs.Flats.{line_not_bent, only_chord}
 use Rattle.fx_rows.proofs.Cutting.{slanted}
 use Rattle.fx_rows.proofs.Counting.{line_is_cut}
@@ -16,8 +16,6 @@ on_edge-requires c = record {
 pub returns-clause-cut : goal.returns-clause-cut
 returns-clause-cut c =
     let s = c.args.piece.now in
-    let aa : to_z w32 (of_z w32 s.a.y) ≡ s.a.y = omega (arith, signed_linear) in
-    let cc : to_z w32 (of_z w32 s.c.y) ≡ s.c.y = omega (arith, signed_linear) in
-    let v : to_z w32 (of_z w32 c.rise_sign.result) ≡ c.rise_sign.result = omega (arith, signed_linear) in
+    let v : to_z w32 (of_z w32 c.args.value) ≡ c.args.value = omega (arith, signed_linear, c.requires.small) in
     line_is_cut (span_of s) c.args.strip _ (line_not_bent s c.requires.line) c.requires.inner c.edge_of-edge.ensures.edge
-    (v ∙ c.rise_sign.ensures.value ∙ (λ j. sign (cc j -ℤ aa j))) c.on_edge.ensures.on
+    (v ∙ c.requires.value) c.on_edge.ensures.on

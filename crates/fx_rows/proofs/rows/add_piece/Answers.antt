@@ -1,7 +1,8 @@
 use Rattle.std.proofs.Common.{◌≡◌, ◌∙◌, sym, subst, ap, Bool, true, IsTrue, ℤ, pos, ◌+ℤ◌, ◌*ℤ◌, arith, w32, to_z, of_z}
 use Rattle.fx_fixed.proofs.Linear.{signed, signed_linear}
+use Rattle.fx_winding.specs.Limits.{IsPixelNumber}
 use Rattle.fx_rows.specs.inner.Near.{bounded_span}
-use Rattle.fx_rows.specs.inner.Cuts.{IsInner, IsCut, IsRowAdded}
+use Rattle.fx_rows.specs.inner.Cuts.{IsCut, IsRowAdded}
 use Rattle.fx_rows.proofs.Counted.{on_inside}
 use Rattle.fx_rows.proofs.Parts.{formed_frame}
 use Rattle.fx_rows.proofs.rows.add_piece.Goals as goal
@@ -9,22 +10,13 @@ use Rattle.fx_rows.proofs.rows.add_piece.Goals as goal
 yes : (b : Bool) → b ≡ true → IsTrue b
 yes b e = grind arith
 
-pub cut_of-requires : goal.cut_of-requires
-cut_of-requires c =
-    let a = c.args.bounded.now.piece.a.y in
-    let e = c.args.bounded.now.piece.c.y in
-    let n = c.args.row in
-    let aa : to_z w32 (of_z w32 a) ≡ a = omega (arith, signed_linear) in
-    let ee : to_z w32 (of_z w32 e) ≡ e = omega (arith, signed_linear) in
-    let nn : to_z w32 (of_z w32 n) ≡ n = omega (arith, signed_linear) in
+-- the height of the row
+height : (n m : ℤ) → m ≡ n → IsPixelNumber n
+    → to_z w32 (of_z w32 (to_z w32 (of_z w32 (pos 128 *ℤ to_z w32 (of_z w32 n))) +ℤ pos 64)) ≡ pos 128 *ℤ m +ℤ pos 64
+height n m e h =
     let y : to_z w32 (of_z w32 (to_z w32 (of_z w32 (pos 128 *ℤ to_z w32 (of_z w32 n))) +ℤ pos 64)) ≡ pos 128 *ℤ n +ℤ pos 64 =
     omega (arith, signed) in
-    let row : n ≡ c.strip_of-strip.result.row = sym (c.strip_of-strip.ensures.row ∙ nn) in
-    let y' = y ∙ ap (λ (r : ℤ). pos 128 *ℤ r +ℤ pos 64) row in
-    record {
-      across = c.args.bounded.now.between;
-      inner = subst (λ z. z) (λ j. IsInner (aa j) (ee j) (y' j)) (c.is_inner.ensures.0 (yes c.is_inner.result c.if-is_inner.true));
-    }
+    y ∙ ap (λ (r : ℤ). pos 128 *ℤ r +ℤ pos 64) (sym e)
 
 pub add_cut-requires-clause-on : goal.add_cut-requires-clause-on
 add_cut-requires-clause-on c =
