@@ -5,6 +5,7 @@ pub mod Runs
 pub mod Sides
 pub mod Arcs
 pub mod Candidates
+pub mod Cuts
 pub mod Inside
 pub mod Sums
 pub mod Near

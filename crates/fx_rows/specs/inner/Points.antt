@@ -1,5 +1,5 @@
 -- The points of a piece.
-use Rattle.std.specs.Prelude.{◌≡◌, ◌⊎◌, ℤ, pos, ◌+ℤ◌, ◌*ℤ◌, ◌<ℤ◌, ◌≤ℤ◌, Some}
+use Rattle.std.specs.Prelude.{◌≡◌, ◌⊎◌, ℤ, pos, negsuc, ◌+ℤ◌, ◌*ℤ◌, ◌<ℤ◌, ◌≤ℤ◌, Some}
 use Rattle.fx_winding.specs.Area.{Place}
 use Rattle.fx_winding.specs.Winding.{Span}
 
@@ -12,3 +12,12 @@ abbrev pub AreAcross : Span → ℤ → ℤ → Type 0
 AreAcross s first end =
     ((x : ℤ) → x <ℤ first → (q : Place) → IsPointOf q s → (pos 128 *ℤ x +ℤ pos 64) <ℤ q.x) ×
     ((x : ℤ) → end ≤ℤ x → (q : Place) → IsPointOf q s → q.x <ℤ (pos 128 *ℤ x +ℤ pos 64))
+
+-- the height y is strictly between two ends
+abbrev pub IsInner : ℤ → ℤ → ℤ → Type 0
+IsInner a c y = ((a <ℤ y) × (y <ℤ c)) ⊎ ((c <ℤ y) × (y <ℤ a))
+
+-- foot and head are the heights of a chord's lower and upper end, and value is 1 if it rises, and else -1
+pub record IsRise (s : Span) (foot head value : ℤ) : Type 0 where
+  pub up : s.a.y <ℤ s.c.y → (foot ≡ s.a.y) × (head ≡ s.c.y) × (value ≡ pos 1)
+  pub down : s.c.y ≤ℤ s.a.y → (foot ≡ s.c.y) × (head ≡ s.a.y) × (value ≡ negsuc 0)

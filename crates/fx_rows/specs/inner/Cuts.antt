@@ -1,0 +1,67 @@
+-- Rows between the ends of a slanted chord: one value before a column, and 0 from it on, but for the columns on the piece.
+use Rattle.std.specs.Prelude.{◌≡◌, ◌⊎◌, ◌↔◌, IsTrue, ℕ, ◌+◌, ◌≤◌, ◌<◌, ℤ, pos, ◌+ℤ◌, ◌-ℤ◌, ◌*ℤ◌, ◌≤ℤ◌, ◌<ℤ◌, Bool, true, false, List}
+use Rattle.std.specs.Prelude.{Option, Some, None}
+use Rattle.fx_fixed.specs.Ranges.{IsWithin}
+use Rattle.fx_winding.specs.Area.{Place}
+use Rattle.fx_winding.specs.Winding.{Span, IsOn, crossing, region, centre}
+use Rattle.fx_winding.specs.Bitmaps.{word_bit}
+use Rattle.fx_winding.specs.declared.frame.Frame.{Frame}
+use Rattle.fx_rows.specs.declared.strip.Strip.{Strip}
+use Rattle.fx_rows.specs.declared.slope.Slope.{Slope}
+use Rattle.fx_rows.specs.declared.cut.Bend.{Bend}
+use Rattle.fx_rows.specs.declared.cells.Cut.{Cut}
+use Rattle.fx_rows.specs.inner.Runs.{gap_at}
+use Rattle.fx_rows.specs.inner.Sides.{place_at}
+use Rattle.fx_rows.specs.inner.Candidates.{IsOnStrip}
+use Rattle.fx_rows.specs.inner.Sums.{before, AreWithin, AreTouched, is_marked, Marks}
+
+-- the value of a slope at a column
+abbrev pub side_at : Slope → ℕ → ℤ
+side_at s k = s.start +ℤ pos k *ℤ s.step
+
+-- a column counts of an arc that is right of its chord, or of one left of it, by its side of the chord and its gap
+abbrev pub Counts : Bool → ℤ → ℤ → Type 0
+Counts true side gap = (side <ℤ pos 0) ⊎ (pos 0 ≤ℤ gap)
+Counts false side gap = (side <ℤ pos 0) × (gap <ℤ pos 0)
+
+abbrev pub CountsAt : Bend → ℕ → Type 0
+CountsAt b k = Counts b.right (side_at b.slope k) (gap_at b.gaps k)
+
+-- if a column counts, those before it do
+abbrev pub CountsFirst : Bend → ℕ → Type 0
+CountsFirst b stop = (i j : ℕ) → i ≤ j → j < stop → CountsAt b j → CountsAt b i
+
+-- the column beside the end that an arc can meet
+abbrev pub IsLast : Bool → ℕ → ℕ → Type 0
+IsLast true end k = k + 1 ≡ end
+IsLast false end k = k ≡ end
+
+-- what a piece adds to the columns of a strip that are not on it: a value to those before the end, and nothing to the others
+pub record IsCut (s : Span) (strip : Strip) (cut : Cut) : Type 0 where
+  pub inside : (k : ℕ) → strip.start ≤ k → k < strip.stop → k < cut.end → ¬ (IsOn (place_at strip k) s)
+      → crossing (place_at strip k) s +ℤ region (place_at strip k) s ≡ cut.value
+  pub outside : (k : ℕ) → strip.start ≤ k → k < strip.stop → cut.end ≤ k → ¬ (IsOn (place_at strip k) s)
+      → crossing (place_at strip k) s +ℤ region (place_at strip k) s ≡ pos 0
+  pub within : cut.end ≤ strip.stop
+  pub on : IsOnStrip s strip cut.on
+
+abbrev pub IsMaybeCut : Span → Strip → Option Cut → Type 0
+IsMaybeCut s strip None = Unit {0}
+IsMaybeCut s strip (Some cut) = IsCut s strip cut
+
+-- what a piece adds at a place: a mark if the place is on it, and else its crossing and its region
+pub record IsAdded (s : Span) (p : Place) (old new : Bool) (turns turns' : ℤ) : Type 0 where
+  pub here : Bool
+  pub told : IsTrue here ↔ IsOn p s
+  pub marks : Marks here old new
+  pub sum : here ≡ false → turns' ≡ turns +ℤ (crossing p s +ℤ region p s)
+  pub small : IsWithin 2 (turns' -ℤ turns)
+
+-- what a piece adds to the differences, the touched columns and the marks of a row
+pub record IsRowAdded (s : Span) (row : ℤ) (f : Frame) (diff diff' : List ℤ) (touched touched' line line' : List ℕ) : Type 0 where
+  pub added : (k : ℕ) → k < f.width → IsAdded s (centre (f.left +ℤ pos k) row) (is_marked line k) (is_marked line' k)
+      (before (k + 1) diff) (before (k + 1) diff')
+  pub rest : (k : ℕ) → f.width ≤ k → before (k + 1) diff' ≡ before (k + 1) diff
+  pub unused : (k : ℕ) → f.width ≤ k → word_bit line k ≡ 0 → word_bit line' k ≡ 0
+  pub grown : (n : ℕ) → AreWithin n diff → AreWithin (n + 4) diff'
+  pub touches : AreTouched diff touched → AreTouched diff' touched'

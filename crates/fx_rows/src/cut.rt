@@ -1,0 +1,200 @@
+//! Rows between the ends of a slanted chord. There the crossing and the region of a piece together are one value before a column
+//! and 0 from it on, but for the columns on the piece, which are set anyway.
+
+ghost use Rattle.std.specs.Prelude.{◌≡◌, ◌≢◌, ◌⊎◌, ℕ, ◌+◌, ◌*◌, ◌^◌, ◌<◌, ◌≤◌, min, pos, ◌+ℤ◌, ◌-ℤ◌, ◌*ℤ◌, ◌<ℤ◌, ◌≤ℤ◌, IsTrue, ◌↔◌};
+ghost use Rattle.std.specs.Prelude.{Some, None};
+ghost use Rattle.fx_fixed.specs.Ranges.{IsWithin};
+ghost use Rattle.fx_winding.specs.Limits.{greatest_side};
+ghost use Rattle.fx_winding.specs.Winding.{span_of, sign, IsOn};
+ghost use Rattle.fx_rows.specs.Parts.{IsBent};
+ghost use Rattle.fx_rows.specs.inner.Runs.{gap_at};
+ghost use Rattle.fx_rows.specs.inner.Sides.{place_at};
+ghost use Rattle.fx_rows.specs.inner.Arcs.{AreAreas};
+ghost use Rattle.fx_rows.specs.inner.Candidates.{IsOnStrip};
+ghost use Rattle.fx_rows.specs.inner.Points.{AreAcross, IsInner};
+ghost use Rattle.fx_rows.specs.inner.Cuts.{side_at, CountsAt, CountsFirst, IsLast, IsCut, IsMaybeCut};
+
+use crate::across::Across;
+use crate::arc::{gaps_of, total_of};
+use crate::bounded::Bounded;
+use crate::cells::Cut;
+use crate::chord::{edge_of, slope_of};
+use crate::narrow::columns_before;
+use crate::on::{on_edge, on_one};
+use crate::parabola::Gaps;
+use crate::part::OnRow;
+use crate::rest::is_right;
+use crate::search::{is_below, is_zero, within};
+use crate::slope::{Slope, is_left};
+use crate::strip::{Strip, areas_at};
+use crate::trend::{Trend, guess_of, note_end};
+use fx_winding::{Piece, Point, Tally, Weights};
+
+/// A bent arc along a row that passes between its ends: the sides of its chord, its gap, and whether it is right of the chord.
+#[derive(Clone, Copy)]
+pub(crate) struct Bend {
+    pub slope: Slope,
+    pub gaps: Gaps,
+    pub right: bool,
+}
+
+/// Whether a column counts: it is left of the chord, or in the region right of it; or left of both.
+fn counts(bend: Bend, k: u32) -> bool
+    requires { k < greatest_side + 2 }
+    ensures { IsTrue result ↔ CountsAt bend k }
+{
+    let left = is_left(bend.slope, k);
+    if bend.right {
+        left || !is_below(bend.gaps, k)
+    } else {
+        left && is_below(bend.gaps, k)
+    }
+}
+
+/// How many columns from the base count, found from a guess by steps that double. The guess changes how soon, and nothing else.
+fn count_of(bend: Bend, guess: u32, stop: u32) -> u32
+    requires few { stop ≤ greatest_side + 2 }
+    requires first { CountsFirst bend stop }
+    ensures within { result ≤ stop }
+    ensures inside { (k : ℕ) → k < result → CountsAt bend k }
+    ensures outside { (k : ℕ) → result ≤ k → k < stop → ¬ (CountsAt bend k) }
+{
+    let mut low = 0;
+    let mut high = stop;
+    let mut at = guess;
+    let mut step = 0;
+    // The columns before `low` count, and those from `high` on do not.
+    'columns: while low < high {
+        let here = within(low, high, at);
+        let reach = step.min((high - low) / 2);
+        if counts(bend, here) {
+            low = here + 1;
+            at = low + reach;
+        } else {
+            high = here;
+            at = here.saturating_sub(1 + reach);
+        }
+        step = 2 * reach + 1;
+    }
+    low
+}
+
+/// The column beside the end that is on a bent arc, if it is. No other can be.
+fn on_end(piece: &Piece, bend: Bend, strip: Strip, end: u32, tally: &mut Tally) -> OnRow
+    requires within { end ≤ strip.stop }
+    requires only { (k : ℕ) → strip.start ≤ k → k < strip.stop → IsOn (place_at strip k) (span_of piece.now) →
+        IsLast bend.right end k × (gap_at bend.gaps k ≡ pos 0) }
+    ensures on { IsOnStrip (span_of piece.now) strip result }
+    ensures count { tally.new.count ≤ tally.old.count + 1 }
+{
+    let past = if bend.right { end } else { end + 1 };
+    if past <= strip.start {
+        return OnRow::None;
+    }
+    if past > strip.stop {
+        return OnRow::None;
+    }
+    if !is_zero(bend.gaps, past - 1) {
+        return OnRow::None;
+    }
+    on_one(piece, strip, past - 1, tally)
+}
+
+/// What a bent arc adds.
+fn arc_cut(
+    piece: &Piece,
+    b: Point,
+    strip: Strip,
+    areas: Weights,
+    guess: u32,
+    value: i32,
+    tally: &mut Tally,
+) -> Cut
+    requires middle { piece.now.b ≡ Some b }
+    requires bent { IsBent (span_of piece.now) }
+    requires inner { IsInner piece.now.a.y piece.now.c.y (pos 128 *ℤ strip.row +ℤ pos 64) }
+    requires value { value ≡ sign (piece.now.c.y -ℤ piece.now.a.y) }
+    requires small { IsWithin 1 value }
+    requires areas { AreAreas (span_of piece.now) (place_at strip 0) areas }
+    ensures cut { IsCut (span_of piece.now) strip result }
+    ensures count { tally.new.count ≤ tally.old.count + 1 }
+{
+    let bend = Bend {
+        slope: slope_of(piece, strip, areas),
+        gaps: gaps_of(piece, b, strip, areas),
+        right: is_right(piece, total_of(areas)),
+    };
+    let end = count_of(bend, guess, strip.stop);
+    Cut {
+        end,
+        value,
+        on: on_end(piece, bend, strip, end, tally),
+    }
+}
+
+/// What a line adds.
+fn line_cut(piece: &Piece, strip: Strip, areas: Weights, value: i32, tally: &mut Tally) -> Cut
+    requires line { piece.now.b ≡ None }
+    requires inner { IsInner piece.now.a.y piece.now.c.y (pos 128 *ℤ strip.row +ℤ pos 64) }
+    requires value { value ≡ sign (piece.now.c.y -ℤ piece.now.a.y) }
+    requires small { IsWithin 1 value }
+    requires areas { AreAreas (span_of piece.now) (place_at strip 0) areas }
+    ensures cut { IsCut (span_of piece.now) strip result }
+    ensures count { tally.new.count ≤ tally.old.count + 1 }
+{
+    let edge = edge_of(piece, strip, areas);
+    Cut {
+        end: edge.at,
+        value,
+        on: on_edge(piece, strip, edge, tally),
+    }
+}
+
+/// What a piece adds whose box has no column's centre in it: the columns are left of all of it or right of all of it.
+fn clear_cut(piece: &Piece, across: Across, strip: Strip, value: i32) -> Cut
+    requires across { AreAcross (span_of piece.now) across.first across.end }
+    requires clear { across.end ≤ℤ across.first }
+    requires inner { IsInner piece.now.a.y piece.now.c.y (pos 128 *ℤ strip.row +ℤ pos 64) }
+    requires value { value ≡ sign (piece.now.c.y -ℤ piece.now.a.y) }
+    requires small { IsWithin 1 value }
+    ensures { IsCut (span_of piece.now) strip result }
+{
+    Cut {
+        end: columns_before(strip, across.first),
+        value,
+        on: OnRow::None,
+    }
+}
+
+/// What a piece adds, but of an arc on one line.
+pub(crate) fn cut_of(
+    bounded: &Bounded,
+    strip: Strip,
+    trends: &mut [Trend],
+    tally: &mut Tally,
+) -> Option<Cut>
+    requires foot { bounded.now.rise.foot <ℤ (pos 128 *ℤ strip.row +ℤ pos 64) }
+    requires head { (pos 128 *ℤ strip.row +ℤ pos 64) <ℤ bounded.now.rise.head }
+    ensures cut { IsMaybeCut (span_of bounded.now.piece) strip result }
+    ensures count { tally.new.count ≤ tally.old.count + 2 }
+{
+    let piece = &bounded.piece;
+    let across = bounded.across;
+    let value = bounded.rise.value;
+    if across.end <= across.first {
+        return Some(clear_cut(piece, across, strip, value));
+    }
+    let areas = areas_at(piece, strip, 0, tally);
+    match piece.b {
+        None => Some(line_cut(piece, strip, areas, value, tally)),
+        Some(b) => {
+            if total_of(areas) == 0 {
+                return None;
+            }
+            let guess = guess_of(trends, bounded, strip);
+            let cut = arc_cut(piece, b, strip, areas, guess, value, tally);
+            note_end(trends, bounded, strip, cut.end);
+            Some(cut)
+        }
+    }
+}
