@@ -3,7 +3,7 @@
 use crate::deltas::{Delta, DeltaForm, DeltaShift};
 use crate::fault::BadArgument;
 use crate::moves::shift_along;
-use crate::rounding::{RoundState, super_grid, super_grid_45};
+use crate::rounding::{RoundState, round_to_grid, super_grid, super_grid_45};
 use crate::vectors::Vector;
 use crate::zones::ZonePointer;
 use fx_fixed::{Axis, F26, Place};
@@ -154,12 +154,13 @@ impl GState {
     }
 
     /// A distance rounded, in 26.6. The usual state has its own path, without the table of states.
+    #[inline(always)]
     pub fn round(&self, d: F26) -> F26
         ensures rounds { Rounds self.now.round_state d result }
         ensures value { result ≡ rounded_of self.now.round_state d }
     {
         match self.round_state {
-            RoundState::ToGrid => RoundState::ToGrid.round(d),
+            RoundState::ToGrid => round_to_grid(d),
             state => state.round(d),
         }
     }

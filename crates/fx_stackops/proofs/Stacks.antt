@@ -1,10 +1,10 @@
 -- A stack in the cells of a table: its top is the last cell that is used.
 -- Serves the calls of Store that read or move numbers below the top.
 use Rattle.std.proofs.Common.{◌≡◌, ◌∙◌, sym, ap, refl, ℕ, ◌+◌, ◌-◌, ◌<◌, ◌≤◌, ℤ, pos, List, [], ◌∷◌, ◌++◌, length, take, drop}
-use Rattle.std.proofs.Common.{reverse, slice_index_or, arith, length-append, add-one}
+use Rattle.std.proofs.Common.{reverse, slice_index_or, slice_set, arith, length-append, add-one}
 use Rattle.std.specs.List.{slice_range}
 use Rattle.std.proofs.lemmas.List.{reverse-append, reverse-reverse, length-reverse, length-take-le, length-drop, take-append-drop}
-use Rattle.std.proofs.lemmas.List.{take-take, drop-take, take_at, drop_at, get_or_at, drop_more, append_assoc, get_or-reverse}
+use Rattle.std.proofs.lemmas.List.{take-take, drop-take, take_at, drop_at, get_or_at, drop_more, take_more, take_more_set, append_assoc, get_or-reverse}
 use Rattle.std.proofs.lemmas.List.{get_or-take}
 use Rattle.std.proofs.lemmas.List.Elements.{All-take, All-drop, All-append, All-same}
 use Rattle.std.proofs.Common.{FitsSigned}
@@ -49,6 +49,23 @@ pub element_at : (xs : List ℤ) (d k : ℕ) → k < d → d ≤ length xs
 element_at xs d k h m =
     let n : length (take d xs) ≡ d = length-take-le d xs m in
     sym (get_or-reverse (take d xs) k (pos 0) (omega arith) ∙ rw n (get_or-take d xs (d - 1 - k) (pos 0) (omega arith)))
+
+-- ---- numbers put on it
+
+-- the next number is written after those before it
+pub written_next : (xs ys ns : List ℤ) (from i : ℕ) (x : ℤ) → from + i < length xs → i < length ns
+    → x ≡ slice_index_or ns i (pos 0) → take (from + i) xs ≡ take from ys ++ take i ns
+    → take (from + (i + 1)) (slice_set xs (from + i) x) ≡ take from ys ++ take (i + 1) ns
+written_next xs ys ns from i x h g e before =
+    let next : from + (i + 1) ≡ from + i + 1 = omega arith in
+    ap (λ (n : ℕ). take n (slice_set xs (from + i) x)) next ∙ take_more_set xs (from + i) x h
+    ∙ ap (λ (l : List ℤ). l ++ x ∷ []) before ∙ append_assoc (take from ys) (take i ns) (x ∷ [])
+    ∙ ap (λ (l : List ℤ). take from ys ++ l) (ap (λ (y : ℤ). take i ns ++ y ∷ []) e ∙ sym (take_more ns i (pos 0) g))
+
+-- the stack with all of them
+pub pushed_at : (new cells ns : List ℤ) (d n : ℕ) → take (d + n) new ≡ take d cells ++ ns
+    → reverse (take (d + n) new) ≡ reverse ns ++ reverse (take d cells)
+pushed_at new cells ns d n e = ap reverse e ∙ reverse-append (take d cells) ns
 
 -- ---- a number moved to the top
 

@@ -25,18 +25,6 @@ impl Store {
         Ok(())
     }
 
-    /// Puts the numbers that an instruction pushes on the stack, which has room for them.
-    fn put_all(&mut self, instr: &Instr<'_>)
-        requires { length self.old.stack + length (numbers instr.now.opcode instr.now.pushed.now) ≤ self.old.room }
-        ensures value { self.new ≡ with_stack (reverse (numbers instr.now.opcode instr.now.pushed.now) ++ self.old.stack) self.old }
-        ensures sizes { HasSizes self.old self.new }
-    {
-        // The first i numbers are on the stack.
-        'numbers: for i in 0..instr.count() {
-            self.put(instr.number(i));
-        }
-    }
-
     /// DUP: the top once more.
     #[tactic(auto, unfolding(crate::specs::Rows::dup_of))]
     pub fn dup(&mut self) -> Result<(), StackFault>

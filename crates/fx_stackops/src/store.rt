@@ -4,6 +4,7 @@ ghost use Rattle.std.specs.Prelude.{◌≡◌, ◌+◌, ◌<◌, ◌≤◌, ◌^
 ghost use Rattle.std.specs.Prelude.{OnOk, OnErr, Ok};
 ghost use Rattle.fx_fixed.specs.Chain.{map_ok};
 ghost use Rattle.fx_gstate.specs.States.{leaves};
+ghost use Rattle.fx_code.specs.Numbers.{numbers};
 ghost use Rattle.fx_stackops.specs.Table.{AreNumbers, read_of, written_of, stray_of};
 ghost use Rattle.fx_stackops.specs.Store.{room_of, one, two, two_from, three, index_of, element_of, moved_up, top_numbers};
 ghost use Rattle.fx_stackops.specs.Store.{pushed, with_stack, with_strays, HasSizes};
@@ -11,6 +12,7 @@ ghost use Rattle.fx_stackops.specs.Store.{restarted, five, with_rest, with_rest_
 
 use crate::fault::StackFault;
 use crate::table::Table;
+use fx_code::Instr;
 use std::alloc::{AllocError, Global};
 use std::marker::Model;
 
@@ -200,6 +202,17 @@ impl Store {
     {
         self.cells.put(self.depth, x);
         self.depth += 1;
+    }
+
+    /// Puts the numbers that an instruction pushes on the stack, which has room for them.
+    #[tactic(auto, using(crate::proofs::Stacks::pushed_at))]
+    pub(crate) fn put_all(&mut self, instr: &Instr<'_>)
+        requires { length self.old.stack + length (numbers instr.now.opcode instr.now.pushed.now) ≤ self.old.room }
+        ensures value { self.new ≡ with_stack (reverse (numbers instr.now.opcode instr.now.pushed.now) ++ self.old.stack) self.old }
+        ensures sizes { HasSizes self.old self.new }
+    {
+        self.cells.put_numbers(self.depth, instr);
+        self.depth += instr.count();
     }
 
     /// Puts a number on the stack, if there is room.

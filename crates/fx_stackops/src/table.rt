@@ -1,8 +1,10 @@
 //! Tables of numbers.
 
-ghost use Rattle.std.specs.Prelude.{◌≡◌, ◌+◌, ◌<◌, ◌≤◌, ◌^◌, pos, length, replicate, slice_index_or, slice_set, IfOk};
+ghost use Rattle.std.specs.Prelude.{◌≡◌, ◌+◌, ◌<◌, ◌≤◌, ◌^◌, ◌++◌, pos, length, take, replicate, slice_index_or, slice_set, IfOk};
+ghost use Rattle.fx_code.specs.Numbers.{numbers};
 ghost use Rattle.fx_stackops.specs.Table.{AreNumbers, read_of, written_of, stray_of, rotated_of};
 
+use fx_code::Instr;
 use std::alloc::{AllocError, Global};
 use std::marker::Model;
 
@@ -69,6 +71,27 @@ impl Table {
         ensures fits { i + 1 < 2 ^ 64 }
     {
         self.numbers[i] = x;
+    }
+
+    /// Writes the numbers that an instruction pushes from an index on; there are cells for all.
+    #[tactic(auto, using(crate::proofs::Stacks::written_next))]
+    pub(crate) fn put_numbers(&mut self, from: usize, instr: &Instr<'_>)
+        requires { from + length (numbers instr.now.opcode instr.now.pushed.now) ≤ length self.old }
+        ensures front { take (from + length (numbers instr.now.opcode instr.now.pushed.now)) self.new
+            ≡ take from self.old ++ numbers instr.now.opcode instr.now.pushed.now }
+        ensures size { length self.new ≡ length self.old }
+    {
+        let _room = self.len();
+        // Fields that stay in registers: for the compiler, the cells may lie where the instruction does.
+        let instr = Instr {
+            opcode: instr.opcode,
+            pushed: instr.pushed,
+            next: instr.next,
+        };
+        // The first i numbers are written.
+        'numbers: for i in 0..instr.count() {
+            self.put(from + i, instr.number(i));
+        }
     }
 
     /// Moves the number at an index to the end of the part from there to another, and each after it one down.
