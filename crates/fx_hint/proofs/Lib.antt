@@ -1,7 +1,6 @@
 pub mod Walking
 pub mod Contours
 pub mod Sound
-mod Places
 mod Steps
 mod Programs
 mod Machines

@@ -21,7 +21,8 @@ IfMachine P (Some machine) = P machine.now.known
 abbrev pub IsOf : Face → ℕ → Known → Type 0
 IsOf face ppem known = (known.face ≡ face) × (known.ppem ≡ ppem)
 
--- the machine, as it is passed and as it is left, knows the same
+-- the machine, as it is passed and as it is left, knows the same; what is left of an option by value is a sum with an alternative
+-- for each variant, None before Some, and in it what the variant's references point to
 abbrev pub KnowsSame : Option (MutBor MachineView) → Unit {0} ⊎ ((MutBor MachineView × Unit {0}) ⊎ ⊥) → Type 0
 KnowsSame None _ = Unit {0}
 KnowsSame (Some machine) (inr (inl left)) = left.0.now.known ≡ machine.now.known

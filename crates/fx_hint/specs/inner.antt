@@ -1,4 +1,3 @@
 -- What only private contracts cite.
-pub mod Places
 pub mod Steps
 pub mod Plain

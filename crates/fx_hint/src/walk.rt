@@ -86,6 +86,7 @@ struct Walk<'w, 'a> {
 
 impl<'w, 'a> Walk<'w, 'a> {
     /// A simple glyph's scaled points, before its program runs.
+    #[inline(always)]
     #[tactic(auto, unfolding(crate::specs::Outlines::simple_made))]
     fn simple_made(
         &self,
