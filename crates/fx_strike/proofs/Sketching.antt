@@ -107,7 +107,8 @@ memory_fails d due m = let P : Refusal → Type 0 = λ e. Fails e due in subst P
 -- the glyph of a sketch with its bits, if memory is not out
 pub drawn_whole : (due : Result Sketch Refusal) (sketch : Sketch) (made : Sketched) (code : ℕ) (r : Result Glyph Refusal)
     → due ≡ Ok sketch → IsSketchedOf sketch made → sketch.code ≡ code
-    → IfOk r (λ g. (s : Sketch) → IsSketchedOf s made → s.code ≡ code → IsGlyphOf s g) → IfErr r (λ e. e ≡ OutOfMemory) → Draws due r
+    → IfOk r (λ g. (s : Sketch) → IsSketchedOf s made → s.code ≡ code → IsGlyphOf s g)
+    → IfErr r (λ e. e ≡ OutOfMemory) → Draws due r
 drawn_whole due sketch made code (Ok g) h is e of m = (sketch, h, of sketch is e)
 drawn_whole due sketch made code (Err e) h is k of m = memory_fails e due m
 

@@ -47,6 +47,9 @@ fn no_frame() -> Frame
 }
 
 /// The bits of closed contours in their frame; none if there is no frame.
+///
+/// It stays a function of its own: the loops of the scan need all registers.
+#[inline(never)]
 fn bitmap_of<S: Scan>(
     alloc: Global,
     scan: &S,

@@ -23,39 +23,175 @@ add-requires-2 g c =
 
 pub add-requires-3 : goal.add-requires-3
 add-requires-3 g c =
-    omega (arith, length-append {A = ℕ}, c.in_ok-free.ensures.free, c.name_prefix.ensures.short, c.text.ensures.short, ap length c.add.ensures.waiting, ap length c.add-2.ensures.waiting)
+    omega (
+      arith,
+      length-append {A = ℕ},
+      c.in_ok-free.ensures.free,
+      c.name_prefix.ensures.short,
+      c.text.ensures.short,
+      ap length c.add.ensures.waiting,
+      ap length c.add-2.ensures.waiting,
+    )
 
 pub add_unsigned-requires : goal.add_unsigned-requires
 add_unsigned-requires g c =
-    omega (arith, length-append {A = ℕ}, c.in_ok-free.ensures.free, c.name_prefix.ensures.short, c.text.ensures.short, ap length c.add.ensures.waiting, ap length c.add-2.ensures.waiting, ap length c.add-3.ensures.waiting)
+    omega (
+      arith,
+      length-append {A = ℕ},
+      c.in_ok-free.ensures.free,
+      c.name_prefix.ensures.short,
+      c.text.ensures.short,
+      ap length c.add.ensures.waiting,
+      ap length c.add-2.ensures.waiting,
+      ap length c.add-3.ensures.waiting,
+    )
 
 pub add_signed-requires : goal.add_signed-requires
 add_signed-requires g c =
-    omega (arith, length-append {A = ℕ}, c.in_ok-free.ensures.free, c.name_prefix.ensures.short, c.text.ensures.short, ap length c.add.ensures.waiting, ap length c.add-2.ensures.waiting, ap length c.add-3.ensures.waiting, ap length c.add_unsigned.ensures.waiting, c.add_unsigned.ensures.short)
+    omega (
+      arith,
+      length-append {A = ℕ},
+      c.in_ok-free.ensures.free,
+      c.name_prefix.ensures.short,
+      c.text.ensures.short,
+      ap length c.add.ensures.waiting,
+      ap length c.add-2.ensures.waiting,
+      ap length c.add-3.ensures.waiting,
+      ap length c.add_unsigned.ensures.waiting,
+      c.add_unsigned.ensures.short,
+    )
 
 pub add_signed-requires-2 : goal.add_signed-requires-2
 add_signed-requires-2 g c =
-    omega (arith, length-append {A = ℕ}, c.in_ok-free.ensures.free, c.name_prefix.ensures.short, c.text.ensures.short, ap length c.add.ensures.waiting, ap length c.add-2.ensures.waiting, ap length c.add-3.ensures.waiting, ap length c.add_unsigned.ensures.waiting, ap length c.add_signed.ensures.waiting, c.add_unsigned.ensures.short, c.add_signed.ensures.short)
+    omega (
+      arith,
+      length-append {A = ℕ},
+      c.in_ok-free.ensures.free,
+      c.name_prefix.ensures.short,
+      c.text.ensures.short,
+      ap length c.add.ensures.waiting,
+      ap length c.add-2.ensures.waiting,
+      ap length c.add-3.ensures.waiting,
+      ap length c.add_unsigned.ensures.waiting,
+      ap length c.add_signed.ensures.waiting,
+      c.add_unsigned.ensures.short,
+      c.add_signed.ensures.short,
+    )
 
 pub add_unsigned-requires-2 : goal.add_unsigned-requires-2
 add_unsigned-requires-2 g c =
-    omega (arith, length-append {A = ℕ}, c.in_ok-free.ensures.free, c.name_prefix.ensures.short, c.text.ensures.short, ap length c.add.ensures.waiting, ap length c.add-2.ensures.waiting, ap length c.add-3.ensures.waiting, ap length c.add_unsigned.ensures.waiting, ap length c.add_signed.ensures.waiting, ap length c.add_signed-2.ensures.waiting, c.add_unsigned.ensures.short, c.add_signed.ensures.short, c.add_signed-2.ensures.short)
+    omega (
+      arith,
+      length-append {A = ℕ},
+      c.in_ok-free.ensures.free,
+      c.name_prefix.ensures.short,
+      c.text.ensures.short,
+      ap length c.add.ensures.waiting,
+      ap length c.add-2.ensures.waiting,
+      ap length c.add-3.ensures.waiting,
+      ap length c.add_unsigned.ensures.waiting,
+      ap length c.add_signed.ensures.waiting,
+      ap length c.add_signed-2.ensures.waiting,
+      c.add_unsigned.ensures.short,
+      c.add_signed.ensures.short,
+      c.add_signed-2.ensures.short,
+    )
 
 pub add_unsigned-requires-3 : goal.add_unsigned-requires-3
 add_unsigned-requires-3 g c =
-    omega (arith, length-append {A = ℕ}, c.in_ok-free.ensures.free, c.name_prefix.ensures.short, c.text.ensures.short, ap length c.add.ensures.waiting, ap length c.add-2.ensures.waiting, ap length c.add-3.ensures.waiting, ap length c.add_unsigned.ensures.waiting, ap length c.add_signed.ensures.waiting, ap length c.add_signed-2.ensures.waiting, ap length c.add_unsigned-2.ensures.waiting, c.add_unsigned.ensures.short, c.add_signed.ensures.short, c.add_signed-2.ensures.short, c.add_unsigned-2.ensures.short)
+    omega (
+      arith,
+      length-append {A = ℕ},
+      c.in_ok-free.ensures.free,
+      c.name_prefix.ensures.short,
+      c.text.ensures.short,
+      ap length c.add.ensures.waiting,
+      ap length c.add-2.ensures.waiting,
+      ap length c.add-3.ensures.waiting,
+      ap length c.add_unsigned.ensures.waiting,
+      ap length c.add_signed.ensures.waiting,
+      ap length c.add_signed-2.ensures.waiting,
+      ap length c.add_unsigned-2.ensures.waiting,
+      c.add_unsigned.ensures.short,
+      c.add_signed.ensures.short,
+      c.add_signed-2.ensures.short,
+      c.add_unsigned-2.ensures.short,
+    )
 
 pub add_signed-requires-3 : goal.add_signed-requires-3
 add_signed-requires-3 g c =
-    omega (arith, length-append {A = ℕ}, c.in_ok-free.ensures.free, c.name_prefix.ensures.short, c.text.ensures.short, ap length c.add.ensures.waiting, ap length c.add-2.ensures.waiting, ap length c.add-3.ensures.waiting, ap length c.add_unsigned.ensures.waiting, ap length c.add_signed.ensures.waiting, ap length c.add_signed-2.ensures.waiting, ap length c.add_unsigned-2.ensures.waiting, ap length c.add_unsigned-3.ensures.waiting, c.add_unsigned.ensures.short, c.add_signed.ensures.short, c.add_signed-2.ensures.short, c.add_unsigned-2.ensures.short, c.add_unsigned-3.ensures.short)
+    omega (
+      arith,
+      length-append {A = ℕ},
+      c.in_ok-free.ensures.free,
+      c.name_prefix.ensures.short,
+      c.text.ensures.short,
+      ap length c.add.ensures.waiting,
+      ap length c.add-2.ensures.waiting,
+      ap length c.add-3.ensures.waiting,
+      ap length c.add_unsigned.ensures.waiting,
+      ap length c.add_signed.ensures.waiting,
+      ap length c.add_signed-2.ensures.waiting,
+      ap length c.add_unsigned-2.ensures.waiting,
+      ap length c.add_unsigned-3.ensures.waiting,
+      c.add_unsigned.ensures.short,
+      c.add_signed.ensures.short,
+      c.add_signed-2.ensures.short,
+      c.add_unsigned-2.ensures.short,
+      c.add_unsigned-3.ensures.short,
+    )
 
 pub add_signed-requires-4 : goal.add_signed-requires-4
 add_signed-requires-4 g c =
-    omega (arith, length-append {A = ℕ}, c.in_ok-free.ensures.free, c.name_prefix.ensures.short, c.text.ensures.short, ap length c.add.ensures.waiting, ap length c.add-2.ensures.waiting, ap length c.add-3.ensures.waiting, ap length c.add_unsigned.ensures.waiting, ap length c.add_signed.ensures.waiting, ap length c.add_signed-2.ensures.waiting, ap length c.add_unsigned-2.ensures.waiting, ap length c.add_unsigned-3.ensures.waiting, ap length c.add_signed-3.ensures.waiting, c.add_unsigned.ensures.short, c.add_signed.ensures.short, c.add_signed-2.ensures.short, c.add_unsigned-2.ensures.short, c.add_unsigned-3.ensures.short, c.add_signed-3.ensures.short)
+    omega (
+      arith,
+      length-append {A = ℕ},
+      c.in_ok-free.ensures.free,
+      c.name_prefix.ensures.short,
+      c.text.ensures.short,
+      ap length c.add.ensures.waiting,
+      ap length c.add-2.ensures.waiting,
+      ap length c.add-3.ensures.waiting,
+      ap length c.add_unsigned.ensures.waiting,
+      ap length c.add_signed.ensures.waiting,
+      ap length c.add_signed-2.ensures.waiting,
+      ap length c.add_unsigned-2.ensures.waiting,
+      ap length c.add_unsigned-3.ensures.waiting,
+      ap length c.add_signed-3.ensures.waiting,
+      c.add_unsigned.ensures.short,
+      c.add_signed.ensures.short,
+      c.add_signed-2.ensures.short,
+      c.add_unsigned-2.ensures.short,
+      c.add_unsigned-3.ensures.short,
+      c.add_signed-3.ensures.short,
+    )
 
 pub add-requires-4 : goal.add-requires-4
 add-requires-4 g c =
-    omega (arith, length-append {A = ℕ}, c.in_ok-free.ensures.free, c.name_prefix.ensures.short, c.text.ensures.short, ap length c.add.ensures.waiting, ap length c.add-2.ensures.waiting, ap length c.add-3.ensures.waiting, ap length c.add_unsigned.ensures.waiting, ap length c.add_signed.ensures.waiting, ap length c.add_signed-2.ensures.waiting, ap length c.add_unsigned-2.ensures.waiting, ap length c.add_unsigned-3.ensures.waiting, ap length c.add_signed-3.ensures.waiting, ap length c.add_signed-4.ensures.waiting, c.add_unsigned.ensures.short, c.add_signed.ensures.short, c.add_signed-2.ensures.short, c.add_unsigned-2.ensures.short, c.add_unsigned-3.ensures.short, c.add_signed-3.ensures.short, c.add_signed-4.ensures.short)
+    omega (
+      arith,
+      length-append {A = ℕ},
+      c.in_ok-free.ensures.free,
+      c.name_prefix.ensures.short,
+      c.text.ensures.short,
+      ap length c.add.ensures.waiting,
+      ap length c.add-2.ensures.waiting,
+      ap length c.add-3.ensures.waiting,
+      ap length c.add_unsigned.ensures.waiting,
+      ap length c.add_signed.ensures.waiting,
+      ap length c.add_signed-2.ensures.waiting,
+      ap length c.add_unsigned-2.ensures.waiting,
+      ap length c.add_unsigned-3.ensures.waiting,
+      ap length c.add_signed-3.ensures.waiting,
+      ap length c.add_signed-4.ensures.waiting,
+      c.add_unsigned.ensures.short,
+      c.add_signed.ensures.short,
+      c.add_signed-2.ensures.short,
+      c.add_unsigned-2.ensures.short,
+      c.add_unsigned-3.ensures.short,
+      c.add_signed-3.ensures.short,
+      c.add_signed-4.ensures.short,
+    )
 
 pub returns-clause-head : goal.returns-clause-head
 unfolding head_pieces
@@ -88,7 +224,9 @@ returns-clause-head g c =
     let e2 = then_more c.add-2.new.self.waiting c.text.result.now r3 c.add-3.ensures.waiting e3 in
     let e1 = then_more c.add.new.self.waiting c.name_prefix.result.now r2 c.add-2.ensures.waiting e2 in
     let e0 = then_more c.free.new.self.waiting (codes "STARTCHAR ") r1 c.add.ensures.waiting e1 in
-    let done = c.add-4.ensures.done ∙ c.add_signed-4.ensures.done ∙ c.add_signed-3.ensures.done ∙ c.add_unsigned-3.ensures.done ∙ c.add_unsigned-2.ensures.done ∙ c.add_signed-2.ensures.done ∙ c.add_signed.ensures.done ∙ c.add_unsigned.ensures.done ∙ c.add-3.ensures.done ∙ c.add-2.ensures.done ∙ c.add.ensures.done in
+    let done = c.add-4.ensures.done ∙ c.add_signed-4.ensures.done ∙ c.add_signed-3.ensures.done ∙
+    c.add_unsigned-3.ensures.done ∙ c.add_unsigned-2.ensures.done ∙ c.add_signed-2.ensures.done ∙ c.add_signed.ensures.done ∙
+    c.add_unsigned.ensures.done ∙ c.add-3.ensures.done ∙ c.add-2.ensures.done ∙ c.add.ensures.done in
     head_added c.args.glyph.now {q = c.name_prefix.result.now} {u = c.text.result.now} {c = code} {s = swidth} {d = dwidth}
     {w = width} {h = height} {x = left} {y = bottom} (cc) (cc) (ap decimal c.code-3.ensures)
     (ap signed_decimal (copied c.swidth.result (search rules) ∙ c.swidth.ensures))

@@ -9,10 +9,13 @@ add-requires-2 c = omega (arith, length-append {A = ℕ}, ap length c.add.ensure
 
 pub returns-clause-waiting : goal.returns-clause-waiting
 returns-clause-waiting c =
-    let text : c.text.result.now ≡ signed_decimal c.args.number = copied_text (search rules) c.text.ensures.value c.signed.ensures in
-    then_more _ _ _ c.add.ensures.waiting c.add-2.ensures.waiting ∙ ap (λ (t : List ℕ). c.args.self.now.waiting ++ (c.args.piece.now ++ t)) text
+    let text : c.text.result.now ≡ signed_decimal c.args.number =
+    copied_text (search rules) c.text.ensures.value c.signed.ensures in
+    then_more _ _ _ c.add.ensures.waiting c.add-2.ensures.waiting ∙
+    ap (λ (t : List ℕ). c.args.self.now.waiting ++ (c.args.piece.now ++ t)) text
 
 pub returns-clause-short : goal.returns-clause-short
 returns-clause-short c =
-    let text : c.text.result.now ≡ signed_decimal c.args.number = copied_text (search rules) c.text.ensures.value c.signed.ensures in
+    let text : c.text.result.now ≡ signed_decimal c.args.number =
+    copied_text (search rules) c.text.ensures.value c.signed.ensures in
     omega (arith, ap length text, c.text.ensures.short)

@@ -9,7 +9,8 @@ add-requires-2 c = omega (arith, length-append {A = ℕ}, ap length c.add.ensure
 pub returns-clause-waiting : goal.returns-clause-waiting
 returns-clause-waiting c =
     let text : c.text.result.now ≡ decimal c.args.number = c.text.ensures.value ∙ c.unsigned.ensures ∙ ap decimal c.from.ensures in
-    then_more _ _ _ c.add.ensures.waiting c.add-2.ensures.waiting ∙ ap (λ (t : List ℕ). c.args.self.now.waiting ++ (c.args.piece.now ++ t)) text
+    then_more _ _ _ c.add.ensures.waiting c.add-2.ensures.waiting ∙
+    ap (λ (t : List ℕ). c.args.self.now.waiting ++ (c.args.piece.now ++ t)) text
 
 pub returns-clause-short : goal.returns-clause-short
 returns-clause-short c =
