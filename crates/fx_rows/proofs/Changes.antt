@@ -6,14 +6,12 @@ use Rattle.std.specs.Int.{bit_at}
 use Rattle.std.specs.Ordering.{int_eq}
 use Rattle.std.proofs.lemmas.List.{get_or-set_same, get_or-set_other}
 use Rattle.std.proofs.lemmas.Nat.Bits.{bit_at-zero, bit_at-lt, bit_at_or}
+use Rattle.fx_fixed.proofs.Order.{below_or_not}
 use Rattle.fx_fixed.proofs.Linear.{signed_linear}
 use Rattle.fx_winding.specs.Bitmaps.{word_bit}
 use Rattle.fx_rows.specs.inner.Sums.{before, sum_of, AreTouched, count_bit}
 use Rattle.fx_rows.proofs.Masks.{word_more}
 use Rattle.fx_rows.proofs.Sums.{before_more}
-
-order : (a b : ℕ) → (a < b) ⊎ (b ≤ a)
-order a b = grind arith
 
 equal : (a b : ℕ) → (a ≡ b) ⊎ (a ≢ b)
 equal a b = grind arith
@@ -23,7 +21,7 @@ pub sum_none : (xs : List ℤ) (from n m : ℕ) → n ≤ m → ((i : ℕ) → n
     → sum_of xs from m ≡ sum_of xs from n
 unfolding sum_of
 sum_none xs from n zero h z = let e : 0 ≡ n = omega arith in ap (sum_of xs from) e
-sum_none xs from n (suc m) h z = by (order m n) (λ l. sum_none xs from n m l (λ i a b. z i a (omega arith)))
+sum_none xs from n (suc m) h z = by (below_or_not m n) (λ l. sum_none xs from n m l (λ i a b. z i a (omega arith)))
   where
     by : (m < n) ⊎ (n ≤ m) → (n ≤ m → sum_of xs from m ≡ sum_of xs from n) → sum_of xs from (suc m) ≡ sum_of xs from n
     by (inl l) r = let e : suc m ≡ n = omega arith in ap (sum_of xs from) e
@@ -97,7 +95,7 @@ sum_to first now from start count bits left p k s l h b =
     omega (arith, signed_linear, e, c)
 
 not_before : (left p k : ℕ) → ((i : ℕ) → i < p → bit_at left (31 - i) ≡ 0) → bit_at left (31 - k) ≡ 1 → p ≤ k
-not_before left p k v bit = by (order k p)
+not_before left p k v bit = by (below_or_not k p)
   where
     by : (k < p) ⊎ (p ≤ k) → p ≤ k
     by (inl h) = let e = v k h in absurd (omega (arith, e, bit))
@@ -133,11 +131,11 @@ settling_more first now from start count count' bits bits' left left' k (p, s) l
   record {
     few = omega arith;
     sum = whole;
-    done = λ i h. by_done i h (order i k) (order i p);
+    done = λ i h. by_done i h (below_or_not i k) (below_or_not i p);
     rest = λ i h m. high i (omega arith) m;
     visited = λ i h. by_visited i h (equal i k);
     none = λ i h m z. let ne : i ≢ k = omega arith in s.none i (omega (arith, after)) m (sym (others i m ne) ∙ z);
-    cleared = λ i h. by_cleared i h (equal i k) (order i p);
+    cleared = λ i h. by_cleared i h (equal i k) (below_or_not i p);
     kept = λ j h. by_kept j h;
   },
 )
@@ -200,9 +198,9 @@ pub record Settled (first now : List ℤ) (from : ℕ) (start count : ℤ) (bits
 pub settled : (first now : List ℤ) (from : ℕ) (start count : ℤ) (bits left : ℕ) → left ≡ 0
     → IsSettling first now from start count bits left → Settled first now from start count bits
 settled first now from start count bits left zeros (p, s) = record {
-  word = λ i h. by_bits i h (order i p);
+  word = λ i h. by_bits i h (below_or_not i p);
   sum = let e = flat 32 (omega arith) s.few in let m = s.sum in omega (arith, signed_linear, e, m);
-  clear = λ i h. by_clear i h (order i p);
+  clear = λ i h. by_clear i h (below_or_not i p);
   others = λ k h. s.kept k (wider k h);
 }
   where
@@ -281,7 +279,7 @@ settled_more first now now' touched touching line lining count count' w word s l
       s.rest v (omega arith);
   marks = λ v h. let ne : v ≢ w = omega arith in get_or-set_other touching w v 0 0 ne ∙ s.marks v (omega arith);
   untouched = λ v h. by_untouched v h (equal v w);
-  clear = λ k h. by_clear k h (order k (32 * w));
+  clear = λ k h. by_clear k h (below_or_not k (32 * w));
   kept = λ k h. high k (omega arith) ∙ s.kept k (omega arith);
 }
   where

@@ -3,6 +3,7 @@
 use Rattle.std.proofs.Common.{◌≡◌, ◌≢◌, ◌⊎◌, inl, inr, refl, sym, ◌∙◌, subst, ℕ, ◌+◌, ◌≤◌, ◌<◌, ℤ, pos}
 use Rattle.std.proofs.Common.{◌+ℤ◌, ◌-ℤ◌, ◌*ℤ◌, ◌≤ℤ◌, ◌<ℤ◌, neg_ℤ, Bool, true, false, Option, Some, None, arith}
 use Rattle.std.proofs.lemmas.Int.{ints}
+use Rattle.fx_fixed.proofs.Order.{below_or_not, below_same_above, below_or_not_ℤ}
 use Rattle.fx_fixed.proofs.Linear.{signed_linear}
 use Rattle.fx_winding.specs.Area.{Place, area}
 use Rattle.fx_winding.specs.Winding.{IsOn}
@@ -224,11 +225,8 @@ counts_first a b c strip d stop h i j l m counts = by (equal_or i j l)
 only_right : (a b c : Place) (strip : Strip) (d : Bend) (end : ℕ) → Bends a b c strip d → d.right ≡ true → end ≤ strip.stop
     → ((k : ℕ) → k < end → CountsAt d k) → ((k : ℕ) → end ≤ k → k < strip.stop → ¬ (CountsAt d k)) → (k : ℕ) → k < strip.stop
     → IsOnPart a (Some b) c (place_at strip k) → k + 1 ≡ end
-only_right a b c strip d end h e within inside outside k l on = by (order k end) (order (k + 1) end)
+only_right a b c strip d end h e within inside outside k l on = by (below_or_not k end) (below_or_not (k + 1) end)
   where
-    order : (x y : ℕ) → (x < y) ⊎ (y ≤ x)
-    order x y = grind arith
-
     t : IsTurnedPart a (Some b) c true
     t = subst (IsTurnedPart a (Some b) c) e h.turned
 
@@ -251,11 +249,8 @@ only_right a b c strip d end h e within inside outside k l on = by (order k end)
 only_left : (a b c : Place) (strip : Strip) (d : Bend) (end : ℕ) → Bends a b c strip d → d.right ≡ false → end ≤ strip.stop
     → ((k : ℕ) → k < end → CountsAt d k) → ((k : ℕ) → end ≤ k → k < strip.stop → ¬ (CountsAt d k)) → (k : ℕ) → k < strip.stop
     → IsOnPart a (Some b) c (place_at strip k) → k ≡ end
-only_left a b c strip d end h e within inside outside k l on = by (order k end)
+only_left a b c strip d end h e within inside outside k l on = by (below_same_above k end)
   where
-    order : (x y : ℕ) → (x < y) ⊎ ((x ≡ y) ⊎ (y < x))
-    order x y = grind arith
-
     t : IsTurnedPart a (Some b) c false
     t = subst (IsTurnedPart a (Some b) c) e h.turned
 
@@ -382,12 +377,9 @@ clear_is_cut s strip cut first end h clear inner within before rest value none =
       (right_crossing s.a s.c (place_at strip k) (right k o m s.a (inl refl)) (right k o m s.c (inr (inr refl))))
       (right_off (place_at strip k) s (to_all (λ q. q.x <ℤ (place_at strip k).x) s (right k o m))).0;
   within = within;
-  on = subst (IsOnStrip s strip) (sym none) (none_on s strip (λ k l m. off k m (order k cut.end)));
+  on = subst (IsOnStrip s strip) (sym none) (none_on s strip (λ k l m. off k m (below_or_not k cut.end)));
 }
   where
-    order : (x y : ℕ) → (x < y) ⊎ (y ≤ x)
-    order x y = grind arith
-
     left : (k : ℕ) → k < cut.end → (q : Place) → IsPointOf q s → (place_at strip k).x <ℤ q.x
     left k o q i = h.0 (strip.base +ℤ pos k) (before k o) q i
 
@@ -403,22 +395,16 @@ clear_is_cut s strip cut first end h clear inner within before rest value none =
 
 -- ---- the heights of a chord's ends
 pub rise_inner : (s : Span) (foot head value y : ℤ) → IsRise s foot head value → foot <ℤ y → y <ℤ head → IsInner s.a.y s.c.y y
-rise_inner s foot head value y h l m = by (order s.a.y s.c.y)
+rise_inner s foot head value y h l m = by (below_or_not_ℤ s.a.y s.c.y)
   where
-    order : (x y : ℤ) → (x <ℤ y) ⊎ (y ≤ℤ x)
-    order x y = grind (arith, ints)
-
     by : (s.a.y <ℤ s.c.y) ⊎ (s.c.y ≤ℤ s.a.y) → IsInner s.a.y s.c.y y
     by (inl o) = let e = h.up o in inl (subst (λ z. z <ℤ y) e.0 l, subst (λ z. y <ℤ z) e.1 m)
     by (inr o) = let e = h.down o in inr (subst (λ z. z <ℤ y) e.0 l, subst (λ z. y <ℤ z) e.1 m)
 
 pub rise_sign : (s : Span) (foot head value y : ℤ) → IsRise s foot head value → foot <ℤ y → y <ℤ head
     → value ≡ sign (s.c.y -ℤ s.a.y)
-rise_sign s foot head value y h l m = by (order s.a.y s.c.y)
+rise_sign s foot head value y h l m = by (below_or_not_ℤ s.a.y s.c.y)
   where
-    order : (x y : ℤ) → (x <ℤ y) ⊎ (y ≤ℤ x)
-    order x y = grind (arith, ints)
-
     by : (s.a.y <ℤ s.c.y) ⊎ (s.c.y ≤ℤ s.a.y) → value ≡ sign (s.c.y -ℤ s.a.y)
     by (inl o) = let e = h.up o in e.2 ∙ sym (sign_above (s.c.y -ℤ s.a.y) (omega (arith, signed_linear)))
     by (inr o) =

@@ -8,6 +8,7 @@ use Rattle.std.proofs.lemmas.Nat.{leading_top, and_le_l}
 use Rattle.std.proofs.Math.Nat.{pow-succ', div-le_self}
 use Rattle.std.proofs.lemmas.Nat.Bits.{bit_at_or, bit_at_and, bit_at_not, bit_at-lt, bit_at_above, bit_at_ones, bit_at_ones_above}
 use Rattle.std.proofs.lemmas.Nat.Bits.{bit_at_cat_high, bit_at_mask_inside, bit_at_mask_below, ones_shr, ones_shl}
+use Rattle.fx_fixed.proofs.Order.{below_or_not}
 
 -- a number from 2 ^ j up to below 2 ^ (j + 1) has the bit j
 top_bit : (a j : ℕ) → 2 ^ j ≤ a → a < 2 ^ suc j → bit_at a j ≡ 1
@@ -84,11 +85,8 @@ between_outside b a i h k l (inr m) =
 
 -- a word without one of its bits is less
 pub fewer : (word m j : ℕ) → bit_at word j ≡ 1 → bit_at (bit_and word m) j ≡ 0 → bit_and word m < word
-fewer word m j h k = by (order (bit_and word m) word)
+fewer word m j h k = by (below_or_not (bit_and word m) word)
   where
-    order : (a b : ℕ) → (a < b) ⊎ (b ≤ a)
-    order a b = grind arith
-
     by : (bit_and word m < word) ⊎ (word ≤ bit_and word m) → bit_and word m < word
     by (inl l) = l
     by (inr l) =
