@@ -4,8 +4,8 @@ use Rattle.std.proofs.Common.{◌≡◌, ◌∙◌, sym, ap, refl, ℕ, ◌+◌,
 use Rattle.std.proofs.Common.{reverse, slice_index_or, slice_set, arith, length-append, add-one}
 use Rattle.std.specs.List.{slice_range}
 use Rattle.std.proofs.lemmas.List.{reverse-append, reverse-reverse, length-reverse, length-take-le, length-drop, take-append-drop}
-use Rattle.std.proofs.lemmas.List.{take-take, drop-take, take_at, drop_at, get_or_at, drop_more, take_more, take_more_set, append_assoc, get_or-reverse}
-use Rattle.std.proofs.lemmas.List.{get_or-take}
+use Rattle.std.proofs.lemmas.List.{take-take, drop-take, take_at, drop_at, get_or_at, drop_more, append_assoc, get_or-reverse}
+use Rattle.std.proofs.lemmas.List.{get_or-take, take_more, take_more_set}
 use Rattle.std.proofs.lemmas.List.Elements.{All-take, All-drop, All-append, All-same}
 use Rattle.std.proofs.Common.{FitsSigned}
 use Rattle.std.specs.Int.{w32}
