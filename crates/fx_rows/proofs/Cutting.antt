@@ -100,9 +100,6 @@ second_sum s ax ay bx by cx cy px py =
     (((t ⊠ t) ⊠ ((b ⊟ a) ⊠ (c' ⊟ a') ⊟ (b' ⊟ a') ⊠ (c ⊟ a))) ⊠ (a' ⊟ p')) tt
 
 -- the gap times a square, from the total and the height
-level : ℤ → ℤ → ℤ → ℤ
-level d y z = d *ℤ (y -ℤ z)
-
 gap_from_height : (a b c p : Place) → area a b c ≢ pos 0
     → ((step_a a b c +ℤ step_c a b c) *ℤ (step_a a b c +ℤ step_c a b c)) *ℤ gap_w a b c p ≡
     scaled (area a b c *ℤ (p.y -ℤ c.y)) (area a b c *ℤ (a.y -ℤ p.y)) (step_a a b c) (step_c a b c) (weight_b a b c p)
