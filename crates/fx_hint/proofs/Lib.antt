@@ -1,6 +1,7 @@
 pub mod Walking
 pub mod Contours
 pub mod Sound
+mod Places
 mod Steps
 mod Programs
 mod Machines

@@ -1,3 +1,4 @@
 -- What only private contracts cite.
+pub mod Places
 pub mod Steps
 pub mod Plain

@@ -1,9 +1,11 @@
 //! Open composites.
 
 ghost use Rattle.std.specs.Prelude.{◌≡◌, ◌++◌, [], ◌∷◌, length, MatchOption, OnOk};
+ghost use Rattle.fx_hint.specs.inner.Places.{present};
 
 use crate::made::Made;
 use fx_glyf::{Components, Composite, Part};
+use smallvec::SmallVec;
 use std::alloc::{AllocError, Global};
 use std::marker::Model;
 
@@ -23,20 +25,26 @@ pub struct Waiting<'a> {
     pub composite: OpenComposite<'a>,
 }
 
-/// The composites that wait, the root first; at most eight, since components lie at most that deep. As most composites have no
-/// composite among their components, the list takes memory with the first that waits.
+/// How many composites can wait without memory. Few fonts have composites in composites in composites.
+const INLINE: usize = 2;
+
+/// The composites that wait, the root first. With the innermost open composite, which does not wait, there are at most nine.
 #[derive(Drop)]
 pub struct Below<'a> {
-    places: Vec<Waiting<'a>>,
+    places: SmallVec<Option<Waiting<'a>>, INLINE>,
 }
 
 impl<'a> Model for Below<'a> {
-    ghost use Rattle.std.specs.Prelude.{List};
+    ghost use Rattle.std.specs.Prelude.{List, IsSome};
+    ghost use Rattle.std.specs.List.{All};
     ghost use Rattle.fx_hint.specs.declared.below.Waiting.{Waiting};
+    ghost use Rattle.fx_hint.specs.inner.Places.{present};
 
     ghost Value = { List Waiting };
 
-    ghost view = { λ b. b.places.items };
+    ghost view = { λ b. present b.places.items };
+
+    ghost invariant = { λ b. All IsSome b.places.items };
 }
 
 impl<'a> Below<'a> {
@@ -45,7 +53,7 @@ impl<'a> Below<'a> {
         ensures { result ≡ [] }
     {
         Below {
-            places: Vec::new(alloc),
+            places: SmallVec::new(alloc),
         }
     }
 
@@ -60,7 +68,7 @@ impl<'a> Below<'a> {
     pub fn push(&mut self, waiting: Waiting<'a>) -> Result<(), AllocError>
         ensures { OnOk result (self.new ≡ self.old ++ waiting.entry ∷ []) }
     {
-        self.places.push(waiting)?;
+        self.places.push(Some(waiting))?;
         Ok(())
     }
 
@@ -68,6 +76,9 @@ impl<'a> Below<'a> {
     pub fn pop(&mut self) -> Option<Waiting<'a>>
         ensures { MatchOption result (self.old ≡ []) (λ w. self.old ≡ self.new ++ w ∷ []) }
     {
-        self.places.pop()
+        match self.places.pop() {
+            Some(place) => place,
+            None => None,
+        }
     }
 }
