@@ -227,9 +227,9 @@ settled first now from start count bits left zeros (p, s) = record {
     wider k (inr h) = let f = s.few in inr (omega arith)
 
 -- ---- the words of a row, those before w settled
-pub record SettledTo (first now : List ℤ) (touched touching : List ℕ) (line lining : List ℕ) (count : ℤ) (w : ℕ) : Type 0 where
-  pub sum : count ≡ before (32 * w) first
-  pub bits : (k : ℕ) → k < 32 * w → word_bit lining k ≡ count_bit (before (k + 1) first) (word_bit line k)
+pub record SettledTo (first now : List ℤ) (touched touching line lining : List ℕ) (start count : ℤ) (w : ℕ) : Type 0 where
+  pub sum : count ≡ start +ℤ before (32 * w) first
+  pub bits : (k : ℕ) → k < 32 * w → word_bit lining k ≡ count_bit (start +ℤ before (k + 1) first) (word_bit line k)
   pub rest : (v : ℕ) → w ≤ v → get_or lining v 0 ≡ get_or line v 0
   pub marks : (v : ℕ) → w ≤ v → get_or touching v 0 ≡ get_or touched v 0
   pub untouched : (v : ℕ) → v < w → get_or touching v 0 ≡ 0
@@ -237,10 +237,10 @@ pub record SettledTo (first now : List ℤ) (touched touching : List ℕ) (line 
   pub kept : (k : ℕ) → 32 * w ≤ k → get_or now k (pos 0) ≡ get_or first k (pos 0)
 
 -- the columns of the next word that are not touched
-pub word_touched : (first now : List ℤ) (touched touching line lining : List ℕ) (count : ℤ) (w : ℕ)
-    → SettledTo first now touched touching line lining count w → AreTouched first touched → (i : ℕ) → i < 32
+pub word_touched : (first now : List ℤ) (touched touching line lining : List ℕ) (start count : ℤ) (w : ℕ)
+    → SettledTo first now touched touching line lining start count w → AreTouched first touched → (i : ℕ) → i < 32
     → bit_at (get_or touching w 0) (31 - i) ≡ 0 → get_or now (32 * w + i) (pos 0) ≡ pos 0
-word_touched first now touched touching line lining count w s t i h z =
+word_touched first now touched touching line lining start count w s t i h z =
     let word : (32 * w + i) / 32 ≡ w = omega arith in
     let place : (32 * w + i) % 32 ≡ i = omega arith in
     let same = s.marks w (omega arith) in
@@ -249,9 +249,10 @@ word_touched first now touched touching line lining count w s t i h z =
     s.kept (32 * w + i) (omega arith) ∙ t (32 * w + i) (bit ∙ z)
 
 -- a sum in the next word
-pub word_sum : (first now : List ℤ) (touched touching line lining : List ℕ) (count : ℤ) (w n : ℕ)
-    → SettledTo first now touched touching line lining count w → count +ℤ sum_of now (32 * w) n ≡ before (32 * w + n) first
-word_sum first now touched touching line lining count w n s =
+pub word_sum : (first now : List ℤ) (touched touching line lining : List ℕ) (start count : ℤ) (w n : ℕ)
+    → SettledTo first now touched touching line lining start count w
+    → count +ℤ sum_of now (32 * w) n ≡ start +ℤ before (32 * w + n) first
+word_sum first now touched touching line lining start count w n s =
     let same = sum_same now first (32 * w) n (λ i. s.kept (32 * w + i) (omega arith)) in
     let more = before_sum first (32 * w) n in
     let sum = s.sum in
@@ -264,16 +265,16 @@ either z b d h e = by (int_eq z (pos 0)) refl
     by true k = let f : d ≡ 0 = e ∙ ap (λ (t : Bool). cond {A = ℕ} t 0 1) k in omega arith
     by false k = let f : d ≡ 1 = e ∙ ap (λ (t : Bool). cond {A = ℕ} t 0 1) k in omega arith
 
-pub settled_more : (first now now' : List ℤ) (touched touching line lining : List ℕ) (count count' : ℤ) (w word : ℕ)
-    → SettledTo first now touched touching line lining count w → w < length lining → w < length touching
+pub settled_more : (first now now' : List ℤ) (touched touching line lining : List ℕ) (start count count' : ℤ) (w word : ℕ)
+    → SettledTo first now touched touching line lining start count w → w < length lining → w < length touching
     → ((i : ℕ) → i < 32 → bit_at word (31 - i) ≡ count_bit (count +ℤ sum_of now (32 * w) (i + 1)) 0)
     → count' ≡ count +ℤ sum_of now (32 * w) 32 → ((i : ℕ) → i < 32 → get_or now' (32 * w + i) (pos 0) ≡ pos 0)
     → ((k : ℕ) → k < 32 * w → get_or now' k (pos 0) ≡ get_or now k (pos 0))
     → ((k : ℕ) → 32 * w + 32 ≤ k → get_or now' k (pos 0) ≡ get_or now k (pos 0))
-    → SettledTo first now' touched (set touching w 0) line (set lining w (bit_or (get_or lining w 0) word)) count' (w + 1)
-settled_more first now now' touched touching line lining count count' w word s long wide bits c none low high = record {
+    → SettledTo first now' touched (set touching w 0) line (set lining w (bit_or (get_or lining w 0) word)) start count' (w + 1)
+settled_more first now now' touched touching line lining start count count' w word s long wide bits c none low high = record {
   sum = whole;
-  bits = λ k h. word_more (λ j. count_bit (before (j + 1) first) (word_bit line j)) lining w
+  bits = λ k h. word_more (λ j. count_bit (start +ℤ before (j + 1) first) (word_bit line j)) lining w
       (bit_or (get_or lining w 0) word) (32 * (w + 1)) long (omega arith) s.bits by_bits k h;
   rest = λ v h. let ne : v ≢ w = omega arith in get_or-set_other lining w v (bit_or (get_or lining w 0) word) 0 ne ∙
       s.rest v (omega arith);
@@ -283,16 +284,16 @@ settled_more first now now' touched touching line lining count count' w word s l
   kept = λ k h. high k (omega arith) ∙ s.kept k (omega arith);
 }
   where
-    whole : count' ≡ before (32 * (w + 1)) first
+    whole : count' ≡ start +ℤ before (32 * (w + 1)) first
     whole =
         let e : 32 * w + 32 ≡ 32 * (w + 1) = omega arith in
-        c ∙ word_sum first now touched touching line lining count w 32 s ∙ ap (λ (n : ℕ). before n first) e
+        c ∙ word_sum first now touched touching line lining start count w 32 s ∙ ap (λ (n : ℕ). start +ℤ before n first) e
 
     by_bits : (i : ℕ) → i < 32 → 32 * w + i < 32 * (w + 1)
         → bit_at (bit_or (get_or lining w 0) word) (31 - i)
-        ≡ count_bit (before (32 * w + i + 1) first) (word_bit line (32 * w + i))
+        ≡ count_bit (start +ℤ before (32 * w + i + 1) first) (word_bit line (32 * w + i))
     by_bits i h l =
-        let z = before (32 * w + i + 1) first in
+        let z = start +ℤ before (32 * w + i + 1) first in
         let b = word_bit line (32 * w + i) in
         let at : (32 * w + i) / 32 ≡ w = omega arith in
         let place : (32 * w + i) % 32 ≡ i = omega arith in
@@ -302,7 +303,7 @@ settled_more first now now' touched touching line lining count count' w word s l
         ap (λ n. bit_at n (31 - i)) same ∙ sym (λ j. bit_at (get_or line (at j) 0) (31 - place j)) in
         let new : bit_at word (31 - i) ≡ count_bit z 0 =
         bits i h ∙ ap (λ (y : ℤ). count_bit y 0)
-        (word_sum first now touched touching line lining count w (i + 1) s ∙ ap (λ (n : ℕ). before n first) next) in
+        (word_sum first now touched touching line lining start count w (i + 1) s ∙ ap (λ (n : ℕ). start +ℤ before n first) next) in
         bit_at_or (get_or lining w 0) word (31 - i)
         ∙ ap (λ n. max n (bit_at word (31 - i))) old
         ∙ either z b (bit_at word (31 - i)) (bit_at-lt (get_or line ((32 * w + i) / 32) 0) (31 - (32 * w + i) % 32)) new

@@ -63,18 +63,19 @@ fn settle_word(diff: &mut [i32], touched: u32, from: usize, count: &mut i32) -> 
     bits
 }
 
-/// Sets the bit of each column whose count is not 0. The differences are 0 afterwards, and no column is touched.
-pub fn settle(diff: &mut [i32], touched: &mut [u32], line: &mut [u32])
+/// Sets the bit of each column whose count is not 0: the sum of the row's start and of the differences up to the column. The
+/// differences are 0 afterwards, and no column is touched.
+pub fn settle(diff: &mut [i32], touched: &mut [u32], start: i32, line: &mut [u32])
     requires long { length diff.old ≡ 32 * length line.old }
     requires words { length touched.old ≡ length line.old }
     requires touched { AreTouched diff.old touched.old }
-    requires small { (k : ℕ) → IsWithin (2 ^ 20) (before k diff.old) }
+    requires small { (k : ℕ) → IsWithin (2 ^ 20) (start +ℤ before k diff.old) }
     ensures bits { (k : ℕ) → k < 32 * length line.old →
-        word_bit line.new k ≡ count_bit (before (k + 1) diff.old) (word_bit line.old k) }
+        word_bit line.new k ≡ count_bit (start +ℤ before (k + 1) diff.old) (word_bit line.old k) }
     ensures clear { AreZero diff.new }
     ensures untouched { (w : ℕ) → get_or touched.new w 0 ≡ 0 }
 {
-    let mut count = 0;
+    let mut count = start;
     // The words before w are settled, and the count is that of the last column of the word before.
     'words: for w in 0..line.len() {
         line[w] |= settle_word(diff, touched[w], 32 * w, &mut count);

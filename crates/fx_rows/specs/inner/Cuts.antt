@@ -57,11 +57,13 @@ pub record IsAdded (s : Span) (p : Place) (old new : Bool) (turns turns' : ℤ) 
   pub sum : here ≡ false → turns' ≡ turns +ℤ (crossing p s +ℤ region p s)
   pub small : IsWithin 2 (turns' -ℤ turns)
 
--- what a piece adds to the differences, the touched columns and the marks of a row
-pub record IsRowAdded (s : Span) (row : ℤ) (f : Frame) (diff diff' : List ℤ) (touched touched' line line' : List ℕ) : Type 0 where
+-- what a piece adds to the start, the differences, the touched columns and the marks of a row
+pub record IsRowAdded (s : Span) (row : ℤ) (f : Frame) (start start' : ℤ) (diff diff' : List ℤ)
+    (touched touched' line line' : List ℕ) : Type 0 where
   pub added : (k : ℕ) → k < f.width → IsAdded s (centre (f.left +ℤ pos k) row) (is_marked line k) (is_marked line' k)
-      (before (k + 1) diff) (before (k + 1) diff')
-  pub rest : (k : ℕ) → f.width ≤ k → before (k + 1) diff' ≡ before (k + 1) diff
+      (start +ℤ before (k + 1) diff) (start' +ℤ before (k + 1) diff')
+  pub rest : (k : ℕ) → f.width ≤ k → start' +ℤ before (k + 1) diff' ≡ start +ℤ before (k + 1) diff
   pub unused : (k : ℕ) → f.width ≤ k → word_bit line k ≡ 0 → word_bit line' k ≡ 0
+  pub started : IsWithin 1 (start' -ℤ start)
   pub grown : (n : ℕ) → AreWithin n diff → AreWithin (n + 4) diff'
   pub touches : AreTouched diff touched → AreTouched diff' touched'

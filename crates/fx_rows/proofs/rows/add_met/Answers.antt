@@ -25,10 +25,10 @@ add_part-requires-clause-on c =
     on_inside (bounded_span c.args.bounded.now) c.args.frame c.met_part-part.result.on c.met_part-part.ensures.part.formed
 
 pub returns-clause-added : goal.returns-clause-added
-returns-clause-added c =
+returns-clause-added c = λ start.
     let row : to_z w32 (of_z w32 c.args.row) ≡ c.args.row = omega (arith, signed_linear) in
     let s = bounded_span c.args.bounded.now in
-    added_part s c.args.row c.args.frame c.met_part-part.result c.args.diff.now c.add_part.new.diff c.args.touched.now
+    added_part s c.args.row c.args.frame c.met_part-part.result start c.args.diff.now c.add_part.new.diff c.args.touched.now
     c.add_part.new.touched c.args.line.now c.add_part.new.line
     (subst (λ (r : ℤ). IsRowPart s r c.args.frame c.met_part-part.result) row c.met_part-part.ensures.part) c.add_part.ensures.sums
     c.add_part.ensures.grown c.add_part.ensures.touched c.add_part.ensures.marks

@@ -30,5 +30,13 @@ returns-in-Some-clause-added c =
     let s = bounded_span c.args.bounded.now in
     let nn : to_z w32 (of_z w32 c.args.row) ≡ c.args.row = omega (arith, signed_linear) in
     let h : IsCut s c.strip_of-strip.result c.in-Some.cut = c.in-Some.ensures.cut in
-    subst (λ (r : ℤ). IsRowAdded s r c.args.frame c.args.diff.now c.add_cut.new.diff c.args.touched.now c.add_cut.new.touched
-    c.args.line.now c.add_cut.new.line) (c.strip_of-strip.ensures.row ∙ nn) (c.add_cut.ensures s h)
+    subst (λ (r : ℤ). IsRowAdded s r c.args.frame c.args.start.now c.add_cut.new.start c.args.diff.now c.add_cut.new.diff
+    c.args.touched.now c.add_cut.new.touched c.args.line.now c.add_cut.new.line) (c.strip_of-strip.ensures.row ∙ nn)
+    (c.add_cut.ensures s h)
+
+pub returns-clause-added : goal.returns-clause-added
+returns-clause-added c =
+    let row : to_z w32 (of_z w32 c.args.row) ≡ c.args.row = omega (arith, signed_linear) in
+    subst (λ (r : ℤ). IsRowAdded (bounded_span c.args.bounded.now) r c.args.frame c.args.start.now c.args.start.now
+    c.args.diff.now c.add_met.new.diff c.args.touched.now c.add_met.new.touched c.args.line.now c.add_met.new.line) row
+    (c.add_met.ensures.added c.args.start.now)
