@@ -1,6 +1,7 @@
 -- The walk over components by its steps gives what the recursion on components gives.
 -- For the walk, one loop with the composites that wait in a list.
-use Rattle.std.proofs.Common.{◌≡◌, ℕ, zero, suc, ◌+◌, ◌-◌, List, [], ◌∷◌, ◌++◌, length, refl, sym, ap, ◌∙◌, subst, Result, Ok, Err, arith}
+use Rattle.std.proofs.Common.{◌≡◌, ℕ, zero, suc, ◌+◌, ◌-◌, List, [], ◌∷◌, ◌++◌, length, refl, sym}
+use Rattle.std.proofs.Common.{ap, ◌∙◌, subst, Result, Ok, Err, arith}
 use Rattle.std.proofs.Common.{length-append}
 use Rattle.fx_fixed.proofs.Chain.{map_ok_ok}
 use Rattle.fx_hint.specs.Limits.{max_depth}
@@ -73,7 +74,8 @@ module _ (h : Hinting) (face : Face) (s : Scale) (root : ℕ) where
       ≡ (begun h face s root g count >>= given_by h face s root levels)
   unfolding assembled begun
   assembled_by levels g count =
-      three_of (map_fault Font (metrics_of face g)) (map_fault Font (glyph_bytes_of face g)) (λ bytes. map_fault Glyph (glyph_of bytes g))
+      three_of (map_fault Font (metrics_of face g)) (map_fault Font (glyph_bytes_of face g))
+      (λ bytes. map_fault Glyph (glyph_of bytes g))
       (λ m glyph. made_of h s root (component h face s root levels) g m glyph count)
       (λ m glyph. begun_by h s root g m glyph count) (given_by h face s root levels)
       (λ m glyph. made_by levels g m glyph count)
@@ -93,7 +95,8 @@ module _ (h : Hinting) (face : Face) (s : Scale) (root : ℕ) where
       >>= goes_into h face s root levels (record { part = part; composite = record c { parts = parts } }))
   unfolding with_parts
   waits levels c part parts count e =
-      ap (λ (ps : List Part). with_parts s h.on (component h face s root levels) c.g ps c.base count >>= run_on h c.g c.glyph.code) e
+      ap (λ (ps : List Part). with_parts s h.on (component h face s root levels) c.g ps c.base count
+      >>= run_on h c.g c.glyph.code) e
       ∙ two_after (component h face s root levels part.glyph count) (λ m. with_part s h.on c.g part c.base m.0)
       (λ m more. with_parts s h.on (component h face s root levels) c.g parts more m.1) (run_on h c.g c.glyph.code)
 
@@ -102,7 +105,8 @@ module _ (h : Hinting) (face : Face) (s : Scale) (root : ℕ) where
       → left h face s root levels c count ≡ run_on h c.g c.glyph.code (c.base, count)
   unfolding with_parts
   closes levels c count e =
-      ap (λ (ps : List Part). with_parts s h.on (component h face s root levels) c.g ps c.base count >>= run_on h c.g c.glyph.code) e
+      ap (λ (ps : List Part). with_parts s h.on (component h face s root levels) c.g ps c.base count
+      >>= run_on h c.g c.glyph.code) e
 
   -- a refusal is the root's
   rest_refused : (levels : ℕ) (ws : List Waiting) (e : HintFault) → rest_of h face s root levels ws (Err e) ≡ Err e
@@ -163,7 +167,8 @@ module _ (h : Hinting) (face : Face) (s : Scale) (root : ℕ) where
       → map_ok (λ more. record w.composite { base = more }) (with_part s h.on w.composite.g w.part w.composite.base made) ≡ Ok c
       → rest_of h face s root max_depth below (given_by h face s root (max_depth - length below) (Open c, count)) ≡ due
   joins below all w made count c due i e j =
-      let p = map_ok_ok (λ more. record w.composite { base = more }) (with_part s h.on w.composite.g w.part w.composite.base made) c j in
+      let p = map_ok_ok (λ more. record w.composite { base = more })
+      (with_part s h.on w.composite.g w.part w.composite.base made) c j in
       ap (λ (d : OpenComposite). rest_of h face s root max_depth below (left h face s root (max_depth - length below) d count))
       (sym p.2)
       ∙ sym (ap (λ (q : Result Made HintFault). rest_of h face s root max_depth below
@@ -179,7 +184,8 @@ module _ (h : Hinting) (face : Face) (s : Scale) (root : ℕ) where
       → map_ok (λ more. record w.composite { base = more }) (with_part s h.on w.composite.g w.part w.composite.base made) ≡ Err d
       → due ≡ Err d
   not_joined below all w made count due d i e j =
-      let p = map_ok_err (λ more. record w.composite { base = more }) (with_part s h.on w.composite.g w.part w.composite.base made) d j in
+      let p = map_ok_err (λ more. record w.composite { base = more })
+      (with_part s h.on w.composite.g w.part w.composite.base made) d j in
       sym (into below all w made count due i e)
       ∙ ap (λ (q : Result Made HintFault). rest_of h face s root max_depth below
       (q >>= λ more. left h face s root (max_depth - length below) (record w.composite { base = more }) count)) p
@@ -229,7 +235,8 @@ module _ (h : Hinting) (face : Face) (s : Scale) (root : ℕ) where
       let deeper : max_depth - length (below ++ w ∷ []) ≡ max_depth - length below - 1 = omega arith in
       let there = rest_after max_depth below w (given_by h face s root (max_depth - length below - 1) (step, counted))
       ∙ sym (ap (λ (q : Result (Step × Count) HintFault). rest_of h face s root max_depth below
-      ((q >>= given_by h face s root (max_depth - length below - 1)) >>= goes_into h face s root (max_depth - length below) w)) begun)
+      ((q >>= given_by h face s root (max_depth - length below - 1))
+      >>= goes_into h face s root (max_depth - length below) w)) begun)
       ∙ down below c part parts count due i e in
       let P : ℕ → Type 0 =
       λ k. rest_of h face s root max_depth (below ++ w ∷ []) (given_by h face s root k (step, counted)) ≡ due in
@@ -247,7 +254,8 @@ module _ (h : Hinting) (face : Face) (s : Scale) (root : ℕ) where
       let begun : begun_component h face s root (max_depth - length below) part.glyph count ≡ Err d = rw l at b in
       sym (down below c part parts count due i e)
       ∙ ap (λ (q : Result (Step × Count) HintFault). rest_of h face s root max_depth below
-      ((q >>= given_by h face s root (max_depth - length below - 1)) >>= goes_into h face s root (max_depth - length below) w)) begun
+      ((q >>= given_by h face s root (max_depth - length below - 1))
+      >>= goes_into h face s root (max_depth - length below) w)) begun
       ∙ rest_refused max_depth below d
 
   -- the next component is assembled at once, and goes into the composite

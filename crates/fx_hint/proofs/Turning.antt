@@ -1,6 +1,7 @@
 -- Places that a transformation leaves where they are.
 -- For components without a transformation.
-use Rattle.std.proofs.Common.{◌≡◌, ℕ, ◌^◌, ℤ, pos, ◌+ℤ◌, ◌-ℤ◌, ◌*ℤ◌, unsigned_abs, FitsSigned, arith, ◌∙◌, ap, sym, refl, to_z, of_z}
+use Rattle.std.proofs.Common.{◌≡◌, ℕ, ◌^◌, ℤ, pos, ◌+ℤ◌, ◌-ℤ◌, ◌*ℤ◌, unsigned_abs, FitsSigned, arith}
+use Rattle.std.proofs.Common.{◌∙◌, ap, sym, refl, to_z, of_z}
 use Rattle.std.proofs.Common.{to_z-of_z, List, [], ◌∷◌, map}
 use Rattle.std.proofs.lemmas.Int.{ints, int_wrap_fits, int_wrap-add_left}
 use Rattle.std.specs.Int.{w16, w32}

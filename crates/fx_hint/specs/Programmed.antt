@@ -1,6 +1,7 @@
 -- Hinting by the programs of a font.
 -- Apple TrueType Reference Manual, "Instructing TrueType Glyphs": phantom points; "The Instruction Set": INSTCTRL.
-use Rattle.std.specs.Prelude.{ℕ, ◌+◌, List, [], length, take, true, false, ◌||◌, nat_eq, if◌then◌else◌, Option, Some, None, slice_get}
+use Rattle.std.specs.Prelude.{ℕ, ◌+◌, List, [], length, take, true, false, ◌||◌, nat_eq}
+use Rattle.std.specs.Prelude.{if◌then◌else◌, Option, Some, None, slice_get}
 use Rattle.std.specs.Prelude.{Result, Ok}
 use Rattle.fx_fixed.specs.Chain.{◌>>=◌, map_fault}
 use Rattle.fx_fixed.specs.Places.{origin}

@@ -1,5 +1,6 @@
 -- Rows between the ends of a slanted chord: one value before a column, and 0 from it on, but for the columns on the piece.
-use Rattle.std.specs.Prelude.{◌≡◌, ◌⊎◌, ◌↔◌, IsTrue, ℕ, ◌+◌, ◌≤◌, ◌<◌, ℤ, pos, ◌+ℤ◌, ◌-ℤ◌, ◌*ℤ◌, ◌≤ℤ◌, ◌<ℤ◌, Bool, true, false, List}
+use Rattle.std.specs.Prelude.{◌≡◌, ◌⊎◌, ◌↔◌, IsTrue, ℕ, ◌+◌, ◌≤◌, ◌<◌, ℤ, pos, ◌+ℤ◌, ◌-ℤ◌}
+use Rattle.std.specs.Prelude.{◌*ℤ◌, ◌≤ℤ◌, ◌<ℤ◌, Bool, true, false, List}
 use Rattle.std.specs.Prelude.{Option, Some, None}
 use Rattle.fx_fixed.specs.Ranges.{IsWithin}
 use Rattle.fx_winding.specs.Area.{Place}

@@ -9,7 +9,8 @@ invariant-steps g l = record {
   known : g.H.Hinter.known l.hinter ≡ g.H.Hinter.known l.fn.hinter;
   kept : g.H.Hinter.hinting l.hinter ≡ g.H.Hinter.hinting l.fn.hinter;
   due : rest_of (g.H.Hinter.hinting l.fn.hinter) l.self.font.now l.self.scale.now l.self.root max_depth l.below
-      (left (g.H.Hinter.hinting l.fn.hinter) l.self.font.now l.self.scale.now l.self.root (max_depth - length l.below) l.open l.count)
+      (left (g.H.Hinter.hinting l.fn.hinter) l.self.font.now l.self.scale.now l.self.root (max_depth - length l.below)
+      l.open l.count)
       ≡ left (g.H.Hinter.hinting l.fn.hinter) l.self.font.now l.self.scale.now l.self.root max_depth l.fn.root l.fn.count;
   deep : length l.below ≤ max_depth;
   few : l.count.records ≤ max_components;
