@@ -46,7 +46,8 @@ pub struct GState {
 }
 
 impl GState {
-    ghost use Rattle.std.specs.Prelude.{◌≡◌, OnErr, IfSome};
+    ghost use Rattle.std.specs.Prelude.{◌≡◌, None, OnErr, IfSome};
+    ghost use Rattle.fx_fixed.specs.declared.places.Axis.{Axis as TheAxis};
     ghost use Rattle.fx_gstate.specs.Vectors.{axis_of, line_of, words_of, projection_of, shift_of, place_along, has_part};
     ghost use Rattle.fx_gstate.specs.Rounding.{Rounds, rounded_of, super_grid_of};
     ghost use Rattle.fx_gstate.specs.declared.rounding.RoundState.TheVariants.{Super};
@@ -128,7 +129,8 @@ impl GState {
 
     /// The axis along which both the freedom and the projection vector lie, if they lie along one.
     pub fn axis(&self) -> Option<Axis>
-        ensures { IfSome result (λ axis. (self.now.freedom ≡ axis_of axis) × (self.now.projection ≡ axis_of axis)) }
+        ensures along { IfSome result (λ axis. (self.now.freedom ≡ axis_of axis) × (self.now.projection ≡ axis_of axis)) }
+        ensures none { result ≡ None → (axis : TheAxis) → ¬ ((self.now.freedom ≡ axis_of axis) × (self.now.projection ≡ axis_of axis)) }
     {
         if self.freedom.is_along(Axis::X) && self.projection.is_along(Axis::X) {
             return Some(Axis::X);

@@ -2,7 +2,7 @@
 
 ghost use Rattle.std.specs.Prelude.{◌≡◌, ◌≤◌};
 ghost use Rattle.fx_pointops.specs.Zones.{HasShapes};
-ghost use Rattle.fx_pointops.specs.inner.Controlled.{control_point, flipped_control};
+ghost use Rattle.fx_pointops.specs.inner.Controlled.{mirp_distance_of, mirp_outside_of};
 ghost use Rattle.fx_pointops.specs.Indirect.{is_cut_off, laid_along, aimed_of, moved_to_coordinate, miap_of, laid_from_rp, is_one_negative, auto_flipped, cut_in_by, controlled_of, moved_to_control, mirp_of};
 
 use crate::distances::{Relative, is_below, kept_by, negative, single, size};
@@ -73,10 +73,10 @@ fn controlled(g: &GState, how: Relative, o: F26, v: F26) -> F26
     kept_by(g, how, o, d)
 }
 
-/// The same of a control value that auto flip may turn.
-#[tactic(auto, unfolding(crate::specs::inner::Controlled::flipped_control))]
-fn flipped_control(g: &GState, how: Relative, o: F26, v: F26) -> F26
-    ensures { result ≡ flipped_control g.now how o v }
+/// The same of a control value that auto flip may still turn.
+#[tactic(auto, unfolding(crate::specs::inner::Controlled::mirp_distance_of))]
+fn mirp_distance(g: &GState, how: Relative, o: F26, v: F26) -> F26
+    ensures { result ≡ mirp_distance_of g.now how o v }
 {
     controlled(g, how, o, auto_flipped(g, o, v))
 }
@@ -136,7 +136,7 @@ impl Zones {
     }
 
     /// MIRP: moves a point to a control value from reference point 0.
-    #[tactic(auto, unfolding(crate::specs::Indirect::mirp_of, crate::specs::inner::Controlled::control_point, crate::specs::inner::Controlled::flipped_control))]
+    #[tactic(auto, unfolding(crate::specs::Indirect::mirp_of, crate::specs::inner::Controlled::mirp_outside_of, crate::specs::inner::Controlled::mirp_distance_of))]
     pub fn mirp(&mut self, g: &GState, how: Relative, p: i32, v: F26) -> u64
         ensures value { (self.new, result) ≡ mirp_of g.now how p v self.old }
         ensures few { result ≤ 2 }
@@ -145,40 +145,40 @@ impl Zones {
         if is_twilight(g.zp1) {
             return self.mirp_in_twilight(g, how, p, v);
         }
-        self.control_point(g, how, p, single(g, v))
+        self.mirp_outside(g, how, p, single(g, v))
     }
 
-    /// Moves a point to a control value from reference point 0, and counts the strays among the two; each is read once.
-    #[tactic(auto, unfolding(crate::specs::inner::Controlled::control_point))]
-    fn control_point(&mut self, g: &GState, how: Relative, p: i32, v: F26) -> u64
-        ensures value { (self.new, result) ≡ control_point g.now how p v self.old }
+    /// MIRP outside the twilight zone, with the control value as the single width has left it. Each of the two points is read once.
+    #[tactic(auto, unfolding(crate::specs::inner::Controlled::mirp_outside_of))]
+    fn mirp_outside(&mut self, g: &GState, how: Relative, p: i32, v: F26) -> u64
+        ensures value { (self.new, result) ≡ mirp_outside_of g.now how p v self.old }
         ensures few { result ≤ 2 }
         ensures shapes { HasShapes self.old self.new }
     {
         let Some(point) = self.point(g.zp1, p) else {
-            return self.control_stray(g, how, p, v);
+            return self.mirp_by_strays(g, how, p, v);
         };
         let Some(base) = self.point(g.zp0, g.rp0) else {
-            return self.control_stray(g, how, p, v);
+            return self.mirp_by_strays(g, how, p, v);
         };
         let o = g.dual_project_place(point.org.minus(base.org));
         let c = g.project_place(point.cur.minus(base.cur));
-        self.move_by(g, g.zp1, p, flipped_control(g, how, o, v).minus(c));
+        self.move_by(g, g.zp1, p, mirp_distance(g, how, o, v).minus(c));
         0
     }
 
     /// The same if one of the two may be a stray.
     #[inline(never)]
-    #[tactic(auto, unfolding(crate::specs::inner::Controlled::control_point))]
-    fn control_stray(&mut self, g: &GState, how: Relative, p: i32, v: F26) -> u64
-        ensures value { (self.new, result) ≡ control_point g.now how p v self.old }
+    #[tactic(auto, unfolding(crate::specs::inner::Controlled::mirp_outside_of))]
+    fn mirp_by_strays(&mut self, g: &GState, how: Relative, p: i32, v: F26) -> u64
+        ensures value { (self.new, result) ≡ mirp_outside_of g.now how p v self.old }
         ensures few { result ≤ 2 }
         ensures shapes { HasShapes self.old self.new }
     {
         let point = self.point(g.zp1, p);
         let base = self.point(g.zp0, g.rp0);
         let o = self.original(g, g.zp1, p, g.zp0, g.rp0);
-        self.move_to_distance(g, p, flipped_control(g, how, o, v));
+        self.move_to_distance(g, p, mirp_distance(g, how, o, v));
         stray(&point) + stray(&base)
     }
 
