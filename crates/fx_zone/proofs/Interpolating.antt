@@ -6,7 +6,7 @@ use Rattle.std.proofs.Math.Seq.{take-suc, drop-cons, take-append-add, drop-appen
 use Rattle.std.proofs.lemmas.List.{append_assoc, append-nil, reverse-append, length-append, length-take-le, length-drop, length-map}
 use Rattle.std.proofs.lemmas.List.{reverse-reverse, drop_all, take_all, get_or-drop, drop-drop, drop_more, take-append-drop}
 use Rattle.std.proofs.lemmas.Slice.{take-put_mid, drop-put_mid}
-use borrow.Rule.Slice.PartMut.{put_mid, same_len_mid}
+use borrow.Rule.Slice.PartMut.{put_mid}
 use Rattle.std.proofs.lemmas.Int.{ints, by_lt_z}
 use Rattle.fx_zone.specs.declared.point.Point.{Point}
 use Rattle.fx_fixed.specs.declared.places.Axis.{Axis}
@@ -140,25 +140,48 @@ pub last_none : (axis : Axis) (xs : List Point) (left : ℕ) → left ≡ 0
     → first_touched axis (reverse xs) ≡ first_touched axis (reverse (take left xs)) → None ≡ first_touched axis (reverse xs)
 last_none axis xs left z s = sym (rw z at s ∙ none_in_nothing axis)
 
--- the run of untouched points from start on, at a number within it
-pub run_here : (axis : Axis) (xs : List Point) (start k : ℕ) (p : Point) → k < length xs
-    → untouched_run axis (drop start xs) ≡ k - start + untouched_run axis (drop k xs) → p ≡ get_or xs k p
-    → is_touched axis p ≡ true → k - start ≡ untouched_run axis (drop start xs)
-run_here axis xs start k p h i g t =
+-- the run of untouched points from the first on, at a number within it
+pub first_run_here : (axis : Axis) (xs : List Point) (k : ℕ) (p : Point) → k < length xs
+    → untouched_run axis xs ≡ k + untouched_run axis (drop k xs) → p ≡ get_or xs k p
+    → is_touched axis p ≡ true → k ≡ untouched_run axis xs
+first_run_here axis xs k p h i g t =
     let e = ap (untouched_run axis) (drop-cons xs k p h)
     ∙ run_at axis (get_or xs k p) (drop (suc k) xs) (sym (ap (is_touched axis) g) ∙ t) in omega (arith, e, i)
 
-pub run_more : (axis : Axis) (xs : List Point) (start k : ℕ) (p : Point) → start ≤ k → k < length xs
-    → untouched_run axis (drop start xs) ≡ k - start + untouched_run axis (drop k xs) → p ≡ get_or xs k p
-    → is_touched axis p ≡ false → untouched_run axis (drop start xs) ≡ k + 1 - start + untouched_run axis (drop (k + 1) xs)
-run_more axis xs start k p l h i g t =
+pub first_run_more : (axis : Axis) (xs : List Point) (k : ℕ) (p : Point) → k < length xs
+    → untouched_run axis xs ≡ k + untouched_run axis (drop k xs) → p ≡ get_or xs k p
+    → is_touched axis p ≡ false → untouched_run axis xs ≡ k + 1 + untouched_run axis (drop (k + 1) xs)
+first_run_more axis xs k p h i g t =
     let e = ap (untouched_run axis) (drop-cons xs k p h)
     ∙ run_on axis (get_or xs k p) (drop (suc k) xs) (sym (ap (is_touched axis) g) ∙ t) in
     let s : k + 1 ≡ suc k = omega arith in
+    rw s (omega (arith, e, i))
+
+pub first_run_all : (axis : Axis) (xs : List Point) (k : ℕ) → k ≡ length xs
+    → untouched_run axis xs ≡ k + untouched_run axis (drop k xs) → length xs ≡ untouched_run axis xs
+first_run_all axis xs k h i =
+    let e = ap (untouched_run axis) (drop_all k xs (omega (arith, h))) ∙ run_nil axis in omega (arith, e, i, h)
+
+-- the run from a point on, at a number within it: that many points from there are untouched
+abbrev pub Untouched : Axis → List Point → ℕ → ℕ → Type 0
+Untouched axis xs start k = untouched_run axis (drop start xs) ≡ k - start + untouched_run axis (drop k xs)
+
+run_here : (axis : Axis) (xs : List Point) (start k : ℕ) (d : Point) → k < length xs → Untouched axis xs start k
+    → is_touched axis (get_or xs k d) ≡ true → k - start ≡ untouched_run axis (drop start xs)
+run_here axis xs start k d h i t =
+    let e = ap (untouched_run axis) (drop-cons xs k d h) ∙ run_at axis (get_or xs k d) (drop (suc k) xs) t in omega (arith, e, i)
+
+pub run_more : (axis : Axis) (xs : List Point) (start k : ℕ) (d : Point) → start ≤ k → k < length xs → Untouched axis xs start k
+    → is_touched axis (get_or xs k d) ≡ false → Untouched axis xs start (k + 1)
+run_more axis xs start k d l h i t =
+    let e = ap (untouched_run axis) (drop-cons xs k d h) ∙ run_on axis (get_or xs k d) (drop (suc k) xs) t in
+    let s : k + 1 ≡ suc k = omega arith in
     rw s (omega (arith, e, i, l))
 
-pub run_all : (axis : Axis) (xs : List Point) (start k : ℕ) → k ≡ length xs
-    → untouched_run axis (drop start xs) ≡ k - start + untouched_run axis (drop k xs)
+pub run_none_yet : (axis : Axis) (xs : List Point) (k : ℕ) → Untouched axis xs k k
+run_none_yet axis xs k = omega arith
+
+run_all : (axis : Axis) (xs : List Point) (start k : ℕ) → k ≡ length xs → Untouched axis xs start k
     → length xs - start ≡ untouched_run axis (drop start xs)
 run_all axis xs start k h i =
     let e = ap (untouched_run axis) (drop_all k xs (omega (arith, h))) ∙ run_nil axis in omega (arith, e, i, h)
@@ -351,28 +374,29 @@ put_run_at axis first before t pts ys start k m d w r h e g y =
     ∙ ap (λ zs. p ++ zs) (append_assoc ys (t ∷ []) (swept axis first t rest) ∙ sym s)
 
 -- the run before the next touched point is interpolated
-pub put_run : (axis : Axis) (first before t : Point) (pts ys : List Point) (start k m : ℕ) → start ≤ length pts
-    → k ≡ untouched_run axis (drop start pts) → k < length pts - start → m ≡ k → t ≡ get_or pts (start + k) t
+pub put_run : (axis : Axis) (first before t d : Point) (pts ys : List Point) (start end m : ℕ) → start ≤ end → end < length pts
+    → Untouched axis pts start end → is_touched axis (get_or pts end d) ≡ true → m ≡ end - start → t ≡ get_or pts end t
     → ys ≡ map (between axis before t) (take m (drop start pts)) →
-    take (start + k + 1) (put_mid start m pts ys) ++ swept axis first t (drop (start + k + 1) (put_mid start m pts ys)) ≡ take
+    take (end + 1) (put_mid start m pts ys) ++ swept axis first t (drop (end + 1) (put_mid start m pts ys)) ≡ take
     start pts ++ swept axis first before (drop start pts)
-put_run axis first before t pts ys start k m w r h e g y =
-    put_run_at axis first before t pts ys start k m t w r h e (g ∙ sym (get_or-drop start pts k t)) y
-
-pub put_long : (f : Point → Point) (pts ys : List Point) (start m : ℕ) → ys ≡ map f (take m (drop start pts))
-    → length (put_mid start m pts ys) ≡ length pts
-put_long f pts ys start m y = same_len_mid start m pts ys (ap length y ∙ length-map (take m (drop start pts)) f)
+put_run axis first before t d pts ys start end m w h r touched e g y =
+    let back : start + (end - start) ≡ end = omega (arith, w) in
+    let here : t ≡ get_or (drop start pts) (end - start) t = g ∙ ap (λ n. get_or pts n t) (sym back)
+    ∙ sym (get_or-drop start pts (end - start) t) in
+    rw back at
+    (put_run_at axis first before t pts ys start (end - start) m t (omega (arith, w, h))
+    (run_here axis pts start end d h r touched) (omega (arith, w, h)) e here y)
 
 whole_rest : (l : List Point) (s : ℕ) → take (length l - s) (drop s l) ≡ drop s l
 whole_rest l s = take_all (length l - s) (drop s l) (omega (arith, length-drop s l))
 
 -- the run behind the last touched point
-pub put_end : (axis : Axis) (first before : Point) (pts ys : List Point) (start k : ℕ) → k ≡ untouched_run axis (drop start pts)
-    → length pts - start ≤ k → ys ≡ map (between axis before first) (take (length pts - start) (drop start pts)) →
+pub put_end : (axis : Axis) (first before : Point) (pts ys : List Point) (start end : ℕ) → end ≡ length pts
+    → Untouched axis pts start end → ys ≡ map (between axis before first) (take (length pts - start) (drop start pts)) →
     put_mid start (length pts - start) pts ys ≡ take start pts ++ swept axis first before (drop start pts)
-put_end axis first before pts ys start k r h y =
+put_end axis first before pts ys start end h r y =
     let xs = drop start pts in
-    let all : length xs ≤ untouched_run axis xs = omega (arith, length-drop start pts, h, r) in
+    let all : length xs ≤ untouched_run axis xs = omega (arith, length-drop start pts, run_all axis pts start end h r) in
     let none : drop (length pts - start) xs ≡ [] = drop_all (length pts - start) xs (omega (arith, length-drop start pts)) in
     let same : ys ≡ swept axis first before xs = y ∙ ap (map (between axis before first)) (whole_rest pts start)
     ∙ sym (end_swept axis first before xs all) in
