@@ -2,8 +2,8 @@
 
 ghost use Rattle.std.specs.Prelude.{◌≡◌, ◌≤◌, ◌∷◌, [], IsSome, MatchOption, option_map};
 ghost use Rattle.fx_glyf.specs.Words.{has, list_in};
-ghost use Rattle.fx_glyf.specs.inner.Sizes.{delta_size, measured_of};
-ghost use Rattle.fx_glyf.specs.Points.{x_short_vector, y_short_vector, x_is_same_or_positive_x_short_vector, y_is_same_or_positive_y_short_vector, next_flag, flags_from, start};
+ghost use Rattle.fx_glyf.specs.inner.Sizes.{AreSizes, measured_of};
+ghost use Rattle.fx_glyf.specs.Points.{next_flag, flags_from, start};
 
 use fx_fixed::after;
 use std::marker::Model;
@@ -69,30 +69,49 @@ fn next_flag(again: u8, flag: u8, bytes: &[u8]) -> (u8, u8, &[u8])
     }
 }
 
-/// How many bytes the delta of x takes, by bits 1 to 5 of the flag: 1 if it is short, else 0 if it is the same, else 2.
-static X_SIZES: [usize; 32] = [
-    2, 1, 2, 1, 2, 1, 2, 1, 0, 1, 0, 1, 0, 1, 0, 1, 2, 1, 2, 1, 2, 1, 2, 1, 0, 1, 0, 1, 0, 1, 0, 1,
+/// How many bytes the deltas of x and y take, by bits 1 to 5 of the flag: 1 if one is short, else 0 if it is the same, else 2.
+/// That of y is counted in units of 2^32, so that one sum adds up both.
+static SIZES: [u64; 32] = [
+    0x2_0000_0002,
+    0x2_0000_0001,
+    0x1_0000_0002,
+    0x1_0000_0001,
+    0x2_0000_0002,
+    0x2_0000_0001,
+    0x1_0000_0002,
+    0x1_0000_0001,
+    0x2_0000_0000,
+    0x2_0000_0001,
+    0x1_0000_0000,
+    0x1_0000_0001,
+    0x2_0000_0000,
+    0x2_0000_0001,
+    0x1_0000_0000,
+    0x1_0000_0001,
+    0x0_0000_0002,
+    0x0_0000_0001,
+    0x1_0000_0002,
+    0x1_0000_0001,
+    0x0_0000_0002,
+    0x0_0000_0001,
+    0x1_0000_0002,
+    0x1_0000_0001,
+    0x0_0000_0000,
+    0x0_0000_0001,
+    0x1_0000_0000,
+    0x1_0000_0001,
+    0x0_0000_0000,
+    0x0_0000_0001,
+    0x1_0000_0000,
+    0x1_0000_0001,
 ];
 
-/// The same of the delta of y.
-static Y_SIZES: [usize; 32] = [
-    2, 2, 1, 1, 2, 2, 1, 1, 2, 2, 1, 1, 2, 2, 1, 1, 0, 0, 1, 1, 0, 0, 1, 1, 0, 0, 1, 1, 0, 0, 1, 1,
-];
-
-/// The bytes of the delta of x with this flag.
-fn x_size(flag: u8) -> usize
-    ensures value { result ≡ delta_size x_short_vector x_is_same_or_positive_x_short_vector flag }
-    ensures size { result ≤ 2 }
+/// The bytes of the deltas with this flag, those of y in units of 2^32.
+#[inline(always)]
+fn sizes(flag: u8) -> u64
+    ensures { AreSizes flag result }
 {
-    X_SIZES[usize::from(flag >> 1) % 32]
-}
-
-/// The bytes of the delta of y with this flag.
-fn y_size(flag: u8) -> usize
-    ensures value { result ≡ delta_size y_short_vector y_is_same_or_positive_y_short_vector flag }
-    ensures size { result ≤ 2 }
-{
-    Y_SIZES[usize::from(flag >> 1) % 32]
+    SIZES[usize::from(flag >> 1) % 32]
 }
 
 /// What flags say of the bytes after them: how many the x deltas take, and how many the y deltas.
@@ -106,28 +125,30 @@ pub struct Measure<'a> {
 /// The measure of the flags of `count` points, and the bytes after them. Apart from what calls it, its loop has registers enough.
 #[inline(never)]
 pub fn measured(count: u32, bytes: &[u8]) -> Option<Measure<'_>>
+    requires { count ≤ 65536 }
     ensures { option_map (λ m. record { xs = m.xs; ys = m.ys; rest = m.rest.now }) result ≡ measured_of count bytes.now }
 {
-    let mut left = count as usize;
-    let mut xs = 0;
-    let mut ys = 0;
+    let mut left = u64::from(count);
+    let mut both = 0;
     let mut rest = bytes;
     // With the flags that are left, what was added up gives the measure of all.
     'runs: while left > 0 {
         let (again, flag, after_it) = run(rest)?;
         rest = after_it;
         if again == 0 {
-            xs += x_size(flag);
-            ys += y_size(flag);
+            both += sizes(flag);
             left -= 1;
         } else {
-            let points = left.min(usize::from(again) + 1);
-            xs += points * x_size(flag);
-            ys += points * y_size(flag);
+            let points = left.min(u64::from(again) + 1);
+            both += points * sizes(flag);
             left -= points;
         }
     }
-    Some(Measure { xs, ys, rest })
+    Some(Measure {
+        xs: (both % (1 << 32)) as usize,
+        ys: (both >> 32) as usize,
+        rest,
+    })
 }
 
 /// The flags of points that are left; their bytes are complete.

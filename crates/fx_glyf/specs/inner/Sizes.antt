@@ -1,5 +1,5 @@
 -- How many bytes the deltas of points take, by their flags (OpenType, `glyf`, simple glyph table).
-use Rattle.std.specs.Prelude.{ℕ, ◌+◌, List, [], ◌∷◌, Option, option_map, if◌then◌else◌}
+use Rattle.std.specs.Prelude.{◌≡◌, ℕ, ◌+◌, ◌*◌, List, [], ◌∷◌, Option, option_map, if◌then◌else◌}
 use Rattle.fx_glyf.specs.Words.{has}
 use Rattle.fx_glyf.specs.Points.{x_short_vector, y_short_vector, x_is_same_or_positive_x_short_vector}
 use Rattle.fx_glyf.specs.Points.{y_is_same_or_positive_y_short_vector, flags_from, start}
@@ -12,6 +12,11 @@ delta_size short same flag = if has flag short then 1 else (if has flag same the
 unfoldable pub deltas_size : ℕ → ℕ → List ℕ → ℕ
 deltas_size short same [] = 0
 deltas_size short same (f ∷ fs) = delta_size short same f + deltas_size short same fs
+
+-- the bytes of both deltas of a point with this flag, those of y in units of 2 ^ 32
+abbrev pub AreSizes : ℕ → ℕ → Type 0
+AreSizes flag both = both ≡ delta_size x_short_vector x_is_same_or_positive_x_short_vector flag
+    + delta_size y_short_vector y_is_same_or_positive_y_short_vector flag * 4294967296
 
 -- the bytes of the x deltas, the bytes of the y deltas, and what follows the flags
 pub record Measure : Type 0 where
