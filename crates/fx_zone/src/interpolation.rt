@@ -3,7 +3,7 @@
 ghost use Rattle.std.specs.Prelude.{◌≡◌, ◌≢◌, ◌+◌, ◌*◌, ◌≤◌, ◌<◌, ◌^◌, pos, ◌+ℤ◌, ◌-ℤ◌, ◌*ℤ◌, ◌<ℤ◌, unsigned_abs, length, map, reverse, slice_index_or};
 ghost use Rattle.std.specs.List.{All};
 ghost use Rattle.fx_fixed.specs.Numbers.{wrapped_of, near_size};
-ghost use Rattle.fx_zone.specs.Interpolation.{is_touched, moved_with, in_proportion, coordinate_between, placed, between, first_touched, untouched_run, contour_interpolated, contours_interpolated};
+ghost use Rattle.fx_zone.specs.Interpolation.{is_touched, moved_with, in_proportion, coordinate_between, placed, between, first_touched, untouched_run, point_before, contour_interpolated, contours_interpolated};
 
 use crate::point::Point;
 use fx_fixed::{Axis, F26, near, near_quotient, w32};
@@ -202,6 +202,19 @@ fn numbered(points: &[Point], number: usize) -> Point
     points[number]
 }
 
+/// The point before the one of a number; before the first the contour's last touched one.
+#[inline(always)]
+fn point_before(points: &[Point], number: usize, last: &Point) -> Point
+    requires { number ≤ length points.now }
+    ensures { result ≡ point_before last.now number points.now }
+{
+    if number == 0 {
+        *last
+    } else {
+        numbered(points, number - 1)
+    }
+}
+
 /// The last touched point.
 #[inline(always)]
 fn last_touched(points: &[Point], axis: Axis) -> Option<Point>
@@ -228,17 +241,19 @@ fn interpolate_contour(points: &mut [Point], axis: Axis)
         return;
     };
     let first = numbered(points, untouched_run(points, axis));
-    let mut before = last;
     let mut start = 0;
-    // The points before `start` are done, the last touched point before it is `before`, and those from there to `end` are untouched.
+    // The points before `start` are done, of which the last is touched, and those from there to `end` are untouched.
     'points: for end in 0..points.len() {
         if is_touched(&points[end], axis) {
-            let after = numbered(points, end);
-            interpolate_run(&mut points[start..end], axis, &before, &after);
-            before = after;
+            if start < end {
+                let before = point_before(points, start, &last);
+                let after = numbered(points, end);
+                interpolate_run(&mut points[start..end], axis, &before, &after);
+            }
             start = end + 1;
         }
     }
+    let before = point_before(points, start, &last);
     interpolate_run(&mut points[start..], axis, &before, &first);
 }
 

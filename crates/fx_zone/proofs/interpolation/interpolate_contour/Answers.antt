@@ -1,7 +1,8 @@
 use Rattle.std.proofs.Common.{◌+◌, arith, sym, ◌∙◌, refl}
-use Rattle.fx_zone.proofs.Interpolating.{contour_kept_backward, run_ends, contour_swept, run_none_yet, run_more, put_run, put_end}
+use Rattle.fx_zone.proofs.Interpolating.{contour_kept_backward, run_ends, contour_swept, run_none_yet, run_more, put_none, put_run}
+use Rattle.fx_zone.proofs.Interpolating.{put_end}
 use Rattle.fx_zone.proofs.interpolation.interpolate_contour.Goals as goal
-use Rattle.fx_zone.proofs.interpolation.interpolate_contour.Goals.{then-is_touched, else-is_touched}
+use Rattle.fx_zone.proofs.interpolation.interpolate_contour.Goals.{then-is_touched, then-start-end, else-start-end, else-is_touched}
 
 pub returns-in_default : goal.returns-in_default
 returns-in_default c = sym (contour_kept_backward c.args.axis c.args.points.now (sym c.in_default.is ∙ c.last_touched.ensures))
@@ -25,21 +26,27 @@ points-init c =
 pub points-preserved : goal.points-preserved
 points-preserved c =
     let i = c.points.invariant in
-    let here = c.index-points-end in
     elim c.if-is_touched.branch [
       | then-is_touched w ↦ record {
-        answer = rw (w.points-is, w.before-is, w.start-is)
-            (i.answer
-            ∙ sym (put_run c.args.axis _ c.points.before w.numbered-after.result here.result c.points.points
-            w.interpolate_run.new.points c.points.start c.points.end _ i.within (omega arith) i.run
-            (sym c.is_touched.ensures ∙ w.if-is_touched.true) refl w.numbered-after.ensures w.interpolate_run.ensures));
+        answer = elim w.if-start-end.branch [
+          | then-start-end v ↦ rw (w.points-is, v.points-is, w.start-is)
+              (i.answer
+              ∙ sym (put_run c.args.axis _ c.in-Some.last v.point_before-before.result v.numbered-after.result _ c.points.points
+              v.interpolate_run.new.points c.points.start c.points.end _ i.within (omega arith) i.run
+              (sym c.is_touched.ensures ∙ w.if-is_touched.true) refl v.point_before-before.ensures v.numbered-after.ensures
+              v.interpolate_run.ensures))
+          | else-start-end v ↦ rw (w.points-is, v.points-is, w.start-is)
+              (i.answer
+              ∙ sym (put_none c.args.axis _ c.in-Some.last _ c.points.points c.points.start c.points.end
+              (omega (arith, i.within, v.if-start-end.false)) (omega arith) (sym c.is_touched.ensures ∙ w.if-is_touched.true)))
+        ];
         run = rw w.start-is (run_none_yet c.args.axis c.if-is_touched.points (c.points.end + 1));
         within = omega (arith, w.start-is);
       }
       | else-is_touched w ↦ record {
-        answer = rw (w.points-is, w.before-is, w.start-is) i.answer;
+        answer = rw (w.points-is, w.start-is) i.answer;
         run = rw (w.points-is, w.start-is)
-            (run_more c.args.axis c.points.points c.points.start c.points.end here.result i.within (omega arith) i.run
+            (run_more c.args.axis c.points.points c.points.start c.points.end _ i.within (omega arith) i.run
             (sym c.is_touched.ensures ∙ w.if-is_touched.false));
         within = omega (arith, i.within, w.start-is);
       }
@@ -48,5 +55,5 @@ points-preserved c =
 pub returns : goal.returns
 returns c =
     let i = c.points.invariant in
-    put_end c.args.axis _ c.points.before c.points.points c.interpolate_run-2.new.points c.points.start c.points.end
-    (omega arith) i.run c.interpolate_run-2.ensures ∙ sym i.answer
+    put_end c.args.axis _ c.in-Some.last c.point_before-before-2.result c.points.points c.interpolate_run-2.new.points c.points.start
+    c.points.end (omega arith) i.run c.point_before-before-2.ensures c.interpolate_run-2.ensures ∙ sym i.answer
