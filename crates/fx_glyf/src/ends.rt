@@ -1,6 +1,6 @@
 //! The end points of a glyph's contours.
 
-ghost use Rattle.std.specs.Prelude.{◌≡◌, ◌*◌, ◌≤◌, length, IfSome};
+ghost use Rattle.std.specs.Prelude.{◌≡◌, ◌*◌, ◌≤◌, length};
 ghost use Rattle.fx_glyf.specs.Words.{words, count_from};
 
 use fx_fixed::after;
@@ -11,12 +11,10 @@ use std::marker::Model;
 #[tactic(auto, unfolding(fx_sfnt::specs::Fields::field))]
 pub fn count_points(contours: u16, bytes: &[u8]) -> Option<u32>
     requires { 2 * contours ≤ length bytes.now }
-    ensures value { result ≡ count_from 0 (words contours bytes.now) }
-    ensures few { IfSome result (λ count. count ≤ 65536) }
+    ensures { result ≡ count_from 0 (words contours bytes.now) }
 {
     let mut count = 0;
     let mut rest = bytes;
-    // The ends that are left give the number of all; there are at most 65,536 points so far.
     'ends: for _k in 0..contours {
         let end = u32::from(u16_in(rest, 0));
         if end + 1 < count {

@@ -1,8 +1,8 @@
 //! The flags of a glyph's points.
 
-ghost use Rattle.std.specs.Prelude.{◌≡◌, ◌≤◌, ◌∷◌, [], IsSome, MatchOption, option_map};
+ghost use Rattle.std.specs.Prelude.{◌≡◌, ◌*◌, ◌≤◌, ◌∷◌, [], IsSome, MatchOption, option_map, length};
 ghost use Rattle.fx_glyf.specs.Words.{has, list_in};
-ghost use Rattle.fx_glyf.specs.inner.Sizes.{AreSizes, measured_of};
+ghost use Rattle.fx_glyf.specs.inner.Sizes.{AreSizes, Measured, measured_of};
 ghost use Rattle.fx_glyf.specs.Points.{next_flag, flags_from, start};
 
 use fx_fixed::after;
@@ -69,49 +69,80 @@ fn next_flag(again: u8, flag: u8, bytes: &[u8]) -> (u8, u8, &[u8])
     }
 }
 
-/// How many bytes the deltas of x and y take, by bits 1 to 5 of the flag: 1 if one is short, else 0 if it is the same, else 2.
-/// That of y is counted in units of 2^32, so that one sum adds up both.
-static SIZES: [u64; 32] = [
-    0x2_0000_0002,
-    0x2_0000_0001,
-    0x1_0000_0002,
-    0x1_0000_0001,
-    0x2_0000_0002,
-    0x2_0000_0001,
-    0x1_0000_0002,
-    0x1_0000_0001,
-    0x2_0000_0000,
-    0x2_0000_0001,
-    0x1_0000_0000,
-    0x1_0000_0001,
-    0x2_0000_0000,
-    0x2_0000_0001,
-    0x1_0000_0000,
-    0x1_0000_0001,
-    0x0_0000_0002,
-    0x0_0000_0001,
-    0x1_0000_0002,
-    0x1_0000_0001,
-    0x0_0000_0002,
-    0x0_0000_0001,
-    0x1_0000_0002,
-    0x1_0000_0001,
-    0x0_0000_0000,
-    0x0_0000_0001,
-    0x1_0000_0000,
-    0x1_0000_0001,
-    0x0_0000_0000,
-    0x0_0000_0001,
-    0x1_0000_0000,
-    0x1_0000_0001,
+/// How many bytes deltas take, those of x and those of y.
+#[derive(Clone, Copy)]
+struct Sizes {
+    xs: usize,
+    ys: usize,
+}
+
+/// How many bytes the deltas of a point take, by bits 1 to 5 of the flag: 1 if one is short, else 0 if it is the same, else 2.
+static SIZES: [Sizes; 32] = [
+    Sizes { xs: 2, ys: 2 },
+    Sizes { xs: 1, ys: 2 },
+    Sizes { xs: 2, ys: 1 },
+    Sizes { xs: 1, ys: 1 },
+    Sizes { xs: 2, ys: 2 },
+    Sizes { xs: 1, ys: 2 },
+    Sizes { xs: 2, ys: 1 },
+    Sizes { xs: 1, ys: 1 },
+    Sizes { xs: 0, ys: 2 },
+    Sizes { xs: 1, ys: 2 },
+    Sizes { xs: 0, ys: 1 },
+    Sizes { xs: 1, ys: 1 },
+    Sizes { xs: 0, ys: 2 },
+    Sizes { xs: 1, ys: 2 },
+    Sizes { xs: 0, ys: 1 },
+    Sizes { xs: 1, ys: 1 },
+    Sizes { xs: 2, ys: 0 },
+    Sizes { xs: 1, ys: 0 },
+    Sizes { xs: 2, ys: 1 },
+    Sizes { xs: 1, ys: 1 },
+    Sizes { xs: 2, ys: 0 },
+    Sizes { xs: 1, ys: 0 },
+    Sizes { xs: 2, ys: 1 },
+    Sizes { xs: 1, ys: 1 },
+    Sizes { xs: 0, ys: 0 },
+    Sizes { xs: 1, ys: 0 },
+    Sizes { xs: 0, ys: 1 },
+    Sizes { xs: 1, ys: 1 },
+    Sizes { xs: 0, ys: 0 },
+    Sizes { xs: 1, ys: 0 },
+    Sizes { xs: 0, ys: 1 },
+    Sizes { xs: 1, ys: 1 },
 ];
 
-/// The bytes of the deltas with this flag, those of y in units of 2^32.
+/// The bytes of the deltas with this flag.
 #[inline(always)]
-fn sizes(flag: u8) -> u64
-    ensures { AreSizes flag result }
+fn sizes_of(flag: u8) -> Sizes
+    ensures value { AreSizes flag result.xs result.ys }
+    ensures few { (result.xs ≤ 2) × (result.ys ≤ 2) }
 {
     SIZES[usize::from(flag >> 1) % 32]
+}
+
+/// How many flags at the front are not repeated, of `most` at most, and the bytes of their deltas.
+#[inline(always)]
+fn alone(bytes: &[u8], most: usize) -> (usize, Sizes)
+    ensures most { result.0 ≤ most }
+    ensures inside { result.0 ≤ length bytes.now }
+    ensures few { (result.1.xs ≤ 2 * result.0) × (result.1.ys ≤ 2 * result.0) }
+    ensures measured { Measured bytes.now most result.0 result.1.xs result.1.ys }
+{
+    let few = most.min(bytes.len());
+    let mut xs = 0;
+    let mut ys = 0;
+    // With the flags from `at` on, what was added up gives the measure of all.
+    'flags: for at in 0..few {
+        let flag = bytes[at];
+        if has(flag, REPEAT_FLAG) {
+            return (at, Sizes { xs, ys });
+        }
+        let size = sizes_of(flag);
+        xs += size.xs;
+        ys += size.ys;
+    }
+    (few, Sizes { xs, ys })
 }
 
 /// What flags say of the bytes after them: how many the x deltas take, and how many the y deltas.
@@ -125,30 +156,30 @@ pub struct Measure<'a> {
 /// The measure of the flags of `count` points, and the bytes after them. Apart from what calls it, its loop has registers enough.
 #[inline(never)]
 pub fn measured(count: u32, bytes: &[u8]) -> Option<Measure<'_>>
-    requires { count ≤ 65536 }
     ensures { option_map (λ m. record { xs = m.xs; ys = m.ys; rest = m.rest.now }) result ≡ measured_of count bytes.now }
 {
-    let mut left = u64::from(count);
-    let mut both = 0;
+    let mut left = count as usize;
+    let mut xs = 0;
+    let mut ys = 0;
     let mut rest = bytes;
     // With the flags that are left, what was added up gives the measure of all.
     'runs: while left > 0 {
-        let (again, flag, after_it) = run(rest)?;
-        rest = after_it;
-        if again == 0 {
-            both += sizes(flag);
-            left -= 1;
-        } else {
-            let points = left.min(u64::from(again) + 1);
-            both += points * sizes(flag);
+        let (count, added) = alone(rest, left);
+        xs += added.xs;
+        ys += added.ys;
+        left -= count;
+        rest = after(rest, count);
+        if left > 0 {
+            let (again, flag, after_it) = run(rest)?;
+            let points = left.min(usize::from(again) + 1);
+            let size = sizes_of(flag);
+            xs += points * size.xs;
+            ys += points * size.ys;
             left -= points;
+            rest = after_it;
         }
     }
-    Some(Measure {
-        xs: (both % (1 << 32)) as usize,
-        ys: (both >> 32) as usize,
-        rest,
-    })
+    Some(Measure { xs, ys, rest })
 }
 
 /// The flags of points that are left; their bytes are complete.

@@ -1,6 +1,6 @@
 //! Flags and deltas whose bytes are complete.
 
-ghost use Rattle.std.specs.Prelude.{◌≡◌, ◌≤◌, length};
+ghost use Rattle.std.specs.Prelude.{◌≡◌, length};
 ghost use Rattle.fx_glyf.specs.Points.{glyph_points_of};
 
 use crate::flags::{Flags, measured};
@@ -37,7 +37,6 @@ impl<'a> Model for Outline<'a> {
 impl<'a> Outline<'a> {
     /// `count` points at the front of the bytes, if their bytes are complete.
     pub fn read(count: u32, flags: &'a [u8]) -> Option<Outline<'a>>
-        requires { count ≤ 65536 }
         ensures { result ≡ glyph_points_of count flags.now }
     {
         let Some(measure) = measured(count, flags) else {

@@ -6,6 +6,5 @@ use Rattle.fx_glyf.proofs.ends.count_points.Given as goal
 abbrev pub invariant-ends : goal.invariant-ends
 invariant-ends l = record {
   same : count_from l.count (words (l.contours - l._k) l.rest) ≡ count_from 0 (words l.contours l.bytes);
-  few : l.count ≤ 65536;
   inside : 2 * (l.contours - l._k) ≤ length l.rest;
 }

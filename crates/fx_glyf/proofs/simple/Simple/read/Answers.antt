@@ -4,4 +4,4 @@ use Rattle.fx_glyf.proofs.simple.Simple.read.Goals as goal
 
 pub invariant_of-result : goal.invariant_of-result
 invariant_of-result c =
-    (c.if-ends-size.false, sym c.in-Some.ensures.value ∙ ap Some (sym (outline_count _ _ _ (sym c.in-Some-read.ensures))), search rules)
+    (c.if-ends-size.false, sym c.in-Some.ensures ∙ ap Some (sym (outline_count _ _ _ (sym c.in-Some-read.ensures))), search rules)
