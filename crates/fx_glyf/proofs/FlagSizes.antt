@@ -15,7 +15,8 @@ are_sizes d (suc f) =
     (eqb (get_or SIZES (f / 2 % 32) d).xs (cond (has f 2) 1 (cond (has f 16) 0 2))
     && eqb (get_or SIZES (f / 2 % 32) d).ys (cond (has f 4) 1 (cond (has f 32) 0 2))) && are_sizes d f
 
-below : (d : Sizes) (n f : ℕ) → T (are_sizes d n) → f < n → AreSizes f (get_or SIZES (f / 2 % 32) d).xs (get_or SIZES (f / 2 % 32) d).ys
+below : (d : Sizes) (n f : ℕ) → T (are_sizes d n) → f < n
+    → AreSizes f (get_or SIZES (f / 2 % 32) d).xs (get_or SIZES (f / 2 % 32) d).ys
 unfolding delta_size
 below d zero f t h = absurd (omega arith)
 below d (suc n) f t h =

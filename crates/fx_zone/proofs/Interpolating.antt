@@ -4,7 +4,8 @@ use Rattle.std.proofs.Common.{◌≡◌, refl, sym, ap, ◌∙◌, arith, ℕ, s
 use Rattle.std.proofs.Common.{add-zero, List, [], ◌∷◌, ◌++◌, length, get_or, take, drop, map, reverse, pos, Option, Some, None}
 use Rattle.std.proofs.Math.Seq.{take-suc, drop-cons, take-append-add, drop-append-add}
 use Rattle.std.proofs.lemmas.List.{append_assoc, append-nil, reverse-append, length-append, length-take-le, length-drop, length-map}
-use Rattle.std.proofs.lemmas.List.{get_or_default, reverse-reverse, drop_all, take_all, get_or-drop, drop-drop, drop_more, take-append-drop}
+use Rattle.std.proofs.lemmas.List.{reverse-reverse, drop_all, take_all, get_or-drop, drop-drop, drop_more, take-append-drop}
+use Rattle.std.proofs.lemmas.List.{get_or_default}
 use Rattle.std.proofs.lemmas.Slice.{take-put_mid, drop-put_mid}
 use borrow.Rule.Slice.PartMut.{put_mid}
 use Rattle.std.proofs.lemmas.Int.{ints, by_lt_z}
@@ -397,7 +398,8 @@ put_none axis first last d pts start end e h t =
     ∙ ap (λ l. l ++ swept axis first p (drop (suc end) pts)) (take-suc pts end last h)
     ∙ append_assoc (take end pts) (p ∷ []) (swept axis first p (drop (suc end) pts))
     ∙ ap (λ l. take end pts ++ l)
-    (sym (swept_at axis first before p (drop (suc end) pts) touched) ∙ ap (swept axis first before) (sym (drop-cons pts end last h))))
+    (sym (swept_at axis first before p (drop (suc end) pts) touched)
+    ∙ ap (swept axis first before) (sym (drop-cons pts end last h))))
 
 -- the run before the next touched point is interpolated
 pub put_run : (axis : Axis) (first last before t d : Point) (pts ys : List Point) (start end m : ℕ) → start ≤ end

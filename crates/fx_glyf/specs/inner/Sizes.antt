@@ -40,4 +40,5 @@ measured_of count bytes = measured_on 0 0 (flags_from count (start bytes))
 -- measure of all, of as many points or more
 abbrev pub Measured : List ℕ → ℕ → ℕ → ℕ → ℕ → Type 0
 Measured bytes most n x y = (left xs ys : ℕ) → most ≤ left
-    → measured_on (xs + x) (ys + y) (flags_from (left - n) (start (drop n bytes))) ≡ measured_on xs ys (flags_from left (start bytes))
+    → measured_on (xs + x) (ys + y) (flags_from (left - n) (start (drop n bytes)))
+    ≡ measured_on xs ys (flags_from left (start bytes))

@@ -23,7 +23,8 @@ returns-then-whole-le-MAX_SHORT c =
     let p : c.args.o -ℤ c.args.lo_org ≡ pos m = omega (arith, ints) in
     let q : c.args.hi_cur -ℤ c.args.lo_cur ≡ pos n = omega (arith, ints) in
     let d : c.args.hi_org -ℤ c.args.lo_org ≡ pos k = omega (arith, ints) in
-    let near = near_positive (c.args.o -ℤ c.args.lo_org) (c.args.hi_cur -ℤ c.args.lo_cur) (c.args.hi_org -ℤ c.args.lo_org) m n k p q d in
+    let near = near_positive (c.args.o -ℤ c.args.lo_org) (c.args.hi_cur -ℤ c.args.lo_cur) (c.args.hi_org -ℤ c.args.lo_org)
+    m n k p q d in
     let moved = c.from.ensures ∙ ap pos c.short_quotient-moved.ensures in
     let same : to_z w128 (of_z w128 c.from.result) ≡ c.from.result = omega (arith, ints) in
     c.sum.ensures ∙ ap (λ (z : ℤ). wrapped_of (c.args.lo_cur +ℤ z)) (same ∙ moved ∙ near)

@@ -55,5 +55,5 @@ points-preserved c =
 pub returns : goal.returns
 returns c =
     let i = c.points.invariant in
-    put_end c.args.axis _ c.in-Some.last c.point_before-before-2.result c.points.points c.interpolate_run-2.new.points c.points.start
-    c.points.end (omega arith) i.run c.point_before-before-2.ensures c.interpolate_run-2.ensures ∙ sym i.answer
+    put_end c.args.axis _ c.in-Some.last c.point_before-before-2.result c.points.points c.interpolate_run-2.new.points
+    c.points.start c.points.end (omega arith) i.run c.point_before-before-2.ensures c.interpolate_run-2.ensures ∙ sym i.answer
