@@ -1,7 +1,9 @@
 -- Tables of functions of which the last part is empty.
 -- For `FunctionTable`.
-use Rattle.std.proofs.Common.{◌≡◌, ℕ, ◌+◌, ◌-◌, ◌<◌, ◌≤◌, max, List, ◌++◌, length, take, drop, set, replicate, Option, None, ap, sym, ◌∙◌, arith}
-use Rattle.std.proofs.lemmas.List.{append-nil, drop_all, take_all, drop-drop, drop-replicate, drop-set-lt, take-append-drop, length-set}
+use Rattle.std.proofs.Common.{◌≡◌, ℕ, ◌+◌, ◌-◌, ◌<◌, ◌≤◌, max, List, ◌++◌, length, take, drop, set, replicate}
+use Rattle.std.proofs.Common.{Option, None, ap, sym, ◌∙◌, arith}
+use Rattle.std.proofs.lemmas.List.{append-nil, drop_all, take_all, drop-drop, drop-replicate, drop-set-lt}
+use Rattle.std.proofs.lemmas.List.{take-append-drop, length-set}
 
 -- from the number `used` on there is none
 abbrev pub IsEmptyFrom : {X : Type 0} → ℕ → List (Option X) → Type 0
