@@ -1,13 +1,15 @@
 -- Flags and deltas that bytes are known to hold: how many bytes they take, and which they are.
 -- For `next_flag`, `delta` and the iterators over flags and points.
-use Rattle.std.proofs.Common.{◌≡◌, ℕ, zero, suc, ◌-◌, ◌<◌, ◌≤◌, ◌%◌, List, [], ◌∷◌, length, drop, get_or, Option, Some, None}
-use Rattle.std.proofs.Common.{Bool, true, false, cond, refl, sym, ap, subst, arith, inl, inr}
+use Rattle.std.proofs.Common.{◌≡◌, ◌∙◌, ℕ, zero, suc, ◌+◌, ◌-◌, ◌<◌, ◌≤◌, ◌%◌, List, [], ◌∷◌, length, drop, get_or}
+use Rattle.std.proofs.Common.{Option, Some, None}
+use Rattle.std.proofs.Common.{Bool, true, false, cond, refl, sym, ap, subst, arith, inl, inr, add-zero}
 use Rattle.std.specs.Prelude.{IsSome, option_and_then}
 use Rattle.std.proofs.lemmas.Bool.{cases_lt, lt-ltb, le-ltb}
+use Rattle.std.proofs.lemmas.List.{get_or-drop, drop-drop, length-drop}
 use Rattle.byteorder.specs.Endian.{big_number}
 use Rattle.fx_sfnt.specs.Fields.{field}
 use Rattle.fx_glyf.specs.Words.{has, with_front}
-use Rattle.fx_glyf.specs.Points.{Cursor, repeat_flag, next_flag, flags_from, delta_by, delta_of, deltas_from}
+use Rattle.fx_glyf.specs.Points.{Cursor, start, repeat_flag, next_flag, flags_from, delta_by, delta_of, deltas_from}
 
 -- ---- flags
 
@@ -72,6 +74,15 @@ flag_alone (suc again) flag bytes rest low r h e = absurd (omega arith)
 flag_alone zero flag [] rest low r h e = absurd (omega arith)
 flag_alone zero flag (f ∷ []) rest low r h e = rw (r, e) refl
 flag_alone zero flag (f ∷ g ∷ bytes) rest low r h e = rw (r, e) refl
+
+-- the same at an index
+pub alone_at : (xs : List ℕ) (at : ℕ) → at < length xs → has (get_or xs at 0) repeat_flag ≡ false
+    → Some (record { again = 0; flag = get_or xs at 0; bytes = drop (at + 1) xs }) ≡ next_flag (start (drop at xs))
+alone_at xs at h r =
+    let first : get_or (drop at xs) 0 0 ≡ get_or xs at 0 = get_or-drop at xs 0 0 ∙ ap (λ (k : ℕ). get_or xs k 0) (add-zero at) in
+    ap (λ (f : ℕ). Some (record { again = 0; flag = f; bytes = drop (at + 1) xs })) (sym first)
+    ∙ flag_alone 0 0 (drop at xs) (drop (at + 1) xs) (omega arith) (ap (λ (f : ℕ). has f repeat_flag) first ∙ r)
+    (omega (arith, h, length-drop at xs)) (sym (drop-drop 1 at xs))
 
 -- ---- deltas
 

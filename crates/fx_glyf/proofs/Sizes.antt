@@ -2,6 +2,7 @@
 -- For `measured`, `Outline::read` and the counts of a simple glyph.
 use Rattle.std.proofs.Common.{◌≡◌, ℕ, zero, suc, ◌+◌, ◌-◌, ◌*◌, ◌<◌, ◌≤◌, min, List, [], ◌∷◌, length, drop, Option, Some, None}
 use Rattle.std.proofs.Common.{Bool, true, false, cond, ◌⊎◌, inl, inr, refl, sym, ap, ◌∙◌, arith, length-drop, add_assoc, add-zero}
+use Rattle.std.proofs.Common.{get_or}
 use Rattle.std.proofs.lemmas.Bool.{cases_lt, lt-ltb, le-ltb}
 use Rattle.std.proofs.lemmas.List.{drop-drop}
 use Rattle.std.proofs.lemmas.Option.{same_Some}
@@ -10,8 +11,9 @@ use Rattle.byteorder.specs.Endian.{big_number}
 use Rattle.fx_glyf.specs.Words.{has, with_front, list_in, words}
 use Rattle.fx_glyf.specs.Points.{x_short_vector, x_is_same_or_positive_x_short_vector, y_short_vector}
 use Rattle.fx_glyf.specs.Points.{y_is_same_or_positive_y_short_vector, next_flag, flags_from, delta_by, delta_of, deltas_from}
-use Rattle.fx_glyf.specs.Points.{start}
-use Rattle.fx_glyf.specs.inner.Sizes.{delta_size, deltas_size, Measure, measured_on}
+use Rattle.fx_glyf.specs.Points.{start, repeat_flag}
+use Rattle.fx_glyf.specs.inner.Sizes.{AreSizes, Measured, delta_size, deltas_size, Measure, measured_on}
+use Rattle.fx_glyf.proofs.Held.{alone_at}
 use Rattle.fx_glyf.proofs.Steps.{front_rest, flags_at, flags_short, deltas_at, deltas_short, deltas_done}
 
 -- ---- the measure of flags, run by run
@@ -82,6 +84,19 @@ measured_run n m p r f bytes rest xs ys xs' ys' e h ep em ex ey =
 
     size_split : (p q xs d xs' : ℕ) → p ≡ suc q → xs' ≡ xs + p * d → xs' ≡ xs + d + q * d
     size_split p q xs d xs' e h = omega (arith, ap (λ (k : ℕ). k * d) e)
+
+-- one flag more that stands alone
+pub one_measured : (bytes : List ℕ) (most at f x y x1 y1 : ℕ) → at < length bytes → at < most → f ≡ get_or bytes at 0
+    → has f repeat_flag ≡ false → AreSizes f x1 y1 → Measured bytes most at x y → Measured bytes most (at + 1) (x + x1) (y + y1)
+one_measured bytes most at f x y x1 y1 inside few e r s i left xs ys h =
+    let ex = s.0 in
+    let ey = s.1 in
+    measured_run (left - at) (left - (at + 1)) 1 0 f (drop at bytes) (drop (at + 1) bytes) (xs + x) (ys + y) (xs + (x + x1))
+    (ys + (y + y1))
+    (ap (λ (g : ℕ). Some (record { again = 0; flag = g; bytes = drop (at + 1) bytes })) e
+    ∙ alone_at bytes at inside (ap (λ (g : ℕ). has g repeat_flag) (sym e) ∙ r)) (omega (arith, few, h))
+    (omega (arith, few, h)) (omega (arith, few, h)) (omega (arith, ex)) (omega (arith, ey))
+    ∙ i left xs ys h
 
 -- there is no further flag
 pub measured_stopped : (n : ℕ) (bytes : List ℕ) (xs ys : ℕ) → None ≡ next_flag (start bytes) → 0 < n

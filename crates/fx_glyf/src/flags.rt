@@ -1,9 +1,9 @@
 //! The flags of a glyph's points.
 
-ghost use Rattle.std.specs.Prelude.{◌≡◌, ◌≤◌, ◌∷◌, [], IsSome, MatchOption, option_map};
+ghost use Rattle.std.specs.Prelude.{◌≡◌, ◌*◌, ◌≤◌, ◌∷◌, [], IsSome, MatchOption, option_map, length};
 ghost use Rattle.fx_glyf.specs.Words.{has, list_in};
-ghost use Rattle.fx_glyf.specs.inner.Sizes.{delta_size, measured_of};
-ghost use Rattle.fx_glyf.specs.Points.{x_short_vector, y_short_vector, x_is_same_or_positive_x_short_vector, y_is_same_or_positive_y_short_vector, next_flag, flags_from, start};
+ghost use Rattle.fx_glyf.specs.inner.Sizes.{AreSizes, Measured, measured_of};
+ghost use Rattle.fx_glyf.specs.Points.{next_flag, flags_from, start};
 
 use fx_fixed::after;
 use std::marker::Model;
@@ -69,30 +69,80 @@ fn next_flag(again: u8, flag: u8, bytes: &[u8]) -> (u8, u8, &[u8])
     }
 }
 
-/// How many bytes the delta of x takes, by bits 1 to 5 of the flag: 1 if it is short, else 0 if it is the same, else 2.
-static X_SIZES: [usize; 32] = [
-    2, 1, 2, 1, 2, 1, 2, 1, 0, 1, 0, 1, 0, 1, 0, 1, 2, 1, 2, 1, 2, 1, 2, 1, 0, 1, 0, 1, 0, 1, 0, 1,
-];
-
-/// The same of the delta of y.
-static Y_SIZES: [usize; 32] = [
-    2, 2, 1, 1, 2, 2, 1, 1, 2, 2, 1, 1, 2, 2, 1, 1, 0, 0, 1, 1, 0, 0, 1, 1, 0, 0, 1, 1, 0, 0, 1, 1,
-];
-
-/// The bytes of the delta of x with this flag.
-fn x_size(flag: u8) -> usize
-    ensures value { result ≡ delta_size x_short_vector x_is_same_or_positive_x_short_vector flag }
-    ensures size { result ≤ 2 }
-{
-    X_SIZES[usize::from(flag >> 1) % 32]
+/// How many bytes deltas take, those of x and those of y.
+#[derive(Clone, Copy)]
+struct Sizes {
+    xs: usize,
+    ys: usize,
 }
 
-/// The bytes of the delta of y with this flag.
-fn y_size(flag: u8) -> usize
-    ensures value { result ≡ delta_size y_short_vector y_is_same_or_positive_y_short_vector flag }
-    ensures size { result ≤ 2 }
+/// How many bytes the deltas of a point take, by bits 1 to 5 of the flag: 1 if one is short, else 0 if it is the same, else 2.
+static SIZES: [Sizes; 32] = [
+    Sizes { xs: 2, ys: 2 },
+    Sizes { xs: 1, ys: 2 },
+    Sizes { xs: 2, ys: 1 },
+    Sizes { xs: 1, ys: 1 },
+    Sizes { xs: 2, ys: 2 },
+    Sizes { xs: 1, ys: 2 },
+    Sizes { xs: 2, ys: 1 },
+    Sizes { xs: 1, ys: 1 },
+    Sizes { xs: 0, ys: 2 },
+    Sizes { xs: 1, ys: 2 },
+    Sizes { xs: 0, ys: 1 },
+    Sizes { xs: 1, ys: 1 },
+    Sizes { xs: 0, ys: 2 },
+    Sizes { xs: 1, ys: 2 },
+    Sizes { xs: 0, ys: 1 },
+    Sizes { xs: 1, ys: 1 },
+    Sizes { xs: 2, ys: 0 },
+    Sizes { xs: 1, ys: 0 },
+    Sizes { xs: 2, ys: 1 },
+    Sizes { xs: 1, ys: 1 },
+    Sizes { xs: 2, ys: 0 },
+    Sizes { xs: 1, ys: 0 },
+    Sizes { xs: 2, ys: 1 },
+    Sizes { xs: 1, ys: 1 },
+    Sizes { xs: 0, ys: 0 },
+    Sizes { xs: 1, ys: 0 },
+    Sizes { xs: 0, ys: 1 },
+    Sizes { xs: 1, ys: 1 },
+    Sizes { xs: 0, ys: 0 },
+    Sizes { xs: 1, ys: 0 },
+    Sizes { xs: 0, ys: 1 },
+    Sizes { xs: 1, ys: 1 },
+];
+
+/// The bytes of the deltas with this flag.
+#[inline(always)]
+fn sizes_of(flag: u8) -> Sizes
+    ensures value { AreSizes flag result.xs result.ys }
+    ensures few { (result.xs ≤ 2) × (result.ys ≤ 2) }
 {
-    Y_SIZES[usize::from(flag >> 1) % 32]
+    SIZES[usize::from(flag >> 1) % 32]
+}
+
+/// How many flags at the front are not repeated, of `most` at most, and the bytes of their deltas.
+#[inline(always)]
+fn alone(bytes: &[u8], most: usize) -> (usize, Sizes)
+    ensures most { result.0 ≤ most }
+    ensures inside { result.0 ≤ length bytes.now }
+    ensures few { (result.1.xs ≤ 2 * result.0) × (result.1.ys ≤ 2 * result.0) }
+    ensures measured { Measured bytes.now most result.0 result.1.xs result.1.ys }
+{
+    let few = most.min(bytes.len());
+    let mut xs = 0;
+    let mut ys = 0;
+    // With the flags from `at` on, what was added up gives the measure of all.
+    'flags: for at in 0..few {
+        let flag = bytes[at];
+        if has(flag, REPEAT_FLAG) {
+            return (at, Sizes { xs, ys });
+        }
+        let size = sizes_of(flag);
+        xs += size.xs;
+        ys += size.ys;
+    }
+    (few, Sizes { xs, ys })
 }
 
 /// What flags say of the bytes after them: how many the x deltas take, and how many the y deltas.
@@ -114,17 +164,19 @@ pub fn measured(count: u32, bytes: &[u8]) -> Option<Measure<'_>>
     let mut rest = bytes;
     // With the flags that are left, what was added up gives the measure of all.
     'runs: while left > 0 {
-        let (again, flag, after_it) = run(rest)?;
-        rest = after_it;
-        if again == 0 {
-            xs += x_size(flag);
-            ys += y_size(flag);
-            left -= 1;
-        } else {
+        let (count, added) = alone(rest, left);
+        xs += added.xs;
+        ys += added.ys;
+        left -= count;
+        rest = after(rest, count);
+        if left > 0 {
+            let (again, flag, after_it) = run(rest)?;
             let points = left.min(usize::from(again) + 1);
-            xs += points * x_size(flag);
-            ys += points * y_size(flag);
+            let size = sizes_of(flag);
+            xs += points * size.xs;
+            ys += points * size.ys;
             left -= points;
+            rest = after_it;
         }
     }
     Some(Measure { xs, ys, rest })

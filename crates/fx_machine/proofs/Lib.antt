@@ -1,4 +1,5 @@
 pub mod Steps
+mod Tables
 pub mod Reading
 pub mod Looping
 pub mod Keeping

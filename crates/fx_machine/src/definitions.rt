@@ -1,6 +1,6 @@
 //! The functions, and the definitions of opcodes.
 
-ghost use Rattle.std.specs.Prelude.{◌≡◌, ◌<◌, None, Some, length, slice_index_or, slice_set, replicate, IfOk};
+ghost use Rattle.std.specs.Prelude.{◌≡◌, ◌≤◌, ◌<◌, ◌++◌, None, Some, length, take, drop, slice_index_or, slice_set, replicate, IfOk};
 ghost use Rattle.fx_machine.specs.Definitions.{function_at};
 
 use crate::program::Program;
@@ -14,22 +14,34 @@ pub struct Function {
     pub address: usize,
 }
 
-/// Functions by their numbers. An empty table is known as such, so that it is not copied: few fonts define opcodes.
+/// Functions by their numbers. From the number `used` on there are none, so that those are not copied: few fonts define opcodes,
+/// or as many functions as there can be.
 #[derive(Drop)]
 pub struct FunctionTable {
     functions: Vec<Option<Function>>,
-    is_empty: bool,
+    used: usize,
 }
 
 impl Model for FunctionTable {
-    ghost use Rattle.std.specs.Prelude.{◌≡◌, List, Option, None, true, length, replicate};
+    ghost use Rattle.std.specs.Prelude.{◌≡◌, ◌≤◌, ◌-◌, List, Option, None, length, drop, replicate};
     ghost use Rattle.fx_machine.specs.declared.definitions.Function.{Function as TheFunction};
 
     ghost Value = { List (Option TheFunction) };
 
     ghost view = { λ t. t.functions.items };
 
-    ghost invariant = { λ t. t.is_empty ≡ true → t.functions.items ≡ replicate (length t.functions.items) None };
+    ghost invariant = { λ t. (t.used ≤ length t.functions.items)
+        × (drop t.used t.functions.items ≡ replicate (length t.functions.items - t.used) None) };
+}
+
+/// Takes the first functions of another table of its size.
+fn copy_front(functions: &mut [Option<Function>], other: &[Option<Function>], count: usize)
+    requires size { length functions.old ≡ length other.now }
+    requires inside { count ≤ length other.now }
+    ensures value { functions.new ≡ take count other.now ++ drop count functions.old }
+    ensures size { length functions.new ≡ length functions.old }
+{
+    functions[..count].copy_from_slice(&other[..count]);
 }
 
 impl FunctionTable {
@@ -38,22 +50,17 @@ impl FunctionTable {
         ensures { IfOk result (λ t. t ≡ replicate count None) }
     {
         let functions = vec![in alloc; None; count]?;
-        Ok(FunctionTable {
-            functions,
-            is_empty: true,
-        })
+        Ok(FunctionTable { functions, used: 0 })
     }
 
-    /// Takes the functions of another of its size; there are none to take if both are empty.
+    /// Takes the functions of another of its size.
     fn copy_from(&mut self, other: &FunctionTable)
         requires { length self.old ≡ length other.now }
         ensures { self.new ≡ other.now }
     {
-        if self.is_empty && other.is_empty {
-            return;
-        }
-        self.functions.copy_from_slice(&other.functions);
-        self.is_empty = other.is_empty;
+        let most = self.used.max(other.used);
+        copy_front(&mut self.functions, &other.functions, most);
+        self.used = other.used;
     }
 
     /// How many there can be.
@@ -79,7 +86,7 @@ impl FunctionTable {
     {
         if number < self.functions.len() {
             self.functions[number] = Some(function);
-            self.is_empty = false;
+            self.used = self.used.max(number + 1);
         }
     }
 }

@@ -1,3 +1,4 @@
 pub mod Exact
 pub mod Ends
 pub mod Signs
+mod Shifts

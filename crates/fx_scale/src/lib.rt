@@ -7,6 +7,7 @@
 mod cvt;
 mod phantom;
 mod scale;
+mod shift;
 mod zone;
 
 pub use cvt::cvt_of;

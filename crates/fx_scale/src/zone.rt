@@ -1,11 +1,13 @@
 //! The points of a simple glyph at a size.
 
-ghost use Rattle.std.specs.Prelude.{◌≡◌, ◌<◌, IfOk, length, map};
+ghost use Rattle.std.specs.Prelude.{◌≡◌, ◌<◌, ◌≤◌, [], IfOk, length, map, vec_capacity};
 ghost use Rattle.std.specs.List.{All};
+ghost use Rattle.fx_zone.specs.Points.{resting};
 ghost use Rattle.fx_scale.specs.Zones.{scaled_point, zone_of_simple};
 
 use crate::scale::Scale;
-use fx_fixed::Place;
+use crate::shift::Shift;
+use fx_fixed::{F26, Place};
 use fx_glyf::Simple;
 use fx_zone::Zone;
 use std::alloc::{AllocError, Global};
@@ -32,13 +34,35 @@ fn scaled_points(
     ensures { IfOk result (λ v. v.items ≡ map (scaled_point scale.now) simple.now.points) }
 {
     let mut scaled = Vec::with_capacity(alloc, simple.point_count() as usize + PHANTOM_POINTS)?;
-    // A copy, which no write to the list can change, so that it is read once.
-    let scale = *scale;
+    match Shift::of(scale) {
+        Some(shift) => push_shifted(&mut scaled, simple, shift),
+        None => push_scaled(&mut scaled, simple, *scale),
+    }
+    Ok(scaled)
+}
+
+/// Appends the points scaled, for which there is room.
+fn push_scaled(scaled: &mut Vec<fx_zone::Point>, simple: &Simple<'_>, scale: Scale)
+    requires empty { scaled.old.items ≡ [] }
+    requires room { length simple.now.points ≤ vec_capacity scaled.old }
+    ensures { scaled.new.items ≡ map (scaled_point scale) simple.now.points }
+{
     // The points so far are scaled, and there is room for those that are left.
     'points: for point in simple.points() {
         scaled.push_reserved(scaled_point(&scale, point));
     }
-    Ok(scaled)
+}
+
+/// Appends the points scaled by a shift, for which there is room.
+fn push_shifted(scaled: &mut Vec<fx_zone::Point>, simple: &Simple<'_>, shift: Shift)
+    requires empty { scaled.old.items ≡ [] }
+    requires room { length simple.now.points ≤ vec_capacity scaled.old }
+    ensures { scaled.new.items ≡ map (scaled_point shift.scale) simple.now.points }
+{
+    // The points so far are scaled, and there is room for those that are left.
+    'points: for point in simple.points() {
+        scaled.push_reserved(shifted_point(&shift, point));
+    }
 }
 
 /// A point scaled: original and current place alike, untouched.
@@ -47,7 +71,28 @@ fn scaled_point(scale: &Scale, point: fx_glyf::Point) -> fx_zone::Point
 {
     let x = scale.apply(i32::from(point.x));
     let y = scale.apply(i32::from(point.y));
-    fx_zone::Point::resting(Place { x, y }, point.on_curve)
+    resting(x, y, point.on_curve)
+}
+
+/// The same by a shift.
+fn shifted_point(shift: &Shift, point: fx_glyf::Point) -> fx_zone::Point
+    ensures { result ≡ scaled_point shift.now.scale point }
+{
+    resting(shift.apply(point.x), shift.apply(point.y), point.on_curve)
+}
+
+/// An untouched point with original and current place alike.
+#[inline(always)]
+fn resting(x: F26, y: F26, on: bool) -> fx_zone::Point
+    ensures { result ≡ resting (record { x = x; y = y }) on }
+{
+    fx_zone::Point {
+        org: Place { x, y },
+        cur: Place { x, y },
+        on,
+        touched_x: false,
+        touched_y: false,
+    }
 }
 
 /// The number of each contour's last point.

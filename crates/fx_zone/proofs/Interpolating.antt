@@ -1,16 +1,17 @@
 -- The sweep over a contour, proved equal to the rule for one point.
 -- It serves the interpolation of untouched points.
 use Rattle.std.proofs.Common.{◌≡◌, refl, sym, ap, ◌∙◌, arith, ℕ, suc, ◌+◌, ◌-◌, ◌<◌, ◌≤◌, max, Bool, true, false, if◌then◌else◌}
-use Rattle.std.proofs.Common.{List, [], ◌∷◌, ◌++◌, length, get_or, take, drop, map, reverse, pos, Option, Some, None}
+use Rattle.std.proofs.Common.{add-zero, List, [], ◌∷◌, ◌++◌, length, get_or, take, drop, map, reverse, pos, Option, Some, None}
 use Rattle.std.proofs.Math.Seq.{take-suc, drop-cons, take-append-add, drop-append-add}
 use Rattle.std.proofs.lemmas.List.{append_assoc, append-nil, reverse-append, length-append, length-take-le, length-drop, length-map}
 use Rattle.std.proofs.lemmas.List.{reverse-reverse, drop_all, take_all, get_or-drop, drop-drop, drop_more, take-append-drop}
+use Rattle.std.proofs.lemmas.List.{get_or_default}
 use Rattle.std.proofs.lemmas.Slice.{take-put_mid, drop-put_mid}
-use borrow.Rule.Slice.PartMut.{put_mid, same_len_mid}
+use borrow.Rule.Slice.PartMut.{put_mid}
 use Rattle.std.proofs.lemmas.Int.{ints, by_lt_z}
 use Rattle.fx_zone.specs.declared.point.Point.{Point}
 use Rattle.fx_fixed.specs.declared.places.Axis.{Axis}
-use Rattle.fx_zone.specs.Interpolation.{is_touched, between, between_any, first_touched, untouched_run, interpolated}
+use Rattle.fx_zone.specs.Interpolation.{is_touched, between, between_any, first_touched, untouched_run, point_before, interpolated}
 use Rattle.fx_zone.specs.Interpolation.{each_interpolated, contour_interpolated, contours_interpolated, figure_interpolated}
 use Rattle.fx_zone.specs.Figures.{Figure}
 
@@ -140,25 +141,48 @@ pub last_none : (axis : Axis) (xs : List Point) (left : ℕ) → left ≡ 0
     → first_touched axis (reverse xs) ≡ first_touched axis (reverse (take left xs)) → None ≡ first_touched axis (reverse xs)
 last_none axis xs left z s = sym (rw z at s ∙ none_in_nothing axis)
 
--- the run of untouched points from start on, at a number within it
-pub run_here : (axis : Axis) (xs : List Point) (start k : ℕ) (p : Point) → k < length xs
-    → untouched_run axis (drop start xs) ≡ k - start + untouched_run axis (drop k xs) → p ≡ get_or xs k p
-    → is_touched axis p ≡ true → k - start ≡ untouched_run axis (drop start xs)
-run_here axis xs start k p h i g t =
+-- the run of untouched points from the first on, at a number within it
+pub first_run_here : (axis : Axis) (xs : List Point) (k : ℕ) (p : Point) → k < length xs
+    → untouched_run axis xs ≡ k + untouched_run axis (drop k xs) → p ≡ get_or xs k p
+    → is_touched axis p ≡ true → k ≡ untouched_run axis xs
+first_run_here axis xs k p h i g t =
     let e = ap (untouched_run axis) (drop-cons xs k p h)
     ∙ run_at axis (get_or xs k p) (drop (suc k) xs) (sym (ap (is_touched axis) g) ∙ t) in omega (arith, e, i)
 
-pub run_more : (axis : Axis) (xs : List Point) (start k : ℕ) (p : Point) → start ≤ k → k < length xs
-    → untouched_run axis (drop start xs) ≡ k - start + untouched_run axis (drop k xs) → p ≡ get_or xs k p
-    → is_touched axis p ≡ false → untouched_run axis (drop start xs) ≡ k + 1 - start + untouched_run axis (drop (k + 1) xs)
-run_more axis xs start k p l h i g t =
+pub first_run_more : (axis : Axis) (xs : List Point) (k : ℕ) (p : Point) → k < length xs
+    → untouched_run axis xs ≡ k + untouched_run axis (drop k xs) → p ≡ get_or xs k p
+    → is_touched axis p ≡ false → untouched_run axis xs ≡ k + 1 + untouched_run axis (drop (k + 1) xs)
+first_run_more axis xs k p h i g t =
     let e = ap (untouched_run axis) (drop-cons xs k p h)
     ∙ run_on axis (get_or xs k p) (drop (suc k) xs) (sym (ap (is_touched axis) g) ∙ t) in
     let s : k + 1 ≡ suc k = omega arith in
+    rw s (omega (arith, e, i))
+
+pub first_run_all : (axis : Axis) (xs : List Point) (k : ℕ) → k ≡ length xs
+    → untouched_run axis xs ≡ k + untouched_run axis (drop k xs) → length xs ≡ untouched_run axis xs
+first_run_all axis xs k h i =
+    let e = ap (untouched_run axis) (drop_all k xs (omega (arith, h))) ∙ run_nil axis in omega (arith, e, i, h)
+
+-- the run from a point on, at a number within it: that many points from there are untouched
+abbrev pub Untouched : Axis → List Point → ℕ → ℕ → Type 0
+Untouched axis xs start k = untouched_run axis (drop start xs) ≡ k - start + untouched_run axis (drop k xs)
+
+run_here : (axis : Axis) (xs : List Point) (start k : ℕ) (d : Point) → k < length xs → Untouched axis xs start k
+    → is_touched axis (get_or xs k d) ≡ true → k - start ≡ untouched_run axis (drop start xs)
+run_here axis xs start k d h i t =
+    let e = ap (untouched_run axis) (drop-cons xs k d h) ∙ run_at axis (get_or xs k d) (drop (suc k) xs) t in omega (arith, e, i)
+
+pub run_more : (axis : Axis) (xs : List Point) (start k : ℕ) (d : Point) → start ≤ k → k < length xs → Untouched axis xs start k
+    → is_touched axis (get_or xs k d) ≡ false → Untouched axis xs start (k + 1)
+run_more axis xs start k d l h i t =
+    let e = ap (untouched_run axis) (drop-cons xs k d h) ∙ run_on axis (get_or xs k d) (drop (suc k) xs) t in
+    let s : k + 1 ≡ suc k = omega arith in
     rw s (omega (arith, e, i, l))
 
-pub run_all : (axis : Axis) (xs : List Point) (start k : ℕ) → k ≡ length xs
-    → untouched_run axis (drop start xs) ≡ k - start + untouched_run axis (drop k xs)
+pub run_none_yet : (axis : Axis) (xs : List Point) (k : ℕ) → Untouched axis xs k k
+run_none_yet axis xs k = omega arith
+
+run_all : (axis : Axis) (xs : List Point) (start k : ℕ) → k ≡ length xs → Untouched axis xs start k
     → length xs - start ≡ untouched_run axis (drop start xs)
 run_all axis xs start k h i =
     let e = ap (untouched_run axis) (drop_all k xs (omega (arith, h))) ∙ run_nil axis in omega (arith, e, i, h)
@@ -350,33 +374,73 @@ put_run_at axis first before t pts ys start k m d w r h e g y =
     ∙ append_assoc p (ys ++ (t ∷ [])) (swept axis first t rest)
     ∙ ap (λ zs. p ++ zs) (append_assoc ys (t ∷ []) (swept axis first t rest) ∙ sym s)
 
--- the run before the next touched point is interpolated
-pub put_run : (axis : Axis) (first before t : Point) (pts ys : List Point) (start k m : ℕ) → start ≤ length pts
-    → k ≡ untouched_run axis (drop start pts) → k < length pts - start → m ≡ k → t ≡ get_or pts (start + k) t
-    → ys ≡ map (between axis before t) (take m (drop start pts)) →
-    take (start + k + 1) (put_mid start m pts ys) ++ swept axis first t (drop (start + k + 1) (put_mid start m pts ys)) ≡ take
-    start pts ++ swept axis first before (drop start pts)
-put_run axis first before t pts ys start k m w r h e g y =
-    put_run_at axis first before t pts ys start k m t w r h e (g ∙ sym (get_or-drop start pts k t)) y
+-- the points before a number done, and the sweep from there on
+abbrev pub swept_from : Axis → Point → Point → List Point → ℕ → List Point
+swept_from axis first last pts n = take n pts ++ swept axis first (point_before last n pts) (drop n pts)
 
-pub put_long : (f : Point → Point) (pts ys : List Point) (start m : ℕ) → ys ≡ map f (take m (drop start pts))
-    → length (put_mid start m pts ys) ≡ length pts
-put_long f pts ys start m y = same_len_mid start m pts ys (ap length y ∙ length-map (take m (drop start pts)) f)
+-- after a touched point
+swept_after : (axis : Axis) (first last t : Point) (pts : List Point) (n : ℕ) → t ≡ get_or pts n last
+    → take (n + 1) pts ++ swept axis first t (drop (n + 1) pts) ≡ swept_from axis first last pts (n + 1)
+swept_after axis first last t pts n e =
+    let s : n + 1 ≡ suc n = omega arith in
+    rw (s, e) refl
+
+-- a touched point behind another one
+pub put_none : (axis : Axis) (first last d : Point) (pts : List Point) (start end : ℕ) → start ≡ end → end < length pts
+    → is_touched axis (get_or pts end d) ≡ true → swept_from axis first last pts (end + 1) ≡ swept_from axis first last pts start
+put_none axis first last d pts start end e h t =
+    let p = get_or pts end last in
+    let before = point_before last end pts in
+    let s : end + 1 ≡ suc end = omega arith in
+    let touched : is_touched axis p ≡ true = ap (is_touched axis) (get_or_default pts end last d h) ∙ t in
+    rw e (sym (swept_after axis first last p pts end refl)
+    ∙ ap (λ n. take n pts ++ swept axis first p (drop n pts)) s
+    ∙ ap (λ l. l ++ swept axis first p (drop (suc end) pts)) (take-suc pts end last h)
+    ∙ append_assoc (take end pts) (p ∷ []) (swept axis first p (drop (suc end) pts))
+    ∙ ap (λ l. take end pts ++ l)
+    (sym (swept_at axis first before p (drop (suc end) pts) touched)
+    ∙ ap (swept axis first before) (sym (drop-cons pts end last h))))
+
+-- the run before the next touched point is interpolated
+pub put_run : (axis : Axis) (first last before t d : Point) (pts ys : List Point) (start end m : ℕ) → start ≤ end
+    → end < length pts → Untouched axis pts start end → is_touched axis (get_or pts end d) ≡ true → m ≡ end - start
+    → before ≡ point_before last start pts → t ≡ get_or pts end t → ys ≡ map (between axis before t) (take m (drop start pts)) →
+    swept_from axis first last (put_mid start m pts ys) (end + 1) ≡ swept_from axis first last pts start
+put_run axis first last before t d pts ys start end m w h r touched e b g y =
+    let back : start + (end - start) ≡ end = omega (arith, w) in
+    let here : t ≡ get_or (drop start pts) (end - start) t = g ∙ ap (λ n. get_or pts n t) (sym back)
+    ∙ sym (get_or-drop start pts (end - start) t) in
+    let long : length ys ≡ m = ap length y ∙ length-map (take m (drop start pts)) (between axis before t)
+    ∙ length-take-le m (drop start pts) (omega (arith, e, h, length-drop start pts)) in
+    let same : drop end (put_mid start m pts ys) ≡ drop end pts = drop-put_mid start m pts ys end (omega (arith, e, w))
+    (omega (arith, w, h)) long in
+    let there : t ≡ get_or (put_mid start m pts ys) end last = g ∙ get_or_default pts end t last h ∙ sym (get_at_drop pts end last)
+    ∙ sym (ap (λ (l : List Point). get_or l 0 last) same) ∙ get_at_drop (put_mid start m pts ys) end last in
+    sym (swept_after axis first last t (put_mid start m pts ys) end there)
+    ∙ (rw back at
+    (put_run_at axis first before t pts ys start (end - start) m t (omega (arith, w, h))
+    (run_here axis pts start end d h r touched) (omega (arith, w, h)) e here y))
+    ∙ ap (λ p. take start pts ++ swept axis first p (drop start pts)) b
+  where
+    get_at_drop : (l : List Point) (n : ℕ) (d : Point) → get_or (drop n l) 0 d ≡ get_or l n d
+    get_at_drop l n d = get_or-drop n l 0 d ∙ ap (λ k. get_or l k d) (add-zero n)
 
 whole_rest : (l : List Point) (s : ℕ) → take (length l - s) (drop s l) ≡ drop s l
 whole_rest l s = take_all (length l - s) (drop s l) (omega (arith, length-drop s l))
 
 -- the run behind the last touched point
-pub put_end : (axis : Axis) (first before : Point) (pts ys : List Point) (start k : ℕ) → k ≡ untouched_run axis (drop start pts)
-    → length pts - start ≤ k → ys ≡ map (between axis before first) (take (length pts - start) (drop start pts)) →
-    put_mid start (length pts - start) pts ys ≡ take start pts ++ swept axis first before (drop start pts)
-put_end axis first before pts ys start k r h y =
+pub put_end : (axis : Axis) (first last before : Point) (pts ys : List Point) (start end : ℕ) → end ≡ length pts
+    → Untouched axis pts start end → before ≡ point_before last start pts
+    → ys ≡ map (between axis before first) (take (length pts - start) (drop start pts)) →
+    put_mid start (length pts - start) pts ys ≡ swept_from axis first last pts start
+put_end axis first last before pts ys start end h r b y =
     let xs = drop start pts in
-    let all : length xs ≤ untouched_run axis xs = omega (arith, length-drop start pts, h, r) in
+    let all : length xs ≤ untouched_run axis xs = omega (arith, length-drop start pts, run_all axis pts start end h r) in
     let none : drop (length pts - start) xs ≡ [] = drop_all (length pts - start) xs (omega (arith, length-drop start pts)) in
     let same : ys ≡ swept axis first before xs = y ∙ ap (map (between axis before first)) (whole_rest pts start)
     ∙ sym (end_swept axis first before xs all) in
     ap (λ l. take start pts ++ (ys ++ l)) none ∙ ap (λ l. take start pts ++ l) (append-nil ys ∙ same)
+    ∙ ap (λ p. take start pts ++ swept axis first p (drop start pts)) b
 
 -- ---- contours
 

@@ -1,6 +1,6 @@
 -- Untouched points between touched ones (Apple TrueType Reference Manual, "IUP").
-use Rattle.std.specs.Prelude.{ℕ, suc, ◌-◌, max, ℤ, ◌+ℤ◌, ◌-ℤ◌, ◌*ℤ◌, int_lt, int_le, Bool, if◌then◌else◌, List, [], ◌∷◌, ◌++◌}
-use Rattle.std.specs.Prelude.{reverse, take, drop, Option, Some, None}
+use Rattle.std.specs.Prelude.{ℕ, zero, suc, ◌-◌, max, ℤ, ◌+ℤ◌, ◌-ℤ◌, ◌*ℤ◌, int_lt, int_le, Bool, if◌then◌else◌, List, [], ◌∷◌, ◌++◌}
+use Rattle.std.specs.Prelude.{reverse, take, drop, slice_index_or, Option, Some, None}
 use Rattle.fx_fixed.specs.Numbers.{near_of, wrapped_of}
 use Rattle.fx_fixed.specs.Places.{coordinate_of}
 use Rattle.fx_fixed.specs.declared.places.Place.{Place}
@@ -62,6 +62,11 @@ first_touched axis (p ∷ ps) = if is_touched axis p then Some p else first_touc
 unfoldable pub untouched_run : Axis → List Point → ℕ
 untouched_run axis [] = 0
 untouched_run axis (p ∷ ps) = if is_touched axis p then 0 else suc (untouched_run axis ps)
+
+-- the point before the one of a number; before the first one another
+abbrev pub point_before : Point → ℕ → List Point → Point
+point_before last zero points = last
+point_before last (suc n) points = slice_index_or points n last
 
 -- a point between two touched ones, if there are any
 abbrev pub between_any : Axis → Option Point → Option Point → Point → Point

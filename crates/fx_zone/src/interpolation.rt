@@ -1,9 +1,9 @@
 //! Untouched points between touched ones.
 
-ghost use Rattle.std.specs.Prelude.{◌≡◌, ◌≢◌, ◌+◌, ◌≤◌, ◌<◌, ◌^◌, pos, ◌+ℤ◌, ◌-ℤ◌, ◌*ℤ◌, unsigned_abs, length, map, reverse, drop, slice_index_or};
+ghost use Rattle.std.specs.Prelude.{◌≡◌, ◌≢◌, ◌+◌, ◌*◌, ◌≤◌, ◌<◌, ◌^◌, pos, ◌+ℤ◌, ◌-ℤ◌, ◌*ℤ◌, ◌<ℤ◌, unsigned_abs, length, map, reverse, slice_index_or};
 ghost use Rattle.std.specs.List.{All};
-ghost use Rattle.fx_fixed.specs.Numbers.{wrapped_of};
-ghost use Rattle.fx_zone.specs.Interpolation.{is_touched, moved_with, in_proportion, coordinate_between, placed, between, first_touched, untouched_run, contour_interpolated, contours_interpolated};
+ghost use Rattle.fx_fixed.specs.Numbers.{wrapped_of, near_size};
+ghost use Rattle.fx_zone.specs.Interpolation.{is_touched, moved_with, in_proportion, coordinate_between, placed, between, first_touched, untouched_run, point_before, contour_interpolated, contours_interpolated};
 
 use crate::point::Point;
 use fx_fixed::{Axis, F26, near, near_quotient, w32};
@@ -72,9 +72,45 @@ fn moved_with(o: F26, its_org: F26, its_cur: F26) -> F26
     sum(o, i128::from(difference(its_cur, its_org)))
 }
 
-/// An original coordinate in proportion between two others. Distances of less than 2^25 pixels, the common case, need 64 bits.
+/// The greatest distance that is short, in 1/64 pixels: products of two such distances need 32 bits.
+const MAX_SHORT: i64 = 65_535;
+
+/// The quotient of a product of short distances, rounded to the nearest whole number, halves up.
+#[inline(always)]
+fn short_quotient(part: u32, whole: u32, apart: u32) -> u32
+    requires part { part < 65536 }
+    requires whole { whole < 65536 }
+    requires apart { apart < 65536 }
+    requires nonzero { apart ≢ 0 }
+    ensures { result ≡ near_size (part * whole) apart }
+{
+    (part * whole + apart / 2) / apart
+}
+
+/// An original coordinate in proportion between two others, of which `lo` is the lower one. Of short distances, the common case,
+/// no current one of which is negative, it needs 32 bits and no signs.
+#[inline(always)]
 #[tactic(auto, unfolding(crate::specs::Interpolation::in_proportion))]
 fn in_proportion(o: F26, lo_org: F26, lo_cur: F26, hi_org: F26, hi_cur: F26) -> F26
+    requires above { lo_org <ℤ o }
+    requires below { o <ℤ hi_org }
+    ensures { result ≡ in_proportion o lo_org lo_cur hi_org hi_cur }
+{
+    let apart = difference(hi_org, lo_org);
+    let whole = difference(hi_cur, lo_cur);
+    if apart <= MAX_SHORT && 0 <= whole && whole <= MAX_SHORT {
+        let part = difference(o, lo_org);
+        let moved = short_quotient(part as u32, whole as u32, apart as u32);
+        return sum(lo_cur, i128::from(moved));
+    }
+    in_long_proportion(o, lo_org, lo_cur, hi_org, hi_cur)
+}
+
+/// The same of any distances. Distances of less than 2^25 pixels need 64 bits.
+#[cold]
+#[inline(never)]
+#[tactic(auto, unfolding(crate::specs::Interpolation::in_proportion))]
+fn in_long_proportion(o: F26, lo_org: F26, lo_cur: F26, hi_org: F26, hi_cur: F26) -> F26
     requires { lo_org ≢ hi_org }
     ensures { result ≡ in_proportion o lo_org lo_cur hi_org hi_cur }
 {
@@ -144,19 +180,18 @@ fn interpolate_run(points: &mut [Point], axis: Axis, before: &Point, after: &Poi
     }
 }
 
-/// The number of untouched points from a number on, before the first touched one; of all points there if none is.
+/// The number of untouched points before the first touched one; of all points if none is.
 #[inline(always)]
-fn untouched_run(points: &[Point], start: usize, axis: Axis) -> usize
-    requires { start ≤ length points.now }
-    ensures { result ≡ untouched_run axis (drop start points.now) }
+fn untouched_run(points: &[Point], axis: Axis) -> usize
+    ensures { result ≡ untouched_run axis points.now }
 {
     // The points that were seen are untouched.
-    'run: for end in start..points.len() {
+    'run: for end in 0..points.len() {
         if is_touched(&points[end], axis) {
-            return end - start;
+            return end;
         }
     }
-    points.len() - start
+    points.len()
 }
 
 /// The point of a number.
@@ -165,6 +200,19 @@ fn numbered(points: &[Point], number: usize) -> Point
     ensures { result ≡ slice_index_or points.now number result }
 {
     points[number]
+}
+
+/// The point before the one of a number; before the first the contour's last touched one.
+#[inline(always)]
+fn point_before(points: &[Point], number: usize, last: &Point) -> Point
+    requires { number ≤ length points.now }
+    ensures { result ≡ point_before last.now number points.now }
+{
+    if number == 0 {
+        *last
+    } else {
+        numbered(points, number - 1)
+    }
 }
 
 /// The last touched point.
@@ -192,19 +240,20 @@ fn interpolate_contour(points: &mut [Point], axis: Axis)
     let Some(last) = last_touched(points, axis) else {
         return;
     };
-    let mut length = untouched_run(points, 0, axis);
-    let first = numbered(points, length);
-    let mut before = last;
+    let first = numbered(points, untouched_run(points, axis));
     let mut start = 0;
-    // The points before `start` are done; `length` untouched ones follow, after the touched point `before`.
-    'runs: while length < points.len() - start {
-        let end = start + length;
-        let after = numbered(points, end);
-        interpolate_run(&mut points[start..end], axis, &before, &after);
-        before = after;
-        start = end + 1;
-        length = untouched_run(points, start, axis);
+    // The points before `start` are done, of which the last is touched, and those from there to `end` are untouched.
+    'points: for end in 0..points.len() {
+        if is_touched(&points[end], axis) {
+            if start < end {
+                let before = point_before(points, start, &last);
+                let after = numbered(points, end);
+                interpolate_run(&mut points[start..end], axis, &before, &after);
+            }
+            start = end + 1;
+        }
     }
+    let before = point_before(points, start, &last);
     interpolate_run(&mut points[start..], axis, &before, &first);
 }
 
