@@ -12,10 +12,10 @@ use std::alloc::{AllocError, Global};
 use std::marker::Model;
 
 /// The number of places for glyphs that are kept.
-const PLACES: usize = 64;
+const PLACES: usize = 128;
 
 /// The most points of a glyph that is kept.
-const KEPT_POINTS: usize = 128;
+const KEPT_POINTS: usize = 80;
 
 /// The most bytes of a glyph that is kept.
 const KEPT_BYTES: usize = 512;
@@ -32,9 +32,10 @@ fn empty_places(alloc: Global) -> Result<Vec<KeptGlyph>, AllocError>
     Ok(places)
 }
 
-/// A machine of a font at a size that keeps components that it made, so that one which comes again soon is copied and not made
-/// again. The place of a glyph follows from its number, and what the place kept before is dropped. What is kept decides how fast an
-/// outline is made, and nothing else. It is at most 64 glyphs of at most 128 points and 512 bytes, which take some 400 KiB.
+/// A machine of a font at a size that keeps simple components that it made, so that one which comes again soon is copied and not
+/// made again. A glyph has its place by its number, and what the place kept before is dropped. What is kept decides how soon an
+/// outline is made, and nothing else. It is at most `PLACES` glyphs of at most `KEPT_POINTS` points and `KEPT_BYTES` bytes; with
+/// what their lists have to spare they take at most 1 MiB.
 #[derive(Drop)]
 pub struct KeepingMachine<'a> {
     machine: Machine<'a>,
@@ -47,12 +48,13 @@ impl<'a> Model for KeepingMachine<'a> {
     ghost use Rattle.fx_machine.specs.Known.{MachineView};
     ghost use Rattle.fx_hint.specs.Programmed.{hinting_of};
     ghost use Rattle.fx_hint.specs.Kept.{IsTrueOf};
+    ghost use Rattle.fx_hint.specs.declared.keeping.TheConstants.{PLACES};
 
     ghost Value = { MachineView };
 
     ghost view = { λ k. k.machine };
 
-    ghost invariant = { λ k. (length k.places.items ≡ 64) × All (IsTrueOf (hinting_of k.machine.known)) k.places.items };
+    ghost invariant = { λ k. (length k.places.items ≡ PLACES) × All (IsTrueOf (hinting_of k.machine.known)) k.places.items };
 }
 
 impl<'a> KeepingMachine<'a> {

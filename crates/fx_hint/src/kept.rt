@@ -54,6 +54,7 @@ impl Model for KeptGlyph {
 
 /// Room in a copy for the points and contours of a composite's other components.
 const MORE_POINTS: usize = 32;
+
 const MORE_ENDS: usize = 4;
 
 /// Whether two lists have the same bytes. It looks at all of them, so that many are compared at a time.
@@ -115,12 +116,12 @@ impl KeptGlyph {
         spent: Spent,
     ) -> Result<(), AllocError>
         ensures done { OnOk result (self.new ≡ Some (record {
-            g = input.now.g;
-            scale = input.now.scale;
-            metrics = input.now.metrics;
-            bytes = input.now.bytes.now;
-            made = made.now;
-            spent = spent;
+          g = input.now.g;
+          scale = input.now.scale;
+          metrics = input.now.metrics;
+          bytes = input.now.bytes.now;
+          made = made.now;
+          spent = spent;
         })) }
         ensures none { OnErr result (self.new ≡ None) }
     {
@@ -144,12 +145,12 @@ impl KeptGlyph {
     /// The glyph that is kept, if it was made from this input; none if memory is refused.
     pub fn recall(&self, alloc: Global, input: &GlyphInput<'_>) -> Option<(Made, Spent)>
         ensures { IfSome result (λ r. self.now ≡ Some (record {
-            g = input.now.g;
-            scale = input.now.scale;
-            metrics = input.now.metrics;
-            bytes = input.now.bytes.now;
-            made = r.0;
-            spent = r.1;
+          g = input.now.g;
+          scale = input.now.scale;
+          metrics = input.now.metrics;
+          bytes = input.now.bytes.now;
+          made = r.0;
+          spent = r.1;
         })) }
     {
         let fields = self.fields?;

@@ -194,12 +194,7 @@ impl<'w, 'a> Walk<'w, 'a> {
 
     /// A simple component that was kept; its points, and what its program used up when it was made, are counted again.
     #[tactic(auto, unfolding(crate::specs::inner::Steps::counted_made))]
-    fn recalled(
-        &self,
-        made: Made,
-        spent: Spent,
-        count: &mut Count,
-    ) -> Result<Step<'a>, HintFault>
+    fn recalled(&self, made: Made, spent: Spent, count: &mut Count) -> Result<Step<'a>, HintFault>
         ensures value { GivesUnless Fails (λ step. (step, count.new)) result
             (counted_made self.now.root made spent count.old) }
         ensures records { OnOk result (count.new.records ≡ count.old.records) }
