@@ -1,14 +1,13 @@
 -- A simple glyph that is made alone is what begins a component.
 -- For the walk, which recalls components that were kept.
-use Rattle.std.proofs.Common.{◌≡◌, ℕ, List, length, refl, sym, ap, ◌∙◌, Result, Ok, Err}
+use Rattle.std.proofs.Common.{◌≡◌, ℕ, List, length, refl, ◌∙◌, Result, Ok, Err}
 use Rattle.std.proofs.lemmas.List.{length-map}
-use Rattle.fx_fixed.specs.Chain.{◌>>=◌, map_fault}
+use Rattle.fx_fixed.specs.Chain.{◌>>=◌}
 use Rattle.fx_sfnt.specs.declared.records.Metrics.{Metrics}
 use Rattle.fx_sfnt.specs.Tables.{Face}
 use Rattle.fx_sfnt.specs.Glyphs.{metrics_of, glyph_bytes_of}
 use Rattle.fx_glyf.specs.declared.glyph.Glyph.TheVariants.{Simple}
 use Rattle.fx_glyf.specs.Shapes.{SimpleView}
-use Rattle.fx_glyf.specs.Glyphs.{glyph_of}
 use Rattle.fx_scale.specs.declared.scale.Scale.{Scale}
 use Rattle.fx_scale.specs.Zones.{scaled_point}
 use Rattle.fx_hint.specs.declared.count.Count.{Count}
@@ -17,7 +16,6 @@ use Rattle.fx_hint.specs.declared.made.Made.{Made}
 use Rattle.fx_hint.specs.declared.walk.Step.{Step}
 use Rattle.fx_hint.specs.declared.walk.Step.TheVariants.{Assembled}
 use Rattle.fx_hint.specs.declared.fault.HintFault.{HintFault}
-use Rattle.fx_hint.specs.declared.fault.HintFault.TheVariants.{Font, Glyph}
 use Rattle.fx_hint.specs.Hinting.{Hinting, KeepsShape, spent_with}
 use Rattle.fx_hint.specs.Outlines.{more_points, scaled_simple, simple_made, run_on}
 use Rattle.fx_hint.specs.Kept.{IsMadeAlone}
