@@ -3,6 +3,7 @@ pub mod Contours
 pub mod Sound
 mod Places
 mod Steps
+mod KeptGlyphs
 mod Programs
 mod Machines
 mod Turning

@@ -5,5 +5,6 @@ pub mod Parts
 pub mod Hinting
 pub mod Programmed
 pub mod Outlines
+pub mod Kept
 pub mod Machines
 pub mod inner

@@ -49,11 +49,15 @@ more_points root n count = do
   _ ← refuse (nat_lt max_points (count.points + n)) (TooManyPoints root)
   Ok (record count { points = count.points + n })
 
+-- a simple glyph scaled: its points and its phantom points
+abbrev pub scaled_simple : Scale → Bool → Metrics → SimpleView → Made
+scaled_simple s hinted m shape = record { zone = zone_of_simple s shape; phantoms = phantoms_of s hinted shape.x_min m }
+
 -- a simple glyph, before its program runs
 unfoldable pub simple_made : Scale → Bool → ℕ → Metrics → SimpleView → Count → Result (Made × Count) HintFault
 simple_made s hinted root m shape count = do
   counted ← more_points root (length shape.points) count
-  Ok (record { zone = zone_of_simple s shape; phantoms = phantoms_of s hinted shape.x_min m }, counted)
+  Ok (scaled_simple s hinted m shape, counted)
 
 -- the program of a glyph runs on its points and phantom points; what it uses up is counted
 unfoldable pub run_on : Hinting → ℕ → List ℕ → Made × Count → Result (Made × Count) HintFault

@@ -74,4 +74,11 @@ impl Count {
         self.points += points as u32;
         Ok(())
     }
+
+    /// Counts what a program used up.
+    pub fn more_spent(&mut self, spent: Spent)
+        ensures { self.new ≡ record self.old { spent = spent_with self.old.spent spent } }
+    {
+        self.spent = self.spent.plus(spent);
+    }
 }

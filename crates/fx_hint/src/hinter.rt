@@ -1,13 +1,16 @@
 //! What hinting adds to scaling.
 
-ghost use Rattle.std.specs.Prelude.{◌≡◌, false};
+ghost use Rattle.std.specs.Prelude.{◌≡◌, false, IfSome};
 ghost use Rattle.fx_fixed.specs.Chain.{GivesUnless};
 ghost use Rattle.fx_hint.specs.Faults.{Fails};
 ghost use Rattle.fx_hint.specs.Hinting.{Hinting, KeepsShape, no_hinting};
+ghost use Rattle.fx_hint.specs.Kept.{IsMadeAlone};
 
 use crate::count::Spent;
 use crate::fault::HintFault;
+use crate::kept::GlyphInput;
 use crate::made::Made;
+use std::alloc::Global;
 
 /// Whether phantom points and rounded offsets are rounded, and what runs the programs of glyphs. Each program starts from the
 /// same state: nothing passes from one glyph to another.
@@ -30,6 +33,17 @@ pub trait Hinter {
         ensures known { known self.new ≡ known self.old }
         ensures kept { hinting self.new ≡ hinting self.old }
         ensures value { GivesUnless Fails (λ spent. (made.new, spent)) result ((hinting self.old).run g code.now made.old) };
+
+    /// A simple glyph as it was made before from the same input, if the hinter has kept it; none if memory is refused for it.
+    fn recall(&self, alloc: Global, input: &GlyphInput<'_>) -> Option<(Made, Spent)>
+        ensures { IfSome result (λ r. IsMadeAlone (hinting self.now) input.now.scale input.now.g input.now.metrics
+            input.now.bytes.now r.0 r.1) };
+
+    /// Takes notice of a simple glyph that was made, and may keep it.
+    fn keep(&mut self, input: &GlyphInput<'_>, made: &Made, spent: Spent)
+        requires { IsMadeAlone (hinting self.old) input.now.scale input.now.g input.now.metrics input.now.bytes.now made.now spent }
+        ensures known { known self.new ≡ known self.old }
+        ensures kept { hinting self.new ≡ hinting self.old };
 
     /// The law: no program changes the number of points or the contours.
     fn law_keeps_shape(&self)
@@ -56,6 +70,12 @@ impl Hinter for NoHinter {
     fn run(&mut self, _g: u16, _code: &[u8], _made: &mut Made) -> Result<Spent, HintFault> {
         Ok(Spent::nothing())
     }
+
+    fn recall(&self, _alloc: Global, _input: &GlyphInput<'_>) -> Option<(Made, Spent)> {
+        None
+    }
+
+    fn keep(&mut self, _input: &GlyphInput<'_>, _made: &Made, _spent: Spent) {}
 
     fn law_keeps_shape(&self) {}
 }

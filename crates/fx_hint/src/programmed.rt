@@ -8,12 +8,14 @@ ghost use Rattle.fx_hint.specs.Programmed.{point_or, point_at, phantoms_at, prog
 use crate::count::Spent;
 use crate::fault::HintFault;
 use crate::hinter::Hinter;
+use crate::kept::GlyphInput;
 use crate::made::Made;
 use fx_code::Code;
 use fx_fixed::Place;
 use fx_machine::Machine;
 use fx_scale::PhantomPoints;
 use fx_zone::{Point, Zone};
+use std::alloc::Global;
 
 /// The point of a number, which is inside.
 fn point_at(zone: &Zone, number: usize) -> Point
@@ -92,6 +94,12 @@ impl<'a> Hinter for Machine<'a> {
     fn run(&mut self, g: u16, code: &[u8], made: &mut Made) -> Result<Spent, HintFault> {
         hint(self, g, code, made)
     }
+
+    fn recall(&self, _alloc: Global, _input: &GlyphInput<'_>) -> Option<(Made, Spent)> {
+        None
+    }
+
+    fn keep(&mut self, _input: &GlyphInput<'_>, _made: &Made, _spent: Spent) {}
 
     fn law_keeps_shape(&self) {}
 }

@@ -1,8 +1,11 @@
-//! Outlines with memory at hand, at a small and a large input.
+//! Outlines with memory at hand, at a small and a large input; components that come again.
 
-use crate::{OutlinePoint, outline};
+use crate::{KeepingMachine, OutlinePoint, outline, outline_with};
 use fx_fixed::{F26, Ppem};
+use fx_machine::Machine;
 use fx_sfnt::Font;
+use std::alloc::Global;
+use std::process::Abort;
 use std::test::Fail;
 
 /// A font of four glyphs, of which number 2 has two contours of four points.
@@ -78,5 +81,63 @@ fn an_outline_of_16384_points(rt: HostRuntime) -> Result<(), Fail> {
     assert_eq!(rt; outline.points.len(), 16384);
     assert!(rt; outline.points.last().copied() == Some(point(0, 0)));
     assert_eq!(rt; outline.ends.as_slice(), [16383].as_slice());
+    Ok(())
+}
+
+/// The same font, but glyph 2 is glyph 3 twice. The program of glyph 3 reads a cell that the storage area does not have, and moves
+/// point 1 by half a pixel.
+fn twice() -> [u8; 382] {
+    let mut bytes = [0; 382];
+    bytes.copy_from_slice(FONT);
+    bytes[318..322].copy_from_slice(&[0, 11, 0, 26]);
+    bytes[324..334].copy_from_slice(&[0xFF, 0xFF, 0, 0, 0, 0, 0, 0x80, 0, 0x80]);
+    bytes[334..340].copy_from_slice(&[0, 0x22, 0, 3, 0, 0]);
+    bytes[340..346].copy_from_slice(&[0, 2, 0, 3, 0x40, 0x20]);
+    bytes[346..356].copy_from_slice(&[0, 1, 0, 0, 0, 0, 0, 0x80, 0, 0x80]);
+    bytes[356..368].copy_from_slice(&[0, 2, 0, 8, 0xB0, 99, 0x43, 0x21, 0xB1, 1, 32, 0x38]);
+    bytes[368..376].copy_from_slice(&[0x31, 0x36, 0x17, 0x40, 0x40, 0x80, 0x80, 0]);
+    bytes
+}
+
+/// A machine that keeps components makes the outline of glyph 2 of a font as one that does not; the numbers outside their tables
+/// that its programs name, and the instructions that they execute.
+fn outline_by_both(
+    rt: &impl Abort,
+    alloc: Global,
+    keeping: &mut KeepingMachine<'_>,
+    font: &Font<'_>,
+    pixels: u16,
+) -> Result<(u64, u64), Fail> {
+    let ppem = Ppem::new(pixels).ok_or("size")?;
+    let mut plain = Machine::new(alloc, font.shared(), Ppem::new(16).ok_or("size")?)?;
+    let made = outline_with(alloc, &mut plain, font, ppem, 2)?;
+    let again = outline_with(alloc, keeping, font, ppem, 2)?;
+    assert!(rt; again.points.as_slice() == made.points.as_slice());
+    assert_eq!(rt; again.ends.as_slice(), made.ends.as_slice());
+    assert_eq!(rt; again.advance, made.advance);
+    assert_eq!(rt; (again.strays, again.steps), (made.strays, made.steps));
+    Ok((again.strays, again.steps))
+}
+
+/// Glyph 3 is made once for each outline of glyph 2, and then it is kept; but neither another size nor another bearing nor other
+/// bytes recall it.
+#[test]
+fn a_component_that_comes_again(rt: HostRuntime) -> Result<(), Fail> {
+    let bytes = twice();
+    let font = Font::open(&bytes)?;
+    let ppem = Ppem::new(16).ok_or("size")?;
+    let machine = Machine::new(rt.alloc(), font.shared(), ppem)?;
+    let mut keeping = KeepingMachine::new(rt.alloc(), machine)?;
+    'sizes: for pixels in [16, 16, 33, 16] {
+        let used = outline_by_both(&rt, rt.alloc(), &mut keeping, &font, pixels)?;
+        assert_eq!(rt; used, (2, 10));
+    }
+    'changes: for (at, new) in [(258, 9), (374, 0x60), (361, 98)] {
+        let mut bytes = twice();
+        bytes[at] = new;
+        let font = Font::open(&bytes)?;
+        let used = outline_by_both(&rt, rt.alloc(), &mut keeping, &font, 16)?;
+        assert_eq!(rt; used, (2, 10));
+    }
     Ok(())
 }

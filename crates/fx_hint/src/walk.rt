@@ -1,19 +1,22 @@
 //! The walk over components.
 
-ghost use Rattle.std.specs.Prelude.{◌≡◌, ◌+◌, ◌<◌, ◌≤◌, OnOk};
+ghost use Rattle.std.specs.Prelude.{◌≡◌, ◌+◌, ◌<◌, ◌≤◌, Ok, IfOk, OnOk, length};
 ghost use Rattle.fx_fixed.specs.Chain.{GivesUnless, map_ok};
+ghost use Rattle.fx_glyf.specs.declared.glyph.Glyph.TheVariants as glyph;
+ghost use Rattle.fx_glyf.specs.Glyphs.{glyph_of};
 ghost use Rattle.fx_zone.specs.Figures.{empty_figure};
 ghost use Rattle.fx_scale.specs.Phantoms.{phantoms_of};
 ghost use Rattle.fx_hint.specs.Faults.{Fails};
-ghost use Rattle.fx_hint.specs.Outlines.{simple_made, assembled, component, run_on, root_made};
+ghost use Rattle.fx_hint.specs.Outlines.{scaled_simple, simple_made, assembled, component, run_on, root_made};
 ghost use Rattle.fx_hint.specs.Limits.{max_components, max_depth};
 ghost use Rattle.fx_hint.specs.Parts.{with_part};
-ghost use Rattle.fx_hint.specs.inner.Steps.{begun, begun_by, begun_component, left};
+ghost use Rattle.fx_hint.specs.inner.Steps.{begun, begun_by, begun_from, begun_component, counted_made, left};
 
 use crate::below::{Below, OpenComposite, Waiting};
 use crate::count::{Count, Spent};
 use crate::fault::HintFault;
 use crate::hinter::Hinter;
+use crate::kept::GlyphInput;
 use crate::limits::MAX_DEPTH;
 use crate::made::Made;
 use crate::part::add_part;
@@ -46,7 +49,7 @@ fn start(
     empty_made(alloc, scale, hinted, composite.x_min(), metrics)
 }
 
-/// The program of a glyph runs on its points and phantom points; what it uses up is counted.
+/// The program of a glyph runs on its points and phantom points; what it uses up is counted, and returned.
 #[tactic(auto, unfolding(crate::specs::Outlines::run_on))]
 fn run_on<H: Hinter>(
     hinter: &mut H,
@@ -54,16 +57,17 @@ fn run_on<H: Hinter>(
     code: &[u8],
     made: &mut Made,
     count: &mut Count,
-) -> Result<(), HintFault>
+) -> Result<Spent, HintFault>
     ensures known { H.known hinter.new ≡ H.known hinter.old }
     ensures kept { H.hinting hinter.new ≡ H.hinting hinter.old }
     ensures value { GivesUnless Fails (λ _. (made.new, count.new)) result
         (run_on (H.hinting hinter.old) g code.now (made.old, count.old)) }
+    ensures ran { IfOk result (λ spent. (H.hinting hinter.old).run g code.now made.old ≡ Ok (made.new, spent)) }
     ensures records { OnOk result (count.new.records ≡ count.old.records) }
 {
     let spent = hinter.run(g, code, made)?;
-    count.spent = count.spent.plus(spent);
-    Ok(())
+    count.more_spent(spent);
+    Ok(spent)
 }
 
 /// A glyph that has been begun.
@@ -97,6 +101,7 @@ impl<'w, 'a> Walk<'w, 'a> {
     ) -> Result<Made, HintFault>
         ensures value { GivesUnless Fails (λ m. (m, count.new)) result
             (simple_made self.now.scale.now hinted self.now.root metrics simple.now count.old) }
+        ensures made { IfOk result (λ m. m ≡ scaled_simple self.now.scale.now hinted metrics simple.now) }
         ensures records { OnOk result (count.new.records ≡ count.old.records) }
     {
         let zone = zone_of(self.alloc, simple, self.scale)?;
@@ -162,6 +167,96 @@ impl<'w, 'a> Walk<'w, 'a> {
         }
     }
 
+    /// A simple component that has been read, assembled; the hinter may keep it.
+    #[tactic(auto, unfolding(crate::specs::inner::Steps::begun_by))]
+    fn simple_kept<H: Hinter>(
+        &self,
+        hinter: &mut H,
+        input: &GlyphInput<'_>,
+        simple: &Simple<'_>,
+        count: &mut Count,
+    ) -> Result<Step<'a>, HintFault>
+        requires scale { input.now.scale ≡ self.now.scale.now }
+        requires read { glyph_of input.now.bytes.now input.now.g ≡ Ok (glyph.Simple simple.now) }
+        ensures known { H.known hinter.new ≡ H.known hinter.old }
+        ensures kept { H.hinting hinter.new ≡ H.hinting hinter.old }
+        ensures value { GivesUnless Fails (λ step. (step, count.new)) result
+            (begun_by (H.hinting hinter.old) self.now.scale.now self.now.root input.now.g input.now.metrics
+            (glyph.Simple simple.now) count.old) }
+        ensures records { OnOk result (count.new.records ≡ count.old.records) }
+    {
+        let on = hinter.is_on();
+        let mut made = self.simple_made(on, input.metrics, simple, count)?;
+        let spent = run_on(hinter, input.g, simple.code(), &mut made, count)?;
+        hinter.keep(input, &made, spent);
+        Ok(Step::Assembled(made))
+    }
+
+    /// A simple component that was kept; its points, and what its program used up when it was made, are counted again.
+    #[tactic(auto, unfolding(crate::specs::inner::Steps::counted_made))]
+    fn recalled(&self, made: Made, spent: Spent, count: &mut Count) -> Result<Step<'a>, HintFault>
+        ensures value { GivesUnless Fails (λ step. (step, count.new)) result
+            (counted_made self.now.root made spent count.old) }
+        ensures records { OnOk result (count.new.records ≡ count.old.records) }
+    {
+        count.more_points(self.root, made.zone.len())?;
+        count.more_spent(spent);
+        Ok(Step::Assembled(made))
+    }
+
+    /// A component begun that is not recalled: its reading, and then it is assembled, or open; the hinter may keep it.
+    ///
+    /// It stays a function of its own, so that one that is recalled does not pay for its variables.
+    #[inline(never)]
+    fn begun_anew<H: Hinter>(
+        &self,
+        hinter: &mut H,
+        input: &GlyphInput<'a>,
+        count: &mut Count,
+    ) -> Result<Step<'a>, HintFault>
+        requires { input.now.scale ≡ self.now.scale.now }
+        ensures known { H.known hinter.new ≡ H.known hinter.old }
+        ensures kept { H.hinting hinter.new ≡ H.hinting hinter.old }
+        ensures value { GivesUnless Fails (λ step. (step, count.new)) result
+            (begun_from (H.hinting hinter.old) self.now.scale.now self.now.root input.now.g input.now.metrics input.now.bytes.now
+            count.old) }
+        ensures records { OnOk result (count.new.records ≡ count.old.records) }
+    {
+        match read(input.bytes, input.g)? {
+            Glyph::Simple(simple) => self.simple_kept(hinter, input, &simple, count),
+            glyph => self.begun_by(hinter, input.g, input.metrics, glyph, count),
+        }
+    }
+
+    /// A glyph begun, which is a component: the hinter may recall it if it is simple, or keep it.
+    #[tactic(auto, unfolding(crate::specs::inner::Steps::begun))]
+    fn begun_or_recalled<H: Hinter>(
+        &self,
+        hinter: &mut H,
+        g: u16,
+        count: &mut Count,
+    ) -> Result<Step<'a>, HintFault>
+        ensures known { H.known hinter.new ≡ H.known hinter.old }
+        ensures kept { H.hinting hinter.new ≡ H.hinting hinter.old }
+        ensures value { GivesUnless Fails (λ step. (step, count.new)) result
+            (begun (H.hinting hinter.old) self.now.font.now self.now.scale.now self.now.root g count.old) }
+        ensures records { OnOk result (count.new.records ≡ count.old.records) }
+    {
+        let metrics = self.font.metrics(g)?;
+        let bytes = self.font.glyph_bytes(g)?;
+        let input = GlyphInput {
+            g,
+            scale: *self.scale,
+            metrics,
+            bytes,
+        };
+        if let Some((made, spent)) = hinter.recall(self.alloc, &input) {
+            hinter.law_keeps_shape();
+            return self.recalled(made, spent, count);
+        }
+        self.begun_anew(hinter, &input, count)
+    }
+
     /// A component begun, with `levels` levels allowed from here on.
     #[tactic(auto, unfolding(crate::specs::inner::Steps::begun_component))]
     fn begun_component<H: Hinter>(
@@ -182,7 +277,7 @@ impl<'w, 'a> Walk<'w, 'a> {
             return Err(HintFault::ComponentDepth(g));
         }
         count.one_component(self.root)?;
-        self.begun(hinter, g, count)
+        self.begun_or_recalled(hinter, g, count)
     }
 
     /// A waiting composite with its component.

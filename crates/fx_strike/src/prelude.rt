@@ -6,6 +6,7 @@ ghost use Rattle.fx_strike.specs.Faults.{Fails, of_machine};
 
 use crate::refusal::Refusal;
 use fx_fixed::Ppem;
+use fx_hint::KeepingMachine;
 use fx_machine::{Machine, Ran};
 use fx_sfnt::Font;
 use std::alloc::Global;
@@ -16,13 +17,14 @@ pub(crate) const NOTHING: Ran = Ran {
     strays: 0,
 };
 
-/// The machine of a font at a size: `fpgm` runs, then `prep`.
+/// The machine of a font at a size: `fpgm` runs, then `prep`. It keeps components that come again.
 pub(crate) fn machine_at<'a>(
     alloc: Global,
     font: &Font<'a>,
     ppem: Ppem,
-) -> Result<Machine<'a>, Refusal>
+) -> Result<KeepingMachine<'a>, Refusal>
     ensures { GivesUnless Fails (λ m. m.known) result (map_fault of_machine (machine_of font.now ppem)) }
 {
-    Ok(Machine::new(alloc, font.shared(), ppem)?)
+    let machine = Machine::new(alloc, font.shared(), ppem)?;
+    Ok(KeepingMachine::new(alloc, machine)?)
 }

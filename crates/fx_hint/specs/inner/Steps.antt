@@ -1,5 +1,5 @@
 -- The walk over components by its steps, with the composites that are open.
-use Rattle.std.specs.Prelude.{ℕ, zero, suc, ◌-◌, List, [], ◌∷◌, pos, Result, Ok, Err}
+use Rattle.std.specs.Prelude.{ℕ, zero, suc, ◌-◌, List, [], ◌∷◌, length, pos, Result, Ok, Err}
 use Rattle.fx_fixed.specs.Chain.{◌>>=◌, map_fault}
 use Rattle.fx_sfnt.specs.declared.records.Metrics.{Metrics}
 use Rattle.fx_sfnt.specs.Tables.{Face}
@@ -11,6 +11,7 @@ use Rattle.fx_zone.specs.Figures.{empty_figure}
 use Rattle.fx_scale.specs.declared.scale.Scale.{Scale}
 use Rattle.fx_scale.specs.Phantoms.{phantoms_of}
 use Rattle.fx_hint.specs.declared.count.Count.{Count}
+use Rattle.fx_hint.specs.declared.count.Spent.{Spent}
 use Rattle.fx_hint.specs.declared.made.Made.{Made}
 use Rattle.fx_hint.specs.declared.below.OpenComposite.{OpenComposite}
 use Rattle.fx_hint.specs.declared.below.Waiting.{Waiting}
@@ -18,9 +19,9 @@ use Rattle.fx_hint.specs.declared.walk.Step.{Step}
 use Rattle.fx_hint.specs.declared.walk.Step.TheVariants.{Assembled, Open}
 use Rattle.fx_hint.specs.declared.fault.HintFault.{HintFault}
 use Rattle.fx_hint.specs.declared.fault.HintFault.TheVariants.{Font, Glyph, ComponentDepth}
-use Rattle.fx_hint.specs.Hinting.{Hinting}
+use Rattle.fx_hint.specs.Hinting.{Hinting, spent_with}
 use Rattle.fx_hint.specs.Parts.{with_part}
-use Rattle.fx_hint.specs.Outlines.{one_component, simple_made, run_on, with_parts, component}
+use Rattle.fx_hint.specs.Outlines.{one_component, more_points, simple_made, run_on, with_parts, component}
 
 -- what becomes of a glyph, and the counts then
 abbrev pub Outcome : Type 0
@@ -44,13 +45,24 @@ begun_by h s root g m (Composite assembly) count = Ok (
   count,
 )
 
+-- the bytes of a glyph, begun: their reading
+abbrev pub begun_from : Hinting → Scale → ℕ → ℕ → Metrics → List ℕ → Count → Result (Step × Count) HintFault
+begun_from h s root g m bytes count = do
+  glyph ← map_fault Glyph (glyph_of bytes g)
+  begun_by h s root g m glyph count
+
 -- a glyph, begun: its number and bytes, its reading
 unfoldable pub begun : Hinting → Face → Scale → ℕ → ℕ → Count → Result (Step × Count) HintFault
 begun h face s root g count = do
   m ← map_fault Font (metrics_of face g)
   bytes ← map_fault Font (glyph_bytes_of face g)
-  glyph ← map_fault Glyph (glyph_of bytes g)
-  begun_by h s root g m glyph count
+  begun_from h s root g m bytes count
+
+-- an assembled glyph whose points, and what its program used up, are counted
+unfoldable pub counted_made : ℕ → Made → Spent → Count → Result (Step × Count) HintFault
+counted_made root made spent count = do
+  counted ← more_points root (length made.zone.points) count
+  Ok (Assembled made, record counted { spent = spent_with counted.spent spent })
 
 -- a component, begun, with this number of levels allowed from here on
 unfoldable pub begun_component : Hinting → Face → Scale → ℕ → ℕ → ℕ → Count → Result (Step × Count) HintFault

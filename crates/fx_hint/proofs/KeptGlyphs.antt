@@ -1,0 +1,59 @@
+-- A simple glyph that is made alone is what begins a component.
+-- For the walk, which recalls components that were kept.
+use Rattle.std.proofs.Common.{◌≡◌, ℕ, List, length, refl, ◌∙◌, Result, Ok, Err}
+use Rattle.std.proofs.lemmas.List.{length-map}
+use Rattle.fx_fixed.specs.Chain.{◌>>=◌}
+use Rattle.fx_sfnt.specs.declared.records.Metrics.{Metrics}
+use Rattle.fx_sfnt.specs.Tables.{Face}
+use Rattle.fx_sfnt.specs.Glyphs.{metrics_of, glyph_bytes_of}
+use Rattle.fx_glyf.specs.declared.glyph.Glyph.TheVariants.{Simple}
+use Rattle.fx_glyf.specs.Shapes.{SimpleView}
+use Rattle.fx_scale.specs.declared.scale.Scale.{Scale}
+use Rattle.fx_scale.specs.Zones.{scaled_point}
+use Rattle.fx_hint.specs.declared.count.Count.{Count}
+use Rattle.fx_hint.specs.declared.count.Spent.{Spent}
+use Rattle.fx_hint.specs.declared.made.Made.{Made}
+use Rattle.fx_hint.specs.declared.walk.Step.{Step}
+use Rattle.fx_hint.specs.declared.walk.Step.TheVariants.{Assembled}
+use Rattle.fx_hint.specs.declared.fault.HintFault.{HintFault}
+use Rattle.fx_hint.specs.Hinting.{Hinting, KeepsShape, spent_with}
+use Rattle.fx_hint.specs.Outlines.{more_points, scaled_simple, simple_made, run_on}
+use Rattle.fx_hint.specs.Kept.{IsMadeAlone}
+use Rattle.fx_hint.specs.inner.Steps.{begun_by, begun, counted_made}
+
+abbrev with_count : Made → Count → Result (Made × Count) HintFault
+with_count made count = Ok (made, count)
+
+abbrev as_step : Made × Count → Result (Step × Count) HintFault
+as_step made = Ok (Assembled made.0, made.1)
+
+abbrev with_spent : Made → Spent → Count → Result (Step × Count) HintFault
+with_spent made spent count = Ok (Assembled made, record count { spent = spent_with count.spent spent })
+
+-- points are counted, and then a program runs as it did
+counted_after : (h : Hinting) (g : ℕ) (code : List ℕ) (start made : Made) (spent : Spent) (counted : Result Count HintFault)
+    → h.run g code start ≡ Ok (made, spent)
+    → (counted >>= with_spent made spent) ≡ ((counted >>= with_count start) >>= λ m. run_on h g code m >>= as_step)
+unfolding run_on
+counted_after h g code start made spent (Ok c) r = rw r refl
+counted_after h g code start made spent (Err e) r = refl
+
+simple_counted : (h : Hinting) (s : Scale) (root g : ℕ) (m : Metrics) (shape : SimpleView) (made : Made) (spent : Spent)
+    (count : Count)
+    → KeepsShape h → h.run g shape.code (scaled_simple s h.on m shape) ≡ Ok (made, spent)
+    → counted_made root made spent count ≡ begun_by h s root g m (Simple shape) count
+unfolding counted_made begun_by simple_made
+simple_counted h s root g m shape made spent count keeps r =
+    let same : length made.zone.points ≡ length shape.points =
+    (keeps g shape.code (scaled_simple s h.on m shape) (made, spent) r).0 ∙ length-map shape.points (scaled_point s) in
+    rw same (counted_after h g shape.code (scaled_simple s h.on m shape) made spent
+    (more_points root (length shape.points) count) r)
+
+-- a component that is recalled is what it would become if it were made again
+pub begun_again : (h : Hinting) (face : Face) (s : Scale) (root g : ℕ) (m : Metrics) (bytes : List ℕ) (made : Made) (spent : Spent)
+    (count : Count)
+    → KeepsShape h → metrics_of face g ≡ Ok m → glyph_bytes_of face g ≡ Ok bytes → IsMadeAlone h s g m bytes made spent
+    → counted_made root made spent count ≡ begun h face s root g count
+unfolding begun
+begun_again h face s root g m bytes made spent count keeps a b k =
+    rw (a, b, k.read) (simple_counted h s root g m k.shape made spent count keeps k.ran)

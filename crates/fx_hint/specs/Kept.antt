@@ -1,0 +1,31 @@
+-- Simple glyphs that are made once and kept. What becomes of one depends on hinting, the size, its number, metrics and bytes alone.
+use Rattle.std.specs.Prelude.{◌≡◌, ℕ, List, Ok, Option, Some, None}
+use Rattle.fx_sfnt.specs.declared.records.Metrics.{Metrics}
+use Rattle.fx_glyf.specs.declared.glyph.Glyph.TheVariants.{Simple}
+use Rattle.fx_glyf.specs.Shapes.{SimpleView}
+use Rattle.fx_glyf.specs.Glyphs.{glyph_of}
+use Rattle.fx_scale.specs.declared.scale.Scale.{Scale}
+use Rattle.fx_hint.specs.declared.count.Spent.{Spent}
+use Rattle.fx_hint.specs.declared.made.Made.{Made}
+use Rattle.fx_hint.specs.Hinting.{Hinting}
+use Rattle.fx_hint.specs.Outlines.{scaled_simple}
+
+-- the bytes of glyph g are a simple glyph's; scaled, and with its program run, it is this one, and its program used up this much
+pub record IsMadeAlone (h : Hinting) (s : Scale) (g : ℕ) (m : Metrics) (bytes : List ℕ) (made : Made) (spent : Spent) : Type 0 where
+  pub shape : SimpleView
+  pub read : glyph_of bytes g ≡ Ok (Simple shape)
+  pub ran : h.run g shape.code (scaled_simple s h.on m shape) ≡ Ok (made, spent)
+
+-- what is kept of a simple glyph: what it was made from, and what it became
+pub record KeptGlyphView : Type 0 where
+  pub g : ℕ
+  pub scale : Scale
+  pub metrics : Metrics
+  pub bytes : List ℕ
+  pub made : Made
+  pub spent : Spent
+
+-- what a place keeps is true; a place may be empty
+abbrev pub IsTrueOf : Hinting → Option KeptGlyphView → Type 0
+IsTrueOf h None = Unit {0}
+IsTrueOf h (Some k) = IsMadeAlone h k.scale k.g k.metrics k.bytes k.made k.spent

@@ -1,0 +1,106 @@
+//! A machine that keeps simple glyphs that it made.
+
+ghost use Rattle.std.specs.Prelude.{◌≡◌, replicate, None, IfOk};
+
+use crate::count::Spent;
+use crate::fault::HintFault;
+use crate::hinter::Hinter;
+use crate::kept::{GlyphInput, KeptGlyph};
+use crate::made::Made;
+use fx_machine::{Machine, Ran};
+use std::alloc::{AllocError, Global};
+use std::marker::Model;
+
+/// The number of places for glyphs that are kept.
+const PLACES: usize = 128;
+
+/// The most points of a glyph that is kept.
+const KEPT_POINTS: usize = 80;
+
+/// The most bytes of a glyph that is kept.
+const KEPT_BYTES: usize = 512;
+
+/// No place keeps a glyph.
+fn empty_places(alloc: Global) -> Result<Vec<KeptGlyph>, AllocError>
+    ensures { IfOk result (λ places. places.items ≡ replicate PLACES None) }
+{
+    let mut places = Vec::with_capacity(alloc, PLACES)?;
+    // The places so far keep nothing, and there is room for those that are left.
+    'places: for _number in 0..PLACES {
+        places.push_reserved(KeptGlyph::new(alloc));
+    }
+    Ok(places)
+}
+
+/// A machine of a font at a size that keeps simple components that it made, so that one which comes again soon is copied and not
+/// made again. A glyph has its place by its number, and what the place kept before is dropped. What is kept decides how soon an
+/// outline is made, and nothing else. It is at most `PLACES` glyphs of at most `KEPT_POINTS` points and `KEPT_BYTES` bytes; with
+/// what their lists have to spare they take at most 1 MiB.
+#[derive(Drop)]
+pub struct KeepingMachine<'a> {
+    machine: Machine<'a>,
+    places: Vec<KeptGlyph>,
+}
+
+impl<'a> Model for KeepingMachine<'a> {
+    ghost use Rattle.std.specs.Prelude.{◌≡◌, length};
+    ghost use Rattle.std.specs.List.{All};
+    ghost use Rattle.fx_machine.specs.Known.{MachineView};
+    ghost use Rattle.fx_hint.specs.Programmed.{hinting_of};
+    ghost use Rattle.fx_hint.specs.Kept.{IsTrueOf};
+    ghost use Rattle.fx_hint.specs.declared.keeping.TheConstants.{PLACES};
+
+    ghost Value = { MachineView };
+
+    ghost view = { λ k. k.machine };
+
+    ghost invariant = { λ k. (length k.places.items ≡ PLACES) × All (IsTrueOf (hinting_of k.machine.known)) k.places.items };
+}
+
+impl<'a> KeepingMachine<'a> {
+    /// The machine, which keeps nothing yet.
+    pub fn new(alloc: Global, machine: Machine<'a>) -> Result<KeepingMachine<'a>, AllocError>
+        ensures { IfOk result (λ keeping. keeping ≡ machine.entry) }
+    {
+        let places = empty_places(alloc)?;
+        Ok(KeepingMachine { machine, places })
+    }
+
+    /// What `fpgm` and `prep` used up.
+    pub fn prelude(&self) -> Ran
+        ensures { result ≡ self.now.known.prelude }
+    {
+        self.machine.prelude()
+    }
+}
+
+impl<'a> Hinter for KeepingMachine<'a> {
+    ghost use Rattle.fx_machine.specs.Known.{Known};
+    ghost use Rattle.fx_hint.specs.Programmed.{hinting_of};
+
+    ghost Known = { Known };
+
+    ghost known = { λ m. m.known };
+
+    ghost hinting = { λ m. hinting_of m.known };
+
+    fn is_on(&self) -> bool {
+        true
+    }
+
+    fn run(&mut self, g: u16, code: &[u8], made: &mut Made) -> Result<Spent, HintFault> {
+        self.machine.run(g, code, made)
+    }
+
+    fn recall(&self, alloc: Global, input: &GlyphInput<'_>) -> Option<(Made, Spent)> {
+        self.places[usize::from(input.g) % PLACES].recall(alloc, input)
+    }
+
+    fn keep(&mut self, input: &GlyphInput<'_>, made: &Made, spent: Spent) {
+        if made.zone.len() <= KEPT_POINTS && input.bytes.len() <= KEPT_BYTES {
+            let _kept = self.places[usize::from(input.g) % PLACES].take(input, made, spent);
+        }
+    }
+
+    fn law_keeps_shape(&self) {}
+}

@@ -1,0 +1,168 @@
+//! Places that keep simple glyphs.
+
+ghost use Rattle.std.specs.Prelude.{◌≡◌, ◌<◌, length, Some, None, IfOk, IfSome, OnOk, OnErr, IsTrue};
+ghost use Rattle.std.specs.List.{All};
+
+use crate::count::Spent;
+use crate::made::Made;
+use fx_scale::{PhantomPoints, Scale};
+use fx_sfnt::Metrics;
+use fx_zone::{Point, Zone};
+use std::alloc::{AllocError, Global};
+use std::marker::Model;
+
+/// What a simple glyph is made from: its number, its size, its metrics and its bytes.
+#[derive(Clone, Copy)]
+pub struct GlyphInput<'b> {
+    pub g: u16,
+    pub scale: Scale,
+    pub metrics: Metrics,
+    pub bytes: &'b [u8],
+}
+
+/// What is kept of a glyph beside its lists.
+#[derive(Clone, Copy)]
+pub struct KeptFields {
+    pub g: u16,
+    pub scale: Scale,
+    pub metrics: Metrics,
+    pub phantoms: PhantomPoints,
+    pub spent: Spent,
+}
+
+/// A place for a simple glyph that was made, or for none. Its lists keep their memory when another glyph takes the place.
+#[derive(Drop)]
+pub struct KeptGlyph {
+    fields: Option<KeptFields>,
+    bytes: Vec<u8>,
+    points: Vec<Point>,
+    ends: Vec<usize>,
+}
+
+impl Model for KeptGlyph {
+    ghost use Rattle.std.specs.Prelude.{Option, ◌<◌, length};
+    ghost use Rattle.std.specs.List.{All};
+    ghost use Rattle.fx_hint.specs.Kept.{KeptGlyphView};
+    ghost use Rattle.fx_hint.specs.inner.Kept.{kept_of};
+
+    ghost Value = { Option KeptGlyphView };
+
+    ghost view = { λ k. kept_of k.fields k.bytes.items k.points.items k.ends.items };
+
+    ghost invariant = { λ k. All (λ e. e < length k.points.items) k.ends.items };
+}
+
+/// Room in a copy for the points of a composite's other components.
+const MORE_POINTS: usize = 32;
+
+/// Room in a copy for their contours.
+const MORE_ENDS: usize = 4;
+
+/// Whether two lists have the same bytes. It looks at all of them, so that many are compared at a time.
+fn are_same(one: &[u8], other: &[u8]) -> bool
+    ensures { IsTrue result → one.now ≡ other.now }
+{
+    if one.len() != other.len() {
+        return false;
+    }
+    let mut same = true;
+    // The bytes so far are the same if `same` is true.
+    'bytes: for number in 0..one.len() {
+        same = same & (one[number] == other[number]);
+    }
+    same
+}
+
+/// A copy of points and contours, with room for those of a composite's other components.
+fn zone_copied(alloc: Global, points: &[Point], ends: &[usize]) -> Result<Zone, AllocError>
+    requires { All (λ e. e < length points.now) ends.now }
+    ensures { IfOk result (λ z. z ≡ record { points = points.now; ends = ends.now }) }
+{
+    let mut all_points = Vec::with_capacity(alloc, points.len() + MORE_POINTS)?;
+    all_points.extend_from_slice(points)?;
+    let mut all_ends = Vec::with_capacity(alloc, ends.len() + MORE_ENDS)?;
+    all_ends.extend_from_slice(ends)?;
+    Ok(Zone::of(alloc, all_points, all_ends))
+}
+
+impl KeptFields {
+    /// Whether the glyph has this number, size and metrics.
+    fn are_of(&self, input: &GlyphInput<'_>) -> bool
+        ensures number { IsTrue result → self.now.g ≡ input.now.g }
+        ensures scale { IsTrue result → self.now.scale ≡ input.now.scale }
+        ensures metrics { IsTrue result → self.now.metrics ≡ input.now.metrics }
+    {
+        self.g == input.g && self.metrics == input.metrics && self.scale == input.scale
+    }
+}
+
+impl KeptGlyph {
+    /// Nothing is kept.
+    pub fn new(alloc: Global) -> KeptGlyph
+        ensures { result ≡ None }
+    {
+        KeptGlyph {
+            fields: None,
+            bytes: Vec::new(alloc),
+            points: Vec::new(alloc),
+            ends: Vec::new(alloc),
+        }
+    }
+
+    /// Keeps a glyph in place of what it kept; nothing if memory is refused.
+    pub fn take(
+        &mut self,
+        input: &GlyphInput<'_>,
+        made: &Made,
+        spent: Spent,
+    ) -> Result<(), AllocError>
+        ensures done { OnOk result (self.new ≡ Some (record {
+          g = input.now.g;
+          scale = input.now.scale;
+          metrics = input.now.metrics;
+          bytes = input.now.bytes.now;
+          made = made.now;
+          spent = spent;
+        })) }
+        ensures none { OnErr result (self.new ≡ None) }
+    {
+        self.fields = None;
+        self.ends.clear();
+        self.points.clear();
+        self.bytes.clear();
+        self.bytes.extend_from_slice(input.bytes)?;
+        self.points.extend_from_slice(made.zone.points())?;
+        self.ends.extend_from_slice(made.zone.ends())?;
+        self.fields = Some(KeptFields {
+            g: input.g,
+            scale: input.scale,
+            metrics: input.metrics,
+            phantoms: made.phantoms,
+            spent,
+        });
+        Ok(())
+    }
+
+    /// The glyph that is kept, if it was made from this input; none if memory is refused.
+    pub fn recall(&self, alloc: Global, input: &GlyphInput<'_>) -> Option<(Made, Spent)>
+        ensures { IfSome result (λ r. self.now ≡ Some (record {
+          g = input.now.g;
+          scale = input.now.scale;
+          metrics = input.now.metrics;
+          bytes = input.now.bytes.now;
+          made = r.0;
+          spent = r.1;
+        })) }
+    {
+        let fields = self.fields?;
+        if !fields.are_of(input) || !are_same(&self.bytes, input.bytes) {
+            return None;
+        }
+        let zone = zone_copied(alloc, &self.points, &self.ends).ok()?;
+        let made = Made {
+            zone,
+            phantoms: fields.phantoms,
+        };
+        Some((made, fields.spent))
+    }
+}
