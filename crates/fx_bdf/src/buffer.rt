@@ -1,6 +1,6 @@
 //! A buffer before a sink, so that many short pieces of a text cost few calls.
 
-ghost use Rattle.std.specs.Prelude.{◌≡◌, ◌+◌, ◌++◌, ◌*◌, ◌<◌, ◌≤◌, ◌^◌, [], take, drop, length, IfOk};
+ghost use Rattle.std.specs.Prelude.{◌≡◌, ◌+◌, ◌++◌, ◌*◌, ◌<◌, ◌≤◌, ◌^◌, [], ◌∷◌, take, drop, length, IfOk};
 ghost use Rattle.std.specs.List.{flat_map};
 ghost use Rattle.std.specs.Fmt.{decimal, signed_decimal};
 ghost use Rattle.fx_fixed.specs.Wrote.{WrotePart};
@@ -136,5 +136,16 @@ impl Buffer {
     {
         put_words(&mut self.bytes, self.used, words);
         self.used += count;
+    }
+    /// The same, and LF; all of the words' digits and LF have to fit.
+    pub fn add_line(&mut self, words: &[u32], count: usize)
+        requires fits { length self.old.waiting + 8 * length words.now + 1 ≤ CAPACITY }
+        requires count { count ≤ 8 * length words.now }
+        ensures waiting { self.new.waiting ≡ self.old.waiting ++ (take count (flat_map word_text words.now) ++ 10 ∷ []) }
+        ensures done { self.new.done ≡ self.old.done }
+    {
+        put_words(&mut self.bytes, self.used, words);
+        put(&mut self.bytes, self.used + count, b"\n");
+        self.used += count + 1;
     }
 }

@@ -1,5 +1,4 @@
-use Rattle.std.proofs.Common.{sym, arith, ap, [], ◌∙◌}
-use Rattle.fx_winding.specs.Bitmaps.{bits_in}
+use Rattle.std.proofs.Common.{sym, arith, ap, ◌∙◌, List, [], Bool, get_or}
 use Rattle.std.proofs.lemmas.Result.{err_from_is_err_and}
 use Rattle.fx_fixed.proofs.Writing.{parts}
 use Rattle.fx_bdf.specs.Glyphs.{Box}
@@ -26,8 +25,7 @@ returns-in_err-add_row-clause-rows g c =
     let tall = c.bounds-bounds.ensures.formed.height in
     adds_out (adds_text (sym (parts row_text c.args.glyph.now.rows c.rows.i [] (omega (arith, same, tall))))
     (adds_then c.rows.invariant (adds_none _
-    (adds_text (ap row_text ((λ i. bits_in (c.bounds-bounds.ensures.value i).width c.row.result.now) ∙ c.row.ensures.value))
-    c.in_err-add_row.ensures)))) p.1 p.2
+    (adds_text (ap row_text (c.row.ensures ∙ ap (λ (rows : List (List Bool)). get_or rows c.rows.i []) c.rows-rows.ensures)) c.in_err-add_row.ensures)))) p.1 p.2
 
 pub returns-clause-short : goal.returns-clause-short
 returns-clause-short g c = rows_short c.args.glyph.now c.bounds-bounds.ensures.formed
@@ -36,6 +34,5 @@ pub rows-preserved : goal.rows-preserved
 rows-preserved g c =
     let same = ap (λ (b : Box). b.height) c.bounds-bounds.ensures.value in
     let tall = c.bounds-bounds.ensures.formed.height in
-    let text = ap row_text ((λ i. bits_in (c.bounds-bounds.ensures.value i).width c.row.result.now) ∙ c.row.ensures.value) in
     adds_text (parts_more row_text c.args.glyph.now.rows c.rows.i [] (omega (arith, same, tall)))
-    (adds_then c.rows.invariant (adds_text text c.in_ok-add_row.ensures))
+    (adds_then c.rows.invariant (adds_text (ap row_text (c.row.ensures ∙ ap (λ (rows : List (List Bool)). get_or rows c.rows.i []) c.rows-rows.ensures)) c.in_ok-add_row.ensures))
