@@ -46,6 +46,13 @@ impl<'a> BoxRows<'a> {
         }
     }
 
+    /// How many there are.
+    pub fn len(&self) -> u32
+        ensures { result ≡ length self.now }
+    {
+        self.bounds.height
+    }
+
     /// A row, counted from the top.
     pub fn row(&self, i: u32) -> Row<'a>
         requires { i < length self.now }
