@@ -24,7 +24,8 @@ returns-in_err-free-clause-digits g c =
 
 pub words-preserved : goal.words-preserved
 words-preserved g c =
-    adds_text (digits_more c.args.row.now _ c.words.k c.min.result c.word.ensures (omega (arith, c.min.ensures, c.digits-count.ensures)))
+    adds_text (digits_more c.args.row.now _ c.words.k c.min.result c.word.ensures
+    (omega (arith, c.min.ensures, c.digits-count.ensures)))
     (adds_then c.words.invariant (adds_then c.in_ok-free.ensures.adds
     (adds_here c.add_words.ensures.waiting c.add_words.ensures.done)))
 
