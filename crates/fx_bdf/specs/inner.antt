@@ -1,3 +1,4 @@
 -- What only private contracts cite.
+pub mod BoxRows
 pub mod Buffer
-pub mod Moved
+pub mod RowWords

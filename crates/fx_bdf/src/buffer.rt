@@ -1,12 +1,15 @@
 //! A buffer before a sink, so that many short pieces of a text cost few calls.
 
-ghost use Rattle.std.specs.Prelude.{◌≡◌, ◌+◌, ◌++◌, ◌*◌, ◌<◌, ◌≤◌, ◌^◌, [], take, drop, length, IfOk};
+ghost use Rattle.std.specs.Prelude.{◌≡◌, ◌+◌, ◌++◌, ◌*◌, ◌<◌, ◌≤◌, ◌^◌, [], take, drop, length, IfOk, IfSome, IfNone};
 ghost use Rattle.std.specs.List.{flat_map};
 ghost use Rattle.std.specs.Fmt.{decimal, signed_decimal};
 ghost use Rattle.fx_fixed.specs.Wrote.{WrotePart};
-ghost use Rattle.fx_bdf.specs.inner.Buffer.{Adds, word_text};
+ghost use Rattle.fx_bdf.specs.Text.{row_text};
+ghost use Rattle.fx_bdf.specs.inner.Buffer.{Adds, word_text, lines_between};
 
+use crate::box_rows::BoxRows;
 use crate::digits::word_digits;
+use crate::rows::Row;
 use fx_fixed::{Digits, Sink, WriteFailed, put_part};
 use std::marker::Model;
 
@@ -53,6 +56,47 @@ fn put_words(bytes: &mut [u8], start: usize, words: &[u32])
     'words: for k in 0..words.len() {
         put(bytes, start + 8 * k, &word_digits(words[k]));
     }
+}
+
+/// Writes the line of a row over the bytes from `start` on, if the row begins with a word's first bit and there is room; returns
+/// where the line ends.
+fn put_line(bytes: &mut [u8], start: usize, row: &Row<'_>) -> Option<usize>
+    requires { start ≤ length bytes.old }
+    ensures long { length bytes.new ≡ length bytes.old }
+    ensures none { IfNone result (bytes.new ≡ bytes.old) }
+    ensures within { IfSome result (λ end. end ≤ length bytes.new) }
+    ensures text { IfSome result (λ end. take end bytes.new ≡ take start bytes.old ++ row_text row.now) }
+{
+    let words = row.whole_words()?;
+    if bytes.len() - start < 8 * words.len() + 1 {
+        return None;
+    }
+    put_words(bytes, start, words);
+    let end = start + row.digits();
+    put(bytes, end, b"\n");
+    Some(end + 1)
+}
+
+/// Writes the lines of rows from the row `next` on over the bytes from `end` on, up to the first that `put_line` does not write;
+/// returns where they end, and the number of the row after them.
+fn put_lines(bytes: &mut [u8], mut end: usize, rows: &BoxRows<'_>, mut next: u32) -> (usize, u32)
+    requires within { end ≤ length bytes.old }
+    requires next { next ≤ length rows.now }
+    ensures long { length bytes.new ≡ length bytes.old }
+    ensures within { result.0 ≤ length bytes.new }
+    ensures order { next ≤ result.1 }
+    ensures next { result.1 ≤ length rows.now }
+    ensures text { take result.0 bytes.new ≡ take end bytes.old ++ lines_between rows.now next result.1 }
+{
+    // The lines of the rows before `next` were written, up to `end`.
+    'rows: while next < rows.len() {
+        match put_line(bytes, end, &rows.row(next)) {
+            None => break,
+            Some(after) => end = after,
+        }
+        next += 1;
+    }
+    (end, next)
 }
 
 impl Buffer {
@@ -136,5 +180,18 @@ impl Buffer {
     {
         put_words(&mut self.bytes, self.used, words);
         self.used += count;
+    }
+    /// Adds the lines of rows from the row `first` on: as many as fit, up to a row that does not begin with a word's first bit.
+    /// Returns the number of the row after them.
+    pub fn add_lines(&mut self, rows: &BoxRows<'_>, first: u32) -> u32
+        requires { first ≤ length rows.now }
+        ensures order { first ≤ result }
+        ensures next { result ≤ length rows.now }
+        ensures waiting { self.new.waiting ≡ self.old.waiting ++ lines_between rows.now first result }
+        ensures done { self.new.done ≡ self.old.done }
+    {
+        let (end, next) = put_lines(&mut self.bytes, self.used, rows, first);
+        self.used = end;
+        next
     }
 }

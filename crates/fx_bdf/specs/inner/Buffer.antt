@@ -1,8 +1,10 @@
 -- A text on its way to a sink by a buffer.
-use Rattle.std.specs.Prelude.{◌≡◌, ℕ, ◌/◌, ◌%◌, ◌^◌, List, [], ◌∷◌, ◌++◌, true, Option, Result, Ok, Err}
+use Rattle.std.specs.Prelude.{◌≡◌, ℕ, ◌-◌, ◌/◌, ◌%◌, ◌^◌, List, [], ◌∷◌, ◌++◌, take, drop, Bool, true, Option, Result, Ok, Err}
+use Rattle.std.specs.List.{flat_map}
 use Rattle.std.specs.Fmt.{digit_glyph}
 use Rattle.fx_fixed.specs.declared.sink.WriteFailed.{WriteFailed}
 use Rattle.fx_fixed.specs.Wrote.{WrotePart}
+use Rattle.fx_bdf.specs.Text.{row_text}
 
 -- the eight upper case hexadecimal digits of a word, that of the highest four bits first
 abbrev pub word_text : ℕ → List ℕ
@@ -10,6 +12,10 @@ word_text w =
     digit_glyph true (w / 2 ^ 28 % 16) ∷ digit_glyph true (w / 2 ^ 24 % 16) ∷ digit_glyph true (w / 2 ^ 20 % 16)
     ∷ digit_glyph true (w / 2 ^ 16 % 16) ∷ digit_glyph true (w / 2 ^ 12 % 16) ∷ digit_glyph true (w / 2 ^ 8 % 16)
     ∷ digit_glyph true (w / 2 ^ 4 % 16) ∷ digit_glyph true (w % 16) ∷ []
+
+-- the lines of the rows from one up to another
+abbrev pub lines_between : List (List Bool) → ℕ → ℕ → List ℕ
+lines_between rows first end = flat_map row_text (take (end - first) (drop first rows))
 
 -- how many bytes the sink has taken of a text, and those that wait in the buffer
 pub record BufferView : Type 0 where

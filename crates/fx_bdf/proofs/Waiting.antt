@@ -1,0 +1,77 @@
+-- Bytes written over those of a buffer.
+-- Serves the lines of rows in a buffer.
+use Rattle.std.proofs.Common.{◌≡◌, ℕ, ◌+◌, ◌-◌, ◌<◌, ◌≤◌, List, [], ◌∷◌, ◌++◌, Bool, length}
+use Rattle.std.proofs.Common.{take, drop, get_or, sym, ap, ◌∙◌, arith}
+use Rattle.std.proofs.Common.{append_assoc, append-nil, length-drop, get_or-drop, Option, Ok}
+use Rattle.std.specs.List.{flat_map}
+use Rattle.std.proofs.lemmas.Grind.{flat_map-append}
+use Rattle.std.proofs.lemmas.List.{take-append-drop, take-append-le, length-take-le}
+use Rattle.std.proofs.Math.Seq.{take-append-add, take-add}
+use Rattle.fx_bdf.specs.Text.{row_text}
+use Rattle.fx_bdf.specs.inner.Buffer.{BufferView, Adds, lines_between}
+use Rattle.fx_bdf.proofs.Adding.{adds_then, adds_text, adds_here, parts_more}
+
+-- the first bytes of those that were written after `used` bytes
+front : (used count m : ℕ) (old mid digits : List ℕ) → used ≤ length old → count ≤ m → used + m ≤ length mid
+    → take (used + m) mid ≡ take used old ++ digits → take (used + count) mid ≡ take used old ++ take count digits
+front used count m old mid digits inside few fits e =
+    let long : length (take (used + m) mid) ≡ used + m = length-take-le (used + m) mid fits in
+    let start : used ≡ length (take used old) = sym (length-take-le used old inside) in
+    ap (take (used + count)) (sym (take-append-drop (used + m) mid))
+    ∙ take-append-le (used + count) (take (used + m) mid) (drop (used + m) mid) (omega arith)
+    ∙ ap (take (used + count)) e
+    ∙ (λ i. take (start i + count) (take used old ++ digits))
+    ∙ take-append-add (take used old) digits count
+
+-- the byte after them was written over
+pub line_added : (used count m : ℕ) (old mid new digits rest : List ℕ) → used ≤ length old → count ≤ m → used + m ≤ length mid
+    → take (used + m) mid ≡ take used old ++ digits → new ≡ take (used + count) mid ++ 10 ∷ rest
+    → take (used + count + 1) new ≡ take used old ++ (take count digits ++ 10 ∷ [])
+line_added used count m old mid new digits rest inside few fits e n =
+    let long : used + count + 1 ≡ length (take (used + count) mid) + 1 =
+    omega (arith, length-take-le (used + count) mid (omega arith)) in
+    (λ i. take (long i) (n i))
+    ∙ take-append-add (take (used + count) mid) (10 ∷ rest) 1
+    ∙ ap (λ (t : List ℕ). t ++ 10 ∷ []) (front used count m old mid digits inside few fits e)
+    ∙ append_assoc (take used old) (take count digits) (10 ∷ [])
+
+-- ---- lines of rows one after the other
+
+pub lines_none : (rows : List (List Bool)) (first : ℕ) (front : List ℕ) → front ≡ front ++ lines_between rows first first
+lines_none rows first front =
+    let none : 0 ≡ first - first = omega arith in
+    sym (append-nil front) ∙ ap (λ (n : ℕ). front ++ flat_map row_text (take n (drop first rows))) none
+
+-- one line more
+pub lines_more : (rows : List (List Bool)) (first next : ℕ) (row : List Bool) (front now new : List ℕ) → first ≤ next
+    → next < length rows → now ≡ front ++ lines_between rows first next → row ≡ get_or rows next []
+    → new ≡ now ++ row_text row → new ≡ front ++ lines_between rows first (next + 1)
+lines_more rows first next row front now new order inside text is added =
+    let rest = drop first rows in
+    let k = next - first in
+    let at : first + k ≡ next = omega arith in
+    let more : k + 1 ≡ next + 1 - first = omega arith in
+    let here : row ≡ get_or rest k [] = is ∙ ap (λ (n : ℕ). get_or rows n []) (sym at) ∙ sym (get_or-drop first rows k []) in
+    added
+    ∙ (λ i. text i ++ row_text (here i))
+    ∙ append_assoc front (flat_map row_text (take k rest)) (row_text (get_or rest k []))
+    ∙ ap (λ (t : List ℕ). front ++ t) (parts_more row_text rest k [] (omega (arith, length-drop first rows)))
+    ∙ ap (λ (n : ℕ). front ++ flat_map row_text (take n rest)) more
+
+-- the lines from the first on, and those from one up to another
+lines_joined : (rows : List (List Bool)) (first next : ℕ) → first ≤ next
+    → flat_map row_text (take first rows) ++ lines_between rows first next ≡ flat_map row_text (take next rows)
+lines_joined rows first next order =
+    let all : first + (next - first) ≡ next = omega arith in
+    sym (flat_map-append row_text (take first rows) (take (next - first) (drop first rows)))
+    ∙ ap (flat_map row_text) (sym (take-add first (next - first) rows))
+    ∙ ap (λ (n : ℕ). flat_map row_text (take n rows)) all
+
+-- they are added after those that were added before
+pub adds_lines : {old new : Option (List ℕ)} {faults_before after : ℕ} {was now next : BufferView} (rows : List (List Bool))
+    (first end : ℕ) → first ≤ end
+    → Adds old new faults_before after was now (flat_map row_text (take first rows)) (Ok tt)
+    → next.waiting ≡ now.waiting ++ lines_between rows first end → next.done ≡ now.done
+    → Adds old new faults_before after was next (flat_map row_text (take end rows)) (Ok tt)
+adds_lines rows first end order added waiting done =
+    adds_text (lines_joined rows first end order) (adds_then added (adds_here waiting done))

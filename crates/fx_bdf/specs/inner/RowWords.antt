@@ -1,0 +1,26 @@
+-- Rows of pixels in words of 32 bits, from any bit on.
+use Rattle.std.specs.Prelude.{◌≡◌, ℕ, ◌+◌, ◌*◌, ◌<◌, ◌≤◌, ◌==◌, Bool, List, map, length}
+use Rattle.std.specs.List.{range_with_len}
+use Rattle.fx_winding.specs.Limits.{greatest_side}
+use Rattle.fx_winding.specs.Bitmaps.{word_bit, words_for}
+use Rattle.fx_bdf.specs.Text.{pixel}
+
+-- the pixels of a row of this width that words hold from one bit on
+abbrev pub row_from : ℕ → ℕ → List ℕ → List Bool
+row_from width from words = map (λ i. word_bit words (from + i) == 1) (range_with_len 0 width)
+
+-- words hold all of the row, and no bit after it is set
+pub record HoldRow (width from : ℕ) (words : List ℕ) : Type 0 where
+  pub wide : width ≤ greatest_side
+  pub few : length words ≤ words_for greatest_side
+  pub inside : from + width ≤ 32 * length words
+  pub unused : (i : ℕ) → width ≤ i → word_bit words (from + i) ≡ 0
+
+-- words have the bits of a row from pixel 32 * k on, and 0 after the row's end
+pub record AreWordsFrom (k : ℕ) (row : List Bool) (words : List ℕ) : Type 0 where
+  pub bits : (i : ℕ) → i < 32 * length words → word_bit words i ≡ pixel row (32 * k + i)
+
+-- words that hold a row from their first bit on, and no more words than that needs
+pub record AreWordsOf (row : List Bool) (words : List ℕ) : Type 0 where
+  pub count : length words ≡ words_for (length row)
+  pub bits : AreWordsFrom 0 row words
