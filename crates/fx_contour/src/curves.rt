@@ -138,17 +138,6 @@ fn push_some(made: &mut Pieces, piece: Option<Piece>) -> Result<(), AllocError>
     }
 }
 
-/// The point after point i of a contour that begins with `first`.
-fn next_point<'p>(points: &'p [OutlinePoint], i: usize, first: &'p OutlinePoint) -> &'p OutlinePoint
-    requires { i < length points.now }
-    ensures { result.now ≡ first_or (drop (i + 1) points.now) first.now }
-{
-    if i + 1 < points.len() {
-        return &points[i + 1];
-    }
-    first
-}
-
 /// Adds the pieces of a contour.
 fn add_contour(made: &mut Pieces, points: &[OutlinePoint]) -> Result<(), AllocError>
     requires near { All IsInReach points.now }
@@ -161,16 +150,19 @@ fn add_contour(made: &mut Pieces, points: &[OutlinePoint]) -> Result<(), AllocEr
     }
     let first = &points[0];
     let mut before = &points[points.len() - 1];
+    let mut here = first;
     let mut from = joint(before, first);
-    // The pieces of the points before i were added; the curve has come to `from`, between `before` and the point i.
-    'points: for i in 0..points.len() {
-        let here = &points[i];
-        let step = step_at(before, here, next_point(points, i, first), from);
+    // The pieces of the points before `here` were added, and `here` comes before point i; the curve has come to `from`, between
+    // `before` and `here`.
+    'points: for i in 1..points.len() {
+        let next = &points[i];
+        let step = step_at(before, here, next, from);
         push_some(made, step.piece)?;
         before = here;
+        here = next;
         from = step.to;
     }
-    Ok(())
+    push_some(made, step_at(before, here, first, from).piece)
 }
 
 /// Whether each of the contours with these last points has two points or more.
