@@ -1,6 +1,6 @@
 -- Bounding boxes, point by point.
--- For `Bounds` and its loop.
-use Rattle.std.proofs.Common.{◌≡◌, sym, subst, ℕ, zero, suc, ◌+◌, ◌<◌, ◌≤◌, drop, length, map, get_or, ◌⊎◌, inl, inr, ℤ, ◌≤ℤ◌, List}
+-- For `Bounds` and `Extent` and their loops.
+use Rattle.std.proofs.Common.{◌≡◌, sym, subst, ℕ, zero, suc, ◌+◌, ◌<◌, ◌≤◌, drop, length, map, get_or, ◌⊎◌, inl, inr, ℤ, pos, ◌*ℤ◌, ◌≤ℤ◌, List}
 use Rattle.std.proofs.Common.{[], ◌∷◌, Option, None, Some, IsSomeAnd, refl, arith, ◌↔◌}
 use Rattle.std.specs.Int.{int_min, int_max}
 use Rattle.std.proofs.lemmas.Int.{ints, clamps, by_lt_z}
@@ -10,7 +10,7 @@ use Rattle.fx_winding.specs.declared.point.Piece.{Piece}
 use Rattle.fx_winding.specs.Winding.{Span, span_of}
 use Rattle.fx_contour.specs.declared.bounds.Bounds.{Bounds}
 use Rattle.fx_contour.specs.Frames.{HasAny, HaveAny}
-use Rattle.fx_contour.specs.Bounds.{Side, left_side, right_side, bottom_side, top_side, IsOut, Reaches, Grows, AreBounds}
+use Rattle.fx_contour.specs.Bounds.{Side, left_side, right_side, bottom_side, top_side, IsOut, ReachOf, Reaches, Grows, AreBounds}
 use Rattle.fx_contour.specs.Bounds.{AreBoundsOf}
 
 least_is : (r l x t : ℤ) → r ≡ int_min l x → (r ≤ℤ t) ↔ ((l ≤ℤ t) ⊎ (x ≤ℤ t))
@@ -29,15 +29,21 @@ greatest_is r l x t e =
     back (inl h) = omega (arith, ints, clamps)
     back (inr h) = omega (arith, ints, clamps)
 
-pub point_grows : (b c : Bounds) (p : Place) → c.left ≡ int_min b.left p.x → c.right ≡ int_max b.right p.x
-    → c.bottom ≡ int_min b.bottom p.y → c.top ≡ int_max b.top p.y → Grows b c (λ P. P p)
-point_grows b c p l r d u = record { sides = λ side t. at side t }
+pub doubled_least : (r l x : ℤ) → r ≡ int_min l x → pos 2 *ℤ r ≡ int_min (pos 2 *ℤ l) (pos 2 *ℤ x)
+doubled_least r l x e = by_lt_z l x (λ k. omega (arith, ints, clamps)) (λ k. omega (arith, ints, clamps))
+
+pub doubled_greatest : (r l x : ℤ) → r ≡ int_max l x → pos 2 *ℤ r ≡ int_max (pos 2 *ℤ l) (pos 2 *ℤ x)
+doubled_greatest r l x e = by_lt_z l x (λ k. omega (arith, ints, clamps)) (λ k. omega (arith, ints, clamps))
+
+pub point_grows : (l r d u l' r' d' u' : ℤ) (p : Place) → l' ≡ int_min l p.x → r' ≡ int_max r p.x → d' ≡ int_min d p.y
+    → u' ≡ int_max u p.y → Grows (ReachOf l r d u) (ReachOf l' r' d' u') (λ P. P p)
+point_grows l r d u l' r' d' u' p el er ed eu = record { sides = λ side t. at side t }
   where
-    at : (side : Side) (t : ℤ) → Reaches c side t ↔ (Reaches b side t ⊎ IsOut side t p)
-    at left_side t = least_is c.left b.left p.x t l
-    at right_side t = greatest_is c.right b.right p.x t r
-    at bottom_side t = least_is c.bottom b.bottom p.y t d
-    at top_side t = greatest_is c.top b.top p.y t u
+    at : (side : Side) (t : ℤ) → ReachOf l' r' d' u' side t ↔ (ReachOf l r d u side t ⊎ IsOut side t p)
+    at left_side t = least_is l' l p.x t el
+    at right_side t = greatest_is r' r p.x t er
+    at bottom_side t = least_is d' d p.y t ed
+    at top_side t = greatest_is u' u p.y t eu
 
 -- from a to b by R and on to c by S
 two : (A B C R S : Type 0) → B ↔ (A ⊎ R) → C ↔ (B ⊎ S) → C ↔ (A ⊎ (R ⊎ S))
@@ -57,24 +63,23 @@ two A B C R S h k = (λ c. there (k.0 c), λ x. back x)
     back (inr (inr s)) = k.1 (inr s)
 
 -- a box that grows by R and then by S grows by both
-then : (a b c : Bounds) (R S : (Place → Type 0) → Type 0) → Grows a b R → Grows b c S → Grows a c (λ P. R P ⊎ S P)
+then : (a b c : Side → ℤ → Type 0) (R S : (Place → Type 0) → Type 0) → Grows a b R → Grows b c S → Grows a c (λ P. R P ⊎ S P)
 then a b c R S h k =
     record {
-      sides = λ side t. two (Reaches a side t) (Reaches b side t) (Reaches c side t) (R (IsOut side t)) (S (IsOut side t))
-          (h.sides side t) (k.sides side t);
+      sides = λ side t. two (a side t) (b side t) (c side t) (R (IsOut side t)) (S (IsOut side t)) (h.sides side t) (k.sides side t);
     }
 
-pub span_grows : (a b c d : Bounds) (s : Span) → Grows a b (λ P. P s.a) → Grows b c (λ P. IsSomeAnd s.b P) → Grows c d (λ P. P s.c)
-    → Grows a d (λ P. HasAny P s)
+pub span_grows : (a b c d : Side → ℤ → Type 0) (s : Span) → Grows a b (λ P. P s.a) → Grows b c (λ P. IsSomeAnd s.b P)
+    → Grows c d (λ P. P s.c) → Grows a d (λ P. HasAny P s)
 span_grows a b c d s h k l =
     then a b d (λ P. P s.a) (λ P. IsSomeAnd s.b P ⊎ P s.c) h (then b c d (λ P. IsSomeAnd s.b P) (λ P. P s.c) k l)
 
-pub stays : (b : Bounds) (o : Option Place) → o ≡ None → Grows b b (λ P. IsSomeAnd o P)
-stays b o e = record { sides = λ side t. (λ h. inl h, λ h. back side t h) }
-  where
-    back : (side : Side) (t : ℤ) → Reaches b side t ⊎ IsSomeAnd o (IsOut side t) → Reaches b side t
-    back side t (inl h) = h
-    back side t (inr n) = absurd (subst (λ (x : Option Place). IsSomeAnd x (IsOut side t)) e n)
+-- a box stays as it is, if R tells of no point
+pub stays : (a : Side → ℤ → Type 0) (R : (Place → Type 0) → Type 0) → ((P : Place → Type 0) → ¬ (R P)) → Grows a a R
+stays a R n = record { sides = λ side t. (λ h. inl h, λ h. elim h [ inl x ↦ x | inr y ↦ absurd (n (IsOut side t) y) ]) }
+
+pub no_control : (o : Option Place) → o ≡ None → (P : Place → Type 0) → ¬ (IsSomeAnd o P)
+no_control o e P n = absurd (subst (λ (x : Option Place). IsSomeAnd x P) e n)
 
 -- the box so far and the points of the spans that are left give the box of all
 pub record Remains (b : Bounds) (ss rest : List Span) : Type 0 where
@@ -97,7 +102,7 @@ one_less X A B R S h k = (λ x. there (h.0 x), λ y. back y)
         more (inr r) = h.1 (inr (inl r))
 
 pub remains_more : (b c : Bounds) (ps : List Piece) (n : ℕ) (s : Piece) → n < length ps → s ≡ get_or ps n s
-    → Remains b (map span_of ps) (map span_of (drop n ps)) → Grows b c (λ P. HasAny P (span_of s))
+    → Remains b (map span_of ps) (map span_of (drop n ps)) → Grows (Reaches b) (Reaches c) (λ P. HasAny P (span_of s))
     → Remains c (map span_of ps) (map span_of (drop (n + 1) ps))
 remains_more b c ps n s h e r g =
     let ss = map span_of ps in
@@ -166,11 +171,3 @@ some_of b ss h = record { sides = h.sides }
 pub some_bounds : (o : Option Bounds) (b : Bounds) (ss : List Span) → o ≡ Some b → AreBoundsOf o ss → AreBounds b ss
 some_bounds o b ss e a =
     let P : Option Bounds → Type 0 = λ x. AreBoundsOf x ss in let h = subst P e a in record { sides = h.sides }
-
--- a box around a point reaches to the point
-pub around_reaches : (b : Bounds) (p : Place) → b.left ≡ p.x → b.right ≡ p.x → b.bottom ≡ p.y → b.top ≡ p.y → (side : Side) (t : ℤ)
-    → Reaches b side t → IsOut side t p
-around_reaches b p l r u v left_side t k = rw l at k
-around_reaches b p l r u v right_side t k = rw r at k
-around_reaches b p l r u v bottom_side t k = rw u at k
-around_reaches b p l r u v top_side t k = rw v at k

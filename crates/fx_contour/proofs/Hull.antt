@@ -1,6 +1,6 @@
 -- The bounding box of the curve of a contour is that of its points: its other points lie half way between two of them.
--- For `Bounds::with_contour`.
-use Rattle.std.proofs.Common.{◌≡◌, ◌⊎◌, inl, inr, ℤ, Bool, true, false, List, [], ◌∷◌, ◌++◌, Option, Some, None, refl}
+-- For `Extent::with_contour` and `Extent::of_curves`.
+use Rattle.std.proofs.Common.{◌≡◌, ◌⊎◌, inl, inr, ℤ, Bool, true, false, List, [], ◌∷◌, ◌++◌, Option, Some, None, refl, length, ◌<◌, ◌≤◌}
 use Rattle.std.proofs.Common.{sym, subst, arith, option_to_list, if◌then◌else◌, ◌↔◌}
 use Rattle.std.proofs.lemmas.Int.{ints, by_lt_z}
 use Rattle.fx_winding.specs.Area.{Place}
@@ -185,7 +185,22 @@ point_curve P p q qs h = by (point_one P (last_or q qs) (p ∷ q ∷ qs) p h)
     by (inl k) = k
     by (inr e) = last_arc P (last_or q qs) p (q ∷ qs) p e
 
+-- a contour of one point draws nothing
+pub no_curve : (P : Place → Type 0) (points : List OutlinePoint) → length points < 2 → ¬ (HaveAny P (curve_of points))
+no_curve P [] h n = n
+no_curve P (p ∷ []) h n = n
+no_curve P (p ∷ q ∷ qs) h n = absurd (omega arith)
+
 -- a side of the curve is one of its points
-pub hull : (side : Side) (t : ℤ) (p q : OutlinePoint) (qs : List OutlinePoint)
-    → HaveAny (IsOut side t) (curve_of (p ∷ q ∷ qs)) ↔ HavePoint (IsOut side t) (p ∷ q ∷ qs)
-hull side t p q qs = (curve_point (IsOut side t) (out_of_ends side t) p q qs, point_curve (IsOut side t) p q qs)
+pub hull_of : (side : Side) (t : ℤ) (points : List OutlinePoint) → 2 ≤ length points
+    → HaveAny (IsOut side t) (curve_of points) ↔ HavePoint (IsOut side t) points
+hull_of side t [] h = absurd (omega arith)
+hull_of side t (p ∷ []) h = absurd (omega arith)
+hull_of side t (p ∷ q ∷ qs) h = (curve_point (IsOut side t) (out_of_ends side t) p q qs, point_curve (IsOut side t) p q qs)
+
+-- a place of the curve has a point of the contour as far out
+pub of_curve : (side : Side) (t : ℤ) (points : List OutlinePoint) → HaveAny (IsOut side t) (curve_of points)
+    → HavePoint (IsOut side t) points
+of_curve side t [] n = n
+of_curve side t (p ∷ []) n = absurd n
+of_curve side t (p ∷ q ∷ qs) h = curve_point (IsOut side t) (out_of_ends side t) p q qs h

@@ -3,6 +3,7 @@ pub mod Outside
 pub mod Growing
 pub mod Hull
 pub mod Enclosing
+pub mod Drawing
 pub mod Framed
 pub mod Walk
 pub mod Gather

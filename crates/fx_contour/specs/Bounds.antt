@@ -1,12 +1,14 @@
 -- The bounding box of points, and the pixels of a row or a column.
-use Rattle.std.specs.Prelude.{◌⊎◌, ℤ, pos, ◌+ℤ◌, ◌*ℤ◌, ◌≤ℤ◌, List, [], ◌∷◌, Option, Some, None, ◌↔◌}
+use Rattle.std.specs.Prelude.{◌⊎◌, ℤ, pos, ◌+ℤ◌, ◌*ℤ◌, ◌≤ℤ◌, ℕ, ◌+◌, ◌<◌, List, [], ◌∷◌, Option, Some, None, ◌↔◌}
 use Rattle.fx_winding.specs.Area.{Place}
 use Rattle.fx_winding.specs.Winding.{Span}
 use Rattle.fx_winding.specs.Frames.{IsFrom}
 use Rattle.fx_contour.specs.declared.bounds.Bounds.{Bounds}
+use Rattle.fx_contour.specs.declared.extent.Extent.{Extent}
 use Rattle.fx_contour.specs.declared.pixels.Pixels.{Pixels}
 use Rattle.fx_hint.specs.declared.points.OutlinePoint.{OutlinePoint}
 use Rattle.fx_contour.specs.Curve.{doubled_of}
+use Rattle.fx_contour.specs.Contours.{IsRangeNear}
 use Rattle.fx_contour.specs.Frames.{HaveAny}
 
 -- the four sides of a box
@@ -23,16 +25,24 @@ IsOut right_side t q = t ≤ℤ q.x
 IsOut bottom_side t q = q.y ≤ℤ t
 IsOut top_side t q = t ≤ℤ q.y
 
+-- a box with these sides reaches t on this side
+abbrev pub ReachOf : ℤ → ℤ → ℤ → ℤ → Side → ℤ → Type 0
+ReachOf left right bottom top left_side t = left ≤ℤ t
+ReachOf left right bottom top right_side t = t ≤ℤ right
+ReachOf left right bottom top bottom_side t = bottom ≤ℤ t
+ReachOf left right bottom top top_side t = t ≤ℤ top
+
 -- the box b reaches t on this side
 abbrev pub Reaches : Bounds → Side → ℤ → Type 0
-Reaches b left_side t = b.left ≤ℤ t
-Reaches b right_side t = t ≤ℤ b.right
-Reaches b bottom_side t = b.bottom ≤ℤ t
-Reaches b top_side t = t ≤ℤ b.top
+Reaches b = ReachOf b.left b.right b.bottom b.top
 
--- new is the least box around old and the points of which R tells that one has P
-pub record Grows (old new : Bounds) (R : (Place → Type 0) → Type 0) : Type 0 where
-  pub sides : (side : Side) (t : ℤ) → Reaches new side t ↔ (Reaches old side t ⊎ R (IsOut side t))
+-- a box that reaches as `new` tells is the least one around the box of `old` and the points of which R tells that one has P
+pub record Grows (old new : Side → ℤ → Type 0) (R : (Place → Type 0) → Type 0) : Type 0 where
+  pub sides : (side : Side) (t : ℤ) → new side t ↔ (old side t ⊎ R (IsOut side t))
+
+-- a box that reaches as `reach` tells is the least one around the points of which R tells that one has P
+pub record IsLeast (reach : Side → ℤ → Type 0) (R : (Place → Type 0) → Type 0) : Type 0 where
+  pub sides : (side : Side) (t : ℤ) → R (IsOut side t) ↔ reach side t
 
 -- b is the least box around the points of the spans
 pub record AreBounds (b : Bounds) (ss : List Span) : Type 0 where
@@ -43,10 +53,6 @@ abbrev pub DoesReach : Option Bounds → Side → ℤ → Type 0
 DoesReach None side t = ⊥
 DoesReach (Some b) side t = Reaches b side t
 
--- new is the least box around old, if there is one, and the points of which R tells that one has P
-pub record HaveGrown (old new : Option Bounds) (R : (Place → Type 0) → Type 0) : Type 0 where
-  pub sides : (side : Side) (t : ℤ) → DoesReach new side t ↔ (DoesReach old side t ⊎ R (IsOut side t))
-
 -- b is the least box around the points of the spans, and none if they have no point
 pub record AreBoundsOf (b : Option Bounds) (ss : List Span) : Type 0 where
   pub sides : (side : Side) (t : ℤ) → HaveAny (IsOut side t) ss ↔ DoesReach b side t
@@ -55,6 +61,24 @@ pub record AreBoundsOf (b : Option Bounds) (ss : List Span) : Type 0 where
 abbrev pub HavePoint : (Place → Type 0) → List OutlinePoint → Type 0
 HavePoint P [] = ⊥
 HavePoint P (p ∷ ps) = P (doubled_of p) ⊎ HavePoint P ps
+
+-- the extent reaches t, in 1/128 pixel, on this side
+abbrev pub Extends : Extent → Side → ℤ → Type 0
+Extends e = ReachOf (pos 2 *ℤ e.left) (pos 2 *ℤ e.right) (pos 2 *ℤ e.bottom) (pos 2 *ℤ e.top)
+
+-- the extent, if there is one, reaches t on this side
+abbrev pub DoesExtend : Option Extent → Side → ℤ → Type 0
+DoesExtend None side t = ⊥
+DoesExtend (Some e) side t = Extends e side t
+
+-- no side of the extent lies too far out
+abbrev pub KeepsLimit : Extent → Type 0
+KeepsLimit e = IsRangeNear e.left e.right × IsRangeNear e.bottom e.top
+
+-- each of the contours with these last points has two points or more; the first of them begins at the point `start`
+abbrev pub HaveTwo : ℕ → List ℕ → Type 0
+HaveTwo start [] = Unit {0}
+HaveTwo start (e ∷ es) = (start < e) × HaveTwo (e + 1) es
 
 -- the centre of pixel n lies from low to high
 abbrev pub IsCentreIn : ℤ → ℤ → ℤ → Type 0

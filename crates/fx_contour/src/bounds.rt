@@ -1,9 +1,10 @@
 //! The bounding box of points.
-ghost use Rattle.std.specs.Prelude.{◌^◌, ◌≡◌, map, All, IsSomeAnd};
+ghost use Rattle.std.specs.Prelude.{◌^◌, ◌≡◌, ◌↔◌, ℤ, map, All, IsSomeAnd};
 ghost use Rattle.fx_fixed.specs.Ranges.{IsWithin};
 
-use crate::curves::{contour, doubled};
-use fx_hint::{Outline, OutlinePoint};
+use crate::curves::twice;
+use crate::extent::Extent;
+use fx_hint::Outline;
 use fx_winding::{Piece, Point};
 
 /// The least box that holds some points, in 1/128 pixel.
@@ -21,10 +22,9 @@ pub(crate) struct Bounds {
 
 impl Bounds {
     ghost use Rattle.fx_winding.specs.Winding.{place_of, maybe_place_of, span_of};
-    ghost use Rattle.fx_contour.specs.Curve.{curve_of};
     ghost use Rattle.fx_contour.specs.Contours.{IsInReach, spans_of};
     ghost use Rattle.fx_contour.specs.Frames.{HasAny, HaveAny};
-    ghost use Rattle.fx_contour.specs.Bounds.{Grows, HaveGrown, HavePoint, AreBoundsOf};
+    ghost use Rattle.fx_contour.specs.Bounds.{Side, Reaches, Grows, IsLeast, Extends, DoesExtend, HavePoint, KeepsLimit, AreBoundsOf};
 
     fn around(p: Point) -> Bounds
         ensures left { result.left ≡ p.x }
@@ -41,7 +41,7 @@ impl Bounds {
     }
 
     fn with_point(self, p: Point) -> Bounds
-        ensures { Grows self result (λ P. P (place_of p)) }
+        ensures { Grows (Reaches self) (Reaches result) (λ P. P (place_of p)) }
     {
         Bounds {
             left: self.left.min(p.x),
@@ -52,7 +52,7 @@ impl Bounds {
     }
 
     fn with_control(self, control: Option<Point>) -> Bounds
-        ensures { Grows self result (λ P. IsSomeAnd (maybe_place_of control) P) }
+        ensures { Grows (Reaches self) (Reaches result) (λ P. IsSomeAnd (maybe_place_of control) P) }
     {
         match control {
             None => self,
@@ -61,7 +61,7 @@ impl Bounds {
     }
 
     fn with_piece(self, piece: &Piece) -> Bounds
-        ensures { Grows self result (λ P. HasAny P (span_of piece.now)) }
+        ensures { Grows (Reaches self) (Reaches result) (λ P. HasAny P (span_of piece.now)) }
     {
         self.with_point(piece.a)
             .with_control(piece.b)
@@ -83,47 +83,27 @@ impl Bounds {
         Some(bounds)
     }
 
-    /// The box with the points of a contour.
-    fn with_points(self, points: &[OutlinePoint]) -> Bounds
-        requires { All IsInReach points.now }
-        ensures { Grows self result (λ P. HavePoint P points.now) }
+    fn doubled(extent: Extent) -> Bounds
+        requires { KeepsLimit extent }
+        ensures { (side : Side) (t : ℤ) → Reaches result side t ↔ Extends extent side t }
     {
-        let mut bounds = self;
-        // The box is that of `self` and the points so far.
-        'points: for p in points {
-            bounds = bounds.with_point(doubled(p));
-        }
-        bounds
-    }
-
-    /// The box, if there is one, with the curve of a contour: a contour of fewer than two points has none.
-    fn with_contour(bounds: Option<Bounds>, points: &[OutlinePoint]) -> Option<Bounds>
-        requires { All IsInReach points.now }
-        ensures { HaveGrown bounds result (λ P. HaveAny P (curve_of points.now)) }
-    {
-        if points.len() < 2 {
-            return bounds;
-        }
-        match bounds {
-            None => Some(Bounds::around(doubled(&points[0])).with_points(points)),
-            Some(bounds) => Some(bounds.with_points(points)),
+        Bounds {
+            left: twice(extent.left),
+            right: twice(extent.right),
+            bottom: twice(extent.bottom),
+            top: twice(extent.top),
         }
     }
 
-    /// The bounding box of all points of the pieces of an outline, found from its points: the other points of its pieces lie
-    /// half way between two of them.
-    pub(crate) fn of_outline(outline: &Outline) -> Option<Bounds>
-        requires { All IsInReach outline.now.points.items }
+    /// The bounding box of all points of the pieces of an outline, whose points have the extent `all`.
+    pub(crate) fn of_outline(outline: &Outline, all: Extent) -> Option<Bounds>
+        requires all { IsLeast (Extends all) (λ P. HavePoint P outline.now.points.items) }
+        requires reach { All IsInReach outline.now.points.items }
         ensures { AreBoundsOf result (spans_of outline.now.ends.items outline.now.points.items) }
     {
-        let mut bounds = None;
-        let mut start = 0;
-        // The box is that of the contours so far, and the next one begins at `start`.
-        'contours: for end in &outline.ends {
-            let next = usize::from(*end) + 1;
-            bounds = Bounds::with_contour(bounds, contour(&outline.points, start, next));
-            start = next;
+        match Extent::of_curves(outline, all) {
+            None => None,
+            Some(extent) => Some(Bounds::doubled(extent)),
         }
-        bounds
     }
 }

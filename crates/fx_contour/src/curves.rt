@@ -8,16 +8,15 @@ ghost use Rattle.fx_winding.specs.Outside.{AreOfOutline};
 ghost use Rattle.fx_contour.specs.Curve.{doubled_of, middle_of, joint_of, span_at, first_or, curve_of};
 ghost use Rattle.fx_fixed.specs.Chain.{GivesUnless};
 ghost use Rattle.fx_contour.specs.Contours.{farthest, spans_of, drawn_of, IsInReach};
+ghost use Rattle.fx_contour.specs.Bounds.{HaveTwo};
 ghost use Rattle.fx_contour.specs.Faults.{Fails};
 
+use crate::extent::Extent;
 use crate::fault::ContourFault;
 use fx_fixed::F26;
 use fx_hint::{Outline, OutlinePoint};
 use fx_winding::{Piece, Pieces, Point};
 use std::alloc::{AllocError, Global};
-
-/// The greatest distance of a point from either axis, in 26.6 pixels.
-const FARTHEST: i32 = 1 << 21;
 
 /// The piece that one point of a contour adds, if it adds one, and the place of the curve after the point.
 #[derive(Clone, Copy)]
@@ -26,27 +25,18 @@ struct Step {
     to: Point,
 }
 
-/// Whether a coordinate is within the limit.
-fn is_within(z: F26) -> bool
-    ensures { IsTrue result ↔ IsWithin farthest z }
-{
-    -FARTHEST <= z.0 && z.0 <= FARTHEST
-}
-
 /// Whether all points are within the limit.
-pub(crate) fn are_in_reach(points: &[OutlinePoint]) -> bool
+fn are_in_reach(points: &[OutlinePoint]) -> bool
     ensures { IsTrue result ↔ All IsInReach points.now }
 {
-    let mut near = true;
-    // Whether the points so far are within the limit. No early exit: so several points are tested at a time.
-    'points: for p in points {
-        near &= is_within(p.x) & is_within(p.y);
+    match Extent::of(points) {
+        None => true,
+        Some(extent) => extent.keeps_limit(),
     }
-    near
 }
 
 /// A coordinate in 1/128 pixel.
-fn twice(z: F26) -> i32
+pub(crate) fn twice(z: F26) -> i32
     requires { IsWithin farthest z }
     ensures value { result ≡ pos 2 *ℤ z }
     ensures near { IsWithin (2 ^ 22) result }
@@ -65,7 +55,7 @@ fn half_sum(a: F26, b: F26) -> i32
 }
 
 /// A point in 1/128 pixel.
-pub(crate) fn doubled(p: &OutlinePoint) -> Point
+fn doubled(p: &OutlinePoint) -> Point
     requires { IsInReach p.now }
     ensures { place_of result ≡ doubled_of p.now }
 {
@@ -148,17 +138,6 @@ fn push_some(made: &mut Pieces, piece: Option<Piece>) -> Result<(), AllocError>
     }
 }
 
-/// The point after point i of a contour that begins with `first`.
-fn next_point<'p>(points: &'p [OutlinePoint], i: usize, first: &'p OutlinePoint) -> &'p OutlinePoint
-    requires { i < length points.now }
-    ensures { result.now ≡ first_or (drop (i + 1) points.now) first.now }
-{
-    if i + 1 < points.len() {
-        return &points[i + 1];
-    }
-    first
-}
-
 /// Adds the pieces of a contour.
 fn add_contour(made: &mut Pieces, points: &[OutlinePoint]) -> Result<(), AllocError>
     requires near { All IsInReach points.now }
@@ -171,16 +150,35 @@ fn add_contour(made: &mut Pieces, points: &[OutlinePoint]) -> Result<(), AllocEr
     }
     let first = &points[0];
     let mut before = &points[points.len() - 1];
+    let mut here = first;
     let mut from = joint(before, first);
-    // The pieces of the points before i were added; the curve has come to `from`, between `before` and the point i.
-    'points: for i in 0..points.len() {
-        let here = &points[i];
-        let step = step_at(before, here, next_point(points, i, first), from);
+    // The pieces of the points before `here` were added, and `here` comes before point i; the curve has come to `from`, between
+    // `before` and `here`.
+    'points: for i in 1..points.len() {
+        let next = &points[i];
+        let step = step_at(before, here, next, from);
         push_some(made, step.piece)?;
         before = here;
+        here = next;
         from = step.to;
     }
-    Ok(())
+    push_some(made, step_at(before, here, first, from).piece)
+}
+
+/// Whether each of the contours with these last points has two points or more.
+pub(crate) fn have_two(ends: &[u16]) -> bool
+    ensures { IsTrue result ↔ HaveTwo 0 ends.now }
+{
+    let mut start = 0;
+    // The contours so far have two points or more, and the next one begins at `start`.
+    'contours: for end in ends {
+        let last = usize::from(*end);
+        if last <= start {
+            return false;
+        }
+        start = last + 1;
+    }
+    true
 }
 
 /// The points of a contour, from `start` to the one before `next`.

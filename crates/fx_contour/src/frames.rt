@@ -8,7 +8,7 @@ ghost use Rattle.fx_contour.specs.Contours.{spans_of, IsInReach};
 ghost use Rattle.fx_contour.specs.Frames.{IsFrameFor, AreTooLarge, NothingOutsideFrame, framed_of, outline_framed_of};
 
 use crate::bounds::Bounds;
-use crate::curves::are_in_reach;
+use crate::extent::Extent;
 use crate::fault::ContourFault;
 use crate::pixels::Pixels;
 use fx_hint::Outline;
@@ -34,10 +34,13 @@ pub fn outline_frame(outline: &Outline) -> Result<Option<Frame>, ContourFault>
     ensures outside { IfOk result (λ f. NothingOutsideFrame f (spans_of outline.now.ends.items outline.now.points.items)) }
     ensures reach { IfOk result (λ _. All IsInReach outline.now.points.items) }
 {
-    if !are_in_reach(&outline.points) {
+    let Some(all) = Extent::of(&outline.points) else {
+        return Ok(None);
+    };
+    if !all.keeps_limit() {
         return Err(ContourFault::TooFar);
     }
-    frame_around(Bounds::of_outline(outline))
+    frame_around(Bounds::of_outline(outline, all))
 }
 
 /// The frame of the spans that have this bounding box, if they have one.

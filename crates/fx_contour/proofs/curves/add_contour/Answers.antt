@@ -1,7 +1,5 @@
-use Rattle.std.proofs.Common.{length, ◌-◌, ◌∙◌, ap, arith}
-use Rattle.fx_hint.specs.declared.points.OutlinePoint.{OutlinePoint}
-use Rattle.fx_contour.specs.Curve.{joint_of}
-use Rattle.fx_contour.proofs.Walk.{walk_init, walk_more, first_is, next_near, item_near}
+use Rattle.std.proofs.Common.{length, ◌-◌, arith}
+use Rattle.fx_contour.proofs.Walk.{walk_init, walk_more, item_near}
 use Rattle.fx_contour.proofs.curves.add_contour.Goals as goal
 
 pub points-init : goal.points-init
@@ -9,21 +7,15 @@ points-init c = record {
   walked = walk_init c.args.made.now c.args.points.now (length c.args.points.now - 1)
       c.index-points-points.result c.index-points-0.result _ _
       c.requires.near (omega arith) (omega arith) c.index-points-0.is c.index-points-points.is;
-  from = c.joint-from.ensures ∙ ap (λ (r : OutlinePoint). joint_of c.index-points-points.result r)
-      (first_is c.args.points.now c.index-points-0.result c.index-points-0.result _ (omega arith) c.index-points-0.is);
+  from = c.joint-from.ensures;
 }
 
 pub points-preserved : goal.points-preserved
 points-preserved c = record {
   walked = walk_more c.points.made c.push_some.new.made c.args.made.now c.args.points.now c.points.i c.points.before.now
-      c.index-points-i.result c.next_point.result.now c.index-points-0.result _ c.step_at-step.result.piece (omega arith)
-      c.index-points-i.is c.next_point.ensures c.step_at-step.ensures.piece c.in_ok-push_some.ensures.ok
+      c.points.here.now c.index-points-i.result c.index-points-0.result _ c.step_at-step.result.piece (omega arith)
+      c.index-points-i.is c.step_at-step.ensures.piece c.in_ok-push_some.ensures.ok
       (item_near c.args.points.now c.points.i c.index-points-i.result _ c.requires.near (omega arith) c.index-points-i.is)
       c.points.invariant.walked;
-  from = c.step_at-step.ensures.to ∙ ap (λ (r : OutlinePoint). joint_of c.index-points-i.result r) c.next_point.ensures;
+  from = c.step_at-step.ensures.to;
 }
-
-pub step_at-step-requires-clause-near_r : goal.step_at-step-requires-clause-near_r
-step_at-step-requires-clause-near_r c =
-    next_near c.args.points.now c.points.i c.index-points-0.result c.next_point.result.now c.requires.near
-    (item_near c.args.points.now 0 c.index-points-0.result _ c.requires.near (omega arith) c.index-points-0.is) c.next_point.ensures

@@ -1,13 +1,15 @@
-use Rattle.std.proofs.Common.{◌≡◌, ◌∙◌, ◌↔◌, sym, ap, subst, arith, All, IsTrue, Bool}
-use Rattle.std.specs.List.{list_all}
-use Rattle.std.proofs.lemmas.List.{take_all}
-use Rattle.fx_contour.specs.Contours.{IsInReach, is_in_reach}
-use Rattle.fx_contour.proofs.Decided.{reach_is_tested}
+use Rattle.std.proofs.Common.{refl}
+use Rattle.fx_contour.specs.Bounds.{HavePoint}
+use Rattle.fx_contour.proofs.Drawing.{some_extent, reach_tested, no_points_near}
 use Rattle.fx_contour.proofs.curves.are_in_reach.Goals as goal
 
-pub returns : goal.returns
-returns c =
+pub returns-in-None : goal.returns-in-None
+returns-in-None c =
+    (λ _. no_points_near c.of.result c.args.points.now c.in-None.is c.of.ensures, λ _. refl)
+
+pub returns-in-Some : goal.returns-in-Some
+returns-in-Some c =
     let points = c.args.points.now in
-    let all : c.points.near ≡ list_all is_in_reach points =
-    c.points.invariant ∙ ap (list_all is_in_reach) (take_all c.points.p-index points (omega arith)) in
-    subst (λ (b : Bool). IsTrue b ↔ All IsInReach points) (sym all) (reach_is_tested points)
+    let e = c.in-Some.extent in
+    reach_tested c.keeps_limit.result e points c.keeps_limit.ensures
+    (some_extent c.of.result e (λ P. HavePoint P points) c.in-Some.is c.of.ensures)

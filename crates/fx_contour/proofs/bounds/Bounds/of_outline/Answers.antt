@@ -1,40 +1,12 @@
-use Rattle.std.proofs.Common.{◌≡◌, ◌<◌, ◌+◌, ◌-◌, ◌∙◌, ap, subst, get_or, length, take, drop, arith, List}
-use Rattle.fx_hint.specs.declared.points.OutlinePoint.{OutlinePoint}
-use Rattle.fx_contour.specs.Curve.{curve_of}
 use Rattle.fx_contour.specs.Frames.{HaveAny}
-use Rattle.fx_contour.specs.Bounds.{HaveGrown}
-use Rattle.fx_contour.proofs.Gather.{next_within}
-use Rattle.fx_contour.proofs.Enclosing.{enclosed_more, enclosed_end}
+use Rattle.fx_contour.specs.Contours.{spans_of}
+use Rattle.fx_contour.proofs.Drawing.{curves_keep, some_extent}
 use Rattle.fx_contour.proofs.bounds.Bounds.of_outline.Goals as goal
 
-pub contour-requires : goal.contour-requires
-contour-requires c =
+pub doubled-requires : goal.doubled-requires
+doubled-requires c =
     let o = c.args.outline.now in
-    let ends = c.deref-end-items.ensures.value in
-    let points = ap length c.deref.ensures.value in
-    let inside : c.contours.end-index < length o.ends.items = (let e = ap length ends in omega arith) in
-    let w = next_within c.contours.start o.ends.items c.contours.end-index o.points.items c.from-next.result 0
-    c.contours.invariant.ends_left inside (c.from-next.ensures ∙ ap (λ xs. get_or xs c.contours.end-index 0) ends) in
-    record { order = w.0; within = omega (arith, w.1, points) }
-
-pub contours-preserved : goal.contours-preserved
-contours-preserved c =
-    let o = c.args.outline.now in
-    let start = c.contours.start in
-    let next = c.from-next.result + 1 in
-    let ends = c.deref-end-items.ensures.value in
-    let inside : c.contours.end-index < length o.ends.items = (let e = ap length ends in omega arith) in
-    let slice : c.contour.result.now ≡ take (next - start) (drop start o.points.items) =
-    c.contour.ensures ∙ ap (λ xs. take (next - start) (drop start xs)) c.deref.ensures.value in
-    let P : List OutlinePoint → Type 0 =
-    λ xs. HaveGrown c.contours.bounds c.with_contour-bounds.result (λ P. HaveAny P (curve_of xs)) in
-    enclosed_more c.contours.bounds c.with_contour-bounds.result start o.ends.items c.contours.end-index o.points.items
-    c.from-next.result 0 c.contours.invariant inside
-    (c.from-next.ensures ∙ ap (λ xs. get_or xs c.contours.end-index 0) ends) (subst P slice c.with_contour-bounds.ensures)
-
-pub returns : goal.returns
-returns c =
-    let o = c.args.outline.now in
-    let ends = ap length c.deref-end-items.ensures.value in
-    enclosed_end c.contours.bounds c.contours.start o.ends.items c.contours.end-index o.points.items c.contours.invariant
-    (omega arith)
+    let e = c.in-Some.extent in
+    curves_keep e o.ends.items o.points.items
+    (some_extent c.of_curves.result e (λ P. HaveAny P (spans_of o.ends.items o.points.items)) c.in-Some.is c.of_curves.ensures)
+    c.requires.reach

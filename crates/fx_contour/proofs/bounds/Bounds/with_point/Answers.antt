@@ -1,5 +1,6 @@
 use Rattle.std.proofs.Common.{arith}
 use Rattle.std.proofs.lemmas.Int.{ints, clamps}
+use Rattle.fx_winding.specs.Winding.{place_of}
 use Rattle.fx_contour.proofs.Growing.{point_grows}
 use Rattle.fx_contour.proofs.bounds.Bounds.with_point.Goals as goal
 
@@ -13,5 +14,6 @@ invariant_of-result c = record {
 
 pub returns : goal.returns
 returns c =
-    point_grows _ _ _ (omega (arith, ints, clamps)) (omega (arith, ints, clamps)) (omega (arith, ints, clamps))
-    (omega (arith, ints, clamps))
+    let b = c.args.self in
+    point_grows b.left b.right b.bottom b.top _ _ _ _ (place_of c.args.p) (omega (arith, ints, clamps))
+    (omega (arith, ints, clamps)) (omega (arith, ints, clamps)) (omega (arith, ints, clamps))
