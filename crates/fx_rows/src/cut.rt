@@ -27,7 +27,6 @@ use crate::rest::is_right;
 use crate::search::{is_below, is_zero, within};
 use crate::slope::{Slope, is_left};
 use crate::strip::{Strip, areas_at};
-use crate::trend::{Trend, guess_of, note_end};
 use fx_winding::{Piece, Point, Tally, Weights};
 
 /// A bent arc along a row that passes between its ends: the sides of its chord, its gap, and whether it is right of the chord.
@@ -101,7 +100,7 @@ fn on_end(piece: &Piece, bend: Bend, strip: Strip, end: u32, tally: &mut Tally) 
 }
 
 /// What a bent arc adds.
-fn arc_cut(
+pub(crate) fn arc_cut(
     piece: &Piece,
     b: Point,
     strip: Strip,
@@ -133,7 +132,7 @@ fn arc_cut(
 }
 
 /// What a line adds.
-fn line_cut(piece: &Piece, strip: Strip, areas: Weights, value: i32, tally: &mut Tally) -> Cut
+pub(crate) fn line_cut(piece: &Piece, strip: Strip, areas: Weights, value: i32, tally: &mut Tally) -> Cut
     requires line { piece.now.b ≡ None }
     requires inner { IsInner piece.now.a.y piece.now.c.y (pos 128 *ℤ strip.row +ℤ pos 64) }
     requires value { value ≡ sign (piece.now.c.y -ℤ piece.now.a.y) }
@@ -151,7 +150,7 @@ fn line_cut(piece: &Piece, strip: Strip, areas: Weights, value: i32, tally: &mut
 }
 
 /// What a piece adds whose box has no column's centre in it: the columns are left of all of it or right of all of it.
-fn clear_cut(piece: &Piece, across: Across, strip: Strip, value: i32) -> Cut
+pub(crate) fn clear_cut(piece: &Piece, across: Across, strip: Strip, value: i32) -> Cut
     requires across { AreAcross (span_of piece.now) across.first across.end }
     requires clear { across.end ≤ℤ across.first }
     requires inner { IsInner piece.now.a.y piece.now.c.y (pos 128 *ℤ strip.row +ℤ pos 64) }
@@ -163,38 +162,5 @@ fn clear_cut(piece: &Piece, across: Across, strip: Strip, value: i32) -> Cut
         end: columns_before(strip, across.first),
         value,
         on: OnRow::None,
-    }
-}
-
-/// What a piece adds, but of an arc on one line.
-pub(crate) fn cut_of(
-    bounded: &Bounded,
-    strip: Strip,
-    trends: &mut [Trend],
-    tally: &mut Tally,
-) -> Option<Cut>
-    requires foot { bounded.now.rise.foot <ℤ (pos 128 *ℤ strip.row +ℤ pos 64) }
-    requires head { (pos 128 *ℤ strip.row +ℤ pos 64) <ℤ bounded.now.rise.head }
-    ensures cut { IsMaybeCut (span_of bounded.now.piece) strip result }
-    ensures count { tally.new.count ≤ tally.old.count + 2 }
-{
-    let piece = &bounded.piece;
-    let across = bounded.across;
-    let value = bounded.rise.value;
-    if across.end <= across.first {
-        return Some(clear_cut(piece, across, strip, value));
-    }
-    let areas = areas_at(piece, strip, 0, tally);
-    match piece.b {
-        None => Some(line_cut(piece, strip, areas, value, tally)),
-        Some(b) => {
-            if total_of(areas) == 0 {
-                return None;
-            }
-            let guess = guess_of(trends, bounded, strip);
-            let cut = arc_cut(piece, b, strip, areas, guess, value, tally);
-            note_end(trends, bounded, strip, cut.end);
-            Some(cut)
-        }
     }
 }
