@@ -25,7 +25,7 @@ pieces-init c =
           (c.requires.clear.marks (r * stride f.width + k)) (none (r * stride f.width + k));
       rest = λ n h. none n;
       unused = λ n h. c.requires.clear.marks n;
-      touched = λ k z. c.requires.clear.counts k;
+      touched = λ k o z. c.requires.clear.counts k;
       small = within_none b.diff.items c.requires.clear.counts;
       count = omega arith;
     }

@@ -13,12 +13,10 @@ use Rattle.fx_rows.proofs.Banding.{number_in, after_last}
 use Rattle.fx_rows.proofs.rows.cover_band.Goals as goal
 
 settled_bit : (new line marks marks' : List ℕ) (diff diff' : List ℤ) (n : ℕ) → new ≡ line → marks ≡ marks' → diff ≡ diff'
-    → word_bit line n ≡ count_bit (pos 0 +ℤ before (n + 1) diff) (word_bit marks n)
+    → word_bit line n ≡ count_bit (before (n + 1) diff) (word_bit marks n)
     → word_bit new n ≡ count_bit (before (n + 1) diff') (word_bit marks' n)
 settled_bit new line marks marks' diff diff' n el em ed h =
-    let z : pos 0 +ℤ before (n + 1) diff ≡ before (n + 1) diff = omega (arith, signed_linear) in
-    ap (λ (ws : List ℕ). word_bit ws n) el ∙ h ∙ (λ i. count_bit (z i) (word_bit (em i) n)) ∙
-    ap (λ (xs : List ℤ). count_bit (before (n + 1) xs) (word_bit marks' n)) ed
+    ap (λ (ws : List ℕ). word_bit ws n) el ∙ h ∙ (λ i. count_bit (before (n + 1) (ed i)) (word_bit (em i) n))
 
 pub returns-clause-bits : goal.returns-clause-bits
 returns-clause-bits c = λ r k h l.
@@ -28,11 +26,11 @@ returns-clause-bits c = λ r k h l.
     let frame = c.count_band.ensures.frame in
     let room : length b.marks.items ≡ f.height * (f.width / 32 + 1) =
     b.room ∙ ap (λ (g : Frame). g.height * (g.width / 32 + 1)) frame in
-    let long : length c.deref_mut-3.result.now ≡ length b.marks.items = ap length c.deref_mut-3.ensures.value in
+    let long : length c.deref_mut.result.now ≡ length b.marks.items = ap length c.deref_mut.ensures.value in
     let inside = number_in r f.height f.width k (length b.marks.items) h (omega (arith, l)) room in
-    let whole = settled_bit (with_items b.marks c.settle.new.line).items c.settle.new.line c.deref_mut-3.result.now b.marks.items
-    c.deref_mut.result.now b.diff.items n (with_items_is b.marks c.settle.new.line (omega arith)) c.deref_mut-3.ensures.value
-    c.deref_mut.ensures.value (c.settle.ensures.bits n (omega (arith, inside, long))) in
+    let whole = settled_bit (with_items b.marks c.settle.new.line).items c.settle.new.line c.deref_mut.result.now b.marks.items
+    c.deref.result.now b.diff.items n (with_items_is b.marks c.settle.new.line (omega arith)) c.deref_mut.ensures.value
+    c.deref.ensures.value (c.settle.ensures.bits n (omega (arith, inside, long))) in
     let p = centre (f.left +ℤ pos k) (f.bottom +ℤ pos r) in
     let spans = map span_of c.args.pieces.now in
     let set = bit_covered p spans (before (n + 1) b.diff.items) (word_bit b.marks.items n)
@@ -47,11 +45,11 @@ returns-clause-unused c = λ r k h w l.
     let frame = c.count_band.ensures.frame in
     let room : length b.marks.items ≡ f.height * (f.width / 32 + 1) =
     b.room ∙ ap (λ (g : Frame). g.height * (g.width / 32 + 1)) frame in
-    let long : length c.deref_mut-3.result.now ≡ length b.marks.items = ap length c.deref_mut-3.ensures.value in
+    let long : length c.deref_mut.result.now ≡ length b.marks.items = ap length c.deref_mut.ensures.value in
     let inside = number_in r f.height f.width k (length b.marks.items) h (l) room in
-    let whole = settled_bit (with_items b.marks c.settle.new.line).items c.settle.new.line c.deref_mut-3.result.now b.marks.items
-    c.deref_mut.result.now b.diff.items n (with_items_is b.marks c.settle.new.line (omega arith)) c.deref_mut-3.ensures.value
-    c.deref_mut.ensures.value (c.settle.ensures.bits n (omega (arith, inside, long))) in
+    let whole = settled_bit (with_items b.marks c.settle.new.line).items c.settle.new.line c.deref_mut.result.now b.marks.items
+    c.deref.result.now b.diff.items n (with_items_is b.marks c.settle.new.line (omega arith)) c.deref_mut.ensures.value
+    c.deref.ensures.value (c.settle.ensures.bits n (omega (arith, inside, long))) in
     let beside = after_last f.width f.height r k w l in
     let none = c.count_band.ensures.counted.rest n beside in
     let off = bit_off b.marks.items n (c.count_band.ensures.counted.unused n beside) in
