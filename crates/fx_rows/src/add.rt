@@ -11,10 +11,10 @@ ghost use Rattle.fx_rows.specs.inner.Bands.{stride, AreInner, IsRowAdded, IsBand
 
 use crate::arc::total_of;
 use crate::band::Band;
-use crate::bounded::{Bounded, bounds_of};
+use crate::bounded::{Bounded, bounds_of, rise_of};
 use crate::cells::Cut;
 use crate::counts::{add_before, add_run};
-use crate::cut::{arc_cut, clear_cut, line_cut};
+use crate::cut::{arc_cut, clear_cut, first_guess, line_cut};
 use crate::heights::{RowRange, rows_between, rows_met};
 use crate::intervals::met_part;
 use crate::marks::mark;
@@ -38,18 +38,32 @@ fn add_met(bounded: &Bounded, up: u32, band: &mut Band, tally: &mut Tally)
     mark(&mut band.marks, frame, first, part.on);
 }
 
-/// Adds what a piece gives to rows, in the general way. Few rows need it, so its code is kept out of the others' loops.
+/// Adds what a piece gives to rows, in the general way. Few pieces need it, so its code is kept out of the others' loops.
 #[inline(never)]
-fn add_met_rows(bounded: &Bounded, rows: RowRange, band: &mut Band, tally: &mut Tally)
+fn add_general_rows(piece: &Piece, rows: RowRange, band: &mut Band, tally: &mut Tally)
     requires rows { rows.end ≤ band.old.frame.height }
     requires small { AreWithin (2 ^ 25 + 4 * rows.first) band.old.diff.items }
     ensures frame { band.new.frame ≡ band.old.frame }
-    ensures added { IsBandAdded (bounded_span bounded.now) band.old.frame rows.first rows.end band.old band.new }
+    ensures added { IsBandAdded (span_of piece.now) band.old.frame rows.first rows.end band.old band.new }
     ensures count { tally.new.count ≤ tally.old.count + 10 * (rows.end - rows.first) }
 {
+    let bounded = bounds_of(piece, rise_of(piece));
     // The rows before `up` have what the piece adds.
     'rows: for up in rows.first..rows.end {
-        add_met(bounded, up, band, tally);
+        add_met(&bounded, up, band, tally);
+    }
+}
+
+/// Adds what a piece gives to rows, if there are any, in the general way.
+fn add_met_rows(piece: &Piece, rows: RowRange, band: &mut Band, tally: &mut Tally)
+    requires rows { rows.end ≤ band.old.frame.height }
+    requires small { AreWithin (2 ^ 25 + 4 * rows.first) band.old.diff.items }
+    ensures frame { band.new.frame ≡ band.old.frame }
+    ensures added { IsBandAdded (span_of piece.now) band.old.frame rows.first rows.end band.old band.new }
+    ensures count { tally.new.count ≤ tally.old.count + 10 * (rows.end - rows.first) }
+{
+    if rows.first < rows.end {
+        add_general_rows(piece, rows, band, tally);
     }
 }
 
@@ -110,8 +124,15 @@ fn add_line_rows(bounded: &Bounded, rows: RowRange, band: &mut Band, tally: &mut
     }
 }
 
-/// Adds what a bent arc gives to rows between its ends.
-fn add_arc_rows(bounded: &Bounded, b: Point, rows: RowRange, band: &mut Band, tally: &mut Tally)
+/// Adds what a bent arc gives to rows between its ends. The guess says where the columns that count are likely to end on the first.
+fn add_arc_rows(
+    bounded: &Bounded,
+    b: Point,
+    rows: RowRange,
+    guess: u32,
+    band: &mut Band,
+    tally: &mut Tally,
+)
     requires middle { bounded.now.piece.b ≡ Some b }
     requires bent { IsBent (bounded_span bounded.now) }
     requires rows { rows.end ≤ band.old.frame.height }
@@ -122,8 +143,8 @@ fn add_arc_rows(bounded: &Bounded, b: Point, rows: RowRange, band: &mut Band, ta
     ensures added { IsBandAdded (bounded_span bounded.now) band.old.frame rows.first rows.end band.old band.new }
     ensures count { tally.new.count ≤ tally.old.count + 2 * (rows.end - rows.first) }
 {
-    let mut guess = 0;
-    let mut last = 0;
+    let mut guess = guess;
+    let mut last = guess;
     // The rows before `up` have what the arc adds.
     'rows: for up in rows.first..rows.end {
         let strip = strip_of(band.frame, row_of(band.frame, up));
@@ -150,9 +171,10 @@ fn add_curve_rows(bounded: &Bounded, b: Point, rows: RowRange, band: &mut Band, 
     let strip = strip_of(band.frame, row_of(band.frame, rows.first));
     let areas = areas_at(&bounded.piece, strip, 0, tally);
     if total_of(areas) == 0 {
-        return add_met_rows(bounded, rows, band, tally);
+        return add_met_rows(&bounded.piece, rows, band, tally);
     }
-    add_arc_rows(bounded, b, rows, band, tally);
+    let guess = first_guess(&bounded.piece, strip);
+    add_arc_rows(bounded, b, rows, guess, band, tally);
 }
 
 /// Adds what a piece gives to rows between its ends.
@@ -184,10 +206,10 @@ fn add_met_piece(piece: &Piece, rows: RowRange, band: &mut Band, tally: &mut Tal
     ensures added { IsBandAdded (span_of piece.now) band.old.frame rows.first rows.end band.old band.new }
     ensures count { tally.new.count ≤ tally.old.count + 12 * (rows.end - rows.first) }
 {
-    let bounded = bounds_of(piece);
-    let inner = rows_between(bounded.rise, band.frame, rows);
+    let rise = rise_of(piece);
+    let inner = rows_between(rise, band.frame, rows);
     if inner.first >= inner.end {
-        return add_met_rows(&bounded, rows, band, tally);
+        return add_met_rows(piece, rows, band, tally);
     }
     let below = RowRange {
         first: rows.first,
@@ -197,9 +219,9 @@ fn add_met_piece(piece: &Piece, rows: RowRange, band: &mut Band, tally: &mut Tal
         first: inner.end,
         end: rows.end,
     };
-    add_met_rows(&bounded, below, band, tally);
-    add_inner_rows(&bounded, inner, band, tally);
-    add_met_rows(&bounded, above, band, tally);
+    add_met_rows(piece, below, band, tally);
+    add_inner_rows(&bounds_of(piece, rise), inner, band, tally);
+    add_met_rows(piece, above, band, tally);
 }
 
 /// Adds what a piece gives to a band.

@@ -36,7 +36,7 @@ pub(crate) struct Bounded {
 }
 
 /// The heights of the ends of a piece's chord, and which way it goes.
-fn rise_of(piece: &Piece) -> Rise
+pub(crate) fn rise_of(piece: &Piece) -> Rise
     ensures { IsRise (span_of piece.now) result.foot result.head result.value }
 {
     if piece.a.y < piece.c.y {
@@ -54,12 +54,14 @@ fn rise_of(piece: &Piece) -> Rise
 }
 
 /// A piece with its columns and the heights of its chord's ends.
-pub(crate) fn bounds_of(piece: &Piece) -> Bounded
-    ensures { result.piece ≡ piece.now }
+pub(crate) fn bounds_of(piece: &Piece, rise: Rise) -> Bounded
+    requires { IsRise (span_of piece.now) rise.foot rise.head rise.value }
+    ensures piece { result.piece ≡ piece.now }
+    ensures rise { result.rise ≡ rise }
 {
     Bounded {
         piece: *piece,
         across: across_of(piece),
-        rise: rise_of(piece),
+        rise,
     }
 }

@@ -1,7 +1,7 @@
 //! Rows between the ends of a slanted chord. There the crossing and the region of a piece together are one value before a column
 //! and 0 from it on, but for the columns on the piece, which are set anyway.
 
-ghost use Rattle.std.specs.Prelude.{◌≡◌, ◌≢◌, ◌⊎◌, ℕ, ◌+◌, ◌*◌, ◌^◌, ◌<◌, ◌≤◌, min, pos, ◌+ℤ◌, ◌-ℤ◌, ◌*ℤ◌, ◌<ℤ◌, ◌≤ℤ◌, IsTrue, ◌↔◌};
+ghost use Rattle.std.specs.Prelude.{◌≡◌, ◌≢◌, ◌⊎◌, ℕ, ◌+◌, ◌-◌, ◌*◌, ◌^◌, ◌<◌, ◌≤◌, min, pos, ◌+ℤ◌, ◌-ℤ◌, ◌*ℤ◌, ◌<ℤ◌, ◌≤ℤ◌, IsTrue, ◌↔◌};
 ghost use Rattle.std.specs.Prelude.{Some, None};
 ghost use Rattle.fx_fixed.specs.Ranges.{IsWithin};
 ghost use Rattle.fx_winding.specs.Limits.{greatest_side};
@@ -27,7 +27,7 @@ use crate::rest::is_right;
 use crate::search::{is_below, is_zero, within};
 use crate::slope::{Slope, is_left};
 use crate::strip::{Strip, areas_at};
-use fx_winding::{Piece, Point, Tally, Weights};
+use fx_winding::{Piece, Point, Tally, Weights, first_from};
 
 /// A bent arc along a row that passes between its ends: the sides of its chord, its gap, and whether it is right of the chord.
 #[derive(Clone, Copy)]
@@ -50,18 +50,23 @@ fn counts(bend: Bend, k: u32) -> bool
     }
 }
 
-/// How many columns from the base count, found from a guess by steps that double. The guess changes how soon, and nothing else.
-fn count_of(bend: Bend, guess: u32, stop: u32) -> u32
+/// How many columns from the base count, if those before `low` do and those from `high` on do not. It is looked for from a column
+/// on, by steps that double.
+fn count_between(bend: Bend, low: u32, high: u32, from: u32, stop: u32) -> u32
+    requires order { low ≤ high }
+    requires high { high ≤ stop }
     requires few { stop ≤ greatest_side + 2 }
     requires first { CountsFirst bend stop }
+    requires inside { (k : ℕ) → k < low → CountsAt bend k }
+    requires outside { (k : ℕ) → high ≤ k → k < stop → ¬ (CountsAt bend k) }
     ensures within { result ≤ stop }
     ensures inside { (k : ℕ) → k < result → CountsAt bend k }
     ensures outside { (k : ℕ) → result ≤ k → k < stop → ¬ (CountsAt bend k) }
 {
-    let mut low = 0;
-    let mut high = stop;
-    let mut at = guess;
-    let mut step = 0;
+    let mut low = low;
+    let mut high = high;
+    let mut at = from;
+    let mut step = 1;
     // The columns before `low` count, and those from `high` on do not.
     'columns: while low < high {
         let here = within(low, high, at);
@@ -76,6 +81,58 @@ fn count_of(bend: Bend, guess: u32, stop: u32) -> u32
         step = 2 * reach + 1;
     }
     low
+}
+
+/// Whether the column before an end does not count.
+fn is_past(bend: Bend, end: u32) -> bool
+    requires { end ≤ greatest_side + 2 }
+    ensures past { IsTrue result → (0 < end) × ¬ (CountsAt bend (end - 1)) }
+    ensures not { ¬ (IsTrue result) → 0 < end → CountsAt bend (end - 1) }
+{
+    end > 0 && !counts(bend, end - 1)
+}
+
+/// Whether the column at an end counts.
+fn is_short(bend: Bend, end: u32, stop: u32) -> bool
+    requires { stop ≤ greatest_side + 2 }
+    ensures short { IsTrue result → (end < stop) × CountsAt bend end }
+    ensures not { ¬ (IsTrue result) → end < stop → ¬ (CountsAt bend end) }
+{
+    end < stop && counts(bend, end)
+}
+
+/// How many columns from the base count. A guess changes how soon that is found, and nothing else.
+fn count_of(bend: Bend, guess: u32, stop: u32) -> u32
+    requires few { stop ≤ greatest_side + 2 }
+    requires first { CountsFirst bend stop }
+    ensures within { result ≤ stop }
+    ensures inside { (k : ℕ) → k < result → CountsAt bend k }
+    ensures outside { (k : ℕ) → result ≤ k → k < stop → ¬ (CountsAt bend k) }
+{
+    let end = if guess < stop { guess } else { stop };
+    if is_past(bend, end) {
+        return count_between(bend, 0, end - 1, end.saturating_sub(2), stop);
+    }
+    if is_short(bend, end, stop) {
+        return count_between(bend, end + 1, stop, end + 1, stop);
+    }
+    end
+}
+
+/// The x of the lower end of a chord.
+fn low_end(piece: &Piece) -> i32
+    ensures { IsWithin (2 ^ 22) result }
+{
+    if piece.a.y < piece.c.y {
+        piece.a.x
+    } else {
+        piece.c.x
+    }
+}
+
+/// Where the columns that count are likely to end on an arc's lowest row: at its chord's lower end.
+pub(crate) fn first_guess(piece: &Piece, strip: Strip) -> u32 {
+    columns_before(strip, first_from(low_end(piece)))
 }
 
 /// The column beside the end that is on a bent arc, if it is. No other can be.

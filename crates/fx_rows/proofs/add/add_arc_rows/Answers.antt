@@ -15,7 +15,6 @@ rows-init c = record {
   frame = refl;
   added = band_none (bounded_span c.args.bounded.now) c.args.band.now.frame c.args.rows.first c.args.band.now;
   count = omega arith;
-  near = omega arith;
 }
 
 pub row_of-requires : goal.row_of-requires
@@ -74,7 +73,6 @@ rows-preserved c =
           inv.frame (subst (λ (r : ℤ). IsRowAdded s c.rows.band.frame r (up * stride c.rows.band.frame.width) c.rows.band
           c.add_cut.new.band) at (c.add_cut.ensures.added s h)));
       count = omega (arith, a, n, m);
-      near = let w = h.within in let s = c.strip_of-strip.result.base_near.few in omega (arith, w, s);
     }
 
 pub returns-clause-frame : goal.returns-clause-frame

@@ -1,5 +1,4 @@
 use Rattle.std.proofs.Common.{◌≡◌, ◌≤◌, ◌+◌, ◌-◌, ◌*◌}
-use Rattle.fx_winding.specs.Limits.{greatest_side}
 use Rattle.fx_rows.specs.inner.Bands.{bounded_span, IsBandAdded}
 use Rattle.fx_rows.proofs.add.add_arc_rows.Given as goal
 
@@ -8,5 +7,4 @@ invariant-rows l = record {
   frame : l.band.frame ≡ l.fn.band.frame;
   added : IsBandAdded (bounded_span l.bounded) l.fn.band.frame l.fn.rows.first l.up l.fn.band l.band;
   count : l.tally.count ≤ l.fn.tally.count + 2 * (l.up - l.fn.rows.first);
-  near : l.last ≤ greatest_side + 2;
 }

@@ -1,6 +1,7 @@
-use Rattle.std.proofs.Common.{◌≡◌, ◌∙◌, refl, ap, sym, subst, ◌+◌, ◌-◌, ◌*◌, ◌^◌, ◌≤◌, ◌<◌, ℕ, ℤ, arith, w32, to_z, of_z}
+use Rattle.std.proofs.Common.{◌≡◌, ◌∙◌, refl, ap, sym, subst, ◌+◌, ◌-◌, ◌*◌, ◌^◌, ◌≤◌, ◌<◌, ℕ, ℤ, ◌-ℤ◌, arith, w32, to_z, of_z}
 use Rattle.fx_fixed.proofs.Linear.{signed_linear}
-use Rattle.fx_winding.specs.Winding.{span_of}
+use Rattle.fx_winding.specs.Winding.{span_of, sign}
+use Rattle.fx_rows.specs.declared.bounded.Rise.{Rise}
 use Rattle.fx_winding.specs.declared.point.Piece.{Piece}
 use Rattle.fx_winding.specs.declared.frame.Frame.{Frame}
 use Rattle.fx_rows.specs.inner.Points.{IsInner}
@@ -12,20 +13,25 @@ use Rattle.fx_rows.proofs.add.add_met_piece.Goals as goal
 
 pub add_inner_rows-requires-clause-inner : goal.add_inner_rows-requires-clause-inner
 add_inner_rows-requires-clause-inner c = λ r h l.
-    let b = c.bounds_of-bounded.result in
+    let s = span_of c.args.piece.now in
+    let e = c.rise_of-rise.result in
     let i = c.rows_between-inner.ensures in
     let f = c.add_met_rows-2.ensures.frame in
-    subst (λ (g : Frame). IsInner b.piece.a.y b.piece.c.y (height_of g r)) (sym f)
-    (rise_inner (span_of b.piece) b.rise.foot b.rise.head b.rise.value (height_of c.args.band.now.frame r) b.rises (i.foot r h l)
-    (i.head r h l))
+    let y = height_of c.args.band.now.frame r in
+    subst (λ (p : Piece). IsInner p.a.y p.c.y (height_of c.add_met_rows-2.new.band.frame r)) (sym c.bounds_of.ensures.piece)
+    (subst (λ (g : Frame). IsInner s.a.y s.c.y (height_of g r)) (sym f)
+    (rise_inner s e.foot e.head e.value y c.rise_of-rise.ensures (i.foot r h l) (i.head r h l)))
 
 pub add_inner_rows-requires-clause-value : goal.add_inner_rows-requires-clause-value
 add_inner_rows-requires-clause-value c =
-    let b = c.bounds_of-bounded.result in
+    let s = span_of c.args.piece.now in
+    let e = c.rise_of-rise.result in
     let i = c.rows_between-inner.ensures in
     let r = c.rows_between-inner.result.first in
-    rise_sign (span_of b.piece) b.rise.foot b.rise.head b.rise.value (height_of c.args.band.now.frame r) b.rises
-    (i.foot r (omega arith) (omega arith)) (i.head r (omega arith) (omega arith))
+    let same = ap (λ (x : Rise). x.value) c.bounds_of.ensures.rise in
+    let is = rise_sign s e.foot e.head e.value (height_of c.args.band.now.frame r) c.rise_of-rise.ensures
+    (i.foot r (omega arith) (omega arith)) (i.head r (omega arith) (omega arith)) in
+    same ∙ is ∙ sym (ap (λ (p : Piece). sign (p.c.y -ℤ p.a.y)) c.bounds_of.ensures.piece)
 
 pub add_inner_rows-requires-clause-small : goal.add_inner_rows-requires-clause-small
 add_inner_rows-requires-clause-small c = c.add_met_rows-2.ensures.added.grown (2 ^ 25) c.requires.small
@@ -36,11 +42,11 @@ add_met_rows-requires-3-clause-small c =
 
 pub returns-clause-added : goal.returns-clause-added
 returns-clause-added c =
-    let b = c.bounds_of-bounded.result in
     let i = c.rows_between-inner.ensures in
     let r = c.rows_between-inner.result in
-    subst (λ (p : Piece). IsBandAdded (span_of p) c.args.band.now.frame c.args.rows.first c.args.rows.end c.args.band.now
-    c.add_met_rows-3.new.band) c.bounds_of-bounded.ensures
-    (band_three (span_of b.piece) c.args.rows.first r.first r.end c.args.rows.end c.args.band.now c.add_met_rows-2.new.band
-    c.add_inner_rows.new.band c.add_met_rows-3.new.band i.first r.order i.end c.add_met_rows-2.ensures.frame
-    c.add_inner_rows.ensures.frame c.add_met_rows-2.ensures.added c.add_inner_rows.ensures.added c.add_met_rows-3.ensures.added)
+    let inner = subst (λ (p : Piece). IsBandAdded (span_of p) c.add_met_rows-2.new.band.frame r.first r.end
+    c.add_met_rows-2.new.band c.add_inner_rows.new.band) c.bounds_of.ensures.piece c.add_inner_rows.ensures.added in
+    band_three (span_of c.args.piece.now) c.args.rows.first r.first r.end c.args.rows.end c.args.band.now
+    c.add_met_rows-2.new.band c.add_inner_rows.new.band c.add_met_rows-3.new.band i.first r.order i.end
+    c.add_met_rows-2.ensures.frame c.add_inner_rows.ensures.frame c.add_met_rows-2.ensures.added inner
+    c.add_met_rows-3.ensures.added

@@ -1,57 +1,13 @@
-use Rattle.std.proofs.Common.{◌≡◌, ◌∙◌, refl, ap, sym, subst, ◌+◌, ◌-◌, ◌*◌, ◌^◌, ◌≤◌, ◌<◌, ℕ, ℤ, pos, ◌+ℤ◌, ◌*ℤ◌, arith, w32, to_z, of_z}
-use Rattle.fx_fixed.proofs.Linear.{signed_linear}
-use Rattle.fx_winding.specs.declared.frame.Frame.{Frame}
-use Rattle.fx_rows.specs.inner.Points.{IsInner}
-use Rattle.fx_rows.specs.inner.Heights.{height_of}
-use Rattle.fx_rows.specs.inner.Bands.{stride, bounded_span, IsRowAdded, IsBandAdded}
-use Rattle.fx_rows.specs.inner.Cuts.{IsCut}
-use Rattle.fx_rows.proofs.Banding.{band_none, band_more, row_height}
-use Rattle.fx_rows.proofs.Counted.{on_inside}
-use Rattle.fx_rows.proofs.Parts.{formed_frame}
+use Rattle.std.proofs.Common.{◌≡◌, subst, ℕ, arith}
+use Rattle.fx_winding.specs.Winding.{span_of}
+use Rattle.fx_rows.specs.inner.Bands.{IsBandAdded}
+use Rattle.fx_rows.proofs.Banding.{band_none}
 use Rattle.fx_rows.proofs.add.add_met_rows.Goals as goal
 
-pub rows-init : goal.rows-init
-rows-init c = record {
-  frame = refl;
-  added = band_none (bounded_span c.args.bounded.now) c.args.band.now.frame c.args.rows.first c.args.band.now;
-  count = omega arith;
-}
-
-pub add_met-requires-clause-up : goal.add_met-requires-clause-up
-add_met-requires-clause-up c =
-    let e = ap (λ (f : Frame). f.height) c.rows.invariant.frame in let r = c.requires.rows in omega (arith, e, r)
-
-pub add_met-requires-clause-small : goal.add_met-requires-clause-small
-add_met-requires-clause-small c = λ k.
-    let e = c.rows.invariant.added.grown (2 ^ 25) c.requires.small k in
-    let few = c.args.band.now.few in
-    let r = c.requires.rows in
-    omega (arith, signed_linear, e, few, r)
-
-pub rows-preserved : goal.rows-preserved
-rows-preserved c =
-    let s = bounded_span c.args.bounded.now in
-    let up = c.rows.up in
-    let inv = c.rows.invariant in
-    let n = c.add_met.ensures.count in
-    let m = inv.count in
-    record {
-      frame = c.add_met.ensures.frame ∙ inv.frame;
-      added = band_more s c.args.band.now.frame c.args.rows.first up c.args.band.now c.rows.band c.add_met.new.band (omega arith)
-          inv.added (subst (λ (f : Frame). IsRowAdded s f (f.bottom +ℤ pos up) (up * stride f.width) c.rows.band c.add_met.new.band)
-          inv.frame c.add_met.ensures.added);
-      count = omega (arith, n, m);
-    }
-
-pub returns-clause-frame : goal.returns-clause-frame
-returns-clause-frame c = c.rows.invariant.frame
-
-pub returns-clause-added : goal.returns-clause-added
-returns-clause-added c =
-    let e : c.rows.up ≡ c.args.rows.end = omega (arith, c.args.rows.order) in
-    subst (λ (n : ℕ). IsBandAdded (bounded_span c.args.bounded.now) c.args.band.now.frame c.args.rows.first n c.args.band.now
-    c.rows.band) e c.rows.invariant.added
-
-pub returns-clause-count : goal.returns-clause-count
-returns-clause-count c =
-    let e : c.rows.up ≡ c.args.rows.end = omega (arith, c.args.rows.order) in let m = c.rows.invariant.count in omega (arith, e, m)
+pub returns-else-rows-clause-added : goal.returns-else-rows-clause-added
+returns-else-rows-clause-added c =
+    let r = c.args.rows in
+    let b = c.args.band.now in
+    let e : r.first ≡ r.end = omega (arith, r.order) in
+    subst (λ (n : ℕ). IsBandAdded (span_of c.args.piece.now) b.frame r.first n b b) e
+    (band_none (span_of c.args.piece.now) b.frame r.first b)

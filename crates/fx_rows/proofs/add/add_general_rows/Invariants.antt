@@ -1,7 +1,7 @@
 use Rattle.std.proofs.Common.{◌≡◌, ◌≤◌, ◌+◌, ◌-◌, ◌*◌}
 use Rattle.fx_winding.specs.Limits.{greatest_side}
 use Rattle.fx_rows.specs.inner.Bands.{bounded_span, IsBandAdded}
-use Rattle.fx_rows.proofs.add.add_met_rows.Given as goal
+use Rattle.fx_rows.proofs.add.add_general_rows.Given as goal
 
 abbrev pub invariant-rows : goal.invariant-rows
 invariant-rows l = record {
