@@ -1,23 +1,22 @@
 -- What pieces add to a band, row by row.
 -- Serves the rows of a piece, and the pieces of a band.
-use Rattle.std.proofs.Common.{◌≡◌, ◌⊎◌, inl, inr, refl, sym, ap, ◌∙◌, subst, ℕ, zero, suc, ◌+◌, ◌-◌, ◌*◌, ◌/◌, ◌%◌, ◌<◌, ◌≤◌, ℤ}
-use Rattle.std.proofs.Common.{pos, ◌+ℤ◌, ◌-ℤ◌, ◌*ℤ◌, ◌<ℤ◌, Bool, true, false, arith, ◌^◌, ◌↔◌, IsTrue, Any, List, length}
+use Rattle.std.proofs.Common.{◌≡◌, ◌⊎◌, inl, inr, refl, sym, ap, ◌∙◌, subst, ℕ, zero, suc, ◌+◌, ◌-◌, ◌*◌, ◌/◌, ◌<◌, ◌≤◌, ℤ}
+use Rattle.std.proofs.Common.{pos, ◌+ℤ◌, ◌*ℤ◌, Bool, false, arith, IsTrue, List, length}
 use Rattle.std.proofs.Math.Nat.{mul-le-mul_right, mul-le-mul_left}
 use Rattle.fx_fixed.proofs.Order.{below_or_not}
 use Rattle.fx_fixed.proofs.Linear.{signed_linear}
-use Rattle.fx_fixed.specs.Ranges.{IsWithin}
 use Rattle.fx_winding.specs.Bitmaps.{Bits, IsRowOf, IsScanOf, with_row}
 use Rattle.fx_winding.proofs.Scanned.{Scanned, scanned_more, scanned_all}
 use Rattle.fx_winding.specs.Area.{Place}
-use Rattle.fx_winding.specs.Winding.{Span, centre, crossing, region, IsOn}
+use Rattle.fx_winding.specs.Winding.{Span, centre}
 use Rattle.fx_winding.specs.declared.frame.Frame.{Frame}
 use Rattle.fx_rows.specs.declared.band.Band.{Band}
 use Rattle.fx_rows.specs.inner.Heights.{height_of, IsMissed}
-use Rattle.fx_rows.specs.inner.Sums.{before, AreWithin, AreTouched}
+use Rattle.fx_rows.specs.inner.Sums.{AreWithin}
 use Rattle.fx_rows.specs.inner.Cuts.{IsAdded}
 use Rattle.fx_rows.proofs.Counted.{Added}
 use Rattle.fx_rows.proofs.Parts.{missed}
-use Rattle.fx_rows.specs.inner.Bands.{IsScanned, stride, turns_at, mark_at, IsKept, IsRowAdded, IsBeside, IsBandAdded}
+use Rattle.fx_rows.specs.inner.Bands.{IsScanned, stride, turns_at, mark_at, IsKept, IsRowAdded, IsBandAdded}
 
 -- ---- numbers of different rows
 next_row : (r s : ℕ) → (r + 1) * s ≡ r * s + s
@@ -249,13 +248,6 @@ of_scanned ss b done s = record {
   high = s.high;
   wide = λ k l. (s.rows k l).wide;
   bits = λ k l. (s.rows k l).bits;
-}
-
-pub scanned_none : (ss : List Span) (b : Bits) → length b.rows ≡ b.frame.height → IsScanned ss b 0
-scanned_none ss b h = record {
-  high = h;
-  wide = λ k l. absurd (omega arith);
-  bits = λ k l. absurd (omega arith);
 }
 
 pub scanned_row : (ss : List Span) (b : Bits) (done : ℕ) (row : ℤ) (line : List Bool) → IsScanned ss b done

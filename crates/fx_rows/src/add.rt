@@ -33,7 +33,13 @@ fn add_met(bounded: &Bounded, up: u32, band: &mut Band, tally: &mut Tally)
     let frame = band.frame;
     let first = band.first_of(up);
     let part = met_part(bounded, row_of(frame, up), frame, tally);
-    add_run(&mut band.diff, &mut band.touched, frame, first, part.crossing);
+    add_run(
+        &mut band.diff,
+        &mut band.touched,
+        frame,
+        first,
+        part.crossing,
+    );
     add_run(&mut band.diff, &mut band.touched, frame, first, part.region);
     mark(&mut band.marks, frame, first, part.on);
 }
@@ -82,7 +88,13 @@ fn add_cut(band: &mut Band, up: u32, strip: Strip, cut: Cut)
     let frame = band.frame;
     let first = band.first_of(up);
     let end = cut.end.saturating_sub(strip.start);
-    add_before(&mut band.diff, &mut band.touched, first, end as usize, cut.value);
+    add_before(
+        &mut band.diff,
+        &mut band.touched,
+        first,
+        end as usize,
+        cut.value,
+    );
     mark(&mut band.marks, frame, first, cut.on);
 }
 
@@ -149,7 +161,15 @@ fn add_arc_rows(
     'rows: for up in rows.first..rows.end {
         let strip = strip_of(band.frame, row_of(band.frame, up));
         let areas = areas_at(&bounded.piece, strip, 0, tally);
-        let cut = arc_cut(&bounded.piece, b, strip, areas, guess, bounded.rise.value, tally);
+        let cut = arc_cut(
+            &bounded.piece,
+            b,
+            strip,
+            areas,
+            guess,
+            bounded.rise.value,
+            tally,
+        );
         guess = cut.end.saturating_add(cut.end).saturating_sub(last);
         last = cut.end;
         add_cut(band, up, strip, cut);

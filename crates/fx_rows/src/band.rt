@@ -11,14 +11,16 @@ use std::alloc::{AllocError, Global};
 /// The most rows of a band.
 pub(crate) const MOST_ROWS: u32 = 128;
 
-/// The counts of a band's pixels, as differences between neighbours whose sums are the counts, with a bit for each difference
-/// that may not be 0; and a bit for each pixel that is on a piece.
+/// The counts of a band's pixels, as differences between neighbours whose sums are the counts, and the pixels on pieces.
 #[derive(Drop)]
 pub(crate) struct Band {
     /// The band's pixels.
     pub frame: Frame,
+    /// The differences, each from the count of the number before.
     pub diff: Vec<i32>,
+    /// A bit for each difference that may not be 0; the first of a word needs none.
     pub touched: Vec<u32>,
+    /// A bit for each pixel that is on a piece.
     pub marks: Vec<u32>,
     ghost few: { frame.height ≤ 128 },
     ghost room: { length marks.items ≡ frame.height * (frame.width / 32 + 1) },

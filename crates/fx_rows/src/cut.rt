@@ -12,7 +12,7 @@ ghost use Rattle.fx_rows.specs.inner.Sides.{place_at};
 ghost use Rattle.fx_rows.specs.inner.Arcs.{AreAreas};
 ghost use Rattle.fx_rows.specs.inner.Candidates.{IsOnStrip};
 ghost use Rattle.fx_rows.specs.inner.Points.{AreAcross, IsInner};
-ghost use Rattle.fx_rows.specs.inner.Cuts.{side_at, CountsAt, CountsFirst, IsLast, IsCut, IsMaybeCut};
+ghost use Rattle.fx_rows.specs.inner.Cuts.{side_at, CountsAt, CountsFirst, IsLast, IsCut};
 
 use crate::across::Across;
 use crate::arc::{gaps_of, total_of};
@@ -189,7 +189,13 @@ pub(crate) fn arc_cut(
 }
 
 /// What a line adds.
-pub(crate) fn line_cut(piece: &Piece, strip: Strip, areas: Weights, value: i32, tally: &mut Tally) -> Cut
+pub(crate) fn line_cut(
+    piece: &Piece,
+    strip: Strip,
+    areas: Weights,
+    value: i32,
+    tally: &mut Tally,
+) -> Cut
     requires line { piece.now.b ≡ None }
     requires inner { IsInner piece.now.a.y piece.now.c.y (pos 128 *ℤ strip.row +ℤ pos 64) }
     requires value { value ≡ sign (piece.now.c.y -ℤ piece.now.a.y) }

@@ -1,10 +1,9 @@
 -- Rows between the ends of a slanted chord: one value before a column, and 0 from it on, but for the columns on the piece.
 use Rattle.std.specs.Prelude.{◌≡◌, ◌⊎◌, ◌↔◌, IsTrue, ℕ, ◌+◌, ◌≤◌, ◌<◌, ℤ, pos, ◌+ℤ◌, ◌-ℤ◌}
 use Rattle.std.specs.Prelude.{◌*ℤ◌, ◌≤ℤ◌, ◌<ℤ◌, Bool, true, false}
-use Rattle.std.specs.Prelude.{Option, Some, None}
 use Rattle.fx_fixed.specs.Ranges.{IsWithin}
 use Rattle.fx_winding.specs.Area.{Place}
-use Rattle.fx_winding.specs.Winding.{Span, IsOn, crossing, region, centre}
+use Rattle.fx_winding.specs.Winding.{Span, IsOn, crossing, region}
 use Rattle.fx_rows.specs.declared.strip.Strip.{Strip}
 use Rattle.fx_rows.specs.declared.slope.Slope.{Slope}
 use Rattle.fx_rows.specs.declared.cut.Bend.{Bend}
@@ -44,11 +43,6 @@ pub record IsCut (s : Span) (strip : Strip) (cut : Cut) : Type 0 where
       → crossing (place_at strip k) s +ℤ region (place_at strip k) s ≡ pos 0
   pub within : cut.end ≤ strip.stop
   pub on : IsOnStrip s strip cut.on
-
--- the same, if there is a cut
-abbrev pub IsMaybeCut : Span → Strip → Option Cut → Type 0
-IsMaybeCut s strip None = Unit {0}
-IsMaybeCut s strip (Some cut) = IsCut s strip cut
 
 -- what a piece adds at a place: a mark if the place is on it, and else its crossing and its region
 pub record IsAdded (s : Span) (p : Place) (old new : Bool) (turns turns' : ℤ) : Type 0 where

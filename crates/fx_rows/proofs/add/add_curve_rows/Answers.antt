@@ -1,5 +1,4 @@
-use Rattle.std.proofs.Common.{ap, ◌∙◌, ◌≡◌, arith, w64, to_z, of_z}
-use Rattle.fx_fixed.proofs.Linear.{signed_linear}
+use Rattle.std.proofs.Common.{ap, ◌∙◌, w64, of_z}
 use Rattle.fx_rows.specs.inner.Sides.{place_at}
 use Rattle.fx_rows.proofs.Gaps.{area_of_areas}
 use Rattle.fx_rows.proofs.Flats.{is_bent}

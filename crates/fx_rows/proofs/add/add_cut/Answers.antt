@@ -1,8 +1,7 @@
-use Rattle.std.proofs.Common.{◌≡◌, ◌∙◌, ap, sym, subst, arith, w32, to_z, of_z, ℤ, ℕ, pos, ◌+ℤ◌, ◌+◌, ◌*◌, ◌^◌, ◌≤◌, ◌<◌, List, length}
+use Rattle.std.proofs.Common.{◌≡◌, ◌∙◌, ap, sym, subst, arith, w32, to_z, of_z, ℤ, ℕ, ◌+ℤ◌, ◌+◌, length}
 use Rattle.std.proofs.lemmas.List.{with_items_is}
 use Rattle.fx_fixed.proofs.Linear.{signed_linear}
 use Rattle.fx_rows.specs.inner.Sums.{before}
-use Rattle.fx_rows.specs.inner.Bands.{stride}
 use Rattle.fx_rows.proofs.Counted.{Added, added_cut}
 use Rattle.fx_rows.proofs.Banding.{row_added, word_in}
 use Rattle.fx_rows.proofs.add.add_cut.Goals as goal

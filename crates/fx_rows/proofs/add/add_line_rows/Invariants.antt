@@ -1,5 +1,4 @@
 use Rattle.std.proofs.Common.{◌≡◌, ◌≤◌, ◌+◌, ◌-◌, ◌*◌}
-use Rattle.fx_winding.specs.Limits.{greatest_side}
 use Rattle.fx_rows.specs.inner.Bands.{bounded_span, IsBandAdded}
 use Rattle.fx_rows.proofs.add.add_line_rows.Given as goal
 

@@ -1,15 +1,12 @@
-use Rattle.std.proofs.Common.{◌≡◌, ◌∙◌, ap, sym, subst, arith, w32, to_z, of_z, ℤ, ℕ, pos, ◌+ℤ◌, ◌+◌, ◌*◌, ◌^◌, ◌≤◌, ◌<◌, List, length, get_or}
+use Rattle.std.proofs.Common.{◌≡◌, ◌∙◌, ap, sym, subst, arith, w32, to_z, of_z, ℤ, ℕ, pos, ◌+ℤ◌, ◌+◌, ◌^◌, List, get_or}
 use Rattle.std.specs.Vec.{with_items}
 use Rattle.std.proofs.lemmas.List.{with_items_is}
 use Rattle.fx_fixed.proofs.Linear.{signed_linear}
-use Rattle.fx_winding.specs.Winding.{Span, centre, crossing, region}
-use Rattle.fx_winding.specs.declared.frame.Frame.{Frame}
 use Rattle.fx_rows.specs.Parts.{IsRowPart}
-use Rattle.fx_rows.specs.declared.part.RowPart.{RowPart}
 use Rattle.fx_rows.specs.inner.Sums.{before, AreWithin, AreTouched}
-use Rattle.fx_rows.specs.inner.Bands.{stride, bounded_span}
-use Rattle.fx_rows.proofs.Counted.{Added, added_part, part_crosses, part_regions, on_inside}
-use Rattle.fx_rows.proofs.Banding.{row_added, word_in}
+use Rattle.fx_rows.specs.inner.Bands.{bounded_span}
+use Rattle.fx_rows.proofs.Counted.{Added, added_part, part_crosses, part_regions}
+use Rattle.fx_rows.proofs.Banding.{row_added}
 use Rattle.fx_rows.proofs.add.add_met.Goals as goal
 
 pub add_run-requires-clause-inside : goal.add_run-requires-clause-inside
@@ -22,7 +19,7 @@ pub add_run-requires-2-clause-small : goal.add_run-requires-2-clause-small
 add_run-requires-2-clause-small c =
     let d = c.deref_mut-3.ensures.value ∙ with_items_is c.args.band.now.diff c.add_run.new.diff (omega arith) in
     λ k. let e = c.add_run.ensures.grown (2 ^ 26)
-        (subst (AreWithin (2 ^ 26)) (sym c.deref_mut.ensures.value) c.requires.small) k in
+    (subst (AreWithin (2 ^ 26)) (sym c.deref_mut.ensures.value) c.requires.small) k in
     let x = ap (λ (xs : List ℤ). get_or xs k (pos 0)) d in
     omega (arith, signed_linear, e, x)
 
@@ -51,10 +48,10 @@ returns-clause-added c =
     let is = subst (λ (r : ℤ). IsRowPart s r f part) row c.met_part-part.ensures.part in
     let added = added_part s (f.bottom +ℤ pos c.args.up) f part at d d' t t' m m' is
     (λ k. let a = c.add_run.ensures.sums k in let z = c.add_run-2.ensures.sums k in
-      let x = ap (before (at + k + 1)) ed in omega (arith, signed_linear, a, z, x))
+    let x = ap (before (at + k + 1)) ed in omega (arith, signed_linear, a, z, x))
     (λ n h. c.add_run-2.ensures.under n h ∙ ap (before n) ed ∙ c.add_run.ensures.under n h)
     (λ n w k. let e = c.add_run-2.ensures.grown (n + 2) (subst (AreWithin (n + 2)) (sym ed) (c.add_run.ensures.grown n w)) k in
-      omega (arith, signed_linear, e))
+    omega (arith, signed_linear, e))
     (λ a. c.add_run-2.ensures.touched (subst (λ z. z) (λ i. AreTouched (sym ed i) (sym et i)) (c.add_run.ensures.touched a)))
     c.mark.ensures.row c.mark.ensures.under in
     row_added s f (f.bottom +ℤ pos c.args.up) _ b _ d d' t t' m m'

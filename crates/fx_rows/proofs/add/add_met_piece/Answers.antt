@@ -1,5 +1,4 @@
-use Rattle.std.proofs.Common.{◌≡◌, ◌∙◌, refl, ap, sym, subst, ◌+◌, ◌-◌, ◌*◌, ◌^◌, ◌≤◌, ◌<◌, ℕ, ℤ, ◌-ℤ◌, arith, w32, to_z, of_z}
-use Rattle.fx_fixed.proofs.Linear.{signed_linear}
+use Rattle.std.proofs.Common.{◌∙◌, ap, sym, subst, ◌^◌, ◌-ℤ◌, arith}
 use Rattle.fx_winding.specs.Winding.{span_of, sign}
 use Rattle.fx_rows.specs.declared.bounded.Rise.{Rise}
 use Rattle.fx_winding.specs.declared.point.Piece.{Piece}

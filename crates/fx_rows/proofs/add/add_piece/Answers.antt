@@ -1,5 +1,4 @@
-use Rattle.std.proofs.Common.{◌≡◌, ◌∙◌, refl, ap, sym, subst, ◌+◌, ◌-◌, ◌*◌, ◌^◌, ◌≤◌, ◌<◌, ℕ, ℤ, ◌⊎◌, inl, inr, arith, w32, to_z, of_z}
-use Rattle.fx_fixed.proofs.Linear.{signed_linear}
+use Rattle.std.proofs.Common.{refl, sym, subst, ◌≤◌, ◌<◌, ℕ, ◌⊎◌, inl, inr, arith}
 use Rattle.fx_winding.specs.Winding.{span_of}
 use Rattle.fx_winding.specs.declared.frame.Frame.{Frame}
 use Rattle.fx_fixed.proofs.Order.{below_or_not}

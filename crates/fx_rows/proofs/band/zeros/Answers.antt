@@ -1,4 +1,4 @@
-use Rattle.std.proofs.Common.{◌≡◌, ◌∙◌, ap, sym, subst, refl, ◌+◌, ◌-◌, ◌≤◌, ◌<◌, ◌++◌, ℕ, ℤ, pos, List, take, length, replicate, arith}
+use Rattle.std.proofs.Common.{◌≡◌, ◌∙◌, ap, sym, ◌+◌, ◌-◌, ◌≤◌, ◌++◌, ℕ, ℤ, pos, List, take, length, replicate, arith}
 use Rattle.std.proofs.lemmas.List.{take_all, length-replicate, replicate-append-replicate}
 use Rattle.fx_rows.proofs.band.zeros.Goals as goal
 

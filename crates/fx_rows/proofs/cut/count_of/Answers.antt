@@ -1,6 +1,4 @@
-use Rattle.std.proofs.Common.{◌≡◌, ◌⊎◌, inl, inr, ◌+◌, ◌-◌, ◌<◌, ◌≤◌, ℕ, Bool, true, false, IsTrue, arith}
-use Rattle.fx_fixed.proofs.Order.{below_or_not}
-use Rattle.fx_rows.specs.inner.Cuts.{CountsAt}
+use Rattle.std.proofs.Common.{◌≡◌, ◌-◌, Bool, true, false, IsTrue, arith}
 use Rattle.fx_rows.proofs.cut.count_of.Goals as goal
 
 yes : (b : Bool) → b ≡ true → IsTrue b

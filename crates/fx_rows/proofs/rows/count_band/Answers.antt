@@ -1,5 +1,5 @@
 use Rattle.std.proofs.Common.{◌≡◌, ◌⊎◌, inl, inr, refl, ◌∙◌, ℕ, zero, suc, ◌+◌, ◌*◌, ◌^◌, ◌<◌, ◌≤◌, ◌↔◌, IsTrue, Any, subst, sym}
-use Rattle.std.proofs.Common.{ap, ℤ, pos, ◌+ℤ◌, map, length, get_or, arith, List, false}
+use Rattle.std.proofs.Common.{ap, pos, ◌+ℤ◌, map, length, get_or, arith, List, false}
 use Rattle.std.proofs.Math.ListN.{get_or-map}
 use Rattle.std.proofs.lemmas.List.{length-map}
 use Rattle.fx_fixed.proofs.Linear.{signed_linear}
@@ -7,7 +7,7 @@ use Rattle.fx_fixed.specs.Ranges.{IsWithin}
 use Rattle.fx_winding.specs.declared.frame.Frame.{Frame}
 use Rattle.fx_winding.specs.Winding.{Span, span_of, centre, winding, IsOn}
 use Rattle.fx_rows.specs.inner.Sums.{before, AreWithin}
-use Rattle.fx_rows.specs.inner.Bands.{stride, turns_at, mark_at, IsCounted, IsBandAdded}
+use Rattle.fx_rows.specs.inner.Bands.{stride, turns_at, mark_at, IsBandAdded}
 use Rattle.fx_rows.proofs.Counted.{counted_start, counted_more, counted_all, count_more, within_none}
 use Rattle.fx_rows.proofs.Banding.{IsNumber, number_or_not}
 use Rattle.fx_rows.proofs.Sums.{before_none}

@@ -1,7 +1,6 @@
-use Rattle.std.proofs.Common.{◌≡◌, ◌∙◌, ℕ, ◌+◌, ◌*◌, ◌<◌, ◌≤◌, ◌/◌, ◌↔◌, subst, sym, ap, pos, ◌+ℤ◌, map, arith, ℤ, List, length, refl}
+use Rattle.std.proofs.Common.{◌≡◌, ◌∙◌, ℕ, ◌+◌, ◌*◌, ◌/◌, ◌↔◌, subst, sym, ap, pos, ◌+ℤ◌, map, arith, ℤ, List, length}
 use Rattle.std.specs.Vec.{with_items}
 use Rattle.std.proofs.lemmas.List.{with_items_is}
-use Rattle.fx_fixed.proofs.Linear.{signed_linear}
 use Rattle.fx_winding.specs.Bitmaps.{word_bit}
 use Rattle.fx_winding.specs.Winding.{span_of, centre, IsCovered}
 use Rattle.fx_winding.specs.declared.frame.Frame.{Frame}

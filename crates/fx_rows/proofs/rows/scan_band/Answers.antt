@@ -1,4 +1,4 @@
-use Rattle.std.proofs.Common.{◌≡◌, ◌∙◌, ◌+◌, ◌-◌, ◌*◌, ◌<◌, ◌≤◌, ◌↔◌, ℕ, List, map, length, ap, sym, subst, ℤ, pos, ◌+ℤ◌, arith, w32}
+use Rattle.std.proofs.Common.{◌≡◌, ◌∙◌, ◌+◌, ◌*◌, ◌↔◌, ℕ, map, ap, sym, subst, pos, ◌+ℤ◌, arith, w32}
 use Rattle.std.proofs.Common.{to_z, of_z}
 use Rattle.fx_fixed.proofs.Linear.{signed_linear}
 use Rattle.fx_winding.specs.Bitmaps.{Bits, with_row, bits_in, word_bit, IsRowOf}
@@ -63,11 +63,11 @@ rows-preserved c =
     let set : IsRowOf b.frame.left at ss (bits_in b.frame.width words) =
     row_set (λ j. IsCovered (centre (b.frame.left +ℤ pos j) at) ss) b.frame.width words
     (λ k l.
-      let x = c.cover_band.ensures.bits up k (omega (arith, high, oh)) (omega (arith, width, l)) in
-      let y = c.row_words.ensures.bits k (omega (arith, wide, l)) in
-      let w : c.cover_band.new.band.frame.width ≡ c.in_ok-band.band.frame.width = wide ∙ sym width in
-      let z = y ∙ ap (λ (m : ℕ). word_bit c.cover_band.new.band.marks.items (up * stride m + k)) w in
-      subst (λ z. z) (λ i. (sym z i ≡ 1) ↔ IsCovered (centre (left i +ℤ pos k) (here i)) ss) x) in
+    let x = c.cover_band.ensures.bits up k (omega (arith, high, oh)) (omega (arith, width, l)) in
+    let y = c.row_words.ensures.bits k (omega (arith, wide, l)) in
+    let w : c.cover_band.new.band.frame.width ≡ c.in_ok-band.band.frame.width = wide ∙ sym width in
+    let z = y ∙ ap (λ (m : ℕ). word_bit c.cover_band.new.band.marks.items (up * stride m + k)) w in
+    subst (λ z. z) (λ i. (sym z i ≡ 1) ↔ IsCovered (centre (left i +ℤ pos k) (here i)) ss) x) in
     record {
       frame = ap (λ (b : Bits). b.frame) c.set_row.ensures ∙ inv.frame;
       scanned =

@@ -1,4 +1,4 @@
-use Rattle.std.proofs.Common.{◌≡◌, ◌+◌, ◌*◌, map}
+use Rattle.std.proofs.Common.{◌≡◌, ◌+◌, map}
 use Rattle.fx_winding.specs.Winding.{span_of}
 use Rattle.fx_rows.specs.inner.Bands.{IsScanned}
 use Rattle.fx_rows.proofs.rows.scan_band.Given as goal

@@ -1,4 +1,4 @@
-use Rattle.std.proofs.Common.{◌≡◌, ◌∙◌, ap, ◌+◌, ◌*◌, ℤ, ◌+ℤ◌, arith, refl, to_z, of_z, w32}
+use Rattle.std.proofs.Common.{◌+◌, ◌*◌, ℤ, arith, refl, to_z, of_z, w32}
 use Rattle.fx_fixed.proofs.Linear.{signed_linear}
 use Rattle.fx_rows.proofs.Changes.{word_touched, word_sum, settled_more}
 use Rattle.fx_rows.proofs.settle.settle.Goals as goal

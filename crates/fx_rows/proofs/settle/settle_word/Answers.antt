@@ -1,6 +1,5 @@
-use Rattle.std.proofs.Common.{◌≡◌, ℕ, ◌≢◌, ◌∙◌, ◌+◌, ◌-◌, ℤ, pos, ◌+ℤ◌, get_or, ap, sym, arith, w32, to_z, of_z, FitsSigned, inl, inr}
+use Rattle.std.proofs.Common.{◌≡◌, ℕ, ◌≢◌, ◌∙◌, ◌+◌, ℤ, pos, ◌+ℤ◌, get_or, ap, sym, arith, w32, to_z, of_z, FitsSigned}
 use Rattle.fx_fixed.proofs.Linear.{signed_linear}
-use Rattle.fx_rows.specs.inner.Sums.{sum_of}
 use Rattle.fx_rows.proofs.Changes.{settling_first, settling_more, count_to, count_at, settled, sum_zero, sum_next}
 use Rattle.fx_rows.proofs.Masks.{bit_is}
 use Rattle.fx_rows.proofs.settle.settle_word.Goals as goal
