@@ -8,4 +8,5 @@ pub mod Candidates
 pub mod Cuts
 pub mod Inside
 pub mod Sums
-pub mod Near
+pub mod Bands
+pub mod Heights

@@ -1,7 +1,7 @@
 //! Rows between the ends of a slanted chord. There the crossing and the region of a piece together are one value before a column
 //! and 0 from it on, but for the columns on the piece, which are set anyway.
 
-ghost use Rattle.std.specs.Prelude.{◌≡◌, ◌≢◌, ◌⊎◌, ℕ, ◌+◌, ◌*◌, ◌^◌, ◌<◌, ◌≤◌, min, pos, ◌+ℤ◌, ◌-ℤ◌, ◌*ℤ◌, ◌<ℤ◌, ◌≤ℤ◌, IsTrue, ◌↔◌};
+ghost use Rattle.std.specs.Prelude.{◌≡◌, ◌≢◌, ◌⊎◌, ℕ, ◌+◌, ◌-◌, ◌*◌, ◌^◌, ◌<◌, ◌≤◌, min, pos, ◌+ℤ◌, ◌-ℤ◌, ◌*ℤ◌, ◌<ℤ◌, ◌≤ℤ◌, IsTrue, ◌↔◌};
 ghost use Rattle.std.specs.Prelude.{Some, None};
 ghost use Rattle.fx_fixed.specs.Ranges.{IsWithin};
 ghost use Rattle.fx_winding.specs.Limits.{greatest_side};
@@ -12,7 +12,7 @@ ghost use Rattle.fx_rows.specs.inner.Sides.{place_at};
 ghost use Rattle.fx_rows.specs.inner.Arcs.{AreAreas};
 ghost use Rattle.fx_rows.specs.inner.Candidates.{IsOnStrip};
 ghost use Rattle.fx_rows.specs.inner.Points.{AreAcross, IsInner};
-ghost use Rattle.fx_rows.specs.inner.Cuts.{side_at, CountsAt, CountsFirst, IsLast, IsCut, IsMaybeCut};
+ghost use Rattle.fx_rows.specs.inner.Cuts.{side_at, CountsAt, CountsFirst, IsLast, IsCut};
 
 use crate::across::Across;
 use crate::arc::{gaps_of, total_of};
@@ -27,8 +27,7 @@ use crate::rest::is_right;
 use crate::search::{is_below, is_zero, within};
 use crate::slope::{Slope, is_left};
 use crate::strip::{Strip, areas_at};
-use crate::trend::{Trend, guess_of, note_end};
-use fx_winding::{Piece, Point, Tally, Weights};
+use fx_winding::{Piece, Point, Tally, Weights, first_from};
 
 /// A bent arc along a row that passes between its ends: the sides of its chord, its gap, and whether it is right of the chord.
 #[derive(Clone, Copy)]
@@ -51,18 +50,23 @@ fn counts(bend: Bend, k: u32) -> bool
     }
 }
 
-/// How many columns from the base count, found from a guess by steps that double. The guess changes how soon, and nothing else.
-fn count_of(bend: Bend, guess: u32, stop: u32) -> u32
+/// How many columns from the base count, if those before `low` do and those from `high` on do not. It is looked for from a column
+/// on, by steps that double.
+fn count_between(bend: Bend, low: u32, high: u32, from: u32, stop: u32) -> u32
+    requires order { low ≤ high }
+    requires high { high ≤ stop }
     requires few { stop ≤ greatest_side + 2 }
     requires first { CountsFirst bend stop }
+    requires inside { (k : ℕ) → k < low → CountsAt bend k }
+    requires outside { (k : ℕ) → high ≤ k → k < stop → ¬ (CountsAt bend k) }
     ensures within { result ≤ stop }
     ensures inside { (k : ℕ) → k < result → CountsAt bend k }
     ensures outside { (k : ℕ) → result ≤ k → k < stop → ¬ (CountsAt bend k) }
 {
-    let mut low = 0;
-    let mut high = stop;
-    let mut at = guess;
-    let mut step = 0;
+    let mut low = low;
+    let mut high = high;
+    let mut at = from;
+    let mut step = 1;
     // The columns before `low` count, and those from `high` on do not.
     'columns: while low < high {
         let here = within(low, high, at);
@@ -77,6 +81,58 @@ fn count_of(bend: Bend, guess: u32, stop: u32) -> u32
         step = 2 * reach + 1;
     }
     low
+}
+
+/// Whether the column before an end does not count.
+fn is_past(bend: Bend, end: u32) -> bool
+    requires { end ≤ greatest_side + 2 }
+    ensures past { IsTrue result → (0 < end) × ¬ (CountsAt bend (end - 1)) }
+    ensures not { ¬ (IsTrue result) → 0 < end → CountsAt bend (end - 1) }
+{
+    end > 0 && !counts(bend, end - 1)
+}
+
+/// Whether the column at an end counts.
+fn is_short(bend: Bend, end: u32, stop: u32) -> bool
+    requires { stop ≤ greatest_side + 2 }
+    ensures short { IsTrue result → (end < stop) × CountsAt bend end }
+    ensures not { ¬ (IsTrue result) → end < stop → ¬ (CountsAt bend end) }
+{
+    end < stop && counts(bend, end)
+}
+
+/// How many columns from the base count. A guess changes how soon that is found, and nothing else.
+fn count_of(bend: Bend, guess: u32, stop: u32) -> u32
+    requires few { stop ≤ greatest_side + 2 }
+    requires first { CountsFirst bend stop }
+    ensures within { result ≤ stop }
+    ensures inside { (k : ℕ) → k < result → CountsAt bend k }
+    ensures outside { (k : ℕ) → result ≤ k → k < stop → ¬ (CountsAt bend k) }
+{
+    let end = if guess < stop { guess } else { stop };
+    if is_past(bend, end) {
+        return count_between(bend, 0, end - 1, end.saturating_sub(2), stop);
+    }
+    if is_short(bend, end, stop) {
+        return count_between(bend, end + 1, stop, end + 1, stop);
+    }
+    end
+}
+
+/// The x of the lower end of a chord.
+fn low_end(piece: &Piece) -> i32
+    ensures { IsWithin (2 ^ 22) result }
+{
+    if piece.a.y < piece.c.y {
+        piece.a.x
+    } else {
+        piece.c.x
+    }
+}
+
+/// Where the columns that count are likely to end on an arc's lowest row: at its chord's lower end.
+pub(crate) fn first_guess(piece: &Piece, strip: Strip) -> u32 {
+    columns_before(strip, first_from(low_end(piece)))
 }
 
 /// The column beside the end that is on a bent arc, if it is. No other can be.
@@ -101,7 +157,7 @@ fn on_end(piece: &Piece, bend: Bend, strip: Strip, end: u32, tally: &mut Tally) 
 }
 
 /// What a bent arc adds.
-fn arc_cut(
+pub(crate) fn arc_cut(
     piece: &Piece,
     b: Point,
     strip: Strip,
@@ -133,7 +189,13 @@ fn arc_cut(
 }
 
 /// What a line adds.
-fn line_cut(piece: &Piece, strip: Strip, areas: Weights, value: i32, tally: &mut Tally) -> Cut
+pub(crate) fn line_cut(
+    piece: &Piece,
+    strip: Strip,
+    areas: Weights,
+    value: i32,
+    tally: &mut Tally,
+) -> Cut
     requires line { piece.now.b ≡ None }
     requires inner { IsInner piece.now.a.y piece.now.c.y (pos 128 *ℤ strip.row +ℤ pos 64) }
     requires value { value ≡ sign (piece.now.c.y -ℤ piece.now.a.y) }
@@ -151,7 +213,7 @@ fn line_cut(piece: &Piece, strip: Strip, areas: Weights, value: i32, tally: &mut
 }
 
 /// What a piece adds whose box has no column's centre in it: the columns are left of all of it or right of all of it.
-fn clear_cut(piece: &Piece, across: Across, strip: Strip, value: i32) -> Cut
+pub(crate) fn clear_cut(piece: &Piece, across: Across, strip: Strip, value: i32) -> Cut
     requires across { AreAcross (span_of piece.now) across.first across.end }
     requires clear { across.end ≤ℤ across.first }
     requires inner { IsInner piece.now.a.y piece.now.c.y (pos 128 *ℤ strip.row +ℤ pos 64) }
@@ -163,38 +225,5 @@ fn clear_cut(piece: &Piece, across: Across, strip: Strip, value: i32) -> Cut
         end: columns_before(strip, across.first),
         value,
         on: OnRow::None,
-    }
-}
-
-/// What a piece adds, but of an arc on one line.
-pub(crate) fn cut_of(
-    bounded: &Bounded,
-    strip: Strip,
-    trends: &mut [Trend],
-    tally: &mut Tally,
-) -> Option<Cut>
-    requires foot { bounded.now.rise.foot <ℤ (pos 128 *ℤ strip.row +ℤ pos 64) }
-    requires head { (pos 128 *ℤ strip.row +ℤ pos 64) <ℤ bounded.now.rise.head }
-    ensures cut { IsMaybeCut (span_of bounded.now.piece) strip result }
-    ensures count { tally.new.count ≤ tally.old.count + 2 }
-{
-    let piece = &bounded.piece;
-    let across = bounded.across;
-    let value = bounded.rise.value;
-    if across.end <= across.first {
-        return Some(clear_cut(piece, across, strip, value));
-    }
-    let areas = areas_at(piece, strip, 0, tally);
-    match piece.b {
-        None => Some(line_cut(piece, strip, areas, value, tally)),
-        Some(b) => {
-            if total_of(areas) == 0 {
-                return None;
-            }
-            let guess = guess_of(trends, bounded, strip);
-            let cut = arc_cut(piece, b, strip, areas, guess, value, tally);
-            note_end(trends, bounded, strip, cut.end);
-            Some(cut)
-        }
     }
 }

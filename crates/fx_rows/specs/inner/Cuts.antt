@@ -1,12 +1,9 @@
 -- Rows between the ends of a slanted chord: one value before a column, and 0 from it on, but for the columns on the piece.
 use Rattle.std.specs.Prelude.{◌≡◌, ◌⊎◌, ◌↔◌, IsTrue, ℕ, ◌+◌, ◌≤◌, ◌<◌, ℤ, pos, ◌+ℤ◌, ◌-ℤ◌}
-use Rattle.std.specs.Prelude.{◌*ℤ◌, ◌≤ℤ◌, ◌<ℤ◌, Bool, true, false, List}
-use Rattle.std.specs.Prelude.{Option, Some, None}
+use Rattle.std.specs.Prelude.{◌*ℤ◌, ◌≤ℤ◌, ◌<ℤ◌, Bool, true, false}
 use Rattle.fx_fixed.specs.Ranges.{IsWithin}
 use Rattle.fx_winding.specs.Area.{Place}
-use Rattle.fx_winding.specs.Winding.{Span, IsOn, crossing, region, centre}
-use Rattle.fx_winding.specs.Bitmaps.{word_bit}
-use Rattle.fx_winding.specs.declared.frame.Frame.{Frame}
+use Rattle.fx_winding.specs.Winding.{Span, IsOn, crossing, region}
 use Rattle.fx_rows.specs.declared.strip.Strip.{Strip}
 use Rattle.fx_rows.specs.declared.slope.Slope.{Slope}
 use Rattle.fx_rows.specs.declared.cut.Bend.{Bend}
@@ -14,7 +11,7 @@ use Rattle.fx_rows.specs.declared.cells.Cut.{Cut}
 use Rattle.fx_rows.specs.inner.Runs.{gap_at}
 use Rattle.fx_rows.specs.inner.Sides.{place_at}
 use Rattle.fx_rows.specs.inner.Candidates.{IsOnStrip}
-use Rattle.fx_rows.specs.inner.Sums.{before, AreWithin, AreTouched, is_marked, Marks}
+use Rattle.fx_rows.specs.inner.Sums.{Marks}
 
 -- the value of a slope at a column
 abbrev pub side_at : Slope → ℕ → ℤ
@@ -25,6 +22,7 @@ abbrev pub Counts : Bool → ℤ → ℤ → Type 0
 Counts true side gap = (side <ℤ pos 0) ⊎ (pos 0 ≤ℤ gap)
 Counts false side gap = (side <ℤ pos 0) × (gap <ℤ pos 0)
 
+-- a column counts of a bent arc along a row
 abbrev pub CountsAt : Bend → ℕ → Type 0
 CountsAt b k = Counts b.right (side_at b.slope k) (gap_at b.gaps k)
 
@@ -46,10 +44,6 @@ pub record IsCut (s : Span) (strip : Strip) (cut : Cut) : Type 0 where
   pub within : cut.end ≤ strip.stop
   pub on : IsOnStrip s strip cut.on
 
-abbrev pub IsMaybeCut : Span → Strip → Option Cut → Type 0
-IsMaybeCut s strip None = Unit {0}
-IsMaybeCut s strip (Some cut) = IsCut s strip cut
-
 -- what a piece adds at a place: a mark if the place is on it, and else its crossing and its region
 pub record IsAdded (s : Span) (p : Place) (old new : Bool) (turns turns' : ℤ) : Type 0 where
   pub here : Bool
@@ -57,14 +51,3 @@ pub record IsAdded (s : Span) (p : Place) (old new : Bool) (turns turns' : ℤ) 
   pub marks : Marks here old new
   pub sum : here ≡ false → turns' ≡ turns +ℤ (crossing p s +ℤ region p s)
   pub small : IsWithin 2 (turns' -ℤ turns)
-
--- what a piece adds to the start, the differences, the touched columns and the marks of a row
-pub record IsRowAdded (s : Span) (row : ℤ) (f : Frame) (start start' : ℤ) (diff diff' : List ℤ)
-    (touched touched' line line' : List ℕ) : Type 0 where
-  pub added : (k : ℕ) → k < f.width → IsAdded s (centre (f.left +ℤ pos k) row) (is_marked line k) (is_marked line' k)
-      (start +ℤ before (k + 1) diff) (start' +ℤ before (k + 1) diff')
-  pub rest : (k : ℕ) → f.width ≤ k → start' +ℤ before (k + 1) diff' ≡ start +ℤ before (k + 1) diff
-  pub unused : (k : ℕ) → f.width ≤ k → word_bit line k ≡ 0 → word_bit line' k ≡ 0
-  pub started : IsWithin 1 (start' -ℤ start)
-  pub grown : (n : ℕ) → AreWithin n diff → AreWithin (n + 4) diff'
-  pub touches : AreTouched diff touched → AreTouched diff' touched'

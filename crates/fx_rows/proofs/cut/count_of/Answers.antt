@@ -1,7 +1,5 @@
-use Rattle.std.proofs.Common.{◌≡◌, IsTrue, Bool, true, false, arith}
-use Rattle.fx_rows.specs.inner.Cuts.{CountsAt}
+use Rattle.std.proofs.Common.{◌≡◌, ◌-◌, Bool, true, false, IsTrue, arith}
 use Rattle.fx_rows.proofs.cut.count_of.Goals as goal
-use Rattle.fx_rows.proofs.cut.count_of.Goals.{then-counts, else-counts}
 
 yes : (b : Bool) → b ≡ true → IsTrue b
 yes b e = grind arith
@@ -9,23 +7,26 @@ yes b e = grind arith
 no : (b : Bool) → b ≡ false → IsTrue b → ⊥
 no b e t = grind arith
 
-pub columns-preserved : goal.columns-preserved
-columns-preserved c = elim c.if-counts.branch [
-  | then-counts w ↦
-      let held : CountsAt c.args.bend c.within-here.result = c.counts.ensures.0 (yes c.counts.result w.if-counts.true) in
-      record {
-        order = omega (arith, w.low-is, w.high-is);
-        within = omega (arith, w.high-is);
-        inside = λ k l. c.requires.first k c.within-here.result (omega (arith, w.low-is)) (omega arith) held;
-        outside = λ k h l. c.columns.invariant.outside k (omega (arith, w.high-is)) l;
-      }
-  | else-counts w ↦
-      let not : ¬ (CountsAt c.args.bend c.within-here.result) =
-      λ h. no c.counts.result w.if-counts.false (c.counts.ensures.1 h) in
-      record {
-        order = omega (arith, w.low-is, w.high-is);
-        within = omega (arith, w.high-is);
-        inside = λ k l. c.columns.invariant.inside k (omega (arith, w.low-is));
-        outside = λ k h l counts. not (c.requires.first c.within-here.result k (omega (arith, w.high-is)) l counts);
-      }
-]
+pub count_between-requires-clause-outside : goal.count_between-requires-clause-outside
+count_between-requires-clause-outside c = λ k h l n.
+    let end = c.if-guess-stop.end in
+    let p = c.is_past.ensures.past (yes c.is_past.result c.if-is_past.true) in
+    p.1 (c.requires.first (end - 1) k h l n)
+
+pub count_between-requires-then-is_short-clause-inside : goal.count_between-requires-then-is_short-clause-inside
+count_between-requires-then-is_short-clause-inside c = λ k h.
+    let end = c.if-guess-stop.end in
+    let p = c.is_short.ensures.short (yes c.is_short.result c.if-is_short.true) in
+    c.requires.first k end (omega arith) p.0 p.1
+
+pub returns-clause-inside : goal.returns-clause-inside
+returns-clause-inside c = λ k h.
+    let end = c.if-guess-stop.end in
+    let p = c.is_past.ensures.not (no c.is_past.result c.if-is_past.false) (omega arith) in
+    c.requires.first k (end - 1) (omega arith) (omega arith) p
+
+pub returns-clause-outside : goal.returns-clause-outside
+returns-clause-outside c = λ k h l n.
+    let end = c.if-guess-stop.end in
+    let p = c.is_short.ensures.not (no c.is_short.result c.if-is_short.false) (omega arith) in
+    p (c.requires.first end k h l n)

@@ -1,0 +1,284 @@
+-- What pieces add to a band, row by row.
+-- Serves the rows of a piece, and the pieces of a band.
+use Rattle.std.proofs.Common.{◌≡◌, ◌⊎◌, inl, inr, refl, sym, ap, ◌∙◌, subst, ℕ, zero, suc, ◌+◌, ◌-◌, ◌*◌, ◌/◌, ◌<◌, ◌≤◌, ℤ}
+use Rattle.std.proofs.Common.{pos, ◌+ℤ◌, ◌*ℤ◌, Bool, false, arith, IsTrue, List, length}
+use Rattle.std.proofs.Math.Nat.{mul-le-mul_right, mul-le-mul_left}
+use Rattle.fx_fixed.proofs.Order.{below_or_not}
+use Rattle.fx_fixed.proofs.Linear.{signed_linear}
+use Rattle.fx_winding.specs.Bitmaps.{Bits, IsRowOf, IsScanOf, with_row}
+use Rattle.fx_winding.proofs.Scanned.{Scanned, scanned_more, scanned_all}
+use Rattle.fx_winding.specs.Area.{Place}
+use Rattle.fx_winding.specs.Winding.{Span, centre}
+use Rattle.fx_winding.specs.declared.frame.Frame.{Frame}
+use Rattle.fx_rows.specs.declared.band.Band.{Band}
+use Rattle.fx_rows.specs.inner.Heights.{height_of, IsMissed}
+use Rattle.fx_rows.specs.inner.Sums.{AreWithin}
+use Rattle.fx_rows.specs.inner.Cuts.{IsAdded}
+use Rattle.fx_rows.proofs.Counted.{Added}
+use Rattle.fx_rows.proofs.Parts.{missed}
+use Rattle.fx_rows.specs.inner.Bands.{IsScanned, stride, turns_at, mark_at, IsKept, IsRowAdded, IsBandAdded}
+
+-- ---- numbers of different rows
+next_row : (r s : ℕ) → (r + 1) * s ≡ r * s + s
+next_row r s = grind arith
+
+pub row_before : (r t s : ℕ) → r < t → r * s + s ≤ t * s
+row_before r t s h =
+    let e = next_row r s in let l : r + 1 ≤ t = omega arith in let m = mul-le-mul_right s l in omega (arith, e, m)
+
+pub wide : (w : ℕ) → w < stride w
+wide w = omega arith
+
+-- a row's words are among those of all rows
+pub word_in : (up high w first n : ℕ) → up < high → first ≡ up * stride w → n ≡ high * (w / 32 + 1) → (first + w) / 32 < n
+word_in up high w first n h e l = by (w / 32 + 1) refl
+  where
+    by : (q : ℕ) → q ≡ w / 32 + 1 → (first + w) / 32 < n
+    by q is =
+        let m : up + 1 ≤ high = omega arith in
+        let rows = mul-le-mul_right q m in
+        let next = next_row up q in
+        let at : up * (32 * q) ≡ 32 * (up * q) = grind arith in
+        let f : first ≡ up * (32 * q) = e ∙ ap (λ (x : ℕ). up * (32 * x)) (sym is) in
+        let t : n ≡ high * q = l ∙ ap (λ (x : ℕ). high * x) (sym is) in
+        omega (arith, rows, next, at, f, t, is)
+
+-- ---- what stays
+pub kept_none : (b : Band) (n : ℕ) → IsKept b b n
+kept_none b n = record { turns = refl; mark = refl }
+
+kept_both : (old mid new : Band) (n : ℕ) → IsKept old mid n → IsKept mid new n → IsKept old new n
+kept_both old mid new n a b = record { turns = b.turns ∙ a.turns; mark = b.mark ∙ a.mark }
+
+-- added first, and then kept
+added_kept : (s : Span) (p : Place) (old mid new : Band) (n : ℕ)
+    → IsAdded s p (mark_at old n) (mark_at mid n) (turns_at old n) (turns_at mid n) → IsKept mid new n
+    → IsAdded s p (mark_at old n) (mark_at new n) (turns_at old n) (turns_at new n)
+added_kept s p old mid new n a k =
+    subst (λ z. z) (λ i. IsAdded s p (mark_at old n) (sym k.mark i) (turns_at old n) (sym k.turns i)) a
+
+-- kept first, and then added
+kept_added : (s : Span) (p : Place) (old mid new : Band) (n : ℕ) → IsKept old mid n
+    → IsAdded s p (mark_at mid n) (mark_at new n) (turns_at mid n) (turns_at new n)
+    → IsAdded s p (mark_at old n) (mark_at new n) (turns_at old n) (turns_at new n)
+kept_added s p old mid new n k a =
+    subst (λ z. z) (λ i. IsAdded s p (k.mark i) (mark_at new n) (k.turns i) (turns_at new n)) a
+
+-- what lists say of a row
+pub row_added : (s : Span) (f : Frame) (row : ℤ) (at : ℕ) (old new : Band) (d d' : List ℤ) (t t' m m' : List ℕ)
+    → d ≡ old.diff.items → d' ≡ new.diff.items → t ≡ old.touched.items → t' ≡ new.touched.items → m ≡ old.marks.items
+    → m' ≡ new.marks.items → Added s f row at d d' t t' m m' → IsRowAdded s f row at old new
+row_added s f row at old new d d' t t' m m' ed ed' et et' em em' h =
+    of (subst (λ z. z) (λ i. Added s f row at (ed i) (ed' i) (et i) (et' i) (em i) (em' i)) h)
+  where
+    of : Added s f row at old.diff.items new.diff.items old.touched.items new.touched.items old.marks.items new.marks.items
+        → IsRowAdded s f row at old new
+    of a = record {
+      added = a.added;
+      under = λ n l. record { turns = (a.under n l).0; mark = (a.under n l).1 };
+      over = λ k l. record { turns = (a.over k l).0; mark = (a.over k l).1 };
+      grown = a.grown;
+      touches = a.touches;
+    }
+
+-- the height of a row
+pub row_height : (f g : Frame) (up : ℕ) (n row : ℤ) → g ≡ f → n ≡ row → row ≡ g.bottom +ℤ pos up
+    → pos 128 *ℤ n +ℤ pos 64 ≡ height_of f up
+row_height f g up n row e h k =
+    ap (λ (r : ℤ). pos 128 *ℤ r +ℤ pos 64) (h ∙ k ∙ ap (λ (x : Frame). x.bottom +ℤ pos up) e)
+
+-- ---- rows of one piece
+-- no row yet
+pub band_none : (s : Span) (f : Frame) (at : ℕ) (b : Band) → IsBandAdded s f at at b b
+band_none s f at b = record {
+  added = λ r k h l m. absurd (omega arith);
+  kept = λ n h. kept_none b n;
+  grown = λ n h. h;
+  touches = λ t. t;
+}
+
+-- a number in a row before, or after
+beside_row : (w r t k : ℕ) → k < w → (r < t) ⊎ (t < r) → (r * stride w + k < t * stride w) ⊎ (t * stride w + w ≤ r * stride w + k)
+beside_row w r t k h (inl l) = inl (let e = row_before r t (stride w) l in let x = wide w in omega (arith, e, x))
+beside_row w r t k h (inr l) = inr (let e = row_before t r (stride w) l in let x = wide w in omega (arith, e, x))
+
+-- rows, and then the rows after them
+pub band_both : (s : Span) (f : Frame) (from mid to : ℕ) (old now new : Band) → from ≤ mid → mid ≤ to
+    → IsBandAdded s f from mid old now → IsBandAdded s f mid to now new → IsBandAdded s f from to old new
+band_both s f from mid to old now new fm mt a b = record {
+  added = λ r k h l m. by r k h l m (below_or_not r mid);
+  kept = λ n h. kept_both old now new n (a.kept n (λ r x y. h r x (omega arith))) (b.kept n (λ r x y. h r (omega arith) y));
+  grown = λ n w. b.grown n (a.grown n w);
+  touches = λ t. b.touches (a.touches t);
+}
+  where
+    at : ℕ → ℕ → ℕ
+    at r k = r * stride f.width + k
+
+    by : (r k : ℕ) → from ≤ r → r < to → k < f.width → (r < mid) ⊎ (mid ≤ r)
+        → IsAdded s (centre (f.left +ℤ pos k) (f.bottom +ℤ pos r)) (mark_at old (r * stride f.width + k))
+        (mark_at new (r * stride f.width + k)) (turns_at old (r * stride f.width + k)) (turns_at new (r * stride f.width + k))
+    by r k h l m (inl x) =
+        added_kept s (centre (f.left +ℤ pos k) (f.bottom +ℤ pos r)) old now new (r * stride f.width + k) (a.added r k h x m)
+        (b.kept (r * stride f.width + k) (λ t y z. beside_row f.width r t k m (inl (omega arith))))
+    by r k h l m (inr x) =
+        kept_added s (centre (f.left +ℤ pos k) (f.bottom +ℤ pos r)) old now new (r * stride f.width + k)
+        (a.kept (r * stride f.width + k) (λ t y z. beside_row f.width r t k m (inr (omega arith)))) (b.added r k x l m)
+
+-- one row
+pub band_row : (s : Span) (f : Frame) (at : ℕ) (old new : Band)
+    → IsRowAdded s f (f.bottom +ℤ pos at) (at * stride f.width) old new → IsBandAdded s f at (at + 1) old new
+band_row s f at old new h = record {
+  added = λ r k x y m. let e : at ≡ r = omega arith in
+      subst (λ (t : ℕ). IsAdded s (centre (f.left +ℤ pos k) (f.bottom +ℤ pos t)) (mark_at old (t * stride f.width + k))
+      (mark_at new (t * stride f.width + k)) (turns_at old (t * stride f.width + k)) (turns_at new (t * stride f.width + k))) e
+      (h.added k m);
+  kept = λ n b. by n (b at (omega arith) (omega arith));
+  grown = λ n w. let e : n + 4 * at + 4 ≡ n + 4 * (at + 1) = omega arith in
+      subst (λ (m : ℕ). AreWithin m new.diff.items) e (h.grown (n + 4 * at) w);
+  touches = h.touches;
+}
+  where
+    by : (n : ℕ) → (n < at * stride f.width) ⊎ (at * stride f.width + f.width ≤ n) → IsKept old new n
+    by n (inl l) = h.under n l
+    by n (inr l) =
+        let e : at * stride f.width + (n - at * stride f.width) ≡ n = omega arith in
+        subst (IsKept old new) e (h.over (n - at * stride f.width) (omega arith))
+
+-- rows, and then one more
+pub band_more : (s : Span) (f : Frame) (from at : ℕ) (old now new : Band) → from ≤ at → IsBandAdded s f from at old now
+    → IsRowAdded s f (f.bottom +ℤ pos at) (at * stride f.width) now new → IsBandAdded s f from (at + 1) old new
+band_more s f from at old now new h a r = band_both s f from at (at + 1) old now new h (omega arith) a (band_row s f at now new r)
+
+-- rows that a piece misses
+added_none : (s : Span) (p : Place) (on : Bool) (turns : ℤ) → IsMissed s p.y → IsAdded s p on on turns turns
+added_none s p on turns h =
+    let n = missed p s h in
+    record {
+      here = false;
+      told = (λ t. absurd (no t), λ o. absurd (n.2 o));
+      marks = inr (refl, refl);
+      sum = λ f. omega (arith, signed_linear, n.0, n.1);
+      small = (omega (arith, signed_linear), omega (arith, signed_linear));
+    }
+  where
+    no : IsTrue false → ⊥
+    no t = grind arith
+
+pub band_missed : (s : Span) (f : Frame) (from to : ℕ) (b : Band) → from ≤ to
+    → ((r : ℕ) → from ≤ r → r < to → IsMissed s (height_of f r)) → IsBandAdded s f from to b b
+band_missed s f from to b o h = record {
+  added = λ r k x y m. added_none s (centre (f.left +ℤ pos k) (f.bottom +ℤ pos r)) _ _ (h r x y);
+  kept = λ n l. kept_none b n;
+  grown = λ n w k. let e = w k in omega (arith, signed_linear, e, o);
+  touches = λ t. t;
+}
+
+-- rows, rows after them, and rows after those
+pub band_three : (s : Span) (from low high to : ℕ) (old x y new : Band) → from ≤ low → low ≤ high → high ≤ to
+    → x.frame ≡ old.frame → y.frame ≡ x.frame → IsBandAdded s old.frame from low old x → IsBandAdded s x.frame low high x y
+    → IsBandAdded s y.frame high to y new → IsBandAdded s old.frame from to old new
+band_three s from low high to old x y new h k l ex ey a b c =
+    let f = old.frame in
+    let b' = subst (λ (g : Frame). IsBandAdded s g low high x y) ex b in
+    let c' = subst (λ (g : Frame). IsBandAdded s g high to y new) (ey ∙ ex) c in
+    band_both s f from high to old y new (omega arith) l (band_both s f from low high old x y h k a b') c'
+
+-- ---- numbers of pixels, and the others
+abbrev pub IsNumber : ℕ → ℕ → ℕ → Type 0
+IsNumber w high n = (r : ℕ) × (k : ℕ) × (r < high) × (k < w) × (n ≡ r * stride w + k)
+
+-- a number is a pixel's, or no pixel's
+pub number_or_not : (w high n : ℕ)
+    → IsNumber w high n ⊎ ((r : ℕ) → 0 ≤ r → r < high → (n < r * stride w) ⊎ (r * stride w + w ≤ n))
+number_or_not w zero n = inr (λ r z h. absurd (omega arith))
+number_or_not w (suc high) n = by (below_or_not n (high * stride w)) (below_or_not n (high * stride w + w)) (number_or_not w high n)
+  where
+    by : (n < high * stride w) ⊎ (high * stride w ≤ n) → (n < high * stride w + w) ⊎ (high * stride w + w ≤ n)
+        → IsNumber w high n ⊎ ((r : ℕ) → 0 ≤ r → r < high → (n < r * stride w) ⊎ (r * stride w + w ≤ n))
+        → IsNumber w (suc high) n ⊎ ((r : ℕ) → 0 ≤ r → r < suc high → (n < r * stride w) ⊎ (r * stride w + w ≤ n))
+    by (inl l) m (inl (r, k, a, b, e)) = inl (r, k, omega arith, b, e)
+    by (inl l) m (inr h) = inr (λ r z a. last r a (below_or_not r high))
+      where
+        last : (r : ℕ) → r < suc high → (r < high) ⊎ (high ≤ r) → (n < r * stride w) ⊎ (r * stride w + w ≤ n)
+        last r a (inl b) = h r (omega arith) b
+        last r a (inr b) =
+            let e : high ≡ r = omega arith in inl (subst (λ (x : ℕ). n < x * stride w) e l)
+    by (inr l) (inl m) o = inl (high, n - high * stride w, omega arith, omega arith, omega arith)
+    by (inr l) (inr m) o = inr (λ r z a. below r a (below_or_not r high))
+      where
+        below : (r : ℕ) → r < suc high → (r < high) ⊎ (high ≤ r) → (n < r * stride w) ⊎ (r * stride w + w ≤ n)
+        below r a (inl b) = let e = row_before r high (stride w) b in let x = wide w in inr (omega (arith, e, x))
+        below r a (inr b) =
+            let e : high ≡ r = omega arith in inr (subst (λ (x : ℕ). x * stride w + w ≤ n) e m)
+
+-- a number after a row's last pixel is no pixel's
+pub after_last : (w high r k : ℕ) → w ≤ k → k < stride w → (t : ℕ) → 0 ≤ t → t < high
+    → (r * stride w + k < t * stride w) ⊎ (t * stride w + w ≤ r * stride w + k)
+after_last w high r k h l t z a = by (below_or_not r t) (below_or_not t r)
+  where
+    by : (r < t) ⊎ (t ≤ r) → (t < r) ⊎ (r ≤ t) → (r * stride w + k < t * stride w) ⊎ (t * stride w + w ≤ r * stride w + k)
+    by (inl b) o = let e = row_before r t (stride w) b in inl (omega (arith, e))
+    by (inr b) (inl c) = let e = row_before t r (stride w) c in let x = wide w in inr (omega (arith, e, x))
+    by (inr b) (inr c) = let e : r ≡ t = omega arith in inr (subst (λ (x : ℕ). x * stride w + w ≤ r * stride w + k) e (omega arith))
+
+pub number_in : (up high w k n : ℕ) → up < high → k < stride w → n ≡ high * (w / 32 + 1) → up * stride w + k < 32 * n
+number_in up high w k n h l e = by (w / 32 + 1) refl
+  where
+    by : (q : ℕ) → q ≡ w / 32 + 1 → up * stride w + k < 32 * n
+    by q is =
+        let m : up + 1 ≤ high = omega arith in
+        let rows = mul-le-mul_right q m in
+        let next = next_row up q in
+        let at : up * (32 * q) ≡ 32 * (up * q) = grind arith in
+        let f : up * stride w ≡ up * (32 * q) = ap (λ (x : ℕ). up * (32 * x)) (sym is) in
+        let t : n ≡ high * q = e ∙ ap (λ (x : ℕ). high * x) (sym is) in
+        omega (arith, rows, next, at, f, t, is)
+
+-- ---- the rows of a bitmap
+to_scanned : (ss : List Span) (b : Bits) (done : ℕ) → IsScanned ss b done → Scanned b.frame ss b done
+to_scanned ss b done h = record {
+  same = refl;
+  high = h.high;
+  rows = λ k l. record { wide = h.wide k l; bits = h.bits k l };
+}
+
+of_scanned : (ss : List Span) (b : Bits) (done : ℕ) → Scanned b.frame ss b done → IsScanned ss b done
+of_scanned ss b done s = record {
+  high = s.high;
+  wide = λ k l. (s.rows k l).wide;
+  bits = λ k l. (s.rows k l).bits;
+}
+
+pub scanned_row : (ss : List Span) (b : Bits) (done : ℕ) (row : ℤ) (line : List Bool) → IsScanned ss b done
+    → done < b.frame.height → row ≡ b.frame.bottom +ℤ pos done → length line ≡ b.frame.width → IsRowOf b.frame.left row ss line
+    → IsScanned ss (with_row b row line) (done + 1)
+scanned_row ss b done row line h l e w bits = of_scanned ss (with_row b row line) (done + 1)
+    (scanned_more b.frame ss b done row line (to_scanned ss b done h) l e w bits)
+
+pub scanned_whole : (ss : List Span) (f : Frame) (b : Bits) (done : ℕ) → b.frame ≡ f → done ≡ f.height → IsScanned ss b done
+    → IsScanOf f ss b
+scanned_whole ss f b done e d h =
+    scanned_all f ss b done d (subst (λ (g : Frame). Scanned g ss b done) e (to_scanned ss b done h))
+
+-- ---- counts of tests
+pub tests_more : (p u v : ℕ) → u ≤ v → p * (12 * u) + p * (12 * (v - u)) ≡ p * (12 * v)
+tests_more p u v h = by (v - u) (omega arith)
+  where
+    by : (n : ℕ) → u + n ≡ v → p * (12 * u) + p * (12 * n) ≡ p * (12 * v)
+    by n e = sum n ∙ ap (λ (m : ℕ). p * (12 * m)) e
+      where
+        sum : (n : ℕ) → p * (12 * u) + p * (12 * n) ≡ p * (12 * (u + n))
+        sum n = grind arith
+
+pub tests_fit : (p u h d : ℕ) → u ≤ h → p * (12 * u) ≤ p * h * (6 * d + 12)
+tests_fit p u h d l =
+    let m : 12 * u ≤ 12 * h = omega arith in
+    let n = mul-le-mul_left p m in
+    let e : p * h * (6 * d + 12) ≡ p * (12 * h) + 6 * (p * h * d) = grind arith in
+    omega (arith, n, e)
+
+-- where the words of a row end
+pub words_end : (up high w n : ℕ) → up < high → n ≡ high * (w / 32 + 1) → up * (w / 32 + 1) + (w / 32 + 1) ≤ n
+words_end up high w n h e =
+    let r = row_before up high (w / 32 + 1) h in omega (arith, r, e)

@@ -1,0 +1,35 @@
+use Rattle.std.proofs.Common.{◌≡◌, ◌∙◌, ap, sym, subst, arith, w32, to_z, of_z, ℤ, ℕ, ◌+ℤ◌, ◌+◌, length}
+use Rattle.std.proofs.lemmas.List.{with_items_is}
+use Rattle.fx_fixed.proofs.Linear.{signed_linear}
+use Rattle.fx_rows.specs.inner.Sums.{before}
+use Rattle.fx_rows.proofs.Counted.{Added, added_cut}
+use Rattle.fx_rows.proofs.Banding.{row_added, word_in}
+use Rattle.fx_rows.proofs.add.add_cut.Goals as goal
+
+pub mark-requires-clause-words : goal.mark-requires-clause-words
+mark-requires-clause-words c =
+    let b = c.args.band.now in
+    let e : length c.deref_mut-3.result.now ≡ length b.marks.items = ap length c.deref_mut-3.ensures.value in
+    let l = word_in c.args.up b.frame.height b.frame.width c.first_of-first.result (length b.marks.items) c.requires.up
+    c.first_of-first.ensures.value b.room in
+    omega (arith, e, l)
+
+pub returns-clause-added : goal.returns-clause-added
+returns-clause-added c = λ s h.
+    let b = c.args.band.now in
+    let cut = c.args.cut in
+    let at = c.first_of-first.result in
+    let v : to_z w32 (of_z w32 cut.value) ≡ cut.value = omega (arith, signed_linear, cut.small) in
+    let added = added_cut s c.args.strip b.frame cut c.saturating_sub-end.result at c.deref_mut.result.now
+    c.add_before.new.diff c.deref_mut-2.result.now c.add_before.new.touched c.deref_mut-3.result.now c.mark.new.line
+    c.requires.first c.requires.last (omega arith)
+    (λ k l. c.add_before.ensures.inside k l ∙ ap (λ (z : ℤ). before (at + k + 1) c.deref_mut.result.now +ℤ z) v)
+    c.add_before.ensures.outside c.add_before.ensures.under c.add_before.ensures.grown c.add_before.ensures.touched
+    c.mark.ensures.row c.mark.ensures.under h in
+    row_added s b.frame c.args.strip.row _ b _ c.deref_mut.result.now c.add_before.new.diff
+    c.deref_mut-2.result.now c.add_before.new.touched c.deref_mut-3.result.now c.mark.new.line
+    c.deref_mut.ensures.value (sym (with_items_is b.diff c.add_before.new.diff (omega arith)))
+    c.deref_mut-2.ensures.value (sym (with_items_is b.touched c.add_before.new.touched (omega arith)))
+    c.deref_mut-3.ensures.value (sym (with_items_is b.marks c.mark.new.line (omega arith)))
+    (subst (λ (n : ℕ). Added s b.frame c.args.strip.row n c.deref_mut.result.now c.add_before.new.diff
+    c.deref_mut-2.result.now c.add_before.new.touched c.deref_mut-3.result.now c.mark.new.line) c.first_of-first.ensures.value added)

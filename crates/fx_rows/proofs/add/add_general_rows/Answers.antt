@@ -1,0 +1,56 @@
+use Rattle.std.proofs.Common.{◌≡◌, ◌∙◌, refl, ap, subst, ◌*◌, ◌^◌, ℕ, pos, ◌+ℤ◌, arith}
+use Rattle.fx_fixed.proofs.Linear.{signed_linear}
+use Rattle.fx_winding.specs.Winding.{span_of}
+use Rattle.fx_winding.specs.declared.point.Piece.{Piece}
+use Rattle.fx_winding.specs.declared.frame.Frame.{Frame}
+use Rattle.fx_rows.specs.inner.Bands.{stride, bounded_span, IsRowAdded, IsBandAdded}
+use Rattle.fx_rows.proofs.Banding.{band_none, band_more}
+use Rattle.fx_rows.proofs.add.add_general_rows.Goals as goal
+
+pub rows-init : goal.rows-init
+rows-init c = record {
+  frame = refl;
+  added = band_none (bounded_span c.bounds_of-bounded.result) c.args.band.now.frame c.args.rows.first c.args.band.now;
+  count = omega arith;
+}
+
+pub add_met-requires-clause-up : goal.add_met-requires-clause-up
+add_met-requires-clause-up c =
+    let e = ap (λ (f : Frame). f.height) c.rows.invariant.frame in let r = c.requires.rows in omega (arith, e, r)
+
+pub add_met-requires-clause-small : goal.add_met-requires-clause-small
+add_met-requires-clause-small c = λ k.
+    let e = c.rows.invariant.added.grown (2 ^ 25) c.requires.small k in
+    let few = c.args.band.now.few in
+    let r = c.requires.rows in
+    omega (arith, signed_linear, e, few, r)
+
+pub rows-preserved : goal.rows-preserved
+rows-preserved c =
+    let s = bounded_span c.bounds_of-bounded.result in
+    let up = c.rows.up in
+    let inv = c.rows.invariant in
+    let n = c.add_met.ensures.count in
+    let m = inv.count in
+    record {
+      frame = c.add_met.ensures.frame ∙ inv.frame;
+      added = band_more s c.args.band.now.frame c.args.rows.first up c.args.band.now c.rows.band c.add_met.new.band (omega arith)
+          inv.added (subst (λ (f : Frame). IsRowAdded s f (f.bottom +ℤ pos up) (up * stride f.width) c.rows.band c.add_met.new.band)
+          inv.frame c.add_met.ensures.added);
+      count = omega (arith, n, m);
+    }
+
+pub returns-clause-frame : goal.returns-clause-frame
+returns-clause-frame c = c.rows.invariant.frame
+
+pub returns-clause-added : goal.returns-clause-added
+returns-clause-added c =
+    let e : c.rows.up ≡ c.args.rows.end = omega (arith, c.args.rows.order) in
+    subst (λ (p : Piece). IsBandAdded (span_of p) c.args.band.now.frame c.args.rows.first c.args.rows.end c.args.band.now c.rows.band)
+    c.bounds_of-bounded.ensures.piece
+    (subst (λ (n : ℕ). IsBandAdded (bounded_span c.bounds_of-bounded.result) c.args.band.now.frame c.args.rows.first n c.args.band.now
+    c.rows.band) e c.rows.invariant.added)
+
+pub returns-clause-count : goal.returns-clause-count
+returns-clause-count c =
+    let e : c.rows.up ≡ c.args.rows.end = omega (arith, c.args.rows.order) in let m = c.rows.invariant.count in omega (arith, e, m)

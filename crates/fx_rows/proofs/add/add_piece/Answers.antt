@@ -1,0 +1,33 @@
+use Rattle.std.proofs.Common.{refl, sym, subst, ◌≤◌, ◌<◌, ℕ, ◌⊎◌, inl, inr, arith}
+use Rattle.fx_winding.specs.Winding.{span_of}
+use Rattle.fx_winding.specs.declared.frame.Frame.{Frame}
+use Rattle.fx_fixed.proofs.Order.{below_or_not}
+use Rattle.fx_rows.specs.inner.Bands.{IsBandAdded}
+use Rattle.fx_rows.proofs.Banding.{band_three, band_missed}
+use Rattle.fx_rows.proofs.add.add_piece.Goals as goal
+
+pub returns-then-rows-clause-added : goal.returns-then-rows-clause-added
+returns-then-rows-clause-added c =
+    let s = span_of c.args.piece.now in
+    let old = c.args.band.now in
+    let f = old.frame in
+    let r = c.rows_met-rows.result in
+    let m = c.rows_met-rows.ensures in
+    let new = c.add_met_piece.new.band in
+    band_three s 0 r.first r.end f.height old old new new (omega arith) r.order m.within refl c.add_met_piece.ensures.frame
+    (band_missed s f 0 r.first old (omega arith) (λ k h l. m.missed k (omega (arith, m.within, r.order)) (inl l)))
+    c.add_met_piece.ensures.added
+    (subst (λ (g : Frame). IsBandAdded s g r.end f.height new new) (sym c.add_met_piece.ensures.frame)
+    (band_missed s f r.end f.height new m.within (λ k h l. m.missed k l (inr h))))
+
+pub returns-else-rows-clause-added : goal.returns-else-rows-clause-added
+returns-else-rows-clause-added c =
+    let r = c.rows_met-rows.result in
+    let m = c.rows_met-rows.ensures in
+    band_missed (span_of c.args.piece.now) c.args.band.now.frame 0 c.args.band.now.frame.height c.args.band.now (omega arith)
+    (λ k h l. m.missed k l (by k (below_or_not k r.first)))
+  where
+    by : (k : ℕ) → (k < c.rows_met-rows.result.first) ⊎ (c.rows_met-rows.result.first ≤ k)
+        → (k < c.rows_met-rows.result.first) ⊎ (c.rows_met-rows.result.end ≤ k)
+    by k (inl h) = inl h
+    by k (inr h) = inr (omega arith)

@@ -1,0 +1,127 @@
+use Rattle.std.proofs.Common.{◌≡◌, ◌⊎◌, inl, inr, refl, ◌∙◌, ℕ, zero, suc, ◌+◌, ◌*◌, ◌^◌, ◌<◌, ◌≤◌, ◌↔◌, IsTrue, Any, subst, sym}
+use Rattle.std.proofs.Common.{ap, pos, ◌+ℤ◌, map, length, get_or, arith, List, false}
+use Rattle.std.proofs.Math.ListN.{get_or-map}
+use Rattle.std.proofs.lemmas.List.{length-map}
+use Rattle.fx_fixed.proofs.Linear.{signed_linear}
+use Rattle.fx_fixed.specs.Ranges.{IsWithin}
+use Rattle.fx_winding.specs.declared.frame.Frame.{Frame}
+use Rattle.fx_winding.specs.Winding.{Span, span_of, centre, winding, IsOn}
+use Rattle.fx_rows.specs.inner.Sums.{before, AreWithin}
+use Rattle.fx_rows.specs.inner.Bands.{stride, turns_at, mark_at, IsBandAdded}
+use Rattle.fx_rows.proofs.Counted.{counted_start, counted_more, counted_all, count_more, within_none}
+use Rattle.fx_rows.proofs.Banding.{IsNumber, number_or_not}
+use Rattle.fx_rows.proofs.Sums.{before_none}
+use Rattle.fx_rows.proofs.rows.count_band.Goals as goal
+
+pub pieces-init : goal.pieces-init
+pieces-init c =
+    let b = c.args.band.now in
+    let f = b.frame in
+    let none : (n : ℕ) → turns_at b n ≡ pos 0 = λ n. before_none (n + 1) b.diff.items c.requires.clear.counts in
+    record {
+      frame = refl;
+      counted = λ r k h l. counted_start (centre (f.left +ℤ pos k) (f.bottom +ℤ pos r)) (map span_of c.args.pieces.now)
+          (mark_at b (r * stride f.width + k)) (turns_at b (r * stride f.width + k))
+          (c.requires.clear.marks (r * stride f.width + k)) (none (r * stride f.width + k));
+      rest = λ n h. none n;
+      unused = λ n h. c.requires.clear.marks n;
+      touched = λ k o z. c.requires.clear.counts k;
+      small = within_none b.diff.items c.requires.clear.counts;
+      count = omega arith;
+    }
+
+pub add_piece-requires : goal.add_piece-requires
+add_piece-requires c =
+    let l : length c.args.pieces.now ≤ 65536 = c.requires.few in
+    record {
+      small = λ k. let e = c.pieces.invariant.small k in (omega (arith, signed_linear, e, l), omega (arith, signed_linear, e, l));
+    }
+
+pub pieces-preserved : goal.pieces-preserved
+pieces-preserved c =
+    let f = c.args.band.now.frame in
+    let spans = map span_of c.args.pieces.now in
+    let here = c.pieces.piece-index in
+    let inv = c.pieces.invariant in
+    let piece = c.piece-item.result in
+    let s = span_of piece in
+    let old = c.pieces.band in
+    let new = c.add_piece.new.band in
+    let inside : here < length spans = omega (arith, length-map c.args.pieces.now span_of) in
+    let is : s ≡ get_or spans here s =
+    ap span_of c.piece-item.is ∙ sym (get_or-map span_of c.args.pieces.now here piece) in
+    let more = subst (λ (g : Frame). IsBandAdded s g 0 g.height old new) inv.frame c.add_piece.ensures.added in
+    let few = c.args.band.now.few in
+    let high = ap (λ (g : Frame). g.height) inv.frame in
+    let n = c.add_piece.ensures.count in
+    let whole : 512 * here ≡ 512 * here + 4 * 0 = omega arith in
+    let each : c.add_piece.new.tally.count ≤ c.pieces.tally.count + 12 * f.height = omega (arith, n, high) in
+    record {
+      frame = c.add_piece.ensures.frame ∙ inv.frame;
+      counted = λ r k h l. counted_more spans here s (centre (f.left +ℤ pos k) (f.bottom +ℤ pos r))
+          (mark_at old (r * stride f.width + k)) (mark_at new (r * stride f.width + k))
+          (turns_at old (r * stride f.width + k)) (turns_at new (r * stride f.width + k)) (more.added r k (omega arith) h l)
+          inside is (inv.counted r k h l);
+      rest = λ n h. (more.kept n h).turns ∙ inv.rest n h;
+      unused = λ n h. (more.kept n h).mark ∙ inv.unused n h;
+      touched = more.touches inv.touched;
+      small = λ k. let e = more.grown (512 * here) (subst (λ (n : ℕ). AreWithin n old.diff.items) whole inv.small) k in
+          (omega (arith, signed_linear, e, few), omega (arith, signed_linear, e, few));
+      count = count_more c.args.tally.now.count c.pieces.tally.count c.add_piece.new.tally.count here (12 * f.height)
+          inv.count each;
+    }
+
+pub returns-clause-frame : goal.returns-clause-frame
+returns-clause-frame c = c.pieces.invariant.frame
+
+pub returns-clause-counted : goal.returns-clause-counted
+returns-clause-counted c = record {
+  turns = λ r k h l. (all r k h l).0;
+  marks = λ r k h l. (all r k h l).1;
+  rest = c.pieces.invariant.rest;
+  unused = c.pieces.invariant.unused;
+}
+  where
+    f : Frame
+    f = c.args.band.now.frame
+
+    spans : List Span
+    spans = map span_of c.args.pieces.now
+
+    all : (r k : ℕ) → r < f.height → k < f.width
+        → (mark_at c.pieces.band (r * stride f.width + k) ≡ false → turns_at c.pieces.band (r * stride f.width + k)
+        ≡ winding (centre (f.left +ℤ pos k) (f.bottom +ℤ pos r)) spans)
+        × (IsTrue (mark_at c.pieces.band (r * stride f.width + k)) ↔ Any (IsOn (centre (f.left +ℤ pos k) (f.bottom +ℤ pos r))) spans)
+    all r k h l =
+        let done : c.pieces.piece-index ≡ length spans = omega (arith, length-map c.args.pieces.now span_of) in
+        counted_all (centre (f.left +ℤ pos k) (f.bottom +ℤ pos r)) spans c.pieces.piece-index
+        (mark_at c.pieces.band (r * stride f.width + k)) (turns_at c.pieces.band (r * stride f.width + k)) done
+        (c.pieces.invariant.counted r k h l)
+
+pub returns-clause-small : goal.returns-clause-small
+returns-clause-small c = λ n. by n
+  where
+    f : Frame
+    f = c.args.band.now.frame
+
+    after : (n : ℕ)
+        → IsNumber f.width f.height n ⊎ ((r : ℕ) → 0 ≤ r → r < f.height → (n < r * stride f.width) ⊎ (r * stride f.width + f.width ≤ n))
+        → IsWithin (2 ^ 20) (before (n + 1) c.pieces.band.diff.items)
+    after n (inl (r, k, h, l, e)) =
+        let size = (c.pieces.invariant.counted r k h l).size in
+        let few : length c.args.pieces.now ≤ 65536 = c.requires.few in
+        let same = ap (λ (m : ℕ). before (m + 1) c.pieces.band.diff.items) e in
+        (omega (arith, signed_linear, size, few, same), omega (arith, signed_linear, size, few, same))
+    after n (inr h) = let e = c.pieces.invariant.rest n h in (omega (arith, signed_linear, e), omega (arith, signed_linear, e))
+
+    by : (n : ℕ) → IsWithin (2 ^ 20) (before n c.pieces.band.diff.items)
+    by zero = (omega (arith, signed_linear), omega (arith, signed_linear))
+    by (suc n) =
+        let e : n + 1 ≡ suc n = omega arith in
+        subst (λ (m : ℕ). IsWithin (2 ^ 20) (before m c.pieces.band.diff.items)) e (after n (number_or_not f.width f.height n))
+
+pub returns-clause-count : goal.returns-clause-count
+returns-clause-count c =
+    let done : c.pieces.piece-index ≡ length c.args.pieces.now = omega arith in
+    let P : ℕ → Type 0 = λ n. c.pieces.tally.count ≤ c.args.tally.now.count + n * (12 * c.args.band.now.frame.height) in
+    subst P done c.pieces.invariant.count

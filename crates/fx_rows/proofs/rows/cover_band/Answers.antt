@@ -1,0 +1,55 @@
+use Rattle.std.proofs.Common.{◌≡◌, ◌∙◌, ℕ, ◌+◌, ◌*◌, ◌/◌, ◌↔◌, subst, sym, ap, pos, ◌+ℤ◌, map, arith, ℤ, List, length}
+use Rattle.std.specs.Vec.{with_items}
+use Rattle.std.proofs.lemmas.List.{with_items_is}
+use Rattle.fx_winding.specs.Bitmaps.{word_bit}
+use Rattle.fx_winding.specs.Winding.{span_of, centre, IsCovered}
+use Rattle.fx_winding.specs.declared.frame.Frame.{Frame}
+use Rattle.fx_rows.specs.inner.Bands.{stride}
+use Rattle.fx_rows.specs.inner.Sums.{before, count_bit}
+use Rattle.fx_rows.proofs.Counted.{bit_covered}
+use Rattle.fx_rows.proofs.Marking.{bit_off}
+use Rattle.fx_rows.proofs.Banding.{number_in, after_last}
+use Rattle.fx_rows.proofs.rows.cover_band.Goals as goal
+
+settled_bit : (new line marks marks' : List ℕ) (diff diff' : List ℤ) (n : ℕ) → new ≡ line → marks ≡ marks' → diff ≡ diff'
+    → word_bit line n ≡ count_bit (before (n + 1) diff) (word_bit marks n)
+    → word_bit new n ≡ count_bit (before (n + 1) diff') (word_bit marks' n)
+settled_bit new line marks marks' diff diff' n el em ed h =
+    ap (λ (ws : List ℕ). word_bit ws n) el ∙ h ∙ (λ i. count_bit (before (n + 1) (ed i)) (word_bit (em i) n))
+
+pub returns-clause-bits : goal.returns-clause-bits
+returns-clause-bits c = λ r k h l.
+    let b = c.count_band.new.band in
+    let f = c.args.band.now.frame in
+    let n = r * stride f.width + k in
+    let frame = c.count_band.ensures.frame in
+    let room : length b.marks.items ≡ f.height * (f.width / 32 + 1) =
+    b.room ∙ ap (λ (g : Frame). g.height * (g.width / 32 + 1)) frame in
+    let long : length c.deref_mut.result.now ≡ length b.marks.items = ap length c.deref_mut.ensures.value in
+    let inside = number_in r f.height f.width k (length b.marks.items) h (omega (arith, l)) room in
+    let whole = settled_bit (with_items b.marks c.settle.new.line).items c.settle.new.line c.deref_mut.result.now b.marks.items
+    c.deref.result.now b.diff.items n (with_items_is b.marks c.settle.new.line (omega arith)) c.deref_mut.ensures.value
+    c.deref.ensures.value (c.settle.ensures.bits n (omega (arith, inside, long))) in
+    let p = centre (f.left +ℤ pos k) (f.bottom +ℤ pos r) in
+    let spans = map span_of c.args.pieces.now in
+    let set = bit_covered p spans (before (n + 1) b.diff.items) (word_bit b.marks.items n)
+    (c.count_band.ensures.counted.turns r k h l) (c.count_band.ensures.counted.marks r k h l) in
+    subst (λ (x : ℕ). (x ≡ 1) ↔ IsCovered p spans) (sym whole) set
+
+pub returns-clause-unused : goal.returns-clause-unused
+returns-clause-unused c = λ r k h w l.
+    let b = c.count_band.new.band in
+    let f = c.args.band.now.frame in
+    let n = r * stride f.width + k in
+    let frame = c.count_band.ensures.frame in
+    let room : length b.marks.items ≡ f.height * (f.width / 32 + 1) =
+    b.room ∙ ap (λ (g : Frame). g.height * (g.width / 32 + 1)) frame in
+    let long : length c.deref_mut.result.now ≡ length b.marks.items = ap length c.deref_mut.ensures.value in
+    let inside = number_in r f.height f.width k (length b.marks.items) h (l) room in
+    let whole = settled_bit (with_items b.marks c.settle.new.line).items c.settle.new.line c.deref_mut.result.now b.marks.items
+    c.deref.result.now b.diff.items n (with_items_is b.marks c.settle.new.line (omega arith)) c.deref_mut.ensures.value
+    c.deref.ensures.value (c.settle.ensures.bits n (omega (arith, inside, long))) in
+    let beside = after_last f.width f.height r k w l in
+    let none = c.count_band.ensures.counted.rest n beside in
+    let off = bit_off b.marks.items n (c.count_band.ensures.counted.unused n beside) in
+    whole ∙ (λ i. count_bit (none i) (off i))

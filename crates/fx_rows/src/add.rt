@@ -1,0 +1,258 @@
+//! What a piece adds to a band of rows.
+
+ghost use Rattle.std.specs.Prelude.{◌≡◌, ◌≢◌, ℕ, ◌+◌, ◌-◌, ◌*◌, ◌/◌, ◌^◌, ◌<◌, ◌≤◌, pos, ◌+ℤ◌, ◌-ℤ◌, ◌≤ℤ◌, length, Some, None};
+ghost use Rattle.fx_fixed.specs.Ranges.{IsWithin};
+ghost use Rattle.fx_winding.specs.Winding.{Span, span_of, sign};
+ghost use Rattle.fx_rows.specs.Parts.{IsBent};
+ghost use Rattle.fx_rows.specs.inner.Inside.{IsOnInside};
+ghost use Rattle.fx_rows.specs.inner.Cuts.{IsCut};
+ghost use Rattle.fx_rows.specs.inner.Sums.{AreWithin, IsInside};
+ghost use Rattle.fx_rows.specs.inner.Bands.{stride, AreInner, IsRowAdded, IsBandAdded, bounded_span};
+
+use crate::arc::total_of;
+use crate::band::Band;
+use crate::bounded::{Bounded, bounds_of, rise_of};
+use crate::cells::Cut;
+use crate::counts::{add_before, add_run};
+use crate::cut::{arc_cut, clear_cut, first_guess, line_cut};
+use crate::heights::{RowRange, rows_between, rows_met};
+use crate::intervals::met_part;
+use crate::marks::mark;
+use crate::strip::{Strip, areas_at, row_of, strip_of};
+use fx_winding::{Piece, Point, Tally};
+
+/// Adds what a piece gives to a row, in the general way.
+fn add_met(bounded: &Bounded, up: u32, band: &mut Band, tally: &mut Tally)
+    requires up { up < band.old.frame.height }
+    requires small { AreWithin (2 ^ 26) band.old.diff.items }
+    ensures frame { band.new.frame ≡ band.old.frame }
+    ensures added { IsRowAdded (bounded_span bounded.now) band.old.frame (band.old.frame.bottom +ℤ pos up)
+        (up * stride band.old.frame.width) band.old band.new }
+    ensures count { tally.new.count ≤ tally.old.count + 10 }
+{
+    let frame = band.frame;
+    let first = band.first_of(up);
+    let part = met_part(bounded, row_of(frame, up), frame, tally);
+    add_run(
+        &mut band.diff,
+        &mut band.touched,
+        frame,
+        first,
+        part.crossing,
+    );
+    add_run(&mut band.diff, &mut band.touched, frame, first, part.region);
+    mark(&mut band.marks, frame, first, part.on);
+}
+
+/// Adds what a piece gives to rows, in the general way. Few pieces need it, so its code is kept out of the others' loops.
+#[inline(never)]
+fn add_general_rows(piece: &Piece, rows: RowRange, band: &mut Band, tally: &mut Tally)
+    requires rows { rows.end ≤ band.old.frame.height }
+    requires small { AreWithin (2 ^ 25 + 4 * rows.first) band.old.diff.items }
+    ensures frame { band.new.frame ≡ band.old.frame }
+    ensures added { IsBandAdded (span_of piece.now) band.old.frame rows.first rows.end band.old band.new }
+    ensures count { tally.new.count ≤ tally.old.count + 10 * (rows.end - rows.first) }
+{
+    let bounded = bounds_of(piece, rise_of(piece));
+    // The rows before `up` have what the piece adds.
+    'rows: for up in rows.first..rows.end {
+        add_met(&bounded, up, band, tally);
+    }
+}
+
+/// Adds what a piece gives to rows, if there are any, in the general way.
+fn add_met_rows(piece: &Piece, rows: RowRange, band: &mut Band, tally: &mut Tally)
+    requires rows { rows.end ≤ band.old.frame.height }
+    requires small { AreWithin (2 ^ 25 + 4 * rows.first) band.old.diff.items }
+    ensures frame { band.new.frame ≡ band.old.frame }
+    ensures added { IsBandAdded (span_of piece.now) band.old.frame rows.first rows.end band.old band.new }
+    ensures count { tally.new.count ≤ tally.old.count + 10 * (rows.end - rows.first) }
+{
+    if rows.first < rows.end {
+        add_general_rows(piece, rows, band, tally);
+    }
+}
+
+/// Adds a cut to the counts and the marks of its row.
+fn add_cut(band: &mut Band, up: u32, strip: Strip, cut: Cut)
+    requires up { up < band.old.frame.height }
+    requires small { AreWithin (2 ^ 26) band.old.diff.items }
+    requires first { strip.base +ℤ pos strip.start ≡ band.old.frame.left }
+    requires last { strip.base +ℤ pos strip.stop ≡ band.old.frame.left +ℤ pos band.old.frame.width }
+    requires end { cut.end ≤ strip.stop }
+    requires on { IsOnInside band.old.frame cut.on }
+    ensures frame { band.new.frame ≡ band.old.frame }
+    ensures added { (s : Span) → IsCut s strip cut →
+        IsRowAdded s band.old.frame strip.row (up * stride band.old.frame.width) band.old band.new }
+{
+    let frame = band.frame;
+    let first = band.first_of(up);
+    let end = cut.end.saturating_sub(strip.start);
+    add_before(
+        &mut band.diff,
+        &mut band.touched,
+        first,
+        end as usize,
+        cut.value,
+    );
+    mark(&mut band.marks, frame, first, cut.on);
+}
+
+/// Adds what a piece gives to rows between its ends if no column's centre is in its box.
+fn add_clear_rows(bounded: &Bounded, rows: RowRange, band: &mut Band)
+    requires rows { rows.end ≤ band.old.frame.height }
+    requires clear { bounded.now.across.end ≤ℤ bounded.now.across.first }
+    requires inner { AreInner bounded.now band.old.frame rows.first rows.end }
+    requires value { bounded.now.rise.value ≡ sign (bounded.now.piece.c.y -ℤ bounded.now.piece.a.y) }
+    requires small { AreWithin (2 ^ 25 + 4 * rows.first) band.old.diff.items }
+    ensures frame { band.new.frame ≡ band.old.frame }
+    ensures added { IsBandAdded (bounded_span bounded.now) band.old.frame rows.first rows.end band.old band.new }
+{
+    // The rows before `up` have what the piece adds.
+    'rows: for up in rows.first..rows.end {
+        let strip = strip_of(band.frame, row_of(band.frame, up));
+        let cut = clear_cut(&bounded.piece, bounded.across, strip, bounded.rise.value);
+        add_cut(band, up, strip, cut);
+    }
+}
+
+/// Adds what a line gives to rows between its ends.
+fn add_line_rows(bounded: &Bounded, rows: RowRange, band: &mut Band, tally: &mut Tally)
+    requires line { bounded.now.piece.b ≡ None }
+    requires rows { rows.end ≤ band.old.frame.height }
+    requires inner { AreInner bounded.now band.old.frame rows.first rows.end }
+    requires value { bounded.now.rise.value ≡ sign (bounded.now.piece.c.y -ℤ bounded.now.piece.a.y) }
+    requires small { AreWithin (2 ^ 25 + 4 * rows.first) band.old.diff.items }
+    ensures frame { band.new.frame ≡ band.old.frame }
+    ensures added { IsBandAdded (bounded_span bounded.now) band.old.frame rows.first rows.end band.old band.new }
+    ensures count { tally.new.count ≤ tally.old.count + 2 * (rows.end - rows.first) }
+{
+    // The rows before `up` have what the line adds.
+    'rows: for up in rows.first..rows.end {
+        let strip = strip_of(band.frame, row_of(band.frame, up));
+        let areas = areas_at(&bounded.piece, strip, 0, tally);
+        let cut = line_cut(&bounded.piece, strip, areas, bounded.rise.value, tally);
+        add_cut(band, up, strip, cut);
+    }
+}
+
+/// Adds what a bent arc gives to rows between its ends. The guess says where the columns that count are likely to end on the first.
+fn add_arc_rows(
+    bounded: &Bounded,
+    b: Point,
+    rows: RowRange,
+    guess: u32,
+    band: &mut Band,
+    tally: &mut Tally,
+)
+    requires middle { bounded.now.piece.b ≡ Some b }
+    requires bent { IsBent (bounded_span bounded.now) }
+    requires rows { rows.end ≤ band.old.frame.height }
+    requires inner { AreInner bounded.now band.old.frame rows.first rows.end }
+    requires value { bounded.now.rise.value ≡ sign (bounded.now.piece.c.y -ℤ bounded.now.piece.a.y) }
+    requires small { AreWithin (2 ^ 25 + 4 * rows.first) band.old.diff.items }
+    ensures frame { band.new.frame ≡ band.old.frame }
+    ensures added { IsBandAdded (bounded_span bounded.now) band.old.frame rows.first rows.end band.old band.new }
+    ensures count { tally.new.count ≤ tally.old.count + 2 * (rows.end - rows.first) }
+{
+    let mut guess = guess;
+    let mut last = guess;
+    // The rows before `up` have what the arc adds.
+    'rows: for up in rows.first..rows.end {
+        let strip = strip_of(band.frame, row_of(band.frame, up));
+        let areas = areas_at(&bounded.piece, strip, 0, tally);
+        let cut = arc_cut(
+            &bounded.piece,
+            b,
+            strip,
+            areas,
+            guess,
+            bounded.rise.value,
+            tally,
+        );
+        guess = cut.end.saturating_add(cut.end).saturating_sub(last);
+        last = cut.end;
+        add_cut(band, up, strip, cut);
+    }
+}
+
+/// Adds what an arc gives to rows between its ends.
+fn add_curve_rows(bounded: &Bounded, b: Point, rows: RowRange, band: &mut Band, tally: &mut Tally)
+    requires middle { bounded.now.piece.b ≡ Some b }
+    requires some { rows.first < rows.end }
+    requires rows { rows.end ≤ band.old.frame.height }
+    requires inner { AreInner bounded.now band.old.frame rows.first rows.end }
+    requires value { bounded.now.rise.value ≡ sign (bounded.now.piece.c.y -ℤ bounded.now.piece.a.y) }
+    requires small { AreWithin (2 ^ 25 + 4 * rows.first) band.old.diff.items }
+    ensures frame { band.new.frame ≡ band.old.frame }
+    ensures added { IsBandAdded (bounded_span bounded.now) band.old.frame rows.first rows.end band.old band.new }
+    ensures count { tally.new.count ≤ tally.old.count + 12 * (rows.end - rows.first) }
+{
+    let strip = strip_of(band.frame, row_of(band.frame, rows.first));
+    let areas = areas_at(&bounded.piece, strip, 0, tally);
+    if total_of(areas) == 0 {
+        return add_met_rows(&bounded.piece, rows, band, tally);
+    }
+    let guess = first_guess(&bounded.piece, strip);
+    add_arc_rows(bounded, b, rows, guess, band, tally);
+}
+
+/// Adds what a piece gives to rows between its ends.
+fn add_inner_rows(bounded: &Bounded, rows: RowRange, band: &mut Band, tally: &mut Tally)
+    requires some { rows.first < rows.end }
+    requires rows { rows.end ≤ band.old.frame.height }
+    requires inner { AreInner bounded.now band.old.frame rows.first rows.end }
+    requires value { bounded.now.rise.value ≡ sign (bounded.now.piece.c.y -ℤ bounded.now.piece.a.y) }
+    requires small { AreWithin (2 ^ 25 + 4 * rows.first) band.old.diff.items }
+    ensures frame { band.new.frame ≡ band.old.frame }
+    ensures added { IsBandAdded (bounded_span bounded.now) band.old.frame rows.first rows.end band.old band.new }
+    ensures count { tally.new.count ≤ tally.old.count + 12 * (rows.end - rows.first) }
+{
+    if bounded.across.end <= bounded.across.first {
+        return add_clear_rows(bounded, rows, band);
+    }
+    match bounded.piece.b {
+        None => add_line_rows(bounded, rows, band, tally),
+        Some(b) => add_curve_rows(bounded, b, rows, band, tally),
+    }
+}
+
+/// Adds what a piece gives to the rows of a band that it can touch.
+fn add_met_piece(piece: &Piece, rows: RowRange, band: &mut Band, tally: &mut Tally)
+    requires rows { rows.end ≤ band.old.frame.height }
+    requires some { rows.first < rows.end }
+    requires small { AreWithin (2 ^ 25 + 4 * rows.first) band.old.diff.items }
+    ensures frame { band.new.frame ≡ band.old.frame }
+    ensures added { IsBandAdded (span_of piece.now) band.old.frame rows.first rows.end band.old band.new }
+    ensures count { tally.new.count ≤ tally.old.count + 12 * (rows.end - rows.first) }
+{
+    let rise = rise_of(piece);
+    let inner = rows_between(rise, band.frame, rows);
+    if inner.first >= inner.end {
+        return add_met_rows(piece, rows, band, tally);
+    }
+    let below = RowRange {
+        first: rows.first,
+        end: inner.first,
+    };
+    let above = RowRange {
+        first: inner.end,
+        end: rows.end,
+    };
+    add_met_rows(piece, below, band, tally);
+    add_inner_rows(&bounds_of(piece, rise), inner, band, tally);
+    add_met_rows(piece, above, band, tally);
+}
+
+/// Adds what a piece gives to a band.
+pub(crate) fn add_piece(piece: &Piece, band: &mut Band, tally: &mut Tally)
+    requires small { AreWithin (2 ^ 25) band.old.diff.items }
+    ensures frame { band.new.frame ≡ band.old.frame }
+    ensures added { IsBandAdded (span_of piece.now) band.old.frame 0 band.old.frame.height band.old band.new }
+    ensures count { tally.new.count ≤ tally.old.count + 12 * band.old.frame.height }
+{
+    let rows = rows_met(piece, band.frame);
+    if rows.first < rows.end {
+        add_met_piece(piece, rows, band, tally);
+    }
+}

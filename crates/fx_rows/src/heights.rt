@@ -1,0 +1,93 @@
+//! The rows of a band that a piece can touch, and those that its chord passes between its ends.
+
+ghost use Rattle.std.specs.Prelude.{◌≡◌, ◌⊎◌, ℕ, ◌+◌, ◌^◌, ◌<◌, ◌≤◌, pos, ◌+ℤ◌, ◌*ℤ◌, ◌<ℤ◌, ◌≤ℤ◌, IsTrue};
+ghost use Rattle.fx_fixed.specs.Ranges.{IsWithin};
+ghost use Rattle.fx_winding.specs.Limits.{IsPixelNumber};
+ghost use Rattle.fx_winding.specs.Winding.{span_of};
+ghost use Rattle.fx_rows.specs.inner.Heights.{height_of, IsMissed};
+
+use crate::bounded::Rise;
+use crate::narrow::{high_y, low_y};
+use fx_winding::{Frame, Piece, first_from};
+
+/// Rows from `first` on and before `end`, counted from the lowest of a frame.
+#[derive(Clone, Copy)]
+pub(crate) struct RowRange {
+    pub first: u32,
+    pub end: u32,
+    ghost order: { first ≤ end },
+}
+
+/// How many rows of a frame are below a row of the plane.
+fn rows_below(frame: Frame, row: i32) -> u32
+    requires { IsWithin (2 ^ 15) row }
+    ensures within { result ≤ frame.height }
+    ensures below { (r : ℕ) → r < result → (frame.bottom +ℤ pos r) <ℤ row }
+    ensures rest { (r : ℕ) → result ≤ r → r < frame.height → row ≤ℤ (frame.bottom +ℤ pos r) }
+{
+    if row <= frame.bottom {
+        return 0;
+    }
+    let count = (row - frame.bottom) as u32;
+    if count < frame.height {
+        count
+    } else {
+        frame.height
+    }
+}
+
+/// A number, or the end of a range that it lies beyond.
+fn clamped(n: u32, low: u32, high: u32) -> u32
+    requires { low ≤ high }
+    ensures low { low ≤ result }
+    ensures high { result ≤ high }
+    ensures from { (r : ℕ) → result ≤ r → r < high → n ≤ r }
+    ensures to { (r : ℕ) → low ≤ r → r < result → r < n }
+{
+    if n < low {
+        low
+    } else if high < n {
+        high
+    } else {
+        n
+    }
+}
+
+/// The rows of a frame that a piece can touch.
+pub(crate) fn rows_met(piece: &Piece, frame: Frame) -> RowRange
+    ensures within { result.end ≤ frame.height }
+    ensures missed { (r : ℕ) → r < frame.height → (r < result.first) ⊎ (result.end ≤ r) → IsMissed (span_of piece.now) (height_of frame r) }
+{
+    let first = rows_below(frame, first_from(low_y(piece)));
+    let end = rows_below(frame, first_from(high_y(piece) + 1));
+    RowRange {
+        first,
+        end: clamped(end, first, frame.height),
+    }
+}
+
+/// Those of some rows of a frame whose centres are above the lower end of a chord and below the upper one.
+pub(crate) fn rows_between(rise: Rise, frame: Frame, rows: RowRange) -> RowRange
+    requires { rows.end ≤ frame.height }
+    ensures first { rows.first ≤ result.first }
+    ensures end { result.end ≤ rows.end }
+    ensures foot { (r : ℕ) → result.first ≤ r → r < result.end → rise.foot <ℤ height_of frame r }
+    ensures head { (r : ℕ) → result.first ≤ r → r < result.end → height_of frame r <ℤ rise.head }
+{
+    let foot = rows_below(frame, first_from(rise.foot + 1));
+    let head = rows_below(frame, first_from(rise.head));
+    let first = clamped(foot, rows.first, rows.end);
+    RowRange {
+        first,
+        end: clamped(head, first, rows.end),
+    }
+}
+
+/// Whether the centres of a row lie below or above a piece.
+pub(crate) fn misses(piece: &Piece, row: i32) -> bool
+    requires { IsPixelNumber row }
+    ensures { IsTrue result → IsMissed (span_of piece.now) (pos 128 *ℤ row +ℤ pos 64) }
+{
+    let y = 128 * row + 64;
+    y < low_y(piece) || high_y(piece) < y
+}
