@@ -17,7 +17,7 @@ pub record IsMadeAlone (h : Hinting) (s : Scale) (g : ℕ) (m : Metrics) (bytes 
   pub ran : h.run g shape.code (scaled_simple s h.on m shape) ≡ Ok (made, spent)
 
 -- what is kept of a simple glyph: what it was made from, and what it became
-pub record KeptView : Type 0 where
+pub record KeptGlyphView : Type 0 where
   pub g : ℕ
   pub scale : Scale
   pub metrics : Metrics
@@ -26,6 +26,6 @@ pub record KeptView : Type 0 where
   pub spent : Spent
 
 -- what a place keeps is true; a place may be empty
-abbrev pub IsTrueOf : Hinting → Option KeptView → Type 0
+abbrev pub IsTrueOf : Hinting → Option KeptGlyphView → Type 0
 IsTrueOf h None = Unit {0}
 IsTrueOf h (Some k) = IsMadeAlone h k.scale k.g k.metrics k.bytes k.made k.spent

@@ -42,19 +42,20 @@ pub struct KeptGlyph {
 impl Model for KeptGlyph {
     ghost use Rattle.std.specs.Prelude.{Option, ◌<◌, length};
     ghost use Rattle.std.specs.List.{All};
-    ghost use Rattle.fx_hint.specs.Kept.{KeptView};
+    ghost use Rattle.fx_hint.specs.Kept.{KeptGlyphView};
     ghost use Rattle.fx_hint.specs.inner.Kept.{kept_of};
 
-    ghost Value = { Option KeptView };
+    ghost Value = { Option KeptGlyphView };
 
     ghost view = { λ k. kept_of k.fields k.bytes.items k.points.items k.ends.items };
 
     ghost invariant = { λ k. All (λ e. e < length k.points.items) k.ends.items };
 }
 
-/// Room in a copy for the points and contours of a composite's other components.
+/// Room in a copy for the points of a composite's other components.
 const MORE_POINTS: usize = 32;
 
+/// Room in a copy for their contours.
 const MORE_ENDS: usize = 4;
 
 /// Whether two lists have the same bytes. It looks at all of them, so that many are compared at a time.

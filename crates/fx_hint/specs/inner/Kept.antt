@@ -2,10 +2,10 @@
 use Rattle.std.specs.Prelude.{ℕ, List, Option, Some, None}
 use Rattle.fx_zone.specs.declared.point.Point.{Point}
 use Rattle.fx_hint.specs.declared.kept.KeptFields.{KeptFields}
-use Rattle.fx_hint.specs.Kept.{KeptView}
+use Rattle.fx_hint.specs.Kept.{KeptGlyphView}
 
 -- what a place keeps: nothing, or a glyph by its fields, bytes, points and contours
-abbrev pub kept_of : Option KeptFields → List ℕ → List Point → List ℕ → Option KeptView
+abbrev pub kept_of : Option KeptFields → List ℕ → List Point → List ℕ → Option KeptGlyphView
 kept_of None bytes points ends = None
 kept_of (Some k) bytes points ends = Some (record {
   g = k.g;
