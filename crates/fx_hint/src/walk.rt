@@ -10,7 +10,7 @@ ghost use Rattle.fx_hint.specs.Faults.{Fails};
 ghost use Rattle.fx_hint.specs.Outlines.{scaled_simple, simple_made, assembled, component, run_on, root_made};
 ghost use Rattle.fx_hint.specs.Limits.{max_components, max_depth};
 ghost use Rattle.fx_hint.specs.Parts.{with_part};
-ghost use Rattle.fx_hint.specs.inner.Steps.{begun, begun_by, begun_from, begun_component, counted_made, left};
+ghost use Rattle.fx_hint.specs.inner.Steps.{begun, begun_by, begun_component, counted_made, left};
 
 use crate::below::{Below, OpenComposite, Waiting};
 use crate::count::{Count, Spent};
@@ -204,30 +204,6 @@ impl<'w, 'a> Walk<'w, 'a> {
         Ok(Step::Assembled(made))
     }
 
-    /// A component begun that is not recalled: its reading, and then it is assembled, or open; the hinter may keep it.
-    ///
-    /// It stays a function of its own, so that one that is recalled does not pay for its variables.
-    #[inline(never)]
-    fn begun_anew<H: Hinter>(
-        &self,
-        hinter: &mut H,
-        input: &GlyphInput<'a>,
-        count: &mut Count,
-    ) -> Result<Step<'a>, HintFault>
-        requires { input.now.scale ≡ self.now.scale.now }
-        ensures known { H.known hinter.new ≡ H.known hinter.old }
-        ensures kept { H.hinting hinter.new ≡ H.hinting hinter.old }
-        ensures value { GivesUnless Fails (λ step. (step, count.new)) result
-            (begun_from (H.hinting hinter.old) self.now.scale.now self.now.root input.now.g input.now.metrics input.now.bytes.now
-            count.old) }
-        ensures records { OnOk result (count.new.records ≡ count.old.records) }
-    {
-        match read(input.bytes, input.g)? {
-            Glyph::Simple(simple) => self.simple_kept(hinter, input, &simple, count),
-            glyph => self.begun_by(hinter, input.g, input.metrics, glyph, count),
-        }
-    }
-
     /// A glyph begun, which is a component: the hinter may recall it if it is simple, or keep it.
     #[tactic(auto, unfolding(crate::specs::inner::Steps::begun))]
     fn begun_or_recalled<H: Hinter>(
@@ -254,7 +230,10 @@ impl<'w, 'a> Walk<'w, 'a> {
             hinter.law_keeps_shape();
             return self.recalled(made, spent, count);
         }
-        self.begun_anew(hinter, &input, count)
+        match read(bytes, g)? {
+            Glyph::Simple(simple) => self.simple_kept(hinter, &input, &simple, count),
+            glyph => self.begun_by(hinter, g, metrics, glyph, count),
+        }
     }
 
     /// A component begun, with `levels` levels allowed from here on.

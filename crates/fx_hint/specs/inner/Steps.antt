@@ -45,18 +45,13 @@ begun_by h s root g m (Composite assembly) count = Ok (
   count,
 )
 
--- the bytes of a glyph, begun: their reading
-abbrev pub begun_from : Hinting → Scale → ℕ → ℕ → Metrics → List ℕ → Count → Result (Step × Count) HintFault
-begun_from h s root g m bytes count = do
-  glyph ← map_fault Glyph (glyph_of bytes g)
-  begun_by h s root g m glyph count
-
 -- a glyph, begun: its number and bytes, its reading
 unfoldable pub begun : Hinting → Face → Scale → ℕ → ℕ → Count → Result (Step × Count) HintFault
 begun h face s root g count = do
   m ← map_fault Font (metrics_of face g)
   bytes ← map_fault Font (glyph_bytes_of face g)
-  begun_from h s root g m bytes count
+  glyph ← map_fault Glyph (glyph_of bytes g)
+  begun_by h s root g m glyph count
 
 -- an assembled glyph whose points, and what its program used up, are counted
 unfoldable pub counted_made : ℕ → Made → Spent → Count → Result (Step × Count) HintFault
