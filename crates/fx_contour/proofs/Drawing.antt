@@ -33,7 +33,8 @@ of_drop P zero xs h = h
 of_drop P (suc n) [] h = h
 of_drop P (suc n) (x ∷ xs) h = inr (of_drop P n xs h)
 
-take_or_drop : (P : Place → Type 0) (n : ℕ) (xs : List OutlinePoint) → HavePoint P xs → HavePoint P (take n xs) ⊎ HavePoint P (drop n xs)
+take_or_drop : (P : Place → Type 0) (n : ℕ) (xs : List OutlinePoint)
+    → HavePoint P xs → HavePoint P (take n xs) ⊎ HavePoint P (drop n xs)
 take_or_drop P zero xs h = inr h
 take_or_drop P (suc n) [] h = inr h
 take_or_drop P (suc n) (x ∷ xs) (inl h) = inl (inl h)
@@ -58,7 +59,8 @@ slice_two : (start next : ℕ) (points : List OutlinePoint) → start + 2 ≤ ne
 slice_two start next points h k =
     let a = length-take (next - start) (drop start points) in let b = length-drop start points in omega arith
 
-no_more : (P : Place → Type 0) (start : ℕ) (points : List OutlinePoint) → start ≡ length points → ¬ (HavePoint P (drop start points))
+no_more : (P : Place → Type 0) (start : ℕ) (points : List OutlinePoint) → start ≡ length points
+    → ¬ (HavePoint P (drop start points))
 no_more P start points e h = subst (HavePoint P) (drop_of_length-le points (omega arith)) h
 
 -- a point has a place of the curves as far out
@@ -99,7 +101,8 @@ point_with P Q (p ∷ ps) n f (inl h) = f p (All-head IsInReach p ps n) h
 point_with P Q (p ∷ ps) n f (inr h) = point_with P Q ps (All-tail IsInReach p ps n) f h
 
 -- an extent that reaches no farther than points within the limit
-extent_keeps : (e : Extent) (points : List OutlinePoint) → ((side : Side) (t : ℤ) → Extends e side t → HavePoint (IsOut side t) points)
+extent_keeps : (e : Extent) (points : List OutlinePoint)
+    → ((side : Side) (t : ℤ) → Extends e side t → HavePoint (IsOut side t) points)
     → All IsInReach points → KeepsLimit e
 extent_keeps e points h n = ((left, right), (bottom, top))
   where

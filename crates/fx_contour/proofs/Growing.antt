@@ -1,7 +1,7 @@
 -- Bounding boxes, point by point.
 -- For `Bounds` and `Extent` and their loops.
-use Rattle.std.proofs.Common.{◌≡◌, sym, subst, ℕ, zero, suc, ◌+◌, ◌<◌, ◌≤◌, drop, length, map, get_or, ◌⊎◌, inl, inr, ℤ, pos, ◌*ℤ◌, ◌≤ℤ◌, List}
-use Rattle.std.proofs.Common.{[], ◌∷◌, Option, None, Some, IsSomeAnd, refl, arith, ◌↔◌}
+use Rattle.std.proofs.Common.{◌≡◌, sym, subst, ℕ, zero, suc, ◌+◌, ◌<◌, ◌≤◌, drop, length, map, get_or, ◌⊎◌, inl, inr}
+use Rattle.std.proofs.Common.{ℤ, pos, ◌*ℤ◌, ◌≤ℤ◌, List, [], ◌∷◌, Option, None, Some, IsSomeAnd, refl, arith, ◌↔◌}
 use Rattle.std.specs.Int.{int_min, int_max}
 use Rattle.std.proofs.lemmas.Int.{ints, clamps, by_lt_z}
 use Rattle.std.proofs.lemmas.List.{drop_more}
@@ -66,7 +66,8 @@ two A B C R S h k = (λ c. there (k.0 c), λ x. back x)
 then : (a b c : Side → ℤ → Type 0) (R S : (Place → Type 0) → Type 0) → Grows a b R → Grows b c S → Grows a c (λ P. R P ⊎ S P)
 then a b c R S h k =
     record {
-      sides = λ side t. two (a side t) (b side t) (c side t) (R (IsOut side t)) (S (IsOut side t)) (h.sides side t) (k.sides side t);
+      sides = λ side t. two (a side t) (b side t) (c side t) (R (IsOut side t)) (S (IsOut side t)) (h.sides side t)
+          (k.sides side t);
     }
 
 pub span_grows : (a b c d : Side → ℤ → Type 0) (s : Span) → Grows a b (λ P. P s.a) → Grows b c (λ P. IsSomeAnd s.b P)

@@ -1,7 +1,7 @@
 -- The bounding box of the curve of a contour is that of its points: its other points lie half way between two of them.
 -- For `Extent::with_contour` and `Extent::of_curves`.
-use Rattle.std.proofs.Common.{◌≡◌, ◌⊎◌, inl, inr, ℤ, Bool, true, false, List, [], ◌∷◌, ◌++◌, Option, Some, None, refl, length, ◌<◌, ◌≤◌}
-use Rattle.std.proofs.Common.{sym, subst, arith, option_to_list, if◌then◌else◌, ◌↔◌}
+use Rattle.std.proofs.Common.{◌≡◌, ◌⊎◌, inl, inr, ℤ, Bool, true, false, List, [], ◌∷◌, ◌++◌, Option, Some, None, refl}
+use Rattle.std.proofs.Common.{length, ◌≤◌, sym, subst, arith, option_to_list, if◌then◌else◌, ◌↔◌}
 use Rattle.std.proofs.lemmas.Int.{ints, by_lt_z}
 use Rattle.fx_winding.specs.Area.{Place}
 use Rattle.fx_winding.specs.Winding.{Span}
@@ -184,12 +184,6 @@ point_curve P p q qs h = by (point_one P (last_or q qs) (p ∷ q ∷ qs) p h)
     by : HaveAny P (curve_of (p ∷ q ∷ qs)) ⊎ Ends P (last_or q qs) p → HaveAny P (curve_of (p ∷ q ∷ qs))
     by (inl k) = k
     by (inr e) = last_arc P (last_or q qs) p (q ∷ qs) p e
-
--- a contour of one point draws nothing
-pub no_curve : (P : Place → Type 0) (points : List OutlinePoint) → length points < 2 → ¬ (HaveAny P (curve_of points))
-no_curve P [] h n = n
-no_curve P (p ∷ []) h n = n
-no_curve P (p ∷ q ∷ qs) h n = absurd (omega arith)
 
 -- a side of the curve is one of its points
 pub hull_of : (side : Side) (t : ℤ) (points : List OutlinePoint) → 2 ≤ length points

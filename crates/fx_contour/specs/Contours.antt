@@ -1,6 +1,6 @@
 -- The curves of an outline, one contour after the other (OpenType, "glyf", endPtsOfContours).
-use Rattle.std.specs.Prelude.{◌↔◌, IsTrue, All, ℤ, pos, neg_ℤ, ◌≤ℤ◌, int_le, Bool, not, ◌&&◌, Result, Ok, ℕ, ◌+◌, ◌-◌, ◌^◌, List, [], ◌∷◌}
-use Rattle.std.specs.Prelude.{map, take, drop}
+use Rattle.std.specs.Prelude.{◌↔◌, IsTrue, All, ℤ, pos, neg_ℤ, ◌≤ℤ◌, int_le, Bool, not, ◌&&◌, Result, Ok, ℕ, ◌+◌, ◌-◌, ◌^◌}
+use Rattle.std.specs.Prelude.{List, [], ◌∷◌, map, take, drop}
 use Rattle.std.specs.List.{list_all}
 use Rattle.fx_fixed.specs.Chain.{◌>>=◌, refuse}
 use Rattle.fx_fixed.specs.Ranges.{IsWithin}
@@ -24,13 +24,13 @@ spans_of ends points = joined (map curve_of (contours_from 0 ends points))
 abbrev pub farthest : ℕ
 farthest = 2 ^ 21
 
--- a point within the limit
-abbrev pub IsInReach : OutlinePoint → Type 0
-IsInReach p = IsWithin farthest p.x × IsWithin farthest p.y
-
 -- the coordinates from one to another are within the limit
 abbrev pub IsRangeNear : ℤ → ℤ → Type 0
 IsRangeNear least greatest = (neg_ℤ (pos farthest) ≤ℤ least) × (greatest ≤ℤ pos farthest)
+
+-- a point within the limit
+abbrev pub IsInReach : OutlinePoint → Type 0
+IsInReach p = IsWithin farthest p.x × IsWithin farthest p.y
 
 -- the same as a test of a number
 abbrev pub is_within : ℕ → ℤ → Bool

@@ -24,7 +24,7 @@ impl Bounds {
     ghost use Rattle.fx_winding.specs.Winding.{place_of, maybe_place_of, span_of};
     ghost use Rattle.fx_contour.specs.Contours.{IsInReach, spans_of};
     ghost use Rattle.fx_contour.specs.Frames.{HasAny, HaveAny};
-    ghost use Rattle.fx_contour.specs.Bounds.{Side, Reaches, Grows, IsLeast, Extends, DoesExtend, HavePoint, KeepsLimit, AreBoundsOf};
+    ghost use Rattle.fx_contour.specs.Bounds.{Side, Reaches, Grows, IsLeast, Extends, HavePoint, KeepsLimit, AreBoundsOf};
 
     fn around(p: Point) -> Bounds
         ensures left { result.left ≡ p.x }

@@ -109,8 +109,8 @@ impl Extent {
         extent
     }
 
-    /// The extent of the curves of an outline, whose points have the extent `all`: this is it, unless a contour has one point alone,
-    /// which draws nothing. The other points of a curve lie half way between two points of its contour.
+    /// The extent of the curves of an outline, whose points have the extent `all`: the same, unless a contour has one point
+    /// alone, which draws nothing. The other points of a curve lie half way between two points of its contour.
     pub(crate) fn of_curves(outline: &Outline, all: Extent) -> Option<Extent>
         requires { IsLeast (Extends all) (λ P. HavePoint P outline.now.points.items) }
         ensures { IsLeast (DoesExtend result) (λ P. HaveAny P (spans_of outline.now.ends.items outline.now.points.items)) }
