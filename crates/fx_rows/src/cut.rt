@@ -27,7 +27,7 @@ use crate::rest::is_right;
 use crate::search::{is_below, is_zero, within};
 use crate::slope::{Slope, is_left};
 use crate::strip::{Strip, areas_at};
-use fx_winding::{Piece, Point, Tally, Weights, first_from};
+use fx_winding::{Frame, Piece, Point, Tally, Weights, first_from};
 
 /// A bent arc along a row that passes between its ends: the sides of its chord, its gap, and whether it is right of the chord.
 #[derive(Clone, Copy)]
@@ -131,8 +131,12 @@ fn low_end(piece: &Piece) -> i32
 }
 
 /// Where the columns that count are likely to end on an arc's lowest row: at its chord's lower end.
-pub(crate) fn first_guess(piece: &Piece, strip: Strip) -> u32 {
-    columns_before(strip, first_from(low_end(piece)))
+pub(crate) fn first_guess(piece: &Piece, frame: Frame) -> u32 {
+    let col = first_from(low_end(piece));
+    if col <= frame.left {
+        return 0;
+    }
+    (col - frame.left) as u32
 }
 
 /// The column beside the end that is on a bent arc, if it is. No other can be.
