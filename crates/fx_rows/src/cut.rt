@@ -50,37 +50,13 @@ fn counts(bend: Bend, k: u32) -> bool
     }
 }
 
-/// How many columns from the base count, if those before `low` do and those from `high` on do not. It is looked for from a column
-/// on, by steps that double.
-fn count_between(bend: Bend, low: u32, high: u32, from: u32, stop: u32) -> u32
-    requires order { low ≤ high }
-    requires high { high ≤ stop }
-    requires few { stop ≤ greatest_side + 2 }
-    requires first { CountsFirst bend stop }
-    requires inside { (k : ℕ) → k < low → CountsAt bend k }
-    requires outside { (k : ℕ) → high ≤ k → k < stop → ¬ (CountsAt bend k) }
-    ensures within { result ≤ stop }
-    ensures inside { (k : ℕ) → k < result → CountsAt bend k }
-    ensures outside { (k : ℕ) → result ≤ k → k < stop → ¬ (CountsAt bend k) }
-{
-    let mut low = low;
-    let mut high = high;
-    let mut at = from;
-    let mut step = 1;
-    // The columns before `low` count, and those from `high` on do not.
-    'columns: while low < high {
-        let here = within(low, high, at);
-        let reach = step.min((high - low) / 2);
-        if counts(bend, here) {
-            low = here + 1;
-            at = low + reach;
-        } else {
-            high = here;
-            at = here.saturating_sub(1 + reach);
-        }
-        step = 2 * reach + 1;
-    }
-    low
+/// Where the columns that count end: those before `low` count, and those from `high` on do not. The end is looked for from a
+/// column on.
+#[derive(Clone, Copy)]
+struct Window {
+    low: u32,
+    high: u32,
+    from: u32,
 }
 
 /// Whether the column before an end does not count.
@@ -101,6 +77,69 @@ fn is_short(bend: Bend, end: u32, stop: u32) -> bool
     end < stop && counts(bend, end)
 }
 
+/// Where the columns that count end, as far as a guess tells: the columns beside it are tested.
+fn window_of(bend: Bend, guess: u32, stop: u32) -> Window
+    requires few { stop ≤ greatest_side + 2 }
+    requires first { CountsFirst bend stop }
+    ensures order { result.low ≤ result.high }
+    ensures high { result.high ≤ stop }
+    ensures inside { (k : ℕ) → k < result.low → CountsAt bend k }
+    ensures outside { (k : ℕ) → result.high ≤ k → k < stop → ¬ (CountsAt bend k) }
+{
+    let end = if guess < stop { guess } else { stop };
+    if is_past(bend, end) {
+        return Window {
+            low: 0,
+            high: end - 1,
+            from: end.saturating_sub(2),
+        };
+    }
+    if is_short(bend, end, stop) {
+        return Window {
+            low: end + 1,
+            high: stop,
+            from: end + 1,
+        };
+    }
+    Window {
+        low: end,
+        high: end,
+        from: end,
+    }
+}
+
+/// How many columns from the base count, looked for in a window by steps that double.
+fn count_in(bend: Bend, window: Window, stop: u32) -> u32
+    requires order { window.low ≤ window.high }
+    requires high { window.high ≤ stop }
+    requires few { stop ≤ greatest_side + 2 }
+    requires first { CountsFirst bend stop }
+    requires inside { (k : ℕ) → k < window.low → CountsAt bend k }
+    requires outside { (k : ℕ) → window.high ≤ k → k < stop → ¬ (CountsAt bend k) }
+    ensures within { result ≤ stop }
+    ensures inside { (k : ℕ) → k < result → CountsAt bend k }
+    ensures outside { (k : ℕ) → result ≤ k → k < stop → ¬ (CountsAt bend k) }
+{
+    let mut low = window.low;
+    let mut high = window.high;
+    let mut at = window.from;
+    let mut step = 1;
+    // The columns before `low` count, and those from `high` on do not.
+    'columns: while low < high {
+        let here = within(low, high, at);
+        let reach = step.min((high - low) / 2);
+        if counts(bend, here) {
+            low = here + 1;
+            at = low + reach;
+        } else {
+            high = here;
+            at = here.saturating_sub(1 + reach);
+        }
+        step = 2 * reach + 1;
+    }
+    low
+}
+
 /// How many columns from the base count. A guess changes how soon that is found, and nothing else.
 fn count_of(bend: Bend, guess: u32, stop: u32) -> u32
     requires few { stop ≤ greatest_side + 2 }
@@ -109,14 +148,7 @@ fn count_of(bend: Bend, guess: u32, stop: u32) -> u32
     ensures inside { (k : ℕ) → k < result → CountsAt bend k }
     ensures outside { (k : ℕ) → result ≤ k → k < stop → ¬ (CountsAt bend k) }
 {
-    let end = if guess < stop { guess } else { stop };
-    if is_past(bend, end) {
-        return count_between(bend, 0, end - 1, end.saturating_sub(2), stop);
-    }
-    if is_short(bend, end, stop) {
-        return count_between(bend, end + 1, stop, end + 1, stop);
-    }
-    end
+    count_in(bend, window_of(bend, guess, stop), stop)
 }
 
 /// The x of the lower end of a chord.
