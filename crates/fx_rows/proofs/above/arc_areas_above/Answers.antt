@@ -1,7 +1,6 @@
-use Rattle.std.proofs.Common.{◌≡◌, ◌∙◌, refl, ap, sym, Option, Some, None, ℤ, pos, ◌+ℤ◌, ◌-ℤ◌, ◌*ℤ◌, ◌<ℤ◌, ◌^◌, arith, w32, w64, to_z, of_z}
+use Rattle.std.proofs.Common.{◌≡◌, ◌∙◌, ap, sym, Option, ℤ, pos, ◌+ℤ◌, ◌*ℤ◌, arith, w32, w64, to_z, of_z}
 use Rattle.fx_fixed.proofs.Linear.{signed, signed_linear}
 use Rattle.fx_fixed.specs.Ranges.{IsWithin}
-use Rattle.fx_winding.specs.Area.{Place, area}
 use Rattle.fx_winding.specs.declared.point.Point.{Point}
 use Rattle.fx_winding.specs.Winding.{place_of, maybe_place_of, areas_of_part, centre}
 use Rattle.fx_rows.specs.inner.Sides.{place_at}

@@ -1,4 +1,4 @@
-use Rattle.std.proofs.Common.{◌≡◌, ◌≤◌, ◌<◌, ◌+◌, ◌-◌, ◌*◌}
+use Rattle.std.proofs.Common.{◌≡◌, ◌≤◌, ◌<◌, ◌+◌, ◌-◌}
 use Rattle.fx_rows.specs.inner.Arcs.{AreAreas}
 use Rattle.fx_rows.specs.inner.Strips.{base_place}
 use Rattle.fx_rows.specs.inner.Bands.{bounded_span, IsBandAdded}

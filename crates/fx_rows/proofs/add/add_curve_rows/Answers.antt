@@ -1,4 +1,4 @@
-use Rattle.std.proofs.Common.{ap, ◌∙◌, ◌≡◌, arith, of_z, w64}
+use Rattle.std.proofs.Common.{ap, ◌∙◌, of_z, w64}
 use Rattle.fx_rows.specs.inner.Strips.{base_place}
 use Rattle.fx_rows.proofs.Gaps.{area_of_areas}
 use Rattle.fx_rows.proofs.Flats.{is_bent}
