@@ -1,14 +1,13 @@
 //! What a piece adds to a band of rows.
 
-ghost use Rattle.std.specs.Prelude.{◌≡◌, ◌≢◌, ℕ, ◌+◌, ◌-◌, ◌*◌, ◌/◌, ◌^◌, ◌<◌, ◌≤◌, pos, ◌+ℤ◌, ◌-ℤ◌, ◌≤ℤ◌, length, Some, None};
-ghost use Rattle.fx_fixed.specs.Ranges.{IsWithin};
+ghost use Rattle.std.specs.Prelude.{◌≡◌, ◌+◌, ◌-◌, ◌*◌, ◌^◌, ◌<◌, ◌≤◌, pos, ◌+ℤ◌, ◌-ℤ◌, ◌≤ℤ◌, Some, None};
 ghost use Rattle.fx_winding.specs.Winding.{Span, span_of, sign};
 ghost use Rattle.fx_rows.specs.Parts.{IsBent};
 ghost use Rattle.fx_rows.specs.inner.Arcs.{AreAreas};
 ghost use Rattle.fx_rows.specs.inner.Strips.{base_place};
 ghost use Rattle.fx_rows.specs.inner.Inside.{IsOnInside};
 ghost use Rattle.fx_rows.specs.inner.Cuts.{IsCut};
-ghost use Rattle.fx_rows.specs.inner.Sums.{AreWithin, IsInside};
+ghost use Rattle.fx_rows.specs.inner.Sums.{AreWithin};
 ghost use Rattle.fx_rows.specs.inner.Bands.{stride, AreInner, IsRowAdded, IsBandAdded, bounded_span};
 
 use crate::above::{arc_areas_above, line_areas_above};

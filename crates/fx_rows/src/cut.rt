@@ -1,7 +1,7 @@
 //! Rows between the ends of a slanted chord. There the crossing and the region of a piece together are one value before a column
 //! and 0 from it on, but for the columns on the piece, which are set anyway.
 
-ghost use Rattle.std.specs.Prelude.{◌≡◌, ◌≢◌, ◌⊎◌, ℕ, ◌+◌, ◌-◌, ◌*◌, ◌^◌, ◌<◌, ◌≤◌, min, pos, ◌+ℤ◌, ◌-ℤ◌, ◌*ℤ◌, ◌<ℤ◌, ◌≤ℤ◌, IsTrue, ◌↔◌};
+ghost use Rattle.std.specs.Prelude.{◌≡◌, ℕ, ◌+◌, ◌-◌, ◌*◌, ◌^◌, ◌<◌, ◌≤◌, min, pos, ◌+ℤ◌, ◌-ℤ◌, ◌*ℤ◌, ◌≤ℤ◌, IsTrue, ◌↔◌};
 ghost use Rattle.std.specs.Prelude.{Some, None};
 ghost use Rattle.fx_fixed.specs.Ranges.{IsWithin};
 ghost use Rattle.fx_winding.specs.Limits.{greatest_side};
@@ -12,11 +12,10 @@ ghost use Rattle.fx_rows.specs.inner.Sides.{place_at};
 ghost use Rattle.fx_rows.specs.inner.Arcs.{AreAreas};
 ghost use Rattle.fx_rows.specs.inner.Candidates.{IsOnStrip};
 ghost use Rattle.fx_rows.specs.inner.Points.{AreAcross, IsInner};
-ghost use Rattle.fx_rows.specs.inner.Cuts.{side_at, CountsAt, CountsFirst, IsLast, IsCut};
+ghost use Rattle.fx_rows.specs.inner.Cuts.{CountsAt, CountsFirst, IsLast, IsCut};
 
 use crate::across::Across;
 use crate::arc::{gaps_of, total_of};
-use crate::bounded::Bounded;
 use crate::cells::Cut;
 use crate::chord::{edge_of, slope_of};
 use crate::narrow::columns_before;
@@ -26,7 +25,7 @@ use crate::part::OnRow;
 use crate::rest::is_right;
 use crate::search::{is_below, is_zero, within};
 use crate::slope::{Slope, is_left};
-use crate::strip::{Strip, areas_at};
+use crate::strip::Strip;
 use fx_winding::{Frame, Piece, Point, Tally, Weights, first_from};
 
 /// A bent arc along a row that passes between its ends: the sides of its chord, its gap, and whether it is right of the chord.

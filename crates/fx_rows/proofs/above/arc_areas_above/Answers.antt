@@ -20,7 +20,8 @@ invariant_of-result c =
     let lv = c.lift_of-2.ensures in
     let lw = c.lift_of-3.ensures in
     let row : to_z w32 (of_z w32 t.row) ≡ t.row = omega (arith, signed_linear, t.row_near) in
-    let nx : IsWithin 4194304 x = let n = t.base_near in (omega (arith, signed, n.low, n.high), omega (arith, signed, n.low, n.high)) in
+    let nx : IsWithin 4194304 x = let n = t.base_near in
+    (omega (arith, signed, n.low, n.high), omega (arith, signed, n.low, n.high)) in
     let ny : IsWithin 4194304 y = let n = t.row_near in
     (omega (arith, signed, n, row, c.if-strip-ge-MAX_PIXEL.false), omega (arith, signed, n, row, c.if-strip-ge-MAX_PIXEL.false)) in
     let eu : to_z w64 (of_z w64 (to_z w64 (of_z w64 m.u) +ℤ to_z w64 (of_z w64 c.lift_of.result))) ≡ m.u +ℤ c.lift_of.result =

@@ -17,7 +17,8 @@ invariant_of-result c =
     let y = pos 128 *ℤ (t.row +ℤ pos 1) +ℤ pos 64 in
     let lv = c.lift_of.ensures in
     let row : to_z w32 (of_z w32 t.row) ≡ t.row = omega (arith, signed_linear, t.row_near) in
-    let nx : IsWithin 4194304 x = let n = t.base_near in (omega (arith, signed, n.low, n.high), omega (arith, signed, n.low, n.high)) in
+    let nx : IsWithin 4194304 x = let n = t.base_near in
+    (omega (arith, signed, n.low, n.high), omega (arith, signed, n.low, n.high)) in
     let ny : IsWithin 4194304 y = let n = t.row_near in
     (omega (arith, signed, n, row, c.if-strip-ge-MAX_PIXEL.false), omega (arith, signed, n, row, c.if-strip-ge-MAX_PIXEL.false)) in
     let ev : to_z w64 (of_z w64 (to_z w64 (of_z w64 m.v) +ℤ to_z w64 (of_z w64 c.lift_of.result))) ≡ m.v +ℤ c.lift_of.result =

@@ -83,7 +83,8 @@ rows-preserved c =
           let r = c.requires.rows in
           let top = c.args.band.now.frame.rows.to in
           let last : (c.strip_of-strip.result.row +ℤ pos 1) <ℤ pos 32768 = omega (arith, signed_linear, row, r, top, h) in
-          subst (λ z. z) (λ i. AreAreas s (centre (base i +ℤ pos 0) (((λ j. row j +ℤ pos 1) ∙ next) i)) c.line_areas_above-areas.result)
+          subst (λ z. z) (λ i. AreAreas s (centre (base i +ℤ pos 0) (((λ j. row j +ℤ pos 1) ∙ next) i))
+          c.line_areas_above-areas.result)
           (c.line_areas_above-areas.ensures last);
       count = omega (arith, n, m);
     }
