@@ -1,14 +1,16 @@
 //! What a piece adds to a band of rows.
 
-ghost use Rattle.std.specs.Prelude.{◌≡◌, ◌≢◌, ℕ, ◌+◌, ◌-◌, ◌*◌, ◌/◌, ◌^◌, ◌<◌, ◌≤◌, pos, ◌+ℤ◌, ◌-ℤ◌, ◌≤ℤ◌, length, Some, None};
-ghost use Rattle.fx_fixed.specs.Ranges.{IsWithin};
+ghost use Rattle.std.specs.Prelude.{◌≡◌, ◌+◌, ◌-◌, ◌*◌, ◌^◌, ◌<◌, ◌≤◌, pos, ◌+ℤ◌, ◌-ℤ◌, ◌≤ℤ◌, Some, None};
 ghost use Rattle.fx_winding.specs.Winding.{Span, span_of, sign};
 ghost use Rattle.fx_rows.specs.Parts.{IsBent};
+ghost use Rattle.fx_rows.specs.inner.Arcs.{AreAreas};
+ghost use Rattle.fx_rows.specs.inner.Strips.{base_place};
 ghost use Rattle.fx_rows.specs.inner.Inside.{IsOnInside};
 ghost use Rattle.fx_rows.specs.inner.Cuts.{IsCut};
-ghost use Rattle.fx_rows.specs.inner.Sums.{AreWithin, IsInside};
+ghost use Rattle.fx_rows.specs.inner.Sums.{AreWithin};
 ghost use Rattle.fx_rows.specs.inner.Bands.{stride, AreInner, IsRowAdded, IsBandAdded, bounded_span};
 
+use crate::above::{arc_areas_above, line_areas_above};
 use crate::arc::total_of;
 use crate::band::Band;
 use crate::bounded::{Bounded, bounds_of, rise_of};
@@ -19,7 +21,7 @@ use crate::heights::{RowRange, rows_between, rows_met};
 use crate::intervals::met_part;
 use crate::marks::mark;
 use crate::strip::{Strip, areas_at, row_of, strip_of};
-use fx_winding::{Piece, Point, Tally};
+use fx_winding::{Piece, Point, Tally, Weights};
 
 /// Adds what a piece gives to a row, in the general way.
 fn add_met(bounded: &Bounded, up: u32, band: &mut Band, tally: &mut Tally)
@@ -117,31 +119,39 @@ fn add_clear_rows(bounded: &Bounded, rows: RowRange, band: &mut Band)
 }
 
 /// Adds what a line gives to rows between its ends.
-fn add_line_rows(bounded: &Bounded, rows: RowRange, band: &mut Band, tally: &mut Tally)
+fn add_line_rows(
+    bounded: &Bounded,
+    rows: RowRange,
+    areas: Weights,
+    band: &mut Band,
+    tally: &mut Tally,
+)
     requires line { bounded.now.piece.b ≡ None }
     requires rows { rows.end ≤ band.old.frame.height }
     requires inner { AreInner bounded.now band.old.frame rows.first rows.end }
     requires value { bounded.now.rise.value ≡ sign (bounded.now.piece.c.y -ℤ bounded.now.piece.a.y) }
+    requires areas { AreAreas (bounded_span bounded.now) (base_place band.old.frame rows.first) areas }
     requires small { AreWithin (2 ^ 25 + 4 * rows.first) band.old.diff.items }
     ensures frame { band.new.frame ≡ band.old.frame }
     ensures added { IsBandAdded (bounded_span bounded.now) band.old.frame rows.first rows.end band.old band.new }
-    ensures count { tally.new.count ≤ tally.old.count + 2 * (rows.end - rows.first) }
+    ensures count { tally.new.count ≤ tally.old.count + (rows.end - rows.first) }
 {
-    // The rows before `up` have what the line adds.
+    let mut areas = areas;
+    // The rows before `up` have what the line adds, and the areas are those of the base in this row.
     'rows: for up in rows.first..rows.end {
         let strip = strip_of(band.frame, row_of(band.frame, up));
-        let areas = areas_at(&bounded.piece, strip, 0, tally);
         let cut = line_cut(&bounded.piece, strip, areas, bounded.rise.value, tally);
         add_cut(band, up, strip, cut);
+        areas = line_areas_above(&bounded.piece, strip, areas);
     }
 }
 
-/// Adds what a bent arc gives to rows between its ends. The guess says where the columns that count are likely to end on the first.
+/// Adds what a bent arc gives to rows between its ends.
 fn add_arc_rows(
     bounded: &Bounded,
     b: Point,
     rows: RowRange,
-    guess: u32,
+    areas: Weights,
     band: &mut Band,
     tally: &mut Tally,
 )
@@ -150,17 +160,18 @@ fn add_arc_rows(
     requires rows { rows.end ≤ band.old.frame.height }
     requires inner { AreInner bounded.now band.old.frame rows.first rows.end }
     requires value { bounded.now.rise.value ≡ sign (bounded.now.piece.c.y -ℤ bounded.now.piece.a.y) }
+    requires areas { AreAreas (bounded_span bounded.now) (base_place band.old.frame rows.first) areas }
     requires small { AreWithin (2 ^ 25 + 4 * rows.first) band.old.diff.items }
     ensures frame { band.new.frame ≡ band.old.frame }
     ensures added { IsBandAdded (bounded_span bounded.now) band.old.frame rows.first rows.end band.old band.new }
-    ensures count { tally.new.count ≤ tally.old.count + 2 * (rows.end - rows.first) }
+    ensures count { tally.new.count ≤ tally.old.count + (rows.end - rows.first) }
 {
-    let mut guess = guess;
+    let mut areas = areas;
+    let mut guess = first_guess(&bounded.piece, band.frame);
     let mut last = guess;
-    // The rows before `up` have what the arc adds.
+    // The rows before `up` have what the arc adds, and the areas are those of the base in this row.
     'rows: for up in rows.first..rows.end {
         let strip = strip_of(band.frame, row_of(band.frame, up));
-        let areas = areas_at(&bounded.piece, strip, 0, tally);
         let cut = arc_cut(
             &bounded.piece,
             b,
@@ -173,28 +184,33 @@ fn add_arc_rows(
         guess = cut.end.saturating_add(cut.end).saturating_sub(last);
         last = cut.end;
         add_cut(band, up, strip, cut);
+        areas = arc_areas_above(&bounded.piece, b, strip, areas);
     }
 }
 
 /// Adds what an arc gives to rows between its ends.
-fn add_curve_rows(bounded: &Bounded, b: Point, rows: RowRange, band: &mut Band, tally: &mut Tally)
+fn add_curve_rows(
+    bounded: &Bounded,
+    b: Point,
+    rows: RowRange,
+    areas: Weights,
+    band: &mut Band,
+    tally: &mut Tally,
+)
     requires middle { bounded.now.piece.b ≡ Some b }
-    requires some { rows.first < rows.end }
     requires rows { rows.end ≤ band.old.frame.height }
     requires inner { AreInner bounded.now band.old.frame rows.first rows.end }
     requires value { bounded.now.rise.value ≡ sign (bounded.now.piece.c.y -ℤ bounded.now.piece.a.y) }
+    requires areas { AreAreas (bounded_span bounded.now) (base_place band.old.frame rows.first) areas }
     requires small { AreWithin (2 ^ 25 + 4 * rows.first) band.old.diff.items }
     ensures frame { band.new.frame ≡ band.old.frame }
     ensures added { IsBandAdded (bounded_span bounded.now) band.old.frame rows.first rows.end band.old band.new }
-    ensures count { tally.new.count ≤ tally.old.count + 12 * (rows.end - rows.first) }
+    ensures count { tally.new.count ≤ tally.old.count + 10 * (rows.end - rows.first) }
 {
-    let strip = strip_of(band.frame, row_of(band.frame, rows.first));
-    let areas = areas_at(&bounded.piece, strip, 0, tally);
     if total_of(areas) == 0 {
         return add_met_rows(&bounded.piece, rows, band, tally);
     }
-    let guess = first_guess(&bounded.piece, strip);
-    add_arc_rows(bounded, b, rows, guess, band, tally);
+    add_arc_rows(bounded, b, rows, areas, band, tally);
 }
 
 /// Adds what a piece gives to rows between its ends.
@@ -211,9 +227,11 @@ fn add_inner_rows(bounded: &Bounded, rows: RowRange, band: &mut Band, tally: &mu
     if bounded.across.end <= bounded.across.first {
         return add_clear_rows(bounded, rows, band);
     }
+    let strip = strip_of(band.frame, row_of(band.frame, rows.first));
+    let areas = areas_at(&bounded.piece, strip, 0, tally);
     match bounded.piece.b {
-        None => add_line_rows(bounded, rows, band, tally),
-        Some(b) => add_curve_rows(bounded, b, rows, band, tally),
+        None => add_line_rows(bounded, rows, areas, band, tally),
+        Some(b) => add_curve_rows(bounded, b, rows, areas, band, tally),
     }
 }
 

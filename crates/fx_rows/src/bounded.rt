@@ -1,11 +1,9 @@
 //! Pieces with their columns and the heights of their ends.
 
-ghost use Rattle.std.specs.Prelude.{◌≡◌, ◌⊎◌, ◌^◌, pos, ◌+ℤ◌, ◌*ℤ◌, ◌<ℤ◌, ◌≤ℤ◌, IsTrue, ◌↔◌};
+ghost use Rattle.std.specs.Prelude.{◌≡◌, ◌^◌};
 ghost use Rattle.fx_fixed.specs.Ranges.{IsWithin};
-ghost use Rattle.fx_winding.specs.Area.{Place};
-ghost use Rattle.fx_winding.specs.Limits.{IsPixelNumber};
 ghost use Rattle.fx_winding.specs.Winding.{span_of};
-ghost use Rattle.fx_rows.specs.inner.Points.{IsPointOf, AreAcross, IsRise};
+ghost use Rattle.fx_rows.specs.inner.Points.{AreAcross, IsRise};
 
 use crate::across::Across;
 use crate::narrow::across_of;

@@ -1,7 +1,7 @@
 //! Rows between the ends of a slanted chord. There the crossing and the region of a piece together are one value before a column
 //! and 0 from it on, but for the columns on the piece, which are set anyway.
 
-ghost use Rattle.std.specs.Prelude.{◌≡◌, ◌≢◌, ◌⊎◌, ℕ, ◌+◌, ◌-◌, ◌*◌, ◌^◌, ◌<◌, ◌≤◌, min, pos, ◌+ℤ◌, ◌-ℤ◌, ◌*ℤ◌, ◌<ℤ◌, ◌≤ℤ◌, IsTrue, ◌↔◌};
+ghost use Rattle.std.specs.Prelude.{◌≡◌, ℕ, ◌+◌, ◌-◌, ◌*◌, ◌^◌, ◌<◌, ◌≤◌, min, pos, ◌+ℤ◌, ◌-ℤ◌, ◌*ℤ◌, ◌≤ℤ◌, IsTrue, ◌↔◌};
 ghost use Rattle.std.specs.Prelude.{Some, None};
 ghost use Rattle.fx_fixed.specs.Ranges.{IsWithin};
 ghost use Rattle.fx_winding.specs.Limits.{greatest_side};
@@ -12,11 +12,10 @@ ghost use Rattle.fx_rows.specs.inner.Sides.{place_at};
 ghost use Rattle.fx_rows.specs.inner.Arcs.{AreAreas};
 ghost use Rattle.fx_rows.specs.inner.Candidates.{IsOnStrip};
 ghost use Rattle.fx_rows.specs.inner.Points.{AreAcross, IsInner};
-ghost use Rattle.fx_rows.specs.inner.Cuts.{side_at, CountsAt, CountsFirst, IsLast, IsCut};
+ghost use Rattle.fx_rows.specs.inner.Cuts.{CountsAt, CountsFirst, IsLast, IsCut};
 
 use crate::across::Across;
 use crate::arc::{gaps_of, total_of};
-use crate::bounded::Bounded;
 use crate::cells::Cut;
 use crate::chord::{edge_of, slope_of};
 use crate::narrow::columns_before;
@@ -26,8 +25,8 @@ use crate::part::OnRow;
 use crate::rest::is_right;
 use crate::search::{is_below, is_zero, within};
 use crate::slope::{Slope, is_left};
-use crate::strip::{Strip, areas_at};
-use fx_winding::{Piece, Point, Tally, Weights, first_from};
+use crate::strip::Strip;
+use fx_winding::{Frame, Piece, Point, Tally, Weights, first_from};
 
 /// A bent arc along a row that passes between its ends: the sides of its chord, its gap, and whether it is right of the chord.
 #[derive(Clone, Copy)]
@@ -50,37 +49,13 @@ fn counts(bend: Bend, k: u32) -> bool
     }
 }
 
-/// How many columns from the base count, if those before `low` do and those from `high` on do not. It is looked for from a column
-/// on, by steps that double.
-fn count_between(bend: Bend, low: u32, high: u32, from: u32, stop: u32) -> u32
-    requires order { low ≤ high }
-    requires high { high ≤ stop }
-    requires few { stop ≤ greatest_side + 2 }
-    requires first { CountsFirst bend stop }
-    requires inside { (k : ℕ) → k < low → CountsAt bend k }
-    requires outside { (k : ℕ) → high ≤ k → k < stop → ¬ (CountsAt bend k) }
-    ensures within { result ≤ stop }
-    ensures inside { (k : ℕ) → k < result → CountsAt bend k }
-    ensures outside { (k : ℕ) → result ≤ k → k < stop → ¬ (CountsAt bend k) }
-{
-    let mut low = low;
-    let mut high = high;
-    let mut at = from;
-    let mut step = 1;
-    // The columns before `low` count, and those from `high` on do not.
-    'columns: while low < high {
-        let here = within(low, high, at);
-        let reach = step.min((high - low) / 2);
-        if counts(bend, here) {
-            low = here + 1;
-            at = low + reach;
-        } else {
-            high = here;
-            at = here.saturating_sub(1 + reach);
-        }
-        step = 2 * reach + 1;
-    }
-    low
+/// Where the columns that count end: those before `low` count, and those from `high` on do not. The end is looked for from a
+/// column on.
+#[derive(Clone, Copy)]
+struct Window {
+    low: u32,
+    high: u32,
+    from: u32,
 }
 
 /// Whether the column before an end does not count.
@@ -101,6 +76,69 @@ fn is_short(bend: Bend, end: u32, stop: u32) -> bool
     end < stop && counts(bend, end)
 }
 
+/// Where the columns that count end, as far as a guess tells: the columns beside it are tested.
+fn window_of(bend: Bend, guess: u32, stop: u32) -> Window
+    requires few { stop ≤ greatest_side + 2 }
+    requires first { CountsFirst bend stop }
+    ensures order { result.low ≤ result.high }
+    ensures high { result.high ≤ stop }
+    ensures inside { (k : ℕ) → k < result.low → CountsAt bend k }
+    ensures outside { (k : ℕ) → result.high ≤ k → k < stop → ¬ (CountsAt bend k) }
+{
+    let end = if guess < stop { guess } else { stop };
+    if is_past(bend, end) {
+        return Window {
+            low: 0,
+            high: end - 1,
+            from: end.saturating_sub(2),
+        };
+    }
+    if is_short(bend, end, stop) {
+        return Window {
+            low: end + 1,
+            high: stop,
+            from: end + 1,
+        };
+    }
+    Window {
+        low: end,
+        high: end,
+        from: end,
+    }
+}
+
+/// How many columns from the base count, looked for in a window by steps that double.
+fn count_in(bend: Bend, window: Window, stop: u32) -> u32
+    requires order { window.low ≤ window.high }
+    requires high { window.high ≤ stop }
+    requires few { stop ≤ greatest_side + 2 }
+    requires first { CountsFirst bend stop }
+    requires inside { (k : ℕ) → k < window.low → CountsAt bend k }
+    requires outside { (k : ℕ) → window.high ≤ k → k < stop → ¬ (CountsAt bend k) }
+    ensures within { result ≤ stop }
+    ensures inside { (k : ℕ) → k < result → CountsAt bend k }
+    ensures outside { (k : ℕ) → result ≤ k → k < stop → ¬ (CountsAt bend k) }
+{
+    let mut low = window.low;
+    let mut high = window.high;
+    let mut at = window.from;
+    let mut step = 1;
+    // The columns before `low` count, and those from `high` on do not.
+    'columns: while low < high {
+        let here = within(low, high, at);
+        let reach = step.min((high - low) / 2);
+        if counts(bend, here) {
+            low = here + 1;
+            at = low + reach;
+        } else {
+            high = here;
+            at = here.saturating_sub(1 + reach);
+        }
+        step = 2 * reach + 1;
+    }
+    low
+}
+
 /// How many columns from the base count. A guess changes how soon that is found, and nothing else.
 fn count_of(bend: Bend, guess: u32, stop: u32) -> u32
     requires few { stop ≤ greatest_side + 2 }
@@ -109,14 +147,7 @@ fn count_of(bend: Bend, guess: u32, stop: u32) -> u32
     ensures inside { (k : ℕ) → k < result → CountsAt bend k }
     ensures outside { (k : ℕ) → result ≤ k → k < stop → ¬ (CountsAt bend k) }
 {
-    let end = if guess < stop { guess } else { stop };
-    if is_past(bend, end) {
-        return count_between(bend, 0, end - 1, end.saturating_sub(2), stop);
-    }
-    if is_short(bend, end, stop) {
-        return count_between(bend, end + 1, stop, end + 1, stop);
-    }
-    end
+    count_in(bend, window_of(bend, guess, stop), stop)
 }
 
 /// The x of the lower end of a chord.
@@ -131,8 +162,12 @@ fn low_end(piece: &Piece) -> i32
 }
 
 /// Where the columns that count are likely to end on an arc's lowest row: at its chord's lower end.
-pub(crate) fn first_guess(piece: &Piece, strip: Strip) -> u32 {
-    columns_before(strip, first_from(low_end(piece)))
+pub(crate) fn first_guess(piece: &Piece, frame: Frame) -> u32 {
+    let col = first_from(low_end(piece));
+    if col <= frame.left {
+        return 0;
+    }
+    (col - frame.left) as u32
 }
 
 /// The column beside the end that is on a bent arc, if it is. No other can be.

@@ -1,6 +1,6 @@
 //! The rows of a band that a piece can touch, and those that its chord passes between its ends.
 
-ghost use Rattle.std.specs.Prelude.{◌≡◌, ◌⊎◌, ℕ, ◌+◌, ◌^◌, ◌<◌, ◌≤◌, pos, ◌+ℤ◌, ◌*ℤ◌, ◌<ℤ◌, ◌≤ℤ◌, IsTrue};
+ghost use Rattle.std.specs.Prelude.{◌⊎◌, ℕ, ◌+◌, ◌^◌, ◌<◌, ◌≤◌, pos, ◌+ℤ◌, ◌*ℤ◌, ◌<ℤ◌, ◌≤ℤ◌, IsTrue};
 ghost use Rattle.fx_fixed.specs.Ranges.{IsWithin};
 ghost use Rattle.fx_winding.specs.Limits.{IsPixelNumber};
 ghost use Rattle.fx_winding.specs.Winding.{span_of};
@@ -56,7 +56,8 @@ fn clamped(n: u32, low: u32, high: u32) -> u32
 /// The rows of a frame that a piece can touch.
 pub(crate) fn rows_met(piece: &Piece, frame: Frame) -> RowRange
     ensures within { result.end ≤ frame.height }
-    ensures missed { (r : ℕ) → r < frame.height → (r < result.first) ⊎ (result.end ≤ r) → IsMissed (span_of piece.now) (height_of frame r) }
+    ensures missed { (r : ℕ) → r < frame.height → (r < result.first) ⊎ (result.end ≤ r) →
+        IsMissed (span_of piece.now) (height_of frame r) }
 {
     let first = rows_below(frame, first_from(low_y(piece)));
     let end = rows_below(frame, first_from(high_y(piece) + 1));

@@ -32,4 +32,5 @@ returns-clause-added c = λ s h.
     c.deref_mut-2.ensures.value (sym (with_items_is b.touched c.add_before.new.touched (omega arith)))
     c.deref_mut-3.ensures.value (sym (with_items_is b.marks c.mark.new.line (omega arith)))
     (subst (λ (n : ℕ). Added s b.frame c.args.strip.row n c.deref_mut.result.now c.add_before.new.diff
-    c.deref_mut-2.result.now c.add_before.new.touched c.deref_mut-3.result.now c.mark.new.line) c.first_of-first.ensures.value added)
+    c.deref_mut-2.result.now c.add_before.new.touched c.deref_mut-3.result.now c.mark.new.line)
+    c.first_of-first.ensures.value added)

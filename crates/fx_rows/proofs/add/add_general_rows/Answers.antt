@@ -46,10 +46,11 @@ returns-clause-frame c = c.rows.invariant.frame
 pub returns-clause-added : goal.returns-clause-added
 returns-clause-added c =
     let e : c.rows.up ≡ c.args.rows.end = omega (arith, c.args.rows.order) in
-    subst (λ (p : Piece). IsBandAdded (span_of p) c.args.band.now.frame c.args.rows.first c.args.rows.end c.args.band.now c.rows.band)
+    subst (λ (p : Piece). IsBandAdded (span_of p) c.args.band.now.frame c.args.rows.first c.args.rows.end c.args.band.now
+    c.rows.band)
     c.bounds_of-bounded.ensures.piece
-    (subst (λ (n : ℕ). IsBandAdded (bounded_span c.bounds_of-bounded.result) c.args.band.now.frame c.args.rows.first n c.args.band.now
-    c.rows.band) e c.rows.invariant.added)
+    (subst (λ (n : ℕ). IsBandAdded (bounded_span c.bounds_of-bounded.result) c.args.band.now.frame c.args.rows.first n
+    c.args.band.now c.rows.band) e c.rows.invariant.added)
 
 pub returns-clause-count : goal.returns-clause-count
 returns-clause-count c =

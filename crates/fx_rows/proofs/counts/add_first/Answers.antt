@@ -12,14 +12,16 @@ returns-clause-high c = λ n h.
     let e = before_high n c.args.diff.now c.args.first
     (to_z w32 (of_z w32 (to_z w32 (of_z w32 (get_or c.args.diff.now c.args.first (pos 0))) +ℤ to_z w32
     (of_z w32 c.args.value)))) h c.requires.at in
-    let x : to_z w32 (of_z w32 (to_z w32 (of_z w32 (get_or c.args.diff.now c.args.first (pos 0))) +ℤ to_z w32 (of_z w32 c.args.value)))
+    let x : to_z w32 (of_z w32 (to_z w32 (of_z w32 (get_or c.args.diff.now c.args.first (pos 0))) +ℤ to_z w32
+    (of_z w32 c.args.value)))
     ≡ get_or c.args.diff.now c.args.first (pos 0) +ℤ c.args.value = omega (arith, signed_linear, old, c.requires.value) in
     omega (arith, signed_linear, e, x)
 
 pub returns-clause-grown : goal.returns-clause-grown
 returns-clause-grown c = λ n w.
     let old = c.requires.small c.args.first in
-    let x : to_z w32 (of_z w32 (to_z w32 (of_z w32 (get_or c.args.diff.now c.args.first (pos 0))) +ℤ to_z w32 (of_z w32 c.args.value)))
+    let x : to_z w32 (of_z w32 (to_z w32 (of_z w32 (get_or c.args.diff.now c.args.first (pos 0))) +ℤ to_z w32
+    (of_z w32 c.args.value)))
     ≡ get_or c.args.diff.now c.args.first (pos 0) +ℤ c.args.value = omega (arith, signed_linear, old, c.requires.value) in
     within_set n c.args.diff.now c.args.first _ c.args.value c.requires.at x c.requires.value w
 

@@ -15,7 +15,8 @@ returns-then-y-low_y c = λ t.
     let y : to_z w32 (of_z w32 (to_z w32 (of_z w32 (pos 128 *ℤ to_z w32 (of_z w32 row))) +ℤ pos 64)) ≡ pos 128 *ℤ row +ℤ pos 64 =
     omega (arith, signed) in
     let low : to_z w32 (of_z w32 c.low_y.result) ≡ c.low_y.result = omega (arith, signed_linear, c.low_y.ensures.size) in
-    let l = less (to_z w32 (of_z w32 (to_z w32 (of_z w32 (pos 128 *ℤ to_z w32 (of_z w32 row))) +ℤ pos 64))) (to_z w32 (of_z w32 c.low_y.result)) t in
+    let l = less (to_z w32 (of_z w32 (to_z w32 (of_z w32 (pos 128 *ℤ to_z w32 (of_z w32 row))) +ℤ pos 64)))
+    (to_z w32 (of_z w32 c.low_y.result)) t in
     inl (HasAll-weaker (λ q. c.low_y.result ≤ℤ q.y) (λ q. (pos 128 *ℤ row +ℤ pos 64) <ℤ q.y)
     (λ q h. omega (arith, signed_linear, y, low, l, h)) (span_of c.args.piece.now) c.low_y.ensures.low)
 
@@ -25,6 +26,7 @@ returns-else-y-low_y c = λ t.
     let y : to_z w32 (of_z w32 (to_z w32 (of_z w32 (pos 128 *ℤ to_z w32 (of_z w32 row))) +ℤ pos 64)) ≡ pos 128 *ℤ row +ℤ pos 64 =
     omega (arith, signed) in
     let high : to_z w32 (of_z w32 c.high_y.result) ≡ c.high_y.result = omega (arith, signed_linear, c.high_y.ensures.size) in
-    let l = less (to_z w32 (of_z w32 c.high_y.result)) (to_z w32 (of_z w32 (to_z w32 (of_z w32 (pos 128 *ℤ to_z w32 (of_z w32 row))) +ℤ pos 64))) t in
+    let l = less (to_z w32 (of_z w32 c.high_y.result))
+    (to_z w32 (of_z w32 (to_z w32 (of_z w32 (pos 128 *ℤ to_z w32 (of_z w32 row))) +ℤ pos 64))) t in
     inr (HasAll-weaker (λ q. q.y ≤ℤ c.high_y.result) (λ q. q.y <ℤ (pos 128 *ℤ row +ℤ pos 64))
     (λ q h. omega (arith, signed_linear, y, high, l, h)) (span_of c.args.piece.now) c.high_y.ensures.high)

@@ -91,7 +91,8 @@ returns-clause-counted c = record {
     all : (r k : ℕ) → r < f.height → k < f.width
         → (mark_at c.pieces.band (r * stride f.width + k) ≡ false → turns_at c.pieces.band (r * stride f.width + k)
         ≡ winding (centre (f.left +ℤ pos k) (f.bottom +ℤ pos r)) spans)
-        × (IsTrue (mark_at c.pieces.band (r * stride f.width + k)) ↔ Any (IsOn (centre (f.left +ℤ pos k) (f.bottom +ℤ pos r))) spans)
+        × (IsTrue (mark_at c.pieces.band (r * stride f.width + k)) ↔
+        Any (IsOn (centre (f.left +ℤ pos k) (f.bottom +ℤ pos r))) spans)
     all r k h l =
         let done : c.pieces.piece-index ≡ length spans = omega (arith, length-map c.args.pieces.now span_of) in
         counted_all (centre (f.left +ℤ pos k) (f.bottom +ℤ pos r)) spans c.pieces.piece-index
@@ -105,7 +106,8 @@ returns-clause-small c = λ n. by n
     f = c.args.band.now.frame
 
     after : (n : ℕ)
-        → IsNumber f.width f.height n ⊎ ((r : ℕ) → 0 ≤ r → r < f.height → (n < r * stride f.width) ⊎ (r * stride f.width + f.width ≤ n))
+        → IsNumber f.width f.height n ⊎
+        ((r : ℕ) → 0 ≤ r → r < f.height → (n < r * stride f.width) ⊎ (r * stride f.width + f.width ≤ n))
         → IsWithin (2 ^ 20) (before (n + 1) c.pieces.band.diff.items)
     after n (inl (r, k, h, l, e)) =
         let size = (c.pieces.invariant.counted r k h l).size in

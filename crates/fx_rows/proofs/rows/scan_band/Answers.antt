@@ -24,8 +24,10 @@ set_row-requires-clause-row c =
     let f = c.frame.ensures.value in
     let bottom = ap (λ (f : Frame). f.bottom) f in
     let ob = o.bottom in
-    let r = c.requires.high in
-    (omega (arith, signed_linear, row, v, base, low, bottom, ob), omega (arith, signed_linear, row, v, base, low, high, bottom, ob, r))
+    let r = c.requires.high in (
+      omega (arith, signed_linear, row, v, base, low, bottom, ob),
+      omega (arith, signed_linear, row, v, base, low, high, bottom, ob, r),
+    )
 
 pub rows-preserved : goal.rows-preserved
 rows-preserved c =
@@ -74,7 +76,8 @@ rows-preserved c =
           let e : done + 1 ≡ c.args.from + (up + 1) = omega arith in
           subst (λ (b : Bits). IsScanned ss b (c.args.from + (up + 1))) (sym c.set_row.ensures)
           (subst (λ (m : ℕ). IsScanned ss (with_row b at (bits_in b.frame.width words)) m) e
-          (scanned_row ss b done at (bits_in b.frame.width words) inv.scanned (omega (arith, height, high, oh, r, ap (λ (f : Frame). f.height) c.frame.ensures.value))
+          (scanned_row ss b done at (bits_in b.frame.width words) inv.scanned
+          (omega (arith, height, high, oh, r, ap (λ (f : Frame). f.height) c.frame.ensures.value))
           is (length-bits_in b.frame.width words) set));
     }
 

@@ -1,7 +1,7 @@
 use Rattle.std.proofs.Common.{◌≡◌, IsTrue, Bool, true, false, arith}
 use Rattle.fx_rows.specs.inner.Cuts.{CountsAt}
-use Rattle.fx_rows.proofs.cut.count_between.Goals as goal
-use Rattle.fx_rows.proofs.cut.count_between.Goals.{then-counts, else-counts}
+use Rattle.fx_rows.proofs.cut.count_in.Goals as goal
+use Rattle.fx_rows.proofs.cut.count_in.Goals.{then-counts, else-counts}
 
 yes : (b : Bool) → b ≡ true → IsTrue b
 yes b e = grind arith

@@ -1,6 +1,6 @@
 use Rattle.std.proofs.Common.{ℕ, ◌-◌, ◌<◌, ◌≤◌}
 use Rattle.fx_rows.specs.inner.Cuts.{CountsAt}
-use Rattle.fx_rows.proofs.cut.count_between.Given as goal
+use Rattle.fx_rows.proofs.cut.count_in.Given as goal
 
 abbrev pub invariant-columns : goal.invariant-columns
 invariant-columns l = record {

@@ -1,5 +1,5 @@
 use Rattle.std.proofs.Common.{◌≡◌, ◌-◌, Bool, true, false, IsTrue, arith}
-use Rattle.fx_rows.proofs.cut.count_of.Goals as goal
+use Rattle.fx_rows.proofs.cut.window_of.Goals as goal
 
 yes : (b : Bool) → b ≡ true → IsTrue b
 yes b e = grind arith
@@ -7,14 +7,14 @@ yes b e = grind arith
 no : (b : Bool) → b ≡ false → IsTrue b → ⊥
 no b e t = grind arith
 
-pub count_between-requires-clause-outside : goal.count_between-requires-clause-outside
-count_between-requires-clause-outside c = λ k h l n.
+pub returns-then-is_past-clause-outside : goal.returns-then-is_past-clause-outside
+returns-then-is_past-clause-outside c = λ k h l n.
     let end = c.if-guess-stop.end in
     let p = c.is_past.ensures.past (yes c.is_past.result c.if-is_past.true) in
     p.1 (c.requires.first (end - 1) k h l n)
 
-pub count_between-requires-then-is_short-clause-inside : goal.count_between-requires-then-is_short-clause-inside
-count_between-requires-then-is_short-clause-inside c = λ k h.
+pub returns-then-is_short-clause-inside : goal.returns-then-is_short-clause-inside
+returns-then-is_short-clause-inside c = λ k h.
     let end = c.if-guess-stop.end in
     let p = c.is_short.ensures.short (yes c.is_short.result c.if-is_short.true) in
     c.requires.first k end (omega arith) p.0 p.1
