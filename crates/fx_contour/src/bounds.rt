@@ -83,6 +83,7 @@ impl Bounds {
         Some(bounds)
     }
 
+    /// An extent in 1/128 pixel.
     fn doubled(extent: Extent) -> Bounds
         requires { KeepsLimit extent }
         ensures { (side : Side) (t : ℤ) → Reaches result side t ↔ Extends extent side t }

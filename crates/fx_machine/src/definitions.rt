@@ -45,7 +45,7 @@ fn copy_front(functions: &mut [Option<Function>], other: &[Option<Function>], co
 }
 
 impl FunctionTable {
-    /// No function, of this number.
+    /// A table of this many numbers without a function.
     fn new(alloc: Global, count: usize) -> Result<FunctionTable, AllocError>
         ensures { IfOk result (λ t. t ≡ replicate count None) }
     {

@@ -44,8 +44,8 @@ fn part_end(len: usize, count: usize) -> usize
     }
 }
 
-/// A list of zeros. It is written part by part: a part is short enough for plain stores, and many C libraries write longer runs
-/// byte by byte.
+/// A list of zeros, written part by part: glibc makes a longer run by one repeated instruction, which takes no less time and which
+/// profilers count once a byte.
 fn zeros(alloc: Global, count: usize) -> Result<Vec<i32>, AllocError>
     ensures { IfOk result (λ v. v.items ≡ replicate count (pos 0)) }
 {

@@ -82,6 +82,7 @@ fn see<S: Scan, H: Hinter>(
 {
     let mut seen = Seen::new();
     let mut map = opened.map.cursor();
+    // `seen` is what is seen of the code points before this one.
     'codes: for code in codes {
         let glyph = map.glyph(*code);
         if glyph == 0 {
