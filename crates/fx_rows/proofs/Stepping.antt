@@ -27,6 +27,15 @@ pub strip_row : (strip : Strip) (n row : ℤ) → IsPixelNumber n → strip.row 
 strip_row strip n row near h e =
     let same : to_z w32 (of_z w32 n) ≡ n = omega (arith, signed_linear, near) in h ∙ same ∙ e
 
+-- a row before the last is one of the frame
+pub row_in : (f g : Frame) (up end : ℕ) → g ≡ f → end ≤ f.height → up < end → up < g.height
+row_in f g up end e r l = let h = ap (λ (x : Frame). x.height) e in omega (arith, h, r, l)
+
+-- the value of a rise, as a call is handed it
+pub rise_value : (b : Bounded) (z : ℤ) → b.rise.value ≡ z → to_z w32 (of_z w32 b.rise.value) ≡ z
+rise_value b z e =
+    let v : to_z w32 (of_z w32 b.rise.value) ≡ b.rise.value = omega (arith, signed_linear, b.rise.small) in v ∙ e
+
 pub inner_row : (b : Bounded) (f g : Frame) (from to up : ℕ) (row : ℤ) → g ≡ f → row ≡ g.bottom +ℤ pos up → AreInner b f from to
     → from ≤ up → up < to → IsInner b.piece.a.y b.piece.c.y (pos 128 *ℤ row +ℤ pos 64)
 inner_row b f g from to up row e h inner l m =
@@ -49,6 +58,11 @@ pub band_next : (s : Span) (f g : Frame) (row : ℤ) (from up : ℕ) (old now ne
 band_next s f g row from up old now new l e at h r =
     band_more s f from up old now new l h (subst (λ (x : Frame). IsRowAdded s x (x.bottom +ℤ pos up) (up * stride x.width) now new)
     e (subst (λ (y : ℤ). IsRowAdded s g y (up * stride g.width) now new) at r))
+
+-- all rows
+pub band_end : (s : Span) (f : Frame) (from up end : ℕ) (old new : Band) → up ≡ end → IsBandAdded s f from up old new
+    → IsBandAdded s f from end old new
+band_end s f from up end old new e h = subst (λ (n : ℕ). IsBandAdded s f from n old new) e h
 
 -- the areas at the base of a strip
 pub base_areas : (s : Span) (f g : Frame) (strip : Strip) (up : ℕ) (areas : Weights) → g ≡ f → strip.row ≡ g.bottom +ℤ pos up

@@ -1,9 +1,7 @@
-use Rattle.std.proofs.Common.{◌≡◌, ◌∙◌, refl, ap, subst, ℕ, arith, w32, to_z, of_z}
-use Rattle.fx_fixed.proofs.Linear.{signed_linear}
-use Rattle.fx_winding.specs.declared.frame.Frame.{Frame}
-use Rattle.fx_rows.specs.inner.Bands.{bounded_span, IsBandAdded}
+use Rattle.std.proofs.Common.{◌∙◌, refl, arith}
+use Rattle.fx_rows.specs.inner.Bands.{bounded_span}
 use Rattle.fx_rows.proofs.Banding.{band_none}
-use Rattle.fx_rows.proofs.Stepping.{strip_row, inner_row, band_small, cut_inside, band_next}
+use Rattle.fx_rows.proofs.Stepping.{strip_row, row_in, rise_value, inner_row, band_small, cut_inside, band_next, band_end}
 use Rattle.fx_rows.proofs.add.add_clear_rows.Goals as goal
 
 pub rows-init : goal.rows-init
@@ -14,7 +12,7 @@ rows-init c = record {
 
 pub row_of-requires : goal.row_of-requires
 row_of-requires c =
-    let e = ap (λ (f : Frame). f.height) c.rows.invariant.frame in let r = c.requires.rows in omega (arith, e, r)
+    row_in c.args.band.now.frame c.rows.band.frame c.rows.up c.args.rows.end c.rows.invariant.frame c.requires.rows (omega arith)
 
 pub clear_cut-cut-requires-clause-inner : goal.clear_cut-cut-requires-clause-inner
 clear_cut-cut-requires-clause-inner c =
@@ -24,13 +22,11 @@ clear_cut-cut-requires-clause-inner c =
     c.strip_of-strip.result.row c.rows.invariant.frame at c.requires.inner (omega arith) (omega arith)
 
 pub clear_cut-cut-requires-clause-value : goal.clear_cut-cut-requires-clause-value
-clear_cut-cut-requires-clause-value c =
-    let b = c.args.bounded.now in
-    let v : to_z w32 (of_z w32 b.rise.value) ≡ b.rise.value = omega (arith, signed_linear, b.rise.small) in v ∙ c.requires.value
+clear_cut-cut-requires-clause-value c = rise_value c.args.bounded.now _ c.requires.value
 
 pub add_cut-requires-clause-up : goal.add_cut-requires-clause-up
 add_cut-requires-clause-up c =
-    let e = ap (λ (f : Frame). f.height) c.rows.invariant.frame in let r = c.requires.rows in omega (arith, e, r)
+    row_in c.args.band.now.frame c.rows.band.frame c.rows.up c.args.rows.end c.rows.invariant.frame c.requires.rows (omega arith)
 
 pub add_cut-requires-clause-small : goal.add_cut-requires-clause-small
 add_cut-requires-clause-small c =
@@ -64,6 +60,5 @@ returns-clause-frame c = c.rows.invariant.frame
 
 pub returns-clause-added : goal.returns-clause-added
 returns-clause-added c =
-    let e : c.rows.up ≡ c.args.rows.end = omega (arith, c.args.rows.order) in
-    subst (λ (n : ℕ). IsBandAdded (bounded_span c.args.bounded.now) c.args.band.now.frame c.args.rows.first n c.args.band.now
-    c.rows.band) e c.rows.invariant.added
+    band_end (bounded_span c.args.bounded.now) c.args.band.now.frame c.args.rows.first c.rows.up c.args.rows.end c.args.band.now
+    c.rows.band (omega (arith, c.args.rows.order)) c.rows.invariant.added
