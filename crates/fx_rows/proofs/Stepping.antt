@@ -1,6 +1,6 @@
 -- From one row of a band to the next: the frame, the row and the base of a strip, what the rows before have, and the areas.
 -- Serves the loops over a piece's rows.
-use Rattle.std.proofs.Common.{◌≡◌, ◌∙◌, refl, ap, sym, subst, ◌+◌, ◌*◌, ◌^◌, ◌<◌, ◌≤◌, ℕ, ℤ, pos, ◌+ℤ◌, ◌*ℤ◌, ◌<ℤ◌, arith}
+use Rattle.std.proofs.Common.{◌≡◌, ◌∙◌, ap, sym, subst, ◌+◌, ◌*◌, ◌^◌, ◌<◌, ◌≤◌, ℕ, ℤ, pos, ◌+ℤ◌, ◌*ℤ◌, ◌<ℤ◌, arith}
 use Rattle.std.proofs.Common.{w32, to_z, of_z}
 use Rattle.fx_fixed.proofs.Linear.{signed_linear}
 use Rattle.fx_winding.specs.Limits.{IsPixelNumber, end_of_pixels}
@@ -18,7 +18,7 @@ use Rattle.fx_rows.specs.inner.Inside.{IsOnInside}
 use Rattle.fx_rows.specs.inner.Cuts.{IsCut}
 use Rattle.fx_rows.specs.inner.Sums.{AreWithin}
 use Rattle.fx_rows.specs.inner.Bands.{stride, AreInner, IsRowAdded, IsBandAdded}
-use Rattle.fx_rows.proofs.Banding.{band_more, row_height}
+use Rattle.fx_rows.proofs.Banding.{band_more}
 use Rattle.fx_rows.proofs.Counted.{on_inside}
 use Rattle.fx_rows.proofs.Parts.{formed_frame}
 
@@ -39,7 +39,8 @@ rise_value b z e =
 pub inner_row : (b : Bounded) (f g : Frame) (from to up : ℕ) (row : ℤ) → g ≡ f → row ≡ g.bottom +ℤ pos up → AreInner b f from to
     → from ≤ up → up < to → IsInner b.piece.a.y b.piece.c.y (pos 128 *ℤ row +ℤ pos 64)
 inner_row b f g from to up row e h inner l m =
-    subst (IsInner b.piece.a.y b.piece.c.y) (sym (row_height f g up row (g.bottom +ℤ pos up) e h refl)) (inner up l m)
+    subst (λ (r : ℤ). IsInner b.piece.a.y b.piece.c.y (pos 128 *ℤ r +ℤ pos 64)) (sym (h ∙ ap (λ (x : Frame). x.bottom +ℤ pos up) e))
+    (inner up l m)
 
 -- what the rows before have is small enough for one more
 pub band_small : (s : Span) (f : Frame) (from up : ℕ) (old now : Band) → IsBandAdded s f from up old now
