@@ -1,7 +1,7 @@
 -- What pieces add to a band, row by row.
 -- Serves the rows of a piece, and the pieces of a band.
 use Rattle.std.proofs.Common.{◌≡◌, ◌⊎◌, inl, inr, refl, sym, ap, ◌∙◌, subst, ℕ, zero, suc, ◌+◌, ◌-◌, ◌*◌, ◌/◌, ◌<◌, ◌≤◌, ℤ}
-use Rattle.std.proofs.Common.{pos, ◌+ℤ◌, ◌*ℤ◌, Bool, false, arith, IsTrue, List, length}
+use Rattle.std.proofs.Common.{pos, ◌+ℤ◌, Bool, false, arith, IsTrue, List, length}
 use Rattle.std.proofs.Math.Nat.{mul-le-mul_right, mul-le-mul_left}
 use Rattle.fx_fixed.proofs.Order.{below_or_not}
 use Rattle.fx_fixed.proofs.Linear.{signed_linear}
@@ -80,12 +80,6 @@ row_added s f row at old new d d' t t' m m' ed ed' et et' em em' h =
       grown = a.grown;
       touches = a.touches;
     }
-
--- the height of a row
-pub row_height : (f g : Frame) (up : ℕ) (n row : ℤ) → g ≡ f → n ≡ row → row ≡ g.bottom +ℤ pos up
-    → pos 128 *ℤ n +ℤ pos 64 ≡ height_of f up
-row_height f g up n row e h k =
-    ap (λ (r : ℤ). pos 128 *ℤ r +ℤ pos 64) (h ∙ k ∙ ap (λ (x : Frame). x.bottom +ℤ pos up) e)
 
 -- ---- rows of one piece
 -- no row yet

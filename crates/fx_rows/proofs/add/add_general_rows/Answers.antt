@@ -1,10 +1,9 @@
-use Rattle.std.proofs.Common.{◌≡◌, ◌∙◌, refl, ap, subst, ◌*◌, ◌^◌, ℕ, pos, ◌+ℤ◌, arith}
-use Rattle.fx_fixed.proofs.Linear.{signed_linear}
+use Rattle.std.proofs.Common.{◌≡◌, ◌∙◌, refl, subst, pos, ◌+ℤ◌, arith}
 use Rattle.fx_winding.specs.Winding.{span_of}
 use Rattle.fx_winding.specs.declared.point.Piece.{Piece}
-use Rattle.fx_winding.specs.declared.frame.Frame.{Frame}
-use Rattle.fx_rows.specs.inner.Bands.{stride, bounded_span, IsRowAdded, IsBandAdded}
-use Rattle.fx_rows.proofs.Banding.{band_none, band_more}
+use Rattle.fx_rows.specs.inner.Bands.{bounded_span, IsBandAdded}
+use Rattle.fx_rows.proofs.Banding.{band_none}
+use Rattle.fx_rows.proofs.Stepping.{row_in, band_small, band_next, band_end}
 use Rattle.fx_rows.proofs.add.add_general_rows.Goals as goal
 
 pub rows-init : goal.rows-init
@@ -16,14 +15,14 @@ rows-init c = record {
 
 pub add_met-requires-clause-up : goal.add_met-requires-clause-up
 add_met-requires-clause-up c =
-    let e = ap (λ (f : Frame). f.height) c.rows.invariant.frame in let r = c.requires.rows in omega (arith, e, r)
+    row_in c.args.band.now.frame c.rows.band.frame c.rows.up c.args.rows.end c.rows.invariant.frame c.requires.rows (omega arith)
 
 pub add_met-requires-clause-small : goal.add_met-requires-clause-small
-add_met-requires-clause-small c = λ k.
-    let e = c.rows.invariant.added.grown (2 ^ 25) c.requires.small k in
+add_met-requires-clause-small c =
     let few = c.args.band.now.few in
     let r = c.requires.rows in
-    omega (arith, signed_linear, e, few, r)
+    band_small (bounded_span c.bounds_of-bounded.result) c.args.band.now.frame c.args.rows.first c.rows.up c.args.band.now
+    c.rows.band c.rows.invariant.added c.requires.small (omega (arith, few, r))
 
 pub rows-preserved : goal.rows-preserved
 rows-preserved c =
@@ -34,9 +33,8 @@ rows-preserved c =
     let m = inv.count in
     record {
       frame = c.add_met.ensures.frame ∙ inv.frame;
-      added = band_more s c.args.band.now.frame c.args.rows.first up c.args.band.now c.rows.band c.add_met.new.band (omega arith)
-          inv.added (subst (λ (f : Frame). IsRowAdded s f (f.bottom +ℤ pos up) (up * stride f.width) c.rows.band c.add_met.new.band)
-          inv.frame c.add_met.ensures.added);
+      added = band_next s c.args.band.now.frame c.rows.band.frame (c.rows.band.frame.bottom +ℤ pos up) c.args.rows.first up
+          c.args.band.now c.rows.band c.add_met.new.band (omega arith) inv.frame refl inv.added c.add_met.ensures.added;
       count = omega (arith, n, m);
     }
 
@@ -45,12 +43,11 @@ returns-clause-frame c = c.rows.invariant.frame
 
 pub returns-clause-added : goal.returns-clause-added
 returns-clause-added c =
-    let e : c.rows.up ≡ c.args.rows.end = omega (arith, c.args.rows.order) in
     subst (λ (p : Piece). IsBandAdded (span_of p) c.args.band.now.frame c.args.rows.first c.args.rows.end c.args.band.now
     c.rows.band)
     c.bounds_of-bounded.ensures.piece
-    (subst (λ (n : ℕ). IsBandAdded (bounded_span c.bounds_of-bounded.result) c.args.band.now.frame c.args.rows.first n
-    c.args.band.now c.rows.band) e c.rows.invariant.added)
+    (band_end (bounded_span c.bounds_of-bounded.result) c.args.band.now.frame c.args.rows.first c.rows.up c.args.rows.end
+    c.args.band.now c.rows.band (omega (arith, c.args.rows.order)) c.rows.invariant.added)
 
 pub returns-clause-count : goal.returns-clause-count
 returns-clause-count c =

@@ -1,0 +1,91 @@
+-- From one row of a band to the next: the frame, the row and the base of a strip, what the rows before have, and the areas.
+-- Serves the loops over a piece's rows.
+use Rattle.std.proofs.Common.{◌≡◌, ◌∙◌, ap, sym, subst, ◌+◌, ◌*◌, ◌^◌, ◌<◌, ◌≤◌, ℕ, ℤ, pos, ◌+ℤ◌, ◌*ℤ◌, ◌<ℤ◌, arith}
+use Rattle.std.proofs.Common.{w32, to_z, of_z}
+use Rattle.fx_fixed.proofs.Linear.{signed_linear}
+use Rattle.fx_winding.specs.Limits.{IsPixelNumber, end_of_pixels}
+use Rattle.fx_winding.specs.Winding.{Span, centre}
+use Rattle.fx_winding.specs.declared.frame.Frame.{Frame}
+use Rattle.fx_winding.specs.declared.weights.Weights.{Weights}
+use Rattle.fx_rows.specs.declared.band.Band.{Band}
+use Rattle.fx_rows.specs.declared.bounded.Bounded.{Bounded}
+use Rattle.fx_rows.specs.declared.strip.Strip.{Strip}
+use Rattle.fx_rows.specs.declared.cells.Cut.{Cut}
+use Rattle.fx_rows.specs.inner.Points.{IsInner}
+use Rattle.fx_rows.specs.inner.Arcs.{AreAreas}
+use Rattle.fx_rows.specs.inner.Strips.{base_of, base_place}
+use Rattle.fx_rows.specs.inner.Inside.{IsOnInside}
+use Rattle.fx_rows.specs.inner.Cuts.{IsCut}
+use Rattle.fx_rows.specs.inner.Sums.{AreWithin}
+use Rattle.fx_rows.specs.inner.Bands.{stride, AreInner, IsRowAdded, IsBandAdded}
+use Rattle.fx_rows.proofs.Banding.{band_more}
+use Rattle.fx_rows.proofs.Counted.{on_inside}
+use Rattle.fx_rows.proofs.Parts.{formed_frame}
+
+-- the number of a row of pixels, as a strip holds it
+pub strip_row : (strip : Strip) (n row : ℤ) → IsPixelNumber n → strip.row ≡ to_z w32 (of_z w32 n) → n ≡ row → strip.row ≡ row
+strip_row strip n row near h e =
+    let same : to_z w32 (of_z w32 n) ≡ n = omega (arith, signed_linear, near) in h ∙ same ∙ e
+
+-- a row before the last is one of the frame
+pub row_in : (f g : Frame) (up end : ℕ) → g ≡ f → end ≤ f.height → up < end → up < g.height
+row_in f g up end e r l = let h = ap (λ (x : Frame). x.height) e in omega (arith, h, r, l)
+
+-- the value of a rise, as a call is handed it
+pub rise_value : (b : Bounded) (z : ℤ) → b.rise.value ≡ z → to_z w32 (of_z w32 b.rise.value) ≡ z
+rise_value b z e =
+    let v : to_z w32 (of_z w32 b.rise.value) ≡ b.rise.value = omega (arith, signed_linear, b.rise.small) in v ∙ e
+
+pub inner_row : (b : Bounded) (f g : Frame) (from to up : ℕ) (row : ℤ) → g ≡ f → row ≡ g.bottom +ℤ pos up → AreInner b f from to
+    → from ≤ up → up < to → IsInner b.piece.a.y b.piece.c.y (pos 128 *ℤ row +ℤ pos 64)
+inner_row b f g from to up row e h inner l m =
+    subst (λ (r : ℤ). IsInner b.piece.a.y b.piece.c.y (pos 128 *ℤ r +ℤ pos 64)) (sym (h ∙ ap (λ (x : Frame). x.bottom +ℤ pos up) e))
+    (inner up l m)
+
+-- what the rows before have is small enough for one more
+pub band_small : (s : Span) (f : Frame) (from up : ℕ) (old now : Band) → IsBandAdded s f from up old now
+    → AreWithin (2 ^ 25 + 4 * from) old.diff.items → up ≤ 128 → AreWithin (2 ^ 26) now.diff.items
+band_small s f from up old now h small l = λ k. let e = h.grown (2 ^ 25) small k in omega (arith, signed_linear, e, l)
+
+pub cut_inside : (s : Span) (strip : Strip) (frame : Frame) (cut : Cut) → strip.base +ℤ pos strip.start ≡ frame.left
+    → strip.base +ℤ pos strip.stop ≡ frame.left +ℤ pos frame.width → IsCut s strip cut → IsOnInside frame cut.on
+cut_inside s strip frame cut first last h =
+    on_inside s frame cut.on (formed_frame s strip frame cut.on first last h.on)
+
+-- rows of one frame, and then one more of the same frame
+pub band_next : (s : Span) (f g : Frame) (row : ℤ) (from up : ℕ) (old now new : Band) → from ≤ up → g ≡ f
+    → row ≡ g.bottom +ℤ pos up → IsBandAdded s f from up old now → IsRowAdded s g row (up * stride g.width) now new
+    → IsBandAdded s f from (up + 1) old new
+band_next s f g row from up old now new l e at h r =
+    band_more s f from up old now new l h (subst (λ (x : Frame). IsRowAdded s x (x.bottom +ℤ pos up) (up * stride x.width) now new)
+    e (subst (λ (y : ℤ). IsRowAdded s g y (up * stride g.width) now new) at r))
+
+-- all rows
+pub band_end : (s : Span) (f : Frame) (from up end : ℕ) (old new : Band) → up ≡ end → IsBandAdded s f from up old new
+    → IsBandAdded s f from end old new
+band_end s f from up end old new e h = subst (λ (n : ℕ). IsBandAdded s f from n old new) e h
+
+-- the areas at the base of a strip
+pub base_areas : (s : Span) (f g : Frame) (strip : Strip) (up : ℕ) (areas : Weights) → g ≡ f → strip.row ≡ g.bottom +ℤ pos up
+    → strip.base ≡ base_of g.left → AreAreas s (base_place f up) areas
+    → AreAreas s (centre (strip.base +ℤ pos 0) strip.row) areas
+base_areas s f g strip up areas e at base h =
+    let row = at ∙ ap (λ (x : Frame). x.bottom +ℤ pos up) e in
+    let column = base ∙ ap (λ (x : Frame). base_of x.left) e in
+    subst (λ z. z) (λ i. AreAreas s (centre (sym column i +ℤ pos 0) (sym row i)) areas) h
+
+-- the areas in the row above a strip
+pub next_areas : (s : Span) (f g : Frame) (strip : Strip) (up : ℕ) (areas : Weights) → g ≡ f → strip.row ≡ g.bottom +ℤ pos up
+    → strip.base ≡ base_of g.left → AreAreas s (centre (strip.base +ℤ pos 0) (strip.row +ℤ pos 1)) areas
+    → AreAreas s (base_place f (up + 1)) areas
+next_areas s f g strip up areas e at base h =
+    let row = at ∙ ap (λ (x : Frame). x.bottom +ℤ pos up) e in
+    let column = base ∙ ap (λ (x : Frame). base_of x.left) e in
+    let next : strip.row +ℤ pos 1 ≡ f.bottom +ℤ pos (up + 1) = omega (arith, signed_linear, row) in
+    subst (λ z. z) (λ i. AreAreas s (centre (column i +ℤ pos 0) (next i)) areas) h
+
+-- the row above a strip is a row of pixels, if the frame has it
+pub next_row_in : (f g : Frame) (row : ℤ) (up : ℕ) → g ≡ f → row ≡ g.bottom +ℤ pos up → up + 1 < f.height
+    → (row +ℤ pos 1) <ℤ end_of_pixels
+next_row_in f g row up e at l =
+    let is = at ∙ ap (λ (x : Frame). x.bottom +ℤ pos up) e in let top = f.rows.to in omega (arith, signed_linear, is, top, l)
