@@ -86,12 +86,7 @@ pub(crate) fn glyph_of<S: Scan>(
     let pieces = pieces_in_reach(alloc, &sketched.outline)?;
     let bitmap = bitmap_of(alloc, scan, &pieces, sketched.frame)?;
     let dwidth = whole_pixels(sketched.outline.advance);
-    Ok(BitGlyph::of(
-        code,
-        sketched.swidth,
-        dwidth,
-        bitmap,
-    ))
+    Ok(BitGlyph::of(code, sketched.swidth, dwidth, bitmap))
 }
 
 /// The glyph of a code point by its number in the font, or the first cause why there is none.
