@@ -5,8 +5,7 @@ use Rattle.std.proofs.Common.{pos, ◌+ℤ◌, Bool, false, arith, IsTrue, List,
 use Rattle.std.proofs.Math.Nat.{mul-le-mul_right, mul-le-mul_left}
 use Rattle.fx_fixed.proofs.Order.{below_or_not}
 use Rattle.fx_fixed.proofs.Linear.{signed_linear}
-use Rattle.fx_winding.specs.Bitmaps.{Bits, IsRowOf, IsScanOf, with_row}
-use Rattle.fx_winding.proofs.Scanned.{Scanned, scanned_more, scanned_all}
+use Rattle.fx_winding.specs.Bitmaps.{words_for}
 use Rattle.fx_winding.specs.Area.{Place}
 use Rattle.fx_winding.specs.Winding.{Span, centre}
 use Rattle.fx_winding.specs.declared.frame.Frame.{Frame}
@@ -16,7 +15,7 @@ use Rattle.fx_rows.specs.inner.Sums.{AreWithin}
 use Rattle.fx_rows.specs.inner.Cuts.{IsAdded}
 use Rattle.fx_rows.proofs.Counted.{Added}
 use Rattle.fx_rows.proofs.Parts.{missed}
-use Rattle.fx_rows.specs.inner.Bands.{IsScanned, stride, turns_at, mark_at, IsKept, IsRowAdded, IsBandAdded}
+use Rattle.fx_rows.specs.inner.Bands.{stride, turns_at, mark_at, IsKept, IsRowAdded, IsBandAdded}
 
 -- ---- numbers of different rows
 next_row : (r s : ℕ) → (r + 1) * s ≡ r * s + s
@@ -26,22 +25,18 @@ pub row_before : (r t s : ℕ) → r < t → r * s + s ≤ t * s
 row_before r t s h =
     let e = next_row r s in let l : r + 1 ≤ t = omega arith in let m = mul-le-mul_right s l in omega (arith, e, m)
 
-pub wide : (w : ℕ) → w < stride w
+wide : (w : ℕ) → w ≤ stride w
 wide w = omega arith
 
--- a row's words are among those of all rows
-pub word_in : (up high w first n : ℕ) → up < high → first ≡ up * stride w → n ≡ high * (w / 32 + 1) → (first + w) / 32 < n
-word_in up high w first n h e l = by (w / 32 + 1) refl
+-- a row's words are among those of all rows and one more
+pub word_in : (up high w first n : ℕ) → up < high → first ≡ up * stride w → n ≡ high * words_for w + 1 → (first + w) / 32 < n
+word_in up high w first n h e l = by (words_for w) (omega arith) e l
   where
-    by : (q : ℕ) → q ≡ w / 32 + 1 → (first + w) / 32 < n
-    by q is =
-        let m : up + 1 ≤ high = omega arith in
-        let rows = mul-le-mul_right q m in
-        let next = next_row up q in
+    by : (q : ℕ) → w ≤ 32 * q → first ≡ up * (32 * q) → n ≡ high * q + 1 → (first + w) / 32 < n
+    by q m f t =
+        let rows = row_before up high q h in
         let at : up * (32 * q) ≡ 32 * (up * q) = grind arith in
-        let f : first ≡ up * (32 * q) = e ∙ ap (λ (x : ℕ). up * (32 * x)) (sym is) in
-        let t : n ≡ high * q = l ∙ ap (λ (x : ℕ). high * x) (sym is) in
-        omega (arith, rows, next, at, f, t, is)
+        omega (arith, rows, at, f, t, m)
 
 -- ---- what stays
 pub kept_none : (b : Band) (n : ℕ) → IsKept b b n
@@ -216,44 +211,14 @@ after_last w high r k h l t z a = by (below_or_not r t) (below_or_not t r)
     by (inr b) (inl c) = let e = row_before t r (stride w) c in let x = wide w in inr (omega (arith, e, x))
     by (inr b) (inr c) = let e : r ≡ t = omega arith in inr (subst (λ (x : ℕ). x * stride w + w ≤ r * stride w + k) e (omega arith))
 
-pub number_in : (up high w k n : ℕ) → up < high → k < stride w → n ≡ high * (w / 32 + 1) → up * stride w + k < 32 * n
-number_in up high w k n h l e = by (w / 32 + 1) refl
+pub number_in : (up high w k n : ℕ) → up < high → k < stride w → n ≡ high * words_for w + 1 → up * stride w + k < 32 * n
+number_in up high w k n h l e = by (words_for w) l e
   where
-    by : (q : ℕ) → q ≡ w / 32 + 1 → up * stride w + k < 32 * n
-    by q is =
-        let m : up + 1 ≤ high = omega arith in
-        let rows = mul-le-mul_right q m in
-        let next = next_row up q in
+    by : (q : ℕ) → k < 32 * q → n ≡ high * q + 1 → up * (32 * q) + k < 32 * n
+    by q m t =
+        let rows = row_before up high q h in
         let at : up * (32 * q) ≡ 32 * (up * q) = grind arith in
-        let f : up * stride w ≡ up * (32 * q) = ap (λ (x : ℕ). up * (32 * x)) (sym is) in
-        let t : n ≡ high * q = e ∙ ap (λ (x : ℕ). high * x) (sym is) in
-        omega (arith, rows, next, at, f, t, is)
-
--- ---- the rows of a bitmap
-to_scanned : (ss : List Span) (b : Bits) (done : ℕ) → IsScanned ss b done → Scanned b.frame ss b done
-to_scanned ss b done h = record {
-  same = refl;
-  high = h.high;
-  rows = λ k l. record { wide = h.wide k l; bits = h.bits k l };
-}
-
-of_scanned : (ss : List Span) (b : Bits) (done : ℕ) → Scanned b.frame ss b done → IsScanned ss b done
-of_scanned ss b done s = record {
-  high = s.high;
-  wide = λ k l. (s.rows k l).wide;
-  bits = λ k l. (s.rows k l).bits;
-}
-
-pub scanned_row : (ss : List Span) (b : Bits) (done : ℕ) (row : ℤ) (line : List Bool) → IsScanned ss b done
-    → done < b.frame.height → row ≡ b.frame.bottom +ℤ pos done → length line ≡ b.frame.width → IsRowOf b.frame.left row ss line
-    → IsScanned ss (with_row b row line) (done + 1)
-scanned_row ss b done row line h l e w bits = of_scanned ss (with_row b row line) (done + 1)
-    (scanned_more b.frame ss b done row line (to_scanned ss b done h) l e w bits)
-
-pub scanned_whole : (ss : List Span) (f : Frame) (b : Bits) (done : ℕ) → b.frame ≡ f → done ≡ f.height → IsScanned ss b done
-    → IsScanOf f ss b
-scanned_whole ss f b done e d h =
-    scanned_all f ss b done d (subst (λ (g : Frame). Scanned g ss b done) e (to_scanned ss b done h))
+        omega (arith, rows, at, t, m)
 
 -- ---- counts of tests
 pub tests_more : (p u v : ℕ) → u ≤ v → p * (12 * u) + p * (12 * (v - u)) ≡ p * (12 * v)
@@ -271,8 +236,3 @@ tests_fit p u h d l =
     let n = mul-le-mul_left p m in
     let e : p * h * (6 * d + 12) ≡ p * (12 * h) + 6 * (p * h * d) = grind arith in
     omega (arith, n, e)
-
--- where the words of a row end
-pub words_end : (up high w n : ℕ) → up < high → n ≡ high * (w / 32 + 1) → up * (w / 32 + 1) + (w / 32 + 1) ≤ n
-words_end up high w n h e =
-    let r = row_before up high (w / 32 + 1) h in omega (arith, r, e)

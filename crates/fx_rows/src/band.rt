@@ -1,17 +1,19 @@
 //! The counts and the marks of a band of rows.
 //!
-//! The pixels of a band are numbered row by row, from the lowest. After a row's last pixel some numbers are left out, at least one:
-//! so a row begins a word of bits, and the difference after its last column is not the next row's.
+//! The pixels of a band are numbered row by row, from the lowest. After a row's last pixel the numbers up to the next multiple of 32
+//! are left out, so that each row begins a word of bits, as in a bitmap.
 
-ghost use Rattle.std.specs.Prelude.{◌≡◌, ◌+◌, ◌*◌, ◌/◌, ◌%◌, ◌^◌, ◌<◌, ◌≤◌, length, replicate, pos, IfOk};
+ghost use Rattle.std.specs.Prelude.{◌≡◌, ◌+◌, ◌*◌, ◌/◌, ◌%◌, ◌^◌, ◌<◌, ◌≤◌, length, take, replicate, pos, IfOk};
+ghost use Rattle.fx_winding.specs.Bitmaps.{words_for};
 
-use fx_winding::Frame;
+use fx_winding::{Frame, words_for};
 use std::alloc::{AllocError, Global};
 
 /// The most rows of a band.
 pub(crate) const MOST_ROWS: u32 = 128;
 
-/// The counts of a band's pixels, as differences between neighbours whose sums are the counts, and the pixels on pieces.
+/// The counts of a band's pixels, as differences between neighbours whose sums are the counts, and the pixels on pieces. Each list
+/// has a word more than the rows take, since there is a difference after the last pixel too.
 #[derive(Drop)]
 pub(crate) struct Band {
     /// The band's pixels.
@@ -23,7 +25,7 @@ pub(crate) struct Band {
     /// A bit for each pixel that is on a piece.
     pub marks: Vec<u32>,
     ghost few: { frame.height ≤ 128 },
-    ghost room: { length marks.items ≡ frame.height * (frame.width / 32 + 1) },
+    ghost room: { length marks.items ≡ frame.height * words_for frame.width + 1 },
     ghost words: { length touched.items ≡ length marks.items },
     ghost cells: { length diff.items ≡ 32 * length marks.items },
 }
@@ -66,7 +68,7 @@ impl Band {
         ensures frame { IfOk result (λ b. b.frame ≡ frame) }
         ensures clear { IfOk result (λ b. IsClear b) }
     {
-        let words = frame.height as usize * (frame.width as usize / 32 + 1);
+        let words = frame.height as usize * words_for(frame.width) + 1;
         let diff = zeros(alloc, 32 * words)?;
         let touched = vec![in alloc; 0u32; words]?;
         let marks = vec![in alloc; 0u32; words]?;
@@ -85,6 +87,13 @@ impl Band {
         ensures few { result < 2 ^ 32 }
         ensures word { result % 32 ≡ 0 }
     {
-        up as usize * (32 * (self.frame.width as usize / 32 + 1))
+        up as usize * (32 * words_for(self.frame.width))
+    }
+
+    /// The words of marks of the rows, from the lowest.
+    pub(crate) fn row_words(&self) -> &[u32]
+        ensures { result.now ≡ take (self.now.frame.height * words_for self.now.frame.width) self.now.marks.items }
+    {
+        &self.marks[..self.marks.len() - 1]
     }
 }

@@ -1,8 +1,8 @@
 -- The counts and the marks of a band of rows.
-use Rattle.std.specs.Prelude.{◌≡◌, ◌⊎◌, ℕ, ◌+◌, ◌*◌, ◌/◌, ◌≤◌, ◌<◌, ℤ, pos, ◌+ℤ◌, Bool, false, List, []}
-use Rattle.std.specs.Prelude.{◌↔◌, IsTrue, Any, length, get_or}
-use Rattle.fx_winding.specs.Winding.{Span, span_of, IsOn, winding, centre}
-use Rattle.fx_winding.specs.Bitmaps.{Bits, IsRowOf}
+use Rattle.std.specs.Prelude.{◌≡◌, ◌⊎◌, ℕ, ◌+◌, ◌*◌, ◌≤◌, ◌<◌, ℤ, pos, ◌+ℤ◌, Bool, false, List}
+use Rattle.std.specs.Prelude.{◌↔◌, IsTrue, Any, length}
+use Rattle.fx_winding.specs.Winding.{Span, span_of, IsOn, IsCovered, winding, centre}
+use Rattle.fx_winding.specs.Bitmaps.{words_for, word_bit}
 use Rattle.fx_winding.specs.declared.frame.Frame.{Frame}
 use Rattle.fx_rows.specs.declared.band.Band.{Band}
 use Rattle.fx_rows.specs.declared.bounded.Bounded.{Bounded}
@@ -19,9 +19,9 @@ bounded_span b = span_of b.piece
 abbrev pub AreInner : Bounded → Frame → ℕ → ℕ → Type 0
 AreInner b f from to = (r : ℕ) → from ≤ r → r < to → IsInner b.piece.a.y b.piece.c.y (height_of f r)
 
--- how many numbers a row of this width takes: whole words, and more than it has columns
+-- how many numbers a row of this width takes: whole words
 abbrev pub stride : ℕ → ℕ
-stride width = 32 * (width / 32 + 1)
+stride width = 32 * words_for width
 
 -- the count at a number
 abbrev pub turns_at : Band → ℕ → ℤ
@@ -73,8 +73,10 @@ pub record IsCounted (ss : List Span) (f : Frame) (b : Band) : Type 0 where
   pub rest : (n : ℕ) → IsBeside f 0 f.height n → turns_at b n ≡ pos 0
   pub unused : (n : ℕ) → IsBeside f 0 f.height n → mark_at b n ≡ false
 
--- the lowest rows of a bitmap, done of them, are those of a scan
-pub record IsScanned (ss : List Span) (b : Bits) (done : ℕ) : Type 0 where
-  pub high : length b.rows ≡ b.frame.height
-  pub wide : (r : ℕ) → r < done → length (get_or b.rows r []) ≡ b.frame.width
-  pub bits : (r : ℕ) → r < done → IsRowOf b.frame.left (b.frame.bottom +ℤ pos r) ss (get_or b.rows r [])
+-- the words of rows of pixels, done of them, from the left column and the bottom row on: each bit is set exactly when the pixel's
+-- centre is covered, and those after a row's last pixel are 0
+pub record AreScanned (ss : List Span) (left bottom : ℤ) (width done : ℕ) (words : List ℕ) : Type 0 where
+  pub long : length words ≡ done * words_for width
+  pub bits : (r k : ℕ) → r < done → k < width
+      → (word_bit words (r * stride width + k) ≡ 1) ↔ IsCovered (centre (left +ℤ pos k) (bottom +ℤ pos r)) ss
+  pub unused : (r k : ℕ) → r < done → width ≤ k → k < stride width → word_bit words (r * stride width + k) ≡ 0

@@ -1,7 +1,7 @@
 use Rattle.std.proofs.Common.{◌≡◌, ◌∙◌, ℕ, ◌+◌, ◌*◌, ◌/◌, ◌↔◌, subst, sym, ap, pos, ◌+ℤ◌, map, arith, ℤ, List, length}
 use Rattle.std.specs.Vec.{with_items}
 use Rattle.std.proofs.lemmas.List.{with_items_is}
-use Rattle.fx_winding.specs.Bitmaps.{word_bit}
+use Rattle.fx_winding.specs.Bitmaps.{words_for, word_bit}
 use Rattle.fx_winding.specs.Winding.{span_of, centre, IsCovered}
 use Rattle.fx_winding.specs.declared.frame.Frame.{Frame}
 use Rattle.fx_rows.specs.inner.Bands.{stride}
@@ -23,8 +23,8 @@ returns-clause-bits c = λ r k h l.
     let f = c.args.band.now.frame in
     let n = r * stride f.width + k in
     let frame = c.count_band.ensures.frame in
-    let room : length b.marks.items ≡ f.height * (f.width / 32 + 1) =
-    b.room ∙ ap (λ (g : Frame). g.height * (g.width / 32 + 1)) frame in
+    let room : length b.marks.items ≡ f.height * words_for f.width + 1 =
+    b.room ∙ ap (λ (g : Frame). g.height * words_for g.width + 1) frame in
     let long : length c.deref_mut.result.now ≡ length b.marks.items = ap length c.deref_mut.ensures.value in
     let inside = number_in r f.height f.width k (length b.marks.items) h (omega (arith, l)) room in
     let whole = settled_bit (with_items b.marks c.settle.new.line).items c.settle.new.line c.deref_mut.result.now b.marks.items
@@ -42,8 +42,8 @@ returns-clause-unused c = λ r k h w l.
     let f = c.args.band.now.frame in
     let n = r * stride f.width + k in
     let frame = c.count_band.ensures.frame in
-    let room : length b.marks.items ≡ f.height * (f.width / 32 + 1) =
-    b.room ∙ ap (λ (g : Frame). g.height * (g.width / 32 + 1)) frame in
+    let room : length b.marks.items ≡ f.height * words_for f.width + 1 =
+    b.room ∙ ap (λ (g : Frame). g.height * words_for g.width + 1) frame in
     let long : length c.deref_mut.result.now ≡ length b.marks.items = ap length c.deref_mut.ensures.value in
     let inside = number_in r f.height f.width k (length b.marks.items) h (l) room in
     let whole = settled_bit (with_items b.marks c.settle.new.line).items c.settle.new.line c.deref_mut.result.now b.marks.items
