@@ -401,14 +401,11 @@ rise_inner s foot head value y h l m = by (below_or_not_ℤ s.a.y s.c.y)
     by (inl o) = let e = h.up o in inl (subst (λ z. z <ℤ y) e.0 l, subst (λ z. y <ℤ z) e.1 m)
     by (inr o) = let e = h.down o in inr (subst (λ z. z <ℤ y) e.0 l, subst (λ z. y <ℤ z) e.1 m)
 
-pub rise_sign : (s : Span) (foot head value y : ℤ) → IsRise s foot head value → foot <ℤ y → y <ℤ head
+pub rise_sign : (s : Span) (foot head value y : ℤ) → IsRise s foot head value → IsInner s.a.y s.c.y y
     → value ≡ sign (s.c.y -ℤ s.a.y)
-rise_sign s foot head value y h l m = by (below_or_not_ℤ s.a.y s.c.y)
-  where
-    by : (s.a.y <ℤ s.c.y) ⊎ (s.c.y ≤ℤ s.a.y) → value ≡ sign (s.c.y -ℤ s.a.y)
-    by (inl o) = let e = h.up o in e.2 ∙ sym (sign_above (s.c.y -ℤ s.a.y) (omega (arith, signed_linear)))
-    by (inr o) =
-        let e = h.down o in
-        let foot_is = e.0 in
-        let head_is = e.1 in
-        e.2 ∙ sym (sign_below (s.c.y -ℤ s.a.y) (omega (arith, signed_linear)))
+rise_sign s foot head value y h (inl i) =
+    let up : s.a.y <ℤ s.c.y = omega (arith, signed_linear, i.0, i.1) in
+    (h.up up).2 ∙ sym (sign_above (s.c.y -ℤ s.a.y) (omega (arith, signed_linear)))
+rise_sign s foot head value y h (inr i) =
+    let down : s.c.y ≤ℤ s.a.y = omega (arith, signed_linear, i.0, i.1) in
+    (h.down down).2 ∙ sym (sign_below (s.c.y -ℤ s.a.y) (omega (arith, signed_linear, i.0, i.1)))

@@ -1,7 +1,7 @@
 //! What a piece adds to a band of rows.
 
 ghost use Rattle.std.specs.Prelude.{◌≡◌, ◌+◌, ◌-◌, ◌*◌, ◌^◌, ◌<◌, ◌≤◌, pos, ◌+ℤ◌, ◌-ℤ◌, ◌≤ℤ◌, Some, None};
-ghost use Rattle.fx_winding.specs.Winding.{Span, span_of, sign};
+ghost use Rattle.fx_winding.specs.Winding.{Span, span_of};
 ghost use Rattle.fx_rows.specs.Parts.{IsBent};
 ghost use Rattle.fx_rows.specs.inner.Arcs.{AreAreas};
 ghost use Rattle.fx_rows.specs.inner.Strips.{base_place};
@@ -105,7 +105,6 @@ fn add_clear_rows(bounded: &Bounded, rows: RowRange, band: &mut Band)
     requires rows { rows.end ≤ band.old.frame.height }
     requires clear { bounded.now.across.end ≤ℤ bounded.now.across.first }
     requires inner { AreInner bounded.now band.old.frame rows.first rows.end }
-    requires value { bounded.now.rise.value ≡ sign (bounded.now.piece.c.y -ℤ bounded.now.piece.a.y) }
     requires small { AreWithin (2 ^ 25 + 4 * rows.first) band.old.diff.items }
     ensures frame { band.new.frame ≡ band.old.frame }
     ensures added { IsBandAdded (bounded_span bounded.now) band.old.frame rows.first rows.end band.old band.new }
@@ -113,7 +112,7 @@ fn add_clear_rows(bounded: &Bounded, rows: RowRange, band: &mut Band)
     // The rows before `up` have what the piece adds.
     'rows: for up in rows.first..rows.end {
         let strip = strip_of(band.frame, row_of(band.frame, up));
-        let cut = clear_cut(&bounded.piece, bounded.across, strip, bounded.rise.value);
+        let cut = clear_cut(bounded, strip);
         add_cut(band, up, strip, cut);
     }
 }
@@ -129,7 +128,6 @@ fn add_line_rows(
     requires line { bounded.now.piece.b ≡ None }
     requires rows { rows.end ≤ band.old.frame.height }
     requires inner { AreInner bounded.now band.old.frame rows.first rows.end }
-    requires value { bounded.now.rise.value ≡ sign (bounded.now.piece.c.y -ℤ bounded.now.piece.a.y) }
     requires areas { AreAreas (bounded_span bounded.now) (base_place band.old.frame rows.first) areas }
     requires small { AreWithin (2 ^ 25 + 4 * rows.first) band.old.diff.items }
     ensures frame { band.new.frame ≡ band.old.frame }
@@ -140,7 +138,7 @@ fn add_line_rows(
     // The rows before `up` have what the line adds, and the areas are those of the base in this row.
     'rows: for up in rows.first..rows.end {
         let strip = strip_of(band.frame, row_of(band.frame, up));
-        let cut = line_cut(&bounded.piece, strip, areas, bounded.rise.value, tally);
+        let cut = line_cut(bounded, strip, areas, tally);
         add_cut(band, up, strip, cut);
         areas = line_areas_above(&bounded.piece, strip, areas);
     }
@@ -159,7 +157,6 @@ fn add_arc_rows(
     requires bent { IsBent (bounded_span bounded.now) }
     requires rows { rows.end ≤ band.old.frame.height }
     requires inner { AreInner bounded.now band.old.frame rows.first rows.end }
-    requires value { bounded.now.rise.value ≡ sign (bounded.now.piece.c.y -ℤ bounded.now.piece.a.y) }
     requires areas { AreAreas (bounded_span bounded.now) (base_place band.old.frame rows.first) areas }
     requires small { AreWithin (2 ^ 25 + 4 * rows.first) band.old.diff.items }
     ensures frame { band.new.frame ≡ band.old.frame }
@@ -172,15 +169,7 @@ fn add_arc_rows(
     // The rows before `up` have what the arc adds, and the areas are those of the base in this row.
     'rows: for up in rows.first..rows.end {
         let strip = strip_of(band.frame, row_of(band.frame, up));
-        let cut = arc_cut(
-            &bounded.piece,
-            b,
-            strip,
-            areas,
-            guess,
-            bounded.rise.value,
-            tally,
-        );
+        let cut = arc_cut(bounded, b, strip, areas, guess, tally);
         guess = cut.end.saturating_add(cut.end).saturating_sub(last);
         last = cut.end;
         add_cut(band, up, strip, cut);
@@ -200,7 +189,6 @@ fn add_curve_rows(
     requires middle { bounded.now.piece.b ≡ Some b }
     requires rows { rows.end ≤ band.old.frame.height }
     requires inner { AreInner bounded.now band.old.frame rows.first rows.end }
-    requires value { bounded.now.rise.value ≡ sign (bounded.now.piece.c.y -ℤ bounded.now.piece.a.y) }
     requires areas { AreAreas (bounded_span bounded.now) (base_place band.old.frame rows.first) areas }
     requires small { AreWithin (2 ^ 25 + 4 * rows.first) band.old.diff.items }
     ensures frame { band.new.frame ≡ band.old.frame }
@@ -218,7 +206,6 @@ fn add_inner_rows(bounded: &Bounded, rows: RowRange, band: &mut Band, tally: &mu
     requires some { rows.first < rows.end }
     requires rows { rows.end ≤ band.old.frame.height }
     requires inner { AreInner bounded.now band.old.frame rows.first rows.end }
-    requires value { bounded.now.rise.value ≡ sign (bounded.now.piece.c.y -ℤ bounded.now.piece.a.y) }
     requires small { AreWithin (2 ^ 25 + 4 * rows.first) band.old.diff.items }
     ensures frame { band.new.frame ≡ band.old.frame }
     ensures added { IsBandAdded (bounded_span bounded.now) band.old.frame rows.first rows.end band.old band.new }

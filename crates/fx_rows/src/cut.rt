@@ -11,11 +11,12 @@ ghost use Rattle.fx_rows.specs.inner.Runs.{gap_at};
 ghost use Rattle.fx_rows.specs.inner.Sides.{place_at};
 ghost use Rattle.fx_rows.specs.inner.Arcs.{AreAreas};
 ghost use Rattle.fx_rows.specs.inner.Candidates.{IsOnStrip};
-ghost use Rattle.fx_rows.specs.inner.Points.{AreAcross, IsInner};
+ghost use Rattle.fx_rows.specs.inner.Points.{IsInner};
+ghost use Rattle.fx_rows.specs.inner.Bands.{bounded_span};
 ghost use Rattle.fx_rows.specs.inner.Cuts.{CountsAt, CountsFirst, IsLast, IsCut};
 
-use crate::across::Across;
 use crate::arc::{gaps_of, total_of};
+use crate::bounded::Bounded;
 use crate::cells::Cut;
 use crate::chord::{edge_of, slope_of};
 use crate::narrow::columns_before;
@@ -193,23 +194,21 @@ fn on_end(piece: &Piece, bend: Bend, strip: Strip, end: u32, tally: &mut Tally) 
 
 /// What a bent arc adds.
 pub(crate) fn arc_cut(
-    piece: &Piece,
+    bounded: &Bounded,
     b: Point,
     strip: Strip,
     areas: Weights,
     guess: u32,
-    value: i32,
     tally: &mut Tally,
 ) -> Cut
-    requires middle { piece.now.b ≡ Some b }
-    requires bent { IsBent (span_of piece.now) }
-    requires inner { IsInner piece.now.a.y piece.now.c.y (pos 128 *ℤ strip.row +ℤ pos 64) }
-    requires value { value ≡ sign (piece.now.c.y -ℤ piece.now.a.y) }
-    requires small { IsWithin 1 value }
-    requires areas { AreAreas (span_of piece.now) (place_at strip 0) areas }
-    ensures cut { IsCut (span_of piece.now) strip result }
+    requires middle { bounded.now.piece.b ≡ Some b }
+    requires bent { IsBent (bounded_span bounded.now) }
+    requires inner { IsInner bounded.now.piece.a.y bounded.now.piece.c.y (pos 128 *ℤ strip.row +ℤ pos 64) }
+    requires areas { AreAreas (bounded_span bounded.now) (place_at strip 0) areas }
+    ensures cut { IsCut (bounded_span bounded.now) strip result }
     ensures count { tally.new.count ≤ tally.old.count + 1 }
 {
+    let piece = &bounded.piece;
     let bend = Bend {
         slope: slope_of(piece, strip, areas),
         gaps: gaps_of(piece, b, strip, areas),
@@ -218,47 +217,36 @@ pub(crate) fn arc_cut(
     let end = count_of(bend, guess, strip.stop);
     Cut {
         end,
-        value,
+        value: bounded.rise.value,
         on: on_end(piece, bend, strip, end, tally),
     }
 }
 
 /// What a line adds.
-pub(crate) fn line_cut(
-    piece: &Piece,
-    strip: Strip,
-    areas: Weights,
-    value: i32,
-    tally: &mut Tally,
-) -> Cut
-    requires line { piece.now.b ≡ None }
-    requires inner { IsInner piece.now.a.y piece.now.c.y (pos 128 *ℤ strip.row +ℤ pos 64) }
-    requires value { value ≡ sign (piece.now.c.y -ℤ piece.now.a.y) }
-    requires small { IsWithin 1 value }
-    requires areas { AreAreas (span_of piece.now) (place_at strip 0) areas }
-    ensures cut { IsCut (span_of piece.now) strip result }
+pub(crate) fn line_cut(bounded: &Bounded, strip: Strip, areas: Weights, tally: &mut Tally) -> Cut
+    requires line { bounded.now.piece.b ≡ None }
+    requires inner { IsInner bounded.now.piece.a.y bounded.now.piece.c.y (pos 128 *ℤ strip.row +ℤ pos 64) }
+    requires areas { AreAreas (bounded_span bounded.now) (place_at strip 0) areas }
+    ensures cut { IsCut (bounded_span bounded.now) strip result }
     ensures count { tally.new.count ≤ tally.old.count + 1 }
 {
-    let edge = edge_of(piece, strip, areas);
+    let edge = edge_of(&bounded.piece, strip, areas);
     Cut {
         end: edge.at,
-        value,
-        on: on_edge(piece, strip, edge, tally),
+        value: bounded.rise.value,
+        on: on_edge(&bounded.piece, strip, edge, tally),
     }
 }
 
 /// What a piece adds whose box has no column's centre in it: the columns are left of all of it or right of all of it.
-pub(crate) fn clear_cut(piece: &Piece, across: Across, strip: Strip, value: i32) -> Cut
-    requires across { AreAcross (span_of piece.now) across.first across.end }
-    requires clear { across.end ≤ℤ across.first }
-    requires inner { IsInner piece.now.a.y piece.now.c.y (pos 128 *ℤ strip.row +ℤ pos 64) }
-    requires value { value ≡ sign (piece.now.c.y -ℤ piece.now.a.y) }
-    requires small { IsWithin 1 value }
-    ensures { IsCut (span_of piece.now) strip result }
+pub(crate) fn clear_cut(bounded: &Bounded, strip: Strip) -> Cut
+    requires clear { bounded.now.across.end ≤ℤ bounded.now.across.first }
+    requires inner { IsInner bounded.now.piece.a.y bounded.now.piece.c.y (pos 128 *ℤ strip.row +ℤ pos 64) }
+    ensures { IsCut (bounded_span bounded.now) strip result }
 {
     Cut {
-        end: columns_before(strip, across.first),
-        value,
+        end: columns_before(strip, bounded.across.first),
+        value: bounded.rise.value,
         on: OnRow::None,
     }
 }

@@ -1,7 +1,7 @@
 use Rattle.std.proofs.Common.{◌≡◌, ◌∙◌, refl, arith}
 use Rattle.fx_rows.specs.inner.Bands.{bounded_span}
 use Rattle.fx_rows.proofs.Banding.{band_none}
-use Rattle.fx_rows.proofs.Stepping.{strip_row, row_in, rise_value, inner_row, cut_inside}
+use Rattle.fx_rows.proofs.Stepping.{strip_row, row_in, inner_row, cut_inside}
 use Rattle.fx_rows.proofs.Stepping.{band_small, band_next, band_end, base_areas, next_areas, next_row_in}
 use Rattle.fx_rows.proofs.add.add_arc_rows.Goals as goal
 
@@ -23,9 +23,6 @@ arc_cut-cut-requires-clause-inner c =
     c.row_of.ensures.value in
     inner_row c.args.bounded.now c.args.band.now.frame c.rows.band.frame c.args.rows.first c.args.rows.end c.rows.up
     c.strip_of-strip.result.row c.rows.invariant.frame at c.requires.inner (omega arith) (omega arith)
-
-pub arc_cut-cut-requires-clause-value : goal.arc_cut-cut-requires-clause-value
-arc_cut-cut-requires-clause-value c = rise_value c.args.bounded.now _ c.requires.value
 
 pub add_cut-requires-clause-up : goal.add_cut-requires-clause-up
 add_cut-requires-clause-up c =

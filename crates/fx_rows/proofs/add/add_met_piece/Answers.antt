@@ -1,12 +1,11 @@
-use Rattle.std.proofs.Common.{◌∙◌, ap, sym, subst, ◌^◌, ◌-ℤ◌, arith}
-use Rattle.fx_winding.specs.Winding.{span_of, sign}
-use Rattle.fx_rows.specs.declared.bounded.Rise.{Rise}
+use Rattle.std.proofs.Common.{sym, subst, ◌^◌}
+use Rattle.fx_winding.specs.Winding.{span_of}
 use Rattle.fx_winding.specs.declared.point.Piece.{Piece}
 use Rattle.fx_winding.specs.declared.frame.Frame.{Frame}
 use Rattle.fx_rows.specs.inner.Points.{IsInner}
 use Rattle.fx_rows.specs.inner.Heights.{height_of}
 use Rattle.fx_rows.specs.inner.Bands.{IsBandAdded}
-use Rattle.fx_rows.proofs.Counting.{rise_inner, rise_sign}
+use Rattle.fx_rows.proofs.Counting.{rise_inner}
 use Rattle.fx_rows.proofs.Banding.{band_three}
 use Rattle.fx_rows.proofs.add.add_met_piece.Goals as goal
 
@@ -20,17 +19,6 @@ add_inner_rows-requires-clause-inner c = λ r h l.
     subst (λ (p : Piece). IsInner p.a.y p.c.y (height_of c.add_met_rows-2.new.band.frame r)) (sym c.bounds_of.ensures.piece)
     (subst (λ (g : Frame). IsInner s.a.y s.c.y (height_of g r)) (sym f)
     (rise_inner s e.foot e.head e.value y c.rise_of-rise.ensures (i.foot r h l) (i.head r h l)))
-
-pub add_inner_rows-requires-clause-value : goal.add_inner_rows-requires-clause-value
-add_inner_rows-requires-clause-value c =
-    let s = span_of c.args.piece.now in
-    let e = c.rise_of-rise.result in
-    let i = c.rows_between-inner.ensures in
-    let r = c.rows_between-inner.result.first in
-    let same = ap (λ (x : Rise). x.value) c.bounds_of.ensures.rise in
-    let is = rise_sign s e.foot e.head e.value (height_of c.args.band.now.frame r) c.rise_of-rise.ensures
-    (i.foot r (omega arith) (omega arith)) (i.head r (omega arith) (omega arith)) in
-    same ∙ is ∙ sym (ap (λ (p : Piece). sign (p.c.y -ℤ p.a.y)) c.bounds_of.ensures.piece)
 
 pub add_inner_rows-requires-clause-small : goal.add_inner_rows-requires-clause-small
 add_inner_rows-requires-clause-small c = c.add_met_rows-2.ensures.added.grown (2 ^ 25) c.requires.small
