@@ -82,7 +82,7 @@ fn zone_copied(alloc: Global, points: &[Point], ends: &[usize]) -> Result<Zone, 
     all_points.extend_from_slice(points)?;
     let mut all_ends = Vec::with_capacity(alloc, ends.len() + MORE_ENDS)?;
     all_ends.extend_from_slice(ends)?;
-    Ok(Zone::of(alloc, all_points, all_ends))
+    Ok(Zone::of(all_points, all_ends))
 }
 
 impl KeptFields {

@@ -1,10 +1,10 @@
 //! The instruction table.
 
-ghost use Rattle.std.specs.Prelude.{◌≡◌, OnErr, ◌+◌};
+ghost use Rattle.std.specs.Prelude.{◌≡◌, OnErr, ◌+◌, ◌≤◌};
 ghost use Rattle.fx_gstate.specs.States.{leaves};
 ghost use Rattle.fx_machine.specs.Actions.{acts};
 ghost use Rattle.fx_machine.specs.Shapes.{HasSizes};
-ghost use Rattle.fx_machine.specs.Table.{relative_row, then_at, row_here};
+ghost use Rattle.fx_machine.specs.Table.{relative_row, then_at, row_here, row_0, row_1, row_2, row_3, row_4, row_5, row_6, row_7, row_8};
 
 use crate::action::Action;
 use crate::halt::Cause;
@@ -42,18 +42,11 @@ impl State {
         Ok(Action::Went(next))
     }
 
-    /// The row of the opcode at an address of a program: each instruction by its opcode, the ranges last.
-    #[tactic(auto, unfolding(crate::specs::Table::row_here, crate::specs::Table::row_of, crate::specs::Table::plain_of, crate::specs::Table::row_0, crate::specs::Table::row_1, crate::specs::Table::row_2, crate::specs::Table::row_3, crate::specs::Table::row_4, crate::specs::Table::row_5, crate::specs::Table::row_6, crate::specs::Table::row_7, crate::specs::Table::row_8))]
-    pub fn row(
-        &mut self,
-        code: &Code<'_>,
-        opcode: u8,
-        program: Program,
-        address: usize,
-        next: usize,
-    ) -> Result<Action, Cause>
-        requires { next ≡ address + 1 }
-        ensures value { acts result self.new ≡ row_here opcode code.now program address self.old }
+    /// 00 to 0F: vectors, ISECT.
+    #[inline(always)]
+    #[tactic(auto, unfolding(crate::specs::Table::row_0))]
+    fn row_0(&mut self, opcode: u8) -> Result<(), Cause>
+        ensures value { leaves result self.new ≡ row_0 opcode self.old }
         ensures kept { OnErr result (self.new.zones ≡ self.old.zones) }
         ensures sizes { HasSizes self.old self.new }
     {
@@ -73,7 +66,20 @@ impl State {
             0x0C => self.gpv()?,
             0x0D => self.gfv()?,
             0x0E => self.graphics.set_freedom_to_projection(),
-            0x0F => self.isect()?,
+            _ => self.isect()?,
+        }
+        Ok(())
+    }
+
+    /// 10 to 1F: reference points, zone pointers, loop, rounding, distances.
+    #[inline(always)]
+    #[tactic(auto, unfolding(crate::specs::Table::row_1))]
+    fn row_1(&mut self, opcode: u8) -> Result<(), Cause>
+        ensures value { leaves result self.new ≡ row_1 opcode self.old }
+        ensures kept { OnErr result (self.new.zones ≡ self.old.zones) }
+        ensures sizes { HasSizes self.old self.new }
+    {
+        match opcode {
             0x10 => self.srp0()?,
             0x11 => self.srp1()?,
             0x12 => self.srp2()?,
@@ -85,14 +91,22 @@ impl State {
             0x18 => self.graphics.set_round_state(RoundState::ToGrid),
             0x19 => self.graphics.set_round_state(RoundState::ToHalfGrid),
             0x1A => self.smd()?,
-            ELSE => {
-                let after = code.skip_else(next)?;
-                return Ok(Action::Went(after));
-            }
-            0x1C => return self.jmpr(code.len(), address),
             0x1D => self.scvtci()?,
             0x1E => self.sswci()?,
-            0x1F => self.ssw()?,
+            _ => self.ssw()?,
+        }
+        Ok(())
+    }
+
+    /// 20 to 2F: the stack, ALIGNPTS, UTP, MDAP.
+    #[inline(always)]
+    #[tactic(auto, unfolding(crate::specs::Table::row_2))]
+    fn row_2(&mut self, opcode: u8) -> Result<(), Cause>
+        ensures value { leaves result self.new ≡ row_2 opcode self.old }
+        ensures kept { OnErr result (self.new.zones ≡ self.old.zones) }
+        ensures sizes { HasSizes self.old self.new }
+    {
+        match opcode {
             0x20 => self.store.dup()?,
             0x21 => self.store.pop()?,
             0x22 => self.store.clear(),
@@ -101,14 +115,22 @@ impl State {
             0x25 => self.store.cindex()?,
             0x26 => self.store.mindex()?,
             0x27 => self.alignpts()?,
-            0x28 => return self.undefined(opcode, next),
             0x29 => self.utp()?,
-            0x2A => return self.loopcall(next),
-            0x2B => return self.call(next),
-            FDEF => return self.fdef(code, program, next),
-            ENDF => return Ok(Action::Returned),
             0x2E => self.mdap(false)?,
-            0x2F => self.mdap(true)?,
+            _ => self.mdap(true)?,
+        }
+        Ok(())
+    }
+
+    /// 30 to 3F: points.
+    #[inline(always)]
+    #[tactic(auto, unfolding(crate::specs::Table::row_3))]
+    fn row_3(&mut self, opcode: u8) -> Result<(), Cause>
+        ensures value { leaves result self.new ≡ row_3 opcode self.old }
+        ensures kept { OnErr result (self.new.zones ≡ self.old.zones) }
+        ensures sizes { HasSizes self.old self.new }
+    {
+        match opcode {
             0x30 => self.iup(Axis::Y),
             0x31 => self.iup(Axis::X),
             0x32 => self.shp(false)?,
@@ -124,7 +146,20 @@ impl State {
             0x3C => self.alignrp()?,
             0x3D => self.graphics.set_round_state(RoundState::ToDoubleGrid),
             0x3E => self.miap(false)?,
-            0x3F => self.miap(true)?,
+            _ => self.miap(true)?,
+        }
+        Ok(())
+    }
+
+    /// 42 to 4F: storage, control values, measuring, the size.
+    #[inline(always)]
+    #[tactic(auto, unfolding(crate::specs::Table::row_4))]
+    fn row_4(&mut self, opcode: u8) -> Result<(), Cause>
+        ensures value { leaves result self.new ≡ row_4 opcode self.old }
+        ensures kept { OnErr result (self.new.zones ≡ self.old.zones) }
+        ensures sizes { HasSizes self.old self.new }
+    {
+        match opcode {
             0x42 => self.store.ws()?,
             0x43 => self.store.rs()?,
             0x44 => self.store.wcvtp()?,
@@ -138,7 +173,20 @@ impl State {
             0x4C => self.store.mps(self.scale.ppem)?,
             0x4D => self.graphics.set_auto_flip(true),
             0x4E => self.graphics.set_auto_flip(false),
-            0x4F => self.store.ignored()?,
+            _ => self.store.ignored()?,
+        }
+        Ok(())
+    }
+
+    /// 50 to 5F: comparisons, logic, deltas.
+    #[inline(always)]
+    #[tactic(auto, unfolding(crate::specs::Table::row_5))]
+    fn row_5(&mut self, opcode: u8) -> Result<(), Cause>
+        ensures value { leaves result self.new ≡ row_5 opcode self.old }
+        ensures kept { OnErr result (self.new.zones ≡ self.old.zones) }
+        ensures sizes { HasSizes self.old self.new }
+    {
+        match opcode {
             0x50 => self.store.lt()?,
             0x51 => self.store.lteq()?,
             0x52 => self.store.gt()?,
@@ -147,14 +195,26 @@ impl State {
             0x55 => self.store.neq()?,
             0x56 => self.store.odd(&self.graphics)?,
             0x57 => self.store.even(&self.graphics)?,
-            IF => return self.if_else(code, next),
-            EIF => {}
             0x5A => self.store.and()?,
             0x5B => self.store.or()?,
             0x5C => self.store.not()?,
             0x5D => self.deltap(DeltaForm::First)?,
             0x5E => self.sdb()?,
-            0x5F => self.sds()?,
+            _ => self.sds()?,
+        }
+        Ok(())
+    }
+
+    /// 60 to 6F: arithmetic.
+    #[inline(always)]
+    #[tactic(auto, unfolding(crate::specs::Table::row_6))]
+    fn row_6(&mut self, opcode: u8) -> Result<(), Cause>
+        requires { 0x60 ≤ opcode }
+        ensures value { leaves result self.new ≡ row_6 opcode self.old }
+        ensures kept { OnErr result (self.new.zones ≡ self.old.zones) }
+        ensures sizes { HasSizes self.old self.new }
+    {
+        match opcode {
             0x60 => self.store.add()?,
             0x61 => self.store.sub()?,
             0x62 => self.store.div()?,
@@ -163,14 +223,21 @@ impl State {
             0x65 => self.store.neg()?,
             0x66 => self.store.floor()?,
             0x67 => self.store.ceiling()?,
-            0x68 => self.store.round(&self.graphics)?,
-            0x69 => self.store.round(&self.graphics)?,
-            0x6A => self.store.round(&self.graphics)?,
-            0x6B => self.store.round(&self.graphics)?,
-            0x6C => self.store.nround()?,
-            0x6D => self.store.nround()?,
-            0x6E => self.store.nround()?,
-            0x6F => self.store.nround()?,
+            0x68..=0x6B => self.store.round(&self.graphics)?,
+            _ => self.store.nround()?,
+        }
+        Ok(())
+    }
+
+    /// 70 to 7F: control values, deltas, rounding.
+    #[inline(always)]
+    #[tactic(auto, unfolding(crate::specs::Table::row_7))]
+    fn row_7(&mut self, opcode: u8) -> Result<(), Cause>
+        ensures value { leaves result self.new ≡ row_7 opcode self.old }
+        ensures kept { OnErr result (self.new.zones ≡ self.old.zones) }
+        ensures sizes { HasSizes self.old self.new }
+    {
+        match opcode {
             0x70 => self.wcvtf()?,
             0x71 => self.deltap(DeltaForm::Second)?,
             0x72 => self.deltap(DeltaForm::Third)?,
@@ -185,32 +252,98 @@ impl State {
                 .deltac(DeltaForm::Third, &self.graphics, self.scale.ppem)?,
             0x76 => self.sround()?,
             0x77 => self.s45round()?,
-            0x78 => return self.jrot(code.len(), address, next),
-            0x79 => return self.jrof(code.len(), address, next),
             0x7A => self.graphics.set_round_state(RoundState::Off),
-            0x7B => return self.undefined(opcode, next),
             0x7C => self.graphics.set_round_state(RoundState::UpToGrid),
             0x7D => self.graphics.set_round_state(RoundState::DownToGrid),
             0x7E => self.store.ignored()?,
-            0x7F => self.store.ignored()?,
+            _ => self.store.ignored()?,
+        }
+        Ok(())
+    }
+
+    /// 80 to 8F: flips, SDPVTL, what is asked of the rasterizer.
+    #[inline(always)]
+    #[tactic(auto, unfolding(crate::specs::Table::row_8))]
+    fn row_8(&mut self, opcode: u8) -> Result<(), Cause>
+        ensures value { leaves result self.new ≡ row_8 opcode self.old }
+        ensures kept { OnErr result (self.new.zones ≡ self.old.zones) }
+        ensures sizes { HasSizes self.old self.new }
+    {
+        match opcode {
             0x80 => self.flippt()?,
             0x81 => self.fliprg(true)?,
             0x82 => self.fliprg(false)?,
-            0x83 => return self.undefined(opcode, next),
-            0x84 => return self.undefined(opcode, next),
             0x85 => self.store.ignored()?,
             0x86 => self.sdpvtl(false)?,
             0x87 => self.sdpvtl(true)?,
             0x88 => self.store.getinfo()?,
-            IDEF => return self.idef(code, program, next),
             0x8A => self.store.roll()?,
             0x8B => self.store.max()?,
             0x8C => self.store.min()?,
             0x8D => self.store.ignored()?,
-            0x8E => self.instctrl()?,
-            0xC0..=0xFF => return self.relative(opcode, next),
-            NPUSHB | NPUSHW | 0xB0..=0xBF => return self.push(code, address),
-            0x8F..=0xAF => return self.undefined(opcode, next),
+            _ => self.instctrl()?,
+        }
+        Ok(())
+    }
+
+    /// The row of the opcode at an address of a program, by its high nibble, and the instructions that lead elsewhere.
+    #[tactic(auto, unfolding(crate::specs::Table::row_here, crate::specs::Table::row_of, crate::specs::Table::plain_of))]
+    pub fn row(
+        &mut self,
+        code: &Code<'_>,
+        opcode: u8,
+        program: Program,
+        address: usize,
+        next: usize,
+    ) -> Result<Action, Cause>
+        requires { next ≡ address + 1 }
+        ensures value { acts result self.new ≡ row_here opcode code.now program address self.old }
+        ensures kept { OnErr result (self.new.zones ≡ self.old.zones) }
+        ensures sizes { HasSizes self.old self.new }
+    {
+        match opcode / 16 {
+            0x0 => self.row_0(opcode)?,
+            0x1 => match opcode {
+                ELSE => {
+                    let after = code.skip_else(next)?;
+                    return Ok(Action::Went(after));
+                }
+                0x1C => return self.jmpr(code.len(), address),
+                _ => self.row_1(opcode)?,
+            },
+            0x2 => match opcode {
+                0x28 => return self.undefined(opcode, next),
+                0x2A => return self.loopcall(next),
+                0x2B => return self.call(next),
+                FDEF => return self.fdef(code, program, next),
+                ENDF => return Ok(Action::Returned),
+                _ => self.row_2(opcode)?,
+            },
+            0x3 => self.row_3(opcode)?,
+            0x4 => match opcode {
+                NPUSHB | NPUSHW => return self.push(code, address),
+                _ => self.row_4(opcode)?,
+            },
+            0x5 => match opcode {
+                IF => return self.if_else(code, next),
+                EIF => {}
+                _ => self.row_5(opcode)?,
+            },
+            0x6 => self.row_6(opcode)?,
+            0x7 => match opcode {
+                0x78 => return self.jrot(code.len(), address, next),
+                0x79 => return self.jrof(code.len(), address, next),
+                0x7B => return self.undefined(opcode, next),
+                _ => self.row_7(opcode)?,
+            },
+            0x8 => match opcode {
+                0x83 | 0x84 | 0x8F => return self.undefined(opcode, next),
+                IDEF => return self.idef(code, program, next),
+                _ => self.row_8(opcode)?,
+            },
+            0x9 | 0xA => return self.undefined(opcode, next),
+            0xB => return self.push(code, address),
+            _ => return self.relative(opcode, next),
         }
         Ok(Action::Went(next))
     }

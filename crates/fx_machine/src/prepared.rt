@@ -62,7 +62,7 @@ fn copy_of(alloc: Global, zone: &Zone) -> Result<Zone, AllocError>
 {
     let points = Vec::from_slice(alloc, zone.points())?;
     let ends = Vec::from_slice(alloc, zone.ends())?;
-    Ok(Zone::of(alloc, points, ends))
+    Ok(Zone::of(points, ends))
 }
 
 /// The graphics state that a program of a glyph begins with.

@@ -73,7 +73,7 @@ fn twilight(alloc: Global, count: u16) -> Result<Zone, AllocError>
 {
     let point = Point::resting(Place::origin(), false);
     let points = vec![in alloc; point; usize::from(count)]?;
-    Ok(Zone::of(alloc, points, Vec::new(alloc)))
+    Ok(Zone::of(points, Vec::new(alloc)))
 }
 
 /// No definitions, of as many functions as a font may have.

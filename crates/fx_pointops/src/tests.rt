@@ -37,8 +37,8 @@ fn zones(alloc: Global, points: [Point; 8]) -> Result<Zones, Fail> {
     let twilight = Vec::from_array(alloc, [none, none])?;
     let points = Vec::from_array(alloc, points)?;
     Ok(Zones {
-        twilight: Zone::of(alloc, twilight, Vec::new(alloc)),
-        glyph: Zone::of(alloc, points, Vec::from_array(alloc, [3])?),
+        twilight: Zone::of(twilight, Vec::new(alloc)),
+        glyph: Zone::of(points, Vec::from_array(alloc, [3])?),
     })
 }
 

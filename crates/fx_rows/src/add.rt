@@ -76,6 +76,7 @@ fn add_met_rows(piece: &Piece, rows: RowRange, band: &mut Band, tally: &mut Tall
 }
 
 /// Adds a cut to the counts and the marks of its row.
+#[inline(always)]
 fn add_cut(band: &mut Band, up: u32, strip: Strip, cut: Cut)
     requires up { up < band.old.frame.height }
     requires small { AreWithin (2 ^ 26) band.old.diff.items }

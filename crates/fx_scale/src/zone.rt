@@ -19,7 +19,7 @@ pub fn zone_of(alloc: Global, simple: &Simple<'_>, scale: &Scale) -> Result<Zone
 {
     let points = scaled_points(alloc, simple, scale)?;
     let ends = contour_ends(alloc, simple)?;
-    Ok(Zone::of(alloc, points, ends))
+    Ok(Zone::of(points, ends))
 }
 
 /// The number of phantom points, which may be appended to a glyph's points.

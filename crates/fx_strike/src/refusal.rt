@@ -8,7 +8,6 @@ use thiserror::Error;
 
 /// Why there is no strike, or why it was not written completely. A `u16` is the number of a glyph.
 #[derive(Clone, Copy, Debug, PartialEq, Eq, Error)]
-#[error("{number} {name}{fields}", number = self.number(), name = self.name(), fields = Fields(*self))]
 pub enum Refusal {
     /// The file is not a TrueType font, or its table directory is cut.
     NotTrueType,
@@ -20,7 +19,7 @@ pub enum Refusal {
     BadHead,
     /// `maxp` has another version, or counts no glyph.
     BadMaxp,
-    /// The font has no character map of format 4.
+    /// The font has no character map of format 12 or 4.
     NoCharMap,
     /// The character map is cut, or its end codes fall.
     BadCharMap,
@@ -115,7 +114,18 @@ impl Refusal {
     }
 }
 
-/// The fields of a refusal, which follow its name, each after a space.
+/// The number, the name and the fields. A halt has a text of its own.
+impl fmt::Display for Refusal {
+    fn fmt<W: fmt::Write>(&self, f: &mut fmt::Formatter<W>) -> fmt::Result {
+        if let Refusal::Halted(halt) = self {
+            return write!(f, "{halt}");
+        }
+        let (number, name) = self.entry();
+        write!(f, "{number} {name}{}", Fields(*self))
+    }
+}
+
+/// The fields of a refusal other than a halt, which follow its name, each after a space.
 #[derive(Clone, Copy)]
 struct Fields(Refusal);
 
@@ -139,11 +149,6 @@ impl fmt::Display for Fields {
             | Refusal::BadGlyphNumber(g)
             | Refusal::TooFar(g)
             | Refusal::GlyphTooLarge(g) => write!(f, " {g}"),
-            Refusal::Halted(halt) => write!(
-                f,
-                " during {} in {} at {} opcode {:02X}",
-                halt.during, halt.program, halt.address, halt.opcode
-            ),
             Refusal::WriteFailed(n) => write!(f, " {n}"),
             _ => Ok(()),
         }

@@ -18,7 +18,6 @@ use std::marker::Model;
 /// phantom points do (OpenType, `glyf`).
 #[derive(Drop)]
 pub struct Zone {
-    alloc: Global,
     points: Vec<Point>,
     ends: Vec<usize>,
 }
@@ -41,22 +40,17 @@ impl Zone {
         ensures { result ≡ empty_figure }
     {
         Zone {
-            alloc,
             points: Vec::new(alloc),
             ends: Vec::new(alloc),
         }
     }
 
     /// A zone of these points and contours.
-    pub fn of(alloc: Global, points: Vec<Point>, ends: Vec<usize>) -> Zone
+    pub fn of(points: Vec<Point>, ends: Vec<usize>) -> Zone
         requires { All (λ e. e < length points.items) ends.items }
         ensures { result ≡ record { points = points.items; ends = ends.items } }
     {
-        Zone {
-            alloc,
-            points,
-            ends,
-        }
+        Zone { points, ends }
     }
 
     /// The number of points.
