@@ -1,4 +1,6 @@
-//! The instruction table.
+//! The instruction table, by the high nibble of the opcode, as its definition: in `row_0` to `row_8` the rows that continue at the
+//! next address, where the last arm is the last opcode; in `row` all others. They are inlined, so that an instruction takes two jumps
+//! by table, and no action goes through memory.
 
 ghost use Rattle.std.specs.Prelude.{◌≡◌, OnErr, ◌+◌, ◌≤◌};
 ghost use Rattle.fx_gstate.specs.States.{leaves};
@@ -255,7 +257,6 @@ impl State {
             0x7A => self.graphics.set_round_state(RoundState::Off),
             0x7C => self.graphics.set_round_state(RoundState::UpToGrid),
             0x7D => self.graphics.set_round_state(RoundState::DownToGrid),
-            0x7E => self.store.ignored()?,
             _ => self.store.ignored()?,
         }
         Ok(())
@@ -286,7 +287,7 @@ impl State {
         Ok(())
     }
 
-    /// The row of the opcode at an address of a program, by its high nibble, and the instructions that lead elsewhere.
+    /// The row of the opcode at an address of a program.
     #[tactic(auto, unfolding(crate::specs::Table::row_here, crate::specs::Table::row_of, crate::specs::Table::plain_of))]
     pub fn row(
         &mut self,

@@ -7,10 +7,10 @@ use Rattle.std.proofs.lemmas.List.{get_or-take, get_or-drop, get_or_append_left,
 use Rattle.fx_fixed.proofs.Order.{below_or_not}
 use Rattle.fx_fixed.proofs.Linear.{signed_linear}
 use Rattle.fx_winding.specs.Winding.{Span, IsCovered, centre}
-use Rattle.fx_winding.specs.Bitmaps.{words_for, word_bit, bits_in, cut, rows_of, AreRowWords, AreWords, IsRowOf, IsScanOf}
+use Rattle.fx_winding.specs.Bitmaps.{words_for, word_bit, bits_in, rows_of, AreRowWords, AreWords, IsScanOf}
 use Rattle.fx_winding.specs.declared.frame.Frame.{Frame}
 use Rattle.fx_winding.proofs.Grid.{cut-row, row_fits, row_bits, rows_of-shape, length-bits_in}
-use Rattle.fx_winding.proofs.Scanned.{Scanned, IsRowSet, row_set, scanned_all}
+use Rattle.fx_winding.proofs.Scanned.{IsRowSet, row_set, scanned_all}
 use Rattle.fx_rows.specs.inner.Bands.{stride, AreScanned}
 use Rattle.fx_rows.proofs.Banding.{row_before}
 

@@ -1,4 +1,4 @@
-use Rattle.std.proofs.Common.{◌≡◌, ◌∙◌, refl, arith, w32, to_z, of_z}
+use Rattle.std.proofs.Common.{◌≡◌, refl, arith, w32, to_z, of_z}
 use Rattle.fx_fixed.proofs.Linear.{signed_linear}
 use Rattle.fx_winding.specs.Winding.{span_of}
 use Rattle.fx_rows.proofs.Stepping.{rise_value}
