@@ -72,6 +72,18 @@ pub fn fixture(alloc: Global) -> Result<Vec<u8>, Fail> {
     font(alloc, RING, ARC)
 }
 
+/// A glyph whose points are all 0, as many as the last end point says, by runs of 256 flags, and more flags after them.
+pub fn of_points(alloc: Global, last: &str, more: &str) -> Result<String, Fail> {
+    let mut text = String::from_str(alloc, "0001 0000 0000 0000 0000 ")?;
+    text.push_str(last)?;
+    text.push_str(" 0000")?;
+    for _ in 0..64 {
+        text.push_str(" 39 ff")?;
+    }
+    text.push_str(more)?;
+    Ok(text)
+}
+
 /// Puts other bytes at a place of a font.
 pub fn patch(font: &mut Vec<u8>, at: usize, new: &[u8]) -> Result<(), Fail> {
     for (i, &byte) in new.iter().enumerate() {

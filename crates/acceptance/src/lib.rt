@@ -1,7 +1,14 @@
-//! Tests that cross crates: worked strikes, listings, damaged fonts, and readers and writers that fail. Their expected values
-//! come from the public formats and from arithmetic by hand, never from the program's own output.
+//! Tests that cross crates: worked strikes, listings, damaged fonts, and readers and writers that fail; and the tests of the public
+//! calls of crates that take long to prove. Their expected values come from the public formats and from arithmetic by hand,
+//! never from the program's own output.
 #![tactic(auto)]
 
+#[cfg(test)]
+mod contours;
+#[cfg(test)]
+mod covering;
+#[cfg(test)]
+mod curves;
 #[cfg(test)]
 mod cuts;
 #[cfg(test)]
@@ -9,7 +16,11 @@ mod damaged;
 #[cfg(test)]
 mod fonts;
 #[cfg(test)]
+mod halves;
+#[cfg(test)]
 mod hinted;
+#[cfg(test)]
+mod lanes;
 #[cfg(test)]
 mod large;
 #[cfg(test)]
@@ -17,13 +28,21 @@ mod listings;
 #[cfg(test)]
 mod maps;
 #[cfg(test)]
+mod outlines;
+#[cfg(test)]
 mod programs;
+#[cfg(test)]
+mod refusals;
+#[cfg(test)]
+mod rows;
 #[cfg(test)]
 mod scans;
 #[cfg(test)]
 mod sizes;
 #[cfg(test)]
 mod strikes;
+#[cfg(test)]
+mod surveys;
 #[cfg(test)]
 mod tables;
 #[cfg(test)]

@@ -108,19 +108,36 @@ fn halt(cause: Cause, address: usize, opcode: u8) -> Result<Ran, Halt> {
     })
 }
 
+// Runs a row's program in a machine.
+fn run_in<'a>(
+    rt: &impl Abort,
+    alloc: Global,
+    machine: &mut Machine<'a>,
+    code: &'a [u8],
+    row: &Row,
+) -> Result<(), Fail> {
+    let mut zone = square(alloc)?;
+    let answer = machine.run_glyph(GLYPH, Code::new(code), &mut zone);
+    assert!(rt; answer == answer_of(row.want), "{}", row.what);
+    if answer.is_ok() {
+        assert_eq!(rt; corners(&zone), row.corners, "{}", row.what);
+    }
+    assert_eq!(rt; zone.len(), 8, "{}", row.what);
+    Ok(())
+}
+
+// Runs a row's program in a machine of its own.
+fn run_row(rt: &impl Abort, alloc: Global, row: &Row) -> Result<(), Fail> {
+    let file = with_tables(alloc, &row.tables)?;
+    let code = bytes(alloc, row.code)?;
+    let mut machine = machine(alloc, file.as_slice())?.ok().ok_or(row.what)?;
+    run_in(rt, alloc, &mut machine, code.as_slice(), row)
+}
+
 // Runs each program in a machine of its own.
 fn run(rt: &impl Abort, alloc: Global, rows: &[Row]) -> Result<(), Fail> {
     for row in rows {
-        let file = with_tables(alloc, &row.tables)?;
-        let mut machine = machine(alloc, file.as_slice())?.ok().ok_or(row.what)?;
-        let code = bytes(alloc, row.code)?;
-        let mut zone = square(alloc)?;
-        let answer = machine.run_glyph(GLYPH, Code::new(code.as_slice()), &mut zone);
-        assert!(rt; answer == answer_of(row.want), "{}", row.what);
-        if answer.is_ok() {
-            assert_eq!(rt; corners(&zone), row.corners, "{}", row.what);
-        }
-        assert_eq!(rt; zone.len(), 8, "{}", row.what);
+        run_row(rt, alloc, row)?;
     }
     Ok(())
 }

@@ -1,21 +1,44 @@
-//! The scan by pixels.
+//! Strikes by other scans: by pixels, and by one that fails.
 use crate::fonts::{STRIKE, fixture};
+use crate::strikes::request;
 use fx_fixed::{Limits, MemorySink};
-use fx_strike::{Request, make_strike_with};
-use fx_winding::Plain;
+use fx_strike::{Refusal, make_strike_with};
+use fx_winding::{Bitmap, Frame, Pieces, Plain, Scan, ScanFault, Tally};
+use std::alloc::Global;
 use std::test::Fail;
 
 #[test]
 fn by_pixels(rt: HostRuntime) -> Result<(), Fail> {
-    let request = Request {
-        ppem: 16,
-        name: "F1",
-        chars: &[0x20, 0x41, 0x42],
-        hinting: false,
-    };
+    let request = request(16, &[0x20, 0x41, 0x42]);
     let font = fixture(rt.alloc())?;
     let mut out = MemorySink::new(rt.alloc(), 512, Limits::NONE)?;
     make_strike_with(rt.alloc(), &Plain, font.as_slice(), &request, &mut out)?;
     assert!(rt; out.bytes() == STRIKE.as_bytes());
+    Ok(())
+}
+
+/// A scan that is always out of memory.
+struct Refusing;
+
+impl Scan for Refusing {
+    fn scan(
+        &self,
+        _alloc: Global,
+        _pieces: &Pieces,
+        _frame: Frame,
+        _tally: &mut Tally,
+    ) -> Result<Bitmap, ScanFault> {
+        Err(ScanFault::OutOfMemory)
+    }
+}
+
+#[test]
+fn the_scan_is_asked(rt: HostRuntime) -> Result<(), Fail> {
+    let request = request(16, &[0x41]);
+    let font = fixture(rt.alloc())?;
+    let mut out = MemorySink::new(rt.alloc(), 512, Limits::NONE)?;
+    let result = make_strike_with(rt.alloc(), &Refusing, font.as_slice(), &request, &mut out);
+    assert_eq!(rt; result, Err(Refusal::OutOfMemory));
+    assert_eq!(rt; out.bytes(), b"".as_slice());
     Ok(())
 }

@@ -1,8 +1,9 @@
 //! The greatest sizes: 1,024 pixels an em, and 8,192 pixels a side.
 use crate::fonts::{RING, fixture, font};
+use crate::strikes::request;
 use fx_fixed::{Limits, MemorySink};
 use fx_rows::Rows;
-use fx_strike::{Refusal, Request, make_strike, make_strike_with};
+use fx_strike::{Refusal, make_strike, make_strike_with};
 use fx_winding::{Bitmap, Frame, Pieces, Scan, ScanFault, Tally};
 use std::alloc::Global;
 use std::test::Fail;
@@ -23,16 +24,6 @@ impl Scan for Few {
             return Err(ScanFault::OutOfMemory);
         }
         Ok(bitmap)
-    }
-}
-
-/// A request without hinting for a strike named F1.
-fn request(ppem: u16, chars: &[u32]) -> Request<'_> {
-    Request {
-        ppem,
-        name: "F1",
-        chars,
-        hinting: false,
     }
 }
 

@@ -1,5 +1,5 @@
 //! Worked strikes, through the call that makes them.
-use crate::fonts::{ARC, RING, STRIKE, fixture, font, patch};
+use crate::fonts::{ARC, RING, STRIKE, fixture, font, of_points, patch};
 use fx_fixed::{Limits, MemorySink, Sink};
 use fx_strike::{Refusal, Report, Request, make_strike};
 use std::alloc::Global;
@@ -7,7 +7,7 @@ use std::process::Abort;
 use std::test::Fail;
 
 /// An unhinted request for a size and characters.
-fn request<'a>(ppem: u16, chars: &'a [u32]) -> Request<'a> {
+pub fn request(ppem: u16, chars: &[u32]) -> Request<'_> {
     Request {
         ppem,
         name: "F1",
@@ -230,21 +230,9 @@ fn components_up_to_a_limit(rt: HostRuntime) -> Result<(), Fail> {
         &rt,
         rt.alloc(),
         more.as_slice(),
-        0x41,
+        &[0x41],
         Refusal::TooManyComponents(2),
     )
-}
-
-/// A glyph whose points are all 0, as many as the last end point says, by runs of 256 flags, and more flags after them.
-fn of_points(alloc: Global, last: &str, more: &str) -> Result<String, Fail> {
-    let mut text = String::from_str(alloc, "0001 0000 0000 0000 0000 ")?;
-    text.push_str(last)?;
-    text.push_str(" 0000")?;
-    for _ in 0..64 {
-        text.push_str(" 39 ff")?;
-    }
-    text.push_str(more)?;
-    Ok(text)
 }
 
 #[test]
@@ -259,7 +247,7 @@ fn points_up_to_a_limit(rt: HostRuntime) -> Result<(), Fail> {
         &rt,
         rt.alloc(),
         more.as_slice(),
-        0x41,
+        &[0x41],
         Refusal::TooManyPoints(2),
     )
 }
@@ -286,7 +274,7 @@ fn damaged_glyphs(rt: HostRuntime) -> Result<(), Fail> {
         ("0002 0000 0000 0000 0000 0003", Refusal::GlyphShort(2)),
     ] {
         let font = font(rt.alloc(), second, ARC)?;
-        refused(&rt, rt.alloc(), font.as_slice(), 0x41, refusal)?;
+        refused(&rt, rt.alloc(), font.as_slice(), &[0x41], refusal)?;
     }
     let loop_of_two = "ffff 0000 0000 0080 0080 0002 0003 00 00";
     let back = "ffff 0000 0000 0080 0080 0002 0002 00 00";
@@ -295,24 +283,39 @@ fn damaged_glyphs(rt: HostRuntime) -> Result<(), Fail> {
         &rt,
         rt.alloc(),
         font.as_slice(),
-        0x41,
+        &[0x41],
         Refusal::ComponentDepth(3),
     )
 }
 
-/// A strike of one character at 16 pixels an em is refused, and nothing is written.
+/// A strike of characters at 16 pixels an em is refused, and nothing is written.
 fn refused(
     rt: &impl Abort,
     alloc: Global,
     font: &[u8],
-    code: u32,
+    chars: &[u32],
     refusal: Refusal,
 ) -> Result<(), Fail> {
     let mut out = MemorySink::new(alloc, 4096, Limits::NONE)?;
-    let result = make_strike(alloc, font, &request(16, &[code]), &mut out);
+    let result = make_strike(alloc, font, &request(16, chars), &mut out);
     assert_eq!(rt; result, Err(refusal));
     assert!(rt; out.bytes().is_empty());
     Ok(())
+}
+
+/// The last of two characters is refused, after the first was surveyed.
+#[test]
+fn nothing_is_written_of_a_refused_strike(rt: HostRuntime) -> Result<(), Fail> {
+    let mut font = fixture(rt.alloc())?;
+    // The end of the last glyph in `loca`.
+    patch(&mut font, 321, &[0x13])?;
+    refused(
+        &rt,
+        rt.alloc(),
+        font.as_slice(),
+        &[0x41, 0x42],
+        Refusal::GlyphShort(3),
+    )
 }
 
 #[test]

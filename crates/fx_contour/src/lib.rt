@@ -16,6 +16,3 @@ mod pixels;
 pub use curves::{pieces, pieces_in_reach};
 pub use fault::ContourFault;
 pub use frames::{frame, outline_frame};
-
-#[cfg(test)]
-mod tests;

@@ -29,6 +29,3 @@ pub use limits::{MAX_COMPONENTS, MAX_DEPTH, MAX_POINTS};
 pub use made::Made;
 pub use outlines::{outline, outline_with};
 pub use points::{Outline, OutlinePoint};
-
-#[cfg(test)]
-mod tests;

@@ -41,6 +41,3 @@ pub use one_character::one;
 pub use refusal::Refusal;
 pub use request::{Report, Request, Survey};
 pub use surveying::survey;
-
-#[cfg(test)]
-mod tests;

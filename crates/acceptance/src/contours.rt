@@ -1,0 +1,106 @@
+//! Small outlines, with their pieces and frames by hand.
+ghost use Rattle.std.specs.Prelude.{◌≤◌, length};
+ghost use Rattle.fx_hint.specs.Limits.{max_points};
+ghost use Rattle.fx_hint.specs.Ends.{AreEnds};
+
+use crate::curves::{place, places};
+use crate::outlines::{off, on};
+use fx_contour::{ContourFault, frame, outline_frame, pieces};
+use fx_fixed::F26;
+use fx_hint::{Outline, OutlinePoint};
+use fx_winding::Frame;
+use std::alloc::{AllocError, Global};
+use std::process::Abort;
+use std::test::Fail;
+
+/// The outline of these points, with the number of each contour's last point.
+fn outline(alloc: Global, points: &[OutlinePoint], ends: &[u16]) -> Result<Outline, AllocError>
+    requires few { length points.now ≤ max_points }
+    requires contours { AreEnds 0 ends.now (length points.now) }
+{
+    Ok(Outline {
+        points: Vec::from_slice(alloc, points)?,
+        ends: Vec::from_slice(alloc, ends)?,
+        advance: F26(0),
+        strays: 0,
+        steps: 0,
+    })
+}
+
+/// The least column and row of a frame, its width and height.
+fn sides(frame: Frame) -> (i32, i32, u32, u32) {
+    (frame.left, frame.bottom, frame.width, frame.height)
+}
+
+/// The pieces of an outline are these arcs, and both of its frames have these sides.
+fn makes(
+    rt: &impl Abort,
+    alloc: Global,
+    outline: &Outline,
+    arcs: &[[(i32, i32); 3]],
+    wanted: (i32, i32, u32, u32),
+) -> Result<(), Fail> {
+    let made = pieces(alloc, outline)?;
+    assert_eq!(rt; made.len(), arcs.len());
+    for (piece, arc) in made.as_slice().iter().zip(arcs.iter()) {
+        assert_eq!(rt; places(piece), Some(*arc));
+    }
+    let by_pieces = frame(&made)?.ok_or("no frame")?;
+    assert_eq!(rt; sides(by_pieces), wanted);
+    let by_points = outline_frame(outline)?.ok_or("no frame")?;
+    assert_eq!(rt; sides(by_points), wanted);
+    Ok(())
+}
+
+#[test]
+fn all_off_the_curve(rt: HostRuntime) -> Result<(), Fail> {
+    let points = [off(0, 0), off(256, 0), off(256, 256), off(0, 256)];
+    let outline = outline(rt.alloc(), &points, &[3])?;
+    let arcs = [
+        [(0, 256), (0, 0), (256, 0)],
+        [(256, 0), (512, 0), (512, 256)],
+        [(512, 256), (512, 512), (256, 512)],
+        [(256, 512), (0, 512), (0, 256)],
+    ];
+    makes(&rt, rt.alloc(), &outline, &arcs, (0, 0, 4, 4))
+}
+
+#[test]
+fn on_and_off_in_turn(rt: HostRuntime) -> Result<(), Fail> {
+    let points = [on(0, 32), off(64, 160), on(128, 32), off(64, -96)];
+    let outline = outline(rt.alloc(), &points, &[3])?;
+    let arcs = [
+        [(0, 64), (128, 320), (256, 64)],
+        [(256, 64), (128, -192), (0, 64)],
+    ];
+    makes(&rt, rt.alloc(), &outline, &arcs, (0, -2, 2, 5))
+}
+
+#[test]
+fn two_points_and_lone_points(rt: HostRuntime) -> Result<(), Fail> {
+    let points = [on(0, 32), off(192, 32), on(900, 0), off(0, 900)];
+    let outline = outline(rt.alloc(), &points, &[1, 2, 3])?;
+    let arcs = [[(0, 64), (384, 64), (0, 64)]];
+    makes(&rt, rt.alloc(), &outline, &arcs, (0, 0, 3, 1))
+}
+
+/// 2^21 + 1, one more than the limit, in a contour of its own.
+#[test]
+fn a_lone_point_may_be_too_far(rt: HostRuntime) -> Result<(), Fail> {
+    let points = [on(0, 0), on(64, 64), on(2_097_153, 0)];
+    let outline = outline(rt.alloc(), &points, &[1, 2])?;
+    let far = outline_frame(&outline).err();
+    assert!(rt; far == Some(ContourFault::TooFar));
+    Ok(())
+}
+
+/// One point many times over: its lines have no length.
+#[test]
+fn pieces_of_16384_points(rt: HostRuntime) -> Result<(), Fail> {
+    let outline = outline(rt.alloc(), &[on(64, 64); 16384], &[16383])?;
+    let made = pieces(rt.alloc(), &outline)?;
+    assert_eq!(rt; made.len(), 16384);
+    let last = made.as_slice().last().copied();
+    assert_eq!(rt; last.map(|piece| place(piece.c)), Some((128, 128)));
+    Ok(())
+}

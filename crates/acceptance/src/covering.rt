@@ -1,0 +1,172 @@
+//! Which pixels an outline covers: pixel by pixel, with arcs whole and halved, and by the plain scan.
+use crate::curves::{Curve, add, frame, outline, piece};
+use fx_winding::{Bitmap, MAX_SIDE, Pieces, Plain, Scan, Tally, covered, halves};
+use std::alloc::{AllocError, Global};
+use std::process::Abort;
+use std::test::Fail;
+
+/// The outline with the halves of each arc that has any in its place.
+fn halved_outline(alloc: Global, curves: &[Curve]) -> Result<Pieces, AllocError> {
+    let mut pieces = Pieces::new(alloc);
+    for curve in curves {
+        let whole = piece(*curve);
+        match halves(&whole) {
+            None => add(&mut pieces, whole)?,
+            Some((start, end)) => {
+                add(&mut pieces, start)?;
+                add(&mut pieces, end)?;
+            }
+        }
+    }
+    Ok(pieces)
+}
+
+/// Whether the pieces cover exactly these pixels, of the columns and rows from -1 to 5: the top row first, its leftmost pixel the
+/// highest of seven bits.
+fn cover(pieces: &Pieces, picture: [u8; 7]) -> bool {
+    let mut tally = Tally::new();
+    for down in 0..7u32 {
+        for across in 0..7u32 {
+            let wanted = picture[down as usize] >> (6 - across) & 1 == 1;
+            if covered(pieces, across as i32 - 1, 5 - down as i32, &mut tally) != wanted {
+                return false;
+            }
+        }
+    }
+    true
+}
+
+/// The outline covers these pixels, and with the halves of its arcs in their place it does so too.
+fn shows(rt: &impl Abort, alloc: Global, curves: &[Curve], picture: [u8; 7]) -> Result<(), Fail> {
+    assert!(rt; cover(&outline(alloc, curves)?, picture));
+    assert!(rt; cover(&halved_outline(alloc, curves)?, picture));
+    Ok(())
+}
+
+const UNIT: [Curve; 4] = [
+    ((0, 0), None, (128, 0)),
+    ((128, 0), None, (128, 128)),
+    ((128, 128), None, (0, 128)),
+    ((0, 128), None, (0, 0)),
+];
+
+const THROUGH_CENTRES: [Curve; 4] = [
+    ((64, 64), None, (192, 64)),
+    ((192, 64), None, (192, 192)),
+    ((192, 192), None, (64, 192)),
+    ((64, 192), None, (64, 64)),
+];
+
+const INNER_SAME_WAY: [Curve; 8] = [
+    ((0, 0), None, (640, 0)),
+    ((640, 0), None, (640, 640)),
+    ((640, 640), None, (0, 640)),
+    ((0, 640), None, (0, 0)),
+    ((192, 192), None, (448, 192)),
+    ((448, 192), None, (448, 448)),
+    ((448, 448), None, (192, 448)),
+    ((192, 448), None, (192, 192)),
+];
+
+const INNER_OTHER_WAY: [Curve; 8] = [
+    ((0, 0), None, (640, 0)),
+    ((640, 0), None, (640, 640)),
+    ((640, 640), None, (0, 640)),
+    ((0, 640), None, (0, 0)),
+    ((192, 192), None, (192, 448)),
+    ((192, 448), None, (448, 448)),
+    ((448, 448), None, (448, 192)),
+    ((448, 192), None, (192, 192)),
+];
+
+const WIDE_HILL: [Curve; 2] = [
+    ((0, 0), Some((128, 256)), (256, 0)),
+    ((256, 0), None, (0, 0)),
+];
+
+const NARROW_HILL: [Curve; 2] = [
+    ((0, 0), Some((64, 128)), (128, 0)),
+    ((128, 0), None, (0, 0)),
+];
+
+const CORNER_CENTRES_ON_ARCS: [Curve; 4] = [
+    ((0, 256), Some((0, 0)), (256, 0)),
+    ((256, 0), Some((512, 0)), (512, 256)),
+    ((512, 256), Some((512, 512)), (256, 512)),
+    ((256, 512), Some((0, 512)), (0, 256)),
+];
+
+const FLAT_ARC: [Curve; 1] = [((0, 64), Some((384, 64)), (0, 64))];
+
+const CENTRES_ON_COMMON_CHORD: [Curve; 2] = [
+    ((0, 64), Some((128, 320)), (256, 64)),
+    ((256, 64), Some((128, -192)), (0, 64)),
+];
+
+#[test]
+fn lines(rt: HostRuntime) -> Result<(), Fail> {
+    let alloc = rt.alloc();
+    shows(&rt, alloc, &UNIT, [0, 0, 0, 0, 0, 0b0100000, 0])?;
+    let four = [0, 0, 0, 0, 0b0110000, 0b0110000, 0];
+    shows(&rt, alloc, &THROUGH_CENTRES, four)?;
+    let whole = 0b0111110;
+    let full = [0, whole, whole, whole, whole, whole, 0];
+    shows(&rt, alloc, &INNER_SAME_WAY, full)?;
+    let hole = [0, whole, whole, 0b0110110, whole, whole, 0];
+    shows(&rt, alloc, &INNER_OTHER_WAY, hole)
+}
+
+#[test]
+fn arcs(rt: HostRuntime) -> Result<(), Fail> {
+    let alloc = rt.alloc();
+    let two = [0, 0, 0, 0, 0, 0b0110000, 0];
+    shows(&rt, alloc, &WIDE_HILL, two)?;
+    shows(&rt, alloc, &NARROW_HILL, [0, 0, 0, 0, 0, 0b0100000, 0])?;
+    let row = 0b0111100;
+    let sixteen = [0, 0, row, row, row, row, 0];
+    shows(&rt, alloc, &CORNER_CENTRES_ON_ARCS, sixteen)?;
+    shows(&rt, alloc, &FLAT_ARC, two)?;
+    shows(&rt, alloc, &CENTRES_ON_COMMON_CHORD, two)
+}
+
+#[test]
+fn the_plain_scan(rt: HostRuntime) -> Result<(), Fail> {
+    let ring = outline(rt.alloc(), &INNER_OTHER_WAY)?;
+    let mut tally = Tally::new();
+    let bitmap = Plain.scan(rt.alloc(), &ring, frame(1, 2, 4, 1), &mut tally)?;
+    assert!(rt; bitmap.bit(1, 2) && !bitmap.bit(2, 2) && bitmap.bit(3, 2) && bitmap.bit(4, 2));
+    assert!(rt; !bitmap.bit(0, 2) && !bitmap.bit(1, 3));
+    assert_eq!(rt; tally.tests(), 96);
+    Ok(())
+}
+
+/// A list takes as many pieces as it may hold.
+#[test]
+fn memory_for_pieces(rt: HostRuntime) -> Result<(), Fail> {
+    let mut pieces = Pieces::new(rt.alloc());
+    let diagonal = piece(((0, 0), None, (128, 128)));
+    for _ in 0..65_536u32 {
+        add(&mut pieces, diagonal)?;
+    }
+    assert_eq!(rt; pieces.len(), 65_536);
+    Ok(())
+}
+
+/// Bitmaps of the smallest and of the largest frame, and scans of the smallest and of a wide one: a scan by pixels of a whole frame
+/// of the greatest sides takes a minute.
+#[test]
+fn memory_for_bitmaps(rt: HostRuntime) -> Result<(), Fail> {
+    let alloc = rt.alloc();
+    let unit = outline(alloc, &UNIT)?;
+    let none = frame(0, 0, 0, 0);
+    assert_eq!(rt; Bitmap::new(alloc, none)?.frame().width, 0);
+    let most = frame(-1, -2, MAX_SIDE, MAX_SIDE);
+    assert!(rt; !Bitmap::new(alloc, most)?.bit(0, 0));
+    let mut tally = Tally::new();
+    let empty = Plain.scan(alloc, &unit, none, &mut tally)?;
+    assert!(rt; !empty.bit(0, 0));
+    let wide = frame(-1, -2, MAX_SIDE, 512);
+    let found = Plain.scan(alloc, &unit, wide, &mut tally)?;
+    assert!(rt; found.bit(0, 0) && !found.bit(1, 0) && !found.bit(0, 1) && !found.bit(-1, 0));
+    Ok(())
+}

@@ -1,0 +1,134 @@
+//! Outlines of glyphs: of few points and of many, and with components that come again.
+use crate::fonts::{ARC, fixture, font, of_points, patch};
+use fx_fixed::{F26, Ppem};
+use fx_hint::{KeepingMachine, Outline, OutlinePoint, outline, outline_with};
+use fx_machine::Machine;
+use fx_sfnt::Font;
+use std::alloc::Global;
+use std::process::Abort;
+use std::test::Fail;
+
+/// A point on the curve, in 1/64 pixel.
+pub fn on(x: i32, y: i32) -> OutlinePoint {
+    OutlinePoint {
+        x: F26(x),
+        y: F26(y),
+        on_curve: true,
+    }
+}
+
+/// A point off the curve, in 1/64 pixel.
+pub fn off(x: i32, y: i32) -> OutlinePoint {
+    OutlinePoint {
+        x: F26(x),
+        y: F26(y),
+        on_curve: false,
+    }
+}
+
+#[test]
+fn an_outline_of_eight_points(rt: HostRuntime) -> Result<(), Fail> {
+    let file = fixture(rt.alloc())?;
+    let font = Font::open(file.as_slice())?;
+    let ppem = Ppem::new(16).ok_or("no size")?;
+    let outline = outline(rt.alloc(), &font, ppem, None, 2)?;
+    let points = [
+        on(0, 0),
+        on(320, 0),
+        on(320, 320),
+        on(0, 320),
+        on(96, 96),
+        on(96, 224),
+        on(224, 224),
+        on(224, 96),
+    ];
+    assert!(rt; outline.points.as_slice() == points.as_slice());
+    assert_eq!(rt; outline.ends.as_slice(), [3, 7].as_slice());
+    assert_eq!(rt; outline.advance, F26(384));
+    assert_eq!(rt; (outline.strays, outline.steps), (0, 0));
+    Ok(())
+}
+
+#[test]
+fn an_outline_of_16384_points(rt: HostRuntime) -> Result<(), Fail> {
+    let glyph = of_points(rt.alloc(), "3fff", "")?;
+    let file = font(rt.alloc(), glyph.as_str(), ARC)?;
+    let font = Font::open(file.as_slice())?;
+    let ppem = Ppem::new(255).ok_or("no size")?;
+    let outline = outline(rt.alloc(), &font, ppem, None, 2)?;
+    assert_eq!(rt; outline.points.len(), 16384);
+    assert!(rt; outline.points.last().copied() == Some(on(0, 0)));
+    assert_eq!(rt; outline.ends.as_slice(), [16383].as_slice());
+    Ok(())
+}
+
+/// Glyph 3 twice, the second time moved.
+const TWICE: &str = "ffff 0000 0000 0080 0080 0022 0003 00 00 0002 0003 40 20";
+
+/// The arc with a program that reads a cell that the storage area does not have, and moves point 1 by half a pixel.
+const READING_A_STRAY: &str =
+    "0001 0000 0000 0080 0080 0002 0008 B0 63 43 21 B1 01 20 38 31 36 17 40 40 80 80 00";
+
+/// The outline of glyph 2 by a machine that keeps nothing.
+fn made_plainly(alloc: Global, font: &Font<'_>, ppem: Ppem) -> Result<Outline, Fail> {
+    let size = Ppem::new(16).ok_or("no size")?;
+    let mut machine = Machine::new(alloc, font.shared(), size)?;
+    Ok(outline_with(alloc, &mut machine, font, ppem, 2)?)
+}
+
+/// A machine that keeps components, but has none yet.
+fn keeping_machine<'a>(alloc: Global, font: &Font<'a>) -> Result<KeepingMachine<'a>, Fail> {
+    let size = Ppem::new(16).ok_or("no size")?;
+    let machine = Machine::new(alloc, font.shared(), size)?;
+    Ok(KeepingMachine::new(alloc, machine)?)
+}
+
+/// A machine that keeps components makes the outline of glyph 2 of a font as one that does not. Its programs name two numbers
+/// outside their tables, and execute ten instructions.
+fn outline_by_both(
+    rt: &impl Abort,
+    alloc: Global,
+    keeping: &mut KeepingMachine<'_>,
+    font: &Font<'_>,
+    pixels: u16,
+) -> Result<(), Fail> {
+    let ppem = Ppem::new(pixels).ok_or("no size")?;
+    let made = made_plainly(alloc, font, ppem)?;
+    let again = outline_with(alloc, keeping, font, ppem, 2)?;
+    assert!(rt; again.points.as_slice() == made.points.as_slice());
+    assert_eq!(rt; again.ends.as_slice(), made.ends.as_slice());
+    assert_eq!(rt; again.advance, made.advance);
+    assert_eq!(rt; (made.strays, made.steps), (2, 10));
+    assert_eq!(rt; (again.strays, again.steps), (2, 10));
+    Ok(())
+}
+
+/// Glyph 3 is made once for each outline of glyph 2, and then it is kept; but neither another size nor another bearing nor other
+/// bytes recall it.
+fn outlines_by_both(
+    rt: &impl Abort,
+    alloc: Global,
+    keeping: &mut KeepingMachine<'_>,
+    file: &[u8],
+) -> Result<(), Fail> {
+    let font = Font::open(file)?;
+    for pixels in [16, 16, 33, 16] {
+        outline_by_both(rt, alloc, keeping, &font, pixels)?;
+    }
+    // Of glyph 3: its left bearing, its last point's y, the cell that its program reads.
+    for (at, new) in [(258, 9), (374, 0x60), (361, 98)] {
+        let mut changed = Vec::from_slice(alloc, file)?;
+        patch(&mut changed, at, &[new])?;
+        let font = Font::open(changed.as_slice())?;
+        outline_by_both(rt, alloc, keeping, &font, 16)?;
+    }
+    Ok(())
+}
+
+#[test]
+fn a_component_that_comes_again(rt: HostRuntime) -> Result<(), Fail> {
+    let file = font(rt.alloc(), TWICE, READING_A_STRAY)?;
+    let font = Font::open(file.as_slice())?;
+    let mut keeping = keeping_machine(rt.alloc(), &font)?;
+    outlines_by_both(&rt, rt.alloc(), &mut keeping, file.as_slice())
+}

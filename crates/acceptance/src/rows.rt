@@ -1,0 +1,231 @@
+//! What pieces add to rows of pixels, and the scan by rows, against the tests of single points.
+use crate::curves::{Curve, add, frame, outline, piece};
+use fx_rows::{OnRow, RowPart, Rows, Run, interval};
+use fx_winding::{
+    Frame, MAX_SIDE, Piece, Pieces, Plain, Point, Scan, Tally, crossing, on_piece, region,
+};
+use std::alloc::{AllocError, Global};
+use std::process::Abort;
+use std::test::Fail;
+
+/// What a piece adds to a row where it is not.
+const NOTHING: RowPart = RowPart {
+    crossing: None,
+    region: None,
+    on: OnRow::None,
+};
+
+/// What a curve adds to a row of a frame.
+fn part(curve: Curve, row: i32, frame: Frame, tally: &mut Tally) -> RowPart {
+    if frame.bottom <= row && i64::from(row) < i64::from(frame.bottom) + i64::from(frame.height) {
+        return interval(&piece(curve), row, frame, tally);
+    }
+    NOTHING
+}
+
+#[test]
+fn parts_by_hand(rt: HostRuntime) {
+    let mut tally = Tally::new();
+    let low = frame(0, -2, 2, 5);
+    let under_hill = Run {
+        first: 0,
+        last: 1,
+        value: -1,
+    };
+    let hill = ((0, 64), Some((128, 320)), (256, 64));
+    assert_eq!(rt;
+        part(hill, 0, low, &mut tally),
+        RowPart {
+            region: Some(under_hill),
+            ..NOTHING
+        }
+    );
+    let dale = ((256, 64), Some((128, -192)), (0, 64));
+    assert_eq!(rt; part(dale, 0, low, &mut tally), NOTHING);
+    let square = frame(0, 0, 4, 4);
+    let left = ((0, 256), Some((0, 0)), (256, 0));
+    assert_eq!(rt; part(left, 0, square, &mut tally).on, OnRow::One(0));
+    let right = ((256, 0), Some((512, 0)), (512, 256));
+    assert_eq!(rt; part(right, 0, square, &mut tally).on, OnRow::One(3));
+    let line = ((300, 64), None, (0, 64));
+    assert_eq!(rt; part(line, 0, square, &mut tally).on, OnRow::Range(0, 1));
+    let both = ((0, 16), Some((128, 144)), (256, 16));
+    assert_eq!(rt;
+        part(both, 0, frame(0, 0, 2, 1), &mut tally),
+        RowPart {
+            on: OnRow::Two(0, 1),
+            ..NOTHING
+        }
+    );
+    assert!(rt; tally.tests() <= 60);
+}
+
+/// What a run adds to a column.
+fn value_at(run: Option<Run>, col: i32) -> i32 {
+    match run {
+        Some(run) if run.first <= col && col <= run.last => run.value,
+        _ => 0,
+    }
+}
+
+/// Whether a column is one of those on the piece.
+fn is_marked(on: OnRow, col: i32) -> bool {
+    match on {
+        OnRow::None => false,
+        OnRow::One(i) => col == i,
+        OnRow::Two(i, j) => col == i || col == j,
+        OnRow::Range(i, j) => i <= col && col <= j,
+    }
+}
+
+/// Whether the parts of a curve are those of the point tests, in the columns and rows from -2 to 5.
+fn agrees(curve: Curve) -> bool {
+    let frame = frame(-2, -2, 8, 8);
+    let piece = piece(curve);
+    let mut tally = Tally::new();
+    for up in 0..8u32 {
+        let row = up as i32 - 2;
+        let found = part(curve, row, frame, &mut tally);
+        for across in 0..8u32 {
+            let col = across as i32 - 2;
+            let x = 128 * col + 64;
+            let y = 128 * row + 64;
+            if value_at(found.crossing, col) != crossing(&piece, x, y, &mut tally) {
+                return false;
+            }
+            if value_at(found.region, col) != region(&piece, x, y, &mut tally) {
+                return false;
+            }
+            if is_marked(found.on, col) != on_piece(&piece, x, y, &mut tally) {
+                return false;
+            }
+        }
+    }
+    true
+}
+
+#[test]
+fn parts_like_point_tests(rt: HostRuntime) {
+    let places = [
+        (64, 64),
+        (192, 64),
+        (-64, 320),
+        (320, 192),
+        (0, 0),
+        (256, 448),
+        (448, 64),
+    ];
+    for a in places {
+        for c in places {
+            assert!(rt; agrees((a, None, c)), "{a:?} {c:?}");
+            for b in places {
+                assert!(rt; agrees((a, Some(b), c)), "{a:?} {b:?} {c:?}");
+            }
+        }
+    }
+}
+
+/// A ring of arcs round a diamond of lines that goes the other way: rows in three bands, and columns in two words.
+const RING: [Curve; 8] = [
+    ((2400, 0), Some((2400, 2400)), (0, 2400)),
+    ((0, 2400), Some((-2400, 2400)), (-2400, 0)),
+    ((-2400, 0), Some((-2400, -2400)), (0, -2400)),
+    ((0, -2400), Some((2400, -2400)), (2400, 0)),
+    ((1000, 0), None, (0, -1000)),
+    ((0, -1000), None, (-1000, 0)),
+    ((-1000, 0), None, (0, 1000)),
+    ((0, 1000), None, (1000, 0)),
+];
+
+/// A box through centres, and a level line and a flat arc beside it.
+const CENTRES: [Curve; 6] = [
+    ((-1856, -1856), None, (1984, -1856)),
+    ((1984, -1856), None, (1984, 320)),
+    ((1984, 320), None, (-1856, 320)),
+    ((-1856, 320), None, (-1856, -1856)),
+    ((-1000, 832), None, (1500, 832)),
+    ((64, 960), Some((1600, 960)), (320, 960)),
+];
+
+/// The scan by rows sets the bits that the scan by pixels sets, in the columns and rows from -20 to 19, by at most ten tests for
+/// each piece and row.
+fn scans_agree(rt: &impl Abort, alloc: Global, curves: &[Curve]) -> Result<(), Fail> {
+    let pieces = outline(alloc, curves)?;
+    let frame = frame(-20, -20, 40, 40);
+    let mut few = Tally::new();
+    let by_rows = Rows.scan(alloc, &pieces, frame, &mut few)?;
+    let mut many = Tally::new();
+    let by_pixels = Plain.scan(alloc, &pieces, frame, &mut many)?;
+    for up in 0..40u32 {
+        for across in 0..40u32 {
+            let col = across as i32 - 20;
+            let row = up as i32 - 20;
+            assert_eq!(rt;
+                by_rows.bit(col, row),
+                by_pixels.bit(col, row),
+                "{col} {row}"
+            );
+        }
+    }
+    assert!(rt; few.tests() <= 400 * pieces.len() as u64);
+    Ok(())
+}
+
+#[test]
+fn rows_like_pixels(rt: HostRuntime) -> Result<(), Fail> {
+    scans_agree(&rt, rt.alloc(), &RING)?;
+    scans_agree(&rt, rt.alloc(), &CENTRES)
+}
+
+/// A point at a place in pixels.
+fn pixel(x: i16, y: i16) -> Point {
+    Point {
+        x: 128 * i32::from(x),
+        y: 128 * i32::from(y),
+    }
+}
+
+/// The rectangle of 8,192 by 1 pixels.
+fn widest(alloc: Global) -> Result<Pieces, AllocError> {
+    let corners = [pixel(0, 0), pixel(8192, 0), pixel(8192, 1), pixel(0, 1)];
+    let mut pieces = Pieces::new(alloc);
+    for k in 0..4usize {
+        let side = Piece {
+            a: corners[k],
+            b: None,
+            c: corners[(k + 1) % 4],
+        };
+        add(&mut pieces, side)?;
+    }
+    Ok(pieces)
+}
+
+/// A row of 8,192 pixels takes no more than 10 tests a piece.
+#[test]
+fn tests_of_the_widest_row(rt: HostRuntime) -> Result<(), Fail> {
+    let pieces = widest(rt.alloc())?;
+    let mut tally = Tally::new();
+    let bitmap = Rows.scan(rt.alloc(), &pieces, frame(0, 0, 8192, 1), &mut tally)?;
+    for col in 0..8192u32 {
+        assert!(rt; bitmap.bit(col as i32, 0), "{col}");
+    }
+    assert!(rt; tally.tests() <= 40);
+    Ok(())
+}
+
+/// A scan is not refused for memory, with the smallest, the widest and the highest frame.
+#[test]
+fn memory_for_scans(rt: HostRuntime) -> Result<(), Fail> {
+    let ring = outline(rt.alloc(), &RING)?;
+    let mut tally = Tally::new();
+    let empty = Rows.scan(rt.alloc(), &ring, frame(3, 4, 0, 0), &mut tally)?;
+    assert!(rt; !empty.bit(3, 4));
+    assert_eq!(rt; tally.tests(), 0);
+    let wide = frame(-4096, -256, MAX_SIDE, 512);
+    let high = frame(-256, -4096, 512, MAX_SIDE);
+    for frame in [wide, high] {
+        let whole = Rows.scan(rt.alloc(), &ring, frame, &mut tally)?;
+        assert!(rt; whole.bit(10, 0) && whole.bit(-15, 0) && !whole.bit(0, 0) && !whole.bit(30, 0));
+    }
+    Ok(())
+}

@@ -1,0 +1,85 @@
+//! Surveys of strikes, and characters made alone.
+use crate::fonts::fixture;
+use crate::strikes::request;
+use fx_bdf::Bounds;
+use fx_strike::{Refusal, Request, Survey, one, survey};
+use fx_winding::{Bitmap, Frame, Pieces, Plain, Scan, ScanFault, Tally};
+use std::alloc::Global;
+use std::test::Fail;
+
+#[test]
+fn one_character_is_made(rt: HostRuntime) -> Result<(), Fail> {
+    let font = fixture(rt.alloc())?;
+    for hinting in [false, true] {
+        let glyph = one(rt.alloc(), font.as_slice(), 16, 0x42, hinting)?;
+        assert_eq!(rt;
+            glyph.as_ref().map(|glyph| glyph.bbox()),
+            Some((2, 1, 0, 0))
+        );
+        let missing = one(rt.alloc(), font.as_slice(), 16, 0x21, hinting)?;
+        assert!(rt; missing.is_none());
+    }
+    Ok(())
+}
+
+/// The box of the ring.
+const OF_RING: Bounds = Bounds {
+    width: 5,
+    height: 5,
+    left: 0,
+    bottom: 0,
+};
+
+#[test]
+fn a_strike_is_surveyed(rt: HostRuntime) -> Result<(), Fail> {
+    let font = fixture(rt.alloc())?;
+    let request = Request {
+        hinting: true,
+        ..request(16, &[0x42, 0x41, 0x21, 0x41])
+    };
+    let told = Survey {
+        bounds: OF_RING,
+        ascent: 13,
+        descent: 4,
+        glyphs: 2,
+        missing: 1,
+        strays: 0,
+        steps: 0,
+    };
+    assert_eq!(rt;
+        survey(rt.alloc(), &Plain, font.as_slice(), &request),
+        Ok(told)
+    );
+    Ok(())
+}
+
+/// A scan that is out of memory for frames of less than three columns.
+struct OfWideFrames;
+
+impl Scan for OfWideFrames {
+    fn scan(
+        &self,
+        alloc: Global,
+        pieces: &Pieces,
+        frame: Frame,
+        tally: &mut Tally,
+    ) -> Result<Bitmap, ScanFault> {
+        if frame.width < 3 {
+            return Err(ScanFault::OutOfMemory);
+        }
+        Plain.scan(alloc, pieces, frame, tally)
+    }
+}
+
+/// The frame of character 42, two columns wide, lies in the box of character 41: the survey doesn't scan it.
+#[test]
+fn a_survey_scans_what_may_widen_its_box(rt: HostRuntime) -> Result<(), Fail> {
+    let font = fixture(rt.alloc())?;
+    let both = request(16, &[0x41, 0x42]);
+    let told = survey(rt.alloc(), &OfWideFrames, font.as_slice(), &both);
+    assert_eq!(rt; told.map(|told| told.bounds), Ok(OF_RING));
+    let alone = request(16, &[0x42]);
+    let refused = survey(rt.alloc(), &OfWideFrames, font.as_slice(), &alone);
+    assert_eq!(rt; refused, Err(Refusal::OutOfMemory));
+    Ok(())
+}
