@@ -25,7 +25,7 @@ pub row_before : (r t s : ℕ) → r < t → r * s + s ≤ t * s
 row_before r t s h =
     let e = next_row r s in let l : r + 1 ≤ t = omega arith in let m = mul-le-mul_right s l in omega (arith, e, m)
 
-wide : (w : ℕ) → w ≤ stride w
+pub wide : (w : ℕ) → w ≤ stride w
 wide w = omega arith
 
 -- a row's words are among those of all rows and one more

@@ -12,7 +12,7 @@ use Rattle.fx_winding.specs.declared.frame.Frame.{Frame}
 use Rattle.fx_winding.proofs.Grid.{cut-row, row_fits, row_bits, rows_of-shape, length-bits_in}
 use Rattle.fx_winding.proofs.Scanned.{IsRowSet, row_set, scanned_all}
 use Rattle.fx_rows.specs.inner.Bands.{stride, AreScanned}
-use Rattle.fx_rows.proofs.Banding.{row_before}
+use Rattle.fx_rows.proofs.Banding.{row_before, wide}
 
 -- ---- bits of parts of a list of words
 take_bit : (m k : ℕ) (words : List ℕ) → k / 32 < m → word_bit (take m words) k ≡ word_bit words k
@@ -55,9 +55,6 @@ scanned_none ss left bottom width = record {
   bits = λ r k h l. absurd (omega arith);
   unused = λ r k h w l. absurd (omega arith);
 }
-
-wide : (w : ℕ) → w ≤ stride w
-wide w = omega arith
 
 -- the marks of a band, without the word after its rows
 pub scanned_marks : (ss : List Span) (left bottom : ℤ) (width high : ℕ) (marks words : List ℕ)
