@@ -72,6 +72,18 @@ def map_to_one(glyph):
     return struct.pack(">HHHHLHHHHHHHHHHHH", 0, 1, 3, 1, 12, 4, 24, 0, 2, 0, 0, 0, 0xFFFF, 0, 0, 0, 2) + struct.pack(">H", glyph) * 65536
 
 
+def wide_map_of(pairs):
+    """A map of format 12, of pairs (code, glyph)."""
+    groups = []
+    for code, glyph in sorted(pairs):
+        if groups and code == groups[-1][1] + 1 and glyph - code == groups[-1][2] - groups[-1][0]:
+            groups[-1][1] = code
+        else:
+            groups.append([code, code, glyph])
+    out = struct.pack(">HHHHLHHLLL", 0, 1, 3, 10, 12, 12, 0, 16 + 12 * len(groups), 0, len(groups))
+    return out + b"".join(struct.pack(">LLL", *group) for group in groups)
+
+
 def simple(contours, program=b""):
     """The bytes of a simple glyph. A contour is a list of points (x, y, on)."""
     points = [point for contour in contours for point in contour]

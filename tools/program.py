@@ -7,7 +7,8 @@ TOP = os.path.dirname(os.path.dirname(os.path.realpath(__file__)))
 
 def find_program(named=None):
     """The path of the program named, or of the one that was built last at its usual places."""
-    places = [named] if named else [os.path.join(TOP, "out/mkstrike"), os.path.join(TOP, "crates/mkstrike/out/mkstrike")]
+    usual = [os.path.join(TOP, place) for place in ("out/mkstrike", "crates/mkstrike/out/mkstrike")]
+    places = [named] if named else usual
     for place in places:
         if os.access(place, os.X_OK):
             return os.path.abspath(place)

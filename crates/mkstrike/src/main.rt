@@ -1,7 +1,6 @@
 //! `mkstrike`: makes a strike in the Bitmap Distribution Format of a TrueType font on standard input.
 //!
-//! Its stored run has arguments that are refused, and an input whose first line would be a strike's: so a program that ignores
-//! its arguments, or its status, or writes a line for people to standard output, does not pass.
+//! Its stored run has the command line on the first line of the input, and no arguments.
 #![tactic(auto)]
 
 use fx_cli::run_program;

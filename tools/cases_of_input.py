@@ -1,0 +1,243 @@
+"""Cases of tools/check_program: command lines, lists, names, and inputs."""
+import os
+
+import due
+import runs
+from due import refused, usage
+from cases_of_programs import NOTHING
+from made import Empty, Font, Simple, square
+from runs import Run
+from strikes import A, B
+
+LINE, CHARACTERS, ARGUMENT = 4096, 65536, 131071  # the last is the system's limit of one argument, in bytes
+SHORT = Font([Empty(), square(900, NOTHING), Simple([(100, 50, 400, 600)])], {A: 1, B: 2}, stack=9)
+LONG = Font([Empty(), square(900), Simple([(k, k, 1000 - k, 2 * k) for k in range(40, 400, 60)])],
+            {code: 1 + code % 2 for code in range(0x20, 0x800)})
+MAKE = ["make", "--ppem", "16", "--chars", "41"]
+FIRST = b"make --ppem 16 --chars 41"
+
+
+# ---- words ----
+
+# With the program's name these are the ten words that there may be.
+WHOLE = MAKE + ["--name", "F1", "--unhinted", "--hex"]
+INCOMPLETE = [["make"], ["help"], ["--help"], ["-h"], ["--version"], [""], ["Make"], ["x"] + WHOLE, MAKE[:3],
+              MAKE[:4], MAKE[:1] + MAKE[3:], MAKE[1:]]
+TOO_MANY = [WHOLE + more for more in (["x"], ["x", "y"], [""], ["-"], ["--"], ["--unhinted"])]
+BAD_ADDITIONS = ("--ppem 16", "--chars 41", "--hex --hex", "--name", "--name -x", "--name - --hex", "--unhinted=yes",
+                 "--hex=", "--help", "-h", "--version", "--char 41", "--of prep", "--unhint", "more", "-", "--")
+BAD_SIZES = ("65536", "-1", "1.0", "", "16x", " 16", "0x10", "99999999999999999999")
+BAD_COMMANDS = ("make --ppem 16 --chars -41", "make --ppem 16 --chars --hex", "show", "show --ppem 16",
+                "show --char 41", "show --ppem 16 --chars 41", "show --ppem 16 --char 41 --name x",
+                "show --ppem 16 --char 41 42", "show --help", "show --ppem 65536 --char 41", "dump", "dump --of",
+                "dump --of cvt", "dump --of 65536", "dump --of -1", "dump --of 2 --ppem 16", "dump --of 2 --of 2",
+                "dump 2")
+
+
+def words_that_do_not_parse():
+    """Command lines that are usage faults: one line, status 2, nothing written."""
+    data = SHORT.data()
+    lines = INCOMPLETE + TOO_MANY + [MAKE + more.split(" ") for more in BAD_ADDITIONS]
+    lines += [["make", "--ppem", size, "--chars", "41"] for size in BAD_SIZES]
+    lines += [line.split(" ") for line in BAD_COMMANDS]
+    for words in lines:
+        yield Run(repr(words), words, data, usage())
+
+
+def words_that_are_no_text():
+    """Words that are no UTF-8, as any argument and on the first line; and text that is no ASCII."""
+    data = SHORT.data()
+    for bad in (b"\xFF", b"\xC3", b"\xED\xA0\x80", b"a\x80", b"\xF4\x90\x80\x80"):
+        for words in ([bad], MAKE[:4] + [bad], MAKE + ["--name", bad], MAKE + [b"--name=" + bad], MAKE + [bad],
+                      [bad] + MAKE):
+            yield Run(repr(words), words, data, usage())
+            line = b" ".join(word if isinstance(word, bytes) else word.encode() for word in words)
+            yield Run("%r on the first line" % line, [], line + b"\n" + data, usage())
+    accent = "\u00E9".encode()
+    yield Run("a name that is no ASCII", MAKE + ["--name", accent], data, refused("62 BadName"))
+    yield Run("a list that is no ASCII", MAKE[:4] + [accent], data, refused("61 BadChars"))
+
+
+def words_that_parse():
+    """Forms of command lines."""
+    data, text = SHORT.data(), SHORT.data().hex().encode()
+    made, plain, nothing = SHORT.make([A], 16), SHORT.make([A], 16, False), SHORT.make([], 16)
+    listing = due.listed(["0000 40 NPUSHB 1", "0003 21 POP"])
+    for words, given, answer in (
+            (MAKE, data, made),
+            ("make --chars 41 --ppem 16", data, made),
+            ("make --ppem=16 --chars=41", data, made),
+            ("make --unhinted --chars 0041 --ppem 0016", data, plain),
+            ("make --ppem +16 --chars 000041", data, made),
+            ("make --name strike --hex --chars 41 --ppem 16", text, made),
+            ("make --ppem 16 --chars 41 --name=-misc-x --unhinted --hex", text, SHORT.make([A], 16, False, "-misc-x")),
+            (WHOLE, text, SHORT.make([A], 16, False, "F1")),
+            (MAKE[:4] + [""], data, nothing),
+            ("make --ppem 16 --chars=", data, nothing),
+            ("show --char 41 --ppem 16", data, SHORT.show(A, 16)),
+            ("show --ppem 16 --char 42 --unhinted --hex", text, SHORT.show(B, 16, False)),
+            ("show --ppem 16 --char 43", data, SHORT.show(0x43, 16)),
+            ("show --ppem 1 --char 42", data, SHORT.show(B, 1)),
+            ("show --ppem 16 --char 10FFFF", data, due.listed(["missing"])),
+            ("dump --of 1", data, listing),
+            ("dump --of=0001 --hex", text, listing),
+            ("dump --of fpgm", data, due.listed([])),
+            ("dump --of 0", data, due.listed([]))):
+        yield Run(repr(words), words, given, answer)
+
+
+# ---- the first line ----
+
+def first_lines():
+    """With no words the first line is the command line: of each form, as long as it may be, and a byte longer."""
+    data, text = SHORT.data(), SHORT.data().hex().encode()
+    made, no_font = SHORT.make([A], 16), refused("10 NotTrueType")
+    whole = FIRST + b" --name F1 --unhinted --hex"
+    for given, answer in (
+            (FIRST + b"\n" + data, made),
+            (FIRST + b" --hex\n" + text, made),
+            (b"  " + FIRST.replace(b" ", b"   ") + b" \n" + data, made),
+            (FIRST.ljust(LINE) + b"\n" + data, made),
+            (FIRST.rjust(LINE) + b"\n" + data, made),
+            (FIRST.ljust(LINE + 1) + b"\n" + data, usage()),
+            (whole + b"\n" + text, SHORT.make([A], 16, False, "F1")),
+            (whole + b" more\n" + text, usage()),
+            (whole + b" more words\n" + text, usage()),
+            (b"show --ppem 16 --char 41\n" + data, SHORT.show(A, 16)),
+            (b"dump --of 0\n" + data, due.listed([])),
+            (FIRST, no_font),
+            (FIRST.ljust(LINE), no_font),
+            (FIRST.ljust(LINE + 1), usage()),
+            (FIRST + b"\r\n" + data, refused("61 BadChars")),
+            (FIRST.replace(b" ", b"\t") + b"\n" + data, usage()),
+            (b"\0" + FIRST + b"\n" + data, usage()),
+            (b"\n" + FIRST + b"\n" + data, usage()),
+            (b" " * 100000, usage()),
+            (data, usage()),
+            (b"\n", usage()),
+            (b"", usage())):
+        yield Run("the first line %r" % given[:60], [], given, answer)
+
+
+def long_lists_on_the_first_line():
+    """Lists of characters of some bytes to as many as a line has room for."""
+    start, data = b"make --ppem 1 --unhinted --chars ", LONG.data()
+    for length in (1, 2, 62, 63, 64, 65, 66, 126, 127, 128, 129, 254, 255, 256, 257, 1000, 2047, 2048, 2049,
+                   LINE - len(start)):
+        text = ",".join("%x" % (0x100 + k) for k in range(length // 4 + 1))[:length]
+        if text.endswith(","):
+            text = "0" + text[:-1]
+        codes = [int(item, 16) for item in text.split(",")]
+        given = start + text.encode() + b"\n" + data
+        yield Run("a list of %d bytes on the first line" % len(text), [], given, LONG.make(codes, 1, False))
+
+
+# ---- lists and names ----
+
+BAD_LISTS = (",", "41,", ",41", "41,,42", "41-", "-", "42-41", "41-42-43", "0000041", "1234567", "g", "0x41", " 41",
+             "41 ", "41;42", "+41", "41\n", "0-10000", "0-ffff,0", "0-10ffff", "0-7fff,0-8000", "ffffff-ffffff,g",
+             "110000", "41,ffffff", "10ffff-110000")
+GOOD_LISTS = {"41": [A], "41,41,41-41": [A], "42,41": [B, A], "000041-000043,61": [0x41, 0x42, 0x43, 0x61],
+              "aB-Ab,AC-ac": [0xAB, 0xAC], "10FFFF,0,10fffe-10ffff": [0x10FFFF, 0, 0x10FFFE],
+              "7ff,7fe,20-22": [0x7FF, 0x7FE, 0x20, 0x21, 0x22], "0-ffff": range(0x10000),
+              "100000-10ffff": range(0x100000, 0x110000)}
+
+
+def lists():
+    """Lists of characters, and the one character of a picture."""
+    data = LONG.data()
+    for text in BAD_LISTS:
+        yield Run("the list %r" % text, MAKE[:3] + ["--chars=" + text], data, refused("61 BadChars"))
+    for text, codes in GOOD_LISTS.items():
+        yield Run("the list %r" % text, MAKE[:4] + [text], data, LONG.make(codes, 16))
+    for text in ("", "41-42", "41,42", "g", "0000041", "41 ", "110000"):
+        yield Run("the character %r" % text, ["show", "--ppem", "16", "--char", text], data, refused("61 BadChars"))
+
+
+def long_lists():
+    """Lists as long as an argument may be: 65,536 numbers, and fewer of more digits; a number too many."""
+    data, ones = LONG.data(), ",".join(["1"] * CHARACTERS)
+    assert len(ones) == ARGUMENT
+    yield Run("65,536 times a number", MAKE[:4] + [ones], data, LONG.make([1], 16))
+    yield Run("65,536 numbers, a range among them", MAKE[:4] + ["1-2" + ones[3:]], data, LONG.make([1, 2], 16))
+    yield Run("65,538 numbers", MAKE[:4] + ["1-4" + ones[3:]], data, refused("61 BadChars"))
+    for digits in (2, 3, 4, 5, 6):
+        codes = [(k * 7919) % min(16 ** digits, 0x800) for k in range((ARGUMENT + 1) // (digits + 1))]
+        text = ",".join("%0*x" % (digits, code) for code in codes)
+        yield Run("a list of %d bytes" % len(text), MAKE[:4] + [text], data, LONG.make(codes, 16))
+
+
+def names():
+    """Names of each length, and those that are refused."""
+    data = SHORT.data()
+    for name in ("x", "F1", "a b", "x" * 32, "x" * 64, "x" * 127, "x" * 128, "!~" * 127 + "!", "-x"):
+        yield Run("a name of %d bytes" % len(name), MAKE + ["--name=" + name], data, SHORT.make([A], 16, True, name))
+    for name in ("", " ", " x", "x ", "x" * 256, "a\x7Fb", "a\tb", "a\nb", "x" * 100000):
+        yield Run("the name %r" % name[:20], MAKE + ["--name=" + name], data, refused("62 BadName"))
+
+
+# ---- inputs ----
+
+def small_inputs_by_pipe():
+    """Small inputs by a pipe in pieces of several sizes."""
+    data, made, line = SHORT.data(), SHORT.make([A], 16), FIRST + b"\n"
+    for sizes in ([1], [2], [7, 1], [len(line) - 1], [len(line)], [len(line) + 1], [100, 3], [4096], [65537]):
+        yield Run("a font in pieces of %s" % sizes, MAKE, data, made, feed=sizes)
+        yield Run("a first line in pieces of %s" % sizes, [], line + data, made, feed=sizes)
+        yield Run("hexadecimal text in pieces of %s" % sizes, MAKE + ["--hex"], data.hex().encode(), made, feed=sizes)
+    yield Run("an endless line", [], b"make " * 100000, usage(), feed=[13])
+
+
+def large_inputs_by_pipe():
+    """Inputs of more than 64 KiB by a pipe."""
+    font = Font([Empty(), square(500, length=300000), square(900)], {A: 2})
+    data, text, made = font.data(), font.data().hex("\n", 40).encode(), font.make([A], 16)
+    line = FIRST.ljust(LINE) + b"\n"
+    for sizes in ([997], [1, 4096], [4095], [4096], [4097], [32767], [32768], [32769], [65536], [65537, 1]):
+        yield Run("a font in pieces of %s" % sizes, MAKE, data, made, feed=sizes)
+        yield Run("a long first line in pieces of %s" % sizes, [], line + data, made, feed=sizes)
+        yield Run("hexadecimal text in pieces of %s" % sizes, MAKE + ["--hex"], text, made, feed=sizes)
+
+
+def hexadecimal():
+    """Hexadecimal text of several lengths and forms."""
+    for length in (0, 10, 15000, 15001, 30000, 40000, 70000):
+        font = Font([Empty(), square(500, length=length), square(900)], {A: 2})
+        text, made = font.data().hex(), font.make([A], 16)
+        lines = "\r\n".join(text[k:k + 60] for k in range(0, len(text), 60))
+        for form in (text, text.upper(), " ".join(text), lines, "\t" + text + "\n"):
+            yield Run("hexadecimal text of %d bytes" % len(form), MAKE + ["--hex"], form.encode(), made)
+    data, text = SHORT.data(), SHORT.data().hex()
+    for form in (text[:-1], text + "0", text + "g", "0x" + text, text.replace("a", "a\0", 1), text + "\f", "x", "0",
+                 text[:99] + "-" + text[99:]):
+        yield Run("other text of %d bytes" % len(form), MAKE + ["--hex"], form.encode(), refused("72 BadHex"))
+    yield Run("a font with --hex", MAKE + ["--hex"], data, refused("72 BadHex"))
+    yield Run("no text", MAKE + ["--hex"], b" \n", refused("10 NotTrueType"))
+
+
+def broken_inputs():
+    """Inputs that can't be read, from their start and after some bytes."""
+    font, failed = Font([Empty(), square(500, length=100000), square(900)], {A: 2}).data(), refused("71 ReadFailed")
+    for words in (MAKE, [], "show --ppem 16 --char 41", "dump --of 2", MAKE + ["--hex"]):
+        for name, path, flags in (("a folder", "/", os.O_RDONLY), ("a file to write", "/dev/null", os.O_WRONLY)):
+            yield Run("%s: %s" % (name, words), words, b"", failed, way=runs.with_files(given=(path, flags)))
+        yield Run("no input: %s" % words, words, b"", failed, way=runs.without(0))
+    for count in (0, 1, 100, 4096, 32768, 32769, 65536, len(font)):
+        yield Run("a font that fails after %d bytes" % count, MAKE, b"", failed, way=runs.failing_after(font[:count]))
+    for given in (b"", FIRST[:9], FIRST, FIRST + b"\n", FIRST + b"\n" + font, b" " * LINE):
+        yield Run("a first line, failing after %d bytes" % len(given), [], b"", failed, way=runs.failing_after(given))
+
+
+def faults_before_the_input_breaks():
+    """What is told before an input that can't be read."""
+    for given, answer in ((b"make\n", usage()), (FIRST + b",\n", refused("61 BadChars")),
+                          (b" " * (LINE + 1), usage())):
+        yield Run("a first line, failing after %d bytes" % len(given), [], b"", answer, way=runs.failing_after(given))
+    for words, answer in (("make", usage()), ("make --ppem 16 --chars 42-41", refused("61 BadChars")),
+                          ("make --ppem 0 --chars 41", refused("71 ReadFailed"))):
+        yield Run(words, words, b"", answer, way=runs.failing_after(b""))
+
+
+CASES = [large_inputs_by_pipe, small_inputs_by_pipe, words_that_do_not_parse, words_that_are_no_text,
+         words_that_parse, first_lines, long_lists_on_the_first_line, lists, long_lists, names, hexadecimal,
+         broken_inputs, faults_before_the_input_breaks]

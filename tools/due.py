@@ -1,0 +1,282 @@
+"""What is due of mkstrike, worked out from the definitions of its documents and not by the program.
+
+An outline here is made of rectangles with sides along the axes, all turning the same way. So a pixel is set exactly
+when its centre lies in one of them, its sides included, and bits, boxes and texts follow by whole numbers alone.
+`covered` has the rule for lines and arcs in general, pixel by pixel, for small glyphs.
+"""
+import functools
+
+DONE, REFUSED, USAGE_STATUS = 0, 1, 2
+USAGE = b"mkstrike: usage\n"
+STRIKE = "strike"
+
+
+# ---- numbers ----
+
+def near(n, d):
+    """n/d rounded to the nearest whole number, halves away from zero."""
+    if d < 0:
+        n, d = -n, -d
+    size = (2 * abs(n) + d) // (2 * d)
+    return size if n >= 0 else -size
+
+
+def scaled(value, ppem, upem):
+    """A value in FUnits as 1/64 pixels."""
+    return near(value * ppem * 64, upem)
+
+
+def to_pixel(value):
+    """A place in 1/64 pixels at the nearest whole pixel."""
+    return 64 * near(value, 64)
+
+
+def first_from(place):
+    """The first pixel whose centre does not lie before a place in 1/64 pixels."""
+    return -((32 - place) // 64)
+
+
+def last_until(place):
+    """The last pixel whose centre does not lie past a place in 1/64 pixels."""
+    return (place - 32) // 64
+
+
+# ---- answers ----
+
+class Due:
+    """What is due of a run: its status, its line on standard error, and what is on standard output."""
+
+    def __init__(self, status, err, out=b""):
+        self.status, self.err, self.out = status, err, out
+
+    def wrong(self, answer):
+        """What is wrong with an answer (status, output, errors), or None."""
+        status, out, err = answer
+        if status != self.status:
+            return "status %d, and %d is due; standard error: %r" % (status, self.status, err[:200])
+        if err != self.err:
+            return "the line %r, and %r is due" % (err[:200], self.err)
+        return None if out == self.out else difference(out, self.out)
+
+
+class Cut(Due):
+    """What is due where the output fails at a place that the system chooses: exactly the bytes told of were taken."""
+
+    def wrong(self, answer):
+        count = len(answer[1])
+        if count >= len(self.out):
+            return "an output of %d bytes of %d: it did not fail" % (count, len(self.out))
+        return refused("70 WriteFailed %d" % count, self.out[:count]).wrong(answer)
+
+    @staticmethod
+    def of(whole):
+        """The same request as one that is done."""
+        return Cut(REFUSED, b"", whole.out)
+
+
+def cut_after(whole, count):
+    """What is due where the output takes so many bytes and then fails."""
+    return refused("70 WriteFailed %d" % count, whole.out[:count])
+
+
+def difference(out, due):
+    """Where an output begins to differ from what is due."""
+    at = next((k for k, (a, b) in enumerate(zip(out, due)) if a != b), min(len(out), len(due)))
+    line = due[:at].count(b"\n") + 1
+    return "output of %d bytes, and %d are due; from byte %d, in line %d: %r, and %r is due" % (
+        len(out), len(due), at, line, out[at:at + 60], due[at:at + 60])
+
+
+def usage():
+    """A command line that does not parse."""
+    return Due(USAGE_STATUS, USAGE)
+
+
+def refused(text, out=b""):
+    """A refusal by its number, name and fields."""
+    return Due(REFUSED, b"mkstrike: " + text.encode() + b"\n", out)
+
+
+def halted(cause, during, where, at, opcode):
+    """A font program that halted."""
+    return refused("%s during %s in %s at %d opcode %02X" % (cause, during, where, at, opcode))
+
+
+def listed(lines):
+    """A listing or a picture: its lines go to standard output, and there is none on standard error."""
+    return Due(DONE, b"", b"".join(line.encode() + b"\n" for line in lines))
+
+
+# ---- bits ----
+
+class Bits:
+    """The set pixels of a glyph: the rows of the tight box from the bottom, the leftmost pixel the highest bit."""
+
+    def __init__(self, left, bottom, width, rows):
+        self.left, self.bottom, self.width, self.rows = left, bottom, width, rows
+
+    @property
+    def box(self):
+        """Width, height, and the lower left pixel; zeros if no pixel is set."""
+        return (self.width, len(self.rows), self.left, self.bottom)
+
+
+NO_BITS = Bits(0, 0, 0, [])
+
+
+def bits_of(boxes):
+    """The pixels whose centres lie in some of these rectangles (x0, y0, x1, y1) in 1/64 pixels."""
+    spans = [(first_from(x0), first_from(y0), last_until(x1), last_until(y1)) for x0, y0, x1, y1 in boxes]
+    spans = [s for s in spans if s[0] <= s[2] and s[1] <= s[3]]
+    if not spans:
+        return NO_BITS
+    left, right = min(s[0] for s in spans), max(s[2] for s in spans)
+    bottom, top = min(s[1] for s in spans), max(s[3] for s in spans)
+    rows = [0] * (top - bottom + 1)
+    for x0, y0, x1, y1 in spans:
+        mask = ((1 << (x1 - x0 + 1)) - 1) << (right - x1)
+        for row in range(y0 - bottom, y1 - bottom + 1):
+            rows[row] |= mask
+    return Bits(left, bottom, right - left + 1, rows)
+
+
+def bits_of_pieces(pieces):
+    """The pixels that lines and arcs cover, with coordinates in 1/128 pixels: each pixel of their box is looked at."""
+    columns, rows = (range(min(values) // 128 - 1, max(values) // 128 + 2) for values in (
+        [p[k] for piece in pieces for p in piece if p] for k in (0, 1)))
+    found = [(64 * i + 32, 64 * j + 32) for j in rows for i in columns if covered(pieces, 128 * i + 64, 128 * j + 64)]
+    return bits_of([(x, y, x, y) for x, y in found])
+
+
+# ---- lines and arcs ----
+
+def area(a, b, c):
+    """Twice the signed area of a triangle."""
+    return (b[0] - a[0]) * (c[1] - a[1]) - (b[1] - a[1]) * (c[0] - a[0])
+
+
+def covered(pieces, x, y):
+    """Whether a place is on some piece, or has a winding number other than 0. A piece is (a, None, c) or (a, b, c)."""
+    return any(on_piece(piece, (x, y)) for piece in pieces) or sum(winding(piece, (x, y)) for piece in pieces) != 0
+
+
+def on_piece(piece, p):
+    """Whether a place lies on a line, or on an arc whose three points are not on one line."""
+    a, b, c = piece
+    if b is None:
+        return area(a, c, p) == 0 and all(min(a[k], c[k]) <= p[k] <= max(a[k], c[k]) for k in (0, 1))
+    _, u, v, w = areas(piece, p)
+    return min(u, v, w) >= 0 and v * v == 4 * u * w
+
+
+def areas(piece, p):
+    """The sign of an arc's area, and the areas of the three triangles at a place, times that sign."""
+    a, b, c = piece
+    whole = area(a, b, c)
+    assert whole, "an arc whose points are on one line has rules of its own"
+    sign = 1 if whole > 0 else -1
+    return sign, sign * area(p, b, c), sign * area(a, p, c), sign * area(a, b, p)
+
+
+def winding(piece, p):
+    """What a piece adds to the winding number of a place: the crossing of its chord, and its region."""
+    a, b, c = piece
+    total = 0
+    if a[1] <= p[1] < c[1] and area(a, c, p) > 0:
+        total += 1
+    if c[1] <= p[1] < a[1] and area(a, c, p) < 0:
+        total -= 1
+    if b is not None:
+        sign, u, v, w = areas(piece, p)
+        is_right = sign * (c[1] - a[1]) > 0 or a[1] == c[1] and b[1] > a[1]
+        if u > 0 and v > 0 and v * v < 4 * u * w or v == 0 and u > 0 and w > 0 and is_right:
+            total += sign
+    return total
+
+
+def pieces_of(contour):
+    """The lines and arcs of a contour of points (x, y, on) in 1/64 pixels, with coordinates in 1/128 pixels."""
+    if len(contour) < 2:
+        return []
+    doubled, whole = [(2 * x, 2 * y, on) for x, y, on in contour], []
+    for k, point in enumerate(doubled):
+        after = doubled[(k + 1) % len(doubled)]
+        whole.append(point)
+        if not point[2] and not after[2]:
+            whole.append(((point[0] + after[0]) // 2, (point[1] + after[1]) // 2, 1))
+    start = next(k for k, point in enumerate(whole) if point[2])
+    whole = whole[start:] + whole[:start + 1]
+    pieces, k = [], 0
+    while k + 1 < len(whole):
+        bent = not whole[k + 1][2]
+        end = k + 2 if bent else k + 1
+        pieces.append((whole[k][:2], whole[k + 1][:2] if bent else None, whole[end][:2]))
+        k = end
+    return pieces
+
+
+# ---- texts ----
+
+def row_lines(bits):
+    """The lines of a glyph's rows, from the top, in hexadecimal digits."""
+    digits = -(-bits.width // 8) * 2
+    texts = {row: "%0*X" % (digits, row << (4 * digits - bits.width)) for row in set(bits.rows)}
+    return [texts[row] for row in reversed(bits.rows)]
+
+
+def picture(bits):
+    """What is due of `show` for a glyph's bits."""
+    if not bits.rows:
+        return listed(["empty"])
+    texts = {row: "{:0{}b}".format(row, bits.width).replace("0", ".").replace("1", "#") for row in set(bits.rows)}
+    return listed([texts[row] for row in reversed(bits.rows)])
+
+
+def hull(boxes):
+    """The least box that holds all boxes (w, h, x, y) that are not empty."""
+    boxes = [box for box in boxes if box[0]]
+    if not boxes:
+        return (0, 0, 0, 0)
+    left, bottom = min(b[2] for b in boxes), min(b[3] for b in boxes)
+    return (max(b[2] + b[0] for b in boxes) - left, max(b[3] + b[1] for b in boxes) - bottom, left, bottom)
+
+
+def name_of(code):
+    """The name of a character."""
+    return ("uni%04X" if code < 0x10000 else "u%X") % code
+
+
+class Glyph:
+    """A glyph as the text has it: bits, the advance of `hmtx` in FUnits, that of the outline, steps and strays."""
+
+    def __init__(self, bits, advance, moved, steps=0, strays=0):
+        self.bits, self.advance, self.moved, self.steps, self.strays = bits, advance, moved, steps, strays
+
+    def tail(self, upem):
+        """The lines after the code point."""
+        lines = ["SWIDTH %d 0" % near(self.advance * 1000, upem), "DWIDTH %d 0" % near(self.moved, 64),
+                 "BBX %d %d %d %d" % self.bits.box, "BITMAP"]
+        return "\n".join(lines + row_lines(self.bits) + ["ENDCHAR\n"])
+
+
+def header(font, ppem, name, box, count):
+    """The lines before the glyphs."""
+    ascent, descent = near(font.ascender * ppem, font.upem), near(-font.descender * ppem, font.upem)
+    return "\n".join([
+        "STARTFONT 2.1", "FONT %s" % name, "SIZE %d 72 72" % ppem, "FONTBOUNDINGBOX %d %d %d %d" % box,
+        "STARTPROPERTIES 2", "FONT_ASCENT %d" % ascent, "FONT_DESCENT %d" % descent, "ENDPROPERTIES",
+        "CHARS %d\n" % count])
+
+
+def strike(font, ppem, found, missing, name=STRIKE, prelude=(0, 0)):
+    """What is due of `make`: of the glyphs that are found for code points, a list of (code, glyph) in rising order.
+
+    `prelude` is the steps and strays of the font program and the control value program."""
+    tail = functools.cache(lambda glyph: glyph.tail(font.upem))
+    box = hull([glyph.bits.box for glyph in {glyph for _, glyph in found}])
+    text = [header(font, ppem, name, box, len(found))]
+    text += ["STARTCHAR %s\nENCODING %d\n%s" % (name_of(code), code, tail(glyph)) for code, glyph in found]
+    text.append("ENDFONT\n")
+    steps, strays = (prelude[0] + sum(g.steps for _, g in found), prelude[1] + sum(g.strays for _, g in found))
+    line = "mkstrike: glyphs %d missing %d strays %d steps %d\n" % (len(found), missing, strays, steps)
+    return Due(DONE, line.encode(), "".join(text).encode())

@@ -1,0 +1,87 @@
+"""Writes programs of fonts, and counts what they do: instructions executed, and numbers outside their tables."""
+
+NPUSHB, NPUSHW, PUSHB, PUSHW = 0x40, 0x41, 0xB0, 0xB8
+X_AXIS, DUP, POP, CLEAR, CINDEX = 0x01, 0x20, 0x21, 0x22, 0x25
+LOOPCALL, CALL, FDEF, ENDF, IDEF = 0x2A, 0x2B, 0x2C, 0x2D, 0x89
+WS, RS, WCVTP, RCVT, GC, SCFS = 0x42, 0x43, 0x44, 0x45, 0x46, 0x48
+SZP2, SZPS, SLOOP, EIF, ADD = 0x15, 0x16, 0x17, 0x59, 0x60
+MIAP, IUP_X, SHPIX = 0x3E, 0x31, 0x38
+GREATEST_WORD = 32767
+
+
+class Code:
+    """A program: its bytes, and its instructions and strays when it is run once from end to end."""
+
+    def __init__(self):
+        self.parts, self.length, self.steps, self.strays = [], 0, 0, 0
+
+    @property
+    def bytes(self):
+        """The program's bytes."""
+        return b"".join(self.parts)
+
+    def add(self, data, steps):
+        """Appends bytes that hold so many executed instructions."""
+        self.parts.append(data)
+        self.length += len(data)
+        self.steps += steps
+        return self
+
+    def do(self, *opcodes, strays=0):
+        """Appends instructions without data. `strays` are the numbers outside their tables that they name."""
+        self.strays += strays
+        return self.add(bytes(opcodes), len(opcodes))
+
+    def push(self, *numbers):
+        """Pushes signed words, the last on top, 255 by an instruction."""
+        for at in range(0, len(numbers), 255):
+            some = numbers[at:at + 255]
+            if all(0 <= n < 256 for n in some):
+                self.add(bytes([NPUSHB, len(some), *some]), 1)
+            else:
+                words = b"".join((n & 0xFFFF).to_bytes(2, "big") for n in some)
+                self.add(bytes([NPUSHW, len(some)]) + words, 1)
+        return self
+
+    def number(self, number):
+        """Pushes a number that may be greater than a word."""
+        self.push(min(number, GREATEST_WORD))
+        while number > GREATEST_WORD:
+            number -= GREATEST_WORD
+            self.push(min(number, GREATEST_WORD)).do(ADD)
+        return self
+
+    def fill(self, length):
+        """Appends instructions that do nothing, until the program has so many bytes."""
+        assert self.length <= length
+        return self.add(bytes([EIF]) * (length - self.length), length - self.length)
+
+    def define(self, function, body):
+        """Defines a function by a program; its instructions count where it is called."""
+        return self.number(function).add(bytes([FDEF]) + body.bytes + bytes([ENDF]), 1)
+
+    def call(self, function, body):
+        """Calls a function of this body."""
+        self.strays += body.strays
+        self.number(function).do(CALL)
+        self.steps += body.steps + 1
+        return self
+
+    def call_times(self, times, function, body):
+        """Calls it so many times by one instruction."""
+        self.strays += body.strays * times
+        self.number(times).number(function).do(LOOPCALL)
+        self.steps += (body.steps + 1) * times
+        return self
+
+    def right_side(self, value, first=0):
+        """Puts the right side of the rectangle with this first point at the x that a program leaves."""
+        self.do(X_AXIS)
+        for point in (first + 1, first + 2):
+            self.push(point).join(value).do(SCFS)
+        return self
+
+    def join(self, other):
+        """Appends another program."""
+        self.strays += other.strays
+        return self.add(other.bytes, other.steps)

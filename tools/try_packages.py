@@ -1,0 +1,187 @@
+"""Tries the packages of tools/package: made again, and installed, run and removed in an empty root."""
+import gzip
+import os
+import re
+import shutil
+import subprocess
+import sys
+import tempfile
+
+import packing
+import prebuilt
+from prebuilt import TOP
+
+OTHER = {"TZ": "Asia/Kathmandu", "LC_ALL": "C", "LANG": "C", "HOME": "/nonexistent", "PYTHONHASHSEED": "7"}
+ADMIN = "var/lib/dpkg"
+C_LIBRARY = """\
+Package: libc6
+Status: install ok installed
+Architecture: amd64
+Maintainer: none
+Version: %s
+Description: the C library of this machine
+
+"""
+
+
+class Count:
+    """Counts what passed and what failed, and says each failure."""
+
+    def __init__(self):
+        self.passed = self.failed = 0
+
+    def check(self, what, wrong):
+        """Counts one check. `wrong` says what is wrong, or is None, or is whether it is wrong."""
+        if wrong:
+            self.failed += 1
+            print("FAILED: %s%s" % (what, ": %s" % wrong if isinstance(wrong, str) else ""))
+        else:
+            self.passed += 1
+            print("ok: %s" % what)
+
+
+def run(words, how=None):
+    """Runs a command, and returns its status and the end of what it said."""
+    both = {"stdout": subprocess.PIPE, "stderr": subprocess.STDOUT, **(how or {})}
+    ran = subprocess.run(words, stdin=subprocess.DEVNULL, **both)
+    return ran.returncode, ran.stdout.decode("latin-1").strip()[-300:]
+
+
+def failure_of(words, how=None):
+    """Runs a command, and returns what it said if it failed, else None."""
+    status, said = run(words, how)
+    return said or "status %d" % status if status else None
+
+
+def differs(made, folder):
+    """Which of the files made is not the same in the folder, or None."""
+    for path in made:
+        try:
+            if prebuilt.read(path) != prebuilt.read(os.path.join(folder, os.path.basename(path))):
+                return "%s has other bytes" % os.path.basename(path)
+        except prebuilt.Fault as fault:
+            return str(fault)
+    return None
+
+
+def make_again(count, made, again):
+    """Makes the packages once more, with another environment, time zone and mask of rights."""
+    with tempfile.TemporaryDirectory() as folder:
+        words = ["sh", "-c", 'umask 077; exec "$@"', "", sys.executable, *again, "--to", os.path.join(folder, "other")]
+        wrong = failure_of(words, {"cwd": folder, "env": {**os.environ, **OTHER}})
+        wrong = wrong or differs(made, os.path.join(folder, "other"))
+        count.check("made again, the packages have the same bytes", wrong)
+
+
+class Root:
+    """An empty root with the C library alone, where commands can be run as nobody if this process may."""
+
+    def __init__(self, folder, program):
+        self.folder = folder
+        os.chmod(folder, 0o755)
+        self.is_jail = os.geteuid() == 0 and failure_of(["chroot", "/", "true"]) is None
+        for library in self.libraries(program) if self.is_jail else ():
+            os.makedirs(os.path.dirname(self.path(library)), exist_ok=True)
+            shutil.copyfile(library, self.path(library))
+            os.chmod(self.path(library), 0o755)
+        os.makedirs(self.path(ADMIN, "info"))
+        os.makedirs(self.path(ADMIN, "updates"))
+        with open(self.path(ADMIN, "status"), "w") as file:
+            file.write(C_LIBRARY % os.confstr("CS_GNU_LIBC_VERSION").split()[1])
+        self.before = self.seen()
+
+    @staticmethod
+    def libraries(program):
+        """The paths of the libraries that the system would load with the program, a path."""
+        ran = subprocess.run(["ldd", program], capture_output=True, text=True)
+        return re.findall(r"(/\S+) \(0x", ran.stdout)
+
+    def path(self, *parts):
+        return os.path.join(self.folder, *(part.lstrip("/") for part in parts))
+
+    def seen(self):
+        """The names of all that is in the root, but for what dpkg keeps."""
+        found = set()
+        for at, folders, files in os.walk(self.folder):
+            inside = os.path.relpath(at, self.folder)
+            folders[:] = [it for it in folders if os.path.join(inside, it) != ADMIN]
+            found.update(os.path.normpath(os.path.join(inside, it)) for it in [*folders, *files])
+        return found
+
+    def runs(self, inside):
+        """What is wrong with the program installed there, or None: it has to give the stored answer."""
+        if self.is_jail:
+            return prebuilt.run_stored_request(["chroot", "--userspec=65534:65534", self.folder, inside])
+        return prebuilt.run_stored_request([self.path(inside)], {"env": {}})
+
+    def look(self, count, prefix, what, program):
+        """Looks at what was installed below the prefix."""
+        at = self.path(prefix, "bin/mkstrike")
+        is_same = os.access(at, os.X_OK) and prebuilt.read(at) == program
+        count.check("%s: the program is there, as it was packed" % what, not is_same)
+        page, source = self.path(prefix, "share/man/man1/mkstrike.1.gz"), os.path.join(TOP, "docs/mkstrike.1")
+        is_page = os.path.exists(page) and gzip.decompress(prebuilt.read(page)) == prebuilt.read(source)
+        count.check("%s: the man page is there" % what, not is_page)
+        how = "as nobody, with the C library alone" if self.is_jail else "here"
+        count.check("%s: the program runs %s" % (what, how), self.runs(os.path.join("/", prefix, "bin/mkstrike")))
+
+    def is_left(self):
+        """What is left after a removal, or what went with it, or None."""
+        return " ".join(sorted(self.seen() ^ self.before)) or None
+
+
+def try_deb(count, deb, program, root):
+    """Installs and removes the Debian package, by dpkg if it is there and may, else by hand."""
+    if shutil.which("dpkg-deb"):
+        for way in ("--info", "--contents"):
+            count.check("dpkg-deb %s reads the package" % way, failure_of(["dpkg-deb", way, deb]))
+    dpkg = ["dpkg", "--root=%s" % root.folder, "--log=/dev/null"]
+    if os.geteuid() == 0 and shutil.which("dpkg"):
+        how = {"env": {**os.environ, "PATH": os.environ["PATH"] + ":/usr/sbin:/sbin"}}
+        count.check("dpkg installs it, with what it depends on", failure_of([*dpkg, "--install", deb], how))
+        root.look(count, "usr", "installed by dpkg", program)
+        count.check("dpkg finds each file as it was packed", run([*dpkg, "--verify", "mkstrike"], how)[1])
+        count.check("dpkg removes it", failure_of([*dpkg, "--purge", "mkstrike"], how))
+    else:
+        parts = dict(packing.members_of(prebuilt.read(deb)))
+        made = packing.unpack(parts["data.tar.gz"], root.folder)
+        root.look(count, "usr", "unpacked by hand", program)
+        remove(made, root.folder)
+    count.check("after the removal nothing is left", root.is_left())
+
+
+def remove(paths, top):
+    """Removes the files, and the folders above them that are empty then, up to the top."""
+    for path in paths:
+        os.remove(path)
+        at = os.path.dirname(path)
+        while at != top and not os.listdir(at):
+            os.rmdir(at)
+            at = os.path.dirname(at)
+
+
+def try_tarball(count, tarball, program, root):
+    """Unpacks the tarball below /usr/local, without its own top, and removes what came out."""
+    made = packing.unpack(prebuilt.read(tarball), root.path("usr/local"), leave_out=1)
+    root.look(count, "usr/local", "unpacked tarball", program)
+    remove(made, root.folder)
+    count.check("without its files nothing is left", root.is_left())
+
+
+def check_all(made, program, again):
+    """Tries the .deb and the tarball, the two paths `made`, which have the program's bytes.
+
+    `again` are the words, a Python file first, that make them once more. Returns the status.
+    """
+    count = Count()
+    make_again(count, made, again)
+    with tempfile.TemporaryDirectory() as folder:
+        named = os.path.join(folder, "mkstrike")
+        with open(named, "wb") as file:
+            file.write(program)
+        os.chmod(named, 0o755)
+        for name, attempt in (("deb", try_deb), ("tar", try_tarball)):
+            os.mkdir(os.path.join(folder, name))
+            attempt(count, made[name == "tar"], program, Root(os.path.join(folder, name), named))
+    print("%d passed, %d failed" % (count.passed, count.failed))
+    return 1 if count.failed else 0
