@@ -132,6 +132,7 @@ impl Buffer {
         ensures adds { Adds (W.held out.old) (W.held out.new) (W.fault_count out.old) (W.fault_count out.new) self.old self.new []
             result }
         ensures free { IfOk result (λ _. length self.new.waiting + count ≤ CAPACITY) }
+        ensures kept { length self.old.waiting + count ≤ CAPACITY → self.new ≡ self.old }
     {
         if count > CAPACITY - self.used {
             self.flush(out)?;

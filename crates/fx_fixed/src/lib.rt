@@ -28,6 +28,3 @@ pub use sizes::{MAX_PPEM, Ppem};
 pub use slices::{after, before, part};
 pub use source::{FromReader, Source};
 pub use vectors::{unit, unit_laws};
-
-#[cfg(test)]
-mod tests;

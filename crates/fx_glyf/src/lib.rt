@@ -30,6 +30,3 @@ pub use point::Point;
 pub use points::Points;
 pub use reading::read;
 pub use simple::Simple;
-
-#[cfg(test)]
-mod tests;

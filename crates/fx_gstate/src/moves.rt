@@ -46,7 +46,7 @@ fn numerator(d: i32, along: i16) -> i64
     ensures value { result ≡ d *ℤ along *ℤ pos (2 ^ 14) }
     ensures bound { unsigned_abs result ≤ 2 ^ 60 }
 {
-    i64::from(d) * i64::from(along) * (1 << 14)
+    crate::vectors::product(d, along) * (1 << 14)
 }
 
 /// The product of the vectors.

@@ -162,7 +162,7 @@ fn part(d: F26, along: F2) -> F26
 }
 
 /// The exact product of a distance and a coordinate of a vector.
-fn product(distance: i32, along: i16) -> i64
+pub(crate) fn product(distance: i32, along: i16) -> i64
     ensures value { result ≡ distance *ℤ along }
     ensures bound { unsigned_abs result ≤ 2 ^ 46 }
 {

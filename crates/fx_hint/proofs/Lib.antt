@@ -8,3 +8,4 @@ mod Programs
 mod Machines
 mod Turning
 mod Joined
+mod Multiplying

@@ -1,13 +1,15 @@
 //! The machine of a font at a size.
 
-ghost use Rattle.std.specs.Prelude.{◌≡◌};
+ghost use Rattle.std.specs.Prelude.{◌≡◌, length, reverse, IfOk, OnOk};
 ghost use Rattle.fx_fixed.specs.Chain.{GivesUnless};
 ghost use Rattle.fx_machine.specs.Programs.{texts};
 ghost use Rattle.fx_zone.specs.Figures.{HasShape};
 ghost use Rattle.fx_pointops.specs.Zones.{HasShapes};
 ghost use Rattle.fx_machine.specs.Shapes.{HasSizes};
 ghost use Rattle.fx_machine.specs.Prepared.{Fits, glyph_end, ran_of, stack_after, with_zone};
-ghost use Rattle.fx_machine.specs.Known.{Fails, with_state, prelude_of, machine_of, final_stack_of, glyph_run, glyph_ran};
+ghost use Rattle.fx_machine.specs.Known.{Fails, with_state, prelude_of, machine_of, final_stack_of, glyph_run, glyph_ran, first_state};
+ghost use Rattle.fx_machine.specs.Known.{controls_of, prepared_from};
+ghost use Rattle.fx_scale.specs.Scaling.{scale_of};
 
 use crate::final_stack::FinalStack;
 use crate::halt::{Halt, MachineFault};
@@ -21,7 +23,7 @@ use fx_fixed::Ppem;
 use fx_scale::Scale;
 use fx_sfnt::Font;
 use fx_zone::Zone;
-use std::alloc::Global;
+use std::alloc::{AllocError, Global};
 use std::marker::Model;
 use std::mem::swap;
 
@@ -81,15 +83,56 @@ fn run_prelude(state: &mut State, programs: &Programs<'_>) -> Result<Ran, Halt>
     })
 }
 
-/// The machine of a font at a size: what its programs left, and the state that programs of glyphs run in.
+/// Runs `fpgm`, then `prep`, and takes what they leave: what they have used up, or the first halt.
+fn run_and_take(
+    state: &mut State,
+    programs: &Programs<'_>,
+    prepared: &mut Prepared,
+    final_stack: &mut FinalStack,
+) -> Result<Ran, Halt>
+    requires number { programs.now.number ≡ 0 }
+    requires fits { Fits prepared.old state.old }
+    requires room { final_stack.old.room ≡ state.old.store.room }
+    ensures value { with_state result state.new ≡ prelude_of (texts programs.now) state.old }
+    ensures prepared { OnOk result (prepared.new ≡ prepared_from state.new) }
+    ensures stack { OnOk result (final_stack.new.numbers ≡ reverse state.new.store.stack) }
+    ensures stack_room { final_stack.new.room ≡ final_stack.old.room }
+    ensures shapes { HasShapes state.old.zones state.new.zones }
+    ensures sizes { HasSizes state.old state.new }
+{
+    let prelude = run_prelude(state, programs)?;
+    prepared.take(state);
+    final_stack.take(state.store.numbers());
+    Ok(prelude)
+}
+
+/// The state that `fpgm` begins with, on the heap.
+fn boxed_state(alloc: Global, font: &Font<'_>, scale: Scale) -> Result<Box<State>, AllocError>
+    ensures { IfOk result (λ s. s.value ≡ first_state font.now scale) }
+{
+    let state = State::first(alloc, font, scale)?;
+    Ok(Box::new(alloc, state)?)
+}
+
+/// Tables of the sizes of a state's, on the heap.
+fn boxed_tables(alloc: Global, state: &State) -> Result<Box<Prepared>, AllocError>
+    requires { length state.now.definitions.opcodes ≡ 256 }
+    ensures { IfOk result (λ p. Fits p.value state.now) }
+{
+    let prepared = Prepared::like(alloc, state)?;
+    Ok(Box::new(alloc, prepared)?)
+}
+
+/// The machine of a font at a size: what its programs left, and the state that programs of glyphs run in. Both are large, and lie
+/// on the heap, so that a machine is small to hold.
 #[derive(Drop)]
 pub struct Machine<'a> {
     font: Font<'a>,
     font_program: &'a [u8],
     prep: &'a [u8],
-    prepared: Prepared,
+    prepared: Box<Prepared>,
     prelude: Ran,
-    state: State,
+    state: Box<State>,
     final_stack: FinalStack,
 }
 
@@ -104,13 +147,14 @@ impl<'a> Model for Machine<'a> {
     ghost Value = { MachineView };
 
     ghost view = { λ m. record {
-      known = record { face = m.font; ppem = m.state.scale.ppem; prepared = m.prepared; prelude = m.prelude };
+      known = record { face = m.font; ppem = m.state.value.scale.ppem; prepared = m.prepared.value; prelude = m.prelude };
       final_stack = m.final_stack.numbers;
     } };
 
-    ghost invariant = { λ m. (Fits m.prepared m.state) × (m.state.store.room ≡ room_of m.font.maxp.max_stack_elements)
+    ghost invariant = { λ m. (Fits m.prepared.value m.state.value)
+        × (m.state.value.store.room ≡ room_of m.font.maxp.max_stack_elements)
         × (m.font_program.now ≡ table_or_empty m.font.file (codes "fpgm")) × (m.prep.now ≡ table_or_empty m.font.file (codes "prep"))
-        × (m.state.scale ≡ scale_of m.font m.state.scale.ppem) × (m.final_stack.room ≡ m.state.store.room) };
+        × (m.state.value.scale ≡ scale_of m.font m.state.value.scale.ppem) × (m.final_stack.room ≡ m.state.value.store.room) };
 }
 
 impl<'a> Machine<'a> {
@@ -119,6 +163,11 @@ impl<'a> Machine<'a> {
     pub fn new(alloc: Global, font: Font<'a>, ppem: Ppem) -> Result<Machine<'a>, MachineFault>
         ensures value { GivesUnless Fails (λ m. m.known) result (machine_of font.entry ppem) }
         ensures stack { GivesUnless Fails (λ m. m.final_stack) result (final_stack_of font.entry ppem) }
+        ensures font { IfOk result (λ m. m.known.face ≡ font.entry) }
+        ensures size { IfOk result (λ m. m.known.ppem ≡ ppem) }
+        ensures storage { IfOk result (λ m. length m.known.prepared.storage ≡ font.entry.maxp.max_storage) }
+        ensures controls { IfOk result (λ m. length m.known.prepared.cvt ≡ length (controls_of font.entry (scale_of font.entry ppem))) }
+        ensures twilight { IfOk result (λ m. length m.known.prepared.twilight.points ≡ font.entry.maxp.max_twilight_points) }
     {
         let font_program = table_or_empty(&font, *b"fpgm");
         let prep = table_or_empty(&font, *b"prep");
@@ -129,12 +178,10 @@ impl<'a> Machine<'a> {
             number: 0,
         };
         let scale = Scale::of(&font, ppem);
-        let mut state = State::first(alloc, &font, scale)?;
-        let mut prepared = Prepared::like(alloc, &state)?;
+        let mut state = boxed_state(alloc, &font, scale)?;
+        let mut prepared = boxed_tables(alloc, &state)?;
         let mut final_stack = FinalStack::new(alloc, state.store.stack_room())?;
-        let prelude = run_prelude(&mut state, &programs)?;
-        prepared.take(&state);
-        final_stack.take(state.store.numbers());
+        let prelude = run_and_take(&mut state, &programs, &mut prepared, &mut final_stack)?;
         Ok(Machine {
             font,
             font_program,

@@ -23,6 +23,3 @@ mod zones;
 pub use distances::Relative;
 pub use measure::Line;
 pub use zones::Zones;
-
-#[cfg(test)]
-mod tests;

@@ -14,6 +14,3 @@ pub use cvt::cvt_of;
 pub use phantom::{PhantomPoints, fitted, phantoms};
 pub use scale::{Scale, scaled};
 pub use zone::zone_of;
-
-#[cfg(test)]
-mod tests;

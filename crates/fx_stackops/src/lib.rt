@@ -17,6 +17,3 @@ mod tables;
 pub use fault::StackFault;
 pub use store::Store;
 pub use table::Table;
-
-#[cfg(test)]
-mod tests;

@@ -1,8 +1,12 @@
 use Rattle.std.specs.Prelude.{codes}
-use Rattle.std.proofs.Common.{ℕ, ◌++◌, ◌≤◌, to_z, of_z, w32, rules, arith, ap, ◌∙◌, length, length-append}
+use Rattle.std.proofs.Common.{◌≡◌, ℕ, ◌+◌, ◌++◌, ◌≤◌, List, leb, true, refl, to_z, of_z, w32, rules, arith, ap, ◌∙◌, length}
+use Rattle.std.proofs.Common.{length-append}
+use Rattle.std.proofs.lemmas.Bool.{leb-true}
 use Rattle.std.specs.Fmt.{decimal, signed_decimal}
 use Rattle.std.proofs.lemmas.Result.{err_from_is_err_and}
+use Rattle.fx_fixed.specs.Lines.{hexadecimal}
 use Rattle.fx_bdf.specs.Glyphs.{Box}
+use Rattle.fx_bdf.specs.Text.{name_prefix}
 use Rattle.fx_fixed.proofs.Decimals.{copied}
 use Rattle.fx_bdf.proofs.Adding.{adds_then, adds_none, adds_here, adds_out, then_more}
 use Rattle.fx_bdf.proofs.Parts.{head_added, head_short, head_long, head_pieces}
@@ -13,185 +17,164 @@ returns-in_err-free-clause-head g c =
     let p = err_from_is_err_and c.from_residual.result c.from_residual.ensures.1 in
     adds_out (adds_none _ c.in_err-free.ensures.adds) p.1 p.2
 
+-- bounds of what waits, step by step
+start : (w : List ℕ) → length w + 256 ≤ 1984 → length w ≤ 1728
+start w h = omega arith
+
+known : (p : List ℕ) (k : ℕ) → length p ≡ k → length p ≤ k
+known p k e = omega arith
+
+more : (w v p : List ℕ) (u k : ℕ) → v ≡ w ++ p → length w ≤ u → length p ≤ k → length v ≤ u + k
+more w v p u k e h s = omega (arith, ap length e, length-append w p)
+
+number : (w v p d : List ℕ) (u k : ℕ) → v ≡ w ++ (p ++ d) → length w ≤ u → length p ≤ k → length d ≤ 20
+    → length v ≤ u + (k + 20)
+number w v p d u k e h s t = omega (arith, ap length e, length-append w (p ++ d), length-append p d)
+
+room : (w p : List ℕ) (u k : ℕ) → length w ≤ u → length p ≤ k → leb (u + k) 1984 ≡ true → length w + length p ≤ 1984
+room w p u k h s t = omega (arith, leb-true (u + k) 1984 t)
+
+room_for_number : (w p : List ℕ) (u k : ℕ) → length w ≤ u → length p ≤ k → leb (u + k + 20) 1984 ≡ true
+    → length w + length p + 20 ≤ 1984
+room_for_number w p u k h s t = omega (arith, leb-true (u + k + 20) 1984 t)
+
 pub add-requires : goal.add-requires
 add-requires g c =
-    omega (arith, length-append {A = ℕ}, c.in_ok-free.ensures.free)
+    let l0 = start c.free.new.self.waiting c.in_ok-free.ensures.free in
+    room c.free.new.self.waiting (codes "STARTCHAR ") 1728 10 l0 (known (codes "STARTCHAR ") 10 refl) refl
 
 pub add-requires-2 : goal.add-requires-2
 add-requires-2 g c =
-    omega (arith, length-append {A = ℕ}, c.in_ok-free.ensures.free, c.name_prefix.ensures.short, ap length c.add.ensures.waiting)
+    let l0 = start c.free.new.self.waiting c.in_ok-free.ensures.free in
+    let l1 = more _ _ (codes "STARTCHAR ") 1728 10 c.add.ensures.waiting l0 (known (codes "STARTCHAR ") 10 refl) in
+    room c.add.new.self.waiting c.name_prefix.result.now 1738 3 l1 c.name_prefix.ensures.short refl
 
 pub add-requires-3 : goal.add-requires-3
 add-requires-3 g c =
-    omega (
-      arith,
-      length-append {A = ℕ},
-      c.in_ok-free.ensures.free,
-      c.name_prefix.ensures.short,
-      c.text.ensures.short,
-      ap length c.add.ensures.waiting,
-      ap length c.add-2.ensures.waiting,
-    )
+    let l0 = start c.free.new.self.waiting c.in_ok-free.ensures.free in
+    let l1 = more _ _ (codes "STARTCHAR ") 1728 10 c.add.ensures.waiting l0 (known (codes "STARTCHAR ") 10 refl) in
+    let l2 = more _ _ c.name_prefix.result.now 1738 3 c.add-2.ensures.waiting l1 c.name_prefix.ensures.short in
+    room c.add-2.new.self.waiting c.text.result.now 1741 20 l2 c.text.ensures.short refl
 
 pub add_unsigned-requires : goal.add_unsigned-requires
 add_unsigned-requires g c =
-    omega (
-      arith,
-      length-append {A = ℕ},
-      c.in_ok-free.ensures.free,
-      c.name_prefix.ensures.short,
-      c.text.ensures.short,
-      ap length c.add.ensures.waiting,
-      ap length c.add-2.ensures.waiting,
-      ap length c.add-3.ensures.waiting,
-    )
+    let l0 = start c.free.new.self.waiting c.in_ok-free.ensures.free in
+    let l1 = more _ _ (codes "STARTCHAR ") 1728 10 c.add.ensures.waiting l0 (known (codes "STARTCHAR ") 10 refl) in
+    let l2 = more _ _ c.name_prefix.result.now 1738 3 c.add-2.ensures.waiting l1 c.name_prefix.ensures.short in
+    let l3 = more _ _ c.text.result.now 1741 20 c.add-3.ensures.waiting l2 c.text.ensures.short in
+    room_for_number c.add-3.new.self.waiting (codes "\nENCODING ") 1761 10 l3 (known (codes "\nENCODING ") 10 refl) refl
 
 pub add_signed-requires : goal.add_signed-requires
 add_signed-requires g c =
-    omega (
-      arith,
-      length-append {A = ℕ},
-      c.in_ok-free.ensures.free,
-      c.name_prefix.ensures.short,
-      c.text.ensures.short,
-      ap length c.add.ensures.waiting,
-      ap length c.add-2.ensures.waiting,
-      ap length c.add-3.ensures.waiting,
-      ap length c.add_unsigned.ensures.waiting,
-      c.add_unsigned.ensures.short,
-    )
+    let l0 = start c.free.new.self.waiting c.in_ok-free.ensures.free in
+    let l1 = more _ _ (codes "STARTCHAR ") 1728 10 c.add.ensures.waiting l0 (known (codes "STARTCHAR ") 10 refl) in
+    let l2 = more _ _ c.name_prefix.result.now 1738 3 c.add-2.ensures.waiting l1 c.name_prefix.ensures.short in
+    let l3 = more _ _ c.text.result.now 1741 20 c.add-3.ensures.waiting l2 c.text.ensures.short in
+    let l4 = number _ _ (codes "\nENCODING ") _ 1761 10 c.add_unsigned.ensures.waiting l3
+    (known (codes "\nENCODING ") 10 refl) c.add_unsigned.ensures.short in
+    room_for_number c.add_unsigned.new.self.waiting (codes "\nSWIDTH ") 1791 8 l4 (known (codes "\nSWIDTH ") 8 refl) refl
 
 pub add_signed-requires-2 : goal.add_signed-requires-2
 add_signed-requires-2 g c =
-    omega (
-      arith,
-      length-append {A = ℕ},
-      c.in_ok-free.ensures.free,
-      c.name_prefix.ensures.short,
-      c.text.ensures.short,
-      ap length c.add.ensures.waiting,
-      ap length c.add-2.ensures.waiting,
-      ap length c.add-3.ensures.waiting,
-      ap length c.add_unsigned.ensures.waiting,
-      ap length c.add_signed.ensures.waiting,
-      c.add_unsigned.ensures.short,
-      c.add_signed.ensures.short,
-    )
+    let l0 = start c.free.new.self.waiting c.in_ok-free.ensures.free in
+    let l1 = more _ _ (codes "STARTCHAR ") 1728 10 c.add.ensures.waiting l0 (known (codes "STARTCHAR ") 10 refl) in
+    let l2 = more _ _ c.name_prefix.result.now 1738 3 c.add-2.ensures.waiting l1 c.name_prefix.ensures.short in
+    let l3 = more _ _ c.text.result.now 1741 20 c.add-3.ensures.waiting l2 c.text.ensures.short in
+    let l4 = number _ _ (codes "\nENCODING ") _ 1761 10 c.add_unsigned.ensures.waiting l3
+    (known (codes "\nENCODING ") 10 refl) c.add_unsigned.ensures.short in
+    let l5 = number _ _ (codes "\nSWIDTH ") _ 1791 8 c.add_signed.ensures.waiting l4
+    (known (codes "\nSWIDTH ") 8 refl) c.add_signed.ensures.short in
+    room_for_number c.add_signed.new.self.waiting (codes " 0\nDWIDTH ") 1819 10 l5 (known (codes " 0\nDWIDTH ") 10 refl) refl
 
 pub add_unsigned-requires-2 : goal.add_unsigned-requires-2
 add_unsigned-requires-2 g c =
-    omega (
-      arith,
-      length-append {A = ℕ},
-      c.in_ok-free.ensures.free,
-      c.name_prefix.ensures.short,
-      c.text.ensures.short,
-      ap length c.add.ensures.waiting,
-      ap length c.add-2.ensures.waiting,
-      ap length c.add-3.ensures.waiting,
-      ap length c.add_unsigned.ensures.waiting,
-      ap length c.add_signed.ensures.waiting,
-      ap length c.add_signed-2.ensures.waiting,
-      c.add_unsigned.ensures.short,
-      c.add_signed.ensures.short,
-      c.add_signed-2.ensures.short,
-    )
+    let l0 = start c.free.new.self.waiting c.in_ok-free.ensures.free in
+    let l1 = more _ _ (codes "STARTCHAR ") 1728 10 c.add.ensures.waiting l0 (known (codes "STARTCHAR ") 10 refl) in
+    let l2 = more _ _ c.name_prefix.result.now 1738 3 c.add-2.ensures.waiting l1 c.name_prefix.ensures.short in
+    let l3 = more _ _ c.text.result.now 1741 20 c.add-3.ensures.waiting l2 c.text.ensures.short in
+    let l4 = number _ _ (codes "\nENCODING ") _ 1761 10 c.add_unsigned.ensures.waiting l3
+    (known (codes "\nENCODING ") 10 refl) c.add_unsigned.ensures.short in
+    let l5 = number _ _ (codes "\nSWIDTH ") _ 1791 8 c.add_signed.ensures.waiting l4
+    (known (codes "\nSWIDTH ") 8 refl) c.add_signed.ensures.short in
+    let l6 = number _ _ (codes " 0\nDWIDTH ") _ 1819 10 c.add_signed-2.ensures.waiting l5
+    (known (codes " 0\nDWIDTH ") 10 refl) c.add_signed-2.ensures.short in
+    room_for_number c.add_signed-2.new.self.waiting (codes " 0\nBBX ") 1849 7 l6 (known (codes " 0\nBBX ") 7 refl) refl
 
 pub add_unsigned-requires-3 : goal.add_unsigned-requires-3
 add_unsigned-requires-3 g c =
-    omega (
-      arith,
-      length-append {A = ℕ},
-      c.in_ok-free.ensures.free,
-      c.name_prefix.ensures.short,
-      c.text.ensures.short,
-      ap length c.add.ensures.waiting,
-      ap length c.add-2.ensures.waiting,
-      ap length c.add-3.ensures.waiting,
-      ap length c.add_unsigned.ensures.waiting,
-      ap length c.add_signed.ensures.waiting,
-      ap length c.add_signed-2.ensures.waiting,
-      ap length c.add_unsigned-2.ensures.waiting,
-      c.add_unsigned.ensures.short,
-      c.add_signed.ensures.short,
-      c.add_signed-2.ensures.short,
-      c.add_unsigned-2.ensures.short,
-    )
+    let l0 = start c.free.new.self.waiting c.in_ok-free.ensures.free in
+    let l1 = more _ _ (codes "STARTCHAR ") 1728 10 c.add.ensures.waiting l0 (known (codes "STARTCHAR ") 10 refl) in
+    let l2 = more _ _ c.name_prefix.result.now 1738 3 c.add-2.ensures.waiting l1 c.name_prefix.ensures.short in
+    let l3 = more _ _ c.text.result.now 1741 20 c.add-3.ensures.waiting l2 c.text.ensures.short in
+    let l4 = number _ _ (codes "\nENCODING ") _ 1761 10 c.add_unsigned.ensures.waiting l3
+    (known (codes "\nENCODING ") 10 refl) c.add_unsigned.ensures.short in
+    let l5 = number _ _ (codes "\nSWIDTH ") _ 1791 8 c.add_signed.ensures.waiting l4
+    (known (codes "\nSWIDTH ") 8 refl) c.add_signed.ensures.short in
+    let l6 = number _ _ (codes " 0\nDWIDTH ") _ 1819 10 c.add_signed-2.ensures.waiting l5
+    (known (codes " 0\nDWIDTH ") 10 refl) c.add_signed-2.ensures.short in
+    let l7 = number _ _ (codes " 0\nBBX ") _ 1849 7 c.add_unsigned-2.ensures.waiting l6
+    (known (codes " 0\nBBX ") 7 refl) c.add_unsigned-2.ensures.short in
+    room_for_number c.add_unsigned-2.new.self.waiting (codes " ") 1876 1 l7 (known (codes " ") 1 refl) refl
 
 pub add_signed-requires-3 : goal.add_signed-requires-3
 add_signed-requires-3 g c =
-    omega (
-      arith,
-      length-append {A = ℕ},
-      c.in_ok-free.ensures.free,
-      c.name_prefix.ensures.short,
-      c.text.ensures.short,
-      ap length c.add.ensures.waiting,
-      ap length c.add-2.ensures.waiting,
-      ap length c.add-3.ensures.waiting,
-      ap length c.add_unsigned.ensures.waiting,
-      ap length c.add_signed.ensures.waiting,
-      ap length c.add_signed-2.ensures.waiting,
-      ap length c.add_unsigned-2.ensures.waiting,
-      ap length c.add_unsigned-3.ensures.waiting,
-      c.add_unsigned.ensures.short,
-      c.add_signed.ensures.short,
-      c.add_signed-2.ensures.short,
-      c.add_unsigned-2.ensures.short,
-      c.add_unsigned-3.ensures.short,
-    )
+    let l0 = start c.free.new.self.waiting c.in_ok-free.ensures.free in
+    let l1 = more _ _ (codes "STARTCHAR ") 1728 10 c.add.ensures.waiting l0 (known (codes "STARTCHAR ") 10 refl) in
+    let l2 = more _ _ c.name_prefix.result.now 1738 3 c.add-2.ensures.waiting l1 c.name_prefix.ensures.short in
+    let l3 = more _ _ c.text.result.now 1741 20 c.add-3.ensures.waiting l2 c.text.ensures.short in
+    let l4 = number _ _ (codes "\nENCODING ") _ 1761 10 c.add_unsigned.ensures.waiting l3
+    (known (codes "\nENCODING ") 10 refl) c.add_unsigned.ensures.short in
+    let l5 = number _ _ (codes "\nSWIDTH ") _ 1791 8 c.add_signed.ensures.waiting l4
+    (known (codes "\nSWIDTH ") 8 refl) c.add_signed.ensures.short in
+    let l6 = number _ _ (codes " 0\nDWIDTH ") _ 1819 10 c.add_signed-2.ensures.waiting l5
+    (known (codes " 0\nDWIDTH ") 10 refl) c.add_signed-2.ensures.short in
+    let l7 = number _ _ (codes " 0\nBBX ") _ 1849 7 c.add_unsigned-2.ensures.waiting l6
+    (known (codes " 0\nBBX ") 7 refl) c.add_unsigned-2.ensures.short in
+    let l8 = number _ _ (codes " ") _ 1876 1 c.add_unsigned-3.ensures.waiting l7
+    (known (codes " ") 1 refl) c.add_unsigned-3.ensures.short in
+    room_for_number c.add_unsigned-3.new.self.waiting (codes " ") 1897 1 l8 (known (codes " ") 1 refl) refl
 
 pub add_signed-requires-4 : goal.add_signed-requires-4
 add_signed-requires-4 g c =
-    omega (
-      arith,
-      length-append {A = ℕ},
-      c.in_ok-free.ensures.free,
-      c.name_prefix.ensures.short,
-      c.text.ensures.short,
-      ap length c.add.ensures.waiting,
-      ap length c.add-2.ensures.waiting,
-      ap length c.add-3.ensures.waiting,
-      ap length c.add_unsigned.ensures.waiting,
-      ap length c.add_signed.ensures.waiting,
-      ap length c.add_signed-2.ensures.waiting,
-      ap length c.add_unsigned-2.ensures.waiting,
-      ap length c.add_unsigned-3.ensures.waiting,
-      ap length c.add_signed-3.ensures.waiting,
-      c.add_unsigned.ensures.short,
-      c.add_signed.ensures.short,
-      c.add_signed-2.ensures.short,
-      c.add_unsigned-2.ensures.short,
-      c.add_unsigned-3.ensures.short,
-      c.add_signed-3.ensures.short,
-    )
+    let l0 = start c.free.new.self.waiting c.in_ok-free.ensures.free in
+    let l1 = more _ _ (codes "STARTCHAR ") 1728 10 c.add.ensures.waiting l0 (known (codes "STARTCHAR ") 10 refl) in
+    let l2 = more _ _ c.name_prefix.result.now 1738 3 c.add-2.ensures.waiting l1 c.name_prefix.ensures.short in
+    let l3 = more _ _ c.text.result.now 1741 20 c.add-3.ensures.waiting l2 c.text.ensures.short in
+    let l4 = number _ _ (codes "\nENCODING ") _ 1761 10 c.add_unsigned.ensures.waiting l3
+    (known (codes "\nENCODING ") 10 refl) c.add_unsigned.ensures.short in
+    let l5 = number _ _ (codes "\nSWIDTH ") _ 1791 8 c.add_signed.ensures.waiting l4
+    (known (codes "\nSWIDTH ") 8 refl) c.add_signed.ensures.short in
+    let l6 = number _ _ (codes " 0\nDWIDTH ") _ 1819 10 c.add_signed-2.ensures.waiting l5
+    (known (codes " 0\nDWIDTH ") 10 refl) c.add_signed-2.ensures.short in
+    let l7 = number _ _ (codes " 0\nBBX ") _ 1849 7 c.add_unsigned-2.ensures.waiting l6
+    (known (codes " 0\nBBX ") 7 refl) c.add_unsigned-2.ensures.short in
+    let l8 = number _ _ (codes " ") _ 1876 1 c.add_unsigned-3.ensures.waiting l7
+    (known (codes " ") 1 refl) c.add_unsigned-3.ensures.short in
+    let l9 = number _ _ (codes " ") _ 1897 1 c.add_signed-3.ensures.waiting l8
+    (known (codes " ") 1 refl) c.add_signed-3.ensures.short in
+    room_for_number c.add_signed-3.new.self.waiting (codes " ") 1918 1 l9 (known (codes " ") 1 refl) refl
 
 pub add-requires-4 : goal.add-requires-4
 add-requires-4 g c =
-    omega (
-      arith,
-      length-append {A = ℕ},
-      c.in_ok-free.ensures.free,
-      c.name_prefix.ensures.short,
-      c.text.ensures.short,
-      ap length c.add.ensures.waiting,
-      ap length c.add-2.ensures.waiting,
-      ap length c.add-3.ensures.waiting,
-      ap length c.add_unsigned.ensures.waiting,
-      ap length c.add_signed.ensures.waiting,
-      ap length c.add_signed-2.ensures.waiting,
-      ap length c.add_unsigned-2.ensures.waiting,
-      ap length c.add_unsigned-3.ensures.waiting,
-      ap length c.add_signed-3.ensures.waiting,
-      ap length c.add_signed-4.ensures.waiting,
-      c.add_unsigned.ensures.short,
-      c.add_signed.ensures.short,
-      c.add_signed-2.ensures.short,
-      c.add_unsigned-2.ensures.short,
-      c.add_unsigned-3.ensures.short,
-      c.add_signed-3.ensures.short,
-      c.add_signed-4.ensures.short,
-    )
+    let l0 = start c.free.new.self.waiting c.in_ok-free.ensures.free in
+    let l1 = more _ _ (codes "STARTCHAR ") 1728 10 c.add.ensures.waiting l0 (known (codes "STARTCHAR ") 10 refl) in
+    let l2 = more _ _ c.name_prefix.result.now 1738 3 c.add-2.ensures.waiting l1 c.name_prefix.ensures.short in
+    let l3 = more _ _ c.text.result.now 1741 20 c.add-3.ensures.waiting l2 c.text.ensures.short in
+    let l4 = number _ _ (codes "\nENCODING ") _ 1761 10 c.add_unsigned.ensures.waiting l3
+    (known (codes "\nENCODING ") 10 refl) c.add_unsigned.ensures.short in
+    let l5 = number _ _ (codes "\nSWIDTH ") _ 1791 8 c.add_signed.ensures.waiting l4
+    (known (codes "\nSWIDTH ") 8 refl) c.add_signed.ensures.short in
+    let l6 = number _ _ (codes " 0\nDWIDTH ") _ 1819 10 c.add_signed-2.ensures.waiting l5
+    (known (codes " 0\nDWIDTH ") 10 refl) c.add_signed-2.ensures.short in
+    let l7 = number _ _ (codes " 0\nBBX ") _ 1849 7 c.add_unsigned-2.ensures.waiting l6
+    (known (codes " 0\nBBX ") 7 refl) c.add_unsigned-2.ensures.short in
+    let l8 = number _ _ (codes " ") _ 1876 1 c.add_unsigned-3.ensures.waiting l7
+    (known (codes " ") 1 refl) c.add_unsigned-3.ensures.short in
+    let l9 = number _ _ (codes " ") _ 1897 1 c.add_signed-3.ensures.waiting l8
+    (known (codes " ") 1 refl) c.add_signed-3.ensures.short in
+    let l10 = number _ _ (codes " ") _ 1918 1 c.add_signed-4.ensures.waiting l9
+    (known (codes " ") 1 refl) c.add_signed-4.ensures.short in
+    room c.add_signed-4.new.self.waiting (codes "\nBITMAP\n") 1939 8 l10 (known (codes "\nBITMAP\n") 8 refl) refl
 
 pub returns-clause-head : goal.returns-clause-head
 unfolding head_pieces
@@ -228,9 +211,12 @@ returns-clause-head g c =
     c.add_unsigned-3.ensures.done ∙ c.add_unsigned-2.ensures.done ∙ c.add_signed-2.ensures.done ∙ c.add_signed.ensures.done ∙
     c.add_unsigned.ensures.done ∙ c.add-3.ensures.done ∙ c.add-2.ensures.done ∙ c.add.ensures.done in
     head_added c.args.glyph.now {q = c.name_prefix.result.now} {u = c.text.result.now} {c = code} {s = swidth} {d = dwidth}
-    {w = width} {h = height} {x = left} {y = bottom} (cc) (cc) (ap decimal c.code-3.ensures)
-    (ap signed_decimal (copied c.swidth.result (search rules) ∙ c.swidth.ensures))
-    (ap signed_decimal (copied c.dwidth.result (search rules) ∙ c.dwidth.ensures))
+    {w = width} {h = height} {x = left} {y = bottom}
+    (c.name_prefix.ensures.value ∙ ap name_prefix c.code.ensures)
+    (c.text.ensures.value ∙ c.hexadecimal.ensures ∙ ap (hexadecimal 4) (c.from.ensures ∙ c.code-2.ensures))
+    (ap decimal c.code-3.ensures)
+    (ap signed_decimal (copied c.swidth.result (record { sfits = c.swidth.type_inv }) ∙ c.swidth.ensures))
+    (ap signed_decimal (copied c.dwidth.result (record { sfits = c.dwidth.type_inv }) ∙ c.dwidth.ensures))
     (ap (λ (b : Box). decimal b.width) c.bounds-bounds.ensures.value)
     (ap (λ (b : Box). decimal b.height) c.bounds-bounds.ensures.value)
     (ap signed_decimal (copied c.bounds-bounds.result.left (search rules)) ∙ ap (λ (b : Box). signed_decimal b.left)
@@ -256,9 +242,12 @@ returns-clause-short g c =
     let few_left : length left ≤ 20 = c.add_signed-3.ensures.short in
     let few_bottom : length bottom ≤ 20 = c.add_signed-4.ensures.short in
     head_short c.args.glyph.now {q = c.name_prefix.result.now} {u = c.text.result.now} {c = code} {s = swidth} {d = dwidth}
-    {w = width} {h = height} {x = left} {y = bottom} (cc) (cc) (ap decimal c.code-3.ensures)
-    (ap signed_decimal (copied c.swidth.result (search rules) ∙ c.swidth.ensures))
-    (ap signed_decimal (copied c.dwidth.result (search rules) ∙ c.dwidth.ensures))
+    {w = width} {h = height} {x = left} {y = bottom}
+    (c.name_prefix.ensures.value ∙ ap name_prefix c.code.ensures)
+    (c.text.ensures.value ∙ c.hexadecimal.ensures ∙ ap (hexadecimal 4) (c.from.ensures ∙ c.code-2.ensures))
+    (ap decimal c.code-3.ensures)
+    (ap signed_decimal (copied c.swidth.result (record { sfits = c.swidth.type_inv }) ∙ c.swidth.ensures))
+    (ap signed_decimal (copied c.dwidth.result (record { sfits = c.dwidth.type_inv }) ∙ c.dwidth.ensures))
     (ap (λ (b : Box). decimal b.width) c.bounds-bounds.ensures.value)
     (ap (λ (b : Box). decimal b.height) c.bounds-bounds.ensures.value)
     (ap signed_decimal (copied c.bounds-bounds.result.left (search rules)) ∙ ap (λ (b : Box). signed_decimal b.left)

@@ -1,9 +1,32 @@
+use Rattle.fx_fixed.proofs.Linear.{signed_linear}
+use Rattle.std.proofs.Common.{arith}
 use Rattle.std.proofs.Common.{subst, pos, ◌+ℤ◌}
 use Rattle.fx_winding.specs.Winding.{centre}
 use Rattle.fx_rows.specs.inner.Arcs.{AreAreas}
 use Rattle.fx_rows.specs.inner.Bands.{bounded_span}
 use Rattle.fx_rows.proofs.Stepping.{strip_row}
 use Rattle.fx_rows.proofs.add.add_inner_rows.Goals as goal
+
+pub add_clear_rows-requires-clause-rows : goal.add_clear_rows-requires-clause-rows
+add_clear_rows-requires-clause-rows c = omega (arith, signed_linear)
+
+pub add_line_rows-requires-clause-rows : goal.add_line_rows-requires-clause-rows
+add_line_rows-requires-clause-rows c = omega (arith, signed_linear)
+
+pub returns-in-None-clause-count : goal.returns-in-None-clause-count
+returns-in-None-clause-count c = omega (arith, signed_linear)
+
+pub returns-in-Some-clause-count : goal.returns-in-Some-clause-count
+returns-in-Some-clause-count c = omega (arith, signed_linear)
+
+pub returns-then-bounded-clause-count : goal.returns-then-bounded-clause-count
+returns-then-bounded-clause-count c = omega (arith, signed_linear)
+
+pub row_of-requires : goal.row_of-requires
+row_of-requires c = omega (arith, signed_linear)
+
+pub strip_of-strip-requires : goal.strip_of-strip-requires
+strip_of-strip-requires c = omega (arith, signed_linear)
 
 pub add_curve_rows-requires-clause-areas : goal.add_curve_rows-requires-clause-areas
 add_curve_rows-requires-clause-areas c =

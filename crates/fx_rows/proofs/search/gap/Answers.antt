@@ -5,6 +5,24 @@ use Rattle.fx_winding.specs.Area.{gap_of}
 use Rattle.fx_rows.proofs.search.gap.Goals as goal
 use mir.Syntax.{w128}
 
+pub overflow_add-g : goal.overflow_add-g
+overflow_add-g c = omega (arith, signed_linear)
+
+pub overflow_sub-g : goal.overflow_sub-g
+overflow_sub-g c = omega (arith, signed_linear)
+
+pub product-requires-2-clause-near_a : goal.product-requires-2-clause-near_a
+product-requires-2-clause-near_a c = omega (arith, signed_linear)
+
+pub product-requires-2-clause-near_b : goal.product-requires-2-clause-near_b
+product-requires-2-clause-near_b c = omega (arith, signed_linear)
+
+pub product-requires-clause-near_a : goal.product-requires-clause-near_a
+product-requires-clause-near_a c = omega (arith, signed_linear)
+
+pub product-requires-clause-near_b : goal.product-requires-clause-near_b
+product-requires-clause-near_b c = omega (arith, signed_linear)
+
 -- the gap without its copies
 whole : (u v w x y : ℤ) → IsWithin (2 ^ 96) x → IsWithin (2 ^ 96) y → x ≡ u *ℤ w → y ≡ v *ℤ v
     → to_z w128 (of_z w128 (to_z w128 (of_z w128 (pos 4 *ℤ to_z w128 (of_z w128 x))) -ℤ to_z w128 (of_z w128 y))) ≡ gap_of u v w

@@ -1,0 +1,98 @@
+//! Characters looked up in maps of formats 4 and 12.
+use fx_cmap::CharMap;
+use fx_sfnt::Font;
+use std::alloc::Global;
+use std::process::Abort;
+use std::test::Fail;
+
+/// A font of one empty glyph, up to its last table, `cmap`, which ends where the file does.
+const FRONT: &[u8] = b"\0\x01\0\0\0\x07\0\0\0\0\0\0\
+    cmap\0\0\0\0\0\0\0\xFE\0\0\xFF\xFF\
+    glyf\0\0\0\0\0\0\0\xFE\0\0\0\0\
+    head\0\0\0\0\0\0\0\x7C\0\0\0\x36\
+    hhea\0\0\0\0\0\0\0\xD2\0\0\0\x24\
+    hmtx\0\0\0\0\0\0\0\xF6\0\0\0\x04\
+    loca\0\0\0\0\0\0\0\xFA\0\0\0\x04\
+    maxp\0\0\0\0\0\0\0\xB2\0\0\0\x20\
+    \0\x01\0\0\0\0\0\0\0\0\0\0\x5F\x0F\x3C\xF5\0\0\x04\0\
+    \0\0\0\0\0\0\0\0\0\0\0\0\0\0\0\0\0\0\0\0\0\0\0\0\0\0\0\0\0\0\0\0\0\0\
+    \0\x01\0\0\0\x01\0\0\0\0\0\0\0\0\0\0\0\0\0\0\0\0\0\0\0\0\0\0\0\0\0\0\
+    \0\x01\0\0\0\0\0\0\0\0\0\0\0\0\0\0\0\0\0\0\0\0\0\0\0\0\0\0\0\0\0\0\0\0\0\x01\
+    \0\0\0\0\0\0\0\0";
+
+/// Looks codes up by a map and by one cursor of it, and compares the glyph ids.
+fn has(rt: &impl Abort, map: &CharMap, rows: &[(u32, u16)]) {
+    let mut cursor = map.cursor();
+    'rows: for &(code, glyph) in rows {
+        let found = (map.glyph(code), cursor.glyph(code));
+        assert_eq!(rt; found, (glyph, glyph), "{code}");
+    }
+}
+
+/// Compares the glyph ids of codes in the map of these bytes of `cmap`.
+fn finds(rt: &impl Abort, alloc: Global, cmap: &[u8], rows: &[(u32, u16)]) -> Result<(), Fail> {
+    let mut file = Vec::from_slice(alloc, FRONT)?;
+    file.extend_from_slice(cmap)?;
+    let font = Font::open(file.as_slice())?;
+    has(rt, &CharMap::open(&font)?, rows);
+    Ok(())
+}
+
+/// Two segments: 41 to 42 by the glyph ids 7 and 0, and the last one.
+const TWO: &[u8] = &[
+    0, 0, 0, 1, 0, 3, 0, 1, 0, 0, 0, 12, // header, and the record for Windows with Unicode
+    0, 4, 0, 0x24, 0, 0, 0, 4, 0, 0, 0, 0, 0, 0, // format 4 with two segments
+    0, 0x42, 0xFF, 0xFF, 0, 0, 0, 0x41, 0xFF, 0xFF, // end codes, two bytes unused, start codes
+    0, 5, 0, 1, 0, 4, 0, 0, 0, 7, 0, 0, // deltas, range offsets, glyph ids
+];
+
+/// Two groups, for Windows with all of Unicode: 41 to 42 from glyph 2 on, and 1F600.
+const GROUPS: &[u8] = &[
+    0, 0, 0, 1, 0, 3, 0, 10, 0, 0, 0, 12, // header, and the record for Windows with all of Unicode
+    0, 12, 0, 0, 0, 0, 0, 0x28, 0, 0, 0, 0, 0, 0, 0, 2, // format 12 with two groups
+    0, 0, 0, 0x41, 0, 0, 0, 0x42, 0, 0, 0, 2, // the first group
+    0, 1, 0xF6, 0, 0, 1, 0xF6, 0, 0, 0, 0, 3, // the second group
+];
+
+/// Codes that rise, and then fall, of the two segments.
+const SEGMENT_CODES: [(u32, u16); 11] = [
+    (0x40, 0),
+    (0x41, 12),
+    (0x42, 0),
+    (0x43, 0),
+    (0xFFFF, 0),
+    (0x1_0041, 0),
+    (0xFFFF, 0),
+    (0x41, 12),
+    (0x40, 0),
+    (0x1_0041, 0),
+    (0x41, 12),
+];
+
+#[test]
+fn segments(rt: HostRuntime) -> Result<(), Fail> {
+    finds(&rt, rt.alloc(), TWO, &SEGMENT_CODES)
+}
+
+/// Codes that rise, and then fall, of the two groups.
+const GROUP_CODES: [(u32, u16); 9] = [
+    (0x40, 0),
+    (0x41, 2),
+    (0x42, 3),
+    (0x43, 0),
+    (0x1_F5FF, 0),
+    (0x1_F600, 3),
+    (0x1_F601, 0),
+    (0x41, 2),
+    (0x40, 0),
+];
+
+#[test]
+fn groups(rt: HostRuntime) -> Result<(), Fail> {
+    finds(&rt, rt.alloc(), GROUPS, &GROUP_CODES)
+}
+
+#[test]
+fn an_id_past_the_end_is_no_glyph(rt: HostRuntime) -> Result<(), Fail> {
+    finds(&rt, rt.alloc(), &TWO[..44], &[(0x41, 0)])
+}

@@ -1,0 +1,175 @@
+//! Rounding, directions, numbers as text, sinks and sources.
+use fx_fixed::{
+    Digits, F2, FromReader, Limits, MemorySink, MemorySource, Sink, Source, ToSink, WriteFailed,
+    cut, near, near_64, near_16384, put_all, unit, w32,
+};
+use std::io;
+use std::io::{Read, Write};
+use std::process::Abort;
+use std::test::Fail;
+
+#[test]
+fn rounds_halves_away_from_zero(rt: HostRuntime) -> Result<(), Fail> {
+    for (n, d, want) in [
+        (3, 2, 2),
+        (-3, 2, -2),
+        (3, -2, -2),
+        (-5, -3, 2),
+        (4, 3, 1),
+        (-31, 64, 0),
+        (-32, 64, -1),
+    ] {
+        assert_eq!(rt; near(n, d), want);
+    }
+    assert_eq!(rt; (near_64(31), near_64(32), near_64(-32)), (0, 1, -1));
+    assert_eq!(rt;
+        (near_16384(8191), near_16384(8192), near_16384(-8192)),
+        (0, 1, -1)
+    );
+    Ok(())
+}
+
+#[test]
+fn cuts_and_wraps(rt: HostRuntime) -> Result<(), Fail> {
+    assert_eq!(rt; (cut(-5, 3), cut(5, -3), cut(-5, -3)), (-1, -1, 1));
+    assert_eq!(rt; w32(1 << 31), i32::MIN);
+    assert_eq!(rt; w32(-(1 << 31) - 1), i32::MAX);
+    Ok(())
+}
+
+#[test]
+fn directions(rt: HostRuntime) {
+    let least = i32::MIN;
+    for (x, y, want) in [
+        (3, 4, (9830, 13107)),
+        (1, 4, (3974, 15895)),
+        (-1, 4, (-3974, 15895)),
+        (0, 0, (16384, 0)),
+        (0, least, (0, -16384)),
+        (least, 0, (-16384, 0)),
+        (least, least, (-11585, -11585)),
+    ] {
+        let (F2(a), F2(b)) = unit(x, y);
+        assert_eq!(rt; (a, b), want, "{x} {y}");
+    }
+}
+
+/// Whether this is the text of a number.
+fn reads(digits: &Digits, text: &[u8]) -> bool {
+    digits.text() == text
+}
+
+#[test]
+fn numbers_as_text(rt: HostRuntime) {
+    assert!(rt; reads(&Digits::unsigned(0), b"0"));
+    assert!(rt; reads(&Digits::unsigned(u64::MAX), b"18446744073709551615"));
+    assert!(rt; reads(&Digits::signed(i32::MIN), b"-2147483648"));
+    assert!(rt; reads(&Digits::hexadecimal(0, 2), b"00"));
+    assert!(rt; reads(&Digits::hexadecimal(0x2B, 4), b"002B"));
+    assert!(rt; reads(&Digits::hexadecimal(0x1F600, 4), b"1F600"));
+    assert!(rt; reads(&Digits::hexadecimal(u64::MAX, 4), b"FFFFFFFFFFFFFFFF"));
+}
+
+/// Sends 13 bytes in three pieces, one of them empty; returns how it went and the faults.
+fn send<W: Sink>(rt: &impl Abort, out: &mut W) -> (Result<(), WriteFailed>, u64) {
+    assert!(rt; out.faults() < 100);
+    let sent = put_all(out, &[b"STARTFONT ", b"", b"2.1"]);
+    (sent, out.faults())
+}
+
+#[test]
+fn a_full_sink_holds_the_front(rt: HostRuntime) -> Result<(), Fail> {
+    for bytes in 0..13usize {
+        let limits = Limits {
+            bytes,
+            ..Limits::NONE
+        };
+        let mut out = MemorySink::new(rt.alloc(), 13, limits)?;
+        assert_eq!(rt; send(&rt, &mut out), (Err(WriteFailed(bytes as u64)), 1));
+        assert!(rt; out.bytes() == &b"STARTFONT 2.1"[..bytes]);
+    }
+    Ok(())
+}
+
+#[test]
+fn a_slow_sink_takes_all(rt: HostRuntime) -> Result<(), Fail> {
+    let limits = Limits {
+        step: 1,
+        ..Limits::NONE
+    };
+    let mut out = MemorySink::new(rt.alloc(), 0, limits)?;
+    assert_eq!(rt; send(&rt, &mut out), (Ok(()), 0));
+    assert!(rt; out.bytes() == b"STARTFONT 2.1".as_slice());
+    Ok(())
+}
+
+#[test]
+fn a_hiccup_is_one_fault(rt: HostRuntime) -> Result<(), Fail> {
+    let limits = Limits {
+        hiccup: Some(10),
+        ..Limits::NONE
+    };
+    let mut out = MemorySink::new(rt.alloc(), 23, limits)?;
+    assert_eq!(rt; send(&rt, &mut out), (Err(WriteFailed(10)), 1));
+    assert_eq!(rt; send(&rt, &mut out), (Ok(()), 1));
+    Ok(())
+}
+
+/// Takes three bytes a call up to ten, and then none.
+#[derive(Drop)]
+struct Full {
+    bytes: usize,
+}
+
+impl Write for Full {
+    fn write(&mut self, buf: &[u8]) -> io::Result<usize> {
+        let n = 10usize.saturating_sub(self.bytes).min(3).min(buf.len());
+        self.bytes = self.bytes.saturating_add(n);
+        Ok(n)
+    }
+
+    fn flush(&mut self) -> io::Result<()> {
+        Ok(())
+    }
+}
+
+#[test]
+fn a_writer_that_takes_none_is_at_fault(rt: HostRuntime) -> Result<(), Fail> {
+    let mut out = ToSink::new(Full { bytes: 0 });
+    assert_eq!(rt; send(&rt, &mut out), (Err(WriteFailed(10)), 1));
+    assert_eq!(rt; send(&rt, &mut out), (Err(WriteFailed(0)), 2));
+    Ok(())
+}
+
+/// Fails each time.
+#[derive(Drop)]
+struct Broken;
+
+impl Read for Broken {
+    fn read(&mut self, _buf: &mut [u8]) -> io::Result<usize> {
+        Err(io::Error::from(io::ErrorKind::Other))
+    }
+}
+
+#[test]
+fn sources_give_and_fail(rt: HostRuntime) -> Result<(), Fail> {
+    let mut buffer = [0u8; 4];
+    let mut broken = FromReader::new(Broken);
+    assert_eq!(rt; (broken.take(&mut buffer), broken.faults()), (None, 1));
+    let limits = Limits {
+        bytes: 5,
+        step: 3,
+        hiccup: None,
+    };
+    let mut source = MemorySource::new(b"F1.ttf", limits);
+    assert_eq!(rt; source.take(&mut buffer), Some(3));
+    assert_eq!(rt; source.take(&mut buffer), Some(2));
+    assert!(rt; buffer == *b"tt.\0");
+    assert_eq!(rt; (source.take(&mut buffer), source.faults()), (None, 1));
+    let mut whole = MemorySource::new(b"F1", Limits::NONE);
+    assert_eq!(rt;
+        (whole.take(&mut buffer), whole.take(&mut buffer)),
+        (Some(2), Some(0))
+    );
+    Ok(())
+}
