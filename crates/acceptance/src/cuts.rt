@@ -1,7 +1,8 @@
 //! The fixture font cut short, at every length.
 use crate::fonts::fixture;
 use fx_fixed::{Limits, MemorySink};
-use fx_strike::{Refusal, Report, Request, make_strike};
+use fx_request::{Refusal, Report, Request};
+use fx_strike::make_strike;
 use std::alloc::{AllocError, Global};
 use std::test::Fail;
 

@@ -1,9 +1,11 @@
 //! Worked strikes with hinting on, and the halts of font programs.
 use crate::fonts::{ARC, RING, font, patch};
+use crate::strikes::request;
 use crate::tables::{NO_TABLES, Tables, with_tables};
 use fx_cli::run;
 use fx_fixed::{Limits, MemorySink, MemorySource};
-use fx_strike::{Refusal, Report, Request, make_strike};
+use fx_request::{Refusal, Report, Request};
+use fx_strike::make_strike;
 use std::alloc::Global;
 use std::process::Abort;
 use std::test::Fail;
@@ -63,8 +65,8 @@ fn nothing_passes_between_glyphs(rt: HostRuntime) -> Result<(), Fail> {
     Ok(())
 }
 
-/// A square of 90 units whose program rounds the right side up to the grid: it is 128 wide.
-const ROUNDED: &str =
+/// A square of 90 units whose program rounds the right side up to the grid: it is 128 wide, and else 90.
+pub const ROUNDED: &str =
     "0001 0000 0000 005a 005a 0003 0007 7C B1 01 00 2E 2F 31 31 33 35 23 5a 5a 5a";
 
 #[test]
@@ -76,6 +78,10 @@ fn a_square_to_the_grid(rt: HostRuntime) -> Result<(), Fail> {
         out.bytes()
             .ends_with(b"BBX 2 1 0 0\nBITMAP\nC0\nENDCHAR\nENDFONT\n")
     );
+    let mut out = MemorySink::new(rt.alloc(), 1024, Limits::NONE)?;
+    make_strike(rt.alloc(), font.as_slice(), &request(16, &[0x42]), &mut out)?;
+    let end = b"BBX 1 1 0 0\nBITMAP\n80\nENDCHAR\nENDFONT\n";
+    assert!(rt; out.bytes().ends_with(end));
     Ok(())
 }
 

@@ -1,7 +1,8 @@
 //! A strike of more than a megabyte of text, and one with a large glyph.
 use crate::fonts::{self, ARC, bytes, fixture, patch};
 use fx_fixed::{Limits, MemorySink, Sink};
-use fx_strike::{Report, Request, make_strike};
+use fx_request::{Report, Request};
+use fx_strike::make_strike;
 use std::alloc::Global;
 use std::test::Fail;
 

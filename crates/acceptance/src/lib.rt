@@ -46,4 +46,6 @@ mod surveys;
 #[cfg(test)]
 mod tables;
 #[cfg(test)]
+mod worked;
+#[cfg(test)]
 mod writers;

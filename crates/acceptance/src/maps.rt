@@ -1,7 +1,8 @@
 //! Characters past U+FFFF.
 use crate::fonts::{bytes, fixture, patch};
 use fx_fixed::{Limits, MemorySink};
-use fx_strike::{Report, Request, make_strike};
+use fx_request::{Report, Request};
+use fx_strike::make_strike;
 use std::alloc::Global;
 use std::process::Abort;
 use std::test::Fail;

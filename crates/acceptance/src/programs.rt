@@ -36,8 +36,8 @@ fn at(x: i32, y: i32) -> Point {
     Point::resting(place, true)
 }
 
-// The square from (0, 0) to (90, 90), with its phantom points.
-fn square(alloc: Global) -> Result<Zone, Fail> {
+/// The square from (0, 0) to (90, 90), with its phantom points.
+pub fn square(alloc: Global) -> Result<Zone, Fail> {
     let points = [
         at(0, 0),
         at(90, 0),
@@ -266,7 +266,7 @@ const MOVED: Tables = Tables {
     ..NO_TABLES
 };
 
-const POINTS: [Row; 6] = [
+const POINTS: [Row; 7] = [
     Row {
         what: "a point that is not there",
         tables: NO_TABLES,
@@ -301,6 +301,13 @@ const POINTS: [Row; 6] = [
         code: "b1 01 00 fc",
         want: Want::Steps(2),
         corners: [0, 64, 90, 0],
+    },
+    Row {
+        what: "its reference points: 2 is the point moved, 1 is not",
+        tables: MOVED,
+        code: "b1 01 00 fc b0 03 32 b0 02 33",
+        want: Want::Steps(6),
+        corners: [0, 64, 90, -26],
     },
     Row {
         what: "it leaves point 1 as the reference point 0, to which point 2 is moved",

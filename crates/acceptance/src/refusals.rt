@@ -1,6 +1,6 @@
 //! What refusals show: their number, name and fields.
 use fx_machine::{Cause, FontProgram, Halt};
-use fx_strike::Refusal;
+use fx_request::Refusal;
 use std::test::Fail;
 
 #[test]

@@ -2,7 +2,8 @@
 use crate::fonts::{STRIKE, fixture};
 use crate::strikes::request;
 use fx_fixed::{Limits, MemorySink};
-use fx_strike::{Refusal, make_strike_with};
+use fx_request::Refusal;
+use fx_strike::make_strike_with;
 use fx_winding::{Bitmap, Frame, Pieces, Plain, Scan, ScanFault, Tally};
 use std::alloc::Global;
 use std::test::Fail;

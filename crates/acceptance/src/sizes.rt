@@ -2,14 +2,16 @@
 use crate::fonts::{RING, fixture, font};
 use crate::strikes::request;
 use fx_fixed::{Limits, MemorySink};
+use fx_request::Refusal;
 use fx_rows::Rows;
-use fx_strike::{Refusal, make_strike, make_strike_with};
+use fx_strike::{make_strike, make_strike_with};
 use fx_winding::{Bitmap, Frame, Pieces, Scan, ScanFault, Tally};
 use std::alloc::Global;
 use std::test::Fail;
 
-/// The scan by rows, if it makes at most 4 * 1 * (6 * 14 + 12) = 384 tests: the limit of four pieces in one row of 8,192 pixels.
-struct Few;
+/// The scan by rows, if it makes at most so many tests. For four pieces in one row the limit is 4 * 1 * (6 * digits + 12), with the
+/// binary digits of the row's width: 336 for 2,048 pixels, 384 for 8,192.
+struct Few(u64);
 
 impl Scan for Few {
     fn scan(
@@ -20,7 +22,7 @@ impl Scan for Few {
         tally: &mut Tally,
     ) -> Result<Bitmap, ScanFault> {
         let bitmap = Rows.scan(alloc, pieces, frame, tally)?;
-        if tally.tests() > 384 {
+        if tally.tests() > self.0 {
             return Err(ScanFault::OutOfMemory);
         }
         Ok(bitmap)
@@ -40,16 +42,33 @@ fn the_widest_row(rt: HostRuntime) -> Result<(), Fail> {
     let request = request(1024, &[0x42]);
     let widest = font(rt.alloc(), RING, WIDEST)?;
     let mut out = MemorySink::new(rt.alloc(), 4096, Limits::NONE)?;
-    make_strike_with(rt.alloc(), &Few, widest.as_slice(), &request, &mut out)?;
+    make_strike_with(rt.alloc(), &Few(384), widest.as_slice(), &request, &mut out)?;
     let mut end = b"BBX 8192 1 0 0\nBITMAP\n".to_vec(rt.alloc())?;
     end.extend_from_slice(vec![in rt.alloc(); b'F'; 2048]?.as_slice())?;
     end.extend_from_slice(b"\nENDCHAR\nENDFONT\n")?;
     assert!(rt; out.bytes().ends_with(end.as_slice()));
     let wider = font(rt.alloc(), RING, WIDER)?;
     let mut out = MemorySink::new(rt.alloc(), 4096, Limits::NONE)?;
-    let result = make_strike_with(rt.alloc(), &Few, wider.as_slice(), &request, &mut out);
+    let result = make_strike_with(rt.alloc(), &Few(384), wider.as_slice(), &request, &mut out);
     assert_eq!(rt; result, Err(Refusal::GlyphTooLarge(3)));
     assert!(rt; out.bytes().is_empty());
+    Ok(())
+}
+
+/// A rectangle of 16,384 by 8 FUnits: 2,048 by 1 pixels at 128 pixels an em.
+const WHOLE_WORDS: &str =
+    "0001 0000 0000 0000 0000 0003 0000 01010101 0000 4000 0000 c000 0000 0000 0008 0000";
+
+#[test]
+fn a_row_of_2048_pixels(rt: HostRuntime) -> Result<(), Fail> {
+    let font = font(rt.alloc(), RING, WHOLE_WORDS)?;
+    let request = request(128, &[0x42]);
+    let mut out = MemorySink::new(rt.alloc(), 4096, Limits::NONE)?;
+    make_strike_with(rt.alloc(), &Few(336), font.as_slice(), &request, &mut out)?;
+    let mut end = b"BBX 2048 1 0 0\nBITMAP\n".to_vec(rt.alloc())?;
+    end.extend_from_slice(vec![in rt.alloc(); b'F'; 512]?.as_slice())?;
+    end.extend_from_slice(b"\nENDCHAR\nENDFONT\n")?;
+    assert!(rt; out.bytes().ends_with(end.as_slice()));
     Ok(())
 }
 

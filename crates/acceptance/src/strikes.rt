@@ -1,7 +1,8 @@
 //! Worked strikes, through the call that makes them.
 use crate::fonts::{ARC, RING, STRIKE, fixture, font, of_points, patch};
 use fx_fixed::{Limits, MemorySink, Sink};
-use fx_strike::{Refusal, Report, Request, make_strike};
+use fx_request::{Refusal, Report, Request};
+use fx_strike::make_strike;
 use std::alloc::Global;
 use std::process::Abort;
 use std::test::Fail;

@@ -2,7 +2,8 @@
 use crate::fonts::fixture;
 use crate::strikes::request;
 use fx_bdf::Bounds;
-use fx_strike::{Refusal, Request, Survey, one, survey};
+use fx_request::{Refusal, Request};
+use fx_strike::{Survey, one, survey};
 use fx_winding::{Bitmap, Frame, Pieces, Plain, Scan, ScanFault, Tally};
 use std::alloc::Global;
 use std::test::Fail;

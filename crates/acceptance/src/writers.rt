@@ -1,7 +1,8 @@
 //! Writers that fail, and writers that take little.
 use crate::fonts::{STRIKE, fixture};
 use fx_fixed::{Limits, MemorySink, Sink};
-use fx_strike::{Refusal, Report, Request, make_strike};
+use fx_request::{Refusal, Report, Request};
+use fx_strike::make_strike;
 use std::alloc::Global;
 use std::process::Abort;
 use std::test::Fail;

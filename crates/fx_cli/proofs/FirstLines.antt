@@ -12,8 +12,8 @@ use Rattle.std.proofs.lemmas.List.{take-append-le, drop-append-le}
 use Rattle.std.proofs.lemmas.List.Folds.{prefix_len-append}
 use Rattle.std.proofs.lemmas.List.{length-take-le, length-drop}
 use Rattle.std.proofs.lemmas.Bool.{ne_eqb, eqb-false, lt-ltb}
-use Rattle.fx_strike.specs.declared.refusal.Refusal.{Refusal}
-use Rattle.fx_strike.specs.declared.refusal.Refusal.TheVariants.{BadChars, BadHex, InputTooLarge, OutOfMemory, ReadFailed}
+use Rattle.fx_request.specs.declared.refusal.Refusal.{Refusal}
+use Rattle.fx_request.specs.declared.refusal.Refusal.TheVariants.{BadChars, BadHex, InputTooLarge, OutOfMemory, ReadFailed}
 use Rattle.fx_cli.specs.Limits.{max_line}
 use Rattle.fx_cli.specs.declared.done.Done.{Done}
 use Rattle.fx_cli.specs.declared.fault.Fault.{Fault}
@@ -22,7 +22,8 @@ use Rattle.fx_cli.specs.Arguments.{WishView, texts, wish_of_arguments}
 use Rattle.fx_cli.specs.ReadAhead.{ahead_of}
 use Rattle.fx_cli.specs.Input.{line_of, rest_of, arguments_of_line}
 use Rattle.fx_cli.specs.Runs.{AreArguments, AreArgumentsBy, Change, Ends, HasLine, IsReadForArguments, IsReason, IsSpared}
-use Rattle.fx_cli.specs.Runs.{IsUnread, IsUsageBy, Does, Runs, Stops, font_bytes, has_arguments, called, text_by, text_of}
+use Rattle.fx_cli.specs.Lines.{refusal_line}
+use Rattle.fx_cli.specs.Runs.{IsUnread, IsUsageBy, Does, Runs, Stops, Tells, font_bytes, has_arguments, called, text_by, text_of}
 use Rattle.clap.specs.Walk.{Text}
 use Rattle.fx_cli.specs.Steps.{EndsAfter, IsReasonAfter, DoesAfter, StopsAfter}
 
@@ -122,13 +123,15 @@ from_start before faults_before source = record source { bytes_before = before; 
 
 does : {given : List Text} {first : List ℕ} {before : Option (List ℕ)} {arguments : List Text}
     (faults_before : ℕ) (wish : WishView) (source sink : Change) (answer : Result Done Refusal)
+    → faults_before ≡ source.faults_before
     → IsFirst given first before source.bytes_before arguments → wish_of_arguments arguments ≡ Some wish
     → DoesAfter wish (ahead_of first) source sink answer
     → Does given (from_start before faults_before source) sink answer
-does {given} {first} {before} {arguments} faults_before wish source sink answer f asks m = record {
+does {given} {first} {before} {arguments} faults_before wish source sink answer same f asks m = record {
   input = first ++ m.more;
   read = Consumes-trans before source.bytes_before source.bytes first m.more f.read m.read;
   whole = m.whole;
+  calm = m.calm ∙ sym same;
   fits = omega (arith, m.fits, ahead_size first, length-append first m.more, length-append (rest_of first) m.more);
   arguments = arguments;
   are = are_arguments m.more source.bytes f (λ e. (m.rest e, m.whole));
@@ -187,9 +190,9 @@ pub line_ends : {given : List Text} {first : List ℕ} {before : Option (List �
     → IsFirst given first before source.bytes_before arguments → wish_of_arguments arguments ≡ Some wish
     → (outcome : Result Done Fault) → EndsAfter wish (ahead_of first) source sink outcome
     → Ends given (from_start before faults_before source) sink outcome
-line_ends faults_before wish source sink same f asks (Ok done) m = does faults_before wish source sink (Ok done) f asks m
+line_ends faults_before wish source sink same f asks (Ok done) m = does faults_before wish source sink (Ok done) same f asks m
 line_ends faults_before wish source sink same f asks (Err (Late refusal)) m =
-    does faults_before wish source sink (Err refusal) f asks m
+    does faults_before wish source sink (Err refusal) same f asks m
 line_ends faults_before wish source sink same f asks (Err (Early refusal)) s =
     stops faults_before wish source sink refusal same f asks s
 line_ends faults_before wish source sink same f asks (Err Usage) s = absurd s
@@ -267,10 +270,12 @@ abbrev pub unchanged : Option (List ℕ) → ℕ → Change
 unchanged bytes faults = record { bytes_before = bytes; bytes = bytes; faults_before = faults; faults = faults }
 
 -- there was no memory for the arguments
-pub without_arguments : (given : List Text) (left held : Option (List ℕ)) (read_faults write_faults status : ℕ) → status ≡ 1
-    → Runs given (unchanged left read_faults) (unchanged held write_faults) status
-without_arguments given left held read_faults write_faults status e = record {
+pub without_arguments : (given : List Text) (left held : Option (List ℕ)) (read_faults write_faults : ℕ) (err : Change)
+    (status : ℕ) → status ≡ 1 → Tells (refusal_line OutOfMemory) err
+    → Runs given (unchanged left read_faults) (unchanged held write_faults) err status
+without_arguments given left held read_faults write_faults err status e t = record {
   outcome = Err (Early OutOfMemory);
   ends = record { got = []; read = reads_none left; spared = (keeps_same held, refl); reason = tt };
   told = e;
+  line = t;
 }

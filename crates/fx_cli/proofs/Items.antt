@@ -8,7 +8,7 @@ use Rattle.std.proofs.lemmas.Bool.{lt-ltb, le-ltb}
 use Rattle.std.proofs.lemmas.List.Splits.{slice_split_none, slice_split_first}
 use Rattle.std.proofs.lemmas.List.Sums.{fails_before_first}
 use Rattle.std.proofs.lemmas.Grind.{common_steps}
-use Rattle.fx_strike.specs.Limits.{max_characters}
+use Rattle.fx_request.specs.Limits.{max_characters}
 use Rattle.fx_cli.specs.Chars.{few, items_of, numbers_between, numbers_of_items, numbers_of_list, number_of, pair_of, range_of}
 use Rattle.fx_cli.specs.Parts.{parts_of}
 use Rattle.fx_cli.proofs.Numerals.{length-numbers_from}

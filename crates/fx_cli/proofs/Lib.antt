@@ -4,4 +4,5 @@ pub mod Buffers
 pub mod Options
 pub mod Made
 pub mod FirstLines
+pub mod Telling
 pub mod Pictures

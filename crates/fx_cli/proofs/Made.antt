@@ -3,7 +3,7 @@
 use Rattle.std.proofs.Common.{◌≡◌, ◌∙◌, ℕ, List, [], ◌∷◌, ◌++◌, filter, refl, sym, ap, Some, Bool, true, false, cond, Result, Ok}
 use Rattle.std.proofs.Common.{Err, append_assoc}
 use Rattle.fx_fixed.specs.Chain.{map_fault}
-use Rattle.fx_strike.specs.declared.refusal.Refusal.{Refusal}
+use Rattle.fx_request.specs.declared.refusal.Refusal.{Refusal}
 use Rattle.fx_cli.specs.declared.done.Done.{Done}
 use Rattle.fx_cli.specs.declared.fault.Fault.TheVariants.{Late}
 use Rattle.fx_cli.specs.Jobs.{JobView}

@@ -3,7 +3,7 @@
 use Rattle.std.proofs.Common.{◌≡◌, ◌∙◌, ℕ, ◌<◌, List, [], ◌∷◌, length, refl, sym, ap, ap₂, Option, Some, None, Bool, true, false}
 use Rattle.std.proofs.Common.{Result, Ok, Err, ◌&&◌, ◌||◌, subst, ◌⊎◌, inr, IfOk, IfErr, option_map, option_and_then}
 use Rattle.std.specs.Option.{ok_or}
-use Rattle.fx_strike.specs.declared.refusal.Refusal.TheVariants.{OutOfMemory}
+use Rattle.fx_request.specs.declared.refusal.Refusal.TheVariants.{OutOfMemory}
 use Rattle.fx_cli.specs.declared.fault.Fault.{Fault}
 use Rattle.fx_cli.specs.declared.fault.Fault.TheVariants.{Usage, Early}
 use Rattle.fx_cli.specs.declared.wish.Wish.{Wish}

@@ -11,8 +11,8 @@ use Rattle.clap.specs.Simple.{App, new_app, new_rule, with_rule, matches_of}
 use Rattle.clap.specs.Faults.{fault_of}
 use Rattle.clap.specs.Kinds.{Kinds}
 use Rattle.clap.specs.declared.builder.action.ArgAction.TheVariants.{Set, SetTrue}
-use Rattle.fx_strike.specs.declared.listing.Which.{Which}
-use Rattle.fx_strike.specs.declared.listing.Which.TheVariants.{Fpgm, Prep, Glyph}
+use Rattle.fx_request.specs.declared.which.Which.{Which}
+use Rattle.fx_request.specs.declared.which.Which.TheVariants.{Fpgm, Prep, Glyph}
 use Rattle.fx_cli.specs.declared.wish.Wish.{Wish}
 use Rattle.fx_cli.specs.declared.wish.MakeArguments.{MakeArguments}
 use Rattle.fx_cli.specs.declared.wish.ShowArguments.{ShowArguments}

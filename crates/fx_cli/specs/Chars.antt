@@ -4,7 +4,7 @@ use Rattle.std.specs.Prelude.{ℕ, zero, suc, ◌+◌, ◌-◌, ◌*◌, ◌==�
 use Rattle.std.specs.Prelude.{None, option_map, option_and_then, if◌then◌else◌}
 use Rattle.std.specs.List.{position_or_len, before_first, after_first}
 use Rattle.hex.specs.Hex.{hex_digit_value}
-use Rattle.fx_strike.specs.Limits.{max_characters}
+use Rattle.fx_request.specs.Limits.{max_characters}
 use Rattle.fx_cli.specs.Parts.{parts_of}
 
 -- the number that hexadecimal digits write when they follow those of n

@@ -3,8 +3,8 @@ use Rattle.std.specs.Prelude.{ℕ, ◌==◌, ◌||◌, Bool, not, List, filter, 
 use Rattle.std.specs.List.{before_first, after_first}
 use Rattle.std.specs.Result.{result_ok}
 use Rattle.hex.specs.Hex.{decode_of}
-use Rattle.fx_strike.specs.declared.refusal.Refusal.{Refusal}
-use Rattle.fx_strike.specs.declared.refusal.Refusal.TheVariants.{InputTooLarge, OutOfMemory, ReadFailed}
+use Rattle.fx_request.specs.declared.refusal.Refusal.{Refusal}
+use Rattle.fx_request.specs.declared.refusal.Refusal.TheVariants.{InputTooLarge, OutOfMemory, ReadFailed}
 use Rattle.fx_cli.specs.Limits.{max_input, max_line}
 use Rattle.fx_cli.specs.declared.fault.Fault.{Fault}
 use Rattle.fx_cli.specs.declared.fault.Fault.TheVariants.{Usage, Early}

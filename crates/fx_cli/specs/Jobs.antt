@@ -1,6 +1,6 @@
 -- A task with its characters read.
 use Rattle.std.specs.Prelude.{ℕ, List, Option, Some, option_map}
-use Rattle.fx_strike.specs.declared.listing.Which.{Which}
+use Rattle.fx_request.specs.declared.which.Which.{Which}
 use Rattle.fx_cli.specs.declared.job.Job.{Job}
 use Rattle.fx_cli.specs.declared.job.Job.TheVariants.{Strike, Picture, Listing}
 use Rattle.fx_cli.specs.Arguments.{MakeArgumentsView, ShowArgumentsView, TaskView, strike, picture, listing, seen_make, seen_show}

@@ -6,8 +6,8 @@ use Rattle.std.specs.Prelude.{Result, Ok, Err, if◌then◌else◌}
 use Rattle.std.specs.Io.KnownBytes.{Appends, Keeps}
 use Rattle.std.specs.List.{flat_map}
 use Rattle.fx_bdf.specs.Glyphs.{Glyph, is_empty}
-use Rattle.fx_strike.specs.declared.refusal.Refusal.{Refusal}
-use Rattle.fx_strike.specs.declared.refusal.Refusal.TheVariants.{OutOfMemory, WriteFailed}
+use Rattle.fx_request.specs.declared.refusal.Refusal.{Refusal}
+use Rattle.fx_request.specs.declared.refusal.Refusal.TheVariants.{OutOfMemory, WriteFailed}
 use Rattle.fx_strike.specs.Strike.{Sketch, Opening}
 use Rattle.fx_strike.specs.Headline.{IsOneOf, Late}
 use Rattle.fx_strike.specs.Faults.{Fails}

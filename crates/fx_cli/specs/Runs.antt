@@ -6,10 +6,12 @@ use Rattle.std.specs.Str.{IsUtf8}
 use Rattle.std.specs.Io.KnownBytes.{Consumes, IsAtEnd, Keeps}
 use Rattle.std.specs.declared.io.ErrorKind.{ErrorKind}
 use Rattle.std.specs.declared.io.ErrorKind.TheVariants as kind
-use Rattle.fx_strike.specs.declared.refusal.Refusal.{Refusal}
-use Rattle.fx_strike.specs.declared.refusal.Refusal.TheVariants.{BadChars, BadHex, InputTooLarge, OutOfMemory, ReadFailed}
-use Rattle.fx_strike.specs.declared.listing.Which.{Which}
-use Rattle.fx_strike.specs.declared.request.Report.{Report}
+use Rattle.fx_fixed.specs.declared.sink.WriteFailed.{WriteFailed}
+use Rattle.fx_fixed.specs.Wrote.{Wrote}
+use Rattle.fx_request.specs.declared.refusal.Refusal.{Refusal}
+use Rattle.fx_request.specs.declared.refusal.Refusal.TheVariants.{BadChars, BadHex, InputTooLarge, OutOfMemory, ReadFailed}
+use Rattle.fx_request.specs.declared.which.Which.{Which}
+use Rattle.fx_request.specs.declared.request.Report.{Report}
 use Rattle.fx_strike.specs.Strike.{Plan, Opening, one_of, opened_of, opened_one_of, plan_of}
 use Rattle.fx_strike.specs.Headline.{Leaves}
 use Rattle.fx_strike.specs.Listings.{Lists, program_of}
@@ -19,6 +21,7 @@ use Rattle.fx_cli.specs.declared.done.Done.TheVariants.{Strike, Picture, Listing
 use Rattle.fx_cli.specs.declared.fault.Fault.{Fault}
 use Rattle.fx_cli.specs.declared.fault.Fault.TheVariants.{Usage, Early, Late}
 use Rattle.fx_cli.specs.Arguments.{WishView, MakeArgumentsView, ShowArgumentsView, wish_of_arguments}
+use Rattle.fx_cli.specs.Lines.{outcome_line}
 use Rattle.fx_cli.specs.Jobs.{JobView, strike_job, picture_job, listing_job, job_of}
 use Rattle.fx_cli.specs.Pictures.{Shows}
 use Rattle.fx_cli.specs.Input.{bytes_of_hex, line_of, rest_of, arguments_of_line}
@@ -117,6 +120,7 @@ pub record Does (given : List Text) (source sink : Change) (answer : Result Done
   pub read : Consumes source.bytes_before source.bytes input
   pub whole : IsAtEnd source.bytes
   pub fits : length input ≤ max_input
+  pub calm : source.faults ≡ source.faults_before
   pub arguments : List Text
   pub are : AreArguments given input source.bytes arguments
   pub wish : WishView
@@ -191,18 +195,25 @@ status_of (Ok done) = 0
 status_of (Err Usage) = 2
 status_of (Err _) = 1
 
--- a run on these arguments, the program's name first: how it ended, and its status
-pub record Runs (given : List Text) (source sink : Change) (status : ℕ) : Type 0 where
+-- a text was written, and nothing else; or exactly its first n bytes, with one fault more
+abbrev pub Tells : List ℕ → Change → Type 0
+Tells text err =
+    (result : Result (Unit {0}) WriteFailed) × Wrote err.bytes_before err.bytes err.faults_before err.faults text result
+
+-- a run on these arguments, the program's name first: how it ended, its status, and its line for people
+pub record Runs (given : List Text) (source sink err : Change) (status : ℕ) : Type 0 where
   pub outcome : Result Done Fault
   pub ends : Ends given source sink outcome
   pub told : status ≡ status_of outcome
+  pub line : Tells (outcome_line outcome) err
 
--- the status if the system gives no arguments: out of memory, or an argument that is not text
-abbrev pub unread_status : ErrorKind → ℕ
-unread_status kind.OutOfMemory = 1
-unread_status _ = 2
+-- how a run ends if the system gives no arguments: out of memory, or an argument that is not text
+abbrev pub unread_outcome : ErrorKind → Result Done Fault
+unread_outcome kind.OutOfMemory = Err (Early OutOfMemory)
+unread_outcome _ = Err Usage
 
--- the run on the arguments that the system gives, or only the status if it gives none
-abbrev pub Starts : Result (List Text) ErrorKind → Change → Change → ℕ → Type 0
-Starts (Ok given) source sink status = Runs given source sink status
-Starts (Err fault) source sink status = IsUntouched source sink × (status ≡ unread_status fault)
+-- the run on the arguments that the system gives, or only the status and the line if it gives none
+abbrev pub Starts : Result (List Text) ErrorKind → Change → Change → Change → ℕ → Type 0
+Starts (Ok given) source sink err status = Runs given source sink err status
+Starts (Err fault) source sink err status =
+    IsUntouched source sink × (status ≡ status_of (unread_outcome fault)) × Tells (outcome_line (unread_outcome fault)) err

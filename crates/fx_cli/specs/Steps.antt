@@ -1,8 +1,8 @@
 -- The steps of a run after its arguments.
 use Rattle.std.specs.Prelude.{◌≡◌, ◌⊎◌, ◌+◌, ◌<◌, ◌≤◌, ◌++◌, ℕ, Bool, true, List, [], length, Some, None, Result, Ok, Err}
 use Rattle.std.specs.Io.KnownBytes.{Consumes, IsAtEnd}
-use Rattle.fx_strike.specs.declared.refusal.Refusal.{Refusal}
-use Rattle.fx_strike.specs.declared.refusal.Refusal.TheVariants.{BadChars, BadHex, InputTooLarge, OutOfMemory, ReadFailed}
+use Rattle.fx_request.specs.declared.refusal.Refusal.{Refusal}
+use Rattle.fx_request.specs.declared.refusal.Refusal.TheVariants.{BadChars, BadHex, InputTooLarge, OutOfMemory, ReadFailed}
 use Rattle.fx_cli.specs.Limits.{max_input}
 use Rattle.fx_cli.specs.declared.done.Done.{Done}
 use Rattle.fx_cli.specs.declared.fault.Fault.{Fault}
@@ -34,6 +34,7 @@ pub record DoesAfter (wish : WishView) (ahead : ReadAheadView) (source sink : Ch
   pub more : List ℕ
   pub read : Consumes source.bytes_before source.bytes more
   pub whole : IsAtEnd source.bytes
+  pub calm : source.faults ≡ source.faults_before
   pub rest : ahead.ended ≡ true → more ≡ []
   pub fits : ahead.line + length (ahead.text ++ more) ≤ max_input
   pub job : JobView

@@ -10,7 +10,7 @@ use crate::fault::Fault;
 use crate::values::{is_given, matches, size_of, value};
 use crate::wish::{MakeArguments, ShowArguments, Task, Wish};
 use clap::ArgMatches;
-use fx_strike::{Refusal, Which};
+use fx_request::{Refusal, Which};
 use std::alloc::Global;
 
 /// Reads the arguments of a command line, the program's name first.

@@ -1,11 +1,11 @@
 //! Lists of characters.
 ghost use Rattle.std.specs.Prelude.{◌≡◌, ◌⊎◌, ◌+◌, ◌-◌, ◌<◌, ◌≤◌, ◌++◌, length, option_and_then, IfOk, IfErr, IfSome, OnOk, vec_len};
-ghost use Rattle.fx_strike.specs.Limits.{max_characters};
+ghost use Rattle.fx_request.specs.Limits.{max_characters};
 ghost use Rattle.fx_cli.specs.Chars.{number_of, numbers_between, numbers_of_list, pair_of, range_of};
 ghost use Rattle.hex.specs.Hex.{hex_digit_value};
 
 use crate::parts::first_part;
-use fx_strike::{MAX_CHARACTERS, Refusal};
+use fx_request::{MAX_CHARACTERS, Refusal};
 use std::alloc::Global;
 
 /// The numbers of a list of characters, in their order: items joined by commas, each a number of one to six hexadecimal digits

@@ -1,6 +1,6 @@
 //! What a run did.
 
-use fx_strike::Report;
+use fx_request::Report;
 
 /// What a run did.
 #[derive(Clone, Copy, Debug, PartialEq, Eq)]

@@ -1,9 +1,9 @@
 //! Faults of a run.
 ghost use Rattle.std.specs.Prelude.{◌≡◌};
 ghost use Rattle.fx_cli.specs.declared.fault.Fault.TheVariants.{Early};
-ghost use Rattle.fx_strike.specs.declared.refusal.Refusal.TheVariants.{OutOfMemory};
+ghost use Rattle.fx_request.specs.declared.refusal.Refusal.TheVariants.{OutOfMemory};
 
-use fx_strike::Refusal;
+use fx_request::Refusal;
 use std::alloc::{AllocError, AllocFailed};
 
 /// Why a run failed.

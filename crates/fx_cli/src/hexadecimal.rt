@@ -2,7 +2,7 @@
 ghost use Rattle.std.specs.Prelude.{◌≡◌, ◌⊎◌, ◌==◌, ◌||◌, not, filter, IfOk, IfErr};
 ghost use Rattle.fx_cli.specs.Input.{bytes_of_hex, is_blank};
 
-use fx_strike::Refusal;
+use fx_request::Refusal;
 use hex::FromHexError;
 use std::alloc::{AllocError, Global};
 

@@ -8,7 +8,7 @@ ghost use Rattle.fx_cli.specs.Input.{IsLineCause};
 use crate::fault::Fault;
 use crate::limits::MAX_LINE;
 use fx_fixed::Source;
-use fx_strike::Refusal;
+use fx_request::Refusal;
 
 /// The size of a buffer for a line of arguments with its end.
 pub const LINE_BUFFER: usize = MAX_LINE + 1;

@@ -5,7 +5,7 @@ ghost use Rattle.fx_cli.specs.Jobs.{job_of, seen_job};
 
 use crate::chars::{number, parse_chars};
 use crate::wish::{MakeArguments, ShowArguments, Task};
-use fx_strike::{Refusal, Which};
+use fx_request::{Refusal, Which};
 use std::alloc::Global;
 
 /// A task with its characters read.

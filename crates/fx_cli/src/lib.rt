@@ -11,6 +11,7 @@ mod hexadecimal;
 mod input;
 mod job;
 mod limits;
+mod line;
 mod lines;
 mod parts;
 mod picture;

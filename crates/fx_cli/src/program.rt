@@ -20,7 +20,8 @@ use crate::read_ahead::ReadAhead;
 use crate::show::put_character;
 use crate::wish::{MakeArguments, Wish};
 use fx_fixed::{Sink, Source};
-use fx_strike::{Refusal, Report, Request, listing_of, make_strike};
+use fx_request::{Refusal, Report, Request};
+use fx_strike::{listing_of, make_strike};
 use std::alloc::{AllocError, Global};
 
 /// The size of the buffer that the input is read through.
@@ -38,7 +39,7 @@ pub fn run<R: Source, O: Sink, E: Sink>(
     requires out { O.fault_count out.old < 2 ^ 63 }
     requires err { E.fault_count err.old < 2 ^ 63 }
     ensures { Runs (texts arguments.now) (change_of R.left R.fault_count reader.old reader.new)
-        (change_of O.held O.fault_count out.old out.new) result }
+        (change_of O.held O.fault_count out.old out.new) (change_of E.held E.fault_count err.old err.new) result }
 {
     let outcome = if arguments.len() > 1 {
         run_arguments(alloc, arguments, reader, out)

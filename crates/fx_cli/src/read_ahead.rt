@@ -1,5 +1,5 @@
 //! What was read of an input before its text is read on.
-ghost use Rattle.std.specs.Prelude.{◌≡◌, ◌==◌, ℕ, List, [], true, ◌+◌, ◌<◌, ◌≤◌, ◌^◌, ◌++◌, length, IfOk, IfErr};
+ghost use Rattle.std.specs.Prelude.{◌≡◌, ◌==◌, ℕ, List, [], true, ◌+◌, ◌<◌, ◌≤◌, ◌^◌, ◌++◌, length, IfOk, IfErr, OnOk};
 ghost use Rattle.std.specs.List.{position_or_len};
 ghost use Rattle.std.specs.Io.KnownBytes.{Consumes, IsAtEnd};
 ghost use Rattle.fx_cli.specs.Limits.{max_input, max_line};
@@ -8,7 +8,7 @@ ghost use Rattle.fx_cli.specs.ReadAhead.{ahead_of, nothing_ahead};
 
 use crate::limits::MAX_INPUT;
 use fx_fixed::Source;
-use fx_strike::Refusal;
+use fx_request::Refusal;
 use std::alloc::Global;
 use std::marker::Model;
 
@@ -78,6 +78,7 @@ impl<'a> ReadAhead<'a> {
         requires ended { self.now.ended ≡ true → IsAtEnd (R.left reader.old) }
         ensures whole { IfOk result (λ text. (more : List ℕ) × Consumes (R.left reader.old) (R.left reader.new) more
             × IsAtEnd (R.left reader.new) × (text.items ≡ self.now.text ++ more) × (self.now.ended ≡ true → more ≡ [])) }
+        ensures quiet { OnOk result (R.fault_count reader.new ≡ R.fault_count reader.old) }
         ensures fits { IfOk result (λ text. self.now.line + length text.items ≤ max_input) }
         ensures cut { IfErr result (λ refusal. (more : List ℕ) × Consumes (R.left reader.old) (R.left reader.new) more
             × IsReadCause refusal (self.now.line + length (self.now.text ++ more))

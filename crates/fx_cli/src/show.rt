@@ -6,7 +6,8 @@ ghost use Rattle.fx_cli.specs.Runs.{ShowLeaves, change_of};
 use crate::picture::put_shown;
 use crate::wish::ShowArguments;
 use fx_fixed::Sink;
-use fx_strike::{Refusal, one};
+use fx_request::Refusal;
+use fx_strike::one;
 use std::alloc::Global;
 
 /// Writes the picture of a character of a font.

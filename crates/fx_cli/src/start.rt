@@ -2,7 +2,8 @@
 ghost use Rattle.std.specs.Prelude.{◌≡◌, ◌<◌, ◌^◌, map, string_bytes, IfOk};
 ghost use Rattle.fx_fixed.specs.Chain.{map_fault, map_ok};
 ghost use Rattle.fx_cli.specs.Arguments.{texts};
-ghost use Rattle.fx_cli.specs.Runs.{Starts, change_of, unread_status};
+ghost use Rattle.fx_cli.specs.Lines.{outcome_line};
+ghost use Rattle.fx_cli.specs.Runs.{Starts, Tells, change_of, status_of, unread_outcome};
 ghost use Rattle.std.specs.IoError.{error_kind};
 
 use crate::lines::{out_of_memory, usage};
@@ -41,7 +42,8 @@ pub fn run_given<R: Source, O: Sink, E: Sink>(
     requires out { O.fault_count out.old < 2 ^ 63 }
     requires err { E.fault_count err.old < 2 ^ 63 }
     ensures { Starts (map_fault error_kind (map_ok (λ arguments. map string_bytes arguments.items) arguments.now))
-        (change_of R.left R.fault_count reader.old reader.new) (change_of O.held O.fault_count out.old out.new) result }
+        (change_of R.left R.fault_count reader.old reader.new) (change_of O.held O.fault_count out.old out.new)
+        (change_of E.held E.fault_count err.old err.new) result }
 {
     match arguments {
         Ok(arguments) => match texts_of(alloc, arguments) {
@@ -66,7 +68,8 @@ fn texts_of<'a>(alloc: Global, arguments: &'a [String]) -> Result<Vec<&'a str>, 
 /// Writes why there are no arguments, and returns the status.
 fn unread<E: Sink>(err: &mut E, kind: ErrorKind) -> u8
     requires { E.fault_count err.old < 2 ^ 63 }
-    ensures { result ≡ unread_status kind }
+    ensures status { result ≡ status_of (unread_outcome kind) }
+    ensures line { Tells (outcome_line (unread_outcome kind)) (change_of E.held E.fault_count err.old err.new) }
 {
     match kind {
         ErrorKind::OutOfMemory => out_of_memory(err),

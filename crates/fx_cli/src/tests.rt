@@ -6,7 +6,7 @@ use super::lines::{out_of_memory, status, usage};
 use super::*;
 use fx_fixed::{Limits, MemorySink, MemorySource, Sink, Source};
 use fx_machine::{Cause, FontProgram, Halt};
-use fx_strike::{Refusal, Report};
+use fx_request::{Refusal, Report};
 use std::alloc::{AllocError, Global};
 use std::io;
 use std::test::Fail;
@@ -252,6 +252,21 @@ fn first_lines(rt: HostRuntime) -> Result<(), Fail> {
     Ok(())
 }
 
+// Limits of a reader that fails after this number of bytes: for good, and once.
+fn broken_after(bytes: usize) -> [Limits; 2] {
+    let for_good = Limits {
+        bytes,
+        step: 3,
+        hiccup: None,
+    };
+    let once = Limits {
+        bytes: usize::MAX,
+        step: 1,
+        hiccup: Some(bytes),
+    };
+    [for_good, once]
+}
+
 // The reader fails after each number of bytes. Each run is refused with 71.
 #[test]
 fn failing_readers(rt: HostRuntime) -> Result<(), Fail> {
@@ -259,29 +274,23 @@ fn failing_readers(rt: HostRuntime) -> Result<(), Fail> {
     let line = b"make --ppem 16 --chars 41 --unhinted\n0001020304";
     let font = b"0001020304";
     for bytes in 0..=line.len() {
-        let limits = Limits {
-            bytes,
-            step: 7,
-            hiccup: None,
-        };
-        assert!(rt;
-            run_in_memory(rt.alloc(), "mkstrike", line, limits)?.is(1, failed),
-            "{bytes}"
-        );
+        for limits in broken_after(bytes) {
+            assert!(rt;
+                run_in_memory(rt.alloc(), "mkstrike", line, limits)?.is(1, failed),
+                "{bytes}"
+            );
+        }
     }
     for bytes in 0..=font.len() {
-        let limits = Limits {
-            bytes,
-            step: 3,
-            hiccup: None,
-        };
-        let ended = run_in_memory(
-            rt.alloc(),
-            "mkstrike|make|--ppem|16|--chars|41|--hex",
-            font,
-            limits,
-        )?;
-        assert!(rt; ended.is(1, failed), "{bytes}");
+        for limits in broken_after(bytes) {
+            let ended = run_in_memory(
+                rt.alloc(),
+                "mkstrike|make|--ppem|16|--chars|41|--hex",
+                font,
+                limits,
+            )?;
+            assert!(rt; ended.is(1, failed), "{bytes}");
+        }
     }
     Ok(())
 }
@@ -419,7 +428,8 @@ fn halted(cause: Cause, program: FontProgram, address: usize, opcode: u8) -> Ref
     })
 }
 
-// The line and the status of each refusal, the longest line among them. The status is the same if the line can't be written.
+// The line and the status of each refusal, the longest line among them. The status is the same if the line can't be written. The
+// line is the refusal's own text after the program's name.
 #[test]
 fn refusals(rt: HostRuntime) -> Result<(), Fail> {
     for (refusal, text) in [
@@ -466,6 +476,8 @@ fn refusals(rt: HostRuntime) -> Result<(), Fail> {
         (Refusal::OutOfMemory, "90 OutOfMemory"),
     ] {
         let line = format!(in rt.alloc(); "mkstrike: {text}\n")?;
+        let own = format!(in rt.alloc(); "mkstrike: {refusal}\n")?;
+        assert_eq!(rt; own.as_bytes(), line.as_bytes());
         let mut err = MemorySink::new(rt.alloc(), 256, Limits::NONE)?;
         assert_eq!(rt; status(&mut err, &Err(Fault::Late(refusal))), 1);
         assert_eq!(rt; err.bytes(), line.as_bytes());
@@ -475,6 +487,8 @@ fn refusals(rt: HostRuntime) -> Result<(), Fail> {
         };
         let mut failing = MemorySink::new(rt.alloc(), 256, limits)?;
         assert_eq!(rt; status(&mut failing, &Err(Fault::Early(refusal))), 1);
+        assert_eq!(rt; failing.bytes(), b"mkstr".as_slice());
+        assert_eq!(rt; failing.faults(), 1);
     }
     Ok(())
 }

@@ -8,7 +8,7 @@ ghost use Rattle.fx_cli.specs.Arguments.{is_bare, is_given, rows_by, size_of, te
 use crate::fault::Fault;
 use clap::error::ErrorKind;
 use clap::{ArgMatches, Command};
-use fx_strike::Refusal;
+use fx_request::Refusal;
 
 /// The values of a command's options.
 pub fn matches<'a>(command: Command<'a>, arguments: &'a [&'a str]) -> Result<ArgMatches<'a>, Fault>

@@ -1,6 +1,6 @@
 //! What the arguments of a command line ask for.
 
-use fx_strike::Which;
+use fx_request::Which;
 
 /// A task, and whether the font is hexadecimal text.
 #[derive(Clone, Copy)]

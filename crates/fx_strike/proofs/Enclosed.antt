@@ -1,16 +1,17 @@
 -- A glyph whose frame lies in a box leaves that box as it is.
--- Serves `are_among`, `bounds_with` and `see_one`.
+-- Serves `are_among`, `lies_in`, `bounds_with` and `see_one`.
 use Rattle.std.proofs.Common.{◌≡◌, refl, sym, ap, ◌∙◌, subst, inl, inr, ℕ, ◌+◌, ◌<◌, ℤ, pos, ◌+ℤ◌, ◌≤ℤ◌, ◌<ℤ◌, Bool, true}
-use Rattle.std.proofs.Common.{false, true≢false, not, ◌||◌, List, Result, Ok, Err, arith}
+use Rattle.std.proofs.Common.{false, true≢false, not, ◌||◌, ◌&&◌, List, Option, Some, None, Result, Ok, Err, arith}
 use Rattle.std.specs.Prelude.{IsTrue, ◌==◌, int_le, if◌then◌else◌}
 use Rattle.std.specs.List.{list_all}
 use Rattle.std.specs.Int.{int_min, int_max}
-use Rattle.std.proofs.lemmas.Bool.{eqb-true}
-use Rattle.std.proofs.lemmas.Int.{int_min_is, int_max_is}
+use Rattle.std.proofs.lemmas.Bool.{eqb-true, and_parts}
+use Rattle.std.proofs.lemmas.Int.{ints, int_min_is, int_max_is}
 use Rattle.fx_fixed.proofs.Linear.{signed_linear}
 use Rattle.fx_fixed.proofs.Chain.{refuse_ok}
 use Rattle.fx_winding.specs.Winding.{Span}
-use Rattle.fx_winding.specs.Frames.{steps}
+use Rattle.fx_winding.specs.Frames.{IsFrom, is_from, steps}
+use Rattle.fx_winding.specs.declared.frame.Frame.{Frame}
 use Rattle.fx_hint.specs.declared.points.OutlinePoint.{OutlinePoint}
 use Rattle.fx_contour.specs.declared.fault.ContourFault.TheVariants.{TooFar}
 use Rattle.fx_contour.specs.Contours.{is_in_reach, spans_of, drawn_of}
@@ -18,14 +19,15 @@ use Rattle.fx_contour.specs.Frames.{IsInside, NothingOutsideFrame}
 use Rattle.fx_bdf.specs.Glyphs.{Box, Glyph, HasSides, IsTight, IsPlaced, is_in_box, is_empty, around, joined, last_of}
 use Rattle.fx_bdf.specs.Glyphs.{glyph_bit}
 use Rattle.fx_bdf.proofs.Boxes.{from_true, steps_above, in_columns, in_rows}
-use Rattle.fx_strike.specs.declared.refusal.Refusal.{Refusal}
-use Rattle.fx_strike.specs.declared.refusal.Refusal.TheVariants.{OutOfMemory}
+use Rattle.fx_bdf.proofs.Trims.{from_order}
+use Rattle.fx_request.specs.declared.refusal.Refusal.{Refusal}
+use Rattle.fx_request.specs.declared.refusal.Refusal.TheVariants.{OutOfMemory}
 use Rattle.fx_strike.specs.declared.sketched.Sketched.{Sketched}
 use Rattle.fx_strike.specs.declared.seen.Seen.{Seen}
 use Rattle.fx_strike.specs.Faults.{Fails}
 use Rattle.fx_strike.specs.Strike.{Sketch, IsGlyphOf}
 use Rattle.fx_strike.specs.Headline.{counted}
-use Rattle.fx_strike.specs.inner.Drawing.{are_among, IsSketchedOf}
+use Rattle.fx_strike.specs.inner.Drawing.{are_among, lies_in, IsSketchedOf}
 use Rattle.fx_strike.specs.inner.Surveying.{Adds, Joins, Has, SeesOne}
 use Rattle.fx_strike.proofs.Near.{are_drawn, not_large}
 use Rattle.fx_strike.proofs.Existing.{glyph_of_spans}
@@ -115,6 +117,28 @@ joined_kept big box bit t h = elim t.sides [
 pub among_is : (end more_end first other : ℤ) (count more : ℕ) → end ≡ first +ℤ pos count → more_end ≡ other +ℤ pos more
     → int_le other first ≡ true → int_le end more_end ≡ are_among first count other more
 among_is end more_end first other count more p q h = rw (p, q, h) refl
+
+-- numbers of a run that lies among others
+among_from : (first other n : ℤ) (count more : ℕ) → are_among first count other more ≡ true → IsFrom first count n
+    → is_from other more n ≡ true
+among_from first other n count more h i =
+    let p = and_parts (int_le other first) (int_le (first +ℤ pos count) (other +ℤ pos more)) h in
+    let low : other ≤ℤ first = grind (arith, ints, p.0) in
+    let high : (first +ℤ pos count) ≤ℤ (other +ℤ pos more) = grind (arith, ints, p.1) in
+    from_order other n more (omega (arith, signed_linear, low, i.0)) (omega (arith, signed_linear, high, i.1))
+
+-- each pixel of a frame that lies in a box is in the box
+pub lies_inside : (frame : Option Frame) (box : Box) → lies_in frame box ≡ true → (col row : ℤ) → IsInside frame col row
+    → IsTrue (is_in_box box col row)
+lies_inside None box h col row i = absurd i
+lies_inside (Some f) box h col row i =
+    let p = and_parts (are_among f.left f.width box.left box.width) (are_among f.bottom f.height box.bottom box.height) h in
+    both (is_from box.left box.width col) (is_from box.bottom box.height row)
+    (among_from f.left box.left col f.width box.width p.0 i.column)
+    (among_from f.bottom box.bottom row f.height box.height p.1 i.row)
+  where
+    both : (a b : Bool) → a ≡ true → b ≡ true → (a && b) ≡ true
+    both a b p q = rw (p, q) refl
 
 -- a pixel is in the box if it can't be outside the frame
 not_outside : (b : Bool) → (b ≡ false → ⊥) → b ≡ true

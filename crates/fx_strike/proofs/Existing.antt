@@ -22,9 +22,10 @@ use Rattle.fx_contour.specs.Frames.{IsInBoundingBox, AreTooLarge, framed_of}
 use Rattle.fx_fixed.proofs.Order.{below_or_not_ℤ}
 use Rattle.fx_contour.proofs.Outside.{in_box}
 use Rattle.fx_bdf.specs.Glyphs.{Glyph, glyph_bit}
-use Rattle.fx_strike.specs.declared.refusal.Refusal.{Refusal}
-use Rattle.fx_strike.specs.Faults.{of_font, of_hint, of_contour}
-use Rattle.fx_strike.specs.Characters.{rising}
+use Rattle.fx_request.specs.declared.refusal.Refusal.{Refusal}
+use Rattle.fx_request.specs.Faults.{of_font}
+use Rattle.fx_strike.specs.Faults.{of_hint, of_contour}
+use Rattle.fx_request.specs.Characters.{rising}
 use Rattle.fx_strike.specs.Strike.{Sketch, IsGlyphOf, AreGlyphsOf, thousandths, glyph_sketch_of, sketch_of, is_missing}
 use Rattle.fx_strike.specs.Laws.{StrikeExists}
 use Rattle.fx_strike.proofs.Sketching.{tight_along}

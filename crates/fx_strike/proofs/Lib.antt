@@ -1,7 +1,8 @@
-pub mod Rising
 pub mod Sketching
 pub mod Seeing
 pub mod Making
+pub mod Prepared
+pub mod Bitmaps
 pub mod Lines
 pub mod OnePart
 pub mod OneCharacter

@@ -21,11 +21,11 @@ use Rattle.fx_bdf.specs.Glyphs.{Glyph, TrimmedIsOne}
 use Rattle.fx_bdf.specs.declared.header.Header.{Header}
 use Rattle.fx_bdf.specs.Text.{header_text, head_text, glyph_text, end_text}
 use Rattle.fx_machine.specs.declared.ran.Ran.{Ran}
-use Rattle.fx_strike.specs.declared.request.Report.{Report}
-use Rattle.fx_strike.specs.declared.request.Survey.{Survey}
-use Rattle.fx_strike.specs.Characters.{rising}
-use Rattle.fx_strike.specs.declared.refusal.Refusal.{Refusal}
-use Rattle.fx_strike.specs.declared.refusal.Refusal.TheVariants.{WriteFailed, ReadFailed, BadHex, InputTooLarge, OutOfMemory}
+use Rattle.fx_request.specs.declared.request.Report.{Report}
+use Rattle.fx_strike.specs.declared.surveyed.Survey.{Survey}
+use Rattle.fx_request.specs.Characters.{rising}
+use Rattle.fx_request.specs.declared.refusal.Refusal.{Refusal}
+use Rattle.fx_request.specs.declared.refusal.Refusal.TheVariants.{WriteFailed, ReadFailed, BadHex, InputTooLarge, OutOfMemory}
 use Rattle.fx_strike.specs.Faults.{Fails}
 use Rattle.fx_strike.specs.Strike.{Sketch, Prelude, Plan, Opening, IsGlyphOf, AreGlyphsOf, pixels, glyph_sketch_of, sketch_of}
 use Rattle.fx_strike.specs.Strike.{is_missing, sketches_of, plan_after, strike_text}

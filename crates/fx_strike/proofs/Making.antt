@@ -1,6 +1,6 @@
 -- From what was seen to a survey, and from a survey and what was written to what a call leaves.
 -- Serves `survey_after`, `survey_inner`, `write_after`, `make_strike_inner` and `whole_pixels`.
-use Rattle.std.proofs.Common.{refl, sym, ap, subst, ◌≡◌, ◌∙◌, arith, inl, ℕ, ◌+◌, ◌<◌, ◌≤◌, ◌^◌, ℤ, pos, Bool, true, List, map}
+use Rattle.std.proofs.Common.{refl, sym, ap, subst, ◌≡◌, ◌∙◌, arith, inl, ℕ, ◌+◌, ◌<◌, ◌≤◌, ◌^◌, ℤ, pos, Bool, List, map}
 use Rattle.std.proofs.Common.{Option, Some, None, Result, Ok}
 use Rattle.std.proofs.Common.{Err, FitsSigned, w32, to_z, of_z, lit<}
 use Rattle.std.specs.Int.{w128}
@@ -9,25 +9,22 @@ use Rattle.std.specs.Io.KnownBytes.{Keeps}
 use Rattle.std.specs.List.{count_by, sum_by}
 use Rattle.std.proofs.lemmas.Int.{ints, fits_signed_mul, fits_signed_from_abs, unsigned_abs-mul}
 use Rattle.std.proofs.Math.Nat.{mul-le-mul_left}
-use Rattle.fx_fixed.specs.Chain.{map_fault}
 use Rattle.fx_fixed.specs.Numbers.{near_of}
 use Rattle.fx_fixed.specs.Sizes.{IsPpem, max_ppem}
 use Rattle.fx_sfnt.specs.Tables.{Face}
 use Rattle.fx_cmap.specs.declared.mapping.Mapping.{Mapping}
-use Rattle.fx_machine.specs.Known.{Known, machine_of}
 use Rattle.fx_hint.specs.Hinting.{Hinting}
-use Rattle.fx_hint.specs.Programmed.{hinting_of}
 use Rattle.fx_machine.specs.declared.ran.Ran.{Ran}
 use Rattle.fx_bdf.specs.declared.header.Header.{Header}
 use Rattle.fx_bdf.specs.Glyphs.{Box, bounds_of}
-use Rattle.fx_strike.specs.declared.refusal.Refusal.{Refusal}
-use Rattle.fx_strike.specs.declared.refusal.Refusal.TheVariants.{WriteFailed, ReadFailed, BadHex, InputTooLarge, OutOfMemory}
+use Rattle.fx_request.specs.declared.refusal.Refusal.{Refusal}
+use Rattle.fx_request.specs.declared.refusal.Refusal.TheVariants.{WriteFailed, ReadFailed, BadHex, InputTooLarge, OutOfMemory}
 use Rattle.fx_strike.specs.declared.seen.Seen.{Seen}
-use Rattle.fx_strike.specs.declared.request.Report.{Report}
-use Rattle.fx_strike.specs.declared.request.Survey.{Survey}
-use Rattle.fx_strike.specs.Faults.{Fails, of_machine}
-use Rattle.fx_strike.specs.Characters.{rising}
-use Rattle.fx_strike.specs.Strike.{Sketch, Prelude, Opening, Plan, prelude_of, prelude_for, pixels, is_missing, sketches_of}
+use Rattle.fx_request.specs.declared.request.Report.{Report}
+use Rattle.fx_strike.specs.declared.surveyed.Survey.{Survey}
+use Rattle.fx_strike.specs.Faults.{Fails}
+use Rattle.fx_request.specs.Characters.{rising}
+use Rattle.fx_strike.specs.Strike.{Sketch, Prelude, Opening, Plan, pixels, is_missing, sketches_of}
 use Rattle.fx_strike.specs.Strike.{opened_of, plan_after, plan_in, plan_of}
 use Rattle.fx_strike.specs.Headline.{counted, IsCause, Surveyed, Leaves}
 use Rattle.fx_strike.specs.inner.Surveying.{Holds, seen_prelude, survey_from, Surveys}
@@ -115,7 +112,7 @@ leaves_err opening due old new faults_before faults_after r e d p q h =
 
 -- ---- a survey
 
-surveys_err : (due : Result Plan Refusal) (r : Result Survey Refusal) (e d : Refusal) → r ≡ Err e → e ≡ d → Fails d due
+pub surveys_err : (due : Result Plan Refusal) (r : Result Survey Refusal) (e d : Refusal) → r ≡ Err e → e ≡ d → Fails d due
     → Surveys due r
 surveys_err due r e d p q f = let P : Result Survey Refusal → Type 0 = λ s. Surveys due s in subst P (sym (p ∙ ap Err q)) f
 
@@ -209,23 +206,6 @@ pub not_surveyed : (opening : Opening) (due : Result Plan Refusal) (old : Option
 not_surveyed opening due old faults r e d o p q f =
     leaves_err opening due old old faults faults r e d p q
     (fails_leaves opening due old old faults faults d o (keeps_same old) refl f)
-
-plan_prepared : (face : Face) (mapping : Mapping) (ppem : ℕ) (name chars : List ℕ) (known : Known)
-    → map_fault of_machine (machine_of face ppem) ≡ Ok known
-    → plan_in face mapping ppem name chars true ≡ plan_after (prelude_of known) face mapping ppem name chars
-unfolding plan_in prelude_for
-plan_prepared face mapping ppem name chars known h = rw h
-
-pub prepared_leaves : (opening : Opening) (face : Face) (mapping : Mapping) (ppem : ℕ) (name chars : List ℕ) (hinting : Bool)
-    (known : Known) (prelude : Ran) (old new : Option (List ℕ)) (faults_before faults_after : ℕ) (r : Result Report Refusal)
-    → hinting ≡ true → map_fault of_machine (machine_of face ppem) ≡ Ok known → prelude ≡ known.prelude
-    → Leaves opening (plan_after (seen_prelude (hinting_of known) prelude) face mapping ppem name chars) old new faults_before
-    faults_after r
-    → Leaves opening (plan_in face mapping ppem name chars hinting) old new faults_before faults_after r
-prepared_leaves opening face mapping ppem name chars hinting known prelude old new faults_before faults_after r on h e m =
-    let P : Result Plan Refusal → Type 0 = λ due. Leaves opening due old new faults_before faults_after r in
-    subst P (ap (λ (x : Ran). plan_after (seen_prelude (hinting_of known) x) face mapping ppem name chars) e
-    ∙ sym (ap (plan_in face mapping ppem name chars) on ∙ plan_prepared face mapping ppem name chars known h)) m
 
 -- ---- lemmas for answers
 

@@ -8,9 +8,9 @@ use Rattle.fx_fixed.specs.Chain.{◌>>=◌, refuse, map_ok, map_chain}
 use Rattle.fx_sfnt.specs.Tables.{Face}
 use Rattle.fx_cmap.specs.declared.mapping.Mapping.{Mapping}
 use Rattle.fx_bdf.specs.Text.{is_name}
-use Rattle.fx_strike.specs.declared.refusal.Refusal.{Refusal}
-use Rattle.fx_strike.specs.declared.refusal.Refusal.TheVariants.{BadName}
-use Rattle.fx_strike.specs.Characters.{rising}
+use Rattle.fx_request.specs.declared.refusal.Refusal.{Refusal}
+use Rattle.fx_request.specs.declared.refusal.Refusal.TheVariants.{BadName}
+use Rattle.fx_request.specs.Characters.{rising}
 use Rattle.fx_strike.specs.Strike.{Sketch, Prelude, Plan, Opening, pixels, prelude_for, sketch_of, is_missing, sized, checked}
 use Rattle.fx_strike.specs.Strike.{font_with_map, opened_of, opened_one_of, plan_after, plan_in, plan_of, one_after, one_in}
 use Rattle.fx_strike.specs.Strike.{one_of}

@@ -20,11 +20,12 @@ use Rattle.fx_contour.specs.Contours.{drawn_of}
 use Rattle.fx_contour.specs.Frames.{framed_of}
 use Rattle.fx_bdf.specs.Glyphs.{Glyph, TrimmedIsOne, glyph_bit}
 use Rattle.fx_bdf.specs.Text.{is_name}
-use Rattle.fx_strike.specs.declared.refusal.Refusal.{Refusal}
-use Rattle.fx_strike.specs.declared.refusal.Refusal.TheVariants.{BadSize, BadChars, BadName}
-use Rattle.fx_strike.specs.Limits.{max_characters, max_code}
-use Rattle.fx_strike.specs.Faults.{of_font, of_char_map, of_hint, of_contour}
-use Rattle.fx_strike.specs.Characters.{rising}
+use Rattle.fx_request.specs.declared.refusal.Refusal.{Refusal}
+use Rattle.fx_request.specs.declared.refusal.Refusal.TheVariants.{BadSize, BadChars, BadName}
+use Rattle.fx_request.specs.Limits.{max_characters, max_code}
+use Rattle.fx_request.specs.Faults.{of_font, of_char_map}
+use Rattle.fx_strike.specs.Faults.{of_hint, of_contour}
+use Rattle.fx_request.specs.Characters.{rising}
 use Rattle.fx_strike.specs.Strike.{Sketch, Prelude, Plan, AreGlyphsOf, thousandths, pixels, prelude_for, glyph_sketch_of}
 use Rattle.fx_strike.specs.Strike.{sketch_of}
 use Rattle.fx_strike.specs.Strike.{is_missing, sketches_of, sized, checked, font_with_map, opened_of, plan_after, plan_in, plan_of}

@@ -15,10 +15,10 @@ use Rattle.fx_cmap.specs.Lookup.{glyph_for}
 use Rattle.fx_cmap.specs.declared.mapping.Mapping.{Mapping}
 use Rattle.fx_hint.specs.Hinting.{Hinting}
 use Rattle.fx_bdf.specs.Glyphs.{Glyph, Box, IsPlaced, no_box, joined, bounds_of}
-use Rattle.fx_strike.specs.declared.refusal.Refusal.{Refusal}
+use Rattle.fx_request.specs.declared.refusal.Refusal.{Refusal}
 use Rattle.fx_strike.specs.declared.seen.Seen.{Seen}
 use Rattle.fx_strike.specs.Faults.{Fails}
-use Rattle.fx_strike.specs.Limits.{max_code}
+use Rattle.fx_request.specs.Limits.{max_code}
 use Rattle.fx_strike.specs.Strike.{Sketch, IsGlyphOf, AreGlyphsOf, glyph_sketch_of, sketch_of, is_missing, sketches_of}
 use Rattle.fx_strike.specs.Headline.{counted}
 use Rattle.fx_strike.specs.inner.Surveying.{IsEmpty, Has, Holds, Sees}

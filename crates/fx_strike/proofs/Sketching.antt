@@ -21,9 +21,10 @@ use Rattle.fx_contour.specs.declared.fault.ContourFault.{ContourFault}
 use Rattle.fx_contour.specs.Contours.{drawn_of}
 use Rattle.fx_contour.specs.Frames.{framed_of}
 use Rattle.fx_bdf.specs.Glyphs.{Box, Glyph, IsTight, IsTrimmed, glyph_bit}
-use Rattle.fx_strike.specs.declared.refusal.Refusal.{Refusal}
-use Rattle.fx_strike.specs.declared.refusal.Refusal.TheVariants.{OutOfMemory, WriteFailed, ReadFailed, BadHex, InputTooLarge}
-use Rattle.fx_strike.specs.Faults.{Fails, of_font, of_hint, of_contour}
+use Rattle.fx_request.specs.declared.refusal.Refusal.{Refusal}
+use Rattle.fx_request.specs.declared.refusal.Refusal.TheVariants.{OutOfMemory, WriteFailed, ReadFailed, BadHex, InputTooLarge}
+use Rattle.fx_request.specs.Faults.{of_font}
+use Rattle.fx_strike.specs.Faults.{Fails, of_hint, of_contour}
 use Rattle.fx_strike.specs.Strike.{Sketch, IsGlyphOf, thousandths, glyph_sketch_of}
 use Rattle.fx_strike.specs.inner.Drawing.{HasBitsOf, IsSketchedOf, Sketches, Draws}
 use Rattle.fx_strike.specs.declared.sketched.Sketched.{Sketched}

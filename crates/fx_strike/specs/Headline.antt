@@ -5,11 +5,11 @@ use Rattle.std.specs.Io.KnownBytes.{Appends, Keeps}
 use Rattle.std.specs.List.{sum_by}
 use Rattle.fx_bdf.specs.declared.header.Header.{Header}
 use Rattle.fx_bdf.specs.Glyphs.{Glyph}
-use Rattle.fx_strike.specs.declared.refusal.Refusal.{Refusal}
-use Rattle.fx_strike.specs.declared.refusal.Refusal.TheVariants.{WriteFailed, ReadFailed, BadHex, InputTooLarge, OutOfMemory}
-use Rattle.fx_strike.specs.declared.request.Report.{Report}
-use Rattle.fx_strike.specs.declared.request.Request.{Request}
-use Rattle.fx_strike.specs.declared.request.Survey.{Survey}
+use Rattle.fx_request.specs.declared.refusal.Refusal.{Refusal}
+use Rattle.fx_request.specs.declared.refusal.Refusal.TheVariants.{WriteFailed, ReadFailed, BadHex, InputTooLarge, OutOfMemory}
+use Rattle.fx_request.specs.declared.request.Report.{Report}
+use Rattle.fx_request.specs.declared.request.Request.{Request}
+use Rattle.fx_strike.specs.declared.surveyed.Survey.{Survey}
 use Rattle.fx_strike.specs.Strike.{Sketch, Opening, Plan, IsGlyphOf, AreGlyphsOf, header_of, opened_of, plan_of, strike_text}
 
 -- the requested strike of a font file, or the first cause why there is none

@@ -1,9 +1,6 @@
-pub mod Refusals
-pub mod Characters
 pub mod Faults
 pub mod Strike
 pub mod Headline
 pub mod Listings
 pub mod Laws
-pub mod Limits
 pub mod inner

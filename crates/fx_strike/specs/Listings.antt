@@ -9,11 +9,11 @@ use Rattle.fx_glyf.specs.declared.glyph.Glyph as glyf
 use Rattle.fx_glyf.specs.declared.glyph.Glyph.TheVariants.{Empty, Simple, Composite}
 use Rattle.fx_glyf.specs.Glyphs.{glyph_of}
 use Rattle.fx_code.specs.Listing.{listing_text}
-use Rattle.fx_strike.specs.declared.listing.Which.{Which}
-use Rattle.fx_strike.specs.declared.listing.Which.TheVariants as which
-use Rattle.fx_strike.specs.declared.refusal.Refusal.{Refusal}
-use Rattle.fx_strike.specs.declared.refusal.Refusal.TheVariants.{WriteFailed}
-use Rattle.fx_strike.specs.Faults.{of_font, of_glyph}
+use Rattle.fx_request.specs.declared.which.Which.{Which}
+use Rattle.fx_request.specs.declared.which.Which.TheVariants as which
+use Rattle.fx_request.specs.declared.refusal.Refusal.{Refusal}
+use Rattle.fx_request.specs.declared.refusal.Refusal.TheVariants.{WriteFailed}
+use Rattle.fx_request.specs.Faults.{of_font, of_glyph}
 
 -- ---- programs
 

@@ -19,11 +19,12 @@ use Rattle.fx_contour.specs.Frames.{framed_of}
 use Rattle.fx_bdf.specs.declared.header.Header.{Header}
 use Rattle.fx_bdf.specs.Glyphs.{Glyph, IsTight, IsFormed, glyph_bit, bounds_of}
 use Rattle.fx_bdf.specs.Text.{is_name, header_text, glyph_text, end_text}
-use Rattle.fx_strike.specs.declared.refusal.Refusal.{Refusal}
-use Rattle.fx_strike.specs.declared.refusal.Refusal.TheVariants.{BadSize, BadChars, BadName}
-use Rattle.fx_strike.specs.Faults.{of_font, of_char_map, of_machine, of_hint, of_contour}
-use Rattle.fx_strike.specs.Characters.{rising}
-use Rattle.fx_strike.specs.Limits.{max_characters, max_code}
+use Rattle.fx_request.specs.declared.refusal.Refusal.{Refusal}
+use Rattle.fx_request.specs.declared.refusal.Refusal.TheVariants.{BadSize, BadChars, BadName}
+use Rattle.fx_request.specs.Faults.{of_font, of_char_map, of_machine}
+use Rattle.fx_strike.specs.Faults.{of_hint, of_contour}
+use Rattle.fx_request.specs.Characters.{rising}
+use Rattle.fx_request.specs.Limits.{max_characters, max_code}
 
 -- ---- what runs before the first character
 

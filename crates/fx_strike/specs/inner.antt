@@ -2,3 +2,4 @@
 pub mod Drawing
 pub mod Surveying
 pub mod Writing
+pub mod Hinters

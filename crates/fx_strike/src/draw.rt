@@ -2,21 +2,22 @@
 ghost use Rattle.std.specs.Prelude.{◌≡◌, pos, map, All, IfOk, IfErr};
 ghost use Rattle.fx_fixed.specs.Numbers.{near_of};
 ghost use Rattle.fx_winding.specs.Winding.{span_of};
+ghost use Rattle.fx_winding.specs.Bitmaps.{IsScanOf};
 ghost use Rattle.fx_winding.specs.Outside.{AreOfOutline};
 ghost use Rattle.fx_contour.specs.Contours.{IsInReach, spans_of};
 ghost use Rattle.fx_contour.specs.Frames.{NothingOutsideFrame};
 ghost use Rattle.fx_strike.specs.Strike.{Sketch, IsGlyphOf, glyph_sketch_of};
 ghost use Rattle.fx_strike.specs.inner.Drawing.{HasBitsOf, IsSketchedOf, Draws};
 
-use crate::refusal::Refusal;
 use crate::sketch::sketch_at;
 use crate::sketched::Sketched;
 use fx_bdf::BitGlyph;
 use fx_contour::pieces_in_reach;
 use fx_fixed::{F26, Ppem, near_64};
 use fx_hint::Hinter;
+use fx_request::Refusal;
 use fx_sfnt::Font;
-use fx_winding::{Bitmap, Frame, Pieces, Scan, Tally};
+use fx_winding::{Bitmap, Frame, Pieces, Scan, ScanFault, Tally};
 use std::alloc::Global;
 
 /// A number of 1/64 pixels in whole pixels.
@@ -33,23 +34,41 @@ fn whole_pixels(advance: F26) -> i32
     near_pixels(advance.0)
 }
 
-/// The frame without a pixel.
-fn no_frame() -> Frame
-    ensures width { result.width ≡ 0 }
-    ensures height { result.height ≡ 0 }
+/// A bitmap without a pixel.
+fn empty_bitmap(alloc: Global) -> Result<Bitmap, Refusal>
+    ensures narrow { IfOk result (λ b. b.frame.width ≡ 0) }
+    ensures fault { IfErr result (λ e. e ≡ Refusal.OutOfMemory) }
 {
-    Frame {
+    let frame = Frame {
         left: 0,
         bottom: 0,
         width: 0,
         height: 0,
+    };
+    Ok(Bitmap::new(alloc, frame)?)
+}
+
+/// The bits of a frame.
+///
+/// It stays a function of its own: the loops of the scan need all registers.
+#[inline(never)]
+fn scanned<S: Scan>(
+    alloc: Global,
+    scan: &S,
+    pieces: &Pieces,
+    frame: Frame,
+) -> Result<Bitmap, Refusal>
+    ensures bits { IfOk result (IsScanOf frame (map span_of pieces.now)) }
+    ensures fault { IfErr result (λ e. e ≡ Refusal.OutOfMemory) }
+{
+    let mut tally = Tally::new();
+    match scan.scan(alloc, pieces, frame, &mut tally) {
+        Ok(bitmap) => Ok(bitmap),
+        Err(ScanFault::OutOfMemory) => Err(Refusal::OutOfMemory),
     }
 }
 
 /// The bits of closed contours in their frame; none if there is no frame.
-///
-/// It stays a function of its own: the loops of the scan need all registers.
-#[inline(never)]
 fn bitmap_of<S: Scan>(
     alloc: Global,
     scan: &S,
@@ -61,11 +80,10 @@ fn bitmap_of<S: Scan>(
     ensures bits { IfOk result (HasBitsOf (map span_of pieces.now)) }
     ensures fault { IfErr result (λ e. e ≡ Refusal.OutOfMemory) }
 {
-    let Some(frame) = frame else {
-        return Ok(Bitmap::new(alloc, no_frame())?);
-    };
-    let mut tally = Tally::new();
-    Ok(scan.scan(alloc, pieces, frame, &mut tally)?)
+    match frame {
+        Some(frame) => scanned(alloc, scan, pieces, frame),
+        None => empty_bitmap(alloc),
+    }
 }
 
 /// The glyph of a code point: the bits of its outline, in their tight box, and its advances.

@@ -1,115 +1,24 @@
-//! The faults of the crates below as refusals.
+//! The faults of outlines and contours as refusals.
 ghost use Rattle.std.specs.Prelude.{◌≡◌};
-ghost use Rattle.fx_strike.specs.declared.refusal.Refusal.TheVariants.{BadName as BadNameOf, OutOfMemory, WriteFailed as WriteFailedOf};
-ghost use Rattle.fx_strike.specs.Faults.{of_font, of_char_map, of_glyph, of_machine, of_hint, of_contour};
+ghost use Rattle.fx_strike.specs.Faults.{of_hint, of_contour};
 
-use crate::refusal::Refusal;
-use fx_bdf::BadName;
-use fx_cmap::CharMapFault;
 use fx_contour::ContourFault;
-use fx_fixed::WriteFailed;
-use fx_glyf::GlyphFault;
 use fx_hint::HintFault;
-use fx_machine::MachineFault;
-use fx_sfnt::FontFault;
-use fx_winding::ScanFault;
-use std::alloc::AllocError;
+use fx_request::Refusal;
 
-impl From<AllocError> for Refusal {
-    ghost from_gives = { λ _ e. e ≡ OutOfMemory };
-
-    fn from(_fault: AllocError) -> Refusal {
-        Refusal::OutOfMemory
-    }
-}
-
-impl From<ScanFault> for Refusal {
-    ghost from_gives = { λ _ e. e ≡ OutOfMemory };
-
-    fn from(_fault: ScanFault) -> Refusal {
-        Refusal::OutOfMemory
-    }
-}
-
-impl From<BadName> for Refusal {
-    ghost from_gives = { λ _ e. e ≡ BadNameOf };
-
-    fn from(_fault: BadName) -> Refusal {
-        Refusal::BadName
-    }
-}
-
-impl From<WriteFailed> for Refusal {
-    ghost from_gives = { λ f e. e ≡ WriteFailedOf f.0 };
-
-    fn from(fault: WriteFailed) -> Refusal {
-        Refusal::WriteFailed(fault.0)
-    }
-}
-
-impl From<FontFault> for Refusal {
-    ghost from_gives = { λ f e. e ≡ of_font f };
-
-    fn from(fault: FontFault) -> Refusal {
-        match fault {
-            FontFault::NotTrueType => Refusal::NotTrueType,
-            FontFault::TableMissing(tag) => Refusal::TableMissing(tag),
-            FontFault::TableShort(tag) => Refusal::TableShort(tag),
-            FontFault::BadHead => Refusal::BadHead,
-            FontFault::BadMaxp => Refusal::BadMaxp,
-            FontFault::BadLoca(g) => Refusal::BadLoca(g),
-            FontFault::BadGlyphNumber(g) => Refusal::BadGlyphNumber(g),
-        }
-    }
-}
-
-impl From<CharMapFault> for Refusal {
-    ghost from_gives = { λ f e. e ≡ of_char_map f };
-
-    fn from(fault: CharMapFault) -> Refusal {
-        match fault {
-            CharMapFault::NoCharMap => Refusal::NoCharMap,
-            CharMapFault::BadCharMap => Refusal::BadCharMap,
-        }
-    }
-}
-
-impl From<GlyphFault> for Refusal {
-    ghost from_gives = { λ f e. e ≡ of_glyph f };
-
-    fn from(fault: GlyphFault) -> Refusal {
-        match fault {
-            GlyphFault::GlyphShort(g) => Refusal::GlyphShort(g),
-            GlyphFault::BadContours(g) => Refusal::BadContours(g),
-        }
-    }
-}
-
-impl From<MachineFault> for Refusal {
-    ghost from_gives = { λ f e. e ≡ of_machine f };
-
-    fn from(fault: MachineFault) -> Refusal {
-        match fault {
-            MachineFault::Halted(halt) => Refusal::Halted(halt),
-            MachineFault::OutOfMemory => Refusal::OutOfMemory,
-        }
-    }
-}
-
-impl From<HintFault> for Refusal {
-    ghost from_gives = { λ f e. e ≡ of_hint f };
-
-    fn from(fault: HintFault) -> Refusal {
-        match fault {
-            HintFault::Font(fault) => Refusal::from(fault),
-            HintFault::Glyph(fault) => Refusal::from(fault),
-            HintFault::ComponentDepth(g) => Refusal::ComponentDepth(g),
-            HintFault::TooManyComponents(g) => Refusal::TooManyComponents(g),
-            HintFault::TooManyPoints(g) => Refusal::TooManyPoints(g),
-            HintFault::BadPointMatch(g) => Refusal::BadPointMatch(g),
-            HintFault::Halted(halt) => Refusal::Halted(halt),
-            HintFault::OutOfMemory => Refusal::OutOfMemory,
-        }
+/// What a fault of an outline is refused as.
+pub(crate) fn of_hint(fault: HintFault) -> Refusal
+    ensures { result ≡ of_hint fault }
+{
+    match fault {
+        HintFault::Font(fault) => Refusal::from(fault),
+        HintFault::Glyph(fault) => Refusal::from(fault),
+        HintFault::ComponentDepth(g) => Refusal::ComponentDepth(g),
+        HintFault::TooManyComponents(g) => Refusal::TooManyComponents(g),
+        HintFault::TooManyPoints(g) => Refusal::TooManyPoints(g),
+        HintFault::BadPointMatch(g) => Refusal::BadPointMatch(g),
+        HintFault::Halted(halt) => Refusal::Halted(halt),
+        HintFault::OutOfMemory => Refusal::OutOfMemory,
     }
 }
 

@@ -1,7 +1,7 @@
 //! The first pass over the characters: a survey of the strike.
 ghost use Rattle.std.specs.Prelude.{◌≡◌, ◌<◌, ◌≤◌, All, unsigned_abs, length};
-ghost use Rattle.fx_strike.specs.Limits.{max_characters};
-ghost use Rattle.fx_strike.specs.Characters.{rising};
+ghost use Rattle.fx_request.specs.Limits.{max_characters};
+ghost use Rattle.fx_request.specs.Characters.{rising};
 ghost use Rattle.fx_contour.specs.Contours.{IsInReach, spans_of};
 ghost use Rattle.fx_contour.specs.Frames.{NothingOutsideFrame};
 ghost use Rattle.fx_bdf.specs.Glyphs.{IsPlaced};
@@ -11,16 +11,16 @@ ghost use Rattle.fx_strike.specs.inner.Surveying.{Joins, SeesOne, Sees, Surveys,
 
 use crate::draw::glyph_of;
 use crate::opened::Opened;
-use crate::refusal::Refusal;
-use crate::request::{Request, Survey};
 use crate::seen::Seen;
 use crate::sketch::sketch_at;
 use crate::sketched::Sketched;
+use crate::surveyed::Survey;
 use crate::within::lies_in;
 use fx_bdf::Bounds;
 use fx_fixed::{Ppem, near};
 use fx_hint::Hinter;
 use fx_machine::Ran;
+use fx_request::{Refusal, Request};
 use fx_winding::Scan;
 use std::alloc::Global;
 

@@ -1,12 +1,5 @@
 //! What the definitions imply.
-ghost use Rattle.fx_strike.specs.Characters.{RisingAreRisen, RisenIsOne};
 ghost use Rattle.fx_strike.specs.Laws.{GlyphIsOne, TextIsOne, StrikeExists, PartIsOne, OneIsOfStrike};
-
-/// The code points in rising order rise, and are those of the request; no other list is so.
-pub fn rising()
-    ensures risen { RisingAreRisen }
-    ensures one { RisenIsOne }
-{}
 
 /// A sketch has one glyph, and a strike one text.
 pub fn text()

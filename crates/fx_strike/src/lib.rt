@@ -13,31 +13,26 @@
 //! alone. `listing_of` writes the listing of a program straight to the writer, and takes no memory.
 #![tactic(auto)]
 
-mod characters;
 mod draw;
 mod faults;
 mod first_pass;
+mod hinter;
 pub mod laws;
-mod limits;
 mod listing;
 mod make;
 mod one_character;
 mod open;
 mod opened;
-mod prelude;
-mod refusal;
-mod request;
 mod second_pass;
 mod seen;
 mod sketch;
 mod sketched;
+mod surveyed;
 mod surveying;
 mod within;
 
-pub use limits::{MAX_CHARACTERS, MAX_CODE};
-pub use listing::{Which, listing_of};
+pub use listing::listing_of;
 pub use make::{make_strike, make_strike_with};
 pub use one_character::one;
-pub use refusal::Refusal;
-pub use request::{Report, Request, Survey};
+pub use surveyed::Survey;
 pub use surveying::survey;

@@ -3,22 +3,11 @@ ghost use Rattle.std.specs.Prelude.{◌≡◌, ◌<◌, ◌^◌, ℕ, length, If
 ghost use Rattle.fx_fixed.specs.Chain.{map_ok};
 ghost use Rattle.fx_strike.specs.Listings.{program_in, program_of, code_of, IsListed, IsListedTo, IsNotListed, IsNoFault};
 
-use crate::refusal::Refusal;
 use fx_code::Code;
 use fx_fixed::Sink;
 use fx_glyf::{Glyph, read};
+use fx_request::{Refusal, Which};
 use fx_sfnt::Font;
-
-/// One of a font's programs (Apple TrueType Reference Manual, "Font program", "Control value program", "Glyph program").
-#[derive(Clone, Copy, Debug, PartialEq, Eq)]
-pub enum Which {
-    /// The font program, the table `fpgm`.
-    Fpgm,
-    /// The control value program, the table `prep`.
-    Prep,
-    /// The program of the glyph with this number.
-    Glyph(u16),
-}
 
 /// The program in a glyph's description; an empty glyph has none.
 fn code_of<'a>(glyph: &Glyph<'a>) -> &'a [u8]

@@ -4,17 +4,15 @@ ghost use Rattle.fx_strike.specs.Strike.{plan_after, plan_in};
 ghost use Rattle.fx_strike.specs.inner.Surveying.{IsChecked, seen_prelude};
 ghost use Rattle.fx_strike.specs.Headline.{Text, Cause, Memory, Late, Writer, HasToName, Leaves, opening_of, strike_of};
 
-use crate::characters::rising_codes;
 use crate::first_pass::survey_after;
+use crate::hinter::hinter_at;
 use crate::open::open;
 use crate::opened::Opened;
-use crate::prelude::{NOTHING, machine_at};
-use crate::refusal::Refusal;
-use crate::request::{Report, Request};
 use crate::second_pass::write_text;
 use fx_fixed::Sink;
-use fx_hint::{Hinter, NoHinter};
+use fx_hint::Hinter;
 use fx_machine::Ran;
+use fx_request::{Refusal, Report, Request, rising_codes};
 use fx_rows::Rows;
 use fx_winding::Scan;
 use std::alloc::Global;
@@ -53,7 +51,6 @@ fn write_after<S: Scan, H: Hinter, W: Sink>(
 }
 
 /// Writes the strike of an opened font. With hinting on, its programs run first.
-#[tactic(auto, unfolding(crate::specs::Strike::plan_in, crate::specs::Strike::prelude_for))]
 fn write_opened<S: Scan, W: Sink>(
     alloc: Global,
     scan: &S,
@@ -67,13 +64,9 @@ fn write_opened<S: Scan, W: Sink>(
         (plan_in opened.now.font opened.now.map opened.now.ppem request.now.name.now request.now.chars.now request.now.hinting)
         (W.held out.old) (W.held out.new) (W.fault_count out.old) (W.fault_count out.new) result }
 {
-    if request.hinting {
-        let mut machine = machine_at(alloc, &opened.font, opened.ppem)?;
-        let prelude = machine.prelude();
-        write_after(alloc, scan, &mut machine, prelude, opened, request, out)
-    } else {
-        write_after(alloc, scan, &mut NoHinter, NOTHING, opened, request, out)
-    }
+    let mut hinter = hinter_at(alloc, &opened.font, opened.ppem, request.hinting)?;
+    let prelude = hinter.prelude();
+    write_after(alloc, scan, &mut hinter, prelude, opened, request, out)
 }
 
 /// The same for a font file, with its clauses as one.

@@ -1,17 +1,17 @@
 //! One character of a font.
-ghost use Rattle.std.specs.Prelude.{◌≡◌, IfOk, IfErr, IsErrOf};
+ghost use Rattle.std.specs.Prelude.{IfOk, IfErr, IsErrOf};
 ghost use Rattle.fx_strike.specs.Faults.{Fails};
 ghost use Rattle.fx_strike.specs.Strike.{opened_one_of, one_after, one_in, one_of};
 ghost use Rattle.fx_strike.specs.Headline.{IsOneOf, Late};
 ghost use Rattle.fx_strike.specs.inner.Drawing.{Finds};
 
 use crate::draw::draw;
+use crate::hinter::hinter_at;
 use crate::open::open_one;
 use crate::opened::Opened;
-use crate::prelude::machine_at;
-use crate::refusal::Refusal;
 use fx_bdf::BitGlyph;
-use fx_hint::{Hinter, NoHinter};
+use fx_hint::Hinter;
+use fx_request::Refusal;
 use fx_rows::Rows;
 use std::alloc::Global;
 
@@ -34,7 +34,6 @@ fn one_after<H: Hinter>(
 }
 
 /// The glyph of a code point of an opened font; none if the font lacks it. With hinting on, the font's programs run first.
-#[tactic(auto, unfolding(crate::specs::Strike::one_in, crate::specs::Strike::prelude_for))]
 fn one_in(
     alloc: Global,
     opened: &Opened<'_>,
@@ -43,12 +42,8 @@ fn one_in(
 ) -> Result<Option<BitGlyph>, Refusal>
     ensures { Finds (one_in opened.now.font opened.now.map opened.now.ppem code hinting) result }
 {
-    if hinting {
-        let mut machine = machine_at(alloc, &opened.font, opened.ppem)?;
-        one_after(alloc, &mut machine, opened, code)
-    } else {
-        one_after(alloc, &mut NoHinter, opened, code)
-    }
+    let mut hinter = hinter_at(alloc, &opened.font, opened.ppem, hinting)?;
+    one_after(alloc, &mut hinter, opened, code)
 }
 
 /// The same for a font file.

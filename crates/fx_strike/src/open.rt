@@ -2,18 +2,16 @@
 ghost use Rattle.std.specs.Prelude.{◌≡◌, ◌≤◌, ◌||◌, false, nat_lt, length, IfErr, OnOk};
 ghost use Rattle.std.specs.List.{list_any};
 ghost use Rattle.fx_fixed.specs.Chain.{map_ok};
-ghost use Rattle.fx_strike.specs.Limits.{max_characters, max_code};
+ghost use Rattle.fx_request.specs.Limits.{max_characters, max_code};
 ghost use Rattle.fx_strike.specs.Strike.{sized, checked, font_with_map, opened_one_of};
 ghost use Rattle.fx_strike.specs.inner.Surveying.{IsChecked};
 ghost use Rattle.fx_strike.specs.Headline.{IsCause, opening_of};
 
-use crate::limits::{MAX_CHARACTERS, MAX_CODE};
 use crate::opened::Opened;
-use crate::refusal::Refusal;
-use crate::request::Request;
 use fx_bdf::check_name;
 use fx_cmap::CharMap;
 use fx_fixed::Ppem;
+use fx_request::{MAX_CHARACTERS, MAX_CODE, Refusal, Request};
 use fx_sfnt::Font;
 
 /// Whether a code point is past U+10FFFF.
@@ -55,7 +53,9 @@ fn check(request: &Request<'_>) -> Result<Ppem, Refusal>
     ensures passed { OnOk result (IsChecked request.now) }
 {
     let ppem = sized(request.ppem, request.chars)?;
-    check_name(request.name)?;
+    if check_name(request.name).is_err() {
+        return Err(Refusal::BadName);
+    }
     Ok(ppem)
 }
 

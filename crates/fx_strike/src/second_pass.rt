@@ -3,15 +3,15 @@ ghost use Rattle.std.specs.Prelude.{◌≡◌, ◌≤◌, ◌<◌, ◌^◌, ◌+
 ghost use Rattle.std.specs.List.{list_any};
 ghost use Rattle.fx_cmap.specs.Lookup.{glyph_for};
 ghost use Rattle.fx_bdf.specs.Text.{IsName, header_text, end_text};
-ghost use Rattle.fx_strike.specs.Limits.{max_characters, max_code};
+ghost use Rattle.fx_request.specs.Limits.{max_characters, max_code};
 ghost use Rattle.fx_strike.specs.inner.Writing.{AreLinesOf, AreAllLinesOf, Writes};
 
 use crate::draw::draw;
 use crate::opened::Opened;
-use crate::refusal::Refusal;
 use fx_bdf::{Header, write_glyph, write_header};
 use fx_fixed::{Sink, put_part};
 use fx_hint::Hinter;
+use fx_request::Refusal;
 use fx_winding::Scan;
 use std::alloc::Global;
 

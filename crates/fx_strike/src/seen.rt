@@ -1,8 +1,8 @@
 //! What is seen of the characters so far.
 
-use crate::request::Report;
 use fx_bdf::Bounds;
 use fx_hint::Outline;
+use fx_request::Report;
 
 /// The least box that holds the boxes of the glyphs so far, and what is counted over them.
 #[derive(Clone, Copy)]
@@ -13,7 +13,7 @@ pub(crate) struct Seen {
 
 impl Seen {
     ghost use Rattle.std.specs.Prelude.{◌<◌};
-    ghost use Rattle.fx_strike.specs.Limits.{max_characters};
+    ghost use Rattle.fx_request.specs.Limits.{max_characters};
     ghost use Rattle.fx_strike.specs.inner.Surveying.{IsEmpty, Adds};
 
     /// No character.

@@ -5,16 +5,17 @@ ghost use Rattle.fx_sfnt.specs.Glyphs.{metrics_of};
 ghost use Rattle.fx_hint.specs.Outlines.{view_of_outline, outline_with};
 ghost use Rattle.fx_contour.specs.Contours.{IsInReach, spans_of};
 ghost use Rattle.fx_contour.specs.Frames.{IsFrameFor, NothingOutsideFrame, outline_framed_of};
-ghost use Rattle.fx_strike.specs.Faults.{Fails, of_font, of_hint, of_contour};
+ghost use Rattle.fx_request.specs.Faults.{of_font};
+ghost use Rattle.fx_strike.specs.Faults.{Fails, of_hint, of_contour};
 ghost use Rattle.fx_strike.specs.Strike.{thousandths, glyph_sketch_of};
 ghost use Rattle.fx_strike.specs.inner.Drawing.{Sketches};
 
-use crate::faults::of_contour;
-use crate::refusal::Refusal;
+use crate::faults::{of_contour, of_hint};
 use crate::sketched::Sketched;
 use fx_contour::outline_frame;
 use fx_fixed::{Ppem, near};
 use fx_hint::{Hinter, Outline, outline_with};
+use fx_request::Refusal;
 use fx_sfnt::Font;
 use fx_winding::Frame;
 use std::alloc::Global;
@@ -31,7 +32,10 @@ fn outline_at<H: Hinter>(
     ensures value { GivesUnless Fails view_of_outline result
         (map_fault of_hint (outline_with (H.hinting hinter.old) font.now ppem glyph)) }
 {
-    Ok(outline_with(alloc, hinter, font, ppem, glyph)?)
+    match outline_with(alloc, hinter, font, ppem, glyph) {
+        Ok(outline) => Ok(outline),
+        Err(fault) => Err(of_hint(fault)),
+    }
 }
 
 /// The frame of an outline; `TooFar` if a point of it lies too far out, `GlyphTooLarge` if it has too many pixels.

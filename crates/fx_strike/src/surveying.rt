@@ -5,15 +5,14 @@ ghost use Rattle.fx_strike.specs.inner.Surveying.{IsChecked, Surveys, seen_prelu
 ghost use Rattle.fx_strike.specs.Faults.{Fails};
 ghost use Rattle.fx_strike.specs.Headline.{Surveyed, Late, opening_of, strike_of};
 
-use crate::characters::rising_codes;
 use crate::first_pass::survey_after;
+use crate::hinter::hinter_at;
 use crate::open::open;
 use crate::opened::Opened;
-use crate::prelude::{NOTHING, machine_at};
-use crate::refusal::Refusal;
-use crate::request::{Request, Survey};
-use fx_hint::{Hinter, NoHinter};
+use crate::surveyed::Survey;
+use fx_hint::Hinter;
 use fx_machine::Ran;
+use fx_request::{Refusal, Request, rising_codes};
 use fx_winding::Scan;
 use std::alloc::Global;
 
@@ -35,7 +34,6 @@ fn survey_hinted<S: Scan, H: Hinter>(
 }
 
 /// Surveys the strike of an opened font. With hinting on, its programs run first.
-#[tactic(auto, unfolding(crate::specs::Strike::plan_in, crate::specs::Strike::prelude_for))]
 fn survey_opened<S: Scan>(
     alloc: Global,
     scan: &S,
@@ -46,13 +44,9 @@ fn survey_opened<S: Scan>(
     ensures { Surveys (plan_in opened.now.font opened.now.map opened.now.ppem request.now.name.now request.now.chars.now
         request.now.hinting) result }
 {
-    if request.hinting {
-        let mut machine = machine_at(alloc, &opened.font, opened.ppem)?;
-        let prelude = machine.prelude();
-        survey_hinted(alloc, scan, &mut machine, prelude, opened, request)
-    } else {
-        survey_hinted(alloc, scan, &mut NoHinter, NOTHING, opened, request)
-    }
+    let mut hinter = hinter_at(alloc, &opened.font, opened.ppem, request.hinting)?;
+    let prelude = hinter.prelude();
+    survey_hinted(alloc, scan, &mut hinter, prelude, opened, request)
 }
 
 /// The same for a font file.

@@ -8,7 +8,7 @@ use Rattle.fx_winding.specs.declared.frame.Frame.{Frame}
 use Rattle.fx_contour.specs.Contours.{drawn_of}
 use Rattle.fx_contour.specs.Frames.{framed_of}
 use Rattle.fx_bdf.specs.Glyphs.{Box, Glyph}
-use Rattle.fx_strike.specs.declared.refusal.Refusal.{Refusal}
+use Rattle.fx_request.specs.declared.refusal.Refusal.{Refusal}
 use Rattle.fx_strike.specs.declared.sketched.Sketched.{Sketched}
 use Rattle.fx_strike.specs.Faults.{Fails}
 use Rattle.fx_strike.specs.Strike.{Sketch, IsGlyphOf}
@@ -22,11 +22,14 @@ pub record HasBitsOf (spans : List Span) (bits : Bits) : Type 0 where
 abbrev pub are_among : ℤ → ℕ → ℤ → ℕ → Bool
 are_among first count other more = int_le other first && int_le (first +ℤ pos count) (other +ℤ pos more)
 
--- the columns and rows of the frame are all among those of the box; no frame lies in every box
+-- the columns and rows of the frame are all among those of the box
+abbrev pub sides_lie_in : Frame → Box → Bool
+sides_lie_in f box = are_among f.left f.width box.left box.width && are_among f.bottom f.height box.bottom box.height
+
+-- no frame lies in every box
 abbrev pub lies_in : Option Frame → Box → Bool
 lies_in None box = true
-lies_in (Some f) box =
-    are_among f.left f.width box.left box.width && are_among f.bottom f.height box.bottom box.height
+lies_in (Some f) box = sides_lie_in f box
 
 -- a glyph before its bits is that of its sketch
 pub record IsSketchedOf (sketch : Sketch) (sketched : Sketched) : Type 0 where

@@ -8,13 +8,13 @@ use Rattle.fx_machine.specs.declared.ran.Ran.{Ran}
 use Rattle.fx_hint.specs.declared.points.Outline.{Outline}
 use Rattle.fx_bdf.specs.Glyphs.{Box, Glyph, IsPlaced, no_box, joined, bounds_of}
 use Rattle.fx_bdf.specs.Text.{IsName}
-use Rattle.fx_strike.specs.declared.refusal.Refusal.{Refusal}
-use Rattle.fx_strike.specs.declared.refusal.Refusal.TheVariants.{OutOfMemory}
+use Rattle.fx_request.specs.declared.refusal.Refusal.{Refusal}
+use Rattle.fx_request.specs.declared.refusal.Refusal.TheVariants.{OutOfMemory}
 use Rattle.fx_strike.specs.declared.seen.Seen.{Seen}
-use Rattle.fx_strike.specs.declared.request.Request.{Request}
-use Rattle.fx_strike.specs.declared.request.Survey.{Survey}
+use Rattle.fx_request.specs.declared.request.Request.{Request}
+use Rattle.fx_strike.specs.declared.surveyed.Survey.{Survey}
 use Rattle.fx_strike.specs.Faults.{Fails}
-use Rattle.fx_strike.specs.Limits.{max_characters, max_code}
+use Rattle.fx_request.specs.Limits.{max_characters, max_code}
 use Rattle.fx_strike.specs.Strike.{Sketch, Prelude, Plan, IsGlyphOf, AreGlyphsOf, is_missing, sketches_of, pixels}
 use Rattle.fx_strike.specs.Headline.{counted, Surveyed}
 

@@ -7,8 +7,8 @@ use Rattle.fx_cmap.specs.declared.mapping.Mapping.{Mapping}
 use Rattle.fx_hint.specs.Hinting.{Hinting}
 use Rattle.fx_bdf.specs.Glyphs.{Glyph}
 use Rattle.fx_bdf.specs.Text.{glyph_text}
-use Rattle.fx_strike.specs.declared.refusal.Refusal.{Refusal}
-use Rattle.fx_strike.specs.declared.refusal.Refusal.TheVariants.{WriteFailed, OutOfMemory}
+use Rattle.fx_request.specs.declared.refusal.Refusal.{Refusal}
+use Rattle.fx_request.specs.declared.refusal.Refusal.TheVariants.{WriteFailed, OutOfMemory}
 use Rattle.fx_strike.specs.Strike.{Sketch, IsGlyphOf, sketch_of, is_missing}
 
 -- ---- lines

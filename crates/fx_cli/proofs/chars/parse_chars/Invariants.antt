@@ -1,5 +1,5 @@
 use Rattle.std.proofs.Common.{◌≡◌, ◌≤◌, ◌+◌, vec_len, length, Option, Some, None, option_map, ℕ, List}
-use Rattle.fx_strike.specs.Limits.{max_characters}
+use Rattle.fx_request.specs.Limits.{max_characters}
 use Rattle.fx_cli.specs.Parts.{left_parts}
 use Rattle.fx_cli.specs.Chars.{items_of, numbers_of_items}
 use Rattle.fx_cli.proofs.Items.{behind}

@@ -1,7 +1,7 @@
 use Rattle.std.proofs.Common.{◌∙◌, refl, nat_lt, Ok}
 use Rattle.std.proofs.lemmas.Result.{err_from_is_err_and}
-use Rattle.fx_strike.specs.Limits.{max_code}
-use Rattle.fx_strike.proofs.Rising.{few_rising, small_rising}
+use Rattle.fx_request.specs.Limits.{max_code}
+use Rattle.fx_request.proofs.Rising.{few_rising, small_rising}
 use Rattle.fx_strike.proofs.Making.{not_surveyed}
 use Rattle.fx_strike.proofs.Lines.{leaves_unwritten, leaves_written}
 use Rattle.fx_strike.proofs.make.write_after.Goals as goal

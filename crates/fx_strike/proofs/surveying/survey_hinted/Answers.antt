@@ -1,5 +1,5 @@
 use Rattle.std.proofs.Common.{◌∙◌}
-use Rattle.fx_strike.proofs.Rising.{few_rising}
+use Rattle.fx_request.proofs.Rising.{few_rising}
 use Rattle.fx_strike.proofs.surveying.survey_hinted.Goals as goal
 
 pub survey_after-requires-clause-few : goal.survey_after-requires-clause-few

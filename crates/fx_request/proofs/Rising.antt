@@ -1,5 +1,5 @@
 -- The code points in rising order: they rise, they are those of the request, and no other list is so.
--- Serves the law `rising`, and the answers of `rising_codes` and `make_opened`.
+-- Serves the law `rising` and the answer of `rising_codes`; in `fx_strike` the answers of `write_after` and `survey_hinted`.
 use Rattle.std.proofs.Common.{◌≡◌, ◌⊎◌, inl, inr, refl, sym, ap, ◌∙◌, subst, arith, ℕ, suc, ◌<◌, ◌≤◌, Bool, true, false, List, []}
 use Rattle.std.proofs.Common.{◌∷◌, length}
 use Rattle.std.specs.Prelude.{◌||◌}
@@ -13,8 +13,8 @@ use Rattle.std.proofs.lemmas.Map.Keys.{IsStrictlyIncreasing-dedup}
 use Rattle.std.proofs.lemmas.Bool.{or_parts}
 use lib.Dec.{eqb}
 use Rattle.fx_fixed.proofs.Rising.{IsAbove, Rise, IsIn, contains_in, in_contains, rise_increasing, increasing_one}
-use Rattle.fx_strike.specs.Limits.{max_characters}
-use Rattle.fx_strike.specs.Characters.{with_code, rising, RisingAreRisen, RisenIsOne}
+use Rattle.fx_request.specs.Limits.{max_characters}
+use Rattle.fx_request.specs.Characters.{with_code, rising, RisingAreRisen, RisenIsOne}
 
 -- ---- one code point put in its place
 

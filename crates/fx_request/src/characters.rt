@@ -3,7 +3,7 @@ ghost use Rattle.std.specs.Prelude.{◌≡◌, nat_eq, IfOk};
 ghost use Rattle.std.specs.List.{dedup};
 ghost use Rattle.std.specs.List.Sorted.{IsPermutation, IsSorted};
 ghost use Rattle.std.specs.Ordering.{nat_cmp};
-ghost use Rattle.fx_strike.specs.Characters.{rising};
+ghost use Rattle.fx_request.specs.Characters.{rising};
 
 use std::alloc::{AllocError, Global};
 
@@ -27,7 +27,7 @@ fn each_once(codes: Vec<u32>) -> Vec<u32>
 }
 
 /// The code points in rising order, each once.
-pub(crate) fn rising_codes(alloc: Global, chars: &[u32]) -> Result<Vec<u32>, AllocError>
+pub fn rising_codes(alloc: Global, chars: &[u32]) -> Result<Vec<u32>, AllocError>
     ensures { IfOk result (λ v. v.items ≡ rising chars.now) }
 {
     Ok(each_once(sorted(alloc, chars)?))

@@ -1,12 +1,12 @@
 -- The numbers and names of the refusals.
 use Rattle.std.specs.Prelude.{ℕ, List, codes}
 use Rattle.fx_machine.specs.Causes.{entry_of as cause_entry_of}
-use Rattle.fx_strike.specs.declared.refusal.Refusal.{Refusal}
-use Rattle.fx_strike.specs.declared.refusal.Refusal.TheVariants.{NotTrueType, TableMissing, TableShort, BadHead, BadMaxp, NoCharMap}
-use Rattle.fx_strike.specs.declared.refusal.Refusal.TheVariants.{BadCharMap, BadLoca, GlyphShort, BadContours, ComponentDepth}
-use Rattle.fx_strike.specs.declared.refusal.Refusal.TheVariants.{TooManyComponents, TooManyPoints, BadPointMatch, BadGlyphNumber}
-use Rattle.fx_strike.specs.declared.refusal.Refusal.TheVariants.{TooFar, GlyphTooLarge, BadSize, BadChars, BadName, WriteFailed}
-use Rattle.fx_strike.specs.declared.refusal.Refusal.TheVariants.{ReadFailed, BadHex, InputTooLarge, OutOfMemory, Halted}
+use Rattle.fx_request.specs.declared.refusal.Refusal.{Refusal}
+use Rattle.fx_request.specs.declared.refusal.Refusal.TheVariants.{NotTrueType, TableMissing, TableShort, BadHead, BadMaxp, NoCharMap}
+use Rattle.fx_request.specs.declared.refusal.Refusal.TheVariants.{BadCharMap, BadLoca, GlyphShort, BadContours, ComponentDepth}
+use Rattle.fx_request.specs.declared.refusal.Refusal.TheVariants.{TooManyComponents, TooManyPoints, BadPointMatch, BadGlyphNumber}
+use Rattle.fx_request.specs.declared.refusal.Refusal.TheVariants.{TooFar, GlyphTooLarge, BadSize, BadChars, BadName, WriteFailed}
+use Rattle.fx_request.specs.declared.refusal.Refusal.TheVariants.{ReadFailed, BadHex, InputTooLarge, OutOfMemory, Halted}
 
 -- a refusal's number and name; those of a halt are its cause's
 abbrev pub entry_of : Refusal → ℕ × List ℕ

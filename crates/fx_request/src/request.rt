@@ -1,0 +1,27 @@
+//! Requests, and what is told of a strike.
+
+/// A request for a strike.
+#[derive(Clone, Copy, Debug)]
+pub struct Request<'a> {
+    /// Pixels of an em, 1 to 1,024; any other number is refused.
+    pub ppem: u16,
+    /// The font's name: 1 to 255 printed characters of ASCII, no space first or last; any other text is refused.
+    pub name: &'a str,
+    /// Code points up to U+10FFFF, at most 65,536 of them; their order and repeats do not count.
+    pub chars: &'a [u32],
+    /// Whether the font's programs are run.
+    pub hinting: bool,
+}
+
+/// What was counted over a strike.
+#[derive(Clone, Copy, Debug, PartialEq, Eq)]
+pub struct Report {
+    /// The number of glyphs written: one for each requested character that the font has.
+    pub glyphs: u32,
+    /// The number of requested characters that the font does not have.
+    pub missing: u32,
+    /// The numbers outside their tables that font programs named; the count stays at the greatest `u64`.
+    pub strays: u64,
+    /// The instructions that font programs executed; the count stays at the greatest `u64`.
+    pub steps: u64,
+}

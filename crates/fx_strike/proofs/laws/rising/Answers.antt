@@ -1,5 +1,0 @@
-use Rattle.fx_strike.proofs.Rising.{rising_are_risen, risen_is_one}
-use Rattle.fx_strike.proofs.laws.rising.Goals as goal
-
-pub returns : goal.returns
-returns c = record { risen = rising_are_risen; one = risen_is_one }
