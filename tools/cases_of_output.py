@@ -50,6 +50,14 @@ def closed_pipes():
             yield Run(name, asked, data, due.Cut.of(whole), way=runs.into_closed_pipe(count))
 
 
+def calls_of_the_system():
+    """Outputs are written in few calls: a glyph through a buffer of 1,984 bytes, other lines by two calls or one."""
+    for asked, data, whole in requests_with_output():
+        lines, glyphs = whole.out.count(b"\n"), whole.out.count(b"STARTCHAR")
+        most = 32 + glyphs + len(whole.out) // 1984 if glyphs else 2 * lines
+        yield Run(asked, asked, data, due.FewCalls(whole, most), way=runs.into_records)
+
+
 def errors_that_fail():
     """Standard error that takes nothing changes neither the status nor the output."""
     data = SHORT.data()
@@ -84,4 +92,5 @@ def too_little_memory():
             yield Run(name, asked, bytes(1 << 26), refused("90 OutOfMemory"), limits=limited(kib))
 
 
-CASES = [limited_files, little_memory, closed_pipes, full_devices, errors_that_fail, too_little_memory]
+CASES = [limited_files, little_memory, closed_pipes, full_devices, calls_of_the_system, errors_that_fail,
+         too_little_memory]

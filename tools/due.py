@@ -74,6 +74,20 @@ class Cut(Due):
         return Cut(REFUSED, b"", whole.out)
 
 
+class FewCalls(Due):
+    """What is due of a request that is done, where the answer says too how often the system was called to write."""
+
+    def __init__(self, whole, most):
+        Due.__init__(self, whole.status, whole.err, whole.out)
+        self.most = most
+
+    def wrong(self, answer):
+        fault = Due.wrong(self, answer[:3])
+        if fault or answer[3] <= self.most:
+            return fault
+        return "the system was called %d times to write, and at most %d are due" % (answer[3], self.most)
+
+
 def cut_after(whole, count):
     """What is due where the output takes so many bytes and then fails."""
     return refused("70 WriteFailed %d" % count, whole.out[:count])

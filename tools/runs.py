@@ -5,6 +5,7 @@ import os
 import resource
 import select
 import signal
+import socket
 import subprocess
 import tempfile
 import threading
@@ -33,7 +34,7 @@ class Run:
         way = self.way or (fed if self.feed else plain)
         try:
             return self.due.wrong(way(program, self))
-        except TooSlow:
+        except (TooSlow, TimeoutError):
             return "no end within %d seconds" % SECONDS
 
 
@@ -182,6 +183,17 @@ def into_file(size):
             with open(reading, "rb") as told:
                 return status, read_again(out), told.read()
     return way
+
+
+def into_records(program, run):
+    """Standard output keeps what each call of the system writes apart. The answer has the number of calls too."""
+    reading, writing = socket.socketpair(socket.AF_UNIX, socket.SOCK_SEQPACKET)
+    with reading, memory_file(run.data) as given, memory_file() as told:
+        with writing:
+            child = start(program, run, given, writing, told)
+        reading.settimeout(SECONDS)
+        records = list(iter(lambda: reading.recv(1024 * KIB), b""))
+        return end_of(child), b"".join(records), read_again(told), len(records)
 
 
 def into_closed_pipe(taken):
