@@ -86,6 +86,7 @@ fn only_part(component: &[u8]) -> Option<Part> {
     }
 }
 
+/// The scales of a component that has none.
 const IDENTITY: (i16, i16, i16, i16) = (16384, 0, 0, 16384);
 
 /// Components of glyph 3, with their arguments and their scales.

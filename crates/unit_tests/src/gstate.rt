@@ -18,44 +18,55 @@ fn place(x: i32, y: i32) -> Place {
     }
 }
 
+/// Distances and what they are rounded to.
+const ROUNDED: [(RoundState, i32, i32); 11] = [
+    (RoundState::ToGrid, 31, 0),
+    (RoundState::ToGrid, 32, 64),
+    (RoundState::ToGrid, 95, 64),
+    (RoundState::ToGrid, -32, -64),
+    (RoundState::ToHalfGrid, 0, 32),
+    (RoundState::ToHalfGrid, -1, -32),
+    (RoundState::ToDoubleGrid, 15, 0),
+    (RoundState::ToDoubleGrid, 16, 32),
+    (RoundState::DownToGrid, 63, 0),
+    (RoundState::UpToGrid, 1, 64),
+    (RoundState::Off, -7, -7),
+];
+
 #[test]
-fn grids(rt: HostRuntime) -> Result<(), Fail> {
-    for (distance, want) in [(31, 0), (32, 64), (95, 64), (-32, -64)] {
-        assert_eq!(rt; rounds(RoundState::ToGrid, distance), want);
-        assert_eq!(rt; rounds(RoundState::Super(super_grid(0x48)), distance), want);
+fn grids(rt: HostRuntime) {
+    for (state, distance, want) in ROUNDED {
+        assert_eq!(rt; rounds(state, distance), want, "{state:?} {distance}");
     }
-    assert_eq!(rt;
-        (
-            rounds(RoundState::ToHalfGrid, 0),
-            rounds(RoundState::ToHalfGrid, -1)
-        ),
-        (32, -32)
-    );
-    assert_eq!(rt;
-        (
-            rounds(RoundState::ToDoubleGrid, 15),
-            rounds(RoundState::ToDoubleGrid, 16)
-        ),
-        (0, 32)
-    );
-    assert_eq!(rt;
-        (
-            rounds(RoundState::DownToGrid, 63),
-            rounds(RoundState::UpToGrid, 1)
-        ),
-        (0, 64)
-    );
-    assert_eq!(rt; rounds(RoundState::Off, -7), -7);
-    for (distance, want) in [(1, 32), (-1, -32), (0, 0)] {
-        assert_eq!(rt; rounds(RoundState::Super(super_grid(0)), distance), want);
-    }
-    for (distance, want) in [(22, 0), (23, 45)] {
+}
+
+/// Operands of SROUND, or of S45ROUND, with distances and what they are rounded to.
+const SUPER_ROUNDED: [(bool, i32, i32, i32); 9] = [
+    (false, 0x48, 31, 0),
+    (false, 0x48, 32, 64),
+    (false, 0x48, 95, 64),
+    (false, 0x48, -32, -64),
+    (false, 0, 1, 32),
+    (false, 0, -1, -32),
+    (false, 0, 0, 0),
+    (true, 0x48, 22, 0),
+    (true, 0x48, 23, 45),
+];
+
+#[test]
+fn super_grids(rt: HostRuntime) {
+    for (turned, operand, distance, want) in SUPER_ROUNDED {
+        let grid = if turned {
+            super_grid_45(operand)
+        } else {
+            super_grid(operand)
+        };
         assert_eq!(rt;
-            rounds(RoundState::Super(super_grid_45(0x48)), distance),
-            want
+            rounds(RoundState::Super(grid), distance),
+            want,
+            "{operand} {distance}"
         );
     }
-    Ok(())
 }
 
 #[test]

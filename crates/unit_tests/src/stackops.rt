@@ -304,30 +304,22 @@ fn operands(rt: HostRuntime) -> Result<(), Fail> {
     Ok(())
 }
 
-/// Begins a store anew, with these control values; returns the stack's length and room, control value 3 and the strays.
-fn begun(
-    rt: &impl Abort,
-    store: &mut Store,
-    storage: &Table,
-    cvt: &Table,
-) -> (usize, usize, i32, u64) {
+/// Begins a store of 4 cells and 4 control values anew, with control value 3 at 9.
+fn begin_anew(rt: &impl Abort, alloc: Global, store: &mut Store) -> Result<(), Fail> {
+    let storage = Table::zeros(alloc, 4)?;
+    let mut cvt = Table::zeros(alloc, 4)?;
+    cvt.put(3, 9);
     assert!(rt; store.storage().len() == storage.len());
     assert!(rt; store.controls().len() == cvt.len());
-    store.restart(storage, cvt);
-    (
-        store.stack_len(),
-        store.stack_room(),
-        store.control(3),
-        store.strays(),
-    )
+    store.restart(&storage, &cvt);
+    Ok(())
 }
 
 #[test]
 fn begins_anew(rt: HostRuntime) -> Result<(), Fail> {
     let mut store = store_of(rt.alloc(), &[1, 2])?;
-    let storage = Table::zeros(rt.alloc(), 4)?;
-    let mut cvt = Table::zeros(rt.alloc(), 4)?;
-    cvt.put(3, 9);
-    assert_eq!(rt; begun(&rt, &mut store, &storage, &cvt), (0, 36, 9, 0));
+    begin_anew(&rt, rt.alloc(), &mut store)?;
+    assert_eq!(rt; (store.stack_len(), store.stack_room()), (0, 36));
+    assert_eq!(rt; (store.control(3), store.strays()), (9, 0));
     Ok(())
 }
