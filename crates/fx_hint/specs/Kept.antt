@@ -1,13 +1,15 @@
 -- Simple glyphs that are made once and kept. What becomes of one depends on hinting, the size, its number, metrics and bytes alone.
-use Rattle.std.specs.Prelude.{◌≡◌, ℕ, List, Ok, Option, Some, None}
+use Rattle.std.specs.Prelude.{◌≡◌, ◌≤◌, ℕ, List, length, Ok, Option, Some, None}
 use Rattle.fx_sfnt.specs.declared.records.Metrics.{Metrics}
 use Rattle.fx_glyf.specs.declared.glyph.Glyph.TheVariants.{Simple}
 use Rattle.fx_glyf.specs.Shapes.{SimpleView}
 use Rattle.fx_glyf.specs.Glyphs.{glyph_of}
 use Rattle.fx_scale.specs.declared.scale.Scale.{Scale}
+use Rattle.fx_machine.specs.Known.{MachineView}
 use Rattle.fx_hint.specs.declared.count.Spent.{Spent}
 use Rattle.fx_hint.specs.declared.made.Made.{Made}
 use Rattle.fx_hint.specs.Hinting.{Hinting}
+use Rattle.fx_hint.specs.Limits.{max_kept_points, max_kept_bytes}
 use Rattle.fx_hint.specs.Outlines.{scaled_simple}
 
 -- the bytes of glyph g are a simple glyph's; scaled, and with its program run, it is this one, and its program used up this much
@@ -29,3 +31,14 @@ pub record KeptGlyphView : Type 0 where
 abbrev pub IsTrueOf : Hinting → Option KeptGlyphView → Type 0
 IsTrueOf h None = Unit {0}
 IsTrueOf h (Some k) = IsMadeAlone h k.scale k.g k.metrics k.bytes k.made k.spent
+
+-- what a place keeps is small, however large the font is
+abbrev pub IsSmall : Option KeptGlyphView → Type 0
+IsSmall None = Unit {0}
+IsSmall (Some k) = (length k.bytes ≤ max_kept_bytes) × (length k.made.zone.points ≤ max_kept_points)
+    × (length k.made.zone.ends ≤ max_kept_points)
+
+-- a machine, and the places of what it keeps
+pub record KeepingView : Type 0 where
+  pub machine : MachineView
+  pub places : List (Option KeptGlyphView)

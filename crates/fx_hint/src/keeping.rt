@@ -1,6 +1,9 @@
 //! A machine that keeps simple glyphs that it made.
 
-ghost use Rattle.std.specs.Prelude.{◌≡◌, replicate, None, IfOk};
+ghost use Rattle.std.specs.Prelude.{◌≡◌, ◌≤◌, replicate, length, None, IfOk, IsTrue};
+ghost use Rattle.std.specs.List.{All};
+ghost use Rattle.fx_hint.specs.Kept.{IsSmall};
+ghost use Rattle.fx_hint.specs.Limits.{max_places, max_kept_points, max_kept_bytes};
 
 use crate::count::Spent;
 use crate::fault::HintFault;
@@ -14,7 +17,7 @@ use std::marker::Model;
 /// The number of places for glyphs that are kept.
 const PLACES: usize = 128;
 
-/// The most points of a glyph that is kept.
+/// The most points, and the most contours, of a glyph that is kept.
 const KEPT_POINTS: usize = 80;
 
 /// The most bytes of a glyph that is kept.
@@ -22,7 +25,7 @@ const KEPT_BYTES: usize = 512;
 
 /// No place keeps a glyph.
 fn empty_places(alloc: Global) -> Result<Vec<KeptGlyph>, AllocError>
-    ensures { IfOk result (λ places. places.items ≡ replicate PLACES None) }
+    ensures { IfOk result (λ places. places.items ≡ replicate max_places None) }
 {
     let mut places = Vec::with_capacity(alloc, PLACES)?;
     // The places so far keep nothing, and there is room for those that are left.
@@ -30,6 +33,17 @@ fn empty_places(alloc: Global) -> Result<Vec<KeptGlyph>, AllocError>
         places.push_reserved(KeptGlyph::new(alloc));
     }
     Ok(places)
+}
+
+/// Whether a glyph is small enough to be kept.
+fn is_small(bytes: &[u8], made: &Made) -> bool
+    ensures bytes { IsTrue result → length bytes.now ≤ max_kept_bytes }
+    ensures points { IsTrue result → length made.now.zone.points ≤ max_kept_points }
+    ensures ends { IsTrue result → length made.now.zone.ends ≤ max_kept_points }
+{
+    bytes.len() <= KEPT_BYTES
+        && made.zone.len() <= KEPT_POINTS
+        && made.zone.ends().len() <= KEPT_POINTS
 }
 
 /// A machine of a font at a size that keeps simple components that it made, so that one which comes again soon is copied and not
@@ -45,22 +59,23 @@ pub struct KeepingMachine<'a> {
 impl<'a> Model for KeepingMachine<'a> {
     ghost use Rattle.std.specs.Prelude.{◌≡◌, length};
     ghost use Rattle.std.specs.List.{All};
-    ghost use Rattle.fx_machine.specs.Known.{MachineView};
     ghost use Rattle.fx_hint.specs.Programmed.{hinting_of};
-    ghost use Rattle.fx_hint.specs.Kept.{IsTrueOf};
-    ghost use Rattle.fx_hint.specs.declared.keeping.TheConstants.{PLACES};
+    ghost use Rattle.fx_hint.specs.Kept.{KeepingView, IsTrueOf, IsSmall};
+    ghost use Rattle.fx_hint.specs.Limits.{max_places};
 
-    ghost Value = { MachineView };
+    ghost Value = { KeepingView };
 
-    ghost view = { λ k. k.machine };
+    ghost view = { λ k. record { machine = k.machine; places = k.places.items } };
 
-    ghost invariant = { λ k. (length k.places.items ≡ PLACES) × All (IsTrueOf (hinting_of k.machine.known)) k.places.items };
+    ghost invariant = { λ k. (length k.places.items ≡ max_places) × All (IsTrueOf (hinting_of k.machine.known)) k.places.items
+        × All IsSmall k.places.items };
 }
 
 impl<'a> KeepingMachine<'a> {
     /// The machine, which keeps nothing yet.
     pub fn new(alloc: Global, machine: Machine<'a>) -> Result<KeepingMachine<'a>, AllocError>
-        ensures { IfOk result (λ keeping. keeping ≡ machine.entry) }
+        ensures same { IfOk result (λ keeping. keeping.machine ≡ machine.entry) }
+        ensures none { IfOk result (λ keeping. keeping.places ≡ replicate max_places None) }
     {
         let places = empty_places(alloc)?;
         Ok(KeepingMachine { machine, places })
@@ -68,9 +83,17 @@ impl<'a> KeepingMachine<'a> {
 
     /// What `fpgm` and `prep` used up.
     pub fn prelude(&self) -> Ran
-        ensures { result ≡ self.now.known.prelude }
+        ensures { result ≡ self.now.machine.known.prelude }
     {
         self.machine.prelude()
+    }
+
+    /// The law: what is kept has a bound, whatever was made.
+    pub fn law_keeps_little(&self)
+        ensures places { length self.now.places ≡ max_places }
+        ensures small { All IsSmall self.now.places }
+    {
+        let _ = &self.places;
     }
 }
 
@@ -80,9 +103,9 @@ impl<'a> Hinter for KeepingMachine<'a> {
 
     ghost Known = { Known };
 
-    ghost known = { λ m. m.known };
+    ghost known = { λ m. m.machine.known };
 
-    ghost hinting = { λ m. hinting_of m.known };
+    ghost hinting = { λ m. hinting_of m.machine.known };
 
     fn is_on(&self) -> bool {
         true
@@ -97,7 +120,7 @@ impl<'a> Hinter for KeepingMachine<'a> {
     }
 
     fn keep(&mut self, input: &GlyphInput<'_>, made: &Made, spent: Spent) {
-        if made.zone.len() <= KEPT_POINTS && input.bytes.len() <= KEPT_BYTES {
+        if is_small(input.bytes, made) {
             let _kept = self.places[usize::from(input.g) % PLACES].take(input, made, spent);
         }
     }

@@ -1,6 +1,6 @@
 //! The walk over components.
 
-ghost use Rattle.std.specs.Prelude.{◌≡◌, ◌+◌, ◌<◌, ◌≤◌, Ok, IfOk, OnOk, length};
+ghost use Rattle.std.specs.Prelude.{◌≡◌, ◌+◌, ◌-◌, ◌<◌, ◌≤◌, Ok, IfOk, OnOk, length};
 ghost use Rattle.fx_fixed.specs.Chain.{GivesUnless, map_ok};
 ghost use Rattle.fx_glyf.specs.declared.glyph.Glyph.TheVariants as glyph;
 ghost use Rattle.fx_glyf.specs.Glyphs.{glyph_of};
@@ -25,6 +25,14 @@ use fx_scale::{PhantomPoints, Scale, zone_of};
 use fx_sfnt::{Font, Metrics};
 use fx_zone::Zone;
 use std::alloc::Global;
+
+/// How many levels are allowed below, if so many composites wait.
+fn levels_below(waiting: usize) -> u8
+    requires { waiting ≤ max_depth }
+    ensures { result ≡ max_depth - waiting }
+{
+    MAX_DEPTH - waiting as u8
+}
 
 /// A glyph without points yet.
 fn empty_made(alloc: Global, scale: &Scale, hinted: bool, x_min: i16, metrics: Metrics) -> Made
@@ -312,7 +320,7 @@ impl<'w, 'a> Walk<'w, 'a> {
         'steps: loop {
             match open.parts.next() {
                 Some(part) => {
-                    let levels = MAX_DEPTH - below.len() as u8;
+                    let levels = levels_below(below.len());
                     let step = self.begun_component(hinter, levels, part.glyph, count)?;
                     match step {
                         Step::Assembled(made) => {

@@ -85,7 +85,7 @@ impl<'a> Hinter for FontHinter<'a> {
 
 /// A machine in a box, which keeps components that come again.
 fn keeping<'a>(alloc: Global, machine: Machine<'a>) -> Result<Box<KeepingMachine<'a>>, AllocError>
-    ensures { IfOk result (λ b. b.value ≡ machine.entry) }
+    ensures { IfOk result (λ b. b.value.machine ≡ machine.entry) }
 {
     let keeping = KeepingMachine::new(alloc, machine)?;
     Ok(Box::new(alloc, keeping)?)
@@ -97,7 +97,7 @@ fn machine_at<'a>(
     font: &Font<'a>,
     ppem: Ppem,
 ) -> Result<Box<KeepingMachine<'a>>, Refusal>
-    ensures { GivesUnless Fails (λ b. b.value.known) result (map_fault of_machine (machine_of font.now ppem)) }
+    ensures { GivesUnless Fails (λ b. b.value.machine.known) result (map_fault of_machine (machine_of font.now ppem)) }
 {
     let machine = Machine::new(alloc, font.shared(), ppem)?;
     Ok(keeping(alloc, machine)?)

@@ -11,17 +11,17 @@ use Rattle.fx_strike.specs.inner.Surveying.{seen_prelude}
 
 -- what is known of the machine, if there is one
 abbrev pub known_at : FontHinter → Option Known
-known_at (Machine machine) = Some machine.value.known
+known_at (Machine machine) = Some machine.value.machine.known
 known_at Off = None
 
 -- what it adds to scaling
 abbrev pub hinting_at : FontHinter → Hinting
-hinting_at (Machine machine) = hinting_of machine.value.known
+hinting_at (Machine machine) = hinting_of machine.value.machine.known
 hinting_at Off = no_hinting
 
 -- what `fpgm` and `prep` counted
 abbrev pub counted_at : FontHinter → Ran
-counted_at (Machine machine) = machine.value.known.prelude
+counted_at (Machine machine) = machine.value.machine.known.prelude
 counted_at Off = record { steps = 0; strays = 0 }
 
 -- the hinter, seen as what was due
