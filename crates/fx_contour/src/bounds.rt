@@ -26,6 +26,7 @@ impl Bounds {
     ghost use Rattle.fx_contour.specs.Frames.{HasAny, HaveAny};
     ghost use Rattle.fx_contour.specs.Bounds.{Side, Reaches, Grows, IsLeast, Extends, HavePoint, KeepsLimit, AreBoundsOf};
 
+    /// The box of one point.
     fn around(p: Point) -> Bounds
         ensures left { result.left ≡ p.x }
         ensures right { result.right ≡ p.x }
@@ -40,6 +41,7 @@ impl Bounds {
         }
     }
 
+    /// The least box that holds this one and a point.
     fn with_point(self, p: Point) -> Bounds
         ensures { Grows (Reaches self) (Reaches result) (λ P. P (place_of p)) }
     {
@@ -51,6 +53,7 @@ impl Bounds {
         }
     }
 
+    /// The least box that holds this one and the control point, if there is one.
     fn with_control(self, control: Option<Point>) -> Bounds
         ensures { Grows (Reaches self) (Reaches result) (λ P. IsSomeAnd (maybe_place_of control) P) }
     {
@@ -60,6 +63,7 @@ impl Bounds {
         }
     }
 
+    /// The least box that holds this one and the points of a piece, its control point too.
     fn with_piece(self, piece: &Piece) -> Bounds
         ensures { Grows (Reaches self) (Reaches result) (λ P. HasAny P (span_of piece.now)) }
     {

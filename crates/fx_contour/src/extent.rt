@@ -28,6 +28,7 @@ impl Extent {
     ghost use Rattle.fx_contour.specs.Frames.{HaveAny};
     ghost use Rattle.fx_contour.specs.Bounds.{Grows, IsLeast, Extends, DoesExtend, HavePoint, KeepsLimit};
 
+    /// The extent of one point.
     fn around(p: &OutlinePoint) -> Extent
         ensures left { result.left ≡ p.now.x }
         ensures right { result.right ≡ p.now.x }
@@ -42,6 +43,7 @@ impl Extent {
         }
     }
 
+    /// The extent of this one's points and one more.
     fn with_point(self, p: OutlinePoint) -> Extent
         ensures { Grows (Extends self) (Extends result) (λ P. P (doubled_of p)) }
     {
@@ -53,6 +55,7 @@ impl Extent {
         }
     }
 
+    /// The extent of this one's points and more.
     fn with_points(self, points: &[OutlinePoint]) -> Extent
         ensures { Grows (Extends self) (Extends result) (λ P. HavePoint P points.now) }
     {
@@ -122,12 +125,14 @@ impl Extent {
     }
 }
 
+/// The lesser of two coordinates.
 fn least(a: F26, b: F26) -> F26
     ensures { result ≡ int_min a b }
 {
     F26(a.0.min(b.0))
 }
 
+/// The greater of two coordinates.
 fn greatest(a: F26, b: F26) -> F26
     ensures { result ≡ int_max a b }
 {

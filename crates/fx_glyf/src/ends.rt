@@ -15,6 +15,7 @@ pub fn count_points(contours: u16, bytes: &[u8]) -> Option<u32>
 {
     let mut count = 0;
     let mut rest = bytes;
+    // The end points that are left, counted on from `count`, give the number of all.
     'ends: for _k in 0..contours {
         let end = u32::from(u16_in(rest, 0));
         if end + 1 < count {

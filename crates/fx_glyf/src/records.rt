@@ -120,6 +120,7 @@ pub fn skip_parts(bytes: &[u8]) -> Option<(bool, &[u8])>
     let mut announced = false;
     let mut more = true;
     let mut rest = bytes;
+    // What comes after the components that are left comes after all.
     'parts: while more {
         let (part, after_it) = next_part(rest)?;
         announced |= part.has_program();

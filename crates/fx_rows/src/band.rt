@@ -1,7 +1,7 @@
 //! The counts and the marks of a band of rows.
 //!
-//! The pixels of a band are numbered row by row, from the lowest. After a row's last pixel the numbers up to the next multiple of 32
-//! are left out, so that each row begins a word of bits, as in a bitmap.
+//! The pixels of a band are numbered row by row, from the lowest. After a row's last pixel the numbers up to the next multiple of
+//! 32 are left out, so that each row begins a word of bits, as in a bitmap.
 
 ghost use Rattle.std.specs.Prelude.{◌≡◌, ◌+◌, ◌*◌, ◌/◌, ◌%◌, ◌^◌, ◌<◌, ◌≤◌, length, take, replicate, pos, IfOk};
 ghost use Rattle.fx_winding.specs.Bitmaps.{words_for};
@@ -80,7 +80,7 @@ impl Band {
         })
     }
 
-    /// The number of the first pixel of a row, so many above the band's lowest.
+    /// The number of the first pixel of the row that is `up` above the band's lowest.
     pub(crate) fn first_of(&self, up: u32) -> usize
         requires { up < self.now.frame.height }
         ensures value { result ≡ up * stride self.now.frame.width }

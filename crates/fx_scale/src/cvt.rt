@@ -14,6 +14,7 @@ pub fn cvt_of(alloc: Global, bytes: &[u8], scale: &Scale) -> Result<Vec<i32>, Al
     ensures { IfOk result (λ v. v.items ≡ control_values scale.now bytes.now) }
 {
     let mut values = Vec::with_capacity(alloc, bytes.len() / 2)?;
+    // The values are those of the entries before k, and there is room for those that are left.
     'entries: for k in 0..bytes.len() / 2 {
         let value = entry(scale, bytes, k);
         values.push(value)?;

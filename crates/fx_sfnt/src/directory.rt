@@ -30,6 +30,7 @@ pub fn find_table<'a>(file: &'a [u8], tag: [u8; 4]) -> Option<&'a [u8]>
     let count = u16_in(file, 4);
     let want = u32_in(&tag, 0);
     let mut rest = after(file, 12);
+    // The first record with the tag among the records that are left is that among all.
     'records: for k in 0..count {
         if u32_in(rest, 0) == want {
             let offset = u32_in(rest, 8) as usize;
