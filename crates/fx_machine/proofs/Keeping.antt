@@ -56,7 +56,8 @@ use Rattle.fx_machine.specs.PointRows.{points_by_one, points_by_two, loop_on, is
 use Rattle.fx_machine.specs.PointRows.{shp_row, shc_row, shz_row, shpix_row}
 use Rattle.fx_machine.specs.PointRows.{ip_row, msirp_row, alignrp_row, miap_row, gc_row, scfs_row, md_row, deltap_row, flippt_row}
 use Rattle.fx_machine.specs.PointRows.{fliprg_row, mdrp_row, mirp_row}
-use Rattle.fx_machine.specs.Table.{row_0, row_1, row_2, row_3, row_4, row_5, row_6, row_7, row_8, relative_row, plain_of, then_at}
+use Rattle.fx_machine.specs.Table.{opcodes_0x, opcodes_1x, opcodes_2x, opcodes_3x, opcodes_4x, opcodes_5x, opcodes_6x}
+use Rattle.fx_machine.specs.Table.{opcodes_7x, opcodes_8x, relative_row, plain_of, then_at}
 use Rattle.fx_machine.specs.Table.{row_of, row_in, row_at, settled}
 use Rattle.fx_machine.specs.Actions.{acts}
 use Rattle.fx_machine.specs.Shapes.{HasSizes, FinishesAlike}
@@ -108,6 +109,10 @@ module _ (z : Zones) where
   acts_bind (Err c) f h = tt
 
 -- ---- rows that leave the points
+
+fault_keeps : (cause : Cause) (s : State) → Plain s.zones (Err cause)
+unfolding Plain
+fault_keeps cause s = tt
 
 store_keeps : (row : StoreView → Result StoreView StackFault) (s : State) → Plain s.zones (on_store row s)
 unfolding Plain
@@ -352,10 +357,11 @@ mirp_row_keeps how s = plain_bind s.zones (map_fault of_stack (two s.store)) _ (
 
 -- ---- the table
 
-row_0_keeps : (op : ℕ) (s : State) → Plain s.zones (row_0 op s)
-unfolding row_0
-row_0_keeps op s = search (
+opcodes_0x_keep : (op : ℕ) (s : State) → Plain s.zones (opcodes_0x op s)
+unfolding opcodes_0x
+opcodes_0x_keep op s = search (
   plain_if s.zones,
+  fault_keeps,
   graphics_keeps,
   spvtl_keeps,
   sfvtl_keeps,
@@ -366,10 +372,11 @@ row_0_keeps op s = search (
   isect_row_keeps,
 ) depth 40 fits 8000
 
-row_1_keeps : (op : ℕ) (s : State) → Plain s.zones (row_1 op s)
-unfolding row_1
-row_1_keeps op s = search (
+opcodes_1x_keep : (op : ℕ) (s : State) → Plain s.zones (opcodes_1x op s)
+unfolding opcodes_1x
+opcodes_1x_keep op s = search (
   plain_if s.zones,
+  fault_keeps,
   graphics_keeps,
   srp0_keeps,
   srp1_keeps,
@@ -385,14 +392,15 @@ row_1_keeps op s = search (
   ssw_keeps,
 ) depth 40 fits 8000
 
-row_2_keeps : (op : ℕ) (s : State) → Plain s.zones (row_2 op s)
-unfolding row_2
-row_2_keeps op s = search (plain_if s.zones, store_keeps, alignpts_row_keeps, utp_row_keeps, mdap_row_keeps) depth 40 fits 8000
+opcodes_2x_keep : (op : ℕ) (s : State) → Plain s.zones (opcodes_2x op s)
+unfolding opcodes_2x
+opcodes_2x_keep op s = search (plain_if s.zones, fault_keeps, store_keeps, alignpts_row_keeps, utp_row_keeps, mdap_row_keeps) depth 40 fits 8000
 
-row_3_keeps : (op : ℕ) (s : State) → Plain s.zones (row_3 op s)
-unfolding row_3
-row_3_keeps op s = search (
+opcodes_3x_keep : (op : ℕ) (s : State) → Plain s.zones (opcodes_3x op s)
+unfolding opcodes_3x
+opcodes_3x_keep op s = search (
   plain_if s.zones,
+  fault_keeps,
   graphics_keeps,
   iup_row_keeps,
   shp_row_keeps,
@@ -405,23 +413,24 @@ row_3_keeps op s = search (
   miap_row_keeps,
 ) depth 40 fits 8000
 
-row_4_keeps : (op : ℕ) (s : State) → Plain s.zones (row_4 op s)
-unfolding row_4
-row_4_keeps op s =
-    search (plain_if s.zones, graphics_keeps, store_keeps, gc_row_keeps, scfs_row_keeps, md_row_keeps) depth 40 fits 8000
+opcodes_4x_keep : (op : ℕ) (s : State) → Plain s.zones (opcodes_4x op s)
+unfolding opcodes_4x
+opcodes_4x_keep op s =
+    search (plain_if s.zones, fault_keeps, graphics_keeps, store_keeps, gc_row_keeps, scfs_row_keeps, md_row_keeps) depth 40 fits 8000
 
-row_5_keeps : (op : ℕ) (s : State) → Plain s.zones (row_5 op s)
-unfolding row_5
-row_5_keeps op s = search (plain_if s.zones, store_keeps, deltap_row_keeps, sdb_keeps, sds_keeps) depth 40 fits 8000
+opcodes_5x_keep : (op : ℕ) (s : State) → Plain s.zones (opcodes_5x op s)
+unfolding opcodes_5x
+opcodes_5x_keep op s = search (plain_if s.zones, fault_keeps, store_keeps, deltap_row_keeps, sdb_keeps, sds_keeps) depth 40 fits 8000
 
-row_6_keeps : (op : ℕ) (s : State) → Plain s.zones (row_6 op s)
-unfolding row_6
-row_6_keeps op s = search (plain_if s.zones, store_keeps) depth 40 fits 8000
+opcodes_6x_keep : (op : ℕ) (s : State) → Plain s.zones (opcodes_6x op s)
+unfolding opcodes_6x
+opcodes_6x_keep op s = search (plain_if s.zones, fault_keeps, store_keeps) depth 40 fits 8000
 
-row_7_keeps : (op : ℕ) (s : State) → Plain s.zones (row_7 op s)
-unfolding row_7
-row_7_keeps op s = search (
+opcodes_7x_keep : (op : ℕ) (s : State) → Plain s.zones (opcodes_7x op s)
+unfolding opcodes_7x
+opcodes_7x_keep op s = search (
   plain_if s.zones,
+  fault_keeps,
   graphics_keeps,
   store_keeps,
   wcvtf_keeps,
@@ -430,10 +439,10 @@ row_7_keeps op s = search (
   s45round_keeps,
 ) depth 40 fits 8000
 
-row_8_keeps : (op : ℕ) (s : State) → Plain s.zones (row_8 op s)
-unfolding row_8
-row_8_keeps op s =
-    search (plain_if s.zones, store_keeps, flippt_row_keeps, fliprg_row_keeps, sdpvtl_keeps, instctrl_keeps) depth 40 fits 8000
+opcodes_8x_keep : (op : ℕ) (s : State) → Plain s.zones (opcodes_8x op s)
+unfolding opcodes_8x
+opcodes_8x_keep op s =
+    search (plain_if s.zones, fault_keeps, store_keeps, flippt_row_keeps, fliprg_row_keeps, sdpvtl_keeps, instctrl_keeps) depth 40 fits 8000
 
 relative_keeps : (op : ℕ) (s : State) → Plain s.zones (relative_row op s)
 unfolding relative_row
@@ -444,15 +453,15 @@ unfolding plain_of
 plain_keeps op s =
     search (
       plain_if s.zones,
-      row_0_keeps,
-      row_1_keeps,
-      row_2_keeps,
-      row_3_keeps,
-      row_4_keeps,
-      row_5_keeps,
-      row_6_keeps,
-      row_7_keeps,
-      row_8_keeps,
+      opcodes_0x_keep,
+      opcodes_1x_keep,
+      opcodes_2x_keep,
+      opcodes_3x_keep,
+      opcodes_4x_keep,
+      opcodes_5x_keep,
+      opcodes_6x_keep,
+      opcodes_7x_keep,
+      opcodes_8x_keep,
     ) depth 40 fits 8000
 
 -- ---- rows that may continue elsewhere

@@ -20,7 +20,7 @@ use Rattle.fx_stackops.specs.Rows.{deltac_of, ignored_of, getinfo_of, roll_of, m
 use Rattle.fx_pointops.specs.Distances.{relative_of}
 use Rattle.fx_machine.specs.declared.program.Program.{Program}
 use Rattle.fx_machine.specs.declared.halt.Cause.{Cause}
-use Rattle.fx_machine.specs.declared.halt.Cause.TheVariants.{CodeEnd}
+use Rattle.fx_machine.specs.declared.halt.Cause.TheVariants.{BadOpcode, CodeEnd}
 use Rattle.fx_machine.specs.declared.action.Action.{Action}
 use Rattle.fx_machine.specs.declared.action.Action.TheVariants.{Went, Called, Returned}
 use Rattle.fx_machine.specs.declared.state.State.{State}
@@ -35,11 +35,11 @@ use Rattle.fx_machine.specs.PointRows.{ip_row}
 use Rattle.fx_machine.specs.PointRows.{msirp_row, alignrp_row, miap_row, gc_row, scfs_row, md_row, deltap_row, flippt_row}
 use Rattle.fx_machine.specs.PointRows.{fliprg_row, mdrp_row, mirp_row}
 
--- ---- the rows that continue at the next address
+-- ---- the rows that continue at the next address; an opcode that has none of them here is in `row_of`
 
 -- 00 to 0F: vectors, ISECT
-unfoldable pub row_0 : ℕ → State → Result State Cause
-row_0 op s =
+unfoldable pub opcodes_0x : ℕ → State → Result State Cause
+opcodes_0x op s =
     if op == 0x00 then on_graphics (λ g. record g { freedom = axis_of Y; projection = axis_of Y; dual = axis_of Y }) s
     else if op == 0x01 then on_graphics (λ g. record g { freedom = axis_of X; projection = axis_of X; dual = axis_of X }) s
     else if op == 0x02 then on_graphics (λ g. record g { projection = axis_of Y; dual = axis_of Y }) s
@@ -55,11 +55,12 @@ row_0 op s =
     else if op == 0x0C then gpv_of s
     else if op == 0x0D then gfv_of s
     else if op == 0x0E then on_graphics (λ g. record g { freedom = g.projection }) s
-    else isect_row s
+    else if op == 0x0F then isect_row s
+    else Err BadOpcode
 
 -- 10 to 1F: reference points, zone pointers, loop, rounding, distances
-unfoldable pub row_1 : ℕ → State → Result State Cause
-row_1 op s =
+unfoldable pub opcodes_1x : ℕ → State → Result State Cause
+opcodes_1x op s =
     if op == 0x10 then srp0_of s
     else if op == 0x11 then srp1_of s
     else if op == 0x12 then srp2_of s
@@ -73,11 +74,12 @@ row_1 op s =
     else if op == 0x1A then smd_of s
     else if op == 0x1D then scvtci_of s
     else if op == 0x1E then sswci_of s
-    else ssw_of s
+    else if op == 0x1F then ssw_of s
+    else Err BadOpcode
 
 -- 20 to 2F: the stack, ALIGNPTS, UTP, MDAP
-unfoldable pub row_2 : ℕ → State → Result State Cause
-row_2 op s =
+unfoldable pub opcodes_2x : ℕ → State → Result State Cause
+opcodes_2x op s =
     if op == 0x20 then on_store dup_of s
     else if op == 0x21 then on_store pop_of s
     else if op == 0x22 then on_store (λ t. Ok (clear_of t)) s
@@ -88,11 +90,12 @@ row_2 op s =
     else if op == 0x27 then alignpts_row s
     else if op == 0x29 then utp_row s
     else if op == 0x2E then mdap_row false s
-    else mdap_row true s
+    else if op == 0x2F then mdap_row true s
+    else Err BadOpcode
 
 -- 30 to 3F: points
-unfoldable pub row_3 : ℕ → State → Result State Cause
-row_3 op s =
+unfoldable pub opcodes_3x : ℕ → State → Result State Cause
+opcodes_3x op s =
     if op == 0x30 then iup_row Y s
     else if op == 0x31 then iup_row X s
     else if op == 0x32 then shp_row false s
@@ -108,11 +111,12 @@ row_3 op s =
     else if op == 0x3C then alignrp_row s
     else if op == 0x3D then on_graphics (λ g. record g { round_state = ToDoubleGrid }) s
     else if op == 0x3E then miap_row false s
-    else miap_row true s
+    else if op == 0x3F then miap_row true s
+    else Err BadOpcode
 
 -- 42 to 4F: storage, control values, measuring, the size
-unfoldable pub row_4 : ℕ → State → Result State Cause
-row_4 op s =
+unfoldable pub opcodes_4x : ℕ → State → Result State Cause
+opcodes_4x op s =
     if op == 0x42 then on_store ws_of s
     else if op == 0x43 then on_store rs_of s
     else if op == 0x44 then on_store wcvtp_of s
@@ -126,11 +130,12 @@ row_4 op s =
     else if op == 0x4C then on_store (size_of s.scale.ppem) s
     else if op == 0x4D then on_graphics (λ g. record g { auto_flip = true }) s
     else if op == 0x4E then on_graphics (λ g. record g { auto_flip = false }) s
-    else on_store ignored_of s
+    else if op == 0x4F then on_store ignored_of s
+    else Err BadOpcode
 
 -- 50 to 5F: comparisons, logic, deltas
-unfoldable pub row_5 : ℕ → State → Result State Cause
-row_5 op s =
+unfoldable pub opcodes_5x : ℕ → State → Result State Cause
+opcodes_5x op s =
     if op == 0x50 then on_store lt_of s
     else if op == 0x51 then on_store lteq_of s
     else if op == 0x52 then on_store gt_of s
@@ -144,11 +149,12 @@ row_5 op s =
     else if op == 0x5C then on_store not_of s
     else if op == 0x5D then deltap_row First s
     else if op == 0x5E then sdb_of s
-    else sds_of s
+    else if op == 0x5F then sds_of s
+    else Err BadOpcode
 
 -- 60 to 6F: arithmetic
-unfoldable pub row_6 : ℕ → State → Result State Cause
-row_6 op s =
+unfoldable pub opcodes_6x : ℕ → State → Result State Cause
+opcodes_6x op s =
     if op == 0x60 then on_store add_of s
     else if op == 0x61 then on_store sub_of s
     else if op == 0x62 then on_store div_of s
@@ -157,12 +163,13 @@ row_6 op s =
     else if op == 0x65 then on_store neg_of s
     else if op == 0x66 then on_store floor_of s
     else if op == 0x67 then on_store ceiling_of s
-    else if nat_le op 0x6B then on_store (round_of s.graphics) s
-    else on_store nround_of s
+    else if nat_le 0x68 op && nat_le op 0x6B then on_store (round_of s.graphics) s
+    else if nat_le 0x6C op && nat_le op 0x6F then on_store nround_of s
+    else Err BadOpcode
 
 -- 70 to 7F: control values, deltas, rounding
-unfoldable pub row_7 : ℕ → State → Result State Cause
-row_7 op s =
+unfoldable pub opcodes_7x : ℕ → State → Result State Cause
+opcodes_7x op s =
     if op == 0x70 then wcvtf_of s
     else if op == 0x71 then deltap_row Second s
     else if op == 0x72 then deltap_row Third s
@@ -174,11 +181,12 @@ row_7 op s =
     else if op == 0x7A then on_graphics (λ g. record g { round_state = Off }) s
     else if op == 0x7C then on_graphics (λ g. record g { round_state = UpToGrid }) s
     else if op == 0x7D then on_graphics (λ g. record g { round_state = DownToGrid }) s
-    else on_store ignored_of s
+    else if op == 0x7E || op == 0x7F then on_store ignored_of s
+    else Err BadOpcode
 
 -- 80 to 8F: flips, SDPVTL, what is asked of the rasterizer
-unfoldable pub row_8 : ℕ → State → Result State Cause
-row_8 op s =
+unfoldable pub opcodes_8x : ℕ → State → Result State Cause
+opcodes_8x op s =
     if op == 0x80 then flippt_row s
     else if op == 0x81 then fliprg_row true s
     else if op == 0x82 then fliprg_row false s
@@ -190,7 +198,8 @@ row_8 op s =
     else if op == 0x8B then on_store max_of s
     else if op == 0x8C then on_store min_of s
     else if op == 0x8D then on_store ignored_of s
-    else instctrl_of s
+    else if op == 0x8E then instctrl_of s
+    else Err BadOpcode
 
 -- C0 to DF MDRP, E0 to FF MIRP
 unfoldable pub relative_row : ℕ → State → Result State Cause
@@ -199,15 +208,15 @@ relative_row op s = if nat_le 0xE0 op then mirp_row (relative_of op) s else mdrp
 -- by the high nibble
 unfoldable pub plain_of : ℕ → State → Result State Cause
 plain_of op s =
-    if op / 16 == 0 then row_0 op s
-    else if op / 16 == 1 then row_1 op s
-    else if op / 16 == 2 then row_2 op s
-    else if op / 16 == 3 then row_3 op s
-    else if op / 16 == 4 then row_4 op s
-    else if op / 16 == 5 then row_5 op s
-    else if op / 16 == 6 then row_6 op s
-    else if op / 16 == 7 then row_7 op s
-    else row_8 op s
+    if op / 16 == 0 then opcodes_0x op s
+    else if op / 16 == 1 then opcodes_1x op s
+    else if op / 16 == 2 then opcodes_2x op s
+    else if op / 16 == 3 then opcodes_3x op s
+    else if op / 16 == 4 then opcodes_4x op s
+    else if op / 16 == 5 then opcodes_5x op s
+    else if op / 16 == 6 then opcodes_6x op s
+    else if op / 16 == 7 then opcodes_7x op s
+    else opcodes_8x op s
 
 -- ---- the table
 
