@@ -19,9 +19,10 @@ use Rattle.fx_pointops.specs.Direct.{moved_to_distance}
 abbrev pub is_cut_off : GState → ℤ → ℤ → Bool
 is_cut_off g v o = int_lt g.cut_in (size_of (difference_of v o))
 
--- 3E-3F MIAP  p n ->
--- p, of zone 0, moves to the control value; with 1 to the rounded one, and to its own place rounded if that is too far. In the
--- twilight zone it is laid there first.
+-- 3E-3F MIAP[a], Move Indirect Absolute Point: p n ->
+-- p, of zp0, moves to the control value v of number n; with 1 (a: rounds and looks at the cut-in) to v as the round state rounds it, or
+-- to its own coordinate rounded if v is further from that than the cut-in. If zp0 is the twilight zone p is laid at v first. The
+-- machine sets rp0, rp1.
 abbrev pub laid_along : GState → ℤ → ℤ → Zones → Zones
 laid_along g p v z = if is_twilight g.zp0 then changed_at (laid (place_along g.freedom v)) g.zp0 p z else z
 
@@ -35,9 +36,12 @@ moved_to_coordinate g rounds p v z =
 unfoldable pub miap_of : GState → Bool → ℤ → ℤ → Zones → Outcome
 miap_of g rounds p v z = (moved_to_coordinate g rounds p v (laid_along g p v z), stray_at g.zp0 p z)
 
--- E0-FF MIRP  p n ->
--- p, of zone 1, moves to the control value, or the single width, from reference point 0, of zone 0; to its original distance if
--- both are of one zone and that is too far. In the twilight zone it is laid there first.
+-- E0-FF MIRP[abcde], Move Indirect Relative Point: p n ->
+-- p, of zp1, moves to the distance v from rp0, of zp0. v is the control value of number n, or the single width if that is near; if auto
+-- flip is on it has the sign of the original distance. With bit c (rounds and looks at the cut-in), if zp0 and zp1 are one zone, the
+-- original distance takes its place if v is further from it than the cut-in; then it is rounded. With bit b (keeps the minimum
+-- distance) it is at least the minimum distance. If zp1 is the twilight zone p is laid at v from rp0 first. The machine sets rp1,
+-- rp2, and with bit a (sets rp0) rp0.
 abbrev pub laid_from_rp : GState → ℤ → ℤ → Zones → Zones
 laid_from_rp g p v z =
     if is_twilight g.zp1 then changed_at (laid (place_sum_of (org_at g.zp0 g.rp0 z) (place_along g.freedom v))) g.zp1 p z else z

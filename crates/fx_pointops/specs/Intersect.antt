@@ -40,8 +40,8 @@ intersection_of a0 a1 b0 b1 =
     then middle_of a0 a1 b0 b1
     else crossing_of a0 (place_difference_of a1 a0) (place_difference_of b1 b0) (place_difference_of b0 a0)
 
--- 0F ISECT  p a0 a1 b0 b1 ->
--- p, of zone 2, is put where the lines a, of zone 1, and b, of zone 0, cross, and touched along both axes.
+-- 0F ISECT, InterSECTion of two lines: p a0 a1 b0 b1 ->
+-- p, of zp2, is put where the line a0 a1, of zp1, and the line b0 b1, of zp0, cross, and touched along both axes.
 unfoldable pub isect_of : GState → ℤ → ℤ → ℤ → ℤ → ℤ → Zones → Outcome
 isect_of g p a0 a1 b0 b1 z = (
   changed_at (put (intersection_of (cur_at g.zp1 a0 z) (cur_at g.zp1 a1 z) (cur_at g.zp0 b0 z) (cur_at g.zp0 b1 z))) g.zp2 p z,

@@ -22,6 +22,6 @@ shift_by g d = shift_of g.freedom g.projection d
 unfoldable pub moved_by : GState → ℤ → ZonePointer → ℤ → Zones → Zones
 moved_by g d zone p z = shifted_by g (shift_by g d) zone p z
 
--- a point of zone 2 shifted, as SHP and SHPIX do
+-- a point of zp2 shifted, as SHP and SHPIX do
 unfoldable pub point_shifted : GState → Place → ℤ → Zones → Outcome
 point_shifted g by p z = (shifted_by g by g.zp2 p z, stray_of (point_at g.zp2 p z))

@@ -1,5 +1,7 @@
 -- The points of both zones, as instructions find and change them, and the strays that they count.
 -- Apple TrueType Reference Manual, "Zones"; what a stray does is this project's own choice.
+-- zp0, zp1, zp2 are the zone pointers, rp0, rp1, rp2 the reference points. Zone 0 is the twilight zone, zone 1 the glyph's. A point "of
+-- zp0" is one of the zone that zp0 names.
 use Rattle.std.specs.Prelude.{ℕ, ◌+◌, ℤ, pos, negsuc, Bool, true, false, List, Option, Some, None, slice_get}
 use Rattle.fx_fixed.specs.Places.{origin}
 use Rattle.fx_fixed.specs.declared.places.Place.{Place}

@@ -50,7 +50,8 @@ impl Zones {
         strays
     }
 
-    /// DELTAP1 to DELTAP3: moves the points of pairs at this size. A pair is an argument and, after it, its point.
+    /// 5D DELTAP1, 71 DELTAP2, 72 DELTAP3, DELTA exception P: moves each p, of zp0, whose argument acts at this size. A pair is
+    /// an argument and, after it, its point.
     #[tactic(auto, unfolding(crate::specs::Delta::deltap_of))]
     pub fn deltap(&mut self, g: &GState, form: DeltaForm, ppem: Ppem, pairs: &[i32]) -> u64
         ensures value { (self.new, result) ≡ deltap_of g.now form ppem (reverse pairs.now) self.old }

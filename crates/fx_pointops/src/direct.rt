@@ -44,7 +44,7 @@ impl Zones {
         }
     }
 
-    /// UTP: untouches a point.
+    /// 29 UTP, UnTouch Point: untouches p, of zp0, along each axis along which the freedom vector has a part.
     #[tactic(auto, unfolding(crate::specs::Direct::utp_of))]
     pub fn utp(&mut self, g: &GState, p: i32) -> u64
         ensures value { (self.new, result) ≡ utp_of g.now p self.old }
@@ -57,7 +57,7 @@ impl Zones {
         stray(&point)
     }
 
-    /// MDAP: moves a point to its place, or to the rounded one.
+    /// 2E-2F MDAP[a], Move Direct Absolute Point: moves p, of zp0, by 0, or with 1 to its rounded coordinate.
     #[tactic(auto, unfolding(crate::specs::Direct::mdap_of))]
     pub fn mdap(&mut self, g: &GState, rounds: bool, p: i32) -> u64
         ensures value { (self.new, result) ≡ mdap_of g.now rounds p self.old }
@@ -90,7 +90,7 @@ impl Zones {
         self.move_by(g, g.zp1, p, d.minus(c));
     }
 
-    /// MSIRP: moves a point to a distance from reference point 0.
+    /// 3A-3B MSIRP[a], Move Stack Indirect Relative Point: moves p, of zp1, to the distance d from rp0, of zp0.
     #[tactic(auto, unfolding(crate::specs::Direct::msirp_of))]
     pub fn msirp(&mut self, g: &GState, p: i32, d: F26) -> u64
         ensures value { (self.new, result) ≡ msirp_of g.now p d self.old }
@@ -133,7 +133,7 @@ impl Zones {
         strays
     }
 
-    /// ALIGNRP: moves points to the distance 0 from reference point 0.
+    /// 3C ALIGNRP, ALIGN Relative Point: moves each p, of zp1, to the distance 0 from rp0, of zp0.
     #[tactic(auto, unfolding(crate::specs::Direct::alignrp_of))]
     pub fn alignrp(&mut self, g: &GState, points: &[i32]) -> u64
         ensures value { (self.new, result) ≡ alignrp_of g.now (reverse points.now) self.old }
@@ -145,7 +145,7 @@ impl Zones {
         stray(&base) + strays
     }
 
-    /// ALIGNPTS: moves two points to the middle between them.
+    /// 27 ALIGNPTS, ALIGN Points: moves p, of zp1, and q, of zp0, halfway to each other.
     #[tactic(auto, unfolding(crate::specs::Direct::alignpts_of))]
     pub fn alignpts(&mut self, g: &GState, p: i32, q: i32) -> u64
         ensures value { (self.new, result) ≡ alignpts_of g.now p q self.old }
@@ -160,7 +160,7 @@ impl Zones {
         stray(&first) + stray(&second)
     }
 
-    /// SCFS: moves a point to a coordinate.
+    /// 48 SCFS, Sets Coordinate From the Stack: moves p, of zp2, to the coordinate v.
     #[tactic(auto, unfolding(crate::specs::Direct::scfs_of))]
     pub fn scfs(&mut self, g: &GState, p: i32, v: F26) -> u64
         ensures value { (self.new, result) ≡ scfs_of g.now p v self.old }
@@ -176,7 +176,7 @@ impl Zones {
         stray(&point)
     }
 
-    /// SHPIX: shifts points by a distance along the freedom vector.
+    /// 38 SHPIX, SHift point by a PIXel amount: shifts each p, of zp2, by a along the freedom vector.
     #[tactic(auto, unfolding(crate::specs::Direct::shpix_of))]
     pub fn shpix(&mut self, g: &GState, points: &[i32], a: F26) -> u64
         ensures value { (self.new, result) ≡ shpix_of g.now (reverse points.now) a self.old }
@@ -187,7 +187,8 @@ impl Zones {
         self.shift_each(g, &by, points)
     }
 
-    /// MDRP: moves a point to its original distance from reference point 0.
+    /// C0-DF MDRP[abcde], Move Direct Relative Point: moves p, of zp1, to its original distance from rp0, of zp0, or the single
+    /// width. `how` has the bits: rounded, at least the minimum distance.
     #[tactic(auto, unfolding(crate::specs::Direct::mdrp_of))]
     pub fn mdrp(&mut self, g: &GState, how: Relative, p: i32) -> u64
         ensures value { (self.new, result) ≡ mdrp_of g.now how p self.old }

@@ -50,7 +50,7 @@ impl Zones {
         strays
     }
 
-    /// FLIPPT: flips points.
+    /// 80 FLIPPT, FLIP PoinT: each p, of zp0, goes off the curve, or onto it.
     #[tactic(auto, unfolding(crate::specs::Flip::flippt_of))]
     pub fn flippt(&mut self, g: &GState, points: &[i32]) -> u64
         ensures value { (self.new, result) ≡ flippt_of g.now (reverse points.now) self.old }
@@ -77,7 +77,7 @@ impl Zones {
         }
     }
 
-    /// FLIPRGON and FLIPRGOFF: makes the points from `low` to `high` ones on the curve, or off it.
+    /// 81 FLIPRGON, 82 FLIPRGOFF, FLIP RanGe: the points from low to high, of zp0, go onto the curve, or off it.
     #[tactic(auto, unfolding(crate::specs::Flip::fliprg_of))]
     pub fn fliprg(&mut self, g: &GState, on: bool, low: i32, high: i32) -> u64
         ensures value { (self.new, result) ≡ fliprg_of g.now on low high self.old }

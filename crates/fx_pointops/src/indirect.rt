@@ -101,7 +101,8 @@ impl Zones {
         self.move_by(g, g.zp0, p, aimed(g, rounds, v, c).minus(c));
     }
 
-    /// MIAP: moves a point to a control value.
+    /// 3E-3F MIAP[a], Move Indirect Absolute Point: moves p, of zp0, to the control value v; with 1 rounded, or to its own
+    /// coordinate rounded if v is beyond the cut-in.
     #[tactic(auto, unfolding(crate::specs::Indirect::miap_of))]
     pub fn miap(&mut self, g: &GState, rounds: bool, p: i32, v: F26) -> u64
         ensures value { (self.new, result) ≡ miap_of g.now rounds p v self.old }
@@ -135,7 +136,9 @@ impl Zones {
         self.move_to_distance(g, p, d);
     }
 
-    /// MIRP: moves a point to a control value from reference point 0.
+    /// E0-FF MIRP[abcde], Move Indirect Relative Point: moves p, of zp1, to the distance of the control value v from rp0, of
+    /// zp0. `how` has the bits: rounded and within the cut-in, at least the minimum distance. Reads the single width and auto
+    /// flip.
     #[tactic(auto, unfolding(crate::specs::Indirect::mirp_of, crate::specs::inner::Controlled::mirp_outside_of, crate::specs::inner::Controlled::mirp_distance_of))]
     pub fn mirp(&mut self, g: &GState, how: Relative, p: i32, v: F26) -> u64
         ensures value { (self.new, result) ≡ mirp_of g.now how p v self.old }

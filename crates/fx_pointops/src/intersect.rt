@@ -113,7 +113,7 @@ fn intersection(a0: &Place, a1: &Place, b0: &Place, b1: &Place) -> Place
 }
 
 impl Zones {
-    /// ISECT: puts a point where two lines cross.
+    /// 0F ISECT, InterSECTion of two lines: puts p, of zp2, where the line a0 a1, of zp1, crosses the line b0 b1, of zp0.
     #[tactic(auto, unfolding(crate::specs::Intersect::isect_of))]
     pub fn isect(&mut self, g: &GState, p: i32, a0: i32, a1: i32, b0: i32, b1: i32) -> u64
         ensures value { (self.new, result) ≡ isect_of g.now p a0 a1 b0 b1 self.old }

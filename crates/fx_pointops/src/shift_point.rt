@@ -42,7 +42,7 @@ impl Zones {
         self.shift_by(g, zone, p, g.shift_place(d));
     }
 
-    /// Shifts a point of zone 2.
+    /// Shifts a point of zp2.
     #[tactic(auto, unfolding(crate::specs::ShiftPoint::point_shifted))]
     fn shift_point(&mut self, g: &GState, by: &Place, p: i32) -> u64
         ensures value { (self.new, result) ≡ point_shifted g.now by.now p self.old }
@@ -54,7 +54,7 @@ impl Zones {
         stray(&point)
     }
 
-    /// Shifts points of zone 2, the last of the slice first.
+    /// Shifts points of zp2, the last of the slice first.
     pub(crate) fn shift_each(&mut self, g: &GState, by: &Place, points: &[i32]) -> u64
         ensures value { (self.new, result) ≡ each (point_shifted g.now by.now) (reverse points.now) self.old }
         ensures few { result ≤ length points.now }
