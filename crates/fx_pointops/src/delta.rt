@@ -5,13 +5,13 @@ ghost use Rattle.fx_pointops.specs.Zones.{HasShapes};
 ghost use Rattle.fx_pointops.specs.Loops.{each_pair};
 ghost use Rattle.fx_pointops.specs.Delta.{point_delta, deltap_of};
 
-use crate::zones::{Zones, stray};
+use crate::zones::Zones;
 use fx_fixed::Ppem;
 use fx_gstate::{DeltaForm, GState};
 
 impl Zones {
     /// Moves a point if its argument acts at this size.
-    #[tactic(auto, unfolding(crate::specs::Delta::point_delta))]
+    #[tactic(auto, unfolding(crate::specs::Delta::point_delta), using(crate::proofs::Setting::stray_is))]
     fn move_at_size(
         &mut self,
         g: &GState,
@@ -29,9 +29,11 @@ impl Zones {
         if !delta.acts_at(*ppem) {
             return 0;
         }
-        let point = self.point(g.zp0, p);
-        self.move_by(g, g.zp0, p, amount);
-        stray(&point)
+        let Some(point) = self.point(g.zp0, p) else {
+            return 1;
+        };
+        self.move_point(g, g.zp0, p, point, amount);
+        0
     }
 
     /// Moves the points of pairs, the last of the slice first.

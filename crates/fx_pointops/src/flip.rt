@@ -23,15 +23,17 @@ fn curve_run(zone: &mut Zone, on: bool, low: usize, high: usize)
 
 impl Zones {
     /// Flips a point: on the curve, or off it.
-    #[tactic(auto, unfolding(crate::specs::Flip::point_flipped))]
+    #[tactic(auto, unfolding(crate::specs::Flip::point_flipped), using(crate::proofs::Setting::stray_is))]
     fn flip_point(&mut self, g: &GState, p: i32) -> u64
         ensures value { (self.new, result) ≡ point_flipped g.now p self.old }
         ensures few { result ≤ 1 }
         ensures shapes { HasShapes self.old self.new }
     {
-        let point = self.point(g.zp0, p);
-        self.flip(g.zp0, p);
-        stray(&point)
+        let Some(point) = self.point(g.zp0, p) else {
+            return 1;
+        };
+        self.set(g.zp0, p, point.flipped());
+        0
     }
 
     /// Flips points, the last of the slice first.

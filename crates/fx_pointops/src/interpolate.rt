@@ -57,7 +57,7 @@ impl Zones {
         };
         let o = g.dual_project_place(point.org.minus(base.org));
         let c = g.project_place(point.cur.minus(base.cur));
-        self.move_by(g, g.zp2, p, proportion(o, *cb, *ob).minus(c));
+        self.move_point(g, g.zp2, p, point, proportion(o, *cb, *ob).minus(c));
         0
     }
 
