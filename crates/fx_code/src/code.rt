@@ -10,7 +10,7 @@ ghost use Rattle.fx_code.specs.Seek.{stops};
 
 use crate::fault::CodeFault;
 use crate::instruction::Instr;
-use crate::opcode::{ENDF, NPUSHB, NPUSHW};
+use crate::opcode::{ENDF, NPUSHB, NPUSHW, PUSHB_1, PUSHB_8, PUSHW_1, PUSHW_8};
 use crate::seek::{Seek, ends, level_past};
 use std::marker::Model;
 
@@ -45,8 +45,8 @@ fn data_of(opcode: u8, count: u8) -> usize
     match opcode {
         NPUSHB => count as usize,
         NPUSHW => 2 * count as usize,
-        0xB0..=0xB7 => (opcode - 0xAF) as usize,
-        0xB8..=0xBF => 2 * (opcode - 0xB7) as usize,
+        PUSHB_1..=PUSHB_8 => (opcode - PUSHB_1 + 1) as usize,
+        PUSHW_1..=PUSHW_8 => 2 * (opcode - PUSHW_1 + 1) as usize,
         _ => 0,
     }
 }
@@ -55,7 +55,7 @@ fn data_of(opcode: u8, count: u8) -> usize
 fn has_data(opcode: u8) -> bool
     ensures { result ≡ has_data opcode }
 {
-    opcode == NPUSHB || opcode == NPUSHW || (0xB0 <= opcode && opcode <= 0xBF)
+    opcode == NPUSHB || opcode == NPUSHW || (PUSHB_1 <= opcode && opcode <= PUSHW_8)
 }
 
 impl<'a> Code<'a> {

@@ -26,7 +26,7 @@ use fx_sfnt::{Font, Metrics};
 use fx_zone::Zone;
 use std::alloc::Global;
 
-/// How many levels are allowed below, if so many composites wait.
+/// The number of levels that are allowed below this number of open composites.
 fn levels_below(waiting: usize) -> u8
     requires { waiting ≤ max_depth }
     ensures { result ≡ max_depth - waiting }

@@ -42,21 +42,23 @@ use Rattle.fx_machine.specs.declared.state.State.{State}
 use Rattle.fx_machine.specs.Causes.{of_stack, of_state}
 use Rattle.fx_machine.specs.Definitions.{function_at}
 use Rattle.fx_machine.specs.Effects.{Effect, Ends, Fails, Goes, Calls, Returns}
-use Rattle.fx_machine.specs.Runs.{Verdict, Finished, Halted, Exhausted, MAX_DEPTH}
+use Rattle.fx_machine.specs.Runs.{Verdict, Finished, Halted, Exhausted}
+use Rattle.fx_machine.specs.Limits.{CALL_LIMIT}
 use Rattle.fx_machine.specs.Machine.{Config, config, turned, Move, Finishes, Stops, Moves, moved_by, answer_from, answer_of}
 use Rattle.fx_machine.specs.Machine.{verdict_by, verdict_at_limit}
-use Rattle.fx_machine.specs.Flow.{led, jumped, called, times, if_of, jmpr_of, jrot_of, jrof_of, call_of, loopcall_of, fdef_of}
-use Rattle.fx_machine.specs.Flow.{idef_of, undefined_of}
-use Rattle.fx_machine.specs.StateRows.{on_store, on_graphics, by_one, by_two, by_one_in_range, by_line, pushed_pair, spvtl_of}
-use Rattle.fx_machine.specs.StateRows.{sfvtl_of, sdpvtl_of, spvfs_of, sfvfs_of, gpv_of, gfv_of}
-use Rattle.fx_machine.specs.StateRows.{srp0_of, srp1_of, srp2_of, szp0_of, szp1_of, szp2_of, szps_of, sloop_of, smd_of, scvtci_of}
-use Rattle.fx_machine.specs.StateRows.{sswci_of, ssw_of}
-use Rattle.fx_machine.specs.StateRows.{sdb_of, sds_of, wcvtf_of, sround_of, s45round_of, instctrl_of}
+use Rattle.fx_machine.specs.Flow.{led, jumped, called, times, if_row, jmpr_row, jrot_row, jrof_row, call_row, loopcall_row, fdef_row}
+use Rattle.fx_machine.specs.Flow.{idef_row, undefined_row}
+use Rattle.fx_machine.specs.StateRows.{on_store, on_graphics, by_one, by_two, by_one_in_range, by_line, pushed_pair, spvtl_row}
+use Rattle.fx_machine.specs.StateRows.{sfvtl_row, sdpvtl_row, spvfs_row, sfvfs_row, gpv_row, gfv_row}
+use Rattle.fx_machine.specs.StateRows.{srp0_row, srp1_row, srp2_row, szp0_row, szp1_row, szp2_row, szps_row, sloop_row, smd_row, scvtci_row}
+use Rattle.fx_machine.specs.StateRows.{sswci_row, ssw_row}
+use Rattle.fx_machine.specs.StateRows.{sdb_row, sds_row, wcvtf_row, sround_row, s45round_row, instctrl_row}
 use Rattle.fx_machine.specs.PointRows.{points_by_one, points_by_two, loop_on, isect_row, alignpts_row, utp_row, mdap_row, iup_row}
 use Rattle.fx_machine.specs.PointRows.{shp_row, shc_row, shz_row, shpix_row}
 use Rattle.fx_machine.specs.PointRows.{ip_row, msirp_row, alignrp_row, miap_row, gc_row, scfs_row, md_row, deltap_row, flippt_row}
 use Rattle.fx_machine.specs.PointRows.{fliprg_row, mdrp_row, mirp_row}
-use Rattle.fx_machine.specs.Table.{row_0, row_1, row_2, row_3, row_4, row_5, row_6, row_7, row_8, relative_row, plain_of, then_at}
+use Rattle.fx_machine.specs.Table.{opcodes_0x, opcodes_1x, opcodes_2x, opcodes_3x, opcodes_4x, opcodes_5x, opcodes_6x}
+use Rattle.fx_machine.specs.Table.{opcodes_7x, opcodes_8x, relative_row, plain_of, then_at}
 use Rattle.fx_machine.specs.Table.{row_of, row_in, row_at, settled}
 use Rattle.fx_machine.specs.Actions.{acts}
 use Rattle.fx_machine.specs.Shapes.{HasSizes, FinishesAlike}
@@ -109,6 +111,10 @@ module _ (z : Zones) where
 
 -- ---- rows that leave the points
 
+fault_keeps : (cause : Cause) (s : State) → Plain s.zones (Err cause)
+unfolding Plain
+fault_keeps cause s = tt
+
 store_keeps : (row : StoreView → Result StoreView StackFault) (s : State) → Plain s.zones (on_store row s)
 unfolding Plain
 store_keeps row s = plain_bind s.zones (map_fault of_stack (row s.store)) _ (λ t. shapes_same s.zones)
@@ -139,104 +145,104 @@ unfolding Plain
 pair_keeps v s = plain_bind s.zones (map_fault of_stack (pushed v.0 s.store)) _
     (λ t. plain_bind s.zones (map_fault of_stack (pushed v.1 t)) _ (λ u. shapes_same s.zones))
 
-spvtl_keeps : (turned : Bool) (s : State) → Plain s.zones (spvtl_of turned s)
-unfolding spvtl_of
+spvtl_keeps : (turned : Bool) (s : State) → Plain s.zones (spvtl_row turned s)
+unfolding spvtl_row
 spvtl_keeps turned s = line_keeps (λ l g. record g { projection = line_of l.cur turned; dual = line_of l.cur turned }) s
 
-sfvtl_keeps : (turned : Bool) (s : State) → Plain s.zones (sfvtl_of turned s)
-unfolding sfvtl_of
+sfvtl_keeps : (turned : Bool) (s : State) → Plain s.zones (sfvtl_row turned s)
+unfolding sfvtl_row
 sfvtl_keeps turned s = line_keeps (λ l g. record g { freedom = line_of l.cur turned }) s
 
-sdpvtl_keeps : (turned : Bool) (s : State) → Plain s.zones (sdpvtl_of turned s)
-unfolding sdpvtl_of
+sdpvtl_keeps : (turned : Bool) (s : State) → Plain s.zones (sdpvtl_row turned s)
+unfolding sdpvtl_row
 sdpvtl_keeps turned s = line_keeps (λ l g. record g { projection = line_of l.cur turned; dual = line_of l.org turned }) s
 
-spvfs_keeps : (s : State) → Plain s.zones (spvfs_of s)
-unfolding spvfs_of
+spvfs_keeps : (s : State) → Plain s.zones (spvfs_row s)
+unfolding spvfs_row
 spvfs_keeps s = by_two_keeps (λ x y g. record g { projection = words_of x y; dual = words_of x y }) s
 
-sfvfs_keeps : (s : State) → Plain s.zones (sfvfs_of s)
-unfolding sfvfs_of
+sfvfs_keeps : (s : State) → Plain s.zones (sfvfs_row s)
+unfolding sfvfs_row
 sfvfs_keeps s = by_two_keeps (λ x y g. record g { freedom = words_of x y }) s
 
-gpv_keeps : (s : State) → Plain s.zones (gpv_of s)
-unfolding gpv_of
+gpv_keeps : (s : State) → Plain s.zones (gpv_row s)
+unfolding gpv_row
 gpv_keeps s = pair_keeps s.graphics.projection s
 
-gfv_keeps : (s : State) → Plain s.zones (gfv_of s)
-unfolding gfv_of
+gfv_keeps : (s : State) → Plain s.zones (gfv_row s)
+unfolding gfv_row
 gfv_keeps s = pair_keeps s.graphics.freedom s
 
-srp0_keeps : (s : State) → Plain s.zones (srp0_of s)
-unfolding srp0_of
+srp0_keeps : (s : State) → Plain s.zones (srp0_row s)
+unfolding srp0_row
 srp0_keeps s = by_one_keeps (λ p g. record g { rp0 = p }) s
 
-srp1_keeps : (s : State) → Plain s.zones (srp1_of s)
-unfolding srp1_of
+srp1_keeps : (s : State) → Plain s.zones (srp1_row s)
+unfolding srp1_row
 srp1_keeps s = by_one_keeps (λ p g. record g { rp1 = p }) s
 
-srp2_keeps : (s : State) → Plain s.zones (srp2_of s)
-unfolding srp2_of
+srp2_keeps : (s : State) → Plain s.zones (srp2_row s)
+unfolding srp2_row
 srp2_keeps s = by_one_keeps (λ p g. record g { rp2 = p }) s
 
-smd_keeps : (s : State) → Plain s.zones (smd_of s)
-unfolding smd_of
+smd_keeps : (s : State) → Plain s.zones (smd_row s)
+unfolding smd_row
 smd_keeps s = by_one_keeps (λ v g. record g { minimum_distance = v }) s
 
-scvtci_keeps : (s : State) → Plain s.zones (scvtci_of s)
-unfolding scvtci_of
+scvtci_keeps : (s : State) → Plain s.zones (scvtci_row s)
+unfolding scvtci_row
 scvtci_keeps s = by_one_keeps (λ v g. record g { cut_in = v }) s
 
-sswci_keeps : (s : State) → Plain s.zones (sswci_of s)
-unfolding sswci_of
+sswci_keeps : (s : State) → Plain s.zones (sswci_row s)
+unfolding sswci_row
 sswci_keeps s = by_one_keeps (λ v g. record g { single_width_cut_in = v }) s
 
-ssw_keeps : (s : State) → Plain s.zones (ssw_of s)
-unfolding ssw_of
+ssw_keeps : (s : State) → Plain s.zones (ssw_row s)
+unfolding ssw_row
 ssw_keeps s = by_one_keeps (λ v g. record g { single_width = scaled_by s.scale v }) s
 
-sdb_keeps : (s : State) → Plain s.zones (sdb_of s)
-unfolding sdb_of
+sdb_keeps : (s : State) → Plain s.zones (sdb_row s)
+unfolding sdb_row
 sdb_keeps s = by_one_keeps (λ n g. record g { delta_base = n }) s
 
-sround_keeps : (s : State) → Plain s.zones (sround_of s)
-unfolding sround_of
+sround_keeps : (s : State) → Plain s.zones (sround_row s)
+unfolding sround_row
 sround_keeps s = by_one_keeps (λ n g. record g { round_state = Super (super_grid_of 64 n) }) s
 
-s45round_keeps : (s : State) → Plain s.zones (s45round_of s)
-unfolding s45round_of
+s45round_keeps : (s : State) → Plain s.zones (s45round_row s)
+unfolding s45round_row
 s45round_keeps s = by_one_keeps (λ n g. record g { round_state = Super (super_grid_of 45 n) }) s
 
-szp0_keeps : (s : State) → Plain s.zones (szp0_of s)
-unfolding szp0_of
+szp0_keeps : (s : State) → Plain s.zones (szp0_row s)
+unfolding szp0_row
 szp0_keeps s = in_range_keeps with_zp0 s
 
-szp1_keeps : (s : State) → Plain s.zones (szp1_of s)
-unfolding szp1_of
+szp1_keeps : (s : State) → Plain s.zones (szp1_row s)
+unfolding szp1_row
 szp1_keeps s = in_range_keeps with_zp1 s
 
-szp2_keeps : (s : State) → Plain s.zones (szp2_of s)
-unfolding szp2_of
+szp2_keeps : (s : State) → Plain s.zones (szp2_row s)
+unfolding szp2_row
 szp2_keeps s = in_range_keeps with_zp2 s
 
-szps_keeps : (s : State) → Plain s.zones (szps_of s)
-unfolding szps_of
+szps_keeps : (s : State) → Plain s.zones (szps_row s)
+unfolding szps_row
 szps_keeps s = in_range_keeps with_zones s
 
-sloop_keeps : (s : State) → Plain s.zones (sloop_of s)
-unfolding sloop_of
+sloop_keeps : (s : State) → Plain s.zones (sloop_row s)
+unfolding sloop_row
 sloop_keeps s = in_range_keeps with_loop s
 
-sds_keeps : (s : State) → Plain s.zones (sds_of s)
-unfolding sds_of
+sds_keeps : (s : State) → Plain s.zones (sds_row s)
+unfolding sds_row
 sds_keeps s = in_range_keeps with_delta_shift s
 
-wcvtf_keeps : (s : State) → Plain s.zones (wcvtf_of s)
-unfolding wcvtf_of Plain
+wcvtf_keeps : (s : State) → Plain s.zones (wcvtf_row s)
+unfolding wcvtf_row Plain
 wcvtf_keeps s = plain_bind s.zones (map_fault of_stack (two s.store)) _ (λ x. shapes_same s.zones)
 
-instctrl_keeps : (s : State) → Plain s.zones (instctrl_of s)
-unfolding instctrl_of Plain
+instctrl_keeps : (s : State) → Plain s.zones (instctrl_row s)
+unfolding instctrl_row Plain
 instctrl_keeps s = plain_bind s.zones (map_fault of_stack (two s.store)) _ (λ x. shapes_same s.zones)
 
 -- ---- rows that move points
@@ -352,10 +358,11 @@ mirp_row_keeps how s = plain_bind s.zones (map_fault of_stack (two s.store)) _ (
 
 -- ---- the table
 
-row_0_keeps : (op : ℕ) (s : State) → Plain s.zones (row_0 op s)
-unfolding row_0
-row_0_keeps op s = search (
+opcodes_0x_keep : (op : ℕ) (s : State) → Plain s.zones (opcodes_0x op s)
+unfolding opcodes_0x
+opcodes_0x_keep op s = search (
   plain_if s.zones,
+  fault_keeps,
   graphics_keeps,
   spvtl_keeps,
   sfvtl_keeps,
@@ -366,10 +373,11 @@ row_0_keeps op s = search (
   isect_row_keeps,
 ) depth 40 fits 8000
 
-row_1_keeps : (op : ℕ) (s : State) → Plain s.zones (row_1 op s)
-unfolding row_1
-row_1_keeps op s = search (
+opcodes_1x_keep : (op : ℕ) (s : State) → Plain s.zones (opcodes_1x op s)
+unfolding opcodes_1x
+opcodes_1x_keep op s = search (
   plain_if s.zones,
+  fault_keeps,
   graphics_keeps,
   srp0_keeps,
   srp1_keeps,
@@ -385,14 +393,15 @@ row_1_keeps op s = search (
   ssw_keeps,
 ) depth 40 fits 8000
 
-row_2_keeps : (op : ℕ) (s : State) → Plain s.zones (row_2 op s)
-unfolding row_2
-row_2_keeps op s = search (plain_if s.zones, store_keeps, alignpts_row_keeps, utp_row_keeps, mdap_row_keeps) depth 40 fits 8000
+opcodes_2x_keep : (op : ℕ) (s : State) → Plain s.zones (opcodes_2x op s)
+unfolding opcodes_2x
+opcodes_2x_keep op s = search (plain_if s.zones, fault_keeps, store_keeps, alignpts_row_keeps, utp_row_keeps, mdap_row_keeps) depth 40 fits 8000
 
-row_3_keeps : (op : ℕ) (s : State) → Plain s.zones (row_3 op s)
-unfolding row_3
-row_3_keeps op s = search (
+opcodes_3x_keep : (op : ℕ) (s : State) → Plain s.zones (opcodes_3x op s)
+unfolding opcodes_3x
+opcodes_3x_keep op s = search (
   plain_if s.zones,
+  fault_keeps,
   graphics_keeps,
   iup_row_keeps,
   shp_row_keeps,
@@ -405,23 +414,24 @@ row_3_keeps op s = search (
   miap_row_keeps,
 ) depth 40 fits 8000
 
-row_4_keeps : (op : ℕ) (s : State) → Plain s.zones (row_4 op s)
-unfolding row_4
-row_4_keeps op s =
-    search (plain_if s.zones, graphics_keeps, store_keeps, gc_row_keeps, scfs_row_keeps, md_row_keeps) depth 40 fits 8000
+opcodes_4x_keep : (op : ℕ) (s : State) → Plain s.zones (opcodes_4x op s)
+unfolding opcodes_4x
+opcodes_4x_keep op s =
+    search (plain_if s.zones, fault_keeps, graphics_keeps, store_keeps, gc_row_keeps, scfs_row_keeps, md_row_keeps) depth 40 fits 8000
 
-row_5_keeps : (op : ℕ) (s : State) → Plain s.zones (row_5 op s)
-unfolding row_5
-row_5_keeps op s = search (plain_if s.zones, store_keeps, deltap_row_keeps, sdb_keeps, sds_keeps) depth 40 fits 8000
+opcodes_5x_keep : (op : ℕ) (s : State) → Plain s.zones (opcodes_5x op s)
+unfolding opcodes_5x
+opcodes_5x_keep op s = search (plain_if s.zones, fault_keeps, store_keeps, deltap_row_keeps, sdb_keeps, sds_keeps) depth 40 fits 8000
 
-row_6_keeps : (op : ℕ) (s : State) → Plain s.zones (row_6 op s)
-unfolding row_6
-row_6_keeps op s = search (plain_if s.zones, store_keeps) depth 40 fits 8000
+opcodes_6x_keep : (op : ℕ) (s : State) → Plain s.zones (opcodes_6x op s)
+unfolding opcodes_6x
+opcodes_6x_keep op s = search (plain_if s.zones, fault_keeps, store_keeps) depth 40 fits 8000
 
-row_7_keeps : (op : ℕ) (s : State) → Plain s.zones (row_7 op s)
-unfolding row_7
-row_7_keeps op s = search (
+opcodes_7x_keep : (op : ℕ) (s : State) → Plain s.zones (opcodes_7x op s)
+unfolding opcodes_7x
+opcodes_7x_keep op s = search (
   plain_if s.zones,
+  fault_keeps,
   graphics_keeps,
   store_keeps,
   wcvtf_keeps,
@@ -430,10 +440,10 @@ row_7_keeps op s = search (
   s45round_keeps,
 ) depth 40 fits 8000
 
-row_8_keeps : (op : ℕ) (s : State) → Plain s.zones (row_8 op s)
-unfolding row_8
-row_8_keeps op s =
-    search (plain_if s.zones, store_keeps, flippt_row_keeps, fliprg_row_keeps, sdpvtl_keeps, instctrl_keeps) depth 40 fits 8000
+opcodes_8x_keep : (op : ℕ) (s : State) → Plain s.zones (opcodes_8x op s)
+unfolding opcodes_8x
+opcodes_8x_keep op s =
+    search (plain_if s.zones, fault_keeps, store_keeps, flippt_row_keeps, fliprg_row_keeps, sdpvtl_keeps, instctrl_keeps) depth 40 fits 8000
 
 relative_keeps : (op : ℕ) (s : State) → Plain s.zones (relative_row op s)
 unfolding relative_row
@@ -444,15 +454,15 @@ unfolding plain_of
 plain_keeps op s =
     search (
       plain_if s.zones,
-      row_0_keeps,
-      row_1_keeps,
-      row_2_keeps,
-      row_3_keeps,
-      row_4_keeps,
-      row_5_keeps,
-      row_6_keeps,
-      row_7_keeps,
-      row_8_keeps,
+      opcodes_0x_keep,
+      opcodes_1x_keep,
+      opcodes_2x_keep,
+      opcodes_3x_keep,
+      opcodes_4x_keep,
+      opcodes_5x_keep,
+      opcodes_6x_keep,
+      opcodes_7x_keep,
+      opcodes_8x_keep,
     ) depth 40 fits 8000
 
 -- ---- rows that may continue elsewhere
@@ -483,19 +493,19 @@ times_keeps (pos zero) f next z t h = h
 times_keeps (pos (suc n)) f next z t h = called_keeps (suc n) f _ next z t h
 times_keeps (negsuc n) f next z t h = h
 
-if_keeps : (code : List ℕ) (next : ℕ) (s : State) → Acts s.zones (if_of code next s)
-unfolding if_of Acts
+if_keeps : (code : List ℕ) (next : ℕ) (s : State) → Acts s.zones (if_row code next s)
+unfolding if_row Acts
 if_keeps code next s =
     search (acts_if s.zones, acts_bind s.zones, shapes_same s.zones, led_keeps, jumped_keeps, called_keeps, times_keeps)
 
-jmpr_keeps : (size address : ℕ) (s : State) → Acts s.zones (jmpr_of size address s)
-unfolding jmpr_of
+jmpr_keeps : (size address : ℕ) (s : State) → Acts s.zones (jmpr_row size address s)
+unfolding jmpr_row
 jmpr_keeps size address s =
     acts_bind s.zones (map_fault of_stack (one s.store)) (λ x. jumped size (pos address +ℤ x.0) (record s { store = x.1 }))
     (λ x. jumped_keeps size (pos address +ℤ x.0) s.zones (record s { store = x.1 }) (shapes_same s.zones))
 
-jrot_keeps : (size address next : ℕ) (s : State) → Acts s.zones (jrot_of size address next s)
-unfolding jrot_of
+jrot_keeps : (size address next : ℕ) (s : State) → Acts s.zones (jrot_row size address next s)
+unfolding jrot_row
 jrot_keeps size address next s =
     acts_bind s.zones (map_fault of_stack (two s.store))
     (λ x. if int_eq x.1 (pos 0) then Ok (Went next, record s { store = x.2 }) else jumped size (pos address +ℤ x.0)
@@ -504,8 +514,8 @@ jrot_keeps size address next s =
     (went_keeps next s.zones (record s { store = x.2 }) (shapes_same s.zones))
     (jumped_keeps size (pos address +ℤ x.0) s.zones (record s { store = x.2 }) (shapes_same s.zones)))
 
-jrof_keeps : (size address next : ℕ) (s : State) → Acts s.zones (jrof_of size address next s)
-unfolding jrof_of
+jrof_keeps : (size address next : ℕ) (s : State) → Acts s.zones (jrof_row size address next s)
+unfolding jrof_row
 jrof_keeps size address next s =
     acts_bind s.zones (map_fault of_stack (two s.store))
     (λ x. if int_eq x.1 (pos 0) then jumped size (pos address +ℤ x.0) (record s { store = x.2 }) else
@@ -515,34 +525,34 @@ jrof_keeps size address next s =
     (jumped_keeps size (pos address +ℤ x.0) s.zones (record s { store = x.2 }) (shapes_same s.zones))
     (went_keeps next s.zones (record s { store = x.2 }) (shapes_same s.zones)))
 
-call_keeps : (next : ℕ) (s : State) → Acts s.zones (call_of next s)
-unfolding call_of
+call_keeps : (next : ℕ) (s : State) → Acts s.zones (call_row next s)
+unfolding call_row
 call_keeps next s =
     acts_bind s.zones (map_fault of_stack (one s.store))
     (λ x. called 1 (function_at s.definitions.functions x.0) NoFunction next (record s { store = x.1 }))
     (λ x. called_keeps 1 (function_at s.definitions.functions x.0) NoFunction next s.zones (record s { store = x.1 })
     (shapes_same s.zones))
 
-loopcall_keeps : (next : ℕ) (s : State) → Acts s.zones (loopcall_of next s)
-unfolding loopcall_of
+loopcall_keeps : (next : ℕ) (s : State) → Acts s.zones (loopcall_row next s)
+unfolding loopcall_row
 loopcall_keeps next s =
     acts_bind s.zones (map_fault of_stack (two s.store))
     (λ x. times x.0 (function_at s.definitions.functions x.1) next (record s { store = x.2 }))
     (λ x. times_keeps x.0 (function_at s.definitions.functions x.1) next s.zones (record s { store = x.2 })
     (shapes_same s.zones))
 
-fdef_keeps : (code : List ℕ) (w : Program) (next : ℕ) (s : State) → Acts s.zones (fdef_of code w next s)
-unfolding fdef_of Acts
+fdef_keeps : (code : List ℕ) (w : Program) (next : ℕ) (s : State) → Acts s.zones (fdef_row code w next s)
+unfolding fdef_row Acts
 fdef_keeps code w next s =
     search (acts_if s.zones, acts_bind s.zones, shapes_same s.zones, led_keeps, jumped_keeps, called_keeps, times_keeps)
 
-idef_keeps : (code : List ℕ) (w : Program) (next : ℕ) (s : State) → Acts s.zones (idef_of code w next s)
-unfolding idef_of Acts
+idef_keeps : (code : List ℕ) (w : Program) (next : ℕ) (s : State) → Acts s.zones (idef_row code w next s)
+unfolding idef_row Acts
 idef_keeps code w next s =
     search (acts_if s.zones, acts_bind s.zones, shapes_same s.zones, led_keeps, jumped_keeps, called_keeps, times_keeps)
 
-undefined_keeps : (op next : ℕ) (s : State) → Acts s.zones (undefined_of op next s)
-unfolding undefined_of Acts
+undefined_keeps : (op next : ℕ) (s : State) → Acts s.zones (undefined_row op next s)
+unfolding undefined_row Acts
 undefined_keeps op next s =
     search (acts_if s.zones, acts_bind s.zones, shapes_same s.zones, led_keeps, jumped_keeps, called_keeps, times_keeps)
 
@@ -638,7 +648,7 @@ move_keeps z Ends [] w h = tt
 move_keeps z Ends (g ∷ K) w h = tt
 move_keeps z (Fails c) K w h = tt
 move_keeps z (Goes q t) K w h = h
-move_keeps z (Calls k f next t) K w h = move_if z (nat_lt (length K) MAX_DEPTH) _ _ (turned_keeps z k f next K w t h) tt
+move_keeps z (Calls k f next t) K w h = move_if z (nat_lt (length K) CALL_LIMIT) _ _ (turned_keeps z k f next K w t h) tt
 move_keeps z (Returns t) [] w h = tt
 move_keeps z (Returns t) (g ∷ K) w h = turned_keeps z g.left g.function g.next K g.program t h
 

@@ -11,9 +11,10 @@ use Rattle.fx_machine.specs.Configs.{answered}
 use Rattle.fx_zone.specs.Figures.{HasShape}
 use Rattle.fx_machine.specs.Shapes.{FinishesAlike}
 use Rattle.fx_machine.specs.Prepared.{ran_of, glyph_end, started}
-use Rattle.fx_machine.specs.Known.{STEP_LIMIT, Known, texts_of, glyph_run, glyph_ran}
+use Rattle.fx_machine.specs.Limits.{STEP_LIMIT}
+use Rattle.fx_machine.specs.Known.{Known, texts_of, glyph_run, glyph_ran}
 use Rattle.fx_scale.specs.Scaling.{scale_of}
-use Rattle.fx_stackops.specs.Store.{room_of}
+use Rattle.fx_machine.specs.Limits.{room_of}
 use Rattle.fx_machine.proofs.Keeping.{runs_keep}
 use Rattle.fx_fixed.proofs.Chain.{ok_injective}
 

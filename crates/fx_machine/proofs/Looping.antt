@@ -15,7 +15,8 @@ use Rattle.fx_machine.specs.declared.halt.Halt.{Halt}
 use Rattle.fx_machine.specs.declared.action.Action.{Action}
 use Rattle.fx_machine.specs.declared.action.Action.TheVariants.{Went, Called, Returned}
 use Rattle.fx_machine.specs.Effects.{Ends}
-use Rattle.fx_machine.specs.Runs.{Exhausted, MAX_DEPTH}
+use Rattle.fx_machine.specs.Runs.{Exhausted}
+use Rattle.fx_machine.specs.Limits.{CALL_LIMIT}
 use Rattle.fx_machine.specs.Machine.{Config, config, Move, Finishes, Stops, Moves, moved_by, answer_from, answer_of}
 use Rattle.fx_machine.specs.Table.{row_at, row_in, settled}
 use Rattle.fx_machine.specs.Configs.{answered, halt_at}
@@ -64,9 +65,9 @@ module _ (texts : Program → List ℕ) (g : ℕ) (start : Program) (limit : ℕ
     not_finished : (r : Result (Action × State) Cause) (K : List Frame) → moved_by (settled r) K w ≡ Finishes → ⊥
     not_finished (Err c) K e = absurd cc
     not_finished (Ok (Went q, t)) K e = absurd cc
-    not_finished (Ok (Called k f next, t)) K e = elim (cases_lt (length K) MAX_DEPTH) [
-      | inl l ↦ absurd (let x = rw (lt-ltb (length K) MAX_DEPTH l) at e in cc)
-      | inr l ↦ absurd (let x = rw (le-ltb (length K) MAX_DEPTH l) at e in cc)
+    not_finished (Ok (Called k f next, t)) K e = elim (cases_lt (length K) CALL_LIMIT) [
+      | inl l ↦ absurd (let x = rw (lt-ltb (length K) CALL_LIMIT l) at e in cc)
+      | inr l ↦ absurd (let x = rw (le-ltb (length K) CALL_LIMIT l) at e in cc)
     ]
     not_finished (Ok (Returned, t)) [] e = absurd cc
     not_finished (Ok (Returned, t)) (g ∷ K) e = absurd cc

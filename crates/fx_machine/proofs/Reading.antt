@@ -11,7 +11,7 @@ use Rattle.fx_machine.specs.declared.halt.Cause.TheVariants.{CodeEnd}
 use Rattle.fx_machine.specs.declared.action.Action.{Action}
 use Rattle.fx_machine.specs.declared.state.State.{State}
 use Rattle.fx_machine.specs.Effects.{Fails}
-use Rattle.fx_machine.specs.Table.{is_push, relative_row, then_at, push_row, row_of, row_here, row_in, settled}
+use Rattle.fx_machine.specs.Table.{is_push, relative_row, then_at, push_at, row_of, row_here, row_in, settled}
 
 -- an opcode that pushes nothing has no data
 lone : (code : List ℕ) (p : ℕ) → is_push (opcode_at code p) ≡ false → size_at code p ≡ 1
@@ -20,7 +20,7 @@ lone code p e = grind arith
 
 there_by : (b : Bool) (w : Program) (p : ℕ) (s : State) (code : List ℕ) → is_push (opcode_at code p) ≡ b → p < length code
     → settled (row_here (opcode_at code p) code w p s) ≡ row_in code w p s
-unfolding row_in row_here row_of push_row
+unfolding row_in row_here row_of push_at
 there_by true w p s code e h = elim (leb_tells (next_address code p) (length code)) [
   | inl y ↦ rw (e, ne_eqb p (length code) (λ z. omega arith), y.0) refl
   | inr y ↦ rw (e, ne_eqb p (length code) (λ z. omega arith), y.0) refl
@@ -56,7 +56,7 @@ relative_here op code w p next s h e = rw (not_push op h, le-leb 0xC0 op h, e) r
 
 -- the pushes
 pub push_here : (op : ℕ) (code : List ℕ) (w : Program) (p : ℕ) (s : State) → is_push op ≡ true
-    → push_row code p s ≡ row_here op code w p s
+    → push_at code p s ≡ row_here op code w p s
 unfolding row_here
 push_here op code w p s h = rw h refl
 

@@ -22,7 +22,8 @@ use Rattle.fx_machine.specs.declared.state.State.{State}
 use Rattle.fx_machine.specs.Machine.{answer_of}
 use Rattle.fx_machine.specs.Table.{row_at}
 use Rattle.fx_machine.specs.Configs.{answered}
-use Rattle.fx_machine.specs.Known.{STEP_LIMIT, Fails, texts_of, first_state, second_state, prepared_from, prelude_of}
+use Rattle.fx_machine.specs.Limits.{STEP_LIMIT}
+use Rattle.fx_machine.specs.Known.{Fails, texts_of, first_state, second_state, prepared_from, prelude_of}
 use Rattle.fx_machine.specs.Known.{machine_of, font_ran, final_stack_of, MachineView, with_state}
 use Rattle.std.specs.Int.{w32}
 use Rattle.std.specs.Prelude.{codes}

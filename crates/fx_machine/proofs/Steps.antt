@@ -11,7 +11,8 @@ use Rattle.fx_machine.specs.declared.halt.Cause.TheVariants.{CallDepth}
 use Rattle.fx_machine.specs.declared.frames.Frame.{Frame}
 use Rattle.fx_machine.specs.declared.state.State.{State}
 use Rattle.fx_machine.specs.Effects.{Effect, Ends, Fails, Goes, Calls, Returns}
-use Rattle.fx_machine.specs.Runs.{How, Ended, Returned, Faulted, Open, IsLast, Start, At, Turns, MAX_DEPTH, Runs, open_at, ends}
+use Rattle.fx_machine.specs.Runs.{How, Ended, Returned, Faulted, Open, IsLast, Start, At, Turns, Runs, open_at, ends}
+use Rattle.fx_machine.specs.Limits.{CALL_LIMIT}
 use Rattle.fx_machine.specs.Runs.{ends_inside, fails, goes, returns, returns_outside, calls, too_deep, done, turn, last_turn}
 use Rattle.fx_machine.specs.Runs.{Verdict, Finished, Halted, Exhausted, Answer, finished, faulted, stopped}
 use Rattle.fx_machine.specs.Machine.{Config, config, turned, Move, Finishes, Stops, Moves, moved_by, answer_from, answer_of}
@@ -127,13 +128,13 @@ module _ (row : Program → ℕ → State → Effect) where
   begun (At p) K w s = config K w p s
   begun (Turns k f next) K w s = turned k f next K w s
 
-  called : (K : List Frame) (w : Program) (k : ℕ) (f : Function) (next : ℕ) (t : State) → length K < MAX_DEPTH
+  called : (K : List Frame) (w : Program) (k : ℕ) (f : Function) (next : ℕ) (t : State) → length K < CALL_LIMIT
       → moved_by (Calls k f next t) K w ≡ Moves (turned k f next K w t)
-  called K w k f next t h = rw (lt-ltb (length K) MAX_DEPTH h) refl
+  called K w k f next t h = rw (lt-ltb (length K) CALL_LIMIT h) refl
 
-  deep : (K : List Frame) (w : Program) (k : ℕ) (f : Function) (next : ℕ) (t : State) → MAX_DEPTH ≤ length K
+  deep : (K : List Frame) (w : Program) (k : ℕ) (f : Function) (next : ℕ) (t : State) → CALL_LIMIT ≤ length K
       → moved_by (Calls k f next t) K w ≡ Stops CallDepth
-  deep K w k f next t h = rw (le-ltb (length K) MAX_DEPTH h) refl
+  deep K w k f next t h = rw (le-ltb (length K) CALL_LIMIT h) refl
 
   -- a run is so many steps of the function, within any open calls
   comes_of : {w : Program} {st : Start} {d n : ℕ} {s u : State} {how : How} → Runs row w st d s n u how
@@ -207,11 +208,11 @@ module _ (row : Program → ℕ → State → Effect) where
   leads_call : (K : List Frame) (w : Program) (p : ℕ) (s : State) (k : ℕ) (f : Function) (next : ℕ) (t : State)
       → row w p s ≡ Calls k f next t → Leads K w p s (moved_by (Calls k f next t) K w)
   unfolding Leads Left
-  leads_call K w p s k f next t e = elim (cases_lt (length K) MAX_DEPTH) [
-    | inl h ↦ rw (lt-ltb (length K) MAX_DEPTH h)
+  leads_call K w p s k f next t e = elim (cases_lt (length K) CALL_LIMIT) [
+    | inl h ↦ rw (lt-ltb (length K) CALL_LIMIT h)
         (λ n u how r. rw (← one-add n) (rest_before K 1 n u how (λ m t h' x. rw one-add (calls e h x))
         (rest_turned k f next K w t n u how r)))
-    | inr h ↦ rw (le-ltb (length K) MAX_DEPTH h) (rest_last K (too_deep e h) tt)
+    | inr h ↦ rw (le-ltb (length K) CALL_LIMIT h) (rest_last K (too_deep e h) tt)
   ]
 
   leads : (K : List Frame) (w : Program) (p : ℕ) (s : State) (x : Effect) → row w p s ≡ x → Leads K w p s (moved_by x K w)

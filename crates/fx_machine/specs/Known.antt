@@ -1,6 +1,6 @@
 -- What a machine of a font at a size knows, and what becomes of a glyph's program.
 -- Apple TrueType Reference Manual, "Instructing Fonts": the font program, the control value program, glyph programs.
-use Rattle.std.specs.Prelude.{◌≡◌, ℕ, ℤ, ◌+◌, max, pos, List, [], reverse, codes, None, Result, Ok, Err, true, false, replicate}
+use Rattle.std.specs.Prelude.{◌≡◌, ℕ, ℤ, ◌+◌, pos, List, [], reverse, codes, None, Result, Ok, Err, true, false, replicate}
 use Rattle.fx_fixed.specs.Chain.{◌>>=◌, map_fault}
 use Rattle.fx_sfnt.specs.Tables.{Face, table_or_empty}
 use Rattle.fx_zone.specs.Figures.{Figure, empty_figure}
@@ -10,7 +10,8 @@ use Rattle.fx_scale.specs.declared.scale.Scale.{Scale}
 use Rattle.fx_scale.specs.Scaling.{scale_of}
 use Rattle.fx_scale.specs.Controls.{control_values}
 use Rattle.fx_gstate.specs.States.{default_state}
-use Rattle.fx_stackops.specs.Store.{StoreView, room_of}
+use Rattle.fx_stackops.specs.Store.{StoreView}
+use Rattle.fx_machine.specs.Limits.{STEP_LIMIT, function_count_of, room_of}
 use Rattle.fx_machine.specs.Definitions.{Defined}
 use Rattle.fx_machine.specs.declared.program.Program.{Program}
 use Rattle.fx_machine.specs.declared.program.Program.TheVariants.{Font, Prep, Glyph}
@@ -25,10 +26,6 @@ use Rattle.fx_machine.specs.Table.{row_at}
 use Rattle.fx_machine.specs.Configs.{answered}
 use Rattle.fx_zone.specs.Figures.{HasShape}
 use Rattle.fx_machine.specs.Prepared.{glyph_end, ran_of}
-
--- the most instructions that a program may execute
-abbrev pub STEP_LIMIT : ℕ
-STEP_LIMIT = 250000
 
 -- the font, the size, what prep left, and what fpgm and prep used up
 pub record Known : Type 0 where
@@ -70,7 +67,7 @@ twilight_of n = record { points = replicate n (resting origin false); ends = [] 
 
 -- no function and no opcode is defined
 abbrev pub nothing_defined : Face → Defined
-nothing_defined face = record { functions = replicate (max face.maxp.max_function_defs 64) None; opcodes = replicate 256 None }
+nothing_defined face = record { functions = replicate (function_count_of face.maxp.max_function_defs) None; opcodes = replicate 256 None }
 
 -- the state that fpgm begins with
 abbrev pub first_state : Face → Scale → State
@@ -137,7 +134,7 @@ Fails fault due = due ≡ Err fault
 -- the program of glyph g: the instructions executed and the state then; or a halt
 unfoldable pub glyph_run : Known → ℕ → List ℕ → Figure → Result (ℕ × State) Halt
 glyph_run known g code glyph = glyph_end (texts_of known.face code) g known.prepared (scale_of known.face known.ppem)
-    (room_of known.face.maxp.max_stack_elements) STEP_LIMIT glyph
+    (room_of known.face.maxp.max_stack_elements) glyph
 
 -- what is told of it
 unfoldable pub glyph_ran : Known → ℕ → List ℕ → Figure → Result (Ran × Figure) Halt

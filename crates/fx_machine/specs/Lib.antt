@@ -1,3 +1,4 @@
+pub mod Limits
 pub mod Effects
 pub mod Runs
 pub mod Machine

@@ -7,7 +7,8 @@ use Rattle.fx_machine.specs.declared.halt.Cause.TheVariants.{CallDepth, StrayEnd
 use Rattle.fx_machine.specs.declared.frames.Frame.{Frame}
 use Rattle.fx_machine.specs.declared.state.State.{State}
 use Rattle.fx_machine.specs.Effects.{Effect, Ends, Fails, Goes, Calls, Returns}
-use Rattle.fx_machine.specs.Runs.{Verdict, Finished, Halted, Exhausted, Answer, MAX_DEPTH}
+use Rattle.fx_machine.specs.Runs.{Verdict, Finished, Halted, Exhausted, Answer}
+use Rattle.fx_machine.specs.Limits.{CALL_LIMIT}
 
 -- the open calls, the innermost first, the address that the machine has reached, and its state
 pub data Config : Type 0 where
@@ -30,7 +31,7 @@ moved_by Ends [] w = Finishes
 moved_by Ends (g ∷ K) w = Stops StrayEnd
 moved_by (Fails cause) K w = Stops cause
 moved_by (Goes address s) K w = Moves (config K w address s)
-moved_by (Calls turns f next s) K w = if nat_lt (length K) MAX_DEPTH then Moves (turned turns f next K w s) else Stops CallDepth
+moved_by (Calls turns f next s) K w = if nat_lt (length K) CALL_LIMIT then Moves (turned turns f next K w s) else Stops CallDepth
 moved_by (Returns s) [] w = Stops StrayEnd
 moved_by (Returns s) (g ∷ K) w = Moves (turned g.left g.function g.next K g.program s)
 

@@ -1,8 +1,7 @@
 -- The rows that measure and move points, with their operands and the reference points that they set. All continue at the next
 -- address.
--- Each comment has the opcode, the mnemonic and what becomes of the stack, whose top is written last; what the row does to the
--- points
--- is said in fx_pointops.
+-- Each comment has the opcode, the mnemonic, its name in the manual, what becomes of the stack, whose top is written last, and the
+-- reference points that the row sets; what it does to the points is said in fx_pointops.
 -- Apple TrueType Reference Manual, "Instruction set".
 use Rattle.std.specs.Prelude.{ℕ, ◌*◌, ℤ, pos, negsuc, int_lt, Bool, unsigned_abs, if◌then◌else◌, List, reverse, drop, Result, Ok}
 use Rattle.std.specs.Ordering.{int_eq}
@@ -60,28 +59,24 @@ loop_on row t s = do
   points ← map_fault of_stack (top_numbers s.graphics.loop_count t)
   Ok (after_loop (row s.graphics (reverse points) s.zones) s.graphics.loop_count t s)
 
--- a control value, and whether its number is a stray
-abbrev pub control_at : StoreView → ℤ → ℤ
-control_at t n = read_of t.cvt n
-
 -- ---- 0 to 2
 
--- 0F ISECT  p a0 a1 b0 b1 ->
+-- 0F ISECT, InterSECTion of two lines: p a0 a1 b0 b1 ->
 unfoldable pub isect_row : State → Result State Cause
 isect_row s = do
   x ← map_fault of_stack (three s.store)
   y ← map_fault of_stack (two x.3)
   Ok (with_points (isect_of s.graphics y.0 y.1 x.0 x.1 x.2 s.zones) y.2 s)
 
--- 27 ALIGNPTS  p q ->
+-- 27 ALIGNPTS, ALIGN Points: p q ->
 unfoldable pub alignpts_row : State → Result State Cause
 alignpts_row = points_by_two alignpts_of
 
--- 29 UTP  p ->
+-- 29 UTP, UnTouch Point: p ->
 unfoldable pub utp_row : State → Result State Cause
 utp_row = points_by_one utp_of
 
--- 2E-2F MDAP  p ->; rp0 and rp1 become p
+-- 2E-2F MDAP[a], Move Direct Absolute Point: p ->; with 1 rounds; rp0 and rp1 become p
 unfoldable pub mdap_row : Bool → State → Result State Cause
 mdap_row rounds s = do
   x ← map_fault of_stack (one s.store)
@@ -89,47 +84,47 @@ mdap_row rounds s = do
 
 -- ---- 3
 
--- 30 IUP y, 31 IUP x
+-- 30-31 IUP[a], Interpolate Untouched Points: ->; with 0 in y, with 1 in x
 unfoldable pub iup_row : Axis → State → Result State Cause
 iup_row axis s = Ok (record s { zones = iup_of axis s.zones })
 
--- 32-33 SHP  .. p ->, a loop
+-- 32-33 SHP[a], SHift Point: .. p ->, a loop; with 0 as rp2 was moved, with 1 as rp1 was
 unfoldable pub shp_row : Bool → State → Result State Cause
-shp_row one s = loop_on (λ g points z. shp_of g one points z) s.store s
+shp_row takes_rp1 s = loop_on (λ g points z. shp_of g takes_rp1 points z) s.store s
 
--- 34-35 SHC  k ->
+-- 34-35 SHC[a], SHift Contour: k ->
 unfoldable pub shc_row : Bool → State → Result State Cause
-shc_row one = points_by_one (λ g k z. shc_of g one k z)
+shc_row takes_rp1 = points_by_one (λ g k z. shc_of g takes_rp1 k z)
 
--- 36-37 SHZ  z ->
+-- 36-37 SHZ[a], SHift Zone: z ->
 unfoldable pub shz_row : Bool → State → Result State Cause
-shz_row first s = do
+shz_row takes_rp1 s = do
   x ← map_fault of_stack (one s.store)
   zone ← map_fault of_state (zone_of x.0)
-  Ok (with_points (shz_of s.graphics first zone s.zones) x.1 s)
+  Ok (with_points (shz_of s.graphics takes_rp1 zone s.zones) x.1 s)
 
--- 38 SHPIX  .. p a ->, a loop
+-- 38 SHPIX, SHift point by a PIXel amount: .. p a ->, a loop
 unfoldable pub shpix_row : State → Result State Cause
 shpix_row s = do
   x ← map_fault of_stack (one s.store)
   loop_on (λ g points z. shpix_of g points x.0 z) x.1 s
 
--- 39 IP  .. p ->, a loop
+-- 39 IP, Interpolate Point: .. p ->, a loop
 unfoldable pub ip_row : State → Result State Cause
 ip_row s = loop_on ip_of s.store s
 
--- 3A-3B MSIRP  p d ->; rp1 becomes rp0, rp2 becomes p, and with 1 rp0 becomes p
+-- 3A-3B MSIRP[a], Move Stack Indirect Relative Point: p d ->; rp1 becomes rp0, rp2 becomes p, and with 1 rp0 becomes p
 unfoldable pub msirp_row : Bool → State → Result State Cause
 msirp_row sets s = do
   x ← map_fault of_stack (two s.store)
   Ok (with_points (msirp_of s.graphics x.0 x.1 s.zones) x.2
       (record s { graphics = record s.graphics { rp0 = if sets then x.0 else s.graphics.rp0; rp1 = s.graphics.rp0; rp2 = x.0 } }))
 
--- 3C ALIGNRP  .. p ->, a loop
+-- 3C ALIGNRP, ALIGN Relative Point: .. p ->, a loop
 unfoldable pub alignrp_row : State → Result State Cause
 alignrp_row s = loop_on alignrp_of s.store s
 
--- 3E-3F MIAP  p n ->; rp0 and rp1 become p
+-- 3E-3F MIAP[a], Move Indirect Absolute Point: p n ->; with 1 rounds and looks at the cut-in; rp0 and rp1 become p
 unfoldable pub miap_row : Bool → State → Result State Cause
 miap_row rounds s = do
   x ← map_fault of_stack (two s.store)
@@ -138,7 +133,7 @@ miap_row rounds s = do
 
 -- ---- 4, 5, 7
 
--- 46-47 GC  p -> v
+-- 46-47 GC[a], Get Coordinate: p -> v; with 1 the original one
 unfoldable pub gc_row : Bool → State → Result State Cause
 gc_row original s = do
   x ← map_fault of_stack (one s.store)
@@ -146,11 +141,11 @@ gc_row original s = do
       (with_strays (gc_of s.graphics original x.0 s.zones).1 x.1))
   Ok (record s { store = t })
 
--- 48 SCFS  p v ->
+-- 48 SCFS, Sets Coordinate From the Stack: p v ->
 unfoldable pub scfs_row : State → Result State Cause
 scfs_row = points_by_two scfs_of
 
--- 49-4A MD  p q -> v
+-- 49-4A MD[a], Measure Distance: p q -> v; 49 the current one, 4A the original one
 unfoldable pub md_row : Bool → State → Result State Cause
 md_row original s = do
   x ← map_fault of_stack (two s.store)
@@ -158,7 +153,7 @@ md_row original s = do
       (with_strays (md_of s.graphics original x.0 x.1 s.zones).1 x.2))
   Ok (record s { store = t })
 
--- 5D DELTAP1, 71 DELTAP2, 72 DELTAP3  .. argument p n ->, n pairs
+-- 5D DELTAP1, 71 DELTAP2, 72 DELTAP3, DELTA exception P: .. argument p n ->, n pairs
 unfoldable pub deltap_row : DeltaForm → State → Result State Cause
 deltap_row form s = do
   x ← map_fault of_stack (one s.store)
@@ -169,11 +164,11 @@ deltap_row form s = do
 
 -- ---- 8
 
--- 80 FLIPPT  .. p ->, a loop
+-- 80 FLIPPT, FLIP PoinT: .. p ->, a loop
 unfoldable pub flippt_row : State → Result State Cause
 flippt_row s = loop_on flippt_of s.store s
 
--- 81 FLIPRGON, 82 FLIPRGOFF  low high ->
+-- 81 FLIPRGON, 82 FLIPRGOFF, FLIP RanGe: low high ->
 unfoldable pub fliprg_row : Bool → State → Result State Cause
 fliprg_row on = points_by_two (λ g low high z. fliprg_of g on low high z)
 
@@ -186,13 +181,14 @@ with_references how p s = record s {
       record s.graphics { rp0 = if how.sets_rp0 then p else s.graphics.rp0; rp1 = s.graphics.rp0; rp2 = p };
 }
 
--- C0-DF MDRP  p ->
+-- C0-DF MDRP[abcde], Move Direct Relative Point: p ->; sets rp1, rp2, and with bit a rp0
 unfoldable pub mdrp_row : Relative → State → Result State Cause
 mdrp_row how s = do
   x ← map_fault of_stack (one s.store)
   Ok (with_points (mdrp_of s.graphics how x.0 s.zones) x.1 (with_references how x.0 s))
 
--- E0-FF MIRP  p n ->; the control value of number -1 is 0, and no stray
+-- E0-FF MIRP[abcde], Move Indirect Relative Point: p n ->; sets rp1, rp2, and with bit a rp0
+-- The control value of number -1 is 0, and no stray.
 abbrev pub mirp_stray : List ℤ → ℤ → ℕ
 mirp_stray cvt n = if int_eq n (negsuc 0) then 0 else stray_of cvt n
 

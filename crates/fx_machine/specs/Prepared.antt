@@ -12,6 +12,7 @@ use Rattle.fx_machine.specs.declared.state.Flags.{Flags}
 use Rattle.fx_machine.specs.declared.prepared.Prepared.{Prepared}
 use Rattle.fx_machine.specs.declared.halt.Halt.{Halt}
 use Rattle.fx_machine.specs.declared.ran.Ran.{Ran}
+use Rattle.fx_machine.specs.Limits.{STEP_LIMIT}
 use Rattle.fx_machine.specs.Machine.{answer_of}
 use Rattle.fx_machine.specs.Table.{row_at}
 use Rattle.fx_machine.specs.Configs.{answered}
@@ -45,9 +46,9 @@ started p scale room glyph = record {
 }
 
 -- what a program with a glyph's number comes to: the instructions executed and the state then; or a halt
-unfoldable pub glyph_end : (Program → List ℕ) → ℕ → Prepared → Scale → ℕ → ℕ → Figure → Result (ℕ × State) Halt
-glyph_end texts g p scale room limit glyph =
-    answered texts g Glyph (answer_of (row_at texts) limit Glyph (started p scale room glyph))
+unfoldable pub glyph_end : (Program → List ℕ) → ℕ → Prepared → Scale → ℕ → Figure → Result (ℕ × State) Halt
+glyph_end texts g p scale room glyph =
+    answered texts g Glyph (answer_of (row_at texts) STEP_LIMIT Glyph (started p scale room glyph))
 
 -- what is told of it: the points then, the instructions executed and the strays; or the halt
 abbrev pub ran_of : Result (ℕ × State) Halt → Result (Ran × Figure) Halt

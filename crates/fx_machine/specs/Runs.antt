@@ -7,6 +7,7 @@ use Rattle.fx_machine.specs.declared.halt.Cause.{Cause}
 use Rattle.fx_machine.specs.declared.halt.Cause.TheVariants.{CallDepth, StrayEnd}
 use Rattle.fx_machine.specs.declared.state.State.{State}
 use Rattle.fx_machine.specs.Effects.{Effect, Ends, Fails, Goes, Calls, Returns}
+use Rattle.fx_machine.specs.Limits.{CALL_LIMIT}
 
 -- how a run ends; an open one is cut off before a named address
 pub data How : Type 0 where
@@ -32,10 +33,6 @@ pub data Verdict : Type 0 where
   Halted : (cause : Cause) (program : Program) (address : ℕ) → Verdict
   Exhausted : (program : Program) (address : ℕ) → Verdict
 
--- how many calls may be open
-abbrev pub MAX_DEPTH : ℕ
-MAX_DEPTH = 32
-
 -- `row`: what the instruction at an address of a program does in a state.
 module _ (row : Program → ℕ → State → Effect) where
   -- A run of a program's bytes from a start, at a number of open calls and in a state:
@@ -56,8 +53,8 @@ module _ (row : Program → ℕ → State → Effect) where
     returns_outside : {w : Program} {p : ℕ} {s t : State} → row w p s ≡ Returns t → Runs w (At p) 0 s 0 s (Faulted StrayEnd w p)
     -- a call counts one, before its turns
     calls : {w : Program} {p d n k next : ℕ} {f : Function} {s t u : State} {how : How} → row w p s ≡ Calls k f next t
-        → d < MAX_DEPTH → Runs w (Turns k f next) d t n u how → Runs w (At p) d s (suc n) u how
-    too_deep : {w : Program} {p d k next : ℕ} {f : Function} {s t : State} → row w p s ≡ Calls k f next t → MAX_DEPTH ≤ d
+        → d < CALL_LIMIT → Runs w (Turns k f next) d t n u how → Runs w (At p) d s (suc n) u how
+    too_deep : {w : Program} {p d k next : ℕ} {f : Function} {s t : State} → row w p s ≡ Calls k f next t → CALL_LIMIT ≤ d
         → Runs w (At p) d s 0 s (Faulted CallDepth w p)
     -- no more turns
     done : {w : Program} {d n next : ℕ} {f : Function} {s u : State} {how : How} → Runs w (At next) d s n u how

@@ -1,10 +1,13 @@
 //! The rows that may continue elsewhere.
+//!
+//! Each doc has the opcode, the mnemonic, its name in the Apple TrueType Reference Manual ("Instruction set"), what becomes of the
+//! stack, whose top is written last, and what the row sets.
 
 ghost use Rattle.std.specs.Prelude.{◌≡◌, OnErr, ◌+ℤ◌, pos, length};
 ghost use Rattle.fx_machine.specs.Actions.{acts};
 ghost use Rattle.fx_machine.specs.Shapes.{HasSizes};
-ghost use Rattle.fx_machine.specs.Flow.{number_below, jumped, if_of, jmpr_of, jrot_of, jrof_of, call_of, loopcall_of, fdef_of, idef_of, undefined_of};
-ghost use Rattle.fx_machine.specs.Table.{push_row};
+ghost use Rattle.fx_machine.specs.Flow.{number_below, jumped, if_row, jmpr_row, jrot_row, jrof_row, call_row, loopcall_row, fdef_row, idef_row, undefined_row};
+ghost use Rattle.fx_machine.specs.Table.{push_at};
 
 use crate::action::Action;
 use crate::definitions::Function;
@@ -36,10 +39,10 @@ impl State {
         Ok(Action::Went(target as usize))
     }
 
-    /// IF: continues, or after its match.
-    #[tactic(auto, unfolding(crate::specs::Flow::if_of))]
+    /// 58 IF, IF test: `e ->`. Continues, or if e is 0 after the ELSE or EIF of its level.
+    #[tactic(auto, unfolding(crate::specs::Flow::if_row))]
     pub(crate) fn if_else(&mut self, code: &Code<'_>, next: usize) -> Result<Action, Cause>
-        ensures value { acts result self.new ≡ if_of code.now next self.old }
+        ensures value { acts result self.new ≡ if_row code.now next self.old }
         ensures kept { OnErr result (self.new.zones ≡ self.old.zones) }
         ensures sizes { HasSizes self.old self.new }
     {
@@ -50,10 +53,10 @@ impl State {
         Ok(Action::Went(address))
     }
 
-    /// JMPR: jumps.
-    #[tactic(auto, unfolding(crate::specs::Flow::jmpr_of))]
+    /// 1C JMPR, JuMP Relative: `o ->`. Continues o bytes on from its own address.
+    #[tactic(auto, unfolding(crate::specs::Flow::jmpr_row))]
     pub(crate) fn jmpr(&mut self, size: usize, address: usize) -> Result<Action, Cause>
-        ensures value { acts result self.new ≡ jmpr_of size address self.old }
+        ensures value { acts result self.new ≡ jmpr_row size address self.old }
         ensures kept { OnErr result (self.new.zones ≡ self.old.zones) }
         ensures sizes { HasSizes self.old self.new }
     {
@@ -61,10 +64,10 @@ impl State {
         self.jumped(size, address, offset)
     }
 
-    /// JROT: jumps if the top is not 0.
-    #[tactic(auto, unfolding(crate::specs::Flow::jrot_of))]
+    /// 78 JROT, Jump Relative On True: `o e ->`. Jumps if e is not 0.
+    #[tactic(auto, unfolding(crate::specs::Flow::jrot_row))]
     pub(crate) fn jrot(&mut self, size: usize, address: usize, next: usize) -> Result<Action, Cause>
-        ensures value { acts result self.new ≡ jrot_of size address next self.old }
+        ensures value { acts result self.new ≡ jrot_row size address next self.old }
         ensures kept { OnErr result (self.new.zones ≡ self.old.zones) }
         ensures sizes { HasSizes self.old self.new }
     {
@@ -75,10 +78,10 @@ impl State {
         self.jumped(size, address, offset)
     }
 
-    /// JROF: jumps if the top is 0.
-    #[tactic(auto, unfolding(crate::specs::Flow::jrof_of))]
+    /// 79 JROF, Jump Relative On False: `o e ->`. Jumps if e is 0.
+    #[tactic(auto, unfolding(crate::specs::Flow::jrof_row))]
     pub(crate) fn jrof(&mut self, size: usize, address: usize, next: usize) -> Result<Action, Cause>
-        ensures value { acts result self.new ≡ jrof_of size address next self.old }
+        ensures value { acts result self.new ≡ jrof_row size address next self.old }
         ensures kept { OnErr result (self.new.zones ≡ self.old.zones) }
         ensures sizes { HasSizes self.old self.new }
     {
@@ -89,10 +92,10 @@ impl State {
         self.jumped(size, address, offset)
     }
 
-    /// CALL: calls a function.
-    #[tactic(auto, unfolding(crate::specs::Flow::call_of, crate::specs::Flow::called))]
+    /// 2B CALL, CALL function: `f ->`.
+    #[tactic(auto, unfolding(crate::specs::Flow::call_row, crate::specs::Flow::called))]
     pub(crate) fn call(&mut self, next: usize) -> Result<Action, Cause>
-        ensures value { acts result self.new ≡ call_of next self.old }
+        ensures value { acts result self.new ≡ call_row next self.old }
         ensures kept { OnErr result (self.new.zones ≡ self.old.zones) }
         ensures sizes { HasSizes self.old self.new }
     {
@@ -107,10 +110,10 @@ impl State {
         }
     }
 
-    /// LOOPCALL: calls a function several times.
-    #[tactic(auto, unfolding(crate::specs::Flow::loopcall_of, crate::specs::Flow::times, crate::specs::Flow::called))]
+    /// 2A LOOPCALL, LOOP and CALL function: `n f ->`. Calls f n times.
+    #[tactic(auto, unfolding(crate::specs::Flow::loopcall_row, crate::specs::Flow::times, crate::specs::Flow::called))]
     pub(crate) fn loopcall(&mut self, next: usize) -> Result<Action, Cause>
-        ensures value { acts result self.new ≡ loopcall_of next self.old }
+        ensures value { acts result self.new ≡ loopcall_row next self.old }
         ensures kept { OnErr result (self.new.zones ≡ self.old.zones) }
         ensures sizes { HasSizes self.old self.new }
     {
@@ -128,15 +131,15 @@ impl State {
         }
     }
 
-    /// FDEF: defines a function.
-    #[tactic(auto, unfolding(crate::specs::Flow::fdef_of))]
+    /// 2C FDEF, Function DEFinition: `f ->`. Function f is what follows up to its ENDF.
+    #[tactic(auto, unfolding(crate::specs::Flow::fdef_row))]
     pub(crate) fn fdef(
         &mut self,
         code: &Code<'_>,
         program: Program,
         next: usize,
     ) -> Result<Action, Cause>
-        ensures value { acts result self.new ≡ fdef_of code.now program next self.old }
+        ensures value { acts result self.new ≡ fdef_row code.now program next self.old }
         ensures kept { OnErr result (self.new.zones ≡ self.old.zones) }
         ensures sizes { HasSizes self.old self.new }
     {
@@ -151,15 +154,15 @@ impl State {
         Ok(Action::Went(address))
     }
 
-    /// IDEF: defines an instruction.
-    #[tactic(auto, unfolding(crate::specs::Flow::idef_of))]
+    /// 89 IDEF, Instruction DEFinition: `o ->`. Opcode o is what follows up to its ENDF.
+    #[tactic(auto, unfolding(crate::specs::Flow::idef_row))]
     pub(crate) fn idef(
         &mut self,
         code: &Code<'_>,
         program: Program,
         next: usize,
     ) -> Result<Action, Cause>
-        ensures value { acts result self.new ≡ idef_of code.now program next self.old }
+        ensures value { acts result self.new ≡ idef_row code.now program next self.old }
         ensures kept { OnErr result (self.new.zones ≡ self.old.zones) }
         ensures sizes { HasSizes self.old self.new }
     {
@@ -174,11 +177,11 @@ impl State {
         Ok(Action::Went(address))
     }
 
-    /// An opcode without a row: calls what a program has defined.
+    /// 28, 7B, 83, 84, 8F to AF, opcodes without a row: calls what an IDEF has defined.
     #[inline(always)]
-    #[tactic(auto, unfolding(crate::specs::Flow::undefined_of, crate::specs::Flow::called))]
+    #[tactic(auto, unfolding(crate::specs::Flow::undefined_row, crate::specs::Flow::called))]
     pub(crate) fn undefined(&mut self, opcode: u8, next: usize) -> Result<Action, Cause>
-        ensures value { acts result self.new ≡ undefined_of opcode next self.old }
+        ensures value { acts result self.new ≡ undefined_row opcode next self.old }
         ensures kept { OnErr result (self.new.zones ≡ self.old.zones) }
         ensures sizes { HasSizes self.old self.new }
     {
@@ -192,11 +195,11 @@ impl State {
         }
     }
 
-    /// PUSHB, PUSHW, NPUSHB, NPUSHW: pushes data.
+    /// 40 NPUSHB, 41 NPUSHW, B0-B7 PUSHB[abc], B8-BF PUSHW[abc], PUSH Bytes or Words: `-> ..`, the data in order.
     #[inline(always)]
-    #[tactic(auto, unfolding(crate::specs::Table::push_row, fx_code::specs::Chain::IsWhole))]
+    #[tactic(auto, unfolding(crate::specs::Table::push_at, fx_code::specs::Chain::IsWhole))]
     pub(crate) fn push(&mut self, code: &Code<'_>, address: usize) -> Result<Action, Cause>
-        ensures value { acts result self.new ≡ push_row code.now address self.old }
+        ensures value { acts result self.new ≡ push_at code.now address self.old }
         ensures kept { OnErr result (self.new.zones ≡ self.old.zones) }
         ensures sizes { HasSizes self.old self.new }
     {

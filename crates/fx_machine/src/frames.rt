@@ -10,6 +10,7 @@ ghost use Rattle.fx_machine.specs.Configs.{calls_of, config_of};
 use crate::action::Action;
 use crate::definitions::Function;
 use crate::halt::Cause;
+use crate::limits::CALL_LIMIT;
 use crate::program::Program;
 use arrayvec::ArrayVec;
 
@@ -32,13 +33,13 @@ pub struct Cursor {
 /// The open calls.
 #[derive(Drop)]
 pub struct Calls {
-    pub frames: ArrayVec<Frame, 32>,
+    pub frames: ArrayVec<Frame, CALL_LIMIT>,
 }
 
 impl Cursor {
     /// Begins another turn of a function, or continues after the last.
     fn leave(&mut self, calls: &mut Calls, frame: Frame)
-        requires { array_vec_len calls.old.frames < 32 }
+        requires { array_vec_len calls.old.frames < CALL_LIMIT }
         ensures { (s : the_state.State) → config_of self.new calls.new s
             ≡ turned frame.left frame.function frame.next (calls_of calls.old) frame.program s }
     {
@@ -74,7 +75,7 @@ impl Cursor {
                 function,
                 next,
             } => {
-                if depth == 32 {
+                if depth == CALL_LIMIT {
                     return Err(Cause::CallDepth);
                 }
                 let frame = Frame {

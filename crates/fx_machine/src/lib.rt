@@ -9,6 +9,7 @@ mod flow;
 mod frames;
 mod halt;
 pub mod laws;
+mod limits;
 mod machine;
 mod point_rows;
 mod prepared;
@@ -21,7 +22,8 @@ mod step;
 
 pub use definitions::{Definitions, Function};
 pub use halt::{Cause, Halt, MachineFault};
-pub use machine::{Machine, STEP_LIMIT};
+pub use limits::STEP_LIMIT;
+pub use machine::Machine;
 pub use prepared::Prepared;
 pub use program::{FontProgram, Program, Programs};
 pub use ran::Ran;

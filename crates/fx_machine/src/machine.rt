@@ -13,6 +13,7 @@ ghost use Rattle.fx_scale.specs.Scaling.{scale_of};
 
 use crate::final_stack::FinalStack;
 use crate::halt::{Halt, MachineFault};
+use crate::limits::STEP_LIMIT;
 use crate::prepared::Prepared;
 use crate::program::{Program, Programs};
 use crate::ran::Ran;
@@ -27,9 +28,6 @@ use std::alloc::{AllocError, Global};
 use std::marker::Model;
 use std::mem::swap;
 
-/// The most instructions that a program may execute.
-pub const STEP_LIMIT: u32 = 250_000;
-
 /// Runs the program of a glyph on its points, from what `prep` left: what it has used up, or where and why it halted. The points
 /// keep their number and contours, and the state its sizes, also after a halt; the final stack changes only if it ends well.
 #[tactic(auto, unfolding(crate::specs::Prepared::glyph_end))]
@@ -37,16 +35,15 @@ fn run_from(
     state: &mut State,
     prepared: &Prepared,
     programs: &Programs<'_>,
-    limit: u32,
     zone: &mut Zone,
     final_stack: &mut FinalStack,
 ) -> Result<Ran, Halt>
     requires fits { Fits prepared.now state.old }
     requires room { final_stack.old.room ≡ state.old.store.room }
     ensures value { with_zone result zone.new ≡ ran_of
-        (glyph_end (texts programs.now) programs.now.number prepared.now state.old.scale state.old.store.room limit zone.old) }
+        (glyph_end (texts programs.now) programs.now.number prepared.now state.old.scale state.old.store.room zone.old) }
     ensures stack { final_stack.new.numbers ≡ stack_after
-        (glyph_end (texts programs.now) programs.now.number prepared.now state.old.scale state.old.store.room limit zone.old)
+        (glyph_end (texts programs.now) programs.now.number prepared.now state.old.scale state.old.store.room zone.old)
         final_stack.old.numbers }
     ensures shape { HasShape zone.old zone.new }
     ensures fits { Fits prepared.now state.new }
@@ -56,9 +53,9 @@ fn run_from(
 {
     swap(&mut state.zones.glyph, zone);
     state.restart(prepared);
-    let answer = run(state, programs, Program::Glyph, limit);
+    let result = run(state, programs, Program::Glyph, STEP_LIMIT);
     swap(&mut state.zones.glyph, zone);
-    let steps = answer?;
+    let steps = result?;
     final_stack.take(state.store.numbers());
     Ok(Ran {
         steps,
@@ -142,7 +139,7 @@ impl<'a> Model for Machine<'a> {
     ghost use Rattle.fx_scale.specs.Scaling.{scale_of};
     ghost use Rattle.fx_machine.specs.Prepared.{Fits};
     ghost use Rattle.fx_machine.specs.Known.{MachineView};
-    ghost use Rattle.fx_stackops.specs.Store.{room_of};
+    ghost use Rattle.fx_machine.specs.Limits.{room_of};
 
     ghost Value = { MachineView };
 
@@ -257,6 +254,6 @@ impl<'a> Machine<'a> {
             final_stack,
             ..
         } = self;
-        run_from(state, prepared, &programs, STEP_LIMIT, zone, final_stack)
+        run_from(state, prepared, &programs, zone, final_stack)
     }
 }

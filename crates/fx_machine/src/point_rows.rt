@@ -1,4 +1,7 @@
 //! The rows that measure and move points, with their operands and the reference points that they set.
+//!
+//! Each doc has the opcode, the mnemonic, its name in the Apple TrueType Reference Manual ("Instruction set"), what becomes of the
+//! stack, whose top is written last, and what the row sets.
 
 ghost use Rattle.std.specs.Prelude.{◌≡◌, ◌≤◌, OnErr, Ok, length, drop, if◌then◌else◌};
 ghost use Rattle.fx_gstate.specs.States.{leaves};
@@ -58,7 +61,8 @@ impl State {
         self.store.control_stray(number)
     }
 
-    /// ISECT: a point to where two lines cross.
+    /// 0F ISECT, InterSECTion of two lines: `p a0 a1 b0 b1 ->`. Puts p, of zp2, where the line a0 a1, of zp1, crosses the line
+    /// b0 b1, of zp0.
     #[tactic(auto, unfolding(crate::specs::PointRows::isect_row))]
     pub(crate) fn isect(&mut self) -> Result<(), Cause>
         ensures value { leaves result self.new ≡ isect_row self.old }
@@ -72,7 +76,7 @@ impl State {
         Ok(())
     }
 
-    /// ALIGNPTS: two points to the middle of their projections.
+    /// 27 ALIGNPTS, ALIGN Points: `p q ->`. Moves p, of zp1, and q, of zp0, halfway to each other.
     #[tactic(auto, unfolding(crate::specs::PointRows::alignpts_row))]
     pub(crate) fn alignpts(&mut self) -> Result<(), Cause>
         ensures value { leaves result self.new ≡ alignpts_row self.old }
@@ -85,7 +89,7 @@ impl State {
         Ok(())
     }
 
-    /// UTP: untouches a point.
+    /// 29 UTP, UnTouch Point: `p ->`. Untouches p, of zp0.
     #[tactic(auto, unfolding(crate::specs::PointRows::utp_row))]
     pub(crate) fn utp(&mut self) -> Result<(), Cause>
         ensures value { leaves result self.new ≡ utp_row self.old }
@@ -98,7 +102,7 @@ impl State {
         Ok(())
     }
 
-    /// MDAP: a point to its place, or to the rounded one.
+    /// 2E-2F MDAP[a], Move Direct Absolute Point: `p ->`. Touches p, of zp0, with 1 at its rounded coordinate. Sets rp0, rp1.
     #[tactic(auto, unfolding(crate::specs::PointRows::mdap_row))]
     pub(crate) fn mdap(&mut self, rounds: bool) -> Result<(), Cause>
         ensures value { leaves result self.new ≡ mdap_row rounds self.old }
@@ -113,7 +117,7 @@ impl State {
         Ok(())
     }
 
-    /// IUP: the untouched points between touched ones.
+    /// 30-31 IUP[a], Interpolate Untouched Points: `->`. Moves the glyph's untouched points, with 0 in y, with 1 in x.
     #[tactic(auto, unfolding(crate::specs::PointRows::iup_row))]
     pub(crate) fn iup(&mut self, axis: Axis)
         ensures value { Ok self.new ≡ iup_row axis self.old }
@@ -122,7 +126,8 @@ impl State {
         self.zones.iup(axis);
     }
 
-    /// SHP: points as a reference point was moved.
+    /// 32-33 SHP[a], SHift Point: `.. p ->`, a loop. Shifts each p, of zp2, as a reference point was moved: with 0 rp2, of zp1,
+    /// with 1 rp1, of zp0. Sets loop to 1.
     #[tactic(auto, unfolding(crate::specs::PointRows::shp_row))]
     pub(crate) fn shp(&mut self, first: bool) -> Result<(), Cause>
         ensures value { leaves result self.new ≡ shp_row first self.old }
@@ -136,7 +141,7 @@ impl State {
         Ok(())
     }
 
-    /// SHC: a contour as a reference point was moved.
+    /// 34-35 SHC[a], SHift Contour: `k ->`. Shifts contour k, of zp2, as that reference point was moved.
     #[tactic(auto, unfolding(crate::specs::PointRows::shc_row))]
     pub(crate) fn shc(&mut self, first: bool) -> Result<(), Cause>
         ensures value { leaves result self.new ≡ shc_row first self.old }
@@ -149,7 +154,7 @@ impl State {
         Ok(())
     }
 
-    /// SHZ: a zone as a reference point was moved.
+    /// 36-37 SHZ[a], SHift Zone: `z ->`. Shifts zone z as that reference point was moved.
     #[tactic(auto, unfolding(crate::specs::PointRows::shz_row))]
     pub(crate) fn shz(&mut self, first: bool) -> Result<(), Cause>
         ensures value { leaves result self.new ≡ shz_row first self.old }
@@ -163,7 +168,7 @@ impl State {
         Ok(())
     }
 
-    /// SHPIX: points by a distance along the freedom vector.
+    /// 38 SHPIX, SHift point by a PIXel amount: `.. p a ->`, a loop. Shifts each p, of zp2, by a. Sets loop to 1.
     #[tactic(auto, unfolding(crate::specs::PointRows::shpix_row))]
     pub(crate) fn shpix(&mut self) -> Result<(), Cause>
         ensures value { leaves result self.new ≡ shpix_row self.old }
@@ -178,7 +183,7 @@ impl State {
         Ok(())
     }
 
-    /// IP: points in proportion between two reference points.
+    /// 39 IP, Interpolate Point: `.. p ->`, a loop. Moves each p, of zp2, between rp1, of zp0, and rp2, of zp1. Sets loop to 1.
     #[tactic(auto, unfolding(crate::specs::PointRows::ip_row))]
     pub(crate) fn ip(&mut self) -> Result<(), Cause>
         ensures value { leaves result self.new ≡ ip_row self.old }
@@ -192,7 +197,8 @@ impl State {
         Ok(())
     }
 
-    /// MSIRP: a point to a distance from a reference point.
+    /// 3A-3B MSIRP[a], Move Stack Indirect Relative Point: `p d ->`. Moves p, of zp1, to the distance d from rp0, of zp0. Sets
+    /// rp1, rp2, with 1 rp0, too.
     #[tactic(auto, unfolding(crate::specs::PointRows::msirp_row))]
     pub(crate) fn msirp(&mut self, sets_rp0: bool) -> Result<(), Cause>
         ensures value { leaves result self.new ≡ msirp_row sets_rp0 self.old }
@@ -206,7 +212,8 @@ impl State {
         Ok(())
     }
 
-    /// ALIGNRP: points onto a reference point.
+    /// 3C ALIGNRP, ALIGN Relative Point: `.. p ->`, a loop. Moves each p, of zp1, to the distance 0 from rp0, of zp0. Sets loop
+    /// to 1.
     #[tactic(auto, unfolding(crate::specs::PointRows::alignrp_row))]
     pub(crate) fn alignrp(&mut self) -> Result<(), Cause>
         ensures value { leaves result self.new ≡ alignrp_row self.old }
@@ -220,7 +227,8 @@ impl State {
         Ok(())
     }
 
-    /// MIAP: a point to a control value.
+    /// 3E-3F MIAP[a], Move Indirect Absolute Point: `p n ->`. Moves p, of zp0, to control value n, with 1 rounded and within
+    /// the cut-in. Sets rp0, rp1.
     #[tactic(auto, unfolding(crate::specs::PointRows::miap_row))]
     pub(crate) fn miap(&mut self, rounds: bool) -> Result<(), Cause>
         ensures value { leaves result self.new ≡ miap_row rounds self.old }
@@ -238,7 +246,8 @@ impl State {
         Ok(())
     }
 
-    /// GC: pushes a point's coordinate.
+    /// 46-47 GC[a], Get Coordinate: `p -> v`. Pushes the coordinate of p, of zp2: with 0 the current one, with 1 the original
+    /// one.
     #[tactic(auto, unfolding(crate::specs::PointRows::gc_row))]
     pub(crate) fn gc(&mut self, original: bool) -> Result<(), Cause>
         ensures value { leaves result self.new ≡ gc_row original self.old }
@@ -252,7 +261,7 @@ impl State {
         Ok(())
     }
 
-    /// SCFS: a point to a coordinate.
+    /// 48 SCFS, Sets Coordinate From the Stack: `p v ->`. Moves p, of zp2, to the coordinate v.
     #[tactic(auto, unfolding(crate::specs::PointRows::scfs_row))]
     pub(crate) fn scfs(&mut self) -> Result<(), Cause>
         ensures value { leaves result self.new ≡ scfs_row self.old }
@@ -265,7 +274,8 @@ impl State {
         Ok(())
     }
 
-    /// MD: pushes the distance of two points.
+    /// 49-4A MD[a], Measure Distance: `p q -> v`. Pushes the distance of p, of zp0, from q, of zp1: 49 the current one, 4A the
+    /// original one.
     #[tactic(auto, unfolding(crate::specs::PointRows::md_row))]
     pub(crate) fn md(&mut self, original: bool) -> Result<(), Cause>
         ensures value { leaves result self.new ≡ md_row original self.old }
@@ -279,7 +289,8 @@ impl State {
         Ok(())
     }
 
-    /// DELTAP1 to DELTAP3: points by an amount at one size.
+    /// 5D DELTAP1, 71 DELTAP2, 72 DELTAP3, DELTA exception P: `.. argument p n ->`, n pairs. Moves each p, of zp0, whose
+    /// argument acts at this size.
     #[tactic(auto, unfolding(crate::specs::PointRows::deltap_row))]
     pub(crate) fn deltap(&mut self, form: DeltaForm) -> Result<(), Cause>
         ensures value { leaves result self.new ≡ deltap_row form self.old }
@@ -300,7 +311,7 @@ impl State {
         Ok(())
     }
 
-    /// FLIPPT: points on the curve off it, and back.
+    /// 80 FLIPPT, FLIP PoinT: `.. p ->`, a loop. Each p, of zp0, goes off the curve, or onto it. Sets loop to 1.
     #[tactic(auto, unfolding(crate::specs::PointRows::flippt_row))]
     pub(crate) fn flippt(&mut self) -> Result<(), Cause>
         ensures value { leaves result self.new ≡ flippt_row self.old }
@@ -314,7 +325,7 @@ impl State {
         Ok(())
     }
 
-    /// FLIPRGON, FLIPRGOFF: a range of points onto the curve, or off it.
+    /// 81 FLIPRGON, 82 FLIPRGOFF, FLIP RanGe: `low high ->`. The points from low to high, of zp0, go onto the curve, or off it.
     #[tactic(auto, unfolding(crate::specs::PointRows::fliprg_row))]
     pub(crate) fn fliprg(&mut self, on: bool) -> Result<(), Cause>
         ensures value { leaves result self.new ≡ fliprg_row on self.old }
@@ -327,7 +338,8 @@ impl State {
         Ok(())
     }
 
-    /// MDRP: a point to its original distance from a reference point.
+    /// C0-DF MDRP[abcde], Move Direct Relative Point: `p ->`. Moves p, of zp1, to its original distance from rp0, of zp0. Sets
+    /// rp1, rp2, with bit a rp0, too.
     #[tactic(auto, unfolding(crate::specs::PointRows::mdrp_row))]
     pub(crate) fn mdrp(&mut self, how: Relative) -> Result<(), Cause>
         ensures value { leaves result self.new ≡ mdrp_row how self.old }
@@ -341,7 +353,8 @@ impl State {
         Ok(())
     }
 
-    /// MIRP: a point to a control value from a reference point.
+    /// E0-FF MIRP[abcde], Move Indirect Relative Point: `p n ->`. Moves p, of zp1, to the distance of control value n from rp0,
+    /// of zp0. Sets rp1, rp2, with bit a rp0, too.
     #[tactic(auto, unfolding(crate::specs::PointRows::mirp_row))]
     pub(crate) fn mirp(&mut self, how: Relative) -> Result<(), Cause>
         ensures value { leaves result self.new ≡ mirp_row how self.old }

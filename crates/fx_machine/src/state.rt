@@ -5,6 +5,7 @@ ghost use Rattle.fx_sfnt.specs.Tables.{table_or_empty};
 ghost use Rattle.fx_machine.specs.Known.{controls_of, first_store, twilight_of, nothing_defined, first_state, second_state};
 
 use crate::definitions::Definitions;
+use crate::limits::{FEWEST_FUNCTIONS, SPARE_ELEMENTS};
 use fx_fixed::Place;
 use fx_gstate::GState;
 use fx_pointops::Zones;
@@ -26,7 +27,7 @@ pub struct Flags {
 /// The state that instructions read and change.
 #[derive(Drop)]
 pub struct State {
-    //// The stack, the storage area, the control values and the strays.
+    /// The stack, the storage area, the control values and the strays.
     pub store: Store,
     /// The points.
     pub zones: Zones,
@@ -64,7 +65,13 @@ fn first_store(alloc: Global, font: &Font<'_>, scale: &Scale) -> Result<Store, A
 {
     let maxp = font.maxp();
     let cvt = controls(alloc, font, scale)?;
-    Store::new(alloc, maxp.max_stack_elements, maxp.max_storage, cvt)
+    Store::new(
+        alloc,
+        maxp.max_stack_elements,
+        SPARE_ELEMENTS,
+        maxp.max_storage,
+        cvt,
+    )
 }
 
 /// The twilight zone of a font: its points at (0, 0), without contours.
@@ -80,7 +87,7 @@ fn twilight(alloc: Global, count: u16) -> Result<Zone, AllocError>
 fn nothing_defined(alloc: Global, font: &Font<'_>) -> Result<Definitions, AllocError>
     ensures { IfOk result (λ d. d ≡ nothing_defined font.now) }
 {
-    Definitions::new(alloc, usize::from(font.maxp().max_function_defs.max(64)))
+    Definitions::new(alloc, usize::from(font.maxp().max_function_defs.max(FEWEST_FUNCTIONS)))
 }
 
 impl State {

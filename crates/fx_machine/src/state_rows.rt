@@ -1,10 +1,13 @@
 //! The rows that read or change the graphics state, and those of the stack that need it.
+//!
+//! Each doc has the opcode, the mnemonic, its name in the Apple TrueType Reference Manual ("Instruction set"), what becomes of the
+//! stack, whose top is written last, and what the row sets.
 
 ghost use Rattle.std.specs.Prelude.{◌≡◌, OnErr};
 ghost use Rattle.fx_gstate.specs.States.{leaves};
 ghost use Rattle.fx_machine.specs.Shapes.{HasSizes};
-ghost use Rattle.fx_machine.specs.StateRows.{spvtl_of, sfvtl_of, sdpvtl_of, spvfs_of, sfvfs_of, gpv_of, gfv_of, srp0_of, srp1_of, srp2_of, szp0_of, szp1_of, szp2_of};
-ghost use Rattle.fx_machine.specs.StateRows.{szps_of, sloop_of, smd_of, scvtci_of, sswci_of, ssw_of, sdb_of, sds_of, wcvtf_of, sround_of, s45round_of, instctrl_of, chosen};
+ghost use Rattle.fx_machine.specs.StateRows.{spvtl_row, sfvtl_row, sdpvtl_row, spvfs_row, sfvfs_row, gpv_row, gfv_row, srp0_row, srp1_row, srp2_row, szp0_row, szp1_row, szp2_row};
+ghost use Rattle.fx_machine.specs.StateRows.{szps_row, sloop_row, smd_row, scvtci_row, sswci_row, ssw_row, sdb_row, sds_row, wcvtf_row, sround_row, s45round_row, instctrl_row, chosen};
 
 use crate::halt::Cause;
 use crate::state::{Flags, State};
@@ -28,10 +31,11 @@ fn chosen(value: i32, selector: i32, flags: Flags) -> Flags
 }
 
 impl State {
-    /// SPVTL: the projection vector along a line, or across it.
-    #[tactic(auto, unfolding(crate::specs::StateRows::spvtl_of))]
+    /// 06-07 SPVTL[a], Set Projection Vector To Line: `p1 p2 ->`. The projection vector and its dual go along the line from p2,
+    /// of zp2, to p1, of zp1; with 1 across it.
+    #[tactic(auto, unfolding(crate::specs::StateRows::spvtl_row))]
     pub(crate) fn spvtl(&mut self, turned: bool) -> Result<(), Cause>
-        ensures value { leaves result self.new ≡ spvtl_of turned self.old }
+        ensures value { leaves result self.new ≡ spvtl_row turned self.old }
         ensures kept { OnErr result (self.new.zones ≡ self.old.zones) }
         ensures sizes { HasSizes self.old self.new }
     {
@@ -42,10 +46,11 @@ impl State {
         Ok(())
     }
 
-    /// SFVTL: the freedom vector along a line, or across it.
-    #[tactic(auto, unfolding(crate::specs::StateRows::sfvtl_of))]
+    /// 08-09 SFVTL[a], Set Freedom Vector To Line: `p1 p2 ->`. The freedom vector goes along the line from p2, of zp2, to p1,
+    /// of zp1; with 1 across it.
+    #[tactic(auto, unfolding(crate::specs::StateRows::sfvtl_row))]
     pub(crate) fn sfvtl(&mut self, turned: bool) -> Result<(), Cause>
-        ensures value { leaves result self.new ≡ sfvtl_of turned self.old }
+        ensures value { leaves result self.new ≡ sfvtl_row turned self.old }
         ensures kept { OnErr result (self.new.zones ≡ self.old.zones) }
         ensures sizes { HasSizes self.old self.new }
     {
@@ -56,10 +61,11 @@ impl State {
         Ok(())
     }
 
-    /// SDPVTL: the dual projection vector along a line between original places, or across it.
-    #[tactic(auto, unfolding(crate::specs::StateRows::sdpvtl_of))]
+    /// 86-87 SDPVTL[a], Set Dual Projection Vector To Line: `p1 p2 ->`. The projection vector goes along the line from p2, of
+    /// zp2, to p1, of zp1, and its dual along the line of their original places; with 1 across them.
+    #[tactic(auto, unfolding(crate::specs::StateRows::sdpvtl_row))]
     pub(crate) fn sdpvtl(&mut self, turned: bool) -> Result<(), Cause>
-        ensures value { leaves result self.new ≡ sdpvtl_of turned self.old }
+        ensures value { leaves result self.new ≡ sdpvtl_row turned self.old }
         ensures kept { OnErr result (self.new.zones ≡ self.old.zones) }
         ensures sizes { HasSizes self.old self.new }
     {
@@ -70,10 +76,10 @@ impl State {
         Ok(())
     }
 
-    /// SPVFS: the projection vector from the stack.
-    #[tactic(auto, unfolding(crate::specs::StateRows::spvfs_of))]
+    /// 0A SPVFS, Set Projection Vector From Stack: `x y ->`. Sets the projection vector and its dual.
+    #[tactic(auto, unfolding(crate::specs::StateRows::spvfs_row))]
     pub(crate) fn spvfs(&mut self) -> Result<(), Cause>
-        ensures value { leaves result self.new ≡ spvfs_of self.old }
+        ensures value { leaves result self.new ≡ spvfs_row self.old }
         ensures kept { OnErr result (self.new.zones ≡ self.old.zones) }
         ensures sizes { HasSizes self.old self.new }
     {
@@ -82,10 +88,10 @@ impl State {
         Ok(())
     }
 
-    /// SFVFS: the freedom vector from the stack.
-    #[tactic(auto, unfolding(crate::specs::StateRows::sfvfs_of))]
+    /// 0B SFVFS, Set Freedom Vector From Stack: `x y ->`. Sets the freedom vector.
+    #[tactic(auto, unfolding(crate::specs::StateRows::sfvfs_row))]
     pub(crate) fn sfvfs(&mut self) -> Result<(), Cause>
-        ensures value { leaves result self.new ≡ sfvfs_of self.old }
+        ensures value { leaves result self.new ≡ sfvfs_row self.old }
         ensures kept { OnErr result (self.new.zones ≡ self.old.zones) }
         ensures sizes { HasSizes self.old self.new }
     {
@@ -94,10 +100,10 @@ impl State {
         Ok(())
     }
 
-    /// GPV: pushes the projection vector.
-    #[tactic(auto, unfolding(crate::specs::StateRows::gpv_of))]
+    /// 0C GPV, Get Projection Vector: `-> x y`.
+    #[tactic(auto, unfolding(crate::specs::StateRows::gpv_row))]
     pub(crate) fn gpv(&mut self) -> Result<(), Cause>
-        ensures value { leaves result self.new ≡ gpv_of self.old }
+        ensures value { leaves result self.new ≡ gpv_row self.old }
         ensures kept { OnErr result (self.new.zones ≡ self.old.zones) }
         ensures sizes { HasSizes self.old self.new }
     {
@@ -107,10 +113,10 @@ impl State {
         Ok(())
     }
 
-    /// GFV: pushes the freedom vector.
-    #[tactic(auto, unfolding(crate::specs::StateRows::gfv_of))]
+    /// 0D GFV, Get Freedom Vector: `-> x y`.
+    #[tactic(auto, unfolding(crate::specs::StateRows::gfv_row))]
     pub(crate) fn gfv(&mut self) -> Result<(), Cause>
-        ensures value { leaves result self.new ≡ gfv_of self.old }
+        ensures value { leaves result self.new ≡ gfv_row self.old }
         ensures kept { OnErr result (self.new.zones ≡ self.old.zones) }
         ensures sizes { HasSizes self.old self.new }
     {
@@ -120,10 +126,10 @@ impl State {
         Ok(())
     }
 
-    /// SRP0: reference point 0.
-    #[tactic(auto, unfolding(crate::specs::StateRows::srp0_of))]
+    /// 10 SRP0, Set Reference Point 0: `p ->`. Sets rp0.
+    #[tactic(auto, unfolding(crate::specs::StateRows::srp0_row))]
     pub(crate) fn srp0(&mut self) -> Result<(), Cause>
-        ensures value { leaves result self.new ≡ srp0_of self.old }
+        ensures value { leaves result self.new ≡ srp0_row self.old }
         ensures kept { OnErr result (self.new.zones ≡ self.old.zones) }
         ensures sizes { HasSizes self.old self.new }
     {
@@ -132,10 +138,10 @@ impl State {
         Ok(())
     }
 
-    /// SRP1: reference point 1.
-    #[tactic(auto, unfolding(crate::specs::StateRows::srp1_of))]
+    /// 11 SRP1, Set Reference Point 1: `p ->`. Sets rp1.
+    #[tactic(auto, unfolding(crate::specs::StateRows::srp1_row))]
     pub(crate) fn srp1(&mut self) -> Result<(), Cause>
-        ensures value { leaves result self.new ≡ srp1_of self.old }
+        ensures value { leaves result self.new ≡ srp1_row self.old }
         ensures kept { OnErr result (self.new.zones ≡ self.old.zones) }
         ensures sizes { HasSizes self.old self.new }
     {
@@ -144,10 +150,10 @@ impl State {
         Ok(())
     }
 
-    /// SRP2: reference point 2.
-    #[tactic(auto, unfolding(crate::specs::StateRows::srp2_of))]
+    /// 12 SRP2, Set Reference Point 2: `p ->`. Sets rp2.
+    #[tactic(auto, unfolding(crate::specs::StateRows::srp2_row))]
     pub(crate) fn srp2(&mut self) -> Result<(), Cause>
-        ensures value { leaves result self.new ≡ srp2_of self.old }
+        ensures value { leaves result self.new ≡ srp2_row self.old }
         ensures kept { OnErr result (self.new.zones ≡ self.old.zones) }
         ensures sizes { HasSizes self.old self.new }
     {
@@ -156,10 +162,10 @@ impl State {
         Ok(())
     }
 
-    /// SZP0: zone pointer 0.
-    #[tactic(auto, unfolding(crate::specs::StateRows::szp0_of))]
+    /// 13 SZP0, Set Zone Pointer 0: `z ->`. Sets zp0: 0 is the twilight zone, 1 the glyph's.
+    #[tactic(auto, unfolding(crate::specs::StateRows::szp0_row))]
     pub(crate) fn szp0(&mut self) -> Result<(), Cause>
-        ensures value { leaves result self.new ≡ szp0_of self.old }
+        ensures value { leaves result self.new ≡ szp0_row self.old }
         ensures kept { OnErr result (self.new.zones ≡ self.old.zones) }
         ensures sizes { HasSizes self.old self.new }
     {
@@ -168,10 +174,10 @@ impl State {
         Ok(())
     }
 
-    /// SZP1: zone pointer 1.
-    #[tactic(auto, unfolding(crate::specs::StateRows::szp1_of))]
+    /// 14 SZP1, Set Zone Pointer 1: `z ->`. Sets zp1.
+    #[tactic(auto, unfolding(crate::specs::StateRows::szp1_row))]
     pub(crate) fn szp1(&mut self) -> Result<(), Cause>
-        ensures value { leaves result self.new ≡ szp1_of self.old }
+        ensures value { leaves result self.new ≡ szp1_row self.old }
         ensures kept { OnErr result (self.new.zones ≡ self.old.zones) }
         ensures sizes { HasSizes self.old self.new }
     {
@@ -180,10 +186,10 @@ impl State {
         Ok(())
     }
 
-    /// SZP2: zone pointer 2.
-    #[tactic(auto, unfolding(crate::specs::StateRows::szp2_of))]
+    /// 15 SZP2, Set Zone Pointer 2: `z ->`. Sets zp2.
+    #[tactic(auto, unfolding(crate::specs::StateRows::szp2_row))]
     pub(crate) fn szp2(&mut self) -> Result<(), Cause>
-        ensures value { leaves result self.new ≡ szp2_of self.old }
+        ensures value { leaves result self.new ≡ szp2_row self.old }
         ensures kept { OnErr result (self.new.zones ≡ self.old.zones) }
         ensures sizes { HasSizes self.old self.new }
     {
@@ -192,10 +198,10 @@ impl State {
         Ok(())
     }
 
-    /// SZPS: all zone pointers.
-    #[tactic(auto, unfolding(crate::specs::StateRows::szps_of))]
+    /// 16 SZPS, Set Zone PointerS: `z ->`. Sets zp0, zp1, zp2.
+    #[tactic(auto, unfolding(crate::specs::StateRows::szps_row))]
     pub(crate) fn szps(&mut self) -> Result<(), Cause>
-        ensures value { leaves result self.new ≡ szps_of self.old }
+        ensures value { leaves result self.new ≡ szps_row self.old }
         ensures kept { OnErr result (self.new.zones ≡ self.old.zones) }
         ensures sizes { HasSizes self.old self.new }
     {
@@ -204,10 +210,10 @@ impl State {
         Ok(())
     }
 
-    /// SLOOP: how many points the next loop instruction takes.
-    #[tactic(auto, unfolding(crate::specs::StateRows::sloop_of))]
+    /// 17 SLOOP, Set LOOP variable: `n ->`. Sets loop, the number of points that the next loop takes.
+    #[tactic(auto, unfolding(crate::specs::StateRows::sloop_row))]
     pub(crate) fn sloop(&mut self) -> Result<(), Cause>
-        ensures value { leaves result self.new ≡ sloop_of self.old }
+        ensures value { leaves result self.new ≡ sloop_row self.old }
         ensures kept { OnErr result (self.new.zones ≡ self.old.zones) }
         ensures sizes { HasSizes self.old self.new }
     {
@@ -216,10 +222,10 @@ impl State {
         Ok(())
     }
 
-    /// SMD: the minimum distance.
-    #[tactic(auto, unfolding(crate::specs::StateRows::smd_of))]
+    /// 1A SMD, Set Minimum Distance: `v ->`. Sets the minimum distance, in 26.6.
+    #[tactic(auto, unfolding(crate::specs::StateRows::smd_row))]
     pub(crate) fn smd(&mut self) -> Result<(), Cause>
-        ensures value { leaves result self.new ≡ smd_of self.old }
+        ensures value { leaves result self.new ≡ smd_row self.old }
         ensures kept { OnErr result (self.new.zones ≡ self.old.zones) }
         ensures sizes { HasSizes self.old self.new }
     {
@@ -228,10 +234,10 @@ impl State {
         Ok(())
     }
 
-    /// SCVTCI: the control value cut-in.
-    #[tactic(auto, unfolding(crate::specs::StateRows::scvtci_of))]
+    /// 1D SCVTCI, Set Control Value Table Cut-In: `v ->`. Sets the control value cut-in, in 26.6.
+    #[tactic(auto, unfolding(crate::specs::StateRows::scvtci_row))]
     pub(crate) fn scvtci(&mut self) -> Result<(), Cause>
-        ensures value { leaves result self.new ≡ scvtci_of self.old }
+        ensures value { leaves result self.new ≡ scvtci_row self.old }
         ensures kept { OnErr result (self.new.zones ≡ self.old.zones) }
         ensures sizes { HasSizes self.old self.new }
     {
@@ -240,10 +246,10 @@ impl State {
         Ok(())
     }
 
-    /// SSWCI: the single width cut-in.
-    #[tactic(auto, unfolding(crate::specs::StateRows::sswci_of))]
+    /// 1E SSWCI, Set Single Width Cut-In: `v ->`. Sets the single width cut-in, in 26.6.
+    #[tactic(auto, unfolding(crate::specs::StateRows::sswci_row))]
     pub(crate) fn sswci(&mut self) -> Result<(), Cause>
-        ensures value { leaves result self.new ≡ sswci_of self.old }
+        ensures value { leaves result self.new ≡ sswci_row self.old }
         ensures kept { OnErr result (self.new.zones ≡ self.old.zones) }
         ensures sizes { HasSizes self.old self.new }
     {
@@ -252,10 +258,10 @@ impl State {
         Ok(())
     }
 
-    /// SSW: the single width, from FUnits.
-    #[tactic(auto, unfolding(crate::specs::StateRows::ssw_of))]
+    /// 1F SSW, Set Single Width: `v ->`. Sets the single width, from FUnits.
+    #[tactic(auto, unfolding(crate::specs::StateRows::ssw_row))]
     pub(crate) fn ssw(&mut self) -> Result<(), Cause>
-        ensures value { leaves result self.new ≡ ssw_of self.old }
+        ensures value { leaves result self.new ≡ ssw_row self.old }
         ensures kept { OnErr result (self.new.zones ≡ self.old.zones) }
         ensures sizes { HasSizes self.old self.new }
     {
@@ -264,10 +270,10 @@ impl State {
         Ok(())
     }
 
-    /// SDB: the delta base.
-    #[tactic(auto, unfolding(crate::specs::StateRows::sdb_of))]
+    /// 5E SDB, Set Delta Base: `n ->`. Sets the delta base.
+    #[tactic(auto, unfolding(crate::specs::StateRows::sdb_row))]
     pub(crate) fn sdb(&mut self) -> Result<(), Cause>
-        ensures value { leaves result self.new ≡ sdb_of self.old }
+        ensures value { leaves result self.new ≡ sdb_row self.old }
         ensures kept { OnErr result (self.new.zones ≡ self.old.zones) }
         ensures sizes { HasSizes self.old self.new }
     {
@@ -276,10 +282,10 @@ impl State {
         Ok(())
     }
 
-    /// SDS: the delta shift.
-    #[tactic(auto, unfolding(crate::specs::StateRows::sds_of))]
+    /// 5F SDS, Set Delta Shift: `n ->`. Sets the delta shift, 0 to 6.
+    #[tactic(auto, unfolding(crate::specs::StateRows::sds_row))]
     pub(crate) fn sds(&mut self) -> Result<(), Cause>
-        ensures value { leaves result self.new ≡ sds_of self.old }
+        ensures value { leaves result self.new ≡ sds_row self.old }
         ensures kept { OnErr result (self.new.zones ≡ self.old.zones) }
         ensures sizes { HasSizes self.old self.new }
     {
@@ -288,10 +294,10 @@ impl State {
         Ok(())
     }
 
-    /// WCVTF: writes a control value, from FUnits.
-    #[tactic(auto, unfolding(crate::specs::StateRows::wcvtf_of))]
+    /// 70 WCVTF, Write Control Value Table in Funits: `i v ->`. Control value i becomes v, scaled.
+    #[tactic(auto, unfolding(crate::specs::StateRows::wcvtf_row))]
     pub(crate) fn wcvtf(&mut self) -> Result<(), Cause>
-        ensures value { leaves result self.new ≡ wcvtf_of self.old }
+        ensures value { leaves result self.new ≡ wcvtf_row self.old }
         ensures kept { OnErr result (self.new.zones ≡ self.old.zones) }
         ensures sizes { HasSizes self.old self.new }
     {
@@ -300,10 +306,10 @@ impl State {
         Ok(())
     }
 
-    /// SROUND: rounds to a grid of its own.
-    #[tactic(auto, unfolding(crate::specs::StateRows::sround_of))]
+    /// 76 SROUND, Super ROUND: `n ->`. Sets the round state, to a grid that n describes.
+    #[tactic(auto, unfolding(crate::specs::StateRows::sround_row))]
     pub(crate) fn sround(&mut self) -> Result<(), Cause>
-        ensures value { leaves result self.new ≡ sround_of self.old }
+        ensures value { leaves result self.new ≡ sround_row self.old }
         ensures kept { OnErr result (self.new.zones ≡ self.old.zones) }
         ensures sizes { HasSizes self.old self.new }
     {
@@ -312,10 +318,10 @@ impl State {
         Ok(())
     }
 
-    /// S45ROUND: the same for a grid turned by 45 degrees.
-    #[tactic(auto, unfolding(crate::specs::StateRows::s45round_of))]
+    /// 77 S45ROUND, Super ROUND 45 degrees: `n ->`. Sets the round state, to such a grid turned by 45 degrees.
+    #[tactic(auto, unfolding(crate::specs::StateRows::s45round_row))]
     pub(crate) fn s45round(&mut self) -> Result<(), Cause>
-        ensures value { leaves result self.new ≡ s45round_of self.old }
+        ensures value { leaves result self.new ≡ s45round_row self.old }
         ensures kept { OnErr result (self.new.zones ≡ self.old.zones) }
         ensures sizes { HasSizes self.old self.new }
     {
@@ -324,10 +330,11 @@ impl State {
         Ok(())
     }
 
-    /// INSTCTRL: while `prep` runs, whether glyph programs run, and from which state.
-    #[tactic(auto, unfolding(crate::specs::StateRows::instctrl_of))]
+    /// 8E INSTCTRL, INSTRuction execution ConTRoL: `v s ->`. While `prep` runs, sets whether programs of glyphs run, or from
+    /// which graphics state.
+    #[tactic(auto, unfolding(crate::specs::StateRows::instctrl_row))]
     pub(crate) fn instctrl(&mut self) -> Result<(), Cause>
-        ensures value { leaves result self.new ≡ instctrl_of self.old }
+        ensures value { leaves result self.new ≡ instctrl_row self.old }
         ensures kept { OnErr result (self.new.zones ≡ self.old.zones) }
         ensures sizes { HasSizes self.old self.new }
     {

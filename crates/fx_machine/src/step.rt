@@ -15,23 +15,8 @@ use crate::program::Program;
 use crate::state::State;
 use fx_code::Code;
 
-/// Executes the instruction at an address of a program with these bytes.
+/// Executes the instruction at an address of a program with these bytes; if that faults, the points are as they were.
 fn execute(
-    state: &mut State,
-    code: &Code<'_>,
-    program: Program,
-    address: usize,
-) -> Result<Action, Cause>
-    requires { address ≢ length code.now }
-    ensures value { settled (acts result state.new) ≡ row_in code.now program address state.old }
-    ensures shapes { HasShapes state.old.zones state.new.zones }
-    ensures sizes { HasSizes state.old state.new }
-{
-    fetch(state, code, program, address)
-}
-
-/// Reads it, and does what its row says; if that faults, the points are as they were.
-fn fetch(
     state: &mut State,
     code: &Code<'_>,
     program: Program,

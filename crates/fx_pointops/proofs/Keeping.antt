@@ -2,7 +2,6 @@
 -- It serves the law that whole runs keep them.
 use Rattle.std.proofs.Common.{ℕ, ℤ, Bool, true, false, if◌then◌else◌, List, [], ◌∷◌, Option, Some, None}
 use Rattle.fx_fixed.specs.declared.places.Axis.{Axis}
-use Rattle.fx_fixed.specs.declared.places.Axis.TheVariants.{X, Y}
 use Rattle.fx_fixed.specs.declared.places.Place.{Place}
 use Rattle.fx_zone.specs.declared.point.Point.{Point}
 use Rattle.fx_zone.specs.Figures.{Figure, HasShape, changed, in_range, in_range_without}
@@ -17,11 +16,11 @@ use Rattle.fx_gstate.specs.Deltas.{delta_of}
 use Rattle.fx_pointops.specs.declared.distances.Relative.{Relative}
 use Rattle.fx_pointops.specs.declared.zones.Zones.{Zones}
 use Rattle.fx_pointops.specs.Zones.{Outcome, HasShapes, on_zone, index_of, changed_of, changed_at}
-use Rattle.fx_pointops.specs.ShiftPoint.{shifted_by, shift_by, moved_by, point_shifted}
+use Rattle.fx_pointops.specs.ShiftPoint.{shift_by, point_shifted}
 use Rattle.fx_pointops.specs.Loops.{each, each_pair}
-use Rattle.fx_pointops.specs.Direct.{untouched_along, utp_of, mdap_of, laid_at_distance, msirp_of, aligned_to_rp, alignrp_of}
+use Rattle.fx_pointops.specs.Direct.{utp_of, mdap_of, laid_from_rp, msirp_of, aligned_to_rp, alignrp_of}
 use Rattle.fx_pointops.specs.Direct.{alignpts_of, scfs_of, shpix_of, mdrp_of}
-use Rattle.fx_pointops.specs.Indirect.{laid_along, miap_of, laid_from_rp, mirp_of}
+use Rattle.fx_pointops.specs.Indirect.{miap_of, mirp_of}
 use Rattle.fx_pointops.specs.Shift.{shp_of, contour_shifted, shc_of, shz_of}
 use Rattle.fx_pointops.specs.Interpolate.{point_in_proportion, ip_of}
 use Rattle.fx_pointops.specs.Intersect.{isect_of}
@@ -65,14 +64,6 @@ changed_keeps : (change : Point → Point) (zone : ZonePointer) (n : ℤ) (z : Z
 unfolding changed_at
 changed_keeps change zone n z = index_keeps change zone (index_of n) z
 
-shifted_keeps : (g : GState) (by : Place) (zone : ZonePointer) (p : ℤ) (z : Zones) → HasShapes z (shifted_by g by zone p z)
-unfolding shifted_by
-shifted_keeps g by zone p z = changed_keeps _ zone p z
-
-moved_keeps : (g : GState) (d : ℤ) (zone : ZonePointer) (p : ℤ) (z : Zones) → HasShapes z (moved_by g d zone p z)
-unfolding moved_by
-moved_keeps g d zone p z = shifted_keeps g (shift_by g d) zone p z
-
 each_keeps : (steps : ℤ → Zones → Outcome) → ((p : ℤ) (z : Zones) → HasShapes z (steps p z).0) → (ps : List ℤ) (z : Zones)
     → HasShapes z (each steps ps z).0
 unfolding each
@@ -90,31 +81,27 @@ pairs_keep steps h (p ∷ a ∷ ps) z =
 
 point_shifted_keeps : (g : GState) (by : Place) (p : ℤ) (z : Zones) → HasShapes z (point_shifted g by p z).0
 unfolding point_shifted
-point_shifted_keeps g by p z = shifted_keeps g by g.zp2 p z
+point_shifted_keeps g by p z = changed_keeps _ g.zp2 p z
 
 -- ---- rows
 
-untouched_keeps : (g : GState) (axis : Axis) (p : ℤ) (z : Zones) → HasShapes z (untouched_along g axis p z)
-untouched_keeps g axis p z = if_keeps z _ z _ (changed_keeps _ g.zp0 p z) (shapes_same z)
-
 pub utp_keeps : (g : GState) (p : ℤ) (z : Zones) → HasShapes z (utp_of g p z).0
 unfolding utp_of
-utp_keeps g p z =
-    shapes_then z (untouched_along g X p z) _ (untouched_keeps g X p z) (untouched_keeps g Y p (untouched_along g X p z))
+utp_keeps g p z = changed_keeps _ g.zp0 p z
 
 pub mdap_keeps : (g : GState) (rounds : Bool) (p : ℤ) (z : Zones) → HasShapes z (mdap_of g rounds p z).0
 unfolding mdap_of
-mdap_keeps g rounds p z = moved_keeps g _ g.zp0 p z
+mdap_keeps g rounds p z = changed_keeps _ g.zp0 p z
 
 pub msirp_keeps : (g : GState) (p d : ℤ) (z : Zones) → HasShapes z (msirp_of g p d z).0
 unfolding msirp_of
 msirp_keeps g p d z =
-    shapes_then z (laid_at_distance g p d z) _ (if_keeps z _ z _ (changed_keeps _ g.zp1 p z) (shapes_same z))
-    (moved_keeps g _ g.zp1 p _)
+    shapes_then z (laid_from_rp g p (shift_by g d) z) _ (if_keeps z _ z _ (changed_keeps _ g.zp1 p z) (shapes_same z))
+    (changed_keeps _ g.zp1 p _)
 
 aligned_keeps : (g : GState) (p : ℤ) (z : Zones) → HasShapes z (aligned_to_rp g p z).0
 unfolding aligned_to_rp
-aligned_keeps g p z = moved_keeps g _ g.zp1 p z
+aligned_keeps g p z = changed_keeps _ g.zp1 p z
 
 pub alignrp_keeps : (g : GState) (points : List ℤ) (z : Zones) → HasShapes z (alignrp_of g points z).0
 unfolding alignrp_of
@@ -122,13 +109,11 @@ alignrp_keeps g points z = each_keeps (aligned_to_rp g) (aligned_keeps g) points
 
 pub alignpts_keeps : (g : GState) (p q : ℤ) (z : Zones) → HasShapes z (alignpts_of g p q z).0
 unfolding alignpts_of
-alignpts_keeps g p q z = shapes_then z _ _ (moved_keeps g _ g.zp1 p z) (moved_keeps g _ g.zp0 q _)
+alignpts_keeps g p q z = shapes_then z _ _ (changed_keeps _ g.zp1 p z) (changed_keeps _ g.zp0 q _)
 
 pub scfs_keeps : (g : GState) (p v : ℤ) (z : Zones) → HasShapes z (scfs_of g p v z).0
 unfolding scfs_of
-scfs_keeps g p v z =
-    let y = moved_by g _ g.zp2 p z in
-    shapes_then z y _ (moved_keeps g _ g.zp2 p z) (if_keeps y _ y _ (changed_keeps _ g.zp2 p y) (shapes_same y))
+scfs_keeps g p v z = changed_keeps _ g.zp2 p z
 
 pub shpix_keeps : (g : GState) (points : List ℤ) (a : ℤ) (z : Zones) → HasShapes z (shpix_of g points a z).0
 unfolding shpix_of
@@ -136,19 +121,17 @@ shpix_keeps g points a z = each_keeps _ (point_shifted_keeps g _) points z
 
 pub mdrp_keeps : (g : GState) (how : Relative) (p : ℤ) (z : Zones) → HasShapes z (mdrp_of g how p z).0
 unfolding mdrp_of
-mdrp_keeps g how p z = moved_keeps g _ g.zp1 p z
+mdrp_keeps g how p z = changed_keeps _ g.zp1 p z
 
 pub miap_keeps : (g : GState) (rounds : Bool) (p v : ℤ) (z : Zones) → HasShapes z (miap_of g rounds p v z).0
 unfolding miap_of
-miap_keeps g rounds p v z =
-    shapes_then z (laid_along g p v z) _ (if_keeps z _ z _ (changed_keeps _ g.zp0 p z) (shapes_same z))
-    (moved_keeps g _ g.zp0 p _)
+miap_keeps g rounds p v z = changed_keeps _ g.zp0 p z
 
 pub mirp_keeps : (g : GState) (how : Relative) (p v : ℤ) (z : Zones) → HasShapes z (mirp_of g how p v z).0
 unfolding mirp_of
 mirp_keeps g how p v z =
     shapes_then z (laid_from_rp g p _ z) _ (if_keeps z _ z _ (changed_keeps _ g.zp1 p z) (shapes_same z))
-    (moved_keeps g _ g.zp1 p _)
+    (changed_keeps _ g.zp1 p _)
 
 pub shp_keeps : (g : GState) (one : Bool) (points : List ℤ) (z : Zones) → HasShapes z (shp_of g one points z).0
 unfolding shp_of
@@ -169,7 +152,7 @@ shz_keeps g one zone z = zone_keeps _ (each_shape (in_range_without _ 0 _) _) zo
 
 proportion_keeps : (g : GState) (cb ob p : ℤ) (z : Zones) → HasShapes z (point_in_proportion g cb ob p z).0
 unfolding point_in_proportion
-proportion_keeps g cb ob p z = moved_keeps g _ g.zp2 p z
+proportion_keeps g cb ob p z = changed_keeps _ g.zp2 p z
 
 pub ip_keeps : (g : GState) (points : List ℤ) (z : Zones) → HasShapes z (ip_of g points z).0
 unfolding ip_of
@@ -200,7 +183,7 @@ unfolding fliprg_of
 fliprg_keeps g on low high z = range_keeps on g.zp0 (index_of low) (index_of high) z
 
 at_size_keeps : (g : GState) (ppem : ℕ) (d : Delta) (p : ℤ) (z : Zones) → HasShapes z (point_moved_at g ppem d p z).0
-at_size_keeps g ppem d p z = outcome_if z _ _ _ (moved_keeps g d.amount g.zp0 p z) (shapes_same z)
+at_size_keeps g ppem d p z = outcome_if z _ _ _ (changed_keeps _ g.zp0 p z) (shapes_same z)
 
 delta_keeps : (g : GState) (form : DeltaForm) (ppem : ℕ) (p a : ℤ) (z : Zones) → HasShapes z (point_delta g form ppem p a z).0
 unfolding point_delta

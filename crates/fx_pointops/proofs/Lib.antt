@@ -1,3 +1,4 @@
 pub mod Looping
 pub mod Multiplying
 pub mod Keeping
+pub mod Setting

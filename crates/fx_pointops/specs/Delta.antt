@@ -7,15 +7,14 @@ use Rattle.fx_gstate.specs.declared.deltas.DeltaForm.{DeltaForm}
 use Rattle.fx_gstate.specs.declared.state.GState.{GState}
 use Rattle.fx_gstate.specs.Deltas.{delta_of}
 use Rattle.fx_pointops.specs.declared.zones.Zones.{Zones}
-use Rattle.fx_pointops.specs.Zones.{Outcome}
+use Rattle.fx_pointops.specs.Zones.{Outcome, on_point}
 use Rattle.fx_pointops.specs.ShiftPoint.{moved_by}
-use Rattle.fx_pointops.specs.Measure.{stray_at}
 use Rattle.fx_pointops.specs.Loops.{each_pair}
 
--- 5D DELTAP1, 71 DELTAP2, 72 DELTAP3  .. argument p n ->
--- Each p, of zone 0, whose argument acts at this size moves by its amount; the others are not looked at.
+-- 5D DELTAP1, 71 DELTAP2, 72 DELTAP3, DELTA exception P: .. argument p n ->, n pairs
+-- Each p, of zp0, whose argument acts at this size moves by its amount; the others are not looked at. Reads the delta base and shift.
 abbrev pub point_moved_at : GState → ℕ → Delta → ℤ → Zones → Outcome
-point_moved_at g ppem d p z = if int_eq d.ppem (pos ppem) then (moved_by g d.amount g.zp0 p z, stray_at g.zp0 p z) else (z, 0)
+point_moved_at g ppem d p z = if int_eq d.ppem (pos ppem) then on_point (moved_by g d.amount) g.zp0 p z else (z, 0)
 
 unfoldable pub point_delta : GState → DeltaForm → ℕ → ℤ → ℤ → Zones → Outcome
 point_delta g form ppem p argument z = point_moved_at g ppem (delta_of form g.delta_base g.delta_shift argument) p z

@@ -31,7 +31,8 @@ at_least g o d =
     then (if int_lt (negative_of g.minimum_distance) d then negative_of g.minimum_distance else d)
     else (if int_lt d g.minimum_distance then g.minimum_distance else d)
 
--- what the low bits of MDRP and MIRP say
+-- what the bits a, b, c, d, e of MDRP and MIRP say, the highest first: a (10) sets rp0, b (08) keeps the minimum distance, c (04)
+-- rounds, and in MIRP looks at the cut-in; d and e (02, 01), the kind of distance for the engine's compensation, do nothing
 abbrev pub relative_of : ℕ → Relative
 relative_of opcode = record {
   sets_rp0 = opcode / 16 % 2 == 1;

@@ -6,14 +6,14 @@ use Rattle.fx_zone.specs.Points.{flipped}
 use Rattle.fx_gstate.specs.declared.state.GState.{GState}
 use Rattle.fx_gstate.specs.declared.zones.ZonePointer.{ZonePointer}
 use Rattle.fx_pointops.specs.declared.zones.Zones.{Zones}
-use Rattle.fx_pointops.specs.Zones.{Outcome, on_zone, index_of, changed_at}
+use Rattle.fx_pointops.specs.Zones.{Outcome, on_zone, index_of, on_point}
 use Rattle.fx_pointops.specs.Measure.{stray_at}
 use Rattle.fx_pointops.specs.Loops.{each}
 
--- 80 FLIPPT  .. p ->
--- Each p, of zone 0, goes off the curve, or onto it.
+-- 80 FLIPPT, FLIP PoinT: .. p ->, a loop
+-- Each p, of zp0, goes off the curve, or onto it.
 unfoldable pub point_flipped : GState → ℤ → Zones → Outcome
-point_flipped g p z = (changed_at flipped g.zp0 p z, stray_at g.zp0 p z)
+point_flipped g p z = on_point flipped g.zp0 p z
 
 unfoldable pub flippt_of : GState → List ℤ → Zones → Outcome
 flippt_of g points z = each (point_flipped g) points z
@@ -28,7 +28,7 @@ run_curved_at on zone (Some low) (Some high) z = on_zone (run_curved on low high
 run_curved_at on zone (Some low) None z = z
 run_curved_at on zone None high z = z
 
--- 81 FLIPRGON, 82 FLIPRGOFF  low high ->
--- The points from low to high, of zone 0, go onto the curve, or off it; none if one of the two is a stray.
+-- 81 FLIPRGON, 82 FLIPRGOFF, FLIP RanGe: low high ->
+-- The points from low to high, of zp0, go onto the curve, or off it; none if one of the two is a stray.
 unfoldable pub fliprg_of : GState → Bool → ℤ → ℤ → Zones → Outcome
 fliprg_of g on low high z = (run_curved_at on g.zp0 (index_of low) (index_of high) z, stray_at g.zp0 low z + stray_at g.zp0 high z)

@@ -5,7 +5,7 @@ use Rattle.std.specs.Ordering.{int_eq}
 use Rattle.fx_fixed.specs.Numbers.{near_of, wrapped_of, difference_of}
 use Rattle.fx_gstate.specs.declared.state.GState.{GState}
 use Rattle.fx_pointops.specs.declared.zones.Zones.{Zones}
-use Rattle.fx_pointops.specs.Zones.{Outcome, with_strays}
+use Rattle.fx_pointops.specs.Zones.{Outcome, with_strays, on_point}
 use Rattle.fx_pointops.specs.ShiftPoint.{moved_by}
 use Rattle.fx_pointops.specs.Measure.{stray_at, distance_of, original_of}
 use Rattle.fx_pointops.specs.Loops.{each}
@@ -14,16 +14,13 @@ use Rattle.fx_pointops.specs.Loops.{each}
 unfoldable pub proportion_of : ℤ → ℤ → ℤ → ℤ
 proportion_of o cb ob = if int_eq ob (pos 0) then o else wrapped_of (near_of (o *ℤ cb) ob)
 
--- 39 IP  .. p ->
--- Each p, of zone 2, moves to the distance from reference point 1, of zone 0, that is to its original one as the current distance
--- cb
--- of reference point 2, of zone 1, to its original one ob. Both are measured once; reference point 1 may move on the way.
+-- 39 IP, Interpolate Point: .. p ->, a loop
+-- Let ob be the original distance of rp2, of zp1, from rp1, of zp0, and cb the current one, both measured once. Each p, of zp2, has an
+-- original distance o from rp1 and a current one c. It moves to the distance n from rp1 that is to o as cb to ob.
 unfoldable pub point_in_proportion : GState → ℤ → ℤ → ℤ → Zones → Outcome
-point_in_proportion g cb ob p z = (
-  moved_by g (difference_of (proportion_of (original_of g g.zp2 p g.zp0 g.rp1 z) cb ob) (distance_of g g.zp2 p g.zp0 g.rp1 z))
-      g.zp2 p z,
-  stray_at g.zp2 p z,
-)
+point_in_proportion g cb ob p z = on_point
+    (moved_by g (difference_of (proportion_of (original_of g g.zp2 p g.zp0 g.rp1 z) cb ob) (distance_of g g.zp2 p g.zp0 g.rp1 z)))
+    g.zp2 p z
 
 unfoldable pub ip_of : GState → List ℤ → Zones → Outcome
 ip_of g points z =

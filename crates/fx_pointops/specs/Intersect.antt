@@ -8,7 +8,7 @@ use Rattle.fx_fixed.specs.declared.places.Place.{Place}
 use Rattle.fx_zone.specs.Points.{put}
 use Rattle.fx_gstate.specs.declared.state.GState.{GState}
 use Rattle.fx_pointops.specs.declared.zones.Zones.{Zones}
-use Rattle.fx_pointops.specs.Zones.{Outcome, changed_at}
+use Rattle.fx_pointops.specs.Zones.{Outcome, with_strays, on_point}
 use Rattle.fx_pointops.specs.Measure.{cur_at, stray_at}
 
 -- the cross product of two differences of places
@@ -40,10 +40,9 @@ intersection_of a0 a1 b0 b1 =
     then middle_of a0 a1 b0 b1
     else crossing_of a0 (place_difference_of a1 a0) (place_difference_of b1 b0) (place_difference_of b0 a0)
 
--- 0F ISECT  p a0 a1 b0 b1 ->
--- p, of zone 2, is put where the lines a, of zone 1, and b, of zone 0, cross, and touched along both axes.
+-- 0F ISECT, InterSECTion of two lines: p a0 a1 b0 b1 ->
+-- p, of zp2, is put where the line a0 a1, of zp1, and the line b0 b1, of zp0, cross, and touched along both axes.
 unfoldable pub isect_of : GState → ℤ → ℤ → ℤ → ℤ → ℤ → Zones → Outcome
-isect_of g p a0 a1 b0 b1 z = (
-  changed_at (put (intersection_of (cur_at g.zp1 a0 z) (cur_at g.zp1 a1 z) (cur_at g.zp0 b0 z) (cur_at g.zp0 b1 z))) g.zp2 p z,
-  stray_at g.zp2 p z + stray_at g.zp1 a0 z + stray_at g.zp1 a1 z + stray_at g.zp0 b0 z + stray_at g.zp0 b1 z,
-)
+isect_of g p a0 a1 b0 b1 z = with_strays
+    (stray_at g.zp1 a0 z + stray_at g.zp1 a1 z + stray_at g.zp0 b0 z + stray_at g.zp0 b1 z)
+    (on_point (put (intersection_of (cur_at g.zp1 a0 z) (cur_at g.zp1 a1 z) (cur_at g.zp0 b0 z) (cur_at g.zp0 b1 z))) g.zp2 p z)

@@ -4,7 +4,7 @@ use Rattle.fx_fixed.specs.declared.places.Axis.{Axis}
 use Rattle.fx_zone.specs.Interpolation.{figure_interpolated}
 use Rattle.fx_pointops.specs.declared.zones.Zones.{Zones}
 
--- 30 IUP y, 31 IUP x  ->
--- The untouched points of the glyph zone are interpolated along an axis.
+-- 30-31 IUP[a], Interpolate Untouched Points: ->
+-- The untouched points of the glyph zone are interpolated, with 0 along the y axis, with 1 along the x axis, whatever zp2 is.
 unfoldable pub iup_of : Axis → Zones → Zones
 iup_of axis z = record z { glyph = figure_interpolated axis z.glyph }

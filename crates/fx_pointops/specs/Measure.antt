@@ -34,24 +34,24 @@ distance_of g zone p base q z = along g (place_difference_of (cur_at zone p z) (
 abbrev pub original_of : GState → ZonePointer → ℤ → ZonePointer → ℤ → Zones → ℤ
 original_of g zone p base q z = along_dual g (place_difference_of (org_at zone p z) (org_at base q z))
 
--- 46-47 GC  p -> v
--- The coordinate of p, of zone 2: the current one, or with 1 the original one.
+-- 46-47 GC[a], Get Coordinate: p -> v
+-- The coordinate of p, of zp2: with 0 the current one, with 1 the original one, along the dual vector.
 unfoldable pub gc_of : GState → Bool → ℤ → Zones → ℤ × ℕ
 gc_of g original p z = (
   if original then along_dual g (org_at g.zp2 p z) else along g (cur_at g.zp2 p z),
   stray_at g.zp2 p z,
 )
 
--- 49-4A MD  p q -> v
--- The distance of p, of zone 0, from q, of zone 1: the current one, or the original one.
+-- 49-4A MD[a], Measure Distance: p q -> v
+-- The distance of p, of zp0, from q, of zp1: 49 the current one; 4A the original one, along the dual vector.
 unfoldable pub md_of : GState → Bool → ℤ → ℤ → Zones → ℤ × ℕ
 md_of g original p q z = (
   if original then original_of g g.zp0 p g.zp1 q z else distance_of g g.zp0 p g.zp1 q z,
   stray_at g.zp0 p z + stray_at g.zp1 q z,
 )
 
--- 06-07 SPVTL, 08-09 SFVTL, 86-87 SDPVTL  p1 p2
--- The line to p1, of zone 1, from p2, of zone 2: the difference of their original and of their current places.
+-- 06-07 SPVTL[a], 08-09 SFVTL[a], 86-87 SDPVTL[a]: p1 p2 ->
+-- The line to p1, of zp1, from p2, of zp2: the difference of their original and of their current places.
 unfoldable pub line_between : GState → ℤ → ℤ → Zones → Line × ℕ
 line_between g p1 p2 z = (
   record {

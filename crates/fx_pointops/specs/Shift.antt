@@ -15,7 +15,7 @@ use Rattle.fx_pointops.specs.ShiftPoint.{shift_by, point_shifted}
 use Rattle.fx_pointops.specs.Measure.{org_at, cur_at, stray_at, along}
 use Rattle.fx_pointops.specs.Loops.{each}
 
--- the reference point: with 0 point 2, of zone 1; with 1 point 1, of zone 0
+-- the reference point: with 0 rp2, of zp1; with 1 rp1, of zp0
 abbrev pub reference_zone : GState → Bool → ZonePointer
 reference_zone g one = if one then g.zp0 else g.zp1
 
@@ -36,8 +36,8 @@ reference_shift g one z = shift_by g (moved_of g (reference_zone g one) (referen
 abbrev pub excepted : GState → Bool → ZonePointer → Option ℕ
 excepted g one zone = if is_same_zone (reference_zone g one) zone then index_of (reference_point g one) else None
 
--- 32-33 SHP  .. p ->
--- Each p, of zone 2, is shifted.
+-- 32-33 SHP[a], SHift Point: .. p ->, a loop
+-- Each p, of zp2, is shifted as the reference point was moved (a: takes rp1).
 unfoldable pub shp_of : GState → Bool → List ℤ → Zones → Outcome
 shp_of g one points z = with_strays (reference_stray g one z) (each (point_shifted g (reference_shift g one z)) points z)
 
@@ -53,8 +53,8 @@ abbrev pub stray_contour : Option (ℕ × ℕ) → ℕ
 stray_contour (Some c) = 0
 stray_contour None = 1
 
--- 34-35 SHC  k ->
--- The points of contour k, of zone 2, are shifted, but the reference point. A contour that is not there is a stray.
+-- 34-35 SHC[a], SHift Contour: k ->
+-- The points of contour k, of zp2, are shifted, but the reference point. A contour that is not there is a stray.
 abbrev pub contour_shifted : GState → Place → Option ℕ → Option (ℕ × ℕ) → Zones → Zones
 contour_shifted g by except (Some c) z =
     on_zone (range_shifted by (has_part X g.freedom) (has_part Y g.freedom) except c.0 c.1) g.zp2 z
@@ -66,7 +66,7 @@ shc_of g one k z = (
   reference_stray g one z + stray_contour (contour_at g.zp2 k z),
 )
 
--- 36-37 SHZ  z ->
+-- 36-37 SHZ[a], SHift Zone: z ->
 -- The points of a zone are shifted, but the reference point and a glyph's four phantom points, which are the last. None is touched.
 abbrev pub count_without_phantoms : ZonePointer → Zones → ℕ
 count_without_phantoms Twilight z = length z.twilight.points

@@ -3,25 +3,25 @@
 use Rattle.std.specs.Prelude.{ℤ}
 use Rattle.fx_fixed.specs.declared.places.Axis.TheVariants.{X, Y}
 use Rattle.fx_fixed.specs.declared.places.Place.{Place}
+use Rattle.fx_zone.specs.declared.point.Point.{Point}
 use Rattle.fx_zone.specs.Points.{shifted}
 use Rattle.fx_gstate.specs.declared.state.GState.{GState}
-use Rattle.fx_gstate.specs.declared.zones.ZonePointer.{ZonePointer}
 use Rattle.fx_gstate.specs.Vectors.{has_part, shift_of}
 use Rattle.fx_pointops.specs.declared.zones.Zones.{Zones}
-use Rattle.fx_pointops.specs.Zones.{Outcome, changed_at, point_at, stray_of}
+use Rattle.fx_pointops.specs.Zones.{Outcome, on_point}
 
 -- a point shifted, and touched along each axis along which the freedom vector has a part
-unfoldable pub shifted_by : GState → Place → ZonePointer → ℤ → Zones → Zones
-shifted_by g by zone p z = changed_at (shifted by (has_part X g.freedom) (has_part Y g.freedom)) zone p z
+unfoldable pub shifted_by : GState → Place → Point → Point
+shifted_by g by p = shifted by (has_part X g.freedom) (has_part Y g.freedom) p
 
 -- the shift that moves a point by a distance
 abbrev pub shift_by : GState → ℤ → Place
 shift_by g d = shift_of g.freedom g.projection d
 
 -- a point moved by a distance
-unfoldable pub moved_by : GState → ℤ → ZonePointer → ℤ → Zones → Zones
-moved_by g d zone p z = shifted_by g (shift_by g d) zone p z
+unfoldable pub moved_by : GState → ℤ → Point → Point
+moved_by g d p = shifted_by g (shift_by g d) p
 
--- a point of zone 2 shifted, as SHP and SHPIX do
+-- a point of zp2 shifted, as SHP and SHPIX do
 unfoldable pub point_shifted : GState → Place → ℤ → Zones → Outcome
-point_shifted g by p z = (shifted_by g by g.zp2 p z, stray_of (point_at g.zp2 p z))
+point_shifted g by p z = on_point (shifted_by g by) g.zp2 p z

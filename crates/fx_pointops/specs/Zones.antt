@@ -1,6 +1,8 @@
 -- The points of both zones, as instructions find and change them, and the strays that they count.
 -- Apple TrueType Reference Manual, "Zones"; what a stray does is this project's own choice.
-use Rattle.std.specs.Prelude.{ℕ, ◌+◌, ℤ, pos, negsuc, Bool, true, false, List, Option, Some, None, slice_get}
+-- zp0, zp1, zp2 are the zone pointers, rp0, rp1, rp2 the reference points. Zone 0 is the twilight zone, zone 1 the glyph's. A point "of
+-- zp0" is one of the zone that zp0 names.
+use Rattle.std.specs.Prelude.{ℕ, ◌+◌, ℤ, pos, negsuc, Bool, true, false, List, Option, Some, None, slice_get, slice_set}
 use Rattle.fx_fixed.specs.Places.{origin}
 use Rattle.fx_fixed.specs.declared.places.Place.{Place}
 use Rattle.fx_zone.specs.declared.point.Point.{Point}
@@ -56,10 +58,22 @@ changed_of change zone (Some n) z = on_zone (changed change n) zone z
 unfoldable pub changed_at : (Point → Point) → ZonePointer → ℤ → Zones → Zones
 changed_at change zone n z = changed_of change zone (index_of n) z
 
+-- the point of a number written; nothing if it is outside
+abbrev pub written_of : Point → ZonePointer → Option ℕ → Zones → Zones
+written_of p zone None z = z
+written_of p zone (Some n) z = on_zone (λ f. record f { points = slice_set f.points n p }) zone z
+
+unfoldable pub written_at : Point → ZonePointer → ℤ → Zones → Zones
+written_at p zone n z = written_of p zone (index_of n) z
+
 -- a point that is not inside is a stray
 abbrev pub stray_of : Option Point → ℕ
 stray_of (Some p) = 0
 stray_of None = 1
+
+-- a row that changes one point, and counts it if it is a stray
+abbrev pub on_point : (Point → Point) → ZonePointer → ℤ → Zones → Outcome
+on_point change zone n z = (changed_at change zone n z, stray_of (point_at zone n z))
 
 -- and reads as (0, 0)
 abbrev pub org_of : Option Point → Place

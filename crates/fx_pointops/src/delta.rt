@@ -5,13 +5,13 @@ ghost use Rattle.fx_pointops.specs.Zones.{HasShapes};
 ghost use Rattle.fx_pointops.specs.Loops.{each_pair};
 ghost use Rattle.fx_pointops.specs.Delta.{point_delta, deltap_of};
 
-use crate::zones::{Zones, stray};
+use crate::zones::Zones;
 use fx_fixed::Ppem;
 use fx_gstate::{DeltaForm, GState};
 
 impl Zones {
     /// Moves a point if its argument acts at this size.
-    #[tactic(auto, unfolding(crate::specs::Delta::point_delta))]
+    #[tactic(auto, unfolding(crate::specs::Delta::point_delta), using(crate::proofs::Setting::stray_is))]
     fn move_at_size(
         &mut self,
         g: &GState,
@@ -29,9 +29,11 @@ impl Zones {
         if !delta.acts_at(*ppem) {
             return 0;
         }
-        let point = self.point(g.zp0, p);
-        self.move_by(g, g.zp0, p, amount);
-        stray(&point)
+        let Some(point) = self.point(g.zp0, p) else {
+            return 1;
+        };
+        self.move_point(g, g.zp0, p, point, amount);
+        0
     }
 
     /// Moves the points of pairs, the last of the slice first.
@@ -50,7 +52,8 @@ impl Zones {
         strays
     }
 
-    /// DELTAP1 to DELTAP3: moves the points of pairs at this size. A pair is an argument and, after it, its point.
+    /// 5D DELTAP1, 71 DELTAP2, 72 DELTAP3, DELTA exception P: moves each p, of zp0, whose argument acts at this size. A pair is
+    /// an argument and, after it, its point.
     #[tactic(auto, unfolding(crate::specs::Delta::deltap_of))]
     pub fn deltap(&mut self, g: &GState, form: DeltaForm, ppem: Ppem, pairs: &[i32]) -> u64
         ensures value { (self.new, result) ≡ deltap_of g.now form ppem (reverse pairs.now) self.old }

@@ -3,12 +3,16 @@
 ghost use Rattle.std.specs.Prelude.{◌≡◌, ◌+◌, ◌≤◌, length, reverse};
 ghost use Rattle.fx_pointops.specs.Zones.{HasShapes};
 ghost use Rattle.fx_pointops.specs.Loops.{each};
-ghost use Rattle.fx_pointops.specs.Direct.{untouched_along, utp_of, to_grid, mdap_of, laid_at_distance, moved_to_distance, msirp_of, aligned_to_rp, alignrp_of, half_of, alignpts_of, scfs_of, shpix_of, wanted_of, mdrp_of};
+ghost use Rattle.fx_pointops.specs.Measure.{org_at};
+ghost use Rattle.fx_pointops.specs.Direct.{untouched_along, untouched_by, utp_of, to_grid, moved_to_grid, mdap_of, laid_from_rp, moved_to_distance};
+ghost use Rattle.fx_pointops.specs.Direct.{msirp_of, aligned_to_rp, alignrp_of, half_of, alignpts_of, moved_to_value, scfs_of, shpix_of, wanted_of, mdrp_of};
 
 use crate::distances::{Relative, kept_by, negative, rounded_by, single};
+use crate::shift_point::moved_by;
 use crate::zones::{Zones, cur, is_twilight, org, stray};
-use fx_fixed::{Axis, F26, cut, w32};
+use fx_fixed::{Axis, F26, Place, cut, w32};
 use fx_gstate::GState;
+use fx_zone::Point;
 
 /// The move that puts a coordinate on the grid, or none.
 fn to_grid(g: &GState, rounds: bool, c: F26) -> F26
@@ -33,55 +37,100 @@ fn wanted(g: &GState, how: Relative, o: F26) -> F26
     kept_by(g, how, o, rounded_by(g, how, o))
 }
 
-impl Zones {
-    /// Untouches a point along an axis, if the freedom vector has a part along it.
-    fn untouch_along(&mut self, g: &GState, axis: Axis, p: i32)
-        ensures value { self.new ≡ untouched_along g.now axis p self.old }
-        ensures shapes { HasShapes self.old self.new }
-    {
-        if g.touches(axis) {
-            self.untouch(g.zp0, p, axis);
-        }
+/// A point untouched along an axis, if the freedom vector has a part along it.
+fn untouched_along(g: &GState, axis: Axis, point: Point) -> Point
+    ensures { result ≡ untouched_along g.now axis point }
+{
+    if g.touches(axis) {
+        point.marked(axis, false)
+    } else {
+        point
     }
+}
 
-    /// UTP: untouches a point.
-    #[tactic(auto, unfolding(crate::specs::Direct::utp_of))]
+/// A point untouched along each axis along which the freedom vector has a part.
+#[tactic(auto, unfolding(crate::specs::Direct::untouched_by))]
+fn untouched_by(g: &GState, point: Point) -> Point
+    ensures { result ≡ untouched_by g.now point }
+{
+    let point = untouched_along(g, Axis::X, point);
+    untouched_along(g, Axis::Y, point)
+}
+
+/// A point moved to its coordinate, or to the rounded one.
+#[tactic(auto, unfolding(crate::specs::Direct::moved_to_grid))]
+fn moved_to_grid(g: &GState, rounds: bool, point: Point) -> Point
+    ensures { result ≡ moved_to_grid g.now rounds point }
+{
+    let d = to_grid(g, rounds, g.project_place(point.cur));
+    moved_by(g, d, point)
+}
+
+/// A point moved to a coordinate, which becomes its original one in the twilight zone.
+#[tactic(auto, unfolding(crate::specs::Direct::moved_to_value))]
+fn moved_to_value(g: &GState, v: F26, point: Point) -> Point
+    ensures { result ≡ moved_to_value g.now v point }
+{
+    let moved = moved_by(g, v.minus(g.project_place(point.cur)), point);
+    if is_twilight(g.zp2) {
+        moved.settled()
+    } else {
+        moved
+    }
+}
+
+impl Zones {
+    /// 29 UTP, UnTouch Point: untouches p, of zp0, along each axis along which the freedom vector has a part.
+    #[tactic(auto, unfolding(crate::specs::Direct::utp_of), using(crate::proofs::Setting::stray_is))]
     pub fn utp(&mut self, g: &GState, p: i32) -> u64
         ensures value { (self.new, result) ≡ utp_of g.now p self.old }
         ensures few { result ≤ 1 }
         ensures shapes { HasShapes self.old self.new }
     {
-        let point = self.point(g.zp0, p);
-        self.untouch_along(g, Axis::X, p);
-        self.untouch_along(g, Axis::Y, p);
-        stray(&point)
+        let Some(point) = self.point(g.zp0, p) else {
+            return 1;
+        };
+        self.set(g.zp0, p, untouched_by(g, point));
+        0
     }
 
-    /// MDAP: moves a point to its place, or to the rounded one.
-    #[tactic(auto, unfolding(crate::specs::Direct::mdap_of))]
+    /// 2E-2F MDAP[a], Move Direct Absolute Point: moves p, of zp0, by 0, or with 1 to its rounded coordinate.
+    #[tactic(auto, unfolding(crate::specs::Direct::mdap_of), using(crate::proofs::Setting::stray_is))]
     pub fn mdap(&mut self, g: &GState, rounds: bool, p: i32) -> u64
         ensures value { (self.new, result) ≡ mdap_of g.now rounds p self.old }
         ensures few { result ≤ 1 }
         ensures shapes { HasShapes self.old self.new }
     {
-        let point = self.point(g.zp0, p);
-        let d = to_grid(g, rounds, g.project_place(cur(&point)));
-        self.move_by(g, g.zp0, p, d);
-        stray(&point)
+        let Some(point) = self.point(g.zp0, p) else {
+            return 1;
+        };
+        self.set(g.zp0, p, moved_to_grid(g, rounds, point));
+        0
     }
 
-    /// Lays a point of the twilight zone at a distance from reference point 0.
-    fn lay_at_distance(&mut self, g: &GState, p: i32, d: F26)
-        ensures value { self.new ≡ laid_at_distance g.now p d self.old }
+    /// The original place of reference point 0.
+    fn original_place(&self, g: &GState) -> Place
+        ensures { result ≡ org_at g.now.zp0 g.now.rp0 self.now }
+    {
+        org(&self.point(g.zp0, g.rp0))
+    }
+
+    /// Lays a point of zp1 at reference point 0 and a place from there, if zp1 is the twilight zone.
+    #[tactic(auto, using(crate::proofs::Setting::unchanged))]
+    pub(crate) fn lay_from_rp(&mut self, g: &GState, p: i32, by: Place)
+        ensures value { self.new ≡ laid_from_rp g.now p by self.old }
         ensures shapes { HasShapes self.old self.new }
     {
-        if is_twilight(g.zp1) {
-            let from = org(&self.point(g.zp0, g.rp0));
-            self.lay(g.zp1, p, from.plus(g.shift_place(d)));
+        if !is_twilight(g.zp1) {
+            return;
+        }
+        let from = self.original_place(g);
+        if let Some(point) = self.point(g.zp1, p) {
+            self.set(g.zp1, p, point.laid(from.plus(by)));
         }
     }
 
-    /// Moves a point to a distance from reference point 0.
+    /// Moves a point of zp1 to a distance from reference point 0.
     pub(crate) fn move_to_distance(&mut self, g: &GState, p: i32, d: F26)
         ensures value { self.new ≡ moved_to_distance g.now p d self.old }
         ensures shapes { HasShapes self.old self.new }
@@ -90,7 +139,7 @@ impl Zones {
         self.move_by(g, g.zp1, p, d.minus(c));
     }
 
-    /// MSIRP: moves a point to a distance from reference point 0.
+    /// 3A-3B MSIRP[a], Move Stack Indirect Relative Point: moves p, of zp1, to the distance d from rp0, of zp0.
     #[tactic(auto, unfolding(crate::specs::Direct::msirp_of))]
     pub fn msirp(&mut self, g: &GState, p: i32, d: F26) -> u64
         ensures value { (self.new, result) ≡ msirp_of g.now p d self.old }
@@ -99,22 +148,24 @@ impl Zones {
     {
         let point = self.point(g.zp1, p);
         let base = self.point(g.zp0, g.rp0);
-        self.lay_at_distance(g, p, d);
+        self.lay_from_rp(g, p, g.shift_place(d));
         self.move_to_distance(g, p, d);
         stray(&point) + stray(&base)
     }
 
     /// Moves a point to the distance 0 from reference point 0.
-    #[tactic(auto, unfolding(crate::specs::Direct::aligned_to_rp))]
+    #[tactic(auto, unfolding(crate::specs::Direct::aligned_to_rp), using(crate::proofs::Setting::stray_is))]
     fn align_to_rp(&mut self, g: &GState, p: i32) -> u64
         ensures value { (self.new, result) ≡ aligned_to_rp g.now p self.old }
         ensures few { result ≤ 1 }
         ensures shapes { HasShapes self.old self.new }
     {
-        let point = self.point(g.zp1, p);
-        let c = self.distance(g, g.zp1, p, g.zp0, g.rp0);
-        self.move_by(g, g.zp1, p, negative(c));
-        stray(&point)
+        let Some(point) = self.point(g.zp1, p) else {
+            return 1;
+        };
+        let c = g.project_place(point.cur.minus(cur(&self.point(g.zp0, g.rp0))));
+        self.move_point(g, g.zp1, p, point, negative(c));
+        0
     }
 
     /// Moves points to the distance 0 from reference point 0, the last of the slice first.
@@ -133,7 +184,7 @@ impl Zones {
         strays
     }
 
-    /// ALIGNRP: moves points to the distance 0 from reference point 0.
+    /// 3C ALIGNRP, ALIGN Relative Point: moves each p, of zp1, to the distance 0 from rp0, of zp0.
     #[tactic(auto, unfolding(crate::specs::Direct::alignrp_of))]
     pub fn alignrp(&mut self, g: &GState, points: &[i32]) -> u64
         ensures value { (self.new, result) ≡ alignrp_of g.now (reverse points.now) self.old }
@@ -145,7 +196,7 @@ impl Zones {
         stray(&base) + strays
     }
 
-    /// ALIGNPTS: moves two points to the middle between them.
+    /// 27 ALIGNPTS, ALIGN Points: moves p, of zp1, and q, of zp0, halfway to each other.
     #[tactic(auto, unfolding(crate::specs::Direct::alignpts_of))]
     pub fn alignpts(&mut self, g: &GState, p: i32, q: i32) -> u64
         ensures value { (self.new, result) ≡ alignpts_of g.now p q self.old }
@@ -160,23 +211,21 @@ impl Zones {
         stray(&first) + stray(&second)
     }
 
-    /// SCFS: moves a point to a coordinate.
-    #[tactic(auto, unfolding(crate::specs::Direct::scfs_of))]
+    /// 48 SCFS, Sets Coordinate From the Stack: moves p, of zp2, to the coordinate v.
+    #[tactic(auto, unfolding(crate::specs::Direct::scfs_of), using(crate::proofs::Setting::stray_is))]
     pub fn scfs(&mut self, g: &GState, p: i32, v: F26) -> u64
         ensures value { (self.new, result) ≡ scfs_of g.now p v self.old }
         ensures few { result ≤ 1 }
         ensures shapes { HasShapes self.old self.new }
     {
-        let point = self.point(g.zp2, p);
-        let d = v.minus(g.project_place(cur(&point)));
-        self.move_by(g, g.zp2, p, d);
-        if is_twilight(g.zp2) {
-            self.settle(g.zp2, p);
-        }
-        stray(&point)
+        let Some(point) = self.point(g.zp2, p) else {
+            return 1;
+        };
+        self.set(g.zp2, p, moved_to_value(g, v, point));
+        0
     }
 
-    /// SHPIX: shifts points by a distance along the freedom vector.
+    /// 38 SHPIX, SHift point by a PIXel amount: shifts each p, of zp2, by a along the freedom vector.
     #[tactic(auto, unfolding(crate::specs::Direct::shpix_of))]
     pub fn shpix(&mut self, g: &GState, points: &[i32], a: F26) -> u64
         ensures value { (self.new, result) ≡ shpix_of g.now (reverse points.now) a self.old }
@@ -187,7 +236,8 @@ impl Zones {
         self.shift_each(g, &by, points)
     }
 
-    /// MDRP: moves a point to its original distance from reference point 0.
+    /// C0-DF MDRP[abcde], Move Direct Relative Point: moves p, of zp1, to its original distance from rp0, of zp0, or the single
+    /// width. `how` has the bits: rounded, at least the minimum distance.
     #[tactic(auto, unfolding(crate::specs::Direct::mdrp_of))]
     pub fn mdrp(&mut self, g: &GState, how: Relative, p: i32) -> u64
         ensures value { (self.new, result) ≡ mdrp_of g.now how p self.old }
@@ -202,7 +252,7 @@ impl Zones {
         };
         let o = g.dual_project_place(point.org.minus(base.org));
         let c = g.project_place(point.cur.minus(base.cur));
-        self.move_by(g, g.zp1, p, wanted(g, how, o).minus(c));
+        self.move_point(g, g.zp1, p, point, wanted(g, how, o).minus(c));
         0
     }
 

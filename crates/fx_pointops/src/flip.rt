@@ -23,15 +23,17 @@ fn curve_run(zone: &mut Zone, on: bool, low: usize, high: usize)
 
 impl Zones {
     /// Flips a point: on the curve, or off it.
-    #[tactic(auto, unfolding(crate::specs::Flip::point_flipped))]
+    #[tactic(auto, unfolding(crate::specs::Flip::point_flipped), using(crate::proofs::Setting::stray_is))]
     fn flip_point(&mut self, g: &GState, p: i32) -> u64
         ensures value { (self.new, result) ≡ point_flipped g.now p self.old }
         ensures few { result ≤ 1 }
         ensures shapes { HasShapes self.old self.new }
     {
-        let point = self.point(g.zp0, p);
-        self.flip(g.zp0, p);
-        stray(&point)
+        let Some(point) = self.point(g.zp0, p) else {
+            return 1;
+        };
+        self.set(g.zp0, p, point.flipped());
+        0
     }
 
     /// Flips points, the last of the slice first.
@@ -50,7 +52,7 @@ impl Zones {
         strays
     }
 
-    /// FLIPPT: flips points.
+    /// 80 FLIPPT, FLIP PoinT: each p, of zp0, goes off the curve, or onto it.
     #[tactic(auto, unfolding(crate::specs::Flip::flippt_of))]
     pub fn flippt(&mut self, g: &GState, points: &[i32]) -> u64
         ensures value { (self.new, result) ≡ flippt_of g.now (reverse points.now) self.old }
@@ -77,7 +79,7 @@ impl Zones {
         }
     }
 
-    /// FLIPRGON and FLIPRGOFF: makes the points from `low` to `high` ones on the curve, or off it.
+    /// 81 FLIPRGON, 82 FLIPRGOFF, FLIP RanGe: the points from low to high, of zp0, go onto the curve, or off it.
     #[tactic(auto, unfolding(crate::specs::Flip::fliprg_of))]
     pub fn fliprg(&mut self, g: &GState, on: bool, low: i32, high: i32) -> u64
         ensures value { (self.new, result) ≡ fliprg_of g.now on low high self.old }

@@ -3,12 +3,15 @@
 ghost use Rattle.std.specs.Prelude.{◌≡◌, ◌≤◌};
 ghost use Rattle.fx_pointops.specs.Zones.{HasShapes};
 ghost use Rattle.fx_pointops.specs.inner.Controlled.{mirp_distance_of, mirp_outside_of};
-ghost use Rattle.fx_pointops.specs.Indirect.{is_cut_off, laid_along, aimed_of, moved_to_coordinate, miap_of, laid_from_rp, is_one_negative, auto_flipped, cut_in_by, controlled_of, moved_to_control, mirp_of};
+ghost use Rattle.fx_pointops.specs.Indirect.{is_cut_off, laid_along, aimed_of, moved_to_coordinate, miap_of, is_one_negative};
+ghost use Rattle.fx_pointops.specs.Indirect.{auto_flipped, cut_in_by, controlled_of, moved_to_control, mirp_of};
 
 use crate::distances::{Relative, is_below, kept_by, negative, single, size};
-use crate::zones::{Zones, cur, is_same_zone, is_twilight, org, stray};
+use crate::shift_point::moved_by;
+use crate::zones::{Zones, is_same_zone, is_twilight, stray};
 use fx_fixed::F26;
 use fx_gstate::GState;
+use fx_zone::Point;
 
 /// Whether two distances are further apart than the control value cut-in.
 fn is_cut_off(g: &GState, v: F26, o: F26) -> bool
@@ -81,48 +84,41 @@ fn mirp_distance(g: &GState, how: Relative, o: F26, v: F26) -> F26
     controlled(g, how, o, auto_flipped(g, o, v))
 }
 
+/// A point laid at a control value, if zp0 is the twilight zone.
+fn laid_along(g: &GState, v: F26, point: Point) -> Point
+    ensures { result ≡ laid_along g.now v point }
+{
+    if is_twilight(g.zp0) {
+        point.laid(g.freedom_place(v))
+    } else {
+        point
+    }
+}
+
+/// A point moved to a control value.
+#[tactic(auto, unfolding(crate::specs::Indirect::moved_to_coordinate))]
+fn moved_to_coordinate(g: &GState, rounds: bool, v: F26, point: Point) -> Point
+    ensures { result ≡ moved_to_coordinate g.now rounds v point }
+{
+    let c = g.project_place(point.cur);
+    moved_by(g, aimed(g, rounds, v, c).minus(c), point)
+}
+
 impl Zones {
-    /// Lays a point of the twilight zone at a control value.
-    fn lay_along(&mut self, g: &GState, p: i32, v: F26)
-        ensures value { self.new ≡ laid_along g.now p v self.old }
-        ensures shapes { HasShapes self.old self.new }
-    {
-        if is_twilight(g.zp0) {
-            self.lay(g.zp0, p, g.freedom_place(v));
-        }
-    }
-
-    /// Moves a point to a control value.
-    fn move_to_coordinate(&mut self, g: &GState, rounds: bool, p: i32, v: F26)
-        ensures value { self.new ≡ moved_to_coordinate g.now rounds p v self.old }
-        ensures shapes { HasShapes self.old self.new }
-    {
-        let c = g.project_place(cur(&self.point(g.zp0, p)));
-        self.move_by(g, g.zp0, p, aimed(g, rounds, v, c).minus(c));
-    }
-
-    /// MIAP: moves a point to a control value.
-    #[tactic(auto, unfolding(crate::specs::Indirect::miap_of))]
+    /// 3E-3F MIAP[a], Move Indirect Absolute Point: moves p, of zp0, to the control value v; with 1 rounded, or to its own
+    /// coordinate rounded if v is beyond the cut-in.
+    #[tactic(auto, unfolding(crate::specs::Indirect::miap_of), using(crate::proofs::Setting::stray_is))]
     pub fn miap(&mut self, g: &GState, rounds: bool, p: i32, v: F26) -> u64
         ensures value { (self.new, result) ≡ miap_of g.now rounds p v self.old }
         ensures few { result ≤ 1 }
         ensures shapes { HasShapes self.old self.new }
     {
-        let point = self.point(g.zp0, p);
-        self.lay_along(g, p, v);
-        self.move_to_coordinate(g, rounds, p, v);
-        stray(&point)
-    }
-
-    /// Lays a point of the twilight zone at a control value from reference point 0.
-    fn lay_from_rp(&mut self, g: &GState, p: i32, v: F26)
-        ensures value { self.new ≡ laid_from_rp g.now p v self.old }
-        ensures shapes { HasShapes self.old self.new }
-    {
-        if is_twilight(g.zp1) {
-            let from = org(&self.point(g.zp0, g.rp0));
-            self.lay(g.zp1, p, from.plus(g.freedom_place(v)));
-        }
+        let Some(point) = self.point(g.zp0, p) else {
+            return 1;
+        };
+        let point = laid_along(g, v, point);
+        self.set(g.zp0, p, moved_to_coordinate(g, rounds, v, point));
+        0
     }
 
     /// Moves a point to a control value from reference point 0.
@@ -135,7 +131,9 @@ impl Zones {
         self.move_to_distance(g, p, d);
     }
 
-    /// MIRP: moves a point to a control value from reference point 0.
+    /// E0-FF MIRP[abcde], Move Indirect Relative Point: moves p, of zp1, to the distance of the control value v from rp0, of
+    /// zp0. `how` has the bits: rounded and within the cut-in, at least the minimum distance. Reads the single width and auto
+    /// flip.
     #[tactic(auto, unfolding(crate::specs::Indirect::mirp_of, crate::specs::inner::Controlled::mirp_outside_of, crate::specs::inner::Controlled::mirp_distance_of))]
     pub fn mirp(&mut self, g: &GState, how: Relative, p: i32, v: F26) -> u64
         ensures value { (self.new, result) ≡ mirp_of g.now how p v self.old }
@@ -163,7 +161,7 @@ impl Zones {
         };
         let o = g.dual_project_place(point.org.minus(base.org));
         let c = g.project_place(point.cur.minus(base.cur));
-        self.move_by(g, g.zp1, p, mirp_distance(g, how, o, v).minus(c));
+        self.move_point(g, g.zp1, p, point, mirp_distance(g, how, o, v).minus(c));
         0
     }
 
@@ -193,7 +191,7 @@ impl Zones {
         let point = self.point(g.zp1, p);
         let base = self.point(g.zp0, g.rp0);
         let v = single(g, v);
-        self.lay_from_rp(g, p, v);
+        self.lay_from_rp(g, p, g.freedom_place(v));
         self.move_to_control(g, how, p, v);
         stray(&point) + stray(&base)
     }

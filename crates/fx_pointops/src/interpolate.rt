@@ -57,7 +57,7 @@ impl Zones {
         };
         let o = g.dual_project_place(point.org.minus(base.org));
         let c = g.project_place(point.cur.minus(base.cur));
-        self.move_by(g, g.zp2, p, proportion(o, *cb, *ob).minus(c));
+        self.move_point(g, g.zp2, p, point, proportion(o, *cb, *ob).minus(c));
         0
     }
 
@@ -92,7 +92,7 @@ impl Zones {
         strays
     }
 
-    /// IP: keeps points in proportion between reference points 1 and 2.
+    /// 39 IP, Interpolate Point: moves each p, of zp2, in proportion between rp1, of zp0, and rp2, of zp1.
     #[tactic(auto, unfolding(crate::specs::Interpolate::ip_of))]
     pub fn ip(&mut self, g: &GState, points: &[i32]) -> u64
         ensures value { (self.new, result) ≡ ip_of g.now (reverse points.now) self.old }

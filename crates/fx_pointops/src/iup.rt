@@ -8,7 +8,7 @@ use crate::zones::Zones;
 use fx_fixed::Axis;
 
 impl Zones {
-    /// IUP: interpolates the untouched points of the glyph zone along an axis. It counts no strays.
+    /// 30-31 IUP[a], Interpolate Untouched Points: those of the glyph zone, with 0 in y, with 1 in x. It counts no strays.
     #[tactic(auto, unfolding(crate::specs::Iup::iup_of))]
     pub fn iup(&mut self, axis: Axis)
         ensures value { self.new ≡ iup_of axis self.old }

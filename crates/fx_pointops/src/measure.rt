@@ -47,7 +47,7 @@ impl Zones {
         g.dual_project_place(to.minus(from))
     }
 
-    /// GC: the coordinate of a point along the projection vector, or its original one along the dual projection vector.
+    /// 46-47 GC[a], Get Coordinate: that of p, of zp2: with 0 the current one, with 1 the original one, along the dual vector.
     #[tactic(auto, unfolding(crate::specs::Measure::gc_of))]
     pub fn gc(&self, g: &GState, original: bool, p: i32) -> (F26, u64)
         ensures value { result ≡ gc_of g.now original p self.now }
@@ -62,7 +62,8 @@ impl Zones {
         (coordinate, stray(&point))
     }
 
-    /// MD: the distance of two points, the current or the original one.
+    /// 49-4A MD[a], Measure Distance: of p, of zp0, from q, of zp1: 49 the current one, 4A the original one, along the dual
+    /// vector.
     #[tactic(auto, unfolding(crate::specs::Measure::md_of))]
     pub fn md(&self, g: &GState, original: bool, p: i32, q: i32) -> (F26, u64)
         ensures value { result ≡ md_of g.now original p q self.now }
@@ -78,7 +79,7 @@ impl Zones {
         (distance, stray(&to) + stray(&from))
     }
 
-    /// SPVTL, SFVTL and SDPVTL: the line to a point from another.
+    /// 06-07 SPVTL[a], 08-09 SFVTL[a], 86-87 SDPVTL[a]: the line to p1, of zp1, from p2, of zp2.
     #[tactic(auto, unfolding(crate::specs::Measure::line_between))]
     pub fn line(&self, g: &GState, p1: i32, p2: i32) -> (Line, u64)
         ensures value { result ≡ line_between g.now p1 p2 self.now }

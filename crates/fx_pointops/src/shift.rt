@@ -67,7 +67,8 @@ impl Zones {
         g.shift_place(g.project_place(cur(&point).minus(org(&point))))
     }
 
-    /// SHP: shifts points.
+    /// 32-33 SHP[a], SHift Point: shifts each p, of zp2, as a reference point was moved: with 0 rp2, of zp1, with 1 rp1, of
+    /// zp0.
     #[tactic(auto, unfolding(crate::specs::Shift::shp_of))]
     pub fn shp(&mut self, g: &GState, one: bool, points: &[i32]) -> u64
         ensures value { (self.new, result) ≡ shp_of g.now one (reverse points.now) self.old }
@@ -113,7 +114,7 @@ impl Zones {
         }
     }
 
-    /// SHC: shifts the points of a contour, but the reference point.
+    /// 34-35 SHC[a], SHift Contour: shifts the points of contour k, of zp2, but the reference point.
     #[tactic(auto, unfolding(crate::specs::Shift::shc_of))]
     pub fn shc(&mut self, g: &GState, one: bool, k: i32) -> u64
         ensures value { (self.new, result) ≡ shc_of g.now one k self.old }
@@ -143,7 +144,7 @@ impl Zones {
         }
     }
 
-    /// SHZ: shifts the points of a zone, but the reference point and the phantom points, and touches none.
+    /// 36-37 SHZ[a], SHift Zone: shifts the points of a zone, but the reference point and the phantom points, and touches none.
     #[tactic(auto, unfolding(crate::specs::Shift::shz_of))]
     pub fn shz(&mut self, g: &GState, one: bool, zone: ZonePointer) -> u64
         ensures value { (self.new, result) ≡ shz_of g.now one zone self.old }

@@ -1,60 +1,80 @@
 //! How instructions move points: along the freedom vector, and touching them.
 
-ghost use Rattle.std.specs.Prelude.{◌≡◌, ◌≤◌, length, reverse};
-ghost use Rattle.fx_pointops.specs.Zones.{HasShapes};
+ghost use Rattle.std.specs.Prelude.{◌≡◌, ◌≤◌, Some, length, reverse};
+ghost use Rattle.fx_pointops.specs.Zones.{HasShapes, point_at, changed_at};
 ghost use Rattle.fx_pointops.specs.Loops.{each};
 ghost use Rattle.fx_pointops.specs.ShiftPoint.{shifted_by, moved_by, point_shifted};
 
-use crate::zones::{Zones, stray};
+use crate::zones::Zones;
 use fx_fixed::{Axis, F26, Place};
 use fx_gstate::{GState, ZonePointer};
+use fx_zone::Point;
+
+/// A point shifted, and touched along each axis along which the freedom vector has a part.
+#[tactic(auto, unfolding(crate::specs::ShiftPoint::shifted_by))]
+pub fn shifted_by(g: &GState, by: Place, point: Point) -> Point
+    ensures { result ≡ shifted_by g.now by point }
+{
+    point.shifted(by, g.touches(Axis::X), g.touches(Axis::Y))
+}
+
+/// A point moved by a distance. Along an axis it is known which axis it touches.
+#[tactic(auto, unfolding(crate::specs::ShiftPoint::moved_by, crate::specs::ShiftPoint::shifted_by))]
+pub fn moved_by(g: &GState, d: F26, point: Point) -> Point
+    ensures { result ≡ moved_by g.now d point }
+{
+    match g.axis() {
+        Some(Axis::X) => point.shifted(g.shift_place(d), true, false),
+        Some(Axis::Y) => point.shifted(g.shift_place(d), false, true),
+        None => moved_aslant(g, d, point),
+    }
+}
+
+/// The same along any vectors.
+#[inline(never)]
+#[tactic(auto, unfolding(crate::specs::ShiftPoint::moved_by))]
+fn moved_aslant(g: &GState, d: F26, point: Point) -> Point
+    ensures { result ≡ moved_by g.now d point }
+{
+    shifted_by(g, g.shift_place(d), point)
+}
 
 impl Zones {
-    /// Shifts a point, if it is inside, and touches it along each axis along which the freedom vector has a part.
-    #[tactic(auto, unfolding(crate::specs::ShiftPoint::shifted_by))]
-    pub(crate) fn shift_by(&mut self, g: &GState, zone: ZonePointer, p: i32, by: Place)
-        ensures value { self.new ≡ shifted_by g.now by zone p self.old }
+    /// Moves a point, which was looked up, by a distance.
+    pub(crate) fn move_point(&mut self, g: &GState, zone: ZonePointer, p: i32, point: Point, d: F26)
+        requires { Some point ≡ point_at zone p self.old }
+        ensures value { self.new ≡ changed_at (moved_by g.now d) zone p self.old }
         ensures shapes { HasShapes self.old self.new }
     {
-        self.shift(zone, p, by, g.touches(Axis::X), g.touches(Axis::Y));
+        self.set(zone, p, moved_by(g, d, point));
     }
 
-    /// Moves a point by a distance, if it is inside. Along an axis it is known which axis it touches.
-    #[tactic(auto, unfolding(crate::specs::ShiftPoint::moved_by, crate::specs::ShiftPoint::shifted_by))]
+    /// Moves a point by a distance, if it is inside.
+    #[tactic(auto, using(crate::proofs::Setting::unchanged))]
     pub(crate) fn move_by(&mut self, g: &GState, zone: ZonePointer, p: i32, d: F26)
-        ensures value { self.new ≡ moved_by g.now d zone p self.old }
+        ensures value { self.new ≡ changed_at (moved_by g.now d) zone p self.old }
         ensures shapes { HasShapes self.old self.new }
     {
-        match g.axis() {
-            Some(Axis::X) => self.shift(zone, p, g.shift_place(d), true, false),
-            Some(Axis::Y) => self.shift(zone, p, g.shift_place(d), false, true),
-            None => self.move_aslant(g, zone, p, d),
+        if let Some(point) = self.point(zone, p) {
+            self.move_point(g, zone, p, point, d);
         }
     }
 
-    /// The same along any vectors.
-    #[inline(never)]
-    #[tactic(auto, unfolding(crate::specs::ShiftPoint::moved_by))]
-    fn move_aslant(&mut self, g: &GState, zone: ZonePointer, p: i32, d: F26)
-        ensures value { self.new ≡ moved_by g.now d zone p self.old }
-        ensures shapes { HasShapes self.old self.new }
-    {
-        self.shift_by(g, zone, p, g.shift_place(d));
-    }
-
-    /// Shifts a point of zone 2.
-    #[tactic(auto, unfolding(crate::specs::ShiftPoint::point_shifted))]
+    /// Shifts a point of zp2.
+    #[tactic(auto, unfolding(crate::specs::ShiftPoint::point_shifted), using(crate::proofs::Setting::stray_is))]
     fn shift_point(&mut self, g: &GState, by: &Place, p: i32) -> u64
         ensures value { (self.new, result) ≡ point_shifted g.now by.now p self.old }
         ensures few { result ≤ 1 }
         ensures shapes { HasShapes self.old self.new }
     {
-        let point = self.point(g.zp2, p);
-        self.shift_by(g, g.zp2, p, *by);
-        stray(&point)
+        let Some(point) = self.point(g.zp2, p) else {
+            return 1;
+        };
+        self.set(g.zp2, p, shifted_by(g, *by, point));
+        0
     }
 
-    /// Shifts points of zone 2, the last of the slice first.
+    /// Shifts points of zp2, the last of the slice first.
     pub(crate) fn shift_each(&mut self, g: &GState, by: &Place, points: &[i32]) -> u64
         ensures value { (self.new, result) ≡ each (point_shifted g.now by.now) (reverse points.now) self.old }
         ensures few { result ≤ length points.now }

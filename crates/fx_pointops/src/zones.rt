@@ -1,10 +1,10 @@
 //! The two zones, and their points by zone pointers and stack numbers.
 
-ghost use Rattle.std.specs.Prelude.{◌≡◌, ◌≤◌, false};
+ghost use Rattle.std.specs.Prelude.{◌≡◌, ◌≤◌};
 ghost use Rattle.fx_fixed.specs.Places.{origin};
 ghost use Rattle.fx_pointops.specs.Zones.{is_twilight, is_same_zone, index_of, point_of, stray_of, org_of, cur_of};
 
-use fx_fixed::{Axis, Place};
+use fx_fixed::Place;
 use fx_gstate::ZonePointer;
 use fx_zone::{Point, Zone};
 
@@ -81,8 +81,7 @@ pub fn cur(point: &Option<Point>) -> Place
 }
 
 impl Zones {
-    ghost use Rattle.fx_zone.specs.Points.{marked, shifted, laid, settled, put, flipped};
-    ghost use Rattle.fx_pointops.specs.Zones.{point_at, changed_at, HasShapes};
+    ghost use Rattle.fx_pointops.specs.Zones.{point_at, written_at, HasShapes};
 
     /// The point of a number, if it is inside.
     #[tactic(auto, unfolding(crate::specs::Zones::point_at))]
@@ -96,93 +95,18 @@ impl Zones {
         }
     }
 
-    /// Shifts a point, if it is inside, and touches it along the axes that are given.
-    #[tactic(auto, unfolding(crate::specs::Zones::changed_at))]
-    pub(crate) fn shift(&mut self, zone: ZonePointer, number: i32, by: Place, x: bool, y: bool)
-        ensures value { self.new ≡ changed_at (shifted by x y) zone number self.old }
+    /// Writes the point of a number, if it is inside.
+    #[tactic(auto, unfolding(crate::specs::Zones::written_at))]
+    pub(crate) fn set(&mut self, zone: ZonePointer, number: i32, point: Point)
+        ensures value { self.new ≡ written_at point zone number self.old }
         ensures shapes { HasShapes self.old self.new }
     {
         let Some(index) = index_of(number) else {
             return;
         };
         match zone {
-            ZonePointer::Twilight => self.twilight.shift(index, by, x, y),
-            ZonePointer::Glyph => self.glyph.shift(index, by, x, y),
-        }
-    }
-
-    /// Untouches a point along an axis, if it is inside.
-    #[tactic(auto, unfolding(crate::specs::Zones::changed_at))]
-    pub(crate) fn untouch(&mut self, zone: ZonePointer, number: i32, axis: Axis)
-        ensures value { self.new ≡ changed_at (marked axis false) zone number self.old }
-        ensures shapes { HasShapes self.old self.new }
-    {
-        let Some(index) = index_of(number) else {
-            return;
-        };
-        match zone {
-            ZonePointer::Twilight => self.twilight.untouch(index, axis),
-            ZonePointer::Glyph => self.glyph.untouch(index, axis),
-        }
-    }
-
-    /// Lays a point, if it is inside: its original and current place.
-    #[tactic(auto, unfolding(crate::specs::Zones::changed_at))]
-    pub(crate) fn lay(&mut self, zone: ZonePointer, number: i32, place: Place)
-        ensures value { self.new ≡ changed_at (laid place) zone number self.old }
-        ensures shapes { HasShapes self.old self.new }
-    {
-        let Some(index) = index_of(number) else {
-            return;
-        };
-        match zone {
-            ZonePointer::Twilight => self.twilight.lay(index, place),
-            ZonePointer::Glyph => self.glyph.lay(index, place),
-        }
-    }
-
-    /// Takes the current place of a point, if it is inside, for its original one.
-    #[tactic(auto, unfolding(crate::specs::Zones::changed_at))]
-    pub(crate) fn settle(&mut self, zone: ZonePointer, number: i32)
-        ensures value { self.new ≡ changed_at settled zone number self.old }
-        ensures shapes { HasShapes self.old self.new }
-    {
-        let Some(index) = index_of(number) else {
-            return;
-        };
-        match zone {
-            ZonePointer::Twilight => self.twilight.settle(index),
-            ZonePointer::Glyph => self.glyph.settle(index),
-        }
-    }
-
-    /// Puts a point, if it is inside, at another current place, and touches it along both axes.
-    #[tactic(auto, unfolding(crate::specs::Zones::changed_at))]
-    pub(crate) fn put(&mut self, zone: ZonePointer, number: i32, cur: Place)
-        ensures value { self.new ≡ changed_at (put cur) zone number self.old }
-        ensures shapes { HasShapes self.old self.new }
-    {
-        let Some(index) = index_of(number) else {
-            return;
-        };
-        match zone {
-            ZonePointer::Twilight => self.twilight.put(index, cur),
-            ZonePointer::Glyph => self.glyph.put(index, cur),
-        }
-    }
-
-    /// Flips a point, if it is inside: on the curve, or off it.
-    #[tactic(auto, unfolding(crate::specs::Zones::changed_at))]
-    pub(crate) fn flip(&mut self, zone: ZonePointer, number: i32)
-        ensures value { self.new ≡ changed_at flipped zone number self.old }
-        ensures shapes { HasShapes self.old self.new }
-    {
-        let Some(index) = index_of(number) else {
-            return;
-        };
-        match zone {
-            ZonePointer::Twilight => self.twilight.flip(index),
-            ZonePointer::Glyph => self.glyph.flip(index),
+            ZonePointer::Twilight => self.twilight.set(index, point),
+            ZonePointer::Glyph => self.glyph.set(index, point),
         }
     }
 }

@@ -44,41 +44,41 @@ is_true a = not (int_eq a (pos 0))
 -- ---- 2
 
 -- 20 DUP  a -> a a
-unfoldable pub dup_of : StoreView → Row
-dup_of s = do
+unfoldable pub dup_row : StoreView → Row
+dup_row s = do
   x ← one s
   pushed x.0 (on_top x.0 x.1)
 
 -- 21 POP  a ->
-unfoldable pub pop_of : StoreView → Row
-pop_of s = do
+unfoldable pub pop_row : StoreView → Row
+pop_row s = do
   x ← one s
   Ok x.1
 
--- 22 CLEAR  all ->
-abbrev pub clear_of : StoreView → StoreView
-clear_of s = with_stack [] s
+-- 22 CLEAR  .. ->
+abbrev pub clear_row : StoreView → Row
+clear_row s = Ok (with_stack [] s)
 
 -- 23 SWAP  a b -> b a
-unfoldable pub swap_of : StoreView → Row
-swap_of s = do
+unfoldable pub swap_row : StoreView → Row
+swap_row s = do
   x ← two s
   Ok (on_top x.0 (on_top x.1 x.2))
 
 -- 24 DEPTH  -> n, the number of elements before
-unfoldable pub depth_of : StoreView → Row
-depth_of s = pushed (pos (length s.stack)) s
+unfoldable pub depth_row : StoreView → Row
+depth_row s = pushed (pos (length s.stack)) s
 
 -- 25 CINDEX  .. k -> .. x, x the k-th element from the top after k is popped
-unfoldable pub cindex_of : StoreView → Row
-cindex_of s = do
+unfoldable pub cindex_row : StoreView → Row
+cindex_row s = do
   x ← one s
   element ← element_of x.0 x.1.stack
   Ok (on_top element x.1)
 
 -- 26 MINDEX  .. x .. k -> .. .. x
-unfoldable pub mindex_of : StoreView → Row
-mindex_of s = do
+unfoldable pub mindex_row : StoreView → Row
+mindex_row s = do
   x ← one s
   index ← index_of x.0 x.1.stack
   Ok (with_stack (moved_up index x.1.stack) x.1)
@@ -86,18 +86,18 @@ mindex_of s = do
 -- ---- 4, B
 
 -- 40 NPUSHB, 41 NPUSHW, B0 to B7 PUSHB, B8 to BF PUSHW  -> the data in order
-abbrev pub push_of : List ℤ → StoreView → Row
-push_of numbers s = pushed_all numbers s
+abbrev pub push_row : List ℤ → StoreView → Row
+push_row numbers s = pushed_all numbers s
 
 -- 42 WS  i v ->
-unfoldable pub ws_of : StoreView → Row
-ws_of s = do
+unfoldable pub ws_row : StoreView → Row
+ws_row s = do
   x ← two s
   Ok (with_strays (stray_of x.2.storage x.0) (record x.2 { storage = written_of x.2.storage x.0 x.1 }))
 
 -- 43 RS  i -> v
-unfoldable pub rs_of : StoreView → Row
-rs_of s = do
+unfoldable pub rs_row : StoreView → Row
+rs_row s = do
   x ← one s
   Ok (on_top (read_of x.1.storage x.0) (with_strays (stray_of x.1.storage x.0) x.1))
 
@@ -106,89 +106,92 @@ abbrev pub with_control : ℤ → ℤ → StoreView → StoreView
 with_control i v s = with_strays (stray_of s.cvt i) (record s { cvt = written_of s.cvt i v })
 
 -- 44 WCVTP  i v ->
-unfoldable pub wcvtp_of : StoreView → Row
-wcvtp_of s = do
+unfoldable pub wcvtp_row : StoreView → Row
+wcvtp_row s = do
   x ← two s
   Ok (with_control x.0 x.1 x.2)
 
 -- 45 RCVT  i -> v
-unfoldable pub rcvt_of : StoreView → Row
-rcvt_of s = do
+unfoldable pub rcvt_row : StoreView → Row
+rcvt_row s = do
   x ← one s
   Ok (on_top (read_of x.1.cvt x.0) (with_strays (stray_of x.1.cvt x.0) x.1))
 
 -- 4B MPPEM, 4C MPS  -> the size, in pixels per em
-unfoldable pub size_of : ℕ → StoreView → Row
-size_of ppem s = pushed (pos ppem) s
+unfoldable pub mppem_row : ℕ → StoreView → Row
+mppem_row ppem s = pushed (pos ppem) s
+
+unfoldable pub mps_row : ℕ → StoreView → Row
+mps_row ppem s = pushed (pos ppem) s
 
 -- 4F DEBUG, 7E SANGW, 7F AA, 85 SCANCTRL, 8D SCANTYPE  a ->
-abbrev pub ignored_of : StoreView → Row
-ignored_of = pop_of
+abbrev pub ignored_row : StoreView → Row
+ignored_row = pop_row
 
 -- ---- 5
 
 -- 50 LT, 51 LTEQ, 52 GT, 53 GTEQ, 54 EQ, 55 NEQ  a b -> 1 or 0
-unfoldable pub lt_of : StoreView → Row
-lt_of = binary (λ a b. bit (int_lt a b))
+unfoldable pub lt_row : StoreView → Row
+lt_row = binary (λ a b. bit (int_lt a b))
 
-unfoldable pub lteq_of : StoreView → Row
-lteq_of = binary (λ a b. bit (not (int_lt b a)))
+unfoldable pub lteq_row : StoreView → Row
+lteq_row = binary (λ a b. bit (not (int_lt b a)))
 
-unfoldable pub gt_of : StoreView → Row
-gt_of = binary (λ a b. bit (int_lt b a))
+unfoldable pub gt_row : StoreView → Row
+gt_row = binary (λ a b. bit (int_lt b a))
 
-unfoldable pub gteq_of : StoreView → Row
-gteq_of = binary (λ a b. bit (not (int_lt a b)))
+unfoldable pub gteq_row : StoreView → Row
+gteq_row = binary (λ a b. bit (not (int_lt a b)))
 
-unfoldable pub eq_of : StoreView → Row
-eq_of = binary (λ a b. bit (int_eq a b))
+unfoldable pub eq_row : StoreView → Row
+eq_row = binary (λ a b. bit (int_eq a b))
 
-unfoldable pub neq_of : StoreView → Row
-neq_of = binary (λ a b. bit (not (int_eq a b)))
+unfoldable pub neq_row : StoreView → Row
+neq_row = binary (λ a b. bit (not (int_eq a b)))
 
 -- 56 ODD, 57 EVEN  a -> 1 or 0: the rounded a, in pixels, is odd; is even
-unfoldable pub odd_of : GState → StoreView → Row
-odd_of g = unary (λ a. bit (int_eq (int_rem_euclid (rounded_of g.round_state a) (pos 128)) (pos 64)))
+unfoldable pub odd_row : GState → StoreView → Row
+odd_row g = unary (λ a. bit (int_eq (int_rem_euclid (rounded_of g.round_state a) (pos 128)) (pos 64)))
 
-unfoldable pub even_of : GState → StoreView → Row
-even_of g = unary (λ a. bit (int_eq (int_rem_euclid (rounded_of g.round_state a) (pos 128)) (pos 0)))
+unfoldable pub even_row : GState → StoreView → Row
+even_row g = unary (λ a. bit (int_eq (int_rem_euclid (rounded_of g.round_state a) (pos 128)) (pos 0)))
 
 -- 5A AND, 5B OR  a b -> 1 or 0; 5C NOT  a -> 1 or 0
-unfoldable pub and_of : StoreView → Row
-and_of = binary (λ a b. bit (is_true a && is_true b))
+unfoldable pub and_row : StoreView → Row
+and_row = binary (λ a b. bit (is_true a && is_true b))
 
-unfoldable pub or_of : StoreView → Row
-or_of = binary (λ a b. bit (is_true a || is_true b))
+unfoldable pub or_row : StoreView → Row
+or_row = binary (λ a b. bit (is_true a || is_true b))
 
-unfoldable pub not_of : StoreView → Row
-not_of = unary (λ a. bit (not (is_true a)))
+unfoldable pub not_row : StoreView → Row
+not_row = unary (λ a. bit (not (is_true a)))
 
 -- ---- 6
 
 -- 60 ADD, 61 SUB  a b -> a + b, a - b
-unfoldable pub add_of : StoreView → Row
-add_of = binary sum_of
+unfoldable pub add_row : StoreView → Row
+add_row = binary sum_of
 
-unfoldable pub sub_of : StoreView → Row
-sub_of = binary difference_of
+unfoldable pub sub_row : StoreView → Row
+sub_row = binary difference_of
 
 -- 62 DIV  a b -> 64 a / b, cut
-unfoldable pub div_of : StoreView → Row
-div_of s = do
+unfoldable pub div_row : StoreView → Row
+div_row s = do
   x ← two s
   _ ← refuse (int_eq x.1 (pos 0)) DivideByZero
   Ok (on_top (wrapped_of (cut_of (pos 64 *ℤ x.0) x.1)) x.2)
 
 -- 63 MUL  a b -> a b / 64, to the nearest
-unfoldable pub mul_of : StoreView → Row
-mul_of = binary (λ a b. wrapped_of (near_of (a *ℤ b) (pos 64)))
+unfoldable pub mul_row : StoreView → Row
+mul_row = binary (λ a b. wrapped_of (near_of (a *ℤ b) (pos 64)))
 
 -- 64 ABS, 65 NEG  a -> the size of a, -a
-unfoldable pub abs_of : StoreView → Row
-abs_of = unary (λ a. wrapped_of (pos (unsigned_abs a)))
+unfoldable pub abs_row : StoreView → Row
+abs_row = unary (λ a. wrapped_of (pos (unsigned_abs a)))
 
-unfoldable pub neg_of : StoreView → Row
-neg_of = unary (λ a. wrapped_of (neg_ℤ a))
+unfoldable pub neg_row : StoreView → Row
+neg_row = unary (λ a. wrapped_of (neg_ℤ a))
 
 -- 66 FLOOR, 67 CEILING  a -> the greatest multiple of 64 not above a, the least not below a
 abbrev pub floored : ℤ → ℤ
@@ -197,26 +200,20 @@ floored a = a -ℤ int_rem_euclid a (pos 64)
 abbrev pub ceiled : ℤ → ℤ
 ceiled a = neg_ℤ (floored (neg_ℤ a))
 
-unfoldable pub floor_of : StoreView → Row
-floor_of = unary (λ a. wrapped_of (floored a))
+unfoldable pub floor_row : StoreView → Row
+floor_row = unary (λ a. wrapped_of (floored a))
 
-unfoldable pub ceiling_of : StoreView → Row
-ceiling_of = unary (λ a. wrapped_of (ceiled a))
+unfoldable pub ceiling_row : StoreView → Row
+ceiling_row = unary (λ a. wrapped_of (ceiled a))
 
 -- 68 to 6B ROUND, 6C to 6F NROUND  a -> a rounded, a
-unfoldable pub round_of : GState → StoreView → Row
-round_of g = unary (rounded_of g.round_state)
+unfoldable pub round_row : GState → StoreView → Row
+round_row g = unary (rounded_of g.round_state)
 
-unfoldable pub nround_of : StoreView → Row
-nround_of = unary (λ a. a)
+unfoldable pub nround_row : StoreView → Row
+nround_row = unary (λ a. a)
 
 -- ---- 7
-
--- 70 WCVTF  i v ->, which is handed v scaled from FUnits
-unfoldable pub wcvtf_of : ℤ → StoreView → Row
-wcvtf_of scaled s = do
-  x ← two s
-  Ok (with_control x.0 scaled x.2)
 
 -- a control value moved, if its argument acts at this size
 abbrev pub moved_control : ℕ → Delta → ℤ → StoreView → StoreView
@@ -237,8 +234,8 @@ control_pairs form g ppem zero s = s
 control_pairs form g ppem (suc n) s = control_pairs form g ppem n (control_pair form g ppem s)
 
 -- 73 DELTAC1, 74 DELTAC2, 75 DELTAC3  .. argument number n ->, n pairs
-unfoldable pub deltac_of : DeltaForm → GState → ℕ → StoreView → Row
-deltac_of form g ppem s = do
+unfoldable pub deltac_row : DeltaForm → GState → ℕ → StoreView → Row
+deltac_row form g ppem s = do
   x ← one s
   _ ← refuse (int_lt x.0 (pos 0)) BadArgument
   _ ← refuse (nat_lt (length x.1.stack) (2 * unsigned_abs x.0)) StackUnder
@@ -247,21 +244,21 @@ deltac_of form g ppem s = do
 -- ---- 8
 
 -- 88 GETINFO  s -> 35 if bit 0 of s is set, else 0
-unfoldable pub getinfo_of : StoreView → Row
-getinfo_of = unary (λ s. if int_eq (int_rem_euclid s (pos 2)) (pos 1) then pos 35 else pos 0)
+unfoldable pub getinfo_row : StoreView → Row
+getinfo_row = unary (λ s. if int_eq (int_rem_euclid s (pos 2)) (pos 1) then pos 35 else pos 0)
 
 -- 8A ROLL  a b c -> b c a
-unfoldable pub roll_of : StoreView → Row
-roll_of s = do
+unfoldable pub roll_row : StoreView → Row
+roll_row s = do
   x ← three s
   Ok (on_top x.0 (on_top x.2 (on_top x.1 x.3)))
 
 -- 8B MAX, 8C MIN  a b -> the greater, the lesser
-unfoldable pub max_of : StoreView → Row
-max_of = binary (λ a b. if int_lt a b then b else a)
+unfoldable pub max_row : StoreView → Row
+max_row = binary (λ a b. if int_lt a b then b else a)
 
-unfoldable pub min_of : StoreView → Row
-min_of = binary (λ a b. if int_lt b a then b else a)
+unfoldable pub min_row : StoreView → Row
+min_row = binary (λ a b. if int_lt b a then b else a)
 
 -- ---- laws
 

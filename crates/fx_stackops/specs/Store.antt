@@ -29,10 +29,6 @@ view_of d cells storage cvt strays = record {
 abbrev pub restarted : ℕ → List ℤ → List ℤ → StoreView
 restarted room storage cvt = record { stack = []; room = room; storage = storage; cvt = cvt; strays = 0 }
 
--- the stack has room for 32 numbers more than the font says (this project's own choice)
-abbrev pub room_of : ℕ → ℕ
-room_of elements = elements + 32
-
 -- ---- operands
 
 abbrev pub with_stack : List ℤ → StoreView → StoreView

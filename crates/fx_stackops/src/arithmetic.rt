@@ -4,8 +4,8 @@ ghost use Rattle.std.specs.Prelude.{◌≡◌, ◌≢◌, ◌≤◌, ◌^◌, po
 ghost use Rattle.fx_gstate.specs.States.{leaves};
 ghost use Rattle.fx_fixed.specs.Numbers.{near_of, cut_of, wrapped_of};
 ghost use Rattle.fx_stackops.specs.Store.{HasSizes};
-ghost use Rattle.fx_stackops.specs.Rows.{add_of, sub_of, div_of, mul_of, abs_of, neg_of, floor_of, ceiling_of, floored};
-ghost use Rattle.fx_stackops.specs.Rows.{round_of, nround_of, max_of, min_of};
+ghost use Rattle.fx_stackops.specs.Rows.{add_row, sub_row, div_row, mul_row, abs_row, neg_row, floor_row, ceiling_row, floored};
+ghost use Rattle.fx_stackops.specs.Rows.{round_row, nround_row, max_row, min_row};
 
 use crate::fault::StackFault;
 use crate::store::Store;
@@ -13,10 +13,10 @@ use fx_fixed::{F26, near_64, w32};
 use fx_gstate::GState;
 
 impl Store {
-    /// ADD: the sum, modulo 2^32.
-    #[tactic(auto, unfolding(crate::specs::Rows::add_of))]
+    /// 60 ADD: `a b -> a + b`, modulo 2^32.
+    #[tactic(auto, unfolding(crate::specs::Rows::add_row))]
     pub fn add(&mut self) -> Result<(), StackFault>
-        ensures value { leaves result self.new ≡ add_of self.old }
+        ensures value { leaves result self.new ≡ add_row self.old }
         ensures sizes { HasSizes self.old self.new }
     {
         let (a, b) = self.two()?;
@@ -24,10 +24,10 @@ impl Store {
         Ok(())
     }
 
-    /// SUB: the difference, modulo 2^32.
-    #[tactic(auto, unfolding(crate::specs::Rows::sub_of))]
+    /// 61 SUB, SUBtract: `a b -> a - b`, modulo 2^32.
+    #[tactic(auto, unfolding(crate::specs::Rows::sub_row))]
     pub fn sub(&mut self) -> Result<(), StackFault>
-        ensures value { leaves result self.new ≡ sub_of self.old }
+        ensures value { leaves result self.new ≡ sub_row self.old }
         ensures sizes { HasSizes self.old self.new }
     {
         let (a, b) = self.two()?;
@@ -35,10 +35,10 @@ impl Store {
         Ok(())
     }
 
-    /// DIV: the quotient in 26.6 without its fraction; `DivideByZero` if b is 0.
-    #[tactic(auto, unfolding(crate::specs::Rows::div_of))]
+    /// 62 DIV, DIVide: `a b -> a / b` in 26.6, without its fraction; `DivideByZero` if b is 0.
+    #[tactic(auto, unfolding(crate::specs::Rows::div_row))]
     pub fn div(&mut self) -> Result<(), StackFault>
-        ensures value { leaves result self.new ≡ div_of self.old }
+        ensures value { leaves result self.new ≡ div_row self.old }
         ensures sizes { HasSizes self.old self.new }
     {
         let (a, b) = self.two()?;
@@ -49,10 +49,10 @@ impl Store {
         Ok(())
     }
 
-    /// MUL: the product in 26.6, rounded to the nearest.
-    #[tactic(auto, unfolding(crate::specs::Rows::mul_of))]
+    /// 63 MUL, MULtiply: `a b -> a b` in 26.6, to the nearest.
+    #[tactic(auto, unfolding(crate::specs::Rows::mul_row))]
     pub fn mul(&mut self) -> Result<(), StackFault>
-        ensures value { leaves result self.new ≡ mul_of self.old }
+        ensures value { leaves result self.new ≡ mul_row self.old }
         ensures sizes { HasSizes self.old self.new }
     {
         let (a, b) = self.two()?;
@@ -60,10 +60,10 @@ impl Store {
         Ok(())
     }
 
-    /// ABS: the size, modulo 2^32.
-    #[tactic(auto, unfolding(crate::specs::Rows::abs_of))]
+    /// 64 ABS, ABSolute value: `a ->` its size, modulo 2^32.
+    #[tactic(auto, unfolding(crate::specs::Rows::abs_row))]
     pub fn abs(&mut self) -> Result<(), StackFault>
-        ensures value { leaves result self.new ≡ abs_of self.old }
+        ensures value { leaves result self.new ≡ abs_row self.old }
         ensures sizes { HasSizes self.old self.new }
     {
         let a = self.one()?;
@@ -71,10 +71,10 @@ impl Store {
         Ok(())
     }
 
-    /// NEG: the negative, modulo 2^32.
-    #[tactic(auto, unfolding(crate::specs::Rows::neg_of))]
+    /// 65 NEG, NEGate: `a -> -a`, modulo 2^32.
+    #[tactic(auto, unfolding(crate::specs::Rows::neg_row))]
     pub fn neg(&mut self) -> Result<(), StackFault>
-        ensures value { leaves result self.new ≡ neg_of self.old }
+        ensures value { leaves result self.new ≡ neg_row self.old }
         ensures sizes { HasSizes self.old self.new }
     {
         let a = self.one()?;
@@ -82,10 +82,10 @@ impl Store {
         Ok(())
     }
 
-    /// FLOOR: the greatest whole number of pixels not above it.
-    #[tactic(auto, unfolding(crate::specs::Rows::floor_of))]
+    /// 66 FLOOR: `a ->` the greatest whole number of pixels not above it.
+    #[tactic(auto, unfolding(crate::specs::Rows::floor_row))]
     pub fn floor(&mut self) -> Result<(), StackFault>
-        ensures value { leaves result self.new ≡ floor_of self.old }
+        ensures value { leaves result self.new ≡ floor_row self.old }
         ensures sizes { HasSizes self.old self.new }
     {
         let a = self.one()?;
@@ -93,10 +93,10 @@ impl Store {
         Ok(())
     }
 
-    /// CEILING: the least whole number of pixels not below it, modulo 2^32.
-    #[tactic(auto, unfolding(crate::specs::Rows::ceiling_of))]
+    /// 67 CEILING: `a ->` the least whole number of pixels not below it, modulo 2^32.
+    #[tactic(auto, unfolding(crate::specs::Rows::ceiling_row))]
     pub fn ceiling(&mut self) -> Result<(), StackFault>
-        ensures value { leaves result self.new ≡ ceiling_of self.old }
+        ensures value { leaves result self.new ≡ ceiling_row self.old }
         ensures sizes { HasSizes self.old self.new }
     {
         let a = self.one()?;
@@ -104,10 +104,10 @@ impl Store {
         Ok(())
     }
 
-    /// ROUND: rounded by the round state.
-    #[tactic(auto, unfolding(crate::specs::Rows::round_of))]
+    /// 68-6B ROUND[ab], ROUND value: `a ->` rounded by the round state.
+    #[tactic(auto, unfolding(crate::specs::Rows::round_row))]
     pub fn round(&mut self, g: &GState) -> Result<(), StackFault>
-        ensures value { leaves result self.new ≡ round_of g.now self.old }
+        ensures value { leaves result self.new ≡ round_row g.now self.old }
         ensures sizes { HasSizes self.old self.new }
     {
         let a = self.one()?;
@@ -115,10 +115,10 @@ impl Store {
         Ok(())
     }
 
-    /// NROUND: as it is.
-    #[tactic(auto, unfolding(crate::specs::Rows::nround_of))]
+    /// 6C-6F NROUND[ab], No ROUNDing of value: `a -> a`.
+    #[tactic(auto, unfolding(crate::specs::Rows::nround_row))]
     pub fn nround(&mut self) -> Result<(), StackFault>
-        ensures value { leaves result self.new ≡ nround_of self.old }
+        ensures value { leaves result self.new ≡ nround_row self.old }
         ensures sizes { HasSizes self.old self.new }
     {
         let a = self.one()?;
@@ -126,10 +126,10 @@ impl Store {
         Ok(())
     }
 
-    /// MAX: the greater.
-    #[tactic(auto, unfolding(crate::specs::Rows::max_of))]
+    /// 8B MAX, MAXimum: `a b ->` the greater.
+    #[tactic(auto, unfolding(crate::specs::Rows::max_row))]
     pub fn max(&mut self) -> Result<(), StackFault>
-        ensures value { leaves result self.new ≡ max_of self.old }
+        ensures value { leaves result self.new ≡ max_row self.old }
         ensures sizes { HasSizes self.old self.new }
     {
         let (a, b) = self.two()?;
@@ -137,10 +137,10 @@ impl Store {
         Ok(())
     }
 
-    /// MIN: the lesser.
-    #[tactic(auto, unfolding(crate::specs::Rows::min_of))]
+    /// 8C MIN, MINimum: `a b ->` the lesser.
+    #[tactic(auto, unfolding(crate::specs::Rows::min_row))]
     pub fn min(&mut self) -> Result<(), StackFault>
-        ensures value { leaves result self.new ≡ min_of self.old }
+        ensures value { leaves result self.new ≡ min_row self.old }
         ensures sizes { HasSizes self.old self.new }
     {
         let (a, b) = self.two()?;

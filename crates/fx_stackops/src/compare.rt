@@ -3,7 +3,7 @@
 ghost use Rattle.std.specs.Prelude.{◌≡◌};
 ghost use Rattle.fx_gstate.specs.States.{leaves};
 ghost use Rattle.fx_stackops.specs.Store.{HasSizes};
-ghost use Rattle.fx_stackops.specs.Rows.{lt_of, lteq_of, gt_of, gteq_of, eq_of, neq_of, and_of, or_of, not_of, odd_of, even_of};
+ghost use Rattle.fx_stackops.specs.Rows.{lt_row, lteq_row, gt_row, gteq_row, eq_row, neq_row, and_row, or_row, not_row, odd_row, even_row};
 
 use crate::fault::StackFault;
 use crate::store::Store;
@@ -11,10 +11,10 @@ use fx_fixed::F26;
 use fx_gstate::GState;
 
 impl Store {
-    /// LT: 1 if a is below b, else 0.
-    #[tactic(auto, unfolding(crate::specs::Rows::lt_of))]
+    /// 50 LT, Less Than: `a b ->` 1 if a is below b, else 0.
+    #[tactic(auto, unfolding(crate::specs::Rows::lt_row))]
     pub fn lt(&mut self) -> Result<(), StackFault>
-        ensures value { leaves result self.new ≡ lt_of self.old }
+        ensures value { leaves result self.new ≡ lt_row self.old }
         ensures sizes { HasSizes self.old self.new }
     {
         let (a, b) = self.two()?;
@@ -22,10 +22,10 @@ impl Store {
         Ok(())
     }
 
-    /// LTEQ: 1 if a is not above b, else 0.
-    #[tactic(auto, unfolding(crate::specs::Rows::lteq_of))]
+    /// 51 LTEQ, Less Than or EQual: `a b ->` 1 if a is not above b, else 0.
+    #[tactic(auto, unfolding(crate::specs::Rows::lteq_row))]
     pub fn lteq(&mut self) -> Result<(), StackFault>
-        ensures value { leaves result self.new ≡ lteq_of self.old }
+        ensures value { leaves result self.new ≡ lteq_row self.old }
         ensures sizes { HasSizes self.old self.new }
     {
         let (a, b) = self.two()?;
@@ -33,10 +33,10 @@ impl Store {
         Ok(())
     }
 
-    /// GT: 1 if a is above b, else 0.
-    #[tactic(auto, unfolding(crate::specs::Rows::gt_of))]
+    /// 52 GT, Greater Than: `a b ->` 1 if a is above b, else 0.
+    #[tactic(auto, unfolding(crate::specs::Rows::gt_row))]
     pub fn gt(&mut self) -> Result<(), StackFault>
-        ensures value { leaves result self.new ≡ gt_of self.old }
+        ensures value { leaves result self.new ≡ gt_row self.old }
         ensures sizes { HasSizes self.old self.new }
     {
         let (a, b) = self.two()?;
@@ -44,10 +44,10 @@ impl Store {
         Ok(())
     }
 
-    /// GTEQ: 1 if a is not below b, else 0.
-    #[tactic(auto, unfolding(crate::specs::Rows::gteq_of))]
+    /// 53 GTEQ, Greater Than or EQual: `a b ->` 1 if a is not below b, else 0.
+    #[tactic(auto, unfolding(crate::specs::Rows::gteq_row))]
     pub fn gteq(&mut self) -> Result<(), StackFault>
-        ensures value { leaves result self.new ≡ gteq_of self.old }
+        ensures value { leaves result self.new ≡ gteq_row self.old }
         ensures sizes { HasSizes self.old self.new }
     {
         let (a, b) = self.two()?;
@@ -55,10 +55,10 @@ impl Store {
         Ok(())
     }
 
-    /// EQ: 1 if both are equal, else 0.
-    #[tactic(auto, unfolding(crate::specs::Rows::eq_of))]
+    /// 54 EQ, EQual: `a b ->` 1 if both are equal, else 0.
+    #[tactic(auto, unfolding(crate::specs::Rows::eq_row))]
     pub fn eq(&mut self) -> Result<(), StackFault>
-        ensures value { leaves result self.new ≡ eq_of self.old }
+        ensures value { leaves result self.new ≡ eq_row self.old }
         ensures sizes { HasSizes self.old self.new }
     {
         let (a, b) = self.two()?;
@@ -66,10 +66,10 @@ impl Store {
         Ok(())
     }
 
-    /// NEQ: 1 if they differ, else 0.
-    #[tactic(auto, unfolding(crate::specs::Rows::neq_of))]
+    /// 55 NEQ, Not EQual: `a b ->` 1 if they differ, else 0.
+    #[tactic(auto, unfolding(crate::specs::Rows::neq_row))]
     pub fn neq(&mut self) -> Result<(), StackFault>
-        ensures value { leaves result self.new ≡ neq_of self.old }
+        ensures value { leaves result self.new ≡ neq_row self.old }
         ensures sizes { HasSizes self.old self.new }
     {
         let (a, b) = self.two()?;
@@ -77,10 +77,10 @@ impl Store {
         Ok(())
     }
 
-    /// AND: 1 if both are not 0, else 0.
-    #[tactic(auto, unfolding(crate::specs::Rows::and_of))]
+    /// 5A AND, logical AND: `a b ->` 1 if both are not 0, else 0.
+    #[tactic(auto, unfolding(crate::specs::Rows::and_row))]
     pub fn and(&mut self) -> Result<(), StackFault>
-        ensures value { leaves result self.new ≡ and_of self.old }
+        ensures value { leaves result self.new ≡ and_row self.old }
         ensures sizes { HasSizes self.old self.new }
     {
         let (a, b) = self.two()?;
@@ -88,10 +88,10 @@ impl Store {
         Ok(())
     }
 
-    /// OR: 1 if one is not 0, else 0.
-    #[tactic(auto, unfolding(crate::specs::Rows::or_of))]
+    /// 5B OR, logical OR: `a b ->` 1 if one is not 0, else 0.
+    #[tactic(auto, unfolding(crate::specs::Rows::or_row))]
     pub fn or(&mut self) -> Result<(), StackFault>
-        ensures value { leaves result self.new ≡ or_of self.old }
+        ensures value { leaves result self.new ≡ or_row self.old }
         ensures sizes { HasSizes self.old self.new }
     {
         let (a, b) = self.two()?;
@@ -99,10 +99,10 @@ impl Store {
         Ok(())
     }
 
-    /// NOT: 1 if it is 0, else 0.
-    #[tactic(auto, unfolding(crate::specs::Rows::not_of))]
+    /// 5C NOT, logical NOT: `a ->` 1 if it is 0, else 0.
+    #[tactic(auto, unfolding(crate::specs::Rows::not_row))]
     pub fn not(&mut self) -> Result<(), StackFault>
-        ensures value { leaves result self.new ≡ not_of self.old }
+        ensures value { leaves result self.new ≡ not_row self.old }
         ensures sizes { HasSizes self.old self.new }
     {
         let a = self.one()?;
@@ -110,10 +110,10 @@ impl Store {
         Ok(())
     }
 
-    /// ODD: 1 if it is an odd number of pixels after rounding, else 0.
-    #[tactic(auto, unfolding(crate::specs::Rows::odd_of))]
+    /// 56 ODD: `a ->` 1 if it is an odd number of pixels after rounding by the round state, else 0.
+    #[tactic(auto, unfolding(crate::specs::Rows::odd_row))]
     pub fn odd(&mut self, g: &GState) -> Result<(), StackFault>
-        ensures value { leaves result self.new ≡ odd_of g.now self.old }
+        ensures value { leaves result self.new ≡ odd_row g.now self.old }
         ensures sizes { HasSizes self.old self.new }
     {
         let a = self.one()?;
@@ -121,10 +121,10 @@ impl Store {
         Ok(())
     }
 
-    /// EVEN: 1 if it is an even number of pixels after rounding, else 0.
-    #[tactic(auto, unfolding(crate::specs::Rows::even_of))]
+    /// 57 EVEN: `a ->` 1 if it is an even number of pixels after rounding by the round state, else 0.
+    #[tactic(auto, unfolding(crate::specs::Rows::even_row))]
     pub fn even(&mut self, g: &GState) -> Result<(), StackFault>
-        ensures value { leaves result self.new ≡ even_of g.now self.old }
+        ensures value { leaves result self.new ≡ even_row g.now self.old }
         ensures sizes { HasSizes self.old self.new }
     {
         let a = self.one()?;

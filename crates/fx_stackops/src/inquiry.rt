@@ -3,35 +3,35 @@
 ghost use Rattle.std.specs.Prelude.{◌≡◌};
 ghost use Rattle.fx_gstate.specs.States.{leaves};
 ghost use Rattle.fx_stackops.specs.Store.{HasSizes};
-ghost use Rattle.fx_stackops.specs.Rows.{size_of, getinfo_of, ignored_of};
+ghost use Rattle.fx_stackops.specs.Rows.{mppem_row, mps_row, getinfo_row, ignored_row};
 
 use crate::fault::StackFault;
 use crate::store::Store;
 use fx_fixed::Ppem;
 
 impl Store {
-    /// MPPEM: the size, in pixels per em.
-    #[tactic(auto, unfolding(crate::specs::Rows::size_of))]
+    /// 4B MPPEM, Measure Pixels Per EM: `->` the size, in pixels per em.
+    #[tactic(auto, unfolding(crate::specs::Rows::mppem_row))]
     pub fn mppem(&mut self, ppem: Ppem) -> Result<(), StackFault>
-        ensures value { leaves result self.new ≡ size_of ppem self.old }
+        ensures value { leaves result self.new ≡ mppem_row ppem self.old }
         ensures sizes { HasSizes self.old self.new }
     {
         self.push(i32::from(ppem.pixels()))
     }
 
-    /// MPS: the size, in pixels per em.
-    #[tactic(auto, unfolding(crate::specs::Rows::size_of))]
+    /// 4C MPS, Measure Point Size: `->` the size, in pixels per em.
+    #[tactic(auto, unfolding(crate::specs::Rows::mps_row))]
     pub fn mps(&mut self, ppem: Ppem) -> Result<(), StackFault>
-        ensures value { leaves result self.new ≡ size_of ppem self.old }
+        ensures value { leaves result self.new ≡ mps_row ppem self.old }
         ensures sizes { HasSizes self.old self.new }
     {
         self.push(i32::from(ppem.pixels()))
     }
 
-    /// GETINFO: 35 if bit 0 asks for the rasterizer's version, else 0.
-    #[tactic(auto, unfolding(crate::specs::Rows::getinfo_of))]
+    /// 88 GETINFO, GET INFOrmation: `s ->` 35 if bit 0 asks for the rasterizer's version, else 0.
+    #[tactic(auto, unfolding(crate::specs::Rows::getinfo_row))]
     pub fn getinfo(&mut self) -> Result<(), StackFault>
-        ensures value { leaves result self.new ≡ getinfo_of self.old }
+        ensures value { leaves result self.new ≡ getinfo_row self.old }
         ensures sizes { HasSizes self.old self.new }
     {
         let a = self.one()?;
@@ -39,10 +39,10 @@ impl Store {
         Ok(())
     }
 
-    /// DEBUG, SANGW, AA, SCANCTRL, SCANTYPE: the top goes, and nothing else.
-    #[tactic(auto, unfolding(crate::specs::Rows::pop_of))]
+    /// 4F DEBUG, 7E SANGW, 7F AA, 85 SCANCTRL, 8D SCANTYPE: `a ->`, and nothing else.
+    #[tactic(auto, unfolding(crate::specs::Rows::pop_row))]
     pub fn ignored(&mut self) -> Result<(), StackFault>
-        ensures value { leaves result self.new ≡ ignored_of self.old }
+        ensures value { leaves result self.new ≡ ignored_row self.old }
         ensures sizes { HasSizes self.old self.new }
     {
         self.one()?;

@@ -1,20 +1,20 @@
 //! Instructions that arrange the stack.
 
-ghost use Rattle.std.specs.Prelude.{◌≡◌, ◌≤◌, ◌+◌, ◌++◌, length, reverse, OnErr};
+ghost use Rattle.std.specs.Prelude.{◌≡◌, ◌≤◌, ◌+◌, ◌++◌, length, reverse, OnErr, Ok};
 ghost use Rattle.fx_gstate.specs.States.{leaves};
 ghost use Rattle.fx_code.specs.Numbers.{numbers};
 ghost use Rattle.fx_stackops.specs.Store.{with_stack, HasSizes};
-ghost use Rattle.fx_stackops.specs.Rows.{dup_of, pop_of, clear_of, swap_of, depth_of, cindex_of, mindex_of, push_of, roll_of};
+ghost use Rattle.fx_stackops.specs.Rows.{dup_row, pop_row, clear_row, swap_row, depth_row, cindex_row, mindex_row, push_row, roll_row};
 
 use crate::fault::StackFault;
 use crate::store::Store;
 use fx_code::Instr;
 
 impl Store {
-    /// NPUSHB, NPUSHW, PUSHB, PUSHW: the numbers that an instruction pushes.
+    /// 40 NPUSHB, 41 NPUSHW, B0-B7 PUSHB[abc], B8-BF PUSHW[abc]: `-> ..`, the numbers that an instruction pushes.
     #[tactic(auto, unfolding(crate::specs::Store::pushed_all))]
     pub fn push_all(&mut self, instr: &Instr<'_>) -> Result<(), StackFault>
-        ensures value { leaves result self.new ≡ push_of (numbers instr.now.opcode instr.now.pushed.now) self.old }
+        ensures value { leaves result self.new ≡ push_row (numbers instr.now.opcode instr.now.pushed.now) self.old }
         ensures kept { OnErr result (self.new ≡ self.old) }
         ensures sizes { HasSizes self.old self.new }
     {
@@ -25,10 +25,10 @@ impl Store {
         Ok(())
     }
 
-    /// DUP: the top once more.
-    #[tactic(auto, unfolding(crate::specs::Rows::dup_of))]
+    /// 20 DUP, DUPlicate top: `a -> a a`.
+    #[tactic(auto, unfolding(crate::specs::Rows::dup_row))]
     pub fn dup(&mut self) -> Result<(), StackFault>
-        ensures value { leaves result self.new ≡ dup_of self.old }
+        ensures value { leaves result self.new ≡ dup_row self.old }
         ensures sizes { HasSizes self.old self.new }
     {
         let a = self.one()?;
@@ -36,28 +36,28 @@ impl Store {
         self.push(a)
     }
 
-    /// POP: the top goes.
-    #[tactic(auto, unfolding(crate::specs::Rows::pop_of))]
+    /// 21 POP, POP top: `a ->`.
+    #[tactic(auto, unfolding(crate::specs::Rows::pop_row))]
     pub fn pop(&mut self) -> Result<(), StackFault>
-        ensures value { leaves result self.new ≡ pop_of self.old }
+        ensures value { leaves result self.new ≡ pop_row self.old }
         ensures sizes { HasSizes self.old self.new }
     {
         self.one()?;
         Ok(())
     }
 
-    /// CLEAR: the stack is empty.
+    /// 22 CLEAR, CLEAR the stack: `.. ->`.
     pub fn clear(&mut self)
-        ensures value { self.new ≡ clear_of self.old }
+        ensures value { Ok self.new ≡ clear_row self.old }
         ensures sizes { HasSizes self.old self.new }
     {
         self.drop_all();
     }
 
-    /// SWAP: the top two change places.
-    #[tactic(auto, unfolding(crate::specs::Rows::swap_of))]
+    /// 23 SWAP, SWAP the top two: `a b -> b a`.
+    #[tactic(auto, unfolding(crate::specs::Rows::swap_row))]
     pub fn swap(&mut self) -> Result<(), StackFault>
-        ensures value { leaves result self.new ≡ swap_of self.old }
+        ensures value { leaves result self.new ≡ swap_row self.old }
         ensures sizes { HasSizes self.old self.new }
     {
         let (a, b) = self.two()?;
@@ -66,20 +66,20 @@ impl Store {
         Ok(())
     }
 
-    /// DEPTH: the number of elements before.
-    #[tactic(auto, unfolding(crate::specs::Rows::depth_of))]
+    /// 24 DEPTH, DEPTH of the stack: `-> n`, the number of elements before.
+    #[tactic(auto, unfolding(crate::specs::Rows::depth_row))]
     pub fn depth(&mut self) -> Result<(), StackFault>
-        ensures value { leaves result self.new ≡ depth_of self.old }
+        ensures value { leaves result self.new ≡ depth_row self.old }
         ensures sizes { HasSizes self.old self.new }
     {
         let depth = self.stack_len() as i32;
         self.push(depth)
     }
 
-    /// CINDEX: a copy of the k-th element from the top after k is popped.
-    #[tactic(auto, unfolding(crate::specs::Rows::cindex_of))]
+    /// 25 CINDEX, Copy the INDEXed element: `.. k -> .. x`, a copy of the k-th element from the top after k is popped.
+    #[tactic(auto, unfolding(crate::specs::Rows::cindex_row))]
     pub fn cindex(&mut self) -> Result<(), StackFault>
-        ensures value { leaves result self.new ≡ cindex_of self.old }
+        ensures value { leaves result self.new ≡ cindex_row self.old }
         ensures sizes { HasSizes self.old self.new }
     {
         let k = self.one()?;
@@ -88,10 +88,10 @@ impl Store {
         Ok(())
     }
 
-    /// MINDEX: the k-th element from the top after k is popped moves to the top.
-    #[tactic(auto, unfolding(crate::specs::Rows::mindex_of))]
+    /// 26 MINDEX, Move the INDEXed element: `.. x .. k -> .. .. x`, which was the k-th from the top after k is popped.
+    #[tactic(auto, unfolding(crate::specs::Rows::mindex_row))]
     pub fn mindex(&mut self) -> Result<(), StackFault>
-        ensures value { leaves result self.new ≡ mindex_of self.old }
+        ensures value { leaves result self.new ≡ mindex_row self.old }
         ensures sizes { HasSizes self.old self.new }
     {
         let k = self.one()?;
@@ -100,10 +100,10 @@ impl Store {
         Ok(())
     }
 
-    /// ROLL: the third from the top moves to the top.
-    #[tactic(auto, unfolding(crate::specs::Rows::roll_of))]
+    /// 8A ROLL, ROLL the top three: `a b c -> b c a`.
+    #[tactic(auto, unfolding(crate::specs::Rows::roll_row))]
     pub fn roll(&mut self) -> Result<(), StackFault>
-        ensures value { leaves result self.new ≡ roll_of self.old }
+        ensures value { leaves result self.new ≡ roll_row self.old }
         ensures sizes { HasSizes self.old self.new }
     {
         let (a, b, c) = self.three()?;

@@ -6,7 +6,7 @@ ghost use Rattle.fx_fixed.specs.Chain.{map_ok};
 ghost use Rattle.fx_gstate.specs.States.{leaves};
 ghost use Rattle.fx_code.specs.Numbers.{numbers};
 ghost use Rattle.fx_stackops.specs.Table.{AreNumbers, read_of, written_of, stray_of};
-ghost use Rattle.fx_stackops.specs.Store.{room_of, one, two, two_from, three, index_of, element_of, moved_up, top_numbers};
+ghost use Rattle.fx_stackops.specs.Store.{one, two, two_from, three, index_of, element_of, moved_up, top_numbers};
 ghost use Rattle.fx_stackops.specs.Store.{pushed, with_stack, with_strays, HasSizes};
 ghost use Rattle.fx_stackops.specs.Store.{restarted, five, with_rest, with_rest_two, with_rest_three, with_rest_five};
 
@@ -15,9 +15,6 @@ use crate::table::Table;
 use fx_code::Instr;
 use std::alloc::{AllocError, Global};
 use std::marker::Model;
-
-/// How many numbers more than the font says the stack has room for.
-const SPARE: usize = 32;
 
 /// The stack, the storage area, the control values, and how many numbers outside their tables instructions have named.
 #[derive(Drop)]
@@ -41,11 +38,17 @@ impl Model for Store {
 }
 
 impl Store {
-    /// An empty stack for as many elements as the font says and 32 more, cells of storage, all 0, and these control values.
-    pub fn new(alloc: Global, elements: u16, cells: u16, cvt: Table) -> Result<Store, AllocError>
-        ensures { IfOk result (λ s. s ≡ restarted (room_of elements) (replicate cells (pos 0)) cvt) }
+    /// An empty stack for as many elements as the font says and some to spare, cells of storage, all 0, and these control values.
+    pub fn new(
+        alloc: Global,
+        elements: u16,
+        spare: u16,
+        cells: u16,
+        cvt: Table,
+    ) -> Result<Store, AllocError>
+        ensures { IfOk result (λ s. s ≡ restarted (elements + spare) (replicate cells (pos 0)) cvt) }
     {
-        let stack = Table::zeros(alloc, usize::from(elements) + SPARE)?;
+        let stack = Table::zeros(alloc, usize::from(elements) + usize::from(spare))?;
         let storage = Table::zeros(alloc, usize::from(cells))?;
         Ok(Store {
             cells: stack,

@@ -3,8 +3,8 @@
 ghost use Rattle.std.specs.Prelude.{◌≡◌, ◌+◌, ◌*◌, ◌≤◌, length};
 ghost use Rattle.fx_gstate.specs.States.{leaves};
 ghost use Rattle.fx_stackops.specs.Store.{HasSizes};
-ghost use Rattle.fx_stackops.specs.Rows.{ws_of, rs_of, wcvtp_of, rcvt_of, wcvtf_of, with_control, moved_control, control_pair};
-ghost use Rattle.fx_stackops.specs.Rows.{control_pairs, deltac_of};
+ghost use Rattle.fx_stackops.specs.Rows.{ws_row, rs_row, wcvtp_row, rcvt_row, with_control, moved_control, control_pair};
+ghost use Rattle.fx_stackops.specs.Rows.{control_pairs, deltac_row};
 
 use crate::fault::StackFault;
 use crate::store::Store;
@@ -12,10 +12,10 @@ use fx_fixed::{F26, Ppem};
 use fx_gstate::{Delta, DeltaForm, GState};
 
 impl Store {
-    /// WS: writes the storage area.
-    #[tactic(auto, unfolding(crate::specs::Rows::ws_of))]
+    /// 42 WS, Write Store: `i v ->`. Storage cell i becomes v.
+    #[tactic(auto, unfolding(crate::specs::Rows::ws_row))]
     pub fn ws(&mut self) -> Result<(), StackFault>
-        ensures value { leaves result self.new ≡ ws_of self.old }
+        ensures value { leaves result self.new ≡ ws_row self.old }
         ensures sizes { HasSizes self.old self.new }
     {
         let (i, value) = self.two()?;
@@ -25,10 +25,10 @@ impl Store {
         Ok(())
     }
 
-    /// RS: reads the storage area.
-    #[tactic(auto, unfolding(crate::specs::Rows::rs_of))]
+    /// 43 RS, Read Store: `i -> v`.
+    #[tactic(auto, unfolding(crate::specs::Rows::rs_row))]
     pub fn rs(&mut self) -> Result<(), StackFault>
-        ensures value { leaves result self.new ≡ rs_of self.old }
+        ensures value { leaves result self.new ≡ rs_row self.old }
         ensures sizes { HasSizes self.old self.new }
     {
         let i = self.one()?;
@@ -39,10 +39,10 @@ impl Store {
         Ok(())
     }
 
-    /// WCVTP: writes a control value, in 26.6.
-    #[tactic(auto, unfolding(crate::specs::Rows::wcvtp_of))]
+    /// 44 WCVTP, Write Control Value Table in Pixel units: `i v ->`. Control value i becomes v, in 26.6.
+    #[tactic(auto, unfolding(crate::specs::Rows::wcvtp_row))]
     pub fn wcvtp(&mut self) -> Result<(), StackFault>
-        ensures value { leaves result self.new ≡ wcvtp_of self.old }
+        ensures value { leaves result self.new ≡ wcvtp_row self.old }
         ensures sizes { HasSizes self.old self.new }
     {
         let (i, value) = self.two()?;
@@ -50,21 +50,10 @@ impl Store {
         Ok(())
     }
 
-    /// WCVTF: writes a control value, which the caller has scaled from FUnits.
-    #[tactic(auto, unfolding(crate::specs::Rows::wcvtf_of))]
-    pub fn wcvtf(&mut self, scaled: F26) -> Result<(), StackFault>
-        ensures value { leaves result self.new ≡ wcvtf_of scaled self.old }
-        ensures sizes { HasSizes self.old self.new }
-    {
-        let (i, _) = self.two()?;
-        self.set_control(i, scaled.0);
-        Ok(())
-    }
-
-    /// RCVT: reads a control value.
-    #[tactic(auto, unfolding(crate::specs::Rows::rcvt_of))]
+    /// 45 RCVT, Read Control Value Table: `i -> v`.
+    #[tactic(auto, unfolding(crate::specs::Rows::rcvt_row))]
     pub fn rcvt(&mut self) -> Result<(), StackFault>
-        ensures value { leaves result self.new ≡ rcvt_of self.old }
+        ensures value { leaves result self.new ≡ rcvt_row self.old }
         ensures sizes { HasSizes self.old self.new }
     {
         let i = self.one()?;
@@ -75,10 +64,11 @@ impl Store {
         Ok(())
     }
 
-    /// DELTAC1, DELTAC2, DELTAC3: moves the control values whose arguments act at this size.
-    #[tactic(auto, unfolding(crate::specs::Rows::deltac_of))]
+    /// 73 DELTAC1, 74 DELTAC2, 75 DELTAC3, DELTA exception C: `.. argument number n ->`, n pairs. Changes the control values
+    /// whose arguments act at this size.
+    #[tactic(auto, unfolding(crate::specs::Rows::deltac_row))]
     pub fn deltac(&mut self, form: DeltaForm, g: &GState, ppem: Ppem) -> Result<(), StackFault>
-        ensures value { leaves result self.new ≡ deltac_of form g.now ppem self.old }
+        ensures value { leaves result self.new ≡ deltac_row form g.now ppem self.old }
         ensures sizes { HasSizes self.old self.new }
     {
         let n = self.one()?;
@@ -131,7 +121,7 @@ impl Store {
         }
     }
 
-    /// Writes a control value, or counts a stray.
+    /// Writes a control value, or counts a stray, as WCVTP and WCVTF do.
     pub fn set_control(&mut self, number: i32, x: i32)
         ensures value { self.new ≡ with_control number x self.old }
         ensures sizes { HasSizes self.old self.new }

@@ -1,5 +1,6 @@
 //! Instructions, skips and listings, by hand.
-use fx_code::{Code, CodeFault, FDEF, IDEF, NPUSHB, NPUSHW, opcode_name};
+use fx_code::opcode::{FDEF, IDEF, NPUSHB, NPUSHW};
+use fx_code::{Code, CodeFault, opcode_name};
 use fx_fixed::{Limits, MemorySink, Sink, WriteFailed};
 use std::process::Abort;
 use std::test::Fail;

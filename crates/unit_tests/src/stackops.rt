@@ -1,6 +1,6 @@
 //! Worked instructions on the stack, the storage and the control values, by hand.
 use fx_code::Code;
-use fx_fixed::{F26, Ppem};
+use fx_fixed::Ppem;
 use fx_gstate::{DeltaForm, GState};
 use fx_stackops::{StackFault, Store, Table};
 use std::alloc::Global;
@@ -11,7 +11,7 @@ const LEAST: i32 = -2147483648;
 
 /// A store with room for 36 numbers, 4 cells of storage and 4 control values, and these numbers on its stack.
 fn store_of(alloc: Global, numbers: &[i32]) -> Result<Store, Fail> {
-    let mut store = Store::new(alloc, 4, 4, Table::zeros(alloc, 4)?)?;
+    let mut store = Store::new(alloc, 4, 32, 4, Table::zeros(alloc, 4)?)?;
     for number in numbers {
         store.push(*number)?;
     }
@@ -63,7 +63,6 @@ fn run(store: &mut Store, opcode: u8) -> Result<(), StackFault> {
         0x67 => store.ceiling(),
         0x68 => store.round(&g),
         0x6C => store.nround(),
-        0x70 => store.wcvtf(F26(77)),
         0x73 => store.deltac(DeltaForm::First, &g, size),
         0x74 => store.deltac(DeltaForm::Second, &g, size),
         0x75 => store.deltac(DeltaForm::Third, &g, size),
@@ -221,7 +220,6 @@ fn strays(rt: HostRuntime) -> Result<(), Fail> {
         (0x42, [3, 9], 0, 0),
         (0x43, [0, -1], 2, 1),
         (0x44, [4, 9], 0, 1),
-        (0x70, [-1, 9], 0, 1),
         (0x45, [0, 4], 2, 1),
         (0x45, [0, 3], 2, 0),
     ] {

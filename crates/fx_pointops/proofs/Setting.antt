@@ -1,0 +1,42 @@
+-- A point that is looked up once and then written is a point changed.
+-- Serves the rows that change points.
+use Rattle.std.proofs.Common.{◌≡◌, ℤ, pos, negsuc, Some, None, refl}
+use Rattle.fx_zone.specs.declared.point.Point.{Point}
+use Rattle.fx_gstate.specs.declared.zones.ZonePointer.{ZonePointer}
+use Rattle.fx_gstate.specs.declared.zones.ZonePointer.TheVariants.{Twilight, Glyph}
+use Rattle.fx_pointops.specs.declared.zones.Zones.{Zones}
+use Rattle.fx_pointops.specs.Zones.{point_at, changed_at, written_at, on_point}
+
+written_here : (change : Point → Point) (zone : ZonePointer) (n : ℤ) (z : Zones) (p : Point) → Some p ≡ point_at zone n z
+    → written_at (change p) zone n z ≡ changed_at change zone n z
+unfolding point_at written_at changed_at
+written_here change Twilight (pos n) z p e = rw (← e) refl
+written_here change Glyph (pos n) z p e = rw (← e) refl
+written_here change Twilight (negsuc n) z p e = absurd cc
+written_here change Glyph (negsuc n) z p e = absurd cc
+
+-- a point that is there, by a number n that code has as m
+pub set_is : (change : Point → Point) (zone : ZonePointer) (n m : ℤ) (z new : Zones) (p q : Point) → m ≡ n → Some p ≡ point_at zone m z
+    → q ≡ change p → new ≡ written_at q zone m z → new ≡ changed_at change zone n z
+set_is change zone n m z new p q is e f h = rw (h, f, ← is) (written_here change zone m z p e)
+
+pub set_here : (change : Point → Point) (zone : ZonePointer) (n m : ℤ) (z new : Zones) (p q : Point) → m ≡ n
+    → Some p ≡ point_at zone n z → q ≡ change p → new ≡ written_at q zone m z → new ≡ changed_at change zone n z
+set_here change zone n m z new p q is e f h = set_is change zone n m z new p q is (rw is e) f h
+
+pub outcome_is : (change : Point → Point) (zone : ZonePointer) (n m : ℤ) (z new : Zones) (p q : Point) → m ≡ n
+    → Some p ≡ point_at zone m z → q ≡ change p → new ≡ written_at q zone m z → (new, 0) ≡ on_point change zone n z
+outcome_is change zone n m z new p q is e f h = rw (set_is change zone n m z new p q is e f h, ← is, ← e) refl
+
+-- a point that is not there
+pub unchanged : (change : Point → Point) (zone : ZonePointer) (n : ℤ) (z : Zones) → None ≡ point_at zone n z
+    → z ≡ changed_at change zone n z
+unfolding point_at changed_at
+unchanged change Twilight (pos n) z e = rw (← e) refl
+unchanged change Glyph (pos n) z e = rw (← e) refl
+unchanged change Twilight (negsuc n) z e = refl
+unchanged change Glyph (negsuc n) z e = refl
+
+pub stray_is : (change : Point → Point) (zone : ZonePointer) (n : ℤ) (z : Zones) → None ≡ point_at zone n z
+    → (z, 1) ≡ on_point change zone n z
+stray_is change zone n z e = rw (← e, ← unchanged change zone n z e) refl
