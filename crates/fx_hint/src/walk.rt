@@ -26,7 +26,7 @@ use fx_sfnt::{Font, Metrics};
 use fx_zone::Zone;
 use std::alloc::Global;
 
-/// The number of levels that are allowed below this number of open composites.
+/// The number of levels that are allowed below this number of waiting composites.
 fn levels_below(waiting: usize) -> u8
     requires { waiting ≤ max_depth }
     ensures { result ≡ max_depth - waiting }
