@@ -2,12 +2,12 @@
 
 ghost use Rattle.std.specs.Prelude.{◌≡◌, ◌+◌, ◌≤◌, length, reverse};
 ghost use Rattle.fx_pointops.specs.Zones.{HasShapes};
-ghost use Rattle.fx_pointops.specs.Loops.{each};
 ghost use Rattle.fx_pointops.specs.Measure.{org_at};
 ghost use Rattle.fx_pointops.specs.Direct.{untouched_along, untouched_by, utp_of, to_grid, moved_to_grid, mdap_of, laid_from_rp, moved_to_distance};
 ghost use Rattle.fx_pointops.specs.Direct.{msirp_of, aligned_to_rp, alignrp_of, half_of, alignpts_of, moved_to_value, scfs_of, shpix_of, wanted_of, mdrp_of};
 
 use crate::distances::{Relative, kept_by, negative, rounded_by, single};
+use crate::loops::LoopStep;
 use crate::shift_point::moved_by;
 use crate::zones::{Zones, cur, is_twilight, org, stray};
 use fx_fixed::{Axis, F26, Place, cut, w32};
@@ -155,7 +155,7 @@ impl Zones {
 
     /// Moves a point to the distance 0 from reference point 0.
     #[tactic(auto, unfolding(crate::specs::Direct::aligned_to_rp), using(crate::proofs::Setting::stray_is))]
-    fn align_to_rp(&mut self, g: &GState, p: i32) -> u64
+    pub(crate) fn align_to_rp(&mut self, g: &GState, p: i32) -> u64
         ensures value { (self.new, result) ≡ aligned_to_rp g.now p self.old }
         ensures few { result ≤ 1 }
         ensures shapes { HasShapes self.old self.new }
@@ -168,22 +168,6 @@ impl Zones {
         0
     }
 
-    /// Moves points to the distance 0 from reference point 0, the last of the slice first.
-    fn align_each(&mut self, g: &GState, points: &[i32]) -> u64
-        ensures value { (self.new, result) ≡ each (aligned_to_rp g.now) (reverse points.now) self.old }
-        ensures few { result ≤ length points.now }
-        ensures shapes { HasShapes self.old self.new }
-    {
-        let mut strays = 0;
-        let mut left = points.len();
-        // The points from `left` on are done.
-        'points: while left > 0 {
-            left -= 1;
-            strays += self.align_to_rp(g, points[left]);
-        }
-        strays
-    }
-
     /// 3C ALIGNRP, ALIGN Relative Point: moves each p, of zp1, to the distance 0 from rp0, of zp0.
     #[tactic(auto, unfolding(crate::specs::Direct::alignrp_of))]
     pub fn alignrp(&mut self, g: &GState, points: &[i32]) -> u64
@@ -192,7 +176,7 @@ impl Zones {
         ensures shapes { HasShapes self.old self.new }
     {
         let base = self.point(g.zp0, g.rp0);
-        let strays = self.align_each(g, points);
+        let strays = self.each(g, &LoopStep::Align, points);
         stray(&base) + strays
     }
 
@@ -233,7 +217,7 @@ impl Zones {
         ensures shapes { HasShapes self.old self.new }
     {
         let by = g.freedom_place(a);
-        self.shift_each(g, &by, points)
+        self.each(g, &LoopStep::Shift(by), points)
     }
 
     /// C0-DF MDRP[abcde], Move Direct Relative Point: moves p, of zp1, to its original distance from rp0, of zp0, or the single

@@ -3,9 +3,9 @@
 ghost use Rattle.std.specs.Prelude.{◌≡◌, ◌+◌, ◌≤◌, length, reverse};
 ghost use Rattle.fx_zone.specs.Figures.{HasShape};
 ghost use Rattle.fx_pointops.specs.Zones.{HasShapes, index_of};
-ghost use Rattle.fx_pointops.specs.Loops.{each};
 ghost use Rattle.fx_pointops.specs.Flip.{point_flipped, flippt_of, run_curved, run_curved_at, fliprg_of};
 
+use crate::loops::LoopStep;
 use crate::zones::{Zones, index_of, stray};
 use fx_gstate::{GState, ZonePointer};
 use fx_zone::Zone;
@@ -24,7 +24,7 @@ fn curve_run(zone: &mut Zone, on: bool, low: usize, high: usize)
 impl Zones {
     /// Flips a point: on the curve, or off it.
     #[tactic(auto, unfolding(crate::specs::Flip::point_flipped), using(crate::proofs::Setting::stray_is))]
-    fn flip_point(&mut self, g: &GState, p: i32) -> u64
+    pub(crate) fn flip_point(&mut self, g: &GState, p: i32) -> u64
         ensures value { (self.new, result) ≡ point_flipped g.now p self.old }
         ensures few { result ≤ 1 }
         ensures shapes { HasShapes self.old self.new }
@@ -36,22 +36,6 @@ impl Zones {
         0
     }
 
-    /// Flips points, the last of the slice first.
-    fn flip_each(&mut self, g: &GState, points: &[i32]) -> u64
-        ensures value { (self.new, result) ≡ each (point_flipped g.now) (reverse points.now) self.old }
-        ensures few { result ≤ length points.now }
-        ensures shapes { HasShapes self.old self.new }
-    {
-        let mut strays = 0;
-        let mut left = points.len();
-        // The points from `left` on are done.
-        'points: while left > 0 {
-            left -= 1;
-            strays += self.flip_point(g, points[left]);
-        }
-        strays
-    }
-
     /// 80 FLIPPT, FLIP PoinT: each p, of zp0, goes off the curve, or onto it.
     #[tactic(auto, unfolding(crate::specs::Flip::flippt_of))]
     pub fn flippt(&mut self, g: &GState, points: &[i32]) -> u64
@@ -59,7 +43,7 @@ impl Zones {
         ensures few { result ≤ length points.now }
         ensures shapes { HasShapes self.old self.new }
     {
-        self.flip_each(g, points)
+        self.each(g, &LoopStep::Flip, points)
     }
 
     /// Makes the points of a zone from `low` to `high` ones on the curve, or off it, if both are inside.

@@ -3,10 +3,10 @@
 ghost use Rattle.std.specs.Prelude.{◌≡◌, ◌≢◌, ◌+◌, ◌≤◌, ◌^◌, pos, ◌*ℤ◌, unsigned_abs, length, reverse};
 ghost use Rattle.fx_fixed.specs.Numbers.{near_of, wrapped_of};
 ghost use Rattle.fx_pointops.specs.Zones.{HasShapes};
-ghost use Rattle.fx_pointops.specs.Loops.{each};
 ghost use Rattle.fx_pointops.specs.Interpolate.{proportion_of, point_in_proportion, ip_of};
 
 use crate::distances::product;
+use crate::loops::LoopStep;
 use crate::zones::{Zones, stray};
 use fx_fixed::{F26, near_quotient, w32};
 use fx_gstate::GState;
@@ -44,7 +44,7 @@ fn proportion(o: F26, cb: F26, ob: F26) -> F26
 impl Zones {
     /// Moves a point to the distance from reference point 1 that is in proportion.
     #[tactic(auto, unfolding(crate::specs::Interpolate::point_in_proportion))]
-    fn move_in_proportion(&mut self, g: &GState, cb: &F26, ob: &F26, p: i32) -> u64
+    pub(crate) fn move_in_proportion(&mut self, g: &GState, cb: &F26, ob: &F26, p: i32) -> u64
         ensures value { (self.new, result) ≡ point_in_proportion g.now cb.now ob.now p self.old }
         ensures few { result ≤ 1 }
         ensures shapes { HasShapes self.old self.new }
@@ -76,22 +76,6 @@ impl Zones {
         stray(&point)
     }
 
-    /// Moves points to distances in proportion, the last of the slice first.
-    fn move_each_in_proportion(&mut self, g: &GState, cb: &F26, ob: &F26, points: &[i32]) -> u64
-        ensures value { (self.new, result) ≡ each (point_in_proportion g.now cb.now ob.now) (reverse points.now) self.old }
-        ensures few { result ≤ length points.now }
-        ensures shapes { HasShapes self.old self.new }
-    {
-        let mut strays = 0;
-        let mut left = points.len();
-        // The points from `left` on are done.
-        'points: while left > 0 {
-            left -= 1;
-            strays += self.move_in_proportion(g, cb, ob, points[left]);
-        }
-        strays
-    }
-
     /// 39 IP, Interpolate Point: moves each p, of zp2, in proportion between rp1, of zp0, and rp2, of zp1.
     #[tactic(auto, unfolding(crate::specs::Interpolate::ip_of))]
     pub fn ip(&mut self, g: &GState, points: &[i32]) -> u64
@@ -102,7 +86,7 @@ impl Zones {
         let base = stray(&self.point(g.zp0, g.rp1)) + stray(&self.point(g.zp1, g.rp2));
         let ob = self.original(g, g.zp1, g.rp2, g.zp0, g.rp1);
         let cb = self.distance(g, g.zp1, g.rp2, g.zp0, g.rp1);
-        let strays = self.move_each_in_proportion(g, &cb, &ob, points);
+        let strays = self.each(g, &LoopStep::Interpolate { cb, ob }, points);
         base + strays
     }
 }

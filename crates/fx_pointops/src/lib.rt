@@ -15,6 +15,7 @@ mod indirect;
 mod interpolate;
 mod intersect;
 mod iup;
+mod loops;
 mod measure;
 mod shift;
 mod shift_point;

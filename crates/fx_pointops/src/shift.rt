@@ -5,6 +5,7 @@ ghost use Rattle.fx_zone.specs.Figures.{range_shifted};
 ghost use Rattle.fx_pointops.specs.Zones.{HasShapes, zone_at, on_zone};
 ghost use Rattle.fx_pointops.specs.Shift.{reference_zone, reference_point, reference_stray, reference_shift, excepted, shp_of, contour_at, stray_contour, contour_shifted, shc_of, count_without_phantoms, shz_of};
 
+use crate::loops::LoopStep;
 use crate::zones::{Zones, cur, index_of, is_same_zone, org, stray};
 use fx_fixed::{Axis, Place};
 use fx_gstate::{GState, ZonePointer};
@@ -77,7 +78,7 @@ impl Zones {
     {
         let base = self.reference_stray(g, one);
         let by = self.reference_shift(g, one);
-        let strays = self.shift_each(g, &by, points);
+        let strays = self.each(g, &LoopStep::Shift(by), points);
         base + strays
     }
 

@@ -1,8 +1,7 @@
 //! How instructions move points: along the freedom vector, and touching them.
 
-ghost use Rattle.std.specs.Prelude.{◌≡◌, ◌≤◌, Some, length, reverse};
+ghost use Rattle.std.specs.Prelude.{◌≡◌, ◌≤◌, Some};
 ghost use Rattle.fx_pointops.specs.Zones.{HasShapes, point_at, changed_at};
-ghost use Rattle.fx_pointops.specs.Loops.{each};
 ghost use Rattle.fx_pointops.specs.ShiftPoint.{shifted_by, moved_by, point_shifted};
 
 use crate::zones::Zones;
@@ -62,7 +61,7 @@ impl Zones {
 
     /// Shifts a point of zp2.
     #[tactic(auto, unfolding(crate::specs::ShiftPoint::point_shifted), using(crate::proofs::Setting::stray_is))]
-    fn shift_point(&mut self, g: &GState, by: &Place, p: i32) -> u64
+    pub(crate) fn shift_point(&mut self, g: &GState, by: &Place, p: i32) -> u64
         ensures value { (self.new, result) ≡ point_shifted g.now by.now p self.old }
         ensures few { result ≤ 1 }
         ensures shapes { HasShapes self.old self.new }
@@ -72,21 +71,5 @@ impl Zones {
         };
         self.set(g.zp2, p, shifted_by(g, *by, point));
         0
-    }
-
-    /// Shifts points of zp2, the last of the slice first.
-    pub(crate) fn shift_each(&mut self, g: &GState, by: &Place, points: &[i32]) -> u64
-        ensures value { (self.new, result) ≡ each (point_shifted g.now by.now) (reverse points.now) self.old }
-        ensures few { result ≤ length points.now }
-        ensures shapes { HasShapes self.old self.new }
-    {
-        let mut strays = 0;
-        let mut left = points.len();
-        // The points from `left` on are done.
-        'points: while left > 0 {
-            left -= 1;
-            strays += self.shift_point(g, by, points[left]);
-        }
-        strays
     }
 }

@@ -1,9 +1,9 @@
 //! Zones.
 
-ghost use Rattle.std.specs.Prelude.{◌≡◌, ◌+◌, ◌<◌, ◌≤◌, ◌^◌, ◌++◌, [], length, map, take, slice_get, IfSome, slice_set, OnOk, OnErr, true, false};
+ghost use Rattle.std.specs.Prelude.{◌≡◌, ◌+◌, ◌<◌, ◌≤◌, ◌^◌, ◌++◌, [], length, map, take, slice_get, IfSome, slice_set, OnOk, OnErr, true};
 ghost use Rattle.std.specs.List.{All};
 ghost use Rattle.fx_zone.specs.Figures.{Figure, joined, empty_figure, changed, range_shifted, range_curved, figure_rested, contour_of, HasShape};
-ghost use Rattle.fx_zone.specs.Points.{moved, marked, shifted as shifted_by, put, laid, settled, flipped};
+ghost use Rattle.fx_zone.specs.Points.{moved, marked};
 ghost use Rattle.fx_zone.specs.Interpolation.{figure_interpolated};
 
 use crate::interpolation::interpolate_contours;
@@ -109,66 +109,6 @@ impl Zone {
     {
         if let Some(point) = self.point(number) {
             self.set(number, point.marked(axis, true));
-        }
-    }
-
-    /// Untouches the point of a number along an axis, if it is inside.
-    pub fn untouch(&mut self, number: usize, axis: Axis)
-        ensures value { self.new ≡ changed (marked axis false) number self.old }
-        ensures shape { HasShape self.old self.new }
-    {
-        if let Some(point) = self.point(number) {
-            self.set(number, point.marked(axis, false));
-        }
-    }
-
-    /// Shifts the point of a number, if it is inside, and touches it along the axes that are given.
-    pub fn shift(&mut self, number: usize, by: Place, x: bool, y: bool)
-        ensures value { self.new ≡ changed (shifted_by by x y) number self.old }
-        ensures shape { HasShape self.old self.new }
-    {
-        if number < self.points.len() {
-            self.points[number] = self.points[number].shifted(by, x, y);
-        }
-    }
-
-    /// Puts the point of a number, if it is inside, at another current place, and touches it along both axes.
-    pub fn put(&mut self, number: usize, cur: Place)
-        ensures value { self.new ≡ changed (put cur) number self.old }
-        ensures shape { HasShape self.old self.new }
-    {
-        if number < self.points.len() {
-            self.points[number] = self.points[number].put(cur);
-        }
-    }
-
-    /// Lays the point of a number, if it is inside: its original and current place.
-    pub fn lay(&mut self, number: usize, place: Place)
-        ensures value { self.new ≡ changed (laid place) number self.old }
-        ensures shape { HasShape self.old self.new }
-    {
-        if number < self.points.len() {
-            self.points[number] = self.points[number].laid(place);
-        }
-    }
-
-    /// Takes the current place of the point of a number, if it is inside, for its original one.
-    pub fn settle(&mut self, number: usize)
-        ensures value { self.new ≡ changed settled number self.old }
-        ensures shape { HasShape self.old self.new }
-    {
-        if number < self.points.len() {
-            self.points[number] = self.points[number].settled();
-        }
-    }
-
-    /// Flips the point of a number, if it is inside: on the curve, or off it.
-    pub fn flip(&mut self, number: usize)
-        ensures value { self.new ≡ changed flipped number self.old }
-        ensures shape { HasShape self.old self.new }
-    {
-        if number < self.points.len() {
-            self.points[number] = self.points[number].flipped();
         }
     }
 

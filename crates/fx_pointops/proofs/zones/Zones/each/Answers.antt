@@ -1,17 +1,17 @@
 use Rattle.std.proofs.Common.{arith, rules, FitsSigned, to_z-of_z, get_or, ◌-◌, pos}
 use Rattle.std.specs.Int.{w32}
-use Rattle.fx_pointops.specs.Flip.{point_flipped}
+use Rattle.fx_pointops.specs.inner.Steps.{steps_of}
 use Rattle.fx_pointops.proofs.Looping.{loop_next, loop_done}
-use Rattle.fx_pointops.proofs.zones.Zones.flip_each.Goals as goal
+use Rattle.fx_pointops.proofs.zones.Zones.each.Goals as goal
 
 pub points-preserved : goal.points-preserved
 points-preserved c =
     let i = c.points.invariant in
-    let s = c.flip_point-strays.ensures in
+    let s = c.step-strays.ensures in
     let fits : FitsSigned w32 (get_or c.args.points.now (c.points.left - 1) (pos 0)) = search rules in
     record {
-      answer = loop_next (point_flipped c.args.g.now) c.args.points.now c.points.self c.flip_point-strays.new.self c.points.left
-          c.flip_point-strays.result c.points.strays _ _ (omega arith) i.within (to_z-of_z fits) s.value i.answer;
+      answer = loop_next (steps_of c.args.g.now c.args.step.now) c.args.points.now c.points.self c.step-strays.new.self c.points.left
+          c.step-strays.result c.points.strays _ _ (omega arith) i.within (to_z-of_z fits) s.value i.answer;
       within = omega arith;
       few = omega (arith, i.few, s.few);
       shapes = search rules;
@@ -19,5 +19,5 @@ points-preserved c =
 
 pub returns-clause-value : goal.returns-clause-value
 returns-clause-value c =
-    loop_done (point_flipped c.args.g.now) c.args.points.now c.points.self c.points.left c.points.strays _ (omega arith)
+    loop_done (steps_of c.args.g.now c.args.step.now) c.args.points.now c.points.self c.points.left c.points.strays _ (omega arith)
     c.points.invariant.answer

@@ -1,13 +1,13 @@
 use Rattle.std.proofs.Common.{◌≡◌, ◌≤◌, ◌+◌, length, take, reverse}
 use Rattle.fx_pointops.specs.Zones.{HasShapes, with_strays}
 use Rattle.fx_pointops.specs.Loops.{each}
-use Rattle.fx_pointops.specs.Direct.{aligned_to_rp}
-use Rattle.fx_pointops.proofs.zones.Zones.align_each.Given as goal
+use Rattle.fx_pointops.specs.inner.Steps.{steps_of}
+use Rattle.fx_pointops.proofs.zones.Zones.each.Given as goal
 
 abbrev pub invariant-points : goal.invariant-points
 invariant-points l = record {
-  answer : each (aligned_to_rp l.g) (reverse l.points) l.fn.self ≡ with_strays l.strays
-      (each (aligned_to_rp l.g) (reverse (take l.left l.points)) l.self);
+  answer : each (steps_of l.g l.step) (reverse l.points) l.fn.self ≡ with_strays l.strays
+      (each (steps_of l.g l.step) (reverse (take l.left l.points)) l.self);
   within : l.left ≤ length l.points;
   few : l.strays + l.left ≤ length l.points;
   shapes : HasShapes l.fn.self l.self;

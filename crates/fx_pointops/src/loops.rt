@@ -1,0 +1,55 @@
+//! The points of a loop.
+
+ghost use Rattle.std.specs.Prelude.{◌≡◌, ◌≤◌, length, reverse};
+ghost use Rattle.fx_pointops.specs.Zones.{HasShapes};
+ghost use Rattle.fx_pointops.specs.Loops.{each};
+ghost use Rattle.fx_pointops.specs.inner.Steps.{steps_of};
+
+use crate::zones::Zones;
+use fx_fixed::{F26, Place};
+use fx_gstate::GState;
+
+/// What a row does with each point of its loop.
+#[derive(Clone, Copy, Debug, PartialEq, Eq)]
+pub enum LoopStep {
+    /// ALIGNRP: it moves to the distance 0 from reference point 0.
+    Align,
+    /// FLIPPT: it goes off the curve, or onto it.
+    Flip,
+    /// SHP, SHPIX: it is shifted by this place.
+    Shift(Place),
+    /// IP: it moves to a distance in the proportion of `cb` to `ob`.
+    Interpolate { cb: F26, ob: F26 },
+}
+
+impl Zones {
+    /// The steps of a row for one point; 1 if it is a stray.
+    fn step(&mut self, g: &GState, step: &LoopStep, p: i32) -> u64
+        ensures value { (self.new, result) ≡ steps_of g.now step.now p self.old }
+        ensures few { result ≤ 1 }
+        ensures shapes { HasShapes self.old self.new }
+    {
+        match step {
+            LoopStep::Align => self.align_to_rp(g, p),
+            LoopStep::Flip => self.flip_point(g, p),
+            LoopStep::Shift(by) => self.shift_point(g, by, p),
+            LoopStep::Interpolate { cb, ob } => self.move_in_proportion(g, cb, ob, p),
+        }
+    }
+
+    /// The steps of a row for each point, the last of the slice first: how many are strays.
+    pub(crate) fn each(&mut self, g: &GState, step: &LoopStep, points: &[i32]) -> u64
+        ensures value { (self.new, result) ≡ each (steps_of g.now step.now) (reverse points.now) self.old }
+        ensures few { result ≤ length points.now }
+        ensures shapes { HasShapes self.old self.new }
+    {
+        let mut strays = 0;
+        let mut left = points.len();
+        // The points from `left` on are done.
+        'points: while left > 0 {
+            left -= 1;
+            strays += self.step(g, step, points[left]);
+        }
+        strays
+    }
+}
