@@ -9,7 +9,7 @@ use Rattle.std.specs.Int.{to_le_bytes}
 use Rattle.std.specs.Int.Bits.{bit_and, bit_or, and_zero_r, or_zero_r}
 use Rattle.std.specs.Fmt.{digit_glyph}
 use lib.Lanes.{top}
-use Rattle.fx_bdf.specs.inner.Buffer.{word_text}
+use Rattle.fx_bdf.specs.inner.Lines.{word_text}
 
 -- the digit of a lane with a number below 16
 abbrev digit_lane : ℕ → ℕ

@@ -1,15 +1,17 @@
--- Bytes written over those of a buffer.
--- Serves the lines of rows in a buffer.
+-- Lines of rows written over the bytes of a buffer.
+-- Serves `put_line`, `put_lines` and `add_rows`.
 use Rattle.std.proofs.Common.{◌≡◌, ℕ, ◌+◌, ◌-◌, ◌<◌, ◌≤◌, List, [], ◌∷◌, ◌++◌, Bool, length}
 use Rattle.std.proofs.Common.{take, drop, get_or, sym, ap, ◌∙◌, arith}
-use Rattle.std.proofs.Common.{append_assoc, append-nil, length-drop, get_or-drop, Option, Ok}
+use Rattle.std.proofs.Common.{append_assoc, append-nil, length-drop, get_or-drop, Ok}
 use Rattle.std.specs.List.{flat_map}
 use Rattle.std.proofs.lemmas.Grind.{flat_map-append}
 use Rattle.std.proofs.lemmas.List.{take-append-drop, take-append-le, length-take-le}
 use Rattle.std.proofs.Math.Seq.{take-append-add, take-add}
 use Rattle.fx_bdf.specs.Text.{row_text}
-use Rattle.fx_bdf.specs.inner.Buffer.{BufferView, Adds, lines_between}
-use Rattle.fx_bdf.proofs.Adding.{adds_then, adds_text, adds_here, parts_more}
+use Rattle.fx_fixed.specs.Texts.{TextView, Adds, Fails, with_more}
+use Rattle.fx_fixed.proofs.Texts.{adds_then, adds_text, adds_more}
+use Rattle.fx_fixed.proofs.Writing.{parts_more}
+use Rattle.fx_bdf.specs.inner.Lines.{lines_between}
 
 -- the first bytes of those that were written after `used` bytes
 front : (used count m : ℕ) (old mid digits : List ℕ) → used ≤ length old → count ≤ m → used + m ≤ length mid
@@ -68,10 +70,7 @@ lines_joined rows first next order =
     ∙ ap (λ (n : ℕ). flat_map row_text (take n rows)) all
 
 -- they are added after those that were added before
-pub adds_lines : {old new : Option (List ℕ)} {faults_before after : ℕ} {was now next : BufferView} (rows : List (List Bool))
-    (first end : ℕ) → first ≤ end
-    → Adds old new faults_before after was now (flat_map row_text (take first rows)) (Ok tt)
-    → next.waiting ≡ now.waiting ++ lines_between rows first end → next.done ≡ now.done
-    → Adds old new faults_before after was next (flat_map row_text (take end rows)) (Ok tt)
-adds_lines rows first end order added waiting done =
-    adds_text (lines_joined rows first end order) (adds_then added (adds_here waiting done))
+pub adds_lines : {was now next : TextView} (rows : List (List Bool)) (first end : ℕ) → first ≤ end
+    → Adds Fails was now (flat_map row_text (take first rows)) (Ok tt) → next ≡ with_more now (lines_between rows first end)
+    → Adds Fails was next (flat_map row_text (take end rows)) (Ok tt)
+adds_lines rows first end order added more = adds_text (lines_joined rows first end order) (adds_then added (adds_more more))

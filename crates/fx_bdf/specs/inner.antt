@@ -1,4 +1,4 @@
 -- What only private contracts cite.
 pub mod BoxRows
-pub mod Buffer
+pub mod Lines
 pub mod RowWords

@@ -1,7 +1,7 @@
 //! Words of pixels as hexadecimal digits.
 
 ghost use Rattle.std.specs.Prelude.{◌≡◌};
-ghost use Rattle.fx_bdf.specs.inner.Buffer.{word_text};
+ghost use Rattle.fx_bdf.specs.inner.Lines.{word_text};
 
 use std::simd::prelude::*;
 

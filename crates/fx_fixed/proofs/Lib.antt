@@ -5,6 +5,7 @@ pub mod Greatest
 pub mod Rising
 pub mod Units
 pub mod Writing
+pub mod Texts
 pub mod Decimals
 pub mod Hexadecimals
 pub mod Chain

@@ -1,7 +1,7 @@
 -- One text after another on a sink.
 -- For calls that write a text in several steps, in all crates that write.
 use Rattle.std.proofs.Common.{refl, [], ◌∷◌, zero, suc, drop, get_or, ◌≡◌, ℕ, ◌+◌, ◌-◌, ◌<◌, ◌≤◌, ◌++◌, List, length, take}
-use Rattle.std.proofs.Common.{length-append, length-drop, sym, ap, ◌∙◌, arith, subst, append_assoc, Result, Ok, Err, IfOk, Option}
+use Rattle.std.proofs.Common.{length-append, length-drop, sym, ap, ◌∙◌, arith, subst, append_assoc, append-nil, Result, Ok, Err, IfOk, Option}
 use Rattle.std.specs.List.{flat_map}
 use Rattle.std.specs.Io.KnownBytes.{Appends}
 use Rattle.std.proofs.KnownBytes.{Appends-trans}
@@ -131,6 +131,18 @@ parts f (x ∷ xs) zero d h = refl
 parts f (x ∷ xs) (suc i) d h =
     ap (λ (t : List ℕ). f x ++ t) (parts f xs i d (omega arith))
     ∙ sym (append_assoc (f x) (flat_map f (take i xs)) (f (get_or xs i d) ++ flat_map f (drop (suc i) xs)))
+
+-- one more
+pub parts_more : {X : Type 0} (f : X → List ℕ) (xs : List X) (i : ℕ) (d : X) → i < length xs
+    → flat_map f (take i xs) ++ f (get_or xs i d) ≡ flat_map f (take (i + 1) xs)
+parts_more {X} f xs i d h =
+    let next : suc i ≡ i + 1 = omega arith in by xs i h ∙ ap (λ n. flat_map f (take n xs)) next
+  where
+    by : (xs : List X) (i : ℕ) → i < length xs → flat_map f (take i xs) ++ f (get_or xs i d) ≡ flat_map f (take (suc i) xs)
+    by [] i h = absurd (omega arith)
+    by (x ∷ xs) zero h = sym (append-nil (f x))
+    by (x ∷ xs) (suc i) h =
+        append_assoc (f x) (flat_map f (take i xs)) (f (get_or xs i d)) ∙ ap (λ t. f x ++ t) (by xs i (omega arith))
 
 -- a piece of them fits if all do
 pub part_fits : {X : Type 0} (f : X → List ℕ) (xs : List X) (i : ℕ) (d : X) (now m : ℕ) → i < length xs

@@ -3,6 +3,7 @@ pub mod Greatest
 pub mod Unit
 pub mod Chain
 pub mod Wrote
+pub mod Texts
 pub mod Memory
 pub mod Lines
 pub mod Polynomial

@@ -14,6 +14,7 @@ mod sink;
 mod sizes;
 mod slices;
 mod source;
+mod text;
 mod vectors;
 
 pub use digits::{Digits, hex_digit};
@@ -27,4 +28,5 @@ pub use sink::{Sink, ToSink, WriteFailed, put_all, put_part};
 pub use sizes::{MAX_PPEM, Ppem};
 pub use slices::{after, before, part};
 pub use source::{FromReader, Source};
+pub use text::{Fill, TextWriter};
 pub use vectors::{unit, unit_laws};

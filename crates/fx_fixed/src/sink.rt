@@ -74,7 +74,7 @@ impl<W: Write> Sink for ToSink<W> {
 }
 
 /// Appends one piece, after `done` bytes of the call, and returns the number of bytes then.
-fn put_piece<W: Sink>(out: &mut W, done: u64, piece: &[u8]) -> Result<u64, WriteFailed>
+pub(crate) fn put_piece<W: Sink>(out: &mut W, done: u64, piece: &[u8]) -> Result<u64, WriteFailed>
     requires faults { W.fault_count out.old < 2 ^ 63 }
     requires fits { done + length piece.now < 2 ^ 64 }
     ensures { WrotePart (W.held out.old) (W.held out.new) (W.fault_count out.old) (W.fault_count out.new) done piece.now result }

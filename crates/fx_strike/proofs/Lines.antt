@@ -1,16 +1,17 @@
 -- What the second pass writes: of a character, of all characters, and of a strike.
 -- Serves `write_one`, `write_all`, `write_text` and `write_after`.
-use Rattle.std.proofs.Common.{◌≡◌, refl, sym, ap, ◌∙◌, subst, arith, inr, ℕ, ◌+◌, ◌<◌, Bool, true, false}
+use Rattle.std.proofs.Common.{◌≡◌, refl, sym, ap, ◌∙◌, subst, arith, inr, ℕ, ◌+◌, ◌-◌, ◌^◌, ◌<◌, ◌≤◌, OnOk, Bool, true, false}
 use Rattle.std.proofs.Common.{List, [], ◌∷◌, ◌++◌, append_assoc, length, take, drop, get_or, length-append, Option, Some, None}
 use Rattle.std.proofs.Common.{Result, Ok, Err, cond}
 use Rattle.std.specs.Prelude.{neg_ℤ, IsOk, filter, not, ◌==◌}
 use Rattle.std.specs.Io.KnownBytes.{Appends}
 use Rattle.std.specs.List.{flat_map, count_by}
-use Rattle.std.proofs.KnownBytes.{Appends-trans}
-use Rattle.std.proofs.Math.Seq.{take-append-add}
-use Rattle.std.proofs.lemmas.List.{take-append-le, append-nil, drop_more}
+use Rattle.std.specs.Borrow.{GName}
+use Rattle.std.proofs.KnownBytes.{Appends-nil}
+use Rattle.std.proofs.lemmas.List.{append-nil, drop_more}
 use Rattle.fx_fixed.specs.Chain.{◌>>=◌, map_chain}
-use Rattle.fx_fixed.specs.Wrote.{WrotePart}
+use Rattle.fx_fixed.specs.Texts.{TextView, Adds, Fails as WriterFails, begun, length_of}
+use Rattle.fx_fixed.proofs.Texts.{adds_nothing, adds_then, adds_stopped, adds_text, adds_out, adds_short}
 use Rattle.fx_fixed.specs.declared.sink.WriteFailed.{WriteFailed as Failed}
 use Rattle.fx_fixed.proofs.Chain.{bind_ok, same_Ok}
 use Rattle.fx_sfnt.specs.Tables.{Face}
@@ -31,114 +32,96 @@ use Rattle.fx_strike.specs.Strike.{Sketch, Prelude, Plan, Opening, IsGlyphOf, Ar
 use Rattle.fx_strike.specs.Strike.{is_missing, sketches_of, plan_after, strike_text}
 use Rattle.fx_strike.specs.Headline.{IsReportOf, Surveyed, Leaves, surveyed_header, surveyed_report}
 use Rattle.fx_strike.specs.inner.Surveying.{seen_prelude}
-use Rattle.fx_strike.specs.inner.Writing.{AreLinesBy, AreLinesOf, AreAllLinesOf, WritesBy, Writes}
+use Rattle.fx_strike.specs.inner.Writing.{AreLinesBy, AreLinesOf, AreAllLinesOf, IsShort, Stops, WritesBy, Writes}
 use Rattle.fx_strike.proofs.OnePart.{glyph_is_one}
 use Rattle.fx_strike.proofs.Seeing.{missing_is, not_zero, same_sketch}
 
 -- ---- parts of a text
 
-appends_none : (old : Option (List ℕ)) → Appends old old []
-appends_none None = tt
-appends_none (Some xs) = sym (append-nil xs)
-
 appends_text : (old new : Option (List ℕ)) (a b : List ℕ) → a ≡ b → Appends old new a → Appends old new b
 appends_text old new a b e h = let P : List ℕ → Type 0 = λ t. Appends old new t in subst P e h
 
--- nothing was written yet when memory ran out
-writes_none : (old : Option (List ℕ)) (faults done : ℕ) (text : List ℕ) (r : Result ℕ Refusal) (e d : Refusal)
-    → r ≡ Err e → e ≡ d → d ≡ OutOfMemory → 0 < length text → Writes old old faults faults done text r
-writes_none old faults done text r e d p q m l =
-    let P : Result ℕ Refusal → Type 0 = λ s. Writes old old faults faults done text s in
-    subst P (sym (p ∙ ap Err (q ∙ m))) (record { outcome = (0, l, appends_none old, refl) })
-
 -- the writer took it, or failed
-pub part_written : {old new : Option (List ℕ)} {faults_before faults_after done n : ℕ} {text : List ℕ}
-    → WrotePart old new faults_before faults_after done text (Ok n) → Writes old new faults_before faults_after done text (Ok n)
-part_written h = record { outcome = h.outcome }
+pub added : {was now : TextView} {text : List ℕ} → Adds WriterFails was now text (Ok tt) → Adds Stops was now text (Ok tt)
+added h = record { same = h.same; outcome = h.outcome }
 
-pub part_failed : {old new : Option (List ℕ)} {faults_before faults_after done : ℕ} {text : List ℕ} {f : Failed}
-    (r : Result ℕ Refusal) (e : Refusal) → r ≡ Err e → e ≡ WriteFailed f.0
-    → WrotePart old new faults_before faults_after done text (Err f) → Writes old new faults_before faults_after done text r
-part_failed {old} {new} {faults_before} {faults_after} {done} {text} {f} r e p q h =
-    let P : Result ℕ Refusal → Type 0 = λ s. Writes old new faults_before faults_after done text s in
-    subst P (sym (p ∙ ap Err q)) (record { outcome = h.outcome })
+pub unadded : {was now : TextView} {text : List ℕ} {f : Failed} (r : Result (Unit {0}) Refusal) (e : Refusal)
+    → r ≡ Err e → e ≡ WriteFailed f.0 → Adds WriterFails was now text (Err f) → Adds Stops was now text r
+unadded {was} {now} {text} {f} r e p q h =
+    let P : Result (Unit {0}) Refusal → Type 0 = λ s. Adds Stops was now text s in
+    subst P (sym (p ∙ ap Err q)) (record { same = h.same; outcome = h.outcome })
 
-pub writes_text : {old new : Option (List ℕ)} {faults_before faults_after done : ℕ} {a b : List ℕ} {r : Result ℕ Refusal} → a ≡ b
-    → Writes old new faults_before faults_after done a r → Writes old new faults_before faults_after done b r
-writes_text {old} {new} {faults_before} {faults_after} {done} {a} {b} {r} e h =
-    let P : List ℕ → Type 0 = λ t. Writes old new faults_before faults_after done t r in subst P e h
+-- the number of a fault of the writer
+pub unadded_short : {was now : TextView} {text : List ℕ} {f : Failed} (r : Result (Unit {0}) Refusal) (e : Refusal) (m : ℕ)
+    → r ≡ Err e → e ≡ WriteFailed f.0 → Adds WriterFails was now text (Err f) → length_of was + length text ≤ m → IsShort m now r
+unadded_short {was} {now} {text} {f} r e m p q h low =
+    let P : Result (Unit {0}) Refusal → Type 0 = λ s. IsShort m now s in
+    let n : f.0 ≤ m = adds_short m h low in
+    subst P (sym (p ∙ ap Err q)) n
 
-pub writes_out : {old new : Option (List ℕ)} {faults_before faults_after done : ℕ} {text : List ℕ}
-    (r : Result ℕ Refusal) (e d : Refusal) → r ≡ Err e → e ≡ d
-    → Writes old new faults_before faults_after done text (Err d) → Writes old new faults_before faults_after done text r
-writes_out {old} {new} {faults_before} {faults_after} {done} {text} r e d p q h =
-    let P : Result ℕ Refusal → Type 0 = λ s. Writes old new faults_before faults_after done text s in
-    subst P (sym (p ∙ ap Err q)) h
+-- a greater number
+short_by : (n m : ℕ) (now : TextView) (d : Refusal) → n ≤ m → IsShort n now (Err d) → IsShort m now (Err d)
+short_by n m now (WriteFailed k) l h = omega (arith, l, h)
+short_by n m now OutOfMemory l h = tt
+short_by n m now d l h = tt
 
--- a first part failed, so all of it did
-front_by : (old new : Option (List ℕ)) (faults_before faults_after done : ℕ) (a b : List ℕ) (d : Refusal)
-    → WritesBy old new faults_before faults_after done a (Err d)
-    → WritesBy old new faults_before faults_after done (a ++ b) (Err d)
-front_by old new faults_before faults_after done a b OutOfMemory h =
-    let low : h.0 < length (a ++ b) = omega (arith, length-append a b, h.1) in (
-      h.0,
-      low,
-      appends_text old new (take h.0 a) (take h.0 (a ++ b)) (sym (take-append-le h.0 a b (omega (arith, h.1)))) h.2,
-      h.3,
+pub short_out : (n m : ℕ) (now : TextView) (r : Result (Unit {0}) Refusal) (e d : Refusal) → r ≡ Err e → e ≡ d → n ≤ m
+    → IsShort n now (Err d) → IsShort m now r
+short_out n m now r e d p q l h =
+    let P : Result (Unit {0}) Refusal → Type 0 = λ s. IsShort m now s in
+    subst P (sym (p ∙ ap Err q)) (short_by n m now d l h)
+
+-- what is due fails otherwise
+undrawn_by : {Y : Type 0} (m : ℕ) (now : TextView) (d : Refusal) (due : Result Y Refusal) → Fails d due → IsShort m now (Err d)
+undrawn_by m now OutOfMemory due f = tt
+undrawn_by m now (WriteFailed n) due f = absurd f
+undrawn_by m now d due f = tt
+
+pub undrawn_short : {Y : Type 0} (m : ℕ) (now : TextView) (r : Result (Unit {0}) Refusal) (e d : Refusal) (due : Result Y Refusal)
+    → r ≡ Err e → e ≡ d → Fails d due → IsShort m now r
+undrawn_short m now r e d due p q f =
+    let P : Result (Unit {0}) Refusal → Type 0 = λ s. IsShort m now s in
+    subst P (sym (p ∙ ap Err q)) (undrawn_by m now d due f)
+
+-- ---- a whole text
+
+writes_by : (sink : GName) (old : Option (List ℕ)) (faults : ℕ) (now : TextView) (text : List ℕ) (m : ℕ)
+    (r : Result (Unit {0}) Refusal) → Adds Stops (begun sink old faults) now text r → OnOk r (now.waiting ≡ [])
+    → IsShort m now r → m < 2 ^ 64 - 1 → WritesBy old now.held faults now.faults text r
+writes_by sink old faults now text m (Ok u) h empty short low =
+    let o = h.outcome in (
+      appends_text old now.held o.0 text
+          (sym (append-nil o.0) ∙ ap (λ (t : List ℕ). o.0 ++ t) (sym empty) ∙ sym o.1) o.3,
+      o.4,
     )
-front_by old new faults_before faults_after done a b (WriteFailed n) h =
-    let low : h.0 < length (a ++ b) = omega (arith, length-append a b, h.1) in (
-      h.0,
-      low,
-      h.2,
-      appends_text old new (take h.0 a) (take h.0 (a ++ b)) (sym (take-append-le h.0 a b (omega (arith, h.1)))) h.3,
-      h.4,
-    )
-front_by old new faults_before faults_after done a b d h = absurd h
+writes_by sink old faults now text m (Err OutOfMemory) h empty short low = h.outcome
+writes_by sink old faults now text m (Err (WriteFailed n)) h empty short low =
+    let o = h.outcome in
+    let same : o.0 ≡ n = omega (arith, o.3.0, short, low) in
+    (omega (arith, o.1, same), appends_text old now.held (take o.0 text) (take n text) (ap (λ (k : ℕ). take k text) same) o.2, o.3.1)
+writes_by sink old faults now text m (Err d) h empty short low = absurd h.outcome.3
 
-pub writes_front : {old new : Option (List ℕ)} {faults_before faults_after done : ℕ} {a : List ℕ} (b : List ℕ) {d : Refusal}
-    → Writes old new faults_before faults_after done a (Err d) → Writes old new faults_before faults_after done (a ++ b) (Err d)
-writes_front {a = a} b {d} h = record { outcome = front_by _ _ _ _ _ a b d h.outcome }
+-- a text that was begun, added and ended was written
+pub writes_closed : {sink : GName} {old new : Option (List ℕ)} {faults_before faults : ℕ} {was now : TextView} {text : List ℕ}
+    {r : Result (Unit {0}) Refusal}
+    → was ≡ begun sink old faults_before → Adds Stops was now text r → OnOk r (now.waiting ≡ [])
+    → IsShort (length_of was + 2 ^ 50) now r → new ≡ now.held → faults ≡ now.faults → Writes old new faults_before faults text r
+writes_closed {sink} {old} {new} {faults_before} {faults} {was} {now} {text} {r} e h empty short held count =
+    let P : TextView → Type 0 = λ v. Adds Stops v now text r in
+    let S : TextView → Type 0 = λ v. IsShort (length_of v + 2 ^ 50) now r in
+    let Q : Option (List ℕ) → ℕ → Type 0 = λ bytes n. Writes old bytes faults_before n text r in
+    let here : Q now.held now.faults = record {
+      outcome = writes_by sink old faults_before now text (length_of (begun sink old faults_before) + 2 ^ 50) r (subst P e h) empty
+          (subst S e short) (omega arith);
+    } in
+    let there : Q new now.faults =
+    (let R : Option (List ℕ) → Type 0 = λ bytes. Q bytes now.faults in subst R (sym held) here) in
+    let R : ℕ → Type 0 = λ n. Q new n in subst R (sym count) there
 
--- a first part was written, and then a second was or failed
-then_by : (old mid new : Option (List ℕ)) (faults_before between faults_after done n : ℕ) (a b : List ℕ) (r : Result ℕ Refusal)
-    → WritesBy old mid faults_before between done a (Ok n) → WritesBy mid new between faults_after n b r
-    → WritesBy old new faults_before faults_after done (a ++ b) r
-then_by old mid new faults_before between faults_after done n a b (Ok m) h g =
-    (omega (arith, length-append a b, h.0, g.0), Appends-trans old mid new a b h.1 g.1, g.2 ∙ h.2)
-then_by old mid new faults_before between faults_after done n a b (Err OutOfMemory) h g =
-    let low : length a + g.0 < length (a ++ b) = omega (arith, length-append a b, g.1) in (
-      length a + g.0,
-      low,
-      appends_text old new (a ++ take g.0 b) (take (length a + g.0) (a ++ b)) (sym (take-append-add a b g.0))
-          (Appends-trans old mid new a (take g.0 b) h.1 g.2),
-      g.3 ∙ h.2,
-    )
-then_by old mid new faults_before between faults_after done n a b (Err (WriteFailed m)) h g =
-    let low : length a + g.0 < length (a ++ b) = omega (arith, length-append a b, g.1) in (
-      length a + g.0,
-      low,
-      omega (arith, h.0, g.2),
-      appends_text old new (a ++ take g.0 b) (take (length a + g.0) (a ++ b)) (sym (take-append-add a b g.0))
-          (Appends-trans old mid new a (take g.0 b) h.1 g.3),
-      g.4 ∙ ap (λ (k : ℕ). k + 1) h.2,
-    )
-then_by old mid new faults_before between faults_after done n a b (Err d) h g = absurd g
-
-pub writes_then : {old mid new : Option (List ℕ)} {faults_before between faults_after done n : ℕ} {a b : List ℕ}
-    {r : Result ℕ Refusal}
-    → Writes old mid faults_before between done a (Ok n) → Writes mid new between faults_after n b r
-    → Writes old new faults_before faults_after done (a ++ b) r
-writes_then {old} {mid} {new} {faults_before} {between} {faults_after} {done} {n} {a} {b} {r} h g =
-    record { outcome = then_by old mid new faults_before between faults_after done n a b r h.outcome g.outcome }
-
--- the writer failed within a first part
-pub part_front : {old new : Option (List ℕ)} {faults_before faults_after done : ℕ} {a : List ℕ} (b : List ℕ) {f : Failed}
-    (r : Result ℕ Refusal) (e : Refusal) → r ≡ Err e → e ≡ WriteFailed f.0
-    → WrotePart old new faults_before faults_after done a (Err f) → Writes old new faults_before faults_after done (a ++ b) r
-part_front {old} {new} {faults_before} {faults_after} {done} {a} b {f} r e p q h =
-    let w : Writes old new faults_before faults_after done a (Err (WriteFailed f.0)) = record { outcome = h.outcome } in
-    writes_out r e (WriteFailed f.0) p q (writes_front b w)
+writes_text : {old new : Option (List ℕ)} {faults_before faults_after : ℕ} {a b : List ℕ} {r : Result (Unit {0}) Refusal} → a ≡ b
+    → Writes old new faults_before faults_after a r → Writes old new faults_before faults_after b r
+writes_text {old} {new} {faults_before} {faults_after} {a} {b} {r} e h =
+    let P : List ℕ → Type 0 = λ t. Writes old new faults_before faults_after t r in subst P e h
 
 -- ---- a character
 
@@ -166,13 +149,11 @@ missing_lines hinting face mapping ppem code glyph text e m h =
     lines_by (is_missing mapping code) true (sketch_of hinting face mapping ppem code) text
     (ap (λ (n : ℕ). n == 0) (sym e ∙ m)) h.lines
 
-pub writes_missing : (hinting : Hinting) (face : Face) (mapping : Mapping) (ppem code glyph : ℕ) (old : Option (List ℕ))
-    (faults done : ℕ) (text : List ℕ)
+pub adds_missing : (hinting : Hinting) (face : Face) (mapping : Mapping) (ppem code glyph : ℕ) (was : TextView) (text : List ℕ)
     → glyph ≡ glyph_for mapping code → glyph ≡ 0 → AreLinesOf hinting face mapping ppem code text
-    → Writes old old faults faults done text (Ok done)
-writes_missing hinting face mapping ppem code glyph old faults done text e m h =
-    let none : [] ≡ text = sym (missing_lines hinting face mapping ppem code glyph text e m h) in
-    writes_text none (record { outcome = (omega arith, appends_none old, refl) })
+    → Adds Stops was was text (Ok tt)
+adds_missing hinting face mapping ppem code glyph was text e m h =
+    adds_text (sym (missing_lines hinting face mapping ppem code glyph text e m h)) adds_nothing
 
 -- its glyph is the one that is drawn
 record Due (hinting : Hinting) (face : Face) (ppem code glyph : ℕ) (text : List ℕ) : Type 0 where
@@ -202,34 +183,40 @@ drawn_lines one hinting face mapping ppem code glyph g text e m d h =
     ap glyph_text (glyph_is_one one x.sketch g x.bits here x.of) ∙ sym x.text_is
 
 -- nothing was written of it when memory ran out
-pub writes_undrawn : (hinting : Hinting) (face : Face) (mapping : Mapping) (ppem code glyph : ℕ) (old : Option (List ℕ))
-    (faults done : ℕ) (text : List ℕ) (r : Result ℕ Refusal) (f d : Refusal) → r ≡ Err f → f ≡ d
+none_by : (was : TextView) (text : List ℕ) (r : Result (Unit {0}) Refusal) (e d : Refusal) → r ≡ Err e → e ≡ d → d ≡ OutOfMemory
+    → 0 < length text → Adds Stops was was text r
+none_by was text r e d p q m l =
+    let P : Result (Unit {0}) Refusal → Type 0 = λ s. Adds Stops was was text s in
+    let low : 0 < length (was.waiting ++ text) = omega (arith, length-append was.waiting text, l) in
+    subst P (sym (p ∙ ap Err (q ∙ m))) (record { same = refl; outcome = (0, low, Appends-nil was.held, refl) })
+
+pub adds_undrawn : (hinting : Hinting) (face : Face) (mapping : Mapping) (ppem code glyph : ℕ) (was : TextView) (text : List ℕ)
+    (r : Result (Unit {0}) Refusal) (f d : Refusal) → r ≡ Err f → f ≡ d
     → glyph ≡ glyph_for mapping code → (glyph ≡ 0 → ⊥) → Fails d (glyph_sketch_of hinting face ppem code glyph)
-    → AreLinesOf hinting face mapping ppem code text → Writes old old faults faults done text r
-writes_undrawn hinting face mapping ppem code glyph old faults done text r f d p q e m fails h =
+    → AreLinesOf hinting face mapping ppem code text → Adds Stops was was text r
+adds_undrawn hinting face mapping ppem code glyph was text r f d p q e m fails h =
     let x = due_lines hinting face mapping ppem code glyph text e m h in
     let L : List ℕ → Type 0 = λ t. 0 < length t in
-    writes_none old faults done text r f d p q
+    none_by was text r f d p q
     (only_memory d (glyph_sketch_of hinting face ppem code glyph) x.sketch x.is fails)
     (subst L (sym x.text_is) (has_lines x.bits))
 
 -- ---- all characters
 
--- what was written of the lines of code points, and what is left of them
-pub record Left (hinting : Hinting) (face : Face) (mapping : Mapping) (ppem : ℕ) (codes : List ℕ) (i : ℕ)
-    (old now : Option (List ℕ)) (before done : ℕ) (text : List ℕ) : Type 0 where
+-- what was added of the lines of code points, and what is left of them
+pub record Left (hinting : Hinting) (face : Face) (mapping : Mapping) (ppem : ℕ) (codes : List ℕ) (i : ℕ) (was now : TextView)
+    (text : List ℕ) : Type 0 where
   pub front : List ℕ
   pub rest : List ℕ
   pub split : text ≡ front ++ rest
   pub left : AreAllLinesOf hinting face mapping ppem (drop i codes) rest
-  pub appended : Appends old now front
-  pub count : done ≡ before + length front
+  pub added : Adds Stops was now front (Ok tt)
 
-pub left_all : (hinting : Hinting) (face : Face) (mapping : Mapping) (ppem : ℕ) (codes : List ℕ) (old : Option (List ℕ))
-    (done : ℕ) (text : List ℕ) → AreAllLinesOf hinting face mapping ppem codes text
-    → Left hinting face mapping ppem codes 0 old old done done text
-left_all hinting face mapping ppem codes old done text h =
-    record { front = []; rest = text; split = refl; left = h; appended = appends_none old; count = omega arith }
+pub left_all : (hinting : Hinting) (face : Face) (mapping : Mapping) (ppem : ℕ) (codes : List ℕ) (was : TextView)
+    (text : List ℕ) → AreAllLinesOf hinting face mapping ppem codes text
+    → Left hinting face mapping ppem codes 0 was was text
+left_all hinting face mapping ppem codes was text h =
+    record { front = []; rest = text; split = refl; left = h; added = adds_nothing }
 
 -- the lines of the next code point
 pub record Next (hinting : Hinting) (face : Face) (mapping : Mapping) (ppem : ℕ) (codes : List ℕ) (i : ℕ) (text : List ℕ)
@@ -249,45 +236,37 @@ next_lines hinting face mapping ppem codes i text l h =
     record { here = x.0; rest = x.1; lines = x.2; left = x.3; split = x.4 }
 
 pub left_more : (hinting : Hinting) (face : Face) (mapping : Mapping) (ppem : ℕ) (codes : List ℕ) (i : ℕ)
-    (old now new : Option (List ℕ)) (faults_before faults_after before done n : ℕ) (text : List ℕ) → i < length codes
-    → (h : Left hinting face mapping ppem codes i old now before done text)
-    → ((here : List ℕ) → AreLinesOf hinting face mapping ppem (get_or codes i 0) here
-    → Writes now new faults_before faults_after done here (Ok n))
-    → Left hinting face mapping ppem codes (i + 1) old new before n text
-left_more hinting face mapping ppem codes i old now new faults_before faults_after before done n text l h w =
+    (was now next : TextView) (text : List ℕ) → i < length codes
+    → (h : Left hinting face mapping ppem codes i was now text)
+    → ((here : List ℕ) → AreLinesOf hinting face mapping ppem (get_or codes i 0) here → Adds Stops now next here (Ok tt))
+    → Left hinting face mapping ppem codes (i + 1) was next text
+left_more hinting face mapping ppem codes i was now next text l h w =
     let x = next_lines hinting face mapping ppem codes i h.rest l h.left in
-    let o = (w x.here x.lines).outcome in
     record {
       front = h.front ++ x.here;
       rest = x.rest;
       split = h.split ∙ ap (λ (t : List ℕ). h.front ++ t) x.split ∙ sym (append_assoc h.front x.here x.rest);
       left = x.left;
-      appended = Appends-trans old now new h.front x.here h.appended o.1;
-      count = omega (arith, h.count, o.0, length-append h.front x.here);
+      added = adds_then h.added (w x.here x.lines);
     }
 
 pub left_none : (hinting : Hinting) (face : Face) (mapping : Mapping) (ppem : ℕ) (codes : List ℕ) (i : ℕ)
-    (old now : Option (List ℕ)) (faults_before faults_after before done : ℕ) (text : List ℕ) → drop i codes ≡ []
-    → faults_after ≡ faults_before → Left hinting face mapping ppem codes i old now before done text
-    → Writes old now faults_before faults_after before text (Ok done)
-left_none hinting face mapping ppem codes i old now faults_before faults_after before done text e q h =
+    (was now : TextView) (text : List ℕ) → drop i codes ≡ []
+    → Left hinting face mapping ppem codes i was now text → Adds Stops was now text (Ok tt)
+left_none hinting face mapping ppem codes i was now text e h =
     let P : List ℕ → Type 0 = λ xs. AreAllLinesOf hinting face mapping ppem xs h.rest in
     let none : h.rest ≡ [] = subst P e h.left in
-    let whole : h.front ≡ text = sym (h.split ∙ ap (λ (t : List ℕ). h.front ++ t) none ∙ append-nil h.front) in
-    writes_text whole (record { outcome = (h.count, h.appended, q) })
+    adds_text (sym (h.split ∙ ap (λ (t : List ℕ). h.front ++ t) none ∙ append-nil h.front)) h.added
 
 pub left_failed : (hinting : Hinting) (face : Face) (mapping : Mapping) (ppem : ℕ) (codes : List ℕ) (i : ℕ)
-    (old now new : Option (List ℕ)) (faults_before between faults_after before done : ℕ) (text : List ℕ)
-    (r : Result ℕ Refusal) (e d : Refusal) → r ≡ Err e → e ≡ d → i < length codes
-    → between ≡ faults_before → (h : Left hinting face mapping ppem codes i old now before done text)
-    → ((here : List ℕ) → AreLinesOf hinting face mapping ppem (get_or codes i 0) here
-    → Writes now new between faults_after done here (Err d))
-    → Writes old new faults_before faults_after before text r
-left_failed hinting face mapping ppem codes i old now new faults_before between faults_after before done text r e d p q l b h w =
+    (was now next : TextView) (text : List ℕ) (r : Result (Unit {0}) Refusal) (e d : Refusal) → r ≡ Err e → e ≡ d
+    → i < length codes → (h : Left hinting face mapping ppem codes i was now text)
+    → ((here : List ℕ) → AreLinesOf hinting face mapping ppem (get_or codes i 0) here → Adds Stops now next here (Err d))
+    → Adds Stops was next text r
+left_failed hinting face mapping ppem codes i was now next text r e d p q l h w =
     let x = next_lines hinting face mapping ppem codes i h.rest l h.left in
-    let front : Writes old now faults_before between before h.front (Ok done) = record { outcome = (h.count, h.appended, b) } in
     let whole : h.front ++ (x.here ++ x.rest) ≡ text = sym (h.split ∙ ap (λ (t : List ℕ). h.front ++ t) x.split) in
-    writes_out r e d p q (writes_text whole (writes_then front (writes_front x.rest (w x.here x.lines))))
+    adds_out (adds_text whole (adds_then h.added (adds_stopped x.rest (w x.here x.lines)))) p q
 
 -- ---- a strike
 
@@ -387,7 +366,7 @@ survey_text prelude face mapping ppem name chars survey s =
 -- what a call leaves, by what was written of the text
 leaves_by : (opening : Opening) (due : Result Plan Refusal) (old new : Option (List ℕ)) (faults_before faults_after : ℕ)
     (survey : Survey) (s : Surveyed due survey) (d : Refusal)
-    → IsOk opening → WritesBy old new faults_before faults_after 0 (strike_text s.plan s.glyphs) (Err d)
+    → IsOk opening → WritesBy old new faults_before faults_after (strike_text s.plan s.glyphs) (Err d)
     → Leaves opening due old new faults_before faults_after (Err d)
 leaves_by opening due old new faults_before faults_after survey s OutOfMemory o w = (
   o,
@@ -398,29 +377,20 @@ leaves_by opening due old new faults_before faults_after survey s OutOfMemory o 
   },
 )
 leaves_by opening due old new faults_before faults_after survey s (WriteFailed n) o w =
-    let same : w.0 ≡ n = omega (arith, w.2) in
     record {
-      begun = record {
-        plan = s.plan;
-        glyphs = s.glyphs;
-        is = s.is;
-        drawn = s.drawn;
-        short = omega (arith, w.1, w.2);
-        written = appends_text old new (take w.0 (strike_text s.plan s.glyphs)) (take n (strike_text s.plan s.glyphs))
-            (ap (λ (k : ℕ). take k (strike_text s.plan s.glyphs)) same) w.3;
-      };
-      fault = w.4;
+      begun = record { plan = s.plan; glyphs = s.glyphs; is = s.is; drawn = s.drawn; short = w.0; written = w.1 };
+      fault = w.2;
     }
 leaves_by opening due old new faults_before faults_after survey s d o w = absurd w
 
 -- the text of a strike was written, or a beginning of it
 strike_writes : (hinting : Hinting) (prelude : Ran) (face : Face) (mapping : Mapping) (ppem : ℕ) (name chars codes : List ℕ)
-    (old new : Option (List ℕ)) (faults_before faults_after : ℕ) (survey : Survey) (header : Header) (r : Result ℕ Refusal)
+    (old new : Option (List ℕ)) (faults_before faults_after : ℕ) (survey : Survey) (header : Header) (r : Result (Unit {0}) Refusal)
     → codes ≡ rising chars → header ≡ surveyed_header ppem survey
     → (s : Surveyed (plan_after (seen_prelude hinting prelude) face mapping ppem name chars) survey)
     → ((text : List ℕ) → AreAllLinesOf hinting face mapping ppem codes text
-    → Writes old new faults_before faults_after 0 (header_text name header ++ (text ++ end_text)) r)
-    → Writes old new faults_before faults_after 0 (strike_text s.plan s.glyphs) r
+    → Writes old new faults_before faults_after (header_text name header ++ (text ++ end_text)) r)
+    → Writes old new faults_before faults_after (strike_text s.plan s.glyphs) r
 strike_writes hinting prelude face mapping ppem name chars codes old new faults_before faults_after survey header r c q s w =
     let p = planned (seen_prelude hinting prelude) face mapping ppem name chars s.plan s.is in
     let lines = lines_of_glyphs hinting face mapping ppem codes s.plan.sketches s.glyphs
@@ -436,7 +406,7 @@ pub leaves_unwritten : (opening : Opening) (hinting : Hinting) (prelude : Ran) (
     → IsOk opening → r ≡ Err e → e ≡ d → codes ≡ rising chars → header ≡ surveyed_header ppem survey
     → Surveyed (plan_after (seen_prelude hinting prelude) face mapping ppem name chars) survey
     → ((text : List ℕ) → AreAllLinesOf hinting face mapping ppem codes text
-    → Writes old new faults_before faults_after 0 (header_text name header ++ (text ++ end_text)) (Err d))
+    → Writes old new faults_before faults_after (header_text name header ++ (text ++ end_text)) (Err d))
     → Leaves opening (plan_after (seen_prelude hinting prelude) face mapping ppem name chars) old new faults_before faults_after r
 leaves_unwritten opening hinting prelude face mapping ppem name chars codes old new faults_before faults_after survey header r e d
     o p q c k s w =
@@ -448,24 +418,24 @@ leaves_unwritten opening hinting prelude face mapping ppem name chars codes old 
 
 pub leaves_written : (opening : Opening) (hinting : Hinting) (prelude : Ran) (face : Face) (mapping : Mapping) (ppem : ℕ)
     (name chars codes : List ℕ) (old new : Option (List ℕ)) (faults_before faults_after : ℕ) (survey : Survey) (header : Header)
-    (n : ℕ) (report : Report) → codes ≡ rising chars → header ≡ surveyed_header ppem survey
+    (report : Report) → codes ≡ rising chars → header ≡ surveyed_header ppem survey
     → Surveyed (plan_after (seen_prelude hinting prelude) face mapping ppem name chars) survey
     → ((text : List ℕ) → AreAllLinesOf hinting face mapping ppem codes text
-    → Writes old new faults_before faults_after 0 (header_text name header ++ (text ++ end_text)) (Ok n))
+    → Writes old new faults_before faults_after (header_text name header ++ (text ++ end_text)) (Ok tt))
     → report ≡ surveyed_report survey
     → Leaves opening (plan_after (seen_prelude hinting prelude) face mapping ppem name chars) old new faults_before faults_after
     (Ok report)
-leaves_written opening hinting prelude face mapping ppem name chars codes old new faults_before faults_after survey header n
+leaves_written opening hinting prelude face mapping ppem name chars codes old new faults_before faults_after survey header
     report c k s w t =
     let x = strike_writes hinting prelude face mapping ppem name chars codes old new faults_before faults_after survey header
-    (Ok n) c k s w in
+    (Ok tt) c k s w in
     let P : Report → Type 0 = λ y. IsReportOf s.plan y in
     record {
       plan = s.plan;
       glyphs = s.glyphs;
       is = s.is;
       drawn = s.drawn;
-      written = x.outcome.1;
-      quiet = x.outcome.2;
+      written = x.outcome.0;
+      quiet = x.outcome.1;
       told = subst P (sym t) s.told;
     }

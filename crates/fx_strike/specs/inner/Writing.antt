@@ -1,7 +1,8 @@
 -- What is written of a strike. `old` and `new` are the writer's bytes before and after, if they are known; `faults_before` and
 -- `faults_after` its faults.
-use Rattle.std.specs.Prelude.{◌≡◌, ℕ, ◌+◌, ◌<◌, Bool, true, false, List, [], ◌∷◌, ◌++◌, length, take, Option, Result, Ok, Err}
+use Rattle.std.specs.Prelude.{◌≡◌, ℕ, ◌+◌, ◌<◌, ◌≤◌, Bool, true, false, List, [], ◌∷◌, ◌++◌, length, take, Option, Result, Ok, Err}
 use Rattle.std.specs.Io.KnownBytes.{Appends}
+use Rattle.fx_fixed.specs.Texts.{TextView, length_of}
 use Rattle.fx_sfnt.specs.Tables.{Face}
 use Rattle.fx_cmap.specs.declared.mapping.Mapping.{Mapping}
 use Rattle.fx_hint.specs.Hinting.{Hinting}
@@ -31,17 +32,28 @@ AreAllLinesOf hinting face mapping ppem (c ∷ cs) text =
 
 -- ---- as much of a text as was written
 
--- all of a part, after `done` bytes of the text; or exactly its first k bytes, when memory ran out or the writer failed
-abbrev pub WritesBy : Option (List ℕ) → Option (List ℕ) → ℕ → ℕ → ℕ → List ℕ → Result ℕ Refusal → Type 0
-WritesBy old new faults_before faults_after done text (Ok n) =
-    (n ≡ done + length text) × Appends old new text × (faults_after ≡ faults_before)
-WritesBy old new faults_before faults_after done text (Err OutOfMemory) =
+-- a text stopped after n bytes: out of memory, or the writer failed
+abbrev pub Stops : Refusal → ℕ → ℕ → ℕ → Type 0
+Stops OutOfMemory n faults_before faults = faults ≡ faults_before
+Stops (WriteFailed m) n faults_before faults = (m ≡ n) × (faults ≡ faults_before + 1)
+Stops _ n faults_before faults = ⊥
+
+-- the text has at most m bytes then, or a fault of the writer tells at most m
+abbrev pub IsShort : ℕ → TextView → Result (Unit {0}) Refusal → Type 0
+IsShort m now (Ok _) = length_of now ≤ m
+IsShort m now (Err (WriteFailed n)) = n ≤ m
+IsShort m now (Err _) = Unit {0}
+
+-- all of a text was written; or exactly its first bytes, when memory ran out or the writer failed
+abbrev pub WritesBy : Option (List ℕ) → Option (List ℕ) → ℕ → ℕ → List ℕ → Result (Unit {0}) Refusal → Type 0
+WritesBy old new faults_before faults_after text (Ok _) = Appends old new text × (faults_after ≡ faults_before)
+WritesBy old new faults_before faults_after text (Err OutOfMemory) =
     (k : ℕ) × (k < length text) × Appends old new (take k text) × (faults_after ≡ faults_before)
-WritesBy old new faults_before faults_after done text (Err (WriteFailed n)) =
-    (k : ℕ) × (k < length text) × (n ≡ done + k) × Appends old new (take k text) × (faults_after ≡ faults_before + 1)
-WritesBy old new faults_before faults_after done text (Err _) = ⊥
+WritesBy old new faults_before faults_after text (Err (WriteFailed n)) =
+    (n < length text) × Appends old new (take n text) × (faults_after ≡ faults_before + 1)
+WritesBy old new faults_before faults_after text (Err _) = ⊥
 
 -- the same as a record, so that a proof finds its arguments
-pub record Writes (old new : Option (List ℕ)) (faults_before faults_after done : ℕ) (text : List ℕ) (result : Result ℕ Refusal)
+pub record Writes (old new : Option (List ℕ)) (faults_before faults_after : ℕ) (text : List ℕ) (result : Result (Unit {0}) Refusal)
     : Type 0 where
-  pub outcome : WritesBy old new faults_before faults_after done text result
+  pub outcome : WritesBy old new faults_before faults_after text result

@@ -45,5 +45,5 @@ returns g c =
     leaves_written (Ok (c.args.opened.now.ppem, c.args.opened.now.font, c.args.opened.now.map)) _
     c.args.prelude c.args.opened.now.font c.args.opened.now.map c.args.opened.now.ppem
     c.args.request.now.name.now c.args.request.now.chars.now c.deref-2.result.now _ _ _ _ c.in_ok-survey.survey
-    c.header-header.result _ c.report.result
+    c.header-header.result c.report.result
     (c.deref-2.ensures.value ∙ c.in_ok-codes.ensures) c.header-header.ensures (c.in_ok-survey.ensures).survey w c.report.ensures

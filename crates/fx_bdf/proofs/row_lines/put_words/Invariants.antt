@@ -1,7 +1,7 @@
 use Rattle.std.proofs.Common.{◌≡◌, ◌+◌, ◌*◌, ◌++◌, take}
 use Rattle.std.specs.List.{flat_map}
-use Rattle.fx_bdf.specs.inner.Buffer.{word_text}
-use Rattle.fx_bdf.proofs.buffer.put_words.Given as goal
+use Rattle.fx_bdf.specs.inner.Lines.{word_text}
+use Rattle.fx_bdf.proofs.row_lines.put_words.Given as goal
 
 -- the digits of the words so far were written
 abbrev pub invariant-words : goal.invariant-words

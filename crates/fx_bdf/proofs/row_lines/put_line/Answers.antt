@@ -1,9 +1,9 @@
 use Rattle.std.proofs.Common.{◌*◌, ◌++◌, ◌∷◌, [], ◌∙◌, ap, length, take, arith, List, ℕ}
 use Rattle.std.specs.List.{flat_map}
-use Rattle.fx_bdf.specs.inner.Buffer.{word_text}
+use Rattle.fx_bdf.specs.inner.Lines.{word_text}
 use Rattle.fx_bdf.proofs.Waiting.{line_added}
 use Rattle.fx_bdf.proofs.RowDigits.{digits_whole}
-use Rattle.fx_bdf.proofs.buffer.put_line.Goals as goal
+use Rattle.fx_bdf.proofs.row_lines.put_line.Goals as goal
 
 pub returns-clause-text : goal.returns-clause-text
 returns-clause-text c =
