@@ -28,9 +28,15 @@ static unsigned char *block;
 static size_t block_size, used;
 static union head *freed[SIZES];
 
+#ifdef __cplusplus
+extern "C" {
+#endif
 struct given rattle_alloc(size_t size, size_t align);
 struct given rattle_realloc(void *at, size_t kept, size_t size, size_t align);
 void rattle_dealloc(void *at);
+#ifdef __cplusplus
+}
+#endif
 
 void mkstrike_arena(void *at, size_t size) {
     size_t i, skip = (size_t)(-(uintptr_t)at & 15);
@@ -88,9 +94,15 @@ struct given rattle_realloc(void *at, size_t kept, size_t size, size_t align) {
 
 #ifdef MKSTRIKE_BARE
 /* `volatile` keeps the compiler from making a call of the same function of the loop. */
+#ifdef __cplusplus
+extern "C" {
+#endif
 void *memcpy(void *to, const void *from, size_t n);
 void *memmove(void *to, const void *from, size_t n);
 void *memset(void *to, int byte, size_t n);
+#ifdef __cplusplus
+}
+#endif
 
 void *memcpy(void *to, const void *from, size_t n) { return memmove(to, from, n); }
 

@@ -18,9 +18,15 @@ static struct given given(void *at) {
     return it;
 }
 
+#ifdef __cplusplus
+extern "C" {
+#endif
 struct given rattle_alloc(size_t size, size_t align);
 struct given rattle_realloc(void *at, size_t kept, size_t size, size_t align);
 void rattle_dealloc(void *at);
+#ifdef __cplusplus
+}
+#endif
 
 struct given rattle_alloc(size_t size, size_t align) { return given(malloc(size ? size : align)); }
 

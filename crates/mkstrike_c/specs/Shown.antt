@@ -20,6 +20,11 @@ numbers_of packed g = record {
   swidth = g.swidth;
 }
 
+-- what a call returns of a character that was looked up: 1 if the font does not have it
+abbrev pub status_of : Option bits.Glyph → ℕ
+status_of (Some g) = 0
+status_of None = 1
+
 -- if the caller's buffer has room for the pixels, they stand at its front, and what lies after them is as it was; or all is as it was
 pub record HasPixels (packed : Bool) (g : bits.Glyph) (old new : List ℕ) : Type 0 where
   pub front : size_of packed g ≤ length old → take (size_of packed g) new ≡ flat_map (row_bytes packed) g.rows

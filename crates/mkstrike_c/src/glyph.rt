@@ -2,7 +2,7 @@
 ghost use Rattle.std.specs.Prelude.{◌≡◌, ◌<◌, ◌≤◌};
 ghost use Rattle.fx_strike.specs.Strike.{one_of, opened_one_of};
 ghost use Rattle.mkstrike_c.specs.Pixels.{size_of};
-ghost use Rattle.mkstrike_c.specs.Shown.{HasPixels, IsMissing, IsShown, numbers_of};
+ghost use Rattle.mkstrike_c.specs.Shown.{HasPixels, IsMissing, IsShown, numbers_of, status_of};
 ghost use Rattle.mkstrike_c.specs.Refused.{IsRefused};
 
 use crate::pixels::{put_pixels, stride};
@@ -64,6 +64,13 @@ fn put_if_room(glyph: &BitGlyph, packed: bool, buffer: &mut [u8])
     }
 }
 
+/// What a call returns of a character that was looked up.
+fn status_of(made: &Option<BitGlyph>) -> u32
+    ensures { result ≡ status_of made.now }
+{
+    if made.is_some() { 0 } else { MISSING }
+}
+
 /// Makes the glyph of one character of a font: its numbers, and, if `pixels` has room for them, its pixels at the front, row by row
 /// from the top: a byte each, or packed, eight a byte. Returns 0; 1 if the font does not have the character; or the number of a
 /// refusal, whose fields it puts into `refused`.
@@ -91,12 +98,13 @@ pub extern "C" fn mkstrike_glyph(
     ensures silent { result ≤ 1 → refused.new ≡ refused.old }
 {
     match one(alloc, font, ppem, code, hinting) {
-        Ok(Some(made)) => {
-            put_if_room(&made, packed, pixels);
-            *glyph = numbers_of(&made, packed);
-            0
+        Ok(made) => {
+            if let Some(made) = &made {
+                put_if_room(made, packed, pixels);
+                *glyph = numbers_of(made, packed);
+            }
+            status_of(&made)
         }
-        Ok(None) => MISSING,
         Err(refusal) => refuse(refusal, refused),
     }
 }
