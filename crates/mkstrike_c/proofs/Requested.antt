@@ -15,7 +15,8 @@ use Rattle.fx_bdf.specs.declared.header.Header.{Header}
 use Rattle.fx_request.specs.declared.refusal.Refusal.{Refusal}
 use Rattle.fx_request.specs.declared.refusal.Refusal.TheVariants.{BadSize, BadName, OutOfMemory}
 use Rattle.fx_request.specs.Characters.{rising}
-use Rattle.fx_strike.specs.Strike.{Opening, Plan, sized, checked, font_with_map, opened_of, prelude_for, plan_after, plan_in, plan_of}
+use Rattle.fx_strike.specs.Strike.{Opening, Plan, sized, checked, font_with_map, opened_of, prelude_for, plan_after}
+use Rattle.fx_strike.specs.Strike.{plan_in, plan_of}
 use Rattle.fx_strike.specs.Headline.{Late, Surveyed}
 use Rattle.fx_strike.specs.Faults.{Fails}
 use Rattle.fx_strike.specs.declared.surveyed.Survey.{Survey}
@@ -29,7 +30,8 @@ use Rattle.mkstrike_c.specs.Refused.{IsReason}
 
 printed_ascii : (bs : List ℕ) → list_all is_printed bs ≡ true → IsAscii bs
 printed_ascii [] h i = omega arith
-printed_ascii (b ∷ bs) h zero = omega (arith, leb-true b 126 (and_parts (nat_le 32 b) (nat_le b 126) (and_parts (is_printed b) _ h).0).1)
+printed_ascii (b ∷ bs) h zero =
+    omega (arith, leb-true b 126 (and_parts (nat_le 32 b) (nat_le b 126) (and_parts (is_printed b) _ h).0).1)
 printed_ascii (b ∷ bs) h (suc i) = printed_ascii bs (and_parts (is_printed b) _ h).1 i
 
 -- what is not UTF-8 is none
@@ -40,8 +42,8 @@ not_name name other = by_test (is_name name) refl
     by_test : (t : Bool) → is_name name ≡ t → is_name name ≡ false
     by_test false h = h
     by_test true h =
-        absurd (other (IsUtf8-from_ascii name (printed_ascii name
-        (and_parts (list_all is_printed name) _ (and_parts (nat_le (length name) 255) _ (and_parts (nat_lt 0 (length name)) _ h).1).1).0)))
+        let short = (and_parts (nat_le (length name) 255) _ (and_parts (nat_lt 0 (length name)) _ h).1).1 in
+        absurd (other (IsUtf8-from_ascii name (printed_ascii name (and_parts (list_all is_printed name) _ short).0)))
 
 pub no_text : (name : List ℕ) → (IsUtf8 name → ⊥) → AreNamesAlike name []
 unfolding is_name
@@ -64,7 +66,8 @@ stopped : {Y : Type 0} (r : Result ℕ Refusal) (f : Result (Face × Mapping) Re
 stopped (Ok size) f g h = refl
 stopped (Err e) f g h = refl
 
-same_checked : (ppem : ℕ) (a b chars : List ℕ) → is_name a ≡ false → is_name b ≡ false → checked ppem b chars ≡ checked ppem a chars
+same_checked : (ppem : ℕ) (a b chars : List ℕ) → is_name a ≡ false → is_name b ≡ false
+    → checked ppem b chars ≡ checked ppem a chars
 unfolding checked
 same_checked ppem a b chars p q = unnamed (sized ppem chars) (is_name b) q ∙ sym (unnamed (sized ppem chars) (is_name a) p)
 

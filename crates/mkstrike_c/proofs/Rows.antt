@@ -1,7 +1,7 @@
 -- The bytes of a glyph's rows.
 -- Serves `is_set`, `bit`, `put_row`, `put_pixels`.
-use Rattle.std.proofs.Common.{◌≡◌, ◌∙◌, ℕ, ◌+◌, ◌-◌, ◌<◌, ℤ, pos, ◌+ℤ◌, List, [], ◌∷◌, ◌++◌, Bool, true, false, length, get_or, set}
-use Rattle.std.proofs.Common.{take, map, sym, refl, arith, true≢false}
+use Rattle.std.proofs.Common.{◌≡◌, ◌∙◌, ℕ, ◌+◌, ◌-◌, ◌<◌, ℤ, pos, ◌+ℤ◌, List, [], ◌∷◌, ◌++◌, Bool, true, false, length, get_or}
+use Rattle.std.proofs.Common.{set, take, map, sym, refl, arith, true≢false}
 use Rattle.std.specs.Prelude.{if◌then◌else◌}
 use Rattle.std.specs.List.{range_with_len}
 use Rattle.std.proofs.lemmas.List.{take_more_set}
@@ -29,7 +29,8 @@ bit_at g i j high wide =
     let inside =
     and_yes (is_from g.box.left g.box.width (g.box.left +ℤ pos j)) (is_from g.box.bottom g.box.height (g.box.bottom +ℤ pos up))
     (from_order g.box.left (g.box.left +ℤ pos j) g.box.width (omega (arith, signed_linear)) (omega (arith, signed_linear)))
-    (from_order g.box.bottom (g.box.bottom +ℤ pos up) g.box.height (omega (arith, signed_linear)) (omega (arith, signed_linear))) in
+    (from_order g.box.bottom (g.box.bottom +ℤ pos up) g.box.height (omega (arith, signed_linear))
+    (omega (arith, signed_linear))) in
     let down : g.box.height - 1 - steps g.box.bottom (g.box.bottom +ℤ pos up) ≡ i = omega (arith, steps_back g.box.bottom up) in
     bit_in g (g.box.left +ℤ pos j) (g.box.bottom +ℤ pos up) inside ∙
     (λ k. get_or (get_or g.rows (down k) []) (steps_back g.box.left j k) false)

@@ -9,7 +9,7 @@ abbrev pub pixel_of : Bool → ℕ
 pixel_of true = 255
 pixel_of false = 0
 
--- eight pixels of a row from one on, the leftmost the highest bit, 0 past the row's end: in hexadecimal they are the two digits of BDF
+-- eight pixels of a row from one on, the leftmost the highest bit, 0 past the row's end: in hexadecimal, two digits of BDF
 abbrev pub eight_pixels : List Bool → ℕ → ℕ
 eight_pixels row k = 16 * four_pixels row k + four_pixels row (k + 4)
 

@@ -51,8 +51,8 @@ reason_of number = slice_index_or names number unknown
 abbrev pub ReasonsAreNames : Type 0
 ReasonsAreNames = (refusal : Refusal) → reason_of (number_of refusal) ≡ name_of refusal
 
--- as much of a text as fits before a 0, and the 0, stand at the front of the caller's buffer, and what lies after them is as it was;
--- nothing is written to a buffer without a byte
+-- as much of a text as fits before a 0, and the 0, stand at the front of the caller's buffer, and what lies after them is as it
+-- was; nothing is written to a buffer without a byte
 pub record IsPut (text old new : List ℕ) : Type 0 where
   pub front : 0 < length old → take (min (length text) (length old - 1) + 1) new ≡ take (length old - 1) text ++ 0 ∷ []
   pub rest : drop (min (length text) (length old - 1) + 1) new ≡ drop (min (length text) (length old - 1) + 1) old

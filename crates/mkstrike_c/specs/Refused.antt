@@ -79,7 +79,8 @@ fields number _ = no_fields number
 abbrev pub refused_of : Refusal → Refused
 refused_of refusal = fields (number_of refusal) refusal
 
--- why there is no value: the first cause; or memory was refused, after the request passed its checks and the font and its map opened
+-- why there is no value: the first cause; or memory was refused, after the request passed its checks and the font and its
+-- character map opened
 abbrev pub IsReason : {Y : Type 0} → Opening → Result Y Refusal → Refusal → Type 0
 IsReason opening due refusal = Fails refusal due × (refusal ≡ OutOfMemory → Late opening)
 

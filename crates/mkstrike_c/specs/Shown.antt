@@ -25,7 +25,8 @@ abbrev pub status_of : Option bits.Glyph → ℕ
 status_of (Some g) = 0
 status_of None = 1
 
--- if the caller's buffer has room for the pixels, they stand at its front, and what lies after them is as it was; or all is as it was
+-- if the caller's buffer has room for the pixels, they stand at its front, and what lies after them is as it was; else all is as
+-- it was
 pub record HasPixels (packed : Bool) (g : bits.Glyph) (old new : List ℕ) : Type 0 where
   pub front : size_of packed g ≤ length old → take (size_of packed g) new ≡ flat_map (row_bytes packed) g.rows
   pub rest : drop (size_of packed g) new ≡ drop (size_of packed g) old

@@ -71,9 +71,9 @@ fn status_of(made: &Option<BitGlyph>) -> u32
     if made.is_some() { 0 } else { MISSING }
 }
 
-/// Makes the glyph of one character of a font: its numbers, and, if `pixels` has room for them, its pixels at the front, row by row
-/// from the top: a byte each, or packed, eight a byte. Returns 0; 1 if the font does not have the character; or the number of a
-/// refusal, whose fields it puts into `refused`.
+/// Makes the glyph of one character of a font: its numbers, and, if `pixels` has room for them, its pixels at the front, row by
+/// row from the top: a byte each, or packed, eight a byte. Returns 0; 1 if the font does not have the character; or the number of
+/// a refusal, whose fields it puts into `refused`.
 #[unsafe(no_mangle)]
 pub extern "C" fn mkstrike_glyph(
     alloc: Global,

@@ -1,9 +1,9 @@
 //! `mkstrike` for C: strikes and glyphs of a TrueType font.
 //!
-//! `mkstrike_make` makes the text of a strike, `mkstrike_glyph` the numbers and the pixels of one character, `mkstrike_heights` the
-//! heights of a font at a size, `mkstrike_reason` the name of a refusal. Each takes all that it needs and keeps nothing from call to
-//! call. What they leave in the caller's buffers is said in `specs/`, by the definitions of the crates below. `include/mkstrike.h`
-//! declares them.
+//! `mkstrike_make` makes the text of a strike, `mkstrike_glyph` the numbers and the pixels of one character, `mkstrike_heights`
+//! the heights of a font at a size, `mkstrike_reason` the name of a refusal. Each takes all that it needs and keeps nothing from
+//! call to call. What they leave in the caller's buffers is said in `specs/`, by the definitions of the crates below.
+//! `include/mkstrike.h` declares them.
 #![tactic(auto)]
 
 mod buffer;

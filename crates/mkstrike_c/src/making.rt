@@ -88,8 +88,8 @@ fn text_for(
     text_of(alloc, font, &request)
 }
 
-/// Makes the strike of a font. Copies as much of its text to the front of `out` as fits, and tells of it; the number of bytes is that
-/// of the whole text. Returns 0; or the number of a refusal, whose fields it puts into `refused`.
+/// Makes the strike of a font. Copies as much of its text to the front of `out` as fits, and tells of it; the number of bytes is
+/// that of the whole text. Returns 0; or the number of a refusal, whose fields it puts into `refused`.
 #[unsafe(no_mangle)]
 pub extern "C" fn mkstrike_make(
     alloc: Global,

@@ -6,23 +6,32 @@ ghost use Rattle.mkstrike_c.specs.Reasons.{reason_of};
 #[rattlefmt::skip]
 const NAMES: [&str; 91] = [
     // 0
-    "Done", "Missing", "Unknown", "Unknown", "Unknown", "Unknown", "Unknown", "Unknown", "Unknown", "Unknown",
+    "Done", "Missing", "Unknown", "Unknown", "Unknown",
+    "Unknown", "Unknown", "Unknown", "Unknown", "Unknown",
     // 10
-    "NotTrueType", "TableMissing", "TableShort", "BadHead", "BadMaxp", "NoCharMap", "BadCharMap", "BadLoca", "GlyphShort", "BadContours",
+    "NotTrueType", "TableMissing", "TableShort", "BadHead", "BadMaxp",
+    "NoCharMap", "BadCharMap", "BadLoca", "GlyphShort", "BadContours",
     // 20
-    "ComponentDepth", "TooManyComponents", "TooManyPoints", "BadPointMatch", "BadGlyphNumber", "Unknown", "Unknown", "Unknown", "Unknown", "Unknown",
+    "ComponentDepth", "TooManyComponents", "TooManyPoints", "BadPointMatch", "BadGlyphNumber",
+    "Unknown", "Unknown", "Unknown", "Unknown", "Unknown",
     // 30
-    "StackUnder", "StackOver", "BadOpcode", "CodeEnd", "BadJump", "NoFunction", "CallDepth", "StepLimit", "DivideByZero", "BadArgument",
+    "StackUnder", "StackOver", "BadOpcode", "CodeEnd", "BadJump",
+    "NoFunction", "CallDepth", "StepLimit", "DivideByZero", "BadArgument",
     // 40
-    "NestedDefinition", "StrayEnd", "Unknown", "Unknown", "Unknown", "Unknown", "Unknown", "Unknown", "Unknown", "Unknown",
+    "NestedDefinition", "StrayEnd", "Unknown", "Unknown", "Unknown",
+    "Unknown", "Unknown", "Unknown", "Unknown", "Unknown",
     // 50
-    "Unknown", "TooFar", "GlyphTooLarge", "Unknown", "Unknown", "Unknown", "Unknown", "Unknown", "Unknown", "Unknown",
+    "Unknown", "TooFar", "GlyphTooLarge", "Unknown", "Unknown",
+    "Unknown", "Unknown", "Unknown", "Unknown", "Unknown",
     // 60
-    "BadSize", "BadChars", "BadName", "Unknown", "Unknown", "Unknown", "Unknown", "Unknown", "Unknown", "Unknown",
+    "BadSize", "BadChars", "BadName", "Unknown", "Unknown",
+    "Unknown", "Unknown", "Unknown", "Unknown", "Unknown",
     // 70
-    "WriteFailed", "ReadFailed", "BadHex", "InputTooLarge", "Unknown", "Unknown", "Unknown", "Unknown", "Unknown", "Unknown",
+    "WriteFailed", "ReadFailed", "BadHex", "InputTooLarge", "Unknown",
+    "Unknown", "Unknown", "Unknown", "Unknown", "Unknown",
     // 80
-    "Unknown", "Unknown", "Unknown", "Unknown", "Unknown", "Unknown", "Unknown", "Unknown", "Unknown", "Unknown",
+    "Unknown", "Unknown", "Unknown", "Unknown", "Unknown",
+    "Unknown", "Unknown", "Unknown", "Unknown", "Unknown",
     // 90
     "OutOfMemory",
 ];

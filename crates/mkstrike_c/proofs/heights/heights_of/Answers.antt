@@ -7,8 +7,8 @@ use Rattle.mkstrike_c.proofs.heights.heights_of.Goals as goal
 pub returns-in_err-survey-clause-refused : goal.returns-in_err-survey-clause-refused
 returns-in_err-survey-clause-refused c =
     let p = err_from_is_err_and c.from_residual.result c.from_residual.ensures.1 in
-    no_heights c.args.font.now c.args.ppem c.from_residual.result p.0 c.in_err-survey.field-0.0 p.1 p.2 c.in_err-survey.ensures.cause
-    (λ m. c.in_err-survey.ensures.late (ap Err m))
+    no_heights c.args.font.now c.args.ppem c.from_residual.result p.0 c.in_err-survey.field-0.0 p.1 p.2
+    c.in_err-survey.ensures.cause (λ m. c.in_err-survey.ensures.late (ap Err m))
 
 pub returns-clause-heights : goal.returns-clause-heights
 returns-clause-heights c =

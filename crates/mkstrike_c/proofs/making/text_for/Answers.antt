@@ -19,7 +19,8 @@ returns-clause-refused c =
     let made = same_plan c.args.font.now c.args.ppem c.args.name.now c.name_of.result.now c.args.chars.now c.args.hinting
     c.name_of.ensures in
     let P : Result Plan Refusal → Type 0 =
-    λ strike. IfErr c.text_of.result (IsReason (opened_of c.args.font.now c.args.ppem c.name_of.result.now c.args.chars.now) strike) in
+    λ strike. IfErr c.text_of.result
+    (IsReason (opened_of c.args.font.now c.args.ppem c.name_of.result.now c.args.chars.now) strike) in
     let Q : Opening → Type 0 = λ opening. IfErr c.text_of.result (IsReason opening
     (plan_of c.args.font.now c.args.ppem c.args.name.now c.args.chars.now c.args.hinting)) in
     subst Q opened (subst P made c.text_of.ensures.refused)
