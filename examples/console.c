@@ -49,7 +49,7 @@ int main(int argc, char **argv) {
     FILE *file = argc == 4 ? fopen(argv[1], "rb") : NULL;
     const char *text = argc == 4 ? argv[3] : "";
     size_t len = file != NULL ? fread(font, 1, sizeof font, file) : 0;
-    int32_t column = 0;
+    int32_t column = 0, rows, row;
     uint32_t status;
     char name[24];
     if (file == NULL) return 2;
@@ -63,7 +63,7 @@ int main(int argc, char **argv) {
         if (status == MKSTRIKE_MISSING) status = mkstrike_glyph(font, len, ppem, true, '?', true, pixels, sizeof pixels, &g, &why);
         if (status != MKSTRIKE_DONE) break;
         if ((size_t)g.stride * g.height <= sizeof pixels) draw(&g, column, heights.ascent);
-        column += g.dwidth;
+        if (g.dwidth > 0) column += g.dwidth; /* a font may say anything */
     }
     if (status != MKSTRIKE_DONE) {
         mkstrike_reason(status, name, sizeof name);
@@ -71,9 +71,10 @@ int main(int argc, char **argv) {
         return 1;
     }
     if (column > WIDTH) column = WIDTH;
-    len = (size_t)(heights.ascent + heights.descent < HEIGHT ? heights.ascent + heights.descent : HEIGHT);
-    printf("P4\n%d %d\n", (int)column, (int)len);
-    for (status = 0; status < len; status++) fwrite(frame + status * ROW, 1, (size_t)(column + 7) / 8, stdout);
+    rows = heights.ascent + heights.descent;
+    rows = rows < 0 ? 0 : rows > HEIGHT ? HEIGHT : rows;
+    printf("P4\n%d %d\n", (int)column, (int)rows);
+    for (row = 0; row < rows; row++) fwrite(frame + row * ROW, 1, (size_t)(column + 7) / 8, stdout);
     fprintf(stderr, "memory %lu bytes\n", (unsigned long)mkstrike_arena_used());
     return 0;
 }

@@ -1,7 +1,8 @@
 //! The heights of a font at a size, for C.
-ghost use Rattle.std.specs.Prelude.{◌≡◌, ◌<◌, Ok, IfOk, IfErr};
+ghost use Rattle.std.specs.Prelude.{◌≡◌, ◌<◌, ◌≤◌, Ok, IfOk, IfErr};
+ghost use Rattle.fx_request.specs.Refusals.{number_of};
 ghost use Rattle.mkstrike_c.specs.Heights.{heights_of, opened_at, surveyed_heights};
-ghost use Rattle.mkstrike_c.specs.Refused.{IsReason, IsRefused};
+ghost use Rattle.mkstrike_c.specs.Refused.{IsReason, IsRefused, refused_of};
 
 use crate::refused::{Refused, refuse};
 use fx_request::{Refusal, Request};
@@ -43,6 +44,21 @@ fn heights_of(alloc: Global, font: &[u8], ppem: u16) -> Result<Heights, Refusal>
     Ok(heights_in(&survey))
 }
 
+/// Tells heights, or why there are none.
+fn tell(found: Result<Heights, Refusal>, heights: &mut Heights, refused: &mut Refused) -> u32
+    ensures found { IfOk found (λ h. (result ≡ 0) × (heights.new ≡ h) × (refused.new ≡ refused.old)) }
+    ensures refused { IfErr found (λ r. (result ≡ number_of r) × (heights.new ≡ heights.old) × (refused.new ≡ refused_of r)) }
+    ensures least { IfErr found (λ r. 10 ≤ result) }
+{
+    match found {
+        Ok(found) => {
+            *heights = found;
+            0
+        }
+        Err(refusal) => refuse(refusal, refused),
+    }
+}
+
 /// Tells the heights of a font at a size. Returns 0; or the number of a refusal, whose fields it puts into `refused`.
 #[unsafe(no_mangle)]
 pub extern "C" fn mkstrike_heights(
@@ -60,11 +76,5 @@ pub extern "C" fn mkstrike_heights(
     ensures kept { 0 < result → heights.new ≡ heights.old }
     ensures silent { result ≡ 0 → refused.new ≡ refused.old }
 {
-    match heights_of(alloc, font, ppem) {
-        Ok(found) => {
-            *heights = found;
-            0
-        }
-        Err(refusal) => refuse(refusal, refused),
-    }
+    tell(heights_of(alloc, font, ppem), heights, refused)
 }
