@@ -1,0 +1,22 @@
+/* The memory of libmkstrike_c.a from one block of the caller's, without a C library: arena.c. For one thread at a time. */
+#ifndef MKSTRIKE_ARENA_H
+#define MKSTRIKE_ARENA_H
+
+#include <stddef.h>
+
+#ifdef __cplusplus
+extern "C" {
+#endif
+
+/* Hands a block over. To be called before the first call of the library, and then whenever no call runs: what was handed over before is
+ * the caller's again. Without a block, calls of the library return MKSTRIKE_OUT_OF_MEMORY. */
+void mkstrike_arena(void *block, size_t size);
+
+/* The most bytes of the block that were in use since it was handed over. */
+size_t mkstrike_arena_used(void);
+
+#ifdef __cplusplus
+}
+#endif
+
+#endif

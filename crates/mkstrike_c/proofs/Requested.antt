@@ -1,0 +1,162 @@
+-- A request's name that is none, a strike's opening, and the strike of no character.
+-- Serves `name_of`, `text_for`, `text_of`, `heights_of`.
+use Rattle.std.proofs.Common.{◌≡◌, ◌∙◌, refl, sym, ap, subst, inl, inr, arith, true≢false, ℕ, zero, suc, nat_le, nat_lt}
+use Rattle.std.proofs.Common.{Bool, true, false, not, List, [], ◌∷◌, length, Result, Ok, Err, IfErr, codes, IsUtf8, IsAscii}
+use Rattle.std.specs.Prelude.{IsOk}
+use Rattle.std.specs.List.{list_all}
+use Rattle.std.proofs.lemmas.Bool.{and_parts, leb-true}
+use Rattle.std.proofs.lemmas.Str.{IsUtf8-from_ascii}
+use Rattle.fx_fixed.specs.Chain.{◌>>=◌, refuse, wanted, map_ok}
+use Rattle.fx_fixed.specs.Sizes.{ppem_of}
+use Rattle.fx_sfnt.specs.Tables.{Face}
+use Rattle.fx_cmap.specs.declared.mapping.Mapping.{Mapping}
+use Rattle.fx_bdf.specs.Text.{is_name, is_printed}
+use Rattle.fx_bdf.specs.declared.header.Header.{Header}
+use Rattle.fx_request.specs.declared.refusal.Refusal.{Refusal}
+use Rattle.fx_request.specs.declared.refusal.Refusal.TheVariants.{BadSize, BadName, OutOfMemory}
+use Rattle.fx_request.specs.Characters.{rising}
+use Rattle.fx_strike.specs.Strike.{Opening, Plan, sized, checked, font_with_map, opened_of, prelude_for, plan_after}
+use Rattle.fx_strike.specs.Strike.{plan_in, plan_of}
+use Rattle.fx_strike.specs.Headline.{Late, Surveyed}
+use Rattle.fx_strike.specs.Faults.{Fails}
+use Rattle.fx_strike.specs.declared.surveyed.Survey.{Survey}
+use Rattle.fx_strike.proofs.Sketching.{fails_on}
+use Rattle.mkstrike_c.specs.declared.heights.Heights.{Heights}
+use Rattle.mkstrike_c.specs.Heights.{opened_at, heights_at, heights_of, surveyed_heights}
+use Rattle.mkstrike_c.specs.Made.{AreNamesAlike}
+use Rattle.mkstrike_c.specs.Refused.{IsReason}
+
+-- ---- a name that is none
+
+printed_ascii : (bs : List ℕ) → list_all is_printed bs ≡ true → IsAscii bs
+printed_ascii [] h i = omega arith
+printed_ascii (b ∷ bs) h zero =
+    omega (arith, leb-true b 126 (and_parts (nat_le 32 b) (nat_le b 126) (and_parts (is_printed b) _ h).0).1)
+printed_ascii (b ∷ bs) h (suc i) = printed_ascii bs (and_parts (is_printed b) _ h).1 i
+
+-- what is not UTF-8 is none
+not_name : (name : List ℕ) → (IsUtf8 name → ⊥) → is_name name ≡ false
+unfolding is_name
+not_name name other = by_test (is_name name) refl
+  where
+    by_test : (t : Bool) → is_name name ≡ t → is_name name ≡ false
+    by_test false h = h
+    by_test true h =
+        let short = (and_parts (nat_le (length name) 255) _ (and_parts (nat_lt 0 (length name)) _ h).1).1 in
+        absurd (other (IsUtf8-from_ascii name (printed_ascii name (and_parts (list_all is_printed name) _ short).0)))
+
+pub no_text : (name : List ℕ) → (IsUtf8 name → ⊥) → AreNamesAlike name []
+unfolding is_name
+no_text name other = inr (not_name name other, refl)
+
+abbrev with_name : Bool → Result ℕ Refusal → Result ℕ Refusal
+with_name b r = r >>= λ size. refuse (not b) BadName >>= λ _. Ok size
+
+abbrev opening : Result ℕ Refusal → Result (Face × Mapping) Refusal → Opening
+opening r f = r >>= λ size. f >>= λ font. Ok (size, font.0, font.1)
+
+-- whatever follows the checks, it is the cause after the size and the characters
+unnamed : (r : Result ℕ Refusal) (b : Bool) → b ≡ false → with_name b r ≡ (r >>= λ size. Err BadName)
+unnamed (Ok size) false h = refl
+unnamed (Ok size) true h = absurd (true≢false h)
+unnamed (Err e) b h = refl
+
+stopped : {Y : Type 0} (r : Result ℕ Refusal) (f : Result (Face × Mapping) Refusal) (g h : ℕ × Face × Mapping → Result Y Refusal)
+    → (opening (r >>= λ size. Err BadName) f >>= g) ≡ (opening (r >>= λ size. Err BadName) f >>= h)
+stopped (Ok size) f g h = refl
+stopped (Err e) f g h = refl
+
+same_checked : (ppem : ℕ) (a b chars : List ℕ) → is_name a ≡ false → is_name b ≡ false
+    → checked ppem b chars ≡ checked ppem a chars
+unfolding checked
+same_checked ppem a b chars p q = unnamed (sized ppem chars) (is_name b) q ∙ sym (unnamed (sized ppem chars) (is_name a) p)
+
+pub same_opened : (file : List ℕ) (ppem : ℕ) (a b chars : List ℕ) → AreNamesAlike a b
+    → opened_of file ppem b chars ≡ opened_of file ppem a chars
+unfolding opened_of
+same_opened file ppem a b chars (inl same) = ap (λ (n : List ℕ). opened_of file ppem n chars) same
+same_opened file ppem a b chars (inr none) =
+    ap (λ (r : Result ℕ Refusal). opening r (font_with_map file)) (same_checked ppem a b chars none.0 none.1)
+
+none_opened : (file : List ℕ) (ppem : ℕ) (a chars : List ℕ) → is_name a ≡ false
+    → opened_of file ppem a chars ≡ opening (sized ppem chars >>= λ size. Err BadName) (font_with_map file)
+unfolding opened_of checked
+none_opened file ppem a chars p =
+    ap (λ (r : Result ℕ Refusal). opening r (font_with_map file)) (unnamed (sized ppem chars) (is_name a) p)
+
+pub same_plan : (file : List ℕ) (ppem : ℕ) (a b chars : List ℕ) (hinting : Bool) → AreNamesAlike a b
+    → plan_of file ppem b chars hinting ≡ plan_of file ppem a chars hinting
+unfolding plan_of
+same_plan file ppem a b chars hinting (inl same) = ap (λ (n : List ℕ). plan_of file ppem n chars hinting) same
+same_plan file ppem a b chars hinting (inr none) =
+    ap (λ (o : Opening). o >>= λ o. plan_in o.1 o.2 o.0 b chars hinting) (none_opened file ppem b chars none.1)
+    ∙ stopped (sized ppem chars) (font_with_map file) (λ o. plan_in o.1 o.2 o.0 b chars hinting)
+    (λ o. plan_in o.1 o.2 o.0 a chars hinting)
+    ∙ sym (ap (λ (o : Opening). o >>= λ o. plan_in o.1 o.2 o.0 a chars hinting) (none_opened file ppem a chars none.0))
+
+-- ---- a strike's opening
+
+-- a font with a strike was opened
+pub opened_if_made : (file : List ℕ) (ppem : ℕ) (name chars : List ℕ) (hinting : Bool) (plan : Plan)
+    → plan_of file ppem name chars hinting ≡ Ok plan → IsOk (opened_of file ppem name chars)
+unfolding plan_of
+opened_if_made file ppem name chars hinting plan made = by_opening (opened_of file ppem name chars) made
+  where
+    by_opening : (o : Opening) → (o >>= λ o. plan_in o.1 o.2 o.0 name chars hinting) ≡ Ok plan → IsOk o
+    by_opening (Ok o) h = refl
+    by_opening (Err e) h = absurd (cc)
+
+-- ---- the strike of no character
+
+abbrev pub heights_in : Plan → Heights
+heights_in plan = record { ascent = plan.ascent; descent = plan.descent }
+
+abbrev pub no_name : List ℕ
+no_name = codes "heights"
+
+pub heights_are : (file : List ℕ) (ppem : ℕ) → heights_of file ppem ≡ map_ok heights_in (plan_of file ppem no_name [] false)
+unfolding heights_of opened_at plan_of opened_of checked sized is_name plan_in prelude_for plan_after rising
+heights_are file ppem = by_size (wanted (ppem_of ppem) BadSize)
+  where
+    by_font : (size : ℕ) (f : Result (Face × Mapping) Refusal)
+        → (opening (Ok size) f >>= λ o. Ok (heights_at o.0 o.1)) ≡
+        map_ok heights_in (opening (Ok size) f >>= λ o. plan_in o.1 o.2 o.0 no_name [] false)
+    by_font size (Ok font) = refl
+    by_font size (Err e) = refl
+
+    by_size : (r : Result ℕ Refusal)
+        → (opening r (font_with_map file) >>= λ o. Ok (heights_at o.0 o.1)) ≡
+        map_ok heights_in (opening (with_name true (r >>= λ size. Ok size)) (font_with_map file) >>= λ o.
+        plan_in o.1 o.2 o.0 no_name [] false)
+    by_size (Ok size) = by_font size (font_with_map file)
+    by_size (Err e) = refl
+
+-- and those of its survey
+pub some_heights : (file : List ℕ) (ppem : ℕ) (survey : Survey) → Surveyed (plan_of file ppem no_name [] false) survey
+    → heights_of file ppem ≡ Ok (surveyed_heights survey)
+some_heights file ppem survey s =
+    heights_are file ppem ∙ ap (map_ok heights_in) s.is
+    ∙ ap (λ (h : Header). Ok (record { ascent = h.ascent; descent = h.descent })) (sym s.header)
+
+-- and the one is opened as the other is
+pub heights_opened : (file : List ℕ) (ppem : ℕ) → opened_at file ppem ≡ opened_of file ppem no_name []
+unfolding opened_at opened_of checked sized is_name
+heights_opened file ppem = by_size (wanted (ppem_of ppem) BadSize)
+  where
+    by_size : (r : Result ℕ Refusal)
+        → opening r (font_with_map file) ≡ opening (with_name true (r >>= λ size. Ok size)) (font_with_map file)
+    by_size (Ok size) = refl
+    by_size (Err e) = refl
+
+-- and refused as the other is
+pub no_heights : (file : List ℕ) (ppem : ℕ) (r : Result Heights Refusal) (e d : Refusal) → r ≡ Err e → e ≡ d
+    → Fails d (plan_of file ppem no_name [] false) → (d ≡ OutOfMemory → Late (opened_of file ppem no_name []))
+    → IfErr r (IsReason (opened_at file ppem) (heights_of file ppem))
+no_heights file ppem r e d is same fails late =
+    let P : Result Heights Refusal → Type 0 = λ r. IfErr r (IsReason (opened_at file ppem) (heights_of file ppem)) in
+    let Q : Opening → Type 0 = λ o. IsOk o in
+    subst P (sym (is ∙ ap (λ (d : Refusal). Err d) same)) (
+      fails_on d (plan_of file ppem no_name [] false) (heights_of file ppem)
+          (λ e h. heights_are file ppem ∙ ap (map_ok heights_in) h) fails,
+      λ m. subst Q (sym (heights_opened file ppem)) (late m),
+    )

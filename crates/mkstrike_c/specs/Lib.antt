@@ -1,0 +1,10 @@
+pub mod Refused
+pub mod Reasons
+pub mod Pixels
+pub mod Made
+pub mod Shown
+pub mod Heights
+pub use Rattle.fx_request.specs.Refusals
+pub use Rattle.fx_strike.specs.Strike
+pub use Rattle.fx_strike.specs.Headline
+pub use Rattle.fx_strike.specs.Faults

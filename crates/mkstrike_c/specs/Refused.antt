@@ -1,0 +1,90 @@
+-- Refusals as C sees them.
+use Rattle.std.specs.Prelude.{◌≡◌, ℕ, List, Result}
+use Rattle.std.specs.Int.{from_be_bytes, w32}
+use Rattle.fx_machine.specs.declared.halt.Halt.{Halt}
+use Rattle.fx_machine.specs.declared.program.FontProgram.{FontProgram}
+use Rattle.fx_machine.specs.declared.program.FontProgram.TheVariants.{Fpgm, Prep, Glyph}
+use Rattle.fx_request.specs.declared.refusal.Refusal.{Refusal}
+use Rattle.fx_request.specs.declared.refusal.Refusal.TheVariants.{TableMissing, TableShort, BadLoca, GlyphShort, BadContours}
+use Rattle.fx_request.specs.declared.refusal.Refusal.TheVariants.{ComponentDepth, TooManyComponents, TooManyPoints, BadPointMatch}
+use Rattle.fx_request.specs.declared.refusal.Refusal.TheVariants.{BadGlyphNumber, Halted, TooFar, GlyphTooLarge, OutOfMemory}
+use Rattle.fx_request.specs.Refusals.{number_of}
+use Rattle.fx_strike.specs.Strike.{Opening}
+use Rattle.fx_strike.specs.Headline.{Late}
+use Rattle.fx_strike.specs.Faults.{Fails}
+use Rattle.mkstrike_c.specs.declared.refused.Refused.{Refused}
+
+-- no glyph, no program: the greatest number of 32 bits
+abbrev pub none : ℕ
+none = 0xFFFFFFFF
+
+-- a refusal without fields
+abbrev pub no_fields : ℕ → Refused
+no_fields number =
+    record { number = number; table = 0; glyph = none; during = none; program = none; opcode = 0; address = 0 }
+
+-- the tag of a table, its first byte the highest
+abbrev pub with_table : ℕ → List ℕ → Refused
+with_table number tag = record {
+  number = number;
+  table = from_be_bytes w32 tag;
+  glyph = none;
+  during = none;
+  program = none;
+  opcode = 0;
+  address = 0;
+}
+
+-- a glyph
+abbrev pub with_glyph : ℕ → ℕ → Refused
+with_glyph number glyph =
+    record { number = number; table = 0; glyph = glyph; during = none; program = none; opcode = 0; address = 0 }
+
+-- a program: its glyph's number, or one above all of these
+abbrev pub program_number : FontProgram → ℕ
+program_number Fpgm = 0x10000
+program_number Prep = 0x10001
+program_number (Glyph g) = g
+
+-- a halt: the program that was started, the one that holds the instruction, its opcode and its address
+abbrev pub halted : ℕ → Halt → Refused
+halted number halt = record {
+  number = number;
+  table = 0;
+  glyph = none;
+  during = program_number halt.during;
+  program = program_number halt.program;
+  opcode = halt.opcode;
+  address = halt.address;
+}
+
+-- the fields of a refusal of this number
+abbrev pub fields : ℕ → Refusal → Refused
+fields number (TableMissing tag) = with_table number tag
+fields number (TableShort tag) = with_table number tag
+fields number (BadLoca g) = with_glyph number g
+fields number (GlyphShort g) = with_glyph number g
+fields number (BadContours g) = with_glyph number g
+fields number (ComponentDepth g) = with_glyph number g
+fields number (TooManyComponents g) = with_glyph number g
+fields number (TooManyPoints g) = with_glyph number g
+fields number (BadPointMatch g) = with_glyph number g
+fields number (BadGlyphNumber g) = with_glyph number g
+fields number (TooFar g) = with_glyph number g
+fields number (GlyphTooLarge g) = with_glyph number g
+fields number (Halted halt) = halted number halt
+fields number _ = no_fields number
+
+-- the number and the fields of a refusal
+abbrev pub refused_of : Refusal → Refused
+refused_of refusal = fields (number_of refusal) refusal
+
+-- why there is no value: the first cause; or memory was refused, after the request passed its checks and the font and its
+-- character map opened
+abbrev pub IsReason : {Y : Type 0} → Opening → Result Y Refusal → Refusal → Type 0
+IsReason opening due refusal = Fails refusal due × (refusal ≡ OutOfMemory → Late opening)
+
+-- the number and the fields are those of a refusal, and it is the reason
+abbrev pub IsRefused : {Y : Type 0} → Opening → Result Y Refusal → ℕ → Refused → Type 0
+IsRefused opening due number refused =
+    (refusal : Refusal) × IsReason opening due refusal × (number ≡ number_of refusal) × (refused ≡ refused_of refusal)

@@ -1,0 +1,122 @@
+//! A strike for C.
+ghost use Rattle.std.specs.Prelude.{◌≡◌, ◌<◌, IfOk, IfErr};
+ghost use Rattle.fx_strike.specs.Strike.{opened_of, plan_of};
+ghost use Rattle.fx_strike.specs.Headline.{opening_of, strike_of};
+ghost use Rattle.mkstrike_c.specs.Made.{AreNamesAlike, HoldsText, IsMade, told_of};
+ghost use Rattle.mkstrike_c.specs.Refused.{IsReason, IsRefused};
+
+use crate::buffer::put_front;
+use crate::refused::{Refused, refuse};
+use crate::sink::TextSink;
+use fx_fixed::Sink;
+use fx_request::{Refusal, Report, Request};
+use fx_strike::make_strike;
+use std::alloc::Global;
+
+/// What is told of a strike.
+#[repr(C)]
+#[derive(Clone, Copy)]
+pub struct Told {
+    /// The number of bytes of the strike's text.
+    pub bytes: usize,
+    /// The number of glyphs: one for each requested character that the font has.
+    pub glyphs: u32,
+    /// The number of requested characters that the font does not have.
+    pub missing: u32,
+    /// The numbers outside their tables that font programs named; the count stays at the greatest `u64`.
+    pub strays: u64,
+    /// The instructions that font programs executed; the count stays at the greatest `u64`.
+    pub steps: u64,
+}
+
+/// What is told of a strike of this text.
+fn told_of(text: &[u8], report: Report) -> Told
+    ensures { result ≡ told_of text.now report }
+{
+    Told {
+        bytes: text.len(),
+        glyphs: report.glyphs,
+        missing: report.missing,
+        strays: report.strays,
+        steps: report.steps,
+    }
+}
+
+/// The text of a strike in memory, and what was counted over it.
+fn text_of(alloc: Global, font: &[u8], request: &Request<'_>) -> Result<(TextSink, Report), Refusal>
+    ensures text { IfOk result (λ made. HoldsText (strike_of font.now request.now) (⟦<TextSink as Sink>⟧.held made.0) made.1) }
+    ensures refused { IfErr result (IsReason (opening_of font.now request.now) (strike_of font.now request.now)) }
+{
+    let mut sink = TextSink::new(alloc);
+    match make_strike(alloc, font, request, &mut sink) {
+        Ok(report) => Ok((sink, report)),
+        Err(Refusal::WriteFailed(_)) => Err(Refusal::OutOfMemory),
+        Err(refusal) => Err(refusal),
+    }
+}
+
+/// A name as text. If it is not UTF-8 the text is empty, which is no name either.
+fn name_of(name: &[u8]) -> &str
+    ensures { AreNamesAlike name.now result.now }
+{
+    match str::from_utf8(name) {
+        Ok(text) => text,
+        Err(_) => "",
+    }
+}
+
+/// The same for a name of any bytes.
+fn text_for(
+    alloc: Global,
+    font: &[u8],
+    ppem: u16,
+    hinting: bool,
+    chars: &[u32],
+    name: &[u8],
+) -> Result<(TextSink, Report), Refusal>
+    ensures text { IfOk result (λ made. HoldsText (plan_of font.now ppem name.now chars.now hinting)
+        (⟦<TextSink as Sink>⟧.held made.0) made.1) }
+    ensures refused { IfErr result (IsReason (opened_of font.now ppem name.now chars.now)
+        (plan_of font.now ppem name.now chars.now hinting)) }
+{
+    let request = Request {
+        ppem,
+        name: name_of(name),
+        chars,
+        hinting,
+    };
+    text_of(alloc, font, &request)
+}
+
+/// Makes the strike of a font. Copies as much of its text to the front of `out` as fits, and tells of it; the number of bytes is
+/// that of the whole text. Returns 0; or the number of a refusal, whose fields it puts into `refused`.
+#[unsafe(no_mangle)]
+pub extern "C" fn mkstrike_make(
+    alloc: Global,
+    font: &[u8],
+    ppem: u16,
+    hinting: bool,
+    chars: &[u32],
+    name: &[u8],
+    out: &mut [u8],
+    told: &mut Told,
+    refused: &mut Refused,
+) -> u32
+    // The strike exists, and as much of its text as fits was copied.
+    ensures made { result ≡ 0 → IsMade (plan_of font.now ppem name.now chars.now hinting) out.old out.new told.new }
+    // The first cause was named; or memory was refused, after the request passed its checks and the font and its map opened.
+    ensures refused { 0 < result → IsRefused (opened_of font.now ppem name.now chars.now)
+        (plan_of font.now ppem name.now chars.now hinting) result refused.new }
+    // A refusal leaves the buffer and what is told as they were, and a strike the refusal's fields.
+    ensures kept { 0 < result → (out.new ≡ out.old) × (told.new ≡ told.old) }
+    ensures silent { result ≡ 0 → refused.new ≡ refused.old }
+{
+    match text_for(alloc, font, ppem, hinting, chars, name) {
+        Ok((sink, report)) => {
+            put_front(out, sink.text());
+            *told = told_of(sink.text(), report);
+            0
+        }
+        Err(refusal) => refuse(refusal, refused),
+    }
+}

@@ -1,0 +1,131 @@
+//! The fields of a refusal.
+ghost use Rattle.std.specs.Prelude.{◌≡◌, ◌≤◌};
+ghost use Rattle.fx_request.specs.Refusals.{number_of};
+ghost use Rattle.mkstrike_c.specs.Refused.{fields, halted, no_fields, program_number, refused_of};
+
+use fx_machine::{FontProgram, Halt};
+use fx_request::Refusal;
+
+/// No glyph, no program.
+pub const NONE: u32 = 0xFFFF_FFFF;
+
+/// The font program; the program of a glyph has the glyph's number, which is below.
+pub const FPGM: u32 = 0x1_0000;
+
+/// The control value program.
+pub const PREP: u32 = 0x1_0001;
+
+/// Why a call was refused, and where.
+#[repr(C)]
+#[derive(Clone, Copy)]
+pub struct Refused {
+    /// The refusal's number.
+    pub number: u32,
+    /// The tag of the table that is missing or short, its first byte the highest; or 0.
+    pub table: u32,
+    /// The glyph at fault; or `NONE`.
+    pub glyph: u32,
+    /// Of a halt: the program that was started, and the one whose bytes hold the instruction; or `NONE`.
+    pub during: u32,
+    pub program: u32,
+    /// Of a halt: the instruction's opcode, 0 past the end, and its address; or 0.
+    pub opcode: u32,
+    pub address: u64,
+}
+
+/// The number of a refusal.
+pub fn number(refusal: Refusal) -> u32
+    ensures value { result ≡ number_of refusal }
+    ensures least { 10 ≤ result }
+{
+    u32::from(refusal.number())
+}
+
+/// A refusal without fields.
+fn no_fields(number: u32) -> Refused
+    ensures { result ≡ no_fields number }
+{
+    Refused {
+        number,
+        table: 0,
+        glyph: NONE,
+        during: NONE,
+        program: NONE,
+        opcode: 0,
+        address: 0,
+    }
+}
+
+/// The number of a program.
+fn program_number(program: FontProgram) -> u32
+    ensures { result ≡ program_number program }
+{
+    match program {
+        FontProgram::Fpgm => FPGM,
+        FontProgram::Prep => PREP,
+        FontProgram::Glyph(g) => u32::from(g),
+    }
+}
+
+/// The fields of a halt.
+fn halted(number: u32, halt: Halt) -> Refused
+    ensures { result ≡ halted number halt }
+{
+    Refused {
+        during: program_number(halt.during),
+        program: program_number(halt.program),
+        opcode: u32::from(halt.opcode),
+        address: halt.address as u64,
+        ..no_fields(number)
+    }
+}
+
+/// The fields of a refusal of this number.
+fn fields(number: u32, refusal: Refusal) -> Refused
+    ensures { result ≡ fields number refusal }
+{
+    match refusal {
+        Refusal::TableMissing(tag) | Refusal::TableShort(tag) => Refused {
+            table: u32::from_be_bytes(tag),
+            ..no_fields(number)
+        },
+        Refusal::BadLoca(g)
+        | Refusal::GlyphShort(g)
+        | Refusal::BadContours(g)
+        | Refusal::ComponentDepth(g)
+        | Refusal::TooManyComponents(g)
+        | Refusal::TooManyPoints(g)
+        | Refusal::BadPointMatch(g)
+        | Refusal::BadGlyphNumber(g)
+        | Refusal::TooFar(g)
+        | Refusal::GlyphTooLarge(g) => Refused {
+            glyph: u32::from(g),
+            ..no_fields(number)
+        },
+        Refusal::Halted(halt) => halted(number, halt),
+        Refusal::NotTrueType
+        | Refusal::BadHead
+        | Refusal::BadMaxp
+        | Refusal::NoCharMap
+        | Refusal::BadCharMap
+        | Refusal::BadSize
+        | Refusal::BadChars
+        | Refusal::BadName
+        | Refusal::WriteFailed(_)
+        | Refusal::ReadFailed
+        | Refusal::BadHex
+        | Refusal::InputTooLarge
+        | Refusal::OutOfMemory => no_fields(number),
+    }
+}
+
+/// Puts the fields of a refusal, and returns its number.
+pub fn refuse(refusal: Refusal, refused: &mut Refused) -> u32
+    ensures value { result ≡ number_of refusal }
+    ensures least { 10 ≤ result }
+    ensures fields { refused.new ≡ refused_of refusal }
+{
+    let number = number(refusal);
+    *refused = fields(number, refusal);
+    number
+}

@@ -1,0 +1,87 @@
+/* show FONT PPEM HEX          the picture of a character, and its numbers
+ * show FONT PPEM FIRST-LAST   a strike of those characters, to standard output
+ *
+ * cc -Iinclude examples/show.c c/heap.c libmkstrike_c.a -o show */
+#include "mkstrike.h"
+#include <stdio.h>
+#include <stdlib.h>
+
+static struct mkstrike_refused why;
+
+static uint8_t *read_file(const char *name, size_t *len) {
+    FILE *file = fopen(name, "rb");
+    uint8_t *all = NULL;
+    long size;
+    if (file == NULL) return NULL;
+    if (fseek(file, 0, SEEK_END) == 0 && (size = ftell(file)) >= 0) {
+        rewind(file);
+        *len = (size_t)size;
+        all = (uint8_t *)malloc(*len + 1);
+        if (all != NULL && fread(all, 1, *len, file) != *len) {
+            free(all);
+            all = NULL;
+        }
+    }
+    fclose(file);
+    return all;
+}
+
+/* Asks for the size of the text with no room, then for the text. */
+static uint32_t strike(const uint8_t *font, size_t len, uint16_t ppem, uint32_t first, uint32_t last) {
+    uint32_t count = last - first + 1, i, status;
+    uint32_t *chars = (uint32_t *)malloc(count * sizeof *chars);
+    struct mkstrike_told told;
+    uint8_t none[1], *text = none;
+    size_t room = 0;
+    if (chars == NULL) return MKSTRIKE_OUT_OF_MEMORY;
+    for (i = 0; i < count; i++) chars[i] = first + i;
+    status = mkstrike_make(font, len, ppem, true, chars, count, "strike", 6, none, 0, &told, &why);
+    if (status == MKSTRIKE_DONE) {
+        room = told.bytes;
+        text = (uint8_t *)malloc(room);
+        status = MKSTRIKE_OUT_OF_MEMORY;
+        if (text != NULL) status = mkstrike_make(font, len, ppem, true, chars, count, "strike", 6, text, room, &told, &why);
+    }
+    if (status == MKSTRIKE_DONE) {
+        fwrite(text, 1, room, stdout);
+        fprintf(stderr, "glyphs %u missing %u\n", (unsigned)told.glyphs, (unsigned)told.missing);
+    }
+    if (text != none) free(text);
+    free(chars);
+    return status;
+}
+
+static uint32_t picture(const uint8_t *font, size_t len, uint16_t ppem, uint32_t code) {
+    struct mkstrike_glyph g;
+    uint8_t none[1], *pixels;
+    uint32_t i, j, status = mkstrike_glyph(font, len, ppem, true, code, false, none, 0, &g, &why);
+    if (status != MKSTRIKE_DONE) return status;
+    pixels = (uint8_t *)malloc((size_t)g.stride * g.height + 1);
+    if (pixels == NULL) return MKSTRIKE_OUT_OF_MEMORY;
+    status = mkstrike_glyph(font, len, ppem, true, code, false, pixels, (size_t)g.stride * g.height, &g, &why);
+    for (i = 0; status == MKSTRIKE_DONE && i < g.height; i++) {
+        for (j = 0; j < g.width; j++) putchar(pixels[i * g.stride + j] ? '#' : '.');
+        putchar('\n');
+    }
+    free(pixels);
+    fprintf(stderr, "box %u %u %d %d advance %d\n", (unsigned)g.width, (unsigned)g.height, (int)g.left, (int)g.bottom, (int)g.dwidth);
+    return status;
+}
+
+int main(int argc, char **argv) {
+    size_t len = 0;
+    uint8_t *font = argc == 4 ? read_file(argv[1], &len) : NULL;
+    unsigned first, last;
+    uint32_t status;
+    char name[24];
+    if (font == NULL) return 2;
+    if (sscanf(argv[3], "%x-%x", &first, &last) == 2 && first <= last && last <= 0x10FFFF)
+        status = strike(font, len, (uint16_t)atoi(argv[2]), first, last);
+    else
+        status = picture(font, len, (uint16_t)atoi(argv[2]), (uint32_t)strtoul(argv[3], NULL, 16));
+    free(font);
+    if (status == MKSTRIKE_DONE) return 0;
+    mkstrike_reason(status, name, sizeof name);
+    fprintf(stderr, "refused: %u %s\n", (unsigned)status, name);
+    return 1;
+}

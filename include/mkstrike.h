@@ -1,0 +1,152 @@
+/* mkstrike for C: strikes (BDF 2.1) and glyphs of a TrueType font, hinted by the font's own programs, black and white.
+ *
+ * Each call takes all that it needs and keeps nothing: there is no state, no handle, no lock, and nothing to close. Calls may run in
+ * several threads at once, as long as no two are handed the same bytes to write to. All memory that a call takes is given back before
+ * it returns. A call opens no file and prints nothing. docs/LIBRARY.md has the memory, the stack and the time that calls take.
+ *
+ * Units. A size is in pixels an em. Pixels are counted from the origin on the baseline, columns to the right, rows upwards; row 0 lies
+ * above the baseline. A font is the bytes of its file. A character is a code point of Unicode.
+ *
+ * Errors. A call returns 0 when it is done, or a number that never changes its meaning (docs/REFUSALS.md; MKSTRIKE_ below). A refused
+ * call writes the fields of the refusal and nothing else. A call that is done writes no refusal.
+ *
+ * Sizes. A call that makes a text or pixels tells how many bytes it has for them, also if the buffer that it was given is too small. So
+ * the first call may have a buffer of 0 bytes, as with snprintf.
+ *
+ * What is trusted. The proofs say what each call does for all bytes, sizes and characters (docs/PROVED.md). Nothing checks these, which
+ * they take as given:
+ *   - no pointer is null, also if its count is 0: pass the address of anything;
+ *   - each pointer has as many elements behind it as its count says, and nobody changes them during the call;
+ *   - what a call writes to overlaps nothing else that the call is handed;
+ *   - a bool is 0 or 1;
+ *   - there is stack enough: 64 KiB for a thread is more than twice what calls were seen to take;
+ *   - the processor has the instructions of x86-64-v2 (SSE4.2, POPCNT; from 2009 on): the calls do not look.
+ *
+ * Linking. libmkstrike_c.a and one of c/heap.c (malloc, realloc and free of the C library) and c/arena.c (a block that you hand over, no
+ * C library). Beside these the archive needs memcpy, memmove and memset, and __udivti3 of the compiler's own library (libgcc). */
+#ifndef MKSTRIKE_H
+#define MKSTRIKE_H
+
+#include <stdbool.h>
+#include <stddef.h>
+#include <stdint.h>
+
+#ifdef __cplusplus
+extern "C" {
+#endif
+
+/* What a call returns. */
+enum {
+    MKSTRIKE_DONE = 0,
+    MKSTRIKE_MISSING = 1, /* mkstrike_glyph: the font does not have the character */
+
+    /* the font */
+    MKSTRIKE_NOT_TRUE_TYPE = 10,
+    MKSTRIKE_TABLE_MISSING = 11, /* table */
+    MKSTRIKE_TABLE_SHORT = 12,   /* table */
+    MKSTRIKE_BAD_HEAD = 13,
+    MKSTRIKE_BAD_MAXP = 14,
+    MKSTRIKE_NO_CHAR_MAP = 15,
+    MKSTRIKE_BAD_CHAR_MAP = 16,
+
+    /* a glyph of the font: the field `glyph` */
+    MKSTRIKE_BAD_LOCA = 17,
+    MKSTRIKE_GLYPH_SHORT = 18,
+    MKSTRIKE_BAD_CONTOURS = 19,
+    MKSTRIKE_COMPONENT_DEPTH = 20,
+    MKSTRIKE_TOO_MANY_COMPONENTS = 21,
+    MKSTRIKE_TOO_MANY_POINTS = 22,
+    MKSTRIKE_BAD_POINT_MATCH = 23,
+    MKSTRIKE_BAD_GLYPH_NUMBER = 24,
+
+    /* a program of the font halted: the fields `during`, `program`, `address`, `opcode` */
+    MKSTRIKE_STACK_UNDER = 30,
+    MKSTRIKE_STACK_OVER = 31,
+    MKSTRIKE_BAD_OPCODE = 32,
+    MKSTRIKE_CODE_END = 33,
+    MKSTRIKE_BAD_JUMP = 34,
+    MKSTRIKE_NO_FUNCTION = 35,
+    MKSTRIKE_CALL_DEPTH = 36,
+    MKSTRIKE_STEP_LIMIT = 37,
+    MKSTRIKE_DIVIDE_BY_ZERO = 38,
+    MKSTRIKE_BAD_ARGUMENT = 39,
+    MKSTRIKE_NESTED_DEFINITION = 40,
+    MKSTRIKE_STRAY_END = 41,
+
+    /* an outline at this size: the field `glyph` */
+    MKSTRIKE_TOO_FAR = 51,
+    MKSTRIKE_GLYPH_TOO_LARGE = 52,
+
+    /* the request */
+    MKSTRIKE_BAD_SIZE = 60,
+    MKSTRIKE_BAD_CHARS = 61,
+    MKSTRIKE_BAD_NAME = 62,
+
+    MKSTRIKE_OUT_OF_MEMORY = 90
+};
+
+/* In a refusal: no glyph, no program; the font's two programs that belong to no glyph. */
+#define MKSTRIKE_NONE UINT32_C(0xFFFFFFFF)
+#define MKSTRIKE_FPGM UINT32_C(0x10000)
+#define MKSTRIKE_PREP UINT32_C(0x10001)
+
+/* Why a call was refused, and where. */
+struct mkstrike_refused {
+    uint32_t number;  /* what the call returned */
+    uint32_t table;   /* the tag of the table that is missing or short, its first byte the highest; else 0 */
+    uint32_t glyph;   /* the glyph at fault; else MKSTRIKE_NONE */
+    uint32_t during;  /* a program halted: the one that was started, a glyph's number, MKSTRIKE_FPGM or MKSTRIKE_PREP; else MKSTRIKE_NONE */
+    uint32_t program; /* and the one whose bytes hold the instruction */
+    uint32_t opcode;  /* that instruction, 0 past the program's end; else 0 */
+    uint64_t address; /* where it is in those bytes; else 0 */
+};
+
+/* Puts the name of a number that a call returned into `text`, as much of it as fits before a 0, and that 0; nothing if `text_len` is 0.
+ * Returns the length of the whole name without the 0, at most 20. Numbers that no call returns are "Unknown". */
+size_t mkstrike_reason(uint32_t number, char *text, size_t text_len);
+
+/* The heights of a font. */
+struct mkstrike_heights {
+    int32_t ascent, descent; /* in pixels; the descent is positive below the baseline */
+};
+
+/* Tells the heights of a font at a size of 1 to 1,024. */
+uint32_t mkstrike_heights(const uint8_t *font, size_t font_len, uint16_t ppem, struct mkstrike_heights *heights,
+    struct mkstrike_refused *refused);
+
+/* The numbers of a glyph. */
+struct mkstrike_glyph {
+    uint32_t width, height; /* of the least box that holds every set pixel; 0 and 0 if no pixel is set */
+    int32_t left, bottom;   /* the column and the row of the box's lower left pixel */
+    uint32_t stride;        /* the bytes of a row: width, or if packed (width + 7) / 8; stride * height is the size of all pixels */
+    int32_t dwidth, swidth; /* the advance in pixels, and in 1/1000 of an em */
+};
+
+/* Makes the glyph of one character at a size of 1 to 1,024: its numbers, and, if `pixels` has room for all of them, its pixels, row by
+ * row from the top. Not packed, a pixel is a byte, 255 if it is set and 0 if not. Packed, it is a bit, the leftmost the highest of its
+ * byte, and a row takes whole bytes, the last filled up with 0. With `hinting` off no program of the font runs.
+ *
+ * Returns MKSTRIKE_MISSING and writes nothing if the font does not have the character. A call opens the font and, with hinting on, runs
+ * its `fpgm` and `prep` again: for many characters at once there is mkstrike_make. */
+uint32_t mkstrike_glyph(const uint8_t *font, size_t font_len, uint16_t ppem, bool hinting, uint32_t code, bool packed, uint8_t *pixels,
+    size_t pixels_len, struct mkstrike_glyph *glyph, struct mkstrike_refused *refused);
+
+/* What is told of a strike. */
+struct mkstrike_told {
+    size_t bytes;           /* of the whole text, also of one that did not fit */
+    uint32_t glyphs;        /* one for each requested character that the font has */
+    uint32_t missing;       /* requested characters that the font does not have */
+    uint64_t strays, steps; /* numbers outside their tables that font programs named; instructions that they executed */
+};
+
+/* Makes the text of a strike at a size of 1 to 1,024, in BDF. As much of it as fits goes to the front of `out`; what lies after it stays
+ * as it was. There is no 0 at its end. `chars` are code points in any order, at most 65,536, repeats count once; `name` is 1 to 255
+ * printed characters of ASCII, no space first or last, and needs no 0 at its end. */
+uint32_t mkstrike_make(const uint8_t *font, size_t font_len, uint16_t ppem, bool hinting, const uint32_t *chars, size_t chars_len,
+    const char *name, size_t name_len, uint8_t *out, size_t out_len, struct mkstrike_told *told, struct mkstrike_refused *refused);
+
+#ifdef __cplusplus
+}
+#endif
+
+#endif
