@@ -200,6 +200,15 @@ def sizes_of_arcs():
             yield from both("arcs at %d pixels an em" % ppem, font, ppem, (A, B, C))
 
 
+def arcs_far_to_the_right():
+    """Many arcs over many rows, far from the left side of the box that they lie in. What a row costs must not grow with
+    how far from the left its pieces lie: 400 arcs in 1,024 rows have 2,400 million columns before them."""
+    lenses = [[(x, 0, 1), (x + 9, 512, 0), (x, 1024, 1), (x - 9, 512, 0)] for x in range(SIDE - 4100, SIDE - 100, 20)]
+    box = [(0, 0, 1), (SIDE, 0, 1), (SIDE, 1024, 1), (0, 1024, 1)]
+    font = one(Simple([(0, 0, SIDE, 1024)], [box] + lenses), upem=1024)
+    yield strike("200 lenses in a box", font, 1024, limits={"RLIMIT_CPU": 5})
+
+
 def units():
     """Em squares to their limits."""
     for upem in (16, 17, 1000, 2048, 16383, 16384):
@@ -243,4 +252,4 @@ def memory_and_stack_at_128():
 
 CASES = [memory_and_stack_at_128, characters, memory_and_stack_at_16, kept_components, sides, characters_past_ffff,
          points, contours, glyphs_of_a_font, composites_of_contours, composites_of_points, sizes, sizes_of_arcs,
-         units, greatest_inputs, sizes_of_fonts, components, depth, all_sides, distances]
+         arcs_far_to_the_right, units, greatest_inputs, sizes_of_fonts, components, depth, all_sides, distances]

@@ -25,6 +25,3 @@ mod wish;
 pub use chars::parse_chars;
 pub use program::run;
 pub use start::{run_given, run_program};
-
-#[cfg(test)]
-mod tests;
