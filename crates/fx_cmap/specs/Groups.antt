@@ -1,10 +1,11 @@
 -- A subtable of format 12: its groups, and the glyph of a character.
 -- OpenType, "cmap", "Format 12: Segmented coverage".
-use Rattle.std.specs.Prelude.{ℕ, ◌+◌, ◌-◌, ◌*◌, List, length, find, Option, Some, None, Result, Ok, Bool, nat_lt, nat_le}
+use Rattle.std.specs.Prelude.{ℕ, ◌+◌, ◌-◌, ◌*◌, List, length, map, find, Option, Some, None, Result, Ok, Bool, nat_lt, nat_le}
 use Rattle.std.specs.Prelude.{if◌then◌else◌}
+use Rattle.std.specs.List.{range_with_len}
 use Rattle.fx_fixed.specs.Chain.{◌>>=◌, refuse}
 use Rattle.fx_sfnt.specs.Fields.{field}
-use Rattle.fx_cmap.specs.Subtables.{each_number, falls}
+use Rattle.fx_cmap.specs.Subtables.{falls}
 use Rattle.fx_cmap.specs.declared.fault.CharMapFault.{CharMapFault}
 use Rattle.fx_cmap.specs.declared.fault.CharMapFault.TheVariants.{BadCharMap}
 use Rattle.fx_cmap.specs.declared.group.Group.{Group}
@@ -19,11 +20,11 @@ group_of cmap start k = record {
 
 -- the groups of the subtable at an offset
 abbrev pub groups_of : List ℕ → ℕ → ℕ → List Group
-groups_of cmap start count = each_number (group_of cmap start) 0 count
+groups_of cmap start count = map (group_of cmap start) (range_with_len 0 count)
 
 -- some endCharCode is below the one before it
 abbrev pub groups_fall : List Group → Bool
-groups_fall groups = falls (λ g. g.end_char_code) 0 groups
+groups_fall groups = falls 0 (map (λ g. g.end_char_code) groups)
 
 -- the subtable at an offset, or the first fault; its fields length and language are not looked at
 unfoldable pub groups_at : List ℕ → ℕ → Result (List Group) CharMapFault

@@ -2,3 +2,4 @@ pub mod Subtables
 pub mod Segments
 pub mod Groups
 pub mod Lookup
+pub mod inner

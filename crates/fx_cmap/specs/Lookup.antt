@@ -1,6 +1,6 @@
 -- The character map: which subtable is taken, and the glyph of a character.
 -- OpenType, "cmap", "Encoding records and encodings".
-use Rattle.std.specs.Prelude.{ℕ, ◌+◌, ◌*◌, List, length, drop, find, codes, Option, Some, None, option_map, Result, Err}
+use Rattle.std.specs.Prelude.{ℕ, ◌+◌, ◌*◌, List, [], ◌∷◌, length, drop, find, codes, Option, Some, None, option_map, Result}
 use Rattle.std.specs.Prelude.{Bool, false, ◌==◌, ◌&&◌, nat_lt, nat_le}
 use Rattle.std.specs.Option.{option_or}
 use Rattle.fx_fixed.specs.Chain.{◌>>=◌, refuse, wanted, map_ok}
@@ -10,8 +10,16 @@ use Rattle.fx_cmap.specs.Segments.{segments_at, glyph_by_segments}
 use Rattle.fx_cmap.specs.Groups.{groups_at, glyph_by_groups}
 use Rattle.fx_cmap.specs.declared.fault.CharMapFault.{CharMapFault}
 use Rattle.fx_cmap.specs.declared.fault.CharMapFault.TheVariants.{NoCharMap, BadCharMap}
+use Rattle.fx_cmap.specs.declared.candidates.Candidate.{Candidate}
+use Rattle.fx_cmap.specs.declared.candidates.Format.{Format}
+use Rattle.fx_cmap.specs.declared.candidates.Format.TheVariants.{Four, Twelve}
 use Rattle.fx_cmap.specs.declared.mapping.Mapping.{Mapping}
 use Rattle.fx_cmap.specs.declared.mapping.Mapping.TheVariants.{Segments, Groups}
+
+-- the number of a format
+abbrev pub number_of : Format → ℕ
+number_of Four = 4
+number_of Twelve = 12
 
 -- the subtable at an offset has a format
 abbrev pub has_format : ℕ → List ℕ → ℕ → Bool
@@ -20,39 +28,51 @@ has_format format cmap start = is_format (number_at 2 cmap start) where
   is_format None = false
   is_format (Some number) = number == format
 
--- an encoding record (platform, encoding, offset) has the platform, an encoding in the range, and a subtable of the format
-abbrev pub is_record_of : ℕ → ℕ → ℕ → ℕ → List ℕ → List ℕ → Bool
-is_record_of format platform low high cmap entry =
-    field 2 entry 0 == platform && (nat_le low (field 2 entry 2) && nat_le (field 2 entry 2) high) && has_format format cmap
-    (field 4 entry 4)
+-- an encoding record (platform, encoding, offset) is one that a candidate looks for: of its platform, with an encoding in its
+-- range, and with a subtable of its format
+abbrev pub is_record_of : Candidate → List ℕ → List ℕ → Bool
+is_record_of c cmap entry =
+    field 2 entry 0 == c.platform && (nat_le c.low (field 2 entry 2) && nat_le (field 2 entry 2) c.high)
+    && has_format (number_of c.format) cmap (field 4 entry 4)
 
--- the offset of the subtable of the first such record
-abbrev pub first_subtable_of : ℕ → ℕ → ℕ → ℕ → List ℕ → Option ℕ
-first_subtable_of format platform low high cmap =
-    option_map (λ entry. field 4 entry 4)
-    (find (is_record_of format platform low high cmap) (records 8 (field 2 cmap 2) (drop 4 cmap)))
+-- the format of a candidate and the offset of the subtable of the first record that it looks for
+abbrev pub first_subtable_of : List ℕ → Candidate → Option (Format × ℕ)
+first_subtable_of cmap c =
+    option_map (λ entry. (c.format, field 4 entry 4))
+    (find (is_record_of c cmap) (records 8 (field 2 cmap 2) (drop 4 cmap)))
 
--- the offset of the subtable of format 12 that is taken: Windows with all of Unicode, else Unicode
-abbrev pub format_12_of : List ℕ → Option ℕ
-format_12_of cmap = option_or (first_subtable_of 12 3 10 10 cmap) (first_subtable_of 12 0 0 6 cmap)
+-- the subtable of the first candidate that has one
+abbrev pub chosen_of : List ℕ → List Candidate → Option (Format × ℕ)
+chosen_of cmap [] = None
+chosen_of cmap (c ∷ more) = option_or (first_subtable_of cmap c) (chosen_of cmap more)
 
--- the offset of the subtable of format 4 that is taken: Windows with Unicode, else Unicode, else Windows with symbols
-abbrev pub format_4_of : List ℕ → Option ℕ
-format_4_of cmap =
-    option_or (first_subtable_of 4 3 1 1 cmap) (option_or (first_subtable_of 4 0 0 3 cmap) (first_subtable_of 4 3 0 0 cmap))
+-- a candidate: a format, a platform, and a range of encodings
+abbrev candidate : Format → ℕ → ℕ → ℕ → Candidate
+candidate format platform low high = record { format = format; platform = platform; low = low; high = high }
 
--- the mapping of a subtable of format 12 if there is one, else of one of format 4
-abbrev pub mapping_at : List ℕ → Option ℕ → Option ℕ → Result Mapping CharMapFault
-mapping_at cmap (Some start) _ = map_ok Groups (groups_at cmap start)
-mapping_at cmap None (Some start) = map_ok Segments (segments_at cmap start)
-mapping_at cmap None None = Err NoCharMap
+-- the candidates, in order of preference: format 12 for Windows with all of Unicode, for Unicode; then format 4 for Windows with
+-- Unicode, for Unicode, for Windows with symbols
+abbrev pub candidates : List Candidate
+candidates =
+    candidate Twelve 3 10 10
+    ∷ candidate Twelve 0 0 6
+    ∷ candidate Four 3 1 1
+    ∷ candidate Four 0 0 3
+    ∷ candidate Four 3 0 0
+    ∷ []
+
+-- the subtable of a format at an offset, or its first fault
+abbrev pub subtable_at : List ℕ → Format × ℕ → Result Mapping CharMapFault
+subtable_at cmap (Twelve, start) = map_ok Groups (groups_at cmap start)
+subtable_at cmap (Four, start) = map_ok Segments (segments_at cmap start)
 
 -- the character map in the bytes of `cmap`, or the first fault
 unfoldable pub char_map_of : List ℕ → Result Mapping CharMapFault
 char_map_of cmap = do
   _ ← refuse (nat_lt (length cmap) 4) BadCharMap
   _ ← refuse (nat_lt (length cmap) (4 + 8 * field 2 cmap 2)) BadCharMap
-  mapping_at cmap (format_12_of cmap) (format_4_of cmap)
+  chosen ← wanted (chosen_of cmap candidates) NoCharMap
+  subtable_at cmap chosen
 
 -- the character map of a font file, or the first fault
 unfoldable pub map_of_file : List ℕ → Result Mapping CharMapFault

@@ -1,10 +1,11 @@
 -- A subtable of format 4: its segments, and the glyph of a character.
 -- OpenType, "cmap", "Format 4: Segment mapping to delta values".
-use Rattle.std.specs.Prelude.{ℕ, ◌+◌, ◌-◌, ◌*◌, ◌/◌, ◌%◌, List, length, find, Option, Some, None, Result, Ok, Bool, ◌==◌}
+use Rattle.std.specs.Prelude.{ℕ, ◌+◌, ◌-◌, ◌*◌, ◌/◌, ◌%◌, List, length, map, find, Option, Some, None, Result, Ok, Bool, ◌==◌}
 use Rattle.std.specs.Prelude.{nat_lt, nat_le, if◌then◌else◌}
+use Rattle.std.specs.List.{range_with_len}
 use Rattle.fx_fixed.specs.Chain.{◌>>=◌, refuse}
 use Rattle.fx_sfnt.specs.Fields.{field, number_at}
-use Rattle.fx_cmap.specs.Subtables.{each_number, falls}
+use Rattle.fx_cmap.specs.Subtables.{falls}
 use Rattle.fx_cmap.specs.declared.fault.CharMapFault.{CharMapFault}
 use Rattle.fx_cmap.specs.declared.fault.CharMapFault.TheVariants.{BadCharMap}
 use Rattle.fx_cmap.specs.declared.segment.Segment.{Segment}
@@ -27,11 +28,11 @@ segment_of cmap start count k = record {
 
 -- the segments of the subtable at an offset
 abbrev pub segments_of : List ℕ → ℕ → ℕ → List Segment
-segments_of cmap start count = each_number (segment_of cmap start count) 0 count
+segments_of cmap start count = map (segment_of cmap start count) (range_with_len 0 count)
 
 -- some endCode is below the one before it
 abbrev pub segments_fall : List Segment → Bool
-segments_fall segments = falls (λ s. s.end_code) 0 segments
+segments_fall segments = falls 0 (map (λ s. s.end_code) segments)
 
 -- the subtable at an offset, or the first fault
 unfoldable pub segments_at : List ℕ → ℕ → Result SegmentsView CharMapFault

@@ -5,10 +5,9 @@ ghost use Rattle.fx_cmap.specs.Lookup.{char_map_of, map_of_file, glyph_for};
 
 use crate::cursor::Cursor;
 use crate::fault::CharMapFault;
-use crate::groups::Groups;
 use crate::mapping::Mapping;
-use crate::records::{format_4, format_12};
-use crate::segments::Segments;
+use crate::records::chosen;
+use crate::subtable::Subtable;
 use fx_sfnt::{Font, u16_in};
 use std::marker::Model;
 
@@ -31,10 +30,9 @@ impl<'a> CharMap<'a> {
     ///
     /// `NoCharMap` if there is no `cmap`; `BadCharMap` if its header or its records are cut; `NoCharMap` if no record that is
     /// looked for has a subtable of its format; `BadCharMap` if `cmap` ends before the header of the subtable that is taken or
-    /// before the fields of its segments or groups do, or if its last codes fall. Among the records whose subtable has format 12
-    /// the first one for Windows with all of Unicode (3, 10) is taken, else the first for Unicode (0, 0 to 6). If there is none,
-    /// among those of format 4 the first one for Windows with Unicode (3, 1), else the first for Unicode (0, 0 to 3), else the
-    /// first for Windows with symbols (3, 0).
+    /// before the fields of its segments or groups do, or if its last codes fall. The subtable that is taken is that of the first
+    /// candidate that has one (`candidates.rt`): of format 12 for Windows with all of Unicode, else for Unicode; else of format 4
+    /// for Windows with Unicode, else for Unicode, else for Windows with symbols.
     #[tactic(auto, unfolding(crate::specs::Lookup::map_of_file))]
     pub fn open(font: &Font<'a>) -> Result<CharMap<'a>, CharMapFault>
         ensures { result ≡ map_of_file font.now.file }
@@ -56,13 +54,8 @@ impl<'a> CharMap<'a> {
         if cmap.len() < 4 + 8 * u16_in(cmap, 2) as usize {
             return Err(CharMapFault::BadCharMap);
         }
-        let mapping = if let Some(start) = format_12(cmap) {
-            Mapping::Groups(Groups::read(cmap, start)?)
-        } else if let Some(start) = format_4(cmap) {
-            Mapping::Segments(Segments::read(cmap, start)?)
-        } else {
-            return Err(CharMapFault::NoCharMap);
-        };
+        let (format, start) = chosen(cmap).ok_or(CharMapFault::NoCharMap)?;
+        let mapping = Mapping::read(cmap, format, start)?;
         Ok(CharMap { mapping })
     }
 
@@ -84,24 +77,18 @@ impl<'a> CharMap<'a> {
         self.glyph_near(&mut near, code)
     }
 
-    /// The same; the search begins at the segment or group with the number `near`, which becomes that of the one that is found.
+    /// The same; `near` is that of the subtable.
     #[inline]
     pub(crate) fn glyph_near(&self, near: &mut u32, code: u32) -> u16
         ensures { result ≡ glyph_for self.now code }
     {
-        match &self.mapping {
-            Mapping::Segments(segments) => segments.glyph(near, code),
-            Mapping::Groups(groups) => groups.glyph(near, code),
-        }
+        self.mapping.glyph(near, code)
     }
 
     /// A code up to which, from the given one on, no code has a glyph; `near` is as in `glyph_near`.
     pub(crate) fn gap_end(&self, near: u32, code: u32) -> u32
         ensures { (c : ℕ) → code ≤ c → c < result → glyph_for self.now c ≡ 0 }
     {
-        match &self.mapping {
-            Mapping::Segments(segments) => segments.gap_end(near, code),
-            Mapping::Groups(groups) => groups.gap_end(near, code),
-        }
+        self.mapping.gap_end(near, code)
     }
 }

@@ -4,15 +4,19 @@
 //! specification, "cmap", "Format 4: Segment mapping to delta values" and "Format 12: Segmented coverage".
 #![tactic(auto)]
 
+mod candidates;
 mod char_map;
+mod codes;
 mod cursor;
 mod fault;
 mod group;
 mod groups;
 mod mapping;
 mod records;
+mod rising;
 mod segment;
 mod segments;
+mod subtable;
 
 pub use char_map::CharMap;
 pub use cursor::Cursor;

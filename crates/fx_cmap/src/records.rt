@@ -2,8 +2,9 @@
 
 ghost use Rattle.std.specs.Prelude.{◌≡◌, ◌+◌, ◌*◌, ◌≤◌, length, option_map, Bool, nat_le, ◌&&◌};
 ghost use Rattle.fx_sfnt.specs.Fields.{field};
-ghost use Rattle.fx_cmap.specs.Lookup.{has_format, is_record_of, first_subtable_of, format_12_of, format_4_of};
+ghost use Rattle.fx_cmap.specs.Lookup.{has_format, is_record_of, first_subtable_of, chosen_of, candidates};
 
+use crate::candidates::{CANDIDATES, Candidate, Format};
 use fx_fixed::after;
 use fx_sfnt::{u16_at, u16_in, u32_in};
 
@@ -14,57 +15,55 @@ fn has_format(format: u16, cmap: &[u8], start: u32) -> bool
     u16_at(cmap, start as usize) == Some(format)
 }
 
-/// Whether a record has the platform, an encoding from low to high, and a subtable of the format.
-fn is_record_of(format: u16, platform: u16, low: u16, high: u16, cmap: &[u8], entry: &[u8]) -> bool
+/// Whether a record is one that a candidate looks for.
+fn is_record_of(candidate: Candidate, cmap: &[u8], entry: &[u8]) -> bool
     requires { 8 ≤ length entry.now }
-    ensures { result ≡ is_record_of format platform low high cmap.now entry.now }
+    ensures { result ≡ is_record_of candidate cmap.now entry.now }
 {
     let encoding = u16_in(entry, 2);
-    u16_in(entry, 0) == platform
-        && (low <= encoding && encoding <= high)
-        && has_format(format, cmap, u32_in(entry, 4))
+    u16_in(entry, 0) == candidate.platform
+        && (candidate.low <= encoding && encoding <= candidate.high)
+        && has_format(candidate.format.number(), cmap, u32_in(entry, 4))
 }
 
-/// The offset of the subtable of the first such record.
-fn first_subtable(format: u16, platform: u16, low: u16, high: u16, cmap: &[u8]) -> Option<u32>
+/// The format of a candidate and the offset of the subtable of the first record that it looks for.
+fn first_subtable(cmap: &[u8], candidate: Candidate) -> Option<(Format, u32)>
     requires header { 4 ≤ length cmap.now }
     requires inside { 4 + 8 * field 2 cmap.now 2 ≤ length cmap.now }
-    ensures { result ≡ first_subtable_of format platform low high cmap.now }
+    ensures { result ≡ first_subtable_of cmap.now candidate }
 {
     let count = u16_in(cmap, 2);
     let mut rest = after(cmap, 4);
+    // The first such record among the records that are left is that among all.
     'records: for k in 0..count {
-        if is_record_of(format, platform, low, high, cmap, rest) {
-            return Some(u32_in(rest, 4));
+        if is_record_of(candidate, cmap, rest) {
+            return Some((candidate.format, u32_in(rest, 4)));
         }
         rest = after(rest, 8);
     }
     None
 }
 
-/// The offset of the subtable of format 12 that is taken: Windows with all of Unicode, else Unicode.
-pub fn format_12(cmap: &[u8]) -> Option<u32>
+/// The subtable that is taken: its format and its offset.
+pub fn chosen(cmap: &[u8]) -> Option<(Format, u32)>
     requires header { 4 ≤ length cmap.now }
     requires inside { 4 + 8 * field 2 cmap.now 2 ≤ length cmap.now }
-    ensures { result ≡ format_12_of cmap.now }
+    ensures { result ≡ chosen_of cmap.now candidates }
 {
-    if let Some(start) = first_subtable(12, 3, 10, 10, cmap) {
-        return Some(start);
-    }
-    first_subtable(12, 0, 0, 6, cmap)
+    first_of(cmap, &CANDIDATES)
 }
 
-/// The offset of the subtable of format 4 that is taken: Windows with Unicode, else Unicode, else Windows with symbols.
-pub fn format_4(cmap: &[u8]) -> Option<u32>
+/// The subtable of the first candidate that has one.
+fn first_of(cmap: &[u8], candidates: &[Candidate]) -> Option<(Format, u32)>
     requires header { 4 ≤ length cmap.now }
     requires inside { 4 + 8 * field 2 cmap.now 2 ≤ length cmap.now }
-    ensures { result ≡ format_4_of cmap.now }
+    ensures { result ≡ chosen_of cmap.now candidates.now }
 {
-    if let Some(start) = first_subtable(4, 3, 1, 1, cmap) {
-        return Some(start);
+    // The first candidate with a subtable among those that are left is that among all.
+    'candidates: for candidate in candidates {
+        if let Some(found) = first_subtable(cmap, *candidate) {
+            return Some(found);
+        }
     }
-    if let Some(start) = first_subtable(4, 0, 0, 3, cmap) {
-        return Some(start);
-    }
-    first_subtable(4, 3, 0, 0, cmap)
+    None
 }

@@ -1,15 +1,17 @@
 //! The segments of a subtable of format 4.
 
-ghost use Rattle.std.specs.Prelude.{◌≡◌, ℕ, ◌+◌, ◌*◌, ◌^◌, ◌<◌, ◌≤◌, length, false, IfSome, IsTrue};
-ghost use Rattle.fx_sfnt.specs.Fields.{field};
-ghost use Rattle.fx_cmap.specs.Segments.{segment_of, segments_of, segments_fall, segment_for, segments_at, glyph_by_segment, glyph_by_segments};
+ghost use Rattle.std.specs.Prelude.{◌≡◌, ◌+◌, ◌*◌, ◌^◌, ◌<◌, ◌≤◌, length, IfSome};
+ghost use Rattle.fx_cmap.specs.Segments.{segment_of, segment_for, segments_at};
 
+use crate::codes::Codes;
 use crate::fault::CharMapFault;
+use crate::rising::RisingCodes;
 use crate::segment::Segment;
+use crate::subtable::Subtable;
 use fx_sfnt::u16_in;
 use std::marker::Model;
 
-/// A subtable of format 4 in the bytes of `cmap`. Its end codes do not fall.
+/// A subtable of format 4 in the bytes of `cmap`.
 #[derive(Drop)]
 pub struct Segments<'a> {
     cmap: &'a [u8],
@@ -17,23 +19,26 @@ pub struct Segments<'a> {
     start: u32,
     // The number of its segments.
     seg_count: u32,
+    // Their last codes.
+    end_codes: RisingCodes<'a>,
 }
 
 impl<'a> Model for Segments<'a> {
-    ghost use Rattle.std.specs.Prelude.{◌≡◌, ◌+◌, ◌*◌, ◌≤◌, length, false};
-    ghost use Rattle.fx_cmap.specs.Segments.{SegmentsView, segments_of, segments_fall};
+    ghost use Rattle.std.specs.Prelude.{◌≡◌, ◌+◌, ◌*◌, ◌≤◌, length, map};
+    ghost use Rattle.fx_cmap.specs.Segments.{SegmentsView, segments_of};
+    ghost use Rattle.fx_cmap.specs.declared.segment.Segment.{Segment};
 
     ghost Value = { SegmentsView };
 
     ghost view = { λ s. record { cmap = s.cmap.now; segments = segments_of s.cmap.now s.start s.seg_count } };
 
     ghost invariant = { λ s. (s.start + 16 + 8 * s.seg_count ≤ length s.cmap.now)
-        × (segments_fall (segments_of s.cmap.now s.start s.seg_count) ≡ false) };
+        × (map (λ (x : Segment). x.end_code) (segments_of s.cmap.now s.start s.seg_count) ≡ s.end_codes) };
 }
 
 impl<'a> Segments<'a> {
     /// Reads the subtable at an offset of `cmap`, or returns the first fault; its length and language are not looked at.
-    #[tactic(auto, unfolding(crate::specs::Segments::segments_at))]
+    #[tactic(auto, using(crate::proofs::Searching::end_codes_of), unfolding(crate::specs::Segments::segments_at))]
     pub fn read(cmap: &'a [u8], start: u32) -> Result<Segments<'a>, CharMapFault>
         ensures { result ≡ segments_at cmap.now start }
     {
@@ -46,46 +51,58 @@ impl<'a> Segments<'a> {
         if cmap.len() < at + 16 + 8 * seg_count as usize {
             return Err(CharMapFault::BadCharMap);
         }
-        if is_falling(cmap, start, seg_count) {
+        let end_codes = Codes::short(cmap, at + 14, 2, seg_count);
+        if end_codes.fall() {
             return Err(CharMapFault::BadCharMap);
         }
         Ok(Segments {
             cmap,
             start,
             seg_count,
+            end_codes: RisingCodes::of(end_codes),
         })
     }
 
-    /// The glyph of a code, 0 if it has none; it has none past U+FFFF. The search begins at the segment with the number `near`,
-    /// which becomes that of the segment that is found, or the number of all segments.
+    /// The segment that counts for a code. The search begins at the segment with the number `near`, which becomes that of the
+    /// segment that is found, or the number of all segments.
     #[inline]
-    pub fn glyph(&self, near: &mut u32, code: u32) -> u16
-        ensures { result ≡ glyph_by_segments self.now code }
+    fn find(&self, near: &mut u32, code: u32) -> Option<Segment>
+        ensures value { result ≡ segment_for self.now.segments code }
+        ensures reaches { IfSome result (λ s. code ≤ s.end_code) }
+        ensures offset { IfSome result (λ s. s.offset < 2 ^ 40) }
     {
-        match find_segment(self.cmap, self.start, self.seg_count, near, code) {
+        match self.end_codes.find(near, code) {
+            Some(k) => Some(segment(self.cmap, self.start, self.seg_count, k)),
+            None => None,
+        }
+    }
+}
+
+impl<'a> Subtable for Segments<'a> {
+    ghost use Rattle.fx_cmap.specs.Segments.{glyph_by_segments};
+
+    ghost glyph_of = { glyph_by_segments };
+
+    /// It has none past U+FFFF.
+    #[inline]
+    fn glyph(&self, near: &mut u32, code: u32) -> u16 {
+        match self.find(near, code) {
             Some(segment) => segment.glyph(self.cmap, code),
             None => 0,
         }
     }
 
-    /// A code up to which, from the given one on, no code has a glyph. It is the first code of the segment with the number `near`
-    /// where that segment counts for the given code, else 0, which says nothing.
-    pub fn gap_end(&self, near: u32, code: u32) -> u32
-        ensures { (c : ℕ) → code ≤ c → c < result → glyph_by_segments self.now c ≡ 0 }
-    {
-        gap_end(self.cmap, self.start, self.seg_count, near, code)
+    /// The first code of the segment that counts for the given one.
+    fn gap_end(&self, near: u32, code: u32) -> u32 {
+        let mut near = near;
+        match self.find(&mut near, code) {
+            Some(segment) => u32::from(segment.start_code.min(segment.end_code)),
+            None => 0,
+        }
     }
 }
 
-/// The end code of a segment.
-fn end_code(cmap: &[u8], start: u32, k: u32) -> u16
-    requires { start + 16 + 2 * k ≤ length cmap.now }
-    ensures { result ≡ field 2 cmap.now (start + 14 + 2 * k) }
-{
-    u16_in(cmap, start as usize + 14 + 2 * k as usize)
-}
-
-/// The segment with a number.
+/// The segment with a number, of `count` segments in the subtable at an offset of `cmap`.
 #[tactic(auto, unfolding(crate::specs::Segments::segment_of))]
 fn segment(cmap: &[u8], start: u32, count: u32, k: u32) -> Segment
     requires inside { start + 16 + 8 * count ≤ length cmap.now }
@@ -102,112 +119,4 @@ fn segment(cmap: &[u8], start: u32, count: u32, k: u32) -> Segment
         id_range_offset: u16_in(cmap, at + 16 + 6 * n),
         offset: at + 16 + 6 * n,
     }
-}
-
-/// Whether some end code is below the one before it.
-fn is_falling(cmap: &[u8], start: u32, count: u32) -> bool
-    requires { start + 16 + 8 * count ≤ length cmap.now }
-    ensures { result ≡ segments_fall (segments_of cmap.now start count) }
-{
-    let mut before = 0;
-    'segments: for k in 0..count {
-        let end = end_code(cmap, start, k);
-        if end < before {
-            return true;
-        }
-        before = end;
-    }
-    false
-}
-
-/// The number of the first segment whose end code is at least the code, or that of all segments; by halving.
-fn first_reaching(cmap: &[u8], start: u32, count: u32, code: u32) -> u32
-    requires inside { start + 16 + 8 * count ≤ length cmap.now }
-    requires rising { segments_fall (segments_of cmap.now start count) ≡ false }
-    ensures within { result ≤ count }
-    ensures before { (k : ℕ) → k < result → field 2 cmap.now (start + 14 + 2 * k) < code }
-    ensures reaches { result < count → code ≤ field 2 cmap.now (start + 14 + 2 * result) }
-{
-    let mut low = 0;
-    let mut high = count;
-    'halving: while low < high {
-        let middle = low + (high - low) / 2;
-        if (end_code(cmap, start, middle) as u32) < code {
-            low = middle + 1;
-        } else {
-            high = middle;
-        }
-    }
-    low
-}
-
-/// Whether a number is that of the first segment whose end code is at least the code, or that of all segments.
-#[inline]
-fn is_first_reaching(cmap: &[u8], start: u32, count: u32, k: u32, code: u32) -> bool
-    requires inside { start + 16 + 8 * count ≤ length cmap.now }
-    requires rising { segments_fall (segments_of cmap.now start count) ≡ false }
-    ensures within { IsTrue result → k ≤ count }
-    ensures before { IsTrue result → (j : ℕ) → j < k → field 2 cmap.now (start + 14 + 2 * j) < code }
-    ensures reaches { IsTrue result → k < count → code ≤ field 2 cmap.now (start + 14 + 2 * k) }
-{
-    if k > count {
-        return false;
-    }
-    if k < count && (end_code(cmap, start, k) as u32) < code {
-        return false;
-    }
-    k == 0 || (end_code(cmap, start, k - 1) as u32) < code
-}
-
-/// The same number as `first_reaching` returns: `near` or the one after it if it is one of them, else found by halving.
-#[inline]
-fn first_reaching_near(cmap: &[u8], start: u32, count: u32, near: u32, code: u32) -> u32
-    requires inside { start + 16 + 8 * count ≤ length cmap.now }
-    requires rising { segments_fall (segments_of cmap.now start count) ≡ false }
-    ensures within { result ≤ count }
-    ensures before { (k : ℕ) → k < result → field 2 cmap.now (start + 14 + 2 * k) < code }
-    ensures reaches { result < count → code ≤ field 2 cmap.now (start + 14 + 2 * result) }
-{
-    if is_first_reaching(cmap, start, count, near, code) {
-        return near;
-    }
-    if near < count && is_first_reaching(cmap, start, count, near + 1, code) {
-        return near + 1;
-    }
-    first_reaching(cmap, start, count, code)
-}
-
-/// The first segment whose end code is at least the code; the end codes do not fall. The search begins at the segment with the
-/// number `near`, which becomes that of the segment that is found, or the number of all segments.
-#[inline]
-fn find_segment(cmap: &[u8], start: u32, count: u32, near: &mut u32, code: u32) -> Option<Segment>
-    requires inside { start + 16 + 8 * count ≤ length cmap.now }
-    requires rising { segments_fall (segments_of cmap.now start count) ≡ false }
-    ensures value { result ≡ segment_for (segments_of cmap.now start count) code }
-    ensures reaches { IfSome result (λ s. code ≤ s.end_code) }
-    ensures offset { IfSome result (λ s. s.offset < 2 ^ 40) }
-{
-    let k = first_reaching_near(cmap, start, count, *near, code);
-    *near = k;
-    if k == count {
-        return None;
-    }
-    Some(segment(cmap, start, count, k))
-}
-
-/// A code up to which, from the given one on, no code has a glyph: the segment with the number `near` counts for all of them, if
-/// it counts for the first, and begins above them.
-fn gap_end(cmap: &[u8], start: u32, count: u32, near: u32, code: u32) -> u32
-    requires inside { start + 16 + 8 * count ≤ length cmap.now }
-    requires rising { segments_fall (segments_of cmap.now start count) ≡ false }
-    ensures { (c : ℕ) → code ≤ c → c < result → glyph_by_segment cmap.now c (segment_for (segments_of cmap.now start count) c) ≡ 0 }
-{
-    if near >= count {
-        return 0;
-    }
-    if !is_first_reaching(cmap, start, count, near, code) {
-        return 0;
-    }
-    let segment = segment(cmap, start, count, near);
-    u32::from(segment.start_code.min(segment.end_code))
 }

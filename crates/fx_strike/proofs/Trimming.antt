@@ -1,12 +1,11 @@
 -- Bits of the plane that all lie in a square, less than the greatest side apart, have a glyph.
 -- Serves the law that a strike exists, with Existing.
 use Rattle.std.proofs.Common.{◌≡◌, refl, sym, ap, ap₂, ◌∙◌, subst, inl, inr, ◌⊎◌, ℕ, zero, suc, ◌+◌, ◌-◌, ◌<◌, ◌≤◌, ℤ, pos, negsuc}
-use Rattle.std.proofs.Common.{◌+ℤ◌, ◌≤ℤ◌, ◌<ℤ◌, Bool, true, false, ◌||◌, List, [], length, get_or, All, Decides, true≢false, arith}
+use Rattle.std.proofs.Common.{◌+ℤ◌, ◌≤ℤ◌, ◌<ℤ◌, Bool, true, false, ◌||◌, List, [], ◌∷◌, length, get_or, All, Decides, true≢false, arith}
 use Rattle.std.specs.Prelude.{if◌then◌else◌}
 use Rattle.std.proofs.lemmas.Bool.Decides.{Decides-below_or}
 use Rattle.std.proofs.lemmas.Int.{ints}
 use Rattle.fx_fixed.proofs.Linear.{signed_linear}
-use Rattle.fx_cmap.specs.Subtables.{each_number}
 use Rattle.fx_winding.specs.Limits.{greatest_side}
 use Rattle.fx_winding.specs.Frames.{steps}
 use Rattle.fx_bdf.specs.Glyphs.{Box, Glyph, HasSides, IsFormed, IsTrimmed, is_in_box, no_box, last_of, glyph_bit}
@@ -83,6 +82,11 @@ unfolding some
 some_decides p n = Decides-below_or p (λ k. p k ≡ true) (some p) (λ k. (λ e. e, λ e. e)) refl (λ n. refl) n
 
 -- ---- lists by numbers
+
+-- the values of a function at n numbers, from k on
+abbrev each_number : {X : Type 0} → (ℕ → X) → ℕ → ℕ → List X
+each_number f k zero = []
+each_number f k (suc more) = f k ∷ each_number f (suc k) more
 
 get_numbered : {X : Type 0} (f : ℕ → X) (s n k : ℕ) (d : X) → k < n → get_or (each_number f s n) k d ≡ f (s + k)
 get_numbered f s zero k d l = absurd (omega arith)

@@ -7,7 +7,7 @@ use Rattle.fx_cmap.proofs.records.first_subtable.Goals as goal
 
 pub records-preserved : goal.records-preserved
 records-preserved c =
-    let p = is_record_of c.args.format c.args.platform c.args.low c.args.high c.args.cmap.now in
+    let p = is_record_of c.args.candidate c.args.cmap.now in
     let left : c.u16_in-count.result - c.records.k ≡ suc (c.u16_in-count.result - (c.records.k + 1)) = omega arith in
     let miss : p c.records.rest.now ≡ false = sym c.is_record_of.ensures ∙ c.if-is_record_of.false in
     record {

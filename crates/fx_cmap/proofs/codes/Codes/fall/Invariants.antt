@@ -1,0 +1,7 @@
+use Rattle.std.proofs.Common.{◌≡◌, drop}
+use Rattle.fx_cmap.specs.Subtables.{falls}
+use Rattle.fx_cmap.proofs.codes.Codes.fall.Given as goal
+
+-- whether the codes that are left fall, says whether all do
+abbrev pub invariant-codes : goal.invariant-codes
+invariant-codes l = falls l.before (drop l.k l.self) ≡ falls 0 l.self
