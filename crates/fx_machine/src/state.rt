@@ -87,7 +87,10 @@ fn twilight(alloc: Global, count: u16) -> Result<Zone, AllocError>
 fn nothing_defined(alloc: Global, font: &Font<'_>) -> Result<Definitions, AllocError>
     ensures { IfOk result (λ d. d ≡ nothing_defined font.now) }
 {
-    Definitions::new(alloc, usize::from(font.maxp().max_function_defs.max(FEWEST_FUNCTIONS)))
+    Definitions::new(
+        alloc,
+        usize::from(font.maxp().max_function_defs.max(FEWEST_FUNCTIONS)),
+    )
 }
 
 impl State {
