@@ -3,23 +3,61 @@ use fx_machine::{Cause, FontProgram, Halt};
 use fx_request::Refusal;
 use std::test::Fail;
 
+/// A halt of the program of the last glyph.
+fn halted(cause: Cause, program: FontProgram, address: usize, opcode: u8) -> Refusal {
+    Refusal::Halted(Halt {
+        cause,
+        during: FontProgram::Glyph(65_535),
+        program,
+        address,
+        opcode,
+    })
+}
+
 #[test]
 fn refusals_show_number_name_and_fields(rt: HostRuntime) -> Result<(), Fail> {
     for (refusal, text) in [
         (Refusal::NotTrueType, "10 NotTrueType"),
+        (Refusal::TableMissing(*b"cmap"), "11 TableMissing cmap"),
         (Refusal::TableShort(*b"maxp"), "12 TableShort maxp"),
-        (Refusal::BadGlyphNumber(7), "24 BadGlyphNumber 7"),
-        (Refusal::WriteFailed(10), "70 WriteFailed 10"),
+        (Refusal::BadHead, "13 BadHead"),
+        (Refusal::BadMaxp, "14 BadMaxp"),
+        (Refusal::NoCharMap, "15 NoCharMap"),
+        (Refusal::BadCharMap, "16 BadCharMap"),
+        (Refusal::BadLoca(0), "17 BadLoca 0"),
+        (Refusal::GlyphShort(1), "18 GlyphShort 1"),
+        (Refusal::BadContours(2), "19 BadContours 2"),
+        (Refusal::ComponentDepth(3), "20 ComponentDepth 3"),
+        (Refusal::TooManyComponents(4), "21 TooManyComponents 4"),
+        (Refusal::TooManyPoints(5), "22 TooManyPoints 5"),
+        (Refusal::BadPointMatch(6), "23 BadPointMatch 6"),
+        (Refusal::BadGlyphNumber(65_535), "24 BadGlyphNumber 65535"),
         (
-            Refusal::Halted(Halt {
-                cause: Cause::NoFunction,
-                during: FontProgram::Glyph(5),
-                program: FontProgram::Fpgm,
-                address: 17,
-                opcode: 0x2B,
-            }),
-            "35 NoFunction during glyph 5 in fpgm at 17 opcode 2B",
+            halted(Cause::NoFunction, FontProgram::Fpgm, 17, 0x2b),
+            "35 NoFunction during glyph 65535 in fpgm at 17 opcode 2B",
         ),
+        (
+            halted(
+                Cause::NestedDefinition,
+                FontProgram::Glyph(65_535),
+                usize::MAX,
+                0xff,
+            ),
+            "40 NestedDefinition during glyph 65535 in glyph 65535 at 18446744073709551615 opcode FF",
+        ),
+        (Refusal::TooFar(8), "51 TooFar 8"),
+        (Refusal::GlyphTooLarge(9), "52 GlyphTooLarge 9"),
+        (Refusal::BadSize, "60 BadSize"),
+        (Refusal::BadChars, "61 BadChars"),
+        (Refusal::BadName, "62 BadName"),
+        (
+            Refusal::WriteFailed(u64::MAX),
+            "70 WriteFailed 18446744073709551615",
+        ),
+        (Refusal::ReadFailed, "71 ReadFailed"),
+        (Refusal::BadHex, "72 BadHex"),
+        (Refusal::InputTooLarge, "73 InputTooLarge"),
+        (Refusal::OutOfMemory, "90 OutOfMemory"),
     ] {
         assert_eq!(rt; format!(in rt.alloc(); "{refusal}")?.as_str(), text);
     }

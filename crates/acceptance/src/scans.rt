@@ -35,11 +35,13 @@ impl Scan for Refusing {
 
 #[test]
 fn the_scan_is_asked(rt: HostRuntime) -> Result<(), Fail> {
-    let request = request(16, &[0x41]);
     let font = fixture(rt.alloc())?;
-    let mut out = MemorySink::new(rt.alloc(), 512, Limits::NONE)?;
-    let result = make_strike_with(rt.alloc(), &Refusing, font.as_slice(), &request, &mut out);
-    assert_eq!(rt; result, Err(Refusal::OutOfMemory));
-    assert_eq!(rt; out.bytes(), b"".as_slice());
+    for chars in [[0x41].as_slice(), [0x20, 0x41, 0x42].as_slice()] {
+        let request = request(16, chars);
+        let mut out = MemorySink::new(rt.alloc(), 512, Limits::NONE)?;
+        let result = make_strike_with(rt.alloc(), &Refusing, font.as_slice(), &request, &mut out);
+        assert_eq!(rt; result, Err(Refusal::OutOfMemory));
+        assert_eq!(rt; out.bytes(), b"".as_slice());
+    }
     Ok(())
 }

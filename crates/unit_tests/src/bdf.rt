@@ -4,7 +4,7 @@ ghost use Rattle.std.specs.Prelude.{◌≡◌, length};
 ghost use Rattle.fx_winding.specs.Bitmaps.{words_for, AreRowWords};
 
 use fx_bdf::{BadName, BitGlyph, Bounds, Header, check_name, write_end, write_glyph, write_header};
-use fx_fixed::{Limits, MemorySink, Sink, WriteFailed};
+use fx_fixed::{Limits, MemorySink, Sink, TextWriter, WriteFailed};
 use fx_winding::{Bitmap, Frame, MAX_SIDE, set_bit};
 use std::alloc::Global;
 use std::process::Abort;
@@ -69,17 +69,14 @@ fn glyph(
     Ok(BitGlyph::of(code, swidth, dwidth, bitmap))
 }
 
-/// Writes a glyph to a sink, after `done` bytes.
-fn send<W: Sink>(
-    rt: &impl Abort,
-    glyph: &BitGlyph,
-    done: u64,
-    out: &mut W,
-) -> Result<u64, WriteFailed> {
+/// Writes a glyph to a sink, and returns how many bytes it has.
+fn send<W: Sink>(rt: &impl Abort, glyph: &BitGlyph, out: &mut W) -> Result<u64, WriteFailed> {
     assert!(rt; out.faults() < 100);
     assert!(rt; glyph.code() <= 0x10FFFF);
-    assert!(rt; done < 1000);
-    write_glyph(glyph, done, out)
+    let mut text = TextWriter::new(out);
+    write_glyph(glyph, &mut text)?;
+    text.end()?;
+    Ok(text.taken())
 }
 
 /// Compares the lines of a picture's glyph, from the numbers of its box on.
@@ -95,7 +92,7 @@ fn shows(
     let glyph = glyph(rt, alloc, (0xAF09, 375, -6), across, up, lines)?;
     let mut out = MemorySink::new(alloc, 600, Limits::NONE)?;
     let size = head.len() + want.len();
-    assert_eq!(rt; send(rt, &glyph, 7, &mut out), Ok(7 + size as u64));
+    assert_eq!(rt; send(rt, &glyph, &mut out), Ok(size as u64));
     let text = out.bytes();
     assert_eq!(rt; text.len(), size);
     assert!(rt; text.starts_with(head));
@@ -152,7 +149,7 @@ fn code_points(rt: HostRuntime) -> Result<(), Fail> {
     ] {
         let dash = glyph(&rt, alloc, (code, 375, 6), 9, 9, &[b"##"])?;
         let mut out = MemorySink::new(alloc, 600, Limits::NONE)?;
-        let done = send(&rt, &dash, 0, &mut out);
+        let done = send(&rt, &dash, &mut out);
         let want = format!(in alloc;
             "STARTCHAR {head}SWIDTH 375 0\nDWIDTH 6 0\nBBX 2 1 0 0\nBITMAP\nC0\nENDCHAR\n"
         )?;
@@ -194,12 +191,16 @@ fn write_strike<W: Sink>(rt: &impl Abort, glyphs: &[BitGlyph], out: &mut W) -> R
     };
     assert!(rt; out.faults() < 9);
     assert!(rt; check_name("F1").is_ok());
-    let mut done = write_header("F1", &header, out)?;
-    for glyph in glyphs {
-        done = send(rt, glyph, done, out)?;
-    }
-    assert!(rt; out.faults() < 9);
-    write_end(out)?;
+    assert!(rt; glyphs[0].code() <= 0x10FFFF);
+    assert!(rt; glyphs[1].code() <= 0x10FFFF);
+    assert!(rt; glyphs[2].code() <= 0x10FFFF);
+    let mut text = TextWriter::new(out);
+    write_header("F1", &header, &mut text)?;
+    write_glyph(&glyphs[0], &mut text)?;
+    write_glyph(&glyphs[1], &mut text)?;
+    write_glyph(&glyphs[2], &mut text)?;
+    write_end(&mut text)?;
+    text.end()?;
     Ok(())
 }
 
@@ -232,10 +233,7 @@ fn sinks_that_take_little(rt: HostRuntime) -> Result<(), Fail> {
             ..Limits::NONE
         };
         let mut out = MemorySink::new(rt.alloc(), 100, limits)?;
-        assert_eq!(rt;
-            send(&rt, &glyph, 500, &mut out),
-            Err(WriteFailed(500 + bytes as u64))
-        );
+        assert_eq!(rt; send(&rt, &glyph, &mut out), Err(WriteFailed(bytes as u64)));
         assert_eq!(rt; out.faults(), 1);
         assert!(rt; out.bytes() == &want[..bytes]);
     }
@@ -244,7 +242,7 @@ fn sinks_that_take_little(rt: HostRuntime) -> Result<(), Fail> {
         ..Limits::NONE
     };
     let mut out = MemorySink::new(rt.alloc(), 100, slow)?;
-    assert_eq!(rt; send(&rt, &glyph, 0, &mut out), Ok(want.len() as u64));
+    assert_eq!(rt; send(&rt, &glyph, &mut out), Ok(want.len() as u64));
     assert!(rt; out.bytes() == want.as_slice());
     Ok(())
 }
