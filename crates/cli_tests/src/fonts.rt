@@ -38,7 +38,7 @@ pub const LOOPING: &[u8] =
     00800002 00003136 17404080 80000000 b8fffd1c";
 
 /// The first of these fonts, of 382 bytes.
-pub fn fixture(alloc: Global) -> Result<Vec<u8>, Fail> {
+pub(crate) fn fixture(alloc: Global) -> Result<Vec<u8>, Fail> {
     let mut digits = Vec::new(alloc);
     for &byte in FONT {
         if byte != b' ' {
@@ -49,7 +49,7 @@ pub fn fixture(alloc: Global) -> Result<Vec<u8>, Fail> {
 }
 
 /// Puts other bytes at a place of a font.
-pub fn patch(font: &mut Vec<u8>, at: usize, new: &[u8]) -> Result<(), Fail> {
+pub(crate) fn patch(font: &mut Vec<u8>, at: usize, new: &[u8]) -> Result<(), Fail> {
     for (i, &byte) in new.iter().enumerate() {
         let place = at.saturating_add(i);
         let old = font

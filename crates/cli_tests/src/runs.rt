@@ -23,7 +23,7 @@ pub const READ_FAILED: End<'static> = (1, b"", b"mkstrike: 71 ReadFailed\n");
 
 /// Runs the program from a source to a sink with limits, and compares how it ends. The arguments are separated by bars, the
 /// program's name first.
-pub fn ends_on<R: Source>(
+pub(crate) fn ends_on<R: Source>(
     rt: &impl Abort,
     alloc: Global,
     arguments: &str,
@@ -44,7 +44,7 @@ pub fn ends_on<R: Source>(
 }
 
 /// The same, from an input in memory with limits. Returns the faults of its reader.
-pub fn ends(
+pub(crate) fn ends(
     rt: &impl Abort,
     alloc: Global,
     arguments: &str,

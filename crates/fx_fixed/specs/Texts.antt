@@ -21,7 +21,7 @@ pub record TextView : Type 0 where
 abbrev pub begun : GName → Option (List ℕ) → ℕ → TextView
 begun sink held faults = record { sink = sink; held = held; faults = faults; taken = 0; waiting = [] }
 
--- with these bytes waiting behind the others
+-- with these bytes waiting after the others
 abbrev pub with_more : TextView → List ℕ → TextView
 with_more text bytes = record text { waiting = text.waiting ++ bytes }
 

@@ -111,6 +111,7 @@ impl<'w, W: Sink> TextWriter<'w, W> {
         requires faults { self.old.faults < 2 ^ 63 }
         ensures adds { Adds Fails self.old self.new [] result }
         ensures room { OnOk result (length self.new.waiting + count ≤ CAPACITY) }
+        ensures kept { length self.old.waiting + count ≤ CAPACITY → self.new ≡ self.old }
     {
         if count > CAPACITY - self.used {
             self.end()?;
