@@ -8,7 +8,7 @@ use Rattle.std.proofs.KnownBytes.{Appends-trans, Appends-nil}
 use Rattle.std.proofs.Math.Seq.{take-append-add}
 use Rattle.std.proofs.lemmas.List.{take-append-le, length-take-le}
 use Rattle.fx_fixed.specs.declared.sink.WriteFailed.{WriteFailed}
-use Rattle.fx_fixed.specs.Wrote.{Wrote, WroteBy, WrotePart}
+use Rattle.fx_fixed.specs.Wrote.{Wrote, WroteBy}
 use Rattle.fx_fixed.specs.Texts.{TextView, Adds, AddsBy, Fails, after, begun, with_more, length_of}
 
 appends_text : (old new : Option (List ℕ)) (a b : List ℕ) → a ≡ b → Appends old new a → Appends old new b
@@ -23,13 +23,13 @@ joined was now a b sent e =
 -- ---- sent at once
 
 -- all that waited was put, and a piece after it
-pub sent : {old new : Option (List ℕ)} {faults_before faults taken n count : ℕ} {waiting rest piece bytes : List ℕ} {sink : GName}
+pub sent : {old new : Option (List ℕ)} {faults_before faults taken count : ℕ} {waiting rest piece bytes : List ℕ} {sink : GName}
     {was : TextView}
     → record { sink = sink; held = old; faults = faults_before; taken = taken; waiting = waiting } ≡ was
-    → WrotePart old new faults_before faults 0 piece (Ok n) → piece ≡ was.waiting ++ bytes → rest ≡ []
-    → count ≡ after taken n
+    → Wrote (record { bytes_before = old; bytes = new; faults_before = faults_before; faults = faults }) piece (Ok tt)
+    → piece ≡ was.waiting ++ bytes → rest ≡ [] → count ≡ after taken (length piece)
     → Adds Fails was (record { sink = sink; held = new; faults = faults; taken = count; waiting = rest }) bytes (Ok tt)
-sent {old} {new} {faults_before} {faults} {taken} {n} {count} {waiting} {rest} {piece} {bytes} {sink} {was} e h whole none c =
+sent {old} {new} {faults_before} {faults} {taken} {count} {waiting} {rest} {piece} {bytes} {sink} {was} e h whole none c =
     let now : TextView = record { sink = sink; held = new; faults = faults; taken = count; waiting = rest } in
     let P : TextView → Type 0 = λ v. (v.waiting ++ bytes ≡ piece) → Adds Fails v now bytes (Ok tt) in
     let here : P (record { sink = sink; held = old; faults = faults_before; taken = taken; waiting = waiting }) = λ w. record {
@@ -37,9 +37,9 @@ sent {old} {new} {faults_before} {faults} {taken} {n} {count} {waiting} {rest} {
       outcome = (
         piece,
         w ∙ sym (append-nil piece) ∙ ap (λ (t : List ℕ). piece ++ t) (sym none),
-        omega (arith, c, h.outcome.0),
+        c,
+        h.outcome.0,
         h.outcome.1,
-        h.outcome.2,
       );
     } in
     subst P e here (sym whole)
@@ -164,7 +164,7 @@ module _ {E : Type 0} {Stops : E → ℕ → ℕ → ℕ → Type 0} where
 -- what a writer's last byte may be numbered, so that the count was exact
 wrote_by : (sink : GName) (old : Option (List ℕ)) (faults : ℕ) (now : TextView) (text : List ℕ) (r : Result (Unit {0}) WriteFailed)
     → Adds Fails (begun sink old faults) now text r → OnOk r (now.waiting ≡ []) → IfErr r (λ e. e.0 < 2 ^ 64 - 1)
-    → WroteBy old now.held faults now.faults text r
+    → WroteBy (record { bytes_before = old; bytes = now.held; faults_before = faults; faults = now.faults }) text r
 wrote_by sink old faults now text (Ok u) h empty low =
     let o = h.outcome in (
       appends_text old now.held o.0 text
@@ -180,11 +180,12 @@ wrote_by sink old faults now text (Err e) h empty low =
 pub wrote : {sink : GName} {old new : Option (List ℕ)} {faults_before faults : ℕ} {was now : TextView} {text : List ℕ}
     {r : Result (Unit {0}) WriteFailed}
     → was ≡ begun sink old faults_before → Adds Fails was now text r → OnOk r (now.waiting ≡ [])
-    → IfErr r (λ e. e.0 < 2 ^ 64 - 1)
-    → new ≡ now.held → faults ≡ now.faults → Wrote old new faults_before faults text r
+    → IfErr r (λ e. e.0 < 2 ^ 64 - 1) → new ≡ now.held → faults ≡ now.faults
+    → Wrote (record { bytes_before = old; bytes = new; faults_before = faults_before; faults = faults }) text r
 wrote {sink} {old} {new} {faults_before} {faults} {was} {now} {text} {r} e h empty low held count =
     let P : TextView → Type 0 = λ v. Adds Fails v now text r in
-    let Q : Option (List ℕ) → ℕ → Type 0 = λ bytes n. Wrote old bytes faults_before n text r in
+    let Q : Option (List ℕ) → ℕ → Type 0 =
+    λ bytes n. Wrote (record { bytes_before = old; bytes = bytes; faults_before = faults_before; faults = n }) text r in
     let here : Q now.held now.faults =
     record { outcome = wrote_by sink old faults_before now text r (subst P e h) empty low } in
     let there : Q new now.faults =

@@ -2,6 +2,7 @@ pub mod Numbers
 pub mod Greatest
 pub mod Unit
 pub mod Chain
+pub mod Changes
 pub mod Wrote
 pub mod Texts
 pub mod Memory

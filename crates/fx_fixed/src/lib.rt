@@ -24,7 +24,7 @@ pub use numbers::{
 };
 pub use places::{Axis, Place};
 pub use quotients::near_quotient;
-pub use sink::{Sink, ToSink, WriteFailed, put_all, put_part};
+pub use sink::{Sink, ToSink, WriteFailed, put_all};
 pub use sizes::{MAX_PPEM, Ppem};
 pub use slices::{after, before, part};
 pub use source::{FromReader, Source};

@@ -2,8 +2,8 @@
 
 ghost use Rattle.std.specs.Prelude.{◌≡◌, ℕ, ◌+◌, ◌^◌, ◌<◌, ◌≤◌, List, Option, take, length, IfSome, OnSome, IfNone};
 ghost use Rattle.std.specs.Io.KnownBytes.{Appends, Keeps};
-ghost use Rattle.std.specs.List.{flat_map};
-ghost use Rattle.fx_fixed.specs.Wrote.{Wrote, WrotePart};
+ghost use Rattle.fx_fixed.specs.Changes.{change_of};
+ghost use Rattle.fx_fixed.specs.Wrote.{Wrote};
 
 use std::io::Write;
 use thiserror::Error;
@@ -73,58 +73,18 @@ impl<W: Write> Sink for ToSink<W> {
     }
 }
 
-/// Appends one piece, after `done` bytes of the call, and returns the number of bytes then.
-pub(crate) fn put_piece<W: Sink>(out: &mut W, done: u64, piece: &[u8]) -> Result<u64, WriteFailed>
-    requires faults { W.fault_count out.old < 2 ^ 63 }
-    requires fits { done + length piece.now < 2 ^ 64 }
-    ensures { WrotePart (W.held out.old) (W.held out.new) (W.fault_count out.old) (W.fault_count out.new) done piece.now result }
+/// Appends a piece: all of it; or exactly its first n bytes, and one fault more.
+pub fn put_all<W: Sink>(out: &mut W, piece: &[u8]) -> Result<(), WriteFailed>
+    requires { W.fault_count out.old < 2 ^ 63 }
+    ensures { Wrote (change_of W.held W.fault_count out.old out.new) piece.now result }
 {
     let mut at = 0;
+    // The bytes before `at` were appended.
     'piece: while at < piece.len() {
         match out.put(&piece[at..]) {
             Some(taken) => at += taken,
-            None => return Err(WriteFailed(done + at as u64)),
+            None => return Err(WriteFailed(at as u64)),
         }
     }
-    Ok(done + piece.len() as u64)
-}
-
-/// Appends several pieces in turn: all of them; or exactly the first n bytes of their text, and one fault more.
-pub fn put_all<W: Sink>(out: &mut W, pieces: &[&[u8]]) -> Result<(), WriteFailed>
-    requires faults { W.fault_count out.old < 2 ^ 63 }
-    requires fits { length (flat_map (λ p. p.now) pieces.now) < 2 ^ 64 }
-    ensures { Wrote (W.held out.old) (W.held out.new) (W.fault_count out.old) (W.fault_count out.new)
-        (flat_map (λ p. p.now) pieces.now) result }
-{
-    let mut done = 0;
-    'pieces: for piece in pieces {
-        done = put_piece(out, done, piece)?;
-    }
     Ok(())
-}
-
-/// The number of bytes of some pieces.
-fn size(pieces: &[&[u8]]) -> u64
-    requires { length (flat_map (λ p. p.now) pieces.now) < 2 ^ 64 }
-    ensures { result ≡ length (flat_map (λ p. p.now) pieces.now) }
-{
-    let mut sum = 0;
-    'pieces: for piece in pieces {
-        sum += piece.len() as u64;
-    }
-    sum
-}
-
-/// Appends several pieces as a part of a text, after `done` bytes of it, and returns the number of bytes then. A fault's
-/// number counts from the text's first byte.
-pub fn put_part<W: Sink>(out: &mut W, done: u64, pieces: &[&[u8]]) -> Result<u64, WriteFailed>
-    requires faults { W.fault_count out.old < 2 ^ 63 }
-    requires fits { done + length (flat_map (λ p. p.now) pieces.now) < 2 ^ 64 }
-    ensures { WrotePart (W.held out.old) (W.held out.new) (W.fault_count out.old) (W.fault_count out.new) done
-        (flat_map (λ p. p.now) pieces.now) result }
-{
-    match put_all(out, pieces) {
-        Ok(()) => Ok(done + size(pieces)),
-        Err(WriteFailed(n)) => Err(WriteFailed(done + n)),
-    }
 }

@@ -5,7 +5,7 @@ ghost use Rattle.std.specs.List.{flat_map};
 ghost use Rattle.fx_fixed.specs.declared.text.TheConstants.{CAPACITY};
 ghost use Rattle.fx_fixed.specs.Texts.{Adds, Fails, begun, with_more};
 
-use crate::sink::{Sink, WriteFailed, put_piece};
+use crate::sink::{Sink, WriteFailed, put_all};
 use std::marker::Model;
 
 /// How many bytes wait at most. The buffer is filled with zeros once a text: below 2,048 bytes that takes a C library some dozens
@@ -144,9 +144,9 @@ impl<'w, W: Sink> TextWriter<'w, W> {
         requires faults { self.old.faults < 2 ^ 63 }
         ensures { Adds Fails self.old self.new piece.now result }
     {
-        match put_piece(&mut *self.sink, 0, piece) {
-            Ok(n) => {
-                self.taken = self.taken.saturating_add(n);
+        match put_all(&mut *self.sink, piece) {
+            Ok(()) => {
+                self.taken = self.taken.saturating_add(piece.len() as u64);
                 Ok(())
             }
             Err(WriteFailed(n)) => Err(WriteFailed(self.taken.saturating_add(n))),
@@ -159,9 +159,9 @@ impl<'w, W: Sink> TextWriter<'w, W> {
         ensures adds { Adds Fails self.old self.new [] result }
         ensures empty { OnOk result (self.new.waiting ≡ []) }
     {
-        match put_piece(&mut *self.sink, 0, &self.buffer[..self.used]) {
-            Ok(n) => {
-                self.taken = self.taken.saturating_add(n);
+        match put_all(&mut *self.sink, &self.buffer[..self.used]) {
+            Ok(()) => {
+                self.taken = self.taken.saturating_add(self.used as u64);
                 self.used = 0;
                 Ok(())
             }
