@@ -55,7 +55,7 @@ pub fn places(arc: &Piece) -> Option<[(i32, i32); 3]> {
     Some([place(arc.a), place(arc.b?), place(arc.c)])
 }
 
-/// The frame of so many columns from the left one on and rows from the bottom one on.
+/// The frame of a number of columns from the left one on, and of rows from the bottom one on.
 pub fn frame(left: i32, bottom: i32, width: u32, height: u32) -> Frame
     requires columns { IsSide left width }
     requires rows { IsSide bottom height }

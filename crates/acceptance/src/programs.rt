@@ -72,7 +72,7 @@ struct Row {
     corners: [i32; 4],
 }
 
-// How a program of a glyph ends: after so many instructions, without strays or with so many, or by a halt in its own bytes.
+// How a program of a glyph ends: after a number of instructions, without strays or with some, or by a halt in its own bytes.
 #[derive(Clone, Copy, Drop)]
 enum Want {
     Steps(u32),
@@ -89,7 +89,7 @@ fn answer_of(want: Want) -> Result<Ran, Halt> {
     }
 }
 
-// An end after so many instructions, without strays.
+// An end after this number of instructions, without strays.
 fn steps(steps: u32) -> Result<Ran, Halt> {
     Ok(Ran { steps, strays: 0 })
 }

@@ -61,7 +61,7 @@ impl Write for Filled {
     }
 }
 
-/// Runs the program with a writer that takes so many bytes, and compares what it took and the line on standard error.
+/// Runs the program with a writer that takes n bytes, and compares what it took and the line on standard error.
 fn fills(
     rt: &impl Abort,
     alloc: Global,

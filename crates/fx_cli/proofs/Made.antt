@@ -9,7 +9,8 @@ use Rattle.fx_cli.specs.declared.fault.Fault.TheVariants.{Late}
 use Rattle.fx_cli.specs.Jobs.{JobView}
 use Rattle.fx_cli.specs.Input.{has_bytes, arguments_of_line}
 use Rattle.fx_cli.specs.Parts.{parts_of}
-use Rattle.fx_cli.specs.Runs.{Change, JobLeaves, font_bytes}
+use Rattle.fx_fixed.specs.Changes.{Change}
+use Rattle.fx_cli.specs.Runs.{JobLeaves, font_bytes}
 use Rattle.clap.specs.Walk.{Text}
 use Rattle.fx_cli.specs.Steps.{EndsText}
 

@@ -1,43 +1,15 @@
 -- The dots of a glyph's rows.
--- Serves the writer of a picture: `put_dots`, `is_set`.
-use Rattle.std.proofs.Common.{◌≡◌, ◌∙◌, ℕ, ◌+◌, ◌-◌, ◌<◌, ℤ, pos, ◌+ℤ◌, List, [], ◌∷◌, ◌++◌, Bool, true, false, length, get_or, set}
-use Rattle.std.proofs.Common.{take, map, sym, ap, refl, arith, true≢false}
-use Rattle.std.specs.Prelude.{if◌then◌else◌}
+-- Serves the writer of a picture: `put_dots`, `add_shown`.
+use Rattle.std.proofs.Common.{◌≡◌, ◌∙◌, ℕ, ◌+◌, ◌*◌, ◌^◌, ◌<◌, ◌≤◌, List, [], ◌∷◌, ◌++◌, Bool, true, false, length, get_or, set}
+use Rattle.std.proofs.Common.{take, map, sym, ap, arith, length-append, length-map}
+use Rattle.std.specs.Prelude.{All, codes, if◌then◌else◌}
+use Rattle.std.specs.List.{flat_map}
 use Rattle.std.proofs.lemmas.List.{map_more, take_all, take_more_set}
-use Rattle.fx_fixed.proofs.Linear.{signed_linear}
-use Rattle.fx_winding.specs.Frames.{is_from, steps}
-use Rattle.fx_bdf.specs.Glyphs.{Glyph, IsFormed, glyph_bit, is_in_box}
+use Rattle.std.proofs.lemmas.List.Elements.{All-head, All-tail}
+use Rattle.fx_winding.specs.Limits.{greatest_side}
+use Rattle.fx_bdf.specs.Glyphs.{Glyph, IsFormed, is_empty}
 use Rattle.fx_bdf.proofs.Boxes.{row_width}
-use Rattle.fx_bdf.proofs.Trims.{and_yes, from_order}
-use Rattle.fx_bdf.proofs.Trimmed.{steps_back}
-use Rattle.fx_cli.specs.Pictures.{dot_of}
-
-if_yes : (t x : Bool) → t ≡ true → (if t then x else false) ≡ x
-if_yes true x h = refl
-if_yes false x h = absurd (true≢false (sym h))
-
-bit_in : (g : Glyph) (col row : ℤ) → is_in_box g.box col row ≡ true
-    → glyph_bit g col row ≡ get_or (get_or g.rows (g.box.height - 1 - steps g.box.bottom row) []) (steps g.box.left col) false
-unfolding glyph_bit
-bit_in g col row h = if_yes (is_in_box g.box col row) _ h
-
--- the pixel j of the row i from the top is bit j of that row
-bit_at : (g : Glyph) (i j : ℕ) → i < g.box.height → j < g.box.width
-    → glyph_bit g (g.box.left +ℤ pos j) (g.box.bottom +ℤ pos (g.box.height - 1 - i)) ≡ get_or (get_or g.rows i []) j false
-bit_at g i j high wide =
-    let up = g.box.height - 1 - i in
-    let inside =
-    and_yes (is_from g.box.left g.box.width (g.box.left +ℤ pos j)) (is_from g.box.bottom g.box.height (g.box.bottom +ℤ pos up))
-    (from_order g.box.left (g.box.left +ℤ pos j) g.box.width (omega (arith, signed_linear)) (omega (arith, signed_linear)))
-    (from_order g.box.bottom (g.box.bottom +ℤ pos up) g.box.height (omega (arith, signed_linear)) (omega (arith, signed_linear))) in
-    let down : g.box.height - 1 - steps g.box.bottom (g.box.bottom +ℤ pos up) ≡ i = omega (arith, steps_back g.box.bottom up) in
-    bit_in g (g.box.left +ℤ pos j) (g.box.bottom +ℤ pos up) inside ∙
-    (λ k. get_or (get_or g.rows (down k) []) (steps_back g.box.left j k) false)
-
--- and so is the pixel in that column and row
-pub bit_of_row : (g : Glyph) (i j : ℕ) (col row : ℤ) (b : Bool) → i < g.box.height → j < g.box.width → col ≡ g.box.left +ℤ pos j
-    → row ≡ g.box.bottom +ℤ pos (g.box.height - 1 - i) → b ≡ glyph_bit g col row → b ≡ get_or (get_or g.rows i []) j false
-bit_of_row g i j col row b high wide across up is = is ∙ (λ k. glyph_bit g (across k) (up k)) ∙ bit_at g i j high wide
+use Rattle.fx_cli.specs.Pictures.{dot_of, picture_of, row_line}
 
 -- one dot more
 pub dots_more : (g : Glyph) (i j : ℕ) (buffer : List ℕ) (d : ℕ) → IsFormed g → i < g.box.height → j < g.box.width
@@ -54,3 +26,32 @@ pub all_dots : (g : Glyph) (i w : ℕ) (buffer : List ℕ) → IsFormed g → i 
     → take w buffer ≡ map dot_of (take w (get_or g.rows i [])) → take w buffer ≡ map dot_of (get_or g.rows i [])
 all_dots g i w buffer formed high is dots =
     dots ∙ ap (map dot_of) (take_all w (get_or g.rows i []) (omega (arith, row_width g i formed high, is)))
+
+-- ---- the size of a picture
+
+lines_long : (width : ℕ) (rows : List (List Bool)) → All (λ (row : List Bool). length row ≡ width) rows → width ≤ greatest_side
+    → length (flat_map row_line rows) ≤ (greatest_side + 1) * length rows
+lines_long width [] all low = omega arith
+lines_long width (row ∷ rows) all low =
+    let P : List Bool → Type 0 = λ (r : List Bool). length r ≡ width in
+    let e : length row ≡ width = All-head P row rows all in
+    let rest = lines_long width rows (All-tail P row rows all) low in
+    omega (
+      arith,
+      length-append (row_line row) (flat_map row_line rows),
+      length-append (map dot_of row) (10 ∷ []),
+      length-map dot_of row,
+      e,
+      rest,
+    )
+
+-- a picture has few bytes
+pub picture_short : (g : Glyph) → IsFormed g → length (picture_of g) ≤ 2 ^ 27
+unfolding picture_of
+picture_short g formed = by_test (is_empty g.box)
+  where
+    by_test : (t : Bool) → length (if t then codes "empty\n" else flat_map row_line g.rows) ≤ 2 ^ 27
+    by_test true = omega arith
+    by_test false =
+        let long = lines_long g.box.width g.rows formed.width formed.wide in
+        omega (arith, long, formed.height, formed.high)

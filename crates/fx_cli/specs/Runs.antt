@@ -7,6 +7,7 @@ use Rattle.std.specs.Io.KnownBytes.{Consumes, IsAtEnd, Keeps}
 use Rattle.std.specs.declared.io.ErrorKind.{ErrorKind}
 use Rattle.std.specs.declared.io.ErrorKind.TheVariants as kind
 use Rattle.fx_fixed.specs.declared.sink.WriteFailed.{WriteFailed}
+use Rattle.fx_fixed.specs.Changes.{Change}
 use Rattle.fx_fixed.specs.Wrote.{Wrote}
 use Rattle.fx_request.specs.declared.refusal.Refusal.{Refusal}
 use Rattle.fx_request.specs.declared.refusal.Refusal.TheVariants.{BadChars, BadHex, InputTooLarge, OutOfMemory, ReadFailed}
@@ -25,22 +26,6 @@ use Rattle.fx_cli.specs.Lines.{outcome_line}
 use Rattle.fx_cli.specs.Jobs.{JobView, strike_job, picture_job, listing_job, job_of}
 use Rattle.fx_cli.specs.Pictures.{Shows}
 use Rattle.fx_cli.specs.Input.{bytes_of_hex, line_of, rest_of, arguments_of_line}
-
--- a source or a sink before and after: what it has left or holds, if that is known, and its faults
-pub record Change : Type 0 where
-  pub bytes_before : Option (List ℕ)
-  pub bytes : Option (List ℕ)
-  pub faults_before : ℕ
-  pub faults : ℕ
-
--- that of a source or a sink whose bytes and faults these functions tell
-abbrev pub change_of : {S : Type 0} → (S → Option (List ℕ)) → (S → ℕ) → S → S → Change
-change_of bytes faults before after = record {
-  bytes_before = bytes before;
-  bytes = bytes after;
-  faults_before = faults before;
-  faults = faults after;
-}
 
 -- there are arguments after the program's name
 abbrev pub has_arguments : List Text → Bool
@@ -198,7 +183,7 @@ status_of (Err _) = 1
 -- a text was written, and nothing else; or exactly its first n bytes, with one fault more
 abbrev pub Tells : List ℕ → Change → Type 0
 Tells text err =
-    (result : Result (Unit {0}) WriteFailed) × Wrote err.bytes_before err.bytes err.faults_before err.faults text result
+    (result : Result (Unit {0}) WriteFailed) × Wrote err text result
 
 -- a run on these arguments, the program's name first: how it ended, its status, and its line for people
 pub record Runs (given : List Text) (source sink err : Change) (status : ℕ) : Type 0 where

@@ -10,7 +10,8 @@ use Rattle.fx_cli.specs.declared.fault.Fault.TheVariants.{Usage, Early, Late}
 use Rattle.fx_cli.specs.Arguments.{WishView}
 use Rattle.fx_cli.specs.Jobs.{JobView, job_of}
 use Rattle.fx_cli.specs.ReadAhead.{ReadAheadView}
-use Rattle.fx_cli.specs.Runs.{Change, IsSpared, IsUnread, JobLeaves, font_bytes}
+use Rattle.fx_fixed.specs.Changes.{Change}
+use Rattle.fx_cli.specs.Runs.{IsSpared, IsUnread, JobLeaves, font_bytes}
 
 -- the font's text, hexadecimal if `hex`, was decoded, and the sink has what comes of it
 pub record DoesText (job : JobView) (hex : Bool) (text : List ℕ) (sink : Change) (answer : Result Done Refusal) : Type 0 where

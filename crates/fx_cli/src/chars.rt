@@ -18,6 +18,7 @@ pub fn parse_chars(alloc: Global, list: &str) -> Result<Vec<u32>, Refusal>
 {
     let mut chars = Vec::new(alloc);
     let mut left = if list.is_empty() { None } else { Some(list) };
+    // The numbers of the items before `left` were pushed.
     'items: while let Some(text) = left {
         let (item, more) = first_part(text, ',');
         let Some((low, high)) = range(item) else {
@@ -63,6 +64,7 @@ pub fn number(text: &str) -> Option<u32>
         return None;
     }
     let mut number = 0u32;
+    // `number` is that of the digits so far.
     'digits: for digit in digits {
         number = number * 16 + u32::from(digit_value(*digit)?);
     }
@@ -94,6 +96,7 @@ fn push_range(chars: &mut Vec<u32>, low: u32, high: u32) -> Result<(), Refusal>
     if (high - low) as usize >= MAX_CHARACTERS - chars.len() {
         return Err(Refusal::BadChars);
     }
+    // The first k numbers were pushed.
     'numbers: for k in 0..high - low + 1 {
         if chars.push(low + k).is_err() {
             return Err(Refusal::OutOfMemory);

@@ -26,6 +26,7 @@ pub fn read_line<R: Source>(reader: &mut R, buffer: &mut [u8]) -> Result<(usize,
         × IsLineCause fault got (R.fault_count reader.old) (R.fault_count reader.new)) }
 {
     let mut filled = 0;
+    // The bytes before `filled` were read, and the line goes on.
     'reading: while filled < buffer.len() {
         match reader.take(&mut buffer[filled..]) {
             None => return Err(Fault::Early(Refusal::ReadFailed)),

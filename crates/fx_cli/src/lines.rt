@@ -4,7 +4,8 @@ ghost use Rattle.fx_request.specs.declared.refusal.Refusal.TheVariants.{OutOfMem
 ghost use Rattle.fx_cli.specs.declared.line.TheConstants.{CAPACITY};
 ghost use Rattle.fx_cli.specs.Lines.{counts_of, done_line, fields_of, halt_words, outcome_line, program_words, refusal_line};
 ghost use Rattle.fx_cli.specs.Lines.{report_line, spaced, usage_line};
-ghost use Rattle.fx_cli.specs.Runs.{Tells, change_of, status_of};
+ghost use Rattle.fx_fixed.specs.Changes.{change_of};
+ghost use Rattle.fx_cli.specs.Runs.{Tells, status_of};
 
 use crate::done::Done;
 use crate::fault::Fault;
@@ -175,5 +176,5 @@ fn put_line<E: Sink>(err: &mut E, mut line: Line)
     ensures { Tells (line ++ 10 ∷ []) (change_of E.held E.fault_count err.old err.new) }
 {
     line.put(b"\n");
-    let _ = put_all(err, &[line.text()]);
+    let _ = put_all(err, line.text());
 }

@@ -1,12 +1,14 @@
 //! The picture of a glyph, as text.
-ghost use Rattle.std.specs.Prelude.{◌≡◌, ◌<◌, ◌≤◌, ◌^◌, [], false, map, take, slice_index_or};
+ghost use Rattle.std.specs.Prelude.{◌≡◌, ◌+◌, ◌<◌, ◌≤◌, ◌^◌, [], false, map, take, slice_index_or, OnOk, IfErr};
 ghost use Rattle.std.specs.List.{flat_map};
+ghost use Rattle.fx_fixed.specs.Changes.{change_of};
+ghost use Rattle.fx_fixed.specs.Texts.{Adds, Fails, length_of};
 ghost use Rattle.fx_fixed.specs.Wrote.{Wrote};
 ghost use Rattle.fx_winding.specs.Limits.{greatest_side};
 ghost use Rattle.fx_cli.specs.Pictures.{dot_of, picture_of, row_line, shown_of};
 
 use fx_bdf::BitGlyph;
-use fx_fixed::{Sink, WriteFailed, put_all, put_part};
+use fx_fixed::{Sink, TextWriter, WriteFailed};
 use fx_winding::MAX_SIDE;
 
 /// The size of a buffer for the widest row.
@@ -15,39 +17,58 @@ const ROW_BUFFER: usize = MAX_SIDE as usize;
 /// Writes the picture of a glyph, or `missing` if there is none. No memory is taken.
 pub fn put_shown<O: Sink>(glyph: &Option<BitGlyph>, out: &mut O) -> Result<(), WriteFailed>
     requires { O.fault_count out.old < 2 ^ 63 }
-    ensures { Wrote (O.held out.old) (O.held out.new) (O.fault_count out.old) (O.fault_count out.new) (shown_of glyph.now) result }
+    ensures { Wrote (change_of O.held O.fault_count out.old out.new) (shown_of glyph.now) result }
+{
+    let mut text = TextWriter::new(out);
+    let result = add_shown(glyph, &mut text);
+    text.close();
+    result
+}
+
+/// Adds the picture of a glyph, or `missing`, to a text, and ends it.
+fn add_shown<O: Sink>(
+    glyph: &Option<BitGlyph>,
+    text: &mut TextWriter<'_, O>,
+) -> Result<(), WriteFailed>
+    requires { text.old.faults < 2 ^ 63 }
+    ensures text { Adds Fails text.old text.new (shown_of glyph.now) result }
+    ensures ended { OnOk result (text.new.waiting ≡ []) }
+    // A picture has few bytes.
+    ensures short { IfErr result (λ e. e.0 ≤ length_of text.old + 2 ^ 27) }
 {
     match glyph {
-        Some(glyph) => put_picture(glyph, out),
-        None => put_all(out, &[b"missing\n"]),
+        Some(glyph) => add_picture(glyph, text)?,
+        None => text.add(&[b"missing\n"])?,
     }
+    text.end()
 }
 
-/// Writes the picture of a glyph: the rows of its tight box from the top, or `empty`.
+/// Adds the picture of a glyph: the rows of its tight box from the top, or `empty`.
 #[tactic(auto, unfolding(crate::specs::Pictures::picture_of))]
-fn put_picture<O: Sink>(glyph: &BitGlyph, out: &mut O) -> Result<(), WriteFailed>
-    requires { O.fault_count out.old < 2 ^ 63 }
-    ensures { Wrote (O.held out.old) (O.held out.new) (O.fault_count out.old) (O.fault_count out.new)
-        (picture_of glyph.now) result }
+fn add_picture<O: Sink>(
+    glyph: &BitGlyph,
+    text: &mut TextWriter<'_, O>,
+) -> Result<(), WriteFailed>
+    requires { text.old.faults < 2 ^ 63 }
+    ensures { Adds Fails text.old text.new (picture_of glyph.now) result }
 {
     if glyph.bounds().is_empty() {
-        put_all(out, &[b"empty\n"])
+        text.add(&[b"empty\n"])
     } else {
-        put_rows(glyph, out)
+        add_rows(glyph, text)
     }
 }
 
-/// Writes the rows of a glyph from the top, a line a row.
-fn put_rows<O: Sink>(glyph: &BitGlyph, out: &mut O) -> Result<(), WriteFailed>
-    requires { O.fault_count out.old < 2 ^ 63 }
-    ensures { Wrote (O.held out.old) (O.held out.new) (O.fault_count out.old) (O.fault_count out.new)
-        (flat_map row_line glyph.now.rows) result }
+/// Adds the rows of a glyph from the top, a line a row.
+fn add_rows<O: Sink>(glyph: &BitGlyph, text: &mut TextWriter<'_, O>) -> Result<(), WriteFailed>
+    requires { text.old.faults < 2 ^ 63 }
+    ensures { Adds Fails text.old text.new (flat_map row_line glyph.now.rows) result }
 {
-    let mut done = 0;
     let mut buffer = [0; ROW_BUFFER];
+    // The rows before i were added.
     'rows: for i in 0..glyph.bounds().height {
         let width = put_dots(glyph, i, &mut buffer);
-        done = put_part(out, done, &[&buffer[..width], b"\n"])?;
+        text.add(&[&buffer[..width], b"\n"])?;
     }
     Ok(())
 }
@@ -59,21 +80,11 @@ fn put_dots(glyph: &BitGlyph, i: u32, buffer: &mut [u8; ROW_BUFFER]) -> usize
     ensures dots { take result buffer.new ≡ map dot_of (slice_index_or glyph.now.rows i []) }
 {
     let width = glyph.bounds().width;
+    // The dots of the pixels before j stand in front.
     'pixels: for j in 0..width {
-        buffer[j as usize] = dot(is_set(glyph, i, j));
+        buffer[j as usize] = dot(glyph.pixel(i, j));
     }
     width as usize
-}
-
-/// Whether a bit is set: that of the row i from the top and the column j from the left of the glyph's box.
-fn is_set(glyph: &BitGlyph, i: u32, j: u32) -> bool
-    requires row { i < glyph.now.box.height }
-    requires column { j < glyph.now.box.width }
-    ensures { result ≡ slice_index_or (slice_index_or glyph.now.rows i []) j false }
-{
-    let bounds = glyph.bounds();
-    let up = bounds.height - 1 - i;
-    glyph.bit(bounds.left + j as i32, bounds.bottom + up as i32)
 }
 
 /// The dot of a bit.

@@ -4,7 +4,8 @@ ghost use Rattle.std.specs.Io.KnownBytes.{IsAtEnd};
 ghost use Rattle.fx_fixed.specs.Chain.{map_fault};
 ghost use Rattle.fx_cli.specs.Arguments.{seen, seen_make, texts};
 ghost use Rattle.fx_cli.specs.Input.{arguments_of_line};
-ghost use Rattle.fx_cli.specs.Runs.{Ends, JobLeaves, MakeLeaves, Runs, called, change_of};
+ghost use Rattle.fx_fixed.specs.Changes.{change_of};
+ghost use Rattle.fx_cli.specs.Runs.{Ends, JobLeaves, MakeLeaves, Runs, called};
 ghost use Rattle.fx_cli.specs.Jobs.{seen_job};
 ghost use Rattle.fx_cli.specs.Steps.{EndsAfter, EndsText};
 
@@ -112,6 +113,7 @@ fn arguments_of_line<'a>(
     let mut all = Vec::new(alloc);
     all.push(program)?;
     let mut left = Some(line);
+    // The program and the arguments before `left` were pushed.
     'arguments: while let Some(text) = left {
         let (argument, more) = first_part(text, ' ');
         if !argument.is_empty() {

@@ -89,6 +89,7 @@ impl<'a> ReadAhead<'a> {
         if self.ended {
             return Ok(text);
         }
+        // `text` has all that was read.
         'reading: while text.len() <= MAX_INPUT - self.line {
             match reader.take(buffer) {
                 None => return Err(Refusal::ReadFailed),

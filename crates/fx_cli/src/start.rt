@@ -3,7 +3,8 @@ ghost use Rattle.std.specs.Prelude.{◌≡◌, ◌<◌, ◌^◌, map, string_byt
 ghost use Rattle.fx_fixed.specs.Chain.{map_fault, map_ok};
 ghost use Rattle.fx_cli.specs.Arguments.{texts};
 ghost use Rattle.fx_cli.specs.Lines.{outcome_line};
-ghost use Rattle.fx_cli.specs.Runs.{Starts, Tells, change_of, status_of, unread_outcome};
+ghost use Rattle.fx_fixed.specs.Changes.{change_of};
+ghost use Rattle.fx_cli.specs.Runs.{Starts, Tells, status_of, unread_outcome};
 ghost use Rattle.std.specs.IoError.{error_kind};
 
 use crate::lines::{out_of_memory, usage};
@@ -59,6 +60,7 @@ fn texts_of<'a>(alloc: Global, arguments: &'a [String]) -> Result<Vec<&'a str>, 
     ensures { IfOk result (λ all. texts all.items ≡ map string_bytes arguments.entry.now) }
 {
     let mut texts = Vec::new(alloc);
+    // The arguments so far were pushed.
     'arguments: for argument in arguments {
         texts.push(argument.as_str())?;
     }

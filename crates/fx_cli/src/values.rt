@@ -32,6 +32,7 @@ pub fn matches<'a>(command: Command<'a>, arguments: &'a [&'a str]) -> Result<Arg
 fn has_bare(arguments: &[&str]) -> bool
     ensures { result ≡ list_any is_bare (texts arguments.now) }
 {
+    // None of the arguments so far has only hyphens.
     'arguments: for argument in arguments {
         if is_bare(argument) {
             return true;

@@ -73,6 +73,7 @@ fn put_decimal(number: u64, buffer: &mut [u8; 20]) -> usize
 {
     let mut at: usize = 20;
     let mut left = number;
+    // The digits of `left` and then those from `at` on are the number's.
     'digits: while left >= 10 {
         at -= 1;
         buffer[at] = b'0' + (left % 10) as u8;
@@ -83,13 +84,14 @@ fn put_decimal(number: u64, buffer: &mut [u8; 20]) -> usize
     at
 }
 
-/// The same in base 16.
+/// Writes the hexadecimal digits of a number at the end of the buffer, and returns the offset of the first.
 fn put_hexadecimal(number: u64, buffer: &mut [u8; 20]) -> usize
     ensures within { result ≤ 20 }
     ensures digits { drop result buffer.new ≡ digits 16 true number }
 {
     let mut at: usize = 20;
     let mut left = number;
+    // The digits of `left` and then those from `at` on are the number's.
     'digits: while left >= 16 {
         at -= 1;
         buffer[at] = hex_digit((left % 16) as u8);
@@ -108,6 +110,7 @@ fn put_zeros(least: usize, first: usize, buffer: &mut [u8; 20]) -> usize
     ensures zeros { drop result buffer.new ≡ replicate (least - length (drop first buffer.old)) 48 ++ drop first buffer.old }
 {
     let mut at = first;
+    // Zeros stand from `at` to `first`.
     'zeros: while 20 - at < least {
         at -= 1;
         buffer[at] = b'0';

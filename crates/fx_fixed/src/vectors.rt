@@ -65,7 +65,8 @@ fn greatest(coordinate: u32, square: u64) -> u16
 {
     let mut low = 0u16;
     let mut high = 16385u16;
-    while low + 1 < high {
+    // `low` is 0 or admitted, and `high` is not.
+    'halving: while low + 1 < high {
         let middle = (low + high) / 2;
         if is_admitted(coordinate, square, middle) {
             low = middle;

@@ -157,7 +157,8 @@ impl fmt::Display for Fields {
 /// The name of a table.
 fn write_tag<W: fmt::Write>(f: &mut fmt::Formatter<W>, tag: [u8; 4]) -> fmt::Result {
     f.write_str(" ")?;
-    for byte in tag {
+    // The bytes so far were written.
+    'bytes: for byte in tag {
         f.write_char(char::from(byte))?;
     }
     Ok(())

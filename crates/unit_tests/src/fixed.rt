@@ -70,10 +70,10 @@ fn numbers_as_text(rt: HostRuntime) {
     assert!(rt; reads(&Digits::hexadecimal(u64::MAX, 4), b"FFFFFFFFFFFFFFFF"));
 }
 
-/// Sends 13 bytes in three pieces, one of them empty; returns how it went and the faults.
+/// Sends 13 bytes in one piece; returns how it went and the faults.
 fn send<W: Sink>(rt: &impl Abort, out: &mut W) -> (Result<(), WriteFailed>, u64) {
     assert!(rt; out.faults() < 100);
-    let sent = put_all(out, &[b"STARTFONT ", b"", b"2.1"]);
+    let sent = put_all(out, b"STARTFONT 2.1");
     (sent, out.faults())
 }
 
