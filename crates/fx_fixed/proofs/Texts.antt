@@ -46,8 +46,8 @@ sent {old} {new} {faults_before} {faults} {taken} {count} {waiting} {rest} {piec
 
 -- ---- one part after another
 
-then_by : {E : Type 0} (Stops : E → ℕ → ℕ → ℕ → Type 0) (was now next : TextView) (a b : List ℕ) (r : Result (Unit {0}) E) → AddsBy Stops was now a (Ok tt)
-    → AddsBy Stops now next b r → AddsBy Stops was next (a ++ b) r
+then_by : {E : Type 0} (Stops : E → ℕ → ℕ → ℕ → Type 0) (was now next : TextView) (a b : List ℕ) (r : Result (Unit {0}) E)
+    → AddsBy Stops was now a (Ok tt) → AddsBy Stops now next b r → AddsBy Stops was next (a ++ b) r
 then_by Stops was now next a b (Ok u) h g =
     let both : length (h.0 ++ g.0) ≡ length h.0 + length g.0 = length-append h.0 g.0 in (
       h.0 ++ g.0,
@@ -71,7 +71,7 @@ then_by {E} Stops was now next a b (Err e) h g =
       subst Q h.4 (subst P count g.3),
     )
 
--- the first bytes of a piece that was written over those of a buffer wait behind the others
+-- the first bytes of a piece that was written over those of a buffer wait after the others
 pub pushed : (piece rest buffer new : List ℕ) {held : Option (List ℕ)} {faults taken used count : ℕ} {sink : GName} {was : TextView}
     → record { sink = sink; held = held; faults = faults; taken = taken; waiting = take used buffer } ≡ was
     → used ≤ length buffer → count ≤ length piece → new ≡ take used buffer ++ (piece ++ rest)
@@ -89,7 +89,7 @@ pushed piece rest buffer new {held} {faults} {taken} {used} {count} {sink} {was}
 module _ {E : Type 0} {Stops : E → ℕ → ℕ → ℕ → Type 0} where
   -- ---- nothing, or what waits
 
-  -- bytes wait behind the others
+  -- bytes wait after the others
   pub adds_more : {was now : TextView} {bytes : List ℕ} → now ≡ with_more was bytes → Adds Stops was now bytes (Ok tt)
   adds_more {was} {now} {bytes} e =
       let here : Adds Stops was (with_more was bytes) bytes (Ok tt) = record {
@@ -174,7 +174,8 @@ wrote_by sink old faults now text (Ok u) h empty low =
 wrote_by sink old faults now text (Err e) h empty low =
     let o = h.outcome in
     let same : o.0 ≡ e.0 = omega (arith, o.3.0, low) in
-    (omega (arith, o.1, same), appends_text old now.held (take o.0 text) (take e.0 text) (ap (λ (n : ℕ). take n text) same) o.2, o.3.1)
+    let first = ap (λ (n : ℕ). take n text) same in
+    (omega (arith, o.1, same), appends_text old now.held (take o.0 text) (take e.0 text) first o.2, o.3.1)
 
 -- a text that was begun, added and ended was written
 pub wrote : {sink : GName} {old new : Option (List ℕ)} {faults_before faults : ℕ} {was now : TextView} {text : List ℕ}
