@@ -1,9 +1,12 @@
-"""The program kept in dist/, and its manifest: three lines of text that say of what it was made.
+"""The program and the C library kept in dist/, and their manifest: five lines of text that say of what they were made.
 
-    sources SHA256     the hash of the program's sources, 64 hexadecimal digits, as bin/sources.bash makes it
-    kit LINE           what `rt version` prints
-    mkstrike SHA256    the hash of the file dist/mkstrike
+    sources SHA256             the hash of the program's sources, 64 hexadecimal digits, as bin/sources.bash makes it
+    kit LINE                   what `rt version` prints
+    mkstrike SHA256            the hash of the file dist/mkstrike
+    library-sources SHA256     the hash of the sources of crates/mkstrike_c and of what it stands on
+    libmkstrike_c.a SHA256     the hash of the file dist/libmkstrike_c.a
 """
+import collections
 import hashlib
 import os
 import re
@@ -14,9 +17,14 @@ import sys
 TOP = os.path.dirname(os.path.dirname(os.path.realpath(__file__)))
 DIST = os.path.join(TOP, "dist")
 BUILT = os.path.join(TOP, "crates/mkstrike/out/mkstrike")
+ARCHIVE = os.path.join(TOP, "crates/mkstrike_c/out/libmkstrike_c.a")
 MOST = 1000000  # bytes of a file of dist/
-FORM = re.compile(r"sources ([0-9a-f]{64})\nkit ([^\n]+)\nmkstrike ([0-9a-f]{64})\n")
-HASH = 'set -euo pipefail; shopt -s inherit_errexit; source "$0"; go_to_top; list_crates; hash_of_sources'
+FORM = re.compile(r"sources ([0-9a-f]{64})\nkit ([^\n]+)\nmkstrike ([0-9a-f]{64})\n"
+                  r"library-sources ([0-9a-f]{64})\nlibmkstrike_c\.a ([0-9a-f]{64})\n")
+HASH = """set -euo pipefail; shopt -s inherit_errexit; source "$0"; go_to_top; list_crates; crates=(); add_crate "$1"; hash_of_sources"""
+
+
+FILES = ("manifest", "mkstrike", "libmkstrike_c.a")
 
 
 class Fault(Exception):
@@ -44,9 +52,9 @@ def command(words):
     return ran.stdout.rstrip("\n")
 
 
-def hash_of_sources():
-    """The hash of the program's sources as they are, 64 hexadecimal digits."""
-    return command(["bash", "-c", HASH, os.path.join(TOP, "bin/sources.bash")])
+def hash_of_sources(crate="mkstrike"):
+    """The hash of the sources of a crate and of what it stands on, as they are, 64 hexadecimal digits."""
+    return command(["bash", "-c", HASH, os.path.join(TOP, "bin/sources.bash"), crate])
 
 
 def kit():
@@ -73,25 +81,28 @@ def read(path):
         raise Fault("%s: %s" % (shown(path), fault.strerror))
 
 
-def manifest_of(sources, kit_line, program):
-    """The manifest's bytes, of the sources' hash, the kit's line and the program's bytes."""
-    return ("sources %s\nkit %s\nmkstrike %s\n" % (sources, kit_line, sha256(program))).encode()
+Manifest = collections.namedtuple("Manifest", "sources kit program library_sources library")
+
+
+def manifest_of(manifest):
+    """The bytes of dist/manifest."""
+    return ("sources %s\nkit %s\nmkstrike %s\nlibrary-sources %s\nlibmkstrike_c.a %s\n" % manifest).encode()
 
 
 def read_manifest():
-    """The sources' hash, the kit's line and the program's hash, as dist/manifest has them."""
+    """What dist/manifest says."""
     found = FORM.fullmatch(read(os.path.join(DIST, "manifest")).decode("latin-1"))
     if not found:
-        raise Fault("dist/manifest does not have the lines sources, kit and mkstrike")
-    return found.groups()
+        raise Fault("dist/manifest does not have the lines sources, kit, mkstrike, library-sources and libmkstrike_c.a")
+    return Manifest(*found.groups())
 
 
 def look_at_dist():
-    """Raises a fault unless dist/ has just its two files, as they have to be, and the manifest is of the program."""
+    """Raises a fault unless dist/ has just its three files, as they have to be, and the manifest is of the two others."""
     for name in sorted(os.listdir(DIST)):
-        if name not in ("manifest", "mkstrike"):
+        if name not in FILES:
             raise Fault("dist/%s has no place there" % name)
-    for name in ("manifest", "mkstrike"):
+    for name in FILES:
         try:
             seen = os.lstat(os.path.join(DIST, name))
         except OSError as fault:
@@ -102,18 +113,30 @@ def look_at_dist():
             raise Fault("dist/%s has %d bytes: it has to be under %d" % (name, seen.st_size, MOST))
         if (name == "mkstrike") != bool(seen.st_mode & 0o111):
             raise Fault("dist/%s is %sexecutable" % (name, "not " if name == "mkstrike" else ""))
-    if read_manifest()[2] != sha256(read(os.path.join(DIST, "mkstrike"))):
-        raise Fault("dist/mkstrike is not the program that dist/manifest names by its hash")
+    manifest = read_manifest()
+    for name, named in (("mkstrike", manifest.program), ("libmkstrike_c.a", manifest.library)):
+        if named != sha256(read(os.path.join(DIST, name))):
+            raise Fault("dist/%s is not the file that dist/manifest names by its hash" % name)
+
+
+def file_of_dist(name, crate, sources_in_manifest):
+    """The bytes of a file of dist/, if it is of the crate's sources as they are."""
+    if not os.path.lexists(DIST):
+        raise Fault("there is no dist/: make it by tools/make_dist, or name the file")
+    look_at_dist()
+    if sources_in_manifest(read_manifest()) != hash_of_sources(crate):
+        raise Fault("dist/%s is of other sources: make it anew by tools/make_dist, or name the file" % name)
+    return read(os.path.join(DIST, name))
 
 
 def program_of_dist():
     """The bytes of dist/mkstrike, if it is of these sources."""
-    if not os.path.lexists(DIST):
-        raise Fault("there is no dist/: make it by tools/make_dist, or name a program by --program")
-    look_at_dist()
-    if read_manifest()[0] != hash_of_sources():
-        raise Fault("dist/ is of other sources: make it anew by tools/make_dist, or name a program by --program")
-    return read(os.path.join(DIST, "mkstrike"))
+    return file_of_dist("mkstrike", "mkstrike", lambda it: it.sources)
+
+
+def library_of_dist():
+    """The bytes of dist/libmkstrike_c.a, if it is of these sources."""
+    return file_of_dist("libmkstrike_c.a", "mkstrike_c", lambda it: it.library_sources)
 
 
 def run_stored_request(words, how=None):

@@ -114,8 +114,12 @@ class Root:
             return prebuilt.run_stored_request(["chroot", "--userspec=65534:65534", self.folder, inside])
         return prebuilt.run_stored_request([self.path(inside)], {"env": {}})
 
-    def look(self, count, prefix, what, program):
+    def look(self, count, prefix, what, program, library):
         """Looks at what was installed below the prefix."""
+        is_same = prebuilt.read(self.path(prefix, "lib/libmkstrike.a")) == library
+        count.check("%s: the C library is there, as it was packed" % what, not is_same)
+        if shutil.which("cc"):
+            count.check("%s: an example builds with it, and runs" % what, self.builds(prefix))
         at = self.path(prefix, "bin/mkstrike")
         is_same = os.access(at, os.X_OK) and prebuilt.read(at) == program
         count.check("%s: the program is there, as it was packed" % what, not is_same)
@@ -125,12 +129,24 @@ class Root:
         how = "as nobody, with the C library alone" if self.is_jail else "here"
         count.check("%s: the program runs %s" % (what, how), self.runs(os.path.join("/", prefix, "bin/mkstrike")))
 
+    def builds(self, prefix):
+        """What is wrong with an example built with what is installed below the prefix, or None: it has to refuse no font."""
+        with tempfile.TemporaryDirectory() as folder:
+            show = os.path.join(folder, "show")
+            words = ["cc", "-I" + self.path(prefix, "include"), self.path(prefix, "share/doc/mkstrike/examples/show.c"),
+                     self.path(prefix, "share/mkstrike/heap.c"), "-L" + self.path(prefix, "lib"), "-lmkstrike", "-o", show]
+            wrong = failure_of(words)
+            if wrong:
+                return wrong
+            status, said = run([show, os.devnull, "16", "41"])
+            return None if (status, said) == (1, "refused: 10 NotTrueType") else "status %d: %s" % (status, said)
+
     def is_left(self):
         """What is left after a removal, or what went with it, or None."""
         return " ".join(sorted(self.seen() ^ self.before)) or None
 
 
-def try_deb(count, deb, program, root):
+def try_deb(count, deb, files, root):
     """Installs and removes the Debian package, by dpkg if it is there and may, else by hand."""
     if shutil.which("dpkg-deb"):
         for way in ("--info", "--contents"):
@@ -139,13 +155,13 @@ def try_deb(count, deb, program, root):
     if os.geteuid() == 0 and shutil.which("dpkg"):
         how = {"env": {**os.environ, "PATH": os.environ["PATH"] + ":/usr/sbin:/sbin"}}
         count.check("dpkg installs it, with what it depends on", failure_of([*dpkg, "--install", deb], how))
-        root.look(count, "usr", "installed by dpkg", program)
+        root.look(count, "usr", "installed by dpkg", *files)
         count.check("dpkg finds each file as it was packed", run([*dpkg, "--verify", "mkstrike"], how)[1])
         count.check("dpkg removes it", failure_of([*dpkg, "--purge", "mkstrike"], how))
     else:
         parts = dict(packing.members_of(prebuilt.read(deb)))
         made = packing.unpack(parts["data.tar.gz"], root.folder)
-        root.look(count, "usr", "unpacked by hand", program)
+        root.look(count, "usr", "unpacked by hand", *files)
         remove(made, root.folder)
     count.check("after the removal nothing is left", root.is_left())
 
@@ -160,16 +176,16 @@ def remove(paths, top):
             at = os.path.dirname(at)
 
 
-def try_tarball(count, tarball, program, root):
+def try_tarball(count, tarball, files, root):
     """Unpacks the tarball below /usr/local, without its own top, and removes what came out."""
     made = packing.unpack(prebuilt.read(tarball), root.path("usr/local"), leave_out=1)
-    root.look(count, "usr/local", "unpacked tarball", program)
+    root.look(count, "usr/local", "unpacked tarball", *files)
     remove(made, root.folder)
     count.check("without its files nothing is left", root.is_left())
 
 
-def check_all(made, program, again):
-    """Tries the .deb and the tarball, the two paths `made`, which have the program's bytes.
+def check_all(made, program, library, again):
+    """Tries the .deb and the tarball, the two paths `made`, which have the program's and the library's bytes.
 
     `again` are the words, a Python file first, that make them once more. Returns the status.
     """
@@ -182,6 +198,6 @@ def check_all(made, program, again):
         os.chmod(named, 0o755)
         for name, attempt in (("deb", try_deb), ("tar", try_tarball)):
             os.mkdir(os.path.join(folder, name))
-            attempt(count, made[name == "tar"], program, Root(os.path.join(folder, name), named))
+            attempt(count, made[name == "tar"], (program, library), Root(os.path.join(folder, name), named))
     print("%d passed, %d failed" % (count.passed, count.failed))
     return 1 if count.failed else 0

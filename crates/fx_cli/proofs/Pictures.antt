@@ -1,10 +1,10 @@
 -- The dots of a glyph's rows.
 -- Serves the writer of a picture: `put_dots`, `add_shown`.
 use Rattle.std.proofs.Common.{◌≡◌, ◌∙◌, ℕ, ◌+◌, ◌*◌, ◌^◌, ◌<◌, ◌≤◌, List, [], ◌∷◌, ◌++◌, Bool, true, false, length, get_or, set}
-use Rattle.std.proofs.Common.{take, map, sym, ap, arith, length-append, length-map}
+use Rattle.std.proofs.Common.{take, map, sym, ap, arith, length-append}
 use Rattle.std.specs.Prelude.{All, codes, if◌then◌else◌}
 use Rattle.std.specs.List.{flat_map}
-use Rattle.std.proofs.lemmas.List.{map_more, take_all, take_more_set}
+use Rattle.std.proofs.lemmas.List.{length-map, map_more, take_all, take_more_set}
 use Rattle.std.proofs.lemmas.List.Elements.{All-head, All-tail}
 use Rattle.fx_winding.specs.Limits.{greatest_side}
 use Rattle.fx_bdf.specs.Glyphs.{Glyph, IsFormed, is_empty}
@@ -40,7 +40,7 @@ lines_long width (row ∷ rows) all low =
       arith,
       length-append (row_line row) (flat_map row_line rows),
       length-append (map dot_of row) (10 ∷ []),
-      length-map dot_of row,
+      length-map row dot_of,
       e,
       rest,
     )

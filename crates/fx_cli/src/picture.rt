@@ -1,5 +1,5 @@
 //! The picture of a glyph, as text.
-ghost use Rattle.std.specs.Prelude.{◌≡◌, ◌+◌, ◌<◌, ◌≤◌, ◌^◌, [], false, map, take, slice_index_or, OnOk, IfErr};
+ghost use Rattle.std.specs.Prelude.{◌≡◌, ◌+◌, ◌<◌, ◌≤◌, ◌^◌, [], length, map, take, slice_index_or, OnOk, IfErr};
 ghost use Rattle.std.specs.List.{flat_map};
 ghost use Rattle.fx_fixed.specs.Changes.{change_of};
 ghost use Rattle.fx_fixed.specs.Texts.{Adds, Fails, length_of};
@@ -33,24 +33,34 @@ fn add_shown<O: Sink>(
     requires { text.old.faults < 2 ^ 63 }
     ensures text { Adds Fails text.old text.new (shown_of glyph.now) result }
     ensures ended { OnOk result (text.new.waiting ≡ []) }
-    // A picture has few bytes.
     ensures short { IfErr result (λ e. e.0 ≤ length_of text.old + 2 ^ 27) }
 {
-    match glyph {
-        Some(glyph) => add_picture(glyph, text)?,
-        None => text.add(&[b"missing\n"])?,
-    }
+    add_glyph(glyph, text)?;
     text.end()
+}
+
+/// Adds the picture of a glyph, or `missing`.
+fn add_glyph<O: Sink>(
+    glyph: &Option<BitGlyph>,
+    text: &mut TextWriter<'_, O>,
+) -> Result<(), WriteFailed>
+    requires { text.old.faults < 2 ^ 63 }
+    ensures text { Adds Fails text.old text.new (shown_of glyph.now) result }
+    ensures short { length (shown_of glyph.now) ≤ 2 ^ 27 }
+{
+    match glyph {
+        Some(glyph) => add_picture(glyph, text),
+        None => text.add(&[b"missing\n"]),
+    }
 }
 
 /// Adds the picture of a glyph: the rows of its tight box from the top, or `empty`.
 #[tactic(auto, unfolding(crate::specs::Pictures::picture_of))]
-fn add_picture<O: Sink>(
-    glyph: &BitGlyph,
-    text: &mut TextWriter<'_, O>,
-) -> Result<(), WriteFailed>
+fn add_picture<O: Sink>(glyph: &BitGlyph, text: &mut TextWriter<'_, O>) -> Result<(), WriteFailed>
     requires { text.old.faults < 2 ^ 63 }
-    ensures { Adds Fails text.old text.new (picture_of glyph.now) result }
+    ensures text { Adds Fails text.old text.new (picture_of glyph.now) result }
+    // So the number of a fault is exact.
+    ensures short { length (picture_of glyph.now) ≤ 2 ^ 27 }
 {
     if glyph.bounds().is_empty() {
         text.add(&[b"empty\n"])

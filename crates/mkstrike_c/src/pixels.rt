@@ -22,34 +22,17 @@ fn pixel(bit: bool) -> u8
     if bit { 255 } else { 0 }
 }
 
-/// Whether a bit is set: that of the row i from the top and the column j from the left of the glyph's box.
-fn is_set(glyph: &BitGlyph, i: u32, j: u32) -> bool
-    requires row { i < glyph.now.box.height }
-    requires column { j < glyph.now.box.width }
-    ensures { result ≡ slice_index_or (slice_index_or glyph.now.rows i []) j false }
-{
-    let bounds = glyph.bounds();
-    let up = bounds.height - 1 - i;
-    glyph.bit(bounds.left + j as i32, bounds.bottom + up as i32)
-}
-
 /// The bit of a pixel as a number; 0 past the row's end.
 fn bit(glyph: &BitGlyph, i: u32, j: u32) -> u8
-    requires { i < glyph.now.box.height }
     ensures value { result ≡ text.pixel (slice_index_or glyph.now.rows i []) j }
     ensures small { result ≤ 1 }
 {
-    if j < glyph.bounds().width && is_set(glyph, i, j) {
-        1
-    } else {
-        0
-    }
+    if glyph.pixel(i, j) { 1 } else { 0 }
 }
 
 /// Four pixels of a row from one on, the leftmost the highest bit.
 fn four(glyph: &BitGlyph, i: u32, j: u32) -> u8
-    requires row { i < glyph.now.box.height }
-    requires near { j < 2 ^ 31 }
+    requires { j < 2 ^ 31 }
     ensures value { result ≡ text.four_pixels (slice_index_or glyph.now.rows i []) j }
     ensures small { result < 16 }
 {
@@ -61,8 +44,7 @@ fn four(glyph: &BitGlyph, i: u32, j: u32) -> u8
 
 /// Eight pixels of a row from one on.
 fn eight(glyph: &BitGlyph, i: u32, j: u32) -> u8
-    requires row { i < glyph.now.box.height }
-    requires near { j < 2 ^ 30 }
+    requires { j < 2 ^ 30 }
     ensures { result ≡ eight_pixels (slice_index_or glyph.now.rows i []) j }
 {
     16 * four(glyph, i, j) + four(glyph, i, j + 4)
@@ -70,7 +52,6 @@ fn eight(glyph: &BitGlyph, i: u32, j: u32) -> u8
 
 /// The byte k of a row: a pixel, or eight.
 fn byte(glyph: &BitGlyph, i: u32, k: u32, packed: bool) -> u8
-    requires row { i < glyph.now.box.height }
     requires wide { glyph.now.box.width ≤ greatest_side }
     requires within { k < stride_of packed glyph.now.box.width }
     ensures { result ≡ row_byte packed (slice_index_or glyph.now.rows i []) k }
@@ -78,7 +59,7 @@ fn byte(glyph: &BitGlyph, i: u32, k: u32, packed: bool) -> u8
     if packed {
         eight(glyph, i, 8 * k)
     } else {
-        pixel(is_set(glyph, i, k))
+        pixel(glyph.pixel(i, k))
     }
 }
 

@@ -13,5 +13,5 @@ pixels-preserved c =
       dots = dots_more c.args.glyph.now c.args.i c.pixels.j c.pixels.buffer c.dot.result c.bounds-width.ensures.formed c.requires
           (omega (arith, wide))
           (omega (arith, wide, c.bounds-width.ensures.formed.wide, c.pixels.invariant.long))
-          (c.dot.ensures ∙ ap dot_of c.is_set.ensures) c.pixels.invariant.dots;
+          (c.dot.ensures ∙ ap dot_of c.pixel.ensures) c.pixels.invariant.dots;
     }
