@@ -91,16 +91,29 @@ impl<'w, W: Sink> TextWriter<'w, W> {
         Ok(())
     }
 
-    /// Adds a piece. One that is longer than the buffer does not wait.
+    /// Adds a piece.
+    #[inline]
     fn add_piece(&mut self, piece: &[u8]) -> Result<(), WriteFailed>
         requires { self.old.faults < 2 ^ 63 }
         ensures { Adds Fails self.old self.new piece.now result }
     {
+        if piece.len() > CAPACITY - self.used {
+            return self.add_after_end(piece);
+        }
+        self.push(piece);
+        Ok(())
+    }
+
+    /// Puts the bytes that wait, and adds a piece then. One that is longer than the buffer does not wait.
+    #[inline(never)]
+    fn add_after_end(&mut self, piece: &[u8]) -> Result<(), WriteFailed>
+        requires { self.old.faults < 2 ^ 63 }
+        ensures { Adds Fails self.old self.new piece.now result }
+    {
+        self.end()?;
         if piece.len() > CAPACITY {
-            self.end()?;
             return self.put(piece);
         }
-        self.make_room(piece.len())?;
         self.push(piece);
         Ok(())
     }
