@@ -12,6 +12,7 @@ use Rattle.fx_request.specs.declared.refusal.Refusal.{Refusal}
 use Rattle.fx_request.specs.declared.refusal.Refusal.TheVariants.{BadChars, BadHex, InputTooLarge, OutOfMemory, ReadFailed}
 use Rattle.fx_request.specs.declared.which.Which.{Which}
 use Rattle.fx_request.specs.declared.request.Report.{Report}
+use Rattle.fx_strike.specs.Changes.{Change}
 use Rattle.fx_strike.specs.Strike.{Plan, Opening, one_of, opened_of, opened_one_of, plan_of}
 use Rattle.fx_strike.specs.Headline.{Leaves}
 use Rattle.fx_strike.specs.Listings.{Lists, program_of}
@@ -25,22 +26,6 @@ use Rattle.fx_cli.specs.Lines.{outcome_line}
 use Rattle.fx_cli.specs.Jobs.{JobView, strike_job, picture_job, listing_job, job_of}
 use Rattle.fx_cli.specs.Pictures.{Shows}
 use Rattle.fx_cli.specs.Input.{bytes_of_hex, line_of, rest_of, arguments_of_line}
-
--- a source or a sink before and after: what it has left or holds, if that is known, and its faults
-pub record Change : Type 0 where
-  pub bytes_before : Option (List ℕ)
-  pub bytes : Option (List ℕ)
-  pub faults_before : ℕ
-  pub faults : ℕ
-
--- that of a source or a sink whose bytes and faults these functions tell
-abbrev pub change_of : {S : Type 0} → (S → Option (List ℕ)) → (S → ℕ) → S → S → Change
-change_of bytes faults before after = record {
-  bytes_before = bytes before;
-  bytes = bytes after;
-  faults_before = faults before;
-  faults = faults after;
-}
 
 -- there are arguments after the program's name
 abbrev pub has_arguments : List Text → Bool
@@ -90,8 +75,7 @@ opening_by make numbers font = opened_of font make.ppem make.name numbers
 -- what a call that makes the strike leaves of the sink
 abbrev pub MakeLeaves : MakeArgumentsView → List ℕ → List ℕ → Change → Result Report Refusal → Type 0
 MakeLeaves make numbers font sink answer =
-    Leaves (opening_by make numbers font) (strike_by make numbers font) sink.bytes_before sink.bytes sink.faults_before sink.faults
-    answer
+    Leaves (opening_by make numbers font) (strike_by make numbers font) sink answer
 
 -- what a call that shows a character leaves of it
 abbrev pub ShowLeaves : ShowArgumentsView → ℕ → List ℕ → Change → Result (Unit {0}) Refusal → Type 0
@@ -102,7 +86,7 @@ ShowLeaves show code font sink answer =
 -- what a call that lists a program leaves of it
 abbrev pub ListingLeaves : Which → List ℕ → Change → Result (Unit {0}) Refusal → Type 0
 ListingLeaves what font sink answer =
-    Lists (program_of font what) sink.bytes_before sink.bytes sink.faults_before sink.faults answer
+    Lists (program_of font what) sink answer
 
 -- what a job leaves of the sink, from a font's bytes: its strike, its picture, or the listing of a program of it
 abbrev pub JobLeaves : JobView → List ℕ → Change → Result Done Refusal → Type 0

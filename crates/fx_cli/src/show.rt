@@ -1,7 +1,8 @@
 //! The picture of a character of a font.
 ghost use Rattle.std.specs.Prelude.{◌<◌, ◌^◌};
+ghost use Rattle.fx_strike.specs.Changes.{change_of};
 ghost use Rattle.fx_cli.specs.Arguments.{seen_show};
-ghost use Rattle.fx_cli.specs.Runs.{ShowLeaves, change_of};
+ghost use Rattle.fx_cli.specs.Runs.{ShowLeaves};
 
 use crate::picture::put_shown;
 use crate::wish::ShowArguments;

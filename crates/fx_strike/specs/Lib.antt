@@ -1,4 +1,5 @@
 pub mod Faults
+pub mod Changes
 pub mod Strike
 pub mod Headline
 pub mod Listings
