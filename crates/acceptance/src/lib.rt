@@ -40,6 +40,8 @@ mod scans;
 #[cfg(test)]
 mod sizes;
 #[cfg(test)]
+mod strikers;
+#[cfg(test)]
 mod strikes;
 #[cfg(test)]
 mod surveys;

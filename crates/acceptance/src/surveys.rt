@@ -2,7 +2,7 @@
 use crate::fonts::fixture;
 use crate::strikes::request;
 use fx_bdf::Bounds;
-use fx_request::{Refusal, Request};
+use fx_request::{Refusal, Report, Request};
 use fx_strike::{Survey, one, survey};
 use fx_winding::{Bitmap, Frame, Pieces, Plain, Scan, ScanFault, Tally};
 use std::alloc::Global;
@@ -42,10 +42,12 @@ fn a_strike_is_surveyed(rt: HostRuntime) -> Result<(), Fail> {
         bounds: OF_RING,
         ascent: 13,
         descent: 4,
-        glyphs: 2,
-        missing: 1,
-        strays: 0,
-        steps: 0,
+        report: Report {
+            glyphs: 2,
+            missing: 1,
+            strays: 0,
+            steps: 0,
+        },
     };
     assert_eq!(rt;
         survey(rt.alloc(), &Plain, font.as_slice(), &request),
@@ -55,7 +57,7 @@ fn a_strike_is_surveyed(rt: HostRuntime) -> Result<(), Fail> {
 }
 
 /// A scan that is out of memory for frames of less than three columns.
-struct OfWideFrames;
+pub struct OfWideFrames;
 
 impl Scan for OfWideFrames {
     fn scan(

@@ -14,6 +14,7 @@ use Rattle.std.proofs.lemmas.List.{length-take-le, length-drop}
 use Rattle.std.proofs.lemmas.Bool.{ne_eqb, eqb-false, lt-ltb}
 use Rattle.fx_request.specs.declared.refusal.Refusal.{Refusal}
 use Rattle.fx_request.specs.declared.refusal.Refusal.TheVariants.{BadChars, BadHex, InputTooLarge, OutOfMemory, ReadFailed}
+use Rattle.fx_fixed.specs.Changes.{Change}
 use Rattle.fx_cli.specs.Limits.{max_line}
 use Rattle.fx_cli.specs.declared.done.Done.{Done}
 use Rattle.fx_cli.specs.declared.fault.Fault.{Fault}
@@ -21,7 +22,6 @@ use Rattle.fx_cli.specs.declared.fault.Fault.TheVariants.{Usage, Early, Late}
 use Rattle.fx_cli.specs.Arguments.{WishView, texts, wish_of_arguments}
 use Rattle.fx_cli.specs.ReadAhead.{ahead_of}
 use Rattle.fx_cli.specs.Input.{line_of, rest_of, arguments_of_line}
-use Rattle.fx_fixed.specs.Changes.{Change}
 use Rattle.fx_cli.specs.Runs.{AreArguments, AreArgumentsBy, Ends, HasLine, IsReadForArguments, IsReason, IsSpared}
 use Rattle.fx_cli.specs.Lines.{refusal_line}
 use Rattle.fx_cli.specs.Runs.{IsUnread, IsUsageBy, Does, Runs, Stops, Tells, font_bytes, has_arguments, called, text_by, text_of}

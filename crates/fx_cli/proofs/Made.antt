@@ -4,12 +4,12 @@ use Rattle.std.proofs.Common.{◌≡◌, ◌∙◌, ℕ, List, [], ◌∷◌, �
 use Rattle.std.proofs.Common.{Err, append_assoc}
 use Rattle.fx_fixed.specs.Chain.{map_fault}
 use Rattle.fx_request.specs.declared.refusal.Refusal.{Refusal}
+use Rattle.fx_fixed.specs.Changes.{Change}
 use Rattle.fx_cli.specs.declared.done.Done.{Done}
 use Rattle.fx_cli.specs.declared.fault.Fault.TheVariants.{Late}
 use Rattle.fx_cli.specs.Jobs.{JobView}
 use Rattle.fx_cli.specs.Input.{has_bytes, arguments_of_line}
 use Rattle.fx_cli.specs.Parts.{parts_of}
-use Rattle.fx_fixed.specs.Changes.{Change}
 use Rattle.fx_cli.specs.Runs.{JobLeaves, font_bytes}
 use Rattle.clap.specs.Walk.{Text}
 use Rattle.fx_cli.specs.Steps.{EndsText}

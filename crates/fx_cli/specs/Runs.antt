@@ -75,8 +75,7 @@ opening_by make numbers font = opened_of font make.ppem make.name numbers
 -- what a call that makes the strike leaves of the sink
 abbrev pub MakeLeaves : MakeArgumentsView → List ℕ → List ℕ → Change → Result Report Refusal → Type 0
 MakeLeaves make numbers font sink answer =
-    Leaves (opening_by make numbers font) (strike_by make numbers font) sink.bytes_before sink.bytes sink.faults_before sink.faults
-    answer
+    Leaves (opening_by make numbers font) (strike_by make numbers font) sink answer
 
 -- what a call that shows a character leaves of it
 abbrev pub ShowLeaves : ShowArgumentsView → ℕ → List ℕ → Change → Result (Unit {0}) Refusal → Type 0
@@ -87,7 +86,7 @@ ShowLeaves show code font sink answer =
 -- what a call that lists a program leaves of it
 abbrev pub ListingLeaves : Which → List ℕ → Change → Result (Unit {0}) Refusal → Type 0
 ListingLeaves what font sink answer =
-    Lists (program_of font what) sink.bytes_before sink.bytes sink.faults_before sink.faults answer
+    Lists (program_of font what) sink answer
 
 -- what a job leaves of the sink, from a font's bytes: its strike, its picture, or the listing of a program of it
 abbrev pub JobLeaves : JobView → List ℕ → Change → Result Done Refusal → Type 0

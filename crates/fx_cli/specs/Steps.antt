@@ -3,6 +3,7 @@ use Rattle.std.specs.Prelude.{◌≡◌, ◌⊎◌, ◌+◌, ◌<◌, ◌≤◌,
 use Rattle.std.specs.Io.KnownBytes.{Consumes, IsAtEnd}
 use Rattle.fx_request.specs.declared.refusal.Refusal.{Refusal}
 use Rattle.fx_request.specs.declared.refusal.Refusal.TheVariants.{BadChars, BadHex, InputTooLarge, OutOfMemory, ReadFailed}
+use Rattle.fx_fixed.specs.Changes.{Change}
 use Rattle.fx_cli.specs.Limits.{max_input}
 use Rattle.fx_cli.specs.declared.done.Done.{Done}
 use Rattle.fx_cli.specs.declared.fault.Fault.{Fault}
@@ -10,7 +11,6 @@ use Rattle.fx_cli.specs.declared.fault.Fault.TheVariants.{Usage, Early, Late}
 use Rattle.fx_cli.specs.Arguments.{WishView}
 use Rattle.fx_cli.specs.Jobs.{JobView, job_of}
 use Rattle.fx_cli.specs.ReadAhead.{ReadAheadView}
-use Rattle.fx_fixed.specs.Changes.{Change}
 use Rattle.fx_cli.specs.Runs.{IsSpared, IsUnread, JobLeaves, font_bytes}
 
 -- the font's text, hexadecimal if `hex`, was decoded, and the sink has what comes of it

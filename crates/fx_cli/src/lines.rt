@@ -1,10 +1,10 @@
 //! Lines for people.
 ghost use Rattle.std.specs.Prelude.{◌≡◌, ◌∷◌, [], ◌++◌, ◌+◌, ◌<◌, ◌≤◌, ◌^◌, length};
 ghost use Rattle.fx_request.specs.declared.refusal.Refusal.TheVariants.{OutOfMemory};
+ghost use Rattle.fx_fixed.specs.Changes.{change_of};
 ghost use Rattle.fx_cli.specs.declared.line.TheConstants.{CAPACITY};
 ghost use Rattle.fx_cli.specs.Lines.{counts_of, done_line, fields_of, halt_words, outcome_line, program_words, refusal_line};
 ghost use Rattle.fx_cli.specs.Lines.{report_line, spaced, usage_line};
-ghost use Rattle.fx_fixed.specs.Changes.{change_of};
 ghost use Rattle.fx_cli.specs.Runs.{Tells, status_of};
 
 use crate::done::Done;

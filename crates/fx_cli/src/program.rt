@@ -2,9 +2,9 @@
 ghost use Rattle.std.specs.Prelude.{◌≡◌, ◌⊎◌, ◌∷◌, ◌<◌, ◌≤◌, ◌^◌, length, true, IfOk, IfErr, None, Some};
 ghost use Rattle.std.specs.Io.KnownBytes.{IsAtEnd};
 ghost use Rattle.fx_fixed.specs.Chain.{map_fault};
+ghost use Rattle.fx_fixed.specs.Changes.{change_of};
 ghost use Rattle.fx_cli.specs.Arguments.{seen, seen_make, texts};
 ghost use Rattle.fx_cli.specs.Input.{arguments_of_line};
-ghost use Rattle.fx_fixed.specs.Changes.{change_of};
 ghost use Rattle.fx_cli.specs.Runs.{Ends, JobLeaves, MakeLeaves, Runs, called};
 ghost use Rattle.fx_cli.specs.Jobs.{seen_job};
 ghost use Rattle.fx_cli.specs.Steps.{EndsAfter, EndsText};

@@ -1,9 +1,9 @@
 //! The start of the program.
 ghost use Rattle.std.specs.Prelude.{◌≡◌, ◌<◌, ◌^◌, map, string_bytes, IfOk};
 ghost use Rattle.fx_fixed.specs.Chain.{map_fault, map_ok};
+ghost use Rattle.fx_fixed.specs.Changes.{change_of};
 ghost use Rattle.fx_cli.specs.Arguments.{texts};
 ghost use Rattle.fx_cli.specs.Lines.{outcome_line};
-ghost use Rattle.fx_fixed.specs.Changes.{change_of};
 ghost use Rattle.fx_cli.specs.Runs.{Starts, Tells, status_of, unread_outcome};
 ghost use Rattle.std.specs.IoError.{error_kind};
 

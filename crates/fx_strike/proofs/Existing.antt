@@ -5,16 +5,12 @@ use Rattle.std.proofs.Common.{◌∷◌, Result, Ok, arith}
 use Rattle.std.specs.Prelude.{filter}
 use Rattle.std.proofs.lemmas.Int.{ints}
 use Rattle.fx_fixed.specs.Chain.{◌>>=◌, map_fault, map_chain}
-use Rattle.fx_fixed.specs.Numbers.{near_of}
 use Rattle.fx_fixed.proofs.Chain.{bind_ok, map_fault_ok}
 use Rattle.fx_fixed.proofs.Linear.{signed}
-use Rattle.fx_sfnt.specs.Tables.{Face}
 use Rattle.fx_sfnt.specs.Glyphs.{metrics_of}
 use Rattle.fx_sfnt.specs.declared.records.Metrics.{Metrics}
 use Rattle.fx_cmap.specs.Lookup.{glyph_for}
-use Rattle.fx_cmap.specs.declared.mapping.Mapping.{Mapping}
-use Rattle.fx_hint.specs.Hinting.{Hinting}
-use Rattle.fx_hint.specs.Outlines.{OutlineView, outline_with}
+use Rattle.fx_hint.specs.Outlines.{OutlineView}
 use Rattle.fx_winding.specs.Limits.{greatest_side}
 use Rattle.fx_winding.specs.Winding.{Span, centre}
 use Rattle.fx_contour.specs.Contours.{drawn_of}
@@ -26,7 +22,7 @@ use Rattle.fx_request.specs.declared.refusal.Refusal.{Refusal}
 use Rattle.fx_request.specs.Faults.{of_font}
 use Rattle.fx_strike.specs.Faults.{of_hint, of_contour}
 use Rattle.fx_request.specs.Characters.{rising}
-use Rattle.fx_strike.specs.Strike.{Sketch, IsGlyphOf, AreGlyphsOf, thousandths, glyph_sketch_of, sketch_of, is_missing}
+use Rattle.fx_strike.specs.Strike.{Sketch, Setting, IsGlyphOf, AreGlyphsOf, outline_in, sketch_from, glyph_sketch_of, sketch_of, is_missing}
 use Rattle.fx_strike.specs.Laws.{StrikeExists}
 use Rattle.fx_strike.proofs.Sketching.{tight_along}
 use Rattle.fx_strike.proofs.OnePart.{parts_of}
@@ -145,28 +141,21 @@ glyph_of_spans s d small =
       },
     )
 
-glyph_of_sketch : (hinting : Hinting) (face : Face) (ppem code glyph : ℕ) (s : Sketch)
-    → glyph_sketch_of hinting face ppem code glyph ≡ Ok s
+glyph_of_sketch : (setting : Setting) (code glyph : ℕ) (s : Sketch)
+    → glyph_sketch_of setting code glyph ≡ Ok s
     → (g : Glyph) × IsGlyphOf s g
 unfolding glyph_sketch_of
-glyph_of_sketch hinting face ppem code glyph s h =
-    let last : OutlineView → List Span → Metrics → Sketch = λ d ss m. record {
-      code = code;
-      swidth = thousandths m.advance_width face.head.units_per_em;
-      dwidth = near_of d.advance (pos 64);
-      spans = ss;
-      strays = d.strays;
-      steps = d.steps;
-    } in
+glyph_of_sketch setting code glyph s h =
+    let last : OutlineView → List Span → Metrics → Sketch = sketch_from setting code in
     let measured : OutlineView → List Span → Result Sketch Refusal =
-    λ d ss. map_fault of_font (metrics_of face glyph) >>= λ m. Ok (last d ss m) in
+    λ d ss. map_fault of_font (metrics_of setting.font glyph) >>= λ m. Ok (last d ss m) in
     let framed : OutlineView → List Span → Result Sketch Refusal =
     λ d ss. map_fault (of_contour glyph) (framed_of ss) >>= λ _. measured d ss in
-    let a = bind_ok (map_fault of_hint (outline_with hinting face ppem glyph))
+    let a = bind_ok (map_fault of_hint (outline_in setting glyph))
     (λ d. map_fault (of_contour glyph) (drawn_of d.ends d.points) >>= framed d) s h in
     let b = bind_ok (map_fault (of_contour glyph) (drawn_of a.0.ends a.0.points)) (framed a.0) s a.2 in
     let c = bind_ok (map_fault (of_contour glyph) (framed_of b.0)) (λ _. measured a.0 b.0) s b.2 in
-    let d = bind_ok (map_fault of_font (metrics_of face glyph)) (λ m. Ok (last a.0 b.0 m)) s c.2 in
+    let d = bind_ok (map_fault of_font (metrics_of setting.font glyph)) (λ m. Ok (last a.0 b.0 m)) s c.2 in
     let e : last a.0 b.0 d.0 ≡ s = cc (d.2) in
     let drawn = are_drawn a.0.ends a.0.points b.0 (map_fault_ok (of_contour glyph) (drawn_of a.0.ends a.0.points) b.0 b.1) in
     let small = not_large b.0 (map_fault_ok (of_contour glyph) (framed_of b.0) c.0 c.1) in
@@ -177,27 +166,25 @@ glyph_of_sketch hinting face ppem code glyph s h =
         let P : Sketch → Type 0 = λ y. (g : Glyph) × IsGlyphOf y g in
         subst P e (glyph_of_spans x drawn small)
 
-glyphs_of_sketches : (hinting : Hinting) (face : Face) (mapping : Mapping) (ppem : ℕ) (codes : List ℕ) (ss : List Sketch)
-    → map_chain (sketch_of hinting face mapping ppem) codes ≡ Ok ss → (gs : List Glyph) × AreGlyphsOf ss gs
-glyphs_of_sketches hinting face mapping ppem [] ss h =
+glyphs_of_sketches : (setting : Setting) (codes : List ℕ) (ss : List Sketch)
+    → map_chain (sketch_of setting) codes ≡ Ok ss → (gs : List Glyph) × AreGlyphsOf ss gs
+glyphs_of_sketches setting [] ss h =
     let e : [] ≡ ss = cc in
     let P : List Sketch → Type 0 = λ xs. (gs : List Glyph) × AreGlyphsOf xs gs in
     subst P e ([], tt)
-glyphs_of_sketches hinting face mapping ppem (c ∷ cs) ss h =
+glyphs_of_sketches setting (c ∷ cs) ss h =
     let p =
-    bind_ok (sketch_of hinting face mapping ppem c)
-    (λ y. map_chain (sketch_of hinting face mapping ppem) cs >>= λ zs. Ok (y ∷ zs)) ss
+    bind_ok (sketch_of setting c)
+    (λ y. map_chain (sketch_of setting) cs >>= λ zs. Ok (y ∷ zs)) ss
     h in
-    let q = bind_ok (map_chain (sketch_of hinting face mapping ppem) cs) (λ zs. Ok (p.0 ∷ zs)) ss p.2 in
+    let q = bind_ok (map_chain (sketch_of setting) cs) (λ zs. Ok (p.0 ∷ zs)) ss p.2 in
     let e : p.0 ∷ q.0 ≡ ss = cc (q.2) in
-    let g = glyph_of_sketch hinting face ppem c (glyph_for mapping c) p.0 p.1 in
-    let gs = glyphs_of_sketches hinting face mapping ppem cs q.0 q.1 in
+    let g = glyph_of_sketch setting c (glyph_for setting.map c) p.0 p.1 in
+    let gs = glyphs_of_sketches setting cs q.0 q.1 in
     let P : List Sketch → Type 0 = λ xs. (gs : List Glyph) × AreGlyphsOf xs gs in
     subst P e (g.0 ∷ gs.0, (g.1, gs.1))
 
 pub strike_exists : StrikeExists
 strike_exists file ppem name chars hinting plan h =
     let p = parts_of file ppem name chars hinting plan h in
-    glyphs_of_sketches p.prelude.hinting p.face p.mapping p.size (filter (λ c. not (is_missing p.mapping c)) (rising chars))
-    plan.sketches
-    p.sketches
+    glyphs_of_sketches p.setting (filter (λ c. not (is_missing p.setting c)) (rising chars)) plan.sketches p.sketches

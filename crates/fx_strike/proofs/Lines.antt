@@ -1,11 +1,11 @@
 -- What the second pass writes: of a character, of all characters, and of a strike.
--- Serves `write_one`, `write_all`, `write_text` and `write_after`.
+-- Serves `write_one`, `write_all`, `write_text` and `write_strike`.
 use Rattle.std.proofs.Common.{◌≡◌, refl, sym, ap, ◌∙◌, subst, arith, inr, ℕ, ◌+◌, ◌-◌, ◌^◌, ◌<◌, ◌≤◌, OnOk, Bool, true, false}
-use Rattle.std.proofs.Common.{List, [], ◌∷◌, ◌++◌, append_assoc, length, take, drop, get_or, length-append, Option, Some, None}
+use Rattle.std.proofs.Common.{List, [], ◌∷◌, ◌++◌, append_assoc, length, take, drop, get_or, length-append, Option}
 use Rattle.std.proofs.Common.{Result, Ok, Err, cond}
-use Rattle.std.specs.Prelude.{neg_ℤ, IsOk, filter, not, ◌==◌}
+use Rattle.std.specs.Prelude.{IsOk, filter, not, ◌==◌}
 use Rattle.std.specs.Io.KnownBytes.{Appends}
-use Rattle.std.specs.List.{flat_map, count_by}
+use Rattle.std.specs.List.{flat_map}
 use Rattle.std.specs.Borrow.{GName}
 use Rattle.std.proofs.KnownBytes.{Appends-nil}
 use Rattle.std.proofs.lemmas.List.{append-nil, drop_more}
@@ -14,26 +14,22 @@ use Rattle.fx_fixed.specs.Texts.{TextView, Adds, Fails as WriterFails, begun, le
 use Rattle.fx_fixed.proofs.Texts.{adds_nothing, adds_then, adds_stopped, adds_text, adds_out, adds_short}
 use Rattle.fx_fixed.specs.declared.sink.WriteFailed.{WriteFailed as Failed}
 use Rattle.fx_fixed.proofs.Chain.{bind_ok, same_Ok}
-use Rattle.fx_sfnt.specs.Tables.{Face}
 use Rattle.fx_cmap.specs.Lookup.{glyph_for}
-use Rattle.fx_cmap.specs.declared.mapping.Mapping.{Mapping}
-use Rattle.fx_hint.specs.Hinting.{Hinting}
 use Rattle.fx_bdf.specs.Glyphs.{Glyph, TrimmedIsOne}
 use Rattle.fx_bdf.specs.declared.header.Header.{Header}
 use Rattle.fx_bdf.specs.Text.{header_text, head_text, glyph_text, end_text}
-use Rattle.fx_machine.specs.declared.ran.Ran.{Ran}
 use Rattle.fx_request.specs.declared.request.Report.{Report}
 use Rattle.fx_strike.specs.declared.surveyed.Survey.{Survey}
 use Rattle.fx_request.specs.Characters.{rising}
 use Rattle.fx_request.specs.declared.refusal.Refusal.{Refusal}
 use Rattle.fx_request.specs.declared.refusal.Refusal.TheVariants.{WriteFailed, ReadFailed, BadHex, InputTooLarge, OutOfMemory}
 use Rattle.fx_strike.specs.Faults.{Fails}
-use Rattle.fx_strike.specs.Strike.{Sketch, Prelude, Plan, Opening, IsGlyphOf, AreGlyphsOf, pixels, glyph_sketch_of, sketch_of}
-use Rattle.fx_strike.specs.Strike.{is_missing, sketches_of, plan_after, strike_text}
-use Rattle.fx_strike.specs.Headline.{IsReportOf, Surveyed, Leaves, surveyed_header, surveyed_report}
-use Rattle.fx_strike.specs.inner.Surveying.{seen_prelude}
+use Rattle.fx_fixed.specs.Changes.{Change}
+use Rattle.fx_strike.specs.Strike.{Sketch, Setting, Plan, IsGlyphOf, AreGlyphsOf, glyph_sketch_of, sketch_of, is_missing}
+use Rattle.fx_strike.specs.Strike.{sketches_of, plan_with, strike_text}
+use Rattle.fx_strike.specs.Headline.{Surveyed, Leaves, surveyed_header}
 use Rattle.fx_strike.specs.inner.Writing.{AreLinesBy, AreLinesOf, AreAllLinesOf, IsShort, Stops, WritesBy, Writes}
-use Rattle.fx_strike.proofs.OnePart.{glyph_is_one}
+use Rattle.fx_strike.proofs.OnePart.{glyph_is_one, planned}
 use Rattle.fx_strike.proofs.Seeing.{missing_is, not_zero, same_sketch}
 
 -- ---- parts of a text
@@ -87,7 +83,8 @@ undrawn_short m now r e d due p q f =
 
 writes_by : (sink : GName) (old : Option (List ℕ)) (faults : ℕ) (now : TextView) (text : List ℕ) (m : ℕ)
     (r : Result (Unit {0}) Refusal) → Adds Stops (begun sink old faults) now text r → OnOk r (now.waiting ≡ [])
-    → IsShort m now r → m < 2 ^ 64 - 1 → WritesBy old now.held faults now.faults text r
+    → IsShort m now r → m < 2 ^ 64 - 1
+    → WritesBy (record { bytes_before = old; bytes = now.held; faults_before = faults; faults = now.faults }) text r
 writes_by sink old faults now text m (Ok u) h empty short low =
     let o = h.outcome in (
       appends_text old now.held o.0 text
@@ -105,11 +102,13 @@ writes_by sink old faults now text m (Err d) h empty short low = absurd h.outcom
 pub writes_closed : {sink : GName} {old new : Option (List ℕ)} {faults_before faults : ℕ} {was now : TextView} {text : List ℕ}
     {r : Result (Unit {0}) Refusal}
     → was ≡ begun sink old faults_before → Adds Stops was now text r → OnOk r (now.waiting ≡ [])
-    → IsShort (length_of was + 2 ^ 50) now r → new ≡ now.held → faults ≡ now.faults → Writes old new faults_before faults text r
+    → IsShort (length_of was + 2 ^ 50) now r → new ≡ now.held → faults ≡ now.faults
+    → Writes (record { bytes_before = old; bytes = new; faults_before = faults_before; faults = faults }) text r
 writes_closed {sink} {old} {new} {faults_before} {faults} {was} {now} {text} {r} e h empty short held count =
     let P : TextView → Type 0 = λ v. Adds Stops v now text r in
     let S : TextView → Type 0 = λ v. IsShort (length_of v + 2 ^ 50) now r in
-    let Q : Option (List ℕ) → ℕ → Type 0 = λ bytes n. Writes old bytes faults_before n text r in
+    let Q : Option (List ℕ) → ℕ → Type 0
+    = λ bytes n. Writes (record { bytes_before = old; bytes = bytes; faults_before = faults_before; faults = n }) text r in
     let here : Q now.held now.faults = record {
       outcome = writes_by sink old faults_before now text (length_of (begun sink old faults_before) + 2 ^ 50) r (subst P e h) empty
           (subst S e short) (omega arith);
@@ -118,10 +117,8 @@ writes_closed {sink} {old} {new} {faults_before} {faults} {was} {now} {text} {r}
     (let R : Option (List ℕ) → Type 0 = λ bytes. Q bytes now.faults in subst R (sym held) here) in
     let R : ℕ → Type 0 = λ n. Q new n in subst R (sym count) there
 
-writes_text : {old new : Option (List ℕ)} {faults_before faults_after : ℕ} {a b : List ℕ} {r : Result (Unit {0}) Refusal} → a ≡ b
-    → Writes old new faults_before faults_after a r → Writes old new faults_before faults_after b r
-writes_text {old} {new} {faults_before} {faults_after} {a} {b} {r} e h =
-    let P : List ℕ → Type 0 = λ t. Writes old new faults_before faults_after t r in subst P e h
+writes_text : {change : Change} {a b : List ℕ} {r : Result (Unit {0}) Refusal} → a ≡ b → Writes change a r → Writes change b r
+writes_text {change} {a} {b} {r} e h = let P : List ℕ → Type 0 = λ t. Writes change t r in subst P e h
 
 -- ---- a character
 
@@ -143,41 +140,41 @@ has_lines g = omega arith
 lines_by : (b c : Bool) (due : Result Sketch Refusal) (text : List ℕ) → b ≡ c → AreLinesBy b due text → AreLinesBy c due text
 lines_by b c due text e h = let P : Bool → Type 0 = λ x. AreLinesBy x due text in subst P e h
 
-pub missing_lines : (hinting : Hinting) (face : Face) (mapping : Mapping) (ppem code glyph : ℕ) (text : List ℕ)
-    → glyph ≡ glyph_for mapping code → glyph ≡ 0 → AreLinesOf hinting face mapping ppem code text → text ≡ []
-missing_lines hinting face mapping ppem code glyph text e m h =
-    lines_by (is_missing mapping code) true (sketch_of hinting face mapping ppem code) text
+pub missing_lines : (setting : Setting) (code glyph : ℕ) (text : List ℕ)
+    → glyph ≡ glyph_for setting.map code → glyph ≡ 0 → AreLinesOf setting code text → text ≡ []
+missing_lines setting code glyph text e m h =
+    lines_by (is_missing setting code) true (sketch_of setting code) text
     (ap (λ (n : ℕ). n == 0) (sym e ∙ m)) h.lines
 
-pub adds_missing : (hinting : Hinting) (face : Face) (mapping : Mapping) (ppem code glyph : ℕ) (was : TextView) (text : List ℕ)
-    → glyph ≡ glyph_for mapping code → glyph ≡ 0 → AreLinesOf hinting face mapping ppem code text
+pub adds_missing : (setting : Setting) (code glyph : ℕ) (was : TextView) (text : List ℕ)
+    → glyph ≡ glyph_for setting.map code → glyph ≡ 0 → AreLinesOf setting code text
     → Adds Stops was was text (Ok tt)
-adds_missing hinting face mapping ppem code glyph was text e m h =
-    adds_text (sym (missing_lines hinting face mapping ppem code glyph text e m h)) adds_nothing
+adds_missing setting code glyph was text e m h =
+    adds_text (sym (missing_lines setting code glyph text e m h)) adds_nothing
 
 -- its glyph is the one that is drawn
-record Due (hinting : Hinting) (face : Face) (ppem code glyph : ℕ) (text : List ℕ) : Type 0 where
+record Due (setting : Setting) (code glyph : ℕ) (text : List ℕ) : Type 0 where
   pub sketch : Sketch
   pub bits : Glyph
-  pub is : glyph_sketch_of hinting face ppem code glyph ≡ Ok sketch
+  pub is : glyph_sketch_of setting code glyph ≡ Ok sketch
   pub of : IsGlyphOf sketch bits
   pub text_is : text ≡ glyph_text bits
 
-due_lines : (hinting : Hinting) (face : Face) (mapping : Mapping) (ppem code glyph : ℕ) (text : List ℕ)
-    → glyph ≡ glyph_for mapping code → (glyph ≡ 0 → ⊥) → AreLinesOf hinting face mapping ppem code text
-    → Due hinting face ppem code glyph text
-due_lines hinting face mapping ppem code glyph text e m h =
-    let x = lines_by (is_missing mapping code) false (sketch_of hinting face mapping ppem code) text
-    (missing_is mapping code glyph e false (not_zero glyph m)) h.lines in
-    record { sketch = x.0; bits = x.1; is = same_sketch hinting face mapping ppem code glyph e ∙ x.2; of = x.3; text_is = x.4 }
+due_lines : (setting : Setting) (code glyph : ℕ) (text : List ℕ)
+    → glyph ≡ glyph_for setting.map code → (glyph ≡ 0 → ⊥) → AreLinesOf setting code text
+    → Due setting code glyph text
+due_lines setting code glyph text e m h =
+    let x = lines_by (is_missing setting code) false (sketch_of setting code) text
+    (missing_is setting code glyph e false (not_zero glyph m)) h.lines in
+    record { sketch = x.0; bits = x.1; is = same_sketch setting code glyph e ∙ x.2; of = x.3; text_is = x.4 }
 
-pub drawn_lines : TrimmedIsOne → (hinting : Hinting) (face : Face) (mapping : Mapping) (ppem code glyph : ℕ) (g : Glyph)
+pub drawn_lines : TrimmedIsOne → (setting : Setting) (code glyph : ℕ) (g : Glyph)
     (text : List ℕ)
-    → glyph ≡ glyph_for mapping code → (glyph ≡ 0 → ⊥)
-    → (sketch : Sketch) × (glyph_sketch_of hinting face ppem code glyph ≡ Ok sketch) × IsGlyphOf sketch g
-    → AreLinesOf hinting face mapping ppem code text → glyph_text g ≡ text
-drawn_lines one hinting face mapping ppem code glyph g text e m d h =
-    let x = due_lines hinting face mapping ppem code glyph text e m h in
+    → glyph ≡ glyph_for setting.map code → (glyph ≡ 0 → ⊥)
+    → (sketch : Sketch) × (glyph_sketch_of setting code glyph ≡ Ok sketch) × IsGlyphOf sketch g
+    → AreLinesOf setting code text → glyph_text g ≡ text
+drawn_lines one setting code glyph g text e m d h =
+    let x = due_lines setting code glyph text e m h in
     let P : Sketch → Type 0 = λ s. IsGlyphOf s g in
     let here : IsGlyphOf x.sketch g = subst P (same_Ok d.0 x.sketch d.1 x.is) d.2 in
     ap glyph_text (glyph_is_one one x.sketch g x.bits here x.of) ∙ sym x.text_is
@@ -190,58 +187,58 @@ none_by was text r e d p q m l =
     let low : 0 < length (was.waiting ++ text) = omega (arith, length-append was.waiting text, l) in
     subst P (sym (p ∙ ap Err (q ∙ m))) (record { same = refl; outcome = (0, low, Appends-nil was.held, refl) })
 
-pub adds_undrawn : (hinting : Hinting) (face : Face) (mapping : Mapping) (ppem code glyph : ℕ) (was : TextView) (text : List ℕ)
+pub adds_undrawn : (setting : Setting) (code glyph : ℕ) (was : TextView) (text : List ℕ)
     (r : Result (Unit {0}) Refusal) (f d : Refusal) → r ≡ Err f → f ≡ d
-    → glyph ≡ glyph_for mapping code → (glyph ≡ 0 → ⊥) → Fails d (glyph_sketch_of hinting face ppem code glyph)
-    → AreLinesOf hinting face mapping ppem code text → Adds Stops was was text r
-adds_undrawn hinting face mapping ppem code glyph was text r f d p q e m fails h =
-    let x = due_lines hinting face mapping ppem code glyph text e m h in
+    → glyph ≡ glyph_for setting.map code → (glyph ≡ 0 → ⊥) → Fails d (glyph_sketch_of setting code glyph)
+    → AreLinesOf setting code text → Adds Stops was was text r
+adds_undrawn setting code glyph was text r f d p q e m fails h =
+    let x = due_lines setting code glyph text e m h in
     let L : List ℕ → Type 0 = λ t. 0 < length t in
     none_by was text r f d p q
-    (only_memory d (glyph_sketch_of hinting face ppem code glyph) x.sketch x.is fails)
+    (only_memory d (glyph_sketch_of setting code glyph) x.sketch x.is fails)
     (subst L (sym x.text_is) (has_lines x.bits))
 
 -- ---- all characters
 
 -- what was added of the lines of code points, and what is left of them
-pub record Left (hinting : Hinting) (face : Face) (mapping : Mapping) (ppem : ℕ) (codes : List ℕ) (i : ℕ) (was now : TextView)
+pub record Left (setting : Setting) (codes : List ℕ) (i : ℕ) (was now : TextView)
     (text : List ℕ) : Type 0 where
   pub front : List ℕ
   pub rest : List ℕ
   pub split : text ≡ front ++ rest
-  pub left : AreAllLinesOf hinting face mapping ppem (drop i codes) rest
+  pub left : AreAllLinesOf setting (drop i codes) rest
   pub added : Adds Stops was now front (Ok tt)
 
-pub left_all : (hinting : Hinting) (face : Face) (mapping : Mapping) (ppem : ℕ) (codes : List ℕ) (was : TextView)
-    (text : List ℕ) → AreAllLinesOf hinting face mapping ppem codes text
-    → Left hinting face mapping ppem codes 0 was was text
-left_all hinting face mapping ppem codes was text h =
+pub left_all : (setting : Setting) (codes : List ℕ) (was : TextView)
+    (text : List ℕ) → AreAllLinesOf setting codes text
+    → Left setting codes 0 was was text
+left_all setting codes was text h =
     record { front = []; rest = text; split = refl; left = h; added = adds_nothing }
 
 -- the lines of the next code point
-pub record Next (hinting : Hinting) (face : Face) (mapping : Mapping) (ppem : ℕ) (codes : List ℕ) (i : ℕ) (text : List ℕ)
+pub record Next (setting : Setting) (codes : List ℕ) (i : ℕ) (text : List ℕ)
     : Type 0 where
   pub here : List ℕ
   pub rest : List ℕ
-  pub lines : AreLinesOf hinting face mapping ppem (get_or codes i 0) here
-  pub left : AreAllLinesOf hinting face mapping ppem (drop (i + 1) codes) rest
+  pub lines : AreLinesOf setting (get_or codes i 0) here
+  pub left : AreAllLinesOf setting (drop (i + 1) codes) rest
   pub split : text ≡ here ++ rest
 
-pub next_lines : (hinting : Hinting) (face : Face) (mapping : Mapping) (ppem : ℕ) (codes : List ℕ) (i : ℕ) (text : List ℕ)
-    → i < length codes → AreAllLinesOf hinting face mapping ppem (drop i codes) text
-    → Next hinting face mapping ppem codes i text
-next_lines hinting face mapping ppem codes i text l h =
-    let P : List ℕ → Type 0 = λ xs. AreAllLinesOf hinting face mapping ppem xs text in
+pub next_lines : (setting : Setting) (codes : List ℕ) (i : ℕ) (text : List ℕ)
+    → i < length codes → AreAllLinesOf setting (drop i codes) text
+    → Next setting codes i text
+next_lines setting codes i text l h =
+    let P : List ℕ → Type 0 = λ xs. AreAllLinesOf setting xs text in
     let x = subst P (drop_more codes i 0 l) h in
     record { here = x.0; rest = x.1; lines = x.2; left = x.3; split = x.4 }
 
-pub left_more : (hinting : Hinting) (face : Face) (mapping : Mapping) (ppem : ℕ) (codes : List ℕ) (i : ℕ)
+pub left_more : (setting : Setting) (codes : List ℕ) (i : ℕ)
     (was now next : TextView) (text : List ℕ) → i < length codes
-    → (h : Left hinting face mapping ppem codes i was now text)
-    → ((here : List ℕ) → AreLinesOf hinting face mapping ppem (get_or codes i 0) here → Adds Stops now next here (Ok tt))
-    → Left hinting face mapping ppem codes (i + 1) was next text
-left_more hinting face mapping ppem codes i was now next text l h w =
-    let x = next_lines hinting face mapping ppem codes i h.rest l h.left in
+    → (h : Left setting codes i was now text)
+    → ((here : List ℕ) → AreLinesOf setting (get_or codes i 0) here → Adds Stops now next here (Ok tt))
+    → Left setting codes (i + 1) was next text
+left_more setting codes i was now next text l h w =
+    let x = next_lines setting codes i h.rest l h.left in
     record {
       front = h.front ++ x.here;
       rest = x.rest;
@@ -250,21 +247,21 @@ left_more hinting face mapping ppem codes i was now next text l h w =
       added = adds_then h.added (w x.here x.lines);
     }
 
-pub left_none : (hinting : Hinting) (face : Face) (mapping : Mapping) (ppem : ℕ) (codes : List ℕ) (i : ℕ)
+pub left_none : (setting : Setting) (codes : List ℕ) (i : ℕ)
     (was now : TextView) (text : List ℕ) → drop i codes ≡ []
-    → Left hinting face mapping ppem codes i was now text → Adds Stops was now text (Ok tt)
-left_none hinting face mapping ppem codes i was now text e h =
-    let P : List ℕ → Type 0 = λ xs. AreAllLinesOf hinting face mapping ppem xs h.rest in
+    → Left setting codes i was now text → Adds Stops was now text (Ok tt)
+left_none setting codes i was now text e h =
+    let P : List ℕ → Type 0 = λ xs. AreAllLinesOf setting xs h.rest in
     let none : h.rest ≡ [] = subst P e h.left in
     adds_text (sym (h.split ∙ ap (λ (t : List ℕ). h.front ++ t) none ∙ append-nil h.front)) h.added
 
-pub left_failed : (hinting : Hinting) (face : Face) (mapping : Mapping) (ppem : ℕ) (codes : List ℕ) (i : ℕ)
+pub left_failed : (setting : Setting) (codes : List ℕ) (i : ℕ)
     (was now next : TextView) (text : List ℕ) (r : Result (Unit {0}) Refusal) (e d : Refusal) → r ≡ Err e → e ≡ d
-    → i < length codes → (h : Left hinting face mapping ppem codes i was now text)
-    → ((here : List ℕ) → AreLinesOf hinting face mapping ppem (get_or codes i 0) here → Adds Stops now next here (Err d))
+    → i < length codes → (h : Left setting codes i was now text)
+    → ((here : List ℕ) → AreLinesOf setting (get_or codes i 0) here → Adds Stops now next here (Err d))
     → Adds Stops was next text r
-left_failed hinting face mapping ppem codes i was now next text r e d p q l h w =
-    let x = next_lines hinting face mapping ppem codes i h.rest l h.left in
+left_failed setting codes i was now next text r e d p q l h w =
+    let x = next_lines setting codes i h.rest l h.left in
     let whole : h.front ++ (x.here ++ x.rest) ≡ text = sym (h.split ∙ ap (λ (t : List ℕ). h.front ++ t) x.split) in
     adds_out (adds_text whole (adds_then h.added (adds_stopped x.rest (w x.here x.lines)))) p q
 
@@ -275,100 +272,73 @@ no_lines : (gs : List Glyph) → AreGlyphsOf [] gs → flat_map glyph_text gs �
 no_lines [] g = refl
 no_lines (x ∷ xs) g = absurd g
 
-first_lines : (hinting : Hinting) (face : Face) (mapping : Mapping) (ppem c : ℕ) (cs : List ℕ) (s : Sketch) (ss : List Sketch)
-    (gs : List Glyph) → is_missing mapping c ≡ false → sketch_of hinting face mapping ppem c ≡ Ok s
-    → ((xs : List Glyph) → AreGlyphsOf ss xs → AreAllLinesOf hinting face mapping ppem cs (flat_map glyph_text xs))
-    → AreGlyphsOf (s ∷ ss) gs → AreAllLinesOf hinting face mapping ppem (c ∷ cs) (flat_map glyph_text gs)
-first_lines hinting face mapping ppem c cs s ss [] e p more g = absurd g
-first_lines hinting face mapping ppem c cs s ss (x ∷ xs) e p more g = (
+first_lines : (setting : Setting) (c : ℕ) (cs : List ℕ) (s : Sketch) (ss : List Sketch)
+    (gs : List Glyph) → is_missing setting c ≡ false → sketch_of setting c ≡ Ok s
+    → ((xs : List Glyph) → AreGlyphsOf ss xs → AreAllLinesOf setting cs (flat_map glyph_text xs))
+    → AreGlyphsOf (s ∷ ss) gs → AreAllLinesOf setting (c ∷ cs) (flat_map glyph_text gs)
+first_lines setting c cs s ss [] e p more g = absurd g
+first_lines setting c cs s ss (x ∷ xs) e p more g = (
   glyph_text x,
   flat_map glyph_text xs,
   record {
-    lines = lines_by false (is_missing mapping c) (sketch_of hinting face mapping ppem c) (glyph_text x) (sym e)
+    lines = lines_by false (is_missing setting c) (sketch_of setting c) (glyph_text x) (sym e)
         (s, x, p, g.0, refl);
   },
   more xs g.1,
   refl,
 )
 
-kept_lines : (hinting : Hinting) (face : Face) (mapping : Mapping) (ppem c : ℕ) (cs : List ℕ) (ss : List Sketch)
-    (gs : List Glyph) (b : Bool) → is_missing mapping c ≡ b
-    → map_chain (sketch_of hinting face mapping ppem) (cond (not b) (c ∷ filter (λ d. not (is_missing mapping d)) cs)
-    (filter (λ d. not (is_missing mapping d)) cs)) ≡ Ok ss
-    → ((ys : List Sketch) (xs : List Glyph) → sketches_of hinting face mapping ppem cs ≡ Ok ys → AreGlyphsOf ys xs
-    → AreAllLinesOf hinting face mapping ppem cs (flat_map glyph_text xs))
-    → AreGlyphsOf ss gs → AreAllLinesOf hinting face mapping ppem (c ∷ cs) (flat_map glyph_text gs)
-kept_lines hinting face mapping ppem c cs ss gs true e h more g = (
+kept_lines : (setting : Setting) (c : ℕ) (cs : List ℕ) (ss : List Sketch)
+    (gs : List Glyph) (b : Bool) → is_missing setting c ≡ b
+    → map_chain (sketch_of setting) (cond (not b) (c ∷ filter (λ d. not (is_missing setting d)) cs)
+    (filter (λ d. not (is_missing setting d)) cs)) ≡ Ok ss
+    → ((ys : List Sketch) (xs : List Glyph) → sketches_of setting cs ≡ Ok ys → AreGlyphsOf ys xs
+    → AreAllLinesOf setting cs (flat_map glyph_text xs))
+    → AreGlyphsOf ss gs → AreAllLinesOf setting (c ∷ cs) (flat_map glyph_text gs)
+kept_lines setting c cs ss gs true e h more g = (
   [],
   flat_map glyph_text gs,
-  record { lines = lines_by true (is_missing mapping c) (sketch_of hinting face mapping ppem c) [] (sym e) refl },
+  record { lines = lines_by true (is_missing setting c) (sketch_of setting c) [] (sym e) refl },
   more ss gs h g,
   refl,
 )
-kept_lines hinting face mapping ppem c cs ss gs false e h more g =
-    let rest : List ℕ = filter (λ d. not (is_missing mapping d)) cs in
-    let p = bind_ok (sketch_of hinting face mapping ppem c)
-    (λ y. map_chain (sketch_of hinting face mapping ppem) rest >>= λ zs. Ok (y ∷ zs)) ss h in
-    let q = bind_ok (map_chain (sketch_of hinting face mapping ppem) rest) (λ zs. Ok (p.0 ∷ zs)) ss p.2 in
+kept_lines setting c cs ss gs false e h more g =
+    let rest : List ℕ = filter (λ d. not (is_missing setting d)) cs in
+    let p = bind_ok (sketch_of setting c)
+    (λ y. map_chain (sketch_of setting) rest >>= λ zs. Ok (y ∷ zs)) ss h in
+    let q = bind_ok (map_chain (sketch_of setting) rest) (λ zs. Ok (p.0 ∷ zs)) ss p.2 in
     let s : p.0 ∷ q.0 ≡ ss = cc (q.2) in
     let P : List Sketch → Type 0 = λ xs. AreGlyphsOf xs gs in
-    first_lines hinting face mapping ppem c cs p.0 q.0 gs e p.1 (λ xs k. more q.0 xs q.1 k) (subst P (sym s) g)
+    first_lines setting c cs p.0 q.0 gs e p.1 (λ xs k. more q.0 xs q.1 k) (subst P (sym s) g)
 
-pub lines_of_glyphs : (hinting : Hinting) (face : Face) (mapping : Mapping) (ppem : ℕ) (codes : List ℕ) (ss : List Sketch)
-    (gs : List Glyph) → sketches_of hinting face mapping ppem codes ≡ Ok ss → AreGlyphsOf ss gs
-    → AreAllLinesOf hinting face mapping ppem codes (flat_map glyph_text gs)
-lines_of_glyphs hinting face mapping ppem [] ss gs h g =
+pub lines_of_glyphs : (setting : Setting) (codes : List ℕ) (ss : List Sketch)
+    (gs : List Glyph) → sketches_of setting codes ≡ Ok ss → AreGlyphsOf ss gs
+    → AreAllLinesOf setting codes (flat_map glyph_text gs)
+lines_of_glyphs setting [] ss gs h g =
     let e : [] ≡ ss = cc in
     let P : List Sketch → Type 0 = λ xs. AreGlyphsOf xs gs in
     no_lines gs (subst P (sym e) g)
-lines_of_glyphs hinting face mapping ppem (c ∷ cs) ss gs h g =
-    kept_lines hinting face mapping ppem c cs ss gs (is_missing mapping c) refl h
-    (λ ys xs k l. lines_of_glyphs hinting face mapping ppem cs ys xs k l) g
-
--- a plan has the name and the size that it is of, and the sketches of its code points
-record Planned (prelude : Prelude) (face : Face) (mapping : Mapping) (ppem : ℕ) (name chars : List ℕ) (plan : Plan)
-    : Type 0 where
-  pub sketches : sketches_of prelude.hinting face mapping ppem (rising chars) ≡ Ok plan.sketches
-  pub name_is : plan.name ≡ name
-  pub ppem_is : plan.ppem ≡ ppem
-
-planned : (prelude : Prelude) (face : Face) (mapping : Mapping) (ppem : ℕ) (name chars : List ℕ) (plan : Plan)
-    → plan_after prelude face mapping ppem name chars ≡ Ok plan → Planned prelude face mapping ppem name chars plan
-unfolding plan_after
-planned prelude face mapping ppem name chars plan h =
-    let last : List Sketch → Plan = λ ss. record {
-      name = name;
-      ppem = ppem;
-      ascent = pixels face.hhea.ascender ppem face.head.units_per_em;
-      descent = pixels (neg_ℤ face.hhea.descender) ppem face.head.units_per_em;
-      sketches = ss;
-      missing = count_by (is_missing mapping) (rising chars);
-      strays = prelude.strays;
-      steps = prelude.steps;
-    } in
-    let d = bind_ok (sketches_of prelude.hinting face mapping ppem (rising chars)) (λ ss. Ok (last ss)) plan h in
-    let e : last d.0 ≡ plan = cc (d.2) in
-    let P : Plan → Type 0 = λ p. Planned prelude face mapping ppem name chars p in
-    subst P e (record { sketches = d.1; name_is = refl; ppem_is = refl })
+lines_of_glyphs setting (c ∷ cs) ss gs h g =
+    kept_lines setting c cs ss gs (is_missing setting c) refl h
+    (λ ys xs k l. lines_of_glyphs setting cs ys xs k l) g
 
 -- the text of a strike that was surveyed
-survey_text : (prelude : Prelude) (face : Face) (mapping : Mapping) (ppem : ℕ) (name chars : List ℕ) (survey : Survey)
-    → (s : Surveyed (plan_after prelude face mapping ppem name chars) survey)
-    → header_text name (surveyed_header ppem survey) ++ (flat_map glyph_text s.glyphs ++ end_text) ≡ strike_text s.plan s.glyphs
+survey_text : (setting : Setting) (name chars : List ℕ) (survey : Survey) (s : Surveyed (plan_with setting name chars) survey)
+    → header_text name (surveyed_header setting.ppem survey) ++ (flat_map glyph_text s.glyphs ++ end_text) ≡
+    strike_text s.plan s.glyphs
 unfolding strike_text
-survey_text prelude face mapping ppem name chars survey s =
-    let p = planned prelude face mapping ppem name chars s.plan s.is in
+survey_text setting name chars survey s =
+    let p = planned setting name chars s.plan s.is in
     ap (λ (t : List ℕ). t ++ (flat_map glyph_text s.glyphs ++ end_text))
     (ap (λ (n : ℕ). header_text name (surveyed_header n survey)) (sym p.ppem_is)
     ∙ ap (λ (t : List ℕ). header_text t (surveyed_header s.plan.ppem survey)) (sym p.name_is)
     ∙ ap (header_text s.plan.name) s.header)
 
 -- what a call leaves, by what was written of the text
-leaves_by : (opening : Opening) (due : Result Plan Refusal) (old new : Option (List ℕ)) (faults_before faults_after : ℕ)
-    (survey : Survey) (s : Surveyed due survey) (d : Refusal)
-    → IsOk opening → WritesBy old new faults_before faults_after (strike_text s.plan s.glyphs) (Err d)
-    → Leaves opening due old new faults_before faults_after (Err d)
-leaves_by opening due old new faults_before faults_after survey s OutOfMemory o w = (
+leaves_by : {Y : Type 0} (checks : Result Y Refusal) (due : Result Plan Refusal) (change : Change) (survey : Survey)
+    (s : Surveyed due survey) (d : Refusal)
+    → IsOk checks → WritesBy change (strike_text s.plan s.glyphs) (Err d) → Leaves checks due change (Err d)
+leaves_by checks due change survey s OutOfMemory o w = (
   o,
   record {
     begun =
@@ -376,60 +346,49 @@ leaves_by opening due old new faults_before faults_after survey s OutOfMemory o 
     quiet = w.3;
   },
 )
-leaves_by opening due old new faults_before faults_after survey s (WriteFailed n) o w =
+leaves_by checks due change survey s (WriteFailed n) o w =
     record {
       begun = record { plan = s.plan; glyphs = s.glyphs; is = s.is; drawn = s.drawn; short = w.0; written = w.1 };
       fault = w.2;
     }
-leaves_by opening due old new faults_before faults_after survey s d o w = absurd w
+leaves_by checks due change survey s d o w = absurd w
 
 -- the text of a strike was written, or a beginning of it
-strike_writes : (hinting : Hinting) (prelude : Ran) (face : Face) (mapping : Mapping) (ppem : ℕ) (name chars codes : List ℕ)
-    (old new : Option (List ℕ)) (faults_before faults_after : ℕ) (survey : Survey) (header : Header) (r : Result (Unit {0}) Refusal)
-    → codes ≡ rising chars → header ≡ surveyed_header ppem survey
-    → (s : Surveyed (plan_after (seen_prelude hinting prelude) face mapping ppem name chars) survey)
-    → ((text : List ℕ) → AreAllLinesOf hinting face mapping ppem codes text
-    → Writes old new faults_before faults_after (header_text name header ++ (text ++ end_text)) r)
-    → Writes old new faults_before faults_after (strike_text s.plan s.glyphs) r
-strike_writes hinting prelude face mapping ppem name chars codes old new faults_before faults_after survey header r c q s w =
-    let p = planned (seen_prelude hinting prelude) face mapping ppem name chars s.plan s.is in
-    let lines = lines_of_glyphs hinting face mapping ppem codes s.plan.sketches s.glyphs
-    (ap (sketches_of hinting face mapping ppem) c ∙ p.sketches) s.drawn in
+strike_writes : (setting : Setting) (name chars codes : List ℕ) (change : Change) (survey : Survey) (header : Header)
+    (r : Result (Unit {0}) Refusal)
+    → codes ≡ rising chars → header ≡ surveyed_header setting.ppem survey
+    → (s : Surveyed (plan_with setting name chars) survey)
+    → ((text : List ℕ) → AreAllLinesOf setting codes text → Writes change (header_text name header ++ (text ++ end_text)) r)
+    → Writes change (strike_text s.plan s.glyphs) r
+strike_writes setting name chars codes change survey header r c q s w =
+    let p = planned setting name chars s.plan s.is in
+    let lines = lines_of_glyphs setting codes s.plan.sketches s.glyphs (ap (sketches_of setting) c ∙ p.sketches) s.drawn in
     let same : header_text name header ++ (flat_map glyph_text s.glyphs ++ end_text) ≡ strike_text s.plan s.glyphs =
     ap (λ (h : Header). header_text name h ++ (flat_map glyph_text s.glyphs ++ end_text)) q
-    ∙ survey_text (seen_prelude hinting prelude) face mapping ppem name chars survey s in
+    ∙ survey_text setting name chars survey s in
     writes_text same (w (flat_map glyph_text s.glyphs) lines)
 
-pub leaves_unwritten : (opening : Opening) (hinting : Hinting) (prelude : Ran) (face : Face) (mapping : Mapping) (ppem : ℕ)
-    (name chars codes : List ℕ) (old new : Option (List ℕ)) (faults_before faults_after : ℕ) (survey : Survey) (header : Header)
-    (r : Result Report Refusal) (e d : Refusal)
-    → IsOk opening → r ≡ Err e → e ≡ d → codes ≡ rising chars → header ≡ surveyed_header ppem survey
-    → Surveyed (plan_after (seen_prelude hinting prelude) face mapping ppem name chars) survey
-    → ((text : List ℕ) → AreAllLinesOf hinting face mapping ppem codes text
-    → Writes old new faults_before faults_after (header_text name header ++ (text ++ end_text)) (Err d))
-    → Leaves opening (plan_after (seen_prelude hinting prelude) face mapping ppem name chars) old new faults_before faults_after r
-leaves_unwritten opening hinting prelude face mapping ppem name chars codes old new faults_before faults_after survey header r e d
-    o p q c k s w =
-    let due = plan_after (seen_prelude hinting prelude) face mapping ppem name chars in
-    let x = strike_writes hinting prelude face mapping ppem name chars codes old new faults_before faults_after survey header
-    (Err d) c k s w in
-    let P : Result Report Refusal → Type 0 = λ y. Leaves opening due old new faults_before faults_after y in
-    subst P (sym (p ∙ ap Err q)) (leaves_by opening due old new faults_before faults_after survey s d o x.outcome)
+pub leaves_unwritten : {Y : Type 0} (checks : Result Y Refusal) (setting : Setting) (name chars codes : List ℕ)
+    (change : Change) (survey : Survey) (header : Header) (r : Result Report Refusal) (e d : Refusal)
+    → IsOk checks → r ≡ Err e → e ≡ d → codes ≡ rising chars → header ≡ surveyed_header setting.ppem survey
+    → Surveyed (plan_with setting name chars) survey
+    → ((text : List ℕ) → AreAllLinesOf setting codes text
+    → Writes change (header_text name header ++ (text ++ end_text)) (Err d))
+    → Leaves checks (plan_with setting name chars) change r
+leaves_unwritten checks setting name chars codes change survey header r e d o p q c k s w =
+    let due = plan_with setting name chars in
+    let x = strike_writes setting name chars codes change survey header (Err d) c k s w in
+    let P : Result Report Refusal → Type 0 = λ y. Leaves checks due change y in
+    subst P (sym (p ∙ ap Err q)) (leaves_by checks due change survey s d o x.outcome)
 
-pub leaves_written : (opening : Opening) (hinting : Hinting) (prelude : Ran) (face : Face) (mapping : Mapping) (ppem : ℕ)
-    (name chars codes : List ℕ) (old new : Option (List ℕ)) (faults_before faults_after : ℕ) (survey : Survey) (header : Header)
-    (report : Report) → codes ≡ rising chars → header ≡ surveyed_header ppem survey
-    → Surveyed (plan_after (seen_prelude hinting prelude) face mapping ppem name chars) survey
-    → ((text : List ℕ) → AreAllLinesOf hinting face mapping ppem codes text
-    → Writes old new faults_before faults_after (header_text name header ++ (text ++ end_text)) (Ok tt))
-    → report ≡ surveyed_report survey
-    → Leaves opening (plan_after (seen_prelude hinting prelude) face mapping ppem name chars) old new faults_before faults_after
-    (Ok report)
-leaves_written opening hinting prelude face mapping ppem name chars codes old new faults_before faults_after survey header
-    report c k s w t =
-    let x = strike_writes hinting prelude face mapping ppem name chars codes old new faults_before faults_after survey header
-    (Ok tt) c k s w in
-    let P : Report → Type 0 = λ y. IsReportOf s.plan y in
+pub leaves_written : {Y : Type 0} (checks : Result Y Refusal) (setting : Setting) (name chars codes : List ℕ)
+    (change : Change) (survey : Survey) (header : Header) → codes ≡ rising chars
+    → header ≡ surveyed_header setting.ppem survey → Surveyed (plan_with setting name chars) survey
+    → ((text : List ℕ) → AreAllLinesOf setting codes text
+    → Writes change (header_text name header ++ (text ++ end_text)) (Ok tt))
+    → Leaves checks (plan_with setting name chars) change (Ok survey.report)
+leaves_written checks setting name chars codes change survey header c k s w =
+    let x = strike_writes setting name chars codes change survey header (Ok tt) c k s w in
     record {
       plan = s.plan;
       glyphs = s.glyphs;
@@ -437,5 +396,5 @@ leaves_written opening hinting prelude face mapping ppem name chars codes old ne
       drawn = s.drawn;
       written = x.outcome.0;
       quiet = x.outcome.1;
-      told = subst P (sym t) s.told;
+      told = s.told;
     }

@@ -1,75 +1,113 @@
--- From what was seen to a survey, and from a survey and what was written to what a call leaves.
--- Serves `survey_after`, `survey_inner`, `write_after`, `make_strike_inner` and `whole_pixels`.
-use Rattle.std.proofs.Common.{refl, sym, ap, subst, ◌≡◌, ◌∙◌, arith, inl, ℕ, ◌+◌, ◌<◌, ◌≤◌, ◌^◌, ℤ, pos, Bool, List, map}
+-- From what was seen to a survey, and what a call leaves that was refused.
+-- Serves `survey_codes`, `survey_chars`, `write_strike`, `make_strike_with` and `whole_pixels`.
+use Rattle.std.proofs.Common.{refl, sym, ap, subst, ◌≡◌, ◌∙◌, arith, inl, ℕ, ◌+◌, ◌<◌, ◌≤◌, ◌^◌, ℤ, pos, List, map}
 use Rattle.std.proofs.Common.{Option, Some, None, Result, Ok}
 use Rattle.std.proofs.Common.{Err, FitsSigned, w32, to_z, of_z, lit<}
 use Rattle.std.specs.Int.{w128}
-use Rattle.std.specs.Prelude.{◌*ℤ◌, neg_ℤ, unsigned_abs, IsOk}
+use Rattle.std.specs.Prelude.{◌*ℤ◌, neg_ℤ, unsigned_abs, IsOk, IfOk, IfErr}
 use Rattle.std.specs.Io.KnownBytes.{Keeps}
-use Rattle.std.specs.List.{count_by, sum_by}
+use Rattle.std.specs.List.{sum_by}
 use Rattle.std.proofs.lemmas.Int.{ints, fits_signed_mul, fits_signed_from_abs, unsigned_abs-mul}
 use Rattle.std.proofs.Math.Nat.{mul-le-mul_left}
 use Rattle.fx_fixed.specs.Numbers.{near_of}
 use Rattle.fx_fixed.specs.Sizes.{IsPpem, max_ppem}
-use Rattle.fx_sfnt.specs.Tables.{Face}
-use Rattle.fx_cmap.specs.declared.mapping.Mapping.{Mapping}
-use Rattle.fx_hint.specs.Hinting.{Hinting}
+use Rattle.fx_machine.specs.Known.{Known}
 use Rattle.fx_machine.specs.declared.ran.Ran.{Ran}
 use Rattle.fx_bdf.specs.declared.header.Header.{Header}
 use Rattle.fx_bdf.specs.Glyphs.{Box, bounds_of}
 use Rattle.fx_request.specs.declared.refusal.Refusal.{Refusal}
 use Rattle.fx_request.specs.declared.refusal.Refusal.TheVariants.{WriteFailed, ReadFailed, BadHex, InputTooLarge, OutOfMemory}
+use Rattle.fx_strike.specs.declared.opened.Opened.{Opened}
 use Rattle.fx_strike.specs.declared.seen.Seen.{Seen}
 use Rattle.fx_request.specs.declared.request.Report.{Report}
 use Rattle.fx_strike.specs.declared.surveyed.Survey.{Survey}
 use Rattle.fx_strike.specs.Faults.{Fails}
+use Rattle.fx_fixed.specs.Changes.{Change}
 use Rattle.fx_request.specs.Characters.{rising}
-use Rattle.fx_strike.specs.Strike.{Sketch, Prelude, Opening, Plan, pixels, is_missing, sketches_of}
-use Rattle.fx_strike.specs.Strike.{opened_of, plan_after, plan_in, plan_of}
-use Rattle.fx_strike.specs.Headline.{counted, IsCause, Surveyed, Leaves}
-use Rattle.fx_strike.specs.inner.Surveying.{Holds, seen_prelude, survey_from, Surveys}
+use Rattle.fx_strike.specs.Strike.{Sketch, Setting, Plan, setting_with, counted_by, pixels, sketches_of, plan_from, plan_with}
+use Rattle.fx_strike.specs.Headline.{counted, IsCause, Surveyed, Writer, Leaves, Makes}
+use Rattle.fx_strike.specs.inner.Surveying.{Holds, survey_from, Surveys}
 use Rattle.fx_strike.proofs.Sketching.{fails_on}
 
 -- ---- when the plan stops
 
-plan_unopened : (file : List ℕ) (ppem : ℕ) (name chars : List ℕ) (hinting : Bool) (d : Refusal)
-    → opened_of file ppem name chars ≡ Err d → plan_of file ppem name chars hinting ≡ Err d
-unfolding plan_of
-plan_unopened file ppem name chars hinting d h = rw h
+plan_refused : (setting : Setting) (name chars : List ℕ) (d : Refusal)
+    → sketches_of setting (rising chars) ≡ Err d → plan_with setting name chars ≡ Err d
+unfolding plan_with
+plan_refused setting name chars d h = rw h
 
-plan_opened : (file : List ℕ) (ppem : ℕ) (name chars : List ℕ) (hinting : Bool) (size : ℕ) (face : Face) (mapping : Mapping)
-    → opened_of file ppem name chars ≡ Ok (size, face, mapping)
-    → plan_of file ppem name chars hinting ≡ plan_in face mapping size name chars hinting
-unfolding plan_of
-plan_opened file ppem name chars hinting size face mapping h = rw h
+plan_whole : (setting : Setting) (name chars : List ℕ) (ss : List Sketch)
+    → sketches_of setting (rising chars) ≡ Ok ss → plan_with setting name chars ≡ Ok (plan_from setting name chars ss)
+unfolding plan_with
+plan_whole setting name chars ss h = rw h
 
-plan_refused : (prelude : Prelude) (face : Face) (mapping : Mapping) (ppem : ℕ) (name chars : List ℕ) (d : Refusal)
-    → sketches_of prelude.hinting face mapping ppem (rising chars) ≡ Err d
-    → plan_after prelude face mapping ppem name chars ≡ Err d
-unfolding plan_after
-plan_refused prelude face mapping ppem name chars d h = rw h
+-- ---- a survey
 
-abbrev whole_plan : Prelude → ℕ → List ℕ → List ℕ → Face → Mapping → List Sketch → Plan
-whole_plan prelude ppem name chars face mapping ss = record {
-  name = name;
-  ppem = ppem;
-  ascent = pixels face.hhea.ascender ppem face.head.units_per_em;
-  descent = pixels (neg_ℤ face.hhea.descender) ppem face.head.units_per_em;
-  sketches = ss;
-  missing = count_by (is_missing mapping) (rising chars);
-  strays = prelude.strays;
-  steps = prelude.steps;
-}
+pub surveys_err : (due : Result Plan Refusal) (r : Result Survey Refusal) (e d : Refusal) → r ≡ Err e → e ≡ d → Fails d due
+    → Surveys due r
+surveys_err due r e d p q f = let P : Result Survey Refusal → Type 0 = λ s. Surveys due s in subst P (sym (p ∙ ap Err q)) f
 
-plan_whole : (prelude : Prelude) (face : Face) (mapping : Mapping) (ppem : ℕ) (name chars : List ℕ) (ss : List Sketch)
-    → sketches_of prelude.hinting face mapping ppem (rising chars) ≡ Ok ss
-    → plan_after prelude face mapping ppem name chars ≡ Ok (whole_plan prelude ppem name chars face mapping ss)
-unfolding plan_after
-plan_whole prelude face mapping ppem name chars ss h = rw h
+pub surveys_ok : (due : Result Plan Refusal) (r : Result Survey Refusal) → Surveys due r → IfOk r (Surveyed due)
+surveys_ok due (Ok survey) h = h
+surveys_ok due (Err d) h = tt
+
+pub surveys_cause : (due : Result Plan Refusal) (r : Result Survey Refusal) → Surveys due r → IfErr r (λ d. Fails d due)
+surveys_cause due (Ok survey) h = tt
+surveys_cause due (Err d) h = h
+
+pub surveys_along : (here due : Result Plan Refusal) (r : Result Survey Refusal) → due ≡ here → Surveys here r → Surveys due r
+surveys_along here due r e h = let P : Result Plan Refusal → Type 0 = λ x. Surveys x r in subst P (sym e) h
+
+pub unseen : (setting : Setting) (name chars codes : List ℕ) (r : Result Survey Refusal) (e d : Refusal) → r ≡ Err e → e ≡ d
+    → codes ≡ rising chars → Fails d (sketches_of setting codes) → Surveys (plan_with setting name chars) r
+unseen setting name chars codes r e d p q c f =
+    surveys_err (plan_with setting name chars) r e d p q
+    (fails_on d (sketches_of setting codes) (plan_with setting name chars)
+    (λ x g. plan_refused setting name chars x (ap (sketches_of setting) (sym c) ∙ g)) f)
+
+-- a count goes on after what was counted before
+counted_on : (before after total : ℕ) → after ≡ counted total → counted (before + after) ≡ counted (before + total)
+counted_on before after total h = omega arith
+
+surveyed_here : (opened : Opened) (machine : Option Known) (name chars : List ℕ) (seen : Seen)
+    → Holds (setting_with opened machine) (rising chars) seen
+    → Surveyed (plan_with (setting_with opened machine) name chars) (survey_from (counted_by machine) opened seen)
+surveyed_here opened machine name chars seen g =
+    let heading : Box → ℕ → Header = λ b n. record {
+      ppem = opened.ppem;
+      bounds = b;
+      ascent = pixels opened.font.hhea.ascender opened.ppem opened.font.head.units_per_em;
+      descent = pixels (neg_ℤ opened.font.hhea.descender) opened.ppem opened.font.head.units_per_em;
+      glyphs = n;
+    } in
+    record {
+      plan = plan_from (setting_with opened machine) name chars g.sketches;
+      glyphs = g.glyphs;
+      is = plan_whole (setting_with opened machine) name chars g.sketches g.planned;
+      drawn = g.drawn;
+      header = ap (λ (b : Box). heading b seen.report.glyphs) g.bounds ∙
+          ap (λ (n : ℕ). heading (bounds_of (map (λ x. x.box) g.glyphs)) n) g.count;
+      told = record {
+        glyphs = g.count;
+        missing = g.missing;
+        strays = counted_on (counted_by machine).strays seen.report.strays (sum_by (λ s. s.strays) g.sketches) g.strays;
+        steps = counted_on (counted_by machine).steps seen.report.steps (sum_by (λ s. s.steps) g.sketches) g.steps;
+      };
+    }
+
+pub surveyed : (opened : Opened) (machine : Option Known) (counts : Ran) (name chars codes : List ℕ) (seen : Seen)
+    (survey : Survey)
+    → counts ≡ counted_by machine → codes ≡ rising chars → Holds (setting_with opened machine) codes seen
+    → survey ≡ survey_from counts opened seen → Surveyed (plan_with (setting_with opened machine) name chars) survey
+surveyed opened machine counts name chars codes seen survey n c g e =
+    let P : List ℕ → Type 0 = λ xs. Holds (setting_with opened machine) xs seen in
+    let Q : Survey → Type 0 = λ s. Surveyed (plan_with (setting_with opened machine) name chars) s in
+    subst Q (sym (e ∙ ap (λ (x : Ran). survey_from x opened seen) n))
+    (surveyed_here opened machine name chars seen (subst P c g))
 
 -- ---- refusals that are due
 
-fails_cause : {Y : Type 0} (d : Refusal) (due : Result Y Refusal) → IsCause d → due ≡ Err d → Fails d due
+pub fails_cause : {Y : Type 0} (d : Refusal) (due : Result Y Refusal) → IsCause d → due ≡ Err d → Fails d due
 fails_cause OutOfMemory due c h = tt
 fails_cause (WriteFailed n) due c h = absurd c
 fails_cause ReadFailed due c h = absurd c
@@ -78,134 +116,99 @@ fails_cause InputTooLarge due c h = absurd c
 fails_cause d due c h = h
 
 -- a refusal on the way, and nothing was written
-fails_leaves : (opening : Opening) (due : Result Plan Refusal) (old new : Option (List ℕ)) (faults_before faults_after : ℕ)
-    (d : Refusal)
-    → IsOk opening → Keeps old new → faults_after ≡ faults_before → Fails d due
-    → Leaves opening due old new faults_before faults_after (Err d)
-fails_leaves opening due old new faults_before faults_after OutOfMemory o k q f =
-    (o, record { begun = inl k; quiet = q })
-fails_leaves opening due old new faults_before faults_after (WriteFailed n) o k q f = absurd f
-fails_leaves opening due old new faults_before faults_after ReadFailed o k q f = absurd f
-fails_leaves opening due old new faults_before faults_after BadHex o k q f = absurd f
-fails_leaves opening due old new faults_before faults_after InputTooLarge o k q f = absurd f
-fails_leaves opening due old new faults_before faults_after d o k q f = record { cause = tt; first = f; kept = k; quiet = q }
+fails_leaves : {Y : Type 0} (checks : Result Y Refusal) (due : Result Plan Refusal) (change : Change) (d : Refusal)
+    → IsOk checks → Keeps change.bytes_before change.bytes → change.faults ≡ change.faults_before → Fails d due
+    → Leaves checks due change (Err d)
+fails_leaves checks due change OutOfMemory o k q f = (o, record { begun = inl k; quiet = q })
+fails_leaves checks due change (WriteFailed n) o k q f = absurd f
+fails_leaves checks due change ReadFailed o k q f = absurd f
+fails_leaves checks due change BadHex o k q f = absurd f
+fails_leaves checks due change InputTooLarge o k q f = absurd f
+fails_leaves checks due change d o k q f = record { cause = tt; first = f; kept = k; quiet = q }
 
 -- the first cause before anything was made, and nothing was written
-cause_leaves : (opening : Opening) (due : Result Plan Refusal) (old new : Option (List ℕ)) (faults_before faults_after : ℕ)
-    (d : Refusal)
-    → IsCause d → Keeps old new → faults_after ≡ faults_before → due ≡ Err d
-    → Leaves opening due old new faults_before faults_after (Err d)
-cause_leaves opening due old new faults_before faults_after OutOfMemory c k q f = absurd c
-cause_leaves opening due old new faults_before faults_after (WriteFailed n) c k q f = absurd c
-cause_leaves opening due old new faults_before faults_after d c k q f = record { cause = c; first = f; kept = k; quiet = q }
+cause_leaves : {Y : Type 0} (checks : Result Y Refusal) (due : Result Plan Refusal) (change : Change) (d : Refusal)
+    → IsCause d → Keeps change.bytes_before change.bytes → change.faults ≡ change.faults_before → due ≡ Err d
+    → Leaves checks due change (Err d)
+cause_leaves checks due change OutOfMemory c k q f = absurd c
+cause_leaves checks due change (WriteFailed n) c k q f = absurd c
+cause_leaves checks due change d c k q f = record { cause = c; first = f; kept = k; quiet = q }
 
-keeps_same : (old : Option (List ℕ)) → Keeps old old
+pub keeps_same : (old : Option (List ℕ)) → Keeps old old
 keeps_same None = tt
 keeps_same (Some xs) = refl
 
-leaves_err : (opening : Opening) (due : Result Plan Refusal) (old new : Option (List ℕ)) (faults_before faults_after : ℕ)
-    (r : Result Report Refusal) (e d : Refusal) → r ≡ Err e → e ≡ d
-    → Leaves opening due old new faults_before faults_after (Err d) → Leaves opening due old new faults_before faults_after r
-leaves_err opening due old new faults_before faults_after r e d p q h =
-    let P : Result Report Refusal → Type 0 = λ s. Leaves opening due old new faults_before faults_after s in
-    subst P (sym (p ∙ ap Err q)) h
+leaves_err : {Y : Type 0} (checks : Result Y Refusal) (due : Result Plan Refusal) (change : Change) (r : Result Report Refusal)
+    (e d : Refusal) → r ≡ Err e → e ≡ d → Leaves checks due change (Err d) → Leaves checks due change r
+leaves_err checks due change r e d p q h =
+    let P : Result Report Refusal → Type 0 = λ s. Leaves checks due change s in subst P (sym (p ∙ ap Err q)) h
 
--- ---- a survey
+pub not_surveyed : {Y : Type 0} (checks : Result Y Refusal) (due : Result Plan Refusal) (change : Change)
+    (r : Result Report Refusal) (e d : Refusal) → IsOk checks → Keeps change.bytes_before change.bytes
+    → change.faults ≡ change.faults_before → r ≡ Err e → e ≡ d → Fails d due → Leaves checks due change r
+not_surveyed checks due change r e d o k s p q f = leaves_err checks due change r e d p q (fails_leaves checks due change d o k s f)
 
-pub surveys_err : (due : Result Plan Refusal) (r : Result Survey Refusal) (e d : Refusal) → r ≡ Err e → e ≡ d → Fails d due
-    → Surveys due r
-surveys_err due r e d p q f = let P : Result Survey Refusal → Type 0 = λ s. Surveys due s in subst P (sym (p ∙ ap Err q)) f
+-- ---- what a call leaves, clause by clause
 
-pub unopened : (file : List ℕ) (ppem : ℕ) (name chars : List ℕ) (hinting : Bool) (r : Result Survey Refusal) (e d : Refusal)
-    → r ≡ Err e → e ≡ d
-    → Err d ≡ opened_of file ppem name chars → IsCause d → Surveys (plan_of file ppem name chars hinting) r
-unopened file ppem name chars hinting r e d p q h c =
-    surveys_err (plan_of file ppem name chars hinting) r e d p q
-    (fails_cause d (plan_of file ppem name chars hinting) c (plan_unopened file ppem name chars hinting d (sym h)))
+pub makes : {Y : Type 0} (checks : Result Y Refusal) (due : Result Plan Refusal) (change : Change) (r : Result Report Refusal)
+    → Leaves checks due change r → Makes checks due change r
+makes checks due change (Ok report) h = record {
+  text = h;
+  cause = tt;
+  memory = λ e. absurd (cc);
+  late = λ e. absurd (cc);
+  writer = λ n e. absurd (cc);
+}
+makes checks due change (Err OutOfMemory) h = record {
+  text = tt;
+  cause = λ e. absurd e;
+  memory = λ e. h.1;
+  late = λ e. h.0;
+  writer = λ n e. absurd (cc);
+}
+makes checks due change (Err (WriteFailed m)) h = record {
+  text = tt;
+  cause = λ e. absurd e;
+  memory = λ e. absurd (cc);
+  late = λ e. absurd (cc);
+  writer = λ n e.
+      let same : m ≡ n = cc in
+      let P : ℕ → Type 0 = λ k. Writer due change k in
+      subst P same h;
+}
+makes checks due change (Err d) h = record {
+  text = tt;
+  cause = λ e. h;
+  memory = λ e. absurd (cc);
+  late = λ e. absurd (cc);
+  writer = λ n e. absurd (cc);
+}
 
-pub opened : (file : List ℕ) (ppem : ℕ) (name chars : List ℕ) (hinting : Bool) (size : ℕ) (face : Face) (mapping : Mapping)
-    (r : Result Survey Refusal) → Ok (size, face, mapping) ≡ opened_of file ppem name chars
-    → Surveys (plan_in face mapping size name chars hinting) r → Surveys (plan_of file ppem name chars hinting) r
-opened file ppem name chars hinting size face mapping r h m =
-    let P : Result Plan Refusal → Type 0 = λ due. Surveys due r in
-    subst P (sym (plan_opened file ppem name chars hinting size face mapping (sym h))) m
+pub fails_makes : {Y : Type 0} (checks : Result Y Refusal) (due : Result Plan Refusal) (change : Change)
+    (r : Result Report Refusal) (e d : Refusal) → IsOk checks → Keeps change.bytes_before change.bytes
+    → change.faults ≡ change.faults_before → r ≡ Err e → e ≡ d → Fails d due → Makes checks due change r
+fails_makes checks due change r e d o k s p q f = makes checks due change r (not_surveyed checks due change r e d o k s p q f)
 
-pub unseen : (prelude : Prelude) (face : Face) (mapping : Mapping) (ppem : ℕ) (name chars codes : List ℕ)
-    (r : Result Survey Refusal) (e d : Refusal) → r ≡ Err e → e ≡ d
-    → codes ≡ rising chars → Fails d (sketches_of prelude.hinting face mapping ppem codes)
-    → Surveys (plan_after prelude face mapping ppem name chars) r
-unseen prelude face mapping ppem name chars codes r e d p q c f =
-    surveys_err (plan_after prelude face mapping ppem name chars) r e d p q
-    (fails_on d (sketches_of prelude.hinting face mapping ppem codes) (plan_after prelude face mapping ppem name chars)
-    (λ x g. plan_refused prelude face mapping ppem name chars x
-    (ap (sketches_of prelude.hinting face mapping ppem) (sym c) ∙ g)) f)
+pub cause_makes : {Y : Type 0} (checks : Result Y Refusal) (due : Result Plan Refusal) (change : Change)
+    (r : Result Report Refusal) (e d : Refusal) → IsCause d → Keeps change.bytes_before change.bytes
+    → change.faults ≡ change.faults_before → r ≡ Err e → e ≡ d → due ≡ Err d → Makes checks due change r
+cause_makes checks due change r e d c k s p q f =
+    makes checks due change r (leaves_err checks due change r e d p q (cause_leaves checks due change d c k s f))
 
--- a count goes on after what was counted before
-counted_on : (before after total : ℕ) → after ≡ counted total → counted (before + after) ≡ counted (before + total)
-counted_on before after total h = omega arith
+-- other checks passed
+checks_passed : {X Y : Type 0} (a : Result X Refusal) (b : Result Y Refusal) (due : Result Plan Refusal) (change : Change)
+    (r : Result Report Refusal) → IsOk b → Leaves a due change r → Leaves b due change r
+checks_passed a b due change (Ok report) o h = h
+checks_passed a b due change (Err OutOfMemory) o h = (o, h.1)
+checks_passed a b due change (Err (WriteFailed n)) o h = h
+checks_passed a b due change (Err d) o h = h
 
-surveyed_here : (hinting : Hinting) (prelude : Ran) (face : Face) (mapping : Mapping) (ppem : ℕ) (name chars : List ℕ)
-    (seen : Seen)
-    → Holds hinting face mapping ppem (rising chars) seen
-    → Surveyed (plan_after (seen_prelude hinting prelude) face mapping ppem name chars) (survey_from prelude face ppem seen)
-surveyed_here hinting prelude face mapping ppem name chars seen g =
-    let heading : Box → ℕ → Header = λ b n. record {
-      ppem = ppem;
-      bounds = b;
-      ascent = pixels face.hhea.ascender ppem face.head.units_per_em;
-      descent = pixels (neg_ℤ face.hhea.descender) ppem face.head.units_per_em;
-      glyphs = n;
-    } in
-    record {
-      plan = whole_plan (seen_prelude hinting prelude) ppem name chars face mapping g.sketches;
-      glyphs = g.glyphs;
-      is = plan_whole (seen_prelude hinting prelude) face mapping ppem name chars g.sketches g.planned;
-      drawn = g.drawn;
-      header = ap (λ (b : Box). heading b seen.report.glyphs) g.bounds ∙
-          ap (λ (n : ℕ). heading (bounds_of (map (λ x. x.box) g.glyphs)) n) g.count;
-      told = record {
-        glyphs = g.count;
-        missing = g.missing;
-        strays = counted_on prelude.strays seen.report.strays (sum_by (λ s. s.strays) g.sketches) g.strays;
-        steps = counted_on prelude.steps seen.report.steps (sum_by (λ s. s.steps) g.sketches) g.steps;
-      };
-    }
-
-pub surveyed : (hinting : Hinting) (prelude : Ran) (face : Face) (mapping : Mapping) (ppem : ℕ) (name chars codes : List ℕ)
-    (seen : Seen) (survey : Survey)
-    → codes ≡ rising chars → Holds hinting face mapping ppem codes seen → survey ≡ survey_from prelude face ppem seen
-    → Surveyed (plan_after (seen_prelude hinting prelude) face mapping ppem name chars) survey
-surveyed hinting prelude face mapping ppem name chars codes seen survey c g e =
-    let P : List ℕ → Type 0 = λ xs. Holds hinting face mapping ppem xs seen in
-    let Q : Survey → Type 0 = λ s. Surveyed (plan_after (seen_prelude hinting prelude) face mapping ppem name chars) s in
-    subst Q (sym e) (surveyed_here hinting prelude face mapping ppem name chars seen (subst P c g))
-
--- ---- what a call leaves
-
-pub not_opened : (file : List ℕ) (ppem : ℕ) (name chars : List ℕ) (hinting : Bool) (old : Option (List ℕ)) (faults : ℕ)
-    (r : Result Report Refusal) (e d : Refusal) → r ≡ Err e → e ≡ d
-    → Err d ≡ opened_of file ppem name chars → IsCause d
-    → Leaves (opened_of file ppem name chars) (plan_of file ppem name chars hinting) old old faults faults r
-not_opened file ppem name chars hinting old faults r e d p q h c =
-    leaves_err (opened_of file ppem name chars) (plan_of file ppem name chars hinting) old old faults faults r e d p q
-    (cause_leaves (opened_of file ppem name chars) (plan_of file ppem name chars hinting) old old faults faults d c
-    (keeps_same old) refl (plan_unopened file ppem name chars hinting d (sym h)))
-
-pub once_opened : (file : List ℕ) (ppem : ℕ) (name chars : List ℕ) (hinting : Bool) (size : ℕ) (face : Face) (mapping : Mapping)
-    (old new : Option (List ℕ)) (faults_before faults_after : ℕ) (r : Result Report Refusal)
-    → Ok (size, face, mapping) ≡ opened_of file ppem name chars
-    → Leaves (Ok (size, face, mapping)) (plan_in face mapping size name chars hinting) old new faults_before faults_after r
-    → Leaves (opened_of file ppem name chars) (plan_of file ppem name chars hinting) old new faults_before faults_after r
-once_opened file ppem name chars hinting size face mapping old new faults_before faults_after r h m =
-    let P : Result Plan Refusal → Type 0 = λ due. Leaves (Ok (size, face, mapping)) due old new faults_before faults_after r in
-    let Q : Opening → Type 0 = λ o. Leaves o (plan_of file ppem name chars hinting) old new faults_before faults_after r in
-    subst Q h (subst P (sym (plan_opened file ppem name chars hinting size face mapping (sym h))) m)
-
-pub not_surveyed : (opening : Opening) (due : Result Plan Refusal) (old : Option (List ℕ)) (faults : ℕ) (r : Result Report Refusal)
-    (e d : Refusal) → IsOk opening → r ≡ Err e → e ≡ d → Fails d due → Leaves opening due old old faults faults r
-not_surveyed opening due old faults r e d o p q f =
-    leaves_err opening due old old faults faults r e d p q
-    (fails_leaves opening due old old faults faults d o (keeps_same old) refl f)
+-- what was left once they passed, and the strike is the one that is due
+pub leaves_makes : {X Y : Type 0} (a : Result X Refusal) (b : Result Y Refusal) (here due : Result Plan Refusal) (change : Change)
+    (r : Result Report Refusal) → IsOk b → due ≡ here → Leaves a here change r → Makes b due change r
+leaves_makes a b here due change r o e h =
+    let P : Result Plan Refusal → Type 0 = λ x. Leaves a x change r in
+    makes b due change r (checks_passed a b due change r o (subst P (sym e) h))
 
 -- ---- lemmas for answers
 

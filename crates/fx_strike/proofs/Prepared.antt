@@ -1,105 +1,134 @@
--- From what is due once a font's programs ran to what is due for an opened font, which includes them.
--- Serves `write_opened`, `survey_opened` and `one_in`.
-use Rattle.std.proofs.Common.{◌≡◌, refl, sym, ap, ◌∙◌, subst, ℕ, Bool, List, Option, Result, Ok, Err}
-use Rattle.std.specs.Prelude.{IsOk}
-use Rattle.fx_sfnt.specs.Tables.{Face}
-use Rattle.fx_cmap.specs.declared.mapping.Mapping.{Mapping}
-use Rattle.fx_machine.specs.declared.ran.Ran.{Ran}
-use Rattle.fx_hint.specs.Hinting.{Hinting}
+-- What is due once a font opened, its programs ran and the checks passed is what is due before.
+-- Serves `make_strike_with`, `survey_inner`, `one_inner`, `open_inner` and the calls of `Striker`.
+use Rattle.std.proofs.Common.{◌≡◌, refl, sym, ap, ◌∙◌, subst, ℕ, Bool, List, [], ◌∷◌, Option, Result, Ok, Err}
+use Rattle.std.specs.Prelude.{IsOk, IfOk, IfErr}
+use Rattle.fx_fixed.specs.Chain.{GivesUnless}
 use Rattle.fx_bdf.specs.Glyphs.{Glyph}
 use Rattle.fx_request.specs.declared.refusal.Refusal.{Refusal}
-use Rattle.fx_request.specs.declared.request.Report.{Report}
-use Rattle.fx_strike.specs.declared.surveyed.Survey.{Survey}
+use Rattle.fx_strike.specs.declared.opened.Opened.{Opened}
 use Rattle.fx_strike.specs.Faults.{Fails}
-use Rattle.fx_strike.specs.Strike.{Sketch, Prelude, Opening, Plan, prelude_for, plan_after, plan_in, one_after, one_in}
-use Rattle.fx_strike.specs.Headline.{Leaves}
+use Rattle.fx_strike.specs.Strike.{Sketch, Setting, opened_of, opened_one_of, opened_at, setting_in, setting_of}
+use Rattle.fx_strike.specs.Strike.{checked_chars, checked_text}
+use Rattle.fx_strike.specs.Strike.{plan_with, plan_in, plan_of, one_with, one_in, one_of}
+use Rattle.fx_strike.specs.Headline.{IsOneOf, strike_with, nameless_with, character_with}
 use Rattle.fx_strike.specs.inner.Drawing.{Finds}
-use Rattle.fx_strike.specs.inner.Surveying.{Surveys, seen_prelude}
 use Rattle.fx_strike.proofs.Sketching.{fails_on}
-use Rattle.fx_strike.proofs.Making.{not_surveyed, surveys_err}
+
+-- what passed
+pub is_ok : {A : Type 0} (a : Result A Refusal) (x : A) → Ok x ≡ a → IsOk a
+is_ok {A} a x h = let P : Result A Refusal → Type 0 = λ r. IsOk r in subst P h refl
 
 -- ---- a strike
 
-plan_prepared : (face : Face) (mapping : Mapping) (ppem : ℕ) (name chars : List ℕ) (hinting : Bool) (prelude : Prelude)
-    → prelude_for face ppem hinting ≡ Ok prelude
-    → plan_in face mapping ppem name chars hinting ≡ plan_after prelude face mapping ppem name chars
-unfolding plan_in
-plan_prepared face mapping ppem name chars hinting prelude h = rw h
+pub plan_unopened : (file : List ℕ) (ppem : ℕ) (name chars : List ℕ) (hinting : Bool) (d : Refusal)
+    → Err d ≡ opened_of file ppem name chars → plan_of file ppem name chars hinting ≡ Err d
+unfolding plan_of
+plan_unopened file ppem name chars hinting d h = rw (sym h) refl
 
-plan_fails : (face : Face) (mapping : Mapping) (ppem : ℕ) (name chars : List ℕ) (hinting : Bool) (d : Refusal)
-    → Fails d (prelude_for face ppem hinting) → Fails d (plan_in face mapping ppem name chars hinting)
-unfolding plan_in
-plan_fails face mapping ppem name chars hinting d f =
-    fails_on d (prelude_for face ppem hinting) (plan_in face mapping ppem name chars hinting) (λ e k. rw k refl) f
+pub plan_unset : (file : List ℕ) (ppem : ℕ) (name chars : List ℕ) (hinting : Bool) (o : Opened) (d : Refusal)
+    → Ok o ≡ opened_of file ppem name chars → Fails d (setting_in o hinting) → Fails d (plan_of file ppem name chars hinting)
+unfolding plan_in plan_of
+plan_unset file ppem name chars hinting o d h f =
+    fails_on d (setting_in o hinting) (plan_of file ppem name chars hinting) (λ e k. rw (sym h, k) refl) f
 
--- `ran` is what the code has for what was counted
-plan_counted : (face : Face) (mapping : Mapping) (ppem : ℕ) (name chars : List ℕ) (hinting : Bool) (hints : Hinting)
-    (counted ran : Ran)
-    → prelude_for face ppem hinting ≡ Ok (seen_prelude hints counted) → ran ≡ counted
-    → plan_after (seen_prelude hints ran) face mapping ppem name chars ≡ plan_in face mapping ppem name chars hinting
-plan_counted face mapping ppem name chars hinting hints counted ran h e =
-    ap (λ (x : Ran). plan_after (seen_prelude hints x) face mapping ppem name chars) e
-    ∙ sym (plan_prepared face mapping ppem name chars hinting (seen_prelude hints counted) h)
-
-pub leaves_prepared : (opening : Opening) (face : Face) (mapping : Mapping) (ppem : ℕ) (name chars : List ℕ) (hinting : Bool)
-    (hints : Hinting) (counted ran : Ran) (old new : Option (List ℕ)) (faults_before faults_after : ℕ) (r : Result Report Refusal)
-    → prelude_for face ppem hinting ≡ Ok (seen_prelude hints counted) → ran ≡ counted
-    → Leaves opening (plan_after (seen_prelude hints ran) face mapping ppem name chars) old new faults_before faults_after r
-    → Leaves opening (plan_in face mapping ppem name chars hinting) old new faults_before faults_after r
-leaves_prepared opening face mapping ppem name chars hinting hints counted ran old new faults_before faults_after r h e m =
-    let P : Result Plan Refusal → Type 0 = λ due. Leaves opening due old new faults_before faults_after r in
-    subst P (plan_counted face mapping ppem name chars hinting hints counted ran h e) m
-
-pub leaves_unprepared : (opening : Opening) (face : Face) (mapping : Mapping) (ppem : ℕ) (name chars : List ℕ) (hinting : Bool)
-    (old : Option (List ℕ)) (faults : ℕ) (r : Result Report Refusal) (e d : Refusal)
-    → IsOk opening → r ≡ Err e → e ≡ d → Fails d (prelude_for face ppem hinting)
-    → Leaves opening (plan_in face mapping ppem name chars hinting) old old faults faults r
-leaves_unprepared opening face mapping ppem name chars hinting old faults r e d o p q f =
-    not_surveyed opening (plan_in face mapping ppem name chars hinting) old faults r e d o p q
-    (plan_fails face mapping ppem name chars hinting d f)
-
--- ---- a survey
-
-pub surveys_prepared : (face : Face) (mapping : Mapping) (ppem : ℕ) (name chars : List ℕ) (hinting : Bool) (hints : Hinting)
-    (counted ran : Ran) (r : Result Survey Refusal)
-    → prelude_for face ppem hinting ≡ Ok (seen_prelude hints counted) → ran ≡ counted
-    → Surveys (plan_after (seen_prelude hints ran) face mapping ppem name chars) r
-    → Surveys (plan_in face mapping ppem name chars hinting) r
-surveys_prepared face mapping ppem name chars hinting hints counted ran r h e m =
-    let P : Result Plan Refusal → Type 0 = λ due. Surveys due r in
-    subst P (plan_counted face mapping ppem name chars hinting hints counted ran h e) m
-
-pub surveys_unprepared : (face : Face) (mapping : Mapping) (ppem : ℕ) (name chars : List ℕ) (hinting : Bool)
-    (r : Result Survey Refusal) (e d : Refusal)
-    → r ≡ Err e → e ≡ d → Fails d (prelude_for face ppem hinting) → Surveys (plan_in face mapping ppem name chars hinting) r
-surveys_unprepared face mapping ppem name chars hinting r e d p q f =
-    surveys_err (plan_in face mapping ppem name chars hinting) r e d p q (plan_fails face mapping ppem name chars hinting d f)
+pub plan_set : (file : List ℕ) (ppem : ℕ) (name chars : List ℕ) (hinting : Bool) (o : Opened) (s : Setting)
+    → Ok o ≡ opened_of file ppem name chars → setting_in o hinting ≡ Ok s
+    → plan_of file ppem name chars hinting ≡ plan_with s name chars
+unfolding plan_in plan_of
+plan_set file ppem name chars hinting o s h k = rw (sym h, k) refl
 
 -- ---- one character
 
-one_prepared : (face : Face) (mapping : Mapping) (ppem code : ℕ) (hinting : Bool) (prelude : Prelude)
-    → prelude_for face ppem hinting ≡ Ok prelude
-    → one_in face mapping ppem code hinting ≡ one_after prelude.hinting face mapping ppem code
-unfolding one_in
-one_prepared face mapping ppem code hinting prelude h = rw h
+pub one_unopened : (file : List ℕ) (ppem code : ℕ) (hinting : Bool) (d : Refusal)
+    → Err d ≡ opened_one_of file ppem code → one_of file ppem code hinting ≡ Err d
+unfolding one_of
+one_unopened file ppem code hinting d h = rw (sym h) refl
 
-one_fails : (face : Face) (mapping : Mapping) (ppem code : ℕ) (hinting : Bool) (d : Refusal)
-    → Fails d (prelude_for face ppem hinting) → Fails d (one_in face mapping ppem code hinting)
-unfolding one_in
-one_fails face mapping ppem code hinting d f =
-    fails_on d (prelude_for face ppem hinting) (one_in face mapping ppem code hinting) (λ e k. rw k refl) f
+pub one_unset : (file : List ℕ) (ppem code : ℕ) (hinting : Bool) (o : Opened) (d : Refusal)
+    → Ok o ≡ opened_one_of file ppem code → Fails d (setting_in o hinting) → Fails d (one_of file ppem code hinting)
+unfolding one_in one_of
+one_unset file ppem code hinting o d h f =
+    fails_on d (setting_in o hinting) (one_of file ppem code hinting) (λ e k. rw (sym h, k) refl) f
 
-pub finds_prepared : (face : Face) (mapping : Mapping) (ppem code : ℕ) (hinting : Bool) (prelude : Prelude)
-    (r : Result (Option Glyph) Refusal)
-    → prelude_for face ppem hinting ≡ Ok prelude → Finds (one_after prelude.hinting face mapping ppem code) r
-    → Finds (one_in face mapping ppem code hinting) r
-finds_prepared face mapping ppem code hinting prelude r h m =
-    let P : Result (Option Sketch) Refusal → Type 0 = λ due. Finds due r in
-    subst P (sym (one_prepared face mapping ppem code hinting prelude h)) m
+pub one_set : (file : List ℕ) (ppem code : ℕ) (hinting : Bool) (o : Opened) (s : Setting)
+    → Ok o ≡ opened_one_of file ppem code → setting_in o hinting ≡ Ok s → one_of file ppem code hinting ≡ one_with s code
+unfolding one_in one_of
+one_set file ppem code hinting o s h k = rw (sym h, k) refl
 
-pub finds_unprepared : (face : Face) (mapping : Mapping) (ppem code : ℕ) (hinting : Bool) (r : Result (Option Glyph) Refusal)
-    (e d : Refusal)
-    → r ≡ Err e → e ≡ d → Fails d (prelude_for face ppem hinting) → Finds (one_in face mapping ppem code hinting) r
-finds_unprepared face mapping ppem code hinting r e d p q f =
-    let P : Result (Option Glyph) Refusal → Type 0 = λ s. Finds (one_in face mapping ppem code hinting) s in
-    subst P (sym (p ∙ ap Err q)) (one_fails face mapping ppem code hinting d f)
+pub finds_err : (due : Result (Option Sketch) Refusal) (r : Result (Option Glyph) Refusal) (e d : Refusal)
+    → r ≡ Err e → e ≡ d → Fails d due → Finds due r
+finds_err due r e d p q f =
+    let P : Result (Option Glyph) Refusal → Type 0 = λ s. Finds due s in subst P (sym (p ∙ ap Err q)) f
+
+pub finds_ok : (due : Result (Option Sketch) Refusal) (r : Result (Option Glyph) Refusal) → Finds due r → IfOk r (IsOneOf due)
+finds_ok due (Ok glyph) h = h
+finds_ok due (Err d) h = tt
+
+pub finds_cause : (due : Result (Option Sketch) Refusal) (r : Result (Option Glyph) Refusal) → Finds due r
+    → IfErr r (λ d. Fails d due)
+finds_cause due (Ok glyph) h = tt
+finds_cause due (Err d) h = h
+
+pub finds_along : (here due : Result (Option Sketch) Refusal) (r : Result (Option Glyph) Refusal) → due ≡ here → Finds here r
+    → Finds due r
+finds_along here due r e h = let P : Result (Option Sketch) Refusal → Type 0 = λ x. Finds x r in subst P (sym e) h
+
+-- ---- a setting
+
+pub setting_unopened : (file : List ℕ) (ppem : ℕ) (hinting : Bool) (d : Refusal) → Err d ≡ opened_at file ppem
+    → setting_of file ppem hinting ≡ Err d
+unfolding setting_of
+setting_unopened file ppem hinting d h = rw (sym h) refl
+
+pub setting_opened : (file : List ℕ) (ppem : ℕ) (hinting : Bool) (o : Opened) → Ok o ≡ opened_at file ppem
+    → setting_of file ppem hinting ≡ setting_in o hinting
+unfolding setting_of
+setting_opened file ppem hinting o h = rw (sym h) refl
+
+pub gives_err : (due : Result Setting Refusal) (r : Result Setting Refusal) (e d : Refusal) → r ≡ Err e → e ≡ d → Fails d due
+    → GivesUnless Fails (λ s. s) r due
+gives_err due r e d p q f =
+    let P : Result Setting Refusal → Type 0 = λ s. GivesUnless Fails (λ s. s) s due in subst P (sym (p ∙ ap Err q)) f
+
+pub gives_along : (here due : Result Setting Refusal) (r : Result Setting Refusal) → due ≡ here
+    → GivesUnless Fails (λ s. s) r here → GivesUnless Fails (λ s. s) r due
+gives_along here due r e h =
+    let P : Result Setting Refusal → Type 0 = λ x. GivesUnless Fails (λ s. s) r x in subst P (sym e) h
+
+-- ---- by a striker
+
+-- a refusal by its cause
+pub refused_so : {A B : Type 0} (due : Result B Refusal) (r : Result A Refusal) (e d : Refusal) → r ≡ Err e → e ≡ d → Fails d due
+    → IfErr r (λ x. Fails x due)
+refused_so {A} due r e d p q f =
+    let P : Result A Refusal → Type 0 = λ s. IfErr s (λ x. Fails x due) in subst P (sym (p ∙ ap Err q)) f
+
+pub character_unchecked : (setting : Setting) (code : ℕ) (d : Refusal) → Err d ≡ checked_chars (code ∷ [])
+    → character_with setting code ≡ Err d
+unfolding character_with
+character_unchecked setting code d h = rw (sym h) refl
+
+pub character_checked : (setting : Setting) (code : ℕ) → Ok tt ≡ checked_chars (code ∷ [])
+    → character_with setting code ≡ one_with setting code
+unfolding character_with
+character_checked setting code h = rw (sym h) refl
+
+pub nameless_unchecked : (setting : Setting) (chars : List ℕ) (d : Refusal) → Err d ≡ checked_chars chars
+    → nameless_with setting chars ≡ Err d
+unfolding nameless_with
+nameless_unchecked setting chars d h = rw (sym h) refl
+
+pub nameless_checked : (setting : Setting) (chars : List ℕ) → Ok tt ≡ checked_chars chars
+    → nameless_with setting chars ≡ plan_with setting [] chars
+unfolding nameless_with
+nameless_checked setting chars h = rw (sym h) refl
+
+pub strike_unchecked : (setting : Setting) (name chars : List ℕ) (d : Refusal) → Err d ≡ checked_text name chars
+    → strike_with setting name chars ≡ Err d
+unfolding strike_with
+strike_unchecked setting name chars d h = rw (sym h) refl
+
+pub strike_checked : (setting : Setting) (name chars : List ℕ) → Ok tt ≡ checked_text name chars
+    → strike_with setting name chars ≡ plan_with setting name chars
+unfolding strike_with
+strike_checked setting name chars h = rw (sym h) refl

@@ -10,16 +10,13 @@ use Rattle.std.proofs.lemmas.List.Elements.{filter-append}
 use Rattle.std.proofs.lemmas.List.Sums.{fold-append, sum_by-append}
 use Rattle.fx_fixed.specs.Chain.{◌>>=◌, map_chain}
 use Rattle.fx_fixed.proofs.Chain.{bind_ok}
-use Rattle.fx_sfnt.specs.Tables.{Face}
 use Rattle.fx_cmap.specs.Lookup.{glyph_for}
-use Rattle.fx_cmap.specs.declared.mapping.Mapping.{Mapping}
-use Rattle.fx_hint.specs.Hinting.{Hinting}
 use Rattle.fx_bdf.specs.Glyphs.{Glyph, Box, IsPlaced, no_box, joined, bounds_of}
 use Rattle.fx_request.specs.declared.refusal.Refusal.{Refusal}
 use Rattle.fx_strike.specs.declared.seen.Seen.{Seen}
 use Rattle.fx_strike.specs.Faults.{Fails}
 use Rattle.fx_request.specs.Limits.{max_code}
-use Rattle.fx_strike.specs.Strike.{Sketch, IsGlyphOf, AreGlyphsOf, glyph_sketch_of, sketch_of, is_missing, sketches_of}
+use Rattle.fx_strike.specs.Strike.{Sketch, Setting, IsGlyphOf, AreGlyphsOf, glyph_sketch_of, sketch_of, is_missing, sketches_of}
 use Rattle.fx_strike.specs.Headline.{counted}
 use Rattle.fx_strike.specs.inner.Surveying.{IsEmpty, Has, Holds, Sees}
 use Rattle.fx_strike.proofs.Sketching.{fails_on}
@@ -73,12 +70,12 @@ chain_refused f (z ∷ zs) x ys made e h g =
 
 -- ---- one code point more
 
-kept : (mapping : Mapping) (c : ℕ) → is_missing mapping c ≡ false → (codes rest : List ℕ)
-    → filter (λ d. not (is_missing mapping d)) (codes ++ c ∷ rest) ≡ filter (λ d. not (is_missing mapping d)) codes ++ c ∷
-    filter (λ d. not (is_missing mapping d)) rest
-kept mapping c h codes rest = filter-append (λ d. not (is_missing mapping d)) codes (c ∷ rest) ∙
-    ap (λ (xs : List ℕ). filter (λ d. not (is_missing mapping d)) codes ++ xs)
-    (first (is_missing mapping c) h (filter (λ d. not (is_missing mapping d)) rest))
+kept : (setting : Setting) (c : ℕ) → is_missing setting c ≡ false → (codes rest : List ℕ)
+    → filter (λ d. not (is_missing setting d)) (codes ++ c ∷ rest) ≡ filter (λ d. not (is_missing setting d)) codes ++ c ∷
+    filter (λ d. not (is_missing setting d)) rest
+kept setting c h codes rest = filter-append (λ d. not (is_missing setting d)) codes (c ∷ rest) ∙
+    ap (λ (xs : List ℕ). filter (λ d. not (is_missing setting d)) codes ++ xs)
+    (first (is_missing setting c) h (filter (λ d. not (is_missing setting d)) rest))
   where
     first : (b : Bool) → b ≡ false → (xs : List ℕ) → cond (not b) (c ∷ xs) xs ≡ c ∷ xs
     first true h xs = absurd (cc)
@@ -111,9 +108,9 @@ sum_push f ss s total more new h k e =
         → new ≡ counted c
     by_sum a b c total more new p h k e = omega arith
 
-pub holds_none : (hinting : Hinting) (face : Face) (mapping : Mapping) (ppem : ℕ) (new : Seen) → IsEmpty new
-    → Holds hinting face mapping ppem [] new
-holds_none hinting face mapping ppem new h =
+pub holds_none : (setting : Setting) (new : Seen) → IsEmpty new
+    → Holds setting [] new
+holds_none setting new h =
     let P : Box → Type 0 = λ b. IsPlaced b in
     record {
       sketches = [];
@@ -130,23 +127,23 @@ holds_none hinting face mapping ppem new h =
       each = omega (arith, h.glyphs, h.missing);
     }
 
-holds_push : (hinting : Hinting) (face : Face) (mapping : Mapping) (ppem : ℕ) (codes : List ℕ) (c : ℕ) (old new : Seen)
+holds_push : (setting : Setting) (codes : List ℕ) (c : ℕ) (old new : Seen)
     (sketch : Sketch)
-    → Holds hinting face mapping ppem codes old → is_missing mapping c ≡ false
-    → sketch_of hinting face mapping ppem c ≡ Ok sketch
-    → Has sketch old new → Holds hinting face mapping ppem (codes ++ c ∷ []) new
-holds_push hinting face mapping ppem codes c old new sketch h m s a = record {
+    → Holds setting codes old → is_missing setting c ≡ false
+    → sketch_of setting c ≡ Ok sketch
+    → Has sketch old new → Holds setting (codes ++ c ∷ []) new
+holds_push setting codes c old new sketch h m s a = record {
   sketches = h.sketches ++ sketch ∷ [];
   glyphs = h.glyphs ++ a.glyph ∷ [];
-  planned = ap (map_chain (sketch_of hinting face mapping ppem)) (kept mapping c m codes []) ∙
-      chain_push (sketch_of hinting face mapping ppem)
-      (filter (λ x. not (is_missing mapping x)) codes) c h.sketches sketch h.planned s;
+  planned = ap (map_chain (sketch_of setting)) (kept setting c m codes []) ∙
+      chain_push (sketch_of setting)
+      (filter (λ x. not (is_missing setting x)) codes) c h.sketches sketch h.planned s;
   drawn = glyphs_push h.sketches h.glyphs sketch a.glyph h.drawn a.drawn;
   bounds = a.bounds ∙ ap (λ (b : Box). joined b a.glyph.box) h.bounds ∙ sym (bounds_push h.glyphs a.glyph);
   placed = a.placed;
   count = omega (arith, a.glyphs, h.count, length-append h.sketches (sketch ∷ []));
-  missing = a.missing ∙ h.missing ∙ sym (count_one (is_missing mapping) codes c 0 (ap (λ (b : Bool). cond b 1 0) m) ∙
-      (let z : count_by (is_missing mapping) codes + 0 ≡ count_by (is_missing mapping) codes = omega arith in z));
+  missing = a.missing ∙ h.missing ∙ sym (count_one (is_missing setting) codes c 0 (ap (λ (b : Bool). cond b 1 0) m) ∙
+      (let z : count_by (is_missing setting) codes + 0 ≡ count_by (is_missing setting) codes = omega arith in z));
   strays = sum_push (λ x. x.strays) h.sketches sketch old.report.strays sketch.strays new.report.strays h.strays refl a.strays;
   steps = sum_push (λ x. x.steps) h.sketches sketch old.report.steps sketch.steps new.report.steps h.steps refl a.steps;
   each = omega (arith, a.glyphs, a.missing, h.each, length-append codes (c ∷ []));
@@ -158,49 +155,49 @@ pub not_zero : (n : ℕ) → (n ≡ 0 → ⊥) → (n == 0) ≡ false
 not_zero zero h = absurd (h refl)
 not_zero (suc n) h = grind (arith, nat_tests)
 
-pub missing_is : (mapping : Mapping) (c glyph : ℕ) → glyph ≡ glyph_for mapping c → (b : Bool) → (glyph == 0) ≡ b
-    → is_missing mapping c ≡ b
-missing_is mapping c glyph e b h = ap (λ (g : ℕ). g == 0) (sym e) ∙ h
+pub missing_is : (setting : Setting) (c glyph : ℕ) → glyph ≡ glyph_for setting.map c → (b : Bool) → (glyph == 0) ≡ b
+    → is_missing setting c ≡ b
+missing_is setting c glyph e b h = ap (λ (g : ℕ). g == 0) (sym e) ∙ h
 
-pub same_sketch : (hinting : Hinting) (face : Face) (mapping : Mapping) (ppem c glyph : ℕ) → glyph ≡ glyph_for mapping c
-    → glyph_sketch_of hinting face ppem c glyph ≡ sketch_of hinting face mapping ppem c
-same_sketch hinting face mapping ppem c glyph e = ap (λ (g : ℕ). glyph_sketch_of hinting face ppem c g) e
+pub same_sketch : (setting : Setting) (c glyph : ℕ) → glyph ≡ glyph_for setting.map c
+    → glyph_sketch_of setting c glyph ≡ sketch_of setting c
+same_sketch setting c glyph e = ap (λ (g : ℕ). glyph_sketch_of setting c g) e
 
-pub seen_at : (hinting : Hinting) (face : Face) (mapping : Mapping) (ppem : ℕ) (codes : List ℕ) (i glyph : ℕ)
+pub seen_at : (setting : Setting) (codes : List ℕ) (i glyph : ℕ)
     (old new : Seen)
-    → i < length codes → Holds hinting face mapping ppem (take i codes) old → glyph ≡ glyph_for mapping (get_or codes i 0)
+    → i < length codes → Holds setting (take i codes) old → glyph ≡ glyph_for setting.map (get_or codes i 0)
     → (glyph ≡ 0 → ⊥)
-    → (sketch : Sketch) × (glyph_sketch_of hinting face ppem (get_or codes i 0) glyph ≡ Ok sketch) × Has sketch old new
-    → Holds hinting face mapping ppem (take (i + 1) codes) new
-seen_at hinting face mapping ppem codes i glyph old new l h e m d =
-    let P : List ℕ → Type 0 = λ xs. Holds hinting face mapping ppem xs new in
+    → (sketch : Sketch) × (glyph_sketch_of setting (get_or codes i 0) glyph ≡ Ok sketch) × Has sketch old new
+    → Holds setting (take (i + 1) codes) new
+seen_at setting codes i glyph old new l h e m d =
+    let P : List ℕ → Type 0 = λ xs. Holds setting xs new in
     subst P (sym (take_more codes i 0 l))
-    (holds_push hinting face mapping ppem (take i codes) (get_or codes i 0) old new d.0 h
-    (missing_is mapping (get_or codes i 0) glyph e false (not_zero glyph m))
-    (sym (same_sketch hinting face mapping ppem (get_or codes i 0) glyph e) ∙ d.1) d.2)
+    (holds_push setting (take i codes) (get_or codes i 0) old new d.0 h
+    (missing_is setting (get_or codes i 0) glyph e false (not_zero glyph m))
+    (sym (same_sketch setting (get_or codes i 0) glyph e) ∙ d.1) d.2)
 
-pub refused_at : (hinting : Hinting) (face : Face) (mapping : Mapping) (ppem : ℕ) (codes : List ℕ) (i glyph : ℕ)
+pub refused_at : (setting : Setting) (codes : List ℕ) (i glyph : ℕ)
     (old : Seen) (refusal : Refusal)
-    → i < length codes → Holds hinting face mapping ppem (take i codes) old → glyph ≡ glyph_for mapping (get_or codes i 0)
+    → i < length codes → Holds setting (take i codes) old → glyph ≡ glyph_for setting.map (get_or codes i 0)
     → (glyph ≡ 0 → ⊥)
-    → Fails refusal (glyph_sketch_of hinting face ppem (get_or codes i 0) glyph)
-    → Fails refusal (sketches_of hinting face mapping ppem codes)
-refused_at hinting face mapping ppem codes i glyph old refusal l h e m f =
-    fails_on refusal (glyph_sketch_of hinting face ppem (get_or codes i 0) glyph) (sketches_of hinting face mapping ppem codes)
+    → Fails refusal (glyph_sketch_of setting (get_or codes i 0) glyph)
+    → Fails refusal (sketches_of setting codes)
+refused_at setting codes i glyph old refusal l h e m f =
+    fails_on refusal (glyph_sketch_of setting (get_or codes i 0) glyph) (sketches_of setting codes)
     (λ d k.
-    ap (sketches_of hinting face mapping ppem) (sym (take-append-drop i codes) ∙ ap (λ (xs : List ℕ). take i codes ++ xs)
+    ap (sketches_of setting) (sym (take-append-drop i codes) ∙ ap (λ (xs : List ℕ). take i codes ++ xs)
     (drop_more codes i 0 l))
-    ∙ ap (map_chain (sketch_of hinting face mapping ppem))
-    (kept mapping (get_or codes i 0) (missing_is mapping (get_or codes i 0) glyph e false (not_zero glyph m)) (take i codes)
+    ∙ ap (map_chain (sketch_of setting))
+    (kept setting (get_or codes i 0) (missing_is setting (get_or codes i 0) glyph e false (not_zero glyph m)) (take i codes)
     (drop (i + 1) codes))
-    ∙ chain_refused (sketch_of hinting face mapping ppem) (filter (λ x. not (is_missing mapping x)) (take i codes))
+    ∙ chain_refused (sketch_of setting) (filter (λ x. not (is_missing setting x)) (take i codes))
     (get_or codes i 0)
-    (filter (λ x. not (is_missing mapping x)) (drop (i + 1) codes)) h.sketches d h.planned
-    (sym (same_sketch hinting face mapping ppem (get_or codes i 0) glyph e) ∙ k)) f
+    (filter (λ x. not (is_missing setting x)) (drop (i + 1) codes)) h.sketches d h.planned
+    (sym (same_sketch setting (get_or codes i 0) glyph e) ∙ k)) f
 
 -- what is passed on at the exit of a `?`
-pub sees_err : (hinting : Hinting) (face : Face) (mapping : Mapping) (ppem : ℕ) (codes : List ℕ) (r : Result Seen Refusal)
+pub sees_err : (setting : Setting) (codes : List ℕ) (r : Result Seen Refusal)
     (e d : Refusal)
-    → r ≡ Err e → e ≡ d → Fails d (sketches_of hinting face mapping ppem codes) → Sees hinting face mapping ppem codes r
-sees_err hinting face mapping ppem codes r e d p q f =
-    let P : Result Seen Refusal → Type 0 = λ s. Sees hinting face mapping ppem codes s in subst P (sym (p ∙ ap Err q)) f
+    → r ≡ Err e → e ≡ d → Fails d (sketches_of setting codes) → Sees setting codes r
+sees_err setting codes r e d p q f =
+    let P : Result Seen Refusal → Type 0 = λ s. Sees setting codes s in subst P (sym (p ∙ ap Err q)) f

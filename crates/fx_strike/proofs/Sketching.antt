@@ -7,14 +7,12 @@ use Rattle.std.proofs.lemmas.Int.{ints}
 use Rattle.fx_fixed.specs.Chain.{◌>>=◌, map_ok, map_fault}
 use Rattle.fx_fixed.specs.Numbers.{near_of}
 use Rattle.fx_fixed.proofs.Chain.{bind_ok, map_ok_ok, map_fault_ok}
-use Rattle.fx_sfnt.specs.Tables.{Face}
 use Rattle.fx_sfnt.specs.Glyphs.{metrics_of}
 use Rattle.fx_sfnt.specs.declared.records.Metrics.{Metrics}
 use Rattle.fx_sfnt.specs.declared.fault.FontFault.{FontFault}
 use Rattle.fx_sfnt.specs.declared.fault.FontFault.TheVariants.{NotTrueType, TableMissing, TableShort, BadHead, BadMaxp, BadLoca}
 use Rattle.fx_sfnt.specs.declared.fault.FontFault.TheVariants.{BadGlyphNumber}
-use Rattle.fx_hint.specs.Hinting.{Hinting}
-use Rattle.fx_hint.specs.Outlines.{OutlineView, view_of_outline, outline_with}
+use Rattle.fx_hint.specs.Outlines.{OutlineView, view_of_outline}
 use Rattle.fx_winding.specs.Winding.{Span}
 use Rattle.fx_winding.specs.Bitmaps.{Bits, bit_of}
 use Rattle.fx_contour.specs.declared.fault.ContourFault.{ContourFault}
@@ -25,7 +23,7 @@ use Rattle.fx_request.specs.declared.refusal.Refusal.{Refusal}
 use Rattle.fx_request.specs.declared.refusal.Refusal.TheVariants.{OutOfMemory, WriteFailed, ReadFailed, BadHex, InputTooLarge}
 use Rattle.fx_request.specs.Faults.{of_font}
 use Rattle.fx_strike.specs.Faults.{Fails, of_hint, of_contour}
-use Rattle.fx_strike.specs.Strike.{Sketch, IsGlyphOf, thousandths, glyph_sketch_of}
+use Rattle.fx_strike.specs.Strike.{Sketch, Setting, IsGlyphOf, thousandths, outline_in, sketch_from, glyph_sketch_of}
 use Rattle.fx_strike.specs.inner.Drawing.{HasBitsOf, IsSketchedOf, Sketches, Draws}
 use Rattle.fx_strike.specs.declared.sketched.Sketched.{Sketched}
 
@@ -55,48 +53,34 @@ tight_along box a b e h =
     }
 
 -- all checks passed: the sketch is there
-sketch_is : (hinting : Hinting) (face : Face) (ppem code glyph : ℕ) (drawing : OutlineView) (ss : List Span) (m : Metrics)
-    → map_fault of_hint (outline_with hinting face ppem glyph) ≡ Ok drawing
+sketch_is : (setting : Setting) (code glyph : ℕ) (drawing : OutlineView) (ss : List Span) (m : Metrics)
+    → map_fault of_hint (outline_in setting glyph) ≡ Ok drawing
     → map_fault (of_contour glyph) (drawn_of drawing.ends drawing.points) ≡ Ok ss
     → map_fault (of_contour glyph) (framed_of ss) ≡ Ok tt
-    → map_fault of_font (metrics_of face glyph) ≡ Ok m
-    → glyph_sketch_of hinting face ppem code glyph ≡ Ok (record {
-      code = code;
-      swidth = thousandths m.advance_width face.head.units_per_em;
-      dwidth = near_of drawing.advance (pos 64);
-      spans = ss;
-      strays = drawing.strays;
-      steps = drawing.steps;
-    })
+    → map_fault of_font (metrics_of setting.font glyph) ≡ Ok m
+    → glyph_sketch_of setting code glyph ≡ Ok (sketch_from setting code drawing ss m)
 unfolding glyph_sketch_of
-sketch_is hinting face ppem code glyph drawing ss m e1 e2 e3 e4 = rw (e1, e2, e3, e4)
+sketch_is setting code glyph drawing ss m e1 e2 e3 e4 = rw (e1, e2, e3, e4)
 
 -- the sketch of a glyph before its bits, by its spans and its metrics
-abbrev sketch_by : Face → ℕ → Sketched → List Span → Metrics → Sketch
-sketch_by face code made ss m = record {
-  code = code;
-  swidth = thousandths m.advance_width face.head.units_per_em;
-  dwidth = near_of made.outline.advance (pos 64);
-  spans = ss;
-  strays = made.outline.strays;
-  steps = made.outline.steps;
-}
+abbrev sketch_by : Setting → ℕ → Sketched → List Span → Metrics → Sketch
+sketch_by setting code made ss m = sketch_from setting code (view_of_outline made.outline) ss m
 
 -- all steps went well: the glyph before its bits is that of the sketch
-sketched_whole : (hinting : Hinting) (face : Face) (ppem code glyph : ℕ) (made : Sketched) (ss : List Span) (swidth : ℤ)
-    → map_fault of_hint (outline_with hinting face ppem glyph) ≡ Ok (view_of_outline made.outline)
+sketched_whole : (setting : Setting) (code glyph : ℕ) (made : Sketched) (ss : List Span) (swidth : ℤ)
+    → map_fault of_hint (outline_in setting glyph) ≡ Ok (view_of_outline made.outline)
     → drawn_of made.outline.ends.items made.outline.points.items ≡ Ok ss
     → framed_of ss ≡ Ok tt
-    → Ok swidth ≡ map_ok (λ (m : Metrics). thousandths m.advance_width face.head.units_per_em)
-    (map_fault of_font (metrics_of face glyph))
+    → Ok swidth ≡ map_ok (λ (m : Metrics). thousandths m.advance_width setting.font.head.units_per_em)
+    (map_fault of_font (metrics_of setting.font glyph))
     → made.swidth ≡ swidth
-    → (m : Metrics) × (glyph_sketch_of hinting face ppem code glyph ≡ Ok (sketch_by face code made ss m))
-    × IsSketchedOf (sketch_by face code made ss m) made
-sketched_whole hinting face ppem code glyph made ss swidth h1 h2 h3 h4 s =
-    let m = map_ok_ok (λ (m : Metrics). thousandths m.advance_width face.head.units_per_em)
-    (map_fault of_font (metrics_of face glyph)) swidth (sym h4) in (
+    → (m : Metrics) × (glyph_sketch_of setting code glyph ≡ Ok (sketch_by setting code made ss m))
+    × IsSketchedOf (sketch_by setting code made ss m) made
+sketched_whole setting code glyph made ss swidth h1 h2 h3 h4 s =
+    let m = map_ok_ok (λ (m : Metrics). thousandths m.advance_width setting.font.head.units_per_em)
+    (map_fault of_font (metrics_of setting.font glyph)) swidth (sym h4) in (
       m.0,
-      sketch_is hinting face ppem code glyph (view_of_outline made.outline) ss m.0 h1 (ap (map_fault (of_contour glyph)) h2)
+      sketch_is setting code glyph (view_of_outline made.outline) ss m.0 h1 (ap (map_fault (of_contour glyph)) h2)
           (ap (map_fault (of_contour glyph)) h3) m.1,
       record { spans = h2; small = h3; swidth = s ∙ sym m.2; dwidth = refl; strays = refl; steps = refl },
     )
@@ -114,18 +98,18 @@ drawn_whole due sketch made code (Ok g) h is e of m = (sketch, h, of sketch is e
 drawn_whole due sketch made code (Err e) h is k of m = memory_fails e due m
 
 -- the same where the checks of the spans and of the frame are one
-pub sketched_framed : (hinting : Hinting) (face : Face) (ppem code glyph : ℕ) (made : Sketched) (swidth : ℤ)
-    → map_fault of_hint (outline_with hinting face ppem glyph) ≡ Ok (view_of_outline made.outline)
+pub sketched_framed : (setting : Setting) (code glyph : ℕ) (made : Sketched) (swidth : ℤ)
+    → map_fault of_hint (outline_in setting glyph) ≡ Ok (view_of_outline made.outline)
     → map_fault (of_contour glyph) (drawn_of made.outline.ends.items made.outline.points.items >>= framed_of) ≡ Ok tt
-    → Ok swidth ≡ map_ok (λ (m : Metrics). thousandths m.advance_width face.head.units_per_em)
-    (map_fault of_font (metrics_of face glyph))
+    → Ok swidth ≡ map_ok (λ (m : Metrics). thousandths m.advance_width setting.font.head.units_per_em)
+    (map_fault of_font (metrics_of setting.font glyph))
     → made.swidth ≡ swidth
-    → (sketch : Sketch) × (glyph_sketch_of hinting face ppem code glyph ≡ Ok sketch) × IsSketchedOf sketch made
-sketched_framed hinting face ppem code glyph made swidth h1 h2 h4 s =
+    → (sketch : Sketch) × (glyph_sketch_of setting code glyph ≡ Ok sketch) × IsSketchedOf sketch made
+sketched_framed setting code glyph made swidth h1 h2 h4 s =
     let drawn : Result (List Span) ContourFault = drawn_of made.outline.ends.items made.outline.points.items in
     let p = bind_ok drawn framed_of tt (map_fault_ok (of_contour glyph) (drawn >>= framed_of) tt h2) in
-    let w = sketched_whole hinting face ppem code glyph made p.0 swidth h1 p.1 p.2 h4 s in
-    (sketch_by face code made p.0 w.0, w.1, w.2)
+    let w = sketched_whole setting code glyph made p.0 swidth h1 p.1 p.2 h4 s in
+    (sketch_by setting code made p.0 w.0, w.1, w.2)
 
 -- the glyph of a sketch, by its bits
 pub glyph_whole : (sketch : Sketch) (made : Sketched) (ss : List Span) (bits : Bits) (g : Glyph) (code code2 : ℕ)
@@ -163,11 +147,11 @@ fails_on InputTooLarge a b h f = f
 fails_on d a b h f = h d f
 
 -- no outline
-pub no_outline : (hinting : Hinting) (face : Face) (ppem code glyph : ℕ) (d : Refusal)
-    → Fails d (map_fault of_hint (outline_with hinting face ppem glyph)) → Fails d (glyph_sketch_of hinting face ppem code glyph)
+pub no_outline : (setting : Setting) (code glyph : ℕ) (d : Refusal)
+    → Fails d (map_fault of_hint (outline_in setting glyph)) → Fails d (glyph_sketch_of setting code glyph)
 unfolding glyph_sketch_of
-no_outline hinting face ppem code glyph d f =
-    fails_on d (map_fault of_hint (outline_with hinting face ppem glyph)) (glyph_sketch_of hinting face ppem code glyph)
+no_outline setting code glyph d f =
+    fails_on d (map_fault of_hint (outline_in setting glyph)) (glyph_sketch_of setting code glyph)
     (λ e k. rw k refl) f
 
 -- two checks whose faults are seen alike
@@ -177,14 +161,14 @@ both_checked view (Ok x) f g e h = rw h refl
 both_checked view (Err d) f g e h = let same : view d ≡ e = cc in ap Err same
 
 -- the outline lies too far out or is too large
-pub no_frame : (hinting : Hinting) (face : Face) (ppem code glyph : ℕ) (drawing : OutlineView) (d : Refusal)
-    → map_fault of_hint (outline_with hinting face ppem glyph) ≡ Ok drawing
+pub no_frame : (setting : Setting) (code glyph : ℕ) (drawing : OutlineView) (d : Refusal)
+    → map_fault of_hint (outline_in setting glyph) ≡ Ok drawing
     → Fails d (map_fault (of_contour glyph) (drawn_of drawing.ends drawing.points >>= framed_of))
-    → Fails d (glyph_sketch_of hinting face ppem code glyph)
+    → Fails d (glyph_sketch_of setting code glyph)
 unfolding glyph_sketch_of
-no_frame hinting face ppem code glyph drawing d h f =
+no_frame setting code glyph drawing d h f =
     fails_on d (map_fault (of_contour glyph) (drawn_of drawing.ends drawing.points >>= framed_of))
-    (glyph_sketch_of hinting face ppem code glyph)
+    (glyph_sketch_of setting code glyph)
     (λ e k. rw h (both_checked (of_contour glyph) (drawn_of drawing.ends drawing.points) framed_of _ e k)) f
 
 font_fails : {Y : Type 0} (f : FontFault) (due : Result Y Refusal) → due ≡ Err (of_font f) → Fails (of_font f) due
@@ -204,18 +188,18 @@ refused_metrics view (Err f) d due h g =
     let same : of_font f ≡ d = cc in subst P same (font_fails f due (g f refl))
 
 -- no advance
-pub no_advance : (hinting : Hinting) (face : Face) (ppem code glyph : ℕ) (drawing : OutlineView) (d : Refusal)
-    → map_fault of_hint (outline_with hinting face ppem glyph) ≡ Ok drawing
+pub no_advance : (setting : Setting) (code glyph : ℕ) (drawing : OutlineView) (d : Refusal)
+    → map_fault of_hint (outline_in setting glyph) ≡ Ok drawing
     → map_fault (of_contour glyph) (drawn_of drawing.ends drawing.points >>= framed_of) ≡ Ok tt
-    → Err d ≡ map_ok (λ (m : Metrics). thousandths m.advance_width face.head.units_per_em)
-    (map_fault of_font (metrics_of face glyph))
-    → Fails d (glyph_sketch_of hinting face ppem code glyph)
+    → Err d ≡ map_ok (λ (m : Metrics). thousandths m.advance_width setting.font.head.units_per_em)
+    (map_fault of_font (metrics_of setting.font glyph))
+    → Fails d (glyph_sketch_of setting code glyph)
 unfolding glyph_sketch_of
-no_advance hinting face ppem code glyph drawing d h1 h2 h3 =
+no_advance setting code glyph drawing d h1 h2 h3 =
     let drawn : Result (List Span) ContourFault = drawn_of drawing.ends drawing.points in
     let p = bind_ok drawn framed_of tt (map_fault_ok (of_contour glyph) (drawn >>= framed_of) tt h2) in
-    refused_metrics (λ (m : Metrics). thousandths m.advance_width face.head.units_per_em) (metrics_of face glyph) d
-    (glyph_sketch_of hinting face ppem code glyph) h3
+    refused_metrics (λ (m : Metrics). thousandths m.advance_width setting.font.head.units_per_em) (metrics_of setting.font glyph) d
+    (glyph_sketch_of setting code glyph) h3
     (λ f k. rw (h1, ap (map_fault (of_contour glyph)) p.1, ap (map_fault (of_contour glyph)) p.2, k) refl)
 
 -- what is passed on at the exit of a `?`

@@ -1,16 +1,19 @@
--- What a call that makes a strike returns and leaves. `old` and `new` are the writer's bytes before and after, if they are
--- known; `faults_before` and `faults_after` its faults.
-use Rattle.std.specs.Prelude.{◌≡◌, ℕ, ◌+◌, ◌^◌, ◌-◌, ◌<◌, min, List, length, take, Option, Some, None, Result, Ok, Err, IsOk, ◌⊎◌}
+-- What a call that makes a strike returns and leaves.
+use Rattle.std.specs.Prelude.{◌≡◌, ℕ, ◌+◌, ◌^◌, ◌-◌, ◌<◌, min, List, [], ◌∷◌, length, take, Option, Some, None}
+use Rattle.std.specs.Prelude.{Result, Ok, Err, IsOk, IfOk, IfErr, IsErrOf, ◌⊎◌}
 use Rattle.std.specs.Io.KnownBytes.{Appends, Keeps}
 use Rattle.std.specs.List.{sum_by}
 use Rattle.fx_bdf.specs.declared.header.Header.{Header}
 use Rattle.fx_bdf.specs.Glyphs.{Glyph}
+use Rattle.fx_fixed.specs.Chain.{◌>>=◌}
 use Rattle.fx_request.specs.declared.refusal.Refusal.{Refusal}
 use Rattle.fx_request.specs.declared.refusal.Refusal.TheVariants.{WriteFailed, ReadFailed, BadHex, InputTooLarge, OutOfMemory}
 use Rattle.fx_request.specs.declared.request.Report.{Report}
 use Rattle.fx_request.specs.declared.request.Request.{Request}
 use Rattle.fx_strike.specs.declared.surveyed.Survey.{Survey}
-use Rattle.fx_strike.specs.Strike.{Sketch, Opening, Plan, IsGlyphOf, AreGlyphsOf, header_of, opened_of, plan_of, strike_text}
+use Rattle.fx_fixed.specs.Changes.{Change}
+use Rattle.fx_strike.specs.Strike.{Sketch, Opening, Setting, Plan, IsGlyphOf, AreGlyphsOf, header_of, checked_chars, checked_text}
+use Rattle.fx_strike.specs.Strike.{opened_of, one_with, plan_with, plan_of, strike_text}
 
 -- the requested strike of a font file, or the first cause why there is none
 abbrev pub strike_of : List ℕ → Request → Result Plan Refusal
@@ -32,14 +35,13 @@ pub record IsReportOf (plan : Plan) (report : Report) : Type 0 where
   pub steps : report.steps ≡ counted (plan.steps + sum_by (λ s. s.steps) plan.sketches)
 
 -- the strike exists, its text was written, and the writer counted no fault
-pub record Text (strike : Result Plan Refusal) (old new : Option (List ℕ)) (faults_before faults_after : ℕ) (report : Report)
-    : Type 0 where
+pub record Text (strike : Result Plan Refusal) (change : Change) (report : Report) : Type 0 where
   pub plan : Plan
   pub glyphs : List Glyph
   pub is : strike ≡ Ok plan
   pub drawn : AreGlyphsOf plan.sketches glyphs
-  pub written : Appends old new (strike_text plan glyphs)
-  pub quiet : faults_after ≡ faults_before
+  pub written : Appends change.bytes_before change.bytes (strike_text plan glyphs)
+  pub quiet : change.faults ≡ change.faults_before
   pub told : IsReportOf plan report
 
 -- a refusal that names a cause: neither out of memory nor a fault of the writer, the reader or the input
@@ -52,35 +54,34 @@ IsCause InputTooLarge = ⊥
 IsCause _ = Unit {0}
 
 -- the first cause was named, nothing was written, and the writer counted no fault
-pub record Cause (strike : Result Plan Refusal) (old new : Option (List ℕ)) (faults_before faults_after : ℕ)
-    (refusal : Refusal) : Type 0 where
+pub record Cause (strike : Result Plan Refusal) (change : Change) (refusal : Refusal) : Type 0 where
   pub cause : IsCause refusal
   pub first : strike ≡ Err refusal
-  pub kept : Keeps old new
-  pub quiet : faults_after ≡ faults_before
+  pub kept : Keeps change.bytes_before change.bytes
+  pub quiet : change.faults ≡ change.faults_before
 
 -- the strike exists, and exactly a beginning of n bytes of its text was written
-pub record Begun (strike : Result Plan Refusal) (old new : Option (List ℕ)) (n : ℕ) : Type 0 where
+pub record Begun (strike : Result Plan Refusal) (change : Change) (n : ℕ) : Type 0 where
   pub plan : Plan
   pub glyphs : List Glyph
   pub is : strike ≡ Ok plan
   pub drawn : AreGlyphsOf plan.sketches glyphs
   pub short : n < length (strike_text plan glyphs)
-  pub written : Appends old new (take n (strike_text plan glyphs))
+  pub written : Appends change.bytes_before change.bytes (take n (strike_text plan glyphs))
 
 -- out of memory: nothing was written, or the strike exists and a beginning of its text was written; the writer counted no fault
-pub record Memory (strike : Result Plan Refusal) (old new : Option (List ℕ)) (faults_before faults_after : ℕ) : Type 0 where
-  pub begun : Keeps old new ⊎ ((n : ℕ) × Begun strike old new n)
-  pub quiet : faults_after ≡ faults_before
+pub record Memory (strike : Result Plan Refusal) (change : Change) : Type 0 where
+  pub begun : Keeps change.bytes_before change.bytes ⊎ ((n : ℕ) × Begun strike change n)
+  pub quiet : change.faults ≡ change.faults_before
 
--- memory is taken late: after a request passed its checks, and its font and character map opened
-abbrev pub Late : Opening → Type 0
-Late opening = IsOk opening
+-- memory is taken late: after the checks passed that take none
+abbrev pub Late : {Y : Type 0} → Result Y Refusal → Type 0
+Late checks = IsOk checks
 
 -- the writer failed: the strike exists, exactly the first n bytes of its text were written, and the writer counted one fault
-pub record Writer (strike : Result Plan Refusal) (old new : Option (List ℕ)) (faults_before faults_after n : ℕ) : Type 0 where
-  pub begun : Begun strike old new n
-  pub fault : faults_after ≡ faults_before + 1
+pub record Writer (strike : Result Plan Refusal) (change : Change) (n : ℕ) : Type 0 where
+  pub begun : Begun strike change n
+  pub fault : change.faults ≡ change.faults_before + 1
 
 -- each refusal must name a cause, except out of memory and a fault of the writer
 abbrev pub HasToName : Refusal → Type 0
@@ -88,14 +89,26 @@ HasToName OutOfMemory = ⊥
 HasToName (WriteFailed n) = ⊥
 HasToName _ = Unit {0}
 
+-- a call that makes a strike: what it returns, and the change of its writer; `checks` are those before it takes memory
+pub record Makes {Y : Type 0} (checks : Result Y Refusal) (strike : Result Plan Refusal) (change : Change)
+    (result : Result Report Refusal) : Type 0 where
+  -- the strike exists, its text was written, and the writer counted no fault
+  pub text : IfOk result (Text strike change)
+  -- the first cause was named, nothing was written, and the writer counted no fault
+  pub cause : IfErr result (λ refusal. HasToName refusal → Cause strike change refusal)
+  -- nothing was written, or the strike exists and a beginning of its text was written; and the writer counted no fault
+  pub memory : IsErrOf result OutOfMemory → Memory strike change
+  -- the checks passed
+  pub late : IsErrOf result OutOfMemory → Late checks
+  -- the strike exists, exactly the first n bytes of its text were written, and the writer counted one fault
+  pub writer : (n : ℕ) → IsErrOf result (WriteFailed n) → Writer strike change n
+
 -- all of it, by the result
-abbrev pub Leaves : Opening → Result Plan Refusal → Option (List ℕ) → Option (List ℕ) → ℕ → ℕ → Result Report Refusal
-    → Type 0
-Leaves opening strike old new faults_before faults_after (Ok report) = Text strike old new faults_before faults_after report
-Leaves opening strike old new faults_before faults_after (Err OutOfMemory) =
-    Late opening × Memory strike old new faults_before faults_after
-Leaves opening strike old new faults_before faults_after (Err (WriteFailed n)) = Writer strike old new faults_before faults_after n
-Leaves opening strike old new faults_before faults_after (Err refusal) = Cause strike old new faults_before faults_after refusal
+abbrev pub Leaves : {Y : Type 0} → Result Y Refusal → Result Plan Refusal → Change → Result Report Refusal → Type 0
+Leaves checks strike change (Ok report) = Text strike change report
+Leaves checks strike change (Err OutOfMemory) = Late checks × Memory strike change
+Leaves checks strike change (Err (WriteFailed n)) = Writer strike change n
+Leaves checks strike change (Err refusal) = Cause strike change refusal
 
 -- ---- a survey
 
@@ -106,13 +119,8 @@ surveyed_header ppem survey = record {
   bounds = survey.bounds;
   ascent = survey.ascent;
   descent = survey.descent;
-  glyphs = survey.glyphs;
+  glyphs = survey.report.glyphs;
 }
-
--- what is counted over a strike, as a survey has it
-abbrev pub surveyed_report : Survey → Report
-surveyed_report survey =
-    record { glyphs = survey.glyphs; missing = survey.missing; strays = survey.strays; steps = survey.steps }
 
 -- the strike exists, and these are the numbers of its header, and what is counted over it
 pub record Surveyed (strike : Result Plan Refusal) (survey : Survey) : Type 0 where
@@ -121,7 +129,7 @@ pub record Surveyed (strike : Result Plan Refusal) (survey : Survey) : Type 0 wh
   pub is : strike ≡ Ok plan
   pub drawn : AreGlyphsOf plan.sketches glyphs
   pub header : surveyed_header plan.ppem survey ≡ header_of plan glyphs
-  pub told : IsReportOf plan (surveyed_report survey)
+  pub told : IsReportOf plan survey.report
 
 -- ---- one character
 
@@ -129,3 +137,23 @@ pub record Surveyed (strike : Result Plan Refusal) (survey : Survey) : Type 0 wh
 abbrev pub IsOneOf : Result (Option Sketch) Refusal → Option Glyph → Type 0
 IsOneOf due None = due ≡ Ok None
 IsOneOf due (Some glyph) = (sketch : Sketch) × (due ≡ Ok (Some sketch)) × IsGlyphOf sketch glyph
+
+-- ---- with a striker
+
+-- the strike of a name and characters, or the first cause why there is none
+unfoldable pub strike_with : Setting → List ℕ → List ℕ → Result Plan Refusal
+strike_with setting name chars = do
+  _ ← checked_text name chars
+  plan_with setting name chars
+
+-- that of characters, whatever its name
+unfoldable pub nameless_with : Setting → List ℕ → Result Plan Refusal
+nameless_with setting chars = do
+  _ ← checked_chars chars
+  plan_with setting [] chars
+
+-- the sketch of a code point, none if the font lacks it; or the first cause
+unfoldable pub character_with : Setting → ℕ → Result (Option Sketch) Refusal
+character_with setting code = do
+  _ ← checked_chars (code ∷ [])
+  one_with setting code

@@ -1,6 +1,5 @@
--- The programs of a font, and what a call that lists one leaves. `old` and `new` are the writer's bytes before and after, if
--- they are known; `faults_before` and `faults_after` its faults.
-use Rattle.std.specs.Prelude.{◌≡◌, ℕ, ◌+◌, ◌<◌, List, [], codes, length, take, Option, Result, Ok, Err}
+-- The programs of a font, and what a call that lists one leaves.
+use Rattle.std.specs.Prelude.{◌≡◌, ℕ, ◌+◌, ◌<◌, List, [], codes, length, take, Result, Ok, Err}
 use Rattle.std.specs.Io.KnownBytes.{Appends, Keeps}
 use Rattle.fx_fixed.specs.Chain.{◌>>=◌, map_fault}
 use Rattle.fx_sfnt.specs.Tables.{Face, font_of, table_or_empty}
@@ -14,6 +13,7 @@ use Rattle.fx_request.specs.declared.which.Which.TheVariants as which
 use Rattle.fx_request.specs.declared.refusal.Refusal.{Refusal}
 use Rattle.fx_request.specs.declared.refusal.Refusal.TheVariants.{WriteFailed}
 use Rattle.fx_request.specs.Faults.{of_font, of_glyph}
+use Rattle.fx_fixed.specs.Changes.{Change}
 
 -- ---- programs
 
@@ -41,27 +41,25 @@ program_of file what = do
 -- ---- their listing
 
 -- the program exists, its listing was written, and the writer counted no fault
-pub record IsListed (program : Result (List ℕ) Refusal) (old new : Option (List ℕ)) (faults_before faults_after : ℕ) : Type 0 where
+pub record IsListed (program : Result (List ℕ) Refusal) (change : Change) : Type 0 where
   pub code : List ℕ
   pub is : program ≡ Ok code
-  pub written : Appends old new (listing_text code)
-  pub quiet : faults_after ≡ faults_before
+  pub written : Appends change.bytes_before change.bytes (listing_text code)
+  pub quiet : change.faults ≡ change.faults_before
 
 -- the first cause was named, nothing was written, and the writer counted no fault
-pub record IsNotListed (program : Result (List ℕ) Refusal) (old new : Option (List ℕ)) (faults_before faults_after : ℕ)
-    (refusal : Refusal) : Type 0 where
+pub record IsNotListed (program : Result (List ℕ) Refusal) (change : Change) (refusal : Refusal) : Type 0 where
   pub first : program ≡ Err refusal
-  pub kept : Keeps old new
-  pub quiet : faults_after ≡ faults_before
+  pub kept : Keeps change.bytes_before change.bytes
+  pub quiet : change.faults ≡ change.faults_before
 
 -- the writer failed: the program exists, exactly the first n bytes of its listing were written, and the writer counted one fault
-pub record IsListedTo (program : Result (List ℕ) Refusal) (old new : Option (List ℕ)) (faults_before faults_after n : ℕ) : Type 0
-  where
-    pub code : List ℕ
-    pub is : program ≡ Ok code
-    pub short : n < length (listing_text code)
-    pub written : Appends old new (take n (listing_text code))
-    pub fault : faults_after ≡ faults_before + 1
+pub record IsListedTo (program : Result (List ℕ) Refusal) (change : Change) (n : ℕ) : Type 0 where
+  pub code : List ℕ
+  pub is : program ≡ Ok code
+  pub short : n < length (listing_text code)
+  pub written : Appends change.bytes_before change.bytes (take n (listing_text code))
+  pub fault : change.faults ≡ change.faults_before + 1
 
 -- a refusal other than a fault of the writer
 abbrev pub IsNoFault : Refusal → Type 0
@@ -69,8 +67,7 @@ IsNoFault (WriteFailed n) = ⊥
 IsNoFault _ = Unit {0}
 
 -- all of it, by the result
-abbrev pub Lists : Result (List ℕ) Refusal → Option (List ℕ) → Option (List ℕ) → ℕ → ℕ → Result (Unit {0}) Refusal
-    → Type 0
-Lists program old new faults_before faults_after (Ok _) = IsListed program old new faults_before faults_after
-Lists program old new faults_before faults_after (Err (WriteFailed n)) = IsListedTo program old new faults_before faults_after n
-Lists program old new faults_before faults_after (Err refusal) = IsNotListed program old new faults_before faults_after refusal
+abbrev pub Lists : Result (List ℕ) Refusal → Change → Result (Unit {0}) Refusal → Type 0
+Lists program change (Ok _) = IsListed program change
+Lists program change (Err (WriteFailed n)) = IsListedTo program change n
+Lists program change (Err refusal) = IsNotListed program change refusal

@@ -7,12 +7,15 @@ use Rattle.fx_fixed.specs.Numbers.{near_of}
 use Rattle.fx_fixed.specs.Sizes.{ppem_of}
 use Rattle.fx_sfnt.specs.Tables.{Face, font_of}
 use Rattle.fx_sfnt.specs.Glyphs.{metrics_of}
+use Rattle.fx_sfnt.specs.declared.records.Metrics.{Metrics}
 use Rattle.fx_cmap.specs.Lookup.{map_of_file, glyph_for}
 use Rattle.fx_cmap.specs.declared.mapping.Mapping.{Mapping}
 use Rattle.fx_machine.specs.Known.{Known, machine_of}
+use Rattle.fx_machine.specs.declared.ran.Ran.{Ran}
 use Rattle.fx_hint.specs.Hinting.{Hinting, no_hinting}
 use Rattle.fx_hint.specs.Programmed.{hinting_of}
-use Rattle.fx_hint.specs.Outlines.{outline_with}
+use Rattle.fx_hint.specs.declared.fault.HintFault.{HintFault}
+use Rattle.fx_hint.specs.Outlines.{OutlineView, outline_with}
 use Rattle.fx_winding.specs.Winding.{Span, IsCovered, centre}
 use Rattle.fx_contour.specs.Contours.{drawn_of}
 use Rattle.fx_contour.specs.Frames.{framed_of}
@@ -22,32 +25,45 @@ use Rattle.fx_bdf.specs.Text.{is_name, header_text, glyph_text, end_text}
 use Rattle.fx_request.specs.declared.refusal.Refusal.{Refusal}
 use Rattle.fx_request.specs.declared.refusal.Refusal.TheVariants.{BadSize, BadChars, BadName}
 use Rattle.fx_request.specs.Faults.{of_font, of_char_map, of_machine}
+use Rattle.fx_strike.specs.declared.opened.Opened.{Opened}
 use Rattle.fx_strike.specs.Faults.{of_hint, of_contour}
 use Rattle.fx_request.specs.Characters.{rising}
 use Rattle.fx_request.specs.Limits.{max_characters, max_code}
 
--- ---- what runs before the first character
+-- ---- a font at a size
 
--- what hinting makes of each glyph, and what `fpgm` and `prep` counted
-pub record Prelude : Type 0 where
-  pub hinting : Hinting
-  pub steps : ℕ
-  pub strays : ℕ
+-- with hinting on the machine of a font at a size, in which `fpgm` ran, then `prep`; or the first halt. With hinting off none
+unfoldable pub machine_for : Face → ℕ → Bool → Result (Option Known) Refusal
+machine_for face ppem false = Ok None
+machine_for face ppem true = map_ok Some (map_fault of_machine (machine_of face ppem))
 
--- hinting off: no program runs
-abbrev pub no_prelude : Prelude
-no_prelude = record { hinting = no_hinting; steps = 0; strays = 0 }
+-- all that a character's glyph depends on but its code point: a font, its character map, a size, and the machine; and nothing that
+-- was made before
+pub record Setting : Type 0 where
+  pub font : Face
+  pub map : Mapping
+  pub ppem : ℕ
+  pub machine : Option Known
 
--- hinting on: a machine of the font ran them
-abbrev pub prelude_of : Known → Prelude
-prelude_of known = record { hinting = hinting_of known; steps = known.prelude.steps; strays = known.prelude.strays }
+-- an opened font, and the machine
+abbrev pub setting_with : Opened → Option Known → Setting
+setting_with opened machine = record { font = opened.font; map = opened.map; ppem = opened.ppem; machine = machine }
 
--- what is due for a font at a size: with hinting on `fpgm` runs, then `prep`; or the first halt
-unfoldable pub prelude_for : Face → ℕ → Bool → Result Prelude Refusal
-prelude_for face ppem false = Ok no_prelude
-prelude_for face ppem true = do
-  known ← map_fault of_machine (machine_of face ppem)
-  Ok (prelude_of known)
+-- the setting of an opened font; or the first halt
+unfoldable pub setting_in : Opened → Bool → Result Setting Refusal
+setting_in opened hinting = do
+  machine ← machine_for opened.font opened.ppem hinting
+  Ok (setting_with opened machine)
+
+-- what the machine adds to scaling; nothing without one
+abbrev pub hinting_by : Option Known → Hinting
+hinting_by None = no_hinting
+hinting_by (Some known) = hinting_of known
+
+-- what `fpgm` and `prep` counted
+abbrev pub counted_by : Option Known → Ran
+counted_by None = record { steps = 0; strays = 0 }
+counted_by (Some known) = known.prelude
 
 -- ---- a character
 
@@ -65,29 +81,41 @@ pub record Sketch : Type 0 where
 abbrev pub thousandths : ℕ → ℕ → ℤ
 thousandths advance em = near_of (pos (advance * 1000)) (pos em)
 
+-- a glyph's outline, scaled, and hinted if there is a machine
+abbrev pub outline_in : Setting → ℕ → Result OutlineView HintFault
+outline_in setting glyph = outline_with (hinting_by setting.machine) setting.font setting.ppem glyph
+
+-- the sketch of a code point that has this outline, spans and metrics
+abbrev pub sketch_from : Setting → ℕ → OutlineView → List Span → Metrics → Sketch
+sketch_from setting code outline spans metrics = record {
+  code = code;
+  swidth = thousandths metrics.advance_width setting.font.head.units_per_em;
+  dwidth = near_of outline.advance (pos 64);
+  spans = spans;
+  strays = outline.strays;
+  steps = outline.steps;
+}
+
 -- the sketch of a code point by its glyph's number, or the first cause why it has none
-unfoldable pub glyph_sketch_of : Hinting → Face → ℕ → ℕ → ℕ → Result Sketch Refusal
-glyph_sketch_of hinting face ppem code glyph = do
-  drawing ← map_fault of_hint (outline_with hinting face ppem glyph)
-  spans ← map_fault (of_contour glyph) (drawn_of drawing.ends drawing.points)
+unfoldable pub glyph_sketch_of : Setting → ℕ → ℕ → Result Sketch Refusal
+glyph_sketch_of setting code glyph = do
+  outline ← map_fault of_hint (outline_in setting glyph)
+  spans ← map_fault (of_contour glyph) (drawn_of outline.ends outline.points)
   _ ← map_fault (of_contour glyph) (framed_of spans)
-  metrics ← map_fault of_font (metrics_of face glyph)
-  Ok (record {
-    code = code;
-    swidth = thousandths metrics.advance_width face.head.units_per_em;
-    dwidth = near_of drawing.advance (pos 64);
-    spans = spans;
-    strays = drawing.strays;
-    steps = drawing.steps;
-  })
+  metrics ← map_fault of_font (metrics_of setting.font glyph)
+  Ok (sketch_from setting code outline spans metrics)
 
 -- the sketch of a code point
-abbrev pub sketch_of : Hinting → Face → Mapping → ℕ → ℕ → Result Sketch Refusal
-sketch_of hinting face mapping ppem code = glyph_sketch_of hinting face ppem code (glyph_for mapping code)
+abbrev pub sketch_of : Setting → ℕ → Result Sketch Refusal
+sketch_of setting code = glyph_sketch_of setting code (glyph_for setting.map code)
 
 -- the font has no glyph for a code point
-abbrev pub is_missing : Mapping → ℕ → Bool
-is_missing mapping code = glyph_for mapping code == 0
+abbrev pub is_missing : Setting → ℕ → Bool
+is_missing setting code = glyph_for setting.map code == 0
+
+-- the sketch of a code point, none if the font lacks it; or the first cause
+unfoldable pub one_with : Setting → ℕ → Result (Option Sketch) Refusal
+one_with setting code = if is_missing setting code then Ok None else map_ok Some (sketch_of setting code)
 
 -- ---- the strike
 
@@ -107,23 +135,39 @@ abbrev pub pixels : ℤ → ℕ → ℕ → ℤ
 pixels units ppem em = near_of (units *ℤ pos ppem) (pos em)
 
 -- the sketches of code points that the font has
-abbrev pub sketches_of : Hinting → Face → Mapping → ℕ → List ℕ → Result (List Sketch) Refusal
-sketches_of hinting face mapping ppem codes =
-    map_chain (sketch_of hinting face mapping ppem) (filter (λ c. not (is_missing mapping c)) codes)
+abbrev pub sketches_of : Setting → List ℕ → Result (List Sketch) Refusal
+sketches_of setting codes = map_chain (sketch_of setting) (filter (λ c. not (is_missing setting c)) codes)
 
--- the size, if neither it nor the characters are past their limits
-unfoldable pub sized : ℕ → List ℕ → Result ℕ Refusal
-sized ppem chars = do
-  size ← wanted (ppem_of ppem) BadSize
-  _ ← refuse (nat_lt max_characters (length chars) || list_any (nat_lt max_code) chars) BadChars
-  Ok size
+-- the strike of a name, and of characters that have these sketches
+abbrev pub plan_from : Setting → List ℕ → List ℕ → List Sketch → Plan
+plan_from setting name chars sketches = record {
+  name = name;
+  ppem = setting.ppem;
+  ascent = pixels setting.font.hhea.ascender setting.ppem setting.font.head.units_per_em;
+  descent = pixels (neg_ℤ setting.font.hhea.descender) setting.ppem setting.font.head.units_per_em;
+  sketches = sketches;
+  missing = count_by (is_missing setting) (rising chars);
+  strays = (counted_by setting.machine).strays;
+  steps = (counted_by setting.machine).steps;
+}
 
--- the size, if the request is not refused whatever the font: a size, characters or a name past their limits
-unfoldable pub checked : ℕ → List ℕ → List ℕ → Result ℕ Refusal
-checked ppem name chars = do
-  size ← sized ppem chars
-  _ ← refuse (not (is_name name)) BadName
-  Ok size
+-- the strike of a name and characters, or the first cause why there is none
+unfoldable pub plan_with : Setting → List ℕ → List ℕ → Result Plan Refusal
+plan_with setting name chars = do
+  sketches ← sketches_of setting (rising chars)
+  Ok (plan_from setting name chars sketches)
+
+-- ---- the order of causes
+
+-- characters within their limits
+unfoldable pub checked_chars : List ℕ → Result (Unit {0}) Refusal
+checked_chars chars = refuse (nat_lt max_characters (length chars) || list_any (nat_lt max_code) chars) BadChars
+
+-- and a name within its limits
+unfoldable pub checked_text : List ℕ → List ℕ → Result (Unit {0}) Refusal
+checked_text name chars = do
+  _ ← checked_chars chars
+  refuse (not (is_name name)) BadName
 
 -- a font opened with its character map, or the first cause why it can't be
 unfoldable pub font_with_map : List ℕ → Result (Face × Mapping) Refusal
@@ -134,67 +178,58 @@ font_with_map file = do
 
 -- a valid size and an opened font with its character map, or the first cause why there is none
 abbrev pub Opening : Type 0
-Opening = Result (ℕ × Face × Mapping) Refusal
+Opening = Result Opened Refusal
 
--- what takes no memory: the request passes its checks, and the font and its character map open; or the first cause
-unfoldable pub opened_of : List ℕ → ℕ → List ℕ → List ℕ → Opening
-opened_of file ppem name chars = do
-  size ← checked ppem name chars
-  font ← font_with_map file
-  Ok (size, font.0, font.1)
+-- what takes no memory: the size is valid, the checks of what is asked for pass, and the font and its character map open; or the
+-- first cause
+unfoldable pub opened_after : ℕ → Result (Unit {0}) Refusal → List ℕ → Opening
+opened_after ppem checks file = do
+  size ← wanted (ppem_of ppem) BadSize
+  _ ← checks
+  opened ← font_with_map file
+  Ok (record { ppem = size; font = opened.0; map = opened.1 })
 
--- the strike of an opened font, a size, a name and characters, once its programs ran
-unfoldable pub plan_after : Prelude → Face → Mapping → ℕ → List ℕ → List ℕ → Result Plan Refusal
-plan_after prelude face mapping ppem name chars = do
-  sketches ← sketches_of prelude.hinting face mapping ppem (rising chars)
-  Ok (record {
-    name = name;
-    ppem = ppem;
-    ascent = pixels face.hhea.ascender ppem face.head.units_per_em;
-    descent = pixels (neg_ℤ face.hhea.descender) ppem face.head.units_per_em;
-    sketches = sketches;
-    missing = count_by (is_missing mapping) (rising chars);
-    strays = prelude.strays;
-    steps = prelude.steps;
-  })
+-- for a strike of a name and characters
+abbrev pub opened_of : List ℕ → ℕ → List ℕ → List ℕ → Opening
+opened_of file ppem name chars = opened_after ppem (checked_text name chars) file
 
--- the strike of an opened font, a size, a name and characters, or the first cause why there is none
-unfoldable pub plan_in : Face → Mapping → ℕ → List ℕ → List ℕ → Bool → Result Plan Refusal
-plan_in face mapping ppem name chars hinting = do
-  prelude ← prelude_for face ppem hinting
-  plan_after prelude face mapping ppem name chars
+-- for one character
+abbrev pub opened_one_of : List ℕ → ℕ → ℕ → Opening
+opened_one_of file ppem code = opened_after ppem (checked_chars (code ∷ [])) file
 
--- the strike of a font file, a size, a name and characters, or the first cause why there is none
+-- for a striker, which is not asked for anything yet
+abbrev pub opened_at : List ℕ → ℕ → Opening
+opened_at file ppem = opened_after ppem (Ok tt) file
+
+-- the setting of a font file at a size, or the first cause why there is none
+unfoldable pub setting_of : List ℕ → ℕ → Bool → Result Setting Refusal
+setting_of file ppem hinting = do
+  opened ← opened_at file ppem
+  setting_in opened hinting
+
+-- the strike of an opened font, a name and characters, or the first cause why there is none
+unfoldable pub plan_in : Opened → List ℕ → List ℕ → Bool → Result Plan Refusal
+plan_in opened name chars hinting = do
+  setting ← setting_in opened hinting
+  plan_with setting name chars
+
+-- and of a font file
 unfoldable pub plan_of : List ℕ → ℕ → List ℕ → List ℕ → Bool → Result Plan Refusal
 plan_of file ppem name chars hinting = do
   opened ← opened_of file ppem name chars
-  plan_in opened.1 opened.2 opened.0 name chars hinting
-
--- ---- one character
-
--- what takes no memory: the size and the code point are within their limits, and the font and its character map open
-unfoldable pub opened_one_of : List ℕ → ℕ → ℕ → Opening
-opened_one_of file ppem code = do
-  size ← sized ppem (code ∷ [])
-  font ← font_with_map file
-  Ok (size, font.0, font.1)
-
--- the sketch of a code point of an opened font whose programs ran, none if the font lacks it; or the first cause
-unfoldable pub one_after : Hinting → Face → Mapping → ℕ → ℕ → Result (Option Sketch) Refusal
-one_after hinting face mapping ppem code =
-    if is_missing mapping code then Ok None else map_ok Some (sketch_of hinting face mapping ppem code)
+  plan_in opened name chars hinting
 
 -- the sketch of a code point of an opened font, none if the font lacks it; or the first cause
-unfoldable pub one_in : Face → Mapping → ℕ → ℕ → Bool → Result (Option Sketch) Refusal
-one_in face mapping ppem code hinting = do
-  prelude ← prelude_for face ppem hinting
-  one_after prelude.hinting face mapping ppem code
+unfoldable pub one_in : Opened → ℕ → Bool → Result (Option Sketch) Refusal
+one_in opened code hinting = do
+  setting ← setting_in opened hinting
+  one_with setting code
 
 -- and of a font file: it is refused as the strike of that one character is, but for its name
 unfoldable pub one_of : List ℕ → ℕ → ℕ → Bool → Result (Option Sketch) Refusal
 one_of file ppem code hinting = do
   opened ← opened_one_of file ppem code
-  one_in opened.1 opened.2 opened.0 code hinting
+  one_in opened code hinting
 
 -- ---- its bits and its text
 

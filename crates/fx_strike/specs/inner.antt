@@ -2,4 +2,3 @@
 pub mod Drawing
 pub mod Surveying
 pub mod Writing
-pub mod Hinters

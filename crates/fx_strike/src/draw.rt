@@ -6,17 +6,17 @@ ghost use Rattle.fx_winding.specs.Bitmaps.{IsScanOf};
 ghost use Rattle.fx_winding.specs.Outside.{AreOfOutline};
 ghost use Rattle.fx_contour.specs.Contours.{IsInReach, spans_of};
 ghost use Rattle.fx_contour.specs.Frames.{NothingOutsideFrame};
-ghost use Rattle.fx_strike.specs.Strike.{Sketch, IsGlyphOf, glyph_sketch_of};
+ghost use Rattle.fx_strike.specs.Strike.{Sketch, IsGlyphOf, setting_with, glyph_sketch_of};
 ghost use Rattle.fx_strike.specs.inner.Drawing.{HasBitsOf, IsSketchedOf, Draws};
 
+use crate::hinter::FontHinter;
 use crate::sketch::sketch_at;
 use crate::sketched::Sketched;
+use crate::tools::Tools;
 use fx_bdf::BitGlyph;
 use fx_contour::pieces_in_reach;
-use fx_fixed::{F26, Ppem, near_64};
-use fx_hint::Hinter;
+use fx_fixed::{F26, near_64};
 use fx_request::Refusal;
-use fx_sfnt::Font;
 use fx_winding::{Bitmap, Frame, Pieces, Scan, ScanFault, Tally};
 use std::alloc::Global;
 
@@ -107,20 +107,19 @@ pub(crate) fn glyph_of<S: Scan>(
     Ok(BitGlyph::of(code, sketched.swidth, dwidth, bitmap))
 }
 
-/// The glyph of a code point by its number in the font, or the first cause why there is none.
-pub(crate) fn draw<S: Scan, H: Hinter>(
-    alloc: Global,
-    scan: &S,
-    hinter: &mut H,
-    font: &Font<'_>,
-    ppem: Ppem,
-    code: u32,
-    glyph: u16,
-) -> Result<BitGlyph, Refusal>
-    ensures kept { H.hinting hinter.new ≡ H.hinting hinter.old }
-    ensures sketch { Draws (glyph_sketch_of (H.hinting hinter.old) font.now ppem code glyph) result }
-    ensures code { IfOk result (λ g. g.code ≡ code) }
-{
-    let sketched = sketch_at(alloc, hinter, font, ppem, glyph)?;
-    glyph_of(alloc, scan, code, &sketched)
+impl<'a, S: Scan> Tools<'a, S> {
+    /// The glyph of a code point by its number in the font, or the first cause why there is none.
+    pub(crate) fn draw(
+        &self,
+        hinter: &mut FontHinter<'_>,
+        code: u32,
+        glyph: u16,
+    ) -> Result<BitGlyph, Refusal>
+        ensures kept { hinter.new ≡ hinter.old }
+        ensures sketch { Draws (glyph_sketch_of (setting_with self.now.opened hinter.old) code glyph) result }
+        ensures code { IfOk result (λ g. g.code ≡ code) }
+    {
+        let sketched = sketch_at(self.alloc, hinter, &self.opened, glyph)?;
+        glyph_of(self.alloc, self.scan, code, &sketched)
+    }
 }

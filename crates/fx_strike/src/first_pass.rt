@@ -1,98 +1,28 @@
 //! The first pass over the characters: a survey of the strike.
-ghost use Rattle.std.specs.Prelude.{◌≡◌, ◌<◌, ◌≤◌, All, unsigned_abs, length};
+ghost use Rattle.std.specs.Prelude.{◌≡◌, ◌<◌, ◌≤◌, List, ℕ, All, unsigned_abs, length};
 ghost use Rattle.fx_request.specs.Limits.{max_characters};
 ghost use Rattle.fx_request.specs.Characters.{rising};
 ghost use Rattle.fx_contour.specs.Contours.{IsInReach, spans_of};
 ghost use Rattle.fx_contour.specs.Frames.{NothingOutsideFrame};
 ghost use Rattle.fx_bdf.specs.Glyphs.{IsPlaced};
-ghost use Rattle.fx_strike.specs.Strike.{Sketch, pixels, glyph_sketch_of, plan_after};
+ghost use Rattle.fx_strike.specs.Strike.{Sketch, pixels, setting_with, glyph_sketch_of, plan_with};
 ghost use Rattle.fx_strike.specs.inner.Drawing.{IsSketchedOf};
-ghost use Rattle.fx_strike.specs.inner.Surveying.{Joins, SeesOne, Sees, Surveys, seen_prelude, survey_from};
+ghost use Rattle.fx_strike.specs.inner.Surveying.{Joins, SeesOne, Sees, Surveys, survey_from};
 
 use crate::draw::glyph_of;
+use crate::hinter::FontHinter;
 use crate::opened::Opened;
 use crate::seen::Seen;
 use crate::sketch::sketch_at;
 use crate::sketched::Sketched;
 use crate::surveyed::Survey;
+use crate::tools::Tools;
 use crate::within::lies_in;
 use fx_bdf::Bounds;
 use fx_fixed::{Ppem, near};
-use fx_hint::Hinter;
 use fx_machine::Ran;
-use fx_request::{Refusal, Request};
+use fx_request::{Refusal, Report, rising_codes};
 use fx_winding::Scan;
-use std::alloc::Global;
-
-/// The least box that holds a box and the box of a character's glyph. The glyph's bits are made only if its frame does not lie
-/// in the box: all its bits lie in its frame.
-fn bounds_with<S: Scan>(
-    alloc: Global,
-    scan: &S,
-    bounds: Bounds,
-    code: u32,
-    sketched: &Sketched,
-) -> Result<Bounds, Refusal>
-    requires placed { IsPlaced bounds }
-    requires reach { All IsInReach sketched.now.outline.points.items }
-    requires outside { NothingOutsideFrame sketched.now.frame
-        (spans_of sketched.now.outline.ends.items sketched.now.outline.points.items) }
-    ensures { (sketch : Sketch) → IsSketchedOf sketch sketched.now → sketch.code ≡ code → Joins sketch bounds result }
-{
-    if lies_in(sketched.frame, bounds) {
-        return Ok(bounds);
-    }
-    let glyph = glyph_of(alloc, scan, code, sketched)?;
-    Ok(bounds.joined(glyph.bounds()))
-}
-
-/// Adds what is seen of a character with this glyph; or the first cause why it has none.
-fn see_one<S: Scan, H: Hinter>(
-    alloc: Global,
-    scan: &S,
-    hinter: &mut H,
-    opened: &Opened<'_>,
-    code: u32,
-    glyph: u16,
-    seen: &mut Seen,
-) -> Result<(), Refusal>
-    requires few { seen.old.report.glyphs < max_characters }
-    requires placed { IsPlaced seen.old.bounds }
-    ensures kept { H.hinting hinter.new ≡ H.hinting hinter.old }
-    ensures seen { SeesOne (glyph_sketch_of (H.hinting hinter.old) opened.now.font opened.now.ppem code glyph)
-        seen.old seen.new result }
-{
-    let sketched = sketch_at(alloc, hinter, &opened.font, opened.ppem, glyph)?;
-    let bounds = bounds_with(alloc, scan, seen.bounds, code, &sketched)?;
-    seen.add(bounds, &sketched.outline);
-    Ok(())
-}
-
-/// What is seen of code points, in their order; or the first cause why one has no glyph.
-fn see<S: Scan, H: Hinter>(
-    alloc: Global,
-    scan: &S,
-    hinter: &mut H,
-    opened: &Opened<'_>,
-    codes: &[u32],
-) -> Result<Seen, Refusal>
-    requires few { length codes.now ≤ max_characters }
-    ensures kept { H.hinting hinter.new ≡ H.hinting hinter.old }
-    ensures seen { Sees (H.hinting hinter.old) opened.now.font opened.now.map opened.now.ppem codes.now result }
-{
-    let mut seen = Seen::new();
-    let mut map = opened.map.cursor();
-    // `seen` is what is seen of the code points before this one.
-    'codes: for code in codes {
-        let glyph = map.glyph(*code);
-        if glyph == 0 {
-            seen.report.missing += 1;
-            continue;
-        }
-        see_one(alloc, scan, hinter, opened, *code, glyph, &mut seen)?;
-    }
-    Ok(seen)
-}
 
 /// FUnits in whole pixels.
 fn whole_pixels(units: i32, ppem: Ppem, em: u16) -> i32
@@ -107,8 +37,8 @@ fn whole_pixels(units: i32, ppem: Ppem, em: u16) -> i32
 }
 
 /// The survey of the code points that were seen, with what `fpgm` and `prep` counted.
-fn survey_from(prelude: Ran, opened: &Opened<'_>, seen: Seen) -> Survey
-    ensures { result ≡ survey_from prelude opened.now.font opened.now.ppem seen }
+fn survey_from(counts: Ran, opened: &Opened<'_>, seen: Seen) -> Survey
+    ensures { result ≡ survey_from counts opened.now seen }
 {
     let em = opened.font.head().units_per_em.funits();
     let hhea = opened.font.hhea();
@@ -117,29 +47,97 @@ fn survey_from(prelude: Ran, opened: &Opened<'_>, seen: Seen) -> Survey
         bounds: seen.bounds,
         ascent: whole_pixels(i32::from(hhea.ascender), opened.ppem, em),
         descent: whole_pixels(-i32::from(hhea.descender), opened.ppem, em),
-        glyphs: report.glyphs,
-        missing: report.missing,
-        strays: prelude.strays.saturating_add(report.strays),
-        steps: u64::from(prelude.steps).saturating_add(report.steps),
+        report: Report {
+            glyphs: report.glyphs,
+            missing: report.missing,
+            strays: counts.strays.saturating_add(report.strays),
+            steps: u64::from(counts.steps).saturating_add(report.steps),
+        },
     }
 }
 
-/// The survey of a strike, once `fpgm` and `prep` ran; `codes` are the code points of the request.
-pub(crate) fn survey_after<S: Scan, H: Hinter>(
-    alloc: Global,
-    scan: &S,
-    hinter: &mut H,
-    prelude: Ran,
-    opened: &Opened<'_>,
-    request: &Request<'_>,
-    codes: &[u32],
-) -> Result<Survey, Refusal>
-    requires few { length codes.now ≤ max_characters }
-    requires rising { codes.now ≡ rising request.now.chars.now }
-    ensures kept { H.hinting hinter.new ≡ H.hinting hinter.old }
-    ensures survey { Surveys (plan_after (seen_prelude (H.hinting hinter.old) prelude) opened.now.font opened.now.map
-        opened.now.ppem request.now.name.now request.now.chars.now) result }
-{
-    let seen = see(alloc, scan, hinter, opened, codes)?;
-    Ok(survey_from(prelude, opened, seen))
+impl<'a, S: Scan> Tools<'a, S> {
+    /// The least box that holds a box and the box of a character's glyph. The glyph's bits are made only if its frame does not lie
+    /// in the box: all its bits lie in its frame.
+    fn bounds_with(&self, bounds: Bounds, code: u32, sketched: &Sketched) -> Result<Bounds, Refusal>
+        requires placed { IsPlaced bounds }
+        requires reach { All IsInReach sketched.now.outline.points.items }
+        requires outside { NothingOutsideFrame sketched.now.frame
+            (spans_of sketched.now.outline.ends.items sketched.now.outline.points.items) }
+        ensures { (sketch : Sketch) → IsSketchedOf sketch sketched.now → sketch.code ≡ code → Joins sketch bounds result }
+    {
+        if lies_in(sketched.frame, bounds) {
+            return Ok(bounds);
+        }
+        let glyph = glyph_of(self.alloc, self.scan, code, sketched)?;
+        Ok(bounds.joined(glyph.bounds()))
+    }
+
+    /// Adds what is seen of a character with this glyph; or the first cause why it has none.
+    fn see_one(
+        &self,
+        hinter: &mut FontHinter<'_>,
+        code: u32,
+        glyph: u16,
+        seen: &mut Seen,
+    ) -> Result<(), Refusal>
+        requires few { seen.old.report.glyphs < max_characters }
+        requires placed { IsPlaced seen.old.bounds }
+        ensures kept { hinter.new ≡ hinter.old }
+        ensures seen { SeesOne (glyph_sketch_of (setting_with self.now.opened hinter.old) code glyph) seen.old seen.new result }
+    {
+        let sketched = sketch_at(self.alloc, hinter, &self.opened, glyph)?;
+        let bounds = self.bounds_with(seen.bounds, code, &sketched)?;
+        seen.add(bounds, &sketched.outline);
+        Ok(())
+    }
+
+    /// What is seen of code points, in their order; or the first cause why one has no glyph.
+    fn see(&self, hinter: &mut FontHinter<'_>, codes: &[u32]) -> Result<Seen, Refusal>
+        requires few { length codes.now ≤ max_characters }
+        ensures kept { hinter.new ≡ hinter.old }
+        ensures seen { Sees (setting_with self.now.opened hinter.old) codes.now result }
+    {
+        let mut seen = Seen::new();
+        let mut map = self.opened.map.cursor();
+        // `seen` is what is seen of the code points before this one.
+        'codes: for code in codes {
+            let glyph = map.glyph(*code);
+            if glyph == 0 {
+                seen.report.missing += 1;
+                continue;
+            }
+            self.see_one(hinter, *code, glyph, &mut seen)?;
+        }
+        Ok(seen)
+    }
+
+    /// The survey of the strike of code points in rising order, whatever its name.
+    pub(crate) fn survey_codes(
+        &self,
+        hinter: &mut FontHinter<'_>,
+        codes: &[u32],
+    ) -> Result<Survey, Refusal>
+        requires few { length codes.now ≤ max_characters }
+        ensures kept { hinter.new ≡ hinter.old }
+        ensures survey { (name chars : List ℕ) → codes.now ≡ rising chars
+            → Surveys (plan_with (setting_with self.now.opened hinter.old) name chars) result }
+    {
+        let seen = self.see(hinter, codes)?;
+        Ok(survey_from(hinter.counted(), &self.opened, seen))
+    }
+
+    /// The survey of the strike of characters, whatever its name.
+    pub(crate) fn survey_chars(
+        &self,
+        hinter: &mut FontHinter<'_>,
+        chars: &[u32],
+    ) -> Result<Survey, Refusal>
+        requires few { length chars.now ≤ max_characters }
+        ensures kept { hinter.new ≡ hinter.old }
+        ensures survey { (name : List ℕ) → Surveys (plan_with (setting_with self.now.opened hinter.old) name chars.now) result }
+    {
+        let codes = rising_codes(self.alloc, chars)?;
+        self.survey_codes(hinter, &codes)
+    }
 }

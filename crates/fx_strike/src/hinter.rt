@@ -4,32 +4,40 @@ ghost use Rattle.fx_fixed.specs.Chain.{map_fault, GivesUnless};
 ghost use Rattle.fx_machine.specs.Known.{machine_of};
 ghost use Rattle.fx_request.specs.Faults.{of_machine};
 ghost use Rattle.fx_strike.specs.Faults.{Fails};
-ghost use Rattle.fx_strike.specs.Strike.{prelude_for};
-ghost use Rattle.fx_strike.specs.inner.Hinters.{counted_at, prelude_at};
+ghost use Rattle.fx_strike.specs.Strike.{machine_for, counted_by};
 
-use fx_fixed::Ppem;
+use crate::opened::Opened;
 use fx_hint::{GlyphInput, HintFault, Hinter, KeepingMachine, Made, NoHinter, Spent};
 use fx_machine::{Machine, Ran};
 use fx_request::Refusal;
-use fx_sfnt::Font;
 use std::alloc::{AllocError, Global};
+use std::marker::Model;
 
 /// What hints the glyphs of a font at a size: a machine of the font whose `fpgm` and `prep` ran, or nothing with hinting off. The
-/// machine lies in a box, so that the functions that hand it on hold little.
+/// machine lies in a box, so that the functions that hand it on hold little. Contracts see it as what stays as it is, whatever
+/// runs: what is known of the machine.
 #[derive(Drop)]
-pub(crate) enum FontHinter<'a> {
-    Machine(Box<KeepingMachine<'a>>),
-    Off,
+pub(crate) struct FontHinter<'a> {
+    machine: Option<Box<KeepingMachine<'a>>>,
+}
+
+impl<'a> Model for FontHinter<'a> {
+    ghost use Rattle.std.specs.Prelude.{Option, option_map};
+    ghost use Rattle.fx_machine.specs.Known.{Known};
+
+    ghost Value = { Option Known };
+
+    ghost view = { λ h. option_map (λ b. b.value.machine.known) h.machine };
 }
 
 impl<'a> FontHinter<'a> {
     /// What `fpgm` and `prep` counted.
-    pub(crate) fn prelude(&self) -> Ran
-        ensures { result ≡ counted_at self.now }
+    pub(crate) fn counted(&self) -> Ran
+        ensures { result ≡ counted_by self.now }
     {
-        match self {
-            FontHinter::Machine(machine) => machine.prelude(),
-            FontHinter::Off => Ran {
+        match &self.machine {
+            Some(machine) => machine.prelude(),
+            None => Ran {
                 steps: 0,
                 strays: 0,
             },
@@ -40,45 +48,45 @@ impl<'a> FontHinter<'a> {
 impl<'a> Hinter for FontHinter<'a> {
     ghost use Rattle.std.specs.Prelude.{Option};
     ghost use Rattle.fx_machine.specs.Known.{Known};
-    ghost use Rattle.fx_strike.specs.inner.Hinters.{known_at, hinting_at};
+    ghost use Rattle.fx_strike.specs.Strike.{hinting_by};
 
     ghost Known = { Option Known };
 
-    ghost known = { known_at };
+    ghost known = { λ h. h };
 
-    ghost hinting = { hinting_at };
+    ghost hinting = { hinting_by };
 
     fn is_on(&self) -> bool {
-        match self {
-            FontHinter::Machine(machine) => machine.is_on(),
-            FontHinter::Off => false,
+        match &self.machine {
+            Some(machine) => machine.is_on(),
+            None => false,
         }
     }
 
     fn run(&mut self, g: u16, code: &[u8], made: &mut Made) -> Result<Spent, HintFault> {
-        match self {
-            FontHinter::Machine(machine) => machine.run(g, code, made),
-            FontHinter::Off => NoHinter.run(g, code, made),
+        match &mut self.machine {
+            Some(machine) => machine.run(g, code, made),
+            None => NoHinter.run(g, code, made),
         }
     }
 
     fn recall(&self, alloc: Global, input: &GlyphInput<'_>) -> Option<(Made, Spent)> {
-        match self {
-            FontHinter::Machine(machine) => machine.recall(alloc, input),
-            FontHinter::Off => None,
+        match &self.machine {
+            Some(machine) => machine.recall(alloc, input),
+            None => None,
         }
     }
 
     fn keep(&mut self, input: &GlyphInput<'_>, made: &Made, spent: Spent) {
-        if let FontHinter::Machine(machine) = self {
+        if let Some(machine) = &mut self.machine {
             machine.keep(input, made, spent);
         }
     }
 
     fn law_keeps_shape(&self) {
-        match self {
-            FontHinter::Machine(machine) => machine.law_keeps_shape(),
-            FontHinter::Off => NoHinter.law_keeps_shape(),
+        match &self.machine {
+            Some(machine) => machine.law_keeps_shape(),
+            None => NoHinter.law_keeps_shape(),
         }
     }
 }
@@ -91,31 +99,29 @@ fn keeping<'a>(alloc: Global, machine: Machine<'a>) -> Result<Box<KeepingMachine
     Ok(Box::new(alloc, keeping)?)
 }
 
-/// The machine of a font at a size: `fpgm` runs, then `prep`.
-fn machine_at<'a>(
-    alloc: Global,
-    font: &Font<'a>,
-    ppem: Ppem,
-) -> Result<Box<KeepingMachine<'a>>, Refusal>
-    ensures { GivesUnless Fails (λ b. b.value.machine.known) result (map_fault of_machine (machine_of font.now ppem)) }
+/// The machine of an opened font: `fpgm` runs, then `prep`.
+fn machine_at<'a>(alloc: Global, opened: &Opened<'a>) -> Result<Box<KeepingMachine<'a>>, Refusal>
+    ensures { GivesUnless Fails (λ b. b.value.machine.known) result
+        (map_fault of_machine (machine_of opened.now.font opened.now.ppem)) }
 {
-    let machine = Machine::new(alloc, font.shared(), ppem)?;
+    let machine = Machine::new(alloc, opened.font.shared(), opened.ppem)?;
     Ok(keeping(alloc, machine)?)
 }
 
-/// The hinter of a font at a size. With hinting on, the font's programs run first.
-#[tactic(auto, unfolding(crate::specs::Strike::prelude_for))]
+/// The hinter of an opened font: the one place where hinting is on or off. With hinting on, the font's programs run first.
+#[tactic(auto, unfolding(crate::specs::Strike::machine_for))]
 pub(crate) fn hinter_at<'a>(
     alloc: Global,
-    font: &Font<'a>,
-    ppem: Ppem,
+    opened: &Opened<'a>,
     hinting: bool,
 ) -> Result<FontHinter<'a>, Refusal>
-    ensures { GivesUnless Fails prelude_at result (prelude_for font.now ppem hinting) }
+    ensures { GivesUnless Fails (λ h. h) result (machine_for opened.now.font opened.now.ppem hinting) }
 {
     if !hinting {
-        return Ok(FontHinter::Off);
+        return Ok(FontHinter { machine: None });
     }
-    let machine = machine_at(alloc, font, ppem)?;
-    Ok(FontHinter::Machine(machine))
+    let machine = machine_at(alloc, opened)?;
+    Ok(FontHinter {
+        machine: Some(machine),
+    })
 }

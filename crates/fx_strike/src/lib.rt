@@ -5,7 +5,8 @@
 //! that the font's programs make of the scaled glyph, or has a winding number other than 0 about it (with hinting off no program
 //! runs); or it names the first cause why no such strike exists, or that it is out of memory, or a fault of the writer.
 //! `specs/Strike` says what a strike is, `specs/Headline` what a call returns and leaves; both cite the definitions of the crates
-//! below and nothing of their code. `one` makes one character alone.
+//! below and nothing of their code. `one` makes one character alone. A `Striker` is a font at a size that is opened once, and makes
+//! characters and strikes one after the other; the other calls open one, and let it go.
 //!
 //! A strike is made in two passes over its characters: the first surveys it, so that no byte is written of a strike that is
 //! refused; the second makes each character again and writes it. Only one character is held at a time. The first pass makes a
@@ -13,6 +14,7 @@
 //! alone. `listing_of` writes the listing of a program straight to the writer, and takes no memory.
 #![tactic(auto)]
 
+mod draft;
 mod draw;
 mod faults;
 mod first_pass;
@@ -27,12 +29,16 @@ mod second_pass;
 mod seen;
 mod sketch;
 mod sketched;
+mod striker;
+mod strikes;
 mod surveyed;
 mod surveying;
+mod tools;
 mod within;
 
 pub use listing::listing_of;
 pub use make::{make_strike, make_strike_with};
 pub use one_character::one;
+pub use striker::Striker;
 pub use surveyed::Survey;
 pub use surveying::survey;

@@ -1,6 +1,7 @@
 //! The listing of a font's program.
 ghost use Rattle.std.specs.Prelude.{◌≡◌, ◌<◌, ◌^◌, ℕ, length, IfOk, IfErr, IsErrOf};
 ghost use Rattle.fx_fixed.specs.Chain.{map_ok};
+ghost use Rattle.fx_fixed.specs.Changes.{change_of};
 ghost use Rattle.fx_strike.specs.Listings.{program_in, program_of, code_of, IsListed, IsListedTo, IsNotListed, IsNoFault};
 
 use fx_code::Code;
@@ -64,14 +65,13 @@ pub fn listing_of<W: Sink>(font: &[u8], what: Which, out: &mut W) -> Result<(), 
     requires { W.fault_count out.old < 2 ^ 63 }
     // The program exists, its listing was written, and the writer counted no fault.
     ensures text { IfOk result (λ _.
-        IsListed (program_of font.now what) (W.held out.old) (W.held out.new) (W.fault_count out.old) (W.fault_count out.new)) }
+        IsListed (program_of font.now what) (change_of W.held W.fault_count out.old out.new)) }
     // The first cause was named, nothing was written, and the writer counted no fault.
     ensures cause { IfErr result (λ refusal. IsNoFault refusal →
-        IsNotListed (program_of font.now what) (W.held out.old) (W.held out.new)
-        (W.fault_count out.old) (W.fault_count out.new) refusal) }
+        IsNotListed (program_of font.now what) (change_of W.held W.fault_count out.old out.new) refusal) }
     // The program exists, exactly the first n bytes of its listing were written, and the writer counted one fault.
     ensures writer { (n : ℕ) → IsErrOf result (Refusal.WriteFailed n) →
-        IsListedTo (program_of font.now what) (W.held out.old) (W.held out.new) (W.fault_count out.old) (W.fault_count out.new) n }
+        IsListedTo (program_of font.now what) (change_of W.held W.fault_count out.old out.new) n }
 {
     let code = Code::new(program_of(font, what)?);
     code.listing(out)?;

@@ -1,66 +1,17 @@
 //! One character of a font.
 ghost use Rattle.std.specs.Prelude.{IfOk, IfErr, IsErrOf};
 ghost use Rattle.fx_strike.specs.Faults.{Fails};
-ghost use Rattle.fx_strike.specs.Strike.{opened_one_of, one_after, one_in, one_of};
+ghost use Rattle.fx_strike.specs.Strike.{opened_one_of, one_of};
 ghost use Rattle.fx_strike.specs.Headline.{IsOneOf, Late};
 ghost use Rattle.fx_strike.specs.inner.Drawing.{Finds};
 
-use crate::draw::draw;
-use crate::hinter::hinter_at;
 use crate::open::open_one;
-use crate::opened::Opened;
+use crate::striker::Striker;
+use crate::tools::Tools;
 use fx_bdf::BitGlyph;
-use fx_hint::Hinter;
 use fx_request::Refusal;
 use fx_rows::Rows;
 use std::alloc::Global;
-
-/// The glyph of a code point of an opened font, once `fpgm` and `prep` ran; none if the font lacks it.
-#[tactic(auto, unfolding(crate::specs::Strike::one_after))]
-fn one_after<H: Hinter>(
-    alloc: Global,
-    hinter: &mut H,
-    opened: &Opened<'_>,
-    code: u32,
-) -> Result<Option<BitGlyph>, Refusal>
-    ensures { Finds (one_after (H.hinting hinter.old) opened.now.font opened.now.map opened.now.ppem code) result }
-{
-    let glyph = opened.map.glyph(code);
-    if glyph == 0 {
-        return Ok(None);
-    }
-    let drawn = draw(alloc, &Rows, hinter, &opened.font, opened.ppem, code, glyph)?;
-    Ok(Some(drawn))
-}
-
-/// The glyph of a code point of an opened font; none if the font lacks it. With hinting on, the font's programs run first.
-fn one_in(
-    alloc: Global,
-    opened: &Opened<'_>,
-    code: u32,
-    hinting: bool,
-) -> Result<Option<BitGlyph>, Refusal>
-    ensures { Finds (one_in opened.now.font opened.now.map opened.now.ppem code hinting) result }
-{
-    let mut hinter = hinter_at(alloc, &opened.font, opened.ppem, hinting)?;
-    one_after(alloc, &mut hinter, opened, code)
-}
-
-/// The same for a font file.
-#[tactic(auto, unfolding(crate::specs::Strike::one_of))]
-fn one_inner(
-    alloc: Global,
-    font: &[u8],
-    ppem: u16,
-    code: u32,
-    hinting: bool,
-) -> Result<Option<BitGlyph>, Refusal>
-    ensures due { Finds (one_of font.now ppem code hinting) result }
-    ensures late { IsErrOf result Refusal.OutOfMemory → Late (opened_one_of font.now ppem code) }
-{
-    let opened = open_one(font, ppem, code)?;
-    one_in(alloc, &opened, code, hinting)
-}
 
 /// Makes the glyph of one character of a font at a size: its bits, in their tight box, and its advances. None if the font lacks
 /// the character.
@@ -83,4 +34,25 @@ pub fn one(
     ensures late { IsErrOf result Refusal.OutOfMemory → Late (opened_one_of font.now ppem code) }
 {
     one_inner(alloc, font, ppem, code, hinting)
+}
+
+/// The same, with its clauses as one.
+fn one_inner(
+    alloc: Global,
+    font: &[u8],
+    ppem: u16,
+    code: u32,
+    hinting: bool,
+) -> Result<Option<BitGlyph>, Refusal>
+    ensures due { Finds (one_of font.now ppem code hinting) result }
+    ensures late { IsErrOf result Refusal.OutOfMemory → Late (opened_one_of font.now ppem code) }
+{
+    let opened = open_one(font, ppem, code)?;
+    let tools = Tools {
+        alloc,
+        scan: &Rows,
+        opened,
+    };
+    let mut striker = Striker::of(tools, hinting)?;
+    striker.glyph_checked(code)
 }

@@ -1,10 +1,12 @@
 //! From a request and a file to a size, a font and its character map.
-ghost use Rattle.std.specs.Prelude.{◌≡◌, ◌≤◌, ◌||◌, false, nat_lt, length, IfErr, OnOk};
+ghost use Rattle.std.specs.Prelude.{◌≡◌, ◌||◌, nat_lt, length, IfErr, OnOk};
 ghost use Rattle.std.specs.List.{list_any};
-ghost use Rattle.fx_fixed.specs.Chain.{map_ok};
+ghost use Rattle.fx_fixed.specs.Chain.{wanted};
+ghost use Rattle.fx_fixed.specs.Sizes.{ppem_of};
+ghost use Rattle.fx_bdf.specs.Text.{IsName};
 ghost use Rattle.fx_request.specs.Limits.{max_characters, max_code};
-ghost use Rattle.fx_strike.specs.Strike.{sized, checked, font_with_map, opened_one_of};
-ghost use Rattle.fx_strike.specs.inner.Surveying.{IsChecked};
+ghost use Rattle.fx_strike.specs.Strike.{checked_chars, checked_text, font_with_map, opened_one_of, opened_at};
+ghost use Rattle.fx_strike.specs.inner.Surveying.{AreChars};
 ghost use Rattle.fx_strike.specs.Headline.{IsCause, opening_of};
 
 use crate::opened::Opened;
@@ -28,35 +30,43 @@ fn are_bad(chars: &[u32]) -> bool
     MAX_CHARACTERS < chars.len() || is_past(chars)
 }
 
-/// The size, if neither it nor the characters are past their limits.
-#[tactic(auto, unfolding(crate::specs::Strike::sized))]
-fn sized(ppem: u16, chars: &[u32]) -> Result<Ppem, Refusal>
-    ensures due { result ≡ sized ppem chars.now }
+/// A valid size.
+fn sized(ppem: u16) -> Result<Ppem, Refusal>
+    ensures due { result ≡ wanted (ppem_of ppem) Refusal.BadSize }
     ensures named { IfErr result IsCause }
-    ensures few { OnOk result (length chars.now ≤ max_characters) }
-    ensures small { OnOk result (list_any (nat_lt max_code) chars.now ≡ false) }
 {
-    let Some(ppem) = Ppem::new(ppem) else {
-        return Err(Refusal::BadSize);
-    };
+    match Ppem::new(ppem) {
+        Some(ppem) => Ok(ppem),
+        None => Err(Refusal::BadSize),
+    }
+}
+
+/// Whether characters are within their limits.
+#[tactic(auto, unfolding(crate::specs::Strike::checked_chars))]
+pub(crate) fn check_chars(chars: &[u32]) -> Result<(), Refusal>
+    ensures due { result ≡ checked_chars chars.now }
+    ensures named { IfErr result IsCause }
+    ensures passed { OnOk result (AreChars chars.now) }
+{
     if are_bad(chars) {
         return Err(Refusal::BadChars);
     }
-    Ok(ppem)
+    Ok(())
 }
 
-/// The size, if the request is not refused whatever the font.
-#[tactic(auto, unfolding(crate::specs::Strike::checked))]
-fn check(request: &Request<'_>) -> Result<Ppem, Refusal>
-    ensures due { result ≡ checked request.now.ppem request.now.name.now request.now.chars.now }
+/// Whether characters and a name are within their limits.
+#[tactic(auto, unfolding(crate::specs::Strike::checked_text))]
+pub(crate) fn check_text(name: &str, chars: &[u32]) -> Result<(), Refusal>
+    ensures due { result ≡ checked_text name.now chars.now }
     ensures named { IfErr result IsCause }
-    ensures passed { OnOk result (IsChecked request.now) }
+    ensures passed { OnOk result (AreChars chars.now) }
+    ensures name { OnOk result (IsName name.now) }
 {
-    let ppem = sized(request.ppem, request.chars)?;
-    if check_name(request.name).is_err() {
+    check_chars(chars)?;
+    if check_name(name).is_err() {
         return Err(Refusal::BadName);
     }
-    Ok(ppem)
+    Ok(())
 }
 
 /// A font with its character map.
@@ -71,25 +81,38 @@ fn font_with_map<'a>(file: &'a [u8]) -> Result<(Font<'a>, CharMap<'a>), Refusal>
 }
 
 /// The size, the font and its character map, for a request that passes its checks. No memory is taken.
-#[tactic(auto, unfolding(crate::specs::Strike::opened_of))]
+#[tactic(auto, unfolding(crate::specs::Strike::opened_after))]
 pub(crate) fn open<'a>(file: &'a [u8], request: &Request<'_>) -> Result<Opened<'a>, Refusal>
-    ensures due { map_ok (λ o. (o.ppem, o.font, o.map)) result ≡ opening_of file.now request.now }
+    ensures due { result ≡ opening_of file.now request.now }
     ensures named { IfErr result IsCause }
-    ensures passed { OnOk result (IsChecked request.now) }
+    ensures passed { OnOk result (AreChars request.now.chars.now) }
+    ensures name { OnOk result (IsName request.now.name.now) }
 {
-    let ppem = check(request)?;
+    let ppem = sized(request.ppem)?;
+    check_text(request.name, request.chars)?;
     let (font, map) = font_with_map(file)?;
     Ok(Opened { ppem, font, map })
 }
 
 /// The same for one character.
-#[tactic(auto, unfolding(crate::specs::Strike::opened_one_of))]
+#[tactic(auto, unfolding(crate::specs::Strike::opened_after))]
 pub(crate) fn open_one<'a>(file: &'a [u8], ppem: u16, code: u32) -> Result<Opened<'a>, Refusal>
-    ensures due { map_ok (λ o. (o.ppem, o.font, o.map)) result ≡ opened_one_of file.now ppem code }
+    ensures due { result ≡ opened_one_of file.now ppem code }
     ensures named { IfErr result IsCause }
-    ensures small { OnOk result (code ≤ max_code) }
 {
-    let ppem = sized(ppem, &[code])?;
+    let ppem = sized(ppem)?;
+    check_chars(&[code])?;
+    let (font, map) = font_with_map(file)?;
+    Ok(Opened { ppem, font, map })
+}
+
+/// The same for no character.
+#[tactic(auto, unfolding(crate::specs::Strike::opened_after))]
+pub(crate) fn open_at<'a>(file: &'a [u8], ppem: u16) -> Result<Opened<'a>, Refusal>
+    ensures due { result ≡ opened_at file.now ppem }
+    ensures named { IfErr result IsCause }
+{
+    let ppem = sized(ppem)?;
     let (font, map) = font_with_map(file)?;
     Ok(Opened { ppem, font, map })
 }

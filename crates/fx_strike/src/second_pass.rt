@@ -5,120 +5,114 @@ ghost use Rattle.fx_fixed.specs.Texts.{Adds, length_of};
 ghost use Rattle.fx_cmap.specs.Lookup.{glyph_for};
 ghost use Rattle.fx_bdf.specs.Text.{IsName, header_text, end_text};
 ghost use Rattle.fx_request.specs.Limits.{max_characters, max_code};
+ghost use Rattle.fx_fixed.specs.Changes.{change_of};
+ghost use Rattle.fx_strike.specs.Strike.{setting_with};
 ghost use Rattle.fx_strike.specs.inner.Writing.{AreLinesOf, AreAllLinesOf, IsShort, Stops, Writes};
 
-use crate::draw::draw;
-use crate::opened::Opened;
-use fx_bdf::{Header, write_end, write_glyph, write_header};
+use crate::draft::Draft;
+use crate::hinter::FontHinter;
+use crate::tools::Tools;
+use fx_bdf::{write_end, write_glyph, write_header};
 use fx_fixed::{Sink, TextWriter};
-use fx_hint::Hinter;
 use fx_request::Refusal;
 use fx_winding::Scan;
-use std::alloc::Global;
 
-/// Makes a character and writes its lines. A character that the font lacks, whose glyph is 0, has none.
-fn write_one<S: Scan, H: Hinter, W: Sink>(
-    alloc: Global,
-    scan: &S,
-    hinter: &mut H,
-    opened: &Opened<'_>,
-    code: u32,
-    glyph: u16,
-    text: &mut TextWriter<'_, W>,
-) -> Result<(), Refusal>
-    requires faults { text.old.faults < 2 ^ 63 }
-    requires code { code ≤ max_code }
-    requires glyph { glyph ≡ glyph_for opened.now.map code }
-    ensures kept { H.hinting hinter.new ≡ H.hinting hinter.old }
-    ensures same { text.new.sink ≡ text.old.sink }
-    ensures quiet { OnOk result (text.new.faults ≡ text.old.faults) }
-    ensures short { IsShort (length_of text.old + 2 ^ 33) text.new result }
-    ensures lines { (lines : List ℕ) → AreLinesOf (H.hinting hinter.old) opened.now.font opened.now.map opened.now.ppem code lines →
-        Adds Stops text.old text.new lines result }
-{
-    fx_bdf::laws::trimmed();
-    if glyph == 0 {
-        return Ok(());
+impl<'a, S: Scan> Tools<'a, S> {
+    /// Makes a character and writes its lines. A character that the font lacks, whose glyph is 0, has none.
+    fn write_one<W: Sink>(
+        &self,
+        hinter: &mut FontHinter<'_>,
+        code: u32,
+        glyph: u16,
+        text: &mut TextWriter<'_, W>,
+    ) -> Result<(), Refusal>
+        requires faults { text.old.faults < 2 ^ 63 }
+        requires code { code ≤ max_code }
+        requires glyph { glyph ≡ glyph_for self.now.opened.map code }
+        ensures kept { hinter.new ≡ hinter.old }
+        ensures same { text.new.sink ≡ text.old.sink }
+        ensures quiet { OnOk result (text.new.faults ≡ text.old.faults) }
+        ensures short { IsShort (length_of text.old + 2 ^ 33) text.new result }
+        ensures lines { (lines : List ℕ) → AreLinesOf (setting_with self.now.opened hinter.old) code lines
+            → Adds Stops text.old text.new lines result }
+    {
+        fx_bdf::laws::trimmed();
+        if glyph == 0 {
+            return Ok(());
+        }
+        let drawn = self.draw(hinter, code, glyph)?;
+        Ok(write_glyph(&drawn, text)?)
     }
-    let drawn = draw(alloc, scan, hinter, &opened.font, opened.ppem, code, glyph)?;
-    Ok(write_glyph(&drawn, text)?)
-}
 
-/// Makes the characters of code points in their order, and writes their lines.
-fn write_all<S: Scan, H: Hinter, W: Sink>(
-    alloc: Global,
-    scan: &S,
-    hinter: &mut H,
-    opened: &Opened<'_>,
-    codes: &[u32],
-    text: &mut TextWriter<'_, W>,
-) -> Result<(), Refusal>
-    requires faults { text.old.faults < 2 ^ 63 }
-    requires few { length codes.now ≤ max_characters }
-    requires small { list_any (nat_lt max_code) codes.now ≡ false }
-    ensures same { text.new.sink ≡ text.old.sink }
-    ensures quiet { OnOk result (text.new.faults ≡ text.old.faults) }
-    ensures short { IsShort (length_of text.old + 2 ^ 49) text.new result }
-    ensures lines { (lines : List ℕ) → AreAllLinesOf (H.hinting hinter.old) opened.now.font opened.now.map opened.now.ppem codes.now
-        lines → Adds Stops text.old text.new lines result }
-{
-    let mut map = opened.map.cursor();
-    // The lines of the code points so far were written.
-    'codes: for code in codes {
-        let glyph = map.glyph(*code);
-        write_one(alloc, scan, hinter, opened, *code, glyph, text)?;
+    /// Makes the characters of code points in their order, and writes their lines.
+    fn write_all<W: Sink>(
+        &self,
+        hinter: &mut FontHinter<'_>,
+        codes: &[u32],
+        text: &mut TextWriter<'_, W>,
+    ) -> Result<(), Refusal>
+        requires faults { text.old.faults < 2 ^ 63 }
+        requires few { length codes.now ≤ max_characters }
+        requires small { list_any (nat_lt max_code) codes.now ≡ false }
+        ensures kept { hinter.new ≡ hinter.old }
+        ensures same { text.new.sink ≡ text.old.sink }
+        ensures quiet { OnOk result (text.new.faults ≡ text.old.faults) }
+        ensures short { IsShort (length_of text.old + 2 ^ 49) text.new result }
+        ensures lines { (lines : List ℕ) → AreAllLinesOf (setting_with self.now.opened hinter.old) codes.now lines
+            → Adds Stops text.old text.new lines result }
+    {
+        let mut map = self.opened.map.cursor();
+        // The lines of the code points so far were written.
+        'codes: for code in codes {
+            let glyph = map.glyph(*code);
+            self.write_one(hinter, *code, glyph, text)?;
+        }
+        Ok(())
     }
-    Ok(())
-}
 
-/// Writes the header of a strike, the lines of its glyphs, and the end.
-fn write_parts<S: Scan, H: Hinter, W: Sink>(
-    alloc: Global,
-    scan: &S,
-    hinter: &mut H,
-    opened: &Opened<'_>,
-    name: &str,
-    header: &Header,
-    codes: &[u32],
-    text: &mut TextWriter<'_, W>,
-) -> Result<(), Refusal>
-    requires faults { text.old.faults < 2 ^ 63 }
-    requires name { IsName name.now }
-    requires few { length codes.now ≤ max_characters }
-    requires small { list_any (nat_lt max_code) codes.now ≡ false }
-    ensures same { text.new.sink ≡ text.old.sink }
-    ensures ended { OnOk result (text.new.waiting ≡ []) }
-    ensures short { IsShort (length_of text.old + 2 ^ 50) text.new result }
-    ensures lines { (lines : List ℕ) → AreAllLinesOf (H.hinting hinter.old) opened.now.font opened.now.map opened.now.ppem codes.now
-        lines → Adds Stops text.old text.new (header_text name.now header.now ++ (lines ++ end_text)) result }
-{
-    write_header(name, header, text)?;
-    write_all(alloc, scan, hinter, opened, codes, text)?;
-    write_end(text)?;
-    Ok(text.end()?)
-}
+    /// Writes the header of a strike, the lines of its glyphs, and the end.
+    fn write_parts<W: Sink>(
+        &self,
+        hinter: &mut FontHinter<'_>,
+        draft: &Draft<'_>,
+        text: &mut TextWriter<'_, W>,
+    ) -> Result<(), Refusal>
+        requires faults { text.old.faults < 2 ^ 63 }
+        requires name { IsName draft.now.name.now }
+        requires few { length draft.now.codes.now ≤ max_characters }
+        requires small { list_any (nat_lt max_code) draft.now.codes.now ≡ false }
+        ensures kept { hinter.new ≡ hinter.old }
+        ensures same { text.new.sink ≡ text.old.sink }
+        ensures ended { OnOk result (text.new.waiting ≡ []) }
+        ensures short { IsShort (length_of text.old + 2 ^ 50) text.new result }
+        ensures lines { (lines : List ℕ) → AreAllLinesOf (setting_with self.now.opened hinter.old) draft.now.codes.now lines
+            → Adds Stops text.old text.new (header_text draft.now.name.now draft.now.header ++ (lines ++ end_text)) result }
+    {
+        write_header(draft.name, &draft.header, text)?;
+        self.write_all(hinter, draft.codes, text)?;
+        write_end(text)?;
+        Ok(text.end()?)
+    }
 
-/// Writes the text of a strike.
-pub(crate) fn write_text<S: Scan, H: Hinter, W: Sink>(
-    alloc: Global,
-    scan: &S,
-    hinter: &mut H,
-    opened: &Opened<'_>,
-    name: &str,
-    header: &Header,
-    codes: &[u32],
-    out: &mut W,
-) -> Result<(), Refusal>
-    requires faults { W.fault_count out.old < 2 ^ 63 }
-    requires name { IsName name.now }
-    requires few { length codes.now ≤ max_characters }
-    requires small { list_any (nat_lt max_code) codes.now ≡ false }
-    ensures { (lines : List ℕ) → AreAllLinesOf (H.hinting hinter.old) opened.now.font opened.now.map opened.now.ppem codes.now
-        lines → Writes (W.held out.old) (W.held out.new) (W.fault_count out.old) (W.fault_count out.new)
-        (header_text name.now header.now ++ (lines ++ end_text)) result }
-{
-    let mut text = TextWriter::new(out);
-    let result = write_parts(alloc, scan, hinter, opened, name, header, codes, &mut text);
-    let _sink = text.close();
-    result
+    /// Writes the text of a strike.
+    pub(crate) fn write_text<W: Sink>(
+        &self,
+        hinter: &mut FontHinter<'_>,
+        draft: &Draft<'_>,
+        out: &mut W,
+    ) -> Result<(), Refusal>
+        requires faults { W.fault_count out.old < 2 ^ 63 }
+        requires name { IsName draft.now.name.now }
+        requires few { length draft.now.codes.now ≤ max_characters }
+        requires small { list_any (nat_lt max_code) draft.now.codes.now ≡ false }
+        ensures kept { hinter.new ≡ hinter.old }
+        ensures text { (lines : List ℕ) → AreAllLinesOf (setting_with self.now.opened hinter.old) draft.now.codes.now lines
+            → Writes (change_of W.held W.fault_count out.old out.new)
+            (header_text draft.now.name.now draft.now.header ++ (lines ++ end_text)) result }
+    {
+        let mut text = TextWriter::new(out);
+        let result = self.write_parts(hinter, draft, &mut text);
+        let _sink = text.close();
+        result
+    }
 }

@@ -7,32 +7,33 @@ ghost use Rattle.fx_contour.specs.Contours.{IsInReach, spans_of};
 ghost use Rattle.fx_contour.specs.Frames.{IsFrameFor, NothingOutsideFrame, outline_framed_of};
 ghost use Rattle.fx_request.specs.Faults.{of_font};
 ghost use Rattle.fx_strike.specs.Faults.{Fails, of_hint, of_contour};
-ghost use Rattle.fx_strike.specs.Strike.{thousandths, glyph_sketch_of};
+ghost use Rattle.fx_strike.specs.Strike.{hinting_by, setting_with, thousandths, glyph_sketch_of};
 ghost use Rattle.fx_strike.specs.inner.Drawing.{Sketches};
 
 use crate::faults::{of_contour, of_hint};
+use crate::hinter::FontHinter;
+use crate::opened::Opened;
 use crate::sketched::Sketched;
 use fx_contour::outline_frame;
-use fx_fixed::{Ppem, near};
-use fx_hint::{Hinter, Outline, outline_with};
+use fx_fixed::near;
+use fx_hint::{Outline, outline_with};
 use fx_request::Refusal;
 use fx_sfnt::Font;
 use fx_winding::Frame;
 use std::alloc::Global;
 
 /// The outline of a glyph, scaled and hinted.
-fn outline_at<H: Hinter>(
+fn outline_at(
     alloc: Global,
-    hinter: &mut H,
-    font: &Font<'_>,
-    ppem: Ppem,
+    hinter: &mut FontHinter<'_>,
+    opened: &Opened<'_>,
     glyph: u16,
 ) -> Result<Outline, Refusal>
-    ensures kept { H.hinting hinter.new ≡ H.hinting hinter.old }
+    ensures kept { hinter.new ≡ hinter.old }
     ensures value { GivesUnless Fails view_of_outline result
-        (map_fault of_hint (outline_with (H.hinting hinter.old) font.now ppem glyph)) }
+        (map_fault of_hint (outline_with (hinting_by hinter.old) opened.now.font opened.now.ppem glyph)) }
 {
-    match outline_with(alloc, hinter, font, ppem, glyph) {
+    match outline_with(alloc, hinter, &opened.font, opened.ppem, glyph) {
         Ok(outline) => Ok(outline),
         Err(fault) => Err(of_hint(fault)),
     }
@@ -64,22 +65,21 @@ fn thousandths_at(font: &Font<'_>, glyph: u16) -> Result<i32, Refusal>
 
 /// A glyph before its bits, or the first cause why there is none: its outline, then how far out it lies and how large it is,
 /// then its advance.
-pub(crate) fn sketch_at<H: Hinter>(
+pub(crate) fn sketch_at(
     alloc: Global,
-    hinter: &mut H,
-    font: &Font<'_>,
-    ppem: Ppem,
+    hinter: &mut FontHinter<'_>,
+    opened: &Opened<'_>,
     glyph: u16,
 ) -> Result<Sketched, Refusal>
-    ensures kept { H.hinting hinter.new ≡ H.hinting hinter.old }
-    ensures sketch { (code : ℕ) → Sketches (glyph_sketch_of (H.hinting hinter.old) font.now ppem code glyph) result }
+    ensures kept { hinter.new ≡ hinter.old }
+    ensures sketch { (code : ℕ) → Sketches (glyph_sketch_of (setting_with opened.now hinter.old) code glyph) result }
     ensures frame { IfOk result (λ s. IsFrameFor s.frame (spans_of s.outline.ends.items s.outline.points.items)) }
     ensures outside { IfOk result (λ s. NothingOutsideFrame s.frame (spans_of s.outline.ends.items s.outline.points.items)) }
     ensures reach { IfOk result (λ s. All IsInReach s.outline.points.items) }
 {
-    let outline = outline_at(alloc, hinter, font, ppem, glyph)?;
+    let outline = outline_at(alloc, hinter, opened, glyph)?;
     let frame = frame_of_outline(&outline, glyph)?;
-    let swidth = thousandths_at(font, glyph)?;
+    let swidth = thousandths_at(&opened.font, glyph)?;
     Ok(Sketched {
         outline,
         frame,

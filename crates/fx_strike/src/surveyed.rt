@@ -13,19 +13,13 @@ pub struct Survey {
     pub ascent: i32,
     /// The font's descent in pixels.
     pub descent: i32,
-    /// The number of glyphs: one for each requested character that the font has.
-    pub glyphs: u32,
-    /// The number of requested characters that the font does not have.
-    pub missing: u32,
-    /// The numbers outside their tables that font programs named; the count stays at the greatest `u64`.
-    pub strays: u64,
-    /// The instructions that font programs executed; the count stays at the greatest `u64`.
-    pub steps: u64,
+    /// What is counted over it.
+    pub report: Report,
 }
 
 impl Survey {
     ghost use Rattle.std.specs.Prelude.{◌≡◌};
-    ghost use Rattle.fx_strike.specs.Headline.{surveyed_header, surveyed_report};
+    ghost use Rattle.fx_strike.specs.Headline.{surveyed_header};
 
     /// The numbers in the lines before the glyphs.
     pub(crate) fn header(&self, ppem: Ppem) -> Header
@@ -36,19 +30,7 @@ impl Survey {
             bounds: self.bounds,
             ascent: self.ascent,
             descent: self.descent,
-            glyphs: self.glyphs,
-        }
-    }
-
-    /// What is counted over the strike.
-    pub(crate) fn report(&self) -> Report
-        ensures { result ≡ surveyed_report self.now }
-    {
-        Report {
-            glyphs: self.glyphs,
-            missing: self.missing,
-            strays: self.strays,
-            steps: self.steps,
+            glyphs: self.report.glyphs,
         }
     }
 }

@@ -1,67 +1,16 @@
 //! The survey of a strike.
 ghost use Rattle.std.specs.Prelude.{IfOk, IfErr, IsErrOf};
-ghost use Rattle.fx_strike.specs.Strike.{plan_after, plan_in};
-ghost use Rattle.fx_strike.specs.inner.Surveying.{IsChecked, Surveys, seen_prelude};
+ghost use Rattle.fx_strike.specs.inner.Surveying.{Surveys};
 ghost use Rattle.fx_strike.specs.Faults.{Fails};
 ghost use Rattle.fx_strike.specs.Headline.{Surveyed, Late, opening_of, strike_of};
 
-use crate::first_pass::survey_after;
-use crate::hinter::hinter_at;
 use crate::open::open;
-use crate::opened::Opened;
+use crate::striker::Striker;
 use crate::surveyed::Survey;
-use fx_hint::Hinter;
-use fx_machine::Ran;
-use fx_request::{Refusal, Request, rising_codes};
+use crate::tools::Tools;
+use fx_request::{Refusal, Request};
 use fx_winding::Scan;
 use std::alloc::Global;
-
-/// Surveys the strike of an opened font, once `fpgm` and `prep` ran.
-fn survey_hinted<S: Scan, H: Hinter>(
-    alloc: Global,
-    scan: &S,
-    hinter: &mut H,
-    prelude: Ran,
-    opened: &Opened<'_>,
-    request: &Request<'_>,
-) -> Result<Survey, Refusal>
-    requires { IsChecked request.now }
-    ensures { Surveys (plan_after (seen_prelude (H.hinting hinter.old) prelude) opened.now.font opened.now.map opened.now.ppem
-        request.now.name.now request.now.chars.now) result }
-{
-    let codes = rising_codes(alloc, request.chars)?;
-    survey_after(alloc, scan, hinter, prelude, opened, request, &codes)
-}
-
-/// Surveys the strike of an opened font. With hinting on, its programs run first.
-fn survey_opened<S: Scan>(
-    alloc: Global,
-    scan: &S,
-    opened: &Opened<'_>,
-    request: &Request<'_>,
-) -> Result<Survey, Refusal>
-    requires { IsChecked request.now }
-    ensures { Surveys (plan_in opened.now.font opened.now.map opened.now.ppem request.now.name.now request.now.chars.now
-        request.now.hinting) result }
-{
-    let mut hinter = hinter_at(alloc, &opened.font, opened.ppem, request.hinting)?;
-    let prelude = hinter.prelude();
-    survey_hinted(alloc, scan, &mut hinter, prelude, opened, request)
-}
-
-/// The same for a font file.
-fn survey_inner<S: Scan>(
-    alloc: Global,
-    scan: &S,
-    font: &[u8],
-    request: &Request<'_>,
-) -> Result<Survey, Refusal>
-    ensures survey { Surveys (strike_of font.now request.now) result }
-    ensures late { IsErrOf result Refusal.OutOfMemory → Late (opening_of font.now request.now) }
-{
-    let opened = open(font, request)?;
-    survey_opened(alloc, scan, &opened, request)
-}
 
 /// Surveys the strike of a font: the numbers of its header, and what is counted over it, with a scan of the caller's choice.
 ///
@@ -81,4 +30,24 @@ pub fn survey<S: Scan>(
     ensures late { IsErrOf result Refusal.OutOfMemory → Late (opening_of font.now request.now) }
 {
     survey_inner(alloc, scan, font, request)
+}
+
+/// The same, with its clauses as one.
+fn survey_inner<S: Scan>(
+    alloc: Global,
+    scan: &S,
+    font: &[u8],
+    request: &Request<'_>,
+) -> Result<Survey, Refusal>
+    ensures survey { Surveys (strike_of font.now request.now) result }
+    ensures late { IsErrOf result Refusal.OutOfMemory → Late (opening_of font.now request.now) }
+{
+    let opened = open(font, request)?;
+    let tools = Tools {
+        alloc,
+        scan,
+        opened,
+    };
+    let mut striker = Striker::of(tools, request.hinting)?;
+    striker.survey_checked(request.chars)
 }

@@ -15,14 +15,15 @@ use Rattle.fx_bdf.specs.declared.header.Header.{Header}
 use Rattle.fx_request.specs.declared.refusal.Refusal.{Refusal}
 use Rattle.fx_request.specs.declared.refusal.Refusal.TheVariants.{BadSize, BadName, OutOfMemory}
 use Rattle.fx_request.specs.Characters.{rising}
-use Rattle.fx_strike.specs.Strike.{Opening, Plan, sized, checked, font_with_map, opened_of, prelude_for, plan_after}
-use Rattle.fx_strike.specs.Strike.{plan_in, plan_of}
+use Rattle.fx_strike.specs.declared.opened.Opened.{Opened}
+use Rattle.fx_strike.specs.Strike.{Opening, Plan, checked_chars, checked_text, font_with_map, opened_after, opened_of, opened_at}
+use Rattle.fx_strike.specs.Strike.{machine_for, setting_in, plan_with, plan_in, plan_of}
 use Rattle.fx_strike.specs.Headline.{Late, Surveyed}
 use Rattle.fx_strike.specs.Faults.{Fails}
 use Rattle.fx_strike.specs.declared.surveyed.Survey.{Survey}
 use Rattle.fx_strike.proofs.Sketching.{fails_on}
 use Rattle.mkstrike_c.specs.declared.heights.Heights.{Heights}
-use Rattle.mkstrike_c.specs.Heights.{opened_at, heights_at, heights_of, surveyed_heights}
+use Rattle.mkstrike_c.specs.Heights.{heights_at, heights_of, surveyed_heights}
 use Rattle.mkstrike_c.specs.Made.{AreNamesAlike}
 use Rattle.mkstrike_c.specs.Refused.{IsReason}
 
@@ -49,50 +50,51 @@ pub no_text : (name : List ℕ) → (IsUtf8 name → ⊥) → AreNamesAlike name
 unfolding is_name
 no_text name other = inr (not_name name other, refl)
 
-abbrev with_name : Bool → Result ℕ Refusal → Result ℕ Refusal
-with_name b r = r >>= λ size. refuse (not b) BadName >>= λ _. Ok size
+-- the checks of characters and a name, and an opening after checks
+abbrev with_name : Bool → Result (Unit {0}) Refusal → Result (Unit {0}) Refusal
+with_name b r = r >>= λ _. refuse (not b) BadName
 
-abbrev opening : Result ℕ Refusal → Result (Face × Mapping) Refusal → Opening
-opening r f = r >>= λ size. f >>= λ font. Ok (size, font.0, font.1)
+abbrev opening : Result ℕ Refusal → Result (Unit {0}) Refusal → Result (Face × Mapping) Refusal → Opening
+opening r checks f = r >>= λ size. checks >>= λ _. f >>= λ font. Ok (record { ppem = size; font = font.0; map = font.1 })
 
--- whatever follows the checks, it is the cause after the size and the characters
-unnamed : (r : Result ℕ Refusal) (b : Bool) → b ≡ false → with_name b r ≡ (r >>= λ size. Err BadName)
-unnamed (Ok size) false h = refl
-unnamed (Ok size) true h = absurd (true≢false h)
+-- a name that is none is the cause after the characters
+unnamed : (r : Result (Unit {0}) Refusal) (b : Bool) → b ≡ false → with_name b r ≡ (r >>= λ _. Err BadName)
+unnamed (Ok u) false h = refl
+unnamed (Ok u) true h = absurd (true≢false h)
 unnamed (Err e) b h = refl
 
-stopped : {Y : Type 0} (r : Result ℕ Refusal) (f : Result (Face × Mapping) Refusal) (g h : ℕ × Face × Mapping → Result Y Refusal)
-    → (opening (r >>= λ size. Err BadName) f >>= g) ≡ (opening (r >>= λ size. Err BadName) f >>= h)
-stopped (Ok size) f g h = refl
-stopped (Err e) f g h = refl
+-- whatever follows
+stopped : {Y : Type 0} (r : Result ℕ Refusal) (k : Result (Unit {0}) Refusal) (f : Result (Face × Mapping) Refusal)
+    (g h : Opened → Result Y Refusal)
+    → (opening r (k >>= λ _. Err BadName) f >>= g) ≡ (opening r (k >>= λ _. Err BadName) f >>= h)
+stopped (Ok size) (Ok u) f g h = refl
+stopped (Ok size) (Err e) f g h = refl
+stopped (Err e) k f g h = refl
 
-same_checked : (ppem : ℕ) (a b chars : List ℕ) → is_name a ≡ false → is_name b ≡ false
-    → checked ppem b chars ≡ checked ppem a chars
-unfolding checked
-same_checked ppem a b chars p q = unnamed (sized ppem chars) (is_name b) q ∙ sym (unnamed (sized ppem chars) (is_name a) p)
+none_checked : (a chars : List ℕ) → is_name a ≡ false → checked_text a chars ≡ (checked_chars chars >>= λ _. Err BadName)
+unfolding checked_text
+none_checked a chars p = unnamed (checked_chars chars) (is_name a) p
+
+none_opened : (file : List ℕ) (ppem : ℕ) (a chars : List ℕ) → is_name a ≡ false
+    → opened_of file ppem a chars ≡ opened_after ppem (checked_chars chars >>= λ _. Err BadName) file
+none_opened file ppem a chars p =
+    ap (λ (k : Result (Unit {0}) Refusal). opened_after ppem k file) (none_checked a chars p)
 
 pub same_opened : (file : List ℕ) (ppem : ℕ) (a b chars : List ℕ) → AreNamesAlike a b
     → opened_of file ppem b chars ≡ opened_of file ppem a chars
-unfolding opened_of
 same_opened file ppem a b chars (inl same) = ap (λ (n : List ℕ). opened_of file ppem n chars) same
 same_opened file ppem a b chars (inr none) =
-    ap (λ (r : Result ℕ Refusal). opening r (font_with_map file)) (same_checked ppem a b chars none.0 none.1)
-
-none_opened : (file : List ℕ) (ppem : ℕ) (a chars : List ℕ) → is_name a ≡ false
-    → opened_of file ppem a chars ≡ opening (sized ppem chars >>= λ size. Err BadName) (font_with_map file)
-unfolding opened_of checked
-none_opened file ppem a chars p =
-    ap (λ (r : Result ℕ Refusal). opening r (font_with_map file)) (unnamed (sized ppem chars) (is_name a) p)
+    none_opened file ppem b chars none.1 ∙ sym (none_opened file ppem a chars none.0)
 
 pub same_plan : (file : List ℕ) (ppem : ℕ) (a b chars : List ℕ) (hinting : Bool) → AreNamesAlike a b
     → plan_of file ppem b chars hinting ≡ plan_of file ppem a chars hinting
-unfolding plan_of
+unfolding opened_after plan_of
 same_plan file ppem a b chars hinting (inl same) = ap (λ (n : List ℕ). plan_of file ppem n chars hinting) same
 same_plan file ppem a b chars hinting (inr none) =
-    ap (λ (o : Opening). o >>= λ o. plan_in o.1 o.2 o.0 b chars hinting) (none_opened file ppem b chars none.1)
-    ∙ stopped (sized ppem chars) (font_with_map file) (λ o. plan_in o.1 o.2 o.0 b chars hinting)
-    (λ o. plan_in o.1 o.2 o.0 a chars hinting)
-    ∙ sym (ap (λ (o : Opening). o >>= λ o. plan_in o.1 o.2 o.0 a chars hinting) (none_opened file ppem a chars none.0))
+    ap (λ (o : Opening). o >>= λ o. plan_in o b chars hinting) (none_opened file ppem b chars none.1)
+    ∙ stopped (wanted (ppem_of ppem) BadSize) (checked_chars chars) (font_with_map file) (λ o. plan_in o b chars hinting)
+    (λ o. plan_in o a chars hinting)
+    ∙ sym (ap (λ (o : Opening). o >>= λ o. plan_in o a chars hinting) (none_opened file ppem a chars none.0))
 
 -- ---- a strike's opening
 
@@ -102,7 +104,7 @@ pub opened_if_made : (file : List ℕ) (ppem : ℕ) (name chars : List ℕ) (hin
 unfolding plan_of
 opened_if_made file ppem name chars hinting plan made = by_opening (opened_of file ppem name chars) made
   where
-    by_opening : (o : Opening) → (o >>= λ o. plan_in o.1 o.2 o.0 name chars hinting) ≡ Ok plan → IsOk o
+    by_opening : (o : Opening) → (o >>= λ o. plan_in o name chars hinting) ≡ Ok plan → IsOk o
     by_opening (Ok o) h = refl
     by_opening (Err e) h = absurd (cc)
 
@@ -115,19 +117,18 @@ abbrev pub no_name : List ℕ
 no_name = codes "heights"
 
 pub heights_are : (file : List ℕ) (ppem : ℕ) → heights_of file ppem ≡ map_ok heights_in (plan_of file ppem no_name [] false)
-unfolding heights_of opened_at plan_of opened_of checked sized is_name plan_in prelude_for plan_after rising
+unfolding heights_of plan_of opened_after checked_text checked_chars is_name plan_in setting_in machine_for plan_with rising
 heights_are file ppem = by_size (wanted (ppem_of ppem) BadSize)
   where
     by_font : (size : ℕ) (f : Result (Face × Mapping) Refusal)
-        → (opening (Ok size) f >>= λ o. Ok (heights_at o.0 o.1)) ≡
-        map_ok heights_in (opening (Ok size) f >>= λ o. plan_in o.1 o.2 o.0 no_name [] false)
+        → (opening (Ok size) (Ok tt) f >>= λ o. Ok (heights_at o.ppem o.font)) ≡
+        map_ok heights_in (opening (Ok size) (Ok tt) f >>= λ o. plan_in o no_name [] false)
     by_font size (Ok font) = refl
     by_font size (Err e) = refl
 
     by_size : (r : Result ℕ Refusal)
-        → (opening r (font_with_map file) >>= λ o. Ok (heights_at o.0 o.1)) ≡
-        map_ok heights_in (opening (with_name true (r >>= λ size. Ok size)) (font_with_map file) >>= λ o.
-        plan_in o.1 o.2 o.0 no_name [] false)
+        → (opening r (Ok tt) (font_with_map file) >>= λ o. Ok (heights_at o.ppem o.font)) ≡
+        map_ok heights_in (opening r (with_name true (Ok tt)) (font_with_map file) >>= λ o. plan_in o no_name [] false)
     by_size (Ok size) = by_font size (font_with_map file)
     by_size (Err e) = refl
 
@@ -140,13 +141,8 @@ some_heights file ppem survey s =
 
 -- and the one is opened as the other is
 pub heights_opened : (file : List ℕ) (ppem : ℕ) → opened_at file ppem ≡ opened_of file ppem no_name []
-unfolding opened_at opened_of checked sized is_name
-heights_opened file ppem = by_size (wanted (ppem_of ppem) BadSize)
-  where
-    by_size : (r : Result ℕ Refusal)
-        → opening r (font_with_map file) ≡ opening (with_name true (r >>= λ size. Ok size)) (font_with_map file)
-    by_size (Ok size) = refl
-    by_size (Err e) = refl
+unfolding checked_text checked_chars is_name
+heights_opened file ppem = refl
 
 -- and refused as the other is
 pub no_heights : (file : List ℕ) (ppem : ℕ) (r : Result Heights Refusal) (e d : Refusal) → r ≡ Err e → e ≡ d

@@ -1,20 +1,11 @@
 -- The heights of a font at a size.
 use Rattle.std.specs.Prelude.{ℕ, neg_ℤ, List, Result, Ok}
-use Rattle.fx_fixed.specs.Chain.{◌>>=◌, wanted}
-use Rattle.fx_fixed.specs.Sizes.{ppem_of}
+use Rattle.fx_fixed.specs.Chain.{◌>>=◌}
 use Rattle.fx_sfnt.specs.Tables.{Face}
 use Rattle.fx_request.specs.declared.refusal.Refusal.{Refusal}
-use Rattle.fx_request.specs.declared.refusal.Refusal.TheVariants.{BadSize}
 use Rattle.fx_strike.specs.declared.surveyed.Survey.{Survey}
-use Rattle.fx_strike.specs.Strike.{Opening, font_with_map, pixels}
+use Rattle.fx_strike.specs.Strike.{opened_at, pixels}
 use Rattle.mkstrike_c.specs.declared.heights.Heights.{Heights}
-
--- what takes no memory: the size is within its limit, and the font and its character map open; or the first cause
-unfoldable pub opened_at : List ℕ → ℕ → Opening
-opened_at file ppem = do
-  size ← wanted (ppem_of ppem) BadSize
-  font ← font_with_map file
-  Ok (size, font.0, font.1)
 
 -- the heights of an opened font, rounded
 abbrev pub heights_at : ℕ → Face → Heights
@@ -31,4 +22,4 @@ surveyed_heights survey = record { ascent = survey.ascent; descent = survey.desc
 unfoldable pub heights_of : List ℕ → ℕ → Result Heights Refusal
 heights_of file ppem = do
   opened ← opened_at file ppem
-  Ok (heights_at opened.0 opened.1)
+  Ok (heights_at opened.ppem opened.font)

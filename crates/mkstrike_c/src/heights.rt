@@ -1,7 +1,8 @@
 //! The heights of a font at a size, for C.
 ghost use Rattle.std.specs.Prelude.{◌≡◌, ◌<◌, ◌≤◌, Ok, IfOk, IfErr};
 ghost use Rattle.fx_request.specs.Refusals.{number_of};
-ghost use Rattle.mkstrike_c.specs.Heights.{heights_of, opened_at, surveyed_heights};
+ghost use Rattle.fx_strike.specs.Strike.{opened_at};
+ghost use Rattle.mkstrike_c.specs.Heights.{heights_of, surveyed_heights};
 ghost use Rattle.mkstrike_c.specs.Refused.{IsReason, IsRefused, refused_of};
 
 use crate::refused::{Refused, refuse};

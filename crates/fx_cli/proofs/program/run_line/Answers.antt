@@ -3,10 +3,10 @@ use Rattle.std.specs.Str.{IsUtf8}
 use Rattle.std.proofs.lemmas.List.{length-take-le}
 use Rattle.std.proofs.lemmas.Result.{err_from_is_err_and}
 use Rattle.clap.specs.Walk.{Text}
+use Rattle.fx_fixed.specs.Changes.{Change}
 use Rattle.fx_cli.specs.Input.{line_of, arguments_of_line}
 use Rattle.fx_cli.specs.Arguments.{seen, texts, wish_of_arguments}
 use Rattle.fx_cli.specs.ReadAhead.{ReadAheadView}
-use Rattle.fx_fixed.specs.Changes.{Change}
 use Rattle.fx_cli.specs.Runs.{called}
 use Rattle.fx_cli.specs.Steps.{EndsAfter}
 use Rattle.fx_cli.proofs.FirstLines.{few_arguments, is_usage, for_line, keeps_same, length-line_of, line_ends, line_read, unread}

@@ -2,33 +2,34 @@ use Rattle.std.proofs.Common.{arith, to_z, of_z}
 use Rattle.std.specs.Int.{w32}
 use Rattle.std.proofs.lemmas.Int.{ints}
 use Rattle.std.proofs.lemmas.Result.{err_from_is_err_and}
+use Rattle.fx_strike.specs.Strike.{setting_with}
 use Rattle.fx_strike.proofs.Sketching.{sketched_framed, no_outline, no_frame, no_advance, sketches_err}
 use Rattle.fx_strike.proofs.sketch.sketch_at.Goals as goal
 
 pub returns-in_err-outline-clause-sketch : goal.returns-in_err-outline-clause-sketch
-returns-in_err-outline-clause-sketch g c code =
+returns-in_err-outline-clause-sketch c code =
     let p = err_from_is_err_and c.from_residual.result c.from_residual.ensures.1 in
     sketches_err _ c.from_residual.result p.0 c.in_err-outline.field-0.0 p.1 p.2
-    (no_outline (g.H.Hinter.hinting c.args.hinter.now) c.args.font.now c.args.ppem code c.args.glyph _
+    (no_outline (setting_with c.args.opened.now c.args.hinter.now) code c.args.glyph _
     c.in_err-outline.ensures.value)
 
 pub returns-in_err-frame-clause-sketch : goal.returns-in_err-frame-clause-sketch
-returns-in_err-frame-clause-sketch g c code =
+returns-in_err-frame-clause-sketch c code =
     let p = err_from_is_err_and c.from_residual-in_err-frame.result c.from_residual-in_err-frame.ensures.1 in
     sketches_err _ c.from_residual-in_err-frame.result p.0 c.in_err-frame.field-0.0 p.1 p.2
-    (no_frame (g.H.Hinter.hinting c.args.hinter.now) c.args.font.now c.args.ppem code c.args.glyph _ _
+    (no_frame (setting_with c.args.opened.now c.args.hinter.now) code c.args.glyph _ _
     c.in_ok-outline.ensures.value c.in_err-frame.ensures.checked)
 
 pub returns-in_err-swidth-clause-sketch : goal.returns-in_err-swidth-clause-sketch
-returns-in_err-swidth-clause-sketch g c code =
+returns-in_err-swidth-clause-sketch c code =
     let p = err_from_is_err_and c.from_residual-in_err-swidth.result c.from_residual-in_err-swidth.ensures.1 in
     sketches_err _ c.from_residual-in_err-swidth.result p.0 c.in_err-swidth.field-0.0 p.1 p.2
-    (no_advance (g.H.Hinter.hinting c.args.hinter.now) c.args.font.now c.args.ppem code c.args.glyph _ _
+    (no_advance (setting_with c.args.opened.now c.args.hinter.now) code c.args.glyph _ _
     c.in_ok-outline.ensures.value c.in_ok-frame.ensures.checked c.in_err-swidth.ensures)
 
 pub returns-clause-sketch : goal.returns-clause-sketch
-returns-clause-sketch g c code =
-    sketched_framed (g.H.Hinter.hinting c.args.hinter.now) c.args.font.now c.args.ppem code c.args.glyph
+returns-clause-sketch c code =
+    sketched_framed (setting_with c.args.opened.now c.args.hinter.now) code c.args.glyph
     (record {
       outline = c.in_ok-outline.outline;
       frame = c.in_ok-frame.frame;

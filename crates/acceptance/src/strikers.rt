@@ -1,0 +1,159 @@
+//! Characters and strikes that one striker makes, one after the other.
+use crate::fonts::{ARC, RING, fixture, font};
+use crate::hinted::{READING, ROUNDED, STORING};
+use crate::strikes::request;
+use crate::surveys::OfWideFrames;
+use crate::tables::{NO_TABLES, Tables, with_tables};
+use fx_fixed::{Limits, MemorySink};
+use fx_request::{Refusal, Request};
+use fx_rows::Rows;
+use fx_strike::{Striker, make_strike, survey};
+use std::alloc::Global;
+use std::process::Abort;
+use std::test::Fail;
+
+/// The box of a character's glyph: its width and height, its left column and its lowest row; none if the font lacks it.
+fn box_of(
+    striker: &mut Striker<'_, Rows>,
+    code: u32,
+) -> Result<Option<(u32, u32, i32, i32)>, Refusal> {
+    let glyph = striker.glyph(code)?;
+    Ok(glyph.as_ref().map(|glyph| glyph.bbox()))
+}
+
+/// A hinted request for one character at 16 pixels an em.
+fn hinted(chars: &[u32]) -> Request<'_> {
+    Request {
+        hinting: true,
+        ..request(16, chars)
+    }
+}
+
+/// The striker writes the strike of a character as `make_strike` does, and with the same counts or the same refusal.
+fn writes_as_alone(
+    rt: &impl Abort,
+    alloc: Global,
+    striker: &mut Striker<'_, Rows>,
+    font: &[u8],
+    code: u32,
+) -> Result<(), Fail> {
+    let chars = [code];
+    let mut alone = MemorySink::new(alloc, 1024, Limits::NONE)?;
+    let due = make_strike(alloc, font, &hinted(&chars), &mut alone);
+    let mut out = MemorySink::new(alloc, 1024, Limits::NONE)?;
+    let told = striker.write("F1", &chars, &mut out);
+    assert_eq!(rt; told, due);
+    assert!(rt; out.bytes() == alone.bytes(), "{code}");
+    Ok(())
+}
+
+/// A ring whose program stores, and an arc whose program reads it.
+fn of_storing(alloc: Global) -> Result<Vec<u8>, Fail> {
+    let base = font(alloc, STORING, READING)?;
+    let tables = Tables {
+        cvt: "0000",
+        ..NO_TABLES
+    };
+    with_tables(alloc, base.as_slice(), &tables)
+}
+
+/// What one character's program stores is gone when that of the next begins, in any order and each twice.
+#[test]
+fn characters_in_any_order(rt: HostRuntime) -> Result<(), Fail> {
+    let font = of_storing(rt.alloc())?;
+    let mut striker = Striker::open(rt.alloc(), font.as_slice(), 16, true)?;
+    for code in [0x42, 0x41, 0x42, 0x21, 0x41, 0x42] {
+        writes_as_alone(&rt, rt.alloc(), &mut striker, font.as_slice(), code)?;
+        assert_eq!(rt; box_of(&mut striker, 0x42), Ok(Some((2, 1, 0, 0))));
+    }
+    assert_eq!(rt; box_of(&mut striker, 0x21), Ok(None));
+    Ok(())
+}
+
+/// An arc whose program divides by zero.
+const DIVIDING: &str = "0001 0000 0000 0080 0080 0002 0004 B1 01 00 62 31 36 17 40 40 80 80 00";
+
+/// The square is two pixels wide only if its program runs; it does after a refusal too.
+#[test]
+fn a_refusal_leaves_the_striker(rt: HostRuntime) -> Result<(), Fail> {
+    let font = font(rt.alloc(), ROUNDED, DIVIDING)?;
+    let mut striker = Striker::open(rt.alloc(), font.as_slice(), 16, true)?;
+    for _time in 0..2 {
+        assert_eq!(rt; box_of(&mut striker, 0x41), Ok(Some((2, 1, 0, 0))));
+        let refused = box_of(&mut striker, 0x42);
+        assert_eq!(rt; refused.err().map(|refusal| refusal.number()), Some(38));
+        writes_as_alone(&rt, rt.alloc(), &mut striker, font.as_slice(), 0x42)?;
+    }
+    Ok(())
+}
+
+/// The number of the refusal of a font at 16 pixels an em.
+fn refused(alloc: Global, font: &[u8], hinting: bool) -> Option<u8> {
+    match Striker::open(alloc, font, 16, hinting) {
+        Ok(_striker) => None,
+        Err(refusal) => Some(refusal.number()),
+    }
+}
+
+#[test]
+fn fonts_that_do_not_open(rt: HostRuntime) -> Result<(), Fail> {
+    let font = fixture(rt.alloc())?;
+    assert_eq!(rt; refused(rt.alloc(), font.as_slice(), true), None);
+    assert_eq!(rt; refused(rt.alloc(), &[], true), Some(10));
+    let cut = &font.as_slice()[..40];
+    assert_eq!(rt; refused(rt.alloc(), cut, false), Some(10));
+    Ok(())
+}
+
+/// `fpgm` and `prep` run when the striker is opened, and only with hinting on.
+#[test]
+fn programs_that_halt(rt: HostRuntime) -> Result<(), Fail> {
+    let base = font(rt.alloc(), RING, ARC)?;
+    let calling = Tables {
+        fpgm: "B0 00 2C B0 00 2B 2D B0 00 2B",
+        ..NO_TABLES
+    };
+    let endless = Tables {
+        prep: "B8 FF FD 1C",
+        ..NO_TABLES
+    };
+    for (tables, number) in [(&calling, 36), (&endless, 37)] {
+        let font = with_tables(rt.alloc(), base.as_slice(), tables)?;
+        assert_eq!(rt; refused(rt.alloc(), font.as_slice(), true), Some(number));
+        assert_eq!(rt; refused(rt.alloc(), font.as_slice(), false), None);
+    }
+    Ok(())
+}
+
+#[test]
+fn sizes_characters_and_names(rt: HostRuntime) -> Result<(), Fail> {
+    let font = fixture(rt.alloc())?;
+    let small = Striker::open(rt.alloc(), font.as_slice(), 0, false).err();
+    assert_eq!(rt; small, Some(Refusal::BadSize));
+    let mut striker = Striker::open(rt.alloc(), font.as_slice(), 16, false)?;
+    assert_eq!(rt; box_of(&mut striker, 0x110000), Err(Refusal::BadChars));
+    let far = striker.survey(&[0x41, 0x110000]);
+    assert_eq!(rt; far, Err(Refusal::BadChars));
+    let mut out = MemorySink::new(rt.alloc(), 1024, Limits::NONE)?;
+    let bad = striker.write("", &[0x110000], &mut out);
+    assert_eq!(rt; bad, Err(Refusal::BadChars));
+    let nameless = striker.write("", &[0x41], &mut out);
+    assert_eq!(rt; nameless, Err(Refusal::BadName));
+    assert!(rt; out.bytes().is_empty());
+    Ok(())
+}
+
+/// A survey by a striker is that of a request; and with another scan it is that scan that is asked.
+#[test]
+fn surveys_by_a_striker(rt: HostRuntime) -> Result<(), Fail> {
+    let font = fixture(rt.alloc())?;
+    let chars = [0x42, 0x41, 0x21, 0x41];
+    let mut striker = Striker::open(rt.alloc(), font.as_slice(), 16, true)?;
+    let due = survey(rt.alloc(), &Rows, font.as_slice(), &hinted(&chars));
+    assert_eq!(rt; striker.survey(&chars), due);
+    assert_eq!(rt; striker.survey(&chars), due);
+    let mut striker = striker.with_scan(&OfWideFrames);
+    let narrow = striker.survey(&[0x42]);
+    assert_eq!(rt; narrow, Err(Refusal::OutOfMemory));
+    Ok(())
+}

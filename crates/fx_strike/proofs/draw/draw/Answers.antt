@@ -1,9 +1,0 @@
-use Rattle.fx_strike.proofs.OnePart.{sketch_code}
-use Rattle.fx_strike.proofs.Sketching.{drawn_whole}
-use Rattle.fx_strike.proofs.draw.draw.Goals as goal
-
-pub returns-clause-sketch : goal.returns-clause-sketch
-returns-clause-sketch g c =
-    let s = c.in_ok-sketched.ensures.sketch c.args.code in
-    drawn_whole _ s.0 c.in_ok-sketched.sketched c.args.code c.glyph_of.result s.1 s.2
-    (sketch_code _ _ _ c.args.code _ s.0 s.1) c.glyph_of.ensures.glyph c.glyph_of.ensures.fault

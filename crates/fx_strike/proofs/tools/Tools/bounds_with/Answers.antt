@@ -1,0 +1,20 @@
+use Rattle.std.proofs.Common.{ap, ◌∙◌}
+use Rattle.std.proofs.lemmas.Result.{err_from_is_err_and}
+use Rattle.fx_bdf.specs.Glyphs.{Box, joined}
+use Rattle.fx_strike.proofs.Enclosed.{skipped, joins_made, joins_refused}
+use Rattle.fx_strike.proofs.tools.Tools.bounds_with.Goals as goal
+
+pub returns-then-lies_in : goal.returns-then-lies_in
+returns-then-lies_in g c sketch is e =
+    skipped sketch c.args.sketched.now c.args.bounds c.requires.outside (c.lies_in.ensures.pixels c.if-lies_in.true)
+    c.requires.placed is
+
+pub returns-in_err-glyph : goal.returns-in_err-glyph
+returns-in_err-glyph g c sketch is e =
+    let p = err_from_is_err_and c.from_residual.result c.from_residual.ensures.1 in
+    joins_refused sketch c.args.bounds c.from_residual.result p.0 c.in_err-glyph.field-0.0 p.1 p.2 c.in_err-glyph.ensures.fault
+
+pub returns : goal.returns
+returns g c sketch is e =
+    joins_made sketch c.args.bounds _ c.in_ok-glyph.glyph (c.in_ok-glyph.ensures.glyph sketch is e)
+    (c.joined.ensures.value ∙ ap (λ (b : Box). joined c.args.bounds b) c.bounds.ensures.value) c.joined.ensures.placed

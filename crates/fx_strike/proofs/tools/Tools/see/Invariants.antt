@@ -1,0 +1,12 @@
+use Rattle.std.proofs.Common.{◌≡◌, take}
+use Rattle.fx_strike.specs.Strike.{setting_with}
+use Rattle.fx_strike.specs.inner.Surveying.{Holds}
+use Rattle.fx_strike.proofs.tools.Tools.see.Given as goal
+
+-- the hinter is as it was, the cursor is one over the character map, and the code points so far were seen
+abbrev pub invariant-codes : goal.invariant-codes
+invariant-codes g l = record {
+  kept : l.hinter ≡ l.fn.hinter;
+  map : l.map ≡ l.self.opened.map;
+  held : Holds (setting_with l.self.opened l.fn.hinter) (take l.code-index l.codes) l.seen;
+}

@@ -1,0 +1,9 @@
+use Rattle.std.proofs.Common.{rules}
+use Rattle.fx_strike.proofs.Lines.{writes_closed}
+use Rattle.fx_strike.proofs.tools.Tools.write_text.Goals as goal
+
+pub returns-clause-text : goal.returns-clause-text
+returns-clause-text g c text h =
+    writes_closed c.new-text.ensures (c.write_parts-result.ensures.lines text h) c.write_parts-result.ensures.ended
+    c.write_parts-result.ensures.short
+    (search rules) (search rules)

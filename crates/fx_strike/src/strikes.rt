@@ -1,0 +1,63 @@
+//! From characters to what a striker makes of them, once the checks passed.
+ghost use Rattle.std.specs.Prelude.{◌≡◌, ◌<◌, ◌^◌, ℕ, List, Ok, IfOk};
+ghost use Rattle.fx_bdf.specs.Text.{IsName};
+ghost use Rattle.fx_fixed.specs.Changes.{change_of};
+ghost use Rattle.fx_strike.specs.Strike.{setting_with, plan_with, one_with};
+ghost use Rattle.fx_strike.specs.Headline.{Leaves};
+ghost use Rattle.fx_strike.specs.inner.Drawing.{Finds};
+ghost use Rattle.fx_strike.specs.inner.Surveying.{AreChars};
+
+use crate::draft::Draft;
+use crate::hinter::FontHinter;
+use crate::tools::Tools;
+use fx_bdf::BitGlyph;
+use fx_fixed::Sink;
+use fx_request::{Refusal, Report, rising_codes};
+use fx_winding::Scan;
+
+impl<'a, S: Scan> Tools<'a, S> {
+    /// The glyph of a code point; none if the font lacks it.
+    #[tactic(auto, unfolding(crate::specs::Strike::one_with))]
+    pub(crate) fn one(
+        &self,
+        hinter: &mut FontHinter<'_>,
+        code: u32,
+    ) -> Result<Option<BitGlyph>, Refusal>
+        ensures kept { hinter.new ≡ hinter.old }
+        ensures one { Finds (one_with (setting_with self.now.opened hinter.old) code) result }
+    {
+        let glyph = self.opened.map.glyph(code);
+        if glyph == 0 {
+            return Ok(None);
+        }
+        let drawn = self.draw(hinter, code, glyph)?;
+        Ok(Some(drawn))
+    }
+
+    /// Writes a strike: a first pass surveys it, a second writes it.
+    pub(crate) fn write_strike<W: Sink>(
+        &self,
+        hinter: &mut FontHinter<'_>,
+        name: &str,
+        chars: &[u32],
+        out: &mut W,
+    ) -> Result<Report, Refusal>
+        requires faults { W.fault_count out.old < 2 ^ 63 }
+        requires chars { AreChars chars.now }
+        requires name { IsName name.now }
+        ensures kept { hinter.new ≡ hinter.old }
+        ensures leaves { Leaves {Y = Unit {0}} (Ok tt) (plan_with (setting_with self.now.opened hinter.old) name.now chars.now)
+            (change_of W.held W.fault_count out.old out.new) result }
+    {
+        let codes = rising_codes(self.alloc, chars)?;
+        let survey = self.survey_codes(hinter, &codes)?;
+        let header = survey.header(self.opened.ppem);
+        let draft = Draft {
+            name,
+            header,
+            codes: &codes,
+        };
+        self.write_text(hinter, &draft, out)?;
+        Ok(survey.report)
+    }
+}

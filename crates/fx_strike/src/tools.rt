@@ -1,0 +1,13 @@
+//! What glyphs are made with.
+
+use crate::opened::Opened;
+use fx_winding::Scan;
+use std::alloc::Global;
+
+/// What glyphs are made with, and no glyph changes: memory, a scan, and an opened font at a size.
+#[derive(Drop)]
+pub(crate) struct Tools<'a, S: Scan> {
+    pub alloc: Global,
+    pub scan: &'a S,
+    pub opened: Opened<'a>,
+}
