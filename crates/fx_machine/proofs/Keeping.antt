@@ -21,7 +21,7 @@ use Rattle.fx_stackops.specs.Store.{StoreView, one, two, three, top_numbers, pus
 use Rattle.fx_pointops.specs.declared.distances.Relative.{Relative}
 use Rattle.fx_pointops.specs.declared.measure.Line.{Line}
 use Rattle.fx_pointops.specs.declared.zones.Zones.{Zones}
-use Rattle.fx_pointops.specs.Zones.{Outcome, HasShapes}
+use Rattle.fx_pointops.specs.Zones.{HasShapes}
 use Rattle.fx_pointops.specs.Distances.{relative_of}
 use Rattle.fx_pointops.specs.Direct.{utp_of, alignrp_of, alignpts_of, scfs_of, shpix_of}
 use Rattle.fx_pointops.specs.Shift.{shp_of, shc_of}
@@ -30,7 +30,7 @@ use Rattle.fx_pointops.specs.Flip.{flippt_of, fliprg_of}
 use Rattle.fx_pointops.proofs.Keeping.{shapes_same, shapes_then, utp_keeps, mdap_keeps, msirp_keeps, alignrp_keeps, alignpts_keeps}
 use Rattle.fx_pointops.proofs.Keeping.{scfs_keeps, shpix_keeps, mdrp_keeps}
 use Rattle.fx_pointops.proofs.Keeping.{miap_keeps, mirp_keeps, shp_keeps, shc_keeps, shz_keeps, ip_keeps, isect_keeps, flippt_keeps}
-use Rattle.fx_pointops.proofs.Keeping.{fliprg_keeps, deltap_keeps, iup_keeps}
+use Rattle.fx_pointops.proofs.Keeping.{fliprg_keeps, deltap_keeps, iup_keeps, gc_keeps, md_keeps, line_keeps as measured_keeps}
 use Rattle.fx_machine.specs.declared.program.Program.{Program}
 use Rattle.fx_machine.specs.declared.definitions.Function.{Function}
 use Rattle.fx_machine.specs.declared.halt.Cause.{Cause}
@@ -138,7 +138,7 @@ in_range_keeps set s = plain_bind s.zones (map_fault of_stack (one s.store)) _
 
 line_keeps : (set : Line → GState → GState) (s : State) → Plain s.zones (by_line set s)
 unfolding Plain
-line_keeps set s = plain_bind s.zones (map_fault of_stack (two s.store)) _ (λ x. shapes_same s.zones)
+line_keeps set s = plain_bind s.zones (map_fault of_stack (two s.store)) _ (λ x. measured_keeps s.graphics x.0 x.1 s.zones)
 
 pair_keeps : (v : ℤ × ℤ) (s : State) → Plain s.zones (pushed_pair v s)
 unfolding Plain
@@ -247,17 +247,17 @@ instctrl_keeps s = plain_bind s.zones (map_fault of_stack (two s.store)) _ (λ x
 
 -- ---- rows that move points
 
-one_point_keeps : (row : GState → ℤ → Zones → Outcome) → ((g : GState) (p : ℤ) (z : Zones) → HasShapes z (row g p z).0)
+one_point_keeps : (row : GState → ℤ → Zones → Zones) → ((g : GState) (p : ℤ) (z : Zones) → HasShapes z (row g p z))
     → (s : State) → Plain s.zones (points_by_one row s)
 unfolding Plain
 one_point_keeps row all s = plain_bind s.zones (map_fault of_stack (one s.store)) _ (λ x. all s.graphics x.0 s.zones)
 
-two_points_keep : (row : GState → ℤ → ℤ → Zones → Outcome) → ((g : GState) (p q : ℤ) (z : Zones) → HasShapes z (row g p q z).0)
+two_points_keep : (row : GState → ℤ → ℤ → Zones → Zones) → ((g : GState) (p q : ℤ) (z : Zones) → HasShapes z (row g p q z))
     → (s : State) → Plain s.zones (points_by_two row s)
 unfolding Plain
 two_points_keep row all s = plain_bind s.zones (map_fault of_stack (two s.store)) _ (λ x. all s.graphics x.0 x.1 s.zones)
 
-loop_keeps : (row : GState → List ℤ → Zones → Outcome) → ((g : GState) (ps : List ℤ) (z : Zones) → HasShapes z (row g ps z).0)
+loop_keeps : (row : GState → List ℤ → Zones → Zones) → ((g : GState) (ps : List ℤ) (z : Zones) → HasShapes z (row g ps z))
     → (t : StoreView) (s : State)
     → Plain s.zones (loop_on row t s)
 unfolding Plain
@@ -321,8 +321,7 @@ miap_row_keeps rounds s = plain_bind s.zones (map_fault of_stack (two s.store)) 
 
 gc_row_keeps : (original : Bool) (s : State) → Plain s.zones (gc_row original s)
 unfolding gc_row Plain
-gc_row_keeps original s = plain_bind s.zones (map_fault of_stack (one s.store)) _
-    (λ x. plain_bind s.zones (map_fault of_stack (pushed _ _)) _ (λ t. shapes_same s.zones))
+gc_row_keeps original s = plain_bind s.zones (map_fault of_stack (one s.store)) _ (λ x. gc_keeps s.graphics original x.0 s.zones)
 
 scfs_row_keeps : (s : State) → Plain s.zones (scfs_row s)
 unfolding scfs_row
@@ -330,8 +329,7 @@ scfs_row_keeps s = two_points_keep scfs_of scfs_keeps s
 
 md_row_keeps : (original : Bool) (s : State) → Plain s.zones (md_row original s)
 unfolding md_row Plain
-md_row_keeps original s = plain_bind s.zones (map_fault of_stack (two s.store)) _
-    (λ x. plain_bind s.zones (map_fault of_stack (pushed _ _)) _ (λ t. shapes_same s.zones))
+md_row_keeps original s = plain_bind s.zones (map_fault of_stack (two s.store)) _ (λ x. md_keeps s.graphics original x.0 x.1 s.zones)
 
 deltap_row_keeps : (form : DeltaForm) (s : State) → Plain s.zones (deltap_row form s)
 unfolding deltap_row Plain

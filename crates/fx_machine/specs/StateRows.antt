@@ -15,9 +15,10 @@ use Rattle.fx_gstate.specs.Vectors.{axis_of, line_of, words_of}
 use Rattle.fx_gstate.specs.Rounding.{super_grid_of}
 use Rattle.fx_gstate.specs.Setters.{with_zp0, with_zp1, with_zp2, with_zones, with_loop, with_delta_shift}
 use Rattle.fx_stackops.specs.declared.fault.StackFault.{StackFault}
-use Rattle.fx_stackops.specs.Store.{StoreView, one, two, pushed, with_strays}
+use Rattle.fx_stackops.specs.Store.{StoreView, one, two, pushed}
 use Rattle.fx_stackops.specs.Rows.{with_control}
 use Rattle.fx_pointops.specs.declared.measure.Line.{Line}
+use Rattle.fx_pointops.specs.declared.zones.Zones.{Zones}
 use Rattle.fx_pointops.specs.Measure.{line_between}
 use Rattle.fx_machine.specs.declared.halt.Cause.{Cause}
 use Rattle.fx_machine.specs.declared.state.State.{State}
@@ -75,8 +76,8 @@ sfvtpv_row = on_graphics (λ g. record g { freedom = g.projection })
 -- 06-07 SPVTL[a], Set Projection Vector To Line: p1 p2 ->; 08-09 SFVTL[a], Set Freedom Vector To Line: p1 p2 ->
 -- 86-87 SDPVTL[a], Set Dual Projection Vector To Line: p1 p2 ->, which also sets the projection vector
 -- The line goes from p2, of zp2, to p1, of zp1. With 1 (a: turned) the vector goes across it, a quarter turn counter-clockwise.
-abbrev pub with_line : (Line → GState → GState) → Line × ℕ → StoreView → State → State
-with_line set l t s = record s { store = with_strays l.1 t; graphics = set l.0 s.graphics }
+abbrev pub with_line : (Line → GState → GState) → Line × Zones → StoreView → State → State
+with_line set l t s = record s { store = t; zones = l.1; graphics = set l.0 s.graphics }
 
 abbrev pub by_line : (Line → GState → GState) → State → Result State Cause
 by_line set s = do
@@ -141,7 +142,8 @@ szps_row = by_one_in_range with_zones
 unfoldable pub sloop_row : State → Result State Cause
 sloop_row = by_one_in_range with_loop
 
--- 18 RTG, 19 RTHG, 3D RTDG, 7D RDTG, 7C RUTG, 7A ROFF: -> Round To Grid, To Half Grid, To Double Grid, Down To Grid, Up To Grid, OFF
+-- 18 RTG, 19 RTHG, 3D RTDG, 7D RDTG, 7C RUTG, 7A ROFF: -> Round To Grid, To Half Grid, To Double Grid, Down To Grid, Up To Grid,
+-- OFF
 abbrev pub round_state_row : RoundState → State → Result State Cause
 round_state_row state = on_graphics (λ g. record g { round_state = state })
 

@@ -1,7 +1,7 @@
-//! The instruction table, by the high nibble of the opcode, as its definition: in `opcodes_0x` to `opcodes_8x` the rows that continue
-//! at the next address, in `row` all others. Each arm names its opcodes; the last one of a nibble is for those without a row in it,
-//! which `row` does not send there. They are inlined, so that an instruction takes two jumps by table, and no action goes through
-//! memory.
+//! The instruction table, by the high nibble of the opcode, as its definition: in `opcodes_0x` to `opcodes_8x` the rows that
+//! continue at the next address, in `row` all others. Each arm names its opcodes; the last one of a nibble is for those without a
+//! row in it, which `row` does not send there. They are inlined, so that an instruction takes two jumps by table, and no action
+//! goes through memory.
 
 ghost use Rattle.std.specs.Prelude.{◌≡◌, OnErr, ◌+◌, ◌≤◌};
 ghost use Rattle.fx_gstate.specs.States.{leaves};

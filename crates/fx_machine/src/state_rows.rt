@@ -40,8 +40,7 @@ impl State {
         ensures sizes { HasSizes self.old self.new }
     {
         let (p1, p2) = self.store.two()?;
-        let (line, strays) = self.zones.line(&self.graphics, p1, p2);
-        self.store.add_strays(strays);
+        let line = self.zones.line(&self.graphics, p1, p2);
         self.graphics.set_projection_to_line(line.cur, turned);
         Ok(())
     }
@@ -55,8 +54,7 @@ impl State {
         ensures sizes { HasSizes self.old self.new }
     {
         let (p1, p2) = self.store.two()?;
-        let (line, strays) = self.zones.line(&self.graphics, p1, p2);
-        self.store.add_strays(strays);
+        let line = self.zones.line(&self.graphics, p1, p2);
         self.graphics.set_freedom_to_line(line.cur, turned);
         Ok(())
     }
@@ -70,8 +68,7 @@ impl State {
         ensures sizes { HasSizes self.old self.new }
     {
         let (p1, p2) = self.store.two()?;
-        let (line, strays) = self.zones.line(&self.graphics, p1, p2);
-        self.store.add_strays(strays);
+        let line = self.zones.line(&self.graphics, p1, p2);
         self.graphics.set_dual_to_line(line.org, line.cur, turned);
         Ok(())
     }
