@@ -17,7 +17,7 @@ use Rattle.fx_gstate.specs.Rounding.{super_grid_of}
 use Rattle.fx_gstate.specs.Setters.{with_zp0, with_zp1, with_zp2, with_zones, with_loop, with_delta_shift}
 use Rattle.fx_scale.specs.Scaling.{scaled_by}
 use Rattle.fx_stackops.specs.declared.fault.StackFault.{StackFault}
-use Rattle.fx_stackops.specs.Store.{StoreView, one, two, three, top_numbers, pushed}
+use Rattle.fx_stackops.specs.Store.{StoreView, one, two, three, top_numbers, delta_pairs, pushed}
 use Rattle.fx_pointops.specs.declared.distances.Relative.{Relative}
 use Rattle.fx_pointops.specs.declared.measure.Line.{Line}
 use Rattle.fx_pointops.specs.declared.zones.Zones.{Zones}
@@ -333,10 +333,8 @@ md_row_keeps original s = plain_bind s.zones (map_fault of_stack (two s.store)) 
 
 deltap_row_keeps : (form : DeltaForm) (s : State) → Plain s.zones (deltap_row form s)
 unfolding deltap_row Plain
-deltap_row_keeps form s = plain_bind s.zones (map_fault of_stack (one s.store)) _
-    (λ x. plain_bind s.zones (refuse (int_lt x.0 (pos 0)) BadArgument) _
-    (λ u. plain_bind s.zones (map_fault of_stack (top_numbers (2 * unsigned_abs x.0) x.1)) _
-    (λ ps. deltap_keeps s.graphics form s.scale.ppem (reverse ps) s.zones)))
+deltap_row_keeps form s = plain_bind s.zones (map_fault of_stack (delta_pairs s.store)) _
+    (λ x. deltap_keeps s.graphics form s.scale.ppem (reverse x.0) s.zones)
 
 flippt_row_keeps : (s : State) → Plain s.zones (flippt_row s)
 unfolding flippt_row

@@ -3,14 +3,14 @@
 -- Each comment has the opcode, the mnemonic, its name in the manual, what becomes of the stack, whose top is written last, and the
 -- reference points that the row sets; what it does to the points is said in fx_pointops.
 -- Apple TrueType Reference Manual, "Instruction set".
-use Rattle.std.specs.Prelude.{ℕ, ◌*◌, ℤ, pos, negsuc, int_lt, Bool, unsigned_abs, if◌then◌else◌, List, reverse, drop, Result, Ok}
+use Rattle.std.specs.Prelude.{ℕ, ℤ, negsuc, Bool, if◌then◌else◌, List, reverse, drop, Result, Ok}
 use Rattle.std.specs.Ordering.{int_eq}
-use Rattle.fx_fixed.specs.Chain.{◌>>=◌, refuse, map_fault}
+use Rattle.fx_fixed.specs.Chain.{◌>>=◌, map_fault}
 use Rattle.fx_fixed.specs.declared.places.Axis.{Axis}
 use Rattle.fx_gstate.specs.declared.deltas.DeltaForm.{DeltaForm}
 use Rattle.fx_gstate.specs.declared.state.GState.{GState}
 use Rattle.fx_gstate.specs.States.{zone_of}
-use Rattle.fx_stackops.specs.Store.{StoreView, one, two, three, top_numbers, on_top, with_stack, with_strays}
+use Rattle.fx_stackops.specs.Store.{StoreView, one, two, three, top_numbers, delta_pairs, on_top, with_stack, with_strays}
 use Rattle.fx_stackops.specs.Table.{read_of, stray_of}
 use Rattle.fx_pointops.specs.declared.distances.Relative.{Relative}
 use Rattle.fx_pointops.specs.declared.zones.Zones.{Zones}
@@ -24,7 +24,6 @@ use Rattle.fx_pointops.specs.Flip.{flippt_of, fliprg_of}
 use Rattle.fx_pointops.specs.Delta.{deltap_of}
 use Rattle.fx_pointops.specs.Iup.{iup_of}
 use Rattle.fx_machine.specs.declared.halt.Cause.{Cause}
-use Rattle.fx_machine.specs.declared.halt.Cause.TheVariants.{BadArgument}
 use Rattle.fx_machine.specs.declared.state.State.{State}
 use Rattle.fx_machine.specs.Causes.{of_stack, of_state}
 
@@ -155,11 +154,8 @@ md_row original s = do
 -- 5D DELTAP1, 71 DELTAP2, 72 DELTAP3, DELTA exception P: .. argument p n ->, n pairs
 unfoldable pub deltap_row : DeltaForm → State → Result State Cause
 deltap_row form s = do
-  x ← map_fault of_stack (one s.store)
-  _ ← refuse (int_lt x.0 (pos 0)) BadArgument
-  pairs ← map_fault of_stack (top_numbers (2 * unsigned_abs x.0) x.1)
-  Ok (with_points (deltap_of s.graphics form s.scale.ppem (reverse pairs) s.zones)
-      (with_stack (drop (2 * unsigned_abs x.0) x.1.stack) x.1) s)
+  x ← map_fault of_stack (delta_pairs s.store)
+  Ok (with_points (deltap_of s.graphics form s.scale.ppem (reverse x.0) s.zones) x.1 s)
 
 -- ---- 8
 

@@ -257,7 +257,7 @@ row_of op bytes code w address next s =
     else if op == IDEF then idef_row code w next s
     else then_at next (plain_of op s)
 
--- the same as code reads it: data if the opcode has some, and else the next address is one byte on
+-- the row as code reads it: data if the opcode has some, and else the next address is one byte on
 unfoldable pub push_at : List ℕ → ℕ → State → Result (Action × State) Cause
 push_at code address s =
     if nat_le (next_address code address) (length code)

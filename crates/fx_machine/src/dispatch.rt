@@ -36,7 +36,7 @@ impl State {
         }
     }
 
-    /// The same as an action. It is inlined, so that no action goes through memory.
+    /// C0 to DF, E0 to FF: MDRP, MIRP, and on at the next address. It is inlined, so that no action goes through memory.
     #[inline(always)]
     fn relative(&mut self, opcode: u8, next: usize) -> Result<Action, Cause>
         ensures value { acts result self.new ≡ then_at next (relative_row opcode self.old) }

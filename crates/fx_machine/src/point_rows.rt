@@ -284,12 +284,8 @@ impl State {
         ensures kept { OnErr result (self.new.zones ≡ self.old.zones) }
         ensures sizes { HasSizes self.old self.new }
     {
-        let count = self.store.one()?;
-        if count < 0 {
-            return Err(Cause::BadArgument);
-        }
-        let numbers = 2 * count.unsigned_abs();
-        let pairs = self.store.top(numbers)?;
+        let numbers = 2 * self.store.pairs()?;
+        let pairs = self.store.top_there(numbers);
         self.zones
             .deltap(&self.graphics, form, self.scale.ppem, pairs);
         self.store.drop_top(numbers);

@@ -12,12 +12,12 @@ use Rattle.fx_gstate.specs.declared.deltas.DeltaForm.{DeltaForm}
 use Rattle.fx_gstate.specs.declared.state.GState.{GState}
 use Rattle.fx_gstate.specs.declared.zones.ZonePointer.{ZonePointer}
 use Rattle.fx_gstate.specs.declared.zones.ZonePointer.TheVariants.{Twilight, Glyph}
-use Rattle.fx_gstate.specs.Deltas.{delta_of}
+use Rattle.fx_gstate.specs.Deltas.{delta_of, each_pair}
 use Rattle.fx_pointops.specs.declared.distances.Relative.{Relative}
 use Rattle.fx_pointops.specs.declared.zones.Zones.{Zones}
 use Rattle.fx_pointops.specs.Zones.{HasShapes, on_zone, index_of, point_at, changed_of, changed_at, with_stray, counting, counting_two, on_point}
 use Rattle.fx_pointops.specs.ShiftPoint.{shift_by, point_shifted}
-use Rattle.fx_pointops.specs.Loops.{each, each_pair}
+use Rattle.fx_pointops.specs.Loops.{each}
 use Rattle.fx_pointops.specs.Measure.{gc_of, md_of, line_between}
 use Rattle.fx_pointops.specs.Direct.{utp_of, mdap_of, laid_from_rp, msirp_of, aligned_to_rp, alignrp_of}
 use Rattle.fx_pointops.specs.Direct.{alignpts_of, scfs_of, shpix_of, mdrp_of}

@@ -4,8 +4,9 @@ use Rattle.std.proofs.Common.{◌≡◌, refl, sym, ap, ◌∙◌, arith, ℕ, �
 use Rattle.std.proofs.Common.{take, reverse}
 use Rattle.std.proofs.Math.Seq.{take-suc}
 use Rattle.std.proofs.lemmas.List.{reverse-append, length-reverse, length-take-le}
+use Rattle.fx_gstate.specs.Deltas.{each_pair}
 use Rattle.fx_pointops.specs.declared.zones.Zones.{Zones}
-use Rattle.fx_pointops.specs.Loops.{each, each_pair}
+use Rattle.fx_pointops.specs.Loops.{each}
 
 -- the next point of a slice, from its end
 top_first : (xs : List ℤ) (k : ℕ) (d : ℤ) → k < length xs → reverse (take (suc k) xs) ≡ get_or xs k d ∷ reverse (take k xs)

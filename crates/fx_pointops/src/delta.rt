@@ -2,7 +2,7 @@
 
 ghost use Rattle.std.specs.Prelude.{◌≡◌, reverse};
 ghost use Rattle.fx_pointops.specs.Zones.{HasShapes};
-ghost use Rattle.fx_pointops.specs.Loops.{each_pair};
+ghost use Rattle.fx_gstate.specs.Deltas.{each_pair};
 ghost use Rattle.fx_pointops.specs.Delta.{point_delta, deltap_of};
 
 use crate::zones::Zones;
@@ -10,7 +10,7 @@ use fx_fixed::Ppem;
 use fx_gstate::{DeltaForm, GState};
 
 impl Zones {
-    /// Moves a point if its argument acts at this size.
+    /// Moves a point, of zp0, if its argument acts at this size.
     #[tactic(auto, unfolding(crate::specs::Delta::point_delta), using(crate::proofs::Setting::stray_is))]
     fn move_at_size(&mut self, g: &GState, form: DeltaForm, ppem: &Ppem, p: i32, argument: i32)
         ensures value { self.new ≡ point_delta g.now form ppem.now p argument self.old }

@@ -29,7 +29,7 @@ pub fn moved_by(g: &GState, d: F26, point: Point) -> Point
     }
 }
 
-/// The same along any vectors.
+/// A point moved by a distance along any vectors.
 #[inline(never)]
 #[tactic(auto, unfolding(crate::specs::ShiftPoint::moved_by))]
 fn moved_aslant(g: &GState, d: F26, point: Point) -> Point

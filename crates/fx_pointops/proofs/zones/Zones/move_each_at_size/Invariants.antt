@@ -1,6 +1,6 @@
 use Rattle.std.proofs.Common.{◌≡◌, ◌≤◌, length, take, reverse}
 use Rattle.fx_pointops.specs.Zones.{HasShapes}
-use Rattle.fx_pointops.specs.Loops.{each_pair}
+use Rattle.fx_gstate.specs.Deltas.{each_pair}
 use Rattle.fx_pointops.specs.Delta.{point_delta}
 use Rattle.fx_pointops.proofs.zones.Zones.move_each_at_size.Given as goal
 
