@@ -48,11 +48,8 @@ use Rattle.fx_machine.specs.Machine.{Config, config, turned, Move, Finishes, Sto
 use Rattle.fx_machine.specs.Machine.{verdict_by, verdict_at_limit}
 use Rattle.fx_machine.specs.Flow.{led, jumped, called, times, if_row, jmpr_row, jrot_row, jrof_row, call_row, loopcall_row, fdef_row}
 use Rattle.fx_machine.specs.Flow.{idef_row, undefined_row}
-use Rattle.fx_machine.specs.StateRows.{on_store, on_graphics, by_one, by_two, by_one_in_range, by_line, pushed_pair, spvtl_row}
-use Rattle.fx_machine.specs.StateRows.{sfvtl_row, sdpvtl_row, spvfs_row, sfvfs_row, gpv_row, gfv_row}
-use Rattle.fx_machine.specs.StateRows.{srp0_row, srp1_row, srp2_row, szp0_row, szp1_row, szp2_row, szps_row, sloop_row, smd_row, scvtci_row}
-use Rattle.fx_machine.specs.StateRows.{sswci_row, ssw_row}
-use Rattle.fx_machine.specs.StateRows.{sdb_row, sds_row, wcvtf_row, sround_row, s45round_row, instctrl_row}
+use Rattle.fx_machine.specs.GraphicsRows.{Both, on_store, on_graphics, on_both}
+use Rattle.fx_machine.specs.StateRows.{by_line, spvtl_row, sfvtl_row, sdpvtl_row, instctrl_row}
 use Rattle.fx_machine.specs.PointRows.{points_by_one, points_by_two, loop_on, isect_row, alignpts_row, utp_row, mdap_row, iup_row}
 use Rattle.fx_machine.specs.PointRows.{shp_row, shc_row, shz_row, shpix_row}
 use Rattle.fx_machine.specs.PointRows.{ip_row, msirp_row, alignrp_row, miap_row, gc_row, scfs_row, md_row, deltap_row, flippt_row}
@@ -123,27 +120,15 @@ graphics_keeps : (change : GState → GState) (s : State) → Plain s.zones (on_
 unfolding Plain
 graphics_keeps change s = shapes_same s.zones
 
-by_one_keeps : (set : ℤ → GState → GState) (s : State) → Plain s.zones (by_one set s)
+both_keeps : (row : StoreView → GState → Both) (s : State) → Plain s.zones (on_both row s)
 unfolding Plain
-by_one_keeps set s = plain_bind s.zones (map_fault of_stack (one s.store)) _ (λ x. shapes_same s.zones)
+both_keeps row s = plain_bind s.zones (row s.store s.graphics) _ (λ x. shapes_same s.zones)
 
-by_two_keeps : (set : ℤ → ℤ → GState → GState) (s : State) → Plain s.zones (by_two set s)
-unfolding Plain
-by_two_keeps set s = plain_bind s.zones (map_fault of_stack (two s.store)) _ (λ x. shapes_same s.zones)
-
-in_range_keeps : (set : ℤ → GState → Result GState BadArgumentOf) (s : State) → Plain s.zones (by_one_in_range set s)
-unfolding Plain
-in_range_keeps set s = plain_bind s.zones (map_fault of_stack (one s.store)) _
-    (λ x. plain_bind s.zones (map_fault of_state (set x.0 s.graphics)) _ (λ g. shapes_same s.zones))
+-- ---- rows that set vectors by points, or the flags
 
 line_keeps : (set : Line → GState → GState) (s : State) → Plain s.zones (by_line set s)
 unfolding Plain
 line_keeps set s = plain_bind s.zones (map_fault of_stack (two s.store)) _ (λ x. measured_keeps s.graphics x.0 x.1 s.zones)
-
-pair_keeps : (v : ℤ × ℤ) (s : State) → Plain s.zones (pushed_pair v s)
-unfolding Plain
-pair_keeps v s = plain_bind s.zones (map_fault of_stack (pushed v.0 s.store)) _
-    (λ t. plain_bind s.zones (map_fault of_stack (pushed v.1 t)) _ (λ u. shapes_same s.zones))
 
 spvtl_keeps : (turned : Bool) (s : State) → Plain s.zones (spvtl_row turned s)
 unfolding spvtl_row
@@ -156,90 +141,6 @@ sfvtl_keeps turned s = line_keeps (λ l g. record g { freedom = line_of l.cur tu
 sdpvtl_keeps : (turned : Bool) (s : State) → Plain s.zones (sdpvtl_row turned s)
 unfolding sdpvtl_row
 sdpvtl_keeps turned s = line_keeps (λ l g. record g { projection = line_of l.cur turned; dual = line_of l.org turned }) s
-
-spvfs_keeps : (s : State) → Plain s.zones (spvfs_row s)
-unfolding spvfs_row
-spvfs_keeps s = by_two_keeps (λ x y g. record g { projection = words_of x y; dual = words_of x y }) s
-
-sfvfs_keeps : (s : State) → Plain s.zones (sfvfs_row s)
-unfolding sfvfs_row
-sfvfs_keeps s = by_two_keeps (λ x y g. record g { freedom = words_of x y }) s
-
-gpv_keeps : (s : State) → Plain s.zones (gpv_row s)
-unfolding gpv_row
-gpv_keeps s = pair_keeps s.graphics.projection s
-
-gfv_keeps : (s : State) → Plain s.zones (gfv_row s)
-unfolding gfv_row
-gfv_keeps s = pair_keeps s.graphics.freedom s
-
-srp0_keeps : (s : State) → Plain s.zones (srp0_row s)
-unfolding srp0_row
-srp0_keeps s = by_one_keeps (λ p g. record g { rp0 = p }) s
-
-srp1_keeps : (s : State) → Plain s.zones (srp1_row s)
-unfolding srp1_row
-srp1_keeps s = by_one_keeps (λ p g. record g { rp1 = p }) s
-
-srp2_keeps : (s : State) → Plain s.zones (srp2_row s)
-unfolding srp2_row
-srp2_keeps s = by_one_keeps (λ p g. record g { rp2 = p }) s
-
-smd_keeps : (s : State) → Plain s.zones (smd_row s)
-unfolding smd_row
-smd_keeps s = by_one_keeps (λ v g. record g { minimum_distance = v }) s
-
-scvtci_keeps : (s : State) → Plain s.zones (scvtci_row s)
-unfolding scvtci_row
-scvtci_keeps s = by_one_keeps (λ v g. record g { cut_in = v }) s
-
-sswci_keeps : (s : State) → Plain s.zones (sswci_row s)
-unfolding sswci_row
-sswci_keeps s = by_one_keeps (λ v g. record g { single_width_cut_in = v }) s
-
-ssw_keeps : (s : State) → Plain s.zones (ssw_row s)
-unfolding ssw_row
-ssw_keeps s = by_one_keeps (λ v g. record g { single_width = scaled_by s.scale v }) s
-
-sdb_keeps : (s : State) → Plain s.zones (sdb_row s)
-unfolding sdb_row
-sdb_keeps s = by_one_keeps (λ n g. record g { delta_base = n }) s
-
-sround_keeps : (s : State) → Plain s.zones (sround_row s)
-unfolding sround_row
-sround_keeps s = by_one_keeps (λ n g. record g { round_state = Super (super_grid_of 64 n) }) s
-
-s45round_keeps : (s : State) → Plain s.zones (s45round_row s)
-unfolding s45round_row
-s45round_keeps s = by_one_keeps (λ n g. record g { round_state = Super (super_grid_of 45 n) }) s
-
-szp0_keeps : (s : State) → Plain s.zones (szp0_row s)
-unfolding szp0_row
-szp0_keeps s = in_range_keeps with_zp0 s
-
-szp1_keeps : (s : State) → Plain s.zones (szp1_row s)
-unfolding szp1_row
-szp1_keeps s = in_range_keeps with_zp1 s
-
-szp2_keeps : (s : State) → Plain s.zones (szp2_row s)
-unfolding szp2_row
-szp2_keeps s = in_range_keeps with_zp2 s
-
-szps_keeps : (s : State) → Plain s.zones (szps_row s)
-unfolding szps_row
-szps_keeps s = in_range_keeps with_zones s
-
-sloop_keeps : (s : State) → Plain s.zones (sloop_row s)
-unfolding sloop_row
-sloop_keeps s = in_range_keeps with_loop s
-
-sds_keeps : (s : State) → Plain s.zones (sds_row s)
-unfolding sds_row
-sds_keeps s = in_range_keeps with_delta_shift s
-
-wcvtf_keeps : (s : State) → Plain s.zones (wcvtf_row s)
-unfolding wcvtf_row Plain
-wcvtf_keeps s = plain_bind s.zones (map_fault of_stack (two s.store)) _ (λ x. shapes_same s.zones)
 
 instctrl_keeps : (s : State) → Plain s.zones (instctrl_row s)
 unfolding instctrl_row Plain
@@ -360,34 +261,16 @@ opcodes_0x_keep op s = search (
   plain_if s.zones,
   fault_keeps,
   graphics_keeps,
+  store_keeps,
+  both_keeps,
   spvtl_keeps,
   sfvtl_keeps,
-  spvfs_keeps,
-  sfvfs_keeps,
-  gpv_keeps,
-  gfv_keeps,
   isect_row_keeps,
 ) depth 40 fits 8000
 
 opcodes_1x_keep : (op : ℕ) (s : State) → Plain s.zones (opcodes_1x op s)
 unfolding opcodes_1x
-opcodes_1x_keep op s = search (
-  plain_if s.zones,
-  fault_keeps,
-  graphics_keeps,
-  srp0_keeps,
-  srp1_keeps,
-  srp2_keeps,
-  szp0_keeps,
-  szp1_keeps,
-  szp2_keeps,
-  szps_keeps,
-  sloop_keeps,
-  smd_keeps,
-  scvtci_keeps,
-  sswci_keeps,
-  ssw_keeps,
-) depth 40 fits 8000
+opcodes_1x_keep op s = search (plain_if s.zones, fault_keeps, graphics_keeps, both_keeps) depth 40 fits 8000
 
 opcodes_2x_keep : (op : ℕ) (s : State) → Plain s.zones (opcodes_2x op s)
 unfolding opcodes_2x
@@ -417,7 +300,7 @@ opcodes_4x_keep op s =
 
 opcodes_5x_keep : (op : ℕ) (s : State) → Plain s.zones (opcodes_5x op s)
 unfolding opcodes_5x
-opcodes_5x_keep op s = search (plain_if s.zones, fault_keeps, store_keeps, deltap_row_keeps, sdb_keeps, sds_keeps) depth 40 fits 8000
+opcodes_5x_keep op s = search (plain_if s.zones, fault_keeps, store_keeps, both_keeps, deltap_row_keeps) depth 40 fits 8000
 
 opcodes_6x_keep : (op : ℕ) (s : State) → Plain s.zones (opcodes_6x op s)
 unfolding opcodes_6x
@@ -425,16 +308,8 @@ opcodes_6x_keep op s = search (plain_if s.zones, fault_keeps, store_keeps) depth
 
 opcodes_7x_keep : (op : ℕ) (s : State) → Plain s.zones (opcodes_7x op s)
 unfolding opcodes_7x
-opcodes_7x_keep op s = search (
-  plain_if s.zones,
-  fault_keeps,
-  graphics_keeps,
-  store_keeps,
-  wcvtf_keeps,
-  deltap_row_keeps,
-  sround_keeps,
-  s45round_keeps,
-) depth 40 fits 8000
+opcodes_7x_keep op s =
+    search (plain_if s.zones, fault_keeps, graphics_keeps, store_keeps, both_keeps, deltap_row_keeps) depth 40 fits 8000
 
 opcodes_8x_keep : (op : ℕ) (s : State) → Plain s.zones (opcodes_8x op s)
 unfolding opcodes_8x
