@@ -60,7 +60,7 @@ one_rounded grid d r s g h =
     (λ l. g.negative l ∙ ap (λ z. wrapped_of (neg_ℤ z)) e ∙ sym (h.negative l))
     (λ l. g.not_negative l ∙ ap wrapped_of e ∙ sym (h.not_negative l))
 
--- the same with each value by its own equation, as code gives them
+-- with each value by its own equation, as code gives them
 pub greatest_from : (period phase x m rem a p : ℤ) → pos 1 ≤ℤ period → rem ≡ int_rem_euclid a p → a ≡ x -ℤ phase → p ≡ period
     → m ≡ x -ℤ rem → IsGreatestNotAbove (OnGrid period phase) x m
 greatest_from period phase x m rem a p h e f g i = rw (i, e, f, g) (greatest_by_rem period phase x h)

@@ -1,6 +1,7 @@
 -- What an argument of a delta instruction says.
 -- Apple TrueType Reference Manual, DELTAP1, "Delta instructions", SDB, SDS.
-use Rattle.std.specs.Prelude.{ℕ, ◌/◌, ◌%◌, ◌^◌, nat_lt, if◌then◌else◌, ℤ, pos, ◌+ℤ◌, ◌-ℤ◌, ◌*ℤ◌}
+use Rattle.std.specs.Prelude.{ℕ, ◌/◌, ◌%◌, ◌^◌, nat_lt, if◌then◌else◌, ℤ, pos, ◌+ℤ◌, ◌-ℤ◌, ◌*ℤ◌, List, [], ◌∷◌}
+use Rattle.std.specs.Ordering.{int_eq}
 use Rattle.fx_gstate.specs.declared.deltas.Delta.{Delta}
 use Rattle.fx_gstate.specs.declared.deltas.DeltaForm.{DeltaForm}
 use Rattle.fx_gstate.specs.declared.deltas.DeltaForm.TheVariants.{First, Second, Third}
@@ -34,3 +35,15 @@ delta_of form base shift argument = record {
   ppem = acting_size form base (low_byte argument);
   amount = amount_of shift (low_byte argument);
 }
+
+-- ---- pairs, of which DELTAP moves points and DELTAC control values
+
+-- a change by the amount of an argument, if it acts at this size; if not nothing is looked at
+abbrev pub acted : {S : Type 0} → (ℤ → S → S) → ℕ → Delta → S → S
+acted change ppem d s = if int_eq d.ppem (pos ppem) then change d.amount s else s
+
+-- the steps for each pair, the top of the stack first: a number, and below it its argument
+unfoldable pub each_pair : {S : Type 0} → (ℤ → ℤ → S → S) → List ℤ → S → S
+each_pair steps [] s = s
+each_pair steps (number ∷ []) s = s
+each_pair steps (number ∷ argument ∷ pairs) s = each_pair steps pairs (steps number argument s)

@@ -20,7 +20,7 @@ pub fn shift_along(freedom: Vector, projection: Vector, d: F26) -> Place
     shifted(freedom, projection, d)
 }
 
-/// The same with no shortcut.
+/// The shift of `d` along any vectors, by the quotient.
 fn shifted(freedom: Vector, projection: Vector, d: F26) -> Place
     ensures { result ≡ shift_of freedom projection d }
 {

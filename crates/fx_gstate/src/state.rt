@@ -130,7 +130,8 @@ impl GState {
     /// The axis along which both the freedom and the projection vector lie, if they lie along one.
     pub fn axis(&self) -> Option<Axis>
         ensures along { IfSome result (λ axis. (self.now.freedom ≡ axis_of axis) × (self.now.projection ≡ axis_of axis)) }
-        ensures none { result ≡ None → (axis : TheAxis) → ¬ ((self.now.freedom ≡ axis_of axis) × (self.now.projection ≡ axis_of axis)) }
+        ensures none { result ≡ None
+            → (axis : TheAxis) → ¬ ((self.now.freedom ≡ axis_of axis) × (self.now.projection ≡ axis_of axis)) }
     {
         if self.freedom.is_along(Axis::X) && self.projection.is_along(Axis::X) {
             return Some(Axis::X);

@@ -17,11 +17,11 @@ use Rattle.fx_gstate.specs.Rounding.{super_grid_of}
 use Rattle.fx_gstate.specs.Setters.{with_zp0, with_zp1, with_zp2, with_zones, with_loop, with_delta_shift}
 use Rattle.fx_scale.specs.Scaling.{scaled_by}
 use Rattle.fx_stackops.specs.declared.fault.StackFault.{StackFault}
-use Rattle.fx_stackops.specs.Store.{StoreView, one, two, three, top_numbers, pushed}
+use Rattle.fx_stackops.specs.Store.{StoreView, one, two, three, top_numbers, delta_pairs, pushed}
 use Rattle.fx_pointops.specs.declared.distances.Relative.{Relative}
 use Rattle.fx_pointops.specs.declared.measure.Line.{Line}
 use Rattle.fx_pointops.specs.declared.zones.Zones.{Zones}
-use Rattle.fx_pointops.specs.Zones.{Outcome, HasShapes}
+use Rattle.fx_pointops.specs.Zones.{HasShapes}
 use Rattle.fx_pointops.specs.Distances.{relative_of}
 use Rattle.fx_pointops.specs.Direct.{utp_of, alignrp_of, alignpts_of, scfs_of, shpix_of}
 use Rattle.fx_pointops.specs.Shift.{shp_of, shc_of}
@@ -30,7 +30,7 @@ use Rattle.fx_pointops.specs.Flip.{flippt_of, fliprg_of}
 use Rattle.fx_pointops.proofs.Keeping.{shapes_same, shapes_then, utp_keeps, mdap_keeps, msirp_keeps, alignrp_keeps, alignpts_keeps}
 use Rattle.fx_pointops.proofs.Keeping.{scfs_keeps, shpix_keeps, mdrp_keeps}
 use Rattle.fx_pointops.proofs.Keeping.{miap_keeps, mirp_keeps, shp_keeps, shc_keeps, shz_keeps, ip_keeps, isect_keeps, flippt_keeps}
-use Rattle.fx_pointops.proofs.Keeping.{fliprg_keeps, deltap_keeps, iup_keeps}
+use Rattle.fx_pointops.proofs.Keeping.{fliprg_keeps, deltap_keeps, iup_keeps, gc_keeps, md_keeps, line_keeps as measured_keeps}
 use Rattle.fx_machine.specs.declared.program.Program.{Program}
 use Rattle.fx_machine.specs.declared.definitions.Function.{Function}
 use Rattle.fx_machine.specs.declared.halt.Cause.{Cause}
@@ -48,11 +48,8 @@ use Rattle.fx_machine.specs.Machine.{Config, config, turned, Move, Finishes, Sto
 use Rattle.fx_machine.specs.Machine.{verdict_by, verdict_at_limit}
 use Rattle.fx_machine.specs.Flow.{led, jumped, called, times, if_row, jmpr_row, jrot_row, jrof_row, call_row, loopcall_row, fdef_row}
 use Rattle.fx_machine.specs.Flow.{idef_row, undefined_row}
-use Rattle.fx_machine.specs.StateRows.{on_store, on_graphics, by_one, by_two, by_one_in_range, by_line, pushed_pair, spvtl_row}
-use Rattle.fx_machine.specs.StateRows.{sfvtl_row, sdpvtl_row, spvfs_row, sfvfs_row, gpv_row, gfv_row}
-use Rattle.fx_machine.specs.StateRows.{srp0_row, srp1_row, srp2_row, szp0_row, szp1_row, szp2_row, szps_row, sloop_row, smd_row, scvtci_row}
-use Rattle.fx_machine.specs.StateRows.{sswci_row, ssw_row}
-use Rattle.fx_machine.specs.StateRows.{sdb_row, sds_row, wcvtf_row, sround_row, s45round_row, instctrl_row}
+use Rattle.fx_machine.specs.GraphicsRows.{Both, on_store, on_graphics, on_both}
+use Rattle.fx_machine.specs.StateRows.{by_line, spvtl_row, sfvtl_row, sdpvtl_row, instctrl_row}
 use Rattle.fx_machine.specs.PointRows.{points_by_one, points_by_two, loop_on, isect_row, alignpts_row, utp_row, mdap_row, iup_row}
 use Rattle.fx_machine.specs.PointRows.{shp_row, shc_row, shz_row, shpix_row}
 use Rattle.fx_machine.specs.PointRows.{ip_row, msirp_row, alignrp_row, miap_row, gc_row, scfs_row, md_row, deltap_row, flippt_row}
@@ -123,27 +120,15 @@ graphics_keeps : (change : GState → GState) (s : State) → Plain s.zones (on_
 unfolding Plain
 graphics_keeps change s = shapes_same s.zones
 
-by_one_keeps : (set : ℤ → GState → GState) (s : State) → Plain s.zones (by_one set s)
+both_keeps : (row : StoreView → GState → Both) (s : State) → Plain s.zones (on_both row s)
 unfolding Plain
-by_one_keeps set s = plain_bind s.zones (map_fault of_stack (one s.store)) _ (λ x. shapes_same s.zones)
+both_keeps row s = plain_bind s.zones (row s.store s.graphics) _ (λ x. shapes_same s.zones)
 
-by_two_keeps : (set : ℤ → ℤ → GState → GState) (s : State) → Plain s.zones (by_two set s)
-unfolding Plain
-by_two_keeps set s = plain_bind s.zones (map_fault of_stack (two s.store)) _ (λ x. shapes_same s.zones)
-
-in_range_keeps : (set : ℤ → GState → Result GState BadArgumentOf) (s : State) → Plain s.zones (by_one_in_range set s)
-unfolding Plain
-in_range_keeps set s = plain_bind s.zones (map_fault of_stack (one s.store)) _
-    (λ x. plain_bind s.zones (map_fault of_state (set x.0 s.graphics)) _ (λ g. shapes_same s.zones))
+-- ---- rows that set vectors by points, or the flags
 
 line_keeps : (set : Line → GState → GState) (s : State) → Plain s.zones (by_line set s)
 unfolding Plain
-line_keeps set s = plain_bind s.zones (map_fault of_stack (two s.store)) _ (λ x. shapes_same s.zones)
-
-pair_keeps : (v : ℤ × ℤ) (s : State) → Plain s.zones (pushed_pair v s)
-unfolding Plain
-pair_keeps v s = plain_bind s.zones (map_fault of_stack (pushed v.0 s.store)) _
-    (λ t. plain_bind s.zones (map_fault of_stack (pushed v.1 t)) _ (λ u. shapes_same s.zones))
+line_keeps set s = plain_bind s.zones (map_fault of_stack (two s.store)) _ (λ x. measured_keeps s.graphics x.0 x.1 s.zones)
 
 spvtl_keeps : (turned : Bool) (s : State) → Plain s.zones (spvtl_row turned s)
 unfolding spvtl_row
@@ -157,107 +142,23 @@ sdpvtl_keeps : (turned : Bool) (s : State) → Plain s.zones (sdpvtl_row turned 
 unfolding sdpvtl_row
 sdpvtl_keeps turned s = line_keeps (λ l g. record g { projection = line_of l.cur turned; dual = line_of l.org turned }) s
 
-spvfs_keeps : (s : State) → Plain s.zones (spvfs_row s)
-unfolding spvfs_row
-spvfs_keeps s = by_two_keeps (λ x y g. record g { projection = words_of x y; dual = words_of x y }) s
-
-sfvfs_keeps : (s : State) → Plain s.zones (sfvfs_row s)
-unfolding sfvfs_row
-sfvfs_keeps s = by_two_keeps (λ x y g. record g { freedom = words_of x y }) s
-
-gpv_keeps : (s : State) → Plain s.zones (gpv_row s)
-unfolding gpv_row
-gpv_keeps s = pair_keeps s.graphics.projection s
-
-gfv_keeps : (s : State) → Plain s.zones (gfv_row s)
-unfolding gfv_row
-gfv_keeps s = pair_keeps s.graphics.freedom s
-
-srp0_keeps : (s : State) → Plain s.zones (srp0_row s)
-unfolding srp0_row
-srp0_keeps s = by_one_keeps (λ p g. record g { rp0 = p }) s
-
-srp1_keeps : (s : State) → Plain s.zones (srp1_row s)
-unfolding srp1_row
-srp1_keeps s = by_one_keeps (λ p g. record g { rp1 = p }) s
-
-srp2_keeps : (s : State) → Plain s.zones (srp2_row s)
-unfolding srp2_row
-srp2_keeps s = by_one_keeps (λ p g. record g { rp2 = p }) s
-
-smd_keeps : (s : State) → Plain s.zones (smd_row s)
-unfolding smd_row
-smd_keeps s = by_one_keeps (λ v g. record g { minimum_distance = v }) s
-
-scvtci_keeps : (s : State) → Plain s.zones (scvtci_row s)
-unfolding scvtci_row
-scvtci_keeps s = by_one_keeps (λ v g. record g { cut_in = v }) s
-
-sswci_keeps : (s : State) → Plain s.zones (sswci_row s)
-unfolding sswci_row
-sswci_keeps s = by_one_keeps (λ v g. record g { single_width_cut_in = v }) s
-
-ssw_keeps : (s : State) → Plain s.zones (ssw_row s)
-unfolding ssw_row
-ssw_keeps s = by_one_keeps (λ v g. record g { single_width = scaled_by s.scale v }) s
-
-sdb_keeps : (s : State) → Plain s.zones (sdb_row s)
-unfolding sdb_row
-sdb_keeps s = by_one_keeps (λ n g. record g { delta_base = n }) s
-
-sround_keeps : (s : State) → Plain s.zones (sround_row s)
-unfolding sround_row
-sround_keeps s = by_one_keeps (λ n g. record g { round_state = Super (super_grid_of 64 n) }) s
-
-s45round_keeps : (s : State) → Plain s.zones (s45round_row s)
-unfolding s45round_row
-s45round_keeps s = by_one_keeps (λ n g. record g { round_state = Super (super_grid_of 45 n) }) s
-
-szp0_keeps : (s : State) → Plain s.zones (szp0_row s)
-unfolding szp0_row
-szp0_keeps s = in_range_keeps with_zp0 s
-
-szp1_keeps : (s : State) → Plain s.zones (szp1_row s)
-unfolding szp1_row
-szp1_keeps s = in_range_keeps with_zp1 s
-
-szp2_keeps : (s : State) → Plain s.zones (szp2_row s)
-unfolding szp2_row
-szp2_keeps s = in_range_keeps with_zp2 s
-
-szps_keeps : (s : State) → Plain s.zones (szps_row s)
-unfolding szps_row
-szps_keeps s = in_range_keeps with_zones s
-
-sloop_keeps : (s : State) → Plain s.zones (sloop_row s)
-unfolding sloop_row
-sloop_keeps s = in_range_keeps with_loop s
-
-sds_keeps : (s : State) → Plain s.zones (sds_row s)
-unfolding sds_row
-sds_keeps s = in_range_keeps with_delta_shift s
-
-wcvtf_keeps : (s : State) → Plain s.zones (wcvtf_row s)
-unfolding wcvtf_row Plain
-wcvtf_keeps s = plain_bind s.zones (map_fault of_stack (two s.store)) _ (λ x. shapes_same s.zones)
-
 instctrl_keeps : (s : State) → Plain s.zones (instctrl_row s)
 unfolding instctrl_row Plain
 instctrl_keeps s = plain_bind s.zones (map_fault of_stack (two s.store)) _ (λ x. shapes_same s.zones)
 
 -- ---- rows that move points
 
-one_point_keeps : (row : GState → ℤ → Zones → Outcome) → ((g : GState) (p : ℤ) (z : Zones) → HasShapes z (row g p z).0)
+one_point_keeps : (row : GState → ℤ → Zones → Zones) → ((g : GState) (p : ℤ) (z : Zones) → HasShapes z (row g p z))
     → (s : State) → Plain s.zones (points_by_one row s)
 unfolding Plain
 one_point_keeps row all s = plain_bind s.zones (map_fault of_stack (one s.store)) _ (λ x. all s.graphics x.0 s.zones)
 
-two_points_keep : (row : GState → ℤ → ℤ → Zones → Outcome) → ((g : GState) (p q : ℤ) (z : Zones) → HasShapes z (row g p q z).0)
+two_points_keep : (row : GState → ℤ → ℤ → Zones → Zones) → ((g : GState) (p q : ℤ) (z : Zones) → HasShapes z (row g p q z))
     → (s : State) → Plain s.zones (points_by_two row s)
 unfolding Plain
 two_points_keep row all s = plain_bind s.zones (map_fault of_stack (two s.store)) _ (λ x. all s.graphics x.0 x.1 s.zones)
 
-loop_keeps : (row : GState → List ℤ → Zones → Outcome) → ((g : GState) (ps : List ℤ) (z : Zones) → HasShapes z (row g ps z).0)
+loop_keeps : (row : GState → List ℤ → Zones → Zones) → ((g : GState) (ps : List ℤ) (z : Zones) → HasShapes z (row g ps z))
     → (t : StoreView) (s : State)
     → Plain s.zones (loop_on row t s)
 unfolding Plain
@@ -321,8 +222,7 @@ miap_row_keeps rounds s = plain_bind s.zones (map_fault of_stack (two s.store)) 
 
 gc_row_keeps : (original : Bool) (s : State) → Plain s.zones (gc_row original s)
 unfolding gc_row Plain
-gc_row_keeps original s = plain_bind s.zones (map_fault of_stack (one s.store)) _
-    (λ x. plain_bind s.zones (map_fault of_stack (pushed _ _)) _ (λ t. shapes_same s.zones))
+gc_row_keeps original s = plain_bind s.zones (map_fault of_stack (one s.store)) _ (λ x. gc_keeps s.graphics original x.0 s.zones)
 
 scfs_row_keeps : (s : State) → Plain s.zones (scfs_row s)
 unfolding scfs_row
@@ -330,15 +230,12 @@ scfs_row_keeps s = two_points_keep scfs_of scfs_keeps s
 
 md_row_keeps : (original : Bool) (s : State) → Plain s.zones (md_row original s)
 unfolding md_row Plain
-md_row_keeps original s = plain_bind s.zones (map_fault of_stack (two s.store)) _
-    (λ x. plain_bind s.zones (map_fault of_stack (pushed _ _)) _ (λ t. shapes_same s.zones))
+md_row_keeps original s = plain_bind s.zones (map_fault of_stack (two s.store)) _ (λ x. md_keeps s.graphics original x.0 x.1 s.zones)
 
 deltap_row_keeps : (form : DeltaForm) (s : State) → Plain s.zones (deltap_row form s)
 unfolding deltap_row Plain
-deltap_row_keeps form s = plain_bind s.zones (map_fault of_stack (one s.store)) _
-    (λ x. plain_bind s.zones (refuse (int_lt x.0 (pos 0)) BadArgument) _
-    (λ u. plain_bind s.zones (map_fault of_stack (top_numbers (2 * unsigned_abs x.0) x.1)) _
-    (λ ps. deltap_keeps s.graphics form s.scale.ppem (reverse ps) s.zones)))
+deltap_row_keeps form s = plain_bind s.zones (map_fault of_stack (delta_pairs s.store)) _
+    (λ x. deltap_keeps s.graphics form s.scale.ppem (reverse x.0) s.zones)
 
 flippt_row_keeps : (s : State) → Plain s.zones (flippt_row s)
 unfolding flippt_row
@@ -364,34 +261,16 @@ opcodes_0x_keep op s = search (
   plain_if s.zones,
   fault_keeps,
   graphics_keeps,
+  store_keeps,
+  both_keeps,
   spvtl_keeps,
   sfvtl_keeps,
-  spvfs_keeps,
-  sfvfs_keeps,
-  gpv_keeps,
-  gfv_keeps,
   isect_row_keeps,
 ) depth 40 fits 8000
 
 opcodes_1x_keep : (op : ℕ) (s : State) → Plain s.zones (opcodes_1x op s)
 unfolding opcodes_1x
-opcodes_1x_keep op s = search (
-  plain_if s.zones,
-  fault_keeps,
-  graphics_keeps,
-  srp0_keeps,
-  srp1_keeps,
-  srp2_keeps,
-  szp0_keeps,
-  szp1_keeps,
-  szp2_keeps,
-  szps_keeps,
-  sloop_keeps,
-  smd_keeps,
-  scvtci_keeps,
-  sswci_keeps,
-  ssw_keeps,
-) depth 40 fits 8000
+opcodes_1x_keep op s = search (plain_if s.zones, fault_keeps, graphics_keeps, both_keeps) depth 40 fits 8000
 
 opcodes_2x_keep : (op : ℕ) (s : State) → Plain s.zones (opcodes_2x op s)
 unfolding opcodes_2x
@@ -421,7 +300,7 @@ opcodes_4x_keep op s =
 
 opcodes_5x_keep : (op : ℕ) (s : State) → Plain s.zones (opcodes_5x op s)
 unfolding opcodes_5x
-opcodes_5x_keep op s = search (plain_if s.zones, fault_keeps, store_keeps, deltap_row_keeps, sdb_keeps, sds_keeps) depth 40 fits 8000
+opcodes_5x_keep op s = search (plain_if s.zones, fault_keeps, store_keeps, both_keeps, deltap_row_keeps) depth 40 fits 8000
 
 opcodes_6x_keep : (op : ℕ) (s : State) → Plain s.zones (opcodes_6x op s)
 unfolding opcodes_6x
@@ -429,16 +308,8 @@ opcodes_6x_keep op s = search (plain_if s.zones, fault_keeps, store_keeps) depth
 
 opcodes_7x_keep : (op : ℕ) (s : State) → Plain s.zones (opcodes_7x op s)
 unfolding opcodes_7x
-opcodes_7x_keep op s = search (
-  plain_if s.zones,
-  fault_keeps,
-  graphics_keeps,
-  store_keeps,
-  wcvtf_keeps,
-  deltap_row_keeps,
-  sround_keeps,
-  s45round_keeps,
-) depth 40 fits 8000
+opcodes_7x_keep op s =
+    search (plain_if s.zones, fault_keeps, graphics_keeps, store_keeps, both_keeps, deltap_row_keeps) depth 40 fits 8000
 
 opcodes_8x_keep : (op : ℕ) (s : State) → Plain s.zones (opcodes_8x op s)
 unfolding opcodes_8x

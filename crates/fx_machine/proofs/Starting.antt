@@ -16,6 +16,7 @@ use Rattle.fx_machine.specs.declared.halt.Halt.{Halt}
 use Rattle.fx_machine.specs.declared.halt.MachineFault.{MachineFault}
 use Rattle.fx_machine.specs.declared.halt.MachineFault.TheVariants.{Halted}
 use Rattle.fx_machine.specs.declared.prepared.Prepared.{Prepared}
+use Rattle.fx_machine.specs.Prepared.{strays_of}
 use Rattle.fx_machine.specs.Programs.{texts}
 use Rattle.fx_machine.specs.declared.ran.Ran.{Ran}
 use Rattle.fx_machine.specs.declared.state.State.{State}
@@ -39,7 +40,7 @@ controls_are_numbers s bytes = all_numbers s bytes _
 
 module _ (texts : Program → List ℕ) (g : ℕ) (s t : State) (n : ℕ) (eg : g ≡ 0)
     (h : Ok (n, t) ≡ answered texts g Font (answer_of (row_at texts) STEP_LIMIT Font s)) where
-  pub prep_ends : (m x : ℕ) (u : State) → x ≡ u.store.strays
+  pub prep_ends : (m x : ℕ) (u : State) → x ≡ strays_of u
       → Ok (m, u) ≡ answered texts g Prep (answer_of (row_at texts) STEP_LIMIT Prep (second_state t))
       → Ok (record { steps = n + m; strays = x }, u) ≡ prelude_of texts s
   unfolding prelude_of

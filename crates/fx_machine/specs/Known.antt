@@ -25,7 +25,7 @@ use Rattle.fx_machine.specs.Machine.{answer_of}
 use Rattle.fx_machine.specs.Table.{row_at}
 use Rattle.fx_machine.specs.Configs.{answered}
 use Rattle.fx_zone.specs.Figures.{HasShape}
-use Rattle.fx_machine.specs.Prepared.{glyph_end, ran_of}
+use Rattle.fx_machine.specs.Prepared.{glyph_end, ran_of, strays_of}
 
 -- the font, the size, what prep left, and what fpgm and prep used up
 pub record Known : Type 0 where
@@ -67,13 +67,16 @@ twilight_of n = record { points = replicate n (resting origin false); ends = [] 
 
 -- no function and no opcode is defined
 abbrev pub nothing_defined : Face → Defined
-nothing_defined face = record { functions = replicate (function_count_of face.maxp.max_function_defs) None; opcodes = replicate 256 None }
+nothing_defined face = record {
+  functions = replicate (function_count_of face.maxp.max_function_defs) None;
+  opcodes = replicate 256 None;
+}
 
 -- the state that fpgm begins with
 abbrev pub first_state : Face → Scale → State
 first_state face scale = record {
   store = first_store face scale;
-  zones = record { twilight = twilight_of face.maxp.max_twilight_points; glyph = empty_figure };
+  zones = record { twilight = twilight_of face.maxp.max_twilight_points; glyph = empty_figure; strays = 0 };
   graphics = default_state;
   definitions = nothing_defined face;
   flags = record { no_programs = false; default_state = false };
@@ -101,7 +104,7 @@ unfoldable pub prelude_of : (Program → List ℕ) → State → Result (Ran × 
 prelude_of texts s = do
   first ← answered texts 0 Font (answer_of (row_at texts) STEP_LIMIT Font s)
   second ← answered texts 0 Prep (answer_of (row_at texts) STEP_LIMIT Prep (second_state first.1))
-  Ok (record { steps = first.0 + second.0; strays = second.1.store.strays }, second.1)
+  Ok (record { steps = first.0 + second.0; strays = strays_of second.1 }, second.1)
 
 -- those of a font at a size
 unfoldable pub font_ran : Face → ℕ → Result (Ran × State) MachineFault

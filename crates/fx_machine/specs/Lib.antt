@@ -7,6 +7,7 @@ pub mod Definitions
 pub mod Programs
 pub mod Actions
 pub mod Flow
+pub mod GraphicsRows
 pub mod StateRows
 pub mod PointRows
 pub mod Table

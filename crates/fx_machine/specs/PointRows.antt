@@ -3,18 +3,17 @@
 -- Each comment has the opcode, the mnemonic, its name in the manual, what becomes of the stack, whose top is written last, and the
 -- reference points that the row sets; what it does to the points is said in fx_pointops.
 -- Apple TrueType Reference Manual, "Instruction set".
-use Rattle.std.specs.Prelude.{ℕ, ◌*◌, ℤ, pos, negsuc, int_lt, Bool, unsigned_abs, if◌then◌else◌, List, reverse, drop, Result, Ok}
+use Rattle.std.specs.Prelude.{ℕ, ℤ, negsuc, Bool, if◌then◌else◌, List, reverse, drop, Result, Ok}
 use Rattle.std.specs.Ordering.{int_eq}
-use Rattle.fx_fixed.specs.Chain.{◌>>=◌, refuse, map_fault}
+use Rattle.fx_fixed.specs.Chain.{◌>>=◌, map_fault}
 use Rattle.fx_fixed.specs.declared.places.Axis.{Axis}
 use Rattle.fx_gstate.specs.declared.deltas.DeltaForm.{DeltaForm}
 use Rattle.fx_gstate.specs.declared.state.GState.{GState}
 use Rattle.fx_gstate.specs.States.{zone_of}
-use Rattle.fx_stackops.specs.Store.{StoreView, one, two, three, top_numbers, pushed, with_stack, with_strays}
+use Rattle.fx_stackops.specs.Store.{StoreView, one, two, three, top_numbers, delta_pairs, on_top, with_stack, with_strays}
 use Rattle.fx_stackops.specs.Table.{read_of, stray_of}
 use Rattle.fx_pointops.specs.declared.distances.Relative.{Relative}
 use Rattle.fx_pointops.specs.declared.zones.Zones.{Zones}
-use Rattle.fx_pointops.specs.Zones.{Outcome}
 use Rattle.fx_pointops.specs.Measure.{gc_of, md_of}
 use Rattle.fx_pointops.specs.Direct.{utp_of, mdap_of, msirp_of, alignrp_of, alignpts_of, scfs_of, shpix_of, mdrp_of}
 use Rattle.fx_pointops.specs.Indirect.{miap_of, mirp_of}
@@ -25,36 +24,39 @@ use Rattle.fx_pointops.specs.Flip.{flippt_of, fliprg_of}
 use Rattle.fx_pointops.specs.Delta.{deltap_of}
 use Rattle.fx_pointops.specs.Iup.{iup_of}
 use Rattle.fx_machine.specs.declared.halt.Cause.{Cause}
-use Rattle.fx_machine.specs.declared.halt.Cause.TheVariants.{BadArgument}
 use Rattle.fx_machine.specs.declared.state.State.{State}
 use Rattle.fx_machine.specs.Causes.{of_stack, of_state}
 
 -- ---- words
 
--- the points that a row leaves, its strays, and what is left of the stack
-abbrev pub with_points : Outcome → StoreView → State → State
-with_points r t s = record s { store = with_strays r.1 t; zones = r.0 }
+-- the points that a row leaves, and what is left of the stack
+abbrev pub with_points : Zones → StoreView → State → State
+with_points z t s = record s { store = t; zones = z }
+
+-- what a row measures, on top of what is left of the stack
+abbrev pub with_measure : ℤ × Zones → StoreView → State → State
+with_measure m t s = with_points m.1 (on_top m.0 t) s
 
 -- rows of one operand, and of two
-abbrev pub points_by_one : (GState → ℤ → Zones → Outcome) → State → Result State Cause
+abbrev pub points_by_one : (GState → ℤ → Zones → Zones) → State → Result State Cause
 points_by_one row s = do
   x ← map_fault of_stack (one s.store)
   Ok (with_points (row s.graphics x.0 s.zones) x.1 s)
 
-abbrev pub points_by_two : (GState → ℤ → ℤ → Zones → Outcome) → State → Result State Cause
+abbrev pub points_by_two : (GState → ℤ → ℤ → Zones → Zones) → State → Result State Cause
 points_by_two row s = do
   x ← map_fault of_stack (two s.store)
   Ok (with_points (row s.graphics x.0 x.1 s.zones) x.2 s)
 
 -- a loop row takes as many points as loop says, the top of the stack first, and sets loop to 1
-abbrev pub after_loop : Outcome → ℕ → StoreView → State → State
-after_loop r n t s = record s {
-  store = with_strays r.1 (with_stack (drop n t.stack) t);
-  zones = r.0;
+abbrev pub after_loop : Zones → ℕ → StoreView → State → State
+after_loop z n t s = record s {
+  store = with_stack (drop n t.stack) t;
+  zones = z;
   graphics = record s.graphics { loop_count = 1 };
 }
 
-abbrev pub loop_on : (GState → List ℤ → Zones → Outcome) → StoreView → State → Result State Cause
+abbrev pub loop_on : (GState → List ℤ → Zones → Zones) → StoreView → State → Result State Cause
 loop_on row t s = do
   points ← map_fault of_stack (top_numbers s.graphics.loop_count t)
   Ok (after_loop (row s.graphics (reverse points) s.zones) s.graphics.loop_count t s)
@@ -137,9 +139,7 @@ miap_row rounds s = do
 unfoldable pub gc_row : Bool → State → Result State Cause
 gc_row original s = do
   x ← map_fault of_stack (one s.store)
-  t ← map_fault of_stack (pushed (gc_of s.graphics original x.0 s.zones).0
-      (with_strays (gc_of s.graphics original x.0 s.zones).1 x.1))
-  Ok (record s { store = t })
+  Ok (with_measure (gc_of s.graphics original x.0 s.zones) x.1 s)
 
 -- 48 SCFS, Sets Coordinate From the Stack: p v ->
 unfoldable pub scfs_row : State → Result State Cause
@@ -149,18 +149,13 @@ scfs_row = points_by_two scfs_of
 unfoldable pub md_row : Bool → State → Result State Cause
 md_row original s = do
   x ← map_fault of_stack (two s.store)
-  t ← map_fault of_stack (pushed (md_of s.graphics original x.0 x.1 s.zones).0
-      (with_strays (md_of s.graphics original x.0 x.1 s.zones).1 x.2))
-  Ok (record s { store = t })
+  Ok (with_measure (md_of s.graphics original x.0 x.1 s.zones) x.2 s)
 
 -- 5D DELTAP1, 71 DELTAP2, 72 DELTAP3, DELTA exception P: .. argument p n ->, n pairs
 unfoldable pub deltap_row : DeltaForm → State → Result State Cause
 deltap_row form s = do
-  x ← map_fault of_stack (one s.store)
-  _ ← refuse (int_lt x.0 (pos 0)) BadArgument
-  pairs ← map_fault of_stack (top_numbers (2 * unsigned_abs x.0) x.1)
-  Ok (with_points (deltap_of s.graphics form s.scale.ppem (reverse pairs) s.zones)
-      (with_stack (drop (2 * unsigned_abs x.0) x.1.stack) x.1) s)
+  x ← map_fault of_stack (delta_pairs s.store)
+  Ok (with_points (deltap_of s.graphics form s.scale.ppem (reverse x.0) s.zones) x.1 s)
 
 -- ---- 8
 

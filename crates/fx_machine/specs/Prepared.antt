@@ -1,10 +1,11 @@
 -- The state that programs of glyphs begin with, and what becomes of them.
 -- Apple TrueType Reference Manual, "Instructing Fonts": the control value program, glyph programs; INSTCTRL.
-use Rattle.std.specs.Prelude.{◌≡◌, ℕ, ℤ, false, if◌then◌else◌, List, [], length, reverse, Result, Ok, Err}
+use Rattle.std.specs.Prelude.{◌≡◌, ℕ, ◌+◌, ℤ, false, if◌then◌else◌, List, [], length, reverse, Result, Ok, Err}
 use Rattle.fx_zone.specs.Figures.{Figure}
 use Rattle.fx_scale.specs.declared.scale.Scale.{Scale}
 use Rattle.fx_gstate.specs.declared.state.GState.{GState}
 use Rattle.fx_gstate.specs.States.{default_state}
+use Rattle.fx_stackops.specs.Store.{counted}
 use Rattle.fx_machine.specs.declared.program.Program.{Program}
 use Rattle.fx_machine.specs.declared.program.Program.TheVariants.{Glyph}
 use Rattle.fx_machine.specs.declared.state.State.{State}
@@ -37,7 +38,7 @@ begun flags g =
 abbrev pub started : Prepared → Scale → ℕ → Figure → State
 started p scale room glyph = record {
   store = record { stack = []; room = room; storage = p.storage; cvt = p.cvt; strays = 0 };
-  zones = record { twilight = p.twilight; glyph = glyph };
+  zones = record { twilight = p.twilight; glyph = glyph; strays = 0 };
   graphics = begun p.flags p.graphics;
   definitions = p.definitions;
   flags = p.flags;
@@ -50,9 +51,13 @@ unfoldable pub glyph_end : (Program → List ℕ) → ℕ → Prepared → Scale
 glyph_end texts g p scale room glyph =
     answered texts g Glyph (answer_of (row_at texts) STEP_LIMIT Glyph (started p scale room glyph))
 
+-- how many strays a run has counted: outside the storage area and the control values, and outside the zones
+abbrev pub strays_of : State → ℕ
+strays_of s = counted (s.store.strays + s.zones.strays)
+
 -- what is told of it: the points then, the instructions executed and the strays; or the halt
 abbrev pub ran_of : Result (ℕ × State) Halt → Result (Ran × Figure) Halt
-ran_of (Ok r) = Ok (record { steps = r.0; strays = r.1.store.strays }, r.1.zones.glyph)
+ran_of (Ok r) = Ok (record { steps = r.0; strays = strays_of r.1 }, r.1.zones.glyph)
 ran_of (Err halt) = Err halt
 
 -- the stack that it leaves, the deepest number first; if it halts the one from before

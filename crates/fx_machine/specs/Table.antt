@@ -23,12 +23,12 @@ use Rattle.fx_machine.specs.declared.action.Action.TheVariants.{Went, Called, Re
 use Rattle.fx_machine.specs.declared.state.State.{State}
 use Rattle.fx_machine.specs.Effects.{Effect, Ends, Fails, Goes, Calls, Returns}
 use Rattle.fx_machine.specs.Flow.{if_row, else_row, eif_row, endf_row, jmpr_row, jrot_row, jrof_row, call_row, loopcall_row, fdef_row, idef_row, undefined_row}
-use Rattle.fx_machine.specs.StateRows.{svtca_row, spvtca_row, sfvtca_row, sfvtpv_row, rtg_row, rthg_row, rtdg_row, rdtg_row}
-use Rattle.fx_machine.specs.StateRows.{rutg_row, roff_row, flipon_row, flipoff_row}
-use Rattle.fx_machine.specs.StateRows.{on_store, spvtl_row, sfvtl_row, sdpvtl_row, spvfs_row, sfvfs_row, gpv_row, gfv_row}
-use Rattle.fx_machine.specs.StateRows.{srp0_row, srp1_row, srp2_row, szp0_row, szp1_row, szp2_row, szps_row, sloop_row, smd_row, scvtci_row}
-use Rattle.fx_machine.specs.StateRows.{sswci_row, ssw_row}
-use Rattle.fx_machine.specs.StateRows.{sdb_row, sds_row, wcvtf_row, sround_row, s45round_row, instctrl_row}
+use Rattle.fx_machine.specs.GraphicsRows.{on_store, on_graphics, on_both, svtca_row, spvtca_row, sfvtca_row, sfvtpv_row}
+use Rattle.fx_machine.specs.GraphicsRows.{rtg_row, rthg_row, rtdg_row, rdtg_row, rutg_row, roff_row, flipon_row, flipoff_row}
+use Rattle.fx_machine.specs.GraphicsRows.{spvfs_row, sfvfs_row, gpv_row, gfv_row, srp0_row, srp1_row, srp2_row, szp0_row}
+use Rattle.fx_machine.specs.GraphicsRows.{szp1_row, szp2_row, szps_row, sloop_row, smd_row, scvtci_row, sswci_row, ssw_row}
+use Rattle.fx_machine.specs.GraphicsRows.{sdb_row, sds_row, wcvtf_row, sround_row, s45round_row}
+use Rattle.fx_machine.specs.StateRows.{spvtl_row, sfvtl_row, sdpvtl_row, instctrl_row}
 use Rattle.fx_machine.specs.PointRows.{isect_row, alignpts_row, utp_row, mdap_row, iup_row, shp_row, shc_row, shz_row, shpix_row}
 use Rattle.fx_machine.specs.PointRows.{ip_row}
 use Rattle.fx_machine.specs.PointRows.{msirp_row, alignrp_row, miap_row, gc_row, scfs_row, md_row, deltap_row, flippt_row}
@@ -39,41 +39,41 @@ use Rattle.fx_machine.specs.PointRows.{fliprg_row, mdrp_row, mirp_row}
 -- 00 to 0F: vectors, ISECT
 unfoldable pub opcodes_0x : ℕ → State → Result State Cause
 opcodes_0x op s =
-    if op == 0x00 then svtca_row Y s
-    else if op == 0x01 then svtca_row X s
-    else if op == 0x02 then spvtca_row Y s
-    else if op == 0x03 then spvtca_row X s
-    else if op == 0x04 then sfvtca_row Y s
-    else if op == 0x05 then sfvtca_row X s
+    if op == 0x00 then on_graphics (svtca_row Y) s
+    else if op == 0x01 then on_graphics (svtca_row X) s
+    else if op == 0x02 then on_graphics (spvtca_row Y) s
+    else if op == 0x03 then on_graphics (spvtca_row X) s
+    else if op == 0x04 then on_graphics (sfvtca_row Y) s
+    else if op == 0x05 then on_graphics (sfvtca_row X) s
     else if op == 0x06 then spvtl_row false s
     else if op == 0x07 then spvtl_row true s
     else if op == 0x08 then sfvtl_row false s
     else if op == 0x09 then sfvtl_row true s
-    else if op == 0x0A then spvfs_row s
-    else if op == 0x0B then sfvfs_row s
-    else if op == 0x0C then gpv_row s
-    else if op == 0x0D then gfv_row s
-    else if op == 0x0E then sfvtpv_row s
+    else if op == 0x0A then on_both spvfs_row s
+    else if op == 0x0B then on_both sfvfs_row s
+    else if op == 0x0C then on_store (gpv_row s.graphics) s
+    else if op == 0x0D then on_store (gfv_row s.graphics) s
+    else if op == 0x0E then on_graphics sfvtpv_row s
     else if op == 0x0F then isect_row s
     else Err BadOpcode
 
 -- 10 to 1F: reference points, zone pointers, loop, rounding, distances
 unfoldable pub opcodes_1x : ℕ → State → Result State Cause
 opcodes_1x op s =
-    if op == 0x10 then srp0_row s
-    else if op == 0x11 then srp1_row s
-    else if op == 0x12 then srp2_row s
-    else if op == 0x13 then szp0_row s
-    else if op == 0x14 then szp1_row s
-    else if op == 0x15 then szp2_row s
-    else if op == 0x16 then szps_row s
-    else if op == 0x17 then sloop_row s
-    else if op == 0x18 then rtg_row s
-    else if op == 0x19 then rthg_row s
-    else if op == 0x1A then smd_row s
-    else if op == 0x1D then scvtci_row s
-    else if op == 0x1E then sswci_row s
-    else if op == 0x1F then ssw_row s
+    if op == 0x10 then on_both srp0_row s
+    else if op == 0x11 then on_both srp1_row s
+    else if op == 0x12 then on_both srp2_row s
+    else if op == 0x13 then on_both szp0_row s
+    else if op == 0x14 then on_both szp1_row s
+    else if op == 0x15 then on_both szp2_row s
+    else if op == 0x16 then on_both szps_row s
+    else if op == 0x17 then on_both sloop_row s
+    else if op == 0x18 then on_graphics rtg_row s
+    else if op == 0x19 then on_graphics rthg_row s
+    else if op == 0x1A then on_both smd_row s
+    else if op == 0x1D then on_both scvtci_row s
+    else if op == 0x1E then on_both sswci_row s
+    else if op == 0x1F then on_both (ssw_row s.scale) s
     else Err BadOpcode
 
 -- 20 to 2F: the stack, ALIGNPTS, UTP, MDAP
@@ -108,7 +108,7 @@ opcodes_3x op s =
     else if op == 0x3A then msirp_row false s
     else if op == 0x3B then msirp_row true s
     else if op == 0x3C then alignrp_row s
-    else if op == 0x3D then rtdg_row s
+    else if op == 0x3D then on_graphics rtdg_row s
     else if op == 0x3E then miap_row false s
     else if op == 0x3F then miap_row true s
     else Err BadOpcode
@@ -127,8 +127,8 @@ opcodes_4x op s =
     else if op == 0x4A then md_row true s
     else if op == 0x4B then on_store (mppem_row s.scale.ppem) s
     else if op == 0x4C then on_store (mps_row s.scale.ppem) s
-    else if op == 0x4D then flipon_row s
-    else if op == 0x4E then flipoff_row s
+    else if op == 0x4D then on_graphics flipon_row s
+    else if op == 0x4E then on_graphics flipoff_row s
     else if op == 0x4F then on_store ignored_row s
     else Err BadOpcode
 
@@ -147,8 +147,8 @@ opcodes_5x op s =
     else if op == 0x5B then on_store or_row s
     else if op == 0x5C then on_store not_row s
     else if op == 0x5D then deltap_row First s
-    else if op == 0x5E then sdb_row s
-    else if op == 0x5F then sds_row s
+    else if op == 0x5E then on_both sdb_row s
+    else if op == 0x5F then on_both sds_row s
     else Err BadOpcode
 
 -- 60 to 6F: arithmetic
@@ -169,17 +169,17 @@ opcodes_6x op s =
 -- 70 to 7F: control values, deltas, rounding
 unfoldable pub opcodes_7x : ℕ → State → Result State Cause
 opcodes_7x op s =
-    if op == 0x70 then wcvtf_row s
+    if op == 0x70 then on_store (wcvtf_row s.scale) s
     else if op == 0x71 then deltap_row Second s
     else if op == 0x72 then deltap_row Third s
     else if op == 0x73 then on_store (deltac_row First s.graphics s.scale.ppem) s
     else if op == 0x74 then on_store (deltac_row Second s.graphics s.scale.ppem) s
     else if op == 0x75 then on_store (deltac_row Third s.graphics s.scale.ppem) s
-    else if op == 0x76 then sround_row s
-    else if op == 0x77 then s45round_row s
-    else if op == 0x7A then roff_row s
-    else if op == 0x7C then rutg_row s
-    else if op == 0x7D then rdtg_row s
+    else if op == 0x76 then on_both sround_row s
+    else if op == 0x77 then on_both s45round_row s
+    else if op == 0x7A then on_graphics roff_row s
+    else if op == 0x7C then on_graphics rutg_row s
+    else if op == 0x7D then on_graphics rdtg_row s
     else if op == 0x7E || op == 0x7F then on_store ignored_row s
     else Err BadOpcode
 
@@ -257,7 +257,7 @@ row_of op bytes code w address next s =
     else if op == IDEF then idef_row code w next s
     else then_at next (plain_of op s)
 
--- the same as code reads it: data if the opcode has some, and else the next address is one byte on
+-- the row as code reads it: data if the opcode has some, and else the next address is one byte on
 unfoldable pub push_at : List ℕ → ℕ → State → Result (Action × State) Cause
 push_at code address s =
     if nat_le (next_address code address) (length code)

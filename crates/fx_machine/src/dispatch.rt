@@ -1,7 +1,7 @@
-//! The instruction table, by the high nibble of the opcode, as its definition: in `opcodes_0x` to `opcodes_8x` the rows that continue
-//! at the next address, in `row` all others. Each arm names its opcodes; the last one of a nibble is for those without a row in it,
-//! which `row` does not send there. They are inlined, so that an instruction takes two jumps by table, and no action goes through
-//! memory.
+//! The instruction table, by the high nibble of the opcode, as its definition: in `opcodes_0x` to `opcodes_8x` the rows that
+//! continue at the next address, in `row` all others. Each arm names its opcodes; the last one of a nibble is for those without a
+//! row in it, which `row` does not send there. They are inlined, so that an instruction takes two jumps by table, and no action
+//! goes through memory.
 
 ghost use Rattle.std.specs.Prelude.{◌≡◌, OnErr, ◌+◌, ◌≤◌};
 ghost use Rattle.fx_gstate.specs.States.{leaves};
@@ -11,6 +11,10 @@ ghost use Rattle.fx_machine.specs.Table.{relative_row, then_at, row_here, opcode
 ghost use Rattle.fx_machine.specs.Table.{opcodes_5x, opcodes_6x, opcodes_7x, opcodes_8x};
 
 use crate::action::Action;
+use crate::graphics_rows::{
+    gfv, gpv, s45round, scvtci, sdb, sds, sfvfs, sloop, smd, spvfs, sround, srp0, srp1, srp2, ssw,
+    sswci, szp0, szp1, szp2, szps, wcvtf,
+};
 use crate::halt::Cause;
 use crate::program::Program;
 use crate::state::State;
@@ -36,7 +40,7 @@ impl State {
         }
     }
 
-    /// The same as an action. It is inlined, so that no action goes through memory.
+    /// C0 to DF, E0 to FF: MDRP, MIRP, and on at the next address. It is inlined, so that no action goes through memory.
     #[inline(always)]
     fn relative(&mut self, opcode: u8, next: usize) -> Result<Action, Cause>
         ensures value { acts result self.new ≡ then_at next (relative_row opcode self.old) }
@@ -66,10 +70,10 @@ impl State {
             SPVTL_1 => self.spvtl(true)?,
             SFVTL_0 => self.sfvtl(false)?,
             SFVTL_1 => self.sfvtl(true)?,
-            SPVFS => self.spvfs()?,
-            SFVFS => self.sfvfs()?,
-            GPV => self.gpv()?,
-            GFV => self.gfv()?,
+            SPVFS => spvfs(&mut self.store, &mut self.graphics)?,
+            SFVFS => sfvfs(&mut self.store, &mut self.graphics)?,
+            GPV => gpv(&mut self.store, &self.graphics)?,
+            GFV => gfv(&mut self.store, &self.graphics)?,
             SFVTPV => self.graphics.set_freedom_to_projection(),
             ISECT => self.isect()?,
             _ => return Err(Cause::BadOpcode),
@@ -86,20 +90,20 @@ impl State {
         ensures sizes { HasSizes self.old self.new }
     {
         match opcode {
-            SRP0 => self.srp0()?,
-            SRP1 => self.srp1()?,
-            SRP2 => self.srp2()?,
-            SZP0 => self.szp0()?,
-            SZP1 => self.szp1()?,
-            SZP2 => self.szp2()?,
-            SZPS => self.szps()?,
-            SLOOP => self.sloop()?,
+            SRP0 => srp0(&mut self.store, &mut self.graphics)?,
+            SRP1 => srp1(&mut self.store, &mut self.graphics)?,
+            SRP2 => srp2(&mut self.store, &mut self.graphics)?,
+            SZP0 => szp0(&mut self.store, &mut self.graphics)?,
+            SZP1 => szp1(&mut self.store, &mut self.graphics)?,
+            SZP2 => szp2(&mut self.store, &mut self.graphics)?,
+            SZPS => szps(&mut self.store, &mut self.graphics)?,
+            SLOOP => sloop(&mut self.store, &mut self.graphics)?,
             RTG => self.graphics.set_round_state(RoundState::ToGrid),
             RTHG => self.graphics.set_round_state(RoundState::ToHalfGrid),
-            SMD => self.smd()?,
-            SCVTCI => self.scvtci()?,
-            SSWCI => self.sswci()?,
-            SSW => self.ssw()?,
+            SMD => smd(&mut self.store, &mut self.graphics)?,
+            SCVTCI => scvtci(&mut self.store, &mut self.graphics)?,
+            SSWCI => sswci(&mut self.store, &mut self.graphics)?,
+            SSW => ssw(&mut self.store, &mut self.graphics, &self.scale)?,
             _ => return Err(Cause::BadOpcode),
         }
         Ok(())
@@ -209,8 +213,8 @@ impl State {
             OR => self.store.or()?,
             NOT => self.store.not()?,
             DELTAP1 => self.deltap(DeltaForm::First)?,
-            SDB => self.sdb()?,
-            SDS => self.sds()?,
+            SDB => sdb(&mut self.store, &mut self.graphics)?,
+            SDS => sds(&mut self.store, &mut self.graphics)?,
             _ => return Err(Cause::BadOpcode),
         }
         Ok(())
@@ -249,7 +253,7 @@ impl State {
         ensures sizes { HasSizes self.old self.new }
     {
         match opcode {
-            WCVTF => self.wcvtf()?,
+            WCVTF => wcvtf(&mut self.store, &self.scale)?,
             DELTAP2 => self.deltap(DeltaForm::Second)?,
             DELTAP3 => self.deltap(DeltaForm::Third)?,
             DELTAC1 => self
@@ -261,8 +265,8 @@ impl State {
             DELTAC3 => self
                 .store
                 .deltac(DeltaForm::Third, &self.graphics, self.scale.ppem)?,
-            SROUND => self.sround()?,
-            S45ROUND => self.s45round()?,
+            SROUND => sround(&mut self.store, &mut self.graphics)?,
+            S45ROUND => s45round(&mut self.store, &mut self.graphics)?,
             ROFF => self.graphics.set_round_state(RoundState::Off),
             RUTG => self.graphics.set_round_state(RoundState::UpToGrid),
             RDTG => self.graphics.set_round_state(RoundState::DownToGrid),

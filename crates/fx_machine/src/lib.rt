@@ -7,6 +7,7 @@ mod dispatch;
 mod final_stack;
 mod flow;
 mod frames;
+mod graphics_rows;
 mod halt;
 pub mod laws;
 mod limits;

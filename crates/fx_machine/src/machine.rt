@@ -59,7 +59,7 @@ fn run_from(
     final_stack.take(state.store.numbers());
     Ok(Ran {
         steps,
-        strays: state.store.strays(),
+        strays: state.strays(),
     })
 }
 
@@ -76,7 +76,7 @@ fn run_prelude(state: &mut State, programs: &Programs<'_>) -> Result<Ran, Halt>
     let second = run(state, programs, Program::Prep, STEP_LIMIT)?;
     Ok(Ran {
         steps: first + second,
-        strays: state.store.strays(),
+        strays: state.strays(),
     })
 }
 
@@ -150,7 +150,8 @@ impl<'a> Model for Machine<'a> {
 
     ghost invariant = { λ m. (Fits m.prepared.value m.state.value)
         × (m.state.value.store.room ≡ room_of m.font.maxp.max_stack_elements)
-        × (m.font_program.now ≡ table_or_empty m.font.file (codes "fpgm")) × (m.prep.now ≡ table_or_empty m.font.file (codes "prep"))
+        × (m.font_program.now ≡ table_or_empty m.font.file (codes "fpgm"))
+        × (m.prep.now ≡ table_or_empty m.font.file (codes "prep"))
         × (m.state.value.scale ≡ scale_of m.font m.state.value.scale.ppem) × (m.final_stack.room ≡ m.state.value.store.room) };
 }
 
@@ -163,7 +164,8 @@ impl<'a> Machine<'a> {
         ensures font { IfOk result (λ m. m.known.face ≡ font.entry) }
         ensures size { IfOk result (λ m. m.known.ppem ≡ ppem) }
         ensures storage { IfOk result (λ m. length m.known.prepared.storage ≡ font.entry.maxp.max_storage) }
-        ensures controls { IfOk result (λ m. length m.known.prepared.cvt ≡ length (controls_of font.entry (scale_of font.entry ppem))) }
+        ensures controls { IfOk result
+            (λ m. length m.known.prepared.cvt ≡ length (controls_of font.entry (scale_of font.entry ppem))) }
         ensures twilight { IfOk result (λ m. length m.known.prepared.twilight.points ≡ font.entry.maxp.max_twilight_points) }
     {
         let font_program = table_or_empty(&font, *b"fpgm");

@@ -5,7 +5,7 @@
 
 ghost use Rattle.std.specs.Prelude.{◌≡◌, ◌≤◌, OnErr, Ok, length, drop, if◌then◌else◌};
 ghost use Rattle.fx_gstate.specs.States.{leaves};
-ghost use Rattle.fx_stackops.specs.Store.{with_stack, with_strays};
+ghost use Rattle.fx_stackops.specs.Store.{with_stack};
 ghost use Rattle.fx_machine.specs.Shapes.{HasSizes};
 ghost use Rattle.fx_machine.specs.PointRows.{isect_row, alignpts_row, utp_row, mdap_row, iup_row, shp_row, shc_row, shz_row, shpix_row, ip_row, msirp_row};
 ghost use Rattle.fx_machine.specs.PointRows.{alignrp_row, miap_row, gc_row, scfs_row, md_row, deltap_row, flippt_row, fliprg_row, mdrp_row, mirp_row, mirp_stray};
@@ -17,17 +17,16 @@ use fx_gstate::{DeltaForm, ZonePointer};
 use fx_pointops::Relative;
 
 impl State {
-    /// Ends a loop row: takes its points off the stack, counts its strays, and sets loop to 1.
-    fn end_loop(&mut self, count: u32, strays: u64)
+    /// Ends a loop row: takes its points off the stack, and sets loop to 1.
+    fn end_loop(&mut self, count: u32)
         requires { count ≤ length self.old.store.stack }
         ensures value { self.new ≡ record self.old {
-          store = with_strays strays (with_stack (drop count self.old.store.stack) self.old.store);
+          store = with_stack (drop count self.old.store.stack) self.old.store;
           graphics = record self.old.graphics { loop_count = 1 };
         } }
         ensures sizes { HasSizes self.old self.new }
     {
         self.store.drop_top(count);
-        self.store.add_strays(strays);
         self.graphics.end_loop();
     }
 
@@ -50,10 +49,9 @@ impl State {
         }
     }
 
-    /// Whether MIRP's control value is a stray, which number -1 is not.
+    /// 1 if MIRP's control value is a stray, which number -1 is not, else 0.
     fn mirp_stray(&self, number: i32) -> u64
-        ensures value { result ≡ mirp_stray self.now.store.cvt number }
-        ensures few { result ≤ 1 }
+        ensures { result ≡ mirp_stray self.now.store.cvt number }
     {
         if number == -1 {
             return 0;
@@ -71,8 +69,7 @@ impl State {
     {
         let (a1, b0, b1) = self.store.three()?;
         let (p, a0) = self.store.two()?;
-        let strays = self.zones.isect(&self.graphics, p, a0, a1, b0, b1);
-        self.store.add_strays(strays);
+        self.zones.isect(&self.graphics, p, a0, a1, b0, b1);
         Ok(())
     }
 
@@ -84,8 +81,7 @@ impl State {
         ensures sizes { HasSizes self.old self.new }
     {
         let (a, b) = self.store.two()?;
-        let strays = self.zones.alignpts(&self.graphics, a, b);
-        self.store.add_strays(strays);
+        self.zones.alignpts(&self.graphics, a, b);
         Ok(())
     }
 
@@ -97,8 +93,7 @@ impl State {
         ensures sizes { HasSizes self.old self.new }
     {
         let operand = self.store.one()?;
-        let strays = self.zones.utp(&self.graphics, operand);
-        self.store.add_strays(strays);
+        self.zones.utp(&self.graphics, operand);
         Ok(())
     }
 
@@ -110,8 +105,7 @@ impl State {
         ensures sizes { HasSizes self.old self.new }
     {
         let p = self.store.one()?;
-        let strays = self.zones.mdap(&self.graphics, rounds, p);
-        self.store.add_strays(strays);
+        self.zones.mdap(&self.graphics, rounds, p);
         self.graphics.set_rp0(p);
         self.graphics.set_rp1(p);
         Ok(())
@@ -136,8 +130,8 @@ impl State {
     {
         let count = self.graphics.loop_count;
         let points = self.store.top(count)?;
-        let strays = self.zones.shp(&self.graphics, first, points);
-        self.end_loop(count, strays);
+        self.zones.shp(&self.graphics, first, points);
+        self.end_loop(count);
         Ok(())
     }
 
@@ -149,8 +143,7 @@ impl State {
         ensures sizes { HasSizes self.old self.new }
     {
         let operand = self.store.one()?;
-        let strays = self.zones.shc(&self.graphics, first, operand);
-        self.store.add_strays(strays);
+        self.zones.shc(&self.graphics, first, operand);
         Ok(())
     }
 
@@ -163,8 +156,7 @@ impl State {
     {
         let zone = self.store.one()?;
         let zone = ZonePointer::of(zone)?;
-        let strays = self.zones.shz(&self.graphics, first, zone);
-        self.store.add_strays(strays);
+        self.zones.shz(&self.graphics, first, zone);
         Ok(())
     }
 
@@ -178,8 +170,8 @@ impl State {
         let amount = self.store.one()?;
         let count = self.graphics.loop_count;
         let points = self.store.top(count)?;
-        let strays = self.zones.shpix(&self.graphics, points, F26(amount));
-        self.end_loop(count, strays);
+        self.zones.shpix(&self.graphics, points, F26(amount));
+        self.end_loop(count);
         Ok(())
     }
 
@@ -192,8 +184,8 @@ impl State {
     {
         let count = self.graphics.loop_count;
         let points = self.store.top(count)?;
-        let strays = self.zones.ip(&self.graphics, points);
-        self.end_loop(count, strays);
+        self.zones.ip(&self.graphics, points);
+        self.end_loop(count);
         Ok(())
     }
 
@@ -206,8 +198,7 @@ impl State {
         ensures sizes { HasSizes self.old self.new }
     {
         let (p, distance) = self.store.two()?;
-        let strays = self.zones.msirp(&self.graphics, p, F26(distance));
-        self.store.add_strays(strays);
+        self.zones.msirp(&self.graphics, p, F26(distance));
         self.set_references(sets_rp0, p);
         Ok(())
     }
@@ -222,8 +213,8 @@ impl State {
     {
         let count = self.graphics.loop_count;
         let points = self.store.top(count)?;
-        let strays = self.zones.alignrp(&self.graphics, points);
-        self.end_loop(count, strays);
+        self.zones.alignrp(&self.graphics, points);
+        self.end_loop(count);
         Ok(())
     }
 
@@ -239,8 +230,7 @@ impl State {
         let value = F26(self.store.control(number));
         let stray = self.store.control_stray(number);
         self.store.add_strays(stray);
-        let strays = self.zones.miap(&self.graphics, rounds, p, value);
-        self.store.add_strays(strays);
+        self.zones.miap(&self.graphics, rounds, p, value);
         self.graphics.set_rp0(p);
         self.graphics.set_rp1(p);
         Ok(())
@@ -255,9 +245,8 @@ impl State {
         ensures sizes { HasSizes self.old self.new }
     {
         let p = self.store.one()?;
-        let (coordinate, strays) = self.zones.gc(&self.graphics, original, p);
-        self.store.add_strays(strays);
-        self.store.push(coordinate.0)?;
+        let coordinate = self.zones.gc(&self.graphics, original, p);
+        self.store.put(coordinate.0);
         Ok(())
     }
 
@@ -269,8 +258,7 @@ impl State {
         ensures sizes { HasSizes self.old self.new }
     {
         let (a, b) = self.store.two()?;
-        let strays = self.zones.scfs(&self.graphics, a, F26(b));
-        self.store.add_strays(strays);
+        self.zones.scfs(&self.graphics, a, F26(b));
         Ok(())
     }
 
@@ -283,9 +271,8 @@ impl State {
         ensures sizes { HasSizes self.old self.new }
     {
         let (p, q) = self.store.two()?;
-        let (distance, strays) = self.zones.md(&self.graphics, original, p, q);
-        self.store.add_strays(strays);
-        self.store.push(distance.0)?;
+        let distance = self.zones.md(&self.graphics, original, p, q);
+        self.store.put(distance.0);
         Ok(())
     }
 
@@ -297,17 +284,11 @@ impl State {
         ensures kept { OnErr result (self.new.zones ≡ self.old.zones) }
         ensures sizes { HasSizes self.old self.new }
     {
-        let count = self.store.one()?;
-        if count < 0 {
-            return Err(Cause::BadArgument);
-        }
-        let numbers = 2 * count.unsigned_abs();
-        let pairs = self.store.top(numbers)?;
-        let strays = self
-            .zones
+        let numbers = 2 * self.store.pairs()?;
+        let pairs = self.store.top_there(numbers);
+        self.zones
             .deltap(&self.graphics, form, self.scale.ppem, pairs);
         self.store.drop_top(numbers);
-        self.store.add_strays(strays);
         Ok(())
     }
 
@@ -320,8 +301,8 @@ impl State {
     {
         let count = self.graphics.loop_count;
         let points = self.store.top(count)?;
-        let strays = self.zones.flippt(&self.graphics, points);
-        self.end_loop(count, strays);
+        self.zones.flippt(&self.graphics, points);
+        self.end_loop(count);
         Ok(())
     }
 
@@ -333,8 +314,7 @@ impl State {
         ensures sizes { HasSizes self.old self.new }
     {
         let (low, high) = self.store.two()?;
-        let strays = self.zones.fliprg(&self.graphics, on, low, high);
-        self.store.add_strays(strays);
+        self.zones.fliprg(&self.graphics, on, low, high);
         Ok(())
     }
 
@@ -347,8 +327,7 @@ impl State {
         ensures sizes { HasSizes self.old self.new }
     {
         let p = self.store.one()?;
-        let strays = self.zones.mdrp(&self.graphics, how, p);
-        self.store.add_strays(strays);
+        self.zones.mdrp(&self.graphics, how, p);
         self.set_references(how.sets_rp0, p);
         Ok(())
     }
@@ -365,8 +344,7 @@ impl State {
         let value = F26(self.store.control(number));
         let stray = self.mirp_stray(number);
         self.store.add_strays(stray);
-        let strays = self.zones.mirp(&self.graphics, how, p, value);
-        self.store.add_strays(strays);
+        self.zones.mirp(&self.graphics, how, p, value);
         self.set_references(how.sets_rp0, p);
         Ok(())
     }

@@ -92,6 +92,7 @@ impl State {
     {
         self.store.restart(&prepared.storage, &prepared.cvt);
         self.zones.twilight.copy_from(&prepared.twilight);
+        self.zones.strays = 0;
         self.graphics = begun(prepared.flags, &prepared.graphics);
         self.definitions.copy_from(&prepared.definitions);
         self.flags = prepared.flags;

@@ -2,6 +2,7 @@
 
 ghost use Rattle.std.specs.Prelude.{◌≡◌, IfOk};
 ghost use Rattle.fx_sfnt.specs.Tables.{table_or_empty};
+ghost use Rattle.fx_machine.specs.Prepared.{strays_of};
 ghost use Rattle.fx_machine.specs.Known.{controls_of, first_store, twilight_of, nothing_defined, first_state, second_state};
 
 use crate::definitions::Definitions;
@@ -27,7 +28,7 @@ pub struct Flags {
 /// The state that instructions read and change.
 #[derive(Drop)]
 pub struct State {
-    /// The stack, the storage area, the control values and the strays.
+    /// The stack, the storage area and the control values.
     pub store: Store,
     /// The points.
     pub zones: Zones,
@@ -106,6 +107,7 @@ impl State {
             zones: Zones {
                 twilight,
                 glyph: Zone::new(alloc),
+                strays: 0,
             },
             graphics: GState::new(),
             definitions,
@@ -116,6 +118,13 @@ impl State {
             scale,
             preparing: false,
         })
+    }
+
+    /// How many numbers outside their tables and zones instructions have named since a program began.
+    pub fn strays(&self) -> u64
+        ensures { result ≡ strays_of self.now }
+    {
+        self.store.strays().saturating_add(self.zones.strays)
     }
 
     /// Begins `prep`, after `fpgm`.

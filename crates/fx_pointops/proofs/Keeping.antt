@@ -12,12 +12,13 @@ use Rattle.fx_gstate.specs.declared.deltas.DeltaForm.{DeltaForm}
 use Rattle.fx_gstate.specs.declared.state.GState.{GState}
 use Rattle.fx_gstate.specs.declared.zones.ZonePointer.{ZonePointer}
 use Rattle.fx_gstate.specs.declared.zones.ZonePointer.TheVariants.{Twilight, Glyph}
-use Rattle.fx_gstate.specs.Deltas.{delta_of}
+use Rattle.fx_gstate.specs.Deltas.{delta_of, each_pair}
 use Rattle.fx_pointops.specs.declared.distances.Relative.{Relative}
 use Rattle.fx_pointops.specs.declared.zones.Zones.{Zones}
-use Rattle.fx_pointops.specs.Zones.{Outcome, HasShapes, on_zone, index_of, changed_of, changed_at}
+use Rattle.fx_pointops.specs.Zones.{HasShapes, on_zone, index_of, point_at, changed_of, changed_at, with_stray, counting, counting_two, on_point}
 use Rattle.fx_pointops.specs.ShiftPoint.{shift_by, point_shifted}
-use Rattle.fx_pointops.specs.Loops.{each, each_pair}
+use Rattle.fx_pointops.specs.Loops.{each}
+use Rattle.fx_pointops.specs.Measure.{gc_of, md_of, line_between}
 use Rattle.fx_pointops.specs.Direct.{utp_of, mdap_of, laid_from_rp, msirp_of, aligned_to_rp, alignrp_of}
 use Rattle.fx_pointops.specs.Direct.{alignpts_of, scfs_of, shpix_of, mdrp_of}
 use Rattle.fx_pointops.specs.Indirect.{miap_of, mirp_of}
@@ -43,10 +44,6 @@ if_keeps : (z x y : Zones) (b : Bool) → HasShapes z x → HasShapes z y → Ha
 if_keeps z x y true h g = h
 if_keeps z x y false h g = g
 
-outcome_if : (z : Zones) (x y : Outcome) (b : Bool) → HasShapes z x.0 → HasShapes z y.0 → HasShapes z (if b then x else y).0
-outcome_if z x y true h g = h
-outcome_if z x y false h g = g
-
 figure_if : (f x y : Figure) (b : Bool) → HasShape f x → HasShape f y → HasShape f (if b then x else y)
 figure_if f x y true h g = h
 figure_if f x y false h g = g
@@ -64,109 +61,142 @@ changed_keeps : (change : Point → Point) (zone : ZonePointer) (n : ℤ) (z : Z
 unfolding changed_at
 changed_keeps change zone n z = index_keeps change zone (index_of n) z
 
-each_keeps : (steps : ℤ → Zones → Outcome) → ((p : ℤ) (z : Zones) → HasShapes z (steps p z).0) → (ps : List ℤ) (z : Zones)
-    → HasShapes z (each steps ps z).0
+stray_keeps : (z : Zones) → HasShapes z (with_stray z)
+stray_keeps z = record { twilight = shape_same z.twilight; glyph = shape_same z.glyph }
+
+counting_keeps : (p : Option Point) (z : Zones) → HasShapes z (counting p z)
+counting_keeps (Some p) z = shapes_same z
+counting_keeps None z = stray_keeps z
+
+counting_two_keeps : (p q : Option Point) (z : Zones) → HasShapes z (counting_two p q z)
+counting_two_keeps p q z = shapes_then z (counting p z) _ (counting_keeps p z) (counting_keeps q _)
+
+-- a row after it has counted its strays
+after_one : (p : Option Point) (z y : Zones) → HasShapes (counting p z) y → HasShapes z y
+after_one p z y h = shapes_then z _ y (counting_keeps p z) h
+
+after_two : (p q : Option Point) (z y : Zones) → HasShapes (counting_two p q z) y → HasShapes z y
+after_two p q z y h = shapes_then z _ y (counting_two_keeps p q z) h
+
+point_keeps : (change : Point → Point) (zone : ZonePointer) (n : ℤ) (z : Zones) → HasShapes z (on_point change zone n z)
+point_keeps change zone n z = after_one (point_at zone n z) z _ (changed_keeps change zone n _)
+
+each_keeps : (steps : ℤ → Zones → Zones) → ((p : ℤ) (z : Zones) → HasShapes z (steps p z)) → (ps : List ℤ) (z : Zones)
+    → HasShapes z (each steps ps z)
 unfolding each
 each_keeps steps h [] z = shapes_same z
 each_keeps steps h (p ∷ ps) z =
-    shapes_then z (steps p z).0 (each steps ps (steps p z).0).0 (h p z) (each_keeps steps h ps (steps p z).0)
+    shapes_then z (steps p z) (each steps ps (steps p z)) (h p z) (each_keeps steps h ps (steps p z))
 
-pairs_keep : (steps : ℤ → ℤ → Zones → Outcome) → ((p a : ℤ) (z : Zones) → HasShapes z (steps p a z).0) → (ps : List ℤ) (z : Zones)
-    → HasShapes z (each_pair steps ps z).0
+pairs_keep : (steps : ℤ → ℤ → Zones → Zones) → ((p a : ℤ) (z : Zones) → HasShapes z (steps p a z)) → (ps : List ℤ) (z : Zones)
+    → HasShapes z (each_pair steps ps z)
 unfolding each_pair
 pairs_keep steps h [] z = shapes_same z
 pairs_keep steps h (p ∷ []) z = shapes_same z
 pairs_keep steps h (p ∷ a ∷ ps) z =
-    shapes_then z (steps p a z).0 (each_pair steps ps (steps p a z).0).0 (h p a z) (pairs_keep steps h ps (steps p a z).0)
+    shapes_then z (steps p a z) (each_pair steps ps (steps p a z)) (h p a z) (pairs_keep steps h ps (steps p a z))
 
-point_shifted_keeps : (g : GState) (by : Place) (p : ℤ) (z : Zones) → HasShapes z (point_shifted g by p z).0
+point_shifted_keeps : (g : GState) (by : Place) (p : ℤ) (z : Zones) → HasShapes z (point_shifted g by p z)
 unfolding point_shifted
-point_shifted_keeps g by p z = changed_keeps _ g.zp2 p z
+point_shifted_keeps g by p z = point_keeps _ g.zp2 p z
+
+laid_keeps : (g : GState) (p : ℤ) (by : Place) (z : Zones) → HasShapes z (laid_from_rp g p by z)
+laid_keeps g p by z = if_keeps z _ z _ (changed_keeps _ g.zp1 p z) (shapes_same z)
 
 -- ---- rows
 
-pub utp_keeps : (g : GState) (p : ℤ) (z : Zones) → HasShapes z (utp_of g p z).0
+pub gc_keeps : (g : GState) (original : Bool) (p : ℤ) (z : Zones) → HasShapes z (gc_of g original p z).1
+unfolding gc_of
+gc_keeps g original p z = counting_keeps _ z
+
+pub md_keeps : (g : GState) (original : Bool) (p q : ℤ) (z : Zones) → HasShapes z (md_of g original p q z).1
+unfolding md_of
+md_keeps g original p q z = counting_two_keeps _ _ z
+
+pub line_keeps : (g : GState) (p q : ℤ) (z : Zones) → HasShapes z (line_between g p q z).1
+unfolding line_between
+line_keeps g p q z = counting_two_keeps _ _ z
+
+pub utp_keeps : (g : GState) (p : ℤ) (z : Zones) → HasShapes z (utp_of g p z)
 unfolding utp_of
-utp_keeps g p z = changed_keeps _ g.zp0 p z
+utp_keeps g p z = point_keeps _ g.zp0 p z
 
-pub mdap_keeps : (g : GState) (rounds : Bool) (p : ℤ) (z : Zones) → HasShapes z (mdap_of g rounds p z).0
+pub mdap_keeps : (g : GState) (rounds : Bool) (p : ℤ) (z : Zones) → HasShapes z (mdap_of g rounds p z)
 unfolding mdap_of
-mdap_keeps g rounds p z = changed_keeps _ g.zp0 p z
+mdap_keeps g rounds p z = point_keeps _ g.zp0 p z
 
-pub msirp_keeps : (g : GState) (p d : ℤ) (z : Zones) → HasShapes z (msirp_of g p d z).0
+pub msirp_keeps : (g : GState) (p d : ℤ) (z : Zones) → HasShapes z (msirp_of g p d z)
 unfolding msirp_of
-msirp_keeps g p d z =
-    shapes_then z (laid_from_rp g p (shift_by g d) z) _ (if_keeps z _ z _ (changed_keeps _ g.zp1 p z) (shapes_same z))
-    (changed_keeps _ g.zp1 p _)
+msirp_keeps g p d z = after_two _ _ z _ (shapes_then _ _ _ (laid_keeps g p (shift_by g d) _) (changed_keeps _ g.zp1 p _))
 
-aligned_keeps : (g : GState) (p : ℤ) (z : Zones) → HasShapes z (aligned_to_rp g p z).0
+aligned_keeps : (g : GState) (p : ℤ) (z : Zones) → HasShapes z (aligned_to_rp g p z)
 unfolding aligned_to_rp
-aligned_keeps g p z = changed_keeps _ g.zp1 p z
+aligned_keeps g p z = point_keeps _ g.zp1 p z
 
-pub alignrp_keeps : (g : GState) (points : List ℤ) (z : Zones) → HasShapes z (alignrp_of g points z).0
+pub alignrp_keeps : (g : GState) (points : List ℤ) (z : Zones) → HasShapes z (alignrp_of g points z)
 unfolding alignrp_of
-alignrp_keeps g points z = each_keeps (aligned_to_rp g) (aligned_keeps g) points z
+alignrp_keeps g points z = after_one _ z _ (each_keeps (aligned_to_rp g) (aligned_keeps g) points _)
 
-pub alignpts_keeps : (g : GState) (p q : ℤ) (z : Zones) → HasShapes z (alignpts_of g p q z).0
+pub alignpts_keeps : (g : GState) (p q : ℤ) (z : Zones) → HasShapes z (alignpts_of g p q z)
 unfolding alignpts_of
-alignpts_keeps g p q z = shapes_then z _ _ (changed_keeps _ g.zp1 p z) (changed_keeps _ g.zp0 q _)
+alignpts_keeps g p q z = after_two _ _ z _ (shapes_then _ _ _ (changed_keeps _ g.zp1 p _) (changed_keeps _ g.zp0 q _))
 
-pub scfs_keeps : (g : GState) (p v : ℤ) (z : Zones) → HasShapes z (scfs_of g p v z).0
+pub scfs_keeps : (g : GState) (p v : ℤ) (z : Zones) → HasShapes z (scfs_of g p v z)
 unfolding scfs_of
-scfs_keeps g p v z = changed_keeps _ g.zp2 p z
+scfs_keeps g p v z = point_keeps _ g.zp2 p z
 
-pub shpix_keeps : (g : GState) (points : List ℤ) (a : ℤ) (z : Zones) → HasShapes z (shpix_of g points a z).0
+pub shpix_keeps : (g : GState) (points : List ℤ) (a : ℤ) (z : Zones) → HasShapes z (shpix_of g points a z)
 unfolding shpix_of
 shpix_keeps g points a z = each_keeps _ (point_shifted_keeps g _) points z
 
-pub mdrp_keeps : (g : GState) (how : Relative) (p : ℤ) (z : Zones) → HasShapes z (mdrp_of g how p z).0
+pub mdrp_keeps : (g : GState) (how : Relative) (p : ℤ) (z : Zones) → HasShapes z (mdrp_of g how p z)
 unfolding mdrp_of
-mdrp_keeps g how p z = changed_keeps _ g.zp1 p z
+mdrp_keeps g how p z = after_two _ _ z _ (changed_keeps _ g.zp1 p _)
 
-pub miap_keeps : (g : GState) (rounds : Bool) (p v : ℤ) (z : Zones) → HasShapes z (miap_of g rounds p v z).0
+pub miap_keeps : (g : GState) (rounds : Bool) (p v : ℤ) (z : Zones) → HasShapes z (miap_of g rounds p v z)
 unfolding miap_of
-miap_keeps g rounds p v z = changed_keeps _ g.zp0 p z
+miap_keeps g rounds p v z = point_keeps _ g.zp0 p z
 
-pub mirp_keeps : (g : GState) (how : Relative) (p v : ℤ) (z : Zones) → HasShapes z (mirp_of g how p v z).0
+pub mirp_keeps : (g : GState) (how : Relative) (p v : ℤ) (z : Zones) → HasShapes z (mirp_of g how p v z)
 unfolding mirp_of
-mirp_keeps g how p v z =
-    shapes_then z (laid_from_rp g p _ z) _ (if_keeps z _ z _ (changed_keeps _ g.zp1 p z) (shapes_same z))
-    (changed_keeps _ g.zp1 p _)
+mirp_keeps g how p v z = after_two _ _ z _ (shapes_then _ _ _ (laid_keeps g p _ _) (changed_keeps _ g.zp1 p _))
 
-pub shp_keeps : (g : GState) (one : Bool) (points : List ℤ) (z : Zones) → HasShapes z (shp_of g one points z).0
+pub shp_keeps : (g : GState) (one : Bool) (points : List ℤ) (z : Zones) → HasShapes z (shp_of g one points z)
 unfolding shp_of
-shp_keeps g one points z = each_keeps _ (point_shifted_keeps g _) points z
+shp_keeps g one points z = after_one _ z _ (each_keeps _ (point_shifted_keeps g _) points _)
 
 contour_keeps : (g : GState) (by : Place) (except : Option ℕ) (c : Option (ℕ × ℕ)) (z : Zones)
     → HasShapes z (contour_shifted g by except c z)
 contour_keeps g by except (Some c) z = zone_keeps _ (each_shape (in_range_without except c.0 c.1) _) g.zp2 z
-contour_keeps g by except None z = shapes_same z
+contour_keeps g by except None z = stray_keeps z
 
-pub shc_keeps : (g : GState) (one : Bool) (k : ℤ) (z : Zones) → HasShapes z (shc_of g one k z).0
+pub shc_keeps : (g : GState) (one : Bool) (k : ℤ) (z : Zones) → HasShapes z (shc_of g one k z)
 unfolding shc_of
-shc_keeps g one k z = contour_keeps g _ _ _ z
+shc_keeps g one k z = after_one _ z _ (contour_keeps g _ _ _ _)
 
-pub shz_keeps : (g : GState) (one : Bool) (zone : ZonePointer) (z : Zones) → HasShapes z (shz_of g one zone z).0
+pub shz_keeps : (g : GState) (one : Bool) (zone : ZonePointer) (z : Zones) → HasShapes z (shz_of g one zone z)
 unfolding shz_of
-shz_keeps g one zone z = zone_keeps _ (each_shape (in_range_without _ 0 _) _) zone z
+shz_keeps g one zone z = after_one _ z _ (zone_keeps _ (each_shape (in_range_without _ 0 _) _) zone _)
 
-proportion_keeps : (g : GState) (cb ob p : ℤ) (z : Zones) → HasShapes z (point_in_proportion g cb ob p z).0
+proportion_keeps : (g : GState) (cb ob p : ℤ) (z : Zones) → HasShapes z (point_in_proportion g cb ob p z)
 unfolding point_in_proportion
-proportion_keeps g cb ob p z = changed_keeps _ g.zp2 p z
+proportion_keeps g cb ob p z = point_keeps _ g.zp2 p z
 
-pub ip_keeps : (g : GState) (points : List ℤ) (z : Zones) → HasShapes z (ip_of g points z).0
+pub ip_keeps : (g : GState) (points : List ℤ) (z : Zones) → HasShapes z (ip_of g points z)
 unfolding ip_of
-ip_keeps g points z = each_keeps _ (proportion_keeps g _ _) points z
+ip_keeps g points z = after_two _ _ z _ (each_keeps _ (proportion_keeps g _ _) points _)
 
-pub isect_keeps : (g : GState) (p a0 a1 b0 b1 : ℤ) (z : Zones) → HasShapes z (isect_of g p a0 a1 b0 b1 z).0
+pub isect_keeps : (g : GState) (p a0 a1 b0 b1 : ℤ) (z : Zones) → HasShapes z (isect_of g p a0 a1 b0 b1 z)
 unfolding isect_of
-isect_keeps g p a0 a1 b0 b1 z = changed_keeps _ g.zp2 p z
+isect_keeps g p a0 a1 b0 b1 z =
+    after_two (point_at g.zp1 a0 z) (point_at g.zp1 a1 z) z _
+    (after_two (point_at g.zp0 b0 z) (point_at g.zp0 b1 z) _ _ (point_keeps _ g.zp2 p _))
 
-flipped_keeps : (g : GState) (p : ℤ) (z : Zones) → HasShapes z (point_flipped g p z).0
+flipped_keeps : (g : GState) (p : ℤ) (z : Zones) → HasShapes z (point_flipped g p z)
 unfolding point_flipped
-flipped_keeps g p z = changed_keeps _ g.zp0 p z
+flipped_keeps g p z = point_keeps _ g.zp0 p z
 
-pub flippt_keeps : (g : GState) (points : List ℤ) (z : Zones) → HasShapes z (flippt_of g points z).0
+pub flippt_keeps : (g : GState) (points : List ℤ) (z : Zones) → HasShapes z (flippt_of g points z)
 unfolding flippt_of
 flippt_keeps g points z = each_keeps (point_flipped g) (flipped_keeps g) points z
 
@@ -178,19 +208,19 @@ range_keeps on zone (Some low) (Some high) z = zone_keeps (run_curved on low hig
 range_keeps on zone (Some low) None z = shapes_same z
 range_keeps on zone None high z = shapes_same z
 
-pub fliprg_keeps : (g : GState) (on : Bool) (low high : ℤ) (z : Zones) → HasShapes z (fliprg_of g on low high z).0
+pub fliprg_keeps : (g : GState) (on : Bool) (low high : ℤ) (z : Zones) → HasShapes z (fliprg_of g on low high z)
 unfolding fliprg_of
-fliprg_keeps g on low high z = range_keeps on g.zp0 (index_of low) (index_of high) z
+fliprg_keeps g on low high z = after_two _ _ z _ (range_keeps on g.zp0 (index_of low) (index_of high) _)
 
-at_size_keeps : (g : GState) (ppem : ℕ) (d : Delta) (p : ℤ) (z : Zones) → HasShapes z (point_moved_at g ppem d p z).0
-at_size_keeps g ppem d p z = outcome_if z _ _ _ (changed_keeps _ g.zp0 p z) (shapes_same z)
+at_size_keeps : (g : GState) (ppem : ℕ) (d : Delta) (p : ℤ) (z : Zones) → HasShapes z (point_moved_at g ppem d p z)
+at_size_keeps g ppem d p z = if_keeps z _ _ _ (point_keeps _ g.zp0 p z) (shapes_same z)
 
-delta_keeps : (g : GState) (form : DeltaForm) (ppem : ℕ) (p a : ℤ) (z : Zones) → HasShapes z (point_delta g form ppem p a z).0
+delta_keeps : (g : GState) (form : DeltaForm) (ppem : ℕ) (p a : ℤ) (z : Zones) → HasShapes z (point_delta g form ppem p a z)
 unfolding point_delta
 delta_keeps g form ppem p a z = at_size_keeps g ppem (delta_of form g.delta_base g.delta_shift a) p z
 
 pub deltap_keeps : (g : GState) (form : DeltaForm) (ppem : ℕ) (pairs : List ℤ) (z : Zones)
-    → HasShapes z (deltap_of g form ppem pairs z).0
+    → HasShapes z (deltap_of g form ppem pairs z)
 unfolding deltap_of
 deltap_keeps g form ppem pairs z = pairs_keep (point_delta g form ppem) (delta_keeps g form ppem) pairs z
 

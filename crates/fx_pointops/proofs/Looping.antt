@@ -1,54 +1,50 @@
 -- Loops over the points of a row, the last of a slice first.
 -- It serves ALIGNRP, IP, SHP, SHPIX and FLIPPT.
 use Rattle.std.proofs.Common.{◌≡◌, refl, sym, ap, ◌∙◌, arith, ℕ, ℤ, pos, suc, ◌+◌, ◌-◌, ◌<◌, ◌≤◌, List, [], ◌∷◌, length, get_or}
-use Rattle.std.proofs.Common.{take, reverse, add_assoc, add-zero}
+use Rattle.std.proofs.Common.{take, reverse}
 use Rattle.std.proofs.Math.Seq.{take-suc}
 use Rattle.std.proofs.lemmas.List.{reverse-append, length-reverse, length-take-le}
+use Rattle.fx_gstate.specs.Deltas.{each_pair}
 use Rattle.fx_pointops.specs.declared.zones.Zones.{Zones}
-use Rattle.fx_pointops.specs.Zones.{Outcome, with_strays}
-use Rattle.fx_pointops.specs.Loops.{each, each_pair}
+use Rattle.fx_pointops.specs.Loops.{each}
 
 -- the next point of a slice, from its end
 top_first : (xs : List ℤ) (k : ℕ) (d : ℤ) → k < length xs → reverse (take (suc k) xs) ≡ get_or xs k d ∷ reverse (take k xs)
 top_first xs k d h = ap reverse (take-suc xs k d h) ∙ reverse-append (take k xs) (get_or xs k d ∷ [])
 
-added : (m n : ℕ) (o : Outcome) → with_strays m (with_strays n o) ≡ with_strays (m + n) o
-added m n o = ap (λ k. (o.0, k)) (sym (add_assoc m n o.1))
-
-one_step : (steps : ℤ → Zones → Outcome) (xs : List ℤ) (z y : Zones) (left m : ℕ) (p : ℤ) → 0 < left → left ≤ length xs
-    → p ≡ get_or xs (left - 1) (pos 0) → (y, m) ≡ steps p z
-    → each steps (reverse (take left xs)) z ≡ with_strays m (each steps (reverse (take (left - 1) xs)) y)
+one_step : (steps : ℤ → Zones → Zones) (xs : List ℤ) (z y : Zones) (left : ℕ) (p : ℤ) → 0 < left → left ≤ length xs
+    → p ≡ get_or xs (left - 1) (pos 0) → y ≡ steps p z
+    → each steps (reverse (take left xs)) z ≡ each steps (reverse (take (left - 1) xs)) y
 unfolding each
-one_step steps xs z y left m p s w g e =
+one_step steps xs z y left p s w g e =
     let k : left - 1 < length xs = omega (arith, s, w) in
     let l : left ≡ suc (left - 1) = omega (arith, s) in
     ap (λ n. each steps (reverse (take n xs)) z) l
     ∙ ap (λ l. each steps l z) (top_first xs (left - 1) (pos 0) k ∙ ap (λ q. q ∷ reverse (take (left - 1) xs)) (sym g))
-    ∙ ap (λ (o : Outcome). with_strays o.1 (each steps (reverse (take (left - 1) xs)) o.0)) (sym e)
+    ∙ ap (each steps (reverse (take (left - 1) xs))) (sym e)
 
 -- one point more is done
-pub loop_next : (steps : ℤ → Zones → Outcome) (xs : List ℤ) (z y : Zones) (left m n : ℕ) (p : ℤ) (o : Outcome) → 0 < left
-    → left ≤ length xs → p ≡ get_or xs (left - 1) (pos 0) → (y, m) ≡ steps p z
-    → o ≡ with_strays n (each steps (reverse (take left xs)) z)
-    → o ≡ with_strays (n + m) (each steps (reverse (take (left - 1) xs)) y)
-loop_next steps xs z y left m n p o s w g e a =
-    a ∙ ap (with_strays n) (one_step steps xs z y left m p s w g e) ∙ added n m (each steps (reverse (take (left - 1) xs)) y)
+pub loop_next : (steps : ℤ → Zones → Zones) (xs : List ℤ) (z y : Zones) (left : ℕ) (p : ℤ) (o : Zones) → 0 < left
+    → left ≤ length xs → p ≡ get_or xs (left - 1) (pos 0) → y ≡ steps p z
+    → o ≡ each steps (reverse (take left xs)) z
+    → o ≡ each steps (reverse (take (left - 1) xs)) y
+loop_next steps xs z y left p o s w g e a = a ∙ one_step steps xs z y left p s w g e
 
 -- no point is left
-pub loop_done : (steps : ℤ → Zones → Outcome) (xs : List ℤ) (z : Zones) (left n : ℕ) (o : Outcome) → left ≤ 0
-    → o ≡ with_strays n (each steps (reverse (take left xs)) z) → (z, n) ≡ o
+pub loop_done : (steps : ℤ → Zones → Zones) (xs : List ℤ) (z : Zones) (left : ℕ) (o : Zones) → left ≤ 0
+    → o ≡ each steps (reverse (take left xs)) z → z ≡ o
 unfolding each
-loop_done steps xs z left n o h a =
+loop_done steps xs z left o h a =
     let e : left ≡ 0 = omega (arith, h) in
-    sym (a ∙ ap (λ k. with_strays n (each steps (reverse (take k xs)) z)) e ∙ ap (λ k. (z, k)) (add-zero n))
+    sym (a ∙ ap (λ k. each steps (reverse (take k xs)) z) e)
 
 -- ---- pairs
 
-one_pair : (steps : ℤ → ℤ → Zones → Outcome) (xs : List ℤ) (z y : Zones) (left m : ℕ) (p a : ℤ) → 1 < left → left ≤ length xs
-    → p ≡ get_or xs (left - 2 + 1) (pos 0) → a ≡ get_or xs (left - 2) (pos 0) → (y, m) ≡ steps p a z
-    → each_pair steps (reverse (take left xs)) z ≡ with_strays m (each_pair steps (reverse (take (left - 2) xs)) y)
+one_pair : (steps : ℤ → ℤ → Zones → Zones) (xs : List ℤ) (z y : Zones) (left : ℕ) (p a : ℤ) → 1 < left → left ≤ length xs
+    → p ≡ get_or xs (left - 2 + 1) (pos 0) → a ≡ get_or xs (left - 2) (pos 0) → y ≡ steps p a z
+    → each_pair steps (reverse (take left xs)) z ≡ each_pair steps (reverse (take (left - 2) xs)) y
 unfolding each_pair
-one_pair steps xs z y left m p a s w g h e =
+one_pair steps xs z y left p a s w g h e =
     let k : left - 2 < length xs = omega (arith, s, w) in
     let j : left - 2 + 1 < length xs = omega (arith, s, w) in
     let l : left ≡ suc (left - 2 + 1) = omega (arith, s) in
@@ -56,24 +52,22 @@ one_pair steps xs z y left m p a s w g h e =
     ap (λ n. each_pair steps (reverse (take n xs)) z) l
     ∙ ap (λ l. each_pair steps l z) (top_first xs (left - 2 + 1) (pos 0) j ∙ (λ i. (sym g) i ∷ reverse (take (r i) xs))
     ∙ ap (λ l. p ∷ l) (top_first xs (left - 2) (pos 0) k ∙ ap (λ q. q ∷ reverse (take (left - 2) xs)) (sym h)))
-    ∙ ap (λ (o : Outcome). with_strays o.1 (each_pair steps (reverse (take (left - 2) xs)) o.0)) (sym e)
+    ∙ ap (each_pair steps (reverse (take (left - 2) xs))) (sym e)
 
-pub pairs_next : (steps : ℤ → ℤ → Zones → Outcome) (xs : List ℤ) (z y : Zones) (left m n : ℕ) (p a : ℤ) (o : Outcome) → 1 < left
-    → left ≤ length xs → p ≡ get_or xs (left - 2 + 1) (pos 0) → a ≡ get_or xs (left - 2) (pos 0) → (y, m) ≡ steps p a z
-    → o ≡ with_strays n (each_pair steps (reverse (take left xs)) z)
-    → o ≡ with_strays (n + m) (each_pair steps (reverse (take (left - 2) xs)) y)
-pairs_next steps xs z y left m n p a o s w g h e i =
-    i ∙ ap (with_strays n) (one_pair steps xs z y left m p a s w g h e)
-    ∙ added n m (each_pair steps (reverse (take (left - 2) xs)) y)
+pub pairs_next : (steps : ℤ → ℤ → Zones → Zones) (xs : List ℤ) (z y : Zones) (left : ℕ) (p a : ℤ) (o : Zones) → 1 < left
+    → left ≤ length xs → p ≡ get_or xs (left - 2 + 1) (pos 0) → a ≡ get_or xs (left - 2) (pos 0) → y ≡ steps p a z
+    → o ≡ each_pair steps (reverse (take left xs)) z
+    → o ≡ each_pair steps (reverse (take (left - 2) xs)) y
+pairs_next steps xs z y left p a o s w g h e i = i ∙ one_pair steps xs z y left p a s w g h e
 
-few_left : (steps : ℤ → ℤ → Zones → Outcome) (xs : List ℤ) (z : Zones) → length xs ≤ 1 → each_pair steps xs z ≡ (z, 0)
+few_left : (steps : ℤ → ℤ → Zones → Zones) (xs : List ℤ) (z : Zones) → length xs ≤ 1 → each_pair steps xs z ≡ z
 unfolding each_pair
 few_left steps [] z h = refl
 few_left steps (x ∷ []) z h = refl
 few_left steps (x ∷ y ∷ xs) z h = absurd (omega (arith, h))
 
-pub pairs_done : (steps : ℤ → ℤ → Zones → Outcome) (xs : List ℤ) (z : Zones) (left n : ℕ) (o : Outcome) → left ≤ 1
-    → left ≤ length xs → o ≡ with_strays n (each_pair steps (reverse (take left xs)) z) → (z, n) ≡ o
-pairs_done steps xs z left n o h w a =
+pub pairs_done : (steps : ℤ → ℤ → Zones → Zones) (xs : List ℤ) (z : Zones) (left : ℕ) (o : Zones) → left ≤ 1
+    → left ≤ length xs → o ≡ each_pair steps (reverse (take left xs)) z → z ≡ o
+pairs_done steps xs z left o h w a =
     let long : length (reverse (take left xs)) ≤ 1 = omega (arith, length-reverse (take left xs), length-take-le left xs w, h) in
-    sym (a ∙ ap (with_strays n) (few_left steps (reverse (take left xs)) z long) ∙ ap (λ k. (z, k)) (add-zero n))
+    sym (a ∙ few_left steps (reverse (take left xs)) z long)

@@ -5,7 +5,7 @@ use Rattle.fx_zone.specs.declared.point.Point.{Point}
 use Rattle.fx_gstate.specs.declared.zones.ZonePointer.{ZonePointer}
 use Rattle.fx_gstate.specs.declared.zones.ZonePointer.TheVariants.{Twilight, Glyph}
 use Rattle.fx_pointops.specs.declared.zones.Zones.{Zones}
-use Rattle.fx_pointops.specs.Zones.{point_at, changed_at, written_at, on_point}
+use Rattle.fx_pointops.specs.Zones.{point_at, changed_at, written_at, with_stray, on_point}
 
 written_here : (change : Point → Point) (zone : ZonePointer) (n : ℤ) (z : Zones) (p : Point) → Some p ≡ point_at zone n z
     → written_at (change p) zone n z ≡ changed_at change zone n z
@@ -16,17 +16,17 @@ written_here change Twilight (negsuc n) z p e = absurd cc
 written_here change Glyph (negsuc n) z p e = absurd cc
 
 -- a point that is there, by a number n that code has as m
-pub set_is : (change : Point → Point) (zone : ZonePointer) (n m : ℤ) (z new : Zones) (p q : Point) → m ≡ n → Some p ≡ point_at zone m z
-    → q ≡ change p → new ≡ written_at q zone m z → new ≡ changed_at change zone n z
+pub set_is : (change : Point → Point) (zone : ZonePointer) (n m : ℤ) (z new : Zones) (p q : Point) → m ≡ n
+    → Some p ≡ point_at zone m z → q ≡ change p → new ≡ written_at q zone m z → new ≡ changed_at change zone n z
 set_is change zone n m z new p q is e f h = rw (h, f, ← is) (written_here change zone m z p e)
 
 pub set_here : (change : Point → Point) (zone : ZonePointer) (n m : ℤ) (z new : Zones) (p q : Point) → m ≡ n
     → Some p ≡ point_at zone n z → q ≡ change p → new ≡ written_at q zone m z → new ≡ changed_at change zone n z
 set_here change zone n m z new p q is e f h = set_is change zone n m z new p q is (rw is e) f h
 
-pub outcome_is : (change : Point → Point) (zone : ZonePointer) (n m : ℤ) (z new : Zones) (p q : Point) → m ≡ n
-    → Some p ≡ point_at zone m z → q ≡ change p → new ≡ written_at q zone m z → (new, 0) ≡ on_point change zone n z
-outcome_is change zone n m z new p q is e f h = rw (set_is change zone n m z new p q is e f h, ← is, ← e) refl
+pub point_is : (change : Point → Point) (zone : ZonePointer) (n m : ℤ) (z new : Zones) (p q : Point) → m ≡ n
+    → Some p ≡ point_at zone m z → q ≡ change p → new ≡ written_at q zone m z → new ≡ on_point change zone n z
+point_is change zone n m z new p q is e f h = rw (set_is change zone n m z new p q is e f h, ← is, ← e) refl
 
 -- a point that is not there
 pub unchanged : (change : Point → Point) (zone : ZonePointer) (n : ℤ) (z : Zones) → None ≡ point_at zone n z
@@ -37,6 +37,11 @@ unchanged change Glyph (pos n) z e = rw (← e) refl
 unchanged change Twilight (negsuc n) z e = refl
 unchanged change Glyph (negsuc n) z e = refl
 
+still_outside : (zone : ZonePointer) (n : ℤ) (z : Zones) → None ≡ point_at zone n z → None ≡ point_at zone n (with_stray z)
+unfolding point_at
+still_outside Twilight n z e = e
+still_outside Glyph n z e = e
+
 pub stray_is : (change : Point → Point) (zone : ZonePointer) (n : ℤ) (z : Zones) → None ≡ point_at zone n z
-    → (z, 1) ≡ on_point change zone n z
-stray_is change zone n z e = rw (← e, ← unchanged change zone n z e) refl
+    → with_stray z ≡ on_point change zone n z
+stray_is change zone n z e = rw (← e) (unchanged change zone n (with_stray z) (still_outside zone n z e))

@@ -1,6 +1,6 @@
 -- The row that puts a point where two lines cross.
--- Apple TrueType Reference Manual, ISECT. It gives the zones, and the strays. Products are exact.
-use Rattle.std.specs.Prelude.{◌+◌, ℤ, pos, ◌+ℤ◌, ◌-ℤ◌, ◌*ℤ◌, if◌then◌else◌}
+-- Apple TrueType Reference Manual, ISECT. It gives the zones. Products are exact.
+use Rattle.std.specs.Prelude.{ℤ, pos, ◌+ℤ◌, ◌-ℤ◌, ◌*ℤ◌, if◌then◌else◌}
 use Rattle.std.specs.Ordering.{int_eq}
 use Rattle.fx_fixed.specs.Numbers.{near_of, wrapped_of}
 use Rattle.fx_fixed.specs.Places.{place_sum_of, place_difference_of}
@@ -8,8 +8,8 @@ use Rattle.fx_fixed.specs.declared.places.Place.{Place}
 use Rattle.fx_zone.specs.Points.{put}
 use Rattle.fx_gstate.specs.declared.state.GState.{GState}
 use Rattle.fx_pointops.specs.declared.zones.Zones.{Zones}
-use Rattle.fx_pointops.specs.Zones.{Outcome, with_strays, on_point}
-use Rattle.fx_pointops.specs.Measure.{cur_at, stray_at}
+use Rattle.fx_pointops.specs.Zones.{point_at, counting_two, on_point}
+use Rattle.fx_pointops.specs.Measure.{cur_at}
 
 -- the cross product of two differences of places
 abbrev pub cross_of : Place → Place → ℤ
@@ -42,7 +42,7 @@ intersection_of a0 a1 b0 b1 =
 
 -- 0F ISECT, InterSECTion of two lines: p a0 a1 b0 b1 ->
 -- p, of zp2, is put where the line a0 a1, of zp1, and the line b0 b1, of zp0, cross, and touched along both axes.
-unfoldable pub isect_of : GState → ℤ → ℤ → ℤ → ℤ → ℤ → Zones → Outcome
-isect_of g p a0 a1 b0 b1 z = with_strays
-    (stray_at g.zp1 a0 z + stray_at g.zp1 a1 z + stray_at g.zp0 b0 z + stray_at g.zp0 b1 z)
-    (on_point (put (intersection_of (cur_at g.zp1 a0 z) (cur_at g.zp1 a1 z) (cur_at g.zp0 b0 z) (cur_at g.zp0 b1 z))) g.zp2 p z)
+unfoldable pub isect_of : GState → ℤ → ℤ → ℤ → ℤ → ℤ → Zones → Zones
+isect_of g p a0 a1 b0 b1 z =
+    on_point (put (intersection_of (cur_at g.zp1 a0 z) (cur_at g.zp1 a1 z) (cur_at g.zp0 b0 z) (cur_at g.zp0 b1 z))) g.zp2 p
+    (counting_two (point_at g.zp0 b0 z) (point_at g.zp0 b1 z) (counting_two (point_at g.zp1 a0 z) (point_at g.zp1 a1 z) z))

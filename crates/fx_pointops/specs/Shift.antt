@@ -1,6 +1,6 @@
 -- The rows that shift points as a reference point was moved.
--- Apple TrueType Reference Manual, SHP, SHC, SHZ. Each gives the zones, and the strays.
-use Rattle.std.specs.Prelude.{ℕ, ◌+◌, ◌-◌, ℤ, Bool, false, if◌then◌else◌, List, length, Option, Some, None}
+-- Apple TrueType Reference Manual, SHP, SHC, SHZ. Each gives the zones.
+use Rattle.std.specs.Prelude.{ℕ, ◌-◌, ℤ, Bool, false, if◌then◌else◌, List, length, Option, Some, None}
 use Rattle.fx_fixed.specs.Places.{place_difference_of}
 use Rattle.fx_fixed.specs.declared.places.Axis.TheVariants.{X, Y}
 use Rattle.fx_fixed.specs.declared.places.Place.{Place}
@@ -10,9 +10,9 @@ use Rattle.fx_gstate.specs.declared.zones.ZonePointer.{ZonePointer}
 use Rattle.fx_gstate.specs.declared.zones.ZonePointer.TheVariants.{Twilight, Glyph}
 use Rattle.fx_gstate.specs.Vectors.{has_part}
 use Rattle.fx_pointops.specs.declared.zones.Zones.{Zones}
-use Rattle.fx_pointops.specs.Zones.{Outcome, with_strays, zone_at, is_same_zone, on_zone, index_of}
+use Rattle.fx_pointops.specs.Zones.{zone_at, is_same_zone, on_zone, index_of, point_at, with_stray, counting}
 use Rattle.fx_pointops.specs.ShiftPoint.{shift_by, point_shifted}
-use Rattle.fx_pointops.specs.Measure.{org_at, cur_at, stray_at, along}
+use Rattle.fx_pointops.specs.Measure.{org_at, cur_at, along}
 use Rattle.fx_pointops.specs.Loops.{each}
 
 -- the reference point: with 0 rp2, of zp1; with 1 rp1, of zp0
@@ -22,8 +22,8 @@ reference_zone g one = if one then g.zp0 else g.zp1
 abbrev pub reference_point : GState → Bool → ℤ
 reference_point g one = if one then g.rp1 else g.rp2
 
-abbrev pub reference_stray : GState → Bool → Zones → ℕ
-reference_stray g one z = stray_at (reference_zone g one) (reference_point g one) z
+abbrev pub counting_reference : GState → Bool → Zones → Zones
+counting_reference g one z = counting (point_at (reference_zone g one) (reference_point g one) z) z
 
 -- the shift that moves a point as far as the reference point was moved
 abbrev pub moved_of : GState → ZonePointer → ℤ → Zones → ℤ
@@ -38,8 +38,8 @@ excepted g one zone = if is_same_zone (reference_zone g one) zone then index_of 
 
 -- 32-33 SHP[a], SHift Point: .. p ->, a loop
 -- Each p, of zp2, is shifted as the reference point was moved (a: takes rp1).
-unfoldable pub shp_of : GState → Bool → List ℤ → Zones → Outcome
-shp_of g one points z = with_strays (reference_stray g one z) (each (point_shifted g (reference_shift g one z)) points z)
+unfoldable pub shp_of : GState → Bool → List ℤ → Zones → Zones
+shp_of g one points z = each (point_shifted g (reference_shift g one z)) points (counting_reference g one z)
 
 -- the first point of a contour, and the one after its last, if there is one
 abbrev pub contour_numbered : Option ℕ → Figure → Option (ℕ × ℕ)
@@ -49,22 +49,18 @@ contour_numbered (Some k) f = contour_of f.ends k
 abbrev pub contour_at : ZonePointer → ℤ → Zones → Option (ℕ × ℕ)
 contour_at zone k z = contour_numbered (index_of k) (zone_at zone z)
 
-abbrev pub stray_contour : Option (ℕ × ℕ) → ℕ
-stray_contour (Some c) = 0
-stray_contour None = 1
-
 -- 34-35 SHC[a], SHift Contour: k ->
 -- The points of contour k, of zp2, are shifted, but the reference point. A contour that is not there is a stray.
 abbrev pub contour_shifted : GState → Place → Option ℕ → Option (ℕ × ℕ) → Zones → Zones
 contour_shifted g by except (Some c) z =
     on_zone (range_shifted by (has_part X g.freedom) (has_part Y g.freedom) except c.0 c.1) g.zp2 z
-contour_shifted g by except None z = z
+contour_shifted g by except None z = with_stray z
 
-unfoldable pub shc_of : GState → Bool → ℤ → Zones → Outcome
-shc_of g one k z = (
-  contour_shifted g (reference_shift g one z) (excepted g one g.zp2) (contour_at g.zp2 k z) z,
-  reference_stray g one z + stray_contour (contour_at g.zp2 k z),
-)
+abbrev pub contour_shifted_at : GState → Bool → Place → ℤ → Zones → Zones
+contour_shifted_at g one by k z = contour_shifted g by (excepted g one g.zp2) (contour_at g.zp2 k z) z
+
+unfoldable pub shc_of : GState → Bool → ℤ → Zones → Zones
+shc_of g one k z = contour_shifted_at g one (reference_shift g one z) k (counting_reference g one z)
 
 -- 36-37 SHZ[a], SHift Zone: z ->
 -- The points of a zone are shifted, but the reference point and a glyph's four phantom points, which are the last. None is touched.
@@ -72,8 +68,9 @@ abbrev pub count_without_phantoms : ZonePointer → Zones → ℕ
 count_without_phantoms Twilight z = length z.twilight.points
 count_without_phantoms Glyph z = length z.glyph.points - 4
 
-unfoldable pub shz_of : GState → Bool → ZonePointer → Zones → Outcome
-shz_of g one zone z = (
-  on_zone (range_shifted (reference_shift g one z) false false (excepted g one zone) 0 (count_without_phantoms zone z)) zone z,
-  reference_stray g one z,
-)
+abbrev pub zone_shifted : GState → Bool → Place → ZonePointer → Zones → Zones
+zone_shifted g one by zone z =
+    on_zone (range_shifted by false false (excepted g one zone) 0 (count_without_phantoms zone z)) zone z
+
+unfoldable pub shz_of : GState → Bool → ZonePointer → Zones → Zones
+shz_of g one zone z = zone_shifted g one (reference_shift g one z) zone (counting_reference g one z)

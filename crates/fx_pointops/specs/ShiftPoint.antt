@@ -8,7 +8,7 @@ use Rattle.fx_zone.specs.Points.{shifted}
 use Rattle.fx_gstate.specs.declared.state.GState.{GState}
 use Rattle.fx_gstate.specs.Vectors.{has_part, shift_of}
 use Rattle.fx_pointops.specs.declared.zones.Zones.{Zones}
-use Rattle.fx_pointops.specs.Zones.{Outcome, on_point}
+use Rattle.fx_pointops.specs.Zones.{on_point}
 
 -- a point shifted, and touched along each axis along which the freedom vector has a part
 unfoldable pub shifted_by : GState → Place → Point → Point
@@ -23,5 +23,5 @@ unfoldable pub moved_by : GState → ℤ → Point → Point
 moved_by g d p = shifted_by g (shift_by g d) p
 
 -- a point of zp2 shifted, as SHP and SHPIX do
-unfoldable pub point_shifted : GState → Place → ℤ → Zones → Outcome
+unfoldable pub point_shifted : GState → Place → ℤ → Zones → Zones
 point_shifted g by p z = on_point (shifted_by g by) g.zp2 p z

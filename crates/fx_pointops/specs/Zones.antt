@@ -1,8 +1,9 @@
 -- The points of both zones, as instructions find and change them, and the strays that they count.
 -- Apple TrueType Reference Manual, "Zones"; what a stray does is this project's own choice.
--- zp0, zp1, zp2 are the zone pointers, rp0, rp1, rp2 the reference points. Zone 0 is the twilight zone, zone 1 the glyph's. A point "of
--- zp0" is one of the zone that zp0 names.
-use Rattle.std.specs.Prelude.{ℕ, ◌+◌, ℤ, pos, negsuc, Bool, true, false, List, Option, Some, None, slice_get, slice_set}
+-- zp0, zp1, zp2 are the zone pointers, rp0, rp1, rp2 the reference points. Zone 0 is the twilight zone, zone 1 the glyph's. A
+-- point "of zp0" is one of the zone that zp0 names.
+use Rattle.std.specs.Prelude.{ℕ, ◌+◌, ◌-◌, ◌^◌, min, ℤ, pos, negsuc, Bool, true, false, List, Option, Some, None}
+use Rattle.std.specs.Prelude.{slice_get, slice_set}
 use Rattle.fx_fixed.specs.Places.{origin}
 use Rattle.fx_fixed.specs.declared.places.Place.{Place}
 use Rattle.fx_zone.specs.declared.point.Point.{Point}
@@ -10,13 +11,6 @@ use Rattle.fx_zone.specs.Figures.{Figure, HasShape, changed}
 use Rattle.fx_gstate.specs.declared.zones.ZonePointer.{ZonePointer}
 use Rattle.fx_gstate.specs.declared.zones.ZonePointer.TheVariants.{Twilight, Glyph}
 use Rattle.fx_pointops.specs.declared.zones.Zones.{Zones}
-
--- what a row gives: the zones, and how many strays it counts
-abbrev pub Outcome : Type 0
-Outcome = Zones × ℕ
-
-abbrev pub with_strays : ℕ → Outcome → Outcome
-with_strays n o = (o.0, n + o.1)
 
 -- the zone that a zone pointer names
 abbrev pub zone_at : ZonePointer → Zones → Figure
@@ -66,16 +60,23 @@ written_of p zone (Some n) z = on_zone (λ f. record f { points = slice_set f.po
 unfoldable pub written_at : Point → ZonePointer → ℤ → Zones → Zones
 written_at p zone n z = written_of p zone (index_of n) z
 
--- a point that is not inside is a stray
-abbrev pub stray_of : Option Point → ℕ
-stray_of (Some p) = 0
-stray_of None = 1
+-- one stray more; the count stays at the greatest u64
+abbrev pub with_stray : Zones → Zones
+with_stray z = record z { strays = min (z.strays + 1) (2 ^ 64 - 1) }
+
+-- a point that is not inside is a stray, and is counted
+abbrev pub counting : Option Point → Zones → Zones
+counting (Some p) z = z
+counting None z = with_stray z
+
+abbrev pub counting_two : Option Point → Option Point → Zones → Zones
+counting_two p q z = counting q (counting p z)
 
 -- a row that changes one point, and counts it if it is a stray
-abbrev pub on_point : (Point → Point) → ZonePointer → ℤ → Zones → Outcome
-on_point change zone n z = (changed_at change zone n z, stray_of (point_at zone n z))
+abbrev pub on_point : (Point → Point) → ZonePointer → ℤ → Zones → Zones
+on_point change zone n z = changed_at change zone n (counting (point_at zone n z) z)
 
--- and reads as (0, 0)
+-- a stray reads as (0, 0)
 abbrev pub org_of : Option Point → Place
 org_of (Some p) = p.org
 org_of None = origin

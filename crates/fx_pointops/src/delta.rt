@@ -1,8 +1,8 @@
 //! The rows that move points at some sizes.
 
-ghost use Rattle.std.specs.Prelude.{◌≡◌, ◌≤◌, length, reverse};
+ghost use Rattle.std.specs.Prelude.{◌≡◌, reverse};
 ghost use Rattle.fx_pointops.specs.Zones.{HasShapes};
-ghost use Rattle.fx_pointops.specs.Loops.{each_pair};
+ghost use Rattle.fx_gstate.specs.Deltas.{each_pair};
 ghost use Rattle.fx_pointops.specs.Delta.{point_delta, deltap_of};
 
 use crate::zones::Zones;
@@ -10,56 +10,44 @@ use fx_fixed::Ppem;
 use fx_gstate::{DeltaForm, GState};
 
 impl Zones {
-    /// Moves a point if its argument acts at this size.
+    /// Moves a point, of zp0, if its argument acts at this size.
     #[tactic(auto, unfolding(crate::specs::Delta::point_delta), using(crate::proofs::Setting::stray_is))]
-    fn move_at_size(
-        &mut self,
-        g: &GState,
-        form: DeltaForm,
-        ppem: &Ppem,
-        p: i32,
-        argument: i32,
-    ) -> u64
-        ensures value { (self.new, result) ≡ point_delta g.now form ppem.now p argument self.old }
-        ensures few { result ≤ 1 }
+    fn move_at_size(&mut self, g: &GState, form: DeltaForm, ppem: &Ppem, p: i32, argument: i32)
+        ensures value { self.new ≡ point_delta g.now form ppem.now p argument self.old }
         ensures shapes { HasShapes self.old self.new }
     {
         let delta = g.delta(form, argument);
         let amount = delta.amount;
         if !delta.acts_at(*ppem) {
-            return 0;
+            return;
         }
         let Some(point) = self.point(g.zp0, p) else {
-            return 1;
+            self.add_stray();
+            return;
         };
         self.move_point(g, g.zp0, p, point, amount);
-        0
     }
 
     /// Moves the points of pairs, the last of the slice first.
-    fn move_each_at_size(&mut self, g: &GState, form: DeltaForm, ppem: &Ppem, pairs: &[i32]) -> u64
-        ensures value { (self.new, result) ≡ each_pair (point_delta g.now form ppem.now) (reverse pairs.now) self.old }
-        ensures few { result ≤ length pairs.now }
+    fn move_each_at_size(&mut self, g: &GState, form: DeltaForm, ppem: &Ppem, pairs: &[i32])
+        ensures value { self.new ≡ each_pair (point_delta g.now form ppem.now) (reverse pairs.now) self.old }
         ensures shapes { HasShapes self.old self.new }
     {
-        let mut strays = 0;
         let mut left = pairs.len();
         // The pairs from `left` on are done.
         'pairs: while left > 1 {
             left -= 2;
-            strays += self.move_at_size(g, form, ppem, pairs[left + 1], pairs[left]);
+            self.move_at_size(g, form, ppem, pairs[left + 1], pairs[left]);
         }
-        strays
     }
 
     /// 5D DELTAP1, 71 DELTAP2, 72 DELTAP3, DELTA exception P: moves each p, of zp0, whose argument acts at this size. A pair is
     /// an argument and, after it, its point.
     #[tactic(auto, unfolding(crate::specs::Delta::deltap_of))]
-    pub fn deltap(&mut self, g: &GState, form: DeltaForm, ppem: Ppem, pairs: &[i32]) -> u64
-        ensures value { (self.new, result) ≡ deltap_of g.now form ppem (reverse pairs.now) self.old }
-        ensures few { result ≤ length pairs.now }
+    pub fn deltap(&mut self, g: &GState, form: DeltaForm, ppem: Ppem, pairs: &[i32])
+        ensures value { self.new ≡ deltap_of g.now form ppem (reverse pairs.now) self.old }
         ensures shapes { HasShapes self.old self.new }
     {
-        self.move_each_at_size(g, form, &ppem, pairs)
+        self.move_each_at_size(g, form, &ppem, pairs);
     }
 }

@@ -1,7 +1,7 @@
 //! The rows that move points directly: to a place, or to a distance from reference point 0.
 
-ghost use Rattle.std.specs.Prelude.{◌≡◌, ◌+◌, ◌≤◌, length, reverse};
-ghost use Rattle.fx_pointops.specs.Zones.{HasShapes};
+ghost use Rattle.std.specs.Prelude.{◌≡◌, reverse};
+ghost use Rattle.fx_pointops.specs.Zones.{HasShapes, point_at, counting_two};
 ghost use Rattle.fx_pointops.specs.Measure.{org_at};
 ghost use Rattle.fx_pointops.specs.Direct.{untouched_along, untouched_by, utp_of, to_grid, moved_to_grid, mdap_of, laid_from_rp, moved_to_distance};
 ghost use Rattle.fx_pointops.specs.Direct.{msirp_of, aligned_to_rp, alignrp_of, half_of, alignpts_of, moved_to_value, scfs_of, shpix_of, wanted_of, mdrp_of};
@@ -9,7 +9,7 @@ ghost use Rattle.fx_pointops.specs.Direct.{msirp_of, aligned_to_rp, alignrp_of, 
 use crate::distances::{Relative, kept_by, negative, rounded_by, single};
 use crate::loops::LoopStep;
 use crate::shift_point::moved_by;
-use crate::zones::{Zones, cur, is_twilight, org, stray};
+use crate::zones::{Zones, cur, is_twilight, org};
 use fx_fixed::{Axis, F26, Place, cut, w32};
 use fx_gstate::GState;
 use fx_zone::Point;
@@ -82,30 +82,28 @@ fn moved_to_value(g: &GState, v: F26, point: Point) -> Point
 impl Zones {
     /// 29 UTP, UnTouch Point: untouches p, of zp0, along each axis along which the freedom vector has a part.
     #[tactic(auto, unfolding(crate::specs::Direct::utp_of), using(crate::proofs::Setting::stray_is))]
-    pub fn utp(&mut self, g: &GState, p: i32) -> u64
-        ensures value { (self.new, result) ≡ utp_of g.now p self.old }
-        ensures few { result ≤ 1 }
+    pub fn utp(&mut self, g: &GState, p: i32)
+        ensures value { self.new ≡ utp_of g.now p self.old }
         ensures shapes { HasShapes self.old self.new }
     {
         let Some(point) = self.point(g.zp0, p) else {
-            return 1;
+            self.add_stray();
+            return;
         };
         self.set(g.zp0, p, untouched_by(g, point));
-        0
     }
 
     /// 2E-2F MDAP[a], Move Direct Absolute Point: moves p, of zp0, by 0, or with 1 to its rounded coordinate.
     #[tactic(auto, unfolding(crate::specs::Direct::mdap_of), using(crate::proofs::Setting::stray_is))]
-    pub fn mdap(&mut self, g: &GState, rounds: bool, p: i32) -> u64
-        ensures value { (self.new, result) ≡ mdap_of g.now rounds p self.old }
-        ensures few { result ≤ 1 }
+    pub fn mdap(&mut self, g: &GState, rounds: bool, p: i32)
+        ensures value { self.new ≡ mdap_of g.now rounds p self.old }
         ensures shapes { HasShapes self.old self.new }
     {
         let Some(point) = self.point(g.zp0, p) else {
-            return 1;
+            self.add_stray();
+            return;
         };
         self.set(g.zp0, p, moved_to_grid(g, rounds, point));
-        0
     }
 
     /// The original place of reference point 0.
@@ -130,6 +128,16 @@ impl Zones {
         }
     }
 
+    /// Counts p, of zp1, and reference point 0, each if it is a stray.
+    pub(crate) fn count_with_rp0(&mut self, g: &GState, p: i32)
+        ensures value { self.new ≡ counting_two (point_at g.now.zp1 p self.old) (point_at g.now.zp0 g.now.rp0 self.old) self.old }
+        ensures shapes { HasShapes self.old self.new }
+    {
+        let point = self.point(g.zp1, p);
+        let base = self.point(g.zp0, g.rp0);
+        self.count_two(&point, &base);
+    }
+
     /// Moves a point of zp1 to a distance from reference point 0.
     pub(crate) fn move_to_distance(&mut self, g: &GState, p: i32, d: F26)
         ensures value { self.new ≡ moved_to_distance g.now p d self.old }
@@ -141,91 +149,82 @@ impl Zones {
 
     /// 3A-3B MSIRP[a], Move Stack Indirect Relative Point: moves p, of zp1, to the distance d from rp0, of zp0.
     #[tactic(auto, unfolding(crate::specs::Direct::msirp_of))]
-    pub fn msirp(&mut self, g: &GState, p: i32, d: F26) -> u64
-        ensures value { (self.new, result) ≡ msirp_of g.now p d self.old }
-        ensures few { result ≤ 2 }
+    pub fn msirp(&mut self, g: &GState, p: i32, d: F26)
+        ensures value { self.new ≡ msirp_of g.now p d self.old }
         ensures shapes { HasShapes self.old self.new }
     {
-        let point = self.point(g.zp1, p);
-        let base = self.point(g.zp0, g.rp0);
+        self.count_with_rp0(g, p);
         self.lay_from_rp(g, p, g.shift_place(d));
         self.move_to_distance(g, p, d);
-        stray(&point) + stray(&base)
     }
 
     /// Moves a point to the distance 0 from reference point 0.
     #[tactic(auto, unfolding(crate::specs::Direct::aligned_to_rp), using(crate::proofs::Setting::stray_is))]
-    pub(crate) fn align_to_rp(&mut self, g: &GState, p: i32) -> u64
-        ensures value { (self.new, result) ≡ aligned_to_rp g.now p self.old }
-        ensures few { result ≤ 1 }
+    pub(crate) fn align_to_rp(&mut self, g: &GState, p: i32)
+        ensures value { self.new ≡ aligned_to_rp g.now p self.old }
         ensures shapes { HasShapes self.old self.new }
     {
         let Some(point) = self.point(g.zp1, p) else {
-            return 1;
+            self.add_stray();
+            return;
         };
         let c = g.project_place(point.cur.minus(cur(&self.point(g.zp0, g.rp0))));
         self.move_point(g, g.zp1, p, point, negative(c));
-        0
     }
 
     /// 3C ALIGNRP, ALIGN Relative Point: moves each p, of zp1, to the distance 0 from rp0, of zp0.
     #[tactic(auto, unfolding(crate::specs::Direct::alignrp_of))]
-    pub fn alignrp(&mut self, g: &GState, points: &[i32]) -> u64
-        ensures value { (self.new, result) ≡ alignrp_of g.now (reverse points.now) self.old }
-        ensures few { result ≤ length points.now + 1 }
+    pub fn alignrp(&mut self, g: &GState, points: &[i32])
+        ensures value { self.new ≡ alignrp_of g.now (reverse points.now) self.old }
         ensures shapes { HasShapes self.old self.new }
     {
         let base = self.point(g.zp0, g.rp0);
-        let strays = self.each(g, &LoopStep::Align, points);
-        stray(&base) + strays
+        self.count(&base);
+        self.each(g, &LoopStep::Align, points);
     }
 
     /// 27 ALIGNPTS, ALIGN Points: moves p, of zp1, and q, of zp0, halfway to each other.
     #[tactic(auto, unfolding(crate::specs::Direct::alignpts_of))]
-    pub fn alignpts(&mut self, g: &GState, p: i32, q: i32) -> u64
-        ensures value { (self.new, result) ≡ alignpts_of g.now p q self.old }
-        ensures few { result ≤ 2 }
+    pub fn alignpts(&mut self, g: &GState, p: i32, q: i32)
+        ensures value { self.new ≡ alignpts_of g.now p q self.old }
         ensures shapes { HasShapes self.old self.new }
     {
         let first = self.point(g.zp1, p);
         let second = self.point(g.zp0, q);
         let d = self.distance(g, g.zp0, q, g.zp1, p);
+        self.count_two(&first, &second);
         self.move_by(g, g.zp1, p, half(d));
         self.move_by(g, g.zp0, q, half(d).minus(d));
-        stray(&first) + stray(&second)
     }
 
     /// 48 SCFS, Sets Coordinate From the Stack: moves p, of zp2, to the coordinate v.
     #[tactic(auto, unfolding(crate::specs::Direct::scfs_of), using(crate::proofs::Setting::stray_is))]
-    pub fn scfs(&mut self, g: &GState, p: i32, v: F26) -> u64
-        ensures value { (self.new, result) ≡ scfs_of g.now p v self.old }
-        ensures few { result ≤ 1 }
+    pub fn scfs(&mut self, g: &GState, p: i32, v: F26)
+        ensures value { self.new ≡ scfs_of g.now p v self.old }
         ensures shapes { HasShapes self.old self.new }
     {
         let Some(point) = self.point(g.zp2, p) else {
-            return 1;
+            self.add_stray();
+            return;
         };
         self.set(g.zp2, p, moved_to_value(g, v, point));
-        0
     }
 
     /// 38 SHPIX, SHift point by a PIXel amount: shifts each p, of zp2, by a along the freedom vector.
     #[tactic(auto, unfolding(crate::specs::Direct::shpix_of))]
-    pub fn shpix(&mut self, g: &GState, points: &[i32], a: F26) -> u64
-        ensures value { (self.new, result) ≡ shpix_of g.now (reverse points.now) a self.old }
-        ensures few { result ≤ length points.now }
+    pub fn shpix(&mut self, g: &GState, points: &[i32], a: F26)
+        ensures value { self.new ≡ shpix_of g.now (reverse points.now) a self.old }
         ensures shapes { HasShapes self.old self.new }
     {
         let by = g.freedom_place(a);
-        self.each(g, &LoopStep::Shift(by), points)
+        self.each(g, &LoopStep::Shift(by), points);
     }
 
     /// C0-DF MDRP[abcde], Move Direct Relative Point: moves p, of zp1, to its original distance from rp0, of zp0, or the single
     /// width. `how` has the bits: rounded, at least the minimum distance.
     #[tactic(auto, unfolding(crate::specs::Direct::mdrp_of))]
-    pub fn mdrp(&mut self, g: &GState, how: Relative, p: i32) -> u64
-        ensures value { (self.new, result) ≡ mdrp_of g.now how p self.old }
-        ensures few { result ≤ 2 }
+    pub fn mdrp(&mut self, g: &GState, how: Relative, p: i32)
+        ensures value { self.new ≡ mdrp_of g.now how p self.old }
         ensures shapes { HasShapes self.old self.new }
     {
         let Some(point) = self.point(g.zp1, p) else {
@@ -237,21 +236,17 @@ impl Zones {
         let o = g.dual_project_place(point.org.minus(base.org));
         let c = g.project_place(point.cur.minus(base.cur));
         self.move_point(g, g.zp1, p, point, wanted(g, how, o).minus(c));
-        0
     }
 
-    /// The same if one of the two may be a stray.
+    /// MDRP, if p or rp0 may be a stray.
     #[inline(never)]
     #[tactic(auto, unfolding(crate::specs::Direct::mdrp_of))]
-    fn mdrp_by_strays(&mut self, g: &GState, how: Relative, p: i32) -> u64
-        ensures value { (self.new, result) ≡ mdrp_of g.now how p self.old }
-        ensures few { result ≤ 2 }
+    fn mdrp_by_strays(&mut self, g: &GState, how: Relative, p: i32)
+        ensures value { self.new ≡ mdrp_of g.now how p self.old }
         ensures shapes { HasShapes self.old self.new }
     {
-        let point = self.point(g.zp1, p);
-        let base = self.point(g.zp0, g.rp0);
         let o = self.original(g, g.zp1, p, g.zp0, g.rp0);
+        self.count_with_rp0(g, p);
         self.move_to_distance(g, p, wanted(g, how, o));
-        stray(&point) + stray(&base)
     }
 }

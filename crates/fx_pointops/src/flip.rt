@@ -1,12 +1,12 @@
 //! The rows that turn points on the curve into points off it, and back.
 
-ghost use Rattle.std.specs.Prelude.{◌≡◌, ◌+◌, ◌≤◌, length, reverse};
+ghost use Rattle.std.specs.Prelude.{◌≡◌, reverse};
 ghost use Rattle.fx_zone.specs.Figures.{HasShape};
 ghost use Rattle.fx_pointops.specs.Zones.{HasShapes, index_of};
 ghost use Rattle.fx_pointops.specs.Flip.{point_flipped, flippt_of, run_curved, run_curved_at, fliprg_of};
 
 use crate::loops::LoopStep;
-use crate::zones::{Zones, index_of, stray};
+use crate::zones::{Zones, index_of};
 use fx_gstate::{GState, ZonePointer};
 use fx_zone::Zone;
 
@@ -24,26 +24,24 @@ fn curve_run(zone: &mut Zone, on: bool, low: usize, high: usize)
 impl Zones {
     /// Flips a point: on the curve, or off it.
     #[tactic(auto, unfolding(crate::specs::Flip::point_flipped), using(crate::proofs::Setting::stray_is))]
-    pub(crate) fn flip_point(&mut self, g: &GState, p: i32) -> u64
-        ensures value { (self.new, result) ≡ point_flipped g.now p self.old }
-        ensures few { result ≤ 1 }
+    pub(crate) fn flip_point(&mut self, g: &GState, p: i32)
+        ensures value { self.new ≡ point_flipped g.now p self.old }
         ensures shapes { HasShapes self.old self.new }
     {
         let Some(point) = self.point(g.zp0, p) else {
-            return 1;
+            self.add_stray();
+            return;
         };
         self.set(g.zp0, p, point.flipped());
-        0
     }
 
     /// 80 FLIPPT, FLIP PoinT: each p, of zp0, goes off the curve, or onto it.
     #[tactic(auto, unfolding(crate::specs::Flip::flippt_of))]
-    pub fn flippt(&mut self, g: &GState, points: &[i32]) -> u64
-        ensures value { (self.new, result) ≡ flippt_of g.now (reverse points.now) self.old }
-        ensures few { result ≤ length points.now }
+    pub fn flippt(&mut self, g: &GState, points: &[i32])
+        ensures value { self.new ≡ flippt_of g.now (reverse points.now) self.old }
         ensures shapes { HasShapes self.old self.new }
     {
-        self.each(g, &LoopStep::Flip, points)
+        self.each(g, &LoopStep::Flip, points);
     }
 
     /// Makes the points of a zone from `low` to `high` ones on the curve, or off it, if both are inside.
@@ -65,14 +63,13 @@ impl Zones {
 
     /// 81 FLIPRGON, 82 FLIPRGOFF, FLIP RanGe: the points from low to high, of zp0, go onto the curve, or off it.
     #[tactic(auto, unfolding(crate::specs::Flip::fliprg_of))]
-    pub fn fliprg(&mut self, g: &GState, on: bool, low: i32, high: i32) -> u64
-        ensures value { (self.new, result) ≡ fliprg_of g.now on low high self.old }
-        ensures few { result ≤ 2 }
+    pub fn fliprg(&mut self, g: &GState, on: bool, low: i32, high: i32)
+        ensures value { self.new ≡ fliprg_of g.now on low high self.old }
         ensures shapes { HasShapes self.old self.new }
     {
         let first = self.point(g.zp0, low);
         let last = self.point(g.zp0, high);
+        self.count_two(&first, &last);
         self.curve_range(on, g.zp0, low, high);
-        stray(&first) + stray(&last)
     }
 }

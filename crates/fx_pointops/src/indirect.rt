@@ -1,14 +1,14 @@
 //! The rows that move points by control values.
 
-ghost use Rattle.std.specs.Prelude.{◌≡◌, ◌≤◌};
+ghost use Rattle.std.specs.Prelude.{◌≡◌};
 ghost use Rattle.fx_pointops.specs.Zones.{HasShapes};
-ghost use Rattle.fx_pointops.specs.inner.Controlled.{mirp_distance_of, mirp_outside_of};
+ghost use Rattle.fx_pointops.specs.inner.Controlled.{mirp_outside_of};
 ghost use Rattle.fx_pointops.specs.Indirect.{is_cut_off, laid_along, aimed_of, moved_to_coordinate, miap_of, is_one_negative};
-ghost use Rattle.fx_pointops.specs.Indirect.{auto_flipped, cut_in_by, controlled_of, moved_to_control, mirp_of};
+ghost use Rattle.fx_pointops.specs.Indirect.{auto_flipped, cut_in_by, controlled_of, mirp_distance_of, moved_to_control, mirp_of};
 
 use crate::distances::{Relative, is_below, kept_by, negative, single, size};
 use crate::shift_point::moved_by;
-use crate::zones::{Zones, is_same_zone, is_twilight, stray};
+use crate::zones::{Zones, is_same_zone, is_twilight};
 use fx_fixed::F26;
 use fx_gstate::GState;
 use fx_zone::Point;
@@ -76,8 +76,8 @@ fn controlled(g: &GState, how: Relative, o: F26, v: F26) -> F26
     kept_by(g, how, o, d)
 }
 
-/// The same of a control value that auto flip may still turn.
-#[tactic(auto, unfolding(crate::specs::inner::Controlled::mirp_distance_of))]
+/// The distance that MIRP moves a point to, of its original one and a control value that auto flip may still turn.
+#[tactic(auto, unfolding(crate::specs::Indirect::mirp_distance_of))]
 fn mirp_distance(g: &GState, how: Relative, o: F26, v: F26) -> F26
     ensures { result ≡ mirp_distance_of g.now how o v }
 {
@@ -108,17 +108,16 @@ impl Zones {
     /// 3E-3F MIAP[a], Move Indirect Absolute Point: moves p, of zp0, to the control value v; with 1 rounded, or to its own
     /// coordinate rounded if v is beyond the cut-in.
     #[tactic(auto, unfolding(crate::specs::Indirect::miap_of), using(crate::proofs::Setting::stray_is))]
-    pub fn miap(&mut self, g: &GState, rounds: bool, p: i32, v: F26) -> u64
-        ensures value { (self.new, result) ≡ miap_of g.now rounds p v self.old }
-        ensures few { result ≤ 1 }
+    pub fn miap(&mut self, g: &GState, rounds: bool, p: i32, v: F26)
+        ensures value { self.new ≡ miap_of g.now rounds p v self.old }
         ensures shapes { HasShapes self.old self.new }
     {
         let Some(point) = self.point(g.zp0, p) else {
-            return 1;
+            self.add_stray();
+            return;
         };
         let point = laid_along(g, v, point);
         self.set(g.zp0, p, moved_to_coordinate(g, rounds, v, point));
-        0
     }
 
     /// Moves a point to a control value from reference point 0.
@@ -127,30 +126,27 @@ impl Zones {
         ensures shapes { HasShapes self.old self.new }
     {
         let o = self.original(g, g.zp1, p, g.zp0, g.rp0);
-        let d = controlled(g, how, o, auto_flipped(g, o, v));
-        self.move_to_distance(g, p, d);
+        self.move_to_distance(g, p, mirp_distance(g, how, o, v));
     }
 
     /// E0-FF MIRP[abcde], Move Indirect Relative Point: moves p, of zp1, to the distance of the control value v from rp0, of
     /// zp0. `how` has the bits: rounded and within the cut-in, at least the minimum distance. Reads the single width and auto
     /// flip.
-    #[tactic(auto, unfolding(crate::specs::Indirect::mirp_of, crate::specs::inner::Controlled::mirp_outside_of, crate::specs::inner::Controlled::mirp_distance_of))]
-    pub fn mirp(&mut self, g: &GState, how: Relative, p: i32, v: F26) -> u64
-        ensures value { (self.new, result) ≡ mirp_of g.now how p v self.old }
-        ensures few { result ≤ 2 }
+    #[tactic(auto, unfolding(crate::specs::Indirect::mirp_of, crate::specs::inner::Controlled::mirp_outside_of))]
+    pub fn mirp(&mut self, g: &GState, how: Relative, p: i32, v: F26)
+        ensures value { self.new ≡ mirp_of g.now how p v self.old }
         ensures shapes { HasShapes self.old self.new }
     {
         if is_twilight(g.zp1) {
             return self.mirp_in_twilight(g, how, p, v);
         }
-        self.mirp_outside(g, how, p, single(g, v))
+        self.mirp_outside(g, how, p, single(g, v));
     }
 
     /// MIRP outside the twilight zone, with the control value as the single width has left it. Each of the two points is read once.
     #[tactic(auto, unfolding(crate::specs::inner::Controlled::mirp_outside_of))]
-    fn mirp_outside(&mut self, g: &GState, how: Relative, p: i32, v: F26) -> u64
-        ensures value { (self.new, result) ≡ mirp_outside_of g.now how p v self.old }
-        ensures few { result ≤ 2 }
+    fn mirp_outside(&mut self, g: &GState, how: Relative, p: i32, v: F26)
+        ensures value { self.new ≡ mirp_outside_of g.now how p v self.old }
         ensures shapes { HasShapes self.old self.new }
     {
         let Some(point) = self.point(g.zp1, p) else {
@@ -162,37 +158,29 @@ impl Zones {
         let o = g.dual_project_place(point.org.minus(base.org));
         let c = g.project_place(point.cur.minus(base.cur));
         self.move_point(g, g.zp1, p, point, mirp_distance(g, how, o, v).minus(c));
-        0
     }
 
-    /// The same if one of the two may be a stray.
+    /// MIRP outside the twilight zone, if p or rp0 may be a stray.
     #[inline(never)]
     #[tactic(auto, unfolding(crate::specs::inner::Controlled::mirp_outside_of))]
-    fn mirp_by_strays(&mut self, g: &GState, how: Relative, p: i32, v: F26) -> u64
-        ensures value { (self.new, result) ≡ mirp_outside_of g.now how p v self.old }
-        ensures few { result ≤ 2 }
+    fn mirp_by_strays(&mut self, g: &GState, how: Relative, p: i32, v: F26)
+        ensures value { self.new ≡ mirp_outside_of g.now how p v self.old }
         ensures shapes { HasShapes self.old self.new }
     {
-        let point = self.point(g.zp1, p);
-        let base = self.point(g.zp0, g.rp0);
-        let o = self.original(g, g.zp1, p, g.zp0, g.rp0);
-        self.move_to_distance(g, p, mirp_distance(g, how, o, v));
-        stray(&point) + stray(&base)
+        self.count_with_rp0(g, p);
+        self.move_to_control(g, how, p, v);
     }
 
     /// MIRP in the twilight zone, where the point is laid first.
     #[inline(never)]
     #[tactic(auto, unfolding(crate::specs::Indirect::mirp_of))]
-    fn mirp_in_twilight(&mut self, g: &GState, how: Relative, p: i32, v: F26) -> u64
-        ensures value { (self.new, result) ≡ mirp_of g.now how p v self.old }
-        ensures few { result ≤ 2 }
+    fn mirp_in_twilight(&mut self, g: &GState, how: Relative, p: i32, v: F26)
+        ensures value { self.new ≡ mirp_of g.now how p v self.old }
         ensures shapes { HasShapes self.old self.new }
     {
-        let point = self.point(g.zp1, p);
-        let base = self.point(g.zp0, g.rp0);
         let v = single(g, v);
+        self.count_with_rp0(g, p);
         self.lay_from_rp(g, p, g.freedom_place(v));
         self.move_to_control(g, how, p, v);
-        stray(&point) + stray(&base)
     }
 }

@@ -1,13 +1,13 @@
 //! The row that keeps points in proportion between two reference points.
 
-ghost use Rattle.std.specs.Prelude.{◌≡◌, ◌≢◌, ◌+◌, ◌≤◌, ◌^◌, pos, ◌*ℤ◌, unsigned_abs, length, reverse};
+ghost use Rattle.std.specs.Prelude.{◌≡◌, ◌≢◌, ◌≤◌, ◌^◌, pos, ◌*ℤ◌, unsigned_abs, reverse};
 ghost use Rattle.fx_fixed.specs.Numbers.{near_of, wrapped_of};
 ghost use Rattle.fx_pointops.specs.Zones.{HasShapes};
 ghost use Rattle.fx_pointops.specs.Interpolate.{proportion_of, point_in_proportion, ip_of};
 
 use crate::distances::product;
 use crate::loops::LoopStep;
-use crate::zones::{Zones, stray};
+use crate::zones::Zones;
 use fx_fixed::{F26, near_quotient, w32};
 use fx_gstate::GState;
 
@@ -44,9 +44,8 @@ fn proportion(o: F26, cb: F26, ob: F26) -> F26
 impl Zones {
     /// Moves a point to the distance from reference point 1 that is in proportion.
     #[tactic(auto, unfolding(crate::specs::Interpolate::point_in_proportion))]
-    pub(crate) fn move_in_proportion(&mut self, g: &GState, cb: &F26, ob: &F26, p: i32) -> u64
-        ensures value { (self.new, result) ≡ point_in_proportion g.now cb.now ob.now p self.old }
-        ensures few { result ≤ 1 }
+    pub(crate) fn move_in_proportion(&mut self, g: &GState, cb: &F26, ob: &F26, p: i32)
+        ensures value { self.new ≡ point_in_proportion g.now cb.now ob.now p self.old }
         ensures shapes { HasShapes self.old self.new }
     {
         let Some(point) = self.point(g.zp2, p) else {
@@ -58,35 +57,33 @@ impl Zones {
         let o = g.dual_project_place(point.org.minus(base.org));
         let c = g.project_place(point.cur.minus(base.cur));
         self.move_point(g, g.zp2, p, point, proportion(o, *cb, *ob).minus(c));
-        0
     }
 
-    /// The same if one of the two may be a stray.
+    /// Moves a point to that distance, if it or reference point 1 may be a stray.
     #[inline(never)]
     #[tactic(auto, unfolding(crate::specs::Interpolate::point_in_proportion))]
-    fn move_stray_in_proportion(&mut self, g: &GState, cb: &F26, ob: &F26, p: i32) -> u64
-        ensures value { (self.new, result) ≡ point_in_proportion g.now cb.now ob.now p self.old }
-        ensures few { result ≤ 1 }
+    fn move_stray_in_proportion(&mut self, g: &GState, cb: &F26, ob: &F26, p: i32)
+        ensures value { self.new ≡ point_in_proportion g.now cb.now ob.now p self.old }
         ensures shapes { HasShapes self.old self.new }
     {
         let point = self.point(g.zp2, p);
         let o = self.original(g, g.zp2, p, g.zp0, g.rp1);
         let c = self.distance(g, g.zp2, p, g.zp0, g.rp1);
+        self.count(&point);
         self.move_by(g, g.zp2, p, proportion(o, *cb, *ob).minus(c));
-        stray(&point)
     }
 
     /// 39 IP, Interpolate Point: moves each p, of zp2, in proportion between rp1, of zp0, and rp2, of zp1.
     #[tactic(auto, unfolding(crate::specs::Interpolate::ip_of))]
-    pub fn ip(&mut self, g: &GState, points: &[i32]) -> u64
-        ensures value { (self.new, result) ≡ ip_of g.now (reverse points.now) self.old }
-        ensures few { result ≤ length points.now + 2 }
+    pub fn ip(&mut self, g: &GState, points: &[i32])
+        ensures value { self.new ≡ ip_of g.now (reverse points.now) self.old }
         ensures shapes { HasShapes self.old self.new }
     {
-        let base = stray(&self.point(g.zp0, g.rp1)) + stray(&self.point(g.zp1, g.rp2));
+        let base = self.point(g.zp0, g.rp1);
+        let other = self.point(g.zp1, g.rp2);
         let ob = self.original(g, g.zp1, g.rp2, g.zp0, g.rp1);
         let cb = self.distance(g, g.zp1, g.rp2, g.zp0, g.rp1);
-        let strays = self.each(g, &LoopStep::Interpolate { cb, ob }, points);
-        base + strays
+        self.count_two(&base, &other);
+        self.each(g, &LoopStep::Interpolate { cb, ob }, points);
     }
 }

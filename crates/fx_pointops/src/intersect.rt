@@ -7,7 +7,7 @@ ghost use Rattle.fx_pointops.specs.Zones.{HasShapes, on_point};
 ghost use Rattle.fx_pointops.specs.Intersect.{cross_of, fraction_of, scaled_by, mean_of, middle_of, intersection_of, isect_of};
 
 use crate::distances::product;
-use crate::zones::{Zones, cur, stray};
+use crate::zones::{Zones, cur};
 use fx_fixed::{F26, Place, near, w32};
 use fx_gstate::GState;
 
@@ -114,25 +114,23 @@ fn intersection(a0: &Place, a1: &Place, b0: &Place, b1: &Place) -> Place
 }
 
 impl Zones {
-    /// Puts a point of zp2 at a place, and touches it along both axes; 1 if it is a stray.
+    /// Puts a point of zp2 at a place, and touches it along both axes.
     #[tactic(auto, using(crate::proofs::Setting::stray_is))]
-    fn put_point(&mut self, g: &GState, p: i32, place: Place) -> u64
-        ensures value { (self.new, result) ≡ on_point (put place) g.now.zp2 p self.old }
-        ensures few { result ≤ 1 }
+    fn put_point(&mut self, g: &GState, p: i32, place: Place)
+        ensures value { self.new ≡ on_point (put place) g.now.zp2 p self.old }
         ensures shapes { HasShapes self.old self.new }
     {
         let Some(point) = self.point(g.zp2, p) else {
-            return 1;
+            self.add_stray();
+            return;
         };
         self.set(g.zp2, p, point.put(place));
-        0
     }
 
     /// 0F ISECT, InterSECTion of two lines: puts p, of zp2, where the line a0 a1, of zp1, crosses the line b0 b1, of zp0.
     #[tactic(auto, unfolding(crate::specs::Intersect::isect_of))]
-    pub fn isect(&mut self, g: &GState, p: i32, a0: i32, a1: i32, b0: i32, b1: i32) -> u64
-        ensures value { (self.new, result) ≡ isect_of g.now p a0 a1 b0 b1 self.old }
-        ensures few { result ≤ 5 }
+    pub fn isect(&mut self, g: &GState, p: i32, a0: i32, a1: i32, b0: i32, b1: i32)
+        ensures value { self.new ≡ isect_of g.now p a0 a1 b0 b1 self.old }
         ensures shapes { HasShapes self.old self.new }
     {
         let a0 = self.point(g.zp1, a0);
@@ -140,7 +138,8 @@ impl Zones {
         let b0 = self.point(g.zp0, b0);
         let b1 = self.point(g.zp0, b1);
         let place = intersection(&cur(&a0), &cur(&a1), &cur(&b0), &cur(&b1));
-        let strays = stray(&a0) + stray(&a1) + stray(&b0) + stray(&b1);
-        strays + self.put_point(g, p, place)
+        self.count_two(&a0, &a1);
+        self.count_two(&b0, &b1);
+        self.put_point(g, p, place);
     }
 }

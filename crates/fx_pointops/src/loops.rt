@@ -1,6 +1,6 @@
 //! The points of a loop.
 
-ghost use Rattle.std.specs.Prelude.{◌≡◌, ◌≤◌, length, reverse};
+ghost use Rattle.std.specs.Prelude.{◌≡◌, reverse};
 ghost use Rattle.fx_pointops.specs.Zones.{HasShapes};
 ghost use Rattle.fx_pointops.specs.Loops.{each};
 ghost use Rattle.fx_pointops.specs.inner.Steps.{steps_of};
@@ -23,10 +23,9 @@ pub enum LoopStep {
 }
 
 impl Zones {
-    /// The steps of a row for one point; 1 if it is a stray.
-    fn step(&mut self, g: &GState, step: &LoopStep, p: i32) -> u64
-        ensures value { (self.new, result) ≡ steps_of g.now step.now p self.old }
-        ensures few { result ≤ 1 }
+    /// The steps of a row for one point.
+    fn step(&mut self, g: &GState, step: &LoopStep, p: i32)
+        ensures value { self.new ≡ steps_of g.now step.now p self.old }
         ensures shapes { HasShapes self.old self.new }
     {
         match step {
@@ -37,19 +36,16 @@ impl Zones {
         }
     }
 
-    /// The steps of a row for each point, the last of the slice first: how many are strays.
-    pub(crate) fn each(&mut self, g: &GState, step: &LoopStep, points: &[i32]) -> u64
-        ensures value { (self.new, result) ≡ each (steps_of g.now step.now) (reverse points.now) self.old }
-        ensures few { result ≤ length points.now }
+    /// The steps of a row for each point, the last of the slice first.
+    pub(crate) fn each(&mut self, g: &GState, step: &LoopStep, points: &[i32])
+        ensures value { self.new ≡ each (steps_of g.now step.now) (reverse points.now) self.old }
         ensures shapes { HasShapes self.old self.new }
     {
-        let mut strays = 0;
         let mut left = points.len();
         // The points from `left` on are done.
         'points: while left > 0 {
             left -= 1;
-            strays += self.step(g, step, points[left]);
+            self.step(g, step, points[left]);
         }
-        strays
     }
 }

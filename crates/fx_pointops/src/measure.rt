@@ -1,9 +1,10 @@
 //! Places, distances and lines, as instructions measure them.
 
-ghost use Rattle.std.specs.Prelude.{◌≡◌, ◌≤◌};
+ghost use Rattle.std.specs.Prelude.{◌≡◌};
+ghost use Rattle.fx_pointops.specs.Zones.{HasShapes};
 ghost use Rattle.fx_pointops.specs.Measure.{gc_of, md_of, line_between, distance_of, original_of};
 
-use crate::zones::{Zones, cur, org, stray};
+use crate::zones::{Zones, cur, org};
 use fx_fixed::{F26, Place};
 use fx_gstate::{GState, ZonePointer};
 
@@ -49,48 +50,48 @@ impl Zones {
 
     /// 46-47 GC[a], Get Coordinate: that of p, of zp2: with 0 the current one, with 1 the original one, along the dual vector.
     #[tactic(auto, unfolding(crate::specs::Measure::gc_of))]
-    pub fn gc(&self, g: &GState, original: bool, p: i32) -> (F26, u64)
-        ensures value { result ≡ gc_of g.now original p self.now }
-        ensures few { result.1 ≤ 1 }
+    pub fn gc(&mut self, g: &GState, original: bool, p: i32) -> F26
+        ensures value { (result, self.new) ≡ gc_of g.now original p self.old }
+        ensures shapes { HasShapes self.old self.new }
     {
         let point = self.point(g.zp2, p);
-        let coordinate = if original {
+        self.count(&point);
+        if original {
             g.dual_project_place(org(&point))
         } else {
             g.project_place(cur(&point))
-        };
-        (coordinate, stray(&point))
+        }
     }
 
     /// 49-4A MD[a], Measure Distance: of p, of zp0, from q, of zp1: 49 the current one, 4A the original one, along the dual
     /// vector.
     #[tactic(auto, unfolding(crate::specs::Measure::md_of))]
-    pub fn md(&self, g: &GState, original: bool, p: i32, q: i32) -> (F26, u64)
-        ensures value { result ≡ md_of g.now original p q self.now }
-        ensures few { result.1 ≤ 2 }
+    pub fn md(&mut self, g: &GState, original: bool, p: i32, q: i32) -> F26
+        ensures value { (result, self.new) ≡ md_of g.now original p q self.old }
+        ensures shapes { HasShapes self.old self.new }
     {
         let to = self.point(g.zp0, p);
         let from = self.point(g.zp1, q);
-        let distance = if original {
+        self.count_two(&to, &from);
+        if original {
             g.dual_project_place(org(&to).minus(org(&from)))
         } else {
             g.project_place(cur(&to).minus(cur(&from)))
-        };
-        (distance, stray(&to) + stray(&from))
+        }
     }
 
     /// 06-07 SPVTL[a], 08-09 SFVTL[a], 86-87 SDPVTL[a]: the line to p1, of zp1, from p2, of zp2.
     #[tactic(auto, unfolding(crate::specs::Measure::line_between))]
-    pub fn line(&self, g: &GState, p1: i32, p2: i32) -> (Line, u64)
-        ensures value { result ≡ line_between g.now p1 p2 self.now }
-        ensures few { result.1 ≤ 2 }
+    pub fn line(&mut self, g: &GState, p1: i32, p2: i32) -> Line
+        ensures value { (result, self.new) ≡ line_between g.now p1 p2 self.old }
+        ensures shapes { HasShapes self.old self.new }
     {
         let to = self.point(g.zp1, p1);
         let from = self.point(g.zp2, p2);
-        let line = Line {
+        self.count_two(&to, &from);
+        Line {
             org: org(&to).minus(org(&from)),
             cur: cur(&to).minus(cur(&from)),
-        };
-        (line, stray(&to) + stray(&from))
+        }
     }
 }

@@ -1,12 +1,13 @@
 //! The rows that shift points as a reference point was moved.
 
-ghost use Rattle.std.specs.Prelude.{◌≡◌, ◌+◌, ◌≤◌, length, reverse, IfSome};
+ghost use Rattle.std.specs.Prelude.{◌≡◌, ◌≤◌, length, reverse, IfSome};
 ghost use Rattle.fx_zone.specs.Figures.{range_shifted};
 ghost use Rattle.fx_pointops.specs.Zones.{HasShapes, zone_at, on_zone};
-ghost use Rattle.fx_pointops.specs.Shift.{reference_zone, reference_point, reference_stray, reference_shift, excepted, shp_of, contour_at, stray_contour, contour_shifted, shc_of, count_without_phantoms, shz_of};
+ghost use Rattle.fx_pointops.specs.Shift.{reference_zone, reference_point, counting_reference, reference_shift, excepted, shp_of};
+ghost use Rattle.fx_pointops.specs.Shift.{contour_at, contour_shifted_at, shc_of, count_without_phantoms, shz_of};
 
 use crate::loops::LoopStep;
-use crate::zones::{Zones, cur, index_of, is_same_zone, org, stray};
+use crate::zones::{Zones, cur, index_of, is_same_zone, org};
 use fx_fixed::{Axis, Place};
 use fx_gstate::{GState, ZonePointer};
 
@@ -35,51 +36,30 @@ fn excepted(g: &GState, one: bool, zone: ZonePointer) -> Option<usize>
     }
 }
 
-/// 1 if there is no contour, which is a stray, and 0 if there is one.
-fn stray_contour(contour: &Option<(usize, usize)>) -> u64
-    ensures value { result ≡ stray_contour contour.now }
-    ensures few { result ≤ 1 }
-{
-    match contour {
-        Some(_) => 0,
-        None => 1,
-    }
-}
-
 impl Zones {
-    /// 1 if the reference point is a stray, and 0 if it is not.
-    fn reference_stray(&self, g: &GState, one: bool) -> u64
-        ensures value { result ≡ reference_stray g.now one self.now }
-        ensures few { result ≤ 1 }
-    {
-        let zone = reference_zone(g, one);
-        let p = reference_point(g, one);
-        stray(&self.point(zone, p))
-    }
-
-    /// The shift that moves a point as far as the reference point was moved.
+    /// The shift that moves a point as far as the reference point was moved, which is counted if it is a stray.
     #[tactic(auto, unfolding(crate::specs::Shift::reference_shift))]
-    fn reference_shift(&self, g: &GState, one: bool) -> Place
-        ensures { result ≡ reference_shift g.now one self.now }
+    fn reference_shift(&mut self, g: &GState, one: bool) -> Place
+        ensures value { result ≡ reference_shift g.now one self.old }
+        ensures counted { self.new ≡ counting_reference g.now one self.old }
+        ensures shapes { HasShapes self.old self.new }
     {
         let zone = reference_zone(g, one);
         let p = reference_point(g, one);
         let point = self.point(zone, p);
+        self.count(&point);
         g.shift_place(g.project_place(cur(&point).minus(org(&point))))
     }
 
     /// 32-33 SHP[a], SHift Point: shifts each p, of zp2, as a reference point was moved: with 0 rp2, of zp1, with 1 rp1, of
     /// zp0.
     #[tactic(auto, unfolding(crate::specs::Shift::shp_of))]
-    pub fn shp(&mut self, g: &GState, one: bool, points: &[i32]) -> u64
-        ensures value { (self.new, result) ≡ shp_of g.now one (reverse points.now) self.old }
-        ensures few { result ≤ length points.now + 1 }
+    pub fn shp(&mut self, g: &GState, one: bool, points: &[i32])
+        ensures value { self.new ≡ shp_of g.now one (reverse points.now) self.old }
         ensures shapes { HasShapes self.old self.new }
     {
-        let base = self.reference_stray(g, one);
         let by = self.reference_shift(g, one);
-        let strays = self.each(g, &LoopStep::Shift(by), points);
-        base + strays
+        self.each(g, &LoopStep::Shift(by), points);
     }
 
     /// Shifts the points of a range, without one of them, and touches them along the axes that are given.
@@ -117,21 +97,27 @@ impl Zones {
 
     /// 34-35 SHC[a], SHift Contour: shifts the points of contour k, of zp2, but the reference point.
     #[tactic(auto, unfolding(crate::specs::Shift::shc_of))]
-    pub fn shc(&mut self, g: &GState, one: bool, k: i32) -> u64
-        ensures value { (self.new, result) ≡ shc_of g.now one k self.old }
-        ensures few { result ≤ 2 }
+    pub fn shc(&mut self, g: &GState, one: bool, k: i32)
+        ensures value { self.new ≡ shc_of g.now one k self.old }
         ensures shapes { HasShapes self.old self.new }
     {
-        let base = self.reference_stray(g, one);
         let by = self.reference_shift(g, one);
-        let contour = self.contour(g.zp2, k);
-        if let Some((first, past)) = contour {
-            let except = excepted(g, one, g.zp2);
-            let x = g.touches(Axis::X);
-            let y = g.touches(Axis::Y);
-            self.shift_range(g.zp2, first, past, except, by, x, y);
-        }
-        base + stray_contour(&contour)
+        self.shift_contour(g, one, by, k);
+    }
+
+    /// Shifts the points of contour k, of zp2, but the reference point; a contour that is not there is a stray.
+    fn shift_contour(&mut self, g: &GState, one: bool, by: Place, k: i32)
+        ensures value { self.new ≡ contour_shifted_at g.now one by k self.old }
+        ensures shapes { HasShapes self.old self.new }
+    {
+        let Some((first, past)) = self.contour(g.zp2, k) else {
+            self.add_stray();
+            return;
+        };
+        let except = excepted(g, one, g.zp2);
+        let x = g.touches(Axis::X);
+        let y = g.touches(Axis::Y);
+        self.shift_range(g.zp2, first, past, except, by, x, y);
     }
 
     /// The number of points of a zone without a glyph's four phantom points.
@@ -147,16 +133,13 @@ impl Zones {
 
     /// 36-37 SHZ[a], SHift Zone: shifts the points of a zone, but the reference point and the phantom points, and touches none.
     #[tactic(auto, unfolding(crate::specs::Shift::shz_of))]
-    pub fn shz(&mut self, g: &GState, one: bool, zone: ZonePointer) -> u64
-        ensures value { (self.new, result) ≡ shz_of g.now one zone self.old }
-        ensures few { result ≤ 1 }
+    pub fn shz(&mut self, g: &GState, one: bool, zone: ZonePointer)
+        ensures value { self.new ≡ shz_of g.now one zone self.old }
         ensures shapes { HasShapes self.old self.new }
     {
-        let base = self.reference_stray(g, one);
         let by = self.reference_shift(g, one);
         let past = self.count_without_phantoms(zone);
         let except = excepted(g, one, zone);
         self.shift_range(zone, 0, past, except, by, false, false);
-        base
     }
 }

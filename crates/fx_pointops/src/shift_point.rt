@@ -1,6 +1,6 @@
 //! How instructions move points: along the freedom vector, and touching them.
 
-ghost use Rattle.std.specs.Prelude.{◌≡◌, ◌≤◌, Some};
+ghost use Rattle.std.specs.Prelude.{◌≡◌, Some};
 ghost use Rattle.fx_pointops.specs.Zones.{HasShapes, point_at, changed_at};
 ghost use Rattle.fx_pointops.specs.ShiftPoint.{shifted_by, moved_by, point_shifted};
 
@@ -29,7 +29,7 @@ pub fn moved_by(g: &GState, d: F26, point: Point) -> Point
     }
 }
 
-/// The same along any vectors.
+/// A point moved by a distance along any vectors.
 #[inline(never)]
 #[tactic(auto, unfolding(crate::specs::ShiftPoint::moved_by))]
 fn moved_aslant(g: &GState, d: F26, point: Point) -> Point
@@ -61,15 +61,14 @@ impl Zones {
 
     /// Shifts a point of zp2.
     #[tactic(auto, unfolding(crate::specs::ShiftPoint::point_shifted), using(crate::proofs::Setting::stray_is))]
-    pub(crate) fn shift_point(&mut self, g: &GState, by: &Place, p: i32) -> u64
-        ensures value { (self.new, result) ≡ point_shifted g.now by.now p self.old }
-        ensures few { result ≤ 1 }
+    pub(crate) fn shift_point(&mut self, g: &GState, by: &Place, p: i32)
+        ensures value { self.new ≡ point_shifted g.now by.now p self.old }
         ensures shapes { HasShapes self.old self.new }
     {
         let Some(point) = self.point(g.zp2, p) else {
-            return 1;
+            self.add_stray();
+            return;
         };
         self.set(g.zp2, p, shifted_by(g, *by, point));
-        0
     }
 }

@@ -1,8 +1,8 @@
 //! The two zones, and their points by zone pointers and stack numbers.
 
-ghost use Rattle.std.specs.Prelude.{◌≡◌, ◌≤◌};
+ghost use Rattle.std.specs.Prelude.{◌≡◌};
 ghost use Rattle.fx_fixed.specs.Places.{origin};
-ghost use Rattle.fx_pointops.specs.Zones.{is_twilight, is_same_zone, index_of, point_of, stray_of, org_of, cur_of};
+ghost use Rattle.fx_pointops.specs.Zones.{is_twilight, is_same_zone, index_of, point_of, org_of, cur_of};
 
 use fx_fixed::Place;
 use fx_gstate::ZonePointer;
@@ -14,6 +14,8 @@ use fx_zone::{Point, Zone};
 pub struct Zones {
     pub twilight: Zone,
     pub glyph: Zone,
+    /// How many numbers outside their zone instructions have named; it stays at the greatest.
+    pub strays: u64,
 }
 
 /// Whether a zone pointer names the twilight zone.
@@ -49,17 +51,6 @@ pub fn index_of(number: i32) -> Option<usize>
     }
 }
 
-/// 1 if there is no point, which is a stray, and 0 if there is one.
-pub fn stray(point: &Option<Point>) -> u64
-    ensures value { result ≡ stray_of point.now }
-    ensures few { result ≤ 1 }
-{
-    match point {
-        Some(_) => 0,
-        None => 1,
-    }
-}
-
 /// The original place of a point, (0, 0) if there is none.
 pub fn org(point: &Option<Point>) -> Place
     ensures { result ≡ org_of point.now }
@@ -81,7 +72,7 @@ pub fn cur(point: &Option<Point>) -> Place
 }
 
 impl Zones {
-    ghost use Rattle.fx_pointops.specs.Zones.{point_at, written_at, HasShapes};
+    ghost use Rattle.fx_pointops.specs.Zones.{point_at, written_at, with_stray, counting, counting_two, HasShapes};
 
     /// The point of a number, if it is inside.
     #[tactic(auto, unfolding(crate::specs::Zones::point_at))]
@@ -93,6 +84,33 @@ impl Zones {
             ZonePointer::Twilight => self.twilight.point(index),
             ZonePointer::Glyph => self.glyph.point(index),
         }
+    }
+
+    /// Counts a stray.
+    pub(crate) fn add_stray(&mut self)
+        ensures value { self.new ≡ with_stray self.old }
+        ensures shapes { HasShapes self.old self.new }
+    {
+        self.strays = self.strays.saturating_add(1);
+    }
+
+    /// Counts a point as a stray if there is none.
+    pub(crate) fn count(&mut self, point: &Option<Point>)
+        ensures value { self.new ≡ counting point.now self.old }
+        ensures shapes { HasShapes self.old self.new }
+    {
+        if point.is_none() {
+            self.add_stray();
+        }
+    }
+
+    /// Counts two points as strays, each if there is none.
+    pub(crate) fn count_two(&mut self, p: &Option<Point>, q: &Option<Point>)
+        ensures value { self.new ≡ counting_two p.now q.now self.old }
+        ensures shapes { HasShapes self.old self.new }
+    {
+        self.count(p);
+        self.count(q);
     }
 
     /// Writes the point of a number, if it is inside.

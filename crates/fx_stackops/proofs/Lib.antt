@@ -1,3 +1,4 @@
 pub mod Stacks
 pub mod Multiples
 mod Products
+mod Pairs

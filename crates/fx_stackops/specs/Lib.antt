@@ -1,3 +1,4 @@
 pub mod Table
 pub mod Store
 pub mod Rows
+pub mod inner

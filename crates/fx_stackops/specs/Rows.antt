@@ -1,8 +1,8 @@
 -- The rows of the instruction table that touch the stack, the storage area and the control values alone, in the order of their
 -- opcodes. Each comment has the opcode, the mnemonic and what becomes of the stack, whose top is written last.
 -- Apple TrueType Reference Manual, "Instruction set".
-use Rattle.std.specs.Prelude.{ℕ, zero, suc, ◌*◌, nat_lt, ℤ, pos, neg_ℤ, ◌-ℤ◌, ◌*ℤ◌, ◌≤ℤ◌, int_lt, unsigned_abs, Bool, ◌&&◌}
-use Rattle.std.specs.Prelude.{◌||◌, not, if◌then◌else◌, List, [], ◌∷◌, length, Result, Ok}
+use Rattle.std.specs.Prelude.{ℕ, ℤ, pos, neg_ℤ, ◌-ℤ◌, ◌*ℤ◌, ◌≤ℤ◌, int_lt, unsigned_abs, Bool, ◌&&◌}
+use Rattle.std.specs.Prelude.{◌||◌, not, if◌then◌else◌, List, [], length, reverse, Result, Ok}
 use Rattle.std.specs.Ordering.{int_eq}
 use Rattle.std.specs.Int.{int_rem_euclid}
 use Rattle.fx_fixed.specs.Chain.{◌>>=◌, refuse}
@@ -10,14 +10,14 @@ use Rattle.fx_fixed.specs.Numbers.{near_of, cut_of, wrapped_of, sum_of, differen
 use Rattle.fx_gstate.specs.declared.deltas.Delta.{Delta}
 use Rattle.fx_gstate.specs.declared.deltas.DeltaForm.{DeltaForm}
 use Rattle.fx_gstate.specs.declared.state.GState.{GState}
-use Rattle.fx_gstate.specs.Deltas.{delta_of}
+use Rattle.fx_gstate.specs.Deltas.{delta_of, acted, each_pair}
 use Rattle.fx_gstate.specs.Grid.{OnGrid, IsGreatestNotAbove}
 use Rattle.fx_gstate.specs.Rounding.{rounded_of}
 use Rattle.fx_stackops.specs.declared.fault.StackFault.{StackFault}
-use Rattle.fx_stackops.specs.declared.fault.StackFault.TheVariants.{StackUnder, DivideByZero, BadArgument}
+use Rattle.fx_stackops.specs.declared.fault.StackFault.TheVariants.{DivideByZero}
 use Rattle.fx_stackops.specs.Table.{read_of, written_of, stray_of}
 use Rattle.fx_stackops.specs.Store.{StoreView, with_stack, one, two, three, index_of, element_of, moved_up, on_top, pushed}
-use Rattle.fx_stackops.specs.Store.{pushed_all, with_strays}
+use Rattle.fx_stackops.specs.Store.{pushed_all, with_strays, delta_pairs}
 
 -- what a row gives
 abbrev pub Row : Type 0
@@ -215,31 +215,18 @@ nround_row = unary (λ a. a)
 
 -- ---- 7
 
--- a control value moved, if its argument acts at this size
-abbrev pub moved_control : ℕ → Delta → ℤ → StoreView → StoreView
-moved_control ppem d i s = if int_eq d.ppem (pos ppem) then with_control i (sum_of (read_of s.cvt i) d.amount) s else s
-
--- one pair of a stack: its control value's number above its argument
-abbrev pub pair_from : (ℤ → ℤ → StoreView → StoreView) → List ℤ → StoreView → StoreView
-pair_from act (number ∷ argument ∷ rest) s = act argument number (with_stack rest s)
-pair_from act _ s = s
-
-unfoldable pub control_pair : DeltaForm → GState → ℕ → StoreView → StoreView
-control_pair form g ppem s =
-    pair_from (λ argument number. moved_control ppem (delta_of form g.delta_base g.delta_shift argument) number) s.stack s
-
--- n pairs
-abbrev pub control_pairs : DeltaForm → GState → ℕ → ℕ → StoreView → StoreView
-control_pairs form g ppem zero s = s
-control_pairs form g ppem (suc n) s = control_pairs form g ppem n (control_pair form g ppem s)
-
 -- 73 DELTAC1, 74 DELTAC2, 75 DELTAC3  .. argument number n ->, n pairs
+-- Each control value whose argument acts at this size moves by its amount.
+abbrev pub moved_control : ℕ → Delta → ℤ → StoreView → StoreView
+moved_control ppem d i s = acted (λ amount t. with_control i (sum_of (read_of t.cvt i) amount) t) ppem d s
+
+unfoldable pub control_delta : DeltaForm → GState → ℕ → ℤ → ℤ → StoreView → StoreView
+control_delta form g ppem i argument s = moved_control ppem (delta_of form g.delta_base g.delta_shift argument) i s
+
 unfoldable pub deltac_row : DeltaForm → GState → ℕ → StoreView → Row
 deltac_row form g ppem s = do
-  x ← one s
-  _ ← refuse (int_lt x.0 (pos 0)) BadArgument
-  _ ← refuse (nat_lt (length x.1.stack) (2 * unsigned_abs x.0)) StackUnder
-  Ok (control_pairs form g ppem (unsigned_abs x.0) x.1)
+  x ← delta_pairs s
+  Ok (each_pair (control_delta form g ppem) (reverse x.0) x.1)
 
 -- ---- 8
 

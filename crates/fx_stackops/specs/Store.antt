@@ -1,6 +1,6 @@
 -- The stack, the storage area and the control values of a machine, and what instructions take from them and put there.
 -- Apple TrueType Reference Manual, "Interpreter stack", "Storage area", "Control value table".
-use Rattle.std.specs.Prelude.{◌≡◌, ℕ, ◌+◌, ◌-◌, ◌^◌, min, ℤ, pos, int_lt, unsigned_abs, nat_lt, nat_le, not, ◌||◌, List, []}
+use Rattle.std.specs.Prelude.{◌≡◌, ℕ, ◌+◌, ◌-◌, ◌*◌, ◌^◌, min, ℤ, pos, int_lt, unsigned_abs, nat_lt, nat_le, not, ◌||◌, List, []}
 use Rattle.std.specs.Prelude.{◌∷◌, ◌++◌, length, reverse, take, drop, slice_index_or, Result, Ok, Err}
 use Rattle.fx_fixed.specs.Chain.{◌>>=◌, refuse}
 use Rattle.fx_stackops.specs.declared.fault.StackFault.{StackFault}
@@ -82,6 +82,14 @@ element_of k stack = do
   index ← index_of k stack
   Ok (slice_index_or stack index (pos 0))
 
+-- the n pairs of a delta instruction, .. argument number n ->, the deepest first, and what is left of the stack
+unfoldable pub delta_pairs : StoreView → Result (List ℤ × StoreView) StackFault
+delta_pairs s = do
+  x ← one s
+  _ ← refuse (int_lt x.0 (pos 0)) BadArgument
+  pairs ← top_numbers (2 * unsigned_abs x.0) x.1
+  Ok (pairs, with_stack (drop (2 * unsigned_abs x.0) x.1.stack) x.1)
+
 -- a stack with the number below some others moved to the top
 abbrev pub moved_up : ℕ → List ℤ → List ℤ
 moved_up index stack = slice_index_or stack index (pos 0) ∷ (take index stack ++ drop (index + 1) stack)
@@ -130,6 +138,11 @@ with_rest_three (Err e) s = Err e
 abbrev pub with_rest_five : {E : Type 0} → Result (ℤ × ℤ × ℤ × ℤ × ℤ) E → StoreView → Result (ℤ × ℤ × ℤ × ℤ × ℤ × StoreView) E
 with_rest_five (Ok x) s = Ok (x.0, x.1, x.2, x.3, x.4, s)
 with_rest_five (Err e) s = Err e
+
+-- the pairs that are there, and what is below them
+abbrev pub with_pairs : {E : Type 0} → Result ℕ E → StoreView → Result (List ℤ × StoreView) E
+with_pairs (Ok n) s = Ok (reverse (take (2 * n) s.stack), with_stack (drop (2 * n) s.stack) s)
+with_pairs (Err e) s = Err e
 
 -- as much room, and tables of the same sizes
 pub record HasSizes (s t : StoreView) : Type 0 where

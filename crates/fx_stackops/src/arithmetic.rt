@@ -172,7 +172,7 @@ fn quotient(a: i32, b: i32) -> i32
     w32(i128::from(exact_quotient(a, b)))
 }
 
-/// The same, before it is made 32 bits.
+/// The quotient of two numbers in 26.6, without its fraction, before it is made 32 bits.
 #[tactic(auto, unfolding(fx_fixed::specs::Numbers::cut_of))]
 fn exact_quotient(a: i32, b: i32) -> i64
     requires { b ≢ pos 0 }

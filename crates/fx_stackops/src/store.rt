@@ -1,6 +1,6 @@
 //! The stack, the storage area and the control values.
 
-ghost use Rattle.std.specs.Prelude.{◌≡◌, ◌+◌, ◌<◌, ◌≤◌, ◌^◌, [], ◌∷◌, ◌++◌, length, reverse, take, drop, replicate, pos, IfOk};
+ghost use Rattle.std.specs.Prelude.{◌≡◌, ◌+◌, ◌*◌, ◌<◌, ◌≤◌, ◌^◌, [], ◌∷◌, ◌++◌, length, reverse, take, drop, replicate, pos, IfOk};
 ghost use Rattle.std.specs.Prelude.{OnOk, OnErr, Ok};
 ghost use Rattle.fx_fixed.specs.Chain.{map_ok};
 ghost use Rattle.fx_gstate.specs.States.{leaves};
@@ -9,6 +9,7 @@ ghost use Rattle.fx_stackops.specs.Table.{AreNumbers, read_of, written_of, stray
 ghost use Rattle.fx_stackops.specs.Store.{one, two, two_from, three, index_of, element_of, moved_up, top_numbers};
 ghost use Rattle.fx_stackops.specs.Store.{pushed, with_stack, with_strays, HasSizes};
 ghost use Rattle.fx_stackops.specs.Store.{restarted, five, with_rest, with_rest_two, with_rest_three, with_rest_five};
+ghost use Rattle.fx_stackops.specs.Store.{delta_pairs, with_pairs};
 
 use crate::fault::StackFault;
 use crate::table::Table;
@@ -125,11 +126,37 @@ impl Store {
         ensures value { map_ok (λ numbers. numbers.now) result ≡ top_numbers count self.now }
         ensures inside { OnOk result (count ≤ length self.now.stack) }
     {
-        let count = count as usize;
-        if self.depth < count {
+        if self.depth < count as usize {
             return Err(StackFault::StackUnder);
         }
-        Ok(&self.cells.numbers()[self.depth - count..self.depth])
+        Ok(self.top_there(count))
+    }
+
+    /// The top numbers of the stack, the deepest first, which are there.
+    pub fn top_there(&self, count: u32) -> &[i32]
+        requires { count ≤ length self.now.stack }
+        ensures { result.now ≡ reverse (take count self.now.stack) }
+    {
+        &self.cells.numbers()[self.depth - count as usize..self.depth]
+    }
+
+    /// Pops how many pairs a delta instruction has, `.. argument number n ->`, if they are there.
+    #[tactic(auto, unfolding(crate::specs::Store::delta_pairs, crate::specs::Store::top_numbers))]
+    pub fn pairs(&mut self) -> Result<u32, StackFault>
+        ensures value { with_pairs result self.new ≡ delta_pairs self.old }
+        ensures inside { IfOk result (λ n. 2 * n ≤ length self.new.stack) }
+        ensures few { IfOk result (λ n. n < 2 ^ 31) }
+        ensures sizes { HasSizes self.old self.new }
+    {
+        let n = self.one()?;
+        if n < 0 {
+            return Err(StackFault::BadArgument);
+        }
+        let pairs = n.unsigned_abs();
+        if self.depth < 2 * pairs as usize {
+            return Err(StackFault::StackUnder);
+        }
+        Ok(pairs)
     }
 
     /// The numbers of the stack, the deepest first.

@@ -3,8 +3,8 @@
 ghost use Rattle.std.specs.Prelude.{◌≡◌, ◌+◌, ◌*◌, ◌≤◌, length};
 ghost use Rattle.fx_gstate.specs.States.{leaves};
 ghost use Rattle.fx_stackops.specs.Store.{HasSizes};
-ghost use Rattle.fx_stackops.specs.Rows.{ws_row, rs_row, wcvtp_row, rcvt_row, with_control, moved_control, control_pair};
-ghost use Rattle.fx_stackops.specs.Rows.{control_pairs, deltac_row};
+ghost use Rattle.fx_stackops.specs.Rows.{ws_row, rs_row, wcvtp_row, rcvt_row, with_control, moved_control, deltac_row};
+ghost use Rattle.fx_stackops.specs.inner.Pairs.{control_pair, control_pairs};
 
 use crate::fault::StackFault;
 use crate::store::Store;
@@ -66,19 +66,12 @@ impl Store {
 
     /// 73 DELTAC1, 74 DELTAC2, 75 DELTAC3, DELTA exception C: `.. argument number n ->`, n pairs. Changes the control values
     /// whose arguments act at this size.
-    #[tactic(auto, unfolding(crate::specs::Rows::deltac_row))]
+    #[tactic(auto, unfolding(crate::specs::Rows::deltac_row, crate::specs::inner::Pairs::control_pairs))]
     pub fn deltac(&mut self, form: DeltaForm, g: &GState, ppem: Ppem) -> Result<(), StackFault>
         ensures value { leaves result self.new ≡ deltac_row form g.now ppem self.old }
         ensures sizes { HasSizes self.old self.new }
     {
-        let n = self.one()?;
-        if n < 0 {
-            return Err(StackFault::BadArgument);
-        }
-        let pairs = n.unsigned_abs();
-        if self.stack_len() < 2 * pairs as usize {
-            return Err(StackFault::StackUnder);
-        }
+        let pairs = self.pairs()?;
         self.move_controls(form, g, ppem, pairs);
         Ok(())
     }
@@ -98,7 +91,7 @@ impl Store {
     }
 
     /// Pops one pair that is there, and moves its control value if its argument acts.
-    #[tactic(auto, unfolding(crate::specs::Rows::control_pair))]
+    #[tactic(auto, unfolding(crate::specs::inner::Pairs::control_pair, crate::specs::Rows::control_delta))]
     fn move_control(&mut self, form: DeltaForm, g: &GState, ppem: Ppem)
         requires { 2 ≤ length self.old.stack }
         ensures value { self.new ≡ control_pair form g.now ppem self.old }

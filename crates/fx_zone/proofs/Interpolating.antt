@@ -1,19 +1,22 @@
 -- The sweep over a contour, proved equal to the rule for one point.
 -- It serves the interpolation of untouched points.
-use Rattle.std.proofs.Common.{◌≡◌, refl, sym, ap, ◌∙◌, arith, ℕ, suc, ◌+◌, ◌-◌, ◌<◌, ◌≤◌, max, Bool, true, false, if◌then◌else◌}
+use Rattle.std.proofs.Common.{◌≡◌, refl, sym, ap, ◌∙◌, arith, ℕ, zero, suc, ◌+◌, ◌-◌, ◌<◌, ◌≤◌, Bool, true, false, if◌then◌else◌}
 use Rattle.std.proofs.Common.{add-zero, List, [], ◌∷◌, ◌++◌, length, get_or, take, drop, map, reverse, pos, Option, Some, None}
 use Rattle.std.proofs.Math.Seq.{take-suc, drop-cons, take-append-add, drop-append-add}
 use Rattle.std.proofs.lemmas.List.{append_assoc, append-nil, reverse-append, length-append, length-take-le, length-drop, length-map}
-use Rattle.std.proofs.lemmas.List.{reverse-reverse, drop_all, take_all, get_or-drop, drop-drop, drop_more, take-append-drop}
+use Rattle.std.proofs.lemmas.List.{reverse-reverse, drop_all, take_all, get_or-drop, take-append-drop}
 use Rattle.std.proofs.lemmas.List.{get_or_default}
-use Rattle.std.proofs.lemmas.Slice.{take-put_mid, drop-put_mid}
+use Rattle.std.proofs.lemmas.Slice.{drop-put_mid}
+use Rattle.std.proofs.lemmas.Option.{slice_get-get_or}
+use Rattle.std.specs.Prelude.{option_map}
 use borrow.Rule.Slice.PartMut.{put_mid}
 use Rattle.std.proofs.lemmas.Int.{ints, by_lt_z}
 use Rattle.fx_zone.specs.declared.point.Point.{Point}
 use Rattle.fx_fixed.specs.declared.places.Axis.{Axis}
 use Rattle.fx_zone.specs.Interpolation.{is_touched, between, between_any, first_touched, untouched_run, point_before, interpolated}
-use Rattle.fx_zone.specs.Interpolation.{each_interpolated, contour_interpolated, contours_interpolated, figure_interpolated}
-use Rattle.fx_zone.specs.Figures.{Figure}
+use Rattle.fx_zone.specs.Interpolation.{each_interpolated, contour_interpolated, part_interpolated, contours_interpolated}
+use Rattle.fx_zone.specs.Interpolation.{figure_interpolated}
+use Rattle.fx_zone.specs.Figures.{Figure, first_of, contour_of}
 
 -- ---- the first touched point
 
@@ -457,71 +460,59 @@ empty_contour : (axis : Axis) → contour_interpolated axis [] ≡ []
 unfolding contour_interpolated
 empty_contour axis = each_zipped axis [] [] ∙ each_nil axis []
 
-contours_next : (axis : Axis) (first : ℕ) (ends : List ℕ) (points : List Point) (k d : ℕ) → k < length ends →
-    contours_interpolated axis first (drop k ends) points ≡ contour_interpolated axis
-    (take (get_or ends k d + 1 - first) points) ++ contours_interpolated axis (max first (get_or ends k d + 1))
-    (drop (k + 1) ends) (drop (get_or ends k d + 1 - first) points)
+contours_next : (axis : Axis) (ends : List ℕ) (points : List Point) (k d : ℕ) → k < length ends →
+    contours_interpolated axis ends (k + 1) points ≡ part_interpolated axis (Some (first_of ends k, suc (get_or ends k d)))
+    (contours_interpolated axis ends k points)
 unfolding contours_interpolated
-contours_next axis first ends points k d h =
-    let e : suc (get_or ends k d) ≡ get_or ends k d + 1 = omega arith in
-    ap (λ l. contours_interpolated axis first l points) (drop_more ends k d h)
-    ∙ ap (λ n. contour_interpolated axis (take (n - first) points) ++ contours_interpolated axis (max first n) (drop (k + 1) ends)
-    (drop (n - first) points)) e
+contours_next axis ends points k d h =
+    let e : k + 1 ≡ suc k = omega arith in
+    ap (λ n. contours_interpolated axis ends n points) e
+    ∙ ap (λ end. part_interpolated axis (option_map (λ last. (first_of ends k, suc last)) end)
+    (contours_interpolated axis ends k points)) (slice_get-get_or ends k d h)
 
-pub contour_empty : (axis : Axis) (first : ℕ) (ends : List ℕ) (points : List Point) (k d : ℕ) → k < length ends
-    → get_or ends k d + 1 ≤ first →
-    take first points ++ contours_interpolated axis first (drop k ends) (drop first points) ≡ take first
-    points ++ contours_interpolated axis first (drop (k + 1) ends) (drop first points)
-contour_empty axis first ends points k d h l =
-    let z : get_or ends k d + 1 - first ≡ 0 = omega (arith, l) in
-    let m : max first (get_or ends k d + 1) ≡ first = omega (arith, l) in
-    ap (λ ys. take first points ++ ys)
-    (contours_next axis first ends (drop first points) k d h ∙ rw (z, m, empty_contour axis) refl)
+-- where the next contour begins
+pub next_first : (ends : List ℕ) (k first : ℕ) → first ≡ get_or ends k 0 + 1 → first ≡ first_of ends (k + 1)
+next_first ends k first e =
+    let n : k + 1 ≡ suc k = omega arith in
+    let m : get_or ends k 0 + 1 ≡ suc (get_or ends k 0) = omega arith in
+    e ∙ m ∙ sym (ap (first_of ends) n)
 
-pub contour_put : (axis : Axis) (first : ℕ) (ends : List ℕ) (points ys : List Point) (k d : ℕ) → k < length ends
-    → first < get_or ends k d + 1 → get_or ends k d < length points
-    → ys ≡ contour_interpolated axis (take (get_or ends k d + 1 - first) (drop first points)) →
-    take first points ++ contours_interpolated axis first (drop k ends) (drop first points) ≡
-    take (get_or ends k d + 1) (put_mid first (get_or ends k d + 1 - first) points ys) ++ contours_interpolated axis
-    (get_or ends k d + 1) (drop (k + 1) ends)
-    (drop (get_or ends k d + 1) (put_mid first (get_or ends k d + 1 - first) points ys))
-contour_put axis first ends points ys k d h l w y =
-    let past = get_or ends k d + 1 in
-    let m : max first past ≡ past = omega (arith, l) in
-    let long : length ys ≡ past - first = ap length y ∙ contour_long axis (take (past - first) (drop first points))
-    ∙ length-take-le (past - first) (drop first points) (omega (arith, length-drop first points, w)) in
-    let fits : first ≤ length points = omega (arith, l, w) in
-    let t : take past (put_mid first (past - first) points ys) ≡ take first points ++ ys =
-    take-put_mid first (past - first) points ys past (omega (arith, long, l)) fits in
-    let r : drop past (put_mid first (past - first) points ys) ≡ drop past points =
-    drop-put_mid first (past - first) points ys past (omega (arith, l)) fits long in
-    let q : first + (past - first) ≡ past = omega (arith, l) in
-    let s : drop (past - first) (drop first points) ≡ drop past points = drop-drop (past - first) first points
-    ∙ ap (λ n. drop n points) q in
-    ap (λ zs. take first points ++ zs) (contours_next axis first ends (drop first points) k d h ∙ rw (m, s, ← y) refl)
-    ∙ sym (append_assoc (take first points) ys (contours_interpolated axis past (drop (k + 1) ends) (drop past points)))
-    ∙ sym (λ i. (t i) ++ contours_interpolated axis past (drop (k + 1) ends) (r i))
+-- an empty contour changes nothing
+pub contour_empty : (axis : Axis) (ends : List ℕ) (initial points : List Point) (first k d : ℕ) → k < length ends
+    → first ≡ first_of ends k → get_or ends k d + 1 ≤ first → points ≡ contours_interpolated axis ends k initial
+    → points ≡ contours_interpolated axis ends (k + 1) initial
+contour_empty axis ends initial points first k d h f l e =
+    let z : suc (get_or ends k d) - first ≡ 0 = omega (arith, l) in
+    sym (contours_next axis ends initial k d h ∙ rw (← f, ← e, z, empty_contour axis) (take-append-drop first points))
 
-pub contours_done : (axis : Axis) (first k : ℕ) (ends : List ℕ) (points : List Point) → length ends ≤ k
-    → take first points ++ contours_interpolated axis first (drop k ends) (drop first points) ≡ points
-unfolding contours_interpolated
-contours_done axis first k ends points h =
-    ap (λ l. take first points ++ contours_interpolated axis first l (drop first points)) (drop_all k ends h)
-    ∙ take-append-drop first points
+-- any other is put in its place
+pub contour_put : (axis : Axis) (ends : List ℕ) (initial points ys : List Point) (first k d : ℕ) → k < length ends
+    → first ≡ first_of ends k → points ≡ contours_interpolated axis ends k initial
+    → ys ≡ contour_interpolated axis (take (get_or ends k d + 1 - first) (drop first points))
+    → put_mid first (get_or ends k d + 1 - first) points ys ≡ contours_interpolated axis ends (k + 1) initial
+contour_put axis ends initial points ys first k d h f e y =
+    let s : suc (get_or ends k d) ≡ get_or ends k d + 1 = omega arith in
+    sym (contours_next axis ends initial k d h ∙ rw (← f, ← e, s, ← y) refl)
 
 -- a figure keeps its number of points
-contours_long : (axis : Axis) (first : ℕ) (ends : List ℕ) (points : List Point)
-    → length (contours_interpolated axis first ends points) ≡ length points
+part_long : (axis : Axis) (c : Option (ℕ × ℕ)) (points : List Point) → length (part_interpolated axis c points) ≡ length points
+part_long axis (Some c) points =
+    let mid = take (c.1 - c.0) (drop c.0 points) in
+    let rest = drop (c.1 - c.0) (drop c.0 points) in
+    length-append (take c.0 points) (contour_interpolated axis mid ++ rest)
+    ∙ ap (λ n. length (take c.0 points) + n) (length-append (contour_interpolated axis mid) rest
+    ∙ ap (λ n. n + length rest) (contour_long axis mid) ∙ sym (length-append mid rest)
+    ∙ ap length (take-append-drop (c.1 - c.0) (drop c.0 points)))
+    ∙ sym (length-append (take c.0 points) (drop c.0 points))
+    ∙ ap length (take-append-drop c.0 points)
+part_long axis None points = refl
+
+contours_long : (axis : Axis) (ends : List ℕ) (n : ℕ) (points : List Point)
+    → length (contours_interpolated axis ends n points) ≡ length points
 unfolding contours_interpolated
-contours_long axis first [] points = refl
-contours_long axis first (end ∷ ends) points =
-    let n = suc end - first in
-    length-append (contour_interpolated axis (take n points))
-    (contours_interpolated axis (max first (suc end)) ends (drop n points))
-    ∙ (λ i. (contour_long axis (take n points) i) + (contours_long axis (max first (suc end)) ends (drop n points) i))
-    ∙ sym (length-append (take n points) (drop n points))
-    ∙ ap length (take-append-drop n points)
+contours_long axis ends zero points = refl
+contours_long axis ends (suc n) points = part_long axis (contour_of ends n) _ ∙ contours_long axis ends n points
 
 pub figure_long : (axis : Axis) (f : Figure) → length (figure_interpolated axis f).points ≡ length f.points
 unfolding figure_interpolated
-figure_long axis f = contours_long axis 0 f.ends f.points
+figure_long axis f = contours_long axis f.ends (length f.ends) f.points

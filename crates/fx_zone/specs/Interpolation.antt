@@ -1,6 +1,6 @@
 -- Untouched points between touched ones (Apple TrueType Reference Manual, "IUP").
-use Rattle.std.specs.Prelude.{ℕ, zero, suc, ◌-◌, max, ℤ, ◌+ℤ◌, ◌-ℤ◌, ◌*ℤ◌, int_lt, int_le, Bool, if◌then◌else◌, List, [], ◌∷◌, ◌++◌}
-use Rattle.std.specs.Prelude.{reverse, take, drop, slice_index_or, Option, Some, None}
+use Rattle.std.specs.Prelude.{ℕ, zero, suc, ◌-◌, ℤ, ◌+ℤ◌, ◌-ℤ◌, ◌*ℤ◌, int_lt, int_le, Bool, if◌then◌else◌, List, [], ◌∷◌, ◌++◌}
+use Rattle.std.specs.Prelude.{length, reverse, take, drop, slice_index_or, Option, Some, None}
 use Rattle.fx_fixed.specs.Numbers.{near_of, wrapped_of}
 use Rattle.fx_fixed.specs.Places.{coordinate_of}
 use Rattle.fx_fixed.specs.declared.places.Place.{Place}
@@ -8,7 +8,7 @@ use Rattle.fx_fixed.specs.declared.places.Axis.{Axis}
 use Rattle.fx_fixed.specs.declared.places.Axis.TheVariants.{X, Y}
 use Rattle.fx_zone.specs.declared.point.Point.{Point}
 use Rattle.fx_zone.specs.Points.{moved}
-use Rattle.fx_zone.specs.Figures.{Figure}
+use Rattle.fx_zone.specs.Figures.{Figure, contour_of}
 
 -- a place with another coordinate along an axis
 abbrev pub with_coordinate : Axis → ℤ → Place → Place
@@ -90,14 +90,18 @@ each_interpolated axis before (p ∷ after) = interpolated axis before p after �
 unfoldable pub contour_interpolated : Axis → List Point → List Point
 contour_interpolated axis points = each_interpolated axis [] points
 
--- contours in turn, from the number of the first point on, by the numbers of their last points; an end below the
--- contour's first point makes no contour; points after the last contour stay
-unfoldable pub contours_interpolated : Axis → ℕ → List ℕ → List Point → List Point
-contours_interpolated axis first [] points = points
-contours_interpolated axis first (end ∷ ends) points =
-    contour_interpolated axis (take (suc end - first) points) ++ contours_interpolated axis (max first (suc end)) ends
-    (drop (suc end - first) points)
+-- a contour within a zone's points, by the number of its first point and the one after its last
+abbrev pub part_interpolated : Axis → Option (ℕ × ℕ) → List Point → List Point
+part_interpolated axis (Some c) points =
+    take c.0 points ++ (contour_interpolated axis (take (c.1 - c.0) (drop c.0 points)) ++ drop (c.1 - c.0) (drop c.0 points))
+part_interpolated axis None points = points
+
+-- the first n contours, each by itself; points that are in none of them stay
+unfoldable pub contours_interpolated : Axis → List ℕ → ℕ → List Point → List Point
+contours_interpolated axis ends zero points = points
+contours_interpolated axis ends (suc n) points =
+    part_interpolated axis (contour_of ends n) (contours_interpolated axis ends n points)
 
 -- all contours of a figure
 unfoldable pub figure_interpolated : Axis → Figure → Figure
-figure_interpolated axis f = record f { points = contours_interpolated axis 0 f.ends f.points }
+figure_interpolated axis f = record f { points = contours_interpolated axis f.ends (length f.ends) f.points }

@@ -47,7 +47,7 @@ fn product(a: i64, b: i64) -> i128
     i128::from(a) * i128::from(b)
 }
 
-/// The same of lesser differences, in 64 bits.
+/// An exact product of two differences of less than 2^25 pixels, in 64 bits.
 fn short_product(a: i64, b: i64) -> i64
     requires a { unsigned_abs a ≤ 2 ^ 31 }
     requires b { unsigned_abs b ≤ 2 ^ 31 }
@@ -106,7 +106,7 @@ fn in_proportion(o: F26, lo_org: F26, lo_cur: F26, hi_org: F26, hi_cur: F26) -> 
     in_long_proportion(o, lo_org, lo_cur, hi_org, hi_cur)
 }
 
-/// The same of any distances. Distances of less than 2^25 pixels need 64 bits.
+/// The coordinate in proportion, of any distances; those of less than 2^25 pixels need 64 bits.
 #[cold]
 #[inline(never)]
 #[tactic(auto, unfolding(crate::specs::Interpolation::in_proportion))]
@@ -261,15 +261,15 @@ fn interpolate_contour(points: &mut [Point], axis: Axis)
 #[inline(always)]
 pub fn interpolate_contours(points: &mut [Point], ends: &[usize], axis: Axis)
     requires { All (λ e. e < length points.old) ends.now }
-    ensures { points.new ≡ contours_interpolated axis 0 ends.now points.old }
+    ensures { points.new ≡ contours_interpolated axis ends.now (length ends.now) points.old }
 {
     let mut first = 0;
-    // The contours before the point `first` are done.
+    // The contours before this one are done, and `first` is where it begins.
     'contours: for end in ends.iter() {
         let past = *end + 1;
         if first < past {
             interpolate_contour(&mut points[first..past], axis);
-            first = past;
         }
+        first = past;
     }
 }

@@ -38,6 +38,7 @@ fn zones(alloc: Global, points: [Point; 8]) -> Result<Zones, Fail> {
     Ok(Zones {
         twilight: Zone::of(twilight, Vec::new(alloc)),
         glyph: Zone::of(points, Vec::from_array(alloc, [3])?),
+        strays: 0,
     })
 }
 
@@ -141,9 +142,10 @@ fn put(org: Place, cur: Place) -> Option<Point> {
 fn lines_that_cross(rt: HostRuntime) -> Result<(), Fail> {
     let g = GState::new();
     let mut zones = crossed(rt.alloc())?;
-    assert_eq!(rt; zones.isect(&g, 6, 0, 1, 2, 3), 0);
+    zones.isect(&g, 6, 0, 1, 2, 3);
     assert_eq!(rt; zones.glyph.point(6), put(place(7, 7), place(64, 64)));
-    assert_eq!(rt; zones.isect(&g, 8, 0, -1, 2, 3), 2);
+    zones.isect(&g, 8, 0, -1, 2, 3);
+    assert_eq!(rt; zones.strays, 2);
     Ok(())
 }
 
@@ -152,8 +154,9 @@ fn lines_that_cross(rt: HostRuntime) -> Result<(), Fail> {
 fn parallel_lines(rt: HostRuntime) -> Result<(), Fail> {
     let g = GState::new();
     let mut zones = crossed(rt.alloc())?;
-    assert_eq!(rt; zones.isect(&g, 7, 0, 1, 4, 5), 0);
+    zones.isect(&g, 7, 0, 1, 4, 5);
     assert_eq!(rt; zones.glyph.point(7), put(place(9, 9), place(35, 67)));
+    assert_eq!(rt; zones.strays, 0);
     Ok(())
 }
 
@@ -179,7 +182,8 @@ fn interpolation_from_one(rt: HostRuntime) -> Result<(), Fail> {
 #[test]
 fn stray_point(rt: HostRuntime) -> Result<(), Fail> {
     let mut zones = square(rt.alloc())?;
-    assert_eq!(rt; zones.mdap(&GState::new(), false, 8), 1);
+    zones.mdap(&GState::new(), false, 8);
+    assert_eq!(rt; zones.strays, 1);
     assert_eq!(rt; look(&zones).touched, [false; 8]);
     Ok(())
 }
@@ -190,15 +194,16 @@ fn square_to_the_grid(rt: HostRuntime) -> Result<(), Fail> {
     let mut g = GState::new();
     g.round_state = RoundState::UpToGrid;
     let mut zones = square(rt.alloc())?;
-    assert_eq!(rt; zones.mdap(&g, false, 0), 0);
-    assert_eq!(rt; zones.mdap(&g, true, 1), 0);
+    zones.mdap(&g, false, 0);
+    zones.mdap(&g, true, 1);
     zones.iup(Axis::X);
     assert_eq!(rt; look(&zones).places, [0, 128, 128, 0, 0, 384, 0, 0]);
-    assert_eq!(rt; zones.utp(&g, 1), 0);
+    zones.utp(&g, 1);
     assert_eq!(rt;
         look(&zones).touched,
         [true, false, false, false, false, false, false, false]
     );
+    assert_eq!(rt; zones.strays, 0);
     Ok(())
 }
 
@@ -210,12 +215,11 @@ fn deltas(rt: HostRuntime) -> Result<(), Fail> {
     };
     let g = GState::new();
     let mut zones = square(rt.alloc())?;
-    assert_eq!(rt;
-        zones.deltap(&g, DeltaForm::First, ppem, &[0x68, 9, 0x78, 1]),
-        0
-    );
+    zones.deltap(&g, DeltaForm::First, ppem, &[0x68, 9, 0x78, 1]);
+    assert_eq!(rt; zones.strays, 0);
     assert_eq!(rt; look(&zones).places, [0, 98, 90, 0, 0, 384, 0, 0]);
-    assert_eq!(rt; zones.deltap(&g, DeltaForm::First, ppem, &[0x78, 9]), 1);
+    zones.deltap(&g, DeltaForm::First, ppem, &[0x78, 9]);
+    assert_eq!(rt; zones.strays, 1);
     assert_eq!(rt;
         look(&zones).touched,
         [false, true, false, false, false, false, false, false]
@@ -233,10 +237,11 @@ fn control_distances(rt: HostRuntime) -> Result<(), Fail> {
         (how.sets_rp0, how.keeps_minimum, how.rounds),
         (true, true, true)
     );
-    assert_eq!(rt; zones.mirp(&g, how, 1, F26(70)), 0);
+    zones.mirp(&g, how, 1, F26(70));
     assert_eq!(rt; look(&zones).places, [0, 64, 90, 0, 0, 384, 0, 0]);
-    assert_eq!(rt; zones.mirp(&g, Relative::of(0xE0), 1, F26(0)), 0);
+    zones.mirp(&g, Relative::of(0xE0), 1, F26(0));
     assert_eq!(rt; look(&zones).places, [0, 0, 90, 0, 0, 384, 0, 0]);
+    assert_eq!(rt; zones.strays, 0);
     Ok(())
 }
 
@@ -245,10 +250,11 @@ fn control_distances(rt: HostRuntime) -> Result<(), Fail> {
 fn control_places(rt: HostRuntime) -> Result<(), Fail> {
     let g = GState::new();
     let mut zones = square(rt.alloc())?;
-    assert_eq!(rt; zones.miap(&g, true, 1, F26(200)), 0);
-    assert_eq!(rt; zones.miap(&g, true, 2, F26(90)), 0);
-    assert_eq!(rt; zones.miap(&g, true, 2, F26(70)), 0);
+    zones.miap(&g, true, 1, F26(200));
+    zones.miap(&g, true, 2, F26(90));
+    zones.miap(&g, true, 2, F26(70));
     assert_eq!(rt; look(&zones).places, [0, 64, 64, 0, 0, 384, 0, 0]);
+    assert_eq!(rt; zones.strays, 0);
     Ok(())
 }
 
@@ -257,10 +263,11 @@ fn control_places(rt: HostRuntime) -> Result<(), Fail> {
 fn twilight_reference(rt: HostRuntime) -> Result<(), Fail> {
     let g = in_twilight();
     let mut zones = square(rt.alloc())?;
-    assert_eq!(rt; zones.miap(&g, false, 0, F26(40)), 0);
-    assert_eq!(rt; zones.mirp(&g, Relative::of(0xE0), 0, F26(64)), 0);
+    zones.miap(&g, false, 0, F26(40));
+    zones.mirp(&g, Relative::of(0xE0), 0, F26(64));
     let point = zones.twilight.point(0);
     assert_eq!(rt; point.map(|p| (p.org.x.0, p.cur.x.0)), Some((104, 168)));
+    assert_eq!(rt; zones.strays, 0);
     Ok(())
 }
 
@@ -269,13 +276,14 @@ fn twilight_reference(rt: HostRuntime) -> Result<(), Fail> {
 fn twilight_places(rt: HostRuntime) -> Result<(), Fail> {
     let g = in_twilight();
     let mut zones = square(rt.alloc())?;
-    assert_eq!(rt; zones.msirp(&g, 1, F26(10)), 0);
+    zones.msirp(&g, 1, F26(10));
     let point = zones.twilight.point(1);
     assert_eq!(rt; point.map(|p| (p.org.x.0, p.cur.x.0)), Some((10, 10)));
-    assert_eq!(rt; zones.scfs(&g, 1, F26(20)), 0);
+    zones.scfs(&g, 1, F26(20));
     let point = zones.twilight.point(1);
     assert_eq!(rt; point.map(|p| (p.org.x.0, p.cur.x.0)), Some((20, 20)));
-    assert_eq!(rt; zones.shc(&g, false, 0), 1);
+    zones.shc(&g, false, 0);
+    assert_eq!(rt; zones.strays, 1);
     Ok(())
 }
 
@@ -285,13 +293,15 @@ fn stray_reference(rt: HostRuntime) -> Result<(), Fail> {
     let mut g = GState::new();
     g.rp2 = 9;
     let mut zones = square(rt.alloc())?;
-    assert_eq!(rt; zones.shp(&g, false, &[8, 2]), 2);
+    zones.shp(&g, false, &[8, 2]);
+    assert_eq!(rt; zones.strays, 2);
     assert_eq!(rt; look(&zones).places, [0, 90, 90, 0, 0, 384, 0, 0]);
     assert_eq!(rt;
         look(&zones).touched,
         [false, false, true, false, false, false, false, false]
     );
-    assert_eq!(rt; zones.shp(&g, false, &[]), 1);
+    zones.shp(&g, false, &[]);
+    assert_eq!(rt; zones.strays, 3);
     Ok(())
 }
 
@@ -301,13 +311,14 @@ fn shifts(rt: HostRuntime) -> Result<(), Fail> {
     let mut g = GState::new();
     g.rp1 = 1;
     let mut zones = square(rt.alloc())?;
-    assert_eq!(rt; zones.shpix(&g, &[1], F26(10)), 0);
-    assert_eq!(rt; zones.shp(&g, true, &[2]), 0);
+    zones.shpix(&g, &[1], F26(10));
+    zones.shp(&g, true, &[2]);
     assert_eq!(rt; look(&zones).places, [0, 100, 100, 0, 0, 384, 0, 0]);
-    assert_eq!(rt; zones.shc(&g, true, 0), 0);
+    zones.shc(&g, true, 0);
     assert_eq!(rt; look(&zones).places, [10, 100, 110, 10, 0, 384, 0, 0]);
-    assert_eq!(rt; zones.shz(&g, true, ZonePointer::Glyph), 0);
+    zones.shz(&g, true, ZonePointer::Glyph);
     assert_eq!(rt; look(&zones).places, [20, 100, 120, 20, 0, 384, 0, 0]);
+    assert_eq!(rt; zones.strays, 0);
     Ok(())
 }
 
@@ -316,17 +327,21 @@ fn shifts(rt: HostRuntime) -> Result<(), Fail> {
 fn distances(rt: HostRuntime) -> Result<(), Fail> {
     let g = GState::new();
     let mut zones = square(rt.alloc())?;
-    assert_eq!(rt; zones.mdrp(&g, Relative::of(0xCC), 1), 0);
+    zones.mdrp(&g, Relative::of(0xCC), 1);
     assert_eq!(rt; look(&zones).places, [0, 64, 90, 0, 0, 384, 0, 0]);
-    assert_eq!(rt; zones.gc(&g, false, 1), (F26(64), 0));
-    assert_eq!(rt; zones.gc(&g, true, 1), (F26(90), 0));
-    assert_eq!(rt; zones.md(&g, false, 1, 0), (F26(64), 0));
-    assert_eq!(rt; zones.md(&g, true, 1, 8), (F26(90), 1));
-    let (line, strays) = zones.line(&g, 2, 1);
+    assert_eq!(rt; zones.gc(&g, false, 1), F26(64));
+    assert_eq!(rt; zones.gc(&g, true, 1), F26(90));
+    assert_eq!(rt; zones.md(&g, false, 1, 0), F26(64));
+    let line = zones.line(&g, 2, 1);
     assert_eq!(rt;
-        (line.org, line.cur, strays),
+        (line.org, line.cur, zones.strays),
         (place(0, 90), place(26, 90), 0)
     );
+    assert_eq!(rt;
+        (zones.md(&g, true, 1, 8), zones.gc(&g, false, 9)),
+        (F26(90), F26(0))
+    );
+    assert_eq!(rt; zones.strays, 2);
     Ok(())
 }
 
@@ -336,9 +351,10 @@ fn proportions(rt: HostRuntime) -> Result<(), Fail> {
     let mut g = GState::new();
     g.rp2 = 1;
     let mut zones = square(rt.alloc())?;
-    assert_eq!(rt; zones.mdrp(&g, Relative::of(0xCC), 1), 0);
-    assert_eq!(rt; zones.ip(&g, &[5, 2]), 0);
+    zones.mdrp(&g, Relative::of(0xCC), 1);
+    zones.ip(&g, &[5, 2]);
     assert_eq!(rt; look(&zones).places, [0, 64, 64, 0, 0, 273, 0, 0]);
+    assert_eq!(rt; zones.strays, 0);
     Ok(())
 }
 
@@ -347,8 +363,9 @@ fn proportions(rt: HostRuntime) -> Result<(), Fail> {
 fn alignments(rt: HostRuntime) -> Result<(), Fail> {
     let g = GState::new();
     let mut zones = square(rt.alloc())?;
-    assert_eq!(rt; zones.alignrp(&g, &[8, 5]), 1);
-    assert_eq!(rt; zones.alignpts(&g, 0, 1), 0);
+    zones.alignrp(&g, &[8, 5]);
+    assert_eq!(rt; zones.strays, 1);
+    zones.alignpts(&g, 0, 1);
     assert_eq!(rt; look(&zones).places, [45, 45, 90, 0, 0, 0, 0, 0]);
     Ok(())
 }
@@ -358,10 +375,12 @@ fn alignments(rt: HostRuntime) -> Result<(), Fail> {
 fn flips(rt: HostRuntime) -> Result<(), Fail> {
     let g = GState::new();
     let mut zones = square(rt.alloc())?;
-    assert_eq!(rt; zones.flippt(&g, &[1, 2, 1, 8]), 1);
-    assert_eq!(rt; zones.fliprg(&g, false, 0, 1), 0);
-    assert_eq!(rt; zones.fliprg(&g, false, 3, 8), 1);
-    assert_eq!(rt; zones.fliprg(&g, true, 3, 0), 0);
+    zones.flippt(&g, &[1, 2, 1, 8]);
+    assert_eq!(rt; zones.strays, 1);
+    zones.fliprg(&g, false, 0, 1);
+    zones.fliprg(&g, false, 3, 8);
+    assert_eq!(rt; zones.strays, 2);
+    zones.fliprg(&g, true, 3, 0);
     assert_eq!(rt;
         look(&zones).on,
         [false, false, false, true, true, true, true, true]

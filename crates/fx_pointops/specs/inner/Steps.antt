@@ -4,13 +4,12 @@ use Rattle.fx_gstate.specs.declared.state.GState.{GState}
 use Rattle.fx_pointops.specs.declared.zones.Zones.{Zones}
 use Rattle.fx_pointops.specs.declared.loops.LoopStep.{LoopStep}
 use Rattle.fx_pointops.specs.declared.loops.LoopStep.TheVariants.{Align, Flip, Shift, Interpolate}
-use Rattle.fx_pointops.specs.Zones.{Outcome}
 use Rattle.fx_pointops.specs.ShiftPoint.{point_shifted}
 use Rattle.fx_pointops.specs.Direct.{aligned_to_rp}
 use Rattle.fx_pointops.specs.Interpolate.{point_in_proportion}
 use Rattle.fx_pointops.specs.Flip.{point_flipped}
 
-abbrev pub steps_of : GState → LoopStep → ℤ → Zones → Outcome
+abbrev pub steps_of : GState → LoopStep → ℤ → Zones → Zones
 steps_of g Align = aligned_to_rp g
 steps_of g Flip = point_flipped g
 steps_of g (Shift by) = point_shifted g by

@@ -1,36 +1,27 @@
-use Rattle.std.proofs.Common.{◌<◌, length, get_or, arith, sym, ◌∙◌}
-use Rattle.std.proofs.lemmas.List.Elements.{All-get_or}
-use Rattle.fx_zone.proofs.Interpolating.{contour_put, contour_empty, contours_done}
+use Rattle.std.proofs.Common.{refl, arith, ◌∙◌}
+use Rattle.fx_zone.specs.Interpolation.{contours_interpolated}
+use Rattle.fx_zone.proofs.Interpolating.{next_first, contour_put, contour_empty}
 use Rattle.fx_zone.proofs.interpolation.interpolate_contours.Goals as goal
 use Rattle.fx_zone.proofs.interpolation.interpolate_contours.Goals.{then-first-past, else-first-past}
+
+pub contours-init : goal.contours-init
+unfolding contours_interpolated
+contours-init c = record { answer = refl; begins = refl }
 
 pub contours-preserved : goal.contours-preserved
 contours-preserved c =
     let i = c.contours.invariant in
-    let long = c.if-first-past.auto.points in
     elim c.if-first-past.branch [
-      | then-first-past w ↦ (
-          let below : get_or c.args.ends.now c.contours.end-index 0 < length c.args.points.now =
-          All-get_or (λ e. e < length c.args.points.now) c.args.ends.now c.contours.end-index 0 (omega arith) c.requires in
-          let within : get_or c.args.ends.now c.contours.end-index 0 < length c.contours.points =
-          omega (arith, below, c.contours.auto.points) in
-          record {
-            answer = rw (w.points-is, w.first-is)
-                (i.answer
-                ∙ contour_put c.args.axis c.contours.first c.args.ends.now c.contours.points _ c.contours.end-index 0
-                (omega arith) w.if-first-past.true within w.interpolate_contour.ensures);
-            within = omega (arith, long, within, w.first-is);
-          }
-          )
+      | then-first-past w ↦ record {
+        answer = w.points-is
+            ∙ contour_put c.args.axis c.args.ends.now c.args.points.now c.contours.points _ c.contours.first c.contours.end-index 0
+            (omega arith) i.begins i.answer w.interpolate_contour.ensures;
+        begins = next_first c.args.ends.now c.contours.end-index _ w.first-is;
+      }
       | else-first-past w ↦ record {
-        answer = rw (w.points-is, w.first-is)
-            (i.answer
-            ∙ contour_empty c.args.axis c.contours.first c.args.ends.now c.contours.points c.contours.end-index 0
-            (omega arith) w.if-first-past.false);
-        within = omega (arith, long, i.within, w.first-is);
+        answer = w.points-is
+            ∙ contour_empty c.args.axis c.args.ends.now c.args.points.now c.contours.points c.contours.first c.contours.end-index 0
+            (omega arith) i.begins (omega (arith, w.if-first-past.false)) i.answer;
+        begins = next_first c.args.ends.now c.contours.end-index _ w.first-is;
       }
     ]
-
-pub returns : goal.returns
-returns c = sym (contours_done c.args.axis c.contours.first c.contours.end-index c.args.ends.now c.contours.points (omega arith))
-    ∙ sym c.contours.invariant.answer

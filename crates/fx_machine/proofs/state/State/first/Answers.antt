@@ -3,4 +3,11 @@ use Rattle.fx_machine.proofs.state.State.first.Goals as goal
 
 pub returns : goal.returns
 returns c =
-    rw (c.in_ok-store.ensures, c.in_ok-twilight.ensures, c.in_ok-definitions.ensures, c.new.ensures, c.new-2.ensures, c.maxp.ensures.value) refl
+    rw (
+      c.in_ok-store.ensures,
+      c.in_ok-twilight.ensures,
+      c.in_ok-definitions.ensures,
+      c.new.ensures,
+      c.new-2.ensures,
+      c.maxp.ensures.value,
+    ) refl

@@ -7,17 +7,15 @@ use Rattle.fx_pointops.proofs.zones.Zones.each.Goals as goal
 pub points-preserved : goal.points-preserved
 points-preserved c =
     let i = c.points.invariant in
-    let s = c.step-strays.ensures in
     let fits : FitsSigned w32 (get_or c.args.points.now (c.points.left - 1) (pos 0)) = search rules in
     record {
-      answer = loop_next (steps_of c.args.g.now c.args.step.now) c.args.points.now c.points.self c.step-strays.new.self c.points.left
-          c.step-strays.result c.points.strays _ _ (omega arith) i.within (to_z-of_z fits) s.value i.answer;
+      answer = loop_next (steps_of c.args.g.now c.args.step.now) c.args.points.now c.points.self c.step.new.self c.points.left
+          _ _ (omega arith) i.within (to_z-of_z fits) c.step.ensures.value i.answer;
       within = omega arith;
-      few = omega (arith, i.few, s.few);
       shapes = search rules;
     }
 
 pub returns-clause-value : goal.returns-clause-value
 returns-clause-value c =
-    loop_done (steps_of c.args.g.now c.args.step.now) c.args.points.now c.points.self c.points.left c.points.strays _ (omega arith)
+    loop_done (steps_of c.args.g.now c.args.step.now) c.args.points.now c.points.self c.points.left _ (omega arith)
     c.points.invariant.answer

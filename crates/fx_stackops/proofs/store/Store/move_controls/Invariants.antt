@@ -1,6 +1,6 @@
 use Rattle.std.proofs.Common.{◌≡◌, ◌≤◌, ◌*◌, length}
 use Rattle.fx_stackops.specs.Store.{HasSizes}
-use Rattle.fx_stackops.specs.Rows.{control_pairs}
+use Rattle.fx_stackops.specs.inner.Pairs.{control_pairs}
 use Rattle.fx_stackops.proofs.store.Store.move_controls.Given as goal
 
 -- the pairs that are left give the result

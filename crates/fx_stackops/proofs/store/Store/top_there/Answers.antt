@@ -1,0 +1,17 @@
+use Rattle.std.proofs.Common.{◌≡◌, ◌≤◌, length, take, reverse, arith}
+use Rattle.std.proofs.lemmas.List.{length-reverse, length-take-le}
+use Rattle.fx_stackops.proofs.Stacks.{top_at}
+use Rattle.fx_stackops.proofs.store.Store.top_there.Goals as goal
+
+pub returns : goal.returns
+returns c =
+    let used : c.self.inside.depth ≤ length c.self.inside.cells = c.self.invariant.0 in
+    let long : length (reverse (take c.self.inside.depth c.self.inside.cells)) ≡ c.self.inside.depth =
+    omega (
+      arith,
+      length-reverse (take c.self.inside.depth c.self.inside.cells),
+      length-take-le c.self.inside.depth c.self.inside.cells used,
+    )
+    in
+    let there : c.args.count ≤ c.self.inside.depth = omega (arith, long, rw (← c.self.view_is) at c.requires) in
+    rw (← c.self.view_is, c.numbers.ensures) (top_at c.self.inside.cells c.self.inside.depth c.args.count there used)
