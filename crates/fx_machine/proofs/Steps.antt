@@ -55,7 +55,7 @@ module _ (row : Program → ℕ → State → Effect) where
 
   -- ---- from runs to the function
 
-  -- so many instructions lead from one configuration to another
+  -- n instructions lead from one configuration to another
   record Skips (c : Config) (n : ℕ) (d : Config) : Type 0 where
     pub skips : (k m : ℕ) → go (n + k) m c ≡ go k (n + m) d
 
@@ -136,7 +136,7 @@ module _ (row : Program → ℕ → State → Effect) where
       → moved_by (Calls k f next t) K w ≡ Stops CallDepth
   deep K w k f next t h = rw (le-ltb (length K) CALL_LIMIT h) refl
 
-  -- a run is so many steps of the function, within any open calls
+  -- a run of n instructions is n steps of the function, within any open calls
   comes_of : {w : Program} {st : Start} {d n : ℕ} {s u : State} {how : How} → Runs row w st d s n u how
       → (K : List Frame) → length K ≡ d → Comes (begun st K w s) n K u how
   unfolding Comes begun
@@ -226,7 +226,7 @@ module _ (row : Program → ℕ → State → Effect) where
   leads (g ∷ K) w p s (Returns t) e =
       λ n u how r. inr (1, n, t, returns e, rest_turned g.left g.function g.next K g.program t n u how r, sym (one-add n))
 
-  -- what a verdict comes from, where so many more instructions may be executed, after so many
+  -- what a verdict comes from, where `left` more instructions may be executed, after n
   data Came (left : ℕ) (c : Config) (n : ℕ) : Verdict → Type 0 where
     came_end : (k : ℕ) (u : State) → k ≤ left → Left c k u Ended → Came left c n (Finished (k + n) u)
     came_fault : (k : ℕ) (u : State) {x : Cause} {v : Program} {p : ℕ} → k < left → Left c k u (Faulted x v p)
