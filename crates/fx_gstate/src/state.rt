@@ -396,7 +396,7 @@ impl GState {
         self.round_state = RoundState::Super(super_grid(n));
     }
 
-    /// S45ROUND: the same for a grid turned by 45 degrees.
+    /// S45ROUND: rounding to the grid turned by 45 degrees that the low byte of a stack number names.
     pub fn set_super_round_45(&mut self, n: i32)
         ensures { self.new ≡ record self.old { round_state = Super (super_grid_of 45 n) } }
     {

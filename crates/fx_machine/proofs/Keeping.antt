@@ -1,23 +1,18 @@
 -- No row changes the number of points or the contours.
 -- It serves the law that programs keep shapes, over definitions, and the same clause of each instruction and run in code.
-use Rattle.std.proofs.Common.{◌≡◌, ℕ, zero, suc, ℤ, pos, negsuc, ◌*◌, ◌+ℤ◌, List, [], ◌∷◌, length, reverse, Bool, true, false}
+use Rattle.std.proofs.Common.{◌≡◌, ℕ, zero, suc, ℤ, pos, negsuc, ◌+ℤ◌, List, [], ◌∷◌, length, reverse, Bool, true, false}
 use Rattle.std.proofs.Common.{Option, Some, None, Result, Ok, Err, refl, ◌∙◌, if◌then◌else◌}
-use Rattle.std.specs.Prelude.{OnErr, nat_lt, nat_le, int_lt, unsigned_abs}
+use Rattle.std.specs.Prelude.{OnErr, nat_lt, nat_le}
 use Rattle.std.specs.Ordering.{int_eq}
 use Rattle.fx_fixed.specs.declared.places.Axis.{Axis}
-use Rattle.fx_fixed.specs.Chain.{◌>>=◌, refuse, map_fault}
+use Rattle.fx_fixed.specs.Chain.{◌>>=◌, map_fault}
 use Rattle.fx_code.specs.declared.fault.CodeFault.{CodeFault}
 use Rattle.fx_gstate.specs.declared.deltas.DeltaForm.{DeltaForm}
-use Rattle.fx_gstate.specs.declared.fault.BadArgument.{BadArgument as BadArgumentOf}
 use Rattle.fx_gstate.specs.declared.state.GState.{GState}
-use Rattle.fx_gstate.specs.declared.rounding.RoundState.TheVariants.{Super}
 use Rattle.fx_gstate.specs.States.{zone_of}
-use Rattle.fx_gstate.specs.Vectors.{line_of, words_of}
-use Rattle.fx_gstate.specs.Rounding.{super_grid_of}
-use Rattle.fx_gstate.specs.Setters.{with_zp0, with_zp1, with_zp2, with_zones, with_loop, with_delta_shift}
-use Rattle.fx_scale.specs.Scaling.{scaled_by}
+use Rattle.fx_gstate.specs.Vectors.{line_of}
 use Rattle.fx_stackops.specs.declared.fault.StackFault.{StackFault}
-use Rattle.fx_stackops.specs.Store.{StoreView, one, two, three, top_numbers, delta_pairs, pushed}
+use Rattle.fx_stackops.specs.Store.{StoreView, one, two, three, top_numbers, delta_pairs}
 use Rattle.fx_pointops.specs.declared.distances.Relative.{Relative}
 use Rattle.fx_pointops.specs.declared.measure.Line.{Line}
 use Rattle.fx_pointops.specs.declared.zones.Zones.{Zones}
@@ -34,7 +29,7 @@ use Rattle.fx_pointops.proofs.Keeping.{fliprg_keeps, deltap_keeps, iup_keeps, gc
 use Rattle.fx_machine.specs.declared.program.Program.{Program}
 use Rattle.fx_machine.specs.declared.definitions.Function.{Function}
 use Rattle.fx_machine.specs.declared.halt.Cause.{Cause}
-use Rattle.fx_machine.specs.declared.halt.Cause.TheVariants.{NoFunction, BadArgument}
+use Rattle.fx_machine.specs.declared.halt.Cause.TheVariants.{NoFunction}
 use Rattle.fx_machine.specs.declared.frames.Frame.{Frame}
 use Rattle.fx_machine.specs.declared.action.Action.{Action}
 use Rattle.fx_machine.specs.declared.action.Action.TheVariants.{Went, Called, Returned}
@@ -230,7 +225,8 @@ scfs_row_keeps s = two_points_keep scfs_of scfs_keeps s
 
 md_row_keeps : (original : Bool) (s : State) → Plain s.zones (md_row original s)
 unfolding md_row Plain
-md_row_keeps original s = plain_bind s.zones (map_fault of_stack (two s.store)) _ (λ x. md_keeps s.graphics original x.0 x.1 s.zones)
+md_row_keeps original s =
+    plain_bind s.zones (map_fault of_stack (two s.store)) _ (λ x. md_keeps s.graphics original x.0 x.1 s.zones)
 
 deltap_row_keeps : (form : DeltaForm) (s : State) → Plain s.zones (deltap_row form s)
 unfolding deltap_row Plain
@@ -274,7 +270,8 @@ opcodes_1x_keep op s = search (plain_if s.zones, fault_keeps, graphics_keeps, bo
 
 opcodes_2x_keep : (op : ℕ) (s : State) → Plain s.zones (opcodes_2x op s)
 unfolding opcodes_2x
-opcodes_2x_keep op s = search (plain_if s.zones, fault_keeps, store_keeps, alignpts_row_keeps, utp_row_keeps, mdap_row_keeps) depth 40 fits 8000
+opcodes_2x_keep op s =
+    search (plain_if s.zones, fault_keeps, store_keeps, alignpts_row_keeps, utp_row_keeps, mdap_row_keeps) depth 40 fits 8000
 
 opcodes_3x_keep : (op : ℕ) (s : State) → Plain s.zones (opcodes_3x op s)
 unfolding opcodes_3x
@@ -296,7 +293,15 @@ opcodes_3x_keep op s = search (
 opcodes_4x_keep : (op : ℕ) (s : State) → Plain s.zones (opcodes_4x op s)
 unfolding opcodes_4x
 opcodes_4x_keep op s =
-    search (plain_if s.zones, fault_keeps, graphics_keeps, store_keeps, gc_row_keeps, scfs_row_keeps, md_row_keeps) depth 40 fits 8000
+    search (
+      plain_if s.zones,
+      fault_keeps,
+      graphics_keeps,
+      store_keeps,
+      gc_row_keeps,
+      scfs_row_keeps,
+      md_row_keeps,
+    ) depth 40 fits 8000
 
 opcodes_5x_keep : (op : ℕ) (s : State) → Plain s.zones (opcodes_5x op s)
 unfolding opcodes_5x
@@ -314,7 +319,15 @@ opcodes_7x_keep op s =
 opcodes_8x_keep : (op : ℕ) (s : State) → Plain s.zones (opcodes_8x op s)
 unfolding opcodes_8x
 opcodes_8x_keep op s =
-    search (plain_if s.zones, fault_keeps, store_keeps, flippt_row_keeps, fliprg_row_keeps, sdpvtl_keeps, instctrl_keeps) depth 40 fits 8000
+    search (
+      plain_if s.zones,
+      fault_keeps,
+      store_keeps,
+      flippt_row_keeps,
+      fliprg_row_keeps,
+      sdpvtl_keeps,
+      instctrl_keeps,
+    ) depth 40 fits 8000
 
 relative_keeps : (op : ℕ) (s : State) → Plain s.zones (relative_row op s)
 unfolding relative_row
@@ -366,8 +379,7 @@ times_keeps (negsuc n) f next z t h = h
 
 if_keeps : (code : List ℕ) (next : ℕ) (s : State) → Acts s.zones (if_row code next s)
 unfolding if_row Acts
-if_keeps code next s =
-    search (acts_if s.zones, acts_bind s.zones, shapes_same s.zones, led_keeps, jumped_keeps, called_keeps, times_keeps)
+if_keeps code next s = search (acts_if s.zones, acts_bind s.zones, shapes_same s.zones)
 
 jmpr_keeps : (size address : ℕ) (s : State) → Acts s.zones (jmpr_row size address s)
 unfolding jmpr_row
@@ -414,18 +426,15 @@ loopcall_keeps next s =
 
 fdef_keeps : (code : List ℕ) (w : Program) (next : ℕ) (s : State) → Acts s.zones (fdef_row code w next s)
 unfolding fdef_row Acts
-fdef_keeps code w next s =
-    search (acts_if s.zones, acts_bind s.zones, shapes_same s.zones, led_keeps, jumped_keeps, called_keeps, times_keeps)
+fdef_keeps code w next s = search (acts_bind s.zones, shapes_same s.zones)
 
 idef_keeps : (code : List ℕ) (w : Program) (next : ℕ) (s : State) → Acts s.zones (idef_row code w next s)
 unfolding idef_row Acts
-idef_keeps code w next s =
-    search (acts_if s.zones, acts_bind s.zones, shapes_same s.zones, led_keeps, jumped_keeps, called_keeps, times_keeps)
+idef_keeps code w next s = search (acts_bind s.zones, shapes_same s.zones)
 
 undefined_keeps : (op next : ℕ) (s : State) → Acts s.zones (undefined_row op next s)
 unfolding undefined_row Acts
-undefined_keeps op next s =
-    search (acts_if s.zones, acts_bind s.zones, shapes_same s.zones, led_keeps, jumped_keeps, called_keeps, times_keeps)
+undefined_keeps op next s = search (called_keeps, shapes_same s.zones)
 
 returned_keeps : (z : Zones) (t : State) → HasShapes z t.zones → Acts z (Ok (Returned, t))
 unfolding Acts

@@ -136,7 +136,7 @@ module _ (row : Program → ℕ → State → Effect) where
       → moved_by (Calls k f next t) K w ≡ Stops CallDepth
   deep K w k f next t h = rw (le-ltb (length K) CALL_LIMIT h) refl
 
-  -- a run is n steps of the function, within any open calls
+  -- a run of n instructions is n steps of the function, within any open calls
   comes_of : {w : Program} {st : Start} {d n : ℕ} {s u : State} {how : How} → Runs row w st d s n u how
       → (K : List Frame) → length K ≡ d → Comes (begun st K w s) n K u how
   unfolding Comes begun

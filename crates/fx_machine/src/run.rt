@@ -51,6 +51,7 @@ pub fn run(
     };
     let mut code = programs.code(start);
     let mut steps: u32 = 0;
+    // The program's result is what comes of the cursor, the calls and the state after `steps` instructions.
     'steps: loop {
         let ended = cursor.address == code.len();
         if ended && calls.frames.is_empty() {

@@ -29,12 +29,14 @@ module _ (form : DeltaForm) (g : GState) (ppem : ℕ) where
       ≡ each_pair (control_delta form g ppem) (take (2 * n) s.stack) (with_stack (drop (2 * n) s.stack) s)
   unfolding control_pairs
   as_popped n s =
-      ap (λ xs. each_pair (control_delta form g ppem) xs (with_stack (drop (2 * n) s.stack) s)) (reverse-reverse (take (2 * n) s.stack))
+      ap (λ xs. each_pair (control_delta form g ppem) xs (with_stack (drop (2 * n) s.stack) s))
+      (reverse-reverse (take (2 * n) s.stack))
 
   rest_same : (i a : ℤ) (rest : List ℤ) (s : StoreView) (m : ℕ)
       → each_pair (control_delta form g ppem) (take m rest) (control_delta form g ppem i a (with_stack (drop m rest) s))
       ≡ each_pair (control_delta form g ppem) (take m (control_delta form g ppem i a (with_stack rest s)).stack)
-      (with_stack (drop m (control_delta form g ppem i a (with_stack rest s)).stack) (control_delta form g ppem i a (with_stack rest s)))
+      (with_stack (drop m (control_delta form g ppem i a (with_stack rest s)).stack)
+      (control_delta form g ppem i a (with_stack rest s)))
   rest_same i a rest s m =
       rw (delta_stack form g ppem i a rest s, delta_stack form g ppem i a (drop m rest) s) refl
 

@@ -81,6 +81,7 @@ impl Table {
             ≡ take from self.old ++ numbers instr.now.opcode instr.now.pushed.now }
         ensures size { length self.new ≡ length self.old }
     {
+        // For the prover: how many cells there are.
         let _room = self.len();
         // Fields that stay in registers: for the compiler, the cells may lie where the instruction does.
         let instr = Instr {

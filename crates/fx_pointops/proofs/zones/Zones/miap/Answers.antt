@@ -6,4 +6,5 @@ use Rattle.fx_pointops.proofs.zones.Zones.miap.Goals as goal
 pub returns-clause-value : goal.returns-clause-value
 unfolding miap_of
 returns-clause-value c =
-    point_is _ _ _ _ _ _ _ _ (to_z-of_z c.ranges.p) c.in-Some.ensures (rw c.laid_along-point.ensures at c.moved_to_coordinate.ensures) c.set.ensures.value
+    point_is _ _ _ _ _ _ _ _ (to_z-of_z c.ranges.p) c.in-Some.ensures
+    (rw c.laid_along-point.ensures at c.moved_to_coordinate.ensures) c.set.ensures.value
