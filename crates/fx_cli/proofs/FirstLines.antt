@@ -19,7 +19,8 @@ use Rattle.fx_cli.specs.Limits.{max_line}
 use Rattle.fx_cli.specs.declared.done.Done.{Done}
 use Rattle.fx_cli.specs.declared.fault.Fault.{Fault}
 use Rattle.fx_cli.specs.declared.fault.Fault.TheVariants.{Usage, Early, Late}
-use Rattle.fx_cli.specs.Arguments.{WishView, texts, wish_of_arguments}
+use Rattle.fx_cli.specs.Arguments.{command_of, texts}
+use Rattle.fx_cli.specs.Commands.{CommandView, Refuses}
 use Rattle.fx_cli.specs.ReadAhead.{ahead_of}
 use Rattle.fx_cli.specs.Input.{line_of, rest_of, arguments_of_line}
 use Rattle.fx_cli.specs.Runs.{AreArguments, AreArgumentsBy, Ends, HasLine, IsReadForArguments, IsReason, IsSpared}
@@ -123,12 +124,12 @@ abbrev pub from_start : Option (List ℕ) → ℕ → Change → Change
 from_start before faults_before source = record source { bytes_before = before; faults_before = faults_before }
 
 does : {given : List Text} {first : List ℕ} {before : Option (List ℕ)} {arguments : List Text}
-    (faults_before : ℕ) (wish : WishView) (source sink : Change) (answer : Result Done Refusal)
+    (faults_before : ℕ) (command : CommandView) (source sink : Change) (answer : Result Done Refusal)
     → faults_before ≡ source.faults_before
-    → IsFirst given first before source.bytes_before arguments → wish_of_arguments arguments ≡ Some wish
-    → DoesAfter wish (ahead_of first) source sink answer
+    → IsFirst given first before source.bytes_before arguments → command_of arguments ≡ Ok command
+    → DoesAfter command (ahead_of first) source sink answer
     → Does given (from_start before faults_before source) sink answer
-does {given} {first} {before} {arguments} faults_before wish source sink answer same f asks m = record {
+does {given} {first} {before} {arguments} faults_before command source sink answer same f asks m = record {
   input = first ++ m.more;
   read = Consumes-trans before source.bytes_before source.bytes first m.more f.read m.read;
   whole = m.whole;
@@ -136,67 +137,57 @@ does {given} {first} {before} {arguments} faults_before wish source sink answer 
   fits = omega (arith, m.fits, ahead_size first, length-append first m.more, length-append (rest_of first) m.more);
   arguments = arguments;
   are = are_arguments m.more source.bytes f (λ e. (m.rest e, m.whole));
-  wish = wish;
+  command = command;
   asks = asks;
-  job = m.job;
-  readable = m.readable;
   font = m.made.font;
-  decoded = ap (font_bytes wish.hex) (text_is m.more f m.rest) ∙ m.made.decoded;
+  decoded = ap (font_bytes command.hex) (text_is m.more f m.rest) ∙ m.made.decoded;
   leaves = m.made.leaves;
 }
 
 reasons : {given : List Text} {first : List ℕ} {before : Option (List ℕ)} {arguments : List Text}
-    (faults_before : ℕ) (wish : WishView) (source : Change) (more : List ℕ) → faults_before ≡ source.faults_before
-    → IsFirst given first before source.bytes_before arguments → wish_of_arguments arguments ≡ Some wish
+    (faults_before : ℕ) (command : CommandView) (source : Change) (more : List ℕ) → faults_before ≡ source.faults_before
+    → IsFirst given first before source.bytes_before arguments → command_of arguments ≡ Ok command
     → ((ahead_of first).ended ≡ true → (more ≡ []) × IsAtEnd source.bytes) → (refusal : Refusal)
-    → IsReasonAfter wish (ahead_of first) more source refusal
+    → IsReasonAfter command (ahead_of first) more source refusal
     → IsReason given (first ++ more) (from_start before faults_before source) (Early refusal)
-reasons {given = given} {first = first} {before = before} {arguments = arguments} faults_before wish source more same f asks rest
-    BadChars h = (
-      (arguments, wish, are_arguments more source.bytes f rest, asks, h.0),
-      for_line given (first ++ more) (from_start before faults_before source) f.none
-          (omega (arith, length-append first more, ap length h.1, f.few)) (h.2.1 ∙ sym same),
-    )
-reasons faults_before wish source more same f asks rest ReadFailed h = h ∙ ap (λ (n : ℕ). n + 1) (sym same)
-reasons {arguments = arguments} faults_before wish source more same f asks rest BadHex h = (
+reasons faults_before command source more same f asks rest ReadFailed h = h ∙ ap (λ (n : ℕ). n + 1) (sym same)
+reasons {arguments = arguments} faults_before command source more same f asks rest BadHex h = (
   h.0,
   (
     arguments,
-    wish,
     are_arguments more source.bytes f rest,
-    asks,
-    ap (font_bytes wish.hex) (text_is more f (λ e. (rest e).0)) ∙ h.1,
+    (command, asks, ap (font_bytes command.hex) (text_is more f (λ e. (rest e).0)) ∙ h.1),
   ),
 )
-reasons {first = first} faults_before wish source more same f asks rest InputTooLarge h =
+reasons {first = first} faults_before command source more same f asks rest InputTooLarge h =
     omega (arith, h, ahead_size first, length-append first more, length-append (rest_of first) more)
-reasons faults_before wish source more same f asks rest OutOfMemory h = tt
-reasons faults_before wish source more same f asks rest _ h = absurd h
+reasons faults_before command source more same f asks rest OutOfMemory h = tt
+reasons faults_before command source more same f asks rest _ h = absurd h
 
 stops : {given : List Text} {first : List ℕ} {before : Option (List ℕ)} {arguments : List Text}
-    (faults_before : ℕ) (wish : WishView) (source sink : Change) (refusal : Refusal) → faults_before ≡ source.faults_before
-    → IsFirst given first before source.bytes_before arguments → wish_of_arguments arguments ≡ Some wish
-    → StopsAfter wish (ahead_of first) source sink refusal
+    (faults_before : ℕ) (command : CommandView) (source sink : Change) (refusal : Refusal) → faults_before ≡ source.faults_before
+    → IsFirst given first before source.bytes_before arguments → command_of arguments ≡ Ok command
+    → StopsAfter command (ahead_of first) source sink refusal
     → Stops given (from_start before faults_before source) sink (Early refusal)
-stops {given} {first} {before} {arguments} faults_before wish source sink refusal same f asks s = record {
+stops {given} {first} {before} {arguments} faults_before command source sink refusal same f asks s = record {
   got = first ++ s.more;
   read = Consumes-trans before source.bytes_before source.bytes first s.more f.read s.read;
   spared = s.spared;
-  reason = reasons faults_before wish source s.more same f asks s.rest refusal s.reason;
+  reason = reasons faults_before command source s.more same f asks s.rest refusal s.reason;
 }
 
 -- the run after the line ends the run
 pub line_ends : {given : List Text} {first : List ℕ} {before : Option (List ℕ)} {arguments : List Text}
-    (faults_before : ℕ) (wish : WishView) (source sink : Change) → faults_before ≡ source.faults_before
-    → IsFirst given first before source.bytes_before arguments → wish_of_arguments arguments ≡ Some wish
-    → (outcome : Result Done Fault) → EndsAfter wish (ahead_of first) source sink outcome
+    (faults_before : ℕ) (command : CommandView) (source sink : Change) → faults_before ≡ source.faults_before
+    → IsFirst given first before source.bytes_before arguments → command_of arguments ≡ Ok command
+    → (outcome : Result Done Fault) → EndsAfter command (ahead_of first) source sink outcome
     → Ends given (from_start before faults_before source) sink outcome
-line_ends faults_before wish source sink same f asks (Ok done) m = does faults_before wish source sink (Ok done) same f asks m
-line_ends faults_before wish source sink same f asks (Err (Late refusal)) m =
-    does faults_before wish source sink (Err refusal) same f asks m
-line_ends faults_before wish source sink same f asks (Err (Early refusal)) s =
-    stops faults_before wish source sink refusal same f asks s
-line_ends faults_before wish source sink same f asks (Err Usage) s = absurd s
+line_ends faults_before command source sink same f asks (Ok done) m = does faults_before command source sink (Ok done) same f asks m
+line_ends faults_before command source sink same f asks (Err (Late refusal)) m =
+    does faults_before command source sink (Err refusal) same f asks m
+line_ends faults_before command source sink same f asks (Err (Early refusal)) s =
+    stops faults_before command source sink refusal same f asks s
+line_ends faults_before command source sink same f asks (Err Usage) s = absurd s
 
 -- a line whose arguments are invalid
 pub is_usage : (given : List Text) (got : List ℕ) (left : Option (List ℕ)) → has_arguments given ≡ false
@@ -213,22 +204,30 @@ pub line_read : (first : List ℕ) (left : Option (List ℕ)) → (position_or_l
 line_read first left (inl h) = inl (omega (arith, length-line_of first))
 line_read first left (inr h) = inr h
 
--- the arguments were not read, or are invalid
-pub unread : (given : List Text) (source sink : Change) (got : List ℕ) (fault : Fault) → has_arguments given ≡ false
+-- the arguments of a line are refused
+pub unread : (given : List Text) (source sink : Change) (got : List ℕ) → has_arguments given ≡ false
     → length got ≤ max_line + 1 → source.faults ≡ source.faults_before → Consumes source.bytes_before source.bytes got
-    → IsSpared sink → (fault ≡ Early OutOfMemory) ⊎ ((fault ≡ Usage) × IsUsageBy false given got source.bytes)
+    → IsSpared sink → HasLine got source.bytes → IsUtf8 (line_of got) → length (line_of got) ≤ max_line
+    → (fault : Fault) → Refuses fault (command_of (called given ∷ arguments_of_line (line_of got)))
     → Ends given source sink (Err fault)
-unread given source sink got fault none few quiet read spared (inl e) =
-    let P : Fault → Type 0 = λ f. Ends given source sink (Err f) in
-    subst P (sym e) (record { got = got; read = read; spared = spared; reason = tt })
-unread given source sink got fault none few quiet read spared (inr (e, usage)) =
-    let P : Fault → Type 0 = λ f. Ends given source sink (Err f) in
-    subst P (sym e) (record {
+unread given source sink got none few quiet read spared line utf8 short (Early OutOfMemory) h =
+    record { got = got; read = read; spared = spared; reason = tt }
+unread given source sink got none few quiet read spared line utf8 short (Early BadChars) h =
+    let arguments = called given ∷ arguments_of_line (line_of got) in
+    let P : Bool → Type 0 = λ b. AreArgumentsBy b given got source.bytes arguments in
+    record {
       got = got;
       read = read;
       spared = spared;
-      reason = (is_usage given got source.bytes none usage, for_line given got source none few quiet);
-    })
+      reason = ((arguments, subst P (sym none) (line, utf8, short, refl), h), for_line given got source none few quiet);
+    }
+unread given source sink got none few quiet read spared line utf8 short Usage h = record {
+  got = got;
+  read = read;
+  spared = spared;
+  reason = (is_usage given got source.bytes none (inr (line, inr h)), for_line given got source none few quiet);
+}
+unread given source sink got none few quiet read spared line utf8 short _ h = absurd h
 
 pub keeps_same : (o : Option (List ℕ)) → Keeps o o
 keeps_same None = tt
@@ -245,26 +244,28 @@ reads_none : (o : Option (List ℕ)) → Consumes o o []
 reads_none None = tt
 reads_none (Some xs) = refl
 
--- nothing was read, and they are invalid
-pub unasked : (given : List Text) (source sink : Change) (fault : Fault) → has_arguments given ≡ true → IsUnread source
+-- nothing was read, and they are refused
+pub unasked : (given : List Text) (source sink : Change) → has_arguments given ≡ true → IsUnread source
     → (sink.bytes ≡ sink.bytes_before) × (sink.faults ≡ sink.faults_before)
-    → (fault ≡ Early OutOfMemory) ⊎ ((fault ≡ Usage) × (wish_of_arguments given ≡ None)) → Ends given source sink (Err fault)
-unasked given source sink fault some same untouched why =
+    → (fault : Fault) → Refuses fault (command_of given) → Ends given source sink (Err fault)
+unasked given source sink some same untouched fault why =
     let P : Option (List ℕ) → Type 0 = λ o. Consumes source.bytes_before o [] in
     let Q : Option (List ℕ) → Type 0 = λ o. Keeps sink.bytes_before o in
     let read : Consumes source.bytes_before source.bytes [] = subst P (sym same.0) (reads_none source.bytes_before) in
     let spared : IsSpared sink = (subst Q (sym untouched.0) (keeps_same sink.bytes_before), untouched.1) in
-    let E : Fault → Type 0 = λ f. Ends given source sink (Err f) in
-    let U : Bool → Type 0 = λ b. IsUsageBy b given [] source.bytes × IsReadForArguments b [] source in
-    elim why [
-      | inl e ↦ subst E (sym e) (record { got = []; read = read; spared = spared; reason = tt })
-      | inr (e, none) ↦ subst E (sym e) (record {
-        got = [];
-        read = read;
-        spared = spared;
-        reason = subst U (sym some) (none, same);
-      })
-    ]
+    by read spared fault why
+  where
+    by : Consumes source.bytes_before source.bytes [] → IsSpared sink → (fault : Fault) → Refuses fault (command_of given)
+        → Ends given source sink (Err fault)
+    by read spared (Early OutOfMemory) h = record { got = []; read = read; spared = spared; reason = tt }
+    by read spared (Early BadChars) h =
+        let P : Bool → Type 0 = λ b. AreArgumentsBy b given [] source.bytes given × IsReadForArguments b [] source in
+        let p = subst P (sym some) (refl, same) in
+        record { got = []; read = read; spared = spared; reason = ((given, p.0, h), p.1) }
+    by read spared Usage h =
+        let U : Bool → Type 0 = λ b. IsUsageBy b given [] source.bytes × IsReadForArguments b [] source in
+        record { got = []; read = read; spared = spared; reason = subst U (sym some) (h, same) }
+    by read spared _ h = absurd h
 
 -- a source or a sink that was not used
 abbrev pub unchanged : Option (List ℕ) → ℕ → Change

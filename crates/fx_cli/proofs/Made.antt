@@ -7,18 +7,19 @@ use Rattle.fx_request.specs.declared.refusal.Refusal.{Refusal}
 use Rattle.fx_fixed.specs.Changes.{Change}
 use Rattle.fx_cli.specs.declared.done.Done.{Done}
 use Rattle.fx_cli.specs.declared.fault.Fault.TheVariants.{Late}
-use Rattle.fx_cli.specs.Jobs.{JobView}
+use Rattle.fx_cli.specs.Commands.{CommandView}
 use Rattle.fx_cli.specs.Input.{has_bytes, arguments_of_line}
 use Rattle.fx_cli.specs.Parts.{parts_of}
-use Rattle.fx_cli.specs.Runs.{JobLeaves, font_bytes}
+use Rattle.fx_cli.specs.Runs.{TaskLeaves, font_bytes}
 use Rattle.clap.specs.Walk.{Text}
 use Rattle.fx_cli.specs.Steps.{EndsText}
 
 -- what comes of a font's bytes ends the run
-pub text_done : (job : JobView) (hex : Bool) (text : List ℕ) (sink : Change) (font : List ℕ) → font_bytes hex text ≡ Some font
-    → (answer : Result Done Refusal) → JobLeaves job font sink answer → EndsText job hex text sink (map_fault Late answer)
-text_done job hex text sink font decoded (Ok done) leaves = record { font = font; decoded = decoded; leaves = leaves }
-text_done job hex text sink font decoded (Err refusal) leaves = record { font = font; decoded = decoded; leaves = leaves }
+pub text_done : (command : CommandView) (text : List ℕ) (sink : Change) (font : List ℕ) → font_bytes command.hex text ≡ Some font
+    → (answer : Result Done Refusal) → TaskLeaves command.task font sink answer
+    → EndsText command text sink (map_fault Late answer)
+text_done command text sink font decoded (Ok done) leaves = record { font = font; decoded = decoded; leaves = leaves }
+text_done command text sink font decoded (Err refusal) leaves = record { font = font; decoded = decoded; leaves = leaves }
 
 -- ---- the arguments of a line
 

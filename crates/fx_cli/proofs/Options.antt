@@ -1,12 +1,13 @@
 -- The options of the commands, as clap sees them.
 -- Serves the arguments of the commands: `read_make`, `read_show`, `read_dump`, `size_of`.
 use Rattle.std.proofs.Common.{◌≡◌, ◌∙◌, ℕ, ◌<◌, List, [], ◌∷◌, length, refl, sym, ap, ap₂, Option, Some, None, Bool, true, false}
-use Rattle.std.proofs.Common.{Result, Ok, Err, ◌&&◌, ◌||◌, subst, ◌⊎◌, inr, IfOk, IfErr, option_map, option_and_then}
-use Rattle.std.specs.Option.{ok_or}
-use Rattle.fx_request.specs.declared.refusal.Refusal.TheVariants.{OutOfMemory}
+use Rattle.std.proofs.Common.{Result, Ok, Err, ◌&&◌, ◌||◌, subst, ◌⊎◌, inl, inr}
+use Rattle.fx_fixed.specs.Chain.{◌>>=◌, GivesUnless, wanted}
+use Rattle.fx_request.specs.declared.refusal.Refusal.{Refusal}
+use Rattle.fx_request.specs.declared.refusal.Refusal.TheVariants.{BadChars, OutOfMemory}
 use Rattle.fx_cli.specs.declared.fault.Fault.{Fault}
 use Rattle.fx_cli.specs.declared.fault.Fault.TheVariants.{Usage, Early}
-use Rattle.fx_cli.specs.declared.wish.Wish.{Wish}
+use Rattle.fx_cli.specs.declared.command.Command.{Command}
 use Rattle.std.specs.Prelude.{nat_lt, if◌then◌else◌}
 use Rattle.std.specs.List.{list_all, list_any}
 use Rattle.std.specs.Result.{result_ok}
@@ -17,7 +18,9 @@ use Rattle.clap.proofs.OnLiterals.{clap_on_literals}
 use Rattle.clap.proofs.WalkLemmas.{both}
 use Rattle.clap.specs.Words.{App, IsAmong, Kinds, Row, Text, fault_of, is_simple, is_simple_and_free, matches_of}
 use Rattle.clap.specs.declared.error.kind.ErrorKind.{ErrorKind}
-use Rattle.fx_cli.specs.Arguments.{WishView, dump_app, is_bare, is_some_kind, make_app, rows_by, seen, show_app, size_of}
+use Rattle.fx_cli.specs.Arguments.{dump_app, is_bare, is_some_kind, make_app, rows_by, show_app, size_of}
+use Rattle.fx_cli.specs.Chars.{numbers_of_list}
+use Rattle.fx_cli.specs.Commands.{CommandView, Refuses, seen}
 
 pub make_is_simple : is_simple make_app ≡ true
 unfolding make_app clap_on_literals
@@ -127,21 +130,32 @@ rows_of_taken app arguments bare fault =
 
 -- ---- what they ask for
 
--- there are none, or these
-pub wish_of_none : (make : List Row → Option WishView) (rows : Option (List Row)) → rows ≡ None → option_and_then make rows ≡ None
-wish_of_none make rows e = ap (option_and_then make) e
+-- clap takes the arguments
+pub taken : (of : List Row → Result CommandView Fault) (made app : App) (arguments : List Text) (rows : List Row)
+    (result : Result Command Fault) → made ≡ app → rows_by made arguments ≡ Some rows → GivesUnless Refuses seen result (of rows)
+    → GivesUnless Refuses seen result (wanted (rows_by app arguments) Usage >>= of)
+taken of made app arguments rows result e are h =
+    let P : Option (List Row) → Type 0 = λ r. GivesUnless Refuses seen result (wanted r Usage >>= of) in
+    subst P (sym are ∙ ap (λ (a : App). rows_by a arguments) e) h
 
-pub wish_of_some : (make : List Row → Option WishView) (rows : Option (List Row)) (values : List Row) (wish : Option WishView)
-    → rows ≡ Some values → wish ≡ make values → option_and_then make rows ≡ wish
-wish_of_some make rows values wish e h = ap (option_and_then make) e ∙ sym h
+-- it refuses them
+pub not_taken : (of : List Row → Result CommandView Fault) (made app : App) (arguments : List Text) (fault : Fault) → made ≡ app
+    → (fault ≡ Early OutOfMemory) ⊎ ((fault ≡ Usage) × (rows_by made arguments ≡ None))
+    → Refuses fault (wanted (rows_by app arguments) Usage >>= of)
+not_taken of made app arguments fault e (inl memory) =
+    let P : Fault → Type 0 = λ f. Refuses f (wanted (rows_by app arguments) Usage >>= of) in subst P (sym memory) tt
+not_taken of made app arguments fault e (inr (usage, none)) =
+    let P : Fault → Type 0 = λ f. Refuses f (wanted (rows_by app arguments) Usage >>= of) in
+    let no_rows = sym (ap (λ (a : App). rows_by a arguments) e) ∙ none in
+    subst P (sym usage) (ap (λ (r : Option (List Row)). wanted r Usage >>= of) no_rows)
 
--- a wish, or a usage fault if there is none
-pub ok_wish : (due : Option WishView) (wish : Option Wish) → due ≡ option_map seen wish
-    → IfOk (ok_or {E = Fault} wish Usage) (λ w. due ≡ Some (seen w))
-ok_wish due None e = tt
-ok_wish due (Some w) e = e
-
-pub no_wish : (due : Option WishView) (wish : Option Wish) → due ≡ option_map seen wish
-    → IfErr (ok_or {E = Fault} wish Usage) (λ fault. (fault ≡ Early OutOfMemory) ⊎ ((fault ≡ Usage) × (due ≡ None)))
-no_wish due None e = inr (refl, e)
-no_wish due (Some w) e = tt
+-- a list of characters that is refused
+pub list_refused : (of : List ℕ → Result CommandView Fault) (list : Text) (refusal : Refusal)
+    → (refusal ≡ OutOfMemory) ⊎ ((refusal ≡ BadChars) × (numbers_of_list list ≡ None))
+    → Refuses (Early refusal) (wanted (numbers_of_list list) (Early BadChars) >>= of)
+list_refused of list refusal (inl memory) =
+    let P : Refusal → Type 0 = λ r. Refuses (Early r) (wanted (numbers_of_list list) (Early BadChars) >>= of) in
+    subst P (sym memory) tt
+list_refused of list refusal (inr (bad, none)) =
+    let P : Refusal → Type 0 = λ r. Refuses (Early r) (wanted (numbers_of_list list) (Early BadChars) >>= of) in
+    subst P (sym bad) (ap (λ (r : Option (List ℕ)). wanted r (Early BadChars) >>= of) none)

@@ -4,7 +4,7 @@ pub mod Arguments
 pub mod Input
 pub mod ReadAhead
 pub mod Pictures
-pub mod Jobs
+pub mod Commands
 pub mod Lines
 pub mod Runs
 pub mod Steps

@@ -1,5 +1,5 @@
 -- What a run of the program does.
-use Rattle.std.specs.Prelude.{◌≡◌, ◌⊎◌, ◌+◌, ◌<◌, ◌≤◌, ℕ, Bool, true, false, not, nat_lt, List, [], ◌∷◌, length, codes, Option}
+use Rattle.std.specs.Prelude.{◌≡◌, ◌⊎◌, ◌+◌, ◌<◌, ◌≤◌, ℕ, Bool, true, false, nat_lt, List, [], ◌∷◌, length, codes, Option}
 use Rattle.std.specs.Prelude.{Some, None, Result, Ok, Err}
 use Rattle.clap.specs.Walk.{Text}
 use Rattle.std.specs.Str.{IsUtf8}
@@ -13,7 +13,7 @@ use Rattle.fx_request.specs.declared.refusal.Refusal.{Refusal}
 use Rattle.fx_request.specs.declared.refusal.Refusal.TheVariants.{BadChars, BadHex, InputTooLarge, OutOfMemory, ReadFailed}
 use Rattle.fx_request.specs.declared.which.Which.{Which}
 use Rattle.fx_request.specs.declared.request.Report.{Report}
-use Rattle.fx_strike.specs.Strike.{Plan, Opening, one_of, opened_of, opened_one_of, plan_of}
+use Rattle.fx_strike.specs.Strike.{one_of, opened_of, opened_one_of, plan_of}
 use Rattle.fx_strike.specs.Headline.{Leaves}
 use Rattle.fx_strike.specs.Listings.{Lists, program_of}
 use Rattle.fx_cli.specs.Limits.{max_input, max_line}
@@ -21,9 +21,10 @@ use Rattle.fx_cli.specs.declared.done.Done.{Done}
 use Rattle.fx_cli.specs.declared.done.Done.TheVariants.{Strike, Picture, Listing}
 use Rattle.fx_cli.specs.declared.fault.Fault.{Fault}
 use Rattle.fx_cli.specs.declared.fault.Fault.TheVariants.{Usage, Early, Late}
-use Rattle.fx_cli.specs.Arguments.{WishView, MakeArgumentsView, ShowArgumentsView, wish_of_arguments}
+use Rattle.fx_cli.specs.Arguments.{command_of}
+use Rattle.fx_cli.specs.Commands.{CommandView, MakeView, TaskView, strike, picture, listing}
+use Rattle.fx_cli.specs.declared.command.Show.{Show}
 use Rattle.fx_cli.specs.Lines.{outcome_line}
-use Rattle.fx_cli.specs.Jobs.{JobView, strike_job, picture_job, listing_job, job_of}
 use Rattle.fx_cli.specs.Pictures.{Shows}
 use Rattle.fx_cli.specs.Input.{bytes_of_hex, line_of, rest_of, arguments_of_line}
 
@@ -64,23 +65,16 @@ abbrev pub font_bytes : Bool → List ℕ → Option (List ℕ)
 font_bytes true text = bytes_of_hex text
 font_bytes false text = Some text
 
--- the strike that the arguments ask for
-abbrev pub strike_by : MakeArgumentsView → List ℕ → List ℕ → Result Plan Refusal
-strike_by make numbers font = plan_of font make.ppem make.name numbers (not make.unhinted)
-
--- its outcome before memory is taken
-abbrev pub opening_by : MakeArgumentsView → List ℕ → List ℕ → Opening
-opening_by make numbers font = opened_of font make.ppem make.name numbers
-
 -- what a call that makes the strike leaves of the sink
-abbrev pub MakeLeaves : MakeArgumentsView → List ℕ → List ℕ → Change → Result Report Refusal → Type 0
-MakeLeaves make numbers font sink answer =
-    Leaves (opening_by make numbers font) (strike_by make numbers font) sink answer
+abbrev pub MakeLeaves : MakeView → List ℕ → Change → Result Report Refusal → Type 0
+MakeLeaves make font sink answer =
+    Leaves (opened_of font make.ppem make.name make.chars) (plan_of font make.ppem make.name make.chars make.hinting)
+    sink answer
 
 -- what a call that shows a character leaves of it
-abbrev pub ShowLeaves : ShowArgumentsView → ℕ → List ℕ → Change → Result (Unit {0}) Refusal → Type 0
-ShowLeaves show code font sink answer =
-    Shows (opened_one_of font show.ppem code) (one_of font show.ppem code (not show.unhinted))
+abbrev pub ShowLeaves : Show → List ℕ → Change → Result (Unit {0}) Refusal → Type 0
+ShowLeaves show font sink answer =
+    Shows (opened_one_of font show.ppem show.code) (one_of font show.ppem show.code show.hinting)
     sink.bytes_before sink.bytes sink.faults_before sink.faults answer
 
 -- what a call that lists a program leaves of it
@@ -88,15 +82,15 @@ abbrev pub ListingLeaves : Which → List ℕ → Change → Result (Unit {0}) R
 ListingLeaves what font sink answer =
     Lists (program_of font what) sink answer
 
--- what a job leaves of the sink, from a font's bytes: its strike, its picture, or the listing of a program of it
-abbrev pub JobLeaves : JobView → List ℕ → Change → Result Done Refusal → Type 0
-JobLeaves (strike_job make numbers) font sink (Ok (Strike report)) = MakeLeaves make numbers font sink (Ok report)
-JobLeaves (strike_job make numbers) font sink (Err refusal) = MakeLeaves make numbers font sink (Err refusal)
-JobLeaves (picture_job show code) font sink (Ok Picture) = ShowLeaves show code font sink (Ok tt)
-JobLeaves (picture_job show code) font sink (Err refusal) = ShowLeaves show code font sink (Err refusal)
-JobLeaves (listing_job what) font sink (Ok Listing) = ListingLeaves what font sink (Ok tt)
-JobLeaves (listing_job what) font sink (Err refusal) = ListingLeaves what font sink (Err refusal)
-JobLeaves job font sink (Ok done) = ⊥
+-- what a task leaves of the sink, from a font's bytes: its strike, its picture, or the listing of a program of it
+abbrev pub TaskLeaves : TaskView → List ℕ → Change → Result Done Refusal → Type 0
+TaskLeaves (strike make) font sink (Ok (Strike report)) = MakeLeaves make font sink (Ok report)
+TaskLeaves (strike make) font sink (Err refusal) = MakeLeaves make font sink (Err refusal)
+TaskLeaves (picture show) font sink (Ok Picture) = ShowLeaves show font sink (Ok tt)
+TaskLeaves (picture show) font sink (Err refusal) = ShowLeaves show font sink (Err refusal)
+TaskLeaves (listing what) font sink (Ok Listing) = ListingLeaves what font sink (Ok tt)
+TaskLeaves (listing what) font sink (Err refusal) = ListingLeaves what font sink (Err refusal)
+TaskLeaves task font sink (Ok done) = ⊥
 
 -- the arguments are valid, the source was read to its end, and the sink has what results from that font and request
 pub record Does (given : List Text) (source sink : Change) (answer : Result Done Refusal) : Type 0 where
@@ -107,21 +101,19 @@ pub record Does (given : List Text) (source sink : Change) (answer : Result Done
   pub calm : source.faults ≡ source.faults_before
   pub arguments : List Text
   pub are : AreArguments given input source.bytes arguments
-  pub wish : WishView
-  pub asks : wish_of_arguments arguments ≡ Some wish
-  pub job : JobView
-  pub readable : job_of wish.task ≡ Some job
+  pub command : CommandView
+  pub asks : command_of arguments ≡ Ok command
   pub font : List ℕ
-  pub decoded : font_bytes wish.hex (text_of given input) ≡ Some font
-  pub leaves : JobLeaves job font sink answer
+  pub decoded : font_bytes command.hex (text_of given input) ≡ Some font
+  pub leaves : TaskLeaves command.task font sink answer
 
 -- the arguments are invalid
 abbrev pub IsUsageBy : Bool → List Text → List ℕ → Option (List ℕ) → Type 0
-IsUsageBy true given got left = wish_of_arguments given ≡ None
+IsUsageBy true given got left = command_of given ≡ Err Usage
 IsUsageBy false given got left =
     (max_line < length (line_of got))
     ⊎ (HasLine got left
-    × (¬ (IsUtf8 (line_of got)) ⊎ (wish_of_arguments (called given ∷ arguments_of_line (line_of got)) ≡ None)))
+    × (¬ (IsUtf8 (line_of got)) ⊎ (command_of (called given ∷ arguments_of_line (line_of got)) ≡ Err Usage)))
 
 -- the source is as it was
 abbrev pub IsUnread : Change → Type 0
@@ -133,21 +125,20 @@ abbrev pub IsReadForArguments : Bool → List ℕ → Change → Type 0
 IsReadForArguments true got source = IsUnread source
 IsReadForArguments false got source = (length got ≤ max_line + 1) × (source.faults ≡ source.faults_before)
 
--- the arguments are valid, and P holds for what they ask for
-abbrev pub Asks : List Text → List ℕ → Option (List ℕ) → (WishView → Type 0) → Type 0
-Asks given got left P =
-    (arguments : List Text) × (wish : WishView) × AreArguments given got left arguments
-    × (wish_of_arguments arguments ≡ Some wish) × P wish
+-- P holds for what the arguments ask for, or for why they are refused
+abbrev pub Asks : List Text → List ℕ → Option (List ℕ) → (Result CommandView Fault → Type 0) → Type 0
+Asks given got left P = (arguments : List Text) × AreArguments given got left arguments × P (command_of arguments)
 
 -- why a run stopped before it came to that
 abbrev pub IsReason : List Text → List ℕ → Change → Fault → Type 0
 IsReason given got source Usage =
     IsUsageBy (has_arguments given) given got source.bytes × IsReadForArguments (has_arguments given) got source
 IsReason given got source (Early BadChars) =
-    Asks given got source.bytes (λ wish. job_of wish.task ≡ None) × IsReadForArguments (has_arguments given) got source
+    Asks given got source.bytes (λ asked. asked ≡ Err (Early BadChars)) × IsReadForArguments (has_arguments given) got source
 IsReason given got source (Early ReadFailed) = source.faults ≡ source.faults_before + 1
 IsReason given got source (Early BadHex) =
-    IsAtEnd source.bytes × Asks given got source.bytes (λ wish. font_bytes wish.hex (text_of given got) ≡ None)
+    IsAtEnd source.bytes × Asks given got source.bytes (λ asked. (command : CommandView) × (asked ≡ Ok command)
+    × (font_bytes command.hex (text_of given got) ≡ None))
 IsReason given got source (Early InputTooLarge) = max_input < length got
 IsReason given got source (Early OutOfMemory) = Unit {0}
 IsReason given got source _ = ⊥

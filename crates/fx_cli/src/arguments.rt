@@ -1,23 +1,25 @@
 //! The arguments of a command line.
-ghost use Rattle.std.specs.Prelude.{◌≡◌, ◌⊎◌, None, Some, codes, map, option_map, IfOk, IfErr};
+ghost use Rattle.std.specs.Prelude.{◌≡◌, codes, map, option_map, option_and_then};
 ghost use Rattle.std.specs.Str.{bytes_eq};
 ghost use Rattle.clap.specs.Words.{found_of, rows_of};
-ghost use Rattle.fx_cli.specs.Arguments.{dump_by, dump_of_rows, is_command, make_by, make_of_rows, seen, show_by, show_of_rows, texts};
-ghost use Rattle.fx_cli.specs.Arguments.{which_of, wish_of_arguments, wish_of_dump, wish_of_make, wish_of_show};
+ghost use Rattle.fx_fixed.specs.Chain.{GivesUnless, map_ok, wanted};
+ghost use Rattle.fx_cli.specs.Arguments.{command_of, command_of_dump, command_of_make, command_of_show, dump_by, dump_of_rows};
+ghost use Rattle.fx_cli.specs.Arguments.{is_command, make_by, make_of_rows, show_by, show_of_rows, size_by, texts, which_of};
+ghost use Rattle.fx_cli.specs.Commands.{Refuses, seen};
+ghost use Rattle.fx_cli.specs.declared.fault.Fault.TheVariants.{Usage};
 
+use crate::chars::{number, parse_chars};
+use crate::command::{Command, Make, Show, Task};
 use crate::commands::{dump_command, make_command, show_command};
 use crate::fault::Fault;
 use crate::values::{is_given, matches, size_of, value};
-use crate::wish::{MakeArguments, ShowArguments, Task, Wish};
 use clap::ArgMatches;
 use fx_request::{Refusal, Which};
 use std::alloc::Global;
 
 /// Reads the arguments of a command line, the program's name first.
-pub fn read<'a>(alloc: Global, arguments: &'a [&'a str]) -> Result<Wish<'a>, Fault>
-    ensures wish { IfOk result (λ wish. wish_of_arguments (texts arguments.entry.now) ≡ Some (seen wish)) }
-    ensures fault { IfErr result (λ fault. (fault ≡ Fault.Early Refusal.OutOfMemory)
-        ⊎ ((fault ≡ Fault.Usage) × (wish_of_arguments (texts arguments.entry.now) ≡ None))) }
+pub fn read<'a>(alloc: Global, arguments: &'a [&'a str]) -> Result<Command<'a>, Fault>
+    ensures { GivesUnless Refuses seen result (command_of (texts arguments.entry.now)) }
 {
     match arguments.split_first() {
         Some((_, rest)) if is_command("make", rest) => read_make(alloc, rest),
@@ -38,40 +40,45 @@ fn is_command(name: &str, arguments: &[&str]) -> bool
 }
 
 /// Reads the arguments from `make` on.
-fn read_make<'a>(alloc: Global, arguments: &'a [&'a str]) -> Result<Wish<'a>, Fault>
-    ensures wish { IfOk result (λ wish. wish_of_make (texts arguments.entry.now) ≡ Some (seen wish)) }
-    ensures fault { IfErr result (λ fault. (fault ≡ Fault.Early Refusal.OutOfMemory)
-        ⊎ ((fault ≡ Fault.Usage) × (wish_of_make (texts arguments.entry.now) ≡ None))) }
+fn read_make<'a>(alloc: Global, arguments: &'a [&'a str]) -> Result<Command<'a>, Fault>
+    ensures { GivesUnless Refuses seen result (command_of_make (texts arguments.entry.now)) }
 {
     let matches = matches(make_command(alloc)?, arguments)?;
-    make_of(&matches).ok_or(Fault::Usage)
+    make_of(alloc, &matches)
 }
 
 /// Reads the arguments from `show` on.
-fn read_show<'a>(alloc: Global, arguments: &'a [&'a str]) -> Result<Wish<'a>, Fault>
-    ensures wish { IfOk result (λ wish. wish_of_show (texts arguments.entry.now) ≡ Some (seen wish)) }
-    ensures fault { IfErr result (λ fault. (fault ≡ Fault.Early Refusal.OutOfMemory)
-        ⊎ ((fault ≡ Fault.Usage) × (wish_of_show (texts arguments.entry.now) ≡ None))) }
+fn read_show<'a>(alloc: Global, arguments: &'a [&'a str]) -> Result<Command<'a>, Fault>
+    ensures { GivesUnless Refuses seen result (command_of_show (texts arguments.entry.now)) }
 {
     let matches = matches(show_command(alloc)?, arguments)?;
-    show_of(&matches).ok_or(Fault::Usage)
+    show_of(&matches)
 }
 
 /// Reads the arguments from `dump` on.
-fn read_dump<'a>(alloc: Global, arguments: &'a [&'a str]) -> Result<Wish<'a>, Fault>
-    ensures wish { IfOk result (λ wish. wish_of_dump (texts arguments.entry.now) ≡ Some (seen wish)) }
-    ensures fault { IfErr result (λ fault. (fault ≡ Fault.Early Refusal.OutOfMemory)
-        ⊎ ((fault ≡ Fault.Usage) × (wish_of_dump (texts arguments.entry.now) ≡ None))) }
+fn read_dump<'a>(alloc: Global, arguments: &'a [&'a str]) -> Result<Command<'a>, Fault>
+    ensures { GivesUnless Refuses seen result (command_of_dump (texts arguments.entry.now)) }
 {
     let matches = matches(dump_command(alloc)?, arguments)?;
-    dump_of(&matches).ok_or(Fault::Usage)
+    dump_of(&matches)
+}
+
+/// A size that is required.
+fn required_size(text: Option<&str>) -> Result<u16, Fault>
+    ensures { result ≡ size_by (option_map (λ text. text.now) text.entry) }
+{
+    match text {
+        Some(text) => size_of(text).ok_or(Fault::Usage),
+        None => Err(Fault::Usage),
+    }
 }
 
 /// What the values of `make` ask for.
-fn make_of<'a>(matches: &ArgMatches<'a>) -> Option<Wish<'a>>
-    ensures { option_map seen result ≡ make_of_rows (rows_of (found_of matches.now)) }
+fn make_of<'a>(alloc: Global, matches: &ArgMatches<'a>) -> Result<Command<'a>, Fault>
+    ensures { GivesUnless Refuses seen result (make_of_rows (rows_of (found_of matches.now))) }
 {
     make_by(
+        alloc,
         value(matches, "ppem"),
         value(matches, "chars"),
         value(matches, "name"),
@@ -80,34 +87,35 @@ fn make_of<'a>(matches: &ArgMatches<'a>) -> Option<Wish<'a>>
     )
 }
 
-/// The same of the values one by one.
+/// What values of `make` ask for: the size and the list of characters are required.
 fn make_by<'a>(
+    alloc: Global,
     ppem: Option<&'a str>,
     list: Option<&'a str>,
     name: Option<&'a str>,
     unhinted: bool,
     hex: bool,
-) -> Option<Wish<'a>>
-    ensures { option_map seen result ≡ make_by (option_map (λ text. text.now) ppem.entry)
-        (option_map (λ text. text.now) list.entry) (option_map (λ text. text.now) name.entry) unhinted hex }
+) -> Result<Command<'a>, Fault>
+    ensures { GivesUnless Refuses seen result (make_by (option_map (λ text. text.now) ppem.entry)
+        (option_map (λ text. text.now) list.entry) (option_map (λ text. text.now) name.entry) unhinted hex) }
 {
-    let ppem = size_of(ppem?)?;
-    let list = list?;
-    let make = MakeArguments {
+    let ppem = required_size(ppem)?;
+    let list = list.ok_or(Fault::Usage)?;
+    let make = Make {
         ppem,
-        list,
+        chars: parse_chars(alloc, list)?,
         name: name.unwrap_or("strike"),
-        unhinted,
+        hinting: !unhinted,
     };
-    Some(Wish {
+    Ok(Command {
         task: Task::Strike(make),
         hex,
     })
 }
 
 /// What the values of `show` ask for.
-fn show_of<'a>(matches: &ArgMatches<'a>) -> Option<Wish<'a>>
-    ensures { option_map seen result ≡ show_of_rows (rows_of (found_of matches.now)) }
+fn show_of<'a>(matches: &ArgMatches<'a>) -> Result<Command<'a>, Fault>
+    ensures { GivesUnless Refuses seen result (show_of_rows (rows_of (found_of matches.now))) }
 {
     show_by(
         value(matches, "ppem"),
@@ -117,41 +125,46 @@ fn show_of<'a>(matches: &ArgMatches<'a>) -> Option<Wish<'a>>
     )
 }
 
-/// The same of the values one by one.
+/// What values of `show` ask for: the size and the character are required.
 fn show_by<'a>(
     ppem: Option<&'a str>,
-    number: Option<&'a str>,
+    character: Option<&'a str>,
     unhinted: bool,
     hex: bool,
-) -> Option<Wish<'a>>
-    ensures { option_map seen result ≡ show_by (option_map (λ text. text.now) ppem.entry)
-        (option_map (λ text. text.now) number.entry) unhinted hex }
+) -> Result<Command<'a>, Fault>
+    ensures { GivesUnless Refuses seen result (show_by (option_map (λ text. text.now) ppem.entry)
+        (option_map (λ text. text.now) character.entry) unhinted hex) }
 {
-    let ppem = size_of(ppem?)?;
-    let show = ShowArguments {
-        ppem,
-        number: number?,
-        unhinted,
+    let ppem = required_size(ppem)?;
+    let Some(code) = number(character.ok_or(Fault::Usage)?) else {
+        return Err(Fault::Early(Refusal::BadChars));
     };
-    Some(Wish {
+    let show = Show {
+        ppem,
+        code,
+        hinting: !unhinted,
+    };
+    Ok(Command {
         task: Task::Picture(show),
         hex,
     })
 }
 
 /// What the values of `dump` ask for.
-fn dump_of<'a>(matches: &ArgMatches<'a>) -> Option<Wish<'a>>
-    ensures { option_map seen result ≡ dump_of_rows (rows_of (found_of matches.now)) }
+fn dump_of<'a>(matches: &ArgMatches<'a>) -> Result<Command<'a>, Fault>
+    ensures { GivesUnless Refuses seen result (dump_of_rows (rows_of (found_of matches.now))) }
 {
     dump_by(value(matches, "of"), is_given(matches, "hex"))
 }
 
-/// The same of the values one by one.
-fn dump_by<'a>(name: Option<&str>, hex: bool) -> Option<Wish<'a>>
-    ensures { option_map seen result ≡ dump_by (option_map (λ text. text.now) name.entry) hex }
+/// What values of `dump` ask for: the name of the program is required.
+fn dump_by<'a>(name: Option<&str>, hex: bool) -> Result<Command<'a>, Fault>
+    ensures { GivesUnless Refuses seen result (dump_by (option_map (λ text. text.now) name.entry) hex) }
 {
-    let what = which_of(name?)?;
-    Some(Wish {
+    let Some(what) = which_of(name.ok_or(Fault::Usage)?) else {
+        return Err(Fault::Usage);
+    };
+    Ok(Command {
         task: Task::Listing(what),
         hex,
     })

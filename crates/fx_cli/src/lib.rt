@@ -4,12 +4,12 @@
 
 mod arguments;
 mod chars;
+mod command;
 mod commands;
 mod done;
 mod fault;
 mod hexadecimal;
 mod input;
-mod job;
 mod limits;
 mod line;
 mod lines;
@@ -20,7 +20,6 @@ mod read_ahead;
 mod show;
 mod start;
 mod values;
-mod wish;
 
 pub use chars::parse_chars;
 pub use program::run;

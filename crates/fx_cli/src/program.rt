@@ -1,27 +1,26 @@
 //! A run of the program.
-ghost use Rattle.std.specs.Prelude.{◌≡◌, ◌⊎◌, ◌∷◌, ◌<◌, ◌≤◌, ◌^◌, length, true, IfOk, IfErr, None, Some};
+ghost use Rattle.std.specs.Prelude.{◌≡◌, ◌∷◌, ◌<◌, ◌≤◌, ◌^◌, length, true, IfOk};
 ghost use Rattle.std.specs.Io.KnownBytes.{IsAtEnd};
 ghost use Rattle.fx_fixed.specs.Chain.{map_fault};
-ghost use Rattle.fx_fixed.specs.Changes.{change_of};
-ghost use Rattle.fx_cli.specs.Arguments.{seen, seen_make, texts};
+ghost use Rattle.fx_cli.specs.Arguments.{texts};
+ghost use Rattle.fx_cli.specs.Commands.{seen, seen_task};
 ghost use Rattle.fx_cli.specs.Input.{arguments_of_line};
-ghost use Rattle.fx_cli.specs.Runs.{Ends, JobLeaves, MakeLeaves, Runs, called};
-ghost use Rattle.fx_cli.specs.Jobs.{seen_job};
+ghost use Rattle.fx_fixed.specs.Changes.{change_of};
+ghost use Rattle.fx_cli.specs.Runs.{Ends, Runs, TaskLeaves, called};
 ghost use Rattle.fx_cli.specs.Steps.{EndsAfter, EndsText};
 
 use crate::arguments::read;
+use crate::command::{Command, Task};
 use crate::done::Done;
 use crate::fault::Fault;
 use crate::hexadecimal::decode_hex;
 use crate::input::{LINE_BUFFER, read_line};
-use crate::job::{Job, job_of};
 use crate::lines::status;
 use crate::parts::first_part;
 use crate::read_ahead::ReadAhead;
 use crate::show::put_character;
-use crate::wish::{MakeArguments, Wish};
 use fx_fixed::{Sink, Source};
-use fx_request::{Refusal, Report, Request};
+use fx_request::Refusal;
 use fx_strike::{listing_of, make_strike};
 use std::alloc::{AllocError, Global};
 
@@ -63,8 +62,8 @@ fn run_arguments<R: Source, O: Sink>(
     ensures { Ends (texts arguments.now) (change_of R.left R.fault_count reader.old reader.new)
         (change_of O.held O.fault_count out.old out.new) result }
 {
-    let wish = read(alloc, arguments)?;
-    run_wish(alloc, &wish, &ReadAhead::none(), reader, out)
+    let command = read(alloc, arguments)?;
+    run_command(alloc, &command, &ReadAhead::none(), reader, out)
 }
 
 /// The input's first line holds the arguments, and what follows it is the font.
@@ -87,8 +86,8 @@ fn run_line<R: Source, O: Sink>(
         return Err(Fault::Usage);
     };
     let arguments = arguments_of_line(alloc, program_name(arguments), line)?;
-    let wish = read(alloc, &arguments)?;
-    run_wish(alloc, &wish, &ReadAhead::of(got, end), reader, out)
+    let command = read(alloc, &arguments)?;
+    run_command(alloc, &command, &ReadAhead::of(got, end), reader, out)
 }
 
 /// The program's name.
@@ -124,10 +123,10 @@ fn arguments_of_line<'a>(
     Ok(all)
 }
 
-/// Does what the arguments ask for; `ahead` is what was read of the input before.
-fn run_wish<R: Source, O: Sink>(
+/// Does what a command asks for; `ahead` is what was read of the input before.
+fn run_command<R: Source, O: Sink>(
     alloc: Global,
-    wish: &Wish<'_>,
+    command: &Command<'_>,
     ahead: &ReadAhead<'_>,
     reader: &mut R,
     out: &mut O,
@@ -135,73 +134,56 @@ fn run_wish<R: Source, O: Sink>(
     requires reader { R.fault_count reader.old < 2 ^ 63 }
     requires out { O.fault_count out.old < 2 ^ 63 }
     requires ended { ahead.now.ended ≡ true → IsAtEnd (R.left reader.old) }
-    ensures { EndsAfter (seen wish.now) ahead.now (change_of R.left R.fault_count reader.old reader.new)
+    ensures { EndsAfter (seen command.now) ahead.now (change_of R.left R.fault_count reader.old reader.new)
         (change_of O.held O.fault_count out.old out.new) result }
 {
-    let job = job_of(alloc, &wish.task)?;
     let mut buffer = [0u8; BUFFER];
     let text = ahead.read_on(alloc, reader, &mut buffer)?;
-    run_text(alloc, &job, wish.hex, &text, out)
+    run_text(alloc, command, &text, out)
 }
 
-/// Does a job with a font's text, which is hexadecimal if `hex`.
+/// Does what a command asks for with a font's text.
 fn run_text<O: Sink>(
     alloc: Global,
-    job: &Job<'_>,
-    hex: bool,
+    command: &Command<'_>,
     text: &[u8],
     out: &mut O,
 ) -> Result<Done, Fault>
     requires { O.fault_count out.old < 2 ^ 63 }
-    ensures { EndsText (seen_job job.now) hex text.now (change_of O.held O.fault_count out.old out.new) result }
+    ensures { EndsText (seen command.now) text.now (change_of O.held O.fault_count out.old out.new) result }
 {
-    if hex {
+    if command.hex {
         let font = decode_hex(alloc, text)?;
-        late(run_job(alloc, job, &font, out))
+        late(run_task(alloc, &command.task, &font, out))
     } else {
-        late(run_job(alloc, job, text, out))
+        late(run_task(alloc, &command.task, text, out))
     }
 }
 
-/// Does a job with a font's bytes.
-fn run_job<O: Sink>(alloc: Global, job: &Job<'_>, font: &[u8], out: &mut O) -> Result<Done, Refusal>
+/// Does a task with a font's bytes.
+fn run_task<O: Sink>(
+    alloc: Global,
+    task: &Task<'_>,
+    font: &[u8],
+    out: &mut O,
+) -> Result<Done, Refusal>
     requires { O.fault_count out.old < 2 ^ 63 }
-    ensures { JobLeaves (seen_job job.now) font.now (change_of O.held O.fault_count out.old out.new) result }
+    ensures { TaskLeaves (seen_task task.now) font.now (change_of O.held O.fault_count out.old out.new) result }
 {
-    match job {
-        Job::Strike(make, chars) => Ok(Done::Strike(put_strike(alloc, make, chars, font, out)?)),
-        Job::Picture(show, code) => {
-            put_character(alloc, show, *code, font, out)?;
+    match task {
+        Task::Strike(make) => Ok(Done::Strike(make_strike(alloc, font, &make.request(), out)?)),
+        Task::Picture(show) => {
+            put_character(alloc, show, font, out)?;
             Ok(Done::Picture)
         }
-        Job::Listing(what) => {
+        Task::Listing(what) => {
             listing_of(font, *what, out)?;
             Ok(Done::Listing)
         }
     }
 }
 
-/// Makes the strike of a font's bytes.
-fn put_strike<O: Sink>(
-    alloc: Global,
-    make: &MakeArguments<'_>,
-    chars: &[u32],
-    font: &[u8],
-    out: &mut O,
-) -> Result<Report, Refusal>
-    requires { O.fault_count out.old < 2 ^ 63 }
-    ensures { MakeLeaves (seen_make make.now) chars.now font.now (change_of O.held O.fault_count out.old out.new) result }
-{
-    let request = Request {
-        ppem: make.ppem,
-        name: make.name,
-        chars,
-        hinting: !make.unhinted,
-    };
-    make_strike(alloc, font, &request, out)
-}
-
-/// A job's result as the end of a run.
+/// A task's result as the end of a run.
 fn late(outcome: Result<Done, Refusal>) -> Result<Done, Fault>
     ensures { result ≡ map_fault Fault.Late outcome }
 {

@@ -4,8 +4,8 @@ ghost use Rattle.fx_fixed.specs.Changes.{change_of};
 ghost use Rattle.fx_cli.specs.Arguments.{seen_show};
 ghost use Rattle.fx_cli.specs.Runs.{ShowLeaves};
 
+use crate::command::Show;
 use crate::picture::put_shown;
-use crate::wish::ShowArguments;
 use fx_fixed::Sink;
 use fx_request::Refusal;
 use fx_strike::one;
@@ -14,15 +14,14 @@ use std::alloc::Global;
 /// Writes the picture of a character of a font.
 pub fn put_character<O: Sink>(
     alloc: Global,
-    show: &ShowArguments<'_>,
-    code: u32,
+    show: &Show,
     font: &[u8],
     out: &mut O,
 ) -> Result<(), Refusal>
     requires { O.fault_count out.old < 2 ^ 63 }
-    ensures { ShowLeaves (seen_show show.now) code font.now (change_of O.held O.fault_count out.old out.new) result }
+    ensures { ShowLeaves show.now font.now (change_of O.held O.fault_count out.old out.new) result }
 {
-    let glyph = one(alloc, font, show.ppem, code, !show.unhinted)?;
+    let glyph = one(alloc, font, show.ppem, show.code, show.hinting)?;
     put_shown(&glyph, out)?;
     Ok(())
 }

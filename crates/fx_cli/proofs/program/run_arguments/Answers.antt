@@ -3,8 +3,8 @@ use Rattle.std.proofs.lemmas.Result.{err_from_is_err_and}
 use Rattle.fx_cli.proofs.FirstLines.{many_arguments, unasked}
 use Rattle.fx_cli.proofs.program.run_arguments.Goals as goal
 
-pub returns-in_err-wish : goal.returns-in_err-wish
-returns-in_err-wish g c =
+pub returns-in_err-command : goal.returns-in_err-command
+returns-in_err-command g c =
     let p = err_from_is_err_and c.from_residual.result c.from_residual.ensures.1 in
-    rw (p.1, p.2) (unasked _ _ _ c.in_err-wish.field-0.0 (many_arguments c.args.arguments.now c.requires.given) (refl, refl)
-    (refl, refl) c.in_err-wish.ensures.fault)
+    rw (p.1, p.2) (unasked _ _ _ (many_arguments c.args.arguments.now c.requires.given) (refl, refl) (refl, refl)
+    c.in_err-command.field-0.0 c.in_err-command.ensures)

@@ -5,7 +5,8 @@ use Rattle.std.proofs.lemmas.Result.{err_from_is_err_and}
 use Rattle.clap.specs.Walk.{Text}
 use Rattle.fx_fixed.specs.Changes.{Change}
 use Rattle.fx_cli.specs.Input.{line_of, arguments_of_line}
-use Rattle.fx_cli.specs.Arguments.{seen, texts, wish_of_arguments}
+use Rattle.fx_cli.specs.Arguments.{command_of, texts}
+use Rattle.fx_cli.specs.Commands.{Refuses, seen}
 use Rattle.fx_cli.specs.ReadAhead.{ReadAheadView}
 use Rattle.fx_cli.specs.Runs.{called}
 use Rattle.fx_cli.specs.Steps.{EndsAfter}
@@ -37,8 +38,8 @@ returns-in_default g c =
       );
     }
 
-pub returns-in_err-wish : goal.returns-in_err-wish
-returns-in_err-wish g c =
+pub returns-in_err-command : goal.returns-in_err-command
+returns-in_err-command g c =
     let given : List Text = texts c.args.arguments.now in
     let first : List ℕ = take c.in_ok-filled.filled c.read_line.new.buffer in
     let all : length first ≡ c.in_ok-filled.filled =
@@ -48,22 +49,19 @@ returns-in_err-wish g c =
     let arguments_are : texts c.deref.result.now ≡ called given ∷ arguments_of_line (line_of first)
     = ap texts c.deref.ensures.value ∙ c.in_ok-arguments.ensures ∙
     ap₂ (λ (p l : List ℕ). p ∷ arguments_of_line l) c.program_name.ensures line_is in
-    let p = err_from_is_err_and c.from_residual-in_err-wish.result c.from_residual-in_err-wish.ensures.1 in
-    rw (p.1, p.2) (unread given _ _ first c.in_err-wish.field-0.0 (few_arguments c.args.arguments.now c.requires.given)
+    let p = err_from_is_err_and c.from_residual-in_err-command.result c.from_residual-in_err-command.ensures.1 in
+    rw (p.1, p.2) (unread given _ _ first (few_arguments c.args.arguments.now c.requires.given)
     (omega (arith, all, c.in_ok-filled.ensures.sizes.1)) c.in_ok-filled.ensures.quiet c.in_ok-filled.ensures.read
-    (keeps_same (g.O.Sink.held c.args.out.now), refl) (elim c.in_err-wish.ensures.fault [
-      | inl e ↦ inl e
-      | inr (e, none) ↦ inr (
-        e,
-        inr (
-          line_read first (g.R.Source.left c.read_line.new.reader) (elim c.in_ok-filled.ensures.whole [
-            | inl h ↦ inl (omega (arith, h, all, c.in_ok-filled.ensures.line))
-            | inr h ↦ inr h
-          ]),
-          inr (ap wish_of_arguments (sym arguments_are) ∙ none),
-        ),
-      )
+    (keeps_same (g.O.Sink.held c.args.out.now), refl)
+    (line_read first (g.R.Source.left c.read_line.new.reader) (elim c.in_ok-filled.ensures.whole [
+      | inl h ↦ inl (omega (arith, h, all, c.in_ok-filled.ensures.line))
+      | inr h ↦ inr h
     ]))
+    (subst IsUtf8 line c.in-Ok.ensures.cases.1)
+    (omega (arith, length-line_of first, c.in_ok-filled.ensures.line, c.in_ok-filled.ensures.sizes.2))
+    c.in_err-command.field-0.0
+    (let P : List Text → Type 0 = λ ws. Refuses c.in_err-command.field-0.0 (command_of ws) in
+    subst P arguments_are c.in_err-command.ensures))
 
 pub returns : goal.returns
 returns g c =
@@ -75,19 +73,19 @@ returns g c =
     let line_is : c.in-Ok.line.now ≡ line_of first = c.in-Ok.ensures.cases.0 ∙ line in
     let source : Change = record {
       bytes_before = g.R.Source.left c.read_line.new.reader;
-      bytes = g.R.Source.left c.run_wish.new.reader;
+      bytes = g.R.Source.left c.run_command.new.reader;
       faults_before = g.R.Source.fault_count c.read_line.new.reader;
-      faults = g.R.Source.fault_count c.run_wish.new.reader;
+      faults = g.R.Source.fault_count c.run_command.new.reader;
     } in
     let sink : Change = record {
       bytes_before = g.O.Sink.held c.args.out.now;
-      bytes = g.O.Sink.held c.run_wish.new.out;
+      bytes = g.O.Sink.held c.run_command.new.out;
       faults_before = g.O.Sink.fault_count c.args.out.now;
-      faults = g.O.Sink.fault_count c.run_wish.new.out;
+      faults = g.O.Sink.fault_count c.run_command.new.out;
     } in
-    let P : ReadAheadView → Type 0 = λ a. EndsAfter (seen c.in_ok-wish.wish) a source sink c.run_wish.result in
+    let P : ReadAheadView → Type 0 = λ a. EndsAfter (seen c.in_ok-command.command) a source sink c.run_command.result in
     line_ends {given = given} {first = first} {before = g.R.Source.left c.args.reader.now} {arguments = texts c.deref.result.now}
-    (g.R.Source.fault_count c.args.reader.now) (seen c.in_ok-wish.wish) source sink (sym c.in_ok-filled.ensures.quiet)
+    (g.R.Source.fault_count c.args.reader.now) (seen c.in_ok-command.command) source sink (sym c.in_ok-filled.ensures.quiet)
     (record {
       none = few_arguments c.args.arguments.now c.requires.given;
       read = c.in_ok-filled.ensures.read;
@@ -97,4 +95,4 @@ returns g c =
       arguments_are = ap texts c.deref.ensures.value ∙ c.in_ok-arguments.ensures ∙
           ap₂ (λ (p l : List ℕ). p ∷ arguments_of_line l) c.program_name.ensures line_is;
     })
-    c.in_ok-wish.ensures.wish c.run_wish.result (subst P c.of.ensures c.run_wish.ensures)
+    c.in_ok-command.ensures c.run_command.result (subst P c.of.ensures c.run_command.ensures)

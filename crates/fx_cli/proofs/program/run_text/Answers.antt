@@ -1,20 +1,20 @@
 use Rattle.std.proofs.Common.{ap, ◌∙◌, ◌≡◌, Bool, Some, sym}
-use Rattle.fx_cli.specs.Jobs.{seen_job}
+use Rattle.fx_cli.specs.Commands.{seen}
 use Rattle.fx_cli.specs.Runs.{font_bytes}
 use Rattle.fx_cli.proofs.Made.{text_done}
 use Rattle.fx_cli.proofs.program.run_text.Goals as goal
 
 pub returns-in_ok-font : goal.returns-in_ok-font
 returns-in_ok-font g c =
-    let decoded : font_bytes c.args.hex c.args.text.now ≡ Some c.deref.result.now
-    = ap (λ (b : Bool). font_bytes b c.args.text.now) c.if-hex.true ∙
+    let decoded : font_bytes c.args.command.now.hex c.args.text.now ≡ Some c.deref.result.now
+    = ap (λ (b : Bool). font_bytes b c.args.text.now) c.if-command.true ∙
     (c.in_ok-font.ensures.bytes ∙ ap Some (sym c.deref.ensures.value)) in
-    rw c.late.ensures (text_done (seen_job c.args.job.now) c.args.hex c.args.text.now _ c.deref.result.now decoded
-    c.run_job.result c.run_job.ensures)
+    rw c.late.ensures (text_done (seen c.args.command.now) c.args.text.now _ c.deref.result.now decoded
+    c.run_task.result c.run_task.ensures)
 
-pub returns-else-hex : goal.returns-else-hex
-returns-else-hex g c =
-    let decoded : font_bytes c.args.hex c.args.text.now ≡ Some c.args.text.now
-    = ap (λ (b : Bool). font_bytes b c.args.text.now) c.if-hex.false in
-    rw c.late-else-hex.ensures (text_done (seen_job c.args.job.now) c.args.hex c.args.text.now _ c.args.text.now decoded
-    c.run_job-else-hex.result c.run_job-else-hex.ensures)
+pub returns-else-command : goal.returns-else-command
+returns-else-command g c =
+    let decoded : font_bytes c.args.command.now.hex c.args.text.now ≡ Some c.args.text.now
+    = ap (λ (b : Bool). font_bytes b c.args.text.now) c.if-command.false in
+    rw c.late-else-command.ensures (text_done (seen c.args.command.now) c.args.text.now _ c.args.text.now decoded
+    c.run_task-else-command.result c.run_task-else-command.ensures)

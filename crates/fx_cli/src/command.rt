@@ -1,0 +1,55 @@
+//! What a command line asks for.
+
+use fx_request::{Request, Which};
+
+/// What is to be written, and whether the font is hexadecimal text.
+#[derive(Drop)]
+pub struct Command<'a> {
+    pub task: Task<'a>,
+    pub hex: bool,
+}
+
+/// What is to be written.
+#[derive(Drop)]
+pub enum Task<'a> {
+    /// A strike.
+    Strike(Make<'a>),
+    /// The picture of a character.
+    Picture(Show),
+    /// The listing of a program.
+    Listing(Which),
+}
+
+/// A strike: its size in pixels an em, its characters, its name, and whether the font's programs run.
+#[derive(Drop)]
+pub struct Make<'a> {
+    pub ppem: u16,
+    pub chars: Vec<u32>,
+    pub name: &'a str,
+    pub hinting: bool,
+}
+
+/// The picture of a character: the size in pixels an em, the code point, and whether the font's programs run.
+#[derive(Clone, Copy)]
+pub struct Show {
+    pub ppem: u16,
+    pub code: u32,
+    pub hinting: bool,
+}
+
+impl<'a> Make<'a> {
+    ghost use Rattle.std.specs.Prelude.{◌≡◌};
+    ghost use Rattle.fx_cli.specs.Commands.{seen_make, seen_request};
+
+    /// The request for the strike.
+    pub fn request(&self) -> Request<'_>
+        ensures { seen_request result ≡ seen_make self.now }
+    {
+        Request {
+            ppem: self.ppem,
+            name: self.name,
+            chars: &self.chars,
+            hinting: self.hinting,
+        }
+    }
+}
