@@ -41,6 +41,7 @@ miap_of g rounds p v z = on_point (λ q. moved_to_coordinate g rounds v (laid_al
 -- zone, the original distance takes its place if v is further from it than the cut-in; then it is rounded. With bit b (keeps the
 -- minimum distance) it is at least the minimum distance. If zp1 is the twilight zone p is laid at v from rp0 first. The machine
 -- sets rp1, rp2, and with bit a (sets rp0) rp0.
+
 -- auto flip: the control value on the side of the original distance
 abbrev pub is_one_negative : ℤ → ℤ → Bool
 is_one_negative o v = if int_lt o (pos 0) then not (int_lt v (pos 0)) else int_lt v (pos 0)
@@ -54,6 +55,7 @@ cut_in_by g o v = if is_same_zone g.zp0 g.zp1 && is_cut_off g v o then o else v
 unfoldable pub controlled_of : GState → Relative → ℤ → ℤ → ℤ
 controlled_of g how o v = kept_by g how o (if how.rounds then rounded_of g.round_state (cut_in_by g o v) else v)
 
+-- the distance that it moves to, of the original one o and a control value v
 unfoldable pub mirp_distance_of : GState → Relative → ℤ → ℤ → ℤ
 mirp_distance_of g how o v = controlled_of g how o (auto_flipped g o v)
 

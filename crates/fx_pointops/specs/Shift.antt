@@ -22,6 +22,7 @@ reference_zone g one = if one then g.zp0 else g.zp1
 abbrev pub reference_point : GState → Bool → ℤ
 reference_point g one = if one then g.rp1 else g.rp2
 
+-- it is counted if it is a stray
 abbrev pub counting_reference : GState → Bool → Zones → Zones
 counting_reference g one z = counting (point_at (reference_zone g one) (reference_point g one) z) z
 
