@@ -12,8 +12,8 @@ use Rattle.clap.specs.Faults.{fault_of}
 use Rattle.clap.specs.Kinds.{Kinds}
 use Rattle.clap.specs.declared.builder.action.ArgAction.TheVariants.{Set, SetTrue}
 use Rattle.fx_fixed.specs.Chain.{◌>>=◌, wanted}
-use Rattle.fx_request.specs.declared.which.Which.{Which}
-use Rattle.fx_request.specs.declared.which.Which.TheVariants.{Fpgm, Prep, Glyph}
+use Rattle.fx_machine.specs.declared.program.FontProgram.{FontProgram}
+use Rattle.fx_machine.specs.declared.program.FontProgram.TheVariants.{Fpgm, Prep, Glyph}
 use Rattle.fx_request.specs.declared.refusal.Refusal.TheVariants.{BadChars}
 use Rattle.fx_cli.specs.declared.fault.Fault.{Fault}
 use Rattle.fx_cli.specs.declared.fault.Fault.TheVariants.{Usage, Early}
@@ -96,7 +96,7 @@ show_of_rows rows = show_by (first_of (codes "ppem") rows) (first_of (codes "cha
     (is_given (codes "hex") rows)
 
 -- a program's name: `fpgm`, `prep`, or the number of a glyph
-abbrev pub which_of : Text → Option Which
+abbrev pub which_of : Text → Option FontProgram
 which_of text = if bytes_eq text (codes "fpgm") then Some Fpgm else (if bytes_eq text (codes "prep") then Some Prep
     else option_map Glyph (size_of text))
 

@@ -1,7 +1,7 @@
 -- What a command line asks for.
 use Rattle.std.specs.Prelude.{◌≡◌, ℕ, Bool, List, Result, Err}
 use Rattle.clap.specs.Walk.{Text}
-use Rattle.fx_request.specs.declared.which.Which.{Which}
+use Rattle.fx_machine.specs.declared.program.FontProgram.{FontProgram}
 use Rattle.fx_request.specs.declared.request.Request.{Request}
 use Rattle.fx_request.specs.declared.refusal.Refusal.TheVariants.{BadChars, OutOfMemory}
 use Rattle.fx_cli.specs.declared.command.Command.{Command}
@@ -23,7 +23,7 @@ pub record MakeView : Type 0 where
 pub data TaskView : Type 0 where
   strike : MakeView → TaskView
   picture : Show → TaskView
-  listing : Which → TaskView
+  listing : FontProgram → TaskView
 
 -- a task, and whether the font is hexadecimal text
 pub record CommandView : Type 0 where

@@ -11,7 +11,7 @@ use Rattle.fx_fixed.specs.Changes.{Change}
 use Rattle.fx_fixed.specs.Wrote.{Wrote}
 use Rattle.fx_request.specs.declared.refusal.Refusal.{Refusal}
 use Rattle.fx_request.specs.declared.refusal.Refusal.TheVariants.{BadChars, BadHex, InputTooLarge, OutOfMemory, ReadFailed}
-use Rattle.fx_request.specs.declared.which.Which.{Which}
+use Rattle.fx_machine.specs.declared.program.FontProgram.{FontProgram}
 use Rattle.fx_request.specs.declared.request.Report.{Report}
 use Rattle.fx_strike.specs.Strike.{one_of, opened_of, opened_one_of, plan_of}
 use Rattle.fx_strike.specs.Headline.{Leaves}
@@ -78,7 +78,7 @@ ShowLeaves show font sink answer =
     sink.bytes_before sink.bytes sink.faults_before sink.faults answer
 
 -- what a call that lists a program leaves of it
-abbrev pub ListingLeaves : Which → List ℕ → Change → Result (Unit {0}) Refusal → Type 0
+abbrev pub ListingLeaves : FontProgram → List ℕ → Change → Result (Unit {0}) Refusal → Type 0
 ListingLeaves what font sink answer =
     Lists (program_of font what) sink answer
 

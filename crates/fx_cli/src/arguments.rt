@@ -14,7 +14,8 @@ use crate::commands::{dump_command, make_command, show_command};
 use crate::fault::Fault;
 use crate::values::{is_given, matches, size_of, value};
 use clap::ArgMatches;
-use fx_request::{Refusal, Which};
+use fx_machine::FontProgram;
+use fx_request::Refusal;
 use std::alloc::Global;
 
 /// Reads the arguments of a command line, the program's name first.
@@ -171,12 +172,12 @@ fn dump_by<'a>(name: Option<&str>, hex: bool) -> Result<Command<'a>, Fault>
 }
 
 /// The program of a name.
-fn which_of(name: &str) -> Option<Which>
+fn which_of(name: &str) -> Option<FontProgram>
     ensures { result ≡ which_of name.now }
 {
     match name {
-        "fpgm" => Some(Which::Fpgm),
-        "prep" => Some(Which::Prep),
-        _ => size_of(name).map(Which::Glyph),
+        "fpgm" => Some(FontProgram::Fpgm),
+        "prep" => Some(FontProgram::Prep),
+        _ => size_of(name).map(FontProgram::Glyph),
     }
 }

@@ -1,6 +1,7 @@
 //! What a command line asks for.
 
-use fx_request::{Request, Which};
+use fx_machine::FontProgram;
+use fx_request::Request;
 
 /// What is to be written, and whether the font is hexadecimal text.
 #[derive(Drop)]
@@ -17,7 +18,7 @@ pub enum Task<'a> {
     /// The picture of a character.
     Picture(Show),
     /// The listing of a program.
-    Listing(Which),
+    Listing(FontProgram),
 }
 
 /// A strike: its size in pixels an em, its characters, its name, and whether the font's programs run.

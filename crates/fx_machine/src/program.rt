@@ -18,11 +18,14 @@ pub enum Program {
     Glyph,
 }
 
-/// A program of a font by its name; that of a glyph has the glyph's number.
+/// One of a font's programs (Apple TrueType Reference Manual, "Font program", "Control value program", "Glyph program").
 #[derive(Clone, Copy, Debug, PartialEq, Eq)]
 pub enum FontProgram {
+    /// The font program, the table `fpgm`.
     Fpgm,
+    /// The control value program, the table `prep`.
     Prep,
+    /// The program of the glyph with this number.
     Glyph(u16),
 }
 

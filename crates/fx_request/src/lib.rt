@@ -1,5 +1,4 @@
-//! What a caller asks for and what it is told: requests for strikes and their limits, the programs that can be listed, reports,
-//! and refusals.
+//! What a caller asks for and what it is told: requests for strikes and their limits, reports, and refusals.
 //!
 //! A refusal has a number that never changes, a name and fields. The faults of the crates below become refusals here. The code
 //! points of a request are made in rising order, each once, by `rising_codes`.
@@ -11,10 +10,8 @@ pub mod laws;
 mod limits;
 mod refusal;
 mod request;
-mod which;
 
 pub use characters::rising_codes;
 pub use limits::{MAX_CHARACTERS, MAX_CODE};
 pub use refusal::Refusal;
 pub use request::{Report, Request};
-pub use which::Which;

@@ -8,8 +8,8 @@ use Rattle.fx_glyf.specs.declared.glyph.Glyph as glyf
 use Rattle.fx_glyf.specs.declared.glyph.Glyph.TheVariants.{Empty, Simple, Composite}
 use Rattle.fx_glyf.specs.Glyphs.{glyph_of}
 use Rattle.fx_code.specs.Listing.{listing_text}
-use Rattle.fx_request.specs.declared.which.Which.{Which}
-use Rattle.fx_request.specs.declared.which.Which.TheVariants as which
+use Rattle.fx_machine.specs.declared.program.FontProgram.{FontProgram}
+use Rattle.fx_machine.specs.declared.program.FontProgram.TheVariants as program
 use Rattle.fx_request.specs.declared.refusal.Refusal.{Refusal}
 use Rattle.fx_request.specs.declared.refusal.Refusal.TheVariants.{WriteFailed}
 use Rattle.fx_request.specs.Faults.{of_font, of_glyph}
@@ -24,16 +24,16 @@ code_of (Simple shape) = shape.code
 code_of (Composite assembly) = assembly.code
 
 -- a program of an opened font, empty if its table is absent; or the first cause why it can't be read
-abbrev pub program_in : Face → Which → Result (List ℕ) Refusal
-program_in face which.Fpgm = Ok (table_or_empty face.file (codes "fpgm"))
-program_in face which.Prep = Ok (table_or_empty face.file (codes "prep"))
-program_in face (which.Glyph g) = do
+abbrev pub program_in : Face → FontProgram → Result (List ℕ) Refusal
+program_in face program.Fpgm = Ok (table_or_empty face.file (codes "fpgm"))
+program_in face program.Prep = Ok (table_or_empty face.file (codes "prep"))
+program_in face (program.Glyph g) = do
   bytes ← map_fault of_font (glyph_bytes_of face g)
   glyph ← map_fault of_glyph (glyph_of bytes g)
   Ok (code_of glyph)
 
 -- and of a font file
-unfoldable pub program_of : List ℕ → Which → Result (List ℕ) Refusal
+unfoldable pub program_of : List ℕ → FontProgram → Result (List ℕ) Refusal
 program_of file what = do
   face ← map_fault of_font (font_of file)
   program_in face what

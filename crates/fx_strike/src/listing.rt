@@ -7,7 +7,8 @@ ghost use Rattle.fx_strike.specs.Listings.{program_in, program_of, code_of, IsLi
 use fx_code::Code;
 use fx_fixed::Sink;
 use fx_glyf::{Glyph, read};
-use fx_request::{Refusal, Which};
+use fx_machine::FontProgram;
+use fx_request::Refusal;
 use fx_sfnt::Font;
 
 /// The program in a glyph's description; an empty glyph has none.
@@ -24,7 +25,7 @@ fn code_of<'a>(glyph: &Glyph<'a>) -> &'a [u8]
 
 /// The program of a glyph.
 fn glyph_program<'a>(font: &Font<'a>, g: u16) -> Result<&'a [u8], Refusal>
-    ensures value { map_ok (λ p. p.now) result ≡ program_in font.now (Which.Glyph g) }
+    ensures value { map_ok (λ p. p.now) result ≡ program_in font.now (FontProgram.Glyph g) }
     ensures short { IfOk result (λ p. length p.now < 2 ^ 32) }
     ensures named { IfErr result IsNoFault }
 {
@@ -33,21 +34,21 @@ fn glyph_program<'a>(font: &Font<'a>, g: u16) -> Result<&'a [u8], Refusal>
 }
 
 /// A program of a font; an absent table is an empty one.
-fn program_in<'a>(font: &Font<'a>, what: Which) -> Result<&'a [u8], Refusal>
+fn program_in<'a>(font: &Font<'a>, what: FontProgram) -> Result<&'a [u8], Refusal>
     ensures value { map_ok (λ p. p.now) result ≡ program_in font.now what }
     ensures short { IfOk result (λ p. length p.now < 2 ^ 32) }
     ensures named { IfErr result IsNoFault }
 {
     match what {
-        Which::Fpgm => Ok(font.table(*b"fpgm").unwrap_or(&[])),
-        Which::Prep => Ok(font.table(*b"prep").unwrap_or(&[])),
-        Which::Glyph(g) => glyph_program(font, g),
+        FontProgram::Fpgm => Ok(font.table(*b"fpgm").unwrap_or(&[])),
+        FontProgram::Prep => Ok(font.table(*b"prep").unwrap_or(&[])),
+        FontProgram::Glyph(g) => glyph_program(font, g),
     }
 }
 
 /// A program of a font file.
 #[tactic(auto, unfolding(crate::specs::Listings::program_of))]
-fn program_of(font: &[u8], what: Which) -> Result<&[u8], Refusal>
+fn program_of(font: &[u8], what: FontProgram) -> Result<&[u8], Refusal>
     ensures value { map_ok (λ p. p.now) result ≡ program_of font.now what }
     ensures short { IfOk result (λ p. length p.now < 2 ^ 32) }
     ensures named { IfErr result IsNoFault }
@@ -61,7 +62,7 @@ fn program_of(font: &[u8], what: Which) -> Result<&[u8], Refusal>
 ///
 /// The first cause is returned, and nothing is written: the font's tables, then the glyph's number, its offsets and its bytes.
 /// After `WriteFailed(n)` the writer holds the first n bytes of the listing. No memory is taken.
-pub fn listing_of<W: Sink>(font: &[u8], what: Which, out: &mut W) -> Result<(), Refusal>
+pub fn listing_of<W: Sink>(font: &[u8], what: FontProgram, out: &mut W) -> Result<(), Refusal>
     requires { W.fault_count out.old < 2 ^ 63 }
     // The program exists, its listing was written, and the writer counted no fault.
     ensures text { IfOk result (λ _.

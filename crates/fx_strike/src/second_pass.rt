@@ -112,7 +112,7 @@ impl<'a, S: Scan> Tools<'a, S> {
     {
         let mut text = TextWriter::new(out);
         let result = self.write_parts(hinter, draft, &mut text);
-        let _sink = text.close();
+        text.close();
         result
     }
 }
