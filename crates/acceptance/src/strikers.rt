@@ -57,34 +57,54 @@ fn of_storing(alloc: Global) -> Result<Vec<u8>, Fail> {
     with_tables(alloc, base.as_slice(), &tables)
 }
 
-/// What one character's program stores is gone when that of the next begins, in any order and each twice.
+/// The characters of such a font, in an order that is not theirs and each twice.
+fn twice_as_alone(
+    rt: &impl Abort,
+    alloc: Global,
+    striker: &mut Striker<'_, Rows>,
+    font: &[u8],
+) -> Result<(), Fail> {
+    for code in [0x42, 0x41, 0x42, 0x21, 0x41, 0x21] {
+        writes_as_alone(rt, alloc, striker, font, code)?;
+        assert_eq!(rt; box_of(striker, 0x42), Ok(Some((2, 1, 0, 0))));
+    }
+    assert_eq!(rt; box_of(striker, 0x21), Ok(None));
+    Ok(())
+}
+
+/// What one character's program stores is gone when that of the next begins.
 #[test]
 fn characters_in_any_order(rt: HostRuntime) -> Result<(), Fail> {
     let font = of_storing(rt.alloc())?;
     let mut striker = Striker::open(rt.alloc(), font.as_slice(), 16, true)?;
-    for code in [0x42, 0x41, 0x42, 0x21, 0x41, 0x42] {
-        writes_as_alone(&rt, rt.alloc(), &mut striker, font.as_slice(), code)?;
-        assert_eq!(rt; box_of(&mut striker, 0x42), Ok(Some((2, 1, 0, 0))));
-    }
-    assert_eq!(rt; box_of(&mut striker, 0x21), Ok(None));
-    Ok(())
+    twice_as_alone(&rt, rt.alloc(), &mut striker, font.as_slice())
 }
 
 /// An arc whose program divides by zero.
 const DIVIDING: &str = "0001 0000 0000 0080 0080 0002 0004 B1 01 00 62 31 36 17 40 40 80 80 00";
 
+/// The number of the refusal of a character.
+fn refused_number(striker: &mut Striker<'_, Rows>, code: u32) -> Option<u8> {
+    match striker.glyph(code) {
+        Ok(_glyph) => None,
+        Err(refusal) => Some(refusal.number()),
+    }
+}
+
 /// The square is two pixels wide only if its program runs; it does after a refusal too.
+fn refuses_twice(rt: &impl Abort, striker: &mut Striker<'_, Rows>) {
+    for _time in 0..2 {
+        assert_eq!(rt; box_of(striker, 0x41), Ok(Some((2, 1, 0, 0))));
+        assert_eq!(rt; refused_number(striker, 0x42), Some(38));
+    }
+}
+
 #[test]
 fn a_refusal_leaves_the_striker(rt: HostRuntime) -> Result<(), Fail> {
     let font = font(rt.alloc(), ROUNDED, DIVIDING)?;
     let mut striker = Striker::open(rt.alloc(), font.as_slice(), 16, true)?;
-    for _time in 0..2 {
-        assert_eq!(rt; box_of(&mut striker, 0x41), Ok(Some((2, 1, 0, 0))));
-        let refused = box_of(&mut striker, 0x42);
-        assert_eq!(rt; refused.err().map(|refusal| refusal.number()), Some(38));
-        writes_as_alone(&rt, rt.alloc(), &mut striker, font.as_slice(), 0x42)?;
-    }
-    Ok(())
+    refuses_twice(&rt, &mut striker);
+    writes_as_alone(&rt, rt.alloc(), &mut striker, font.as_slice(), 0x42)
 }
 
 /// The number of the refusal of a font at 16 pixels an em.
@@ -143,17 +163,28 @@ fn sizes_characters_and_names(rt: HostRuntime) -> Result<(), Fail> {
     Ok(())
 }
 
-/// A survey by a striker is that of a request; and with another scan it is that scan that is asked.
+/// A survey by a striker is that of a request, once and again.
+fn surveys_as_alone(rt: &impl Abort, alloc: Global, striker: &mut Striker<'_, Rows>, font: &[u8]) {
+    let chars = [0x42, 0x41, 0x21, 0x41];
+    let due = survey(alloc, &Rows, font, &hinted(&chars));
+    assert_eq!(rt; striker.survey(&chars), due);
+    assert_eq!(rt; striker.survey(&chars), due);
+}
+
 #[test]
 fn surveys_by_a_striker(rt: HostRuntime) -> Result<(), Fail> {
     let font = fixture(rt.alloc())?;
-    let chars = [0x42, 0x41, 0x21, 0x41];
     let mut striker = Striker::open(rt.alloc(), font.as_slice(), 16, true)?;
-    let due = survey(rt.alloc(), &Rows, font.as_slice(), &hinted(&chars));
-    assert_eq!(rt; striker.survey(&chars), due);
-    assert_eq!(rt; striker.survey(&chars), due);
+    surveys_as_alone(&rt, rt.alloc(), &mut striker, font.as_slice());
+    Ok(())
+}
+
+/// With another scan it is that scan that is asked.
+#[test]
+fn a_striker_asks_its_scan(rt: HostRuntime) -> Result<(), Fail> {
+    let font = fixture(rt.alloc())?;
+    let striker = Striker::open(rt.alloc(), font.as_slice(), 16, false)?;
     let mut striker = striker.with_scan(&OfWideFrames);
-    let narrow = striker.survey(&[0x42]);
-    assert_eq!(rt; narrow, Err(Refusal::OutOfMemory));
+    assert_eq!(rt; striker.survey(&[0x42]), Err(Refusal::OutOfMemory));
     Ok(())
 }
