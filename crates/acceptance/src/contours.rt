@@ -8,7 +8,7 @@ use crate::outlines::{off, on};
 use fx_contour::{ContourFault, frame, outline_frame, pieces};
 use fx_fixed::F26;
 use fx_hint::{Outline, OutlinePoint};
-use fx_winding::Frame;
+use fx_winding::{Frame, Piece};
 use std::alloc::{AllocError, Global};
 use std::process::Abort;
 use std::test::Fail;
@@ -32,6 +32,24 @@ fn sides(frame: Frame) -> (i32, i32, u32, u32) {
     (frame.left, frame.bottom, frame.width, frame.height)
 }
 
+/// Whether pieces are these arcs.
+fn are_arcs(made: &[Piece], arcs: &[[(i32, i32); 3]]) -> bool {
+    for (piece, arc) in made.iter().zip(arcs.iter()) {
+        if places(piece) != Some(*arc) {
+            return false;
+        }
+    }
+    made.len() == arcs.len()
+}
+
+/// Whether a frame has these sides.
+fn has_sides(frame: Result<Option<Frame>, ContourFault>, wanted: (i32, i32, u32, u32)) -> bool {
+    match frame {
+        Ok(Some(frame)) => sides(frame) == wanted,
+        _ => false,
+    }
+}
+
 /// The pieces of an outline are these arcs, and both of its frames have these sides.
 fn makes(
     rt: &impl Abort,
@@ -41,14 +59,9 @@ fn makes(
     wanted: (i32, i32, u32, u32),
 ) -> Result<(), Fail> {
     let made = pieces(alloc, outline)?;
-    assert_eq!(rt; made.len(), arcs.len());
-    for (piece, arc) in made.as_slice().iter().zip(arcs.iter()) {
-        assert_eq!(rt; places(piece), Some(*arc));
-    }
-    let by_pieces = frame(&made)?.ok_or("no frame")?;
-    assert_eq!(rt; sides(by_pieces), wanted);
-    let by_points = outline_frame(outline)?.ok_or("no frame")?;
-    assert_eq!(rt; sides(by_points), wanted);
+    assert!(rt; are_arcs(made.as_slice(), arcs));
+    assert!(rt; has_sides(frame(&made), wanted));
+    assert!(rt; has_sides(outline_frame(outline), wanted));
     Ok(())
 }
 
@@ -99,8 +112,8 @@ fn a_lone_point_may_be_too_far(rt: HostRuntime) -> Result<(), Fail> {
 fn pieces_of_16384_points(rt: HostRuntime) -> Result<(), Fail> {
     let outline = outline(rt.alloc(), &[on(64, 64); 16384], &[16383])?;
     let made = pieces(rt.alloc(), &outline)?;
-    assert_eq!(rt; made.len(), 16384);
+    assert!(rt; made.len() == 16384);
     let last = made.as_slice().last().copied();
-    assert_eq!(rt; last.map(|piece| place(piece.c)), Some((128, 128)));
+    assert!(rt; last.map(|piece| place(piece.c)) == Some((128, 128)));
     Ok(())
 }

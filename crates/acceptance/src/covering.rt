@@ -136,7 +136,7 @@ fn the_plain_scan(rt: HostRuntime) -> Result<(), Fail> {
     let bitmap = Plain.scan(rt.alloc(), &ring, frame(1, 2, 4, 1), &mut tally)?;
     assert!(rt; bitmap.bit(1, 2) && !bitmap.bit(2, 2) && bitmap.bit(3, 2) && bitmap.bit(4, 2));
     assert!(rt; !bitmap.bit(0, 2) && !bitmap.bit(1, 3));
-    assert_eq!(rt; tally.tests(), 96);
+    assert!(rt; tally.tests() == 96);
     Ok(())
 }
 
@@ -148,25 +148,29 @@ fn memory_for_pieces(rt: HostRuntime) -> Result<(), Fail> {
     for _ in 0..65_536u32 {
         add(&mut pieces, diagonal)?;
     }
-    assert_eq!(rt; pieces.len(), 65_536);
+    assert!(rt; pieces.len() == 65_536);
     Ok(())
 }
 
-/// Bitmaps of the smallest and of the largest frame, and scans of the smallest and of a wide one: a scan by pixels of a whole frame
-/// of the greatest sides takes a minute.
+/// Bitmaps of the smallest and of the largest frame.
 #[test]
 fn memory_for_bitmaps(rt: HostRuntime) -> Result<(), Fail> {
-    let alloc = rt.alloc();
-    let unit = outline(alloc, &UNIT)?;
-    let none = frame(0, 0, 0, 0);
-    assert_eq!(rt; Bitmap::new(alloc, none)?.frame().width, 0);
-    let most = frame(-1, -2, MAX_SIDE, MAX_SIDE);
-    assert!(rt; !Bitmap::new(alloc, most)?.bit(0, 0));
+    let least = Bitmap::new(rt.alloc(), frame(0, 0, 0, 0))?;
+    assert!(rt; least.frame().width == 0);
+    let most = Bitmap::new(rt.alloc(), frame(-1, -2, MAX_SIDE, MAX_SIDE))?;
+    assert!(rt; !most.bit(0, 0));
+    Ok(())
+}
+
+/// Scans of the smallest frame and of a wide one: a scan by pixels of a whole frame of the greatest sides takes a minute.
+#[test]
+fn memory_for_scans(rt: HostRuntime) -> Result<(), Fail> {
+    let unit = outline(rt.alloc(), &UNIT)?;
     let mut tally = Tally::new();
-    let empty = Plain.scan(alloc, &unit, none, &mut tally)?;
+    let empty = Plain.scan(rt.alloc(), &unit, frame(0, 0, 0, 0), &mut tally)?;
     assert!(rt; !empty.bit(0, 0));
     let wide = frame(-1, -2, MAX_SIDE, 512);
-    let found = Plain.scan(alloc, &unit, wide, &mut tally)?;
+    let found = Plain.scan(rt.alloc(), &unit, wide, &mut tally)?;
     assert!(rt; found.bit(0, 0) && !found.bit(1, 0) && !found.bit(0, 1) && !found.bit(-1, 0));
     Ok(())
 }

@@ -1,7 +1,8 @@
 //! The fixture font cut short, at every length.
 use crate::fonts::fixture;
+use crate::strikes::request;
 use fx_fixed::{Limits, MemorySink};
-use fx_request::{Refusal, Report, Request};
+use fx_request::Refusal;
 use fx_strike::make_strike;
 use std::alloc::{AllocError, Global};
 use std::test::Fail;
@@ -25,38 +26,24 @@ fn expected(length: usize) -> Result<&'static str, Refusal> {
     }
 }
 
-/// The result for a front of the font, and what was written.
-fn strike(
-    alloc: Global,
-    front: &[u8],
-) -> Result<(MemorySink, Result<Report, Refusal>), AllocError> {
-    let request = Request {
-        ppem: 16,
-        name: "F1",
-        chars: &[0x41],
-        hinting: false,
-    };
+/// Whether a strike of a front of the font returns and writes what is expected.
+fn is_expected(alloc: Global, front: &[u8]) -> Result<bool, AllocError> {
+    let request = request(16, &[0x41]);
     let mut out = MemorySink::new(alloc, 512, Limits::NONE)?;
     let result = make_strike(alloc, front, &request, &mut out);
-    Ok((out, result))
+    let so = match expected(front.len()) {
+        Err(refusal) => result == Err(refusal) && out.bytes().is_empty(),
+        Ok(lines) => result.is_ok() && out.bytes().ends_with(lines.as_bytes()),
+    };
+    Ok(so)
 }
 
 #[test]
 fn every_front_of_a_font(rt: HostRuntime) -> Result<(), Fail> {
     let font = fixture(rt.alloc())?;
-    assert_eq!(rt; font.len(), 382);
+    assert!(rt; font.len() == 382);
     for length in 0..383usize {
-        let (out, result) = strike(rt.alloc(), &font[..length])?;
-        match expected(length) {
-            Err(refusal) => {
-                assert_eq!(rt; result, Err(refusal), "{length}");
-                assert!(rt; out.bytes().is_empty(), "{length}");
-            }
-            Ok(lines) => {
-                assert!(rt; result.is_ok(), "{length}");
-                assert!(rt; out.bytes().ends_with(lines.as_bytes()), "{length}");
-            }
-        }
+        assert!(rt; is_expected(rt.alloc(), &font[..length])?, "{length}");
     }
     Ok(())
 }

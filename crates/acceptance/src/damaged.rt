@@ -5,11 +5,27 @@ use crate::tables::{Tables, with_tables};
 use fx_fixed::{Limits, MemorySink};
 use fx_request::Request;
 use fx_strike::make_strike;
-use std::alloc::Global;
+use std::alloc::{AllocError, Global};
 use std::process::Abort;
 use std::test::Fail;
 
-/// A strike of a font with one byte set to another ends well, or a cause is named and nothing is written.
+/// Whether a strike of a font ends well, or a cause is named and nothing is written.
+fn ends_well(alloc: Global, font: &[u8], hinting: bool) -> Result<bool, AllocError> {
+    let request = Request {
+        ppem: 16,
+        name: "F1",
+        chars: &[0x20, 0x41, 0x42],
+        hinting,
+    };
+    let mut out = MemorySink::new(alloc, 4096, Limits::NONE)?;
+    let ends = match make_strike(alloc, font, &request, &mut out) {
+        Ok(_) => out.bytes().ends_with(b"ENDFONT\n"),
+        Err(refusal) => 10 <= refusal.number() && refusal.number() <= 62 && out.bytes().is_empty(),
+    };
+    Ok(ends)
+}
+
+/// A strike of a font with one byte set to another ends well, or is refused.
 fn ends(
     rt: &impl Abort,
     alloc: Global,
@@ -20,23 +36,10 @@ fn ends(
 ) -> Result<(), Fail> {
     let mut damaged = Vec::from_slice(alloc, font)?;
     patch(&mut damaged, at, &[value])?;
-    let request = Request {
-        ppem: 16,
-        name: "F1",
-        chars: &[0x20, 0x41, 0x42],
-        hinting,
-    };
-    let mut out = MemorySink::new(alloc, 4096, Limits::NONE)?;
-    match make_strike(alloc, damaged.as_slice(), &request, &mut out) {
-        Ok(_) => assert!(rt; out.bytes().ends_with(b"ENDFONT\n"), "{at} {value}"),
-        Err(refusal) => {
-            assert!(rt;
-                refusal.number() >= 10 && refusal.number() <= 62,
-                "{at} {value}"
-            );
-            assert!(rt; out.bytes().is_empty(), "{at} {value}");
-        }
-    }
+    assert!(rt;
+        ends_well(alloc, damaged.as_slice(), hinting)?,
+        "{at} {value}"
+    );
     Ok(())
 }
 

@@ -46,25 +46,40 @@ pub fn bytes(alloc: Global, text: &str) -> Result<Vec<u8>, Fail> {
     Ok(hex::decode(alloc, digits.as_slice())?)
 }
 
-/// The fixture font with other glyphs 2 and 3: `loca`, `glyf` and the length of `glyf` are made anew.
-pub fn font(alloc: Global, second: &str, third: &str) -> Result<Vec<u8>, Fail> {
-    let mut glyf = Vec::new(alloc);
-    let mut loca = bytes(alloc, "0000 0000 0000")?;
-    for text in [second, third] {
-        glyf.extend_from_slice(bytes(alloc, text)?.as_slice())?;
-        if glyf.len() % 2 == 1 {
-            glyf.push(0)?;
-        }
-        let half = u16::try_from(glyf.len() / 2)?;
-        loca.extend_from_slice(&half.to_be_bytes())?;
+/// Adds a glyph to `glyf`, and its end to `loca`.
+fn add_glyph(
+    alloc: Global,
+    text: &str,
+    glyf: &mut Vec<u8>,
+    loca: &mut Vec<u8>,
+) -> Result<(), Fail> {
+    glyf.extend_from_slice(bytes(alloc, text)?.as_slice())?;
+    if glyf.len() % 2 == 1 {
+        glyf.push(0)?;
     }
-    loca.extend_from_slice(&[0, 0])?;
+    let half = u16::try_from(glyf.len() / 2)?;
+    loca.extend_from_slice(&half.to_be_bytes())?;
+    Ok(())
+}
+
+/// The fixture font with other tables `loca` and `glyf`; the length of `glyf` is made anew.
+fn assembled(alloc: Global, loca: &[u8], glyf: &[u8]) -> Result<Vec<u8>, Fail> {
     let length = u32::try_from(glyf.len())?;
     let mut font = bytes(alloc, FRONT)?;
     patch(&mut font, 40, &length.to_be_bytes())?;
-    font.extend_from_slice(loca.as_slice())?;
-    font.extend_from_slice(glyf.as_slice())?;
+    font.extend_from_slice(loca)?;
+    font.extend_from_slice(glyf)?;
     Ok(font)
+}
+
+/// The fixture font with other glyphs 2 and 3.
+pub fn font(alloc: Global, second: &str, third: &str) -> Result<Vec<u8>, Fail> {
+    let mut glyf = Vec::new(alloc);
+    let mut loca = bytes(alloc, "0000 0000 0000")?;
+    add_glyph(alloc, second, &mut glyf, &mut loca)?;
+    add_glyph(alloc, third, &mut glyf, &mut loca)?;
+    loca.extend_from_slice(&[0, 0])?;
+    assembled(alloc, loca.as_slice(), glyf.as_slice())
 }
 
 /// The fixture font unchanged, of 382 bytes.

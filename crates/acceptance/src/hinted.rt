@@ -1,41 +1,34 @@
 //! Worked strikes with hinting on, and the halts of font programs.
 use crate::fonts::{ARC, RING, font, patch};
-use crate::strikes::request;
+use crate::strikes::{ends_with, is_refused, request};
 use crate::tables::{NO_TABLES, Tables, with_tables};
 use fx_cli::run;
 use fx_fixed::{Limits, MemorySink, MemorySource};
 use fx_request::{Refusal, Report, Request};
-use fx_strike::make_strike;
 use std::alloc::Global;
 use std::process::Abort;
 use std::test::Fail;
 
-/// A hinted strike at 16 pixels an em in memory, and its counts or the refusal.
-fn strike(
-    alloc: Global,
-    font: &[u8],
-    chars: &[u32],
-) -> Result<(MemorySink, Result<Report, Refusal>), Fail> {
-    let request = Request {
-        ppem: 16,
-        name: "F1",
-        chars,
+/// A hinted request for characters at 16 pixels an em.
+fn hinted(chars: &[u32]) -> Request<'_> {
+    Request {
         hinting: true,
-    };
-    let mut out = MemorySink::new(alloc, 1024, Limits::NONE)?;
-    let result = make_strike(alloc, font, &request, &mut out);
-    Ok((out, result))
+        ..request(16, chars)
+    }
 }
 
 /// The counts of a strike of which no number lay outside its table.
-fn counts(glyphs: u32, steps: u64) -> Result<Report, Refusal> {
-    Ok(Report {
+fn counts(glyphs: u32, steps: u64) -> Report {
+    Report {
         glyphs,
         missing: 0,
         strays: 0,
         steps,
-    })
+    }
 }
+
+/// The lines of a glyph of two pixels in a row at the end of a strike.
+const TWO_PIXELS: &str = "BBX 2 1 0 0\nBITMAP\nC0\nENDCHAR\nENDFONT\n";
 
 /// The ring with a program that stores 64 in cell 0 of the storage area and in control value 0, and moves twilight point 0 by 64.
 pub const STORING: &str =
@@ -55,14 +48,17 @@ fn nothing_passes_between_glyphs(rt: HostRuntime) -> Result<(), Fail> {
         ..NO_TABLES
     };
     let font = with_tables(rt.alloc(), base.as_slice(), &tables)?;
-    let lines = b"BBX 2 1 0 0\nBITMAP\nC0\nENDCHAR\nENDFONT\n";
-    let (alone, result) = strike(rt.alloc(), font.as_slice(), &[0x42])?;
-    assert_eq!(rt; result, counts(1, 3));
-    assert!(rt; alone.bytes().ends_with(lines));
-    let (after, result) = strike(rt.alloc(), font.as_slice(), &[0x41, 0x42])?;
-    assert_eq!(rt; result, counts(2, 11));
-    assert!(rt; after.bytes().ends_with(lines));
-    Ok(())
+    let font = font.as_slice();
+    ends_with(
+        &rt,
+        rt.alloc(),
+        font,
+        &hinted(&[0x42]),
+        counts(1, 3),
+        TWO_PIXELS,
+    )?;
+    let both = hinted(&[0x41, 0x42]);
+    ends_with(&rt, rt.alloc(), font, &both, counts(2, 11), TWO_PIXELS)
 }
 
 /// A square of 90 units whose program rounds the right side up to the grid: it is 128 wide, and else 90.
@@ -72,39 +68,55 @@ pub const ROUNDED: &str =
 #[test]
 fn a_square_to_the_grid(rt: HostRuntime) -> Result<(), Fail> {
     let font = font(rt.alloc(), RING, ROUNDED)?;
-    let (out, result) = strike(rt.alloc(), font.as_slice(), &[0x42])?;
-    assert_eq!(rt; result, counts(1, 5));
-    assert!(rt;
-        out.bytes()
-            .ends_with(b"BBX 2 1 0 0\nBITMAP\nC0\nENDCHAR\nENDFONT\n")
-    );
-    let mut out = MemorySink::new(rt.alloc(), 1024, Limits::NONE)?;
-    make_strike(rt.alloc(), font.as_slice(), &request(16, &[0x42]), &mut out)?;
-    let end = b"BBX 1 1 0 0\nBITMAP\n80\nENDCHAR\nENDFONT\n";
-    assert!(rt; out.bytes().ends_with(end));
-    Ok(())
+    let font = font.as_slice();
+    ends_with(
+        &rt,
+        rt.alloc(),
+        font,
+        &hinted(&[0x42]),
+        counts(1, 5),
+        TWO_PIXELS,
+    )?;
+    let end = "BBX 1 1 0 0\nBITMAP\n80\nENDCHAR\nENDFONT\n";
+    ends_with(
+        &rt,
+        rt.alloc(),
+        font,
+        &request(16, &[0x42]),
+        counts(1, 0),
+        end,
+    )
+}
+
+/// The strike of a composite of one component, with a left bearing of 64 units, has these lines.
+fn offset_shows(rt: &impl Abort, alloc: Global, glyph: &str, lines: &str) -> Result<(), Fail> {
+    let mut font = font(alloc, glyph, ARC)?;
+    patch(&mut font, 256, &64u16.to_be_bytes())?;
+    ends_with(
+        rt,
+        alloc,
+        font.as_slice(),
+        &hinted(&[0x41]),
+        counts(1, 0),
+        lines,
+    )
 }
 
 /// The offset of a component is rounded to whole pixels only if its flags say so.
 #[test]
 fn offsets_of_components(rt: HostRuntime) -> Result<(), Fail> {
-    for (glyph, lines) in [
-        (
-            "ffff 0040 0020 00c0 00a0 0002 0003 40 20",
-            "BBX 2 1 1 0\nBITMAP\nC0\nENDCHAR\nENDFONT\n",
-        ),
-        (
-            "ffff 0040 0020 00c0 00a0 0006 0003 40 20",
-            "BBX 2 1 1 1\nBITMAP\nC0\nENDCHAR\nENDFONT\n",
-        ),
-    ] {
-        let mut font = font(rt.alloc(), glyph, ARC)?;
-        patch(&mut font, 256, &64u16.to_be_bytes())?;
-        let (out, result) = strike(rt.alloc(), font.as_slice(), &[0x41])?;
-        assert_eq!(rt; result, counts(1, 0));
-        assert!(rt; out.bytes().ends_with(lines.as_bytes()), "{lines}");
-    }
-    Ok(())
+    offset_shows(
+        &rt,
+        rt.alloc(),
+        "ffff 0040 0020 00c0 00a0 0002 0003 40 20",
+        "BBX 2 1 1 0\nBITMAP\nC0\nENDCHAR\nENDFONT\n",
+    )?;
+    offset_shows(
+        &rt,
+        rt.alloc(),
+        "ffff 0040 0020 00c0 00a0 0006 0003 40 20",
+        "BBX 2 1 1 1\nBITMAP\nC0\nENDCHAR\nENDFONT\n",
+    )
 }
 
 /// A program that moves point 0 by 16,776,704 in 26.6 pixels, and so past 2^21.
@@ -114,10 +126,13 @@ const FAR: &str =
 #[test]
 fn a_point_moved_too_far(rt: HostRuntime) -> Result<(), Fail> {
     let font = font(rt.alloc(), RING, FAR)?;
-    let (out, result) = strike(rt.alloc(), font.as_slice(), &[0x42])?;
-    assert_eq!(rt; result, Err(Refusal::TooFar(3)));
-    assert!(rt; out.bytes().is_empty());
-    Ok(())
+    is_refused(
+        &rt,
+        rt.alloc(),
+        font.as_slice(),
+        &hinted(&[0x42]),
+        Refusal::TooFar(3),
+    )
 }
 
 /// `make` with these tables in the font says this line on standard error, and nothing is written.
@@ -137,7 +152,7 @@ fn halts(
     let status = run(alloc, &words, &mut reader, &mut out, &mut err);
     assert!(rt; err.bytes() == line.as_bytes(), "{line}");
     assert!(rt; out.bytes().is_empty(), "{line}");
-    assert_eq!(rt; status, 1);
+    assert!(rt; status == 1);
     Ok(())
 }
 
@@ -214,13 +229,15 @@ fn programs_at_their_limit(rt: HostRuntime) -> Result<(), Fail> {
     let glyph = of_calls(rt.alloc(), "50 7F")?;
     let base = font(rt.alloc(), THREE, glyph.as_str())?;
     let font = with_tables(rt.alloc(), base.as_slice(), &EMPTY_FUNCTION)?;
-    let (out, result) = strike(rt.alloc(), font.as_slice(), &[0x41])?;
-    assert_eq!(rt; result, counts(1, 750_002));
-    assert!(rt;
-        out.bytes()
-            .ends_with(b"BBX 2 1 0 0\nBITMAP\nC0\nENDCHAR\nENDFONT\n")
-    );
-    Ok(())
+    let font = font.as_slice();
+    ends_with(
+        &rt,
+        rt.alloc(),
+        font,
+        &hinted(&[0x41]),
+        counts(1, 750_002),
+        TWO_PIXELS,
+    )
 }
 
 /// One call more, and the last instruction of the function is past the limit.

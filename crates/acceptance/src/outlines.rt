@@ -26,12 +26,25 @@ pub fn off(x: i32, y: i32) -> OutlinePoint {
     }
 }
 
+/// The unhinted outline of glyph 2 of a font, at a size.
+fn outline_at(alloc: Global, file: &[u8], pixels: u16) -> Result<Outline, Fail> {
+    let font = Font::open(file)?;
+    let ppem = Ppem::new(pixels).ok_or("no size")?;
+    Ok(outline(alloc, &font, ppem, None, 2)?)
+}
+
+/// Whether an outline has these points, ends of contours and advance width, and no strays.
+pub fn is_outline(outline: &Outline, points: &[OutlinePoint], ends: &[u16], advance: i32) -> bool {
+    outline.points.as_slice() == points
+        && outline.ends.as_slice() == ends
+        && outline.advance == F26(advance)
+        && outline.strays == 0
+}
+
 #[test]
 fn an_outline_of_eight_points(rt: HostRuntime) -> Result<(), Fail> {
     let file = fixture(rt.alloc())?;
-    let font = Font::open(file.as_slice())?;
-    let ppem = Ppem::new(16).ok_or("no size")?;
-    let outline = outline(rt.alloc(), &font, ppem, None, 2)?;
+    let outline = outline_at(rt.alloc(), file.as_slice(), 16)?;
     let points = [
         on(0, 0),
         on(320, 0),
@@ -42,10 +55,8 @@ fn an_outline_of_eight_points(rt: HostRuntime) -> Result<(), Fail> {
         on(224, 224),
         on(224, 96),
     ];
-    assert!(rt; outline.points.as_slice() == points.as_slice());
-    assert_eq!(rt; outline.ends.as_slice(), [3, 7].as_slice());
-    assert_eq!(rt; outline.advance, F26(384));
-    assert_eq!(rt; (outline.strays, outline.steps), (0, 0));
+    assert!(rt; is_outline(&outline, &points, &[3, 7], 384));
+    assert!(rt; outline.steps == 0);
     Ok(())
 }
 
@@ -53,12 +64,10 @@ fn an_outline_of_eight_points(rt: HostRuntime) -> Result<(), Fail> {
 fn an_outline_of_16384_points(rt: HostRuntime) -> Result<(), Fail> {
     let glyph = of_points(rt.alloc(), "3fff", "")?;
     let file = font(rt.alloc(), glyph.as_str(), ARC)?;
-    let font = Font::open(file.as_slice())?;
-    let ppem = Ppem::new(255).ok_or("no size")?;
-    let outline = outline(rt.alloc(), &font, ppem, None, 2)?;
-    assert_eq!(rt; outline.points.len(), 16384);
+    let outline = outline_at(rt.alloc(), file.as_slice(), 255)?;
+    assert!(rt; outline.points.len() == 16384);
     assert!(rt; outline.points.last().copied() == Some(on(0, 0)));
-    assert_eq!(rt; outline.ends.as_slice(), [16383].as_slice());
+    assert!(rt; outline.ends.as_slice() == [16383].as_slice());
     Ok(())
 }
 
@@ -83,6 +92,15 @@ fn keeping_machine<'a>(alloc: Global, font: &Font<'a>) -> Result<KeepingMachine<
     Ok(KeepingMachine::new(alloc, machine)?)
 }
 
+/// Whether two outlines are the same.
+fn is_same(a: &Outline, b: &Outline) -> bool {
+    a.points.as_slice() == b.points.as_slice()
+        && a.ends.as_slice() == b.ends.as_slice()
+        && a.advance == b.advance
+        && a.strays == b.strays
+        && a.steps == b.steps
+}
+
 /// A machine that keeps components makes the outline of glyph 2 of a font as one that does not. Its programs name two numbers
 /// outside their tables, and execute ten instructions.
 fn outline_by_both(
@@ -95,11 +113,8 @@ fn outline_by_both(
     let ppem = Ppem::new(pixels).ok_or("no size")?;
     let made = made_plainly(alloc, font, ppem)?;
     let again = outline_with(alloc, keeping, font, ppem, 2)?;
-    assert!(rt; again.points.as_slice() == made.points.as_slice());
-    assert_eq!(rt; again.ends.as_slice(), made.ends.as_slice());
-    assert_eq!(rt; again.advance, made.advance);
-    assert_eq!(rt; (made.strays, made.steps), (2, 10));
-    assert_eq!(rt; (again.strays, again.steps), (2, 10));
+    assert!(rt; is_same(&again, &made));
+    assert!(rt; made.strays == 2 && made.steps == 10);
     Ok(())
 }
 
@@ -117,12 +132,24 @@ fn outlines_by_both(
     }
     // Of glyph 3: its left bearing, its last point's y, the cell that its program reads.
     for (at, new) in [(258, 9), (374, 0x60), (361, 98)] {
-        let mut changed = Vec::from_slice(alloc, file)?;
-        patch(&mut changed, at, &[new])?;
-        let font = Font::open(changed.as_slice())?;
-        outline_by_both(rt, alloc, keeping, &font, 16)?;
+        outline_of_changed(rt, alloc, keeping, file, at, new)?;
     }
     Ok(())
+}
+
+/// The same of a font with another byte at a place.
+fn outline_of_changed(
+    rt: &impl Abort,
+    alloc: Global,
+    keeping: &mut KeepingMachine<'_>,
+    file: &[u8],
+    at: usize,
+    new: u8,
+) -> Result<(), Fail> {
+    let mut changed = Vec::from_slice(alloc, file)?;
+    patch(&mut changed, at, &[new])?;
+    let font = Font::open(changed.as_slice())?;
+    outline_by_both(rt, alloc, keeping, &font, 16)
 }
 
 #[test]

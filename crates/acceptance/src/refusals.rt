@@ -59,7 +59,7 @@ fn refusals_show_number_name_and_fields(rt: HostRuntime) -> Result<(), Fail> {
         (Refusal::InputTooLarge, "73 InputTooLarge"),
         (Refusal::OutOfMemory, "90 OutOfMemory"),
     ] {
-        assert_eq!(rt; format!(in rt.alloc(); "{refusal}")?.as_str(), text);
+        assert!(rt; format!(in rt.alloc(); "{refusal}")?.as_str() == text);
     }
     Ok(())
 }

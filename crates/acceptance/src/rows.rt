@@ -1,8 +1,8 @@
 //! What pieces add to rows of pixels, and the scan by rows, against the tests of single points.
-use crate::curves::{Curve, add, frame, outline, piece};
+use crate::curves::{At, Curve, add, frame, outline, piece};
 use fx_rows::{OnRow, RowPart, Rows, Run, interval};
 use fx_winding::{
-    Frame, MAX_SIDE, Piece, Pieces, Plain, Point, Scan, Tally, crossing, on_piece, region,
+    Bitmap, Frame, MAX_SIDE, Piece, Pieces, Plain, Point, Scan, Tally, crossing, on_piece, region,
 };
 use std::alloc::{AllocError, Global};
 use std::process::Abort;
@@ -33,29 +33,29 @@ fn parts_by_hand(rt: HostRuntime) {
         value: -1,
     };
     let hill = ((0, 64), Some((128, 320)), (256, 64));
-    assert_eq!(rt;
-        part(hill, 0, low, &mut tally),
-        RowPart {
-            region: Some(under_hill),
-            ..NOTHING
-        }
+    assert!(rt;
+        part(hill, 0, low, &mut tally)
+            == RowPart {
+                region: Some(under_hill),
+                ..NOTHING
+            }
     );
     let dale = ((256, 64), Some((128, -192)), (0, 64));
-    assert_eq!(rt; part(dale, 0, low, &mut tally), NOTHING);
+    assert!(rt; part(dale, 0, low, &mut tally) == NOTHING);
     let square = frame(0, 0, 4, 4);
     let left = ((0, 256), Some((0, 0)), (256, 0));
-    assert_eq!(rt; part(left, 0, square, &mut tally).on, OnRow::One(0));
+    assert!(rt; part(left, 0, square, &mut tally).on == OnRow::One(0));
     let right = ((256, 0), Some((512, 0)), (512, 256));
-    assert_eq!(rt; part(right, 0, square, &mut tally).on, OnRow::One(3));
+    assert!(rt; part(right, 0, square, &mut tally).on == OnRow::One(3));
     let line = ((300, 64), None, (0, 64));
-    assert_eq!(rt; part(line, 0, square, &mut tally).on, OnRow::Range(0, 1));
+    assert!(rt; part(line, 0, square, &mut tally).on == OnRow::Range(0, 1));
     let both = ((0, 16), Some((128, 144)), (256, 16));
-    assert_eq!(rt;
-        part(both, 0, frame(0, 0, 2, 1), &mut tally),
-        RowPart {
-            on: OnRow::Two(0, 1),
-            ..NOTHING
-        }
+    assert!(rt;
+        part(both, 0, frame(0, 0, 2, 1), &mut tally)
+            == RowPart {
+                on: OnRow::Two(0, 1),
+                ..NOTHING
+            }
     );
     assert!(rt; tally.tests() <= 60);
 }
@@ -104,23 +104,32 @@ fn agrees(curve: Curve) -> bool {
     true
 }
 
+/// Places of points.
+const PLACES: [At; 7] = [
+    (64, 64),
+    (192, 64),
+    (-64, 320),
+    (320, 192),
+    (0, 0),
+    (256, 448),
+    (448, 64),
+];
+
+/// Whether the parts of the line and of each arc between two places are those of the point tests.
+fn all_agree(a: At, c: At) -> bool {
+    for b in PLACES {
+        if !agrees((a, Some(b), c)) {
+            return false;
+        }
+    }
+    agrees((a, None, c))
+}
+
 #[test]
 fn parts_like_point_tests(rt: HostRuntime) {
-    let places = [
-        (64, 64),
-        (192, 64),
-        (-64, 320),
-        (320, 192),
-        (0, 0),
-        (256, 448),
-        (448, 64),
-    ];
-    for a in places {
-        for c in places {
-            assert!(rt; agrees((a, None, c)), "{a:?} {c:?}");
-            for b in places {
-                assert!(rt; agrees((a, Some(b), c)), "{a:?} {b:?} {c:?}");
-            }
+    for a in PLACES {
+        for c in PLACES {
+            assert!(rt; all_agree(a, c), "{a:?} {c:?}");
         }
     }
 }
@@ -147,6 +156,20 @@ const CENTRES: [Curve; 6] = [
     ((64, 960), Some((1600, 960)), (320, 960)),
 ];
 
+/// Whether two bitmaps have the same bits in the columns and rows from -20 to 19.
+fn same_bits(a: &Bitmap, b: &Bitmap) -> bool {
+    for up in 0..40u32 {
+        for across in 0..40u32 {
+            let col = across as i32 - 20;
+            let row = up as i32 - 20;
+            if a.bit(col, row) != b.bit(col, row) {
+                return false;
+            }
+        }
+    }
+    true
+}
+
 /// The scan by rows sets the bits that the scan by pixels sets, in the columns and rows from -20 to 19, by at most ten tests for
 /// each piece and row.
 fn scans_agree(rt: &impl Abort, alloc: Global, curves: &[Curve]) -> Result<(), Fail> {
@@ -156,17 +179,7 @@ fn scans_agree(rt: &impl Abort, alloc: Global, curves: &[Curve]) -> Result<(), F
     let by_rows = Rows.scan(alloc, &pieces, frame, &mut few)?;
     let mut many = Tally::new();
     let by_pixels = Plain.scan(alloc, &pieces, frame, &mut many)?;
-    for up in 0..40u32 {
-        for across in 0..40u32 {
-            let col = across as i32 - 20;
-            let row = up as i32 - 20;
-            assert_eq!(rt;
-                by_rows.bit(col, row),
-                by_pixels.bit(col, row),
-                "{col} {row}"
-            );
-        }
-    }
+    assert!(rt; same_bits(&by_rows, &by_pixels));
     assert!(rt; few.tests() <= 400 * pieces.len() as u64);
     Ok(())
 }
@@ -220,12 +233,15 @@ fn memory_for_scans(rt: HostRuntime) -> Result<(), Fail> {
     let mut tally = Tally::new();
     let empty = Rows.scan(rt.alloc(), &ring, frame(3, 4, 0, 0), &mut tally)?;
     assert!(rt; !empty.bit(3, 4));
-    assert_eq!(rt; tally.tests(), 0);
-    let wide = frame(-4096, -256, MAX_SIDE, 512);
-    let high = frame(-256, -4096, 512, MAX_SIDE);
-    for frame in [wide, high] {
-        let whole = Rows.scan(rt.alloc(), &ring, frame, &mut tally)?;
-        assert!(rt; whole.bit(10, 0) && whole.bit(-15, 0) && !whole.bit(0, 0) && !whole.bit(30, 0));
-    }
+    assert!(rt; tally.tests() == 0);
+    shows_ring(&rt, rt.alloc(), &ring, frame(-4096, -256, MAX_SIDE, 512))?;
+    shows_ring(&rt, rt.alloc(), &ring, frame(-256, -4096, 512, MAX_SIDE))
+}
+
+/// A scan of the ring by rows sets bits inside it, and none in its hole and outside.
+fn shows_ring(rt: &impl Abort, alloc: Global, ring: &Pieces, frame: Frame) -> Result<(), Fail> {
+    let mut tally = Tally::new();
+    let whole = Rows.scan(alloc, ring, frame, &mut tally)?;
+    assert!(rt; whole.bit(10, 0) && whole.bit(-15, 0) && !whole.bit(0, 0) && !whole.bit(30, 0));
     Ok(())
 }

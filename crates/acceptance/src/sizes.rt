@@ -1,12 +1,13 @@
 //! The greatest sizes: 1,024 pixels an em, and 8,192 pixels a side.
 use crate::fonts::{RING, fixture, font};
-use crate::strikes::request;
+use crate::strikes::{counts, ends_with, request};
 use fx_fixed::{Limits, MemorySink};
-use fx_request::Refusal;
+use fx_request::{Refusal, Request};
 use fx_rows::Rows;
 use fx_strike::{make_strike, make_strike_with};
 use fx_winding::{Bitmap, Frame, Pieces, Scan, ScanFault, Tally};
 use std::alloc::Global;
+use std::process::Abort;
 use std::test::Fail;
 
 /// The scan by rows, if it makes at most this number of tests. For four pieces in one row the limit is 4 * 1 * (6 * digits + 12), with the
@@ -37,22 +38,66 @@ const WIDEST: &str =
 const WIDER: &str =
     "0001 0000 0000 0000 0000 0003 0000 01010101 0000 2001 0000 dfff 0000 0000 0001 0000";
 
-#[test]
-fn the_widest_row(rt: HostRuntime) -> Result<(), Fail> {
-    let request = request(1024, &[0x42]);
-    let widest = font(rt.alloc(), RING, WIDEST)?;
-    let mut out = MemorySink::new(rt.alloc(), 4096, Limits::NONE)?;
-    make_strike_with(rt.alloc(), &Few(384), widest.as_slice(), &request, &mut out)?;
-    let mut end = b"BBX 8192 1 0 0\nBITMAP\n".to_vec(rt.alloc())?;
-    end.extend_from_slice(vec![in rt.alloc(); b'F'; 2048]?.as_slice())?;
-    end.extend_from_slice(b"\nENDCHAR\nENDFONT\n")?;
-    assert!(rt; out.bytes().ends_with(end.as_slice()));
-    let wider = font(rt.alloc(), RING, WIDER)?;
-    let mut out = MemorySink::new(rt.alloc(), 4096, Limits::NONE)?;
-    let result = make_strike_with(rt.alloc(), &Few(384), wider.as_slice(), &request, &mut out);
-    assert_eq!(rt; result, Err(Refusal::GlyphTooLarge(3)));
+/// The end of a strike whose last glyph is one row of pixels, all set: whole bytes of the row, and what comes after them.
+fn one_row(alloc: Global, width: u32, bytes: usize, rest: &str) -> Result<String, Fail> {
+    let mut text = format!(in alloc; "BBX {width} 1 0 0\nBITMAP\n")?;
+    for _ in 0..bytes {
+        text.push_str("FF")?;
+    }
+    text.push_str(rest)?;
+    text.push_str("\nENDCHAR\nENDFONT\n")?;
+    Ok(text)
+}
+
+/// A strike by a scan ends so.
+fn ends_by(
+    rt: &impl Abort,
+    alloc: Global,
+    scan: &Few,
+    font: &[u8],
+    request: &Request,
+    end: &str,
+) -> Result<(), Fail> {
+    let mut out = MemorySink::new(alloc, 4096, Limits::NONE)?;
+    let result = make_strike_with(alloc, scan, font, request, &mut out);
+    assert!(rt; result.is_ok());
+    assert!(rt; out.bytes().ends_with(end.as_bytes()));
+    Ok(())
+}
+
+/// A strike by a scan is refused, and nothing is written.
+fn refused_by(
+    rt: &impl Abort,
+    alloc: Global,
+    scan: &Few,
+    font: &[u8],
+    request: &Request,
+    refusal: Refusal,
+) -> Result<(), Fail> {
+    let mut out = MemorySink::new(alloc, 4096, Limits::NONE)?;
+    let result = make_strike_with(alloc, scan, font, request, &mut out);
+    assert!(rt; result == Err(refusal));
     assert!(rt; out.bytes().is_empty());
     Ok(())
+}
+
+#[test]
+fn the_widest_row(rt: HostRuntime) -> Result<(), Fail> {
+    let alloc = rt.alloc();
+    let request = request(1024, &[0x42]);
+    let widest = font(alloc, RING, WIDEST)?;
+    let end = one_row(alloc, 8192, 1024, "")?;
+    ends_by(
+        &rt,
+        alloc,
+        &Few(384),
+        widest.as_slice(),
+        &request,
+        end.as_str(),
+    )?;
+    let wider = font(alloc, RING, WIDER)?;
+    let refusal = Refusal::GlyphTooLarge(3);
+    refused_by(&rt, alloc, &Few(384), wider.as_slice(), &request, refusal)
 }
 
 /// A rectangle of 16,384 by 8 FUnits: 2,048 by 1 pixels at 128 pixels an em.
@@ -61,15 +106,18 @@ const WHOLE_WORDS: &str =
 
 #[test]
 fn a_row_of_2048_pixels(rt: HostRuntime) -> Result<(), Fail> {
-    let font = font(rt.alloc(), RING, WHOLE_WORDS)?;
+    let alloc = rt.alloc();
+    let font = font(alloc, RING, WHOLE_WORDS)?;
+    let end = one_row(alloc, 2048, 256, "")?;
     let request = request(128, &[0x42]);
-    let mut out = MemorySink::new(rt.alloc(), 4096, Limits::NONE)?;
-    make_strike_with(rt.alloc(), &Few(336), font.as_slice(), &request, &mut out)?;
-    let mut end = b"BBX 2048 1 0 0\nBITMAP\n".to_vec(rt.alloc())?;
-    end.extend_from_slice(vec![in rt.alloc(); b'F'; 512]?.as_slice())?;
-    end.extend_from_slice(b"\nENDCHAR\nENDFONT\n")?;
-    assert!(rt; out.bytes().ends_with(end.as_slice()));
-    Ok(())
+    ends_by(
+        &rt,
+        alloc,
+        &Few(336),
+        font.as_slice(),
+        &request,
+        end.as_str(),
+    )
 }
 
 /// A rectangle of 16,392 by 8 FUnits: 2,049 by 1 pixels at 128 pixels an em.
@@ -78,45 +126,48 @@ const WIDE: &str =
 
 #[test]
 fn a_row_of_2049_pixels(rt: HostRuntime) -> Result<(), Fail> {
-    let wide = font(rt.alloc(), RING, WIDE)?;
-    let mut out = MemorySink::new(rt.alloc(), 4096, Limits::NONE)?;
-    make_strike(
-        rt.alloc(),
+    let alloc = rt.alloc();
+    let wide = font(alloc, RING, WIDE)?;
+    let end = one_row(alloc, 2049, 256, "80")?;
+    let request = request(128, &[0x42]);
+    ends_with(
+        &rt,
+        alloc,
         wide.as_slice(),
-        &request(128, &[0x42]),
-        &mut out,
-    )?;
-    let mut end = b"BBX 2049 1 0 0\nBITMAP\n".to_vec(rt.alloc())?;
-    end.extend_from_slice(vec![in rt.alloc(); b'F'; 512]?.as_slice())?;
-    end.extend_from_slice(b"80\nENDCHAR\nENDFONT\n")?;
-    assert!(rt; out.bytes().ends_with(end.as_slice()));
-    Ok(())
+        &request,
+        counts(1, 0),
+        end.as_str(),
+    )
 }
 
 /// The lines of a strike of the character 41 at 1,024 pixels an em, before its rows.
 const HEAD: &[u8] =
     b"STARTFONT 2.1\nFONT F1\nSIZE 1024 72 72\nFONTBOUNDINGBOX 320 320 0 0\nSTARTPROPERTIES 2\nFONT_ASCENT 800\nFONT_DESCENT 224\nENDPROPERTIES\nCHARS 1\nSTARTCHAR uni0041\nENCODING 65\nSWIDTH 375 0\nDWIDTH 384 0\nBBX 320 320 0 0\nBITMAP\n";
 
-#[test]
-fn the_greatest_size(rt: HostRuntime) -> Result<(), Fail> {
-    let font = fixture(rt.alloc())?;
-    let mut out = MemorySink::new(rt.alloc(), 0, Limits::NONE)?;
-    make_strike(
-        rt.alloc(),
-        font.as_slice(),
-        &request(1024, &[0x41]),
-        &mut out,
-    )?;
-    let mut want = HEAD.to_vec(rt.alloc())?;
+/// The rows of that glyph, and the end of the strike.
+fn large_ring(alloc: Global) -> Result<Vec<u8>, Fail> {
+    let mut rows = Vec::new(alloc);
     for row in 0..320u32 {
         for byte in 0..40u32 {
             let hole = 96 <= row && row < 224 && 12 <= byte && byte < 28;
-            want.extend_from_slice(if hole { b"00" } else { b"FF" })?;
+            rows.extend_from_slice(if hole { b"00" } else { b"FF" })?;
         }
-        want.push(b'\n')?;
+        rows.push(b'\n')?;
     }
-    want.extend_from_slice(b"ENDCHAR\nENDFONT\n")?;
-    assert!(rt; out.bytes() == want.as_slice());
+    rows.extend_from_slice(b"ENDCHAR\nENDFONT\n")?;
+    Ok(rows)
+}
+
+#[test]
+fn the_greatest_size(rt: HostRuntime) -> Result<(), Fail> {
+    let alloc = rt.alloc();
+    let font = fixture(alloc)?;
+    let mut out = MemorySink::new(alloc, 0, Limits::NONE)?;
+    let request = request(1024, &[0x41]);
+    let result = make_strike(alloc, font.as_slice(), &request, &mut out);
+    assert!(rt; result.is_ok());
+    let rows = large_ring(alloc)?;
+    assert!(rt; out.bytes().strip_prefix(HEAD) == Some(rows.as_slice()));
     Ok(())
 }
 
@@ -126,7 +177,7 @@ fn sizes_up_to_1024(rt: HostRuntime) -> Result<(), Fail> {
     for (ppem, ok) in [(256, true), (1024, true), (1025, false)] {
         let mut out = MemorySink::new(rt.alloc(), 0, Limits::NONE)?;
         let result = make_strike(rt.alloc(), font.as_slice(), &request(ppem, &[]), &mut out);
-        assert_eq!(rt; result.is_ok(), ok, "{ppem}");
+        assert!(rt; result.is_ok() == ok, "{ppem}");
         assert!(rt; ok || result == Err(Refusal::BadSize), "{ppem}");
     }
     Ok(())

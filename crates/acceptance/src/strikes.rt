@@ -17,26 +17,58 @@ pub fn request(ppem: u16, chars: &[u32]) -> Request<'_> {
     }
 }
 
-/// A strike in memory, and its counts.
-fn strike(
+/// The counts of an unhinted strike.
+pub fn counts(glyphs: u32, missing: u32) -> Report {
+    Report {
+        glyphs,
+        missing,
+        strays: 0,
+        steps: 0,
+    }
+}
+
+/// A strike has these counts, and its text ends so.
+pub fn ends_with(
     rt: &impl Abort,
     alloc: Global,
     font: &[u8],
     request: &Request,
-) -> Result<(MemorySink, Report), Fail> {
+    counts: Report,
+    end: &str,
+) -> Result<(), Fail> {
     let mut out = MemorySink::new(alloc, 4096, Limits::NONE)?;
-    let report = make_strike(alloc, font, request, &mut out)?;
-    assert_eq!(rt; out.faults(), 0);
-    Ok((out, report))
+    let result = make_strike(alloc, font, request, &mut out);
+    assert!(rt; result == Ok(counts), "{end}");
+    assert!(rt; out.faults() == 0, "{end}");
+    assert!(rt; out.bytes().ends_with(end.as_bytes()), "{end}");
+    Ok(())
 }
 
-/// The lines of the only character of a strike, from its box on, are at the end.
-fn ends_so(rt: &impl Abort, out: &MemorySink, lines: &str) {
-    let text = out.bytes();
-    let tail = b"ENDCHAR\nENDFONT\n";
-    assert!(rt; text.ends_with(tail));
-    let front = text.len() - tail.len();
-    assert!(rt; text[..front].ends_with(lines.as_bytes()), "{lines}");
+/// A strike of one character has these lines, from its box on or before, at its end.
+fn ends_so(
+    rt: &impl Abort,
+    alloc: Global,
+    font: &[u8],
+    request: &Request,
+    lines: &str,
+) -> Result<(), Fail> {
+    let end = format!(in alloc; "{lines}ENDCHAR\nENDFONT\n")?;
+    ends_with(rt, alloc, font, request, counts(1, 0), end.as_str())
+}
+
+/// A strike is refused, and nothing is written.
+pub fn is_refused(
+    rt: &impl Abort,
+    alloc: Global,
+    font: &[u8],
+    request: &Request,
+    refusal: Refusal,
+) -> Result<(), Fail> {
+    let mut out = MemorySink::new(alloc, 4096, Limits::NONE)?;
+    let result = make_strike(alloc, font, request, &mut out);
+    assert!(rt; result == Err(refusal));
+    assert!(rt; out.bytes().is_empty());
+    Ok(())
 }
 
 /// A glyph in place of the arc, and the lines of the character 42 at 16 pixels an em.
@@ -99,9 +131,13 @@ const ROWS: [Row; 9] = [
 fn worked_glyphs(rt: HostRuntime) -> Result<(), Fail> {
     for row in &ROWS {
         let font = font(rt.alloc(), RING, row.glyph)?;
-        let (out, report) = strike(&rt, rt.alloc(), font.as_slice(), &request(16, &[0x42]))?;
-        assert_eq!(rt; report.glyphs, 1, "{}", row.what);
-        ends_so(&rt, &out, row.lines);
+        ends_so(
+            &rt,
+            rt.alloc(),
+            font.as_slice(),
+            &request(16, &[0x42]),
+            row.lines,
+        )?;
     }
     Ok(())
 }
@@ -109,39 +145,44 @@ fn worked_glyphs(rt: HostRuntime) -> Result<(), Fail> {
 #[test]
 fn the_fixture(rt: HostRuntime) -> Result<(), Fail> {
     let font = fixture(rt.alloc())?;
-    assert_eq!(rt; font.len(), 382);
-    let chars = [0x20, 0x41, 0x42];
-    let (out, report) = strike(&rt, rt.alloc(), font.as_slice(), &request(16, &chars))?;
-    assert!(rt; out.bytes() == STRIKE.as_bytes());
-    let counts = Report {
-        glyphs: 3,
-        missing: 0,
-        strays: 0,
-        steps: 0,
-    };
-    assert_eq!(rt; report, counts);
+    assert!(rt; font.len() == 382);
+    whole(
+        &rt,
+        rt.alloc(),
+        font.as_slice(),
+        &[0x20, 0x41, 0x42],
+        counts(3, 0),
+        STRIKE,
+    )
+}
+
+/// A strike at 16 pixels an em has these counts, and this is its text.
+fn whole(
+    rt: &impl Abort,
+    alloc: Global,
+    font: &[u8],
+    chars: &[u32],
+    counts: Report,
+    text: &str,
+) -> Result<(), Fail> {
+    let mut out = MemorySink::new(alloc, 4096, Limits::NONE)?;
+    let result = make_strike(alloc, font, &request(16, chars), &mut out);
+    assert!(rt; result == Ok(counts));
+    assert!(rt; out.faults() == 0);
+    assert!(rt; out.bytes() == text.as_bytes());
     Ok(())
 }
 
-/// Half the size: 8 pixels an em.
+/// The strike of the character 42 at half the size: 8 pixels an em.
+const HALF: &str =
+    "STARTFONT 2.1\nFONT F1\nSIZE 8 72 72\nFONTBOUNDINGBOX 1 1 0 0\nSTARTPROPERTIES 2\nFONT_ASCENT 6\nFONT_DESCENT 2\nENDPROPERTIES\nCHARS 1\nSTARTCHAR uni0042\nENCODING 66\nSWIDTH 375 0\nDWIDTH 3 0\nBBX 1 1 0 0\nBITMAP\n80\n";
+
 #[test]
 fn half_the_size(rt: HostRuntime) -> Result<(), Fail> {
     let font = fixture(rt.alloc())?;
-    let (ring, _) = strike(&rt, rt.alloc(), font.as_slice(), &request(8, &[0x41]))?;
-    ends_so(&rt, &ring, "DWIDTH 3 0\nBBX 3 3 0 0\nBITMAP\nE0\nA0\nE0\n");
-    let (arc, _) = strike(&rt, rt.alloc(), font.as_slice(), &request(8, &[0x42]))?;
-    ends_so(&rt, &arc, "DWIDTH 3 0\nBBX 1 1 0 0\nBITMAP\n80\n");
-    assert!(rt;
-        starts_with(
-            &arc,
-            "STARTFONT 2.1\nFONT F1\nSIZE 8 72 72\nFONTBOUNDINGBOX 1 1 0 0\nSTARTPROPERTIES 2\nFONT_ASCENT 6\nFONT_DESCENT 2\nENDPROPERTIES\nCHARS 1\n"
-        )
-    );
-    Ok(())
-}
-
-fn starts_with(out: &MemorySink, text: &str) -> bool {
-    out.bytes().starts_with(text.as_bytes())
+    let ring = "DWIDTH 3 0\nBBX 3 3 0 0\nBITMAP\nE0\nA0\nE0\n";
+    ends_so(&rt, rt.alloc(), font.as_slice(), &request(8, &[0x41]), ring)?;
+    ends_so(&rt, rt.alloc(), font.as_slice(), &request(8, &[0x42]), HALF)
 }
 
 #[test]
@@ -153,13 +194,18 @@ fn characters_are_counted_once(rt: HostRuntime) -> Result<(), Fail> {
         ([0xFFFF, 0xFFFF], 0, 1),
         ([0x42, 0x41], 2, 0),
     ] {
-        let (_, report) = strike(&rt, rt.alloc(), font.as_slice(), &request(16, &chars))?;
-        assert_eq!(rt; (report.glyphs, report.missing), (glyphs, missing));
+        let request = request(16, &chars);
+        let counts = counts(glyphs, missing);
+        ends_with(
+            &rt,
+            rt.alloc(),
+            font.as_slice(),
+            &request,
+            counts,
+            "ENDFONT\n",
+        )?;
     }
-    let (out, report) = strike(&rt, rt.alloc(), font.as_slice(), &request(16, &[]))?;
-    assert_eq!(rt; (report.glyphs, report.missing), (0, 0));
-    assert!(rt; out.bytes() == EMPTY.as_bytes());
-    Ok(())
+    whole(&rt, rt.alloc(), font.as_slice(), &[], counts(0, 0), EMPTY)
 }
 
 /// A composite in place of the ring, its left bearing, and the lines of the character 41 at 16 pixels an em.
@@ -202,9 +248,13 @@ fn composites(rt: HostRuntime) -> Result<(), Fail> {
     for row in &COMPOSITES {
         let mut font = font(rt.alloc(), row.glyph, ARC)?;
         patch(&mut font, 256, &row.bearing.to_be_bytes())?;
-        let (out, report) = strike(&rt, rt.alloc(), font.as_slice(), &request(16, &[0x41]))?;
-        assert_eq!(rt; report.glyphs, 1, "{}", row.what);
-        ends_so(&rt, &out, row.lines);
+        ends_so(
+            &rt,
+            rt.alloc(),
+            font.as_slice(),
+            &request(16, &[0x41]),
+            row.lines,
+        )?;
     }
     Ok(())
 }
@@ -219,88 +269,82 @@ fn of_components(alloc: Global, count: usize) -> Result<String, Fail> {
     Ok(text)
 }
 
+/// The strike of a glyph in place of the ring has these lines.
+fn limit_kept(rt: &impl Abort, alloc: Global, glyph: &str, lines: &str) -> Result<(), Fail> {
+    let font = font(alloc, glyph, ARC)?;
+    ends_so(rt, alloc, font.as_slice(), &request(16, &[0x41]), lines)
+}
+
+/// A glyph in place of the ring is refused.
+fn glyph_refused(
+    rt: &impl Abort,
+    alloc: Global,
+    glyph: &str,
+    arc: &str,
+    refusal: Refusal,
+) -> Result<(), Fail> {
+    let font = font(alloc, glyph, arc)?;
+    is_refused(rt, alloc, font.as_slice(), &request(16, &[0x41]), refusal)
+}
+
 #[test]
 fn components_up_to_a_limit(rt: HostRuntime) -> Result<(), Fail> {
-    let glyph = of_components(rt.alloc(), 256)?;
-    let most = font(rt.alloc(), glyph.as_str(), ARC)?;
-    let (out, _) = strike(&rt, rt.alloc(), most.as_slice(), &request(16, &[0x41]))?;
-    ends_so(&rt, &out, "BBX 2 1 0 0\nBITMAP\nC0\n");
-    let glyph = of_components(rt.alloc(), 257)?;
-    let more = font(rt.alloc(), glyph.as_str(), ARC)?;
-    refused(
+    let most = of_components(rt.alloc(), 256)?;
+    limit_kept(&rt, rt.alloc(), most.as_str(), "BBX 2 1 0 0\nBITMAP\nC0\n")?;
+    let more = of_components(rt.alloc(), 257)?;
+    glyph_refused(
         &rt,
         rt.alloc(),
-        more.as_slice(),
-        &[0x41],
+        more.as_str(),
+        ARC,
         Refusal::TooManyComponents(2),
     )
 }
 
 #[test]
 fn points_up_to_a_limit(rt: HostRuntime) -> Result<(), Fail> {
-    let glyph = of_points(rt.alloc(), "3fff", "")?;
-    let most = font(rt.alloc(), glyph.as_str(), ARC)?;
-    let (out, _) = strike(&rt, rt.alloc(), most.as_slice(), &request(16, &[0x41]))?;
-    ends_so(&rt, &out, "BBX 0 0 0 0\nBITMAP\n");
-    let glyph = of_points(rt.alloc(), "4000", " 31")?;
-    let more = font(rt.alloc(), glyph.as_str(), ARC)?;
-    refused(
+    let most = of_points(rt.alloc(), "3fff", "")?;
+    limit_kept(&rt, rt.alloc(), most.as_str(), "BBX 0 0 0 0\nBITMAP\n")?;
+    let more = of_points(rt.alloc(), "4000", " 31")?;
+    glyph_refused(
         &rt,
         rt.alloc(),
-        more.as_slice(),
-        &[0x41],
+        more.as_str(),
+        ARC,
         Refusal::TooManyPoints(2),
     )
 }
 
 #[test]
 fn damaged_glyphs(rt: HostRuntime) -> Result<(), Fail> {
-    for (second, refusal) in [
+    let loop_of_two = "ffff 0000 0000 0080 0080 0002 0003 00 00";
+    let back = "ffff 0000 0000 0080 0080 0002 0002 00 00";
+    for (second, third, refusal) in [
         (
             "ffff 0000 0000 0080 0080 0002 0002 00 00",
+            ARC,
             Refusal::ComponentDepth(2),
         ),
         (
             "ffff 0000 0000 0100 0080 0022 0003 00 00 0000 0003 03 00",
+            ARC,
             Refusal::BadPointMatch(2),
         ),
         (
             "ffff 0000 0000 0080 0080 0002 0004 00 00",
+            ARC,
             Refusal::BadGlyphNumber(4),
         ),
         (
             "0002 0000 0000 0000 0000 0003 0001 0000",
+            ARC,
             Refusal::BadContours(2),
         ),
-        ("0002 0000 0000 0000 0000 0003", Refusal::GlyphShort(2)),
+        ("0002 0000 0000 0000 0000 0003", ARC, Refusal::GlyphShort(2)),
+        (loop_of_two, back, Refusal::ComponentDepth(3)),
     ] {
-        let font = font(rt.alloc(), second, ARC)?;
-        refused(&rt, rt.alloc(), font.as_slice(), &[0x41], refusal)?;
+        glyph_refused(&rt, rt.alloc(), second, third, refusal)?;
     }
-    let loop_of_two = "ffff 0000 0000 0080 0080 0002 0003 00 00";
-    let back = "ffff 0000 0000 0080 0080 0002 0002 00 00";
-    let font = font(rt.alloc(), loop_of_two, back)?;
-    refused(
-        &rt,
-        rt.alloc(),
-        font.as_slice(),
-        &[0x41],
-        Refusal::ComponentDepth(3),
-    )
-}
-
-/// A strike of characters at 16 pixels an em is refused, and nothing is written.
-fn refused(
-    rt: &impl Abort,
-    alloc: Global,
-    font: &[u8],
-    chars: &[u32],
-    refusal: Refusal,
-) -> Result<(), Fail> {
-    let mut out = MemorySink::new(alloc, 4096, Limits::NONE)?;
-    let result = make_strike(alloc, font, &request(16, chars), &mut out);
-    assert_eq!(rt; result, Err(refusal));
-    assert!(rt; out.bytes().is_empty());
     Ok(())
 }
 
@@ -310,11 +354,12 @@ fn nothing_is_written_of_a_refused_strike(rt: HostRuntime) -> Result<(), Fail> {
     let mut font = fixture(rt.alloc())?;
     // The end of the last glyph in `loca`.
     patch(&mut font, 321, &[0x13])?;
-    refused(
+    let both = request(16, &[0x41, 0x42]);
+    is_refused(
         &rt,
         rt.alloc(),
         font.as_slice(),
-        &[0x41, 0x42],
+        &both,
         Refusal::GlyphShort(3),
     )
 }
@@ -332,10 +377,7 @@ fn requests_that_are_refused(rt: HostRuntime) -> Result<(), Fail> {
         (request(16, &[0x11_0000]), Refusal::BadChars),
         (nameless, Refusal::BadName),
     ] {
-        let mut out = MemorySink::new(rt.alloc(), 4096, Limits::NONE)?;
-        let result = make_strike(rt.alloc(), font.as_slice(), &request, &mut out);
-        assert_eq!(rt; result, Err(refusal));
-        assert!(rt; out.bytes().is_empty());
+        is_refused(&rt, rt.alloc(), font.as_slice(), &request, refusal)?;
     }
     Ok(())
 }

@@ -36,23 +36,30 @@ fn directory(alloc: Global, font: &[u8]) -> Result<Vec<u8>, Fail> {
     Ok(directory)
 }
 
+/// Adds a table's record to the directory in `font`, and the table itself to `rest`, which comes after it.
+fn add_table(
+    alloc: Global,
+    tag: &str,
+    text: &str,
+    font: &mut Vec<u8>,
+    rest: &mut Vec<u8>,
+) -> Result<(), Fail> {
+    let table = bytes(alloc, text)?;
+    font.extend_from_slice(tag.as_bytes())?;
+    put(font, 0)?;
+    put(font, rest.len().saturating_add(124 + 48))?;
+    put(font, table.len())?;
+    rest.extend_from_slice(table.as_slice())?;
+    Ok(())
+}
+
 /// A font with further tables: their records come after the others, they themselves at the end.
 pub fn with_tables(alloc: Global, base: &[u8], tables: &Tables) -> Result<Vec<u8>, Fail> {
-    let entries = [
-        ("fpgm", tables.fpgm),
-        ("prep", tables.prep),
-        ("cvt ", tables.cvt),
-    ];
     let mut font = directory(alloc, base)?;
     let mut rest = Vec::from_slice(alloc, base.get(124..).ok_or("no tables")?)?;
-    for (tag, text) in entries {
-        let table = bytes(alloc, text)?;
-        font.extend_from_slice(tag.as_bytes())?;
-        put(&mut font, 0)?;
-        put(&mut font, rest.len().saturating_add(124 + 48))?;
-        put(&mut font, table.len())?;
-        rest.extend_from_slice(table.as_slice())?;
-    }
+    add_table(alloc, "fpgm", tables.fpgm, &mut font, &mut rest)?;
+    add_table(alloc, "prep", tables.prep, &mut font, &mut rest)?;
+    add_table(alloc, "cvt ", tables.cvt, &mut font, &mut rest)?;
     font.extend_from_slice(rest.as_slice())?;
     Ok(font)
 }

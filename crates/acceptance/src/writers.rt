@@ -1,45 +1,50 @@
 //! Writers that fail, and writers that take little.
 use crate::fonts::{STRIKE, fixture};
+use crate::strikes::{counts, request};
 use fx_fixed::{Limits, MemorySink, Sink};
-use fx_request::{Refusal, Report, Request};
+use fx_request::{Refusal, Report};
 use fx_strike::make_strike;
 use std::alloc::Global;
 use std::process::Abort;
 use std::test::Fail;
 
-/// The worked strike on a sink with limits.
-fn strike(
+/// Whether a sink has this much of the strike's text, and this number of faults.
+fn has_written(out: &MemorySink, bytes: usize, faults: u64) -> bool {
+    STRIKE.as_bytes().get(..bytes) == Some(out.bytes()) && out.faults() == faults
+}
+
+/// The worked strike on a sink with limits returns this, and this much of its text is written, with one fault unless it is done.
+fn writes(
     rt: &impl Abort,
     alloc: Global,
     font: &[u8],
     limits: Limits,
-) -> Result<(MemorySink, Result<Report, Refusal>), Fail> {
-    let request = Request {
-        ppem: 16,
-        name: "F1",
-        chars: &[0x20, 0x41, 0x42],
-        hinting: false,
-    };
+    want: Result<Report, Refusal>,
+    bytes: usize,
+) -> Result<(), Fail> {
     let mut out = MemorySink::new(alloc, 399, limits)?;
-    assert_eq!(rt; out.faults(), 0);
-    let result = make_strike(alloc, font, &request, &mut out);
-    Ok((out, result))
+    assert!(rt; out.faults() == 0, "{bytes}");
+    let result = make_strike(alloc, font, &request(16, &[0x20, 0x41, 0x42]), &mut out);
+    assert!(rt; result == want, "{bytes}");
+    assert!(rt; out.faults() == if want.is_ok() { 0 } else { 1 }, "{bytes}");
+    assert!(rt;
+        STRIKE.as_bytes().get(..bytes) == Some(out.bytes()),
+        "{bytes}"
+    );
+    Ok(())
 }
 
 #[test]
 fn a_writer_that_fails_after_each_byte(rt: HostRuntime) -> Result<(), Fail> {
     let font = fixture(rt.alloc())?;
-    let text = STRIKE.as_bytes();
-    assert_eq!(rt; text.len(), 399);
+    assert!(rt; STRIKE.len() == 399);
     for bytes in 0..399usize {
         let limits = Limits {
             bytes,
             ..Limits::NONE
         };
-        let (out, result) = strike(&rt, rt.alloc(), font.as_slice(), limits)?;
-        assert_eq!(rt; result, Err(Refusal::WriteFailed(bytes as u64)));
-        assert!(rt; out.bytes() == &text[..bytes], "{bytes}");
-        assert_eq!(rt; out.faults(), 1);
+        let fault = Err(Refusal::WriteFailed(bytes as u64));
+        writes(&rt, rt.alloc(), font.as_slice(), limits, fault, bytes)?;
     }
     Ok(())
 }
@@ -51,10 +56,14 @@ fn a_writer_that_takes_one_byte_a_call(rt: HostRuntime) -> Result<(), Fail> {
         step: 1,
         ..Limits::NONE
     };
-    let (out, result) = strike(&rt, rt.alloc(), font.as_slice(), limits)?;
-    assert!(rt; result.is_ok());
-    assert!(rt; out.bytes() == STRIKE.as_bytes());
-    Ok(())
+    writes(
+        &rt,
+        rt.alloc(),
+        font.as_slice(),
+        limits,
+        Ok(counts(3, 0)),
+        399,
+    )
 }
 
 #[test]
@@ -65,8 +74,6 @@ fn a_writer_that_fails_once(rt: HostRuntime) -> Result<(), Fail> {
         step: 10,
         ..Limits::NONE
     };
-    let (out, result) = strike(&rt, rt.alloc(), font.as_slice(), limits)?;
-    assert_eq!(rt; result, Err(Refusal::WriteFailed(10)));
-    assert!(rt; out.bytes() == b"STARTFONT ".as_slice());
-    Ok(())
+    let fault = Err(Refusal::WriteFailed(10));
+    writes(&rt, rt.alloc(), font.as_slice(), limits, fault, 10)
 }

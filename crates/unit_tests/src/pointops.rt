@@ -1,9 +1,11 @@
 //! Worked instructions on points, by hand.
+use fx_code::opcode;
 use fx_fixed::{Axis, F26, Place, Ppem};
 use fx_gstate::{DeltaForm, GState, RoundState, ZonePointer};
 use fx_pointops::{Relative, Zones};
 use fx_zone::{Point, Zone};
 use std::alloc::Global;
+use std::process::Abort;
 use std::test::Fail;
 
 /// A place in 26.6.
@@ -30,23 +32,21 @@ fn moved(org: i32, cur: i32, touched_x: bool) -> Point {
     }
 }
 
-/// A glyph's one contour of four points and four points after it, and two points of the twilight zone.
-fn zones(alloc: Global, points: [Point; 8]) -> Result<Zones, Fail> {
-    let none = at(0, 0);
-    let twilight = Vec::from_array(alloc, [none, none])?;
-    let points = Vec::from_array(alloc, points)?;
-    Ok(Zones {
-        twilight: Zone::of(twilight, Vec::new(alloc)),
-        glyph: Zone::of(points, Vec::from_array(alloc, [3])?),
-        strays: 0,
-    })
+/// The eight points of a glyph zone.
+#[derive(Clone, Copy)]
+enum Figure {
+    /// A square with a side of 90, and its phantom points.
+    Square,
+    /// The diagonals of a square, points 0 to 3, and a line parallel to the first, points 4 and 5.
+    Crossed,
+    /// A contour whose last point has moved from 120 to 128, and whose first one may be touched, too.
+    Stretched(bool),
 }
 
-/// A glyph of a square with a side of 90, and its phantom points.
-fn square(alloc: Global) -> Result<Zones, Fail> {
-    zones(
-        alloc,
-        [
+/// The points of a figure.
+fn points_of(figure: Figure) -> [Point; 8] {
+    match figure {
+        Figure::Square => [
             at(0, 0),
             at(90, 0),
             at(90, 90),
@@ -56,39 +56,7 @@ fn square(alloc: Global) -> Result<Zones, Fail> {
             at(0, 800),
             at(0, -224),
         ],
-    )
-}
-
-/// What the glyph zone's points are: their current x, whether they are touched along the x axis, and whether they are on the curve.
-#[derive(Clone, Copy)]
-struct Seen {
-    places: [i32; 8],
-    touched: [bool; 8],
-    on: [bool; 8],
-}
-
-/// What the points of the glyph zone are now.
-fn look(zones: &Zones) -> Seen {
-    let mut seen = Seen {
-        places: [0; 8],
-        touched: [false; 8],
-        on: [false; 8],
-    };
-    for k in 0..8usize {
-        if let Some(point) = zones.glyph.points().get(k) {
-            seen.places[k] = point.cur.x.0;
-            seen.touched[k] = point.touched_x;
-            seen.on[k] = point.on;
-        }
-    }
-    seen
-}
-
-/// The diagonals of a square, points 0 to 3, and a line parallel to the first, points 4 and 5.
-fn crossed(alloc: Global) -> Result<Zones, Fail> {
-    zones(
-        alloc,
-        [
+        Figure::Crossed => [
             at(0, 0),
             at(128, 128),
             at(0, 128),
@@ -98,14 +66,7 @@ fn crossed(alloc: Global) -> Result<Zones, Fail> {
             at(7, 7),
             at(9, 9),
         ],
-    )
-}
-
-/// A contour whose last point has moved from 120 to 128, and whose first one may be touched, too.
-fn stretched(alloc: Global, first: bool) -> Result<Zones, Fail> {
-    zones(
-        alloc,
-        [
+        Figure::Stretched(first) => [
             moved(0, 0, first),
             moved(30, 31, false),
             moved(90, 5, false),
@@ -115,275 +76,430 @@ fn stretched(alloc: Global, first: bool) -> Result<Zones, Fail> {
             moved(5, 5, false),
             moved(5, 5, false),
         ],
-    )
+    }
 }
 
-/// The default state, with all zone pointers at the twilight zone.
-fn in_twilight() -> GState {
+/// A glyph's one contour of four points and four points after it, and two points of the twilight zone.
+fn zones_of(alloc: Global, figure: Figure) -> Result<Zones, Fail> {
+    let none = at(0, 0);
+    let twilight = Vec::from_array(alloc, [none, none])?;
+    let points = Vec::from_array(alloc, points_of(figure))?;
+    Ok(Zones {
+        twilight: Zone::of(twilight, Vec::new(alloc)),
+        glyph: Zone::of(points, Vec::from_array(alloc, [3])?),
+        strays: 0,
+    })
+}
+
+/// What is seen of the zones after an instruction. Numbers are places along the x axis.
+#[derive(Clone, Copy)]
+enum Want {
+    /// Nothing is looked at.
+    Any,
+    /// The current places of the glyph's points.
+    Places([i32; 8]),
+    /// Which of the glyph's points are touched along the x axis.
+    Touched([bool; 8]),
+    /// Which of the glyph's points are on the curve.
+    On([bool; 8]),
+    /// A point of the glyph is on the curve and touched along both axes, and has this original and this current place.
+    Put(usize, (i32, i32), (i32, i32)),
+    /// A point of the twilight zone has this original and this current place.
+    Twilight(usize, i32, i32),
+}
+
+/// Whether points of the glyph are seen as they are wanted.
+fn sees_points(points: &[Point], want: &Want) -> bool {
+    for (k, point) in points.iter().enumerate() {
+        let is_so = match want {
+            Want::Places(places) => places.get(k) == Some(&point.cur.x.0),
+            Want::Touched(touched) => touched.get(k) == Some(&point.touched_x),
+            Want::On(on) => on.get(k) == Some(&point.on),
+            _ => true,
+        };
+        if !is_so {
+            return false;
+        }
+    }
+    points.len() == 8
+}
+
+/// Whether a point is on the curve, touched along both axes, and has this original and this current place.
+fn is_put(point: Option<Point>, org: (i32, i32), cur: (i32, i32)) -> bool {
+    let put = Point {
+        org: place(org.0, org.1),
+        cur: place(cur.0, cur.1),
+        on: true,
+        touched_x: true,
+        touched_y: true,
+    };
+    point == Some(put)
+}
+
+/// Whether a point has this original and this current place along the x axis.
+fn is_at(point: Option<Point>, org: i32, cur: i32) -> bool {
+    match point {
+        Some(point) => point.org.x.0 == org && point.cur.x.0 == cur,
+        None => false,
+    }
+}
+
+/// Whether the zones are seen as they are wanted.
+fn sees(zones: &Zones, want: &Want) -> bool {
+    match want {
+        Want::Put(k, org, cur) => is_put(zones.glyph.point(*k), *org, *cur),
+        Want::Twilight(k, org, cur) => is_at(zones.twilight.point(*k), *org, *cur),
+        _ => sees_points(zones.glyph.points(), want),
+    }
+}
+
+/// An instruction: its opcode, its operands in the order of its call, with the number before the points of a loop, the strays that
+/// it counts, and what is seen then.
+type Step<'a> = (u8, &'a [i32], u64, Want);
+
+/// Runs an instruction that moves the points of a loop by no number.
+fn run_loop(zones: &mut Zones, g: &GState, opcode: u8, points: &[i32]) {
+    match opcode {
+        opcode::SHP_0 => zones.shp(g, false, points),
+        opcode::SHP_1 => zones.shp(g, true, points),
+        opcode::IP => zones.ip(g, points),
+        opcode::ALIGNRP => zones.alignrp(g, points),
+        _ => zones.flippt(g, points),
+    }
+}
+
+/// Runs DELTAP1 at 16 pixels an em.
+fn run_delta(zones: &mut Zones, g: &GState, pairs: &[i32]) {
+    match Ppem::new(16) {
+        Some(ppem) => zones.deltap(g, DeltaForm::First, ppem, pairs),
+        None => zones.strays = 9,
+    }
+}
+
+/// Runs an instruction of a point or a contour and a number.
+fn run_one(zones: &mut Zones, g: &GState, opcode: u8, p: i32, number: i32) {
+    let v = F26(number);
+    match opcode {
+        opcode::UTP => zones.utp(g, p),
+        opcode::MDAP_0 => zones.mdap(g, false, p),
+        opcode::MDAP_1 => zones.mdap(g, true, p),
+        opcode::MIAP_0 => zones.miap(g, false, p, v),
+        opcode::MIAP_1 => zones.miap(g, true, p, v),
+        opcode::MSIRP_0 => zones.msirp(g, p, v),
+        opcode::SCFS => zones.scfs(g, p, v),
+        opcode::ALIGNPTS => zones.alignpts(g, p, number),
+        opcode::SHC_0 => zones.shc(g, false, p),
+        opcode::SHC_1 => zones.shc(g, true, p),
+        opcode::SHZ_1 => zones.shz(g, true, ZonePointer::Glyph),
+        opcode::FLIPRGON => zones.fliprg(g, true, p, number),
+        opcode::FLIPRGOFF => zones.fliprg(g, false, p, number),
+        opcode::MDRP_FIRST..=opcode::MDRP_LAST => zones.mdrp(g, Relative::of(opcode), p),
+        _ => zones.mirp(g, Relative::of(opcode), p, v),
+    }
+}
+
+/// Runs an instruction. Operands that are too few count as nine strays.
+fn run(zones: &mut Zones, g: &GState, opcode: u8, operands: &[i32]) {
+    let first = operands.first().copied().unwrap_or(0);
+    let second = operands.get(1).copied().unwrap_or(0);
+    match opcode {
+        opcode::IUP_Y => zones.iup(Axis::Y),
+        opcode::IUP_X => zones.iup(Axis::X),
+        opcode::ISECT => match operands {
+            [p, a0, a1, b0, b1] => zones.isect(g, *p, *a0, *a1, *b0, *b1),
+            _ => zones.strays = 9,
+        },
+        opcode::DELTAP1 => run_delta(zones, g, operands),
+        opcode::SHPIX => zones.shpix(g, operands.get(1..).unwrap_or(&[]), F26(first)),
+        opcode::SHP_0 | opcode::SHP_1 | opcode::IP | opcode::ALIGNRP | opcode::FLIPPT => {
+            run_loop(zones, g, opcode, operands)
+        }
+        _ => run_one(zones, g, opcode, first, second),
+    }
+}
+
+/// Runs instructions on zones; each counts its strays, and leaves what is wanted.
+fn run_all(rt: &impl Abort, zones: &mut Zones, g: &GState, steps: &[Step]) {
+    for (opcode, operands, strays, want) in steps {
+        zones.strays = 0;
+        run(zones, g, *opcode, operands);
+        assert_eq!(rt; zones.strays, *strays, "{opcode} {operands:?}");
+        assert!(rt; sees(zones, want), "{opcode} {operands:?}");
+    }
+}
+
+/// Runs instructions on a figure's zones.
+fn follow(
+    rt: &impl Abort,
+    alloc: Global,
+    figure: Figure,
+    g: &GState,
+    steps: &[Step],
+) -> Result<(), Fail> {
+    let mut zones = zones_of(alloc, figure)?;
+    run_all(rt, &mut zones, g, steps);
+    Ok(())
+}
+
+/// Lines that cross; a stray; and parallel lines, of which the four places have the middle (35, 66.5).
+const LINES: [Step<'static>; 3] = [
+    (
+        opcode::ISECT,
+        &[6, 0, 1, 2, 3],
+        0,
+        Want::Put(6, (7, 7), (64, 64)),
+    ),
+    (opcode::ISECT, &[8, 0, -1, 2, 3], 2, Want::Any),
+    (
+        opcode::ISECT,
+        &[7, 0, 1, 4, 5],
+        0,
+        Want::Put(7, (9, 9), (35, 67)),
+    ),
+];
+
+/// Untouched points between two that are touched, and then after one.
+const BETWEEN_TWO: [Step<'static>; 2] = [
+    (
+        opcode::IUP_Y,
+        &[],
+        0,
+        Want::Places([0, 31, 5, 128, 5, 5, 5, 5]),
+    ),
+    (
+        opcode::IUP_X,
+        &[],
+        0,
+        Want::Places([0, 32, 96, 128, 5, 5, 5, 5]),
+    ),
+];
+
+const FROM_ONE: [Step<'static>; 1] = [(
+    opcode::IUP_X,
+    &[],
+    0,
+    Want::Places([8, 38, 98, 128, 5, 5, 5, 5]),
+)];
+
+/// A number after the phantom points is a stray, and nothing changes.
+const STRAY: [Step<'static>; 1] = [(opcode::MDAP_0, &[8], 1, Want::Touched([false; 8]))];
+
+/// DELTAP1 at 16: 0x78 moves point 1 by 8, 0x68 is for 15. A stray counts only if its argument acts.
+const DELTAS: [Step<'static>; 2] = [
+    (
+        opcode::DELTAP1,
+        &[0x68, 9, 0x78, 1],
+        0,
+        Want::Places([0, 98, 90, 0, 0, 384, 0, 0]),
+    ),
+    (opcode::DELTAP1, &[0x78, 9], 1, Want::Touched(ONE_TOUCHED)),
+];
+
+/// Only point 1 is touched.
+const ONE_TOUCHED: [bool; 8] = [false, true, false, false, false, false, false, false];
+
+/// MIRP (FC) of point 1 with 70 is within the cut-in of 90, and rounded to 64. A control value of 0 counts no stray.
+const CONTROL_DISTANCES: [Step<'static>; 2] = [
+    (
+        0xFC,
+        &[1, 70],
+        0,
+        Want::Places([0, 64, 90, 0, 0, 384, 0, 0]),
+    ),
+    (0xE0, &[1, 0], 0, Want::Places([0, 0, 90, 0, 0, 384, 0, 0])),
+];
+
+/// MIAP[1] of point 1 with 200 is cut off at its own place, 90, which is rounded; with 70 it is 64.
+const CONTROL_PLACES: [Step<'static>; 3] = [
+    (opcode::MIAP_1, &[1, 200], 0, Want::Any),
+    (opcode::MIAP_1, &[2, 90], 0, Want::Any),
+    (
+        opcode::MIAP_1,
+        &[2, 70],
+        0,
+        Want::Places([0, 64, 64, 0, 0, 384, 0, 0]),
+    ),
+];
+
+/// ALIGNRP brings point 5 to reference point 0, ALIGNPTS points 0 and 1 together at 45.
+const ALIGNMENTS: [Step<'static>; 2] = [
+    (opcode::ALIGNRP, &[8, 5], 1, Want::Any),
+    (
+        opcode::ALIGNPTS,
+        &[0, 1],
+        0,
+        Want::Places([45, 45, 90, 0, 0, 0, 0, 0]),
+    ),
+];
+
+/// Point 1 goes off the curve and back, point 2 off it; points 0 to 1 go off it; one end is a stray; none from 3 to 0.
+const FLIPS: [Step<'static>; 4] = [
+    (opcode::FLIPPT, &[1, 2, 1, 8], 1, Want::Any),
+    (opcode::FLIPRGOFF, &[0, 1], 0, Want::Any),
+    (opcode::FLIPRGOFF, &[3, 8], 1, Want::Any),
+    (
+        opcode::FLIPRGON,
+        &[3, 0],
+        0,
+        Want::On([false, false, false, true, true, true, true, true]),
+    ),
+];
+
+/// Instructions in the default state, each list on zones of its own.
+const WORKED: [(Figure, &'static [Step<'static>]); 9] = [
+    (Figure::Crossed, &LINES),
+    (Figure::Stretched(true), &BETWEEN_TWO),
+    (Figure::Stretched(false), &FROM_ONE),
+    (Figure::Square, &STRAY),
+    (Figure::Square, &DELTAS),
+    (Figure::Square, &CONTROL_DISTANCES),
+    (Figure::Square, &CONTROL_PLACES),
+    (Figure::Square, &ALIGNMENTS),
+    (Figure::Square, &FLIPS),
+];
+
+#[test]
+fn in_the_default_state(rt: HostRuntime) -> Result<(), Fail> {
+    let g = GState::new();
+    for (figure, steps) in WORKED {
+        follow(&rt, rt.alloc(), figure, &g, steps)?;
+    }
+    Ok(())
+}
+
+/// With RUTG: MDAP[0] of point 0, MDAP[1] of point 1, IUP[x]; then UTP of point 1.
+const TO_THE_GRID: [Step<'static>; 4] = [
+    (opcode::MDAP_0, &[0], 0, Want::Any),
+    (opcode::MDAP_1, &[1], 0, Want::Any),
+    (
+        opcode::IUP_X,
+        &[],
+        0,
+        Want::Places([0, 128, 128, 0, 0, 384, 0, 0]),
+    ),
+    (
+        opcode::UTP,
+        &[1],
+        0,
+        Want::Touched([true, false, false, false, false, false, false, false]),
+    ),
+];
+
+/// A stray reference point 2 shifts by nothing, and its points are touched all the same; point 8 is a stray, too.
+const STRAY_REFERENCE: [Step<'static>; 2] = [
+    (
+        opcode::SHP_0,
+        &[8, 2],
+        2,
+        Want::Places([0, 90, 90, 0, 0, 384, 0, 0]),
+    ),
+    (opcode::SHP_0, &[], 1, Want::Touched(TWO_TOUCHED)),
+];
+
+/// Only point 2 is touched.
+const TWO_TOUCHED: [bool; 8] = [false, false, true, false, false, false, false, false];
+
+/// With reference point 1 at 1: SHPIX shifts point 1 by 10; SHP shifts point 2 by as much, SHC the others of its contour, SHZ all but
+/// the phantom points.
+const SHIFTS: [Step<'static>; 4] = [
+    (opcode::SHPIX, &[10, 1], 0, Want::Any),
+    (
+        opcode::SHP_1,
+        &[2],
+        0,
+        Want::Places([0, 100, 100, 0, 0, 384, 0, 0]),
+    ),
+    (
+        opcode::SHC_1,
+        &[0],
+        0,
+        Want::Places([10, 100, 110, 10, 0, 384, 0, 0]),
+    ),
+    (
+        opcode::SHZ_1,
+        &[],
+        0,
+        Want::Places([20, 100, 120, 20, 0, 384, 0, 0]),
+    ),
+];
+
+/// With reference point 2 at 1: it has moved to 64; point 2, at 90 of 90, follows it, and point 5 goes to 384 * 64 / 90.
+const PROPORTIONS: [Step<'static>; 2] = [
+    (0xCC, &[1], 0, Want::Any),
+    (
+        opcode::IP,
+        &[5, 2],
+        0,
+        Want::Places([0, 64, 64, 0, 0, 273, 0, 0]),
+    ),
+];
+
+#[test]
+fn with_other_references(rt: HostRuntime) -> Result<(), Fail> {
+    let mut g = GState::new();
+    for (rp1, rp2, steps) in [
+        (0, 9, STRAY_REFERENCE.as_slice()),
+        (1, 0, &SHIFTS),
+        (0, 1, &PROPORTIONS),
+    ] {
+        g.rp1 = rp1;
+        g.rp2 = rp2;
+        follow(&rt, rt.alloc(), Figure::Square, &g, steps)?;
+    }
+    g.rp2 = 0;
+    g.round_state = RoundState::UpToGrid;
+    follow(&rt, rt.alloc(), Figure::Square, &g, &TO_THE_GRID)
+}
+
+/// MIAP lays point 0 at 40. MIRP of the point that is reference point 0 lays it at 104, measures 0 to itself and moves it by 64.
+const TWILIGHT_REFERENCE: [Step<'static>; 2] = [
+    (opcode::MIAP_0, &[0, 40], 0, Want::Any),
+    (0xE0, &[0, 64], 0, Want::Twilight(0, 104, 168)),
+];
+
+/// MSIRP lays point 1 at 10 and moves it there; SCFS takes the place that it moves to for the original one.
+const TWILIGHT_PLACES: [Step<'static>; 3] = [
+    (opcode::MSIRP_0, &[1, 10], 0, Want::Twilight(1, 10, 10)),
+    (opcode::SCFS, &[1, 20], 0, Want::Twilight(1, 20, 20)),
+    (opcode::SHC_0, &[0], 1, Want::Any),
+];
+
+#[test]
+fn in_the_twilight_zone(rt: HostRuntime) -> Result<(), Fail> {
     let mut g = GState::new();
     g.zp0 = ZonePointer::Twilight;
     g.zp1 = ZonePointer::Twilight;
     g.zp2 = ZonePointer::Twilight;
-    g
-}
-
-/// A point with this original and current place, touched along both axes.
-fn put(org: Place, cur: Place) -> Option<Point> {
-    Some(Point {
-        org,
-        cur,
-        on: true,
-        touched_x: true,
-        touched_y: true,
-    })
+    follow(&rt, rt.alloc(), Figure::Square, &g, &TWILIGHT_REFERENCE)?;
+    follow(&rt, rt.alloc(), Figure::Square, &g, &TWILIGHT_PLACES)
 }
 
 #[test]
-fn lines_that_cross(rt: HostRuntime) -> Result<(), Fail> {
-    let g = GState::new();
-    let mut zones = crossed(rt.alloc())?;
-    zones.isect(&g, 6, 0, 1, 2, 3);
-    assert_eq!(rt; zones.glyph.point(6), put(place(7, 7), place(64, 64)));
-    zones.isect(&g, 8, 0, -1, 2, 3);
-    assert_eq!(rt; zones.strays, 2);
-    Ok(())
-}
-
-/// The four places of two parallel lines have the middle (35, 66.5).
-#[test]
-fn parallel_lines(rt: HostRuntime) -> Result<(), Fail> {
-    let g = GState::new();
-    let mut zones = crossed(rt.alloc())?;
-    zones.isect(&g, 7, 0, 1, 4, 5);
-    assert_eq!(rt; zones.glyph.point(7), put(place(9, 9), place(35, 67)));
-    assert_eq!(rt; zones.strays, 0);
-    Ok(())
-}
-
-#[test]
-fn interpolation_between_two(rt: HostRuntime) -> Result<(), Fail> {
-    let mut zones = stretched(rt.alloc(), true)?;
-    zones.iup(Axis::Y);
-    assert_eq!(rt; look(&zones).places, [0, 31, 5, 128, 5, 5, 5, 5]);
-    zones.iup(Axis::X);
-    assert_eq!(rt; look(&zones).places, [0, 32, 96, 128, 5, 5, 5, 5]);
-    Ok(())
-}
-
-#[test]
-fn interpolation_from_one(rt: HostRuntime) -> Result<(), Fail> {
-    let mut zones = stretched(rt.alloc(), false)?;
-    zones.iup(Axis::X);
-    assert_eq!(rt; look(&zones).places, [8, 38, 98, 128, 5, 5, 5, 5]);
-    Ok(())
-}
-
-/// A number after the phantom points is a stray, and nothing changes.
-#[test]
-fn stray_point(rt: HostRuntime) -> Result<(), Fail> {
-    let mut zones = square(rt.alloc())?;
-    zones.mdap(&GState::new(), false, 8);
-    assert_eq!(rt; zones.strays, 1);
-    assert_eq!(rt; look(&zones).touched, [false; 8]);
-    Ok(())
-}
-
-/// RUTG, MDAP[0] of point 0, MDAP[1] of point 1, IUP[x]; then UTP of point 1.
-#[test]
-fn square_to_the_grid(rt: HostRuntime) -> Result<(), Fail> {
-    let mut g = GState::new();
-    g.round_state = RoundState::UpToGrid;
-    let mut zones = square(rt.alloc())?;
-    zones.mdap(&g, false, 0);
-    zones.mdap(&g, true, 1);
-    zones.iup(Axis::X);
-    assert_eq!(rt; look(&zones).places, [0, 128, 128, 0, 0, 384, 0, 0]);
-    zones.utp(&g, 1);
-    assert_eq!(rt;
-        look(&zones).touched,
-        [true, false, false, false, false, false, false, false]
-    );
-    assert_eq!(rt; zones.strays, 0);
-    Ok(())
-}
-
-/// DELTAP1 at 16: 0x78 moves point 1 by 8, 0x68 is for 15. A stray counts only if its argument acts.
-#[test]
-fn deltas(rt: HostRuntime) -> Result<(), Fail> {
-    let Some(ppem) = Ppem::new(16) else {
-        return Ok(());
-    };
-    let g = GState::new();
-    let mut zones = square(rt.alloc())?;
-    zones.deltap(&g, DeltaForm::First, ppem, &[0x68, 9, 0x78, 1]);
-    assert_eq!(rt; zones.strays, 0);
-    assert_eq!(rt; look(&zones).places, [0, 98, 90, 0, 0, 384, 0, 0]);
-    zones.deltap(&g, DeltaForm::First, ppem, &[0x78, 9]);
-    assert_eq!(rt; zones.strays, 1);
-    assert_eq!(rt;
-        look(&zones).touched,
-        [false, true, false, false, false, false, false, false]
-    );
-    Ok(())
-}
-
-/// MIRP (FC) of point 1 with 70 is within the cut-in of 90, and rounded to 64. A control value of 0 counts no stray.
-#[test]
-fn control_distances(rt: HostRuntime) -> Result<(), Fail> {
-    let g = GState::new();
-    let mut zones = square(rt.alloc())?;
+fn low_bits(rt: HostRuntime) {
     let how = Relative::of(0xFC);
     assert_eq!(rt;
         (how.sets_rp0, how.keeps_minimum, how.rounds),
         (true, true, true)
     );
-    zones.mirp(&g, how, 1, F26(70));
-    assert_eq!(rt; look(&zones).places, [0, 64, 90, 0, 0, 384, 0, 0]);
-    zones.mirp(&g, Relative::of(0xE0), 1, F26(0));
-    assert_eq!(rt; look(&zones).places, [0, 0, 90, 0, 0, 384, 0, 0]);
-    assert_eq!(rt; zones.strays, 0);
-    Ok(())
 }
 
-/// MIAP[1] of point 1 with 200 is cut off at its own place, 90, which is rounded; with 70 it is 64.
-#[test]
-fn control_places(rt: HostRuntime) -> Result<(), Fail> {
-    let g = GState::new();
-    let mut zones = square(rt.alloc())?;
-    zones.miap(&g, true, 1, F26(200));
-    zones.miap(&g, true, 2, F26(90));
-    zones.miap(&g, true, 2, F26(70));
-    assert_eq!(rt; look(&zones).places, [0, 64, 64, 0, 0, 384, 0, 0]);
-    assert_eq!(rt; zones.strays, 0);
-    Ok(())
+/// Whether MDRP (CC) makes 64 of the distance 90 of point 1 from point 0, and GC, MD and a line measure it, with two strays.
+fn measures(zones: &mut Zones, g: &GState) -> bool {
+    run(zones, g, 0xCC, &[1]);
+    let line = zones.line(g, 2, 1);
+    sees(zones, &Want::Places([0, 64, 90, 0, 0, 384, 0, 0]))
+        && zones.gc(g, false, 1) == F26(64)
+        && zones.gc(g, true, 1) == F26(90)
+        && zones.md(g, false, 1, 0) == F26(64)
+        && (line.org, line.cur, zones.strays) == (place(0, 90), place(26, 90), 0)
+        && zones.md(g, true, 1, 8) == F26(90)
+        && zones.gc(g, false, 9) == F26(0)
+        && zones.strays == 2
 }
 
-/// MIAP lays point 0 at 40. MIRP of the point that is reference point 0 lays it at 104, measures 0 to itself and moves it by 64.
-#[test]
-fn twilight_reference(rt: HostRuntime) -> Result<(), Fail> {
-    let g = in_twilight();
-    let mut zones = square(rt.alloc())?;
-    zones.miap(&g, false, 0, F26(40));
-    zones.mirp(&g, Relative::of(0xE0), 0, F26(64));
-    let point = zones.twilight.point(0);
-    assert_eq!(rt; point.map(|p| (p.org.x.0, p.cur.x.0)), Some((104, 168)));
-    assert_eq!(rt; zones.strays, 0);
-    Ok(())
-}
-
-/// MSIRP lays point 1 at 10 and moves it there; SCFS takes the place that it moves to for the original one.
-#[test]
-fn twilight_places(rt: HostRuntime) -> Result<(), Fail> {
-    let g = in_twilight();
-    let mut zones = square(rt.alloc())?;
-    zones.msirp(&g, 1, F26(10));
-    let point = zones.twilight.point(1);
-    assert_eq!(rt; point.map(|p| (p.org.x.0, p.cur.x.0)), Some((10, 10)));
-    zones.scfs(&g, 1, F26(20));
-    let point = zones.twilight.point(1);
-    assert_eq!(rt; point.map(|p| (p.org.x.0, p.cur.x.0)), Some((20, 20)));
-    zones.shc(&g, false, 0);
-    assert_eq!(rt; zones.strays, 1);
-    Ok(())
-}
-
-/// A stray reference point shifts by nothing, and its points are touched all the same; point 8 is a stray, too.
-#[test]
-fn stray_reference(rt: HostRuntime) -> Result<(), Fail> {
-    let mut g = GState::new();
-    g.rp2 = 9;
-    let mut zones = square(rt.alloc())?;
-    zones.shp(&g, false, &[8, 2]);
-    assert_eq!(rt; zones.strays, 2);
-    assert_eq!(rt; look(&zones).places, [0, 90, 90, 0, 0, 384, 0, 0]);
-    assert_eq!(rt;
-        look(&zones).touched,
-        [false, false, true, false, false, false, false, false]
-    );
-    zones.shp(&g, false, &[]);
-    assert_eq!(rt; zones.strays, 3);
-    Ok(())
-}
-
-/// SHPIX shifts point 1 by 10; SHP shifts point 2 by as much, SHC the others of its contour, SHZ all but the phantom points.
-#[test]
-fn shifts(rt: HostRuntime) -> Result<(), Fail> {
-    let mut g = GState::new();
-    g.rp1 = 1;
-    let mut zones = square(rt.alloc())?;
-    zones.shpix(&g, &[1], F26(10));
-    zones.shp(&g, true, &[2]);
-    assert_eq!(rt; look(&zones).places, [0, 100, 100, 0, 0, 384, 0, 0]);
-    zones.shc(&g, true, 0);
-    assert_eq!(rt; look(&zones).places, [10, 100, 110, 10, 0, 384, 0, 0]);
-    zones.shz(&g, true, ZonePointer::Glyph);
-    assert_eq!(rt; look(&zones).places, [20, 100, 120, 20, 0, 384, 0, 0]);
-    assert_eq!(rt; zones.strays, 0);
-    Ok(())
-}
-
-/// MDRP (CC) makes 64 of the distance 90 of point 1 from point 0.
 #[test]
 fn distances(rt: HostRuntime) -> Result<(), Fail> {
-    let g = GState::new();
-    let mut zones = square(rt.alloc())?;
-    zones.mdrp(&g, Relative::of(0xCC), 1);
-    assert_eq!(rt; look(&zones).places, [0, 64, 90, 0, 0, 384, 0, 0]);
-    assert_eq!(rt; zones.gc(&g, false, 1), F26(64));
-    assert_eq!(rt; zones.gc(&g, true, 1), F26(90));
-    assert_eq!(rt; zones.md(&g, false, 1, 0), F26(64));
-    let line = zones.line(&g, 2, 1);
-    assert_eq!(rt;
-        (line.org, line.cur, zones.strays),
-        (place(0, 90), place(26, 90), 0)
-    );
-    assert_eq!(rt;
-        (zones.md(&g, true, 1, 8), zones.gc(&g, false, 9)),
-        (F26(90), F26(0))
-    );
-    assert_eq!(rt; zones.strays, 2);
-    Ok(())
-}
-
-/// IP: point 1 has moved to 64; point 2, at 90 of 90, follows it, and point 5 goes to 384 * 64 / 90.
-#[test]
-fn proportions(rt: HostRuntime) -> Result<(), Fail> {
-    let mut g = GState::new();
-    g.rp2 = 1;
-    let mut zones = square(rt.alloc())?;
-    zones.mdrp(&g, Relative::of(0xCC), 1);
-    zones.ip(&g, &[5, 2]);
-    assert_eq!(rt; look(&zones).places, [0, 64, 64, 0, 0, 273, 0, 0]);
-    assert_eq!(rt; zones.strays, 0);
-    Ok(())
-}
-
-/// ALIGNRP brings point 5 to reference point 0, ALIGNPTS points 0 and 1 together at 45.
-#[test]
-fn alignments(rt: HostRuntime) -> Result<(), Fail> {
-    let g = GState::new();
-    let mut zones = square(rt.alloc())?;
-    zones.alignrp(&g, &[8, 5]);
-    assert_eq!(rt; zones.strays, 1);
-    zones.alignpts(&g, 0, 1);
-    assert_eq!(rt; look(&zones).places, [45, 45, 90, 0, 0, 0, 0, 0]);
-    Ok(())
-}
-
-/// Point 1 goes off the curve and back, point 2 off it; points 0 to 1 go off it; one end is a stray; none from 3 to 0.
-#[test]
-fn flips(rt: HostRuntime) -> Result<(), Fail> {
-    let g = GState::new();
-    let mut zones = square(rt.alloc())?;
-    zones.flippt(&g, &[1, 2, 1, 8]);
-    assert_eq!(rt; zones.strays, 1);
-    zones.fliprg(&g, false, 0, 1);
-    zones.fliprg(&g, false, 3, 8);
-    assert_eq!(rt; zones.strays, 2);
-    zones.fliprg(&g, true, 3, 0);
-    assert_eq!(rt;
-        look(&zones).on,
-        [false, false, false, true, true, true, true, true]
-    );
+    let mut zones = zones_of(rt.alloc(), Figure::Square)?;
+    assert!(rt; measures(&mut zones, &GState::new()));
     Ok(())
 }
