@@ -106,6 +106,7 @@ fn a_slow_sink_takes_all(rt: HostRuntime) -> Result<(), Fail> {
 #[test]
 fn a_hiccup_is_one_fault(rt: HostRuntime) -> Result<(), Fail> {
     let limits = Limits {
+        step: 5,
         hiccup: Some(10),
         ..Limits::NONE
     };
