@@ -226,9 +226,8 @@ fn run(zones: &mut Zones, g: &GState, opcode: u8, operands: &[i32]) -> u64 {
 /// Runs instructions on zones; each counts its strays, and leaves what is wanted.
 fn run_all(rt: &impl Abort, zones: &mut Zones, g: &GState, steps: &[Step]) {
     for (opcode, operands, strays, want) in steps {
-        assert_eq!(rt;
-            run(zones, g, *opcode, operands),
-            *strays,
+        assert!(rt;
+            run(zones, g, *opcode, operands) == *strays,
             "{opcode} {operands:?}"
         );
         assert!(rt; sees(zones, want), "{opcode} {operands:?}");
@@ -406,8 +405,8 @@ const STRAY_REFERENCE: [Step<'static>; 2] = [
 /// Only point 2 is touched.
 const TWO_TOUCHED: [bool; 8] = [false, false, true, false, false, false, false, false];
 
-/// With reference point 1 at 1: SHPIX shifts point 1 by 10; SHP shifts point 2 by as much, SHC the others of its contour, SHZ all but
-/// the phantom points.
+/// With reference point 1 at 1: SHPIX shifts point 1 by 10; SHP shifts point 2 by as much, SHC the others of its contour, SHZ all
+/// but the phantom points.
 const SHIFTS: [Step<'static>; 4] = [
     (opcode::SHPIX, &[10, 1], 0, Want::Any),
     (
@@ -484,10 +483,7 @@ fn in_the_twilight_zone(rt: HostRuntime) -> Result<(), Fail> {
 #[test]
 fn low_bits(rt: HostRuntime) {
     let how = Relative::of(0xFC);
-    assert_eq!(rt;
-        (how.sets_rp0, how.keeps_minimum, how.rounds),
-        (true, true, true)
-    );
+    assert!(rt; how.sets_rp0 && how.keeps_minimum && how.rounds);
 }
 
 /// Whether MDRP (CC) makes 64 of the distance 90 of point 1 from point 0, and GC, MD and a line measure it.
