@@ -79,6 +79,22 @@ fn send<W: Sink>(rt: &impl Abort, glyph: &BitGlyph, out: &mut W) -> Result<u64, 
     Ok(text.taken())
 }
 
+/// A glyph on a sink with limits: what the call returns, and the bytes that are written.
+fn sends(
+    rt: &impl Abort,
+    alloc: Global,
+    glyph: &BitGlyph,
+    limits: Limits,
+    want: Result<u64, WriteFailed>,
+    text: &[u8],
+) -> Result<(), Fail> {
+    let mut out = MemorySink::new(alloc, 100, limits)?;
+    assert!(rt; send(rt, glyph, &mut out) == want);
+    assert!(rt; out.faults() == if want.is_ok() { 0 } else { 1 });
+    assert!(rt; out.bytes() == text, "{text:?}");
+    Ok(())
+}
+
 /// Compares the lines of a picture's glyph, from the numbers of its box on.
 fn shows(
     rt: &impl Abort,
@@ -90,14 +106,10 @@ fn shows(
 ) -> Result<(), Fail> {
     let head = b"STARTCHAR uniAF09\nENCODING 44809\nSWIDTH 375 0\nDWIDTH -6 0\nBBX ";
     let glyph = glyph(rt, alloc, (0xAF09, 375, -6), across, up, lines)?;
-    let mut out = MemorySink::new(alloc, 600, Limits::NONE)?;
-    let size = head.len() + want.len();
-    assert_eq!(rt; send(rt, &glyph, &mut out), Ok(size as u64));
-    let text = out.bytes();
-    assert_eq!(rt; text.len(), size);
-    assert!(rt; text.starts_with(head));
-    assert!(rt; text.ends_with(want));
-    Ok(())
+    let mut text = head.to_vec(alloc)?;
+    text.extend_from_slice(want)?;
+    let done = Ok(text.len() as u64);
+    sends(rt, alloc, &glyph, Limits::NONE, done, text.as_slice())
 }
 
 /// Pictures: the columns and rows of the lower left pixel, from -9 on; the lines from the top; the text from the box on.
@@ -148,13 +160,11 @@ fn code_points(rt: HostRuntime) -> Result<(), Fail> {
         (0x10_FFFF, "u10FFFF\nENCODING 1114111\n"),
     ] {
         let dash = glyph(&rt, alloc, (code, 375, 6), 9, 9, &[b"##"])?;
-        let mut out = MemorySink::new(alloc, 600, Limits::NONE)?;
-        let done = send(&rt, &dash, &mut out);
         let want = format!(in alloc;
             "STARTCHAR {head}SWIDTH 375 0\nDWIDTH 6 0\nBBX 2 1 0 0\nBITMAP\nC0\nENDCHAR\n"
         )?;
-        assert_eq!(rt; done, Ok(want.len() as u64));
-        assert!(rt; out.bytes() == want.as_bytes(), "{code}");
+        let done = Ok(want.len() as u64);
+        sends(&rt, alloc, &dash, Limits::NONE, done, want.as_bytes())?;
     }
     Ok(())
 }
@@ -215,48 +225,66 @@ fn a_whole_strike(rt: HostRuntime) -> Result<(), Fail> {
     Ok(())
 }
 
+/// A glyph of two rows, and its text.
+const TWO_ROWS: [&[u8]; 2] = [b"#.#######", b"........#"];
+
+const TWO_ROWS_TEXT: &[u8] =
+    b"STARTCHAR uni0042\nENCODING 66\nSWIDTH 375 0\nDWIDTH -6 0\nBBX 9 2 0 0\nBITMAP\nBF80\n0080\nENDCHAR\n";
+
 #[test]
 fn sinks_that_take_little(rt: HostRuntime) -> Result<(), Fail> {
-    let glyph = glyph(
-        &rt,
-        rt.alloc(),
-        (66, 375, -6),
-        9,
-        9,
-        &[b"#.#######", b"........#"],
-    )?;
-    let want =
-        b"STARTCHAR uni0042\nENCODING 66\nSWIDTH 375 0\nDWIDTH -6 0\nBBX 9 2 0 0\nBITMAP\nBF80\n0080\nENDCHAR\n";
-    for bytes in 0..want.len() {
+    let glyph = glyph(&rt, rt.alloc(), (66, 375, -6), 9, 9, &TWO_ROWS)?;
+    for bytes in 0..TWO_ROWS_TEXT.len() {
         let limits = Limits {
             bytes,
             ..Limits::NONE
         };
-        let mut out = MemorySink::new(rt.alloc(), 100, limits)?;
-        assert_eq!(rt; send(&rt, &glyph, &mut out), Err(WriteFailed(bytes as u64)));
-        assert_eq!(rt; out.faults(), 1);
-        assert!(rt; out.bytes() == &want[..bytes]);
+        let fault = Err(WriteFailed(bytes as u64));
+        sends(
+            &rt,
+            rt.alloc(),
+            &glyph,
+            limits,
+            fault,
+            &TWO_ROWS_TEXT[..bytes],
+        )?;
     }
     let slow = Limits {
         step: 1,
         ..Limits::NONE
     };
-    let mut out = MemorySink::new(rt.alloc(), 100, slow)?;
-    assert_eq!(rt; send(&rt, &glyph, &mut out), Ok(want.len() as u64));
-    assert!(rt; out.bytes() == want.as_slice());
-    Ok(())
+    let done = Ok(TWO_ROWS_TEXT.len() as u64);
+    sends(&rt, rt.alloc(), &glyph, slow, done, TWO_ROWS_TEXT)
 }
+
+/// Checks names.
+fn checks(rt: &impl Abort, names: &[&str], want: Result<(), BadName>) {
+    for name in names {
+        assert!(rt; check_name(name) == want, "{name}");
+    }
+}
+
+/// A name of this length.
+fn long_name(alloc: Global, length: usize) -> Result<String, Fail> {
+    let mut name = String::new(alloc);
+    for _ in 0..length {
+        name.push('n')?;
+    }
+    Ok(name)
+}
+
+const NAMES: [&str; 4] = ["F1", "~", "a b", "!"];
+
+const NO_NAMES: [&str; 7] = ["", " ", " a", "a ", "a\tb", "\u{7f}", "é"];
 
 #[test]
 fn names(rt: HostRuntime) -> Result<(), Fail> {
-    let most = String::from_utf8(vec![in rt.alloc(); b'n'; 255]?)?;
-    let more = String::from_utf8(vec![in rt.alloc(); b'n'; 256]?)?;
-    for name in ["F1", "~", "a b", "!", most.as_str()] {
-        assert_eq!(rt; check_name(name), Ok(()), "{name}");
-    }
-    for name in ["", " ", " a", "a ", "a\tb", "\u{7f}", "é", more.as_str()] {
-        assert_eq!(rt; check_name(name), Err(BadName), "{name}");
-    }
+    checks(&rt, &NAMES, Ok(()));
+    checks(&rt, &NO_NAMES, Err(BadName));
+    let most = long_name(rt.alloc(), 255)?;
+    checks(&rt, &[most.as_str()], Ok(()));
+    let more = long_name(rt.alloc(), 256)?;
+    checks(&rt, &[more.as_str()], Err(BadName));
     Ok(())
 }
 
@@ -264,7 +292,7 @@ fn names(rt: HostRuntime) -> Result<(), Fail> {
 #[test]
 fn the_smallest(rt: HostRuntime) -> Result<(), Fail> {
     let small = glyph(&rt, rt.alloc(), (0x10FFFF, 375, -6), 9, 9, &[b"#"])?;
-    assert_eq!(rt; (small.code(), small.bbox()), (0x10FFFF, (1, 1, 0, 0)));
+    assert!(rt; small.code() == 0x10FFFF && small.bbox() == (1, 1, 0, 0));
     Ok(())
 }
 
@@ -292,7 +320,7 @@ fn the_largest(rt: HostRuntime) -> Result<(), Fail> {
     let mut bitmap = Bitmap::new(rt.alloc(), frame)?;
     set_edges(&rt, rt.alloc(), &mut bitmap)?;
     let large = BitGlyph::of(0x41, 375, -6, bitmap);
-    assert_eq!(rt; large.bbox(), (8192, 8192, -4096, -4096));
+    assert!(rt; large.bbox() == (8192, 8192, -4096, -4096));
     assert!(rt; has_edges(&large));
     Ok(())
 }

@@ -25,7 +25,7 @@ fn has(rt: &impl Abort, map: &CharMap, rows: &[(u32, u16)]) {
     let mut cursor = map.cursor();
     'rows: for &(code, glyph) in rows {
         let found = (map.glyph(code), cursor.glyph(code));
-        assert_eq!(rt; found, (glyph, glyph), "{code}");
+        assert!(rt; found == (glyph, glyph), "{code}");
     }
 }
 

@@ -2,6 +2,7 @@
 use fx_code::opcode::{FDEF, IDEF, NPUSHB, NPUSHW};
 use fx_code::{Code, CodeFault, opcode_name};
 use fx_fixed::{Limits, MemorySink, Sink, WriteFailed};
+use std::alloc::Global;
 use std::process::Abort;
 use std::test::Fail;
 
@@ -18,33 +19,24 @@ fn send<W: Sink>(rt: &impl Abort, bytes: &[u8], out: &mut W) -> Result<(), Write
 #[test]
 fn skips(rt: HostRuntime) -> Result<(), Fail> {
     let code = Code::new(&BRANCH);
-    assert_eq!(rt; code.skip_false(3), Ok(7));
-    assert_eq!(rt; code.skip_else(7), Ok(10));
-    assert_eq!(rt; code.skip_false(10), Err(CodeFault::CodeEnd));
+    assert!(rt; code.skip_false(3) == Ok(7));
+    assert!(rt; code.skip_else(7) == Ok(10));
+    assert!(rt; code.skip_false(10) == Err(CodeFault::CodeEnd));
     let code = Code::new(&[0x58, 0x1B, 0x59, 0x1B, 0x59]);
-    assert_eq!(rt; code.skip_false(0), Ok(4));
-    assert_eq!(rt; code.skip_else(0), Ok(5));
+    assert!(rt; code.skip_false(0) == Ok(4));
+    assert!(rt; code.skip_else(0) == Ok(5));
     Ok(())
 }
 
 #[test]
 fn definitions(rt: HostRuntime) -> Result<(), Fail> {
     let code = Code::new(&[0xB0, 0x2D, 0x2D, 0x2D]);
-    assert_eq!(rt; code.skip_def(0), Ok(3));
+    assert!(rt; code.skip_def(0) == Ok(3));
     for begin in [FDEF, IDEF] {
         let nested = [0x21, begin, 0x2D];
-        assert_eq!(rt;
-            Code::new(&nested).skip_def(0),
-            Err(CodeFault::NestedDefinition)
-        );
-        assert_eq!(rt;
-            Code::new(&nested[..2]).skip_def(0),
-            Err(CodeFault::NestedDefinition)
-        );
-        assert_eq!(rt;
-            Code::new(&nested[..1]).skip_def(0),
-            Err(CodeFault::CodeEnd)
-        );
+        assert!(rt; Code::new(&nested).skip_def(0) == Err(CodeFault::NestedDefinition));
+        assert!(rt; Code::new(&nested[..2]).skip_def(0) == Err(CodeFault::NestedDefinition));
+        assert!(rt; Code::new(&nested[..1]).skip_def(0) == Err(CodeFault::CodeEnd));
     }
     Ok(())
 }
@@ -59,19 +51,19 @@ fn last(rt: &impl Abort, bytes: &[u8]) -> Result<(usize, i32, usize), CodeFault>
 
 #[test]
 fn pushes(rt: HostRuntime) -> Result<(), Fail> {
-    assert_eq!(rt; last(&rt, &[0xB1, 0x01, 0xFD]), Ok((2, 253, 3)));
-    assert_eq!(rt; last(&rt, &[0xB8, 0xFF, 0xFD]), Ok((1, -3, 3)));
+    assert!(rt; last(&rt, &[0xB1, 0x01, 0xFD]) == Ok((2, 253, 3)));
+    assert!(rt; last(&rt, &[0xB8, 0xFF, 0xFD]) == Ok((1, -3, 3)));
     let mut most = vec![in rt.alloc(); 0xFD; 512]?;
     most[0] = NPUSHB;
     most[1] = 255;
-    assert_eq!(rt; last(&rt, most.as_slice()), Ok((255, 253, 257)));
+    assert!(rt; last(&rt, most.as_slice()) == Ok((255, 253, 257)));
     most[0] = NPUSHW;
     most[510] = 0x01;
     most[511] = 0x02;
-    assert_eq!(rt; last(&rt, most.as_slice()), Ok((255, 258, 512)));
+    assert!(rt; last(&rt, most.as_slice()) == Ok((255, 258, 512)));
     most[510] = 0x80;
-    assert_eq!(rt; last(&rt, most.as_slice()), Ok((255, -32766, 512)));
-    assert_eq!(rt; last(&rt, &most.as_slice()[..511]), Err(CodeFault::CodeEnd));
+    assert!(rt; last(&rt, most.as_slice()) == Ok((255, -32766, 512)));
+    assert!(rt; last(&rt, &most.as_slice()[..511]) == Err(CodeFault::CodeEnd));
     Ok(())
 }
 
@@ -94,12 +86,26 @@ const LISTINGS: [(&[u8], &[u8]); 4] = [
     ),
 ];
 
+/// A listing on a sink with limits: what the call returns, and the bytes that are written.
+fn lists(
+    rt: &impl Abort,
+    alloc: Global,
+    program: &[u8],
+    limits: Limits,
+    want: Result<(), WriteFailed>,
+    text: &[u8],
+) -> Result<(), Fail> {
+    let mut out = MemorySink::new(alloc, 200, limits)?;
+    assert!(rt; send(rt, program, &mut out) == want);
+    assert!(rt; out.faults() == if want.is_ok() { 0 } else { 1 });
+    assert!(rt; out.bytes() == text, "{program:?}");
+    Ok(())
+}
+
 #[test]
 fn listings(rt: HostRuntime) -> Result<(), Fail> {
     for (bytes, want) in LISTINGS {
-        let mut out = MemorySink::new(rt.alloc(), 200, Limits::NONE)?;
-        assert_eq!(rt; send(&rt, bytes, &mut out), Ok(()));
-        assert!(rt; out.bytes() == want, "{bytes:?}");
+        lists(&rt, rt.alloc(), bytes, Limits::NONE, Ok(()), want)?;
     }
     Ok(())
 }
@@ -113,13 +119,8 @@ fn sinks_that_take_little(rt: HostRuntime) -> Result<(), Fail> {
             bytes,
             ..Limits::NONE
         };
-        let mut out = MemorySink::new(rt.alloc(), 40, limits)?;
-        assert_eq!(rt;
-            send(&rt, &program, &mut out),
-            Err(WriteFailed(bytes as u64))
-        );
-        assert_eq!(rt; out.faults(), 1);
-        assert!(rt; out.bytes() == &want[..bytes]);
+        let fault = Err(WriteFailed(bytes as u64));
+        lists(&rt, rt.alloc(), &program, limits, fault, &want[..bytes])?;
     }
     Ok(())
 }

@@ -18,12 +18,17 @@ fn part_at(bytes: &[u8], at: usize) -> Option<Part> {
     }
 }
 
+/// Whether a glyph's bytes end too early.
+fn is_short(bytes: &[u8]) -> bool {
+    matches!(read(bytes, 7), Err(GlyphFault::GlyphShort(7)))
+}
+
 #[test]
 fn cut_or_falling(rt: HostRuntime) {
     let falls = b"\x00\x02\x00\x00\x00\x00\x00\x00\x00\x00\x00\x03\x00\x01\x00\x00";
     assert!(rt; matches!(read(falls, 7), Err(GlyphFault::BadContours(7))));
-    assert!(rt; matches!(read(&falls[..12], 7), Err(GlyphFault::GlyphShort(7))));
-    assert!(rt; matches!(read(&falls[..9], 7), Err(GlyphFault::GlyphShort(7))));
+    assert!(rt; is_short(&falls[..12]));
+    assert!(rt; is_short(&falls[..9]));
     assert!(rt; matches!(read(&falls[..0], 7), Ok(Glyph::Empty)));
     assert!(rt; matches!(read(&[0; 12], 7), Ok(Glyph::Empty)));
 }
@@ -38,13 +43,28 @@ fn three_points_at_zero(rt: HostRuntime) -> Result<(), Fail> {
         on_curve: true,
     };
     for at in 0..3usize {
-        assert_eq!(rt; point_at(bytes, at), Some(origin));
+        assert!(rt; point_at(bytes, at) == Some(origin));
     }
-    assert_eq!(rt; point_at(bytes, 3), None);
+    assert!(rt; point_at(bytes, 3) == None);
     if let Glyph::Simple(simple) = read(bytes, 7)? {
-        assert_eq!(rt; (simple.contour_count(), simple.point_count()), (1, 3));
+        assert!(rt; simple.contour_count() == 1 && simple.point_count() == 3);
     }
     Ok(())
+}
+
+/// Whether a simple glyph has two contours that end with point 3, the least x -16, and a program of two bytes.
+fn is_of_two_contours(bytes: &[u8]) -> bool {
+    match read(bytes, 7) {
+        Ok(Glyph::Simple(simple)) => {
+            let mut ends = simple.ends();
+            ends.next() == Some(3)
+                && ends.next() == Some(3)
+                && ends.next() == None
+                && simple.x_min() == -16
+                && simple.code() == b"\x2f\x2e".as_slice()
+        }
+        _ => false,
+    }
 }
 
 #[test]
@@ -59,19 +79,11 @@ fn each_kind_of_delta(rt: HostRuntime) {
         (263, -241, false),
     ];
     for (at, (x, y, on_curve)) in points.into_iter().enumerate() {
-        assert_eq!(rt; point_at(bytes, at), Some(Point { x, y, on_curve }));
+        assert!(rt; point_at(bytes, at) == Some(Point { x, y, on_curve }));
     }
-    assert_eq!(rt; point_at(bytes, 4), None);
-    if let Ok(Glyph::Simple(simple)) = read(bytes, 7) {
-        let mut ends = simple.ends();
-        assert_eq!(rt;
-            (ends.next(), ends.next(), ends.next()),
-            (Some(3), Some(3), None)
-        );
-        assert_eq!(rt; simple.x_min(), -16);
-        assert!(rt; simple.code() == b"\x2f\x2e".as_slice());
-    }
-    assert!(rt; matches!(read(&bytes[..29], 7), Err(GlyphFault::GlyphShort(7))));
+    assert!(rt; point_at(bytes, 4) == None);
+    assert!(rt; is_of_two_contours(bytes));
+    assert!(rt; is_short(&bytes[..29]));
 }
 
 /// The first component of a composite glyph of one component with these bytes.
@@ -134,8 +146,8 @@ fn form(part: Part) -> (u16, (i32, i32), (i16, i16, i16, i16)) {
 fn each_form_of_component(rt: HostRuntime) -> Result<(), Fail> {
     for (bytes, args, scales) in FORMS {
         let part = only_part(bytes).ok_or("no component")?;
-        assert_eq!(rt; form(part), (3, args, scales));
-        assert_eq!(rt; only_part(&bytes[..bytes.len().saturating_sub(1)]), None);
+        assert!(rt; form(part) == (3, args, scales));
+        assert!(rt; only_part(&bytes[..bytes.len().saturating_sub(1)]) == None);
     }
     Ok(())
 }
@@ -148,18 +160,26 @@ fn composite_of(bytes: &[u8]) -> Option<(i16, &[u8])> {
     }
 }
 
+/// The flags of a component, by its number.
+fn flags_at(bytes: &[u8], at: usize) -> Option<u16> {
+    Some(part_at(bytes, at)?.flags)
+}
+
+/// The arguments of a component, by its number.
+fn args_at(bytes: &[u8], at: usize) -> Option<(i32, i32)> {
+    Some(part_at(bytes, at)?.args)
+}
+
 #[test]
 fn program_after_the_last_component(rt: HostRuntime) -> Result<(), Fail> {
     // The first of two components announces it.
     let bytes =
         b"\xff\xff\x00\x40\x00\x20\x00\xc0\x00\xa0\x01\x22\x00\x01\x01\x02\x00\x02\x00\x02\x03\x04\
         \x00\x02\x2f\x2e\x00";
-    let first = part_at(bytes, 0).ok_or("no component")?;
-    assert_eq!(rt; first.flags, 0x0122);
-    let second = part_at(bytes, 1).ok_or("no second component")?;
-    assert_eq!(rt; second.args, (3, 4));
-    assert_eq!(rt; part_at(bytes, 2), None);
-    assert_eq!(rt; composite_of(bytes), Some((64, b"\x2f\x2e".as_slice())));
-    assert!(rt; matches!(read(&bytes[..25], 7), Err(GlyphFault::GlyphShort(7))));
+    assert!(rt; flags_at(bytes, 0) == Some(0x0122));
+    assert!(rt; args_at(bytes, 1) == Some((3, 4)));
+    assert!(rt; part_at(bytes, 2) == None);
+    assert!(rt; composite_of(bytes) == Some((64, b"\x2f\x2e".as_slice())));
+    assert!(rt; is_short(&bytes[..25]));
     Ok(())
 }

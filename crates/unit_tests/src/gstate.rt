@@ -1,7 +1,8 @@
 //! Rounding, vectors, deltas and refused arguments of the graphics state.
 use fx_fixed::{Axis, F2, F26, Place, Ppem};
 use fx_gstate::{
-    BadArgument, Delta, DeltaForm, GState, RoundState, ZonePointer, super_grid, super_grid_45,
+    BadArgument, Delta, DeltaForm, GState, RoundState, Vector, ZonePointer, super_grid,
+    super_grid_45,
 };
 use std::test::Fail;
 
@@ -36,7 +37,7 @@ const ROUNDED: [(RoundState, i32, i32); 11] = [
 #[test]
 fn grids(rt: HostRuntime) {
     for (state, distance, want) in ROUNDED {
-        assert_eq!(rt; rounds(state, distance), want, "{state:?} {distance}");
+        assert!(rt; rounds(state, distance) == want, "{state:?} {distance}");
     }
 }
 
@@ -61,78 +62,75 @@ fn super_grids(rt: HostRuntime) {
         } else {
             super_grid(operand)
         };
-        assert_eq!(rt;
-            rounds(RoundState::Super(grid), distance),
-            want,
+        assert!(rt;
+            rounds(RoundState::Super(grid), distance) == want,
             "{operand} {distance}"
         );
     }
 }
 
+/// Whether a shift by a pixel along the freedom vector is this one.
+fn shifts_by(state: &GState, x: i32, y: i32) -> bool {
+    state.shift_along(F26(64)) == (F26(x), F26(y))
+}
+
 #[test]
 fn shifts(rt: HostRuntime) -> Result<(), Fail> {
     let mut state = GState::new();
-    assert_eq!(rt; state.shift_along(F26(64)), (F26(64), F26(0)));
+    assert!(rt; shifts_by(&state, 64, 0));
     state.set_freedom_to_line(place(1, 1), false);
-    assert_eq!(rt; state.shift_along(F26(64)), (F26(64), F26(64)));
+    assert!(rt; shifts_by(&state, 64, 64));
     state.set_freedom_to_axis(Axis::Y);
-    assert_eq!(rt; state.shift_along(F26(64)), (F26(0), F26(64)));
-    assert_eq!(rt; state.project(F26(3), F26(4)), F26(3));
-    assert_eq!(rt; state.dual_project(F26(3), F26(4)), F26(3));
-    assert_eq!(rt;
-        (state.touches(Axis::X), state.touches(Axis::Y)),
-        (false, true)
-    );
-    assert_eq!(rt; state.freedom_place(F26(-7)), place(0, -7));
+    assert!(rt; shifts_by(&state, 0, 64));
+    assert!(rt; state.project(F26(3), F26(4)) == F26(3));
+    assert!(rt; state.dual_project(F26(3), F26(4)) == F26(3));
+    assert!(rt; !state.touches(Axis::X) && state.touches(Axis::Y));
+    assert!(rt; state.freedom_place(F26(-7)) == place(0, -7));
     Ok(())
+}
+
+/// Whether a vector is this one, in 2.14.
+fn is_vector(vector: Vector, x: i16, y: i16) -> bool {
+    vector.x() == F2(x) && vector.y() == F2(y)
 }
 
 #[test]
 fn lines(rt: HostRuntime) -> Result<(), Fail> {
     let mut state = GState::new();
     state.set_projection_to_line(place(3, 4), true);
-    assert_eq!(rt;
-        (state.projection.x(), state.projection.y()),
-        (F2(-13107), F2(9830))
-    );
-    assert_eq!(rt; (state.dual.x(), state.dual.y()), (F2(-13107), F2(9830)));
+    assert!(rt; is_vector(state.projection, -13107, 9830));
+    assert!(rt; is_vector(state.dual, -13107, 9830));
     state.set_dual_to_line(place(0, 5), place(0, 0), true);
-    assert_eq!(rt;
-        (state.projection.x(), state.projection.y()),
-        (F2(16384), F2(0))
-    );
-    assert_eq!(rt; (state.dual.x(), state.dual.y()), (F2(-16384), F2(0)));
+    assert!(rt; is_vector(state.projection, 16384, 0));
+    assert!(rt; is_vector(state.dual, -16384, 0));
     state.set_freedom_from_stack(0x1_0003, -65532);
-    assert_eq!(rt;
-        (state.freedom.x(), state.freedom.y()),
-        (F2(9830), F2(13107))
-    );
+    assert!(rt; is_vector(state.freedom, 9830, 13107));
     Ok(())
+}
+
+/// Whether arguments are refused.
+fn refuses(state: &mut GState) -> bool {
+    state.set_zp1(2) == Err(BadArgument)
+        && state.set_zone_pointers(-1) == Err(BadArgument)
+        && state.set_loop(-1) == Err(BadArgument)
+        && state.set_delta_shift(7) == Err(BadArgument)
+        && state.set_delta_shift(-1) == Err(BadArgument)
+}
+
+/// Whether arguments are taken.
+fn takes(state: &mut GState) -> bool {
+    state.set_zp0(0).is_ok() && state.set_loop(0).is_ok() && state.set_delta_shift(6).is_ok()
 }
 
 #[test]
 fn arguments(rt: HostRuntime) -> Result<(), Fail> {
     let mut state = GState::new();
-    assert_eq!(rt; state.set_zp1(2), Err(BadArgument));
-    assert_eq!(rt; state.set_zone_pointers(-1), Err(BadArgument));
-    assert_eq!(rt; state.set_loop(-1), Err(BadArgument));
-    assert_eq!(rt;
-        (state.set_delta_shift(7), state.set_delta_shift(-1)),
-        (Err(BadArgument), Err(BadArgument))
-    );
+    assert!(rt; refuses(&mut state));
     assert!(rt; state == GState::new());
-    assert_eq!(rt;
-        (
-            state.set_zp0(0),
-            state.set_loop(0),
-            state.set_delta_shift(6)
-        ),
-        (Ok(()), Ok(()), Ok(()))
-    );
-    assert_eq!(rt;
-        (state.zp0, state.loop_count, state.delta_shift.shift()),
-        (ZonePointer::Twilight, 0, 6)
-    );
+    assert!(rt; takes(&mut state));
+    assert!(rt; state.zp0 == ZonePointer::Twilight);
+    assert!(rt; state.loop_count == 0);
+    assert!(rt; state.delta_shift.shift() == 6);
     Ok(())
 }
 
@@ -140,6 +138,14 @@ fn arguments(rt: HostRuntime) -> Result<(), Fail> {
 fn acts_at(delta: Delta, pixels: u16) -> Option<bool> {
     let size = Ppem::new(pixels)?;
     Some(delta.acts_at(size))
+}
+
+/// Whether a delta is by this amount, and acts at this size and not at the next one.
+fn is_delta(delta: Delta, ppem: u16, amount: i32) -> bool {
+    delta.ppem == i64::from(ppem)
+        && delta.amount == F26(amount)
+        && acts_at(delta, ppem) == Some(true)
+        && acts_at(delta, ppem.saturating_add(1)) == Some(false)
 }
 
 #[test]
@@ -152,13 +158,7 @@ fn deltas(rt: HostRuntime) -> Result<(), Fail> {
         (DeltaForm::Third, -1, 56, 64),
     ] {
         let delta = state.delta(form, argument);
-        let want = Delta {
-            ppem: i64::from(ppem),
-            amount: F26(amount),
-        };
-        assert_eq!(rt; delta, want);
-        let acts = (acts_at(delta, ppem), acts_at(delta, ppem.saturating_add(1)));
-        assert_eq!(rt; acts, (Some(true), Some(false)));
+        assert!(rt; is_delta(delta, ppem, amount));
     }
     Ok(())
 }

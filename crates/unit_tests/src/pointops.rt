@@ -223,7 +223,7 @@ fn run_all(rt: &impl Abort, zones: &mut Zones, g: &GState, steps: &[Step]) {
     for (opcode, operands, strays, want) in steps {
         zones.strays = 0;
         run(zones, g, *opcode, operands);
-        assert_eq!(rt; zones.strays, *strays, "{opcode} {operands:?}");
+        assert!(rt; zones.strays == *strays, "{opcode} {operands:?}");
         assert!(rt; sees(zones, want), "{opcode} {operands:?}");
     }
 }
@@ -399,8 +399,8 @@ const STRAY_REFERENCE: [Step<'static>; 2] = [
 /// Only point 2 is touched.
 const TWO_TOUCHED: [bool; 8] = [false, false, true, false, false, false, false, false];
 
-/// With reference point 1 at 1: SHPIX shifts point 1 by 10; SHP shifts point 2 by as much, SHC the others of its contour, SHZ all but
-/// the phantom points.
+/// With reference point 1 at 1: SHPIX shifts point 1 by 10; SHP shifts point 2 by as much, SHC the others of its contour, SHZ all
+/// but the phantom points.
 const SHIFTS: [Step<'static>; 4] = [
     (opcode::SHPIX, &[10, 1], 0, Want::Any),
     (
@@ -477,10 +477,7 @@ fn in_the_twilight_zone(rt: HostRuntime) -> Result<(), Fail> {
 #[test]
 fn low_bits(rt: HostRuntime) {
     let how = Relative::of(0xFC);
-    assert_eq!(rt;
-        (how.sets_rp0, how.keeps_minimum, how.rounds),
-        (true, true, true)
-    );
+    assert!(rt; how.sets_rp0 && how.keeps_minimum && how.rounds);
 }
 
 /// Whether MDRP (CC) makes 64 of the distance 90 of point 1 from point 0, and GC, MD and a line measure it, with two strays.

@@ -32,10 +32,10 @@ fn zone(alloc: Global, bytes: &[u8]) -> Result<Zone, Fail> {
 fn control_values(rt: HostRuntime) -> Result<(), Fail> {
     let scale = scale().ok_or("scale")?;
     let few = cvt_of(rt.alloc(), b"\x00\x10\xff\xf0\x07", &scale)?;
-    assert_eq!(rt; few.as_slice(), [16, -16].as_slice());
+    assert!(rt; few.as_slice() == [16, -16].as_slice());
     let many = cvt_of(rt.alloc(), &[1; 65535], &scale)?;
-    assert_eq!(rt; many.len(), 32767);
-    assert_eq!(rt; many.get(32766).copied(), Some(257));
+    assert!(rt; many.len() == 32767);
+    assert!(rt; many.get(32766).copied() == Some(257));
     Ok(())
 }
 
@@ -45,13 +45,13 @@ fn a_zone_of_three_points(rt: HostRuntime) -> Result<(), Fail> {
     let bytes = b"\x00\x01\x00\x0a\x00\x00\x00\x00\x00\x00\x00\x02\x00\x00\x01\x21\x10\
         \x00\x0a\x00\x14\x00\x14\xff\xe7";
     let zone = zone(rt.alloc(), bytes)?;
-    assert_eq!(rt; zone.len(), 3);
-    assert_eq!(rt; zone.ends(), [2].as_slice());
+    assert!(rt; zone.len() == 3);
+    assert!(rt; zone.ends() == [2].as_slice());
     let last = Place {
         x: F26(30),
         y: F26(-5),
     };
-    assert_eq!(rt; zone.point(2), Some(Point::resting(last, false)));
+    assert!(rt; zone.point(2) == Some(Point::resting(last, false)));
     Ok(())
 }
 
@@ -67,11 +67,8 @@ fn a_zone_of_16384_points(rt: HostRuntime) -> Result<(), Fail> {
         bytes[15 + 2 * k] = 0xFF;
     }
     let zone = zone(rt.alloc(), &bytes)?;
-    assert_eq!(rt; zone.len(), 16384);
-    assert_eq!(rt; zone.ends(), [16383].as_slice());
-    assert_eq!(rt;
-        zone.point(16383),
-        Some(Point::resting(Place::origin(), true))
-    );
+    assert!(rt; zone.len() == 16384);
+    assert!(rt; zone.ends() == [16383].as_slice());
+    assert!(rt; zone.point(16383) == Some(Point::resting(Place::origin(), true)));
     Ok(())
 }

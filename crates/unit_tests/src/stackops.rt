@@ -94,7 +94,7 @@ fn leaves(rt: &impl Abort, alloc: Global, rows: &[Row]) -> Result<(), Fail> {
 }
 
 /// Instructions that copy, drop and move numbers of the stack.
-const STACK: [Row<'static>; 21] = [
+static STACK: [Row<'static>; 21] = [
     (0x20, &[1, 2], Ok(&[1, 2, 2])),
     (0x20, &[], Err(StackFault::StackUnder)),
     (0x20, &[7; 36], Err(StackFault::StackOver)),
@@ -145,7 +145,7 @@ fn comparisons(rt: HostRuntime) -> Result<(), Fail> {
 }
 
 /// AND, OR, NOT, ODD and EVEN.
-const LOGIC: [Row<'static>; 18] = [
+static LOGIC: [Row<'static>; 18] = [
     (0x5A, &[0, 0], Ok(&[0])),
     (0x5A, &[0, -7], Ok(&[0])),
     (0x5A, &[2, 3], Ok(&[1])),
@@ -172,7 +172,7 @@ fn logic(rt: HostRuntime) -> Result<(), Fail> {
 }
 
 /// Arithmetic and rounding.
-const SUMS: [Row<'static>; 20] = [
+static SUMS: [Row<'static>; 20] = [
     (0x60, &[2147483647, 1], Ok(&[LEAST])),
     (0x61, &[3, 5], Ok(&[-2])),
     (0x62, &[64, 192], Ok(&[21])),
@@ -201,7 +201,7 @@ fn sums(rt: HostRuntime) -> Result<(), Fail> {
 }
 
 /// The size, and what GETINFO answers.
-const QUESTIONS: [Row<'static>; 4] = [
+static QUESTIONS: [Row<'static>; 4] = [
     (0x4B, &[], Ok(&[12])),
     (0x4C, &[], Ok(&[12])),
     (0x88, &[-1], Ok(&[35])),
@@ -211,6 +211,11 @@ const QUESTIONS: [Row<'static>; 4] = [
 #[test]
 fn questions(rt: HostRuntime) -> Result<(), Fail> {
     leaves(&rt, rt.alloc(), &QUESTIONS)
+}
+
+/// Whether an instruction leaves this number of numbers on the stack, and counts this number of strays.
+fn counts(store: &mut Store, opcode: u8, left: usize, strays: u64) -> bool {
+    run(store, opcode) == Ok(()) && store.stack_len() == left && store.strays() == strays
 }
 
 #[test]
@@ -224,8 +229,10 @@ fn strays(rt: HostRuntime) -> Result<(), Fail> {
         (0x45, [0, 3], 2, 0),
     ] {
         let mut store = store_of(rt.alloc(), &numbers)?;
-        let found = (run(&mut store, opcode), store.stack_len(), store.strays());
-        assert_eq!(rt; found, (Ok(()), left, strays), "{opcode} {numbers:?}");
+        assert!(rt;
+            counts(&mut store, opcode, left, strays),
+            "{opcode} {numbers:?}"
+        );
     }
     Ok(())
 }
@@ -239,20 +246,18 @@ const DELTAS: [(u8, &[i32], i32, u64); 5] = [
     (0x74, &[0x38, 1, 1], 100, 0),
 ];
 
-/// Moves control value 1 from 100 on; returns the numbers left on the stack, that value and the strays.
-fn moved(store: &mut Store, opcode: u8) -> Result<(usize, i32, u64), StackFault> {
+/// Whether an instruction moves control value 1 from 100 to this one, counts this number of strays, and empties the stack.
+fn moves(store: &mut Store, opcode: u8, control: i32, strays: u64) -> bool {
     store.put_control(1, 100);
-    run(store, opcode)?;
-    Ok((store.stack_len(), store.control(1), store.strays()))
+    counts(store, opcode, 0, strays) && store.control(1) == control
 }
 
 #[test]
 fn deltas(rt: HostRuntime) -> Result<(), Fail> {
     for (opcode, numbers, control, strays) in DELTAS {
         let mut store = store_of(rt.alloc(), numbers)?;
-        assert_eq!(rt;
-            moved(&mut store, opcode),
-            Ok((0, control, strays)),
+        assert!(rt;
+            moves(&mut store, opcode, control, strays),
             "{opcode} {numbers:?}"
         );
     }
@@ -279,10 +284,7 @@ fn has_two(store: &Store) -> bool {
 #[test]
 fn pushes(rt: HostRuntime) -> Result<(), Fail> {
     let mut store = store_of(rt.alloc(), &[])?;
-    assert_eq!(rt;
-        push_first(&mut store, &[0xB9, 0xFF, 0xFD, 0x01, 0x02]),
-        Ok(())
-    );
+    assert!(rt; push_first(&mut store, &[0xB9, 0xFF, 0xFD, 0x01, 0x02]) == Ok(()));
     assert!(rt; has_two(&store));
     Ok(())
 }
@@ -313,11 +315,18 @@ fn begin_anew(rt: &impl Abort, alloc: Global, store: &mut Store) -> Result<(), F
     Ok(())
 }
 
+/// Whether a store has an empty stack with room for 36 numbers, control value 3 at 9, and no strays.
+fn is_anew(store: &Store) -> bool {
+    store.stack_len() == 0
+        && store.stack_room() == 36
+        && store.control(3) == 9
+        && store.strays() == 0
+}
+
 #[test]
 fn begins_anew(rt: HostRuntime) -> Result<(), Fail> {
     let mut store = store_of(rt.alloc(), &[1, 2])?;
     begin_anew(&rt, rt.alloc(), &mut store)?;
-    assert_eq!(rt; (store.stack_len(), store.stack_room()), (0, 36));
-    assert_eq!(rt; (store.control(3), store.strays()), (9, 0));
+    assert!(rt; is_anew(&store));
     Ok(())
 }
