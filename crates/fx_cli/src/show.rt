@@ -1,7 +1,6 @@
 //! The picture of a character of a font.
 ghost use Rattle.std.specs.Prelude.{◌<◌, ◌^◌};
 ghost use Rattle.fx_fixed.specs.Changes.{change_of};
-ghost use Rattle.fx_cli.specs.Arguments.{seen_show};
 ghost use Rattle.fx_cli.specs.Runs.{ShowLeaves};
 
 use crate::command::Show;
