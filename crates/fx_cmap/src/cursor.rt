@@ -46,7 +46,7 @@ impl<'m, 'a> Cursor<'m, 'a> {
     }
 
     /// The glyph of a character code, 0 if it has none; for every number, in any order.
-    #[inline]
+    #[inline(always)]
     pub fn glyph(&mut self, code: u32) -> u16
         ensures value { result ≡ glyph_for self.old code }
         ensures kept { self.new ≡ self.old }
@@ -54,6 +54,15 @@ impl<'m, 'a> Cursor<'m, 'a> {
         if self.gap <= code && code < self.gap_end {
             return 0;
         }
+        self.search(code)
+    }
+
+    /// The glyph of a character code that does not lie in the gap.
+    #[inline(never)]
+    fn search(&mut self, code: u32) -> u16
+        ensures value { result ≡ glyph_for self.old code }
+        ensures kept { self.new ≡ self.old }
+    {
         let glyph = self.map.glyph_near(&mut self.near, code);
         if glyph == 0 {
             self.gap = code;

@@ -121,6 +121,7 @@ impl<'a> Hinter for KeepingMachine<'a> {
 
     fn keep(&mut self, input: &GlyphInput<'_>, made: &Made, spent: Spent) {
         if is_small(input.bytes, made) {
+            // Out of memory: it is not kept, and made again when it is asked for.
             let _kept = self.places[usize::from(input.g) % PLACES].take(input, made, spent);
         }
     }

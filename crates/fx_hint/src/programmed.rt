@@ -32,6 +32,7 @@ fn phantoms_at(zone: &Zone, first: usize) -> PhantomPoints
     requires { first ≤ length zone.now.points }
     ensures { result ≡ phantoms_at zone.now.points first }
 {
+    // For the prover: how many points there are.
     let _count = zone.points().len();
     PhantomPoints {
         origin: point_at(zone, first),
@@ -53,6 +54,7 @@ fn run_program(
     ensures value { GivesUnless Fails (λ spent. (made.new, spent)) result (program_run machine.old.known g code.now made.old) }
 {
     let count = made.zone.len();
+    // For the prover: where the contours end.
     let _ends = made.zone.ends();
     let phantoms = made.phantoms.in_order();
     made.zone.append(&phantoms, &[])?;

@@ -36,7 +36,7 @@ pub fn one(
     one_inner(alloc, font, ppem, code, hinting)
 }
 
-/// The same, with its clauses as one.
+/// `one` with its clauses as two.
 fn one_inner(
     alloc: Global,
     font: &[u8],

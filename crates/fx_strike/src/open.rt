@@ -94,7 +94,7 @@ pub(crate) fn open<'a>(file: &'a [u8], request: &Request<'_>) -> Result<Opened<'
     Ok(Opened { ppem, font, map })
 }
 
-/// The same for one character.
+/// The size, the font and its character map, for one character.
 #[tactic(auto, unfolding(crate::specs::Strike::opened_after))]
 pub(crate) fn open_one<'a>(file: &'a [u8], ppem: u16, code: u32) -> Result<Opened<'a>, Refusal>
     ensures due { result ≡ opened_one_of file.now ppem code }
@@ -106,7 +106,7 @@ pub(crate) fn open_one<'a>(file: &'a [u8], ppem: u16, code: u32) -> Result<Opene
     Ok(Opened { ppem, font, map })
 }
 
-/// The same for no character.
+/// The size, the font and its character map, for no character yet.
 #[tactic(auto, unfolding(crate::specs::Strike::opened_after))]
 pub(crate) fn open_at<'a>(file: &'a [u8], ppem: u16) -> Result<Opened<'a>, Refusal>
     ensures due { result ≡ opened_at file.now ppem }

@@ -32,7 +32,7 @@ pub fn survey<S: Scan>(
     survey_inner(alloc, scan, font, request)
 }
 
-/// The same, with its clauses as one.
+/// `survey` with its clauses as two.
 fn survey_inner<S: Scan>(
     alloc: Global,
     scan: &S,
