@@ -116,7 +116,7 @@ class Root:
 
     def look(self, count, prefix, what, program, library):
         """Looks at what was installed below the prefix."""
-        is_same = prebuilt.read(self.path(prefix, "lib/libmkstrike.a")) == library
+        is_same = prebuilt.read(self.path(prefix, "lib/libmkstrike_c.a")) == library
         count.check("%s: the C library is there, as it was packed" % what, not is_same)
         if shutil.which("cc"):
             count.check("%s: an example builds with it, and runs" % what, self.builds(prefix))
@@ -134,7 +134,7 @@ class Root:
         with tempfile.TemporaryDirectory() as folder:
             show = os.path.join(folder, "show")
             words = ["cc", "-I" + self.path(prefix, "include"), self.path(prefix, "share/doc/mkstrike/examples/show.c"),
-                     self.path(prefix, "share/mkstrike/heap.c"), "-L" + self.path(prefix, "lib"), "-lmkstrike", "-o", show]
+                     self.path(prefix, "share/mkstrike/heap.c"), "-L" + self.path(prefix, "lib"), "-lmkstrike_c", "-o", show]
             wrong = failure_of(words)
             if wrong:
                 return wrong
