@@ -2,8 +2,9 @@
 -- Apple TrueType Reference Manual, "Zones"; what a stray does is this project's own choice.
 -- zp0, zp1, zp2 are the zone pointers, rp0, rp1, rp2 the reference points. Zone 0 is the twilight zone, zone 1 the glyph's. A
 -- point "of zp0" is one of the zone that zp0 names.
-use Rattle.std.specs.Prelude.{ℕ, ◌+◌, ◌-◌, ◌^◌, min, ℤ, pos, negsuc, Bool, true, false, List, Option, Some, None}
+use Rattle.std.specs.Prelude.{ℕ, ◌+◌, ℤ, pos, negsuc, Bool, true, false, List, Option, Some, None}
 use Rattle.std.specs.Prelude.{slice_get, slice_set}
+use Rattle.fx_fixed.specs.Numbers.{counted}
 use Rattle.fx_fixed.specs.Places.{origin}
 use Rattle.fx_fixed.specs.declared.places.Place.{Place}
 use Rattle.fx_zone.specs.declared.point.Point.{Point}
@@ -60,9 +61,9 @@ written_of p zone (Some n) z = on_zone (λ f. record f { points = slice_set f.po
 unfoldable pub written_at : Point → ZonePointer → ℤ → Zones → Zones
 written_at p zone n z = written_of p zone (index_of n) z
 
--- one stray more; the count stays at the greatest u64
+-- one stray more
 abbrev pub with_stray : Zones → Zones
-with_stray z = record z { strays = min (z.strays + 1) (2 ^ 64 - 1) }
+with_stray z = record z { strays = counted (z.strays + 1) }
 
 -- a point that is not inside is a stray, and is counted
 abbrev pub counting : Option Point → Zones → Zones

@@ -1,8 +1,9 @@
 -- The stack, the storage area and the control values of a machine, and what instructions take from them and put there.
 -- Apple TrueType Reference Manual, "Interpreter stack", "Storage area", "Control value table".
-use Rattle.std.specs.Prelude.{◌≡◌, ℕ, ◌+◌, ◌-◌, ◌*◌, ◌^◌, min, ℤ, pos, int_lt, unsigned_abs, nat_lt, nat_le, not, ◌||◌, List, []}
+use Rattle.std.specs.Prelude.{◌≡◌, ℕ, ◌+◌, ◌-◌, ◌*◌, ℤ, pos, int_lt, unsigned_abs, nat_lt, nat_le, not, ◌||◌, List, []}
 use Rattle.std.specs.Prelude.{◌∷◌, ◌++◌, length, reverse, take, drop, slice_index_or, Result, Ok, Err}
 use Rattle.fx_fixed.specs.Chain.{◌>>=◌, refuse}
+pub use Rattle.fx_fixed.specs.Numbers.{counted}
 use Rattle.fx_stackops.specs.declared.fault.StackFault.{StackFault}
 use Rattle.fx_stackops.specs.declared.fault.StackFault.TheVariants.{StackUnder, StackOver, BadArgument}
 
@@ -111,10 +112,6 @@ pushed_all xs s = do
   Ok (with_stack (reverse xs ++ s.stack) s)
 
 -- ---- strays
-
--- a count that stays at the greatest u64
-abbrev pub counted : ℕ → ℕ
-counted n = min n (2 ^ 64 - 1)
 
 -- n strays more
 abbrev pub with_strays : ℕ → StoreView → StoreView
