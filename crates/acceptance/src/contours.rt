@@ -8,6 +8,7 @@ use crate::outlines::{off, on};
 use fx_contour::{ContourFault, frame, outline_frame, pieces};
 use fx_fixed::F26;
 use fx_hint::{Outline, OutlinePoint};
+use fx_machine::Usage;
 use fx_winding::{Frame, Piece};
 use std::alloc::{AllocError, Global};
 use std::process::Abort;
@@ -22,8 +23,7 @@ fn outline(alloc: Global, points: &[OutlinePoint], ends: &[u16]) -> Result<Outli
         points: Vec::from_slice(alloc, points)?,
         ends: Vec::from_slice(alloc, ends)?,
         advance: F26(0),
-        strays: 0,
-        steps: 0,
+        usage: Usage::none(),
     })
 }
 

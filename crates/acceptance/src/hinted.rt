@@ -4,6 +4,7 @@ use crate::strikes::{ends_with, is_refused, request};
 use crate::tables::{NO_TABLES, Tables, with_tables};
 use fx_cli::run;
 use fx_fixed::{Limits, MemorySink, MemorySource};
+use fx_machine::Usage;
 use fx_request::{Refusal, Report, Request};
 use std::alloc::Global;
 use std::process::Abort;
@@ -22,8 +23,7 @@ fn counts(glyphs: u32, steps: u64) -> Report {
     Report {
         glyphs,
         missing: 0,
-        strays: 0,
-        steps,
+        usage: Usage { steps, strays: 0 },
     }
 }
 

@@ -2,7 +2,7 @@
 use crate::fonts::{ARC, fixture, font, of_points, patch};
 use fx_fixed::{F26, Ppem};
 use fx_hint::{KeepingMachine, Outline, OutlinePoint, outline, outline_with};
-use fx_machine::Machine;
+use fx_machine::{Machine, Usage};
 use fx_sfnt::Font;
 use std::alloc::Global;
 use std::process::Abort;
@@ -38,7 +38,7 @@ pub fn is_outline(outline: &Outline, points: &[OutlinePoint], ends: &[u16], adva
     outline.points.as_slice() == points
         && outline.ends.as_slice() == ends
         && outline.advance == F26(advance)
-        && outline.strays == 0
+        && outline.usage.strays == 0
 }
 
 #[test]
@@ -56,7 +56,7 @@ fn an_outline_of_eight_points(rt: HostRuntime) -> Result<(), Fail> {
         on(224, 96),
     ];
     assert!(rt; is_outline(&outline, &points, &[3, 7], 384));
-    assert!(rt; outline.steps == 0);
+    assert!(rt; outline.usage.steps == 0);
     Ok(())
 }
 
@@ -97,8 +97,7 @@ fn is_same(a: &Outline, b: &Outline) -> bool {
     a.points.as_slice() == b.points.as_slice()
         && a.ends.as_slice() == b.ends.as_slice()
         && a.advance == b.advance
-        && a.strays == b.strays
-        && a.steps == b.steps
+        && a.usage == b.usage
 }
 
 /// A machine that keeps components makes the outline of glyph 2 of a font as one that does not. Its programs name two numbers
@@ -114,7 +113,13 @@ fn outline_by_both(
     let made = made_plainly(alloc, font, ppem)?;
     let again = outline_with(alloc, keeping, font, ppem, 2)?;
     assert!(rt; is_same(&again, &made));
-    assert!(rt; made.strays == 2 && made.steps == 10);
+    assert!(rt;
+        made.usage
+            == Usage {
+                steps: 10,
+                strays: 2
+            }
+    );
     Ok(())
 }
 

@@ -3,7 +3,7 @@ use crate::fonts::{bytes, fixture};
 use crate::tables::{self, NO_TABLES, Tables};
 use fx_code::Code;
 use fx_fixed::{F26, Place, Ppem};
-use fx_machine::{Cause, FontProgram, Halt, Machine, MachineFault, Ran};
+use fx_machine::{Cause, FontProgram, Halt, Machine, MachineFault, Usage};
 use fx_sfnt::Font;
 use fx_zone::{Point, Zone};
 use std::alloc::Global;
@@ -78,16 +78,16 @@ const RESTING: [i32; 4] = [0, 90, 90, 0];
 // How a program ends: after a number of instructions, without strays or with some, or by a halt in its own bytes.
 #[derive(Clone, Copy, Drop)]
 enum Want {
-    Steps(u32),
-    Strays(u32, u64),
+    Steps(u64),
+    Strays(u64, u64),
     Halts(Cause, usize, u8),
 }
 
 // What a program returns then.
-fn answer_of(program: FontProgram, want: Want) -> Result<Ran, Halt> {
+fn answer_of(program: FontProgram, want: Want) -> Result<Usage, Halt> {
     match want {
-        Want::Steps(steps) => Ok(Ran { steps, strays: 0 }),
-        Want::Strays(steps, strays) => Ok(Ran { steps, strays }),
+        Want::Steps(steps) => Ok(Usage { steps, strays: 0 }),
+        Want::Strays(steps, strays) => Ok(Usage { steps, strays }),
         Want::Halts(cause, address, opcode) => Err(Halt {
             cause,
             during: program,
@@ -328,7 +328,7 @@ const EIGHT: &str = "b0 00 2c 2d
     b8 7f ff b0 00 2a b8 7f ff b0 00 2a b8 7f ff b0 00 2a b8 7f ff b0 00 2a";
 
 // What the programs of a font use up before any glyph, or where they halt.
-fn prelude_of(alloc: Global, file: &[u8]) -> Result<Result<Ran, Halt>, Fail> {
+fn prelude_of(alloc: Global, file: &[u8]) -> Result<Result<Usage, Halt>, Fail> {
     match Machine::new(alloc, Font::open(file)?, size()?) {
         Ok(machine) => Ok(Ok(machine.prelude())),
         Err(MachineFault::Halted(halt)) => Ok(Err(halt)),

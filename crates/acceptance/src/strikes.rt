@@ -1,6 +1,7 @@
 //! Worked strikes, through the call that makes them.
 use crate::fonts::{ARC, RING, STRIKE, fixture, font, of_points, patch};
 use fx_fixed::{Limits, MemorySink, Sink};
+use fx_machine::Usage;
 use fx_request::{Refusal, Report, Request};
 use fx_strike::make_strike;
 use std::alloc::Global;
@@ -22,8 +23,7 @@ pub fn counts(glyphs: u32, missing: u32) -> Report {
     Report {
         glyphs,
         missing,
-        strays: 0,
-        steps: 0,
+        usage: Usage::none(),
     }
 }
 

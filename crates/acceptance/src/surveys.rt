@@ -2,6 +2,7 @@
 use crate::fonts::fixture;
 use crate::strikes::request;
 use fx_bdf::Bounds;
+use fx_machine::Usage;
 use fx_request::{Refusal, Report, Request};
 use fx_strike::{Survey, one, survey};
 use fx_winding::{Bitmap, Frame, Pieces, Plain, Scan, ScanFault, Tally};
@@ -42,8 +43,7 @@ fn a_strike_is_surveyed(rt: HostRuntime) -> Result<(), Fail> {
         report: Report {
             glyphs: 2,
             missing: 1,
-            strays: 0,
-            steps: 0,
+            usage: Usage::none(),
         },
     };
     assert!(rt; survey(rt.alloc(), &Plain, font.as_slice(), &request) == Ok(told));

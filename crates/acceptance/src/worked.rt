@@ -23,7 +23,10 @@ fn leaves(
     let code = bytes(alloc, program)?;
     let mut zone = square(alloc)?;
     let ran = machine.run_glyph(3, Code::new(code.as_slice()), &mut zone);
-    assert!(rt; ran.is_ok() && machine.final_stack() == stack, "{program}");
+    assert!(rt;
+        ran.is_ok() && machine.final_stack() == Some(stack),
+        "{program}"
+    );
     Ok(())
 }
 
@@ -55,7 +58,7 @@ fn hinted_outline(alloc: Global, file: &[u8]) -> Result<Outline, Fail> {
 
 /// Whether an outline has these points, in one contour, after five instructions.
 fn is_rounded(outline: &Outline, points: &[OutlinePoint]) -> bool {
-    is_outline(outline, points, &[3], 384) && outline.steps == 5
+    is_outline(outline, points, &[3], 384) && outline.usage.steps == 5
 }
 
 /// A square of 90 units at 16 pixels an em, whose program rounds its right side up to the grid.

@@ -35,7 +35,7 @@ usage_line = line_of (codes "usage" ∷ [])
 abbrev pub counts_of : Report → List (List ℕ)
 counts_of report =
     codes "glyphs" ∷ decimal report.glyphs ∷ codes "missing" ∷ decimal report.missing ∷
-    codes "strays" ∷ decimal report.strays ∷ codes "steps" ∷ decimal report.steps ∷ []
+    codes "strays" ∷ decimal report.usage.strays ∷ codes "steps" ∷ decimal report.usage.steps ∷ []
 
 -- its line
 abbrev pub report_line : Report → List ℕ

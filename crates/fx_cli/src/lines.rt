@@ -164,9 +164,9 @@ fn add_counts(line: &mut Line, report: Report)
     line.word(b"missing");
     line.number(u64::from(report.missing));
     line.word(b"strays");
-    line.number(report.strays);
+    line.number(report.usage.strays);
     line.word(b"steps");
-    line.number(report.steps);
+    line.number(report.usage.steps);
 }
 
 /// Ends a line, and writes it. A fault of the sink is ignored.

@@ -11,12 +11,13 @@ use Rattle.fx_glyf.specs.Shapes.{SimpleView}
 use Rattle.fx_scale.specs.declared.scale.Scale.{Scale}
 use Rattle.fx_scale.specs.Zones.{scaled_point}
 use Rattle.fx_hint.specs.declared.count.Count.{Count}
-use Rattle.fx_hint.specs.declared.count.Spent.{Spent}
+use Rattle.fx_machine.specs.declared.usage.Usage.{Usage}
 use Rattle.fx_hint.specs.declared.made.Made.{Made}
 use Rattle.fx_hint.specs.declared.walk.Step.{Step}
 use Rattle.fx_hint.specs.declared.walk.Step.TheVariants.{Assembled}
 use Rattle.fx_hint.specs.declared.fault.HintFault.{HintFault}
-use Rattle.fx_hint.specs.Hinting.{Hinting, KeepsShape, spent_with}
+use Rattle.fx_machine.specs.Usages.{usage_with}
+use Rattle.fx_hint.specs.Hinting.{Hinting, KeepsShape}
 use Rattle.fx_hint.specs.Outlines.{more_points, scaled_simple, simple_made, run_on}
 use Rattle.fx_hint.specs.Kept.{IsMadeAlone}
 use Rattle.fx_hint.specs.inner.Steps.{begun_by, begun, counted_made}
@@ -27,33 +28,33 @@ with_count made count = Ok (made, count)
 abbrev as_step : Made × Count → Result (Step × Count) HintFault
 as_step made = Ok (Assembled made.0, made.1)
 
-abbrev with_spent : Made → Spent → Count → Result (Step × Count) HintFault
-with_spent made spent count = Ok (Assembled made, record count { spent = spent_with count.spent spent })
+abbrev with_usage : Made → Usage → Count → Result (Step × Count) HintFault
+with_usage made usage count = Ok (Assembled made, record count { usage = usage_with count.usage usage })
 
 -- points are counted, and then a program runs as it did
-counted_after : (h : Hinting) (g : ℕ) (code : List ℕ) (start made : Made) (spent : Spent) (counted : Result Count HintFault)
-    → h.run g code start ≡ Ok (made, spent)
-    → (counted >>= with_spent made spent) ≡ ((counted >>= with_count start) >>= λ m. run_on h g code m >>= as_step)
+counted_after : (h : Hinting) (g : ℕ) (code : List ℕ) (start made : Made) (usage : Usage) (counted : Result Count HintFault)
+    → h.run g code start ≡ Ok (made, usage)
+    → (counted >>= with_usage made usage) ≡ ((counted >>= with_count start) >>= λ m. run_on h g code m >>= as_step)
 unfolding run_on
-counted_after h g code start made spent (Ok c) r = rw r refl
-counted_after h g code start made spent (Err e) r = refl
+counted_after h g code start made usage (Ok c) r = rw r refl
+counted_after h g code start made usage (Err e) r = refl
 
-simple_counted : (h : Hinting) (s : Scale) (root g : ℕ) (m : Metrics) (shape : SimpleView) (made : Made) (spent : Spent)
+simple_counted : (h : Hinting) (s : Scale) (root g : ℕ) (m : Metrics) (shape : SimpleView) (made : Made) (usage : Usage)
     (count : Count)
-    → KeepsShape h → h.run g shape.code (scaled_simple s h.on m shape) ≡ Ok (made, spent)
-    → counted_made root made spent count ≡ begun_by h s root g m (Simple shape) count
+    → KeepsShape h → h.run g shape.code (scaled_simple s h.on m shape) ≡ Ok (made, usage)
+    → counted_made root made usage count ≡ begun_by h s root g m (Simple shape) count
 unfolding counted_made begun_by simple_made
-simple_counted h s root g m shape made spent count keeps r =
+simple_counted h s root g m shape made usage count keeps r =
     let same : length made.zone.points ≡ length shape.points =
-    (keeps g shape.code (scaled_simple s h.on m shape) (made, spent) r).0 ∙ length-map shape.points (scaled_point s) in
-    rw same (counted_after h g shape.code (scaled_simple s h.on m shape) made spent
+    (keeps g shape.code (scaled_simple s h.on m shape) (made, usage) r).0 ∙ length-map shape.points (scaled_point s) in
+    rw same (counted_after h g shape.code (scaled_simple s h.on m shape) made usage
     (more_points root (length shape.points) count) r)
 
 -- a component that is recalled is what it would become if it were made again
-pub begun_again : (h : Hinting) (face : Face) (s : Scale) (root g : ℕ) (m : Metrics) (bytes : List ℕ) (made : Made) (spent : Spent)
+pub begun_again : (h : Hinting) (face : Face) (s : Scale) (root g : ℕ) (m : Metrics) (bytes : List ℕ) (made : Made) (usage : Usage)
     (count : Count)
-    → KeepsShape h → metrics_of face g ≡ Ok m → glyph_bytes_of face g ≡ Ok bytes → IsMadeAlone h s g m bytes made spent
-    → counted_made root made spent count ≡ begun h face s root g count
+    → KeepsShape h → metrics_of face g ≡ Ok m → glyph_bytes_of face g ≡ Ok bytes → IsMadeAlone h s g m bytes made usage
+    → counted_made root made usage count ≡ begun h face s root g count
 unfolding begun
-begun_again h face s root g m bytes made spent count keeps a b k =
-    rw (a, b, k.read) (simple_counted h s root g m k.shape made spent count keeps k.ran)
+begun_again h face s root g m bytes made usage count keeps a b k =
+    rw (a, b, k.read) (simple_counted h s root g m k.shape made usage count keeps k.ran)

@@ -11,43 +11,43 @@ use Rattle.fx_zone.specs.Figures.{Figure, HasShape}
 use Rattle.fx_scale.specs.Phantoms.{in_order}
 use Rattle.fx_machine.specs.Known.{Known, glyph_ran}
 use Rattle.fx_machine.proofs.KeptShapes.{glyphs_keep}
-use Rattle.fx_hint.specs.declared.count.Spent.{Spent}
+use Rattle.fx_machine.specs.declared.usage.Usage.{Usage}
 use Rattle.fx_hint.specs.declared.made.Made.{Made}
 use Rattle.fx_hint.specs.declared.fault.HintFault.TheVariants.{Halted}
 use Rattle.fx_hint.specs.Hinting.{KeepsShape}
 use Rattle.fx_hint.specs.Programmed.{with_phantoms, parted, program_run, hinted, hinting_of}
 
 -- as many points, and the same contours
-abbrev IsKept : Made → Made × Spent → Type 0
+abbrev IsKept : Made → Made × Usage → Type 0
 IsKept made ran = (length ran.0.zone.points ≡ length made.zone.points) × (ran.0.zone.ends ≡ made.zone.ends)
 
 front_length : (xs : List Point) (n : ℕ) → n ≤ length xs → length (take n xs) ≡ n
 front_length xs n h = grind (arith, common_steps)
 
-parted_keeps : (made : Made) (f : Figure) (spent : Spent) → HasShape (with_phantoms made) f
-    → IsKept made (parted (length made.zone.points) f, spent)
-parted_keeps made f spent h =
+parted_keeps : (made : Made) (f : Figure) (usage : Usage) → HasShape (with_phantoms made) f
+    → IsKept made (parted (length made.zone.points) f, usage)
+parted_keeps made f usage h =
     let n = h.points in
     let m = length-append made.zone.points (in_order made.phantoms) in
     (front_length f.points (length made.zone.points) (omega arith), h.ends ∙ append-nil made.zone.ends)
 
-run_keeps : (known : Known) (g : ℕ) (code : List ℕ) (made : Made) (ran : Made × Spent) → program_run known g code made ≡ Ok ran
+run_keeps : (known : Known) (g : ℕ) (code : List ℕ) (made : Made) (ran : Made × Usage) → program_run known g code made ≡ Ok ran
     → IsKept made ran
 unfolding program_run
 run_keeps known g code made ran e =
     let b = bind_ok (map_fault Halted (glyph_ran known g code (with_phantoms made)))
-    (λ r. Ok (parted (length made.zone.points) r.1, record { steps = r.0.steps; strays = r.0.strays })) ran e in
+    (λ r. Ok (parted (length made.zone.points) r.1, r.0)) ran e in
     let k = glyphs_keep known g code (with_phantoms made) b.0
     (map_fault_ok Halted (glyph_ran known g code (with_phantoms made)) b.0 b.1) in
-    let P : Made × Spent → Type 0 = λ q. IsKept made q in
-    subst P (ok_injective _ _ b.2) (parted_keeps made b.0.1 (record { steps = b.0.0.steps; strays = b.0.0.strays }) k)
+    let P : Made × Usage → Type 0 = λ q. IsKept made q in
+    subst P (ok_injective _ _ b.2) (parted_keeps made b.0.1 b.0.0 k)
 
 hinted_keeps : (known : Known) (g : ℕ) (code : List ℕ) (made : Made) (skips : Bool)
-    → (known.prepared.flags.no_programs || nat_eq (length code) 0) ≡ skips → (ran : Made × Spent)
+    → (known.prepared.flags.no_programs || nat_eq (length code) 0) ≡ skips → (ran : Made × Usage)
     → hinted known g code made ≡ Ok ran → IsKept made ran
 unfolding hinted
 hinted_keeps known g code made true h ran e =
-    let P : Made × Spent → Type 0 = λ q. IsKept made q in
+    let P : Made × Usage → Type 0 = λ q. IsKept made q in
     subst P (ok_injective _ _ (rw h at e)) (refl, refl)
 hinted_keeps known g code made false h ran e = run_keeps known g code made ran (rw h at e)
 

@@ -27,8 +27,9 @@ use Rattle.fx_hint.specs.declared.made.Made.{Made}
 use Rattle.fx_hint.specs.declared.fault.HintFault.TheVariants.{Font, Glyph, TooManyComponents, TooManyPoints}
 use Rattle.fx_hint.specs.Limits.{max_points, max_components, max_depth}
 use Rattle.fx_hint.specs.Ends.{AreEnds}
-use Rattle.fx_hint.specs.declared.count.Spent.{Spent}
-use Rattle.fx_hint.specs.Hinting.{Hinting, KeepsShape, spent_with}
+use Rattle.fx_machine.specs.declared.usage.Usage.{Usage}
+use Rattle.fx_machine.specs.Usages.{usage_with}
+use Rattle.fx_hint.specs.Hinting.{Hinting, KeepsShape}
 use Rattle.fx_hint.specs.Parts.{laid, laid_figure, offset_of, with_part}
 use Rattle.fx_hint.specs.Outlines.{Maker, one_component, more_points, simple_made, run_on, with_parts, made_of, assembled}
 use Rattle.fx_hint.specs.Outlines.{component, nothing_counted, root_made, IsSound}
@@ -98,7 +99,7 @@ run_counted : (h : Hinting) (g : ℕ) (code : List ℕ) (count : Count) (made r 
     → IsCounted count made.0 made.1 → run_on h g code made ≡ Ok r → IsCounted count r.0 r.1
 unfolding run_on
 run_counted h g code count made r keeps k e =
-    let b = bind_ok (h.run g code made.0) (λ ran. Ok (ran.0, record made.1 { spent = spent_with made.1.spent ran.1 })) r e in
+    let b = bind_ok (h.run g code made.0) (λ ran. Ok (ran.0, record made.1 { usage = usage_with made.1.usage ran.1 })) r e in
     let same = keeps g code made.0 b.0 b.1 in
     let P : Made × Count → Type 0 = λ q. IsCounted count q.0 q.1 in
     let Q : List ℕ → Type 0 = λ es. AreEnds 0 es (length b.0.0.zone.points) in
@@ -205,14 +206,14 @@ component_counted h face s root (suc levels) keeps g count r low e =
     record { points = omega arith; few = w.few; contours = w.contours }
 
 -- an assembled root is sound
-pub root_sound : (h : Hinting) (face : Face) (s : Scale) (g : ℕ) (made : Made × Spent) → KeepsShape h
+pub root_sound : (h : Hinting) (face : Face) (s : Scale) (g : ℕ) (made : Made × Usage) → KeepsShape h
     → root_made h face s g ≡ Ok made → IsSound made.0
 unfolding root_made
 root_sound h face s g made keeps e =
-    let b = bind_ok (assembled h face s g (component h face s g max_depth) g nothing_counted) (λ m. Ok (m.0, m.1.spent)) made e in
+    let b = bind_ok (assembled h face s g (component h face s g max_depth) g nothing_counted) (λ m. Ok (m.0, m.1.usage)) made e in
     let w = assembled_counted h face s g (component h face s g max_depth) g nothing_counted b.0 keeps
     (component_counted h face s g max_depth keeps) (omega arith) b.1 in
     let n = w.points in
     let f = w.few in
-    let P : Made × Spent → Type 0 = λ m. IsSound m.0 in
+    let P : Made × Usage → Type 0 = λ m. IsSound m.0 in
     subst P (ok_injective _ _ b.2) (record { few = omega arith; contours = w.contours })

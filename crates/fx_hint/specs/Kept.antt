@@ -6,17 +6,17 @@ use Rattle.fx_glyf.specs.Shapes.{SimpleView}
 use Rattle.fx_glyf.specs.Glyphs.{glyph_of}
 use Rattle.fx_scale.specs.declared.scale.Scale.{Scale}
 use Rattle.fx_machine.specs.Known.{MachineView}
-use Rattle.fx_hint.specs.declared.count.Spent.{Spent}
+use Rattle.fx_machine.specs.declared.usage.Usage.{Usage}
 use Rattle.fx_hint.specs.declared.made.Made.{Made}
 use Rattle.fx_hint.specs.Hinting.{Hinting}
 use Rattle.fx_hint.specs.Limits.{max_kept_points, max_kept_bytes}
 use Rattle.fx_hint.specs.Outlines.{scaled_simple}
 
 -- the bytes of glyph g are a simple glyph's; scaled, and with its program run, it is this one, and its program used up this much
-pub record IsMadeAlone (h : Hinting) (s : Scale) (g : ℕ) (m : Metrics) (bytes : List ℕ) (made : Made) (spent : Spent) : Type 0 where
+pub record IsMadeAlone (h : Hinting) (s : Scale) (g : ℕ) (m : Metrics) (bytes : List ℕ) (made : Made) (usage : Usage) : Type 0 where
   pub shape : SimpleView
   pub read : glyph_of bytes g ≡ Ok (Simple shape)
-  pub ran : h.run g shape.code (scaled_simple s h.on m shape) ≡ Ok (made, spent)
+  pub ran : h.run g shape.code (scaled_simple s h.on m shape) ≡ Ok (made, usage)
 
 -- what is kept of a simple glyph: what it was made from, and what it became
 pub record KeptGlyphView : Type 0 where
@@ -25,12 +25,12 @@ pub record KeptGlyphView : Type 0 where
   pub metrics : Metrics
   pub bytes : List ℕ
   pub made : Made
-  pub spent : Spent
+  pub usage : Usage
 
 -- what a place keeps is true; a place may be empty
 abbrev pub IsTrueOf : Hinting → Option KeptGlyphView → Type 0
 IsTrueOf h None = Unit {0}
-IsTrueOf h (Some k) = IsMadeAlone h k.scale k.g k.metrics k.bytes k.made k.spent
+IsTrueOf h (Some k) = IsMadeAlone h k.scale k.g k.metrics k.bytes k.made k.usage
 
 -- what a place keeps is small, however large the font is
 abbrev pub IsSmall : Option KeptGlyphView → Type 0

@@ -20,7 +20,7 @@ use Rattle.fx_machine.specs.declared.halt.MachineFault.{MachineFault}
 use Rattle.fx_machine.specs.declared.halt.MachineFault.TheVariants as machine_fault
 use Rattle.fx_machine.specs.Known.{machine_of}
 use Rattle.fx_hint.specs.declared.count.Count.{Count}
-use Rattle.fx_hint.specs.declared.count.Spent.{Spent}
+use Rattle.fx_machine.specs.declared.usage.Usage.{Usage}
 use Rattle.fx_hint.specs.declared.made.Made.{Made}
 use Rattle.fx_hint.specs.declared.points.OutlinePoint.{OutlinePoint}
 use Rattle.fx_hint.specs.declared.points.Outline.{Outline}
@@ -29,7 +29,8 @@ use Rattle.fx_hint.specs.declared.fault.HintFault.TheVariants.{Font, Glyph, Comp
 use Rattle.fx_hint.specs.declared.fault.HintFault.TheVariants.{Halted, OutOfMemory}
 use Rattle.fx_hint.specs.Limits.{max_points, max_components, max_depth}
 use Rattle.fx_hint.specs.Ends.{AreEnds}
-use Rattle.fx_hint.specs.Hinting.{Hinting, no_hinting, nothing_spent, spent_with}
+use Rattle.fx_machine.specs.Usages.{no_usage, usage_with}
+use Rattle.fx_hint.specs.Hinting.{Hinting, no_hinting}
 use Rattle.fx_hint.specs.Programmed.{hinting_of}
 use Rattle.fx_hint.specs.Parts.{with_part}
 
@@ -63,7 +64,7 @@ simple_made s hinted root m shape count = do
 unfoldable pub run_on : Hinting → ℕ → List ℕ → Made × Count → Result (Made × Count) HintFault
 run_on h g code made = do
   ran ← h.run g code made.0
-  Ok (ran.0, record made.1 { spent = spent_with made.1.spent ran.1 })
+  Ok (ran.0, record made.1 { usage = usage_with made.1.usage ran.1 })
 
 -- the components of a composite g in order, each assembled
 unfoldable pub with_parts : Scale → Bool → Maker → ℕ → List Part → Made → Count → Result (Made × Count) HintFault
@@ -100,37 +101,35 @@ component h face s root (suc levels) = λ g count.
 
 -- before the walk
 abbrev pub nothing_counted : Count
-nothing_counted = record { records = 0; points = 0; spent = nothing_spent }
+nothing_counted = record { records = 0; points = 0; usage = no_usage }
 
 -- a root, at depth 0: components lie at depth max_depth at most; and what all programs together used up
-unfoldable pub root_made : Hinting → Face → Scale → ℕ → Result (Made × Spent) HintFault
+unfoldable pub root_made : Hinting → Face → Scale → ℕ → Result (Made × Usage) HintFault
 root_made h face s g = do
   made ← assembled h face s g (component h face s g max_depth) g nothing_counted
-  Ok (made.0, made.1.spent)
+  Ok (made.0, made.1.usage)
 
 -- what an outline is seen as
 pub record OutlineView : Type 0 where
   pub points : List OutlinePoint
   pub ends : List ℕ
   pub advance : ℤ
-  pub strays : ℕ
-  pub steps : ℕ
+  pub usage : Usage
 
 abbrev pub view_of_outline : Outline → OutlineView
-view_of_outline o = record { points = o.points.items; ends = o.ends.items; advance = o.advance; strays = o.strays; steps = o.steps }
+view_of_outline o = record { points = o.points.items; ends = o.ends.items; advance = o.advance; usage = o.usage }
 
 -- a point of an outline: its current place, moved so that the first phantom point lies at x = 0
 abbrev pub moved_point : ℤ → Point → OutlinePoint
 moved_point origin p = record { x = difference_of p.cur.x origin; y = p.cur.y; on_curve = p.on }
 
 -- the outline moved; its advance is the second phantom point's x from the first's
-unfoldable pub moved_outline_of : Made → Spent → OutlineView
-moved_outline_of made spent = record {
+unfoldable pub moved_outline_of : Made → Usage → OutlineView
+moved_outline_of made usage = record {
   points = map (moved_point made.phantoms.origin.cur.x) made.zone.points;
   ends = made.zone.ends;
   advance = difference_of made.phantoms.advance.cur.x made.phantoms.origin.cur.x;
-  strays = spent.strays;
-  steps = spent.steps;
+  usage = usage;
 }
 
 -- the outline of a glyph as hinting makes it

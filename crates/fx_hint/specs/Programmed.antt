@@ -11,11 +11,12 @@ use Rattle.fx_zone.specs.Figures.{Figure, joined}
 use Rattle.fx_scale.specs.declared.phantom.PhantomPoints.{PhantomPoints}
 use Rattle.fx_scale.specs.Phantoms.{in_order}
 use Rattle.fx_machine.specs.Known.{Known, glyph_ran}
-use Rattle.fx_hint.specs.declared.count.Spent.{Spent}
+use Rattle.fx_machine.specs.declared.usage.Usage.{Usage}
 use Rattle.fx_hint.specs.declared.made.Made.{Made}
 use Rattle.fx_hint.specs.declared.fault.HintFault.{HintFault}
 use Rattle.fx_hint.specs.declared.fault.HintFault.TheVariants.{Halted}
-use Rattle.fx_hint.specs.Hinting.{Hinting, nothing_spent}
+use Rattle.fx_machine.specs.Usages.{no_usage}
+use Rattle.fx_hint.specs.Hinting.{Hinting}
 
 -- a glyph's points with its phantom points after them, as its program sees them
 abbrev pub with_phantoms : Made → Figure
@@ -44,15 +45,15 @@ abbrev pub parted : ℕ → Figure → Made
 parted n f = record { zone = record { points = take n f.points; ends = f.ends }; phantoms = phantoms_at f.points n }
 
 -- the program of a glyph runs on its points: the points after it, and what it used up; or a halt
-unfoldable pub program_run : Known → ℕ → List ℕ → Made → Result (Made × Spent) HintFault
+unfoldable pub program_run : Known → ℕ → List ℕ → Made → Result (Made × Usage) HintFault
 program_run known g code made = do
   r ← map_fault Halted (glyph_ran known g code (with_phantoms made))
-  Ok (parted (length made.zone.points) r.1, record { steps = r.0.steps; strays = r.0.strays })
+  Ok (parted (length made.zone.points) r.1, r.0)
 
 -- no program runs if there are no bytes, or if prep set the first flag of INSTCTRL
-unfoldable pub hinted : Known → ℕ → List ℕ → Made → Result (Made × Spent) HintFault
+unfoldable pub hinted : Known → ℕ → List ℕ → Made → Result (Made × Usage) HintFault
 hinted known g code made =
-    if known.prepared.flags.no_programs || nat_eq (length code) 0 then Ok (made, nothing_spent)
+    if known.prepared.flags.no_programs || nat_eq (length code) 0 then Ok (made, no_usage)
     else program_run known g code made
 
 -- hinting by the programs of a font at a size, with what fpgm and prep left

@@ -3,49 +3,20 @@
 ghost use Rattle.std.specs.Prelude.{◌≡◌, ◌+◌, ◌≤◌, OnOk};
 ghost use Rattle.fx_fixed.specs.Chain.{GivesUnless};
 ghost use Rattle.fx_hint.specs.Faults.{Fails};
-ghost use Rattle.fx_hint.specs.Hinting.{nothing_spent, spent_with};
+ghost use Rattle.fx_machine.specs.Usages.{usage_with};
 ghost use Rattle.fx_hint.specs.Limits.{max_components};
 ghost use Rattle.fx_hint.specs.Outlines.{one_component, more_points};
 
 use crate::fault::HintFault;
 use crate::limits::{MAX_COMPONENTS, MAX_POINTS};
+use fx_machine::Usage;
 
-/// What programs have used up: the instructions that they executed, and the numbers outside their tables that they named. Each
-/// count stays at the greatest u64.
-#[derive(Clone, Copy, Debug, PartialEq, Eq)]
-pub struct Spent {
-    pub steps: u64,
-    pub strays: u64,
-}
-
-impl Spent {
-    /// No program ran.
-    pub fn nothing() -> Spent
-        ensures { result ≡ nothing_spent }
-    {
-        Spent {
-            steps: 0,
-            strays: 0,
-        }
-    }
-
-    /// The sum of two counts.
-    pub fn plus(self, more: Spent) -> Spent
-        ensures { result ≡ spent_with self more }
-    {
-        Spent {
-            steps: self.steps.saturating_add(more.steps),
-            strays: self.strays.saturating_add(more.strays),
-        }
-    }
-}
-
-/// Component records and points so far, of a root and all components below it, and what their programs have used up.
+/// Component records and points so far, of a root and all components below it, and what their programs used up.
 #[derive(Clone, Copy, Debug, PartialEq, Eq)]
 pub struct Count {
     pub records: u32,
     pub points: u32,
-    pub spent: Spent,
+    pub usage: Usage,
 }
 
 impl Count {
@@ -76,9 +47,9 @@ impl Count {
     }
 
     /// Counts what a program used up.
-    pub fn more_spent(&mut self, spent: Spent)
-        ensures { self.new ≡ record self.old { spent = spent_with self.old.spent spent } }
+    pub fn more_usage(&mut self, usage: Usage)
+        ensures { self.new ≡ record self.old { usage = usage_with self.old.usage usage } }
     {
-        self.spent = self.spent.plus(spent);
+        self.usage = self.usage.plus(usage);
     }
 }

@@ -6,10 +6,10 @@ ghost use Rattle.fx_hint.specs.Faults.{Fails};
 ghost use Rattle.fx_hint.specs.Hinting.{Hinting, KeepsShape, no_hinting};
 ghost use Rattle.fx_hint.specs.Kept.{IsMadeAlone};
 
-use crate::count::Spent;
 use crate::fault::HintFault;
 use crate::kept::GlyphInput;
 use crate::made::Made;
+use fx_machine::Usage;
 use std::alloc::Global;
 
 /// Whether phantom points and rounded offsets are rounded, and what runs the programs of glyphs. Each program starts from the
@@ -29,19 +29,19 @@ pub trait Hinter {
         ensures { result ≡ (hinting self.now).on };
 
     /// Runs the program of glyph `g` on its points and phantom points: what it used up.
-    fn run(&mut self, g: u16, code: &[u8], made: &mut Made) -> Result<Spent, HintFault>
+    fn run(&mut self, g: u16, code: &[u8], made: &mut Made) -> Result<Usage, HintFault>
         ensures known { known self.new ≡ known self.old }
         ensures kept { hinting self.new ≡ hinting self.old }
-        ensures value { GivesUnless Fails (λ spent. (made.new, spent)) result ((hinting self.old).run g code.now made.old) };
+        ensures value { GivesUnless Fails (λ usage. (made.new, usage)) result ((hinting self.old).run g code.now made.old) };
 
     /// A simple glyph as it was made before from the same input, if the hinter has kept it; none if memory is refused for it.
-    fn recall(&self, alloc: Global, input: &GlyphInput<'_>) -> Option<(Made, Spent)>
+    fn recall(&self, alloc: Global, input: &GlyphInput<'_>) -> Option<(Made, Usage)>
         ensures { IfSome result (λ r. IsMadeAlone (hinting self.now) input.now.scale input.now.g input.now.metrics
             input.now.bytes.now r.0 r.1) };
 
     /// Takes notice of a simple glyph that was made, and may keep it.
-    fn keep(&mut self, input: &GlyphInput<'_>, made: &Made, spent: Spent)
-        requires { IsMadeAlone (hinting self.old) input.now.scale input.now.g input.now.metrics input.now.bytes.now made.now spent }
+    fn keep(&mut self, input: &GlyphInput<'_>, made: &Made, usage: Usage)
+        requires { IsMadeAlone (hinting self.old) input.now.scale input.now.g input.now.metrics input.now.bytes.now made.now usage }
         ensures known { known self.new ≡ known self.old }
         ensures kept { hinting self.new ≡ hinting self.old };
 
@@ -67,15 +67,15 @@ impl Hinter for NoHinter {
         false
     }
 
-    fn run(&mut self, _g: u16, _code: &[u8], _made: &mut Made) -> Result<Spent, HintFault> {
-        Ok(Spent::nothing())
+    fn run(&mut self, _g: u16, _code: &[u8], _made: &mut Made) -> Result<Usage, HintFault> {
+        Ok(Usage::none())
     }
 
-    fn recall(&self, _alloc: Global, _input: &GlyphInput<'_>) -> Option<(Made, Spent)> {
+    fn recall(&self, _alloc: Global, _input: &GlyphInput<'_>) -> Option<(Made, Usage)> {
         None
     }
 
-    fn keep(&mut self, _input: &GlyphInput<'_>, _made: &Made, _spent: Spent) {}
+    fn keep(&mut self, _input: &GlyphInput<'_>, _made: &Made, _usage: Usage) {}
 
     fn law_keeps_shape(&self) {}
 }

@@ -5,12 +5,11 @@ ghost use Rattle.std.specs.List.{All};
 ghost use Rattle.fx_hint.specs.Kept.{IsSmall};
 ghost use Rattle.fx_hint.specs.Limits.{max_places, max_kept_points, max_kept_bytes};
 
-use crate::count::Spent;
 use crate::fault::HintFault;
 use crate::hinter::Hinter;
 use crate::kept::{GlyphInput, KeptGlyph};
 use crate::made::Made;
-use fx_machine::{Machine, Ran};
+use fx_machine::{Machine, Usage};
 use std::alloc::{AllocError, Global};
 use std::marker::Model;
 
@@ -82,7 +81,7 @@ impl<'a> KeepingMachine<'a> {
     }
 
     /// What `fpgm` and `prep` used up.
-    pub fn prelude(&self) -> Ran
+    pub fn prelude(&self) -> Usage
         ensures { result ≡ self.now.machine.known.prelude }
     {
         self.machine.prelude()
@@ -111,18 +110,18 @@ impl<'a> Hinter for KeepingMachine<'a> {
         true
     }
 
-    fn run(&mut self, g: u16, code: &[u8], made: &mut Made) -> Result<Spent, HintFault> {
+    fn run(&mut self, g: u16, code: &[u8], made: &mut Made) -> Result<Usage, HintFault> {
         self.machine.run(g, code, made)
     }
 
-    fn recall(&self, alloc: Global, input: &GlyphInput<'_>) -> Option<(Made, Spent)> {
+    fn recall(&self, alloc: Global, input: &GlyphInput<'_>) -> Option<(Made, Usage)> {
         self.places[usize::from(input.g) % PLACES].recall(alloc, input)
     }
 
-    fn keep(&mut self, input: &GlyphInput<'_>, made: &Made, spent: Spent) {
+    fn keep(&mut self, input: &GlyphInput<'_>, made: &Made, usage: Usage) {
         if is_small(input.bytes, made) {
             // Out of memory: it is not kept, and made again when it is asked for.
-            let _kept = self.places[usize::from(input.g) % PLACES].take(input, made, spent);
+            let _kept = self.places[usize::from(input.g) % PLACES].take(input, made, usage);
         }
     }
 

@@ -3,8 +3,8 @@
 ghost use Rattle.std.specs.Prelude.{◌≡◌, ◌<◌, length, Some, None, IfOk, IfSome, OnOk, OnErr, IsTrue};
 ghost use Rattle.std.specs.List.{All};
 
-use crate::count::Spent;
 use crate::made::Made;
+use fx_machine::Usage;
 use fx_scale::{PhantomPoints, Scale};
 use fx_sfnt::Metrics;
 use fx_zone::{Point, Zone};
@@ -27,7 +27,7 @@ pub struct KeptFields {
     pub scale: Scale,
     pub metrics: Metrics,
     pub phantoms: PhantomPoints,
-    pub spent: Spent,
+    pub usage: Usage,
 }
 
 /// A place for a simple glyph that was made, or for none. Its lists keep their memory when another glyph takes the place.
@@ -114,7 +114,7 @@ impl KeptGlyph {
         &mut self,
         input: &GlyphInput<'_>,
         made: &Made,
-        spent: Spent,
+        usage: Usage,
     ) -> Result<(), AllocError>
         ensures done { OnOk result (self.new ≡ Some (record {
           g = input.now.g;
@@ -122,7 +122,7 @@ impl KeptGlyph {
           metrics = input.now.metrics;
           bytes = input.now.bytes.now;
           made = made.now;
-          spent = spent;
+          usage = usage;
         })) }
         ensures none { OnErr result (self.new ≡ None) }
     {
@@ -138,20 +138,20 @@ impl KeptGlyph {
             scale: input.scale,
             metrics: input.metrics,
             phantoms: made.phantoms,
-            spent,
+            usage,
         });
         Ok(())
     }
 
     /// The glyph that is kept, if it was made from this input; none if memory is refused.
-    pub fn recall(&self, alloc: Global, input: &GlyphInput<'_>) -> Option<(Made, Spent)>
+    pub fn recall(&self, alloc: Global, input: &GlyphInput<'_>) -> Option<(Made, Usage)>
         ensures { IfSome result (λ r. self.now ≡ Some (record {
           g = input.now.g;
           scale = input.now.scale;
           metrics = input.now.metrics;
           bytes = input.now.bytes.now;
           made = r.0;
-          spent = r.1;
+          usage = r.1;
         })) }
     {
         let fields = self.fields?;
@@ -163,6 +163,6 @@ impl KeptGlyph {
             zone,
             phantoms: fields.phantoms,
         };
-        Some((made, fields.spent))
+        Some((made, fields.usage))
     }
 }

@@ -20,7 +20,7 @@ mod points;
 mod programmed;
 mod walk;
 
-pub use count::{Count, Spent};
+pub use count::Count;
 pub use fault::HintFault;
 pub use hinter::{Hinter, NoHinter};
 pub use keeping::KeepingMachine;

@@ -9,14 +9,13 @@ ghost use Rattle.fx_hint.specs.Faults.{Fails};
 ghost use Rattle.fx_hint.specs.Outlines.{moved_point, moved_outline_of, view_of_outline, outline_with, hinted_outline_of, IsSound};
 ghost use Rattle.fx_hint.specs.Machines.{hinting_with, IfMachine, IsOf, KnowsSame};
 
-use crate::count::Spent;
 use crate::fault::HintFault;
 use crate::hinter::{Hinter, NoHinter};
 use crate::made::Made;
 use crate::points::{Outline, OutlinePoint};
 use crate::walk::root_made;
 use fx_fixed::{F26, Ppem};
-use fx_machine::Machine;
+use fx_machine::{Machine, Usage};
 use fx_scale::Scale;
 use fx_sfnt::Font;
 use fx_zone::Point;
@@ -63,16 +62,16 @@ pub fn outline_with<H: Hinter>(
 {
     let scale = Scale::of(font, ppem);
     hinter.law_keeps_shape();
-    let (made, spent) = root_made(alloc, hinter, font, &scale, g)?;
-    let outline = moved_outline(alloc, &made, spent)?;
+    let (made, usage) = root_made(alloc, hinter, font, &scale, g)?;
+    let outline = moved_outline(alloc, &made, usage)?;
     Ok(outline)
 }
 
 /// The outline moved, so that its first phantom point lies at x = 0.
 #[tactic(auto, unfolding(crate::specs::Outlines::moved_outline_of))]
-fn moved_outline(alloc: Global, made: &Made, spent: Spent) -> Result<Outline, AllocError>
+fn moved_outline(alloc: Global, made: &Made, usage: Usage) -> Result<Outline, AllocError>
     requires { IsSound made.now }
-    ensures { IfOk result (λ o. view_of_outline o ≡ moved_outline_of made.now spent) }
+    ensures { IfOk result (λ o. view_of_outline o ≡ moved_outline_of made.now usage) }
 {
     let origin = made.phantoms.origin.cur.x;
     let points = moved_points(alloc, made.zone.points(), origin)?;
@@ -82,8 +81,7 @@ fn moved_outline(alloc: Global, made: &Made, spent: Spent) -> Result<Outline, Al
         points,
         ends,
         advance,
-        strays: spent.strays,
-        steps: spent.steps,
+        usage,
     })
 }
 

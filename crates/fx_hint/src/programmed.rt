@@ -5,14 +5,13 @@ ghost use Rattle.fx_fixed.specs.Chain.{GivesUnless};
 ghost use Rattle.fx_hint.specs.Faults.{Fails};
 ghost use Rattle.fx_hint.specs.Programmed.{point_or, point_at, phantoms_at, program_run, hinted};
 
-use crate::count::Spent;
 use crate::fault::HintFault;
 use crate::hinter::Hinter;
 use crate::kept::GlyphInput;
 use crate::made::Made;
 use fx_code::Code;
 use fx_fixed::Place;
-use fx_machine::Machine;
+use fx_machine::{Machine, Usage};
 use fx_scale::PhantomPoints;
 use fx_zone::{Point, Zone};
 use std::alloc::Global;
@@ -49,32 +48,29 @@ fn run_program(
     g: u16,
     code: &[u8],
     made: &mut Made,
-) -> Result<Spent, HintFault>
+) -> Result<Usage, HintFault>
     ensures kept { machine.new.known ≡ machine.old.known }
-    ensures value { GivesUnless Fails (λ spent. (made.new, spent)) result (program_run machine.old.known g code.now made.old) }
+    ensures value { GivesUnless Fails (λ usage. (made.new, usage)) result (program_run machine.old.known g code.now made.old) }
 {
     let count = made.zone.len();
     // For the prover: where the contours end.
     let _ends = made.zone.ends();
     let phantoms = made.phantoms.in_order();
     made.zone.append(&phantoms, &[])?;
-    let ran = machine.run_glyph(g, Code::new(code), &mut made.zone)?;
+    let usage = machine.run_glyph(g, Code::new(code), &mut made.zone)?;
     made.phantoms = phantoms_at(&made.zone, count);
     made.zone.truncate(count);
-    Ok(Spent {
-        steps: u64::from(ran.steps),
-        strays: ran.strays,
-    })
+    Ok(usage)
 }
 
 /// The program of a glyph runs, unless there is none, or `prep` asked for none.
 #[tactic(auto, unfolding(crate::specs::Programmed::hinted))]
-fn hint(machine: &mut Machine<'_>, g: u16, code: &[u8], made: &mut Made) -> Result<Spent, HintFault>
+fn hint(machine: &mut Machine<'_>, g: u16, code: &[u8], made: &mut Made) -> Result<Usage, HintFault>
     ensures kept { machine.new.known ≡ machine.old.known }
-    ensures value { GivesUnless Fails (λ spent. (made.new, spent)) result (hinted machine.old.known g code.now made.old) }
+    ensures value { GivesUnless Fails (λ usage. (made.new, usage)) result (hinted machine.old.known g code.now made.old) }
 {
     if machine.skips_programs() || code.is_empty() {
-        return Ok(Spent::nothing());
+        return Ok(Usage::none());
     }
     run_program(machine, g, code, made)
 }
@@ -93,15 +89,15 @@ impl<'a> Hinter for Machine<'a> {
         true
     }
 
-    fn run(&mut self, g: u16, code: &[u8], made: &mut Made) -> Result<Spent, HintFault> {
+    fn run(&mut self, g: u16, code: &[u8], made: &mut Made) -> Result<Usage, HintFault> {
         hint(self, g, code, made)
     }
 
-    fn recall(&self, _alloc: Global, _input: &GlyphInput<'_>) -> Option<(Made, Spent)> {
+    fn recall(&self, _alloc: Global, _input: &GlyphInput<'_>) -> Option<(Made, Usage)> {
         None
     }
 
-    fn keep(&mut self, _input: &GlyphInput<'_>, _made: &Made, _spent: Spent) {}
+    fn keep(&mut self, _input: &GlyphInput<'_>, _made: &Made, _usage: Usage) {}
 
     fn law_keeps_shape(&self) {}
 }

@@ -13,7 +13,7 @@ ghost use Rattle.fx_hint.specs.Parts.{with_part};
 ghost use Rattle.fx_hint.specs.inner.Steps.{begun, begun_by, begun_component, counted_made, left};
 
 use crate::below::{Below, OpenComposite, Waiting};
-use crate::count::{Count, Spent};
+use crate::count::Count;
 use crate::fault::HintFault;
 use crate::hinter::Hinter;
 use crate::kept::GlyphInput;
@@ -21,6 +21,7 @@ use crate::limits::MAX_DEPTH;
 use crate::made::Made;
 use crate::part::add_part;
 use fx_glyf::{Composite, Glyph, Simple, read};
+use fx_machine::Usage;
 use fx_scale::{PhantomPoints, Scale, zone_of};
 use fx_sfnt::{Font, Metrics};
 use fx_zone::Zone;
@@ -65,17 +66,17 @@ fn run_on<H: Hinter>(
     code: &[u8],
     made: &mut Made,
     count: &mut Count,
-) -> Result<Spent, HintFault>
+) -> Result<Usage, HintFault>
     ensures known { H.known hinter.new ≡ H.known hinter.old }
     ensures kept { H.hinting hinter.new ≡ H.hinting hinter.old }
     ensures value { GivesUnless Fails (λ _. (made.new, count.new)) result
         (run_on (H.hinting hinter.old) g code.now (made.old, count.old)) }
-    ensures ran { IfOk result (λ spent. (H.hinting hinter.old).run g code.now made.old ≡ Ok (made.new, spent)) }
+    ensures ran { IfOk result (λ usage. (H.hinting hinter.old).run g code.now made.old ≡ Ok (made.new, usage)) }
     ensures records { OnOk result (count.new.records ≡ count.old.records) }
 {
-    let spent = hinter.run(g, code, made)?;
-    count.more_spent(spent);
-    Ok(spent)
+    let usage = hinter.run(g, code, made)?;
+    count.more_usage(usage);
+    Ok(usage)
 }
 
 /// A glyph that has been begun.
@@ -195,20 +196,20 @@ impl<'w, 'a> Walk<'w, 'a> {
     {
         let on = hinter.is_on();
         let mut made = self.simple_made(on, input.metrics, simple, count)?;
-        let spent = run_on(hinter, input.g, simple.code(), &mut made, count)?;
-        hinter.keep(input, &made, spent);
+        let usage = run_on(hinter, input.g, simple.code(), &mut made, count)?;
+        hinter.keep(input, &made, usage);
         Ok(Step::Assembled(made))
     }
 
     /// A simple component that was kept; its points, and what its program used up when it was made, are counted again.
     #[tactic(auto, unfolding(crate::specs::inner::Steps::counted_made))]
-    fn recalled(&self, made: Made, spent: Spent, count: &mut Count) -> Result<Step<'a>, HintFault>
+    fn recalled(&self, made: Made, usage: Usage, count: &mut Count) -> Result<Step<'a>, HintFault>
         ensures value { GivesUnless Fails (λ step. (step, count.new)) result
-            (counted_made self.now.root made spent count.old) }
+            (counted_made self.now.root made usage count.old) }
         ensures records { OnOk result (count.new.records ≡ count.old.records) }
     {
         count.more_points(self.root, made.zone.len())?;
-        count.more_spent(spent);
+        count.more_usage(usage);
         Ok(Step::Assembled(made))
     }
 
@@ -234,9 +235,9 @@ impl<'w, 'a> Walk<'w, 'a> {
             metrics,
             bytes,
         };
-        if let Some((made, spent)) = hinter.recall(self.alloc, &input) {
+        if let Some((made, usage)) = hinter.recall(self.alloc, &input) {
             hinter.law_keeps_shape();
-            return self.recalled(made, spent, count);
+            return self.recalled(made, usage, count);
         }
         match read(bytes, g)? {
             Glyph::Simple(simple) => self.simple_kept(hinter, &input, &simple, count),
@@ -357,7 +358,7 @@ pub fn root_made<H: Hinter>(
     font: &Font<'_>,
     scale: &Scale,
     g: u16,
-) -> Result<(Made, Spent), HintFault>
+) -> Result<(Made, Usage), HintFault>
     ensures known { H.known hinter.new ≡ H.known hinter.old }
     ensures kept { H.hinting hinter.new ≡ H.hinting hinter.old }
     ensures value { GivesUnless Fails (λ r. (r.0, r.1)) result (root_made (H.hinting hinter.old) font.now scale.now g) }
@@ -371,8 +372,8 @@ pub fn root_made<H: Hinter>(
     let mut count = Count {
         records: 0,
         points: 0,
-        spent: Spent::nothing(),
+        usage: Usage::none(),
     };
     let made = walk.assembled(hinter, &mut count)?;
-    Ok((made, count.spent))
+    Ok((made, count.usage))
 }

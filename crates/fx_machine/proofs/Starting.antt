@@ -1,6 +1,6 @@
 -- What a machine begins with.
 -- Control values are numbers of 32 bits; the tables that hold what programs leave have the sizes of the first state's.
-use Rattle.std.proofs.Common.{◌≡◌, ℕ, ℤ, ◌+◌, List, [], reverse, map, Result, Ok, Err, FitsSigned, refl}
+use Rattle.std.proofs.Common.{◌≡◌, ℕ, ℤ, ◌+◌, List, [], true, map, Result, Ok, Err, FitsSigned, refl}
 use Rattle.std.specs.List.{All}
 use Rattle.std.proofs.lemmas.List.Elements.{All-map}
 use Rattle.fx_fixed.proofs.Rounding.{wrapped_of_is_wrapped}
@@ -16,9 +16,9 @@ use Rattle.fx_machine.specs.declared.halt.Halt.{Halt}
 use Rattle.fx_machine.specs.declared.halt.MachineFault.{MachineFault}
 use Rattle.fx_machine.specs.declared.halt.MachineFault.TheVariants.{Halted}
 use Rattle.fx_machine.specs.declared.prepared.Prepared.{Prepared}
-use Rattle.fx_machine.specs.Prepared.{strays_of}
+use Rattle.fx_machine.specs.Prepared.{stack_if, strays_of}
 use Rattle.fx_machine.specs.Programs.{texts}
-use Rattle.fx_machine.specs.declared.ran.Ran.{Ran}
+use Rattle.fx_machine.specs.declared.usage.Usage.{Usage}
 use Rattle.fx_machine.specs.declared.state.State.{State}
 use Rattle.fx_machine.specs.Machine.{answer_of}
 use Rattle.fx_machine.specs.Table.{row_at}
@@ -40,16 +40,16 @@ controls_are_numbers s bytes = all_numbers s bytes _
 
 module _ (texts : Program → List ℕ) (g : ℕ) (s t : State) (n : ℕ) (eg : g ≡ 0)
     (h : Ok (n, t) ≡ answered texts g Font (answer_of (row_at texts) STEP_LIMIT Font s)) where
-  pub prep_ends : (m x : ℕ) (u : State) → x ≡ strays_of u
+  pub prep_ends : (m steps x : ℕ) (u : State) → steps ≡ n + m → x ≡ strays_of u
       → Ok (m, u) ≡ answered texts g Prep (answer_of (row_at texts) STEP_LIMIT Prep (second_state t))
-      → Ok (record { steps = n + m; strays = x }, u) ≡ prelude_of texts s
+      → Ok (record { steps = steps; strays = x }, u) ≡ prelude_of texts s
   unfolding prelude_of
-  prep_ends m x u i k =
+  prep_ends m steps x u j i k =
       let first = rw eg at h in
       let second = rw eg at k in
-      rw (← first, ← second, i) refl
+      rw (← first, ← second, i, j) refl
 
-  pub prep_halts : (u : State) (r : Result Ran Halt) (e d : Halt) → r ≡ Err e → e ≡ d
+  pub prep_halts : (u : State) (r : Result Usage Halt) (e d : Halt) → r ≡ Err e → e ≡ d
       → Err d ≡ answered texts g Prep (answer_of (row_at texts) STEP_LIMIT Prep (second_state t))
       → with_state r u ≡ prelude_of texts s
   unfolding prelude_of
@@ -67,7 +67,7 @@ module _ (face : Face) (ppem : ℕ) (scale : Scale) (a b c : List ℕ) (n : ℕ)
   abbrev these : Program → List ℕ
   these = texts (record { font = a; prep = b; glyph = c; number = n })
 
-  same_run : (x : Result (Ran × State) Halt) → x ≡ prelude_of these s
+  same_run : (x : Result (Usage × State) Halt) → x ≡ prelude_of these s
       → x ≡ prelude_of (texts_of face []) (first_state face (scale_of face ppem))
   same_run x k = rw (ea, eb, ec, es, ez) at k
 
@@ -83,7 +83,7 @@ module _ (face : Face) (ppem : ℕ) (scale : Scale) (a b c : List ℕ) (n : ℕ)
   unfolding final_stack_of font_ran
   stack_halts r x d i j k = let e = same_run (Err d) k in rw (i, j, ← e) refl
 
-  pub machine_is : (ran : Ran) (t : State) (p : Prepared) → t.scale ≡ s.scale → p ≡ prepared_from t
+  pub machine_is : (ran : Usage) (t : State) (p : Prepared) → t.scale ≡ s.scale → p ≡ prepared_from t
       → Ok (ran, t) ≡ prelude_of these s
       → machine_of face ppem ≡ Ok (record { face = face; ppem = t.scale.ppem; prepared = p; prelude = ran })
   unfolding machine_of font_ran
@@ -92,7 +92,7 @@ module _ (face : Face) (ppem : ℕ) (scale : Scale) (a b c : List ℕ) (n : ℕ)
       let z : t.scale.ppem ≡ ppem = rw (i, es, ez) refl in
       rw (z, j, ← e) refl
 
-  pub stack_is : (ran : Ran) (t : State) (x : List ℤ) → x ≡ reverse t.store.stack → Ok (ran, t) ≡ prelude_of these s
-      → final_stack_of face ppem ≡ Ok x
+  pub stack_is : (ran : Usage) (t : State) → Ok (ran, t) ≡ prelude_of these s
+      → final_stack_of face ppem ≡ Ok (stack_if true t.store.stack)
   unfolding final_stack_of font_ran
-  stack_is ran t x i k = let e = same_run (Ok (ran, t)) k in rw (i, ← e) refl
+  stack_is ran t k = let e = same_run (Ok (ran, t)) k in rw (← e) refl

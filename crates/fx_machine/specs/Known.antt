@@ -1,6 +1,6 @@
 -- What a machine of a font at a size knows, and what becomes of a glyph's program.
 -- Apple TrueType Reference Manual, "Instructing Fonts": the font program, the control value program, glyph programs.
-use Rattle.std.specs.Prelude.{◌≡◌, ℕ, ℤ, ◌+◌, pos, List, [], reverse, codes, None, Result, Ok, Err, true, false, replicate}
+use Rattle.std.specs.Prelude.{◌≡◌, ℕ, ℤ, ◌+◌, pos, List, [], codes, Option, None, Result, Ok, Err, true, false, replicate}
 use Rattle.fx_fixed.specs.Chain.{◌>>=◌, map_fault}
 use Rattle.fx_sfnt.specs.Tables.{Face, table_or_empty}
 use Rattle.fx_zone.specs.Figures.{Figure, empty_figure}
@@ -18,26 +18,26 @@ use Rattle.fx_machine.specs.declared.program.Program.TheVariants.{Font, Prep, Gl
 use Rattle.fx_machine.specs.declared.halt.Halt.{Halt}
 use Rattle.fx_machine.specs.declared.halt.MachineFault.{MachineFault}
 use Rattle.fx_machine.specs.declared.halt.MachineFault.TheVariants.{Halted, OutOfMemory}
-use Rattle.fx_machine.specs.declared.ran.Ran.{Ran}
+use Rattle.fx_machine.specs.declared.usage.Usage.{Usage}
 use Rattle.fx_machine.specs.declared.state.State.{State}
 use Rattle.fx_machine.specs.declared.prepared.Prepared.{Prepared}
 use Rattle.fx_machine.specs.Machine.{answer_of}
 use Rattle.fx_machine.specs.Table.{row_at}
 use Rattle.fx_machine.specs.Configs.{answered}
 use Rattle.fx_zone.specs.Figures.{HasShape}
-use Rattle.fx_machine.specs.Prepared.{glyph_end, ran_of, strays_of}
+use Rattle.fx_machine.specs.Prepared.{glyph_end, ran_of, stack_if, strays_of}
 
 -- the font, the size, what prep left, and what fpgm and prep used up
 pub record Known : Type 0 where
   pub face : Face
   pub ppem : ℕ
   pub prepared : Prepared
-  pub prelude : Ran
+  pub prelude : Usage
 
--- what is seen of a machine: what it knows, and the stack that the last program that ended well left, the deepest number first
+-- what is seen of a machine: what it knows, and the stack that its last program left, the deepest number first; none if that halted
 pub record MachineView : Type 0 where
   pub known : Known
-  pub final_stack : List ℤ
+  pub final_stack : Option (List ℤ)
 
 -- the bytes of a font's programs, and of a glyph's
 abbrev pub texts_of : Face → List ℕ → Program → List ℕ
@@ -100,14 +100,14 @@ prepared_from s = record {
 }
 
 -- fpgm runs from a state, then prep: what they use up, and the state then
-unfoldable pub prelude_of : (Program → List ℕ) → State → Result (Ran × State) Halt
+unfoldable pub prelude_of : (Program → List ℕ) → State → Result (Usage × State) Halt
 prelude_of texts s = do
   first ← answered texts 0 Font (answer_of (row_at texts) STEP_LIMIT Font s)
   second ← answered texts 0 Prep (answer_of (row_at texts) STEP_LIMIT Prep (second_state first.1))
   Ok (record { steps = first.0 + second.0; strays = strays_of second.1 }, second.1)
 
 -- those of a font at a size
-unfoldable pub font_ran : Face → ℕ → Result (Ran × State) MachineFault
+unfoldable pub font_ran : Face → ℕ → Result (Usage × State) MachineFault
 font_ran face ppem = map_fault Halted (prelude_of (texts_of face []) (first_state face (scale_of face ppem)))
 
 -- the machine of a font at a size: fpgm runs, then prep; or the first halt
@@ -117,13 +117,13 @@ machine_of face ppem = do
   Ok (record { face = face; ppem = ppem; prepared = prepared_from ran.1; prelude = ran.0 })
 
 -- and the stack that prep leaves, the deepest number first
-unfoldable pub final_stack_of : Face → ℕ → Result (List ℤ) MachineFault
+unfoldable pub final_stack_of : Face → ℕ → Result (Option (List ℤ)) MachineFault
 final_stack_of face ppem = do
   ran ← font_ran face ppem
-  Ok (reverse ran.1.store.stack)
+  Ok (stack_if true ran.1.store.stack)
 
 -- what code returns, with the state that it left
-abbrev pub with_state : Result Ran Halt → State → Result (Ran × State) Halt
+abbrev pub with_state : Result Usage Halt → State → Result (Usage × State) Halt
 with_state (Ok ran) s = Ok (ran, s)
 with_state (Err halt) s = Err halt
 
@@ -140,12 +140,12 @@ glyph_run known g code glyph = glyph_end (texts_of known.face code) g known.prep
     (room_of known.face.maxp.max_stack_elements) glyph
 
 -- what is told of it
-unfoldable pub glyph_ran : Known → ℕ → List ℕ → Figure → Result (Ran × Figure) Halt
+unfoldable pub glyph_ran : Known → ℕ → List ℕ → Figure → Result (Usage × Figure) Halt
 glyph_ran known g code glyph = ran_of (glyph_run known g code glyph)
 
 -- it keeps the number of points and the contours
 abbrev pub GlyphsKeepShape : Type 0
-GlyphsKeepShape = (known : Known) (g : ℕ) (code : List ℕ) (glyph : Figure) (r : Ran × Figure) → glyph_ran known g code glyph ≡ Ok r
+GlyphsKeepShape = (known : Known) (g : ℕ) (code : List ℕ) (glyph : Figure) (r : Usage × Figure) → glyph_ran known g code glyph ≡ Ok r
     → HasShape glyph r.1
 
 -- what fpgm and prep used up has no part in it

@@ -13,6 +13,6 @@ pub mod PointRows
 pub mod Table
 pub mod Configs
 pub mod Shapes
-pub mod FinalStack
+pub mod Usages
 pub mod Prepared
 pub mod Known

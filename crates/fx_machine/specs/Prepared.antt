@@ -1,18 +1,19 @@
 -- The state that programs of glyphs begin with, and what becomes of them.
 -- Apple TrueType Reference Manual, "Instructing Fonts": the control value program, glyph programs; INSTCTRL.
-use Rattle.std.specs.Prelude.{◌≡◌, ℕ, ◌+◌, ℤ, false, if◌then◌else◌, List, [], length, reverse, Result, Ok, Err}
+use Rattle.std.specs.Prelude.{◌≡◌, ℕ, ◌+◌, ℤ, Bool, true, false, if◌then◌else◌, List, [], length, reverse, Option, Some, None}
+use Rattle.std.specs.Prelude.{Result, Ok, Err}
 use Rattle.fx_zone.specs.Figures.{Figure}
 use Rattle.fx_scale.specs.declared.scale.Scale.{Scale}
 use Rattle.fx_gstate.specs.declared.state.GState.{GState}
 use Rattle.fx_gstate.specs.States.{default_state}
-use Rattle.fx_stackops.specs.Store.{counted}
+use Rattle.fx_fixed.specs.Numbers.{counted}
 use Rattle.fx_machine.specs.declared.program.Program.{Program}
 use Rattle.fx_machine.specs.declared.program.Program.TheVariants.{Glyph}
 use Rattle.fx_machine.specs.declared.state.State.{State}
 use Rattle.fx_machine.specs.declared.state.Flags.{Flags}
 use Rattle.fx_machine.specs.declared.prepared.Prepared.{Prepared}
 use Rattle.fx_machine.specs.declared.halt.Halt.{Halt}
-use Rattle.fx_machine.specs.declared.ran.Ran.{Ran}
+use Rattle.fx_machine.specs.declared.usage.Usage.{Usage}
 use Rattle.fx_machine.specs.Limits.{STEP_LIMIT}
 use Rattle.fx_machine.specs.Machine.{answer_of}
 use Rattle.fx_machine.specs.Table.{row_at}
@@ -56,14 +57,19 @@ abbrev pub strays_of : State → ℕ
 strays_of s = counted (s.store.strays + s.zones.strays)
 
 -- what is told of it: the points then, the instructions executed and the strays; or the halt
-abbrev pub ran_of : Result (ℕ × State) Halt → Result (Ran × Figure) Halt
+abbrev pub ran_of : Result (ℕ × State) Halt → Result (Usage × Figure) Halt
 ran_of (Ok r) = Ok (record { steps = r.0; strays = strays_of r.1 }, r.1.zones.glyph)
 ran_of (Err halt) = Err halt
 
--- the stack that it leaves, the deepest number first; if it halts the one from before
-abbrev pub stack_after : Result (ℕ × State) Halt → List ℤ → List ℤ
-stack_after (Ok r) before = reverse r.1.store.stack
-stack_after (Err halt) before = before
+-- the stack of a program that ended well, the deepest number first; none if it halted
+abbrev pub stack_if : Bool → List ℤ → Option (List ℤ)
+stack_if true stack = Some (reverse stack)
+stack_if false stack = None
+
+-- the stack that it leaves
+abbrev pub stack_after : Result (ℕ × State) Halt → Option (List ℤ)
+stack_after (Ok r) = stack_if true r.1.store.stack
+stack_after (Err halt) = None
 
 -- a state has tables of the sizes of prep's
 pub record Fits (p : Prepared) (s : State) : Type 0 where
@@ -74,6 +80,6 @@ pub record Fits (p : Prepared) (s : State) : Type 0 where
   pub twilight : HasShape p.twilight s.zones.twilight
 
 -- what code returns, with the points that it left
-abbrev pub with_zone : Result Ran Halt → Figure → Result (Ran × Figure) Halt
+abbrev pub with_zone : Result Usage Halt → Figure → Result (Usage × Figure) Halt
 with_zone (Ok ran) glyph = Ok (ran, glyph)
 with_zone (Err halt) glyph = Err halt

@@ -4,7 +4,6 @@
 mod action;
 mod definitions;
 mod dispatch;
-mod final_stack;
 mod flow;
 mod frames;
 mod graphics_rows;
@@ -15,11 +14,11 @@ mod machine;
 mod point_rows;
 mod prepared;
 mod program;
-mod ran;
 mod run;
 mod state;
 mod state_rows;
 mod step;
+mod usage;
 
 pub use definitions::{Definitions, Function};
 pub use halt::{Cause, Halt, MachineFault};
@@ -27,5 +26,5 @@ pub use limits::STEP_LIMIT;
 pub use machine::Machine;
 pub use prepared::Prepared;
 pub use program::{FontProgram, Program, Programs};
-pub use ran::Ran;
 pub use state::{Flags, State};
+pub use usage::Usage;

@@ -1,24 +1,23 @@
 //! The machine of a font at a size.
 
-ghost use Rattle.std.specs.Prelude.{◌≡◌, length, reverse, IfOk, OnOk};
+ghost use Rattle.std.specs.Prelude.{◌≡◌, length, option_map, IfOk, OnOk, is_ok};
 ghost use Rattle.fx_fixed.specs.Chain.{GivesUnless};
 ghost use Rattle.fx_machine.specs.Programs.{texts};
 ghost use Rattle.fx_zone.specs.Figures.{HasShape};
 ghost use Rattle.fx_pointops.specs.Zones.{HasShapes};
 ghost use Rattle.fx_machine.specs.Shapes.{HasSizes};
-ghost use Rattle.fx_machine.specs.Prepared.{Fits, glyph_end, ran_of, stack_after, with_zone};
+ghost use Rattle.fx_machine.specs.Prepared.{Fits, glyph_end, ran_of, stack_after, stack_if, with_zone};
 ghost use Rattle.fx_machine.specs.Known.{Fails, with_state, prelude_of, machine_of, final_stack_of, glyph_run, glyph_ran, first_state};
 ghost use Rattle.fx_machine.specs.Known.{controls_of, prepared_from};
 ghost use Rattle.fx_scale.specs.Scaling.{scale_of};
 
-use crate::final_stack::FinalStack;
 use crate::halt::{Halt, MachineFault};
 use crate::limits::STEP_LIMIT;
 use crate::prepared::Prepared;
 use crate::program::{Program, Programs};
-use crate::ran::Ran;
 use crate::run::run;
 use crate::state::{State, table_or_empty};
+use crate::usage::Usage;
 use fx_code::Code;
 use fx_fixed::Ppem;
 use fx_scale::Scale;
@@ -29,43 +28,38 @@ use std::marker::Model;
 use std::mem::swap;
 
 /// Runs the program of a glyph on its points, from what `prep` left: what it has used up, or where and why it halted. The points
-/// keep their number and contours, and the state its sizes, also after a halt; the final stack changes only if it ends well.
+/// keep their number and contours, and the state its sizes, also after a halt; the state's stack is then that of the program.
 #[tactic(auto, unfolding(crate::specs::Prepared::glyph_end))]
 fn run_from(
     state: &mut State,
     prepared: &Prepared,
     programs: &Programs<'_>,
     zone: &mut Zone,
-    final_stack: &mut FinalStack,
-) -> Result<Ran, Halt>
-    requires fits { Fits prepared.now state.old }
-    requires room { final_stack.old.room ≡ state.old.store.room }
+) -> Result<Usage, Halt>
+    requires { Fits prepared.now state.old }
     ensures value { with_zone result zone.new ≡ ran_of
         (glyph_end (texts programs.now) programs.now.number prepared.now state.old.scale state.old.store.room zone.old) }
-    ensures stack { final_stack.new.numbers ≡ stack_after
-        (glyph_end (texts programs.now) programs.now.number prepared.now state.old.scale state.old.store.room zone.old)
-        final_stack.old.numbers }
+    ensures stack { stack_if (is_ok result) state.new.store.stack ≡ stack_after
+        (glyph_end (texts programs.now) programs.now.number prepared.now state.old.scale state.old.store.room zone.old) }
     ensures shape { HasShape zone.old zone.new }
     ensures fits { Fits prepared.now state.new }
     ensures room { state.new.store.room ≡ state.old.store.room }
     ensures scale { state.new.scale ≡ state.old.scale }
-    ensures stack_room { final_stack.new.room ≡ final_stack.old.room }
 {
     swap(&mut state.zones.glyph, zone);
     state.restart(prepared);
     let result = run(state, programs, Program::Glyph, STEP_LIMIT);
     swap(&mut state.zones.glyph, zone);
     let steps = result?;
-    final_stack.take(state.store.numbers());
-    Ok(Ran {
-        steps,
+    Ok(Usage {
+        steps: u64::from(steps),
         strays: state.strays(),
     })
 }
 
 /// Runs `fpgm`, then `prep`: what they have used up, or the first halt.
 #[tactic(auto, unfolding(crate::specs::Known::prelude_of))]
-fn run_prelude(state: &mut State, programs: &Programs<'_>) -> Result<Ran, Halt>
+fn run_prelude(state: &mut State, programs: &Programs<'_>) -> Result<Usage, Halt>
     requires { programs.now.number ≡ 0 }
     ensures value { with_state result state.new ≡ prelude_of (texts programs.now) state.old }
     ensures shapes { HasShapes state.old.zones state.new.zones }
@@ -74,8 +68,8 @@ fn run_prelude(state: &mut State, programs: &Programs<'_>) -> Result<Ran, Halt>
     let first = run(state, programs, Program::Font, STEP_LIMIT)?;
     state.prepare();
     let second = run(state, programs, Program::Prep, STEP_LIMIT)?;
-    Ok(Ran {
-        steps: first + second,
+    Ok(Usage {
+        steps: u64::from(first + second),
         strays: state.strays(),
     })
 }
@@ -85,21 +79,16 @@ fn run_and_take(
     state: &mut State,
     programs: &Programs<'_>,
     prepared: &mut Prepared,
-    final_stack: &mut FinalStack,
-) -> Result<Ran, Halt>
+) -> Result<Usage, Halt>
     requires number { programs.now.number ≡ 0 }
     requires fits { Fits prepared.old state.old }
-    requires room { final_stack.old.room ≡ state.old.store.room }
     ensures value { with_state result state.new ≡ prelude_of (texts programs.now) state.old }
     ensures prepared { OnOk result (prepared.new ≡ prepared_from state.new) }
-    ensures stack { OnOk result (final_stack.new.numbers ≡ reverse state.new.store.stack) }
-    ensures stack_room { final_stack.new.room ≡ final_stack.old.room }
     ensures shapes { HasShapes state.old.zones state.new.zones }
     ensures sizes { HasSizes state.old state.new }
 {
     let prelude = run_prelude(state, programs)?;
     prepared.take(state);
-    final_stack.take(state.store.numbers());
     Ok(prelude)
 }
 
@@ -128,16 +117,16 @@ pub struct Machine<'a> {
     font_program: &'a [u8],
     prep: &'a [u8],
     prepared: Box<Prepared>,
-    prelude: Ran,
+    prelude: Usage,
     state: Box<State>,
-    final_stack: FinalStack,
+    ended_well: bool,
 }
 
 impl<'a> Model for Machine<'a> {
     ghost use Rattle.std.specs.Prelude.{◌≡◌, codes};
     ghost use Rattle.fx_sfnt.specs.Tables.{table_or_empty};
     ghost use Rattle.fx_scale.specs.Scaling.{scale_of};
-    ghost use Rattle.fx_machine.specs.Prepared.{Fits};
+    ghost use Rattle.fx_machine.specs.Prepared.{Fits, stack_if};
     ghost use Rattle.fx_machine.specs.Known.{MachineView};
     ghost use Rattle.fx_machine.specs.Limits.{room_of};
 
@@ -145,14 +134,14 @@ impl<'a> Model for Machine<'a> {
 
     ghost view = { λ m. record {
       known = record { face = m.font; ppem = m.state.value.scale.ppem; prepared = m.prepared.value; prelude = m.prelude };
-      final_stack = m.final_stack.numbers;
+      final_stack = stack_if m.ended_well m.state.value.store.stack;
     } };
 
     ghost invariant = { λ m. (Fits m.prepared.value m.state.value)
         × (m.state.value.store.room ≡ room_of m.font.maxp.max_stack_elements)
         × (m.font_program.now ≡ table_or_empty m.font.file (codes "fpgm"))
         × (m.prep.now ≡ table_or_empty m.font.file (codes "prep"))
-        × (m.state.value.scale ≡ scale_of m.font m.state.value.scale.ppem) × (m.final_stack.room ≡ m.state.value.store.room) };
+        × (m.state.value.scale ≡ scale_of m.font m.state.value.scale.ppem) };
 }
 
 impl<'a> Machine<'a> {
@@ -179,8 +168,7 @@ impl<'a> Machine<'a> {
         let scale = Scale::of(&font, ppem);
         let mut state = boxed_state(alloc, &font, scale)?;
         let mut prepared = boxed_tables(alloc, &state)?;
-        let mut final_stack = FinalStack::new(alloc, state.store.stack_room())?;
-        let prelude = run_and_take(&mut state, &programs, &mut prepared, &mut final_stack)?;
+        let prelude = run_and_take(&mut state, &programs, &mut prepared)?;
         Ok(Machine {
             font,
             font_program,
@@ -188,7 +176,7 @@ impl<'a> Machine<'a> {
             prepared,
             prelude,
             state,
-            final_stack,
+            ended_well: true,
         })
     }
 
@@ -221,28 +209,27 @@ impl<'a> Machine<'a> {
     }
 
     /// What `fpgm` and `prep` used up.
-    pub fn prelude(&self) -> Ran
+    pub fn prelude(&self) -> Usage
         ensures { result ≡ self.now.known.prelude }
     {
         self.prelude
     }
 
-    /// The stack that the last program that ended well left, the deepest number first: `prep`, or a program of a glyph.
-    pub fn final_stack(&self) -> &[i32]
-        ensures { result.now ≡ self.now.final_stack }
+    /// The stack that the last program left, `prep` or that of a glyph, the deepest number first; none if it halted.
+    pub fn final_stack(&self) -> Option<&[i32]>
+        ensures { option_map (λ s. s.now) result ≡ self.now.final_stack }
     {
-        self.final_stack.numbers()
+        self.ended_well.then_some(self.state.store.numbers())
     }
 
     /// Runs the program of glyph `g` on its points, from what `prep` left: what it has used up, or where and why it halted. The
-    /// points keep their number and contours, also after a halt. Nothing passes from one glyph to another; the final stack is that
-    /// of this run if it ended well, and else as it was.
+    /// points keep their number and contours, also after a halt. Nothing passes from one glyph to another.
     #[tactic(auto, unfolding(crate::specs::Known::glyph_ran, crate::specs::Known::glyph_run))]
-    pub fn run_glyph(&mut self, g: u16, code: Code<'_>, zone: &mut Zone) -> Result<Ran, Halt>
+    pub fn run_glyph(&mut self, g: u16, code: Code<'_>, zone: &mut Zone) -> Result<Usage, Halt>
         ensures value { with_zone result zone.new ≡ glyph_ran self.old.known g code.entry zone.old }
         ensures shape { HasShape zone.old zone.new }
         ensures kept { self.new.known ≡ self.old.known }
-        ensures stack { self.new.final_stack ≡ stack_after (glyph_run self.old.known g code.entry zone.old) self.old.final_stack }
+        ensures stack { self.new.final_stack ≡ stack_after (glyph_run self.old.known g code.entry zone.old) }
     {
         let programs = Programs {
             font: Code::new(self.font_program),
@@ -253,9 +240,11 @@ impl<'a> Machine<'a> {
         let Machine {
             prepared,
             state,
-            final_stack,
+            ended_well,
             ..
         } = self;
-        run_from(state, prepared, &programs, zone, final_stack)
+        let result = run_from(state, prepared, &programs, zone);
+        *ended_well = result.is_ok();
+        result
     }
 }

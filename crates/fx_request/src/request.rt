@@ -1,5 +1,7 @@
 //! Requests, and what is told of a strike.
 
+use fx_machine::Usage;
+
 /// A request for a strike.
 #[derive(Clone, Copy, Debug)]
 pub struct Request<'a> {
@@ -20,8 +22,6 @@ pub struct Report {
     pub glyphs: u32,
     /// The number of requested characters that the font does not have.
     pub missing: u32,
-    /// The numbers outside their tables that font programs named; the count stays at the greatest `u64`.
-    pub strays: u64,
-    /// The instructions that font programs executed; the count stays at the greatest `u64`.
-    pub steps: u64,
+    /// What the font's programs used up.
+    pub usage: Usage,
 }

@@ -3,7 +3,7 @@
 use Rattle.std.specs.Prelude.{◌≡◌, ℕ, ◌+◌, ◌-◌, ◌*◌, ℤ, pos, int_lt, unsigned_abs, nat_lt, nat_le, not, ◌||◌, List, []}
 use Rattle.std.specs.Prelude.{◌∷◌, ◌++◌, length, reverse, take, drop, slice_index_or, Result, Ok, Err}
 use Rattle.fx_fixed.specs.Chain.{◌>>=◌, refuse}
-pub use Rattle.fx_fixed.specs.Numbers.{counted}
+use Rattle.fx_fixed.specs.Numbers.{counted}
 use Rattle.fx_stackops.specs.declared.fault.StackFault.{StackFault}
 use Rattle.fx_stackops.specs.declared.fault.StackFault.TheVariants.{StackUnder, StackOver, BadArgument}
 

@@ -26,7 +26,7 @@ use Rattle.fx_strike.specs.declared.sketched.Sketched.{Sketched}
 use Rattle.fx_strike.specs.declared.seen.Seen.{Seen}
 use Rattle.fx_strike.specs.Faults.{Fails}
 use Rattle.fx_strike.specs.Strike.{Sketch, IsGlyphOf}
-use Rattle.fx_strike.specs.Headline.{counted}
+use Rattle.fx_machine.specs.Usages.{usage_with}
 use Rattle.fx_strike.specs.inner.Drawing.{are_among, lies_in, IsSketchedOf}
 use Rattle.fx_strike.specs.inner.Surveying.{Adds, Joins, Has, SeesOne}
 use Rattle.fx_strike.proofs.Near.{are_drawn, not_large}
@@ -203,6 +203,5 @@ has_added sketch made old new box is j a =
       placed = subst P (sym a.bounds_is) j.3;
       glyphs = a.glyphs;
       missing = a.missing;
-      strays = a.strays ∙ ap (λ (n : ℕ). counted (old.report.strays + n)) is.strays;
-      steps = a.steps ∙ ap (λ (n : ℕ). counted (old.report.steps + n)) is.steps;
+      usage = a.usage ∙ ap (usage_with old.report.usage) is.usage;
     }

@@ -12,7 +12,7 @@ use Rattle.std.proofs.Math.Nat.{mul-le-mul_left}
 use Rattle.fx_fixed.specs.Numbers.{near_of}
 use Rattle.fx_fixed.specs.Sizes.{IsPpem, max_ppem}
 use Rattle.fx_machine.specs.Known.{Known}
-use Rattle.fx_machine.specs.declared.ran.Ran.{Ran}
+use Rattle.fx_machine.specs.declared.usage.Usage.{Usage}
 use Rattle.fx_bdf.specs.declared.header.Header.{Header}
 use Rattle.fx_bdf.specs.Glyphs.{Box, bounds_of}
 use Rattle.fx_request.specs.declared.refusal.Refusal.{Refusal}
@@ -24,8 +24,9 @@ use Rattle.fx_strike.specs.declared.surveyed.Survey.{Survey}
 use Rattle.fx_strike.specs.Faults.{Fails}
 use Rattle.fx_fixed.specs.Changes.{Change}
 use Rattle.fx_request.specs.Characters.{rising}
-use Rattle.fx_strike.specs.Strike.{Sketch, Setting, Plan, setting_with, counted_by, pixels, sketches_of, plan_from, plan_with}
-use Rattle.fx_strike.specs.Headline.{counted, IsCause, Surveyed, Writer, Leaves, Makes}
+use Rattle.fx_fixed.specs.Numbers.{counted}
+use Rattle.fx_strike.specs.Strike.{Sketch, Setting, Plan, setting_with, prelude_by, pixels, sketches_of, plan_from, plan_with}
+use Rattle.fx_strike.specs.Headline.{IsCause, Surveyed, Writer, Leaves, Makes}
 use Rattle.fx_strike.specs.inner.Surveying.{Holds, survey_from, Surveys}
 use Rattle.fx_strike.proofs.Sketching.{fails_on}
 
@@ -71,7 +72,7 @@ counted_on before after total h = omega arith
 
 surveyed_here : (opened : Opened) (machine : Option Known) (name chars : List ℕ) (seen : Seen)
     → Holds (setting_with opened machine) (rising chars) seen
-    → Surveyed (plan_with (setting_with opened machine) name chars) (survey_from (counted_by machine) opened seen)
+    → Surveyed (plan_with (setting_with opened machine) name chars) (survey_from (prelude_by machine) opened seen)
 surveyed_here opened machine name chars seen g =
     let heading : Box → ℕ → Header = λ b n. record {
       ppem = opened.ppem;
@@ -90,19 +91,19 @@ surveyed_here opened machine name chars seen g =
       told = record {
         glyphs = g.count;
         missing = g.missing;
-        strays = counted_on (counted_by machine).strays seen.report.strays (sum_by (λ s. s.strays) g.sketches) g.strays;
-        steps = counted_on (counted_by machine).steps seen.report.steps (sum_by (λ s. s.steps) g.sketches) g.steps;
+        strays = counted_on (prelude_by machine).strays seen.report.usage.strays (sum_by (λ s. s.usage.strays) g.sketches) g.strays;
+        steps = counted_on (prelude_by machine).steps seen.report.usage.steps (sum_by (λ s. s.usage.steps) g.sketches) g.steps;
       };
     }
 
-pub surveyed : (opened : Opened) (machine : Option Known) (counts : Ran) (name chars codes : List ℕ) (seen : Seen)
+pub surveyed : (opened : Opened) (machine : Option Known) (prelude : Usage) (name chars codes : List ℕ) (seen : Seen)
     (survey : Survey)
-    → counts ≡ counted_by machine → codes ≡ rising chars → Holds (setting_with opened machine) codes seen
-    → survey ≡ survey_from counts opened seen → Surveyed (plan_with (setting_with opened machine) name chars) survey
-surveyed opened machine counts name chars codes seen survey n c g e =
+    → prelude ≡ prelude_by machine → codes ≡ rising chars → Holds (setting_with opened machine) codes seen
+    → survey ≡ survey_from prelude opened seen → Surveyed (plan_with (setting_with opened machine) name chars) survey
+surveyed opened machine prelude name chars codes seen survey n c g e =
     let P : List ℕ → Type 0 = λ xs. Holds (setting_with opened machine) xs seen in
     let Q : Survey → Type 0 = λ s. Surveyed (plan_with (setting_with opened machine) name chars) s in
-    subst Q (sym (e ∙ ap (λ (x : Ran). survey_from x opened seen) n))
+    subst Q (sym (e ∙ ap (λ (x : Usage). survey_from x opened seen) n))
     (surveyed_here opened machine name chars seen (subst P c g))
 
 -- ---- refusals that are due

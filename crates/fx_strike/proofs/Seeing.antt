@@ -17,7 +17,8 @@ use Rattle.fx_strike.specs.declared.seen.Seen.{Seen}
 use Rattle.fx_strike.specs.Faults.{Fails}
 use Rattle.fx_request.specs.Limits.{max_code}
 use Rattle.fx_strike.specs.Strike.{Sketch, Setting, IsGlyphOf, AreGlyphsOf, glyph_sketch_of, sketch_of, is_missing, sketches_of}
-use Rattle.fx_strike.specs.Headline.{counted}
+use Rattle.fx_fixed.specs.Numbers.{counted}
+use Rattle.fx_machine.specs.declared.usage.Usage.{Usage}
 use Rattle.fx_strike.specs.inner.Surveying.{IsEmpty, Has, Holds, Sees}
 use Rattle.fx_strike.proofs.Sketching.{fails_on}
 
@@ -122,8 +123,8 @@ holds_none setting new h =
           (record { left = omega arith; right = omega arith; bottom = omega arith; top = omega arith });
       count = h.glyphs;
       missing = h.missing;
-      strays = h.strays;
-      steps = h.steps;
+      strays = ap (λ (u : Usage). u.strays) h.usage;
+      steps = ap (λ (u : Usage). u.steps) h.usage;
       each = omega (arith, h.glyphs, h.missing);
     }
 
@@ -144,8 +145,10 @@ holds_push setting codes c old new sketch h m s a = record {
   count = omega (arith, a.glyphs, h.count, length-append h.sketches (sketch ∷ []));
   missing = a.missing ∙ h.missing ∙ sym (count_one (is_missing setting) codes c 0 (ap (λ (b : Bool). cond b 1 0) m) ∙
       (let z : count_by (is_missing setting) codes + 0 ≡ count_by (is_missing setting) codes = omega arith in z));
-  strays = sum_push (λ x. x.strays) h.sketches sketch old.report.strays sketch.strays new.report.strays h.strays refl a.strays;
-  steps = sum_push (λ x. x.steps) h.sketches sketch old.report.steps sketch.steps new.report.steps h.steps refl a.steps;
+  strays = sum_push (λ x. x.usage.strays) h.sketches sketch old.report.usage.strays sketch.usage.strays new.report.usage.strays
+      h.strays refl (ap (λ (u : Usage). u.strays) a.usage);
+  steps = sum_push (λ x. x.usage.steps) h.sketches sketch old.report.usage.steps sketch.usage.steps new.report.usage.steps
+      h.steps refl (ap (λ (u : Usage). u.steps) a.usage);
   each = omega (arith, a.glyphs, a.missing, h.each, length-append codes (c ∷ []));
 }
 

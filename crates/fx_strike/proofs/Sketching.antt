@@ -82,7 +82,7 @@ sketched_whole setting code glyph made ss swidth h1 h2 h3 h4 s =
       m.0,
       sketch_is setting code glyph (view_of_outline made.outline) ss m.0 h1 (ap (map_fault (of_contour glyph)) h2)
           (ap (map_fault (of_contour glyph)) h3) m.1,
-      record { spans = h2; small = h3; swidth = s ∙ sym m.2; dwidth = refl; strays = refl; steps = refl },
+      record { spans = h2; small = h3; swidth = s ∙ sym m.2; dwidth = refl; usage = refl },
     )
 
 -- out of memory is a refusal whatever was due

@@ -1,10 +1,11 @@
 -- What a call that makes a strike returns and leaves.
-use Rattle.std.specs.Prelude.{◌≡◌, ℕ, ◌+◌, ◌^◌, ◌-◌, ◌<◌, min, List, [], ◌∷◌, length, take, Option, Some, None}
+use Rattle.std.specs.Prelude.{◌≡◌, ℕ, ◌+◌, ◌<◌, List, [], ◌∷◌, length, take, Option, Some, None}
 use Rattle.std.specs.Prelude.{Result, Ok, Err, IsOk, IfOk, IfErr, IsErrOf, ◌⊎◌}
 use Rattle.std.specs.Io.KnownBytes.{Appends, Keeps}
 use Rattle.std.specs.List.{sum_by}
 use Rattle.fx_bdf.specs.declared.header.Header.{Header}
 use Rattle.fx_bdf.specs.Glyphs.{Glyph}
+use Rattle.fx_fixed.specs.Numbers.{counted}
 use Rattle.fx_fixed.specs.Chain.{◌>>=◌}
 use Rattle.fx_request.specs.declared.refusal.Refusal.{Refusal}
 use Rattle.fx_request.specs.declared.refusal.Refusal.TheVariants.{WriteFailed, ReadFailed, BadHex, InputTooLarge, OutOfMemory}
@@ -23,16 +24,12 @@ strike_of file request = plan_of file request.ppem request.name.now request.char
 abbrev pub opening_of : List ℕ → Request → Opening
 opening_of file request = opened_of file request.ppem request.name.now request.chars.now
 
--- a count that stays at the greatest u64
-abbrev pub counted : ℕ → ℕ
-counted n = min n (2 ^ 64 - 1)
-
 -- what is counted over a strike: `fpgm` and `prep` once, and each character once
 pub record IsReportOf (plan : Plan) (report : Report) : Type 0 where
   pub glyphs : report.glyphs ≡ length plan.sketches
   pub missing : report.missing ≡ plan.missing
-  pub strays : report.strays ≡ counted (plan.strays + sum_by (λ s. s.strays) plan.sketches)
-  pub steps : report.steps ≡ counted (plan.steps + sum_by (λ s. s.steps) plan.sketches)
+  pub strays : report.usage.strays ≡ counted (plan.prelude.strays + sum_by (λ s. s.usage.strays) plan.sketches)
+  pub steps : report.usage.steps ≡ counted (plan.prelude.steps + sum_by (λ s. s.usage.steps) plan.sketches)
 
 -- the strike exists, its text was written, and the writer counted no fault
 pub record Text (strike : Result Plan Refusal) (change : Change) (report : Report) : Type 0 where

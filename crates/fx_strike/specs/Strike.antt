@@ -11,7 +11,8 @@ use Rattle.fx_sfnt.specs.declared.records.Metrics.{Metrics}
 use Rattle.fx_cmap.specs.Lookup.{map_of_file, glyph_for}
 use Rattle.fx_cmap.specs.declared.mapping.Mapping.{Mapping}
 use Rattle.fx_machine.specs.Known.{Known, machine_of}
-use Rattle.fx_machine.specs.declared.ran.Ran.{Ran}
+use Rattle.fx_machine.specs.declared.usage.Usage.{Usage}
+use Rattle.fx_machine.specs.Usages.{no_usage}
 use Rattle.fx_hint.specs.Hinting.{Hinting, no_hinting}
 use Rattle.fx_hint.specs.Programmed.{hinting_of}
 use Rattle.fx_hint.specs.declared.fault.HintFault.{HintFault}
@@ -60,22 +61,21 @@ abbrev pub hinting_by : Option Known → Hinting
 hinting_by None = no_hinting
 hinting_by (Some known) = hinting_of known
 
--- what `fpgm` and `prep` counted
-abbrev pub counted_by : Option Known → Ran
-counted_by None = record { steps = 0; strays = 0 }
-counted_by (Some known) = known.prelude
+-- what `fpgm` and `prep` used up
+abbrev pub prelude_by : Option Known → Usage
+prelude_by None = no_usage
+prelude_by (Some known) = known.prelude
 
 -- ---- a character
 
 -- a character of a strike before its bits: its code point, its advance in 1/1000 of an em and in pixels, the spans of its
--- outline in 1/128 pixel, and what its glyph's programs counted
+-- outline in 1/128 pixel, and what its glyph's programs used up
 pub record Sketch : Type 0 where
   pub code : ℕ
   pub swidth : ℤ
   pub dwidth : ℤ
   pub spans : List Span
-  pub strays : ℕ
-  pub steps : ℕ
+  pub usage : Usage
 
 -- an advance of FUnits in 1/1000 of an em, which is `em` FUnits
 abbrev pub thousandths : ℕ → ℕ → ℤ
@@ -92,8 +92,7 @@ sketch_from setting code outline spans metrics = record {
   swidth = thousandths metrics.advance_width setting.font.head.units_per_em;
   dwidth = near_of outline.advance (pos 64);
   spans = spans;
-  strays = outline.strays;
-  steps = outline.steps;
+  usage = outline.usage;
 }
 
 -- the sketch of a code point by its glyph's number, or the first cause why it has none
@@ -119,7 +118,7 @@ one_with setting code = if is_missing setting code then Ok None else map_ok Some
 
 -- ---- the strike
 
--- a strike before its bits; strays and steps are those of `fpgm` and `prep`
+-- a strike before its bits, with what `fpgm` and `prep` used up
 pub record Plan : Type 0 where
   pub name : List ℕ
   pub ppem : ℕ
@@ -127,8 +126,7 @@ pub record Plan : Type 0 where
   pub descent : ℤ
   pub sketches : List Sketch
   pub missing : ℕ
-  pub strays : ℕ
-  pub steps : ℕ
+  pub prelude : Usage
 
 -- FUnits in pixels, rounded
 abbrev pub pixels : ℤ → ℕ → ℕ → ℤ
@@ -147,8 +145,7 @@ plan_from setting name chars sketches = record {
   descent = pixels (neg_ℤ setting.font.hhea.descender) setting.ppem setting.font.head.units_per_em;
   sketches = sketches;
   missing = count_by (is_missing setting) (rising chars);
-  strays = (counted_by setting.machine).strays;
-  steps = (counted_by setting.machine).steps;
+  prelude = prelude_by setting.machine;
 }
 
 -- the strike of a name and characters, or the first cause why there is none

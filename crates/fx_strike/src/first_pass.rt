@@ -20,7 +20,7 @@ use crate::tools::Tools;
 use crate::within::lies_in;
 use fx_bdf::Bounds;
 use fx_fixed::{Ppem, near};
-use fx_machine::Ran;
+use fx_machine::Usage;
 use fx_request::{Refusal, Report, rising_codes};
 use fx_winding::Scan;
 
@@ -36,9 +36,9 @@ fn whole_pixels(units: i32, ppem: Ppem, em: u16) -> i32
     ) as i32
 }
 
-/// The survey of the code points that were seen, with what `fpgm` and `prep` counted.
-fn survey_from(counts: Ran, opened: &Opened<'_>, seen: Seen) -> Survey
-    ensures { result ≡ survey_from counts opened.now seen }
+/// The survey of the code points that were seen, with what `fpgm` and `prep` used up.
+fn survey_from(prelude: Usage, opened: &Opened<'_>, seen: Seen) -> Survey
+    ensures { result ≡ survey_from prelude opened.now seen }
 {
     let em = opened.font.head().units_per_em.funits();
     let hhea = opened.font.hhea();
@@ -50,8 +50,7 @@ fn survey_from(counts: Ran, opened: &Opened<'_>, seen: Seen) -> Survey
         report: Report {
             glyphs: report.glyphs,
             missing: report.missing,
-            strays: counts.strays.saturating_add(report.strays),
-            steps: u64::from(counts.steps).saturating_add(report.steps),
+            usage: prelude.plus(report.usage),
         },
     }
 }
@@ -124,7 +123,7 @@ impl<'a, S: Scan> Tools<'a, S> {
             → Surveys (plan_with (setting_with self.now.opened hinter.old) name chars) result }
     {
         let seen = self.see(hinter, codes)?;
-        Ok(survey_from(hinter.counted(), &self.opened, seen))
+        Ok(survey_from(hinter.prelude(), &self.opened, seen))
     }
 
     /// The survey of the strike of characters, whatever its name.

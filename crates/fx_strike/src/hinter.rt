@@ -4,11 +4,11 @@ ghost use Rattle.fx_fixed.specs.Chain.{map_fault, GivesUnless};
 ghost use Rattle.fx_machine.specs.Known.{machine_of};
 ghost use Rattle.fx_request.specs.Faults.{of_machine};
 ghost use Rattle.fx_strike.specs.Faults.{Fails};
-ghost use Rattle.fx_strike.specs.Strike.{machine_for, counted_by};
+ghost use Rattle.fx_strike.specs.Strike.{machine_for, prelude_by};
 
 use crate::opened::Opened;
-use fx_hint::{GlyphInput, HintFault, Hinter, KeepingMachine, Made, NoHinter, Spent};
-use fx_machine::{Machine, Ran};
+use fx_hint::{GlyphInput, HintFault, Hinter, KeepingMachine, Made, NoHinter};
+use fx_machine::{Machine, Usage};
 use fx_request::Refusal;
 use std::alloc::{AllocError, Global};
 use std::marker::Model;
@@ -31,16 +31,13 @@ impl<'a> Model for FontHinter<'a> {
 }
 
 impl<'a> FontHinter<'a> {
-    /// What `fpgm` and `prep` counted.
-    pub(crate) fn counted(&self) -> Ran
-        ensures { result ≡ counted_by self.now }
+    /// What `fpgm` and `prep` used up.
+    pub(crate) fn prelude(&self) -> Usage
+        ensures { result ≡ prelude_by self.now }
     {
         match &self.machine {
             Some(machine) => machine.prelude(),
-            None => Ran {
-                steps: 0,
-                strays: 0,
-            },
+            None => Usage::none(),
         }
     }
 }
@@ -63,23 +60,23 @@ impl<'a> Hinter for FontHinter<'a> {
         }
     }
 
-    fn run(&mut self, g: u16, code: &[u8], made: &mut Made) -> Result<Spent, HintFault> {
+    fn run(&mut self, g: u16, code: &[u8], made: &mut Made) -> Result<Usage, HintFault> {
         match &mut self.machine {
             Some(machine) => machine.run(g, code, made),
             None => NoHinter.run(g, code, made),
         }
     }
 
-    fn recall(&self, alloc: Global, input: &GlyphInput<'_>) -> Option<(Made, Spent)> {
+    fn recall(&self, alloc: Global, input: &GlyphInput<'_>) -> Option<(Made, Usage)> {
         match &self.machine {
             Some(machine) => machine.recall(alloc, input),
             None => None,
         }
     }
 
-    fn keep(&mut self, input: &GlyphInput<'_>, made: &Made, spent: Spent) {
+    fn keep(&mut self, input: &GlyphInput<'_>, made: &Made, usage: Usage) {
         if let Some(machine) = &mut self.machine {
-            machine.keep(input, made, spent);
+            machine.keep(input, made, usage);
         }
     }
 

@@ -5,7 +5,6 @@ ghost use Rattle.fx_strike.specs.Headline.{Makes, opening_of, strike_of};
 
 use crate::open::open;
 use crate::striker::Striker;
-use crate::tools::Tools;
 use fx_fixed::Sink;
 use fx_request::{Refusal, Report, Request};
 use fx_rows::Rows;
@@ -34,12 +33,7 @@ pub fn make_strike_with<S: Scan, W: Sink>(
         (change_of W.held W.fault_count out.old out.new) result }
 {
     let opened = open(font, request)?;
-    let tools = Tools {
-        alloc,
-        scan,
-        opened,
-    };
-    let mut striker = Striker::of(tools, request.hinting)?;
+    let mut striker = Striker::of(alloc, scan, opened, request.hinting)?;
     striker.write_checked(request.name, request.chars, out)
 }
 

@@ -7,7 +7,6 @@ ghost use Rattle.fx_strike.specs.inner.Drawing.{Finds};
 
 use crate::open::open_one;
 use crate::striker::Striker;
-use crate::tools::Tools;
 use fx_bdf::BitGlyph;
 use fx_request::Refusal;
 use fx_rows::Rows;
@@ -48,11 +47,6 @@ fn one_inner(
     ensures late { IsErrOf result Refusal.OutOfMemory → Late (opened_one_of font.now ppem code) }
 {
     let opened = open_one(font, ppem, code)?;
-    let tools = Tools {
-        alloc,
-        scan: &Rows,
-        opened,
-    };
-    let mut striker = Striker::of(tools, hinting)?;
+    let mut striker = Striker::of(alloc, &Rows, opened, hinting)?;
     striker.glyph_checked(code)
 }

@@ -2,6 +2,7 @@
 
 use fx_bdf::Bounds;
 use fx_hint::Outline;
+use fx_machine::Usage;
 use fx_request::Report;
 
 /// The least box that holds the boxes of the glyphs so far, and what is counted over them.
@@ -25,8 +26,7 @@ impl Seen {
             report: Report {
                 glyphs: 0,
                 missing: 0,
-                strays: 0,
-                steps: 0,
+                usage: Usage::none(),
             },
         }
     }
@@ -38,7 +38,6 @@ impl Seen {
     {
         self.bounds = bounds;
         self.report.glyphs += 1;
-        self.report.strays = self.report.strays.saturating_add(outline.strays);
-        self.report.steps = self.report.steps.saturating_add(outline.steps);
+        self.report.usage = self.report.usage.plus(outline.usage);
     }
 }

@@ -12,6 +12,7 @@ ghost use Rattle.fx_strike.specs.inner.Surveying.{AreChars, Surveys};
 
 use crate::hinter::{FontHinter, hinter_at};
 use crate::open::{check_chars, check_text, open_at};
+use crate::opened::Opened;
 use crate::surveyed::Survey;
 use crate::tools::Tools;
 use fx_bdf::BitGlyph;
@@ -72,21 +73,26 @@ fn open_inner<'a>(
     ensures late { IsErrOf result Refusal.OutOfMemory → Late (opened_at font.now ppem) }
 {
     let opened = open_at(font, ppem)?;
-    let tools = Tools {
-        alloc,
-        scan: &Rows,
-        opened,
-    };
-    Striker::of(tools, hinting)
+    Striker::of(alloc, &Rows, opened, hinting)
 }
 
 impl<'a, S: Scan> Striker<'a, S> {
     /// A striker of an opened font. With hinting on, the font's programs run.
     #[tactic(auto, unfolding(crate::specs::Strike::setting_in))]
-    pub(crate) fn of(tools: Tools<'a, S>, hinting: bool) -> Result<Striker<'a, S>, Refusal>
-        ensures { GivesUnless Fails (λ s. s) result (setting_in tools.entry.opened hinting) }
+    pub(crate) fn of(
+        alloc: Global,
+        scan: &'a S,
+        opened: Opened<'a>,
+        hinting: bool,
+    ) -> Result<Striker<'a, S>, Refusal>
+        ensures { GivesUnless Fails (λ s. s) result (setting_in opened.entry hinting) }
     {
-        let hinter = hinter_at(tools.alloc, &tools.opened, hinting)?;
+        let hinter = hinter_at(alloc, &opened, hinting)?;
+        let tools = Tools {
+            alloc,
+            scan,
+            opened,
+        };
         Ok(Striker { tools, hinter })
     }
 

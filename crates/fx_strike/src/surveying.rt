@@ -7,7 +7,6 @@ ghost use Rattle.fx_strike.specs.Headline.{Surveyed, Late, opening_of, strike_of
 use crate::open::open;
 use crate::striker::Striker;
 use crate::surveyed::Survey;
-use crate::tools::Tools;
 use fx_request::{Refusal, Request};
 use fx_winding::Scan;
 use std::alloc::Global;
@@ -43,11 +42,6 @@ fn survey_inner<S: Scan>(
     ensures late { IsErrOf result Refusal.OutOfMemory → Late (opening_of font.now request.now) }
 {
     let opened = open(font, request)?;
-    let tools = Tools {
-        alloc,
-        scan,
-        opened,
-    };
-    let mut striker = Striker::of(tools, request.hinting)?;
+    let mut striker = Striker::of(alloc, scan, opened, request.hinting)?;
     striker.survey_checked(request.chars)
 }

@@ -31,8 +31,8 @@ told_of text report = record {
   bytes = length text;
   glyphs = report.glyphs;
   missing = report.missing;
-  strays = report.strays;
-  steps = report.steps;
+  strays = report.usage.strays;
+  steps = report.usage.steps;
 }
 
 -- the strike exists; as much of its text as fits stands at the front of the caller's buffer, and what lies after it is as it was

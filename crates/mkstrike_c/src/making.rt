@@ -37,8 +37,8 @@ fn told_of(text: &[u8], report: Report) -> Told
         bytes: text.len(),
         glyphs: report.glyphs,
         missing: report.missing,
-        strays: report.strays,
-        steps: report.steps,
+        strays: report.usage.strays,
+        steps: report.usage.steps,
     }
 }
 

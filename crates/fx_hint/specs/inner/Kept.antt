@@ -13,5 +13,5 @@ kept_of (Some k) bytes points ends = Some (record {
   metrics = k.metrics;
   bytes = bytes;
   made = record { zone = record { points = points; ends = ends }; phantoms = k.phantoms };
-  spent = k.spent;
+  usage = k.usage;
 })

@@ -11,7 +11,7 @@ use Rattle.fx_zone.specs.Figures.{empty_figure}
 use Rattle.fx_scale.specs.declared.scale.Scale.{Scale}
 use Rattle.fx_scale.specs.Phantoms.{phantoms_of}
 use Rattle.fx_hint.specs.declared.count.Count.{Count}
-use Rattle.fx_hint.specs.declared.count.Spent.{Spent}
+use Rattle.fx_machine.specs.declared.usage.Usage.{Usage}
 use Rattle.fx_hint.specs.declared.made.Made.{Made}
 use Rattle.fx_hint.specs.declared.below.OpenComposite.{OpenComposite}
 use Rattle.fx_hint.specs.declared.below.Waiting.{Waiting}
@@ -19,7 +19,8 @@ use Rattle.fx_hint.specs.declared.walk.Step.{Step}
 use Rattle.fx_hint.specs.declared.walk.Step.TheVariants.{Assembled, Open}
 use Rattle.fx_hint.specs.declared.fault.HintFault.{HintFault}
 use Rattle.fx_hint.specs.declared.fault.HintFault.TheVariants.{Font, Glyph, ComponentDepth}
-use Rattle.fx_hint.specs.Hinting.{Hinting, spent_with}
+use Rattle.fx_machine.specs.Usages.{usage_with}
+use Rattle.fx_hint.specs.Hinting.{Hinting}
 use Rattle.fx_hint.specs.Parts.{with_part}
 use Rattle.fx_hint.specs.Outlines.{one_component, more_points, simple_made, run_on, with_parts, component}
 
@@ -54,10 +55,10 @@ begun h face s root g count = do
   begun_by h s root g m glyph count
 
 -- an assembled glyph whose points, and what its program used up, are counted
-unfoldable pub counted_made : ℕ → Made → Spent → Count → Result (Step × Count) HintFault
-counted_made root made spent count = do
+unfoldable pub counted_made : ℕ → Made → Usage → Count → Result (Step × Count) HintFault
+counted_made root made usage count = do
   counted ← more_points root (length made.zone.points) count
-  Ok (Assembled made, record counted { spent = spent_with counted.spent spent })
+  Ok (Assembled made, record counted { usage = usage_with counted.usage usage })
 
 -- a component, begun, with this number of levels allowed from here on
 unfoldable pub begun_component : Hinting → Face → Scale → ℕ → ℕ → ℕ → Count → Result (Step × Count) HintFault

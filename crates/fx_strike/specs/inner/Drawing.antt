@@ -37,8 +37,7 @@ pub record IsSketchedOf (sketch : Sketch) (sketched : Sketched) : Type 0 where
   pub small : framed_of sketch.spans ≡ Ok tt
   pub swidth : sketched.swidth ≡ sketch.swidth
   pub dwidth : near_of sketched.outline.advance (pos 64) ≡ sketch.dwidth
-  pub strays : sketched.outline.strays ≡ sketch.strays
-  pub steps : sketched.outline.steps ≡ sketch.steps
+  pub usage : sketched.outline.usage ≡ sketch.usage
 
 -- a glyph before its bits is made if its sketch is due; a refusal is one that is due, or out of memory
 abbrev pub Sketches : Result Sketch Refusal → Result Sketched Refusal → Type 0

@@ -1,18 +1,20 @@
 -- What is seen of code points so far, before the first byte of a strike is written.
 use Rattle.std.specs.Prelude.{◌≡◌, neg_ℤ, ℕ, ◌+◌, ◌≤◌, nat_lt, false, List, length, map, Result, Ok, Err}
 use Rattle.std.specs.List.{sum_by, count_by, list_any}
+use Rattle.fx_fixed.specs.Numbers.{counted}
 use Rattle.fx_hint.specs.declared.points.Outline.{Outline}
 use Rattle.fx_bdf.specs.Glyphs.{Box, Glyph, IsPlaced, no_box, joined, bounds_of}
 use Rattle.fx_request.specs.declared.refusal.Refusal.{Refusal}
 use Rattle.fx_request.specs.declared.refusal.Refusal.TheVariants.{OutOfMemory}
-use Rattle.fx_machine.specs.declared.ran.Ran.{Ran}
+use Rattle.fx_machine.specs.declared.usage.Usage.{Usage}
+use Rattle.fx_machine.specs.Usages.{no_usage, usage_with}
 use Rattle.fx_strike.specs.declared.opened.Opened.{Opened}
 use Rattle.fx_strike.specs.declared.seen.Seen.{Seen}
 use Rattle.fx_strike.specs.declared.surveyed.Survey.{Survey}
 use Rattle.fx_strike.specs.Faults.{Fails}
 use Rattle.fx_request.specs.Limits.{max_characters, max_code}
 use Rattle.fx_strike.specs.Strike.{Sketch, Setting, Plan, IsGlyphOf, AreGlyphsOf, is_missing, sketches_of, pixels}
-use Rattle.fx_strike.specs.Headline.{counted, Surveyed}
+use Rattle.fx_strike.specs.Headline.{Surveyed}
 
 -- characters within their limits
 pub record AreChars (chars : List ℕ) : Type 0 where
@@ -24,16 +26,14 @@ pub record IsEmpty (new : Seen) : Type 0 where
   pub bounds : new.bounds ≡ no_box
   pub glyphs : new.report.glyphs ≡ 0
   pub missing : new.report.missing ≡ 0
-  pub strays : new.report.strays ≡ 0
-  pub steps : new.report.steps ≡ 0
+  pub usage : new.report.usage ≡ no_usage
 
--- one character more: the box of the glyphs up to it, and what its programs counted
+-- one character more: the box of the glyphs up to it, and what its programs used up
 pub record Adds (old new : Seen) (bounds : Box) (outline : Outline) : Type 0 where
   pub bounds_is : new.bounds ≡ bounds
   pub glyphs : new.report.glyphs ≡ old.report.glyphs + 1
   pub missing : new.report.missing ≡ old.report.missing
-  pub strays : new.report.strays ≡ counted (old.report.strays + outline.strays)
-  pub steps : new.report.steps ≡ counted (old.report.steps + outline.steps)
+  pub usage : new.report.usage ≡ usage_with old.report.usage outline.usage
 
 -- the box of the glyph of a sketch is joined to a box; or memory ran out
 abbrev pub Joins : Sketch → Box → Result Box Refusal → Type 0
@@ -48,8 +48,7 @@ pub record Has (sketch : Sketch) (old new : Seen) : Type 0 where
   pub placed : IsPlaced new.bounds
   pub glyphs : new.report.glyphs ≡ old.report.glyphs + 1
   pub missing : new.report.missing ≡ old.report.missing
-  pub strays : new.report.strays ≡ counted (old.report.strays + sketch.strays)
-  pub steps : new.report.steps ≡ counted (old.report.steps + sketch.steps)
+  pub usage : new.report.usage ≡ usage_with old.report.usage sketch.usage
 
 -- a character is seen if its sketch is due; a refusal is one that is due, or out of memory
 abbrev pub SeesOne : Result Sketch Refusal → Seen → Seen → Result (Unit {0}) Refusal → Type 0
@@ -67,8 +66,8 @@ pub record Holds (setting : Setting) (codes : List ℕ) (seen : Seen) : Type 0
     pub placed : IsPlaced seen.bounds
     pub count : seen.report.glyphs ≡ length sketches
     pub missing : seen.report.missing ≡ count_by (is_missing setting) codes
-    pub strays : seen.report.strays ≡ counted (sum_by (λ s. s.strays) sketches)
-    pub steps : seen.report.steps ≡ counted (sum_by (λ s. s.steps) sketches)
+    pub strays : seen.report.usage.strays ≡ counted (sum_by (λ s. s.usage.strays) sketches)
+    pub steps : seen.report.usage.steps ≡ counted (sum_by (λ s. s.usage.steps) sketches)
     pub each : seen.report.glyphs + seen.report.missing ≡ length codes
 
 -- they are seen if their sketches are due; a refusal is one that is due, or out of memory
@@ -76,17 +75,16 @@ abbrev pub Sees : Setting → List ℕ → Result Seen Refusal → Type 0
 Sees setting codes (Ok seen) = Holds setting codes seen
 Sees setting codes (Err refusal) = Fails refusal (sketches_of setting codes)
 
--- the survey of the code points that were seen, with what `fpgm` and `prep` counted
-abbrev pub survey_from : Ran → Opened → Seen → Survey
-survey_from counts opened seen = record {
+-- the survey of the code points that were seen, with what `fpgm` and `prep` used up
+abbrev pub survey_from : Usage → Opened → Seen → Survey
+survey_from prelude opened seen = record {
   bounds = seen.bounds;
   ascent = pixels opened.font.hhea.ascender opened.ppem opened.font.head.units_per_em;
   descent = pixels (neg_ℤ opened.font.hhea.descender) opened.ppem opened.font.head.units_per_em;
   report = record {
     glyphs = seen.report.glyphs;
     missing = seen.report.missing;
-    strays = counted (counts.strays + seen.report.strays);
-    steps = counted (counts.steps + seen.report.steps);
+    usage = usage_with prelude seen.report.usage;
   };
 }
 

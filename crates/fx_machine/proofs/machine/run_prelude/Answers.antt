@@ -10,5 +10,5 @@ returns-in_err-second-clause-value c =
 
 pub returns-clause-value : goal.returns-clause-value
 returns-clause-value c =
-    prep_ends _ _ _ _ _ c.requires c.in_ok-first.ensures.value _ _ _ c.strays.ensures
+    prep_ends _ _ _ _ _ c.requires c.in_ok-first.ensures.value _ _ _ _ c.from.ensures c.strays.ensures
     (rw c.prepare.ensures at c.in_ok-second.ensures.value)

@@ -27,4 +27,4 @@ pub returns-clause-stack : goal.returns-clause-stack
 returns-clause-stack c =
     stack_is _ _ _ _ _ _ 0 _ c.of-scale.ensures (c.new.ensures ∙ c.table_or_empty-font_program.ensures)
     (c.new-2.ensures ∙ c.table_or_empty-prep.ensures) c.new-3.ensures (c.deref_mut.ensures.value ∙ c.in_ok-state.ensures)
-    _ c.run_and_take.new.state _ c.in_ok-prelude.ensures.stack c.in_ok-prelude.ensures.value
+    _ c.run_and_take.new.state c.in_ok-prelude.ensures.value

@@ -1,7 +1,7 @@
 use Rattle.std.proofs.Common.{◌∙◌, ap, Option}
 use Rattle.std.proofs.lemmas.Result.{err_from_is_err_and}
 use Rattle.fx_machine.specs.Known.{Known}
-use Rattle.fx_strike.specs.Strike.{setting_with, counted_by}
+use Rattle.fx_strike.specs.Strike.{setting_with, prelude_by}
 use Rattle.fx_strike.proofs.Making.{unseen, surveyed}
 use Rattle.fx_strike.proofs.tools.Tools.survey_codes.Goals as goal
 
@@ -13,6 +13,6 @@ returns-in_err-seen-clause-survey g c name chars rising =
 
 pub returns-clause-survey : goal.returns-clause-survey
 returns-clause-survey g c name chars rising =
-    surveyed c.args.self.now.opened c.args.hinter.now c.counted.result name chars c.args.codes.now c.in_ok-seen.seen
-    c.survey_from.result (c.counted.ensures ∙ ap (λ (m : Option Known). counted_by m) (c.in_ok-seen.ensures).kept) rising
+    surveyed c.args.self.now.opened c.args.hinter.now c.prelude.result name chars c.args.codes.now c.in_ok-seen.seen
+    c.survey_from.result (c.prelude.ensures ∙ ap (λ (m : Option Known). prelude_by m) (c.in_ok-seen.ensures).kept) rising
     (c.in_ok-seen.ensures).seen c.survey_from.ensures
