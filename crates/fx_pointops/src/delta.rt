@@ -5,6 +5,7 @@ ghost use Rattle.fx_pointops.specs.Zones.{HasShapes};
 ghost use Rattle.fx_gstate.specs.Deltas.{each_pair};
 ghost use Rattle.fx_pointops.specs.Delta.{point_delta, deltap_of};
 
+use crate::shift_point::move_point;
 use crate::zones::Zones;
 use fx_fixed::Ppem;
 use fx_gstate::{DeltaForm, GState};
@@ -21,11 +22,11 @@ impl Zones {
         if !delta.acts_at(*ppem) {
             return;
         }
-        let Some(point) = self.point(g.zp0, p) else {
+        let Some(point) = self.point_mut(g.zp0, p) else {
             self.add_stray();
             return;
         };
-        self.move_point(g, g.zp0, p, point, amount);
+        move_point(g, amount, point);
     }
 
     /// Moves the points of pairs, the last of the slice first.

@@ -8,7 +8,7 @@ ghost use Rattle.fx_pointops.specs.Direct.{msirp_of, aligned_to_rp, alignrp_of, 
 
 use crate::distances::{Relative, kept_by, negative, rounded_by, single};
 use crate::loops::LoopStep;
-use crate::shift_point::moved_by;
+use crate::shift_point::move_point;
 use crate::zones::{Zones, cur, is_twilight, org};
 use fx_fixed::{Axis, F26, Place, cut, w32};
 use fx_gstate::GState;
@@ -57,25 +57,23 @@ fn untouched_by(g: &GState, point: Point) -> Point
     untouched_along(g, Axis::Y, point)
 }
 
-/// A point moved to its coordinate, or to the rounded one.
+/// Moves a point to its coordinate, or to the rounded one.
 #[tactic(auto, unfolding(crate::specs::Direct::moved_to_grid))]
-fn moved_to_grid(g: &GState, rounds: bool, point: Point) -> Point
-    ensures { result ≡ moved_to_grid g.now rounds point }
+fn move_to_grid(g: &GState, rounds: bool, point: &mut Point)
+    ensures { point.new ≡ moved_to_grid g.now rounds point.old }
 {
     let d = to_grid(g, rounds, g.project_place(point.cur));
-    moved_by(g, d, point)
+    move_point(g, d, point);
 }
 
-/// A point moved to a coordinate, which becomes its original one in the twilight zone.
+/// Moves a point to a coordinate, which becomes its original one in the twilight zone.
 #[tactic(auto, unfolding(crate::specs::Direct::moved_to_value))]
-fn moved_to_value(g: &GState, v: F26, point: Point) -> Point
-    ensures { result ≡ moved_to_value g.now v point }
+fn move_to_value(g: &GState, v: F26, point: &mut Point)
+    ensures { point.new ≡ moved_to_value g.now v point.old }
 {
-    let moved = moved_by(g, v.minus(g.project_place(point.cur)), point);
+    move_point(g, v.minus(g.project_place(point.cur)), point);
     if is_twilight(g.zp2) {
-        moved.settled()
-    } else {
-        moved
+        *point = point.settled();
     }
 }
 
@@ -86,11 +84,11 @@ impl Zones {
         ensures value { self.new ≡ utp_of g.now p self.old }
         ensures shapes { HasShapes self.old self.new }
     {
-        let Some(point) = self.point(g.zp0, p) else {
+        let Some(point) = self.point_mut(g.zp0, p) else {
             self.add_stray();
             return;
         };
-        self.set(g.zp0, p, untouched_by(g, point));
+        *point = untouched_by(g, *point);
     }
 
     /// 2E-2F MDAP[a], Move Direct Absolute Point: moves p, of zp0, by 0, or with 1 to its rounded coordinate.
@@ -99,11 +97,11 @@ impl Zones {
         ensures value { self.new ≡ mdap_of g.now rounds p self.old }
         ensures shapes { HasShapes self.old self.new }
     {
-        let Some(point) = self.point(g.zp0, p) else {
+        let Some(point) = self.point_mut(g.zp0, p) else {
             self.add_stray();
             return;
         };
-        self.set(g.zp0, p, moved_to_grid(g, rounds, point));
+        move_to_grid(g, rounds, point);
     }
 
     /// The original place of reference point 0.
@@ -123,8 +121,8 @@ impl Zones {
             return;
         }
         let from = self.original_place(g);
-        if let Some(point) = self.point(g.zp1, p) {
-            self.set(g.zp1, p, point.laid(from.plus(by)));
+        if let Some(point) = self.point_mut(g.zp1, p) {
+            *point = point.laid(from.plus(by));
         }
     }
 
@@ -164,12 +162,13 @@ impl Zones {
         ensures value { self.new ≡ aligned_to_rp g.now p self.old }
         ensures shapes { HasShapes self.old self.new }
     {
-        let Some(point) = self.point(g.zp1, p) else {
+        let base = self.point(g.zp0, g.rp0);
+        let Some(point) = self.point_mut(g.zp1, p) else {
             self.add_stray();
             return;
         };
-        let c = g.project_place(point.cur.minus(cur(&self.point(g.zp0, g.rp0))));
-        self.move_point(g, g.zp1, p, point, negative(c));
+        let c = g.project_place(point.cur.minus(cur(&base)));
+        move_point(g, negative(c), point);
     }
 
     /// 3C ALIGNRP, ALIGN Relative Point: moves each p, of zp1, to the distance 0 from rp0, of zp0.
@@ -203,11 +202,11 @@ impl Zones {
         ensures value { self.new ≡ scfs_of g.now p v self.old }
         ensures shapes { HasShapes self.old self.new }
     {
-        let Some(point) = self.point(g.zp2, p) else {
+        let Some(point) = self.point_mut(g.zp2, p) else {
             self.add_stray();
             return;
         };
-        self.set(g.zp2, p, moved_to_value(g, v, point));
+        move_to_value(g, v, point);
     }
 
     /// 38 SHPIX, SHift point by a PIXel amount: shifts each p, of zp2, by a along the freedom vector.
@@ -227,15 +226,15 @@ impl Zones {
         ensures value { self.new ≡ mdrp_of g.now how p self.old }
         ensures shapes { HasShapes self.old self.new }
     {
-        let Some(point) = self.point(g.zp1, p) else {
+        let Some(base) = self.point(g.zp0, g.rp0) else {
             return self.mdrp_by_strays(g, how, p);
         };
-        let Some(base) = self.point(g.zp0, g.rp0) else {
+        let Some(point) = self.point_mut(g.zp1, p) else {
             return self.mdrp_by_strays(g, how, p);
         };
         let o = g.dual_project_place(point.org.minus(base.org));
         let c = g.project_place(point.cur.minus(base.cur));
-        self.move_point(g, g.zp1, p, point, wanted(g, how, o).minus(c));
+        move_point(g, wanted(g, how, o).minus(c), point);
     }
 
     /// MDRP, if p or rp0 may be a stray.

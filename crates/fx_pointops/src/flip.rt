@@ -28,11 +28,11 @@ impl Zones {
         ensures value { self.new ≡ point_flipped g.now p self.old }
         ensures shapes { HasShapes self.old self.new }
     {
-        let Some(point) = self.point(g.zp0, p) else {
+        let Some(point) = self.point_mut(g.zp0, p) else {
             self.add_stray();
             return;
         };
-        self.set(g.zp0, p, point.flipped());
+        *point = point.flipped();
     }
 
     /// 80 FLIPPT, FLIP PoinT: each p, of zp0, goes off the curve, or onto it.

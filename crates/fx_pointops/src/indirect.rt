@@ -7,7 +7,7 @@ ghost use Rattle.fx_pointops.specs.Indirect.{is_cut_off, laid_along, aimed_of, m
 ghost use Rattle.fx_pointops.specs.Indirect.{auto_flipped, cut_in_by, controlled_of, mirp_distance_of, moved_to_control, mirp_of};
 
 use crate::distances::{Relative, is_below, kept_by, negative, single, size};
-use crate::shift_point::moved_by;
+use crate::shift_point::move_point;
 use crate::zones::{Zones, is_same_zone, is_twilight};
 use fx_fixed::F26;
 use fx_gstate::GState;
@@ -95,13 +95,13 @@ fn laid_along(g: &GState, v: F26, point: Point) -> Point
     }
 }
 
-/// A point moved to a control value.
+/// Moves a point to a control value.
 #[tactic(auto, unfolding(crate::specs::Indirect::moved_to_coordinate))]
-fn moved_to_coordinate(g: &GState, rounds: bool, v: F26, point: Point) -> Point
-    ensures { result ≡ moved_to_coordinate g.now rounds v point }
+fn move_to_coordinate(g: &GState, rounds: bool, v: F26, point: &mut Point)
+    ensures { point.new ≡ moved_to_coordinate g.now rounds v point.old }
 {
     let c = g.project_place(point.cur);
-    moved_by(g, aimed(g, rounds, v, c).minus(c), point)
+    move_point(g, aimed(g, rounds, v, c).minus(c), point);
 }
 
 impl Zones {
@@ -112,12 +112,12 @@ impl Zones {
         ensures value { self.new ≡ miap_of g.now rounds p v self.old }
         ensures shapes { HasShapes self.old self.new }
     {
-        let Some(point) = self.point(g.zp0, p) else {
+        let Some(point) = self.point_mut(g.zp0, p) else {
             self.add_stray();
             return;
         };
-        let point = laid_along(g, v, point);
-        self.set(g.zp0, p, moved_to_coordinate(g, rounds, v, point));
+        *point = laid_along(g, v, *point);
+        move_to_coordinate(g, rounds, v, point);
     }
 
     /// Moves a point to a control value from reference point 0.
@@ -149,15 +149,15 @@ impl Zones {
         ensures value { self.new ≡ mirp_outside_of g.now how p v self.old }
         ensures shapes { HasShapes self.old self.new }
     {
-        let Some(point) = self.point(g.zp1, p) else {
+        let Some(base) = self.point(g.zp0, g.rp0) else {
             return self.mirp_by_strays(g, how, p, v);
         };
-        let Some(base) = self.point(g.zp0, g.rp0) else {
+        let Some(point) = self.point_mut(g.zp1, p) else {
             return self.mirp_by_strays(g, how, p, v);
         };
         let o = g.dual_project_place(point.org.minus(base.org));
         let c = g.project_place(point.cur.minus(base.cur));
-        self.move_point(g, g.zp1, p, point, mirp_distance(g, how, o, v).minus(c));
+        move_point(g, mirp_distance(g, how, o, v).minus(c), point);
     }
 
     /// MIRP outside the twilight zone, if p or rp0 may be a stray.

@@ -7,6 +7,7 @@ ghost use Rattle.fx_pointops.specs.Interpolate.{proportion_of, point_in_proporti
 
 use crate::distances::product;
 use crate::loops::LoopStep;
+use crate::shift_point::move_point;
 use crate::zones::Zones;
 use fx_fixed::{F26, near_quotient, w32};
 use fx_gstate::GState;
@@ -48,15 +49,15 @@ impl Zones {
         ensures value { self.new ≡ point_in_proportion g.now cb.now ob.now p self.old }
         ensures shapes { HasShapes self.old self.new }
     {
-        let Some(point) = self.point(g.zp2, p) else {
+        let Some(base) = self.point(g.zp0, g.rp1) else {
             return self.move_stray_in_proportion(g, cb, ob, p);
         };
-        let Some(base) = self.point(g.zp0, g.rp1) else {
+        let Some(point) = self.point_mut(g.zp2, p) else {
             return self.move_stray_in_proportion(g, cb, ob, p);
         };
         let o = g.dual_project_place(point.org.minus(base.org));
         let c = g.project_place(point.cur.minus(base.cur));
-        self.move_point(g, g.zp2, p, point, proportion(o, *cb, *ob).minus(c));
+        move_point(g, proportion(o, *cb, *ob).minus(c), point);
     }
 
     /// Moves a point to that distance, if it or reference point 1 may be a stray.

@@ -120,11 +120,11 @@ impl Zones {
         ensures value { self.new ≡ on_point (put place) g.now.zp2 p self.old }
         ensures shapes { HasShapes self.old self.new }
     {
-        let Some(point) = self.point(g.zp2, p) else {
+        let Some(point) = self.point_mut(g.zp2, p) else {
             self.add_stray();
             return;
         };
-        self.set(g.zp2, p, point.put(place));
+        *point = point.put(place);
     }
 
     /// 0F ISECT, InterSECTion of two lines: puts p, of zp2, where the line a0 a1, of zp1, crosses the line b0 b1, of zp0.

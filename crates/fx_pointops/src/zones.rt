@@ -72,7 +72,10 @@ pub fn cur(point: &Option<Point>) -> Place
 }
 
 impl Zones {
-    ghost use Rattle.fx_pointops.specs.Zones.{point_at, written_at, with_stray, counting, counting_two, HasShapes};
+    ghost use Rattle.std.specs.Option.{option_copied_mut};
+    ghost use Rattle.std.specs.Borrow.{sem};
+    ghost use Rattle.fx_pointops.specs.inner.Lending.{LendsPointAt};
+    ghost use Rattle.fx_pointops.specs.Zones.{point_at, with_stray, counting, counting_two, HasShapes};
 
     /// The point of a number, if it is inside.
     #[tactic(auto, unfolding(crate::specs::Zones::point_at))]
@@ -113,18 +116,16 @@ impl Zones {
         self.count(q);
     }
 
-    /// Writes the point of a number, if it is inside.
-    #[tactic(auto, unfolding(crate::specs::Zones::written_at))]
-    pub(crate) fn set(&mut self, zone: ZonePointer, number: i32, point: Point)
-        ensures value { self.new ≡ written_at point zone number self.old }
-        ensures shapes { HasShapes self.old self.new }
+    /// The point of a number, to be changed in its place, if it is inside.
+    #[tactic(auto, unfolding(crate::specs::Zones::point_at, crate::specs::Zones::written_at))]
+    pub(crate) fn point_mut(&mut self, zone: ZonePointer, number: i32) -> Option<&mut Point>
+        ensures* writes_back { sem 𝓛 (LendsPointAt self.entry zone number result) }
+        ensures value { option_copied_mut result ≡ point_at zone number self.old }
     {
-        let Some(index) = index_of(number) else {
-            return;
-        };
+        let index = index_of(number)?;
         match zone {
-            ZonePointer::Twilight => self.twilight.set(index, point),
-            ZonePointer::Glyph => self.glyph.set(index, point),
+            ZonePointer::Twilight => self.twilight.point_mut(index),
+            ZonePointer::Glyph => self.glyph.point_mut(index),
         }
     }
 }

@@ -2,6 +2,9 @@
 
 ghost use Rattle.std.specs.Prelude.{◌≡◌, ◌+◌, ◌<◌, ◌≤◌, ◌^◌, ◌++◌, [], length, map, take, slice_get, IfSome, slice_set, OnOk, OnErr, true};
 ghost use Rattle.std.specs.List.{All};
+ghost use Rattle.std.specs.Option.{option_copied_mut};
+ghost use Rattle.std.specs.Borrow.{sem};
+ghost use Rattle.fx_zone.specs.Lending.{LendsPoint};
 ghost use Rattle.fx_zone.specs.Figures.{Figure, joined, empty_figure, changed, range_shifted, range_curved, figure_rested, contour_of, HasShape};
 ghost use Rattle.fx_zone.specs.Points.{moved, marked};
 ghost use Rattle.fx_zone.specs.Interpolation.{figure_interpolated};
@@ -80,6 +83,14 @@ impl Zone {
         ensures { result ≡ slice_get self.now.points number }
     {
         self.points.get(number).copied()
+    }
+
+    /// The point of a number, to be changed in its place, if it is inside.
+    pub fn point_mut(&mut self, number: usize) -> Option<&mut Point>
+        ensures* writes_back { sem 𝓛 (LendsPoint self.entry number result) }
+        ensures value { option_copied_mut result ≡ slice_get self.old.points number }
+    {
+        self.points.get_mut(number)
     }
 
     /// Writes the point of a number, if it is inside.
