@@ -1,6 +1,6 @@
 //! Lines of rows, written straight into the room of a text.
 
-ghost use Rattle.std.specs.Prelude.{◌≡◌, ◌+◌, ◌++◌, ◌*◌, ◌<◌, ◌≤◌, take, drop, length, IfSome, IfNone};
+ghost use Rattle.std.specs.Prelude.{◌≡◌, ◌+◌, ◌++◌, ◌*◌, ◌<◌, ◌≤◌, take, length, IfSome, IfNone};
 ghost use Rattle.std.specs.List.{flat_map};
 ghost use Rattle.fx_fixed.specs.Texts.{with_more};
 ghost use Rattle.fx_bdf.specs.Text.{row_text};
@@ -9,16 +9,7 @@ ghost use Rattle.fx_bdf.specs.inner.Lines.{word_text, lines_between};
 use crate::box_rows::BoxRows;
 use crate::digits::word_digits;
 use crate::rows::Row;
-use fx_fixed::{Fill, Sink, TextWriter};
-
-/// Writes `part` over the bytes from `start` on.
-fn put(bytes: &mut [u8], start: usize, part: &[u8])
-    requires { start + length part.now ≤ length bytes.old }
-    ensures { bytes.new ≡ take start bytes.old ++ (part.now ++ drop (start + length part.now) bytes.old) }
-{
-    let over = &mut bytes[start..start + part.len()];
-    over.copy_from_slice(part);
-}
+use fx_fixed::{Fill, Sink, TextWriter, put_over};
 
 /// Writes the digits of words, eight each, over the bytes from `start` on.
 fn put_words(bytes: &mut [u8], start: usize, words: &[u32])
@@ -28,7 +19,7 @@ fn put_words(bytes: &mut [u8], start: usize, words: &[u32])
 {
     // The digits of the words before k were written.
     'words: for k in 0..words.len() {
-        put(bytes, start + 8 * k, &word_digits(words[k]));
+        put_over(bytes, start + 8 * k, &word_digits(words[k]));
     }
 }
 
@@ -47,7 +38,7 @@ fn put_line(bytes: &mut [u8], start: usize, row: &Row<'_>) -> Option<usize>
     }
     put_words(bytes, start, words);
     let end = start + row.digits();
-    put(bytes, end, b"\n");
+    put_over(bytes, end, b"\n");
     Some(end + 1)
 }
 

@@ -1,15 +1,15 @@
 -- The dots of a glyph's rows.
 -- Serves the writer of a picture: `put_dots`, `add_shown`.
-use Rattle.std.proofs.Common.{◌≡◌, ◌∙◌, ℕ, ◌+◌, ◌*◌, ◌^◌, ◌<◌, ◌≤◌, List, [], ◌∷◌, ◌++◌, Bool, true, false, length, get_or, set}
+use Rattle.std.proofs.Common.{◌≡◌, ◌∙◌, ℕ, ◌+◌, ◌<◌, ◌≤◌, List, [], ◌∷◌, ◌++◌, Bool, true, false, length, get_or, set}
 use Rattle.std.proofs.Common.{take, map, sym, ap, arith, length-append}
-use Rattle.std.specs.Prelude.{All, codes, if◌then◌else◌}
+use Rattle.std.specs.Prelude.{codes, if◌then◌else◌}
 use Rattle.std.specs.List.{flat_map}
 use Rattle.std.proofs.lemmas.List.{length-map, map_more, take_all, take_more_set}
-use Rattle.std.proofs.lemmas.List.Elements.{All-head, All-tail}
+use Rattle.fx_fixed.proofs.Writing.{lines_long}
 use Rattle.fx_winding.specs.Limits.{greatest_side}
 use Rattle.fx_bdf.specs.Glyphs.{Glyph, IsFormed, is_empty}
 use Rattle.fx_bdf.proofs.Boxes.{row_width}
-use Rattle.fx_cli.specs.Pictures.{dot_of, picture_of, row_line}
+use Rattle.fx_cli.specs.Pictures.{dot_of, longest_picture, picture_of, row_line}
 
 -- one dot more
 pub dots_more : (g : Glyph) (i j : ℕ) (buffer : List ℕ) (d : ℕ) → IsFormed g → i < g.box.height → j < g.box.width
@@ -29,29 +29,19 @@ all_dots g i w buffer formed high is dots =
 
 -- ---- the size of a picture
 
-lines_long : (width : ℕ) (rows : List (List Bool)) → All (λ (row : List Bool). length row ≡ width) rows → width ≤ greatest_side
-    → length (flat_map row_line rows) ≤ (greatest_side + 1) * length rows
-lines_long width [] all low = omega arith
-lines_long width (row ∷ rows) all low =
-    let P : List Bool → Type 0 = λ (r : List Bool). length r ≡ width in
-    let e : length row ≡ width = All-head P row rows all in
-    let rest = lines_long width rows (All-tail P row rows all) low in
-    omega (
-      arith,
-      length-append (row_line row) (flat_map row_line rows),
-      length-append (map dot_of row) (10 ∷ []),
-      length-map row dot_of,
-      e,
-      rest,
-    )
+line_long : (width : ℕ) → width ≤ greatest_side → (row : List Bool) → length row ≡ width
+    → length (row_line row) ≤ greatest_side + 1
+line_long width low row e = omega (arith, length-append (map dot_of row) (10 ∷ []), length-map row dot_of, e, low)
 
 -- a picture has few bytes
-pub picture_short : (g : Glyph) → IsFormed g → length (picture_of g) ≤ 2 ^ 27
+pub picture_short : (g : Glyph) → IsFormed g → length (picture_of g) ≤ longest_picture
 unfolding picture_of
 picture_short g formed = by_test (is_empty g.box)
   where
-    by_test : (t : Bool) → length (if t then codes "empty\n" else flat_map row_line g.rows) ≤ 2 ^ 27
+    by_test : (t : Bool) → length (if t then codes "empty\n" else flat_map row_line g.rows) ≤ longest_picture
     by_test true = omega arith
     by_test false =
-        let long = lines_long g.box.width g.rows formed.width formed.wide in
+        let width = g.box.width in
+        let long = lines_long row_line (λ (row : List Bool). length row ≡ width) (greatest_side + 1)
+        (line_long width formed.wide) g.rows formed.width in
         omega (arith, long, formed.height, formed.high)

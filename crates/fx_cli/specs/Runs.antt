@@ -74,8 +74,7 @@ MakeLeaves make font sink answer =
 -- what a call that shows a character leaves of it
 abbrev pub ShowLeaves : Show → List ℕ → Change → Result (Unit {0}) Refusal → Type 0
 ShowLeaves show font sink answer =
-    Shows (opened_one_of font show.ppem show.code) (one_of font show.ppem show.code show.hinting)
-    sink.bytes_before sink.bytes sink.faults_before sink.faults answer
+    Shows (opened_one_of font show.ppem show.code) (one_of font show.ppem show.code show.hinting) sink answer
 
 -- what a call that lists a program leaves of it
 abbrev pub ListingLeaves : FontProgram → List ℕ → Change → Result (Unit {0}) Refusal → Type 0

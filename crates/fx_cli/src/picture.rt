@@ -5,7 +5,7 @@ ghost use Rattle.fx_fixed.specs.Changes.{change_of};
 ghost use Rattle.fx_fixed.specs.Texts.{Adds, Fails, length_of};
 ghost use Rattle.fx_fixed.specs.Wrote.{Wrote};
 ghost use Rattle.fx_winding.specs.Limits.{greatest_side};
-ghost use Rattle.fx_cli.specs.Pictures.{dot_of, picture_of, row_line, shown_of};
+ghost use Rattle.fx_cli.specs.Pictures.{dot_of, longest_picture, picture_of, row_line, shown_of};
 
 use fx_bdf::BitGlyph;
 use fx_fixed::{Sink, TextWriter, WriteFailed};
@@ -33,7 +33,7 @@ fn add_shown<O: Sink>(
     requires { text.old.faults < 2 ^ 63 }
     ensures text { Adds Fails text.old text.new (shown_of glyph.now) result }
     ensures ended { OnOk result (text.new.waiting ≡ []) }
-    ensures short { IfErr result (λ e. e.0 ≤ length_of text.old + 2 ^ 27) }
+    ensures short { IfErr result (λ e. e.0 ≤ length_of text.old + longest_picture) }
 {
     add_glyph(glyph, text)?;
     text.end()
@@ -46,7 +46,7 @@ fn add_glyph<O: Sink>(
 ) -> Result<(), WriteFailed>
     requires { text.old.faults < 2 ^ 63 }
     ensures text { Adds Fails text.old text.new (shown_of glyph.now) result }
-    ensures short { length (shown_of glyph.now) ≤ 2 ^ 27 }
+    ensures short { length (shown_of glyph.now) ≤ longest_picture }
 {
     match glyph {
         Some(glyph) => add_picture(glyph, text),
@@ -60,7 +60,7 @@ fn add_picture<O: Sink>(glyph: &BitGlyph, text: &mut TextWriter<'_, O>) -> Resul
     requires { text.old.faults < 2 ^ 63 }
     ensures text { Adds Fails text.old text.new (picture_of glyph.now) result }
     // So the number of a fault is exact.
-    ensures short { length (picture_of glyph.now) ≤ 2 ^ 27 }
+    ensures short { length (picture_of glyph.now) ≤ longest_picture }
 {
     if glyph.bounds().is_empty() {
         text.add(&[b"empty\n"])

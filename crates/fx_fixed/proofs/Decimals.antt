@@ -1,7 +1,7 @@
 -- Digits that are put from the last to the first.
--- For `Digits::unsigned` and `Digits::signed`, whose loops write from the end of a buffer.
+-- Serves `put_decimal` and `put_signed`, which write before what a buffer has from an offset on.
 use Rattle.std.proofs.Common.{◌≡◌, ◌+◌, ◌-◌, ◌*◌, ◌/◌, ◌%◌, ◌^◌, ◌<◌, ◌≤◌, ◌++◌, ◌∷◌, [], zero, suc, length, drop, sym, ap, ◌∙◌}
-use Rattle.std.proofs.Common.{arith, List, ℕ, append_assoc, subst, lit<, ℤ, pos, negsuc, unsigned_abs, ◌<ℤ◌, ◌≤ℤ◌, FitsSigned, to_z}
+use Rattle.std.proofs.Common.{arith, List, ℕ, append_assoc, length-append, length-drop, subst, lit<, ℤ, pos, negsuc, unsigned_abs, ◌<ℤ◌, ◌≤ℤ◌, FitsSigned, to_z}
 use Rattle.std.proofs.Common.{of_z, w32}
 use Rattle.std.proofs.lemmas.Int.{to_z-of_z}
 use Rattle.std.proofs.Math.Nat.{div-lt_iff_lt-mul, pow-suc, pow-zero}
@@ -36,27 +36,35 @@ fits_more base left zero at e low h =
     absurd (omega (arith, ap (λ (x : ℕ). x * base) (pow-zero base)))
 fits_more base left (suc m) at e low h = omega arith
 
+-- no digit was put yet, and there is room for the most
+pub fits_first : (base most n end : ℕ) → n < base ^ most → n < base ^ (end + most - end)
+fits_first base most n end h =
+    let P : ℕ → Type 0 = λ k. n < base ^ k in
+    let all : most ≡ end + most - end = omega arith in
+    subst P all h
+
 -- one digit more was put
-pub digit_more : (n left at : ℕ) (buffer : List ℕ) → 0 < at → at ≤ length buffer → 10 ≤ left → left < 2 ^ 64
-    → decimal n ≡ decimal left ++ drop at buffer
-    → decimal n ≡ decimal (left / 10) ++ drop (at - 1) (set buffer (at - 1) (48 + left % 10))
-digit_more n left at buffer some within low high h =
+pub digit_more : (text : List ℕ) (left at : ℕ) (buffer : List ℕ) → 0 < at → at ≤ length buffer → 10 ≤ left → left < 2 ^ 64
+    → text ≡ decimal left ++ drop at buffer
+    → text ≡ decimal (left / 10) ++ drop (at - 1) (set buffer (at - 1) (48 + left % 10))
+digit_more text left at buffer some within low high h =
     h ∙ ap (λ (d : List ℕ). d ++ drop at buffer) (decimal_step left low high)
     ∙ append_assoc (decimal (left / 10)) ((48 + left % 10) ∷ []) (drop at buffer)
     ∙ ap (λ (d : List ℕ). decimal (left / 10) ++ d) (sym (put_here buffer at (48 + left % 10) some within))
 
 -- the first digit was put
-pub digit_first : (n left at : ℕ) (buffer : List ℕ) → 0 < at → at ≤ length buffer → left < 10
-    → decimal n ≡ decimal left ++ drop at buffer
-    → drop (at - 1) (set buffer (at - 1) (48 + left)) ≡ decimal n
-digit_first n left at buffer some within low h =
+pub digit_first : (text : List ℕ) (left at : ℕ) (buffer : List ℕ) → 0 < at → at ≤ length buffer → left < 10
+    → text ≡ decimal left ++ drop at buffer
+    → drop (at - 1) (set buffer (at - 1) (48 + left)) ≡ text
+digit_first text left at buffer some within low h =
     put_here buffer at (48 + left) some within ∙ sym (h ∙ ap (λ (d : List ℕ). d ++ drop at buffer) (decimal_digit left low))
 
--- a number of at most 19 digits leaves a byte before them
-pub fits_before : (n at : ℕ) (buffer : List ℕ) → length buffer ≡ 20 → drop at buffer ≡ decimal n → n < 10 ^ 19 → n < 2 ^ 64 → 0 < at
-fits_before n zero buffer len is few small =
-    let digits : length (decimal n) ≤ 19 = length-decimal-le 19 n (lit< tt) few small in absurd (omega (arith, ap length is))
-fits_before n (suc at) buffer len is few small = omega arith
+-- a number of at most 19 digits leaves a byte of 20
+pub fits_before : (n at end : ℕ) (new old : List ℕ) → length new ≡ length old → end ≤ length old → at ≤ end
+    → drop at new ≡ decimal n ++ drop end old → n < 10 ^ 19 → n < 2 ^ 64 → end < at + 20
+fits_before n at end new old long inside order is few small =
+    let digits : length (decimal n) ≤ 19 = length-decimal-le 19 n (lit< tt) few small in
+    omega (arith, ap length is, length-append (decimal n) (drop end old), length-drop at new, length-drop end old, long)
 
 -- a signed number that was copied is the number
 pub copied : (z : ℤ) → FitsSigned w32 z → to_z w32 (of_z w32 z) ≡ z
@@ -74,9 +82,16 @@ signed_above (pos n) k h fits is = ap decimal (is ∙ ap unsigned_abs (copied (p
 signed_above (negsuc n) k h fits is = absurd (omega (arith, signed))
 
 -- the text of a number below 0: its sign, and its size
-pub signed_below : (z : ℤ) (n at : ℕ) (buffer : List ℕ) → z <ℤ pos 0 → FitsSigned w32 z → n ≡ unsigned_abs (to_z w32 (of_z w32 z))
-    → 0 < at → at ≤ length buffer → drop at buffer ≡ decimal n → drop (at - 1) (set buffer (at - 1) 45) ≡ signed_decimal z
-signed_below (pos n) k at buffer h fits size some within is = absurd (omega (arith, signed))
-signed_below (negsuc n) k at buffer h fits size some within is =
+pub signed_below : (z : ℤ) (n at : ℕ) (buffer rest : List ℕ) → z <ℤ pos 0 → FitsSigned w32 z
+    → n ≡ unsigned_abs (to_z w32 (of_z w32 z)) → 0 < at → at ≤ length buffer → drop at buffer ≡ decimal n ++ rest
+    → drop (at - 1) (set buffer (at - 1) 45) ≡ signed_decimal z ++ rest
+signed_below (pos n) k at buffer rest h fits size some within is = absurd (omega (arith, signed))
+signed_below (negsuc n) k at buffer rest h fits size some within is =
     put_here buffer at 45 some within
-    ∙ ap (λ (d : List ℕ). 45 ∷ d) (is ∙ ap decimal (size ∙ ap unsigned_abs (copied (negsuc n) fits)))
+    ∙ ap (λ (d : List ℕ). 45 ∷ d) (is ∙ ap (λ (m : ℕ). decimal m ++ rest) (size ∙ ap unsigned_abs (copied (negsuc n) fits)))
+
+-- the text of a signed number that was copied, before another
+pub copied_before : (rest : List ℕ) {t : List ℕ} {z v : ℤ} → FitsSigned w32 z
+    → t ≡ signed_decimal (to_z w32 (of_z w32 z)) ++ rest → z ≡ v
+    → t ≡ signed_decimal v ++ rest
+copied_before rest {t} {z} {v} fits e is = e ∙ ap (λ (n : ℤ). signed_decimal n ++ rest) (copied z fits ∙ is)

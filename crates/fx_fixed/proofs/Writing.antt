@@ -1,11 +1,13 @@
 -- Pieces on their way to a sink.
 -- Serves `put_all`, `TextWriter::add`, and all that add pieces in turn.
-use Rattle.std.proofs.Common.{refl, [], ◌∷◌, zero, suc, drop, get_or, ◌≡◌, ℕ, ◌+◌, ◌-◌, ◌<◌, ◌≤◌, ◌++◌, List, length, take}
-use Rattle.std.proofs.Common.{length-drop, sym, ap, ◌∙◌, arith, subst, append_assoc, append-nil, Option}
+use Rattle.std.proofs.Common.{refl, [], ◌∷◌, zero, suc, drop, get_or, ◌≡◌, ℕ, ◌+◌, ◌-◌, ◌*◌, ◌<◌, ◌≤◌, ◌++◌, List, length, take}
+use Rattle.std.proofs.Common.{length-drop, sym, ap, ◌∙◌, arith, subst, append_assoc, append-nil, length-append, All, Option}
 use Rattle.std.specs.List.{flat_map}
 use Rattle.std.specs.Io.KnownBytes.{Appends}
 use Rattle.std.proofs.KnownBytes.{Appends-trans}
+use Rattle.std.proofs.Math.Nat.{suc-mul}
 use Rattle.std.proofs.Math.Seq.{take-add}
+use Rattle.std.proofs.lemmas.List.Elements.{All-head, All-tail}
 use Rattle.std.proofs.lemmas.List.{take_rest}
 
 -- ---- inside one piece
@@ -49,3 +51,12 @@ parts_more {X} f xs i d h =
     by (x ∷ xs) zero h = sym (append-nil (f x))
     by (x ∷ xs) (suc i) h =
         append_assoc (f x) (flat_map f (take i xs)) (f (get_or xs i d)) ∙ ap (λ t. f x ++ t) (by xs i (omega arith))
+
+-- lines that each have at most m bytes
+pub lines_long : {X : Type 0} (f : X → List ℕ) (P : X → Type 0) (m : ℕ) → ((x : X) → P x → length (f x) ≤ m) → (xs : List X)
+    → All P xs → length (flat_map f xs) ≤ length xs * m
+lines_long f P m line [] all = omega arith
+lines_long f P m line (x ∷ xs) all =
+    let first = line x (All-head P x xs all) in
+    let rest = lines_long f P m line xs (All-tail P x xs all) in
+    omega (arith, length-append (f x) (flat_map f xs), suc-mul (length xs) m, first, rest)

@@ -1,10 +1,11 @@
 //! Fixed-point numbers of the TrueType rasterizer, and the sinks and sources of bytes that all crates above use.
 //!
 //! 26.6 counts 1/64 pixel, 2.14 counts 1/16384. Exact quotients are rounded by `near` or cut by `cut`, sums are taken
-//! modulo 2^32 by `w32`, and `unit` gives a direction's unit vector. `Digits` are numbers as text. Nothing here takes memory but
-//! the sinks and sources for tests.
+//! modulo 2^32 by `w32`, and `unit` gives a direction's unit vector. `Digits` are numbers as text, `Backward` is a short text
+//! with numbers in it. Nothing here takes memory but the sinks and sources for tests.
 #![tactic(auto)]
 
+mod backward;
 mod digits;
 mod memory;
 mod numbers;
@@ -17,6 +18,7 @@ mod source;
 mod text;
 mod vectors;
 
+pub use backward::Backward;
 pub use digits::{Digits, hex_digit};
 pub use memory::{Limits, MemorySink, MemorySource};
 pub use numbers::{
@@ -26,7 +28,7 @@ pub use places::{Axis, Place};
 pub use quotients::near_quotient;
 pub use sink::{Sink, ToSink, WriteFailed, put_all};
 pub use sizes::{MAX_PPEM, Ppem};
-pub use slices::{after, before, part};
+pub use slices::{after, before, part, put_over};
 pub use source::{FromReader, Source};
 pub use text::{Fill, TextWriter};
 pub use vectors::{unit, unit_laws};

@@ -1,6 +1,6 @@
 //! Parts of a slice of bytes.
 
-ghost use Rattle.std.specs.Prelude.{◌≡◌, ◌≤◌, length, take, drop};
+ghost use Rattle.std.specs.Prelude.{◌≡◌, ◌+◌, ◌++◌, ◌≤◌, length, take, drop};
 
 /// The bytes after the first `count`.
 pub fn after(bytes: &[u8], count: usize) -> &[u8]
@@ -28,4 +28,14 @@ pub fn part(bytes: &[u8], at: usize, len: usize) -> &[u8]
     }
     let tail = &bytes[at..];
     if len < tail.len() { &tail[..len] } else { tail }
+}
+
+/// Writes a piece over the bytes from `start` on.
+#[inline]
+pub fn put_over(bytes: &mut [u8], start: usize, piece: &[u8])
+    requires { start + length piece.now ≤ length bytes.old }
+    ensures { bytes.new ≡ take start bytes.old ++ (piece.now ++ drop (start + length piece.now) bytes.old) }
+{
+    let over = &mut bytes[start..start + piece.len()];
+    over.copy_from_slice(piece);
 }

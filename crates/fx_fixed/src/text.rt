@@ -1,11 +1,12 @@
 //! Texts on their way to a sink.
 
-ghost use Rattle.std.specs.Prelude.{◌≡◌, ◌+◌, ◌++◌, ◌<◌, ◌≤◌, ◌^◌, ℕ, List, [], take, drop, length, OnOk};
+ghost use Rattle.std.specs.Prelude.{◌≡◌, ◌+◌, ◌++◌, ◌<◌, ◌≤◌, ◌^◌, ℕ, List, [], take, length, OnOk};
 ghost use Rattle.std.specs.List.{flat_map};
 ghost use Rattle.fx_fixed.specs.declared.text.TheConstants.{CAPACITY};
 ghost use Rattle.fx_fixed.specs.Texts.{Adds, Fails, begun, with_more};
 
 use crate::sink::{Sink, WriteFailed, put_all};
+use crate::slices::put_over;
 use std::marker::Model;
 
 /// How many bytes wait at most. The buffer is filled with zeros once a text: below 2,048 bytes that takes a C library some dozens
@@ -55,15 +56,6 @@ pub trait Fill {
         ensures within { result ≤ length bytes.new }
         ensures text { take result bytes.new ≡ take start bytes.old ++ added self.old self.new }
         ensures filled { Fills self.old self.new };
-}
-
-/// Writes `part` over the bytes from `start` on.
-fn put_over(bytes: &mut [u8], start: usize, part: &[u8])
-    requires { start + length part.now ≤ length bytes.old }
-    ensures { bytes.new ≡ take start bytes.old ++ (part.now ++ drop (start + length part.now) bytes.old) }
-{
-    let over = &mut bytes[start..start + part.len()];
-    over.copy_from_slice(part);
 }
 
 impl<'w, W: Sink> TextWriter<'w, W> {

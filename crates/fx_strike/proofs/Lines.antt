@@ -28,7 +28,7 @@ use Rattle.fx_fixed.specs.Changes.{Change}
 use Rattle.fx_strike.specs.Strike.{Sketch, Setting, Plan, IsGlyphOf, AreGlyphsOf, glyph_sketch_of, sketch_of, is_missing}
 use Rattle.fx_strike.specs.Strike.{sketches_of, plan_with, strike_text}
 use Rattle.fx_strike.specs.Headline.{Surveyed, Leaves, surveyed_header}
-use Rattle.fx_strike.specs.inner.Writing.{AreLinesBy, AreLinesOf, AreAllLinesOf, IsShort, Stops, WritesBy, Writes}
+use Rattle.fx_strike.specs.inner.Writing.{AreLinesBy, AreLinesOf, AreAllLinesOf, IsShort, Stops, WritesBy, Writes, longest_text}
 use Rattle.fx_strike.proofs.OnePart.{glyph_is_one, planned}
 use Rattle.fx_strike.proofs.Seeing.{missing_is, not_zero, same_sketch}
 
@@ -102,16 +102,16 @@ writes_by sink old faults now text m (Err d) h empty short low = absurd h.outcom
 pub writes_closed : {sink : GName} {old new : Option (List ℕ)} {faults_before faults : ℕ} {was now : TextView} {text : List ℕ}
     {r : Result (Unit {0}) Refusal}
     → was ≡ begun sink old faults_before → Adds Stops was now text r → OnOk r (now.waiting ≡ [])
-    → IsShort (length_of was + 2 ^ 50) now r → new ≡ now.held → faults ≡ now.faults
+    → IsShort (length_of was + longest_text) now r → new ≡ now.held → faults ≡ now.faults
     → Writes (record { bytes_before = old; bytes = new; faults_before = faults_before; faults = faults }) text r
 writes_closed {sink} {old} {new} {faults_before} {faults} {was} {now} {text} {r} e h empty short held count =
     let P : TextView → Type 0 = λ v. Adds Stops v now text r in
-    let S : TextView → Type 0 = λ v. IsShort (length_of v + 2 ^ 50) now r in
+    let S : TextView → Type 0 = λ v. IsShort (length_of v + longest_text) now r in
     let Q : Option (List ℕ) → ℕ → Type 0
     = λ bytes n. Writes (record { bytes_before = old; bytes = bytes; faults_before = faults_before; faults = n }) text r in
     let here : Q now.held now.faults = record {
-      outcome = writes_by sink old faults_before now text (length_of (begun sink old faults_before) + 2 ^ 50) r (subst P e h) empty
-          (subst S e short) (omega arith);
+      outcome = writes_by sink old faults_before now text (length_of (begun sink old faults_before) + longest_text) r
+          (subst P e h) empty (subst S e short) (omega arith);
     } in
     let there : Q new now.faults =
     (let R : Option (List ℕ) → Type 0 = λ bytes. Q bytes now.faults in subst R (sym held) here) in

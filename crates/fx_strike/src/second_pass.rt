@@ -3,11 +3,11 @@ ghost use Rattle.std.specs.Prelude.{◌≡◌, ◌≤◌, ◌<◌, ◌^◌, ◌+
 ghost use Rattle.std.specs.List.{list_any};
 ghost use Rattle.fx_fixed.specs.Texts.{Adds, length_of};
 ghost use Rattle.fx_cmap.specs.Lookup.{glyph_for};
-ghost use Rattle.fx_bdf.specs.Text.{IsName, header_text, end_text};
+ghost use Rattle.fx_bdf.specs.Text.{IsName, header_text, end_text, longest_glyph};
 ghost use Rattle.fx_request.specs.Limits.{max_characters, max_code};
 ghost use Rattle.fx_fixed.specs.Changes.{change_of};
 ghost use Rattle.fx_strike.specs.Strike.{setting_with};
-ghost use Rattle.fx_strike.specs.inner.Writing.{AreLinesOf, AreAllLinesOf, IsShort, Stops, Writes};
+ghost use Rattle.fx_strike.specs.inner.Writing.{AreLinesOf, AreAllLinesOf, IsShort, Stops, Writes, longest_glyphs, longest_text};
 
 use crate::draft::Draft;
 use crate::hinter::FontHinter;
@@ -32,7 +32,7 @@ impl<'a, S: Scan> Tools<'a, S> {
         ensures kept { hinter.new ≡ hinter.old }
         ensures same { text.new.sink ≡ text.old.sink }
         ensures quiet { OnOk result (text.new.faults ≡ text.old.faults) }
-        ensures short { IsShort (length_of text.old + 2 ^ 33) text.new result }
+        ensures short { IsShort (length_of text.old + longest_glyph) text.new result }
         ensures lines { (lines : List ℕ) → AreLinesOf (setting_with self.now.opened hinter.old) code lines
             → Adds Stops text.old text.new lines result }
     {
@@ -57,7 +57,7 @@ impl<'a, S: Scan> Tools<'a, S> {
         ensures kept { hinter.new ≡ hinter.old }
         ensures same { text.new.sink ≡ text.old.sink }
         ensures quiet { OnOk result (text.new.faults ≡ text.old.faults) }
-        ensures short { IsShort (length_of text.old + 2 ^ 49) text.new result }
+        ensures short { IsShort (length_of text.old + longest_glyphs) text.new result }
         ensures lines { (lines : List ℕ) → AreAllLinesOf (setting_with self.now.opened hinter.old) codes.now lines
             → Adds Stops text.old text.new lines result }
     {
@@ -84,7 +84,7 @@ impl<'a, S: Scan> Tools<'a, S> {
         ensures kept { hinter.new ≡ hinter.old }
         ensures same { text.new.sink ≡ text.old.sink }
         ensures ended { OnOk result (text.new.waiting ≡ []) }
-        ensures short { IsShort (length_of text.old + 2 ^ 50) text.new result }
+        ensures short { IsShort (length_of text.old + longest_text) text.new result }
         ensures lines { (lines : List ℕ) → AreAllLinesOf (setting_with self.now.opened hinter.old) draft.now.codes.now lines
             → Adds Stops text.old text.new (header_text draft.now.name.now draft.now.header ++ (lines ++ end_text)) result }
     {

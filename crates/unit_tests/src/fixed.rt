@@ -1,7 +1,7 @@
 //! Rounding, directions, numbers as text, sinks and sources.
 use fx_fixed::{
-    Digits, F2, FromReader, Limits, MemorySink, MemorySource, Sink, Source, ToSink, WriteFailed,
-    cut, near, near_64, near_16384, put_all, unit, w32,
+    Backward, Digits, F2, FromReader, Limits, MemorySink, MemorySource, Sink, Source, ToSink,
+    WriteFailed, cut, near, near_64, near_16384, put_all, put_over, unit, w32,
 };
 use std::io;
 use std::io::{Read, Write};
@@ -65,6 +65,43 @@ fn numbers_as_text(rt: HostRuntime) {
     assert!(rt; reads(&Digits::hexadecimal(0x2B, 4), b"002B"));
     assert!(rt; reads(&Digits::hexadecimal(0x1F600, 4), b"1F600"));
     assert!(rt; reads(&Digits::hexadecimal(u64::MAX, 4), b"FFFFFFFFFFFFFFFF"));
+}
+
+/// Whether this is the text that was put together.
+fn holds(text: &Backward, want: &[u8]) -> bool {
+    text.text() == want
+}
+
+/// Whether parts that are put from the last to the first are their text.
+fn is_put_together() -> bool {
+    let mut text = Backward::new();
+    let empty = holds(&text, b"");
+    text.put_signed(i32::MIN, b"\n");
+    text.put_signed(7, b" ");
+    text.put_unsigned(u64::MAX, b" ");
+    text.put_unsigned(0, b"");
+    text.put_hexadecimal(0x2B, 4, b" ");
+    text.put_hexadecimal(0x10FFFF, 4, b"");
+    text.put(b"U+");
+    empty && holds(&text, b"U+10FFFF002B 018446744073709551615 7 -2147483648\n")
+}
+
+#[test]
+fn a_text_from_its_end(rt: HostRuntime) {
+    assert!(rt; is_put_together());
+}
+
+/// Whether a piece is written over the bytes from an offset on, and no other.
+fn writes_over() -> bool {
+    let mut bytes = *b"abcdef";
+    put_over(&mut bytes, 2, b"XY");
+    put_over(&mut bytes, 6, b"");
+    bytes == *b"abXYef"
+}
+
+#[test]
+fn a_piece_over_others(rt: HostRuntime) {
+    assert!(rt; writes_over());
 }
 
 /// Sends 13 bytes in one piece; returns how it went and the faults.

@@ -1,9 +1,10 @@
 -- What is written of a strike.
-use Rattle.std.specs.Prelude.{◌≡◌, ℕ, ◌+◌, ◌<◌, ◌≤◌, Bool, true, false, List, [], ◌∷◌, ◌++◌, length, take, Result, Ok, Err}
+use Rattle.std.specs.Prelude.{◌≡◌, ℕ, ◌+◌, ◌*◌, ◌<◌, ◌≤◌, Bool, true, false, List, [], ◌∷◌, ◌++◌, length, take, Result, Ok, Err}
 use Rattle.std.specs.Io.KnownBytes.{Appends}
 use Rattle.fx_fixed.specs.Texts.{TextView, length_of}
 use Rattle.fx_bdf.specs.Glyphs.{Glyph}
-use Rattle.fx_bdf.specs.Text.{glyph_text}
+use Rattle.fx_bdf.specs.Text.{glyph_text, end_text, longest_header, longest_glyph}
+use Rattle.fx_request.specs.Limits.{max_characters}
 use Rattle.fx_request.specs.declared.refusal.Refusal.{Refusal}
 use Rattle.fx_request.specs.declared.refusal.Refusal.TheVariants.{WriteFailed, OutOfMemory}
 use Rattle.fx_fixed.specs.Changes.{Change}
@@ -34,6 +35,14 @@ abbrev pub Stops : Refusal → ℕ → ℕ → ℕ → Type 0
 Stops OutOfMemory n faults_before faults = faults ≡ faults_before
 Stops (WriteFailed m) n faults_before faults = (m ≡ n) × (faults ≡ faults_before + 1)
 Stops _ n faults_before faults = ⊥
+
+-- how many bytes the lines of all glyphs have at most
+abbrev pub longest_glyphs : ℕ
+longest_glyphs = max_characters * longest_glyph
+
+-- and how many the text of a strike
+abbrev pub longest_text : ℕ
+longest_text = longest_header + (longest_glyphs + length end_text)
 
 -- the text has at most m bytes then, or a fault of the writer tells at most m
 abbrev pub IsShort : ℕ → TextView → Result (Unit {0}) Refusal → Type 0

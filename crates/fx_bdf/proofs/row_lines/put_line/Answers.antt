@@ -9,8 +9,8 @@ pub returns-clause-text : goal.returns-clause-text
 returns-clause-text c =
     let words = c.in_ok-words.words.now in
     let few = c.in_ok-words.ensures.count in
-    line_added c.args.start c.digits.result (8 * length words) c.args.bytes.now c.put_words.new.bytes c.put.new.bytes
+    line_added c.args.start c.digits.result (8 * length words) c.args.bytes.now c.put_words.new.bytes c.put_over.new.bytes
     (flat_map word_text words) _ c.requires (omega (arith, few, c.digits.ensures)) (omega (arith, c.put_words.ensures.long))
-    c.put_words.ensures.text c.put.ensures
+    c.put_words.ensures.text c.put_over.ensures
     ∙ ap (λ (t : List ℕ). take c.args.start c.args.bytes.now ++ (t ++ 10 ∷ []))
     (digits_whole c.args.row.now words c.digits.result c.in_ok-words.ensures c.digits.ensures)

@@ -1,7 +1,8 @@
-use Rattle.std.proofs.Common.{◌+◌, ◌^◌, arith}
+use Rattle.std.proofs.Common.{◌+◌, arith}
 use Rattle.std.proofs.lemmas.Result.{err_from_is_err_and}
 use Rattle.fx_fixed.specs.Texts.{length_of}
 use Rattle.fx_fixed.proofs.Texts.{adds_ended, adds_out, adds_short}
+use Rattle.fx_cli.specs.Pictures.{longest_picture}
 use Rattle.fx_cli.proofs.picture.add_shown.Goals as goal
 
 pub returns-clause-text : goal.returns-clause-text
@@ -9,11 +10,11 @@ returns-clause-text g c = adds_ended c.in_ok-add_glyph.ensures.text c.end.ensure
 
 pub returns-clause-short : goal.returns-clause-short
 returns-clause-short g c =
-    adds_short (length_of c.args.text.now + 2 ^ 27) (adds_ended c.in_ok-add_glyph.ensures.text c.end.ensures.adds)
+    adds_short (length_of c.args.text.now + longest_picture) (adds_ended c.in_ok-add_glyph.ensures.text c.end.ensures.adds)
     (omega (arith, c.add_glyph.ensures.short))
 
 pub returns-in_err-add_glyph-clause-short : goal.returns-in_err-add_glyph-clause-short
 returns-in_err-add_glyph-clause-short g c =
     let p = err_from_is_err_and c.from_residual.result c.from_residual.ensures.1 in
-    adds_short (length_of c.args.text.now + 2 ^ 27) (adds_out c.in_err-add_glyph.ensures.text p.1 p.2)
+    adds_short (length_of c.args.text.now + longest_picture) (adds_out c.in_err-add_glyph.ensures.text p.1 p.2)
     (omega (arith, c.add_glyph.ensures.short))
