@@ -3,9 +3,9 @@
 use Rattle.std.proofs.Common.{◌≡◌, refl, sym, ap, ◌∙◌, subst, arith, ℕ, zero, suc, ◌+◌, ◌*◌, ◌<◌, ◌≤◌, Bool, true, false}
 use Rattle.std.proofs.Common.{List, [], ◌∷◌, ◌++◌, length, take, drop, get_or, length-append, append_assoc, add-zero, zero-add}
 use Rattle.std.proofs.Common.{Option, Some, None, Result, Ok, Err, All}
-use Rattle.std.specs.Prelude.{is_some, is_none, nat_lt, ◌||◌, IfOk, IfErr, if◌then◌else◌}
+use Rattle.std.specs.Prelude.{is_some, is_none, nat_lt, nat_le, ◌||◌, IfOk, IfErr, if◌then◌else◌}
 use Rattle.std.specs.List.{flat_map, count_by, list_any, range_with_len}
-use Rattle.std.proofs.lemmas.List.{append-nil, length-map, drop_more, drop_all}
+use Rattle.std.proofs.lemmas.List.{append-nil, length-map, length-take-le, take_all, drop_more, drop_all}
 use Rattle.std.proofs.lemmas.List.Elements.{All-head, All-tail}
 use Rattle.std.proofs.lemmas.List.FromFn.{length-range_with_len}
 use Rattle.std.proofs.lemmas.List.Concat.{flat_map-append}
@@ -26,13 +26,14 @@ use Rattle.fx_strike.specs.Headline.{IsCause, IsOneOf, Late, character_with}
 use Rattle.fx_strike.proofs.Making.{fails_cause}
 use Rattle.fx_strike.proofs.Seeing.{code_fits}
 use Rattle.fx_strike.proofs.Sketching.{fails_on}
+use Rattle.mkstrike_c.specs.declared.gathered.Drawn.{Drawn}
 use Rattle.mkstrike_c.specs.declared.gathered.Placed.{Placed}
 use Rattle.mkstrike_c.specs.declared.gathered.Wanted.{Wanted}
 use Rattle.mkstrike_c.specs.declared.gathered.Gathered.{Gathered}
 use Rattle.mkstrike_c.specs.Refused.{IsReason}
 use Rattle.mkstrike_c.specs.Pixels.{row_byte, row_bytes, size_of, stride_of}
-use Rattle.mkstrike_c.specs.Drawn.{AreOnesOf, all_pixels, drawn_of, entries_from, entry_of, many_of, opened_many_of, pixels_of}
-use Rattle.mkstrike_c.specs.inner.Gathering.{AreGathered, Holds, IsGathered, checks, with_one}
+use Rattle.mkstrike_c.specs.Drawn.{AreDrawn, AreOnesOf, HasFront, all_pixels, drawn_of, entries_from, entry_of, many_of, opened_many_of, pixels_of}
+use Rattle.mkstrike_c.specs.inner.Gathering.{AreGathered, Holds, IsGathered, IsTold, checks, with_one}
 use Rattle.mkstrike_c.proofs.Requested.{opening}
 
 -- ---- lists with room
@@ -375,3 +376,48 @@ pub gathered_from : (file : List ℕ) (ppem : ℕ) (chars : List ℕ) (hinting :
 gathered_from file ppem chars hinting s wanted r h k are =
     let P : Result (List (Option Sketch)) Refusal → Type 0 = λ due. IfOk r (IsGathered wanted due) in
     subst P (sym (many_set file ppem chars hinting s h k)) are
+
+-- ---- what is told
+
+-- what was copied of a list as far as there is room is what fits of the whole
+front_of : {A : Type 0} (whole copied old new : List A) → copied ≡ take (length old) whole → length new ≡ length old
+    → HasFront copied old new → HasFront whole old new
+front_of whole copied old new is same h = by_length (nat_le (length whole) (length old)) refl
+  where
+    by_length : (b : Bool) → nat_le (length whole) (length old) ≡ b → HasFront whole old new
+    by_length true e =
+        let fits : length whole ≤ length old = grind (arith, nat_tests) in
+        let P : List _ → Type 0 = λ c. HasFront c old new in
+        subst P (is ∙ take_all (length old) whole fits) h
+    by_length false e =
+        let long : length old ≤ length whole = grind (arith, nat_tests) in
+        let full : length copied ≡ length old = ap length is ∙ length-take-le (length old) whole long in
+        record {
+          front =
+              take_all (length whole) new (omega (arith, same, long))
+              ∙ sym (take_all (length copied) new (omega (arith, same, full)))
+              ∙ h.front ∙ take_all (length old) copied (omega (arith, full)) ∙ is;
+          rest =
+              drop_all (length whole) new (omega (arith, same, long))
+              ∙ sym (drop_all (length whole) old long);
+        }
+
+pub all_drawn : (wanted : Wanted) (due : Result (List (Option Sketch)) Refusal) (found : Result Gathered Refusal)
+    (old_entries new_entries : List Placed) (old new : List ℕ) (drawn : Drawn) (result : ℕ)
+    → wanted.entries ≡ length old_entries → wanted.pixels ≡ length old → length new_entries ≡ length old_entries
+    → length new ≡ length old → IfOk found (IsGathered wanted due)
+    → IfOk found (λ g. IsTold g old_entries new_entries old new drawn result) → IfErr found (λ r. 10 ≤ result) → result ≡ 0
+    → AreDrawn wanted.packed due old_entries new_entries old new drawn
+all_drawn wanted due (Ok g) old_entries new_entries old new drawn result p q same_entries same h told least done = record {
+  sketches = h.sketches;
+  made = h.made;
+  are = h.are;
+  ones = h.ones;
+  entries = front_of (entries_from wanted.packed 0 h.made) g.entries.items old_entries new_entries
+      (h.holds.entries ∙ ap (λ (n : ℕ). take n (entries_from wanted.packed 0 h.made)) p) same_entries told.entries;
+  pixels = front_of (all_pixels wanted.packed h.made) g.pixels.items old new
+      (h.holds.pixels ∙ ap (λ (n : ℕ). take n (all_pixels wanted.packed h.made)) q) same told.pixels;
+  drawn_is = told.drawn_is ∙ h.holds.drawn;
+}
+all_drawn wanted due (Err r) old_entries new_entries old new drawn result p q same_entries same h told least done =
+    absurd (omega (arith, least, done))

@@ -1,12 +1,12 @@
 //! Many characters for C.
 ghost use Rattle.std.specs.Prelude.{◌≡◌, ◌<◌, ◌≤◌, [], Ok, IfOk, IfErr, length};
-ghost use Rattle.fx_request.specs.Limits.{max_characters};
 ghost use Rattle.fx_fixed.specs.Chain.{map_chain};
+ghost use Rattle.fx_request.specs.Refusals.{number_of};
 ghost use Rattle.fx_strike.specs.Faults.{Fails};
 ghost use Rattle.fx_strike.specs.Strike.{checked_chars, one_with};
 ghost use Rattle.mkstrike_c.specs.Drawn.{AreDrawn, many_of, opened_many_of};
-ghost use Rattle.mkstrike_c.specs.Refused.{IsReason, IsRefused};
-ghost use Rattle.mkstrike_c.specs.inner.Gathering.{AreCounted, AreGathered, Holds, IsGathered};
+ghost use Rattle.mkstrike_c.specs.Refused.{IsReason, IsRefused, refused_of};
+ghost use Rattle.mkstrike_c.specs.inner.Gathering.{AreCounted, AreGathered, Holds, IsGathered, IsTold};
 
 use crate::asked::check;
 use crate::buffer::put_front;
@@ -56,6 +56,31 @@ fn gathered_of(
     gather(&mut striker, chars, none)
 }
 
+/// Copies what was gathered to the front of the caller's buffers, or tells why there is nothing.
+fn tell(
+    found: Result<Gathered, Refusal>,
+    glyphs: &mut [Placed],
+    pixels: &mut [u8],
+    drawn: &mut Drawn,
+    refused: &mut Refused,
+) -> u32
+    ensures found { IfOk found (λ g. IsTold g glyphs.old glyphs.new pixels.old pixels.new drawn.new result) }
+    ensures silent { IfOk found (λ g. refused.new ≡ refused.old) }
+    ensures refused { IfErr found (λ r. (result ≡ number_of r) × (refused.new ≡ refused_of r)) }
+    ensures least { IfErr found (λ r. 10 ≤ result) }
+    ensures kept { IfErr found (λ r. (glyphs.new ≡ glyphs.old) × (pixels.new ≡ pixels.old) × (drawn.new ≡ drawn.old)) }
+{
+    match found {
+        Ok(gathered) => {
+            put_front(glyphs, gathered.entries());
+            put_front(pixels, gathered.pixels());
+            *drawn = gathered.drawn();
+            0
+        }
+        Err(refusal) => refuse(refusal, refused),
+    }
+}
+
 /// Makes the glyphs of characters of a font, in the order given; repeats are made again. Copies as many entries and as many bytes
 /// of pixels as fit to the front of `glyphs` and `pixels`, and tells of all. The pixels of a glyph are as `mkstrike_glyph` puts
 /// them, those of one glyph after those of the one before. Returns 0; or the number of a refusal, whose fields it puts into
@@ -88,13 +113,6 @@ pub extern "C" fn mkstrike_glyphs(
         entries: glyphs.len(),
         pixels: pixels.len(),
     };
-    match gathered_of(alloc, font, ppem, hinting, chars, wanted) {
-        Ok(gathered) => {
-            put_front(glyphs, gathered.entries());
-            put_front(pixels, gathered.pixels());
-            *drawn = gathered.drawn();
-            0
-        }
-        Err(refusal) => refuse(refusal, refused),
-    }
+    let found = gathered_of(alloc, font, ppem, hinting, chars, wanted);
+    tell(found, glyphs, pixels, drawn, refused)
 }

@@ -7,9 +7,10 @@ use Rattle.fx_request.specs.declared.refusal.Refusal.{Refusal}
 use Rattle.fx_request.specs.declared.refusal.Refusal.TheVariants.{BadSize}
 use Rattle.fx_strike.specs.Strike.{Sketch, Setting, checked_chars, one_with}
 use Rattle.mkstrike_c.specs.declared.gathered.Drawn.{Drawn}
+use Rattle.mkstrike_c.specs.declared.gathered.Placed.{Placed}
 use Rattle.mkstrike_c.specs.declared.gathered.Wanted.{Wanted}
 use Rattle.mkstrike_c.specs.declared.gathered.Gathered.{Gathered}
-use Rattle.mkstrike_c.specs.Drawn.{AreOnesOf, all_pixels, drawn_of, entries_from, pixels_of}
+use Rattle.mkstrike_c.specs.Drawn.{AreOnesOf, HasFront, all_pixels, drawn_of, entries_from, pixels_of}
 
 -- the checks before a font is opened: the size is valid, and the characters are within their limits
 abbrev pub checks : ℕ → List ℕ → Result (Unit {0}) Refusal
@@ -48,3 +49,11 @@ pub record IsGathered (wanted : Wanted) (due : Result (List (Option Sketch)) Ref
 -- the characters of code points were made
 abbrev pub AreGathered : Setting → List ℕ → Wanted → Gathered → Type 0
 AreGathered setting codes wanted g = IsGathered wanted (map_chain (one_with setting) codes) g
+
+-- what was gathered was copied and told
+pub record IsTold (g : Gathered) (old_entries new_entries : List Placed) (old new : List ℕ) (drawn : Drawn) (result : ℕ) : Type 0
+  where
+    pub done : result ≡ 0
+    pub entries : HasFront g.entries.items old_entries new_entries
+    pub pixels : HasFront g.pixels.items old new
+    pub drawn_is : drawn ≡ g.drawn
