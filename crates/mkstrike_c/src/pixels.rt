@@ -31,6 +31,7 @@ fn bit(glyph: &BitGlyph, i: u32, j: u32) -> u8
 }
 
 /// Four pixels of a row from one on, the leftmost the highest bit.
+#[inline(always)]
 fn four(glyph: &BitGlyph, i: u32, j: u32) -> u8
     requires { j < 2 ^ 31 }
     ensures value { result ≡ text.four_pixels (slice_index_or glyph.now.rows i []) j }
@@ -95,6 +96,9 @@ fn put_rows(glyph: &BitGlyph, packed: bool, pixels: &mut [u8])
 }
 
 /// Puts the bytes of a glyph's pixels over as many bytes, row by row from the top.
+///
+/// It is compiled into its callers: there the glyph is a value of their own, which the loops need not read again at each byte.
+#[inline(always)]
 pub fn put_pixels(glyph: &BitGlyph, packed: bool, pixels: &mut [u8])
     requires { length pixels.old ≡ size_of packed glyph.now }
     ensures { pixels.new ≡ flat_map (row_bytes packed) glyph.now.rows }
