@@ -38,7 +38,7 @@ extern "C" {
 /* What a call returns. */
 enum {
     MKSTRIKE_DONE = 0,
-    MKSTRIKE_MISSING = 1, /* mkstrike_glyph: the font does not have the character */
+    MKSTRIKE_MISSING = 1, /* mkstrike_glyph, and the entries of mkstrike_glyphs: the font does not have the character */
 
     /* the font */
     MKSTRIKE_NOT_TRUE_TYPE = 10,
@@ -127,9 +127,34 @@ struct mkstrike_glyph {
  * byte, and a row takes whole bytes, the last filled up with 0. With `hinting` off no program of the font runs.
  *
  * Returns MKSTRIKE_MISSING and writes nothing if the font does not have the character. A call opens the font and, with hinting on, runs
- * its `fpgm` and `prep` again: for many characters at once there is mkstrike_make. */
+ * its `fpgm` and `prep` again: for many characters at once there is mkstrike_glyphs. */
 uint32_t mkstrike_glyph(const uint8_t *font, size_t font_len, uint16_t ppem, bool hinting, uint32_t code, bool packed, uint8_t *pixels,
     size_t pixels_len, struct mkstrike_glyph *glyph, struct mkstrike_refused *refused);
+
+/* One of many characters. */
+struct mkstrike_placed {
+    struct mkstrike_glyph glyph; /* its numbers; all are 0 if the font does not have the character */
+    uint32_t status;             /* MKSTRIKE_DONE, or MKSTRIKE_MISSING */
+    size_t offset;               /* of its first byte in the pixels of all */
+};
+
+/* What is told of many characters. */
+struct mkstrike_drawn {
+    size_t bytes;     /* of the pixels of all, also of those that did not fit */
+    uint32_t glyphs;  /* characters that the font has, repeats included */
+    uint32_t missing; /* characters that the font does not have, repeats included */
+};
+
+/* Makes the glyphs of characters at a size of 1 to 1,024, with the font opened once: as many calls of mkstrike_glyph would give the same.
+ * `chars` are at most 65,536 code points, which are made in the order given, repeats again. There is an entry for each character; the
+ * pixels of all lie one glyph after the other in that order. As many entries as fit go to the front of `glyphs`, and as many bytes of
+ * pixels as fit to the front of `pixels`; what lies after them stays as it was. So the pixels of an entry are whole if its offset and its
+ * stride * height together are at most `pixels_len`; and a call with no room for either asks for `drawn->bytes`.
+ *
+ * It is refused if one of the characters is; the refusal is that of the first such in the order given. */
+uint32_t mkstrike_glyphs(const uint8_t *font, size_t font_len, uint16_t ppem, bool hinting, const uint32_t *chars, size_t chars_len,
+    bool packed, struct mkstrike_placed *glyphs, size_t glyphs_len, uint8_t *pixels, size_t pixels_len, struct mkstrike_drawn *drawn,
+    struct mkstrike_refused *refused);
 
 /* What is told of a strike. */
 struct mkstrike_told {

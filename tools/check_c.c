@@ -3,6 +3,9 @@
  *     check_c strike FONT PPEM HINTING FIRST LAST   a strike, as `mkstrike make` writes it, with its line and its status; asked for with
  *                                                   no room, with room enough, and with a byte too few
  *     check_c glyphs FONT PPEM HINTING FIRST LAST   each of these characters alone, packed and not, against their strike
+ *     check_c many FONT PPEM HINTING FIRST LAST     these characters in one call, in another order and some of them twice: each against
+ *                                                   mkstrike_glyph and against their strike, or the refusal of the first that has none
+ *     check_c requests FONT                         requests of many characters that are refused before the font is opened
  *     check_c refuse FONT                           each request for memory refused in turn
  *     check_c threads FONT                          eight threads at once
  *     check_c stack FONT KIB                        in a thread with a stack of that many KiB
@@ -269,44 +272,249 @@ static int glyphs(const struct request *r) {
     return 0;
 }
 
+/* ---- many characters in one call */
+
+/* What a call of mkstrike_glyphs gave, in buffers of their own sizes. */
+struct many {
+    const uint32_t *chars;
+    size_t len;
+    bool packed;
+    struct mkstrike_placed *glyphs;
+    uint8_t *pixels;
+    struct mkstrike_drawn drawn;
+    struct mkstrike_refused refused;
+};
+
+static uint32_t call_many(const struct request *r, struct many *it, size_t glyphs_len, size_t pixels_len) {
+    return mkstrike_glyphs(r->font, r->font_len, r->ppem, r->hinting, it->chars, it->len, it->packed, it->glyphs, glyphs_len, it->pixels,
+        pixels_len, &it->drawn, &it->refused);
+}
+
+/* With one entry or one byte too few all others are the same, and what lies after the buffer is as it was. */
+static void cut_many(const struct request *r, const struct many *whole) {
+    struct many it = *whole;
+    size_t glyphs = it.len * sizeof *it.glyphs, one = sizeof *it.glyphs;
+    if (it.len == 0 || it.drawn.bytes == 0) return;
+    it.glyphs = (struct mkstrike_placed *)bytes(glyphs);
+    it.pixels = (uint8_t *)bytes(it.drawn.bytes);
+    memset(it.glyphs, 7, glyphs);
+    memset(it.pixels, 7, it.drawn.bytes);
+    if (call_many(r, &it, it.len - 1, it.drawn.bytes - 1) != 0) stop("no glyphs in too small buffers");
+    if (memcmp(&it.drawn, &whole->drawn, sizeof it.drawn) != 0) stop("other counts in too small buffers");
+    if (memcmp(it.glyphs, whole->glyphs, glyphs - one) != 0) stop("other entries in too small a buffer");
+    if (memcmp(it.pixels, whole->pixels, it.drawn.bytes - 1) != 0) stop("other pixels in too small a buffer");
+    if (((uint8_t *)it.glyphs)[glyphs - one] != 7 || it.glyphs[it.len - 1].offset != (size_t)UINT64_C(0x0707070707070707))
+        stop("an entry after the buffer was changed");
+    if (it.pixels[it.drawn.bytes - 1] != 7) stop("a byte after the pixels was changed");
+    free(it.glyphs);
+    free(it.pixels);
+}
+
+/* These characters in one call; the status. The sizes are asked for first, with no room. */
+static uint32_t many_of(const struct request *r, struct many *it) {
+    struct mkstrike_placed no_entry;
+    uint8_t no_pixel = 7;
+    uint32_t status;
+    memset(&no_entry, 7, sizeof no_entry);
+    memset(&it->drawn, 7, sizeof it->drawn);
+    it->glyphs = &no_entry;
+    it->pixels = &no_pixel;
+    status = call_many(r, it, 0, 0);
+    if (no_pixel != 7 || no_entry.status != 0x07070707) stop("a buffer without room was changed");
+    if (status != 0) {
+        if (it->drawn.glyphs != 0x07070707 || it->refused.number != status) stop("another refusal of many");
+        it->glyphs = NULL;
+        it->pixels = NULL;
+        return status;
+    }
+    it->glyphs = (struct mkstrike_placed *)bytes(it->len * sizeof no_entry);
+    it->pixels = (uint8_t *)bytes(it->drawn.bytes);
+    if (call_many(r, it, it->len, it->drawn.bytes) != 0) stop("no glyphs the second time");
+    cut_many(r, it);
+    return 0;
+}
+
+/* An entry is what mkstrike_glyph gives. */
+static void same_entry(const struct request *r, uint32_t code, const struct many *it, const struct mkstrike_placed *entry) {
+    struct mkstrike_glyph g, none = {0, 0, 0, 0, 0, 0, 0};
+    static uint8_t pixels[1 << 20];
+    uint32_t status = one(r, code, it->packed, pixels, sizeof pixels, &g);
+    if (status > 1 || status != entry->status) stop("another status of one of many");
+    if (memcmp(status == 0 ? &g : &none, &entry->glyph, sizeof g) != 0) stop("other numbers of one of many");
+    if (status == 0 && memcmp(it->pixels + entry->offset, pixels, (size_t)g.stride * g.height) != 0) stop("other pixels of one of many");
+}
+
+/* The entries lie one after the other, and the counts are theirs; each is what mkstrike_glyph gives. Of those that the font lacks only
+ * some are looked at, since each call runs the font's programs. */
+static void same_many(const struct request *r, const struct many *it) {
+    size_t i, at = 0, lacked = 0;
+    for (i = 0; i < it->len; i++) {
+        const struct mkstrike_placed *entry = it->glyphs + i;
+        if (entry->offset != at) stop("pixels at another offset");
+        at += (size_t)entry->glyph.stride * entry->glyph.height;
+        lacked += entry->status == MKSTRIKE_MISSING;
+        if (entry->status == 0 || lacked % 64 == 1) same_entry(r, it->chars[i], it, entry);
+    }
+    if (it->drawn.bytes != at || it->drawn.missing != lacked || it->drawn.glyphs != it->len - lacked) stop("other counts of many");
+}
+
+/* The refusal is that of the first character that mkstrike_glyph refuses. */
+static void same_refusal(const struct request *r, const struct many *it) {
+    struct mkstrike_refused due;
+    struct mkstrike_glyph g;
+    uint8_t none;
+    size_t i;
+    for (i = 0; i < it->len; i++) {
+        if (mkstrike_glyph(r->font, r->font_len, r->ppem, r->hinting, it->chars[i], false, &none, 0, &g, &due) <= 1) continue;
+        if (memcmp(&due, &it->refused, sizeof due) != 0) stop("many refused for another reason");
+        return;
+    }
+    stop("many refused, and each alone is not");
+}
+
+/* In rising order, each once, they are the strike's. */
+static void same_strike(const struct request *r, const struct many *it) {
+    size_t len, at = 0, n, i;
+    uint8_t *text = text_of(r, &len);
+    char *lines = (char *)bytes(len + 300);
+    while (at < len && memcmp(text + at, "STARTCHAR", 9) != 0 && memcmp(text + at, "ENDFONT", 7) != 0) at++;
+    for (i = 0; i < it->len; i++) {
+        const struct mkstrike_placed *entry = it->glyphs + i;
+        if (entry->status != 0) continue;
+        n = lines_of(lines, it->chars[i], &entry->glyph, it->pixels + entry->offset);
+        if (len - at < n || memcmp(text + at, lines, n) != 0) stop("one of many that is not the strike's");
+        at += n;
+    }
+    if (len - at != 8 || memcmp(text + at, "ENDFONT\n", 8) != 0) stop("many: glyphs of the strike are left");
+    free(text);
+    free(lines);
+}
+
+static void free_many(struct many *it) {
+    free(it->glyphs);
+    free(it->pixels);
+}
+
+/* The characters in an order that does not rise, and up to 500 of them again. */
+static uint32_t *shuffled(const struct request *r, size_t *len) {
+    size_t again = r->chars_len < 500 ? r->chars_len : 500, i;
+    uint32_t *chars, random = 41, swap;
+    if (r->chars_len + again > 65536) again = 65536 - r->chars_len;
+    *len = r->chars_len + again;
+    chars = (uint32_t *)bytes(*len * sizeof *chars);
+    for (i = 0; i < *len; i++) chars[i] = r->chars[i % r->chars_len];
+    for (i = *len - 1; i > 0; i--) {
+        size_t j = (random = random * 1664525 + 1013904223) % (i + 1);
+        swap = chars[i];
+        chars[i] = chars[j];
+        chars[j] = swap;
+    }
+    return chars;
+}
+
+static int many(const struct request *r) {
+    struct many it;
+    uint32_t *chars = shuffled(r, &it.len), status;
+    it.chars = chars;
+    it.packed = false;
+    status = many_of(r, &it);
+    if (status != 0) same_refusal(r, &it);
+    else same_many(r, &it);
+    free_many(&it);
+    it.packed = true;
+    if (many_of(r, &it) != status) stop("another status packed");
+    if (status == 0) same_many(r, &it);
+    free_many(&it);
+    it.chars = r->chars;
+    it.len = r->chars_len;
+    if (many_of(r, &it) == 0) same_strike(r, &it);
+    else if (status == 0) stop("another status in another order");
+    printf("%u %lu\n", (unsigned)status, status == 0 ? (unsigned long)it.drawn.glyphs : 0ul);
+    free_many(&it);
+    free(chars);
+    return 0;
+}
+
+/* The size goes before the characters, the characters before the font, and nothing is written. */
+static int requests(struct request *r) {
+    static uint32_t chars[65537];
+    struct many it;
+    size_t font_len = r->font_len;
+    it.chars = chars;
+    it.packed = false;
+    for (it.len = 0; it.len < 65537; it.len++) chars[it.len] = 0x20;
+    if (many_of(r, &it) != MKSTRIKE_BAD_CHARS) stop("too many characters");
+    r->font_len = 0;
+    if (many_of(r, &it) != MKSTRIKE_BAD_CHARS) stop("too many characters, and no font");
+    r->ppem = 0;
+    if (many_of(r, &it) != MKSTRIKE_BAD_SIZE) stop("no size");
+    r->ppem = 16;
+    it.len = 65536;
+    if (many_of(r, &it) != MKSTRIKE_NOT_TRUE_TYPE) stop("no font");
+    r->font_len = font_len;
+    if (many_of(r, &it) != 0 || it.drawn.glyphs != 65536) stop("as many characters as there may be");
+    free_many(&it);
+    chars[65535] = 0x110000;
+    if (many_of(r, &it) != MKSTRIKE_BAD_CHARS) stop("a number that is no character");
+    it.len = 0;
+    if (many_of(r, &it) != 0 || it.drawn.bytes + it.drawn.glyphs + it.drawn.missing != 0) stop("no character");
+    free_many(&it);
+    return 0;
+}
+
 /* ---- memory, threads and the stack */
 
 /* Each request for memory is refused in turn; the call must say so, change nothing and give back what it took. */
-static long refuse_each(const struct request *r, bool alone) {
+static long refuse_each(const struct request *r, char call) {
     struct mkstrike_told told;
     struct mkstrike_refused refused;
     struct mkstrike_glyph g;
+    struct mkstrike_drawn drawn;
+    static struct mkstrike_placed placed[256], placed_before[256];
     static uint8_t out[1 << 20], before[1 << 20];
     long n;
     for (n = 1;; n++) {
         uint32_t status;
         memset(out, 7, sizeof out);
         memset(before, 7, sizeof before);
+        memset(placed, 7, sizeof placed);
+        memset(placed_before, 7, sizeof placed);
         asked = held = 0;
         refused_at = n;
-        status = alone ? mkstrike_glyph(r->font, r->font_len, r->ppem, r->hinting, 'g', true, out, sizeof out, &g, &refused)
-                       : make(r, out, sizeof out, &told, &refused);
+        if (call == 'm')
+            status = make(r, out, sizeof out, &told, &refused);
+        else if (call == 'g')
+            status = mkstrike_glyph(r->font, r->font_len, r->ppem, r->hinting, 'g', true, out, sizeof out, &g, &refused);
+        else
+            status = mkstrike_glyphs(r->font, r->font_len, r->ppem, r->hinting, r->chars, r->chars_len, false, placed, 256, out,
+                sizeof out, &drawn, &refused);
         refused_at = 0;
         if (held != 0) stop("memory was kept");
         if (asked < n && status == 0) return n - 1;
         if (status != MKSTRIKE_OUT_OF_MEMORY || refused.number != status) stop("another answer to refused memory");
-        if (memcmp(out, before, sizeof out) != 0) stop("a refusal changed the buffer");
+        if (memcmp(out, before, sizeof out) != 0 || memcmp(placed, placed_before, sizeof placed) != 0) stop("a refusal changed a buffer");
     }
 }
 
 static struct request shared, second;
 static uint8_t *shared_text;
 static size_t shared_len;
+static struct many shared_many;
 
 static void *work(void *given) {
     uint8_t *mine = (uint8_t *)bytes(shared_len);
     struct mkstrike_told told;
     struct mkstrike_refused refused;
+    struct many glyphs = shared_many;
     int i, rounds = *(int *)given;
     for (i = 0; i < rounds; i++) {
         memset(mine, 0, shared_len);
         if (make(&shared, mine, shared_len, &told, &refused) != 0 || told.bytes != shared_len) stop("no strike in a thread");
         if (memcmp(mine, shared_text, shared_len) != 0) stop("another strike in a thread");
+        if (many_of(&shared, &glyphs) != 0 || glyphs.drawn.bytes != shared_many.drawn.bytes) stop("no glyphs in a thread");
+        if (memcmp(glyphs.glyphs, shared_many.glyphs, glyphs.len * sizeof *glyphs.glyphs) != 0) stop("other entries in a thread");
+        if (memcmp(glyphs.pixels, shared_many.pixels, glyphs.drawn.bytes) != 0) stop("other glyphs in a thread");
+        free_many(&glyphs);
     }
     free(mine);
     return NULL;
@@ -317,6 +525,9 @@ static void run_threads(int count, int rounds, size_t stack) {
     pthread_attr_t attributes;
     int i;
     shared_text = text_of(&shared, &shared_len);
+    shared_many.chars = shared.chars;
+    shared_many.len = shared.chars_len;
+    if (many_of(&shared, &shared_many) != 0) stop("no glyphs before the threads");
     pthread_attr_init(&attributes);
     if (stack != 0 && pthread_attr_setstacksize(&attributes, stack) != 0) stop("no thread with such a stack");
     for (i = 0; i < count; i++)
@@ -342,16 +553,22 @@ static int reasons(void) {
 }
 
 int main(int argc, char **argv) {
-    const char *mode = argc > 1 ? argv[1] : "";
-    if (argc == 7 && (strcmp(mode, "strike") == 0 || strcmp(mode, "glyphs") == 0)) {
+    const char *mode = argc > 1 ? argv[1] : "", *call;
+    long count = 0;
+    if (argc == 7 && (strcmp(mode, "strike") == 0 || strcmp(mode, "glyphs") == 0 || strcmp(mode, "many") == 0)) {
         shared = request_of(argv[2], atoi(argv[3]), atoi(argv[4]) != 0, (uint32_t)strtoul(argv[5], NULL, 16),
             (uint32_t)strtoul(argv[6], NULL, 16));
-        return strcmp(mode, "strike") == 0 ? strike(&shared) : glyphs(&shared);
+        return strcmp(mode, "strike") == 0 ? strike(&shared) : strcmp(mode, "glyphs") == 0 ? glyphs(&shared) : many(&shared);
+    }
+    if (argc == 3 && strcmp(mode, "requests") == 0) {
+        shared = request_of(argv[2], 16, false, 0x20, 0x20);
+        return requests(&shared);
     }
     if (argc == 3 && strcmp(mode, "refuse") == 0) {
         shared = request_of(argv[2], 16, true, 0x20, 0x7E);
         second = request_of(argv[2], 33, false, 0x20, 0x7E);
-        printf("%ld\n", refuse_each(&shared, false) + refuse_each(&second, false) + refuse_each(&shared, true) + refuse_each(&second, true));
+        for (call = "mgs"; *call != 0; call++) count += refuse_each(&shared, *call) + refuse_each(&second, *call);
+        printf("%ld\n", count);
         return 0;
     }
     if (argc == 3 && strcmp(mode, "threads") == 0) {

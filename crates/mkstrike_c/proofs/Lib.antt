@@ -1,3 +1,4 @@
 pub mod Rows
 pub mod Reasons
 pub mod Requested
+pub mod Gathering

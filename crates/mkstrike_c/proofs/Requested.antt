@@ -54,7 +54,7 @@ no_text name other = inr (not_name name other, refl)
 abbrev with_name : Bool → Result (Unit {0}) Refusal → Result (Unit {0}) Refusal
 with_name b r = r >>= λ _. refuse (not b) BadName
 
-abbrev opening : Result ℕ Refusal → Result (Unit {0}) Refusal → Result (Face × Mapping) Refusal → Opening
+abbrev pub opening : Result ℕ Refusal → Result (Unit {0}) Refusal → Result (Face × Mapping) Refusal → Opening
 opening r checks f = r >>= λ size. checks >>= λ _. f >>= λ font. Ok (record { ppem = size; font = font.0; map = font.1 })
 
 -- a name that is none is the cause after the characters

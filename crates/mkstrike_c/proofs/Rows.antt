@@ -1,5 +1,5 @@
 -- The bytes of a glyph's rows.
--- Serves `put_row`, `put_pixels`.
+-- Serves `put_row`, `put_rows`.
 use Rattle.std.proofs.Common.{◌≡◌, ◌∙◌, ℕ, ◌+◌, ◌<◌, List, [], ◌∷◌, ◌++◌, length, set, take, map, sym, arith}
 use Rattle.std.specs.List.{range_with_len}
 use Rattle.std.proofs.lemmas.List.{take_more_set}

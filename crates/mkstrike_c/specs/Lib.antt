@@ -3,7 +3,9 @@ pub mod Reasons
 pub mod Pixels
 pub mod Made
 pub mod Shown
+pub mod Drawn
 pub mod Heights
+pub mod inner
 pub use Rattle.fx_request.specs.Refusals
 pub use Rattle.fx_strike.specs.Strike
 pub use Rattle.fx_strike.specs.Headline

@@ -1,7 +1,8 @@
 //! One character for C.
-ghost use Rattle.std.specs.Prelude.{◌≡◌, ◌<◌, ◌≤◌};
+ghost use Rattle.std.specs.Prelude.{◌≡◌, ◌<◌, ◌≤◌, ◌^◌, length};
+ghost use Rattle.std.specs.List.{flat_map};
 ghost use Rattle.fx_strike.specs.Strike.{one_of, opened_one_of};
-ghost use Rattle.mkstrike_c.specs.Pixels.{size_of};
+ghost use Rattle.mkstrike_c.specs.Pixels.{row_bytes, size_of};
 ghost use Rattle.mkstrike_c.specs.Shown.{HasPixels, IsMissing, IsShown, numbers_of, status_of};
 ghost use Rattle.mkstrike_c.specs.Refused.{IsRefused};
 
@@ -31,7 +32,7 @@ pub struct Glyph {
 const MISSING: u32 = 1;
 
 /// The numbers of a glyph.
-fn numbers_of(glyph: &BitGlyph, packed: bool) -> Glyph
+pub fn numbers_of(glyph: &BitGlyph, packed: bool) -> Glyph
     ensures { result ≡ numbers_of packed glyph.now }
 {
     let bounds = glyph.bounds();
@@ -47,8 +48,10 @@ fn numbers_of(glyph: &BitGlyph, packed: bool) -> Glyph
 }
 
 /// How many bytes a glyph's pixels take.
-fn size(glyph: &BitGlyph, packed: bool) -> usize
-    ensures { result ≡ size_of packed glyph.now }
+pub fn size(glyph: &BitGlyph, packed: bool) -> usize
+    ensures value { result ≡ size_of packed glyph.now }
+    ensures long { result ≡ length (flat_map (row_bytes packed) glyph.now.rows) }
+    ensures small { result ≤ 2 ^ 26 }
 {
     let bounds = glyph.bounds();
     bounds.height as usize * stride(bounds.width, packed) as usize
@@ -65,7 +68,7 @@ fn put_if_room(glyph: &BitGlyph, packed: bool, buffer: &mut [u8])
 }
 
 /// What a call returns of a character that was looked up.
-fn status_of(made: &Option<BitGlyph>) -> u32
+pub fn status_of(made: &Option<BitGlyph>) -> u32
     ensures { result ≡ status_of made.now }
 {
     if made.is_some() { 0 } else { MISSING }

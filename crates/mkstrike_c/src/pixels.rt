@@ -31,6 +31,7 @@ fn bit(glyph: &BitGlyph, i: u32, j: u32) -> u8
 }
 
 /// Four pixels of a row from one on, the leftmost the highest bit.
+#[inline(always)]
 fn four(glyph: &BitGlyph, i: u32, j: u32) -> u8
     requires { j < 2 ^ 31 }
     ensures value { result ≡ text.four_pixels (slice_index_or glyph.now.rows i []) j }
@@ -51,6 +52,7 @@ fn eight(glyph: &BitGlyph, i: u32, j: u32) -> u8
 }
 
 /// The byte k of a row: a pixel, or eight.
+#[inline(always)]
 fn byte(glyph: &BitGlyph, i: u32, k: u32, packed: bool) -> u8
     requires wide { glyph.now.box.width ≤ greatest_side }
     requires within { k < stride_of packed glyph.now.box.width }
@@ -64,6 +66,7 @@ fn byte(glyph: &BitGlyph, i: u32, k: u32, packed: bool) -> u8
 }
 
 /// Puts the bytes of a row, counted from the top, over as many bytes.
+#[inline(always)]
 fn put_row(glyph: &BitGlyph, i: u32, packed: bool, row: &mut [u8])
     requires row { i < glyph.now.box.height }
     requires stride { length row.old ≡ stride_of packed glyph.now.box.width }
@@ -76,7 +79,10 @@ fn put_row(glyph: &BitGlyph, i: u32, packed: bool, row: &mut [u8])
 }
 
 /// Puts the bytes of a glyph's pixels over as many bytes, row by row from the top.
-pub fn put_pixels(glyph: &BitGlyph, packed: bool, pixels: &mut [u8])
+///
+/// It is compiled once for each form, so that its loops do not test which it is.
+#[inline(always)]
+fn put_rows(glyph: &BitGlyph, packed: bool, pixels: &mut [u8])
     requires { length pixels.old ≡ size_of packed glyph.now }
     ensures { pixels.new ≡ flat_map (row_bytes packed) glyph.now.rows }
 {
@@ -86,5 +92,20 @@ pub fn put_pixels(glyph: &BitGlyph, packed: bool, pixels: &mut [u8])
     'rows: for i in 0..glyph.bounds().height {
         put_row(glyph, i, packed, &mut pixels[start..start + stride]);
         start += stride;
+    }
+}
+
+/// Puts the bytes of a glyph's pixels over as many bytes, row by row from the top.
+///
+/// It is compiled into its callers: there the glyph is a value of their own, which the loops need not read again at each byte.
+#[inline(always)]
+pub fn put_pixels(glyph: &BitGlyph, packed: bool, pixels: &mut [u8])
+    requires { length pixels.old ≡ size_of packed glyph.now }
+    ensures { pixels.new ≡ flat_map (row_bytes packed) glyph.now.rows }
+{
+    if packed {
+        put_rows(glyph, true, pixels);
+    } else {
+        put_rows(glyph, false, pixels);
     }
 }

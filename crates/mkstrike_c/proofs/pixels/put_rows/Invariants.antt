@@ -1,7 +1,7 @@
 use Rattle.std.proofs.Common.{◌≡◌, ◌*◌, length, take}
 use Rattle.std.specs.List.{flat_map}
 use Rattle.mkstrike_c.specs.Pixels.{row_bytes, size_of}
-use Rattle.mkstrike_c.proofs.pixels.put_pixels.Given as goal
+use Rattle.mkstrike_c.proofs.pixels.put_rows.Given as goal
 
 -- the rows so far stand at the front
 abbrev pub invariant-rows : goal.invariant-rows
