@@ -8,7 +8,7 @@ pub returns-clause-value : goal.returns-clause-value
 unfolding mirp_outside_of
 returns-clause-value c =
     let moved = set_is (moved_by c.args.g.now c.minus-3.result) _ _ _ _ _ _ (to_z-of_z c.ranges.p)
-        c.in-Some-point_mut.ensures.value c.move_point.ensures in
+    c.in-Some-point_mut.ensures.value c.move_point.ensures in
     rw moved (search rules)
 
 pub returns-clause-shapes : goal.returns-clause-shapes
