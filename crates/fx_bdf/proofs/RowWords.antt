@@ -37,6 +37,18 @@ row_pixel width from words i h = by (below_or_not i width)
         (get_or_past (row_from width from words) i false (omega (arith, length-row_from width from words)))
         ∙ sym (h.unused i l)
 
+-- a bit of the row is the bit of the words
+pub row_bit : (width from : ℕ) (words : List ℕ) (i at : ℕ) → i < width → at ≡ from + i
+    → (word_bit words at == 1) ≡ get_or (row_from width from words) i false
+row_bit width from words i at l e =
+    (λ k. word_bit words (e k) == 1)
+    ∙ sym (get_or-map-range_with_len (λ j. word_bit words (from + j) == 1) 0 width i i false l (omega arith))
+
+-- past its end there is none
+pub row_past : (width from : ℕ) (words : List ℕ) (i : ℕ) → width ≤ i → false ≡ get_or (row_from width from words) i false
+row_past width from words i l =
+    sym (get_or_past (row_from width from words) i false (omega (arith, length-row_from width from words)))
+
 -- a row that begins with a word's first bit
 pub whole_row : (width from : ℕ) (words some : List ℕ) → HoldRow width from words → from % 32 ≡ 0
     → some ≡ take (words_for width) (drop (from / 32) words) → AreWordsOf (row_from width from words) some

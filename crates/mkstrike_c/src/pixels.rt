@@ -5,12 +5,13 @@ ghost use Rattle.fx_bdf.specs.Text as text;
 ghost use Rattle.fx_winding.specs.Limits.{greatest_side};
 ghost use Rattle.mkstrike_c.specs.Pixels.{pixel_of, eight_pixels, row_byte, row_bytes, size_of, stride_of};
 
-use fx_bdf::BitGlyph;
+use fx_bdf::{BitGlyph, Row};
 
 /// The bytes of a row of this width.
 pub fn stride(width: u32, packed: bool) -> u32
     requires { width ≤ greatest_side }
-    ensures { result ≡ stride_of packed width }
+    ensures value { result ≡ stride_of packed width }
+    ensures few { result ≤ greatest_side }
 {
     if packed { (width + 7) / 8 } else { width }
 }
@@ -23,58 +24,55 @@ fn pixel(bit: bool) -> u8
 }
 
 /// The bit of a pixel as a number; 0 past the row's end.
-fn bit(glyph: &BitGlyph, i: u32, j: u32) -> u8
-    ensures value { result ≡ text.pixel (slice_index_or glyph.now.rows i []) j }
+fn bit(row: &Row<'_>, j: u32) -> u8
+    ensures value { result ≡ text.pixel row.now j }
     ensures small { result ≤ 1 }
 {
-    if glyph.pixel(i, j) { 1 } else { 0 }
+    if row.pixel(j) { 1 } else { 0 }
 }
 
 /// Four pixels of a row from one on, the leftmost the highest bit.
 #[inline(always)]
-fn four(glyph: &BitGlyph, i: u32, j: u32) -> u8
+fn four(row: &Row<'_>, j: u32) -> u8
     requires { j < 2 ^ 31 }
-    ensures value { result ≡ text.four_pixels (slice_index_or glyph.now.rows i []) j }
+    ensures value { result ≡ text.four_pixels row.now j }
     ensures small { result < 16 }
 {
-    8 * bit(glyph, i, j)
-        + 4 * bit(glyph, i, j + 1)
-        + 2 * bit(glyph, i, j + 2)
-        + bit(glyph, i, j + 3)
+    8 * bit(row, j) + 4 * bit(row, j + 1) + 2 * bit(row, j + 2) + bit(row, j + 3)
 }
 
 /// Eight pixels of a row from one on.
-fn eight(glyph: &BitGlyph, i: u32, j: u32) -> u8
+fn eight(row: &Row<'_>, j: u32) -> u8
     requires { j < 2 ^ 30 }
-    ensures { result ≡ eight_pixels (slice_index_or glyph.now.rows i []) j }
+    ensures { result ≡ eight_pixels row.now j }
 {
-    16 * four(glyph, i, j) + four(glyph, i, j + 4)
+    16 * four(row, j) + four(row, j + 4)
 }
 
 /// The byte k of a row: a pixel, or eight.
 #[inline(always)]
-fn byte(glyph: &BitGlyph, i: u32, k: u32, packed: bool) -> u8
-    requires wide { glyph.now.box.width ≤ greatest_side }
-    requires within { k < stride_of packed glyph.now.box.width }
-    ensures { result ≡ row_byte packed (slice_index_or glyph.now.rows i []) k }
+fn byte(row: &Row<'_>, k: u32, packed: bool) -> u8
+    requires { k < 2 ^ 26 }
+    ensures { result ≡ row_byte packed row.now k }
 {
     if packed {
-        eight(glyph, i, 8 * k)
+        eight(row, 8 * k)
     } else {
-        pixel(glyph.pixel(i, k))
+        pixel(row.pixel(k))
     }
 }
 
 /// Puts the bytes of a row, counted from the top, over as many bytes.
 #[inline(always)]
-fn put_row(glyph: &BitGlyph, i: u32, packed: bool, row: &mut [u8])
+fn put_row(glyph: &BitGlyph, i: u32, packed: bool, bytes: &mut [u8])
     requires row { i < glyph.now.box.height }
-    requires stride { length row.old ≡ stride_of packed glyph.now.box.width }
-    ensures { row.new ≡ row_bytes packed (slice_index_or glyph.now.rows i []) }
+    requires stride { length bytes.old ≡ stride_of packed glyph.now.box.width }
+    ensures { bytes.new ≡ row_bytes packed (slice_index_or glyph.now.rows i []) }
 {
-    // The bytes before k stand in the row.
+    let row = glyph.row(i);
+    // The bytes before k stand in their places.
     'bytes: for k in 0..stride(glyph.bounds().width, packed) {
-        row[k as usize] = byte(glyph, i, k, packed);
+        bytes[k as usize] = byte(&row, k, packed);
     }
 }
 
