@@ -1,11 +1,13 @@
 //! The pixels of a glyph as bytes: a byte a pixel, or packed, eight pixels a byte.
-ghost use Rattle.std.specs.Prelude.{◌≡◌, ◌<◌, ◌≤◌, ◌*◌, ◌+◌, ◌^◌, [], false, length, slice_index_or};
-ghost use Rattle.std.specs.List.{flat_map};
-ghost use Rattle.fx_bdf.specs.Text as text;
+ghost use Rattle.std.specs.Prelude.{◌≡◌, ℕ, ◌<◌, ◌≤◌, ◌-◌, ◌*◌, ◌+◌, ◌++◌, [], List, Bool, false, true, map, length, take, drop};
+ghost use Rattle.std.specs.Prelude.{slice_index_or};
+ghost use Rattle.std.specs.List.{flat_map, range_with_len};
+ghost use Rattle.fx_bdf.specs.Text.{eight_pixels, four_pixels};
 ghost use Rattle.fx_winding.specs.Limits.{greatest_side};
-ghost use Rattle.mkstrike_c.specs.Pixels.{pixel_of, eight_pixels, row_byte, row_bytes, size_of, stride_of};
+ghost use Rattle.mkstrike_c.specs.Pixels.{row_byte, row_bytes, size_of, stride_of};
 
 use fx_bdf::{BitGlyph, Row};
+use fx_fixed::put_over;
 
 /// The bytes of a row of this width.
 pub fn stride(width: u32, packed: bool) -> u32
@@ -16,49 +18,88 @@ pub fn stride(width: u32, packed: bool) -> u32
     if packed { (width + 7) / 8 } else { width }
 }
 
-/// The byte of a pixel.
-fn pixel(bit: bool) -> u8
-    ensures { result ≡ pixel_of bit }
-{
-    if bit { 255 } else { 0 }
-}
+/// The bytes of four pixels, by the number below 16 of which the leftmost is the highest bit.
+const OF_FOUR: [[u8; 4]; 16] = [
+    [0, 0, 0, 0],
+    [0, 0, 0, 255],
+    [0, 0, 255, 0],
+    [0, 0, 255, 255],
+    [0, 255, 0, 0],
+    [0, 255, 0, 255],
+    [0, 255, 255, 0],
+    [0, 255, 255, 255],
+    [255, 0, 0, 0],
+    [255, 0, 0, 255],
+    [255, 0, 255, 0],
+    [255, 0, 255, 255],
+    [255, 255, 0, 0],
+    [255, 255, 0, 255],
+    [255, 255, 255, 0],
+    [255, 255, 255, 255],
+];
 
-/// The bit of a pixel as a number; 0 past the row's end.
-fn bit(row: &Row<'_>, j: u32) -> u8
-    ensures value { result ≡ text.pixel row.now j }
-    ensures small { result ≤ 1 }
-{
-    if row.pixel(j) { 1 } else { 0 }
-}
-
-/// Four pixels of a row from one on, the leftmost the highest bit.
+/// The bytes of four pixels, by that number.
 #[inline(always)]
-fn four(row: &Row<'_>, j: u32) -> u8
-    requires { j < 2 ^ 31 }
-    ensures value { result ≡ text.four_pixels row.now j }
-    ensures small { result < 16 }
+fn bytes_of_four(four: u8) -> [u8; 4]
+    requires { four < 16 }
+    ensures { (row : List Bool) (k : ℕ) → four ≡ four_pixels row k
+        → result ≡ map (row_byte false row) (range_with_len k 4) }
 {
-    8 * bit(row, j) + 4 * bit(row, j + 1) + 2 * bit(row, j + 2) + bit(row, j + 3)
+    OF_FOUR[four as usize]
 }
 
-/// Eight pixels of a row from one on.
-fn eight(row: &Row<'_>, j: u32) -> u8
-    requires { j < 2 ^ 30 }
-    ensures { result ≡ eight_pixels row.now j }
-{
-    16 * four(row, j) + four(row, j + 4)
-}
-
-/// The byte k of a row: a pixel, or eight.
+/// The bytes of eight pixels, by the byte of which the leftmost is the highest bit.
 #[inline(always)]
-fn byte(row: &Row<'_>, k: u32, packed: bool) -> u8
-    requires { k < 2 ^ 26 }
-    ensures { result ≡ row_byte packed row.now k }
+fn bytes_of_eight(eight: u8) -> [u8; 8]
+    ensures { (row : List Bool) (k : ℕ) → eight ≡ eight_pixels row k
+        → result ≡ map (row_byte false row) (range_with_len k 8) }
 {
-    if packed {
-        eight(row, 8 * k)
+    let [a, b, c, d] = bytes_of_four(eight / 16);
+    let [e, f, g, h] = bytes_of_four(eight % 16);
+    [a, b, c, d, e, f, g, h]
+}
+
+/// Puts eight bytes over those from `start` on, as many as there are.
+#[inline(always)]
+fn put_eight(bytes: &mut [u8], start: usize, eight: &[u8; 8])
+    requires { start ≤ length bytes.old }
+    ensures long { length bytes.new ≡ length bytes.old }
+    ensures bytes { bytes.new ≡ take start bytes.old
+        ++ (take (length bytes.old - start) eight.now ++ drop (start + 8) bytes.old) }
+{
+    let room = bytes.len() - start;
+    if room >= 8 {
+        put_over(bytes, start, eight);
     } else {
-        pixel(row.pixel(k))
+        put_over(bytes, start, &eight[..room]);
+    }
+}
+
+/// Puts a byte a pixel of a row of this width over as many bytes.
+#[inline(always)]
+fn put_each(row: &Row<'_>, width: u32, bytes: &mut [u8])
+    requires width { width ≡ length row.now }
+    requires few { width ≤ greatest_side }
+    requires long { length bytes.old ≡ width }
+    ensures { bytes.new ≡ row_bytes false row.now }
+{
+    // The bytes of the pixels before 8 k are in their places.
+    'eights: for k in 0..(width + 7) / 8 {
+        put_eight(bytes, 8 * k as usize, &bytes_of_eight(row.byte(k)));
+    }
+}
+
+/// Puts eight pixels a byte of a row of this width over as many bytes.
+#[inline(always)]
+fn put_packed(row: &Row<'_>, width: u32, bytes: &mut [u8])
+    requires width { width ≡ length row.now }
+    requires few { width ≤ greatest_side }
+    requires long { length bytes.old ≡ stride_of true width }
+    ensures { bytes.new ≡ row_bytes true row.now }
+{
+    // The bytes before k are in their places.
+    'bytes: for k in 0..(width + 7) / 8 {
+        bytes[k as usize] = row.byte(k);
     }
 }
 
@@ -69,10 +110,11 @@ fn put_row(glyph: &BitGlyph, i: u32, packed: bool, bytes: &mut [u8])
     requires stride { length bytes.old ≡ stride_of packed glyph.now.box.width }
     ensures { bytes.new ≡ row_bytes packed (slice_index_or glyph.now.rows i []) }
 {
-    let row = glyph.row(i);
-    // The bytes before k stand in their places.
-    'bytes: for k in 0..stride(glyph.bounds().width, packed) {
-        bytes[k as usize] = byte(&row, k, packed);
+    let width = glyph.bounds().width;
+    if packed {
+        put_packed(&glyph.row(i), width, bytes);
+    } else {
+        put_each(&glyph.row(i), width, bytes);
     }
 }
 

@@ -3,7 +3,7 @@
 ghost use Rattle.std.specs.Prelude.{◌≡◌, length};
 ghost use Rattle.fx_winding.specs.Bitmaps.{words_for, AreRowWords};
 
-use fx_bdf::{BadName, BitGlyph, Bounds, Header, check_name, write_end, write_glyph, write_header};
+use fx_bdf::{BadName, BitGlyph, Bounds, Header, Row, check_name, write_end, write_glyph, write_header};
 use fx_fixed::{Limits, MemorySink, Sink, TextWriter, WriteFailed};
 use fx_winding::{Bitmap, Frame, MAX_SIDE, set_bit};
 use std::alloc::Global;
@@ -255,6 +255,33 @@ fn sinks_that_take_little(rt: HostRuntime) -> Result<(), Fail> {
     };
     let done = Ok(TWO_ROWS_TEXT.len() as u64);
     sends(&rt, rt.alloc(), &glyph, slow, done, TWO_ROWS_TEXT)
+}
+
+/// Whether a glyph has two rows, with these pixels and bytes.
+fn has_two_rows(glyph: &BitGlyph) -> bool {
+    glyph.bounds().height == 2 && is_upper(&glyph.row(0)) && is_lower(&glyph.row(1))
+}
+
+/// `#.#######`
+fn is_upper(row: &Row<'_>) -> bool {
+    row.pixel(0) && !row.pixel(1) && row.pixel(8) && !row.pixel(9) && row.byte(0) == 0xBF && is_end(row)
+}
+
+/// `........#`
+fn is_lower(row: &Row<'_>) -> bool {
+    !row.pixel(0) && !row.pixel(7) && row.pixel(8) && row.byte(0) == 0 && is_end(row)
+}
+
+/// The ninth pixel is set, and none after it.
+fn is_end(row: &Row<'_>) -> bool {
+    row.byte(1) == 0x80 && row.byte(2) == 0 && row.byte(u32::MAX) == 0 && !row.pixel(u32::MAX)
+}
+
+#[test]
+fn rows_by_pixels_and_bytes(rt: HostRuntime) -> Result<(), Fail> {
+    let glyph = glyph(&rt, rt.alloc(), (66, 375, -6), 9, 9, &TWO_ROWS)?;
+    assert!(rt; has_two_rows(&glyph));
+    Ok(())
 }
 
 /// Checks names.
