@@ -1,6 +1,6 @@
 -- The bytes of four and of eight pixels.
--- Serves `bytes_of_four`, `bytes_of_eight`.
-use Rattle.std.proofs.Common.{◌≡◌, refl, ap, ◌∙◌, ℕ, ◌+◌, ◌*◌, ◌/◌, ◌%◌, ◌<◌, ◌≤◌, Bool, true, false, List, [], ◌∷◌, map, get_or, arith}
+-- Serves `bytes_of_four`, `bytes_of_eight`, `put_whole`.
+use Rattle.std.proofs.Common.{◌≡◌, refl, ap, ◌∙◌, ℕ, ◌+◌, ◌*◌, ◌/◌, ◌%◌, ◌<◌, ◌≤◌, Bool, true, false, List, [], ◌∷◌, ◌++◌, map, get_or, arith}
 use Rattle.std.specs.Prelude.{if◌then◌else◌}
 use Rattle.std.specs.List.{range_with_len}
 use Rattle.fx_bdf.specs.Text.{pixel, four_pixels, eight_pixels}
@@ -81,12 +81,19 @@ pub lower_four : (row : List Bool) (k eight : ℕ) → eight ≡ eight_pixels ro
 lower_four row k eight e = let l = four_small row (k + 4) in omega (arith, e, l)
 
 pub eight_by_fours : (row : List Bool) (k : ℕ) (a b : List ℕ) → a ≡ map (row_byte false row) (range_with_len k 4)
-    → b ≡ map (row_byte false row) (range_with_len (k + 4) 4)
-    → get_or a 0 0 ∷ get_or a 1 0 ∷ get_or a 2 0 ∷ get_or a 3 0 ∷ get_or b 0 0 ∷ get_or b 1 0 ∷ get_or b 2 0 ∷ get_or b 3 0 ∷ [] ≡
-    map (row_byte false row) (range_with_len k 8)
+    → b ≡ map (row_byte false row) (range_with_len (k + 4) 4) → a ++ b ≡ map (row_byte false row) (range_with_len k 8)
 eight_by_fours row k a b is more =
     let f = row_byte false row in
     let e : k + 4 ≡ k + 1 + 1 + 1 + 1 = omega arith in
+    (λ t. is t ++ more t)
+    ∙ (λ t. f k ∷ f (k + 1) ∷ f (k + 1 + 1) ∷ f (k + 1 + 1 + 1) ∷ f (e t) ∷ f (e t + 1) ∷ f (e t + 1 + 1) ∷ f (e t + 1 + 1 + 1) ∷ [])
+
+pub each_by_fours : (row : List Bool) (k : ℕ) (a b : List ℕ) → a ≡ map (row_byte false row) (range_with_len k 4)
+    → b ≡ map (row_byte false row) (range_with_len (k + 4) 4)
+    → get_or a 0 0 ∷ get_or a 1 0 ∷ get_or a 2 0 ∷ get_or a 3 0 ∷ get_or b 0 0 ∷ get_or b 1 0 ∷ get_or b 2 0 ∷ get_or b 3 0 ∷ [] ≡
+    map (row_byte false row) (range_with_len k 8)
+each_by_fours row k a b is more =
     (λ t. get_or (is t) 0 0 ∷ get_or (is t) 1 0 ∷ get_or (is t) 2 0 ∷ get_or (is t) 3 0 ∷ get_or (more t) 0 0 ∷ get_or (more t) 1 0
     ∷ get_or (more t) 2 0 ∷ get_or (more t) 3 0 ∷ [])
-    ∙ (λ t. f k ∷ f (k + 1) ∷ f (k + 1 + 1) ∷ f (k + 1 + 1 + 1) ∷ f (e t) ∷ f (e t + 1) ∷ f (e t + 1 + 1) ∷ f (e t + 1 + 1 + 1) ∷ [])
+    ∙ eight_by_fours row k (map (row_byte false row) (range_with_len k 4)) (map (row_byte false row) (range_with_len (k + 4) 4))
+    refl refl

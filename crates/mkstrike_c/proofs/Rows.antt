@@ -1,10 +1,13 @@
 -- The bytes of a glyph's rows.
--- Serves `put_packed`, `put_each`.
+-- Serves `put_packed`, `put_each`, `put_whole`.
 use Rattle.std.proofs.Common.{◌≡◌, ◌⊎◌, inl, inr, ap, sym, ◌∙◌, ℕ, ◌+◌, ◌-◌, ◌*◌, ◌<◌, ◌≤◌, min, Bool, false, List, [], ◌∷◌, ◌++◌}
 use Rattle.std.proofs.Common.{length, set, take, drop, map, get_or, arith, length-take}
 use Rattle.std.specs.List.{range_with_len}
 use Rattle.std.proofs.lemmas.Grind.{same_number_lists}
 use Rattle.std.proofs.lemmas.List.{take_more_set, length-take-le, get_or-take, get_or_append_left, get_or-append_right}
+use Rattle.std.proofs.Common.{append_assoc, length-append}
+use Rattle.std.proofs.Math.Seq.{take-append_seam}
+use Rattle.std.proofs.lemmas.Slice.{drop-append-drop}
 use Rattle.std.proofs.lemmas.List.FromFn.{map-range_with_len_more, length-map-range_with_len, get_or-map-range_with_len}
 use Rattle.fx_fixed.proofs.Order.{below_or_not}
 use Rattle.mkstrike_c.specs.Pixels.{row_byte, row_bytes}
@@ -68,3 +71,34 @@ eight_more row k old new eight long same low is put so_far =
         get_or-take (8 * (k + 1)) new j 0 n
         ∙ by j (omega (arith, few, h, same, long)) m (below_or_not j (8 * k))
         ∙ sym (get_or-take (8 * (k + 1)) all j 0 n)
+
+-- ---- eight bytes put in two steps
+
+pub put_twice : (start : ℕ) (old mid new a b eight : List ℕ) → start + 8 ≤ length old → length a ≡ 4 → length b ≡ 4
+    → mid ≡ take start old ++ (a ++ drop (start + length a) old) → new ≡ take (start + 4) mid ++ (b ++ drop (start + 4 + length b) mid)
+    → a ++ b ≡ eight → new ≡ take start old ++ (eight ++ drop (start + 8) old)
+put_twice start old mid new a b eight room four more put again both =
+    again
+    ∙ (λ t. front t ++ (b ++ back t))
+    ∙ append_assoc (take start old) a (b ++ drop (start + 8) old)
+    ∙ ap (λ (l : List ℕ). take start old ++ l) (sym (append_assoc a b (drop (start + 8) old)))
+    ∙ ap (λ (l : List ℕ). take start old ++ (l ++ drop (start + 8) old)) both
+  where
+    begun : List ℕ
+    begun = take start old ++ a
+
+    long : start + 4 ≡ length begun
+    long = omega (arith, length-append (take start old) a, length-take-le start old (omega (arith, room)), four)
+
+    is : mid ≡ begun ++ drop (start + 4) old
+    is =
+        put ∙ sym (append_assoc (take start old) a (drop (start + length a) old))
+        ∙ ap (λ n. begun ++ drop (start + n) old) four
+
+    front : take (start + 4) mid ≡ begun
+    front = (λ t. take (long t) (is t)) ∙ take-append_seam begun (drop (start + 4) old)
+
+    back : drop (start + 4 + length b) mid ≡ drop (start + 8) old
+    back =
+        let at : start + 4 + length b ≡ start + 8 = omega (arith, more) in
+        (λ t. drop (at t) (is t)) ∙ drop-append-drop (start + 4) old begun (start + 8) (omega arith) (sym long)

@@ -19,7 +19,7 @@ pub fn stride(width: u32, packed: bool) -> u32
 }
 
 /// The bytes of four pixels, by the number below 16 of which the leftmost is the highest bit.
-const OF_FOUR: [[u8; 4]; 16] = [
+static OF_FOUR: [[u8; 4]; 16] = [
     [0, 0, 0, 0],
     [0, 0, 0, 255],
     [0, 0, 255, 0],
@@ -40,38 +40,49 @@ const OF_FOUR: [[u8; 4]; 16] = [
 
 /// The bytes of four pixels, by that number.
 #[inline(always)]
-fn bytes_of_four(four: u8) -> [u8; 4]
+fn bytes_of_four(four: u8) -> &'static [u8; 4]
     requires { four < 16 }
     ensures { (row : List Bool) (k : ℕ) → four ≡ four_pixels row k
-        → result ≡ map (row_byte false row) (range_with_len k 4) }
+        → result.now ≡ map (row_byte false row) (range_with_len k 4) }
 {
-    OF_FOUR[four as usize]
+    &OF_FOUR[four as usize]
 }
 
 /// The bytes of eight pixels, by the byte of which the leftmost is the highest bit.
-#[inline(always)]
 fn bytes_of_eight(eight: u8) -> [u8; 8]
     ensures { (row : List Bool) (k : ℕ) → eight ≡ eight_pixels row k
         → result ≡ map (row_byte false row) (range_with_len k 8) }
 {
-    let [a, b, c, d] = bytes_of_four(eight / 16);
-    let [e, f, g, h] = bytes_of_four(eight % 16);
+    let [a, b, c, d] = *bytes_of_four(eight / 16);
+    let [e, f, g, h] = *bytes_of_four(eight % 16);
     [a, b, c, d, e, f, g, h]
 }
 
-/// Puts eight bytes over those from `start` on, as many as there are.
+/// Puts the bytes of eight pixels over those from `start` on.
 #[inline(always)]
-fn put_eight(bytes: &mut [u8], start: usize, eight: &[u8; 8])
+fn put_whole(bytes: &mut [u8], start: usize, eight: u8)
+    requires { start + 8 ≤ length bytes.old }
+    ensures long { length bytes.new ≡ length bytes.old }
+    ensures bytes { (row : List Bool) (k : ℕ) → eight ≡ eight_pixels row k → bytes.new ≡ take start bytes.old
+        ++ (map (row_byte false row) (range_with_len k 8) ++ drop (start + 8) bytes.old) }
+{
+    put_over(bytes, start, bytes_of_four(eight / 16));
+    put_over(bytes, start + 4, bytes_of_four(eight % 16));
+}
+
+/// Puts the bytes of eight pixels over those from `start` on, as many as there are.
+#[inline(always)]
+fn put_eight(bytes: &mut [u8], start: usize, eight: u8)
     requires { start ≤ length bytes.old }
     ensures long { length bytes.new ≡ length bytes.old }
-    ensures bytes { bytes.new ≡ take start bytes.old
-        ++ (take (length bytes.old - start) eight.now ++ drop (start + 8) bytes.old) }
+    ensures bytes { (row : List Bool) (k : ℕ) → eight ≡ eight_pixels row k → bytes.new ≡ take start bytes.old
+        ++ (take (length bytes.old - start) (map (row_byte false row) (range_with_len k 8)) ++ drop (start + 8) bytes.old) }
 {
     let room = bytes.len() - start;
     if room >= 8 {
-        put_over(bytes, start, eight);
+        put_whole(bytes, start, eight);
     } else {
-        put_over(bytes, start, &eight[..room]);
+        put_over(bytes, start, &bytes_of_eight(eight)[..room]);
     }
 }
 
@@ -85,7 +96,7 @@ fn put_each(row: &Row<'_>, width: u32, bytes: &mut [u8])
 {
     // The bytes of the pixels before 8 k are in their places.
     'eights: for k in 0..(width + 7) / 8 {
-        put_eight(bytes, 8 * k as usize, &bytes_of_eight(row.byte(k)));
+        put_eight(bytes, 8 * k as usize, row.byte(k));
     }
 }
 

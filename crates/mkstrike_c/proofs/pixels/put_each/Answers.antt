@@ -10,10 +10,9 @@ eights-preserved c =
     let long = c.eights.invariant.long ∙ c.requires.width in
     record {
       long = c.put_eight.ensures.long ∙ c.eights.invariant.long;
-      bytes = eight_more c.args.row.now c.eights.k c.eights.bytes c.put_eight.new.bytes c.bytes_of_eight.result long
-          c.put_eight.ensures.long (omega (arith, c.eights-test.true, c.requires.width))
-          (c.bytes_of_eight.ensures c.args.row.now (8 * c.eights.k) c.byte.ensures) c.put_eight.ensures.bytes
-          c.eights.invariant.bytes;
+      bytes = eight_more c.args.row.now c.eights.k c.eights.bytes c.put_eight.new.bytes _ long
+          c.put_eight.ensures.long (omega (arith, c.eights-test.true, c.requires.width)) refl
+          (c.put_eight.ensures.bytes c.args.row.now (8 * c.eights.k) c.byte.ensures) c.eights.invariant.bytes;
     }
 
 pub returns : goal.returns
