@@ -11,7 +11,7 @@ ghost use Rattle.fx_contour.specs.Contours.{farthest, spans_of, drawn_of, IsInRe
 ghost use Rattle.fx_contour.specs.Bounds.{HaveTwo};
 ghost use Rattle.fx_contour.specs.Faults.{Fails};
 
-use crate::extent::Extent;
+use crate::bounds::Bounds;
 use crate::fault::ContourFault;
 use fx_fixed::F26;
 use fx_hint::{Outline, OutlinePoint};
@@ -29,9 +29,9 @@ struct Step {
 fn are_in_reach(points: &[OutlinePoint]) -> bool
     ensures { IsTrue result ↔ All IsInReach points.now }
 {
-    match Extent::of(points) {
+    match Bounds::of_points(points) {
         None => true,
-        Some(extent) => extent.keeps_limit(),
+        Some(bounds) => bounds.keeps_limit(),
     }
 }
 

@@ -7,7 +7,6 @@
 
 mod bounds;
 mod curves;
-mod extent;
 mod fault;
 mod frames;
 pub mod laws;
