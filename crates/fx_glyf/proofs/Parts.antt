@@ -4,7 +4,7 @@ use Rattle.std.proofs.Common.{◌≡◌, ℕ, zero, suc, ◌+◌, ◌-◌, ◌<�
 use Rattle.std.proofs.Common.{Some, None, refl, sym, ap, ◌∙◌, arith, length-drop}
 use Rattle.std.specs.Prelude.{IsSome, option_map, option_and_then, ◌||◌}
 use Rattle.std.proofs.lemmas.Option.{same_Some}
-use Rattle.std.proofs.lemmas.Bool.{ltb-false}
+use Rattle.std.proofs.lemmas.Bool.{ltb-false, le-ltb}
 use Rattle.std.proofs.lemmas.List.{drop-take, length-take-le}
 use Rattle.std.proofs.Math.Bool.{or_assoc, or-false}
 use Rattle.byteorder.specs.Endian.{big_number}
@@ -24,6 +24,36 @@ field-taken at m bytes h =
     let e : at + (m - at) ≡ m = omega arith in
     ap (big_number 2) (ap (λ (k : ℕ). drop at (take k bytes)) (sym e) ∙ drop-take at (m - at) bytes)
     ∙ big_from-take 0 2 (m - at) (drop at bytes) (omega arith)
+
+-- the flags of a component that is taken are those at the front
+pub flags_taken : (bytes : List ℕ) (m : ℕ) (p : Part) → p ≡ part_of (take m bytes) → 2 ≤ m → p.flags ≡ field 2 bytes 0
+unfolding part_of
+flags_taken bytes m p e h = ap (λ (x : Part). x.flags) e ∙ field-taken 0 m bytes h
+
+part_there_is : (bytes : List ℕ) → 4 ≤ length bytes → part_size (field 2 bytes 0) ≤ length bytes
+    → Some (part_of (take (part_size (field 2 bytes 0)) bytes), drop (part_size (field 2 bytes 0)) bytes) ≡ next_part bytes
+unfolding next_part
+part_there_is bytes four inside = rw (le-ltb _ _ four, le-ltb _ _ inside) refl
+
+-- a component that is taken has the size that was taken
+pub size_of_taken : (n : ℕ) (bytes taken : List ℕ) (p : Part) → n ≡ part_size (field 2 bytes 0) → taken ≡ take n bytes
+    → p ≡ part_of taken → part_size p.flags ≡ n
+size_of_taken n bytes taken p e t is =
+    ap part_size (flags_taken bytes n p (is ∙ ap part_of t) (omega (arith, e))) ∙ sym e
+
+-- such a component, and what comes after its size
+pub part_found : (n : ℕ) (bytes taken : List ℕ) (p : Part) → n ≡ part_size (field 2 bytes 0) → n ≤ length bytes
+    → taken ≡ take n bytes → p ≡ part_of taken → Some (p, drop (part_size p.flags) bytes) ≡ next_part bytes
+part_found n bytes taken p e h t is =
+    ap (λ (k : ℕ). Some (p, drop k bytes)) (size_of_taken n bytes taken p e t is ∙ e)
+    ∙ ap (λ (q : Part). Some (q, drop (part_size (field 2 bytes 0)) bytes))
+    (is ∙ ap part_of (t ∙ ap (λ (k : ℕ). take k bytes) e)) ∙ part_there_is bytes (omega (arith, e)) (omega (arith, e))
+
+-- the next component with the rest, in which a number of bytes was left out that is its size
+pub part_with_rest : (bytes : List ℕ) (p : Part) (n : ℕ) (rest : List ℕ) → n ≡ part_size p.flags → rest ≡ drop n bytes
+    → Some (p, drop (part_size p.flags) bytes) ≡ next_part bytes → Some (p, rest) ≡ next_part bytes
+part_with_rest bytes p n rest size left e =
+    ap (λ (xs : List ℕ). Some (p, xs)) (left ∙ ap (λ (k : ℕ). drop k bytes) size) ∙ e
 
 -- what the next component is, and what is left
 pub record Next (bytes : List ℕ) (d : Part × List ℕ) : Type 0 where

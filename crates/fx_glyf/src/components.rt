@@ -4,8 +4,9 @@ ghost use Rattle.std.specs.Prelude.{◌≡◌, IsSome, true};
 ghost use Rattle.fx_glyf.specs.Words.{list_in};
 ghost use Rattle.fx_glyf.specs.Components.{parts_in};
 
-use crate::part::Part;
-use crate::records::next_part;
+use crate::part::{Part, is_followed};
+use crate::records::{next_part, part_size};
+use fx_fixed::after;
 use std::marker::Model;
 
 /// The components that are left; their bytes are complete.
@@ -53,9 +54,10 @@ impl<'a> Iterator for Components<'a> {
         }
         match next_part(self.bytes) {
             None => None,
-            Some((part, bytes)) => {
-                self.more = part.is_followed();
-                self.bytes = bytes;
+            Some(part) => {
+                let flags = part.flags;
+                self.more = is_followed(flags);
+                self.bytes = after(self.bytes, part_size(flags));
                 Some(part)
             }
         }

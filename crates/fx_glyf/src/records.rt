@@ -1,12 +1,12 @@
 //! The component records of a composite glyph.
 
-ghost use Rattle.std.specs.Prelude.{◌≡◌, ◌+◌, ◌*◌, ◌≤◌, true, length, option_map};
-ghost use Rattle.fx_sfnt.specs.Fields.{field};
+ghost use Rattle.std.specs.Prelude.{◌≡◌, ◌+◌, ◌*◌, ◌≤◌, true, length, drop, option_map, IfSome};
+ghost use Rattle.fx_sfnt.specs.Fields.{field, signed_field};
 ghost use Rattle.fx_glyf.specs.Components.{args_size, scales_size, part_size, argument_of, scales_of, part_of, next_part, parts_in, ending_of};
 
 use crate::part::{
     ARG_1_AND_2_ARE_WORDS, ARGS_ARE_XY_VALUES, Part, WE_HAVE_A_SCALE, WE_HAVE_A_TWO_BY_TWO,
-    WE_HAVE_AN_X_AND_Y_SCALE, has,
+    WE_HAVE_AN_X_AND_Y_SCALE, has, has_program, is_followed,
 };
 use fx_fixed::{F2, after, before};
 use fx_sfnt::{i16_in, u16_in};
@@ -55,25 +55,33 @@ fn argument(flags: u16, bytes: &[u8], k: usize) -> i32
     }
 }
 
-/// The four numbers of the transformation, in 2.14.
+/// The number in 2.14 at an offset.
+fn f2_in(bytes: &[u8], at: usize) -> F2
+    requires { at + 2 ≤ length bytes.now }
+    ensures { result ≡ signed_field bytes.now at }
+{
+    F2(i16_in(bytes, at))
+}
+
+/// The four numbers of the transformation.
 #[tactic(auto, unfolding(crate::specs::Components::scales_by))]
-fn scales(flags: u16, bytes: &[u8]) -> (i16, i16, i16, i16)
+fn scales(flags: u16, bytes: &[u8]) -> (F2, F2, F2, F2)
     requires { scales_size flags ≤ length bytes.now }
     ensures { result ≡ scales_of flags bytes.now }
 {
     if has(flags, WE_HAVE_A_SCALE) {
-        (i16_in(bytes, 0), 0, 0, i16_in(bytes, 0))
+        (f2_in(bytes, 0), F2(0), F2(0), f2_in(bytes, 0))
     } else if has(flags, WE_HAVE_AN_X_AND_Y_SCALE) {
-        (i16_in(bytes, 0), 0, 0, i16_in(bytes, 2))
+        (f2_in(bytes, 0), F2(0), F2(0), f2_in(bytes, 2))
     } else if has(flags, WE_HAVE_A_TWO_BY_TWO) {
         (
-            i16_in(bytes, 0),
-            i16_in(bytes, 2),
-            i16_in(bytes, 4),
-            i16_in(bytes, 6),
+            f2_in(bytes, 0),
+            f2_in(bytes, 2),
+            f2_in(bytes, 4),
+            f2_in(bytes, 6),
         )
     } else {
-        (F2::ONE.0, 0, 0, F2::ONE.0)
+        (F2::ONE, F2(0), F2(0), F2::ONE)
     }
 }
 
@@ -97,20 +105,27 @@ fn part(bytes: &[u8]) -> Part
     }
 }
 
-/// The component at the front of the bytes, and the bytes after it.
+/// The bytes of a component with these flags.
+pub fn part_size(flags: u16) -> usize
+    ensures { result ≡ part_size flags }
+{
+    4 + args_size(flags) + scales_size(flags)
+}
+
+/// The component at the front of the bytes; the next one comes after its size.
 #[tactic(auto, unfolding(crate::specs::Components::next_part))]
-pub fn next_part(bytes: &[u8]) -> Option<(Part, &[u8])>
-    ensures { option_map (λ p. (p.0, p.1.now)) result ≡ next_part bytes.now }
+pub fn next_part(bytes: &[u8]) -> Option<Part>
+    ensures value { option_map (λ p. (p, drop (part_size p.flags) bytes.now)) result ≡ next_part bytes.now }
+    ensures inside { IfSome result (λ p. part_size p.flags ≤ length bytes.now) }
 {
     if bytes.len() < 4 {
         return None;
     }
-    let flags = u16_in(bytes, 0);
-    let size = 4 + args_size(flags) + scales_size(flags);
+    let size = part_size(u16_in(bytes, 0));
     if bytes.len() < size {
         return None;
     }
-    Some((part(before(bytes, size)), after(bytes, size)))
+    Some(part(before(bytes, size)))
 }
 
 /// Whether any component announces a program, and the bytes after the last.
@@ -122,10 +137,11 @@ pub fn skip_parts(bytes: &[u8]) -> Option<(bool, &[u8])>
     let mut rest = bytes;
     // What comes after the components that are left comes after all.
     'parts: while more {
-        let (part, after_it) = next_part(rest)?;
-        announced |= part.has_program();
-        more = part.is_followed();
-        rest = after_it;
+        let part = next_part(rest)?;
+        let flags = part.flags;
+        announced |= has_program(flags);
+        more = is_followed(flags);
+        rest = after(rest, part_size(flags));
     }
     Some((announced, rest))
 }

@@ -1,10 +1,9 @@
 -- Places that a transformation leaves where they are.
 -- For components without a transformation.
-use Rattle.std.proofs.Common.{◌≡◌, ℕ, ◌^◌, ℤ, pos, ◌+ℤ◌, ◌-ℤ◌, ◌*ℤ◌, unsigned_abs, FitsSigned, arith}
-use Rattle.std.proofs.Common.{◌∙◌, ap, sym, refl, to_z, of_z}
-use Rattle.std.proofs.Common.{to_z-of_z, List, [], ◌∷◌, map}
+use Rattle.std.proofs.Common.{◌≡◌, ◌^◌, ℤ, pos, ◌+ℤ◌, ◌-ℤ◌, ◌*ℤ◌, unsigned_abs, FitsSigned, arith}
+use Rattle.std.proofs.Common.{◌∙◌, ap, sym, refl, List, [], ◌∷◌, map}
 use Rattle.std.proofs.lemmas.Int.{ints, int_wrap_fits, int_wrap-add_left}
-use Rattle.std.specs.Int.{w16, w32}
+use Rattle.std.specs.Int.{w32}
 use Rattle.fx_fixed.specs.declared.places.Place.{Place}
 use Rattle.fx_glyf.specs.declared.part.Part.{Part}
 use Rattle.fx_fixed.specs.Numbers.{IsNear, near_of, wrapped_of, sum_of}
@@ -33,20 +32,6 @@ second_wrapped x y = wrapped_near (pos 0 *ℤ x +ℤ pos (2 ^ 14) *ℤ y) y (ome
 wrapped_itself : (x : ℤ) → FitsSigned w32 x → wrapped_of x ≡ x
 unfolding wrapped_of
 wrapped_itself x f = int_wrap_fits w32 x f
-
-from_word : (a : ℤ) (n : ℕ) → FitsSigned w16 a → of_z w16 a ≡ n → a ≡ to_z w16 n
-from_word a n f e = simp to_z-of_z at (ap (to_z w16) e)
-
--- no scale but 1
-pub plain_part : (part : Part) → FitsSigned w16 part.a → FitsSigned w16 part.b → FitsSigned w16 part.c → FitsSigned w16 part.d
-    → of_z w16 part.a ≡ 16384 → of_z w16 part.b ≡ 0 → of_z w16 part.c ≡ 0 → of_z w16 part.d ≡ 16384 → IsPlain part
-plain_part part fa fb fc fd ea eb ec ed =
-    record {
-      a_is = from_word part.a 16384 fa ea;
-      b_is = from_word part.b 0 fb eb;
-      c_is = from_word part.c 0 fc ec;
-      d_is = from_word part.d 16384 fd ed;
-    }
 
 turned_plain : (part : Part) (p : Place) → IsPlain part → turned part p ≡ record { x = wrapped_of p.x; y = wrapped_of p.y }
 turned_plain part p h =

@@ -281,7 +281,7 @@ impl<'w, 'a> Walk<'w, 'a> {
         let Waiting { part, composite } = waiting;
         let mut composite = composite;
         let g = composite.g;
-        add_part(&mut composite.base, self.scale, hinted, g, part, made)?;
+        add_part(&mut composite.base, self.scale, hinted, g, &part, made)?;
         Ok(composite)
     }
 
@@ -326,7 +326,7 @@ impl<'w, 'a> Walk<'w, 'a> {
                     match step {
                         Step::Assembled(made) => {
                             let g = open.g;
-                            add_part(&mut open.base, self.scale, on, g, part, made)?;
+                            add_part(&mut open.base, self.scale, on, g, &part, made)?;
                         }
                         Step::Open(deeper) => {
                             below.push(Waiting {

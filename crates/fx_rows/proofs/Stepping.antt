@@ -1,18 +1,17 @@
--- From one row of a band to the next: the frame, the row and the base of a strip, what the rows before have, and the areas.
+-- From one row of a band to the next: the frame, the row and the base of a strip, what the rows before have, what holds at a base.
 -- Serves the loops over a piece's rows.
 use Rattle.std.proofs.Common.{◌≡◌, ◌∙◌, ap, sym, subst, ◌+◌, ◌*◌, ◌^◌, ◌<◌, ◌≤◌, ℕ, ℤ, pos, ◌+ℤ◌, ◌*ℤ◌, ◌<ℤ◌, arith}
 use Rattle.std.proofs.Common.{w32, to_z, of_z}
 use Rattle.fx_fixed.proofs.Linear.{signed_linear}
 use Rattle.fx_winding.specs.Limits.{IsPixelNumber, end_of_pixels}
+use Rattle.fx_winding.specs.Area.{Place}
 use Rattle.fx_winding.specs.Winding.{Span, centre}
 use Rattle.fx_winding.specs.declared.frame.Frame.{Frame}
-use Rattle.fx_winding.specs.declared.weights.Weights.{Weights}
 use Rattle.fx_rows.specs.declared.band.Band.{Band}
 use Rattle.fx_rows.specs.declared.bounded.Bounded.{Bounded}
 use Rattle.fx_rows.specs.declared.strip.Strip.{Strip}
 use Rattle.fx_rows.specs.declared.cells.Cut.{Cut}
 use Rattle.fx_rows.specs.inner.Points.{IsInner}
-use Rattle.fx_rows.specs.inner.Arcs.{AreAreas}
 use Rattle.fx_rows.specs.inner.Strips.{base_of, base_place}
 use Rattle.fx_rows.specs.inner.Inside.{IsOnInside}
 use Rattle.fx_rows.specs.inner.Cuts.{IsCut}
@@ -65,24 +64,22 @@ pub band_end : (s : Span) (f : Frame) (from up end : ℕ) (old new : Band) → u
     → IsBandAdded s f from end old new
 band_end s f from up end old new e h = subst (λ (n : ℕ). IsBandAdded s f from n old new) e h
 
--- the areas at the base of a strip
-pub base_areas : (s : Span) (f g : Frame) (strip : Strip) (up : ℕ) (areas : Weights) → g ≡ f → strip.row ≡ g.bottom +ℤ pos up
-    → strip.base ≡ base_of g.left → AreAreas s (base_place f up) areas
-    → AreAreas s (centre (strip.base +ℤ pos 0) strip.row) areas
-base_areas s f g strip up areas e at base h =
+-- what holds at the base of a row holds at the base of its strip
+pub at_base : (P : Place → Type 0) (f g : Frame) (strip : Strip) (up : ℕ) → g ≡ f → strip.row ≡ g.bottom +ℤ pos up
+    → strip.base ≡ base_of g.left → P (base_place f up) → P (centre (strip.base +ℤ pos 0) strip.row)
+at_base P f g strip up e at base h =
     let row = at ∙ ap (λ (x : Frame). x.bottom +ℤ pos up) e in
     let column = base ∙ ap (λ (x : Frame). base_of x.left) e in
-    subst (λ z. z) (λ i. AreAreas s (centre (sym column i +ℤ pos 0) (sym row i)) areas) h
+    subst (λ z. z) (λ i. P (centre (sym column i +ℤ pos 0) (sym row i))) h
 
--- the areas in the row above a strip
-pub next_areas : (s : Span) (f g : Frame) (strip : Strip) (up : ℕ) (areas : Weights) → g ≡ f → strip.row ≡ g.bottom +ℤ pos up
-    → strip.base ≡ base_of g.left → AreAreas s (centre (strip.base +ℤ pos 0) (strip.row +ℤ pos 1)) areas
-    → AreAreas s (base_place f (up + 1)) areas
-next_areas s f g strip up areas e at base h =
+-- what holds at the base above a strip holds at the base of the next row
+pub at_base_above : (P : Place → Type 0) (f g : Frame) (strip : Strip) (up : ℕ) → g ≡ f → strip.row ≡ g.bottom +ℤ pos up
+    → strip.base ≡ base_of g.left → P (centre (strip.base +ℤ pos 0) (strip.row +ℤ pos 1)) → P (base_place f (up + 1))
+at_base_above P f g strip up e at base h =
     let row = at ∙ ap (λ (x : Frame). x.bottom +ℤ pos up) e in
     let column = base ∙ ap (λ (x : Frame). base_of x.left) e in
     let next : strip.row +ℤ pos 1 ≡ f.bottom +ℤ pos (up + 1) = omega (arith, signed_linear, row) in
-    subst (λ z. z) (λ i. AreAreas s (centre (column i +ℤ pos 0) (next i)) areas) h
+    subst (λ z. z) (λ i. P (centre (column i +ℤ pos 0) (next i))) h
 
 -- the row above a strip is a row of pixels, if the frame has it
 pub next_row_in : (f g : Frame) (row : ℤ) (up : ℕ) → g ≡ f → row ≡ g.bottom +ℤ pos up → up + 1 < f.height

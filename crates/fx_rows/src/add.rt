@@ -1,8 +1,7 @@
 //! What a piece adds to a band of rows.
 
-ghost use Rattle.std.specs.Prelude.{◌≡◌, ◌+◌, ◌-◌, ◌*◌, ◌^◌, ◌<◌, ◌≤◌, pos, ◌+ℤ◌, ◌-ℤ◌, ◌≤ℤ◌, Some, None};
+ghost use Rattle.std.specs.Prelude.{◌≡◌, ◌+◌, ◌-◌, ◌*◌, ◌^◌, ◌<◌, ◌≤◌, pos, ◌+ℤ◌, Some};
 ghost use Rattle.fx_winding.specs.Winding.{Span, span_of};
-ghost use Rattle.fx_rows.specs.Parts.{IsBent};
 ghost use Rattle.fx_rows.specs.inner.Arcs.{AreAreas};
 ghost use Rattle.fx_rows.specs.inner.Strips.{base_place};
 ghost use Rattle.fx_rows.specs.inner.Inside.{IsOnInside};
@@ -10,13 +9,12 @@ ghost use Rattle.fx_rows.specs.inner.Cuts.{IsCut};
 ghost use Rattle.fx_rows.specs.inner.Sums.{AreWithin};
 ghost use Rattle.fx_rows.specs.inner.Bands.{stride, AreInner, IsRowAdded, IsBandAdded, bounded_span};
 
-use crate::above::{arc_areas_above, line_areas_above};
 use crate::arc::total_of;
 use crate::band::Band;
 use crate::bounded::{Bounded, bounds_of, rise_of};
 use crate::cells::Cut;
 use crate::counts::{add_before, add_run};
-use crate::cut::{arc_cut, clear_cut, first_guess, line_cut};
+use crate::cuts::{ArcCuts, ClearCuts, Cuts, LineCuts};
 use crate::heights::{RowRange, rows_between, rows_met};
 use crate::intervals::met_part;
 use crate::marks::mark;
@@ -101,80 +99,28 @@ fn add_cut(band: &mut Band, up: u32, strip: Strip, cut: Cut)
     mark(&mut band.marks, frame, first, cut.on);
 }
 
-/// Adds what a piece gives to rows between its ends if no column's centre is in its box.
-fn add_clear_rows(bounded: &Bounded, rows: RowRange, band: &mut Band)
-    requires rows { rows.end ≤ band.old.frame.height }
-    requires clear { bounded.now.across.end ≤ℤ bounded.now.across.first }
-    requires inner { AreInner bounded.now band.old.frame rows.first rows.end }
-    requires small { AreWithin (2 ^ 25 + 4 * rows.first) band.old.diff.items }
-    ensures frame { band.new.frame ≡ band.old.frame }
-    ensures added { IsBandAdded (bounded_span bounded.now) band.old.frame rows.first rows.end band.old band.new }
-{
-    // The rows before `up` have what the piece adds.
-    'rows: for up in rows.first..rows.end {
-        let strip = strip_of(band.frame, row_of(band.frame, up));
-        let cut = clear_cut(bounded, strip);
-        add_cut(band, up, strip, cut);
-    }
-}
-
-/// Adds what a line gives to rows between its ends.
-fn add_line_rows(
+/// Adds the cuts of a piece to rows between its ends. It is compiled once for each kind of cuts.
+fn add_cuts<C: Cuts + Drop>(
     bounded: &Bounded,
+    cuts: C,
     rows: RowRange,
-    areas: Weights,
     band: &mut Band,
     tally: &mut Tally,
 )
-    requires line { bounded.now.piece.b ≡ None }
     requires rows { rows.end ≤ band.old.frame.height }
     requires inner { AreInner bounded.now band.old.frame rows.first rows.end }
-    requires areas { AreAreas (bounded_span bounded.now) (base_place band.old.frame rows.first) areas }
+    requires at { C.AreAt cuts bounded.now (base_place band.old.frame rows.first) }
     requires small { AreWithin (2 ^ 25 + 4 * rows.first) band.old.diff.items }
     ensures frame { band.new.frame ≡ band.old.frame }
     ensures added { IsBandAdded (bounded_span bounded.now) band.old.frame rows.first rows.end band.old band.new }
     ensures count { tally.new.count ≤ tally.old.count + (rows.end - rows.first) }
 {
-    let mut areas = areas;
-    // The rows before `up` have what the line adds, and the areas are those of the base in this row.
+    let mut cuts = cuts;
+    // The rows before `up` have what the piece adds, and the cut of this row comes next.
     'rows: for up in rows.first..rows.end {
         let strip = strip_of(band.frame, row_of(band.frame, up));
-        let cut = line_cut(bounded, strip, areas, tally);
+        let cut = cuts.next(bounded, strip, tally);
         add_cut(band, up, strip, cut);
-        areas = line_areas_above(&bounded.piece, strip, areas);
-    }
-}
-
-/// Adds what a bent arc gives to rows between its ends.
-fn add_arc_rows(
-    bounded: &Bounded,
-    b: Point,
-    rows: RowRange,
-    areas: Weights,
-    band: &mut Band,
-    tally: &mut Tally,
-)
-    requires middle { bounded.now.piece.b ≡ Some b }
-    requires bent { IsBent (bounded_span bounded.now) }
-    requires rows { rows.end ≤ band.old.frame.height }
-    requires inner { AreInner bounded.now band.old.frame rows.first rows.end }
-    requires areas { AreAreas (bounded_span bounded.now) (base_place band.old.frame rows.first) areas }
-    requires small { AreWithin (2 ^ 25 + 4 * rows.first) band.old.diff.items }
-    ensures frame { band.new.frame ≡ band.old.frame }
-    ensures added { IsBandAdded (bounded_span bounded.now) band.old.frame rows.first rows.end band.old band.new }
-    ensures count { tally.new.count ≤ tally.old.count + (rows.end - rows.first) }
-{
-    let mut areas = areas;
-    let mut guess = first_guess(&bounded.piece, band.frame);
-    let mut last = guess;
-    // The rows before `up` have what the arc adds, and the areas are those of the base in this row.
-    'rows: for up in rows.first..rows.end {
-        let strip = strip_of(band.frame, row_of(band.frame, up));
-        let cut = arc_cut(bounded, b, strip, areas, guess, tally);
-        guess = cut.end.saturating_add(cut.end).saturating_sub(last);
-        last = cut.end;
-        add_cut(band, up, strip, cut);
-        areas = arc_areas_above(&bounded.piece, b, strip, areas);
     }
 }
 
@@ -199,7 +145,8 @@ fn add_curve_rows(
     if total_of(areas) == 0 {
         return add_met_rows(&bounded.piece, rows, band, tally);
     }
-    add_arc_rows(bounded, b, rows, areas, band, tally);
+    let cuts = ArcCuts::from_lowest(bounded, b, areas, band.frame);
+    add_cuts(bounded, cuts, rows, band, tally);
 }
 
 /// Adds what a piece gives to rows between its ends.
@@ -213,12 +160,12 @@ fn add_inner_rows(bounded: &Bounded, rows: RowRange, band: &mut Band, tally: &mu
     ensures count { tally.new.count ≤ tally.old.count + 12 * (rows.end - rows.first) }
 {
     if bounded.across.end <= bounded.across.first {
-        return add_clear_rows(bounded, rows, band);
+        return add_cuts(bounded, ClearCuts, rows, band, tally);
     }
     let strip = strip_of(band.frame, row_of(band.frame, rows.first));
     let areas = areas_at(&bounded.piece, strip, 0, tally);
     match bounded.piece.b {
-        None => add_line_rows(bounded, rows, areas, band, tally),
+        None => add_cuts(bounded, LineCuts { areas }, rows, band, tally),
         Some(b) => add_curve_rows(bounded, b, rows, areas, band, tally),
     }
 }

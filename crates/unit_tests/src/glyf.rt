@@ -139,7 +139,8 @@ const FORMS: [(&[u8], (i32, i32), (i16, i16, i16, i16)); 10] = [
 
 /// The glyph of a component, its arguments and its scales.
 fn form(part: Part) -> (u16, (i32, i32), (i16, i16, i16, i16)) {
-    (part.glyph, part.args, (part.a, part.b, part.c, part.d))
+    let scales = (part.a.0, part.b.0, part.c.0, part.d.0);
+    (part.glyph, part.args, scales)
 }
 
 #[test]

@@ -1,9 +1,18 @@
-use Rattle.std.proofs.Common.{◌≡◌, ◌+◌, ap, ◌∙◌}
+use Rattle.std.proofs.Common.{ap, ◌∙◌, arith}
 use Rattle.fx_glyf.specs.Components.{part_size}
-use Rattle.fx_glyf.proofs.Parts.{part_taken}
+use Rattle.fx_glyf.proofs.Parts.{part_taken, size_of_taken, part_found}
 use Rattle.fx_glyf.proofs.records.next_part.Goals as goal
 
 pub part-requires : goal.part-requires
 part-requires c =
-    let size : 4 + c.args_size.result + c.scales_size.result ≡ part_size c.u16_in-flags.result = cc in
-    part_taken _ _ _ (size ∙ ap part_size c.u16_in-flags.ensures) c.if-bytes-size.false c.before-2.ensures
+    part_taken _ _ _ (c.part_size-size.ensures ∙ ap part_size c.u16_in.ensures) c.if-bytes-size.false c.before-2.ensures
+
+pub returns-clause-value : goal.returns-clause-value
+returns-clause-value c =
+    part_found _ _ _ _ (c.part_size-size.ensures ∙ ap part_size c.u16_in.ensures) c.if-bytes-size.false c.before-2.ensures
+    c.part.ensures
+
+pub returns-clause-inside : goal.returns-clause-inside
+returns-clause-inside c =
+    let size = size_of_taken _ _ _ _ (c.part_size-size.ensures ∙ ap part_size c.u16_in.ensures) c.before-2.ensures c.part.ensures in
+    omega (arith, size)

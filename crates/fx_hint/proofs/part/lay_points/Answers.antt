@@ -13,9 +13,9 @@ points-preserved c =
     ∙ ap (λ (ps : List Point). get_or ps c.points.number c.index-points-number.result) c.points-in-points.ensures in
     record {
       points = ap (λ (f : Figure). f.points) c.set.ensures.value
-          ∙ more_written (laid c.args.part c.args.offset.now) c.args.zone.now.points c.points.zone.points c.points.number
+          ∙ more_written (laid c.args.part.now c.args.offset.now) c.args.zone.now.points c.points.zone.points c.points.number
           c.laid-point.result c.index-points-number.result inside c.points.invariant.points
-          (c.laid-point.ensures ∙ ap (laid c.args.part c.args.offset.now) read);
+          (c.laid-point.ensures ∙ ap (laid c.args.part.now c.args.offset.now) read);
       ends = ap (λ (f : Figure). f.ends) c.set.ensures.value ∙ c.points.invariant.ends;
       count = c.set.ensures.shape.points ∙ c.points.invariant.count;
     }

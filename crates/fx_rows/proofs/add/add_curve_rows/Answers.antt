@@ -4,9 +4,10 @@ use Rattle.fx_rows.proofs.Gaps.{area_of_areas}
 use Rattle.fx_rows.proofs.Flats.{is_bent}
 use Rattle.fx_rows.proofs.add.add_curve_rows.Goals as goal
 
-pub add_arc_rows-requires-clause-bent : goal.add_arc_rows-requires-clause-bent
-add_arc_rows-requires-clause-bent c =
+pub add_cuts-requires-clause-at : goal.add_cuts-requires-clause-at
+add_cuts-requires-clause-at c =
     let p = c.args.bounded.now.piece in
     let whole = area_of_areas p c.args.b (base_place c.args.band.now.frame c.args.rows.first) c.args.areas _ c.requires.middle
     c.requires.areas c.total_of.ensures.value in
-    is_bent p c.args.b c.requires.middle (λ z. c.if-total_of-eq0.false (ap (of_z w64) (whole ∙ z)))
+    let bent = is_bent p c.args.b c.requires.middle (λ z. c.if-total_of-eq0.false (ap (of_z w64) (whole ∙ z))) in
+    rw (c.from_lowest-cuts.ensures.b, c.from_lowest-cuts.ensures.areas) (c.requires.middle, bent, c.requires.areas)

@@ -7,12 +7,6 @@ use Rattle.fx_rows.specs.inner.Bands.{bounded_span}
 use Rattle.fx_rows.proofs.Stepping.{strip_row}
 use Rattle.fx_rows.proofs.add.add_inner_rows.Goals as goal
 
-pub add_clear_rows-requires-clause-rows : goal.add_clear_rows-requires-clause-rows
-add_clear_rows-requires-clause-rows c = omega (arith, signed_linear)
-
-pub add_line_rows-requires-clause-rows : goal.add_line_rows-requires-clause-rows
-add_line_rows-requires-clause-rows c = omega (arith, signed_linear)
-
 pub returns-in-None-clause-count : goal.returns-in-None-clause-count
 returns-in-None-clause-count c = omega (arith, signed_linear)
 

@@ -1,13 +1,12 @@
 use Rattle.std.proofs.Common.{◌≡◌, ◌≤◌, ◌<◌, ◌+◌, ◌-◌}
-use Rattle.fx_rows.specs.inner.Arcs.{AreAreas}
 use Rattle.fx_rows.specs.inner.Strips.{base_place}
 use Rattle.fx_rows.specs.inner.Bands.{bounded_span, IsBandAdded}
-use Rattle.fx_rows.proofs.add.add_arc_rows.Given as goal
+use Rattle.fx_rows.proofs.add.add_cuts.Given as goal
 
 abbrev pub invariant-rows : goal.invariant-rows
-invariant-rows l = record {
+invariant-rows g l = record {
   frame : l.band.frame ≡ l.fn.band.frame;
   added : IsBandAdded (bounded_span l.bounded) l.fn.band.frame l.fn.rows.first l.up l.fn.band l.band;
   count : l.tally.count ≤ l.fn.tally.count + (l.up - l.fn.rows.first);
-  areas : l.up < l.fn.rows.end → AreAreas (bounded_span l.bounded) (base_place l.fn.band.frame l.up) l.areas;
+  at : l.up < l.fn.rows.end → g.C.Cuts.AreAt l.cuts l.bounded (base_place l.fn.band.frame l.up);
 }

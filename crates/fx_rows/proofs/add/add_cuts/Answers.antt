@@ -2,88 +2,82 @@ use Rattle.std.proofs.Common.{◌≡◌, ◌∙◌, refl, arith}
 use Rattle.fx_rows.specs.inner.Bands.{bounded_span}
 use Rattle.fx_rows.proofs.Banding.{band_none}
 use Rattle.fx_rows.proofs.Stepping.{strip_row, row_in, inner_row, cut_inside}
-use Rattle.fx_rows.proofs.Stepping.{band_small, band_next, band_end, base_areas, next_areas, next_row_in}
-use Rattle.fx_rows.proofs.add.add_line_rows.Goals as goal
+use Rattle.fx_rows.proofs.Stepping.{band_small, band_next, band_end, at_base, at_base_above, next_row_in}
+use Rattle.fx_rows.proofs.add.add_cuts.Goals as goal
 
 pub rows-init : goal.rows-init
-rows-init c = record {
+rows-init g c = record {
   frame = refl;
   added = band_none (bounded_span c.args.bounded.now) c.args.band.now.frame c.args.rows.first c.args.band.now;
   count = omega arith;
-  areas = λ h. c.requires.areas;
+  at = λ h. c.requires.at;
 }
 
 pub row_of-requires : goal.row_of-requires
-row_of-requires c =
+row_of-requires g c =
     row_in c.args.band.now.frame c.rows.band.frame c.rows.up c.args.rows.end c.rows.invariant.frame c.requires.rows (omega arith)
 
-pub line_cut-cut-requires-clause-inner : goal.line_cut-cut-requires-clause-inner
-line_cut-cut-requires-clause-inner c =
+pub next-cut-requires-clause-inner : goal.next-cut-requires-clause-inner
+next-cut-requires-clause-inner g c =
     let at = strip_row c.strip_of-strip.result c.row_of.result _ c.row_of.ensures.near c.strip_of-strip.ensures.row
     c.row_of.ensures.value in
     inner_row c.args.bounded.now c.args.band.now.frame c.rows.band.frame c.args.rows.first c.args.rows.end c.rows.up
     c.strip_of-strip.result.row c.rows.invariant.frame at c.requires.inner (omega arith) (omega arith)
 
+pub next-cut-requires-clause-at : goal.next-cut-requires-clause-at
+next-cut-requires-clause-at g c =
+    let at = strip_row c.strip_of-strip.result c.row_of.result _ c.row_of.ensures.near c.strip_of-strip.ensures.row
+    c.row_of.ensures.value in
+    at_base (g.C.Cuts.AreAt c.rows.cuts c.args.bounded.now) c.args.band.now.frame c.rows.band.frame c.strip_of-strip.result
+    c.rows.up c.rows.invariant.frame at c.strip_of-strip.ensures.base (c.rows.invariant.at (omega arith))
+
 pub add_cut-requires-clause-up : goal.add_cut-requires-clause-up
-add_cut-requires-clause-up c =
+add_cut-requires-clause-up g c =
     row_in c.args.band.now.frame c.rows.band.frame c.rows.up c.args.rows.end c.rows.invariant.frame c.requires.rows (omega arith)
 
 pub add_cut-requires-clause-small : goal.add_cut-requires-clause-small
-add_cut-requires-clause-small c =
+add_cut-requires-clause-small g c =
     let few = c.args.band.now.few in
     let r = c.requires.rows in
     band_small (bounded_span c.args.bounded.now) c.args.band.now.frame c.args.rows.first c.rows.up c.args.band.now c.rows.band
     c.rows.invariant.added c.requires.small (omega (arith, few, r))
 
 pub add_cut-requires-clause-on : goal.add_cut-requires-clause-on
-add_cut-requires-clause-on c = cut_inside (bounded_span c.args.bounded.now) c.strip_of-strip.result c.rows.band.frame
-    c.line_cut-cut.result c.strip_of-strip.ensures.first c.strip_of-strip.ensures.last c.line_cut-cut.ensures.cut
+add_cut-requires-clause-on g c = cut_inside (bounded_span c.args.bounded.now) c.strip_of-strip.result c.rows.band.frame
+    c.next-cut.result c.strip_of-strip.ensures.first c.strip_of-strip.ensures.last c.next-cut.ensures.cut
 
 pub rows-preserved : goal.rows-preserved
-rows-preserved c =
+rows-preserved g c =
     let s = bounded_span c.args.bounded.now in
     let f = c.args.band.now.frame in
-    let g = c.rows.band.frame in
+    let now = c.rows.band.frame in
     let up = c.rows.up in
     let inv = c.rows.invariant in
     let strip = c.strip_of-strip.result in
     let at = strip_row c.strip_of-strip.result c.row_of.result _ c.row_of.ensures.near c.strip_of-strip.ensures.row
     c.row_of.ensures.value in
-    let n = c.line_cut-cut.ensures.count in
+    let n = c.next-cut.ensures.count in
     let m = inv.count in
     record {
       frame = c.add_cut.ensures.frame ∙ inv.frame;
-      added = band_next s f g strip.row c.args.rows.first up c.args.band.now c.rows.band c.add_cut.new.band (omega arith)
-          inv.frame at inv.added (c.add_cut.ensures.added s c.line_cut-cut.ensures.cut);
-      areas = λ h.
+      added = band_next s f now strip.row c.args.rows.first up c.args.band.now c.rows.band c.add_cut.new.band (omega arith)
+          inv.frame at inv.added (c.add_cut.ensures.added s c.next-cut.ensures.cut);
+      at = λ h.
           let r = c.requires.rows in
-          next_areas s f g strip up c.line_areas_above-areas.result inv.frame at c.strip_of-strip.ensures.base
-          (c.line_areas_above-areas.ensures (next_row_in f g strip.row up inv.frame at (omega (arith, h, r))));
+          at_base_above (g.C.Cuts.AreAt c.next-cut.new.self c.args.bounded.now) f now strip up inv.frame at
+          c.strip_of-strip.ensures.base
+          (c.next-cut.ensures.above (next_row_in f now strip.row up inv.frame at (omega (arith, h, r))));
       count = omega (arith, n, m);
     }
 
 pub returns-clause-frame : goal.returns-clause-frame
-returns-clause-frame c = c.rows.invariant.frame
+returns-clause-frame g c = c.rows.invariant.frame
 
 pub returns-clause-added : goal.returns-clause-added
-returns-clause-added c =
+returns-clause-added g c =
     band_end (bounded_span c.args.bounded.now) c.args.band.now.frame c.args.rows.first c.rows.up c.args.rows.end c.args.band.now
     c.rows.band (omega (arith, c.args.rows.order)) c.rows.invariant.added
 
 pub returns-clause-count : goal.returns-clause-count
-returns-clause-count c =
+returns-clause-count g c =
     let e : c.rows.up ≡ c.args.rows.end = omega (arith, c.args.rows.order) in let m = c.rows.invariant.count in omega (arith, e, m)
-
-pub line_cut-cut-requires-clause-areas : goal.line_cut-cut-requires-clause-areas
-line_cut-cut-requires-clause-areas c =
-    let at = strip_row c.strip_of-strip.result c.row_of.result _ c.row_of.ensures.near c.strip_of-strip.ensures.row
-    c.row_of.ensures.value in
-    base_areas (bounded_span c.args.bounded.now) c.args.band.now.frame c.rows.band.frame c.strip_of-strip.result c.rows.up
-    c.rows.areas c.rows.invariant.frame at c.strip_of-strip.ensures.base (c.rows.invariant.areas (omega arith))
-
-pub line_areas_above-areas-requires-clause-areas : goal.line_areas_above-areas-requires-clause-areas
-line_areas_above-areas-requires-clause-areas c =
-    let at = strip_row c.strip_of-strip.result c.row_of.result _ c.row_of.ensures.near c.strip_of-strip.ensures.row
-    c.row_of.ensures.value in
-    base_areas (bounded_span c.args.bounded.now) c.args.band.now.frame c.rows.band.frame c.strip_of-strip.result c.rows.up
-    c.rows.areas c.rows.invariant.frame at c.strip_of-strip.ensures.base (c.rows.invariant.areas (omega arith))
