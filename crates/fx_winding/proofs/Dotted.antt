@@ -83,8 +83,8 @@ words_with_bit f xs ys col row c r old same others =
         let far : i < 32 * size = omega (arith, k, count up h) in
         let within = steps_below f.left f.width col c in
         let apart : 32 * (up * size) + i ≢ bit_number f col row =
-        λ e. past_width (numbers_apart up (steps f.bottom row) size i (steps f.left col) far (words_hold f.width (steps f.left col) within)
-        e).1 l within in
+        λ e. past_width (numbers_apart up (steps f.bottom row) size i (steps f.left col) far
+        (words_hold f.width (steps f.left col) within) e).1 l within in
         let before : i < 32 * length (get_or (cut f.height size xs) up []) = omega (arith, far, (old.rows up h).count) in
         word_bit-cut f.height size up i ys h far
         ∙ others (32 * (up * size) + i) apart
@@ -126,7 +126,8 @@ bit_elsewhere f xs ys a b col row seen seen' c r others i j n =
         other (inl n) e _ = n e
         other (inr n) _ e = n e
 
-    by : (x y : Bool) → is_from f.left f.width i ≡ x → is_from f.bottom f.height j ≡ y → bit_of (grid f ys) i j ≡ bit_of (grid f xs) i j
+    by : (x y : Bool) → is_from f.left f.width i ≡ x → is_from f.bottom f.height j ≡ y
+        → bit_of (grid f ys) i j ≡ bit_of (grid f xs) i j
     by true true ex ey =
         let ci = from_true f.left f.width i ex in
         let rj = from_true f.bottom f.height j ey in

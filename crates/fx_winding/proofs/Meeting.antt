@@ -236,8 +236,8 @@ rising_line_crosses ax ay cx cy px qx rx y lp lq z h k =
     let n = product_above_zero (qx -ℤ rx) (cy -ℤ ay) (omega (arith, signed_linear)) (omega (arith, signed_linear)) in
     let e = area_along ax ay cx cy px rx y in
     let f = area_along ax ay cx cy rx qx y in
-    rising_crossing_differs ay cy y (area_of ax ay cx cy px y) (area_of ax ay cx cy qx y) h k (omega (arith, signed_linear, m, e, z))
-    (omega (arith, signed_linear, n, f, z))
+    rising_crossing_differs ay cy y (area_of ax ay cx cy px y) (area_of ax ay cx cy qx y) h k
+    (omega (arith, signed_linear, m, e, z)) (omega (arith, signed_linear, n, f, z))
 
 falling_line_crosses : (ax ay cx cy px qx rx y : ℤ) → px <ℤ rx → rx <ℤ qx → area_of ax ay cx cy rx y ≡ pos 0 → cy <ℤ y → y <ℤ ay
     → ¬ (crossing_number ay cy y (area_of ax ay cx cy px y) +ℤ pos 0 ≡ crossing_number ay cy y (area_of ax ay cx cy qx y) +ℤ pos 0)
@@ -246,22 +246,25 @@ falling_line_crosses ax ay cx cy px qx rx y lp lq z h k =
     let n = product_above_zero (qx -ℤ rx) (ay -ℤ cy) (omega (arith, signed_linear)) (omega (arith, signed_linear)) in
     let e = area_against ax ay cx cy px rx y in
     let f = area_against ax ay cx cy rx qx y in
-    falling_crossing_differs ay cy y (area_of ax ay cx cy px y) (area_of ax ay cx cy qx y) h k (omega (arith, signed_linear, m, e, z))
-    (omega (arith, signed_linear, n, f, z))
+    falling_crossing_differs ay cy y (area_of ax ay cx cy px y) (area_of ax ay cx cy qx y) h k
+    (omega (arith, signed_linear, m, e, z)) (omega (arith, signed_linear, n, f, z))
 
 -- both places brought to the row of the third
 crosses_on_row : (ax ay cx cy px qx py qy y : ℤ) → py ≡ y → qy ≡ y
     → ¬ (crossing_number ay cy y (area_of ax ay cx cy px y) +ℤ pos 0 ≡ crossing_number ay cy y (area_of ax ay cx cy qx y) +ℤ pos 0)
-    → ¬ (crossing_number ay cy py (area_of ax ay cx cy px py) +ℤ pos 0 ≡ crossing_number ay cy qy (area_of ax ay cx cy qx qy) +ℤ pos 0)
+    → ¬ (crossing_number ay cy py (area_of ax ay cx cy px py) +ℤ pos 0 ≡
+    crossing_number ay cy qy (area_of ax ay cx cy qx qy) +ℤ pos 0)
 crosses_on_row ax ay cx cy px qx py qy y ep eq n e =
     n (ap (λ t. crossing_number ay cy t (area_of ax ay cx cy px t) +ℤ pos 0) (sym ep) ∙ e
     ∙ ap (λ t. crossing_number ay cy t (area_of ax ay cx cy qx t) +ℤ pos 0) eq)
 
 pub lines_are_met : LinesAreMet
 lines_are_met a c p q r ep eq lp lq z (inl (h, k)) =
-    inr (inr (inl (crosses_on_row a.x a.y c.x c.y p.x q.x p.y q.y r.y ep eq (rising_line_crosses a.x a.y c.x c.y p.x q.x r.x r.y lp lq z h k))))
+    inr (inr (inl (crosses_on_row a.x a.y c.x c.y p.x q.x p.y q.y r.y ep eq
+    (rising_line_crosses a.x a.y c.x c.y p.x q.x r.x r.y lp lq z h k))))
 lines_are_met a c p q r ep eq lp lq z (inr (h, k)) =
-    inr (inr (inl (crosses_on_row a.x a.y c.x c.y p.x q.x p.y q.y r.y ep eq (falling_line_crosses a.x a.y c.x c.y p.x q.x r.x r.y lp lq z h k))))
+    inr (inr (inl (crosses_on_row a.x a.y c.x c.y p.x q.x p.y q.y r.y ep eq
+    (falling_line_crosses a.x a.y c.x c.y p.x q.x r.x r.y lp lq z h k))))
 
 -- ---- beside the row
 same_none : {w z w' z' : ℤ} → w ≡ pos 0 → z ≡ pos 0 → w' ≡ pos 0 → z' ≡ pos 0 → w +ℤ z ≡ w' +ℤ z'

@@ -2,11 +2,12 @@
 -- conversion, rule 3). Where a piece passes between the centres of two neighbours in a row, neither of which is covered, the left
 -- one is set; then the same in columns, where the lower one is set. The frame clamps: if the left or the lower one lies outside
 -- it, the other is set.
-use Rattle.std.specs.Prelude.{◌⊎◌, ℤ, pos, ◌+ℤ◌, ◌-ℤ◌, List, map, option_map, Any}
+use Rattle.std.specs.Prelude.{◌⊎◌, ◌↔◌, ◌*ℤ◌, ℤ, pos, ◌+ℤ◌, ◌-ℤ◌, List, map, option_map, Any}
 use Rattle.fx_winding.specs.declared.frame.Frame.{Frame}
 use Rattle.fx_winding.specs.Frames.{IsInFrame}
 use Rattle.fx_winding.specs.Area.{Place, place}
 use Rattle.fx_winding.specs.Winding.{Span, IsCovered, centre}
+use Rattle.fx_winding.specs.Moves.{shifted}
 use Rattle.fx_winding.specs.Meets.{IsMet}
 
 -- a place with its coordinates exchanged
@@ -57,3 +58,9 @@ abbrev pub ColumnsHaveNoGap : Type 0
 ColumnsHaveNoGap = (ss : List Span) (f : Frame) (i j : ℤ) → IsInFrame f i j ⊎ IsInFrame f i (j +ℤ pos 1)
     → ¬ (IsSet ss f i j) → ¬ (IsSet ss f i (j +ℤ pos 1))
     → ¬ (Any (IsMet (centre j i) (centre (j +ℤ pos 1) i)) (map turned_span ss))
+
+-- the law: pieces and a frame moved by k pixels to the right and l up, each pixel 128 units a side, set the pixels moved so
+abbrev pub ShiftMovesSet : Type 0
+ShiftMovesSet = (k l : ℤ) (ss : List Span) (f g : Frame)
+    → ((i j : ℤ) → IsInFrame g (i +ℤ k) (j +ℤ l) ↔ IsInFrame f i j) → (i j : ℤ)
+    → IsSet (map (shifted (pos 128 *ℤ k) (pos 128 *ℤ l)) ss) g (i +ℤ k) (j +ℤ l) ↔ IsSet ss f i j

@@ -1,4 +1,4 @@
-use Rattle.fx_winding.proofs.Dropout.{dropout_adds, rows_have_no_gap, columns_have_no_gap}
+use Rattle.fx_winding.proofs.Dropout.{dropout_adds, rows_have_no_gap, columns_have_no_gap, shift_moves_set}
 use Rattle.fx_winding.proofs.laws.dropout.Goals as goal
 
 pub returns-clause-adds : goal.returns-clause-adds
@@ -9,3 +9,6 @@ returns-clause-rows c = rows_have_no_gap
 
 pub returns-clause-columns : goal.returns-clause-columns
 returns-clause-columns c = columns_have_no_gap
+
+pub returns-clause-shift : goal.returns-clause-shift
+returns-clause-shift c = shift_moves_set

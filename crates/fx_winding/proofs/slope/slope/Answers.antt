@@ -53,7 +53,8 @@ pub wide_product-w-requires-clause-near_a : goal.wide_product-w-requires-clause-
 wide_product-w-requires-clause-near_a c = (omega (arith, signed_linear), omega (arith, signed_linear))
 
 pub overflow_mul-result : goal.overflow_mul-result
-overflow_mul-result c = doubled c.wide_product-w.result c.wide_product-u.result c.wide_product-w.ensures.size c.wide_product-u.ensures.size
+overflow_mul-result c =
+    doubled c.wide_product-w.result c.wide_product-u.result c.wide_product-w.ensures.size c.wide_product-u.ensures.size
 
 pub overflow_add-result-2 : goal.overflow_add-result-2
 overflow_add-result-2 c = added c.wide_product-w.result c.wide_product-u.result c.wide_product-v.result
