@@ -1,12 +1,16 @@
 -- Pieces of a list that meet a segment, as they are or with their coordinates exchanged.
--- Serves the loop of `gaps`.
-use Rattle.std.proofs.Common.{◌≡◌, refl, sym, ap, subst, ℕ, ◌<◌, Bool, true, false, List, [], ◌∷◌, All, Any, map, length, get_or}
+-- Serves `gaps`.
+use Rattle.std.proofs.Common.{◌≡◌, ◌↔◌, IsTrue, refl, sym, ap, subst, ℕ, ◌<◌, ℤ, pos, ◌+ℤ◌, Bool, true, false, List, [], ◌∷◌}
+use Rattle.std.proofs.Common.{All, Any, map, length, get_or}
 use Rattle.fx_winding.specs.Area.{Place}
 use Rattle.fx_winding.specs.Dropout.{turned_span}
 use Rattle.fx_winding.specs.Meets.{IsMet}
-use Rattle.fx_winding.specs.Winding.{span_of}
+use Rattle.fx_winding.specs.declared.frame.Frame.{Frame}
+use Rattle.fx_winding.specs.Bitmaps.{Bits}
+use Rattle.fx_winding.specs.Winding.{Span, span_of, centre}
 use Rattle.fx_winding.specs.declared.point.Piece.{Piece}
 use Rattle.fx_winding.proofs.Covers.{any_map, any_unmap}
+use Rattle.fx_dropout.specs.Lines.{IsSoFar}
 use Rattle.fx_dropout.specs.Turned.{seen_span, seen_spans}
 
 -- a piece does not meet the segment from p to q
@@ -37,3 +41,16 @@ none_met turned p q ps off a =
   where
     by : Any (λ s. IsMet p q (seen_span turned (span_of s))) ps → ⊥
     by (k, s, within, is, h) = subst (IsMissed turned p q) is (off k s within) h
+
+-- what is said of copies of the numbers is said of them
+pub any_met_at : (turned : Bool) {ps qs : List Piece} {x y i j : ℤ} (r : Bool) → ps ≡ qs → x ≡ i → y ≡ j
+    → (IsTrue r ↔ Any (IsMet (centre x y) (centre (x +ℤ pos 1) y)) (seen_spans turned (map span_of ps)))
+    → IsTrue r ↔ Any (IsMet (centre i j) (centre (i +ℤ pos 1) j)) (seen_spans turned (map span_of qs))
+any_met_at turned r e ex ey h =
+    subst (λ (l : List Piece × ℤ × ℤ). IsTrue r ↔ Any (IsMet (centre l.1 l.2) (centre (l.1 +ℤ pos 1) l.2))
+    (seen_spans turned (map span_of l.0))) (λ k. (e k, ex k, ey k)) h
+
+pub open_at : (turned : Bool) (ss : List Span) (f : Frame) (b : Bits) {x y i j : ℤ} (r : Bool) → x ≡ i → y ≡ j
+    → (IsTrue r ↔ (¬ (IsSoFar turned ss f b x y))) → IsTrue r ↔ (¬ (IsSoFar turned ss f b i j))
+open_at turned ss f b r ex ey h =
+    subst (λ (p : ℤ × ℤ). IsTrue r ↔ (¬ (IsSoFar turned ss f b p.0 p.1))) (λ k. (ex k, ey k)) h

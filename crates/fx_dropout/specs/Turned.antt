@@ -4,7 +4,8 @@ use Rattle.fx_winding.specs.declared.frame.Frame.{Frame}
 use Rattle.fx_winding.specs.Bitmaps.{Bits, bit_of}
 use Rattle.fx_winding.specs.Dropout.{turned_span}
 use Rattle.fx_winding.specs.Frames.{IsInFrame}
-use Rattle.fx_winding.specs.Winding.{Span}
+use Rattle.fx_winding.specs.Area.{Place}
+use Rattle.fx_winding.specs.Winding.{Span, centre}
 
 -- a piece
 abbrev pub seen_span : Bool → Span → Span
@@ -25,3 +26,8 @@ IsSeenInFrame true f i j = IsInFrame f j i
 abbrev pub seen_bit : Bool → Bits → ℤ → ℤ → Bool
 seen_bit false b i j = bit_of b i j
 seen_bit true b i j = bit_of b j i
+
+-- the centre of a pixel
+abbrev pub seen_centre : Bool → ℤ → ℤ → Place
+seen_centre false i j = centre i j
+seen_centre true i j = centre j i

@@ -1,9 +1,9 @@
-use Rattle.std.proofs.Common.{◌≡◌, ◌↔◌, ◌+ℤ◌, ◌∙◌, IsTrue, pos, sym, subst, map, Any, arith, w32, to_z, of_z, ℤ}
+use Rattle.std.proofs.Common.{◌≡◌, ◌+ℤ◌, ◌∙◌, inl, pos, sym, map, arith, w32, to_z, of_z}
 use Rattle.fx_fixed.proofs.Linear.{signed_linear}
-use Rattle.fx_winding.specs.Meets.{IsMet}
-use Rattle.fx_winding.specs.Winding.{span_of, centre}
+use Rattle.fx_winding.specs.Winding.{span_of}
 use Rattle.fx_winding.proofs.Places.{clash, no}
-use Rattle.fx_dropout.specs.Turned.{seen_spans, seen_bit}
+use Rattle.fx_dropout.specs.Turned.{seen_bit}
+use Rattle.fx_dropout.proofs.Missed.{any_met_at, open_at}
 use Rattle.fx_dropout.proofs.gaps.is_gap.Goals as goal
 
 pub returns-then-is_set-2 : goal.returns-then-is_set-2
@@ -12,26 +12,37 @@ returns-then-is_set-2 c =
     let n : to_z w32 (of_z w32 (to_z w32 (of_z w32 c.args.i) +ℤ pos 1)) ≡ c.args.i +ℤ pos 1 = omega (arith, signed_linear) in
     let next : c.is_set-2.result ≡ seen_bit c.args.turned c.args.bitmap.now (c.args.i +ℤ pos 1) c.args.j =
     c.is_set-2.ensures ∙ (λ k. seen_bit c.args.turned c.args.bitmap.now (n k) (j k)) in
-    no (λ g. g.next (sym next ∙ c.if-is_set-2.true))
+    no (λ g. g.next (inl (sym next ∙ c.if-is_set-2.true)))
+
+pub returns-then-not-any_meets : goal.returns-then-not-any_meets
+returns-then-not-any_meets c =
+    let i : to_z w32 (of_z w32 c.args.i) ≡ c.args.i = omega (arith, signed_linear) in
+    let j : to_z w32 (of_z w32 c.args.j) ≡ c.args.j = omega (arith, signed_linear) in
+    let met = any_met_at c.args.turned c.any_meets.result c.as_slice.ensures.value i j c.any_meets.ensures in
+    no (λ g. clash c.any_meets.result c.if-not-any_meets.true (met.1 g.met))
+
+pub returns-then-not-is_open : goal.returns-then-not-is_open
+returns-then-not-is_open c =
+    let i : to_z w32 (of_z w32 c.args.i) ≡ c.args.i = omega (arith, signed_linear) in
+    let j : to_z w32 (of_z w32 c.args.j) ≡ c.args.j = omega (arith, signed_linear) in
+    let here = open_at c.args.turned (map span_of c.args.pieces.now) c.args.bitmap.now.frame c.args.bitmap.now c.is_open.result i j
+    c.is_open.ensures in
+    no (λ g. clash c.is_open.result c.if-not-is_open.true (here.1 g.here))
 
 pub returns : goal.returns
 returns c =
-    let ss = seen_spans c.args.turned (map span_of c.args.pieces.now) in
+    let ss = map span_of c.args.pieces.now in
     let b = c.args.bitmap.now in
     let i : to_z w32 (of_z w32 c.args.i) ≡ c.args.i = omega (arith, signed_linear) in
     let j : to_z w32 (of_z w32 c.args.j) ≡ c.args.j = omega (arith, signed_linear) in
     let n : to_z w32 (of_z w32 (to_z w32 (of_z w32 c.args.i) +ℤ pos 1)) ≡ c.args.i +ℤ pos 1 = omega (arith, signed_linear) in
-    let here : c.is_set.result ≡ seen_bit c.args.turned b c.args.i c.args.j =
-    c.is_set.ensures ∙ (λ k. seen_bit c.args.turned b (i k) (j k)) in
-    let next : c.is_set-2.result ≡ seen_bit c.args.turned b (c.args.i +ℤ pos 1) c.args.j =
-    c.is_set-2.ensures ∙ (λ k. seen_bit c.args.turned b (n k) (j k)) in
-    let P = λ (x y : ℤ). IsTrue c.any_meets.result ↔ Any (IsMet (centre x y) (centre (x +ℤ pos 1) y)) ss in
-    let met : P c.args.i c.args.j =
-    subst (λ y. P c.args.i y) j (subst (λ x. P x (to_z w32 (of_z w32 c.args.j))) i c.any_meets.ensures) in (
+    let met = any_met_at c.args.turned c.any_meets.result c.as_slice.ensures.value i j c.any_meets.ensures in
+    let here = open_at c.args.turned ss b.frame b c.is_open.result i j c.is_open.ensures in
+    let next = open_at c.args.turned ss b.frame b c.is_open-2.result n j c.is_open-2.ensures in (
       λ t. record {
-        here = λ s. clash c.is_set.result c.if-is_set.false (here ∙ s);
-        next = λ s. clash c.is_set-2.result c.if-is_set-2.false (next ∙ s);
-        met = met.0 t;
+        here = here.0 c.if-not-is_open.false;
+        next = next.0 t;
+        met = met.0 c.if-not-any_meets.false;
       },
-      λ g. met.1 g.met,
+      λ g. next.1 g.next,
     )
