@@ -10,8 +10,8 @@ use Rattle.fx_winding.specs.Bitmaps.{Bits}
 use Rattle.fx_winding.specs.Winding.{Span, span_of, centre}
 use Rattle.fx_winding.specs.declared.point.Piece.{Piece}
 use Rattle.fx_winding.proofs.Covers.{any_map, any_unmap}
-use Rattle.fx_dropout.specs.Lines.{IsSoFar}
-use Rattle.fx_dropout.specs.Turned.{seen_span, seen_spans}
+use Rattle.fx_dropout.specs.inner.Lines.{IsSoFar}
+use Rattle.fx_dropout.specs.inner.Turned.{seen_span, seen_spans}
 
 -- a piece does not meet the segment from p to q
 abbrev pub IsMissed : Bool → Place → Place → Piece → Type 0

@@ -11,8 +11,8 @@ use Rattle.fx_winding.specs.Bitmaps.{Bits, bit_of, IsScanOf}
 use Rattle.fx_winding.specs.Winding.{Span, IsCovered, centre}
 use Rattle.fx_winding.proofs.Grid.{from_true}
 use Rattle.fx_winding.proofs.Scanned.{from_is}
-use Rattle.fx_dropout.specs.Lines.{AreClosed, IsRowClosed, AreRowsClosed, IsSoFar}
-use Rattle.fx_dropout.specs.Turned.{seen_bit, IsSeenInFrame}
+use Rattle.fx_dropout.specs.inner.Lines.{AreClosed, IsRowClosed, AreRowsClosed, IsSoFar}
+use Rattle.fx_dropout.specs.inner.Turned.{seen_bit, IsSeenInFrame}
 
 same_or_not : (a b : ℤ) → (a ≡ b) ⊎ (a ≢ b)
 same_or_not a b = grind (arith, ints)

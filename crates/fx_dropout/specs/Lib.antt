@@ -1,2 +1,2 @@
-pub mod Turned
-pub mod Lines
+pub mod Margins
+pub mod inner

@@ -6,8 +6,9 @@ ghost use Rattle.fx_winding.specs.Dropout.{IsGap, IsBridged, IsSet};
 ghost use Rattle.fx_winding.specs.Frames.{IsFrom, IsInFrame};
 ghost use Rattle.fx_winding.specs.Limits.{IsPixelNumber};
 ghost use Rattle.fx_winding.specs.Winding.{span_of};
-ghost use Rattle.fx_dropout.specs.Lines.{IsSoFar, IsRowClosed, HasMargin};
-ghost use Rattle.fx_dropout.specs.Turned.{seen_spans, IsSeenInFrame};
+ghost use Rattle.fx_dropout.specs.Margins.{HasMargin};
+ghost use Rattle.fx_dropout.specs.inner.Lines.{IsSoFar, IsRowClosed};
+ghost use Rattle.fx_dropout.specs.inner.Turned.{seen_spans, IsSeenInFrame};
 
 use crate::gaps::is_gap;
 use crate::turned::{seen_frame, set};

@@ -7,8 +7,8 @@ ghost use Rattle.fx_winding.specs.Limits.{IsPixelNumber};
 ghost use Rattle.fx_winding.specs.Meets.{IsMet};
 ghost use Rattle.fx_winding.specs.Outside.{HasAll};
 ghost use Rattle.fx_winding.specs.Winding.{place_of, span_of, centre as centre_of, IsCovered};
-ghost use Rattle.fx_dropout.specs.Lines.{IsSoFar};
-ghost use Rattle.fx_dropout.specs.Turned.{seen_spans, seen_centre, IsSeenInFrame};
+ghost use Rattle.fx_dropout.specs.inner.Lines.{IsSoFar};
+ghost use Rattle.fx_dropout.specs.inner.Turned.{seen_spans, seen_centre, IsSeenInFrame};
 
 use crate::turned::{is_set, seen_piece};
 use fx_winding::{Bitmap, Frame, Piece, Pieces, Point, Tally, covered, meets};

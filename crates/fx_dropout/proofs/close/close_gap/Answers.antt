@@ -2,7 +2,7 @@ use Rattle.std.proofs.Common.{◌≡◌, ◌∙◌, inl, inr, sym, map, arith, w
 use Rattle.fx_fixed.proofs.Linear.{signed_linear}
 use Rattle.fx_winding.specs.Winding.{span_of}
 use Rattle.fx_winding.proofs.Places.{clash}
-use Rattle.fx_dropout.specs.Turned.{seen_bit}
+use Rattle.fx_dropout.specs.inner.Turned.{seen_bit}
 use Rattle.fx_dropout.proofs.Rows.{gap_at, so_far_same, same_without}
 use Rattle.fx_dropout.proofs.close.close_gap.Goals as goal
 

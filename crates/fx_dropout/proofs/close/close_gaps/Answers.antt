@@ -2,8 +2,8 @@ use Rattle.std.proofs.Common.{◌↔◌, inl, true, false, subst, map, ℤ}
 use Rattle.fx_winding.specs.declared.frame.Frame.{Frame}
 use Rattle.fx_winding.specs.Dropout.{IsBridged}
 use Rattle.fx_winding.specs.Winding.{span_of}
-use Rattle.fx_dropout.specs.Lines.{IsSoFar}
-use Rattle.fx_dropout.specs.Turned.{seen_spans, IsSeenInFrame}
+use Rattle.fx_dropout.specs.inner.Lines.{IsSoFar}
+use Rattle.fx_dropout.specs.inner.Turned.{seen_spans, IsSeenInFrame}
 use Rattle.fx_dropout.proofs.Rows.{columns_after_rows, scan_so_far, so_far_in_frame}
 use Rattle.fx_dropout.proofs.close.close_gaps.Goals as goal
 

@@ -6,8 +6,8 @@ use Rattle.fx_winding.specs.Bitmaps.{Bits}
 use Rattle.fx_winding.specs.Dropout.{IsGap}
 use Rattle.fx_winding.specs.Frames.{IsInFrame}
 use Rattle.fx_winding.specs.Winding.{span_of}
-use Rattle.fx_dropout.specs.Lines.{AreClosed, IsRowClosed, IsSoFar}
-use Rattle.fx_dropout.specs.Turned.{seen_spans, IsSeenInFrame}
+use Rattle.fx_dropout.specs.inner.Lines.{AreClosed, IsRowClosed, IsSoFar}
+use Rattle.fx_dropout.specs.inner.Turned.{seen_spans, IsSeenInFrame}
 use Rattle.fx_dropout.proofs.Rows.{closed_none, closed_more, row_closed, empty_row_closed, so_far_decided}
 use Rattle.fx_dropout.proofs.close.close_row.Goals as goal
 

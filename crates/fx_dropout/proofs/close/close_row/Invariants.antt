@@ -1,7 +1,7 @@
 use Rattle.std.proofs.Common.{◌≡◌, map}
 use Rattle.fx_winding.specs.Winding.{span_of}
-use Rattle.fx_dropout.specs.Lines.{AreClosed, IsSoFar}
-use Rattle.fx_dropout.specs.Turned.{seen_spans}
+use Rattle.fx_dropout.specs.inner.Lines.{AreClosed, IsSoFar}
+use Rattle.fx_dropout.specs.inner.Turned.{seen_spans}
 use Rattle.fx_dropout.proofs.close.close_row.Given as goal
 
 abbrev pub invariant-pixels : goal.invariant-pixels

@@ -1,7 +1,7 @@
 use Rattle.std.proofs.Common.{◌≡◌, map}
 use Rattle.fx_winding.specs.Winding.{span_of}
-use Rattle.fx_dropout.specs.Lines.{AreRowsClosed, IsSoFar}
-use Rattle.fx_dropout.specs.Turned.{seen_spans}
+use Rattle.fx_dropout.specs.inner.Lines.{AreRowsClosed, IsSoFar}
+use Rattle.fx_dropout.specs.inner.Turned.{seen_spans}
 use Rattle.fx_dropout.proofs.close.close_rows.Given as goal
 
 abbrev pub invariant-rows : goal.invariant-rows

@@ -5,7 +5,7 @@ use Rattle.fx_fixed.proofs.Linear.{signed_linear}
 use Rattle.fx_winding.specs.Meets.{IsMet}
 use Rattle.fx_winding.specs.Winding.{Span, span_of, centre}
 use Rattle.fx_winding.proofs.Places.{clash, no}
-use Rattle.fx_dropout.specs.Turned.{seen_span}
+use Rattle.fx_dropout.specs.inner.Turned.{seen_span}
 use Rattle.fx_dropout.proofs.Missed.{IsMissed, any_met, none_met}
 use Rattle.fx_dropout.proofs.gaps.any_meets.Goals as goal
 
@@ -43,8 +43,10 @@ returns c =
     let i : to_z w32 (of_z w32 c.args.i) ≡ c.args.i = omega (arith, signed_linear) in
     let j : to_z w32 (of_z w32 c.args.j) ≡ c.args.j = omega (arith, signed_linear) in
     let done : c.pieces.piece-index ≡ length c.args.pieces.now = omega arith in
-    let P = λ (x y : ℤ). All (IsMissed c.args.turned (centre x y) (centre (x +ℤ pos 1) y)) (take c.pieces.piece-index c.args.pieces.now) in
-    let off : P c.args.i c.args.j = subst (λ y. P c.args.i y) j (subst (λ x. P x (to_z w32 (of_z w32 c.args.j))) i c.pieces.invariant) in
+    let P = λ (x y : ℤ). All (IsMissed c.args.turned (centre x y) (centre (x +ℤ pos 1) y))
+    (take c.pieces.piece-index c.args.pieces.now) in
+    let off : P c.args.i c.args.j =
+    subst (λ y. P c.args.i y) j (subst (λ x. P x (to_z w32 (of_z w32 c.args.j))) i c.pieces.invariant) in
     let all : All (IsMissed c.args.turned p q) c.args.pieces.now =
     subst (All (IsMissed c.args.turned p q)) (ap (λ n. take n c.args.pieces.now) done ∙ take-length c.args.pieces.now) off in
     no (none_met c.args.turned p q c.args.pieces.now all)

@@ -2,7 +2,7 @@ use Rattle.std.proofs.Common.{◌≡◌, ◌+ℤ◌, ◌∙◌, inl, pos, sym, m
 use Rattle.fx_fixed.proofs.Linear.{signed_linear}
 use Rattle.fx_winding.specs.Winding.{span_of}
 use Rattle.fx_winding.proofs.Places.{clash, no}
-use Rattle.fx_dropout.specs.Turned.{seen_bit}
+use Rattle.fx_dropout.specs.inner.Turned.{seen_bit}
 use Rattle.fx_dropout.proofs.Missed.{any_met_at, open_at}
 use Rattle.fx_dropout.proofs.gaps.is_gap.Goals as goal
 

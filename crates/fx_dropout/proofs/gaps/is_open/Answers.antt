@@ -3,7 +3,7 @@ use Rattle.fx_fixed.proofs.Linear.{signed_linear}
 use Rattle.fx_winding.specs.declared.frame.Frame.{Frame}
 use Rattle.fx_winding.specs.Winding.{span_of, IsCovered}
 use Rattle.fx_winding.proofs.Places.{no}
-use Rattle.fx_dropout.specs.Turned.{seen_bit, seen_centre, IsSeenInFrame}
+use Rattle.fx_dropout.specs.inner.Turned.{seen_bit, seen_centre, IsSeenInFrame}
 use Rattle.fx_dropout.proofs.Rows.{open_when}
 use Rattle.fx_dropout.proofs.gaps.is_open.Goals as goal
 

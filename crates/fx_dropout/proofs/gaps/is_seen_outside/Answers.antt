@@ -2,7 +2,7 @@ use Rattle.std.proofs.Common.{◌≡◌, ◌↔◌, IsTrue, sym, subst, map, ari
 use Rattle.fx_fixed.proofs.Linear.{signed_linear}
 use Rattle.fx_winding.specs.Frames.{IsInFrame}
 use Rattle.fx_winding.specs.Winding.{span_of, centre, IsCovered}
-use Rattle.fx_dropout.specs.Turned.{IsSeenInFrame, seen_centre}
+use Rattle.fx_dropout.specs.inner.Turned.{IsSeenInFrame, seen_centre}
 use Rattle.fx_dropout.proofs.gaps.is_seen_outside.Goals as goal
 
 pub returns-then-turned : goal.returns-then-turned

@@ -4,9 +4,8 @@ use Rattle.fx_winding.specs.declared.frame.Frame.{Frame}
 use Rattle.fx_winding.specs.Bitmaps.{Bits}
 use Rattle.fx_winding.specs.Dropout.{IsGap, IsBridged}
 use Rattle.fx_winding.specs.Frames.{IsFrom, IsInFrame}
-use Rattle.fx_winding.specs.Limits.{IsPixelNumber}
 use Rattle.fx_winding.specs.Winding.{Span, IsCovered}
-use Rattle.fx_dropout.specs.Turned.{seen_bit, seen_centre, IsSeenInFrame}
+use Rattle.fx_dropout.specs.inner.Turned.{seen_bit, seen_centre, IsSeenInFrame}
 
 -- what is set so far: the bits of a bitmap, and outside its frame f the pixels whose centres are covered
 abbrev pub IsSoFar : Bool → List Span → Frame → Bits → ℤ → ℤ → Type 0
@@ -27,10 +26,3 @@ pub record IsRowClosed (ss : List Span) (f : Frame) (j : ℤ) (Old New : ℤ →
 pub record AreRowsClosed (ss : List Span) (f : Frame) (count : ℕ) (Old New : ℤ → ℤ → Type 0) : Type 0 where
   pub rows : (i j : ℤ) → IsFrom f.bottom count j → New i j ↔ IsBridged ss (IsInFrame f) Old i j
   pub others : (i j : ℤ) → ¬ (IsFrom f.bottom count j) → New i j ↔ Old i j
-
--- the columns and rows beside the frame have numbers too
-pub record HasMargin (f : Frame) : Type 0 where
-  pub left : IsPixelNumber (f.left -ℤ pos 1)
-  pub right : IsPixelNumber (f.left +ℤ pos f.width)
-  pub bottom : IsPixelNumber (f.bottom -ℤ pos 1)
-  pub top : IsPixelNumber (f.bottom +ℤ pos f.height)
