@@ -94,7 +94,7 @@ region_part_back a (Some b) c p = by (region_cases a b c p)
     by (inr n) = region_out c b a p (λ h. n (in_region_back c b a p h)) ∙ ap neg_ℤ (sym (region_out a b c p n))
 
 -- ---- on a piece
-none_back : (z w : ℤ) → w ≡ neg_ℤ z → z ≡ pos 0 → w ≡ pos 0
+pub none_back : (z w : ℤ) → w ≡ neg_ℤ z → z ≡ pos 0 → w ≡ pos 0
 none_back z w e h = omega (arith, signed_linear)
 
 none_from : (z w : ℤ) → w ≡ neg_ℤ z → w ≡ pos 0 → z ≡ pos 0
@@ -104,7 +104,7 @@ between_back : (a c p : ℤ) → IsBetween a c p → IsBetween c a p
 between_back a c p (inl h) = inr h
 between_back a c p (inr h) = inl h
 
-turn_back : (a b c p : ℤ) → IsBeforeTurn a b c p → IsBeforeTurn c b a p
+pub turn_back : (a b c p : ℤ) → IsBeforeTurn a b c p → IsBeforeTurn c b a p
 turn_back a b c p h =
     let e : c *ℤ a -ℤ b *ℤ b ≡ a *ℤ c -ℤ b *ℤ b =
     ring (a ∷ b ∷ c ∷ []) (var 2 ⊠ var 0 ⊟ var 1 ⊠ var 1) (var 0 ⊠ var 2 ⊟ var 1 ⊠ var 1) tt in
@@ -166,7 +166,7 @@ reversal_negates p s = (
 )
 
 -- ---- all pieces of a list
-minus_sum : (x y : ℤ) → neg_ℤ (x +ℤ y) ≡ neg_ℤ x +ℤ neg_ℤ y
+pub minus_sum : (x y : ℤ) → neg_ℤ (x +ℤ y) ≡ neg_ℤ x +ℤ neg_ℤ y
 minus_sum x y = omega (arith, signed_linear)
 
 minus_none : (z : ℤ) → neg_ℤ z ≡ pos 0 → z ≡ pos 0

@@ -1,5 +1,5 @@
 -- A piece that is moved covers the places that it covered, moved with it.
--- Serves the law `shift`.
+-- Serves the laws `shift` and `meeting`.
 use Rattle.std.proofs.Common.{◌≡◌, refl, sym, ap, ◌∙◌, subst, ◌↔◌, inl, inr, ℤ, pos, ◌+ℤ◌, ◌-ℤ◌, ◌*ℤ◌, ◌≤ℤ◌, int_lt}
 use Rattle.std.proofs.Common.{◌&&◌, ◌||◌, if◌then◌else◌, [], ◌∷◌, Option, Some, None, map, option_map, arith}
 use Rattle.std.specs.Ordering.{int_eq}
@@ -16,7 +16,7 @@ use Rattle.fx_winding.proofs.Crossings.{crossing_number}
 use Rattle.fx_winding.proofs.Triangle.{area_expr}
 use Rattle.fx_winding.proofs.Covers.{covered_map}
 
-area_shift : (x y : ℤ) (a b c : Place) → area (shifted_place x y a) (shifted_place x y b) (shifted_place x y c) ≡ area a b c
+pub area_shift : (x y : ℤ) (a b c : Place) → area (shifted_place x y a) (shifted_place x y b) (shifted_place x y c) ≡ area a b c
 area_shift x y a b c =
     let e = var 0 in let e' = var 1 in
     let f = var 2 in let f' = var 3 in
@@ -28,7 +28,7 @@ area_shift x y a b c =
 crossing_number_shift : (t ay cy py s : ℤ) → crossing_number (ay +ℤ t) (cy +ℤ t) (py +ℤ t) s ≡ crossing_number ay cy py s
 crossing_number_shift t ay cy py s = grind (arith, ints)
 
-crossing_shift : (x y : ℤ) (a c p : Place)
+pub crossing_shift : (x y : ℤ) (a c p : Place)
     → chord_crossing (shifted_place x y a) (shifted_place x y c) (shifted_place x y p) ≡ chord_crossing a c p
 crossing_shift x y a c p =
     ap (crossing_number (a.y +ℤ y) (c.y +ℤ y) (p.y +ℤ y)) (area_shift x y a c p) ∙ crossing_number_shift y a.y c.y p.y (area a c p)
@@ -66,7 +66,7 @@ right_shift x y a b c =
         (int_eq ay cy && int_lt ay b))
     tests d d' ay b cy t e = grind (arith, ints)
 
-region_part_shift : (x y : ℤ) (a : Place) (b : Option Place) (c p : Place)
+pub region_part_shift : (x y : ℤ) (a : Place) (b : Option Place) (c p : Place)
     → region_part (shifted_place x y a) (option_map (shifted_place x y) b) (shifted_place x y c) (shifted_place x y p) ≡ region_part
     a b c p
 region_part_shift x y a None c p = refl
@@ -101,33 +101,41 @@ turn_shift t a b c p =
     same_order : (m n m' n' : ℤ) → m -ℤ n ≡ m' -ℤ n' → (n ≤ℤ m) ↔ (n' ≤ℤ m')
     same_order m n m' n' e = (λ h. omega (arith, signed_linear), λ h. omega (arith, signed_linear))
 
-range_shift : (t a b c p : ℤ) → IsInRange (a +ℤ t) (b +ℤ t) (c +ℤ t) (p +ℤ t) ↔ IsInRange a b c p
-range_shift t a b c p =
-    (λ r. record { low = low r.low; high = high r.high }, λ r. record { low = low_to r.low; high = high_to r.high })
+pub low_shift : (t a b c p : ℤ) → IsAboveLow (a +ℤ t) (b +ℤ t) (c +ℤ t) (p +ℤ t) ↔ IsAboveLow a b c p
+low_shift t a b c p = (λ h. from h, λ h. to h)
   where
-    low : IsAboveLow (a +ℤ t) (b +ℤ t) (c +ℤ t) (p +ℤ t) → IsAboveLow a b c p
-    low (inl h) = inl (omega (arith, signed_linear, h))
-    low (inr (inl h)) = inr (inl (omega (arith, signed_linear, h)))
-    low (inr (inr (k, l, m))) =
+    from : IsAboveLow (a +ℤ t) (b +ℤ t) (c +ℤ t) (p +ℤ t) → IsAboveLow a b c p
+    from (inl h) = inl (omega (arith, signed_linear, h))
+    from (inr (inl h)) = inr (inl (omega (arith, signed_linear, h)))
+    from (inr (inr (k, l, m))) =
         inr (inr (omega (arith, signed_linear, k), omega (arith, signed_linear, l), (turn_shift t a b c p).0 m))
 
-    low_to : IsAboveLow a b c p → IsAboveLow (a +ℤ t) (b +ℤ t) (c +ℤ t) (p +ℤ t)
-    low_to (inl h) = inl (omega (arith, signed_linear, h))
-    low_to (inr (inl h)) = inr (inl (omega (arith, signed_linear, h)))
-    low_to (inr (inr (k, l, m))) =
+    to : IsAboveLow a b c p → IsAboveLow (a +ℤ t) (b +ℤ t) (c +ℤ t) (p +ℤ t)
+    to (inl h) = inl (omega (arith, signed_linear, h))
+    to (inr (inl h)) = inr (inl (omega (arith, signed_linear, h)))
+    to (inr (inr (k, l, m))) =
         inr (inr (omega (arith, signed_linear, k), omega (arith, signed_linear, l), (turn_shift t a b c p).1 m))
 
-    high : IsBelowHigh (a +ℤ t) (b +ℤ t) (c +ℤ t) (p +ℤ t) → IsBelowHigh a b c p
-    high (inl h) = inl (omega (arith, signed_linear, h))
-    high (inr (inl h)) = inr (inl (omega (arith, signed_linear, h)))
-    high (inr (inr (k, l, m))) =
+pub high_shift : (t a b c p : ℤ) → IsBelowHigh (a +ℤ t) (b +ℤ t) (c +ℤ t) (p +ℤ t) ↔ IsBelowHigh a b c p
+high_shift t a b c p = (λ h. from h, λ h. to h)
+  where
+    from : IsBelowHigh (a +ℤ t) (b +ℤ t) (c +ℤ t) (p +ℤ t) → IsBelowHigh a b c p
+    from (inl h) = inl (omega (arith, signed_linear, h))
+    from (inr (inl h)) = inr (inl (omega (arith, signed_linear, h)))
+    from (inr (inr (k, l, m))) =
         inr (inr (omega (arith, signed_linear, k), omega (arith, signed_linear, l), (turn_shift t a b c p).0 m))
 
-    high_to : IsBelowHigh a b c p → IsBelowHigh (a +ℤ t) (b +ℤ t) (c +ℤ t) (p +ℤ t)
-    high_to (inl h) = inl (omega (arith, signed_linear, h))
-    high_to (inr (inl h)) = inr (inl (omega (arith, signed_linear, h)))
-    high_to (inr (inr (k, l, m))) =
+    to : IsBelowHigh a b c p → IsBelowHigh (a +ℤ t) (b +ℤ t) (c +ℤ t) (p +ℤ t)
+    to (inl h) = inl (omega (arith, signed_linear, h))
+    to (inr (inl h)) = inr (inl (omega (arith, signed_linear, h)))
+    to (inr (inr (k, l, m))) =
         inr (inr (omega (arith, signed_linear, k), omega (arith, signed_linear, l), (turn_shift t a b c p).1 m))
+
+range_shift : (t a b c p : ℤ) → IsInRange (a +ℤ t) (b +ℤ t) (c +ℤ t) (p +ℤ t) ↔ IsInRange a b c p
+range_shift t a b c p = (
+  λ r. record { low = (low_shift t a b c p).0 r.low; high = (high_shift t a b c p).0 r.high },
+  λ r. record { low = (low_shift t a b c p).1 r.low; high = (high_shift t a b c p).1 r.high },
+)
 
 arc_shift : (x y : ℤ) (a b c p : Place)
     → AreOnArc (weight_a (shifted_place x y a) (shifted_place x y b) (shifted_place x y c) (shifted_place x y p))

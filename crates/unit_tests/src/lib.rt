@@ -9,6 +9,8 @@ mod cmap;
 #[cfg(test)]
 mod code;
 #[cfg(test)]
+mod dropout;
+#[cfg(test)]
 mod fixed;
 #[cfg(test)]
 mod glyf;

@@ -1,0 +1,56 @@
+-- Pieces of a list that meet a segment, as they are or with their coordinates exchanged.
+-- Serves `gaps`.
+use Rattle.std.proofs.Common.{◌≡◌, ◌↔◌, IsTrue, refl, sym, ap, subst, ℕ, ◌<◌, ℤ, pos, ◌+ℤ◌, Bool, true, false, List, [], ◌∷◌}
+use Rattle.std.proofs.Common.{All, Any, map, length, get_or}
+use Rattle.fx_winding.specs.Area.{Place}
+use Rattle.fx_winding.specs.Dropout.{turned_span}
+use Rattle.fx_winding.specs.Meets.{IsMet}
+use Rattle.fx_winding.specs.declared.frame.Frame.{Frame}
+use Rattle.fx_winding.specs.Bitmaps.{Bits}
+use Rattle.fx_winding.specs.Winding.{Span, span_of, centre}
+use Rattle.fx_winding.specs.declared.point.Piece.{Piece}
+use Rattle.fx_winding.proofs.Covers.{any_map, any_unmap}
+use Rattle.fx_dropout.specs.inner.Lines.{IsSoFar}
+use Rattle.fx_dropout.specs.inner.Turned.{seen_span, seen_spans}
+
+-- a piece does not meet the segment from p to q
+abbrev pub IsMissed : Bool → Place → Place → Piece → Type 0
+IsMissed turned p q s = ¬ (IsMet p q (seen_span turned (span_of s)))
+
+seen_all : (turned : Bool) (ps : List Piece)
+    → map (λ s. seen_span turned (span_of s)) ps ≡ seen_spans turned (map span_of ps)
+seen_all false ps = refl
+seen_all true ps = all ps
+  where
+    all : (ps : List Piece) → map (λ s. turned_span (span_of s)) ps ≡ map turned_span (map span_of ps)
+    all [] = refl
+    all (s ∷ ps) = ap (λ l. turned_span (span_of s) ∷ l) (all ps)
+
+pub any_met : (turned : Bool) (p q : Place) (ps : List Piece) (k : ℕ) (s : Piece) → k < length ps → get_or ps k s ≡ s
+    → IsMet p q (seen_span turned (span_of s)) → Any (IsMet p q) (seen_spans turned (map span_of ps))
+any_met turned p q ps k s within is h =
+    subst (Any (IsMet p q)) (seen_all turned ps)
+    (any_map (λ s. seen_span turned (span_of s)) (λ s. IsMet p q (seen_span turned (span_of s))) (IsMet p q) (λ s m. m) ps
+    (k, s, within, is, h))
+
+pub none_met : (turned : Bool) (p q : Place) (ps : List Piece) → All (IsMissed turned p q) ps
+    → ¬ (Any (IsMet p q) (seen_spans turned (map span_of ps)))
+none_met turned p q ps off a =
+    by (any_unmap (λ s. seen_span turned (span_of s)) (λ s. IsMet p q (seen_span turned (span_of s))) (IsMet p q) (λ s m. m) ps
+    (subst (Any (IsMet p q)) (sym (seen_all turned ps)) a))
+  where
+    by : Any (λ s. IsMet p q (seen_span turned (span_of s))) ps → ⊥
+    by (k, s, within, is, h) = subst (IsMissed turned p q) is (off k s within) h
+
+-- what is said of copies of the numbers is said of them
+pub any_met_at : (turned : Bool) {ps qs : List Piece} {x y i j : ℤ} (r : Bool) → ps ≡ qs → x ≡ i → y ≡ j
+    → (IsTrue r ↔ Any (IsMet (centre x y) (centre (x +ℤ pos 1) y)) (seen_spans turned (map span_of ps)))
+    → IsTrue r ↔ Any (IsMet (centre i j) (centre (i +ℤ pos 1) j)) (seen_spans turned (map span_of qs))
+any_met_at turned r e ex ey h =
+    subst (λ (l : List Piece × ℤ × ℤ). IsTrue r ↔ Any (IsMet (centre l.1 l.2) (centre (l.1 +ℤ pos 1) l.2))
+    (seen_spans turned (map span_of l.0))) (λ k. (e k, ex k, ey k)) h
+
+pub open_at : (turned : Bool) (ss : List Span) (f : Frame) (b : Bits) {x y i j : ℤ} (r : Bool) → x ≡ i → y ≡ j
+    → (IsTrue r ↔ (¬ (IsSoFar turned ss f b x y))) → IsTrue r ↔ (¬ (IsSoFar turned ss f b i j))
+open_at turned ss f b r ex ey h =
+    subst (λ (p : ℤ × ℤ). IsTrue r ↔ (¬ (IsSoFar turned ss f b p.0 p.1))) (λ k. (ex k, ey k)) h

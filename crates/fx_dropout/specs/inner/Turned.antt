@@ -1,0 +1,33 @@
+-- Columns seen as rows: with `true` the coordinates of pieces and pixels are exchanged, with `false` all is as it is.
+use Rattle.std.specs.Prelude.{ℤ, Bool, true, false, List, map}
+use Rattle.fx_winding.specs.declared.frame.Frame.{Frame}
+use Rattle.fx_winding.specs.Bitmaps.{Bits, bit_of}
+use Rattle.fx_winding.specs.Dropout.{turned_span}
+use Rattle.fx_winding.specs.Frames.{IsInFrame}
+use Rattle.fx_winding.specs.Area.{Place}
+use Rattle.fx_winding.specs.Winding.{Span, centre}
+
+-- a piece
+abbrev pub seen_span : Bool → Span → Span
+seen_span false s = s
+seen_span true s = turned_span s
+
+-- the pieces of an outline
+abbrev pub seen_spans : Bool → List Span → List Span
+seen_spans false ss = ss
+seen_spans true ss = map turned_span ss
+
+-- the pixel lies in the frame
+abbrev pub IsSeenInFrame : Bool → Frame → ℤ → ℤ → Type 0
+IsSeenInFrame false f i j = IsInFrame f i j
+IsSeenInFrame true f i j = IsInFrame f j i
+
+-- the bit of a pixel
+abbrev pub seen_bit : Bool → Bits → ℤ → ℤ → Bool
+seen_bit false b i j = bit_of b i j
+seen_bit true b i j = bit_of b j i
+
+-- the centre of a pixel
+abbrev pub seen_centre : Bool → ℤ → ℤ → Place
+seen_centre false i j = centre i j
+seen_centre true i j = centre j i

@@ -1,0 +1,86 @@
+//! The gaps of rows and of columns closed, in place.
+
+ghost use Rattle.std.specs.Prelude.{◌≡◌, ◌≢◌, ◌⊎◌, ◌↔◌, ◌<◌, IsTrue, ℤ, ◌+ℤ◌, ◌-ℤ◌, pos, map, true};
+ghost use Rattle.fx_winding.specs.Bitmaps.{bit_of, IsScanOf};
+ghost use Rattle.fx_winding.specs.Dropout.{IsGap, IsBridged, IsSet};
+ghost use Rattle.fx_winding.specs.Frames.{IsFrom, IsInFrame};
+ghost use Rattle.fx_winding.specs.Limits.{IsPixelNumber};
+ghost use Rattle.fx_winding.specs.Winding.{span_of};
+ghost use Rattle.fx_dropout.specs.Margins.{HasMargin};
+ghost use Rattle.fx_dropout.specs.inner.Lines.{IsSoFar, IsRowClosed};
+ghost use Rattle.fx_dropout.specs.inner.Turned.{seen_spans, IsSeenInFrame};
+
+use crate::gaps::is_gap;
+use crate::turned::{seen_frame, set};
+use fx_winding::{Bitmap, Frame, Pieces};
+
+/// Sets one of two neighbours, at `at`, if they are a gap: those in the columns i and i + 1.
+fn close_gap(turned: bool, pieces: &Pieces, bitmap: &mut Bitmap, i: i32, j: i32, at: i32)
+    requires here { IsPixelNumber i }
+    requires next { IsPixelNumber (i +ℤ pos 1) }
+    requires row { IsPixelNumber j }
+    requires inside { IsSeenInFrame turned bitmap.old.frame at j }
+    ensures frame { bitmap.new.frame ≡ bitmap.old.frame }
+    ensures here { IsSoFar turned (map span_of pieces.now) bitmap.old.frame bitmap.new at j ↔
+        (IsSoFar turned (map span_of pieces.now) bitmap.old.frame bitmap.old at j ⊎
+        IsGap (seen_spans turned (map span_of pieces.now))
+        (IsSoFar turned (map span_of pieces.now) bitmap.old.frame bitmap.old) i j) }
+    ensures others { (m n : ℤ) → (m ≢ at) ⊎ (n ≢ j) →
+        IsSoFar turned (map span_of pieces.now) bitmap.old.frame bitmap.new m n ↔
+        IsSoFar turned (map span_of pieces.now) bitmap.old.frame bitmap.old m n }
+{
+    if is_gap(turned, pieces, bitmap, i, j) {
+        set(turned, bitmap, at, j);
+    }
+}
+
+/// Closes the gaps of a row of the frame, from left to right: each by its left pixel, and the one before the first pixel by that.
+fn close_row(turned: bool, pieces: &Pieces, frame: Frame, bitmap: &mut Bitmap, j: i32)
+    requires margin { HasMargin frame }
+    requires row { IsFrom frame.bottom frame.height j }
+    requires seen { (m n : ℤ) → IsInFrame frame m n ↔ IsSeenInFrame turned bitmap.old.frame m n }
+    ensures frame { bitmap.new.frame ≡ bitmap.old.frame }
+    ensures closed { IsRowClosed (seen_spans turned (map span_of pieces.now)) frame j
+        (IsSoFar turned (map span_of pieces.now) bitmap.old.frame bitmap.old)
+        (IsSoFar turned (map span_of pieces.now) bitmap.old.frame bitmap.new) }
+{
+    // The gaps to the right of the pixels before k are closed. The pixels from k on are as they were: closing a gap sets its left
+    // pixel alone, and no later gap has that pixel.
+    'pixels: for k in 0..frame.width {
+        let i = frame.left + k as i32;
+        close_gap(turned, pieces, bitmap, i, j, i);
+    }
+    if frame.width > 0 {
+        close_gap(turned, pieces, bitmap, frame.left - 1, j, frame.left);
+    }
+}
+
+/// Closes the gaps of all rows of the frame, or of its columns, seen as rows.
+fn close_rows(turned: bool, pieces: &Pieces, bitmap: &mut Bitmap)
+    requires margin { HasMargin bitmap.old.frame }
+    ensures frame { bitmap.new.frame ≡ bitmap.old.frame }
+    ensures closed { (i j : ℤ) → IsSoFar turned (map span_of pieces.now) bitmap.old.frame bitmap.new i j ↔
+        IsBridged (seen_spans turned (map span_of pieces.now)) (IsSeenInFrame turned bitmap.old.frame)
+        (IsSoFar turned (map span_of pieces.now) bitmap.old.frame bitmap.old) i j }
+{
+    let frame = seen_frame(turned, bitmap.frame());
+    // The gaps of the rows before `up` are closed, and the others are as they were.
+    'rows: for up in 0..frame.height {
+        close_row(turned, pieces, frame, bitmap, frame.bottom + up as i32);
+    }
+}
+
+/// Closes the gaps of the rows, and then those that are left in the columns: a bitmap that a scan of the pieces gave has the bits
+/// that drop-out control sets in its frame then. It takes no memory.
+///
+/// The columns and rows beside the frame must have numbers too.
+pub fn close_gaps(pieces: &Pieces, bitmap: &mut Bitmap)
+    requires margin { HasMargin bitmap.old.frame }
+    requires scanned { IsScanOf bitmap.old.frame (map span_of pieces.now) bitmap.old }
+    ensures frame { bitmap.new.frame ≡ bitmap.old.frame }
+    ensures bits { (col row : ℤ) → IsInFrame bitmap.old.frame col row →
+        IsTrue (bit_of bitmap.new col row) ↔ IsSet (map span_of pieces.now) bitmap.old.frame col row }
+{
+    close_rows(false, pieces, bitmap);
+    close_rows(true, pieces, bitmap);
+}

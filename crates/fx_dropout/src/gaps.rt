@@ -1,0 +1,174 @@
+//! Gaps of rows: pairs of neighbours, neither of which is set, between whose centres a piece passes.
+
+ghost use Rattle.std.specs.Prelude.{◌≡◌, ◌↔◌, ◌⊎◌, ◌<ℤ◌, IsTrue, ◌+ℤ◌, pos, Any, map};
+ghost use Rattle.fx_winding.specs.Dropout.{IsGap};
+ghost use Rattle.fx_winding.specs.Frames.{IsInFrame};
+ghost use Rattle.fx_winding.specs.Limits.{IsPixelNumber};
+ghost use Rattle.fx_winding.specs.Meets.{IsMet};
+ghost use Rattle.fx_winding.specs.Outside.{HasAll};
+ghost use Rattle.fx_winding.specs.Winding.{place_of, span_of, centre as centre_of, IsCovered};
+ghost use Rattle.fx_dropout.specs.inner.Lines.{IsSoFar};
+ghost use Rattle.fx_dropout.specs.inner.Turned.{seen_spans, seen_centre, IsSeenInFrame};
+
+use crate::turned::{is_set, seen_piece};
+use fx_winding::{Bitmap, Frame, Piece, Pieces, Point, Tally, covered, meets};
+
+/// The centre of a pixel.
+fn centre(col: i32, row: i32) -> Point
+    requires column { IsPixelNumber col }
+    requires row { IsPixelNumber row }
+    ensures { place_of result ≡ centre_of col row }
+{
+    Point {
+        x: 128 * col + 64,
+        y: 128 * row + 64,
+    }
+}
+
+/// Whether all points of a piece lie above a height.
+fn is_above(piece: &Piece, y: i32) -> bool
+    ensures { IsTrue result → HasAll (λ e. y <ℤ e.y) (span_of piece.now) }
+{
+    if piece.a.y <= y {
+        return false;
+    }
+    if piece.c.y <= y {
+        return false;
+    }
+    match piece.b {
+        None => true,
+        Some(b) => b.y > y,
+    }
+}
+
+/// Whether all points of a piece lie below a height.
+fn is_below(piece: &Piece, y: i32) -> bool
+    ensures { IsTrue result → HasAll (λ e. e.y <ℤ y) (span_of piece.now) }
+{
+    if piece.a.y >= y {
+        return false;
+    }
+    if piece.c.y >= y {
+        return false;
+    }
+    match piece.b {
+        None => true,
+        Some(b) => b.y < y,
+    }
+}
+
+/// Whether a piece meets the segment from the centre of a pixel to that of its right neighbour. Most pieces lie above or below.
+fn meets_next(piece: &Piece, i: i32, j: i32) -> bool
+    requires here { IsPixelNumber i }
+    requires next { IsPixelNumber (i +ℤ pos 1) }
+    requires row { IsPixelNumber j }
+    ensures { IsTrue result ↔ IsMet (centre_of i j) (centre_of (i +ℤ pos 1) j) (span_of piece.now) }
+{
+    let p = centre(i, j);
+    if is_above(piece, p.y) {
+        return false;
+    }
+    if is_below(piece, p.y) {
+        return false;
+    }
+    let mut tally = Tally::new();
+    meets(piece, p, centre(i + 1, j), &mut tally)
+}
+
+/// Whether one of the pieces, as they are or with their coordinates exchanged, meets the segment from the centre of a pixel to that
+/// of its right neighbour.
+fn any_meets(turned: bool, pieces: &[Piece], i: i32, j: i32) -> bool
+    requires here { IsPixelNumber i }
+    requires next { IsPixelNumber (i +ℤ pos 1) }
+    requires row { IsPixelNumber j }
+    ensures { IsTrue result ↔ Any (IsMet (centre_of i j) (centre_of (i +ℤ pos 1) j)) (seen_spans turned (map span_of pieces.now)) }
+{
+    // None of the pieces before this one meets the segment.
+    'pieces: for piece in pieces {
+        if meets_next(&seen_piece(turned, piece), i, j) {
+            return true;
+        }
+    }
+    false
+}
+
+/// Whether a pixel lies in a frame.
+fn is_in_frame(frame: Frame, col: i32, row: i32) -> bool
+    ensures { IsTrue result ↔ IsInFrame frame col row }
+{
+    if col < frame.left {
+        return false;
+    }
+    if i64::from(col) >= i64::from(frame.left) + i64::from(frame.width) {
+        return false;
+    }
+    if row < frame.bottom {
+        return false;
+    }
+    if i64::from(row) >= i64::from(frame.bottom) + i64::from(frame.height) {
+        return false;
+    }
+    true
+}
+
+/// Whether a pixel lies outside the frame of a bitmap and is covered.
+fn is_covered_outside(pieces: &Pieces, frame: Frame, col: i32, row: i32) -> bool
+    requires column { IsPixelNumber col }
+    requires row { IsPixelNumber row }
+    ensures { IsTrue result ↔ (¬ (IsInFrame frame col row) × IsCovered (centre_of col row) (map span_of pieces.now)) }
+{
+    if is_in_frame(frame, col, row) {
+        return false;
+    }
+    let mut tally = Tally::new();
+    covered(pieces, col, row, &mut tally)
+}
+
+/// The same of a pixel as it is, or with its coordinates exchanged.
+fn is_seen_outside(turned: bool, pieces: &Pieces, frame: Frame, i: i32, j: i32) -> bool
+    requires column { IsPixelNumber i }
+    requires row { IsPixelNumber j }
+    ensures { IsTrue result ↔
+        (¬ (IsSeenInFrame turned frame i j) × IsCovered (seen_centre turned i j) (map span_of pieces.now)) }
+{
+    if turned {
+        is_covered_outside(pieces, frame, j, i)
+    } else {
+        is_covered_outside(pieces, frame, i, j)
+    }
+}
+
+/// Whether a pixel is not set so far.
+fn is_open(turned: bool, pieces: &Pieces, bitmap: &Bitmap, i: i32, j: i32) -> bool
+    requires column { IsPixelNumber i }
+    requires row { IsPixelNumber j }
+    ensures { IsTrue result ↔ ¬ (IsSoFar turned (map span_of pieces.now) bitmap.now.frame bitmap.now i j) }
+{
+    if is_set(turned, bitmap, i, j) {
+        return false;
+    }
+    !is_seen_outside(turned, pieces, bitmap.frame(), i, j)
+}
+
+/// Whether there is a gap between a pixel and its right neighbour. The bits are looked at first: most of the others are never tested.
+pub fn is_gap(turned: bool, pieces: &Pieces, bitmap: &Bitmap, i: i32, j: i32) -> bool
+    requires here { IsPixelNumber i }
+    requires next { IsPixelNumber (i +ℤ pos 1) }
+    requires row { IsPixelNumber j }
+    ensures { IsTrue result ↔ IsGap (seen_spans turned (map span_of pieces.now))
+        (IsSoFar turned (map span_of pieces.now) bitmap.now.frame bitmap.now) i j }
+{
+    if is_set(turned, bitmap, i, j) {
+        return false;
+    }
+    if is_set(turned, bitmap, i + 1, j) {
+        return false;
+    }
+    if !any_meets(turned, pieces.as_slice(), i, j) {
+        return false;
+    }
+    if !is_open(turned, pieces, bitmap, i, j) {
+        return false;
+    }
+    is_open(turned, pieces, bitmap, i + 1, j)
+}

@@ -1,0 +1,12 @@
+//! Drop-out control: the pixels that keep thin strokes whole, set in the bitmap of an outline (Apple TrueType Reference Manual,
+//! scan conversion, rule 3).
+//!
+//! Where a piece passes between the centres of two neighbours in a row, neither of which is set, the left one is set; then the same
+//! in columns, where the lower one is set. So no stroke breaks, however thin it is.
+#![tactic(auto)]
+
+mod close;
+mod gaps;
+mod turned;
+
+pub use close::close_gaps;

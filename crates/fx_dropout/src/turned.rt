@@ -1,0 +1,82 @@
+//! Columns seen as rows: pieces, frames and bitmaps with their coordinates exchanged.
+
+ghost use Rattle.std.specs.Prelude.{◌≡◌, ◌≢◌, ◌⊎◌, ◌↔◌, ℤ, true, option_map};
+ghost use Rattle.fx_winding.specs.Dropout.{turned_place};
+ghost use Rattle.fx_winding.specs.Frames.{IsInFrame};
+ghost use Rattle.fx_winding.specs.Winding.{place_of, maybe_place_of, span_of};
+ghost use Rattle.fx_dropout.specs.Margins.{HasMargin};
+ghost use Rattle.fx_dropout.specs.inner.Turned.{seen_span, seen_bit, IsSeenInFrame};
+
+use fx_winding::{Bitmap, Frame, Piece, Point};
+
+/// A point with its coordinates exchanged.
+fn turned_point(p: Point) -> Point
+    ensures { place_of result ≡ turned_place (place_of p) }
+{
+    Point { x: p.y, y: p.x }
+}
+
+/// A control point with its coordinates exchanged, if there is one.
+fn turned_control(b: Option<Point>) -> Option<Point>
+    ensures { maybe_place_of result ≡ option_map turned_place (maybe_place_of b) }
+{
+    match b {
+        None => None,
+        Some(b) => Some(turned_point(b)),
+    }
+}
+
+/// A piece as it is, or with its coordinates exchanged.
+pub fn seen_piece(turned: bool, piece: &Piece) -> Piece
+    ensures { span_of result ≡ seen_span turned (span_of piece.now) }
+{
+    if !turned {
+        return *piece;
+    }
+    Piece {
+        a: turned_point(piece.a),
+        b: turned_control(piece.b),
+        c: turned_point(piece.c),
+    }
+}
+
+/// A frame as it is, or with its coordinates exchanged.
+pub fn seen_frame(turned: bool, frame: Frame) -> Frame
+    ensures inside { (i j : ℤ) → IsInFrame result i j ↔ IsSeenInFrame turned frame i j }
+    ensures margin { HasMargin frame → HasMargin result }
+{
+    if !turned {
+        return frame;
+    }
+    Frame {
+        left: frame.bottom,
+        bottom: frame.left,
+        width: frame.height,
+        height: frame.width,
+    }
+}
+
+/// A bit of a bitmap as it is, or with its coordinates exchanged.
+pub fn is_set(turned: bool, bitmap: &Bitmap, i: i32, j: i32) -> bool
+    ensures { result ≡ seen_bit turned bitmap.now i j }
+{
+    if turned {
+        bitmap.bit(j, i)
+    } else {
+        bitmap.bit(i, j)
+    }
+}
+
+/// Sets a bit of a bitmap as it is, or with its coordinates exchanged.
+pub fn set(turned: bool, bitmap: &mut Bitmap, i: i32, j: i32)
+    requires { IsSeenInFrame turned bitmap.old.frame i j }
+    ensures frame { bitmap.new.frame ≡ bitmap.old.frame }
+    ensures here { seen_bit turned bitmap.new i j ≡ true }
+    ensures others { (m n : ℤ) → (m ≢ i) ⊎ (n ≢ j) → seen_bit turned bitmap.new m n ≡ seen_bit turned bitmap.old m n }
+{
+    if turned {
+        bitmap.set(j, i);
+    } else {
+        bitmap.set(i, j);
+    }
+}

@@ -1,0 +1,14 @@
+use Rattle.fx_winding.proofs.Dropout.{dropout_adds, rows_have_no_gap, columns_have_no_gap, shift_moves_set}
+use Rattle.fx_winding.proofs.laws.dropout.Goals as goal
+
+pub returns-clause-adds : goal.returns-clause-adds
+returns-clause-adds c = dropout_adds
+
+pub returns-clause-rows : goal.returns-clause-rows
+returns-clause-rows c = rows_have_no_gap
+
+pub returns-clause-columns : goal.returns-clause-columns
+returns-clause-columns c = columns_have_no_gap
+
+pub returns-clause-shift : goal.returns-clause-shift
+returns-clause-shift c = shift_moves_set
