@@ -1,9 +1,8 @@
 -- The curves of an outline reach as far as its points do, if each contour has two points or more.
--- For `Bounds::of_curves`, and the limit in `are_in_reach` and `outline_frame`.
-use Rattle.std.proofs.Common.{◌≡◌, subst, ap, ◌∙◌, ℕ, zero, suc, ◌+◌, ◌-◌, ◌*◌, ◌≤◌, drop, take, length, map, ◌⊎◌}
+-- For `Extent::of_curves`, `Bounds::of_outline`, and the limit in `are_in_reach` and `outline_frame`.
+use Rattle.std.proofs.Common.{◌≡◌, subst, ap, ◌∙◌, ℕ, zero, suc, ◌+◌, ◌-◌, ◌≤◌, drop, take, length, map, ◌⊎◌}
 use Rattle.std.proofs.Common.{inl, inr, ℤ, pos, neg_ℤ, ◌*ℤ◌, ◌≤ℤ◌, List, [], ◌∷◌, Option, Some, None, arith, ◌↔◌, All}
 use Rattle.std.proofs.Common.{drop_of_length-le, Bool, IsTrue}
-use Rattle.std.specs.Prelude.{IfSome}
 use Rattle.std.proofs.lemmas.Int.{ints}
 use Rattle.std.proofs.lemmas.List.{drop-drop, length-take, length-drop}
 use Rattle.std.proofs.lemmas.List.Elements.{All-nil, All-cons, All-head, All-tail}
@@ -13,12 +12,12 @@ use Rattle.fx_winding.specs.Outside.{joined}
 use Rattle.fx_hint.specs.declared.points.OutlinePoint.{OutlinePoint}
 use Rattle.fx_hint.specs.Ends.{AreEnds}
 use Rattle.fx_hint.proofs.Contours.{ends_reach}
-use Rattle.fx_contour.specs.declared.bounds.Bounds.{Bounds}
+use Rattle.fx_contour.specs.declared.extent.Extent.{Extent}
 use Rattle.fx_contour.specs.Curve.{doubled_of, curve_of}
 use Rattle.fx_contour.specs.Contours.{contours_from, spans_of, farthest, IsInReach}
 use Rattle.fx_contour.specs.Frames.{HaveAny, HaveNoPixel}
-use Rattle.fx_contour.specs.Bounds.{Side, left_side, right_side, bottom_side, top_side, IsOut, IsLeast, Reaches, DoesReach}
-use Rattle.fx_contour.specs.Bounds.{HavePoint, HaveTwo, KeepsLimit}
+use Rattle.fx_contour.specs.Bounds.{Side, left_side, right_side, bottom_side, top_side, IsOut, IsLeast, Extends, DoesExtend}
+use Rattle.fx_contour.specs.Bounds.{HavePoint, HaveTwo, KeepsLimit, ReachOf}
 use Rattle.fx_contour.proofs.Hull.{hull_of, of_curve, have_either, have_left, have_right}
 
 -- ---- parts of a list of points
@@ -101,42 +100,37 @@ point_with P Q [] n f h = absurd h
 point_with P Q (p ∷ ps) n f (inl h) = f p (All-head IsInReach p ps n) h
 point_with P Q (p ∷ ps) n f (inr h) = point_with P Q ps (All-tail IsInReach p ps n) f h
 
--- a box that reaches no farther than points within the limit
-box_keeps : (e : Bounds) (points : List OutlinePoint)
-    → ((side : Side) (t : ℤ) → Reaches e side t → HavePoint (IsOut side t) points)
+-- an extent that reaches no farther than points within the limit
+extent_keeps : (e : Extent) (points : List OutlinePoint)
+    → ((side : Side) (t : ℤ) → Extends e side t → HavePoint (IsOut side t) points)
     → All IsInReach points → KeepsLimit e
-box_keeps e points h n = ((left, right), (bottom, top))
+extent_keeps e points h n = ((left, right), (bottom, top))
   where
-    left : neg_ℤ (pos (2 * farthest)) ≤ℤ e.left
-    left = point_with (IsOut left_side e.left) (neg_ℤ (pos (2 * farthest)) ≤ℤ e.left) points n
-        (λ p k l. let x = k.0.0 in omega (arith, ints, x, l)) (h left_side e.left (omega (arith, ints)))
+    left : neg_ℤ (pos farthest) ≤ℤ e.left
+    left = point_with (IsOut left_side (pos 2 *ℤ e.left)) (neg_ℤ (pos farthest) ≤ℤ e.left) points n
+        (λ p k l. let x = k.0.0 in omega (arith, ints, x, l)) (h left_side (pos 2 *ℤ e.left) (omega (arith, ints)))
 
-    right : e.right ≤ℤ pos (2 * farthest)
-    right = point_with (IsOut right_side e.right) (e.right ≤ℤ pos (2 * farthest)) points n
-        (λ p k l. let x = k.0.1 in omega (arith, ints, x, l)) (h right_side e.right (omega (arith, ints)))
+    right : e.right ≤ℤ pos farthest
+    right = point_with (IsOut right_side (pos 2 *ℤ e.right)) (e.right ≤ℤ pos farthest) points n
+        (λ p k l. let x = k.0.1 in omega (arith, ints, x, l)) (h right_side (pos 2 *ℤ e.right) (omega (arith, ints)))
 
-    bottom : neg_ℤ (pos (2 * farthest)) ≤ℤ e.bottom
-    bottom = point_with (IsOut bottom_side e.bottom) (neg_ℤ (pos (2 * farthest)) ≤ℤ e.bottom) points n
-        (λ p k l. let x = k.1.0 in omega (arith, ints, x, l)) (h bottom_side e.bottom (omega (arith, ints)))
+    bottom : neg_ℤ (pos farthest) ≤ℤ e.bottom
+    bottom = point_with (IsOut bottom_side (pos 2 *ℤ e.bottom)) (neg_ℤ (pos farthest) ≤ℤ e.bottom) points n
+        (λ p k l. let x = k.1.0 in omega (arith, ints, x, l)) (h bottom_side (pos 2 *ℤ e.bottom) (omega (arith, ints)))
 
-    top : e.top ≤ℤ pos (2 * farthest)
-    top = point_with (IsOut top_side e.top) (e.top ≤ℤ pos (2 * farthest)) points n
-        (λ p k l. let x = k.1.1 in omega (arith, ints, x, l)) (h top_side e.top (omega (arith, ints)))
+    top : e.top ≤ℤ pos farthest
+    top = point_with (IsOut top_side (pos 2 *ℤ e.top)) (e.top ≤ℤ pos farthest) points n
+        (λ p k l. let x = k.1.1 in omega (arith, ints, x, l)) (h top_side (pos 2 *ℤ e.top) (omega (arith, ints)))
 
--- the box of the curves keeps the limit, if the points are within it
-pub curves_keep : (e : Bounds) (ends : List ℕ) (points : List OutlinePoint)
-    → IsLeast (Reaches e) (λ P. HaveAny P (spans_of ends points)) → All IsInReach points → KeepsLimit e
+-- the extent of the curves keeps the limit, if the points are within it
+pub curves_keep : (e : Extent) (ends : List ℕ) (points : List OutlinePoint)
+    → IsLeast (Extends e) (λ P. HaveAny P (spans_of ends points)) → All IsInReach points → KeepsLimit e
 curves_keep e ends points h n =
-    box_keeps e points (λ side t k. of_curves side t 0 ends points ((h.sides side t).1 k)) n
+    extent_keeps e points (λ side t k. of_curves side t 0 ends points ((h.sides side t).1 k)) n
 
-pub contours_keep : (o : Option Bounds) (ends : List ℕ) (points : List OutlinePoint)
-    → IsLeast (DoesReach o) (λ P. HaveAny P (spans_of ends points)) → All IsInReach points → IfSome o KeepsLimit
-contours_keep None ends points h n = tt
-contours_keep (Some b) ends points h n = curves_keep b ends points (record { sides = h.sides }) n
-
--- points that a box holds are within the limit, if it is
-all_near : (e : Bounds) (points : List OutlinePoint) → KeepsLimit e
-    → ((side : Side) (t : ℤ) → HavePoint (IsOut side t) points → Reaches e side t) → All IsInReach points
+-- points that an extent holds are within the limit, if it is
+all_near : (e : Extent) (points : List OutlinePoint) → KeepsLimit e
+    → ((side : Side) (t : ℤ) → HavePoint (IsOut side t) points → Extends e side t) → All IsInReach points
 all_near e [] k h = All-nil IsInReach
 all_near e (p ∷ ps) k h =
     let l = h left_side (pos 2 *ℤ p.x) (inl (omega (arith, ints))) in
@@ -151,38 +145,42 @@ all_near e (p ∷ ps) k h =
     ((omega (arith, ints, l, kl), omega (arith, ints, r, kr)), (omega (arith, ints, b, kb), omega (arith, ints, t, kt)))
     (all_near e ps k (λ side t x. h side t (inr x)))
 
-pub limit_is_reach : (e : Bounds) (points : List OutlinePoint) → IsLeast (Reaches e) (λ P. HavePoint P points)
+limit_is_reach : (e : Extent) (points : List OutlinePoint) → IsLeast (Extends e) (λ P. HavePoint P points)
     → KeepsLimit e ↔ All IsInReach points
 limit_is_reach e points h =
-    (λ k. all_near e points k (λ side t. (h.sides side t).0), box_keeps e points (λ side t. (h.sides side t).1))
+    (λ k. all_near e points k (λ side t. (h.sides side t).0), extent_keeps e points (λ side t. (h.sides side t).1))
 
-pub reach_tested : (b : Bool) (e : Bounds) (points : List OutlinePoint) → IsTrue b ↔ KeepsLimit e
-    → IsLeast (Reaches e) (λ P. HavePoint P points) → IsTrue b ↔ All IsInReach points
+pub reach_tested : (b : Bool) (e : Extent) (points : List OutlinePoint) → IsTrue b ↔ KeepsLimit e
+    → IsLeast (Extends e) (λ P. HavePoint P points) → IsTrue b ↔ All IsInReach points
 reach_tested b e points d h =
     let l = limit_is_reach e points h in (λ t. l.0 (d.0 t), λ n. d.1 (l.1 n))
 
--- ---- a box that there may be
+-- ---- an extent that there may be
 
-pub least_of_some : (o : Option Bounds) (e : Bounds) (R : (Place → Type 0) → Type 0) → o ≡ Some e → IsLeast (DoesReach o) R
-    → IsLeast (Reaches e) R
-least_of_some o e R s h =
-    let P : Option Bounds → Type 0 = λ x. IsLeast (DoesReach x) R in let g = subst P s h in record { sides = g.sides }
+pub some_extent : (o : Option Extent) (e : Extent) (R : (Place → Type 0) → Type 0) → o ≡ Some e → IsLeast (DoesExtend o) R
+    → IsLeast (Extends e) R
+some_extent o e R s h =
+    let P : Option Extent → Type 0 = λ x. IsLeast (DoesExtend x) R in let g = subst P s h in record { sides = g.sides }
 
-pub some_of_least : (e : Bounds) (R : (Place → Type 0) → Type 0) → IsLeast (Reaches e) R → IsLeast (DoesReach (Some e)) R
-some_of_least e R h = record { sides = h.sides }
+pub just_extent : (e : Extent) (R : (Place → Type 0) → Type 0) → IsLeast (Extends e) R → IsLeast (DoesExtend (Some e)) R
+just_extent e R h = record { sides = h.sides }
 
--- no box: no point
-pub no_points_near : (o : Option Bounds) (points : List OutlinePoint) → o ≡ None
-    → IsLeast (DoesReach o) (λ P. HavePoint P points) → All IsInReach points
+-- no extent: no point
+pub no_points_near : (o : Option Extent) (points : List OutlinePoint) → o ≡ None
+    → IsLeast (DoesExtend o) (λ P. HavePoint P points) → All IsInReach points
 no_points_near o [] s h = All-nil IsInReach
 no_points_near o (p ∷ ps) s h =
-    let P : Option Bounds → Type 0 = λ x. IsLeast (DoesReach x) (λ P. HavePoint P (p ∷ ps)) in
+    let P : Option Extent → Type 0 = λ x. IsLeast (DoesExtend x) (λ P. HavePoint P (p ∷ ps)) in
     absurd (((subst P s h).sides left_side (pos 2 *ℤ p.x)).0 (inl (omega (arith, ints))))
 
-pub no_points_no_pixel : (o : Option Bounds) (ends : List ℕ) (points : List OutlinePoint) → o ≡ None
-    → IsLeast (DoesReach o) (λ P. HavePoint P points) → HaveNoPixel (spans_of ends points)
+pub no_points_no_pixel : (o : Option Extent) (ends : List ℕ) (points : List OutlinePoint) → o ≡ None
+    → IsLeast (DoesExtend o) (λ P. HavePoint P points) → HaveNoPixel (spans_of ends points)
 no_points_no_pixel o ends points s h col row b =
-    let P : Option Bounds → Type 0 = λ x. IsLeast (DoesReach x) (λ P. HavePoint P points) in
+    let P : Option Extent → Type 0 = λ x. IsLeast (DoesExtend x) (λ P. HavePoint P points) in
     let g = subst P s h in
     let t = (centre col row).x in
     (g.sides left_side t).0 (of_curves left_side t 0 ends points b.left)
+
+pub doubled_reaches : (l r d u l' r' d' u' : ℤ) → l' ≡ l → r' ≡ r → d' ≡ d → u' ≡ u → (side : Side) (t : ℤ)
+    → ReachOf l' r' d' u' side t ↔ ReachOf l r d u side t
+doubled_reaches l r d u l' r' d' u' el er ed eu side t = rw (el, er, ed, eu) ((λ h. h), (λ h. h))

@@ -1,18 +1,18 @@
--- The box of points, and of the contours of an outline, contour by contour.
--- For `Bounds::with_points`, `Bounds::of_points`, `Bounds::with_contour` and `Bounds::of_contours`.
+-- The extent of points, and of the contours of an outline, contour by contour.
+-- For `Extent::with_points`, `Extent::of`, `Extent::with_contour` and `Extent::of_contours`.
 use Rattle.std.proofs.Common.{◌≡◌, sym, subst, ℕ, ◌+◌, ◌-◌, ◌<◌, ◌≤◌, drop, take, length, map, get_or, ◌⊎◌}
-use Rattle.std.proofs.Common.{inl, inr, ℤ, pos, ◌*ℤ◌, arith, List, [], ◌∷◌, ◌++◌, Option, Some, None, ◌↔◌}
+use Rattle.std.proofs.Common.{inl, inr, ℤ, List, ◌∷◌, ◌++◌, Option, Some, None, ◌↔◌}
 use Rattle.std.proofs.lemmas.List.{drop_more}
 use Rattle.fx_winding.specs.Area.{Place}
 use Rattle.fx_winding.specs.Winding.{Span}
 use Rattle.fx_winding.specs.Outside.{joined}
 use Rattle.fx_hint.specs.declared.points.OutlinePoint.{OutlinePoint}
 use Rattle.fx_hint.specs.Ends.{AreEnds}
-use Rattle.fx_contour.specs.declared.bounds.Bounds.{Bounds}
-use Rattle.fx_contour.specs.Curve.{curve_of, doubled_of}
+use Rattle.fx_contour.specs.declared.extent.Extent.{Extent}
+use Rattle.fx_contour.specs.Curve.{curve_of}
 use Rattle.fx_contour.specs.Contours.{contours_from, spans_of}
 use Rattle.fx_contour.specs.Frames.{HaveAny}
-use Rattle.fx_contour.specs.Bounds.{Side, left_side, right_side, bottom_side, top_side, IsOut, Grows, IsLeast, Reaches, DoesReach}
+use Rattle.fx_contour.specs.Bounds.{Side, IsOut, Grows, IsLeast, Extends, DoesExtend}
 use Rattle.fx_contour.specs.Bounds.{HavePoint}
 use Rattle.fx_contour.proofs.Gather.{ends_left_at, next_within, drop_all}
 use Rattle.fx_contour.proofs.Growing.{one_less, none_left}
@@ -20,30 +20,10 @@ use Rattle.fx_contour.proofs.Hull.{hull_of, have_either, have_left, have_right}
 
 -- ---- points
 
--- the box so far and the points that are left reach as far as the old box and all points
-pub record Left (old b : Bounds) (points rest : List OutlinePoint) : Type 0 where
+-- the extent so far and the points that are left reach as far as the old extent and all points
+pub record Left (old b : Extent) (points rest : List OutlinePoint) : Type 0 where
   pub sides : (side : Side) (t : ℤ)
-      → (Reaches old side t ⊎ HavePoint (IsOut side t) points) ↔ (Reaches b side t ⊎ HavePoint (IsOut side t) rest)
-
--- the box of the first point, and of all points
-pub least_of_points : (a b : Bounds) (ps : List OutlinePoint) (d : OutlinePoint) → 0 < length ps
-    → a.left ≡ pos 2 *ℤ (get_or ps 0 d).x → a.right ≡ pos 2 *ℤ (get_or ps 0 d).x → a.bottom ≡ pos 2 *ℤ (get_or ps 0 d).y
-    → a.top ≡ pos 2 *ℤ (get_or ps 0 d).y → Grows (Reaches a) (Reaches b) (λ P. HavePoint P ps)
-    → IsLeast (DoesReach (Some b)) (λ P. HavePoint P ps)
-least_of_points a b [] d h l r u v g = absurd (omega arith)
-least_of_points a b (p ∷ ps) d h l r u v g =
-    record {
-      sides = λ side t. (
-        λ k. (g.sides side t).1 (inr k),
-        λ k. elim ((g.sides side t).0 k) [ inl x ↦ inl (at side t x) | inr y ↦ y ],
-      );
-    }
-  where
-    at : (side : Side) (t : ℤ) → Reaches a side t → IsOut side t (doubled_of p)
-    at left_side t k = rw l at k
-    at right_side t k = rw r at k
-    at bottom_side t k = rw u at k
-    at top_side t k = rw v at k
+      → (Extends old side t ⊎ HavePoint (IsOut side t) points) ↔ (Extends b side t ⊎ HavePoint (IsOut side t) rest)
 
 -- ---- a contour
 
@@ -54,26 +34,26 @@ along A C side t points h k =
     let same = hull_of side t points h in
     (λ x. elim (k.0 x) [ inl a ↦ inl a | inr b ↦ inr (same.1 b) ], λ x. k.1 (elim x [ inl a ↦ inl a | inr b ↦ inr (same.0 b) ]))
 
-pub grown_more : (b c : Bounds) (points : List OutlinePoint) → 2 ≤ length points
-    → Grows (Reaches b) (Reaches c) (λ P. HavePoint P points)
-    → Grows (DoesReach (Some b)) (DoesReach (Some c)) (λ P. HaveAny P (curve_of points))
+pub grown_more : (b c : Extent) (points : List OutlinePoint) → 2 ≤ length points
+    → Grows (Extends b) (Extends c) (λ P. HavePoint P points)
+    → Grows (DoesExtend (Some b)) (DoesExtend (Some c)) (λ P. HaveAny P (curve_of points))
 grown_more b c points h g =
-    record { sides = λ side t. along (Reaches b side t) (Reaches c side t) side t points h (g.sides side t) }
+    record { sides = λ side t. along (Extends b side t) (Extends c side t) side t points h (g.sides side t) }
 
-pub grown_first : (c : Option Bounds) (points : List OutlinePoint) → 2 ≤ length points
-    → IsLeast (DoesReach c) (λ P. HavePoint P points)
-    → Grows (DoesReach None) (DoesReach c) (λ P. HaveAny P (curve_of points))
+pub grown_first : (c : Option Extent) (points : List OutlinePoint) → 2 ≤ length points
+    → IsLeast (DoesExtend c) (λ P. HavePoint P points)
+    → Grows (DoesExtend None) (DoesExtend c) (λ P. HaveAny P (curve_of points))
 grown_first c points h g = record {
-  sides = λ side t. along ⊥ (DoesReach c side t) side t points h
+  sides = λ side t. along ⊥ (DoesExtend c side t) side t points h
       (λ x. inr ((g.sides side t).1 x), λ x. elim x [ inl n ↦ absurd n | inr b ↦ (g.sides side t).0 b ]);
 }
 
 -- ---- the contours of an outline
 
 -- the box so far and the contours that are left reach as far as all do
-pub record Enclosed (b : Option Bounds) (start : ℕ) (ends : List ℕ) (k : ℕ) (points : List OutlinePoint) : Type 0 where
+pub record Enclosed (b : Option Extent) (start : ℕ) (ends : List ℕ) (k : ℕ) (points : List OutlinePoint) : Type 0 where
   pub sides : (side : Side) (t : ℤ) → HaveAny (IsOut side t) (spans_of ends points) ↔
-      (DoesReach b side t ⊎ HaveAny (IsOut side t) (joined (map curve_of (contours_from start (drop k ends) points))))
+      (DoesExtend b side t ⊎ HaveAny (IsOut side t) (joined (map curve_of (contours_from start (drop k ends) points))))
   pub ends_left : AreEnds start (drop k ends) (length points)
   pub within : start ≤ length points
 
@@ -90,9 +70,9 @@ split X A P xs ys h = (λ x. there (h.0 x), λ x. h.1 (back x))
     back (inr (inl k)) = inr (have_left P xs ys k)
     back (inr (inr k)) = inr (have_right P xs ys k)
 
-pub enclosed_more : (b c : Option Bounds) (start : ℕ) (ends : List ℕ) (k : ℕ) (points : List OutlinePoint) (e d : ℕ)
+pub enclosed_more : (b c : Option Extent) (start : ℕ) (ends : List ℕ) (k : ℕ) (points : List OutlinePoint) (e d : ℕ)
     → Enclosed b start ends k points → k < length ends → e ≡ get_or ends k d
-    → Grows (DoesReach b) (DoesReach c) (λ P. HaveAny P (curve_of (take (e + 1 - start) (drop start points))))
+    → Grows (DoesExtend b) (DoesExtend c) (λ P. HaveAny P (curve_of (take (e + 1 - start) (drop start points))))
     → Enclosed c (e + 1) ends (k + 1) points
 enclosed_more b c start ends k points e d x h s g =
     let l = ends_left_at start ends k points e d x.ends_left h s in
@@ -103,25 +83,25 @@ enclosed_more b c start ends k points e d x h s g =
       sides = λ side t.
           let X = HaveAny (IsOut side t) (spans_of ends points) in
           let P : List ℕ → Type 0 =
-          λ xs. X ↔ (DoesReach b side t ⊎ HaveAny (IsOut side t) (joined (map curve_of (contours_from start xs points)))) in
-          let Q : ℕ → Type 0 = λ y. X ↔ (DoesReach b side t ⊎ HaveAny (IsOut side t)
+          λ xs. X ↔ (DoesExtend b side t ⊎ HaveAny (IsOut side t) (joined (map curve_of (contours_from start xs points)))) in
+          let Q : ℕ → Type 0 = λ y. X ↔ (DoesExtend b side t ⊎ HaveAny (IsOut side t)
           (joined (map curve_of (contours_from start (y ∷ drop (k + 1) ends) points)))) in
-          let all_spans : X ↔ (DoesReach b side t ⊎ HaveAny (IsOut side t) (one ++ rest)) =
+          let all_spans : X ↔ (DoesExtend b side t ⊎ HaveAny (IsOut side t) (one ++ rest)) =
           subst Q (sym s) (subst P (drop_more ends k d h) (x.sides side t)) in
-          one_less X (DoesReach b side t) (DoesReach c side t) (HaveAny (IsOut side t) one) (HaveAny (IsOut side t) rest)
-          (split X (DoesReach b side t) (IsOut side t) one rest all_spans) (g.sides side t);
+          one_less X (DoesExtend b side t) (DoesExtend c side t) (HaveAny (IsOut side t) one) (HaveAny (IsOut side t) rest)
+          (split X (DoesExtend b side t) (IsOut side t) one rest all_spans) (g.sides side t);
       ends_left = l.1;
       within = w.1;
     }
 
-pub enclosed_end : (b : Option Bounds) (start : ℕ) (ends : List ℕ) (k : ℕ) (points : List OutlinePoint)
+pub enclosed_end : (b : Option Extent) (start : ℕ) (ends : List ℕ) (k : ℕ) (points : List OutlinePoint)
     → Enclosed b start ends k points → length ends ≤ k
-    → IsLeast (DoesReach b) (λ P. HaveAny P (spans_of ends points))
+    → IsLeast (DoesExtend b) (λ P. HaveAny P (spans_of ends points))
 enclosed_end b start ends k points x h =
     record {
       sides = λ side t.
           let X = HaveAny (IsOut side t) (spans_of ends points) in
           let P : List ℕ → Type 0 =
-          λ xs. X ↔ (DoesReach b side t ⊎ HaveAny (IsOut side t) (joined (map curve_of (contours_from start xs points)))) in
-          none_left X (DoesReach b side t) (subst P (drop_all k ends h) (x.sides side t));
+          λ xs. X ↔ (DoesExtend b side t ⊎ HaveAny (IsOut side t) (joined (map curve_of (contours_from start xs points)))) in
+          none_left X (DoesExtend b side t) (subst P (drop_all k ends h) (x.sides side t));
     }

@@ -1,20 +1,17 @@
 -- Bounding boxes, point by point.
--- For `Bounds` and its loops.
+-- For `Bounds` and `Extent` and their loops.
 use Rattle.std.proofs.Common.{◌≡◌, sym, subst, ℕ, zero, suc, ◌+◌, ◌<◌, ◌≤◌, drop, length, map, get_or, ◌⊎◌, inl, inr}
-use Rattle.std.proofs.Common.{ℤ, pos, ◌≤ℤ◌, List, [], ◌∷◌, Option, None, Some, IsSomeAnd, refl, arith, ◌↔◌}
-use Rattle.std.specs.Prelude.{IfSome, neg_ℤ, ◌*◌, ◌==◌, Bool, false}
+use Rattle.std.proofs.Common.{ℤ, pos, ◌*ℤ◌, ◌≤ℤ◌, List, [], ◌∷◌, Option, None, Some, IsSomeAnd, refl, arith, ◌↔◌}
 use Rattle.std.specs.Int.{int_min, int_max}
 use Rattle.std.proofs.lemmas.Int.{ints, clamps, by_lt_z}
 use Rattle.std.proofs.lemmas.List.{drop_more}
-use Rattle.fx_winding.specs.Area.{Place, place}
+use Rattle.fx_winding.specs.Area.{Place}
 use Rattle.fx_winding.specs.declared.point.Piece.{Piece}
-use Rattle.fx_winding.specs.declared.point.Point.{Point}
-use Rattle.fx_winding.specs.Winding.{Span, span_of, place_of, maybe_place_of}
+use Rattle.fx_winding.specs.Winding.{Span, span_of}
 use Rattle.fx_contour.specs.declared.bounds.Bounds.{Bounds}
 use Rattle.fx_contour.specs.Frames.{HasAny, HaveAny}
 use Rattle.fx_contour.specs.Bounds.{Side, left_side, right_side, bottom_side, top_side, IsOut, ReachOf, Reaches, Grows, AreBounds}
-use Rattle.fx_contour.specs.Bounds.{AreBoundsOf, KeepsLimit}
-use Rattle.fx_contour.specs.Contours.{farthest}
+use Rattle.fx_contour.specs.Bounds.{AreBoundsOf}
 
 least_is : (r l x t : ℤ) → r ≡ int_min l x → (r ≤ℤ t) ↔ ((l ≤ℤ t) ⊎ (x ≤ℤ t))
 least_is r l x t e =
@@ -32,6 +29,12 @@ greatest_is r l x t e =
     back (inl h) = omega (arith, ints, clamps)
     back (inr h) = omega (arith, ints, clamps)
 
+pub doubled_least : (r l x : ℤ) → r ≡ int_min l x → pos 2 *ℤ r ≡ int_min (pos 2 *ℤ l) (pos 2 *ℤ x)
+doubled_least r l x e = by_lt_z l x (λ k. omega (arith, ints, clamps)) (λ k. omega (arith, ints, clamps))
+
+pub doubled_greatest : (r l x : ℤ) → r ≡ int_max l x → pos 2 *ℤ r ≡ int_max (pos 2 *ℤ l) (pos 2 *ℤ x)
+doubled_greatest r l x e = by_lt_z l x (λ k. omega (arith, ints, clamps)) (λ k. omega (arith, ints, clamps))
+
 pub point_grows : (l r d u l' r' d' u' : ℤ) (p : Place) → l' ≡ int_min l p.x → r' ≡ int_max r p.x → d' ≡ int_min d p.y
     → u' ≡ int_max u p.y → Grows (ReachOf l r d u) (ReachOf l' r' d' u') (λ P. P p)
 point_grows l r d u l' r' d' u' p el er ed eu = record { sides = λ side t. at side t }
@@ -41,17 +44,6 @@ point_grows l r d u l' r' d' u' p el er ed eu = record { sides = λ side t. at s
     at right_side t = greatest_is r' r p.x t er
     at bottom_side t = least_is d' d p.y t ed
     at top_side t = greatest_is u' u p.y t eu
-
--- the same of a place by its coordinates
-pub grows_at : (a b : Side → ℤ → Type 0) (x y : ℤ) (q : Place) → x ≡ q.x → y ≡ q.y → Grows a b (λ P. P (place x y))
-    → Grows a b (λ P. P q)
-grows_at a b x y q ex ey g =
-    let at : place x y ≡ q = λ t. place (ex t) (ey t) in subst (λ (p : Place). Grows a b (λ P. P p)) at g
-
--- a list with a test that it is not empty
-pub nonempty : (n : ℕ) (b : Bool) → b ≡ (n == 0) → b ≡ false → 0 < n
-nonempty zero b e f = absurd (cc)
-nonempty (suc n) b e f = omega arith
 
 -- from a to b by R and on to c by S
 two : (A B C R S : Type 0) → B ↔ (A ⊎ R) → C ↔ (B ⊎ S) → C ↔ (A ⊎ (R ⊎ S))
@@ -180,42 +172,3 @@ some_of b ss h = record { sides = h.sides }
 pub some_bounds : (o : Option Bounds) (b : Bounds) (ss : List Span) → o ≡ Some b → AreBoundsOf o ss → AreBounds b ss
 some_bounds o b ss e a =
     let P : Option Bounds → Type 0 = λ x. AreBoundsOf x ss in let h = subst P e a in record { sides = h.sides }
-
--- ---- the limit
-
--- a point of the pieces has what all points have
-piece_point : (P : Place → Type 0) (Q : Type 0) (ps : List Piece) → ((p : Point) → P (place_of p) → Q)
-    → HaveAny P (map span_of ps) → Q
-piece_point P Q [] f h = absurd h
-piece_point P Q (s ∷ ps) f (inl (inl h)) = f s.a h
-piece_point P Q (s ∷ ps) f (inl (inr (inl h))) = control s.b h
-  where
-    control : (b : Option Point) → IsSomeAnd (maybe_place_of b) P → Q
-    control None n = absurd n
-    control (Some b) k = f b k
-piece_point P Q (s ∷ ps) f (inl (inr (inr h))) = f s.c h
-piece_point P Q (s ∷ ps) f (inr h) = piece_point P Q ps f h
-
--- the box of pieces keeps the limit of their points
-pub pieces_keep : (o : Option Bounds) (ps : List Piece) → AreBoundsOf o (map span_of ps) → IfSome o KeepsLimit
-pieces_keep None ps h = tt
-pieces_keep (Some b) ps h = ((left, right), (bottom, top))
-  where
-    left : neg_ℤ (pos (2 * farthest)) ≤ℤ b.left
-    left = piece_point (IsOut left_side b.left) (neg_ℤ (pos (2 * farthest)) ≤ℤ b.left) ps
-        (λ p l. let n = p.near_x in omega (arith, ints, n, l)) ((h.sides left_side b.left).1 (omega (arith, ints)))
-
-    right : b.right ≤ℤ pos (2 * farthest)
-    right = piece_point (IsOut right_side b.right) (b.right ≤ℤ pos (2 * farthest)) ps
-        (λ p l. let n = p.near_x in omega (arith, ints, n, l)) ((h.sides right_side b.right).1 (omega (arith, ints)))
-
-    bottom : neg_ℤ (pos (2 * farthest)) ≤ℤ b.bottom
-    bottom = piece_point (IsOut bottom_side b.bottom) (neg_ℤ (pos (2 * farthest)) ≤ℤ b.bottom) ps
-        (λ p l. let n = p.near_y in omega (arith, ints, n, l)) ((h.sides bottom_side b.bottom).1 (omega (arith, ints)))
-
-    top : b.top ≤ℤ pos (2 * farthest)
-    top = piece_point (IsOut top_side b.top) (b.top ≤ℤ pos (2 * farthest)) ps
-        (λ p l. let n = p.near_y in omega (arith, ints, n, l)) ((h.sides top_side b.top).1 (omega (arith, ints)))
-
-pub some_keeps : (o : Option Bounds) (b : Bounds) → o ≡ Some b → IfSome o KeepsLimit → KeepsLimit b
-some_keeps o b e k = subst (λ (x : Option Bounds). IfSome x KeepsLimit) e k

@@ -1,5 +1,5 @@
 -- The bounding box of the curve of a contour is that of its points: its other points lie half way between two of them.
--- For `Bounds::with_contour` and `Bounds::of_curves`.
+-- For `Extent::with_contour` and `Extent::of_curves`.
 use Rattle.std.proofs.Common.{◌≡◌, ◌⊎◌, inl, inr, ℤ, Bool, true, false, List, [], ◌∷◌, ◌++◌, Option, Some, None, refl}
 use Rattle.std.proofs.Common.{length, ◌≤◌, sym, subst, arith, option_to_list, if◌then◌else◌, ◌↔◌}
 use Rattle.std.proofs.lemmas.Int.{ints, by_lt_z}

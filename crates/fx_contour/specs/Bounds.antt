@@ -1,13 +1,14 @@
 -- The bounding box of points, and the pixels of a row or a column.
-use Rattle.std.specs.Prelude.{◌⊎◌, ℤ, pos, neg_ℤ, ◌+ℤ◌, ◌*ℤ◌, ◌≤ℤ◌, ℕ, ◌+◌, ◌*◌, ◌<◌, List, [], ◌∷◌, Option, Some, None, ◌↔◌}
+use Rattle.std.specs.Prelude.{◌⊎◌, ℤ, pos, ◌+ℤ◌, ◌*ℤ◌, ◌≤ℤ◌, ℕ, ◌+◌, ◌<◌, List, [], ◌∷◌, Option, Some, None, ◌↔◌}
 use Rattle.fx_winding.specs.Area.{Place}
 use Rattle.fx_winding.specs.Winding.{Span}
 use Rattle.fx_winding.specs.Frames.{IsFrom}
 use Rattle.fx_contour.specs.declared.bounds.Bounds.{Bounds}
+use Rattle.fx_contour.specs.declared.extent.Extent.{Extent}
 use Rattle.fx_contour.specs.declared.pixels.Pixels.{Pixels}
 use Rattle.fx_hint.specs.declared.points.OutlinePoint.{OutlinePoint}
 use Rattle.fx_contour.specs.Curve.{doubled_of}
-use Rattle.fx_contour.specs.Contours.{farthest}
+use Rattle.fx_contour.specs.Contours.{IsRangeNear}
 use Rattle.fx_contour.specs.Frames.{HaveAny}
 
 -- the four sides of a box
@@ -61,13 +62,18 @@ abbrev pub HavePoint : (Place → Type 0) → List OutlinePoint → Type 0
 HavePoint P [] = ⊥
 HavePoint P (p ∷ ps) = P (doubled_of p) ⊎ HavePoint P ps
 
--- coordinates from one to another, in 1/128 pixel, lie within the limit of an outline's points
-abbrev pub IsNearRange : ℤ → ℤ → Type 0
-IsNearRange least greatest = (neg_ℤ (pos (2 * farthest)) ≤ℤ least) × (greatest ≤ℤ pos (2 * farthest))
+-- the extent reaches t, in 1/128 pixel, on this side
+abbrev pub Extends : Extent → Side → ℤ → Type 0
+Extends e = ReachOf (pos 2 *ℤ e.left) (pos 2 *ℤ e.right) (pos 2 *ℤ e.bottom) (pos 2 *ℤ e.top)
 
--- no side of the box lies too far out
-abbrev pub KeepsLimit : Bounds → Type 0
-KeepsLimit b = IsNearRange b.left b.right × IsNearRange b.bottom b.top
+-- the extent, if there is one, reaches t on this side
+abbrev pub DoesExtend : Option Extent → Side → ℤ → Type 0
+DoesExtend None side t = ⊥
+DoesExtend (Some e) side t = Extends e side t
+
+-- no side of the extent lies too far out
+abbrev pub KeepsLimit : Extent → Type 0
+KeepsLimit e = IsRangeNear e.left e.right × IsRangeNear e.bottom e.top
 
 -- each of the contours with these last points has two points or more; the first of them begins at the point `start`
 abbrev pub HaveTwo : ℕ → List ℕ → Type 0

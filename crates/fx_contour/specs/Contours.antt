@@ -1,5 +1,5 @@
 -- The curves of an outline, one contour after the other (OpenType, "glyf", endPtsOfContours).
-use Rattle.std.specs.Prelude.{◌↔◌, IsTrue, All, ℤ, pos, neg_ℤ, int_le, Bool, not, ◌&&◌, Result, Ok, ℕ, ◌+◌, ◌-◌, ◌^◌}
+use Rattle.std.specs.Prelude.{◌↔◌, IsTrue, All, ℤ, pos, neg_ℤ, ◌≤ℤ◌, int_le, Bool, not, ◌&&◌, Result, Ok, ℕ, ◌+◌, ◌-◌, ◌^◌}
 use Rattle.std.specs.Prelude.{List, [], ◌∷◌, map, take, drop}
 use Rattle.std.specs.List.{list_all}
 use Rattle.fx_fixed.specs.Chain.{◌>>=◌, refuse}
@@ -23,6 +23,10 @@ spans_of ends points = joined (map curve_of (contours_from 0 ends points))
 -- the greatest distance of a point from either axis, in 26.6 pixels (a limit of this project)
 abbrev pub farthest : ℕ
 farthest = 2 ^ 21
+
+-- the coordinates from one to another are within the limit
+abbrev pub IsRangeNear : ℤ → ℤ → Type 0
+IsRangeNear least greatest = (neg_ℤ (pos farthest) ≤ℤ least) × (greatest ≤ℤ pos farthest)
 
 -- a point within the limit
 abbrev pub IsInReach : OutlinePoint → Type 0

@@ -11,7 +11,7 @@ ghost use Rattle.fx_contour.specs.Contours.{farthest, spans_of, drawn_of, IsInRe
 ghost use Rattle.fx_contour.specs.Bounds.{HaveTwo};
 ghost use Rattle.fx_contour.specs.Faults.{Fails};
 
-use crate::bounds::Bounds;
+use crate::extent::Extent;
 use crate::fault::ContourFault;
 use fx_fixed::F26;
 use fx_hint::{Outline, OutlinePoint};
@@ -29,9 +29,9 @@ struct Step {
 fn are_in_reach(points: &[OutlinePoint]) -> bool
     ensures { IsTrue result ↔ All IsInReach points.now }
 {
-    match Bounds::of_points(points) {
+    match Extent::of(points) {
         None => true,
-        Some(bounds) => bounds.keeps_limit(),
+        Some(extent) => extent.keeps_limit(),
     }
 }
 

@@ -1,13 +1,14 @@
 //! The box of pixels around pieces.
 
-ghost use Rattle.std.specs.Prelude.{◌≡◌, ◌↔◌, List, map, All, IfOk, IfErr, IfSome, IsErrOf};
+ghost use Rattle.std.specs.Prelude.{◌≡◌, ◌↔◌, List, map, All, IfOk, IfErr, IsErrOf};
 ghost use Rattle.fx_fixed.specs.Chain.{map_ok};
 ghost use Rattle.fx_winding.specs.Winding.{Span, span_of};
-ghost use Rattle.fx_contour.specs.Bounds.{AreBoundsOf, KeepsLimit};
+ghost use Rattle.fx_contour.specs.Bounds.{AreBoundsOf};
 ghost use Rattle.fx_contour.specs.Contours.{spans_of, IsInReach};
 ghost use Rattle.fx_contour.specs.Frames.{IsFrameFor, AreTooLarge, NothingOutsideFrame, framed_of, outline_framed_of};
 
 use crate::bounds::Bounds;
+use crate::extent::Extent;
 use crate::fault::ContourFault;
 use crate::pixels::Pixels;
 use fx_hint::Outline;
@@ -33,18 +34,17 @@ pub fn outline_frame(outline: &Outline) -> Result<Option<Frame>, ContourFault>
     ensures outside { IfOk result (λ f. NothingOutsideFrame f (spans_of outline.now.ends.items outline.now.points.items)) }
     ensures reach { IfOk result (λ _. All IsInReach outline.now.points.items) }
 {
-    let Some(all) = Bounds::of_points(&outline.points) else {
+    let Some(all) = Extent::of(&outline.points) else {
         return Ok(None);
     };
     if !all.keeps_limit() {
         return Err(ContourFault::TooFar);
     }
-    frame_around(Bounds::of_curves(outline, all))
+    frame_around(Bounds::of_outline(outline, all))
 }
 
 /// The frame of the spans that have this bounding box, if they have one.
 fn frame_around(bounds: Option<Bounds>) -> Result<Option<Frame>, ContourFault>
-    requires near { IfSome bounds KeepsLimit }
     ensures ok { (ss : List Span) → AreBoundsOf bounds ss → IfOk result (λ f. IsFrameFor f ss) }
     ensures fault { (ss : List Span) → AreBoundsOf bounds ss → IfErr result (λ e. (e ≡ ContourFault.TooLarge) × AreTooLarge ss) }
 {

@@ -7,6 +7,7 @@
 
 mod bounds;
 mod curves;
+mod extent;
 mod fault;
 mod frames;
 pub mod laws;

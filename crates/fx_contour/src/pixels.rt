@@ -20,13 +20,13 @@ impl Pixels {
     ghost use Rattle.fx_contour.specs.Bounds.{AreNoPixels, ArePixels};
 
     /// The pixels whose centres lie from `low` to `high`, in 1/128 pixel.
-    pub(crate) fn between(low: i64, high: i64) -> Option<Pixels>
+    pub(crate) fn between(low: i32, high: i32) -> Option<Pixels>
         requires near_low { IsWithin (2 ^ 22) low }
         requires near_high { IsWithin (2 ^ 22) high }
         ensures { MatchOption result (AreNoPixels low high) (λ s. ArePixels s low high) }
     {
-        let first = first_from(low as i32);
-        let end = first_from(high as i32 + 1);
+        let first = first_from(low);
+        let end = first_from(high + 1);
         if end <= first {
             return None;
         }

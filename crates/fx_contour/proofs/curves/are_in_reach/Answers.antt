@@ -1,15 +1,15 @@
 use Rattle.std.proofs.Common.{refl}
 use Rattle.fx_contour.specs.Bounds.{HavePoint}
-use Rattle.fx_contour.proofs.Drawing.{least_of_some, reach_tested, no_points_near}
+use Rattle.fx_contour.proofs.Drawing.{some_extent, reach_tested, no_points_near}
 use Rattle.fx_contour.proofs.curves.are_in_reach.Goals as goal
 
 pub returns-in-None : goal.returns-in-None
 returns-in-None c =
-    (λ _. no_points_near c.of_points.result c.args.points.now c.in-None.is c.of_points.ensures, λ _. refl)
+    (λ _. no_points_near c.of.result c.args.points.now c.in-None.is c.of.ensures, λ _. refl)
 
 pub returns-in-Some : goal.returns-in-Some
 returns-in-Some c =
     let points = c.args.points.now in
-    let e = c.in-Some.bounds in
+    let e = c.in-Some.extent in
     reach_tested c.keeps_limit.result e points c.keeps_limit.ensures
-    (least_of_some c.of_points.result e (λ P. HavePoint P points) c.in-Some.is c.of_points.ensures)
+    (some_extent c.of.result e (λ P. HavePoint P points) c.in-Some.is c.of.ensures)

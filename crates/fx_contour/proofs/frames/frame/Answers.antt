@@ -13,7 +13,7 @@ pub returns-clause-outside : goal.returns-clause-outside
 returns-clause-outside c =
     let ss = map span_of c.args.pieces.now in
     let P : List Piece → Type 0 = λ ps. AreBoundsOf c.of.result (map span_of ps) in
-    let a = subst P c.as_slice.ensures.value c.of.ensures.bounds in
+    let a = subst P c.as_slice.ensures.value c.of.ensures in
     IfOk-weaker c.frame_around.result (λ f. IsFrameFor f ss) (λ f. NothingOutsideFrame f ss) (nothing_outside_frame ss)
     (c.frame_around.ensures.ok ss a)
 
@@ -21,12 +21,12 @@ pub returns-clause-too_large : goal.returns-clause-too_large
 returns-clause-too_large c =
     let ss = map span_of c.args.pieces.now in
     let P : List Piece → Type 0 = λ ps. AreBoundsOf c.of.result (map span_of ps) in
-    let a = subst P c.as_slice.ensures.value c.of.ensures.bounds in
+    let a = subst P c.as_slice.ensures.value c.of.ensures in
     too_large_is c.frame_around.result ss (c.frame_around.ensures.ok ss a) (c.frame_around.ensures.fault ss a)
 
 pub returns-clause-exact : goal.returns-clause-exact
 returns-clause-exact c =
     let ss = map span_of c.args.pieces.now in
     let P : List Piece → Type 0 = λ ps. AreBoundsOf c.of.result (map span_of ps) in
-    let a = subst P c.as_slice.ensures.value c.of.ensures.bounds in
+    let a = subst P c.as_slice.ensures.value c.of.ensures in
     framed_is c.frame_around.result ss (c.frame_around.ensures.ok ss a) (c.frame_around.ensures.fault ss a)

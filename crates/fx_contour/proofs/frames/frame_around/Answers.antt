@@ -1,47 +1,11 @@
 use Rattle.std.proofs.Common.{arith, refl}
 use Rattle.std.proofs.lemmas.Int.{ints}
 use Rattle.fx_contour.proofs.Framed.{same_pixels, same_none, no_box, no_columns, no_rows, too_wide, too_high, is_frame}
-use Rattle.fx_contour.proofs.Growing.{some_bounds, some_keeps}
+use Rattle.fx_contour.proofs.Growing.{some_bounds}
 use Rattle.fx_contour.proofs.frames.frame_around.Goals as goal
 
 pub returns-in_default-clause-ok : goal.returns-in_default-clause-ok
 returns-in_default-clause-ok c ss a = no_box c.args.bounds ss c.in_default.is a
-
-pub between-requires-clause-near_low : goal.between-requires-clause-near_low
-between-requires-clause-near_low c =
-    let b = c.in-Some.bounds in
-    let near = (some_keeps c.args.bounds b c.in-Some.is c.requires.near).0 in
-    let low = near.0 in
-    let high = near.1 in
-    let order = b.across in
-    (omega (arith, ints, low, high, order), omega (arith, ints, low, high, order))
-
-pub between-requires-clause-near_high : goal.between-requires-clause-near_high
-between-requires-clause-near_high c =
-    let b = c.in-Some.bounds in
-    let near = (some_keeps c.args.bounds b c.in-Some.is c.requires.near).0 in
-    let low = near.0 in
-    let high = near.1 in
-    let order = b.across in
-    (omega (arith, ints, low, high, order), omega (arith, ints, low, high, order))
-
-pub between-requires-2-clause-near_low : goal.between-requires-2-clause-near_low
-between-requires-2-clause-near_low c =
-    let b = c.in-Some.bounds in
-    let near = (some_keeps c.args.bounds b c.in-Some.is c.requires.near).1 in
-    let low = near.0 in
-    let high = near.1 in
-    let order = b.up in
-    (omega (arith, ints, low, high, order), omega (arith, ints, low, high, order))
-
-pub between-requires-2-clause-near_high : goal.between-requires-2-clause-near_high
-between-requires-2-clause-near_high c =
-    let b = c.in-Some.bounds in
-    let near = (some_keeps c.args.bounds b c.in-Some.is c.requires.near).1 in
-    let low = near.0 in
-    let high = near.1 in
-    let order = b.up in
-    (omega (arith, ints, low, high, order), omega (arith, ints, low, high, order))
 
 pub returns-in_default-between-clause-ok : goal.returns-in_default-between-clause-ok
 returns-in_default-between-clause-ok c ss a =

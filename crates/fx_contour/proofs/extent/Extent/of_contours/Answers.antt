@@ -2,10 +2,10 @@ use Rattle.std.proofs.Common.{◌≡◌, ◌<◌, ◌+◌, ◌-◌, ◌∙◌, a
 use Rattle.fx_hint.specs.declared.points.OutlinePoint.{OutlinePoint}
 use Rattle.fx_contour.specs.Curve.{curve_of}
 use Rattle.fx_contour.specs.Frames.{HaveAny}
-use Rattle.fx_contour.specs.Bounds.{Grows, DoesReach}
+use Rattle.fx_contour.specs.Bounds.{Grows, DoesExtend}
 use Rattle.fx_contour.proofs.Gather.{next_within}
 use Rattle.fx_contour.proofs.Enclosing.{enclosed_more, enclosed_end}
-use Rattle.fx_contour.proofs.bounds.Bounds.of_contours.Goals as goal
+use Rattle.fx_contour.proofs.extent.Extent.of_contours.Goals as goal
 
 pub contour-requires : goal.contour-requires
 contour-requires c =
@@ -27,14 +27,14 @@ contours-preserved c =
     let slice : c.contour.result.now ≡ take (next - start) (drop start o.points.items) =
     c.contour.ensures ∙ ap (λ xs. take (next - start) (drop start xs)) c.deref.ensures.value in
     let P : List OutlinePoint → Type 0 =
-    λ xs. Grows (DoesReach c.contours.bounds) (DoesReach c.with_contour-bounds.result) (λ P. HaveAny P (curve_of xs)) in
-    enclosed_more c.contours.bounds c.with_contour-bounds.result start o.ends.items c.contours.end-index o.points.items
+    λ xs. Grows (DoesExtend c.contours.extent) (DoesExtend c.with_contour-extent.result) (λ P. HaveAny P (curve_of xs)) in
+    enclosed_more c.contours.extent c.with_contour-extent.result start o.ends.items c.contours.end-index o.points.items
     c.from-next.result 0 c.contours.invariant inside
-    (c.from-next.ensures ∙ ap (λ xs. get_or xs c.contours.end-index 0) ends) (subst P slice c.with_contour-bounds.ensures)
+    (c.from-next.ensures ∙ ap (λ xs. get_or xs c.contours.end-index 0) ends) (subst P slice c.with_contour-extent.ensures)
 
 pub returns : goal.returns
 returns c =
     let o = c.args.outline.now in
     let ends = ap length c.deref-end-items.ensures.value in
-    enclosed_end c.contours.bounds c.contours.start o.ends.items c.contours.end-index o.points.items c.contours.invariant
+    enclosed_end c.contours.extent c.contours.start o.ends.items c.contours.end-index o.points.items c.contours.invariant
     (omega arith)

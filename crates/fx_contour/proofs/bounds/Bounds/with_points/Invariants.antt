@@ -1,6 +1,0 @@
-use Rattle.std.proofs.Common.{drop}
-use Rattle.fx_contour.proofs.Enclosing.{Left}
-use Rattle.fx_contour.proofs.bounds.Bounds.with_points.Given as goal
-
-abbrev pub invariant-points : goal.invariant-points
-invariant-points l = Left l.fn.self l.bounds l.points (drop l.p-index l.points)
