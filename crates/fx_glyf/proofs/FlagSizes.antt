@@ -32,10 +32,10 @@ pub sizes_at : (d : Sizes) (f half : ℕ) → f < 256 → half ≡ f / 2
     → AreSizes f (get_or SIZES (half % 32) d).xs (get_or SIZES (half % 32) d).ys
 sizes_at d f half h e = rw e (below d 256 f tt h)
 
-size_by : (short same : Bool) → cond short 1 (cond same 0 2) ≤ 2
-size_by short same = grind arith
+size_at_most_two : (short same : Bool) → cond short 1 (cond same 0 2) ≤ 2
+size_at_most_two short same = grind arith
 
 -- a delta takes at most two bytes
 pub at_most_two : (short same f : ℕ) → delta_size short same f ≤ 2
 unfolding delta_size
-at_most_two short same f = size_by (has f short) (has f same)
+at_most_two short same f = size_at_most_two (has f short) (has f same)

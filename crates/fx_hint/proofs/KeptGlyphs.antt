@@ -39,12 +39,12 @@ unfolding run_on
 counted_after h g code start made usage (Ok c) r = rw r refl
 counted_after h g code start made usage (Err e) r = refl
 
-simple_counted : (h : Hinting) (s : Scale) (root g : ℕ) (m : Metrics) (shape : SimpleView) (made : Made) (usage : Usage)
+counted_simple_is_begun : (h : Hinting) (s : Scale) (root g : ℕ) (m : Metrics) (shape : SimpleView) (made : Made) (usage : Usage)
     (count : Count)
     → KeepsShape h → h.run g shape.code (scaled_simple s h.on m shape) ≡ Ok (made, usage)
     → counted_made root made usage count ≡ begun_by h s root g m (Simple shape) count
 unfolding counted_made begun_by simple_made
-simple_counted h s root g m shape made usage count keeps r =
+counted_simple_is_begun h s root g m shape made usage count keeps r =
     let same : length made.zone.points ≡ length shape.points =
     (keeps g shape.code (scaled_simple s h.on m shape) (made, usage) r).0 ∙ length-map shape.points (scaled_point s) in
     rw same (counted_after h g shape.code (scaled_simple s h.on m shape) made usage
@@ -57,4 +57,4 @@ pub begun_again : (h : Hinting) (face : Face) (s : Scale) (root g : ℕ) (m : Me
     → counted_made root made usage count ≡ begun h face s root g count
 unfolding begun
 begun_again h face s root g m bytes made usage count keeps a b k =
-    rw (a, b, k.read) (simple_counted h s root g m k.shape made usage count keeps k.ran)
+    rw (a, b, k.read) (counted_simple_is_begun h s root g m k.shape made usage count keeps k.ran)

@@ -1,6 +1,7 @@
 pub mod Walking
 pub mod Contours
 pub mod Sound
+mod Totals
 mod Places
 mod Steps
 mod KeptGlyphs

@@ -36,7 +36,7 @@ pub struct KeptGlyph {
     fields: Option<KeptFields>,
     bytes: Vec<u8>,
     points: Vec<Point>,
-    ends: Vec<usize>,
+    ends: Vec<u16>,
 }
 
 impl Model for KeptGlyph {
@@ -74,7 +74,7 @@ fn are_same(one: &[u8], other: &[u8]) -> bool
 }
 
 /// A copy of points and contours, with room for those of a composite's other components.
-fn zone_copied(alloc: Global, points: &[Point], ends: &[usize]) -> Result<Zone, AllocError>
+fn zone_copied(alloc: Global, points: &[Point], ends: &[u16]) -> Result<Zone, AllocError>
     requires { All (λ e. e < length points.now) ends.now }
     ensures { IfOk result (λ z. z ≡ record { points = points.now; ends = ends.now }) }
 {

@@ -1,10 +1,8 @@
 //! The outline of a glyph.
 
-ghost use Rattle.std.specs.Prelude.{◌≡◌, ◌<◌, map, length, Ok, IfOk};
-ghost use Rattle.std.specs.List.{All};
+ghost use Rattle.std.specs.Prelude.{◌≡◌, map, Ok, IfOk};
 ghost use Rattle.fx_fixed.specs.Chain.{GivesUnless};
 ghost use Rattle.fx_machine.specs.Known.{machine_of};
-ghost use Rattle.fx_hint.specs.Limits.{max_points};
 ghost use Rattle.fx_hint.specs.Faults.{Fails};
 ghost use Rattle.fx_hint.specs.Outlines.{moved_point, moved_outline_of, view_of_outline, outline_with, hinted_outline_of, IsSound};
 ghost use Rattle.fx_hint.specs.Machines.{hinting_with, IfMachine, IsOf, KnowsSame};
@@ -63,23 +61,23 @@ pub fn outline_with<H: Hinter>(
     let scale = Scale::of(font, ppem);
     hinter.law_keeps_shape();
     let (made, usage) = root_made(alloc, hinter, font, &scale, g)?;
-    let outline = moved_outline(alloc, &made, usage)?;
+    let outline = moved_outline(alloc, made, usage)?;
     Ok(outline)
 }
 
 /// The outline moved, so that its first phantom point lies at x = 0.
 #[tactic(auto, unfolding(crate::specs::Outlines::moved_outline_of))]
-fn moved_outline(alloc: Global, made: &Made, usage: Usage) -> Result<Outline, AllocError>
-    requires { IsSound made.now }
-    ensures { IfOk result (λ o. view_of_outline o ≡ moved_outline_of made.now usage) }
+fn moved_outline(alloc: Global, made: Made, usage: Usage) -> Result<Outline, AllocError>
+    requires { IsSound made }
+    ensures { IfOk result (λ o. view_of_outline o ≡ moved_outline_of made usage) }
 {
-    let origin = made.phantoms.origin.cur.x;
-    let points = moved_points(alloc, made.zone.points(), origin)?;
-    let ends = short_ends(alloc, made.zone.ends())?;
-    let advance = made.phantoms.advance.cur.x.minus(origin);
+    let Made { zone, phantoms } = made;
+    let origin = phantoms.origin.cur.x;
+    let points = moved_points(alloc, zone.points(), origin)?;
+    let advance = phantoms.advance.cur.x.minus(origin);
     Ok(Outline {
         points,
-        ends,
+        ends: zone.into_ends(),
         advance,
         usage,
     })
@@ -110,17 +108,4 @@ fn moved_point(point: Point, origin: F26) -> OutlinePoint
         y: point.cur.y,
         on_curve: point.on,
     }
-}
-
-/// The numbers of contours' last points, which are all below `MAX_POINTS`.
-fn short_ends(alloc: Global, ends: &[usize]) -> Result<Vec<u16>, AllocError>
-    requires { All (λ e. e < max_points) ends.now }
-    ensures { IfOk result (λ v. v.items ≡ ends.now) }
-{
-    let mut short = Vec::with_capacity(alloc, ends.len())?;
-    // There is room for the numbers that are left.
-    'ends: for end in ends {
-        short.push_reserved(*end as u16);
-    }
-    Ok(short)
 }

@@ -8,7 +8,7 @@ ghost use Rattle.fx_zone.specs.Figures.{empty_figure};
 ghost use Rattle.fx_scale.specs.Phantoms.{phantoms_of};
 ghost use Rattle.fx_hint.specs.Faults.{Fails};
 ghost use Rattle.fx_hint.specs.Outlines.{scaled_simple, simple_made, assembled, component, run_on, root_made};
-ghost use Rattle.fx_hint.specs.Limits.{max_components, max_depth};
+ghost use Rattle.fx_hint.specs.Limits.{max_components, max_depth, max_points};
 ghost use Rattle.fx_hint.specs.Parts.{with_part};
 ghost use Rattle.fx_hint.specs.inner.Steps.{begun, begun_by, begun_component, counted_made, left};
 
@@ -275,6 +275,7 @@ impl<'w, 'a> Walk<'w, 'a> {
         waiting: Waiting<'a>,
         made: Made,
     ) -> Result<OpenComposite<'a>, HintFault>
+        requires { length waiting.composite.base.zone.points + length made.zone.points ≤ max_points }
         ensures { GivesUnless Fails (λ c. c) result (map_ok (λ more. record waiting.entry.composite { base = more })
             (with_part self.now.scale.now hinted waiting.entry.composite.g waiting.entry.part waiting.entry.composite.base made)) }
     {
@@ -287,13 +288,15 @@ impl<'w, 'a> Walk<'w, 'a> {
 
     /// The root assembled.
     fn assembled<H: Hinter>(&self, hinter: &mut H, count: &mut Count) -> Result<Made, HintFault>
-        requires { count.old.records ≤ max_components }
+        requires records { count.old.records ≤ max_components }
+        requires points { count.old.points ≤ max_points }
         ensures known { H.known hinter.new ≡ H.known hinter.old }
         ensures kept { H.hinting hinter.new ≡ H.hinting hinter.old }
         ensures value { GivesUnless Fails (λ m. (m, count.new)) result
             (assembled (H.hinting hinter.old) self.now.font.now self.now.scale.now self.now.root
             (component (H.hinting hinter.old) self.now.font.now self.now.scale.now self.now.root max_depth) self.now.root count.old) }
     {
+        hinter.law_keeps_shape();
         match self.begun(hinter, self.root, count)? {
             Step::Assembled(made) => Ok(made),
             Step::Open(open) => self.closed(hinter, open, count),
@@ -307,17 +310,20 @@ impl<'w, 'a> Walk<'w, 'a> {
         root: OpenComposite<'a>,
         count: &mut Count,
     ) -> Result<Made, HintFault>
-        requires { count.old.records ≤ max_components }
+        requires records { count.old.records ≤ max_components }
+        requires points { count.old.points ≤ max_points }
+        requires counted { length root.base.zone.points ≤ count.old.points }
         ensures known { H.known hinter.new ≡ H.known hinter.old }
         ensures kept { H.hinting hinter.new ≡ H.hinting hinter.old }
         ensures value { GivesUnless Fails (λ m. (m, count.new)) result
             (left (H.hinting hinter.old) self.now.font.now self.now.scale.now self.now.root max_depth root.entry count.old) }
     {
         let on = hinter.is_on();
+        hinter.law_keeps_shape();
         let mut below = Below::new(self.alloc);
         let mut open = root;
         // What the root gives stays the same: what the innermost open composite gives with its components that are left, and then
-        // each composite that waits, with what is assembled below it.
+        // each composite that waits, with what is assembled below it. The points of all these were counted.
         'steps: loop {
             match open.parts.next() {
                 Some(part) => {

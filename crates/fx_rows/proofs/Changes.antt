@@ -10,11 +10,9 @@ use Rattle.fx_fixed.proofs.Order.{below_or_not}
 use Rattle.fx_fixed.proofs.Linear.{signed_linear}
 use Rattle.fx_winding.specs.Bitmaps.{word_bit}
 use Rattle.fx_rows.specs.inner.Sums.{before, sum_of, AreTouched, count_bit}
+use Rattle.fx_rows.proofs.Signs.{equal_or_not}
 use Rattle.fx_rows.proofs.Masks.{word_more}
 use Rattle.fx_rows.proofs.Sums.{before_more}
-
-equal : (a b : ℕ) → (a ≡ b) ⊎ (a ≢ b)
-equal a b = grind arith
 
 -- numbers that are 0 add nothing
 pub sum_none : (xs : List ℤ) (from n m : ℕ) → n ≤ m → ((i : ℕ) → n ≤ i → i < m → get_or xs (from + i) (pos 0) ≡ pos 0)
@@ -132,7 +130,7 @@ settling_more diff from start count count' bits bits' left left' k (p, s) l bit 
     sum = whole;
     done = λ i h. by_done i h (below_or_not i k) (below_or_not i p);
     rest = λ i h m. high i (omega arith) m;
-    visited = λ i h. by_visited i h (equal i k);
+    visited = λ i h. by_visited i h (equal_or_not i k);
     none = λ i h m z. let ne : i ≢ k = omega arith in s.none i (omega (arith, after)) m (sym (others i m ne) ∙ z);
   },
 )
@@ -210,8 +208,8 @@ word_sum diff line lining count w n s =
     let sum = s.sum in
     omega (arith, signed_linear, more, sum)
 
-either : (z : ℤ) (b d : ℕ) → b < 2 → d ≡ count_bit z 0 → max b d ≡ count_bit z b
-either z b d h e = by (int_eq z (pos 0)) refl
+max_with_count_bit : (z : ℤ) (b d : ℕ) → b < 2 → d ≡ count_bit z 0 → max b d ≡ count_bit z b
+max_with_count_bit z b d h e = by (int_eq z (pos 0)) refl
   where
     by : (t : Bool) → int_eq z (pos 0) ≡ t → max b d ≡ cond {A = ℕ} t b 1
     by true k = let f : d ≡ 0 = e ∙ ap (λ (t : Bool). cond {A = ℕ} t 0 1) k in omega arith
@@ -248,4 +246,4 @@ settled_more diff line lining count count' w word s long bits c = record {
         (word_sum diff line lining count w (i + 1) s ∙ ap (λ (n : ℕ). before n diff) next) in
         bit_at_or (get_or lining w 0) word (31 - i)
         ∙ ap (λ n. max n (bit_at word (31 - i))) old
-        ∙ either z b (bit_at word (31 - i)) (bit_at-lt (get_or line ((32 * w + i) / 32) 0) (31 - (32 * w + i) % 32)) new
+        ∙ max_with_count_bit z b (bit_at word (31 - i)) (bit_at-lt (get_or line ((32 * w + i) / 32) 0) (31 - (32 * w + i) % 32)) new

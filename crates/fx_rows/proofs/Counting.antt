@@ -2,7 +2,6 @@
 -- Serves what a bent arc or a line adds to such a row.
 use Rattle.std.proofs.Common.{◌≡◌, ◌≢◌, ◌⊎◌, inl, inr, refl, sym, ◌∙◌, subst, ℕ, ◌+◌, ◌≤◌, ◌<◌, ℤ, pos}
 use Rattle.std.proofs.Common.{◌+ℤ◌, ◌-ℤ◌, ◌*ℤ◌, ◌≤ℤ◌, ◌<ℤ◌, neg_ℤ, Bool, true, false, Option, Some, None, arith}
-use Rattle.std.proofs.lemmas.Int.{ints}
 use Rattle.fx_fixed.proofs.Order.{below_or_not, below_same_above, below_or_not_ℤ}
 use Rattle.fx_fixed.proofs.Linear.{signed_linear}
 use Rattle.fx_winding.specs.Area.{Place, area}
@@ -21,6 +20,7 @@ use Rattle.fx_winding.proofs.Beside.{left_off, right_off}
 use Rattle.fx_winding.proofs.Crossings.{crossing_left, left_of_rising, left_of_falling, right_of_rising, right_of_falling}
 use Rattle.fx_rows.specs.inner.Points.{IsPointOf, AreAcross, IsInner, IsRise}
 use Rattle.fx_rows.specs.declared.part.OnRow.TheVariants.{None as Nowhere}
+use Rattle.fx_rows.proofs.Signs.{not_below_zero, below_zero_if_not, above_or_zero}
 use Rattle.fx_rows.proofs.Points.{to_all}
 use Rattle.fx_rows.proofs.Contacts.{none_on}
 use Rattle.fx_rows.proofs.Sides.{crossing_of_left, crossing_of_rest, counted_up, counted_down, sign_above, sign_below}
@@ -29,9 +29,6 @@ use Rattle.fx_rows.proofs.Narrows.{rises, weight_right, weight_left, own_right, 
 use Rattle.fx_rows.proofs.Regions.{no_region_beyond, no_region_below, region_of_gap, not_owned, on_from_gap, on_gap}
 use Rattle.fx_rows.proofs.Flats.{no_region_flat}
 use Rattle.fx_rows.proofs.Cutting.{closer, slanted}
-
-below_or : (x : ℤ) → (x <ℤ pos 0) ⊎ (pos 0 ≤ℤ x)
-below_or x = grind (arith, ints)
 
 pub across : (a c y : ℤ) → IsInner a c y → IsAcross a c y
 across a c y (inl h) = inl (omega (arith, signed_linear, h.0), h.1)
@@ -53,7 +50,7 @@ opposite x y z e f = omega (arith, signed_linear)
 counts_left : (a b c p q : Place) (r : Bool) → area a b c ≢ pos 0 → IsInner a.y c.y p.y → q.y ≡ p.y → side a c p <ℤ side a c q
     → IsTurnedPart a (Some b) c r → Counts r (side a c q) (gap_w a b c q) → Counts r (side a c p) (gap_w a b c p)
 counts_left a b c p q true bent inner row less t (inl h) = inl (omega (arith, signed_linear))
-counts_left a b c p q true bent inner row less t (inr g) = by (below_or (side a c p))
+counts_left a b c p q true bent inner row less t (inr g) = by (below_or_not_ℤ (side a c p) (pos 0))
   where
     vp : weight_b a b c p ≡ side a c p
     vp = weight_right a (Some b) c p t
@@ -66,7 +63,8 @@ counts_left a b c p q true bent inner row less t (inr g) = by (below_or (side a 
     by (inr h) =
         let k = closer a b c p q bent inner row (omega (arith, signed_linear, vp)) (omega (arith, signed_linear, vp, vq)) g in
         inr (omega (arith, signed_linear, k))
-counts_left a b c p q false bent inner row less t h = (omega (arith, signed_linear, h.0), by (below_or (gap_w a b c p)))
+counts_left a b c p q false bent inner row less t h =
+    (omega (arith, signed_linear, h.0), by (below_or_not_ℤ (gap_w a b c p) (pos 0)))
   where
     vp : weight_b a b c p ≡ neg_ℤ (side a c p)
     vp = weight_left a (Some b) c p t
@@ -91,7 +89,7 @@ gap_inside a b c p bent v g off = above_from (gap_w a b c p) g (λ z. off (on_fr
 pub value_inside : (a b c p : Place) (r : Bool) → area a b c ≢ pos 0 → IsInner a.y c.y p.y → IsTurnedPart a (Some b) c r
     → ¬ (IsOnPart a (Some b) c p) → Counts r (side a c p) (gap_w a b c p)
     → chord_crossing a c p +ℤ region_part a (Some b) c p ≡ sign (c.y -ℤ a.y)
-value_inside a b c p true bent inner t off counts = by (below_or (side a c p)) counts
+value_inside a b c p true bent inner t off counts = by (below_or_not_ℤ (side a c p) (pos 0)) counts
   where
     v : weight_b a b c p ≡ side a c p
     v = weight_right a (Some b) c p t
@@ -109,22 +107,13 @@ value_inside a b c p true bent inner t off counts = by (below_or (side a c p)) c
 value_inside a b c p false bent inner t off counts = first_only _ _ _
     (crossing_of_left a c p (across a.y c.y p.y inner) counts.0) (no_region_below a b c p bent counts.1)
 
-not_below : (x : ℤ) → ¬ (x <ℤ pos 0) → pos 0 ≤ℤ x
-not_below x n = grind (arith, ints)
-
-not_from : (x : ℤ) → ¬ (pos 0 ≤ℤ x) → x <ℤ pos 0
-not_from x n = grind (arith, ints)
-
-zero_or_above : (z : ℤ) → pos 0 ≤ℤ z → (pos 0 <ℤ z) ⊎ (z ≡ pos 0)
-zero_or_above z h = grind (arith, ints)
-
 pub value_outside : (a b c p : Place) (r : Bool) → area a b c ≢ pos 0 → IsInner a.y c.y p.y → IsTurnedPart a (Some b) c r
     → ¬ (IsOnPart a (Some b) c p) → ¬ (Counts r (side a c p) (gap_w a b c p))
     → chord_crossing a c p +ℤ region_part a (Some b) c p ≡ pos 0
 value_outside a b c p true bent inner t off not = both_zero _ _
-    (crossing_of_rest a c p (not_below (side a c p) (λ h. not (inl h))))
-    (no_region_below a b c p bent (not_from (gap_w a b c p) (λ h. not (inr h))))
-value_outside a b c p false bent inner t off not = by (below_or (side a c p))
+    (crossing_of_rest a c p (not_below_zero (side a c p) (λ h. not (inl h))))
+    (no_region_below a b c p bent (below_zero_if_not (gap_w a b c p) (λ h. not (inr h))))
+value_outside a b c p false bent inner t off not = by (below_or_not_ℤ (side a c p) (pos 0))
   where
     v : weight_b a b c p ≡ neg_ℤ (side a c p)
     v = weight_left a (Some b) c p t
@@ -138,9 +127,9 @@ value_outside a b c p false bent inner t off not = by (below_or (side a c p))
     by (inl h) =
         let up : pos 0 <ℤ weight_b a b c p = omega (arith, signed_linear, v) in
         let low : pos 0 ≤ℤ weight_b a b c p = omega (arith, signed_linear, v) in
-        let g = gap_inside a b c p bent low (not_below (gap_w a b c p) (λ k. not (h, k))) off in
+        let g = gap_inside a b c p bent low (not_below_zero (gap_w a b c p) (λ k. not (h, k))) off in
         opposite _ _ _ (crossing_of_left a c p (across a.y c.y p.y inner) h) (region_of_gap a b c p bent g (inl up) ∙ t)
-    by (inr h) = both_zero _ _ (crossing_of_rest a c p h) (right (zero_or_above (side a c p) h))
+    by (inr h) = both_zero _ _ (crossing_of_rest a c p h) (right (above_or_zero (side a c p) h))
 
 -- ---- a place on the arc, and those beside it
 on_weight : (a b c p : Place) → area a b c ≢ pos 0 → IsOnPart a (Some b) c p → pos 0 ≤ℤ weight_b a b c p
@@ -173,7 +162,7 @@ on_left a b c p bent on counts = let z = on_gap a b c p bent on in let g = count
 on_left_first : (a b c p q : Place) → area a b c ≢ pos 0 → IsInner a.y c.y p.y → q.y ≡ p.y → side a c q <ℤ side a c p
     → IsTurnedPart a (Some b) c false → IsOnPart a (Some b) c p → Counts false (side a c q) (gap_w a b c q)
 on_left_first a b c p q bent inner row less t on =
-    (omega (arith, signed_linear, v, vp), by (below_or (gap_w a b c q)))
+    (omega (arith, signed_linear, v, vp), by (below_or_not_ℤ (gap_w a b c q) (pos 0)))
   where
     z : gap_w a b c p ≡ pos 0
     z = on_gap a b c p bent on

@@ -52,14 +52,14 @@ sum_above' a b h k = omega (arith, signed_linear)
 difference_above : (v v' : ℤ) → v <ℤ v' → pos 0 <ℤ (v' -ℤ v)
 difference_above v v' h = omega (arith, signed_linear)
 
-at_least : (v v' : ℤ) → pos 0 ≤ℤ v → v <ℤ v' → (pos 0 ≤ℤ v') × (pos 0 <ℤ v')
-at_least v v' h k = (omega (arith, signed_linear), omega (arith, signed_linear))
+greater_is_above : (v v' : ℤ) → pos 0 ≤ℤ v → v <ℤ v' → (pos 0 ≤ℤ v') × (pos 0 <ℤ v')
+greater_is_above v v' h k = (omega (arith, signed_linear), omega (arith, signed_linear))
 
 -- between the chord and a place that is not outside the parabola, the gap is above 0
 scaled_closer : (x y i j v v' : ℤ) → pos 0 <ℤ (x *ℤ y) → pos 0 ≤ℤ v → v <ℤ v' → pos 0 ≤ℤ scaled x y i j v'
     → pos 0 <ℤ scaled x y i j v
 scaled_closer x y i j v v' some h k g =
-    let up = at_least v v' h k in
+    let up = greater_is_above v v' h k in
     let p1 = product_at_least_zero v (scaled x y i j v') h g in
     let p2 = product_at_least_zero ((i -ℤ j) *ℤ (i -ℤ j)) (v *ℤ v') (square_at_least_zero (i -ℤ j))
     (product_at_least_zero v v' h up.0) in

@@ -96,7 +96,7 @@ fn resting(x: F26, y: F26, on: bool) -> fx_zone::Point
 }
 
 /// The number of each contour's last point.
-fn contour_ends(alloc: Global, simple: &Simple<'_>) -> Result<Vec<usize>, AllocError>
+fn contour_ends(alloc: Global, simple: &Simple<'_>) -> Result<Vec<u16>, AllocError>
     ensures value { IfOk result (λ v. v.items ≡ simple.now.ends) }
     ensures below { IfOk result (λ v. All (λ e. e < length simple.now.points) v.items) }
 {
@@ -104,7 +104,7 @@ fn contour_ends(alloc: Global, simple: &Simple<'_>) -> Result<Vec<usize>, AllocE
     let ends = simple.ends();
     // There is room for the ends that are left.
     'contours: for end in ends {
-        numbers.push_reserved(usize::from(end));
+        numbers.push_reserved(end);
     }
     Ok(numbers)
 }

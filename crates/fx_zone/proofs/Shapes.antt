@@ -22,15 +22,15 @@ written_long n (Some p) points = length-set points n p
 pub changed_shape : (change : Point → Point) (n : ℕ) (f : Figure) → HasShape f (changed change n f)
 changed_shape change n f = record { points = written_long n (option_map change (slice_get f.points n)) f.points; ends = refl }
 
-each_long : (chooses : ℕ → Bool) (change : Point → Point) (n : ℕ) (points : List Point)
+each_changed_long : (chooses : ℕ → Bool) (change : Point → Point) (n : ℕ) (points : List Point)
     → length (each_changed chooses change n points) ≡ length points
 unfolding each_changed
-each_long chooses change n [] = refl
-each_long chooses change n (p ∷ ps) = ap suc (each_long chooses change (suc n) ps)
+each_changed_long chooses change n [] = refl
+each_changed_long chooses change n (p ∷ ps) = ap suc (each_changed_long chooses change (suc n) ps)
 
 pub each_shape : (chooses : ℕ → Bool) (change : Point → Point) (f : Figure)
     → HasShape f (record f { points = each_changed chooses change 0 f.points })
-each_shape chooses change f = record { points = each_long chooses change 0 f.points; ends = refl }
+each_shape chooses change f = record { points = each_changed_long chooses change 0 f.points; ends = refl }
 
 interpolated_ends : (axis : Axis) (f : Figure) → (figure_interpolated axis f).ends ≡ f.ends
 unfolding figure_interpolated

@@ -259,14 +259,14 @@ fn interpolate_contour(points: &mut [Point], axis: Axis)
 
 /// Interpolates the untouched points of each contour, by the numbers of their last points.
 #[inline(always)]
-pub fn interpolate_contours(points: &mut [Point], ends: &[usize], axis: Axis)
+pub fn interpolate_contours(points: &mut [Point], ends: &[u16], axis: Axis)
     requires { All (λ e. e < length points.old) ends.now }
     ensures { points.new ≡ contours_interpolated axis ends.now (length ends.now) points.old }
 {
     let mut first = 0;
     // The contours before this one are done, and `first` is where it begins.
     'contours: for end in ends.iter() {
-        let past = *end + 1;
+        let past = usize::from(*end) + 1;
         if first < past {
             interpolate_contour(&mut points[first..past], axis);
         }

@@ -22,7 +22,7 @@ use std::marker::Model;
 #[derive(Drop)]
 pub struct Zone {
     points: Vec<Point>,
-    ends: Vec<usize>,
+    ends: Vec<u16>,
 }
 
 impl Model for Zone {
@@ -49,7 +49,7 @@ impl Zone {
     }
 
     /// A zone of these points and contours.
-    pub fn of(points: Vec<Point>, ends: Vec<usize>) -> Zone
+    pub fn of(points: Vec<Point>, ends: Vec<u16>) -> Zone
         requires { All (λ e. e < length points.items) ends.items }
         ensures { result ≡ record { points = points.items; ends = ends.items } }
     {
@@ -71,11 +71,19 @@ impl Zone {
     }
 
     /// The number of each contour's last point.
-    pub fn ends(&self) -> &[usize]
+    pub fn ends(&self) -> &[u16]
         ensures value { result.now ≡ self.now.ends }
         ensures below { All (λ e. e < length self.now.points) result.now }
     {
         &self.ends
+    }
+
+    /// The number of each contour's last point, without the points.
+    pub fn into_ends(self) -> Vec<u16>
+        ensures { result.items ≡ self.ends }
+    {
+        let Zone { points: _, ends } = self;
+        ends
     }
 
     /// The point of a number, if it is inside.
@@ -128,11 +136,11 @@ impl Zone {
         ensures value { result ≡ contour_of self.now.ends number }
         ensures within { IfSome result (λ c. c.1 ≤ length self.now.points) }
     {
-        let last = *self.ends.get(number)?;
+        let last = usize::from(*self.ends.get(number)?);
         let first = if number == 0 {
             0
         } else {
-            self.ends[number - 1] + 1
+            usize::from(self.ends[number - 1]) + 1
         };
         Some((first, last + 1))
     }
@@ -203,34 +211,29 @@ impl Zone {
 
     /// Appends points, and contours numbered within these points; if memory is refused,
     /// nothing changes.
-    pub fn append(&mut self, points: &[Point], ends: &[usize]) -> Result<(), AllocError>
-        requires { All (λ e. e < length points.now) ends.now }
+    pub fn append(&mut self, points: &[Point], ends: &[u16]) -> Result<(), AllocError>
+        requires below { All (λ e. e < length points.now) ends.now }
+        requires fits { All (λ e. length self.old.points + e < 2 ^ 16) ends.now }
         ensures done { OnOk result (self.new ≡ joined self.old (record { points = points.now; ends = ends.now })) }
         ensures kept { OnErr result (self.new ≡ self.old) }
     {
         let first = self.points.len();
         self.points.reserve(points.len())?;
-        append_shifted(&mut self.ends, ends, first, points.len())?;
+        append_shifted(&mut self.ends, ends, first)?;
         self.points.extend_from_slice(points)
     }
 }
 
 /// Appends numbers, counted from `first` on; if memory is refused, nothing changes.
-fn append_shifted(
-    numbers: &mut Vec<usize>,
-    more: &[usize],
-    first: usize,
-    count: usize,
-) -> Result<(), AllocError>
-    requires below { All (λ e. e < count) more.now }
-    requires room { first + count < 2 ^ 64 }
+fn append_shifted(numbers: &mut Vec<u16>, more: &[u16], first: usize) -> Result<(), AllocError>
+    requires { All (λ e. first + e < 2 ^ 16) more.now }
     ensures done { OnOk result (numbers.new.items ≡ numbers.old.items ++ map (λ e. first + e) more.now) }
     ensures kept { OnErr result (numbers.new.items ≡ numbers.old.items) }
 {
     numbers.reserve(more.len())?;
     // The numbers before `number` are appended, and there is room for those that are left.
     'numbers: for number in more {
-        numbers.push_reserved(first + *number);
+        numbers.push_reserved((first + usize::from(*number)) as u16);
     }
     Ok(())
 }

@@ -1,7 +1,20 @@
 use Rattle.std.proofs.lemmas.Result.{err_from_is_err_and}
 use Rattle.fx_hint.proofs.Walking.{fails_on}
 use Rattle.fx_hint.proofs.Steps.{begins, not_begun}
+use Rattle.std.proofs.Common.{arith}
+use Rattle.fx_hint.proofs.Totals.{begun_counted}
 use Rattle.fx_hint.proofs.walk.Walk.assembled.Goals as goal
+
+pub closed-requires-clause-counted : goal.closed-requires-clause-counted
+closed-requires-clause-counted g c =
+    let v = rw c.in-Open.is at c.in_ok-made.ensures.value in
+    let n = begun_counted _ _ _ _ _ _ _ c.law_keeps_shape.ensures c.requires.points v in
+    omega (arith, n.0)
+
+pub closed-requires-clause-points : goal.closed-requires-clause-points
+closed-requires-clause-points g c =
+    let v = rw c.in-Open.is at c.in_ok-made.ensures.value in
+    (begun_counted _ _ _ _ _ _ _ c.law_keeps_shape.ensures c.requires.points v).1
 
 pub returns-in_err-made-clause-value : goal.returns-in_err-made-clause-value
 returns-in_err-made-clause-value g c =

@@ -1,7 +1,11 @@
-use Rattle.std.proofs.Common.{rules, arith, [], ◌∷◌, length-append}
+use Rattle.std.proofs.Common.{rules, arith, [], ◌∷◌, length, ap, length-append}
 use Rattle.std.proofs.lemmas.Result.{err_from_is_err_and}
+use Rattle.fx_fixed.proofs.Chain.{map_ok_ok}
+use Rattle.fx_hint.specs.declared.below.OpenComposite.{OpenComposite}
+use Rattle.fx_hint.specs.declared.below.Waiting.{Waiting}
 use Rattle.fx_hint.proofs.Walking.{fails_on}
 use Rattle.fx_hint.proofs.Steps.{opens, joins, not_joined, runs, not_run, descends, not_descended, fills, not_filled, done}
+use Rattle.fx_hint.proofs.Totals.{points_with_one_more, component_begun_counted, run_keeps_points, part_adds_points}
 use Rattle.fx_hint.proofs.walk.Walk.closed.Goals as goal
 
 pub steps-init : goal.steps-init
@@ -10,8 +14,26 @@ steps-init g c = record {
   kept = search rules;
   due = opens _ _ _ _ _ c.args.root _ c.new-below.ensures;
   deep = rw c.new-below.ensures (omega arith);
-  few = c.requires;
+  few = c.requires.records;
+  counted = let n = c.requires.counted in rw c.new-below.ensures (omega (arith, n));
+  points = c.requires.points;
 }
+
+pub add_part-requires : goal.add_part-requires
+add_part-requires g c =
+    let v = rw (c.steps.invariant.kept, c.in-Assembled.is) at c.in_ok-step-in-Some.ensures.value in
+    let n = component_begun_counted _ _ _ _ _ _ _ _ c.law_keeps_shape.ensures c.steps.invariant.points v in
+    let m = c.steps.invariant.counted in
+    omega (arith, n.0, n.1, m)
+
+pub joined-requires : goal.joined-requires
+joined-requires g c =
+    let v = rw (c.steps.invariant.kept, c.code.ensures.value) at c.in_ok-run_on-in-None.ensures.value in
+    let ran = run_keeps_points _ _ _ _ _ _ c.law_keeps_shape.ensures v in
+    let all = rw c.in-Some-pop.ensures at c.steps.invariant.counted in
+    let one = points_with_one_more c.pop.new.self c.in-Some-pop.waiting in
+    let few = c.steps.invariant.points in
+    omega (arith, all, one, ran.0, few)
 
 pub returns-in_err-step-in-Some-clause-value : goal.returns-in_err-step-in-Some-clause-value
 returns-in_err-step-in-Some-clause-value g c =
@@ -27,6 +49,9 @@ steps-preserved-in-Continue-branch-2 g c =
     let n = c.len.ensures in
     let v = rw (c.steps.invariant.kept, c.in-Assembled.is) at c.in_ok-step-in-Some.ensures.value in
     let a = rw c.is_on-on.ensures at c.in_ok-add_part-in-Assembled.ensures in
+    let m = c.steps.invariant.counted in
+    let p = component_begun_counted _ _ _ _ _ _ _ _ c.law_keeps_shape.ensures c.steps.invariant.points v in
+    let s = part_adds_points _ _ _ _ _ _ _ a in
     record {
       known = search rules;
       kept = search rules;
@@ -34,6 +59,8 @@ steps-preserved-in-Continue-branch-2 g c =
           c.steps.invariant.due c.in-Some.ensures.steps (omega arith) v a;
       deep = c.steps.invariant.deep;
       few = c.in_ok-step-in-Some.ensures.records.1;
+      counted = omega (arith, m, p.0, s);
+      points = p.1;
     }
 
 pub returns-in_err-add_part-in-Assembled-clause-value : goal.returns-in_err-add_part-in-Assembled-clause-value
@@ -54,6 +81,10 @@ steps-preserved-in-Open g c =
     let one = length-append c.steps.below
     (record { part = c.in-Some.part; composite = record c.steps.open { parts = c.next.new.self } } ∷ []) in
     let level = c.in_ok-step-in-Some.ensures.level in
+    let w : Waiting = record { part = c.in-Some.part; composite = record c.steps.open { parts = c.next.new.self } } in
+    let m = c.steps.invariant.counted in
+    let p = component_begun_counted _ _ _ _ _ _ _ _ c.law_keeps_shape.ensures c.steps.invariant.points v in
+    let s = points_with_one_more c.steps.below w in
     record {
       known = search rules;
       kept = search rules;
@@ -61,6 +92,8 @@ steps-preserved-in-Open g c =
           c.steps.invariant.due c.in-Some.ensures.steps (omega arith) v c.in_ok-push-in-Open.ensures;
       deep = rw c.in_ok-push-in-Open.ensures (omega arith);
       few = c.in_ok-step-in-Some.ensures.records.1;
+      counted = rw c.in_ok-push-in-Open.ensures (omega (arith, m, p.0, s));
+      points = p.1;
     }
 
 pub returns-in_err-run_on-in-None-clause-value : goal.returns-in_err-run_on-in-None-clause-value
@@ -93,10 +126,18 @@ steps-preserved g c =
     let j = rw c.is_on-on.ensures at c.in_ok-open-in-Some-pop.ensures in
     let n = length-append c.pop.new.self (c.in-Some-pop.waiting ∷ []) in
     let d = rw c.in-Some-pop.ensures at c.steps.invariant.deep in
+    let kept = run_keeps_points _ _ _ _ _ _ c.law_keeps_shape.ensures v in
+    let all = rw c.in-Some-pop.ensures at c.steps.invariant.counted in
+    let one = points_with_one_more c.pop.new.self c.in-Some-pop.waiting in
+    let q = map_ok_ok _ _ _ j in
+    let s = part_adds_points _ _ _ _ _ _ _ q.1 in
+    let e = ap (λ (o : OpenComposite). length o.base.zone.points) q.2 in
     record {
       known = search rules;
       kept = search rules;
       due = joins _ _ _ _ _ _ _ _ _ _ _ ran c.in-Some-pop.ensures j;
       deep = omega arith;
       few = rw c.in_ok-run_on-in-None.ensures.records c.steps.invariant.few;
+      counted = omega (arith, all, one, kept.0, kept.1, s, e);
+      points = let few = c.steps.invariant.points in omega (arith, few, kept.1);
     }

@@ -1,6 +1,7 @@
 use Rattle.std.proofs.Common.{◌≡◌, ◌+◌, ◌-◌, ◌*◌, ◌≤◌, length}
-use Rattle.fx_hint.specs.Limits.{max_components, max_depth}
+use Rattle.fx_hint.specs.Limits.{max_components, max_depth, max_points}
 use Rattle.fx_hint.specs.inner.Steps.{left, rest_of}
+use Rattle.fx_hint.proofs.Totals.{points_waiting}
 use Rattle.fx_hint.proofs.walk.Walk.closed.Given as goal
 
 -- what the root gives by the steps that are left is what it gives
@@ -14,6 +15,8 @@ invariant-steps g l = record {
       ≡ left (g.H.Hinter.hinting l.fn.hinter) l.self.font.now l.self.scale.now l.self.root max_depth l.fn.root l.fn.count;
   deep : length l.below ≤ max_depth;
   few : l.count.records ≤ max_components;
+  counted : points_waiting l.below + length l.open.base.zone.points ≤ l.count.points;
+  points : l.count.points ≤ max_points;
 }
 
 -- a component takes a record; each composite waits once

@@ -1,0 +1,16 @@
+-- Numbers and 0, and whether two numbers are equal.
+-- Serves the lemmas on gaps, sides and marks.
+use Rattle.std.proofs.Common.{◌≡◌, ◌≢◌, ◌⊎◌, ℕ, ℤ, pos, ◌<ℤ◌, ◌≤ℤ◌, arith}
+use Rattle.std.proofs.lemmas.Int.{ints}
+
+pub not_below_zero : (x : ℤ) → ¬ (x <ℤ pos 0) → pos 0 ≤ℤ x
+not_below_zero x n = grind (arith, ints)
+
+pub below_zero_if_not : (x : ℤ) → ¬ (pos 0 ≤ℤ x) → x <ℤ pos 0
+below_zero_if_not x n = grind (arith, ints)
+
+pub above_or_zero : (z : ℤ) → pos 0 ≤ℤ z → (pos 0 <ℤ z) ⊎ (z ≡ pos 0)
+above_or_zero z h = grind (arith, ints)
+
+pub equal_or_not : (a b : ℕ) → (a ≡ b) ⊎ (a ≢ b)
+equal_or_not a b = grind arith
