@@ -35,7 +35,7 @@ fn is_met(curve: &Curve) -> bool {
     meets(&drawn(curve), spot((64, 64)), spot((192, 64)), &mut tally)
 }
 
-/// Curves that meet it: across, in both directions; an end between; level between; the tip of an arc that touches, or comes through.
+/// Curves that meet it: across, in both directions; an end between; level between; a tip that touches, or comes through.
 const MEETING: [Curve; 9] = [
     ((128, 0), None, (128, 128)),
     ((180, 128), None, (70, 0)),
@@ -48,7 +48,7 @@ const MEETING: [Curve; 9] = [
     ((100, 0), Some((128, 300)), (300, 0)),
 ];
 
-/// Curves that don't: left, right, under and over; a tip that stays under; tips left and right; an arc that goes round both centres.
+/// Curves that don't: left, right, under and over; a tip that stays under; tips left and right; an arc round both centres.
 const MISSING: [Curve; 9] = [
     ((32, 0), None, (32, 128)),
     ((200, 128), None, (200, 0)),
@@ -150,8 +150,8 @@ const TIP: [Curve; 2] = [
     ((156, 0), None, (100, 0)),
 ];
 
-/// A stroke without width that goes through a row of centres and then through a column: the pixel that the row sets is an end of both
-/// gaps.
+/// A stroke without width that goes through a row of centres and then through a column: the pixel that the row sets is an end of
+/// both gaps.
 const ROW_AND_COLUMN: [Curve; 2] = [
     ((118, 86), None, (46, -2)),
     ((46, -2), None, (118, 86)),
