@@ -120,6 +120,7 @@ const BETWEEN_ROWS: [Curve; 4] = [
     ((384, 110), None, (0, 110)),
     ((0, 110), None, (0, 100)),
 ];
+
 const BETWEEN_COLUMNS: [Curve; 4] = [
     ((100, 0), None, (110, 0)),
     ((110, 0), None, (110, 384)),
@@ -133,6 +134,7 @@ const DOT: [Curve; 3] = [
     ((136, 120), None, (128, 136)),
     ((128, 136), None, (120, 120)),
 ];
+
 const DOT_ON_ROW: [Curve; 3] = [
     ((100, 50), None, (120, 50)),
     ((120, 50), None, (110, 80)),
@@ -145,6 +147,7 @@ const TOUCH: [Curve; 3] = [
     ((156, 0), None, (128, 64)),
     ((128, 64), None, (100, 0)),
 ];
+
 const TIP: [Curve; 2] = [
     ((100, 0), Some((128, 128)), (156, 0)),
     ((156, 0), None, (100, 0)),
@@ -152,10 +155,7 @@ const TIP: [Curve; 2] = [
 
 /// A stroke without width that goes through a row of centres and then through a column: the pixel that the row sets is an end of
 /// both gaps.
-const ROW_AND_COLUMN: [Curve; 2] = [
-    ((118, 86), None, (46, -2)),
-    ((46, -2), None, (118, 86)),
-];
+const ROW_AND_COLUMN: [Curve; 2] = [((118, 86), None, (46, -2)), ((46, -2), None, (118, 86))];
 
 #[test]
 fn gaps(rt: HostRuntime) -> Result<(), Fail> {
