@@ -1,5 +1,5 @@
 -- Gaps of rows closed one after the other, in place.
--- Serves the loops of `close`.
+-- Serves `close` and `gaps`.
 use Rattle.std.proofs.Common.{◌≡◌, ◌≢◌, ◌⊎◌, ◌↔◌, inl, inr, refl, sym, ◌∙◌, subst, ℕ, ◌+◌, ◌<◌, ℤ, pos, ◌+ℤ◌, ◌-ℤ◌}
 use Rattle.std.proofs.Common.{IsTrue, Bool, true, false, not, List, map, arith}
 use Rattle.std.proofs.lemmas.Int.{ints}
