@@ -1,5 +1,5 @@
 -- Gaps of rows closed one after the other, in place.
--- Serves the loops of `close`.
+-- Serves `close` and `gaps`.
 use Rattle.std.proofs.Common.{◌≡◌, ◌≢◌, ◌⊎◌, ◌↔◌, inl, inr, refl, sym, ◌∙◌, subst, ℕ, ◌+◌, ◌<◌, ℤ, pos, ◌+ℤ◌, ◌-ℤ◌}
 use Rattle.std.proofs.Common.{IsTrue, Bool, true, false, not, List, map, arith}
 use Rattle.std.proofs.lemmas.Int.{ints}
@@ -260,7 +260,8 @@ rows_more ss f up old mid new at e a c = record {
         let k = a.rows i j (h.0, omega (arith, signed_linear, h.1, n, e)) in
         (λ t. k.0 ((c.others i j n).0 t), λ b. (c.others i j n).1 (k.1 b))
 
-pub rows_all : (ss : List Span) (f : Frame) (done : ℕ) (old new : ℤ → ℤ → Type 0) → done ≡ f.height → AreRowsClosed ss f done old new
+pub rows_all : (ss : List Span) (f : Frame) (done : ℕ) (old new : ℤ → ℤ → Type 0) → done ≡ f.height
+    → AreRowsClosed ss f done old new
     → (i j : ℤ) → new i j ↔ IsBridged ss (IsInFrame f) old i j
 rows_all ss f done old new e a i j = by (is_from f.bottom done j) refl
   where

@@ -150,7 +150,7 @@ fn is_open(turned: bool, pieces: &Pieces, bitmap: &Bitmap, i: i32, j: i32) -> bo
     !is_seen_outside(turned, pieces, bitmap.frame(), i, j)
 }
 
-/// Whether there is a gap between a pixel and its right neighbour. The bits are looked at first: most of the others are never tested.
+/// Whether there is a gap between a pixel and its right neighbour. The bits are looked at first: most pairs are done with by that.
 pub fn is_gap(turned: bool, pieces: &Pieces, bitmap: &Bitmap, i: i32, j: i32) -> bool
     requires here { IsPixelNumber i }
     requires next { IsPixelNumber (i +ℤ pos 1) }

@@ -39,7 +39,7 @@ winding_permutation p ss ts h =
     let r = winding_parts p ts in
     same_in _ _ (omega (arith, u, d, l, r))
 
-any_permutation : (P : Span → Type 0) (ss ts : List Span) → IsPermutation ss ts → Any P ss → Any P ts
+pub any_permutation : (P : Span → Type 0) (ss ts : List Span) → IsPermutation ss ts → Any P ss → Any P ts
 any_permutation P ss ts h (k, s, within, is, holds) =
     let c = Contains-permutation ss ts s h (k, within, is) in (c.0, s, c.1, c.2, holds)
 

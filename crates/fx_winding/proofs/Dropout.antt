@@ -5,15 +5,18 @@ use Rattle.std.proofs.Common.{Option, Some, None, option_map, map, Any, arith}
 use Rattle.fx_fixed.specs.Polynomial.{var, num, ◌⊞◌, ◌⊠◌}
 use Rattle.fx_fixed.proofs.Ring.{ring}
 use Rattle.fx_fixed.proofs.Linear.{signed_linear}
+use Rattle.std.specs.List.Sorted.{IsPermutation}
+use Rattle.std.proofs.lemmas.List.Sorted.{IsPermutation-sym}
 use Rattle.fx_winding.specs.Area.{Place, place}
 use Rattle.fx_winding.specs.Frames.{IsInFrame}
 use Rattle.fx_winding.specs.Winding.{Span, IsCovered, centre}
-use Rattle.fx_winding.specs.Moves.{shifted_place, shifted}
+use Rattle.fx_winding.specs.Moves.{reversed, shifted_place, shifted}
 use Rattle.fx_winding.specs.Meets.{IsMet}
 use Rattle.fx_winding.specs.Dropout.{turned_place, turned_span, IsGap, IsBridged, IsRowSet, IsSet, DropoutAdds, RowsHaveNoGap}
-use Rattle.fx_winding.specs.Dropout.{ColumnsHaveNoGap, ShiftMovesSet}
-use Rattle.fx_winding.proofs.Covers.{any_map, any_unmap}
-use Rattle.fx_winding.proofs.Meeting.{shift_meets}
+use Rattle.fx_winding.specs.Dropout.{ColumnsHaveNoGap, ShiftMovesSet, ReversalKeepsSet}
+use Rattle.fx_winding.proofs.Covers.{any_map, any_unmap, any_permutation}
+use Rattle.fx_winding.proofs.Meeting.{reversal_meets, shift_meets}
+use Rattle.fx_winding.proofs.Reversal.{reversal_keeps_cover}
 use Rattle.fx_winding.proofs.Shifts.{shift_moves_bits}
 
 pub column_before : (i : ℤ) → i ≡ (i +ℤ pos 1) -ℤ pos 1
@@ -152,8 +155,12 @@ any_met_shift k l ss i j = (
 
 turned_shift : (x y : ℤ) (ss : List Span) → map (shifted y x) (map turned_span ss) ≡ map turned_span (map (shifted x y) ss)
 turned_shift x y [] = refl
-turned_shift x y (s ∷ ss) = λ i. record { a = turned_place (shifted_place x y s.a); b = control s.b i; c = turned_place
-    (shifted_place x y s.c) } ∷ turned_shift x y ss i
+turned_shift x y (s ∷ ss) = λ i. record {
+  a = turned_place (shifted_place x y s.a);
+  b = control s.b i;
+  c = turned_place
+      (shifted_place x y s.c);
+} ∷ turned_shift x y ss i
   where
     control : (b : Option Place)
         → option_map (shifted_place y x) (option_map turned_place b) ≡ option_map turned_place (option_map (shifted_place x y) b)
@@ -179,3 +186,66 @@ shift_moves_set k l ss f g e i j =
         subst (λ us. Any (IsMet (centre (j +ℤ l) (i +ℤ k)) (centre ((j +ℤ l) +ℤ pos 1) (i +ℤ k))) us ↔
         Any (IsMet (centre j i) (centre (j +ℤ pos 1) i)) (map turned_span ss)) (turned_shift (pos 128 *ℤ k) (pos 128 *ℤ l) ss)
         (any_met_shift l k (map turned_span ss) j i)
+
+-- ---- reversed
+bridged_same : (ss ts : List Span) (In So At : ℤ → ℤ → Type 0) → ((i j : ℤ) → At i j ↔ So i j)
+    → ((p q : Place) → Any (IsMet p q) ss → Any (IsMet p q) ts) → (i j : ℤ) → IsBridged ss In So i j → IsBridged ts In At i j
+bridged_same ss ts In So At same met i j b = by b
+  where
+    gap : (i j : ℤ) → IsGap ss So i j → IsGap ts At i j
+    gap i j g = record {
+      here = λ s. g.here ((same i j).0 s);
+      next = λ s. g.next ((same (i +ℤ pos 1) j).0 s);
+      met = met (centre i j) (centre (i +ℤ pos 1) j) g.met;
+    }
+
+    either : (i j : ℤ) → IsGap ss So i j ⊎ (IsGap ss So (i -ℤ pos 1) j × ¬ (In (i -ℤ pos 1) j))
+        → IsGap ts At i j ⊎ (IsGap ts At (i -ℤ pos 1) j × ¬ (In (i -ℤ pos 1) j))
+    either i j (inl g) = inl (gap i j g)
+    either i j (inr (g, n)) = inr (gap (i -ℤ pos 1) j g, n)
+
+    by : IsBridged ss In So i j → IsBridged ts In At i j
+    by (inl s) = inl ((same i j).1 s)
+    by (inr b) = inr (record { inside = b.inside; gap = either i j b.gap })
+
+any_reversed : (P : Span → Type 0) → ((s : Span) → P s → P (reversed s)) → (ss ts : List Span) → IsPermutation (map reversed ss) ts
+    → Any P ss → Any P ts
+any_reversed P back ss ts h a = any_permutation P (map reversed ss) ts h (any_map reversed P P back ss a)
+
+any_restored : (P : Span → Type 0) → ((s : Span) → P (reversed s) → P s) → (ss ts : List Span) → IsPermutation (map reversed ss) ts
+    → Any P ts → Any P ss
+any_restored P back ss ts h a =
+    any_unmap reversed P P back ss (any_permutation P ts (map reversed ss) (IsPermutation-sym (map reversed ss) ts h) a)
+
+pub reversal_keeps_set : ReversalKeepsSet
+reversal_keeps_set ss ts f h i j = (
+  λ s. bridged_same (map turned_span ts) (map turned_span ss) Within (λ j i. IsRowSet ts f i j) (λ j i. IsRowSet ss f i j)
+      (λ j i. ((rows i j).1, (rows i j).0)) (λ p q a. turned_restored p q a) j i s,
+  λ s. bridged_same (map turned_span ss) (map turned_span ts) Within (λ j i. IsRowSet ss f i j) (λ j i. IsRowSet ts f i j)
+      (λ j i. rows i j) (λ p q a. turned_reversed p q a) j i s,
+)
+  where
+    Within : ℤ → ℤ → Type 0
+    Within j i = IsInFrame f i j
+
+    rows : (i j : ℤ) → IsRowSet ts f i j ↔ IsRowSet ss f i j
+    rows i j = (
+      λ s. bridged_same ts ss (IsInFrame f) (λ i j. IsCovered (centre i j) ts) (λ i j. IsCovered (centre i j) ss)
+          (λ i j. let k = reversal_keeps_cover (centre i j) ss ts h in (k.1, k.0))
+          (λ p q a. any_restored (IsMet p q) (λ s m. (reversal_meets p q s).0 m) ss ts h a) i j s,
+      λ s. bridged_same ss ts (IsInFrame f) (λ i j. IsCovered (centre i j) ss) (λ i j. IsCovered (centre i j) ts)
+          (λ i j. reversal_keeps_cover (centre i j) ss ts h)
+          (λ p q a. any_reversed (IsMet p q) (λ s m. (reversal_meets p q s).1 m) ss ts h a) i j s,
+    )
+
+    turned_reversed : (p q : Place) → Any (IsMet p q) (map turned_span ss) → Any (IsMet p q) (map turned_span ts)
+    turned_reversed p q a =
+        any_map turned_span (λ s. IsMet p q (turned_span s)) (IsMet p q) (λ s m. m) ts
+        (any_reversed (λ s. IsMet p q (turned_span s)) (λ s m. (reversal_meets p q (turned_span s)).1 m) ss ts h
+        (any_unmap turned_span (λ s. IsMet p q (turned_span s)) (IsMet p q) (λ s m. m) ss a))
+
+    turned_restored : (p q : Place) → Any (IsMet p q) (map turned_span ts) → Any (IsMet p q) (map turned_span ss)
+    turned_restored p q a =
+        any_map turned_span (λ s. IsMet p q (turned_span s)) (IsMet p q) (λ s m. m) ss
+        (any_restored (λ s. IsMet p q (turned_span s)) (λ s m. (reversal_meets p q (turned_span s)).0 m) ss ts h
+        (any_unmap turned_span (λ s. IsMet p q (turned_span s)) (IsMet p q) (λ s m. m) ts a))

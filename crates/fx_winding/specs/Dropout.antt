@@ -3,11 +3,12 @@
 -- one is set; then the same in columns, where the lower one is set. The frame clamps: if the left or the lower one lies outside
 -- it, the other is set.
 use Rattle.std.specs.Prelude.{◌⊎◌, ◌↔◌, ◌*ℤ◌, ℤ, pos, ◌+ℤ◌, ◌-ℤ◌, List, map, option_map, Any}
+use Rattle.std.specs.List.Sorted.{IsPermutation}
 use Rattle.fx_winding.specs.declared.frame.Frame.{Frame}
 use Rattle.fx_winding.specs.Frames.{IsInFrame}
 use Rattle.fx_winding.specs.Area.{Place, place}
 use Rattle.fx_winding.specs.Winding.{Span, IsCovered, centre}
-use Rattle.fx_winding.specs.Moves.{shifted}
+use Rattle.fx_winding.specs.Moves.{reversed, shifted}
 use Rattle.fx_winding.specs.Meets.{IsMet}
 
 -- a place with its coordinates exchanged
@@ -64,3 +65,8 @@ abbrev pub ShiftMovesSet : Type 0
 ShiftMovesSet = (k l : ℤ) (ss : List Span) (f g : Frame)
     → ((i j : ℤ) → IsInFrame g (i +ℤ k) (j +ℤ l) ↔ IsInFrame f i j) → (i j : ℤ)
     → IsSet (map (shifted (pos 128 *ℤ k) (pos 128 *ℤ l)) ss) g (i +ℤ k) (j +ℤ l) ↔ IsSet ss f i j
+
+-- the law: the pieces reversed, in whatever order, set the same pixels
+abbrev pub ReversalKeepsSet : Type 0
+ReversalKeepsSet = (ss ts : List Span) (f : Frame) → IsPermutation (map reversed ss) ts → (i j : ℤ)
+    → IsSet ts f i j ↔ IsSet ss f i j

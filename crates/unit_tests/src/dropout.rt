@@ -35,7 +35,7 @@ fn is_met(curve: &Curve) -> bool {
     meets(&drawn(curve), spot((64, 64)), spot((192, 64)), &mut tally)
 }
 
-/// Curves that meet it: across, in both directions; an end between; level between; the tip of an arc that touches, or comes through.
+/// Curves that meet it: across, in both directions; an end between; level between; a tip that touches, or comes through.
 const MEETING: [Curve; 9] = [
     ((128, 0), None, (128, 128)),
     ((180, 128), None, (70, 0)),
@@ -48,7 +48,7 @@ const MEETING: [Curve; 9] = [
     ((100, 0), Some((128, 300)), (300, 0)),
 ];
 
-/// Curves that don't: left, right, under and over; a tip that stays under; tips left and right; an arc that goes round both centres.
+/// Curves that don't: left, right, under and over; a tip that stays under; tips left and right; an arc round both centres.
 const MISSING: [Curve; 9] = [
     ((32, 0), None, (32, 128)),
     ((200, 128), None, (200, 0)),
@@ -120,6 +120,7 @@ const BETWEEN_ROWS: [Curve; 4] = [
     ((384, 110), None, (0, 110)),
     ((0, 110), None, (0, 100)),
 ];
+
 const BETWEEN_COLUMNS: [Curve; 4] = [
     ((100, 0), None, (110, 0)),
     ((110, 0), None, (110, 384)),
@@ -133,6 +134,7 @@ const DOT: [Curve; 3] = [
     ((136, 120), None, (128, 136)),
     ((128, 136), None, (120, 120)),
 ];
+
 const DOT_ON_ROW: [Curve; 3] = [
     ((100, 50), None, (120, 50)),
     ((120, 50), None, (110, 80)),
@@ -145,17 +147,15 @@ const TOUCH: [Curve; 3] = [
     ((156, 0), None, (128, 64)),
     ((128, 64), None, (100, 0)),
 ];
+
 const TIP: [Curve; 2] = [
     ((100, 0), Some((128, 128)), (156, 0)),
     ((156, 0), None, (100, 0)),
 ];
 
-/// A stroke without width that goes through a row of centres and then through a column: the pixel that the row sets is an end of both
-/// gaps.
-const ROW_AND_COLUMN: [Curve; 2] = [
-    ((118, 86), None, (46, -2)),
-    ((46, -2), None, (118, 86)),
-];
+/// A stroke without width that goes through a row of centres and then through a column: the pixel that the row sets is an end of
+/// both gaps.
+const ROW_AND_COLUMN: [Curve; 2] = [((118, 86), None, (46, -2)), ((46, -2), None, (118, 86))];
 
 #[test]
 fn gaps(rt: HostRuntime) -> Result<(), Fail> {

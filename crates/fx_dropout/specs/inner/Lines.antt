@@ -1,5 +1,5 @@
 -- Rows whose gaps are closed one after the other, in place.
-use Rattle.std.specs.Prelude.{◌≢◌, ◌⊎◌, ◌↔◌, ℕ, ℤ, pos, ◌+ℤ◌, ◌-ℤ◌, Bool, IsTrue, List}
+use Rattle.std.specs.Prelude.{◌≢◌, ◌⊎◌, ◌↔◌, ℕ, ℤ, Bool, IsTrue, List}
 use Rattle.fx_winding.specs.declared.frame.Frame.{Frame}
 use Rattle.fx_winding.specs.Bitmaps.{Bits}
 use Rattle.fx_winding.specs.Dropout.{IsGap, IsBridged}

@@ -20,8 +20,8 @@ pub returns-then-is_gap-clause-others : goal.returns-then-is_gap-clause-others
 returns-then-is_gap-clause-others c =
     let at : to_z w32 (of_z w32 c.args.at) ≡ c.args.at = omega (arith, signed_linear) in
     let j : to_z w32 (of_z w32 c.args.j) ≡ c.args.j = omega (arith, signed_linear) in
-    λ m n h. so_far_same c.args.turned (map span_of c.args.pieces.now) c.args.bitmap.now.frame c.args.bitmap.now c.set.new.bitmap m n
-    (c.set.ensures.others m n (rw (at, j) h))
+    λ m n h. so_far_same c.args.turned (map span_of c.args.pieces.now) c.args.bitmap.now.frame c.args.bitmap.now
+    c.set.new.bitmap m n (c.set.ensures.others m n (rw (at, j) h))
 
 pub returns-else-is_gap-clause-here : goal.returns-else-is_gap-clause-here
 returns-else-is_gap-clause-here c =

@@ -23,7 +23,8 @@ returns c =
     let bit : c.is_set.result ≡ seen_bit c.args.turned c.args.bitmap.now c.args.i c.args.j =
     c.is_set.ensures ∙ (λ k. seen_bit c.args.turned c.args.bitmap.now (i k) (j k)) in
     let r = c.is_seen_outside.result in
-    let P = λ (f : Frame) (x y : ℤ). IsTrue r ↔ (¬ (IsSeenInFrame c.args.turned f x y) × IsCovered (seen_centre c.args.turned x y) ss) in
+    let P = λ (f : Frame) (x y : ℤ). IsTrue r ↔ (¬ (IsSeenInFrame c.args.turned f x y) ×
+    IsCovered (seen_centre c.args.turned x y) ss) in
     let x = to_z w32 (of_z w32 c.args.i) in
     let y = to_z w32 (of_z w32 c.args.j) in
     let outside : P c.args.bitmap.now.frame c.args.i c.args.j =
