@@ -25,7 +25,8 @@ back_long k {n} e few = omega (arith, ap length (back_number k e), few, length-a
 
 -- the lines before the properties, those of good properties, and those after them
 pub header_long : (name : List ℕ) (ps : List Property) (k : Header) {n : List ℕ} → AreProperties (seen_properties ps)
-    → n ≡ decimal k.glyphs → length n ≤ 20 → length (front_text name (length ps) k) ≤ 1000 → length (header_text name (seen_properties ps) k) ≤ longest_header
+    → n ≡ decimal k.glyphs → length n ≤ 20 → length (front_text name (length ps) k) ≤ 1000
+    → length (header_text name (seen_properties ps) k) ≤ longest_header
 unfolding header_text
 header_long name ps k good e few front =
     let count = ap (λ (n : ℕ). length (front_text name n k)) (length-map ps seen_property) in

@@ -28,7 +28,8 @@ returns-in_err-add_front-clause-text g c =
 pub returns-in_err-add_front-clause-short : goal.returns-in_err-add_front-clause-short
 returns-in_err-add_front-clause-short g c =
     header_long c.args.name.now c.args.properties.now c.args.header.now c.requires.properties
-    (c.text-glyphs.ensures.value ∙ c.unsigned-digits.ensures ∙ ap decimal c.from.ensures) c.text-glyphs.ensures.short c.in_err-add_front.ensures.short
+    (c.text-glyphs.ensures.value ∙ c.unsigned-digits.ensures ∙ ap decimal c.from.ensures) c.text-glyphs.ensures.short
+    c.in_err-add_front.ensures.short
 
 pub returns-in_err-add_properties-clause-text : goal.returns-in_err-add_properties-clause-text
 unfolding header_text
@@ -41,7 +42,8 @@ returns-in_err-add_properties-clause-text g c =
 pub returns-in_err-add_properties-clause-short : goal.returns-in_err-add_properties-clause-short
 returns-in_err-add_properties-clause-short g c =
     header_long c.args.name.now c.args.properties.now c.args.header.now c.requires.properties
-    (c.text-glyphs.ensures.value ∙ c.unsigned-digits.ensures ∙ ap decimal c.from.ensures) c.text-glyphs.ensures.short c.in_ok-add_front.ensures.short
+    (c.text-glyphs.ensures.value ∙ c.unsigned-digits.ensures ∙ ap decimal c.from.ensures) c.text-glyphs.ensures.short
+    c.in_ok-add_front.ensures.short
 
 pub returns-clause-text : goal.returns-clause-text
 unfolding header_text
@@ -54,4 +56,5 @@ returns-clause-text g c =
 pub returns-clause-short : goal.returns-clause-short
 returns-clause-short g c =
     header_long c.args.name.now c.args.properties.now c.args.header.now c.requires.properties
-    (c.text-glyphs.ensures.value ∙ c.unsigned-digits.ensures ∙ ap decimal c.from.ensures) c.text-glyphs.ensures.short c.in_ok-add_front.ensures.short
+    (c.text-glyphs.ensures.value ∙ c.unsigned-digits.ensures ∙ ap decimal c.from.ensures) c.text-glyphs.ensures.short
+    c.in_ok-add_front.ensures.short
