@@ -60,8 +60,8 @@ surveys_cause due (Err d) h = h
 pub surveys_along : (here due : Result Plan Refusal) (r : Result Survey Refusal) → due ≡ here → Surveys here r → Surveys due r
 surveys_along here due r e h = let P : Result Plan Refusal → Type 0 = λ x. Surveys x r in subst P (sym e) h
 
-pub unseen : (setting : Setting) (title : Title) (chars codes : List ℕ) (r : Result Survey Refusal) (e d : Refusal) → r ≡ Err e → e ≡ d
-    → codes ≡ rising chars → Fails d (sketches_of setting codes) → Surveys (plan_with setting title chars) r
+pub unseen : (setting : Setting) (title : Title) (chars codes : List ℕ) (r : Result Survey Refusal) (e d : Refusal)
+    → r ≡ Err e → e ≡ d → codes ≡ rising chars → Fails d (sketches_of setting codes) → Surveys (plan_with setting title chars) r
 unseen setting title chars codes r e d p q c f =
     surveys_err (plan_with setting title chars) r e d p q
     (fails_on d (sketches_of setting codes) (plan_with setting title chars)

@@ -23,7 +23,8 @@ returns-in_err-striker-clause-late g c memory = is_ok _ _ (c.in_ok-opened.ensure
 pub returns-clause-survey : goal.returns-clause-survey
 returns-clause-survey g c =
     surveys_along _ _ c.survey_checked.result
-    (plan_set _ _ (title_of c.args.request.now) _ c.args.request.now.hinting _ _ (c.in_ok-opened.ensures).due c.in_ok-striker.ensures)
+    (plan_set _ _ (title_of c.args.request.now) _ c.args.request.now.hinting _ _
+    (c.in_ok-opened.ensures).due c.in_ok-striker.ensures)
     (c.survey_checked.ensures.survey (title_of c.args.request.now))
 
 pub returns-clause-late : goal.returns-clause-late
