@@ -81,6 +81,7 @@ enum {
     MKSTRIKE_BAD_SIZE = 60,
     MKSTRIKE_BAD_CHARS = 61,
     MKSTRIKE_BAD_NAME = 62,
+    MKSTRIKE_BAD_PROPERTY = 63, /* no call gives it: a strike made here has no properties of its own */
 
     MKSTRIKE_OUT_OF_MEMORY = 90
 };

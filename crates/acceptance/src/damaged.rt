@@ -14,6 +14,7 @@ fn ends_well(alloc: Global, font: &[u8], hinting: bool) -> Result<bool, AllocErr
     let request = Request {
         ppem: 16,
         name: "F1",
+        properties: &[],
         chars: &[0x20, 0x41, 0x42],
         hinting,
     };

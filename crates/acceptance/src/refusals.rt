@@ -50,6 +50,7 @@ fn refusals_show_number_name_and_fields(rt: HostRuntime) -> Result<(), Fail> {
         (Refusal::BadSize, "60 BadSize"),
         (Refusal::BadChars, "61 BadChars"),
         (Refusal::BadName, "62 BadName"),
+        (Refusal::BadProperty(3), "63 BadProperty 3"),
         (
             Refusal::WriteFailed(u64::MAX),
             "70 WriteFailed 18446744073709551615",

@@ -41,7 +41,7 @@ fn writes_as_alone(
     let mut alone = MemorySink::new(alloc, 1024, Limits::NONE)?;
     let due = make_strike(alloc, font, &hinted(&chars), &mut alone);
     let mut out = MemorySink::new(alloc, 1024, Limits::NONE)?;
-    let told = striker.write("F1", &chars, &mut out);
+    let told = striker.write("F1", &[], &chars, &mut out);
     assert_eq!(rt; told, due);
     assert!(rt; out.bytes() == alone.bytes(), "{code}");
     Ok(())
@@ -155,9 +155,9 @@ fn sizes_characters_and_names(rt: HostRuntime) -> Result<(), Fail> {
     let far = striker.survey(&[0x41, 0x110000]);
     assert_eq!(rt; far, Err(Refusal::BadChars));
     let mut out = MemorySink::new(rt.alloc(), 1024, Limits::NONE)?;
-    let bad = striker.write("", &[0x110000], &mut out);
+    let bad = striker.write("", &[], &[0x110000], &mut out);
     assert_eq!(rt; bad, Err(Refusal::BadChars));
-    let nameless = striker.write("", &[0x41], &mut out);
+    let nameless = striker.write("", &[], &[0x41], &mut out);
     assert_eq!(rt; nameless, Err(Refusal::BadName));
     assert!(rt; out.bytes().is_empty());
     Ok(())

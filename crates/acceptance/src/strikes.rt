@@ -13,6 +13,7 @@ pub fn request(ppem: u16, chars: &[u32]) -> Request<'_> {
     Request {
         ppem,
         name: "F1",
+        properties: &[],
         chars,
         hinting: false,
     }

@@ -11,6 +11,8 @@ mod lines;
 #[cfg(test)]
 mod lists;
 #[cfg(test)]
+mod properties;
+#[cfg(test)]
 mod readers;
 #[cfg(test)]
 mod runs;

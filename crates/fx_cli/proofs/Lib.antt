@@ -3,6 +3,7 @@ pub mod Items
 pub mod Buffers
 pub mod Options
 pub mod Made
+pub mod Given
 pub mod FirstLines
 pub mod Telling
 pub mod Pictures

@@ -47,11 +47,11 @@ unfolding dump_app clap_on_literals
 dump_is_free = refl
 
 -- decimal digits, as a test
-tests_digits : (ds : List ℕ) → AllDigits 10 ds → list_all (λ d. nat_lt (digit_value d) 10) ds ≡ true
+pub tests_digits : (ds : List ℕ) → AllDigits 10 ds → list_all (λ d. nat_lt (digit_value d) 10) ds ≡ true
 tests_digits [] h = refl
 tests_digits (d ∷ ds) h = ap₂ ◌&&◌ (lt-ltb _ _ h.0) (tests_digits ds h.1)
 
-digits_tested : (ds : List ℕ) → list_all (λ d. nat_lt (digit_value d) 10) ds ≡ true → AllDigits 10 ds
+pub digits_tested : (ds : List ℕ) → list_all (λ d. nat_lt (digit_value d) 10) ds ≡ true → AllDigits 10 ds
 digits_tested [] h = tt
 digits_tested (d ∷ ds) h = let p = both _ _ h in (ltb-true _ _ p.0, digits_tested ds p.1)
 

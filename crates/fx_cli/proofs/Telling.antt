@@ -47,6 +47,7 @@ name_short (refusal.GlyphTooLarge _) = omega arith
 name_short refusal.BadSize = omega arith
 name_short refusal.BadChars = omega arith
 name_short refusal.BadName = omega arith
+name_short (refusal.BadProperty _) = omega arith
 name_short (refusal.WriteFailed _) = omega arith
 name_short refusal.ReadFailed = omega arith
 name_short refusal.BadHex = omega arith

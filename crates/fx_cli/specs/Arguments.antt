@@ -6,11 +6,11 @@ use Rattle.std.specs.List.{list_all, list_any}
 use Rattle.std.specs.Str.{bytes_eq}
 use Rattle.std.specs.Char.{digit_value}
 use Rattle.std.specs.Str.Parse.{digits_value, without_leading_plus}
-use Rattle.clap.specs.Walk.{Row, Rule, Text, first_of}
+use Rattle.clap.specs.Walk.{Row, Rule, Text, all_of, first_of}
 use Rattle.clap.specs.Simple.{App, new_app, new_rule, with_rule, matches_of}
 use Rattle.clap.specs.Faults.{fault_of}
 use Rattle.clap.specs.Kinds.{Kinds}
-use Rattle.clap.specs.declared.builder.action.ArgAction.TheVariants.{Set, SetTrue}
+use Rattle.clap.specs.declared.builder.action.ArgAction.TheVariants.{Append, Set, SetTrue}
 use Rattle.fx_fixed.specs.Chain.{◌>>=◌, wanted}
 use Rattle.fx_machine.specs.declared.program.FontProgram.{FontProgram}
 use Rattle.fx_machine.specs.declared.program.FontProgram.TheVariants.{Fpgm, Prep, Glyph}
@@ -18,11 +18,16 @@ use Rattle.fx_request.specs.declared.refusal.Refusal.TheVariants.{BadChars}
 use Rattle.fx_cli.specs.declared.fault.Fault.{Fault}
 use Rattle.fx_cli.specs.declared.fault.Fault.TheVariants.{Usage, Early}
 use Rattle.fx_cli.specs.Chars.{number_of, numbers_of_list}
+use Rattle.fx_cli.specs.Properties.{properties_of}
 use Rattle.fx_cli.specs.Commands.{CommandView, strike, picture, listing}
 
 -- an option `--id VALUE`
 abbrev pub option_rule : Text → Rule
 option_rule id = record (new_rule id) { long = Some id; action = Some Set }
+
+-- an option `--id VALUE` that may be given many times
+abbrev pub many_rule : Text → Rule
+many_rule id = record (new_rule id) { long = Some id; action = Some Append }
 
 -- a flag `--id`
 abbrev pub flag_rule : Text → Rule
@@ -30,8 +35,8 @@ flag_rule id = record (new_rule id) { long = Some id; action = Some SetTrue }
 
 -- the command `make` with its options
 unfoldable pub make_app : App
-make_app = with_rule (with_rule (with_rule (with_rule (with_rule (new_app (codes "make"))
-    (option_rule (codes "ppem"))) (option_rule (codes "chars"))) (option_rule (codes "name")))
+make_app = with_rule (with_rule (with_rule (with_rule (with_rule (with_rule (new_app (codes "make"))
+    (option_rule (codes "ppem"))) (option_rule (codes "chars"))) (option_rule (codes "name"))) (many_rule (codes "property")))
     (flag_rule (codes "unhinted"))) (flag_rule (codes "hex"))
 
 -- the command `show` with its options
@@ -69,19 +74,27 @@ abbrev pub size_by : Option Text → Result ℕ Fault
 size_by text = wanted (option_and_then size_of text) Usage
 
 -- what the values of `make`'s options ask for: the size and the list are required
-abbrev pub make_by : Option Text → Option Text → Option Text → Bool → Bool → Result CommandView Fault
-make_by size list name unhinted hex = do
+abbrev pub make_by : Option Text → Option Text → Option Text → Option (List Text) → Bool → Bool
+    → Result CommandView Fault
+make_by size list name given unhinted hex = do
   ppem ← size_by size
   text ← wanted list Usage
+  properties ← wanted (properties_of (unwrap_or given [])) Usage
   chars ← wanted (numbers_of_list text) (Early BadChars)
   Ok (record {
-    task = strike (record { ppem = ppem; chars = chars; name = unwrap_or name (codes "strike"); hinting = not unhinted });
+    task = strike (record {
+        ppem = ppem;
+        chars = chars;
+        name = unwrap_or name (codes "strike");
+        properties = properties;
+        hinting = not unhinted;
+      });
     hex = hex;
   })
 
 abbrev pub make_of_rows : List Row → Result CommandView Fault
 make_of_rows rows = make_by (first_of (codes "ppem") rows) (first_of (codes "chars") rows) (first_of (codes "name") rows)
-    (is_given (codes "unhinted") rows) (is_given (codes "hex") rows)
+    (all_of (codes "property") rows) (is_given (codes "unhinted") rows) (is_given (codes "hex") rows)
 
 -- what the values of `show`'s options ask for: the size and the character are required
 abbrev pub show_by : Option Text → Option Text → Bool → Bool → Result CommandView Fault

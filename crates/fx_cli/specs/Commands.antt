@@ -1,6 +1,7 @@
 -- What a command line asks for.
 use Rattle.std.specs.Prelude.{◌≡◌, ℕ, Bool, List, Result, Err}
 use Rattle.clap.specs.Walk.{Text}
+use Rattle.fx_bdf.specs.Properties.{PropertyView, seen_properties}
 use Rattle.fx_machine.specs.declared.program.FontProgram.{FontProgram}
 use Rattle.fx_request.specs.declared.request.Request.{Request}
 use Rattle.fx_request.specs.declared.refusal.Refusal.TheVariants.{BadChars, OutOfMemory}
@@ -12,11 +13,12 @@ use Rattle.fx_cli.specs.declared.command.Task.TheVariants.{Strike, Picture, List
 use Rattle.fx_cli.specs.declared.fault.Fault.{Fault}
 use Rattle.fx_cli.specs.declared.fault.Fault.TheVariants.{Usage, Early}
 
--- a strike: its size, its characters, its name, and whether the font's programs run
+-- a strike: its size, its characters, its name, its properties, and whether the font's programs run
 pub record MakeView : Type 0 where
   pub ppem : ℕ
   pub chars : List ℕ
   pub name : Text
+  pub properties : List PropertyView
   pub hinting : Bool
 
 -- a strike, the picture of a character, or the listing of a program
@@ -32,11 +34,22 @@ pub record CommandView : Type 0 where
 
 -- what the program holds of it
 abbrev pub seen_make : Make → MakeView
-seen_make make = record { ppem = make.ppem; chars = make.chars.items; name = make.name.now; hinting = make.hinting }
+seen_make make = record {
+  ppem = make.ppem;
+  chars = make.chars.items;
+  name = make.name.now;
+  properties = seen_properties make.properties.items;
+  hinting = make.hinting;
+}
 
 abbrev pub seen_request : Request → MakeView
-seen_request request =
-    record { ppem = request.ppem; chars = request.chars.now; name = request.name.now; hinting = request.hinting }
+seen_request request = record {
+  ppem = request.ppem;
+  chars = request.chars.now;
+  name = request.name.now;
+  properties = seen_properties request.properties.now;
+  hinting = request.hinting;
+}
 
 abbrev pub seen_task : Task → TaskView
 seen_task (Strike make) = strike (seen_make make)

@@ -5,6 +5,7 @@ pub mod Input
 pub mod ReadAhead
 pub mod Pictures
 pub mod Commands
+pub mod Properties
 pub mod Lines
 pub mod Runs
 pub mod Steps

@@ -9,7 +9,7 @@ use Rattle.fx_machine.specs.declared.program.FontProgram.TheVariants.{Fpgm, Prep
 use Rattle.fx_request.specs.declared.refusal.Refusal.{Refusal}
 use Rattle.fx_request.specs.declared.refusal.Refusal.TheVariants.{TableMissing, TableShort, BadLoca, GlyphShort, BadContours}
 use Rattle.fx_request.specs.declared.refusal.Refusal.TheVariants.{ComponentDepth, TooManyComponents, TooManyPoints, BadPointMatch}
-use Rattle.fx_request.specs.declared.refusal.Refusal.TheVariants.{BadGlyphNumber, Halted, TooFar, GlyphTooLarge, WriteFailed}
+use Rattle.fx_request.specs.declared.refusal.Refusal.TheVariants.{BadGlyphNumber, Halted, TooFar, GlyphTooLarge, WriteFailed, BadProperty}
 use Rattle.fx_request.specs.declared.request.Report.{Report}
 use Rattle.fx_request.specs.Refusals.{number_of, name_of}
 use Rattle.fx_cli.specs.declared.done.Done.{Done}
@@ -56,7 +56,8 @@ halt_words halt =
     ((codes "in" ∷ program_words halt.program) ++
     (codes "at" ∷ decimal halt.address ∷ codes "opcode" ∷ hexadecimal 2 halt.opcode ∷ []))
 
--- the fields: a table's tag, the number of a glyph, where a program halted, or the number of bytes written
+-- the fields: a table's tag, the number of a glyph, where a program halted, the position of a property, or the number of
+-- bytes written
 abbrev pub fields_of : Refusal → List (List ℕ)
 fields_of (TableMissing tag) = tag ∷ []
 fields_of (TableShort tag) = tag ∷ []
@@ -71,6 +72,7 @@ fields_of (BadGlyphNumber g) = decimal g ∷ []
 fields_of (Halted halt) = halt_words halt
 fields_of (TooFar g) = decimal g ∷ []
 fields_of (GlyphTooLarge g) = decimal g ∷ []
+fields_of (BadProperty i) = decimal i ∷ []
 fields_of (WriteFailed n) = decimal n ∷ []
 fields_of _ = []
 

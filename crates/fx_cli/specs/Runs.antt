@@ -13,6 +13,7 @@ use Rattle.fx_request.specs.declared.refusal.Refusal.{Refusal}
 use Rattle.fx_request.specs.declared.refusal.Refusal.TheVariants.{BadChars, BadHex, InputTooLarge, OutOfMemory, ReadFailed}
 use Rattle.fx_machine.specs.declared.program.FontProgram.{FontProgram}
 use Rattle.fx_request.specs.declared.request.Report.{Report}
+use Rattle.fx_strike.specs.Title.{Title}
 use Rattle.fx_strike.specs.Strike.{one_of, opened_of, opened_one_of, plan_of}
 use Rattle.fx_strike.specs.Headline.{Leaves}
 use Rattle.fx_strike.specs.Listings.{Lists, program_of}
@@ -65,10 +66,14 @@ abbrev pub font_bytes : Bool → List ℕ → Option (List ℕ)
 font_bytes true text = bytes_of_hex text
 font_bytes false text = Some text
 
+-- what a strike is called
+abbrev pub title : MakeView → Title
+title make = record { name = make.name; properties = make.properties }
+
 -- what a call that makes the strike leaves of the sink
 abbrev pub MakeLeaves : MakeView → List ℕ → Change → Result Report Refusal → Type 0
 MakeLeaves make font sink answer =
-    Leaves (opened_of font make.ppem make.name make.chars) (plan_of font make.ppem make.name make.chars make.hinting)
+    Leaves (opened_of font make.ppem (title make) make.chars) (plan_of font make.ppem (title make) make.chars make.hinting)
     sink answer
 
 -- what a call that shows a character leaves of it

@@ -12,7 +12,8 @@ use crate::chars::{number, parse_chars};
 use crate::command::{Command, Make, Show, Task};
 use crate::commands::{dump_command, make_command, show_command};
 use crate::fault::Fault;
-use crate::values::{is_given, matches, size_of, value};
+use crate::properties::given_properties;
+use crate::values::{is_given, matches, size_of, value, values};
 use clap::ArgMatches;
 use fx_machine::FontProgram;
 use fx_request::Refusal;
@@ -83,6 +84,7 @@ fn make_of<'a>(alloc: Global, matches: &ArgMatches<'a>) -> Result<Command<'a>, F
         value(matches, "ppem"),
         value(matches, "chars"),
         value(matches, "name"),
+        values(matches, "property"),
         is_given(matches, "unhinted"),
         is_given(matches, "hex"),
     )
@@ -94,18 +96,22 @@ fn make_by<'a>(
     ppem: Option<&'a str>,
     list: Option<&'a str>,
     name: Option<&'a str>,
+    given: Option<&[&'a str]>,
     unhinted: bool,
     hex: bool,
 ) -> Result<Command<'a>, Fault>
     ensures { GivesUnless Refuses seen result (make_by (option_map (λ text. text.now) ppem.entry)
-        (option_map (λ text. text.now) list.entry) (option_map (λ text. text.now) name.entry) unhinted hex) }
+        (option_map (λ text. text.now) list.entry) (option_map (λ text. text.now) name.entry) 
+        (option_map (λ given. texts given.now) given.entry) unhinted hex) }
 {
     let ppem = required_size(ppem)?;
     let list = list.ok_or(Fault::Usage)?;
+    let properties = given_properties(alloc, given)?;
     let make = Make {
         ppem,
         chars: parse_chars(alloc, list)?,
         name: name.unwrap_or("strike"),
+        properties,
         hinting: !unhinted,
     };
     Ok(Command {

@@ -1,5 +1,6 @@
 //! What a command line asks for.
 
+use fx_bdf::Property;
 use fx_machine::FontProgram;
 use fx_request::Request;
 
@@ -21,12 +22,13 @@ pub enum Task<'a> {
     Listing(FontProgram),
 }
 
-/// A strike: its size in pixels an em, its characters, its name, and whether the font's programs run.
+/// A strike: its size in pixels an em, its characters, its name, its properties, and whether the font's programs run.
 #[derive(Drop)]
 pub struct Make<'a> {
     pub ppem: u16,
     pub chars: Vec<u32>,
     pub name: &'a str,
+    pub properties: Vec<Property<'a>>,
     pub hinting: bool,
 }
 
@@ -49,6 +51,7 @@ impl<'a> Make<'a> {
         Request {
             ppem: self.ppem,
             name: self.name,
+            properties: &self.properties,
             chars: &self.chars,
             hinting: self.hinting,
         }

@@ -1,7 +1,7 @@
 //! The commands and their options.
 ghost use Rattle.std.specs.Prelude.{◌≡◌, codes, IfOk, false};
 ghost use Rattle.clap.specs.Words.{app_of, rule_of};
-ghost use Rattle.fx_cli.specs.Arguments.{dump_app, flag_rule, make_app, option_rule, show_app};
+ghost use Rattle.fx_cli.specs.Arguments.{dump_app, flag_rule, make_app, many_rule, option_rule, show_app};
 
 use clap::{Arg, ArgAction, Command};
 use std::alloc::{AllocError, Global};
@@ -14,6 +14,7 @@ pub fn make_command<'a>(alloc: Global) -> Result<Command<'a>, AllocError>
         .arg(option(alloc, "ppem"))?
         .arg(option(alloc, "chars"))?
         .arg(option(alloc, "name"))?
+        .arg(many(alloc, "property"))?
         .arg(flag(alloc, "unhinted"))?
         .arg(flag(alloc, "hex"))
 }
@@ -44,6 +45,14 @@ fn option<'a>(alloc: Global, id: &'a str) -> Arg<'a>
     ensures local { result.global ≡ false }
 {
     Arg::new(alloc, id).long(id).action(ArgAction::Set)
+}
+
+/// An option that takes a value, and may be given many times.
+fn many<'a>(alloc: Global, id: &'a str) -> Arg<'a>
+    ensures rule { rule_of result ≡ many_rule id.entry.now }
+    ensures local { result.global ≡ false }
+{
+    Arg::new(alloc, id).long(id).action(ArgAction::Append)
 }
 
 /// A flag.

@@ -16,6 +16,7 @@ mod lines;
 mod parts;
 mod picture;
 mod program;
+mod properties;
 mod read_ahead;
 mod show;
 mod start;

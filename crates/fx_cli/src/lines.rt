@@ -68,6 +68,7 @@ fn add_fields(line: &mut Line, refusal: Refusal)
         | Refusal::TooFar(g)
         | Refusal::GlyphTooLarge(g) => line.number(u64::from(g)),
         Refusal::Halted(halt) => add_halt(line, halt),
+        Refusal::BadProperty(i) => line.number(u64::from(i)),
         Refusal::WriteFailed(n) => line.number(n),
         Refusal::NotTrueType
         | Refusal::BadHead

@@ -2,7 +2,7 @@
 ghost use Rattle.std.specs.Prelude.{◌≡◌, ◌⊎◌, ◌==◌, ◌||◌, None, Some, true, map, option_map, IfOk, IfErr};
 ghost use Rattle.std.specs.List.{list_any};
 ghost use Rattle.std.specs.Str.{bytes_eq};
-ghost use Rattle.clap.specs.Words.{app_of, first_of, found_of, is_simple, is_simple_and_free, rows_of};
+ghost use Rattle.clap.specs.Words.{all_of, app_of, first_of, found_of, is_simple, is_simple_and_free, rows_of};
 ghost use Rattle.fx_cli.specs.Arguments.{is_bare, is_given, rows_by, size_of, texts};
 
 use crate::fault::Fault;
@@ -64,6 +64,13 @@ pub fn value<'a>(matches: &ArgMatches<'a>, id: &str) -> Option<&'a str>
     ensures { option_map (λ text. text.now) result ≡ first_of id.now (rows_of (found_of matches.now)) }
 {
     matches.get_str(id)
+}
+
+/// The values of an option that may be given many times, in their order.
+pub fn values<'m, 'a>(matches: &'m ArgMatches<'a>, id: &str) -> Option<&'m [&'a str]>
+    ensures { option_map (λ values. texts values.now) result ≡ all_of id.now (rows_of (found_of matches.entry.now)) }
+{
+    matches.get_raw(id)
 }
 
 /// Whether a flag was given.

@@ -5,8 +5,8 @@ use Rattle.fx_request.specs.declared.refusal.Refusal.{Refusal}
 use Rattle.fx_request.specs.declared.refusal.Refusal.TheVariants.{NotTrueType, TableMissing, TableShort, BadHead, BadMaxp, NoCharMap}
 use Rattle.fx_request.specs.declared.refusal.Refusal.TheVariants.{BadCharMap, BadLoca, GlyphShort, BadContours, ComponentDepth}
 use Rattle.fx_request.specs.declared.refusal.Refusal.TheVariants.{TooManyComponents, TooManyPoints, BadPointMatch, BadGlyphNumber}
-use Rattle.fx_request.specs.declared.refusal.Refusal.TheVariants.{TooFar, GlyphTooLarge, BadSize, BadChars, BadName, WriteFailed}
-use Rattle.fx_request.specs.declared.refusal.Refusal.TheVariants.{ReadFailed, BadHex, InputTooLarge, OutOfMemory, Halted}
+use Rattle.fx_request.specs.declared.refusal.Refusal.TheVariants.{TooFar, GlyphTooLarge, BadSize, BadChars, BadName, BadProperty}
+use Rattle.fx_request.specs.declared.refusal.Refusal.TheVariants.{WriteFailed, ReadFailed, BadHex, InputTooLarge, OutOfMemory, Halted}
 
 -- a refusal's number and name; those of a halt are its cause's
 abbrev pub entry_of : Refusal → ℕ × List ℕ
@@ -31,6 +31,7 @@ entry_of (GlyphTooLarge _) = (52, codes "GlyphTooLarge")
 entry_of BadSize = (60, codes "BadSize")
 entry_of BadChars = (61, codes "BadChars")
 entry_of BadName = (62, codes "BadName")
+entry_of (BadProperty _) = (63, codes "BadProperty")
 entry_of (WriteFailed _) = (70, codes "WriteFailed")
 entry_of ReadFailed = (71, codes "ReadFailed")
 entry_of BadHex = (72, codes "BadHex")

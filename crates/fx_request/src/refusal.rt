@@ -51,6 +51,9 @@ pub enum Refusal {
     BadChars,
     /// The name is not 1 to 255 printing bytes of ASCII, or has a space first or last.
     BadName,
+    /// A property of the request is bad: its name or its value, or one before it has its name, or 64 are before it. The first such
+    /// one, counted from 1.
+    BadProperty(u32),
     /// The writer failed after this number of bytes.
     WriteFailed(u64),
     /// The reader failed.
@@ -69,6 +72,7 @@ enum Fields {
     None,
     Tag([u8; 4]),
     Glyph(u16),
+    Position(u32),
     Bytes(u64),
     Halt(Halt),
 }
@@ -101,6 +105,7 @@ impl Refusal {
             Refusal::BadSize => (60, "BadSize", Fields::None),
             Refusal::BadChars => (61, "BadChars", Fields::None),
             Refusal::BadName => (62, "BadName", Fields::None),
+            Refusal::BadProperty(i) => (63, "BadProperty", Fields::Position(i)),
             Refusal::WriteFailed(n) => (70, "WriteFailed", Fields::Bytes(n)),
             Refusal::ReadFailed => (71, "ReadFailed", Fields::None),
             Refusal::BadHex => (72, "BadHex", Fields::None),
@@ -149,6 +154,7 @@ impl fmt::Display for Fields {
             Fields::None | Fields::Halt(_) => Ok(()),
             Fields::Tag(tag) => write_tag(f, tag),
             Fields::Glyph(g) => write!(f, " {g}"),
+            Fields::Position(i) => write!(f, " {i}"),
             Fields::Bytes(n) => write!(f, " {n}"),
         }
     }

@@ -1,5 +1,6 @@
 //! Requests, and what is told of a strike.
 
+use fx_bdf::Property;
 use fx_machine::Usage;
 
 /// A request for a strike.
@@ -9,6 +10,9 @@ pub struct Request<'a> {
     pub ppem: u16,
     /// The font's name: 1 to 255 printed characters of ASCII, no space first or last; any other text is refused.
     pub name: &'a str,
+    /// The properties that the strike has beside FONT_ASCENT and FONT_DESCENT, in their order: at most 64, each with another name;
+    /// the first that is bad is refused.
+    pub properties: &'a [Property<'a>],
     /// Code points up to U+10FFFF, at most 65,536 of them; their order and repeats do not count.
     pub chars: &'a [u32],
     /// Whether the font's programs are run.

@@ -185,6 +185,6 @@ glyphs_of_sketches setting (c ∷ cs) ss h =
     subst P e (g.0 ∷ gs.0, (g.1, gs.1))
 
 pub strike_exists : StrikeExists
-strike_exists file ppem name chars hinting plan h =
-    let p = parts_of file ppem name chars hinting plan h in
+strike_exists file ppem title chars hinting plan h =
+    let p = parts_of file ppem title chars hinting plan h in
     glyphs_of_sketches p.setting (filter (λ c. not (is_missing p.setting c)) (rising chars)) plan.sketches p.sketches

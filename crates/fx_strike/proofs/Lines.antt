@@ -1,6 +1,6 @@
 -- What the second pass writes: of a character, of all characters, and of a strike.
 -- Serves `write_one`, `write_all`, `write_text` and `write_strike`.
-use Rattle.std.proofs.Common.{◌≡◌, refl, sym, ap, ◌∙◌, subst, arith, inr, ℕ, ◌+◌, ◌-◌, ◌^◌, ◌<◌, ◌≤◌, OnOk, Bool, true, false}
+use Rattle.std.proofs.Common.{◌≡◌, refl, sym, ap, ap₂, ◌∙◌, subst, arith, inr, ℕ, ◌+◌, ◌-◌, ◌^◌, ◌<◌, ◌≤◌, OnOk, Bool, true, false}
 use Rattle.std.proofs.Common.{List, [], ◌∷◌, ◌++◌, append_assoc, length, take, drop, get_or, length-append, Option}
 use Rattle.std.proofs.Common.{Result, Ok, Err, cond}
 use Rattle.std.specs.Prelude.{IsOk, filter, not, ◌==◌}
@@ -17,6 +17,7 @@ use Rattle.fx_fixed.proofs.Chain.{bind_ok, same_Ok}
 use Rattle.fx_cmap.specs.Lookup.{glyph_for}
 use Rattle.fx_bdf.specs.Glyphs.{Glyph, TrimmedIsOne}
 use Rattle.fx_bdf.specs.declared.header.Header.{Header}
+use Rattle.fx_bdf.specs.Properties.{PropertyView}
 use Rattle.fx_bdf.specs.Text.{header_text, head_text, glyph_text, end_text}
 use Rattle.fx_request.specs.declared.request.Report.{Report}
 use Rattle.fx_strike.specs.declared.surveyed.Survey.{Survey}
@@ -25,6 +26,7 @@ use Rattle.fx_request.specs.declared.refusal.Refusal.{Refusal}
 use Rattle.fx_request.specs.declared.refusal.Refusal.TheVariants.{WriteFailed, ReadFailed, BadHex, InputTooLarge, OutOfMemory}
 use Rattle.fx_strike.specs.Faults.{Fails}
 use Rattle.fx_fixed.specs.Changes.{Change}
+use Rattle.fx_strike.specs.Title.{Title}
 use Rattle.fx_strike.specs.Strike.{Sketch, Setting, Plan, IsGlyphOf, AreGlyphsOf, glyph_sketch_of, sketch_of, is_missing}
 use Rattle.fx_strike.specs.Strike.{sketches_of, plan_with, strike_text}
 use Rattle.fx_strike.specs.Headline.{Surveyed, Leaves, surveyed_header}
@@ -323,16 +325,18 @@ lines_of_glyphs setting (c ∷ cs) ss gs h g =
     (λ ys xs k l. lines_of_glyphs setting cs ys xs k l) g
 
 -- the text of a strike that was surveyed
-survey_text : (setting : Setting) (name chars : List ℕ) (survey : Survey) (s : Surveyed (plan_with setting name chars) survey)
-    → header_text name (surveyed_header setting.ppem survey) ++ (flat_map glyph_text s.glyphs ++ end_text) ≡
-    strike_text s.plan s.glyphs
+survey_text : (setting : Setting) (title : Title) (chars : List ℕ) (survey : Survey)
+    (s : Surveyed (plan_with setting title chars) survey)
+    → header_text title.name title.properties (surveyed_header setting.ppem survey)
+    ++ (flat_map glyph_text s.glyphs ++ end_text) ≡ strike_text s.plan s.glyphs
 unfolding strike_text
-survey_text setting name chars survey s =
-    let p = planned setting name chars s.plan s.is in
+survey_text setting title chars survey s =
+    let p = planned setting title chars s.plan s.is in
     ap (λ (t : List ℕ). t ++ (flat_map glyph_text s.glyphs ++ end_text))
-    (ap (λ (n : ℕ). header_text name (surveyed_header n survey)) (sym p.ppem_is)
-    ∙ ap (λ (t : List ℕ). header_text t (surveyed_header s.plan.ppem survey)) (sym p.name_is)
-    ∙ ap (header_text s.plan.name) s.header)
+    (ap (λ (n : ℕ). header_text title.name title.properties (surveyed_header n survey)) (sym p.ppem_is)
+    ∙ ap₂ (λ (t : List ℕ) (ps : List PropertyView). header_text t ps (surveyed_header s.plan.ppem survey)) (sym p.name_is)
+    (sym p.properties_are)
+    ∙ ap (header_text s.plan.name s.plan.properties) s.header)
 
 -- what a call leaves, by what was written of the text
 leaves_by : {Y : Type 0} (checks : Result Y Refusal) (due : Result Plan Refusal) (change : Change) (survey : Survey)
@@ -354,41 +358,43 @@ leaves_by checks due change survey s (WriteFailed n) o w =
 leaves_by checks due change survey s d o w = absurd w
 
 -- the text of a strike was written, or a beginning of it
-strike_writes : (setting : Setting) (name chars codes : List ℕ) (change : Change) (survey : Survey) (header : Header)
+strike_writes : (setting : Setting) (title : Title) (chars codes : List ℕ) (change : Change) (survey : Survey) (header : Header)
     (r : Result (Unit {0}) Refusal)
     → codes ≡ rising chars → header ≡ surveyed_header setting.ppem survey
-    → (s : Surveyed (plan_with setting name chars) survey)
-    → ((text : List ℕ) → AreAllLinesOf setting codes text → Writes change (header_text name header ++ (text ++ end_text)) r)
+    → (s : Surveyed (plan_with setting title chars) survey)
+    → ((text : List ℕ) → AreAllLinesOf setting codes text
+    → Writes change (header_text title.name title.properties header ++ (text ++ end_text)) r)
     → Writes change (strike_text s.plan s.glyphs) r
-strike_writes setting name chars codes change survey header r c q s w =
-    let p = planned setting name chars s.plan s.is in
+strike_writes setting title chars codes change survey header r c q s w =
+    let p = planned setting title chars s.plan s.is in
     let lines = lines_of_glyphs setting codes s.plan.sketches s.glyphs (ap (sketches_of setting) c ∙ p.sketches) s.drawn in
-    let same : header_text name header ++ (flat_map glyph_text s.glyphs ++ end_text) ≡ strike_text s.plan s.glyphs =
-    ap (λ (h : Header). header_text name h ++ (flat_map glyph_text s.glyphs ++ end_text)) q
-    ∙ survey_text setting name chars survey s in
+    let same : header_text title.name title.properties header ++ (flat_map glyph_text s.glyphs ++ end_text)
+    ≡ strike_text s.plan s.glyphs =
+    ap (λ (h : Header). header_text title.name title.properties h ++ (flat_map glyph_text s.glyphs ++ end_text)) q
+    ∙ survey_text setting title chars survey s in
     writes_text same (w (flat_map glyph_text s.glyphs) lines)
 
-pub leaves_unwritten : {Y : Type 0} (checks : Result Y Refusal) (setting : Setting) (name chars codes : List ℕ)
+pub leaves_unwritten : {Y : Type 0} (checks : Result Y Refusal) (setting : Setting) (title : Title) (chars codes : List ℕ)
     (change : Change) (survey : Survey) (header : Header) (r : Result Report Refusal) (e d : Refusal)
     → IsOk checks → r ≡ Err e → e ≡ d → codes ≡ rising chars → header ≡ surveyed_header setting.ppem survey
-    → Surveyed (plan_with setting name chars) survey
+    → Surveyed (plan_with setting title chars) survey
     → ((text : List ℕ) → AreAllLinesOf setting codes text
-    → Writes change (header_text name header ++ (text ++ end_text)) (Err d))
-    → Leaves checks (plan_with setting name chars) change r
-leaves_unwritten checks setting name chars codes change survey header r e d o p q c k s w =
-    let due = plan_with setting name chars in
-    let x = strike_writes setting name chars codes change survey header (Err d) c k s w in
+    → Writes change (header_text title.name title.properties header ++ (text ++ end_text)) (Err d))
+    → Leaves checks (plan_with setting title chars) change r
+leaves_unwritten checks setting title chars codes change survey header r e d o p q c k s w =
+    let due = plan_with setting title chars in
+    let x = strike_writes setting title chars codes change survey header (Err d) c k s w in
     let P : Result Report Refusal → Type 0 = λ y. Leaves checks due change y in
     subst P (sym (p ∙ ap Err q)) (leaves_by checks due change survey s d o x.outcome)
 
-pub leaves_written : {Y : Type 0} (checks : Result Y Refusal) (setting : Setting) (name chars codes : List ℕ)
+pub leaves_written : {Y : Type 0} (checks : Result Y Refusal) (setting : Setting) (title : Title) (chars codes : List ℕ)
     (change : Change) (survey : Survey) (header : Header) → codes ≡ rising chars
-    → header ≡ surveyed_header setting.ppem survey → Surveyed (plan_with setting name chars) survey
+    → header ≡ surveyed_header setting.ppem survey → Surveyed (plan_with setting title chars) survey
     → ((text : List ℕ) → AreAllLinesOf setting codes text
-    → Writes change (header_text name header ++ (text ++ end_text)) (Ok tt))
-    → Leaves checks (plan_with setting name chars) change (Ok survey.report)
-leaves_written checks setting name chars codes change survey header c k s w =
-    let x = strike_writes setting name chars codes change survey header (Ok tt) c k s w in
+    → Writes change (header_text title.name title.properties header ++ (text ++ end_text)) (Ok tt))
+    → Leaves checks (plan_with setting title chars) change (Ok survey.report)
+leaves_written checks setting title chars codes change survey header c k s w =
+    let x = strike_writes setting title chars codes change survey header (Ok tt) c k s w in
     record {
       plan = s.plan;
       glyphs = s.glyphs;

@@ -25,6 +25,7 @@ use Rattle.fx_strike.specs.Faults.{Fails}
 use Rattle.fx_fixed.specs.Changes.{Change}
 use Rattle.fx_request.specs.Characters.{rising}
 use Rattle.fx_fixed.specs.Numbers.{counted}
+use Rattle.fx_strike.specs.Title.{Title}
 use Rattle.fx_strike.specs.Strike.{Sketch, Setting, Plan, setting_with, prelude_by, pixels, sketches_of, plan_from, plan_with}
 use Rattle.fx_strike.specs.Headline.{IsCause, Surveyed, Writer, Leaves, Makes}
 use Rattle.fx_strike.specs.inner.Surveying.{Holds, survey_from, Surveys}
@@ -32,15 +33,15 @@ use Rattle.fx_strike.proofs.Sketching.{fails_on}
 
 -- ---- when the plan stops
 
-plan_refused : (setting : Setting) (name chars : List ℕ) (d : Refusal)
-    → sketches_of setting (rising chars) ≡ Err d → plan_with setting name chars ≡ Err d
+plan_refused : (setting : Setting) (title : Title) (chars : List ℕ) (d : Refusal)
+    → sketches_of setting (rising chars) ≡ Err d → plan_with setting title chars ≡ Err d
 unfolding plan_with
-plan_refused setting name chars d h = rw h
+plan_refused setting title chars d h = rw h
 
-plan_whole : (setting : Setting) (name chars : List ℕ) (ss : List Sketch)
-    → sketches_of setting (rising chars) ≡ Ok ss → plan_with setting name chars ≡ Ok (plan_from setting name chars ss)
+plan_whole : (setting : Setting) (title : Title) (chars : List ℕ) (ss : List Sketch)
+    → sketches_of setting (rising chars) ≡ Ok ss → plan_with setting title chars ≡ Ok (plan_from setting title chars ss)
 unfolding plan_with
-plan_whole setting name chars ss h = rw h
+plan_whole setting title chars ss h = rw h
 
 -- ---- a survey
 
@@ -59,21 +60,21 @@ surveys_cause due (Err d) h = h
 pub surveys_along : (here due : Result Plan Refusal) (r : Result Survey Refusal) → due ≡ here → Surveys here r → Surveys due r
 surveys_along here due r e h = let P : Result Plan Refusal → Type 0 = λ x. Surveys x r in subst P (sym e) h
 
-pub unseen : (setting : Setting) (name chars codes : List ℕ) (r : Result Survey Refusal) (e d : Refusal) → r ≡ Err e → e ≡ d
-    → codes ≡ rising chars → Fails d (sketches_of setting codes) → Surveys (plan_with setting name chars) r
-unseen setting name chars codes r e d p q c f =
-    surveys_err (plan_with setting name chars) r e d p q
-    (fails_on d (sketches_of setting codes) (plan_with setting name chars)
-    (λ x g. plan_refused setting name chars x (ap (sketches_of setting) (sym c) ∙ g)) f)
+pub unseen : (setting : Setting) (title : Title) (chars codes : List ℕ) (r : Result Survey Refusal) (e d : Refusal)
+    → r ≡ Err e → e ≡ d → codes ≡ rising chars → Fails d (sketches_of setting codes) → Surveys (plan_with setting title chars) r
+unseen setting title chars codes r e d p q c f =
+    surveys_err (plan_with setting title chars) r e d p q
+    (fails_on d (sketches_of setting codes) (plan_with setting title chars)
+    (λ x g. plan_refused setting title chars x (ap (sketches_of setting) (sym c) ∙ g)) f)
 
 -- a count goes on after what was counted before
 counted_on : (before after total : ℕ) → after ≡ counted total → counted (before + after) ≡ counted (before + total)
 counted_on before after total h = omega arith
 
-surveyed_here : (opened : Opened) (machine : Option Known) (name chars : List ℕ) (seen : Seen)
+surveyed_here : (opened : Opened) (machine : Option Known) (title : Title) (chars : List ℕ) (seen : Seen)
     → Holds (setting_with opened machine) (rising chars) seen
-    → Surveyed (plan_with (setting_with opened machine) name chars) (survey_from (prelude_by machine) opened seen)
-surveyed_here opened machine name chars seen g =
+    → Surveyed (plan_with (setting_with opened machine) title chars) (survey_from (prelude_by machine) opened seen)
+surveyed_here opened machine title chars seen g =
     let heading : Box → ℕ → Header = λ b n. record {
       ppem = opened.ppem;
       bounds = b;
@@ -82,9 +83,9 @@ surveyed_here opened machine name chars seen g =
       glyphs = n;
     } in
     record {
-      plan = plan_from (setting_with opened machine) name chars g.sketches;
+      plan = plan_from (setting_with opened machine) title chars g.sketches;
       glyphs = g.glyphs;
-      is = plan_whole (setting_with opened machine) name chars g.sketches g.planned;
+      is = plan_whole (setting_with opened machine) title chars g.sketches g.planned;
       drawn = g.drawn;
       header = ap (λ (b : Box). heading b seen.report.glyphs) g.bounds ∙
           ap (λ (n : ℕ). heading (bounds_of (map (λ x. x.box) g.glyphs)) n) g.count;
@@ -96,15 +97,15 @@ surveyed_here opened machine name chars seen g =
       };
     }
 
-pub surveyed : (opened : Opened) (machine : Option Known) (prelude : Usage) (name chars codes : List ℕ) (seen : Seen)
+pub surveyed : (opened : Opened) (machine : Option Known) (prelude : Usage) (title : Title) (chars codes : List ℕ) (seen : Seen)
     (survey : Survey)
     → prelude ≡ prelude_by machine → codes ≡ rising chars → Holds (setting_with opened machine) codes seen
-    → survey ≡ survey_from prelude opened seen → Surveyed (plan_with (setting_with opened machine) name chars) survey
-surveyed opened machine prelude name chars codes seen survey n c g e =
+    → survey ≡ survey_from prelude opened seen → Surveyed (plan_with (setting_with opened machine) title chars) survey
+surveyed opened machine prelude title chars codes seen survey n c g e =
     let P : List ℕ → Type 0 = λ xs. Holds (setting_with opened machine) xs seen in
-    let Q : Survey → Type 0 = λ s. Surveyed (plan_with (setting_with opened machine) name chars) s in
+    let Q : Survey → Type 0 = λ s. Surveyed (plan_with (setting_with opened machine) title chars) s in
     subst Q (sym (e ∙ ap (λ (x : Usage). survey_from x opened seen) n))
-    (surveyed_here opened machine name chars seen (subst P c g))
+    (surveyed_here opened machine title chars seen (subst P c g))
 
 -- ---- refusals that are due
 

@@ -3,16 +3,16 @@
 use Rattle.std.proofs.Common.{◌≡◌, refl, sym, ap, ◌∙◌, ℕ, Bool, true, false, not, cond, List, [], ◌∷◌, Some, None}
 use Rattle.std.proofs.Common.{Result, Ok, Err}
 use Rattle.std.specs.Prelude.{slice_get, if◌then◌else◌}
-use Rattle.fx_fixed.specs.Chain.{◌>>=◌, refuse, wanted, map_ok, map_chain}
+use Rattle.fx_fixed.specs.Chain.{◌>>=◌, wanted, map_ok, map_chain}
 use Rattle.fx_fixed.specs.Sizes.{ppem_of}
 use Rattle.fx_sfnt.specs.Tables.{Face}
 use Rattle.fx_cmap.specs.declared.mapping.Mapping.{Mapping}
-use Rattle.fx_bdf.specs.Text.{is_name}
 use Rattle.fx_request.specs.declared.refusal.Refusal.{Refusal}
-use Rattle.fx_request.specs.declared.refusal.Refusal.TheVariants.{BadSize, BadName}
+use Rattle.fx_request.specs.declared.refusal.Refusal.TheVariants.{BadSize}
 use Rattle.fx_request.specs.Characters.{rising}
 use Rattle.fx_strike.specs.declared.opened.Opened.{Opened}
-use Rattle.fx_strike.specs.Strike.{Sketch, Setting, Plan, Opening, sketch_of, is_missing, checked_chars, checked_text}
+use Rattle.fx_strike.specs.Title.{Title}
+use Rattle.fx_strike.specs.Strike.{Sketch, Setting, Plan, Opening, sketch_of, is_missing, checked_chars, checked_text, checked_title}
 use Rattle.fx_strike.specs.Strike.{font_with_map, opened_after, opened_one_of, setting_in, plan_from, plan_with, plan_in, plan_of}
 use Rattle.fx_strike.specs.Strike.{one_with, one_in, one_of}
 use Rattle.fx_strike.specs.Laws.{OneIsOfStrike, only_sketch}
@@ -32,46 +32,46 @@ one_step f code last false same = by_result (f code)
     by_result (Ok s) = ap (λ (ss : List Sketch). Ok (slice_get ss 0)) (sym (same (s ∷ [])))
     by_result (Err e) = refl
 
-with_is : (setting : Setting) (name : List ℕ) (code : ℕ)
-    → one_with setting code ≡ map_ok only_sketch (plan_with setting name (code ∷ []))
+with_is : (setting : Setting) (title : Title) (code : ℕ)
+    → one_with setting code ≡ map_ok only_sketch (plan_with setting title (code ∷ []))
 unfolding rising one_with plan_with
-with_is setting name code =
-    one_step (sketch_of setting) code (plan_from setting name (code ∷ [])) (is_missing setting code) (λ ss. refl)
+with_is setting title code =
+    one_step (sketch_of setting) code (plan_from setting title (code ∷ [])) (is_missing setting code) (λ ss. refl)
 
-in_is : (opened : Opened) (name : List ℕ) (code : ℕ) (hinting : Bool)
-    → one_in opened code hinting ≡ map_ok only_sketch (plan_in opened name (code ∷ []) hinting)
+in_is : (opened : Opened) (title : Title) (code : ℕ) (hinting : Bool)
+    → one_in opened code hinting ≡ map_ok only_sketch (plan_in opened title (code ∷ []) hinting)
 unfolding one_in plan_in
-in_is opened name code hinting = by_setting (setting_in opened hinting)
+in_is opened title code hinting = by_setting (setting_in opened hinting)
   where
     by_setting : (r : Result Setting Refusal)
-        → (r >>= λ s. one_with s code) ≡ map_ok only_sketch (r >>= λ s. plan_with s name (code ∷ []))
-    by_setting (Ok s) = with_is s name code
+        → (r >>= λ s. one_with s code) ≡ map_ok only_sketch (r >>= λ s. plan_with s title (code ∷ []))
+    by_setting (Ok s) = with_is s title code
     by_setting (Err e) = refl
 
 -- ---- a font file
 
--- the checks of a valid name beside those of its characters
-abbrev with_name : Bool → Result (Unit {0}) Refusal → Result (Unit {0}) Refusal
-with_name b r = r >>= λ _. refuse (not b) BadName
+-- the checks of a title beside those of its characters
+abbrev with_title : Result (Unit {0}) Refusal → Result (Unit {0}) Refusal → Result (Unit {0}) Refusal
+with_title title r = r >>= λ _. title
 
 abbrev opening : Result ℕ Refusal → Result (Unit {0}) Refusal → Result (Face × Mapping) Refusal → Opening
 opening r checks f = r >>= λ size. checks >>= λ _. f >>= λ font. Ok (record { ppem = size; font = font.0; map = font.1 })
 
-named_alike : (r : Result ℕ Refusal) (checks : Result (Unit {0}) Refusal) (f : Result (Face × Mapping) Refusal) (b : Bool)
-    → b ≡ true → opening r (with_name b checks) f ≡ opening r checks f
-named_alike (Ok size) (Ok u) f true h = refl
-named_alike (Ok size) (Err e) f true h = refl
-named_alike (Err e) checks f true h = refl
-named_alike r checks f false h = absurd (cc)
+named_alike : (r : Result ℕ Refusal) (checks title : Result (Unit {0}) Refusal) (f : Result (Face × Mapping) Refusal)
+    → title ≡ Ok tt → opening r (with_title title checks) f ≡ opening r checks f
+named_alike (Ok size) (Ok u) (Ok v) f h = refl
+named_alike (Ok size) (Ok u) (Err e) f h = absurd (cc)
+named_alike (Ok size) (Err e) title f h = refl
+named_alike (Err e) checks title f h = refl
 
 pub one_is_of_strike : OneIsOfStrike
 unfolding opened_after checked_text plan_of one_of
-one_is_of_strike file ppem name code hinting named =
+one_is_of_strike file ppem title code hinting named =
     by_opened (opened_one_of file ppem code)
-    ∙ ap (λ (o : Opening). map_ok only_sketch (o >>= λ o. plan_in o name (code ∷ []) hinting))
-    (sym (named_alike (wanted (ppem_of ppem) BadSize) (checked_chars (code ∷ [])) (font_with_map file) (is_name name) named))
+    ∙ ap (λ (o : Opening). map_ok only_sketch (o >>= λ o. plan_in o title (code ∷ []) hinting))
+    (sym (named_alike (wanted (ppem_of ppem) BadSize) (checked_chars (code ∷ [])) (checked_title title) (font_with_map file) named))
   where
     by_opened : (o : Opening)
-        → (o >>= λ o. one_in o code hinting) ≡ map_ok only_sketch (o >>= λ o. plan_in o name (code ∷ []) hinting)
-    by_opened (Ok o) = in_is o name code hinting
+        → (o >>= λ o. one_in o code hinting) ≡ map_ok only_sketch (o >>= λ o. plan_in o title (code ∷ []) hinting)
+    by_opened (Ok o) = in_is o title code hinting
     by_opened (Err e) = refl

@@ -18,6 +18,7 @@ use Rattle.fx_request.specs.declared.refusal.Refusal.TheVariants.{BadSize}
 use Rattle.fx_request.specs.Faults.{of_font}
 use Rattle.fx_strike.specs.Faults.{of_hint, of_contour}
 use Rattle.fx_request.specs.Characters.{rising}
+use Rattle.fx_strike.specs.Title.{Title}
 use Rattle.fx_strike.specs.Strike.{Sketch, Setting, Plan, AreGlyphsOf, outline_in, sketch_from}
 use Rattle.fx_strike.specs.Strike.{glyph_sketch_of, sketch_of, is_missing, sketches_of, checked_text, opened_after, opened_of}
 use Rattle.fx_strike.specs.Strike.{opened_at, setting_in, setting_of, plan_from, plan_with, plan_in, plan_of}
@@ -127,29 +128,30 @@ pub record Parts (file : List ℕ) (ppem : ℕ) (chars : List ℕ) (hinting : Bo
   pub is : setting_of file ppem hinting ≡ Ok setting
   pub sketches : sketches_of setting (rising chars) ≡ Ok ss
 
--- a plan has the name and the size that it is of, and the sketches of its code points
-pub record Planned (setting : Setting) (name chars : List ℕ) (plan : Plan) : Type 0 where
+-- a plan has the title and the size that it is of, and the sketches of its code points
+pub record Planned (setting : Setting) (title : Title) (chars : List ℕ) (plan : Plan) : Type 0 where
   pub sketches : sketches_of setting (rising chars) ≡ Ok plan.sketches
-  pub name_is : plan.name ≡ name
+  pub name_is : plan.name ≡ title.name
+  pub properties_are : plan.properties ≡ title.properties
   pub ppem_is : plan.ppem ≡ setting.ppem
 
-pub planned : (setting : Setting) (name chars : List ℕ) (plan : Plan) → plan_with setting name chars ≡ Ok plan
-    → Planned setting name chars plan
+pub planned : (setting : Setting) (title : Title) (chars : List ℕ) (plan : Plan) → plan_with setting title chars ≡ Ok plan
+    → Planned setting title chars plan
 unfolding plan_with
-planned setting name chars plan h =
-    let d = bind_ok (sketches_of setting (rising chars)) (λ ss. Ok (plan_from setting name chars ss)) plan h in
-    let e : plan_from setting name chars d.0 ≡ plan = cc (d.2) in
-    let P : Plan → Type 0 = λ p. Planned setting name chars p in
-    subst P e (record { sketches = d.1; name_is = refl; ppem_is = refl })
+planned setting title chars plan h =
+    let d = bind_ok (sketches_of setting (rising chars)) (λ ss. Ok (plan_from setting title chars ss)) plan h in
+    let e : plan_from setting title chars d.0 ≡ plan = cc (d.2) in
+    let P : Plan → Type 0 = λ p. Planned setting title chars p in
+    subst P e (record { sketches = d.1; name_is = refl; properties_are = refl; ppem_is = refl })
 
-pub parts_of : (file : List ℕ) (ppem : ℕ) (name chars : List ℕ) (hinting : Bool) (plan : Plan)
-    → plan_of file ppem name chars hinting ≡ Ok plan → Parts file ppem chars hinting plan.sketches
+pub parts_of : (file : List ℕ) (ppem : ℕ) (title : Title) (chars : List ℕ) (hinting : Bool) (plan : Plan)
+    → plan_of file ppem title chars hinting ≡ Ok plan → Parts file ppem chars hinting plan.sketches
 unfolding opened_after setting_of plan_in plan_of
-parts_of file ppem name chars hinting plan h =
-    let o = bind_ok (opened_of file ppem name chars) (λ o. plan_in o name chars hinting) plan h in
-    let s = bind_ok (setting_in o.0 hinting) (λ s. plan_with s name chars) plan o.2 in
-    let opened : opened_at file ppem ≡ Ok o.0 = unchecked (wanted (ppem_of ppem) BadSize) (checked_text name chars) _ o.0 o.1 in
-    record { setting = s.0; is = rw opened s.1; sketches = (planned s.0 name chars plan s.2).sketches }
+parts_of file ppem title chars hinting plan h =
+    let o = bind_ok (opened_of file ppem title chars) (λ o. plan_in o title chars hinting) plan h in
+    let s = bind_ok (setting_in o.0 hinting) (λ s. plan_with s title chars) plan o.2 in
+    let opened : opened_at file ppem ≡ Ok o.0 = unchecked (wanted (ppem_of ppem) BadSize) (checked_text title chars) _ o.0 o.1 in
+    record { setting = s.0; is = rw opened s.1; sketches = (planned s.0 title chars plan s.2).sketches }
 
 -- a sketch of a plan is that of its code point
 sketch_there : (setting : Setting) (chars : List ℕ) (ss : List Sketch) (s : Sketch)
@@ -161,9 +163,9 @@ sketch_there setting chars ss s p h =
     ap (sketch_of setting) (sketch_code setting x.0 _ s here) ∙ here
 
 pub part_is_one : PartIsOne
-part_is_one file ppem hinting name name2 chars chars2 plan plan2 h g s t i j e =
-    let p = parts_of file ppem name chars hinting plan h in
-    let q = parts_of file ppem name2 chars2 hinting plan2 g in
+part_is_one file ppem hinting title title2 chars chars2 plan plan2 h g s t i j e =
+    let p = parts_of file ppem title chars hinting plan h in
+    let q = parts_of file ppem title2 chars2 hinting plan2 g in
     let same : p.setting ≡ q.setting = same_Ok p.setting q.setting p.is q.is in
     same_Ok s t
     (ap (sketch_of q.setting) (sym e) ∙ ap (λ (x : Setting). sketch_of x s.code) (sym same)

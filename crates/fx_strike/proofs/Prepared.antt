@@ -7,6 +7,7 @@ use Rattle.fx_bdf.specs.Glyphs.{Glyph}
 use Rattle.fx_request.specs.declared.refusal.Refusal.{Refusal}
 use Rattle.fx_strike.specs.declared.opened.Opened.{Opened}
 use Rattle.fx_strike.specs.Faults.{Fails}
+use Rattle.fx_strike.specs.Title.{Title, no_title}
 use Rattle.fx_strike.specs.Strike.{Sketch, Setting, opened_of, opened_one_of, opened_at, setting_in, setting_of}
 use Rattle.fx_strike.specs.Strike.{checked_chars, checked_text}
 use Rattle.fx_strike.specs.Strike.{plan_with, plan_in, plan_of, one_with, one_in, one_of}
@@ -20,22 +21,22 @@ is_ok {A} a x h = let P : Result A Refusal → Type 0 = λ r. IsOk r in subst P 
 
 -- ---- a strike
 
-pub plan_unopened : (file : List ℕ) (ppem : ℕ) (name chars : List ℕ) (hinting : Bool) (d : Refusal)
-    → Err d ≡ opened_of file ppem name chars → plan_of file ppem name chars hinting ≡ Err d
+pub plan_unopened : (file : List ℕ) (ppem : ℕ) (title : Title) (chars : List ℕ) (hinting : Bool) (d : Refusal)
+    → Err d ≡ opened_of file ppem title chars → plan_of file ppem title chars hinting ≡ Err d
 unfolding plan_of
-plan_unopened file ppem name chars hinting d h = rw (sym h) refl
+plan_unopened file ppem title chars hinting d h = rw (sym h) refl
 
-pub plan_unset : (file : List ℕ) (ppem : ℕ) (name chars : List ℕ) (hinting : Bool) (o : Opened) (d : Refusal)
-    → Ok o ≡ opened_of file ppem name chars → Fails d (setting_in o hinting) → Fails d (plan_of file ppem name chars hinting)
+pub plan_unset : (file : List ℕ) (ppem : ℕ) (title : Title) (chars : List ℕ) (hinting : Bool) (o : Opened) (d : Refusal)
+    → Ok o ≡ opened_of file ppem title chars → Fails d (setting_in o hinting) → Fails d (plan_of file ppem title chars hinting)
 unfolding plan_in plan_of
-plan_unset file ppem name chars hinting o d h f =
-    fails_on d (setting_in o hinting) (plan_of file ppem name chars hinting) (λ e k. rw (sym h, k) refl) f
+plan_unset file ppem title chars hinting o d h f =
+    fails_on d (setting_in o hinting) (plan_of file ppem title chars hinting) (λ e k. rw (sym h, k) refl) f
 
-pub plan_set : (file : List ℕ) (ppem : ℕ) (name chars : List ℕ) (hinting : Bool) (o : Opened) (s : Setting)
-    → Ok o ≡ opened_of file ppem name chars → setting_in o hinting ≡ Ok s
-    → plan_of file ppem name chars hinting ≡ plan_with s name chars
+pub plan_set : (file : List ℕ) (ppem : ℕ) (title : Title) (chars : List ℕ) (hinting : Bool) (o : Opened) (s : Setting)
+    → Ok o ≡ opened_of file ppem title chars → setting_in o hinting ≡ Ok s
+    → plan_of file ppem title chars hinting ≡ plan_with s title chars
 unfolding plan_in plan_of
-plan_set file ppem name chars hinting o s h k = rw (sym h, k) refl
+plan_set file ppem title chars hinting o s h k = rw (sym h, k) refl
 
 -- ---- one character
 
@@ -119,16 +120,16 @@ unfolding nameless_with
 nameless_unchecked setting chars d h = rw (sym h) refl
 
 pub nameless_checked : (setting : Setting) (chars : List ℕ) → Ok tt ≡ checked_chars chars
-    → nameless_with setting chars ≡ plan_with setting [] chars
+    → nameless_with setting chars ≡ plan_with setting no_title chars
 unfolding nameless_with
 nameless_checked setting chars h = rw (sym h) refl
 
-pub strike_unchecked : (setting : Setting) (name chars : List ℕ) (d : Refusal) → Err d ≡ checked_text name chars
-    → strike_with setting name chars ≡ Err d
+pub strike_unchecked : (setting : Setting) (title : Title) (chars : List ℕ) (d : Refusal) → Err d ≡ checked_text title chars
+    → strike_with setting title chars ≡ Err d
 unfolding strike_with
-strike_unchecked setting name chars d h = rw (sym h) refl
+strike_unchecked setting title chars d h = rw (sym h) refl
 
-pub strike_checked : (setting : Setting) (name chars : List ℕ) → Ok tt ≡ checked_text name chars
-    → strike_with setting name chars ≡ plan_with setting name chars
+pub strike_checked : (setting : Setting) (title : Title) (chars : List ℕ) → Ok tt ≡ checked_text title chars
+    → strike_with setting title chars ≡ plan_with setting title chars
 unfolding strike_with
-strike_checked setting name chars h = rw (sym h) refl
+strike_checked setting title chars h = rw (sym h) refl

@@ -14,15 +14,16 @@ use Rattle.fx_request.specs.declared.request.Request.{Request}
 use Rattle.fx_strike.specs.declared.surveyed.Survey.{Survey}
 use Rattle.fx_fixed.specs.Changes.{Change}
 use Rattle.fx_strike.specs.Strike.{Sketch, Opening, Setting, Plan, IsGlyphOf, AreGlyphsOf, header_of, checked_chars, checked_text}
+use Rattle.fx_strike.specs.Title.{Title, no_title, title_of}
 use Rattle.fx_strike.specs.Strike.{opened_of, one_with, plan_with, plan_of, strike_text}
 
 -- the requested strike of a font file, or the first cause why there is none
 abbrev pub strike_of : List ℕ → Request → Result Plan Refusal
-strike_of file request = plan_of file request.ppem request.name.now request.chars.now request.hinting
+strike_of file request = plan_of file request.ppem (title_of request) request.chars.now request.hinting
 
 -- the outcome of a request before memory is taken: the size, the opened font and its character map; or the first cause
 abbrev pub opening_of : List ℕ → Request → Opening
-opening_of file request = opened_of file request.ppem request.name.now request.chars.now
+opening_of file request = opened_of file request.ppem (title_of request) request.chars.now
 
 -- what is counted over a strike: `fpgm` and `prep` once, and each character once
 pub record IsReportOf (plan : Plan) (report : Report) : Type 0 where
@@ -137,17 +138,17 @@ IsOneOf due (Some glyph) = (sketch : Sketch) × (due ≡ Ok (Some sketch)) × Is
 
 -- ---- with a striker
 
--- the strike of a name and characters, or the first cause why there is none
-unfoldable pub strike_with : Setting → List ℕ → List ℕ → Result Plan Refusal
-strike_with setting name chars = do
-  _ ← checked_text name chars
-  plan_with setting name chars
+-- the strike of a title and characters, or the first cause why there is none
+unfoldable pub strike_with : Setting → Title → List ℕ → Result Plan Refusal
+strike_with setting title chars = do
+  _ ← checked_text title chars
+  plan_with setting title chars
 
--- that of characters, whatever its name
+-- that of characters, whatever its title
 unfoldable pub nameless_with : Setting → List ℕ → Result Plan Refusal
 nameless_with setting chars = do
   _ ← checked_chars chars
-  plan_with setting [] chars
+  plan_with setting no_title chars
 
 -- the sketch of a code point, none if the font lacks it; or the first cause
 unfoldable pub character_with : Setting → ℕ → Result (Option Sketch) Refusal

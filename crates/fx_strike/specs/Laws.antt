@@ -2,8 +2,8 @@
 use Rattle.std.specs.Prelude.{◌≡◌, ℕ, Bool, true, List, [], ◌∷◌, slice_get, Option, Ok, Contains}
 use Rattle.fx_fixed.specs.Chain.{map_ok}
 use Rattle.fx_bdf.specs.Glyphs.{Glyph}
-use Rattle.fx_bdf.specs.Text.{is_name}
-use Rattle.fx_strike.specs.Strike.{Sketch, Plan, IsGlyphOf, AreGlyphsOf, plan_of, one_of, strike_text}
+use Rattle.fx_strike.specs.Title.{Title}
+use Rattle.fx_strike.specs.Strike.{Sketch, Plan, IsGlyphOf, AreGlyphsOf, checked_title, plan_of, one_of, strike_text}
 
 -- a sketch has one glyph
 abbrev pub GlyphIsOne : Type 0
@@ -17,22 +17,22 @@ TextIsOne = (plan : Plan) (gs hs : List Glyph) → AreGlyphsOf plan.sketches gs 
 -- a strike has its glyphs: if no cause refuses it there is one, however much memory there is
 abbrev pub StrikeExists : Type 0
 StrikeExists =
-    (file : List ℕ) (ppem : ℕ) (name chars : List ℕ) (hinting : Bool) (plan : Plan)
-    → plan_of file ppem name chars hinting ≡ Ok plan → (gs : List Glyph) × AreGlyphsOf plan.sketches gs
+    (file : List ℕ) (ppem : ℕ) (title : Title) (chars : List ℕ) (hinting : Bool) (plan : Plan)
+    → plan_of file ppem title chars hinting ≡ Ok plan → (gs : List Glyph) × AreGlyphsOf plan.sketches gs
 
 -- a character's part depends on the font, the size, hinting and its code point alone: it is the same in all strikes of those
 abbrev pub PartIsOne : Type 0
 PartIsOne =
-    (file : List ℕ) (ppem : ℕ) (hinting : Bool) (name other_name chars other_chars : List ℕ) (plan other : Plan)
-    → plan_of file ppem name chars hinting ≡ Ok plan → plan_of file ppem other_name other_chars hinting ≡ Ok other
+    (file : List ℕ) (ppem : ℕ) (hinting : Bool) (title other_title : Title) (chars other_chars : List ℕ) (plan other : Plan)
+    → plan_of file ppem title chars hinting ≡ Ok plan → plan_of file ppem other_title other_chars hinting ≡ Ok other
     → (s t : Sketch) → Contains plan.sketches s → Contains other.sketches t → s.code ≡ t.code → s ≡ t
 
 -- the first sketch of a strike, if it has one
 abbrev pub only_sketch : Plan → Option Sketch
 only_sketch plan = slice_get plan.sketches 0
 
--- one character is the part of a strike of that character alone, or is refused as that strike is, whatever its name
+-- one character is the part of a strike of that character alone, or is refused as that strike is, whatever its title
 abbrev pub OneIsOfStrike : Type 0
 OneIsOfStrike =
-    (file : List ℕ) (ppem : ℕ) (name : List ℕ) (code : ℕ) (hinting : Bool) → is_name name ≡ true
-    → one_of file ppem code hinting ≡ map_ok only_sketch (plan_of file ppem name (code ∷ []) hinting)
+    (file : List ℕ) (ppem : ℕ) (title : Title) (code : ℕ) (hinting : Bool) → checked_title title ≡ Ok tt
+    → one_of file ppem code hinting ≡ map_ok only_sketch (plan_of file ppem title (code ∷ []) hinting)

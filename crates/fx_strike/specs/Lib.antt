@@ -1,4 +1,5 @@
 pub mod Faults
+pub mod Title
 pub mod Strike
 pub mod Headline
 pub mod Listings

@@ -1,6 +1,6 @@
 -- The strike of a font, a size and characters, or the first cause why there is none.
-use Rattle.std.specs.Prelude.{◌≡◌, ◌↔◌, IsTrue, ℕ, ◌*◌, nat_lt, ◌==◌, ◌||◌, not, ℤ, pos, ◌*ℤ◌, neg_ℤ, Bool, List, [], ◌∷◌, ◌++◌}
-use Rattle.std.specs.Prelude.{length, map, filter, if◌then◌else◌, true, false, Option, Some, None, Result, Ok}
+use Rattle.std.specs.Prelude.{◌≡◌, ◌↔◌, IsTrue, ℕ, ◌+◌, ◌*◌, nat_lt, ◌==◌, ◌||◌, not, ℤ, pos, ◌*ℤ◌, neg_ℤ, Bool, List, [], ◌∷◌, ◌++◌}
+use Rattle.std.specs.Prelude.{length, map, filter, if◌then◌else◌, true, false, Option, Some, None, Result, Ok, Err}
 use Rattle.std.specs.List.{list_any, count_by, flat_map}
 use Rattle.fx_fixed.specs.Chain.{◌>>=◌, refuse, wanted, map_ok, map_fault, map_chain}
 use Rattle.fx_fixed.specs.Numbers.{near_of}
@@ -22,12 +22,14 @@ use Rattle.fx_contour.specs.Contours.{drawn_of}
 use Rattle.fx_contour.specs.Frames.{framed_of}
 use Rattle.fx_bdf.specs.declared.header.Header.{Header}
 use Rattle.fx_bdf.specs.Glyphs.{Glyph, IsTight, IsFormed, glyph_bit, bounds_of}
+use Rattle.fx_bdf.specs.Properties.{PropertyView, first_bad}
 use Rattle.fx_bdf.specs.Text.{is_name, header_text, glyph_text, end_text}
 use Rattle.fx_request.specs.declared.refusal.Refusal.{Refusal}
-use Rattle.fx_request.specs.declared.refusal.Refusal.TheVariants.{BadSize, BadChars, BadName}
+use Rattle.fx_request.specs.declared.refusal.Refusal.TheVariants.{BadSize, BadChars, BadName, BadProperty}
 use Rattle.fx_request.specs.Faults.{of_font, of_char_map, of_machine}
 use Rattle.fx_strike.specs.declared.opened.Opened.{Opened}
 use Rattle.fx_strike.specs.Faults.{of_hint, of_contour}
+use Rattle.fx_strike.specs.Title.{Title}
 use Rattle.fx_request.specs.Characters.{rising}
 use Rattle.fx_request.specs.Limits.{max_characters, max_code}
 
@@ -121,6 +123,7 @@ one_with setting code = if is_missing setting code then Ok None else map_ok Some
 -- a strike before its bits, with what `fpgm` and `prep` used up
 pub record Plan : Type 0 where
   pub name : List ℕ
+  pub properties : List PropertyView
   pub ppem : ℕ
   pub ascent : ℤ
   pub descent : ℤ
@@ -136,10 +139,11 @@ pixels units ppem em = near_of (units *ℤ pos ppem) (pos em)
 abbrev pub sketches_of : Setting → List ℕ → Result (List Sketch) Refusal
 sketches_of setting codes = map_chain (sketch_of setting) (filter (λ c. not (is_missing setting c)) codes)
 
--- the strike of a name, and of characters that have these sketches
-abbrev pub plan_from : Setting → List ℕ → List ℕ → List Sketch → Plan
-plan_from setting name chars sketches = record {
-  name = name;
+-- the strike of a title, and of characters that have these sketches
+abbrev pub plan_from : Setting → Title → List ℕ → List Sketch → Plan
+plan_from setting title chars sketches = record {
+  name = title.name;
+  properties = title.properties;
   ppem = setting.ppem;
   ascent = pixels setting.font.hhea.ascender setting.ppem setting.font.head.units_per_em;
   descent = pixels (neg_ℤ setting.font.hhea.descender) setting.ppem setting.font.head.units_per_em;
@@ -148,11 +152,11 @@ plan_from setting name chars sketches = record {
   prelude = prelude_by setting.machine;
 }
 
--- the strike of a name and characters, or the first cause why there is none
-unfoldable pub plan_with : Setting → List ℕ → List ℕ → Result Plan Refusal
-plan_with setting name chars = do
+-- the strike of a title and characters, or the first cause why there is none
+unfoldable pub plan_with : Setting → Title → List ℕ → Result Plan Refusal
+plan_with setting title chars = do
   sketches ← sketches_of setting (rising chars)
-  Ok (plan_from setting name chars sketches)
+  Ok (plan_from setting title chars sketches)
 
 -- ---- the order of causes
 
@@ -160,11 +164,25 @@ plan_with setting name chars = do
 unfoldable pub checked_chars : List ℕ → Result (Unit {0}) Refusal
 checked_chars chars = refuse (nat_lt max_characters (length chars) || list_any (nat_lt max_code) chars) BadChars
 
--- and a name within its limits
-unfoldable pub checked_text : List ℕ → List ℕ → Result (Unit {0}) Refusal
-checked_text name chars = do
+-- no property is bad: the first that is has the index i, which the refusal counts from 1
+abbrev pub refused_at : Option ℕ → Result (Unit {0}) Refusal
+refused_at None = Ok tt
+refused_at (Some i) = Err (BadProperty (i + 1))
+
+unfoldable pub checked_properties : List PropertyView → Result (Unit {0}) Refusal
+checked_properties properties = refused_at (first_bad properties)
+
+-- a title within its limits
+unfoldable pub checked_title : Title → Result (Unit {0}) Refusal
+checked_title title = do
+  _ ← refuse (not (is_name title.name)) BadName
+  checked_properties title.properties
+
+-- characters within their limits, and then a title
+unfoldable pub checked_text : Title → List ℕ → Result (Unit {0}) Refusal
+checked_text title chars = do
   _ ← checked_chars chars
-  refuse (not (is_name name)) BadName
+  checked_title title
 
 -- a font opened with its character map, or the first cause why it can't be
 unfoldable pub font_with_map : List ℕ → Result (Face × Mapping) Refusal
@@ -186,9 +204,9 @@ opened_after ppem checks file = do
   opened ← font_with_map file
   Ok (record { ppem = size; font = opened.0; map = opened.1 })
 
--- for a strike of a name and characters
-abbrev pub opened_of : List ℕ → ℕ → List ℕ → List ℕ → Opening
-opened_of file ppem name chars = opened_after ppem (checked_text name chars) file
+-- for a strike of a title and characters
+abbrev pub opened_of : List ℕ → ℕ → Title → List ℕ → Opening
+opened_of file ppem title chars = opened_after ppem (checked_text title chars) file
 
 -- for one character
 abbrev pub opened_one_of : List ℕ → ℕ → ℕ → Opening
@@ -204,17 +222,17 @@ setting_of file ppem hinting = do
   opened ← opened_at file ppem
   setting_in opened hinting
 
--- the strike of an opened font, a name and characters, or the first cause why there is none
-unfoldable pub plan_in : Opened → List ℕ → List ℕ → Bool → Result Plan Refusal
-plan_in opened name chars hinting = do
+-- the strike of an opened font, a title and characters, or the first cause why there is none
+unfoldable pub plan_in : Opened → Title → List ℕ → Bool → Result Plan Refusal
+plan_in opened title chars hinting = do
   setting ← setting_in opened hinting
-  plan_with setting name chars
+  plan_with setting title chars
 
 -- and of a font file
-unfoldable pub plan_of : List ℕ → ℕ → List ℕ → List ℕ → Bool → Result Plan Refusal
-plan_of file ppem name chars hinting = do
-  opened ← opened_of file ppem name chars
-  plan_in opened name chars hinting
+unfoldable pub plan_of : List ℕ → ℕ → Title → List ℕ → Bool → Result Plan Refusal
+plan_of file ppem title chars hinting = do
+  opened ← opened_of file ppem title chars
+  plan_in opened title chars hinting
 
 -- the sketch of a code point of an opened font, none if the font lacks it; or the first cause
 unfoldable pub one_in : Opened → ℕ → Bool → Result (Option Sketch) Refusal
@@ -222,7 +240,7 @@ one_in opened code hinting = do
   setting ← setting_in opened hinting
   one_with setting code
 
--- and of a font file: it is refused as the strike of that one character is, but for its name
+-- and of a font file: it is refused as the strike of that one character is, but for its title
 unfoldable pub one_of : List ℕ → ℕ → ℕ → Bool → Result (Option Sketch) Refusal
 one_of file ppem code hinting = do
   opened ← opened_one_of file ppem code
@@ -257,4 +275,4 @@ header_of plan glyphs = record {
 
 -- the text of a strike with these glyphs
 unfoldable pub strike_text : Plan → List Glyph → List ℕ
-strike_text plan glyphs = header_text plan.name (header_of plan glyphs) ++ (flat_map glyph_text glyphs ++ end_text)
+strike_text plan glyphs = header_text plan.name plan.properties (header_of plan glyphs) ++ (flat_map glyph_text glyphs ++ end_text)

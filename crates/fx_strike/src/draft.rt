@@ -1,11 +1,13 @@
 //! A strike that was surveyed, and is not written yet.
 
-use fx_bdf::Header;
+use fx_bdf::{Header, Property};
 
-/// A strike that was surveyed, and is not written yet: its name, the numbers of its header, and its code points in rising order.
+/// A strike that was surveyed, and is not written yet: its name, its properties beside FONT_ASCENT and
+/// FONT_DESCENT, the numbers of its header, and its code points in rising order.
 #[derive(Clone, Copy)]
 pub(crate) struct Draft<'d> {
     pub name: &'d str,
+    pub properties: &'d [Property<'d>],
     pub header: Header,
     pub codes: &'d [u32],
 }

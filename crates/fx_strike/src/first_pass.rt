@@ -5,6 +5,7 @@ ghost use Rattle.fx_request.specs.Characters.{rising};
 ghost use Rattle.fx_contour.specs.Contours.{IsInReach, spans_of};
 ghost use Rattle.fx_contour.specs.Frames.{NothingOutsideFrame};
 ghost use Rattle.fx_bdf.specs.Glyphs.{IsPlaced};
+ghost use Rattle.fx_strike.specs.Title.{Title};
 ghost use Rattle.fx_strike.specs.Strike.{Sketch, pixels, setting_with, glyph_sketch_of, plan_with};
 ghost use Rattle.fx_strike.specs.inner.Drawing.{IsSketchedOf};
 ghost use Rattle.fx_strike.specs.inner.Surveying.{Joins, SeesOne, Sees, Surveys, survey_from};
@@ -111,7 +112,7 @@ impl<'a, S: Scan> Tools<'a, S> {
         Ok(seen)
     }
 
-    /// The survey of the strike of code points in rising order, whatever its name.
+    /// The survey of the strike of code points in rising order, whatever its title.
     pub(crate) fn survey_codes(
         &self,
         hinter: &mut FontHinter<'_>,
@@ -119,14 +120,14 @@ impl<'a, S: Scan> Tools<'a, S> {
     ) -> Result<Survey, Refusal>
         requires few { length codes.now ≤ max_characters }
         ensures kept { hinter.new ≡ hinter.old }
-        ensures survey { (name chars : List ℕ) → codes.now ≡ rising chars
-            → Surveys (plan_with (setting_with self.now.opened hinter.old) name chars) result }
+        ensures survey { (title : Title) (chars : List ℕ) → codes.now ≡ rising chars
+            → Surveys (plan_with (setting_with self.now.opened hinter.old) title chars) result }
     {
         let seen = self.see(hinter, codes)?;
         Ok(survey_from(hinter.prelude(), &self.opened, seen))
     }
 
-    /// The survey of the strike of characters, whatever its name.
+    /// The survey of the strike of characters, whatever its title.
     pub(crate) fn survey_chars(
         &self,
         hinter: &mut FontHinter<'_>,
@@ -134,7 +135,7 @@ impl<'a, S: Scan> Tools<'a, S> {
     ) -> Result<Survey, Refusal>
         requires few { length chars.now ≤ max_characters }
         ensures kept { hinter.new ≡ hinter.old }
-        ensures survey { (name : List ℕ) → Surveys (plan_with (setting_with self.now.opened hinter.old) name chars.now) result }
+        ensures survey { (title : Title) → Surveys (plan_with (setting_with self.now.opened hinter.old) title chars.now) result }
     {
         let codes = rising_codes(self.alloc, chars)?;
         self.survey_codes(hinter, &codes)

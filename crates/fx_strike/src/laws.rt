@@ -19,7 +19,7 @@ pub fn part()
     ensures { PartIsOne }
 {}
 
-/// One character is the part of a strike of that character alone, or is refused as that strike is, whatever its name.
+/// One character is the part of a strike of that character alone, or is refused as that strike is, whatever its title.
 pub fn one()
     ensures { OneIsOfStrike }
 {}

@@ -3,14 +3,17 @@ ghost use Rattle.std.specs.Prelude.{◌≡◌, ◌||◌, nat_lt, length, IfErr, 
 ghost use Rattle.std.specs.List.{list_any};
 ghost use Rattle.fx_fixed.specs.Chain.{wanted};
 ghost use Rattle.fx_fixed.specs.Sizes.{ppem_of};
+ghost use Rattle.fx_bdf.specs.Properties.{AreProperties, seen_properties};
 ghost use Rattle.fx_bdf.specs.Text.{IsName};
 ghost use Rattle.fx_request.specs.Limits.{max_characters, max_code};
-ghost use Rattle.fx_strike.specs.Strike.{checked_chars, checked_text, font_with_map, opened_one_of, opened_at};
+ghost use Rattle.fx_strike.specs.Title.{titled};
+ghost use Rattle.fx_strike.specs.Strike.{checked_chars, checked_properties, checked_text, checked_title, font_with_map};
+ghost use Rattle.fx_strike.specs.Strike.{opened_one_of, opened_at};
 ghost use Rattle.fx_strike.specs.inner.Surveying.{AreChars};
 ghost use Rattle.fx_strike.specs.Headline.{IsCause, opening_of};
 
 use crate::opened::Opened;
-use fx_bdf::check_name;
+use fx_bdf::{Property, check_name, first_bad};
 use fx_cmap::CharMap;
 use fx_fixed::Ppem;
 use fx_request::{MAX_CHARACTERS, MAX_CODE, Refusal, Request};
@@ -54,19 +57,48 @@ pub(crate) fn check_chars(chars: &[u32]) -> Result<(), Refusal>
     Ok(())
 }
 
-/// Whether characters and a name are within their limits.
-#[tactic(auto, unfolding(crate::specs::Strike::checked_text))]
-pub(crate) fn check_text(name: &str, chars: &[u32]) -> Result<(), Refusal>
-    ensures due { result ≡ checked_text name.now chars.now }
+/// Whether properties are good.
+#[tactic(auto, unfolding(crate::specs::Strike::checked_properties))]
+fn check_properties(properties: &[Property<'_>]) -> Result<(), Refusal>
+    ensures due { result ≡ checked_properties (seen_properties properties.now) }
     ensures named { IfErr result IsCause }
-    ensures passed { OnOk result (AreChars chars.now) }
-    ensures name { OnOk result (IsName name.now) }
+    ensures good { OnOk result (AreProperties (seen_properties properties.now)) }
 {
-    check_chars(chars)?;
+    match first_bad(properties) {
+        Some(i) => Err(Refusal::BadProperty(i as u32 + 1)),
+        None => Ok(()),
+    }
+}
+
+/// Whether a name and properties are within their limits.
+#[tactic(auto, unfolding(crate::specs::Strike::checked_title))]
+fn check_title(name: &str, properties: &[Property<'_>]) -> Result<(), Refusal>
+    ensures due { result ≡ checked_title (titled name.now properties.now) }
+    ensures named { IfErr result IsCause }
+    ensures name { OnOk result (IsName name.now) }
+    ensures good { OnOk result (AreProperties (seen_properties properties.now)) }
+{
     if check_name(name).is_err() {
         return Err(Refusal::BadName);
     }
-    Ok(())
+    check_properties(properties)
+}
+
+/// Whether characters, a name and properties are within their limits.
+#[tactic(auto, unfolding(crate::specs::Strike::checked_text))]
+pub(crate) fn check_text(
+    name: &str,
+    properties: &[Property<'_>],
+    chars: &[u32],
+) -> Result<(), Refusal>
+    ensures due { result ≡ checked_text (titled name.now properties.now) chars.now }
+    ensures named { IfErr result IsCause }
+    ensures passed { OnOk result (AreChars chars.now) }
+    ensures name { OnOk result (IsName name.now) }
+    ensures good { OnOk result (AreProperties (seen_properties properties.now)) }
+{
+    check_chars(chars)?;
+    check_title(name, properties)
 }
 
 /// A font with its character map.
@@ -87,9 +119,10 @@ pub(crate) fn open<'a>(file: &'a [u8], request: &Request<'_>) -> Result<Opened<'
     ensures named { IfErr result IsCause }
     ensures passed { OnOk result (AreChars request.now.chars.now) }
     ensures name { OnOk result (IsName request.now.name.now) }
+    ensures good { OnOk result (AreProperties (seen_properties request.now.properties.now)) }
 {
     let ppem = sized(request.ppem)?;
-    check_text(request.name, request.chars)?;
+    check_text(request.name, request.properties, request.chars)?;
     let (font, map) = font_with_map(file)?;
     Ok(Opened { ppem, font, map })
 }

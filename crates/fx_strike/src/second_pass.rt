@@ -3,6 +3,7 @@ ghost use Rattle.std.specs.Prelude.{◌≡◌, ◌≤◌, ◌<◌, ◌^◌, ◌+
 ghost use Rattle.std.specs.List.{list_any};
 ghost use Rattle.fx_fixed.specs.Texts.{Adds, length_of};
 ghost use Rattle.fx_cmap.specs.Lookup.{glyph_for};
+ghost use Rattle.fx_bdf.specs.Properties.{AreProperties, seen_properties};
 ghost use Rattle.fx_bdf.specs.Text.{IsName, header_text, end_text, longest_glyph};
 ghost use Rattle.fx_request.specs.Limits.{max_characters, max_code};
 ghost use Rattle.fx_fixed.specs.Changes.{change_of};
@@ -79,6 +80,7 @@ impl<'a, S: Scan> Tools<'a, S> {
     ) -> Result<(), Refusal>
         requires faults { text.old.faults < 2 ^ 63 }
         requires name { IsName draft.now.name.now }
+        requires properties { AreProperties (seen_properties draft.now.properties.now) }
         requires few { length draft.now.codes.now ≤ max_characters }
         requires small { list_any (nat_lt max_code) draft.now.codes.now ≡ false }
         ensures kept { hinter.new ≡ hinter.old }
@@ -86,9 +88,11 @@ impl<'a, S: Scan> Tools<'a, S> {
         ensures ended { OnOk result (text.new.waiting ≡ []) }
         ensures short { IsShort (length_of text.old + longest_text) text.new result }
         ensures lines { (lines : List ℕ) → AreAllLinesOf (setting_with self.now.opened hinter.old) draft.now.codes.now lines
-            → Adds Stops text.old text.new (header_text draft.now.name.now draft.now.header ++ (lines ++ end_text)) result }
+            → Adds Stops text.old text.new
+            (header_text draft.now.name.now (seen_properties draft.now.properties.now) draft.now.header ++ (lines ++ end_text))
+            result }
     {
-        write_header(draft.name, &draft.header, text)?;
+        write_header(draft.name, draft.properties, &draft.header, text)?;
         self.write_all(hinter, draft.codes, text)?;
         write_end(text)?;
         Ok(text.end()?)
@@ -103,12 +107,14 @@ impl<'a, S: Scan> Tools<'a, S> {
     ) -> Result<(), Refusal>
         requires faults { W.fault_count out.old < 2 ^ 63 }
         requires name { IsName draft.now.name.now }
+        requires properties { AreProperties (seen_properties draft.now.properties.now) }
         requires few { length draft.now.codes.now ≤ max_characters }
         requires small { list_any (nat_lt max_code) draft.now.codes.now ≡ false }
         ensures kept { hinter.new ≡ hinter.old }
         ensures text { (lines : List ℕ) → AreAllLinesOf (setting_with self.now.opened hinter.old) draft.now.codes.now lines
             → Writes (change_of W.held W.fault_count out.old out.new)
-            (header_text draft.now.name.now draft.now.header ++ (lines ++ end_text)) result }
+            (header_text draft.now.name.now (seen_properties draft.now.properties.now) draft.now.header ++ (lines ++ end_text))
+            result }
     {
         let mut text = TextWriter::new(out);
         let result = self.write_parts(hinter, draft, &mut text);

@@ -1,10 +1,12 @@
 //! A font at a size, ready to make its characters.
 ghost use Rattle.std.specs.Prelude.{◌≡◌, ◌<◌, ◌^◌, ◌≤◌, ℕ, List, [], ◌∷◌, Ok, IfOk, IfErr, IsErrOf, length};
 ghost use Rattle.fx_fixed.specs.Chain.{GivesUnless};
+ghost use Rattle.fx_bdf.specs.Properties.{AreProperties, seen_properties};
 ghost use Rattle.fx_bdf.specs.Text.{IsName};
 ghost use Rattle.fx_request.specs.Limits.{max_characters};
 ghost use Rattle.fx_fixed.specs.Changes.{change_of};
 ghost use Rattle.fx_strike.specs.Faults.{Fails};
+ghost use Rattle.fx_strike.specs.Title.{Title, titled};
 ghost use Rattle.fx_strike.specs.Strike.{setting_in, setting_of, opened_at, checked_chars, checked_text, plan_with, one_with};
 ghost use Rattle.fx_strike.specs.Headline.{IsOneOf, Surveyed, Makes, Leaves, Late, strike_with, nameless_with, character_with};
 ghost use Rattle.fx_strike.specs.inner.Drawing.{Finds};
@@ -15,7 +17,7 @@ use crate::open::{check_chars, check_text, open_at};
 use crate::opened::Opened;
 use crate::surveyed::Survey;
 use crate::tools::Tools;
-use fx_bdf::BitGlyph;
+use fx_bdf::{BitGlyph, Property};
 use fx_fixed::Sink;
 use fx_request::{Refusal, Report};
 use fx_rows::Rows;
@@ -128,7 +130,7 @@ impl<'a, S: Scan> Striker<'a, S> {
         self.glyph_checked(code)
     }
 
-    /// Surveys the strike of characters, whatever its name: the numbers of its header, and what is counted over it.
+    /// Surveys the strike of characters, whatever its name and properties: the numbers of its header, and what is counted over it.
     ///
     /// It is refused as the strike is, but for its name and the writer.
     pub fn survey(&mut self, chars: &[u32]) -> Result<Survey, Refusal>
@@ -147,24 +149,25 @@ impl<'a, S: Scan> Striker<'a, S> {
 
     /// Makes the strike of characters and writes its text, in two passes as `make_strike_with` does.
     ///
-    /// The first cause is returned, in this order: the characters, the name; then the characters in rising order. `OutOfMemory`
-    /// may be returned in place of any step after the name, and of none before it. After `WriteFailed(n)` the writer holds the
+    /// The first cause is returned, in this order: the characters, the name, the properties; then the characters in rising order.
+    /// `OutOfMemory` may be returned in place of any step after the properties, and of none before them. After `WriteFailed(n)` the writer holds the
     /// first n bytes of the text; after any other refusal but `OutOfMemory` nothing was written.
     pub fn write<W: Sink>(
         &mut self,
         name: &str,
+        properties: &[Property<'_>],
         chars: &[u32],
         out: &mut W,
     ) -> Result<Report, Refusal>
         requires { W.fault_count out.old < 2 ^ 63 }
         // Five clauses: `text`, `cause`, `memory`, `late` and `writer`.
-        ensures made { Makes (checked_text name.now chars.now) (strike_with self.old name.now chars.now)
-            (change_of W.held W.fault_count out.old out.new) result }
+        ensures made { Makes (checked_text (titled name.now properties.now) chars.now)
+            (strike_with self.old (titled name.now properties.now) chars.now) (change_of W.held W.fault_count out.old out.new) result }
         // Nothing of it has a part in what is made next.
         ensures kept { self.new ≡ self.old }
     {
-        check_text(name, chars)?;
-        self.write_checked(name, chars, out)
+        check_text(name, properties, chars)?;
+        self.write_checked(name, properties, chars, out)
     }
 
     /// The glyph of a code point within the limit.
@@ -178,7 +181,7 @@ impl<'a, S: Scan> Striker<'a, S> {
     /// The survey of characters within their limits.
     pub(crate) fn survey_checked(&mut self, chars: &[u32]) -> Result<Survey, Refusal>
         requires few { length chars.now ≤ max_characters }
-        ensures survey { (name : List ℕ) → Surveys (plan_with self.old name chars.now) result }
+        ensures survey { (title : Title) → Surveys (plan_with self.old title chars.now) result }
         ensures kept { self.new ≡ self.old }
     {
         self.tools.survey_chars(&mut self.hinter, chars)
@@ -188,16 +191,19 @@ impl<'a, S: Scan> Striker<'a, S> {
     pub(crate) fn write_checked<W: Sink>(
         &mut self,
         name: &str,
+        properties: &[Property<'_>],
         chars: &[u32],
         out: &mut W,
     ) -> Result<Report, Refusal>
         requires faults { W.fault_count out.old < 2 ^ 63 }
         requires chars { AreChars chars.now }
         requires name { IsName name.now }
-        ensures leaves { Leaves {Y = Unit {0}} (Ok tt) (plan_with self.old name.now chars.now)
+        requires properties { AreProperties (seen_properties properties.now) }
+        ensures leaves { Leaves {Y = Unit {0}} (Ok tt) (plan_with self.old (titled name.now properties.now) chars.now)
             (change_of W.held W.fault_count out.old out.new) result }
         ensures kept { self.new ≡ self.old }
     {
-        self.tools.write_strike(&mut self.hinter, name, chars, out)
+        self.tools
+            .write_strike(&mut self.hinter, name, properties, chars, out)
     }
 }

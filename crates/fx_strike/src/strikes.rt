@@ -1,7 +1,9 @@
 //! From characters to what a striker makes of them, once the checks passed.
 ghost use Rattle.std.specs.Prelude.{◌≡◌, ◌<◌, ◌^◌, ℕ, List, Ok, IfOk};
+ghost use Rattle.fx_bdf.specs.Properties.{AreProperties, seen_properties};
 ghost use Rattle.fx_bdf.specs.Text.{IsName};
 ghost use Rattle.fx_fixed.specs.Changes.{change_of};
+ghost use Rattle.fx_strike.specs.Title.{titled};
 ghost use Rattle.fx_strike.specs.Strike.{setting_with, plan_with, one_with};
 ghost use Rattle.fx_strike.specs.Headline.{Leaves};
 ghost use Rattle.fx_strike.specs.inner.Drawing.{Finds};
@@ -10,7 +12,7 @@ ghost use Rattle.fx_strike.specs.inner.Surveying.{AreChars};
 use crate::draft::Draft;
 use crate::hinter::FontHinter;
 use crate::tools::Tools;
-use fx_bdf::BitGlyph;
+use fx_bdf::{BitGlyph, Property};
 use fx_fixed::Sink;
 use fx_request::{Refusal, Report, rising_codes};
 use fx_winding::Scan;
@@ -39,21 +41,24 @@ impl<'a, S: Scan> Tools<'a, S> {
         &self,
         hinter: &mut FontHinter<'_>,
         name: &str,
+        properties: &[Property<'_>],
         chars: &[u32],
         out: &mut W,
     ) -> Result<Report, Refusal>
         requires faults { W.fault_count out.old < 2 ^ 63 }
         requires chars { AreChars chars.now }
         requires name { IsName name.now }
+        requires properties { AreProperties (seen_properties properties.now) }
         ensures kept { hinter.new ≡ hinter.old }
-        ensures leaves { Leaves {Y = Unit {0}} (Ok tt) (plan_with (setting_with self.now.opened hinter.old) name.now chars.now)
-            (change_of W.held W.fault_count out.old out.new) result }
+        ensures leaves { Leaves {Y = Unit {0}} (Ok tt)
+            (plan_with (setting_with self.now.opened hinter.old) (titled name.now properties.now) chars.now) (change_of W.held W.fault_count out.old out.new) result }
     {
         let codes = rising_codes(self.alloc, chars)?;
         let survey = self.survey_codes(hinter, &codes)?;
         let header = survey.header(self.opened.ppem);
         let draft = Draft {
             name,
+            properties,
             header,
             codes: &codes,
         };

@@ -60,6 +60,7 @@ reasons_are_names (refusal.GlyphTooLarge _) = refl
 reasons_are_names refusal.BadSize = refl
 reasons_are_names refusal.BadChars = refl
 reasons_are_names refusal.BadName = refl
+reasons_are_names (refusal.BadProperty _) = refl
 reasons_are_names (refusal.WriteFailed _) = refl
 reasons_are_names refusal.ReadFailed = refl
 reasons_are_names refusal.BadHex = refl

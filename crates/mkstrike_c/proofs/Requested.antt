@@ -10,13 +10,17 @@ use Rattle.fx_fixed.specs.Chain.{◌>>=◌, refuse, wanted, map_ok}
 use Rattle.fx_fixed.specs.Sizes.{ppem_of}
 use Rattle.fx_sfnt.specs.Tables.{Face}
 use Rattle.fx_cmap.specs.declared.mapping.Mapping.{Mapping}
-use Rattle.fx_bdf.specs.Text.{is_name, is_printed}
+use Rattle.fx_bdf.specs.Printed.{is_printed}
+use Rattle.fx_bdf.specs.Properties.{first_bad_after}
+use Rattle.fx_bdf.specs.Text.{is_name}
 use Rattle.fx_bdf.specs.declared.header.Header.{Header}
 use Rattle.fx_request.specs.declared.refusal.Refusal.{Refusal}
 use Rattle.fx_request.specs.declared.refusal.Refusal.TheVariants.{BadSize, BadName, OutOfMemory}
 use Rattle.fx_request.specs.Characters.{rising}
 use Rattle.fx_strike.specs.declared.opened.Opened.{Opened}
-use Rattle.fx_strike.specs.Strike.{Opening, Plan, checked_chars, checked_text, font_with_map, opened_after, opened_of, opened_at}
+use Rattle.fx_strike.specs.Title.{Title}
+use Rattle.fx_strike.specs.Strike.{Opening, Plan, checked_chars, checked_properties, checked_text, checked_title, font_with_map}
+use Rattle.fx_strike.specs.Strike.{opened_after, opened_of, opened_at}
 use Rattle.fx_strike.specs.Strike.{machine_for, setting_in, plan_with, plan_in, plan_of}
 use Rattle.fx_strike.specs.Headline.{Late, Surveyed}
 use Rattle.fx_strike.specs.Faults.{Fails}
@@ -24,7 +28,7 @@ use Rattle.fx_strike.specs.declared.surveyed.Survey.{Survey}
 use Rattle.fx_strike.proofs.Sketching.{fails_on}
 use Rattle.mkstrike_c.specs.declared.heights.Heights.{Heights}
 use Rattle.mkstrike_c.specs.Heights.{heights_at, heights_of, surveyed_heights}
-use Rattle.mkstrike_c.specs.Made.{AreNamesAlike}
+use Rattle.mkstrike_c.specs.Made.{AreNamesAlike, plain}
 use Rattle.mkstrike_c.specs.Refused.{IsReason}
 
 -- ---- a name that is none
@@ -52,7 +56,7 @@ no_text name other = inr (not_name name other, refl)
 
 -- the checks of characters and a name, and an opening after checks
 abbrev with_name : Bool → Result (Unit {0}) Refusal → Result (Unit {0}) Refusal
-with_name b r = r >>= λ _. refuse (not b) BadName
+with_name b r = r >>= λ _. refuse (not b) BadName >>= λ _. Ok tt
 
 abbrev pub opening : Result ℕ Refusal → Result (Unit {0}) Refusal → Result (Face × Mapping) Refusal → Opening
 opening r checks f = r >>= λ size. checks >>= λ _. f >>= λ font. Ok (record { ppem = size; font = font.0; map = font.1 })
@@ -71,40 +75,40 @@ stopped (Ok size) (Ok u) f g h = refl
 stopped (Ok size) (Err e) f g h = refl
 stopped (Err e) k f g h = refl
 
-none_checked : (a chars : List ℕ) → is_name a ≡ false → checked_text a chars ≡ (checked_chars chars >>= λ _. Err BadName)
-unfolding checked_text
+none_checked : (a chars : List ℕ) → is_name a ≡ false → checked_text (plain a) chars ≡ (checked_chars chars >>= λ _. Err BadName)
+unfolding checked_text checked_title checked_properties first_bad_after
 none_checked a chars p = unnamed (checked_chars chars) (is_name a) p
 
 none_opened : (file : List ℕ) (ppem : ℕ) (a chars : List ℕ) → is_name a ≡ false
-    → opened_of file ppem a chars ≡ opened_after ppem (checked_chars chars >>= λ _. Err BadName) file
+    → opened_of file ppem (plain a) chars ≡ opened_after ppem (checked_chars chars >>= λ _. Err BadName) file
 none_opened file ppem a chars p =
     ap (λ (k : Result (Unit {0}) Refusal). opened_after ppem k file) (none_checked a chars p)
 
 pub same_opened : (file : List ℕ) (ppem : ℕ) (a b chars : List ℕ) → AreNamesAlike a b
-    → opened_of file ppem b chars ≡ opened_of file ppem a chars
-same_opened file ppem a b chars (inl same) = ap (λ (n : List ℕ). opened_of file ppem n chars) same
+    → opened_of file ppem (plain b) chars ≡ opened_of file ppem (plain a) chars
+same_opened file ppem a b chars (inl same) = ap (λ (n : List ℕ). opened_of file ppem (plain n) chars) same
 same_opened file ppem a b chars (inr none) =
     none_opened file ppem b chars none.1 ∙ sym (none_opened file ppem a chars none.0)
 
 pub same_plan : (file : List ℕ) (ppem : ℕ) (a b chars : List ℕ) (hinting : Bool) → AreNamesAlike a b
-    → plan_of file ppem b chars hinting ≡ plan_of file ppem a chars hinting
+    → plan_of file ppem (plain b) chars hinting ≡ plan_of file ppem (plain a) chars hinting
 unfolding opened_after plan_of
-same_plan file ppem a b chars hinting (inl same) = ap (λ (n : List ℕ). plan_of file ppem n chars hinting) same
+same_plan file ppem a b chars hinting (inl same) = ap (λ (n : List ℕ). plan_of file ppem (plain n) chars hinting) same
 same_plan file ppem a b chars hinting (inr none) =
-    ap (λ (o : Opening). o >>= λ o. plan_in o b chars hinting) (none_opened file ppem b chars none.1)
-    ∙ stopped (wanted (ppem_of ppem) BadSize) (checked_chars chars) (font_with_map file) (λ o. plan_in o b chars hinting)
-    (λ o. plan_in o a chars hinting)
-    ∙ sym (ap (λ (o : Opening). o >>= λ o. plan_in o a chars hinting) (none_opened file ppem a chars none.0))
+    ap (λ (o : Opening). o >>= λ o. plan_in o (plain b) chars hinting) (none_opened file ppem b chars none.1)
+    ∙ stopped (wanted (ppem_of ppem) BadSize) (checked_chars chars) (font_with_map file) (λ o. plan_in o (plain b) chars hinting)
+    (λ o. plan_in o (plain a) chars hinting)
+    ∙ sym (ap (λ (o : Opening). o >>= λ o. plan_in o (plain a) chars hinting) (none_opened file ppem a chars none.0))
 
 -- ---- a strike's opening
 
 -- a font with a strike was opened
-pub opened_if_made : (file : List ℕ) (ppem : ℕ) (name chars : List ℕ) (hinting : Bool) (plan : Plan)
-    → plan_of file ppem name chars hinting ≡ Ok plan → IsOk (opened_of file ppem name chars)
+pub opened_if_made : (file : List ℕ) (ppem : ℕ) (title : Title) (chars : List ℕ) (hinting : Bool) (plan : Plan)
+    → plan_of file ppem title chars hinting ≡ Ok plan → IsOk (opened_of file ppem title chars)
 unfolding plan_of
-opened_if_made file ppem name chars hinting plan made = by_opening (opened_of file ppem name chars) made
+opened_if_made file ppem title chars hinting plan made = by_opening (opened_of file ppem title chars) made
   where
-    by_opening : (o : Opening) → (o >>= λ o. plan_in o name chars hinting) ≡ Ok plan → IsOk o
+    by_opening : (o : Opening) → (o >>= λ o. plan_in o title chars hinting) ≡ Ok plan → IsOk o
     by_opening (Ok o) h = refl
     by_opening (Err e) h = absurd (cc)
 
@@ -113,11 +117,11 @@ opened_if_made file ppem name chars hinting plan made = by_opening (opened_of fi
 abbrev pub heights_in : Plan → Heights
 heights_in plan = record { ascent = plan.ascent; descent = plan.descent }
 
-abbrev pub no_name : List ℕ
-no_name = codes "heights"
+abbrev pub no_name : Title
+no_name = plain (codes "heights")
 
 pub heights_are : (file : List ℕ) (ppem : ℕ) → heights_of file ppem ≡ map_ok heights_in (plan_of file ppem no_name [] false)
-unfolding heights_of plan_of opened_after checked_text checked_chars is_name plan_in setting_in machine_for plan_with rising
+unfolding heights_of plan_of opened_after checked_text checked_title checked_properties first_bad_after checked_chars is_name plan_in setting_in machine_for plan_with rising
 heights_are file ppem = by_size (wanted (ppem_of ppem) BadSize)
   where
     by_font : (size : ℕ) (f : Result (Face × Mapping) Refusal)
@@ -141,7 +145,7 @@ some_heights file ppem survey s =
 
 -- and the one is opened as the other is
 pub heights_opened : (file : List ℕ) (ppem : ℕ) → opened_at file ppem ≡ opened_of file ppem no_name []
-unfolding checked_text checked_chars is_name
+unfolding checked_text checked_title checked_properties first_bad_after checked_chars is_name
 heights_opened file ppem = refl
 
 -- and refused as the other is

@@ -1,9 +1,10 @@
 -- What a call from C that makes a strike returns and leaves. `old` and `new` are the caller's buffer before and after.
-use Rattle.std.specs.Prelude.{◌≡◌, ◌⊎◌, ℕ, false, List, length, take, drop, Option, Some, Result, Ok}
+use Rattle.std.specs.Prelude.{◌≡◌, ◌⊎◌, ℕ, false, List, [], length, take, drop, Option, Some, Result, Ok}
 use Rattle.fx_bdf.specs.Glyphs.{Glyph}
 use Rattle.fx_bdf.specs.Text.{is_name}
 use Rattle.fx_request.specs.declared.refusal.Refusal.{Refusal}
 use Rattle.fx_request.specs.declared.request.Report.{Report}
+use Rattle.fx_strike.specs.Title.{Title}
 use Rattle.fx_strike.specs.Strike.{Plan, AreGlyphsOf, strike_text}
 use Rattle.fx_strike.specs.Headline.{IsReportOf}
 use Rattle.mkstrike_c.specs.declared.making.Told.{Told}
@@ -24,6 +25,10 @@ HoldsText strike held report = (text : List ℕ) × (held ≡ Some text) × IsTe
 -- the same name; or both are none
 abbrev pub AreNamesAlike : List ℕ → List ℕ → Type 0
 AreNamesAlike a b = (b ≡ a) ⊎ ((is_name a ≡ false) × (is_name b ≡ false))
+
+-- what a strike of C is called: it has no properties beside FONT_ASCENT and FONT_DESCENT
+abbrev pub plain : List ℕ → Title
+plain name = record { name = name; properties = [] }
 
 -- what C is told of a strike
 abbrev pub told_of : List ℕ → Report → Told

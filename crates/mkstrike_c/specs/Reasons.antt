@@ -28,7 +28,7 @@ abbrev pub row_50 : List (List ℕ)
 row_50 = words (codes "Unknown TooFar GlyphTooLarge Unknown Unknown Unknown Unknown Unknown Unknown Unknown")
 
 abbrev pub row_60 : List (List ℕ)
-row_60 = words (codes "BadSize BadChars BadName Unknown Unknown Unknown Unknown Unknown Unknown Unknown")
+row_60 = words (codes "BadSize BadChars BadName BadProperty Unknown Unknown Unknown Unknown Unknown Unknown")
 
 abbrev pub row_70 : List (List ℕ)
 row_70 = words (codes "WriteFailed ReadFailed BadHex InputTooLarge Unknown Unknown Unknown Unknown Unknown Unknown")

@@ -38,6 +38,7 @@ fn heights_of(alloc: Global, font: &[u8], ppem: u16) -> Result<Heights, Refusal>
     let request = Request {
         ppem,
         name: "heights",
+        properties: &[],
         chars: &[],
         hinting: false,
     };

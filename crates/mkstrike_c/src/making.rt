@@ -2,7 +2,7 @@
 ghost use Rattle.std.specs.Prelude.{◌≡◌, ◌<◌, IfOk, IfErr};
 ghost use Rattle.fx_strike.specs.Strike.{opened_of, plan_of};
 ghost use Rattle.fx_strike.specs.Headline.{opening_of, strike_of};
-ghost use Rattle.mkstrike_c.specs.Made.{AreNamesAlike, HoldsText, IsMade, told_of};
+ghost use Rattle.mkstrike_c.specs.Made.{AreNamesAlike, HoldsText, IsMade, plain, told_of};
 ghost use Rattle.mkstrike_c.specs.Refused.{IsReason, IsRefused};
 
 use crate::buffer::put_front;
@@ -74,14 +74,15 @@ fn text_for(
     chars: &[u32],
     name: &[u8],
 ) -> Result<(TextSink, Report), Refusal>
-    ensures text { IfOk result (λ made. HoldsText (plan_of font.now ppem name.now chars.now hinting)
+    ensures text { IfOk result (λ made. HoldsText (plan_of font.now ppem (plain name.now) chars.now hinting)
         (⟦<TextSink as Sink>⟧.held made.0) made.1) }
-    ensures refused { IfErr result (IsReason (opened_of font.now ppem name.now chars.now)
-        (plan_of font.now ppem name.now chars.now hinting)) }
+    ensures refused { IfErr result (IsReason (opened_of font.now ppem (plain name.now) chars.now)
+        (plan_of font.now ppem (plain name.now) chars.now hinting)) }
 {
     let request = Request {
         ppem,
         name: name_of(name),
+        properties: &[],
         chars,
         hinting,
     };
@@ -103,10 +104,10 @@ pub extern "C" fn mkstrike_make(
     refused: &mut Refused,
 ) -> u32
     // The strike exists, and as much of its text as fits was copied.
-    ensures made { result ≡ 0 → IsMade (plan_of font.now ppem name.now chars.now hinting) out.old out.new told.new }
+    ensures made { result ≡ 0 → IsMade (plan_of font.now ppem (plain name.now) chars.now hinting) out.old out.new told.new }
     // The first cause was named; or memory was refused, after the request passed its checks and the font and its map opened.
-    ensures refused { 0 < result → IsRefused (opened_of font.now ppem name.now chars.now)
-        (plan_of font.now ppem name.now chars.now hinting) result refused.new }
+    ensures refused { 0 < result → IsRefused (opened_of font.now ppem (plain name.now) chars.now)
+        (plan_of font.now ppem (plain name.now) chars.now hinting) result refused.new }
     // A refusal leaves the buffer and what is told as they were, and a strike the refusal's fields.
     ensures kept { 0 < result → (out.new ≡ out.old) × (told.new ≡ told.old) }
     ensures silent { result ≡ 0 → refused.new ≡ refused.old }

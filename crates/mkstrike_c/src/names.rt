@@ -24,7 +24,7 @@ const NAMES: [&str; 91] = [
     "Unknown", "TooFar", "GlyphTooLarge", "Unknown", "Unknown",
     "Unknown", "Unknown", "Unknown", "Unknown", "Unknown",
     // 60
-    "BadSize", "BadChars", "BadName", "Unknown", "Unknown",
+    "BadSize", "BadChars", "BadName", "BadProperty", "Unknown",
     "Unknown", "Unknown", "Unknown", "Unknown", "Unknown",
     // 70
     "WriteFailed", "ReadFailed", "BadHex", "InputTooLarge", "Unknown",

@@ -111,6 +111,7 @@ fn fields(number: u32, refusal: Refusal) -> Refused
         | Refusal::BadSize
         | Refusal::BadChars
         | Refusal::BadName
+        | Refusal::BadProperty(_)
         | Refusal::WriteFailed(_)
         | Refusal::ReadFailed
         | Refusal::BadHex

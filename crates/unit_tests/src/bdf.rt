@@ -3,7 +3,9 @@
 ghost use Rattle.std.specs.Prelude.{◌≡◌, length};
 ghost use Rattle.fx_winding.specs.Bitmaps.{words_for, AreRowWords};
 
-use fx_bdf::{BadName, BitGlyph, Bounds, Header, Row, check_name, write_end, write_glyph, write_header};
+use fx_bdf::{
+    BadName, BitGlyph, Bounds, Header, Row, check_name, first_bad, write_end, write_glyph, write_header,
+};
 use fx_fixed::{Limits, MemorySink, Sink, TextWriter, WriteFailed};
 use fx_winding::{Bitmap, Frame, MAX_SIDE, set_bit};
 use std::alloc::Global;
@@ -201,11 +203,12 @@ fn write_strike<W: Sink>(rt: &impl Abort, glyphs: &[BitGlyph], out: &mut W) -> R
     };
     assert!(rt; out.faults() < 9);
     assert!(rt; check_name("F1").is_ok());
+    assert!(rt; first_bad(&[]).is_none());
     assert!(rt; glyphs[0].code() <= 0x10FFFF);
     assert!(rt; glyphs[1].code() <= 0x10FFFF);
     assert!(rt; glyphs[2].code() <= 0x10FFFF);
     let mut text = TextWriter::new(out);
-    write_header("F1", &header, &mut text)?;
+    write_header("F1", &[], &header, &mut text)?;
     write_glyph(&glyphs[0], &mut text)?;
     write_glyph(&glyphs[1], &mut text)?;
     write_glyph(&glyphs[2], &mut text)?;

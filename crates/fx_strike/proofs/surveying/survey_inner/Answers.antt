@@ -1,4 +1,5 @@
 use Rattle.std.proofs.lemmas.Result.{err_from_is_err_and}
+use Rattle.fx_strike.specs.Title.{title_of}
 use Rattle.fx_strike.proofs.Making.{surveys_err, surveys_along, fails_cause}
 use Rattle.fx_strike.proofs.Prepared.{is_ok, plan_unopened, plan_unset, plan_set}
 use Rattle.fx_strike.proofs.surveying.survey_inner.Goals as goal
@@ -22,8 +23,9 @@ returns-in_err-striker-clause-late g c memory = is_ok _ _ (c.in_ok-opened.ensure
 pub returns-clause-survey : goal.returns-clause-survey
 returns-clause-survey g c =
     surveys_along _ _ c.survey_checked.result
-    (plan_set _ _ c.args.request.now.name.now _ c.args.request.now.hinting _ _ (c.in_ok-opened.ensures).due c.in_ok-striker.ensures)
-    (c.survey_checked.ensures.survey c.args.request.now.name.now)
+    (plan_set _ _ (title_of c.args.request.now) _ c.args.request.now.hinting _ _
+    (c.in_ok-opened.ensures).due c.in_ok-striker.ensures)
+    (c.survey_checked.ensures.survey (title_of c.args.request.now))
 
 pub returns-clause-late : goal.returns-clause-late
 returns-clause-late g c memory = is_ok _ _ (c.in_ok-opened.ensures).due

@@ -1,7 +1,7 @@
 use Rattle.std.proofs.Common.{subst, Some, IfOk, IfErr, Result}
 use Rattle.fx_request.specs.declared.refusal.Refusal.{Refusal}
 use Rattle.fx_strike.specs.Strike.{Opening, Plan, opened_of, plan_of}
-use Rattle.mkstrike_c.specs.Made.{HoldsText}
+use Rattle.mkstrike_c.specs.Made.{HoldsText, plain}
 use Rattle.mkstrike_c.specs.Refused.{IsReason}
 use Rattle.mkstrike_c.proofs.Requested.{same_opened, same_plan}
 use Rattle.mkstrike_c.proofs.making.text_for.Goals as goal
@@ -20,7 +20,7 @@ returns-clause-refused c =
     c.name_of.ensures in
     let P : Result Plan Refusal → Type 0 =
     λ strike. IfErr c.text_of.result
-    (IsReason (opened_of c.args.font.now c.args.ppem c.name_of.result.now c.args.chars.now) strike) in
+    (IsReason (opened_of c.args.font.now c.args.ppem (plain c.name_of.result.now) c.args.chars.now) strike) in
     let Q : Opening → Type 0 = λ opening. IfErr c.text_of.result (IsReason opening
-    (plan_of c.args.font.now c.args.ppem c.args.name.now c.args.chars.now c.args.hinting)) in
+    (plan_of c.args.font.now c.args.ppem (plain c.args.name.now) c.args.chars.now c.args.hinting)) in
     subst Q opened (subst P made c.text_of.ensures.refused)

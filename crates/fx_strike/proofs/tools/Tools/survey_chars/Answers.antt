@@ -7,5 +7,5 @@ survey_codes-requires g c =
     record { few = few_rising c.args.chars.now c.deref.result.now (c.deref.ensures.value ∙ c.in_ok-codes.ensures) c.requires.few }
 
 pub returns-clause-survey : goal.returns-clause-survey
-returns-clause-survey g c name =
-    c.survey_codes.ensures.survey name c.args.chars.now (c.deref.ensures.value ∙ c.in_ok-codes.ensures)
+returns-clause-survey g c title =
+    c.survey_codes.ensures.survey title c.args.chars.now (c.deref.ensures.value ∙ c.in_ok-codes.ensures)

@@ -2,6 +2,7 @@ use Rattle.std.proofs.Common.{◌∙◌, refl, nat_lt, Ok}
 use Rattle.std.proofs.lemmas.Result.{err_from_is_err_and}
 use Rattle.fx_request.specs.Limits.{max_code}
 use Rattle.fx_request.proofs.Rising.{few_rising, small_rising}
+use Rattle.fx_strike.specs.Title.{titled}
 use Rattle.fx_strike.proofs.Making.{keeps_same, not_surveyed}
 use Rattle.fx_strike.proofs.Lines.{leaves_unwritten, leaves_written}
 use Rattle.fx_strike.proofs.tools.Tools.write_strike.Goals as goal
@@ -25,21 +26,27 @@ returns-in_err-survey-clause-leaves g c =
     let p = err_from_is_err_and c.from_residual-in_err-survey.result c.from_residual-in_err-survey.ensures.1 in
     not_surveyed {Y = Unit {0}} (Ok (tt {0})) _ _ c.from_residual-in_err-survey.result p.0 c.in_err-survey.field-0.0 refl
     (keeps_same _) refl p.1 p.2
-    ((c.in_err-survey.ensures).survey c.args.name.now c.args.chars.now (c.deref.ensures.value ∙ c.in_ok-codes.ensures))
+    ((c.in_err-survey.ensures).survey (titled c.args.name.now c.args.properties.now) c.args.chars.now
+    (c.deref.ensures.value ∙ c.in_ok-codes.ensures))
 
 pub returns-in_err-write_text-clause-leaves : goal.returns-in_err-write_text-clause-leaves
 returns-in_err-write_text-clause-leaves g c =
     let p = err_from_is_err_and c.from_residual-in_err-write_text.result c.from_residual-in_err-write_text.ensures.1 in
     let w = rw (c.in_ok-survey.ensures).kept at (c.in_err-write_text.ensures).text in
-    leaves_unwritten {Y = Unit {0}} (Ok (tt {0})) _ c.args.name.now c.args.chars.now c.deref-2.result.now _
-    c.in_ok-survey.survey c.header-header.result c.from_residual-in_err-write_text.result p.0 c.in_err-write_text.field-0.0 refl p.1 p.2
+    leaves_unwritten {Y = Unit {0}} (Ok (tt {0})) _
+    (titled c.args.name.now c.args.properties.now) c.args.chars.now c.deref-2.result.now _
+    c.in_ok-survey.survey c.header-header.result c.from_residual-in_err-write_text.result p.0
+    c.in_err-write_text.field-0.0 refl p.1 p.2
     (c.deref-2.ensures.value ∙ c.in_ok-codes.ensures) c.header-header.ensures
-    ((c.in_ok-survey.ensures).survey c.args.name.now c.args.chars.now (c.deref.ensures.value ∙ c.in_ok-codes.ensures)) w
+    ((c.in_ok-survey.ensures).survey (titled c.args.name.now c.args.properties.now) c.args.chars.now
+    (c.deref.ensures.value ∙ c.in_ok-codes.ensures)) w
 
 pub returns-clause-leaves : goal.returns-clause-leaves
 returns-clause-leaves g c =
     let w = rw (c.in_ok-survey.ensures).kept at (c.in_ok-write_text.ensures).text in
-    leaves_written {Y = Unit {0}} (Ok (tt {0})) _ c.args.name.now c.args.chars.now c.deref-2.result.now _
+    leaves_written {Y = Unit {0}} (Ok (tt {0})) _
+    (titled c.args.name.now c.args.properties.now) c.args.chars.now c.deref-2.result.now _
     c.in_ok-survey.survey c.header-header.result
     (c.deref-2.ensures.value ∙ c.in_ok-codes.ensures) c.header-header.ensures
-    ((c.in_ok-survey.ensures).survey c.args.name.now c.args.chars.now (c.deref.ensures.value ∙ c.in_ok-codes.ensures)) w
+    ((c.in_ok-survey.ensures).survey (titled c.args.name.now c.args.properties.now) c.args.chars.now
+    (c.deref.ensures.value ∙ c.in_ok-codes.ensures)) w

@@ -1,0 +1,168 @@
+-- The first bad property, one property after another; and how long the lines of good ones are.
+-- Serves `first_bad` and `write_header`.
+use Rattle.std.proofs.Common.{◌≡◌, ◌∙◌, ℕ, ◌+◌, ◌*◌, ◌^◌, ◌<◌, ◌≤◌, ℤ, pos, negsuc, Bool, true, false, List, [], ◌∷◌, ◌++◌, length}
+use Rattle.std.proofs.Common.{zero, suc, take, drop, get_or, refl, sym, ap, ap₂, arith, Option, Some, None, length-append}
+use Rattle.std.proofs.lemmas.List.{length-map, length-take-le, drop_all}
+use Rattle.std.proofs.lemmas.Option.{none-some}
+use Rattle.std.specs.Prelude.{if◌then◌else◌, ◌==◌, nat_lt, nat_le}
+use Rattle.std.specs.List.{flat_map, list_all}
+use Rattle.std.specs.Fmt.{signed_decimal}
+use Rattle.std.proofs.lemmas.Bool.{and_parts, ltb-true, leb-true}
+use Rattle.std.proofs.lemmas.Fmt.{length_signed_le}
+use Rattle.fx_bdf.specs.Printed.{is_printed}
+use Rattle.fx_bdf.specs.Properties.{PropertyView, ValueView, number, text, doubled, quoted, value_text, property_text}
+use Rattle.fx_bdf.specs.Properties.{AreProperties, first_bad, first_bad_after, is_integer, is_string, is_value, is_word, may_follow}
+use Rattle.fx_bdf.specs.Properties.{seen_properties, seen_property}
+use Rattle.fx_bdf.specs.declared.property.Property.{Property}
+
+-- ---- the first bad one
+
+abbrev chosen : Bool → Option ℕ → ℕ → Option ℕ
+chosen b more n = if b then more else Some n
+
+first_bad_after-cons : (before : List PropertyView) (p : PropertyView) (ps : List PropertyView)
+    → first_bad_after before (p ∷ ps) ≡ chosen (may_follow before p) (first_bad_after (before ++ p ∷ []) ps) (length before)
+unfolding first_bad_after
+first_bad_after-cons before p ps = refl
+
+first_bad_after-nil : (before : List PropertyView) → first_bad_after before [] ≡ None
+unfolding first_bad_after
+first_bad_after-nil before = refl
+
+-- one property more is good, or it is the first bad one
+next_taken : {X : Type 0} (xs : List X) (i : ℕ) (d : X) → i < length xs → take i xs ++ get_or xs i d ∷ [] ≡ take (i + 1) xs
+next_taken {X} xs i d h = let next : suc i ≡ i + 1 = omega arith in by xs i h ∙ ap (λ n. take n xs) next
+  where
+    by : (xs : List X) (i : ℕ) → i < length xs → take i xs ++ get_or xs i d ∷ [] ≡ take (suc i) xs
+    by [] i h = absurd (omega arith)
+    by (x ∷ xs) zero h = refl
+    by (x ∷ xs) (suc i) h = ap (λ t. x ∷ t) (by xs i (omega arith))
+
+next_left : {X : Type 0} (xs : List X) (i : ℕ) (d : X) → i < length xs → drop i xs ≡ get_or xs i d ∷ drop (i + 1) xs
+next_left {X} xs i d h = let next : suc i ≡ i + 1 = omega arith in by xs i h ∙ ap (λ n. get_or xs i d ∷ drop n xs) next
+  where
+    by : (xs : List X) (i : ℕ) → i < length xs → drop i xs ≡ get_or xs i d ∷ drop (suc i) xs
+    by [] i h = absurd (omega arith)
+    by (x ∷ xs) zero h = refl
+    by (x ∷ xs) (suc i) h = by xs i (omega arith)
+
+seen_with : (ps : List Property) (p : Property) → seen_properties ps ++ seen_property p ∷ [] ≡ seen_properties (ps ++ p ∷ [])
+seen_with [] p = refl
+seen_with (q ∷ qs) p = ap (λ ps. seen_property q ∷ ps) (seen_with qs p)
+
+-- what is left once the properties before one are good
+abbrev pub left_after : List Property → ℕ → Option ℕ
+left_after ps i = first_bad_after (seen_properties (take i ps)) (seen_properties (drop i ps))
+
+left_is : (ps : List Property) (i : ℕ) (d : Property) → i < length ps
+    → left_after ps i ≡ chosen (may_follow (seen_properties (take i ps)) (seen_property (get_or ps i d))) (left_after ps (i + 1)) i
+left_is ps i d h =
+    let good = may_follow (seen_properties (take i ps)) (seen_property (get_or ps i d)) in
+    let count : length (seen_properties (take i ps)) ≡ i =
+    length-map (take i ps) seen_property ∙ length-take-le i ps (omega (arith, h)) in
+    let front : seen_properties (take i ps) ++ seen_property (get_or ps i d) ∷ [] ≡ seen_properties (take (i + 1) ps) =
+    seen_with (take i ps) (get_or ps i d) ∙ ap seen_properties (next_taken ps i d h) in
+    ap (λ (qs : List Property). first_bad_after (seen_properties (take i ps)) (seen_properties qs)) (next_left ps i d h)
+    ∙ first_bad_after-cons _ _ _
+    ∙ ap₂ (λ (qs : List PropertyView) (n : ℕ). chosen good (first_bad_after qs (seen_properties (drop (i + 1) ps))) n) front count
+
+pub left_all : (ps : List Property) → first_bad (seen_properties ps) ≡ left_after ps 0
+left_all ps = refl
+
+pub left_more : (ps : List Property) (i : ℕ) (d : Property) → i < length ps
+    → may_follow (seen_properties (take i ps)) (seen_property (get_or ps i d)) ≡ true → left_after ps i ≡ left_after ps (i + 1)
+left_more ps i d h good = left_is ps i d h ∙ ap (λ (b : Bool). chosen b (left_after ps (i + 1)) i) good
+
+pub left_bad : (ps : List Property) (i : ℕ) (d : Property) → i < length ps
+    → may_follow (seen_properties (take i ps)) (seen_property (get_or ps i d)) ≡ false → left_after ps i ≡ Some i
+left_bad ps i d h bad = left_is ps i d h ∙ ap (λ (b : Bool). chosen b (left_after ps (i + 1)) i) bad
+
+pub left_none : (ps : List Property) (i : ℕ) → length ps ≤ i → left_after ps i ≡ None
+left_none ps i h =
+    ap (λ (qs : List Property). first_bad_after (seen_properties (take i ps)) (seen_properties qs)) (drop_all i ps h)
+    ∙ first_bad_after-nil _
+
+-- ---- how long a line is
+
+doubled_long : (c : ℕ) → length (doubled c) ≤ 2
+doubled_long c = by (c == 34)
+  where
+    by : (b : Bool) → length (if b then 34 ∷ 34 ∷ [] else c ∷ []) ≤ 2
+    by true = omega arith
+    by false = omega arith
+
+all_doubled_long : (string : List ℕ) → length (flat_map doubled string) ≤ 2 * length string
+all_doubled_long [] = omega arith
+all_doubled_long (c ∷ cs) =
+    omega (arith, doubled_long c, all_doubled_long cs, length-append (doubled c) (flat_map doubled cs))
+
+quoted_long : (string : List ℕ) → is_string string ≡ true → length (quoted string) ≤ 64002
+unfolding is_string quoted
+quoted_long string h =
+    let few = leb-true (length string) 32000 (and_parts (nat_le (length string) 32000) (list_all is_printed string) h).0 in
+    omega (arith, few, all_doubled_long string, length-append (flat_map doubled string) (34 ∷ []))
+
+integer_long : (n : ℤ) → is_integer n ≡ true → length (signed_decimal n) ≤ 11
+integer_long (pos n) h = length_signed_le 10 (pos n) (omega (arith, ltb-true n (2 ^ 31) h)) (omega (arith, ltb-true n (2 ^ 31) h))
+integer_long (negsuc n) h =
+    length_signed_le 10 (negsuc n) (omega (arith, ltb-true n (2 ^ 31) h)) (omega (arith, ltb-true n (2 ^ 31) h))
+
+value_long : (value : ValueView) → is_value value ≡ true → length (value_text value) ≤ 64002
+value_long (number n) h = omega (arith, integer_long n h)
+value_long (text string) h = quoted_long string h
+
+word_long : (name : List ℕ) → is_word name ≡ true → length name ≤ 64
+unfolding is_word
+word_long name h = leb-true (length name) 64 (and_parts (nat_le (length name) 64) _ (and_parts (nat_lt 0 (length name)) _ h).1).0
+
+line_long : (before : List PropertyView) (p : PropertyView) → may_follow before p ≡ true
+    → (length before < 64) × (length (property_text p) ≤ 64068)
+unfolding may_follow
+line_long before p h =
+    let room = and_parts (nat_lt (length before) 64) _ h in
+    let word = and_parts (is_word p.name) _ room.1 in
+    let value = and_parts (is_value p.value) _ word.1 in (
+      ltb-true (length before) 64 room.0,
+      omega (
+        arith,
+        word_long p.name word.0,
+        value_long p.value value.0,
+        length-append p.name (32 ∷ (value_text p.value ++ 10 ∷ [])),
+        length-append (value_text p.value) (10 ∷ []),
+      ),
+    )
+
+-- there is room for one property more
+pub left_room : (ps : List Property) (i : ℕ) (p : PropertyView) → i < length ps
+    → may_follow (seen_properties (take i ps)) p ≡ true → i + 1 ≤ 64
+left_room ps i p h good =
+    let count : length (seen_properties (take i ps)) ≡ i =
+    length-map (take i ps) seen_property ∙ length-take-le i ps (omega (arith, h)) in
+    omega (arith, count, (line_long (seen_properties (take i ps)) p good).0)
+
+-- ---- all lines
+
+pub lines_long : (before ps : List PropertyView) → first_bad_after before ps ≡ None → length before ≤ 64
+    → (length before + length ps ≤ 64) × (length (flat_map property_text ps) ≤ 64068 * length ps)
+lines_long before [] h few = (omega (arith, few), omega arith)
+lines_long before (p ∷ ps) h few =
+    by (may_follow before p) refl (sym (first_bad_after-cons before p ps) ∙ h) (lines_long (before ++ p ∷ []) ps)
+  where
+    by : (b : Bool) → may_follow before p ≡ b → chosen b (first_bad_after (before ++ p ∷ []) ps) (length before) ≡ None
+        → (first_bad_after (before ++ p ∷ []) ps ≡ None → length (before ++ p ∷ []) ≤ 64
+        → (length (before ++ p ∷ []) + length ps ≤ 64) × (length (flat_map property_text ps) ≤ 64068 * length ps))
+        → (length before + length (p ∷ ps) ≤ 64) × (length (flat_map property_text (p ∷ ps)) ≤ 64068 * length (p ∷ ps))
+    by true good more others =
+        let here = line_long before p good in
+        let front : length (before ++ p ∷ []) ≡ length before + 1 = length-append before (p ∷ []) in
+        let rest = others more (omega (arith, front, here.0)) in (
+          omega (arith, front, rest.0),
+          omega (arith, here.1, rest.1, length-append (property_text p) (flat_map property_text ps)),
+        )
+    by false good more others = absurd (none-some _ (sym more))
+
+pub few_properties : (ps : List PropertyView) → AreProperties ps → length ps ≤ 64
+few_properties ps h = omega (arith, (lines_long [] ps h (omega arith)).0)
+
+pub properties_long : (ps : List PropertyView) → AreProperties ps → length (flat_map property_text ps) ≤ 4100352
+properties_long ps h = let l = lines_long [] ps h (omega arith) in omega (arith, l.0, l.1)

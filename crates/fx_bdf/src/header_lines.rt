@@ -1,0 +1,145 @@
+//! Writing the lines before the glyphs.
+
+ghost use Rattle.std.specs.Prelude.{◌≡◌, ◌<◌, ◌≤◌, ◌^◌, length};
+ghost use Rattle.std.specs.List.{flat_map};
+ghost use Rattle.fx_fixed.specs.Texts.{Adds, Fails};
+ghost use Rattle.fx_bdf.specs.Properties.{AreProperties, doubled, most_properties, property_text, quoted, seen_properties};
+ghost use Rattle.fx_bdf.specs.Properties.{seen_property, seen_value, value_text};
+ghost use Rattle.fx_bdf.specs.Text.{IsName, front_text, header_text, longest_header};
+
+use crate::header::Header;
+use crate::property::{Property, Value};
+use fx_fixed::{Digits, Sink, TextWriter, WriteFailed};
+
+/// Adds the lines up to FONT_DESCENT. STARTPROPERTIES counts `count` properties that follow it, FONT_ASCENT and FONT_DESCENT.
+#[tactic(auto, unfolding(crate::specs::Text::front_text))]
+fn add_front<W: Sink>(
+    name: &str,
+    count: usize,
+    header: &Header,
+    text: &mut TextWriter<'_, W>,
+) -> Result<(), WriteFailed>
+    requires faults { text.old.faults < 2 ^ 63 }
+    requires name { IsName name.now }
+    requires count { count ≤ most_properties }
+    ensures text { Adds Fails text.old text.new (front_text name.now count header.now) result }
+    ensures short { length (front_text name.now count header.now) ≤ 1000 }
+{
+    text.add(&[
+        b"STARTFONT 2.1\nFONT ",
+        name.as_bytes(),
+        b"\nSIZE ",
+        Digits::unsigned(u64::from(header.ppem)).text(),
+        b" 72 72\nFONTBOUNDINGBOX ",
+        Digits::unsigned(u64::from(header.bounds.width)).text(),
+        b" ",
+        Digits::unsigned(u64::from(header.bounds.height)).text(),
+        b" ",
+        Digits::signed(header.bounds.left).text(),
+        b" ",
+        Digits::signed(header.bounds.bottom).text(),
+        b"\nSTARTPROPERTIES ",
+        Digits::unsigned(2 + count as u64).text(),
+        b"\nFONT_ASCENT ",
+        Digits::signed(header.ascent).text(),
+        b"\nFONT_DESCENT ",
+        Digits::signed(header.descent).text(),
+        b"\n",
+    ])
+}
+
+/// A character of a text, as it stands between quotation marks.
+fn doubled(byte: &u8) -> &[u8]
+    ensures { result.now ≡ doubled byte.now }
+{
+    if *byte == b'"' {
+        b"\"\""
+    } else {
+        std::slice::from_ref(byte)
+    }
+}
+
+/// Adds the characters of a text, each quotation mark twice.
+fn add_doubled<W: Sink>(string: &[u8], text: &mut TextWriter<'_, W>) -> Result<(), WriteFailed>
+    requires { text.old.faults < 2 ^ 63 }
+    ensures { Adds Fails text.old text.new (flat_map doubled string.now) result }
+{
+    // The characters so far were added.
+    'characters: for byte in string {
+        text.add(&[doubled(byte)])?;
+    }
+    Ok(())
+}
+
+/// Adds a text between quotation marks.
+#[tactic(auto, unfolding(crate::specs::Properties::quoted))]
+fn add_quoted<W: Sink>(string: &str, text: &mut TextWriter<'_, W>) -> Result<(), WriteFailed>
+    requires { text.old.faults < 2 ^ 63 }
+    ensures { Adds Fails text.old text.new (quoted string.now) result }
+{
+    text.add(&[b"\""])?;
+    add_doubled(string.as_bytes(), text)?;
+    text.add(&[b"\""])
+}
+
+/// Adds a property's value.
+fn add_value<W: Sink>(value: Value<'_>, text: &mut TextWriter<'_, W>) -> Result<(), WriteFailed>
+    requires { text.old.faults < 2 ^ 63 }
+    ensures { Adds Fails text.old text.new (value_text (seen_value value.entry)) result }
+{
+    match value {
+        Value::Number(number) => text.add(&[Digits::signed(number).text()]),
+        Value::Text(string) => add_quoted(string, text),
+    }
+}
+
+/// Adds the line of a property.
+fn add_property<W: Sink>(
+    property: &Property<'_>,
+    text: &mut TextWriter<'_, W>,
+) -> Result<(), WriteFailed>
+    requires { text.old.faults < 2 ^ 63 }
+    ensures { Adds Fails text.old text.new (property_text (seen_property property.now)) result }
+{
+    text.add(&[property.name.as_bytes(), b" "])?;
+    add_value(property.value, text)?;
+    text.add(&[b"\n"])
+}
+
+/// Adds the lines of properties.
+fn add_properties<W: Sink>(
+    properties: &[Property<'_>],
+    text: &mut TextWriter<'_, W>,
+) -> Result<(), WriteFailed>
+    requires { text.old.faults < 2 ^ 63 }
+    ensures { Adds Fails text.old text.new (flat_map property_text (seen_properties properties.now)) result }
+{
+    let mut i = 0;
+    // The lines of the properties before i were added.
+    'properties: while i < properties.len() {
+        add_property(&properties[i], text)?;
+        i += 1;
+    }
+    Ok(())
+}
+
+/// Writes the lines before the glyphs. The properties follow FONT_ASCENT and FONT_DESCENT.
+#[tactic(auto, unfolding(crate::specs::Text::header_text))]
+pub fn write_header<W: Sink>(
+    name: &str,
+    properties: &[Property<'_>],
+    header: &Header,
+    text: &mut TextWriter<'_, W>,
+) -> Result<(), WriteFailed>
+    requires faults { text.old.faults < 2 ^ 63 }
+    requires name { IsName name.now }
+    requires properties { AreProperties (seen_properties properties.now) }
+    ensures text { Adds Fails text.old text.new (header_text name.now (seen_properties properties.now) header.now) result }
+    ensures short { length (header_text name.now (seen_properties properties.now) header.now) ≤ longest_header }
+{
+    let digits = Digits::unsigned(u64::from(header.glyphs));
+    let glyphs = digits.text();
+    add_front(name, properties.len(), header, text)?;
+    add_properties(properties, text)?;
+    text.add(&[b"ENDPROPERTIES\nCHARS ", glyphs, b"\n"])
+}
