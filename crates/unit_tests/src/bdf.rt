@@ -4,7 +4,8 @@ ghost use Rattle.std.specs.Prelude.{◌≡◌, length};
 ghost use Rattle.fx_winding.specs.Bitmaps.{words_for, AreRowWords};
 
 use fx_bdf::{
-    BadName, BitGlyph, Bounds, Header, Row, check_name, first_bad, write_end, write_glyph, write_header,
+    BadName, BitGlyph, Bounds, Header, Row, check_name, first_bad, write_end, write_glyph,
+    write_header,
 };
 use fx_fixed::{Limits, MemorySink, Sink, TextWriter, WriteFailed};
 use fx_winding::{Bitmap, Frame, MAX_SIDE, set_bit};
@@ -267,7 +268,12 @@ fn has_two_rows(glyph: &BitGlyph) -> bool {
 
 /// `#.#######`
 fn is_upper(row: &Row<'_>) -> bool {
-    row.pixel(0) && !row.pixel(1) && row.pixel(8) && !row.pixel(9) && row.byte(0) == 0xBF && is_end(row)
+    row.pixel(0)
+        && !row.pixel(1)
+        && row.pixel(8)
+        && !row.pixel(9)
+        && row.byte(0) == 0xBF
+        && is_end(row)
 }
 
 /// `........#`
