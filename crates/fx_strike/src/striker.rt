@@ -151,7 +151,8 @@ impl<'a, S: Scan> Striker<'a, S> {
     ///
     /// The first cause is returned, in this order: the characters, the name, the properties; then the characters in rising order.
     /// `OutOfMemory` may be returned in place of any step after the properties, and of none before them. After
-    /// `WriteFailed(n)` the writer holds the first n bytes of the text; after any other refusal but `OutOfMemory` nothing was written.
+    /// `WriteFailed(n)` the writer holds the first n bytes of the text; after any other refusal but `OutOfMemory` nothing was
+    /// written.
     pub fn write<W: Sink>(
         &mut self,
         name: &str,
