@@ -81,7 +81,8 @@ is_whole value =
     nat_lt 0 (length (without_leading_sign value)) && (list_all (λ d. nat_lt (digit_value d) 10) (without_leading_sign value)
     && is_integer (signed_digits_value 10 value))
 
-whole_is : (value : Text) → whole_of value ≡ (if has_plus value then None else whole (is_whole value) (signed_digits_value 10 value))
+whole_is : (value : Text)
+    → whole_of value ≡ (if has_plus value then None else whole (is_whole value) (signed_digits_value 10 value))
 unfolding whole_of
 whole_is value = refl
 

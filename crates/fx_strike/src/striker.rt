@@ -150,8 +150,9 @@ impl<'a, S: Scan> Striker<'a, S> {
     /// Makes the strike of characters and writes its text, in two passes as `make_strike_with` does.
     ///
     /// The first cause is returned, in this order: the characters, the name, the properties; then the characters in rising order.
-    /// `OutOfMemory` may be returned in place of any step after the properties, and of none before them. After `WriteFailed(n)` the writer holds the
-    /// first n bytes of the text; after any other refusal but `OutOfMemory` nothing was written.
+    /// `OutOfMemory` may be returned in place of any step after the properties, and of none before them. After
+    /// `WriteFailed(n)` the writer holds the first n bytes of the text; after any other refusal but `OutOfMemory` nothing was
+    /// written.
     pub fn write<W: Sink>(
         &mut self,
         name: &str,
@@ -162,7 +163,8 @@ impl<'a, S: Scan> Striker<'a, S> {
         requires { W.fault_count out.old < 2 ^ 63 }
         // Five clauses: `text`, `cause`, `memory`, `late` and `writer`.
         ensures made { Makes (checked_text (titled name.now properties.now) chars.now)
-            (strike_with self.old (titled name.now properties.now) chars.now) (change_of W.held W.fault_count out.old out.new) result }
+            (strike_with self.old (titled name.now properties.now) chars.now)
+            (change_of W.held W.fault_count out.old out.new) result }
         // Nothing of it has a part in what is made next.
         ensures kept { self.new ≡ self.old }
     {

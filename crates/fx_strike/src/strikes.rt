@@ -51,7 +51,8 @@ impl<'a, S: Scan> Tools<'a, S> {
         requires properties { AreProperties (seen_properties properties.now) }
         ensures kept { hinter.new ≡ hinter.old }
         ensures leaves { Leaves {Y = Unit {0}} (Ok tt)
-            (plan_with (setting_with self.now.opened hinter.old) (titled name.now properties.now) chars.now) (change_of W.held W.fault_count out.old out.new) result }
+            (plan_with (setting_with self.now.opened hinter.old) (titled name.now properties.now) chars.now)
+            (change_of W.held W.fault_count out.old out.new) result }
     {
         let codes = rising_codes(self.alloc, chars)?;
         let survey = self.survey_codes(hinter, &codes)?;

@@ -2,7 +2,7 @@
 -- Serves `name_of`, `text_for`, `text_of`, `heights_of`.
 use Rattle.std.proofs.Common.{◌≡◌, ◌∙◌, refl, sym, ap, subst, inl, inr, arith, true≢false, ℕ, zero, suc, nat_le, nat_lt}
 use Rattle.std.proofs.Common.{Bool, true, false, not, List, [], ◌∷◌, length, Result, Ok, Err, IfErr, codes, IsUtf8, IsAscii}
-use Rattle.std.specs.Prelude.{IsOk}
+use Rattle.std.specs.Prelude.{IsOk, ⊤}
 use Rattle.std.specs.List.{list_all}
 use Rattle.std.proofs.lemmas.Bool.{and_parts, leb-true}
 use Rattle.std.proofs.lemmas.Str.{IsUtf8-from_ascii}
@@ -53,6 +53,11 @@ not_name name other = by_test (is_name name) refl
 pub no_text : (name : List ℕ) → (IsUtf8 name → ⊥) → AreNamesAlike name []
 unfolding is_name
 no_text name other = inr (not_name name other, refl)
+
+-- what the checks of a request compute by
+unfoldable request_checks : ⊤
+unfolding checked_text checked_title checked_properties first_bad_after checked_chars is_name
+request_checks = tt
 
 -- the checks of characters and a name, and an opening after checks
 abbrev with_name : Bool → Result (Unit {0}) Refusal → Result (Unit {0}) Refusal
@@ -121,7 +126,7 @@ abbrev pub no_name : Title
 no_name = plain (codes "heights")
 
 pub heights_are : (file : List ℕ) (ppem : ℕ) → heights_of file ppem ≡ map_ok heights_in (plan_of file ppem no_name [] false)
-unfolding heights_of plan_of opened_after checked_text checked_title checked_properties first_bad_after checked_chars is_name plan_in setting_in machine_for plan_with rising
+unfolding heights_of plan_of opened_after request_checks plan_in setting_in machine_for plan_with rising
 heights_are file ppem = by_size (wanted (ppem_of ppem) BadSize)
   where
     by_font : (size : ℕ) (f : Result (Face × Mapping) Refusal)
@@ -145,7 +150,7 @@ some_heights file ppem survey s =
 
 -- and the one is opened as the other is
 pub heights_opened : (file : List ℕ) (ppem : ℕ) → opened_at file ppem ≡ opened_of file ppem no_name []
-unfolding checked_text checked_title checked_properties first_bad_after checked_chars is_name
+unfolding request_checks
 heights_opened file ppem = refl
 
 -- and refused as the other is
