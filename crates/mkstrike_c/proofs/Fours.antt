@@ -30,7 +30,8 @@ abbrev number : Bool → ℕ
 number b = if b then 1 else 0
 
 four_bytes : (a b c d : Bool)
-    → get_or of_four (8 * number a + 4 * number b + 2 * number c + number d) [] ≡ pixel_of a ∷ pixel_of b ∷ pixel_of c ∷ pixel_of d ∷ []
+    → get_or of_four (8 * number a + 4 * number b + 2 * number c + number d) []
+    ≡ pixel_of a ∷ pixel_of b ∷ pixel_of c ∷ pixel_of d ∷ []
 four_bytes true true true true = refl
 four_bytes true true true false = refl
 four_bytes true true false true = refl
@@ -86,7 +87,8 @@ eight_by_fours row k a b is more =
     let f = row_byte false row in
     let e : k + 4 ≡ k + 1 + 1 + 1 + 1 = omega arith in
     (λ t. is t ++ more t)
-    ∙ (λ t. f k ∷ f (k + 1) ∷ f (k + 1 + 1) ∷ f (k + 1 + 1 + 1) ∷ f (e t) ∷ f (e t + 1) ∷ f (e t + 1 + 1) ∷ f (e t + 1 + 1 + 1) ∷ [])
+    ∙ (λ t. f k ∷ f (k + 1) ∷ f (k + 1 + 1) ∷ f (k + 1 + 1 + 1) ∷ f (e t) ∷ f (e t + 1) ∷ f (e t + 1 + 1)
+    ∷ f (e t + 1 + 1 + 1) ∷ [])
 
 pub each_by_fours : (row : List Bool) (k : ℕ) (a b : List ℕ) → a ≡ map (row_byte false row) (range_with_len k 4)
     → b ≡ map (row_byte false row) (range_with_len (k + 4) 4)

@@ -75,7 +75,8 @@ eight_more row k old new eight long same low is put so_far =
 -- ---- eight bytes put in two steps
 
 pub put_twice : (start : ℕ) (old mid new a b eight : List ℕ) → start + 8 ≤ length old → length a ≡ 4 → length b ≡ 4
-    → mid ≡ take start old ++ (a ++ drop (start + length a) old) → new ≡ take (start + 4) mid ++ (b ++ drop (start + 4 + length b) mid)
+    → mid ≡ take start old ++ (a ++ drop (start + length a) old)
+    → new ≡ take (start + 4) mid ++ (b ++ drop (start + 4 + length b) mid)
     → a ++ b ≡ eight → new ≡ take start old ++ (eight ++ drop (start + 8) old)
 put_twice start old mid new a b eight room four more put again both =
     again
