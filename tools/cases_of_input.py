@@ -176,6 +176,28 @@ def names():
         yield Run("the name %r" % name[:20], MAKE + ["--name=" + name], data, refused("62 BadName"))
 
 
+def properties():
+    """Properties, in the order given, and those that are refused."""
+    data, many = SHORT.data(), ["P%d=%d" % (k, k) for k in range(65)]
+    for given, lines in (
+            (["WEIGHT=10"], ["WEIGHT 10"]), (["X_=-7", "A1=0"], ["X_ -7", "A1 0"]), (["N=2147483647"], ["N 2147483647"]),
+            (["N=2147483648"], ['N "2147483648"']), (["N=-"], ['N "-"']), (["N=+1"], ['N "+1"']), (["N="], ['N ""']),
+            (['CHARSET_ENCODING="1"', "SPACING=M"], ['CHARSET_ENCODING "1"', 'SPACING "M"']), (["A=b=c"], ['A "b=c"']),
+            (['A=say "hi"'], ['A "say ""hi"""']), (['A="'], ['A """"']), (['A=""""'], ['A """"""']), (["B=a b "], ['B "a b "']),
+            (["L" * 64 + "=" + "x" * 32000], ["L" * 64 + ' "' + "x" * 32000 + '"']), (many[:64], [p.replace("=", " ") for p in many[:64]])):
+        words = MAKE + ["--property=" + text for text in given]
+        yield Run("the properties %s" % ", ".join(given)[:40], words, data, SHORT.make([A], 16, properties=lines))
+    for given, position in (
+            (["a=1"], 1), (["=1"], 1), (["1A=1"], 1), (["_=1"], 1), (["A-B=1"], 1), (["FONT_ASCENT=1"], 1), (["A=1", "FONT_DESCENT=1"], 2),
+            (["A=1", "B=1", "A=2"], 3), (["A=1", "b=1", "A=2"], 2), (["L" * 65 + "=1"], 1), (["A=" + "x" * 32001], 1), (["A=a\x7Fb"], 1),
+            (["A=a\tb"], 1), (many, 65)):
+        words = MAKE + ["--property=" + text for text in given]
+        yield Run("the properties %s" % ", ".join(given)[:40], words, data, refused("63 BadProperty %d" % position))
+    yield Run("a property without a value", MAKE + ["--property=A"], data, usage())
+    yield Run("a property in the first line", [], b"make --ppem 16 --chars 41 --property A=1\n" + data,
+              SHORT.make([A], 16, properties=["A 1"]))
+
+
 # ---- inputs ----
 
 def small_inputs_by_pipe():
@@ -239,5 +261,5 @@ def faults_before_the_input_breaks():
 
 
 CASES = [large_inputs_by_pipe, small_inputs_by_pipe, words_that_do_not_parse, words_that_are_no_text,
-         words_that_parse, first_lines, long_lists_on_the_first_line, lists, long_lists, names, hexadecimal,
+         words_that_parse, first_lines, long_lists_on_the_first_line, lists, long_lists, names, properties, hexadecimal,
          broken_inputs, faults_before_the_input_breaks]

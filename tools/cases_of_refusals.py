@@ -259,6 +259,8 @@ def orders():
             ("make --ppem 0 --chars 110000 --name=", b"", "60 BadSize"),
             ("make --ppem 9 --chars 110000 --name=", b"", "61 BadChars"),
             ("make --ppem 9 --chars 41 --name=", b"", "62 BadName"),
+            ("make --ppem 9 --chars 41 --name= --property a=1", b"", "62 BadName"),
+            ("make --ppem 9 --chars 41 --property a=1", b"", "63 BadProperty 1"),
             ("make --ppem 9 --chars 41", b"", "10 NotTrueType"),
             ("make --ppem 0 --chars 41", bad, "60 BadSize"),
             ("show --ppem 0 --char 110000", b"", "60 BadSize"),

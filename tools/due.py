@@ -273,22 +273,22 @@ class Glyph:
         return "\n".join(lines + row_lines(self.bits) + ["ENDCHAR\n"])
 
 
-def header(font, ppem, name, box, count):
-    """The lines before the glyphs."""
+def header(font, ppem, name, box, count, properties):
+    """The lines before the glyphs; `properties` are the lines of those that were asked for."""
     ascent, descent = near(font.ascender * ppem, font.upem), near(-font.descender * ppem, font.upem)
     return "\n".join([
         "STARTFONT 2.1", "FONT %s" % name, "SIZE %d 72 72" % ppem, "FONTBOUNDINGBOX %d %d %d %d" % box,
-        "STARTPROPERTIES 2", "FONT_ASCENT %d" % ascent, "FONT_DESCENT %d" % descent, "ENDPROPERTIES",
-        "CHARS %d\n" % count])
+        "STARTPROPERTIES %d" % (2 + len(properties)), "FONT_ASCENT %d" % ascent, "FONT_DESCENT %d" % descent, *properties,
+        "ENDPROPERTIES", "CHARS %d\n" % count])
 
 
-def strike(font, ppem, found, missing, name=STRIKE, prelude=(0, 0)):
+def strike(font, ppem, found, missing, name=STRIKE, prelude=(0, 0), properties=()):
     """What is due of `make`: of the glyphs that are found for code points, a list of (code, glyph) in rising order.
 
     `prelude` is the steps and strays of the font program and the control value program."""
     tail = functools.cache(lambda glyph: glyph.tail(font.upem))
     box = hull([glyph.bits.box for glyph in {glyph for _, glyph in found}])
-    text = [header(font, ppem, name, box, len(found))]
+    text = [header(font, ppem, name, box, len(found), properties)]
     text += ["STARTCHAR %s\nENCODING %d\n%s" % (name_of(code), code, tail(glyph)) for code, glyph in found]
     text.append("ENDFONT\n")
     steps, strays = (prelude[0] + sum(g.steps for _, g in found), prelude[1] + sum(g.strays for _, g in found))

@@ -145,13 +145,13 @@ class Font:
         steps, strays = self.counts_of_model(model) if hinted else (0, 0)
         return due.Glyph(model.bits(self, ppem, hinted, -start), self.advance, end - start, steps, strays)
 
-    def make(self, codes, ppem, hinted=True, name=due.STRIKE):
-        """What is due of the strike of these code points."""
+    def make(self, codes, ppem, hinted=True, name=due.STRIKE, properties=()):
+        """What is due of the strike of these code points; `properties` are the lines of those that were asked for."""
         codes = sorted(set(codes))
         found = [(code, self.glyph(self.number_of(code), ppem, hinted)) for code in codes if self.number_of(code)]
         before = [code for code in (self.fpgm, self.prep) if code and hinted]
         prelude = (sum(code.steps for code in before), sum(code.strays for code in before))
-        return due.strike(self, ppem, found, len(codes) - len(found), name, prelude)
+        return due.strike(self, ppem, found, len(codes) - len(found), name, prelude, properties)
 
     def show(self, code, ppem, hinted=True):
         """What is due of a character's picture."""
