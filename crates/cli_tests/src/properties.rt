@@ -40,8 +40,10 @@ const GOOD: [(&str, &str); 6] = [
 /// Runs the request with arguments after it, and compares the strike's text.
 fn gives(rt: &impl Abort, alloc: Global, more: &str, lines: &str) -> Result<(), Fail> {
     let arguments = format!(in alloc; "{MAKE}{more}")?;
-    let text = format!(in alloc; "STARTFONT 2.1\nFONT F1\nSIZE 16 72 72\nFONTBOUNDINGBOX 0 0 0 0\nSTARTPROPERTIES {lines}\
-ENDPROPERTIES\nCHARS 0\nENDFONT\n")?;
+    let text = format!(in alloc;
+        "STARTFONT 2.1\nFONT F1\nSIZE 16 72 72\nFONTBOUNDINGBOX 0 0 0 0\nSTARTPROPERTIES {lines}\
+ENDPROPERTIES\nCHARS 0\nENDFONT\n"
+    )?;
     let end: End<'_> = (0, text.as_bytes(), LINE);
     ends(rt, alloc, &arguments, FONT, Limits::NONE, &end)?;
     Ok(())
@@ -62,13 +64,22 @@ const BAD: [(&str, &[u8]); 10] = [
     ("|--property|9A=1", b"mkstrike: 63 BadProperty 1\n"),
     ("|--property|_A=1", b"mkstrike: 63 BadProperty 1\n"),
     ("|--property|A-B=1", b"mkstrike: 63 BadProperty 1\n"),
-    ("|--property|A=1|--property|FONT_ASCENT=1", b"mkstrike: 63 BadProperty 2\n"),
-    ("|--property|FONT_DESCENT=1|--property|=1", b"mkstrike: 63 BadProperty 1\n"),
+    (
+        "|--property|A=1|--property|FONT_ASCENT=1",
+        b"mkstrike: 63 BadProperty 2\n",
+    ),
+    (
+        "|--property|FONT_DESCENT=1|--property|=1",
+        b"mkstrike: 63 BadProperty 1\n",
+    ),
     (
         "|--property|A=1|--property|B=1|--property|A=2|--property|b=1",
         b"mkstrike: 63 BadProperty 3\n",
     ),
-    ("|--property|A=1|--property|B=\x7f", b"mkstrike: 63 BadProperty 2\n"),
+    (
+        "|--property|A=1|--property|B=\x7f",
+        b"mkstrike: 63 BadProperty 2\n",
+    ),
     ("|--property|A=\x1f", b"mkstrike: 63 BadProperty 1\n"),
 ];
 
@@ -76,7 +87,14 @@ const BAD: [(&str, &[u8]); 10] = [
 fn bad_properties(rt: HostRuntime) -> Result<(), Fail> {
     for (more, line) in BAD {
         let arguments = format!(in rt.alloc(); "{MAKE}{more}")?;
-        ends(&rt, rt.alloc(), &arguments, FONT, Limits::NONE, &(1, b"", line))?;
+        ends(
+            &rt,
+            rt.alloc(),
+            &arguments,
+            FONT,
+            Limits::NONE,
+            &(1, b"", line),
+        )?;
     }
     let arguments = format!(in rt.alloc(); "{MAKE}|--property|=1|--property|A")?;
     ends(&rt, rt.alloc(), &arguments, FONT, Limits::NONE, &USAGE)?;
@@ -102,7 +120,14 @@ const BEFORE: [(&str, &[u8]); 3] = [
 #[test]
 fn refused_before_properties(rt: HostRuntime) -> Result<(), Fail> {
     for (arguments, line) in BEFORE {
-        ends(&rt, rt.alloc(), arguments, b"", Limits::NONE, &(1, b"", line))?;
+        ends(
+            &rt,
+            rt.alloc(),
+            arguments,
+            b"",
+            Limits::NONE,
+            &(1, b"", line),
+        )?;
     }
     Ok(())
 }

@@ -83,12 +83,12 @@ make_by size list name given unhinted hex = do
   chars ← wanted (numbers_of_list text) (Early BadChars)
   Ok (record {
     task = strike (record {
-        ppem = ppem;
-        chars = chars;
-        name = unwrap_or name (codes "strike");
-        properties = properties;
-        hinting = not unhinted;
-      });
+      ppem = ppem;
+      chars = chars;
+      name = unwrap_or name (codes "strike");
+      properties = properties;
+      hinting = not unhinted;
+    });
     hex = hex;
   })
 

@@ -101,7 +101,7 @@ fn make_by<'a>(
     hex: bool,
 ) -> Result<Command<'a>, Fault>
     ensures { GivesUnless Refuses seen result (make_by (option_map (λ text. text.now) ppem.entry)
-        (option_map (λ text. text.now) list.entry) (option_map (λ text. text.now) name.entry) 
+        (option_map (λ text. text.now) list.entry) (option_map (λ text. text.now) name.entry)
         (option_map (λ given. texts given.now) given.entry) unhinted hex) }
 {
     let ppem = required_size(ppem)?;

@@ -26,10 +26,7 @@ pub fn given_properties<'a>(
 }
 
 /// The properties of texts, each `NAME=VALUE`. One without `=` is a usage fault.
-fn read_properties<'a>(
-    alloc: Global,
-    given: &[&'a str],
-) -> Result<Vec<Property<'a>>, Fault>
+fn read_properties<'a>(alloc: Global, given: &[&'a str]) -> Result<Vec<Property<'a>>, Fault>
     ensures { GivesUnless Refuses (λ all. seen_properties all.items) result
         (wanted (properties_of (texts given.entry.now)) Usage) }
 {
