@@ -3,10 +3,9 @@
 ghost use Rattle.std.specs.Prelude.{◌≡◌, ◌≢◌, ◌⊎◌, ◌↔◌, ◌<◌, IsTrue, ℤ, ◌+ℤ◌, ◌-ℤ◌, pos, map, true};
 ghost use Rattle.fx_winding.specs.Bitmaps.{bit_of, IsScanOf};
 ghost use Rattle.fx_winding.specs.Dropout.{IsGap, IsBridged, IsSet};
-ghost use Rattle.fx_winding.specs.Frames.{IsFrom, IsInFrame};
+ghost use Rattle.fx_winding.specs.Frames.{IsFrom, IsInFrame, HasMargin};
 ghost use Rattle.fx_winding.specs.Limits.{IsPixelNumber};
 ghost use Rattle.fx_winding.specs.Winding.{span_of};
-ghost use Rattle.fx_dropout.specs.Margins.{HasMargin};
 ghost use Rattle.fx_dropout.specs.inner.Lines.{IsSoFar, IsRowClosed};
 ghost use Rattle.fx_dropout.specs.inner.Turned.{seen_spans, IsSeenInFrame};
 

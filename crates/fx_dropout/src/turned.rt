@@ -2,9 +2,8 @@
 
 ghost use Rattle.std.specs.Prelude.{◌≡◌, ◌≢◌, ◌⊎◌, ◌↔◌, ℤ, true, option_map};
 ghost use Rattle.fx_winding.specs.Dropout.{turned_place};
-ghost use Rattle.fx_winding.specs.Frames.{IsInFrame};
+ghost use Rattle.fx_winding.specs.Frames.{IsInFrame, HasMargin};
 ghost use Rattle.fx_winding.specs.Winding.{place_of, maybe_place_of, span_of};
-ghost use Rattle.fx_dropout.specs.Margins.{HasMargin};
 ghost use Rattle.fx_dropout.specs.inner.Turned.{seen_span, seen_bit, IsSeenInFrame};
 
 use fx_winding::{Bitmap, Frame, Piece, Point};

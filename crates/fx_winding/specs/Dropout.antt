@@ -35,14 +35,21 @@ pub record IsBridge (ss : List Span) (IsInside IsSoFar : ℤ → ℤ → Type 0)
 abbrev pub IsBridged : List Span → (ℤ → ℤ → Type 0) → (ℤ → ℤ → Type 0) → ℤ → ℤ → Type 0
 IsBridged ss IsInside IsSoFar i j = IsSoFar i j ⊎ IsBridge ss IsInside IsSoFar i j
 
--- the pixel is set by its row: its centre is covered, or it closes a gap of the row
-abbrev pub IsRowSet : List Span → Frame → ℤ → ℤ → Type 0
-IsRowSet ss f = IsBridged ss (IsInFrame f) (λ i j. IsCovered (centre i j) ss)
+-- the pixel is set by its row: its centre is covered, or it is inside and closes a gap of the row
+abbrev pub IsRowSetIn : List Span → (ℤ → ℤ → Type 0) → ℤ → ℤ → Type 0
+IsRowSetIn ss IsInside = IsBridged ss IsInside (λ i j. IsCovered (centre i j) ss)
 
 -- the pixel is set: by its row, or it closes a gap that the rows have left open in its column, which is a row of the outline with
 -- its coordinates exchanged
+abbrev pub IsSetIn : List Span → (ℤ → ℤ → Type 0) → ℤ → ℤ → Type 0
+IsSetIn ss IsInside i j = IsBridged (map turned_span ss) (λ j i. IsInside i j) (λ j i. IsRowSetIn ss IsInside i j) j i
+
+-- the same of the pixels of a frame
+abbrev pub IsRowSet : List Span → Frame → ℤ → ℤ → Type 0
+IsRowSet ss f = IsRowSetIn ss (IsInFrame f)
+
 abbrev pub IsSet : List Span → Frame → ℤ → ℤ → Type 0
-IsSet ss f i j = IsBridged (map turned_span ss) (λ j i. IsInFrame f i j) (λ j i. IsRowSet ss f i j) j i
+IsSet ss f = IsSetIn ss (IsInFrame f)
 
 -- the law: drop-out control only adds pixels, and only in the frame
 abbrev pub DropoutAdds : Type 0

@@ -5,7 +5,7 @@ use Rattle.fx_winding.specs.declared.frame.Frame.{Frame}
 use Rattle.fx_winding.specs.Bitmaps.{Bits}
 use Rattle.fx_winding.specs.Frames.{IsInFrame}
 use Rattle.fx_winding.specs.Winding.{span_of}
-use Rattle.fx_dropout.specs.Margins.{HasMargin}
+use Rattle.fx_winding.specs.Frames.{HasMargin}
 use Rattle.fx_dropout.specs.inner.Lines.{IsRowClosed, IsSoFar}
 use Rattle.fx_dropout.specs.inner.Turned.{seen_spans, IsSeenInFrame}
 use Rattle.fx_dropout.proofs.Rows.{rows_none, rows_more, rows_all, bridged_inside}

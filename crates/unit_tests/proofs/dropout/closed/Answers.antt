@@ -1,7 +1,7 @@
 use Rattle.std.proofs.Common.{◌≡◌, sym, subst, arith}
 use Rattle.fx_fixed.proofs.Linear.{signed_linear}
 use Rattle.fx_winding.specs.declared.frame.Frame.{Frame}
-use Rattle.fx_dropout.specs.Margins.{HasMargin}
+use Rattle.fx_winding.specs.Frames.{HasMargin}
 use Rattle.unit_tests.proofs.dropout.closed.Goals as goal
 
 pub close_gaps-requires-clause-margin : goal.close_gaps-requires-clause-margin
