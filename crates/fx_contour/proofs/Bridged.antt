@@ -17,7 +17,7 @@ use Rattle.fx_contour.specs.DropoutFrames.{x_of, y_of, IsExtent, IsKept, IsInDro
 use Rattle.fx_contour.specs.DropoutFrames.{NoRowHasGap, NoColumnHasGap}
 use Rattle.fx_contour.specs.Frames.{HasAny, HaveAny}
 use Rattle.fx_contour.proofs.Extents.{extents, low_at_most, high_at_least}
-use Rattle.fx_contour.proofs.Kept.{kept_of_two}
+use Rattle.fx_contour.proofs.Kept.{kept_of_two, kept_across}
 use Rattle.fx_contour.proofs.Outside.{piece_either}
 
 -- ---- a piece that meets the segment has points on each side of it
@@ -76,12 +76,6 @@ kept_along coord ss low high i e l r =
     elim (kept_of_two low high i (low_at_most coord ss low high _ e l) (high_at_least coord ss low high _ e r))
     [ inl k ↦ inl (low, high, e, k) | inr k ↦ inr (low, high, e, k) ]
 
-kept_across : (coord : Place → ℤ) (ss : List Span) (low high j : ℤ) → IsExtent coord ss low high
-    → HaveAny (λ e. coord e ≤ℤ (pos 128 *ℤ j +ℤ pos 64)) ss → HaveAny (λ e. (pos 128 *ℤ j +ℤ pos 64) ≤ℤ coord e) ss
-    → IsKept coord ss j
-kept_across coord ss low high j e b t =
-    (low, high, e, inl (low_at_most coord ss low high _ e b, high_at_least coord ss low high _ e t))
-
 pub met_rows_are_kept : MetRowsAreKept
 met_rows_are_kept [] i j (k, s, within, is, m) = absurd (omega (arith, within))
 met_rows_are_kept (s ∷ ss) i j a =
@@ -95,7 +89,9 @@ met_columns_are_kept [] i j (k, s, within, is, m) = absurd (omega (arith, within
 met_columns_are_kept (s ∷ ss) i j a =
     let h = any_around (centre j i) (centre (j +ℤ pos 1) i) (map turned_span (s ∷ ss)) refl (next_centre j) a in
     let e = extents s ss in
-    let column = kept_across x_of (s ∷ ss) e.left e.right i e.across (turned_back _ (s ∷ ss) h.bottom) (turned_back _ (s ∷ ss) h.top) in
+    let bottom = turned_back _ (s ∷ ss) h.bottom in
+    let top = turned_back _ (s ∷ ss) h.top in
+    let column = kept_across x_of (s ∷ ss) e.left e.right i e.across bottom top in
     elim (kept_along y_of (s ∷ ss) e.bottom e.top j e.up (turned_back _ (s ∷ ss) h.left) (turned_back _ (s ∷ ss) h.right))
     [ inl k ↦ inl (column, k) | inr k ↦ inr (column, k) ]
 

@@ -143,8 +143,10 @@ pub extents : (s : Span) (ss : List Span) → HaveExtents (s ∷ ss)
 extents s ss =
     let b = with_spans (around s.a) (s ∷ ss) in
     let g = spans_grow (around s.a) (s ∷ ss) in
-    let e = box_extents b.left b.right b.bottom b.top (s ∷ ss)
-    (λ side t. (λ h. (g.sides side t).1 (inr h), λ h. elim ((g.sides side t).0 h) [ inl k ↦ inl (inl (at side t k)) | inr k ↦ k ])) in
+    let e = box_extents b.left b.right b.bottom b.top (s ∷ ss) (λ side t. (
+      λ h. (g.sides side t).1 (inr h),
+      λ h. elim ((g.sides side t).0 h) [ inl k ↦ inl (inl (at side t k)) | inr k ↦ k ],
+    )) in
     record { left = b.left; right = b.right; bottom = b.bottom; top = b.top; across = e.0; up = e.1 }
   where
     at : (side : Side) (t : ℤ) → BoxReaches (around s.a) side t → IsOut side t s.a
@@ -192,7 +194,10 @@ same x y h k = omega (arith, signed_linear, h, k)
 -- two extents are one
 pub one_extent : (coord : Place → ℤ) (ss : List Span) (low high low' high' : ℤ) → IsExtent coord ss low high
     → IsExtent coord ss low' high' → (low ≡ low') × (high ≡ high')
-one_extent coord ss low high low' high' e f = (same low low' (lows low high low' high' e f) (lows low' high' low high f e), same high high' (highs low' high' low high f e) (highs low high low' high' e f))
+one_extent coord ss low high low' high' e f = (
+  same low low' (lows low high low' high' e f) (lows low' high' low high f e),
+  same high high' (highs low' high' low high f e) (highs low high low' high' e f),
+)
   where
     lows : (l h l' h' : ℤ) → IsExtent coord ss l h → IsExtent coord ss l' h' → l ≤ℤ l'
     lows l h l' h' e f =

@@ -17,7 +17,8 @@ use Rattle.fx_contour.specs.declared.pixels.Pixels.{Pixels}
 use Rattle.fx_contour.specs.Bounds.{ArePixels, AreKept}
 use Rattle.fx_contour.specs.Contours.{is_within}
 use Rattle.fx_contour.specs.DropoutFrames.{x_of, y_of, IsExtent, IsMiddleOf, IsKeptIn, IsKept}
-use Rattle.fx_contour.specs.DropoutFrames.{IsDropoutFrameFor, LeavesMargin, farthest_with_margin, leaves_margin, KeepsTooMany, keeps_too_many}
+use Rattle.fx_contour.specs.DropoutFrames.{IsDropoutFrameFor, LeavesMargin, farthest_with_margin, leaves_margin}
+use Rattle.fx_contour.specs.DropoutFrames.{KeepsTooMany, keeps_too_many}
 use Rattle.fx_contour.specs.DropoutFrames.{MarginIsTested, ManyIsTested, SomePixelIsKept, BoxIsKept, CoveredIsKept}
 use Rattle.fx_contour.specs.Frames.{HaveAny, IsCentreIn, AreNoPixels, NothingOutsideFrame, have_any, first_from}
 use Rattle.fx_contour.proofs.Decided.{some_one, more, le_decides, have_decides, within_decides, first_reaches, first_least}
@@ -157,24 +158,19 @@ some_pixel_is_kept (s ∷ ss) h =
     let j = kept_somewhere e.bottom e.top in
     (i.0, j.0, ((e.left, e.right, e.across, i.1), (e.bottom, e.top, e.up, j.1)))
 
+-- what the box comes to on both sides of its centre is kept
+pub kept_across : (coord : Place → ℤ) (ss : List Span) (low high j : ℤ) → IsExtent coord ss low high
+    → HaveAny (λ e. coord e ≤ℤ (pos 128 *ℤ j +ℤ pos 64)) ss → HaveAny (λ e. (pos 128 *ℤ j +ℤ pos 64) ≤ℤ coord e) ss
+    → IsKept coord ss j
+kept_across coord ss low high j e b t =
+    (low, high, e, inl (low_at_most coord ss low high _ e b, high_at_least coord ss low high _ e t))
+
 pub box_is_kept : BoxIsKept
 box_is_kept [] i j h = absurd h.left
 box_is_kept (s ∷ ss) i j h =
-    let e = extents s ss in
-    let x = (centre i j).x in
-    let y = (centre i j).y in (
-      (
-        e.left,
-        e.right,
-        e.across,
-        inl (low_at_most x_of (s ∷ ss) e.left e.right x e.across h.left, high_at_least x_of (s ∷ ss) e.left e.right x e.across h.right),
-      ),
-      (
-        e.bottom,
-        e.top,
-        e.up,
-        inl (low_at_most y_of (s ∷ ss) e.bottom e.top y e.up h.bottom, high_at_least y_of (s ∷ ss) e.bottom e.top y e.up h.top),
-      ),
+    let e = extents s ss in (
+      kept_across x_of (s ∷ ss) e.left e.right i e.across h.left h.right,
+      kept_across y_of (s ∷ ss) e.bottom e.top j e.up h.bottom h.top,
     )
 
 pub covered_is_kept : CoveredIsKept
@@ -226,7 +222,8 @@ far_kept coord ss low high e h =
 kept_far : (coord : Place → ℤ) (ss : List Span) (low high : ℤ) → IsExtent coord ss low high → KeepsTooMany coord ss
     → ReachesFar coord ss
 kept_far coord ss low high e (n, k, l) =
-    let c = far_apart low high n ((kept_in coord ss low high n e).0 k) ((kept_in coord ss low high (n +ℤ pos greatest_side) e).0 l) in
+    let m = n +ℤ pos greatest_side in
+    let c = far_apart low high n ((kept_in coord ss low high n e).0 k) ((kept_in coord ss low high m e).0 l) in
     more (λ q. coord q ≡ low) (λ q. HaveAny (λ r. far_from (coord q) ≤ℤ coord r) ss) ss e.low_is
     (λ q a. more (λ r. coord r ≡ high) (λ r. far_from (coord q) ≤ℤ coord r) ss e.high_is
     (λ r b. by (coord q) (coord r) (first_from (coord q)) a b c.1.1

@@ -8,8 +8,8 @@ use crate::extent::Extent;
 use fx_hint::Outline;
 use fx_winding::{Piece, Point};
 
-/// The greatest distance of a point of a piece from either axis, with drop-out control, in 1/128 pixel: two pixels less than that of
-/// an outline's points.
+/// The greatest distance of a point of a piece from either axis, with drop-out control, in 1/128 pixel: two pixels less than that
+/// of an outline's points.
 const FARTHEST_WITH_MARGIN: i32 = (1 << 22) - 256;
 
 /// The least box that holds some points, in 1/128 pixel.

@@ -36,9 +36,9 @@ pub fn reversal()
     ensures bits { ReversalKeepsBits }
 {}
 
-/// The frame with drop-out control has a pixel wherever there is a piece, all pixels of the frame without, all that are covered, and
-/// one of each two neighbours between whose centres a piece passes. So with drop-out control no stroke is lost anywhere: between
-/// two neighbours in a row or a column, neither of which is set, no piece passes. Its tests decide what they test.
+/// The frame with drop-out control has a pixel wherever there is a piece, all pixels of the frame without, all that are covered,
+/// and one of each two neighbours between whose centres a piece passes. So with drop-out control no stroke is lost anywhere:
+/// between two neighbours in a row or a column, neither of which is set, no piece passes. Its tests decide what they test.
 pub fn dropout()
     ensures margin { MarginIsTested }
     ensures many { ManyIsTested }
