@@ -7,6 +7,7 @@
 
 mod bounds;
 mod curves;
+mod dropout_frames;
 mod extent;
 mod fault;
 mod frames;
@@ -14,5 +15,6 @@ pub mod laws;
 mod pixels;
 
 pub use curves::{pieces, pieces_in_reach};
+pub use dropout_frames::{dropout_frame, pieces_dropout_frame};
 pub use fault::ContourFault;
 pub use frames::{frame, outline_frame};
