@@ -38,7 +38,8 @@ pub fn outline_frame(outline: &Outline) -> Result<Option<Frame>, ContourFault>
     frame_around(outline_bounds(outline)?)
 }
 
-/// The bounding box of the pieces of an outline, if it has any, or `TooFar` if a point of any contour lies too far out.
+/// The bounding box of the pieces of an outline, if it has any pieces, or `TooFar` if a point of any contour lies too far out.
+#[inline]
 pub(crate) fn outline_bounds(outline: &Outline) -> Result<Option<Bounds>, ContourFault>
     ensures ok { IfOk result (λ b. AreBoundsOf b (spans_of outline.now.ends.items outline.now.points.items)) }
     ensures reach { IfOk result (λ _. All IsInReach outline.now.points.items) }
