@@ -15,13 +15,13 @@ fn keeps(rt: &impl Abort, alloc: Global, outline: &Outline, wanted: (i32, i32, u
     Ok(())
 }
 
-/// Hairlines on the border of two rows and of two columns: the lower and the left one. Without drop-out control they have no frame.
+/// Hairlines on the border of two rows and of two columns: the upper and the right one. Without drop-out control they have no frame.
 #[test]
 fn hairlines(rt: HostRuntime) -> Result<(), Fail> {
     let level = outline(rt.alloc(), &[on(0, 64), on(256, 64)], &[1])?;
-    keeps(&rt, rt.alloc(), &level, (0, 0, 4, 1))?;
+    keeps(&rt, rt.alloc(), &level, (0, 1, 4, 1))?;
     let upright = outline(rt.alloc(), &[on(-64, -64), on(-64, 64)], &[1])?;
-    keeps(&rt, rt.alloc(), &upright, (-2, -1, 1, 2))?;
+    keeps(&rt, rt.alloc(), &upright, (-1, -1, 1, 2))?;
     assert!(rt; matches!(outline_frame(&level), Ok(None)));
     Ok(())
 }
@@ -37,7 +37,7 @@ fn a_dot(rt: HostRuntime) -> Result<(), Fail> {
 #[test]
 fn the_widest(rt: HostRuntime) -> Result<(), Fail> {
     let widest = outline(rt.alloc(), &[on(32, 0), on(524_256, 0)], &[1])?;
-    keeps(&rt, rt.alloc(), &widest, (0, -1, 8_192, 1))?;
+    keeps(&rt, rt.alloc(), &widest, (0, 0, 8_192, 1))?;
     let wider = outline(rt.alloc(), &[on(32, 0), on(524_320, 0)], &[1])?;
     assert!(rt; dropout_frame(&wider).err() == Some(ContourFault::TooLarge));
     Ok(())
@@ -47,9 +47,9 @@ fn the_widest(rt: HostRuntime) -> Result<(), Fail> {
 #[test]
 fn the_farthest(rt: HostRuntime) -> Result<(), Fail> {
     let right = outline(rt.alloc(), &[on(2_097_024, 0), on(2_097_024, 32)], &[1])?;
-    keeps(&rt, rt.alloc(), &right, (32_765, 0, 1, 1))?;
+    keeps(&rt, rt.alloc(), &right, (32_766, 0, 1, 1))?;
     let left = outline(rt.alloc(), &[on(-2_097_024, 0), on(-2_097_024, 32)], &[1])?;
-    keeps(&rt, rt.alloc(), &left, (-32_767, 0, 1, 1))?;
+    keeps(&rt, rt.alloc(), &left, (-32_766, 0, 1, 1))?;
     let farther = outline(rt.alloc(), &[on(2_097_025, 0), on(2_097_024, 32)], &[1])?;
     assert!(rt; dropout_frame(&farther).err() == Some(ContourFault::TooFar));
     Ok(())

@@ -40,16 +40,11 @@ floor_high : (z : ℤ) → z ≤ℤ (pos 256 *ℤ int_div_euclid z (pos 256) +�
 floor_high (pos n) = omega (arith, ints)
 floor_high (negsuc n) = omega (arith, ints)
 
-pub middle_is : (low high : ℤ) → IsMiddleOf low high (int_div_euclid ((low +ℤ high) -ℤ pos 1) (pos 256))
-middle_is low high =
-    let s = (low +ℤ high) -ℤ pos 1 in
-    let l = floor_low s in
-    let h = floor_high s in
-    by (int_div_euclid s (pos 256)) l h
+pub middle_is : (low high : ℤ) → IsMiddleOf low high (int_div_euclid (low +ℤ high) (pos 256))
+middle_is low high = by (int_div_euclid (low +ℤ high) (pos 256)) (floor_low (low +ℤ high)) (floor_high (low +ℤ high))
   where
-    by : (n : ℤ) → (pos 256 *ℤ n) ≤ℤ ((low +ℤ high) -ℤ pos 1) → ((low +ℤ high) -ℤ pos 1) ≤ℤ (pos 256 *ℤ n +ℤ pos 255)
-        → IsMiddleOf low high n
-    by n l h = (omega (arith, signed, l), omega (arith, signed, h))
+    by : (n : ℤ) → (pos 256 *ℤ n) ≤ℤ (low +ℤ high) → (low +ℤ high) ≤ℤ (pos 256 *ℤ n +ℤ pos 255) → IsMiddleOf low high n
+    by n l h = (l, omega (arith, signed, h))
 
 -- from the first pixel whose centre does not lie before low on
 none_past : (low high : ℤ) → high <ℤ (pos 128 *ℤ first_from low +ℤ pos 64) → AreNoPixels low high
@@ -64,7 +59,7 @@ kept_somewhere low high = by (below_or_not_ℤ high (pos 128 *ℤ first_from low
   where
     by : (high <ℤ (pos 128 *ℤ first_from low +ℤ pos 64)) ⊎ ((pos 128 *ℤ first_from low +ℤ pos 64) ≤ℤ high)
         → (n : ℤ) × IsKeptIn low high n
-    by (inl h) = (int_div_euclid ((low +ℤ high) -ℤ pos 1) (pos 256), inr (none_past low high h, middle_is low high))
+    by (inl h) = (int_div_euclid (low +ℤ high) (pos 256), inr (none_past low high h, middle_is low high))
     by (inr h) = (first_from low, inl (first_reaches low, h))
 
 -- of two neighbours between whose centres the box comes one is kept
@@ -72,19 +67,19 @@ pub kept_of_two : (low high n : ℤ) → low ≤ℤ (pos 128 *ℤ (n +ℤ pos 1)
     → IsKeptIn low high n ⊎ IsKeptIn low high (n +ℤ pos 1)
 kept_of_two low high n h k =
     by (below_or_not_ℤ (pos 128 *ℤ n +ℤ pos 64) low) (below_or_not_ℤ high (pos 128 *ℤ (n +ℤ pos 1) +ℤ pos 64))
-    (below_or_not_ℤ (pos 256 *ℤ (n +ℤ pos 1)) (low +ℤ high))
+    (below_or_not_ℤ (low +ℤ high) (pos 256 *ℤ (n +ℤ pos 1)))
   where
     none : (pos 128 *ℤ n +ℤ pos 64) <ℤ low → high <ℤ (pos 128 *ℤ (n +ℤ pos 1) +ℤ pos 64) → AreNoPixels low high
     none a b m (c, d) = omega (arith, signed, a, b, c, d)
 
     by : ((pos 128 *ℤ n +ℤ pos 64) <ℤ low) ⊎ (low ≤ℤ (pos 128 *ℤ n +ℤ pos 64))
         → (high <ℤ (pos 128 *ℤ (n +ℤ pos 1) +ℤ pos 64)) ⊎ ((pos 128 *ℤ (n +ℤ pos 1) +ℤ pos 64) ≤ℤ high)
-        → ((pos 256 *ℤ (n +ℤ pos 1)) <ℤ (low +ℤ high)) ⊎ ((low +ℤ high) ≤ℤ (pos 256 *ℤ (n +ℤ pos 1)))
+        → ((low +ℤ high) <ℤ (pos 256 *ℤ (n +ℤ pos 1))) ⊎ ((pos 256 *ℤ (n +ℤ pos 1)) ≤ℤ (low +ℤ high))
         → IsKeptIn low high n ⊎ IsKeptIn low high (n +ℤ pos 1)
     by (inr a) b c = inl (inl (a, k))
     by (inl a) (inr b) c = inr (inl (h, b))
-    by (inl a) (inl b) (inl c) = inr (inr (none a b, (c, omega (arith, signed, h, b))))
-    by (inl a) (inl b) (inr c) = inl (inr (none a b, (omega (arith, signed, a, k), c)))
+    by (inl a) (inl b) (inl c) = inl (inr (none a b, (omega (arith, signed, a, k), c)))
+    by (inl a) (inl b) (inr c) = inr (inr (none a b, (c, omega (arith, signed, h, b))))
 
 -- the middle one alone, where no centre is
 pub kept_alone : (low high n : ℤ) → AreNoPixels low high → IsMiddleOf low high n → (m : ℤ) → IsFrom n 1 m ↔ IsKeptIn low high m

@@ -33,10 +33,9 @@ pub record IsExtent (coord : Place → ℤ) (ss : List Span) (low high : ℤ) : 
   pub high_is : HaveAny (λ q. coord q ≡ high) ss
   pub none_above : ¬ (HaveAny (λ q. high <ℤ coord q) ss)
 
--- the middle of low and high lies in pixel n, whose borders are 128n and 128(n+1); of two pixels at whose border it lies, in the
--- left, or lower, one
+-- the middle of low and high lies in pixel n, which goes from 128n to before 128(n+1)
 abbrev pub IsMiddleOf : ℤ → ℤ → ℤ → Type 0
-IsMiddleOf low high n = ((pos 256 *ℤ n) <ℤ (low +ℤ high)) × ((low +ℤ high) ≤ℤ (pos 256 *ℤ (n +ℤ pos 1)))
+IsMiddleOf low high n = ((pos 256 *ℤ n) ≤ℤ (low +ℤ high)) × ((low +ℤ high) <ℤ (pos 256 *ℤ (n +ℤ pos 1)))
 
 -- the centre of pixel n lies from low to high; or no pixel's centre does, and the middle lies in n
 abbrev pub IsKeptIn : ℤ → ℤ → ℤ → Type 0

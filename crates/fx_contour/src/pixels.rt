@@ -55,7 +55,7 @@ impl Pixels {
     }
 }
 
-/// The pixel of a row, or a column, in which the middle of two places lies, in 1/128 pixel; the first of two at whose border it
+/// The pixel of a row, or a column, in which the middle of two places lies, in 1/128 pixel; the second of two at whose border it
 /// lies.
 fn middle_pixel(low: i32, high: i32) -> i32
     requires near_low { IsWithin farthest_with_margin low }
@@ -63,5 +63,5 @@ fn middle_pixel(low: i32, high: i32) -> i32
     ensures middle { IsMiddleOf low high result }
     ensures size { IsWithin 32767 result }
 {
-    (low + high - 1).div_euclid(256)
+    (low + high).div_euclid(256)
 }

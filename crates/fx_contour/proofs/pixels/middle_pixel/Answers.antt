@@ -1,4 +1,4 @@
-use Rattle.std.proofs.Common.{◌≡◌, sym, subst, ℤ, pos, ◌+ℤ◌, ◌-ℤ◌, w32, to_z, of_z, arith}
+use Rattle.std.proofs.Common.{◌≡◌, sym, subst, ℤ, pos, ◌+ℤ◌, w32, to_z, of_z, arith}
 use Rattle.std.specs.Int.{int_div_euclid}
 use Rattle.fx_fixed.specs.Ranges.{IsWithin}
 use Rattle.fx_fixed.proofs.Linear.{signed_linear}
@@ -6,8 +6,8 @@ use Rattle.fx_contour.specs.DropoutFrames.{IsMiddleOf}
 use Rattle.fx_contour.proofs.Kept.{middle_is, middle_size}
 use Rattle.fx_contour.proofs.pixels.middle_pixel.Goals as goal
 
--- a quotient of a copy of the sum, less 1
-middle_at : (low high s r : ℤ) → r ≡ int_div_euclid s (pos 256) → s ≡ (low +ℤ high) -ℤ pos 1 → IsMiddleOf low high r
+-- a quotient of a copy of the sum
+middle_at : (low high s r : ℤ) → r ≡ int_div_euclid s (pos 256) → s ≡ low +ℤ high → IsMiddleOf low high r
 middle_at low high s r f e =
     subst (IsMiddleOf low high) (sym f) (subst (λ z. IsMiddleOf low high (int_div_euclid z (pos 256))) (sym e) (middle_is low high))
 
