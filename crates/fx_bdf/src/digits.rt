@@ -9,6 +9,7 @@ use std::simd::prelude::*;
 ///
 /// Each byte of the word stands in two neighbouring lanes: the first keeps its high four bits, the second its low four.
 #[inline(always)]
+#[tactic(auto, using(crate::proofs::Lanes::lanes_text))]
 pub fn word_digits(word: u32) -> [u8; 8]
     ensures { result ≡ word_text word }
 {

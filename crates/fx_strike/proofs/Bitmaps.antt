@@ -2,7 +2,9 @@
 -- Serves `bitmap_of`.
 use Rattle.std.proofs.Common.{◌≡◌, refl, sym, ◌∙◌, subst, arith, ℤ, Bool, true, false, true≢false, List, Some, None}
 use Rattle.std.proofs.Common.{Result, Ok, Err}
-use Rattle.std.specs.Prelude.{◌↔◌, IsTrue, IfOk}
+use Rattle.std.specs.Prelude.{◌↔◌, ◌&&◌, IsTrue, IfOk}
+use Rattle.std.proofs.lemmas.Bool.{and_parts}
+use Rattle.std.proofs.lemmas.Int.{ints}
 use Rattle.fx_fixed.proofs.Linear.{signed_linear}
 use Rattle.fx_winding.specs.Winding.{Span, IsCovered, centre}
 use Rattle.fx_winding.specs.Frames.{IsFrom, IsInFrame, is_from}
@@ -10,20 +12,11 @@ use Rattle.fx_winding.specs.declared.frame.Frame.{Frame}
 use Rattle.fx_winding.specs.Bitmaps.{Bits, IsScanOf, bit_of}
 use Rattle.fx_winding.specs.Outside.{AreOfOutline}
 use Rattle.fx_winding.proofs.Grid.{from_true}
-use Rattle.fx_bdf.proofs.Trims.{from_order}
 use Rattle.fx_contour.specs.Frames.{NothingOutsideFrame}
 use Rattle.fx_request.specs.declared.refusal.Refusal.{Refusal}
 use Rattle.fx_strike.specs.inner.Drawing.{HasBitsOf}
 
 -- ---- one pixel
-
--- outside the frame the bit is false
-outside_column : (b : Bits) (col row : ℤ) → is_from b.frame.left b.frame.width col ≡ false → bit_of b col row ≡ false
-outside_column b col row h = rw h refl
-
-outside_row : (b : Bits) (col row : ℤ) → is_from b.frame.left b.frame.width col ≡ true
-    → is_from b.frame.bottom b.frame.height row ≡ false → bit_of b col row ≡ false
-outside_row b col row g h = rw (g, h) refl
 
 -- two that are both impossible
 neither : {A B : Type 0} → (A → ⊥) → (B → ⊥) → A ↔ B
@@ -32,29 +25,25 @@ neither f g = (λ a. absurd (f a), λ b. absurd (g b))
 unset : (b : Bool) → b ≡ false → IsTrue b → ⊥
 unset b h t = true≢false (sym t ∙ h)
 
--- a frame holds a pixel only if its column and its row are the frame's
-column_held : (f : Frame) (col row : ℤ) → IsInFrame f col row → is_from f.left f.width col ≡ true
-column_held f col row i = from_order f.left col f.width i.column.0 i.column.1
+-- whether a pixel lies in a frame
+abbrev is_in_frame : Frame → ℤ → ℤ → Bool
+is_in_frame f col row = is_from f.left f.width col && is_from f.bottom f.height row
 
-row_held : (f : Frame) (col row : ℤ) → IsInFrame f col row → is_from f.bottom f.height row ≡ true
-row_held f col row i = from_order f.bottom row f.height i.row.0 i.row.1
+in_frame : (f : Frame) (col row : ℤ) → IsInFrame f col row → is_in_frame f col row ≡ true
+in_frame f col row i = let c = i.column in let r = i.row in grind (arith, ints)
 
-by_pixel : (ss : List Span) (b : Bits) (col row : ℤ) (c r : Bool)
+by_pixel : (ss : List Span) (b : Bits) (col row : ℤ) (t : Bool)
     → (IsInFrame b.frame col row → IsTrue (bit_of b col row) ↔ IsCovered (centre col row) ss)
     → (¬ (IsInFrame b.frame col row) → ¬ (IsCovered (centre col row) ss))
-    → is_from b.frame.left b.frame.width col ≡ c → is_from b.frame.bottom b.frame.height row ≡ r
-    → IsTrue (bit_of b col row) ↔ IsCovered (centre col row) ss
-by_pixel ss b col row true true inside outside p q =
+    → is_in_frame b.frame col row ≡ t → IsTrue (bit_of b col row) ↔ IsCovered (centre col row) ss
+by_pixel ss b col row true inside outside e =
+    let p = and_parts (is_from b.frame.left b.frame.width col) (is_from b.frame.bottom b.frame.height row) e in
     inside (record {
-      column = from_true b.frame.left b.frame.width col p;
-      row = from_true b.frame.bottom b.frame.height row q;
+      column = from_true b.frame.left b.frame.width col p.0;
+      row = from_true b.frame.bottom b.frame.height row p.1;
     })
-by_pixel ss b col row false r inside outside p q =
-    neither (unset (bit_of b col row) (outside_column b col row p))
-    (outside (λ i. true≢false (sym (column_held b.frame col row i) ∙ p)))
-by_pixel ss b col row true false inside outside p q =
-    neither (unset (bit_of b col row) (outside_row b col row p q))
-    (outside (λ i. true≢false (sym (row_held b.frame col row i) ∙ q)))
+by_pixel ss b col row false inside outside e =
+    neither (unset (bit_of b col row) (rw e refl)) (outside (λ i. true≢false (sym (in_frame b.frame col row i) ∙ e)))
 
 -- ---- all pixels
 
@@ -62,7 +51,7 @@ in_its_frame : (ss : List Span) (b : Bits)
     → ((col row : ℤ) → IsInFrame b.frame col row → IsTrue (bit_of b col row) ↔ IsCovered (centre col row) ss)
     → NothingOutsideFrame (Some b.frame) ss → AreOfOutline ss → HasBitsOf ss b
 in_its_frame ss b inside outside closed =
-    record { each = λ col row. by_pixel ss b col row _ _ (inside col row) (outside closed col row) refl refl }
+    record { each = λ col row. by_pixel ss b col row _ (inside col row) (outside closed col row) refl }
 
 scan_has_bits : (f : Frame) (ss : List Span) (b : Bits) → IsScanOf f ss b → NothingOutsideFrame (Some f) ss → AreOfOutline ss
     → HasBitsOf ss b
@@ -75,8 +64,7 @@ scan_has_bits f ss b scan outside closed =
 empty_has_bits : (ss : List Span) (b : Bits) → b.frame.width ≡ 0 → NothingOutsideFrame None ss → AreOfOutline ss → HasBitsOf ss b
 empty_has_bits ss b narrow outside closed =
     record {
-      each = λ col row. by_pixel ss b col row _ _ (λ i. absurd (no_column i.column)) (λ _. outside closed col row (λ x. x))
-          refl refl;
+      each = λ col row. by_pixel ss b col row _ (λ i. absurd (no_column i.column)) (λ _. outside closed col row (λ x. x)) refl;
     }
   where
     no_column : {first n : ℤ} → IsFrom first b.frame.width n → ⊥

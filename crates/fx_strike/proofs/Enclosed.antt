@@ -1,7 +1,7 @@
 -- A glyph whose frame lies in a box leaves that box as it is.
 -- Serves `are_among`, `lies_in`, `bounds_with` and `see_one`.
-use Rattle.std.proofs.Common.{◌≡◌, refl, sym, ap, ◌∙◌, subst, inl, inr, ℕ, ◌+◌, ◌<◌, ℤ, pos, ◌+ℤ◌, ◌≤ℤ◌, ◌<ℤ◌, Bool, true}
-use Rattle.std.proofs.Common.{false, true≢false, not, ◌||◌, ◌&&◌, List, Option, Some, None, Result, Ok, Err, arith}
+use Rattle.std.proofs.Common.{◌≡◌, refl, sym, ap, ◌∙◌, subst, inl, inr, ℕ, ◌<◌, ℤ, pos, ◌+ℤ◌, ◌≤ℤ◌, ◌<ℤ◌, Bool, true}
+use Rattle.std.proofs.Common.{false, true≢false, not, ◌||◌, List, Option, Some, None, Result, Ok, Err, arith}
 use Rattle.std.specs.Prelude.{IsTrue, ◌==◌, int_le, if◌then◌else◌}
 use Rattle.std.specs.List.{list_all}
 use Rattle.std.specs.Int.{int_min, int_max}
@@ -10,7 +10,7 @@ use Rattle.std.proofs.lemmas.Int.{ints, int_min_is, int_max_is}
 use Rattle.fx_fixed.proofs.Linear.{signed_linear}
 use Rattle.fx_fixed.proofs.Chain.{refuse_ok}
 use Rattle.fx_winding.specs.Winding.{Span}
-use Rattle.fx_winding.specs.Frames.{IsFrom, is_from, steps}
+use Rattle.fx_winding.specs.Frames.{IsFrom, steps}
 use Rattle.fx_winding.specs.declared.frame.Frame.{Frame}
 use Rattle.fx_hint.specs.declared.points.OutlinePoint.{OutlinePoint}
 use Rattle.fx_contour.specs.declared.fault.ContourFault.TheVariants.{TooFar}
@@ -18,8 +18,7 @@ use Rattle.fx_contour.specs.Contours.{is_in_reach, spans_of, drawn_of}
 use Rattle.fx_contour.specs.Frames.{IsInside, NothingOutsideFrame}
 use Rattle.fx_bdf.specs.Glyphs.{Box, Glyph, HasSides, IsTight, IsPlaced, is_in_box, is_empty, around, joined, last_of}
 use Rattle.fx_bdf.specs.Glyphs.{glyph_bit}
-use Rattle.fx_bdf.proofs.Boxes.{from_true, steps_above, in_columns, in_rows}
-use Rattle.fx_bdf.proofs.Trims.{from_order}
+use Rattle.fx_bdf.proofs.Boxes.{steps_above, parts_of_place, lies_in_box}
 use Rattle.fx_request.specs.declared.refusal.Refusal.{Refusal}
 use Rattle.fx_request.specs.declared.refusal.Refusal.TheVariants.{OutOfMemory}
 use Rattle.fx_strike.specs.declared.sketched.Sketched.{Sketched}
@@ -43,31 +42,18 @@ record Encloses (big small : Box) : Type 0 where
   wide : 0 < big.width
   high : 0 < big.height
 
-across : (b : Box) (col row : ℤ) → IsTrue (is_in_box b col row) → (b.left ≤ℤ col) × (col <ℤ (b.left +ℤ pos b.width))
-across b col row h = from_true b.left col b.width (in_columns b col row h)
-
-up : (b : Box) (col row : ℤ) → IsTrue (is_in_box b col row) → (b.bottom ≤ℤ row) × (row <ℤ (b.bottom +ℤ pos b.height))
-up b col row h = from_true b.bottom row b.height (in_rows b col row h)
-
-some_of : (first n : ℤ) (count : ℕ) → first ≤ℤ n → n <ℤ (first +ℤ pos count) → 0 < count
-some_of first n count h k = omega (arith, signed_linear, h, k)
-
 encloses : (big small : Box) (bit : ℤ → ℤ → Bool) → HasSides small bit
     → ((col row : ℤ) → IsTrue (bit col row) → IsTrue (is_in_box big col row)) → Encloses big small
 encloses big small bit s h =
-    let l = h small.left s.left.0 s.left.1 in
-    let r = h (last_of small.left small.width) s.right.0 s.right.1 in
-    let b = h s.bottom.0 small.bottom s.bottom.1 in
-    let t = h s.top.0 (last_of small.bottom small.height) s.top.1 in
-    let x = across big small.left s.left.0 l in
-    let y = up big s.bottom.0 small.bottom b in
+    let x = (parts_of_place big _ _ (h _ _ s.left.1)).0 in
+    let y = (parts_of_place big _ _ (h _ _ s.bottom.1)).1 in
     record {
       left = x.0;
-      right = (across big (last_of small.left small.width) s.right.0 r).1;
+      right = (parts_of_place big _ _ (h _ _ s.right.1)).0.1;
       bottom = y.0;
-      top = (up big s.top.0 (last_of small.bottom small.height) t).1;
-      wide = some_of big.left small.left big.width x.0 x.1;
-      high = some_of big.bottom small.bottom big.height y.0 y.1;
+      top = (parts_of_place big _ _ (h _ _ s.top.1)).1.1;
+      wide = omega (arith, signed_linear, x);
+      high = omega (arith, signed_linear, y);
     }
 
 -- a run of numbers within another, together with it
@@ -120,12 +106,12 @@ among_is end more_end first other count more p q h = rw (p, q, h) refl
 
 -- numbers of a run that lies among others
 among_from : (first other n : ℤ) (count more : ℕ) → are_among first count other more ≡ true → IsFrom first count n
-    → is_from other more n ≡ true
+    → IsFrom other more n
 among_from first other n count more h i =
     let p = and_parts (int_le other first) (int_le (first +ℤ pos count) (other +ℤ pos more)) h in
     let low : other ≤ℤ first = grind (arith, ints, p.0) in
     let high : (first +ℤ pos count) ≤ℤ (other +ℤ pos more) = grind (arith, ints, p.1) in
-    from_order other n more (omega (arith, signed_linear, low, i.0)) (omega (arith, signed_linear, high, i.1))
+    (omega (arith, signed_linear, low, i.0), omega (arith, signed_linear, high, i.1))
 
 -- each pixel of a frame that lies in a box is in the box
 pub lies_inside : (frame : Option Frame) (box : Box) → lies_in frame box ≡ true → (col row : ℤ) → IsInside frame col row
@@ -133,12 +119,8 @@ pub lies_inside : (frame : Option Frame) (box : Box) → lies_in frame box ≡ t
 lies_inside None box h col row i = absurd i
 lies_inside (Some f) box h col row i =
     let p = and_parts (are_among f.left f.width box.left box.width) (are_among f.bottom f.height box.bottom box.height) h in
-    both (is_from box.left box.width col) (is_from box.bottom box.height row)
-    (among_from f.left box.left col f.width box.width p.0 i.column)
+    lies_in_box box col row (among_from f.left box.left col f.width box.width p.0 i.column)
     (among_from f.bottom box.bottom row f.height box.height p.1 i.row)
-  where
-    both : (a b : Bool) → a ≡ true → b ≡ true → (a && b) ≡ true
-    both a b p q = rw (p, q) refl
 
 -- a pixel is in the box if it can't be outside the frame
 not_outside : (b : Bool) → (b ≡ false → ⊥) → b ≡ true

@@ -97,7 +97,8 @@ writes_by sink old faults now text m (Err OutOfMemory) h empty short low = h.out
 writes_by sink old faults now text m (Err (WriteFailed n)) h empty short low =
     let o = h.outcome in
     let same : o.0 ≡ n = omega (arith, o.3.0, short, low) in
-    (omega (arith, o.1, same), appends_text old now.held (take o.0 text) (take n text) (ap (λ (k : ℕ). take k text) same) o.2, o.3.1)
+    let first = ap (λ (k : ℕ). take k text) same in
+    (omega (arith, o.1, same), appends_text old now.held (take o.0 text) (take n text) first o.2, o.3.1)
 writes_by sink old faults now text m (Err d) h empty short low = absurd h.outcome.3
 
 -- a text that was begun, added and ended was written
@@ -248,14 +249,6 @@ left_more setting codes i was now next text l h w =
       left = x.left;
       added = adds_then h.added (w x.here x.lines);
     }
-
-pub left_none : (setting : Setting) (codes : List ℕ) (i : ℕ)
-    (was now : TextView) (text : List ℕ) → drop i codes ≡ []
-    → Left setting codes i was now text → Adds Stops was now text (Ok tt)
-left_none setting codes i was now text e h =
-    let P : List ℕ → Type 0 = λ xs. AreAllLinesOf setting xs h.rest in
-    let none : h.rest ≡ [] = subst P e h.left in
-    adds_text (sym (h.split ∙ ap (λ (t : List ℕ). h.front ++ t) none ∙ append-nil h.front)) h.added
 
 pub left_failed : (setting : Setting) (codes : List ℕ) (i : ℕ)
     (was now next : TextView) (text : List ℕ) (r : Result (Unit {0}) Refusal) (e d : Refusal) → r ≡ Err e → e ≡ d

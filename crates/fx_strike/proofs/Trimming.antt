@@ -9,12 +9,9 @@ use Rattle.fx_fixed.proofs.Linear.{signed_linear}
 use Rattle.fx_winding.specs.Limits.{greatest_side}
 use Rattle.fx_winding.specs.Frames.{steps}
 use Rattle.fx_bdf.specs.Glyphs.{Box, Glyph, HasSides, IsFormed, IsTrimmed, is_in_box, no_box, last_of, glyph_bit}
-use Rattle.fx_bdf.proofs.Boxes.{from_true, steps_above, steps_below, in_columns, in_rows}
-use Rattle.fx_bdf.proofs.Trims.{split, and_yes, from_order}
-
-not_true : (b : Bool) → (b ≡ true → ⊥) → b ≡ false
-not_true true h = absurd (h refl)
-not_true false h = refl
+use Rattle.fx_winding.proofs.Grid.{steps_below}
+use Rattle.fx_bdf.proofs.Cases.{split, not_set}
+use Rattle.fx_bdf.proofs.Boxes.{steps_above, parts_of_place, lies_in_box}
 
 not_both : (b : Bool) → b ≡ false → b ≡ true → ⊥
 not_both b h k = true≢false (sym k ∙ h)
@@ -133,8 +130,8 @@ inside_box g col row h = ap (λ (t : Bool). if t then get_or (get_or g.rows (g.b
     (steps g.box.left col) false else false) h
 
 empty_box : (col row : ℤ) → is_in_box no_box col row ≡ false
-empty_box col row = not_true (is_in_box no_box col row)
-    (λ h. let p = from_true (pos 0) col 0 (in_columns no_box col row h) in absurd (omega (arith, signed_linear, p)))
+empty_box col row =
+    not_set (is_in_box no_box col row) (λ h. let p = parts_of_place no_box col row h in absurd (omega (arith, signed_linear)))
 
 bare : (bit : ℤ → ℤ → Bool) (code : ℕ) (swidth dwidth : ℤ) → ((col row : ℤ) → bit col row ≡ false)
     → (g : Glyph) × IsTrimmed code swidth dwidth bit g
@@ -222,11 +219,8 @@ module _ (bit : ℤ → ℤ → Bool) (base : ℤ) (n : ℕ) where
       let y = r.holds f.up.at f.up.below (in_row f.across.at f.up.at f.across.below f.here) in
       let e = f.across.is in
       let g = f.up.is in
-      and_yes _ _
-      (from_order (base +ℤ pos c.first) col (c.last - c.first + 1) (omega (arith, signed_linear, e, x))
-      (omega (arith, signed_linear, e, x, c.order)))
-      (from_order (base +ℤ pos r.first) row (r.last - r.first + 1) (omega (arith, signed_linear, g, y))
-      (omega (arith, signed_linear, g, y, r.order)))
+      lies_in_box (box_of c r) col row (omega (arith, signed_linear), omega (arith, signed_linear, c.order))
+      (omega (arith, signed_linear), omega (arith, signed_linear, r.order))
 
   sides_of : (c : Reach has_column n) (r : Reach has_row n) → HasSides (box_of c r) bit
   sides_of c r =
@@ -275,14 +269,13 @@ module _ (bit : ℤ → ℤ → Bool) (base : ℤ) (n : ℕ) where
       → get_or (get_or (each_number (line_of bit box) 0 box.height) (box.height - 1 - steps box.bottom row) []) (steps box.left col)
       false ≡ bit col row
   cell box col row h =
-      let x = in_columns box col row h in
-      let y = in_rows box col row h in
-      let across = steps_below box.left col box.width x in
-      let up = steps_below box.bottom row box.height y in
+      let p = parts_of_place box col row h in
+      let across = steps_below box.left box.width col p.0 in
+      let up = steps_below box.bottom box.height row p.1 in
       let col_is : box.left +ℤ pos (0 + steps box.left col) ≡ col =
-      let e = steps_above box.left col (from_true box.left col box.width x).0 in omega (arith, signed_linear, e) in
+      let e = steps_above box.left col p.0.0 in omega (arith, signed_linear, e) in
       let row_is : box.bottom +ℤ pos (box.height - 1 - (0 + (box.height - 1 - steps box.bottom row))) ≡ row
-      = let e = steps_above box.bottom row (from_true box.bottom row box.height y).0 in omega (arith, signed_linear, e, up) in
+      = let e = steps_above box.bottom row p.1.0 in omega (arith, signed_linear, e, up) in
       ap (λ (l : List Bool). get_or l (steps box.left col) false)
       (get_numbered (line_of bit box) 0 box.height (box.height - 1 - steps box.bottom row) [] (omega (arith, up)))
       ∙ get_numbered (λ c. bit (box.left +ℤ pos c)
@@ -307,7 +300,7 @@ module _ (bit : ℤ → ℤ → Bool) (base : ℤ) (n : ℕ) where
       inside_box (glyph_at code swidth dwidth c r) col row e ∙ cell (box_of c r) col row e
   bits_at code swidth dwidth c r s col row false e =
       outside_box (glyph_at code swidth dwidth c r) col row e ∙
-      sym (not_true (bit col row) (λ h. not_both (is_in_box (box_of c r) col row) e (holds_of c r s col row h)))
+      sym (not_set (bit col row) (λ h. not_both (is_in_box (box_of c r) col row) e (holds_of c r s col row h)))
 
   glyph_in : (code : ℕ) (swidth dwidth : ℤ) (c : Reach has_column n) (r : Reach has_row n) → AreSmall bit base n
       → (g : Glyph) × IsTrimmed code swidth dwidth bit g
@@ -325,7 +318,7 @@ module _ (bit : ℤ → ℤ → Bool) (base : ℤ) (n : ℕ) where
 
   pub trimmed : (code : ℕ) (swidth dwidth : ℤ) → AreSmall bit base n → (g : Glyph) × IsTrimmed code swidth dwidth bit g
   trimmed code swidth dwidth s = elim (reach has_column n) [
-    | inl none ↦ bare bit code swidth dwidth (λ col row. not_true (bit col row) (λ h.
+    | inl none ↦ bare bit code swidth dwidth (λ col row. not_set (bit col row) (λ h.
         let f = steps_of s col row h in not_both (has_column f.across.at) (none f.across.at f.across.below)
         (in_column f.across.at f.up.at f.up.below f.here)))
     | inr c ↦ elim (reach has_row n) [

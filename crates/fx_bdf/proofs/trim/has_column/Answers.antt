@@ -2,14 +2,15 @@ use Rattle.std.proofs.Common.{◌≡◌, ◌∙◌, ℕ, false, ap, sym, arith, 
 use Rattle.fx_winding.specs.declared.frame.Frame.{Frame}
 use Rattle.fx_bdf.specs.declared.lines.Axis.TheVariants.{Columns}
 use Rattle.fx_bdf.specs.Lines.{line_bit}
-use Rattle.fx_bdf.proofs.Trims.{split, line_outside}
-use Rattle.fx_bdf.proofs.Packing.{column_has}
+use Rattle.fx_bdf.proofs.Cases.{split}
+use Rattle.fx_bdf.proofs.Trims.{line_outside}
+use Rattle.fx_bdf.proofs.Packing.{set_bit_of_column}
 use Rattle.fx_bdf.proofs.trim.has_column.Goals as goal
 
 pub rows-preserved : goal.rows-preserved
 rows-preserved c =
     below_more (λ (k : ℕ). line_bit Columns c.args.bitmap.now c.args.j k ≡ false) c.rows.i c.rows.invariant
-    (sym (column_has c.args.bitmap.now c.line.result.now c.rows.i c.args.j c.is_set.result (c.line.ensures.bits c.args.j)
+    (sym (set_bit_of_column c.args.bitmap.now c.line.result.now c.rows.i c.args.j c.is_set.result (c.line.ensures.bits c.args.j)
     c.is_set.ensures) ∙ c.if-is_set.false)
 
 pub returns : goal.returns

@@ -2,7 +2,7 @@ use Rattle.std.proofs.Common.{◌≡◌, ◌∙◌, ◌<◌, ◌-◌, pos, ◌+�
 use Rattle.fx_fixed.proofs.Linear.{signed_linear}
 use Rattle.fx_winding.specs.Bitmaps.{bit_of}
 use Rattle.fx_bdf.proofs.Boxes.{length-rows_in}
-use Rattle.fx_bdf.proofs.Packing.{held, box_row_held, box_row_is}
+use Rattle.fx_bdf.proofs.Packing.{held_in_frame, box_row_held, box_row_is}
 use Rattle.fx_bdf.proofs.box_rows.BoxRows.row.Goals as goal
 
 pub overflow_sub-b-2 : goal.overflow_sub-b-2
@@ -17,7 +17,7 @@ row-words-requires c =
     omega (arith, c.requires, ap length c.self.view_is, length-rows_in box (bit_of c.self.inside.bitmap.now)) in
     let at : to_z w32 (of_z w32 c.above.result) ≡ box.bottom +ℤ pos (box.height - 1 - c.args.i) =
     omega (arith, signed_linear, c.above.ensures, p.bottom, p.top, low) in
-    let h = held c.self.inside.bitmap.now box c.self.invariant.boxed.tight (omega (arith, low)) in
+    let h = held_in_frame c.self.inside.bitmap.now box c.self.invariant.boxed.tight (omega (arith, low)) in
     let under = h.low in
     let over = h.high in
     (omega (arith, signed_linear, at, under), omega (arith, signed_linear, at, over, low))
