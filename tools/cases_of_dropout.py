@@ -67,9 +67,9 @@ class Drawn(Simple):
         return self.drawn
 
 
-def unmoved(glyphs, codes):
+def unmoved(glyphs, codes, upem=UNIT):
     """A font of glyphs that stay where they are: their left side bearings are their least x."""
-    return Font(glyphs, codes, upem=UNIT, metrics=[(UNIT, glyph.x_min) for glyph in glyphs])
+    return Font(glyphs, codes, upem=upem, metrics=[(upem, glyph.x_min) for glyph in glyphs])
 
 
 def asked(ppem, codes, hinted=True, more="--dropout"):
@@ -160,4 +160,30 @@ def sizes_with_dropout():
         yield Run("thick boxes at %d" % ppem, asked(ppem, (A, B)), font.data(), font.make((A, B), ppem))
 
 
-CASES = [random_outlines, dropout_by_hand, composites_with_dropout, words_with_dropout, sizes_with_dropout]
+def long_hairlines():
+    """Hairlines as long as a glyph's coordinates let them be, at eight units a pixel."""
+    for name, contour, rows in (("level", box(0, 5, 32767, 6), ["#" * 4096]), ("upright", box(5, 0, 6, 32767), ["#"] * 4096)):
+        font = unmoved([Empty(), Drawn([contour], 0, 0, rows)], {A: 1}, 8192)
+        yield Run("%s, 4,096 pixels" % name, asked(1024, [A], False), font.data(), font.make([A], 1024, False, closed=True))
+
+
+def distances_with_dropout():
+    """Points as far out as they may lie with drop-out control, two pixels less than without, and farther; sides to the limit and past
+    it. A glyph of one unit to the pixel; the hairlines hold no centre, and have a frame with drop-out control alone."""
+    far, side = 32766, 8192
+    for name, contour, left, bottom, rows, fault in (
+            ("a point 32,766 pixels out", box(far - 3, 0, far, 2), far - 3, 0, ["###"] * 2, None),
+            ("a point 32,766 pixels down", box(0, -far, 3, 2 - far), 0, -far, ["###"] * 2, None),
+            ("a point 32,767 pixels out", box(far - 3, 0, far + 1, 2), 0, 0, [], "51 TooFar 1"),
+            ("a point 32,767 pixels up", box(0, far, 3, far + 1), 0, 0, [], "51 TooFar 1"),
+            ("a point 32,767 pixels left", box(-far - 1, 0, 3, 5), 0, 0, [], "51 TooFar 1"),
+            ("8,192 pixels", box(0, 0, side, 0), 0, -1, ["#" * side], None),
+            ("8,193 pixels", box(0, 0, side + 1, 0), 0, 0, [], "52 GlyphTooLarge 1"),
+            ("8,193 pixels upright", box(7, 0, 7, side + 1), 0, 0, [], "52 GlyphTooLarge 1")):
+        font = unmoved([Empty(), Drawn([contour], left, bottom, rows)], {A: 1})
+        answer = due.refused(fault) if fault else font.make([A], 1024, False, closed=True)
+        yield Run(name, asked(1024, [A], False), font.data(), answer)
+
+
+CASES = [random_outlines, dropout_by_hand, sizes_with_dropout, long_hairlines, distances_with_dropout, composites_with_dropout,
+         words_with_dropout]

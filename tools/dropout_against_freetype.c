@@ -439,9 +439,9 @@ static int parts_of_outline(void) {
 
 /* ---- differences, and their kinds ---- */
 
-enum { PLAIN, FRAME, TOUCH, ARC, LINE, KINDS };
+enum { PLAIN, FRAME, BESIDE, TOUCH, ARC, LINE, KINDS };
 static const char *const kind_names[KINDS] = {
-    "plain", "frame", "touch", "crossing of an arc", "crossing of lines"};
+    "plain", "frame", "beside a centre on the outline", "touch", "crossing of an arc", "crossing of lines"};
 
 /* Whether the pictures without drop-out control differ at a pixel or beside it. */
 static bool differs_plainly(int column, int row) {
@@ -451,22 +451,32 @@ static bool differs_plainly(int column, int row) {
     return false;
 }
 
-/* The kind of a difference at a pixel, by what is beside it: pixels that are set plainly by one alone; else the frame's edge; else
-   how the gaps to its four neighbours are met, where both are not covered. */
+/* Whether the centre of a pixel is on a piece. */
+static bool is_on_some(int column, int row) {
+    const struct place centre = {128L * column + 64, 128L * row + 64};
+    for (int k = 0; k < piece_count; k++)
+        if (is_on(centre, pieces[k])) return true;
+    return false;
+}
+
+/* The kind of a difference at a pixel, by what is beside it: pixels that are set plainly by one alone; else the frame's edge; else a
+   neighbour whose centre is on the outline; else how the gaps to its four neighbours are met, where both are not covered. */
 static int kind_of(int column, int row) {
     int how = 0;
-    bool at_edge = false;
+    bool at_edge = false, is_beside = false;
     if (differs_plainly(column, row)) return PLAIN;
     for (int in_column = 0; in_column < 2; in_column++)
         for (int before = 0; before < 2; before++) {
             const int x = column - (in_column ? 0 : before), y = row - (in_column ? before : 0);
             const int far_x = before ? x : x + !in_column, far_y = before ? y : y + in_column;
+            is_beside = is_beside || is_on_some(far_x, far_y);
             if (is_set(PLAIN_DUE, x, y) || is_set(PLAIN_DUE, x + !in_column, y + in_column)) continue;
             const int by = met(x, y, in_column);
             how |= by;
             at_edge = at_edge || (by != 0 && !is_in(frame, far_x, far_y));
         }
     if (at_edge || !is_in(frame, column, row)) return FRAME;
+    if (is_beside) return BESIDE;
     if ((how & (BY_ARC | BY_LINE)) == 0) return TOUCH;
     return how & BY_ARC ? ARC : LINE;
 }
@@ -500,14 +510,10 @@ static void show(unsigned long code, int kind) {
     }
 }
 
-/* A pixel, by its centre, that is set without drop-out control by the strike alone or by FreeType alone. */
-static void add_plain(struct place centre) {
-    for (int k = 0; k < piece_count; k++)
-        if (is_on(centre, pieces[k])) {
-            plain_on++;
-            return;
-        }
-    if (is_near(centre)) plain_near++;
+/* A pixel that is set without drop-out control by the strike alone or by FreeType alone. */
+static void add_plain(int column, int row) {
+    if (is_on_some(column, row)) plain_on++;
+    else if (is_near((struct place){128L * column + 64, 128L * row + 64})) plain_near++;
     else plain_other++;
 }
 
@@ -519,7 +525,7 @@ static void count_plain(void) {
             wrong_closed += is_set(CLOSED_OURS, column, row) != is_set(CLOSED_DUE, column, row);
             added += is_set(CLOSED_OURS, column, row) && !is_set(PLAIN_OURS, column, row);
             if (is_set(PLAIN_OURS, column, row) == is_set(PLAIN_THEIRS, column, row)) continue;
-            add_plain((struct place){128L * column + 64, 128L * row + 64});
+            add_plain(column, row);
             differs = true;
         }
     plain_glyphs += differs;
