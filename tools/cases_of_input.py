@@ -20,8 +20,8 @@ FIRST = b"make --ppem 16 --chars 41"
 
 # ---- words ----
 
-# With the program's name these are the ten words that there may be.
-WHOLE = MAKE + ["--name", "F1", "--unhinted", "--hex"]
+# every option, but those that may be given more than once
+WHOLE = MAKE + ["--name", "F1", "--x11", "--dropout", "--unhinted", "--hex"]
 INCOMPLETE = [["make"], ["help"], ["--help"], ["-h"], ["--version"], [""], ["Make"], ["x"] + WHOLE, MAKE[:3],
               MAKE[:4], MAKE[:1] + MAKE[3:], MAKE[1:]]
 TOO_MANY = [WHOLE + more for more in (["x"], ["x", "y"], [""], ["-"], ["--"], ["--unhinted"])]
@@ -72,7 +72,7 @@ def words_that_parse():
             ("make --ppem +16 --chars 000041", data, made),
             ("make --name strike --hex --chars 41 --ppem 16", text, made),
             ("make --ppem 16 --chars 41 --name=-misc-x --unhinted --hex", text, SHORT.make([A], 16, False, "-misc-x")),
-            (WHOLE, text, SHORT.make([A], 16, False, "F1")),
+            (WHOLE, text, SHORT.make([A], 16, False, "F1", x11=True, closed=True)),
             (MAKE[:4] + [""], data, nothing),
             ("make --ppem 16 --chars=", data, nothing),
             ("show --char 41 --ppem 16", data, SHORT.show(A, 16)),
