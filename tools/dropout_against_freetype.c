@@ -227,8 +227,9 @@ static int met(int column, int row, bool in_column) {
 
 struct box { int left, bottom, width, height; };
 
-/* None by FreeType, rule 3 by FreeType; by the strikes; by the definition. Each has the room of `room`, a byte a pixel. */
-enum { PLAIN_THEIRS, CLOSED_THEIRS, PLAIN_OURS, CLOSED_OURS, PLAIN_DUE, CLOSED_DUE, PICTURES };
+/* By FreeType: as the font asks, without drop-out control, by rule 3; by the strikes; by the definition. Each is as wide and high
+   as `room`, a byte a pixel. */
+enum { ASKED_THEIRS, PLAIN_THEIRS, CLOSED_THEIRS, PLAIN_OURS, CLOSED_OURS, PLAIN_DUE, CLOSED_DUE, PICTURES };
 
 static struct box room, frame;
 static unsigned char *pictures[PICTURES];
@@ -314,15 +315,18 @@ static void draw_by_definition(void) {
 
 /* ---- pictures by FreeType ---- */
 
-/* Renders the outline that is loaded, with flags for drop-out control: none, or rule 3, which is SCANTYPE 0. */
-static const FT_Bitmap *render(bool is_closed) {
-    FT_GlyphSlot slot = face->glyph;
-    slot->format = FT_GLYPH_FORMAT_OUTLINE;
-    slot->outline.flags &= ~(FT_OUTLINE_IGNORE_DROPOUTS | FT_OUTLINE_SMART_DROPOUTS | FT_OUTLINE_INCLUDE_STUBS);
-    slot->outline.flags |= FT_OUTLINE_HIGH_PRECISION | (is_closed ? FT_OUTLINE_INCLUDE_STUBS : FT_OUTLINE_IGNORE_DROPOUTS);
-    for (int k = 0; k < slot->outline.n_points; k++) slot->outline.tags[k] &= 3; /* what the font's programs say of it */
-    if (FT_Render_Glyph(slot, FT_RENDER_MODE_MONO)) fail("FreeType does not render", "an outline");
-    return &slot->bitmap;
+/* Sets what an outline says of drop-out control: none, or rule 3, which is SCANTYPE 0. */
+static void set_dropout(FT_Outline *outline, bool is_closed) {
+    outline->flags &= ~(FT_OUTLINE_IGNORE_DROPOUTS | FT_OUTLINE_SMART_DROPOUTS | FT_OUTLINE_INCLUDE_STUBS);
+    outline->flags |= FT_OUTLINE_HIGH_PRECISION | (is_closed ? FT_OUTLINE_INCLUDE_STUBS : FT_OUTLINE_IGNORE_DROPOUTS);
+    for (int k = 0; k < outline->n_points; k++) outline->tags[k] &= 3; /* the rest is what the font's programs say of it */
+}
+
+/* Renders the outline that is loaded. */
+static const FT_Bitmap *render(void) {
+    face->glyph->format = FT_GLYPH_FORMAT_OUTLINE;
+    if (FT_Render_Glyph(face->glyph, FT_RENDER_MODE_MONO)) fail("FreeType does not render", "an outline");
+    return &face->glyph->bitmap;
 }
 
 static bool has_bit(const FT_Bitmap *bitmap, unsigned column, unsigned row) {
@@ -330,7 +334,8 @@ static bool has_bit(const FT_Bitmap *bitmap, unsigned column, unsigned row) {
 }
 
 static void draw_by_freetype(int picture) {
-    const FT_Bitmap *bitmap = render(picture == CLOSED_THEIRS);
+    if (picture != ASKED_THEIRS) set_dropout(&face->glyph->outline, picture == CLOSED_THEIRS);
+    const FT_Bitmap *bitmap = render();
     const int left = face->glyph->bitmap_left, top = face->glyph->bitmap_top;
     for (unsigned row = 0; row < bitmap->rows; row++)
         for (unsigned column = 0; column < bitmap->width; column++)
@@ -421,11 +426,13 @@ static int parts_of(int picture) {
     return parts;
 }
 
-/* How many parts the outline has that is loaded, drawn larger. It stays as large, so that a second call draws it larger again. */
+/* How many parts the outline has that is loaded, drawn larger by rule 3. It stays as large, so that a second call draws it larger
+   again. */
 static int parts_of_outline(void) {
     const FT_Matrix larger = {TIMES << 16, 0, 0, TIMES << 16};
     FT_Outline_Transform(&face->glyph->outline, &larger);
-    const FT_Bitmap *bitmap = render(true);
+    set_dropout(&face->glyph->outline, true);
+    const FT_Bitmap *bitmap = render();
     const struct box box = {0, 0, (int)bitmap->width, (int)bitmap->rows};
     unsigned char *at = malloc((size_t)box.width * (size_t)box.height + 1);
     if (at == NULL) fail("out of", "memory");
@@ -459,8 +466,8 @@ static bool is_on_some(int column, int row) {
     return false;
 }
 
-/* The kind of a difference at a pixel, by what is beside it: pixels that are set plainly by one alone; else the frame's edge; else a
-   neighbour whose centre is on the outline; else how the gaps to its four neighbours are met, where both are not covered. */
+/* The kind of a difference at a pixel, by what is beside it: pixels that are set plainly by one alone; else the frame's edge; else
+   a neighbour whose centre is on the outline; else how the gaps to its four neighbours are met, where both are not covered. */
 static int kind_of(int column, int row) {
     int how = 0;
     bool at_edge = false, is_beside = false;
@@ -490,7 +497,11 @@ static bool is_near(struct place p) {
     return false;
 }
 
-static long broken[3], blank[3], glyphs, added, wrong_plain, wrong_closed;
+enum { LOOKED_AT = 4 };
+static const int looked_at[LOOKED_AT] = {PLAIN_OURS, ASKED_THEIRS, CLOSED_THEIRS, CLOSED_OURS};
+static const char *const looked_at_names[LOOKED_AT] = {"none", "asked", "rule-3", "ours"};
+
+static long broken[LOOKED_AT], blank[LOOKED_AT], glyphs, added, wrong_plain, wrong_closed;
 static long plain_on, plain_near, plain_other, plain_glyphs;
 static long kind_pixels[KINDS], kind_glyphs[KINDS], differing_glyphs, differing_pixels;
 static int left_to_show[KINDS];
@@ -546,12 +557,12 @@ static void count_closed(unsigned long code) {
 }
 
 static void compare(unsigned long code, FT_UInt glyph, const struct strike *plain, const struct strike *closed) {
-    static const int looked_at[] = {PLAIN_OURS, CLOSED_THEIRS, CLOSED_OURS};
     add_pieces(&face->glyph->outline);
     if (piece_count == 0) return;
     glyphs++;
     set_boxes();
     draw_by_definition();
+    draw_by_freetype(ASKED_THEIRS); /* the first, before the others set what it asks */
     draw_by_freetype(PLAIN_THEIRS);
     draw_by_freetype(CLOSED_THEIRS);
     draw_by_strike(PLAIN_OURS, plain, glyph);
@@ -560,18 +571,19 @@ static void compare(unsigned long code, FT_UInt glyph, const struct strike *plai
     count_closed(code);
     int due = parts_of_outline();
     if (parts_of(CLOSED_OURS) > due) due = parts_of_outline(); /* two that only seem to touch */
-    for (int k = 0; k < 3; k++) {
+    for (int k = 0; k < LOOKED_AT; k++) {
         const int parts = parts_of(looked_at[k]);
         broken[k] += parts > due;
         blank[k] += parts == 0 && due != 0;
-        if (k == 2 && parts > due) printf("| U+%04lX: %d parts by the strike, %d of the outline\n", code, parts, due);
+        if (looked_at[k] == CLOSED_OURS && parts > due)
+            printf("| U+%04lX: %d parts by the strike, %d of the outline\n", code, parts, due);
     }
 }
 
 static void print_counts(void) {
-    static const char *const of[] = {"none", "freetype", "ours"};
     printf("glyphs %ld\nadded %ld\n", glyphs, added);
-    for (int k = 0; k < 3; k++) printf("broken-%s %ld\nblank-%s %ld\n", of[k], broken[k], of[k], blank[k]);
+    for (int k = 0; k < LOOKED_AT; k++)
+        printf("broken-%s %ld\nblank-%s %ld\n", looked_at_names[k], broken[k], looked_at_names[k], blank[k]);
     printf("plain-glyphs %ld\nplain-on %ld\nplain-near %ld\nplain-other %ld\n", plain_glyphs, plain_on, plain_near, plain_other);
     printf("not-by-definition-plain %ld\nnot-by-definition-closed %ld\n", wrong_plain, wrong_closed);
     printf("differing-pixels %ld\ndiffering-glyphs %ld\n", differing_pixels, differing_glyphs);
