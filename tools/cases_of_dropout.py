@@ -33,6 +33,9 @@ BY_HAND = {
     "an upright hairline left of them": ([box(140, 0, 150, 640)], 2, 0, ["#"] * 10),
     "a hairline along a row's centres": ([box(0, 96, 640, 96)], 0, 1, ["#" * 10]),
     "a hairline of no width": ([[(100, 0, 1), (100, 640, 1)]], 1, 0, ["#"] * 10),
+    "a hairline on the border of two columns": ([box(126, 0, 130, 640)], 2, 0, ["#"] * 10),
+    "a hairline on the border of two rows": ([box(0, 123, 640, 133)], 0, 2, ["#" * 10]),
+    "one that lies more below it": ([box(0, 122, 640, 133)], 0, 1, ["#" * 10]),
     "a slanted hairline": ([[(10, 0, 1), (14, 0, 1), (654, 640, 1), (650, 640, 1)]], 0, 0,
                            ["." * k + "#" + "." * (9 - k) for k in range(9, -1, -1)]),
     "a dot between four centres": ([box(100, 100, 120, 120)], 0, 0, []),
@@ -177,7 +180,7 @@ def distances_with_dropout():
             ("a point 32,767 pixels out", box(far - 3, 0, far + 1, 2), 0, 0, [], "51 TooFar 1"),
             ("a point 32,767 pixels up", box(0, far, 3, far + 1), 0, 0, [], "51 TooFar 1"),
             ("a point 32,767 pixels left", box(-far - 1, 0, 3, 5), 0, 0, [], "51 TooFar 1"),
-            ("8,192 pixels", box(0, 0, side, 0), 0, -1, ["#" * side], None),
+            ("8,192 pixels", box(0, 0, side, 0), 0, 0, ["#" * side], None),
             ("8,193 pixels", box(0, 0, side + 1, 0), 0, 0, [], "52 GlyphTooLarge 1"),
             ("8,193 pixels upright", box(7, 0, 7, side + 1), 0, 0, [], "52 GlyphTooLarge 1")):
         font = unmoved([Empty(), Drawn([contour], left, bottom, rows)], {A: 1})

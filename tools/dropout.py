@@ -28,9 +28,9 @@ def centre(i, j):
 
 
 def kept(low, high):
-    """The columns or rows of the frame of what lies from low to high: those whose centres do, else the one that has most of it."""
+    """The columns or rows of the frame of what lies from low to high: those whose centres do, else the one that has its middle."""
     first, end = -((64 - low) // 128), (high + 64) // 128
-    middle = (low + high - 1) // 256  # of two that have as much the first
+    middle = (low + high) // 256
     return range(first, end) if first < end else range(middle, middle + 1)
 
 

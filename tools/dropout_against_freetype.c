@@ -247,14 +247,12 @@ static bool is_set(int picture, int column, int row) { return *pixel(pictures[pi
 
 static long floor_div(long n, long d) { return n >= 0 ? n / d : -((d - 1 - n) / d); }
 
-/* The pixels of a row or column whose centres lie from low to high; if there is none, the one that holds more of that. */
+/* The pixels of a row or column whose centres lie from low to high; if there is none, the one in which the middle lies. */
 static void pixels_between(long low, long high, int *first, int *count) {
     const long start = floor_div(low + 63, 128), end = floor_div(high + 64, 128);
-    *first = (int)start;
-    *count = (int)(end - start);
-    if (*count > 0) return;
-    *count = 1;
-    if (128 * start - low >= high - 128 * start) *first = (int)start - 1;
+    const bool is_none = end <= start;
+    *first = (int)(is_none ? floor_div(low + high, 256) : start);
+    *count = (int)(is_none ? 1 : end - start);
 }
 
 /* Sets the frame, and the room around it: two pixels more on each side. */
