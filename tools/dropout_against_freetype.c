@@ -444,9 +444,9 @@ static int parts_of_outline(void) {
 
 /* ---- differences, and their kinds ---- */
 
-enum { PLAIN, FRAME, BESIDE, TOUCH, ARC, LINE, KINDS };
+enum { PLAIN, LOST, FRAME, BESIDE, TOUCH, ARC, LINE, KINDS };
 static const char *const kind_names[KINDS] = {
-    "plain", "frame", "beside a centre on the outline", "touch", "crossing of an arc", "crossing of lines"};
+    "plain", "lost", "frame", "beside a centre on the outline", "touch", "crossing of an arc", "crossing of lines"};
 
 /* Whether the pictures without drop-out control differ at a pixel or beside it. */
 static bool differs_plainly(int column, int row) {
@@ -464,12 +464,14 @@ static bool is_on_some(int column, int row) {
     return false;
 }
 
-/* The kind of a difference at a pixel, by what is beside it: pixels that are set plainly by one alone; else the frame's edge; else
-   a neighbour whose centre is on the outline; else how the gaps to its four neighbours are met, where both are not covered. */
+/* The kind of a difference at a pixel: pixels there or beside it are set plainly by one alone; else it is set plainly, and lost;
+   else by what is beside it: the frame's edge; a neighbour whose centre is on the outline; else how the gaps to its four neighbours
+   are met, where both are not covered. */
 static int kind_of(int column, int row) {
     int how = 0;
     bool at_edge = false, is_beside = false;
     if (differs_plainly(column, row)) return PLAIN;
+    if (is_set(PLAIN_OURS, column, row)) return LOST;
     for (int in_column = 0; in_column < 2; in_column++)
         for (int before = 0; before < 2; before++) {
             const int x = column - (in_column ? 0 : before), y = row - (in_column ? before : 0);
