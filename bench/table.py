@@ -10,7 +10,7 @@ import sys
 
 CHARS = "20-19b,19d-24f,251-ffff"
 FONT = "/usr/share/fonts/truetype/dejavu/DejaVuSans.ttf"
-FIRST, BASIS = "mkstrike", "FreeType"
+FIRST, CLOSED, BASIS = "mkstrike", "mkstrike --dropout", "FreeType"
 
 
 class Tool:
@@ -26,8 +26,10 @@ def tools_of(options, font):
                                        if os.access(os.path.join(options.top, p), os.X_OK)), None)
     if program:
         path = os.path.abspath(options.program or os.path.join(options.top, program))
-        found.append(Tool(FIRST, lambda ppem, hinted: [path, "make", "--ppem", str(ppem), "--chars", options.chars]
-                          + ([] if hinted else ["--unhinted"])))
+        for name, more in ((FIRST, []), (CLOSED, ["--dropout"])):
+            if name == FIRST or options.dropout:
+                found.append(Tool(name, lambda ppem, hinted, more=more: [
+                    path, "make", "--ppem", str(ppem), "--chars", options.chars] + more + ([] if hinted else ["--unhinted"])))
     else:
         say("mkstrike is neither in out/ nor in crates/mkstrike/out/, and --program names none: it is left out")
     yardstick = os.path.join(options.tools, "yardstick")
@@ -145,7 +147,7 @@ def measure(tools, ppem, hinted, options):
         row["equal"] = sum(1 for code, picture in row["glyphs"].items() if basis.get(code) == picture)
         if options.keep:
             shutil.copy(out, os.path.join(options.keep, "%s-%d-%s.bdf" % (
-                tool.name.replace(", ", "-").replace(" ", "-"), ppem, "hinted" if hinted else "unhinted")))
+                re.sub("[^A-Za-z]+", "-", tool.name), ppem, "hinted" if hinted else "unhinted")))
     for _ in range(options.times):  # in turn, so that a busy second falls on all of them
         for tool in tools:
             row = rows[tool.name]
@@ -204,6 +206,7 @@ def main():
     p.add_argument("--modes", default="hinted unhinted")
     p.add_argument("--times", type=int, default=5)
     p.add_argument("--no-instructions", dest="instructions", action="store_false")
+    p.add_argument("--dropout", action="store_true", help="measure mkstrike with drop-out control too")
     p.add_argument("--keep", help="a folder for the strikes")
     p.add_argument("--tools", required=True, help=argparse.SUPPRESS)
     p.add_argument("--top", required=True, help=argparse.SUPPRESS)

@@ -1,5 +1,6 @@
 """Cases of tools/check_program: command lines, lists, names, and inputs."""
 import os
+import re
 
 import due
 import runs
@@ -19,8 +20,8 @@ FIRST = b"make --ppem 16 --chars 41"
 
 # ---- words ----
 
-# With the program's name these are the ten words that there may be.
-WHOLE = MAKE + ["--name", "F1", "--unhinted", "--hex"]
+# every option, but those that may be given more than once
+WHOLE = MAKE + ["--name", "F1", "--x11", "--dropout", "--unhinted", "--hex"]
 INCOMPLETE = [["make"], ["help"], ["--help"], ["-h"], ["--version"], [""], ["Make"], ["x"] + WHOLE, MAKE[:3],
               MAKE[:4], MAKE[:1] + MAKE[3:], MAKE[1:]]
 TOO_MANY = [WHOLE + more for more in (["x"], ["x", "y"], [""], ["-"], ["--"], ["--unhinted"])]
@@ -71,7 +72,7 @@ def words_that_parse():
             ("make --ppem +16 --chars 000041", data, made),
             ("make --name strike --hex --chars 41 --ppem 16", text, made),
             ("make --ppem 16 --chars 41 --name=-misc-x --unhinted --hex", text, SHORT.make([A], 16, False, "-misc-x")),
-            (WHOLE, text, SHORT.make([A], 16, False, "F1")),
+            (WHOLE, text, SHORT.make([A], 16, False, "F1", x11=True, closed=True)),
             (MAKE[:4] + [""], data, nothing),
             ("make --ppem 16 --chars=", data, nothing),
             ("show --char 41 --ppem 16", data, SHORT.show(A, 16)),
@@ -198,6 +199,65 @@ def properties():
               SHORT.make([A], 16, properties=["A 1"]))
 
 
+# ---- properties of X11 ----
+
+LONG_NAME = "-misc-dejavu sans-bold-o-normal--16-160-75-75-c-100-ISO10646-1"
+X11_NAMES = (None, "x", "a b", LONG_NAME, "-" * 14, "-" * 13, "-" * 15, "misc" + LONG_NAME, LONG_NAME + "-", LONG_NAME[:-1],
+             '-misc-say "hi"-medium-i-n--1-2-3-4-m-5-a-b', 'say "hi"', "x" * 255)
+X11_OVER = (["PIXEL_SIZE=9"], ["SLANT=I", "A=1"], ["A=1", "DEFAULT_CHAR=65", "FAMILY_NAME=Mine"],
+            ["P%d=%d" % (k, k) for k in range(64)], ['CHARSET_ENCODING="0"', "SPACING=C", "AVERAGE_WIDTH=-7"])
+
+
+def font_of_advances(advances):
+    """A font with a square for each code point, each of an advance of its own; 100 units are a pixel at 10 pixels an em."""
+    metrics = [(1000, 0)] + [(advance, 0) for advance in advances.values()]
+    return Font([Empty()] + [square(500)] * len(advances), {code: 1 + k for k, code in enumerate(advances)}, metrics=metrics)
+
+
+def lines_of(given):
+    """The lines of properties as they are given, whose values need no doubled quotation marks."""
+    return [text.replace("=", " ") if re.fullmatch("[^=]*=-?[0-9]+", text) else '%s "%s"' % (
+        text[:text.index("=")], text[text.index("=") + 1:].strip('"')) for text in given]
+
+
+def x11_by_name():
+    """What a name settles: of X11's form or not."""
+    data = SHORT.data()
+    for name in X11_NAMES:
+        words = MAKE + ["--x11"] + (["--name=" + name] if name else [])
+        yield Run("the name %r" % name, words, data, SHORT.make([A], 16, name=name or due.STRIKE, x11=True))
+
+
+def x11_by_glyphs():
+    """What glyphs settle: one advance or several, their mean, and the character that stands for others."""
+    for advances in ({}, {A: 1000}, {0x20: 1000}, {0xFFFD: 1000}, {0x20: 500, 0xFFFD: 700}, {A: 100, B: 200},
+                     {A: 100, B: 100, 0x43: 300}, {A: 0, B: 0}, {A: 0, B: 100, 0x43: 100}, {A: 640, B: 649}, {k: 100 for k in range(300)},
+                     {k: 100 * (k % 4) for k in range(0x20, 0x27)}, {0x20 + k: 100 * k for k in range(8)}):
+        font = font_of_advances(advances)
+        for ppem in (10, 1, 1024):
+            for hinted in (True, False):
+                words = ["make", "--ppem", str(ppem), "--chars", "0-12f,fffd", "--x11"] + ([] if hinted else ["--unhinted"])
+                due_of = font.make([*range(0x130), 0xFFFD], ppem, hinted, x11=True)
+                yield Run("advances of %s at %d" % (sorted(set(advances.values())), ppem), words, font.data(), due_of)
+    all_one, words = Font([Empty(), square(900)], 1), ["make", "--ppem", "12", "--chars", "0-ffff", "--x11"]
+    yield Run("65,536 characters", words, all_one.data(), all_one.make(range(65536), 12, x11=True))
+
+
+def x11_and_properties():
+    """Properties that are given stand after those of X11, and in place of those of their name; they keep their own limits."""
+    data, many = SHORT.data(), ["P%d=%d" % (k, k) for k in range(65)]
+    for given in X11_OVER:
+        for words in (["--x11"] + ["--property=" + text for text in given], ["--property=" + text for text in given] + ["--x11"]):
+            yield Run("%s and X11" % given[:3], MAKE + words, data, SHORT.make([A], 16, properties=lines_of(given), x11=True))
+    for given, position in ((many, 65), (["PIXEL_SIZE=1", "PIXEL_SIZE=2"], 2), (["FONT_ASCENT=1"], 1)):
+        words = MAKE + ["--x11"] + ["--property=" + text for text in given]
+        yield Run("%s and X11" % given[:3], words, data, refused("63 BadProperty %d" % position))
+    for words in (MAKE + ["--x11", "--x11"], MAKE + ["--x11=1"], MAKE + ["--X11"], "show --ppem 16 --char 41 --x11",
+                  "dump --of 1 --x11"):
+        yield Run(repr(words), words, data, usage())
+    yield Run("X11 in the first line", [], FIRST + b" --x11\n" + data, SHORT.make([A], 16, x11=True))
+
+
 # ---- inputs ----
 
 def small_inputs_by_pipe():
@@ -261,5 +321,5 @@ def faults_before_the_input_breaks():
 
 
 CASES = [large_inputs_by_pipe, small_inputs_by_pipe, words_that_do_not_parse, words_that_are_no_text,
-         words_that_parse, first_lines, long_lists_on_the_first_line, lists, long_lists, names, properties, hexadecimal,
-         broken_inputs, faults_before_the_input_breaks]
+         words_that_parse, first_lines, long_lists_on_the_first_line, lists, long_lists, names, properties, x11_by_name,
+         x11_by_glyphs, x11_and_properties, hexadecimal, broken_inputs, faults_before_the_input_breaks]

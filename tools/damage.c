@@ -274,6 +274,8 @@ static void pick_request(struct request *request) {
             add_word(request, &to, lists[below(sizeof lists / sizeof *lists)], 0);
         }
         if (once_in(2)) add_word(request, &to, "--unhinted", 0);
+        if (once_in(3)) add_word(request, &to, "--dropout", 0);
+        if (request->verb == MAKE && once_in(4)) add_word(request, &to, "--x11", 0);
     }
     if (request->hex) add_word(request, &to, "--hex", 0);
     request->words[request->count] = NULL;

@@ -266,15 +266,40 @@ class Glyph:
     def __init__(self, bits, advance, moved, steps=0, strays=0):
         self.bits, self.advance, self.moved, self.steps, self.strays = bits, advance, moved, steps, strays
 
+    @property
+    def width(self):
+        """The advance in pixels."""
+        return near(self.moved, 64)
+
     def tail(self, upem):
         """The lines after the code point."""
-        lines = ["SWIDTH %d 0" % near(self.advance * 1000, upem), "DWIDTH %d 0" % near(self.moved, 64),
+        lines = ["SWIDTH %d 0" % near(self.advance * 1000, upem), "DWIDTH %d 0" % self.width,
                  "BBX %d %d %d %d" % self.bits.box, "BITMAP"]
         return "\n".join(lines + row_lines(self.bits) + ["ENDCHAR\n"])
 
 
+def x11_properties(name, ppem, widths):
+    """What the X logical font description has of a strike, as lines. `widths` are the advances in pixels by code point."""
+    fields = name.split("-")
+    family, weight, slant = fields[2:5] if fields[0] == "" and len(fields) == 15 else (name, "Medium", "R")
+    spacing = "M" if len(set(widths.values())) < 2 else "P"
+    average = near(10 * sum(abs(width) for width in widths.values()), len(widths)) if widths else 0
+    lines = ['FAMILY_NAME "%s"' % family.replace('"', '""'), 'WEIGHT_NAME "%s"' % weight.replace('"', '""'),
+             'SLANT "%s"' % slant.replace('"', '""'), "PIXEL_SIZE %d" % ppem, "POINT_SIZE %d" % (10 * ppem), "RESOLUTION_X 72",
+             "RESOLUTION_Y 72", 'SPACING "%s"' % spacing, "AVERAGE_WIDTH %d" % average, 'CHARSET_REGISTRY "ISO10646"',
+             'CHARSET_ENCODING "1"']
+    return lines + ["DEFAULT_CHAR %d" % code for code in (0xFFFD, 0x20) if code in widths][:1]
+
+
+def with_x11(given, name, ppem, found):
+    """The lines of all properties with `--x11`: those of the names that the given ones do not have, and the given ones."""
+    more = x11_properties(name, ppem, {code: glyph.width for code, glyph in found})
+    taken = {line.split(" ")[0] for line in given}
+    return [line for line in more if line.split(" ")[0] not in taken] + list(given)
+
+
 def header(font, ppem, name, box, count, properties):
-    """The lines before the glyphs; `properties` are the lines of those that were asked for."""
+    """The lines before the glyphs; `properties` are the lines of those beside the first two."""
     ascent, descent = near(font.ascender * ppem, font.upem), near(-font.descender * ppem, font.upem)
     return "\n".join([
         "STARTFONT 2.1", "FONT %s" % name, "SIZE %d 72 72" % ppem, "FONTBOUNDINGBOX %d %d %d %d" % box,
@@ -282,10 +307,12 @@ def header(font, ppem, name, box, count, properties):
         "ENDPROPERTIES", "CHARS %d\n" % count])
 
 
-def strike(font, ppem, found, missing, name=STRIKE, prelude=(0, 0), properties=()):
+def strike(font, ppem, found, missing, name=STRIKE, prelude=(0, 0), properties=(), x11=False):
     """What is due of `make`: of the glyphs that are found for code points, a list of (code, glyph) in rising order.
 
-    `prelude` is the steps and strays of the font program and the control value program."""
+    `prelude` is the steps and strays of the font program and the control value program, `properties` are lines, and `x11` says
+    whether there are those of X11 too."""
+    properties = with_x11(properties, name, ppem, found) if x11 else properties
     tail = functools.cache(lambda glyph: glyph.tail(font.upem))
     box = hull([glyph.bits.box for glyph in {glyph for _, glyph in found}])
     text = [header(font, ppem, name, box, len(found), properties)]

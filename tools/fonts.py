@@ -115,8 +115,10 @@ def composite(parts, program=b""):
     return out + bytes(len(out) % 2)
 
 
-def font_of(glyphs, cmap, upem=1000, twilight=0, storage=0, functions=0, stack=0, **programs):
-    """A font of these glyphs, each its bytes; glyph 0 is the first. `programs` are fpgm, prep and cvt."""
+def font_of(glyphs, cmap, upem=1000, twilight=0, storage=0, functions=0, stack=0, metrics=None, **programs):
+    """A font of these glyphs, each its bytes; glyph 0 is the first. `programs` are fpgm, prep and cvt.
+
+    `metrics` are pairs of an advance and a left side bearing, one for each glyph; else all have one advance, and the bearing 0."""
     at, loca = 0, b""
     for glyph in glyphs:
         loca += struct.pack(">L", at)
@@ -124,9 +126,11 @@ def font_of(glyphs, cmap, upem=1000, twilight=0, storage=0, functions=0, stack=0
     loca += struct.pack(">L", at)
     head = struct.pack(">LLLLHH", 0x10000, 0, 0, 0x5F0F3CF5, 0, upem) + bytes(30) + struct.pack(">hh", 1, 0)
     maxp = struct.pack(">LHHHHHHHHHHHHHH", 0x10000, len(glyphs), 0, 0, 0, 0, 2, twilight, storage, functions, 0, stack, 0, 0, 0)
-    hhea = struct.pack(">Lhh", 0x10000, 800, -200) + bytes(26) + struct.pack(">H", 1)
-    tables = {"cmap": cmap, "glyf": b"".join(glyphs), "head": head, "hhea": hhea, "hmtx": struct.pack(">Hh", upem & 0x7FFF, 0)
-              + bytes(2 * (len(glyphs) - 1)), "loca": loca, "maxp": maxp}
+    hhea = struct.pack(">Lhh", 0x10000, 800, -200) + bytes(26) + struct.pack(">H", len(metrics) if metrics else 1)
+    hmtx = struct.pack(">Hh", upem & 0x7FFF, 0) + bytes(2 * (len(glyphs) - 1))
+    if metrics:
+        hmtx = b"".join(struct.pack(">Hh", *pair) for pair in metrics)
+    tables = {"cmap": cmap, "glyf": b"".join(glyphs), "head": head, "hhea": hhea, "hmtx": hmtx, "loca": loca, "maxp": maxp}
     for tag, data in programs.items():
         tables[tag.ljust(4)] = data
     return assemble(tables)

@@ -1,6 +1,7 @@
 """Makes fonts together with what is due of them: models of glyphs that give their bytes, and their bits at a size."""
 import functools
 
+import dropout
 import due
 import fonts
 
@@ -24,6 +25,15 @@ class Empty:
     def bits(self, font, ppem, hinted, move):
         """Its pixels, when its outline is moved to the right by so many 1/64 pixels."""
         return due.bits_of([(x0 + move, y0, x1 + move, y1) for x0, y0, x1, y1 in self.boxes(font, ppem, hinted)])
+
+    def placed(self, font, ppem):
+        """Its contours of points (x, y, on) in 1/64 pixels, if its program moves none."""
+        return []
+
+    def closed_bits(self, font, ppem, move):
+        """Its pixels with drop-out control, found one by one."""
+        contours = [[(x + move, y, on) for x, y, on in contour] for contour in self.placed(font, ppem)]
+        return dropout.bits_of([piece for contour in contours for piece in due.pieces_of(contour)])
 
 
 class Simple(Empty):
@@ -49,6 +59,12 @@ class Simple(Empty):
         placed = [tuple(due.scaled(v, ppem, font.upem) for v in box) for box in self.in_units]
         return self.after(placed, ppem) if hinted and self.after else placed
 
+    def placed(self, font, ppem):
+        def place(value):
+            return due.scaled(value, ppem, font.upem)
+        assert self.after is None
+        return [[(place(x), place(y), on) for x, y, on in contour] for contour in self.outline()]
+
     def counts(self, font):
         return (self.code.steps, self.code.strays) if self.code else (0, 0)
 
@@ -60,10 +76,8 @@ class Curved(Simple):
         Simple.__init__(self, [], contours)
 
     def bits(self, font, ppem, hinted, move):
-        def place(value):
-            return due.scaled(value, ppem, font.upem)
-        return due.bits_of_pieces([piece for contour in self.contours for piece in due.pieces_of(
-            [(place(x) + move, place(y), on) for x, y, on in contour])])
+        return due.bits_of_pieces([piece for contour in self.placed(font, ppem) for piece in due.pieces_of(
+            [(x + move, y, on) for x, y, on in contour])])
 
 
 class Composite(Empty):
@@ -83,6 +97,13 @@ class Composite(Empty):
             found += [(x0 + right, y0 + up, x1 + right, y1 + up) for x0, y0, x1, y1 in placed]
         return found
 
+    def placed(self, font, ppem):
+        found = []
+        for glyph, dx, dy in self.parts:
+            right, up = due.scaled(dx, ppem, font.upem), due.scaled(dy, ppem, font.upem)
+            found += [[(x + right, y + up, on) for x, y, on in contour] for contour in font.glyphs[glyph].placed(font, ppem)]
+        return found
+
     def counts(self, font):
         steps, strays = (self.code.steps, self.code.strays) if self.code else (0, 0)
         for glyph, _, _ in self.parts:
@@ -94,11 +115,12 @@ class Composite(Empty):
 class Font:
     """A font of models of glyphs. `codes` is a dict from code points to glyph numbers, or one number for all to FFFF.
 
-    `fpgm` and `prep` are programs, `cvt` is bytes, and the numbers are those of `maxp`."""
+    `fpgm` and `prep` are programs, `cvt` is bytes, and the numbers are those of `maxp`. `metrics` are pairs of an advance and a
+    left side bearing, one for each glyph; else each has the font's advance, and the bearing 0."""
 
-    def __init__(self, glyphs, codes, upem=1000, fpgm=None, prep=None, cvt=None, wide=False, **numbers):
+    def __init__(self, glyphs, codes, upem=1000, fpgm=None, prep=None, cvt=None, wide=False, metrics=None, **numbers):
         self.glyphs, self.codes, self.upem, self.fpgm, self.prep = glyphs, codes, upem, fpgm, prep
-        self.cvt, self.wide, self.numbers = cvt, wide, numbers
+        self.cvt, self.wide, self.metrics, self.numbers = cvt, wide, metrics, numbers
         self.ascender, self.descender, self.advance = 800, -200, upem & 0x7FFF
         # by the model, since many glyphs of a font may be of one
         self.boxes_of_model = functools.cache(lambda model, ppem, hinted: model.boxes(self, ppem, hinted))
@@ -112,7 +134,7 @@ class Font:
             programs["cvt"] = self.cvt
         data_of = functools.cache(lambda model: model.data())
         data = [data_of(model) for model in self.glyphs]
-        return fonts.font_of(data, self.cmap(), upem=self.upem, **self.numbers, **programs)
+        return fonts.font_of(data, self.cmap(), upem=self.upem, metrics=self.metrics, **self.numbers, **programs)
 
     def cmap(self):
         """Its character map: of format 12 if it is wide."""
@@ -132,31 +154,35 @@ class Font:
         """The steps and strays of a glyph's programs."""
         return self.counts_of_model(self.glyphs[number])
 
-    def glyph(self, number, ppem, hinted):
-        """A glyph at a size as the text has it."""
-        return self.glyph_of_model(self.glyphs[number], ppem, hinted)
+    def glyph(self, number, ppem, hinted, closed=False):
+        """A glyph at a size as the text has it; `closed` says whether with drop-out control."""
+        advance, bearing = self.metrics[number] if self.metrics else (self.advance, 0)
+        return self.glyph_of_model(self.glyphs[number], ppem, hinted, closed, advance, bearing)
 
-    def look_of(self, model, ppem, hinted):
-        """The same of a glyph's model."""
-        start = due.scaled(model.x_min, ppem, self.upem)
-        end = start + due.scaled(self.advance, ppem, self.upem)
+    def look_of(self, model, ppem, hinted, closed, advance, bearing):
+        """The same of a glyph's model, advance and left side bearing."""
+        start = due.scaled(model.x_min - bearing, ppem, self.upem)
+        end = start + due.scaled(advance, ppem, self.upem)
         if hinted:
             start, end = due.to_pixel(start), due.to_pixel(end)
         steps, strays = self.counts_of_model(model) if hinted else (0, 0)
-        return due.Glyph(model.bits(self, ppem, hinted, -start), self.advance, end - start, steps, strays)
+        bits = model.closed_bits(self, ppem, -start) if closed else model.bits(self, ppem, hinted, -start)
+        return due.Glyph(bits, advance, end - start, steps, strays)
 
-    def make(self, codes, ppem, hinted=True, name=due.STRIKE, properties=()):
-        """What is due of the strike of these code points; `properties` are the lines of those that were asked for."""
+    def make(self, codes, ppem, hinted=True, name=due.STRIKE, properties=(), x11=False, closed=False):
+        """What is due of the strike of these code points.
+
+        `properties` are lines, `x11` says whether there are those of X11 too, `closed` whether there is drop-out control."""
         codes = sorted(set(codes))
-        found = [(code, self.glyph(self.number_of(code), ppem, hinted)) for code in codes if self.number_of(code)]
+        found = [(code, self.glyph(self.number_of(code), ppem, hinted, closed)) for code in codes if self.number_of(code)]
         before = [code for code in (self.fpgm, self.prep) if code and hinted]
         prelude = (sum(code.steps for code in before), sum(code.strays for code in before))
-        return due.strike(self, ppem, found, len(codes) - len(found), name, prelude, properties)
+        return due.strike(self, ppem, found, len(codes) - len(found), name, prelude, properties, x11)
 
-    def show(self, code, ppem, hinted=True):
+    def show(self, code, ppem, hinted=True, closed=False):
         """What is due of a character's picture."""
         number = self.number_of(code)
-        return due.picture(self.glyph(number, ppem, hinted).bits) if number else due.listed(["missing"])
+        return due.picture(self.glyph(number, ppem, hinted, closed).bits) if number else due.listed(["missing"])
 
 
 def fixture():
