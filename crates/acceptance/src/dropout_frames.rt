@@ -15,7 +15,8 @@ fn keeps(rt: &impl Abort, alloc: Global, outline: &Outline, wanted: (i32, i32, u
     Ok(())
 }
 
-/// Hairlines on the border of two rows and of two columns: the upper and the right one. Without drop-out control they have no frame.
+/// Hairlines on the border of two rows and of two columns: the upper and the right one. Without drop-out control they have no
+/// frame.
 #[test]
 fn hairlines(rt: HostRuntime) -> Result<(), Fail> {
     let level = outline(rt.alloc(), &[on(0, 64), on(256, 64)], &[1])?;

@@ -24,15 +24,15 @@ record IsHigh (coord : Place → ℤ) (ss : List Span) (high : ℤ) : Type 0 whe
   is : HaveAny (λ q. coord q ≡ high) ss
   none : ¬ (HaveAny (λ q. high <ℤ coord q) ss)
 
-one_less : (x low : ℤ) → x <ℤ low → x ≤ℤ (low -ℤ pos 1)
-one_less x low h = omega (arith, signed_linear, h)
+at_most_one_less : (x low : ℤ) → x <ℤ low → x ≤ℤ (low -ℤ pos 1)
+at_most_one_less x low h = omega (arith, signed_linear, h)
 
-one_more : (x high : ℤ) → high <ℤ x → (high +ℤ pos 1) ≤ℤ x
-one_more x high h = omega (arith, signed_linear, h)
+at_least_one_more : (x high : ℤ) → high <ℤ x → (high +ℤ pos 1) ≤ℤ x
+at_least_one_more x high h = omega (arith, signed_linear, h)
 
-least_is : (coord : Place → ℤ) (ss : List Span) (low : ℤ) → ((t : ℤ) → HaveAny (λ q. coord q ≤ℤ t) ss ↔ (low ≤ℤ t))
+low_is_least : (coord : Place → ℤ) (ss : List Span) (low : ℤ) → ((t : ℤ) → HaveAny (λ q. coord q ≤ℤ t) ss ↔ (low ≤ℤ t))
     → IsLow coord ss low
-least_is coord ss low h = record {
+low_is_least coord ss low h = record {
   is = some_one (λ q. coord q ≤ℤ low) (HaveAny (λ q. coord q ≡ low) ss) ss ((h low).1 (omega (arith, ints)))
       (λ q k m. m (λ r. coord r ≡ low) (at q k m (below_or_not_ℤ (coord q) low)));
   none = none;
@@ -41,7 +41,7 @@ least_is coord ss low h = record {
     none : ¬ (HaveAny (λ q. coord q <ℤ low) ss)
     none k =
         let l = (h (low -ℤ pos 1)).0
-        (more (λ q. coord q <ℤ low) (λ q. coord q ≤ℤ (low -ℤ pos 1)) ss k (λ q b. one_less (coord q) low b)) in
+        (more (λ q. coord q <ℤ low) (λ q. coord q ≤ℤ (low -ℤ pos 1)) ss k (λ q b. at_most_one_less (coord q) low b)) in
         omega (arith, signed_linear, l)
 
     at : (q : Place) → coord q ≤ℤ low → ((R : Place → Type 0) → R q → HaveAny R ss) → (coord q <ℤ low) ⊎ (low ≤ℤ coord q)
@@ -49,9 +49,9 @@ least_is coord ss low h = record {
     at q k m (inl b) = absurd (none (m (λ r. coord r <ℤ low) b))
     at q k m (inr b) = omega (arith, signed_linear, k, b)
 
-greatest_is : (coord : Place → ℤ) (ss : List Span) (high : ℤ) → ((t : ℤ) → HaveAny (λ q. t ≤ℤ coord q) ss ↔ (t ≤ℤ high))
+high_is_greatest : (coord : Place → ℤ) (ss : List Span) (high : ℤ) → ((t : ℤ) → HaveAny (λ q. t ≤ℤ coord q) ss ↔ (t ≤ℤ high))
     → IsHigh coord ss high
-greatest_is coord ss high h = record {
+high_is_greatest coord ss high h = record {
   is = some_one (λ q. high ≤ℤ coord q) (HaveAny (λ q. coord q ≡ high) ss) ss ((h high).1 (omega (arith, ints)))
       (λ q k m. m (λ r. coord r ≡ high) (at q k m (below_or_not_ℤ high (coord q))));
   none = none;
@@ -60,7 +60,7 @@ greatest_is coord ss high h = record {
     none : ¬ (HaveAny (λ q. high <ℤ coord q) ss)
     none k =
         let l = (h (high +ℤ pos 1)).0
-        (more (λ q. high <ℤ coord q) (λ q. (high +ℤ pos 1) ≤ℤ coord q) ss k (λ q b. one_more (coord q) high b)) in
+        (more (λ q. high <ℤ coord q) (λ q. (high +ℤ pos 1) ≤ℤ coord q) ss k (λ q b. at_least_one_more (coord q) high b)) in
         omega (arith, signed_linear, l)
 
     at : (q : Place) → high ≤ℤ coord q → ((R : Place → Type 0) → R q → HaveAny R ss) → (high <ℤ coord q) ⊎ (coord q ≤ℤ high)
@@ -77,8 +77,8 @@ pub box_extents : (l r d u : ℤ) (ss : List Span)
     → ((side : Side) (t : ℤ) → HaveAny (IsOut side t) ss ↔ ReachOf l r d u side t)
     → IsExtent x_of ss l r × IsExtent y_of ss d u
 box_extents l r d u ss h = (
-  extent_is x_of ss l r (least_is x_of ss l (h left_side)) (greatest_is x_of ss r (h right_side)),
-  extent_is y_of ss d u (least_is y_of ss d (h bottom_side)) (greatest_is y_of ss u (h top_side)),
+  extent_is x_of ss l r (low_is_least x_of ss l (h left_side)) (high_is_greatest x_of ss r (h right_side)),
+  extent_is y_of ss d u (low_is_least y_of ss d (h bottom_side)) (high_is_greatest y_of ss u (h top_side)),
 )
 
 -- ---- there are extents
@@ -188,15 +188,15 @@ equal_at_most x y e = omega (arith, signed_linear, e)
 equal_at_least : (x y : ℤ) → x ≡ y → y ≤ℤ x
 equal_at_least x y e = omega (arith, signed_linear, e)
 
-same : (x y : ℤ) → x ≤ℤ y → y ≤ℤ x → x ≡ y
-same x y h k = omega (arith, signed_linear, h, k)
+same_by_order : (x y : ℤ) → x ≤ℤ y → y ≤ℤ x → x ≡ y
+same_by_order x y h k = omega (arith, signed_linear, h, k)
 
 -- two extents are one
 pub one_extent : (coord : Place → ℤ) (ss : List Span) (low high low' high' : ℤ) → IsExtent coord ss low high
     → IsExtent coord ss low' high' → (low ≡ low') × (high ≡ high')
 one_extent coord ss low high low' high' e f = (
-  same low low' (lows low high low' high' e f) (lows low' high' low high f e),
-  same high high' (highs low' high' low high f e) (highs low high low' high' e f),
+  same_by_order low low' (lows low high low' high' e f) (lows low' high' low high f e),
+  same_by_order high high' (highs low' high' low high f e) (highs low high low' high' e f),
 )
   where
     lows : (l h l' h' : ℤ) → IsExtent coord ss l h → IsExtent coord ss l' h' → l ≤ℤ l'

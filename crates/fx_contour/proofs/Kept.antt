@@ -32,16 +32,16 @@ use Rattle.fx_contour.proofs.Outside.{in_box}
 middle_one : (low high n m : ℤ) → IsMiddleOf low high n → IsMiddleOf low high m → n ≤ℤ m
 middle_one low high n m h k = let a = h.0 in let b = k.1 in omega (arith, signed, a, b)
 
-floor_low : (z : ℤ) → (pos 256 *ℤ int_div_euclid z (pos 256)) ≤ℤ z
-floor_low (pos n) = omega (arith, ints)
-floor_low (negsuc n) = omega (arith, ints)
+middle_at_least : (z : ℤ) → (pos 256 *ℤ int_div_euclid z (pos 256)) ≤ℤ z
+middle_at_least (pos n) = omega (arith, ints)
+middle_at_least (negsuc n) = omega (arith, ints)
 
-floor_high : (z : ℤ) → z ≤ℤ (pos 256 *ℤ int_div_euclid z (pos 256) +ℤ pos 255)
-floor_high (pos n) = omega (arith, ints)
-floor_high (negsuc n) = omega (arith, ints)
+middle_at_most : (z : ℤ) → z ≤ℤ (pos 256 *ℤ int_div_euclid z (pos 256) +ℤ pos 255)
+middle_at_most (pos n) = omega (arith, ints)
+middle_at_most (negsuc n) = omega (arith, ints)
 
 pub middle_is : (low high : ℤ) → IsMiddleOf low high (int_div_euclid (low +ℤ high) (pos 256))
-middle_is low high = by (int_div_euclid (low +ℤ high) (pos 256)) (floor_low (low +ℤ high)) (floor_high (low +ℤ high))
+middle_is low high = by (int_div_euclid (low +ℤ high) (pos 256)) (middle_at_least (low +ℤ high)) (middle_at_most (low +ℤ high))
   where
     by : (n : ℤ) → (pos 256 *ℤ n) ≤ℤ (low +ℤ high) → (low +ℤ high) ≤ℤ (pos 256 *ℤ n +ℤ pos 255) → IsMiddleOf low high n
     by n l h = (l, omega (arith, signed, h))

@@ -149,8 +149,8 @@ record IsWeighted (a b c p : Place) : Type 0 where
 at_least_zero : (x y : ℤ) → y ≤ℤ x → pos 0 ≤ℤ (x -ℤ y)
 at_least_zero x y h = omega (arith, signed_linear, h)
 
-above_zero : (x y : ℤ) → y <ℤ x → pos 0 <ℤ (x -ℤ y)
-above_zero x y h = omega (arith, signed_linear, h)
+difference_above_zero : (x y : ℤ) → y <ℤ x → pos 0 <ℤ (x -ℤ y)
+difference_above_zero x y h = omega (arith, signed_linear, h)
 
 not_both : (x y : ℤ) → x <ℤ y → ¬ (y ≤ℤ x)
 not_both x y h k = omega (arith, signed_linear, h, k)
@@ -171,8 +171,8 @@ reached_weighted a b c p (inl (ha, hc, inl k)) = absurd (not_both a.y p.y ha k)
 reached_weighted a b c p (inl (ha, hc, inr (inl k))) = absurd (not_both c.y p.y hc k)
 reached_weighted a b c p (inl (ha, hc, inr (inr t))) =
     weighted_by a b c p (p.y -ℤ a.y) (b.y -ℤ p.y) (p.y -ℤ c.y)
-    (weights_above (p.y -ℤ a.y) (b.y -ℤ p.y) (p.y -ℤ c.y) (above_zero p.y a.y ha) (by (below_or_not_ℤ b.y p.y))
-    (above_zero p.y c.y hc) (turn_above a.y b.y c.y p.y t.2)) (slope_from_below a b c p)
+    (weights_above (p.y -ℤ a.y) (b.y -ℤ p.y) (p.y -ℤ c.y) (difference_above_zero p.y a.y ha) (by (below_or_not_ℤ b.y p.y))
+    (difference_above_zero p.y c.y hc) (turn_above a.y b.y c.y p.y t.2)) (slope_from_below a b c p)
   where
     by : (b.y <ℤ p.y) ⊎ (p.y ≤ℤ b.y) → pos 0 ≤ℤ (b.y -ℤ p.y)
     by (inl h) = absurd (not_above_range a.y b.y c.y p.y ha h hc t)
@@ -181,8 +181,8 @@ reached_weighted a b c p (inr (ha, hc, inl k)) = absurd (not_both p.y a.y ha k)
 reached_weighted a b c p (inr (ha, hc, inr (inl k))) = absurd (not_both p.y c.y hc k)
 reached_weighted a b c p (inr (ha, hc, inr (inr t))) =
     weighted_by a b c p (a.y -ℤ p.y) (p.y -ℤ b.y) (c.y -ℤ p.y)
-    (weights_above (a.y -ℤ p.y) (p.y -ℤ b.y) (c.y -ℤ p.y) (above_zero a.y p.y ha) (by (below_or_not_ℤ p.y b.y))
-    (above_zero c.y p.y hc) (turn_below a.y b.y c.y p.y t.2)) (slope_from_above a b c p)
+    (weights_above (a.y -ℤ p.y) (p.y -ℤ b.y) (c.y -ℤ p.y) (difference_above_zero a.y p.y ha) (by (below_or_not_ℤ p.y b.y))
+    (difference_above_zero c.y p.y hc) (turn_below a.y b.y c.y p.y t.2)) (slope_from_above a b c p)
   where
     by : (p.y <ℤ b.y) ⊎ (b.y ≤ℤ p.y) → pos 0 ≤ℤ (p.y -ℤ b.y)
     by (inl h) = absurd (not_below_range a.y b.y c.y p.y ha h hc t)
@@ -215,8 +215,8 @@ right_no_tip a None c p q e ha hb hc t = t
 right_no_tip a (Some b) c p q e ha hb hc t =
     let w = reached_weighted a b c q (rw e t.reached) in
     falls_not (slope a b c q) _ w.is
-    (sum_above (a.x -ℤ q.x) (b.x -ℤ q.x) (c.x -ℤ q.x) w.first w.middle w.last (above_zero a.x q.x ha) (above_zero b.x q.x hb)
-    (above_zero c.x q.x hc) w.first_above w.middle_above w.last_above) t.falls
+    (sum_above (a.x -ℤ q.x) (b.x -ℤ q.x) (c.x -ℤ q.x) w.first w.middle w.last (difference_above_zero a.x q.x ha) (difference_above_zero b.x q.x hb)
+    (difference_above_zero c.x q.x hc) w.first_above w.middle_above w.last_above) t.falls
 
 left_no_tip : (a : Place) (b : Option Place) (c p q : Place) → a.x <ℤ p.x → OptionAll (λ e. e.x <ℤ p.x) b → c.x <ℤ p.x
     → ¬ (IsTipPart a b c p q)
@@ -224,8 +224,8 @@ left_no_tip a None c p q ha hb hc t = t
 left_no_tip a (Some b) c p q ha hb hc t =
     let w = reached_weighted a b c p t.reached in
     rises_not (slope a b c p) _ _ w.is (sum_turned a.x b.x c.x p.x w.first w.middle w.last)
-    (sum_above (p.x -ℤ a.x) (p.x -ℤ b.x) (p.x -ℤ c.x) w.first w.middle w.last (above_zero p.x a.x ha) (above_zero p.x b.x hb)
-    (above_zero p.x c.x hc) w.first_above w.middle_above w.last_above) t.rises
+    (sum_above (p.x -ℤ a.x) (p.x -ℤ b.x) (p.x -ℤ c.x) w.first w.middle w.last (difference_above_zero p.x a.x ha) (difference_above_zero p.x b.x hb)
+    (difference_above_zero p.x c.x hc) w.first_above w.middle_above w.last_above) t.rises
 
 -- ---- not met
 

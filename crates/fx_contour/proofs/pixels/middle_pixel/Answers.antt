@@ -11,8 +11,8 @@ middle_at : (low high s r : ℤ) → r ≡ int_div_euclid s (pos 256) → s ≡ 
 middle_at low high s r f e =
     subst (IsMiddleOf low high) (sym f) (subst (λ z. IsMiddleOf low high (int_div_euclid z (pos 256))) (sym e) (middle_is low high))
 
-kept : (r : ℤ) → IsWithin 32767 r → r ≡ to_z w32 (of_z w32 r)
-kept r h = omega (arith, signed_linear, h)
+kept_in_word : (r : ℤ) → IsWithin 32767 r → r ≡ to_z w32 (of_z w32 r)
+kept_in_word r h = omega (arith, signed_linear, h)
 
 pub returns-clause-middle : goal.returns-clause-middle
 returns-clause-middle c =
@@ -20,7 +20,7 @@ returns-clause-middle c =
     let b = c.requires.near_high in
     let r = c.div_euclid.result in
     let m = middle_at c.args.low c.args.high _ r c.div_euclid.ensures (omega (arith, signed_linear, a, b)) in
-    subst (IsMiddleOf c.args.low c.args.high) (kept r (middle_size c.args.low c.args.high r a b m)) m
+    subst (IsMiddleOf c.args.low c.args.high) (kept_in_word r (middle_size c.args.low c.args.high r a b m)) m
 
 pub returns-clause-size : goal.returns-clause-size
 returns-clause-size c =
@@ -29,4 +29,4 @@ returns-clause-size c =
     let r = c.div_euclid.result in
     let m = middle_at c.args.low c.args.high _ r c.div_euclid.ensures (omega (arith, signed_linear, a, b)) in
     let s = middle_size c.args.low c.args.high r a b m in
-    subst (IsWithin 32767) (kept r s) s
+    subst (IsWithin 32767) (kept_in_word r s) s
