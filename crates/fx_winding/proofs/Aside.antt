@@ -215,8 +215,8 @@ right_no_tip a None c p q e ha hb hc t = t
 right_no_tip a (Some b) c p q e ha hb hc t =
     let w = reached_weighted a b c q (rw e t.reached) in
     falls_not (slope a b c q) _ w.is
-    (sum_above (a.x -ℤ q.x) (b.x -ℤ q.x) (c.x -ℤ q.x) w.first w.middle w.last (difference_above_zero a.x q.x ha) (difference_above_zero b.x q.x hb)
-    (difference_above_zero c.x q.x hc) w.first_above w.middle_above w.last_above) t.falls
+    (sum_above (a.x -ℤ q.x) (b.x -ℤ q.x) (c.x -ℤ q.x) w.first w.middle w.last (difference_above_zero a.x q.x ha)
+    (difference_above_zero b.x q.x hb) (difference_above_zero c.x q.x hc) w.first_above w.middle_above w.last_above) t.falls
 
 left_no_tip : (a : Place) (b : Option Place) (c p q : Place) → a.x <ℤ p.x → OptionAll (λ e. e.x <ℤ p.x) b → c.x <ℤ p.x
     → ¬ (IsTipPart a b c p q)
@@ -224,8 +224,8 @@ left_no_tip a None c p q ha hb hc t = t
 left_no_tip a (Some b) c p q ha hb hc t =
     let w = reached_weighted a b c p t.reached in
     rises_not (slope a b c p) _ _ w.is (sum_turned a.x b.x c.x p.x w.first w.middle w.last)
-    (sum_above (p.x -ℤ a.x) (p.x -ℤ b.x) (p.x -ℤ c.x) w.first w.middle w.last (difference_above_zero p.x a.x ha) (difference_above_zero p.x b.x hb)
-    (difference_above_zero p.x c.x hc) w.first_above w.middle_above w.last_above) t.rises
+    (sum_above (p.x -ℤ a.x) (p.x -ℤ b.x) (p.x -ℤ c.x) w.first w.middle w.last (difference_above_zero p.x a.x ha)
+    (difference_above_zero p.x b.x hb) (difference_above_zero p.x c.x hc) w.first_above w.middle_above w.last_above) t.rises
 
 -- ---- not met
 
