@@ -1,6 +1,6 @@
-//! The gaps of rows and of columns closed, in place.
+//! The gaps of rows and of columns closed, in place, by a look at each pair of neighbours.
 
-ghost use Rattle.std.specs.Prelude.{◌≡◌, ◌≢◌, ◌⊎◌, ◌↔◌, ◌<◌, IsTrue, OnOk, ℤ, ◌+ℤ◌, ◌-ℤ◌, pos, map, true};
+ghost use Rattle.std.specs.Prelude.{◌≡◌, ◌≢◌, ◌⊎◌, ◌↔◌, ◌<◌, IsTrue, ℤ, ◌+ℤ◌, ◌-ℤ◌, pos, map, true};
 ghost use Rattle.fx_winding.specs.Bitmaps.{bit_of, IsScanOf};
 ghost use Rattle.fx_winding.specs.Dropout.{IsGap, IsBridged, IsSet};
 ghost use Rattle.fx_winding.specs.Frames.{IsFrom, IsInFrame, HasMargin};
@@ -11,11 +11,10 @@ ghost use Rattle.fx_dropout.specs.inner.Turned.{seen_spans, IsSeenInFrame};
 
 use crate::gaps::is_gap;
 use crate::turned::{seen_frame, set};
-use fx_winding::{Bitmap, Frame, Pieces, ScanFault};
-use std::alloc::Global;
+use fx_winding::{Bitmap, Frame, Pieces};
 
 /// Sets one of two neighbours, at `at`, if they are a gap: those in the columns i and i + 1.
-fn close_gap(turned: bool, pieces: &Pieces, bitmap: &mut Bitmap, i: i32, j: i32, at: i32)
+pub(crate) fn close_gap(turned: bool, pieces: &Pieces, bitmap: &mut Bitmap, i: i32, j: i32, at: i32)
     requires here { IsPixelNumber i }
     requires next { IsPixelNumber (i +ℤ pos 1) }
     requires row { IsPixelNumber j }
@@ -56,7 +55,7 @@ fn close_row(turned: bool, pieces: &Pieces, frame: Frame, bitmap: &mut Bitmap, j
 }
 
 /// Closes the gaps of all rows of the frame, or of its columns, seen as rows.
-fn close_rows(turned: bool, pieces: &Pieces, bitmap: &mut Bitmap)
+pub(crate) fn close_rows(turned: bool, pieces: &Pieces, bitmap: &mut Bitmap)
     requires margin { HasMargin bitmap.old.frame }
     ensures frame { bitmap.new.frame ≡ bitmap.old.frame }
     ensures closed { (i j : ℤ) → IsSoFar turned (map span_of pieces.now) bitmap.old.frame bitmap.new i j ↔
@@ -70,18 +69,15 @@ fn close_rows(turned: bool, pieces: &Pieces, bitmap: &mut Bitmap)
     }
 }
 
-/// Closes the gaps of the rows, and then those that are left in the columns: a bitmap that a scan of the pieces gave has the bits
-/// that drop-out control sets in its frame then. Only out of memory makes it fail; some gaps may be closed then.
-///
-/// The columns and rows beside the frame must have numbers too.
-pub fn close_gaps(_alloc: Global, pieces: &Pieces, bitmap: &mut Bitmap) -> Result<(), ScanFault>
+/// Closes the gaps of the rows, and then those that are left in the columns, as `close_gaps` does, but looks at each pair of
+/// neighbours. It takes no memory.
+pub fn close_gaps_plainly(pieces: &Pieces, bitmap: &mut Bitmap)
     requires margin { HasMargin bitmap.old.frame }
     requires scanned { IsScanOf bitmap.old.frame (map span_of pieces.now) bitmap.old }
     ensures frame { bitmap.new.frame ≡ bitmap.old.frame }
-    ensures bits { OnOk result ((col row : ℤ) → IsInFrame bitmap.old.frame col row →
-        IsTrue (bit_of bitmap.new col row) ↔ IsSet (map span_of pieces.now) bitmap.old.frame col row) }
+    ensures bits { (col row : ℤ) → IsInFrame bitmap.old.frame col row →
+        IsTrue (bit_of bitmap.new col row) ↔ IsSet (map span_of pieces.now) bitmap.old.frame col row }
 {
     close_rows(false, pieces, bitmap);
     close_rows(true, pieces, bitmap);
-    Ok(())
 }

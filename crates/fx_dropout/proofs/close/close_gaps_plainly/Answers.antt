@@ -5,7 +5,7 @@ use Rattle.fx_winding.specs.Winding.{span_of}
 use Rattle.fx_dropout.specs.inner.Lines.{IsSoFar}
 use Rattle.fx_dropout.specs.inner.Turned.{seen_spans, IsSeenInFrame}
 use Rattle.fx_dropout.proofs.Rows.{columns_after_rows, scan_so_far, so_far_in_frame}
-use Rattle.fx_dropout.proofs.close.close_gaps.Goals as goal
+use Rattle.fx_dropout.proofs.close.close_gaps_plainly.Goals as goal
 
 pub returns-clause-bits : goal.returns-clause-bits
 returns-clause-bits c =
