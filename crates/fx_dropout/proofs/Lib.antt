@@ -1,2 +1,4 @@
 pub mod Rows
 pub mod Missed
+pub mod Exchanged
+pub mod Segments

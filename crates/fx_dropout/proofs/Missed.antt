@@ -33,11 +33,16 @@ any_met turned p q ps k s within is h =
     (any_map (λ s. seen_span turned (span_of s)) (λ s. IsMet p q (seen_span turned (span_of s))) (IsMet p q) (λ s m. m) ps
     (k, s, within, is, h))
 
+-- a piece of those seen that meets the segment is one of the pieces
+pub met_unseen : (turned : Bool) (p q : Place) (ps : List Piece) → Any (IsMet p q) (seen_spans turned (map span_of ps))
+    → Any (λ s. IsMet p q (seen_span turned (span_of s))) ps
+met_unseen turned p q ps a =
+    any_unmap (λ s. seen_span turned (span_of s)) (λ s. IsMet p q (seen_span turned (span_of s))) (IsMet p q) (λ s m. m) ps
+    (subst (Any (IsMet p q)) (sym (seen_all turned ps)) a)
+
 pub none_met : (turned : Bool) (p q : Place) (ps : List Piece) → All (IsMissed turned p q) ps
     → ¬ (Any (IsMet p q) (seen_spans turned (map span_of ps)))
-none_met turned p q ps off a =
-    by (any_unmap (λ s. seen_span turned (span_of s)) (λ s. IsMet p q (seen_span turned (span_of s))) (IsMet p q) (λ s m. m) ps
-    (subst (Any (IsMet p q)) (sym (seen_all turned ps)) a))
+none_met turned p q ps off a = by (met_unseen turned p q ps a)
   where
     by : Any (λ s. IsMet p q (seen_span turned (span_of s))) ps → ⊥
     by (k, s, within, is, h) = subst (IsMissed turned p q) is (off k s within) h

@@ -1,4 +1,4 @@
-//! The gaps of rows and of columns closed, in place.
+//! The gaps of rows and of columns closed, in place, by a look at each pair of neighbours.
 
 ghost use Rattle.std.specs.Prelude.{◌≡◌, ◌≢◌, ◌⊎◌, ◌↔◌, ◌<◌, IsTrue, ℤ, ◌+ℤ◌, ◌-ℤ◌, pos, map, true};
 ghost use Rattle.fx_winding.specs.Bitmaps.{bit_of, IsScanOf};
@@ -14,7 +14,7 @@ use crate::turned::{seen_frame, set};
 use fx_winding::{Bitmap, Frame, Pieces};
 
 /// Sets one of two neighbours, at `at`, if they are a gap: those in the columns i and i + 1.
-fn close_gap(turned: bool, pieces: &Pieces, bitmap: &mut Bitmap, i: i32, j: i32, at: i32)
+pub(crate) fn close_gap(turned: bool, pieces: &Pieces, bitmap: &mut Bitmap, i: i32, j: i32, at: i32)
     requires here { IsPixelNumber i }
     requires next { IsPixelNumber (i +ℤ pos 1) }
     requires row { IsPixelNumber j }
@@ -55,7 +55,7 @@ fn close_row(turned: bool, pieces: &Pieces, frame: Frame, bitmap: &mut Bitmap, j
 }
 
 /// Closes the gaps of all rows of the frame, or of its columns, seen as rows.
-fn close_rows(turned: bool, pieces: &Pieces, bitmap: &mut Bitmap)
+pub(crate) fn close_rows(turned: bool, pieces: &Pieces, bitmap: &mut Bitmap)
     requires margin { HasMargin bitmap.old.frame }
     ensures frame { bitmap.new.frame ≡ bitmap.old.frame }
     ensures closed { (i j : ℤ) → IsSoFar turned (map span_of pieces.now) bitmap.old.frame bitmap.new i j ↔
@@ -69,11 +69,9 @@ fn close_rows(turned: bool, pieces: &Pieces, bitmap: &mut Bitmap)
     }
 }
 
-/// Closes the gaps of the rows, and then those that are left in the columns: a bitmap that a scan of the pieces gave has the bits
-/// that drop-out control sets in its frame then. It takes no memory.
-///
-/// The columns and rows beside the frame must have numbers too.
-pub fn close_gaps(pieces: &Pieces, bitmap: &mut Bitmap)
+/// Closes the gaps of the rows, and then those that are left in the columns, as `close_gaps` does, but looks at each pair of
+/// neighbours. It takes no memory.
+pub fn close_gaps_plainly(pieces: &Pieces, bitmap: &mut Bitmap)
     requires margin { HasMargin bitmap.old.frame }
     requires scanned { IsScanOf bitmap.old.frame (map span_of pieces.now) bitmap.old }
     ensures frame { bitmap.new.frame ≡ bitmap.old.frame }

@@ -7,6 +7,8 @@
 
 mod close;
 mod gaps;
+mod noted;
 mod turned;
 
-pub use close::close_gaps;
+pub use close::close_gaps_plainly;
+pub use noted::close_gaps;

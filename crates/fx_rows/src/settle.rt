@@ -7,7 +7,7 @@ ghost use Rattle.fx_winding.specs.Bitmaps.{word_bit};
 ghost use Rattle.fx_rows.specs.inner.Sums.{before, sum_of, AreTouched, count_bit};
 
 /// The first column of a word whose bit is set.
-fn first_column(word: u32) -> u32
+pub(crate) fn first_column(word: u32) -> u32
     requires { 0 < word }
     ensures within { result < 32 }
     ensures set { bit_at word (31 - result) ≡ 1 }

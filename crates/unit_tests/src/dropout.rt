@@ -93,7 +93,7 @@ fn closed(alloc: Global, curves: &[Curve], frame: (u8, u8, u8, u8)) -> Result<Bi
     };
     let mut tally = Tally::new();
     let mut bitmap = Plain.scan(alloc, &pieces, frame, &mut tally)?;
-    close_gaps(&pieces, &mut bitmap);
+    close_gaps(alloc, &pieces, &mut bitmap)?;
     Ok(bitmap)
 }
 

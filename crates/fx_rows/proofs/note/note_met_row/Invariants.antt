@@ -1,0 +1,12 @@
+use Rattle.std.proofs.Common.{◌≡◌, ◌≤◌, ◌<◌, ℕ}
+use Rattle.fx_winding.specs.Bitmaps.{word_bit}
+use Rattle.fx_winding.specs.Winding.{span_of}
+use Rattle.fx_rows.specs.Notes.{segment_number, AreKept, IsMetAt}
+use Rattle.fx_rows.proofs.note.note_met_row.Given as goal
+
+abbrev pub invariant-segments : goal.invariant-segments
+invariant-segments l = record {
+  set : (k : ℕ) → l.fn.segments.first ≤ k → k < l.k → IsMetAt (span_of l.piece) l.fn.frame l.fn.up k
+      → word_bit l.noted (segment_number l.fn.frame l.fn.up k) ≡ 1;
+  kept : AreKept l.fn.noted l.noted;
+}
