@@ -14,6 +14,8 @@ mod cuts;
 #[cfg(test)]
 mod damaged;
 #[cfg(test)]
+mod dropout_frames;
+#[cfg(test)]
 mod fonts;
 #[cfg(test)]
 mod halves;

@@ -14,6 +14,7 @@ use Rattle.std.proofs.lemmas.Bool.{false_from_ne_true}
 use Rattle.fx_winding.specs.declared.frame.Frame.{Frame}
 use Rattle.fx_contour.specs.declared.fault.ContourFault.{ContourFault}
 use Rattle.fx_contour.specs.declared.fault.ContourFault.TheVariants.{TooFar, TooLarge}
+use Rattle.fx_contour.proofs.Drawn.{drawn_from}
 use Rattle.fx_contour.proofs.Framed.{frame_not_too_large}
 use Rattle.fx_fixed.specs.Ranges.{IsWithin}
 use Rattle.fx_winding.specs.Limits.{greatest_side}
@@ -28,7 +29,7 @@ use Rattle.fx_contour.specs.Frames.{outline_framed_of}
 pub le_decides : (x y : ℤ) → Decides (int_le x y) (x ≤ℤ y)
 le_decides x y = (λ t. omega (arith, ints), λ h. sym (omega (arith, ints)))
 
-within_decides : (n : ℕ) (z : ℤ) → Decides (is_within n z) (IsWithin n z)
+pub within_decides : (n : ℕ) (z : ℤ) → Decides (is_within n z) (IsWithin n z)
 within_decides n z = Decides-and (int_le (neg_ℤ (pos n)) z) (int_le z (pos n)) (le_decides (neg_ℤ (pos n)) z) (le_decides z (pos n))
 
 pub reach_is_tested : ReachIsTested
@@ -47,7 +48,7 @@ has_decides t P d s =
     option None = (λ e. absurd (cc), λ n. absurd n)
     option (Some b) = d b
 
-have_decides : (t : Place → Bool) (P : Place → Type 0) → ((q : Place) → Decides (t q) (P q)) → (ss : List Span)
+pub have_decides : (t : Place → Bool) (P : Place → Type 0) → ((q : Place) → Decides (t q) (P q)) → (ss : List Span)
     → Decides (have_any t ss) (HaveAny P ss)
 have_decides t P d [] = (λ e. absurd (cc), λ n. absurd n)
 have_decides t P d (s ∷ ss) = Decides-or (has_any t s) (have_any t ss) (has_decides t P d s) (have_decides t P d ss)
@@ -80,7 +81,7 @@ large_decides ss i j =
     (box_decides (centre (i +ℤ pos greatest_side) j) ss) (box_decides (centre i (j +ℤ pos greatest_side)) ss))
 
 -- a point that has P, and with it all that a point of the spans gives
-some_one : (P : Place → Type 0) (X : Type 0) (ss : List Span) → HaveAny P ss
+pub some_one : (P : Place → Type 0) (X : Type 0) (ss : List Span) → HaveAny P ss
     → ((q : Place) → P q → ((R : Place → Type 0) → R q → HaveAny R ss) → X) → X
 some_one P X [] h f = absurd h
 some_one P X (s ∷ ss) (inr h) f = some_one P X ss h (λ q p m. f q p (λ R r. inr (m R r)))
@@ -92,7 +93,7 @@ some_one P X (s ∷ ss) (inl (inr (inl b))) f = by s.b b (λ q p m. f q p (λ R 
     by None n g = absurd n
     by (Some b) p g = g b p (λ R r. r)
 
-more : (P Q : Place → Type 0) (ss : List Span) → HaveAny P ss → ((q : Place) → P q → Q q) → HaveAny Q ss
+pub more : (P Q : Place → Type 0) (ss : List Span) → HaveAny P ss → ((q : Place) → P q → Q q) → HaveAny Q ss
 more P Q ss h f = some_one P (HaveAny Q ss) ss h (λ q p m. m Q (f q p))
 
 floor_low : (z : ℤ) → (pos 128 *ℤ int_div_euclid z (pos 128)) ≤ℤ z
@@ -103,11 +104,11 @@ floor_high : (z : ℤ) → z ≤ℤ (pos 128 *ℤ int_div_euclid z (pos 128) +�
 floor_high (pos n) = omega (arith, ints)
 floor_high (negsuc n) = omega (arith, ints)
 
-first_reaches : (z : ℤ) → z ≤ℤ (pos 128 *ℤ first_from z +ℤ pos 64)
+pub first_reaches : (z : ℤ) → z ≤ℤ (pos 128 *ℤ first_from z +ℤ pos 64)
 first_reaches z =
     let h : (z +ℤ pos 63) ≤ℤ (pos 128 *ℤ first_from z +ℤ pos 127) = floor_high (z +ℤ pos 63) in omega (arith, signed_linear)
 
-first_least : (z n : ℤ) → z ≤ℤ (pos 128 *ℤ n +ℤ pos 64) → first_from z ≤ℤ n
+pub first_least : (z n : ℤ) → z ≤ℤ (pos 128 *ℤ n +ℤ pos 64) → first_from z ≤ℤ n
 first_least z n h = let k : (pos 128 *ℤ first_from z) ≤ℤ (z +ℤ pos 63) = floor_low (z +ℤ pos 63) in omega (arith, ints)
 
 -- a place no farther right and up than one in the box, and right of q and above r, is in the box
@@ -186,12 +187,11 @@ framed_is (Ok f) ss h k =
     rw (false_from_ne_true (is_too_large ss) (λ e. frame_not_too_large f ss h ((large_is_tested ss).0 e))) refl
 framed_is (Err e) ss h k = rw ((large_is_tested ss).1 k.1, k.0) refl
 
-pub outline_framed_far : (ends : List ℕ) (points xs : List OutlinePoint) (r : Bool) → xs ≡ points
-    → (IsTrue r ↔ All IsInReach xs) → r ≡ false → Err TooFar ≡ outline_framed_of ends points
-outline_framed_far ends points xs r e d f = rw (drawn_far ends points xs r e d f) refl
+pub drawn_in_reach : (ends : List ℕ) (points : List OutlinePoint) → All IsInReach points
+    → drawn_of ends points ≡ Ok (spans_of ends points)
+drawn_in_reach ends points n = drawn_from ends points ((reach_is_tested points).1 n)
 
-pub outline_framed_near : (ends : List ℕ) (points xs : List OutlinePoint) (r : Bool) (f : Result (Option Frame) ContourFault)
-    → xs ≡ points → (IsTrue r ↔ All IsInReach xs) → r ≡ true → IfOk f (λ x. IsFrameFor x (spans_of ends points))
+pub outline_framed_is : (ends : List ℕ) (points : List OutlinePoint) (f : Result (Option Frame) ContourFault)
+    → All IsInReach points → IfOk f (λ x. IsFrameFor x (spans_of ends points))
     → IfErr f (λ e. (e ≡ TooLarge) × AreTooLarge (spans_of ends points)) → map_ok (λ _. tt) f ≡ outline_framed_of ends points
-outline_framed_near ends points xs r f e d t h k =
-    rw (drawn_near ends points xs r (spans_of ends points) e d t refl) (framed_is f (spans_of ends points) h k)
+outline_framed_is ends points f n h k = rw (drawn_in_reach ends points n) (framed_is f (spans_of ends points) h k)

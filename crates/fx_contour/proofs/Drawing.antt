@@ -7,7 +7,6 @@ use Rattle.std.proofs.lemmas.Int.{ints}
 use Rattle.std.proofs.lemmas.List.{drop-drop, length-take, length-drop}
 use Rattle.std.proofs.lemmas.List.Elements.{All-nil, All-cons, All-head, All-tail}
 use Rattle.fx_winding.specs.Area.{Place}
-use Rattle.fx_winding.specs.Winding.{centre}
 use Rattle.fx_winding.specs.Outside.{joined}
 use Rattle.fx_hint.specs.declared.points.OutlinePoint.{OutlinePoint}
 use Rattle.fx_hint.specs.Ends.{AreEnds}
@@ -15,9 +14,9 @@ use Rattle.fx_hint.proofs.Contours.{ends_reach}
 use Rattle.fx_contour.specs.declared.extent.Extent.{Extent}
 use Rattle.fx_contour.specs.Curve.{doubled_of, curve_of}
 use Rattle.fx_contour.specs.Contours.{contours_from, spans_of, farthest, IsInReach}
-use Rattle.fx_contour.specs.Frames.{HaveAny, HaveNoPixel}
+use Rattle.fx_contour.specs.Frames.{HaveAny}
 use Rattle.fx_contour.specs.Bounds.{Side, left_side, right_side, bottom_side, top_side, IsOut, IsLeast, Extends, DoesExtend}
-use Rattle.fx_contour.specs.Bounds.{HavePoint, HaveTwo, KeepsLimit, ReachOf}
+use Rattle.fx_contour.specs.Bounds.{HavePoint, HaveTwo, KeepsLimit, ReachOf, AreBoundsOf}
 use Rattle.fx_contour.proofs.Hull.{hull_of, of_curve, have_either, have_left, have_right}
 
 -- ---- parts of a list of points
@@ -173,13 +172,12 @@ no_points_near o (p ∷ ps) s h =
     let P : Option Extent → Type 0 = λ x. IsLeast (DoesExtend x) (λ P. HavePoint P (p ∷ ps)) in
     absurd (((subst P s h).sides left_side (pos 2 *ℤ p.x)).0 (inl (omega (arith, ints))))
 
-pub no_points_no_pixel : (o : Option Extent) (ends : List ℕ) (points : List OutlinePoint) → o ≡ None
-    → IsLeast (DoesExtend o) (λ P. HavePoint P points) → HaveNoPixel (spans_of ends points)
-no_points_no_pixel o ends points s h col row b =
+pub no_points_no_bounds : (o : Option Extent) (ends : List ℕ) (points : List OutlinePoint) → o ≡ None
+    → IsLeast (DoesExtend o) (λ P. HavePoint P points) → AreBoundsOf None (spans_of ends points)
+no_points_no_bounds o ends points s h =
     let P : Option Extent → Type 0 = λ x. IsLeast (DoesExtend x) (λ P. HavePoint P points) in
     let g = subst P s h in
-    let t = (centre col row).x in
-    (g.sides left_side t).0 (of_curves left_side t 0 ends points b.left)
+    record { sides = λ side t. (λ k. (g.sides side t).0 (of_curves side t 0 ends points k), λ n. absurd n) }
 
 pub doubled_reaches : (l r d u l' r' d' u' : ℤ) → l' ≡ l → r' ≡ r → d' ≡ d → u' ≡ u → (side : Side) (t : ℤ)
     → ReachOf l' r' d' u' side t ↔ ReachOf l r d u side t

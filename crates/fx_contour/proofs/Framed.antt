@@ -1,6 +1,6 @@
 -- The frame from the bounding box.
 -- For the clauses of `frame`.
-use Rattle.std.proofs.Common.{◌≡◌, subst, ℕ, ◌<◌, ◌≤◌, inl, inr, ℤ, pos, ◌+ℤ◌, List, arith, ◌↔◌}
+use Rattle.std.proofs.Common.{◌≡◌, ◌⊎◌, subst, ℕ, ◌<◌, ◌≤◌, inl, inr, ℤ, pos, ◌+ℤ◌, List, arith, ◌↔◌}
 use Rattle.fx_fixed.proofs.Linear.{signed_linear}
 use Rattle.fx_winding.specs.Limits.{greatest_side}
 use Rattle.fx_winding.specs.Winding.{Span, centre}
@@ -11,10 +11,10 @@ use Rattle.std.proofs.Common.{Option, Some, None, Result, Ok, Err, IfOk, IfErr}
 use Rattle.std.specs.Prelude.{IsErrOf}
 use Rattle.fx_contour.specs.declared.fault.ContourFault.{ContourFault}
 use Rattle.fx_contour.specs.declared.fault.ContourFault.TheVariants.{TooLarge}
-use Rattle.fx_contour.specs.Frames.{IsInBoundingBox, IsFrameOf, IsFrameFor, HaveNoPixel, AreTooLarge}
+use Rattle.fx_contour.specs.Frames.{IsInBoundingBox, IsFrameOf, IsFrameFor, IsCentreIn, AreNoPixels, HaveNoPixel, AreTooLarge}
 use Rattle.fx_winding.specs.Frames.{IsFrom}
 use Rattle.fx_contour.specs.Bounds.{left_side, right_side, bottom_side, top_side, AreBounds, AreBoundsOf}
-use Rattle.fx_contour.specs.Bounds.{IsCentreIn, ArePixels, AreNoPixels}
+use Rattle.fx_contour.specs.Bounds.{ArePixels, IsBoxOf}
 
 pub same_pixels : (s : Pixels) (l h l' h' : ℤ) → l ≡ l' → h ≡ h' → ArePixels s l h → ArePixels s l' h'
 same_pixels s l h l' h' e f k =
@@ -53,13 +53,13 @@ no_columns b ss a n col row h = n col (column_in b ss col row a h)
 pub no_rows : (b : Bounds) (ss : List Span) → AreBounds b ss → AreNoPixels b.bottom b.top → HaveNoPixel ss
 no_rows b ss a n col row h = n row (row_in b ss col row a h)
 
-first_in : (first : ℤ) (count : ℕ) → 0 < count → IsFrom first count first
+pub first_in : (first : ℤ) (count : ℕ) → 0 < count → IsFrom first count first
 first_in first count h = (omega (arith, signed_linear), omega (arith, signed_linear))
 
-far_in : (first : ℤ) (count : ℕ) → greatest_side < count → IsFrom first count (first +ℤ pos greatest_side)
+pub far_in : (first : ℤ) (count : ℕ) → greatest_side < count → IsFrom first count (first +ℤ pos greatest_side)
 far_in first count h = (omega (arith, signed_linear), omega (arith, signed_linear))
 
-pub too_wide : (b : Bounds) (ss : List Span) (s r : Pixels) → AreBounds b ss → ArePixels s b.left b.right
+too_wide : (b : Bounds) (ss : List Span) (s r : Pixels) → AreBounds b ss → ArePixels s b.left b.right
     → ArePixels r b.bottom b.top → greatest_side < s.count → AreTooLarge ss
 too_wide b ss s r a h k n =
     let row = (k r.first).0 (first_in r.first r.count r.some) in (
@@ -70,7 +70,7 @@ too_wide b ss s r a h k n =
           ((h (s.first +ℤ pos greatest_side)).0 (far_in s.first s.count n)) row),
     )
 
-pub too_high : (b : Bounds) (ss : List Span) (s r : Pixels) → AreBounds b ss → ArePixels s b.left b.right
+too_high : (b : Bounds) (ss : List Span) (s r : Pixels) → AreBounds b ss → ArePixels s b.left b.right
     → ArePixels r b.bottom b.top → greatest_side < r.count → AreTooLarge ss
 too_high b ss s r a h k n =
     let column = (h s.first).0 (first_in s.first s.count s.some) in (
@@ -81,22 +81,27 @@ too_high b ss s r a h k n =
           ((k (r.first +ℤ pos greatest_side)).0 (far_in r.first r.count n))),
     )
 
+-- too many columns or rows
+pub too_large : (b : Bounds) (ss : List Span) (s r : Pixels) → AreBounds b ss → ArePixels s b.left b.right
+    → ArePixels r b.bottom b.top → greatest_side < s.count ⊎ greatest_side < r.count → AreTooLarge ss
+too_large b ss s r a h k (inl n) = too_wide b ss s r a h k n
+too_large b ss s r a h k (inr n) = too_high b ss s r a h k n
+
 pub is_frame : (b : Bounds) (ss : List Span) (s r : Pixels) (f : Frame) → AreBounds b ss → ArePixels s b.left b.right
-    → ArePixels r b.bottom b.top → s.first ≡ f.left → s.count ≡ f.width → r.first ≡ f.bottom → r.count ≡ f.height → IsFrameOf f ss
-is_frame b ss s r f a h k fl fw fb fh = record {
-  columns = rw (← fw) s.some;
-  rows = rw (← fh) r.some;
+    → ArePixels r b.bottom b.top → IsBoxOf f s r → IsFrameOf f ss
+is_frame b ss s r f a h k e = record {
+  columns = rw e.width s.some;
+  rows = rw e.height r.some;
   pixels = λ i j. (
-    λ p. box_from b ss i j a ((h i).0 (rw (fl, fw) p.column)) ((k j).0 (rw (fb, fh) p.row)),
+    λ p. box_from b ss i j a ((h i).0 (rw (← e.left, ← e.width) p.column)) ((k j).0 (rw (← e.bottom, ← e.height) p.row)),
     λ p. record {
-      column = rw (← fl, ← fw) ((h i).1 (column_in b ss i j a p));
-      row = rw (← fb, ← fh)
-          ((k j).1 (row_in b ss i j a p));
+      column = rw (e.left, e.width) ((h i).1 (column_in b ss i j a p));
+      row = rw (e.bottom, e.height) ((k j).1 (row_in b ss i j a p));
     },
   );
 }
 
-apart : (first : ℤ) (count : ℕ) (n : ℤ) → count ≤ greatest_side → IsFrom first count n
+pub apart : (first : ℤ) (count : ℕ) (n : ℤ) → count ≤ greatest_side → IsFrom first count n
     → ¬ (IsFrom first count (n +ℤ pos greatest_side))
 apart first count n h (a, b) (c, d) = omega (arith, signed_linear)
 

@@ -63,7 +63,7 @@ two A B C R S h k = (λ c. there (k.0 c), λ x. back x)
     back (inr (inr s)) = k.1 (inr s)
 
 -- a box that grows by R and then by S grows by both
-then : (a b c : Side → ℤ → Type 0) (R S : (Place → Type 0) → Type 0) → Grows a b R → Grows b c S → Grows a c (λ P. R P ⊎ S P)
+pub then : (a b c : Side → ℤ → Type 0) (R S : (Place → Type 0) → Type 0) → Grows a b R → Grows b c S → Grows a c (λ P. R P ⊎ S P)
 then a b c R S h k =
     record {
       sides = λ side t. two (a side t) (b side t) (c side t) (R (IsOut side t)) (S (IsOut side t)) (h.sides side t)

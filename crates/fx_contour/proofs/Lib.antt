@@ -7,8 +7,12 @@ pub mod Drawing
 pub mod Framed
 pub mod Walk
 pub mod Gather
-pub mod Decided
-pub mod Plane
 pub mod Drawn
+pub mod Decided
+pub mod Extents
+pub mod Kept
+pub mod DropoutFramed
+pub mod Bridged
+pub mod Plane
 pub mod Shifted
 pub mod Reversed

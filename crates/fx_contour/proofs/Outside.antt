@@ -10,7 +10,7 @@ use Rattle.fx_winding.specs.declared.frame.Frame.{Frame}
 use Rattle.fx_winding.proofs.Beside.{nothing_outside}
 use Rattle.fx_contour.specs.Frames.{HasAny, HaveAny, IsInBoundingBox, IsFrameFor, NothingOutsideFrame}
 
-piece_either : (P Q : Place → Type 0) → ((q : Place) → P q ⊎ Q q) → (s : Span) → HasAll P s ⊎ HasAny Q s
+pub piece_either : (P Q : Place → Type 0) → ((q : Place) → P q ⊎ Q q) → (s : Span) → HasAll P s ⊎ HasAny Q s
 piece_either P Q d s = by (d s.a) (option s.b) (d s.c)
   where
     option : (b : Option Place) → OptionAll P b ⊎ IsSomeAnd b Q

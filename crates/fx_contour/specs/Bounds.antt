@@ -1,7 +1,8 @@
 -- The bounding box of points, and the pixels of a row or a column.
-use Rattle.std.specs.Prelude.{◌⊎◌, ℤ, pos, ◌+ℤ◌, ◌*ℤ◌, ◌≤ℤ◌, ℕ, ◌+◌, ◌<◌, List, [], ◌∷◌, Option, Some, None, ◌↔◌}
+use Rattle.std.specs.Prelude.{◌≡◌, ◌⊎◌, ℤ, pos, ◌*ℤ◌, ◌≤ℤ◌, ℕ, ◌+◌, ◌<◌, List, [], ◌∷◌, Option, Some, None, ◌↔◌}
 use Rattle.fx_winding.specs.Area.{Place}
 use Rattle.fx_winding.specs.Winding.{Span}
+use Rattle.fx_winding.specs.declared.frame.Frame.{Frame}
 use Rattle.fx_winding.specs.Frames.{IsFrom}
 use Rattle.fx_contour.specs.declared.bounds.Bounds.{Bounds}
 use Rattle.fx_contour.specs.declared.extent.Extent.{Extent}
@@ -9,7 +10,9 @@ use Rattle.fx_contour.specs.declared.pixels.Pixels.{Pixels}
 use Rattle.fx_hint.specs.declared.points.OutlinePoint.{OutlinePoint}
 use Rattle.fx_contour.specs.Curve.{doubled_of}
 use Rattle.fx_contour.specs.Contours.{IsRangeNear}
-use Rattle.fx_contour.specs.Frames.{HaveAny}
+use Rattle.fx_contour.specs.Frames.{HaveAny, IsCentreIn}
+use Rattle.fx_contour.specs.DropoutFrames.{IsKeptIn, farthest_with_margin}
+use Rattle.fx_fixed.specs.Ranges.{IsWithin}
 
 -- the four sides of a box
 pub data Side : Type 0 where
@@ -80,14 +83,23 @@ abbrev pub HaveTwo : ℕ → List ℕ → Type 0
 HaveTwo start [] = Unit {0}
 HaveTwo start (e ∷ es) = (start < e) × HaveTwo (e + 1) es
 
--- the centre of pixel n lies from low to high
-abbrev pub IsCentreIn : ℤ → ℤ → ℤ → Type 0
-IsCentreIn low high n = (low ≤ℤ (pos 128 *ℤ n +ℤ pos 64)) × ((pos 128 *ℤ n +ℤ pos 64) ≤ℤ high)
-
 -- the pixels are those whose centres lie from low to high
 abbrev pub ArePixels : Pixels → ℤ → ℤ → Type 0
 ArePixels s low high = (n : ℤ) → IsFrom s.first s.count n ↔ IsCentreIn low high n
 
--- no pixel's centre lies from low to high
-abbrev pub AreNoPixels : ℤ → ℤ → Type 0
-AreNoPixels low high = (n : ℤ) → ¬ (IsCentreIn low high n)
+-- the pixels are those that drop-out control keeps from low to high
+abbrev pub AreKept : Pixels → ℤ → ℤ → Type 0
+AreKept s low high = (n : ℤ) → IsFrom s.first s.count n ↔ IsKeptIn low high n
+
+-- each side of the box leaves the margin that drop-out control needs
+abbrev pub BoundsLeaveMargin : Bounds → Type 0
+BoundsLeaveMargin b =
+    (IsWithin farthest_with_margin b.left × IsWithin farthest_with_margin b.right) ×
+    (IsWithin farthest_with_margin b.bottom × IsWithin farthest_with_margin b.top)
+
+-- f is the box of these columns and rows
+pub record IsBoxOf (f : Frame) (columns rows : Pixels) : Type 0 where
+  pub left : f.left ≡ columns.first
+  pub width : f.width ≡ columns.count
+  pub bottom : f.bottom ≡ rows.first
+  pub height : f.height ≡ rows.count

@@ -1,5 +1,5 @@
 -- The frame: the box of pixels whose centres lie in the closed bounding box of the points of the spans.
-use Rattle.std.specs.Prelude.{IsTrue, ◌⊎◌, ◌<◌, ℕ, ℤ, pos, ◌+ℤ◌, ◌≤ℤ◌, int_le, Bool, false, ◌&&◌, ◌||◌, Result, List, [], ◌∷◌}
+use Rattle.std.specs.Prelude.{IsTrue, ◌⊎◌, ◌<◌, ℕ, ℤ, pos, ◌+ℤ◌, ◌*ℤ◌, ◌≤ℤ◌, int_le, Bool, false, ◌&&◌, ◌||◌, Result, List, [], ◌∷◌}
 use Rattle.std.specs.Prelude.{Option, Some, None, IsSomeAnd, ◌↔◌}
 use Rattle.std.specs.Int.{int_div_euclid}
 use Rattle.std.specs.Option.{option_map_or}
@@ -36,6 +36,14 @@ pub record IsFrameOf (f : Frame) (ss : List Span) : Type 0 where
   pub columns : 0 < f.width
   pub rows : 0 < f.height
   pub pixels : (i j : ℤ) → IsInFrame f i j ↔ IsInBoundingBox (centre i j) ss
+
+-- the centre of pixel n lies from low to high
+abbrev pub IsCentreIn : ℤ → ℤ → ℤ → Type 0
+IsCentreIn low high n = (low ≤ℤ (pos 128 *ℤ n +ℤ pos 64)) × ((pos 128 *ℤ n +ℤ pos 64) ≤ℤ high)
+
+-- no pixel's centre lies from low to high
+abbrev pub AreNoPixels : ℤ → ℤ → Type 0
+AreNoPixels low high = (n : ℤ) → ¬ (IsCentreIn low high n)
 
 -- no pixel's centre lies in the bounding box
 abbrev pub HaveNoPixel : List Span → Type 0

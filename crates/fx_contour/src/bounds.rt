@@ -1,11 +1,16 @@
 //! The bounding box of points.
-ghost use Rattle.std.specs.Prelude.{◌^◌, ◌≡◌, ◌↔◌, ℤ, map, All, IsSomeAnd};
+ghost use Rattle.std.specs.Prelude.{◌^◌, ◌≡◌, ◌↔◌, ℤ, map, All, IsSomeAnd, IsTrue};
 ghost use Rattle.fx_fixed.specs.Ranges.{IsWithin};
+ghost use Rattle.fx_contour.specs.DropoutFrames.{farthest_with_margin};
 
 use crate::curves::twice;
 use crate::extent::Extent;
 use fx_hint::Outline;
 use fx_winding::{Piece, Point};
+
+/// The greatest distance of a point of a piece from either axis, with drop-out control, in 1/128 pixel: two pixels less than that
+/// of an outline's points.
+const FARTHEST_WITH_MARGIN: i32 = (1 << 22) - 256;
 
 /// The least box that holds some points, in 1/128 pixel.
 #[derive(Clone, Copy)]
@@ -25,6 +30,7 @@ impl Bounds {
     ghost use Rattle.fx_contour.specs.Contours.{IsInReach, spans_of};
     ghost use Rattle.fx_contour.specs.Frames.{HasAny, HaveAny};
     ghost use Rattle.fx_contour.specs.Bounds.{Side, Reaches, Grows, IsLeast, Extends, HavePoint, KeepsLimit, AreBoundsOf};
+    ghost use Rattle.fx_contour.specs.Bounds.{BoundsLeaveMargin};
 
     /// The box of one point.
     fn around(p: Point) -> Bounds
@@ -111,4 +117,25 @@ impl Bounds {
             Some(extent) => Some(Bounds::doubled(extent)),
         }
     }
+
+    /// Whether each side leaves the margin that drop-out control needs.
+    pub(crate) fn leaves_margin(&self) -> bool
+        ensures { IsTrue result ↔ BoundsLeaveMargin self.now }
+    {
+        are_inner(self.left, self.right) && are_inner(self.bottom, self.top)
+    }
+}
+
+/// Whether a coordinate is within the distance that leaves a margin.
+fn is_inner(z: i32) -> bool
+    ensures { IsTrue result ↔ IsWithin farthest_with_margin z }
+{
+    -FARTHEST_WITH_MARGIN <= z && z <= FARTHEST_WITH_MARGIN
+}
+
+/// Whether two coordinates are.
+fn are_inner(low: i32, high: i32) -> bool
+    ensures { IsTrue result ↔ (IsWithin farthest_with_margin low × IsWithin farthest_with_margin high) }
+{
+    is_inner(low) && is_inner(high)
 }

@@ -9,7 +9,7 @@ use thiserror::Error;
 /// Why an outline has no pieces or no frame.
 #[derive(Clone, Copy, Debug, PartialEq, Eq, Error)]
 pub enum ContourFault {
-    /// A point lies more than 2^21 from an axis, in 26.6 pixels.
+    /// A point lies more than 2^21 from an axis, in 26.6 pixels; with drop-out control, one of a piece more than 2^21 - 128.
     #[error("a point of the outline lies too far out")]
     TooFar,
     /// A side of the frame has more than 8,192 pixels.

@@ -1,10 +1,11 @@
 //! The box of pixels around pieces.
 
-ghost use Rattle.std.specs.Prelude.{◌≡◌, ◌↔◌, List, map, All, IfOk, IfErr, IsErrOf};
+ghost use Rattle.std.specs.Prelude.{◌≡◌, ◌↔◌, ◌⊎◌, ◌<◌, List, map, All, Err, IfOk, IfErr, IsErrOf};
 ghost use Rattle.fx_fixed.specs.Chain.{map_ok};
+ghost use Rattle.fx_winding.specs.Limits.{greatest_side};
 ghost use Rattle.fx_winding.specs.Winding.{Span, span_of};
-ghost use Rattle.fx_contour.specs.Bounds.{AreBoundsOf};
-ghost use Rattle.fx_contour.specs.Contours.{spans_of, IsInReach};
+ghost use Rattle.fx_contour.specs.Bounds.{AreBoundsOf, IsBoxOf};
+ghost use Rattle.fx_contour.specs.Contours.{spans_of, IsInReach, drawn_of};
 ghost use Rattle.fx_contour.specs.Frames.{IsFrameFor, AreTooLarge, NothingOutsideFrame, framed_of, outline_framed_of};
 
 use crate::bounds::Bounds;
@@ -34,13 +35,23 @@ pub fn outline_frame(outline: &Outline) -> Result<Option<Frame>, ContourFault>
     ensures outside { IfOk result (λ f. NothingOutsideFrame f (spans_of outline.now.ends.items outline.now.points.items)) }
     ensures reach { IfOk result (λ _. All IsInReach outline.now.points.items) }
 {
+    frame_around(outline_bounds(outline)?)
+}
+
+/// The bounding box of the pieces of an outline, if it has any pieces, or `TooFar` if a point of any contour lies too far out.
+#[inline]
+pub(crate) fn outline_bounds(outline: &Outline) -> Result<Option<Bounds>, ContourFault>
+    ensures ok { IfOk result (λ b. AreBoundsOf b (spans_of outline.now.ends.items outline.now.points.items)) }
+    ensures reach { IfOk result (λ _. All IsInReach outline.now.points.items) }
+    ensures fault { IfErr result (λ e. drawn_of outline.now.ends.items outline.now.points.items ≡ Err e) }
+{
     let Some(all) = Extent::of(&outline.points) else {
         return Ok(None);
     };
     if !all.keeps_limit() {
         return Err(ContourFault::TooFar);
     }
-    frame_around(Bounds::of_outline(outline, all))
+    Ok(Bounds::of_outline(outline, all))
 }
 
 /// The frame of the spans that have this bounding box, if they have one.
@@ -57,16 +68,24 @@ fn frame_around(bounds: Option<Bounds>) -> Result<Option<Frame>, ContourFault>
     let Some(rows) = Pixels::between(bounds.bottom, bounds.top) else {
         return Ok(None);
     };
+    Ok(Some(box_of(columns, rows)?))
+}
+
+/// The box of these columns and rows, or `TooLarge` past `MAX_SIDE` pixels a side.
+pub(crate) fn box_of(columns: Pixels, rows: Pixels) -> Result<Frame, ContourFault>
+    ensures ok { IfOk result (λ f. IsBoxOf f columns rows) }
+    ensures fault { IfErr result (λ e. (e ≡ ContourFault.TooLarge) × (greatest_side < columns.count ⊎ greatest_side < rows.count)) }
+{
     if columns.count > MAX_SIDE {
         return Err(ContourFault::TooLarge);
     }
     if rows.count > MAX_SIDE {
         return Err(ContourFault::TooLarge);
     }
-    Ok(Some(Frame {
+    Ok(Frame {
         left: columns.first,
         bottom: rows.first,
         width: columns.count,
         height: rows.count,
-    }))
+    })
 }

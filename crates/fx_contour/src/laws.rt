@@ -1,6 +1,8 @@
 //! Laws of the curve of a contour, over the definitions.
 ghost use Rattle.fx_contour.specs.Contours.{ReachIsTested};
 ghost use Rattle.fx_contour.specs.Curve.{CurvesAreClosed, CurveIsByMidpoints};
+ghost use Rattle.fx_contour.specs.DropoutFrames.{MarginIsTested, ManyIsTested, SomePixelIsKept, BoxIsKept, CoveredIsKept};
+ghost use Rattle.fx_contour.specs.DropoutFrames.{MetRowsAreKept, MetColumnsAreKept, NoRowHasGap, NoColumnHasGap};
 ghost use Rattle.fx_contour.specs.Frames.{LargeIsTested};
 ghost use Rattle.fx_contour.specs.Moves.{ShiftMovesSpans, ShiftMovesBits, ReversalReversesContours, ReversalReversesSpans, ReversalKeepsBits};
 
@@ -32,4 +34,19 @@ pub fn reversal()
     ensures contours { ReversalReversesContours }
     ensures spans { ReversalReversesSpans }
     ensures bits { ReversalKeepsBits }
+{}
+
+/// The frame with drop-out control has a pixel wherever there is a piece, all pixels of the frame without, all that are covered,
+/// and one of each two neighbours between whose centres a piece passes. So with drop-out control no stroke is lost anywhere:
+/// between two neighbours in a row or a column, neither of which is set, no piece passes. Its tests decide what they test.
+pub fn dropout()
+    ensures margin { MarginIsTested }
+    ensures many { ManyIsTested }
+    ensures some { SomePixelIsKept }
+    ensures holds { BoxIsKept }
+    ensures covered { CoveredIsKept }
+    ensures rows { MetRowsAreKept }
+    ensures columns { MetColumnsAreKept }
+    ensures no_row_gap { NoRowHasGap }
+    ensures no_column_gap { NoColumnHasGap }
 {}

@@ -3,6 +3,7 @@
 ghost use Rattle.std.specs.Prelude.{pos, ◌+ℤ◌, ◌≤ℤ◌, ◌<◌, ◌^◌, MatchOption};
 ghost use Rattle.fx_fixed.specs.Ranges.{IsWithin};
 ghost use Rattle.fx_winding.specs.Limits.{IsPixelNumber, end_of_pixels};
+ghost use Rattle.fx_contour.specs.DropoutFrames.{farthest_with_margin, IsMiddleOf};
 
 use fx_winding::first_from;
 
@@ -17,7 +18,8 @@ pub(crate) struct Pixels {
 }
 
 impl Pixels {
-    ghost use Rattle.fx_contour.specs.Bounds.{AreNoPixels, ArePixels};
+    ghost use Rattle.fx_contour.specs.Bounds.{ArePixels, AreKept};
+    ghost use Rattle.fx_contour.specs.Frames.{AreNoPixels};
 
     /// The pixels whose centres lie from `low` to `high`, in 1/128 pixel.
     pub(crate) fn between(low: i32, high: i32) -> Option<Pixels>
@@ -35,4 +37,31 @@ impl Pixels {
             count: (end - first) as u32,
         })
     }
+
+    /// The pixels whose centres lie from `low` to `high`, in 1/128 pixel; or, if there is none, the one in which the middle of the
+    /// two lies.
+    pub(crate) fn kept(low: i32, high: i32) -> Pixels
+        requires near_low { IsWithin farthest_with_margin low }
+        requires near_high { IsWithin farthest_with_margin high }
+        ensures { AreKept result low high }
+    {
+        if let Some(pixels) = Pixels::between(low, high) {
+            return pixels;
+        }
+        Pixels {
+            first: middle_pixel(low, high),
+            count: 1,
+        }
+    }
+}
+
+/// The pixel of a row, or a column, in which the middle of two places lies, in 1/128 pixel; the first of two at whose border it
+/// lies.
+fn middle_pixel(low: i32, high: i32) -> i32
+    requires near_low { IsWithin farthest_with_margin low }
+    requires near_high { IsWithin farthest_with_margin high }
+    ensures middle { IsMiddleOf low high result }
+    ensures size { IsWithin 32767 result }
+{
+    (low + high - 1).div_euclid(256)
 }

@@ -23,7 +23,7 @@ pub column_before : (i : ℤ) → i ≡ (i +ℤ pos 1) -ℤ pos 1
 column_before i = omega (arith, signed_linear)
 
 -- between two neighbours that are not set, one of which is inside, no piece passes
-bridged_no_gap : (ss : List Span) (In So : ℤ → ℤ → Type 0) (i j : ℤ) → In i j ⊎ In (i +ℤ pos 1) j → ¬ (IsBridged ss In So i j)
+pub bridged_no_gap : (ss : List Span) (In So : ℤ → ℤ → Type 0) (i j : ℤ) → In i j ⊎ In (i +ℤ pos 1) j → ¬ (IsBridged ss In So i j)
     → ¬ (IsBridged ss In So (i +ℤ pos 1) j) → ¬ (Any (IsMet (centre i j) (centre (i +ℤ pos 1) j)) ss)
 bridged_no_gap ss In So i j h n m a = by h
   where

@@ -1,6 +1,7 @@
-use Rattle.std.proofs.Common.{arith, refl}
+use Rattle.std.proofs.Common.{arith}
+use Rattle.std.proofs.lemmas.Result.{err_from_is_err_and}
 use Rattle.std.proofs.lemmas.Int.{ints}
-use Rattle.fx_contour.proofs.Framed.{same_pixels, same_none, no_box, no_columns, no_rows, too_wide, too_high, is_frame}
+use Rattle.fx_contour.proofs.Framed.{same_pixels, same_none, no_box, no_columns, no_rows, too_large, is_frame}
 use Rattle.fx_contour.proofs.Growing.{some_bounds}
 use Rattle.fx_contour.proofs.frames.frame_around.Goals as goal
 
@@ -19,28 +20,18 @@ returns-in_default-between-2-clause-ok c ss a =
     no_rows b ss (some_bounds c.args.bounds b ss c.in-Some.is a)
     (same_none _ _ b.bottom b.top (omega (arith, ints)) (omega (arith, ints)) c.in_default-between-2.ensures)
 
-pub returns-then-columns-gt-MAX_SIDE-clause-fault : goal.returns-then-columns-gt-MAX_SIDE-clause-fault
-returns-then-columns-gt-MAX_SIDE-clause-fault c ss a =
+pub returns-in_err-box_of-clause-fault : goal.returns-in_err-box_of-clause-fault
+returns-in_err-box_of-clause-fault c ss a =
+    let p = err_from_is_err_and c.from_residual.result c.from_residual.ensures.1 in
     let b = c.in-Some.bounds in
     let s = c.in-Some-between.columns in
-    let r = c.in-Some-between-2.rows in (
-      refl,
-      too_wide b ss s r (some_bounds c.args.bounds b ss c.in-Some.is a)
+    let r = c.in-Some-between-2.rows in
+    let f = c.in_err-box_of.ensures.fault in
+    rw (p.1, p.2) (
+      f.0,
+      too_large b ss s r (some_bounds c.args.bounds b ss c.in-Some.is a)
           (same_pixels s _ _ b.left b.right (omega (arith, ints)) (omega (arith, ints)) c.in-Some-between.ensures)
-          (same_pixels r _ _ b.bottom b.top (omega (arith, ints)) (omega (arith, ints)) c.in-Some-between-2.ensures)
-          c.if-columns-gt-MAX_SIDE.true,
-    )
-
-pub returns-then-rows-gt-MAX_SIDE-clause-fault : goal.returns-then-rows-gt-MAX_SIDE-clause-fault
-returns-then-rows-gt-MAX_SIDE-clause-fault c ss a =
-    let b = c.in-Some.bounds in
-    let s = c.in-Some-between.columns in
-    let r = c.in-Some-between-2.rows in (
-      refl,
-      too_high b ss s r (some_bounds c.args.bounds b ss c.in-Some.is a)
-          (same_pixels s _ _ b.left b.right (omega (arith, ints)) (omega (arith, ints)) c.in-Some-between.ensures)
-          (same_pixels r _ _ b.bottom b.top (omega (arith, ints)) (omega (arith, ints)) c.in-Some-between-2.ensures)
-          c.if-rows-gt-MAX_SIDE.true,
+          (same_pixels r _ _ b.bottom b.top (omega (arith, ints)) (omega (arith, ints)) c.in-Some-between-2.ensures) f.1,
     )
 
 pub returns-clause-ok : goal.returns-clause-ok
@@ -48,7 +39,7 @@ returns-clause-ok c ss a =
     let b = c.in-Some.bounds in
     let s = c.in-Some-between.columns in
     let r = c.in-Some-between-2.rows in
+    let f = c.in_ok-box_of.ensures.ok in
     is_frame b ss s r _ (some_bounds c.args.bounds b ss c.in-Some.is a)
     (same_pixels s _ _ b.left b.right (omega (arith, ints)) (omega (arith, ints)) c.in-Some-between.ensures)
-    (same_pixels r _ _ b.bottom b.top (omega (arith, ints)) (omega (arith, ints)) c.in-Some-between-2.ensures)
-    (omega (arith, ints)) refl (omega (arith, ints)) refl
+    (same_pixels r _ _ b.bottom b.top (omega (arith, ints)) (omega (arith, ints)) c.in-Some-between-2.ensures) f

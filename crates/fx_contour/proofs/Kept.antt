@@ -1,0 +1,255 @@
+-- The columns and rows that drop-out control keeps.
+-- For `Pixels::kept`, `dropout_frame_around` and the law `dropout`.
+use Rattle.std.proofs.Common.{◌≡◌, ◌⊎◌, ◌↔◌, inl, inr, sym, subst, ℤ, pos, negsuc, ◌+ℤ◌, ◌-ℤ◌, ◌*ℤ◌, ◌≤ℤ◌}
+use Rattle.std.proofs.Common.{◌<ℤ◌, int_le, not, List, [], ◌∷◌, Option, Decides, arith}
+use Rattle.std.proofs.lemmas.Int.{ints}
+use Rattle.std.proofs.lemmas.Bool.Decides.{Decides-like, Decides-and, Decides-not}
+use Rattle.std.specs.Int.{int_div_euclid}
+use Rattle.fx_fixed.specs.Ranges.{IsWithin}
+use Rattle.fx_fixed.proofs.Linear.{signed, signed_linear}
+use Rattle.fx_fixed.proofs.Order.{below_or_not_ℤ}
+use Rattle.fx_winding.specs.Area.{Place}
+use Rattle.fx_winding.specs.declared.frame.Frame.{Frame}
+use Rattle.fx_winding.specs.Frames.{IsFrom}
+use Rattle.fx_winding.specs.Limits.{greatest_side, IsPixelNumber}
+use Rattle.fx_winding.specs.Winding.{Span, centre}
+use Rattle.fx_contour.specs.declared.pixels.Pixels.{Pixels}
+use Rattle.fx_contour.specs.Bounds.{ArePixels, AreKept}
+use Rattle.fx_contour.specs.Contours.{is_within}
+use Rattle.fx_contour.specs.DropoutFrames.{x_of, y_of, IsExtent, IsMiddleOf, IsKeptIn, IsKept}
+use Rattle.fx_contour.specs.DropoutFrames.{IsDropoutFrameFor, LeavesMargin, farthest_with_margin, leaves_margin}
+use Rattle.fx_contour.specs.DropoutFrames.{KeepsTooMany, keeps_too_many}
+use Rattle.fx_contour.specs.DropoutFrames.{MarginIsTested, ManyIsTested, SomePixelIsKept, BoxIsKept, CoveredIsKept}
+use Rattle.fx_contour.specs.Frames.{HaveAny, IsCentreIn, AreNoPixels, NothingOutsideFrame, have_any, first_from}
+use Rattle.fx_contour.proofs.Decided.{some_one, more, le_decides, have_decides, within_decides, first_reaches, first_least}
+use Rattle.fx_contour.proofs.Extents.{extents, in_extent, low_at_most, high_at_least, one_extent}
+use Rattle.fx_contour.proofs.Framed.{first_in}
+use Rattle.fx_contour.proofs.Outside.{in_box}
+
+-- ---- between two places
+
+-- a pixel has its centre between two places, or there is none there, and the middle lies in one
+middle_one : (low high n m : ℤ) → IsMiddleOf low high n → IsMiddleOf low high m → n ≤ℤ m
+middle_one low high n m h k = let a = h.0 in let b = k.1 in omega (arith, signed, a, b)
+
+floor_low : (z : ℤ) → (pos 256 *ℤ int_div_euclid z (pos 256)) ≤ℤ z
+floor_low (pos n) = omega (arith, ints)
+floor_low (negsuc n) = omega (arith, ints)
+
+floor_high : (z : ℤ) → z ≤ℤ (pos 256 *ℤ int_div_euclid z (pos 256) +ℤ pos 255)
+floor_high (pos n) = omega (arith, ints)
+floor_high (negsuc n) = omega (arith, ints)
+
+pub middle_is : (low high : ℤ) → IsMiddleOf low high (int_div_euclid ((low +ℤ high) -ℤ pos 1) (pos 256))
+middle_is low high =
+    let s = (low +ℤ high) -ℤ pos 1 in
+    let l = floor_low s in
+    let h = floor_high s in
+    by (int_div_euclid s (pos 256)) l h
+  where
+    by : (n : ℤ) → (pos 256 *ℤ n) ≤ℤ ((low +ℤ high) -ℤ pos 1) → ((low +ℤ high) -ℤ pos 1) ≤ℤ (pos 256 *ℤ n +ℤ pos 255)
+        → IsMiddleOf low high n
+    by n l h = (omega (arith, signed, l), omega (arith, signed, h))
+
+-- from the first pixel whose centre does not lie before low on
+none_past : (low high : ℤ) → high <ℤ (pos 128 *ℤ first_from low +ℤ pos 64) → AreNoPixels low high
+none_past low high h n (a, b) = by (first_from low) h (first_least low n a)
+  where
+    by : (m : ℤ) → high <ℤ (pos 128 *ℤ m +ℤ pos 64) → m ≤ℤ n → ⊥
+    by m k l = omega (arith, signed, b, k, l)
+
+-- a pixel is kept
+kept_somewhere : (low high : ℤ) → (n : ℤ) × IsKeptIn low high n
+kept_somewhere low high = by (below_or_not_ℤ high (pos 128 *ℤ first_from low +ℤ pos 64))
+  where
+    by : (high <ℤ (pos 128 *ℤ first_from low +ℤ pos 64)) ⊎ ((pos 128 *ℤ first_from low +ℤ pos 64) ≤ℤ high)
+        → (n : ℤ) × IsKeptIn low high n
+    by (inl h) = (int_div_euclid ((low +ℤ high) -ℤ pos 1) (pos 256), inr (none_past low high h, middle_is low high))
+    by (inr h) = (first_from low, inl (first_reaches low, h))
+
+-- of two neighbours between whose centres the box comes one is kept
+pub kept_of_two : (low high n : ℤ) → low ≤ℤ (pos 128 *ℤ (n +ℤ pos 1) +ℤ pos 64) → (pos 128 *ℤ n +ℤ pos 64) ≤ℤ high
+    → IsKeptIn low high n ⊎ IsKeptIn low high (n +ℤ pos 1)
+kept_of_two low high n h k =
+    by (below_or_not_ℤ (pos 128 *ℤ n +ℤ pos 64) low) (below_or_not_ℤ high (pos 128 *ℤ (n +ℤ pos 1) +ℤ pos 64))
+    (below_or_not_ℤ (pos 256 *ℤ (n +ℤ pos 1)) (low +ℤ high))
+  where
+    none : (pos 128 *ℤ n +ℤ pos 64) <ℤ low → high <ℤ (pos 128 *ℤ (n +ℤ pos 1) +ℤ pos 64) → AreNoPixels low high
+    none a b m (c, d) = omega (arith, signed, a, b, c, d)
+
+    by : ((pos 128 *ℤ n +ℤ pos 64) <ℤ low) ⊎ (low ≤ℤ (pos 128 *ℤ n +ℤ pos 64))
+        → (high <ℤ (pos 128 *ℤ (n +ℤ pos 1) +ℤ pos 64)) ⊎ ((pos 128 *ℤ (n +ℤ pos 1) +ℤ pos 64) ≤ℤ high)
+        → ((pos 256 *ℤ (n +ℤ pos 1)) <ℤ (low +ℤ high)) ⊎ ((low +ℤ high) ≤ℤ (pos 256 *ℤ (n +ℤ pos 1)))
+        → IsKeptIn low high n ⊎ IsKeptIn low high (n +ℤ pos 1)
+    by (inr a) b c = inl (inl (a, k))
+    by (inl a) (inr b) c = inr (inl (h, b))
+    by (inl a) (inl b) (inl c) = inr (inr (none a b, (c, omega (arith, signed, h, b))))
+    by (inl a) (inl b) (inr c) = inl (inr (none a b, (omega (arith, signed, a, k), c)))
+
+-- the middle one alone, where no centre is
+pub kept_alone : (low high n : ℤ) → AreNoPixels low high → IsMiddleOf low high n → (m : ℤ) → IsFrom n 1 m ↔ IsKeptIn low high m
+kept_alone low high n none k m = (λ h. inr (none, subst (IsMiddleOf low high) (at h) k), λ h. back h)
+  where
+    at : IsFrom n 1 m → n ≡ m
+    at h = let a = h.0 in let b = h.1 in omega (arith, signed_linear, a, b)
+
+    back : IsKeptIn low high m → IsFrom n 1 m
+    back (inl h) = absurd (none m h)
+    back (inr h) =
+        let a = middle_one low high n m k h.1 in
+        let b = middle_one low high m n h.1 k in
+        (a, omega (arith, signed_linear, b))
+
+-- the pixels whose centres are there, where there is one
+pub kept_pixels : (s : Pixels) (low high : ℤ) → ArePixels s low high → AreKept s low high
+kept_pixels s low high p n = (λ h. inl ((p n).0 h), λ h. back h)
+  where
+    back : IsKeptIn low high n → IsFrom s.first s.count n
+    back (inl h) = (p n).1 h
+    back (inr h) = absurd (h.0 s.first ((p s.first).0 (first_in s.first s.count s.some)))
+
+-- the middle pixel's number
+pub middle_size : (low high n : ℤ) → IsWithin farthest_with_margin low → IsWithin farthest_with_margin high
+    → IsMiddleOf low high n → IsWithin 32767 n
+middle_size low high n a b (h, k) =
+    let p = a.0 in let q = a.1 in let r = b.0 in let s = b.1 in
+    (omega (arith, signed, k, p, r), omega (arith, signed, h, q, s))
+
+-- two that are kept and lie as far apart as the greatest side have their centres there
+far_apart : (low high n : ℤ) → IsKeptIn low high n → IsKeptIn low high (n +ℤ pos greatest_side)
+    → IsCentreIn low high n × IsCentreIn low high (n +ℤ pos greatest_side)
+far_apart low high n (inl h) (inl k) = (h, k)
+far_apart low high n (inl h) (inr k) = absurd (k.0 n h)
+far_apart low high n (inr h) (inl k) = absurd (h.0 (n +ℤ pos greatest_side) k)
+far_apart low high n (inr h) (inr k) =
+    let l = middle_one low high (n +ℤ pos greatest_side) n k.1 h.1 in absurd (omega (arith, signed_linear, l))
+
+-- the pixels beside a kept one have numbers, if the places leave a margin
+pub kept_neighbours : (low high n : ℤ) → IsWithin farthest_with_margin low → IsWithin farthest_with_margin high
+    → IsKeptIn low high n → IsPixelNumber (n -ℤ pos 1) × IsPixelNumber (n +ℤ pos 1)
+kept_neighbours low high n a b (inl (h, k)) =
+    let l = a.0 in let r = b.1 in
+    ((omega (arith, signed, h, l), omega (arith, signed, k, r)), (omega (arith, signed, h, l), omega (arith, signed, k, r)))
+kept_neighbours low high n a b (inr (e, (h, k))) =
+    let p = a.0 in let q = a.1 in let r = b.0 in let s = b.1 in (
+      (omega (arith, signed, k, p, r), omega (arith, signed, h, q, s)),
+      (omega (arith, signed, k, p, r), omega (arith, signed, h, q, s)),
+    )
+
+-- ---- of spans
+
+pub kept_in : (coord : Place → ℤ) (ss : List Span) (low high n : ℤ) → IsExtent coord ss low high
+    → IsKept coord ss n ↔ IsKeptIn low high n
+kept_in coord ss low high n e = (
+  λ k. let s = one_extent coord ss k.0 k.1 low high k.2 e in
+      subst (λ h. IsKeptIn low h n) s.1 (subst (λ l. IsKeptIn l k.1 n) s.0 k.3),
+  λ h. (low, high, e, h),
+)
+
+-- no span has nothing
+pub nothing_kept : (coord : Place → ℤ) (n : ℤ) → ¬ (IsKept coord [] n)
+nothing_kept coord n k = k.2.low_is
+
+pub some_pixel_is_kept : SomePixelIsKept
+some_pixel_is_kept [] h = absurd (omega (arith, h))
+some_pixel_is_kept (s ∷ ss) h =
+    let e = extents s ss in
+    let i = kept_somewhere e.left e.right in
+    let j = kept_somewhere e.bottom e.top in
+    (i.0, j.0, ((e.left, e.right, e.across, i.1), (e.bottom, e.top, e.up, j.1)))
+
+-- what the box comes to on both sides of its centre is kept
+pub kept_across : (coord : Place → ℤ) (ss : List Span) (low high j : ℤ) → IsExtent coord ss low high
+    → HaveAny (λ e. coord e ≤ℤ (pos 128 *ℤ j +ℤ pos 64)) ss → HaveAny (λ e. (pos 128 *ℤ j +ℤ pos 64) ≤ℤ coord e) ss
+    → IsKept coord ss j
+kept_across coord ss low high j e b t =
+    (low, high, e, inl (low_at_most coord ss low high _ e b, high_at_least coord ss low high _ e t))
+
+pub box_is_kept : BoxIsKept
+box_is_kept [] i j h = absurd h.left
+box_is_kept (s ∷ ss) i j h =
+    let e = extents s ss in (
+      kept_across x_of (s ∷ ss) e.left e.right i e.across h.left h.right,
+      kept_across y_of (s ∷ ss) e.bottom e.top j e.up h.bottom h.top,
+    )
+
+pub covered_is_kept : CoveredIsKept
+covered_is_kept ss o i j c = box_is_kept ss i j (in_box (centre i j) ss o c)
+
+-- ---- the tests
+
+pub margin_decides : (p : Place) → Decides (leaves_margin p) (LeavesMargin p)
+margin_decides p =
+    Decides-and (is_within farthest_with_margin p.x) (is_within farthest_with_margin p.y) (within_decides farthest_with_margin p.x)
+    (within_decides farthest_with_margin p.y)
+
+pub margin_is_tested : MarginIsTested
+margin_is_tested ss =
+    have_decides (λ q. not (leaves_margin q)) (λ q. ¬ (LeavesMargin q))
+    (λ q. Decides-not (leaves_margin q) (margin_decides q)) ss
+
+-- the centre of the pixel that comes as far as the greatest side after the first one from z on
+abbrev far_from : ℤ → ℤ
+far_from z = pos 128 *ℤ (first_from z +ℤ pos greatest_side) +ℤ pos 64
+
+abbrev ReachesFar : (Place → ℤ) → List Span → Type 0
+ReachesFar coord ss = HaveAny (λ q. HaveAny (λ r. far_from (coord q) ≤ℤ coord r) ss) ss
+
+far_decides : (coord : Place → ℤ) (ss : List Span) → Decides (keeps_too_many coord ss) (ReachesFar coord ss)
+unfolding keeps_too_many
+far_decides coord ss =
+    have_decides (λ q. have_any (λ r. int_le (far_from (coord q)) (coord r)) ss)
+    (λ q. HaveAny (λ r. far_from (coord q) ≤ℤ coord r) ss)
+    (λ q. have_decides (λ r. int_le (far_from (coord q)) (coord r)) (λ r. far_from (coord q) ≤ℤ coord r)
+    (λ r. le_decides (far_from (coord q)) (coord r)) ss) ss
+
+far_kept : (coord : Place → ℤ) (ss : List Span) (low high : ℤ) → IsExtent coord ss low high → ReachesFar coord ss
+    → KeepsTooMany coord ss
+far_kept coord ss low high e h =
+    some_one (λ q. HaveAny (λ r. far_from (coord q) ≤ℤ coord r) ss) (KeepsTooMany coord ss) ss h
+    (λ q k m. some_one (λ r. far_from (coord q) ≤ℤ coord r) (KeepsTooMany coord ss) ss k
+    (λ r l n. by (coord q) (coord r) (first_from (coord q)) (in_extent coord ss low high e q m).0
+    (in_extent coord ss low high e r n).1 (first_reaches (coord q)) l))
+  where
+    by : (z t n : ℤ) → low ≤ℤ z → t ≤ℤ high → z ≤ℤ (pos 128 *ℤ n +ℤ pos 64)
+        → (pos 128 *ℤ (n +ℤ pos greatest_side) +ℤ pos 64) ≤ℤ t → KeepsTooMany coord ss
+    by z t n a b c d = (
+      n,
+      (low, high, e, inl (omega (arith, signed, a, c), omega (arith, signed, b, d))),
+      (low, high, e, inl (omega (arith, signed, a, c), omega (arith, signed, b, d))),
+    )
+
+kept_far : (coord : Place → ℤ) (ss : List Span) (low high : ℤ) → IsExtent coord ss low high → KeepsTooMany coord ss
+    → ReachesFar coord ss
+kept_far coord ss low high e (n, k, l) =
+    let m = n +ℤ pos greatest_side in
+    let c = far_apart low high n ((kept_in coord ss low high n e).0 k) ((kept_in coord ss low high m e).0 l) in
+    more (λ q. coord q ≡ low) (λ q. HaveAny (λ r. far_from (coord q) ≤ℤ coord r) ss) ss e.low_is
+    (λ q a. more (λ r. coord r ≡ high) (λ r. far_from (coord q) ≤ℤ coord r) ss e.high_is
+    (λ r b. by (coord q) (coord r) (first_from (coord q)) a b c.1.1
+    (first_least (coord q) n (subst (λ z. z ≤ℤ (pos 128 *ℤ n +ℤ pos 64)) (sym a) c.0.0))))
+  where
+    by : (z t m : ℤ) → z ≡ low → t ≡ high → (pos 128 *ℤ (n +ℤ pos greatest_side) +ℤ pos 64) ≤ℤ high → m ≤ℤ n
+        → (pos 128 *ℤ (m +ℤ pos greatest_side) +ℤ pos 64) ≤ℤ t
+    by z t m a b c d = omega (arith, signed, b, c, d)
+
+pub many_decides : (coord : Place → ℤ) (ss : List Span) (low high : ℤ) → IsExtent coord ss low high
+    → Decides (keeps_too_many coord ss) (KeepsTooMany coord ss)
+many_decides coord ss low high e =
+    Decides-like (keeps_too_many coord ss) (far_kept coord ss low high e) (kept_far coord ss low high e) (far_decides coord ss)
+
+pub none_decides : (coord : Place → ℤ) → Decides (keeps_too_many coord []) (KeepsTooMany coord [])
+none_decides coord =
+    Decides-like (keeps_too_many coord []) (λ n. absurd n) (λ k. nothing_kept coord k.0 k.1) (far_decides coord [])
+
+pub many_is_tested : ManyIsTested
+many_is_tested [] = (none_decides x_of, none_decides y_of)
+many_is_tested (s ∷ ss) =
+    let e = extents s ss in
+    (many_decides x_of (s ∷ ss) e.left e.right e.across, many_decides y_of (s ∷ ss) e.bottom e.top e.up)
+
+-- ---- from the box
+
+-- a pixel outside the frame is not covered
+pub nothing_outside_dropout : (ss : List Span) (f : Option Frame) → IsDropoutFrameFor f ss → NothingOutsideFrame f ss
+nothing_outside_dropout ss f h o col row n k = n ((h col row).1 (covered_is_kept ss o col row k))
