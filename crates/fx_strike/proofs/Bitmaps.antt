@@ -1,19 +1,22 @@
--- The bits of a frame are those of all pixels of the plane: no pixel outside the frame is covered.
+-- The bits of a frame are those of all pixels of the plane: no pixel outside the frame is set.
 -- Serves `bitmap_of`.
 use Rattle.std.proofs.Common.{◌≡◌, refl, sym, ◌∙◌, subst, arith, ℤ, Bool, true, false, true≢false, List, Some, None}
 use Rattle.std.proofs.Common.{Result, Ok, Err}
 use Rattle.std.specs.Prelude.{◌↔◌, IsTrue, IfOk}
 use Rattle.fx_fixed.proofs.Linear.{signed_linear}
 use Rattle.fx_winding.specs.Winding.{Span, IsCovered, centre}
-use Rattle.fx_winding.specs.Frames.{IsFrom, IsInFrame, is_from}
+use Rattle.fx_winding.specs.Frames.{IsFrom, IsInFrame, HasMargin, is_from}
 use Rattle.fx_winding.specs.declared.frame.Frame.{Frame}
 use Rattle.fx_winding.specs.Bitmaps.{Bits, IsScanOf, bit_of}
 use Rattle.fx_winding.specs.Outside.{AreOfOutline}
 use Rattle.fx_winding.proofs.Grid.{from_true}
 use Rattle.fx_bdf.proofs.Trims.{from_order}
 use Rattle.fx_contour.specs.Frames.{NothingOutsideFrame}
+use Rattle.fx_contour.specs.DropoutFrames.{IsInDropoutFrame}
 use Rattle.fx_request.specs.declared.refusal.Refusal.{Refusal}
-use Rattle.fx_strike.specs.inner.Drawing.{HasBitsOf}
+use Rattle.fx_strike.specs.Strike.{IsPixelSet}
+use Rattle.fx_strike.specs.inner.Drawing.{HasBitsOf, IsBridgedScanOf, IsFramedBy}
+use Rattle.fx_strike.proofs.Bridged.{set_along, nothing_set}
 
 -- ---- one pixel
 
@@ -39,44 +42,69 @@ column_held f col row i = from_order f.left col f.width i.column.0 i.column.1
 row_held : (f : Frame) (col row : ℤ) → IsInFrame f col row → is_from f.bottom f.height row ≡ true
 row_held f col row i = from_order f.bottom row f.height i.row.0 i.row.1
 
-by_pixel : (ss : List Span) (b : Bits) (col row : ℤ) (c r : Bool)
-    → (IsInFrame b.frame col row → IsTrue (bit_of b col row) ↔ IsCovered (centre col row) ss)
-    → (¬ (IsInFrame b.frame col row) → ¬ (IsCovered (centre col row) ss))
+by_pixel : (S : ℤ → ℤ → Type 0) (b : Bits) (col row : ℤ) (c r : Bool)
+    → (IsInFrame b.frame col row → IsTrue (bit_of b col row) ↔ S col row)
+    → (¬ (IsInFrame b.frame col row) → ¬ (S col row))
     → is_from b.frame.left b.frame.width col ≡ c → is_from b.frame.bottom b.frame.height row ≡ r
-    → IsTrue (bit_of b col row) ↔ IsCovered (centre col row) ss
-by_pixel ss b col row true true inside outside p q =
+    → IsTrue (bit_of b col row) ↔ S col row
+by_pixel S b col row true true inside outside p q =
     inside (record {
       column = from_true b.frame.left b.frame.width col p;
       row = from_true b.frame.bottom b.frame.height row q;
     })
-by_pixel ss b col row false r inside outside p q =
+by_pixel S b col row false r inside outside p q =
     neither (unset (bit_of b col row) (outside_column b col row p))
     (outside (λ i. true≢false (sym (column_held b.frame col row i) ∙ p)))
-by_pixel ss b col row true false inside outside p q =
+by_pixel S b col row true false inside outside p q =
     neither (unset (bit_of b col row) (outside_row b col row p q))
     (outside (λ i. true≢false (sym (row_held b.frame col row i) ∙ q)))
 
 -- ---- all pixels
 
-in_its_frame : (ss : List Span) (b : Bits)
-    → ((col row : ℤ) → IsInFrame b.frame col row → IsTrue (bit_of b col row) ↔ IsCovered (centre col row) ss)
-    → NothingOutsideFrame (Some b.frame) ss → AreOfOutline ss → HasBitsOf ss b
-in_its_frame ss b inside outside closed =
-    record { each = λ col row. by_pixel ss b col row _ _ (inside col row) (outside closed col row) refl refl }
+in_its_frame : (dropout : Bool) (ss : List Span) (b : Bits)
+    → ((col row : ℤ) → IsInFrame b.frame col row → IsTrue (bit_of b col row) ↔ IsPixelSet dropout ss col row)
+    → IsFramedBy dropout (Some b.frame) ss → NothingOutsideFrame (Some b.frame) ss → AreOfOutline ss → HasBitsOf dropout ss b
+in_its_frame dropout ss b inside framed outside closed =
+    record {
+      each = λ col row. by_pixel (IsPixelSet dropout ss) b col row _ _ (inside col row)
+          (nothing_set dropout (Some b.frame) ss framed outside closed col row) refl refl;
+    }
 
-scan_has_bits : (f : Frame) (ss : List Span) (b : Bits) → IsScanOf f ss b → NothingOutsideFrame (Some f) ss → AreOfOutline ss
-    → HasBitsOf ss b
-scan_has_bits f ss b scan outside closed =
+scan_has_bits : (f : Frame) (ss : List Span) (b : Bits) → IsScanOf f ss b → IsFramedBy false (Some f) ss
+    → NothingOutsideFrame (Some f) ss → AreOfOutline ss → HasBitsOf false ss b
+scan_has_bits f ss b scan framed outside closed =
     let I : Frame → Type 0
     = λ g. (col row : ℤ) → IsInFrame g col row → IsTrue (bit_of b col row) ↔ IsCovered (centre col row) ss in
+    let F : Frame → Type 0 = λ g. IsFramedBy false (Some g) ss in
     let N : Frame → Type 0 = λ g. NothingOutsideFrame (Some g) ss in
-    in_its_frame ss b (subst I (sym scan.same) scan.bits) (subst N (sym scan.same) outside) closed
+    in_its_frame false ss b (subst I (sym scan.same) scan.bits) (subst F (sym scan.same) framed) (subst N (sym scan.same) outside)
+    closed
 
-empty_has_bits : (ss : List Span) (b : Bits) → b.frame.width ≡ 0 → NothingOutsideFrame None ss → AreOfOutline ss → HasBitsOf ss b
-empty_has_bits ss b narrow outside closed =
+-- the pixels of the frame are those of the frame with drop-out control
+bridged_has_bits : (f : Frame) (ss : List Span) (b : Bits) → IsBridgedScanOf f ss b → IsFramedBy true (Some f) ss
+    → NothingOutsideFrame (Some f) ss → AreOfOutline ss → HasBitsOf true ss b
+bridged_has_bits f ss b scan framed outside closed =
+    let I : Frame → Type 0
+    = λ g. (col row : ℤ) → IsInFrame g col row → IsTrue (bit_of b col row) ↔ IsPixelSet true ss col row in
+    let F : Frame → Type 0 = λ g. IsFramedBy true (Some g) ss in
+    let N : Frame → Type 0 = λ g. NothingOutsideFrame (Some g) ss in
+    in_its_frame true ss b (subst I (sym scan.same) each) (subst F (sym scan.same) framed) (subst N (sym scan.same) outside) closed
+  where
+    there : (i j : ℤ) → IsInDropoutFrame ss i j ↔ IsInFrame f i j
+    there i j = ((framed.0 i j).1, (framed.0 i j).0)
+
+    each : (col row : ℤ) → IsInFrame f col row → IsTrue (bit_of b col row) ↔ IsPixelSet true ss col row
+    each col row i = (
+      λ t. set_along ss (IsInFrame f) (IsInDropoutFrame ss) framed.0 col row ((scan.bits col row i).0 t),
+      λ s. (scan.bits col row i).1 (set_along ss (IsInDropoutFrame ss) (IsInFrame f) there col row s),
+    )
+
+empty_has_bits : (dropout : Bool) (ss : List Span) (b : Bits) → b.frame.width ≡ 0 → IsFramedBy dropout None ss
+    → NothingOutsideFrame None ss → AreOfOutline ss → HasBitsOf dropout ss b
+empty_has_bits dropout ss b narrow framed outside closed =
     record {
-      each = λ col row. by_pixel ss b col row _ _ (λ i. absurd (no_column i.column)) (λ _. outside closed col row (λ x. x))
-          refl refl;
+      each = λ col row. by_pixel (IsPixelSet dropout ss) b col row _ _ (λ i. absurd (no_column i.column))
+          (λ _. nothing_set dropout None ss framed outside closed col row (λ x. x)) refl refl;
     }
   where
     no_column : {first n : ℤ} → IsFrom first b.frame.width n → ⊥
@@ -84,12 +112,36 @@ empty_has_bits ss b narrow outside closed =
 
 -- ---- for answers
 
-pub scanned_bits : (f : Frame) (ss : List Span) (r : Result Bits Refusal) → IfOk r (IsScanOf f ss)
-    → NothingOutsideFrame (Some f) ss → AreOfOutline ss → IfOk r (HasBitsOf ss)
-scanned_bits f ss (Ok b) scan outside closed = scan_has_bits f ss b scan outside closed
-scanned_bits f ss (Err e) scan outside closed = tt
+pub scanned_bits : (f : Frame) (ss : List Span) (b : Bits) (dropout : Bool) → dropout ≡ false → IsScanOf f ss b
+    → IsFramedBy dropout (Some f) ss → NothingOutsideFrame (Some f) ss → AreOfOutline ss → HasBitsOf dropout ss b
+scanned_bits f ss b dropout e scan framed outside closed =
+    let F : Bool → Type 0 = λ d. IsFramedBy d (Some f) ss in
+    let H : Bool → Type 0 = λ d. HasBitsOf d ss b in
+    subst H (sym e) (scan_has_bits f ss b scan (subst F e framed) outside closed)
 
-pub empty_bits : (ss : List Span) (r : Result Bits Refusal) → IfOk r (λ b. b.frame.width ≡ 0) → NothingOutsideFrame None ss
-    → AreOfOutline ss → IfOk r (HasBitsOf ss)
-empty_bits ss (Ok b) narrow outside closed = empty_has_bits ss b narrow outside closed
-empty_bits ss (Err e) narrow outside closed = tt
+pub bridged_bits : (f g : Frame) (ss : List Span) (r : Result Bits Refusal) (dropout : Bool) → dropout ≡ true → g ≡ f
+    → IfOk r (IsBridgedScanOf g ss) → IsFramedBy dropout (Some f) ss → NothingOutsideFrame (Some f) ss → AreOfOutline ss
+    → IfOk r (HasBitsOf dropout ss)
+bridged_bits f g ss (Ok b) dropout e same scan framed outside closed =
+    let F : Bool → Type 0 = λ d. IsFramedBy d (Some f) ss in
+    let H : Bool → Type 0 = λ d. HasBitsOf d ss b in
+    let S : Frame → Type 0 = λ h. IsBridgedScanOf h ss b in
+    subst H (sym e) (bridged_has_bits f ss b (subst S same scan) (subst F e framed) outside closed)
+bridged_bits f g ss (Err d) dropout e same scan framed outside closed = tt
+
+-- the frame of a scan has a margin if it is that of drop-out control
+pub framed_margin : (f g : Frame) (ss : List Span) (dropout : Bool) → dropout ≡ true → g ≡ f → IsFramedBy dropout (Some f) ss
+    → HasMargin g
+framed_margin f g ss dropout e same framed =
+    let F : Bool → Type 0 = λ d. IsFramedBy d (Some f) ss in
+    let M : Frame → Type 0 = λ h. HasMargin h in
+    subst M (sym same) (subst F e framed).1
+
+-- a scan is one of its own frame
+pub scan_of_its_frame : (f : Frame) (ss : List Span) (b : Bits) → IsScanOf f ss b → IsScanOf b.frame ss b
+scan_of_its_frame f ss b scan = let P : Frame → Type 0 = λ g. IsScanOf g ss b in subst P (sym scan.same) scan
+
+pub empty_bits : (ss : List Span) (r : Result Bits Refusal) (dropout : Bool) → IfOk r (λ b. b.frame.width ≡ 0)
+    → IsFramedBy dropout None ss → NothingOutsideFrame None ss → AreOfOutline ss → IfOk r (HasBitsOf dropout ss)
+empty_bits ss (Ok b) dropout narrow framed outside closed = empty_has_bits dropout ss b narrow framed outside closed
+empty_bits ss (Err e) dropout narrow framed outside closed = tt
