@@ -14,6 +14,7 @@ use Rattle.clap.specs.declared.builder.action.ArgAction.TheVariants.{Append, Set
 use Rattle.fx_fixed.specs.Chain.{◌>>=◌, wanted}
 use Rattle.fx_machine.specs.declared.program.FontProgram.{FontProgram}
 use Rattle.fx_machine.specs.declared.program.FontProgram.TheVariants.{Fpgm, Prep, Glyph}
+use Rattle.fx_request.specs.declared.request.Mode.{Mode}
 use Rattle.fx_request.specs.declared.refusal.Refusal.TheVariants.{BadChars}
 use Rattle.fx_cli.specs.declared.fault.Fault.{Fault}
 use Rattle.fx_cli.specs.declared.fault.Fault.TheVariants.{Usage, Early}
@@ -35,14 +36,14 @@ flag_rule id = record (new_rule id) { long = Some id; action = Some SetTrue }
 
 -- the command `make` with its options
 unfoldable pub make_app : App
-make_app = with_rule (with_rule (with_rule (with_rule (with_rule (with_rule (new_app (codes "make"))
+make_app = with_rule (with_rule (with_rule (with_rule (with_rule (with_rule (with_rule (new_app (codes "make"))
     (option_rule (codes "ppem"))) (option_rule (codes "chars"))) (option_rule (codes "name"))) (many_rule (codes "property")))
-    (flag_rule (codes "unhinted"))) (flag_rule (codes "hex"))
+    (flag_rule (codes "unhinted"))) (flag_rule (codes "dropout"))) (flag_rule (codes "hex"))
 
 -- the command `show` with its options
 unfoldable pub show_app : App
-show_app = with_rule (with_rule (with_rule (with_rule (new_app (codes "show")) (option_rule (codes "ppem")))
-    (option_rule (codes "char"))) (flag_rule (codes "unhinted"))) (flag_rule (codes "hex"))
+show_app = with_rule (with_rule (with_rule (with_rule (with_rule (new_app (codes "show")) (option_rule (codes "ppem")))
+    (option_rule (codes "char"))) (flag_rule (codes "unhinted"))) (flag_rule (codes "dropout"))) (flag_rule (codes "hex"))
 
 -- the command `dump` with its options
 unfoldable pub dump_app : App
@@ -69,14 +70,18 @@ is_true (Some text) = bytes_eq text (codes "true")
 abbrev pub is_given : Text → List Row → Bool
 is_given id rows = is_true (first_of id rows)
 
+-- how outlines become pixels: the font's programs run unless `--unhinted` was given, and drop-out control is on if `--dropout` was
+abbrev pub mode_by : List Row → Mode
+mode_by rows = record { hinting = not (is_given (codes "unhinted") rows); dropout = is_given (codes "dropout") rows }
+
 -- a size that is required
 abbrev pub size_by : Option Text → Result ℕ Fault
 size_by text = wanted (option_and_then size_of text) Usage
 
 -- what the values of `make`'s options ask for: the size and the list are required
-abbrev pub make_by : Option Text → Option Text → Option Text → Option (List Text) → Bool → Bool
+abbrev pub make_by : Option Text → Option Text → Option Text → Option (List Text) → Mode → Bool
     → Result CommandView Fault
-make_by size list name given unhinted hex = do
+make_by size list name given mode hex = do
   ppem ← size_by size
   text ← wanted list Usage
   properties ← wanted (properties_of (unwrap_or given [])) Usage
@@ -87,25 +92,25 @@ make_by size list name given unhinted hex = do
       chars = chars;
       name = unwrap_or name (codes "strike");
       properties = properties;
-      hinting = not unhinted;
+      mode = mode;
     });
     hex = hex;
   })
 
 abbrev pub make_of_rows : List Row → Result CommandView Fault
 make_of_rows rows = make_by (first_of (codes "ppem") rows) (first_of (codes "chars") rows) (first_of (codes "name") rows)
-    (all_of (codes "property") rows) (is_given (codes "unhinted") rows) (is_given (codes "hex") rows)
+    (all_of (codes "property") rows) (mode_by rows) (is_given (codes "hex") rows)
 
 -- what the values of `show`'s options ask for: the size and the character are required
-abbrev pub show_by : Option Text → Option Text → Bool → Bool → Result CommandView Fault
-show_by size number unhinted hex = do
+abbrev pub show_by : Option Text → Option Text → Mode → Bool → Result CommandView Fault
+show_by size number mode hex = do
   ppem ← size_by size
   text ← wanted number Usage
   code ← wanted (number_of text) (Early BadChars)
-  Ok (record { task = picture (record { ppem = ppem; code = code; hinting = not unhinted }); hex = hex })
+  Ok (record { task = picture (record { ppem = ppem; code = code; mode = mode }); hex = hex })
 
 abbrev pub show_of_rows : List Row → Result CommandView Fault
-show_of_rows rows = show_by (first_of (codes "ppem") rows) (first_of (codes "char") rows) (is_given (codes "unhinted") rows)
+show_of_rows rows = show_by (first_of (codes "ppem") rows) (first_of (codes "char") rows) (mode_by rows)
     (is_given (codes "hex") rows)
 
 -- a program's name: `fpgm`, `prep`, or the number of a glyph

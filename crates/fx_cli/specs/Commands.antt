@@ -3,6 +3,7 @@ use Rattle.std.specs.Prelude.{◌≡◌, ℕ, Bool, List, Result, Err}
 use Rattle.clap.specs.Walk.{Text}
 use Rattle.fx_bdf.specs.Properties.{PropertyView, seen_properties}
 use Rattle.fx_machine.specs.declared.program.FontProgram.{FontProgram}
+use Rattle.fx_request.specs.declared.request.Mode.{Mode}
 use Rattle.fx_request.specs.declared.request.Request.{Request}
 use Rattle.fx_request.specs.declared.refusal.Refusal.TheVariants.{BadChars, OutOfMemory}
 use Rattle.fx_cli.specs.declared.command.Command.{Command}
@@ -13,13 +14,13 @@ use Rattle.fx_cli.specs.declared.command.Task.TheVariants.{Strike, Picture, List
 use Rattle.fx_cli.specs.declared.fault.Fault.{Fault}
 use Rattle.fx_cli.specs.declared.fault.Fault.TheVariants.{Usage, Early}
 
--- a strike: its size, its characters, its name, its properties, and whether the font's programs run
+-- a strike: its size, its characters, its name, its properties, and how outlines become pixels
 pub record MakeView : Type 0 where
   pub ppem : ℕ
   pub chars : List ℕ
   pub name : Text
   pub properties : List PropertyView
-  pub hinting : Bool
+  pub mode : Mode
 
 -- a strike, the picture of a character, or the listing of a program
 pub data TaskView : Type 0 where
@@ -39,7 +40,7 @@ seen_make make = record {
   chars = make.chars.items;
   name = make.name.now;
   properties = seen_properties make.properties.items;
-  hinting = make.hinting;
+  mode = make.mode;
 }
 
 abbrev pub seen_request : Request → MakeView
@@ -48,7 +49,7 @@ seen_request request = record {
   chars = request.chars.now;
   name = request.name.now;
   properties = seen_properties request.properties.now;
-  hinting = request.hinting;
+  mode = request.mode;
 }
 
 abbrev pub seen_task : Task → TaskView

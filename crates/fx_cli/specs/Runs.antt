@@ -73,13 +73,13 @@ title make = record { name = make.name; properties = make.properties }
 -- what a call that makes the strike leaves of the sink
 abbrev pub MakeLeaves : MakeView → List ℕ → Change → Result Report Refusal → Type 0
 MakeLeaves make font sink answer =
-    Leaves (opened_of font make.ppem (title make) make.chars) (plan_of font make.ppem (title make) make.chars make.hinting)
+    Leaves (opened_of font make.ppem (title make) make.chars) (plan_of font make.ppem (title make) make.chars make.mode)
     sink answer
 
 -- what a call that shows a character leaves of it
 abbrev pub ShowLeaves : Show → List ℕ → Change → Result (Unit {0}) Refusal → Type 0
 ShowLeaves show font sink answer =
-    Shows (opened_one_of font show.ppem show.code) (one_of font show.ppem show.code show.hinting) sink answer
+    Shows (opened_one_of font show.ppem show.code) (one_of font show.ppem show.code show.mode) sink answer
 
 -- what a call that lists a program leaves of it
 abbrev pub ListingLeaves : FontProgram → List ℕ → Change → Result (Unit {0}) Refusal → Type 0

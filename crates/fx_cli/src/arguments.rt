@@ -4,7 +4,7 @@ ghost use Rattle.std.specs.Str.{bytes_eq};
 ghost use Rattle.clap.specs.Words.{found_of, rows_of};
 ghost use Rattle.fx_fixed.specs.Chain.{GivesUnless, map_ok, wanted};
 ghost use Rattle.fx_cli.specs.Arguments.{command_of, command_of_dump, command_of_make, command_of_show, dump_by, dump_of_rows};
-ghost use Rattle.fx_cli.specs.Arguments.{is_command, make_by, make_of_rows, show_by, show_of_rows, size_by, texts, which_of};
+ghost use Rattle.fx_cli.specs.Arguments.{is_command, make_by, make_of_rows, mode_by, show_by, show_of_rows, size_by, texts, which_of};
 ghost use Rattle.fx_cli.specs.Commands.{Refuses, seen};
 ghost use Rattle.fx_cli.specs.declared.fault.Fault.TheVariants.{Usage};
 
@@ -16,7 +16,7 @@ use crate::properties::given_properties;
 use crate::values::{is_given, matches, size_of, value, values};
 use clap::ArgMatches;
 use fx_machine::FontProgram;
-use fx_request::Refusal;
+use fx_request::{Mode, Refusal};
 use std::alloc::Global;
 
 /// Reads the arguments of a command line, the program's name first.
@@ -75,6 +75,16 @@ fn required_size(text: Option<&str>) -> Result<u16, Fault>
     }
 }
 
+/// How outlines become pixels, by the flags of `make` and `show`.
+fn mode_of(matches: &ArgMatches<'_>) -> Mode
+    ensures { result ≡ mode_by (rows_of (found_of matches.now)) }
+{
+    Mode {
+        hinting: !is_given(matches, "unhinted"),
+        dropout: is_given(matches, "dropout"),
+    }
+}
+
 /// What the values of `make` ask for.
 fn make_of<'a>(alloc: Global, matches: &ArgMatches<'a>) -> Result<Command<'a>, Fault>
     ensures { GivesUnless Refuses seen result (make_of_rows (rows_of (found_of matches.now))) }
@@ -85,7 +95,7 @@ fn make_of<'a>(alloc: Global, matches: &ArgMatches<'a>) -> Result<Command<'a>, F
         value(matches, "chars"),
         value(matches, "name"),
         values(matches, "property"),
-        is_given(matches, "unhinted"),
+        mode_of(matches),
         is_given(matches, "hex"),
     )
 }
@@ -97,12 +107,12 @@ fn make_by<'a>(
     list: Option<&'a str>,
     name: Option<&'a str>,
     given: Option<&[&'a str]>,
-    unhinted: bool,
+    mode: Mode,
     hex: bool,
 ) -> Result<Command<'a>, Fault>
     ensures { GivesUnless Refuses seen result (make_by (option_map (λ text. text.now) ppem.entry)
         (option_map (λ text. text.now) list.entry) (option_map (λ text. text.now) name.entry)
-        (option_map (λ given. texts given.now) given.entry) unhinted hex) }
+        (option_map (λ given. texts given.now) given.entry) mode hex) }
 {
     let ppem = required_size(ppem)?;
     let list = list.ok_or(Fault::Usage)?;
@@ -112,7 +122,7 @@ fn make_by<'a>(
         chars: parse_chars(alloc, list)?,
         name: name.unwrap_or("strike"),
         properties,
-        hinting: !unhinted,
+        mode,
     };
     Ok(Command {
         task: Task::Strike(make),
@@ -127,7 +137,7 @@ fn show_of<'a>(matches: &ArgMatches<'a>) -> Result<Command<'a>, Fault>
     show_by(
         value(matches, "ppem"),
         value(matches, "char"),
-        is_given(matches, "unhinted"),
+        mode_of(matches),
         is_given(matches, "hex"),
     )
 }
@@ -136,21 +146,17 @@ fn show_of<'a>(matches: &ArgMatches<'a>) -> Result<Command<'a>, Fault>
 fn show_by<'a>(
     ppem: Option<&'a str>,
     character: Option<&'a str>,
-    unhinted: bool,
+    mode: Mode,
     hex: bool,
 ) -> Result<Command<'a>, Fault>
     ensures { GivesUnless Refuses seen result (show_by (option_map (λ text. text.now) ppem.entry)
-        (option_map (λ text. text.now) character.entry) unhinted hex) }
+        (option_map (λ text. text.now) character.entry) mode hex) }
 {
     let ppem = required_size(ppem)?;
     let Some(code) = number(character.ok_or(Fault::Usage)?) else {
         return Err(Fault::Early(Refusal::BadChars));
     };
-    let show = Show {
-        ppem,
-        code,
-        hinting: !unhinted,
-    };
+    let show = Show { ppem, code, mode };
     Ok(Command {
         task: Task::Picture(show),
         hex,

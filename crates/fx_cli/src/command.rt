@@ -2,7 +2,7 @@
 
 use fx_bdf::Property;
 use fx_machine::FontProgram;
-use fx_request::Request;
+use fx_request::{Mode, Request};
 
 /// What is to be written, and whether the font is hexadecimal text.
 #[derive(Drop)]
@@ -22,22 +22,22 @@ pub enum Task<'a> {
     Listing(FontProgram),
 }
 
-/// A strike: its size in pixels an em, its characters, its name, its properties, and whether the font's programs run.
+/// A strike: its size in pixels an em, its characters, its name, its properties, and how outlines become pixels.
 #[derive(Drop)]
 pub struct Make<'a> {
     pub ppem: u16,
     pub chars: Vec<u32>,
     pub name: &'a str,
     pub properties: Vec<Property<'a>>,
-    pub hinting: bool,
+    pub mode: Mode,
 }
 
-/// The picture of a character: the size in pixels an em, the code point, and whether the font's programs run.
+/// The picture of a character: the size in pixels an em, the code point, and how outlines become pixels.
 #[derive(Clone, Copy)]
 pub struct Show {
     pub ppem: u16,
     pub code: u32,
-    pub hinting: bool,
+    pub mode: Mode,
 }
 
 impl<'a> Make<'a> {
@@ -53,7 +53,7 @@ impl<'a> Make<'a> {
             name: self.name,
             properties: &self.properties,
             chars: &self.chars,
-            hinting: self.hinting,
+            mode: self.mode,
         }
     }
 }

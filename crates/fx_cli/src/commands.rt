@@ -16,6 +16,7 @@ pub fn make_command<'a>(alloc: Global) -> Result<Command<'a>, AllocError>
         .arg(option(alloc, "name"))?
         .arg(many(alloc, "property"))?
         .arg(flag(alloc, "unhinted"))?
+        .arg(flag(alloc, "dropout"))?
         .arg(flag(alloc, "hex"))
 }
 
@@ -27,6 +28,7 @@ pub fn show_command<'a>(alloc: Global) -> Result<Command<'a>, AllocError>
         .arg(option(alloc, "ppem"))?
         .arg(option(alloc, "char"))?
         .arg(flag(alloc, "unhinted"))?
+        .arg(flag(alloc, "dropout"))?
         .arg(flag(alloc, "hex"))
 }
 

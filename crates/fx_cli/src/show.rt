@@ -20,7 +20,7 @@ pub fn put_character<O: Sink>(
     requires { O.fault_count out.old < 2 ^ 63 }
     ensures { ShowLeaves show.now font.now (change_of O.held O.fault_count out.old out.new) result }
 {
-    let glyph = one(alloc, font, show.ppem, show.code, show.hinting)?;
+    let glyph = one(alloc, font, show.ppem, show.code, show.mode)?;
     put_shown(&glyph, out)?;
     Ok(())
 }

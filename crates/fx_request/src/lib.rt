@@ -14,4 +14,4 @@ mod request;
 pub use characters::rising_codes;
 pub use limits::{MAX_CHARACTERS, MAX_CODE};
 pub use refusal::Refusal;
-pub use request::{Report, Request};
+pub use request::{Mode, Report, Request};

@@ -3,6 +3,16 @@
 use fx_bdf::Property;
 use fx_machine::Usage;
 
+/// How outlines become pixels: whether the font's programs run, and whether drop-out control keeps thin strokes whole (Apple
+/// TrueType Reference Manual, scan conversion, rules 1 and 3).
+#[derive(Clone, Copy, Debug, PartialEq)]
+pub struct Mode {
+    /// Whether the font's programs are run.
+    pub hinting: bool,
+    /// Whether a stroke that passes between two neighbours, neither of which is set, sets one of them.
+    pub dropout: bool,
+}
+
 /// A request for a strike.
 #[derive(Clone, Copy, Debug)]
 pub struct Request<'a> {
@@ -15,8 +25,8 @@ pub struct Request<'a> {
     pub properties: &'a [Property<'a>],
     /// Code points up to U+10FFFF, at most 65,536 of them; their order and repeats do not count.
     pub chars: &'a [u32],
-    /// Whether the font's programs are run.
-    pub hinting: bool,
+    /// How outlines become pixels.
+    pub mode: Mode,
 }
 
 /// What was counted over a strike.

@@ -26,9 +26,10 @@ use Rattle.fx_strike.specs.declared.seen.Seen.{Seen}
 use Rattle.fx_strike.specs.Faults.{Fails}
 use Rattle.fx_strike.specs.Strike.{Sketch, IsGlyphOf}
 use Rattle.fx_machine.specs.Usages.{usage_with}
-use Rattle.fx_strike.specs.inner.Drawing.{are_among, lies_in, IsSketchedOf}
+use Rattle.fx_strike.specs.inner.Drawing.{are_among, lies_in, IsFramedBy, IsSketchedOf}
 use Rattle.fx_strike.specs.inner.Surveying.{Adds, Joins, Has, SeesOne}
-use Rattle.fx_strike.proofs.Near.{are_drawn, not_large}
+use Rattle.fx_strike.proofs.Bridged.{nothing_set}
+use Rattle.fx_strike.proofs.Near.{are_drawn}
 use Rattle.fx_strike.proofs.Existing.{glyph_of_spans}
 
 -- ---- a box that holds the bits of another
@@ -142,13 +143,18 @@ sketch_spans sketch made ss is e =
 
 pub skipped : (sketch : Sketch) (made : Sketched) (box : Box)
     → NothingOutsideFrame made.frame (spans_of made.outline.ends.items made.outline.points.items)
+    → IsFramedBy made.dropout made.frame (spans_of made.outline.ends.items made.outline.points.items)
     → ((col row : ℤ) → IsInside made.frame col row → IsTrue (is_in_box box col row))
     → IsPlaced box → IsSketchedOf sketch made → Joins sketch box (Ok box)
-skipped sketch made box outside inside placed is =
+skipped sketch made box outside framed inside placed is =
     let drawn = are_drawn made.outline.ends.items made.outline.points.items sketch.spans is.spans in
-    let g = glyph_of_spans sketch drawn (not_large sketch.spans is.small) in
+    let g = glyph_of_spans sketch drawn is.small in
     let N : List Span → Type 0 = λ ss. NothingOutsideFrame made.frame ss in
-    let none = subst N (spans_drawn made.outline.ends.items made.outline.points.items sketch.spans is.spans) outside in
+    let F : List Span → Type 0 = λ ss. IsFramedBy made.dropout made.frame ss in
+    let D : Bool → Type 0 = λ d. IsFramedBy d made.frame sketch.spans in
+    let same = spans_drawn made.outline.ends.items made.outline.points.items sketch.spans is.spans in
+    let none = nothing_set sketch.dropout made.frame sketch.spans (subst D is.dropout (subst F same framed))
+    (subst N same outside) in
     let bits : (col row : ℤ) → IsTrue (glyph_bit g.0 col row) → IsTrue (is_in_box box col row) =
     λ col row t. not_outside (is_in_box box col row) (λ f. none drawn.closed col row
     (λ i. true≢false (sym (inside col row i) ∙ f)) ((g.1.bits col row).0 t)) in

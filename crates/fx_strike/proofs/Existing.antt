@@ -1,6 +1,7 @@
 -- Where a plan is due there are glyphs of its sketches.
 -- Serves the law that a strike exists.
-use Rattle.std.proofs.Common.{◌≡◌, sym, ◌∙◌, subst, inl, inr, ℕ, ℤ, pos, negsuc, ◌+ℤ◌, ◌*ℤ◌, ◌≤ℤ◌, ◌<ℤ◌, Bool, true, not, List, []}
+use Rattle.std.proofs.Common.{◌≡◌, ◌⊎◌, sym, ◌∙◌, subst, inl, inr, ℕ, ℤ, pos, negsuc, ◌+ℤ◌, ◌*ℤ◌, ◌≤ℤ◌, ◌<ℤ◌, Bool, true, false, not}
+use Rattle.std.proofs.Common.{List, []}
 use Rattle.std.proofs.Common.{◌∷◌, Result, Ok, arith}
 use Rattle.std.specs.Prelude.{filter}
 use Rattle.std.proofs.lemmas.Int.{ints}
@@ -12,9 +13,13 @@ use Rattle.fx_sfnt.specs.declared.records.Metrics.{Metrics}
 use Rattle.fx_cmap.specs.Lookup.{glyph_for}
 use Rattle.fx_hint.specs.Outlines.{OutlineView}
 use Rattle.fx_winding.specs.Limits.{greatest_side}
-use Rattle.fx_winding.specs.Winding.{Span, centre}
+use Rattle.fx_winding.specs.Winding.{Span, IsCovered, centre}
+use Rattle.fx_winding.specs.Dropout.{IsSetIn}
+use Rattle.fx_winding.specs.Outside.{AreOfOutline}
 use Rattle.fx_contour.specs.Contours.{drawn_of}
-use Rattle.fx_contour.specs.Frames.{IsInBoundingBox, AreTooLarge, framed_of}
+use Rattle.fx_contour.specs.Frames.{IsInBoundingBox, AreTooLarge}
+use Rattle.fx_contour.specs.DropoutFrames.{IsInDropoutFrame}
+use Rattle.fx_contour.proofs.Kept.{covered_is_kept}
 use Rattle.fx_fixed.proofs.Order.{below_or_not_ℤ}
 use Rattle.fx_contour.proofs.Outside.{in_box}
 use Rattle.fx_bdf.specs.Glyphs.{Glyph, glyph_bit}
@@ -23,10 +28,13 @@ use Rattle.fx_request.specs.Faults.{of_font}
 use Rattle.fx_strike.specs.Faults.{of_hint, of_contour}
 use Rattle.fx_request.specs.Characters.{rising}
 use Rattle.fx_strike.specs.Strike.{Sketch, Setting, IsGlyphOf, AreGlyphsOf, outline_in, sketch_from, glyph_sketch_of, sketch_of, is_missing}
+use Rattle.fx_strike.specs.Strike.{IsPixelSet, framed_by}
 use Rattle.fx_strike.specs.Laws.{StrikeExists}
 use Rattle.fx_strike.proofs.Sketching.{tight_along}
 use Rattle.fx_strike.proofs.OnePart.{parts_of}
-use Rattle.fx_strike.proofs.Covering.{covered}
+use Rattle.fx_strike.proofs.Bridged.{set_within}
+use Rattle.fx_strike.proofs.Covering.{Test, covered, set_in}
+use Rattle.fx_strike.proofs.Kept.{IsFramed, are_framed, in_dropout_frame, column_number, row_number, columns_near, rows_near}
 use Rattle.fx_strike.proofs.Near.{AreNear, AreDrawn, are_drawn, not_large, have_near, have_more}
 use Rattle.fx_strike.proofs.Trimming.{AreSmall, trimmed}
 
@@ -101,14 +109,19 @@ not_high ss small col row col2 row2 h k = elim (below_or_not_ℤ row2 (row +ℤ 
   ))
 ]
 
--- the bits of spans
-abbrev bit_by : List Span → ℤ → ℤ → Bool
-bit_by ss col row = (covered (centre col row) ss).0
+-- the pixels that are set, as a test
+set_test : (dropout : Bool) (ss : List Span) (col row : ℤ) → Test (IsPixelSet dropout ss col row)
+set_test false ss col row = covered (centre col row) ss
+set_test true ss col row = set_in ss (IsInDropoutFrame ss) (in_dropout_frame ss) col row
 
-are_small : (ss : List Span) → AreDrawn ss → (AreTooLarge ss → ⊥) → AreSmall (bit_by ss) (negsuc 32767) 65536
-are_small ss d small =
-    let box : (col row : ℤ) → bit_by ss col row ≡ true → IsInBoundingBox (centre col row) ss =
-    λ col row h. in_box (centre col row) ss d.closed ((covered (centre col row) ss).1.0 h) in
+-- the bits of spans
+abbrev bit_by : Bool → List Span → ℤ → ℤ → Bool
+bit_by dropout ss col row = (set_test dropout ss col row).0
+
+are_covered : (ss : List Span) → AreDrawn ss → (AreTooLarge ss → ⊥) → AreSmall (bit_by false ss) (negsuc 32767) 65536
+are_covered ss d small =
+    let box : (col row : ℤ) → bit_by false ss col row ≡ true → IsInBoundingBox (centre col row) ss =
+    λ col row h. in_box (centre col row) ss d.closed ((set_test false ss col row).1.0 h) in
     let to : (z : ℤ) → z <ℤ pos 32768 → z <ℤ (negsuc 32767 +ℤ pos 65536) = λ z h. h in
     record {
       from = omega (arith, ints);
@@ -120,23 +133,51 @@ are_small ss d small =
       low = λ col row col2 row2 h k. not_high ss small col row col2 row2 (box col row h) (box col2 row2 k);
     }
 
+-- with drop-out control all of them are kept
+are_kept : (ss : List Span) → AreDrawn ss → IsFramed ss → AreSmall (bit_by true ss) (negsuc 32767) 65536
+are_kept ss d f =
+    let kept : (col row : ℤ) → bit_by true ss col row ≡ true → IsInDropoutFrame ss col row =
+    λ col row h. set_kept ss d.closed col row ((set_test true ss col row).1.0 h) in
+    let to : (z : ℤ) → z <ℤ pos 32768 → z <ℤ (negsuc 32767 +ℤ pos 65536) = λ z h. h in
+    record {
+      from = omega (arith, ints);
+      to = omega (arith, ints);
+      columns = λ col row h. let n = column_number ss f col row (kept col row h) in (n.0, to col n.1);
+      rows = λ col row h. let n = row_number ss f col row (kept col row h) in (n.0, to row n.1);
+      narrow = λ col row col2 row2 h k. columns_near ss f col row col2 row2 (kept col row h) (kept col2 row2 k);
+      low = λ col row col2 row2 h k. rows_near ss f col row col2 row2 (kept col row h) (kept col2 row2 k);
+    }
+  where
+    set_kept : (ss : List Span) → AreOfOutline ss → (i j : ℤ) → IsSetIn ss (IsInDropoutFrame ss) i j → IsInDropoutFrame ss i j
+    set_kept ss closed i j s = by (set_within ss (IsInDropoutFrame ss) i j s)
+      where
+        by : IsCovered (centre i j) ss ⊎ IsInDropoutFrame ss i j → IsInDropoutFrame ss i j
+        by (inl c) = covered_is_kept ss closed i j c
+        by (inr k) = k
+
+are_small : (dropout : Bool) (ss : List Span) → AreDrawn ss → framed_by dropout ss ≡ Ok tt
+    → AreSmall (bit_by dropout ss) (negsuc 32767) 65536
+are_small false ss d h = are_covered ss d (not_large ss h)
+are_small true ss d h = are_kept ss d (are_framed ss h)
+
 -- ---- glyphs
 
-pub glyph_of_spans : (s : Sketch) → AreDrawn s.spans → (AreTooLarge s.spans → ⊥) → (g : Glyph) × IsGlyphOf s g
+pub glyph_of_spans : (s : Sketch) → AreDrawn s.spans → framed_by s.dropout s.spans ≡ Ok tt → (g : Glyph) × IsGlyphOf s g
 glyph_of_spans s d small =
-    let t = trimmed (bit_by s.spans) (negsuc 32767) 65536 s.code s.swidth s.dwidth (are_small s.spans d small) in
-    let bits : (col row : ℤ) → glyph_bit t.0 col row ≡ bit_by s.spans col row = t.1.bits in (
+    let t = trimmed (bit_by s.dropout s.spans) (negsuc 32767) 65536 s.code s.swidth s.dwidth
+    (are_small s.dropout s.spans d small) in
+    let bits : (col row : ℤ) → glyph_bit t.0 col row ≡ bit_by s.dropout s.spans col row = t.1.bits in (
       t.0,
       record {
         code = t.1.code_is;
         swidth = t.1.swidth_is;
         dwidth = t.1.dwidth_is;
         bits = λ col row. (
-          λ h. (covered (centre col row) s.spans).1.0 (sym (bits col row) ∙ h),
+          λ h. (set_test s.dropout s.spans col row).1.0 (sym (bits col row) ∙ h),
           λ h. bits col row ∙
-              (covered (centre col row) s.spans).1.1 h,
+              (set_test s.dropout s.spans col row).1.1 h,
         );
-        tight = tight_along t.0.box (bit_by s.spans) (glyph_bit t.0) (λ col row. sym (bits col row)) t.1.tight;
+        tight = tight_along t.0.box (bit_by s.dropout s.spans) (glyph_bit t.0) (λ col row. sym (bits col row)) t.1.tight;
         formed = t.1.formed;
       },
     )
@@ -150,18 +191,18 @@ glyph_of_sketch setting code glyph s h =
     let measured : OutlineView → List Span → Result Sketch Refusal =
     λ d ss. map_fault of_font (metrics_of setting.font glyph) >>= λ m. Ok (last d ss m) in
     let framed : OutlineView → List Span → Result Sketch Refusal =
-    λ d ss. map_fault (of_contour glyph) (framed_of ss) >>= λ _. measured d ss in
+    λ d ss. map_fault (of_contour glyph) (framed_by setting.dropout ss) >>= λ _. measured d ss in
     let a = bind_ok (map_fault of_hint (outline_in setting glyph))
     (λ d. map_fault (of_contour glyph) (drawn_of d.ends d.points) >>= framed d) s h in
     let b = bind_ok (map_fault (of_contour glyph) (drawn_of a.0.ends a.0.points)) (framed a.0) s a.2 in
-    let c = bind_ok (map_fault (of_contour glyph) (framed_of b.0)) (λ _. measured a.0 b.0) s b.2 in
+    let c = bind_ok (map_fault (of_contour glyph) (framed_by setting.dropout b.0)) (λ _. measured a.0 b.0) s b.2 in
     let d = bind_ok (map_fault of_font (metrics_of setting.font glyph)) (λ m. Ok (last a.0 b.0 m)) s c.2 in
     let e : last a.0 b.0 d.0 ≡ s = cc (d.2) in
     let drawn = are_drawn a.0.ends a.0.points b.0 (map_fault_ok (of_contour glyph) (drawn_of a.0.ends a.0.points) b.0 b.1) in
-    let small = not_large b.0 (map_fault_ok (of_contour glyph) (framed_of b.0) c.0 c.1) in
+    let small = map_fault_ok (of_contour glyph) (framed_by setting.dropout b.0) c.0 c.1 in
     along (last a.0 b.0 d.0) s e drawn small
   where
-    along : (x s : Sketch) → x ≡ s → AreDrawn x.spans → (AreTooLarge x.spans → ⊥) → (g : Glyph) × IsGlyphOf s g
+    along : (x s : Sketch) → x ≡ s → AreDrawn x.spans → framed_by x.dropout x.spans ≡ Ok tt → (g : Glyph) × IsGlyphOf s g
     along x s e drawn small =
         let P : Sketch → Type 0 = λ y. (g : Glyph) × IsGlyphOf y g in
         subst P e (glyph_of_spans x drawn small)
@@ -185,6 +226,6 @@ glyphs_of_sketches setting (c ∷ cs) ss h =
     subst P e (g.0 ∷ gs.0, (g.1, gs.1))
 
 pub strike_exists : StrikeExists
-strike_exists file ppem title chars hinting plan h =
-    let p = parts_of file ppem title chars hinting plan h in
+strike_exists file ppem title chars mode plan h =
+    let p = parts_of file ppem title chars mode plan h in
     glyphs_of_sketches p.setting (filter (λ c. not (is_missing p.setting c)) (rising chars)) plan.sketches p.sketches

@@ -8,6 +8,8 @@ pub mod OnePart
 pub mod OneCharacter
 pub mod Covering
 pub mod Near
+pub mod Bridged
+pub mod Kept
 pub mod Trimming
 pub mod Existing
 pub mod Enclosed

@@ -1,7 +1,7 @@
 -- From what was seen to a survey, and what a call leaves that was refused.
 -- Serves `survey_codes`, `survey_chars`, `write_strike`, `make_strike_with` and `whole_pixels`.
 use Rattle.std.proofs.Common.{refl, sym, ap, subst, ◌≡◌, ◌∙◌, arith, inl, ℕ, ◌+◌, ◌<◌, ◌≤◌, ◌^◌, ℤ, pos, List, map}
-use Rattle.std.proofs.Common.{Option, Some, None, Result, Ok}
+use Rattle.std.proofs.Common.{Bool, Option, Some, None, Result, Ok}
 use Rattle.std.proofs.Common.{Err, FitsSigned, w32, to_z, of_z, lit<}
 use Rattle.std.specs.Int.{w128}
 use Rattle.std.specs.Prelude.{◌*ℤ◌, neg_ℤ, unsigned_abs, IsOk, IfOk, IfErr}
@@ -71,10 +71,10 @@ unseen setting title chars codes r e d p q c f =
 counted_on : (before after total : ℕ) → after ≡ counted total → counted (before + after) ≡ counted (before + total)
 counted_on before after total h = omega arith
 
-surveyed_here : (opened : Opened) (machine : Option Known) (title : Title) (chars : List ℕ) (seen : Seen)
-    → Holds (setting_with opened machine) (rising chars) seen
-    → Surveyed (plan_with (setting_with opened machine) title chars) (survey_from (prelude_by machine) opened seen)
-surveyed_here opened machine title chars seen g =
+surveyed_here : (opened : Opened) (dropout : Bool) (machine : Option Known) (title : Title) (chars : List ℕ) (seen : Seen)
+    → Holds (setting_with opened dropout machine) (rising chars) seen
+    → Surveyed (plan_with (setting_with opened dropout machine) title chars) (survey_from (prelude_by machine) opened seen)
+surveyed_here opened dropout machine title chars seen g =
     let heading : Box → ℕ → Header = λ b n. record {
       ppem = opened.ppem;
       bounds = b;
@@ -83,9 +83,9 @@ surveyed_here opened machine title chars seen g =
       glyphs = n;
     } in
     record {
-      plan = plan_from (setting_with opened machine) title chars g.sketches;
+      plan = plan_from (setting_with opened dropout machine) title chars g.sketches;
       glyphs = g.glyphs;
-      is = plan_whole (setting_with opened machine) title chars g.sketches g.planned;
+      is = plan_whole (setting_with opened dropout machine) title chars g.sketches g.planned;
       drawn = g.drawn;
       header = ap (λ (b : Box). heading b seen.report.glyphs) g.bounds ∙
           ap (λ (n : ℕ). heading (bounds_of (map (λ x. x.box) g.glyphs)) n) g.count;
@@ -97,15 +97,15 @@ surveyed_here opened machine title chars seen g =
       };
     }
 
-pub surveyed : (opened : Opened) (machine : Option Known) (prelude : Usage) (title : Title) (chars codes : List ℕ) (seen : Seen)
-    (survey : Survey)
-    → prelude ≡ prelude_by machine → codes ≡ rising chars → Holds (setting_with opened machine) codes seen
-    → survey ≡ survey_from prelude opened seen → Surveyed (plan_with (setting_with opened machine) title chars) survey
-surveyed opened machine prelude title chars codes seen survey n c g e =
-    let P : List ℕ → Type 0 = λ xs. Holds (setting_with opened machine) xs seen in
-    let Q : Survey → Type 0 = λ s. Surveyed (plan_with (setting_with opened machine) title chars) s in
+pub surveyed : (opened : Opened) (dropout : Bool) (machine : Option Known) (prelude : Usage) (title : Title)
+    (chars codes : List ℕ) (seen : Seen) (survey : Survey)
+    → prelude ≡ prelude_by machine → codes ≡ rising chars → Holds (setting_with opened dropout machine) codes seen
+    → survey ≡ survey_from prelude opened seen → Surveyed (plan_with (setting_with opened dropout machine) title chars) survey
+surveyed opened dropout machine prelude title chars codes seen survey n c g e =
+    let P : List ℕ → Type 0 = λ xs. Holds (setting_with opened dropout machine) xs seen in
+    let Q : Survey → Type 0 = λ s. Surveyed (plan_with (setting_with opened dropout machine) title chars) s in
     subst Q (sym (e ∙ ap (λ (x : Usage). survey_from x opened seen) n))
-    (surveyed_here opened machine title chars seen (subst P c g))
+    (surveyed_here opened dropout machine title chars seen (subst P c g))
 
 -- ---- refusals that are due
 

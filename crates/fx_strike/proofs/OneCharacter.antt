@@ -7,6 +7,7 @@ use Rattle.fx_fixed.specs.Chain.{◌>>=◌, wanted, map_ok, map_chain}
 use Rattle.fx_fixed.specs.Sizes.{ppem_of}
 use Rattle.fx_sfnt.specs.Tables.{Face}
 use Rattle.fx_cmap.specs.declared.mapping.Mapping.{Mapping}
+use Rattle.fx_request.specs.declared.request.Mode.{Mode}
 use Rattle.fx_request.specs.declared.refusal.Refusal.{Refusal}
 use Rattle.fx_request.specs.declared.refusal.Refusal.TheVariants.{BadSize}
 use Rattle.fx_request.specs.Characters.{rising}
@@ -38,10 +39,10 @@ unfolding rising one_with plan_with
 with_is setting title code =
     one_step (sketch_of setting) code (plan_from setting title (code ∷ [])) (is_missing setting code) (λ ss. refl)
 
-in_is : (opened : Opened) (title : Title) (code : ℕ) (hinting : Bool)
-    → one_in opened code hinting ≡ map_ok only_sketch (plan_in opened title (code ∷ []) hinting)
+in_is : (opened : Opened) (title : Title) (code : ℕ) (mode : Mode)
+    → one_in opened code mode ≡ map_ok only_sketch (plan_in opened title (code ∷ []) mode)
 unfolding one_in plan_in
-in_is opened title code hinting = by_setting (setting_in opened hinting)
+in_is opened title code mode = by_setting (setting_in opened mode)
   where
     by_setting : (r : Result Setting Refusal)
         → (r >>= λ s. one_with s code) ≡ map_ok only_sketch (r >>= λ s. plan_with s title (code ∷ []))
@@ -66,12 +67,12 @@ named_alike (Err e) checks title f h = refl
 
 pub one_is_of_strike : OneIsOfStrike
 unfolding opened_after checked_text plan_of one_of
-one_is_of_strike file ppem title code hinting named =
+one_is_of_strike file ppem title code mode named =
     by_opened (opened_one_of file ppem code)
-    ∙ ap (λ (o : Opening). map_ok only_sketch (o >>= λ o. plan_in o title (code ∷ []) hinting))
+    ∙ ap (λ (o : Opening). map_ok only_sketch (o >>= λ o. plan_in o title (code ∷ []) mode))
     (sym (named_alike (wanted (ppem_of ppem) BadSize) (checked_chars (code ∷ [])) (checked_title title) (font_with_map file) named))
   where
     by_opened : (o : Opening)
-        → (o >>= λ o. one_in o code hinting) ≡ map_ok only_sketch (o >>= λ o. plan_in o title (code ∷ []) hinting)
-    by_opened (Ok o) = in_is o title code hinting
+        → (o >>= λ o. one_in o code mode) ≡ map_ok only_sketch (o >>= λ o. plan_in o title (code ∷ []) mode)
+    by_opened (Ok o) = in_is o title code mode
     by_opened (Err e) = refl

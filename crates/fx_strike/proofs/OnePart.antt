@@ -11,15 +11,15 @@ use Rattle.fx_sfnt.specs.declared.records.Metrics.{Metrics}
 use Rattle.fx_hint.specs.Outlines.{OutlineView}
 use Rattle.fx_winding.specs.Winding.{Span}
 use Rattle.fx_contour.specs.Contours.{drawn_of}
-use Rattle.fx_contour.specs.Frames.{framed_of}
 use Rattle.fx_bdf.specs.Glyphs.{Glyph, TrimmedIsOne, glyph_bit}
+use Rattle.fx_request.specs.declared.request.Mode.{Mode}
 use Rattle.fx_request.specs.declared.refusal.Refusal.{Refusal}
 use Rattle.fx_request.specs.declared.refusal.Refusal.TheVariants.{BadSize}
 use Rattle.fx_request.specs.Faults.{of_font}
 use Rattle.fx_strike.specs.Faults.{of_hint, of_contour}
 use Rattle.fx_request.specs.Characters.{rising}
 use Rattle.fx_strike.specs.Title.{Title}
-use Rattle.fx_strike.specs.Strike.{Sketch, Setting, Plan, AreGlyphsOf, outline_in, sketch_from}
+use Rattle.fx_strike.specs.Strike.{Sketch, Setting, Plan, AreGlyphsOf, outline_in, sketch_from, framed_by}
 use Rattle.fx_strike.specs.Strike.{glyph_sketch_of, sketch_of, is_missing, sketches_of, checked_text, opened_after, opened_of}
 use Rattle.fx_strike.specs.Strike.{opened_at, setting_in, setting_of, plan_from, plan_with, plan_in, plan_of}
 use Rattle.fx_strike.specs.Strike.{strike_text}
@@ -81,14 +81,14 @@ sketch_code setting code glyph s h =
     let measured : OutlineView → List Span → Result Sketch Refusal =
     λ d ss. map_fault of_font (metrics_of setting.font glyph) >>= λ m. Ok (last d ss m) in
     let framed : OutlineView → List Span → Result Sketch Refusal =
-    λ d ss. map_fault (of_contour glyph) (framed_of ss) >>= λ _. measured d ss in
+    λ d ss. map_fault (of_contour glyph) (framed_by setting.dropout ss) >>= λ _. measured d ss in
     let a = bind_ok (map_fault of_hint (outline_in setting glyph))
     (λ d. map_fault (of_contour glyph) (drawn_of d.ends d.points) >>= framed d) s h in
     let b = bind_ok (map_fault (of_contour glyph) (drawn_of a.0.ends a.0.points)) (framed a.0) s a.2 in
-    let c = bind_ok (map_fault (of_contour glyph) (framed_of b.0)) (λ _. measured a.0 b.0) s b.2 in
+    let c = bind_ok (map_fault (of_contour glyph) (framed_by setting.dropout b.0)) (λ _. measured a.0 b.0) s b.2 in
     let d = bind_ok (map_fault of_font (metrics_of setting.font glyph)) (λ m. Ok (last a.0 b.0 m)) s c.2 in
     let e : last a.0 b.0 d.0 ≡ s = cc (d.2) in
-    code_along (last a.0 b.0 d.0) s code e refl
+    code_along (last a.0 b.0 d.0) s code e (refl {a = code})
   where
     code_along : (x s : Sketch) (code : ℕ) → x ≡ s → x.code ≡ code → s.code ≡ code
     code_along x s code e h = sym (ap (λ (y : Sketch). y.code) e) ∙ h
@@ -123,9 +123,9 @@ unchecked (Ok n) (Err e) opens o h = absurd (cc)
 unchecked (Err e) checks opens o h = absurd (cc)
 
 -- the setting of a plan
-pub record Parts (file : List ℕ) (ppem : ℕ) (chars : List ℕ) (hinting : Bool) (ss : List Sketch) : Type 0 where
+pub record Parts (file : List ℕ) (ppem : ℕ) (chars : List ℕ) (mode : Mode) (ss : List Sketch) : Type 0 where
   pub setting : Setting
-  pub is : setting_of file ppem hinting ≡ Ok setting
+  pub is : setting_of file ppem mode ≡ Ok setting
   pub sketches : sketches_of setting (rising chars) ≡ Ok ss
 
 -- a plan has the title and the size that it is of, and the sketches of its code points
@@ -144,12 +144,12 @@ planned setting title chars plan h =
     let P : Plan → Type 0 = λ p. Planned setting title chars p in
     subst P e (record { sketches = d.1; name_is = refl; properties_are = refl; ppem_is = refl })
 
-pub parts_of : (file : List ℕ) (ppem : ℕ) (title : Title) (chars : List ℕ) (hinting : Bool) (plan : Plan)
-    → plan_of file ppem title chars hinting ≡ Ok plan → Parts file ppem chars hinting plan.sketches
+pub parts_of : (file : List ℕ) (ppem : ℕ) (title : Title) (chars : List ℕ) (mode : Mode) (plan : Plan)
+    → plan_of file ppem title chars mode ≡ Ok plan → Parts file ppem chars mode plan.sketches
 unfolding opened_after setting_of plan_in plan_of
-parts_of file ppem title chars hinting plan h =
-    let o = bind_ok (opened_of file ppem title chars) (λ o. plan_in o title chars hinting) plan h in
-    let s = bind_ok (setting_in o.0 hinting) (λ s. plan_with s title chars) plan o.2 in
+parts_of file ppem title chars mode plan h =
+    let o = bind_ok (opened_of file ppem title chars) (λ o. plan_in o title chars mode) plan h in
+    let s = bind_ok (setting_in o.0 mode) (λ s. plan_with s title chars) plan o.2 in
     let opened : opened_at file ppem ≡ Ok o.0 = unchecked (wanted (ppem_of ppem) BadSize) (checked_text title chars) _ o.0 o.1 in
     record { setting = s.0; is = rw opened s.1; sketches = (planned s.0 title chars plan s.2).sketches }
 
@@ -163,9 +163,9 @@ sketch_there setting chars ss s p h =
     ap (sketch_of setting) (sketch_code setting x.0 _ s here) ∙ here
 
 pub part_is_one : PartIsOne
-part_is_one file ppem hinting title title2 chars chars2 plan plan2 h g s t i j e =
-    let p = parts_of file ppem title chars hinting plan h in
-    let q = parts_of file ppem title2 chars2 hinting plan2 g in
+part_is_one file ppem mode title title2 chars chars2 plan plan2 h g s t i j e =
+    let p = parts_of file ppem title chars mode plan h in
+    let q = parts_of file ppem title2 chars2 mode plan2 g in
     let same : p.setting ≡ q.setting = same_Ok p.setting q.setting p.is q.is in
     same_Ok s t
     (ap (sketch_of q.setting) (sym e) ∙ ap (λ (x : Setting). sketch_of x s.code) (sym same)

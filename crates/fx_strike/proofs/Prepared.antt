@@ -4,6 +4,7 @@ use Rattle.std.proofs.Common.{◌≡◌, refl, sym, ap, ◌∙◌, subst, ℕ, B
 use Rattle.std.specs.Prelude.{IsOk, IfOk, IfErr}
 use Rattle.fx_fixed.specs.Chain.{GivesUnless}
 use Rattle.fx_bdf.specs.Glyphs.{Glyph}
+use Rattle.fx_request.specs.declared.request.Mode.{Mode}
 use Rattle.fx_request.specs.declared.refusal.Refusal.{Refusal}
 use Rattle.fx_strike.specs.declared.opened.Opened.{Opened}
 use Rattle.fx_strike.specs.Faults.{Fails}
@@ -21,40 +22,40 @@ is_ok {A} a x h = let P : Result A Refusal → Type 0 = λ r. IsOk r in subst P 
 
 -- ---- a strike
 
-pub plan_unopened : (file : List ℕ) (ppem : ℕ) (title : Title) (chars : List ℕ) (hinting : Bool) (d : Refusal)
-    → Err d ≡ opened_of file ppem title chars → plan_of file ppem title chars hinting ≡ Err d
+pub plan_unopened : (file : List ℕ) (ppem : ℕ) (title : Title) (chars : List ℕ) (mode : Mode) (d : Refusal)
+    → Err d ≡ opened_of file ppem title chars → plan_of file ppem title chars mode ≡ Err d
 unfolding plan_of
-plan_unopened file ppem title chars hinting d h = rw (sym h) refl
+plan_unopened file ppem title chars mode d h = rw (sym h) refl
 
-pub plan_unset : (file : List ℕ) (ppem : ℕ) (title : Title) (chars : List ℕ) (hinting : Bool) (o : Opened) (d : Refusal)
-    → Ok o ≡ opened_of file ppem title chars → Fails d (setting_in o hinting) → Fails d (plan_of file ppem title chars hinting)
+pub plan_unset : (file : List ℕ) (ppem : ℕ) (title : Title) (chars : List ℕ) (mode : Mode) (o : Opened) (d : Refusal)
+    → Ok o ≡ opened_of file ppem title chars → Fails d (setting_in o mode) → Fails d (plan_of file ppem title chars mode)
 unfolding plan_in plan_of
-plan_unset file ppem title chars hinting o d h f =
-    fails_on d (setting_in o hinting) (plan_of file ppem title chars hinting) (λ e k. rw (sym h, k) refl) f
+plan_unset file ppem title chars mode o d h f =
+    fails_on d (setting_in o mode) (plan_of file ppem title chars mode) (λ e k. rw (sym h, k) refl) f
 
-pub plan_set : (file : List ℕ) (ppem : ℕ) (title : Title) (chars : List ℕ) (hinting : Bool) (o : Opened) (s : Setting)
-    → Ok o ≡ opened_of file ppem title chars → setting_in o hinting ≡ Ok s
-    → plan_of file ppem title chars hinting ≡ plan_with s title chars
+pub plan_set : (file : List ℕ) (ppem : ℕ) (title : Title) (chars : List ℕ) (mode : Mode) (o : Opened) (s : Setting)
+    → Ok o ≡ opened_of file ppem title chars → setting_in o mode ≡ Ok s
+    → plan_of file ppem title chars mode ≡ plan_with s title chars
 unfolding plan_in plan_of
-plan_set file ppem title chars hinting o s h k = rw (sym h, k) refl
+plan_set file ppem title chars mode o s h k = rw (sym h, k) refl
 
 -- ---- one character
 
-pub one_unopened : (file : List ℕ) (ppem code : ℕ) (hinting : Bool) (d : Refusal)
-    → Err d ≡ opened_one_of file ppem code → one_of file ppem code hinting ≡ Err d
+pub one_unopened : (file : List ℕ) (ppem code : ℕ) (mode : Mode) (d : Refusal)
+    → Err d ≡ opened_one_of file ppem code → one_of file ppem code mode ≡ Err d
 unfolding one_of
-one_unopened file ppem code hinting d h = rw (sym h) refl
+one_unopened file ppem code mode d h = rw (sym h) refl
 
-pub one_unset : (file : List ℕ) (ppem code : ℕ) (hinting : Bool) (o : Opened) (d : Refusal)
-    → Ok o ≡ opened_one_of file ppem code → Fails d (setting_in o hinting) → Fails d (one_of file ppem code hinting)
+pub one_unset : (file : List ℕ) (ppem code : ℕ) (mode : Mode) (o : Opened) (d : Refusal)
+    → Ok o ≡ opened_one_of file ppem code → Fails d (setting_in o mode) → Fails d (one_of file ppem code mode)
 unfolding one_in one_of
-one_unset file ppem code hinting o d h f =
-    fails_on d (setting_in o hinting) (one_of file ppem code hinting) (λ e k. rw (sym h, k) refl) f
+one_unset file ppem code mode o d h f =
+    fails_on d (setting_in o mode) (one_of file ppem code mode) (λ e k. rw (sym h, k) refl) f
 
-pub one_set : (file : List ℕ) (ppem code : ℕ) (hinting : Bool) (o : Opened) (s : Setting)
-    → Ok o ≡ opened_one_of file ppem code → setting_in o hinting ≡ Ok s → one_of file ppem code hinting ≡ one_with s code
+pub one_set : (file : List ℕ) (ppem code : ℕ) (mode : Mode) (o : Opened) (s : Setting)
+    → Ok o ≡ opened_one_of file ppem code → setting_in o mode ≡ Ok s → one_of file ppem code mode ≡ one_with s code
 unfolding one_in one_of
-one_set file ppem code hinting o s h k = rw (sym h, k) refl
+one_set file ppem code mode o s h k = rw (sym h, k) refl
 
 pub finds_err : (due : Result (Option Sketch) Refusal) (r : Result (Option Glyph) Refusal) (e d : Refusal)
     → r ≡ Err e → e ≡ d → Fails d due → Finds due r
@@ -76,15 +77,15 @@ finds_along here due r e h = let P : Result (Option Sketch) Refusal → Type 0 =
 
 -- ---- a setting
 
-pub setting_unopened : (file : List ℕ) (ppem : ℕ) (hinting : Bool) (d : Refusal) → Err d ≡ opened_at file ppem
-    → setting_of file ppem hinting ≡ Err d
+pub setting_unopened : (file : List ℕ) (ppem : ℕ) (mode : Mode) (d : Refusal) → Err d ≡ opened_at file ppem
+    → setting_of file ppem mode ≡ Err d
 unfolding setting_of
-setting_unopened file ppem hinting d h = rw (sym h) refl
+setting_unopened file ppem mode d h = rw (sym h) refl
 
-pub setting_opened : (file : List ℕ) (ppem : ℕ) (hinting : Bool) (o : Opened) → Ok o ≡ opened_at file ppem
-    → setting_of file ppem hinting ≡ setting_in o hinting
+pub setting_opened : (file : List ℕ) (ppem : ℕ) (mode : Mode) (o : Opened) → Ok o ≡ opened_at file ppem
+    → setting_of file ppem mode ≡ setting_in o mode
 unfolding setting_of
-setting_opened file ppem hinting o h = rw (sym h) refl
+setting_opened file ppem mode o h = rw (sym h) refl
 
 pub gives_err : (due : Result Setting Refusal) (r : Result Setting Refusal) (e d : Refusal) → r ≡ Err e → e ≡ d → Fails d due
     → GivesUnless Fails (λ s. s) r due

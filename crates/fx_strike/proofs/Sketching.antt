@@ -17,13 +17,12 @@ use Rattle.fx_winding.specs.Winding.{Span}
 use Rattle.fx_winding.specs.Bitmaps.{Bits, bit_of}
 use Rattle.fx_contour.specs.declared.fault.ContourFault.{ContourFault}
 use Rattle.fx_contour.specs.Contours.{drawn_of}
-use Rattle.fx_contour.specs.Frames.{framed_of}
 use Rattle.fx_bdf.specs.Glyphs.{Box, Glyph, IsTight, IsTrimmed, glyph_bit}
 use Rattle.fx_request.specs.declared.refusal.Refusal.{Refusal}
 use Rattle.fx_request.specs.declared.refusal.Refusal.TheVariants.{OutOfMemory, WriteFailed, ReadFailed, BadHex, InputTooLarge}
 use Rattle.fx_request.specs.Faults.{of_font}
 use Rattle.fx_strike.specs.Faults.{Fails, of_hint, of_contour}
-use Rattle.fx_strike.specs.Strike.{Sketch, Setting, IsGlyphOf, thousandths, outline_in, sketch_from, glyph_sketch_of}
+use Rattle.fx_strike.specs.Strike.{Sketch, Setting, IsGlyphOf, thousandths, outline_in, sketch_from, framed_by, glyph_sketch_of}
 use Rattle.fx_strike.specs.inner.Drawing.{HasBitsOf, IsSketchedOf, Sketches, Draws}
 use Rattle.fx_strike.specs.declared.sketched.Sketched.{Sketched}
 
@@ -56,7 +55,7 @@ tight_along box a b e h =
 sketch_is : (setting : Setting) (code glyph : ℕ) (drawing : OutlineView) (ss : List Span) (m : Metrics)
     → map_fault of_hint (outline_in setting glyph) ≡ Ok drawing
     → map_fault (of_contour glyph) (drawn_of drawing.ends drawing.points) ≡ Ok ss
-    → map_fault (of_contour glyph) (framed_of ss) ≡ Ok tt
+    → map_fault (of_contour glyph) (framed_by setting.dropout ss) ≡ Ok tt
     → map_fault of_font (metrics_of setting.font glyph) ≡ Ok m
     → glyph_sketch_of setting code glyph ≡ Ok (sketch_from setting code drawing ss m)
 unfolding glyph_sketch_of
@@ -70,19 +69,19 @@ sketch_by setting code made ss m = sketch_from setting code (view_of_outline mad
 sketched_whole : (setting : Setting) (code glyph : ℕ) (made : Sketched) (ss : List Span) (swidth : ℤ)
     → map_fault of_hint (outline_in setting glyph) ≡ Ok (view_of_outline made.outline)
     → drawn_of made.outline.ends.items made.outline.points.items ≡ Ok ss
-    → framed_of ss ≡ Ok tt
+    → framed_by setting.dropout ss ≡ Ok tt
     → Ok swidth ≡ map_ok (λ (m : Metrics). thousandths m.advance_width setting.font.head.units_per_em)
     (map_fault of_font (metrics_of setting.font glyph))
-    → made.swidth ≡ swidth
+    → made.swidth ≡ swidth → made.dropout ≡ setting.dropout
     → (m : Metrics) × (glyph_sketch_of setting code glyph ≡ Ok (sketch_by setting code made ss m))
     × IsSketchedOf (sketch_by setting code made ss m) made
-sketched_whole setting code glyph made ss swidth h1 h2 h3 h4 s =
+sketched_whole setting code glyph made ss swidth h1 h2 h3 h4 s d =
     let m = map_ok_ok (λ (m : Metrics). thousandths m.advance_width setting.font.head.units_per_em)
     (map_fault of_font (metrics_of setting.font glyph)) swidth (sym h4) in (
       m.0,
       sketch_is setting code glyph (view_of_outline made.outline) ss m.0 h1 (ap (map_fault (of_contour glyph)) h2)
           (ap (map_fault (of_contour glyph)) h3) m.1,
-      record { spans = h2; small = h3; swidth = s ∙ sym m.2; dwidth = refl; usage = refl },
+      record { spans = h2; dropout = d; small = h3; swidth = s ∙ sym m.2; dwidth = refl; usage = refl },
     )
 
 -- out of memory is a refusal whatever was due
@@ -100,27 +99,30 @@ drawn_whole due sketch made code (Err e) h is k of m = memory_fails e due m
 -- the same where the checks of the spans and of the frame are one
 pub sketched_framed : (setting : Setting) (code glyph : ℕ) (made : Sketched) (swidth : ℤ)
     → map_fault of_hint (outline_in setting glyph) ≡ Ok (view_of_outline made.outline)
-    → map_fault (of_contour glyph) (drawn_of made.outline.ends.items made.outline.points.items >>= framed_of) ≡ Ok tt
+    → map_fault (of_contour glyph) (drawn_of made.outline.ends.items made.outline.points.items >>= framed_by setting.dropout)
+    ≡ Ok tt
     → Ok swidth ≡ map_ok (λ (m : Metrics). thousandths m.advance_width setting.font.head.units_per_em)
     (map_fault of_font (metrics_of setting.font glyph))
-    → made.swidth ≡ swidth
+    → made.swidth ≡ swidth → made.dropout ≡ setting.dropout
     → (sketch : Sketch) × (glyph_sketch_of setting code glyph ≡ Ok sketch) × IsSketchedOf sketch made
-sketched_framed setting code glyph made swidth h1 h2 h4 s =
+sketched_framed setting code glyph made swidth h1 h2 h4 s d =
     let drawn : Result (List Span) ContourFault = drawn_of made.outline.ends.items made.outline.points.items in
-    let p = bind_ok drawn framed_of tt (map_fault_ok (of_contour glyph) (drawn >>= framed_of) tt h2) in
-    let w = sketched_whole setting code glyph made p.0 swidth h1 p.1 p.2 h4 s in
+    let frame : List Span → Result (Unit {0}) ContourFault = framed_by setting.dropout in
+    let p = bind_ok drawn frame tt (map_fault_ok (of_contour glyph) (drawn >>= frame) tt h2) in
+    let w = sketched_whole setting code glyph made p.0 swidth h1 p.1 p.2 h4 s d in
     (sketch_by setting code made p.0 w.0, w.1, w.2)
 
 -- the glyph of a sketch, by its bits
 pub glyph_whole : (sketch : Sketch) (made : Sketched) (ss : List Span) (bits : Bits) (g : Glyph) (code code2 : ℕ)
     (swidth dwidth : ℤ)
-    → HasBitsOf ss bits → IsTrimmed code2 swidth dwidth (bit_of bits) g → code2 ≡ code → swidth ≡ made.swidth
+    → HasBitsOf made.dropout ss bits → IsTrimmed code2 swidth dwidth (bit_of bits) g → code2 ≡ code → swidth ≡ made.swidth
     → dwidth ≡ near_of made.outline.advance (pos 64)
     → IsSketchedOf sketch made → sketch.code ≡ code → sketch.spans ≡ ss → IsGlyphOf sketch g
 glyph_whole sketch made ss bits g code code2 swidth dwidth b t c s d is e spans =
     let P : Bool → Type 0 = λ x. IsTrue x in
-    let Q : List Span → Type 0 = λ xs. HasBitsOf xs bits in
-    let here : HasBitsOf sketch.spans bits = subst Q (sym spans) b in
+    let Q : List Span → Type 0 = λ xs. HasBitsOf made.dropout xs bits in
+    let D : Bool → Type 0 = λ d. HasBitsOf d sketch.spans bits in
+    let here : HasBitsOf sketch.dropout sketch.spans bits = subst D is.dropout (subst Q (sym spans) b) in
     record {
       code = t.code_is ∙ c ∙ sym e;
       swidth = t.swidth_is ∙ s ∙ is.swidth;
@@ -163,13 +165,13 @@ both_checked view (Err d) f g e h = let same : view d ≡ e = cc in ap Err same
 -- the outline lies too far out or is too large
 pub no_frame : (setting : Setting) (code glyph : ℕ) (drawing : OutlineView) (d : Refusal)
     → map_fault of_hint (outline_in setting glyph) ≡ Ok drawing
-    → Fails d (map_fault (of_contour glyph) (drawn_of drawing.ends drawing.points >>= framed_of))
+    → Fails d (map_fault (of_contour glyph) (drawn_of drawing.ends drawing.points >>= framed_by setting.dropout))
     → Fails d (glyph_sketch_of setting code glyph)
 unfolding glyph_sketch_of
 no_frame setting code glyph drawing d h f =
-    fails_on d (map_fault (of_contour glyph) (drawn_of drawing.ends drawing.points >>= framed_of))
+    fails_on d (map_fault (of_contour glyph) (drawn_of drawing.ends drawing.points >>= framed_by setting.dropout))
     (glyph_sketch_of setting code glyph)
-    (λ e k. rw h (both_checked (of_contour glyph) (drawn_of drawing.ends drawing.points) framed_of _ e k)) f
+    (λ e k. rw h (both_checked (of_contour glyph) (drawn_of drawing.ends drawing.points) (framed_by setting.dropout) _ e k)) f
 
 font_fails : {Y : Type 0} (f : FontFault) (due : Result Y Refusal) → due ≡ Err (of_font f) → Fails (of_font f) due
 font_fails NotTrueType due h = h
@@ -190,14 +192,15 @@ refused_metrics view (Err f) d due h g =
 -- no advance
 pub no_advance : (setting : Setting) (code glyph : ℕ) (drawing : OutlineView) (d : Refusal)
     → map_fault of_hint (outline_in setting glyph) ≡ Ok drawing
-    → map_fault (of_contour glyph) (drawn_of drawing.ends drawing.points >>= framed_of) ≡ Ok tt
+    → map_fault (of_contour glyph) (drawn_of drawing.ends drawing.points >>= framed_by setting.dropout) ≡ Ok tt
     → Err d ≡ map_ok (λ (m : Metrics). thousandths m.advance_width setting.font.head.units_per_em)
     (map_fault of_font (metrics_of setting.font glyph))
     → Fails d (glyph_sketch_of setting code glyph)
 unfolding glyph_sketch_of
 no_advance setting code glyph drawing d h1 h2 h3 =
     let drawn : Result (List Span) ContourFault = drawn_of drawing.ends drawing.points in
-    let p = bind_ok drawn framed_of tt (map_fault_ok (of_contour glyph) (drawn >>= framed_of) tt h2) in
+    let frame : List Span → Result (Unit {0}) ContourFault = framed_by setting.dropout in
+    let p = bind_ok drawn frame tt (map_fault_ok (of_contour glyph) (drawn >>= frame) tt h2) in
     refused_metrics (λ (m : Metrics). thousandths m.advance_width setting.font.head.units_per_em) (metrics_of setting.font glyph) d
     (glyph_sketch_of setting code glyph) h3
     (λ f k. rw (h1, ap (map_fault (of_contour glyph)) p.1, ap (map_fault (of_contour glyph)) p.2, k) refl)

@@ -19,7 +19,7 @@ use Rattle.fx_strike.specs.Strike.{opened_of, one_with, plan_with, plan_of, stri
 
 -- the requested strike of a font file, or the first cause why there is none
 abbrev pub strike_of : List ℕ → Request → Result Plan Refusal
-strike_of file request = plan_of file request.ppem (title_of request) request.chars.now request.hinting
+strike_of file request = plan_of file request.ppem (title_of request) request.chars.now request.mode
 
 -- the outcome of a request before memory is taken: the size, the opened font and its character map; or the first cause
 abbrev pub opening_of : List ℕ → Request → Opening

@@ -1,7 +1,8 @@
 -- What the definitions of a strike imply.
-use Rattle.std.specs.Prelude.{◌≡◌, ℕ, Bool, true, List, [], ◌∷◌, slice_get, Option, Ok, Contains}
+use Rattle.std.specs.Prelude.{◌≡◌, ℕ, List, [], ◌∷◌, slice_get, Option, Ok, Contains}
 use Rattle.fx_fixed.specs.Chain.{map_ok}
 use Rattle.fx_bdf.specs.Glyphs.{Glyph}
+use Rattle.fx_request.specs.declared.request.Mode.{Mode}
 use Rattle.fx_strike.specs.Title.{Title}
 use Rattle.fx_strike.specs.Strike.{Sketch, Plan, IsGlyphOf, AreGlyphsOf, checked_title, plan_of, one_of, strike_text}
 
@@ -17,14 +18,14 @@ TextIsOne = (plan : Plan) (gs hs : List Glyph) → AreGlyphsOf plan.sketches gs 
 -- a strike has its glyphs: if no cause refuses it there is one, however much memory there is
 abbrev pub StrikeExists : Type 0
 StrikeExists =
-    (file : List ℕ) (ppem : ℕ) (title : Title) (chars : List ℕ) (hinting : Bool) (plan : Plan)
-    → plan_of file ppem title chars hinting ≡ Ok plan → (gs : List Glyph) × AreGlyphsOf plan.sketches gs
+    (file : List ℕ) (ppem : ℕ) (title : Title) (chars : List ℕ) (mode : Mode) (plan : Plan)
+    → plan_of file ppem title chars mode ≡ Ok plan → (gs : List Glyph) × AreGlyphsOf plan.sketches gs
 
--- a character's part depends on the font, the size, hinting and its code point alone: it is the same in all strikes of those
+-- a character's part depends on the font, the size, the mode and its code point alone: it is the same in all strikes of those
 abbrev pub PartIsOne : Type 0
 PartIsOne =
-    (file : List ℕ) (ppem : ℕ) (hinting : Bool) (title other_title : Title) (chars other_chars : List ℕ) (plan other : Plan)
-    → plan_of file ppem title chars hinting ≡ Ok plan → plan_of file ppem other_title other_chars hinting ≡ Ok other
+    (file : List ℕ) (ppem : ℕ) (mode : Mode) (title other_title : Title) (chars other_chars : List ℕ) (plan other : Plan)
+    → plan_of file ppem title chars mode ≡ Ok plan → plan_of file ppem other_title other_chars mode ≡ Ok other
     → (s t : Sketch) → Contains plan.sketches s → Contains other.sketches t → s.code ≡ t.code → s ≡ t
 
 -- the first sketch of a strike, if it has one
@@ -34,5 +35,5 @@ only_sketch plan = slice_get plan.sketches 0
 -- one character is the part of a strike of that character alone, or is refused as that strike is, whatever its title
 abbrev pub OneIsOfStrike : Type 0
 OneIsOfStrike =
-    (file : List ℕ) (ppem : ℕ) (title : Title) (code : ℕ) (hinting : Bool) → checked_title title ≡ Ok tt
-    → one_of file ppem code hinting ≡ map_ok only_sketch (plan_of file ppem title (code ∷ []) hinting)
+    (file : List ℕ) (ppem : ℕ) (title : Title) (code : ℕ) (mode : Mode) → checked_title title ≡ Ok tt
+    → one_of file ppem code mode ≡ map_ok only_sketch (plan_of file ppem title (code ∷ []) mode)

@@ -18,12 +18,16 @@ use Rattle.fx_hint.specs.Programmed.{hinting_of}
 use Rattle.fx_hint.specs.declared.fault.HintFault.{HintFault}
 use Rattle.fx_hint.specs.Outlines.{OutlineView, outline_with}
 use Rattle.fx_winding.specs.Winding.{Span, IsCovered, centre}
+use Rattle.fx_winding.specs.Dropout.{IsSetIn}
+use Rattle.fx_contour.specs.declared.fault.ContourFault.{ContourFault}
 use Rattle.fx_contour.specs.Contours.{drawn_of}
 use Rattle.fx_contour.specs.Frames.{framed_of}
+use Rattle.fx_contour.specs.DropoutFrames.{IsInDropoutFrame, dropout_framed_of}
 use Rattle.fx_bdf.specs.declared.header.Header.{Header}
 use Rattle.fx_bdf.specs.Glyphs.{Glyph, IsTight, IsFormed, glyph_bit, bounds_of}
 use Rattle.fx_bdf.specs.Properties.{PropertyView, first_bad}
 use Rattle.fx_bdf.specs.Text.{is_name, header_text, glyph_text, end_text}
+use Rattle.fx_request.specs.declared.request.Mode.{Mode}
 use Rattle.fx_request.specs.declared.refusal.Refusal.{Refusal}
 use Rattle.fx_request.specs.declared.refusal.Refusal.TheVariants.{BadSize, BadChars, BadName, BadProperty}
 use Rattle.fx_request.specs.Faults.{of_font, of_char_map, of_machine}
@@ -40,23 +44,30 @@ unfoldable pub machine_for : Face → ℕ → Bool → Result (Option Known) Ref
 machine_for face ppem false = Ok None
 machine_for face ppem true = map_ok Some (map_fault of_machine (machine_of face ppem))
 
--- all that a character's glyph depends on but its code point: a font, its character map, a size, and the machine; and nothing that
--- was made before
+-- all that a character's glyph depends on but its code point: a font, its character map, a size, whether drop-out control is on,
+-- and the machine; and nothing that was made before
 pub record Setting : Type 0 where
   pub font : Face
   pub map : Mapping
   pub ppem : ℕ
+  pub dropout : Bool
   pub machine : Option Known
 
--- an opened font, and the machine
-abbrev pub setting_with : Opened → Option Known → Setting
-setting_with opened machine = record { font = opened.font; map = opened.map; ppem = opened.ppem; machine = machine }
+-- an opened font, with drop-out control or without, and the machine
+abbrev pub setting_with : Opened → Bool → Option Known → Setting
+setting_with opened dropout machine = record {
+  font = opened.font;
+  map = opened.map;
+  ppem = opened.ppem;
+  dropout = dropout;
+  machine = machine;
+}
 
 -- the setting of an opened font; or the first halt
-unfoldable pub setting_in : Opened → Bool → Result Setting Refusal
-setting_in opened hinting = do
-  machine ← machine_for opened.font opened.ppem hinting
-  Ok (setting_with opened machine)
+unfoldable pub setting_in : Opened → Mode → Result Setting Refusal
+setting_in opened mode = do
+  machine ← machine_for opened.font opened.ppem mode.hinting
+  Ok (setting_with opened mode.dropout machine)
 
 -- what the machine adds to scaling; nothing without one
 abbrev pub hinting_by : Option Known → Hinting
@@ -71,12 +82,13 @@ prelude_by (Some known) = known.prelude
 -- ---- a character
 
 -- a character of a strike before its bits: its code point, its advance in 1/1000 of an em and in pixels, the spans of its
--- outline in 1/128 pixel, and what its glyph's programs used up
+-- outline in 1/128 pixel, whether drop-out control is on, and what its glyph's programs used up
 pub record Sketch : Type 0 where
   pub code : ℕ
   pub swidth : ℤ
   pub dwidth : ℤ
   pub spans : List Span
+  pub dropout : Bool
   pub usage : Usage
 
 -- an advance of FUnits in 1/1000 of an em, which is `em` FUnits
@@ -94,15 +106,21 @@ sketch_from setting code outline spans metrics = record {
   swidth = thousandths metrics.advance_width setting.font.head.units_per_em;
   dwidth = near_of outline.advance (pos 64);
   spans = spans;
+  dropout = setting.dropout;
   usage = outline.usage;
 }
+
+-- whether the frame of spans keeps its limit, with drop-out control or without
+abbrev pub framed_by : Bool → List Span → Result (Unit {0}) ContourFault
+framed_by false = framed_of
+framed_by true = dropout_framed_of
 
 -- the sketch of a code point by its glyph's number, or the first cause why it has none
 unfoldable pub glyph_sketch_of : Setting → ℕ → ℕ → Result Sketch Refusal
 glyph_sketch_of setting code glyph = do
   outline ← map_fault of_hint (outline_in setting glyph)
   spans ← map_fault (of_contour glyph) (drawn_of outline.ends outline.points)
-  _ ← map_fault (of_contour glyph) (framed_of spans)
+  _ ← map_fault (of_contour glyph) (framed_by setting.dropout spans)
   metrics ← map_fault of_font (metrics_of setting.font glyph)
   Ok (sketch_from setting code outline spans metrics)
 
@@ -217,43 +235,49 @@ abbrev pub opened_at : List ℕ → ℕ → Opening
 opened_at file ppem = opened_after ppem (Ok tt) file
 
 -- the setting of a font file at a size, or the first cause why there is none
-unfoldable pub setting_of : List ℕ → ℕ → Bool → Result Setting Refusal
-setting_of file ppem hinting = do
+unfoldable pub setting_of : List ℕ → ℕ → Mode → Result Setting Refusal
+setting_of file ppem mode = do
   opened ← opened_at file ppem
-  setting_in opened hinting
+  setting_in opened mode
 
 -- the strike of an opened font, a title and characters, or the first cause why there is none
-unfoldable pub plan_in : Opened → Title → List ℕ → Bool → Result Plan Refusal
-plan_in opened title chars hinting = do
-  setting ← setting_in opened hinting
+unfoldable pub plan_in : Opened → Title → List ℕ → Mode → Result Plan Refusal
+plan_in opened title chars mode = do
+  setting ← setting_in opened mode
   plan_with setting title chars
 
 -- and of a font file
-unfoldable pub plan_of : List ℕ → ℕ → Title → List ℕ → Bool → Result Plan Refusal
-plan_of file ppem title chars hinting = do
+unfoldable pub plan_of : List ℕ → ℕ → Title → List ℕ → Mode → Result Plan Refusal
+plan_of file ppem title chars mode = do
   opened ← opened_of file ppem title chars
-  plan_in opened title chars hinting
+  plan_in opened title chars mode
 
 -- the sketch of a code point of an opened font, none if the font lacks it; or the first cause
-unfoldable pub one_in : Opened → ℕ → Bool → Result (Option Sketch) Refusal
-one_in opened code hinting = do
-  setting ← setting_in opened hinting
+unfoldable pub one_in : Opened → ℕ → Mode → Result (Option Sketch) Refusal
+one_in opened code mode = do
+  setting ← setting_in opened mode
   one_with setting code
 
 -- and of a font file: it is refused as the strike of that one character is, but for its title
-unfoldable pub one_of : List ℕ → ℕ → ℕ → Bool → Result (Option Sketch) Refusal
-one_of file ppem code hinting = do
+unfoldable pub one_of : List ℕ → ℕ → ℕ → Mode → Result (Option Sketch) Refusal
+one_of file ppem code mode = do
   opened ← opened_one_of file ppem code
-  one_in opened code hinting
+  one_in opened code mode
 
 -- ---- its bits and its text
 
--- the glyph of a sketch: of all pixels of the plane exactly those are set whose centre is covered, in their tight box
+-- the pixel in a column and a row is set: its centre is covered; or, with drop-out control, it closes a gap in the frame
+abbrev pub IsPixelSet : Bool → List Span → ℤ → ℤ → Type 0
+IsPixelSet false ss col row = IsCovered (centre col row) ss
+IsPixelSet true ss col row = IsSetIn ss (IsInDropoutFrame ss) col row
+
+-- the glyph of a sketch: of all pixels of the plane exactly those are set whose centre is covered, with drop-out control also those
+-- that close a gap, in their tight box
 pub record IsGlyphOf (sketch : Sketch) (glyph : Glyph) : Type 0 where
   pub code : glyph.code ≡ sketch.code
   pub swidth : glyph.swidth ≡ sketch.swidth
   pub dwidth : glyph.dwidth ≡ sketch.dwidth
-  pub bits : (col row : ℤ) → IsTrue (glyph_bit glyph col row) ↔ IsCovered (centre col row) sketch.spans
+  pub bits : (col row : ℤ) → IsTrue (glyph_bit glyph col row) ↔ IsPixelSet sketch.dropout sketch.spans col row
   pub tight : IsTight glyph.box (glyph_bit glyph)
   pub formed : IsFormed glyph
 

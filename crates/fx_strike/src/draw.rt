@@ -6,8 +6,9 @@ ghost use Rattle.fx_winding.specs.Bitmaps.{IsScanOf};
 ghost use Rattle.fx_winding.specs.Outside.{AreOfOutline};
 ghost use Rattle.fx_contour.specs.Contours.{IsInReach, spans_of};
 ghost use Rattle.fx_contour.specs.Frames.{NothingOutsideFrame};
+ghost use Rattle.fx_winding.specs.Frames.{HasMargin};
 ghost use Rattle.fx_strike.specs.Strike.{Sketch, IsGlyphOf, setting_with, glyph_sketch_of};
-ghost use Rattle.fx_strike.specs.inner.Drawing.{HasBitsOf, IsSketchedOf, Draws};
+ghost use Rattle.fx_strike.specs.inner.Drawing.{HasBitsOf, IsBridgedScanOf, IsFramedBy, IsSketchedOf, Draws};
 
 use crate::hinter::FontHinter;
 use crate::sketch::sketch_at;
@@ -15,6 +16,7 @@ use crate::sketched::Sketched;
 use crate::tools::Tools;
 use fx_bdf::BitGlyph;
 use fx_contour::pieces_in_reach;
+use fx_dropout::close_gaps;
 use fx_fixed::{F26, near_64};
 use fx_request::Refusal;
 use fx_winding::{Bitmap, Frame, Pieces, Scan, ScanFault, Tally};
@@ -68,22 +70,42 @@ fn scanned<S: Scan>(
     }
 }
 
-/// The bits of closed contours in their frame; none if there is no frame.
+/// The bits of a frame with drop-out control: those of a scan, and those that close gaps.
+fn bridged(alloc: Global, pieces: &Pieces, bitmap: Bitmap) -> Result<Bitmap, Refusal>
+    requires margin { HasMargin bitmap.frame }
+    requires scanned { IsScanOf bitmap.frame (map span_of pieces.now) bitmap }
+    ensures bits { IfOk result (IsBridgedScanOf bitmap.frame (map span_of pieces.now)) }
+    ensures fault { IfErr result (λ e. e ≡ Refusal.OutOfMemory) }
+{
+    let mut bitmap = bitmap;
+    match close_gaps(alloc, pieces, &mut bitmap) {
+        Ok(()) => Ok(bitmap),
+        Err(ScanFault::OutOfMemory) => Err(Refusal::OutOfMemory),
+    }
+}
+
+/// The bits of closed contours in their frame, with drop-out control or without; none if there is no frame.
 fn bitmap_of<S: Scan>(
     alloc: Global,
     scan: &S,
     pieces: &Pieces,
+    dropout: bool,
     frame: Option<Frame>,
 ) -> Result<Bitmap, Refusal>
     requires closed { AreOfOutline (map span_of pieces.now) }
     requires outside { NothingOutsideFrame frame (map span_of pieces.now) }
-    ensures bits { IfOk result (HasBitsOf (map span_of pieces.now)) }
+    requires framed { IsFramedBy dropout frame (map span_of pieces.now) }
+    ensures bits { IfOk result (HasBitsOf dropout (map span_of pieces.now)) }
     ensures fault { IfErr result (λ e. e ≡ Refusal.OutOfMemory) }
 {
-    match frame {
-        Some(frame) => scanned(alloc, scan, pieces, frame),
-        None => empty_bitmap(alloc),
+    let Some(frame) = frame else {
+        return empty_bitmap(alloc);
+    };
+    let bitmap = scanned(alloc, scan, pieces, frame)?;
+    if dropout {
+        return bridged(alloc, pieces, bitmap);
     }
+    Ok(bitmap)
 }
 
 /// The glyph of a code point: the bits of its outline, in their tight box, and its advances.
@@ -96,13 +118,15 @@ pub(crate) fn glyph_of<S: Scan>(
     requires reach { All IsInReach sketched.now.outline.points.items }
     requires outside { NothingOutsideFrame sketched.now.frame
         (spans_of sketched.now.outline.ends.items sketched.now.outline.points.items) }
+    requires framed { IsFramedBy sketched.now.dropout sketched.now.frame
+        (spans_of sketched.now.outline.ends.items sketched.now.outline.points.items) }
     ensures glyph { IfOk result (λ g. (sketch : Sketch) → IsSketchedOf sketch sketched.now → sketch.code ≡ code →
         IsGlyphOf sketch g) }
     ensures code { IfOk result (λ g. g.code ≡ code) }
     ensures fault { IfErr result (λ e. e ≡ Refusal.OutOfMemory) }
 {
     let pieces = pieces_in_reach(alloc, &sketched.outline)?;
-    let bitmap = bitmap_of(alloc, scan, &pieces, sketched.frame)?;
+    let bitmap = bitmap_of(alloc, scan, &pieces, sketched.dropout, sketched.frame)?;
     let dwidth = whole_pixels(sketched.outline.advance);
     Ok(BitGlyph::of(code, sketched.swidth, dwidth, bitmap))
 }
@@ -116,10 +140,10 @@ impl<'a, S: Scan> Tools<'a, S> {
         glyph: u16,
     ) -> Result<BitGlyph, Refusal>
         ensures kept { hinter.new ≡ hinter.old }
-        ensures sketch { Draws (glyph_sketch_of (setting_with self.now.opened hinter.old) code glyph) result }
+        ensures sketch { Draws (glyph_sketch_of (setting_with self.now.opened self.now.dropout hinter.old) code glyph) result }
         ensures code { IfOk result (λ g. g.code ≡ code) }
     {
-        let sketched = sketch_at(self.alloc, hinter, &self.opened, glyph)?;
+        let sketched = sketch_at(self.alloc, hinter, &self.opened, self.dropout, glyph)?;
         glyph_of(self.alloc, self.scan, code, &sketched)
     }
 }

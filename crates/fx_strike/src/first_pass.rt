@@ -7,7 +7,7 @@ ghost use Rattle.fx_contour.specs.Frames.{NothingOutsideFrame};
 ghost use Rattle.fx_bdf.specs.Glyphs.{IsPlaced};
 ghost use Rattle.fx_strike.specs.Title.{Title};
 ghost use Rattle.fx_strike.specs.Strike.{Sketch, pixels, setting_with, glyph_sketch_of, plan_with};
-ghost use Rattle.fx_strike.specs.inner.Drawing.{IsSketchedOf};
+ghost use Rattle.fx_strike.specs.inner.Drawing.{IsFramedBy, IsSketchedOf};
 ghost use Rattle.fx_strike.specs.inner.Surveying.{Joins, SeesOne, Sees, Surveys, survey_from};
 
 use crate::draw::glyph_of;
@@ -64,6 +64,8 @@ impl<'a, S: Scan> Tools<'a, S> {
         requires reach { All IsInReach sketched.now.outline.points.items }
         requires outside { NothingOutsideFrame sketched.now.frame
             (spans_of sketched.now.outline.ends.items sketched.now.outline.points.items) }
+        requires framed { IsFramedBy sketched.now.dropout sketched.now.frame
+            (spans_of sketched.now.outline.ends.items sketched.now.outline.points.items) }
         ensures { (sketch : Sketch) → IsSketchedOf sketch sketched.now → sketch.code ≡ code → Joins sketch bounds result }
     {
         if lies_in(sketched.frame, bounds) {
@@ -84,9 +86,10 @@ impl<'a, S: Scan> Tools<'a, S> {
         requires few { seen.old.report.glyphs < max_characters }
         requires placed { IsPlaced seen.old.bounds }
         ensures kept { hinter.new ≡ hinter.old }
-        ensures seen { SeesOne (glyph_sketch_of (setting_with self.now.opened hinter.old) code glyph) seen.old seen.new result }
+        ensures seen { SeesOne (glyph_sketch_of (setting_with self.now.opened self.now.dropout hinter.old) code glyph)
+            seen.old seen.new result }
     {
-        let sketched = sketch_at(self.alloc, hinter, &self.opened, glyph)?;
+        let sketched = sketch_at(self.alloc, hinter, &self.opened, self.dropout, glyph)?;
         let bounds = self.bounds_with(seen.bounds, code, &sketched)?;
         seen.add(bounds, &sketched.outline);
         Ok(())
@@ -96,7 +99,7 @@ impl<'a, S: Scan> Tools<'a, S> {
     fn see(&self, hinter: &mut FontHinter<'_>, codes: &[u32]) -> Result<Seen, Refusal>
         requires few { length codes.now ≤ max_characters }
         ensures kept { hinter.new ≡ hinter.old }
-        ensures seen { Sees (setting_with self.now.opened hinter.old) codes.now result }
+        ensures seen { Sees (setting_with self.now.opened self.now.dropout hinter.old) codes.now result }
     {
         let mut seen = Seen::new();
         let mut map = self.opened.map.cursor();
@@ -121,7 +124,7 @@ impl<'a, S: Scan> Tools<'a, S> {
         requires few { length codes.now ≤ max_characters }
         ensures kept { hinter.new ≡ hinter.old }
         ensures survey { (title : Title) (chars : List ℕ) → codes.now ≡ rising chars
-            → Surveys (plan_with (setting_with self.now.opened hinter.old) title chars) result }
+            → Surveys (plan_with (setting_with self.now.opened self.now.dropout hinter.old) title chars) result }
     {
         let seen = self.see(hinter, codes)?;
         Ok(survey_from(hinter.prelude(), &self.opened, seen))
@@ -135,7 +138,8 @@ impl<'a, S: Scan> Tools<'a, S> {
     ) -> Result<Survey, Refusal>
         requires few { length chars.now ≤ max_characters }
         ensures kept { hinter.new ≡ hinter.old }
-        ensures survey { (title : Title) → Surveys (plan_with (setting_with self.now.opened hinter.old) title chars.now) result }
+        ensures survey { (title : Title)
+            → Surveys (plan_with (setting_with self.now.opened self.now.dropout hinter.old) title chars.now) result }
     {
         let codes = rising_codes(self.alloc, chars)?;
         self.survey_codes(hinter, &codes)

@@ -14,7 +14,7 @@ pub fn exists()
     ensures { StrikeExists }
 {}
 
-/// A character's part depends on the font, the size, hinting and its code point alone.
+/// A character's part depends on the font, the size, the mode and its code point alone.
 pub fn part()
     ensures { PartIsOne }
 {}

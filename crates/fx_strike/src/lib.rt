@@ -3,7 +3,8 @@
 //!
 //! `make_strike` writes exactly the text of the strike whose every bit is set exactly when the pixel's centre lies on the outline
 //! that the font's programs make of the scaled glyph, or has a winding number other than 0 about it (with hinting off no program
-//! runs); or it names the first cause why no such strike exists, or that it is out of memory, or a fault of the writer.
+//! runs; with drop-out control the pixels that close a gap are set as well); or it names the first cause why no such strike
+//! exists, or that it is out of memory, or a fault of the writer.
 //! `specs/Strike` says what a strike is, `specs/Headline` what a call returns and leaves; both cite the definitions of the crates
 //! below and nothing of their code. `one` makes one character alone. A `Striker` is a font at a size that is opened once, and makes
 //! characters and strikes one after the other; the other calls open one, and let it go.

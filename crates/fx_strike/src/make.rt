@@ -33,7 +33,7 @@ pub fn make_strike_with<S: Scan, W: Sink>(
         (change_of W.held W.fault_count out.old out.new) result }
 {
     let opened = open(font, request)?;
-    let mut striker = Striker::of(alloc, scan, opened, request.hinting)?;
+    let mut striker = Striker::of(alloc, scan, opened, request.mode)?;
     striker.write_checked(request.name, request.properties, request.chars, out)
 }
 

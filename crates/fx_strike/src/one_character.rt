@@ -8,7 +8,7 @@ ghost use Rattle.fx_strike.specs.inner.Drawing.{Finds};
 use crate::open::open_one;
 use crate::striker::Striker;
 use fx_bdf::BitGlyph;
-use fx_request::Refusal;
+use fx_request::{Mode, Refusal};
 use fx_rows::Rows;
 use std::alloc::Global;
 
@@ -23,16 +23,16 @@ pub fn one(
     font: &[u8],
     ppem: u16,
     code: u32,
-    hinting: bool,
+    mode: Mode,
 ) -> Result<Option<BitGlyph>, Refusal>
     // The glyph is that of the character, or the font lacks it.
-    ensures glyph { IfOk result (IsOneOf (one_of font.now ppem code hinting)) }
+    ensures glyph { IfOk result (IsOneOf (one_of font.now ppem code mode)) }
     // The first cause was named, or memory ran out.
-    ensures cause { IfErr result (λ refusal. Fails refusal (one_of font.now ppem code hinting)) }
+    ensures cause { IfErr result (λ refusal. Fails refusal (one_of font.now ppem code mode)) }
     // Memory is taken late: after the size and the code point are within their limits, and the font and its map opened.
     ensures late { IsErrOf result Refusal.OutOfMemory → Late (opened_one_of font.now ppem code) }
 {
-    one_inner(alloc, font, ppem, code, hinting)
+    one_inner(alloc, font, ppem, code, mode)
 }
 
 /// `one` with its clauses as two.
@@ -41,12 +41,12 @@ fn one_inner(
     font: &[u8],
     ppem: u16,
     code: u32,
-    hinting: bool,
+    mode: Mode,
 ) -> Result<Option<BitGlyph>, Refusal>
-    ensures due { Finds (one_of font.now ppem code hinting) result }
+    ensures due { Finds (one_of font.now ppem code mode) result }
     ensures late { IsErrOf result Refusal.OutOfMemory → Late (opened_one_of font.now ppem code) }
 {
     let opened = open_one(font, ppem, code)?;
-    let mut striker = Striker::of(alloc, &Rows, opened, hinting)?;
+    let mut striker = Striker::of(alloc, &Rows, opened, mode)?;
     striker.glyph_checked(code)
 }

@@ -34,7 +34,7 @@ impl<'a, S: Scan> Tools<'a, S> {
         ensures same { text.new.sink ≡ text.old.sink }
         ensures quiet { OnOk result (text.new.faults ≡ text.old.faults) }
         ensures short { IsShort (length_of text.old + longest_glyph) text.new result }
-        ensures lines { (lines : List ℕ) → AreLinesOf (setting_with self.now.opened hinter.old) code lines
+        ensures lines { (lines : List ℕ) → AreLinesOf (setting_with self.now.opened self.now.dropout hinter.old) code lines
             → Adds Stops text.old text.new lines result }
     {
         fx_bdf::laws::trimmed();
@@ -59,7 +59,7 @@ impl<'a, S: Scan> Tools<'a, S> {
         ensures same { text.new.sink ≡ text.old.sink }
         ensures quiet { OnOk result (text.new.faults ≡ text.old.faults) }
         ensures short { IsShort (length_of text.old + longest_glyphs) text.new result }
-        ensures lines { (lines : List ℕ) → AreAllLinesOf (setting_with self.now.opened hinter.old) codes.now lines
+        ensures lines { (lines : List ℕ) → AreAllLinesOf (setting_with self.now.opened self.now.dropout hinter.old) codes.now lines
             → Adds Stops text.old text.new lines result }
     {
         let mut map = self.opened.map.cursor();
@@ -87,7 +87,8 @@ impl<'a, S: Scan> Tools<'a, S> {
         ensures same { text.new.sink ≡ text.old.sink }
         ensures ended { OnOk result (text.new.waiting ≡ []) }
         ensures short { IsShort (length_of text.old + longest_text) text.new result }
-        ensures lines { (lines : List ℕ) → AreAllLinesOf (setting_with self.now.opened hinter.old) draft.now.codes.now lines
+        ensures lines { (lines : List ℕ)
+            → AreAllLinesOf (setting_with self.now.opened self.now.dropout hinter.old) draft.now.codes.now lines
             → Adds Stops text.old text.new
             (header_text draft.now.name.now (seen_properties draft.now.properties.now) draft.now.header ++ (lines ++ end_text))
             result }
@@ -111,7 +112,8 @@ impl<'a, S: Scan> Tools<'a, S> {
         requires few { length draft.now.codes.now ≤ max_characters }
         requires small { list_any (nat_lt max_code) draft.now.codes.now ≡ false }
         ensures kept { hinter.new ≡ hinter.old }
-        ensures text { (lines : List ℕ) → AreAllLinesOf (setting_with self.now.opened hinter.old) draft.now.codes.now lines
+        ensures text { (lines : List ℕ)
+            → AreAllLinesOf (setting_with self.now.opened self.now.dropout hinter.old) draft.now.codes.now lines
             → Writes (change_of W.held W.fault_count out.old out.new)
             (header_text draft.now.name.now (seen_properties draft.now.properties.now) draft.now.header ++ (lines ++ end_text))
             result }

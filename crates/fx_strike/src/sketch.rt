@@ -4,17 +4,17 @@ ghost use Rattle.fx_fixed.specs.Chain.{map_ok, map_fault, GivesUnless};
 ghost use Rattle.fx_sfnt.specs.Glyphs.{metrics_of};
 ghost use Rattle.fx_hint.specs.Outlines.{view_of_outline, outline_with};
 ghost use Rattle.fx_contour.specs.Contours.{IsInReach, spans_of};
-ghost use Rattle.fx_contour.specs.Frames.{IsFrameFor, NothingOutsideFrame, outline_framed_of};
+ghost use Rattle.fx_contour.specs.Frames.{NothingOutsideFrame};
 ghost use Rattle.fx_request.specs.Faults.{of_font};
 ghost use Rattle.fx_strike.specs.Faults.{Fails, of_hint, of_contour};
 ghost use Rattle.fx_strike.specs.Strike.{hinting_by, setting_with, thousandths, glyph_sketch_of};
-ghost use Rattle.fx_strike.specs.inner.Drawing.{Sketches};
+ghost use Rattle.fx_strike.specs.inner.Drawing.{IsFramedBy, Sketches, outline_framed_by};
 
 use crate::faults::{of_contour, of_hint};
 use crate::hinter::FontHinter;
 use crate::opened::Opened;
 use crate::sketched::Sketched;
-use fx_contour::outline_frame;
+use fx_contour::{ContourFault, dropout_frame, outline_frame};
 use fx_fixed::near;
 use fx_hint::{Outline, outline_with};
 use fx_request::Refusal;
@@ -39,15 +39,29 @@ fn outline_at(
     }
 }
 
-/// The frame of an outline; `TooFar` if a point of it lies too far out, `GlyphTooLarge` if it has too many pixels.
-fn frame_of_outline(outline: &Outline, glyph: u16) -> Result<Option<Frame>, Refusal>
-    ensures checked { GivesUnless Fails (λ _. tt) result (map_fault (of_contour glyph)
-        (outline_framed_of outline.now.ends.items outline.now.points.items)) }
-    ensures frame { IfOk result (λ f. IsFrameFor f (spans_of outline.now.ends.items outline.now.points.items)) }
+/// The frame of an outline, with drop-out control or without.
+fn frame_by(outline: &Outline, dropout: bool) -> Result<Option<Frame>, ContourFault>
+    ensures exact { map_ok (λ _. tt) result ≡ outline_framed_by dropout outline.now.ends.items outline.now.points.items }
+    ensures frame { IfOk result (λ f. IsFramedBy dropout f (spans_of outline.now.ends.items outline.now.points.items)) }
     ensures outside { IfOk result (λ f. NothingOutsideFrame f (spans_of outline.now.ends.items outline.now.points.items)) }
     ensures reach { IfOk result (λ _. All IsInReach outline.now.points.items) }
 {
-    match outline_frame(outline) {
+    if dropout {
+        dropout_frame(outline)
+    } else {
+        outline_frame(outline)
+    }
+}
+
+/// The frame of an outline; `TooFar` if a point of it lies too far out, `GlyphTooLarge` if it has too many pixels.
+fn frame_of_outline(outline: &Outline, dropout: bool, glyph: u16) -> Result<Option<Frame>, Refusal>
+    ensures checked { GivesUnless Fails (λ _. tt) result (map_fault (of_contour glyph)
+        (outline_framed_by dropout outline.now.ends.items outline.now.points.items)) }
+    ensures frame { IfOk result (λ f. IsFramedBy dropout f (spans_of outline.now.ends.items outline.now.points.items)) }
+    ensures outside { IfOk result (λ f. NothingOutsideFrame f (spans_of outline.now.ends.items outline.now.points.items)) }
+    ensures reach { IfOk result (λ _. All IsInReach outline.now.points.items) }
+{
+    match frame_by(outline, dropout) {
         Ok(frame) => Ok(frame),
         Err(fault) => Err(of_contour(glyph, fault)),
     }
@@ -69,19 +83,21 @@ pub(crate) fn sketch_at(
     alloc: Global,
     hinter: &mut FontHinter<'_>,
     opened: &Opened<'_>,
+    dropout: bool,
     glyph: u16,
 ) -> Result<Sketched, Refusal>
     ensures kept { hinter.new ≡ hinter.old }
-    ensures sketch { (code : ℕ) → Sketches (glyph_sketch_of (setting_with opened.now hinter.old) code glyph) result }
-    ensures frame { IfOk result (λ s. IsFrameFor s.frame (spans_of s.outline.ends.items s.outline.points.items)) }
+    ensures sketch { (code : ℕ) → Sketches (glyph_sketch_of (setting_with opened.now dropout hinter.old) code glyph) result }
+    ensures frame { IfOk result (λ s. IsFramedBy s.dropout s.frame (spans_of s.outline.ends.items s.outline.points.items)) }
     ensures outside { IfOk result (λ s. NothingOutsideFrame s.frame (spans_of s.outline.ends.items s.outline.points.items)) }
     ensures reach { IfOk result (λ s. All IsInReach s.outline.points.items) }
 {
     let outline = outline_at(alloc, hinter, opened, glyph)?;
-    let frame = frame_of_outline(&outline, glyph)?;
+    let frame = frame_of_outline(&outline, dropout, glyph)?;
     let swidth = thousandths_at(&opened.font, glyph)?;
     Ok(Sketched {
         outline,
+        dropout,
         frame,
         swidth,
     })

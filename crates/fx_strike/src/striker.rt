@@ -19,7 +19,7 @@ use crate::surveyed::Survey;
 use crate::tools::Tools;
 use fx_bdf::{BitGlyph, Property};
 use fx_fixed::Sink;
-use fx_request::{Refusal, Report};
+use fx_request::{Mode, Refusal, Report};
 use fx_rows::Rows;
 use fx_winding::Scan;
 use std::alloc::Global;
@@ -39,7 +39,7 @@ impl<'a, S: Scan> Model for Striker<'a, S> {
 
     ghost Value = { Setting };
 
-    ghost view = { λ s. setting_with s.tools.opened s.hinter };
+    ghost view = { λ s. setting_with s.tools.opened s.tools.dropout s.hinter };
 }
 
 impl<'a> Striker<'a, Rows> {
@@ -51,16 +51,16 @@ impl<'a> Striker<'a, Rows> {
         alloc: Global,
         font: &'a [u8],
         ppem: u16,
-        hinting: bool,
+        mode: Mode,
     ) -> Result<Striker<'a, Rows>, Refusal>
         // The striker is in the font's setting.
-        ensures setting { IfOk result (λ s. setting_of font.now ppem hinting ≡ Ok s) }
+        ensures setting { IfOk result (λ s. setting_of font.now ppem mode ≡ Ok s) }
         // The first cause was named, or memory ran out.
-        ensures cause { IfErr result (λ refusal. Fails refusal (setting_of font.now ppem hinting)) }
+        ensures cause { IfErr result (λ refusal. Fails refusal (setting_of font.now ppem mode)) }
         // The size is valid, and the font and its character map opened.
         ensures late { IsErrOf result Refusal.OutOfMemory → Late (opened_at font.now ppem) }
     {
-        open_inner(alloc, font, ppem, hinting)
+        open_inner(alloc, font, ppem, mode)
     }
 }
 
@@ -69,13 +69,13 @@ fn open_inner<'a>(
     alloc: Global,
     font: &'a [u8],
     ppem: u16,
-    hinting: bool,
+    mode: Mode,
 ) -> Result<Striker<'a, Rows>, Refusal>
-    ensures due { GivesUnless Fails (λ s. s) result (setting_of font.now ppem hinting) }
+    ensures due { GivesUnless Fails (λ s. s) result (setting_of font.now ppem mode) }
     ensures late { IsErrOf result Refusal.OutOfMemory → Late (opened_at font.now ppem) }
 {
     let opened = open_at(font, ppem)?;
-    Striker::of(alloc, &Rows, opened, hinting)
+    Striker::of(alloc, &Rows, opened, mode)
 }
 
 impl<'a, S: Scan> Striker<'a, S> {
@@ -85,15 +85,16 @@ impl<'a, S: Scan> Striker<'a, S> {
         alloc: Global,
         scan: &'a S,
         opened: Opened<'a>,
-        hinting: bool,
+        mode: Mode,
     ) -> Result<Striker<'a, S>, Refusal>
-        ensures { GivesUnless Fails (λ s. s) result (setting_in opened.entry hinting) }
+        ensures { GivesUnless Fails (λ s. s) result (setting_in opened.entry mode) }
     {
-        let hinter = hinter_at(alloc, &opened, hinting)?;
+        let hinter = hinter_at(alloc, &opened, mode.hinting)?;
         let tools = Tools {
             alloc,
             scan,
             opened,
+            dropout: mode.dropout,
         };
         Ok(Striker { tools, hinter })
     }
@@ -107,6 +108,7 @@ impl<'a, S: Scan> Striker<'a, S> {
                 alloc: self.tools.alloc,
                 scan,
                 opened: self.tools.opened,
+                dropout: self.tools.dropout,
             },
             hinter: self.hinter,
         }

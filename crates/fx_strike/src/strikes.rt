@@ -26,7 +26,7 @@ impl<'a, S: Scan> Tools<'a, S> {
         code: u32,
     ) -> Result<Option<BitGlyph>, Refusal>
         ensures kept { hinter.new ≡ hinter.old }
-        ensures one { Finds (one_with (setting_with self.now.opened hinter.old) code) result }
+        ensures one { Finds (one_with (setting_with self.now.opened self.now.dropout hinter.old) code) result }
     {
         let glyph = self.opened.map.glyph(code);
         if glyph == 0 {
@@ -51,7 +51,7 @@ impl<'a, S: Scan> Tools<'a, S> {
         requires properties { AreProperties (seen_properties properties.now) }
         ensures kept { hinter.new ≡ hinter.old }
         ensures leaves { Leaves {Y = Unit {0}} (Ok tt)
-            (plan_with (setting_with self.now.opened hinter.old) (titled name.now properties.now) chars.now)
+            (plan_with (setting_with self.now.opened self.now.dropout hinter.old) (titled name.now properties.now) chars.now)
             (change_of W.held W.fault_count out.old out.new) result }
     {
         let codes = rising_codes(self.alloc, chars)?;

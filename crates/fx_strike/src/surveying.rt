@@ -42,6 +42,6 @@ fn survey_inner<S: Scan>(
     ensures late { IsErrOf result Refusal.OutOfMemory → Late (opening_of font.now request.now) }
 {
     let opened = open(font, request)?;
-    let mut striker = Striker::of(alloc, scan, opened, request.hinting)?;
+    let mut striker = Striker::of(alloc, scan, opened, request.mode)?;
     striker.survey_checked(request.chars)
 }

@@ -1,22 +1,42 @@
 -- What the steps on the way to a character's glyph return.
-use Rattle.std.specs.Prelude.{◌≡◌, ◌↔◌, IsTrue, ℕ, ℤ, pos, ◌+ℤ◌, int_le, Bool, true, ◌&&◌, List, Option, Some, None}
+use Rattle.std.specs.Prelude.{◌≡◌, ◌↔◌, IsTrue, ℕ, ℤ, pos, ◌+ℤ◌, int_le, Bool, true, false, ◌&&◌, List, Option, Some, None}
 use Rattle.std.specs.Prelude.{Result, Ok, Err}
+use Rattle.fx_fixed.specs.Chain.{◌>>=◌}
 use Rattle.fx_fixed.specs.Numbers.{near_of}
-use Rattle.fx_winding.specs.Winding.{Span, IsCovered, centre}
+use Rattle.fx_winding.specs.Winding.{Span}
 use Rattle.fx_winding.specs.Bitmaps.{Bits, bit_of}
+use Rattle.fx_winding.specs.Dropout.{IsSet}
+use Rattle.fx_winding.specs.Frames.{IsInFrame}
 use Rattle.fx_winding.specs.declared.frame.Frame.{Frame}
+use Rattle.fx_contour.specs.declared.fault.ContourFault.{ContourFault}
 use Rattle.fx_contour.specs.Contours.{drawn_of}
-use Rattle.fx_contour.specs.Frames.{framed_of}
+use Rattle.fx_contour.specs.Frames.{IsFrameFor}
+use Rattle.fx_contour.specs.DropoutFrames.{HaveMargin, IsDropoutFrameFor}
+use Rattle.fx_hint.specs.declared.points.OutlinePoint.{OutlinePoint}
 use Rattle.fx_bdf.specs.Glyphs.{Box, Glyph}
 use Rattle.fx_request.specs.declared.refusal.Refusal.{Refusal}
 use Rattle.fx_strike.specs.declared.sketched.Sketched.{Sketched}
 use Rattle.fx_strike.specs.Faults.{Fails}
-use Rattle.fx_strike.specs.Strike.{Sketch, IsGlyphOf}
+use Rattle.fx_strike.specs.Strike.{Sketch, IsGlyphOf, IsPixelSet, framed_by}
 use Rattle.fx_strike.specs.Headline.{IsOneOf}
 
--- of all pixels of the plane exactly those have a set bit whose centre is covered
-pub record HasBitsOf (spans : List Span) (bits : Bits) : Type 0 where
-  pub each : (col row : ℤ) → IsTrue (bit_of bits col row) ↔ IsCovered (centre col row) spans
+-- whether no point of an outline lies too far out and its frame keeps its limit; the first fault
+abbrev pub outline_framed_by : Bool → List ℕ → List OutlinePoint → Result (Unit {0}) ContourFault
+outline_framed_by dropout ends points = drawn_of ends points >>= framed_by dropout
+
+-- the frame is that of the spans; with drop-out control it is another, and the columns and rows beside it have numbers
+abbrev pub IsFramedBy : Bool → Option Frame → List Span → Type 0
+IsFramedBy false f ss = IsFrameFor f ss
+IsFramedBy true f ss = IsDropoutFrameFor f ss × HaveMargin f
+
+-- the bits are those of the frame, and each is set exactly when drop-out control sets the pixel
+pub record IsBridgedScanOf (f : Frame) (spans : List Span) (b : Bits) : Type 0 where
+  pub same : b.frame ≡ f
+  pub bits : (col row : ℤ) → IsInFrame f col row → IsTrue (bit_of b col row) ↔ IsSet spans f col row
+
+-- of all pixels of the plane exactly those have a set bit that are set
+pub record HasBitsOf (dropout : Bool) (spans : List Span) (bits : Bits) : Type 0 where
+  pub each : (col row : ℤ) → IsTrue (bit_of bits col row) ↔ IsPixelSet dropout spans col row
 
 -- count numbers from first on are all among more numbers from other on
 abbrev pub are_among : ℤ → ℕ → ℤ → ℕ → Bool
@@ -34,7 +54,8 @@ lies_in (Some f) box = sides_lie_in f box
 -- a glyph before its bits is that of its sketch
 pub record IsSketchedOf (sketch : Sketch) (sketched : Sketched) : Type 0 where
   pub spans : drawn_of sketched.outline.ends.items sketched.outline.points.items ≡ Ok sketch.spans
-  pub small : framed_of sketch.spans ≡ Ok tt
+  pub dropout : sketched.dropout ≡ sketch.dropout
+  pub small : framed_by sketch.dropout sketch.spans ≡ Ok tt
   pub swidth : sketched.swidth ≡ sketch.swidth
   pub dwidth : near_of sketched.outline.advance (pos 64) ≡ sketch.dwidth
   pub usage : sketched.outline.usage ≡ sketch.usage

@@ -3,6 +3,7 @@ use Rattle.std.specs.Int.{w32}
 use Rattle.std.proofs.lemmas.Int.{ints}
 use Rattle.fx_winding.specs.Winding.{Span, span_of}
 use Rattle.fx_contour.specs.Frames.{NothingOutsideFrame}
+use Rattle.fx_strike.specs.inner.Drawing.{IsFramedBy}
 use Rattle.fx_strike.proofs.Sketching.{glyph_whole}
 use Rattle.fx_strike.proofs.Enclosed.{sketch_spans}
 use Rattle.fx_strike.proofs.draw.glyph_of.Goals as goal
@@ -11,6 +12,11 @@ pub bitmap_of-requires-clause-outside : goal.bitmap_of-requires-clause-outside
 bitmap_of-requires-clause-outside g c =
     let N : List Span → Type 0 = λ ss. NothingOutsideFrame c.args.sketched.now.frame ss in
     subst N (sym c.in_ok-pieces.ensures.ok) c.requires.outside
+
+pub bitmap_of-requires-clause-framed : goal.bitmap_of-requires-clause-framed
+bitmap_of-requires-clause-framed g c =
+    let F : List Span → Type 0 = λ ss. IsFramedBy c.args.sketched.now.dropout c.args.sketched.now.frame ss in
+    subst F (sym c.in_ok-pieces.ensures.ok) c.requires.framed
 
 pub returns-clause-glyph : goal.returns-clause-glyph
 returns-clause-glyph g c sketch is e =

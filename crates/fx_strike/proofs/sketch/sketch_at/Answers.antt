@@ -1,4 +1,4 @@
-use Rattle.std.proofs.Common.{arith, to_z, of_z}
+use Rattle.std.proofs.Common.{arith, refl, to_z, of_z}
 use Rattle.std.specs.Int.{w32}
 use Rattle.std.proofs.lemmas.Int.{ints}
 use Rattle.std.proofs.lemmas.Result.{err_from_is_err_and}
@@ -10,30 +10,31 @@ pub returns-in_err-outline-clause-sketch : goal.returns-in_err-outline-clause-sk
 returns-in_err-outline-clause-sketch c code =
     let p = err_from_is_err_and c.from_residual.result c.from_residual.ensures.1 in
     sketches_err _ c.from_residual.result p.0 c.in_err-outline.field-0.0 p.1 p.2
-    (no_outline (setting_with c.args.opened.now c.args.hinter.now) code c.args.glyph _
+    (no_outline (setting_with c.args.opened.now c.args.dropout c.args.hinter.now) code c.args.glyph _
     c.in_err-outline.ensures.value)
 
 pub returns-in_err-frame-clause-sketch : goal.returns-in_err-frame-clause-sketch
 returns-in_err-frame-clause-sketch c code =
     let p = err_from_is_err_and c.from_residual-in_err-frame.result c.from_residual-in_err-frame.ensures.1 in
     sketches_err _ c.from_residual-in_err-frame.result p.0 c.in_err-frame.field-0.0 p.1 p.2
-    (no_frame (setting_with c.args.opened.now c.args.hinter.now) code c.args.glyph _ _
+    (no_frame (setting_with c.args.opened.now c.args.dropout c.args.hinter.now) code c.args.glyph _ _
     c.in_ok-outline.ensures.value c.in_err-frame.ensures.checked)
 
 pub returns-in_err-swidth-clause-sketch : goal.returns-in_err-swidth-clause-sketch
 returns-in_err-swidth-clause-sketch c code =
     let p = err_from_is_err_and c.from_residual-in_err-swidth.result c.from_residual-in_err-swidth.ensures.1 in
     sketches_err _ c.from_residual-in_err-swidth.result p.0 c.in_err-swidth.field-0.0 p.1 p.2
-    (no_advance (setting_with c.args.opened.now c.args.hinter.now) code c.args.glyph _ _
+    (no_advance (setting_with c.args.opened.now c.args.dropout c.args.hinter.now) code c.args.glyph _ _
     c.in_ok-outline.ensures.value c.in_ok-frame.ensures.checked c.in_err-swidth.ensures)
 
 pub returns-clause-sketch : goal.returns-clause-sketch
 returns-clause-sketch c code =
-    sketched_framed (setting_with c.args.opened.now c.args.hinter.now) code c.args.glyph
+    sketched_framed (setting_with c.args.opened.now c.args.dropout c.args.hinter.now) code c.args.glyph
     (record {
       outline = c.in_ok-outline.outline;
+      dropout = c.args.dropout;
       frame = c.in_ok-frame.frame;
       swidth = to_z w32 (of_z w32 c.in_ok-swidth.swidth);
     })
     c.in_ok-swidth.swidth
-    c.in_ok-outline.ensures.value c.in_ok-frame.ensures.checked c.in_ok-swidth.ensures (omega (arith, ints))
+    c.in_ok-outline.ensures.value c.in_ok-frame.ensures.checked c.in_ok-swidth.ensures (omega (arith, ints)) refl

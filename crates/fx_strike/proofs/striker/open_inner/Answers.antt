@@ -8,8 +8,8 @@ returns-in_err-opened-clause-due c =
     let p = err_from_is_err_and c.from_residual.result c.from_residual.ensures.1 in
     gives_err _ c.from_residual.result p.0 c.in_err-opened.field-0.0 p.1 p.2
     (fails_cause c.in_err-opened.field-0.0 _ (c.in_err-opened.ensures).named
-    (setting_unopened _ _ c.args.hinting _ (c.in_err-opened.ensures).due))
+    (setting_unopened _ _ c.args.mode _ (c.in_err-opened.ensures).due))
 
 pub returns-clause-due : goal.returns-clause-due
 returns-clause-due c =
-    gives_along _ _ c.of.result (setting_opened _ _ c.args.hinting _ (c.in_ok-opened.ensures).due) c.of.ensures
+    gives_along _ _ c.of.result (setting_opened _ _ c.args.mode _ (c.in_ok-opened.ensures).due) c.of.ensures

@@ -9,13 +9,13 @@ returns-in_err-opened-clause-survey g c =
     let p = err_from_is_err_and c.from_residual.result c.from_residual.ensures.1 in
     surveys_err _ c.from_residual.result p.0 c.in_err-opened.field-0.0 p.1 p.2
     (fails_cause c.in_err-opened.field-0.0 _ (c.in_err-opened.ensures).named
-    (plan_unopened _ _ _ _ c.args.request.now.hinting _ (c.in_err-opened.ensures).due))
+    (plan_unopened _ _ _ _ c.args.request.now.mode _ (c.in_err-opened.ensures).due))
 
 pub returns-in_err-striker-clause-survey : goal.returns-in_err-striker-clause-survey
 returns-in_err-striker-clause-survey g c =
     let p = err_from_is_err_and c.from_residual-in_err-striker.result c.from_residual-in_err-striker.ensures.1 in
     surveys_err _ c.from_residual-in_err-striker.result p.0 c.in_err-striker.field-0.0 p.1 p.2
-    (plan_unset _ _ _ _ c.args.request.now.hinting _ _ (c.in_ok-opened.ensures).due c.in_err-striker.ensures)
+    (plan_unset _ _ _ _ c.args.request.now.mode _ _ (c.in_ok-opened.ensures).due c.in_err-striker.ensures)
 
 pub returns-in_err-striker-clause-late : goal.returns-in_err-striker-clause-late
 returns-in_err-striker-clause-late g c memory = is_ok _ _ (c.in_ok-opened.ensures).due
@@ -23,7 +23,7 @@ returns-in_err-striker-clause-late g c memory = is_ok _ _ (c.in_ok-opened.ensure
 pub returns-clause-survey : goal.returns-clause-survey
 returns-clause-survey g c =
     surveys_along _ _ c.survey_checked.result
-    (plan_set _ _ (title_of c.args.request.now) _ c.args.request.now.hinting _ _
+    (plan_set _ _ (title_of c.args.request.now) _ c.args.request.now.mode _ _
     (c.in_ok-opened.ensures).due c.in_ok-striker.ensures)
     (c.survey_checked.ensures.survey (title_of c.args.request.now))
 

@@ -12,8 +12,8 @@ returns-in_err-see_one-clause-seen g c =
     let p = err_from_is_err_and c.from_residual.result c.from_residual.ensures.1 in
     let f = rw c.codes.invariant.kept at (c.in_err-see_one.ensures).seen in
     let e = rw c.codes.invariant.map at c.glyph-glyph.ensures.value in
-    sees_err (setting_with c.args.self.now.opened c.args.hinter.now) c.args.codes.now c.from_residual.result p.0
-    c.in_err-see_one.field-0.0 p.1 p.2
+    sees_err (setting_with c.args.self.now.opened c.args.self.now.dropout c.args.hinter.now) c.args.codes.now
+    c.from_residual.result p.0 c.in_err-see_one.field-0.0 p.1 p.2
     (refused_at _ c.args.codes.now c.codes.code-index c.glyph-glyph.result c.codes.seen c.in_err-see_one.field-0.0
     c.codes-test.true c.codes.invariant.held e c.if-glyph-eq0.false f)
 

@@ -8,5 +8,5 @@ abbrev pub invariant-codes : goal.invariant-codes
 invariant-codes g l = record {
   kept : l.hinter ≡ l.fn.hinter;
   map : l.map ≡ l.self.opened.map;
-  held : Holds (setting_with l.self.opened l.fn.hinter) (take l.code-index l.codes) l.seen;
+  held : Holds (setting_with l.self.opened l.self.dropout l.fn.hinter) (take l.code-index l.codes) l.seen;
 }

@@ -8,11 +8,12 @@ use Rattle.fx_strike.proofs.tools.Tools.survey_codes.Goals as goal
 pub returns-in_err-seen-clause-survey : goal.returns-in_err-seen-clause-survey
 returns-in_err-seen-clause-survey g c title chars rising =
     let p = err_from_is_err_and c.from_residual.result c.from_residual.ensures.1 in
-    unseen (setting_with c.args.self.now.opened c.args.hinter.now) title chars c.args.codes.now
+    unseen (setting_with c.args.self.now.opened c.args.self.now.dropout c.args.hinter.now) title chars c.args.codes.now
     c.from_residual.result p.0 c.in_err-seen.field-0.0 p.1 p.2 rising (c.in_err-seen.ensures).seen
 
 pub returns-clause-survey : goal.returns-clause-survey
 returns-clause-survey g c title chars rising =
-    surveyed c.args.self.now.opened c.args.hinter.now c.prelude.result title chars c.args.codes.now c.in_ok-seen.seen
+    surveyed c.args.self.now.opened c.args.self.now.dropout c.args.hinter.now c.prelude.result title chars c.args.codes.now
+    c.in_ok-seen.seen
     c.survey_from.result (c.prelude.ensures ∙ ap (λ (m : Option Known). prelude_by m) (c.in_ok-seen.ensures).kept) rising
     (c.in_ok-seen.ensures).seen c.survey_from.ensures

@@ -15,6 +15,6 @@ invariant-codes g l = record {
   same : l.text.sink ≡ l.fn.text.sink;
   quiet : l.text.faults ≡ l.fn.text.faults;
   few : length_of l.text ≤ length_of l.fn.text + l.code-index * longest_glyph;
-  lines : (lines : List ℕ) → AreAllLinesOf (setting_with l.self.opened l.fn.hinter) l.codes lines
-      → Left (setting_with l.self.opened l.fn.hinter) l.codes l.code-index l.fn.text l.text lines;
+  lines : (lines : List ℕ) → AreAllLinesOf (setting_with l.self.opened l.self.dropout l.fn.hinter) l.codes lines
+      → Left (setting_with l.self.opened l.self.dropout l.fn.hinter) l.codes l.code-index l.fn.text l.text lines;
 }
