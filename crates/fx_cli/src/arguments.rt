@@ -85,6 +85,7 @@ fn make_of<'a>(alloc: Global, matches: &ArgMatches<'a>) -> Result<Command<'a>, F
         value(matches, "chars"),
         value(matches, "name"),
         values(matches, "property"),
+        is_given(matches, "x11"),
         is_given(matches, "unhinted"),
         is_given(matches, "hex"),
     )
@@ -97,12 +98,13 @@ fn make_by<'a>(
     list: Option<&'a str>,
     name: Option<&'a str>,
     given: Option<&[&'a str]>,
+    x11: bool,
     unhinted: bool,
     hex: bool,
 ) -> Result<Command<'a>, Fault>
     ensures { GivesUnless Refuses seen result (make_by (option_map (λ text. text.now) ppem.entry)
         (option_map (λ text. text.now) list.entry) (option_map (λ text. text.now) name.entry)
-        (option_map (λ given. texts given.now) given.entry) unhinted hex) }
+        (option_map (λ given. texts given.now) given.entry) x11 unhinted hex) }
 {
     let ppem = required_size(ppem)?;
     let list = list.ok_or(Fault::Usage)?;
@@ -112,6 +114,7 @@ fn make_by<'a>(
         chars: parse_chars(alloc, list)?,
         name: name.unwrap_or("strike"),
         properties,
+        x11,
         hinting: !unhinted,
     };
     Ok(Command {

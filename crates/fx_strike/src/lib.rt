@@ -18,6 +18,7 @@ mod draft;
 mod draw;
 mod faults;
 mod first_pass;
+mod gathered;
 mod hinter;
 pub mod laws;
 mod listing;
@@ -36,6 +37,7 @@ mod surveying;
 mod tools;
 mod within;
 
+pub use fx_bdf::Title;
 pub use listing::listing_of;
 pub use make::{make_strike, make_strike_with};
 pub use one_character::one;
