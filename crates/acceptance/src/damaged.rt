@@ -15,6 +15,7 @@ fn ends_well(alloc: Global, font: &[u8], hinting: bool) -> Result<bool, AllocErr
         ppem: 16,
         name: "F1",
         properties: &[],
+        x11: false,
         chars: &[0x20, 0x41, 0x42],
         hinting,
     };

@@ -7,7 +7,7 @@ use crate::tables::{NO_TABLES, Tables, with_tables};
 use fx_fixed::{Limits, MemorySink};
 use fx_request::{Refusal, Request};
 use fx_rows::Rows;
-use fx_strike::{Striker, make_strike, survey};
+use fx_strike::{Striker, Title, make_strike, survey};
 use std::alloc::Global;
 use std::process::Abort;
 use std::test::Fail;
@@ -29,6 +29,15 @@ fn hinted(chars: &[u32]) -> Request<'_> {
     }
 }
 
+/// A name alone.
+fn named(name: &str) -> Title<'_> {
+    Title {
+        name,
+        properties: &[],
+        x11: false,
+    }
+}
+
 /// The striker writes the strike of a character as `make_strike` does, and with the same counts or the same refusal.
 fn writes_as_alone(
     rt: &impl Abort,
@@ -41,7 +50,7 @@ fn writes_as_alone(
     let mut alone = MemorySink::new(alloc, 1024, Limits::NONE)?;
     let due = make_strike(alloc, font, &hinted(&chars), &mut alone);
     let mut out = MemorySink::new(alloc, 1024, Limits::NONE)?;
-    let told = striker.write("F1", &[], &chars, &mut out);
+    let told = striker.write(&named("F1"), &chars, &mut out);
     assert_eq!(rt; told, due);
     assert!(rt; out.bytes() == alone.bytes(), "{code}");
     Ok(())
@@ -155,9 +164,9 @@ fn sizes_characters_and_names(rt: HostRuntime) -> Result<(), Fail> {
     let far = striker.survey(&[0x41, 0x110000]);
     assert_eq!(rt; far, Err(Refusal::BadChars));
     let mut out = MemorySink::new(rt.alloc(), 1024, Limits::NONE)?;
-    let bad = striker.write("", &[], &[0x110000], &mut out);
+    let bad = striker.write(&named(""), &[0x110000], &mut out);
     assert_eq!(rt; bad, Err(Refusal::BadChars));
-    let nameless = striker.write("", &[], &[0x41], &mut out);
+    let nameless = striker.write(&named(""), &[0x41], &mut out);
     assert_eq!(rt; nameless, Err(Refusal::BadName));
     assert!(rt; out.bytes().is_empty());
     Ok(())

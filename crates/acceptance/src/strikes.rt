@@ -14,6 +14,7 @@ pub fn request(ppem: u16, chars: &[u32]) -> Request<'_> {
         ppem,
         name: "F1",
         properties: &[],
+        x11: false,
         chars,
         hinting: false,
     }

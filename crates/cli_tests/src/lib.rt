@@ -22,3 +22,5 @@ mod shows;
 mod strikes;
 #[cfg(test)]
 mod writers;
+#[cfg(test)]
+mod x11;

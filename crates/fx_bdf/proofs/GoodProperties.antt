@@ -1,5 +1,5 @@
 -- The first bad property, one property after another; and how long the lines of good ones are.
--- Serves `first_bad` and `write_header`.
+-- Serves `first_bad`, `write_header` and `all_properties`.
 use Rattle.std.proofs.Common.{◌≡◌, ◌∙◌, ℕ, ◌+◌, ◌*◌, ◌^◌, ◌<◌, ◌≤◌, ℤ, pos, negsuc, Bool, true, false, List, [], ◌∷◌, ◌++◌, length}
 use Rattle.std.proofs.Common.{zero, suc, take, drop, get_or, refl, sym, ap, ap₂, arith, Option, Some, None, length-append}
 use Rattle.std.proofs.lemmas.List.{length-map, length-take-le, drop_all}
@@ -7,11 +7,12 @@ use Rattle.std.proofs.lemmas.Option.{none-some}
 use Rattle.std.specs.Prelude.{if◌then◌else◌, ◌==◌, nat_lt, nat_le}
 use Rattle.std.specs.List.{flat_map, list_all}
 use Rattle.std.specs.Fmt.{signed_decimal}
-use Rattle.std.proofs.lemmas.Bool.{and_parts, ltb-true, leb-true}
+use Rattle.std.proofs.lemmas.Bool.{and_from, and_parts, ltb-true, leb-true}
 use Rattle.std.proofs.lemmas.Fmt.{length_signed_le}
 use Rattle.fx_bdf.specs.Printed.{is_printed}
 use Rattle.fx_bdf.specs.Properties.{PropertyView, ValueView, number, text, doubled, quoted, value_text, property_text}
-use Rattle.fx_bdf.specs.Properties.{AreProperties, first_bad, first_bad_after, is_integer, is_string, is_value, is_word, may_follow}
+use Rattle.fx_bdf.specs.Properties.{AreLines, AreProperties, first_bad, first_bad_after, is_integer, is_line, is_short_value}
+use Rattle.fx_bdf.specs.Properties.{is_string, is_value, is_word, may_follow}
 use Rattle.fx_bdf.specs.Properties.{seen_properties, seen_property}
 use Rattle.fx_bdf.specs.declared.property.Property.{Property}
 
@@ -96,10 +97,9 @@ all_doubled_long [] = omega arith
 all_doubled_long (c ∷ cs) =
     omega (arith, doubled_long c, all_doubled_long cs, length-append (doubled c) (flat_map doubled cs))
 
-quoted_long : (string : List ℕ) → is_string string ≡ true → length (quoted string) ≤ 64002
-unfolding is_string quoted
-quoted_long string h =
-    let few = leb-true (length string) 32000 (and_parts (nat_le (length string) 32000) (list_all is_printed string) h).0 in
+quoted_long : (string : List ℕ) → length string ≤ 32000 → length (quoted string) ≤ 64002
+unfolding quoted
+quoted_long string few =
     omega (arith, few, all_doubled_long string, length-append (flat_map doubled string) (34 ∷ []))
 
 integer_long : (n : ℤ) → is_integer n ≡ true → length (signed_decimal n) ≤ 11
@@ -107,29 +107,50 @@ integer_long (pos n) h = length_signed_le 10 (pos n) (omega (arith, ltb-true n (
 integer_long (negsuc n) h =
     length_signed_le 10 (negsuc n) (omega (arith, ltb-true n (2 ^ 31) h)) (omega (arith, ltb-true n (2 ^ 31) h))
 
-value_long : (value : ValueView) → is_value value ≡ true → length (value_text value) ≤ 64002
+value_long : (value : ValueView) → is_short_value value ≡ true → length (value_text value) ≤ 64002
 value_long (number n) h = omega (arith, integer_long n h)
-value_long (text string) h = quoted_long string h
+value_long (text string) h = quoted_long string (leb-true (length string) 32000 h)
 
-word_long : (name : List ℕ) → is_word name ≡ true → length name ≤ 64
+line_long : (p : PropertyView) → is_line p ≡ true → length (property_text p) ≤ 64068
+line_long p h =
+    let parts = and_parts (nat_le (length p.name) 64) (is_short_value p.value) h in
+    omega (
+      arith,
+      leb-true (length p.name) 64 parts.0,
+      value_long p.value parts.1,
+      length-append p.name (32 ∷ (value_text p.value ++ 10 ∷ [])),
+      length-append (value_text p.value) (10 ∷ []),
+    )
+
+lines_long : (ps : List PropertyView) → list_all is_line ps ≡ true → length (flat_map property_text ps) ≤ 64068 * length ps
+lines_long [] h = omega arith
+lines_long (p ∷ ps) h =
+    let parts = and_parts (is_line p) (list_all is_line ps) h in
+    omega (arith, line_long p parts.0, lines_long ps parts.1, length-append (property_text p) (flat_map property_text ps))
+
+pub properties_long : (ps : List PropertyView) → AreLines ps → length (flat_map property_text ps) ≤ 4869168
+properties_long ps h = omega (arith, h.few, lines_long ps h.short)
+
+-- ---- the lines of good ones are short
+
+word_short : (name : List ℕ) → is_word name ≡ true → nat_le (length name) 64 ≡ true
 unfolding is_word
-word_long name h = leb-true (length name) 64 (and_parts (nat_le (length name) 64) _ (and_parts (nat_lt 0 (length name)) _ h).1).0
+word_short name h = (and_parts (nat_le (length name) 64) _ (and_parts (nat_lt 0 (length name)) _ h).1).0
 
-line_long : (before : List PropertyView) (p : PropertyView) → may_follow before p ≡ true
-    → (length before < 64) × (length (property_text p) ≤ 64068)
+value_short : (value : ValueView) → is_value value ≡ true → is_short_value value ≡ true
+unfolding is_string
+value_short (number n) h = h
+value_short (text string) h = (and_parts (nat_le (length string) 32000) (list_all is_printed string) h).0
+
+good_line : (before : List PropertyView) (p : PropertyView) → may_follow before p ≡ true
+    → (length before < 64) × (is_line p ≡ true)
 unfolding may_follow
-line_long before p h =
+good_line before p h =
     let room = and_parts (nat_lt (length before) 64) _ h in
     let word = and_parts (is_word p.name) _ room.1 in
     let value = and_parts (is_value p.value) _ word.1 in (
       ltb-true (length before) 64 room.0,
-      omega (
-        arith,
-        word_long p.name word.0,
-        value_long p.value value.0,
-        length-append p.name (32 ∷ (value_text p.value ++ 10 ∷ [])),
-        length-append (value_text p.value) (10 ∷ []),
-      ),
+      and_from _ _ (word_short p.name word.0) (value_short p.value value.0),
     )
 
 -- there is room for one property more
@@ -138,31 +159,24 @@ pub left_room : (ps : List Property) (i : ℕ) (p : PropertyView) → i < length
 left_room ps i p h good =
     let count : length (seen_properties (take i ps)) ≡ i =
     length-map (take i ps) seen_property ∙ length-take-le i ps (omega (arith, h)) in
-    omega (arith, count, (line_long (seen_properties (take i ps)) p good).0)
+    omega (arith, count, (good_line (seen_properties (take i ps)) p good).0)
 
--- ---- all lines
-
-pub lines_long : (before ps : List PropertyView) → first_bad_after before ps ≡ None → length before ≤ 64
-    → (length before + length ps ≤ 64) × (length (flat_map property_text ps) ≤ 64068 * length ps)
-lines_long before [] h few = (omega (arith, few), omega arith)
-lines_long before (p ∷ ps) h few =
-    by (may_follow before p) refl (sym (first_bad_after-cons before p ps) ∙ h) (lines_long (before ++ p ∷ []) ps)
+good_lines : (before ps : List PropertyView) → first_bad_after before ps ≡ None → length before ≤ 64
+    → (length before + length ps ≤ 64) × (list_all is_line ps ≡ true)
+good_lines before [] h few = (omega (arith, few), refl)
+good_lines before (p ∷ ps) h few =
+    by (may_follow before p) refl (sym (first_bad_after-cons before p ps) ∙ h) (good_lines (before ++ p ∷ []) ps)
   where
     by : (b : Bool) → may_follow before p ≡ b → chosen b (first_bad_after (before ++ p ∷ []) ps) (length before) ≡ None
         → (first_bad_after (before ++ p ∷ []) ps ≡ None → length (before ++ p ∷ []) ≤ 64
-        → (length (before ++ p ∷ []) + length ps ≤ 64) × (length (flat_map property_text ps) ≤ 64068 * length ps))
-        → (length before + length (p ∷ ps) ≤ 64) × (length (flat_map property_text (p ∷ ps)) ≤ 64068 * length (p ∷ ps))
+        → (length (before ++ p ∷ []) + length ps ≤ 64) × (list_all is_line ps ≡ true))
+        → (length before + length (p ∷ ps) ≤ 64) × (list_all is_line (p ∷ ps) ≡ true)
     by true good more others =
-        let here = line_long before p good in
+        let here = good_line before p good in
         let front : length (before ++ p ∷ []) ≡ length before + 1 = length-append before (p ∷ []) in
-        let rest = others more (omega (arith, front, here.0)) in (
-          omega (arith, front, rest.0),
-          omega (arith, here.1, rest.1, length-append (property_text p) (flat_map property_text ps)),
-        )
+        let rest = others more (omega (arith, front, here.0)) in
+        (omega (arith, front, rest.0), and_from _ _ here.1 rest.1)
     by false good more others = absurd (none-some _ (sym more))
 
-pub few_properties : (ps : List PropertyView) → AreProperties ps → length ps ≤ 64
-few_properties ps h = omega (arith, (lines_long [] ps h (omega arith)).0)
-
-pub properties_long : (ps : List PropertyView) → AreProperties ps → length (flat_map property_text ps) ≤ 4100352
-properties_long ps h = let l = lines_long [] ps h (omega arith) in omega (arith, l.0, l.1)
+pub few_and_short : (ps : List PropertyView) → AreProperties ps → (length ps ≤ 64) × (list_all is_line ps ≡ true)
+few_and_short ps h = let fit = good_lines [] ps h (omega arith) in (omega (arith, fit.0), fit.1)

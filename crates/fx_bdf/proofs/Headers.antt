@@ -7,7 +7,7 @@ use Rattle.std.specs.List.{flat_map}
 use Rattle.std.specs.Fmt.{decimal}
 use Rattle.fx_bdf.specs.declared.header.Header.{Header}
 use Rattle.fx_bdf.specs.declared.property.Property.{Property}
-use Rattle.fx_bdf.specs.Properties.{AreProperties, property_text, seen_properties, seen_property}
+use Rattle.fx_bdf.specs.Properties.{AreLines, property_text, seen_properties, seen_property}
 use Rattle.fx_bdf.specs.Text.{back_text, front_text, header_text, longest_header}
 use Rattle.fx_bdf.proofs.GoodProperties.{properties_long}
 
@@ -24,7 +24,7 @@ back_long : (k : Header) {n : List ℕ} → n ≡ decimal k.glyphs → length n 
 back_long k {n} e few = omega (arith, ap length (back_number k e), few, length-append n (10 ∷ []))
 
 -- the lines before the properties, those of good properties, and those after them
-pub header_long : (name : List ℕ) (ps : List Property) (k : Header) {n : List ℕ} → AreProperties (seen_properties ps)
+pub header_long : (name : List ℕ) (ps : List Property) (k : Header) {n : List ℕ} → AreLines (seen_properties ps)
     → n ≡ decimal k.glyphs → length n ≤ 20 → length (front_text name (length ps) k) ≤ 1000
     → length (header_text name (seen_properties ps) k) ≤ longest_header
 unfolding header_text

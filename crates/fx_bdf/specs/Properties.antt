@@ -1,6 +1,6 @@
 -- The properties of a strike: lines of a word for the property's name, followed by either an integer or a string surrounded by
 -- quotation marks (BDF 2.1, global font information, STARTPROPERTIES).
-use Rattle.std.specs.Prelude.{◌≡◌, ℕ, ◌^◌, ℤ, pos, negsuc, Bool, ◌==◌, ◌&&◌, ◌||◌, not, nat_lt, nat_le, if◌then◌else◌}
+use Rattle.std.specs.Prelude.{◌≡◌, ℕ, ◌+◌, ◌^◌, ◌≤◌, ℤ, pos, negsuc, Bool, true, ◌==◌, ◌&&◌, ◌||◌, not, nat_lt, nat_le, if◌then◌else◌}
 use Rattle.std.specs.Prelude.{List, [], ◌∷◌, ◌++◌, map, length, codes, slice_index, Option, Some, None}
 use Rattle.std.specs.List.{flat_map, list_all, list_any}
 use Rattle.std.specs.Str.{bytes_eq}
@@ -114,3 +114,22 @@ first_bad properties = first_bad_after [] properties
 -- all are good
 abbrev pub AreProperties : List PropertyView → Type 0
 AreProperties properties = first_bad properties ≡ None
+
+-- ---- whose lines are short
+
+-- the greatest number of properties that a strike has beside the given ones
+abbrev pub most_more : ℕ
+most_more = 12
+
+-- a name and a value that are short
+abbrev pub is_short_value : ValueView → Bool
+is_short_value (number n) = is_integer n
+is_short_value (text string) = nat_le (length string) longest_string
+
+abbrev pub is_line : PropertyView → Bool
+is_line p = nat_le (length p.name) longest_word && is_short_value p.value
+
+-- properties whose lines can be written: few, and each with a short name and a short value
+pub record AreLines (properties : List PropertyView) : Type 0 where
+  pub few : length properties ≤ most_properties + most_more
+  pub short : list_all is_line properties ≡ true

@@ -1,9 +1,9 @@
 //! Writing the lines before the glyphs.
 
-ghost use Rattle.std.specs.Prelude.{◌≡◌, ◌<◌, ◌≤◌, ◌^◌, length};
+ghost use Rattle.std.specs.Prelude.{◌≡◌, ◌+◌, ◌<◌, ◌≤◌, ◌^◌, length};
 ghost use Rattle.std.specs.List.{flat_map};
 ghost use Rattle.fx_fixed.specs.Texts.{Adds, Fails};
-ghost use Rattle.fx_bdf.specs.Properties.{AreProperties, doubled, most_properties, property_text, quoted, seen_properties};
+ghost use Rattle.fx_bdf.specs.Properties.{AreLines, doubled, most_more, most_properties, property_text, quoted, seen_properties};
 ghost use Rattle.fx_bdf.specs.Properties.{seen_property, seen_value, value_text};
 ghost use Rattle.fx_bdf.specs.Text.{IsName, front_text, header_text, longest_header};
 
@@ -21,7 +21,7 @@ fn add_front<W: Sink>(
 ) -> Result<(), WriteFailed>
     requires faults { text.old.faults < 2 ^ 63 }
     requires name { IsName name.now }
-    requires count { count ≤ most_properties }
+    requires count { count ≤ most_properties + most_more }
     ensures text { Adds Fails text.old text.new (front_text name.now count header.now) result }
     ensures short { length (front_text name.now count header.now) ≤ 1000 }
 {
@@ -133,7 +133,7 @@ pub fn write_header<W: Sink>(
 ) -> Result<(), WriteFailed>
     requires faults { text.old.faults < 2 ^ 63 }
     requires name { IsName name.now }
-    requires properties { AreProperties (seen_properties properties.now) }
+    requires properties { AreLines (seen_properties properties.now) }
     ensures text { Adds Fails text.old text.new (header_text name.now (seen_properties properties.now) header.now) result }
     ensures short { length (header_text name.now (seen_properties properties.now) header.now) ≤ longest_header }
 {

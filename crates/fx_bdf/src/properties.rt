@@ -70,7 +70,7 @@ fn is_value(value: Value<'_>) -> bool
 }
 
 /// Whether one of properties has this name.
-fn is_taken(properties: &[Property<'_>], name: &str) -> bool
+pub(crate) fn is_taken(properties: &[Property<'_>], name: &str) -> bool
     ensures { result ≡ is_taken (seen_properties properties.now) name.now }
 {
     // None of the properties so far has it.

@@ -38,7 +38,7 @@ flag_rule id = record (new_rule id) { long = Some id; action = Some SetTrue }
 unfoldable pub make_app : App
 make_app = with_rule (with_rule (with_rule (with_rule (with_rule (with_rule (with_rule (new_app (codes "make"))
     (option_rule (codes "ppem"))) (option_rule (codes "chars"))) (option_rule (codes "name"))) (many_rule (codes "property")))
-    (flag_rule (codes "unhinted"))) (flag_rule (codes "dropout"))) (flag_rule (codes "hex"))
+    (flag_rule (codes "x11"))) (flag_rule (codes "unhinted"))) (flag_rule (codes "dropout"))) (flag_rule (codes "hex"))
 
 -- the command `show` with its options
 unfoldable pub show_app : App
@@ -79,9 +79,9 @@ abbrev pub size_by : Option Text → Result ℕ Fault
 size_by text = wanted (option_and_then size_of text) Usage
 
 -- what the values of `make`'s options ask for: the size and the list are required
-abbrev pub make_by : Option Text → Option Text → Option Text → Option (List Text) → Mode → Bool
+abbrev pub make_by : Option Text → Option Text → Option Text → Option (List Text) → Bool → Mode → Bool
     → Result CommandView Fault
-make_by size list name given mode hex = do
+make_by size list name given x11 mode hex = do
   ppem ← size_by size
   text ← wanted list Usage
   properties ← wanted (properties_of (unwrap_or given [])) Usage
@@ -92,6 +92,7 @@ make_by size list name given mode hex = do
       chars = chars;
       name = unwrap_or name (codes "strike");
       properties = properties;
+      x11 = x11;
       mode = mode;
     });
     hex = hex;
@@ -99,7 +100,7 @@ make_by size list name given mode hex = do
 
 abbrev pub make_of_rows : List Row → Result CommandView Fault
 make_of_rows rows = make_by (first_of (codes "ppem") rows) (first_of (codes "chars") rows) (first_of (codes "name") rows)
-    (all_of (codes "property") rows) (mode_by rows) (is_given (codes "hex") rows)
+    (all_of (codes "property") rows) (is_given (codes "x11") rows) (mode_by rows) (is_given (codes "hex") rows)
 
 -- what the values of `show`'s options ask for: the size and the character are required
 abbrev pub show_by : Option Text → Option Text → Mode → Bool → Result CommandView Fault

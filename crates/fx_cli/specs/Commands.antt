@@ -14,12 +14,13 @@ use Rattle.fx_cli.specs.declared.command.Task.TheVariants.{Strike, Picture, List
 use Rattle.fx_cli.specs.declared.fault.Fault.{Fault}
 use Rattle.fx_cli.specs.declared.fault.Fault.TheVariants.{Usage, Early}
 
--- a strike: its size, its characters, its name, its properties, and how outlines become pixels
+-- a strike: its size, its characters, its name, its properties, whether it has those of X11 too, and how outlines become pixels
 pub record MakeView : Type 0 where
   pub ppem : ℕ
   pub chars : List ℕ
   pub name : Text
   pub properties : List PropertyView
+  pub x11 : Bool
   pub mode : Mode
 
 -- a strike, the picture of a character, or the listing of a program
@@ -40,6 +41,7 @@ seen_make make = record {
   chars = make.chars.items;
   name = make.name.now;
   properties = seen_properties make.properties.items;
+  x11 = make.x11;
   mode = make.mode;
 }
 
@@ -49,6 +51,7 @@ seen_request request = record {
   chars = request.chars.now;
   name = request.name.now;
   properties = seen_properties request.properties.now;
+  x11 = request.x11;
   mode = request.mode;
 }
 

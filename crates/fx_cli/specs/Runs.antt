@@ -68,7 +68,7 @@ font_bytes false text = Some text
 
 -- what a strike is called
 abbrev pub title : MakeView → Title
-title make = record { name = make.name; properties = make.properties }
+title make = record { name = make.name; properties = make.properties; x11 = make.x11 }
 
 -- what a call that makes the strike leaves of the sink
 abbrev pub MakeLeaves : MakeView → List ℕ → Change → Result Report Refusal → Type 0

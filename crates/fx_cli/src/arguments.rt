@@ -95,6 +95,7 @@ fn make_of<'a>(alloc: Global, matches: &ArgMatches<'a>) -> Result<Command<'a>, F
         value(matches, "chars"),
         value(matches, "name"),
         values(matches, "property"),
+        is_given(matches, "x11"),
         mode_of(matches),
         is_given(matches, "hex"),
     )
@@ -107,12 +108,13 @@ fn make_by<'a>(
     list: Option<&'a str>,
     name: Option<&'a str>,
     given: Option<&[&'a str]>,
+    x11: bool,
     mode: Mode,
     hex: bool,
 ) -> Result<Command<'a>, Fault>
     ensures { GivesUnless Refuses seen result (make_by (option_map (λ text. text.now) ppem.entry)
         (option_map (λ text. text.now) list.entry) (option_map (λ text. text.now) name.entry)
-        (option_map (λ given. texts given.now) given.entry) mode hex) }
+        (option_map (λ given. texts given.now) given.entry) x11 mode hex) }
 {
     let ppem = required_size(ppem)?;
     let list = list.ok_or(Fault::Usage)?;
@@ -122,6 +124,7 @@ fn make_by<'a>(
         chars: parse_chars(alloc, list)?,
         name: name.unwrap_or("strike"),
         properties,
+        x11,
         mode,
     };
     Ok(Command {

@@ -22,13 +22,15 @@ pub enum Task<'a> {
     Listing(FontProgram),
 }
 
-/// A strike: its size in pixels an em, its characters, its name, its properties, and how outlines become pixels.
+/// A strike: its size in pixels an em, its characters, its name, its properties, whether it has those of X11 too, and how outlines
+/// become pixels.
 #[derive(Drop)]
 pub struct Make<'a> {
     pub ppem: u16,
     pub chars: Vec<u32>,
     pub name: &'a str,
     pub properties: Vec<Property<'a>>,
+    pub x11: bool,
     pub mode: Mode,
 }
 
@@ -52,6 +54,7 @@ impl<'a> Make<'a> {
             ppem: self.ppem,
             name: self.name,
             properties: &self.properties,
+            x11: self.x11,
             chars: &self.chars,
             mode: self.mode,
         }

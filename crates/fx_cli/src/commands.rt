@@ -15,6 +15,7 @@ pub fn make_command<'a>(alloc: Global) -> Result<Command<'a>, AllocError>
         .arg(option(alloc, "chars"))?
         .arg(option(alloc, "name"))?
         .arg(many(alloc, "property"))?
+        .arg(flag(alloc, "x11"))?
         .arg(flag(alloc, "unhinted"))?
         .arg(flag(alloc, "dropout"))?
         .arg(flag(alloc, "hex"))

@@ -23,6 +23,9 @@ pub struct Request<'a> {
     /// The properties that the strike has beside FONT_ASCENT and FONT_DESCENT, in their order: at most 64, each with another name;
     /// the first that is bad is refused.
     pub properties: &'a [Property<'a>],
+    /// Whether the strike has the properties of the X logical font description too, before the given ones: those whose names the
+    /// given ones leave free.
+    pub x11: bool,
     /// Code points up to U+10FFFF, at most 65,536 of them; their order and repeats do not count.
     pub chars: &'a [u32],
     /// How outlines become pixels.

@@ -1,6 +1,6 @@
 -- A glyph whose frame lies in a box leaves that box as it is.
 -- Serves `are_among`, `lies_in`, `bounds_with` and `see_one`.
-use Rattle.std.proofs.Common.{◌≡◌, refl, sym, ap, ◌∙◌, subst, inl, inr, ℕ, ◌<◌, ℤ, pos, ◌+ℤ◌, ◌≤ℤ◌, ◌<ℤ◌, Bool, true}
+use Rattle.std.proofs.Common.{◌≡◌, refl, sym, ap, ap₂, ◌∙◌, subst, inl, inr, ℕ, ◌<◌, ℤ, pos, ◌+ℤ◌, ◌≤ℤ◌, ◌<ℤ◌, Bool, true}
 use Rattle.std.proofs.Common.{false, true≢false, not, ◌||◌, List, Option, Some, None, Result, Ok, Err, arith}
 use Rattle.std.specs.Prelude.{IsTrue, ◌==◌, int_le, if◌then◌else◌}
 use Rattle.std.specs.List.{list_all}
@@ -27,6 +27,7 @@ use Rattle.fx_strike.specs.Faults.{Fails}
 use Rattle.fx_strike.specs.Strike.{Sketch, IsGlyphOf}
 use Rattle.fx_machine.specs.Usages.{usage_with}
 use Rattle.fx_strike.specs.inner.Drawing.{are_among, lies_in, IsFramedBy, IsSketchedOf}
+use Rattle.fx_strike.specs.inner.Gathering.{gathered_with}
 use Rattle.fx_strike.specs.inner.Surveying.{Adds, Joins, Has, SeesOne}
 use Rattle.fx_strike.proofs.Bridged.{nothing_set}
 use Rattle.fx_strike.proofs.Near.{are_drawn}
@@ -180,15 +181,17 @@ sees_one_err due old new r e d p q f =
     let P : Result (Unit {0}) Refusal → Type 0 = λ s. SeesOne due old new s in subst P (sym (p ∙ ap Err q)) f
 
 -- a character was added
-pub has_added : (sketch : Sketch) (made : Sketched) (old new : Seen) (box : Box) → IsSketchedOf sketch made
-    → Joins sketch old.bounds (Ok box) → Adds old new box made.outline → Has sketch old new
-has_added sketch made old new box is j a =
+pub has_added : (sketch : Sketch) (made : Sketched) (old new : Seen) (code : ℕ) (box : Box) → IsSketchedOf sketch made
+    → sketch.code ≡ code → Joins sketch old.bounds (Ok box) → Adds old new code box made.outline → Has sketch old new
+has_added sketch made old new code box is e j a =
     let P : Box → Type 0 = λ b. IsPlaced b in
     record {
       glyph = j.0;
       drawn = j.1;
       bounds = a.bounds_is ∙ j.2;
       placed = subst P (sym a.bounds_is) j.3;
+      gathered = a.gathered ∙ ap₂ (gathered_with old.gathered) (sym e) is.dwidth;
+      narrow = a.narrow;
       glyphs = a.glyphs;
       missing = a.missing;
       usage = a.usage ∙ ap (usage_with old.report.usage) is.usage;

@@ -1,4 +1,5 @@
 pub mod Sketching
+pub mod GatheredGlyphs
 pub mod Seeing
 pub mod Making
 pub mod Prepared

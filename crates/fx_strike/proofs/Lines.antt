@@ -19,6 +19,8 @@ use Rattle.fx_bdf.specs.Glyphs.{Glyph, TrimmedIsOne}
 use Rattle.fx_bdf.specs.declared.header.Header.{Header}
 use Rattle.fx_bdf.specs.Properties.{PropertyView}
 use Rattle.fx_bdf.specs.Text.{header_text, head_text, glyph_text, end_text}
+use Rattle.fx_bdf.specs.X11.{all_properties}
+use Rattle.fx_bdf.specs.declared.summary.Summary.{Summary}
 use Rattle.fx_request.specs.declared.request.Report.{Report}
 use Rattle.fx_strike.specs.declared.surveyed.Survey.{Survey}
 use Rattle.fx_request.specs.Characters.{rising}
@@ -28,7 +30,7 @@ use Rattle.fx_strike.specs.Faults.{Fails}
 use Rattle.fx_fixed.specs.Changes.{Change}
 use Rattle.fx_strike.specs.Title.{Title}
 use Rattle.fx_strike.specs.Strike.{Sketch, Setting, Plan, IsGlyphOf, AreGlyphsOf, glyph_sketch_of, sketch_of, is_missing}
-use Rattle.fx_strike.specs.Strike.{sketches_of, plan_with, strike_text}
+use Rattle.fx_strike.specs.Strike.{sketches_of, plan_with, properties_of, strike_text}
 use Rattle.fx_strike.specs.Headline.{Surveyed, Leaves, surveyed_header}
 use Rattle.fx_strike.specs.inner.Writing.{AreLinesBy, AreLinesOf, AreAllLinesOf, IsShort, Stops, WritesBy, Writes, longest_text}
 use Rattle.fx_strike.proofs.OnePart.{glyph_is_one, planned}
@@ -317,19 +319,28 @@ lines_of_glyphs setting (c ∷ cs) ss gs h g =
     kept_lines setting c cs ss gs (is_missing setting c) refl h
     (λ ys xs k l. lines_of_glyphs setting cs ys xs k l) g
 
+-- the properties of a title, by a size and what was seen of the glyphs
+abbrev pub properties_by : Title → ℕ → Survey → List PropertyView
+properties_by title ppem survey = all_properties title.x11 title.name ppem survey.summary title.properties
+
 -- the text of a strike that was surveyed
 survey_text : (setting : Setting) (title : Title) (chars : List ℕ) (survey : Survey)
     (s : Surveyed (plan_with setting title chars) survey)
-    → header_text title.name title.properties (surveyed_header setting.ppem survey)
+    → header_text title.name (properties_by title setting.ppem survey) (surveyed_header setting.ppem survey)
     ++ (flat_map glyph_text s.glyphs ++ end_text) ≡ strike_text s.plan s.glyphs
 unfolding strike_text
 survey_text setting title chars survey s =
     let p = planned setting title chars s.plan s.is in
-    ap (λ (t : List ℕ). t ++ (flat_map glyph_text s.glyphs ++ end_text))
-    (ap (λ (n : ℕ). header_text title.name title.properties (surveyed_header n survey)) (sym p.ppem_is)
-    ∙ ap₂ (λ (t : List ℕ) (ps : List PropertyView). header_text t ps (surveyed_header s.plan.ppem survey)) (sym p.name_is)
+    let given : properties_by title setting.ppem survey ≡ properties_of s.plan s.glyphs =
+    ap₂ (λ (b : Bool) (name : List ℕ). all_properties b name setting.ppem survey.summary title.properties) (sym p.x11_is)
+    (sym p.name_is)
+    ∙ ap₂ (λ (n : ℕ) (ps : List PropertyView). all_properties s.plan.x11 s.plan.name n survey.summary ps) (sym p.ppem_is)
     (sym p.properties_are)
-    ∙ ap (header_text s.plan.name s.plan.properties) s.header)
+    ∙ ap (λ (x : Summary). all_properties s.plan.x11 s.plan.name s.plan.ppem x s.plan.properties) s.summary in
+    ap (λ (t : List ℕ). t ++ (flat_map glyph_text s.glyphs ++ end_text))
+    (ap (λ (n : ℕ). header_text title.name (properties_by title setting.ppem survey) (surveyed_header n survey)) (sym p.ppem_is)
+    ∙ ap₂ (λ (t : List ℕ) (ps : List PropertyView). header_text t ps (surveyed_header s.plan.ppem survey)) (sym p.name_is) given
+    ∙ ap (header_text s.plan.name (properties_of s.plan s.glyphs)) s.header)
 
 -- what a call leaves, by what was written of the text
 leaves_by : {Y : Type 0} (checks : Result Y Refusal) (due : Result Plan Refusal) (change : Change) (survey : Survey)
@@ -352,42 +363,43 @@ leaves_by checks due change survey s d o w = absurd w
 
 -- the text of a strike was written, or a beginning of it
 strike_writes : (setting : Setting) (title : Title) (chars codes : List ℕ) (change : Change) (survey : Survey) (header : Header)
-    (r : Result (Unit {0}) Refusal)
-    → codes ≡ rising chars → header ≡ surveyed_header setting.ppem survey
+    (all : List PropertyView) (r : Result (Unit {0}) Refusal)
+    → codes ≡ rising chars → header ≡ surveyed_header setting.ppem survey → all ≡ properties_by title setting.ppem survey
     → (s : Surveyed (plan_with setting title chars) survey)
     → ((text : List ℕ) → AreAllLinesOf setting codes text
-    → Writes change (header_text title.name title.properties header ++ (text ++ end_text)) r)
+    → Writes change (header_text title.name all header ++ (text ++ end_text)) r)
     → Writes change (strike_text s.plan s.glyphs) r
-strike_writes setting title chars codes change survey header r c q s w =
+strike_writes setting title chars codes change survey header all r c q a s w =
     let p = planned setting title chars s.plan s.is in
     let lines = lines_of_glyphs setting codes s.plan.sketches s.glyphs (ap (sketches_of setting) c ∙ p.sketches) s.drawn in
-    let same : header_text title.name title.properties header ++ (flat_map glyph_text s.glyphs ++ end_text)
+    let same : header_text title.name all header ++ (flat_map glyph_text s.glyphs ++ end_text)
     ≡ strike_text s.plan s.glyphs =
-    ap (λ (h : Header). header_text title.name title.properties h ++ (flat_map glyph_text s.glyphs ++ end_text)) q
+    ap₂ (λ (ps : List PropertyView) (h : Header). header_text title.name ps h ++ (flat_map glyph_text s.glyphs ++ end_text)) a q
     ∙ survey_text setting title chars survey s in
     writes_text same (w (flat_map glyph_text s.glyphs) lines)
 
 pub leaves_unwritten : {Y : Type 0} (checks : Result Y Refusal) (setting : Setting) (title : Title) (chars codes : List ℕ)
-    (change : Change) (survey : Survey) (header : Header) (r : Result Report Refusal) (e d : Refusal)
+    (change : Change) (survey : Survey) (header : Header) (all : List PropertyView) (r : Result Report Refusal) (e d : Refusal)
     → IsOk checks → r ≡ Err e → e ≡ d → codes ≡ rising chars → header ≡ surveyed_header setting.ppem survey
-    → Surveyed (plan_with setting title chars) survey
+    → all ≡ properties_by title setting.ppem survey → Surveyed (plan_with setting title chars) survey
     → ((text : List ℕ) → AreAllLinesOf setting codes text
-    → Writes change (header_text title.name title.properties header ++ (text ++ end_text)) (Err d))
+    → Writes change (header_text title.name all header ++ (text ++ end_text)) (Err d))
     → Leaves checks (plan_with setting title chars) change r
-leaves_unwritten checks setting title chars codes change survey header r e d o p q c k s w =
+leaves_unwritten checks setting title chars codes change survey header all r e d o p q c k a s w =
     let due = plan_with setting title chars in
-    let x = strike_writes setting title chars codes change survey header (Err d) c k s w in
+    let x = strike_writes setting title chars codes change survey header all (Err d) c k a s w in
     let P : Result Report Refusal → Type 0 = λ y. Leaves checks due change y in
     subst P (sym (p ∙ ap Err q)) (leaves_by checks due change survey s d o x.outcome)
 
 pub leaves_written : {Y : Type 0} (checks : Result Y Refusal) (setting : Setting) (title : Title) (chars codes : List ℕ)
-    (change : Change) (survey : Survey) (header : Header) → codes ≡ rising chars
-    → header ≡ surveyed_header setting.ppem survey → Surveyed (plan_with setting title chars) survey
+    (change : Change) (survey : Survey) (header : Header) (all : List PropertyView) → codes ≡ rising chars
+    → header ≡ surveyed_header setting.ppem survey → all ≡ properties_by title setting.ppem survey
+    → Surveyed (plan_with setting title chars) survey
     → ((text : List ℕ) → AreAllLinesOf setting codes text
-    → Writes change (header_text title.name title.properties header ++ (text ++ end_text)) (Ok tt))
+    → Writes change (header_text title.name all header ++ (text ++ end_text)) (Ok tt))
     → Leaves checks (plan_with setting title chars) change (Ok survey.report)
-leaves_written checks setting title chars codes change survey header c k s w =
-    let x = strike_writes setting title chars codes change survey header (Ok tt) c k s w in
+leaves_written checks setting title chars codes change survey header all c k a s w =
+    let x = strike_writes setting title chars codes change survey header all (Ok tt) c k a s w in
     record {
       plan = s.plan;
       glyphs = s.glyphs;

@@ -1,6 +1,6 @@
 -- From what was seen to a survey, and what a call leaves that was refused.
 -- Serves `survey_codes`, `survey_chars`, `write_strike`, `make_strike_with` and `whole_pixels`.
-use Rattle.std.proofs.Common.{refl, sym, ap, subst, ◌≡◌, ◌∙◌, arith, inl, ℕ, ◌+◌, ◌<◌, ◌≤◌, ◌^◌, ℤ, pos, List, map}
+use Rattle.std.proofs.Common.{refl, sym, ap, ap₂, subst, ◌≡◌, ◌∙◌, arith, inl, ℕ, ◌+◌, ◌<◌, ◌≤◌, ◌^◌, ℤ, pos, List, map}
 use Rattle.std.proofs.Common.{Bool, Option, Some, None, Result, Ok}
 use Rattle.std.proofs.Common.{Err, FitsSigned, w32, to_z, of_z, lit<}
 use Rattle.std.specs.Int.{w128}
@@ -15,6 +15,7 @@ use Rattle.fx_machine.specs.Known.{Known}
 use Rattle.fx_machine.specs.declared.usage.Usage.{Usage}
 use Rattle.fx_bdf.specs.declared.header.Header.{Header}
 use Rattle.fx_bdf.specs.Glyphs.{Box, bounds_of}
+use Rattle.fx_bdf.specs.declared.summary.Summary.{Summary}
 use Rattle.fx_request.specs.declared.refusal.Refusal.{Refusal}
 use Rattle.fx_request.specs.declared.refusal.Refusal.TheVariants.{WriteFailed, ReadFailed, BadHex, InputTooLarge, OutOfMemory}
 use Rattle.fx_strike.specs.declared.opened.Opened.{Opened}
@@ -28,7 +29,9 @@ use Rattle.fx_fixed.specs.Numbers.{counted}
 use Rattle.fx_strike.specs.Title.{Title}
 use Rattle.fx_strike.specs.Strike.{Sketch, Setting, Plan, setting_with, prelude_by, pixels, sketches_of, plan_from, plan_with}
 use Rattle.fx_strike.specs.Headline.{IsCause, Surveyed, Writer, Leaves, Makes}
+use Rattle.fx_strike.specs.inner.Gathering.{summary_with}
 use Rattle.fx_strike.specs.inner.Surveying.{Holds, survey_from, Surveys}
+use Rattle.fx_strike.proofs.GatheredGlyphs.{as_many, summary_is}
 use Rattle.fx_strike.proofs.Sketching.{fails_on}
 
 -- ---- when the plan stops
@@ -73,7 +76,8 @@ counted_on before after total h = omega arith
 
 surveyed_here : (opened : Opened) (dropout : Bool) (machine : Option Known) (title : Title) (chars : List ℕ) (seen : Seen)
     → Holds (setting_with opened dropout machine) (rising chars) seen
-    → Surveyed (plan_with (setting_with opened dropout machine) title chars) (survey_from (prelude_by machine) opened seen)
+    → Surveyed (plan_with (setting_with opened dropout machine) title chars)
+    (survey_from (prelude_by machine) opened seen (summary_with seen.gathered seen.report.glyphs))
 surveyed_here opened dropout machine title chars seen g =
     let heading : Box → ℕ → Header = λ b n. record {
       ppem = opened.ppem;
@@ -89,6 +93,7 @@ surveyed_here opened dropout machine title chars seen g =
       drawn = g.drawn;
       header = ap (λ (b : Box). heading b seen.report.glyphs) g.bounds ∙
           ap (λ (n : ℕ). heading (bounds_of (map (λ x. x.box) g.glyphs)) n) g.count;
+      summary = summary_is g.glyphs seen.gathered seen.report.glyphs g.gathered (g.count ∙ as_many g.sketches g.glyphs g.drawn);
       told = record {
         glyphs = g.count;
         missing = g.missing;
@@ -98,13 +103,14 @@ surveyed_here opened dropout machine title chars seen g =
     }
 
 pub surveyed : (opened : Opened) (dropout : Bool) (machine : Option Known) (prelude : Usage) (title : Title)
-    (chars codes : List ℕ) (seen : Seen) (survey : Survey)
+    (chars codes : List ℕ) (seen : Seen) (summary : Summary) (survey : Survey)
     → prelude ≡ prelude_by machine → codes ≡ rising chars → Holds (setting_with opened dropout machine) codes seen
-    → survey ≡ survey_from prelude opened seen → Surveyed (plan_with (setting_with opened dropout machine) title chars) survey
-surveyed opened dropout machine prelude title chars codes seen survey n c g e =
+    → summary ≡ summary_with seen.gathered seen.report.glyphs → survey ≡ survey_from prelude opened seen summary
+    → Surveyed (plan_with (setting_with opened dropout machine) title chars) survey
+surveyed opened dropout machine prelude title chars codes seen summary survey n c g m e =
     let P : List ℕ → Type 0 = λ xs. Holds (setting_with opened dropout machine) xs seen in
     let Q : Survey → Type 0 = λ s. Surveyed (plan_with (setting_with opened dropout machine) title chars) s in
-    subst Q (sym (e ∙ ap (λ (x : Usage). survey_from x opened seen) n))
+    subst Q (sym (e ∙ ap₂ (λ (x : Usage) (y : Summary). survey_from x opened seen y) n m))
     (surveyed_here opened dropout machine title chars seen (subst P c g))
 
 -- ---- refusals that are due
@@ -204,6 +210,13 @@ checks_passed a b due change (Ok report) o h = h
 checks_passed a b due change (Err OutOfMemory) o h = (o, h.1)
 checks_passed a b due change (Err (WriteFailed n)) o h = h
 checks_passed a b due change (Err d) o h = h
+
+-- the strike of a title that is another's
+pub leaves_titled : {Y : Type 0} (checks : Result Y Refusal) (setting : Setting) (here title : Title) (chars : List ℕ)
+    (change : Change) (r : Result Report Refusal) → here ≡ title → Leaves checks (plan_with setting here chars) change r
+    → Leaves checks (plan_with setting title chars) change r
+leaves_titled checks setting here title chars change r e h =
+    let P : Title → Type 0 = λ t. Leaves checks (plan_with setting t chars) change r in subst P e h
 
 -- what was left once they passed, and the strike is the one that is due
 pub leaves_makes : {X Y : Type 0} (a : Result X Refusal) (b : Result Y Refusal) (here due : Result Plan Refusal) (change : Change)

@@ -133,6 +133,7 @@ pub record Planned (setting : Setting) (title : Title) (chars : List ℕ) (plan 
   pub sketches : sketches_of setting (rising chars) ≡ Ok plan.sketches
   pub name_is : plan.name ≡ title.name
   pub properties_are : plan.properties ≡ title.properties
+  pub x11_is : plan.x11 ≡ title.x11
   pub ppem_is : plan.ppem ≡ setting.ppem
 
 pub planned : (setting : Setting) (title : Title) (chars : List ℕ) (plan : Plan) → plan_with setting title chars ≡ Ok plan
@@ -142,7 +143,7 @@ planned setting title chars plan h =
     let d = bind_ok (sketches_of setting (rising chars)) (λ ss. Ok (plan_from setting title chars ss)) plan h in
     let e : plan_from setting title chars d.0 ≡ plan = cc (d.2) in
     let P : Plan → Type 0 = λ p. Planned setting title chars p in
-    subst P e (record { sketches = d.1; name_is = refl; properties_are = refl; ppem_is = refl })
+    subst P e (record { sketches = d.1; name_is = refl; properties_are = refl; x11_is = refl; ppem_is = refl })
 
 pub parts_of : (file : List ℕ) (ppem : ℕ) (title : Title) (chars : List ℕ) (mode : Mode) (plan : Plan)
     → plan_of file ppem title chars mode ≡ Ok plan → Parts file ppem chars mode plan.sketches

@@ -1,6 +1,6 @@
 -- What is seen of code points, one after the other.
 -- Serves `see`, and what a call leaves (`Making`, `Writing`).
-use Rattle.std.proofs.Common.{◌≡◌, refl, sym, ap, ◌∙◌, subst, arith, ℕ, suc, zero, ◌+◌, ◌<◌, ◌≤◌, Bool, true, false, not, List, []}
+use Rattle.std.proofs.Common.{◌≡◌, refl, sym, ap, ap₂, ◌∙◌, subst, arith, ℕ, suc, zero, ◌+◌, ◌<◌, ◌≤◌, Bool, true, false, not, List, []}
 use Rattle.std.proofs.Common.{◌∷◌, ◌++◌, map, length, take, drop, get_or, length-append, Result, Ok, Err, cond}
 use Rattle.std.specs.Prelude.{nat_lt, ◌==◌, ◌||◌, filter}
 use Rattle.std.specs.List.{list_any, sum_by, count_by}
@@ -19,7 +19,9 @@ use Rattle.fx_request.specs.Limits.{max_code}
 use Rattle.fx_strike.specs.Strike.{Sketch, Setting, IsGlyphOf, AreGlyphsOf, glyph_sketch_of, sketch_of, is_missing, sketches_of}
 use Rattle.fx_fixed.specs.Numbers.{counted}
 use Rattle.fx_machine.specs.declared.usage.Usage.{Usage}
+use Rattle.fx_strike.specs.inner.Gathering.{gathered_with}
 use Rattle.fx_strike.specs.inner.Surveying.{IsEmpty, Has, Holds, Sees}
+use Rattle.fx_strike.proofs.GatheredGlyphs.{gathered_push}
 use Rattle.fx_strike.proofs.Sketching.{fails_on}
 
 -- ---- code points within the limit
@@ -119,6 +121,8 @@ holds_none setting new h =
       planned = refl;
       drawn = tt;
       bounds = h.bounds;
+      gathered = h.gathered;
+      narrow = omega (arith, h.gathered.total);
       placed = subst P (sym h.bounds)
           (record { left = omega arith; right = omega arith; bottom = omega arith; top = omega arith });
       count = h.glyphs;
@@ -142,6 +146,9 @@ holds_push setting codes c old new sketch h m s a = record {
   drawn = glyphs_push h.sketches h.glyphs sketch a.glyph h.drawn a.drawn;
   bounds = a.bounds ∙ ap (λ (b : Box). joined b a.glyph.box) h.bounds ∙ sym (bounds_push h.glyphs a.glyph);
   placed = a.placed;
+  gathered = gathered_push h.glyphs a.glyph old.gathered new.gathered h.gathered
+      (a.gathered ∙ ap₂ (gathered_with old.gathered) (sym a.drawn.code) (sym a.drawn.dwidth));
+  narrow = a.narrow;
   count = omega (arith, a.glyphs, h.count, length-append h.sketches (sketch ∷ []));
   missing = a.missing ∙ h.missing ∙ sym (count_one (is_missing setting) codes c 0 (ap (λ (b : Bool). cond b 1 0) m) ∙
       (let z : count_by (is_missing setting) codes + 0 ≡ count_by (is_missing setting) codes = omega arith in z));

@@ -1,8 +1,8 @@
 -- From a glyph's number to its bits: what each step says of the sketch that is due.
 -- Serves `sketch_at`, `draw` and `near_pixels`, the first pass and the laws.
-use Rattle.std.proofs.Common.{◌≡◌, inl, inr, refl, sym, ap, ◌∙◌, subst, arith, ℕ, ℤ, pos, negsuc, Bool, List, Result, Ok, Err}
+use Rattle.std.proofs.Common.{◌≡◌, ◌≤◌, ◌^◌, inl, inr, refl, sym, ap, ◌∙◌, subst, arith, ℕ, ℤ, pos, negsuc, Bool, List, Result, Ok, Err}
 use Rattle.std.proofs.Common.{FitsSigned, w32, w64, to_z, of_z}
-use Rattle.std.specs.Prelude.{IsTrue, IfOk, IfErr}
+use Rattle.std.specs.Prelude.{IsTrue, IfOk, IfErr, unsigned_abs}
 use Rattle.std.proofs.lemmas.Int.{ints}
 use Rattle.fx_fixed.specs.Chain.{◌>>=◌, map_ok, map_fault}
 use Rattle.fx_fixed.specs.Numbers.{near_of}
@@ -32,6 +32,11 @@ pub near_64_fits : (z : ℤ) → FitsSigned w32 z → FitsSigned w32 (near_of z 
 unfolding near_of
 near_64_fits (pos n) h = omega (arith, ints)
 near_64_fits (negsuc n) h = omega (arith, ints)
+
+pub near_64_small : (z : ℤ) → FitsSigned w32 z → unsigned_abs (near_of z (pos 64)) ≤ 2 ^ 25
+unfolding near_of
+near_64_small (pos n) h = omega (arith, ints)
+near_64_small (negsuc n) h = omega (arith, ints)
 
 -- ---- the glyph
 
@@ -237,3 +242,7 @@ width_is a r h e =
   where
     cast_back : (z r : ℤ) → FitsSigned w32 z → r ≡ z → to_z w32 (of_z w32 r) ≡ z
     cast_back z r f e = omega (arith, ints)
+
+pub width_small : (a r : ℤ) → FitsSigned w32 a → r ≡ near_of (to_z w32 (of_z w32 a)) (pos 64)
+    → unsigned_abs (to_z w32 (of_z w32 r)) ≤ 2 ^ 25
+width_small a r h e = omega (arith, ap unsigned_abs (width_is a r h e), near_64_small a h)

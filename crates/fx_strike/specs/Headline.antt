@@ -5,6 +5,7 @@ use Rattle.std.specs.Io.KnownBytes.{Appends, Keeps}
 use Rattle.std.specs.List.{sum_by}
 use Rattle.fx_bdf.specs.declared.header.Header.{Header}
 use Rattle.fx_bdf.specs.Glyphs.{Glyph}
+use Rattle.fx_bdf.specs.X11.{summary_of}
 use Rattle.fx_fixed.specs.Numbers.{counted}
 use Rattle.fx_fixed.specs.Chain.{◌>>=◌}
 use Rattle.fx_request.specs.declared.refusal.Refusal.{Refusal}
@@ -120,13 +121,14 @@ surveyed_header ppem survey = record {
   glyphs = survey.report.glyphs;
 }
 
--- the strike exists, and these are the numbers of its header, and what is counted over it
+-- the strike exists, and these are the numbers of its header, what its glyphs settle of its properties, and what is counted over it
 pub record Surveyed (strike : Result Plan Refusal) (survey : Survey) : Type 0 where
   pub plan : Plan
   pub glyphs : List Glyph
   pub is : strike ≡ Ok plan
   pub drawn : AreGlyphsOf plan.sketches glyphs
   pub header : surveyed_header plan.ppem survey ≡ header_of plan glyphs
+  pub summary : survey.summary ≡ summary_of glyphs
   pub told : IsReportOf plan survey.report
 
 -- ---- one character

@@ -27,6 +27,7 @@ use Rattle.fx_bdf.specs.declared.header.Header.{Header}
 use Rattle.fx_bdf.specs.Glyphs.{Glyph, IsTight, IsFormed, glyph_bit, bounds_of}
 use Rattle.fx_bdf.specs.Properties.{PropertyView, first_bad}
 use Rattle.fx_bdf.specs.Text.{is_name, header_text, glyph_text, end_text}
+use Rattle.fx_bdf.specs.X11.{all_properties, summary_of}
 use Rattle.fx_request.specs.declared.request.Mode.{Mode}
 use Rattle.fx_request.specs.declared.refusal.Refusal.{Refusal}
 use Rattle.fx_request.specs.declared.refusal.Refusal.TheVariants.{BadSize, BadChars, BadName, BadProperty}
@@ -142,6 +143,7 @@ one_with setting code = if is_missing setting code then Ok None else map_ok Some
 pub record Plan : Type 0 where
   pub name : List ℕ
   pub properties : List PropertyView
+  pub x11 : Bool
   pub ppem : ℕ
   pub ascent : ℤ
   pub descent : ℤ
@@ -162,6 +164,7 @@ abbrev pub plan_from : Setting → Title → List ℕ → List Sketch → Plan
 plan_from setting title chars sketches = record {
   name = title.name;
   properties = title.properties;
+  x11 = title.x11;
   ppem = setting.ppem;
   ascent = pixels setting.font.hhea.ascender setting.ppem setting.font.head.units_per_em;
   descent = pixels (neg_ℤ setting.font.hhea.descender) setting.ppem setting.font.head.units_per_em;
@@ -297,6 +300,11 @@ header_of plan glyphs = record {
   glyphs = length plan.sketches;
 }
 
+-- the properties beside FONT_ASCENT and FONT_DESCENT
+abbrev pub properties_of : Plan → List Glyph → List PropertyView
+properties_of plan glyphs = all_properties plan.x11 plan.name plan.ppem (summary_of glyphs) plan.properties
+
 -- the text of a strike with these glyphs
 unfoldable pub strike_text : Plan → List Glyph → List ℕ
-strike_text plan glyphs = header_text plan.name plan.properties (header_of plan glyphs) ++ (flat_map glyph_text glyphs ++ end_text)
+strike_text plan glyphs =
+    header_text plan.name (properties_of plan glyphs) (header_of plan glyphs) ++ (flat_map glyph_text glyphs ++ end_text)

@@ -1,4 +1,5 @@
 -- What only private contracts cite.
 pub mod Drawing
+pub mod Gathering
 pub mod Surveying
 pub mod Writing

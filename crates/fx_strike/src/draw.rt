@@ -1,5 +1,5 @@
 //! From a glyph's number to its bits.
-ghost use Rattle.std.specs.Prelude.{◌≡◌, pos, map, All, IfOk, IfErr};
+ghost use Rattle.std.specs.Prelude.{◌≡◌, ◌≤◌, ◌^◌, pos, unsigned_abs, map, All, IfOk, IfErr};
 ghost use Rattle.fx_fixed.specs.Numbers.{near_of};
 ghost use Rattle.fx_winding.specs.Winding.{span_of};
 ghost use Rattle.fx_winding.specs.Bitmaps.{IsScanOf};
@@ -30,8 +30,9 @@ fn near_pixels(advance: i32) -> i32
 }
 
 /// An advance in whole pixels.
-fn whole_pixels(advance: F26) -> i32
-    ensures { result ≡ near_of advance (pos 64) }
+pub(crate) fn whole_pixels(advance: F26) -> i32
+    ensures value { result ≡ near_of advance (pos 64) }
+    ensures size { unsigned_abs result ≤ 2 ^ 25 }
 {
     near_pixels(advance.0)
 }

@@ -1,5 +1,5 @@
 //! The first pass over the characters: a survey of the strike.
-ghost use Rattle.std.specs.Prelude.{◌≡◌, ◌<◌, ◌≤◌, List, ℕ, All, unsigned_abs, length};
+ghost use Rattle.std.specs.Prelude.{◌≡◌, ◌<◌, ◌≤◌, List, ℕ, All, neg_ℤ, unsigned_abs, length};
 ghost use Rattle.fx_request.specs.Limits.{max_characters};
 ghost use Rattle.fx_request.specs.Characters.{rising};
 ghost use Rattle.fx_contour.specs.Contours.{IsInReach, spans_of};
@@ -8,7 +8,7 @@ ghost use Rattle.fx_bdf.specs.Glyphs.{IsPlaced};
 ghost use Rattle.fx_strike.specs.Title.{Title};
 ghost use Rattle.fx_strike.specs.Strike.{Sketch, pixels, setting_with, glyph_sketch_of, plan_with};
 ghost use Rattle.fx_strike.specs.inner.Drawing.{IsFramedBy, IsSketchedOf};
-ghost use Rattle.fx_strike.specs.inner.Surveying.{Joins, SeesOne, Sees, Surveys, survey_from};
+ghost use Rattle.fx_strike.specs.inner.Surveying.{IsNarrow, Joins, SeesOne, Sees, Surveys, survey_from};
 
 use crate::draw::glyph_of;
 use crate::hinter::FontHinter;
@@ -19,7 +19,7 @@ use crate::sketched::Sketched;
 use crate::surveyed::Survey;
 use crate::tools::Tools;
 use crate::within::lies_in;
-use fx_bdf::Bounds;
+use fx_bdf::{Bounds, Summary};
 use fx_fixed::{Ppem, near};
 use fx_machine::Usage;
 use fx_request::{Refusal, Report, rising_codes};
@@ -37,17 +37,32 @@ fn whole_pixels(units: i32, ppem: Ppem, em: u16) -> i32
     ) as i32
 }
 
-/// The survey of the code points that were seen, with what `fpgm` and `prep` used up.
-fn survey_from(prelude: Usage, opened: &Opened<'_>, seen: Seen) -> Survey
-    ensures { result ≡ survey_from prelude opened.now seen }
+/// A font's ascent in whole pixels.
+fn ascent_of(opened: &Opened<'_>) -> i32
+    ensures { result ≡ pixels opened.now.font.hhea.ascender opened.now.ppem opened.now.font.head.units_per_em }
 {
     let em = opened.font.head().units_per_em.funits();
-    let hhea = opened.font.hhea();
+    whole_pixels(i32::from(opened.font.hhea().ascender), opened.ppem, em)
+}
+
+/// A font's descent in whole pixels, counted down.
+fn descent_of(opened: &Opened<'_>) -> i32
+    ensures { result ≡ pixels (neg_ℤ opened.now.font.hhea.descender) opened.now.ppem opened.now.font.head.units_per_em }
+{
+    let em = opened.font.head().units_per_em.funits();
+    whole_pixels(-i32::from(opened.font.hhea().descender), opened.ppem, em)
+}
+
+/// The survey of the code points that were seen, with what `fpgm` and `prep` used up, and what the glyphs settle.
+fn survey_from(prelude: Usage, opened: &Opened<'_>, seen: Seen, summary: Summary) -> Survey
+    ensures { result ≡ survey_from prelude opened.now seen summary }
+{
     let report = seen.report;
     Survey {
         bounds: seen.bounds,
-        ascent: whole_pixels(i32::from(hhea.ascender), opened.ppem, em),
-        descent: whole_pixels(-i32::from(hhea.descender), opened.ppem, em),
+        summary,
+        ascent: ascent_of(opened),
+        descent: descent_of(opened),
         report: Report {
             glyphs: report.glyphs,
             missing: report.missing,
@@ -85,13 +100,14 @@ impl<'a, S: Scan> Tools<'a, S> {
     ) -> Result<(), Refusal>
         requires few { seen.old.report.glyphs < max_characters }
         requires placed { IsPlaced seen.old.bounds }
+        requires narrow { IsNarrow seen.old }
         ensures kept { hinter.new ≡ hinter.old }
         ensures seen { SeesOne (glyph_sketch_of (setting_with self.now.opened self.now.dropout hinter.old) code glyph)
             seen.old seen.new result }
     {
         let sketched = sketch_at(self.alloc, hinter, &self.opened, self.dropout, glyph)?;
         let bounds = self.bounds_with(seen.bounds, code, &sketched)?;
-        seen.add(bounds, &sketched.outline);
+        seen.add(code, bounds, &sketched.outline);
         Ok(())
     }
 
@@ -127,7 +143,8 @@ impl<'a, S: Scan> Tools<'a, S> {
             → Surveys (plan_with (setting_with self.now.opened self.now.dropout hinter.old) title chars) result }
     {
         let seen = self.see(hinter, codes)?;
-        Ok(survey_from(hinter.prelude(), &self.opened, seen))
+        let summary = seen.gathered.summary(seen.report.glyphs);
+        Ok(survey_from(hinter.prelude(), &self.opened, seen, summary))
     }
 
     /// The survey of the strike of characters, whatever its title.

@@ -19,6 +19,7 @@ mod draft;
 mod draw;
 mod faults;
 mod first_pass;
+mod gathered;
 mod hinter;
 pub mod laws;
 mod listing;
@@ -37,6 +38,7 @@ mod surveying;
 mod tools;
 mod within;
 
+pub use fx_bdf::Title;
 pub use listing::listing_of;
 pub use make::{make_strike, make_strike_with};
 pub use one_character::one;

@@ -4,16 +4,15 @@ ghost use Rattle.std.specs.List.{list_any};
 ghost use Rattle.fx_fixed.specs.Chain.{wanted};
 ghost use Rattle.fx_fixed.specs.Sizes.{ppem_of};
 ghost use Rattle.fx_bdf.specs.Properties.{AreProperties, seen_properties};
-ghost use Rattle.fx_bdf.specs.Text.{IsName};
 ghost use Rattle.fx_request.specs.Limits.{max_characters, max_code};
-ghost use Rattle.fx_strike.specs.Title.{titled};
+ghost use Rattle.fx_strike.specs.Title.{title_of, titled};
 ghost use Rattle.fx_strike.specs.Strike.{checked_chars, checked_properties, checked_text, checked_title, font_with_map};
 ghost use Rattle.fx_strike.specs.Strike.{opened_one_of, opened_at};
-ghost use Rattle.fx_strike.specs.inner.Surveying.{AreChars};
+ghost use Rattle.fx_strike.specs.inner.Surveying.{AreChars, IsChecked};
 ghost use Rattle.fx_strike.specs.Headline.{IsCause, opening_of};
 
 use crate::opened::Opened;
-use fx_bdf::{Property, check_name, first_bad};
+use fx_bdf::{Property, Title, check_name, first_bad};
 use fx_cmap::CharMap;
 use fx_fixed::Ppem;
 use fx_request::{MAX_CHARACTERS, MAX_CODE, Refusal, Request};
@@ -72,33 +71,38 @@ fn check_properties(properties: &[Property<'_>]) -> Result<(), Refusal>
 
 /// Whether a name and properties are within their limits.
 #[tactic(auto, unfolding(crate::specs::Strike::checked_title))]
-fn check_title(name: &str, properties: &[Property<'_>]) -> Result<(), Refusal>
-    ensures due { result ≡ checked_title (titled name.now properties.now) }
+fn check_title(title: &Title<'_>) -> Result<(), Refusal>
+    ensures due { result ≡ checked_title (titled title.now) }
     ensures named { IfErr result IsCause }
-    ensures name { OnOk result (IsName name.now) }
-    ensures good { OnOk result (AreProperties (seen_properties properties.now)) }
+    ensures title { OnOk result (IsChecked (titled title.now)) }
 {
-    if check_name(name).is_err() {
+    if check_name(title.name).is_err() {
         return Err(Refusal::BadName);
     }
-    check_properties(properties)
+    check_properties(title.properties)
 }
 
 /// Whether characters, a name and properties are within their limits.
 #[tactic(auto, unfolding(crate::specs::Strike::checked_text))]
-pub(crate) fn check_text(
-    name: &str,
-    properties: &[Property<'_>],
-    chars: &[u32],
-) -> Result<(), Refusal>
-    ensures due { result ≡ checked_text (titled name.now properties.now) chars.now }
+pub(crate) fn check_text(title: &Title<'_>, chars: &[u32]) -> Result<(), Refusal>
+    ensures due { result ≡ checked_text (titled title.now) chars.now }
     ensures named { IfErr result IsCause }
     ensures passed { OnOk result (AreChars chars.now) }
-    ensures name { OnOk result (IsName name.now) }
-    ensures good { OnOk result (AreProperties (seen_properties properties.now)) }
+    ensures title { OnOk result (IsChecked (titled title.now)) }
 {
     check_chars(chars)?;
-    check_title(name, properties)
+    check_title(title)
+}
+
+/// The title of a request.
+pub(crate) fn title_of<'a>(request: &Request<'a>) -> Title<'a>
+    ensures { titled result ≡ title_of request.now }
+{
+    Title {
+        name: request.name,
+        properties: request.properties,
+        x11: request.x11,
+    }
 }
 
 /// A font with its character map.
@@ -118,11 +122,10 @@ pub(crate) fn open<'a>(file: &'a [u8], request: &Request<'_>) -> Result<Opened<'
     ensures due { result ≡ opening_of file.now request.now }
     ensures named { IfErr result IsCause }
     ensures passed { OnOk result (AreChars request.now.chars.now) }
-    ensures name { OnOk result (IsName request.now.name.now) }
-    ensures good { OnOk result (AreProperties (seen_properties request.now.properties.now)) }
+    ensures title { OnOk result (IsChecked (title_of request.now)) }
 {
     let ppem = sized(request.ppem)?;
-    check_text(request.name, request.properties, request.chars)?;
+    check_text(&title_of(request), request.chars)?;
     let (font, map) = font_with_map(file)?;
     Ok(Opened { ppem, font, map })
 }

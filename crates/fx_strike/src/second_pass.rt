@@ -3,7 +3,7 @@ ghost use Rattle.std.specs.Prelude.{◌≡◌, ◌≤◌, ◌<◌, ◌^◌, ◌+
 ghost use Rattle.std.specs.List.{list_any};
 ghost use Rattle.fx_fixed.specs.Texts.{Adds, length_of};
 ghost use Rattle.fx_cmap.specs.Lookup.{glyph_for};
-ghost use Rattle.fx_bdf.specs.Properties.{AreProperties, seen_properties};
+ghost use Rattle.fx_bdf.specs.Properties.{AreLines, seen_properties};
 ghost use Rattle.fx_bdf.specs.Text.{IsName, header_text, end_text, longest_glyph};
 ghost use Rattle.fx_request.specs.Limits.{max_characters, max_code};
 ghost use Rattle.fx_fixed.specs.Changes.{change_of};
@@ -80,7 +80,7 @@ impl<'a, S: Scan> Tools<'a, S> {
     ) -> Result<(), Refusal>
         requires faults { text.old.faults < 2 ^ 63 }
         requires name { IsName draft.now.name.now }
-        requires properties { AreProperties (seen_properties draft.now.properties.now) }
+        requires properties { AreLines (seen_properties draft.now.properties.now) }
         requires few { length draft.now.codes.now ≤ max_characters }
         requires small { list_any (nat_lt max_code) draft.now.codes.now ≡ false }
         ensures kept { hinter.new ≡ hinter.old }
@@ -108,7 +108,7 @@ impl<'a, S: Scan> Tools<'a, S> {
     ) -> Result<(), Refusal>
         requires faults { W.fault_count out.old < 2 ^ 63 }
         requires name { IsName draft.now.name.now }
-        requires properties { AreProperties (seen_properties draft.now.properties.now) }
+        requires properties { AreLines (seen_properties draft.now.properties.now) }
         requires few { length draft.now.codes.now ≤ max_characters }
         requires small { list_any (nat_lt max_code) draft.now.codes.now ≡ false }
         ensures kept { hinter.new ≡ hinter.old }

@@ -1,21 +1,24 @@
 //! What is seen of the characters so far.
 
+use crate::draw::whole_pixels;
+use crate::gathered::Gathered;
 use fx_bdf::Bounds;
 use fx_hint::Outline;
 use fx_machine::Usage;
 use fx_request::Report;
 
-/// The least box that holds the boxes of the glyphs so far, and what is counted over them.
+/// The least box that holds the boxes of the glyphs so far, what is gathered of them, and what is counted over them.
 #[derive(Clone, Copy)]
 pub(crate) struct Seen {
     pub bounds: Bounds,
+    pub gathered: Gathered,
     pub report: Report,
 }
 
 impl Seen {
     ghost use Rattle.std.specs.Prelude.{◌<◌};
     ghost use Rattle.fx_request.specs.Limits.{max_characters};
-    ghost use Rattle.fx_strike.specs.inner.Surveying.{IsEmpty, Adds};
+    ghost use Rattle.fx_strike.specs.inner.Surveying.{IsEmpty, IsNarrow, Adds};
 
     /// No character.
     pub(crate) fn new() -> Seen
@@ -23,6 +26,7 @@ impl Seen {
     {
         Seen {
             bounds: Bounds::NONE,
+            gathered: Gathered::new(),
             report: Report {
                 glyphs: 0,
                 missing: 0,
@@ -31,12 +35,15 @@ impl Seen {
         }
     }
 
-    /// Adds a character: the box of the glyphs up to it, and what its programs counted.
-    pub(crate) fn add(&mut self, bounds: Bounds, outline: &Outline)
+    /// Adds a character: its code point, the box of the glyphs up to it, its advance, and what its programs counted.
+    pub(crate) fn add(&mut self, code: u32, bounds: Bounds, outline: &Outline)
         requires few { self.old.report.glyphs < max_characters }
-        ensures { Adds self.old self.new bounds outline.now }
+        requires narrow { IsNarrow self.old }
+        ensures { Adds self.old self.new code bounds outline.now }
     {
+        let dwidth = whole_pixels(outline.advance);
         self.bounds = bounds;
+        self.gathered = self.gathered.with(code, dwidth);
         self.report.glyphs += 1;
         self.report.usage = self.report.usage.plus(outline.usage);
     }

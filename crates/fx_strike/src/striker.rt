@@ -1,23 +1,21 @@
 //! A font at a size, ready to make its characters.
 ghost use Rattle.std.specs.Prelude.{◌≡◌, ◌<◌, ◌^◌, ◌≤◌, ℕ, List, [], ◌∷◌, Ok, IfOk, IfErr, IsErrOf, length};
 ghost use Rattle.fx_fixed.specs.Chain.{GivesUnless};
-ghost use Rattle.fx_bdf.specs.Properties.{AreProperties, seen_properties};
-ghost use Rattle.fx_bdf.specs.Text.{IsName};
 ghost use Rattle.fx_request.specs.Limits.{max_characters};
 ghost use Rattle.fx_fixed.specs.Changes.{change_of};
 ghost use Rattle.fx_strike.specs.Faults.{Fails};
-ghost use Rattle.fx_strike.specs.Title.{Title, titled};
+ghost use Rattle.fx_strike.specs.Title.{titled};
 ghost use Rattle.fx_strike.specs.Strike.{setting_in, setting_of, opened_at, checked_chars, checked_text, plan_with, one_with};
 ghost use Rattle.fx_strike.specs.Headline.{IsOneOf, Surveyed, Makes, Leaves, Late, strike_with, nameless_with, character_with};
 ghost use Rattle.fx_strike.specs.inner.Drawing.{Finds};
-ghost use Rattle.fx_strike.specs.inner.Surveying.{AreChars, Surveys};
+ghost use Rattle.fx_strike.specs.inner.Surveying.{AreChars, IsChecked, SurveysNameless};
 
 use crate::hinter::{FontHinter, hinter_at};
 use crate::open::{check_chars, check_text, open_at};
 use crate::opened::Opened;
 use crate::surveyed::Survey;
 use crate::tools::Tools;
-use fx_bdf::{BitGlyph, Property};
+use fx_bdf::{BitGlyph, Title};
 use fx_fixed::Sink;
 use fx_request::{Mode, Refusal, Report};
 use fx_rows::Rows;
@@ -157,21 +155,19 @@ impl<'a, S: Scan> Striker<'a, S> {
     /// written.
     pub fn write<W: Sink>(
         &mut self,
-        name: &str,
-        properties: &[Property<'_>],
+        title: &Title<'_>,
         chars: &[u32],
         out: &mut W,
     ) -> Result<Report, Refusal>
         requires { W.fault_count out.old < 2 ^ 63 }
         // Five clauses: `text`, `cause`, `memory`, `late` and `writer`.
-        ensures made { Makes (checked_text (titled name.now properties.now) chars.now)
-            (strike_with self.old (titled name.now properties.now) chars.now)
+        ensures made { Makes (checked_text (titled title.now) chars.now) (strike_with self.old (titled title.now) chars.now)
             (change_of W.held W.fault_count out.old out.new) result }
         // Nothing of it has a part in what is made next.
         ensures kept { self.new ≡ self.old }
     {
-        check_text(name, properties, chars)?;
-        self.write_checked(name, properties, chars, out)
+        check_text(title, chars)?;
+        self.write_checked(title, chars, out)
     }
 
     /// The glyph of a code point within the limit.
@@ -185,29 +181,26 @@ impl<'a, S: Scan> Striker<'a, S> {
     /// The survey of characters within their limits.
     pub(crate) fn survey_checked(&mut self, chars: &[u32]) -> Result<Survey, Refusal>
         requires few { length chars.now ≤ max_characters }
-        ensures survey { (title : Title) → Surveys (plan_with self.old title chars.now) result }
+        ensures survey { SurveysNameless self.old chars.now result }
         ensures kept { self.new ≡ self.old }
     {
         self.tools.survey_chars(&mut self.hinter, chars)
     }
 
-    /// Writes the strike of characters and a name within their limits.
+    /// Writes the strike of characters and a title within their limits.
     pub(crate) fn write_checked<W: Sink>(
         &mut self,
-        name: &str,
-        properties: &[Property<'_>],
+        title: &Title<'_>,
         chars: &[u32],
         out: &mut W,
     ) -> Result<Report, Refusal>
         requires faults { W.fault_count out.old < 2 ^ 63 }
         requires chars { AreChars chars.now }
-        requires name { IsName name.now }
-        requires properties { AreProperties (seen_properties properties.now) }
-        ensures leaves { Leaves {Y = Unit {0}} (Ok tt) (plan_with self.old (titled name.now properties.now) chars.now)
+        requires title { IsChecked (titled title.now) }
+        ensures leaves { Leaves {Y = Unit {0}} (Ok tt) (plan_with self.old (titled title.now) chars.now)
             (change_of W.held W.fault_count out.old out.new) result }
         ensures kept { self.new ≡ self.old }
     {
-        self.tools
-            .write_strike(&mut self.hinter, name, properties, chars, out)
+        self.tools.write_strike(&mut self.hinter, title, chars, out)
     }
 }

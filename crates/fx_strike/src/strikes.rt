@@ -1,18 +1,16 @@
 //! From characters to what a striker makes of them, once the checks passed.
 ghost use Rattle.std.specs.Prelude.{◌≡◌, ◌<◌, ◌^◌, ℕ, List, Ok, IfOk};
-ghost use Rattle.fx_bdf.specs.Properties.{AreProperties, seen_properties};
-ghost use Rattle.fx_bdf.specs.Text.{IsName};
 ghost use Rattle.fx_fixed.specs.Changes.{change_of};
 ghost use Rattle.fx_strike.specs.Title.{titled};
 ghost use Rattle.fx_strike.specs.Strike.{setting_with, plan_with, one_with};
 ghost use Rattle.fx_strike.specs.Headline.{Leaves};
 ghost use Rattle.fx_strike.specs.inner.Drawing.{Finds};
-ghost use Rattle.fx_strike.specs.inner.Surveying.{AreChars};
+ghost use Rattle.fx_strike.specs.inner.Surveying.{AreChars, IsChecked};
 
 use crate::draft::Draft;
 use crate::hinter::FontHinter;
 use crate::tools::Tools;
-use fx_bdf::{BitGlyph, Property};
+use fx_bdf::{BitGlyph, Title};
 use fx_fixed::Sink;
 use fx_request::{Refusal, Report, rising_codes};
 use fx_winding::Scan;
@@ -40,26 +38,26 @@ impl<'a, S: Scan> Tools<'a, S> {
     pub(crate) fn write_strike<W: Sink>(
         &self,
         hinter: &mut FontHinter<'_>,
-        name: &str,
-        properties: &[Property<'_>],
+        title: &Title<'_>,
         chars: &[u32],
         out: &mut W,
     ) -> Result<Report, Refusal>
         requires faults { W.fault_count out.old < 2 ^ 63 }
         requires chars { AreChars chars.now }
-        requires name { IsName name.now }
-        requires properties { AreProperties (seen_properties properties.now) }
+        requires title { IsChecked (titled title.now) }
         ensures kept { hinter.new ≡ hinter.old }
         ensures leaves { Leaves {Y = Unit {0}} (Ok tt)
-            (plan_with (setting_with self.now.opened self.now.dropout hinter.old) (titled name.now properties.now) chars.now)
+            (plan_with (setting_with self.now.opened self.now.dropout hinter.old) (titled title.now) chars.now)
             (change_of W.held W.fault_count out.old out.new) result }
     {
         let codes = rising_codes(self.alloc, chars)?;
         let survey = self.survey_codes(hinter, &codes)?;
-        let header = survey.header(self.opened.ppem);
+        let ppem = self.opened.ppem;
+        let header = survey.header(ppem);
+        let properties = title.all_properties(self.alloc, ppem.pixels(), survey.summary)?;
         let draft = Draft {
-            name,
-            properties,
+            name: title.name,
+            properties: &properties,
             header,
             codes: &codes,
         };

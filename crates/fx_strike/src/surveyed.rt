@@ -1,14 +1,17 @@
 //! What is known of a strike before it is written.
 
-use fx_bdf::{Bounds, Header};
+use fx_bdf::{Bounds, Header, Summary};
 use fx_fixed::Ppem;
 use fx_request::Report;
 
-/// What is known of a strike before its first byte is written: the numbers of its header, and what is counted over it.
+/// What is known of a strike before its first byte is written: the numbers of its header, what its
+/// glyphs settle of its properties, and what is counted over it.
 #[derive(Clone, Copy, Debug, PartialEq, Eq)]
 pub struct Survey {
     /// The least box that holds the boxes of all glyphs.
     pub bounds: Bounds,
+    /// What the glyphs settle of the properties of X11.
+    pub summary: Summary,
     /// The font's ascent in pixels.
     pub ascent: i32,
     /// The font's descent in pixels.

@@ -28,7 +28,7 @@ AreNamesAlike a b = (b ≡ a) ⊎ ((is_name a ≡ false) × (is_name b ≡ false
 
 -- what a strike of C is called: it has no properties beside FONT_ASCENT and FONT_DESCENT
 abbrev pub plain : List ℕ → Title
-plain name = record { name = name; properties = [] }
+plain name = record { name = name; properties = []; x11 = false }
 
 -- what C is told of a strike
 abbrev pub told_of : List ℕ → Report → Told

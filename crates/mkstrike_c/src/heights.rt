@@ -39,6 +39,7 @@ fn heights_of(alloc: Global, font: &[u8], ppem: u16) -> Result<Heights, Refusal>
         ppem,
         name: "heights",
         properties: &[],
+        x11: false,
         chars: &[],
         hinting: false,
     };

@@ -83,6 +83,7 @@ fn text_for(
         ppem,
         name: name_of(name),
         properties: &[],
+        x11: false,
         chars,
         hinting,
     };

@@ -22,3 +22,5 @@ mod pointops;
 mod scale;
 #[cfg(test)]
 mod stackops;
+#[cfg(test)]
+mod x11;

@@ -1,9 +1,12 @@
 -- What is seen of code points so far, before the first byte of a strike is written.
-use Rattle.std.specs.Prelude.{◌≡◌, neg_ℤ, ℕ, ◌+◌, ◌≤◌, nat_lt, false, List, length, map, Result, Ok, Err}
+use Rattle.std.specs.Prelude.{◌≡◌, neg_ℤ, pos, ℕ, ◌+◌, ◌*◌, ◌^◌, ◌≤◌, nat_lt, false, List, [], length, map, Result, Ok, Err}
 use Rattle.std.specs.List.{sum_by, count_by, list_any}
-use Rattle.fx_fixed.specs.Numbers.{counted}
+use Rattle.fx_fixed.specs.Numbers.{counted, near_of}
 use Rattle.fx_hint.specs.declared.points.Outline.{Outline}
 use Rattle.fx_bdf.specs.Glyphs.{Box, Glyph, IsPlaced, no_box, joined, bounds_of}
+use Rattle.fx_bdf.specs.declared.summary.Summary.{Summary}
+use Rattle.fx_bdf.specs.Properties.{AreProperties}
+use Rattle.fx_bdf.specs.Text.{IsName}
 use Rattle.fx_request.specs.declared.refusal.Refusal.{Refusal}
 use Rattle.fx_request.specs.declared.refusal.Refusal.TheVariants.{OutOfMemory}
 use Rattle.fx_machine.specs.declared.usage.Usage.{Usage}
@@ -13,24 +16,38 @@ use Rattle.fx_strike.specs.declared.seen.Seen.{Seen}
 use Rattle.fx_strike.specs.declared.surveyed.Survey.{Survey}
 use Rattle.fx_strike.specs.Faults.{Fails}
 use Rattle.fx_request.specs.Limits.{max_characters, max_code}
-use Rattle.fx_strike.specs.Strike.{Sketch, Setting, Plan, IsGlyphOf, AreGlyphsOf, is_missing, sketches_of, pixels}
+use Rattle.fx_strike.specs.Strike.{Sketch, Setting, Plan, IsGlyphOf, AreGlyphsOf, is_missing, sketches_of, pixels, plan_with}
 use Rattle.fx_strike.specs.Headline.{Surveyed}
+use Rattle.fx_strike.specs.Title.{Title}
+use Rattle.fx_strike.specs.inner.Gathering.{IsGatheredOf, gathered_with}
 
 -- characters within their limits
 pub record AreChars (chars : List ℕ) : Type 0 where
   pub few : length chars ≤ max_characters
   pub small : list_any (nat_lt max_code) chars ≡ false
 
+-- a title within its limits
+pub record IsChecked (title : Title) : Type 0 where
+  pub name : IsName title.name
+  pub properties : AreProperties title.properties
+
+-- an advance has at most 2 ^ 25 pixels
+abbrev pub IsNarrow : Seen → Type 0
+IsNarrow seen = seen.gathered.total ≤ 2 ^ 25 * seen.report.glyphs
+
 -- no character
 pub record IsEmpty (new : Seen) : Type 0 where
   pub bounds : new.bounds ≡ no_box
+  pub gathered : IsGatheredOf [] new.gathered
   pub glyphs : new.report.glyphs ≡ 0
   pub missing : new.report.missing ≡ 0
   pub usage : new.report.usage ≡ no_usage
 
--- one character more: the box of the glyphs up to it, and what its programs used up
-pub record Adds (old new : Seen) (bounds : Box) (outline : Outline) : Type 0 where
+-- one character more: its code point, the box of the glyphs up to it, its advance, and what its programs used up
+pub record Adds (old new : Seen) (code : ℕ) (bounds : Box) (outline : Outline) : Type 0 where
   pub bounds_is : new.bounds ≡ bounds
+  pub gathered : new.gathered ≡ gathered_with old.gathered code (near_of outline.advance (pos 64))
+  pub narrow : IsNarrow new
   pub glyphs : new.report.glyphs ≡ old.report.glyphs + 1
   pub missing : new.report.missing ≡ old.report.missing
   pub usage : new.report.usage ≡ usage_with old.report.usage outline.usage
@@ -46,6 +63,8 @@ pub record Has (sketch : Sketch) (old new : Seen) : Type 0 where
   pub drawn : IsGlyphOf sketch glyph
   pub bounds : new.bounds ≡ joined old.bounds glyph.box
   pub placed : IsPlaced new.bounds
+  pub gathered : new.gathered ≡ gathered_with old.gathered sketch.code sketch.dwidth
+  pub narrow : IsNarrow new
   pub glyphs : new.report.glyphs ≡ old.report.glyphs + 1
   pub missing : new.report.missing ≡ old.report.missing
   pub usage : new.report.usage ≡ usage_with old.report.usage sketch.usage
@@ -64,6 +83,8 @@ pub record Holds (setting : Setting) (codes : List ℕ) (seen : Seen) : Type 0
     pub drawn : AreGlyphsOf sketches glyphs
     pub bounds : seen.bounds ≡ bounds_of (map (λ g. g.box) glyphs)
     pub placed : IsPlaced seen.bounds
+    pub gathered : IsGatheredOf glyphs seen.gathered
+    pub narrow : IsNarrow seen
     pub count : seen.report.glyphs ≡ length sketches
     pub missing : seen.report.missing ≡ count_by (is_missing setting) codes
     pub strays : seen.report.usage.strays ≡ counted (sum_by (λ s. s.usage.strays) sketches)
@@ -75,10 +96,11 @@ abbrev pub Sees : Setting → List ℕ → Result Seen Refusal → Type 0
 Sees setting codes (Ok seen) = Holds setting codes seen
 Sees setting codes (Err refusal) = Fails refusal (sketches_of setting codes)
 
--- the survey of the code points that were seen, with what `fpgm` and `prep` used up
-abbrev pub survey_from : Usage → Opened → Seen → Survey
-survey_from prelude opened seen = record {
+-- the survey of the code points that were seen, with what `fpgm` and `prep` used up, and what the glyphs settle
+abbrev pub survey_from : Usage → Opened → Seen → Summary → Survey
+survey_from prelude opened seen summary = record {
   bounds = seen.bounds;
+  summary = summary;
   ascent = pixels opened.font.hhea.ascender opened.ppem opened.font.head.units_per_em;
   descent = pixels (neg_ℤ opened.font.hhea.descender) opened.ppem opened.font.head.units_per_em;
   report = record {
@@ -92,3 +114,7 @@ survey_from prelude opened seen = record {
 abbrev pub Surveys : Result Plan Refusal → Result Survey Refusal → Type 0
 Surveys due (Ok survey) = Surveyed due survey
 Surveys due (Err refusal) = Fails refusal due
+
+-- that of characters, whatever their title
+abbrev pub SurveysNameless : Setting → List ℕ → Result Survey Refusal → Type 0
+SurveysNameless setting chars result = (title : Title) → Surveys (plan_with setting title chars) result

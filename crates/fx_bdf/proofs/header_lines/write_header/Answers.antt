@@ -5,7 +5,6 @@ use Rattle.std.proofs.lemmas.Result.{err_from_is_err_and}
 use Rattle.fx_fixed.proofs.Texts.{adds_then, adds_stopped, adds_text, adds_out}
 use Rattle.fx_bdf.specs.Properties.{seen_properties, seen_property}
 use Rattle.fx_bdf.specs.Text.{back_text, front_text, header_text}
-use Rattle.fx_bdf.proofs.GoodProperties.{few_properties}
 use Rattle.fx_bdf.proofs.Headers.{back_number, header_long}
 use Rattle.fx_bdf.proofs.header_lines.write_header.Goals as goal
 
@@ -13,7 +12,7 @@ pub add_front-requires-clause-count : goal.add_front-requires-clause-count
 add_front-requires-clause-count g c =
     omega (
       arith,
-      few_properties (seen_properties c.args.properties.now) c.requires.properties,
+      c.requires.properties.few,
       length-map c.args.properties.now seen_property,
     )
 

@@ -23,5 +23,5 @@ returns-clause-glyph g c sketch is e =
     glyph_whole sketch c.args.sketched.now (map span_of c.in_ok-pieces.pieces) c.in_ok-bitmap.bitmap _ c.args.code _ _ _
     c.in_ok-bitmap.ensures.bits c.of.ensures
     (omega (arith, ints)) (omega (arith, ints))
-    (let r : FitsSigned w32 c.whole_pixels-dwidth.result = search rules in simp to_z-of_z (c.whole_pixels-dwidth.ensures))
+    (let r : FitsSigned w32 c.whole_pixels-dwidth.result = search rules in simp to_z-of_z (c.whole_pixels-dwidth.ensures.value))
     is e (sketch_spans sketch c.args.sketched.now (map span_of c.in_ok-pieces.pieces) is c.in_ok-pieces.ensures.ok)

@@ -1,6 +1,6 @@
 use Rattle.std.proofs.Common.{refl, Ok}
 use Rattle.std.proofs.lemmas.Result.{err_from_is_err_and}
-use Rattle.fx_strike.proofs.Making.{keeps_same, cause_makes, fails_makes, leaves_makes}
+use Rattle.fx_strike.proofs.Making.{keeps_same, cause_makes, fails_makes, leaves_makes, leaves_titled}
 use Rattle.fx_strike.proofs.Prepared.{is_ok, plan_unopened, plan_unset, plan_set}
 use Rattle.fx_strike.proofs.make.make_strike_with.Goals as goal
 
@@ -22,4 +22,4 @@ pub returns : goal.returns
 returns g c =
     leaves_makes {X = Unit {0}} (Ok (tt {0})) _ _ _ _ c.write_checked.result (is_ok _ _ (c.in_ok-opened.ensures).due)
     (plan_set _ _ _ _ c.args.request.now.mode _ _ (c.in_ok-opened.ensures).due c.in_ok-striker.ensures)
-    c.write_checked.ensures.leaves
+    (leaves_titled {Y = Unit {0}} (Ok (tt {0})) _ _ _ _ _ c.write_checked.result c.title_of.ensures c.write_checked.ensures.leaves)

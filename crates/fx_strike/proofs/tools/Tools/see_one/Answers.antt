@@ -13,9 +13,10 @@ returns-in_err-bounds-clause-seen g c =
 
 pub returns-clause-seen : goal.returns-clause-seen
 returns-clause-seen g c =
-    let s = c.in_ok-sketched.ensures.sketch c.args.code in (
+    let s = c.in_ok-sketched.ensures.sketch c.args.code in
+    let code = sketch_code _ c.args.code _ s.0 s.1 in (
       s.0,
       s.1,
-      has_added s.0 c.in_ok-sketched.sketched c.args.seen.now c.add.new.self c.in_ok-bounds.bounds s.2
-          (c.in_ok-bounds.ensures s.0 s.2 (sketch_code _ c.args.code _ s.0 s.1)) c.add.ensures,
+      has_added s.0 c.in_ok-sketched.sketched c.args.seen.now c.add.new.self c.args.code c.in_ok-bounds.bounds s.2 code
+          (c.in_ok-bounds.ensures s.0 s.2 code) c.add.ensures,
     )

@@ -1,0 +1,134 @@
+-- What is gathered of glyphs, one after the other.
+-- Serves `see`, `survey_codes` and the functions of `Gathered`.
+use Rattle.std.proofs.Common.{◌≡◌, ◌∙◌, ℕ, ◌+◌, ◌*◌, ◌^◌, ◌<◌, ◌≤◌, suc, ℤ, pos, Bool, true, false, ◌&&◌, ◌||◌, List, [], ◌∷◌, ◌++◌}
+use Rattle.std.proofs.Common.{length, map, refl, sym, ap, ap₂, arith, Option, Some, FitsSigned, w32, to_z, of_z}
+use Rattle.std.specs.Prelude.{slice_get, unsigned_abs, unwrap_or, ◌==◌, if◌then◌else◌}
+use Rattle.std.proofs.lemmas.Bool.Decides.{nat_tests}
+use Rattle.std.specs.List.{list_all, list_any}
+use Rattle.std.specs.Int.{w128}
+use Rattle.std.specs.Ordering.{int_eq}
+use Rattle.std.proofs.lemmas.List.{map-append}
+use Rattle.std.proofs.lemmas.List.Sums.{sum_by_push}
+use Rattle.std.proofs.lemmas.Int.{ints}
+use Rattle.std.proofs.lemmas.Nat.{div_below}
+use Rattle.fx_fixed.specs.Numbers.{near_of, near_size}
+use Rattle.fx_bdf.specs.Glyphs.{Glyph}
+use Rattle.fx_bdf.specs.X11.{are_one, mean_of, summary_of}
+use Rattle.fx_strike.specs.declared.gathered.Gathered.{Gathered}
+use Rattle.fx_strike.specs.Strike.{Sketch, AreGlyphsOf}
+use Rattle.fx_strike.specs.inner.Gathering.{IsGatheredOf, agrees, gathered_with, summary_with}
+
+-- ---- one element more
+
+any_push : {X : Type 0} (p : X → Bool) (xs : List X) (x : X) → list_any p (xs ++ x ∷ []) ≡ (list_any p xs || p x)
+any_push p [] x = by (p x)
+  where
+    by : (b : Bool) → (b || false) ≡ b
+    by true = refl
+    by false = refl
+any_push p (y ∷ ys) x = by (p y) (any_push p ys x)
+  where
+    by : (b : Bool) → list_any p (ys ++ x ∷ []) ≡ (list_any p ys || p x)
+        → (b || list_any p (ys ++ x ∷ [])) ≡ ((b || list_any p ys) || p x)
+    by true e = refl
+    by false e = e
+
+all_push : {X : Type 0} (p : X → Bool) (xs : List X) (x : X) → list_all p (xs ++ x ∷ []) ≡ (list_all p xs && p x)
+all_push p [] x = by (p x)
+  where
+    by : (b : Bool) → (b && true) ≡ b
+    by true = refl
+    by false = refl
+all_push p (y ∷ ys) x = by (p y) (all_push p ys x)
+  where
+    by : (b : Bool) → list_all p (ys ++ x ∷ []) ≡ (list_all p ys && p x)
+        → (b && list_all p (ys ++ x ∷ [])) ≡ ((b && list_all p ys) && p x)
+    by true e = e
+    by false e = refl
+
+one_push : (ns : List ℤ) (n : ℤ) → are_one (ns ++ n ∷ []) ≡ (are_one ns && agrees (slice_get ns 0) n)
+one_push [] n = refl
+one_push (m ∷ ms) n = all_push (λ k. int_eq k m) ms n
+
+first_push : (ns : List ℤ) (n : ℤ) → Some (unwrap_or (slice_get ns 0) n) ≡ slice_get (ns ++ n ∷ []) 0
+first_push [] n = refl
+first_push (m ∷ ms) n = refl
+
+-- ---- one glyph more
+
+pub gathered_push : (glyphs : List Glyph) (g : Glyph) (old new : Gathered) → IsGatheredOf glyphs old
+    → new ≡ gathered_with old g.code g.dwidth → IsGatheredOf (glyphs ++ g ∷ []) new
+gathered_push glyphs g old new h e =
+    let dwidths = map (λ (x : Glyph). x.dwidth) glyphs in
+    let more : dwidths ++ g.dwidth ∷ [] ≡ map (λ (x : Glyph). x.dwidth) (glyphs ++ g ∷ []) =
+    sym (map-append (λ (x : Glyph). x.dwidth) glyphs (g ∷ [])) in
+    record {
+      total = ap (λ (x : Gathered). x.total) e ∙ ap (λ (n : ℕ). n + unsigned_abs g.dwidth) h.total
+          ∙ sym (sum_by_push (λ (x : Glyph). unsigned_abs x.dwidth) glyphs g);
+      first = ap (λ (x : Gathered). x.first) e ∙ ap (λ (o : Option ℤ). Some (unwrap_or o g.dwidth)) h.first
+          ∙ first_push dwidths g.dwidth ∙ ap (λ (ns : List ℤ). slice_get ns 0) more;
+      monospaced = ap (λ (x : Gathered). x.is_monospaced) e
+          ∙ ap₂ (λ (b : Bool) (o : Option ℤ). b && agrees o g.dwidth) h.monospaced h.first
+          ∙ sym (one_push dwidths g.dwidth) ∙ ap are_one more;
+      replacement = ap (λ (x : Gathered). x.has_replacement) e ∙ ap (λ (b : Bool). b || g.code == 65533) h.replacement
+          ∙ sym (any_push (λ (x : Glyph). x.code == 65533) glyphs g);
+      space = ap (λ (x : Gathered). x.has_space) e ∙ ap (λ (b : Bool). b || g.code == 32) h.space
+          ∙ sym (any_push (λ (x : Glyph). x.code == 32) glyphs g);
+    }
+
+-- ---- all glyphs
+
+-- as many as there are sketches
+pub as_many : (ss : List Sketch) (gs : List Glyph) → AreGlyphsOf ss gs → length ss ≡ length gs
+as_many [] [] h = refl
+as_many (s ∷ ss) (g ∷ gs) h = ap suc (as_many ss gs h.1)
+as_many [] (g ∷ gs) h = absurd h
+as_many (s ∷ ss) [] h = absurd h
+
+pub summary_is : (glyphs : List Glyph) (gathered : Gathered) (count : ℕ) → IsGatheredOf glyphs gathered → count ≡ length glyphs
+    → summary_with gathered count ≡ summary_of glyphs
+summary_is glyphs gathered count h e = λ i. record {
+  is_monospaced = h.monospaced i;
+  average_width = ap₂ mean_of h.total e i;
+  has_replacement = h.replacement i;
+  has_space = h.space i;
+}
+
+-- ---- the mean
+
+-- a mean of sizes of at most 2 ^ 25 pixels, ten times
+mean_small : (total count : ℕ) → 0 < count → total ≤ 2 ^ 25 * count → near_size (10 * total) count ≤ 335544320
+mean_small total count some few =
+    let below = div_below (2 * (10 * total) + count) (2 * count) 335544321 (omega (arith, some)) (omega (arith, some, few)) in
+    omega (arith, below)
+
+pub mean_fits : (total count : ℕ) → 0 < count → total ≤ 2 ^ 25 * count → FitsSigned w32 (near_of (pos (10 * total)) (pos count))
+unfolding near_of
+mean_fits total count some few = omega (arith, ints, mean_small total count some few)
+
+-- the mean as the code casts it
+mean_some : (total count : ℕ) → 0 < count → near_of (pos (10 * total)) (pos count) ≡ mean_of total count
+mean_some total count h = by (count == 0) (grind (arith, nat_tests))
+  where
+    by : (b : Bool) → b ≡ false
+        → near_of (pos (10 * total)) (pos count) ≡ (if b then pos 0 else near_of (pos (10 * total)) (pos count))
+    by true e = absurd (cc)
+    by false e = refl
+
+pub mean_cast : (total count : ℕ) (n d r : ℤ) → r ≡ near_of n d → n ≡ pos (10 * total) → d ≡ pos count → 0 < count
+    → total ≤ 2 ^ 25 * count → FitsSigned w32 (to_z w128 (of_z w128 r))
+mean_cast total count n d r e en ed some few =
+    let is : r ≡ near_of (pos (10 * total)) (pos count) = e ∙ ap₂ near_of en ed in
+    cast_fits _ r (mean_fits total count some few) is
+  where
+    cast_fits : (z r : ℤ) → FitsSigned w32 z → r ≡ z → FitsSigned w32 (to_z w128 (of_z w128 r))
+    cast_fits z r h e = omega (arith, ints)
+
+pub mean_is : (total count : ℕ) (n d r : ℤ) → r ≡ near_of n d → n ≡ pos (10 * total) → d ≡ pos count → 0 < count
+    → total ≤ 2 ^ 25 * count → to_z w32 (of_z w32 (to_z w128 (of_z w128 r))) ≡ mean_of total count
+mean_is total count n d r e en ed some few =
+    let is : r ≡ near_of (pos (10 * total)) (pos count) = e ∙ ap₂ near_of en ed in
+    cast_is _ r (mean_fits total count some few) is ∙ mean_some total count some
+  where
+    cast_is : (z r : ℤ) → FitsSigned w32 z → r ≡ z → to_z w32 (of_z w32 (to_z w128 (of_z w128 r))) ≡ z
+    cast_is z r h e = omega (arith, ints)
