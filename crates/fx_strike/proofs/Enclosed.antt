@@ -1,6 +1,6 @@
 -- A glyph whose frame lies in a box leaves that box as it is.
 -- Serves `are_among`, `lies_in`, `bounds_with` and `see_one`.
-use Rattle.std.proofs.Common.{◌≡◌, refl, sym, ap, ◌∙◌, subst, inl, inr, ℕ, ◌+◌, ◌<◌, ℤ, pos, ◌+ℤ◌, ◌≤ℤ◌, ◌<ℤ◌, Bool, true}
+use Rattle.std.proofs.Common.{◌≡◌, refl, sym, ap, ◌∙◌, subst, inl, inr, ℕ, ◌<◌, ℤ, pos, ◌+ℤ◌, ◌≤ℤ◌, ◌<ℤ◌, Bool, true}
 use Rattle.std.proofs.Common.{false, true≢false, not, ◌||◌, ◌&&◌, List, Option, Some, None, Result, Ok, Err, arith}
 use Rattle.std.specs.Prelude.{IsTrue, ◌==◌, int_le, if◌then◌else◌}
 use Rattle.std.specs.List.{list_all}

@@ -1,4 +1,4 @@
-use Rattle.std.proofs.Common.{subst, ℕ, List}
+use Rattle.std.proofs.Common.{subst}
 use Rattle.fx_strike.specs.Title.{Title}
 use Rattle.fx_strike.specs.Strike.{Setting, plan_with}
 use Rattle.fx_strike.specs.inner.Surveying.{Surveys}
