@@ -1,11 +1,11 @@
 /* glyphs: the glyphs of a font's characters, made by the C library or by FreeType, some times over.
 
-   glyphs WAY PPEM hinted|unhinted ROUNDS FONT FIRST-LAST[,FIRST-LAST ..]
+   glyphs WAY PPEM MODE ROUNDS FONT FIRST-LAST[,FIRST-LAST ..]
 
    WAY is one (mkstrike_glyph for each), many (mkstrike_glyphs, a byte a pixel), packed (the same, packed), numbers (the same without
    room for pixels), strike (mkstrike_make), or freetype: FT_Load_Char with FT_LOAD_RENDER and FT_LOAD_TARGET_MONO, its interpreter 35,
    the autohinter off. Of the characters only those that the font has are taken. In each round the font is opened once, but by `one`,
-   which opens it for each glyph. Prints the number of glyphs, and microseconds a glyph in the best round. */
+   which opens it for each glyph. MODE is hinted, unhinted, hinted-dropout or unhinted-dropout. Prints the number of glyphs, and microseconds a glyph in the best round. */
 
 #define _POSIX_C_SOURCE 200112L
 #include "mkstrike.h"
@@ -23,7 +23,7 @@ enum { MOST = 65536 };
 static uint8_t *font, *out;
 static size_t font_len, out_len;
 static uint16_t ppem;
-static bool hinting;
+static uint32_t mode;
 static uint32_t chars[MOST];
 static size_t count;
 static struct mkstrike_placed placed[MOST];
@@ -47,7 +47,7 @@ static void read_font(const char *path) {
 }
 
 static void make_many(bool packed, size_t room) {
-    uint32_t status = mkstrike_glyphs(font, font_len, ppem, hinting, chars, count, packed, placed, MOST, out, room, &drawn, &refused);
+    uint32_t status = mkstrike_glyphs(font, font_len, ppem, mode, chars, count, packed, placed, MOST, out, room, &drawn, &refused);
     if (status != 0) fail("mkstrike_glyphs", (long)status);
 }
 
@@ -72,17 +72,17 @@ static void make_each(void) {
     struct mkstrike_glyph glyph;
     size_t i;
     for (i = 0; i < count; i++)
-        if (mkstrike_glyph(font, font_len, ppem, hinting, chars[i], false, out, out_len, &glyph, &refused) != 0) fail("mkstrike_glyph", 0);
+        if (mkstrike_glyph(font, font_len, ppem, mode, chars[i], false, out, out_len, &glyph, &refused) != 0) fail("mkstrike_glyph", 0);
 }
 
 static void make_strike(void) {
     struct mkstrike_told told;
-    if (mkstrike_make(font, font_len, ppem, hinting, chars, count, "bench", 5, out, out_len, &told, &refused) != 0) fail("mkstrike_make", 0);
+    if (mkstrike_make(font, font_len, ppem, mode, chars, count, "bench", 5, out, out_len, &told, &refused) != 0) fail("mkstrike_make", 0);
     if (told.bytes > out_len) fail("room", (long)told.bytes);
 }
 
 static void make_freetype(void) {
-    FT_Int32 flags = FT_LOAD_RENDER | FT_LOAD_TARGET_MONO | FT_LOAD_NO_BITMAP | FT_LOAD_NO_AUTOHINT | (hinting ? 0 : FT_LOAD_NO_HINTING);
+    FT_Int32 flags = FT_LOAD_RENDER | FT_LOAD_TARGET_MONO | FT_LOAD_NO_BITMAP | FT_LOAD_NO_AUTOHINT | (mode & MKSTRIKE_HINTED ? 0 : FT_LOAD_NO_HINTING);
     FT_Face face;
     size_t i;
     if (FT_New_Memory_Face(library, font, (FT_Long)font_len, 0, &face) != 0 || FT_Set_Pixel_Sizes(face, 0, ppem) != 0) fail("face", 0);
@@ -111,9 +111,9 @@ int main(int argc, char **argv) {
     FT_UInt version = 35;
     double best = 1e18;
     int rounds;
-    if (argc != 7) fail("usage: glyphs WAY PPEM hinted|unhinted ROUNDS FONT LIST", argc);
+    if (argc != 7) fail("usage: glyphs WAY PPEM MODE ROUNDS FONT LIST", argc);
     ppem = (uint16_t)atoi(argv[2]);
-    hinting = strcmp(argv[3], "hinted") == 0;
+    mode = (strncmp(argv[3], "hinted", 6) == 0 ? MKSTRIKE_HINTED : 0) | (strstr(argv[3], "-dropout") != NULL ? MKSTRIKE_DROPOUT : 0);
     if (FT_Init_FreeType(&library) != 0 || FT_Property_Set(library, "truetype", "interpreter-version", &version) != 0) fail("FreeType", 0);
     read_font(argv[5]);
     read_chars(argv[6]);

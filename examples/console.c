@@ -52,7 +52,7 @@ static uint32_t make_line(size_t font_len, uint16_t ppem, size_t count, struct m
     uint32_t status;
     size_t i, other;
     for (other = 0;; other++) {
-        status = mkstrike_glyphs(font, font_len, ppem, true, codes, count, true, glyphs, MOST, pixels, sizeof pixels, &drawn, why);
+        status = mkstrike_glyphs(font, font_len, ppem, MKSTRIKE_HINTED, codes, count, true, glyphs, MOST, pixels, sizeof pixels, &drawn, why);
         if (status != MKSTRIKE_DONE || drawn.missing == 0 || other == 2) return status;
         for (i = 0; i < count; i++)
             if (glyphs[i].status == MKSTRIKE_MISSING) codes[i] = others[other];

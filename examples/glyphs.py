@@ -11,6 +11,7 @@ import sys
 from ctypes import POINTER, byref, c_bool, c_char_p, c_int32, c_size_t, c_uint16, c_uint32, c_uint64
 
 DONE, MISSING = 0, 1
+HINTED, DROPOUT = 1, 2  # the bits of a mode
 
 
 class Refused(ctypes.Structure):
@@ -45,7 +46,7 @@ class Library:
         self.c.mkstrike_reason.restype = c_size_t
         self.c.mkstrike_heights.argtypes = [c_char_p, c_size_t, c_uint16, POINTER(Heights), POINTER(Refused)]
         self.c.mkstrike_heights.restype = c_uint32
-        self.c.mkstrike_glyph.argtypes = [c_char_p, c_size_t, c_uint16, c_bool, c_uint32, c_bool, c_char_p, c_size_t, POINTER(Glyph),
+        self.c.mkstrike_glyph.argtypes = [c_char_p, c_size_t, c_uint16, c_uint32, c_uint32, c_bool, c_char_p, c_size_t, POINTER(Glyph),
                                           POINTER(Refused)]
         self.c.mkstrike_glyph.restype = c_uint32
 
@@ -56,11 +57,11 @@ class Library:
             raise Refusal(self.c, refused)
         return heights
 
-    def glyph(self, font, ppem, code, hinting=True):
+    def glyph(self, font, ppem, code, mode=HINTED):
         """The numbers of a character's glyph and its rows from the top, a byte a pixel; None if the font lacks it."""
         glyph, refused, room = Glyph(), Refused(), ctypes.create_string_buffer(4096)
         for _ in range(2):
-            status = self.c.mkstrike_glyph(font, len(font), ppem, hinting, code, False, room, len(room), byref(glyph), byref(refused))
+            status = self.c.mkstrike_glyph(font, len(font), ppem, mode, code, False, room, len(room), byref(glyph), byref(refused))
             if status == MISSING:
                 return None
             if status != DONE:

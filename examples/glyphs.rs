@@ -30,13 +30,17 @@ mod sys {
     extern "C" {
         pub fn mkstrike_reason(number: u32, text: *mut u8, text_len: usize) -> usize;
         pub fn mkstrike_glyph(
-            font: *const u8, font_len: usize, ppem: u16, hinting: bool, code: u32, packed: bool,
+            font: *const u8, font_len: usize, ppem: u16, mode: u32, code: u32, packed: bool,
             pixels: *mut u8, pixels_len: usize, glyph: *mut Glyph, refused: *mut Refused,
         ) -> u32;
     }
 }
 
 pub use sys::{Glyph, Refused};
+
+/// Bits of a mode: the font's programs run; drop-out control is on.
+pub const HINTED: u32 = 1;
+pub const DROPOUT: u32 = 2;
 
 /// The name of a number that a call returned.
 pub fn reason(number: u32) -> String {
@@ -47,12 +51,12 @@ pub fn reason(number: u32) -> String {
 }
 
 /// The numbers of a character's glyph, and its pixels row by row from the top, a byte each; none if the font lacks it.
-pub fn glyph(font: &[u8], ppem: u16, hinting: bool, code: u32) -> Result<Option<(Glyph, Vec<u8>)>, Refused> {
+pub fn glyph(font: &[u8], ppem: u16, mode: u32, code: u32) -> Result<Option<(Glyph, Vec<u8>)>, Refused> {
     let (mut glyph, mut refused, mut pixels) = (Glyph::default(), Refused::default(), vec![0; 4096]);
     loop {
         // A slice's pointer is never null; the buffers are apart, as each is borrowed alone, and as long as is said; a `bool` is 0 or 1.
         let status = unsafe {
-            sys::mkstrike_glyph(font.as_ptr(), font.len(), ppem, hinting, code, false, pixels.as_mut_ptr(), pixels.len(),
+            sys::mkstrike_glyph(font.as_ptr(), font.len(), ppem, mode, code, false, pixels.as_mut_ptr(), pixels.len(),
                 &mut glyph, &mut refused)
         };
         let size = glyph.stride as usize * glyph.height as usize;
@@ -73,7 +77,7 @@ fn main() {
     let font = std::fs::read(&words[1]).expect("a font");
     let ppem = words[2].parse().expect("a size");
     for c in words[3].chars() {
-        match glyph(&font, ppem, true, c as u32) {
+        match glyph(&font, ppem, HINTED, c as u32) {
             Err(refused) => panic!("refused: {} {}", refused.number, reason(refused.number)),
             Ok(None) => println!("U+{:04X} missing", c as u32),
             Ok(Some((glyph, pixels))) => {

@@ -35,12 +35,12 @@ static uint32_t strike(const uint8_t *font, size_t len, uint16_t ppem, uint32_t 
     size_t room = 0;
     if (chars == NULL) return MKSTRIKE_OUT_OF_MEMORY;
     for (i = 0; i < count; i++) chars[i] = first + i;
-    status = mkstrike_make(font, len, ppem, true, chars, count, "strike", 6, none, 0, &told, &why);
+    status = mkstrike_make(font, len, ppem, MKSTRIKE_HINTED, chars, count, "strike", 6, none, 0, &told, &why);
     if (status == MKSTRIKE_DONE) {
         room = told.bytes;
         text = (uint8_t *)malloc(room);
         status = MKSTRIKE_OUT_OF_MEMORY;
-        if (text != NULL) status = mkstrike_make(font, len, ppem, true, chars, count, "strike", 6, text, room, &told, &why);
+        if (text != NULL) status = mkstrike_make(font, len, ppem, MKSTRIKE_HINTED, chars, count, "strike", 6, text, room, &told, &why);
     }
     if (status == MKSTRIKE_DONE) {
         fwrite(text, 1, room, stdout);
@@ -54,11 +54,11 @@ static uint32_t strike(const uint8_t *font, size_t len, uint16_t ppem, uint32_t 
 static uint32_t picture(const uint8_t *font, size_t len, uint16_t ppem, uint32_t code) {
     struct mkstrike_glyph g;
     uint8_t none[1], *pixels;
-    uint32_t i, j, status = mkstrike_glyph(font, len, ppem, true, code, false, none, 0, &g, &why);
+    uint32_t i, j, status = mkstrike_glyph(font, len, ppem, MKSTRIKE_HINTED, code, false, none, 0, &g, &why);
     if (status != MKSTRIKE_DONE) return status;
     pixels = (uint8_t *)malloc((size_t)g.stride * g.height + 1);
     if (pixels == NULL) return MKSTRIKE_OUT_OF_MEMORY;
-    status = mkstrike_glyph(font, len, ppem, true, code, false, pixels, (size_t)g.stride * g.height, &g, &why);
+    status = mkstrike_glyph(font, len, ppem, MKSTRIKE_HINTED, code, false, pixels, (size_t)g.stride * g.height, &g, &why);
     for (i = 0; status == MKSTRIKE_DONE && i < g.height; i++) {
         for (j = 0; j < g.width; j++) putchar(pixels[i * g.stride + j] ? '#' : '.');
         putchar('\n');

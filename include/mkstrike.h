@@ -86,6 +86,12 @@ enum {
     MKSTRIKE_OUT_OF_MEMORY = 90
 };
 
+/* How outlines become pixels, a mode: 0, one of these, or their sum. Hinted, the font's programs run. With drop-out control thin strokes
+ * stay whole: if a piece of the outline passes between the centres of two neighbours in a row or a column and neither is set, the left,
+ * or the lower, one is. Other bits say nothing. */
+#define MKSTRIKE_HINTED UINT32_C(1)
+#define MKSTRIKE_DROPOUT UINT32_C(2)
+
 /* In a refusal: no glyph, no program; the font's two programs that belong to no glyph. */
 #define MKSTRIKE_NONE UINT32_C(0xFFFFFFFF)
 #define MKSTRIKE_FPGM UINT32_C(0x10000)
@@ -125,11 +131,11 @@ struct mkstrike_glyph {
 
 /* Makes the glyph of one character at a size of 1 to 1,024: its numbers, and, if `pixels` has room for all of them, its pixels, row by
  * row from the top. Not packed, a pixel is a byte, 255 if it is set and 0 if not. Packed, it is a bit, the leftmost the highest of its
- * byte, and a row takes whole bytes, the last filled up with 0. With `hinting` off no program of the font runs.
+ * byte, and a row takes whole bytes, the last filled up with 0. `mode` is MKSTRIKE_HINTED and MKSTRIKE_DROPOUT, or one of them, or 0.
  *
- * Returns MKSTRIKE_MISSING and writes nothing if the font does not have the character. A call opens the font and, with hinting on, runs
- * its `fpgm` and `prep` again: for many characters at once there is mkstrike_glyphs. */
-uint32_t mkstrike_glyph(const uint8_t *font, size_t font_len, uint16_t ppem, bool hinting, uint32_t code, bool packed, uint8_t *pixels,
+ * Returns MKSTRIKE_MISSING and writes nothing if the font does not have the character. A call opens the font and, if hinted, runs its
+ * `fpgm` and `prep` again: for many characters at once there is mkstrike_glyphs. */
+uint32_t mkstrike_glyph(const uint8_t *font, size_t font_len, uint16_t ppem, uint32_t mode, uint32_t code, bool packed, uint8_t *pixels,
     size_t pixels_len, struct mkstrike_glyph *glyph, struct mkstrike_refused *refused);
 
 /* One of many characters. */
@@ -153,7 +159,7 @@ struct mkstrike_drawn {
  * stride * height together are at most `pixels_len`; and a call with no room for either asks for `drawn->bytes`.
  *
  * It is refused if one of the characters is; the refusal is that of the first such in the order given. */
-uint32_t mkstrike_glyphs(const uint8_t *font, size_t font_len, uint16_t ppem, bool hinting, const uint32_t *chars, size_t chars_len,
+uint32_t mkstrike_glyphs(const uint8_t *font, size_t font_len, uint16_t ppem, uint32_t mode, const uint32_t *chars, size_t chars_len,
     bool packed, struct mkstrike_placed *glyphs, size_t glyphs_len, uint8_t *pixels, size_t pixels_len, struct mkstrike_drawn *drawn,
     struct mkstrike_refused *refused);
 
@@ -168,7 +174,7 @@ struct mkstrike_told {
 /* Makes the text of a strike at a size of 1 to 1,024, in BDF. As much of it as fits goes to the front of `out`; what lies after it stays
  * as it was. There is no 0 at its end. `chars` are code points in any order, at most 65,536, repeats count once; `name` is 1 to 255
  * printed characters of ASCII, no space first or last, and needs no 0 at its end. */
-uint32_t mkstrike_make(const uint8_t *font, size_t font_len, uint16_t ppem, bool hinting, const uint32_t *chars, size_t chars_len,
+uint32_t mkstrike_make(const uint8_t *font, size_t font_len, uint16_t ppem, uint32_t mode, const uint32_t *chars, size_t chars_len,
     const char *name, size_t name_len, uint8_t *out, size_t out_len, struct mkstrike_told *told, struct mkstrike_refused *refused);
 
 #ifdef __cplusplus

@@ -1,9 +1,9 @@
 /* Calls the C library as tools/check_c asks, in place of a program that uses it. It has its own heap, which counts and can refuse.
  *
- *     check_c strike FONT PPEM HINTING FIRST LAST   a strike, as `mkstrike make` writes it, with its line and its status; asked for with
+ *     check_c strike FONT PPEM MODE FIRST LAST      a strike, as `mkstrike make` writes it, with its line and its status; asked for with
  *                                                   no room, with room enough, and with a byte too few
- *     check_c glyphs FONT PPEM HINTING FIRST LAST   each of these characters alone, packed and not, against their strike
- *     check_c many FONT PPEM HINTING FIRST LAST     these characters in one call, in another order and some of them twice: each against
+ *     check_c glyphs FONT PPEM MODE FIRST LAST      each of these characters alone, packed and not, against their strike
+ *     check_c many FONT PPEM MODE FIRST LAST        these characters in one call, in another order and some of them twice: each against
  *                                                   mkstrike_glyph and against their strike, or the refusal of the first that has none
  *     check_c requests FONT                         requests of many characters that are refused before the font is opened
  *     check_c refuse FONT                           each request for memory refused in turn
@@ -68,7 +68,7 @@ struct request {
     const uint8_t *font;
     size_t font_len;
     uint16_t ppem;
-    bool hinting;
+    uint32_t mode;
     uint32_t *chars;
     size_t chars_len;
 };
@@ -84,7 +84,7 @@ static void *bytes(size_t n) {
     return at;
 }
 
-static struct request request_of(const char *name, int ppem, bool hinting, uint32_t first, uint32_t last) {
+static struct request request_of(const char *name, int ppem, uint32_t mode, uint32_t first, uint32_t last) {
     struct request r;
     FILE *file = fopen(name, "rb");
     uint8_t *font;
@@ -97,7 +97,7 @@ static struct request request_of(const char *name, int ppem, bool hinting, uint3
     fclose(file);
     r.font = font;
     r.ppem = (uint16_t)ppem;
-    r.hinting = hinting;
+    r.mode = mode;
     r.chars_len = last - first + 1;
     r.chars = (uint32_t *)bytes(r.chars_len * sizeof *r.chars);
     for (i = 0; i < r.chars_len; i++) r.chars[i] = first + i;
@@ -105,7 +105,7 @@ static struct request request_of(const char *name, int ppem, bool hinting, uint3
 }
 
 static uint32_t make(const struct request *r, uint8_t *out, size_t out_len, struct mkstrike_told *told, struct mkstrike_refused *refused) {
-    return mkstrike_make(r->font, r->font_len, r->ppem, r->hinting, r->chars, r->chars_len, "mkstrike", 8, out, out_len, told, refused);
+    return mkstrike_make(r->font, r->font_len, r->ppem, r->mode, r->chars, r->chars_len, "mkstrike", 8, out, out_len, told, refused);
 }
 
 /* A strike's text in as many bytes as it has. */
@@ -222,7 +222,7 @@ static void same_pixels(const struct mkstrike_glyph *g, const uint8_t *packed, c
 
 static uint32_t one(const struct request *r, uint32_t code, bool packed, uint8_t *pixels, size_t room, struct mkstrike_glyph *g) {
     struct mkstrike_refused refused;
-    return mkstrike_glyph(r->font, r->font_len, r->ppem, r->hinting, code, packed, pixels, room, g, &refused);
+    return mkstrike_glyph(r->font, r->font_len, r->ppem, r->mode, code, packed, pixels, room, g, &refused);
 }
 
 /* One character, packed or not, in a buffer of its own size; and with a byte too few, which must not be touched. */
@@ -286,7 +286,7 @@ struct many {
 };
 
 static uint32_t call_many(const struct request *r, struct many *it, size_t glyphs_len, size_t pixels_len) {
-    return mkstrike_glyphs(r->font, r->font_len, r->ppem, r->hinting, it->chars, it->len, it->packed, it->glyphs, glyphs_len, it->pixels,
+    return mkstrike_glyphs(r->font, r->font_len, r->ppem, r->mode, it->chars, it->len, it->packed, it->glyphs, glyphs_len, it->pixels,
         pixels_len, &it->drawn, &it->refused);
 }
 
@@ -365,7 +365,7 @@ static void same_refusal(const struct request *r, const struct many *it) {
     uint8_t none;
     size_t i;
     for (i = 0; i < it->len; i++) {
-        if (mkstrike_glyph(r->font, r->font_len, r->ppem, r->hinting, it->chars[i], false, &none, 0, &g, &due) <= 1) continue;
+        if (mkstrike_glyph(r->font, r->font_len, r->ppem, r->mode, it->chars[i], false, &none, 0, &g, &due) <= 1) continue;
         if (memcmp(&due, &it->refused, sizeof due) != 0) stop("many refused for another reason");
         return;
     }
@@ -484,9 +484,9 @@ static long refuse_each(const struct request *r, char call) {
         if (call == 'm')
             status = make(r, out, sizeof out, &told, &refused);
         else if (call == 'g')
-            status = mkstrike_glyph(r->font, r->font_len, r->ppem, r->hinting, 'g', true, out, sizeof out, &g, &refused);
+            status = mkstrike_glyph(r->font, r->font_len, r->ppem, r->mode, 'g', true, out, sizeof out, &g, &refused);
         else
-            status = mkstrike_glyphs(r->font, r->font_len, r->ppem, r->hinting, r->chars, r->chars_len, false, placed, 256, out,
+            status = mkstrike_glyphs(r->font, r->font_len, r->ppem, r->mode, r->chars, r->chars_len, false, placed, 256, out,
                 sizeof out, &drawn, &refused);
         refused_at = 0;
         if (held != 0) stop("memory was kept");
@@ -556,28 +556,28 @@ int main(int argc, char **argv) {
     const char *mode = argc > 1 ? argv[1] : "", *call;
     long count = 0;
     if (argc == 7 && (strcmp(mode, "strike") == 0 || strcmp(mode, "glyphs") == 0 || strcmp(mode, "many") == 0)) {
-        shared = request_of(argv[2], atoi(argv[3]), atoi(argv[4]) != 0, (uint32_t)strtoul(argv[5], NULL, 16),
+        shared = request_of(argv[2], atoi(argv[3]), (uint32_t)atoi(argv[4]), (uint32_t)strtoul(argv[5], NULL, 16),
             (uint32_t)strtoul(argv[6], NULL, 16));
         return strcmp(mode, "strike") == 0 ? strike(&shared) : strcmp(mode, "glyphs") == 0 ? glyphs(&shared) : many(&shared);
     }
     if (argc == 3 && strcmp(mode, "requests") == 0) {
-        shared = request_of(argv[2], 16, false, 0x20, 0x20);
+        shared = request_of(argv[2], 16, 0, 0x20, 0x20);
         return requests(&shared);
     }
     if (argc == 3 && strcmp(mode, "refuse") == 0) {
-        shared = request_of(argv[2], 16, true, 0x20, 0x7E);
-        second = request_of(argv[2], 33, false, 0x20, 0x7E);
+        shared = request_of(argv[2], 16, MKSTRIKE_HINTED, 0x20, 0x7E);
+        second = request_of(argv[2], 33, MKSTRIKE_DROPOUT, 0x20, 0x7E);
         for (call = "mgs"; *call != 0; call++) count += refuse_each(&shared, *call) + refuse_each(&second, *call);
         printf("%ld\n", count);
         return 0;
     }
     if (argc == 3 && strcmp(mode, "threads") == 0) {
-        shared = request_of(argv[2], 16, true, 0x20, 0x7E);
+        shared = request_of(argv[2], 16, MKSTRIKE_HINTED, 0x20, 0x7E);
         run_threads(8, 100, 0);
         return 0;
     }
     if (argc == 4 && strcmp(mode, "stack") == 0) {
-        shared = request_of(argv[2], 100, true, 0x20, 0x17F);
+        shared = request_of(argv[2], 100, MKSTRIKE_HINTED | MKSTRIKE_DROPOUT, 0x20, 0x17F);
         run_threads(1, 1, (size_t)atoi(argv[3]) << 10);
         return 0;
     }

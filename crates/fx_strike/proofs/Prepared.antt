@@ -1,6 +1,6 @@
 -- What is due once a font opened, its programs ran and the checks passed is what is due before.
 -- Serves `make_strike_with`, `survey_inner`, `one_inner`, `open_inner` and the calls of `Striker`.
-use Rattle.std.proofs.Common.{◌≡◌, refl, sym, ap, ◌∙◌, subst, ℕ, Bool, List, [], ◌∷◌, Option, Result, Ok, Err}
+use Rattle.std.proofs.Common.{◌≡◌, refl, sym, ap, ◌∙◌, subst, ℕ, List, [], ◌∷◌, Option, Result, Ok, Err}
 use Rattle.std.specs.Prelude.{IsOk, IfOk, IfErr}
 use Rattle.fx_fixed.specs.Chain.{GivesUnless}
 use Rattle.fx_bdf.specs.Glyphs.{Glyph}

@@ -17,6 +17,7 @@ use Rattle.fx_sfnt.specs.Tables.{Face}
 use Rattle.fx_cmap.specs.declared.mapping.Mapping.{Mapping}
 use Rattle.fx_bdf.specs.Glyphs as bits
 use Rattle.fx_request.specs.declared.refusal.Refusal.{Refusal}
+use Rattle.fx_request.specs.declared.request.Mode.{Mode}
 use Rattle.fx_request.specs.declared.refusal.Refusal.TheVariants.{BadSize, BadChars, OutOfMemory}
 use Rattle.fx_request.specs.Limits.{max_characters, max_code}
 use Rattle.fx_strike.specs.Faults.{Fails}
@@ -278,34 +279,34 @@ opened_unchecked file ppem chars d h =
     by_checks (Ok size) (Err e) f h = cc
     by_checks (Err e) k f h = cc
 
-many_unchecked : (file : List ℕ) (ppem : ℕ) (chars : List ℕ) (hinting : Bool) (d : Refusal) → Err d ≡ checks ppem chars
-    → many_of file ppem chars hinting ≡ Err d
+many_unchecked : (file : List ℕ) (ppem : ℕ) (chars : List ℕ) (mode : Mode) (d : Refusal) → Err d ≡ checks ppem chars
+    → many_of file ppem chars mode ≡ Err d
 unfolding many_of
-many_unchecked file ppem chars hinting d h = rw (opened_unchecked file ppem chars d h) refl
+many_unchecked file ppem chars mode d h = rw (opened_unchecked file ppem chars d h) refl
 
 -- they are due in the setting of the font
-many_in : (file : List ℕ) (ppem : ℕ) (chars : List ℕ) (hinting : Bool) → Ok tt ≡ checks ppem chars
-    → many_of file ppem chars hinting ≡ (setting_of file ppem hinting >>= λ s. map_chain (one_with s) chars)
+many_in : (file : List ℕ) (ppem : ℕ) (chars : List ℕ) (mode : Mode) → Ok tt ≡ checks ppem chars
+    → many_of file ppem chars mode ≡ (setting_of file ppem mode >>= λ s. map_chain (one_with s) chars)
 unfolding many_of setting_of
-many_in file ppem chars hinting h = rw (opened_alike file ppem chars h) (by_opened (opened_at file ppem))
+many_in file ppem chars mode h = rw (opened_alike file ppem chars h) (by_opened (opened_at file ppem))
   where
     by_opened : (o : Opening)
-        → (o >>= λ o. setting_in o hinting >>= λ s. map_chain (one_with s) chars) ≡
-        ((o >>= λ o. setting_in o hinting) >>= λ s. map_chain (one_with s) chars)
+        → (o >>= λ o. setting_in o mode >>= λ s. map_chain (one_with s) chars) ≡
+        ((o >>= λ o. setting_in o mode) >>= λ s. map_chain (one_with s) chars)
     by_opened (Ok o) = refl
     by_opened (Err e) = refl
 
-many_set : (file : List ℕ) (ppem : ℕ) (chars : List ℕ) (hinting : Bool) (s : Setting) → Ok tt ≡ checks ppem chars
-    → setting_of file ppem hinting ≡ Ok s → many_of file ppem chars hinting ≡ map_chain (one_with s) chars
-many_set file ppem chars hinting s h k =
-    many_in file ppem chars hinting h ∙ ap (λ (r : Result Setting Refusal). r >>= λ s. map_chain (one_with s) chars) k
+many_set : (file : List ℕ) (ppem : ℕ) (chars : List ℕ) (mode : Mode) (s : Setting) → Ok tt ≡ checks ppem chars
+    → setting_of file ppem mode ≡ Ok s → many_of file ppem chars mode ≡ map_chain (one_with s) chars
+many_set file ppem chars mode s h k =
+    many_in file ppem chars mode h ∙ ap (λ (r : Result Setting Refusal). r >>= λ s. map_chain (one_with s) chars) k
 
-opened_late : (file : List ℕ) (ppem : ℕ) (hinting : Bool) (s : Setting) → setting_of file ppem hinting ≡ Ok s
+opened_late : (file : List ℕ) (ppem : ℕ) (mode : Mode) (s : Setting) → setting_of file ppem mode ≡ Ok s
     → Late (opened_at file ppem)
 unfolding setting_of
-opened_late file ppem hinting s h = by_opened (opened_at file ppem) h
+opened_late file ppem mode s h = by_opened (opened_at file ppem) h
   where
-    by_opened : (o : Opening) → (o >>= λ o. setting_in o hinting) ≡ Ok s → Late o
+    by_opened : (o : Opening) → (o >>= λ o. setting_in o mode) ≡ Ok s → Late o
     by_opened (Ok o) h = refl
     by_opened (Err e) h = absurd (cc)
 
@@ -317,65 +318,65 @@ late_alike file ppem chars h late =
 -- ---- why there are none
 
 -- the reason of a result
-abbrev pub HasReason : List ℕ → ℕ → List ℕ → Bool → Result Gathered Refusal → Type 0
-HasReason file ppem chars hinting r =
-    IfErr r (IsReason (opened_many_of file ppem chars) (many_of file ppem chars hinting))
+abbrev pub HasReason : List ℕ → ℕ → List ℕ → Mode → Result Gathered Refusal → Type 0
+HasReason file ppem chars mode r =
+    IfErr r (IsReason (opened_many_of file ppem chars) (many_of file ppem chars mode))
 
-reason_of_err : (file : List ℕ) (ppem : ℕ) (chars : List ℕ) (hinting : Bool) (r : Result Gathered Refusal) (e d : Refusal)
-    → r ≡ Err e → e ≡ d → IsReason (opened_many_of file ppem chars) (many_of file ppem chars hinting) d
-    → HasReason file ppem chars hinting r
-reason_of_err file ppem chars hinting r e d p q h =
-    let P : Result Gathered Refusal → Type 0 = λ r. HasReason file ppem chars hinting r in
+reason_of_err : (file : List ℕ) (ppem : ℕ) (chars : List ℕ) (mode : Mode) (r : Result Gathered Refusal) (e d : Refusal)
+    → r ≡ Err e → e ≡ d → IsReason (opened_many_of file ppem chars) (many_of file ppem chars mode) d
+    → HasReason file ppem chars mode r
+reason_of_err file ppem chars mode r e d p q h =
+    let P : Result Gathered Refusal → Type 0 = λ r. HasReason file ppem chars mode r in
     subst P (sym (p ∙ ap (λ (d : Refusal). Err d) q)) h
 
 -- a check did not pass
-pub refused_unchecked : (file : List ℕ) (ppem : ℕ) (chars : List ℕ) (hinting : Bool) (r : Result Gathered Refusal)
-    (e d : Refusal) → r ≡ Err e → e ≡ d → IsCause d → Err d ≡ checks ppem chars → HasReason file ppem chars hinting r
-refused_unchecked file ppem chars hinting r e d p q named h =
+pub refused_unchecked : (file : List ℕ) (ppem : ℕ) (chars : List ℕ) (mode : Mode) (r : Result Gathered Refusal)
+    (e d : Refusal) → r ≡ Err e → e ≡ d → IsCause d → Err d ≡ checks ppem chars → HasReason file ppem chars mode r
+refused_unchecked file ppem chars mode r e d p q named h =
     let P : Refusal → Type 0 = λ d. IsCause d in
-    reason_of_err file ppem chars hinting r e d p q (
-      fails_cause d (many_of file ppem chars hinting) named (many_unchecked file ppem chars hinting d h),
+    reason_of_err file ppem chars mode r e d p q (
+      fails_cause d (many_of file ppem chars mode) named (many_unchecked file ppem chars mode d h),
       λ m. absurd (subst P m named),
     )
 
 -- the font was not opened, or its programs halted
-pub refused_unset : (file : List ℕ) (ppem : ℕ) (chars : List ℕ) (hinting : Bool) (r : Result Gathered Refusal)
-    (e d : Refusal) → r ≡ Err e → e ≡ d → Ok tt ≡ checks ppem chars → Fails d (setting_of file ppem hinting)
-    → (d ≡ OutOfMemory → Late (opened_at file ppem)) → HasReason file ppem chars hinting r
-refused_unset file ppem chars hinting r e d p q h f late =
-    reason_of_err file ppem chars hinting r e d p q (
-      fails_on d (setting_of file ppem hinting) (many_of file ppem chars hinting)
-          (λ e k. many_in file ppem chars hinting h
+pub refused_unset : (file : List ℕ) (ppem : ℕ) (chars : List ℕ) (mode : Mode) (r : Result Gathered Refusal)
+    (e d : Refusal) → r ≡ Err e → e ≡ d → Ok tt ≡ checks ppem chars → Fails d (setting_of file ppem mode)
+    → (d ≡ OutOfMemory → Late (opened_at file ppem)) → HasReason file ppem chars mode r
+refused_unset file ppem chars mode r e d p q h f late =
+    reason_of_err file ppem chars mode r e d p q (
+      fails_on d (setting_of file ppem mode) (many_of file ppem chars mode)
+          (λ e k. many_in file ppem chars mode h
           ∙ ap (λ (r : Result Setting Refusal). r >>= λ s. map_chain (one_with s) chars) k) f,
       λ m. late_alike file ppem chars h (late m),
     )
 
 -- a character was not made
-pub refused_later : (file : List ℕ) (ppem : ℕ) (chars : List ℕ) (hinting : Bool) (s : Setting) (r : Result Gathered Refusal)
-    → Ok tt ≡ checks ppem chars → setting_of file ppem hinting ≡ Ok s
-    → IfErr r (λ d. Fails d (map_chain (one_with s) chars)) → HasReason file ppem chars hinting r
-refused_later file ppem chars hinting s (Ok g) h k f = tt
-refused_later file ppem chars hinting s (Err d) h k f =
+pub refused_later : (file : List ℕ) (ppem : ℕ) (chars : List ℕ) (mode : Mode) (s : Setting) (r : Result Gathered Refusal)
+    → Ok tt ≡ checks ppem chars → setting_of file ppem mode ≡ Ok s
+    → IfErr r (λ d. Fails d (map_chain (one_with s) chars)) → HasReason file ppem chars mode r
+refused_later file ppem chars mode s (Ok g) h k f = tt
+refused_later file ppem chars mode s (Err d) h k f =
     let P : Result (List (Option Sketch)) Refusal → Type 0 = λ due. Fails d due in (
-      subst P (sym (many_set file ppem chars hinting s h k)) f,
-      λ m. late_alike file ppem chars h (opened_late file ppem hinting s k),
+      subst P (sym (many_set file ppem chars mode s h k)) f,
+      λ m. late_alike file ppem chars h (opened_late file ppem mode s k),
     )
 
 -- memory was refused then
-pub refused_memory : (file : List ℕ) (ppem : ℕ) (chars : List ℕ) (hinting : Bool) (s : Setting) (r : Result Gathered Refusal)
-    (e : Refusal) → r ≡ Err e → e ≡ OutOfMemory → Ok tt ≡ checks ppem chars → setting_of file ppem hinting ≡ Ok s
-    → HasReason file ppem chars hinting r
-refused_memory file ppem chars hinting s r e p q h k =
-    reason_of_err file ppem chars hinting r e OutOfMemory p q
-    (tt, λ m. late_alike file ppem chars h (opened_late file ppem hinting s k))
+pub refused_memory : (file : List ℕ) (ppem : ℕ) (chars : List ℕ) (mode : Mode) (s : Setting) (r : Result Gathered Refusal)
+    (e : Refusal) → r ≡ Err e → e ≡ OutOfMemory → Ok tt ≡ checks ppem chars → setting_of file ppem mode ≡ Ok s
+    → HasReason file ppem chars mode r
+refused_memory file ppem chars mode s r e p q h k =
+    reason_of_err file ppem chars mode r e OutOfMemory p q
+    (tt, λ m. late_alike file ppem chars h (opened_late file ppem mode s k))
 
 -- all are there
-pub gathered_from : (file : List ℕ) (ppem : ℕ) (chars : List ℕ) (hinting : Bool) (s : Setting) (wanted : Wanted)
-    (r : Result Gathered Refusal) → Ok tt ≡ checks ppem chars → setting_of file ppem hinting ≡ Ok s
-    → IfOk r (AreGathered s chars wanted) → IfOk r (IsGathered wanted (many_of file ppem chars hinting))
-gathered_from file ppem chars hinting s wanted r h k are =
+pub gathered_from : (file : List ℕ) (ppem : ℕ) (chars : List ℕ) (mode : Mode) (s : Setting) (wanted : Wanted)
+    (r : Result Gathered Refusal) → Ok tt ≡ checks ppem chars → setting_of file ppem mode ≡ Ok s
+    → IfOk r (AreGathered s chars wanted) → IfOk r (IsGathered wanted (many_of file ppem chars mode))
+gathered_from file ppem chars mode s wanted r h k are =
     let P : Result (List (Option Sketch)) Refusal → Type 0 = λ due. IfOk r (IsGathered wanted due) in
-    subst P (sym (many_set file ppem chars hinting s h k)) are
+    subst P (sym (many_set file ppem chars mode s h k)) are
 
 -- ---- what is told
 

@@ -15,6 +15,7 @@ use Rattle.fx_bdf.specs.Properties.{first_bad_after}
 use Rattle.fx_bdf.specs.Text.{is_name}
 use Rattle.fx_bdf.specs.declared.header.Header.{Header}
 use Rattle.fx_request.specs.declared.refusal.Refusal.{Refusal}
+use Rattle.fx_request.specs.declared.request.Mode.{Mode}
 use Rattle.fx_request.specs.declared.refusal.Refusal.TheVariants.{BadSize, BadName, OutOfMemory}
 use Rattle.fx_request.specs.Characters.{rising}
 use Rattle.fx_strike.specs.declared.opened.Opened.{Opened}
@@ -95,25 +96,25 @@ same_opened file ppem a b chars (inl same) = ap (λ (n : List ℕ). opened_of fi
 same_opened file ppem a b chars (inr none) =
     none_opened file ppem b chars none.1 ∙ sym (none_opened file ppem a chars none.0)
 
-pub same_plan : (file : List ℕ) (ppem : ℕ) (a b chars : List ℕ) (hinting : Bool) → AreNamesAlike a b
-    → plan_of file ppem (plain b) chars hinting ≡ plan_of file ppem (plain a) chars hinting
+pub same_plan : (file : List ℕ) (ppem : ℕ) (a b chars : List ℕ) (mode : Mode) → AreNamesAlike a b
+    → plan_of file ppem (plain b) chars mode ≡ plan_of file ppem (plain a) chars mode
 unfolding opened_after plan_of
-same_plan file ppem a b chars hinting (inl same) = ap (λ (n : List ℕ). plan_of file ppem (plain n) chars hinting) same
-same_plan file ppem a b chars hinting (inr none) =
-    ap (λ (o : Opening). o >>= λ o. plan_in o (plain b) chars hinting) (none_opened file ppem b chars none.1)
-    ∙ stopped (wanted (ppem_of ppem) BadSize) (checked_chars chars) (font_with_map file) (λ o. plan_in o (plain b) chars hinting)
-    (λ o. plan_in o (plain a) chars hinting)
-    ∙ sym (ap (λ (o : Opening). o >>= λ o. plan_in o (plain a) chars hinting) (none_opened file ppem a chars none.0))
+same_plan file ppem a b chars mode (inl same) = ap (λ (n : List ℕ). plan_of file ppem (plain n) chars mode) same
+same_plan file ppem a b chars mode (inr none) =
+    ap (λ (o : Opening). o >>= λ o. plan_in o (plain b) chars mode) (none_opened file ppem b chars none.1)
+    ∙ stopped (wanted (ppem_of ppem) BadSize) (checked_chars chars) (font_with_map file) (λ o. plan_in o (plain b) chars mode)
+    (λ o. plan_in o (plain a) chars mode)
+    ∙ sym (ap (λ (o : Opening). o >>= λ o. plan_in o (plain a) chars mode) (none_opened file ppem a chars none.0))
 
 -- ---- a strike's opening
 
 -- a font with a strike was opened
-pub opened_if_made : (file : List ℕ) (ppem : ℕ) (title : Title) (chars : List ℕ) (hinting : Bool) (plan : Plan)
-    → plan_of file ppem title chars hinting ≡ Ok plan → IsOk (opened_of file ppem title chars)
+pub opened_if_made : (file : List ℕ) (ppem : ℕ) (title : Title) (chars : List ℕ) (mode : Mode) (plan : Plan)
+    → plan_of file ppem title chars mode ≡ Ok plan → IsOk (opened_of file ppem title chars)
 unfolding plan_of
-opened_if_made file ppem title chars hinting plan made = by_opening (opened_of file ppem title chars) made
+opened_if_made file ppem title chars mode plan made = by_opening (opened_of file ppem title chars) made
   where
-    by_opening : (o : Opening) → (o >>= λ o. plan_in o title chars hinting) ≡ Ok plan → IsOk o
+    by_opening : (o : Opening) → (o >>= λ o. plan_in o title chars mode) ≡ Ok plan → IsOk o
     by_opening (Ok o) h = refl
     by_opening (Err e) h = absurd (cc)
 
@@ -125,24 +126,27 @@ heights_in plan = record { ascent = plan.ascent; descent = plan.descent }
 abbrev pub no_name : Title
 no_name = plain (codes "heights")
 
-pub heights_are : (file : List ℕ) (ppem : ℕ) → heights_of file ppem ≡ map_ok heights_in (plan_of file ppem no_name [] false)
+abbrev pub unhinted : Mode
+unhinted = record { hinting = false; dropout = false }
+
+pub heights_are : (file : List ℕ) (ppem : ℕ) → heights_of file ppem ≡ map_ok heights_in (plan_of file ppem no_name [] unhinted)
 unfolding heights_of plan_of opened_after request_checks plan_in setting_in machine_for plan_with rising
 heights_are file ppem = by_size (wanted (ppem_of ppem) BadSize)
   where
     by_font : (size : ℕ) (f : Result (Face × Mapping) Refusal)
         → (opening (Ok size) (Ok tt) f >>= λ o. Ok (heights_at o.ppem o.font)) ≡
-        map_ok heights_in (opening (Ok size) (Ok tt) f >>= λ o. plan_in o no_name [] false)
+        map_ok heights_in (opening (Ok size) (Ok tt) f >>= λ o. plan_in o no_name [] unhinted)
     by_font size (Ok font) = refl
     by_font size (Err e) = refl
 
     by_size : (r : Result ℕ Refusal)
         → (opening r (Ok tt) (font_with_map file) >>= λ o. Ok (heights_at o.ppem o.font)) ≡
-        map_ok heights_in (opening r (with_name true (Ok tt)) (font_with_map file) >>= λ o. plan_in o no_name [] false)
+        map_ok heights_in (opening r (with_name true (Ok tt)) (font_with_map file) >>= λ o. plan_in o no_name [] unhinted)
     by_size (Ok size) = by_font size (font_with_map file)
     by_size (Err e) = refl
 
 -- and those of its survey
-pub some_heights : (file : List ℕ) (ppem : ℕ) (survey : Survey) → Surveyed (plan_of file ppem no_name [] false) survey
+pub some_heights : (file : List ℕ) (ppem : ℕ) (survey : Survey) → Surveyed (plan_of file ppem no_name [] unhinted) survey
     → heights_of file ppem ≡ Ok (surveyed_heights survey)
 some_heights file ppem survey s =
     heights_are file ppem ∙ ap (map_ok heights_in) s.is
@@ -155,13 +159,13 @@ heights_opened file ppem = refl
 
 -- and refused as the other is
 pub no_heights : (file : List ℕ) (ppem : ℕ) (r : Result Heights Refusal) (e d : Refusal) → r ≡ Err e → e ≡ d
-    → Fails d (plan_of file ppem no_name [] false) → (d ≡ OutOfMemory → Late (opened_of file ppem no_name []))
+    → Fails d (plan_of file ppem no_name [] unhinted) → (d ≡ OutOfMemory → Late (opened_of file ppem no_name []))
     → IfErr r (IsReason (opened_at file ppem) (heights_of file ppem))
 no_heights file ppem r e d is same fails late =
     let P : Result Heights Refusal → Type 0 = λ r. IfErr r (IsReason (opened_at file ppem) (heights_of file ppem)) in
     let Q : Opening → Type 0 = λ o. IsOk o in
     subst P (sym (is ∙ ap (λ (d : Refusal). Err d) same)) (
-      fails_on d (plan_of file ppem no_name [] false) (heights_of file ppem)
+      fails_on d (plan_of file ppem no_name [] unhinted) (heights_of file ppem)
           (λ e h. heights_are file ppem ∙ ap (map_ok heights_in) h) fails,
       λ m. subst Q (sym (heights_opened file ppem)) (late m),
     )

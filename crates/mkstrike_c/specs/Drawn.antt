@@ -5,6 +5,7 @@ use Rattle.std.specs.List.{flat_map, count_by}
 use Rattle.fx_fixed.specs.Chain.{◌>>=◌, map_chain}
 use Rattle.fx_bdf.specs.Glyphs as bits
 use Rattle.fx_request.specs.declared.refusal.Refusal.{Refusal}
+use Rattle.fx_request.specs.declared.request.Mode.{Mode}
 use Rattle.fx_strike.specs.Strike.{Sketch, Opening, checked_chars, opened_after, setting_in, one_with}
 use Rattle.fx_strike.specs.Headline.{IsOneOf}
 use Rattle.mkstrike_c.specs.declared.glyph.Glyph.{Glyph}
@@ -18,10 +19,10 @@ abbrev pub opened_many_of : List ℕ → ℕ → List ℕ → Opening
 opened_many_of file ppem chars = opened_after ppem (checked_chars chars) file
 
 -- the sketches of characters in the order given, none where the font lacks one; or the first cause
-unfoldable pub many_of : List ℕ → ℕ → List ℕ → Bool → Result (List (Option Sketch)) Refusal
-many_of file ppem chars hinting = do
+unfoldable pub many_of : List ℕ → ℕ → List ℕ → Mode → Result (List (Option Sketch)) Refusal
+many_of file ppem chars mode = do
   opened ← opened_many_of file ppem chars
-  setting ← setting_in opened hinting
+  setting ← setting_in opened mode
   map_chain (one_with setting) chars
 
 -- one for each character: the glyph of its sketch, none where the font lacks it

@@ -1,3 +1,4 @@
+pub mod Modes
 pub mod Refused
 pub mod Reasons
 pub mod Pixels

@@ -2,10 +2,12 @@
 ghost use Rattle.std.specs.Prelude.{◌≡◌, ◌<◌, ◌≤◌, ◌^◌, length};
 ghost use Rattle.std.specs.List.{flat_map};
 ghost use Rattle.fx_strike.specs.Strike.{one_of, opened_one_of};
+ghost use Rattle.mkstrike_c.specs.Modes.{mode_of};
 ghost use Rattle.mkstrike_c.specs.Pixels.{row_bytes, size_of};
 ghost use Rattle.mkstrike_c.specs.Shown.{HasPixels, IsMissing, IsShown, numbers_of, status_of};
 ghost use Rattle.mkstrike_c.specs.Refused.{IsRefused};
 
+use crate::mode::mode_of;
 use crate::pixels::{put_pixels, stride};
 use crate::refused::{Refused, refuse};
 use fx_bdf::BitGlyph;
@@ -82,7 +84,7 @@ pub extern "C" fn mkstrike_glyph(
     alloc: Global,
     font: &[u8],
     ppem: u16,
-    hinting: bool,
+    mode: u32,
     code: u32,
     packed: bool,
     pixels: &mut [u8],
@@ -90,17 +92,17 @@ pub extern "C" fn mkstrike_glyph(
     refused: &mut Refused,
 ) -> u32
     // The glyph is that of the character; these are its numbers, and its pixels where there is room.
-    ensures shown { result ≡ 0 → IsShown packed (one_of font.now ppem code hinting) pixels.old pixels.new glyph.new }
+    ensures shown { result ≡ 0 → IsShown packed (one_of font.now ppem code (mode_of mode)) pixels.old pixels.new glyph.new }
     // The font does not have the character.
-    ensures missing { result ≡ 1 → IsMissing (one_of font.now ppem code hinting) }
+    ensures missing { result ≡ 1 → IsMissing (one_of font.now ppem code (mode_of mode)) }
     // The first cause was named; or memory was refused, after the font and its character map opened.
-    ensures refused { 1 < result → IsRefused (opened_one_of font.now ppem code) (one_of font.now ppem code hinting)
+    ensures refused { 1 < result → IsRefused (opened_one_of font.now ppem code) (one_of font.now ppem code (mode_of mode))
         result refused.new }
     // Nothing but what was named is written.
     ensures kept { 0 < result → (pixels.new ≡ pixels.old) × (glyph.new ≡ glyph.old) }
     ensures silent { result ≤ 1 → refused.new ≡ refused.old }
 {
-    match one(alloc, font, ppem, code, hinting) {
+    match one(alloc, font, ppem, code, mode_of(mode)) {
         Ok(made) => {
             if let Some(made) = &made {
                 put_if_room(made, packed, pixels);

@@ -5,14 +5,16 @@ ghost use Rattle.fx_request.specs.Refusals.{number_of};
 ghost use Rattle.fx_strike.specs.Faults.{Fails};
 ghost use Rattle.fx_strike.specs.Strike.{checked_chars, one_with};
 ghost use Rattle.mkstrike_c.specs.Drawn.{AreDrawn, many_of, opened_many_of};
+ghost use Rattle.mkstrike_c.specs.Modes.{mode_of};
 ghost use Rattle.mkstrike_c.specs.Refused.{IsReason, IsRefused, refused_of};
 ghost use Rattle.mkstrike_c.specs.inner.Gathering.{AreCounted, AreGathered, Holds, IsGathered, IsTold};
 
 use crate::asked::check;
 use crate::buffer::put_front;
 use crate::gathered::{Drawn, Gathered, Placed, Wanted};
+use crate::mode::mode_of;
 use crate::refused::{Refused, refuse};
-use fx_request::Refusal;
+use fx_request::{Mode, Refusal};
 use fx_rows::Rows;
 use fx_strike::Striker;
 use std::alloc::Global;
@@ -43,15 +45,15 @@ fn gathered_of(
     alloc: Global,
     font: &[u8],
     ppem: u16,
-    hinting: bool,
+    mode: Mode,
     chars: &[u32],
     wanted: Wanted,
 ) -> Result<Gathered, Refusal>
-    ensures gathered { IfOk result (IsGathered wanted (many_of font.now ppem chars.now hinting)) }
-    ensures refused { IfErr result (IsReason (opened_many_of font.now ppem chars.now) (many_of font.now ppem chars.now hinting)) }
+    ensures gathered { IfOk result (IsGathered wanted (many_of font.now ppem chars.now mode)) }
+    ensures refused { IfErr result (IsReason (opened_many_of font.now ppem chars.now) (many_of font.now ppem chars.now mode)) }
 {
     check(ppem, chars)?;
-    let mut striker = Striker::open(alloc, font, ppem, hinting)?;
+    let mut striker = Striker::open(alloc, font, ppem, mode)?;
     let none = Gathered::new(alloc, wanted, chars.len())?;
     gather(&mut striker, chars, none)
 }
@@ -90,7 +92,7 @@ pub extern "C" fn mkstrike_glyphs(
     alloc: Global,
     font: &[u8],
     ppem: u16,
-    hinting: bool,
+    mode: u32,
     chars: &[u32],
     packed: bool,
     glyphs: &mut [Placed],
@@ -99,11 +101,11 @@ pub extern "C" fn mkstrike_glyphs(
     refused: &mut Refused,
 ) -> u32
     // The glyphs are those of the characters; as many of their entries and pixels as fit were copied.
-    ensures drawn { result ≡ 0 → AreDrawn packed (many_of font.now ppem chars.now hinting) glyphs.old glyphs.new
+    ensures drawn { result ≡ 0 → AreDrawn packed (many_of font.now ppem chars.now (mode_of mode)) glyphs.old glyphs.new
         pixels.old pixels.new drawn.new }
     // The first cause was named; or memory was refused, after the size and the characters passed and the font and its map opened.
-    ensures refused { 0 < result → IsRefused (opened_many_of font.now ppem chars.now) (many_of font.now ppem chars.now hinting)
-        result refused.new }
+    ensures refused { 0 < result → IsRefused (opened_many_of font.now ppem chars.now)
+        (many_of font.now ppem chars.now (mode_of mode)) result refused.new }
     // A refusal leaves the buffers and what is told as they were, and glyphs leave the refusal's fields.
     ensures kept { 0 < result → (glyphs.new ≡ glyphs.old) × (pixels.new ≡ pixels.old) × (drawn.new ≡ drawn.old) }
     ensures silent { result ≡ 0 → refused.new ≡ refused.old }
@@ -113,6 +115,6 @@ pub extern "C" fn mkstrike_glyphs(
         entries: glyphs.len(),
         pixels: pixels.len(),
     };
-    let found = gathered_of(alloc, font, ppem, hinting, chars, wanted);
+    let found = gathered_of(alloc, font, ppem, mode_of(mode), chars, wanted);
     tell(found, glyphs, pixels, drawn, refused)
 }

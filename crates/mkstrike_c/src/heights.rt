@@ -6,7 +6,7 @@ ghost use Rattle.mkstrike_c.specs.Heights.{heights_of, surveyed_heights};
 ghost use Rattle.mkstrike_c.specs.Refused.{IsReason, IsRefused, refused_of};
 
 use crate::refused::{Refused, refuse};
-use fx_request::{Refusal, Request};
+use fx_request::{Mode, Refusal, Request};
 use fx_rows::Rows;
 use fx_strike::{Survey, survey};
 use std::alloc::Global;
@@ -41,7 +41,10 @@ fn heights_of(alloc: Global, font: &[u8], ppem: u16) -> Result<Heights, Refusal>
         properties: &[],
         x11: false,
         chars: &[],
-        hinting: false,
+        mode: Mode {
+            hinting: false,
+            dropout: false,
+        },
     };
     let survey = survey(alloc, &Rows, font, &request)?;
     Ok(heights_in(&survey))

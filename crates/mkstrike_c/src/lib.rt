@@ -14,6 +14,7 @@ mod glyphs;
 mod heights;
 pub mod laws;
 mod making;
+mod mode;
 mod names;
 mod pixels;
 mod reason;

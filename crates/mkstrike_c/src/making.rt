@@ -3,13 +3,15 @@ ghost use Rattle.std.specs.Prelude.{◌≡◌, ◌<◌, IfOk, IfErr};
 ghost use Rattle.fx_strike.specs.Strike.{opened_of, plan_of};
 ghost use Rattle.fx_strike.specs.Headline.{opening_of, strike_of};
 ghost use Rattle.mkstrike_c.specs.Made.{AreNamesAlike, HoldsText, IsMade, plain, told_of};
+ghost use Rattle.mkstrike_c.specs.Modes.{mode_of};
 ghost use Rattle.mkstrike_c.specs.Refused.{IsReason, IsRefused};
 
 use crate::buffer::put_front;
+use crate::mode::mode_of;
 use crate::refused::{Refused, refuse};
 use crate::sink::TextSink;
 use fx_fixed::Sink;
-use fx_request::{Refusal, Report, Request};
+use fx_request::{Mode, Refusal, Report, Request};
 use fx_strike::make_strike;
 use std::alloc::Global;
 
@@ -70,14 +72,14 @@ fn text_for(
     alloc: Global,
     font: &[u8],
     ppem: u16,
-    hinting: bool,
+    mode: Mode,
     chars: &[u32],
     name: &[u8],
 ) -> Result<(TextSink, Report), Refusal>
-    ensures text { IfOk result (λ made. HoldsText (plan_of font.now ppem (plain name.now) chars.now hinting)
+    ensures text { IfOk result (λ made. HoldsText (plan_of font.now ppem (plain name.now) chars.now mode)
         (⟦<TextSink as Sink>⟧.held made.0) made.1) }
     ensures refused { IfErr result (IsReason (opened_of font.now ppem (plain name.now) chars.now)
-        (plan_of font.now ppem (plain name.now) chars.now hinting)) }
+        (plan_of font.now ppem (plain name.now) chars.now mode)) }
 {
     let request = Request {
         ppem,
@@ -85,7 +87,7 @@ fn text_for(
         properties: &[],
         x11: false,
         chars,
-        hinting,
+        mode,
     };
     text_of(alloc, font, &request)
 }
@@ -97,7 +99,7 @@ pub extern "C" fn mkstrike_make(
     alloc: Global,
     font: &[u8],
     ppem: u16,
-    hinting: bool,
+    mode: u32,
     chars: &[u32],
     name: &[u8],
     out: &mut [u8],
@@ -105,15 +107,15 @@ pub extern "C" fn mkstrike_make(
     refused: &mut Refused,
 ) -> u32
     // The strike exists, and as much of its text as fits was copied.
-    ensures made { result ≡ 0 → IsMade (plan_of font.now ppem (plain name.now) chars.now hinting) out.old out.new told.new }
+    ensures made { result ≡ 0 → IsMade (plan_of font.now ppem (plain name.now) chars.now (mode_of mode)) out.old out.new told.new }
     // The first cause was named; or memory was refused, after the request passed its checks and the font and its map opened.
     ensures refused { 0 < result → IsRefused (opened_of font.now ppem (plain name.now) chars.now)
-        (plan_of font.now ppem (plain name.now) chars.now hinting) result refused.new }
+        (plan_of font.now ppem (plain name.now) chars.now (mode_of mode)) result refused.new }
     // A refusal leaves the buffer and what is told as they were, and a strike the refusal's fields.
     ensures kept { 0 < result → (out.new ≡ out.old) × (told.new ≡ told.old) }
     ensures silent { result ≡ 0 → refused.new ≡ refused.old }
 {
-    match text_for(alloc, font, ppem, hinting, chars, name) {
+    match text_for(alloc, font, ppem, mode_of(mode), chars, name) {
         Ok((sink, report)) => {
             put_front(out, sink.text());
             *told = told_of(sink.text(), report);

@@ -10,17 +10,17 @@ pub returns-clause-text : goal.returns-clause-text
 returns-clause-text c =
     let P : Result Plan Refusal → Type 0 =
     λ strike. IfOk c.text_of.result (λ made. HoldsText strike (Some made.0.text.items) made.1) in
-    subst P (same_plan c.args.font.now c.args.ppem c.args.name.now c.name_of.result.now c.args.chars.now c.args.hinting
+    subst P (same_plan c.args.font.now c.args.ppem c.args.name.now c.name_of.result.now c.args.chars.now c.args.mode
     c.name_of.ensures) c.text_of.ensures.text
 
 pub returns-clause-refused : goal.returns-clause-refused
 returns-clause-refused c =
     let opened = same_opened c.args.font.now c.args.ppem c.args.name.now c.name_of.result.now c.args.chars.now c.name_of.ensures in
-    let made = same_plan c.args.font.now c.args.ppem c.args.name.now c.name_of.result.now c.args.chars.now c.args.hinting
+    let made = same_plan c.args.font.now c.args.ppem c.args.name.now c.name_of.result.now c.args.chars.now c.args.mode
     c.name_of.ensures in
     let P : Result Plan Refusal → Type 0 =
     λ strike. IfErr c.text_of.result
     (IsReason (opened_of c.args.font.now c.args.ppem (plain c.name_of.result.now) c.args.chars.now) strike) in
     let Q : Opening → Type 0 = λ opening. IfErr c.text_of.result (IsReason opening
-    (plan_of c.args.font.now c.args.ppem (plain c.args.name.now) c.args.chars.now c.args.hinting)) in
+    (plan_of c.args.font.now c.args.ppem (plain c.args.name.now) c.args.chars.now c.args.mode)) in
     subst Q opened (subst P made c.text_of.ensures.refused)
