@@ -1,7 +1,7 @@
 //! Surveys of strikes, and characters made alone.
 use crate::fonts::fixture;
 use crate::strikes::request;
-use fx_bdf::Bounds;
+use fx_bdf::{Bounds, Summary};
 use fx_machine::Usage;
 use fx_request::{Refusal, Report, Request};
 use fx_strike::{Survey, one, survey};
@@ -38,6 +38,12 @@ fn a_strike_is_surveyed(rt: HostRuntime) -> Result<(), Fail> {
     };
     let told = Survey {
         bounds: OF_RING,
+        summary: Summary {
+            is_monospaced: true,
+            average_width: 60,
+            has_replacement: false,
+            has_space: false,
+        },
         ascent: 13,
         descent: 4,
         report: Report {
