@@ -36,7 +36,7 @@ no_pixels low high =
     like (λ n m h. n (first_centre low high m h)) (λ n. n (first_from low)) (none (centre_in low high (first_from low)))
 
 middle_of : (low high n : ℤ) → Test (IsMiddleOf low high n)
-middle_of low high n = both (lt (pos 256 *ℤ n) (low +ℤ high)) (le (low +ℤ high) (pos 256 *ℤ (n +ℤ pos 1)))
+middle_of low high n = both (le (pos 256 *ℤ n) (low +ℤ high)) (lt (low +ℤ high) (pos 256 *ℤ (n +ℤ pos 1)))
 
 kept_between : (low high n : ℤ) → Test (IsKeptIn low high n)
 kept_between low high n = one (centre_in low high n) (both (no_pixels low high) (middle_of low high n))
