@@ -15,7 +15,11 @@ use std::process::Abort;
 use std::test::Fail;
 
 /// The outline of these points, with the number of each contour's last point.
-pub(crate) fn outline(alloc: Global, points: &[OutlinePoint], ends: &[u16]) -> Result<Outline, AllocError>
+pub(crate) fn outline(
+    alloc: Global,
+    points: &[OutlinePoint],
+    ends: &[u16],
+) -> Result<Outline, AllocError>
     requires few { length points.now ≤ max_points }
     requires contours { AreEnds 0 ends.now (length points.now) }
 {
@@ -43,7 +47,10 @@ fn are_arcs(made: &[Piece], arcs: &[[(i32, i32); 3]]) -> bool {
 }
 
 /// Whether a frame has these sides.
-pub(crate) fn has_sides(frame: Result<Option<Frame>, ContourFault>, wanted: (i32, i32, u32, u32)) -> bool {
+pub(crate) fn has_sides(
+    frame: Result<Option<Frame>, ContourFault>,
+    wanted: (i32, i32, u32, u32),
+) -> bool {
     match frame {
         Ok(Some(frame)) => sides(frame) == wanted,
         _ => false,

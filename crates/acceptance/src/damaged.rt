@@ -1,23 +1,24 @@
 //! Fonts with each byte in turn set to others, hinted and not.
 use crate::fonts::{fixture, font, patch};
 use crate::hinted::{READING, STORING};
+use crate::strikes::{HINTED, UNHINTED};
 use crate::tables::{Tables, with_tables};
 use fx_fixed::{Limits, MemorySink};
-use fx_request::Request;
+use fx_request::{Mode, Request};
 use fx_strike::make_strike;
 use std::alloc::{AllocError, Global};
 use std::process::Abort;
 use std::test::Fail;
 
 /// Whether a strike of a font ends well, or a cause is named and nothing is written.
-fn ends_well(alloc: Global, font: &[u8], hinting: bool) -> Result<bool, AllocError> {
+fn ends_well(alloc: Global, font: &[u8], mode: Mode) -> Result<bool, AllocError> {
     let request = Request {
         ppem: 16,
         name: "F1",
         properties: &[],
         x11: false,
         chars: &[0x20, 0x41, 0x42],
-        hinting,
+        mode,
     };
     let mut out = MemorySink::new(alloc, 4096, Limits::NONE)?;
     let ends = match make_strike(alloc, font, &request, &mut out) {
@@ -34,22 +35,19 @@ fn ends(
     font: &[u8],
     at: usize,
     value: u8,
-    hinting: bool,
+    mode: Mode,
 ) -> Result<(), Fail> {
     let mut damaged = Vec::from_slice(alloc, font)?;
     patch(&mut damaged, at, &[value])?;
-    assert!(rt;
-        ends_well(alloc, damaged.as_slice(), hinting)?,
-        "{at} {value}"
-    );
+    assert!(rt; ends_well(alloc, damaged.as_slice(), mode)?, "{at} {value}");
     Ok(())
 }
 
 /// The same for each byte of a font.
-fn each_byte(rt: &impl Abort, alloc: Global, font: &[u8], hinting: bool) -> Result<(), Fail> {
+fn each_byte(rt: &impl Abort, alloc: Global, font: &[u8], mode: Mode) -> Result<(), Fail> {
     for at in 0..font.len() {
         for value in [0x00, 0x7F, 0x80, 0xFF] {
-            ends(rt, alloc, font, at, value, hinting)?;
+            ends(rt, alloc, font, at, value, mode)?;
         }
     }
     Ok(())
@@ -58,7 +56,7 @@ fn each_byte(rt: &impl Abort, alloc: Global, font: &[u8], hinting: bool) -> Resu
 #[test]
 fn unhinted(rt: HostRuntime) -> Result<(), Fail> {
     let font = fixture(rt.alloc())?;
-    each_byte(&rt, rt.alloc(), font.as_slice(), false)
+    each_byte(&rt, rt.alloc(), font.as_slice(), UNHINTED)
 }
 
 /// A font with a function, a control value program and two glyphs' programs.
@@ -71,5 +69,5 @@ fn hinted(rt: HostRuntime) -> Result<(), Fail> {
         cvt: "0000",
     };
     let font = with_tables(rt.alloc(), base.as_slice(), &tables)?;
-    each_byte(&rt, rt.alloc(), font.as_slice(), true)
+    each_byte(&rt, rt.alloc(), font.as_slice(), HINTED)
 }

@@ -8,7 +8,12 @@ use std::process::Abort;
 use std::test::Fail;
 
 /// The frame with drop-out control has these sides: the least column and row, the width and the height.
-fn keeps(rt: &impl Abort, alloc: Global, outline: &Outline, wanted: (i32, i32, u32, u32)) -> Result<(), Fail> {
+fn keeps(
+    rt: &impl Abort,
+    alloc: Global,
+    outline: &Outline,
+    wanted: (i32, i32, u32, u32),
+) -> Result<(), Fail> {
     let made = pieces(alloc, outline)?;
     assert!(rt; has_sides(dropout_frame(outline), wanted));
     assert!(rt; has_sides(pieces_dropout_frame(&made), wanted));

@@ -1,6 +1,6 @@
 //! Worked strikes with hinting on, and the halts of font programs.
 use crate::fonts::{ARC, RING, font, patch};
-use crate::strikes::{ends_with, is_refused, request};
+use crate::strikes::{HINTED, ends_with, is_refused, request};
 use crate::tables::{NO_TABLES, Tables, with_tables};
 use fx_cli::run;
 use fx_fixed::{Limits, MemorySink, MemorySource};
@@ -13,7 +13,7 @@ use std::test::Fail;
 /// A hinted request for characters at 16 pixels an em.
 fn hinted(chars: &[u32]) -> Request<'_> {
     Request {
-        hinting: true,
+        mode: HINTED,
         ..request(16, chars)
     }
 }

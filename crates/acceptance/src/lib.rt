@@ -16,6 +16,8 @@ mod damaged;
 #[cfg(test)]
 mod dropout_frames;
 #[cfg(test)]
+mod dropouts;
+#[cfg(test)]
 mod fonts;
 #[cfg(test)]
 mod halves;

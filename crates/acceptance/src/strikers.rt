@@ -1,11 +1,11 @@
 //! Characters and strikes that one striker makes, one after the other.
 use crate::fonts::{ARC, RING, fixture, font};
 use crate::hinted::{READING, ROUNDED, STORING};
-use crate::strikes::request;
+use crate::strikes::{HINTED, UNHINTED, request};
 use crate::surveys::OfWideFrames;
 use crate::tables::{NO_TABLES, Tables, with_tables};
 use fx_fixed::{Limits, MemorySink};
-use fx_request::{Refusal, Request};
+use fx_request::{Mode, Refusal, Request};
 use fx_rows::Rows;
 use fx_strike::{Striker, Title, make_strike, survey};
 use std::alloc::Global;
@@ -24,7 +24,7 @@ fn box_of(
 /// A hinted request for one character at 16 pixels an em.
 fn hinted(chars: &[u32]) -> Request<'_> {
     Request {
-        hinting: true,
+        mode: HINTED,
         ..request(16, chars)
     }
 }
@@ -85,7 +85,7 @@ fn twice_as_alone(
 #[test]
 fn characters_in_any_order(rt: HostRuntime) -> Result<(), Fail> {
     let font = of_storing(rt.alloc())?;
-    let mut striker = Striker::open(rt.alloc(), font.as_slice(), 16, true)?;
+    let mut striker = Striker::open(rt.alloc(), font.as_slice(), 16, HINTED)?;
     twice_as_alone(&rt, rt.alloc(), &mut striker, font.as_slice())
 }
 
@@ -111,14 +111,14 @@ fn refuses_twice(rt: &impl Abort, striker: &mut Striker<'_, Rows>) {
 #[test]
 fn a_refusal_leaves_the_striker(rt: HostRuntime) -> Result<(), Fail> {
     let font = font(rt.alloc(), ROUNDED, DIVIDING)?;
-    let mut striker = Striker::open(rt.alloc(), font.as_slice(), 16, true)?;
+    let mut striker = Striker::open(rt.alloc(), font.as_slice(), 16, HINTED)?;
     refuses_twice(&rt, &mut striker);
     writes_as_alone(&rt, rt.alloc(), &mut striker, font.as_slice(), 0x42)
 }
 
 /// The number of the refusal of a font at 16 pixels an em.
-fn refused(alloc: Global, font: &[u8], hinting: bool) -> Option<u8> {
-    match Striker::open(alloc, font, 16, hinting) {
+fn refused(alloc: Global, font: &[u8], mode: Mode) -> Option<u8> {
+    match Striker::open(alloc, font, 16, mode) {
         Ok(_striker) => None,
         Err(refusal) => Some(refusal.number()),
     }
@@ -127,10 +127,10 @@ fn refused(alloc: Global, font: &[u8], hinting: bool) -> Option<u8> {
 #[test]
 fn fonts_that_do_not_open(rt: HostRuntime) -> Result<(), Fail> {
     let font = fixture(rt.alloc())?;
-    assert_eq!(rt; refused(rt.alloc(), font.as_slice(), true), None);
-    assert_eq!(rt; refused(rt.alloc(), &[], true), Some(10));
+    assert_eq!(rt; refused(rt.alloc(), font.as_slice(), HINTED), None);
+    assert_eq!(rt; refused(rt.alloc(), &[], HINTED), Some(10));
     let no_tables = [0, 1, 0, 0, 0, 0, 0, 0, 0, 0, 0, 0];
-    assert_eq!(rt; refused(rt.alloc(), &no_tables, false), Some(11));
+    assert_eq!(rt; refused(rt.alloc(), &no_tables, UNHINTED), Some(11));
     Ok(())
 }
 
@@ -148,8 +148,8 @@ fn programs_that_halt(rt: HostRuntime) -> Result<(), Fail> {
     };
     for (tables, number) in [(&calling, 36), (&endless, 37)] {
         let font = with_tables(rt.alloc(), base.as_slice(), tables)?;
-        assert_eq!(rt; refused(rt.alloc(), font.as_slice(), true), Some(number));
-        assert_eq!(rt; refused(rt.alloc(), font.as_slice(), false), None);
+        assert_eq!(rt; refused(rt.alloc(), font.as_slice(), HINTED), Some(number));
+        assert_eq!(rt; refused(rt.alloc(), font.as_slice(), UNHINTED), None);
     }
     Ok(())
 }
@@ -157,9 +157,9 @@ fn programs_that_halt(rt: HostRuntime) -> Result<(), Fail> {
 #[test]
 fn sizes_characters_and_names(rt: HostRuntime) -> Result<(), Fail> {
     let font = fixture(rt.alloc())?;
-    let small = Striker::open(rt.alloc(), font.as_slice(), 0, false).err();
+    let small = Striker::open(rt.alloc(), font.as_slice(), 0, UNHINTED).err();
     assert_eq!(rt; small, Some(Refusal::BadSize));
-    let mut striker = Striker::open(rt.alloc(), font.as_slice(), 16, false)?;
+    let mut striker = Striker::open(rt.alloc(), font.as_slice(), 16, UNHINTED)?;
     assert_eq!(rt; box_of(&mut striker, 0x110000), Err(Refusal::BadChars));
     let far = striker.survey(&[0x41, 0x110000]);
     assert_eq!(rt; far, Err(Refusal::BadChars));
@@ -183,7 +183,7 @@ fn surveys_as_alone(rt: &impl Abort, alloc: Global, striker: &mut Striker<'_, Ro
 #[test]
 fn surveys_by_a_striker(rt: HostRuntime) -> Result<(), Fail> {
     let font = fixture(rt.alloc())?;
-    let mut striker = Striker::open(rt.alloc(), font.as_slice(), 16, true)?;
+    let mut striker = Striker::open(rt.alloc(), font.as_slice(), 16, HINTED)?;
     surveys_as_alone(&rt, rt.alloc(), &mut striker, font.as_slice());
     Ok(())
 }
@@ -192,7 +192,7 @@ fn surveys_by_a_striker(rt: HostRuntime) -> Result<(), Fail> {
 #[test]
 fn a_striker_asks_its_scan(rt: HostRuntime) -> Result<(), Fail> {
     let font = fixture(rt.alloc())?;
-    let striker = Striker::open(rt.alloc(), font.as_slice(), 16, false)?;
+    let striker = Striker::open(rt.alloc(), font.as_slice(), 16, UNHINTED)?;
     let mut striker = striker.with_scan(&OfWideFrames);
     assert_eq!(rt; striker.survey(&[0x42]), Err(Refusal::OutOfMemory));
     Ok(())

@@ -2,11 +2,23 @@
 use crate::fonts::{ARC, RING, STRIKE, fixture, font, of_points, patch};
 use fx_fixed::{Limits, MemorySink, Sink};
 use fx_machine::Usage;
-use fx_request::{Refusal, Report, Request};
+use fx_request::{Mode, Refusal, Report, Request};
 use fx_strike::make_strike;
 use std::alloc::Global;
 use std::process::Abort;
 use std::test::Fail;
+
+/// Neither hinting nor drop-out control.
+pub const UNHINTED: Mode = Mode {
+    hinting: false,
+    dropout: false,
+};
+
+/// Hinting alone.
+pub const HINTED: Mode = Mode {
+    hinting: true,
+    dropout: false,
+};
 
 /// An unhinted request for a size and characters.
 pub fn request(ppem: u16, chars: &[u32]) -> Request<'_> {
@@ -16,7 +28,7 @@ pub fn request(ppem: u16, chars: &[u32]) -> Request<'_> {
         properties: &[],
         x11: false,
         chars,
-        hinting: false,
+        mode: UNHINTED,
     }
 }
 
@@ -47,7 +59,7 @@ pub fn ends_with(
 }
 
 /// A strike of one character has these lines, from its box on or before, at its end.
-fn ends_so(
+pub fn ends_so(
     rt: &impl Abort,
     alloc: Global,
     font: &[u8],

@@ -1,6 +1,6 @@
 //! Surveys of strikes, and characters made alone.
 use crate::fonts::fixture;
-use crate::strikes::request;
+use crate::strikes::{HINTED, UNHINTED, request};
 use fx_bdf::{Bounds, Summary};
 use fx_machine::Usage;
 use fx_request::{Refusal, Report, Request};
@@ -12,10 +12,10 @@ use std::test::Fail;
 #[test]
 fn one_character_is_made(rt: HostRuntime) -> Result<(), Fail> {
     let font = fixture(rt.alloc())?;
-    for hinting in [false, true] {
-        let glyph = one(rt.alloc(), font.as_slice(), 16, 0x42, hinting)?;
+    for mode in [UNHINTED, HINTED] {
+        let glyph = one(rt.alloc(), font.as_slice(), 16, 0x42, mode)?;
         assert!(rt; glyph.as_ref().map(|glyph| glyph.bbox()) == Some((2, 1, 0, 0)));
-        let missing = one(rt.alloc(), font.as_slice(), 16, 0x21, hinting)?;
+        let missing = one(rt.alloc(), font.as_slice(), 16, 0x21, mode)?;
         assert!(rt; missing.is_none());
     }
     Ok(())
@@ -33,7 +33,7 @@ const OF_RING: Bounds = Bounds {
 fn a_strike_is_surveyed(rt: HostRuntime) -> Result<(), Fail> {
     let font = fixture(rt.alloc())?;
     let request = Request {
-        hinting: true,
+        mode: HINTED,
         ..request(16, &[0x42, 0x41, 0x21, 0x41])
     };
     let told = Survey {

@@ -8,7 +8,7 @@ use std::process::Abort;
 use std::test::Fail;
 
 /// Arguments that are valid, of size 0 or 1025.
-const VALID: [&str; 11] = [
+const VALID: [&str; 13] = [
     "mkstrike|make|--ppem|0|--chars|41",
     "mkstrike|make|--chars=41|--ppem=0",
     "mkstrike|make|--hex|--name=a b|--unhinted|--chars|20,41-42|--ppem|00000000",
@@ -17,13 +17,15 @@ const VALID: [&str; 11] = [
     "mkstrike|make|--ppem|0|--chars|110000",
     "|make|--ppem=1025|--chars=41|--name=-",
     "mkstrike|make|--ppem|0|--chars|41|--name=-misc-fixed-medium-r-normal--16-160-72-72-c-80-iso10646-1",
+    "mkstrike|make|--dropout|--ppem|0|--unhinted|--chars|41",
     "mkstrike|show|--ppem|0|--char|41",
+    "mkstrike|show|--ppem|0|--char|41|--dropout",
     "mkstrike|show|--hex|--char=0000fF|--unhinted|--ppem=0",
     "mkstrike|show|--ppem|1025|--char|110000",
 ];
 
 /// Arguments that are not valid.
-const NOT_VALID: [&str; 66] = [
+const NOT_VALID: [&str; 69] = [
     "mkstrike|",
     "mkstrike|make",
     "mkstrike|make|--ppem|0",
@@ -71,6 +73,9 @@ const NOT_VALID: [&str; 66] = [
     "mkstrike|make|--ppem|-1|--chars|41",
     "mkstrike|make|--pp|0|--chars|41",
     "mkstrike|make|--ppem|0|--chars|41|--unhinted=yes",
+    "mkstrike|make|--ppem|0|--chars|41|--dropout=3",
+    "mkstrike|show|--ppem|0|--char|41|--dropout|--dropout",
+    "mkstrike|dump|--of|prep|--dropout",
     "mkstrike|make|--ppem|0|--chars|41|--hex=",
     "mkstrike|make|--ppem||--chars|41",
     "mkstrike|make|--ppem|65536|--chars|41",

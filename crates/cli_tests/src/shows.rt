@@ -6,8 +6,9 @@ use std::test::Fail;
 
 const NO_FONT: End<'static> = (1, b"", b"mkstrike: 10 NotTrueType\n");
 
-/// The pictures of A, B, a space, which is empty, and a character that the font does not have; and what is refused.
-const PICTURES: [(&str, End<'static>); 6] = [
+/// The pictures of A, B, a space, which is empty, and a character that the font does not have; those of B at 4 pixels an em, half a
+/// pixel wide and less high, where only an end of it passes below a centre; and what is refused.
+const PICTURES: [(&str, End<'static>); 8] = [
     (
         "mkstrike|show|--hex|--ppem|16|--char|41|--unhinted",
         (0, b"#####\n#####\n##.##\n#####\n#####\n", b""),
@@ -23,6 +24,14 @@ const PICTURES: [(&str, End<'static>); 6] = [
     (
         "mkstrike|show|--hex|--ppem|16|--char|21|--unhinted",
         (0, b"missing\n", b""),
+    ),
+    (
+        "mkstrike|show|--hex|--ppem|4|--char|42|--unhinted",
+        (0, b"empty\n", b""),
+    ),
+    (
+        "mkstrike|show|--hex|--ppem|4|--char|42|--unhinted|--dropout",
+        (0, b"#\n", b""),
     ),
     ("mkstrike|show|--hex|--ppem|16|--char|110000", BAD_CHARS),
     ("mkstrike|show|--ppem|16|--char|41|--unhinted", NO_FONT),
