@@ -56,6 +56,7 @@ pub fn seen_frame(turned: bool, frame: Frame) -> Frame
 }
 
 /// A bit of a bitmap as it is, or with its coordinates exchanged.
+#[inline(always)]
 pub fn is_set(turned: bool, bitmap: &Bitmap, i: i32, j: i32) -> bool
     ensures { result ≡ seen_bit turned bitmap.now i j }
 {

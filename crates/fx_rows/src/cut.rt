@@ -141,6 +141,7 @@ fn count_in(bend: Bend, window: Window, stop: u32) -> u32
 }
 
 /// How many columns from the base count. A guess changes how soon that is found, and nothing else.
+#[inline(always)]
 fn count_of(bend: Bend, guess: u32, stop: u32) -> u32
     requires few { stop ≤ greatest_side + 2 }
     requires first { CountsFirst bend stop }
@@ -192,7 +193,8 @@ fn on_end(piece: &Piece, bend: Bend, strip: Strip, end: u32, tally: &mut Tally) 
     on_one(piece, strip, past - 1, tally)
 }
 
-/// What a bent arc adds.
+/// What a bent arc adds. Two loops call it, and each is to have it in its body.
+#[inline(always)]
 pub(crate) fn arc_cut(
     bounded: &Bounded,
     b: Point,

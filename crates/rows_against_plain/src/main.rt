@@ -3,20 +3,26 @@
 //!     rows_against_plain CONTOURS [SEED] < FONT
 //!
 //! Of the font on standard input, if it is not empty, each glyph is scanned at 12, 16, 33 and 128 pixels an em, without
-//! hinting. Each outline is scanned once more with the halves of each arc that has any in its place. For each kind the program
-//! writes how many outlines it compared, how many pixels they have, how many outlines differ, and how many differ with halves.
+//! hinting. Each outline is scanned once more with the halves of each arc that has any in its place. With drop-out control the gaps
+//! are closed at the segments that are noted and, in another bitmap, by a look at each pair of neighbours. For each kind the program
+//! writes how many outlines it compared, how many pixels they have, how many outlines differ, how many differ with halves, and how
+//! many differ with their gaps closed.
 #![tactic(auto)]
+
+ghost use Rattle.std.specs.Prelude.{IsTrue};
+ghost use Rattle.fx_winding.specs.Frames.{HasMargin};
 
 mod random;
 
 use crate::random::Random;
 use anyhow::{Result, bail};
 use fx_contour::{frame, pieces};
+use fx_dropout::{close_gaps, close_gaps_plainly};
 use fx_fixed::Ppem;
 use fx_hint::outline;
 use fx_rows::Rows;
 use fx_sfnt::Font;
-use fx_winding::{Bitmap, Frame, Piece, Pieces, Plain, Scan, Tally, halves};
+use fx_winding::{Bitmap, Frame, MAX_PIXEL, Piece, Pieces, Plain, Scan, Tally, halves};
 use std::alloc::Global;
 use std::env;
 use std::io::Read;
@@ -31,13 +37,16 @@ struct Counts {
     pixels: u64,
     differing: u64,
     differing_with_halves: u64,
+    differing_closed: u64,
 }
 
-/// What the scan by rows sets the same: the bits of the scan by pixels, and its own with halves in place of arcs.
+/// What the scan by rows sets the same: the bits of the scan by pixels, its own with halves in place of arcs, and the same with its
+/// gaps closed either way.
 #[derive(Clone, Copy)]
 struct Agreement {
     with_pixels: bool,
     with_halves: bool,
+    closed: bool,
 }
 
 impl Counts {
@@ -47,6 +56,7 @@ impl Counts {
         pixels: 0,
         differing: 0,
         differing_with_halves: 0,
+        differing_closed: 0,
     };
 
     /// With one outline more.
@@ -59,6 +69,9 @@ impl Counts {
             differing_with_halves: self
                 .differing_with_halves
                 .saturating_add(u64::from(!same.with_halves)),
+            differing_closed: self
+                .differing_closed
+                .saturating_add(u64::from(!same.closed)),
         }
     }
 }
@@ -100,6 +113,35 @@ fn halved(alloc: Global, pieces: &Pieces) -> Result<Pieces> {
     Ok(halved)
 }
 
+/// Whether the columns and rows beside a frame have numbers too.
+fn has_margin(frame: Frame) -> bool
+    ensures { IsTrue result → HasMargin frame }
+{
+    if frame.left < -MAX_PIXEL {
+        return false;
+    }
+    if frame.bottom < -MAX_PIXEL {
+        return false;
+    }
+    if frame.left + frame.width as i32 > MAX_PIXEL {
+        return false;
+    }
+    frame.bottom + frame.height as i32 <= MAX_PIXEL
+}
+
+/// Whether the gaps of an outline are the same, closed where they are noted and closed plainly.
+fn closes_the_same(alloc: Global, pieces: &Pieces, frame: Frame) -> Result<bool> {
+    if !has_margin(frame) {
+        return Ok(true);
+    }
+    let mut tally = Tally::new();
+    let mut noted = Rows.scan(alloc, pieces, frame, &mut tally)?;
+    close_gaps(alloc, pieces, &mut noted)?;
+    let mut plain = Rows.scan(alloc, pieces, frame, &mut tally)?;
+    close_gaps_plainly(pieces, &mut plain);
+    Ok(are_same(&noted, &plain, frame))
+}
+
 /// What the scan by rows of an outline sets the same.
 fn compare(alloc: Global, pieces: &Pieces, frame: Frame) -> Result<Agreement> {
     let mut tally = Tally::new();
@@ -109,6 +151,7 @@ fn compare(alloc: Global, pieces: &Pieces, frame: Frame) -> Result<Agreement> {
     Ok(Agreement {
         with_pixels: are_same(&by_rows, &by_pixels, frame),
         with_halves: are_same(&by_rows, &with_halves, frame),
+        closed: closes_the_same(alloc, pieces, frame)?,
     })
 }
 
@@ -144,9 +187,10 @@ fn report(rt: &HostRuntime, what: &str, counts: Counts) -> Result<()> {
         pixels,
         differing,
         differing_with_halves,
+        differing_closed,
     } = counts;
     println!(rt;
-        "{what}: {outlines} outlines, {pixels} pixels, {differing} differ, {differing_with_halves} with halves"
+        "{what}: {outlines} outlines, {pixels} pixels, {differing} differ, {differing_with_halves} with halves, {differing_closed} closed"
     )?;
     Ok(())
 }
