@@ -36,7 +36,7 @@ flag_rule id = record (new_rule id) { long = Some id; action = Some SetTrue }
 
 -- the command `make` with its options
 unfoldable pub make_app : App
-make_app = with_rule (with_rule (with_rule (with_rule (with_rule (with_rule (with_rule (new_app (codes "make"))
+make_app = with_rule (with_rule (with_rule (with_rule (with_rule (with_rule (with_rule (with_rule (new_app (codes "make"))
     (option_rule (codes "ppem"))) (option_rule (codes "chars"))) (option_rule (codes "name"))) (many_rule (codes "property")))
     (flag_rule (codes "x11"))) (flag_rule (codes "unhinted"))) (flag_rule (codes "dropout"))) (flag_rule (codes "hex"))
 

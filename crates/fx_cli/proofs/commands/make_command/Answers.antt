@@ -13,5 +13,6 @@ returns c =
     let four = c.in_ok-arg-4.ensures.shape c.many.ensures.local ∙ ap₂ with_rule three c.many.ensures.rule in
     let five = c.in_ok-arg-5.ensures.shape c.flag.ensures.local ∙ ap₂ with_rule four c.flag.ensures.rule in
     let six = c.in_ok-arg-6.ensures.shape c.flag-2.ensures.local ∙ ap₂ with_rule five c.flag-2.ensures.rule in
-    IfOk-weaker c.arg-7.result _ _ (λ command h. h.shape c.flag-3.ensures.local ∙ ap₂ with_rule six c.flag-3.ensures.rule)
-    c.arg-7.ensures
+    let seven = c.in_ok-arg-7.ensures.shape c.flag-3.ensures.local ∙ ap₂ with_rule six c.flag-3.ensures.rule in
+    IfOk-weaker c.arg-8.result _ _ (λ command h. h.shape c.flag-4.ensures.local ∙ ap₂ with_rule seven c.flag-4.ensures.rule)
+    c.arg-8.ensures
