@@ -11,7 +11,7 @@ use Rattle.std.proofs.lemmas.Bool.{and_from, and_parts, ltb-true, leb-true}
 use Rattle.std.proofs.lemmas.Fmt.{length_signed_le}
 use Rattle.fx_bdf.specs.Printed.{is_printed}
 use Rattle.fx_bdf.specs.Properties.{PropertyView, ValueView, number, text, doubled, quoted, value_text, property_text}
-use Rattle.fx_bdf.specs.Properties.{AreLines, AreProperties, first_bad, first_bad_after, is_integer, is_line, is_short_value}
+use Rattle.fx_bdf.specs.Properties.{AreLines, AreProperties, first_bad_after, is_integer, is_line, is_short_value}
 use Rattle.fx_bdf.specs.Properties.{is_string, is_value, is_word, may_follow}
 use Rattle.fx_bdf.specs.Properties.{seen_properties, seen_property}
 use Rattle.fx_bdf.specs.declared.property.Property.{Property}
@@ -66,9 +66,6 @@ left_is ps i d h =
     ap (λ (qs : List Property). first_bad_after (seen_properties (take i ps)) (seen_properties qs)) (next_left ps i d h)
     ∙ first_bad_after-cons _ _ _
     ∙ ap₂ (λ (qs : List PropertyView) (n : ℕ). chosen good (first_bad_after qs (seen_properties (drop (i + 1) ps))) n) front count
-
-pub left_all : (ps : List Property) → first_bad (seen_properties ps) ≡ left_after ps 0
-left_all ps = refl
 
 pub left_more : (ps : List Property) (i : ℕ) (d : Property) → i < length ps
     → may_follow (seen_properties (take i ps)) (seen_property (get_or ps i d)) ≡ true → left_after ps i ≡ left_after ps (i + 1)

@@ -1,50 +1,28 @@
 -- The properties of X11 before given ones, and how long they are.
 -- Serves `fields_from`, `push_untaken`, `x11_properties` and `all_properties`.
-use Rattle.std.proofs.Common.{◌≡◌, ◌∙◌, ℕ, ◌+◌, ◌-◌, ◌*◌, ◌^◌, ◌<◌, ◌≤◌, zero, suc, Bool, true, false, not, cond, List, [], ◌∷◌, ◌++◌}
-use Rattle.std.proofs.Common.{length, take, get_or, refl, ap, arith, lit≤, ℤ, pos, negsuc, FitsSigned}
+use Rattle.std.proofs.Common.{◌≡◌, ℕ, ◌+◌, ◌*◌, ◌^◌, ◌<◌, ◌≤◌, zero, suc, Bool, true, false, not, cond, List, [], ◌∷◌, ◌++◌}
+use Rattle.std.proofs.Common.{length, refl, arith, lit≤, ℤ, pos, negsuc, FitsSigned}
 use Rattle.std.proofs.Common.{w32, length-append}
 use Rattle.std.specs.Prelude.{codes, filter, nat_le, if◌then◌else◌}
 use Rattle.std.specs.List.{after_first, before_first, list_all, position_or_len}
 use Rattle.std.proofs.lemmas.Bool.{and_from, and_parts, le-leb, lt-ltb}
 use Rattle.std.proofs.lemmas.Int.{ints}
-use Rattle.std.proofs.lemmas.List.{length-drop, length-take, map-append, take_more}
-use Rattle.std.proofs.lemmas.List.Elements.{filter-append}
+use Rattle.std.proofs.lemmas.List.{length-drop, length-take}
 use Rattle.std.proofs.lemmas.List.Sums.{count_by-le-length, length-filter}
 use Rattle.fx_bdf.specs.declared.property.Property.{Property}
 use Rattle.fx_bdf.specs.declared.summary.Summary.{Summary}
 use Rattle.fx_bdf.specs.Properties.{AreLines, AreProperties, PropertyView, is_integer, is_line, is_taken, longest_string}
-use Rattle.fx_bdf.specs.Properties.{seen_properties, seen_property}
+use Rattle.fx_bdf.specs.Properties.{seen_properties}
 use Rattle.fx_bdf.specs.Text.{IsName}
 use Rattle.fx_bdf.specs.X11.{before_given, charset_properties, default_properties, fields_from, is_font_name, is_hyphen}
 use Rattle.fx_bdf.specs.X11.{name_properties, part_of, size_properties, spacing, width_properties, x11_properties}
 use Rattle.fx_bdf.proofs.GoodProperties.{few_and_short}
 use Rattle.fx_bdf.proofs.Parts.{name_short}
 
--- ---- the parts of a name
-
--- one field further
-pub field_more : (n i : ℕ) (rest : List ℕ) → i < n
-    → fields_from (n - i) rest ≡ fields_from (n - (i + 1)) (after_first is_hyphen rest)
-field_more n i rest h = let e : n - i ≡ suc (n - (i + 1)) = omega arith in ap (λ (k : ℕ). fields_from k rest) e
-
--- at the field
-pub field_here : (n i : ℕ) (rest : List ℕ) → n ≤ i → fields_from (n - i) rest ≡ rest
-field_here n i rest h = let e : n - i ≡ 0 = omega arith in ap (λ (k : ℕ). fields_from k rest) e
-
 -- ---- those whose names are free
 
 abbrev pub untaken : List PropertyView → List Property → List PropertyView
 untaken given more = filter (λ p. not (is_taken given p.name)) (seen_properties more)
-
--- one property more, by the test of its name
-pub untaken_more : (given : List PropertyView) (more : List Property) (i : ℕ) (d : Property) (b : Bool) → i < length more
-    → is_taken given (get_or more i d).name.now ≡ b
-    → untaken given (take (i + 1) more) ≡ untaken given (take i more) ++ cond (not b) (seen_property (get_or more i d) ∷ []) []
-untaken_more given more i d b h e =
-    ap (untaken given) (take_more more i d h)
-    ∙ ap (filter (λ p. not (is_taken given p.name))) (map-append seen_property (take i more) (get_or more i d ∷ []))
-    ∙ filter-append (λ p. not (is_taken given p.name)) (seen_properties (take i more)) (seen_property (get_or more i d) ∷ [])
-    ∙ ap (λ (t : Bool). untaken given (take i more) ++ cond (not t) (seen_property (get_or more i d) ∷ []) []) e
 
 -- ---- how long they are
 

@@ -123,7 +123,8 @@ impl<'a> Code<'a> {
     fn find(&self, from: usize, seek: Seek) -> Option<usize>
         ensures inside { IfSome result (λ address. address < length self.now) }
         ensures bound { IfSome result (λ address. address + 1 < 2 ^ 64) }
-        ensures first { MatchOption result (HasNone (stops seek) self.now from) (λ address. IsFirst (stops seek) self.now from address) }
+        ensures first { MatchOption result (HasNone (stops seek) self.now from)
+            (λ address. IsFirst (stops seek) self.now from address) }
     {
         let mut address = from;
         let mut level: usize = 0;

@@ -10,9 +10,9 @@ use Rattle.fx_contour.specs.Curve.{Knot, doubled_of, middle_of, joint_of, span_a
 use Rattle.fx_contour.specs.Curve.{CurvesAreClosed, knot_of, midpoint, with_midpoints, head_or, along, CurveIsByMidpoints}
 
 -- what q adds leads from the joint_of before it to the joint_of after it
-one : (p q r : OutlinePoint) (ss : List Span) (y : Place) → Leads (joint_of q r) ss y
+one_leads : (p q r : OutlinePoint) (ss : List Span) (y : Place) → Leads (joint_of q r) ss y
     → Leads (joint_of p q) (option_to_list (span_at p q r) ++ ss) y
-one p q r ss y h = by p.on_curve q.on_curve r.on_curve h
+one_leads p q r ss y h = by p.on_curve q.on_curve r.on_curve h
   where
     by : (a b c : Bool) → Leads (if b then doubled_of q else (if c then doubled_of r else middle_of q r)) ss y
         → Leads (if a then doubled_of p else (if b then doubled_of q else middle_of p q))
@@ -30,7 +30,7 @@ one p q r ss y h = by p.on_curve q.on_curve r.on_curve h
 chain : (p : OutlinePoint) (qs : List OutlinePoint) (r : OutlinePoint)
     → Leads (joint_of p (first_or qs r)) (spans_between p qs r) (joint_of (last_or p qs) r)
 chain p [] r = refl
-chain p (q ∷ qs) r = one p q (first_or qs r) (spans_between q qs r) (joint_of (last_or q qs) r) (chain q qs r)
+chain p (q ∷ qs) r = one_leads p q (first_or qs r) (spans_between q qs r) (joint_of (last_or q qs) r) (chain q qs r)
 
 pub closed : CurvesAreClosed
 closed [] = (record { x = pos 0; y = pos 0 }, refl)
@@ -56,7 +56,8 @@ head_with_midpoints : (q : OutlinePoint) (qs : List OutlinePoint) (r : OutlinePo
 head_with_midpoints q [] r = refl
 head_with_midpoints q (s ∷ qs) r = head_more q s qs (next_knot (last_or s qs) r)
 
-point : ℤ → ℤ → Bool → OutlinePoint
+-- a point by its fields
+unfoldable pub point : ℤ → ℤ → Bool → OutlinePoint
 point x y b = record { x = x; y = y; on_curve = b }
 
 step : (px py qx qy sx sy : ℤ) (a b c : Bool) (ks : List Knot) (k : Knot) (ss : List Span)

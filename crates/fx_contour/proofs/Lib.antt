@@ -13,6 +13,5 @@ pub mod Extents
 pub mod Kept
 pub mod DropoutFramed
 pub mod Bridged
-pub mod Plane
 pub mod Shifted
 pub mod Reversed

@@ -21,6 +21,7 @@ use Rattle.fx_contour.specs.Curve.{doubled_of, middle_of, joint_of, span_at, fir
 use Rattle.fx_contour.specs.Contours.{contours_from, spans_of, IsInReach}
 use Rattle.fx_contour.specs.Moves.{reversed_from, reversed_points, ReversalReversesContours, ReversalReversesSpans}
 use Rattle.fx_contour.specs.Moves.{ReversalKeepsBits}
+use Rattle.fx_contour.proofs.Closed.{point}
 use Rattle.fx_contour.proofs.Decided.{reach_is_tested}
 use Rattle.fx_contour.proofs.Drawn.{drawn_spans, drawn_from}
 
@@ -40,9 +41,6 @@ spans_after p [] r = []
 spans_after p (q ∷ qs) r = option_to_list (span_from p q (first_or qs r)) ++ spans_after q qs r
 
 -- ---- lines by their ends and by their starts differ by the first line and the last
-point : ℤ → ℤ → Bool → OutlinePoint
-point x y b = record { x = x; y = y; on_curve = b }
-
 one : (px py qx qy rx ry : ℤ) (a b c : Bool)
     → option_to_list (line (point px py a) (point qx qy b)) ++ option_to_list
     (span_from (point px py a) (point qx qy b) (point rx ry c))

@@ -15,6 +15,7 @@ use Rattle.fx_hint.specs.declared.points.OutlinePoint.{OutlinePoint}
 use Rattle.fx_contour.specs.Curve.{doubled_of, middle_of, joint_of, span_at, first_or, last_or, spans_between, curve_of}
 use Rattle.fx_contour.specs.Contours.{contours_from}
 use Rattle.fx_contour.specs.Moves.{shifted_point, ShiftMovesSpans, ShiftMovesBits}
+use Rattle.fx_contour.proofs.Closed.{point}
 use Rattle.fx_contour.proofs.Drawn.{drawn_spans}
 
 -- a point, and a span, moved by k pixels to the right and l up
@@ -42,9 +43,6 @@ doubled_moved k l p = λ i. record { x = twice_moved p.x k i; y = twice_moved p.
 
 middle_moved : (k l : ℤ) (p q : OutlinePoint) → middle_of (moved_point k l p) (moved_point k l q) ≡ moved_place k l (middle_of p q)
 middle_moved k l p q = λ i. record { x = sum_moved p.x q.x k i; y = sum_moved p.y q.y l i }
-
-point : ℤ → ℤ → Bool → OutlinePoint
-point x y b = record { x = x; y = y; on_curve = b }
 
 joint_fields : (k l px py qx qy : ℤ) (a b : Bool)
     → joint_of (moved_point k l (point px py a)) (moved_point k l (point qx qy b)) ≡ moved_place k l

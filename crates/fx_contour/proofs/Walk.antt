@@ -1,17 +1,13 @@
 -- A walk along a contour adds its pieces.
 -- For the loop of `add_contour`.
-use Rattle.std.proofs.Common.{◌≡◌, refl, sym, ap, subst, ◌∙◌, ℕ, ◌+◌, ◌<◌, ◌≤◌, ℤ, List, [], ◌∷◌, ◌++◌, All, map, drop}
+use Rattle.std.proofs.Common.{◌≡◌, refl, sym, ap, subst, ◌∙◌, ℕ, ◌+◌, ◌<◌, ◌≤◌, List, [], ◌∷◌, ◌++◌, All, map, drop}
 use Rattle.std.proofs.Common.{length, get_or, arith, Option, Some, None, option_map, option_to_list, append_assoc, length-append}
 use Rattle.std.proofs.lemmas.List.{drop_more, map-append}
 use Rattle.fx_winding.specs.declared.point.Piece.{Piece}
-use Rattle.fx_winding.specs.Area.{Place}
 use Rattle.fx_winding.specs.Winding.{Span, span_of}
 use Rattle.fx_hint.specs.declared.points.OutlinePoint.{OutlinePoint}
 use Rattle.fx_contour.specs.Curve.{span_at, last_or, spans_between, curve_of}
 use Rattle.fx_contour.specs.Contours.{IsInReach}
-
-pub place_same : (x y x' y' : ℤ) → x ≡ x' → y ≡ y' → ◌≡◌ {A = Place} (record { x = x; y = y }) (record { x = x'; y = y' })
-place_same x y x' y' e f = cc
 
 pub item_near : (points : List OutlinePoint) (i : ℕ) (p d : OutlinePoint) → All IsInReach points → i < length points
     → p ≡ get_or points i d → IsInReach p

@@ -11,7 +11,7 @@ use Rattle.fx_machine.specs.declared.halt.Cause.TheVariants.{CodeEnd}
 use Rattle.fx_machine.specs.declared.action.Action.{Action}
 use Rattle.fx_machine.specs.declared.state.State.{State}
 use Rattle.fx_machine.specs.Effects.{Fails}
-use Rattle.fx_machine.specs.Table.{is_push, relative_row, then_at, push_at, row_of, row_here, row_in, settled}
+use Rattle.fx_machine.specs.Table.{is_push, push_at, row_of, row_here, row_in, settled}
 
 -- an opcode that pushes nothing has no data
 lone : (code : List ℕ) (p : ℕ) → is_push (opcode_at code p) ≡ false → size_at code p ≡ 1
@@ -41,27 +41,3 @@ unfolding row_in
 row_cut w p s code n h =
     let past : length code < next_address code p = not_inside code p h in
     rw (ne_eqb p (length code) n, lt-leb (next_address code p) (length code) past) refl
-
--- ---- the ranges of opcodes
-
--- from C0 on none pushes
-not_push : (op : ℕ) → 0xC0 ≤ op → is_push op ≡ false
-not_push op h = grind arith
-
--- MDRP and MIRP
-pub relative_here : (op : ℕ) (code : List ℕ) (w : Program) (p next : ℕ) (s : State) → 0xC0 ≤ op → next ≡ p + 1
-    → then_at next (relative_row op s) ≡ row_here op code w p s
-unfolding row_here row_of
-relative_here op code w p next s h e = rw (not_push op h, le-leb 0xC0 op h, e) refl
-
--- the pushes
-pub push_here : (op : ℕ) (code : List ℕ) (w : Program) (p : ℕ) (s : State) → is_push op ≡ true
-    → push_at code p s ≡ row_here op code w p s
-unfolding row_here
-push_here op code w p s h = rw h refl
-
-pub pushes_count : (op : ℕ) → 0x40 ≤ op → op < 0x42 → is_push op ≡ true
-pushes_count op h k = grind arith
-
-pub pushes_range : (op : ℕ) → 0xB0 ≤ op → op < 0xC0 → is_push op ≡ true
-pushes_range op h k = grind arith

@@ -1,6 +1,6 @@
 -- What a machine begins with.
 -- Control values are numbers of 32 bits; the tables that hold what programs leave have the sizes of the first state's.
-use Rattle.std.proofs.Common.{◌≡◌, ℕ, ℤ, ◌+◌, List, [], true, map, Result, Ok, Err, FitsSigned, refl}
+use Rattle.std.proofs.Common.{◌≡◌, ℕ, ◌+◌, List, [], true, map, Result, Ok, Err, FitsSigned, refl}
 use Rattle.std.specs.List.{All}
 use Rattle.std.proofs.lemmas.List.Elements.{All-map}
 use Rattle.fx_fixed.proofs.Rounding.{wrapped_of_is_wrapped}

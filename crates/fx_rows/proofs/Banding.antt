@@ -42,8 +42,8 @@ word_in up high w first n h e l = by (words_for w) (omega arith) e l
 pub kept_none : (b : Band) (n : ℕ) → IsKept b b n
 kept_none b n = record { turns = refl; mark = refl }
 
-kept_both : (old mid new : Band) (n : ℕ) → IsKept old mid n → IsKept mid new n → IsKept old new n
-kept_both old mid new n a b = record { turns = b.turns ∙ a.turns; mark = b.mark ∙ a.mark }
+kept_through : (old mid new : Band) (n : ℕ) → IsKept old mid n → IsKept mid new n → IsKept old new n
+kept_through old mid new n a b = record { turns = b.turns ∙ a.turns; mark = b.mark ∙ a.mark }
 
 -- added first, and then kept
 added_kept : (s : Span) (p : Place) (old mid new : Band) (n : ℕ)
@@ -96,7 +96,7 @@ pub band_both : (s : Span) (f : Frame) (from mid to : ℕ) (old now new : Band) 
     → IsBandAdded s f from mid old now → IsBandAdded s f mid to now new → IsBandAdded s f from to old new
 band_both s f from mid to old now new fm mt a b = record {
   added = λ r k h l m. by r k h l m (below_or_not r mid);
-  kept = λ n h. kept_both old now new n (a.kept n (λ r x y. h r x (omega arith))) (b.kept n (λ r x y. h r (omega arith) y));
+  kept = λ n h. kept_through old now new n (a.kept n (λ r x y. h r x (omega arith))) (b.kept n (λ r x y. h r (omega arith) y));
   grown = λ n w. b.grown n (a.grown n w);
   touches = λ t. b.touches (a.touches t);
 }

@@ -33,13 +33,6 @@ scaled_pair x y i j v v' =
     (var 4 ⊠ f (var 5) ⊞ (var 5 ⊟ var 4) ⊠ (num (pos 4) ⊠ (var 0 ⊠ var 1) ⊞ ((var 2 ⊟ var 3) ⊠ (var 2 ⊟ var 3)) ⊠ (var 4 ⊠ var 5)))
     tt
 
-scaled_flat : (x y i j v : ℤ) → v ≡ pos 0 → scaled x y i j v ≡ pos 4 *ℤ (x *ℤ y)
-scaled_flat x y i j v e =
-    ap (scaled x y i j) e ∙
-    ring (x ∷ y ∷ i ∷ j ∷ [])
-    (num (pos 4) ⊠ ((var 0 ⊟ var 2 ⊠ num (pos 0)) ⊠ (var 1 ⊟ var 3 ⊠ num (pos 0))) ⊟ ((var 2 ⊞ var 3) ⊠ num (pos 0)) ⊠
-    ((var 2 ⊞ var 3) ⊠ num (pos 0))) (num (pos 4) ⊠ (var 0 ⊠ var 1)) tt
-
 four_above : (z : ℤ) → pos 0 <ℤ z → pos 0 <ℤ (pos 4 *ℤ z)
 four_above z h = omega (arith, signed)
 
@@ -66,9 +59,6 @@ scaled_closer x y i j v v' some h k g =
     let p3 = sum_above' (pos 4 *ℤ (x *ℤ y)) (((i -ℤ j) *ℤ (i -ℤ j)) *ℤ (v *ℤ v')) (four_above (x *ℤ y) some) p2 in
     let p4 = product_above_zero (v' -ℤ v) _ (difference_above v v' k) p3 in
     drop_factor_strict v' (scaled x y i j v) up.1 (sum_above _ _ _ (scaled_pair x y i j v v') p1 p4)
-
-scaled_chord : (x y i j v : ℤ) → pos 0 <ℤ (x *ℤ y) → v ≡ pos 0 → pos 0 <ℤ scaled x y i j v
-scaled_chord x y i j v some e = subst (λ z. pos 0 <ℤ z) (sym (scaled_flat x y i j v e)) (four_above (x *ℤ y) some)
 
 -- ---- for the weights of a place: both sums depend on its height alone
 first_sum : (s ax ay bx by cx cy px py : ℤ)

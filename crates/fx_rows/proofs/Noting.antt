@@ -58,15 +58,6 @@ noted_more s f from up a b h k row = record { bits = λ r j l m n o. by r j l m 
 pub noted_end : (s : Span) (f : Frame) (from up end : ℕ) (a : List ℕ) → up ≡ end → AreNoted s f from up a → AreNoted s f from end a
 noted_end s f from up end a e h = subst (λ (n : ℕ). AreNoted s f from n a) e h
 
-pub noted_join : (s : Span) (f : Frame) (from mid to : ℕ) (a b : List ℕ) → AreNoted s f from mid a → AreKept a b
-    → AreNoted s f mid to b → AreNoted s f from to b
-noted_join s f from mid to a b h k g = record { bits = λ r j l m n o. by r j l m n o (below_or_not r mid) }
-  where
-    by : (r j : ℕ) → from ≤ r → r < to → j + 1 < f.width → IsMetAt s f r j → (r < mid) ⊎ (mid ≤ r)
-        → word_bit b (segment_number f r j) ≡ 1
-    by r j l m n o (inl i) = k (segment_number f r j) (h.bits r j l i n o)
-    by r j l m n o (inr i) = g.bits r j i m n o
-
 -- rows that the piece misses, below and above
 missed_not_met : (s : Span) (f : Frame) (r k : ℕ) → IsMissed s (height_of f r) → ¬ (IsMetAt s f r k)
 missed_not_met s f r k (inl h) m = above_not_met (segment_end f r k) (segment_end f r (k + 1)) s refl h m.met

@@ -1,7 +1,7 @@
 -- The words of rows of pixels.
 -- Serves the bands of a scan, and its bitmap.
 use Rattle.std.proofs.Common.{◌≡◌, ◌⊎◌, ◌↔◌, inl, inr, refl, sym, ap, ◌∙◌, subst, ℕ, ◌+◌, ◌-◌, ◌*◌, ◌/◌, ◌%◌, ◌<◌, ◌≤◌, ℤ, pos}
-use Rattle.std.proofs.Common.{◌+ℤ◌, List, [], ◌++◌, length, take, drop, get_or, length-append, length-drop, arith}
+use Rattle.std.proofs.Common.{◌+ℤ◌, List, ◌++◌, length, take, drop, get_or, length-append, length-drop, arith}
 use Rattle.std.specs.Int.{bit_at}
 use Rattle.std.proofs.lemmas.List.{get_or-take, get_or-drop, get_or_append_left, get_or-append-add, length-take-le}
 use Rattle.fx_fixed.proofs.Order.{below_or_not}
@@ -49,12 +49,6 @@ word_low : (r done q k : ℕ) → r < done → k < 32 * q → (r * (32 * q) + k)
 word_low r done q k h l = let e = row_before r done q h in let s = row_start r q k in omega (arith, e, s)
 
 -- ---- rows, and then those above them
-pub scanned_none : (ss : List Span) (left bottom : ℤ) (width : ℕ) → AreScanned ss left bottom width 0 []
-scanned_none ss left bottom width = record {
-  long = omega arith;
-  bits = λ r k h l. absurd (omega arith);
-  unused = λ r k h w l. absurd (omega arith);
-}
 
 -- the marks of a band, without the word after its rows
 pub scanned_marks : (ss : List Span) (left bottom : ℤ) (width high : ℕ) (marks words : List ℕ)

@@ -96,15 +96,15 @@ turns_beyond a b c p h =
     (var 3 ⊠ (var 0 ⊟ num (pos 2) ⊠ var 1 ⊞ var 2) ⊟ (var 0 ⊠ var 2 ⊟ var 1 ⊠ var 1)) tt in
     omega (arith, signed_linear, e, h)
 
-opposite : (e m : ℤ) → e <ℤ pos 0 → pos 0 <ℤ m → (e *ℤ m) <ℤ pos 0
-opposite e m h k =
+product_below_zero : (e m : ℤ) → e <ℤ pos 0 → pos 0 <ℤ m → (e *ℤ m) <ℤ pos 0
+product_below_zero e m h k =
     let i = product_above_zero (neg_ℤ e) m (omega (arith, signed_linear)) k in
     let j : neg_ℤ e *ℤ m ≡ neg_ℤ (e *ℤ m) = ring (e ∷ m ∷ []) (minus (var 0) ⊠ var 1) (minus (var 0 ⊠ var 1)) tt in
     omega (arith, signed_linear, i, j)
 
 opposite_below : (e m : ℤ) → pos 0 <ℤ e → m <ℤ pos 0 → (e *ℤ m) <ℤ pos 0
 opposite_below e m h k =
-    let i = opposite m e k h in
+    let i = product_below_zero m e k h in
     let j : m *ℤ e ≡ e *ℤ m = ring (e ∷ m ∷ []) (var 1 ⊠ var 0) (var 0 ⊠ var 1) tt in
     omega (arith, signed_linear, i, j)
 
@@ -124,7 +124,7 @@ reaches a b c p (inl (l, r, inr (inr h))) =
     let e : (a -ℤ p) <ℤ pos 0 = omega (arith, signed_linear, l) in
     let f : (c -ℤ p) <ℤ pos 0 = omega (arith, signed_linear, r) in
     let m = middle_above (a -ℤ p) (c -ℤ p) (b -ℤ p) e f (omega (arith, signed_linear, i)) (omega (arith, signed_linear, j)) far in
-    record { far = far; first = opposite _ _ e m; last = opposite _ _ f m; ends = both_below _ _ e f }
+    record { far = far; first = product_below_zero _ _ e m; last = product_below_zero _ _ f m; ends = both_below _ _ e f }
 reaches a b c p (inr (l, r, inl h)) = absurd (omega (arith, signed_linear, l, h))
 reaches a b c p (inr (l, r, inr (inl h))) = absurd (omega (arith, signed_linear, r, h))
 reaches a b c p (inr (l, r, inr (inr h))) =

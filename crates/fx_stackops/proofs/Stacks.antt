@@ -4,8 +4,8 @@ use Rattle.std.proofs.Common.{◌≡◌, ◌∙◌, sym, ap, refl, ℕ, ◌+◌,
 use Rattle.std.proofs.Common.{reverse, slice_index_or, slice_set, arith, length-append, add-one}
 use Rattle.std.specs.List.{slice_range}
 use Rattle.std.proofs.lemmas.List.{reverse-append, reverse-reverse, length-reverse, length-take-le, length-drop, take-append-drop}
-use Rattle.std.proofs.lemmas.List.{take-take, drop-take, take_at, drop_at, get_or_at, drop_more, append_assoc, get_or-reverse}
-use Rattle.std.proofs.lemmas.List.{get_or-take, take_more, take_more_set}
+use Rattle.std.proofs.lemmas.List.{take-take, drop-take, take_at, drop_at, get_or_at, drop_more, append_assoc}
+use Rattle.std.proofs.lemmas.List.{take_more, take_more_set}
 use Rattle.std.proofs.lemmas.List.Elements.{All-take, All-drop, All-append, All-same}
 use Rattle.std.proofs.Common.{FitsSigned}
 use Rattle.std.specs.Int.{w32}
@@ -42,13 +42,6 @@ top_at xs d n h k =
     let e : d - n + n ≡ d = omega arith in
     let f : d - (d - n) ≡ n = omega arith in
     rw f (sym (ap reverse (rw e at (taken xs (d - n) n (omega arith))) ∙ reverse-reverse (take n (drop (d - n) xs))))
-
--- the number below k others
-pub element_at : (xs : List ℤ) (d k : ℕ) → k < d → d ≤ length xs
-    → slice_index_or xs (d - 1 - k) (pos 0) ≡ slice_index_or (reverse (take d xs)) k (pos 0)
-element_at xs d k h m =
-    let n : length (take d xs) ≡ d = length-take-le d xs m in
-    sym (get_or-reverse (take d xs) k (pos 0) (omega arith) ∙ rw n (get_or-take d xs (d - 1 - k) (pos 0) (omega arith)))
 
 -- ---- numbers put on it
 

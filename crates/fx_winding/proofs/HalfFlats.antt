@@ -20,8 +20,8 @@ pub record IsFlat (a b c p : Place) : Type 0 where
   pub with_ac : area a c p ≡ pos 0
 
 -- ---- the areas
-none_back : (z : ℤ) → neg_ℤ z ≡ pos 0 → z ≡ pos 0
-none_back z h = omega (arith, signed_linear)
+none_of_minus : (z : ℤ) → neg_ℤ z ≡ pos 0 → z ≡ pos 0
+none_of_minus z h = omega (arith, signed_linear)
 
 none_to : (z : ℤ) → z ≡ pos 0 → neg_ℤ z ≡ pos 0
 none_to z h = omega (arith, signed_linear)
@@ -83,7 +83,7 @@ with_first : (b c p : Place) → area b c p ≡ area p b c
 with_first b c p = area_next p b c
 
 with_last : (a c p : Place) → area a p c ≡ pos 0 → area a c p ≡ pos 0
-with_last a c p h = none_back (area a c p) (sym (area_swap a c p) ∙ h)
+with_last a c p h = none_of_minus (area a c p) (sym (area_swap a c p) ∙ h)
 
 pub whole_flat : (a m j p : Place) → AreNone (area p m j) (area a p j) (area a m p) → IsFlat a (control a m) (end a m j) p
 whole_flat a m j p h =

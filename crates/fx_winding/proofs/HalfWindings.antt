@@ -9,6 +9,7 @@ use Rattle.fx_fixed.proofs.Ring.{ring}
 use Rattle.fx_fixed.proofs.Linear.{signed_linear}
 use Rattle.fx_winding.specs.Area.{gap_of}
 use Rattle.fx_winding.specs.Winding.{AreOnArc}
+use Rattle.fx_winding.proofs.Places.{clash}
 use Rattle.fx_winding.proofs.Regions.{IsIn, third_strictly}
 use Rattle.fx_winding.proofs.Reversal.{gap_back}
 use Rattle.fx_winding.proofs.Corners.{around, AreBalanced, OnSide, around_outside, around_inside, around_side, around_turned}
@@ -116,24 +117,21 @@ pub record IsRight (a b c : ℤ) (r : Bool) : Type 0 where
   pub above : a ≡ c → a <ℤ b → r ≡ true
   pub below : a ≡ c → b ≤ℤ a → r ≡ false
 
-clash : {r : Bool} → r ≡ true → r ≡ false → ⊥
-clash {r} t f = cc
-
 -- on the chord of the first half, strictly between its ends
 first_on_chord : (e f g : ℤ) (r : Bool) → f ≡ pos 0 → pos 0 <ℤ e → pos 0 <ℤ g → r ≡ true → IsIn e f g r
 first_on_chord e f g r hf he hg t = inr (hf, he, hg, t)
 
 first_off_chord : (e f g : ℤ) (r : Bool) → f ≡ pos 0 → r ≡ false → ¬ (IsIn e f g r)
 first_off_chord e f g r hf t (inl (hu, hv, hw, q)) = omega (arith, signed_linear, hf, hv)
-first_off_chord e f g r hf t (inr (hv, hu, hw, q)) = clash q t
+first_off_chord e f g r hf t (inr (hv, hu, hw, q)) = clash r t q
 
 second_off_chord : (e f g : ℤ) (r : Bool) → four_times e +ℤ f ≡ pos 0 → r ≡ false → ¬ (IsIn (second_u e f g) (second_v e f) e r)
 second_off_chord e f g r hf t (inl (hu, hv, hw, q)) = omega (arith, signed_linear, hf, hv)
-second_off_chord e f g r hf t (inr (hv, hu, hw, q)) = clash q t
+second_off_chord e f g r hf t (inr (hv, hu, hw, q)) = clash r t q
 
 whole_off_chord : (e f g : ℤ) (r : Bool) → f +ℤ g ≡ pos 0 → r ≡ false → ¬ (IsIn (whole_u e f g) (whole_v f g) (whole_w g) r)
 whole_off_chord e f g r hf t (inl (hu, hv, hw, q)) = omega (arith, signed_linear, hf, hv)
-whole_off_chord e f g r hf t (inr (hv, hu, hw, q)) = clash q t
+whole_off_chord e f g r hf t (inr (hv, hu, hw, q)) = clash r t q
 
 -- ---- the sum
 total : {s x y z : ℤ} {k l m : ℤ} → s ≡ k → x ≡ l → y ≡ m → z ≡ k +ℤ (l +ℤ m) → s +ℤ (x +ℤ y) ≡ z

@@ -42,10 +42,10 @@ down_low a b c p (inr (inl h)) = inr (inl (omega (arith, signed_linear, h)))
 down_low a b c p (inr (inr (k, l, t))) =
     inr (inr (omega (arith, signed_linear, k), omega (arith, signed_linear, l), same_order (sym (turn_from a b c p)) t))
 
-pub high_down : (a b c p : ℤ) → IsBelowHigh a b c p → ComesDown (p -ℤ a) (p -ℤ b) (p -ℤ c)
-high_down a b c p (inl h) = inl (omega (arith, signed_linear, h))
-high_down a b c p (inr (inl h)) = inr (inl (omega (arith, signed_linear, h)))
-high_down a b c p (inr (inr (k, l, t))) =
+pub high_comes_down : (a b c p : ℤ) → IsBelowHigh a b c p → ComesDown (p -ℤ a) (p -ℤ b) (p -ℤ c)
+high_comes_down a b c p (inl h) = inl (omega (arith, signed_linear, h))
+high_comes_down a b c p (inr (inl h)) = inr (inl (omega (arith, signed_linear, h)))
+high_comes_down a b c p (inr (inr (k, l, t))) =
     inr (inr (omega (arith, signed_linear, k), omega (arith, signed_linear, l), same_order (turn_from_other a b c p) t))
 
 pub down_high : (a b c p : ℤ) → ComesDown (p -ℤ a) (p -ℤ b) (p -ℤ c) → IsBelowHigh a b c p
@@ -166,7 +166,7 @@ high_halves a b c m n j p s h =
     let hm = s.of_m in let hn = s.of_n in let hj = s.of_j in
     by (down_halves (p -ℤ a) (p -ℤ b) (p -ℤ c) (p -ℤ m) (p -ℤ n) (p -ℤ j) (omega (arith, signed_linear))
     (omega (arith, signed_linear))
-    (omega (arith, signed_linear)) (high_down a b c p h))
+    (omega (arith, signed_linear)) (high_comes_down a b c p h))
   where
     by : ComesDown (p -ℤ a) (p -ℤ m) (p -ℤ j) ⊎ ComesDown (p -ℤ j) (p -ℤ n) (p -ℤ c) → IsBelowHigh a m j p ⊎ IsBelowHigh j n c p
     by (inl h) = inl (down_high a m j p h)
@@ -192,7 +192,7 @@ range_of_first a b c m n j p s r =
       low = down_low a b c p (first_half_down (a -ℤ p) (b -ℤ p) (c -ℤ p) (m -ℤ p) (j -ℤ p) (omega (arith, signed_linear))
           (omega (arith, signed_linear)) (low_down a m j p r.low));
       high = down_high a b c p (first_half_down (p -ℤ a) (p -ℤ b) (p -ℤ c) (p -ℤ m) (p -ℤ j) (omega (arith, signed_linear))
-          (omega (arith, signed_linear)) (high_down a m j p r.high));
+          (omega (arith, signed_linear)) (high_comes_down a m j p r.high));
     }
 
 pub range_of_second : (a b c m n j p : ℤ) → Middles a b c m n j → IsInRange j n c p → IsInRange a b c p
@@ -202,7 +202,7 @@ range_of_second a b c m n j p s r =
       low = down_low a b c p (second_half_down (a -ℤ p) (b -ℤ p) (c -ℤ p) (n -ℤ p) (j -ℤ p) (omega (arith, signed_linear))
           (omega (arith, signed_linear)) (low_down j n c p r.low));
       high = down_high a b c p (second_half_down (p -ℤ a) (p -ℤ b) (p -ℤ c) (p -ℤ n) (p -ℤ j) (omega (arith, signed_linear))
-          (omega (arith, signed_linear)) (high_down j n c p r.high));
+          (omega (arith, signed_linear)) (high_comes_down j n c p r.high));
     }
 
 -- ---- values in one proportion
@@ -326,7 +326,7 @@ range_along k l ax bx cx px ay by cy py nk ea eb ec r =
         → k *ℤ (cy -ℤ py) ≡ l *ℤ (cx -ℤ px) → IsInRange ay by cy py
     rising k l hk ea eb ec =
         let low = low_down ax bx cx px r.low in
-        let high = high_down ax bx cx px r.high in
+        let high = high_comes_down ax bx cx px r.high in
         let other : ComesDown (neg_ℤ (ax -ℤ px)) (neg_ℤ (bx -ℤ px)) (neg_ℤ (cx -ℤ px)) =
         rw (minus_is ax px, minus_is bx px, minus_is cx px) high in
         let other_low : ComesDown (neg_ℤ (px -ℤ ax)) (neg_ℤ (px -ℤ bx)) (neg_ℤ (px -ℤ cx)) =

@@ -1,6 +1,6 @@
 -- The region between an arc and its chord, by the weights of a place.
 -- Serves the laws of reversed, moved and halved pieces.
-use Rattle.std.proofs.Common.{◌≡◌, refl, sym, ap, ◌∙◌, ◌⊎◌, inl, inr, ℤ, pos, ◌*ℤ◌, ◌-ℤ◌, ◌≤ℤ◌, ◌<ℤ◌, Bool, true, false, int_lt}
+use Rattle.std.proofs.Common.{◌≡◌, refl, ap, ◌⊎◌, inl, inr, ℤ, pos, ◌*ℤ◌, ◌-ℤ◌, ◌≤ℤ◌, ◌<ℤ◌, Bool, true, false, int_lt}
 use Rattle.std.proofs.Common.{◌&&◌, ◌||◌}
 use Rattle.std.proofs.Common.{if◌then◌else◌, Some, [], ◌∷◌, arith}
 use Rattle.std.specs.Ordering.{int_eq}
@@ -12,6 +12,7 @@ use Rattle.fx_fixed.proofs.Linear.{signed_linear}
 use Rattle.fx_winding.specs.Area.{Place, area, gap_of}
 use Rattle.fx_winding.specs.Winding.{sign, weight_a, weight_b, weight_c, is_inside, is_on_chord, is_right_of_chord, is_in_region}
 use Rattle.fx_winding.specs.Winding.{region_part}
+use Rattle.fx_winding.proofs.Places.{clash}
 use Rattle.fx_winding.proofs.Triangle.{third_above}
 
 -- a place with these weights is strictly between the arc and its chord, or on a chord that belongs to the region
@@ -68,9 +69,6 @@ test_from_in u v w r h = by (gap_of u v w) h
     by g (inl k) = grind (arith, ints)
     by g (inr k) = grind (arith, ints)
 
-clash : false ≡ true → ⊥
-clash e = cc
-
 -- in the region or not
 pub region_cases : (a b c p : Place) → IsInRegion a b c p ⊎ (¬ (IsInRegion a b c p))
 region_cases a b c p = by (is_in_region a b c p) refl
@@ -78,7 +76,7 @@ region_cases a b c p = by (is_in_region a b c p) refl
     by : (t : Bool) → is_in_region a b c p ≡ t → IsInRegion a b c p ⊎ (¬ (IsInRegion a b c p))
     by true e = inl (in_from_test (weight_a a b c p) (weight_b a b c p) (weight_c a b c p) (is_right_of_chord a b c) e)
     by false e =
-        inr (λ k. clash (sym e ∙ test_from_in (weight_a a b c p) (weight_b a b c p) (weight_c a b c p) (is_right_of_chord a b c) k))
+        inr (λ k. clash _ e (test_from_in (weight_a a b c p) (weight_b a b c p) (weight_c a b c p) (is_right_of_chord a b c) k))
 
 -- in its region an arc counts by the sign of its area
 pub region_in : (a b c p : Place) → IsInRegion a b c p → region_part a (Some b) c p ≡ sign (area a b c)

@@ -37,20 +37,20 @@ area_back a b c =
     let z = var 4 in let z' = var 5 in
     ring (a.x ∷ a.y ∷ b.x ∷ b.y ∷ c.x ∷ c.y ∷ []) (area_expr z z' y y' x x') (minus (area_expr x x' y y' z z')) tt
 
-minus_both : (x y : ℤ) → neg_ℤ x *ℤ neg_ℤ y ≡ x *ℤ y
-minus_both x y = ring (x ∷ y ∷ []) (minus (var 0) ⊠ minus (var 1)) (var 0 ⊠ var 1) tt
+minus_times_minus : (x y : ℤ) → neg_ℤ x *ℤ neg_ℤ y ≡ x *ℤ y
+minus_times_minus x y = ring (x ∷ y ∷ []) (minus (var 0) ⊠ minus (var 1)) (var 0 ⊠ var 1) tt
 
 pub sign_area_back : (a b c : Place) → sign (area c b a) ≡ neg_ℤ (sign (area a b c))
 sign_area_back a b c = ap sign (area_back a b c) ∙ sign_back (area a b c)
 
 pub weight_a-back : (a b c p : Place) → weight_a c b a p ≡ weight_c a b c p
-weight_a-back a b c p = (λ i. sign_area_back a b c i *ℤ area_back a b p i) ∙ minus_both (sign (area a b c)) (area a b p)
+weight_a-back a b c p = (λ i. sign_area_back a b c i *ℤ area_back a b p i) ∙ minus_times_minus (sign (area a b c)) (area a b p)
 
 pub weight_b-back : (a b c p : Place) → weight_b c b a p ≡ weight_b a b c p
-weight_b-back a b c p = (λ i. sign_area_back a b c i *ℤ area_back a p c i) ∙ minus_both (sign (area a b c)) (area a p c)
+weight_b-back a b c p = (λ i. sign_area_back a b c i *ℤ area_back a p c i) ∙ minus_times_minus (sign (area a b c)) (area a p c)
 
 pub weight_c-back : (a b c p : Place) → weight_c c b a p ≡ weight_a a b c p
-weight_c-back a b c p = (λ i. sign_area_back a b c i *ℤ area_back p b c i) ∙ minus_both (sign (area a b c)) (area p b c)
+weight_c-back a b c p = (λ i. sign_area_back a b c i *ℤ area_back p b c i) ∙ minus_times_minus (sign (area a b c)) (area p b c)
 
 pub gap_back : (u v w : ℤ) → gap_of w v u ≡ gap_of u v w
 gap_back u v w =
@@ -97,8 +97,8 @@ region_part_back a (Some b) c p = by (region_cases a b c p)
 pub none_back : (z w : ℤ) → w ≡ neg_ℤ z → z ≡ pos 0 → w ≡ pos 0
 none_back z w e h = omega (arith, signed_linear)
 
-none_from : (z w : ℤ) → w ≡ neg_ℤ z → w ≡ pos 0 → z ≡ pos 0
-none_from z w e h = omega (arith, signed_linear)
+none_if_back : (z w : ℤ) → w ≡ neg_ℤ z → w ≡ pos 0 → z ≡ pos 0
+none_if_back z w e h = omega (arith, signed_linear)
 
 between_back : (a c p : ℤ) → IsBetween a c p → IsBetween c a p
 between_back a c p (inl h) = inr h
@@ -144,7 +144,7 @@ on_part_back a None c p on =
     }
 on_part_back a (Some b) c p (inl on) =
     inl (record {
-      bent = λ e. on.bent (none_from (area a b c) (area c b a) (area_back a b c) e);
+      bent = λ e. on.bent (none_if_back (area a b c) (area c b a) (area_back a b c) e);
       on_arc =
           arc_back a b c p on.on_arc;
     })

@@ -3,7 +3,7 @@ use Rattle.std.specs.Fmt.{decimal}
 use Rattle.std.proofs.lemmas.List.{length-map}
 use Rattle.std.proofs.lemmas.Result.{err_from_is_err_and}
 use Rattle.fx_fixed.proofs.Texts.{adds_then, adds_stopped, adds_text, adds_out}
-use Rattle.fx_bdf.specs.Properties.{seen_properties, seen_property}
+use Rattle.fx_bdf.specs.Properties.{seen_property}
 use Rattle.fx_bdf.specs.Text.{back_text, front_text, header_text}
 use Rattle.fx_bdf.proofs.Headers.{back_number, header_long}
 use Rattle.fx_bdf.proofs.header_lines.write_header.Goals as goal

@@ -3,9 +3,9 @@ use Rattle.std.proofs.lemmas.List.{take_all, length-replicate, replicate-append-
 use Rattle.fx_rows.proofs.band.zeros.Goals as goal
 
 -- zeros, and more of them
-more : (n m : ℕ) (old new : List ℤ) → m ≡ length old → length old ≤ n → old ≡ replicate (length old) (pos 0)
+zeros_added : (n m : ℕ) (old new : List ℤ) → m ≡ length old → length old ≤ n → old ≡ replicate (length old) (pos 0)
     → new ≡ take n old ++ replicate (n - m) (pos 0) → new ≡ replicate n (pos 0)
-more n m old new l h z e =
+zeros_added n m old new l h z e =
     let all = take_all n old h in
     let sum : length old + (n - length old) ≡ n = omega arith in
     e ∙ ap (λ (k : ℕ). take n old ++ replicate (n - k) (pos 0)) l
@@ -16,7 +16,7 @@ pub parts-preserved : goal.parts-preserved
 parts-preserved c =
     let n = c.part_end.result in
     let p = c.part_end.ensures in
-    let all = more n c.parts.list.len c.parts.list.items c.resize.new.self.items (omega arith)
+    let all = zeros_added n c.parts.list.len c.parts.list.items c.resize.new.self.items (omega arith)
     (omega (arith, p.after)) c.parts.invariant.zeros
     c.in_ok-resize.ensures.items in
     let long : length c.resize.new.self.items ≡ n = ap length all ∙ length-replicate n (pos 0) in

@@ -1,5 +1,6 @@
 use Rattle.fx_fixed.proofs.Linear.{signed_linear}
-use Rattle.std.proofs.Common.{◌≡◌, IsTrue, Bool, true, false, arith}
+use Rattle.std.proofs.Common.{arith}
+use Rattle.fx_winding.proofs.Places.{clash}
 use Rattle.fx_rows.specs.inner.Cuts.{CountsAt}
 use Rattle.fx_rows.proofs.cut.count_in.Goals as goal
 use Rattle.fx_rows.proofs.cut.count_in.Goals.{then-counts, else-counts}
@@ -19,16 +20,10 @@ returns-clause-within c = omega (arith, signed_linear)
 pub saturating_sub-at-requires : goal.saturating_sub-at-requires
 saturating_sub-at-requires c = omega (arith, signed_linear)
 
-yes : (b : Bool) → b ≡ true → IsTrue b
-yes b e = grind arith
-
-no : (b : Bool) → b ≡ false → IsTrue b → ⊥
-no b e t = grind arith
-
 pub columns-preserved : goal.columns-preserved
 columns-preserved c = elim c.if-counts.branch [
   | then-counts w ↦
-      let held : CountsAt c.args.bend c.within-here.result = c.counts.ensures.0 (yes c.counts.result w.if-counts.true) in
+      let held : CountsAt c.args.bend c.within-here.result = c.counts.ensures.0 w.if-counts.true in
       record {
         order = omega (arith, w.low-is, w.high-is);
         within = omega (arith, w.high-is);
@@ -37,7 +32,7 @@ columns-preserved c = elim c.if-counts.branch [
       }
   | else-counts w ↦
       let not : ¬ (CountsAt c.args.bend c.within-here.result) =
-      λ h. no c.counts.result w.if-counts.false (c.counts.ensures.1 h) in
+      λ h. clash c.counts.result w.if-counts.false (c.counts.ensures.1 h) in
       record {
         order = omega (arith, w.low-is, w.high-is);
         within = omega (arith, w.high-is);

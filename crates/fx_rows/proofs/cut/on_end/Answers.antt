@@ -1,13 +1,11 @@
-use Rattle.std.proofs.Common.{◌≡◌, ◌⊎◌, inl, inr, subst, ◌-◌, ◌+◌, ℕ, Bool, true, false, IsTrue, pos, arith}
+use Rattle.std.proofs.Common.{◌≡◌, ◌⊎◌, inl, inr, subst, ◌-◌, ◌+◌, ℕ, Bool, true, false, pos, arith}
 use Rattle.fx_winding.specs.Winding.{span_of}
+use Rattle.fx_winding.proofs.Places.{clash}
 use Rattle.fx_rows.specs.inner.Runs.{gap_at}
 use Rattle.fx_rows.specs.inner.Cuts.{IsLast}
 use Rattle.fx_rows.proofs.Contacts.{none_on}
 use Rattle.fx_rows.proofs.cut.on_end.Goals as goal
 use Rattle.fx_rows.proofs.cut.on_end.Goals.{then-bend, else-bend}
-
-no : (b : Bool) → b ≡ false → IsTrue b → ⊥
-no b e t = grind arith
 
 last_at : (r : Bool) (end past k : ℕ) → ((r ≡ true) × (past ≡ end)) ⊎ ((r ≡ false) × (past ≡ end + 1)) → IsLast r end k
     → k ≡ past - 1
@@ -26,4 +24,4 @@ returns-then-not-is_zero-clause-on c =
     (λ k l m on.
     let r = c.requires.only k l m on in
     let e = last_at d.right c.args.end past k cases r.0 in
-    no c.is_zero.result c.if-not-is_zero.true (c.is_zero.ensures.1 (subst (λ n. gap_at d.gaps n ≡ pos 0) e r.1)))
+    clash c.is_zero.result c.if-not-is_zero.true (c.is_zero.ensures.1 (subst (λ n. gap_at d.gaps n ≡ pos 0) e r.1)))

@@ -1,32 +1,27 @@
-use Rattle.std.proofs.Common.{◌≡◌, ◌-◌, Bool, true, false, IsTrue, arith}
+use Rattle.std.proofs.Common.{◌-◌, arith}
+use Rattle.fx_winding.proofs.Places.{clash}
 use Rattle.fx_rows.proofs.cut.window_of.Goals as goal
-
-yes : (b : Bool) → b ≡ true → IsTrue b
-yes b e = grind arith
-
-no : (b : Bool) → b ≡ false → IsTrue b → ⊥
-no b e t = grind arith
 
 pub returns-then-is_past-clause-outside : goal.returns-then-is_past-clause-outside
 returns-then-is_past-clause-outside c = λ k h l n.
     let end = c.if-guess-stop.end in
-    let p = c.is_past.ensures.past (yes c.is_past.result c.if-is_past.true) in
+    let p = c.is_past.ensures.past c.if-is_past.true in
     p.1 (c.requires.first (end - 1) k h l n)
 
 pub returns-then-is_short-clause-inside : goal.returns-then-is_short-clause-inside
 returns-then-is_short-clause-inside c = λ k h.
     let end = c.if-guess-stop.end in
-    let p = c.is_short.ensures.short (yes c.is_short.result c.if-is_short.true) in
+    let p = c.is_short.ensures.short c.if-is_short.true in
     c.requires.first k end (omega arith) p.0 p.1
 
 pub returns-clause-inside : goal.returns-clause-inside
 returns-clause-inside c = λ k h.
     let end = c.if-guess-stop.end in
-    let p = c.is_past.ensures.not (no c.is_past.result c.if-is_past.false) (omega arith) in
+    let p = c.is_past.ensures.not (clash c.is_past.result c.if-is_past.false) (omega arith) in
     c.requires.first k (end - 1) (omega arith) (omega arith) p
 
 pub returns-clause-outside : goal.returns-clause-outside
 returns-clause-outside c = λ k h l n.
     let end = c.if-guess-stop.end in
-    let p = c.is_short.ensures.not (no c.is_short.result c.if-is_short.false) (omega arith) in
+    let p = c.is_short.ensures.not (clash c.is_short.result c.if-is_short.false) (omega arith) in
     p (c.requires.first end k h l n)

@@ -24,9 +24,9 @@ pub product-requires-clause-near_b : goal.product-requires-clause-near_b
 product-requires-clause-near_b c = omega (arith, signed_linear)
 
 -- the gap without its copies
-whole : (u v w x y : ℤ) → IsWithin (2 ^ 96) x → IsWithin (2 ^ 96) y → x ≡ u *ℤ w → y ≡ v *ℤ v
+gap_without_copies : (u v w x y : ℤ) → IsWithin (2 ^ 96) x → IsWithin (2 ^ 96) y → x ≡ u *ℤ w → y ≡ v *ℤ v
     → to_z w128 (of_z w128 (to_z w128 (of_z w128 (pos 4 *ℤ to_z w128 (of_z w128 x))) -ℤ to_z w128 (of_z w128 y))) ≡ gap_of u v w
-whole u v w x y hx hy ex ey =
+gap_without_copies u v w x y hx hy ex ey =
     let a : to_z w128 (of_z w128 (pos 4 *ℤ to_z w128 (of_z w128 x))) ≡ pos 4 *ℤ x = omega (arith, signed) in
     let b : to_z w128 (of_z w128 y) ≡ y = omega (arith, signed_linear) in
     let e : to_z w128 (of_z w128 (pos 4 *ℤ x -ℤ y)) ≡ pos 4 *ℤ x -ℤ y = omega (arith, signed) in
@@ -70,7 +70,7 @@ returns-clause-value c =
     let gw : to_z w64 (of_z w64 g.w) ≡ g.w = omega (arith, signed_linear) in
     let sv : to_z w64 (of_z w64 (pos 0 -ℤ to_z w64 (of_z w64 (to_z w64 (of_z w64 g.step_u) +ℤ to_z w64 (of_z w64 g.step_w))))) ≡
     neg_ℤ (g.step_u +ℤ g.step_w) = omega (arith, signed_linear) in
-    whole (g.u +ℤ pos c.args.k *ℤ g.step_u) (g.v +ℤ pos c.args.k *ℤ neg_ℤ (g.step_u +ℤ g.step_w)) (g.w +ℤ pos c.args.k *ℤ g.step_w)
+    gap_without_copies (g.u +ℤ pos c.args.k *ℤ g.step_u) (g.v +ℤ pos c.args.k *ℤ neg_ℤ (g.step_u +ℤ g.step_w)) (g.w +ℤ pos c.args.k *ℤ g.step_w)
     c.product.result c.product-2.result c.product.ensures.size c.product-2.ensures.size
     (c.product.ensures.value ∙ (λ i. u i *ℤ w i)
     ∙ (λ i. (c.moved-u.ensures.value i) *ℤ (c.moved-w.ensures.value i))

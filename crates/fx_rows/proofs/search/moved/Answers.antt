@@ -5,26 +5,26 @@ use Rattle.fx_winding.proofs.Sizes.{product_within}
 use Rattle.fx_rows.proofs.Values.{IsKept, value_kept, value_held}
 use Rattle.fx_rows.proofs.search.moved.Goals as goal
 
-kept : (c : goal.After-from) → IsKept c.args.start c.args.step c.from.result c.args.k
-kept c =
+step_kept : (c : goal.After-from) → IsKept c.args.start c.args.step c.from.result c.args.k
+step_kept c =
     value_kept c.args.start c.args.step c.from.result c.args.k c.from.ensures (omega arith)
     (omega (arith, signed_linear), omega (arith, signed_linear)) (omega (arith, signed_linear), omega (arith, signed_linear))
 
 pub overflow_mul-result : goal.overflow_mul-result
-overflow_mul-result c = (kept c).product_fits
+overflow_mul-result c = (step_kept c).product_fits
 
 pub overflow_add-result : goal.overflow_add-result
-overflow_add-result c = (kept c).sum_fits
+overflow_add-result c = (step_kept c).sum_fits
 
-near : (s t : ℤ) (k : ℕ) → k < 8194 → IsWithin (2 ^ 47) s → IsWithin (2 ^ 31) t → IsWithin (2 ^ 48) (s +ℤ pos k *ℤ t)
-near s t k few hs ht =
+moved_within : (s t : ℤ) (k : ℕ) → k < 8194 → IsWithin (2 ^ 47) s → IsWithin (2 ^ 31) t → IsWithin (2 ^ 48) (s +ℤ pos k *ℤ t)
+moved_within s t k few hs ht =
     let p = product_within 8194 (2 ^ 31) (pos k) t (omega (arith, signed_linear), omega (arith, signed_linear)) ht in
     (omega (arith, signed_linear, p), omega (arith, signed_linear, p))
 
 pub returns-clause-value : goal.returns-clause-value
-returns-clause-value c = value_held c.args.start c.args.step c.from.result c.args.k (kept c)
+returns-clause-value c = value_held c.args.start c.args.step c.from.result c.args.k (step_kept c)
 
 pub returns-clause-size : goal.returns-clause-size
 returns-clause-size c =
     rw (returns-clause-value c)
-    (near c.args.start c.args.step c.args.k c.requires.near_column c.requires.near_start c.requires.near_step)
+    (moved_within c.args.start c.args.step c.args.k c.requires.near_column c.requires.near_start c.requires.near_step)

@@ -8,11 +8,11 @@ copied : (z : ℤ) → IsWithin (2 ^ 98) z → to_z w128 (of_z w128 z) ≡ z
 copied z h = omega (arith, signed_linear)
 
 -- the sum without its copies
-whole : (x y z : ℤ) → IsWithin (2 ^ 94) x → IsWithin (2 ^ 94) y → IsWithin (2 ^ 94) z
+sum_without_copies : (x y z : ℤ) → IsWithin (2 ^ 94) x → IsWithin (2 ^ 94) y → IsWithin (2 ^ 94) z
     → to_z w128 (of_z w128 (to_z w128 (of_z w128
     (pos 4 *ℤ to_z w128 (of_z w128 (to_z w128 (of_z w128 x) +ℤ to_z w128 (of_z w128 y))))) +ℤ
     to_z w128 (of_z w128 (pos 2 *ℤ to_z w128 (of_z w128 z))))) ≡ pos 4 *ℤ (x +ℤ y) +ℤ pos 2 *ℤ z
-whole x y z hx hy hz =
+sum_without_copies x y z hx hy hz =
     let ex : to_z w128 (of_z w128 x) ≡ x = copied x (omega (arith, signed_linear), omega (arith, signed_linear)) in
     let ey : to_z w128 (of_z w128 y) ≡ y = copied y (omega (arith, signed_linear), omega (arith, signed_linear)) in
     let ez : to_z w128 (of_z w128 z) ≡ z = copied z (omega (arith, signed_linear), omega (arith, signed_linear)) in
@@ -48,7 +48,7 @@ overflow_add-result c =
 
 pub returns-clause-value : goal.returns-clause-value
 returns-clause-value c =
-    whole c.wide_product.result c.wide_product-2.result c.wide_product-3.result c.wide_product.ensures.size
+    sum_without_copies c.wide_product.result c.wide_product-2.result c.wide_product-3.result c.wide_product.ensures.size
     c.wide_product-2.ensures.size c.wide_product-3.ensures.size
     ∙ (λ i. pos 4 *ℤ (x i +ℤ y i) +ℤ pos 2 *ℤ (z i))
   where
@@ -72,6 +72,6 @@ returns-clause-value c =
 
 pub returns-clause-size : goal.returns-clause-size
 returns-clause-size c =
-    let e = whole c.wide_product.result c.wide_product-2.result c.wide_product-3.result c.wide_product.ensures.size
+    let e = sum_without_copies c.wide_product.result c.wide_product-2.result c.wide_product-3.result c.wide_product.ensures.size
     c.wide_product-2.ensures.size c.wide_product-3.ensures.size in
     (omega (arith, signed, e), omega (arith, signed, e))

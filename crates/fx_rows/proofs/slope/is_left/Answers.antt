@@ -16,8 +16,8 @@ overflow_add-result c =
     c.args.slope.near_step in
     k.sum_fits
 
-less : (x : ℤ) → IsTrue (lt_z x (pos 0)) → x <ℤ pos 0
-less x t = grind (arith, ints)
+below_zero_from_test : (x : ℤ) → IsTrue (lt_z x (pos 0)) → x <ℤ pos 0
+below_zero_from_test x t = grind (arith, ints)
 
 is_less : (x : ℤ) → x <ℤ pos 0 → IsTrue (lt_z x (pos 0))
 is_less x h = grind (arith, ints)
@@ -27,6 +27,6 @@ returns c =
     let k = value_kept c.args.slope.start c.args.slope.step c.from.result c.args.k c.from.ensures c.requires c.args.slope.near
     c.args.slope.near_step in
     let e = value_held c.args.slope.start c.args.slope.step c.from.result c.args.k k in (
-      λ t. subst (λ z. z <ℤ pos 0) e (less _ t),
+      λ t. subst (λ z. z <ℤ pos 0) e (below_zero_from_test _ t),
       λ h. is_less _ (subst (λ z. z <ℤ pos 0) (sym e) h),
     )

@@ -12,16 +12,16 @@ record IsNear (first base : ℤ) : Type 0 where
   before : base ≤ℤ first
   beside : first ≤ℤ (base +ℤ pos 3)
 
-near : (first base : ℤ) → least_pixel ≤ℤ base → base ≤ℤ pos 32765 → base ≤ℤ first → first ≤ℤ (base +ℤ pos 3) → IsNear first base
-near first base l h b s = record { low = l; high = h; before = b; beside = s }
+is_near : (first base : ℤ) → least_pixel ≤ℤ base → base ≤ℤ pos 32765 → base ≤ℤ first → first ≤ℤ (base +ℤ pos 3) → IsNear first base
+is_near first base l h b s = record { low = l; high = h; before = b; beside = s }
 
 pub overflow_sub-start : goal.overflow_sub-start
 overflow_sub-start c =
     let b = to_z w32 c.if-frame-lt-LAST_BASE.base-bits in
     let beside : IsNear c.args.frame.left b = elim c.if-frame-lt-LAST_BASE.branch [
-      | then-frame-lt-LAST_BASE w ↦ near _ _ (omega (arith, signed_linear)) (omega (arith, signed_linear))
+      | then-frame-lt-LAST_BASE w ↦ is_near _ _ (omega (arith, signed_linear)) (omega (arith, signed_linear))
           (omega (arith, signed_linear)) (omega (arith, signed_linear))
-      | else-frame-lt-LAST_BASE w ↦ near _ _ (omega (arith, signed_linear)) (omega (arith, signed_linear))
+      | else-frame-lt-LAST_BASE w ↦ is_near _ _ (omega (arith, signed_linear)) (omega (arith, signed_linear))
           (omega (arith, signed_linear)) (omega (arith, signed_linear))
     ] in
     omega (arith, signed_linear)
@@ -30,9 +30,9 @@ pub overflow_cast-start : goal.overflow_cast-start
 overflow_cast-start c =
     let b = to_z w32 c.if-frame-lt-LAST_BASE.base-bits in
     let beside : IsNear c.args.frame.left b = elim c.if-frame-lt-LAST_BASE.branch [
-      | then-frame-lt-LAST_BASE w ↦ near _ _ (omega (arith, signed_linear)) (omega (arith, signed_linear))
+      | then-frame-lt-LAST_BASE w ↦ is_near _ _ (omega (arith, signed_linear)) (omega (arith, signed_linear))
           (omega (arith, signed_linear)) (omega (arith, signed_linear))
-      | else-frame-lt-LAST_BASE w ↦ near _ _ (omega (arith, signed_linear)) (omega (arith, signed_linear))
+      | else-frame-lt-LAST_BASE w ↦ is_near _ _ (omega (arith, signed_linear)) (omega (arith, signed_linear))
           (omega (arith, signed_linear)) (omega (arith, signed_linear))
     ] in
     omega (arith, ints)
@@ -41,9 +41,9 @@ pub overflow_add-result : goal.overflow_add-result
 overflow_add-result c =
     let b = to_z w32 c.if-frame-lt-LAST_BASE.base-bits in
     let beside : IsNear c.args.frame.left b = elim c.if-frame-lt-LAST_BASE.branch [
-      | then-frame-lt-LAST_BASE w ↦ near _ _ (omega (arith, signed_linear)) (omega (arith, signed_linear))
+      | then-frame-lt-LAST_BASE w ↦ is_near _ _ (omega (arith, signed_linear)) (omega (arith, signed_linear))
           (omega (arith, signed_linear)) (omega (arith, signed_linear))
-      | else-frame-lt-LAST_BASE w ↦ near _ _ (omega (arith, signed_linear)) (omega (arith, signed_linear))
+      | else-frame-lt-LAST_BASE w ↦ is_near _ _ (omega (arith, signed_linear)) (omega (arith, signed_linear))
           (omega (arith, signed_linear)) (omega (arith, signed_linear))
     ] in
     omega (arith, ints)
@@ -52,9 +52,9 @@ pub returns-clause-first : goal.returns-clause-first
 returns-clause-first c =
     let b = to_z w32 c.if-frame-lt-LAST_BASE.base-bits in
     let beside : IsNear c.args.frame.left b = elim c.if-frame-lt-LAST_BASE.branch [
-      | then-frame-lt-LAST_BASE w ↦ near _ _ (omega (arith, signed_linear)) (omega (arith, signed_linear))
+      | then-frame-lt-LAST_BASE w ↦ is_near _ _ (omega (arith, signed_linear)) (omega (arith, signed_linear))
           (omega (arith, signed_linear)) (omega (arith, signed_linear))
-      | else-frame-lt-LAST_BASE w ↦ near _ _ (omega (arith, signed_linear)) (omega (arith, signed_linear))
+      | else-frame-lt-LAST_BASE w ↦ is_near _ _ (omega (arith, signed_linear)) (omega (arith, signed_linear))
           (omega (arith, signed_linear)) (omega (arith, signed_linear))
     ] in
     omega (arith, ints)
@@ -63,9 +63,9 @@ pub returns-clause-last : goal.returns-clause-last
 returns-clause-last c =
     let b = to_z w32 c.if-frame-lt-LAST_BASE.base-bits in
     let beside : IsNear c.args.frame.left b = elim c.if-frame-lt-LAST_BASE.branch [
-      | then-frame-lt-LAST_BASE w ↦ near _ _ (omega (arith, signed_linear)) (omega (arith, signed_linear))
+      | then-frame-lt-LAST_BASE w ↦ is_near _ _ (omega (arith, signed_linear)) (omega (arith, signed_linear))
           (omega (arith, signed_linear)) (omega (arith, signed_linear))
-      | else-frame-lt-LAST_BASE w ↦ near _ _ (omega (arith, signed_linear)) (omega (arith, signed_linear))
+      | else-frame-lt-LAST_BASE w ↦ is_near _ _ (omega (arith, signed_linear)) (omega (arith, signed_linear))
           (omega (arith, signed_linear)) (omega (arith, signed_linear))
     ] in
     omega (arith, ints)
