@@ -1,5 +1,5 @@
 -- The numbers of a list, item by item.
--- Serves the lists of characters: `parse_chars`, `range`, `first_part`.
+-- Serves the lists of characters, `parse_chars`, `range` and `first_part`; and `arguments_of_line`.
 use Rattle.std.proofs.Common.{◌≡◌, ◌∙◌, ℕ, ◌+◌, ◌-◌, ◌<◌, ◌≤◌, List, [], ◌∷◌, ◌++◌, length, refl, sym, ap, arith, Option, Some}
 use Rattle.std.proofs.Common.{None, option_map, option_and_then, append_assoc, append-nil, length-append, ap₂, Bool, if◌then◌else◌}
 use Rattle.std.proofs.Common.{◌==◌}
@@ -34,10 +34,6 @@ numbers_of_list-is text = refl
 regrouped : (xs ys : List ℕ) (o : Option (List ℕ)) → behind xs (behind ys o) ≡ behind (xs ++ ys) o
 regrouped xs ys None = refl
 regrouped xs ys (Some zs) = ap (λ (l : List ℕ). Some l) (sym (append_assoc xs ys zs))
-
-behind-nil : (o : Option (List ℕ)) → behind [] o ≡ o
-behind-nil None = refl
-behind-nil (Some zs) = refl
 
 -- one item more
 pub behind_item : (chars : List ℕ) (range : ℕ × ℕ) (item : List ℕ) (items : List (List ℕ)) → range_of item ≡ Some range
@@ -86,9 +82,6 @@ all_items text chars so_far h =
     ∙ ap (option_and_then few) (so_far ∙ ap (behind chars) numbers_of_items-nil ∙ ap (λ (l : List ℕ). Some l) (append-nil chars))
     ∙ few_are chars h
 
-pub before_items : (items : List (List ℕ)) → numbers_of_items items ≡ behind [] (numbers_of_items items)
-before_items items = sym (behind-nil (numbers_of_items items))
-
 -- an item with a '-', and one without
 pub range_cut : (item low high : List ℕ) → low ≡ before_first (λ b. b == 45) item → high ≡ after_first (λ b. b == 45) item
     → position_or_len (λ b. b == 45) item < length item → range_of item ≡ pair_of (number_of low) (number_of high)
@@ -104,6 +97,11 @@ unfolding range_of
 range_whole item none =
     ap (λ (t : Bool). if t then pair_of (number_of (before_first (λ b. b == 45) item)) (number_of (after_first (λ b. b == 45) item))
     else pair_of (number_of item) (number_of item)) (le-ltb _ _ (omega (arith, none)))
+
+-- how much of a text is left to split: each part takes its separator away, and the last one the text
+abbrev pub size_left : Option (List ℕ) → ℕ
+size_left None = 0
+size_left (Some text) = length text + 1
 
 -- a text with a separator, and one without
 pub parts_cut : (separator : ℕ) (text part more : List ℕ) → part ≡ before_first (λ b. b == separator) text

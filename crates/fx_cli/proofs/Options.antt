@@ -3,8 +3,7 @@
 use Rattle.std.proofs.Common.{◌≡◌, ◌∙◌, ℕ, ◌<◌, List, [], ◌∷◌, length, refl, sym, ap, ap₂, Option, Some, None, Bool, true, false}
 use Rattle.std.proofs.Common.{Result, Ok, Err, ◌&&◌, ◌||◌, subst, ◌⊎◌, inl, inr}
 use Rattle.fx_fixed.specs.Chain.{◌>>=◌, GivesUnless, wanted}
-use Rattle.fx_request.specs.declared.refusal.Refusal.{Refusal}
-use Rattle.fx_request.specs.declared.refusal.Refusal.TheVariants.{BadChars, OutOfMemory}
+use Rattle.fx_request.specs.declared.refusal.Refusal.TheVariants.{OutOfMemory}
 use Rattle.fx_cli.specs.declared.fault.Fault.{Fault}
 use Rattle.fx_cli.specs.declared.fault.Fault.TheVariants.{Usage, Early}
 use Rattle.fx_cli.specs.declared.command.Command.{Command}
@@ -19,7 +18,6 @@ use Rattle.clap.proofs.WalkLemmas.{both}
 use Rattle.clap.specs.Words.{App, IsAmong, Kinds, Row, Text, fault_of, is_simple, is_simple_and_free, matches_of}
 use Rattle.clap.specs.declared.error.kind.ErrorKind.{ErrorKind}
 use Rattle.fx_cli.specs.Arguments.{dump_app, is_bare, is_some_kind, make_app, rows_by, show_app, size_of}
-use Rattle.fx_cli.specs.Chars.{numbers_of_list}
 use Rattle.fx_cli.specs.Commands.{CommandView, Refuses, seen}
 
 pub make_is_simple : is_simple make_app ≡ true
@@ -148,14 +146,3 @@ not_taken of made app arguments fault e (inr (usage, none)) =
     let P : Fault → Type 0 = λ f. Refuses f (wanted (rows_by app arguments) Usage >>= of) in
     let no_rows = sym (ap (λ (a : App). rows_by a arguments) e) ∙ none in
     subst P (sym usage) (ap (λ (r : Option (List Row)). wanted r Usage >>= of) no_rows)
-
--- a list of characters that is refused
-pub list_refused : (of : List ℕ → Result CommandView Fault) (list : Text) (refusal : Refusal)
-    → (refusal ≡ OutOfMemory) ⊎ ((refusal ≡ BadChars) × (numbers_of_list list ≡ None))
-    → Refuses (Early refusal) (wanted (numbers_of_list list) (Early BadChars) >>= of)
-list_refused of list refusal (inl memory) =
-    let P : Refusal → Type 0 = λ r. Refuses (Early r) (wanted (numbers_of_list list) (Early BadChars) >>= of) in
-    subst P (sym memory) tt
-list_refused of list refusal (inr (bad, none)) =
-    let P : Refusal → Type 0 = λ r. Refuses (Early r) (wanted (numbers_of_list list) (Early BadChars) >>= of) in
-    subst P (sym bad) (ap (λ (r : Option (List ℕ)). wanted r (Early BadChars) >>= of) none)

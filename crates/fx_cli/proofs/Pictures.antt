@@ -1,10 +1,10 @@
 -- The dots of a glyph's rows.
 -- Serves the writer of a picture: `put_dots`, `add_shown`.
 use Rattle.std.proofs.Common.{◌≡◌, ◌∙◌, ℕ, ◌+◌, ◌<◌, ◌≤◌, List, [], ◌∷◌, ◌++◌, Bool, true, false, length, get_or, set}
-use Rattle.std.proofs.Common.{take, map, sym, ap, arith, length-append}
+use Rattle.std.proofs.Common.{take, map, sym, arith, length-append}
 use Rattle.std.specs.Prelude.{codes, if◌then◌else◌}
 use Rattle.std.specs.List.{flat_map}
-use Rattle.std.proofs.lemmas.List.{length-map, map_more, take_all, take_more_set}
+use Rattle.std.proofs.lemmas.List.{length-map, map_more, take_more_set}
 use Rattle.fx_fixed.proofs.Writing.{lines_long}
 use Rattle.fx_winding.specs.Limits.{greatest_side}
 use Rattle.fx_bdf.specs.Glyphs.{Glyph, IsFormed, is_empty}
@@ -20,12 +20,6 @@ dots_more g i j buffer d formed high wide within is so_far =
     take_more_set buffer j d within
     ∙ (λ k. so_far k ++ is k ∷ [])
     ∙ sym (map_more dot_of (get_or g.rows i []) j false (omega (arith, row_width g i formed high)))
-
--- all of them
-pub all_dots : (g : Glyph) (i w : ℕ) (buffer : List ℕ) → IsFormed g → i < g.box.height → w ≡ g.box.width
-    → take w buffer ≡ map dot_of (take w (get_or g.rows i [])) → take w buffer ≡ map dot_of (get_or g.rows i [])
-all_dots g i w buffer formed high is dots =
-    dots ∙ ap (map dot_of) (take_all w (get_or g.rows i []) (omega (arith, row_width g i formed high, is)))
 
 -- ---- the size of a picture
 

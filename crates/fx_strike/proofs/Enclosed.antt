@@ -85,18 +85,18 @@ around_kept big small e = λ i. record {
 not_empty : (w h : ℕ) → 0 < w → 0 < h → (w == 0 || h == 0) ≡ true → ⊥
 not_empty w h p q e = grind (arith, eqb-true)
 
-kept_by : (big small : Box) (t u : Bool) → is_empty small ≡ t → is_empty big ≡ u → Encloses big small
+joined_kept_by : (big small : Box) (t u : Bool) → is_empty small ≡ t → is_empty big ≡ u → Encloses big small
     → (if t then big else (if u then small else around big small)) ≡ big
-kept_by big small true u e f h = refl
-kept_by big small false true e f h = absurd (not_empty big.width big.height h.wide h.high f)
-kept_by big small false false e f h = around_kept big small h
+joined_kept_by big small true u e f h = refl
+joined_kept_by big small false true e f h = absurd (not_empty big.width big.height h.wide h.high f)
+joined_kept_by big small false false e f h = around_kept big small h
 
 -- a tight box all whose bits lie in another leaves that one as it is
 joined_kept : (big box : Box) (bit : ℤ → ℤ → Bool) → IsTight box bit
     → ((col row : ℤ) → IsTrue (bit col row) → IsTrue (is_in_box big col row)) → joined big box ≡ big
 joined_kept big box bit t h = elim t.sides [
   | inl e ↦ let P : Box → Type 0 = λ b. joined big b ≡ big in subst P (sym e) refl
-  | inr s ↦ kept_by big box (is_empty box) (is_empty big) refl refl (encloses big box bit s h)
+  | inr s ↦ joined_kept_by big box (is_empty box) (is_empty big) refl refl (encloses big box bit s h)
 ]
 
 -- ---- the frame of a glyph in a box

@@ -236,19 +236,6 @@ refused_at setting chars i wanted old d l h so_far f =
     ∙ ap (map_ok (λ ss. so_far.sketches ++ ss))
     (due_at setting chars i (Err e) l (sym (at_checked setting chars i h l) ∙ k))) f
 
--- all were made
-pub all_made : (setting : Setting) (chars : List ℕ) (i : ℕ) (wanted : Wanted) (g : Gathered) → length chars ≤ i
-    → AreMadeTo setting chars i wanted g → AreGathered setting chars wanted g
-all_made setting chars i wanted g l h = record {
-  sketches = h.sketches;
-  made = h.made;
-  are = h.rest
-      ∙ ap (λ (xs : List ℕ). map_ok (λ ss. h.sketches ++ ss) (map_chain (one_with setting) xs)) (drop_all i chars l)
-      ∙ ap (λ (ss : List (Option Sketch)). Ok ss) (append-nil h.sketches);
-  ones = h.ones;
-  holds = h.holds;
-}
-
 -- ---- from a file
 
 pub checked_after : (ppem : ℕ) (chars : List ℕ) → Ok tt ≡ checks ppem chars → checked_chars chars ≡ Ok tt

@@ -1,13 +1,9 @@
-use Rattle.std.proofs.Common.{◌≡◌, ◌≤◌, ◌+◌, vec_len, length, Option, Some, None, option_map, ℕ, List}
+use Rattle.std.proofs.Common.{◌≡◌, ◌≤◌, vec_len, option_map}
 use Rattle.fx_request.specs.Limits.{max_characters}
 use Rattle.fx_cli.specs.Parts.{left_parts}
 use Rattle.fx_cli.specs.Chars.{items_of, numbers_of_items}
-use Rattle.fx_cli.proofs.Items.{behind}
+use Rattle.fx_cli.proofs.Items.{behind, size_left}
 use Rattle.fx_cli.proofs.chars.parse_chars.Given as goal
-
-abbrev size_left : Option (List ℕ) → ℕ
-size_left None = 0
-size_left (Some text) = length text + 1
 
 abbrev pub invariant-items : goal.invariant-items
 invariant-items l = record {

@@ -1,12 +1,9 @@
-use Rattle.std.proofs.Common.{◌≡◌, ◌+◌, ◌++◌, ◌∷◌, length, Option, Some, None, option_map, filter, ℕ, List}
+use Rattle.std.proofs.Common.{◌≡◌, ◌++◌, ◌∷◌, option_map, filter}
 use Rattle.fx_cli.specs.Parts.{left_parts}
 use Rattle.fx_cli.specs.Input.{has_bytes, arguments_of_line}
 use Rattle.fx_cli.specs.Arguments.{texts}
+use Rattle.fx_cli.proofs.Items.{size_left}
 use Rattle.fx_cli.proofs.program.arguments_of_line.Given as goal
-
-abbrev size_left : Option (List ℕ) → ℕ
-size_left None = 0
-size_left (Some text) = length text + 1
 
 abbrev pub invariant-arguments : goal.invariant-arguments
 invariant-arguments l = texts l.all.items ++ filter has_bytes

@@ -70,7 +70,8 @@ returns-clause-value c =
     let gw : to_z w64 (of_z w64 g.w) ≡ g.w = omega (arith, signed_linear) in
     let sv : to_z w64 (of_z w64 (pos 0 -ℤ to_z w64 (of_z w64 (to_z w64 (of_z w64 g.step_u) +ℤ to_z w64 (of_z w64 g.step_w))))) ≡
     neg_ℤ (g.step_u +ℤ g.step_w) = omega (arith, signed_linear) in
-    gap_without_copies (g.u +ℤ pos c.args.k *ℤ g.step_u) (g.v +ℤ pos c.args.k *ℤ neg_ℤ (g.step_u +ℤ g.step_w)) (g.w +ℤ pos c.args.k *ℤ g.step_w)
+    gap_without_copies (g.u +ℤ pos c.args.k *ℤ g.step_u) (g.v +ℤ pos c.args.k *ℤ neg_ℤ (g.step_u +ℤ g.step_w))
+    (g.w +ℤ pos c.args.k *ℤ g.step_w)
     c.product.result c.product-2.result c.product.ensures.size c.product-2.ensures.size
     (c.product.ensures.value ∙ (λ i. u i *ℤ w i)
     ∙ (λ i. (c.moved-u.ensures.value i) *ℤ (c.moved-w.ensures.value i))
