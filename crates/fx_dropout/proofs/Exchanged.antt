@@ -30,7 +30,8 @@ weight : (a b c p q r : Place)
     → sign (area (turned_place a) (turned_place b) (turned_place c)) *ℤ area (turned_place p) (turned_place q) (turned_place r)
     ≡ sign (area a b c) *ℤ area p q r
 weight a b c p q r =
-    (λ i. (ap sign (area_turned a b c) ∙ sign_turned (area a b c)) i *ℤ area_turned p q r i) ∙ minus_both (sign (area a b c)) (area p q r)
+    (λ i. (ap sign (area_turned a b c) ∙ sign_turned (area a b c)) i *ℤ area_turned p q r i)
+    ∙ minus_both (sign (area a b c)) (area p q r)
 
 zero_turned : (p q r : Place) → area (turned_place p) (turned_place q) (turned_place r) ≡ pos 0 → area p q r ≡ pos 0
 zero_turned p q r h = let e = area_turned p q r in omega (arith, signed_linear, e, h)

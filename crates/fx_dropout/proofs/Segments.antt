@@ -132,5 +132,6 @@ pub noted_next_row : (ss : List Span) (f : Frame) (up : ℕ) (old mid : ℤ → 
     → at ≡ f.bottom +ℤ pos up → up < f.height → first ≡ up * (32 * words_for (f.width + 2)) → AreRowsClosed ss f up old mid
     → AreNotedRows ss f old noted → IsNotedRow ss f at mid noted first
 noted_next_row ss f up old mid noted at first e l n a h = λ k m g.
-    subst (λ (s : ℕ). word_bit noted (s + k) ≡ 1) (sym n) (h up l k m (subst (λ (y : ℤ). IsGap ss old ((f.left -ℤ pos 1) +ℤ pos k) y) e
+    subst (λ (s : ℕ). word_bit noted (s + k) ≡ 1) (sym n)
+    (h up l k m (subst (λ (y : ℤ). IsGap ss old ((f.left -ℤ pos 1) +ℤ pos k) y) e
     (gap_on_row ss mid old at (λ i. a.others i at (λ o. omega (arith, signed_linear, o.1, e))) ((f.left -ℤ pos 1) +ℤ pos k) g)))

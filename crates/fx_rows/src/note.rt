@@ -87,8 +87,8 @@ fn note_row(frame: Frame, up: u32, segments: Segments, noted: &mut [u32])
     }
 }
 
-/// Notes all segments of rows that a piece between some columns can meet. A piece with no column's centre in its box can meet one in
-/// each row.
+/// Notes all segments of rows that a piece between some columns can meet. A piece with no column's centre in its box can meet one
+/// in each row.
 fn note_box(across: Across, frame: Frame, rows: RowRange, noted: &mut [u32])
     requires rows { rows.end ≤ frame.height }
     requires room { HasRoom frame noted.old }
@@ -138,7 +138,8 @@ fn note_met_row(piece: &Piece, frame: Frame, up: u32, segments: Segments, noted:
     }
 }
 
-/// Notes those segments of rows that a piece meets, each by a test. Few pieces need it, so its code is kept out of the others' loops.
+/// Notes those segments of rows that a piece meets, each by a test. Few pieces need it, so its code is kept out of the others'
+/// loops.
 #[inline(never)]
 fn note_met_rows(piece: &Piece, across: Across, frame: Frame, rows: RowRange, noted: &mut [u32])
     requires across { AreAcross (span_of piece.now) across.first across.end }
@@ -292,8 +293,8 @@ fn note_touched(piece: &Piece, frame: Frame, rows: RowRange, noted: &mut [u32])
     note_rows(piece, frame, rows, noted);
 }
 
-/// Notes each segment between neighbours of a frame's rows that a piece meets, if neither of its ends is on the piece. Others may be
-/// noted too.
+/// Notes each segment between neighbours of a frame's rows that a piece meets, if neither of its ends is on the piece. Others may
+/// be noted too.
 pub fn note_met(piece: &Piece, frame: Frame, noted: &mut [u32])
     requires { HasRoom frame noted.old }
     ensures noted { AreNoted (span_of piece.now) frame 0 frame.height noted.new }

@@ -3,10 +3,10 @@
 //!     rows_against_plain CONTOURS [SEED] < FONT
 //!
 //! Of the font on standard input, if it is not empty, each glyph is scanned at 12, 16, 33 and 128 pixels an em, without
-//! hinting. Each outline is scanned once more with the halves of each arc that has any in its place. With drop-out control the gaps
-//! are closed at the segments that are noted and, in another bitmap, by a look at each pair of neighbours. For each kind the program
-//! writes how many outlines it compared, how many pixels they have, how many outlines differ, how many differ with halves, and how
-//! many differ with their gaps closed.
+//! hinting. Each outline is scanned once more with the halves of each arc that has any in its place. With drop-out control the
+//! gaps are closed at the segments that are noted and, in another bitmap, by a look at each pair of neighbours. For each kind the
+//! program writes how many outlines it compared, how many pixels they have, how many outlines differ, how many differ with halves,
+//! and how many differ with their gaps closed.
 #![tactic(auto)]
 
 ghost use Rattle.std.specs.Prelude.{IsTrue};
@@ -186,11 +186,11 @@ fn report(rt: &HostRuntime, what: &str, counts: Counts) -> Result<()> {
         outlines,
         pixels,
         differing,
-        differing_with_halves,
-        differing_closed,
+        differing_with_halves: halves,
+        differing_closed: closed,
     } = counts;
     println!(rt;
-        "{what}: {outlines} outlines, {pixels} pixels, {differing} differ, {differing_with_halves} with halves, {differing_closed} closed"
+        "{what}: {outlines} outlines, {pixels} pixels, {differing} differ, {halves} with halves, {closed} closed"
     )?;
     Ok(())
 }

@@ -41,7 +41,8 @@ close_gap-requires-clause-inside c =
     let at = to_z w32 (of_z w32 (to_z w32 (of_z w32 f.left) +ℤ to_z w32 k)) in
     let row = to_z w32 (of_z w32 c.args.j) in
     let col : at ≡ f.left +ℤ pos k = omega (arith, signed_linear, step, from) in
-    subst (λ (g : Frame). IsSeenInFrame c.args.turned g at row) (sym c.segments.invariant.same) ((c.requires.seen at row).0 (record {
+    subst (λ (g : Frame). IsSeenInFrame c.args.turned g at row) (sym c.segments.invariant.same)
+    ((c.requires.seen at row).0 (record {
       column = (omega (arith, signed_linear, col), omega (arith, signed_linear, col, from));
       row = (omega (arith, signed_linear), omega (arith, signed_linear));
     }))

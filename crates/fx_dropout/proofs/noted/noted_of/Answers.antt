@@ -27,8 +27,8 @@ pieces-preserved c =
     subst (λ (s : Span). AreNoted s f 0 f.height c.note_met.new.noted) c.seen_piece.ensures c.note_met.ensures.noted in
     let e = ap length c.deref_mut.ensures.value in
     let room = c.pieces.invariant.room in
-    let all = All-more (P c.note_met.new.noted) c.as_slice-piece-items.result.now c.pieces.piece-index c.piece-item.result (omega arith)
-    before (subst (P c.note_met.new.noted) c.piece-item.is here) in
+    let all = All-more (P c.note_met.new.noted) c.as_slice-piece-items.result.now c.pieces.piece-index c.piece-item.result
+    (omega arith) before (subst (P c.note_met.new.noted) c.piece-item.is here) in
     record {
       room = let w = ap length whole in omega (arith, w, e, room);
       noted = subst (λ (l : List ℕ). All (P l) (take (c.pieces.piece-index + 1) c.as_slice-piece-items.result.now)) (sym whole) all;

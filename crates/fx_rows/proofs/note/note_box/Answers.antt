@@ -13,8 +13,8 @@ note_row-requires-clause-room c = λ r k l m. let h = c.requires.room r k l m in
 
 pub rows-preserved : goal.rows-preserved
 rows-preserved c = record {
-  noted = λ s h. noted_more s c.args.frame c.args.rows.first c.rows.up c.rows.noted c.note_row.new.noted (c.rows.invariant.noted s h)
-      c.note_row.ensures.kept
+  noted = λ s h. noted_more s c.args.frame c.args.rows.first c.rows.up c.rows.noted c.note_row.new.noted
+      (c.rows.invariant.noted s h) c.note_row.ensures.kept
       (λ k l m. let o = c.segments_of-segments.ensures.only s h c.rows.up k l m in c.note_row.ensures.set k o.0 o.1);
   kept = kept_both _ _ _ c.rows.invariant.kept c.note_row.ensures.kept;
 }
