@@ -1,7 +1,7 @@
 -- A glyph whose frame lies in a box leaves that box as it is.
 -- Serves `are_among`, `lies_in`, `bounds_with` and `see_one`.
 use Rattle.std.proofs.Common.{◌≡◌, refl, sym, ap, ap₂, ◌∙◌, subst, inl, inr, ℕ, ◌<◌, ℤ, pos, ◌+ℤ◌, ◌≤ℤ◌, ◌<ℤ◌, Bool, true}
-use Rattle.std.proofs.Common.{false, true≢false, not, ◌||◌, List, Option, Some, None, Result, Ok, Err, arith}
+use Rattle.std.proofs.Common.{false, true≢false, not, ◌||◌, List, Option, Some, None, Ok, arith}
 use Rattle.std.specs.Prelude.{IsTrue, ◌==◌, int_le, if◌then◌else◌}
 use Rattle.std.specs.List.{list_all}
 use Rattle.std.specs.Int.{int_min, int_max}
@@ -19,16 +19,13 @@ use Rattle.fx_contour.specs.Frames.{IsInside, NothingOutsideFrame}
 use Rattle.fx_bdf.specs.Glyphs.{Box, Glyph, HasSides, IsTight, IsPlaced, is_in_box, is_empty, around, joined, last_of}
 use Rattle.fx_bdf.specs.Glyphs.{glyph_bit}
 use Rattle.fx_bdf.proofs.Boxes.{steps_above, parts_of_place, lies_in_box}
-use Rattle.fx_request.specs.declared.refusal.Refusal.{Refusal}
-use Rattle.fx_request.specs.declared.refusal.Refusal.TheVariants.{OutOfMemory}
 use Rattle.fx_strike.specs.declared.sketched.Sketched.{Sketched}
 use Rattle.fx_strike.specs.declared.seen.Seen.{Seen}
-use Rattle.fx_strike.specs.Faults.{Fails}
 use Rattle.fx_strike.specs.Strike.{Sketch, IsGlyphOf}
 use Rattle.fx_machine.specs.Usages.{usage_with}
 use Rattle.fx_strike.specs.inner.Drawing.{are_among, lies_in, IsFramedBy, IsSketchedOf}
 use Rattle.fx_strike.specs.inner.Gathering.{gathered_with}
-use Rattle.fx_strike.specs.inner.Surveying.{Adds, Joins, Has, SeesOne}
+use Rattle.fx_strike.specs.inner.Surveying.{Adds, Joins, Has}
 use Rattle.fx_strike.proofs.Bridged.{nothing_set}
 use Rattle.fx_strike.proofs.Near.{are_drawn}
 use Rattle.fx_strike.proofs.Existing.{glyph_of_spans}
@@ -167,18 +164,6 @@ skipped sketch made box outside framed inside placed is =
 pub joins_made : (sketch : Sketch) (box new : Box) (g : Glyph) → IsGlyphOf sketch g → new ≡ joined box g.box → IsPlaced new
     → Joins sketch box (Ok new)
 joins_made sketch box new g is e placed = (g, is, e, placed)
-
--- a refusal on the way to a glyph whose sketch is there is out of memory
-pub joins_refused : (sketch : Sketch) (box : Box) (r : Result Box Refusal) (e d : Refusal) → r ≡ Err e → e ≡ d → d ≡ OutOfMemory
-    → Joins sketch box r
-joins_refused sketch box r e d p q m =
-    let P : Result Box Refusal → Type 0 = λ s. Joins sketch box s in subst P (sym (p ∙ ap Err (q ∙ m))) refl
-
--- a character that was not seen
-pub sees_one_err : (due : Result Sketch Refusal) (old new : Seen) (r : Result (Unit {0}) Refusal) (e d : Refusal) → r ≡ Err e
-    → e ≡ d → Fails d due → SeesOne due old new r
-sees_one_err due old new r e d p q f =
-    let P : Result (Unit {0}) Refusal → Type 0 = λ s. SeesOne due old new s in subst P (sym (p ∙ ap Err q)) f
 
 -- a character was added
 pub has_added : (sketch : Sketch) (made : Sketched) (old new : Seen) (code : ℕ) (box : Box) → IsSketchedOf sketch made

@@ -1,3 +1,4 @@
+pub mod Exits
 pub mod Sketching
 pub mod GatheredGlyphs
 pub mod Seeing

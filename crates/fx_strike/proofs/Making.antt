@@ -1,10 +1,10 @@
 -- From what was seen to a survey, and what a call leaves that was refused.
 -- Serves `survey_codes`, `survey_chars`, `write_strike`, `make_strike_with` and `whole_pixels`.
-use Rattle.std.proofs.Common.{refl, sym, ap, ap₂, subst, ◌≡◌, ◌∙◌, arith, inl, ℕ, ◌+◌, ◌<◌, ◌≤◌, ◌^◌, ℤ, pos, List, map}
+use Rattle.std.proofs.Common.{refl, sym, ap, subst, ◌≡◌, ◌∙◌, arith, inl, ℕ, ◌+◌, ◌<◌, ◌≤◌, ◌^◌, ℤ, pos, List, map}
 use Rattle.std.proofs.Common.{Bool, Option, Some, None, Result, Ok}
 use Rattle.std.proofs.Common.{Err, FitsSigned, w32, to_z, of_z, lit<}
 use Rattle.std.specs.Int.{w128}
-use Rattle.std.specs.Prelude.{◌*ℤ◌, neg_ℤ, unsigned_abs, IsOk, IfOk, IfErr}
+use Rattle.std.specs.Prelude.{◌*ℤ◌, neg_ℤ, unsigned_abs, IsOk, IfOk, IfErr, IsErrOf}
 use Rattle.std.specs.Io.KnownBytes.{Keeps}
 use Rattle.std.specs.List.{sum_by}
 use Rattle.std.proofs.lemmas.Int.{ints, fits_signed_mul, fits_signed_from_abs, unsigned_abs-mul}
@@ -27,30 +27,14 @@ use Rattle.fx_fixed.specs.Changes.{Change}
 use Rattle.fx_request.specs.Characters.{rising}
 use Rattle.fx_fixed.specs.Numbers.{counted}
 use Rattle.fx_strike.specs.Title.{Title}
-use Rattle.fx_strike.specs.Strike.{Sketch, Setting, Plan, setting_with, prelude_by, pixels, sketches_of, plan_from, plan_with}
-use Rattle.fx_strike.specs.Headline.{IsCause, Surveyed, Writer, Leaves, Makes}
+use Rattle.fx_strike.specs.Strike.{Setting, Plan, setting_with, prelude_by, pixels, sketches_of, plan_from, plan_with}
+use Rattle.fx_strike.specs.Headline.{IsCause, Surveyed, Leaves, Makes}
 use Rattle.fx_strike.specs.inner.Gathering.{summary_with}
 use Rattle.fx_strike.specs.inner.Surveying.{Holds, survey_from, Surveys}
 use Rattle.fx_strike.proofs.GatheredGlyphs.{as_many, summary_is}
 use Rattle.fx_strike.proofs.Sketching.{fails_on}
 
--- ---- when the plan stops
-
-plan_refused : (setting : Setting) (title : Title) (chars : List ℕ) (d : Refusal)
-    → sketches_of setting (rising chars) ≡ Err d → plan_with setting title chars ≡ Err d
-unfolding plan_with
-plan_refused setting title chars d h = rw h
-
-plan_whole : (setting : Setting) (title : Title) (chars : List ℕ) (ss : List Sketch)
-    → sketches_of setting (rising chars) ≡ Ok ss → plan_with setting title chars ≡ Ok (plan_from setting title chars ss)
-unfolding plan_with
-plan_whole setting title chars ss h = rw h
-
 -- ---- a survey
-
-pub surveys_err : (due : Result Plan Refusal) (r : Result Survey Refusal) (e d : Refusal) → r ≡ Err e → e ≡ d → Fails d due
-    → Surveys due r
-surveys_err due r e d p q f = let P : Result Survey Refusal → Type 0 = λ s. Surveys due s in subst P (sym (p ∙ ap Err q)) f
 
 pub surveys_ok : (due : Result Plan Refusal) (r : Result Survey Refusal) → Surveys due r → IfOk r (Surveyed due)
 surveys_ok due (Ok survey) h = h
@@ -60,15 +44,10 @@ pub surveys_cause : (due : Result Plan Refusal) (r : Result Survey Refusal) → 
 surveys_cause due (Ok survey) h = tt
 surveys_cause due (Err d) h = h
 
-pub surveys_along : (here due : Result Plan Refusal) (r : Result Survey Refusal) → due ≡ here → Surveys here r → Surveys due r
-surveys_along here due r e h = let P : Result Plan Refusal → Type 0 = λ x. Surveys x r in subst P (sym e) h
-
-pub unseen : (setting : Setting) (title : Title) (chars codes : List ℕ) (r : Result Survey Refusal) (e d : Refusal)
-    → r ≡ Err e → e ≡ d → codes ≡ rising chars → Fails d (sketches_of setting codes) → Surveys (plan_with setting title chars) r
-unseen setting title chars codes r e d p q c f =
-    surveys_err (plan_with setting title chars) r e d p q
-    (fails_on d (sketches_of setting codes) (plan_with setting title chars)
-    (λ x g. plan_refused setting title chars x (ap (sketches_of setting) (sym c) ∙ g)) f)
+pub unseen : (setting : Setting) (title : Title) (chars codes : List ℕ) (d : Refusal) → codes ≡ rising chars
+    → Fails d (sketches_of setting codes) → Fails d (plan_with setting title chars)
+unfolding plan_with
+unseen setting title chars codes d c f = fails_on d (sketches_of setting codes) _ (λ x g. rw (ap (sketches_of setting) (sym c) ∙ g)) f
 
 -- a count goes on after what was counted before
 counted_on : (before after total : ℕ) → after ≡ counted total → counted (before + after) ≡ counted (before + total)
@@ -78,6 +57,7 @@ surveyed_here : (opened : Opened) (dropout : Bool) (machine : Option Known) (tit
     → Holds (setting_with opened dropout machine) (rising chars) seen
     → Surveyed (plan_with (setting_with opened dropout machine) title chars)
     (survey_from (prelude_by machine) opened seen (summary_with seen.gathered seen.report.glyphs))
+unfolding plan_with
 surveyed_here opened dropout machine title chars seen g =
     let heading : Box → ℕ → Header = λ b n. record {
       ppem = opened.ppem;
@@ -89,7 +69,7 @@ surveyed_here opened dropout machine title chars seen g =
     record {
       plan = plan_from (setting_with opened dropout machine) title chars g.sketches;
       glyphs = g.glyphs;
-      is = plan_whole (setting_with opened dropout machine) title chars g.sketches g.planned;
+      is = rw g.planned;
       drawn = g.drawn;
       header = ap (λ (b : Box). heading b seen.report.glyphs) g.bounds ∙
           ap (λ (n : ℕ). heading (bounds_of (map (λ x. x.box) g.glyphs)) n) g.count;
@@ -108,10 +88,7 @@ pub surveyed : (opened : Opened) (dropout : Bool) (machine : Option Known) (prel
     → summary ≡ summary_with seen.gathered seen.report.glyphs → survey ≡ survey_from prelude opened seen summary
     → Surveyed (plan_with (setting_with opened dropout machine) title chars) survey
 surveyed opened dropout machine prelude title chars codes seen summary survey n c g m e =
-    let P : List ℕ → Type 0 = λ xs. Holds (setting_with opened dropout machine) xs seen in
-    let Q : Survey → Type 0 = λ s. Surveyed (plan_with (setting_with opened dropout machine) title chars) s in
-    subst Q (sym (e ∙ ap₂ (λ (x : Usage) (y : Summary). survey_from x opened seen y) n m))
-    (surveyed_here opened dropout machine title chars seen (subst P c g))
+    rw (e, n, m) (surveyed_here opened dropout machine title chars seen (rw c at g))
 
 -- ---- refusals that are due
 
@@ -123,107 +100,56 @@ fails_cause BadHex due c h = absurd c
 fails_cause InputTooLarge due c h = absurd c
 fails_cause d due c h = h
 
--- a refusal on the way, and nothing was written
-fails_leaves : {Y : Type 0} (checks : Result Y Refusal) (due : Result Plan Refusal) (change : Change) (d : Refusal)
-    → IsOk checks → Keeps change.bytes_before change.bytes → change.faults ≡ change.faults_before → Fails d due
-    → Leaves checks due change (Err d)
-fails_leaves checks due change OutOfMemory o k q f = (o, record { begun = inl k; quiet = q })
-fails_leaves checks due change (WriteFailed n) o k q f = absurd f
-fails_leaves checks due change ReadFailed o k q f = absurd f
-fails_leaves checks due change BadHex o k q f = absurd f
-fails_leaves checks due change InputTooLarge o k q f = absurd f
-fails_leaves checks due change d o k q f = record { cause = tt; first = f; kept = k; quiet = q }
-
--- the first cause before anything was made, and nothing was written
-cause_leaves : {Y : Type 0} (checks : Result Y Refusal) (due : Result Plan Refusal) (change : Change) (d : Refusal)
-    → IsCause d → Keeps change.bytes_before change.bytes → change.faults ≡ change.faults_before → due ≡ Err d
-    → Leaves checks due change (Err d)
-cause_leaves checks due change OutOfMemory c k q f = absurd c
-cause_leaves checks due change (WriteFailed n) c k q f = absurd c
-cause_leaves checks due change d c k q f = record { cause = c; first = f; kept = k; quiet = q }
+pub not_memory : {X : Type 0} (d : Refusal) → IsCause d → d ≡ OutOfMemory → X
+not_memory d c m = absurd (rw m at c)
 
 pub keeps_same : (old : Option (List ℕ)) → Keeps old old
 keeps_same None = tt
 keeps_same (Some xs) = refl
 
-leaves_err : {Y : Type 0} (checks : Result Y Refusal) (due : Result Plan Refusal) (change : Change) (r : Result Report Refusal)
-    (e d : Refusal) → r ≡ Err e → e ≡ d → Leaves checks due change (Err d) → Leaves checks due change r
-leaves_err checks due change r e d p q h =
-    let P : Result Report Refusal → Type 0 = λ s. Leaves checks due change s in subst P (sym (p ∙ ap Err q)) h
+-- ---- what a call leaves
 
-pub not_surveyed : {Y : Type 0} (checks : Result Y Refusal) (due : Result Plan Refusal) (change : Change)
-    (r : Result Report Refusal) (e d : Refusal) → IsOk checks → Keeps change.bytes_before change.bytes
-    → change.faults ≡ change.faults_before → r ≡ Err e → e ≡ d → Fails d due → Leaves checks due change r
-not_surveyed checks due change r e d o k s p q f = leaves_err checks due change r e d p q (fails_leaves checks due change d o k s f)
+-- a refusal on the way, and nothing was written
+pub fails_leaves : (due : Result Plan Refusal) (change : Change) (d : Refusal) → Keeps change.bytes_before change.bytes
+    → change.faults ≡ change.faults_before → Fails d due → Leaves {Y = Unit {0}} (Ok tt) due change (Err d)
+fails_leaves due change OutOfMemory k q f = (refl, record { begun = inl k; quiet = q })
+fails_leaves due change (WriteFailed n) k q f = absurd f
+fails_leaves due change ReadFailed k q f = absurd f
+fails_leaves due change BadHex k q f = absurd f
+fails_leaves due change InputTooLarge k q f = absurd f
+fails_leaves due change d k q f = record { cause = tt; first = f; kept = k; quiet = q }
 
--- ---- what a call leaves, clause by clause
-
-pub makes : {Y : Type 0} (checks : Result Y Refusal) (due : Result Plan Refusal) (change : Change) (r : Result Report Refusal)
-    → Leaves checks due change r → Makes checks due change r
-makes checks due change (Ok report) h = record {
+-- clause by clause, where the checks passed if memory ran out
+pub makes : {Y : Type 0} {checks : Result Y Refusal} {due : Result Plan Refusal} {change : Change} (r : Result Report Refusal)
+    → (IsErrOf r OutOfMemory → IsOk checks) → Leaves {Y = Unit {0}} (Ok tt) due change r → Makes checks due change r
+makes (Ok report) o h = record {
   text = h;
   cause = tt;
   memory = λ e. absurd (cc);
-  late = λ e. absurd (cc);
+  late = o;
   writer = λ n e. absurd (cc);
 }
-makes checks due change (Err OutOfMemory) h = record {
+makes (Err OutOfMemory) o h = record {
   text = tt;
   cause = λ e. absurd e;
   memory = λ e. h.1;
-  late = λ e. h.0;
+  late = o;
   writer = λ n e. absurd (cc);
 }
-makes checks due change (Err (WriteFailed m)) h = record {
+makes (Err (WriteFailed m)) o h = record {
   text = tt;
   cause = λ e. absurd e;
   memory = λ e. absurd (cc);
-  late = λ e. absurd (cc);
-  writer = λ n e.
-      let same : m ≡ n = cc in
-      let P : ℕ → Type 0 = λ k. Writer due change k in
-      subst P same h;
+  late = o;
+  writer = λ n e. let same : m ≡ n = cc in rw (← same) h;
 }
-makes checks due change (Err d) h = record {
+makes (Err d) o h = record {
   text = tt;
   cause = λ e. h;
   memory = λ e. absurd (cc);
-  late = λ e. absurd (cc);
+  late = o;
   writer = λ n e. absurd (cc);
 }
-
-pub fails_makes : {Y : Type 0} (checks : Result Y Refusal) (due : Result Plan Refusal) (change : Change)
-    (r : Result Report Refusal) (e d : Refusal) → IsOk checks → Keeps change.bytes_before change.bytes
-    → change.faults ≡ change.faults_before → r ≡ Err e → e ≡ d → Fails d due → Makes checks due change r
-fails_makes checks due change r e d o k s p q f = makes checks due change r (not_surveyed checks due change r e d o k s p q f)
-
-pub cause_makes : {Y : Type 0} (checks : Result Y Refusal) (due : Result Plan Refusal) (change : Change)
-    (r : Result Report Refusal) (e d : Refusal) → IsCause d → Keeps change.bytes_before change.bytes
-    → change.faults ≡ change.faults_before → r ≡ Err e → e ≡ d → due ≡ Err d → Makes checks due change r
-cause_makes checks due change r e d c k s p q f =
-    makes checks due change r (leaves_err checks due change r e d p q (cause_leaves checks due change d c k s f))
-
--- other checks passed
-checks_passed : {X Y : Type 0} (a : Result X Refusal) (b : Result Y Refusal) (due : Result Plan Refusal) (change : Change)
-    (r : Result Report Refusal) → IsOk b → Leaves a due change r → Leaves b due change r
-checks_passed a b due change (Ok report) o h = h
-checks_passed a b due change (Err OutOfMemory) o h = (o, h.1)
-checks_passed a b due change (Err (WriteFailed n)) o h = h
-checks_passed a b due change (Err d) o h = h
-
--- the strike of a title that is another's
-pub leaves_titled : {Y : Type 0} (checks : Result Y Refusal) (setting : Setting) (here title : Title) (chars : List ℕ)
-    (change : Change) (r : Result Report Refusal) → here ≡ title → Leaves checks (plan_with setting here chars) change r
-    → Leaves checks (plan_with setting title chars) change r
-leaves_titled checks setting here title chars change r e h =
-    let P : Title → Type 0 = λ t. Leaves checks (plan_with setting t chars) change r in subst P e h
-
--- what was left once they passed, and the strike is the one that is due
-pub leaves_makes : {X Y : Type 0} (a : Result X Refusal) (b : Result Y Refusal) (here due : Result Plan Refusal) (change : Change)
-    (r : Result Report Refusal) → IsOk b → due ≡ here → Leaves a here change r → Makes b due change r
-leaves_makes a b here due change r o e h =
-    let P : Result Plan Refusal → Type 0 = λ x. Leaves a x change r in
-    makes b due change r (checks_passed a b due change r o (subst P (sym e) h))
 
 -- ---- lemmas for answers
 

@@ -93,27 +93,24 @@ sketch_code setting code glyph s h =
     code_along : (x s : Sketch) (code : ℕ) → x ≡ s → x.code ≡ code → s.code ≡ code
     code_along x s code e h = sym (ap (λ (y : Sketch). y.code) e) ∙ h
 
+-- a chain with values gave its first, and then the others
+pub chain_parts : {A B : Type 0} (f : A → Result B Refusal) (x : A) (xs : List A) (ys : List B) → map_chain f (x ∷ xs) ≡ Ok ys
+    → (z : B) × (zs : List B) × (f x ≡ Ok z) × (map_chain f xs ≡ Ok zs) × (ys ≡ z ∷ zs)
+chain_parts f x xs ys h =
+    let p = bind_ok (f x) (λ y. map_chain f xs >>= λ zs. Ok (y ∷ zs)) ys h in
+    let q = bind_ok (map_chain f xs) (λ zs. Ok (p.0 ∷ zs)) ys p.2 in (p.0, q.0, p.1, q.1, cc (q.2))
+
 -- what a chain gives at a place is what its step gives of something
 chain_at : {A B : Type 0} (f : A → Result B Refusal) (xs : List A) (ys : List B) → map_chain f xs ≡ Ok ys → (k : ℕ) (d : B)
     → k < length ys → (x : A) × (f x ≡ Ok (get_or ys k d))
-chain_at {A} {B} f [] ys h k d l =
-    let e : [] ≡ ys = cc in let L : List B → Type 0 = λ zs. k < length zs in absurd (below_none k (subst L (sym e) l))
-  where
-    below_none : (k : ℕ) → k < 0 → ⊥
-    below_none k h = omega arith
-chain_at {A} {B} f (x ∷ xs) ys h k d l =
-    let p = bind_ok (f x) (λ y. map_chain f xs >>= λ zs. Ok (y ∷ zs)) ys h in
-    let q = bind_ok (map_chain f xs) (λ zs. Ok (p.0 ∷ zs)) ys p.2 in
-    let e : p.0 ∷ q.0 ≡ ys = cc (q.2) in
-    let P : List B → Type 0 = λ zs. (z : A) × (f z ≡ Ok (get_or zs k d)) in
-    let L : List B → Type 0 = λ zs. k < length zs in
-    subst P e (at f x p.0 q.0 p.1 (chain_at f xs q.0 q.1) k d (subst L (sym e) l))
-  where
-    at : {A B : Type 0} (f : A → Result B Refusal) (x : A) (y : B) (ys : List B) → f x ≡ Ok y
-        → ((k : ℕ) (d : B) → k < length ys → (z : A) × (f z ≡ Ok (get_or ys k d))) → (k : ℕ) (d : B) → k < length (y ∷ ys)
-        → (z : A) × (f z ≡ Ok (get_or (y ∷ ys) k d))
-    at f x y ys p r zero d l = (x, p)
-    at f x y ys p r (suc k) d l = r k d (omega arith)
+chain_at f [] [] h k d l = absurd (omega arith)
+chain_at f [] (y ∷ ys) h k d l = absurd (cc)
+chain_at {B = B} f (x ∷ xs) ys h zero d l =
+    let p = chain_parts f x xs ys h in (x, p.2 ∙ ap (λ (zs : List B). Ok (get_or zs 0 d)) (sym p.4))
+chain_at {B = B} f (x ∷ xs) ys h (suc k) d l =
+    let p = chain_parts f x xs ys h in
+    let less : k < length p.1 = omega (arith, ap length p.4) in
+    let r = chain_at f xs p.1 p.3 k d less in (r.0, r.1 ∙ ap (λ (zs : List B). Ok (get_or zs (suc k) d)) (sym p.4))
 
 -- what opens after checks opens without them
 unchecked : {A B : Type 0} (size : Result A Refusal) (checks : Result (Unit {0}) Refusal) (opens : A → Result B Refusal) (o : B)

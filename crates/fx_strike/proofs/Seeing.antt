@@ -20,7 +20,7 @@ use Rattle.fx_strike.specs.Strike.{Sketch, Setting, IsGlyphOf, AreGlyphsOf, glyp
 use Rattle.fx_fixed.specs.Numbers.{counted}
 use Rattle.fx_machine.specs.declared.usage.Usage.{Usage}
 use Rattle.fx_strike.specs.inner.Gathering.{gathered_with}
-use Rattle.fx_strike.specs.inner.Surveying.{IsEmpty, Has, Holds, Sees}
+use Rattle.fx_strike.specs.inner.Surveying.{IsEmpty, Has, Holds}
 use Rattle.fx_strike.proofs.GatheredGlyphs.{gathered_push}
 use Rattle.fx_strike.proofs.Sketching.{fails_on}
 
@@ -204,10 +204,3 @@ refused_at setting codes i glyph old refusal l h e m f =
     (get_or codes i 0)
     (filter (λ x. not (is_missing setting x)) (drop (i + 1) codes)) h.sketches d h.planned
     (sym (same_sketch setting (get_or codes i 0) glyph e) ∙ k)) f
-
--- what is passed on at the exit of a `?`
-pub sees_err : (setting : Setting) (codes : List ℕ) (r : Result Seen Refusal)
-    (e d : Refusal)
-    → r ≡ Err e → e ≡ d → Fails d (sketches_of setting codes) → Sees setting codes r
-sees_err setting codes r e d p q f =
-    let P : Result Seen Refusal → Type 0 = λ s. Sees setting codes s in subst P (sym (p ∙ ap Err q)) f

@@ -23,7 +23,7 @@ use Rattle.fx_request.specs.declared.refusal.Refusal.TheVariants.{OutOfMemory, W
 use Rattle.fx_request.specs.Faults.{of_font}
 use Rattle.fx_strike.specs.Faults.{Fails, of_hint, of_contour}
 use Rattle.fx_strike.specs.Strike.{Sketch, Setting, IsGlyphOf, thousandths, outline_in, sketch_from, framed_by, glyph_sketch_of}
-use Rattle.fx_strike.specs.inner.Drawing.{HasBitsOf, IsSketchedOf, Sketches, Draws}
+use Rattle.fx_strike.specs.inner.Drawing.{HasBitsOf, IsSketchedOf, Draws}
 use Rattle.fx_strike.specs.declared.sketched.Sketched.{Sketched}
 
 -- ---- whole pixels fit
@@ -209,11 +209,6 @@ no_advance setting code glyph drawing d h1 h2 h3 =
     refused_metrics (λ (m : Metrics). thousandths m.advance_width setting.font.head.units_per_em) (metrics_of setting.font glyph) d
     (glyph_sketch_of setting code glyph) h3
     (λ f k. rw (h1, ap (map_fault (of_contour glyph)) p.1, ap (map_fault (of_contour glyph)) p.2, k) refl)
-
--- what is passed on at the exit of a `?`
-pub sketches_err : (due : Result Sketch Refusal) (r : Result Sketched Refusal) (e d : Refusal) → r ≡ Err e → e ≡ d → Fails d due
-    → Sketches due r
-sketches_err due r e d p q f = let P : Result Sketched Refusal → Type 0 = λ s. Sketches due s in subst P (sym (p ∙ ap Err q)) f
 
 -- ---- lemmas for answers
 

@@ -1,6 +1,6 @@
 //! The second pass over the characters: each is made again and written.
 ghost use Rattle.std.specs.Prelude.{◌≡◌, ◌≤◌, ◌<◌, ◌^◌, ◌+◌, ◌++◌, ℕ, List, [], false, nat_lt, length, OnOk};
-ghost use Rattle.std.specs.List.{list_any};
+ghost use Rattle.std.specs.List.{flat_map, list_any};
 ghost use Rattle.fx_fixed.specs.Texts.{Adds, length_of};
 ghost use Rattle.fx_cmap.specs.Lookup.{glyph_for};
 ghost use Rattle.fx_bdf.specs.Properties.{AreLines, seen_properties};
@@ -8,7 +8,7 @@ ghost use Rattle.fx_bdf.specs.Text.{IsName, header_text, end_text, longest_glyph
 ghost use Rattle.fx_request.specs.Limits.{max_characters, max_code};
 ghost use Rattle.fx_fixed.specs.Changes.{change_of};
 ghost use Rattle.fx_strike.specs.Strike.{setting_with};
-ghost use Rattle.fx_strike.specs.inner.Writing.{AreLinesOf, AreAllLinesOf, IsShort, Stops, Writes, longest_glyphs, longest_text};
+ghost use Rattle.fx_strike.specs.inner.Writing.{AreLinesOf, AreAllLinesOf, HasRoom, Stops, Writes, longest_glyphs, longest_text};
 
 use crate::draft::Draft;
 use crate::hinter::FontHinter;
@@ -28,12 +28,13 @@ impl<'a, S: Scan> Tools<'a, S> {
         text: &mut TextWriter<'_, W>,
     ) -> Result<(), Refusal>
         requires faults { text.old.faults < 2 ^ 63 }
+        requires room { HasRoom text.old longest_glyph }
         requires code { code ≤ max_code }
         requires glyph { glyph ≡ glyph_for self.now.opened.map code }
         ensures kept { hinter.new ≡ hinter.old }
         ensures same { text.new.sink ≡ text.old.sink }
         ensures quiet { OnOk result (text.new.faults ≡ text.old.faults) }
-        ensures short { IsShort (length_of text.old + longest_glyph) text.new result }
+        ensures short { OnOk result (length_of text.new ≤ length_of text.old + longest_glyph) }
         ensures lines { (lines : List ℕ) → AreLinesOf (setting_with self.now.opened self.now.dropout hinter.old) code lines
             → Adds Stops text.old text.new lines result }
     {
@@ -53,14 +54,16 @@ impl<'a, S: Scan> Tools<'a, S> {
         text: &mut TextWriter<'_, W>,
     ) -> Result<(), Refusal>
         requires faults { text.old.faults < 2 ^ 63 }
+        requires room { HasRoom text.old longest_glyphs }
         requires few { length codes.now ≤ max_characters }
         requires small { list_any (nat_lt max_code) codes.now ≡ false }
         ensures kept { hinter.new ≡ hinter.old }
         ensures same { text.new.sink ≡ text.old.sink }
         ensures quiet { OnOk result (text.new.faults ≡ text.old.faults) }
-        ensures short { IsShort (length_of text.old + longest_glyphs) text.new result }
-        ensures lines { (lines : List ℕ) → AreAllLinesOf (setting_with self.now.opened self.now.dropout hinter.old) codes.now lines
-            → Adds Stops text.old text.new lines result }
+        ensures short { OnOk result (length_of text.new ≤ length_of text.old + longest_glyphs) }
+        ensures lines { (lines : List (List ℕ))
+            → AreAllLinesOf (setting_with self.now.opened self.now.dropout hinter.old) codes.now lines
+            → Adds Stops text.old text.new (flat_map (λ t. t) lines) result }
     {
         let mut map = self.opened.map.cursor();
         // The lines of the code points so far were written.
@@ -79,6 +82,7 @@ impl<'a, S: Scan> Tools<'a, S> {
         text: &mut TextWriter<'_, W>,
     ) -> Result<(), Refusal>
         requires faults { text.old.faults < 2 ^ 63 }
+        requires room { HasRoom text.old longest_text }
         requires name { IsName draft.now.name.now }
         requires properties { AreLines (seen_properties draft.now.properties.now) }
         requires few { length draft.now.codes.now ≤ max_characters }
@@ -86,11 +90,11 @@ impl<'a, S: Scan> Tools<'a, S> {
         ensures kept { hinter.new ≡ hinter.old }
         ensures same { text.new.sink ≡ text.old.sink }
         ensures ended { OnOk result (text.new.waiting ≡ []) }
-        ensures short { IsShort (length_of text.old + longest_text) text.new result }
-        ensures lines { (lines : List ℕ)
+        ensures lines { (lines : List (List ℕ))
             → AreAllLinesOf (setting_with self.now.opened self.now.dropout hinter.old) draft.now.codes.now lines
             → Adds Stops text.old text.new
-            (header_text draft.now.name.now (seen_properties draft.now.properties.now) draft.now.header ++ (lines ++ end_text))
+            (header_text draft.now.name.now (seen_properties draft.now.properties.now) draft.now.header
+            ++ (flat_map (λ t. t) lines ++ end_text))
             result }
     {
         write_header(draft.name, draft.properties, &draft.header, text)?;
@@ -112,10 +116,11 @@ impl<'a, S: Scan> Tools<'a, S> {
         requires few { length draft.now.codes.now ≤ max_characters }
         requires small { list_any (nat_lt max_code) draft.now.codes.now ≡ false }
         ensures kept { hinter.new ≡ hinter.old }
-        ensures text { (lines : List ℕ)
+        ensures text { (lines : List (List ℕ))
             → AreAllLinesOf (setting_with self.now.opened self.now.dropout hinter.old) draft.now.codes.now lines
             → Writes (change_of W.held W.fault_count out.old out.new)
-            (header_text draft.now.name.now (seen_properties draft.now.properties.now) draft.now.header ++ (lines ++ end_text))
+            (header_text draft.now.name.now (seen_properties draft.now.properties.now) draft.now.header
+            ++ (flat_map (λ t. t) lines ++ end_text))
             result }
     {
         let mut text = TextWriter::new(out);

@@ -1,7 +1,8 @@
 -- What is written of a strike.
-use Rattle.std.specs.Prelude.{◌≡◌, ℕ, ◌+◌, ◌*◌, ◌<◌, ◌≤◌, Bool, true, false, List, [], ◌∷◌, ◌++◌, length, take, Result, Ok, Err}
+use Rattle.std.specs.Prelude.{◌≡◌, ℕ, ◌+◌, ◌-◌, ◌*◌, ◌^◌, ◌<◌, Bool, true, false, List, [], length, take, slice_index, slice_index_or}
+use Rattle.std.specs.Prelude.{Result, Ok, Err}
 use Rattle.std.specs.Io.KnownBytes.{Appends}
-use Rattle.fx_fixed.specs.Texts.{TextView, length_of}
+use Rattle.fx_fixed.specs.Texts.{TextView, after, length_of}
 use Rattle.fx_bdf.specs.Glyphs.{Glyph}
 use Rattle.fx_bdf.specs.Text.{glyph_text, end_text, longest_header, longest_glyph}
 use Rattle.fx_request.specs.Limits.{max_characters}
@@ -21,19 +22,17 @@ AreLinesBy false due text =
 pub record AreLinesOf (setting : Setting) (code : ℕ) (text : List ℕ) : Type 0 where
   pub lines : AreLinesBy (is_missing setting code) (sketch_of setting code) text
 
--- the lines of code points, one after the other
-abbrev pub AreAllLinesOf : Setting → List ℕ → List ℕ → Type 0
-AreAllLinesOf setting [] text = text ≡ []
-AreAllLinesOf setting (c ∷ cs) text =
-    (here rest : List ℕ) × AreLinesOf setting c here × AreAllLinesOf setting cs rest
-    × (text ≡ here ++ rest)
+-- the lines of code points, a piece of text for each
+pub record AreAllLinesOf (setting : Setting) (codes : List ℕ) (pieces : List (List ℕ)) : Type 0 where
+  pub count : length pieces ≡ length codes
+  pub each : (i : ℕ) → i < length codes → AreLinesOf setting (slice_index codes i) (slice_index_or pieces i [])
 
 -- ---- as much of a text as was written
 
--- a text stopped after n bytes: out of memory, or the writer failed
+-- a text stopped after n bytes: out of memory, or the writer failed, and its count of them is exact
 abbrev pub Stops : Refusal → ℕ → ℕ → ℕ → Type 0
 Stops OutOfMemory n faults_before faults = faults ≡ faults_before
-Stops (WriteFailed m) n faults_before faults = (m ≡ n) × (faults ≡ faults_before + 1)
+Stops (WriteFailed m) n faults_before faults = (m ≡ n) × (n < 2 ^ 64 - 1) × (faults ≡ faults_before + 1)
 Stops _ n faults_before faults = ⊥
 
 -- how many bytes the lines of all glyphs have at most
@@ -44,21 +43,16 @@ longest_glyphs = max_characters * longest_glyph
 abbrev pub longest_text : ℕ
 longest_text = longest_header + (longest_glyphs + length end_text)
 
--- the text has at most m bytes then, or a fault of the writer tells at most m
-abbrev pub IsShort : ℕ → TextView → Result (Unit {0}) Refusal → Type 0
-IsShort m now (Ok _) = length_of now ≤ m
-IsShort m now (Err (WriteFailed n)) = n ≤ m
-IsShort m now (Err _) = Unit {0}
+-- the bytes of a text, and n more, are counted exactly
+abbrev pub HasRoom : TextView → ℕ → Type 0
+HasRoom text n = length_of text + n < 2 ^ 64 - 1
 
--- all of a text was written; or exactly its first bytes, when memory ran out or the writer failed
+-- all of a text was written; or exactly its first k bytes, when memory ran out or the writer failed
 abbrev pub WritesBy : Change → List ℕ → Result (Unit {0}) Refusal → Type 0
 WritesBy change text (Ok _) = Appends change.bytes_before change.bytes text × (change.faults ≡ change.faults_before)
-WritesBy change text (Err OutOfMemory) =
+WritesBy change text (Err refusal) =
     (k : ℕ) × (k < length text) × Appends change.bytes_before change.bytes (take k text)
-    × (change.faults ≡ change.faults_before)
-WritesBy change text (Err (WriteFailed n)) =
-    (n < length text) × Appends change.bytes_before change.bytes (take n text) × (change.faults ≡ change.faults_before + 1)
-WritesBy change text (Err _) = ⊥
+    × Stops refusal (after 0 k) change.faults_before change.faults
 
 -- the same as a record, so that a proof finds its arguments
 pub record Writes (change : Change) (text : List ℕ) (result : Result (Unit {0}) Refusal) : Type 0 where

@@ -1,25 +1,27 @@
-use Rattle.std.proofs.Common.{refl, Ok}
-use Rattle.std.proofs.lemmas.Result.{err_from_is_err_and}
-use Rattle.fx_strike.proofs.Making.{keeps_same, cause_makes, fails_makes, leaves_makes, leaves_titled}
+use Rattle.std.proofs.Common.{refl}
+use Rattle.fx_strike.proofs.Exits.{came}
+use Rattle.fx_strike.proofs.Making.{keeps_same, fails_cause, not_memory, fails_leaves, makes}
 use Rattle.fx_strike.proofs.Prepared.{is_ok, plan_unopened, plan_unset, plan_set}
 use Rattle.fx_strike.proofs.make.make_strike_with.Goals as goal
 
 pub returns-in_err-opened : goal.returns-in_err-opened
 returns-in_err-opened g c =
-    let p = err_from_is_err_and c.from_residual.result c.from_residual.ensures.1 in
-    cause_makes _ _ _ c.from_residual.result p.0 c.in_err-opened.field-0.0 (c.in_err-opened.ensures).named
-    (keeps_same _) refl p.1 p.2
-    (plan_unopened _ _ _ _ c.args.request.now.mode _ (c.in_err-opened.ensures).due)
+    let named = (c.in_err-opened.ensures).named in
+    rw (came c.from_residual.result c.from_residual.ensures.1)
+    (makes _ (λ m. not_memory _ named (cc (m)))
+    (fails_leaves _ _ _ (keeps_same _) refl
+    (fails_cause _ _ named (plan_unopened _ _ _ _ c.args.request.now.mode _ (c.in_err-opened.ensures).due))))
 
 pub returns-in_err-striker : goal.returns-in_err-striker
 returns-in_err-striker g c =
-    let p = err_from_is_err_and c.from_residual-in_err-striker.result c.from_residual-in_err-striker.ensures.1 in
-    fails_makes _ _ _ c.from_residual-in_err-striker.result p.0 c.in_err-striker.field-0.0
-    (is_ok _ _ (c.in_ok-opened.ensures).due) (keeps_same _) refl p.1 p.2
-    (plan_unset _ _ _ _ c.args.request.now.mode _ _ (c.in_ok-opened.ensures).due c.in_err-striker.ensures)
+    rw (came c.from_residual-in_err-striker.result c.from_residual-in_err-striker.ensures.1)
+    (makes _ (λ m. is_ok _ _ (c.in_ok-opened.ensures).due)
+    (fails_leaves _ _ _ (keeps_same _) refl
+    (plan_unset _ _ _ _ c.args.request.now.mode _ _ (c.in_ok-opened.ensures).due c.in_err-striker.ensures)))
 
 pub returns : goal.returns
 returns g c =
-    leaves_makes {X = Unit {0}} (Ok (tt {0})) _ _ _ _ c.write_checked.result (is_ok _ _ (c.in_ok-opened.ensures).due)
-    (plan_set _ _ _ _ c.args.request.now.mode _ _ (c.in_ok-opened.ensures).due c.in_ok-striker.ensures)
-    (leaves_titled {Y = Unit {0}} (Ok (tt {0})) _ _ _ _ _ c.write_checked.result c.title_of.ensures c.write_checked.ensures.leaves)
+    let opened = (c.in_ok-opened.ensures).due in
+    makes c.write_checked.result (λ m. is_ok _ _ opened)
+    (rw (plan_set _ _ _ _ c.args.request.now.mode _ _ opened c.in_ok-striker.ensures, ← c.title_of.ensures)
+    c.write_checked.ensures.leaves)

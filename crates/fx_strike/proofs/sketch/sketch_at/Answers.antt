@@ -1,29 +1,26 @@
 use Rattle.std.proofs.Common.{arith, refl, to_z, of_z}
 use Rattle.std.specs.Int.{w32}
 use Rattle.std.proofs.lemmas.Int.{ints}
-use Rattle.std.proofs.lemmas.Result.{err_from_is_err_and}
 use Rattle.fx_strike.specs.Strike.{setting_with}
-use Rattle.fx_strike.proofs.Sketching.{sketched_framed, no_outline, no_frame, no_advance, sketches_err}
+use Rattle.fx_strike.proofs.Exits.{came}
+use Rattle.fx_strike.proofs.Sketching.{sketched_framed, no_outline, no_frame, no_advance}
 use Rattle.fx_strike.proofs.sketch.sketch_at.Goals as goal
 
 pub returns-in_err-outline-clause-sketch : goal.returns-in_err-outline-clause-sketch
 returns-in_err-outline-clause-sketch c code =
-    let p = err_from_is_err_and c.from_residual.result c.from_residual.ensures.1 in
-    sketches_err _ c.from_residual.result p.0 c.in_err-outline.field-0.0 p.1 p.2
+    rw (came c.from_residual.result c.from_residual.ensures.1)
     (no_outline (setting_with c.args.opened.now c.args.dropout c.args.hinter.now) code c.args.glyph _
     c.in_err-outline.ensures.value)
 
 pub returns-in_err-frame-clause-sketch : goal.returns-in_err-frame-clause-sketch
 returns-in_err-frame-clause-sketch c code =
-    let p = err_from_is_err_and c.from_residual-in_err-frame.result c.from_residual-in_err-frame.ensures.1 in
-    sketches_err _ c.from_residual-in_err-frame.result p.0 c.in_err-frame.field-0.0 p.1 p.2
+    rw (came c.from_residual-in_err-frame.result c.from_residual-in_err-frame.ensures.1)
     (no_frame (setting_with c.args.opened.now c.args.dropout c.args.hinter.now) code c.args.glyph _ _
     c.in_ok-outline.ensures.value c.in_err-frame.ensures.checked)
 
 pub returns-in_err-swidth-clause-sketch : goal.returns-in_err-swidth-clause-sketch
 returns-in_err-swidth-clause-sketch c code =
-    let p = err_from_is_err_and c.from_residual-in_err-swidth.result c.from_residual-in_err-swidth.ensures.1 in
-    sketches_err _ c.from_residual-in_err-swidth.result p.0 c.in_err-swidth.field-0.0 p.1 p.2
+    rw (came c.from_residual-in_err-swidth.result c.from_residual-in_err-swidth.ensures.1)
     (no_advance (setting_with c.args.opened.now c.args.dropout c.args.hinter.now) code c.args.glyph _ _
     c.in_ok-outline.ensures.value c.in_ok-frame.ensures.checked c.in_err-swidth.ensures)
 

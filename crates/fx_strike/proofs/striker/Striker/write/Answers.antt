@@ -1,16 +1,20 @@
-use Rattle.std.proofs.Common.{refl, Ok}
-use Rattle.std.proofs.lemmas.Result.{err_from_is_err_and}
-use Rattle.fx_strike.proofs.Making.{keeps_same, cause_makes, leaves_makes}
-use Rattle.fx_strike.proofs.Prepared.{is_ok, strike_unchecked, strike_checked}
+use Rattle.std.proofs.Common.{refl, sym}
+use Rattle.fx_strike.specs.Headline.{strike_with}
+use Rattle.fx_strike.proofs.Exits.{came}
+use Rattle.fx_strike.proofs.Making.{keeps_same, fails_cause, not_memory, fails_leaves, makes}
+use Rattle.fx_strike.proofs.Prepared.{is_ok}
 use Rattle.fx_strike.proofs.striker.Striker.write.Goals as goal
 
 pub returns-in_err-check_text-clause-made : goal.returns-in_err-check_text-clause-made
+unfolding strike_with
 returns-in_err-check_text-clause-made g c =
-    let p = err_from_is_err_and c.from_residual.result c.from_residual.ensures.1 in
-    cause_makes _ _ _ c.from_residual.result p.0 c.in_err-check_text.field-0.0 (c.in_err-check_text.ensures).named
-    (keeps_same _) refl p.1 p.2 (strike_unchecked _ _ _ _ (c.in_err-check_text.ensures).due)
+    let named = (c.in_err-check_text.ensures).named in
+    rw (came c.from_residual.result c.from_residual.ensures.1)
+    (makes _ (λ m. not_memory _ named (cc (m)))
+    (fails_leaves _ _ _ (keeps_same _) refl (fails_cause _ _ named (rw (sym (c.in_err-check_text.ensures).due)))))
 
 pub returns-clause-made : goal.returns-clause-made
+unfolding strike_with
 returns-clause-made g c =
-    leaves_makes {X = Unit {0}} (Ok (tt {0})) _ _ _ _ c.write_checked.result (is_ok _ _ (c.in_ok-check_text.ensures).due)
-    (strike_checked _ _ _ (c.in_ok-check_text.ensures).due) c.write_checked.ensures.leaves
+    let checked = (c.in_ok-check_text.ensures).due in
+    makes c.write_checked.result (λ m. is_ok _ _ checked) (rw (sym checked) c.write_checked.ensures.leaves)

@@ -1,7 +1,7 @@
 use Rattle.std.proofs.Common.{ap, ◌∙◌}
-use Rattle.std.proofs.lemmas.Result.{err_from_is_err_and}
 use Rattle.fx_bdf.specs.Glyphs.{Box, joined}
-use Rattle.fx_strike.proofs.Enclosed.{skipped, joins_made, joins_refused}
+use Rattle.fx_strike.proofs.Exits.{came}
+use Rattle.fx_strike.proofs.Enclosed.{skipped, joins_made}
 use Rattle.fx_strike.proofs.tools.Tools.bounds_with.Goals as goal
 
 pub returns-then-lies_in : goal.returns-then-lies_in
@@ -11,8 +11,7 @@ returns-then-lies_in g c sketch is e =
 
 pub returns-in_err-glyph : goal.returns-in_err-glyph
 returns-in_err-glyph g c sketch is e =
-    let p = err_from_is_err_and c.from_residual.result c.from_residual.ensures.1 in
-    joins_refused sketch c.args.bounds c.from_residual.result p.0 c.in_err-glyph.field-0.0 p.1 p.2 c.in_err-glyph.ensures.fault
+    rw (came c.from_residual.result c.from_residual.ensures.1) c.in_err-glyph.ensures.fault
 
 pub returns : goal.returns
 returns g c sketch is e =

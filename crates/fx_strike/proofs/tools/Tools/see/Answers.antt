@@ -1,7 +1,6 @@
 use Rattle.std.proofs.Common.{refl, ◌∙◌}
-use Rattle.std.proofs.lemmas.Result.{err_from_is_err_and}
-use Rattle.fx_strike.specs.Strike.{setting_with}
-use Rattle.fx_strike.proofs.Seeing.{holds_none, seen_at, refused_at, sees_err}
+use Rattle.fx_strike.proofs.Exits.{came}
+use Rattle.fx_strike.proofs.Seeing.{holds_none, seen_at, refused_at}
 use Rattle.fx_strike.proofs.tools.Tools.see.Goals as goal
 
 pub codes-init : goal.codes-init
@@ -9,11 +8,9 @@ codes-init g c = record { kept = refl; map = c.cursor-map.ensures; held = holds_
 
 pub returns-in_err-see_one-clause-seen : goal.returns-in_err-see_one-clause-seen
 returns-in_err-see_one-clause-seen g c =
-    let p = err_from_is_err_and c.from_residual.result c.from_residual.ensures.1 in
     let f = rw c.codes.invariant.kept at (c.in_err-see_one.ensures).seen in
     let e = rw c.codes.invariant.map at c.glyph-glyph.ensures.value in
-    sees_err (setting_with c.args.self.now.opened c.args.self.now.dropout c.args.hinter.now) c.args.codes.now
-    c.from_residual.result p.0 c.in_err-see_one.field-0.0 p.1 p.2
+    rw (came c.from_residual.result c.from_residual.ensures.1)
     (refused_at _ c.args.codes.now c.codes.code-index c.glyph-glyph.result c.codes.seen c.in_err-see_one.field-0.0
     c.codes-test.true c.codes.invariant.held e c.if-glyph-eq0.false f)
 

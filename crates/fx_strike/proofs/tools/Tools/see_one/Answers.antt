@@ -1,14 +1,13 @@
-use Rattle.std.proofs.lemmas.Result.{err_from_is_err_and}
+use Rattle.fx_strike.proofs.Exits.{came}
 use Rattle.fx_strike.proofs.OnePart.{sketch_code}
 use Rattle.fx_strike.proofs.Sketching.{memory_fails}
-use Rattle.fx_strike.proofs.Enclosed.{has_added, sees_one_err}
+use Rattle.fx_strike.proofs.Enclosed.{has_added}
 use Rattle.fx_strike.proofs.tools.Tools.see_one.Goals as goal
 
 pub returns-in_err-bounds-clause-seen : goal.returns-in_err-bounds-clause-seen
 returns-in_err-bounds-clause-seen g c =
-    let p = err_from_is_err_and c.from_residual-in_err-bounds.result c.from_residual-in_err-bounds.ensures.1 in
     let s = c.in_ok-sketched.ensures.sketch c.args.code in
-    sees_one_err _ _ _ c.from_residual-in_err-bounds.result p.0 c.in_err-bounds.field-0.0 p.1 p.2
+    rw (came c.from_residual-in_err-bounds.result c.from_residual-in_err-bounds.ensures.1)
     (memory_fails c.in_err-bounds.field-0.0 _ (c.in_err-bounds.ensures s.0 s.2 (sketch_code _ c.args.code _ s.0 s.1)))
 
 pub returns-clause-seen : goal.returns-clause-seen

@@ -1,15 +1,14 @@
 use Rattle.std.proofs.Common.{◌∙◌, ap, Option}
-use Rattle.std.proofs.lemmas.Result.{err_from_is_err_and}
 use Rattle.fx_machine.specs.Known.{Known}
-use Rattle.fx_strike.specs.Strike.{setting_with, prelude_by}
+use Rattle.fx_strike.specs.Strike.{prelude_by}
+use Rattle.fx_strike.proofs.Exits.{came}
 use Rattle.fx_strike.proofs.Making.{unseen, surveyed}
 use Rattle.fx_strike.proofs.tools.Tools.survey_codes.Goals as goal
 
 pub returns-in_err-seen-clause-survey : goal.returns-in_err-seen-clause-survey
 returns-in_err-seen-clause-survey g c title chars rising =
-    let p = err_from_is_err_and c.from_residual.result c.from_residual.ensures.1 in
-    unseen (setting_with c.args.self.now.opened c.args.self.now.dropout c.args.hinter.now) title chars c.args.codes.now
-    c.from_residual.result p.0 c.in_err-seen.field-0.0 p.1 p.2 rising (c.in_err-seen.ensures).seen
+    rw (came c.from_residual.result c.from_residual.ensures.1)
+    (unseen _ title chars c.args.codes.now _ rising (c.in_err-seen.ensures).seen)
 
 pub returns-clause-survey : goal.returns-clause-survey
 returns-clause-survey g c title chars rising =

@@ -1,7 +1,8 @@
-use Rattle.std.proofs.Common.{refl, ◌∙◌, arith}
-use Rattle.std.proofs.lemmas.Result.{err_from_is_err_and}
+use Rattle.std.proofs.Common.{refl, ◌∙◌, sym, arith, List, [], ℕ}
+use Rattle.fx_fixed.proofs.Texts.{adds_nothing, adds_text, adds_then, adds_stopped}
+use Rattle.fx_fixed.proofs.Writing.{parts, parts_more}
+use Rattle.fx_strike.proofs.Exits.{came}
 use Rattle.fx_strike.proofs.Seeing.{code_fits}
-use Rattle.fx_strike.proofs.Lines.{left_all, left_more, left_failed, short_out}
 use Rattle.fx_strike.proofs.tools.Tools.write_all.Goals as goal
 
 pub codes-init : goal.codes-init
@@ -11,7 +12,7 @@ codes-init g c = record {
   same = refl;
   quiet = refl;
   few = omega arith;
-  lines = λ text h. left_all _ _ _ text h;
+  lines = λ lines h. adds_nothing;
 }
 
 pub write_one-requires-clause-code : goal.write_one-requires-clause-code
@@ -20,18 +21,12 @@ write_one-requires-clause-code g c = code_fits c.args.codes.now c.codes.code-ind
 pub write_one-requires-clause-glyph : goal.write_one-requires-clause-glyph
 write_one-requires-clause-glyph g c = rw c.codes.invariant.map at c.glyph-glyph.ensures.value
 
-pub returns-in_err-write_one-clause-short : goal.returns-in_err-write_one-clause-short
-returns-in_err-write_one-clause-short g c =
-    let p = err_from_is_err_and c.from_residual.result c.from_residual.ensures.1 in
-    short_out _ _ c.write_one.new.text c.from_residual.result p.0 c.in_err-write_one.field-0.0 p.1 p.2
-    (omega (arith, c.codes.invariant.few, c.codes-test.true, c.requires.few)) (c.in_err-write_one.ensures).short
-
 pub returns-in_err-write_one-clause-lines : goal.returns-in_err-write_one-clause-lines
-returns-in_err-write_one-clause-lines g c text h =
-    let p = err_from_is_err_and c.from_residual.result c.from_residual.ensures.1 in
+returns-in_err-write_one-clause-lines g c lines h =
     let w = rw c.codes.invariant.kept at (c.in_err-write_one.ensures).lines in
-    left_failed _ _ _ _ _ _ text c.from_residual.result p.0 c.in_err-write_one.field-0.0 p.1 p.2
-    c.codes-test.true (c.codes.invariant.lines text h) w
+    rw (came c.from_residual.result c.from_residual.ensures.1)
+    (adds_text (sym (parts (λ (t : List ℕ). t) lines c.codes.code-index [] (omega (arith, h.count, c.codes-test.true))))
+    (adds_then (c.codes.invariant.lines lines h) (adds_stopped _ (w _ (h.each _ c.codes-test.true)))))
 
 pub codes-preserved : goal.codes-preserved
 codes-preserved g c =
@@ -42,5 +37,7 @@ codes-preserved g c =
       same = (c.in_ok-write_one.ensures).same ∙ c.codes.invariant.same;
       quiet = (c.in_ok-write_one.ensures).quiet ∙ c.codes.invariant.quiet;
       few = omega (arith, (c.in_ok-write_one.ensures).short, c.codes.invariant.few);
-      lines = λ text h. left_more _ _ _ _ _ _ text c.codes-test.true (c.codes.invariant.lines text h) w;
+      lines = λ lines h.
+          adds_text (parts_more (λ (t : List ℕ). t) lines c.codes.code-index [] (omega (arith, h.count, c.codes-test.true)))
+          (adds_then (c.codes.invariant.lines lines h) (w _ (h.each _ c.codes-test.true)));
     }

@@ -1,9 +1,9 @@
-use Rattle.std.proofs.Common.{◌≡◌, ◌+◌, ◌*◌, ◌≤◌, ℕ, List}
-use Rattle.fx_fixed.specs.Texts.{length_of}
+use Rattle.std.proofs.Common.{◌≡◌, ◌+◌, ◌*◌, ◌≤◌, List, ℕ, take, Ok}
+use Rattle.std.specs.List.{flat_map}
+use Rattle.fx_fixed.specs.Texts.{Adds, length_of}
 use Rattle.fx_bdf.specs.Text.{longest_glyph}
 use Rattle.fx_strike.specs.Strike.{setting_with}
-use Rattle.fx_strike.specs.inner.Writing.{AreAllLinesOf}
-use Rattle.fx_strike.proofs.Lines.{Left}
+use Rattle.fx_strike.specs.inner.Writing.{AreAllLinesOf, Stops}
 use Rattle.fx_strike.proofs.tools.Tools.write_all.Given as goal
 
 -- the hinter, the sink and its faults are as they were, the cursor is one over the character map, and the lines of the code
@@ -15,6 +15,6 @@ invariant-codes g l = record {
   same : l.text.sink ≡ l.fn.text.sink;
   quiet : l.text.faults ≡ l.fn.text.faults;
   few : length_of l.text ≤ length_of l.fn.text + l.code-index * longest_glyph;
-  lines : (lines : List ℕ) → AreAllLinesOf (setting_with l.self.opened l.self.dropout l.fn.hinter) l.codes lines
-      → Left (setting_with l.self.opened l.self.dropout l.fn.hinter) l.codes l.code-index l.fn.text l.text lines;
+  lines : (lines : List (List ℕ)) → AreAllLinesOf (setting_with l.self.opened l.self.dropout l.fn.hinter) l.codes lines
+      → Adds Stops l.fn.text l.text (flat_map (λ t. t) (take l.code-index lines)) (Ok tt);
 }

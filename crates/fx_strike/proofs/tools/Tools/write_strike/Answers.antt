@@ -1,12 +1,10 @@
-use Rattle.std.proofs.Common.{◌∙◌, ℕ, ap, refl, nat_lt, Ok}
-use Rattle.std.proofs.lemmas.Result.{err_from_is_err_and}
-use Rattle.fx_bdf.specs.Properties.{seen_properties}
-use Rattle.fx_bdf.specs.X11.{all_properties}
+use Rattle.std.proofs.Common.{◌∙◌, nat_lt, refl, Err, Ok}
 use Rattle.fx_request.specs.Limits.{max_code}
 use Rattle.fx_request.proofs.Rising.{few_rising, small_rising}
 use Rattle.fx_strike.specs.Title.{titled}
-use Rattle.fx_strike.proofs.Making.{keeps_same, not_surveyed}
-use Rattle.fx_strike.proofs.Lines.{leaves_unwritten, leaves_written}
+use Rattle.fx_strike.proofs.Exits.{came}
+use Rattle.fx_strike.proofs.Making.{keeps_same, fails_leaves}
+use Rattle.fx_strike.proofs.Lines.{leaves}
 use Rattle.fx_strike.proofs.tools.Tools.write_strike.Goals as goal
 
 pub survey_codes-requires : goal.survey_codes-requires
@@ -25,36 +23,23 @@ write_text-requires-clause-small g c =
 
 pub returns-in_err-survey-clause-leaves : goal.returns-in_err-survey-clause-leaves
 returns-in_err-survey-clause-leaves g c =
-    let p = err_from_is_err_and c.from_residual-in_err-survey.result c.from_residual-in_err-survey.ensures.1 in
-    not_surveyed {Y = Unit {0}} (Ok (tt {0})) _ _ c.from_residual-in_err-survey.result p.0 c.in_err-survey.field-0.0 refl
-    (keeps_same _) refl p.1 p.2
-    ((c.in_err-survey.ensures).survey (titled c.args.title.now) c.args.chars.now
-    (c.deref.ensures.value ∙ c.in_ok-codes.ensures))
+    rw (came c.from_residual-in_err-survey.result c.from_residual-in_err-survey.ensures.1)
+    (fails_leaves _ _ c.in_err-survey.field-0.0 (keeps_same _) refl
+    ((c.in_err-survey.ensures).survey (titled c.args.title.now) c.args.chars.now (c.deref.ensures.value ∙ c.in_ok-codes.ensures)))
 
 pub returns-in_err-write_text-clause-leaves : goal.returns-in_err-write_text-clause-leaves
 returns-in_err-write_text-clause-leaves g c =
-    let p = err_from_is_err_and c.from_residual-in_err-write_text.result c.from_residual-in_err-write_text.ensures.1 in
     let w = rw (c.in_ok-survey.ensures).kept at (c.in_err-write_text.ensures).text in
-    let all = ap seen_properties c.deref-2.ensures.value ∙ c.in_ok-properties.ensures.all
-    ∙ ap (λ (n : ℕ). all_properties c.args.title.now.x11 c.args.title.now.name.now n c.in_ok-survey.survey.summary
-    (seen_properties c.args.title.now.properties.now)) c.pixels.ensures.value in
-    leaves_unwritten {Y = Unit {0}} (Ok (tt {0})) _
-    (titled c.args.title.now) c.args.chars.now c.deref-3.result.now _
-    c.in_ok-survey.survey c.header-header.result _ c.from_residual-in_err-write_text.result p.0
-    c.in_err-write_text.field-0.0 refl p.1 p.2
-    (c.deref-3.ensures.value ∙ c.in_ok-codes.ensures) c.header-header.ensures all
+    rw (came c.from_residual-in_err-write_text.result c.from_residual-in_err-write_text.ensures.1)
+    (leaves _ _ (Err c.in_err-write_text.field-0.0) (c.deref-3.ensures.value ∙ c.in_ok-codes.ensures) c.header-header.ensures
+    (rw (c.deref-2.ensures.value, c.in_ok-properties.ensures.all, c.pixels.ensures.value))
     ((c.in_ok-survey.ensures).survey (titled c.args.title.now) c.args.chars.now
-    (c.deref.ensures.value ∙ c.in_ok-codes.ensures)) w
+    (c.deref.ensures.value ∙ c.in_ok-codes.ensures)) w)
 
 pub returns-clause-leaves : goal.returns-clause-leaves
 returns-clause-leaves g c =
     let w = rw (c.in_ok-survey.ensures).kept at (c.in_ok-write_text.ensures).text in
-    let all = ap seen_properties c.deref-2.ensures.value ∙ c.in_ok-properties.ensures.all
-    ∙ ap (λ (n : ℕ). all_properties c.args.title.now.x11 c.args.title.now.name.now n c.in_ok-survey.survey.summary
-    (seen_properties c.args.title.now.properties.now)) c.pixels.ensures.value in
-    leaves_written {Y = Unit {0}} (Ok (tt {0})) _
-    (titled c.args.title.now) c.args.chars.now c.deref-3.result.now _
-    c.in_ok-survey.survey c.header-header.result _
-    (c.deref-3.ensures.value ∙ c.in_ok-codes.ensures) c.header-header.ensures all
+    leaves _ _ (Ok tt) (c.deref-3.ensures.value ∙ c.in_ok-codes.ensures) c.header-header.ensures
+    (rw (c.deref-2.ensures.value, c.in_ok-properties.ensures.all, c.pixels.ensures.value))
     ((c.in_ok-survey.ensures).survey (titled c.args.title.now) c.args.chars.now
     (c.deref.ensures.value ∙ c.in_ok-codes.ensures)) w

@@ -3,7 +3,6 @@ use Rattle.fx_strike.proofs.Lines.{writes_closed}
 use Rattle.fx_strike.proofs.tools.Tools.write_text.Goals as goal
 
 pub returns-clause-text : goal.returns-clause-text
-returns-clause-text g c text h =
-    writes_closed c.new-text.ensures (c.write_parts-result.ensures.lines text h) c.write_parts-result.ensures.ended
-    c.write_parts-result.ensures.short
+returns-clause-text g c lines h =
+    writes_closed c.new-text.ensures (c.write_parts-result.ensures.lines lines h) c.write_parts-result.ensures.ended
     (search rules) (search rules)
