@@ -7,7 +7,7 @@ use Rattle.std.proofs.lemmas.List.Sums.{prefix_len-le-length}
 use Rattle.std.specs.Str.{IsUtf8}
 use Rattle.std.specs.List.{position_or_len, prefix_len}
 use Rattle.std.specs.Io.KnownBytes.{Consumes, IsAtEnd, Keeps}
-use Rattle.std.proofs.KnownBytes.{Consumes-trans}
+use Rattle.std.proofs.KnownBytes.{Consumes-nil, Consumes-trans, Keeps-refl}
 use Rattle.std.proofs.lemmas.List.{take-append-le, drop-append-le}
 use Rattle.std.proofs.lemmas.List.Folds.{prefix_len-append}
 use Rattle.std.proofs.lemmas.List.{length-take-le, length-drop}
@@ -83,41 +83,31 @@ either : {P Q : Type 0} (ended : Bool) → (ended ≡ false → P) → (ended �
 either true p q = inr (q refl)
 either false p q = inl (p refl)
 
-has_line : {given : List Text} {first : List ℕ} {before mid : Option (List ℕ)} {arguments : List Text}
-    (more : List ℕ) (left : Option (List ℕ)) → IsFirst given first before mid arguments
-    → ((ahead_of first).ended ≡ true → (more ≡ []) × IsAtEnd left) → HasLine (first ++ more) left
-has_line {given} {first} {before} {mid} {arguments} more left f rest = either (ahead_of first).ended
+has_line : (first more : List ℕ) (left : Option (List ℕ)) → ((ahead_of first).ended ≡ true → (more ≡ []) × IsAtEnd left)
+    → HasLine (first ++ more) left
+has_line first more left rest = either (ahead_of first).ended
     (λ e.
-    let found = found_before_end first e in
-    let line : line_of (first ++ more) ≡ line_of first = same_line first more (inl found) in
-    let P : List ℕ → Type 0 = λ xs. length xs < length (first ++ more) in
-    subst P (sym line) (omega (arith, length-line_of first, length-append first more)))
+    let line = ap length (same_line first more (inl (found_before_end first e))) in
+    let found = found_before_end first e in omega (arith, line, found, length-line_of first, length-append first more))
     (λ e. (rest e).1)
 
 are_arguments : {given : List Text} {first : List ℕ} {before mid : Option (List ℕ)} {arguments : List Text}
     (more : List ℕ) (left : Option (List ℕ)) → IsFirst given first before mid arguments
     → ((ahead_of first).ended ≡ true → (more ≡ []) × IsAtEnd left) → AreArguments given (first ++ more) left arguments
-are_arguments {given} {first} {before} {mid} {arguments} more left f rest =
-    let line : line_of (first ++ more) ≡ line_of first =
-    same_line first more (either (ahead_of first).ended (found_before_end first) (λ e. (rest e).0)) in
-    let P : Bool → Type 0 = λ b. AreArgumentsBy b given (first ++ more) left arguments in
-    let Q : List ℕ → Type 0 =
-    λ xs. HasLine (first ++ more) left × IsUtf8 xs × (length xs ≤ max_line) × (arguments ≡ called given ∷ arguments_of_line xs) in
-    subst P (sym f.none) (subst Q (sym line) (has_line more left f rest, f.utf8, f.short, f.arguments_are))
+are_arguments {first = first} more left f rest =
+    let line = same_line first more (either (ahead_of first).ended (found_before_end first) (λ e. (rest e).0)) in
+    rw f.none (has_line first more left rest, rw line f.utf8, rw line f.short, rw line f.arguments_are)
 
 text_is : {given : List Text} {first : List ℕ} {before mid : Option (List ℕ)} {arguments : List Text}
     (more : List ℕ) → IsFirst given first before mid arguments → ((ahead_of first).ended ≡ true → more ≡ [])
     → text_of given (first ++ more) ≡ rest_of first ++ more
-text_is {given} {first} more f rest =
-    ap (λ (b : Bool). text_by b (first ++ more)) f.none
-    ∙ same_rest first more (either (ahead_of first).ended (found_before_end first) rest)
+text_is {first = first} more f rest =
+    rw f.none (same_rest first more (either (ahead_of first).ended (found_before_end first) rest))
 
 -- no more than a line was read for the arguments
 pub for_line : (given : List Text) (got : List ℕ) (source : Change) → has_arguments given ≡ false → length got ≤ max_line + 1
     → source.faults ≡ source.faults_before → IsReadForArguments (has_arguments given) got source
-for_line given got source none few same =
-    let P : Bool → Type 0 = λ b. IsReadForArguments b got source in
-    subst P (sym none) (few, same)
+for_line given got source none few same = rw none (few, same)
 
 -- the same change of the source, from before the line was read
 abbrev pub from_start : Option (List ℕ) → ℕ → Change → Change
@@ -189,11 +179,6 @@ line_ends faults_before command source sink same f asks (Err (Early refusal)) s 
     stops faults_before command source sink refusal same f asks s
 line_ends faults_before command source sink same f asks (Err Usage) s = absurd s
 
--- a line whose arguments are invalid
-pub is_usage : (given : List Text) (got : List ℕ) (left : Option (List ℕ)) → has_arguments given ≡ false
-    → IsUsageBy false given got left → IsUsageBy (has_arguments given) given got left
-is_usage given got left none h = let P : Bool → Type 0 = λ b. IsUsageBy b given got left in subst P (sym none) h
-
 pub few_arguments : (arguments : List (Bor Text)) → length arguments ≤ 1 → has_arguments (texts arguments) ≡ false
 few_arguments [] h = refl
 few_arguments (argument ∷ []) h = refl
@@ -214,24 +199,19 @@ unread given source sink got none few quiet read spared line utf8 short (Early O
     record { got = got; read = read; spared = spared; reason = tt }
 unread given source sink got none few quiet read spared line utf8 short (Early BadChars) h =
     let arguments = called given ∷ arguments_of_line (line_of got) in
-    let P : Bool → Type 0 = λ b. AreArgumentsBy b given got source.bytes arguments in
     record {
       got = got;
       read = read;
       spared = spared;
-      reason = ((arguments, subst P (sym none) (line, utf8, short, refl), h), for_line given got source none few quiet);
+      reason = ((arguments, rw none (line, utf8, short, refl), h), for_line given got source none few quiet);
     }
 unread given source sink got none few quiet read spared line utf8 short Usage h = record {
   got = got;
   read = read;
   spared = spared;
-  reason = (is_usage given got source.bytes none (inr (line, inr h)), for_line given got source none few quiet);
+  reason = (rw none (inr (line, inr h)), for_line given got source none few quiet);
 }
 unread given source sink got none few quiet read spared line utf8 short _ h = absurd h
-
-pub keeps_same : (o : Option (List ℕ)) → Keeps o o
-keeps_same None = tt
-keeps_same (Some xs) = refl
 
 -- ---- arguments that were given
 
@@ -240,31 +220,19 @@ many_arguments [] h = absurd (omega arith)
 many_arguments (argument ∷ []) h = absurd (omega arith)
 many_arguments (argument ∷ more ∷ arguments) h = lt-ltb 1 _ (omega arith)
 
-reads_none : (o : Option (List ℕ)) → Consumes o o []
-reads_none None = tt
-reads_none (Some xs) = refl
-
 -- nothing was read, and they are refused
 pub unasked : (given : List Text) (source sink : Change) → has_arguments given ≡ true → IsUnread source
     → (sink.bytes ≡ sink.bytes_before) × (sink.faults ≡ sink.faults_before)
     → (fault : Fault) → Refuses fault (command_of given) → Ends given source sink (Err fault)
 unasked given source sink some same untouched fault why =
-    let P : Option (List ℕ) → Type 0 = λ o. Consumes source.bytes_before o [] in
-    let Q : Option (List ℕ) → Type 0 = λ o. Keeps sink.bytes_before o in
-    let read : Consumes source.bytes_before source.bytes [] = subst P (sym same.0) (reads_none source.bytes_before) in
-    let spared : IsSpared sink = (subst Q (sym untouched.0) (keeps_same sink.bytes_before), untouched.1) in
-    by read spared fault why
+    by (rw same.0 (Consumes-nil source.bytes_before)) (rw untouched.0 (Keeps-refl sink.bytes_before), untouched.1) fault why
   where
     by : Consumes source.bytes_before source.bytes [] → IsSpared sink → (fault : Fault) → Refuses fault (command_of given)
         → Ends given source sink (Err fault)
     by read spared (Early OutOfMemory) h = record { got = []; read = read; spared = spared; reason = tt }
     by read spared (Early BadChars) h =
-        let P : Bool → Type 0 = λ b. AreArgumentsBy b given [] source.bytes given × IsReadForArguments b [] source in
-        let p = subst P (sym some) (refl, same) in
-        record { got = []; read = read; spared = spared; reason = ((given, p.0, h), p.1) }
-    by read spared Usage h =
-        let U : Bool → Type 0 = λ b. IsUsageBy b given [] source.bytes × IsReadForArguments b [] source in
-        record { got = []; read = read; spared = spared; reason = subst U (sym some) (h, same) }
+        record { got = []; read = read; spared = spared; reason = ((given, rw some refl, h), rw some same) }
+    by read spared Usage h = record { got = []; read = read; spared = spared; reason = (rw some h, rw some same) }
     by read spared _ h = absurd h
 
 -- a source or a sink that was not used
@@ -277,7 +245,7 @@ pub without_arguments : (given : List Text) (left held : Option (List ℕ)) (rea
     → Runs given (unchanged left read_faults) (unchanged held write_faults) err status
 without_arguments given left held read_faults write_faults err status e t = record {
   outcome = Err (Early OutOfMemory);
-  ends = record { got = []; read = reads_none left; spared = (keeps_same held, refl); reason = tt };
+  ends = record { got = []; read = Consumes-nil left; spared = (Keeps-refl held, refl); reason = tt };
   told = e;
   line = t;
 }

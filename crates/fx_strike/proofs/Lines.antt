@@ -154,7 +154,8 @@ pieces_with setting c cs ss (x ∷ xs) false e h more g =
 
 pieces_of : (setting : Setting) (codes : List ℕ) (ss : List Sketch) (gs : List Glyph) → sketches_of setting codes ≡ Ok ss
     → AreGlyphsOf ss gs → Pieces setting codes gs
-pieces_of setting [] ss [] h g = record { pieces = []; lines = record { count = refl; each = λ i l. absurd (omega arith) }; whole = refl }
+pieces_of setting [] ss [] h g =
+    record { pieces = []; lines = record { count = refl; each = λ i l. absurd (omega arith) }; whole = refl }
 pieces_of setting [] ss (x ∷ xs) h g =
     let none : ss ≡ [] = cc in absurd (rw none at g)
 pieces_of setting (c ∷ cs) ss gs h g =
@@ -223,14 +224,14 @@ leaves_by s (Err (WriteFailed n)) w =
 leaves_by s (Err d) w = absurd w.outcome.3
 
 -- the text of a strike was written, or a beginning of it
-pub leaves : {setting : Setting} (title : Title) (chars : List ℕ) {codes : List ℕ} {change : Change} {survey : Survey} {header : Header}
-    {all : List PropertyView} (r : Result (Unit {0}) Refusal)
+pub strike_leaves : {setting : Setting} (title : Title) (chars : List ℕ) {codes : List ℕ} {change : Change} {survey : Survey}
+    {header : Header} {all : List PropertyView} (r : Result (Unit {0}) Refusal)
     → codes ≡ rising chars → header ≡ surveyed_header setting.ppem survey → all ≡ properties_by title setting.ppem survey
     → Surveyed (plan_with setting title chars) survey
     → ((lines : List (List ℕ)) → AreAllLinesOf setting codes lines
     → Writes change (header_text title.name all header ++ (flat_map (λ t. t) lines ++ end_text)) r)
     → Leaves {Y = Unit {0}} (Ok tt) (plan_with setting title chars) change (map_ok (λ _. survey.report) r)
-leaves {setting} title chars {codes} {change} {survey} {header} {all} r c q a s w =
+strike_leaves {setting} title chars {codes} {change} {survey} {header} {all} r c q a s w =
     let p = planned setting title chars s.plan s.is in
     let x = pieces_of setting codes s.plan.sketches s.glyphs (rw c p.sketches) s.drawn in
     let same : header_text title.name all header ++ (flat_map (λ t. t) x.pieces ++ end_text) ≡ strike_text s.plan s.glyphs =

@@ -47,7 +47,8 @@ surveys_cause due (Err d) h = h
 pub unseen : (setting : Setting) (title : Title) (chars codes : List ℕ) (d : Refusal) → codes ≡ rising chars
     → Fails d (sketches_of setting codes) → Fails d (plan_with setting title chars)
 unfolding plan_with
-unseen setting title chars codes d c f = fails_on d (sketches_of setting codes) _ (λ x g. rw (ap (sketches_of setting) (sym c) ∙ g)) f
+unseen setting title chars codes d c f =
+    fails_on d (sketches_of setting codes) _ (λ x g. rw (ap (sketches_of setting) (sym c) ∙ g)) f
 
 -- a count goes on after what was counted before
 counted_on : (before after total : ℕ) → after ≡ counted total → counted (before + after) ≡ counted (before + total)
@@ -102,10 +103,6 @@ fails_cause d due c h = h
 
 pub not_memory : {X : Type 0} (d : Refusal) → IsCause d → d ≡ OutOfMemory → X
 not_memory d c m = absurd (rw m at c)
-
-pub keeps_same : (old : Option (List ℕ)) → Keeps old old
-keeps_same None = tt
-keeps_same (Some xs) = refl
 
 -- ---- what a call leaves
 

@@ -46,8 +46,3 @@ pub finds_cause : (due : Result (Option Sketch) Refusal) (r : Result (Option Gly
     → IfErr r (λ d. Fails d due)
 finds_cause due (Ok glyph) h = tt
 finds_cause due (Err d) h = h
-
--- a refusal by its cause
-pub refused_so : {A B : Type 0} (due : Result B Refusal) (r : Result A Refusal) (e d : Refusal) → r ≡ Err e → e ≡ d → Fails d due
-    → IfErr r (λ x. Fails x due)
-refused_so due r e d p q f = rw (p, q) f

@@ -1,5 +1,5 @@
 use Rattle.std.proofs.Common.{rules, arith, sym, ap, ◌∙◌, ◌≡◌, inl, inr, refl, List, ℕ, ◌∷◌, option_map, None, []}
-use Rattle.std.proofs.lemmas.Result.{err_from_is_err_and}
+use Rattle.fx_strike.proofs.Exits.{came}
 use Rattle.fx_cli.specs.Parts.{left_parts, parts_of}
 use Rattle.fx_cli.specs.Chars.{items_of, numbers_of_items, range_of}
 use Rattle.fx_cli.proofs.Items.{behind, behind_item, none_by_item, none_by_count, all_items}
@@ -26,8 +26,8 @@ returns-in_err-push_range-clause-refused c =
     let cut : numbers_of_items (items_of c.args.list.now) ≡ behind c.items.chars.items
     (numbers_of_items (c.first_part.result.0.now ∷ left_parts 44 (option_map (λ more. more.now) c.first_part.result.1)))
     = rw c.first_part.ensures.parts at here in
-    let p = err_from_is_err_and c.from_residual.result c.from_residual.ensures.1 in
-    rw (p.1, p.2) (elim c.in_err-push_range.ensures.err [
+    rw (came c.from_residual.result c.from_residual.ensures.1)
+    (elim c.in_err-push_range.ensures.err [
       | inl e ↦ inl e
       | inr (e, many) ↦ inr (
         e,

@@ -1,7 +1,7 @@
 use Rattle.std.proofs.Common.{arith, ◌≡◌, ◌∙◌, inl, inr, ap, ap₂, sym, refl, subst, ℕ, List, ◌∷◌, take, length}
 use Rattle.std.specs.Str.{IsUtf8}
 use Rattle.std.proofs.lemmas.List.{length-take-le}
-use Rattle.std.proofs.lemmas.Result.{err_from_is_err_and}
+use Rattle.std.proofs.KnownBytes.{Keeps-refl}
 use Rattle.clap.specs.Walk.{Text}
 use Rattle.fx_fixed.specs.Changes.{Change}
 use Rattle.fx_cli.specs.Input.{line_of, arguments_of_line}
@@ -10,7 +10,8 @@ use Rattle.fx_cli.specs.Commands.{Refuses, seen}
 use Rattle.fx_cli.specs.ReadAhead.{ReadAheadView}
 use Rattle.fx_cli.specs.Runs.{called}
 use Rattle.fx_cli.specs.Steps.{EndsAfter}
-use Rattle.fx_cli.proofs.FirstLines.{few_arguments, is_usage, for_line, keeps_same, length-line_of, line_ends, line_read, unread}
+use Rattle.fx_strike.proofs.Exits.{came}
+use Rattle.fx_cli.proofs.FirstLines.{few_arguments, for_line, length-line_of, line_ends, line_read, unread}
 use Rattle.fx_cli.proofs.program.run_line.Goals as goal
 
 pub returns-in_default : goal.returns-in_default
@@ -20,18 +21,17 @@ returns-in_default g c =
     let all : length first ≡ c.in_ok-filled.filled =
     length-take-le c.in_ok-filled.filled c.read_line.new.buffer (omega (arith, c.in_ok-filled.ensures.sizes.1)) in
     let line : take c.in_ok-filled.end first ≡ line_of first = ap (λ (k : ℕ). take k first) c.in_ok-filled.ensures.line in
-    let P : List ℕ → Type 0 = λ xs. IsUtf8 xs → ⊥ in
     record {
       got = first;
       read = c.in_ok-filled.ensures.read;
-      spared = (keeps_same (g.O.Sink.held c.args.out.now), refl);
+      spared = (Keeps-refl (g.O.Sink.held c.args.out.now), refl);
       reason = (
-        is_usage given first (g.R.Source.left c.read_line.new.reader) (few_arguments c.args.arguments.now c.requires.given) (inr (
+        rw (few_arguments c.args.arguments.now c.requires.given) (inr (
           line_read first (g.R.Source.left c.read_line.new.reader) (elim c.in_ok-filled.ensures.whole [
             | inl h ↦ inl (omega (arith, h, all, c.in_ok-filled.ensures.line))
             | inr h ↦ inr h
           ]),
-          inl (subst P line c.in_default.ensures.cases.0),
+          inl (rw line at c.in_default.ensures.cases.0),
         )),
         for_line given first _ (few_arguments c.args.arguments.now c.requires.given)
             (omega (arith, all, c.in_ok-filled.ensures.sizes.1)) c.in_ok-filled.ensures.quiet,
@@ -49,19 +49,18 @@ returns-in_err-command g c =
     let arguments_are : texts c.deref.result.now ≡ called given ∷ arguments_of_line (line_of first)
     = ap texts c.deref.ensures.value ∙ c.in_ok-arguments.ensures ∙
     ap₂ (λ (p l : List ℕ). p ∷ arguments_of_line l) c.program_name.ensures line_is in
-    let p = err_from_is_err_and c.from_residual-in_err-command.result c.from_residual-in_err-command.ensures.1 in
-    rw (p.1, p.2) (unread given _ _ first (few_arguments c.args.arguments.now c.requires.given)
+    rw (came c.from_residual-in_err-command.result c.from_residual-in_err-command.ensures.1)
+    (unread given _ _ first (few_arguments c.args.arguments.now c.requires.given)
     (omega (arith, all, c.in_ok-filled.ensures.sizes.1)) c.in_ok-filled.ensures.quiet c.in_ok-filled.ensures.read
-    (keeps_same (g.O.Sink.held c.args.out.now), refl)
+    (Keeps-refl (g.O.Sink.held c.args.out.now), refl)
     (line_read first (g.R.Source.left c.read_line.new.reader) (elim c.in_ok-filled.ensures.whole [
       | inl h ↦ inl (omega (arith, h, all, c.in_ok-filled.ensures.line))
       | inr h ↦ inr h
     ]))
-    (subst IsUtf8 line c.in-Ok.ensures.cases.1)
+    (rw line at c.in-Ok.ensures.cases.1)
     (omega (arith, length-line_of first, c.in_ok-filled.ensures.line, c.in_ok-filled.ensures.sizes.2))
     c.in_err-command.field-0.0
-    (let P : List Text → Type 0 = λ ws. Refuses c.in_err-command.field-0.0 (command_of ws) in
-    subst P arguments_are c.in_err-command.ensures))
+    (rw arguments_are at c.in_err-command.ensures))
 
 pub returns : goal.returns
 returns g c =
@@ -83,16 +82,15 @@ returns g c =
       faults_before = g.O.Sink.fault_count c.args.out.now;
       faults = g.O.Sink.fault_count c.run_command.new.out;
     } in
-    let P : ReadAheadView → Type 0 = λ a. EndsAfter (seen c.in_ok-command.command) a source sink c.run_command.result in
     line_ends {given = given} {first = first} {before = g.R.Source.left c.args.reader.now} {arguments = texts c.deref.result.now}
     (g.R.Source.fault_count c.args.reader.now) (seen c.in_ok-command.command) source sink (sym c.in_ok-filled.ensures.quiet)
     (record {
       none = few_arguments c.args.arguments.now c.requires.given;
       read = c.in_ok-filled.ensures.read;
       few = omega (arith, all, c.in_ok-filled.ensures.sizes.1);
-      utf8 = subst IsUtf8 line c.in-Ok.ensures.cases.1;
+      utf8 = rw line at c.in-Ok.ensures.cases.1;
       short = omega (arith, length-line_of first, c.in_ok-filled.ensures.line, c.in_ok-filled.ensures.sizes.2);
       arguments_are = ap texts c.deref.ensures.value ∙ c.in_ok-arguments.ensures ∙
           ap₂ (λ (p l : List ℕ). p ∷ arguments_of_line l) c.program_name.ensures line_is;
     })
-    c.in_ok-command.ensures c.run_command.result (subst P c.of.ensures c.run_command.ensures)
+    c.in_ok-command.ensures c.run_command.result (rw c.of.ensures at c.run_command.ensures)

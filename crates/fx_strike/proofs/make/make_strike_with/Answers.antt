@@ -1,6 +1,7 @@
 use Rattle.std.proofs.Common.{refl}
+use Rattle.std.proofs.KnownBytes.{Keeps-refl}
 use Rattle.fx_strike.proofs.Exits.{came}
-use Rattle.fx_strike.proofs.Making.{keeps_same, fails_cause, not_memory, fails_leaves, makes}
+use Rattle.fx_strike.proofs.Making.{fails_cause, not_memory, fails_leaves, makes}
 use Rattle.fx_strike.proofs.Prepared.{is_ok, plan_unopened, plan_unset, plan_set}
 use Rattle.fx_strike.proofs.make.make_strike_with.Goals as goal
 
@@ -9,14 +10,14 @@ returns-in_err-opened g c =
     let named = (c.in_err-opened.ensures).named in
     rw (came c.from_residual.result c.from_residual.ensures.1)
     (makes _ (λ m. not_memory _ named (cc (m)))
-    (fails_leaves _ _ _ (keeps_same _) refl
+    (fails_leaves _ _ _ (Keeps-refl _) refl
     (fails_cause _ _ named (plan_unopened _ _ _ _ c.args.request.now.mode _ (c.in_err-opened.ensures).due))))
 
 pub returns-in_err-striker : goal.returns-in_err-striker
 returns-in_err-striker g c =
     rw (came c.from_residual-in_err-striker.result c.from_residual-in_err-striker.ensures.1)
     (makes _ (λ m. is_ok _ _ (c.in_ok-opened.ensures).due)
-    (fails_leaves _ _ _ (keeps_same _) refl
+    (fails_leaves _ _ _ (Keeps-refl _) refl
     (plan_unset _ _ _ _ c.args.request.now.mode _ _ (c.in_ok-opened.ensures).due c.in_err-striker.ensures)))
 
 pub returns : goal.returns

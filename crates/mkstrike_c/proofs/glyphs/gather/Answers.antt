@@ -1,9 +1,8 @@
 use Rattle.std.proofs.Common.{◌∙◌, ◌+◌, ℕ, ap, refl, sym, subst, arith, get_or}
-use Rattle.std.proofs.lemmas.Result.{err_from_is_err_and}
 use Rattle.fx_strike.specs.Faults.{Fails}
 use Rattle.fx_strike.specs.Strike.{Setting}
 use Rattle.fx_strike.specs.Headline.{IsOneOf, character_with}
-use Rattle.fx_strike.proofs.Prepared.{refused_so}
+use Rattle.fx_strike.proofs.Exits.{came}
 use Rattle.mkstrike_c.specs.inner.Gathering.{AreCounted}
 use Rattle.mkstrike_c.proofs.Gathering.{chars_pass, none_made, made_at, refused_at}
 use Rattle.mkstrike_c.proofs.glyphs.gather.Goals as goal
@@ -17,10 +16,9 @@ chars-init c = record {
 
 pub returns-in_err-made-clause-refused : goal.returns-in_err-made-clause-refused
 returns-in_err-made-clause-refused c =
-    let p = err_from_is_err_and c.from_residual.result c.from_residual.ensures.1 in
     let d = c.in_err-made.field-0.0 in
     let P : Setting → Type 0 = λ s. Fails d (character_with s (get_or c.args.chars.now c.chars.code-index 0)) in
-    refused_so _ c.from_residual.result p.0 d p.1 p.2
+    rw (came c.from_residual.result c.from_residual.ensures.1)
     (refused_at c.args.striker.now c.args.chars.now c.chars.code-index c.args.none.wanted c.chars.gathered d c.chars-test.true
     (sym c.requires.chars) c.chars.invariant.made (subst P c.chars.invariant.same c.in_err-made.ensures.cause))
 

@@ -1,10 +1,11 @@
 use Rattle.std.proofs.Common.{◌∙◌, nat_lt, refl, Err, Ok}
+use Rattle.std.proofs.KnownBytes.{Keeps-refl}
 use Rattle.fx_request.specs.Limits.{max_code}
 use Rattle.fx_request.proofs.Rising.{few_rising, small_rising}
 use Rattle.fx_strike.specs.Title.{titled}
 use Rattle.fx_strike.proofs.Exits.{came}
-use Rattle.fx_strike.proofs.Making.{keeps_same, fails_leaves}
-use Rattle.fx_strike.proofs.Lines.{leaves}
+use Rattle.fx_strike.proofs.Making.{fails_leaves}
+use Rattle.fx_strike.proofs.Lines.{strike_leaves}
 use Rattle.fx_strike.proofs.tools.Tools.write_strike.Goals as goal
 
 pub survey_codes-requires : goal.survey_codes-requires
@@ -24,14 +25,14 @@ write_text-requires-clause-small g c =
 pub returns-in_err-survey-clause-leaves : goal.returns-in_err-survey-clause-leaves
 returns-in_err-survey-clause-leaves g c =
     rw (came c.from_residual-in_err-survey.result c.from_residual-in_err-survey.ensures.1)
-    (fails_leaves _ _ c.in_err-survey.field-0.0 (keeps_same _) refl
+    (fails_leaves _ _ c.in_err-survey.field-0.0 (Keeps-refl _) refl
     ((c.in_err-survey.ensures).survey (titled c.args.title.now) c.args.chars.now (c.deref.ensures.value ∙ c.in_ok-codes.ensures)))
 
 pub returns-in_err-write_text-clause-leaves : goal.returns-in_err-write_text-clause-leaves
 returns-in_err-write_text-clause-leaves g c =
     let w = rw (c.in_ok-survey.ensures).kept at (c.in_err-write_text.ensures).text in
     rw (came c.from_residual-in_err-write_text.result c.from_residual-in_err-write_text.ensures.1)
-    (leaves _ _ (Err c.in_err-write_text.field-0.0) (c.deref-3.ensures.value ∙ c.in_ok-codes.ensures) c.header-header.ensures
+    (strike_leaves _ _ (Err c.in_err-write_text.field-0.0) (c.deref-3.ensures.value ∙ c.in_ok-codes.ensures) c.header-header.ensures
     (rw (c.deref-2.ensures.value, c.in_ok-properties.ensures.all, c.pixels.ensures.value))
     ((c.in_ok-survey.ensures).survey (titled c.args.title.now) c.args.chars.now
     (c.deref.ensures.value ∙ c.in_ok-codes.ensures)) w)
@@ -39,7 +40,7 @@ returns-in_err-write_text-clause-leaves g c =
 pub returns-clause-leaves : goal.returns-clause-leaves
 returns-clause-leaves g c =
     let w = rw (c.in_ok-survey.ensures).kept at (c.in_ok-write_text.ensures).text in
-    leaves _ _ (Ok tt) (c.deref-3.ensures.value ∙ c.in_ok-codes.ensures) c.header-header.ensures
+    strike_leaves _ _ (Ok tt) (c.deref-3.ensures.value ∙ c.in_ok-codes.ensures) c.header-header.ensures
     (rw (c.deref-2.ensures.value, c.in_ok-properties.ensures.all, c.pixels.ensures.value))
     ((c.in_ok-survey.ensures).survey (titled c.args.title.now) c.args.chars.now
     (c.deref.ensures.value ∙ c.in_ok-codes.ensures)) w
