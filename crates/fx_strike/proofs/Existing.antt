@@ -1,37 +1,29 @@
 -- Where a plan is due there are glyphs of its sketches.
 -- Serves the law that a strike exists.
-use Rattle.std.proofs.Common.{◌≡◌, ◌⊎◌, sym, ◌∙◌, subst, inl, inr, ℕ, ℤ, pos, negsuc, ◌+ℤ◌, ◌*ℤ◌, ◌≤ℤ◌, ◌<ℤ◌, Bool, true, false, not}
+use Rattle.std.proofs.Common.{◌≡◌, ◌⊎◌, sym, ◌∙◌, inl, inr, ℕ, ℤ, pos, negsuc, ◌+ℤ◌, ◌*ℤ◌, ◌≤ℤ◌, ◌<ℤ◌, Bool, true, false, not}
 use Rattle.std.proofs.Common.{List, []}
-use Rattle.std.proofs.Common.{◌∷◌, Result, Ok, arith}
+use Rattle.std.proofs.Common.{◌∷◌, Ok, arith}
 use Rattle.std.specs.Prelude.{filter}
 use Rattle.std.proofs.lemmas.Int.{ints}
-use Rattle.fx_fixed.specs.Chain.{◌>>=◌, map_fault, map_chain}
-use Rattle.fx_fixed.proofs.Chain.{bind_ok, map_fault_ok}
+use Rattle.fx_fixed.specs.Chain.{map_chain}
 use Rattle.fx_fixed.proofs.Linear.{signed}
-use Rattle.fx_sfnt.specs.Glyphs.{metrics_of}
-use Rattle.fx_sfnt.specs.declared.records.Metrics.{Metrics}
 use Rattle.fx_cmap.specs.Lookup.{glyph_for}
-use Rattle.fx_hint.specs.Outlines.{OutlineView}
 use Rattle.fx_winding.specs.Limits.{greatest_side}
 use Rattle.fx_winding.specs.Winding.{Span, IsCovered, centre}
 use Rattle.fx_winding.specs.Dropout.{IsSetIn}
 use Rattle.fx_winding.specs.Outside.{AreOfOutline}
-use Rattle.fx_contour.specs.Contours.{drawn_of}
 use Rattle.fx_contour.specs.Frames.{IsInBoundingBox, AreTooLarge}
 use Rattle.fx_contour.specs.DropoutFrames.{IsInDropoutFrame}
 use Rattle.fx_contour.proofs.Kept.{covered_is_kept}
 use Rattle.fx_fixed.proofs.Order.{below_or_not_ℤ}
 use Rattle.fx_contour.proofs.Outside.{in_box}
 use Rattle.fx_bdf.specs.Glyphs.{Glyph, glyph_bit}
-use Rattle.fx_request.specs.declared.refusal.Refusal.{Refusal}
-use Rattle.fx_request.specs.Faults.{of_font}
-use Rattle.fx_strike.specs.Faults.{of_hint, of_contour}
 use Rattle.fx_request.specs.Characters.{rising}
-use Rattle.fx_strike.specs.Strike.{Sketch, Setting, IsGlyphOf, AreGlyphsOf, outline_in, sketch_from, glyph_sketch_of, sketch_of, is_missing}
+use Rattle.fx_strike.specs.Strike.{Sketch, Setting, IsGlyphOf, AreGlyphsOf, sketch_from, glyph_sketch_of, sketch_of, is_missing}
 use Rattle.fx_strike.specs.Strike.{IsPixelSet, framed_by}
 use Rattle.fx_strike.specs.Laws.{StrikeExists}
 use Rattle.fx_strike.proofs.Sketching.{tight_along}
-use Rattle.fx_strike.proofs.OnePart.{parts_of}
+use Rattle.fx_strike.proofs.OnePart.{chain_parts, parts_of, sketch_made}
 use Rattle.fx_strike.proofs.Bridged.{set_within}
 use Rattle.fx_strike.proofs.Covering.{Test, covered, set_in}
 use Rattle.fx_strike.proofs.Kept.{IsFramed, are_framed, in_dropout_frame, column_number, row_number, columns_near, rows_near}
@@ -185,45 +177,19 @@ glyph_of_spans s d small =
 glyph_of_sketch : (setting : Setting) (code glyph : ℕ) (s : Sketch)
     → glyph_sketch_of setting code glyph ≡ Ok s
     → (g : Glyph) × IsGlyphOf s g
-unfolding glyph_sketch_of
 glyph_of_sketch setting code glyph s h =
-    let last : OutlineView → List Span → Metrics → Sketch = sketch_from setting code in
-    let measured : OutlineView → List Span → Result Sketch Refusal =
-    λ d ss. map_fault of_font (metrics_of setting.font glyph) >>= λ m. Ok (last d ss m) in
-    let framed : OutlineView → List Span → Result Sketch Refusal =
-    λ d ss. map_fault (of_contour glyph) (framed_by setting.dropout ss) >>= λ _. measured d ss in
-    let a = bind_ok (map_fault of_hint (outline_in setting glyph))
-    (λ d. map_fault (of_contour glyph) (drawn_of d.ends d.points) >>= framed d) s h in
-    let b = bind_ok (map_fault (of_contour glyph) (drawn_of a.0.ends a.0.points)) (framed a.0) s a.2 in
-    let c = bind_ok (map_fault (of_contour glyph) (framed_by setting.dropout b.0)) (λ _. measured a.0 b.0) s b.2 in
-    let d = bind_ok (map_fault of_font (metrics_of setting.font glyph)) (λ m. Ok (last a.0 b.0 m)) s c.2 in
-    let e : last a.0 b.0 d.0 ≡ s = cc (d.2) in
-    let drawn = are_drawn a.0.ends a.0.points b.0 (map_fault_ok (of_contour glyph) (drawn_of a.0.ends a.0.points) b.0 b.1) in
-    let small = map_fault_ok (of_contour glyph) (framed_by setting.dropout b.0) c.0 c.1 in
-    along (last a.0 b.0 d.0) s e drawn small
-  where
-    along : (x s : Sketch) → x ≡ s → AreDrawn x.spans → framed_by x.dropout x.spans ≡ Ok tt → (g : Glyph) × IsGlyphOf s g
-    along x s e drawn small =
-        let P : Sketch → Type 0 = λ y. (g : Glyph) × IsGlyphOf y g in
-        subst P e (glyph_of_spans x drawn small)
+    let x = sketch_made setting code glyph s h in
+    let drawn = are_drawn x.drawing.ends x.drawing.points x.spans x.drawn in
+    rw x.is (glyph_of_spans (sketch_from setting code x.drawing x.spans x.metrics) drawn x.small)
 
 glyphs_of_sketches : (setting : Setting) (codes : List ℕ) (ss : List Sketch)
     → map_chain (sketch_of setting) codes ≡ Ok ss → (gs : List Glyph) × AreGlyphsOf ss gs
-glyphs_of_sketches setting [] ss h =
-    let e : [] ≡ ss = cc in
-    let P : List Sketch → Type 0 = λ xs. (gs : List Glyph) × AreGlyphsOf xs gs in
-    subst P e ([], tt)
+glyphs_of_sketches setting [] ss h = let none : ss ≡ [] = cc in rw none ([], tt)
 glyphs_of_sketches setting (c ∷ cs) ss h =
-    let p =
-    bind_ok (sketch_of setting c)
-    (λ y. map_chain (sketch_of setting) cs >>= λ zs. Ok (y ∷ zs)) ss
-    h in
-    let q = bind_ok (map_chain (sketch_of setting) cs) (λ zs. Ok (p.0 ∷ zs)) ss p.2 in
-    let e : p.0 ∷ q.0 ≡ ss = cc (q.2) in
-    let g = glyph_of_sketch setting c (glyph_for setting.map c) p.0 p.1 in
-    let gs = glyphs_of_sketches setting cs q.0 q.1 in
-    let P : List Sketch → Type 0 = λ xs. (gs : List Glyph) × AreGlyphsOf xs gs in
-    subst P e (g.0 ∷ gs.0, (g.1, gs.1))
+    let p = chain_parts (sketch_of setting) c cs ss h in
+    let g = glyph_of_sketch setting c (glyph_for setting.map c) p.0 p.2 in
+    let gs = glyphs_of_sketches setting cs p.1 p.3 in
+    rw p.4 (g.0 ∷ gs.0, (g.1, gs.1))
 
 pub strike_exists : StrikeExists
 strike_exists file ppem title chars mode plan h =

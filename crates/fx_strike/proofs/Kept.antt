@@ -2,6 +2,7 @@
 -- Serves the law that a strike exists, with Existing.
 use Rattle.std.proofs.Common.{◌≡◌, inl, inr, refl, sym, ◌∙◌, subst, ℤ, pos, ◌+ℤ◌, ◌*ℤ◌, ◌≤ℤ◌, ◌<ℤ◌, Bool, true, false, not, ◌||◌}
 use Rattle.std.proofs.Common.{List, [], ◌∷◌, Ok, Decides, arith, true≢false}
+use Rattle.std.proofs.lemmas.Bool.{or_parts}
 use Rattle.fx_fixed.specs.Ranges.{IsWithin}
 use Rattle.fx_fixed.specs.Chain.{refuse}
 use Rattle.fx_fixed.proofs.Chain.{refuse_ok}
@@ -59,10 +60,6 @@ pub record IsFramed (ss : List Span) : Type 0 where
   pub columns : ¬ (KeepsTooMany x_of ss)
   pub rows : ¬ (KeepsTooMany y_of ss)
 
-either_false : (a b : Bool) → a || b ≡ false → (a ≡ false) × (b ≡ false)
-either_false true b h = absurd (true≢false h)
-either_false false b h = (cc, h)
-
 refused_last : (b : Bool) → refuse b TooLarge ≡ Ok tt → b ≡ false
 refused_last true h = absurd (cc)
 refused_last false h = cc
@@ -72,7 +69,7 @@ unfolding dropout_framed_of
 are_framed ss h =
     let p = refuse_ok (have_any (λ q. not (leaves_margin q)) ss) TooFar
     (λ _. refuse (keeps_too_many x_of ss || keeps_too_many y_of ss) TooLarge) tt h in
-    let q = either_false (keeps_too_many x_of ss) (keeps_too_many y_of ss) (refused_last _ p.1) in
+    let q = or_parts (keeps_too_many x_of ss) (keeps_too_many y_of ss) (refused_last _ p.1) in
     record {
       margin = λ n. true≢false (sym ((margin_is_tested ss).1 n) ∙ p.0);
       columns = λ n. true≢false (sym ((many_is_tested ss).0.1 n) ∙ q.0);

@@ -1,7 +1,7 @@
 -- From what was seen to a survey, and what a call leaves that was refused.
 -- Serves `survey_codes`, `survey_chars`, `write_strike`, `make_strike_with` and `whole_pixels`.
 use Rattle.std.proofs.Common.{refl, sym, ap, subst, ◌≡◌, ◌∙◌, arith, inl, ℕ, ◌+◌, ◌<◌, ◌≤◌, ◌^◌, ℤ, pos, List, map}
-use Rattle.std.proofs.Common.{Bool, Option, Some, None, Result, Ok}
+use Rattle.std.proofs.Common.{Bool, Option, Result, Ok}
 use Rattle.std.proofs.Common.{Err, FitsSigned, w32, to_z, of_z, lit<}
 use Rattle.std.specs.Int.{w128}
 use Rattle.std.specs.Prelude.{◌*ℤ◌, neg_ℤ, unsigned_abs, IsOk, IfOk, IfErr, IsErrOf}

@@ -31,8 +31,7 @@ AreNear [] = Unit {0}
 AreNear (s ∷ ss) = HasAll IsNearPlace s × AreNear ss
 
 abbrev NearPoints : List OutlinePoint → Type 0
-NearPoints [] = Unit {0}
-NearPoints (p ∷ ps) = IsInReach p × NearPoints ps
+NearPoints points = AllByRecursion IsInReach points
 
 doubled_near : (p : OutlinePoint) → IsInReach p → IsNearPlace (doubled_of p)
 doubled_near p h = (twice p.x h.0, twice p.y h.1)
@@ -109,10 +108,6 @@ contours_near start (e ∷ es) ps h =
     (curve_near (take (e + 1 - start) (drop start ps)) (take_near (e + 1 - start) (drop start ps) (drop_near start ps h)))
     (contours_near (e + 1) es ps h)
 
-points_near : (ps : List OutlinePoint) → AllByRecursion IsInReach ps → NearPoints ps
-points_near [] h = tt
-points_near (p ∷ ps) h = (h.0, points_near ps h.1)
-
 -- ---- what is drawn
 
 pub record AreDrawn (ss : List Span) : Type 0 where
@@ -130,7 +125,7 @@ are_drawn ends points ss h =
     let near = (reach_is_tested points).0 (not_false (list_all is_in_reach points) p.0) in
     let same : spans_of ends points ≡ ss = cc (p.1) in
     subst AreDrawn same (record {
-      near = contours_near 0 ends points (points_near points (recursion_from_All IsInReach points near));
+      near = contours_near 0 ends points (recursion_from_All IsInReach points near);
       closed = (map curve_of (contours_from 0 ends points), all_closed (contours_from 0 ends points), refl);
     })
 

@@ -5,7 +5,7 @@ use Rattle.std.proofs.Common.{◌∷◌, length, get_or, Result, Ok, Err}
 use Rattle.std.specs.Prelude.{IsTrue, Contains, filter}
 use Rattle.fx_fixed.specs.Chain.{◌>>=◌, wanted, map_fault, map_chain}
 use Rattle.fx_fixed.specs.Sizes.{ppem_of}
-use Rattle.fx_fixed.proofs.Chain.{bind_ok, same_Ok}
+use Rattle.fx_fixed.proofs.Chain.{bind_ok, map_fault_ok, same_Ok}
 use Rattle.fx_sfnt.specs.Glyphs.{metrics_of}
 use Rattle.fx_sfnt.specs.declared.records.Metrics.{Metrics}
 use Rattle.fx_hint.specs.Outlines.{OutlineView}
@@ -72,26 +72,41 @@ text_is_one one plan gs hs p q = ap (strike_text plan) (glyphs_are_one one plan.
 
 -- ---- one part
 
--- a sketch has the code point that it is of
-pub sketch_code : (setting : Setting) (code glyph : ℕ) (s : Sketch)
-    → glyph_sketch_of setting code glyph ≡ Ok s → s.code ≡ code
+-- a sketch that is due is made of an outline, its spans and its metrics
+pub record Made (setting : Setting) (code : ℕ) (s : Sketch) : Type 0 where
+  pub drawing : OutlineView
+  pub spans : List Span
+  pub metrics : Metrics
+  pub drawn : drawn_of drawing.ends drawing.points ≡ Ok spans
+  pub small : framed_by setting.dropout spans ≡ Ok tt
+  pub is : s ≡ sketch_from setting code drawing spans metrics
+
+pub sketch_made : (setting : Setting) (code glyph : ℕ) (s : Sketch) → glyph_sketch_of setting code glyph ≡ Ok s
+    → Made setting code s
 unfolding glyph_sketch_of
-sketch_code setting code glyph s h =
-    let last : OutlineView → List Span → Metrics → Sketch = sketch_from setting code in
+sketch_made setting code glyph s h =
     let measured : OutlineView → List Span → Result Sketch Refusal =
-    λ d ss. map_fault of_font (metrics_of setting.font glyph) >>= λ m. Ok (last d ss m) in
+    λ d ss. map_fault of_font (metrics_of setting.font glyph) >>= λ m. Ok (sketch_from setting code d ss m) in
     let framed : OutlineView → List Span → Result Sketch Refusal =
     λ d ss. map_fault (of_contour glyph) (framed_by setting.dropout ss) >>= λ _. measured d ss in
     let a = bind_ok (map_fault of_hint (outline_in setting glyph))
     (λ d. map_fault (of_contour glyph) (drawn_of d.ends d.points) >>= framed d) s h in
     let b = bind_ok (map_fault (of_contour glyph) (drawn_of a.0.ends a.0.points)) (framed a.0) s a.2 in
     let c = bind_ok (map_fault (of_contour glyph) (framed_by setting.dropout b.0)) (λ _. measured a.0 b.0) s b.2 in
-    let d = bind_ok (map_fault of_font (metrics_of setting.font glyph)) (λ m. Ok (last a.0 b.0 m)) s c.2 in
-    let e : last a.0 b.0 d.0 ≡ s = cc (d.2) in
-    code_along (last a.0 b.0 d.0) s code e (refl {a = code})
-  where
-    code_along : (x s : Sketch) (code : ℕ) → x ≡ s → x.code ≡ code → s.code ≡ code
-    code_along x s code e h = sym (ap (λ (y : Sketch). y.code) e) ∙ h
+    let d = bind_ok (map_fault of_font (metrics_of setting.font glyph)) (λ m. Ok (sketch_from setting code a.0 b.0 m)) s c.2 in
+    record {
+      drawing = a.0;
+      spans = b.0;
+      metrics = d.0;
+      drawn = map_fault_ok (of_contour glyph) (drawn_of a.0.ends a.0.points) b.0 b.1;
+      small = map_fault_ok (of_contour glyph) (framed_by setting.dropout b.0) c.0 c.1;
+      is = cc (d.2);
+    }
+
+-- a sketch has the code point that it is of
+pub sketch_code : (setting : Setting) (code glyph : ℕ) (s : Sketch)
+    → glyph_sketch_of setting code glyph ≡ Ok s → s.code ≡ code
+sketch_code setting code glyph s h = ap (λ (y : Sketch). y.code) (sketch_made setting code glyph s h).is
 
 -- a chain with values gave its first, and then the others
 pub chain_parts : {A B : Type 0} (f : A → Result B Refusal) (x : A) (xs : List A) (ys : List B) → map_chain f (x ∷ xs) ≡ Ok ys

@@ -2,14 +2,14 @@
 -- Serves `see`, and what a call leaves (`Making`, `Writing`).
 use Rattle.std.proofs.Common.{◌≡◌, refl, sym, ap, ap₂, ◌∙◌, subst, arith, ℕ, suc, zero, ◌+◌, ◌<◌, ◌≤◌, Bool, true, false, not, List, []}
 use Rattle.std.proofs.Common.{◌∷◌, ◌++◌, map, length, take, drop, get_or, length-append, Result, Ok, Err, cond}
-use Rattle.std.specs.Prelude.{nat_lt, ◌==◌, ◌||◌, filter}
+use Rattle.std.specs.Prelude.{nat_lt, ◌==◌, filter}
 use Rattle.std.specs.List.{list_any, sum_by, count_by}
+use Rattle.std.proofs.lemmas.Bool.{ltb-false, or_parts}
 use Rattle.std.proofs.lemmas.Bool.Decides.{nat_tests}
 use Rattle.std.proofs.lemmas.List.{take_more, drop_more, map-append, take-append-drop}
 use Rattle.std.proofs.lemmas.List.Elements.{filter-append}
 use Rattle.std.proofs.lemmas.List.Sums.{fold-append, sum_by-append}
-use Rattle.fx_fixed.specs.Chain.{◌>>=◌, map_chain}
-use Rattle.fx_fixed.proofs.Chain.{bind_ok}
+use Rattle.fx_fixed.specs.Chain.{map_chain}
 use Rattle.fx_cmap.specs.Lookup.{glyph_for}
 use Rattle.fx_bdf.specs.Glyphs.{Glyph, Box, IsPlaced, no_box, joined, bounds_of}
 use Rattle.fx_request.specs.declared.refusal.Refusal.{Refusal}
@@ -22,20 +22,14 @@ use Rattle.fx_machine.specs.declared.usage.Usage.{Usage}
 use Rattle.fx_strike.specs.inner.Gathering.{gathered_with}
 use Rattle.fx_strike.specs.inner.Surveying.{IsEmpty, Has, Holds}
 use Rattle.fx_strike.proofs.GatheredGlyphs.{gathered_push}
+use Rattle.fx_strike.proofs.OnePart.{chain_parts}
 use Rattle.fx_strike.proofs.Sketching.{fails_on}
 
 -- ---- code points within the limit
 
 not_any : (c : ℕ) (cs : List ℕ) → list_any (nat_lt max_code) (c ∷ cs) ≡ false
     → (c ≤ max_code) × (list_any (nat_lt max_code) cs ≡ false)
-not_any c cs h = (low c (list_any (nat_lt max_code) cs) h, rest (nat_lt max_code c) (list_any (nat_lt max_code) cs) h)
-  where
-    low : (c : ℕ) (b : Bool) → (nat_lt max_code c || b) ≡ false → c ≤ max_code
-    low c b h = grind (arith, nat_tests)
-
-    rest : (a b : Bool) → (a || b) ≡ false → b ≡ false
-    rest true b h = absurd (cc)
-    rest false b h = h
+not_any c cs h = let p = or_parts (nat_lt max_code c) (list_any (nat_lt max_code) cs) h in (ltb-false max_code c p.0, p.1)
 
 pub code_fits : (codes : List ℕ) (i : ℕ) → list_any (nat_lt max_code) codes ≡ false → i < length codes
     → get_or codes i 0 ≤ max_code
@@ -49,10 +43,7 @@ chain_push : {A B : Type 0} (f : A → Result B Refusal) (xs : List A) (x : A) (
     → f x ≡ Ok b → map_chain f (xs ++ x ∷ []) ≡ Ok (made ++ b ∷ [])
 chain_push f [] x made b h g = let e : [] ≡ made = cc in rw (g, ← e)
 chain_push f (y ∷ ys) x made b h g =
-    let p = bind_ok (f y) (λ c. map_chain f ys >>= λ cs. Ok (c ∷ cs)) made h in
-    let q = bind_ok (map_chain f ys) (λ cs. Ok (p.0 ∷ cs)) made p.2 in
-    let e : p.0 ∷ q.0 ≡ made = cc (q.2) in
-    pushed f y ys x made b p.0 q.0 p.1 e (chain_push f ys x q.0 b q.1 g)
+    let p = chain_parts f y ys made h in pushed f y ys x made b p.0 p.1 p.2 (sym p.4) (chain_push f ys x p.1 b p.3 g)
   where
     pushed : {A B : Type 0} (f : A → Result B Refusal) (y : A) (ys : List A) (x : A) (made : List B) (b c : B) (cs : List B)
         → f y ≡ Ok c → c ∷ cs ≡ made → map_chain f (ys ++ x ∷ []) ≡ Ok (cs ++ b ∷ [])
@@ -63,9 +54,7 @@ chain_refused : {A B : Type 0} (f : A → Result B Refusal) (xs : List A) (x : A
     → map_chain f xs ≡ Ok made → f x ≡ Err e → map_chain f (xs ++ x ∷ ys) ≡ Err e
 chain_refused f [] x ys made e h g = rw g
 chain_refused f (z ∷ zs) x ys made e h g =
-    let p = bind_ok (f z) (λ c. map_chain f zs >>= λ cs. Ok (c ∷ cs)) made h in
-    let q = bind_ok (map_chain f zs) (λ cs. Ok (p.0 ∷ cs)) made p.2 in
-    refused f z zs x ys e p.0 p.1 (chain_refused f zs x ys q.0 e q.1 g)
+    let p = chain_parts f z zs made h in refused f z zs x ys e p.0 p.2 (chain_refused f zs x ys p.1 e p.3 g)
   where
     refused : {A B : Type 0} (f : A → Result B Refusal) (z : A) (zs : List A) (x : A) (ys : List A) (e : Refusal) (c : B)
         → f z ≡ Ok c → map_chain f (zs ++ x ∷ ys) ≡ Err e → map_chain f (z ∷ (zs ++ x ∷ ys)) ≡ Err e
