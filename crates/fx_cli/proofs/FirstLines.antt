@@ -1,12 +1,12 @@
 -- A run whose arguments are in the first line of its input.
 -- Serves the answers of `run_line`, `run_arguments` and `run_given`.
 use Rattle.std.proofs.Common.{◌≡◌, ◌∙◌, ◌==◌, ◌⊎◌, inl, inr, ℕ, ◌+◌, ◌<◌, ◌≤◌, List, [], ◌∷◌, ◌++◌, length, take, drop}
-use Rattle.std.proofs.Common.{not, refl, sym, ap, subst, arith, Option, Some, None, Bool, true, false, cond, Result, Ok, Err}
+use Rattle.std.proofs.Common.{not, refl, sym, ap, arith, Option, Bool, true, false, cond, Result, Ok, Err}
 use Rattle.std.proofs.Common.{append-nil, length-append, Bor}
 use Rattle.std.proofs.lemmas.List.Sums.{prefix_len-le-length}
 use Rattle.std.specs.Str.{IsUtf8}
 use Rattle.std.specs.List.{position_or_len, prefix_len}
-use Rattle.std.specs.Io.KnownBytes.{Consumes, IsAtEnd, Keeps}
+use Rattle.std.specs.Io.KnownBytes.{Consumes, IsAtEnd}
 use Rattle.std.proofs.KnownBytes.{Consumes-nil, Consumes-trans, Keeps-refl}
 use Rattle.std.proofs.lemmas.List.{take-append-le, drop-append-le}
 use Rattle.std.proofs.lemmas.List.Folds.{prefix_len-append}
@@ -23,9 +23,9 @@ use Rattle.fx_cli.specs.Arguments.{command_of, texts}
 use Rattle.fx_cli.specs.Commands.{CommandView, Refuses}
 use Rattle.fx_cli.specs.ReadAhead.{ahead_of}
 use Rattle.fx_cli.specs.Input.{line_of, rest_of, arguments_of_line}
-use Rattle.fx_cli.specs.Runs.{AreArguments, AreArgumentsBy, Ends, HasLine, IsReadForArguments, IsReason, IsSpared}
+use Rattle.fx_cli.specs.Runs.{AreArguments, Ends, HasLine, IsReadForArguments, IsReason, IsSpared}
 use Rattle.fx_cli.specs.Lines.{refusal_line}
-use Rattle.fx_cli.specs.Runs.{IsUnread, IsUsageBy, Does, Runs, Stops, Tells, font_bytes, has_arguments, called, text_by, text_of}
+use Rattle.fx_cli.specs.Runs.{IsUnread, Does, Runs, Stops, Tells, font_bytes, has_arguments, called, text_of}
 use Rattle.clap.specs.Walk.{Text}
 use Rattle.fx_cli.specs.Steps.{EndsAfter, IsReasonAfter, DoesAfter, StopsAfter}
 

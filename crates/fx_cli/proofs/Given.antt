@@ -1,14 +1,14 @@
 -- The properties that arguments ask for.
 -- Serves `read_properties` and what it calls.
 use Rattle.std.proofs.Common.{◌≡◌, ◌∙◌, ℕ, ◌+◌, ◌<◌, ◌≤◌, ◌^◌, ℤ, pos, negsuc, List, [], ◌∷◌, ◌++◌, length, refl, sym, ap, ap₂, arith, Bool, true}
-use Rattle.std.proofs.Common.{false, Option, Some, None, Result, Ok, Err, option_map, append-nil, append_assoc, drop, get_or, suc, zero}
+use Rattle.std.proofs.Common.{false, Option, Some, None, Result, Ok, Err, option_map, append-nil, append_assoc, drop, get_or}
 use Rattle.std.specs.Prelude.{nat_lt, ◌==◌, ◌&&◌, if◌then◌else◌, FitsSigned, MatchOption, option_and_then}
 use Rattle.std.specs.List.{list_all, position_or_len, before_first, after_first}
 use Rattle.std.specs.Result.{result_ok}
 use Rattle.std.specs.Char.{digit_value}
 use Rattle.std.specs.Str.Parse.{IsNumeral, ParsesSigned, signed_digits_value, without_leading_sign}
 use Rattle.std.specs.Borrow.{Bor}
-use Rattle.std.proofs.lemmas.List.{drop_all}
+use Rattle.std.proofs.lemmas.List.{drop-map, drop_all, drop_more, length-map, map-append}
 use Rattle.std.proofs.lemmas.Bool.{and_parts, eqb-true, lt-ltb, le-ltb, ltb-true}
 use Rattle.clap.specs.Walk.{Text}
 use Rattle.fx_fixed.specs.Chain.{wanted}
@@ -81,14 +81,9 @@ is_whole value =
     nat_lt 0 (length (without_leading_sign value)) && (list_all (λ d. nat_lt (digit_value d) 10) (without_leading_sign value)
     && is_integer (signed_digits_value 10 value))
 
-whole_is : (value : Text)
-    → whole_of value ≡ (if has_plus value then None else whole (is_whole value) (signed_digits_value 10 value))
-unfolding whole_of
-whole_is value = refl
-
 pub whole_plus : (value : Text) → has_plus value ≡ true → None ≡ whole_of value
-whole_plus value h =
-    sym (whole_is value ∙ ap (λ (b : Bool). if b then None else whole (is_whole value) (signed_digits_value 10 value)) h)
+unfolding whole_of
+whole_plus value h = rw h refl
 
 whole_passes : (value : Text) → IsNumeral 10 (without_leading_sign value) → FitsSigned w32 (signed_digits_value 10 value)
     → is_whole value ≡ true
@@ -107,9 +102,8 @@ not_whole false z h = refl
 
 pub whole_parsed : {E : Type 0} (value : Text) (r : Result ℤ E) → has_plus value ≡ false → ParsesSigned w32 10 value r
     → result_ok r ≡ whole_of value
-whole_parsed {E = E} value r plain h =
-    by r h
-    ∙ sym (whole_is value ∙ ap (λ (b : Bool). if b then None else whole (is_whole value) (signed_digits_value 10 value)) plain)
+unfolding whole_of
+whole_parsed {E = E} value r plain h = rw plain (by r h)
   where
     by : (r : Result ℤ E) → ParsesSigned w32 10 value r → result_ok r ≡ whole (is_whole value) (signed_digits_value 10 value)
     by (Ok z) h =
@@ -123,26 +117,18 @@ whole_parsed {E = E} value r plain h =
 abbrev pub with_value : Text → ValueView → Option PropertyView
 with_value name value = Some (record { name = name; value = value })
 
-abbrev cut_at : Bool → Text → Option PropertyView
-cut_at b given =
-    if b then Some (record {
-      name = before_first (λ b. b == 61) given;
-      value = value_of (after_first (λ b. b == 61) given);
-    }) else None
-
-property_is : (given : Text) → property_of given ≡ cut_at (nat_lt (position_or_len (λ b. b == 61) given) (length given)) given
-unfolding property_of
-property_is given = refl
-
 pub property_cut : (given name value : Text) → name ≡ before_first (λ b. b == 61) given → value ≡ after_first (λ b. b == 61) given
     → position_or_len (λ b. b == 61) given < length given
     → with_value name (value_of value) ≡ property_of given
+unfolding property_of
 property_cut given name value n v within =
-    ap₂ (λ (x y : Text). with_value x (value_of y)) n v
-    ∙ sym (property_is given ∙ ap (λ (b : Bool). cut_at b given) (lt-ltb _ _ within))
+    let cut = lt-ltb (position_or_len (λ b. b == 61) given) (length given) within in rw (n, v, cut)
 
 pub property_whole : (given : Text) → position_or_len (λ b. b == 61) given ≡ length given → None ≡ property_of given
-property_whole given none = sym (property_is given ∙ ap (λ (b : Bool). cut_at b given) (le-ltb _ _ (omega (arith, none))))
+unfolding property_of
+property_whole given none =
+    let uncut : nat_lt (position_or_len (λ b. b == 61) given) (length given) ≡ false = le-ltb _ _ (omega (arith, none)) in
+    rw uncut
 
 -- ---- one after another
 
@@ -183,18 +169,8 @@ none_given fault = ap (λ (o : Option (List PropertyView)). wanted o fault) prop
 next_text : (given : List (Bor Text)) (i : ℕ) (d : Bor Text) → i < length given
     → drop i (texts given) ≡ (get_or given i d).now ∷ drop (i + 1) (texts given)
 next_text given i d h =
-    let next : suc i ≡ i + 1 = omega arith in
-    by given i h ∙ ap (λ (n : ℕ). (get_or given i d).now ∷ drop n (texts given)) next
-  where
-    by : (given : List (Bor Text)) (i : ℕ) → i < length given
-        → drop i (texts given) ≡ (get_or given i d).now ∷ drop (suc i) (texts given)
-    by [] i h = absurd (omega arith)
-    by (t ∷ ts) zero h = refl
-    by (t ∷ ts) (suc i) h = by ts i (omega arith)
-
-seen_with : (ps : List Property) (p : Property) → seen_properties ps ++ seen_property p ∷ [] ≡ seen_properties (ps ++ p ∷ [])
-seen_with [] p = refl
-seen_with (q ∷ qs) p = ap (λ (ps : List PropertyView). seen_property q ∷ ps) (seen_with qs p)
+    drop-map (λ (t : Bor Text). t.now) i given ∙ ap texts (drop_more given i d h)
+    ∙ ap (λ (ts : List Text). (get_or given i d).now ∷ ts) (sym (drop-map (λ (t : Bor Text). t.now) (i + 1) given))
 
 abbrev joined : Option PropertyView → Option (List PropertyView) → Option (List PropertyView)
 joined one more = option_and_then (λ property. option_map (λ properties. property ∷ properties) more) one
@@ -214,7 +190,7 @@ pub rest_more : (all next : List Property) (given : List (Bor Text)) (i : ℕ) (
 rest_more all next given i d p h e n =
     rest_is all given i d (Some (seen_property p)) h e
     ∙ after-more (seen_properties all) (seen_property p) (properties_of (drop (i + 1) (texts given)))
-    ∙ ap (λ (ps : List PropertyView). after ps (properties_of (drop (i + 1) (texts given)))) (seen_with all p)
+    ∙ ap (λ (ps : List PropertyView). after ps (properties_of (drop (i + 1) (texts given)))) (sym (map-append seen_property all (p ∷ [])))
     ∙ ap (λ (ps : List Property). rest_of ps given (i + 1)) (sym n)
 
 -- one that is none
@@ -222,15 +198,11 @@ pub rest_none : (all : List Property) (given : List (Bor Text)) (i : ℕ) (d : B
     → None ≡ property_of (get_or given i d).now → rest_of all given i ≡ None
 rest_none all given i d h e = rest_is all given i d None h e
 
-length-texts : (given : List (Bor Text)) → length (texts given) ≡ length given
-length-texts [] = refl
-length-texts (t ∷ ts) = ap suc (length-texts ts)
-
 -- none is left
 pub rest_done : (all : List Property) (given : List (Bor Text)) (i : ℕ) → length given ≤ i
     → rest_of all given i ≡ Some (seen_properties all)
 rest_done all given i h =
     ap (λ (ts : List Text). after (seen_properties all) (properties_of ts))
-    (drop_all i (texts given) (omega (arith, h, length-texts given)))
+    (drop_all i (texts given) (omega (arith, h, length-map given (λ (t : Bor Text). t.now))))
     ∙ ap (after (seen_properties all)) properties-nil
     ∙ ap (λ (ps : List PropertyView). Some ps) (append-nil (seen_properties all))

@@ -1,15 +1,12 @@
-use Rattle.std.proofs.Common.{arith, ◌≡◌, ◌∙◌, inl, inr, ap, ap₂, sym, refl, subst, ℕ, List, ◌∷◌, take, length}
-use Rattle.std.specs.Str.{IsUtf8}
+use Rattle.std.proofs.Common.{arith, ◌≡◌, ◌∙◌, inl, inr, ap, ap₂, sym, refl, ℕ, List, ◌∷◌, take, length}
 use Rattle.std.proofs.lemmas.List.{length-take-le}
 use Rattle.std.proofs.KnownBytes.{Keeps-refl}
 use Rattle.clap.specs.Walk.{Text}
 use Rattle.fx_fixed.specs.Changes.{Change}
 use Rattle.fx_cli.specs.Input.{line_of, arguments_of_line}
-use Rattle.fx_cli.specs.Arguments.{command_of, texts}
-use Rattle.fx_cli.specs.Commands.{Refuses, seen}
-use Rattle.fx_cli.specs.ReadAhead.{ReadAheadView}
+use Rattle.fx_cli.specs.Arguments.{texts}
+use Rattle.fx_cli.specs.Commands.{seen}
 use Rattle.fx_cli.specs.Runs.{called}
-use Rattle.fx_cli.specs.Steps.{EndsAfter}
 use Rattle.fx_strike.proofs.Exits.{came}
 use Rattle.fx_cli.proofs.FirstLines.{few_arguments, for_line, length-line_of, line_ends, line_read, unread}
 use Rattle.fx_cli.proofs.program.run_line.Goals as goal
