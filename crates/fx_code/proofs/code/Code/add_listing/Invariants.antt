@@ -1,4 +1,4 @@
-use Rattle.std.proofs.Common.{◌≤◌, ◌-◌, length}
+use Rattle.std.proofs.Common.{◌≤◌, ◌-◌, length, Ok}
 use Rattle.fx_code.proofs.Lines.{Written}
 use Rattle.fx_code.proofs.code.Code.add_listing.Given as goal
 
@@ -6,7 +6,7 @@ use Rattle.fx_code.proofs.code.Code.add_listing.Given as goal
 abbrev pub invariant-lines : goal.invariant-lines
 invariant-lines g l = record {
   inside : l.address ≤ length l.self;
-  written : Written l.self l.address l.fn.text l.text;
+  written : Written l.self l.address l.fn.text l.text (Ok tt);
 }
 
 abbrev pub decreases-lines : goal.decreases-lines
