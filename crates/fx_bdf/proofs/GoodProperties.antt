@@ -1,8 +1,8 @@
 -- The first bad property, one property after another; and how long the lines of good ones are.
 -- Serves `first_bad`, `write_header` and `all_properties`.
 use Rattle.std.proofs.Common.{◌≡◌, ◌∙◌, ℕ, ◌+◌, ◌*◌, ◌^◌, ◌<◌, ◌≤◌, ℤ, pos, negsuc, Bool, true, false, List, [], ◌∷◌, ◌++◌, length}
-use Rattle.std.proofs.Common.{zero, suc, take, drop, get_or, refl, sym, ap, ap₂, arith, Option, Some, None, length-append}
-use Rattle.std.proofs.lemmas.List.{length-map, length-take-le, drop_all}
+use Rattle.std.proofs.Common.{take, drop, get_or, refl, sym, ap, ap₂, arith, Option, Some, None, length-append}
+use Rattle.std.proofs.lemmas.List.{drop_all, drop_more, length-map, length-take-le, map_more}
 use Rattle.std.proofs.lemmas.Option.{none-some}
 use Rattle.std.specs.Prelude.{if◌then◌else◌, ◌==◌, nat_lt, nat_le}
 use Rattle.std.specs.List.{flat_map, list_all}
@@ -31,26 +31,6 @@ unfolding first_bad_after
 first_bad_after-nil before = refl
 
 -- one property more is good, or it is the first bad one
-next_taken : {X : Type 0} (xs : List X) (i : ℕ) (d : X) → i < length xs → take i xs ++ get_or xs i d ∷ [] ≡ take (i + 1) xs
-next_taken {X} xs i d h = let next : suc i ≡ i + 1 = omega arith in by xs i h ∙ ap (λ n. take n xs) next
-  where
-    by : (xs : List X) (i : ℕ) → i < length xs → take i xs ++ get_or xs i d ∷ [] ≡ take (suc i) xs
-    by [] i h = absurd (omega arith)
-    by (x ∷ xs) zero h = refl
-    by (x ∷ xs) (suc i) h = ap (λ t. x ∷ t) (by xs i (omega arith))
-
-next_left : {X : Type 0} (xs : List X) (i : ℕ) (d : X) → i < length xs → drop i xs ≡ get_or xs i d ∷ drop (i + 1) xs
-next_left {X} xs i d h = let next : suc i ≡ i + 1 = omega arith in by xs i h ∙ ap (λ n. get_or xs i d ∷ drop n xs) next
-  where
-    by : (xs : List X) (i : ℕ) → i < length xs → drop i xs ≡ get_or xs i d ∷ drop (suc i) xs
-    by [] i h = absurd (omega arith)
-    by (x ∷ xs) zero h = refl
-    by (x ∷ xs) (suc i) h = by xs i (omega arith)
-
-seen_with : (ps : List Property) (p : Property) → seen_properties ps ++ seen_property p ∷ [] ≡ seen_properties (ps ++ p ∷ [])
-seen_with [] p = refl
-seen_with (q ∷ qs) p = ap (λ ps. seen_property q ∷ ps) (seen_with qs p)
-
 -- what is left once the properties before one are good
 abbrev pub left_after : List Property → ℕ → Option ℕ
 left_after ps i = first_bad_after (seen_properties (take i ps)) (seen_properties (drop i ps))
@@ -62,8 +42,8 @@ left_is ps i d h =
     let count : length (seen_properties (take i ps)) ≡ i =
     length-map (take i ps) seen_property ∙ length-take-le i ps (omega (arith, h)) in
     let front : seen_properties (take i ps) ++ seen_property (get_or ps i d) ∷ [] ≡ seen_properties (take (i + 1) ps) =
-    seen_with (take i ps) (get_or ps i d) ∙ ap seen_properties (next_taken ps i d h) in
-    ap (λ (qs : List Property). first_bad_after (seen_properties (take i ps)) (seen_properties qs)) (next_left ps i d h)
+    sym (map_more seen_property ps i d h) in
+    ap (λ (qs : List Property). first_bad_after (seen_properties (take i ps)) (seen_properties qs)) (drop_more ps i d h)
     ∙ first_bad_after-cons _ _ _
     ∙ ap₂ (λ (qs : List PropertyView) (n : ℕ). chosen good (first_bad_after qs (seen_properties (drop (i + 1) ps))) n) front count
 

@@ -1,10 +1,10 @@
-use Rattle.std.proofs.Common.{◌∙◌, ℕ, ap, sym, arith}
+use Rattle.std.proofs.Common.{◌∙◌, ap, arith}
 use Rattle.std.specs.Fmt.{decimal}
 use Rattle.std.proofs.lemmas.List.{length-map}
 use Rattle.std.proofs.lemmas.Result.{err_from_is_err_and}
-use Rattle.fx_fixed.proofs.Texts.{adds_then, adds_stopped, adds_text, adds_out}
+use Rattle.fx_fixed.proofs.Texts.{adds_then, adds_stopped, adds_text}
 use Rattle.fx_bdf.specs.Properties.{seen_property}
-use Rattle.fx_bdf.specs.Text.{back_text, front_text, header_text}
+use Rattle.fx_bdf.specs.Text.{back_text, header_text}
 use Rattle.fx_bdf.proofs.Headers.{back_number, header_long}
 use Rattle.fx_bdf.proofs.header_lines.write_header.Goals as goal
 
@@ -20,9 +20,7 @@ pub returns-in_err-add_front-clause-text : goal.returns-in_err-add_front-clause-
 unfolding header_text
 returns-in_err-add_front-clause-text g c =
     let p = err_from_is_err_and c.from_residual.result c.from_residual.ensures.1 in
-    let count = sym (length-map c.args.properties.now seen_property) in
-    adds_out (adds_stopped _ (adds_text (ap (λ (n : ℕ). front_text c.args.name.now n c.args.header.now) count)
-    c.in_err-add_front.ensures.text)) p.1 p.2
+    rw (p.1, p.2, length-map c.args.properties.now seen_property) (adds_stopped _ c.in_err-add_front.ensures.text)
 
 pub returns-in_err-add_front-clause-short : goal.returns-in_err-add_front-clause-short
 returns-in_err-add_front-clause-short g c =
@@ -34,9 +32,8 @@ pub returns-in_err-add_properties-clause-text : goal.returns-in_err-add_properti
 unfolding header_text
 returns-in_err-add_properties-clause-text g c =
     let p = err_from_is_err_and c.from_residual-in_err-add_properties.result c.from_residual-in_err-add_properties.ensures.1 in
-    let count = sym (length-map c.args.properties.now seen_property) in
-    adds_out (adds_then (adds_text (ap (λ (n : ℕ). front_text c.args.name.now n c.args.header.now) count)
-    c.in_ok-add_front.ensures.text) (adds_stopped (back_text c.args.header.now) c.in_err-add_properties.ensures)) p.1 p.2
+    rw (p.1, p.2, length-map c.args.properties.now seen_property)
+    (adds_then c.in_ok-add_front.ensures.text (adds_stopped (back_text c.args.header.now) c.in_err-add_properties.ensures))
 
 pub returns-in_err-add_properties-clause-short : goal.returns-in_err-add_properties-clause-short
 returns-in_err-add_properties-clause-short g c =
@@ -47,10 +44,10 @@ returns-in_err-add_properties-clause-short g c =
 pub returns-clause-text : goal.returns-clause-text
 unfolding header_text
 returns-clause-text g c =
-    let count = sym (length-map c.args.properties.now seen_property) in
-    adds_then (adds_text (ap (λ (n : ℕ). front_text c.args.name.now n c.args.header.now) count) c.in_ok-add_front.ensures.text)
+    rw (length-map c.args.properties.now seen_property)
+    (adds_then c.in_ok-add_front.ensures.text
     (adds_then c.in_ok-add_properties.ensures (adds_text (back_number c.args.header.now
-    (c.text-glyphs.ensures.value ∙ c.unsigned-digits.ensures ∙ ap decimal c.from.ensures)) c.add.ensures))
+    (c.text-glyphs.ensures.value ∙ c.unsigned-digits.ensures ∙ ap decimal c.from.ensures)) c.add.ensures)))
 
 pub returns-clause-short : goal.returns-clause-short
 returns-clause-short g c =
