@@ -1,4 +1,7 @@
-pub mod Rows
+pub mod SoFar
 pub mod Missed
-pub mod Exchanged
 pub mod Segments
+pub mod Rows
+pub mod Levels
+pub mod Candidates
+pub mod Words

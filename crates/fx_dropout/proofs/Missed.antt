@@ -1,7 +1,8 @@
 -- Pieces of a list that meet a segment, as they are or with their coordinates exchanged.
 -- Serves `gaps`.
-use Rattle.std.proofs.Common.{◌≡◌, ◌↔◌, IsTrue, refl, sym, ap, subst, ℕ, ◌<◌, ℤ, pos, ◌+ℤ◌, Bool, true, false, List, [], ◌∷◌}
-use Rattle.std.proofs.Common.{All, Any, map, length, get_or}
+use Rattle.std.proofs.Common.{◌≡◌, ◌↔◌, IsTrue, inl, inr, refl, sym, ap, subst, ℕ, ◌<◌, ℤ, pos, ◌+ℤ◌, Bool, true, false, List, [], ◌∷◌}
+use Rattle.std.proofs.Common.{◌≤ℤ◌, ◌*ℤ◌, arith, All, Any, map, length, get_or}
+use Rattle.fx_fixed.proofs.Linear.{signed}
 use Rattle.fx_winding.specs.Area.{Place}
 use Rattle.fx_winding.specs.Dropout.{turned_span}
 use Rattle.fx_winding.specs.Meets.{IsMet}
@@ -11,11 +12,32 @@ use Rattle.fx_winding.specs.Winding.{Span, span_of, centre}
 use Rattle.fx_winding.specs.declared.point.Piece.{Piece}
 use Rattle.fx_winding.proofs.Covers.{any_map, any_unmap}
 use Rattle.fx_dropout.specs.inner.Lines.{IsSoFar}
-use Rattle.fx_dropout.specs.inner.Turned.{seen_span, seen_spans}
+use Rattle.fx_winding.proofs.Aside.{left_not_met, right_not_met}
+use Rattle.fx_winding.proofs.Meeting.{above_not_met, below_not_met}
+use Rattle.fx_dropout.specs.inner.Turned.{seen_span, seen_spans, IsBeside, IsAside}
 
 -- a piece does not meet the segment from p to q
 abbrev pub IsMissed : Bool → Place → Place → Piece → Type 0
 IsMissed turned p q s = ¬ (IsMet p q (seen_span turned (span_of s)))
+
+pub beside_not_met : (p q : Place) (s : Span) (y : ℤ) → y ≡ p.y → q.y ≡ p.y → IsBeside y s → ¬ (IsMet p q s)
+beside_not_met p q s y e l b = by (subst (λ (y : ℤ). IsBeside y s) e b)
+  where
+    by : IsBeside p.y s → ¬ (IsMet p q s)
+    by (inl h) = above_not_met p q s l h
+    by (inr h) = below_not_met p q s l h
+
+pub aside_not_met : (p q : Place) (s : Span) (first last : ℤ) → first ≡ p.x → last ≡ q.x → q.y ≡ p.y → p.x ≤ℤ q.x
+    → IsAside first last s → ¬ (IsMet p q s)
+aside_not_met p q s first last e f l o b = by (subst (λ (x : ℤ × ℤ). IsAside x.0 x.1 s) (λ i. (e i, f i)) b)
+  where
+    by : IsAside p.x q.x s → ¬ (IsMet p q s)
+    by (inl h) = left_not_met p q s o h
+    by (inr h) = right_not_met p q s l o h
+
+-- the next centre of a row is not left of one
+pub next_right : (i j : ℤ) → (centre i j).x ≤ℤ (centre (i +ℤ pos 1) j).x
+next_right i j = let l : (pos 128 *ℤ i +ℤ pos 64) ≤ℤ (pos 128 *ℤ (i +ℤ pos 1) +ℤ pos 64) = omega (arith, signed) in l
 
 seen_all : (turned : Bool) (ps : List Piece)
     → map (λ s. seen_span turned (span_of s)) ps ≡ seen_spans turned (map span_of ps)

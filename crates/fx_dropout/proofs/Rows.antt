@@ -1,33 +1,18 @@
--- Gaps of rows closed one after the other, in place.
--- Serves `close` and `gaps`.
-use Rattle.std.proofs.Common.{◌≡◌, ◌≢◌, ◌⊎◌, ◌↔◌, inl, inr, refl, sym, ◌∙◌, subst, ℕ, ◌+◌, ◌<◌, ℤ, pos, ◌+ℤ◌, ◌-ℤ◌}
-use Rattle.std.proofs.Common.{IsTrue, Bool, true, false, not, List, map, arith}
-use Rattle.std.proofs.lemmas.Int.{ints}
+-- Gaps of rows closed one row after the other, and then those of columns.
+-- Serves `close` and `across`.
+use Rattle.std.proofs.Common.{◌≡◌, ◌≢◌, ◌⊎◌, ◌↔◌, inl, inr, sym, subst, ℕ, zero, suc, ◌+◌, ◌-◌, ◌<◌, ◌≤◌, ℤ, pos, ◌+ℤ◌, ◌-ℤ◌}
+use Rattle.std.proofs.Common.{Bool, List, map, arith}
 use Rattle.fx_fixed.proofs.Linear.{signed_linear}
 use Rattle.fx_winding.specs.declared.frame.Frame.{Frame}
 use Rattle.fx_winding.specs.Dropout.{turned_span, IsGap, IsBridged, IsRowSet, IsSet}
-use Rattle.fx_winding.specs.Frames.{IsFrom, is_from, IsInFrame}
-use Rattle.fx_winding.specs.Bitmaps.{Bits, bit_of, IsScanOf}
+use Rattle.fx_winding.specs.Bitmaps.{Bits}
+use Rattle.fx_winding.specs.Frames.{IsFrom, IsInFrame}
 use Rattle.fx_winding.specs.Winding.{Span, IsCovered, centre}
-use Rattle.fx_winding.proofs.Grid.{from_true}
-use Rattle.fx_winding.proofs.Scanned.{from_is}
-use Rattle.fx_dropout.specs.inner.Lines.{AreClosed, IsRowClosed, AreRowsClosed, IsSoFar}
-use Rattle.fx_dropout.specs.inner.Turned.{seen_bit, IsSeenInFrame}
-
-same_or_not : (a b : ℤ) → (a ≡ b) ⊎ (a ≢ b)
-same_or_not a b = grind (arith, ints)
-
-both : {X Y Z : Type 0} → X ↔ Y → Y ↔ Z → X ↔ Z
-both h k = (λ x. k.0 (h.0 x), λ z. h.1 (k.1 z))
-
--- ---- a gap looks at its row alone
-pub gap_on_row : (ss : List Span) (S T : ℤ → ℤ → Type 0) (j : ℤ) → ((i : ℤ) → S i j ↔ T i j) → (i : ℤ) → IsGap ss S i j
-    → IsGap ss T i j
-gap_on_row ss S T j e i g =
-    record { here = λ t. g.here ((e i).1 t); next = λ t. g.next ((e (i +ℤ pos 1)).1 t); met = g.met }
-
-pub gap_at : {ss : List Span} {S : ℤ → ℤ → Type 0} {i j x y : ℤ} → i ≡ x → j ≡ y → IsGap ss S i j → IsGap ss S x y
-gap_at {ss} {S} ex ey g = subst (λ (p : ℤ × ℤ). IsGap ss S p.0 p.1) (λ k. (ex k, ey k)) g
+use Rattle.fx_dropout.specs.inner.Lines.{IsSoFar, AreClosed, IsRowClosed, AreRowsClosed, IsBridgedTo, IsCloser}
+use Rattle.fx_dropout.specs.inner.Turned.{seen_spans, IsSeenInFrame}
+use Rattle.fx_dropout.proofs.Segments.{same_or_not, both, gap_on_row, bridged_none, bridged_more, bridged_skip, bridged_all}
+use Rattle.fx_dropout.proofs.Segments.{closer_from}
+use Rattle.fx_dropout.proofs.SoFar.{from_or_not, so_far_decided}
 
 pub bridged_on_row : (ss : List Span) (In S T : ℤ → ℤ → Type 0) (j : ℤ) → ((i : ℤ) → S i j ↔ T i j) → (i : ℤ)
     → IsBridged ss In S i j → IsBridged ss In T i j
@@ -49,180 +34,75 @@ bridged_inside ss In To S e i j (inr b) = inr (record { inside = (e i j).0 b.ins
     by (inl g) = inl g
     by (inr (g, n)) = inr (g, λ h. n ((e (i -ℤ pos 1) j).1 h))
 
--- ---- from pixel to pixel of a row
-pub closed_none : (ss : List Span) (first : ℤ) (j : ℤ) (old : ℤ → ℤ → Type 0) → AreClosed ss first 0 j old old
-closed_none ss first j old = record { row = λ i. (λ t. inl t, λ t. back i t); others = λ i m n. (λ t. t, λ t. t) }
-  where
-    back : (i : ℤ) → old i j ⊎ (IsFrom first 0 i × IsGap ss old i j) → old i j
-    back i (inl t) = t
-    back i (inr (f, g)) = absurd (omega (arith, signed_linear, f.0, f.1))
+-- ---- a row of a frame
+pub row_of : (f : Frame) (j : ℤ) → IsFrom f.bottom f.height j → (i : ℤ) → IsInFrame f i j ↔ IsFrom f.left f.width i
+row_of f j r i = (λ h. h.column, λ c. record { column = c; row = r })
 
-pub closed_more : (ss : List Span) (first : ℤ) (k : ℕ) (j : ℤ) (old mid new : ℤ → ℤ → Type 0) (at : ℤ) → at ≡ first +ℤ pos k
-    → AreClosed ss first k j old mid → (new at j ↔ (mid at j ⊎ IsGap ss mid at j))
-    → ((m n : ℤ) → (m ≢ at) ⊎ (n ≢ j) → new m n ↔ mid m n) → AreClosed ss first (k + 1) j old new
-closed_more ss first k j old mid new at e a here others = record {
-  row = λ i. row i (same_or_not i at);
+pub closed_none : (ss : List Span) (f : Frame) (j : ℤ) (old : ℤ → ℤ → Type 0) → AreClosed ss f 0 j old old
+closed_none ss f j old =
+    record { row = λ i. bridged_none ss (IsInFrame f) old f.left i j; others = λ i m n. (λ t. t, λ t. t) }
+
+pub closed_more : (ss : List Span) (f : Frame) (k : ℕ) (j x at : ℤ) (old mid new : ℤ → ℤ → Type 0)
+    → IsFrom f.bottom f.height j → 0 < f.width → k ≤ f.width → x ≡ (f.left -ℤ pos 1) +ℤ pos k → IsCloser f.left x at
+    → mid at j ⊎ (¬ (mid at j)) → AreClosed ss f k j old mid → (new at j ↔ (mid at j ⊎ IsGap ss mid x j))
+    → ((m n : ℤ) → (m ≢ at) ⊎ (n ≢ j) → new m n ↔ mid m n) → AreClosed ss f (k + 1) j old new
+closed_more ss f k j x at old mid new r some high e closer decided a here others = record {
+  row = λ i. bridged_more ss (IsInFrame f) f.left f.width k j x at old mid new (row_of f j r) some high e closer decided a.row here
+      (λ i n. others i j (inl n)) i;
   others = λ i m n. both (others i m (inr n)) (a.others i m n);
 }
-  where
-    -- a pixel that is not yet reached is as it was
-    as_it_was : (i : ℤ) → ¬ (IsFrom first k i) → mid i j → old i j
-    as_it_was i n t = by ((a.row i).0 t)
-      where
-        by : old i j ⊎ (IsFrom first k i × IsGap ss old i j) → old i j
-        by (inl o) = o
-        by (inr (f, g)) = absurd (n f)
 
-    here_not : ¬ (IsFrom first k at)
-    here_not f = omega (arith, signed_linear, f.1, e)
-
-    next_not : ¬ (IsFrom first k (at +ℤ pos 1))
-    next_not f = omega (arith, signed_linear, f.1, e)
-
-    gap_from : IsGap ss mid at j → IsGap ss old at j
-    gap_from g = record {
-      here = λ o. g.here ((a.row at).1 (inl o));
-      next = λ o. g.next ((a.row (at +ℤ pos 1)).1 (inl o));
-      met = g.met;
+pub closed_skip : (ss : List Span) (f : Frame) (k m : ℕ) (j : ℤ) (old new : ℤ → ℤ → Type 0)
+    → IsFrom f.bottom f.height j → 0 < f.width → k ≤ m → m ≤ f.width + 1
+    → ((i : ℤ) → IsInFrame f i j → new i j ⊎ (¬ (new i j)))
+    → ((n : ℕ) → k ≤ n → n < m → ¬ (IsGap ss new ((f.left -ℤ pos 1) +ℤ pos n) j)) → AreClosed ss f k j old new
+    → AreClosed ss f m j old new
+closed_skip ss f k m j old new r some low high decided none a =
+    let e : k + (m - k) ≡ m = omega (arith, low) in
+    record {
+      row = λ i. subst (λ (n : ℕ). new i j ↔ IsBridgedTo ss (IsInFrame f) old f.left n i j) e
+          (bridged_skip ss (IsInFrame f) f.left f.width k (m - k) j old new (row_of f j r) some (omega (arith, low, high)) decided
+          (λ n l h. none n l (omega (arith, h, low))) a.row i);
+      others = a.others;
     }
 
-    gap_to : IsGap ss old at j → IsGap ss mid at j
-    gap_to g = record {
-      here = λ o. g.here (as_it_was at here_not o);
-      next = λ o. g.next (as_it_was (at +ℤ pos 1) next_not o);
-      met = g.met;
-    }
-
-    set_here : mid at j ⊎ IsGap ss mid at j → old at j ⊎ (IsFrom first (k + 1) at × IsGap ss old at j)
-    set_here (inl m) = inl (as_it_was at here_not m)
-    set_here (inr g) = inr ((omega (arith, signed_linear, e), omega (arith, signed_linear, e)), gap_from g)
-
-    was_here : old at j ⊎ (IsFrom first (k + 1) at × IsGap ss old at j) → mid at j ⊎ IsGap ss mid at j
-    was_here (inl o) = inl ((a.row at).1 (inl o))
-    was_here (inr (f, g)) = inr (gap_to g)
-
-    wider : (i : ℤ) → old i j ⊎ (IsFrom first k i × IsGap ss old i j)
-        → old i j ⊎ (IsFrom first (k + 1) i × IsGap ss old i j)
-    wider i (inl o) = inl o
-    wider i (inr (f, g)) = inr ((f.0, omega (arith, signed_linear, f.1)), g)
-
-    narrower : (i : ℤ) → i ≢ at → old i j ⊎ (IsFrom first (k + 1) i × IsGap ss old i j)
-        → old i j ⊎ (IsFrom first k i × IsGap ss old i j)
-    narrower i n (inl o) = inl o
-    narrower i n (inr (f, g)) = inr ((f.0, omega (arith, signed_linear, f.1, n, e)), g)
-
-    row : (i : ℤ) → (i ≡ at) ⊎ (i ≢ at)
-        → new i j ↔ (old i j ⊎ (IsFrom first (k + 1) i × IsGap ss old i j))
-    row i (inl s) =
-        subst (λ i. new i j ↔ (old i j ⊎ (IsFrom first (k + 1) i × IsGap ss old i j))) (sym s)
-        (λ t. set_here (here.0 t), λ t. here.1 (was_here t))
-    row i (inr n) = (
-      λ t. wider i ((a.row i).0 ((others i j (inl n)).0 t)),
-      λ t. (others i j (inl n)).1 ((a.row i).1 (narrower i n t)),
-    )
-
--- ---- the gap before the first pixel of a row, last
-pub row_closed : (ss : List Span) (f : Frame) (j : ℤ) (old mid new : ℤ → ℤ → Type 0) (before : ℤ) → before ≡ f.left -ℤ pos 1
-    → 0 < f.width → IsFrom f.bottom f.height j → AreClosed ss f.left f.width j old mid
-    → mid f.left j ⊎ (¬ (mid f.left j))
-    → (new f.left j ↔ (mid f.left j ⊎ IsGap ss mid before j))
-    → ((m n : ℤ) → (m ≢ f.left) ⊎ (n ≢ j) → new m n ↔ mid m n) → IsRowClosed ss f j old new
-row_closed ss f j old mid new before e w r a decided here others = record {
-  row = λ i. row i (same_or_not i f.left);
-  others = λ i m n. both (others i m (inr n)) (a.others i m n);
+pub closed_all : (ss : List Span) (f : Frame) (k : ℕ) (j : ℤ) (old new : ℤ → ℤ → Type 0) → k ≡ f.width + 1
+    → AreClosed ss f k j old new → IsRowClosed ss f j old new
+closed_all ss f k j old new e a = record {
+  row = λ i.
+      let all = bridged_all ss (IsInFrame f) old f.left f.width i j (λ h. h.column) in
+      let done = subst (λ (n : ℕ). new i j ↔ IsBridgedTo ss (IsInFrame f) old f.left n i j) e (a.row i) in
+      both done all;
+  others = a.others;
 }
-  where
-    first : IsInFrame f f.left j
-    first = record { column = (omega (arith, signed_linear), omega (arith, signed_linear, w)); row = r }
 
-    outside : ¬ (IsInFrame f (f.left -ℤ pos 1) j)
-    outside h = omega (arith, signed_linear, h.column.0)
-
-    from_mid : (i : ℤ) → old i j ⊎ (IsFrom f.left f.width i × IsGap ss old i j)
-        → IsBridged ss (IsInFrame f) old i j
-    from_mid i (inl o) = inl o
-    from_mid i (inr (c, g)) = inr (record { inside = record { column = c; row = r }; gap = inl g })
-
-    gap_from : IsGap ss mid before j → IsGap ss old (f.left -ℤ pos 1) j
-    gap_from g = subst (λ i. IsGap ss old i j) e (record {
-      here = λ o. g.here ((a.row before).1 (inl o));
-      next = λ o. g.next ((a.row (before +ℤ pos 1)).1 (inl o));
-      met = g.met;
-    })
-
-    set_here : mid f.left j ⊎ IsGap ss mid before j → IsBridged ss (IsInFrame f) old f.left j
-    set_here (inl m) = from_mid f.left ((a.row f.left).0 m)
-    set_here (inr g) = inr (record { inside = first; gap = inr (gap_from g, outside) })
-
-    before_as_it_was : mid (f.left -ℤ pos 1) j → old (f.left -ℤ pos 1) j
-    before_as_it_was t = by ((a.row (f.left -ℤ pos 1)).0 t)
-      where
-        by : old (f.left -ℤ pos 1) j ⊎ (IsFrom f.left f.width (f.left -ℤ pos 1) × IsGap ss old (f.left -ℤ pos 1) j)
-            → old (f.left -ℤ pos 1) j
-        by (inl o) = o
-        by (inr (c, g)) = absurd (omega (arith, signed_linear, c.0))
-
-    next_is : (f.left -ℤ pos 1) +ℤ pos 1 ≡ f.left
-    next_is = omega (arith, signed_linear)
-
-    gap_to : ¬ (mid f.left j) → IsGap ss old (f.left -ℤ pos 1) j → IsGap ss mid before j
-    gap_to h g = subst (λ i. IsGap ss mid i j) (sym e) (record {
-      here = λ t. g.here (before_as_it_was t);
-      next = λ t. h (subst (λ i. mid i j) next_is t);
-      met = g.met;
-    })
-
-    by_gap : mid f.left j ⊎ (¬ (mid f.left j)) → IsGap ss old (f.left -ℤ pos 1) j → mid f.left j ⊎ IsGap ss mid before j
-    by_gap (inl h) g = inl h
-    by_gap (inr h) g = inr (gap_to h g)
-
-    was_here : IsBridged ss (IsInFrame f) old f.left j → mid f.left j ⊎ IsGap ss mid before j
-    was_here (inl o) = inl ((a.row f.left).1 (inl o))
-    was_here (inr b) = by b.gap
-      where
-        by : IsGap ss old f.left j ⊎ (IsGap ss old (f.left -ℤ pos 1) j × ¬ (IsInFrame f (f.left -ℤ pos 1) j))
-            → mid f.left j ⊎ IsGap ss mid before j
-        by (inl g) = inl ((a.row f.left).1 (inr (b.inside.column, g)))
-        by (inr (g, n)) = by_gap decided g
-
-    to_mid : (i : ℤ) → i ≢ f.left → IsBridged ss (IsInFrame f) old i j
-        → old i j ⊎ (IsFrom f.left f.width i × IsGap ss old i j)
-    to_mid i n (inl o) = inl o
-    to_mid i n (inr b) = by b.gap
-      where
-        by : IsGap ss old i j ⊎ (IsGap ss old (i -ℤ pos 1) j × ¬ (IsInFrame f (i -ℤ pos 1) j))
-            → old i j ⊎ (IsFrom f.left f.width i × IsGap ss old i j)
-        by (inl g) = inr (b.inside.column, g)
-        by (inr (g, o)) = absurd (o (record {
-          column = (
-            omega (arith, signed_linear, b.inside.column.0, n),
-            omega (arith, signed_linear, b.inside.column.1),
-          );
-          row = r;
-        }))
-
-    row : (i : ℤ) → (i ≡ f.left) ⊎ (i ≢ f.left) → new i j ↔ IsBridged ss (IsInFrame f) old i j
-    row i (inl s) =
-        subst (λ i. new i j ↔ IsBridged ss (IsInFrame f) old i j) (sym s)
-        (λ t. set_here (here.0 t), λ t. here.1 (was_here t))
-    row i (inr n) = (
-      λ t. from_mid i ((a.row i).0 ((others i j (inl n)).0 t)),
-      λ t. (others i j (inl n)).1 ((a.row i).1 (to_mid i n t)),
-    )
+-- the same of a bitmap
+pub row_step : (turned : Bool) (ss : List Span) (f g h : Frame) (b mid new : Bits) (k : ℕ) (j x at : ℤ) → h ≡ g
+    → ((m n : ℤ) → IsInFrame f m n ↔ IsSeenInFrame turned g m n) → IsFrom f.bottom f.height j → 0 < f.width → k ≤ f.width
+    → x ≡ (f.left -ℤ pos 1) +ℤ pos k → IsCloser f.left x at
+    → AreClosed (seen_spans turned ss) f k j (IsSoFar turned ss g b) (IsSoFar turned ss g mid)
+    → (IsSoFar turned ss h new at j ↔ (IsSoFar turned ss h mid at j ⊎ IsGap (seen_spans turned ss) (IsSoFar turned ss h mid) x j))
+    → ((m n : ℤ) → (m ≢ at) ⊎ (n ≢ j) → IsSoFar turned ss h new m n ↔ IsSoFar turned ss h mid m n)
+    → AreClosed (seen_spans turned ss) f (k + 1) j (IsSoFar turned ss g b) (IsSoFar turned ss g new)
+row_step turned ss f g h b mid new k j x at same seen r some high e closer a here others =
+    let inside : IsInFrame f at j = record { column = closer_from f.left f.width k x at some high e closer; row = r } in
+    closed_more (seen_spans turned ss) f k j x at (IsSoFar turned ss g b) (IsSoFar turned ss g mid) (IsSoFar turned ss g new)
+    r some high e closer (so_far_decided turned ss g mid at j ((seen at j).0 inside)) a
+    (subst (λ (g : Frame). IsSoFar turned ss g new at j ↔ (IsSoFar turned ss g mid at j ⊎
+    IsGap (seen_spans turned ss) (IsSoFar turned ss g mid) x j)) same here)
+    (subst (λ (g : Frame). (m n : ℤ) → (m ≢ at) ⊎ (n ≢ j) → IsSoFar turned ss g new m n ↔ IsSoFar turned ss g mid m n) same others)
 
 -- a frame without columns has no gap to close
-pub empty_row_closed : (ss : List Span) (f : Frame) (j : ℤ) (count : ℕ) (old new : ℤ → ℤ → Type 0) → f.width ≡ 0 → count ≡ 0
-    → AreClosed ss f.left count j old new → IsRowClosed ss f j old new
-empty_row_closed ss f j count old new e z a =
-    record { row = λ i. (λ t. to i ((a.row i).0 t), λ b. (a.row i).1 (from i b)); others = a.others }
-  where
-    to : (i : ℤ) → old i j ⊎ (IsFrom f.left count i × IsGap ss old i j) → IsBridged ss (IsInFrame f) old i j
-    to i (inl o) = inl o
-    to i (inr (c, g)) = absurd (omega (arith, signed_linear, c.0, c.1, z))
+pub narrow : (f : Frame) (i j : ℤ) → f.width ≡ 0 → ¬ (IsInFrame f i j)
+narrow f i j e h = omega (arith, signed_linear, h.column.0, h.column.1, e)
 
-    from : (i : ℤ) → IsBridged ss (IsInFrame f) old i j → old i j ⊎ (IsFrom f.left count i × IsGap ss old i j)
-    from i (inl o) = inl o
-    from i (inr b) = absurd (omega (arith, signed_linear, b.inside.column.0, b.inside.column.1, e))
+pub narrow_closed : (ss : List Span) (In : ℤ → ℤ → Type 0) (old : ℤ → ℤ → Type 0) → ((i j : ℤ) → ¬ (In i j)) → (i j : ℤ)
+    → old i j ↔ IsBridged ss In old i j
+narrow_closed ss In old none i j = (λ o. inl o, λ b. by b)
+  where
+    by : IsBridged ss In old i j → old i j
+    by (inl o) = o
+    by (inr b) = absurd (none i j b.inside)
 
 -- ---- from row to row
 pub rows_none : (ss : List Span) (f : Frame) (old : ℤ → ℤ → Type 0) → AreRowsClosed ss f 0 old old
@@ -260,23 +140,46 @@ rows_more ss f up old mid new at e a c = record {
         let k = a.rows i j (h.0, omega (arith, signed_linear, h.1, n, e)) in
         (λ t. k.0 ((c.others i j n).0 t), λ b. (c.others i j n).1 (k.1 b))
 
+-- rows in which there is no gap
+rows_same : (ss : List Span) (f : Frame) (k d : ℕ) (old new : ℤ → ℤ → Type 0) → 0 < f.width → k + d ≤ f.height
+    → ((i j : ℤ) → IsInFrame f i j → new i j ⊎ (¬ (new i j)))
+    → ((r n : ℕ) → k ≤ r → r < k + d → n ≤ f.width → ¬ (IsGap ss new ((f.left -ℤ pos 1) +ℤ pos n) (f.bottom +ℤ pos r)))
+    → AreRowsClosed ss f k old new → AreRowsClosed ss f (k + d) old new
+rows_same ss f k zero old new some high decided none a =
+    let e : k + 0 ≡ k = omega arith in subst (λ (m : ℕ). AreRowsClosed ss f m old new) (sym e) a
+rows_same ss f k (suc d) old new some high decided none a =
+    let e : k + suc d ≡ (k + d) + 1 = omega arith in
+    let j = f.bottom +ℤ pos (k + d) in
+    let row = closed_skip ss f 0 (f.width + 1) j new new
+    (omega (arith, signed_linear), omega (arith, signed_linear, high)) some (omega arith) (omega arith) (λ i. decided i j)
+    (λ n l m. none (k + d) n (omega arith) (omega arith) (omega (arith, m))) (closed_none ss f j new) in
+    subst (λ (m : ℕ). AreRowsClosed ss f m old new) (sym e)
+    (rows_more ss f (k + d) old new new j (λ t. j)
+    (rows_same ss f k d old new some (omega (arith, high)) decided (λ r n l m. none r n l (omega (arith, m))) a)
+    (closed_all ss f (f.width + 1) j new new (λ t. f.width + 1) row))
+
+pub rows_skip : (ss : List Span) (f : Frame) (k m : ℕ) (old new : ℤ → ℤ → Type 0) → 0 < f.width → k ≤ m → m ≤ f.height
+    → ((i j : ℤ) → IsInFrame f i j → new i j ⊎ (¬ (new i j)))
+    → ((r n : ℕ) → k ≤ r → r < m → n ≤ f.width → ¬ (IsGap ss new ((f.left -ℤ pos 1) +ℤ pos n) (f.bottom +ℤ pos r)))
+    → AreRowsClosed ss f k old new → AreRowsClosed ss f m old new
+rows_skip ss f k m old new some low high decided none a =
+    let e : k + (m - k) ≡ m = omega (arith, low) in
+    subst (λ (n : ℕ). AreRowsClosed ss f n old new) e
+    (rows_same ss f k (m - k) old new some (omega (arith, low, high)) decided
+    (λ r n l h. none r n l (omega (arith, h, low))) a)
+
 pub rows_all : (ss : List Span) (f : Frame) (done : ℕ) (old new : ℤ → ℤ → Type 0) → done ≡ f.height
     → AreRowsClosed ss f done old new
     → (i j : ℤ) → new i j ↔ IsBridged ss (IsInFrame f) old i j
-rows_all ss f done old new e a i j = by (is_from f.bottom done j) refl
+rows_all ss f done old new e a i j = by (from_or_not f.bottom done j)
   where
-    clash : {b : Bool} → b ≡ false → b ≡ true → ⊥
-    clash h t = cc
+    only : ¬ (IsFrom f.bottom done j) → IsBridged ss (IsInFrame f) old i j → old i j
+    only n (inl o) = o
+    only n (inr b) = absurd (n (b.inside.row.0, omega (arith, signed_linear, b.inside.row.1, e)))
 
-    by : (b : Bool) → is_from f.bottom done j ≡ b → new i j ↔ IsBridged ss (IsInFrame f) old i j
-    by true h = a.rows i j (from_true f.bottom done j h)
-    by false h =
-        let same = a.others i j (λ k. clash h (from_is f.bottom done j k)) in
-        (λ t. inl (same.0 t), λ b. same.1 (only b))
-      where
-        only : IsBridged ss (IsInFrame f) old i j → old i j
-        only (inl o) = o
-        only (inr b) = absurd (clash h (from_is f.bottom done j (b.inside.row.0, omega (arith, signed_linear, b.inside.row.1, e))))
+    by : IsFrom f.bottom done j ⊎ (¬ (IsFrom f.bottom done j)) → new i j ↔ IsBridged ss (IsInFrame f) old i j
+    by (inl h) = a.rows i j h
+    by (inr n) = let same = a.others i j n in (λ t. inl (same.0 t), λ b. same.1 (only n b))
 
 -- ---- the rows, and then the columns, seen as rows
 pub columns_after_rows : (ss : List Span) (f : Frame) (scanned rows set : ℤ → ℤ → Type 0)
@@ -302,104 +205,3 @@ columns_after_rows ss f scanned rows set covered bridged columns i j = (
       λ s. (bridged i j).1 (bridged_on_row ss (IsInFrame f) (λ i j. IsCovered (centre i j) ss) scanned j
           (λ i. ((covered i j).1, (covered i j).0)) i s),
     )
-
--- ---- the bitmap's bits, and what is covered outside its frame
-pub in_frame_or_not : (f : Frame) (i j : ℤ) → IsInFrame f i j ⊎ (¬ (IsInFrame f i j))
-in_frame_or_not f i j = by (is_from f.left f.width i) (is_from f.bottom f.height j) refl refl
-  where
-    clash : {b : Bool} → b ≡ false → b ≡ true → ⊥
-    clash h t = cc
-
-    by : (x y : Bool) → is_from f.left f.width i ≡ x → is_from f.bottom f.height j ≡ y → IsInFrame f i j ⊎ (¬ (IsInFrame f i j))
-    by true true ex ey = inl (record {
-      column = from_true f.left f.width i ex;
-      row = from_true f.bottom f.height j ey;
-    })
-    by true false ex ey = inr (λ h. clash ey (from_is f.bottom f.height j h.row))
-    by false y ex ey = inr (λ h. clash ex (from_is f.left f.width i h.column))
-
-bit_in_frame : (b : Bits) (i j : ℤ) → IsTrue (bit_of b i j) → IsInFrame b.frame i j
-bit_in_frame b i j t = by (is_from b.frame.left b.frame.width i) (is_from b.frame.bottom b.frame.height j) refl refl
-  where
-    clash : false ≡ true → ⊥
-    clash e = cc
-
-    by : (x y : Bool) → is_from b.frame.left b.frame.width i ≡ x → is_from b.frame.bottom b.frame.height j ≡ y
-        → IsInFrame b.frame i j
-    by true true ex ey = record {
-      column = from_true b.frame.left b.frame.width i ex;
-      row = from_true b.frame.bottom b.frame.height j ey;
-    }
-    by true false ex ey = absurd (clash (rw (ex, ey) at t))
-    by false y ex ey = absurd (clash (rw (ex) at t))
-
--- a scan knows which pixels are covered
-pub scan_so_far : (ss : List Span) (f : Frame) (b : Bits) → IsScanOf f ss b → (i j : ℤ)
-    → IsSoFar false ss f b i j ↔ IsCovered (centre i j) ss
-scan_so_far ss f b s i j = (λ t. to t, λ c. from c (in_frame_or_not f i j))
-  where
-    to : IsSoFar false ss f b i j → IsCovered (centre i j) ss
-    to (inl t) = (s.bits i j (subst (λ g. IsInFrame g i j) s.same (bit_in_frame b i j t))).0 t
-    to (inr (n, c)) = c
-
-    from : IsCovered (centre i j) ss → IsInFrame f i j ⊎ (¬ (IsInFrame f i j)) → IsSoFar false ss f b i j
-    from c (inl h) = inl ((s.bits i j h).1 c)
-    from c (inr n) = inr (n, c)
-
--- in the frame the bits alone tell what is set
-pub so_far_in_frame : (ss : List Span) (f : Frame) (b : Bits) (i j : ℤ) → IsInFrame f i j → IsSoFar false ss f b i j
-    → IsTrue (bit_of b i j)
-so_far_in_frame ss f b i j h (inl t) = t
-so_far_in_frame ss f b i j h (inr (n, c)) = absurd (n h)
-
-pub so_far_decided : (turned : Bool) (ss : List Span) (f : Frame) (b : Bits) (i j : ℤ) → IsSeenInFrame turned f i j
-    → IsSoFar turned ss f b i j ⊎ (¬ (IsSoFar turned ss f b i j))
-so_far_decided turned ss f b i j h = by (seen_bit turned b i j) refl
-  where
-    clash : {b : Bool} → b ≡ false → b ≡ true → ⊥
-    clash h t = cc
-
-    by : (bit : Bool) → seen_bit turned b i j ≡ bit → IsSoFar turned ss f b i j ⊎ (¬ (IsSoFar turned ss f b i j))
-    by true e = inl (inl e)
-    by false e = inr (λ s. not_set s)
-      where
-        not_set : IsSoFar turned ss f b i j → ⊥
-        not_set (inl t) = clash e t
-        not_set (inr (n, c)) = n h
-
-pub so_far_same : (turned : Bool) (ss : List Span) (f : Frame) (old new : Bits) (i j : ℤ)
-    → seen_bit turned new i j ≡ seen_bit turned old i j → IsSoFar turned ss f new i j ↔ IsSoFar turned ss f old i j
-so_far_same turned ss f old new i j e = (λ t. to t, λ t. from t)
-  where
-    to : IsSoFar turned ss f new i j → IsSoFar turned ss f old i j
-    to (inl t) = inl (sym e ∙ t)
-    to (inr k) = inr k
-
-    from : IsSoFar turned ss f old i j → IsSoFar turned ss f new i j
-    from (inl t) = inl (e ∙ t)
-    from (inr k) = inr k
-
-pub same_without : {X G : Type 0} → ¬ G → X ↔ (X ⊎ G)
-same_without {X} {G} n = (λ x. inl x, λ k. by k)
-  where
-    by : X ⊎ G → X
-    by (inl x) = x
-    by (inr g) = absurd (n g)
-
-pub open_when : {X : Type 0} (bit seen outside : Bool) → bit ≡ seen → bit ≡ false → (IsTrue outside ↔ X)
-    → IsTrue (not outside) ↔ (¬ (IsTrue seen ⊎ X))
-open_when {X} bit seen outside e f h = by outside refl
-  where
-    never : false ≡ true → ⊥
-    never e = cc
-
-    clash : {b : Bool} → b ≡ false → b ≡ true → ⊥
-    clash h t = cc
-
-    by : (r : Bool) → outside ≡ r → IsTrue (not r) ↔ (¬ (IsTrue seen ⊎ X))
-    by true k = (λ t. absurd (never t), λ n. absurd (n (inr (h.0 k))))
-    by false k = (λ t s. neither s, λ n. refl)
-      where
-        neither : IsTrue seen ⊎ X → ⊥
-        neither (inl t) = clash f (e ∙ t)
-        neither (inr x) = clash k (h.1 x)

@@ -1,137 +1,310 @@
--- Gaps at segments that are noted.
--- Serves `noted`.
-use Rattle.std.proofs.Common.{◌≡◌, ◌⊎◌, inl, inr, sym, subst, ℕ, ◌+◌, ◌-◌, ◌*◌, ◌<◌, ◌≤◌, ℤ, pos, ◌+ℤ◌, ◌-ℤ◌}
-use Rattle.std.proofs.Common.{Bool, true, false, List, length, map, All, Any, get_or, arith}
+-- Gaps of a row closed one after the other, in place.
+-- Serves rows, and columns seen as rows.
+use Rattle.std.proofs.Common.{◌≡◌, ◌≢◌, ◌⊎◌, ◌↔◌, inl, inr, sym, ◌∙◌, subst, ℕ, zero, suc, ◌+◌, ◌<◌, ◌≤◌, ℤ, pos, ◌+ℤ◌, ◌-ℤ◌}
+use Rattle.std.proofs.Common.{List, w32, to_z, of_z, arith}
+use Rattle.std.proofs.lemmas.Int.{ints}
 use Rattle.fx_fixed.proofs.Linear.{signed_linear}
 use Rattle.fx_fixed.proofs.Order.{below_or_not}
-use Rattle.fx_winding.specs.declared.frame.Frame.{Frame}
-use Rattle.fx_winding.specs.declared.point.Piece.{Piece}
-use Rattle.fx_winding.specs.Area.{Place}
-use Rattle.fx_winding.specs.Bitmaps.{words_for, word_bit}
-use Rattle.fx_winding.specs.Dropout.{IsGap}
-use Rattle.fx_winding.specs.Frames.{IsFrom, steps}
-use Rattle.fx_winding.specs.Meets.{IsMet}
-use Rattle.fx_winding.specs.Winding.{Span, span_of, centre, IsOn, IsCovered}
-use Rattle.fx_winding.proofs.Covers.{any_map}
-use Rattle.fx_winding.proofs.Grid.{row_fits}
-use Rattle.fx_winding.proofs.Scanned.{steps_back}
-use Rattle.fx_rows.specs.Notes.{segment_number, segment_end, AreNoted, HasRoom}
-use Rattle.fx_dropout.specs.inner.Lines.{AreClosed, AreRowsClosed, IsNotedRow, AreNotedRows}
-use Rattle.fx_dropout.specs.inner.Turned.{seen_span, seen_spans, seen_centre}
-use Rattle.fx_dropout.proofs.Exchanged.{on_turned}
-use Rattle.fx_dropout.proofs.Missed.{met_unseen}
-use Rattle.fx_dropout.proofs.Rows.{gap_on_row}
+use Rattle.fx_winding.specs.Dropout.{IsGap, IsBridged}
+use Rattle.fx_winding.specs.Frames.{IsFrom}
+use Rattle.fx_winding.specs.Limits.{IsSide}
+use Rattle.fx_winding.specs.Winding.{Span}
+use Rattle.fx_dropout.specs.inner.Lines.{IsBridgedTo, IsCloser}
 
--- ---- room for the bits of a frame's rows
-words_wide : (w : ℕ) → w ≤ 32 * words_for w
-words_wide w = omega arith
+pub same_or_not : (a b : ℤ) → (a ≡ b) ⊎ (a ≢ b)
+same_or_not a b = grind (arith, ints)
 
-pub number_in : (f : Frame) (n r k : ℕ) → n ≡ f.height * words_for f.width → r < f.height → k < f.width
-    → segment_number f r k < 32 * n
-number_in f n r k e l m = by (words_for f.width) (words_wide f.width) e
+pub both : {X Y Z : Type 0} → X ↔ Y → Y ↔ Z → X ↔ Z
+both h k = (λ x. k.0 (h.0 x), λ z. h.1 (k.1 z))
+
+-- ---- a gap looks at its row alone
+pub gap_on_row : (ss : List Span) (S T : ℤ → ℤ → Type 0) (j : ℤ) → ((i : ℤ) → S i j ↔ T i j) → (i : ℤ) → IsGap ss S i j
+    → IsGap ss T i j
+gap_on_row ss S T j e i g =
+    record { here = λ t. g.here ((e i).1 t); next = λ t. g.next ((e (i +ℤ pos 1)).1 t); met = g.met }
+
+pub gap_at : {ss : List Span} {S : ℤ → ℤ → Type 0} {i j x y : ℤ} → i ≡ x → j ≡ y → IsGap ss S i j → IsGap ss S x y
+gap_at {ss} {S} ex ey g = subst (λ (p : ℤ × ℤ). IsGap ss S p.0 p.1) (λ k. (ex k, ey k)) g
+
+pub same_without : {X G : Type 0} → ¬ G → X ↔ (X ⊎ G)
+same_without {X} {G} n = (λ x. inl x, λ k. by k)
   where
-    by : (q : ℕ) → f.width ≤ 32 * q → n ≡ f.height * q → r * (32 * q) + k < 32 * n
-    by q h e =
-        let rows = row_fits r f.height q l in
-        let at : r * (32 * q) ≡ 32 * (r * q) = grind arith in
-        omega (arith, rows, at, e, h, m)
+    by : X ⊎ G → X
+    by (inl x) = x
+    by (inr g) = absurd (n g)
 
-pub has_room : (f : Frame) (noted : List ℕ) → length noted ≡ f.height * words_for f.width → HasRoom f noted
-has_room f noted e r k l m = let h = number_in f (length noted) r k e l m in omega (arith, h)
+-- a gap was one before more was set in its row
+pub gap_before : (ss : List Span) (old mid : ℤ → ℤ → Type 0) (j : ℤ) → ((i : ℤ) → old i j → mid i j) → (i : ℤ) → IsGap ss mid i j
+    → IsGap ss old i j
+gap_before ss old mid j more i g =
+    record { here = λ o. g.here (more i o); next = λ o. g.next (more (i +ℤ pos 1) o); met = g.met }
 
--- ---- a place on a piece, seen as it is or with its coordinates exchanged, is covered
-on_seen : (turned : Bool) (i j : ℤ) (s : Span) → IsOn (centre i j) (seen_span turned s) → IsOn (seen_centre turned i j) s
-on_seen false i j s h = h
-on_seen true i j s h = on_turned (centre j i) s h
-
-on_covered : (p : Place) (ps : List Piece) → Any (λ s. IsOn p (span_of s)) ps → IsCovered p (map span_of ps)
-unfolding IsCovered
-on_covered p ps a = inl (any_map span_of (λ s. IsOn p (span_of s)) (IsOn p) (λ s h. h) ps a)
-
--- ---- what is a gap is noted
-pub gap_noted : (turned : Bool) (ps : List Piece) (w : Frame) (noted : List ℕ) (Old : ℤ → ℤ → Type 0) (r k : ℕ) (i j : ℤ)
-    → All (λ s. AreNoted (seen_span turned (span_of s)) w 0 w.height noted) ps
-    → ((i j : ℤ) → IsCovered (seen_centre turned i j) (map span_of ps) → Old i j)
-    → r < w.height → k + 1 < w.width → i ≡ w.left +ℤ pos k → j ≡ w.bottom +ℤ pos r
-    → IsGap (seen_spans turned (map span_of ps)) Old i j → word_bit noted (segment_number w r k) ≡ 1
-gap_noted turned ps w noted Old r k i j all covered l m ei ej g = by (met_unseen turned _ _ ps g.met)
+-- ---- from segment to segment of a row
+pub bridged_none : (ss : List Span) (In old : ℤ → ℤ → Type 0) (first i j : ℤ) → old i j ↔ IsBridgedTo ss In old first 0 i j
+bridged_none ss In old first i j = (λ o. inl o, λ b. back b)
   where
-    next : i +ℤ pos 1 ≡ w.left +ℤ pos (k + 1)
-    next = omega (arith, signed_linear, ei)
+    by : (IsFrom (first -ℤ pos 1) 0 i × IsGap ss old i j)
+        ⊎ (IsFrom (first -ℤ pos 1) 0 (i -ℤ pos 1) × (IsGap ss old (i -ℤ pos 1) j × ¬ (In (i -ℤ pos 1) j))) → old i j
+    by (inl (f, g)) = absurd (omega (arith, signed_linear, f.0, f.1))
+    by (inr (f, g)) = absurd (omega (arith, signed_linear, f.0, f.1))
 
-    here : centre i j ≡ segment_end w r k
-    here = λ t. centre (ei t) (ej t)
+    back : IsBridgedTo ss In old first 0 i j → old i j
+    back (inl o) = o
+    back (inr b) = by b.gap
 
-    there : centre (i +ℤ pos 1) j ≡ segment_end w r (k + 1)
-    there = λ t. centre (next t) (ej t)
-
-    off : (i : ℤ) → ¬ (Old i j) → (q : Place) → centre i j ≡ q → (n : ℕ) → (s : Piece) → n < length ps → get_or ps n s ≡ s
-        → ¬ (IsOn q (seen_span turned (span_of s)))
-    off i unset q e n s within is on =
-        unset (covered i j (on_covered (seen_centre turned i j) ps
-        (n, s, within, is, on_seen turned i j (span_of s) (subst (λ p. IsOn p (seen_span turned (span_of s))) (sym e) on))))
-
-    by : Any (λ s. IsMet (centre i j) (centre (i +ℤ pos 1) j) (seen_span turned (span_of s))) ps
-        → word_bit noted (segment_number w r k) ≡ 1
-    by (n, s, within, is, h) = (subst (λ (s : Piece). AreNoted (seen_span turned (span_of s)) w 0 w.height noted) is
-        (all n s within)).bits r k (omega arith) l m (record {
-          met = subst (λ (z : Place × Place). IsMet z.0 z.1 (seen_span turned (span_of s))) (λ t. (here t, there t)) h;
-          off_left = off i g.here (segment_end w r k) here n s within is;
-          off_right = off (i +ℤ pos 1) g.next (segment_end w r (k + 1)) there n s within is;
-        })
-
--- ---- segments that are not noted
-pub none_between : (ss : List Span) (f : Frame) (j : ℤ) (Old : ℤ → ℤ → Type 0) (noted : List ℕ) (first from to : ℕ)
-    → IsNotedRow ss f j Old noted first → to ≤ first + 1 + f.width → first + 1 ≤ from
-    → ((n : ℕ) → from ≤ n → n < to → word_bit noted n ≡ 0)
-    → (n : ℕ) → from - (first + 1) ≤ n → n < to - (first + 1) → ¬ (IsGap ss Old (f.left +ℤ pos n) j)
-none_between ss f j Old noted first from to h few low skipped n l m g =
-    let e : f.left +ℤ pos n ≡ (f.left -ℤ pos 1) +ℤ pos (n + 1) = omega (arith, signed_linear) in
-    let one = h (n + 1) (omega (arith, m, few)) (subst (λ i. IsGap ss Old i j) e g) in
-    let zero = skipped (first + (n + 1)) (omega (arith, l, low)) (omega (arith, m)) in
-    omega (arith, one, zero)
-
-pub closed_skip : (ss : List Span) (first : ℤ) (k m : ℕ) (j : ℤ) (old new : ℤ → ℤ → Type 0) → k ≤ m
-    → ((n : ℕ) → k ≤ n → n < m → ¬ (IsGap ss old (first +ℤ pos n) j)) → AreClosed ss first k j old new
-    → AreClosed ss first m j old new
-closed_skip ss first k m j old new l none a =
-    record { row = λ i. (λ t. wider i ((a.row i).0 t), λ t. (a.row i).1 (narrower i t)); others = a.others }
+pub bridged_wider : (ss : List Span) (In old : ℤ → ℤ → Type 0) (first : ℤ) (k : ℕ) (i j : ℤ) → IsBridgedTo ss In old first k i j
+    → IsBridgedTo ss In old first (k + 1) i j
+bridged_wider ss In old first k i j (inl o) = inl o
+bridged_wider ss In old first k i j (inr b) = inr (record { inside = b.inside; gap = by b.gap })
   where
-    wider : (i : ℤ) → old i j ⊎ (IsFrom first k i × IsGap ss old i j) → old i j ⊎ (IsFrom first m i × IsGap ss old i j)
-    wider i (inl o) = inl o
-    wider i (inr (f, g)) = inr ((f.0, omega (arith, signed_linear, f.1, l)), g)
+    by : (IsFrom (first -ℤ pos 1) k i × IsGap ss old i j)
+        ⊎ (IsFrom (first -ℤ pos 1) k (i -ℤ pos 1) × (IsGap ss old (i -ℤ pos 1) j × ¬ (In (i -ℤ pos 1) j)))
+        → (IsFrom (first -ℤ pos 1) (k + 1) i × IsGap ss old i j)
+        ⊎ (IsFrom (first -ℤ pos 1) (k + 1) (i -ℤ pos 1) × (IsGap ss old (i -ℤ pos 1) j × ¬ (In (i -ℤ pos 1) j)))
+    by (inl (f, g)) = inl ((f.0, omega (arith, signed_linear, f.1)), g)
+    by (inr (f, g)) = inr ((f.0, omega (arith, signed_linear, f.1)), g)
 
-    narrower : (i : ℤ) → old i j ⊎ (IsFrom first m i × IsGap ss old i j) → old i j ⊎ (IsFrom first k i × IsGap ss old i j)
-    narrower i (inl o) = inl o
-    narrower i (inr (f, g)) = by (below_or_not (steps first i) k)
+-- the gap before the first pixel, closed by that
+bridged_first : (ss : List Span) (In : ℤ → ℤ → Type 0) (first : ℤ) (count : ℕ) (j : ℤ) (old mid new : ℤ → ℤ → Type 0)
+    → ((i : ℤ) → In i j ↔ IsFrom first count i) → 0 < count → ((i : ℤ) → mid i j ↔ IsBridgedTo ss In old first 0 i j)
+    → (new first j ↔ (mid first j ⊎ IsGap ss mid (first -ℤ pos 1) j)) → ((i : ℤ) → i ≢ first → new i j ↔ mid i j)
+    → (i : ℤ) → new i j ↔ IsBridgedTo ss In old first 1 i j
+bridged_first ss In first count j old mid new is some a here others i = by (same_or_not i first)
+  where
+    was : (i : ℤ) → mid i j ↔ old i j
+    was i = let n = bridged_none ss In old first i j in (λ m. n.1 ((a i).0 m), λ o. (a i).1 (n.0 o))
+
+    inside : In first j
+    inside = (is first).1 (omega (arith, signed_linear), omega (arith, signed_linear, some))
+
+    outside : ¬ (In (first -ℤ pos 1) j)
+    outside h = omega (arith, signed_linear, ((is (first -ℤ pos 1)).0 h).0)
+
+    to : mid first j ⊎ IsGap ss mid (first -ℤ pos 1) j → IsBridgedTo ss In old first 1 first j
+    to (inl m) = inl ((was first).0 m)
+    to (inr g) = inr (record {
+      inside = inside;
+      gap = inr (
+        (omega (arith, signed_linear), omega (arith, signed_linear)),
+        (gap_on_row ss mid old j was (first -ℤ pos 1) g, outside),
+      );
+    })
+
+    from : IsBridgedTo ss In old first 1 first j → mid first j ⊎ IsGap ss mid (first -ℤ pos 1) j
+    from (inl o) = inl ((was first).1 o)
+    from (inr b) = by b.gap
       where
-        back : first +ℤ pos (steps first i) ≡ i
-        back = steps_back first m i f
+        by : (IsFrom (first -ℤ pos 1) 1 first × IsGap ss old first j)
+            ⊎ (IsFrom (first -ℤ pos 1) 1 (first -ℤ pos 1) × (IsGap ss old (first -ℤ pos 1) j × ¬ (In (first -ℤ pos 1) j)))
+            → mid first j ⊎ IsGap ss mid (first -ℤ pos 1) j
+        by (inl (f, g)) = absurd (omega (arith, signed_linear, f.1))
+        by (inr (f, (g, n))) = inr (gap_on_row ss old mid j (λ i. ((was i).1, (was i).0)) (first -ℤ pos 1) g)
 
-        by : (steps first i < k) ⊎ (k ≤ steps first i) → old i j ⊎ (IsFrom first k i × IsGap ss old i j)
-        by (inl h) = inr ((f.0, omega (arith, signed_linear, back, h)), g)
-        by (inr h) = absurd (none (steps first i) h (omega (arith, signed_linear, back, f.1))
-            (subst (λ i. IsGap ss old i j) (sym back) g))
+    narrower : (i : ℤ) → i ≢ first → IsBridgedTo ss In old first 1 i j → old i j
+    narrower i n (inl o) = o
+    narrower i n (inr b) = by b.gap
+      where
+        by : (IsFrom (first -ℤ pos 1) 1 i × IsGap ss old i j)
+            ⊎ (IsFrom (first -ℤ pos 1) 1 (i -ℤ pos 1) × (IsGap ss old (i -ℤ pos 1) j × ¬ (In (i -ℤ pos 1) j))) → old i j
+        by (inl (f, g)) = let l = ((is i).0 b.inside).0 in absurd (omega (arith, signed_linear, f.1, l))
+        by (inr (f, g)) = let l = ((is i).0 b.inside).0 in absurd (omega (arith, signed_linear, f.1, l, n))
 
--- the gap before the first pixel of a row whose other gaps are closed was one before
-pub first_gap : (ss : List Span) (f : Frame) (j : ℤ) (old mid : ℤ → ℤ → Type 0) (noted : List ℕ) (first : ℕ) (before : ℤ)
-    → before ≡ f.left -ℤ pos 1 → AreClosed ss f.left f.width j old mid → IsNotedRow ss f j old noted first
-    → IsGap ss mid before j → word_bit noted first ≡ 1
-first_gap ss f j old mid noted first before e a h g =
-    let i : before ≡ (f.left -ℤ pos 1) +ℤ pos 0 = omega (arith, signed_linear, e) in
-    let was : IsGap ss old before j = record {
-      here = λ o. g.here ((a.row before).1 (inl o));
-      next = λ o. g.next ((a.row (before +ℤ pos 1)).1 (inl o));
-      met = g.met;
-    } in
-    let n : first + 0 ≡ first = omega arith in
-    subst (λ (k : ℕ). word_bit noted k ≡ 1) n (h 0 (omega arith) (subst (λ (x : ℤ). IsGap ss old x j) i was))
+    by : (i ≡ first) ⊎ (i ≢ first) → new i j ↔ IsBridgedTo ss In old first 1 i j
+    by (inl e) = subst (λ i. new i j ↔ IsBridgedTo ss In old first 1 i j) (sym e) (λ t. to (here.0 t), λ b. here.1 (from b))
+    by (inr n) = (λ t. inl ((was i).0 ((others i n).0 t)), λ b. (others i n).1 ((was i).1 (narrower i n b)))
 
--- ---- a row whose gaps come next is as it was
-pub noted_next_row : (ss : List Span) (f : Frame) (up : ℕ) (old mid : ℤ → ℤ → Type 0) (noted : List ℕ) (at : ℤ) (first : ℕ)
-    → at ≡ f.bottom +ℤ pos up → up < f.height → first ≡ up * (32 * words_for (f.width + 2)) → AreRowsClosed ss f up old mid
-    → AreNotedRows ss f old noted → IsNotedRow ss f at mid noted first
-noted_next_row ss f up old mid noted at first e l n a h = λ k m g.
-    subst (λ (s : ℕ). word_bit noted (s + k) ≡ 1) (sym n)
-    (h up l k m (subst (λ (y : ℤ). IsGap ss old ((f.left -ℤ pos 1) +ℤ pos k) y) e
-    (gap_on_row ss mid old at (λ i. a.others i at (λ o. omega (arith, signed_linear, o.1, e))) ((f.left -ℤ pos 1) +ℤ pos k) g)))
+-- a later gap, closed by its left pixel; that may have closed the gap before it
+bridged_inner : (ss : List Span) (In : ℤ → ℤ → Type 0) (first : ℤ) (count k : ℕ) (j x : ℤ) (old mid new : ℤ → ℤ → Type 0)
+    → ((i : ℤ) → In i j ↔ IsFrom first count i) → 0 < k → k ≤ count → x ≡ (first -ℤ pos 1) +ℤ pos k
+    → mid x j ⊎ (¬ (mid x j)) → ((i : ℤ) → mid i j ↔ IsBridgedTo ss In old first k i j)
+    → (new x j ↔ (mid x j ⊎ IsGap ss mid x j)) → ((i : ℤ) → i ≢ x → new i j ↔ mid i j)
+    → (i : ℤ) → new i j ↔ IsBridgedTo ss In old first (k + 1) i j
+bridged_inner ss In first count k j x old mid new is low high e decided a here others i = by (same_or_not i x)
+  where
+    inside : In x j
+    inside = (is x).1 (omega (arith, signed_linear, e, low), omega (arith, signed_linear, e, high))
+
+    -- the pixel after x is as it was
+    next_was : IsBridgedTo ss In old first k (x +ℤ pos 1) j → old (x +ℤ pos 1) j
+    next_was (inl o) = o
+    next_was (inr b) = by b.gap
+      where
+        by : (IsFrom (first -ℤ pos 1) k (x +ℤ pos 1) × IsGap ss old (x +ℤ pos 1) j)
+            ⊎ (IsFrom (first -ℤ pos 1) k ((x +ℤ pos 1) -ℤ pos 1)
+            × (IsGap ss old ((x +ℤ pos 1) -ℤ pos 1) j × ¬ (In ((x +ℤ pos 1) -ℤ pos 1) j))) → old (x +ℤ pos 1) j
+        by (inl (f, g)) = absurd (omega (arith, signed_linear, f.1, e))
+        by (inr (f, g)) = absurd (omega (arith, signed_linear, f.1, e))
+
+    to : mid x j ⊎ IsGap ss mid x j → IsBridgedTo ss In old first (k + 1) x j
+    to (inl m) = bridged_wider ss In old first k x j ((a x).0 m)
+    to (inr g) = inr (record {
+      inside = inside;
+      gap = inl (
+        (omega (arith, signed_linear, e), omega (arith, signed_linear, e)),
+        gap_before ss old mid j (λ i o. (a i).1 (inl o)) x g,
+      );
+    })
+
+    -- a gap whose left pixel is not yet set is one still
+    still : ¬ (mid x j) → IsGap ss old x j → IsGap ss mid x j
+    still n g = record { here = n; next = λ m. g.next (next_was ((a (x +ℤ pos 1)).0 m)); met = g.met }
+
+    from : IsBridgedTo ss In old first (k + 1) x j → mid x j ⊎ IsGap ss mid x j
+    from (inl o) = inl ((a x).1 (inl o))
+    from (inr b) = by b.gap decided (same_or_not x first)
+      where
+        by : (IsFrom (first -ℤ pos 1) (k + 1) x × IsGap ss old x j)
+            ⊎ (IsFrom (first -ℤ pos 1) (k + 1) (x -ℤ pos 1) × (IsGap ss old (x -ℤ pos 1) j × ¬ (In (x -ℤ pos 1) j)))
+            → mid x j ⊎ (¬ (mid x j)) → (x ≡ first) ⊎ (x ≢ first) → mid x j ⊎ IsGap ss mid x j
+        by (inl (f, g)) (inl m) s = inl m
+        by (inl (f, g)) (inr n) s = inr (still n g)
+        by (inr (f, g)) d (inl s) = inl ((a x).1 (inr (record {
+          inside = inside;
+          gap = inr ((f.0, omega (arith, signed_linear, low, s)), g);
+        })))
+        by (inr (f, (g, n))) d (inr s) = absurd (n ((is (x -ℤ pos 1)).1 (
+          omega (arith, signed_linear, e, low, s),
+          omega (arith, signed_linear, e, high),
+        )))
+
+    narrower : (i : ℤ) → i ≢ x → IsBridgedTo ss In old first (k + 1) i j → IsBridgedTo ss In old first k i j
+    narrower i n (inl o) = inl o
+    narrower i n (inr b) = by b.gap (same_or_not (i -ℤ pos 1) x)
+      where
+        by : (IsFrom (first -ℤ pos 1) (k + 1) i × IsGap ss old i j)
+            ⊎ (IsFrom (first -ℤ pos 1) (k + 1) (i -ℤ pos 1) × (IsGap ss old (i -ℤ pos 1) j × ¬ (In (i -ℤ pos 1) j)))
+            → (i -ℤ pos 1 ≡ x) ⊎ (i -ℤ pos 1 ≢ x) → IsBridgedTo ss In old first k i j
+        by (inl (f, g)) s = inr (record { inside = b.inside; gap = inl ((f.0, omega (arith, signed_linear, f.1, e, n)), g) })
+        by (inr (f, (g, o))) (inl s) = absurd (o (subst (λ i. In i j) (sym s) inside))
+        by (inr (f, g)) (inr s) = inr (record { inside = b.inside; gap = inr ((f.0, omega (arith, signed_linear, f.1, e, s)), g) })
+
+    by : (i ≡ x) ⊎ (i ≢ x) → new i j ↔ IsBridgedTo ss In old first (k + 1) i j
+    by (inl s) =
+        subst (λ i. new i j ↔ IsBridgedTo ss In old first (k + 1) i j) (sym s) (λ t. to (here.0 t), λ b. here.1 (from b))
+    by (inr n) = (
+      λ t. bridged_wider ss In old first k i j ((a i).0 ((others i n).0 t)),
+      λ b. (others i n).1 ((a i).1 (narrower i n b)),
+    )
+
+-- one segment more: the gap there, if there is one, is closed
+pub bridged_more : (ss : List Span) (In : ℤ → ℤ → Type 0) (first : ℤ) (count k : ℕ) (j x at : ℤ) (old mid new : ℤ → ℤ → Type 0)
+    → ((i : ℤ) → In i j ↔ IsFrom first count i) → 0 < count → k ≤ count → x ≡ (first -ℤ pos 1) +ℤ pos k → IsCloser first x at
+    → mid at j ⊎ (¬ (mid at j)) → ((i : ℤ) → mid i j ↔ IsBridgedTo ss In old first k i j)
+    → (new at j ↔ (mid at j ⊎ IsGap ss mid x j)) → ((i : ℤ) → i ≢ at → new i j ↔ mid i j)
+    → (i : ℤ) → new i j ↔ IsBridgedTo ss In old first (k + 1) i j
+bridged_more ss In first count k j x at old mid new is some high e closer decided a here others i = by (below_or_not 0 k)
+  where
+    by : (0 < k) ⊎ (k ≤ 0) → new i j ↔ IsBridgedTo ss In old first (k + 1) i j
+    by (inl low) =
+        let s : at ≡ x = closer.inner (omega (arith, signed_linear, e, low)) in
+        bridged_inner ss In first count k j x old mid new is low high e
+        (subst (λ y. mid y j ⊎ (¬ (mid y j))) s decided) a
+        (subst (λ y. new y j ↔ (mid y j ⊎ IsGap ss mid x j)) s here)
+        (λ i n. others i (λ q. n (q ∙ s))) i
+    by (inr z) =
+        let none : k ≡ 0 = omega (arith, z) in
+        let before : x ≡ first -ℤ pos 1 = omega (arith, signed_linear, e, z) in
+        let outer = closer.outer (omega (arith, signed_linear, e, z)) in
+        let s : at ≡ first = omega (arith, signed_linear, outer, before) in
+        subst (λ (m : ℕ). new i j ↔ IsBridgedTo ss In old first (m + 1) i j) (sym none)
+        (bridged_first ss In first count j old mid new is some
+        (subst (λ (m : ℕ). (i : ℤ) → mid i j ↔ IsBridgedTo ss In old first m i j) none a)
+        (subst (λ (y : ℤ). new first j ↔ (mid first j ⊎ IsGap ss mid y j)) before
+        (subst (λ y. new y j ↔ (mid y j ⊎ IsGap ss mid x j)) s here))
+        (λ i n. others i (λ q. n (q ∙ s))) i)
+
+-- the pixel that closes a gap is one of the row
+pub closer_from : (first : ℤ) (count k : ℕ) (x at : ℤ) → 0 < count → k ≤ count → x ≡ (first -ℤ pos 1) +ℤ pos k → IsCloser first x at
+    → IsFrom first count at
+closer_from first count k x at some high e closer = by (below_or_not 0 k)
+  where
+    by : (0 < k) ⊎ (k ≤ 0) → IsFrom first count at
+    by (inl low) =
+        let s : at ≡ x = closer.inner (omega (arith, signed_linear, e, low)) in
+        (omega (arith, signed_linear, s, e, low), omega (arith, signed_linear, s, e, high))
+    by (inr none) =
+        let s : at ≡ x +ℤ pos 1 = closer.outer (omega (arith, signed_linear, e, none)) in
+        (omega (arith, signed_linear, s, e, none), omega (arith, signed_linear, s, e, none, some))
+
+-- the same as the code has it, where numbers of pixels have gone through words
+pub closer_made : (first : ℤ) (count k : ℕ) (x r : ℤ) → IsSide first count → 0 < count → k ≤ count → x ≡ (first -ℤ pos 1) +ℤ pos k
+    → IsCloser (to_z w32 (of_z w32 first)) x r
+    → IsCloser first x (to_z w32 (of_z w32 r)) × IsFrom first count (to_z w32 (of_z w32 r))
+closer_made first count k x r side some high e closer =
+    let from : to_z w32 (of_z w32 first) ≡ first = omega (arith, signed_linear, side.from, side.to) in
+    let made : IsCloser first x r = subst (λ (y : ℤ). IsCloser y x r) from closer in
+    let within = closer_from first count k x r some high e made in
+    let is : r ≡ to_z w32 (of_z w32 r) = omega (arith, signed_linear, within.0, within.1, side.from, side.to) in
+    (subst (IsCloser first x) is made, subst (IsFrom first count) is within)
+
+-- each segment has such a pixel
+pub closer_of : (first : ℤ) (count k : ℕ) (x : ℤ) → 0 < count → k ≤ count → x ≡ (first -ℤ pos 1) +ℤ pos k
+    → (at : ℤ) × IsCloser first x at × IsFrom first count at
+closer_of first count k x some high e = by (below_or_not 0 k)
+  where
+    by : (0 < k) ⊎ (k ≤ 0) → (at : ℤ) × IsCloser first x at × IsFrom first count at
+    by (inl low) = (
+      x,
+      record { inner = λ h. λ t. x; outer = λ h. absurd (omega (arith, signed_linear, h, e, low)) },
+      (omega (arith, signed_linear, e, low), omega (arith, signed_linear, e, high)),
+    )
+    by (inr none) = (
+      first,
+      record { inner = λ h. absurd (omega (arith, signed_linear, h, e, none)); outer = λ h. omega (arith, signed_linear, e, none) },
+      (omega (arith, signed_linear), omega (arith, signed_linear, some)),
+    )
+
+-- a segment more at which there is no gap
+bridged_same : (ss : List Span) (In : ℤ → ℤ → Type 0) (first : ℤ) (count k : ℕ) (j : ℤ) (old new : ℤ → ℤ → Type 0)
+    → ((i : ℤ) → In i j ↔ IsFrom first count i) → 0 < count → k ≤ count → ((i : ℤ) → In i j → new i j ⊎ (¬ (new i j)))
+    → ¬ (IsGap ss new ((first -ℤ pos 1) +ℤ pos k) j) → ((i : ℤ) → new i j ↔ IsBridgedTo ss In old first k i j)
+    → (i : ℤ) → new i j ↔ IsBridgedTo ss In old first (k + 1) i j
+bridged_same ss In first count k j old new is some high decided none a i =
+    by (closer_of first count k ((first -ℤ pos 1) +ℤ pos k) some high (λ t. (first -ℤ pos 1) +ℤ pos k))
+  where
+    by : (at : ℤ) × IsCloser first ((first -ℤ pos 1) +ℤ pos k) at × IsFrom first count at
+        → new i j ↔ IsBridgedTo ss In old first (k + 1) i j
+    by (at, c, f) = bridged_more ss In first count k j ((first -ℤ pos 1) +ℤ pos k) at old new new is some high
+        (λ t. (first -ℤ pos 1) +ℤ pos k) c (decided at ((is at).1 f)) a (same_without none) (λ i n. (λ t. t, λ t. t)) i
+
+-- segments at which there is no gap
+pub bridged_skip : (ss : List Span) (In : ℤ → ℤ → Type 0) (first : ℤ) (count k d : ℕ) (j : ℤ) (old new : ℤ → ℤ → Type 0)
+    → ((i : ℤ) → In i j ↔ IsFrom first count i) → 0 < count → k + d ≤ count + 1 → ((i : ℤ) → In i j → new i j ⊎ (¬ (new i j)))
+    → ((n : ℕ) → k ≤ n → n < k + d → ¬ (IsGap ss new ((first -ℤ pos 1) +ℤ pos n) j))
+    → ((i : ℤ) → new i j ↔ IsBridgedTo ss In old first k i j)
+    → (i : ℤ) → new i j ↔ IsBridgedTo ss In old first (k + d) i j
+bridged_skip ss In first count k zero j old new is some high decided none a i =
+    let e : k + 0 ≡ k = omega arith in
+    subst (λ (m : ℕ). new i j ↔ IsBridgedTo ss In old first m i j) (sym e) (a i)
+bridged_skip ss In first count k (suc d) j old new is some high decided none a i =
+    let e : k + suc d ≡ (k + d) + 1 = omega arith in
+    subst (λ (m : ℕ). new i j ↔ IsBridgedTo ss In old first m i j) (sym e)
+    (bridged_same ss In first count (k + d) j old new is some (omega (arith, high)) decided
+    (none (k + d) (omega arith) (omega arith))
+    (bridged_skip ss In first count k d j old new is some (omega (arith, high)) decided
+    (λ n l m. none n l (omega (arith, m))) a) i)
+
+-- all segments of a row
+pub bridged_all : (ss : List Span) (In : ℤ → ℤ → Type 0) (old : ℤ → ℤ → Type 0) (first : ℤ) (count : ℕ) (i j : ℤ)
+    → (In i j → IsFrom first count i) → IsBridgedTo ss In old first (count + 1) i j ↔ IsBridged ss In old i j
+bridged_all ss In old first count i j is = (λ b. to b, λ b. from b)
+  where
+    to : IsBridgedTo ss In old first (count + 1) i j → IsBridged ss In old i j
+    to (inl o) = inl o
+    to (inr b) = inr (record { inside = b.inside; gap = by b.gap })
+      where
+        by : (IsFrom (first -ℤ pos 1) (count + 1) i × IsGap ss old i j)
+            ⊎ (IsFrom (first -ℤ pos 1) (count + 1) (i -ℤ pos 1) × (IsGap ss old (i -ℤ pos 1) j × ¬ (In (i -ℤ pos 1) j)))
+            → IsGap ss old i j ⊎ (IsGap ss old (i -ℤ pos 1) j × ¬ (In (i -ℤ pos 1) j))
+        by (inl (f, g)) = inl g
+        by (inr (f, g)) = inr g
+
+    from : IsBridged ss In old i j → IsBridgedTo ss In old first (count + 1) i j
+    from (inl o) = inl o
+    from (inr b) = inr (record { inside = b.inside; gap = by (is b.inside) b.gap })
+      where
+        by : IsFrom first count i → IsGap ss old i j ⊎ (IsGap ss old (i -ℤ pos 1) j × ¬ (In (i -ℤ pos 1) j))
+            → (IsFrom (first -ℤ pos 1) (count + 1) i × IsGap ss old i j)
+            ⊎ (IsFrom (first -ℤ pos 1) (count + 1) (i -ℤ pos 1) × (IsGap ss old (i -ℤ pos 1) j × ¬ (In (i -ℤ pos 1) j)))
+        by f (inl g) = inl ((omega (arith, signed_linear, f.0), omega (arith, signed_linear, f.1)), g)
+        by f (inr g) = inr ((omega (arith, signed_linear, f.0), omega (arith, signed_linear, f.1)), g)

@@ -1,3 +1,4 @@
 -- What only private contracts cite.
 pub mod Turned
 pub mod Lines
+pub mod Words

@@ -1,17 +1,25 @@
 //! The gaps of rows and of columns closed, in place, by a look at each pair of neighbours.
 
-ghost use Rattle.std.specs.Prelude.{◌≡◌, ◌≢◌, ◌⊎◌, ◌↔◌, ◌<◌, IsTrue, ℤ, ◌+ℤ◌, ◌-ℤ◌, pos, map, true};
+ghost use Rattle.std.specs.Prelude.{◌≡◌, ◌≢◌, ◌⊎◌, ◌↔◌, ◌<◌, IsTrue, ℤ, ◌+ℤ◌, ◌≤ℤ◌, pos, map, true};
 ghost use Rattle.fx_winding.specs.Bitmaps.{bit_of, IsScanOf};
 ghost use Rattle.fx_winding.specs.Dropout.{IsGap, IsBridged, IsSet};
 ghost use Rattle.fx_winding.specs.Frames.{IsFrom, IsInFrame, HasMargin};
 ghost use Rattle.fx_winding.specs.Limits.{IsPixelNumber};
 ghost use Rattle.fx_winding.specs.Winding.{span_of};
-ghost use Rattle.fx_dropout.specs.inner.Lines.{IsSoFar, IsRowClosed};
+ghost use Rattle.fx_dropout.specs.inner.Lines.{IsSoFar, IsCloser, IsRowClosed};
 ghost use Rattle.fx_dropout.specs.inner.Turned.{seen_spans, IsSeenInFrame};
 
 use crate::gaps::is_gap;
 use crate::turned::{seen_frame, set};
 use fx_winding::{Bitmap, Frame, Pieces};
+
+/// The pixel that closes a gap: the left one, or the right one if that is the first of the frame.
+pub(crate) fn closer(i: i32, first: i32) -> i32
+    requires { first ≤ℤ (i +ℤ pos 1) }
+    ensures { IsCloser first i result }
+{
+    i.max(first)
+}
 
 /// Sets one of two neighbours, at `at`, if they are a gap: those in the columns i and i + 1.
 pub(crate) fn close_gap(turned: bool, pieces: &Pieces, bitmap: &mut Bitmap, i: i32, j: i32, at: i32)
@@ -36,6 +44,7 @@ pub(crate) fn close_gap(turned: bool, pieces: &Pieces, bitmap: &mut Bitmap, i: i
 /// Closes the gaps of a row of the frame, from left to right: each by its left pixel, and the one before the first pixel by that.
 fn close_row(turned: bool, pieces: &Pieces, frame: Frame, bitmap: &mut Bitmap, j: i32)
     requires margin { HasMargin frame }
+    requires some { 0 < frame.width }
     requires row { IsFrom frame.bottom frame.height j }
     requires seen { (m n : ℤ) → IsInFrame frame m n ↔ IsSeenInFrame turned bitmap.old.frame m n }
     ensures frame { bitmap.new.frame ≡ bitmap.old.frame }
@@ -43,19 +52,16 @@ fn close_row(turned: bool, pieces: &Pieces, frame: Frame, bitmap: &mut Bitmap, j
         (IsSoFar turned (map span_of pieces.now) bitmap.old.frame bitmap.old)
         (IsSoFar turned (map span_of pieces.now) bitmap.old.frame bitmap.new) }
 {
-    // The gaps to the right of the pixels before k are closed. The pixels from k on are as they were: closing a gap sets its left
-    // pixel alone, and no later gap has that pixel.
-    'pixels: for k in 0..frame.width {
-        let i = frame.left + k as i32;
-        close_gap(turned, pieces, bitmap, i, j, i);
-    }
-    if frame.width > 0 {
-        close_gap(turned, pieces, bitmap, frame.left - 1, j, frame.left);
+    // The gaps among the first k segments are closed. The pixels of later gaps are as they were, but for the first pixel, which
+    // closes the first two gaps.
+    'segments: for k in 0..frame.width + 1 {
+        let i = frame.left - 1 + k as i32;
+        close_gap(turned, pieces, bitmap, i, j, closer(i, frame.left));
     }
 }
 
 /// Closes the gaps of all rows of the frame, or of its columns, seen as rows.
-pub(crate) fn close_rows(turned: bool, pieces: &Pieces, bitmap: &mut Bitmap)
+fn close_rows(turned: bool, pieces: &Pieces, bitmap: &mut Bitmap)
     requires margin { HasMargin bitmap.old.frame }
     ensures frame { bitmap.new.frame ≡ bitmap.old.frame }
     ensures closed { (i j : ℤ) → IsSoFar turned (map span_of pieces.now) bitmap.old.frame bitmap.new i j ↔
@@ -63,6 +69,9 @@ pub(crate) fn close_rows(turned: bool, pieces: &Pieces, bitmap: &mut Bitmap)
         (IsSoFar turned (map span_of pieces.now) bitmap.old.frame bitmap.old) i j }
 {
     let frame = seen_frame(turned, bitmap.frame());
+    if frame.width == 0 {
+        return;
+    }
     // The gaps of the rows before `up` are closed, and the others are as they were.
     'rows: for up in 0..frame.height {
         close_row(turned, pieces, frame, bitmap, frame.bottom + up as i32);
@@ -70,7 +79,7 @@ pub(crate) fn close_rows(turned: bool, pieces: &Pieces, bitmap: &mut Bitmap)
 }
 
 /// Closes the gaps of the rows, and then those that are left in the columns, as `close_gaps` does, but looks at each pair of
-/// neighbours. It takes no memory.
+/// neighbours.
 pub fn close_gaps_plainly(pieces: &Pieces, bitmap: &mut Bitmap)
     requires margin { HasMargin bitmap.old.frame }
     requires scanned { IsScanOf bitmap.old.frame (map span_of pieces.now) bitmap.old }

@@ -8,7 +8,8 @@ ghost use Rattle.fx_winding.specs.Meets.{IsMet};
 ghost use Rattle.fx_winding.specs.Outside.{HasAll};
 ghost use Rattle.fx_winding.specs.Winding.{place_of, span_of, centre as centre_of, IsCovered};
 ghost use Rattle.fx_dropout.specs.inner.Lines.{IsSoFar};
-ghost use Rattle.fx_dropout.specs.inner.Turned.{seen_spans, seen_centre, IsSeenInFrame};
+ghost use Rattle.fx_winding.specs.Dropout.{turned_span};
+ghost use Rattle.fx_dropout.specs.inner.Turned.{seen_span, seen_spans, seen_centre, IsSeenInFrame, IsBeside, IsAside};
 
 use crate::turned::{is_set, seen_piece};
 use fx_winding::{Bitmap, Frame, Piece, Pieces, Point, Tally, covered, meets};
@@ -57,22 +58,130 @@ fn is_below(piece: &Piece, y: i32) -> bool
     }
 }
 
-/// Whether a piece meets the segment from the centre of a pixel to that of its right neighbour. Most pieces lie above or below.
+/// Whether all points of a piece lie right of a column's centres.
+fn is_right(piece: &Piece, x: i32) -> bool
+    ensures { IsTrue result → HasAll (λ e. x <ℤ e.x) (span_of piece.now) }
+{
+    if piece.a.x <= x {
+        return false;
+    }
+    if piece.c.x <= x {
+        return false;
+    }
+    match piece.b {
+        None => true,
+        Some(b) => b.x > x,
+    }
+}
+
+/// Whether all points of a piece lie left of a column's centres.
+fn is_left(piece: &Piece, x: i32) -> bool
+    ensures { IsTrue result → HasAll (λ e. e.x <ℤ x) (span_of piece.now) }
+{
+    if piece.a.x >= x {
+        return false;
+    }
+    if piece.c.x >= x {
+        return false;
+    }
+    match piece.b {
+        None => true,
+        Some(b) => b.x < x,
+    }
+}
+
+/// Whether a piece lies beside a row of centres: above it or below it.
+fn is_beside_row(piece: &Piece, y: i32) -> bool
+    ensures { IsTrue result → IsBeside y (span_of piece.now) }
+{
+    if is_above(piece, y) {
+        return true;
+    }
+    is_below(piece, y)
+}
+
+/// Whether a piece with its coordinates exchanged lies beside a row of centres.
+fn is_beside_column(piece: &Piece, x: i32) -> bool
+    ensures { IsTrue result → IsBeside x (turned_span (span_of piece.now)) }
+{
+    if is_right(piece, x) {
+        return true;
+    }
+    is_left(piece, x)
+}
+
+/// The same of a piece as it is, or with its coordinates exchanged.
+#[inline(always)]
+fn is_beside(turned: bool, piece: &Piece, y: i32) -> bool
+    ensures { IsTrue result → IsBeside y (seen_span turned (span_of piece.now)) }
+{
+    if turned {
+        is_beside_column(piece, y)
+    } else {
+        is_beside_row(piece, y)
+    }
+}
+
+/// Whether a piece lies aside of a segment of a row: left of its first place or right of its last one.
+fn is_aside_row(piece: &Piece, first: i32, last: i32) -> bool
+    ensures { IsTrue result → IsAside first last (span_of piece.now) }
+{
+    if is_left(piece, first) {
+        return true;
+    }
+    is_right(piece, last)
+}
+
+/// Whether a piece with its coordinates exchanged lies aside of a segment of a row.
+fn is_aside_column(piece: &Piece, first: i32, last: i32) -> bool
+    ensures { IsTrue result → IsAside first last (turned_span (span_of piece.now)) }
+{
+    if is_below(piece, first) {
+        return true;
+    }
+    is_above(piece, last)
+}
+
+/// The same of a piece as it is, or with its coordinates exchanged.
+#[inline(always)]
+fn is_aside(turned: bool, piece: &Piece, first: i32, last: i32) -> bool
+    ensures { IsTrue result → IsAside first last (seen_span turned (span_of piece.now)) }
+{
+    if turned {
+        is_aside_column(piece, first, last)
+    } else {
+        is_aside_row(piece, first, last)
+    }
+}
+
+/// Whether a piece meets the segment from the centre of a pixel to that of its right neighbour.
 fn meets_next(piece: &Piece, i: i32, j: i32) -> bool
     requires here { IsPixelNumber i }
     requires next { IsPixelNumber (i +ℤ pos 1) }
     requires row { IsPixelNumber j }
     ensures { IsTrue result ↔ IsMet (centre_of i j) (centre_of (i +ℤ pos 1) j) (span_of piece.now) }
 {
-    let p = centre(i, j);
-    if is_above(piece, p.y) {
-        return false;
-    }
-    if is_below(piece, p.y) {
-        return false;
-    }
     let mut tally = Tally::new();
-    meets(piece, p, centre(i + 1, j), &mut tally)
+    meets(piece, centre(i, j), centre(i + 1, j), &mut tally)
+}
+
+/// Whether a piece, as it is or with its coordinates exchanged, meets that segment. Most pieces lie beside its row, or aside of it
+/// there.
+fn meets_seen(turned: bool, piece: &Piece, i: i32, j: i32) -> bool
+    requires here { IsPixelNumber i }
+    requires next { IsPixelNumber (i +ℤ pos 1) }
+    requires row { IsPixelNumber j }
+    ensures { IsTrue result ↔ IsMet (centre_of i j) (centre_of (i +ℤ pos 1) j) (seen_span turned (span_of piece.now)) }
+{
+    let p = centre(i, j);
+    if is_beside(turned, piece, p.y) {
+        return false;
+    }
+    let q = centre(i + 1, j);
+    if is_aside(turned, piece, p.x, q.x) {
+        return false;
+    }
+    meets_next(&seen_piece(turned, piece), i, j)
 }
 
 /// Whether one of the pieces, as they are or with their coordinates exchanged, meets the segment from the centre of a pixel to that
@@ -85,7 +194,7 @@ fn any_meets(turned: bool, pieces: &[Piece], i: i32, j: i32) -> bool
 {
     // None of the pieces before this one meets the segment.
     'pieces: for piece in pieces {
-        if meets_next(&seen_piece(turned, piece), i, j) {
+        if meets_seen(turned, piece, i, j) {
             return true;
         }
     }

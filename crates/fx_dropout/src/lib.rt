@@ -2,13 +2,17 @@
 //! scan conversion, rule 3).
 //!
 //! Where a piece passes between the centres of two neighbours in a row, neither of which is set, the left one is set; then the same
-//! in columns, where the lower one is set. So no stroke breaks, however thin it is.
+//! in columns, where the lower one is set. So no gap stays open between two neighbours. A dot between four centres, which meets no
+//! segment from one centre to a neighbour's, is still lost.
 #![tactic(auto)]
 
+mod across;
 mod close;
 mod gaps;
 mod noted;
+mod open;
 mod turned;
+mod up;
 
 pub use close::close_gaps_plainly;
 pub use noted::close_gaps;

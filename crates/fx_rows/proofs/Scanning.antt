@@ -12,6 +12,7 @@ use Rattle.fx_winding.specs.declared.frame.Frame.{Frame}
 use Rattle.fx_winding.proofs.Grid.{cut-row, row_fits, row_bits, rows_of-shape, length-bits_in}
 use Rattle.fx_winding.proofs.Scanned.{IsRowSet, row_set, scanned_all}
 use Rattle.fx_rows.specs.inner.Bands.{stride, AreScanned}
+use Rattle.fx_rows.specs.inner.Telling.{IsPartOf}
 use Rattle.fx_rows.proofs.Banding.{row_before, wide}
 
 -- ---- bits of parts of a list of words
@@ -51,7 +52,7 @@ word_low r done q k h l = let e = row_before r done q h in let s = row_start r q
 -- ---- rows, and then those above them
 
 -- the marks of a band, without the word after its rows
-pub scanned_marks : (ss : List Span) (left bottom : ℤ) (width high : ℕ) (marks words : List ℕ)
+scanned_marks : (ss : List Span) (left bottom : ℤ) (width high : ℕ) (marks words : List ℕ)
     → words ≡ take (high * words_for width) marks → length marks ≡ high * words_for width + 1
     → ((r k : ℕ) → r < high → k < width
     → (word_bit marks (r * stride width + k) ≡ 1) ↔ IsCovered (centre (left +ℤ pos k) (bottom +ℤ pos r)) ss)
@@ -72,7 +73,7 @@ scanned_marks ss left bottom width high marks words e n bits unused = record {
         ap (λ (ws : List ℕ). word_bit ws (r * stride width + k)) e
         ∙ take_bit (high * words_for width) (r * stride width + k) marks (word_low r high (words_for width) k h l)
 
-pub scanned_both : (ss : List Span) (left bottom low : ℤ) (width done more : ℕ) (old part : List ℕ) → bottom +ℤ pos done ≡ low
+scanned_both : (ss : List Span) (left bottom low : ℤ) (width done more : ℕ) (old part : List ℕ) → bottom +ℤ pos done ≡ low
     → AreScanned ss left bottom width done old → AreScanned ss left low width more part
     → AreScanned ss left bottom width (done + more) (old ++ part)
 scanned_both ss left bottom low width done more old part e a b = record {
@@ -130,6 +131,19 @@ row_bit : (up width k : ℕ) (words : List ℕ) → k < stride width
 row_bit up width k words l =
     part_bit (up * words_for width) (words_for width) k words (omega arith)
     ∙ ap (word_bit words) (row_start up (words_for width) k)
+
+-- the rows of a band after those below it
+pub scanned_band : (ss : List Span) (f g : Frame) (from to : ℕ) (marks old part new : List ℕ) → IsPartOf f from to g
+    → part ≡ take (g.height * words_for g.width) marks → length marks ≡ g.height * words_for g.width + 1
+    → ((r k : ℕ) → r < g.height → k < g.width
+    → (word_bit marks (r * stride g.width + k) ≡ 1) ↔ IsCovered (centre (g.left +ℤ pos k) (g.bottom +ℤ pos r)) ss)
+    → ((r k : ℕ) → r < g.height → g.width ≤ k → k < stride g.width → word_bit marks (r * stride g.width + k) ≡ 0)
+    → new ≡ old ++ part → AreScanned ss f.left f.bottom f.width from old → AreScanned ss f.left f.bottom f.width to new
+scanned_band ss f g from to marks old part new of e room bits unused more below =
+    subst (λ z. z) (λ i. AreScanned ss f.left f.bottom f.width (of.height i) (sym more i))
+    (scanned_both ss f.left f.bottom g.bottom f.width from g.height old part (sym of.bottom) below
+    (subst (λ z. z) (λ i. AreScanned ss (of.left i) g.bottom (of.width i) g.height part)
+    (scanned_marks ss g.left g.bottom g.width g.height marks part e room bits unused)))
 
 pub scanned_words : (ss : List Span) (left bottom : ℤ) (width high : ℕ) (words : List ℕ)
     → AreScanned ss left bottom width high words → AreWords high width words

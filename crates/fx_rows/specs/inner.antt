@@ -10,3 +10,7 @@ pub mod Inside
 pub mod Sums
 pub mod Bands
 pub mod Heights
+pub mod Told
+pub mod Telling
+pub mod Placing
+pub mod Upward

@@ -1,23 +1,26 @@
 //! What a piece adds to a band of rows.
 
-ghost use Rattle.std.specs.Prelude.{◌≡◌, ◌+◌, ◌-◌, ◌*◌, ◌^◌, ◌<◌, ◌≤◌, pos, ◌+ℤ◌, Some};
+ghost use Rattle.std.specs.Prelude.{◌≡◌, ℕ, ◌+◌, ◌-◌, ◌*◌, ◌^◌, ◌<◌, ◌≤◌, pos, ◌+ℤ◌, Some};
 ghost use Rattle.fx_winding.specs.Winding.{Span, span_of};
+ghost use Rattle.fx_winding.specs.declared.frame.Frame.{Frame};
 ghost use Rattle.fx_rows.specs.inner.Arcs.{AreAreas};
 ghost use Rattle.fx_rows.specs.inner.Strips.{base_place};
 ghost use Rattle.fx_rows.specs.inner.Inside.{IsOnInside};
 ghost use Rattle.fx_rows.specs.inner.Cuts.{IsCut};
 ghost use Rattle.fx_rows.specs.inner.Sums.{AreWithin};
 ghost use Rattle.fx_rows.specs.inner.Bands.{stride, AreInner, IsRowAdded, IsBandAdded, bounded_span};
+ghost use Rattle.fx_rows.specs.inner.Telling.{AreRowsTold};
 
 use crate::arc::total_of;
 use crate::band::Band;
 use crate::bounded::{Bounded, bounds_of, rise_of};
 use crate::cells::Cut;
 use crate::counts::{add_before, add_run};
-use crate::cuts::{ArcCuts, ClearCuts, Cuts, LineCuts};
+use crate::cuts::{ArcCuts, ClearCuts, Cuts, FlatCuts, LineCuts};
 use crate::heights::{RowRange, rows_between, rows_met};
 use crate::intervals::met_part;
 use crate::marks::mark;
+use crate::noting::Noting;
 use crate::strip::{Strip, areas_at, row_of, strip_of};
 use fx_winding::{Piece, Point, Tally, Weights};
 
@@ -73,14 +76,15 @@ fn add_met_rows(piece: &Piece, rows: RowRange, band: &mut Band, tally: &mut Tall
     }
 }
 
-/// Adds a cut to the counts and the marks of its row.
+/// Adds a cut to the counts and the marks of its row, in which `end` columns come before its end.
 #[inline(always)]
-fn add_cut(band: &mut Band, up: u32, strip: Strip, cut: Cut)
+fn add_cut(band: &mut Band, up: u32, strip: Strip, end: u32, cut: Cut)
     requires up { up < band.old.frame.height }
     requires small { AreWithin (2 ^ 26) band.old.diff.items }
     requires first { strip.base +ℤ pos strip.start ≡ band.old.frame.left }
     requires last { strip.base +ℤ pos strip.stop ≡ band.old.frame.left +ℤ pos band.old.frame.width }
-    requires end { cut.end ≤ strip.stop }
+    requires stop { cut.end ≤ strip.stop }
+    requires end { end ≡ cut.end - strip.start }
     requires on { IsOnInside band.old.frame cut.on }
     ensures frame { band.new.frame ≡ band.old.frame }
     ensures added { (s : Span) → IsCut s strip cut →
@@ -88,7 +92,6 @@ fn add_cut(band: &mut Band, up: u32, strip: Strip, cut: Cut)
 {
     let frame = band.frame;
     let first = band.first_of(up);
-    let end = cut.end.saturating_sub(strip.start);
     add_before(
         &mut band.diff,
         &mut band.touched,
@@ -99,12 +102,13 @@ fn add_cut(band: &mut Band, up: u32, strip: Strip, cut: Cut)
     mark(&mut band.marks, frame, first, cut.on);
 }
 
-/// Adds the cuts of a piece to rows between its ends. It is compiled once for each kind of cuts.
-fn add_cuts<C: Cuts + Drop>(
+/// Adds the cuts of a piece to rows between its ends, and tells where they end. It is compiled once for each kind of cuts.
+fn add_cuts<C: Cuts + Drop, N: Noting>(
     bounded: &Bounded,
     cuts: C,
     rows: RowRange,
     band: &mut Band,
+    noter: &mut N,
     tally: &mut Tally,
 )
     requires rows { rows.end ≤ band.old.frame.height }
@@ -113,24 +117,30 @@ fn add_cuts<C: Cuts + Drop>(
     requires small { AreWithin (2 ^ 25 + 4 * rows.first) band.old.diff.items }
     ensures frame { band.new.frame ≡ band.old.frame }
     ensures added { IsBandAdded (bounded_span bounded.now) band.old.frame rows.first rows.end band.old band.new }
+    ensures of { (f : Frame) → N.IsOf noter.old f → N.IsOf noter.new f }
+    ensures kept { (s : Span) (r : ℕ) → N.IsNotedAt noter.old s r → N.IsNotedAt noter.new s r }
+    ensures told { AreRowsTold (N.IsTold noter.new) (bounded_span bounded.now) band.old.frame rows.first rows.end }
     ensures count { tally.new.count ≤ tally.old.count + (rows.end - rows.first) }
 {
     let mut cuts = cuts;
-    // The rows before `up` have what the piece adds, and the cut of this row comes next.
+    // The rows before `up` have what the piece adds and are told, and the cut of this row comes next.
     'rows: for up in rows.first..rows.end {
         let strip = strip_of(band.frame, row_of(band.frame, up));
         let cut = cuts.next(bounded, strip, tally);
-        add_cut(band, up, strip, cut);
+        let end = cut.end.saturating_sub(strip.start);
+        noter.tell(up, end);
+        add_cut(band, up, strip, end, cut);
     }
 }
 
 /// Adds what an arc gives to rows between its ends.
-fn add_curve_rows(
+fn add_curve_rows<N: Noting>(
     bounded: &Bounded,
     b: Point,
     rows: RowRange,
     areas: Weights,
     band: &mut Band,
+    noter: &mut N,
     tally: &mut Tally,
 )
     requires middle { bounded.now.piece.b ≡ Some b }
@@ -140,43 +150,64 @@ fn add_curve_rows(
     requires small { AreWithin (2 ^ 25 + 4 * rows.first) band.old.diff.items }
     ensures frame { band.new.frame ≡ band.old.frame }
     ensures added { IsBandAdded (bounded_span bounded.now) band.old.frame rows.first rows.end band.old band.new }
+    ensures of { (f : Frame) → N.IsOf noter.old f → N.IsOf noter.new f }
+    ensures kept { (s : Span) (r : ℕ) → N.IsNotedAt noter.old s r → N.IsNotedAt noter.new s r }
+    ensures told { AreRowsTold (N.IsTold noter.new) (bounded_span bounded.now) band.old.frame rows.first rows.end }
     ensures count { tally.new.count ≤ tally.old.count + 10 * (rows.end - rows.first) }
 {
     if total_of(areas) == 0 {
-        return add_met_rows(&bounded.piece, rows, band, tally);
+        return add_cuts(bounded, FlatCuts { b, areas }, rows, band, noter, tally);
     }
     let cuts = ArcCuts::from_lowest(bounded, b, areas, band.frame);
-    add_cuts(bounded, cuts, rows, band, tally);
+    add_cuts(bounded, cuts, rows, band, noter, tally);
 }
 
 /// Adds what a piece gives to rows between its ends.
-fn add_inner_rows(bounded: &Bounded, rows: RowRange, band: &mut Band, tally: &mut Tally)
+fn add_inner_rows<N: Noting>(
+    bounded: &Bounded,
+    rows: RowRange,
+    band: &mut Band,
+    noter: &mut N,
+    tally: &mut Tally,
+)
     requires some { rows.first < rows.end }
     requires rows { rows.end ≤ band.old.frame.height }
     requires inner { AreInner bounded.now band.old.frame rows.first rows.end }
     requires small { AreWithin (2 ^ 25 + 4 * rows.first) band.old.diff.items }
     ensures frame { band.new.frame ≡ band.old.frame }
     ensures added { IsBandAdded (bounded_span bounded.now) band.old.frame rows.first rows.end band.old band.new }
+    ensures of { (f : Frame) → N.IsOf noter.old f → N.IsOf noter.new f }
+    ensures kept { (s : Span) (r : ℕ) → N.IsNotedAt noter.old s r → N.IsNotedAt noter.new s r }
+    ensures told { AreRowsTold (N.IsTold noter.new) (bounded_span bounded.now) band.old.frame rows.first rows.end }
     ensures count { tally.new.count ≤ tally.old.count + 12 * (rows.end - rows.first) }
 {
     if bounded.across.end <= bounded.across.first {
-        return add_cuts(bounded, ClearCuts, rows, band, tally);
+        return add_cuts(bounded, ClearCuts, rows, band, noter, tally);
     }
     let strip = strip_of(band.frame, row_of(band.frame, rows.first));
     let areas = areas_at(&bounded.piece, strip, 0, tally);
     match bounded.piece.b {
-        None => add_cuts(bounded, LineCuts { areas }, rows, band, tally),
-        Some(b) => add_curve_rows(bounded, b, rows, areas, band, tally),
+        None => add_cuts(bounded, LineCuts { areas }, rows, band, noter, tally),
+        Some(b) => add_curve_rows(bounded, b, rows, areas, band, noter, tally),
     }
 }
 
 /// Adds what a piece gives to the rows of a band that it can touch.
-fn add_met_piece(piece: &Piece, rows: RowRange, band: &mut Band, tally: &mut Tally)
+fn add_met_piece<N: Noting>(
+    piece: &Piece,
+    rows: RowRange,
+    band: &mut Band,
+    noter: &mut N,
+    tally: &mut Tally,
+)
     requires rows { rows.end ≤ band.old.frame.height }
     requires some { rows.first < rows.end }
     requires small { AreWithin (2 ^ 25 + 4 * rows.first) band.old.diff.items }
     ensures frame { band.new.frame ≡ band.old.frame }
     ensures added { IsBandAdded (span_of piece.now) band.old.frame rows.first rows.end band.old band.new }
+    ensures of { (f : Frame) → N.IsOf noter.old f → N.IsOf noter.new f }
+    ensures kept { (s : Span) (r : ℕ) → N.IsNotedAt noter.old s r → N.IsNotedAt noter.new s r }
+    ensures told { AreRowsTold (N.IsTold noter.new) (span_of piece.now) band.old.frame rows.first rows.end }
     ensures count { tally.new.count ≤ tally.old.count + 12 * (rows.end - rows.first) }
 {
     let rise = rise_of(piece);
@@ -193,19 +224,22 @@ fn add_met_piece(piece: &Piece, rows: RowRange, band: &mut Band, tally: &mut Tal
         end: rows.end,
     };
     add_met_rows(piece, below, band, tally);
-    add_inner_rows(&bounds_of(piece, rise), inner, band, tally);
+    add_inner_rows(&bounds_of(piece, rise), inner, band, noter, tally);
     add_met_rows(piece, above, band, tally);
 }
 
-/// Adds what a piece gives to a band.
-pub(crate) fn add_piece(piece: &Piece, band: &mut Band, tally: &mut Tally)
+/// Adds what a piece gives to a band, and tells where it ends in the rows between its ends.
+pub(crate) fn add_piece<N: Noting>(piece: &Piece, band: &mut Band, noter: &mut N, tally: &mut Tally)
     requires small { AreWithin (2 ^ 25) band.old.diff.items }
     ensures frame { band.new.frame ≡ band.old.frame }
     ensures added { IsBandAdded (span_of piece.now) band.old.frame 0 band.old.frame.height band.old band.new }
+    ensures of { (f : Frame) → N.IsOf noter.old f → N.IsOf noter.new f }
+    ensures kept { (s : Span) (r : ℕ) → N.IsNotedAt noter.old s r → N.IsNotedAt noter.new s r }
+    ensures told { AreRowsTold (N.IsTold noter.new) (span_of piece.now) band.old.frame 0 band.old.frame.height }
     ensures count { tally.new.count ≤ tally.old.count + 12 * band.old.frame.height }
 {
     let rows = rows_met(piece, band.frame);
     if rows.first < rows.end {
-        add_met_piece(piece, rows, band, tally);
+        add_met_piece(piece, rows, band, noter, tally);
     }
 }

@@ -2,7 +2,7 @@
 //! and 0 from it on, but for the columns on the piece, which are set anyway.
 
 ghost use Rattle.std.specs.Prelude.{◌≡◌, ℕ, ◌+◌, ◌-◌, ◌*◌, ◌^◌, ◌<◌, ◌≤◌, min, pos, ◌+ℤ◌, ◌-ℤ◌, ◌*ℤ◌, ◌≤ℤ◌, IsTrue, ◌↔◌};
-ghost use Rattle.std.specs.Prelude.{Some, None};
+ghost use Rattle.std.specs.Prelude.{Some};
 ghost use Rattle.fx_fixed.specs.Ranges.{IsWithin};
 ghost use Rattle.fx_winding.specs.Limits.{greatest_side};
 ghost use Rattle.fx_winding.specs.Winding.{span_of, sign, IsOn};
@@ -77,7 +77,9 @@ fn is_short(bend: Bend, end: u32, stop: u32) -> bool
     end < stop && counts(bend, end)
 }
 
-/// Where the columns that count end, as far as a guess tells: the columns beside it are tested.
+/// Where the columns that count end, as far as a guess tells: the columns beside it are tested. The loops over rows are to have it
+/// in their bodies.
+#[inline(always)]
 fn window_of(bend: Bend, guess: u32, stop: u32) -> Window
     requires few { stop ≤ greatest_side + 2 }
     requires first { CountsFirst bend stop }
@@ -108,7 +110,8 @@ fn window_of(bend: Bend, guess: u32, stop: u32) -> Window
     }
 }
 
-/// How many columns from the base count, looked for in a window by steps that double.
+/// How many columns from the base count, looked for in a window by steps that double. It is to be in the loops too.
+#[inline(always)]
 fn count_in(bend: Bend, window: Window, stop: u32) -> u32
     requires order { window.low ≤ window.high }
     requires high { window.high ≤ stop }
@@ -208,6 +211,7 @@ pub(crate) fn arc_cut(
     requires inner { IsInner bounded.now.piece.a.y bounded.now.piece.c.y (pos 128 *ℤ strip.row +ℤ pos 64) }
     requires areas { AreAreas (bounded_span bounded.now) (place_at strip 0) areas }
     ensures cut { IsCut (bounded_span bounded.now) strip result }
+    ensures value { result.value ≡ bounded.now.rise.value }
     ensures count { tally.new.count ≤ tally.old.count + 1 }
 {
     let piece = &bounded.piece;
@@ -224,12 +228,13 @@ pub(crate) fn arc_cut(
     }
 }
 
-/// What a line adds.
+/// What a line adds, or an arc whose points are on one line.
 pub(crate) fn line_cut(bounded: &Bounded, strip: Strip, areas: Weights, tally: &mut Tally) -> Cut
-    requires line { bounded.now.piece.b ≡ None }
+    requires straight { ¬ (IsBent (bounded_span bounded.now)) }
     requires inner { IsInner bounded.now.piece.a.y bounded.now.piece.c.y (pos 128 *ℤ strip.row +ℤ pos 64) }
     requires areas { AreAreas (bounded_span bounded.now) (place_at strip 0) areas }
     ensures cut { IsCut (bounded_span bounded.now) strip result }
+    ensures value { result.value ≡ bounded.now.rise.value }
     ensures count { tally.new.count ≤ tally.old.count + 1 }
 {
     let edge = edge_of(&bounded.piece, strip, areas);
@@ -244,7 +249,8 @@ pub(crate) fn line_cut(bounded: &Bounded, strip: Strip, areas: Weights, tally: &
 pub(crate) fn clear_cut(bounded: &Bounded, strip: Strip) -> Cut
     requires clear { bounded.now.across.end ≤ℤ bounded.now.across.first }
     requires inner { IsInner bounded.now.piece.a.y bounded.now.piece.c.y (pos 128 *ℤ strip.row +ℤ pos 64) }
-    ensures { IsCut (bounded_span bounded.now) strip result }
+    ensures cut { IsCut (bounded_span bounded.now) strip result }
+    ensures value { result.value ≡ bounded.now.rise.value }
 {
     Cut {
         end: columns_before(strip, bounded.across.first),

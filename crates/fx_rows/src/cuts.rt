@@ -28,6 +28,7 @@ pub(crate) trait Cuts {
         requires at { AreAt self.old bounded.now (place_at strip 0) }
         requires inner { IsInner bounded.now.piece.a.y bounded.now.piece.c.y (pos 128 *ℤ strip.row +ℤ pos 64) }
         ensures cut { IsCut (bounded_span bounded.now) strip result }
+        ensures value { result.value ≡ bounded.now.rise.value }
         ensures above { (strip.row +ℤ pos 1) <ℤ end_of_pixels →
             AreAt self.new bounded.now (centre (strip.base +ℤ pos 0) (strip.row +ℤ pos 1)) }
         ensures count { tally.new.count ≤ tally.old.count + 1 };
@@ -65,6 +66,29 @@ impl Cuts for LineCuts {
     fn next(&mut self, bounded: &Bounded, strip: Strip, tally: &mut Tally) -> Cut {
         let cut = line_cut(bounded, strip, self.areas, tally);
         self.areas = line_areas_above(&bounded.piece, strip, self.areas);
+        cut
+    }
+}
+
+/// The cuts of an arc whose points are on one line: its control point, and the areas of the next row's base.
+#[derive(Clone, Copy)]
+pub(crate) struct FlatCuts {
+    pub b: Point,
+    pub areas: Weights,
+}
+
+impl Cuts for FlatCuts {
+    ghost use Rattle.std.specs.Prelude.{◌≡◌, Some};
+    ghost use Rattle.fx_rows.specs.Parts.{IsBent};
+    ghost use Rattle.fx_rows.specs.inner.Arcs.{AreAreas};
+    ghost use Rattle.fx_rows.specs.inner.Bands.{bounded_span};
+
+    ghost AreAt = { λ cuts b p.
+        (b.piece.b ≡ Some cuts.b) × (¬ (IsBent (bounded_span b))) × AreAreas (bounded_span b) p cuts.areas };
+
+    fn next(&mut self, bounded: &Bounded, strip: Strip, tally: &mut Tally) -> Cut {
+        let cut = line_cut(bounded, strip, self.areas, tally);
+        self.areas = arc_areas_above(&bounded.piece, self.b, strip, self.areas);
         cut
     }
 }

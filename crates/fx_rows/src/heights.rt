@@ -3,6 +3,7 @@
 ghost use Rattle.std.specs.Prelude.{◌⊎◌, ℕ, ◌+◌, ◌^◌, ◌<◌, ◌≤◌, pos, ◌+ℤ◌, ◌*ℤ◌, ◌<ℤ◌, ◌≤ℤ◌, IsTrue};
 ghost use Rattle.fx_fixed.specs.Ranges.{IsWithin};
 ghost use Rattle.fx_winding.specs.Limits.{IsPixelNumber};
+ghost use Rattle.fx_winding.specs.Outside.{HasAll};
 ghost use Rattle.fx_winding.specs.Winding.{span_of};
 ghost use Rattle.fx_rows.specs.inner.Heights.{height_of, IsMissed};
 
@@ -37,7 +38,7 @@ fn rows_below(frame: Frame, row: i32) -> u32
 }
 
 /// A number, or the end of a range that it lies beyond.
-fn clamped(n: u32, low: u32, high: u32) -> u32
+pub(crate) fn clamped(n: u32, low: u32, high: u32) -> u32
     requires { low ≤ high }
     ensures low { low ≤ result }
     ensures high { result ≤ high }
@@ -53,11 +54,28 @@ fn clamped(n: u32, low: u32, high: u32) -> u32
     }
 }
 
+/// Those rows of a range that are in another.
+pub(crate) fn rows_within(rows: RowRange, all: RowRange) -> RowRange
+    ensures first { all.first ≤ result.first }
+    ensures end { result.end ≤ all.end }
+    ensures inside { (r : ℕ) → result.first ≤ r → r < result.end → (rows.first ≤ r) × (r < rows.end) }
+    ensures outside { (r : ℕ) → all.first ≤ r → r < all.end → (r < result.first) ⊎ (result.end ≤ r) →
+        (r < rows.first) ⊎ (rows.end ≤ r) }
+{
+    let first = clamped(rows.first, all.first, all.end);
+    RowRange {
+        first,
+        end: clamped(rows.end, first, all.end),
+    }
+}
+
 /// The rows of a frame that a piece can touch.
 pub(crate) fn rows_met(piece: &Piece, frame: Frame) -> RowRange
     ensures within { result.end ≤ frame.height }
     ensures missed { (r : ℕ) → r < frame.height → (r < result.first) ⊎ (result.end ≤ r) →
         IsMissed (span_of piece.now) (height_of frame r) }
+    ensures below { (r : ℕ) → r < result.first → HasAll (λ q. height_of frame r <ℤ q.y) (span_of piece.now) }
+    ensures above { (r : ℕ) → result.end ≤ r → r < frame.height → HasAll (λ q. q.y <ℤ height_of frame r) (span_of piece.now) }
 {
     let first = rows_below(frame, first_from(low_y(piece)));
     let end = rows_below(frame, first_from(high_y(piece) + 1));
@@ -74,6 +92,8 @@ pub(crate) fn rows_between(rise: Rise, frame: Frame, rows: RowRange) -> RowRange
     ensures end { result.end ≤ rows.end }
     ensures foot { (r : ℕ) → result.first ≤ r → r < result.end → rise.foot <ℤ height_of frame r }
     ensures head { (r : ℕ) → result.first ≤ r → r < result.end → height_of frame r <ℤ rise.head }
+    ensures under { (r : ℕ) → rows.first ≤ r → r < result.first → height_of frame r ≤ℤ rise.foot }
+    ensures over { (r : ℕ) → result.end ≤ r → r < rows.end → rise.head ≤ℤ height_of frame r }
 {
     let foot = rows_below(frame, first_from(rise.foot + 1));
     let head = rows_below(frame, first_from(rise.head));

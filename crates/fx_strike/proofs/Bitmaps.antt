@@ -101,34 +101,27 @@ empty_has_bits dropout ss b narrow framed outside closed =
 
 -- ---- for answers
 
-pub scanned_bits : (f : Frame) (ss : List Span) (b : Bits) (dropout : Bool) → dropout ≡ false → IsScanOf f ss b
-    → IsFramedBy dropout (Some f) ss → NothingOutsideFrame (Some f) ss → AreOfOutline ss → HasBitsOf dropout ss b
-scanned_bits f ss b dropout e scan framed outside closed =
+pub scanned_bits : (f : Frame) (ss : List Span) (r : Result Bits Refusal) (dropout : Bool) → dropout ≡ false
+    → IfOk r (IsScanOf f ss) → IsFramedBy dropout (Some f) ss → NothingOutsideFrame (Some f) ss → AreOfOutline ss
+    → IfOk r (HasBitsOf dropout ss)
+scanned_bits f ss (Ok b) dropout e scan framed outside closed =
     let F : Bool → Type 0 = λ d. IsFramedBy d (Some f) ss in
     let H : Bool → Type 0 = λ d. HasBitsOf d ss b in
     subst H (sym e) (scan_has_bits f ss b scan (subst F e framed) outside closed)
+scanned_bits f ss (Err d) dropout e scan framed outside closed = tt
 
-pub bridged_bits : (f g : Frame) (ss : List Span) (r : Result Bits Refusal) (dropout : Bool) → dropout ≡ true → g ≡ f
-    → IfOk r (IsBridgedScanOf g ss) → IsFramedBy dropout (Some f) ss → NothingOutsideFrame (Some f) ss → AreOfOutline ss
+pub bridged_bits : (f : Frame) (ss : List Span) (r : Result Bits Refusal) (dropout : Bool) → dropout ≡ true
+    → IfOk r (IsBridgedScanOf f ss) → IsFramedBy dropout (Some f) ss → NothingOutsideFrame (Some f) ss → AreOfOutline ss
     → IfOk r (HasBitsOf dropout ss)
-bridged_bits f g ss (Ok b) dropout e same scan framed outside closed =
+bridged_bits f ss (Ok b) dropout e scan framed outside closed =
     let F : Bool → Type 0 = λ d. IsFramedBy d (Some f) ss in
     let H : Bool → Type 0 = λ d. HasBitsOf d ss b in
-    let S : Frame → Type 0 = λ h. IsBridgedScanOf h ss b in
-    subst H (sym e) (bridged_has_bits f ss b (subst S same scan) (subst F e framed) outside closed)
-bridged_bits f g ss (Err d) dropout e same scan framed outside closed = tt
+    subst H (sym e) (bridged_has_bits f ss b scan (subst F e framed) outside closed)
+bridged_bits f ss (Err d) dropout e scan framed outside closed = tt
 
--- the frame of a scan has a margin if it is that of drop-out control
-pub framed_margin : (f g : Frame) (ss : List Span) (dropout : Bool) → dropout ≡ true → g ≡ f → IsFramedBy dropout (Some f) ss
-    → HasMargin g
-framed_margin f g ss dropout e same framed =
-    let F : Bool → Type 0 = λ d. IsFramedBy d (Some f) ss in
-    let M : Frame → Type 0 = λ h. HasMargin h in
-    subst M (sym same) (subst F e framed).1
-
--- a scan is one of its own frame
-pub scan_of_its_frame : (f : Frame) (ss : List Span) (b : Bits) → IsScanOf f ss b → IsScanOf b.frame ss b
-scan_of_its_frame f ss b scan = let P : Frame → Type 0 = λ g. IsScanOf g ss b in subst P (sym scan.same) scan
+-- the frame of drop-out control has a margin
+pub framed_margin : (f : Frame) (ss : List Span) (dropout : Bool) → dropout ≡ true → IsFramedBy dropout (Some f) ss → HasMargin f
+framed_margin f ss dropout e framed = let F : Bool → Type 0 = λ d. IsFramedBy d (Some f) ss in (subst F e framed).1
 
 pub empty_bits : (ss : List Span) (r : Result Bits Refusal) (dropout : Bool) → IfOk r (λ b. b.frame.width ≡ 0)
     → IsFramedBy dropout None ss → NothingOutsideFrame None ss → AreOfOutline ss → IfOk r (HasBitsOf dropout ss)

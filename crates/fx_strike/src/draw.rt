@@ -7,6 +7,7 @@ ghost use Rattle.fx_winding.specs.Outside.{AreOfOutline};
 ghost use Rattle.fx_contour.specs.Contours.{IsInReach, spans_of};
 ghost use Rattle.fx_contour.specs.Frames.{NothingOutsideFrame};
 ghost use Rattle.fx_winding.specs.Frames.{HasMargin};
+ghost use Rattle.fx_winding.specs.Notes.{IsNoted};
 ghost use Rattle.fx_strike.specs.Strike.{Sketch, IsGlyphOf, setting_with, glyph_sketch_of};
 ghost use Rattle.fx_strike.specs.inner.Drawing.{HasBitsOf, IsBridgedScanOf, IsFramedBy, IsSketchedOf, Draws};
 
@@ -19,7 +20,7 @@ use fx_contour::pieces_in_reach;
 use fx_dropout::close_gaps;
 use fx_fixed::{F26, near_64};
 use fx_request::Refusal;
-use fx_winding::{Bitmap, Frame, Pieces, Scan, ScanFault, Tally};
+use fx_winding::{Bitmap, Frame, Noted, Pieces, Scan, ScanFault, Tally};
 use std::alloc::Global;
 
 /// A number of 1/64 pixels in whole pixels.
@@ -71,16 +72,34 @@ fn scanned<S: Scan>(
     }
 }
 
+/// The bitmap of a scan with its gaps closed.
+fn closed(pieces: &Pieces, noted: Noted) -> Bitmap
+    requires margin { HasMargin noted.bitmap.frame }
+    requires scanned { IsScanOf noted.bitmap.frame (map span_of pieces.now) noted.bitmap }
+    requires frame { noted.notes.frame ≡ noted.bitmap.frame }
+    requires noted { All (λ s. IsNoted s noted.notes.frame noted.notes.across.items noted.notes.up.items) (map span_of pieces.now) }
+    ensures { IsBridgedScanOf noted.bitmap.frame (map span_of pieces.now) result }
+{
+    let mut bitmap = noted.bitmap;
+    close_gaps(pieces, &noted.notes, &mut bitmap);
+    bitmap
+}
+
 /// The bits of a frame with drop-out control: those of a scan, and those that close gaps.
-fn bridged(alloc: Global, pieces: &Pieces, bitmap: Bitmap) -> Result<Bitmap, Refusal>
-    requires margin { HasMargin bitmap.frame }
-    requires scanned { IsScanOf bitmap.frame (map span_of pieces.now) bitmap }
-    ensures bits { IfOk result (IsBridgedScanOf bitmap.frame (map span_of pieces.now)) }
+#[inline(never)]
+fn bridged<S: Scan>(
+    alloc: Global,
+    scan: &S,
+    pieces: &Pieces,
+    frame: Frame,
+) -> Result<Bitmap, Refusal>
+    requires { HasMargin frame }
+    ensures bits { IfOk result (IsBridgedScanOf frame (map span_of pieces.now)) }
     ensures fault { IfErr result (λ e. e ≡ Refusal.OutOfMemory) }
 {
-    let mut bitmap = bitmap;
-    match close_gaps(alloc, pieces, &mut bitmap) {
-        Ok(()) => Ok(bitmap),
+    let mut tally = Tally::new();
+    match scan.scan_noted(alloc, pieces, frame, &mut tally) {
+        Ok(noted) => Ok(closed(pieces, noted)),
         Err(ScanFault::OutOfMemory) => Err(Refusal::OutOfMemory),
     }
 }
@@ -102,11 +121,10 @@ fn bitmap_of<S: Scan>(
     let Some(frame) = frame else {
         return empty_bitmap(alloc);
     };
-    let bitmap = scanned(alloc, scan, pieces, frame)?;
     if dropout {
-        return bridged(alloc, pieces, bitmap);
+        return bridged(alloc, scan, pieces, frame);
     }
-    Ok(bitmap)
+    scanned(alloc, scan, pieces, frame)
 }
 
 /// The glyph of a code point: the bits of its outline, in their tight box, and its advances.

@@ -18,7 +18,7 @@ use Rattle.fx_winding.proofs.Triangle.{area_expr, not_below_range, not_above_ran
 
 -- ---- what a piece adds
 
-right_turn : (p : Place) (s : Span) → HasAll (λ e. p.x <ℤ e.x) s → turn p s ≡ (above p.y s.c.y -ℤ above p.y s.a.y) +ℤ pos 0
+pub right_turn : (p : Place) (s : Span) → HasAll (λ e. p.x <ℤ e.x) s → turn p s ≡ (above p.y s.c.y -ℤ above p.y s.a.y) +ℤ pos 0
 right_turn p s h =
     let e : crossing p s ≡ above p.y s.c.y -ℤ above p.y s.a.y =
     crossing_right s.a.y s.c.y p.y (area s.a s.c p)
@@ -26,7 +26,7 @@ right_turn p s h =
     (λ k l. left_of_falling s.a.x s.a.y s.c.x s.c.y p.x p.y k l h.0 h.2) in
     λ i. e i +ℤ (left_off p s h).0 i
 
-left_turn : (p : Place) (s : Span) → HasAll (λ e. e.x <ℤ p.x) s → turn p s ≡ pos 0 +ℤ pos 0
+pub left_turn : (p : Place) (s : Span) → HasAll (λ e. e.x <ℤ p.x) s → turn p s ≡ pos 0 +ℤ pos 0
 left_turn p s h =
     let e : crossing p s ≡ pos 0 =
     crossing_left s.a.y s.c.y p.y (area s.a s.c p)

@@ -23,7 +23,7 @@ use Rattle.fx_winding.proofs.Shifts.{area_shift, crossing_shift, region_part_shi
 same_minus : (x y : ℤ) → neg_ℤ x ≡ neg_ℤ y → x ≡ y
 same_minus x y h = omega (arith, signed_linear)
 
-added_back : (p : Place) (s : Span) → turn p (reversed s) ≡ neg_ℤ (turn p s)
+pub added_back : (p : Place) (s : Span) → turn p (reversed s) ≡ neg_ℤ (turn p s)
 added_back p s =
     let k = reversal_negates p s in (λ i. k.1 i +ℤ k.2 i) ∙ sym (minus_sum (crossing p s) (region p s))
 

@@ -25,7 +25,7 @@ pub crossing_back : (a c p : Place) → chord_crossing c a p ≡ neg_ℤ (chord_
 crossing_back a c p =
     ap (crossing_number c.y a.y p.y) (area_turn c.x c.y a.x a.y p.x p.y) ∙ crossing_number_back a.y c.y p.y (area a c p)
 
-sign_back : (z : ℤ) → sign (neg_ℤ z) ≡ neg_ℤ (sign z)
+pub sign_back : (z : ℤ) → sign (neg_ℤ z) ≡ neg_ℤ (sign z)
 sign_back (pos zero) = refl
 sign_back (pos (suc n)) = refl
 sign_back (negsuc n) = refl

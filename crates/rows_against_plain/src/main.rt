@@ -22,7 +22,7 @@ use fx_fixed::Ppem;
 use fx_hint::outline;
 use fx_rows::Rows;
 use fx_sfnt::Font;
-use fx_winding::{Bitmap, Frame, MAX_PIXEL, Piece, Pieces, Plain, Scan, Tally, halves};
+use fx_winding::{Bitmap, Frame, MAX_PIXEL, Noted, Piece, Pieces, Plain, Scan, Tally, halves};
 use std::alloc::Global;
 use std::env;
 use std::io::Read;
@@ -135,11 +135,11 @@ fn closes_the_same(alloc: Global, pieces: &Pieces, frame: Frame) -> Result<bool>
         return Ok(true);
     }
     let mut tally = Tally::new();
-    let mut noted = Rows.scan(alloc, pieces, frame, &mut tally)?;
-    close_gaps(alloc, pieces, &mut noted)?;
+    let Noted { mut bitmap, notes } = Rows.scan_noted(alloc, pieces, frame, &mut tally)?;
+    close_gaps(pieces, &notes, &mut bitmap);
     let mut plain = Rows.scan(alloc, pieces, frame, &mut tally)?;
     close_gaps_plainly(pieces, &mut plain);
-    Ok(are_same(&noted, &plain, frame))
+    Ok(are_same(&bitmap, &plain, frame))
 }
 
 /// What the scan by rows of an outline sets the same.

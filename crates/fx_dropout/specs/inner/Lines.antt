@@ -1,7 +1,8 @@
--- Rows whose gaps are closed one after the other, in place.
-use Rattle.std.specs.Prelude.{◌≡◌, ◌≢◌, ◌⊎◌, ◌↔◌, ℕ, ◌+◌, ◌*◌, ◌<◌, ◌≤◌, ℤ, pos, ◌+ℤ◌, ◌-ℤ◌, Bool, IsTrue, List}
+-- Rows, or columns seen as rows, whose gaps are closed one after the other, in place. The segments of a row are those that lead to
+-- its pixels from their left neighbours, and one more from the last pixel.
+use Rattle.std.specs.Prelude.{◌≡◌, ◌≢◌, ◌⊎◌, ◌↔◌, ℕ, ◌<◌, ◌≤◌, ℤ, pos, ◌+ℤ◌, ◌-ℤ◌, ◌≤ℤ◌, ◌<ℤ◌, Bool, IsTrue, List}
 use Rattle.fx_winding.specs.declared.frame.Frame.{Frame}
-use Rattle.fx_winding.specs.Bitmaps.{Bits, words_for, word_bit}
+use Rattle.fx_winding.specs.Bitmaps.{Bits, word_bit}
 use Rattle.fx_winding.specs.Dropout.{IsGap, IsBridged}
 use Rattle.fx_winding.specs.Frames.{IsFrom, IsInFrame}
 use Rattle.fx_winding.specs.Winding.{Span, IsCovered}
@@ -12,9 +13,24 @@ abbrev pub IsSoFar : Bool → List Span → Frame → Bits → ℤ → ℤ → T
 IsSoFar turned ss f b i j =
     IsTrue (seen_bit turned b i j) ⊎ (¬ (IsSeenInFrame turned f i j) × IsCovered (seen_centre turned i j) ss)
 
--- the gaps to the right of the count pixels of a row from first on are closed, and nothing else has changed
-pub record AreClosed (ss : List Span) (first : ℤ) (count : ℕ) (j : ℤ) (Old New : ℤ → ℤ → Type 0) : Type 0 where
-  pub row : (i : ℤ) → New i j ↔ (Old i j ⊎ (IsFrom first count i × IsGap ss Old i j))
+-- a pixel inside closes a gap among a row's count segments from the one that leads to the pixel first
+pub record IsBridgeTo (ss : List Span) (IsInside Old : ℤ → ℤ → Type 0) (first : ℤ) (count : ℕ) (i j : ℤ) : Type 0 where
+  pub inside : IsInside i j
+  pub gap : (IsFrom (first -ℤ pos 1) count i × IsGap ss Old i j)
+      ⊎ (IsFrom (first -ℤ pos 1) count (i -ℤ pos 1) × (IsGap ss Old (i -ℤ pos 1) j × ¬ (IsInside (i -ℤ pos 1) j)))
+
+-- a pixel is set so far, or closes a gap among these segments
+abbrev pub IsBridgedTo : List Span → (ℤ → ℤ → Type 0) → (ℤ → ℤ → Type 0) → ℤ → ℕ → ℤ → ℤ → Type 0
+IsBridgedTo ss IsInside Old first count i j = Old i j ⊎ IsBridgeTo ss IsInside Old first count i j
+
+-- the pixel at closes a gap between i and i + 1: i, or i + 1 if i comes before the pixel first
+pub record IsCloser (first i at : ℤ) : Type 0 where
+  pub inner : first ≤ℤ i → at ≡ i
+  pub outer : i <ℤ first → at ≡ i +ℤ pos 1
+
+-- the gaps among the first count segments of a row of the frame are closed, and nothing else has changed
+pub record AreClosed (ss : List Span) (f : Frame) (count : ℕ) (j : ℤ) (Old New : ℤ → ℤ → Type 0) : Type 0 where
+  pub row : (i : ℤ) → New i j ↔ IsBridgedTo ss (IsInFrame f) Old f.left count i j
   pub others : (i m : ℤ) → m ≢ j → New i m ↔ Old i m
 
 -- the gaps of a row of the frame are closed, and nothing else has changed
@@ -27,12 +43,15 @@ pub record AreRowsClosed (ss : List Span) (f : Frame) (count : ℕ) (Old New : �
   pub rows : (i j : ℤ) → IsFrom f.bottom count j → New i j ↔ IsBridged ss (IsInFrame f) Old i j
   pub others : (i j : ℤ) → ¬ (IsFrom f.bottom count j) → New i j ↔ Old i j
 
--- each gap of a row, the one before its first pixel too, has its bit, from the number first on
-abbrev pub IsNotedRow : List Span → Frame → ℤ → (ℤ → ℤ → Type 0) → List ℕ → ℕ → Type 0
-IsNotedRow ss f j Old noted first =
-    (k : ℕ) → k ≤ f.width → IsGap ss Old ((f.left -ℤ pos 1) +ℤ pos k) j → word_bit noted (first + k) ≡ 1
+-- the gaps between i and i + 1 in count rows from first on are closed, each by the pixel at, and nothing else has changed
+pub record IsLevelClosed (ss : List Span) (first : ℤ) (count : ℕ) (i at : ℤ) (Old New : ℤ → ℤ → Type 0) : Type 0 where
+  pub here : (j : ℤ) → IsFrom first count j → New at j ↔ (Old at j ⊎ IsGap ss Old i j)
+  pub others : (m j : ℤ) → (m ≢ at) ⊎ ¬ (IsFrom first count j) → New m j ↔ Old m j
 
--- each gap of the rows of a frame has its bit; a row has a word at least for each 32 segments and begins with a new one
-abbrev pub AreNotedRows : List Span → Frame → (ℤ → ℤ → Type 0) → List ℕ → Type 0
-AreNotedRows ss f Old noted =
-    (r : ℕ) → r < f.height → IsNotedRow ss f (f.bottom +ℤ pos r) Old noted (r * (32 * words_for (f.width + 2)))
+-- each gap of a row of the frame has its bit
+abbrev pub IsRowNoted : List Span → Frame → ℤ → (ℤ → ℤ → Type 0) → List ℕ → Type 0
+IsRowNoted ss f j Old noted = (k : ℕ) → k ≤ f.width → IsGap ss Old ((f.left -ℤ pos 1) +ℤ pos k) j → word_bit noted k ≡ 1
+
+-- each gap of the frame's columns, seen as rows, between i and i + 1 has its bit
+abbrev pub IsLevelNoted : List Span → Frame → ℤ → (ℤ → ℤ → Type 0) → List ℕ → Type 0
+IsLevelNoted ss f i Old noted = (k : ℕ) → k < f.width → IsGap ss Old i (f.left +ℤ pos k) → word_bit noted k ≡ 1

@@ -1,10 +1,11 @@
 -- Columns seen as rows: with `true` the coordinates of pieces and pixels are exchanged, with `false` all is as it is.
-use Rattle.std.specs.Prelude.{ℤ, Bool, true, false, List, map}
+use Rattle.std.specs.Prelude.{ℤ, ◌<ℤ◌, ◌⊎◌, Bool, true, false, List, map}
 use Rattle.fx_winding.specs.declared.frame.Frame.{Frame}
 use Rattle.fx_winding.specs.Bitmaps.{Bits, bit_of}
 use Rattle.fx_winding.specs.Dropout.{turned_span}
 use Rattle.fx_winding.specs.Frames.{IsInFrame}
 use Rattle.fx_winding.specs.Area.{Place}
+use Rattle.fx_winding.specs.Outside.{HasAll}
 use Rattle.fx_winding.specs.Winding.{Span, centre}
 
 -- a piece
@@ -31,3 +32,11 @@ seen_bit true b i j = bit_of b j i
 abbrev pub seen_centre : Bool → ℤ → ℤ → Place
 seen_centre false i j = centre i j
 seen_centre true i j = centre j i
+
+-- all points of a piece are above a height, or all below
+abbrev pub IsBeside : ℤ → Span → Type 0
+IsBeside y s = HasAll (λ e. y <ℤ e.y) s ⊎ HasAll (λ e. e.y <ℤ y) s
+
+-- all points of a piece are left of a place of a row, or all right of another
+abbrev pub IsAside : ℤ → ℤ → Span → Type 0
+IsAside first last s = HasAll (λ e. e.x <ℤ first) s ⊎ HasAll (λ e. last <ℤ e.x) s

@@ -3,7 +3,8 @@ use Rattle.fx_fixed.proofs.Linear.{signed_linear}
 use Rattle.fx_winding.specs.Winding.{span_of}
 use Rattle.fx_winding.proofs.Places.{clash}
 use Rattle.fx_dropout.specs.inner.Turned.{seen_bit}
-use Rattle.fx_dropout.proofs.Rows.{gap_at, so_far_same, same_without}
+use Rattle.fx_dropout.proofs.Segments.{gap_at, same_without}
+use Rattle.fx_dropout.proofs.SoFar.{so_far_same}
 use Rattle.fx_dropout.proofs.close.close_gap.Goals as goal
 
 pub returns-then-is_gap-clause-here : goal.returns-then-is_gap-clause-here

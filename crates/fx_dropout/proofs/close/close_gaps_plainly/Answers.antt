@@ -4,7 +4,8 @@ use Rattle.fx_winding.specs.Dropout.{IsBridged}
 use Rattle.fx_winding.specs.Winding.{span_of}
 use Rattle.fx_dropout.specs.inner.Lines.{IsSoFar}
 use Rattle.fx_dropout.specs.inner.Turned.{seen_spans, IsSeenInFrame}
-use Rattle.fx_dropout.proofs.Rows.{columns_after_rows, scan_so_far, so_far_in_frame}
+use Rattle.fx_dropout.proofs.Rows.{columns_after_rows}
+use Rattle.fx_dropout.proofs.SoFar.{scan_so_far, so_far_in_frame}
 use Rattle.fx_dropout.proofs.close.close_gaps_plainly.Goals as goal
 
 pub returns-clause-bits : goal.returns-clause-bits

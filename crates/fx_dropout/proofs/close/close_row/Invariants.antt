@@ -4,10 +4,10 @@ use Rattle.fx_dropout.specs.inner.Lines.{AreClosed, IsSoFar}
 use Rattle.fx_dropout.specs.inner.Turned.{seen_spans}
 use Rattle.fx_dropout.proofs.close.close_row.Given as goal
 
-abbrev pub invariant-pixels : goal.invariant-pixels
-invariant-pixels l = record {
+abbrev pub invariant-segments : goal.invariant-segments
+invariant-segments l = record {
   same : l.bitmap.frame ≡ l.initial.bitmap.frame;
-  closed : AreClosed (seen_spans l.turned (map span_of l.pieces)) l.frame.left l.k l.j
+  closed : AreClosed (seen_spans l.turned (map span_of l.pieces)) l.frame l.k l.j
       (IsSoFar l.turned (map span_of l.pieces) l.initial.bitmap.frame l.initial.bitmap)
       (IsSoFar l.turned (map span_of l.pieces) l.initial.bitmap.frame l.bitmap);
 }

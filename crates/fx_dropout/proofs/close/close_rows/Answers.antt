@@ -8,8 +8,20 @@ use Rattle.fx_winding.specs.Winding.{span_of}
 use Rattle.fx_winding.specs.Frames.{HasMargin}
 use Rattle.fx_dropout.specs.inner.Lines.{IsRowClosed, IsSoFar}
 use Rattle.fx_dropout.specs.inner.Turned.{seen_spans, IsSeenInFrame}
-use Rattle.fx_dropout.proofs.Rows.{rows_none, rows_more, rows_all, bridged_inside}
+use Rattle.fx_dropout.proofs.Rows.{rows_none, rows_more, rows_all, bridged_inside, narrow, narrow_closed}
 use Rattle.fx_dropout.proofs.close.close_rows.Goals as goal
+
+pub returns-then-frame-eq0-clause-closed : goal.returns-then-frame-eq0-clause-closed
+returns-then-frame-eq0-clause-closed c =
+    let f = c.args.bitmap.now.frame in
+    let g = c.seen_frame-frame.result in
+    let ss = map span_of c.args.pieces.now in
+    let none : g.width ≡ 0 = c.if-frame-eq0.true in
+    let same : (i j : ℤ) → IsInFrame g i j ↔ IsSeenInFrame c.args.turned f i j =
+    λ i j. subst (λ (h : Frame). IsInFrame g i j ↔ IsSeenInFrame c.args.turned h i j) c.frame.ensures.value
+    (c.seen_frame-frame.ensures.inside i j) in
+    narrow_closed (seen_spans c.args.turned ss) (IsSeenInFrame c.args.turned f) (IsSoFar c.args.turned ss f c.args.bitmap.now)
+    (λ i j h. narrow g i j none ((same i j).1 h))
 
 pub close_row-requires-clause-margin : goal.close_row-requires-clause-margin
 close_row-requires-clause-margin c =

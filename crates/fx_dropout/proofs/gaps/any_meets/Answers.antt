@@ -3,24 +3,22 @@ use Rattle.std.proofs.Math.Seq.{take-length}
 use Rattle.std.proofs.lemmas.List.Elements.{All-more}
 use Rattle.fx_fixed.proofs.Linear.{signed_linear}
 use Rattle.fx_winding.specs.Meets.{IsMet}
-use Rattle.fx_winding.specs.Winding.{Span, span_of, centre}
+use Rattle.fx_winding.specs.Winding.{span_of, centre}
 use Rattle.fx_winding.proofs.Places.{clash, no}
 use Rattle.fx_dropout.specs.inner.Turned.{seen_span}
 use Rattle.fx_dropout.proofs.Missed.{IsMissed, any_met, none_met}
 use Rattle.fx_dropout.proofs.gaps.any_meets.Goals as goal
 
-pub returns-then-meets_next : goal.returns-then-meets_next
-returns-then-meets_next c =
+pub returns-then-meets_seen : goal.returns-then-meets_seen
+returns-then-meets_seen c =
     let p = centre c.args.i c.args.j in
     let q = centre (c.args.i +ℤ pos 1) c.args.j in
     let i : to_z w32 (of_z w32 c.args.i) ≡ c.args.i = omega (arith, signed_linear) in
     let j : to_z w32 (of_z w32 c.args.j) ≡ c.args.j = omega (arith, signed_linear) in
     let met : IsMet (centre (to_z w32 (of_z w32 c.args.i)) (to_z w32 (of_z w32 c.args.j)))
-    (centre (to_z w32 (of_z w32 c.args.i) +ℤ pos 1) (to_z w32 (of_z w32 c.args.j))) (span_of c.seen_piece.result) =
-    c.meets_next.ensures.0 c.if-meets_next.true in
-    let here : IsMet p q (span_of c.seen_piece.result) = rw (← i, ← j) met in
-    let seen : IsMet p q (seen_span c.args.turned (span_of c.piece-item.result)) =
-    subst (λ (s : Span). IsMet p q s) c.seen_piece.ensures here in (
+    (centre (to_z w32 (of_z w32 c.args.i) +ℤ pos 1) (to_z w32 (of_z w32 c.args.j)))
+    (seen_span c.args.turned (span_of c.piece-item.result)) = c.meets_seen.ensures.0 c.if-meets_seen.true in
+    let seen : IsMet p q (seen_span c.args.turned (span_of c.piece-item.result)) = rw (← i, ← j) met in (
       λ t. any_met c.args.turned p q c.args.pieces.now c.pieces.piece-index c.piece-item.result (omega arith)
           (sym c.piece-item.is) seen,
       λ a. refl,
@@ -31,8 +29,7 @@ pieces-preserved c =
     let p = centre (to_z w32 (of_z w32 c.args.i)) (to_z w32 (of_z w32 c.args.j)) in
     let q = centre (to_z w32 (of_z w32 c.args.i) +ℤ pos 1) (to_z w32 (of_z w32 c.args.j)) in
     let off : IsMissed c.args.turned p q c.piece-item.result =
-    λ m. clash c.meets_next.result c.if-meets_next.false
-    (c.meets_next.ensures.1 (subst (λ (s : Span). IsMet p q s) (sym c.seen_piece.ensures) m)) in
+    λ m. clash c.meets_seen.result c.if-meets_seen.false (c.meets_seen.ensures.1 m) in
     All-more (IsMissed c.args.turned p q) c.args.pieces.now c.pieces.piece-index c.piece-item.result (omega arith)
     c.pieces.invariant (subst (IsMissed c.args.turned p q) c.piece-item.is off)
 

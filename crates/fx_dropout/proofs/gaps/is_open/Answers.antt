@@ -4,7 +4,7 @@ use Rattle.fx_winding.specs.declared.frame.Frame.{Frame}
 use Rattle.fx_winding.specs.Winding.{span_of, IsCovered}
 use Rattle.fx_winding.proofs.Places.{no}
 use Rattle.fx_dropout.specs.inner.Turned.{seen_bit, seen_centre, IsSeenInFrame}
-use Rattle.fx_dropout.proofs.Rows.{open_when}
+use Rattle.fx_dropout.proofs.SoFar.{open_when}
 use Rattle.fx_dropout.proofs.gaps.is_open.Goals as goal
 
 pub returns-then-is_set : goal.returns-then-is_set

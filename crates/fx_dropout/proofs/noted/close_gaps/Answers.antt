@@ -1,26 +1,23 @@
 use Rattle.std.proofs.Common.{◌↔◌, inl, true, false, subst, map, ℤ}
 use Rattle.fx_winding.specs.declared.frame.Frame.{Frame}
-use Rattle.fx_winding.specs.Dropout.{IsBridged}
+use Rattle.fx_winding.specs.Dropout.{IsBridged, turned_span}
+use Rattle.fx_winding.specs.Frames.{IsInFrame}
 use Rattle.fx_winding.specs.Winding.{span_of}
 use Rattle.fx_dropout.specs.inner.Lines.{IsSoFar}
-use Rattle.fx_dropout.specs.inner.Turned.{seen_spans, IsSeenInFrame}
-use Rattle.fx_dropout.proofs.Rows.{columns_after_rows, scan_so_far, so_far_in_frame}
+use Rattle.fx_dropout.proofs.Rows.{columns_after_rows}
+use Rattle.fx_dropout.proofs.SoFar.{scan_so_far, so_far_in_frame}
 use Rattle.fx_dropout.proofs.noted.close_gaps.Goals as goal
-
-pub close_lines-requires-clause-covered : goal.close_lines-requires-clause-covered
-close_lines-requires-clause-covered c = λ i j k.
-    (scan_so_far (map span_of c.args.pieces.now) c.args.bitmap.now.frame c.args.bitmap.now c.requires.scanned i j).1 k
 
 pub returns-clause-bits : goal.returns-clause-bits
 returns-clause-bits c =
     let ss = map span_of c.args.pieces.now in
     let f = c.args.bitmap.now.frame in
-    let rows = c.close_lines.new.bitmap in
-    let set = c.close_lines-2.new.bitmap in
-    let columns : (j i : ℤ) → IsSoFar true ss f set j i ↔ IsBridged (seen_spans true ss) (IsSeenInFrame true f)
+    let rows = c.close_rows.new.bitmap in
+    let set = c.close_columns.new.bitmap in
+    let columns : (j i : ℤ) → IsSoFar true ss f set j i ↔ IsBridged (map turned_span ss) (λ j i. IsInFrame f i j)
     (IsSoFar true ss f rows) j i =
-    subst (λ (g : Frame). (j i : ℤ) → IsSoFar true ss g set j i ↔ IsBridged (seen_spans true ss) (IsSeenInFrame true g)
-    (IsSoFar true ss g rows) j i) c.in_ok-close_lines.ensures.frame c.in_ok-close_lines-2.ensures.closed in
+    subst (λ (g : Frame). (j i : ℤ) → IsSoFar true ss g set j i ↔ IsBridged (map turned_span ss) (λ j i. IsInFrame g i j)
+    (IsSoFar true ss g rows) j i) c.close_rows.ensures.frame c.close_columns.ensures.closed in
     let all = columns_after_rows ss f (IsSoFar false ss f c.args.bitmap.now) (IsSoFar false ss f rows) (IsSoFar false ss f set)
-    (scan_so_far ss f c.args.bitmap.now c.requires.scanned) c.in_ok-close_lines.ensures.closed columns in
+    (scan_so_far ss f c.args.bitmap.now c.requires.scanned) c.close_rows.ensures.closed columns in
     λ i j h. (λ t. (all i j).0 (inl t), λ s. so_far_in_frame ss f set i j h ((all i j).1 s))

@@ -21,9 +21,6 @@ mark-requires-clause-few c = omega (arith, signed_linear)
 pub overflow_cast-end : goal.overflow_cast-end
 overflow_cast-end c = omega (arith, signed_linear)
 
-pub saturating_sub-end-requires : goal.saturating_sub-end-requires
-saturating_sub-end-requires c = omega (arith, signed_linear)
-
 pub mark-requires-clause-words : goal.mark-requires-clause-words
 mark-requires-clause-words c =
     let b = c.args.band.now in
@@ -71,7 +68,7 @@ returns-clause-added c = λ s h.
     let cut = c.args.cut in
     let at = c.first_of-first.result in
     let v : to_z w32 (of_z w32 cut.value) ≡ cut.value = omega (arith, signed_linear, cut.small) in
-    let added = added_cut s c.args.strip b.frame cut c.saturating_sub-end.result at c.deref_mut.result.now
+    let added = added_cut s c.args.strip b.frame cut c.args.end at c.deref_mut.result.now
     c.add_before.new.diff c.deref_mut-2.result.now c.add_before.new.touched c.deref_mut-3.result.now c.mark.new.line
     c.requires.first c.requires.last (omega arith)
     (λ k l. c.add_before.ensures.inside k l ∙ ap (λ (z : ℤ). before (at + k + 1) c.deref_mut.result.now +ℤ z) v)

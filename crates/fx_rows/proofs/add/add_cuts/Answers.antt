@@ -1,14 +1,21 @@
-use Rattle.std.proofs.Common.{◌≡◌, ◌∙◌, refl, arith}
+use Rattle.std.proofs.Common.{◌≡◌, ◌∙◌, refl, subst, arith}
+use Rattle.fx_winding.specs.declared.frame.Frame.{Frame}
+use Rattle.fx_rows.specs.inner.Told.{IsEnd}
 use Rattle.fx_rows.specs.inner.Bands.{bounded_span}
 use Rattle.fx_rows.proofs.Banding.{band_none}
 use Rattle.fx_rows.proofs.Stepping.{strip_row, row_in, inner_row, cut_inside}
 use Rattle.fx_rows.proofs.Stepping.{band_small, band_next, band_end, at_base, at_base_above, next_row_in}
+use Rattle.fx_rows.proofs.Telling.{rise_told, cut_end, told_none, told_next, told_end}
 use Rattle.fx_rows.proofs.add.add_cuts.Goals as goal
 
 pub rows-init : goal.rows-init
 rows-init g c = record {
   frame = refl;
   added = band_none (bounded_span c.args.bounded.now) c.args.band.now.frame c.args.rows.first c.args.band.now;
+  of = λ f h. h;
+  kept = λ s r h. h;
+  told = told_none (g.N.Noting.IsTold c.args.noter.now) (bounded_span c.args.bounded.now) c.args.band.now.frame c.args.rows.first
+      c.args.rows.first (omega arith);
   count = omega arith;
   at = λ h. c.requires.at;
 }
@@ -58,10 +65,20 @@ rows-preserved g c =
     c.row_of.ensures.value in
     let n = c.next-cut.ensures.count in
     let m = inv.count in
+    let first = c.strip_of-strip.ensures.first in
+    let last = c.strip_of-strip.ensures.last in
+    let value = c.next-cut.ensures.value ∙ rise_told s _ _ _ c.args.bounded.now.rises in
+    let is = cut_end s now strip c.next-cut.result up c.saturating_sub-end.result at first last c.saturating_sub-end.ensures value
+    c.next-cut.ensures.cut in
     record {
       frame = c.add_cut.ensures.frame ∙ inv.frame;
       added = band_next s f now strip.row c.args.rows.first up c.args.band.now c.rows.band c.add_cut.new.band (omega arith)
           inv.frame at inv.added (c.add_cut.ensures.added s c.next-cut.ensures.cut);
+      of = λ f h. c.tell.ensures.frame f (inv.of f h);
+      kept = λ t r h. c.tell.ensures.kept t r (inv.kept t r h);
+      told = told_next (g.N.Noting.IsTold c.rows.noter) (g.N.Noting.IsTold c.tell.new.self) s f c.args.rows.first up
+          c.saturating_sub-end.result inv.told c.tell.ensures.others c.tell.ensures.told
+          (subst (λ (x : Frame). IsEnd s x up c.saturating_sub-end.result) inv.frame is);
       at = λ h.
           let r = c.requires.rows in
           at_base_above (g.C.Cuts.AreAt c.next-cut.new.self c.args.bounded.now) f now strip up inv.frame at
@@ -77,6 +94,17 @@ pub returns-clause-added : goal.returns-clause-added
 returns-clause-added g c =
     band_end (bounded_span c.args.bounded.now) c.args.band.now.frame c.args.rows.first c.rows.up c.args.rows.end c.args.band.now
     c.rows.band (omega (arith, c.args.rows.order)) c.rows.invariant.added
+
+pub returns-clause-of : goal.returns-clause-of
+returns-clause-of g c = c.rows.invariant.of
+
+pub returns-clause-kept : goal.returns-clause-kept
+returns-clause-kept g c = c.rows.invariant.kept
+
+pub returns-clause-told : goal.returns-clause-told
+returns-clause-told g c =
+    told_end (g.N.Noting.IsTold c.rows.noter) (bounded_span c.args.bounded.now) c.args.band.now.frame c.args.rows.first c.rows.up
+    c.args.rows.end (omega (arith, c.args.rows.order)) c.rows.invariant.told
 
 pub returns-clause-count : goal.returns-clause-count
 returns-clause-count g c =

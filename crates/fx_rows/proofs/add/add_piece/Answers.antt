@@ -2,12 +2,14 @@ use Rattle.std.proofs.Common.{refl, sym, subst, ◌≤◌, ◌<◌, ℕ, ◌⊎�
 use Rattle.fx_winding.specs.Winding.{span_of}
 use Rattle.fx_winding.specs.declared.frame.Frame.{Frame}
 use Rattle.fx_fixed.proofs.Order.{below_or_not}
+use Rattle.fx_rows.specs.inner.Heights.{height_of}
 use Rattle.fx_rows.specs.inner.Bands.{IsBandAdded}
 use Rattle.fx_rows.proofs.Banding.{band_three, band_missed}
+use Rattle.fx_rows.proofs.Telling.{told_none, told_beside, not_inner_missed}
 use Rattle.fx_rows.proofs.add.add_piece.Goals as goal
 
 pub returns-then-rows-clause-added : goal.returns-then-rows-clause-added
-returns-then-rows-clause-added c =
+returns-then-rows-clause-added g c =
     let s = span_of c.args.piece.now in
     let old = c.args.band.now in
     let f = old.frame in
@@ -17,11 +19,11 @@ returns-then-rows-clause-added c =
     band_three s 0 r.first r.end f.height old old new new (omega arith) r.order m.within refl c.add_met_piece.ensures.frame
     (band_missed s f 0 r.first old (omega arith) (λ k h l. m.missed k (omega (arith, m.within, r.order)) (inl l)))
     c.add_met_piece.ensures.added
-    (subst (λ (g : Frame). IsBandAdded s g r.end f.height new new) (sym c.add_met_piece.ensures.frame)
+    (subst (λ (x : Frame). IsBandAdded s x r.end f.height new new) (sym c.add_met_piece.ensures.frame)
     (band_missed s f r.end f.height new m.within (λ k h l. m.missed k l (inr h))))
 
 pub returns-else-rows-clause-added : goal.returns-else-rows-clause-added
-returns-else-rows-clause-added c =
+returns-else-rows-clause-added g c =
     let r = c.rows_met-rows.result in
     let m = c.rows_met-rows.ensures in
     band_missed (span_of c.args.piece.now) c.args.band.now.frame 0 c.args.band.now.frame.height c.args.band.now (omega arith)
@@ -31,3 +33,24 @@ returns-else-rows-clause-added c =
         → (k < c.rows_met-rows.result.first) ⊎ (c.rows_met-rows.result.end ≤ k)
     by k (inl h) = inl h
     by k (inr h) = inr (omega arith)
+
+pub returns-then-rows-clause-told : goal.returns-then-rows-clause-told
+returns-then-rows-clause-told g c =
+    let s = span_of c.args.piece.now in
+    let f = c.args.band.now.frame in
+    let r = c.rows_met-rows.result in
+    let m = c.rows_met-rows.ensures in
+    told_beside (g.N.Noting.IsTold c.add_met_piece.new.noter) s f 0 r.first r.end f.height
+    (λ k h l. not_inner_missed s (height_of f k) (m.missed k (omega (arith, m.within, r.order)) (inl l)))
+    (λ k h l. not_inner_missed s (height_of f k) (m.missed k l (inr h))) c.add_met_piece.ensures.told
+
+pub returns-else-rows-clause-told : goal.returns-else-rows-clause-told
+returns-else-rows-clause-told g c =
+    let s = span_of c.args.piece.now in
+    let f = c.args.band.now.frame in
+    let r = c.rows_met-rows.result in
+    let m = c.rows_met-rows.ensures in
+    let T = g.N.Noting.IsTold c.args.noter.now in
+    told_beside T s f 0 r.first r.end f.height
+    (λ k h l. not_inner_missed s (height_of f k) (m.missed k (omega (arith, m.within, r.order)) (inl l)))
+    (λ k h l. not_inner_missed s (height_of f k) (m.missed k l (inr h))) (told_none T s f r.first r.end (omega arith))

@@ -5,8 +5,8 @@ use Rattle.fx_rows.proofs.Stepping.{rise_value}
 use Rattle.fx_rows.proofs.Counting.{rise_sign, clear_is_cut}
 use Rattle.fx_rows.proofs.cut.clear_cut.Goals as goal
 
-pub returns : goal.returns
-returns c =
+pub returns-clause-cut : goal.returns-clause-cut
+returns-clause-cut c =
     let p = c.args.bounded.now.piece in
     let t = c.args.bounded.now.across in
     let ff : to_z w32 (of_z w32 t.first) ≡ t.first = omega (arith, signed_linear) in

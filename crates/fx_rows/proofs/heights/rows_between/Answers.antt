@@ -24,3 +24,24 @@ returns-clause-head c = λ r h l.
     let near : to_z w32 (of_z w32 c.args.rise.head) ≡ c.args.rise.head = omega (arith, signed_linear, c.args.rise.near_head) in
     let under = c.first_from-2.ensures.before (c.args.frame.bottom +ℤ pos r) b in
     omega (arith, signed_linear, under, near)
+
+pub returns-clause-under : goal.returns-clause-under
+returns-clause-under c = λ r h l.
+    let same : to_z w32 (of_z w32 c.first_from.result) ≡ c.first_from.result =
+    omega (arith, signed_linear, c.first_from.ensures.size) in
+    let b : (c.args.frame.bottom +ℤ pos r) <ℤ c.first_from.result =
+    rw same at (c.rows_below-foot.ensures.below r (c.clamped-first.ensures.to r h l)) in
+    let near : to_z w32 (of_z w32 (to_z w32 (of_z w32 c.args.rise.foot) +ℤ pos 1)) ≡ c.args.rise.foot +ℤ pos 1 =
+    omega (arith, signed_linear, c.args.rise.near_foot) in
+    let under = c.first_from.ensures.before (c.args.frame.bottom +ℤ pos r) b in
+    omega (arith, signed_linear, under, near)
+
+pub returns-clause-over : goal.returns-clause-over
+returns-clause-over c = λ r h l.
+    let same : to_z w32 (of_z w32 c.first_from-2.result) ≡ c.first_from-2.result =
+    omega (arith, signed_linear, c.first_from-2.ensures.size) in
+    let b : c.first_from-2.result ≤ℤ (c.args.frame.bottom +ℤ pos r) =
+    rw same at (c.rows_below-head.ensures.rest r (c.clamped.ensures.from r h l) (omega (arith, c.requires, l))) in
+    let near : to_z w32 (of_z w32 c.args.rise.head) ≡ c.args.rise.head = omega (arith, signed_linear, c.args.rise.near_head) in
+    let over = c.first_from-2.ensures.from (c.args.frame.bottom +ℤ pos r) b in
+    omega (arith, signed_linear, over, near)

@@ -1,20 +1,22 @@
 use Rattle.std.proofs.Common.{◌≡◌, ◌⊎◌, inl, inr, refl, ◌∙◌, ℕ, zero, suc, ◌+◌, ◌*◌, ◌^◌, ◌<◌, ◌≤◌, ◌↔◌, IsTrue, Any, subst, sym}
-use Rattle.std.proofs.Common.{ap, pos, ◌+ℤ◌, map, length, get_or, arith, List, false}
+use Rattle.std.proofs.Common.{ap, pos, ◌+ℤ◌, map, length, get_or, take, arith, List, false}
 use Rattle.std.proofs.Math.ListN.{get_or-map}
-use Rattle.std.proofs.lemmas.List.{length-map}
+use Rattle.std.proofs.lemmas.List.{length-map, take_all}
 use Rattle.fx_fixed.proofs.Linear.{signed_linear}
 use Rattle.fx_fixed.specs.Ranges.{IsWithin}
 use Rattle.fx_winding.specs.declared.frame.Frame.{Frame}
 use Rattle.fx_winding.specs.Winding.{Span, span_of, centre, winding, IsOn}
 use Rattle.fx_rows.specs.inner.Sums.{before, AreWithin}
 use Rattle.fx_rows.specs.inner.Bands.{stride, turns_at, mark_at, IsBandAdded}
+use Rattle.fx_rows.specs.inner.Telling.{AreRowsTold, AreNotedIn}
 use Rattle.fx_rows.proofs.Counted.{counted_start, counted_more, counted_all, count_more, within_none}
 use Rattle.fx_rows.proofs.Banding.{IsNumber, number_or_not}
 use Rattle.fx_rows.proofs.Sums.{before_none}
+use Rattle.fx_rows.proofs.Telling.{told_whole, noted_start, noted_kept, noted_more}
 use Rattle.fx_rows.proofs.rows.count_band.Goals as goal
 
 pub pieces-init : goal.pieces-init
-pieces-init c =
+pieces-init g c =
     let b = c.args.band.now in
     let f = b.frame in
     let none : (n : ℕ) → turns_at b n ≡ pos 0 = λ n. before_none (n + 1) b.diff.items c.requires.clear.counts in
@@ -27,18 +29,32 @@ pieces-init c =
       unused = λ n h. c.requires.clear.marks n;
       touched = λ k o z. c.requires.clear.counts k;
       small = within_none b.diff.items c.requires.clear.counts;
+      of = λ f h. h;
+      kept = λ s r h. h;
+      noted = noted_start (g.N.Noting.IsNotedAt c.args.noter.now) (map span_of c.args.pieces.now) c.args.frame c.args.rows.first
+          c.args.rows.end;
       count = omega arith;
     }
 
 pub add_piece-requires : goal.add_piece-requires
-add_piece-requires c =
+add_piece-requires g c =
     let l : length c.args.pieces.now ≤ 65536 = c.requires.few in
     record {
       small = λ k. let e = c.pieces.invariant.small k in (omega (arith, signed_linear, e, l), omega (arith, signed_linear, e, l));
     }
 
+pub note-requires-clause-told : goal.note-requires-clause-told
+note-requires-clause-told g c =
+    let s = span_of c.piece-item.result in
+    let T = g.N.Noting.IsTold c.add_piece.new.noter in
+    told_whole T s c.args.frame c.args.band.now.frame c.args.rows.first c.args.rows.end c.requires.part
+    (subst (λ (f : Frame). AreRowsTold T s f 0 f.height) c.pieces.invariant.frame c.add_piece.ensures.told)
+
+pub note-requires-clause-frame : goal.note-requires-clause-frame
+note-requires-clause-frame g c = c.add_piece.ensures.of c.args.frame (c.pieces.invariant.of c.args.frame c.requires.of)
+
 pub pieces-preserved : goal.pieces-preserved
-pieces-preserved c =
+pieces-preserved g c =
     let f = c.args.band.now.frame in
     let spans = map span_of c.args.pieces.now in
     let here = c.pieces.piece-index in
@@ -50,9 +66,9 @@ pieces-preserved c =
     let inside : here < length spans = omega (arith, length-map c.args.pieces.now span_of) in
     let is : s ≡ get_or spans here s =
     ap span_of c.piece-item.is ∙ sym (get_or-map span_of c.args.pieces.now here piece) in
-    let more = subst (λ (g : Frame). IsBandAdded s g 0 g.height old new) inv.frame c.add_piece.ensures.added in
+    let more = subst (λ (x : Frame). IsBandAdded s x 0 x.height old new) inv.frame c.add_piece.ensures.added in
     let few = c.args.band.now.few in
-    let high = ap (λ (g : Frame). g.height) inv.frame in
+    let high = ap (λ (x : Frame). x.height) inv.frame in
     let n = c.add_piece.ensures.count in
     let whole : 512 * here ≡ 512 * here + 4 * 0 = omega arith in
     let each : c.add_piece.new.tally.count ≤ c.pieces.tally.count + 12 * f.height = omega (arith, n, high) in
@@ -67,15 +83,22 @@ pieces-preserved c =
       touched = more.touches inv.touched;
       small = λ k. let e = more.grown (512 * here) (subst (λ (n : ℕ). AreWithin n old.diff.items) whole inv.small) k in
           (omega (arith, signed_linear, e, few), omega (arith, signed_linear, e, few));
+      of = λ f h. c.note.ensures.frame f (c.add_piece.ensures.of f (inv.of f h));
+      kept = λ t r h. c.note.ensures.kept t r (c.add_piece.ensures.kept t r (inv.kept t r h));
+      noted = noted_more (g.N.Noting.IsNotedAt c.note.new.self) spans c.args.frame c.args.rows.first c.args.rows.end here s inside
+          is (noted_kept (g.N.Noting.IsNotedAt c.pieces.noter) (g.N.Noting.IsNotedAt c.note.new.self) (take here spans)
+          c.args.frame c.args.rows.first c.args.rows.end
+          (λ t r h. c.note.ensures.kept t r (c.add_piece.ensures.kept t r h)) inv.noted)
+          (record { rows = c.note.ensures.noted; top = c.note.ensures.top });
       count = count_more c.args.tally.now.count c.pieces.tally.count c.add_piece.new.tally.count here (12 * f.height)
           inv.count each;
     }
 
 pub returns-clause-frame : goal.returns-clause-frame
-returns-clause-frame c = c.pieces.invariant.frame
+returns-clause-frame g c = c.pieces.invariant.frame
 
 pub returns-clause-counted : goal.returns-clause-counted
-returns-clause-counted c = record {
+returns-clause-counted g c = record {
   turns = λ r k h l. (all r k h l).0;
   marks = λ r k h l. (all r k h l).1;
   rest = c.pieces.invariant.rest;
@@ -99,8 +122,15 @@ returns-clause-counted c = record {
         (mark_at c.pieces.band (r * stride f.width + k)) (turns_at c.pieces.band (r * stride f.width + k)) done
         (c.pieces.invariant.counted r k h l)
 
+pub returns-clause-noted : goal.returns-clause-noted
+returns-clause-noted g c =
+    let spans = map span_of c.args.pieces.now in
+    let n = length-map c.args.pieces.now span_of in
+    subst (λ (ss : List Span). AreNotedIn (g.N.Noting.IsNotedAt c.pieces.noter) ss c.args.frame c.args.rows.first c.args.rows.end)
+    (take_all c.pieces.piece-index spans (omega (arith, n))) c.pieces.invariant.noted
+
 pub returns-clause-small : goal.returns-clause-small
-returns-clause-small c = λ n. by n
+returns-clause-small g c = λ n. by n
   where
     f : Frame
     f = c.args.band.now.frame
@@ -123,7 +153,7 @@ returns-clause-small c = λ n. by n
         subst (λ (m : ℕ). IsWithin (2 ^ 20) (before m c.pieces.band.diff.items)) e (after n (number_or_not f.width f.height n))
 
 pub returns-clause-count : goal.returns-clause-count
-returns-clause-count c =
+returns-clause-count g c =
     let done : c.pieces.piece-index ≡ length c.args.pieces.now = omega arith in
     let P : ℕ → Type 0 = λ n. c.pieces.tally.count ≤ c.args.tally.now.count + n * (12 * c.args.band.now.frame.height) in
     subst P done c.pieces.invariant.count

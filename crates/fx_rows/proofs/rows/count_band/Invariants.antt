@@ -1,12 +1,14 @@
-use Rattle.std.proofs.Common.{◌≡◌, ℕ, ◌+◌, ◌*◌, ◌<◌, ◌≤◌, pos, ◌+ℤ◌, map, false}
-use Rattle.fx_winding.specs.Winding.{span_of, centre}
+use Rattle.std.proofs.Common.{◌≡◌, ℕ, ◌+◌, ◌*◌, ◌<◌, ◌≤◌, pos, ◌+ℤ◌, map, take, false}
+use Rattle.fx_winding.specs.declared.frame.Frame.{Frame}
+use Rattle.fx_winding.specs.Winding.{Span, span_of, centre}
 use Rattle.fx_rows.specs.inner.Sums.{AreWithin, AreTouched}
 use Rattle.fx_rows.specs.inner.Bands.{stride, turns_at, mark_at, IsBeside}
+use Rattle.fx_rows.specs.inner.Telling.{AreNotedIn}
 use Rattle.fx_rows.proofs.Counted.{Counted}
 use Rattle.fx_rows.proofs.rows.count_band.Given as goal
 
 abbrev pub invariant-pieces : goal.invariant-pieces
-invariant-pieces l = record {
+invariant-pieces g l = record {
   frame : l.band.frame ≡ l.fn.band.frame;
   counted : (r k : ℕ) → r < l.fn.band.frame.height → k < l.fn.band.frame.width
       → Counted (centre (l.fn.band.frame.left +ℤ pos k) (l.fn.band.frame.bottom +ℤ pos r)) (map span_of l.pieces) l.piece-index
@@ -15,5 +17,8 @@ invariant-pieces l = record {
   unused : (n : ℕ) → IsBeside l.fn.band.frame 0 l.fn.band.frame.height n → mark_at l.band n ≡ false;
   touched : AreTouched l.band.diff.items l.band.touched.items;
   small : AreWithin (512 * l.piece-index) l.band.diff.items;
+  of : (f : Frame) → g.N.Noting.IsOf l.fn.noter f → g.N.Noting.IsOf l.noter f;
+  kept : (s : Span) (r : ℕ) → g.N.Noting.IsNotedAt l.fn.noter s r → g.N.Noting.IsNotedAt l.noter s r;
+  noted : AreNotedIn (g.N.Noting.IsNotedAt l.noter) (take l.piece-index (map span_of l.pieces)) l.frame l.rows.first l.rows.end;
   count : l.tally.count ≤ l.fn.tally.count + l.piece-index * (12 * l.fn.band.frame.height);
 }

@@ -13,13 +13,13 @@ use Rattle.fx_rows.proofs.Banding.{number_in, after_last}
 use Rattle.fx_rows.proofs.rows.cover_band.Goals as goal
 
 pub returns-clause-count : goal.returns-clause-count
-returns-clause-count c = omega (arith, signed_linear)
+returns-clause-count g c = omega (arith, signed_linear)
 
 pub settle-requires-clause-long : goal.settle-requires-clause-long
-settle-requires-clause-long c = omega (arith, signed_linear)
+settle-requires-clause-long g c = omega (arith, signed_linear)
 
 pub settle-requires-clause-words : goal.settle-requires-clause-words
-settle-requires-clause-words c = omega (arith, signed_linear)
+settle-requires-clause-words g c = omega (arith, signed_linear)
 
 settled_bit : (new line marks marks' : List ℕ) (diff diff' : List ℤ) (n : ℕ) → new ≡ line → marks ≡ marks' → diff ≡ diff'
     → word_bit line n ≡ count_bit (before (n + 1) diff) (word_bit marks n)
@@ -28,13 +28,13 @@ settled_bit new line marks marks' diff diff' n el em ed h =
     ap (λ (ws : List ℕ). word_bit ws n) el ∙ h ∙ (λ i. count_bit (before (n + 1) (ed i)) (word_bit (em i) n))
 
 pub returns-clause-bits : goal.returns-clause-bits
-returns-clause-bits c = λ r k h l.
+returns-clause-bits g c = λ r k h l.
     let b = c.count_band.new.band in
     let f = c.args.band.now.frame in
     let n = r * stride f.width + k in
     let frame = c.count_band.ensures.frame in
     let room : length b.marks.items ≡ f.height * words_for f.width + 1 =
-    b.room ∙ ap (λ (g : Frame). g.height * words_for g.width + 1) frame in
+    b.room ∙ ap (λ (x : Frame). x.height * words_for x.width + 1) frame in
     let long : length c.deref_mut.result.now ≡ length b.marks.items = ap length c.deref_mut.ensures.value in
     let inside = number_in r f.height f.width k (length b.marks.items) h (omega (arith, l)) room in
     let whole = settled_bit (with_items b.marks c.settle.new.line).items c.settle.new.line c.deref_mut.result.now b.marks.items
@@ -47,13 +47,13 @@ returns-clause-bits c = λ r k h l.
     subst (λ (x : ℕ). (x ≡ 1) ↔ IsCovered p spans) (sym whole) set
 
 pub returns-clause-unused : goal.returns-clause-unused
-returns-clause-unused c = λ r k h w l.
+returns-clause-unused g c = λ r k h w l.
     let b = c.count_band.new.band in
     let f = c.args.band.now.frame in
     let n = r * stride f.width + k in
     let frame = c.count_band.ensures.frame in
     let room : length b.marks.items ≡ f.height * words_for f.width + 1 =
-    b.room ∙ ap (λ (g : Frame). g.height * words_for g.width + 1) frame in
+    b.room ∙ ap (λ (x : Frame). x.height * words_for x.width + 1) frame in
     let long : length c.deref_mut.result.now ≡ length b.marks.items = ap length c.deref_mut.ensures.value in
     let inside = number_in r f.height f.width k (length b.marks.items) h (l) room in
     let whole = settled_bit (with_items b.marks c.settle.new.line).items c.settle.new.line c.deref_mut.result.now b.marks.items

@@ -5,7 +5,7 @@ use Rattle.fx_winding.specs.Frames.{HasMargin}
 use Rattle.unit_tests.proofs.dropout.closed.Goals as goal
 
 pub close_gaps-requires-clause-margin : goal.close_gaps-requires-clause-margin
-close_gaps-requires-clause-margin c = subst HasMargin (sym c.in_ok-bitmap.ensures.same) (record {
+close_gaps-requires-clause-margin c = subst HasMargin (sym c.in_ok-bitmap.ensures.bits.same) (record {
   left = (omega (arith, signed_linear), omega (arith, signed_linear));
   right = (omega (arith, signed_linear), omega (arith, signed_linear));
   bottom = (omega (arith, signed_linear), omega (arith, signed_linear));

@@ -1,0 +1,244 @@
+-- Gaps at segments that are noted.
+-- Serves `across` and `up`.
+use Rattle.std.proofs.Common.{◌≡◌, ◌⊎◌, ◌↔◌, inl, inr, sym, ap, ◌∙◌, subst, min, IsTrue, true, false, ℕ, ◌+◌, ◌-◌, ◌*◌, ◌<◌, ◌≤◌, ℤ}
+use Rattle.std.proofs.Common.{pos, ◌+ℤ◌, ◌-ℤ◌}
+use Rattle.std.proofs.Common.{List, length, take, drop, map, All, Any, get_or, arith}
+use Rattle.fx_fixed.proofs.Linear.{signed_linear}
+use Rattle.fx_fixed.proofs.Order.{below_or_not}
+use Rattle.fx_winding.specs.declared.frame.Frame.{Frame}
+use Rattle.fx_winding.specs.Area.{Place}
+use Rattle.fx_winding.specs.Bitmaps.{Bits, words_for, bit_of, word_bit}
+use Rattle.fx_winding.specs.Dropout.{IsGap, turned_span}
+use Rattle.fx_winding.specs.Frames.{IsInFrame}
+use Rattle.fx_winding.specs.Meets.{IsMet}
+use Rattle.fx_winding.specs.Notes.{pixel_number, IsNoted}
+use Rattle.fx_winding.specs.Winding.{Span, centre, IsOn, IsCovered}
+use Rattle.fx_winding.proofs.Covers.{any_unmap}
+use Rattle.fx_dropout.specs.inner.Lines.{IsSoFar, IsRowNoted, IsLevelNoted, AreRowsClosed, IsBridgedTo}
+use Rattle.fx_dropout.specs.inner.Words.{IsShutAcross, IsShutUp, IsShutInRow, IsShutInColumn}
+use Rattle.fx_dropout.proofs.Levels.{levels_skip}
+use Rattle.fx_dropout.proofs.Rows.{rows_skip}
+use Rattle.fx_dropout.proofs.Segments.{gap_before}
+use Rattle.fx_dropout.proofs.SoFar.{so_far_decided}
+use Rattle.fx_dropout.proofs.Words.{part_bit}
+
+-- a piece on an end would cover it
+off : (ss : List Span) (p : Place) (n : ℕ) (s : Span) → n < length ss → get_or ss n s ≡ s → ¬ (IsCovered p ss) → ¬ (IsOn p s)
+unfolding IsCovered
+off ss p n s within is bare on = bare (inl (n, s, within, is, on))
+
+-- ---- what is a gap is noted
+across_noted : (ss : List Span) (f : Frame) (across up : List ℕ) (Old : ℤ → ℤ → Type 0) (r k : ℕ) (i j : ℤ)
+    → All (λ s. IsNoted s f across up) ss → ((i : ℤ) → IsCovered (centre i j) ss → Old i j) → r < f.height → k ≤ f.width
+    → i ≡ (f.left -ℤ pos 1) +ℤ pos k → j ≡ f.bottom +ℤ pos r → IsGap ss Old i j → word_bit across (pixel_number f r k) ≡ 1
+across_noted ss f across up Old r k i j all covered l m ei ej g = by g.met
+  where
+    left : ℤ
+    left = (f.left -ℤ pos 1) +ℤ pos k
+
+    right : i +ℤ pos 1 ≡ f.left +ℤ pos k
+    right = omega (arith, signed_linear, ei)
+
+    here : centre i j ≡ centre left (f.bottom +ℤ pos r)
+    here = λ t. centre (ei t) (ej t)
+
+    next : centre (i +ℤ pos 1) j ≡ centre (f.left +ℤ pos k) (f.bottom +ℤ pos r)
+    next = λ t. centre (right t) (ej t)
+
+    by : Any (IsMet (centre i j) (centre (i +ℤ pos 1) j)) ss → word_bit across (pixel_number f r k) ≡ 1
+    by (n, s, within, is, h) =
+        (subst (λ (s : Span). IsNoted s f across up) is (all n s within)).across r l k m (record {
+          met = subst (λ (z : Place × Place). IsMet z.0 z.1 s) (λ t. (here t, next t)) h;
+          off_left = subst (λ (p : Place). ¬ (IsOn p s)) here
+              (off ss (centre i j) n s within is (λ c. g.here (covered i c)));
+          off_right = subst (λ (p : Place). ¬ (IsOn p s)) next
+              (off ss (centre (i +ℤ pos 1) j) n s within is (λ c. g.next (covered (i +ℤ pos 1) c)));
+        })
+
+up_noted : (ss : List Span) (f : Frame) (across up : List ℕ) (Old : ℤ → ℤ → Type 0) (r k : ℕ) (i j : ℤ)
+    → All (λ s. IsNoted s f across up) ss → ((i j : ℤ) → IsCovered (centre j i) ss → Old i j) → r ≤ f.height → k < f.width
+    → i ≡ (f.bottom -ℤ pos 1) +ℤ pos r → j ≡ f.left +ℤ pos k → IsGap (map turned_span ss) Old i j
+    → word_bit up (pixel_number f r k) ≡ 1
+up_noted ss f across up Old r k i j all covered l m ei ej g =
+    by (any_unmap turned_span (λ s. IsMet (centre i j) (centre (i +ℤ pos 1) j) (turned_span s))
+    (IsMet (centre i j) (centre (i +ℤ pos 1) j)) (λ s h. h) ss g.met)
+  where
+    lower : ℤ
+    lower = (f.bottom -ℤ pos 1) +ℤ pos r
+
+    upper : i +ℤ pos 1 ≡ f.bottom +ℤ pos r
+    upper = omega (arith, signed_linear, ei)
+
+    by : Any (λ s. IsMet (centre i j) (centre (i +ℤ pos 1) j) (turned_span s)) ss → word_bit up (pixel_number f r k) ≡ 1
+    by (n, s, within, is, h) =
+        (subst (λ (s : Span). IsNoted s f across up) is (all n s within)).up r l k m (record {
+          met = subst (λ (z : Place × Place). IsMet z.0 z.1 (turned_span s))
+              (λ t. (centre (ei t) (ej t), centre (upper t) (ej t))) h;
+          off_lower = subst (λ (p : Place). ¬ (IsOn p s)) (λ t. centre (ej t) (ei t))
+              (off ss (centre j i) n s within is (λ c. g.here (covered i j c)));
+          off_upper = subst (λ (p : Place). ¬ (IsOn p s)) (λ t. centre (ej t) (upper t))
+              (off ss (centre j (i +ℤ pos 1)) n s within is (λ c. g.next (covered (i +ℤ pos 1) j c)));
+        })
+
+-- ---- the bits of one row's segments
+part_number : (xs part : List ℕ) (f : Frame) (r n k from : ℕ) → from ≡ r * words_for f.width → k < 32 * n
+    → part ≡ take n (drop from xs) → word_bit part k ≡ word_bit xs (pixel_number f r k)
+part_number xs part f r n k from e h p = ap (λ (l : List ℕ). word_bit l k) p ∙ by (words_for f.width) e
+  where
+    by : (w : ℕ) → from ≡ r * w → word_bit (take n (drop from xs)) k ≡ word_bit xs (r * (32 * w) + k)
+    by w e =
+        let at : 32 * from + k ≡ r * (32 * w) + k = grind (arith, e) in
+        part_bit xs from n k h ∙ ap (word_bit xs) at
+
+pub words_wide : (w : ℕ) → w ≤ 32 * words_for w
+words_wide w = omega arith
+
+pub row_noted : (ss : List Span) (f : Frame) (across up part : List ℕ) (Old : ℤ → ℤ → Type 0) (r from : ℕ) (j : ℤ)
+    → All (λ s. IsNoted s f across up) ss → ((i : ℤ) → IsCovered (centre i j) ss → Old i j) → r < f.height → j ≡ f.bottom +ℤ pos r
+    → from ≡ r * words_for f.width → part ≡ take (words_for f.width + 1) (drop from across) → IsRowNoted ss f j Old part
+row_noted ss f across up part Old r from j all covered l ej e p k m g =
+    part_number across part f r (words_for f.width + 1) k from e (omega (arith, words_wide f.width, m)) p
+    ∙ (across_noted ss f across up Old r k ((f.left -ℤ pos 1) +ℤ pos k) j all covered l m (λ t. (f.left -ℤ pos 1) +ℤ pos k) ej g)
+
+pub level_noted : (ss : List Span) (f : Frame) (across up part : List ℕ) (Old : ℤ → ℤ → Type 0) (r from : ℕ) (i : ℤ)
+    → All (λ s. IsNoted s f across up) ss → ((i j : ℤ) → IsCovered (centre j i) ss → Old i j) → r ≤ f.height
+    → i ≡ (f.bottom -ℤ pos 1) +ℤ pos r → from ≡ r * words_for f.width → part ≡ take (words_for f.width) (drop from up)
+    → IsLevelNoted (map turned_span ss) f i Old part
+level_noted ss f across up part Old r from i all covered l ei e p k m g =
+    part_number up part f r (words_for f.width) k from e (omega (arith, words_wide f.width, m)) p
+    ∙ (up_noted ss f across up Old r k i (f.left +ℤ pos k) all covered l m ei (λ t. f.left +ℤ pos k) g)
+
+-- ---- segments that can't be gaps
+clash : (n : ℕ) → n ≡ 0 → n ≡ 1 → ⊥
+clash n z o = omega (arith, z, o)
+
+-- one segment that is not noted
+pub row_unnoted : (ss : List Span) (f : Frame) (j : ℤ) (Old New : ℤ → ℤ → Type 0) (noted : List ℕ) (k n : ℕ)
+    → IsRowNoted ss f j Old noted → ((i : ℤ) → Old i j → New i j) → ¬ (word_bit noted k ≡ 1) → k ≤ f.width → k ≤ n → n < k + 1
+    → ¬ (IsGap ss New ((f.left -ℤ pos 1) +ℤ pos n) j)
+row_unnoted ss f j Old New noted k n all more none l low high g =
+    let e : n ≡ k = omega (arith, low, high) in
+    none (all k l (subst (λ (n : ℕ). IsGap ss Old ((f.left -ℤ pos 1) +ℤ pos n) j) e
+    (gap_before ss Old New j more ((f.left -ℤ pos 1) +ℤ pos n) g)))
+
+pub level_unnoted : (ss : List Span) (f : Frame) (i : ℤ) (Old New : ℤ → ℤ → Type 0) (noted : List ℕ) (k n : ℕ)
+    → IsLevelNoted ss f i Old noted → ((m j : ℤ) → Old m j → New m j) → ¬ (word_bit noted k ≡ 1) → k < f.width → k ≤ n → n < k + 1
+    → ¬ (IsGap ss New i (f.left +ℤ pos n))
+level_unnoted ss f i Old New noted k n all more none l low high g =
+    let e : n ≡ k = omega (arith, low, high) in
+    none (all k l (subst (λ (n : ℕ). IsGap ss Old i (f.left +ℤ pos n)) e
+    (gap_before ss Old New (f.left +ℤ pos n) (λ i. more i (f.left +ℤ pos n)) i g)))
+
+-- as the words of a row tell
+pub row_shut : (b : Bits) (across part row : List ℕ) (r m n from : ℕ) (j : ℤ)
+    → ((n : ℕ) → word_bit row n ≡ 1 → IsTrue (bit_of b (b.frame.left +ℤ pos n) j)) → j ≡ b.frame.bottom +ℤ pos r
+    → from ≡ r * words_for b.frame.width → part ≡ take m (drop from across) → n < 32 * m → IsShutAcross part row n
+    → IsShutInRow across b r n
+row_shut b across part row r m n from j set ej e p l (inl z) = inl (sym (part_number across part b.frame r m n from e l p) ∙ z)
+row_shut b across part row r m n from j set ej e p l (inr (inl o)) =
+    inr (inl (subst (λ (j : ℤ). IsTrue (bit_of b (b.frame.left +ℤ pos n) j)) ej (set n o)))
+row_shut b across part row r m n from j set ej e p l (inr (inr (some, o))) =
+    let i : b.frame.left +ℤ pos (n - 1) ≡ (b.frame.left -ℤ pos 1) +ℤ pos n = omega (arith, signed_linear, some) in
+    inr (inr (subst (λ (z : ℤ × ℤ). IsTrue (bit_of b z.0 z.1)) (λ t. (i t, ej t)) (set (n - 1) o)))
+
+-- a row is one of the two between which a segment leads
+abbrev pub IsEither : Frame → ℕ → ℤ → Type 0
+IsEither f r i = (i ≡ (f.bottom -ℤ pos 1) +ℤ pos r) ⊎ (i ≡ f.bottom +ℤ pos r)
+
+pub lower_either : (f : Frame) (up k : ℕ) (i : ℤ) → k ≡ up - 1 → i ≡ f.bottom +ℤ pos k → IsEither f up i
+lower_either f up k i e ei = by (below_or_not 0 up)
+  where
+    by : (0 < up) ⊎ (up ≤ 0) → IsEither f up i
+    by (inl l) = inl (omega (arith, signed_linear, ei, e, l))
+    by (inr l) = inr (omega (arith, signed_linear, ei, e, l))
+
+pub upper_either : (f : Frame) (up k : ℕ) (j : ℤ) → k ≡ min up (f.height - 1) → up ≤ f.height → 0 < f.height
+    → j ≡ f.bottom +ℤ pos k → IsEither f up j
+upper_either f up k j e few some ej = by (below_or_not up f.height)
+  where
+    by : (up < f.height) ⊎ (f.height ≤ up) → IsEither f up j
+    by (inl l) = inr (omega (arith, signed_linear, ej, e, l))
+    by (inr l) = inl (omega (arith, signed_linear, ej, e, l, few, some))
+
+either_set : (b : Bits) (r n : ℕ) (i : ℤ) → IsEither b.frame r i → IsTrue (bit_of b (b.frame.left +ℤ pos n) i)
+    → IsTrue (bit_of b (b.frame.left +ℤ pos n) ((b.frame.bottom -ℤ pos 1) +ℤ pos r))
+    ⊎ IsTrue (bit_of b (b.frame.left +ℤ pos n) (b.frame.bottom +ℤ pos r))
+either_set b r n i (inl e) t = inl (subst (λ (i : ℤ). IsTrue (bit_of b (b.frame.left +ℤ pos n) i)) e t)
+either_set b r n i (inr e) t = inr (subst (λ (i : ℤ). IsTrue (bit_of b (b.frame.left +ℤ pos n) i)) e t)
+
+-- as the words of two rows tell
+pub level_shut : (b : Bits) (up part lower upper : List ℕ) (r m n from : ℕ) (i j : ℤ)
+    → ((n : ℕ) → word_bit lower n ≡ 1 → IsTrue (bit_of b (b.frame.left +ℤ pos n) i))
+    → ((n : ℕ) → word_bit upper n ≡ 1 → IsTrue (bit_of b (b.frame.left +ℤ pos n) j)) → IsEither b.frame r i → IsEither b.frame r j
+    → from ≡ r * words_for b.frame.width → part ≡ take m (drop from up) → n < 32 * m → IsShutUp part lower upper n
+    → IsShutInColumn up b r n
+level_shut b up part lower upper r m n from i j below above ei ej e p l (inl z) =
+    inl (sym (part_number up part b.frame r m n from e l p) ∙ z)
+level_shut b up part lower upper r m n from i j below above ei ej e p l (inr (inl o)) = inr (either_set b r n i ei (below n o))
+level_shut b up part lower upper r m n from i j below above ei ej e p l (inr (inr o)) = inr (either_set b r n j ej (above n o))
+
+-- a segment that is shut in a row is no gap
+pub row_gapless : (ss : List Span) (f : Frame) (across up : List ℕ) (b : Bits) (r n : ℕ) → b.frame ≡ f
+    → All (λ s. IsNoted s f across up) ss
+    → ((i : ℤ) → IsCovered (centre i (f.bottom +ℤ pos r)) ss → IsSoFar false ss f b i (f.bottom +ℤ pos r)) → r < f.height
+    → n ≤ f.width → IsShutInRow across b r n
+    → ¬ (IsGap ss (IsSoFar false ss f b) ((f.left -ℤ pos 1) +ℤ pos n) (f.bottom +ℤ pos r))
+row_gapless ss f across up b r n same all covered l m shut g =
+    by (subst (λ (f : Frame). (word_bit across (pixel_number f r n) ≡ 0)
+    ⊎ (IsTrue (bit_of b (f.left +ℤ pos n) (f.bottom +ℤ pos r))
+    ⊎ IsTrue (bit_of b ((f.left -ℤ pos 1) +ℤ pos n) (f.bottom +ℤ pos r)))) same shut)
+  where
+    next : f.left +ℤ pos n ≡ ((f.left -ℤ pos 1) +ℤ pos n) +ℤ pos 1
+    next = omega (arith, signed_linear)
+
+    by : (word_bit across (pixel_number f r n) ≡ 0) ⊎ (IsTrue (bit_of b (f.left +ℤ pos n) (f.bottom +ℤ pos r))
+        ⊎ IsTrue (bit_of b ((f.left -ℤ pos 1) +ℤ pos n) (f.bottom +ℤ pos r))) → ⊥
+    by (inl z) = clash (word_bit across (pixel_number f r n)) z
+        (across_noted ss f across up (IsSoFar false ss f b) r n ((f.left -ℤ pos 1) +ℤ pos n) (f.bottom +ℤ pos r) all covered l m
+        (λ t. (f.left -ℤ pos 1) +ℤ pos n) (λ t. f.bottom +ℤ pos r) g)
+    by (inr (inl t)) = g.next (inl (subst (λ (i : ℤ). IsTrue (bit_of b i (f.bottom +ℤ pos r))) next t))
+    by (inr (inr t)) = g.here (inl t)
+
+-- nor one that is shut in a column
+pub level_gapless : (ss : List Span) (f : Frame) (across up : List ℕ) (b : Bits) (r n : ℕ) → b.frame ≡ f
+    → All (λ s. IsNoted s f across up) ss → ((i j : ℤ) → IsCovered (centre j i) ss → IsSoFar true ss f b i j) → r ≤ f.height
+    → n < f.width → IsShutInColumn up b r n
+    → ¬ (IsGap (map turned_span ss) (IsSoFar true ss f b) ((f.bottom -ℤ pos 1) +ℤ pos r) (f.left +ℤ pos n))
+level_gapless ss f across up b r n same all covered l m shut g =
+    by (subst (λ (f : Frame). (word_bit up (pixel_number f r n) ≡ 0)
+    ⊎ (IsTrue (bit_of b (f.left +ℤ pos n) ((f.bottom -ℤ pos 1) +ℤ pos r))
+    ⊎ IsTrue (bit_of b (f.left +ℤ pos n) (f.bottom +ℤ pos r)))) same shut)
+  where
+    next : f.bottom +ℤ pos r ≡ ((f.bottom -ℤ pos 1) +ℤ pos r) +ℤ pos 1
+    next = omega (arith, signed_linear)
+
+    by : (word_bit up (pixel_number f r n) ≡ 0) ⊎ (IsTrue (bit_of b (f.left +ℤ pos n) ((f.bottom -ℤ pos 1) +ℤ pos r))
+        ⊎ IsTrue (bit_of b (f.left +ℤ pos n) (f.bottom +ℤ pos r))) → ⊥
+    by (inl z) = clash (word_bit up (pixel_number f r n)) z
+        (up_noted ss f across up (IsSoFar true ss f b) r n ((f.bottom -ℤ pos 1) +ℤ pos r) (f.left +ℤ pos n) all covered l m
+        (λ t. (f.bottom -ℤ pos 1) +ℤ pos r) (λ t. f.left +ℤ pos n) g)
+    by (inr (inl t)) = g.here (inl t)
+    by (inr (inr t)) = g.next (inl (subst (λ (j : ℤ). IsTrue (bit_of b (f.left +ℤ pos n) j)) next t))
+
+-- ---- rows and columns of which that is known
+pub rows_pass : (ss : List Span) (f : Frame) (across up : List ℕ) (old : ℤ → ℤ → Type 0) (b : Bits) (k m : ℕ) → b.frame ≡ f
+    → 0 < f.width → k ≤ m → m ≤ f.height → All (λ s. IsNoted s f across up) ss
+    → ((i j : ℤ) → IsCovered (centre i j) ss → old i j)
+    → ((r n : ℕ) → k ≤ r → r < m → n ≤ b.frame.width → IsShutInRow across b r n)
+    → AreRowsClosed ss f k old (IsSoFar false ss f b) → AreRowsClosed ss f m old (IsSoFar false ss f b)
+rows_pass ss f across up old b k m same some low high all covered shut a =
+    rows_skip ss f k m old (IsSoFar false ss f b) some low high (λ i j h. so_far_decided false ss f b i j h)
+    (λ r n l h few. row_gapless ss f across up b r n same all
+    (λ i c. (a.others i (f.bottom +ℤ pos r) (λ o. omega (arith, signed_linear, o.1, l))).1 (covered i (f.bottom +ℤ pos r) c))
+    (omega (arith, h, high)) few (shut r n l h (subst (λ (g : Frame). n ≤ g.width) (sym same) few))) a
+
+pub levels_pass : (ss : List Span) (f : Frame) (across up : List ℕ) (old : ℤ → ℤ → Type 0) (b : Bits) (k m : ℕ) → b.frame ≡ f
+    → 0 < f.height → k ≤ m → m ≤ f.height + 1 → All (λ s. IsNoted s f across up) ss
+    → ((i j : ℤ) → IsCovered (centre j i) ss → old i j)
+    → ((r n : ℕ) → k ≤ r → r < m → n < b.frame.width → IsShutInColumn up b r n)
+    → ((i j : ℤ) → IsSoFar true ss f b i j ↔ IsBridgedTo (map turned_span ss) (λ i j. IsInFrame f j i) old f.bottom k i j)
+    → (i j : ℤ) → IsSoFar true ss f b i j ↔ IsBridgedTo (map turned_span ss) (λ i j. IsInFrame f j i) old f.bottom m i j
+levels_pass ss f across up old b k m same some low high all covered shut a =
+    levels_skip (map turned_span ss) f k m old (IsSoFar true ss f b) some low high (λ i j h. so_far_decided true ss f b i j h)
+    (λ r n l h few. level_gapless ss f across up b r n same all (λ i j c. (a i j).1 (inl (covered i j c)))
+    (omega (arith, h, high)) few (shut r n l h (subst (λ (g : Frame). n < g.width) (sym same) few))) a

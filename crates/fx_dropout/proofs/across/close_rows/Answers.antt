@@ -1,0 +1,96 @@
+use Rattle.std.proofs.Common.{◌≡◌, ◌↔◌, ◌+◌, ◌-◌, ◌*◌, ◌≤◌, List, ◌+ℤ◌, pos, sym, ap, subst, map, false, take, drop, arith, w32}
+use Rattle.std.proofs.Common.{to_z, of_z, ℤ, ℕ}
+use Rattle.std.proofs.lemmas.Int.{to_z_pos}
+use Rattle.fx_fixed.proofs.Linear.{signed_linear}
+use Rattle.fx_winding.specs.declared.frame.Frame.{Frame}
+use Rattle.fx_winding.specs.Bitmaps.{words_for}
+use Rattle.fx_winding.specs.Dropout.{IsBridged}
+use Rattle.fx_winding.specs.Frames.{IsInFrame}
+use Rattle.fx_winding.specs.Winding.{span_of, centre, IsCovered}
+use Rattle.fx_dropout.specs.inner.Lines.{IsSoFar}
+use Rattle.fx_dropout.specs.inner.Words.{IsShutInRow}
+use Rattle.fx_dropout.proofs.Candidates.{row_noted, rows_pass}
+use Rattle.fx_dropout.proofs.Rows.{narrow, narrow_closed, rows_none, rows_more, rows_all}
+use Rattle.fx_dropout.proofs.across.close_rows.Goals as goal
+
+pub returns-then-frame-eq0-clause-closed : goal.returns-then-frame-eq0-clause-closed
+returns-then-frame-eq0-clause-closed c =
+    let f = c.args.bitmap.now.frame in
+    let ss = map span_of c.args.pieces.now in
+    let none : f.width ≡ 0 = subst (λ (g : Frame). g.width ≡ 0) c.requires.frame c.if-frame-eq0.true in
+    narrow_closed ss (IsInFrame f) (IsSoFar false ss f c.args.bitmap.now) (λ i j h. narrow f i j none h)
+
+pub rows-init : goal.rows-init
+rows-init c =
+    let f = c.args.notes.now.frame in
+    let ss = map span_of c.args.pieces.now in
+    let b = c.args.bitmap.now in
+    let old = IsSoFar false ss f b in
+    let covered : (i j : ℤ) → IsCovered (centre i j) ss → old i j = λ i j h.
+    subst (λ (g : Frame). IsSoFar false ss g b i j) (sym c.requires.frame) (c.requires.covered i j h) in
+    let next = c.next_open-up in
+    record {
+      same = sym c.requires.frame;
+      to = subst (λ (g : Frame). next.result ≤ g.height) (sym c.requires.frame) next.ensures.to;
+      closed = rows_pass ss f c.args.notes.now.across.items c.args.notes.now.up.items old b 0 next.result (sym c.requires.frame)
+          (omega arith) (omega arith) (subst (λ (g : Frame). next.result ≤ g.height) (sym c.requires.frame) next.ensures.to)
+          c.requires.noted covered (λ r n l m few. subst (λ (xs : List ℕ). IsShutInRow xs b r n) c.deref.ensures.value
+          (next.ensures.skipped r n l m few)) (rows_none ss f old);
+    }
+
+pub close_row-requires-clause-noted : goal.close_row-requires-clause-noted
+close_row-requires-clause-noted c =
+    let f = c.args.notes.now.frame in
+    let ss = map span_of c.args.pieces.now in
+    let up = c.rows.up in
+    let step : to_z w32 up ≡ pos up = to_z_pos w32 up (omega arith) in
+    let at = to_z w32 (of_z w32 (to_z w32 (of_z w32 f.bottom) +ℤ to_z w32 up)) in
+    let row : at ≡ f.bottom +ℤ pos up = omega (arith, signed_linear, step) in
+    let new = IsSoFar false ss f c.rows.bitmap in
+    let covered : (i : ℤ) → IsCovered (centre i at) ss → new i at = λ i h.
+    (c.rows.invariant.closed.others i at (λ o. omega (arith, signed_linear, o.1, row))).1
+    (subst (λ (g : Frame). IsSoFar false ss g c.args.bitmap.now i at) (sym c.requires.frame) (c.requires.covered i at h)) in
+    let w = c.words_for-words.result in
+    let words = c.words_for-words.ensures in
+    let few : up * w + w + 1 - up * w ≡ words_for f.width + 1 = omega (arith, words) in
+    let first : up * w ≡ up * words_for f.width = ap (λ (n : ℕ). up * n) words in
+    let items = c.deref-in-rows.ensures.value in
+    row_noted ss f c.args.notes.now.across.items c.args.notes.now.up.items
+    (take (up * w + w + 1 - up * w) (drop (up * w) c.deref-in-rows.result.now)) new up (up * w) at c.requires.noted
+    covered (omega arith) row first (λ t. take (few t) (drop (up * w) (items t)))
+
+pub rows-preserved : goal.rows-preserved
+rows-preserved c =
+    let f = c.args.notes.now.frame in
+    let ss = map span_of c.args.pieces.now in
+    let up = c.rows.up in
+    let step : to_z w32 up ≡ pos up = to_z_pos w32 up (omega arith) in
+    let at = to_z w32 (of_z w32 (to_z w32 (of_z w32 f.bottom) +ℤ to_z w32 up)) in
+    let row : at ≡ f.bottom +ℤ pos up = omega (arith, signed_linear, step) in
+    let old = IsSoFar false ss f c.args.bitmap.now in
+    let new = c.close_row.new.bitmap in
+    let same = c.close_row.ensures.frame in
+    let covered : (i j : ℤ) → IsCovered (centre i j) ss → old i j = λ i j h.
+    subst (λ (g : Frame). IsSoFar false ss g c.args.bitmap.now i j) (sym c.requires.frame) (c.requires.covered i j h) in
+    let next = c.next_open-up-in-rows in
+    let to = subst (λ (g : Frame). next.result ≤ g.height) same next.ensures.to in
+    record {
+      same = same;
+      to = to;
+      closed = rows_pass ss f c.args.notes.now.across.items c.args.notes.now.up.items old new (up + 1) next.result same
+          (omega arith) next.ensures.from to c.requires.noted covered
+          (λ r n l m few. subst (λ (xs : List ℕ). IsShutInRow xs new r n) c.deref-in-rows-2.ensures.value
+          (next.ensures.skipped r n l m few))
+          (rows_more ss f up old (IsSoFar false ss f c.rows.bitmap) (IsSoFar false ss f new) at row c.rows.invariant.closed
+          c.close_row.ensures.closed);
+    }
+
+pub returns-clause-closed : goal.returns-clause-closed
+returns-clause-closed c =
+    let ss = map span_of c.args.pieces.now in
+    let f = c.args.notes.now.frame in
+    subst (λ (g : Frame). (i j : ℤ) → IsSoFar false ss g c.rows.bitmap i j ↔
+    IsBridged ss (IsInFrame g) (IsSoFar false ss g c.args.bitmap.now) i j) c.requires.frame
+    (rows_all ss f c.rows.up (IsSoFar false ss f c.args.bitmap.now) (IsSoFar false ss f c.rows.bitmap)
+    (let to = c.rows.invariant.to in omega (arith, to))
+    c.rows.invariant.closed)

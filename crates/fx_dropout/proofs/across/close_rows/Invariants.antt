@@ -1,0 +1,15 @@
+use Rattle.std.proofs.Common.{◌≡◌, ◌-◌, ◌≤◌, map, false}
+use Rattle.fx_winding.specs.Winding.{span_of}
+use Rattle.fx_dropout.specs.inner.Lines.{AreRowsClosed, IsSoFar}
+use Rattle.fx_dropout.proofs.across.close_rows.Given as goal
+
+abbrev pub invariant-rows : goal.invariant-rows
+invariant-rows l = record {
+  same : l.bitmap.frame ≡ l.frame;
+  to : l.up ≤ l.frame.height;
+  closed : AreRowsClosed (map span_of l.pieces) l.frame l.up (IsSoFar false (map span_of l.pieces) l.frame l.fn.bitmap)
+      (IsSoFar false (map span_of l.pieces) l.frame l.bitmap);
+}
+
+abbrev pub decreases-rows : goal.decreases-rows
+decreases-rows l = l.frame.height - l.up

@@ -1,0 +1,18 @@
+use Rattle.std.proofs.Common.{◌≡◌, ◌↔◌, ◌+◌, ◌-◌, ◌≤◌, map, true, ℤ}
+use Rattle.fx_winding.specs.Dropout.{turned_span}
+use Rattle.fx_winding.specs.Frames.{IsInFrame}
+use Rattle.fx_winding.specs.Winding.{span_of}
+use Rattle.fx_dropout.specs.inner.Lines.{IsBridgedTo, IsSoFar}
+use Rattle.fx_dropout.proofs.up.close_columns.Given as goal
+
+abbrev pub invariant-levels : goal.invariant-levels
+invariant-levels l = record {
+  same : l.bitmap.frame ≡ l.frame;
+  to : l.up ≤ l.frame.height + 1;
+  closed : (i j : ℤ) → IsSoFar true (map span_of l.pieces) l.frame l.bitmap i j ↔
+      IsBridgedTo (map turned_span (map span_of l.pieces)) (λ i j. IsInFrame l.frame j i)
+      (IsSoFar true (map span_of l.pieces) l.frame l.fn.bitmap) l.frame.bottom l.up i j;
+}
+
+abbrev pub decreases-levels : goal.decreases-levels
+decreases-levels l = l.frame.height + 1 - l.up

@@ -1,0 +1,85 @@
+//! The gaps of rows closed, in place. Only rows are looked at in which a segment is noted whose pixels are not set.
+
+ghost use Rattle.std.specs.Prelude.{◌≡◌, ◌⊎◌, ◌↔◌, ℕ, ◌+◌, ◌*◌, ◌<◌, ◌≤◌, ℤ, pos, length, map, All, false};
+ghost use Rattle.fx_winding.specs.Bitmaps.{words_for as words_for_of};
+ghost use Rattle.fx_winding.specs.Dropout.{IsBridged};
+ghost use Rattle.fx_winding.specs.Frames.{IsFrom, IsInFrame, HasMargin};
+ghost use Rattle.fx_winding.specs.Notes.{IsNoted};
+ghost use Rattle.fx_winding.specs.Winding.{span_of, centre, IsCovered};
+ghost use Rattle.fx_dropout.specs.inner.Lines.{IsSoFar, IsRowClosed, IsRowNoted};
+ghost use Rattle.fx_dropout.specs.inner.Words.{IsShutInRow};
+
+use crate::close::{close_gap, closer};
+use crate::open::is_open_across;
+use fx_winding::{Bitmap, Frame, Notes, Pieces, is_set, words_for};
+
+/// Closes the gaps of a row of the frame, from left to right: each by its left pixel, and the one before the first pixel by that.
+fn close_row(pieces: &Pieces, noted: &[u32], frame: Frame, bitmap: &mut Bitmap, j: i32)
+    requires margin { HasMargin frame }
+    requires some { 0 < frame.width }
+    requires same { bitmap.old.frame ≡ frame }
+    requires row { IsFrom frame.bottom frame.height j }
+    requires room { frame.width + 1 ≤ 32 * length noted.now }
+    requires noted { IsRowNoted (map span_of pieces.now) frame j
+        (IsSoFar false (map span_of pieces.now) frame bitmap.old) noted.now }
+    ensures frame { bitmap.new.frame ≡ frame }
+    ensures closed { IsRowClosed (map span_of pieces.now) frame j (IsSoFar false (map span_of pieces.now) frame bitmap.old)
+        (IsSoFar false (map span_of pieces.now) frame bitmap.new) }
+{
+    // The gaps among the first k segments are closed.
+    'segments: for k in 0..frame.width + 1 {
+        if is_set(noted, k as usize) {
+            let i = frame.left - 1 + k as i32;
+            close_gap(false, pieces, bitmap, i, j, closer(i, frame.left));
+        }
+    }
+}
+
+/// The next row from one on in which a segment can be a gap, or the number of rows. Rows are counted from the lowest.
+fn next_open(across: &[u32], bitmap: &Bitmap, from: u32) -> u32
+    requires room { length across.now ≡ bitmap.now.frame.height * words_for_of bitmap.now.frame.width + 1 }
+    requires order { from ≤ bitmap.now.frame.height }
+    ensures from { from ≤ result }
+    ensures to { result ≤ bitmap.now.frame.height }
+    ensures skipped { (r n : ℕ) → from ≤ r → r < result → n ≤ bitmap.now.frame.width →
+        IsShutInRow across.now bitmap.now r n }
+{
+    let frame = bitmap.frame();
+    let words = words_for(frame.width);
+    // In the rows from `from` on and before `up` no segment can be a gap.
+    'rows: for up in from..frame.height {
+        let first = up as usize * words;
+        let row = bitmap.row(frame.bottom + up as i32);
+        if is_open_across(&across[first..first + words + 1], row) {
+            return up;
+        }
+    }
+    frame.height
+}
+
+/// Closes the gaps of all rows of the frame.
+pub fn close_rows(pieces: &Pieces, notes: &Notes, bitmap: &mut Bitmap)
+    requires margin { HasMargin bitmap.old.frame }
+    requires frame { notes.now.frame ≡ bitmap.old.frame }
+    requires noted { All (λ s. IsNoted s notes.now.frame notes.now.across.items notes.now.up.items) (map span_of pieces.now) }
+    requires covered { (i j : ℤ) → IsCovered (centre i j) (map span_of pieces.now) →
+        IsSoFar false (map span_of pieces.now) bitmap.old.frame bitmap.old i j }
+    ensures frame { bitmap.new.frame ≡ bitmap.old.frame }
+    ensures closed { (i j : ℤ) → IsSoFar false (map span_of pieces.now) bitmap.old.frame bitmap.new i j ↔
+        IsBridged (map span_of pieces.now) (IsInFrame bitmap.old.frame)
+        (IsSoFar false (map span_of pieces.now) bitmap.old.frame bitmap.old) i j }
+{
+    let frame = notes.frame;
+    if frame.width == 0 {
+        return;
+    }
+    let words = words_for(frame.width);
+    let mut up = next_open(&notes.across, bitmap, 0);
+    // The gaps of the rows before `up` are closed, and the others are as they were.
+    'rows: while up < frame.height {
+        let first = up as usize * words;
+        let noted = &notes.across[first..first + words + 1];
+        close_row(pieces, noted, frame, bitmap, frame.bottom + up as i32);
+        up = next_open(&notes.across, bitmap, up + 1);
+    }
+}

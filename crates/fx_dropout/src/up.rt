@@ -1,0 +1,89 @@
+//! The gaps of columns closed, in place, one pair of rows after the other. Only pairs are looked at between which a segment is
+//! noted whose pixels are not set.
+
+ghost use Rattle.std.specs.Prelude.{◌≡◌, ◌⊎◌, ◌↔◌, ℕ, ◌+◌, ◌*◌, ◌<◌, ◌≤◌, ℤ, pos, ◌+ℤ◌, ◌-ℤ◌, length, map, All, true};
+ghost use Rattle.fx_winding.specs.Bitmaps.{words_for as words_for_of};
+ghost use Rattle.fx_winding.specs.Dropout.{IsBridged, turned_span};
+ghost use Rattle.fx_winding.specs.Frames.{IsFrom, IsInFrame, HasMargin};
+ghost use Rattle.fx_winding.specs.Notes.{IsNoted};
+ghost use Rattle.fx_winding.specs.Winding.{span_of, centre, IsCovered};
+ghost use Rattle.fx_dropout.specs.inner.Lines.{IsSoFar, IsCloser, IsLevelClosed, IsLevelNoted};
+ghost use Rattle.fx_dropout.specs.inner.Words.{IsShutInColumn};
+
+use crate::close::{close_gap, closer};
+use crate::open::is_open_up;
+use fx_winding::{Bitmap, Frame, Notes, Pieces, is_set, words_for};
+
+/// Closes the gaps between a row and the one above it: each by the pixel in the row `at`.
+fn close_level(pieces: &Pieces, noted: &[u32], frame: Frame, bitmap: &mut Bitmap, i: i32, at: i32)
+    requires margin { HasMargin frame }
+    requires same { bitmap.old.frame ≡ frame }
+    requires level { IsFrom (frame.bottom -ℤ pos 1) (frame.height + 1) i }
+    requires at { IsFrom frame.bottom frame.height at }
+    requires room { frame.width ≤ 32 * length noted.now }
+    requires noted { IsLevelNoted (map turned_span (map span_of pieces.now)) frame i
+        (IsSoFar true (map span_of pieces.now) frame bitmap.old) noted.now }
+    ensures frame { bitmap.new.frame ≡ frame }
+    ensures closed { IsLevelClosed (map turned_span (map span_of pieces.now)) frame.left frame.width i at
+        (IsSoFar true (map span_of pieces.now) frame bitmap.old) (IsSoFar true (map span_of pieces.now) frame bitmap.new) }
+{
+    // The gaps in the columns before k are closed, and the later columns are as they were.
+    'columns: for k in 0..frame.width {
+        if is_set(noted, k as usize) {
+            close_gap(true, pieces, bitmap, i, frame.left + k as i32, at);
+        }
+    }
+}
+
+/// The next row from one on to which a segment leads from the row below that can be a gap, or the number of rows and one more. Rows
+/// are counted from the lowest. Of two rows one of which lies outside the frame, the other stands for both.
+fn next_open(notes: &[u32], bitmap: &Bitmap, from: u32) -> u32
+    requires room { length notes.now ≡ (bitmap.now.frame.height + 1) * words_for_of bitmap.now.frame.width }
+    requires some { 0 < bitmap.now.frame.height }
+    requires order { from ≤ bitmap.now.frame.height + 1 }
+    ensures from { from ≤ result }
+    ensures to { result ≤ bitmap.now.frame.height + 1 }
+    ensures skipped { (r n : ℕ) → from ≤ r → r < result → n < bitmap.now.frame.width →
+        IsShutInColumn notes.now bitmap.now r n }
+{
+    let frame = bitmap.frame();
+    let words = words_for(frame.width);
+    // No segment that leads to the rows from `from` on and before `up` can be a gap.
+    'levels: for up in from..frame.height + 1 {
+        let first = up as usize * words;
+        let lower = bitmap.row(frame.bottom + up.saturating_sub(1) as i32);
+        let upper = bitmap.row(frame.bottom + up.min(frame.height - 1) as i32);
+        if is_open_up(&notes[first..first + words], lower, upper) {
+            return up;
+        }
+    }
+    frame.height + 1
+}
+
+/// Closes the gaps of all columns of the frame: each by its lower pixel, and those below the lowest row by the pixels of that.
+pub fn close_columns(pieces: &Pieces, notes: &Notes, bitmap: &mut Bitmap)
+    requires margin { HasMargin bitmap.old.frame }
+    requires frame { notes.now.frame ≡ bitmap.old.frame }
+    requires noted { All (λ s. IsNoted s notes.now.frame notes.now.across.items notes.now.up.items) (map span_of pieces.now) }
+    requires covered { (i j : ℤ) → IsCovered (centre j i) (map span_of pieces.now) →
+        IsSoFar true (map span_of pieces.now) bitmap.old.frame bitmap.old i j }
+    ensures frame { bitmap.new.frame ≡ bitmap.old.frame }
+    ensures closed { (i j : ℤ) → IsSoFar true (map span_of pieces.now) bitmap.old.frame bitmap.new i j ↔
+        IsBridged (map turned_span (map span_of pieces.now)) (λ i j. IsInFrame bitmap.old.frame j i)
+        (IsSoFar true (map span_of pieces.now) bitmap.old.frame bitmap.old) i j }
+{
+    let frame = notes.frame;
+    if frame.height == 0 {
+        return;
+    }
+    let words = words_for(frame.width);
+    let mut up = next_open(&notes.up, bitmap, 0);
+    // In each column the gaps among the lowest `up` segments are closed.
+    'levels: while up <= frame.height {
+        let first = up as usize * words;
+        let noted = &notes.up[first..first + words];
+        let i = frame.bottom - 1 + up as i32;
+        close_level(pieces, noted, frame, bitmap, i, closer(i, frame.bottom));
+        up = next_open(&notes.up, bitmap, up + 1);
+    }
+}

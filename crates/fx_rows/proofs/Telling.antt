@@ -1,0 +1,231 @@
+-- The ends of a piece's columns that are told, row by row, and the pieces that are noted.
+-- Serves the rows of a piece, and the pieces of a band.
+use Rattle.std.proofs.Common.{◌≡◌, ◌≢◌, ◌⊎◌, inl, inr, refl, sym, ap, ◌∙◌, subst, ℕ, ◌+◌, ◌-◌, ◌<◌, ◌≤◌, ℤ, pos, negsuc, ◌+ℤ◌, ◌*ℤ◌}
+use Rattle.std.proofs.Common.{◌≤ℤ◌, ◌<ℤ◌, int_lt, if◌then◌else◌, List, length, take, get_or, arith}
+use Rattle.std.specs.List.{All}
+use Rattle.std.proofs.lemmas.Int.{ints}
+use Rattle.std.proofs.lemmas.List.Elements.{All-more}
+use Rattle.fx_fixed.proofs.Order.{below_or_not, below_or_not_ℤ}
+use Rattle.fx_fixed.proofs.Linear.{signed_linear}
+use Rattle.fx_winding.specs.declared.frame.Frame.{Frame}
+use Rattle.fx_winding.specs.Area.{Place}
+use Rattle.fx_winding.specs.Meets.{turn}
+use Rattle.fx_winding.specs.Notes.{IsNotedAcross, IsNotedUp, IsNoted}
+use Rattle.fx_winding.specs.Winding.{Span, IsOn, centre}
+use Rattle.fx_rows.specs.declared.strip.Strip.{Strip}
+use Rattle.fx_rows.specs.declared.cells.Cut.{Cut}
+use Rattle.fx_rows.specs.inner.Cuts.{IsCut}
+use Rattle.fx_rows.specs.inner.Heights.{height_of, IsMissed}
+use Rattle.fx_rows.specs.inner.Points.{IsInner, IsRise}
+use Rattle.fx_rows.specs.inner.Sides.{place_at}
+use Rattle.fx_rows.specs.inner.Told.{rise_value, IsEnd, AreTold}
+use Rattle.fx_rows.specs.inner.Telling.{IsRowTold, AreRowsTold, IsPartOf, AreRowsNoted, AreNotedIn}
+
+-- ---- the end of one row
+rising : (a c : ℤ) → a <ℤ c → (if int_lt a c then pos 1 else negsuc 0) ≡ pos 1
+rising a c h = grind (arith, ints)
+
+falling : (a c : ℤ) → c ≤ℤ a → (if int_lt a c then pos 1 else negsuc 0) ≡ negsuc 0
+falling a c h = grind (arith, ints)
+
+pub rise_told : (s : Span) (foot head value : ℤ) → IsRise s foot head value → value ≡ rise_value s
+rise_told s foot head value h = by (below_or_not_ℤ s.a.y s.c.y)
+  where
+    by : (s.a.y <ℤ s.c.y) ⊎ (s.c.y ≤ℤ s.a.y) → value ≡ rise_value s
+    by (inl l) = (h.up l).2 ∙ sym (rising s.a.y s.c.y l)
+    by (inr l) = (h.down l).2 ∙ sym (falling s.a.y s.c.y l)
+
+pub cut_end : (s : Span) (f : Frame) (strip : Strip) (cut : Cut) (r n : ℕ) → strip.row ≡ f.bottom +ℤ pos r
+    → strip.base +ℤ pos strip.start ≡ f.left → strip.base +ℤ pos strip.stop ≡ f.left +ℤ pos f.width
+    → n ≡ cut.end - strip.start → cut.value ≡ rise_value s → IsCut s strip cut → IsEnd s f r n
+cut_end s f strip cut r n row first last e value is = record {
+  within = let w = is.within in omega (arith, signed_linear, first, last, e, w);
+  left = λ k h off. ap (λ (q : Place). turn q s) (sym (at k)) ∙ is.inside (strip.start + k) (omega arith)
+      (let w = is.within in omega (arith, e, h, w)) (omega (arith, e, h)) (off_at k off) ∙ value;
+  right = λ k h l off. ap (λ (q : Place). turn q s) (sym (at k)) ∙ is.outside (strip.start + k) (omega arith)
+      (omega (arith, signed_linear, first, last, l)) (omega (arith, e, h)) (off_at k off);
+}
+  where
+    at : (k : ℕ) → place_at strip (strip.start + k) ≡ centre (f.left +ℤ pos k) (f.bottom +ℤ pos r)
+    at k =
+        let x : strip.base +ℤ pos (strip.start + k) ≡ f.left +ℤ pos k = omega (arith, signed_linear, first) in
+        λ i. centre (x i) (row i)
+
+    off_at : (k : ℕ) → ¬ (IsOn (centre (f.left +ℤ pos k) (f.bottom +ℤ pos r)) s) → ¬ (IsOn (place_at strip (strip.start + k)) s)
+    off_at k off = subst (λ (q : Place). ¬ (IsOn q s)) (sym (at k)) off
+
+-- ---- from row to row
+pub told_none : (T : ℕ → ℕ → Type 0) (s : Span) (f : Frame) (from to : ℕ) → to ≤ from → AreRowsTold T s f from to
+told_none T s f from to h = record { rows = λ r l m i. absurd (omega (arith, h, l, m)) }
+
+-- the rows so far stay told, and one more is
+pub told_next : (T U : ℕ → ℕ → Type 0) (s : Span) (f : Frame) (from up n : ℕ) → AreRowsTold T s f from up
+    → ((r m : ℕ) → r ≢ up → T r m → U r m) → U up n → IsEnd s f up n → AreRowsTold U s f from (up + 1)
+told_next T U s f from up n h kept here is = record { rows = λ r l m i. by r l m i (below_or_not r up) }
+  where
+    by : (r : ℕ) → from ≤ r → r < up + 1 → IsInner s.a.y s.c.y (height_of f r) → (r < up) ⊎ (up ≤ r) → IsRowTold U s f r
+    by r l m i (inl o) =
+        let t = h.rows r l o i in
+        record { end = t.end; told = kept r t.end (λ e. absurd (omega (arith, e, o))) t.told; is = t.is }
+    by r l m i (inr o) =
+        let e : up ≡ r = omega (arith, m, o) in
+        subst (IsRowTold U s f) e (record { end = n; told = here; is = is })
+
+pub told_end : (T : ℕ → ℕ → Type 0) (s : Span) (f : Frame) (from up end : ℕ) → up ≡ end → AreRowsTold T s f from up
+    → AreRowsTold T s f from end
+told_end T s f from up end e h = subst (λ (n : ℕ). AreRowsTold T s f from n) e h
+
+-- rows that are not between the ends, below and above
+pub told_beside : (T : ℕ → ℕ → Type 0) (s : Span) (f : Frame) (from low high to : ℕ)
+    → ((r : ℕ) → from ≤ r → r < low → ¬ (IsInner s.a.y s.c.y (height_of f r)))
+    → ((r : ℕ) → high ≤ r → r < to → ¬ (IsInner s.a.y s.c.y (height_of f r))) → AreRowsTold T s f low high
+    → AreRowsTold T s f from to
+told_beside T s f from low high to under over h =
+    record { rows = λ r l m i. by r l m i (below_or_not r low) (below_or_not r high) }
+  where
+    by : (r : ℕ) → from ≤ r → r < to → IsInner s.a.y s.c.y (height_of f r) → (r < low) ⊎ (low ≤ r) → (r < high) ⊎ (high ≤ r)
+        → IsRowTold T s f r
+    by r l m i (inl x) o = absurd (under r l x i)
+    by r l m i (inr x) (inl y) = h.rows r x y i
+    by r l m i (inr x) (inr y) = absurd (over r y m i)
+
+pub not_inner_under : (s : Span) (foot head value y : ℤ) → IsRise s foot head value → y ≤ℤ foot → ¬ (IsInner s.a.y s.c.y y)
+not_inner_under s foot head value y h l (inl i) =
+    let e = (h.up (omega (arith, signed_linear, i.0, i.1))).0 in absurd (omega (arith, signed_linear, e, l, i.0))
+not_inner_under s foot head value y h l (inr i) =
+    let e = (h.down (omega (arith, signed_linear, i.0, i.1))).0 in absurd (omega (arith, signed_linear, e, l, i.0))
+
+pub not_inner_over : (s : Span) (foot head value y : ℤ) → IsRise s foot head value → head ≤ℤ y → ¬ (IsInner s.a.y s.c.y y)
+not_inner_over s foot head value y h l (inl i) =
+    let e = (h.up (omega (arith, signed_linear, i.0, i.1))).1 in absurd (omega (arith, signed_linear, e, l, i.1))
+not_inner_over s foot head value y h l (inr i) =
+    let e = (h.down (omega (arith, signed_linear, i.0, i.1))).1 in absurd (omega (arith, signed_linear, e, l, i.1))
+
+pub not_inner_missed : (s : Span) (y : ℤ) → IsMissed s y → ¬ (IsInner s.a.y s.c.y y)
+not_inner_missed s y (inl h) (inl i) = let a = h.0 in absurd (omega (arith, signed_linear, a, i.0))
+not_inner_missed s y (inl h) (inr i) = let c = h.2 in absurd (omega (arith, signed_linear, c, i.0))
+not_inner_missed s y (inr h) (inl i) = let c = h.2 in absurd (omega (arith, signed_linear, c, i.1))
+not_inner_missed s y (inr h) (inr i) = let a = h.0 in absurd (omega (arith, signed_linear, a, i.1))
+
+-- ---- the rows of a band as rows of the whole frame
+inner_or_not : (a c y : ℤ) → IsInner a c y ⊎ ¬ (IsInner a c y)
+inner_or_not a c y = by (below_or_not_ℤ a y) (below_or_not_ℤ y c) (below_or_not_ℤ c y) (below_or_not_ℤ y a)
+  where
+    no : ¬ ((a <ℤ y) × (y <ℤ c)) → ¬ ((c <ℤ y) × (y <ℤ a)) → ¬ (IsInner a c y)
+    no m n (inl h) = m h
+    no m n (inr h) = n h
+
+    by : (a <ℤ y) ⊎ (y ≤ℤ a) → (y <ℤ c) ⊎ (c ≤ℤ y) → (c <ℤ y) ⊎ (y ≤ℤ c) → (y <ℤ a) ⊎ (a ≤ℤ y)
+        → IsInner a c y ⊎ ¬ (IsInner a c y)
+    by (inl h) (inl k) o p = inl (inl (h, k))
+    by (inl h) (inr k) o p = inr (no (λ x. let e = x.1 in absurd (omega (arith, signed_linear, k, e)))
+        (λ x. let e = x.1 in absurd (omega (arith, signed_linear, h, e))))
+    by (inr h) k (inl o) (inl p) = inl (inr (o, p))
+    by (inr h) k (inr o) p = inr (no (λ x. let e = x.0 in absurd (omega (arith, signed_linear, h, e)))
+        (λ x. let e = x.0 in absurd (omega (arith, signed_linear, o, e))))
+    by (inr h) k (inl o) (inr p) = inr (no (λ x. let e = x.0 in absurd (omega (arith, signed_linear, h, e)))
+        (λ x. let e = x.1 in absurd (omega (arith, signed_linear, p, e))))
+
+row_whole : (f g : Frame) (from to r : ℕ) → IsPartOf f from to g → from ≤ r → g.bottom +ℤ pos (r - from) ≡ f.bottom +ℤ pos r
+row_whole f g from to r part l = let bottom = part.bottom in omega (arith, signed_linear, bottom, l)
+
+end_whole : (s : Span) (f g : Frame) (from to r n : ℕ) → IsPartOf f from to g → from ≤ r → IsEnd s g (r - from) n → IsEnd s f r n
+end_whole s f g from to r n part l h =
+    record {
+      within = subst (λ (w : ℕ). n ≤ w) part.width h.within;
+      left = λ k m. subst (λ (q : Place). ¬ (IsOn q s) → turn q s ≡ rise_value s) (at k) (h.left k m);
+      right = λ k m o. subst (λ (q : Place). ¬ (IsOn q s) → turn q s ≡ pos 0) (at k)
+          (h.right k m (subst (λ (w : ℕ). k < w) (sym part.width) o));
+    }
+  where
+    at : (k : ℕ) → centre (g.left +ℤ pos k) (g.bottom +ℤ pos (r - from)) ≡ centre (f.left +ℤ pos k) (f.bottom +ℤ pos r)
+    at k = let row = row_whole f g from to r part l in λ i. centre (part.left i +ℤ pos k) (row i)
+
+pub told_whole : (T : ℕ → ℕ → Type 0) (s : Span) (f g : Frame) (from to : ℕ) → IsPartOf f from to g → AreRowsTold T s g 0 g.height
+    → AreTold T s f from to
+told_whole T s f g from to part h = record {
+  end = λ r. end_at r (told_or_not r);
+  told = λ r l m i. told_at r (told_or_not r) l m i;
+  is = λ r l m i. is_at r (told_or_not r) l m i;
+}
+  where
+    here : (r : ℕ) → from ≤ r → r < to → IsInner s.a.y s.c.y (height_of f r) → IsRowTold T s g (r - from)
+    here r l m i =
+        let high = part.height in
+        let same : height_of f r ≡ height_of g (r - from) =
+        ap (λ z. pos 128 *ℤ z +ℤ pos 64) (sym (row_whole f g from to r part l)) in
+        h.rows (r - from) (omega arith) (omega (arith, high, l, m)) (subst (IsInner s.a.y s.c.y) same i)
+
+    told_or_not : (r : ℕ) → IsRowTold T s g (r - from) ⊎ ¬ ((from ≤ r) × (r < to) × IsInner s.a.y s.c.y (height_of f r))
+    told_or_not r = by (below_or_not r from) (below_or_not r to) (inner_or_not s.a.y s.c.y (height_of f r))
+      where
+        by : (r < from) ⊎ (from ≤ r) → (r < to) ⊎ (to ≤ r)
+            → IsInner s.a.y s.c.y (height_of f r) ⊎ ¬ (IsInner s.a.y s.c.y (height_of f r))
+            → IsRowTold T s g (r - from) ⊎ ¬ ((from ≤ r) × (r < to) × IsInner s.a.y s.c.y (height_of f r))
+        by (inl x) y z = inr (λ w. let l = w.0 in absurd (omega (arith, l, x)))
+        by (inr x) (inr y) z = inr (λ w. let m = w.1 in absurd (omega (arith, m, y)))
+        by (inr x) (inl y) (inr z) = inr (λ w. z w.2)
+        by (inr x) (inl y) (inl z) = inl (here r x y z)
+
+    end_at : (r : ℕ) → IsRowTold T s g (r - from) ⊎ ¬ ((from ≤ r) × (r < to) × IsInner s.a.y s.c.y (height_of f r)) → ℕ
+    end_at r (inl t) = t.end
+    end_at r (inr n) = 0
+
+    told_at : (r : ℕ) (t : IsRowTold T s g (r - from) ⊎ ¬ ((from ≤ r) × (r < to) × IsInner s.a.y s.c.y (height_of f r))) → from ≤ r
+        → r < to → IsInner s.a.y s.c.y (height_of f r) → T (r - from) (end_at r t)
+    told_at r (inl t) l m i = t.told
+    told_at r (inr n) l m i = absurd (n (l, m, i))
+
+    is_at : (r : ℕ) (t : IsRowTold T s g (r - from) ⊎ ¬ ((from ≤ r) × (r < to) × IsInner s.a.y s.c.y (height_of f r))) → from ≤ r
+        → r < to → IsInner s.a.y s.c.y (height_of f r) → IsEnd s f r (end_at r t)
+    is_at r (inl t) l m i = end_whole s f g from to r t.end part l t.is
+    is_at r (inr n) l m i = absurd (n (l, m, i))
+
+-- ---- the pieces that are noted
+-- no piece yet
+pub noted_start : (P : Span → ℕ → Type 0) (ss : List Span) (f : Frame) (from to : ℕ) → AreNotedIn P (take 0 ss) f from to
+noted_start P ss f from to k d h = absurd (omega (arith, h))
+
+rows_kept : (P Q : ℕ → Type 0) (f : Frame) (from to : ℕ) → ((r : ℕ) → P r → Q r) → AreRowsNoted P f from to
+    → AreRowsNoted Q f from to
+rows_kept P Q f from to kept h = record { rows = λ r l m. kept r (h.rows r l m); top = λ e. kept f.height (h.top e) }
+
+pub noted_kept : (P Q : Span → ℕ → Type 0) (ss : List Span) (f : Frame) (from to : ℕ) → ((s : Span) (r : ℕ) → P s r → Q s r)
+    → AreNotedIn P ss f from to → AreNotedIn Q ss f from to
+noted_kept P Q ss f from to kept h k d l =
+    rows_kept (P (get_or ss k d)) (Q (get_or ss k d)) f from to (kept (get_or ss k d)) (h k d l)
+
+-- one more piece
+pub noted_more : (P : Span → ℕ → Type 0) (ss : List Span) (f : Frame) (from to at : ℕ) (s : Span) → at < length ss
+    → s ≡ get_or ss at s → AreNotedIn P (take at ss) f from to → AreRowsNoted (P s) f from to
+    → AreNotedIn P (take (at + 1) ss) f from to
+noted_more P ss f from to at s l e h here =
+    All-more (λ t. AreRowsNoted (P t) f from to) ss at s l h (subst (λ t. AreRowsNoted (P t) f from to) e here)
+
+-- rows, and then the rows after them
+pub noted_both : (P Q : Span → ℕ → Type 0) (ss : List Span) (f : Frame) (from mid to : ℕ) → ((s : Span) (r : ℕ) → P s r → Q s r)
+    → AreNotedIn P ss f from mid → AreNotedIn Q ss f mid to → AreNotedIn Q ss f from to
+noted_both P Q ss f from mid to kept a b k d l = record {
+  rows = λ r m n. by r m n (below_or_not r mid);
+  top = (b k d l).top;
+}
+  where
+    by : (r : ℕ) → from ≤ r → r < to → (r < mid) ⊎ (mid ≤ r) → Q (get_or ss k d) r
+    by r m n (inl o) = kept (get_or ss k d) r ((a k d l).rows r m o)
+    by r m n (inr o) = (b k d l).rows r o n
+
+-- all rows
+pub noted_frame : (P : Span → ℕ → Type 0) (ss : List Span) (f : Frame) (rows columns : List ℕ)
+    → ((s : Span) (r : ℕ) → P s r → (r < f.height → IsNotedAcross s f rows r) × (r ≤ f.height → IsNotedUp s f columns r))
+    → AreNotedIn P ss f 0 f.height → All (λ s. IsNoted s f rows columns) ss
+noted_frame P ss f rows columns says h k d l = record {
+  across = λ r m. (says (get_or ss k d) r ((h k d l).rows r (omega arith) m)).0 m;
+  up = λ r m. by r m (below_or_not r f.height);
+}
+  where
+    by : (r : ℕ) → r ≤ f.height → (r < f.height) ⊎ (f.height ≤ r) → IsNotedUp (get_or ss k d) f columns r
+    by r m (inl o) = (says (get_or ss k d) r ((h k d l).rows r (omega arith) o)).1 m
+    by r m (inr o) =
+        let e : f.height ≡ r = omega (arith, m, o) in
+        subst (IsNotedUp (get_or ss k d) f columns) e
+        ((says (get_or ss k d) f.height ((h k d l).top refl)).1 (omega arith))

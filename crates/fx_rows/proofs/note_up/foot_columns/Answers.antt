@@ -1,0 +1,15 @@
+use Rattle.std.proofs.Common.{◌≡◌, arith, w32, to_z, of_z}
+use Rattle.fx_fixed.proofs.Linear.{signed_linear}
+use Rattle.fx_winding.specs.Winding.{span_of}
+use Rattle.fx_rows.proofs.Upward.{foot_within}
+use Rattle.fx_rows.proofs.note_up.foot_columns.Goals as goal
+
+pub returns-clause-met : goal.returns-clause-met
+returns-clause-met c =
+    let q = c.requires in
+    let x : to_z w32 (of_z w32 c.foot_x.result) ≡ c.foot_x.result = omega (arith, signed_linear, c.foot_x.ensures.near) in
+    let at = c.columns_at.ensures in
+    rw (c.widened.ensures.first, c.widened.ensures.end)
+    (foot_within (span_of c.args.piece.now) c.args.frame c.foot_x.result c.columns_at.result.first c.columns_at.result.end
+    c.args.row c.args.end q.between q.below q.inner q.end c.foot_x.ensures.rising c.foot_x.ensures.falling (rw x at at.left)
+    (rw x at at.right))

@@ -1,0 +1,34 @@
+-- What is told and noted of pieces while they are added to the rows of a band.
+use Rattle.std.specs.Prelude.{◌≡◌, ℕ, ◌+◌, ◌≤◌, ◌<◌, pos, ◌+ℤ◌, List, All}
+use Rattle.fx_winding.specs.declared.frame.Frame.{Frame}
+use Rattle.fx_winding.specs.Winding.{Span}
+use Rattle.fx_rows.specs.inner.Heights.{height_of}
+use Rattle.fx_rows.specs.inner.Points.{IsInner}
+use Rattle.fx_rows.specs.inner.Told.{IsEnd}
+
+-- where the columns of a row end that are left of the piece is told
+pub record IsRowTold (IsTold : ℕ → ℕ → Type 0) (s : Span) (f : Frame) (r : ℕ) : Type 0 where
+  pub end : ℕ
+  pub told : IsTold r end
+  pub is : IsEnd s f r end
+
+-- the same of those rows of a frame from one to before another that are between the ends of the piece
+pub record AreRowsTold (IsTold : ℕ → ℕ → Type 0) (s : Span) (f : Frame) (from to : ℕ) : Type 0 where
+  pub rows : (r : ℕ) → from ≤ r → r < to → IsInner s.a.y s.c.y (height_of f r) → IsRowTold IsTold s f r
+
+-- g is the rows of a frame from one to before another
+pub record IsPartOf (f : Frame) (from to : ℕ) (g : Frame) : Type 0 where
+  pub left : g.left ≡ f.left
+  pub bottom : g.bottom ≡ f.bottom +ℤ pos from
+  pub width : g.width ≡ f.width
+  pub height : from + g.height ≡ to
+  pub within : to ≤ f.height
+
+-- the rows of a frame from one to before another are noted, and with its highest row the number after that
+pub record AreRowsNoted (IsNotedAt : ℕ → Type 0) (f : Frame) (from to : ℕ) : Type 0 where
+  pub rows : (r : ℕ) → from ≤ r → r < to → IsNotedAt r
+  pub top : to ≡ f.height → IsNotedAt f.height
+
+-- the same of each piece
+abbrev pub AreNotedIn : (Span → ℕ → Type 0) → List Span → Frame → ℕ → ℕ → Type 0
+AreNotedIn IsNotedAt ss f from to = All (λ s. AreRowsNoted (IsNotedAt s) f from to) ss

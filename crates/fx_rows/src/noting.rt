@@ -1,0 +1,56 @@
+//! What is noted of pieces while they are added to bands: nothing, or the segments that they meet.
+
+use crate::heights::RowRange;
+use fx_winding::{Frame, Piece};
+
+/// What is noted while a piece is added to the rows of a band, which are those of a frame from one to before another.
+pub(crate) trait Noting {
+    ghost use Rattle.std.specs.Prelude.{◌≡◌, ◌≢◌, ℕ, ◌<◌, ◌≤◌};
+    ghost use Rattle.fx_winding.specs.Winding.{Span, span_of};
+    ghost use Rattle.fx_winding.specs.declared.frame.Frame.{Frame};
+    ghost use Rattle.fx_rows.specs.inner.Told.{AreTold};
+
+    // The frame is the one of which segments are noted.
+    ghost IsOf: { Self → Frame → Type 0 };
+    // The end of a row of the band is told.
+    ghost IsTold: { Self → ℕ → ℕ → Type 0 };
+    // The segments that a piece meets are noted, those across a row of the frame and those up to it. The number after the highest
+    // row's stands for those up from that.
+    ghost IsNotedAt: { Self → Span → ℕ → Type 0 };
+
+    /// Takes the end of a row, counted from the lowest of the band.
+    fn tell(&mut self, up: u32, end: u32)
+        requires { up < 128 }
+        ensures frame { (f : Frame) → IsOf self.old f → IsOf self.new f }
+        ensures told { IsTold self.new up end }
+        ensures others { (r n : ℕ) → r ≢ up → IsTold self.old r n → IsTold self.new r n }
+        ensures kept { (s : Span) (r : ℕ) → IsNotedAt self.old s r → IsNotedAt self.new s r };
+
+    /// Notes the segments that a piece meets in a band, of whose rows those between its ends were told.
+    fn note(&mut self, piece: &Piece, frame: Frame, rows: RowRange)
+        requires frame { IsOf self.old frame }
+        requires rows { rows.end ≤ frame.height }
+        requires told { AreTold (IsTold self.old) (span_of piece.now) frame rows.first rows.end }
+        ensures frame { (f : Frame) → IsOf self.old f → IsOf self.new f }
+        ensures noted { (r : ℕ) → rows.first ≤ r → r < rows.end → IsNotedAt self.new (span_of piece.now) r }
+        ensures top { rows.end ≡ frame.height → IsNotedAt self.new (span_of piece.now) frame.height }
+        ensures kept { (s : Span) (r : ℕ) → IsNotedAt self.old s r → IsNotedAt self.new s r };
+}
+
+/// Nothing is noted.
+#[derive(Clone, Copy)]
+pub(crate) struct NoNotes;
+
+impl Noting for NoNotes {
+    ghost IsOf = { λ _ _. Unit {0} };
+
+    ghost IsTold = { λ _ _ _. Unit {0} };
+
+    ghost IsNotedAt = { λ _ _ _. Unit {0} };
+
+    #[inline(always)]
+    fn tell(&mut self, _up: u32, _end: u32) {}
+
+    #[inline(always)]
+    fn note(&mut self, _piece: &Piece, _frame: Frame, _rows: RowRange) {}
+}

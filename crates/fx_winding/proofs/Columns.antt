@@ -1,0 +1,216 @@
+-- A chord that rises and the one with its coordinates exchanged: their crossings, and places on them.
+-- Serves `Sideways`.
+use Rattle.std.proofs.Common.{◌≡◌, ◌≢◌, refl, sym, ap, ◌∙◌, inl, inr, zero, suc, ℤ, pos, negsuc, ◌+ℤ◌, ◌-ℤ◌, ◌*ℤ◌}
+use Rattle.std.proofs.Common.{neg_ℤ, ◌≤ℤ◌, ◌<ℤ◌, [], ◌∷◌, arith}
+use Rattle.std.proofs.lemmas.Int.{ints, by_lt_z}
+use Rattle.fx_fixed.specs.Polynomial.{var, ◌⊞◌, ◌⊠◌, minus, ◌⊟◌}
+use Rattle.fx_fixed.proofs.Ring.{ring, *ℤ_zero, one-*ℤ}
+use Rattle.fx_fixed.proofs.Linear.{signed_linear}
+use Rattle.fx_fixed.proofs.Signs.{product_at_least_zero, product_above_zero}
+use Rattle.fx_winding.specs.Area.{Place, area, area_of}
+use Rattle.fx_winding.specs.Dropout.{turned_place}
+use Rattle.fx_winding.specs.Winding.{IsBetween, IsInRange, IsOnLine, IsOnFlatArc, chord_crossing}
+use Rattle.fx_winding.proofs.Crossings.{above, crossing_number, area_split_right, left_of_rising, right_of_rising}
+use Rattle.fx_winding.proofs.Crossings.{no_crossing}
+use Rattle.fx_winding.proofs.Exchanged.{area_turned}
+use Rattle.fx_winding.proofs.HalfAreas.{area_next}
+use Rattle.fx_winding.proofs.Triangle.{area_expr}
+
+-- ---- the row between the ends
+not_left_of_rising : (ax ay cx cy px py : ℤ) → ay <ℤ py → py <ℤ cy → ax ≤ℤ px → cx ≤ℤ px → area_of ax ay cx cy px py ≤ℤ pos 0
+not_left_of_rising ax ay cx cy px py h k m n =
+    let p = product_at_least_zero (cy -ℤ py) (px -ℤ ax) (omega (arith, signed_linear)) (omega (arith, signed_linear)) in
+    let q = product_at_least_zero (py -ℤ ay) (px -ℤ cx) (omega (arith, signed_linear)) (omega (arith, signed_linear)) in
+    let e = area_split_right ax ay cx cy px py in
+    omega (arith, signed_linear, p, q, e)
+
+-- where the row meets the chord, the place is left of the chord's end if the chord goes right, else not
+pub end_ahead : (ax ay cx cy px py : ℤ) → ay <ℤ py → py <ℤ cy → area_of ax ay cx cy px py ≡ pos 0 → ax <ℤ cx → px <ℤ cx
+end_ahead ax ay cx cy px py h k z l = by_lt_z px cx (λ m. m) (λ m. absurd (no m))
+  where
+    no : cx ≤ℤ px → ⊥
+    no m =
+        let p = product_above_zero (cy -ℤ py) (px -ℤ ax) (omega (arith, signed_linear)) (omega (arith, signed_linear)) in
+        let q = product_at_least_zero (py -ℤ ay) (px -ℤ cx) (omega (arith, signed_linear)) (omega (arith, signed_linear)) in
+        let e = area_split_right ax ay cx cy px py in
+        omega (arith, signed_linear, p, q, e, z)
+
+pub end_behind : (ax ay cx cy px py : ℤ) → ay <ℤ py → py <ℤ cy → area_of ax ay cx cy px py ≡ pos 0 → cx ≤ℤ ax → cx ≤ℤ px
+end_behind ax ay cx cy px py h k z l = by_lt_z px cx (λ m. absurd (no m)) (λ m. m)
+  where
+    no : px <ℤ cx → ⊥
+    no m =
+        let p = left_of_rising ax ay cx cy px py (omega (arith, signed_linear)) k (omega (arith, signed_linear)) m in
+        omega (arith, signed_linear, p, z)
+
+pub chord_between : (ax ay cx cy px py : ℤ) → ay <ℤ py → py <ℤ cy → area_of ax ay cx cy px py ≡ pos 0 → IsBetween ax cx px
+chord_between ax ay cx cy px py h k z = by_lt_z px ax before after
+  where
+    before : px <ℤ ax → IsBetween ax cx px
+    before m = by_lt_z px cx
+        (λ n. absurd (let p = left_of_rising ax ay cx cy px py (omega (arith, signed_linear)) k m n in omega
+        (arith, signed_linear, p, z)))
+        (λ n. inr (n, omega (arith, signed_linear)))
+
+    after : ax ≤ℤ px → IsBetween ax cx px
+    after m = by_lt_z cx px (λ n. inr (omega (arith, signed_linear), at_first n)) (λ n. inl (m, n))
+      where
+        at_first : cx <ℤ px → px ≤ℤ ax
+        at_first n = by_lt_z ax px
+            (λ l. absurd (let p = right_of_rising ax ay cx cy px py (omega (arith, signed_linear)) k l n in omega
+            (arith, signed_linear, p, z)))
+            (λ l. l)
+
+-- ---- the crossings
+-- the crossing of the exchanged chord
+abbrev pub column_crossing : Place → Place → Place → ℤ
+column_crossing a c p = chord_crossing (turned_place a) (turned_place c) (turned_place p)
+
+rising_crossing : (ay cy py s : ℤ) → ay <ℤ py → py <ℤ cy → pos 0 <ℤ s → crossing_number ay cy py s ≡ pos 1
+rising_crossing ay cy py s h k m = grind (arith, ints)
+
+-- the exchanged chord's, where the place is left of the chord and where it is right of it
+column_left : (ax cx px t : ℤ) → t <ℤ pos 0 → (ax ≤ℤ px → px <ℤ cx) → crossing_number ax cx px t ≡ above px cx -ℤ pos 1
+column_left ax cx px t h left = grind (arith, ints)
+
+column_right : (ax cx px t : ℤ) → pos 0 <ℤ t → (px <ℤ cx → ax ≤ℤ px) → crossing_number ax cx px t ≡ above px cx
+column_right ax cx px t h right = grind (arith, ints)
+
+crossings_left : (ax ay cx cy px py : ℤ) → ay <ℤ py → py <ℤ cy → pos 0 <ℤ area_of ax ay cx cy px py
+    → crossing_number ax cx px (neg_ℤ (area_of ax ay cx cy px py)) +ℤ crossing_number ay cy py (area_of ax ay cx cy px py)
+    ≡ above px cx
+crossings_left ax ay cx cy px py h k s =
+    let e = rising_crossing ay cy py (area_of ax ay cx cy px py) h k s in
+    let f = column_left ax cx px (neg_ℤ (area_of ax ay cx cy px py)) (omega (arith, signed_linear, s)) left in
+    (λ i. f i +ℤ e i) ∙ back (above px cx)
+  where
+    left : ax ≤ℤ px → px <ℤ cx
+    left l = by_lt_z px cx (λ m. m)
+        (λ m. absurd (let n = not_left_of_rising ax ay cx cy px py h k l m in omega (arith, signed_linear, n, s)))
+
+    back : (z : ℤ) → (z -ℤ pos 1) +ℤ pos 1 ≡ z
+    back z = omega (arith, signed_linear)
+
+crossings_right : (ax ay cx cy px py : ℤ) → ay <ℤ py → py <ℤ cy → area_of ax ay cx cy px py <ℤ pos 0
+    → crossing_number ax cx px (neg_ℤ (area_of ax ay cx cy px py)) +ℤ crossing_number ay cy py (area_of ax ay cx cy px py)
+    ≡ above px cx
+crossings_right ax ay cx cy px py h k s =
+    let e = no_crossing ay cy py (area_of ax ay cx cy px py) (inr (inr (omega (arith, signed_linear, s))))
+    (inr (inl (omega (arith, signed_linear, h)))) in
+    let f = column_right ax cx px (neg_ℤ (area_of ax ay cx cy px py)) (omega (arith, signed_linear, s)) right in
+    (λ i. f i +ℤ e i) ∙ same (above px cx)
+  where
+    right : px <ℤ cx → ax ≤ℤ px
+    right m = by_lt_z px ax
+        (λ l. absurd (let n = left_of_rising ax ay cx cy px py (omega (arith, signed_linear, h)) k l m in omega
+        (arith, signed_linear, n, s)))
+        (λ l. l)
+
+    same : (z : ℤ) → z +ℤ pos 0 ≡ z
+    same z = omega (arith, signed_linear)
+
+-- off the chord's line the crossings of a piece and of the exchanged one add up to 1 where the place is left of the upper end
+pub crossings_sum : (a c p : Place) → a.y <ℤ p.y → p.y <ℤ c.y → area a c p ≢ pos 0
+    → column_crossing a c p +ℤ chord_crossing a c p ≡ above p.x c.x
+crossings_sum a c p h k n =
+    ap (λ t. crossing_number a.x c.x p.x t +ℤ chord_crossing a c p) (area_turned a c p)
+    ∙ by_lt_z (pos 0) (area a c p) (crossings_left a.x a.y c.x c.y p.x p.y h k)
+    (λ l. crossings_right a.x a.y c.x c.y p.x p.y h k (strictly (area a c p) n l))
+  where
+    strictly : (z : ℤ) → z ≢ pos 0 → z ≤ℤ pos 0 → z <ℤ pos 0
+    strictly z n h = grind (arith, ints)
+
+-- and on it both are 0
+pub crossings_none : (a c p : Place) → area a c p ≡ pos 0
+    → (column_crossing a c p ≡ pos 0) × (chord_crossing a c p ≡ pos 0)
+crossings_none a c p z = (
+  ap (crossing_number a.x c.x p.x) (area_turned a c p ∙ ap neg_ℤ z) ∙ none a.x c.x p.x,
+  ap (crossing_number a.y c.y p.y) z ∙ none a.y c.y p.y,
+)
+  where
+    none : (a c p : ℤ) → crossing_number a c p (pos 0) ≡ pos 0
+    none a c p = grind (arith, ints)
+
+-- ---- on the chord
+none_factor : (k z : ℤ) → pos 0 <ℤ k → k *ℤ z ≡ pos 0 → z ≡ pos 0
+none_factor k (pos zero) h e = refl
+none_factor k (pos (suc n)) h e =
+    absurd (let p = product_above_zero k (pos (suc n)) h (omega (arith, ints)) in omega (arith, signed_linear, p, e))
+none_factor k (negsuc n) h e =
+    absurd (let p = product_above_zero k (neg_ℤ (negsuc n)) h (omega (arith, ints)) in
+    let m : k *ℤ neg_ℤ (negsuc n) ≡ neg_ℤ (k *ℤ negsuc n) =
+    ring (k ∷ negsuc n ∷ []) (var 0 ⊠ minus (var 1)) (minus (var 0 ⊠ var 1)) tt in
+    omega (arith, signed_linear, p, m, e))
+
+-- the weights of the ends, by those of the whole and of the control point; s is the sign of the whole
+pub weight_up : (s ax ay bx by cx cy px py : ℤ)
+    → (cy -ℤ ay) *ℤ (s *ℤ area_of ax ay bx by px py) ≡ (py -ℤ ay) *ℤ (s *ℤ area_of ax ay bx by cx cy) +ℤ
+    (by -ℤ ay) *ℤ (s *ℤ area_of ax ay cx cy px py)
+weight_up s ax ay bx by cx cy px py =
+    let a = var 0 in let a' = var 1 in
+    let b = var 2 in let b' = var 3 in
+    let c = var 4 in let c' = var 5 in
+    let p = var 6 in let p' = var 7 in
+    let t = var 8 in
+    ring (ax ∷ ay ∷ bx ∷ by ∷ cx ∷ cy ∷ px ∷ py ∷ s ∷ []) ((c' ⊟ a') ⊠ (t ⊠ area_expr a a' b b' p p'))
+    ((p' ⊟ a') ⊠ (t ⊠ area_expr a a' b b' c c') ⊞ (b' ⊟ a') ⊠ (t ⊠ area_expr a a' c c' p p')) tt
+
+pub weight_down : (s ax ay bx by cx cy px py : ℤ)
+    → (cy -ℤ ay) *ℤ (s *ℤ area_of px py bx by cx cy) ≡ (cy -ℤ py) *ℤ (s *ℤ area_of ax ay bx by cx cy) -ℤ
+    (by -ℤ cy) *ℤ (s *ℤ area_of ax ay cx cy px py)
+weight_down s ax ay bx by cx cy px py =
+    let a = var 0 in let a' = var 1 in
+    let b = var 2 in let b' = var 3 in
+    let c = var 4 in let c' = var 5 in
+    let p = var 6 in let p' = var 7 in
+    let t = var 8 in
+    ring (ax ∷ ay ∷ bx ∷ by ∷ cx ∷ cy ∷ px ∷ py ∷ s ∷ []) ((c' ⊟ a') ⊠ (t ⊠ area_expr p p' b b' c c'))
+    ((c' ⊟ p') ⊠ (t ⊠ area_expr a a' b b' c c') ⊟ (b' ⊟ c') ⊠ (t ⊠ area_expr a a' c c' p p')) tt
+
+-- p is on the chord, strictly between its ends, the first of which is the lower one
+pub record IsOnRising (a c p : Place) : Type 0 where
+  pub low : a.y <ℤ p.y
+  pub high : p.y <ℤ c.y
+  pub none : area a c p ≡ pos 0
+
+pub times_none : (s z : ℤ) → z ≡ pos 0 → s *ℤ z ≡ pos 0
+times_none s z e = ap (λ t. s *ℤ t) e ∙ *ℤ_zero s
+
+-- so that it is on an arc whose points are on one line
+pub flat_on : (a b c p : Place) → IsOnRising a c p → area a b c ≡ pos 0 → IsOnFlatArc a b c p
+flat_on a b c p h z =
+    let low = h.low in
+    let high = h.high in
+    let rise : pos 0 <ℤ (c.y -ℤ a.y) = omega (arith, signed_linear, low, high) in
+    let e = weight_up (pos 1) a.x a.y b.x b.y c.x c.y p.x p.y in
+    let f = weight_down (pos 1) a.x a.y b.x b.y c.x c.y p.x p.y in
+    record {
+      flat = z;
+      with_ab = one_none _ (none_factor _ _ rise (e ∙ λ i. none (p.y -ℤ a.y) z i +ℤ none (b.y -ℤ a.y) h.none i));
+      with_bc = area_next p b c
+          ∙ one_none _ (none_factor _ _ rise (f ∙ λ i. none (c.y -ℤ p.y) z i -ℤ none (b.y -ℤ c.y) h.none i));
+      with_ac = h.none;
+      range_x = in_range a.x b.x c.x p.x (chord_between a.x a.y c.x c.y p.x p.y low high h.none);
+      range_y = in_range a.y b.y c.y p.y (inl (omega (arith, signed_linear, low), omega (arith, signed_linear, high)));
+    }
+  where
+    one_none : (z : ℤ) → pos 1 *ℤ z ≡ pos 0 → z ≡ pos 0
+    one_none z e = sym (one-*ℤ z) ∙ e
+
+    none : (k : ℤ) {z : ℤ} → z ≡ pos 0 → k *ℤ (pos 1 *ℤ z) ≡ pos 0
+    none k e = times_none k _ (times_none (pos 1) _ e)
+
+    in_range : (a b c p : ℤ) → IsBetween a c p → IsInRange a b c p
+    in_range a b c p (inl (h, k)) = record { low = inl h; high = inr (inl k) }
+    in_range a b c p (inr (h, k)) = record { low = inr (inl h); high = inl k }
+
+-- and on a line
+pub line_on : (a c p : Place) → IsOnRising a c p → IsOnLine a c p
+line_on a c p h =
+    let low = h.low in
+    let high = h.high in
+    record {
+      collinear = h.none;
+      between_x = chord_between a.x a.y c.x c.y p.x p.y low high h.none;
+      between_y = inl (omega (arith, signed_linear, low), omega (arith, signed_linear, high));
+    }

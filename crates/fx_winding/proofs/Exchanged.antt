@@ -1,0 +1,29 @@
+-- Areas and weights of places with their coordinates exchanged.
+-- Serves pieces whose columns are rows, here and in `fx_dropout`.
+use Rattle.std.proofs.Common.{◌≡◌, ap, ◌∙◌, ◌*ℤ◌, neg_ℤ, [], ◌∷◌}
+use Rattle.fx_fixed.specs.Polynomial.{var, ◌⊠◌, minus}
+use Rattle.fx_fixed.proofs.Ring.{ring}
+use Rattle.fx_winding.specs.Area.{Place, area}
+use Rattle.fx_winding.specs.Dropout.{turned_place}
+use Rattle.fx_winding.specs.Winding.{sign}
+use Rattle.fx_winding.proofs.Reversal.{sign_back}
+use Rattle.fx_winding.proofs.Triangle.{area_expr}
+
+pub area_turned : (p q r : Place) → area (turned_place p) (turned_place q) (turned_place r) ≡ neg_ℤ (area p q r)
+area_turned p q r =
+    let a = var 0 in let a' = var 1 in
+    let b = var 2 in let b' = var 3 in
+    let c = var 4 in let c' = var 5 in
+    ring (p.x ∷ p.y ∷ q.x ∷ q.y ∷ r.x ∷ r.y ∷ []) (area_expr a' a b' b c' c) (minus (area_expr a a' b b' c c')) tt
+
+pub sign_area_turned : (a b c : Place)
+    → sign (area (turned_place a) (turned_place b) (turned_place c)) ≡ neg_ℤ (sign (area a b c))
+sign_area_turned a b c = ap sign (area_turned a b c) ∙ sign_back (area a b c)
+
+-- the weights are the same
+pub weight : (a b c p q r : Place)
+    → sign (area (turned_place a) (turned_place b) (turned_place c)) *ℤ area (turned_place p) (turned_place q) (turned_place r)
+    ≡ sign (area a b c) *ℤ area p q r
+weight a b c p q r =
+    (λ i. sign_area_turned a b c i *ℤ area_turned p q r i)
+    ∙ ring (sign (area a b c) ∷ area p q r ∷ []) (minus (var 0) ⊠ minus (var 1)) (var 0 ⊠ var 1) tt

@@ -1,0 +1,40 @@
+-- The segments between neighbouring centres of a frame's rows and columns, noted as bits: those that drop-out control looks at.
+-- More may be noted than pieces meet.
+use Rattle.std.specs.Prelude.{◌≡◌, ℕ, ◌+◌, ◌*◌, ◌≤◌, ◌<◌, pos, ◌+ℤ◌, ◌-ℤ◌, List}
+use Rattle.fx_winding.specs.declared.frame.Frame.{Frame}
+use Rattle.fx_winding.specs.Bitmaps.{words_for, word_bit}
+use Rattle.fx_winding.specs.Dropout.{turned_span}
+use Rattle.fx_winding.specs.Meets.{IsMet}
+use Rattle.fx_winding.specs.Winding.{Span, IsOn, centre}
+
+-- the number of the pixel that is k right of a frame's left one and r above its lowest row; each row begins with a new word
+abbrev pub pixel_number : Frame → ℕ → ℕ → ℕ
+pixel_number f r k = r * (32 * words_for f.width) + k
+
+-- a piece meets the segment between a pixel and its left neighbour, and neither end is on the piece; the pixel is k right of the
+-- frame's left one and r above its lowest row
+pub record IsMetAcross (s : Span) (f : Frame) (r k : ℕ) : Type 0 where
+  pub met : IsMet (centre ((f.left -ℤ pos 1) +ℤ pos k) (f.bottom +ℤ pos r)) (centre (f.left +ℤ pos k) (f.bottom +ℤ pos r)) s
+  pub off_left : ¬ (IsOn (centre ((f.left -ℤ pos 1) +ℤ pos k) (f.bottom +ℤ pos r)) s)
+  pub off_right : ¬ (IsOn (centre (f.left +ℤ pos k) (f.bottom +ℤ pos r)) s)
+
+-- a piece meets the segment between a pixel and its lower neighbour, which is one of a row with all coordinates exchanged, and
+-- neither end is on the piece
+pub record IsMetUp (s : Span) (f : Frame) (r k : ℕ) : Type 0 where
+  pub met : IsMet (centre ((f.bottom -ℤ pos 1) +ℤ pos r) (f.left +ℤ pos k)) (centre (f.bottom +ℤ pos r) (f.left +ℤ pos k))
+      (turned_span s)
+  pub off_lower : ¬ (IsOn (centre (f.left +ℤ pos k) ((f.bottom -ℤ pos 1) +ℤ pos r)) s)
+  pub off_upper : ¬ (IsOn (centre (f.left +ℤ pos k) (f.bottom +ℤ pos r)) s)
+
+-- the segments that a piece meets in the row that is r above a frame's lowest, the one after its last pixel too, have their bits
+abbrev pub IsNotedAcross : Span → Frame → List ℕ → ℕ → Type 0
+IsNotedAcross s f across r = (k : ℕ) → k ≤ f.width → IsMetAcross s f r k → word_bit across (pixel_number f r k) ≡ 1
+
+-- the segments that a piece meets between that row and the one below it have their bits
+abbrev pub IsNotedUp : Span → Frame → List ℕ → ℕ → Type 0
+IsNotedUp s f up r = (k : ℕ) → k < f.width → IsMetUp s f r k → word_bit up (pixel_number f r k) ≡ 1
+
+-- all segments of a frame that a piece meets have their bits: those across each row, and those up to each row and from the highest
+pub record IsNoted (s : Span) (f : Frame) (rows columns : List ℕ) : Type 0 where
+  pub across : (r : ℕ) → r < f.height → IsNotedAcross s f rows r
+  pub up : (r : ℕ) → r ≤ f.height → IsNotedUp s f columns r

@@ -1,0 +1,56 @@
+//! Segments between neighbouring centres, noted as bits.
+
+ghost use Rattle.std.specs.Prelude.{◌≡◌, ◌+◌, ◌*◌, length, replicate, IfOk};
+ghost use Rattle.fx_winding.specs.Bitmaps.{words_for as words_for_of};
+ghost use Rattle.fx_winding.specs.Notes.{IsNoted};
+ghost use Rattle.fx_winding.specs.Winding.{Span};
+
+use crate::frame::Frame;
+use crate::words::words_for;
+use std::alloc::{AllocError, Global};
+
+/// A bit for each segment between neighbouring centres of a frame's rows and columns, those that lead out of the frame too. They
+/// are numbered like the frame's pixels, each by its right or its upper end.
+#[derive(Drop)]
+pub struct Notes {
+    pub frame: Frame,
+    /// The segments of rows, from left neighbours. A row's last segment has the number after its last pixel's.
+    pub across: Vec<u32>,
+    /// The segments of columns, from lower neighbours. They take a row more than the pixels.
+    pub up: Vec<u32>,
+    ghost across_room: { length across.items ≡ frame.height * words_for_of frame.width + 1 },
+    ghost up_room: { length up.items ≡ (frame.height + 1) * words_for_of frame.width },
+}
+
+impl Notes {
+    /// The notes of a frame in which each bit is `set`.
+    fn with_bits(alloc: Global, frame: Frame, bits: u32) -> Result<Notes, AllocError>
+        ensures frame { IfOk result (λ n. n.frame ≡ frame) }
+        ensures across { IfOk result (λ n. n.across.items ≡ replicate (frame.height * words_for_of frame.width + 1) bits) }
+        ensures up { IfOk result (λ n. n.up.items ≡ replicate ((frame.height + 1) * words_for_of frame.width) bits) }
+    {
+        let words = words_for(frame.width);
+        let rows = frame.height as usize;
+        Ok(Notes {
+            frame,
+            across: vec![in alloc; bits; rows * words + 1]?,
+            up: vec![in alloc; bits; (rows + 1) * words]?,
+        })
+    }
+
+    /// The notes of a frame in which no segment is noted.
+    pub fn none(alloc: Global, frame: Frame) -> Result<Notes, AllocError>
+        ensures frame { IfOk result (λ n. n.frame ≡ frame) }
+    {
+        Notes::with_bits(alloc, frame, 0)
+    }
+
+    /// The notes of a frame in which each segment is noted.
+    pub fn all(alloc: Global, frame: Frame) -> Result<Notes, AllocError>
+        ensures frame { IfOk result (λ n. n.frame ≡ frame) }
+        ensures noted { (s : Span) → IfOk result (λ n. IsNoted s frame n.across.items n.up.items) }
+    {
+        let notes = Notes::with_bits(alloc, frame, u32::MAX)?;
+        Ok(notes)
+    }
+}
