@@ -229,10 +229,3 @@ tests_more p u v h = by (v - u) (omega arith)
       where
         sum : (n : ℕ) → p * (12 * u) + p * (12 * n) ≡ p * (12 * (u + n))
         sum n = grind arith
-
-pub tests_fit : (p u h d : ℕ) → u ≤ h → p * (12 * u) ≤ p * h * (6 * d + 12)
-tests_fit p u h d l =
-    let m : 12 * u ≤ 12 * h = omega arith in
-    let n = mul-le-mul_left p m in
-    let e : p * h * (6 * d + 12) ≡ p * (12 * h) + 6 * (p * h * d) = grind arith in
-    omega (arith, n, e)

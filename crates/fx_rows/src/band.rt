@@ -96,4 +96,13 @@ impl Band {
     {
         &self.marks[..self.marks.len() - 1]
     }
+
+    /// The words of marks of the rows, from the lowest, in place.
+    pub(crate) fn into_words(self) -> Vec<u32>
+        ensures { result.items ≡ take (self.frame.height * words_for self.frame.width) self.marks.items }
+    {
+        let mut words = self.marks;
+        let _ = words.pop();
+        words
+    }
 }
