@@ -2,24 +2,24 @@
 -- Serves `across` and `up`.
 use Rattle.std.proofs.Common.{◌≡◌, ◌⊎◌, ◌↔◌, inl, inr, sym, ap, ◌∙◌, subst, min, IsTrue, true, false, ℕ, ◌+◌, ◌-◌, ◌*◌, ◌<◌, ◌≤◌, ℤ}
 use Rattle.std.proofs.Common.{pos, ◌+ℤ◌, ◌-ℤ◌}
-use Rattle.std.proofs.Common.{List, length, take, drop, map, All, Any, get_or, arith}
+use Rattle.std.proofs.Common.{List, [], length, take, drop, map, All, Any, get_or, arith}
 use Rattle.fx_fixed.proofs.Linear.{signed_linear}
 use Rattle.fx_fixed.proofs.Order.{below_or_not}
 use Rattle.fx_winding.specs.declared.frame.Frame.{Frame}
 use Rattle.fx_winding.specs.Area.{Place}
-use Rattle.fx_winding.specs.Bitmaps.{Bits, words_for, bit_of, word_bit}
+use Rattle.fx_winding.specs.Bitmaps.{Bits, AreRowWords, words_for, bit_of, bits_in, word_bit}
 use Rattle.fx_winding.specs.Dropout.{IsGap, turned_span}
-use Rattle.fx_winding.specs.Frames.{IsInFrame}
+use Rattle.fx_winding.specs.Frames.{IsFrom, steps, IsInFrame}
 use Rattle.fx_winding.specs.Meets.{IsMet}
 use Rattle.fx_winding.specs.Notes.{pixel_number, IsNoted}
 use Rattle.fx_winding.specs.Winding.{Span, centre, IsOn, IsCovered}
 use Rattle.fx_winding.proofs.Covers.{any_unmap}
-use Rattle.fx_dropout.specs.inner.Lines.{IsSoFar, IsRowNoted, IsLevelNoted, AreRowsClosed, IsBridgedTo}
+use Rattle.fx_dropout.specs.inner.Lines.{IsSoFar, IsBridgedTo, IsOneOf, IsRowNoted, IsLevelNoted, AreClosed, IsLevelClosed, AreRowsClosed}
 use Rattle.fx_dropout.specs.inner.Words.{IsShutAcross, IsShutUp, IsShutInRow, IsShutInColumn}
-use Rattle.fx_dropout.proofs.Levels.{levels_skip}
-use Rattle.fx_dropout.proofs.Rows.{rows_skip}
+use Rattle.fx_dropout.proofs.Levels.{level_kept, level_skip, levels_skip}
+use Rattle.fx_dropout.proofs.Rows.{closed_skip, rows_skip}
 use Rattle.fx_dropout.proofs.Segments.{gap_before}
-use Rattle.fx_dropout.proofs.SoFar.{so_far_decided}
+use Rattle.fx_dropout.proofs.SoFar.{so_far_decided, row_pixel}
 use Rattle.fx_dropout.proofs.Words.{part_bit}
 
 -- a piece on an end would cover it
@@ -112,22 +112,73 @@ level_noted ss f across up part Old r from i all covered l ei e p k m g =
 clash : (n : ℕ) → n ≡ 0 → n ≡ 1 → ⊥
 clash n z o = omega (arith, z, o)
 
--- one segment that is not noted
-pub row_unnoted : (ss : List Span) (f : Frame) (j : ℤ) (Old New : ℤ → ℤ → Type 0) (noted : List ℕ) (k n : ℕ)
-    → IsRowNoted ss f j Old noted → ((i : ℤ) → Old i j → New i j) → ¬ (word_bit noted k ≡ 1) → k ≤ f.width → k ≤ n → n < k + 1
-    → ¬ (IsGap ss New ((f.left -ℤ pos 1) +ℤ pos n) j)
-row_unnoted ss f j Old New noted k n all more none l low high g =
-    let e : n ≡ k = omega (arith, low, high) in
-    none (all k l (subst (λ (n : ℕ). IsGap ss Old ((f.left -ℤ pos 1) +ℤ pos n) j) e
-    (gap_before ss Old New j more ((f.left -ℤ pos 1) +ℤ pos n) g)))
+-- a row's words have the bits that a bitmap of this frame has there
+row_set : (f : Frame) (b : Bits) (j : ℤ) (row : List ℕ) → b.frame ≡ f → IsFrom f.bottom f.height j → AreRowWords b.frame.width row
+    → bits_in b.frame.width row ≡ get_or b.rows (steps b.frame.bottom j) [] → (n : ℕ) → word_bit row n ≡ 1
+    → IsTrue (bit_of b (f.left +ℤ pos n) j)
+row_set f b j row same r words value n o = subst (λ (g : Frame). IsTrue (bit_of b (g.left +ℤ pos n) j)) same
+    (row_pixel b j row n (subst (λ (g : Frame). IsFrom g.bottom g.height j) (sym same) r) words value o)
 
-pub level_unnoted : (ss : List Span) (f : Frame) (i : ℤ) (Old New : ℤ → ℤ → Type 0) (noted : List ℕ) (k n : ℕ)
-    → IsLevelNoted ss f i Old noted → ((m j : ℤ) → Old m j → New m j) → ¬ (word_bit noted k ≡ 1) → k < f.width → k ≤ n → n < k + 1
-    → ¬ (IsGap ss New i (f.left +ℤ pos n))
-level_unnoted ss f i Old New noted k n all more none l low high g =
-    let e : n ≡ k = omega (arith, low, high) in
-    none (all k l (subst (λ (n : ℕ). IsGap ss Old i (f.left +ℤ pos n)) e
-    (gap_before ss Old New (f.left +ℤ pos n) (λ i. more i (f.left +ℤ pos n)) i g)))
+-- as the words of a row tell that a bitmap has there
+row_clear : (ss : List Span) (f : Frame) (noted row : List ℕ) (Old : ℤ → ℤ → Type 0) (b : Bits) (j : ℤ) (n : ℕ)
+    → IsRowNoted ss f j Old noted → ((i : ℤ) → Old i j → IsSoFar false ss f b i j)
+    → ((n : ℕ) → word_bit row n ≡ 1 → IsTrue (bit_of b (f.left +ℤ pos n) j)) → n ≤ f.width → IsShutAcross noted row n
+    → ¬ (IsGap ss (IsSoFar false ss f b) ((f.left -ℤ pos 1) +ℤ pos n) j)
+row_clear ss f noted row Old b j n all more set l (inl z) g =
+    clash (word_bit noted n) z (all n l (gap_before ss Old (IsSoFar false ss f b) j more ((f.left -ℤ pos 1) +ℤ pos n) g))
+row_clear ss f noted row Old b j n all more set l (inr (inl o)) g =
+    let i : f.left +ℤ pos n ≡ ((f.left -ℤ pos 1) +ℤ pos n) +ℤ pos 1 = omega (arith, signed_linear) in
+    g.next (inl (subst (λ (i : ℤ). IsTrue (bit_of b i j)) i (set n o)))
+row_clear ss f noted row Old b j n all more set l (inr (inr (some, o))) g =
+    let i : f.left +ℤ pos (n - 1) ≡ (f.left -ℤ pos 1) +ℤ pos n = omega (arith, signed_linear, some) in
+    g.here (inl (subst (λ (i : ℤ). IsTrue (bit_of b i j)) i (set (n - 1) o)))
+
+pub row_passed : (ss : List Span) (f : Frame) (noted row : List ℕ) (Old : ℤ → ℤ → Type 0) (b : Bits) (j : ℤ) (k m : ℕ)
+    → b.frame ≡ f → IsFrom f.bottom f.height j → 0 < f.width → k ≤ f.width + 1 → k ≤ m → AreRowWords b.frame.width row
+    → bits_in b.frame.width row ≡ get_or b.rows (steps b.frame.bottom j) [] → IsRowNoted ss f j Old noted
+    → ((n : ℕ) → k ≤ n → n < m → n ≤ 32 * length row → IsShutAcross noted row n)
+    → AreClosed ss f k j Old (IsSoFar false ss f b) → AreClosed ss f (min m (f.width + 1)) j Old (IsSoFar false ss f b)
+row_passed ss f noted row Old b j k m same r some few low words value all shut a =
+    closed_skip ss f k (min m (f.width + 1)) j Old (IsSoFar false ss f b) r some (omega (arith, few, low)) (omega arith)
+    (λ i h. so_far_decided false ss f b i j h)
+    (λ n l h. row_clear ss f noted row Old b j n all (λ i o. (a.row i).1 (inl o))
+    (row_set f b j row same r words value) (omega (arith, h))
+    (shut n l (omega (arith, h)) (omega (arith, h, room)))) a
+  where
+    room : f.width ≤ 32 * length row
+    room = subst (λ (g : Frame). g.width ≤ 32 * length row) same (omega (arith, words.count, words_wide b.frame.width))
+
+level_clear : (ss : List Span) (f : Frame) (noted lower upper : List ℕ) (Old : ℤ → ℤ → Type 0) (b : Bits) (i x y : ℤ) (n : ℕ)
+    → IsLevelNoted (map turned_span ss) f i Old noted → ((m j : ℤ) → Old m j → IsSoFar true ss f b m j)
+    → ((n : ℕ) → word_bit lower n ≡ 1 → IsTrue (bit_of b (f.left +ℤ pos n) x))
+    → ((n : ℕ) → word_bit upper n ≡ 1 → IsTrue (bit_of b (f.left +ℤ pos n) y)) → IsOneOf i x → IsOneOf i y → n < f.width
+    → IsShutUp noted lower upper n → ¬ (IsGap (map turned_span ss) (IsSoFar true ss f b) i (f.left +ℤ pos n))
+level_clear ss f noted lower upper Old b i x y n all more below above ex ey l shut g = by shut
+  where
+    either : (z : ℤ) → IsOneOf i z → IsTrue (bit_of b (f.left +ℤ pos n) z) → ⊥
+    either z (inl e) t = g.here (inl (subst (λ (z : ℤ). IsTrue (bit_of b (f.left +ℤ pos n) z)) e t))
+    either z (inr e) t = g.next (inl (subst (λ (z : ℤ). IsTrue (bit_of b (f.left +ℤ pos n) z)) e t))
+
+    by : IsShutUp noted lower upper n → ⊥
+    by (inl z) = clash (word_bit noted n) z
+        (all n l (gap_before (map turned_span ss) Old (IsSoFar true ss f b) (f.left +ℤ pos n) (λ m. more m (f.left +ℤ pos n)) i g))
+    by (inr (inl o)) = either x ex (below n o)
+    by (inr (inr o)) = either y ey (above n o)
+
+pub level_passed : (ss : List Span) (f : Frame) (noted lower upper : List ℕ) (Old : ℤ → ℤ → Type 0) (b : Bits) (i x y : ℤ) (k m : ℕ)
+    → b.frame ≡ f → IsFrom f.bottom f.height x → IsFrom f.bottom f.height y → IsOneOf i x → IsOneOf i y → k ≤ f.width → k ≤ m
+    → AreRowWords b.frame.width lower → bits_in b.frame.width lower ≡ get_or b.rows (steps b.frame.bottom x) []
+    → AreRowWords b.frame.width upper → bits_in b.frame.width upper ≡ get_or b.rows (steps b.frame.bottom y) []
+    → IsLevelNoted (map turned_span ss) f i Old noted → length noted ≡ words_for f.width
+    → ((n : ℕ) → k ≤ n → n < m → n < 32 * length noted → IsShutUp noted lower upper n)
+    → IsLevelClosed (map turned_span ss) f.left k i x Old (IsSoFar true ss f b)
+    → IsLevelClosed (map turned_span ss) f.left (min m f.width) i x Old (IsSoFar true ss f b)
+level_passed ss f noted lower upper Old b i x y k m same rx ry ex ey few low lw lv uw uv all room shut a =
+    level_skip (map turned_span ss) f.left k (min m f.width) i x Old (IsSoFar true ss f b) (omega (arith, few, low))
+    (λ n l h. level_clear ss f noted lower upper Old b i x y n all
+    (level_kept (map turned_span ss) f.left k i x Old (IsSoFar true ss f b) a) (row_set f b x lower same rx lw lv)
+    (row_set f b y upper same ry uw uv) ex ey (omega (arith, h))
+    (shut n l (omega (arith, h)) (omega (arith, h, room, words_wide f.width)))) a
 
 -- as the words of a row tell
 pub row_shut : (b : Bits) (across part row : List ℕ) (r m n from : ℕ) (j : ℤ)

@@ -9,7 +9,7 @@ use Rattle.fx_winding.specs.Dropout.{IsGap, IsBridged}
 use Rattle.fx_winding.specs.Frames.{IsFrom}
 use Rattle.fx_winding.specs.Limits.{IsSide}
 use Rattle.fx_winding.specs.Winding.{Span}
-use Rattle.fx_dropout.specs.inner.Lines.{IsBridgedTo, IsCloser}
+use Rattle.fx_dropout.specs.inner.Lines.{IsBridgedTo, IsCloser, IsOneOf}
 
 pub same_or_not : (a b : ℤ) → (a ≡ b) ⊎ (a ≢ b)
 same_or_not a b = grind (arith, ints)
@@ -236,6 +236,14 @@ closer_made first count k x r side some high e closer =
     let within = closer_from first count k x r some high e made in
     let is : r ≡ to_z w32 (of_z w32 r) = omega (arith, signed_linear, within.0, within.1, side.from, side.to) in
     (subst (IsCloser first x) is made, subst (IsFrom first count) is within)
+
+-- it is one of the two
+pub closer_either : (first : ℤ) (k : ℕ) (x at : ℤ) → x ≡ (first -ℤ pos 1) +ℤ pos k → IsCloser first x at → IsOneOf x at
+closer_either first k x at e closer = by (below_or_not 0 k)
+  where
+    by : (0 < k) ⊎ (k ≤ 0) → IsOneOf x at
+    by (inl low) = inl (closer.inner (omega (arith, signed_linear, e, low)))
+    by (inr none) = inr (closer.outer (omega (arith, signed_linear, e, none)))
 
 -- each segment has such a pixel
 pub closer_of : (first : ℤ) (count k : ℕ) (x : ℤ) → 0 < count → k ≤ count → x ≡ (first -ℤ pos 1) +ℤ pos k

@@ -10,8 +10,8 @@ ghost use Rattle.fx_dropout.specs.inner.Lines.{IsSoFar, IsRowClosed, IsRowNoted}
 ghost use Rattle.fx_dropout.specs.inner.Words.{IsShutInRow};
 
 use crate::close::{close_gap, closer};
-use crate::open::is_open_across;
-use fx_winding::{Bitmap, Frame, Notes, Pieces, is_set, words_for};
+use crate::open::{is_open_across, next_across};
+use fx_winding::{Bitmap, Frame, Notes, Pieces, words_for};
 
 /// Closes the gaps of a row of the frame, from left to right: each by its left pixel, and the one before the first pixel by that.
 fn close_row(pieces: &Pieces, noted: &[u32], frame: Frame, bitmap: &mut Bitmap, j: i32)
@@ -19,19 +19,19 @@ fn close_row(pieces: &Pieces, noted: &[u32], frame: Frame, bitmap: &mut Bitmap, 
     requires some { 0 < frame.width }
     requires same { bitmap.old.frame ≡ frame }
     requires row { IsFrom frame.bottom frame.height j }
-    requires room { frame.width + 1 ≤ 32 * length noted.now }
+    requires room { words_for_of frame.width + 1 ≤ length noted.now }
     requires noted { IsRowNoted (map span_of pieces.now) frame j
         (IsSoFar false (map span_of pieces.now) frame bitmap.old) noted.now }
     ensures frame { bitmap.new.frame ≡ frame }
     ensures closed { IsRowClosed (map span_of pieces.now) frame j (IsSoFar false (map span_of pieces.now) frame bitmap.old)
         (IsSoFar false (map span_of pieces.now) frame bitmap.new) }
 {
+    let mut k = next_across(noted, bitmap.row(j), 0);
     // The gaps among the first k segments are closed.
-    'segments: for k in 0..frame.width + 1 {
-        if is_set(noted, k as usize) {
-            let i = frame.left - 1 + k as i32;
-            close_gap(false, pieces, bitmap, i, j, closer(i, frame.left));
-        }
+    'segments: while k <= frame.width as usize {
+        let i = frame.left - 1 + k as i32;
+        close_gap(false, pieces, bitmap, i, j, closer(i, frame.left));
+        k = next_across(noted, bitmap.row(j), k + 1);
     }
 }
 

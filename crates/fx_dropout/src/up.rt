@@ -7,31 +7,45 @@ ghost use Rattle.fx_winding.specs.Dropout.{IsBridged, turned_span};
 ghost use Rattle.fx_winding.specs.Frames.{IsFrom, IsInFrame, HasMargin};
 ghost use Rattle.fx_winding.specs.Notes.{IsNoted};
 ghost use Rattle.fx_winding.specs.Winding.{span_of, centre, IsCovered};
-ghost use Rattle.fx_dropout.specs.inner.Lines.{IsSoFar, IsCloser, IsLevelClosed, IsLevelNoted};
+ghost use Rattle.fx_dropout.specs.inner.Lines.{IsSoFar, IsOneOf, IsLevelClosed, IsLevelNoted};
 ghost use Rattle.fx_dropout.specs.inner.Words.{IsShutInColumn};
 
 use crate::close::{close_gap, closer};
-use crate::open::is_open_up;
-use fx_winding::{Bitmap, Frame, Notes, Pieces, is_set, words_for};
+use crate::open::{is_open_up, next_up};
+use fx_winding::{Bitmap, Frame, Notes, Pieces, words_for};
 
-/// Closes the gaps between a row and the one above it: each by the pixel in the row `at`.
+/// The row above another, or that itself if it is the last of the frame.
+fn row_above(frame: Frame, i: i32) -> i32
+    requires some { 0 < frame.height }
+    requires level { IsFrom (frame.bottom -ℤ pos 1) (frame.height + 1) i }
+    ensures inside { IsFrom frame.bottom frame.height result }
+    ensures either { IsOneOf i result }
+{
+    let last = frame.bottom + (frame.height - 1) as i32;
+    if i < last { i + 1 } else { last }
+}
+
+/// Closes the gaps between a row and the one above it: each by the pixel in the row `at`. Of two rows one of which lies outside the
+/// frame, the other stands for both.
 fn close_level(pieces: &Pieces, noted: &[u32], frame: Frame, bitmap: &mut Bitmap, i: i32, at: i32)
     requires margin { HasMargin frame }
     requires same { bitmap.old.frame ≡ frame }
     requires level { IsFrom (frame.bottom -ℤ pos 1) (frame.height + 1) i }
     requires at { IsFrom frame.bottom frame.height at }
-    requires room { frame.width ≤ 32 * length noted.now }
+    requires either { IsOneOf i at }
+    requires room { length noted.now ≡ words_for_of frame.width }
     requires noted { IsLevelNoted (map turned_span (map span_of pieces.now)) frame i
         (IsSoFar true (map span_of pieces.now) frame bitmap.old) noted.now }
     ensures frame { bitmap.new.frame ≡ frame }
     ensures closed { IsLevelClosed (map turned_span (map span_of pieces.now)) frame.left frame.width i at
         (IsSoFar true (map span_of pieces.now) frame bitmap.old) (IsSoFar true (map span_of pieces.now) frame bitmap.new) }
 {
+    let above = row_above(frame, i);
+    let mut k = next_up(noted, bitmap.row(at), bitmap.row(above), 0);
     // The gaps in the columns before k are closed, and the later columns are as they were.
-    'columns: for k in 0..frame.width {
-        if is_set(noted, k as usize) {
-            close_gap(true, pieces, bitmap, i, frame.left + k as i32, at);
-        }
+    'columns: while k < frame.width as usize {
+        close_gap(true, pieces, bitmap, i, frame.left + k as i32, at);
+        k = next_up(noted, bitmap.row(at), bitmap.row(above), k + 1);
     }
 }
 

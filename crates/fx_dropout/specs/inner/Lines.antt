@@ -28,6 +28,10 @@ pub record IsCloser (first i at : ℤ) : Type 0 where
   pub inner : first ≤ℤ i → at ≡ i
   pub outer : i <ℤ first → at ≡ i +ℤ pos 1
 
+-- n is i, or the number after it
+abbrev pub IsOneOf : ℤ → ℤ → Type 0
+IsOneOf i n = (n ≡ i) ⊎ (n ≡ i +ℤ pos 1)
+
 -- the gaps among the first count segments of a row of the frame are closed, and nothing else has changed
 pub record AreClosed (ss : List Span) (f : Frame) (count : ℕ) (j : ℤ) (Old New : ℤ → ℤ → Type 0) : Type 0 where
   pub row : (i : ℤ) → New i j ↔ IsBridgedTo ss (IsInFrame f) Old f.left count i j

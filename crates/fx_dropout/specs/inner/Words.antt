@@ -1,7 +1,17 @@
 -- Segments that can't be gaps, as notes and set pixels tell.
-use Rattle.std.specs.Prelude.{◌≡◌, ◌⊎◌, ℕ, ◌-◌, ◌<◌, pos, ◌+ℤ◌, ◌-ℤ◌, IsTrue, List}
+use Rattle.std.specs.Prelude.{◌≡◌, ◌⊎◌, ℕ, zero, suc, ◌-◌, ◌<◌, pos, ◌+ℤ◌, ◌-ℤ◌, IsTrue, List}
+use Rattle.std.specs.Int.{bit_at}
 use Rattle.fx_winding.specs.Bitmaps.{Bits, bit_of, word_bit}
 use Rattle.fx_winding.specs.Notes.{pixel_number}
+
+-- of a segment, its bit of the notes is 0, or one of those of its pixels is 1
+abbrev pub IsShut : ℕ → ℕ → ℕ → Type 0
+IsShut noted here next = (noted ≡ 0) ⊎ ((here ≡ 1) ⊎ (next ≡ 1))
+
+-- the bit left of the bit i of a word, counted from the left, which may be the last one of the word before
+abbrev pub left_bit : ℕ → ℕ → ℕ → ℕ
+left_bit word before zero = bit_at before 0
+left_bit word before (suc i) = bit_at word (31 - i)
 
 -- the segment n of a row, which leads to the pixel n, is not noted, or one of its pixels is set
 abbrev pub IsShutAcross : List ℕ → List ℕ → ℕ → Type 0

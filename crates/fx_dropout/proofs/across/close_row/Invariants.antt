@@ -1,4 +1,4 @@
-use Rattle.std.proofs.Common.{◌≡◌, map, false}
+use Rattle.std.proofs.Common.{◌≡◌, ◌+◌, ◌-◌, map, min, false}
 use Rattle.fx_winding.specs.Winding.{span_of}
 use Rattle.fx_dropout.specs.inner.Lines.{AreClosed, IsSoFar}
 use Rattle.fx_dropout.proofs.across.close_row.Given as goal
@@ -6,6 +6,9 @@ use Rattle.fx_dropout.proofs.across.close_row.Given as goal
 abbrev pub invariant-segments : goal.invariant-segments
 invariant-segments l = record {
   same : l.bitmap.frame ≡ l.frame;
-  closed : AreClosed (map span_of l.pieces) l.frame l.k l.j (IsSoFar false (map span_of l.pieces) l.frame l.fn.bitmap)
-      (IsSoFar false (map span_of l.pieces) l.frame l.bitmap);
+  closed : AreClosed (map span_of l.pieces) l.frame (min l.k (l.frame.width + 1)) l.j
+      (IsSoFar false (map span_of l.pieces) l.frame l.fn.bitmap) (IsSoFar false (map span_of l.pieces) l.frame l.bitmap);
 }
+
+abbrev pub decreases-segments : goal.decreases-segments
+decreases-segments l = l.frame.width + 1 - l.k

@@ -13,7 +13,7 @@ use Rattle.fx_dropout.specs.inner.Words.{IsShutInColumn}
 use Rattle.fx_dropout.proofs.Candidates.{level_noted, levels_pass}
 use Rattle.fx_dropout.proofs.Rows.{narrow_closed}
 use Rattle.fx_dropout.proofs.Levels.{flat, levels_more, levels_all}
-use Rattle.fx_dropout.proofs.Segments.{bridged_none, closer_made}
+use Rattle.fx_dropout.proofs.Segments.{bridged_none, closer_made, closer_either}
 use Rattle.fx_dropout.proofs.SoFar.{so_far_decided}
 use Rattle.fx_dropout.proofs.up.close_columns.Goals as goal
 
@@ -65,6 +65,16 @@ close_level-requires-clause-at c =
     let row : x ≡ (f.bottom -ℤ pos 1) +ℤ pos up = omega (arith, signed_linear, step) in
     let closer = closer_made f.bottom f.height up x c.closer.result f.rows (omega arith) (omega arith) row c.closer.ensures in
     closer.1
+
+pub close_level-requires-clause-either : goal.close_level-requires-clause-either
+close_level-requires-clause-either c =
+    let f = c.args.notes.now.frame in
+    let up = c.levels.up in
+    let step : to_z w32 up ≡ pos up = to_z_pos w32 up (omega arith) in
+    let x = to_z w32 (of_z w32 (to_z w32 (of_z w32 (to_z w32 (of_z w32 f.bottom) -ℤ pos 1)) +ℤ to_z w32 up)) in
+    let row : x ≡ (f.bottom -ℤ pos 1) +ℤ pos up = omega (arith, signed_linear, step) in
+    let closer = closer_made f.bottom f.height up x c.closer.result f.rows (omega arith) (omega arith) row c.closer.ensures in
+    closer_either f.bottom up x (to_z w32 (of_z w32 c.closer.result)) row closer.0
 
 pub close_level-requires-clause-noted : goal.close_level-requires-clause-noted
 close_level-requires-clause-noted c =

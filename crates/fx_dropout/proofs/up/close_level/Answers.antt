@@ -1,24 +1,46 @@
-use Rattle.std.proofs.Common.{◌≡◌, ◌+◌, ◌+ℤ◌, ◌∙◌, pos, sym, subst, map, arith, w32, to_z, of_z, ℤ, ℕ, true}
+use Rattle.std.proofs.Common.{◌≡◌, ◌+◌, ◌+ℤ◌, ◌-ℤ◌, ◌∙◌, pos, sym, subst, map, min, arith, w32, to_z, of_z, ℤ, ℕ, true}
 use Rattle.std.proofs.lemmas.Int.{to_z_pos}
 use Rattle.fx_fixed.proofs.Linear.{signed_linear}
 use Rattle.fx_winding.specs.declared.frame.Frame.{Frame}
-use Rattle.fx_winding.specs.Bitmaps.{Bits}
 use Rattle.fx_winding.specs.Dropout.{turned_span}
-use Rattle.fx_winding.specs.Frames.{IsInFrame}
+use Rattle.fx_winding.specs.Frames.{IsFrom, IsInFrame}
 use Rattle.fx_winding.specs.Winding.{span_of}
-use Rattle.fx_winding.proofs.Places.{clash}
-use Rattle.fx_dropout.specs.inner.Lines.{IsSoFar, IsLevelNoted, IsLevelClosed}
-use Rattle.fx_dropout.proofs.Levels.{level_none, level_step, level_skip, level_kept}
-use Rattle.fx_dropout.proofs.Candidates.{level_unnoted}
+use Rattle.fx_dropout.specs.inner.Lines.{IsSoFar, IsOneOf, IsLevelNoted, IsLevelClosed}
+use Rattle.fx_dropout.proofs.Candidates.{level_passed}
+use Rattle.fx_dropout.proofs.Levels.{level_none, level_step}
 use Rattle.fx_dropout.proofs.up.close_level.Goals as goal
-use Rattle.fx_dropout.proofs.up.close_level.Goals.{then-is_set, else-is_set}
+
+pub row-requires-2 : goal.row-requires-2
+row-requires-2 c =
+    let above = c.row_above-above.ensures.inside in
+    let next : c.row_above-above.result ≡ to_z w32 (of_z w32 c.row_above-above.result) =
+    omega (arith, signed_linear, above.0, above.1) in
+    subst (λ (z : Frame × ℤ). IsFrom z.0.bottom z.0.height z.1) (λ t. (sym c.requires.same t, next t)) above
 
 pub columns-init : goal.columns-init
-columns-init c = record {
-  same = c.requires.same;
-  closed = level_none (map turned_span (map span_of c.args.pieces.now)) c.args.frame.left (to_z w32 (of_z w32 c.args.i))
-      (to_z w32 (of_z w32 c.args.at)) (IsSoFar true (map span_of c.args.pieces.now) c.args.frame c.args.bitmap.now);
-}
+columns-init c =
+    let f = c.args.frame in
+    let ss = map span_of c.args.pieces.now in
+    let ts = map turned_span ss in
+    let low = to_z w32 (of_z w32 c.args.i) in
+    let i : c.args.i ≡ low = omega (arith, signed_linear) in
+    let at = to_z w32 (of_z w32 c.args.at) in
+    let y : c.args.at ≡ at = omega (arith, signed_linear) in
+    let above = c.row_above-above.ensures.inside in
+    let up = to_z w32 (of_z w32 c.row_above-above.result) in
+    let next : c.row_above-above.result ≡ up = omega (arith, signed_linear, above.0, above.1) in
+    let old = IsSoFar true ss f c.args.bitmap.now in
+    record {
+      same = c.requires.same;
+      closed = level_passed ss f c.args.noted.now c.row.result.now c.row-2.result.now old c.args.bitmap.now low at up 0
+          c.next_up-k.result c.requires.same (subst (IsFrom f.bottom f.height) y c.requires.at)
+          (subst (IsFrom f.bottom f.height) next above)
+          (subst (λ (p : ℤ × ℤ). IsOneOf p.0 p.1) (λ t. (i t, y t)) c.requires.either)
+          (subst (IsOneOf low) next c.row_above-above.ensures.either)
+          (omega arith) (omega arith) c.row.ensures.words c.row.ensures.value c.row-2.ensures.words c.row-2.ensures.value
+          (subst (λ (x : ℤ). IsLevelNoted ts f x old c.args.noted.now) i c.requires.noted) c.requires.room
+          c.next_up-k.ensures.skipped (level_none ts f.left low at old);
+    }
 
 pub close_gap-requires-clause-inside : goal.close_gap-requires-clause-inside
 close_gap-requires-clause-inside c =
@@ -32,40 +54,51 @@ close_gap-requires-clause-inside c =
       row = (omega (arith, signed_linear), omega (arith, signed_linear));
     })
 
+pub row-requires-in-columns-2 : goal.row-requires-in-columns-2
+row-requires-in-columns-2 c =
+    let above = c.row_above-above.ensures.inside in
+    let next : c.row_above-above.result ≡ to_z w32 (of_z w32 c.row_above-above.result) =
+    omega (arith, signed_linear, above.0, above.1) in
+    let same = c.close_gap.ensures.frame ∙ c.columns.invariant.same in
+    subst (λ (z : Frame × ℤ). IsFrom z.0.bottom z.0.height z.1) (λ t. (sym same t, next t)) above
+
 pub columns-preserved : goal.columns-preserved
 columns-preserved c =
     let f = c.args.frame in
     let ss = map span_of c.args.pieces.now in
     let ts = map turned_span ss in
-    let at = to_z w32 (of_z w32 c.args.at) in
     let low = to_z w32 (of_z w32 c.args.i) in
-    let i : low ≡ c.args.i = omega (arith, signed_linear) in
+    let i : c.args.i ≡ low = omega (arith, signed_linear) in
+    let at = to_z w32 (of_z w32 c.args.at) in
+    let y : c.args.at ≡ at = omega (arith, signed_linear) in
+    let above = c.row_above-above.ensures.inside in
+    let up = to_z w32 (of_z w32 c.row_above-above.result) in
+    let next : c.row_above-above.result ≡ up = omega (arith, signed_linear, above.0, above.1) in
     let k = c.columns.k in
     let step : to_z w32 k ≡ pos k = to_z_pos w32 k (omega arith) in
-    let y = to_z w32 (of_z w32 (to_z w32 (of_z w32 f.left) +ℤ to_z w32 k)) in
-    let col : y ≡ f.left +ℤ pos k = omega (arith, signed_linear, step) in
+    let x = to_z w32 (of_z w32 (to_z w32 (of_z w32 f.left) +ℤ to_z w32 k)) in
+    let col : x ≡ f.left +ℤ pos k = omega (arith, signed_linear, step) in
     let old = IsSoFar true ss f c.args.bitmap.now in
     let mid = c.columns.bitmap in
-    let same = c.columns.invariant.same in
-    let closed = c.columns.invariant.closed in
-    let noted : IsLevelNoted ts f low old c.args.noted.now = subst (λ (y : ℤ). IsLevelNoted ts f y old c.args.noted.now) (sym i)
-    c.requires.noted in
-    elim c.if-is_set.branch [
-      | then-is_set w ↦ record {
-        same = subst (λ (b : Bits). b.frame ≡ f) (sym w.bitmap-is) (w.close_gap.ensures.frame ∙ same);
-        closed = subst (λ (b : Bits). IsLevelClosed ts f.left (k + 1) low at old (IsSoFar true ss f b)) (sym w.bitmap-is)
-            (level_step ss f mid.frame mid w.close_gap.new.bitmap k low at y old same col closed w.close_gap.ensures.here
-            w.close_gap.ensures.others);
-      }
-      | else-is_set w ↦ record {
-        same = subst (λ (b : Bits). b.frame ≡ f) (sym w.bitmap-is) same;
-        closed = subst (λ (b : Bits). IsLevelClosed ts f.left (k + 1) low at old (IsSoFar true ss f b)) (sym w.bitmap-is)
-            (level_skip ts f.left k (k + 1) low at old (IsSoFar true ss f mid) (omega arith)
-            (λ n l m. level_unnoted ts f low old (IsSoFar true ss f mid) c.args.noted.now k n noted
-            (level_kept ts f.left k low at old (IsSoFar true ss f mid) closed)
-            (λ one. clash c.is_set.result w.if-is_set.false (c.is_set.ensures.1 one)) (omega arith) l m) closed);
-      }
-    ]
+    let new = c.close_gap.new.bitmap in
+    let same = c.close_gap.ensures.frame ∙ c.columns.invariant.same in
+    let here : min k f.width ≡ k = omega arith in
+    let closed : IsLevelClosed ts f.left (k + 1) low at old (IsSoFar true ss f new) =
+    level_step ss f mid.frame mid new k low at x old c.columns.invariant.same col
+    (subst (λ (n : ℕ). IsLevelClosed ts f.left n low at old (IsSoFar true ss f mid)) here c.columns.invariant.closed)
+    c.close_gap.ensures.here c.close_gap.ensures.others in
+    record {
+      same = same;
+      closed = level_passed ss f c.args.noted.now c.row-in-columns.result.now c.row-in-columns-2.result.now old new low at up
+          (k + 1) c.next_up-k-in-columns.result same (subst (IsFrom f.bottom f.height) y c.requires.at)
+          (subst (IsFrom f.bottom f.height) next above)
+          (subst (λ (p : ℤ × ℤ). IsOneOf p.0 p.1) (λ t. (i t, y t)) c.requires.either)
+          (subst (IsOneOf low) next c.row_above-above.ensures.either)
+          (omega arith) c.next_up-k-in-columns.ensures.from c.row-in-columns.ensures.words c.row-in-columns.ensures.value
+          c.row-in-columns-2.ensures.words c.row-in-columns-2.ensures.value
+          (subst (λ (x : ℤ). IsLevelNoted ts f x old c.args.noted.now) i c.requires.noted) c.requires.room
+          c.next_up-k-in-columns.ensures.skipped closed;
+    }
 
 pub returns-clause-closed : goal.returns-clause-closed
 returns-clause-closed c =
@@ -76,5 +109,5 @@ returns-clause-closed c =
     let new = IsSoFar true ss f c.columns.bitmap in
     let at : to_z w32 (of_z w32 c.args.at) ≡ c.args.at = omega (arith, signed_linear) in
     let i : to_z w32 (of_z w32 c.args.i) ≡ c.args.i = omega (arith, signed_linear) in
-    let whole : c.columns.k ≡ f.width = omega arith in
+    let whole : min c.columns.k f.width ≡ f.width = omega arith in
     subst (λ (p : ℤ × ℤ × ℕ). IsLevelClosed ts f.left p.2 p.0 p.1 old new) (λ t. (i t, at t, whole t)) c.columns.invariant.closed

@@ -1,4 +1,4 @@
-use Rattle.std.proofs.Common.{◌≡◌, map, true}
+use Rattle.std.proofs.Common.{◌≡◌, ◌-◌, map, min, true}
 use Rattle.fx_winding.specs.Dropout.{turned_span}
 use Rattle.fx_winding.specs.Winding.{span_of}
 use Rattle.fx_dropout.specs.inner.Lines.{IsLevelClosed, IsSoFar}
@@ -7,6 +7,9 @@ use Rattle.fx_dropout.proofs.up.close_level.Given as goal
 abbrev pub invariant-columns : goal.invariant-columns
 invariant-columns l = record {
   same : l.bitmap.frame ≡ l.frame;
-  closed : IsLevelClosed (map turned_span (map span_of l.pieces)) l.frame.left l.k l.i l.at
+  closed : IsLevelClosed (map turned_span (map span_of l.pieces)) l.frame.left (min l.k l.frame.width) l.i l.at
       (IsSoFar true (map span_of l.pieces) l.frame l.fn.bitmap) (IsSoFar true (map span_of l.pieces) l.frame l.bitmap);
 }
+
+abbrev pub decreases-columns : goal.decreases-columns
+decreases-columns l = l.frame.width - l.k
