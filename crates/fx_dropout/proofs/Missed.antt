@@ -5,11 +5,12 @@ use Rattle.std.proofs.Common.{◌≤ℤ◌, ◌*ℤ◌, arith, All, Any, map, le
 use Rattle.fx_fixed.proofs.Linear.{signed}
 use Rattle.fx_winding.specs.Area.{Place}
 use Rattle.fx_winding.specs.Dropout.{turned_span}
-use Rattle.fx_winding.specs.Meets.{IsMet}
+use Rattle.fx_winding.specs.Meets.{IsMet, turn}
 use Rattle.fx_winding.specs.declared.frame.Frame.{Frame}
 use Rattle.fx_winding.specs.Bitmaps.{Bits}
-use Rattle.fx_winding.specs.Winding.{Span, span_of, centre}
+use Rattle.fx_winding.specs.Winding.{Span, span_of, centre, IsOn}
 use Rattle.fx_winding.specs.declared.point.Piece.{Piece}
+use Rattle.fx_winding.proofs.Beside.{under_off, over_off}
 use Rattle.fx_winding.proofs.Covers.{any_map, any_unmap}
 use Rattle.fx_dropout.specs.inner.Lines.{IsSoFar}
 use Rattle.fx_winding.proofs.Aside.{left_not_met, right_not_met}
@@ -26,6 +27,13 @@ beside_not_met p q s y e l b = by (subst (λ (y : ℤ). IsBeside y s) e b)
     by : IsBeside p.y s → ¬ (IsMet p q s)
     by (inl h) = above_not_met p q s l h
     by (inr h) = below_not_met p q s l h
+
+pub beside_none : (p : Place) (s : Span) (y : ℤ) → y ≡ p.y → IsBeside y s → (pos 0 ≡ turn p s) × (¬ (IsOn p s))
+beside_none p s y e b = by (subst (λ (y : ℤ). IsBeside y s) e b)
+  where
+    by : IsBeside p.y s → (pos 0 ≡ turn p s) × (¬ (IsOn p s))
+    by (inl h) = let n = under_off p s h in (sym (λ t. n.0 t +ℤ n.1 t), n.2)
+    by (inr h) = let n = over_off p s h in (sym (λ t. n.0 t +ℤ n.1 t), n.2)
 
 pub aside_not_met : (p q : Place) (s : Span) (first last : ℤ) → first ≡ p.x → last ≡ q.x → q.y ≡ p.y → p.x ≤ℤ q.x
     → IsAside first last s → ¬ (IsMet p q s)

@@ -1,18 +1,19 @@
 //! Gaps of rows: pairs of neighbours, neither of which is set, between whose centres a piece passes.
 
-ghost use Rattle.std.specs.Prelude.{◌≡◌, ◌↔◌, ◌⊎◌, ◌<ℤ◌, IsTrue, ◌+ℤ◌, pos, Any, map};
+ghost use Rattle.std.specs.Prelude.{◌≡◌, ◌↔◌, ◌⊎◌, ◌<ℤ◌, IsTrue, ◌+ℤ◌, pos, Any, map, MatchOption};
+ghost use Rattle.fx_fixed.specs.Ranges.{IsWithin};
 ghost use Rattle.fx_winding.specs.Dropout.{IsGap};
 ghost use Rattle.fx_winding.specs.Frames.{IsInFrame};
 ghost use Rattle.fx_winding.specs.Limits.{IsPixelNumber};
-ghost use Rattle.fx_winding.specs.Meets.{IsMet};
+ghost use Rattle.fx_winding.specs.Meets.{IsMet, turn};
 ghost use Rattle.fx_winding.specs.Outside.{HasAll};
-ghost use Rattle.fx_winding.specs.Winding.{place_of, span_of, centre as centre_of, IsCovered};
+ghost use Rattle.fx_winding.specs.Winding.{place_of, span_of, centre as centre_of, IsOn, IsCovered};
 ghost use Rattle.fx_dropout.specs.inner.Lines.{IsSoFar};
 ghost use Rattle.fx_winding.specs.Dropout.{turned_span};
 ghost use Rattle.fx_dropout.specs.inner.Turned.{seen_span, seen_spans, seen_centre, IsSeenInFrame, IsBeside, IsAside};
 
 use crate::turned::{is_set, seen_piece};
-use fx_winding::{Bitmap, Frame, Piece, Pieces, Point, Tally, covered, meets};
+use fx_winding::{Bitmap, Frame, Piece, Pieces, Point, Tally, crossing, meets, on_piece, region};
 
 /// The centre of a pixel.
 fn centre(col: i32, row: i32) -> Point
@@ -220,6 +221,37 @@ fn is_in_frame(frame: Frame, col: i32, row: i32) -> bool
     true
 }
 
+/// What a piece adds to the winding number at p, or None if p is on it. Most pieces lie above p or below it, and add nothing.
+fn turn_off(piece: &Piece, p: Point) -> Option<i32>
+    ensures { MatchOption result (IsOn (place_of p) (span_of piece.now))
+        (λ t. IsWithin 2 t × (t ≡ turn (place_of p) (span_of piece.now)) × ¬ (IsOn (place_of p) (span_of piece.now))) }
+{
+    if is_beside_row(piece, p.y) {
+        return Some(0);
+    }
+    let mut tally = Tally::new();
+    if on_piece(piece, p.x, p.y, &mut tally) {
+        return None;
+    }
+    let crossed = crossing(piece, p.x, p.y, &mut tally);
+    Some(crossed + region(piece, p.x, p.y, &mut tally))
+}
+
+/// Whether p is on a piece, or has a winding number other than 0.
+fn covers(pieces: &[Piece], p: Point) -> bool
+    ensures { IsTrue result ↔ IsCovered (place_of p) (map span_of pieces.now) }
+{
+    let mut turns: i128 = 0;
+    // p is on none of the pieces so far, and these add `turns` to its winding number.
+    'pieces: for piece in pieces {
+        match turn_off(piece, p) {
+            None => return true,
+            Some(turn) => turns += i128::from(turn),
+        }
+    }
+    turns != 0
+}
+
 /// Whether a pixel lies outside the frame of a bitmap and is covered.
 fn is_covered_outside(pieces: &Pieces, frame: Frame, col: i32, row: i32) -> bool
     requires column { IsPixelNumber col }
@@ -229,8 +261,7 @@ fn is_covered_outside(pieces: &Pieces, frame: Frame, col: i32, row: i32) -> bool
     if is_in_frame(frame, col, row) {
         return false;
     }
-    let mut tally = Tally::new();
-    covered(pieces, col, row, &mut tally)
+    covers(pieces.as_slice(), centre(col, row))
 }
 
 /// The same of a pixel as it is, or with its coordinates exchanged.

@@ -1,8 +1,7 @@
-use Rattle.std.proofs.Common.{◌≡◌, ◌+◌, ◌+ℤ◌, ◌-ℤ◌, ◌∙◌, ℕ, inl, pos, sym, subst, map, min, arith, w32, to_z, of_z, ℤ, false}
+use Rattle.std.proofs.Common.{◌≡◌, ◌+◌, ◌+ℤ◌, ◌-ℤ◌, ◌∙◌, ℕ, pos, sym, subst, map, min, arith, w32, to_z, of_z, ℤ, false}
 use Rattle.std.proofs.lemmas.Int.{to_z_pos}
 use Rattle.fx_fixed.proofs.Linear.{signed_linear}
 use Rattle.fx_winding.specs.declared.frame.Frame.{Frame}
-use Rattle.fx_winding.specs.Bitmaps.{Bits}
 use Rattle.fx_winding.specs.Frames.{IsFrom, IsInFrame}
 use Rattle.fx_winding.specs.Winding.{span_of}
 use Rattle.fx_dropout.specs.inner.Lines.{AreClosed, IsRowClosed, IsRowNoted, IsSoFar}

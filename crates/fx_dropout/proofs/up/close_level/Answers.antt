@@ -1,4 +1,4 @@
-use Rattle.std.proofs.Common.{◌≡◌, ◌+◌, ◌+ℤ◌, ◌-ℤ◌, ◌∙◌, pos, sym, subst, map, min, arith, w32, to_z, of_z, ℤ, ℕ, true}
+use Rattle.std.proofs.Common.{◌≡◌, ◌+◌, ◌+ℤ◌, ◌∙◌, pos, sym, subst, map, min, arith, w32, to_z, of_z, ℤ, ℕ, true}
 use Rattle.std.proofs.lemmas.Int.{to_z_pos}
 use Rattle.fx_fixed.proofs.Linear.{signed_linear}
 use Rattle.fx_winding.specs.declared.frame.Frame.{Frame}
