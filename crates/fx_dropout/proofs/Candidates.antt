@@ -14,7 +14,8 @@ use Rattle.fx_winding.specs.Meets.{IsMet}
 use Rattle.fx_winding.specs.Notes.{pixel_number, IsNoted}
 use Rattle.fx_winding.specs.Winding.{Span, centre, IsOn, IsCovered}
 use Rattle.fx_winding.proofs.Covers.{any_unmap}
-use Rattle.fx_dropout.specs.inner.Lines.{IsSoFar, IsBridgedTo, IsOneOf, IsRowNoted, IsLevelNoted, AreClosed, IsLevelClosed, AreRowsClosed}
+use Rattle.fx_dropout.specs.inner.Lines.{IsSoFar, IsBridgedTo, IsOneOf, IsRowNoted, IsLevelNoted, AreClosed, IsLevelClosed}
+use Rattle.fx_dropout.specs.inner.Lines.{AreRowsClosed}
 use Rattle.fx_dropout.specs.inner.Words.{IsShutAcross, IsShutUp, IsShutInRow, IsShutInColumn}
 use Rattle.fx_dropout.proofs.Levels.{level_kept, level_skip, levels_skip}
 use Rattle.fx_dropout.proofs.Rows.{closed_skip, rows_skip}

@@ -10,7 +10,7 @@ use Rattle.std.proofs.lemmas.Nat.Bits.{bit_at_cat_high, bit_at_cat_low, bit_at-s
 use Rattle.std.proofs.lemmas.List.{get_or-take, get_or-drop}
 use Rattle.fx_fixed.proofs.Order.{below_or_not}
 use Rattle.fx_winding.specs.Bitmaps.{word_bit}
-use Rattle.fx_dropout.specs.inner.Words.{IsShut, left_bit, IsShutAcross, IsShutUp}
+use Rattle.fx_dropout.specs.inner.Words.{IsShut, left_bit, IsShutAcross}
 
 -- ---- the bits of pixels that are set or whose left neighbour is
 bit_of_row : (row : List ℕ) (w i : ℕ) → i < 32 → bit_at (get_or row w 0) (31 - i) ≡ word_bit row (32 * w + i)
@@ -132,7 +132,7 @@ leading_none word k i h below l = by (leading_length 32 (word * 2 ^ k % 42949672
 
 -- ---- from words to rows
 -- the segment n of a row by the bit i of the word w; `before` is the word before
-pub across_shut : (noted row : List ℕ) (w word before i n : ℕ) → 32 * w + i ≡ n → i < 32 → word ≡ get_or row w 0
+across_shut : (noted row : List ℕ) (w word before i n : ℕ) → 32 * w + i ≡ n → i < 32 → word ≡ get_or row w 0
     → (0 < w → before ≡ get_or row (w - 1) 0) → (w ≡ 0 → before ≡ 0)
     → IsShut (bit_at (get_or noted w 0) (31 - i)) (bit_at word (31 - i)) (left_bit word before i) → IsShutAcross noted row n
 across_shut noted row w word before i n en l is later first s = subst (IsShutAcross noted row) en (by i l s)
@@ -158,40 +158,24 @@ across_shut noted row w word before i n en l is later first s = subst (IsShutAcr
     by i l (inr (inl o)) = inr (inl (sym (here i l) ∙ o))
     by i l (inr (inr o)) = left i l o (below_or_not 0 w)
 
--- the segment after the last pixel of a row's words, by the first bit of the word of notes after them
-pub last_shut : (noted row : List ℕ) (w before : ℕ) → get_or noted w 0 < 4294967296 → (0 < w → before ≡ get_or row (w - 1) 0)
-    → (w ≡ 0 → before ≡ 0) → get_or noted w 0 / 2147483648 ≤ before % 2 → IsShutAcross noted row (32 * w)
-last_shut noted row w before fits later first few = by (below_or_not 0 w) (below_or_not (before % 2) 1)
+-- the segments from one on, as far as none before `bit` is found in the word w
+pub across_more : (noted row : List ℕ) (w word before bits bit from start n : ℕ) → word ≡ get_or row w 0
+    → (0 < w → before ≡ get_or row (w - 1) 0) → (w ≡ 0 → before ≡ 0)
+    → ((i : ℕ) → i < 32 → bit_at bits (31 - i) ≡ 0
+    → IsShut (bit_at (get_or noted w 0) (31 - i)) (bit_at word (31 - i)) (left_bit word before i))
+    → start ≡ from - 32 * w → ((i : ℕ) → start ≤ i → i < bit → i < 32 → bit_at bits (31 - i) ≡ 0)
+    → ((n : ℕ) → from ≤ n → n < 32 * w → IsShutAcross noted row n) → from ≤ n → n < 32 * w + bit → n < 32 * (w + 1)
+    → IsShutAcross noted row n
+across_more noted row w word before bits bit from start n is later first shut begin none lower low high whole =
+    by (below_or_not n (32 * w))
   where
-    e : 32 * w + 0 ≡ 32 * w
-    e = omega arith
-
-    bit : word_bit noted (32 * w) ≡ get_or noted w 0 / 2147483648 % 2
-    bit = ap (word_bit noted) (sym e) ∙ sym (bit_of_row noted w 0 (omega arith))
-
-    by : (0 < w) ⊎ (w ≤ 0) → (before % 2 < 1) ⊎ (1 ≤ before % 2) → IsShutAcross noted row (32 * w)
-    by v (inl m) = inl (omega (arith, bit, few, m))
-    by (inl v) (inr m) =
-        let at : 32 * (w - 1) + 31 ≡ 32 * w - 1 = omega (arith, v) in
-        let one : bit_at before 0 ≡ 1 = bit_at_lowest before ∙ omega (arith, m) in
-        inr (inr (
-          omega (arith, v),
-          ap (word_bit row) (sym at) ∙ sym (bit_of_row row (w - 1) 31 (omega arith))
-              ∙ ap (λ n. bit_at n 0) (sym (later v)) ∙ one,
-        ))
-    by (inr v) (inr m) = let zero = first (omega (arith, v)) in absurd (omega (arith, zero, m))
-
--- the segment n between two rows by the bit i of their words w
-pub up_shut : (noted lower upper : List ℕ) (w i n : ℕ) → 32 * w + i ≡ n → i < 32
-    → IsShut (bit_at (get_or noted w 0) (31 - i)) (bit_at (get_or lower w 0) (31 - i)) (bit_at (get_or upper w 0) (31 - i))
-    → IsShutUp noted lower upper n
-up_shut noted lower upper w i n en l s = subst (IsShutUp noted lower upper) en (by s)
-  where
-    by : IsShut (bit_at (get_or noted w 0) (31 - i)) (bit_at (get_or lower w 0) (31 - i)) (bit_at (get_or upper w 0) (31 - i))
-        → IsShutUp noted lower upper (32 * w + i)
-    by (inl z) = inl (sym (bit_of_row noted w i l) ∙ z)
-    by (inr (inl o)) = inr (inl (sym (bit_of_row lower w i l) ∙ o))
-    by (inr (inr o)) = inr (inr (sym (bit_of_row upper w i l) ∙ o))
+    by : (n < 32 * w) ⊎ (32 * w ≤ n) → IsShutAcross noted row n
+    by (inl h) = lower n low h
+    by (inr h) =
+        let i = n - 32 * w in
+        let l : i < 32 = omega (arith, h, whole) in
+        across_shut noted row w word before i n (omega (arith, h)) l is later first
+        (shut i l (none i (omega (arith, begin, low)) (omega (arith, h, high)) l))
 
 -- ---- a part of a list of words
 pub part_bit : (xs : List ℕ) (from n k : ℕ) → k < 32 * n → word_bit (take n (drop from xs)) k ≡ word_bit xs (32 * from + k)

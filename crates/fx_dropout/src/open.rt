@@ -87,10 +87,8 @@ pub fn next_across(noted: &[u32], row: &[u32], from: usize) -> usize
     // None of the segments from `from` on that come before the word w can be a gap, and `before` is the word before w.
     'words: for w in from / 32..row.len() + 1 {
         let word = word_at(row, w);
-        let bit = first_set(
-            open_across(noted[w], word, before),
-            from.saturating_sub(32 * w),
-        );
+        let open = open_across(noted[w], word, before);
+        let bit = first_set(open, from.saturating_sub(32 * w));
         if bit < 32 {
             return 32 * w + bit;
         }
@@ -111,10 +109,8 @@ pub fn next_up(noted: &[u32], lower: &[u32], upper: &[u32], from: usize) -> usiz
 {
     // None of the segments from `from` on that come before the word w can be a gap.
     'words: for w in from / 32..noted.len() {
-        let bit = first_set(
-            open_up(noted[w], lower[w], upper[w]),
-            from.saturating_sub(32 * w),
-        );
+        let open = open_up(noted[w], lower[w], upper[w]);
+        let bit = first_set(open, from.saturating_sub(32 * w));
         if bit < 32 {
             return 32 * w + bit;
         }
