@@ -1,38 +1,134 @@
--- Pieces that lie wholly left or right of the segment between two places of a row, and so do not meet it.
--- Serves the frame with drop-out control in `fx_contour`.
-use Rattle.std.proofs.Common.{◌≡◌, sym, ap, ◌∙◌, ◌⊎◌, inl, inr, ℤ, pos, ◌+ℤ◌, ◌-ℤ◌, ◌*ℤ◌, neg_ℤ, ◌≤ℤ◌, ◌<ℤ◌}
+-- Pieces that lie wholly left or right of the segment between two places of a row, and so do not meet it. One end may be in the
+-- column of the nearer place, if that place is not the end.
+-- Serves the frame with drop-out control in `fx_contour`, and `Turning`.
+use Rattle.std.proofs.Common.{◌≡◌, ◌≢◌, sym, ap, ◌∙◌, ◌⊎◌, inl, inr, ℤ, pos, ◌+ℤ◌, ◌-ℤ◌, ◌*ℤ◌, neg_ℤ, ◌≤ℤ◌, ◌<ℤ◌}
 use Rattle.std.proofs.Common.{[], ◌∷◌, Option, Some, None, arith}
+use Rattle.std.proofs.lemmas.Int.{ints}
 use Rattle.fx_fixed.specs.Polynomial.{Expr, var, num, ◌⊞◌, ◌⊠◌, ◌⊟◌, minus}
 use Rattle.fx_fixed.proofs.Ring.{ring}
 use Rattle.fx_fixed.proofs.Linear.{signed, signed_linear}
 use Rattle.fx_fixed.proofs.Order.{below_or_not_ℤ}
 use Rattle.fx_fixed.proofs.Signs.{product_at_least_zero, product_above_zero}
-use Rattle.fx_winding.specs.Area.{Place, area}
-use Rattle.fx_winding.specs.Winding.{Span, crossing}
+use Rattle.fx_winding.specs.Area.{Place, area, area_of}
+use Rattle.fx_winding.specs.Winding.{Span}
 use Rattle.fx_winding.specs.Outside.{HasAll, OptionAll}
 use Rattle.fx_winding.specs.Meets.{turn, slope, IsReached, IsTipPart, IsMet}
-use Rattle.fx_winding.proofs.Beside.{HasAll-weaker, left_off, right_off}
-use Rattle.fx_winding.proofs.Crossings.{above, crossing_right, crossing_left, left_of_rising, left_of_falling, right_of_rising}
-use Rattle.fx_winding.proofs.Crossings.{right_of_falling}
+use Rattle.fx_winding.proofs.Beside.{HasAll-weaker, all_beyond, beyond_weaker, StartsFrom, EndsAt, left_no_region}
+use Rattle.fx_winding.proofs.Beside.{right_no_region, at_least_zero}
+use Rattle.fx_winding.proofs.Crossings.{above, crossing_right, crossing_left, area_split, area_split_right, area_turn}
 use Rattle.fx_winding.proofs.Triangle.{area_expr, not_below_range, not_above_range}
 
+-- ---- a chord one end of which is in the column of p
+-- p is neither end of a piece
+pub record IsNoEnd (p : Place) (s : Span) : Type 0 where
+  pub first : p ≢ s.a
+  pub last : p ≢ s.c
+
+pub same_place : (p e : Place) → p.x ≡ e.x → p.y ≡ e.y → p ≡ e
+same_place p e h k = λ i. record { x = h i; y = k i }
+
+-- an end at or below the height of p is left or right of p, or below its height while the other end is left or right of p
+apart : (p e : Place) (Past Other : Type 0) → p ≢ e → e.y ≤ℤ p.y → Past ⊎ (p.x ≡ e.x) → Past ⊎ Other → Past ⊎ ((e.y <ℤ p.y) × Other)
+apart p e Past Other n h (inl l) k = inl l
+apart p e Past Other n h (inr z) (inl l) = inl l
+apart p e Past Other n h (inr z) (inr l) = inr (by (below_or_not_ℤ e.y p.y), l)
+  where
+    by : (e.y <ℤ p.y) ⊎ (p.y ≤ℤ e.y) → e.y <ℤ p.y
+    by (inl k) = k
+    by (inr k) = absurd (n (same_place p e z (omega (arith, signed_linear, h, k))))
+
+ahead_or_at : (x y : ℤ) → x ≤ℤ y → (x <ℤ y) ⊎ (x ≡ y)
+ahead_or_at x y h = grind (arith, ints)
+
+behind_or_at : (x y : ℤ) → y ≤ℤ x → (y <ℤ x) ⊎ (x ≡ y)
+behind_or_at x y h = grind (arith, ints)
+
+pub swapped : {P Q : Type 0} → P ⊎ Q → Q ⊎ P
+swapped (inl h) = inr h
+swapped (inr h) = inl h
+
+-- where it rises past the height of p, p lies left of it, or right
+left_of_rising_end : (ax ay cx cy px py : ℤ) → ay ≤ℤ py → py <ℤ cy → px ≤ℤ ax → px ≤ℤ cx
+    → (px <ℤ ax) ⊎ ((ay <ℤ py) × (px <ℤ cx)) → pos 0 <ℤ area_of ax ay cx cy px py
+left_of_rising_end ax ay cx cy px py h k m n (inl l) =
+    let p = product_above_zero (cy -ℤ py) (ax -ℤ px) (omega (arith, signed_linear)) (omega (arith, signed_linear)) in
+    let q = product_at_least_zero (py -ℤ ay) (cx -ℤ px) (omega (arith, signed_linear)) (omega (arith, signed_linear)) in
+    rw (area_split ax ay cx cy px py) (omega (arith, signed_linear))
+left_of_rising_end ax ay cx cy px py h k m n (inr (i, l)) =
+    let p = product_at_least_zero (cy -ℤ py) (ax -ℤ px) (omega (arith, signed_linear)) (omega (arith, signed_linear)) in
+    let q = product_above_zero (py -ℤ ay) (cx -ℤ px) (omega (arith, signed_linear)) (omega (arith, signed_linear)) in
+    rw (area_split ax ay cx cy px py) (omega (arith, signed_linear))
+
+right_of_rising_end : (ax ay cx cy px py : ℤ) → ay ≤ℤ py → py <ℤ cy → ax ≤ℤ px → cx ≤ℤ px
+    → (ax <ℤ px) ⊎ ((ay <ℤ py) × (cx <ℤ px)) → area_of ax ay cx cy px py <ℤ pos 0
+right_of_rising_end ax ay cx cy px py h k m n (inl l) =
+    let p = product_above_zero (cy -ℤ py) (px -ℤ ax) (omega (arith, signed_linear)) (omega (arith, signed_linear)) in
+    let q = product_at_least_zero (py -ℤ ay) (px -ℤ cx) (omega (arith, signed_linear)) (omega (arith, signed_linear)) in
+    rw (area_split_right ax ay cx cy px py) (omega (arith, signed_linear))
+right_of_rising_end ax ay cx cy px py h k m n (inr (i, l)) =
+    let p = product_at_least_zero (cy -ℤ py) (px -ℤ ax) (omega (arith, signed_linear)) (omega (arith, signed_linear)) in
+    let q = product_above_zero (py -ℤ ay) (px -ℤ cx) (omega (arith, signed_linear)) (omega (arith, signed_linear)) in
+    rw (area_split_right ax ay cx cy px py) (omega (arith, signed_linear))
+
 -- ---- what a piece adds
+same : (z : ℤ) → z +ℤ pos 0 ≡ z
+same z = omega (arith, signed_linear)
 
-pub right_turn : (p : Place) (s : Span) → HasAll (λ e. p.x <ℤ e.x) s → turn p s ≡ (above p.y s.c.y -ℤ above p.y s.a.y) +ℤ pos 0
-right_turn p s h =
-    let e : crossing p s ≡ above p.y s.c.y -ℤ above p.y s.a.y =
-    crossing_right s.a.y s.c.y p.y (area s.a s.c p)
-    (λ k l. left_of_rising s.a.x s.a.y s.c.x s.c.y p.x p.y k l h.0 h.2)
-    (λ k l. left_of_falling s.a.x s.a.y s.c.x s.c.y p.x p.y k l h.0 h.2) in
-    λ i. e i +ℤ (left_off p s h).0 i
+minus_above : (s t : ℤ) → s ≡ neg_ℤ t → pos 0 <ℤ t → s <ℤ pos 0
+minus_above s t e h = omega (arith, signed_linear, e, h)
 
-pub left_turn : (p : Place) (s : Span) → HasAll (λ e. e.x <ℤ p.x) s → turn p s ≡ pos 0 +ℤ pos 0
-left_turn p s h =
-    let e : crossing p s ≡ pos 0 =
-    crossing_left s.a.y s.c.y p.y (area s.a s.c p)
-    (λ k l. right_of_rising s.a.x s.a.y s.c.x s.c.y p.x p.y k l h.0 h.2)
-    (λ k l. right_of_falling s.a.x s.a.y s.c.x s.c.y p.x p.y k l h.0 h.2) in
-    λ i. e i +ℤ (right_off p s h).0 i
+minus_below : (s t : ℤ) → s ≡ neg_ℤ t → t <ℤ pos 0 → pos 0 <ℤ s
+minus_below s t e h = omega (arith, signed_linear, e, h)
+
+-- one that lies right of p or in its column
+pub right_turn : (p : Place) (s : Span) → StartsFrom p.x s → IsNoEnd p s → turn p s ≡ above p.y s.c.y -ℤ above p.y s.a.y
+right_turn p s h n =
+    (λ i. crossing_right s.a.y s.c.y p.y (area s.a s.c p) up down i +ℤ left_no_region p s h i)
+    ∙ same (above p.y s.c.y -ℤ above p.y s.a.y)
+  where
+    up : s.a.y ≤ℤ p.y → p.y <ℤ s.c.y → pos 0 <ℤ area s.a s.c p
+    up k l = left_of_rising_end s.a.x s.a.y s.c.x s.c.y p.x p.y k l h.all.0 h.all.2
+        (apart p s.a (p.x <ℤ s.a.x) (p.x <ℤ s.c.x) n.first k (ahead_or_at p.x s.a.x h.all.0) h.one)
+
+    down : s.c.y ≤ℤ p.y → p.y <ℤ s.a.y → area s.a s.c p <ℤ pos 0
+    down k l = minus_above (area s.a s.c p) (area s.c s.a p) (area_turn s.a.x s.a.y s.c.x s.c.y p.x p.y)
+        (left_of_rising_end s.c.x s.c.y s.a.x s.a.y p.x p.y k l h.all.2 h.all.0
+        (apart p s.c (p.x <ℤ s.c.x) (p.x <ℤ s.a.x) n.last k (ahead_or_at p.x s.c.x h.all.2) (swapped h.one)))
+
+-- one that lies left of p or in its column: nothing
+pub left_turn : (p : Place) (s : Span) → EndsAt p.x s → IsNoEnd p s → turn p s ≡ pos 0
+left_turn p s h n = (λ i. crossing_left s.a.y s.c.y p.y (area s.a s.c p) up down i +ℤ right_no_region p s h i) ∙ same (pos 0)
+  where
+    up : s.a.y ≤ℤ p.y → p.y <ℤ s.c.y → area s.a s.c p <ℤ pos 0
+    up k l = right_of_rising_end s.a.x s.a.y s.c.x s.c.y p.x p.y k l h.all.0 h.all.2
+        (apart p s.a (s.a.x <ℤ p.x) (s.c.x <ℤ p.x) n.first k (behind_or_at p.x s.a.x h.all.0) h.one)
+
+    down : s.c.y ≤ℤ p.y → p.y <ℤ s.a.y → pos 0 <ℤ area s.a s.c p
+    down k l = minus_below (area s.a s.c p) (area s.c s.a p) (area_turn s.a.x s.a.y s.c.x s.c.y p.x p.y)
+        (right_of_rising_end s.c.x s.c.y s.a.x s.a.y p.x p.y k l h.all.2 h.all.0
+        (apart p s.c (s.c.x <ℤ p.x) (s.a.x <ℤ p.x) n.last k (behind_or_at p.x s.c.x h.all.2) (swapped h.one)))
+
+-- ---- strictly to one side
+-- all points of a piece are right of the column x
+pub all_right : (x : ℤ) (s : Span) → HasAll (λ e. x <ℤ e.x) s → StartsFrom x s
+all_right x s h = all_beyond (λ e. x ≤ℤ e.x) (λ e. x <ℤ e.x) (λ e l. omega (arith, signed_linear, l)) s h
+
+-- all are left of it
+pub all_left : (x : ℤ) (s : Span) → HasAll (λ e. e.x <ℤ x) s → EndsAt x s
+all_left x s h = all_beyond (λ e. e.x ≤ℤ x) (λ e. e.x <ℤ x) (λ e l. omega (arith, signed_linear, l)) s h
+
+apart_x : (p e : Place) → (p.x <ℤ e.x) ⊎ (e.x <ℤ p.x) → p ≢ e
+apart_x p e h k = by p.x e.x h (λ i. (k i).x)
+  where
+    by : (x y : ℤ) → (x <ℤ y) ⊎ (y <ℤ x) → x ≢ y
+    by x y (inl l) e = omega (arith, signed_linear, l, e)
+    by x y (inr l) e = omega (arith, signed_linear, l, e)
+
+pub right_no_end : (p : Place) (s : Span) → HasAll (λ e. p.x <ℤ e.x) s → IsNoEnd p s
+right_no_end p s h = record { first = apart_x p s.a (inl h.0); last = apart_x p s.c (inl h.2) }
+
+pub left_no_end : (p : Place) (s : Span) → HasAll (λ e. e.x <ℤ p.x) s → IsNoEnd p s
+left_no_end p s h = record { first = apart_x p s.a (inr h.0); last = apart_x p s.c (inr h.2) }
 
 -- ---- no tip
 
@@ -146,9 +242,6 @@ record IsWeighted (a b c p : Place) : Type 0 where
   last_above : pos 0 <ℤ last
   is : slope a b c p ≡ (a.x -ℤ p.x) *ℤ first +ℤ (b.x -ℤ p.x) *ℤ middle +ℤ (c.x -ℤ p.x) *ℤ last
 
-at_least_zero : (x y : ℤ) → y ≤ℤ x → pos 0 ≤ℤ (x -ℤ y)
-at_least_zero x y h = omega (arith, signed_linear, h)
-
 difference_above_zero : (x y : ℤ) → y <ℤ x → pos 0 <ℤ (x -ℤ y)
 difference_above_zero x y h = omega (arith, signed_linear, h)
 
@@ -175,7 +268,7 @@ reached_weighted a b c p (inl (ha, hc, inr (inr t))) =
     (difference_above_zero p.y c.y hc) (turn_above a.y b.y c.y p.y t.2)) (slope_from_below a b c p)
   where
     by : (b.y <ℤ p.y) ⊎ (p.y ≤ℤ b.y) → pos 0 ≤ℤ (b.y -ℤ p.y)
-    by (inl h) = absurd (not_above_range a.y b.y c.y p.y ha h hc t)
+    by (inl h) = absurd (not_above_range a.y b.y c.y p.y (omega (arith, signed_linear, h)) t)
     by (inr h) = at_least_zero b.y p.y h
 reached_weighted a b c p (inr (ha, hc, inl k)) = absurd (not_both p.y a.y ha k)
 reached_weighted a b c p (inr (ha, hc, inr (inl k))) = absurd (not_both p.y c.y hc k)
@@ -185,16 +278,26 @@ reached_weighted a b c p (inr (ha, hc, inr (inr t))) =
     (difference_above_zero c.y p.y hc) (turn_below a.y b.y c.y p.y t.2)) (slope_from_above a b c p)
   where
     by : (p.y <ℤ b.y) ⊎ (b.y ≤ℤ p.y) → pos 0 ≤ℤ (p.y -ℤ b.y)
-    by (inl h) = absurd (not_below_range a.y b.y c.y p.y ha h hc t)
+    by (inl h) = absurd (not_below_range a.y b.y c.y p.y (omega (arith, signed_linear, h)) t)
     by (inr h) = at_least_zero p.y b.y h
 
-sum_above : (x y z u v w : ℤ) → pos 0 <ℤ x → pos 0 <ℤ y → pos 0 <ℤ z → pos 0 <ℤ u → pos 0 <ℤ v → pos 0 <ℤ w
-    → pos 0 <ℤ (x *ℤ u +ℤ y *ℤ v +ℤ z *ℤ w)
-sum_above x y z u v w hx hy hz hu hv hw =
-    let a = product_above_zero x u hx hu in
-    let b = product_above_zero y v hy hv in
-    let c = product_above_zero z w hz hw in
+-- where one of the ends is not in the column
+sum_above : (x y z u v w : ℤ) → pos 0 ≤ℤ x → pos 0 ≤ℤ y → pos 0 ≤ℤ z → (pos 0 <ℤ x) ⊎ (pos 0 <ℤ z) → pos 0 <ℤ u → pos 0 <ℤ v
+    → pos 0 <ℤ w → pos 0 <ℤ (x *ℤ u +ℤ y *ℤ v +ℤ z *ℤ w)
+sum_above x y z u v w hx hy hz (inl l) hu hv hw =
+    let a = product_above_zero x u l hu in
+    let b = product_at_least_zero y v hy (below_too v hv) in
+    let c = product_at_least_zero z w hz (below_too w hw) in
     omega (arith, signed_linear, a, b, c)
+sum_above x y z u v w hx hy hz (inr l) hu hv hw =
+    let a = product_at_least_zero x u hx (below_too u hu) in
+    let b = product_at_least_zero y v hy (below_too v hv) in
+    let c = product_above_zero z w l hw in
+    omega (arith, signed_linear, a, b, c)
+
+one_above : (x y z w : ℤ) → (y <ℤ x) ⊎ (w <ℤ z) → (pos 0 <ℤ (x -ℤ y)) ⊎ (pos 0 <ℤ (z -ℤ w))
+one_above x y z w (inl h) = inl (difference_above_zero x y h)
+one_above x y z w (inr h) = inr (difference_above_zero z w h)
 
 sum_turned : (a b c p u v w : ℤ) → (a -ℤ p) *ℤ u +ℤ (b -ℤ p) *ℤ v +ℤ (c -ℤ p) *ℤ w
     ≡ neg_ℤ ((p -ℤ a) *ℤ u +ℤ (p -ℤ b) *ℤ v +ℤ (p -ℤ c) *ℤ w)
@@ -209,42 +312,57 @@ falls_not z s e h k = omega (arith, signed_linear, e, h, k)
 rises_not : (z s t : ℤ) → z ≡ s → s ≡ neg_ℤ t → pos 0 <ℤ t → ¬ (pos 0 <ℤ z)
 rises_not z s t e f h k = omega (arith, signed_linear, e, f, h, k)
 
-right_no_tip : (a : Place) (b : Option Place) (c p q : Place) → q.y ≡ p.y → q.x <ℤ a.x → OptionAll (λ e. q.x <ℤ e.x) b
-    → q.x <ℤ c.x → ¬ (IsTipPart a b c p q)
-right_no_tip a None c p q e ha hb hc t = t
-right_no_tip a (Some b) c p q e ha hb hc t =
+right_no_tip : (a : Place) (b : Option Place) (c p q : Place) → q.y ≡ p.y → q.x ≤ℤ a.x → OptionAll (λ e. q.x ≤ℤ e.x) b
+    → q.x ≤ℤ c.x → (q.x <ℤ a.x) ⊎ (q.x <ℤ c.x) → ¬ (IsTipPart a b c p q)
+right_no_tip a None c p q e ha hb hc one t = t
+right_no_tip a (Some b) c p q e ha hb hc one t =
     let w = reached_weighted a b c q (rw e t.reached) in
     falls_not (slope a b c q) _ w.is
-    (sum_above (a.x -ℤ q.x) (b.x -ℤ q.x) (c.x -ℤ q.x) w.first w.middle w.last (difference_above_zero a.x q.x ha)
-    (difference_above_zero b.x q.x hb) (difference_above_zero c.x q.x hc) w.first_above w.middle_above w.last_above) t.falls
+    (sum_above (a.x -ℤ q.x) (b.x -ℤ q.x) (c.x -ℤ q.x) w.first w.middle w.last (at_least_zero a.x q.x ha) (at_least_zero b.x q.x hb)
+    (at_least_zero c.x q.x hc) (one_above a.x q.x c.x q.x one) w.first_above w.middle_above w.last_above) t.falls
 
-left_no_tip : (a : Place) (b : Option Place) (c p q : Place) → a.x <ℤ p.x → OptionAll (λ e. e.x <ℤ p.x) b → c.x <ℤ p.x
-    → ¬ (IsTipPart a b c p q)
-left_no_tip a None c p q ha hb hc t = t
-left_no_tip a (Some b) c p q ha hb hc t =
+left_no_tip : (a : Place) (b : Option Place) (c p q : Place) → a.x ≤ℤ p.x → OptionAll (λ e. e.x ≤ℤ p.x) b → c.x ≤ℤ p.x
+    → (a.x <ℤ p.x) ⊎ (c.x <ℤ p.x) → ¬ (IsTipPart a b c p q)
+left_no_tip a None c p q ha hb hc one t = t
+left_no_tip a (Some b) c p q ha hb hc one t =
     let w = reached_weighted a b c p t.reached in
     rises_not (slope a b c p) _ _ w.is (sum_turned a.x b.x c.x p.x w.first w.middle w.last)
-    (sum_above (p.x -ℤ a.x) (p.x -ℤ b.x) (p.x -ℤ c.x) w.first w.middle w.last (difference_above_zero p.x a.x ha)
-    (difference_above_zero p.x b.x hb) (difference_above_zero p.x c.x hc) w.first_above w.middle_above w.last_above) t.rises
+    (sum_above (p.x -ℤ a.x) (p.x -ℤ b.x) (p.x -ℤ c.x) w.first w.middle w.last (at_least_zero p.x a.x ha) (at_least_zero p.x b.x hb)
+    (at_least_zero p.x c.x hc) (one_above p.x a.x p.x c.x one) w.first_above w.middle_above w.last_above) t.rises
 
 -- ---- not met
+further_right : (x y : ℤ) (s : Span) → x ≤ℤ y → StartsFrom y s → StartsFrom x s
+further_right x y s l h = beyond_weaker (λ e. y ≤ℤ e.x) (λ e. x ≤ℤ e.x) (λ e. y <ℤ e.x) (λ e. x <ℤ e.x)
+    (λ e k. omega (arith, signed_linear, l, k)) (λ e k. omega (arith, signed_linear, l, k)) s h
 
--- a piece that lies right of the segment from p to q does not meet it
+further_left : (x y : ℤ) (s : Span) → x ≤ℤ y → EndsAt x s → EndsAt y s
+further_left x y s l h = beyond_weaker (λ e. e.x ≤ℤ x) (λ e. e.x ≤ℤ y) (λ e. e.x <ℤ x) (λ e. e.x <ℤ y)
+    (λ e k. omega (arith, signed_linear, l, k)) (λ e k. omega (arith, signed_linear, l, k)) s h
+
+-- a piece that lies right of the segment from p to q, or in the column of q, does not meet it
+pub right_end_not_met : (p q : Place) (s : Span) → q.y ≡ p.y → p.x ≤ℤ q.x → StartsFrom q.x s → IsNoEnd p s → IsNoEnd q s
+    → ¬ (IsMet p q s)
+right_end_not_met p q s e l h np nq (inl k) = let m = h.all.0 in omega (arith, signed_linear, k.before, m)
+right_end_not_met p q s e l h np nq (inr (inl k)) = let m = h.all.2 in omega (arith, signed_linear, k.before, m)
+right_end_not_met p q s e l h np nq (inr (inr (inl n))) =
+    n (right_turn p s (further_right p.x q.x s l h) np ∙ ap (λ y. above y s.c.y -ℤ above y s.a.y) (sym e)
+    ∙ sym (right_turn q s h nq))
+right_end_not_met p q s e l h np nq (inr (inr (inr t))) =
+    right_no_tip s.a s.b s.c p q e h.all.0 h.all.1 h.all.2 h.one t
+
+-- nor does one that lies left of it, or in the column of p
+pub left_end_not_met : (p q : Place) (s : Span) → p.x ≤ℤ q.x → EndsAt p.x s → IsNoEnd p s → IsNoEnd q s → ¬ (IsMet p q s)
+left_end_not_met p q s l h np nq (inl k) = let m = h.all.0 in omega (arith, signed_linear, k.after, m)
+left_end_not_met p q s l h np nq (inr (inl k)) = let m = h.all.2 in omega (arith, signed_linear, k.after, m)
+left_end_not_met p q s l h np nq (inr (inr (inl n))) = n (left_turn p s h np ∙ sym (left_turn q s (further_left p.x q.x s l h) nq))
+left_end_not_met p q s l h np nq (inr (inr (inr t))) = left_no_tip s.a s.b s.c p q h.all.0 h.all.1 h.all.2 h.one t
+
+-- where all points lie strictly to that side
 pub right_not_met : (p q : Place) (s : Span) → q.y ≡ p.y → p.x ≤ℤ q.x → HasAll (λ e. q.x <ℤ e.x) s → ¬ (IsMet p q s)
-right_not_met p q s e l h (inl k) = omega (arith, signed_linear, k.before, h.0)
-right_not_met p q s e l h (inr (inl k)) = omega (arith, signed_linear, k.before, h.2)
-right_not_met p q s e l h (inr (inr (inl n))) =
-    let i = right_turn p s (HasAll-weaker (λ e. q.x <ℤ e.x) (λ e. p.x <ℤ e.x) (λ o k. omega (arith, signed_linear, l, k)) s h) in
-    let j = right_turn q s h in
-    n (i ∙ ap (λ y. (above y s.c.y -ℤ above y s.a.y) +ℤ pos 0) (sym e) ∙ sym j)
-right_not_met p q s e l h (inr (inr (inr t))) = right_no_tip s.a s.b s.c p q e h.0 h.1 h.2 t
+right_not_met p q s e l h = right_end_not_met p q s e l (all_right q.x s h)
+    (right_no_end p s (HasAll-weaker (λ e. q.x <ℤ e.x) (λ e. p.x <ℤ e.x) (λ o k. omega (arith, signed_linear, l, k)) s h))
+    (right_no_end q s h)
 
--- nor does one that lies left of it
 pub left_not_met : (p q : Place) (s : Span) → p.x ≤ℤ q.x → HasAll (λ e. e.x <ℤ p.x) s → ¬ (IsMet p q s)
-left_not_met p q s l h (inl k) = omega (arith, signed_linear, k.after, h.0)
-left_not_met p q s l h (inr (inl k)) = omega (arith, signed_linear, k.after, h.2)
-left_not_met p q s l h (inr (inr (inl n))) =
-    let i = left_turn p s h in
-    let j = left_turn q s (HasAll-weaker (λ e. e.x <ℤ p.x) (λ e. e.x <ℤ q.x) (λ o k. omega (arith, signed_linear, l, k)) s h) in
-    n (i ∙ sym j)
-left_not_met p q s l h (inr (inr (inr t))) = left_no_tip s.a s.b s.c p q h.0 h.1 h.2 t
+left_not_met p q s l h = left_end_not_met p q s l (all_left p.x s h) (left_no_end p s h)
+    (left_no_end q s (HasAll-weaker (λ e. e.x <ℤ p.x) (λ e. e.x <ℤ q.x) (λ o k. omega (arith, signed_linear, l, k)) s h))

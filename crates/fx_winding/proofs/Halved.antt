@@ -442,7 +442,7 @@ halves_keep_cover s f g e before after p =
     (λ k. one.0 (first.0 (two.1 k)), λ k. two.0 (first.1 (one.1 k)))
 
 -- ---- the halves meet on the arc
-end_on : (a b c : Place) → IsOnPart a (Some b) c c
+pub end_on : (a b c : Place) → IsOnPart a (Some b) c c
 end_on a b c = by_zero (area a b c) flat bent
   where
     none_from : (s : ℤ) {z : ℤ} → z ≡ pos 0 → s *ℤ z ≡ pos 0

@@ -1,7 +1,7 @@
 -- The segments that a piece meets.
 -- Serves the law `meeting`, and `fx_dropout`, which asks no piece that lies beside a row.
 use Rattle.std.proofs.Common.{◌≡◌, ◌≢◌, refl, sym, ap, ◌∙◌, ◌⊎◌, inl, inr, ℕ, zero, suc, ℤ, pos, negsuc, ◌+ℤ◌, ◌-ℤ◌, ◌*ℤ◌}
-use Rattle.std.proofs.Common.{◌<ℤ◌, ◌↔◌, neg_ℤ, [], ◌∷◌, Option, Some, None, option_map, List, arith}
+use Rattle.std.proofs.Common.{◌<ℤ◌, ◌↔◌, neg_ℤ, ◌≤ℤ◌, [], ◌∷◌, Option, Some, None, option_map, List, arith}
 use Rattle.std.proofs.lemmas.Int.{ints}
 use Rattle.fx_fixed.specs.Polynomial.{var, num, ◌⊞◌, ◌⊠◌, ◌⊟◌}
 use Rattle.fx_fixed.proofs.Ring.{ring}
@@ -270,27 +270,35 @@ lines_are_met a c p q r ep eq lp lq z (inr (h, k)) =
 same_none : {w z w' z' : ℤ} → w ≡ pos 0 → z ≡ pos 0 → w' ≡ pos 0 → z' ≡ pos 0 → w +ℤ z ≡ w' +ℤ z'
 same_none e f g h = (λ i. e i +ℤ f i) ∙ sym (λ i. g i +ℤ h i)
 
-above_not_reached : (a b c y : ℤ) → y <ℤ a → y <ℤ b → y <ℤ c → ¬ (IsReached a b c y)
-above_not_reached a b c y ha hb hc (inl (l, r, h)) = omega (arith, signed_linear, l, ha)
-above_not_reached a b c y ha hb hc (inr (l, r, inl h)) = omega (arith, signed_linear, h, ha)
-above_not_reached a b c y ha hb hc (inr (l, r, inr (inl h))) = omega (arith, signed_linear, h, hc)
-above_not_reached a b c y ha hb hc (inr (l, r, inr (inr h))) = not_below_range a b c y ha hb hc h
+above_not_reached : (a b c y : ℤ) → y ≤ℤ a → y ≤ℤ b → ¬ (IsReached a b c y)
+above_not_reached a b c y ha hb (inl (l, r, h)) = omega (arith, signed_linear, l, ha)
+above_not_reached a b c y ha hb (inr (l, r, inl h)) = omega (arith, signed_linear, h, l)
+above_not_reached a b c y ha hb (inr (l, r, inr (inl h))) = omega (arith, signed_linear, h, r)
+above_not_reached a b c y ha hb (inr (l, r, inr (inr h))) = not_below_range a b c y hb h
 
-below_not_reached : (a b c y : ℤ) → a <ℤ y → b <ℤ y → c <ℤ y → ¬ (IsReached a b c y)
-below_not_reached a b c y ha hb hc (inl (l, r, inl h)) = omega (arith, signed_linear, h, ha)
-below_not_reached a b c y ha hb hc (inl (l, r, inr (inl h))) = omega (arith, signed_linear, h, hc)
-below_not_reached a b c y ha hb hc (inl (l, r, inr (inr h))) = not_above_range a b c y ha hb hc h
-below_not_reached a b c y ha hb hc (inr (l, r, h)) = omega (arith, signed_linear, l, ha)
+below_not_reached : (a b c y : ℤ) → a ≤ℤ y → b ≤ℤ y → ¬ (IsReached a b c y)
+below_not_reached a b c y ha hb (inl (l, r, inl h)) = omega (arith, signed_linear, h, l)
+below_not_reached a b c y ha hb (inl (l, r, inr (inl h))) = omega (arith, signed_linear, h, r)
+below_not_reached a b c y ha hb (inl (l, r, inr (inr h))) = not_above_range a b c y hb h
+below_not_reached a b c y ha hb (inr (l, r, h)) = omega (arith, signed_linear, l, ha)
 
-above_no_tip : (a : Place) (b : Option Place) (c p q : Place) → p.y <ℤ a.y → OptionAll (λ e. p.y <ℤ e.y) b → p.y <ℤ c.y
+above_no_tip : (a : Place) (b : Option Place) (c p q : Place) → p.y ≤ℤ a.y → OptionAll (λ e. p.y ≤ℤ e.y) b
     → ¬ (IsTipPart a b c p q)
-above_no_tip a None c p q ha hb hc t = t
-above_no_tip a (Some b) c p q ha hb hc t = above_not_reached a.y b.y c.y p.y ha hb hc t.reached
+above_no_tip a None c p q ha hb t = t
+above_no_tip a (Some b) c p q ha hb t = above_not_reached a.y b.y c.y p.y ha hb t.reached
 
-below_no_tip : (a : Place) (b : Option Place) (c p q : Place) → a.y <ℤ p.y → OptionAll (λ e. e.y <ℤ p.y) b → c.y <ℤ p.y
+below_no_tip : (a : Place) (b : Option Place) (c p q : Place) → a.y ≤ℤ p.y → OptionAll (λ e. e.y ≤ℤ p.y) b
     → ¬ (IsTipPart a b c p q)
-below_no_tip a None c p q ha hb hc t = t
-below_no_tip a (Some b) c p q ha hb hc t = below_not_reached a.y b.y c.y p.y ha hb hc t.reached
+below_no_tip a None c p q ha hb t = t
+below_no_tip a (Some b) c p q ha hb t = below_not_reached a.y b.y c.y p.y ha hb t.reached
+
+-- the tip of an arc that lies above the row or rests on it is not on the row
+pub resting_no_tip : (p q : Place) (s : Span) → HasAll (λ e. p.y ≤ℤ e.y) s → ¬ (IsTipPart s.a s.b s.c p q)
+resting_no_tip p q s h = above_no_tip s.a s.b s.c p q h.0 h.1
+
+-- nor that of one that lies below it or hangs from it
+pub hanging_no_tip : (p q : Place) (s : Span) → HasAll (λ e. e.y ≤ℤ p.y) s → ¬ (IsTipPart s.a s.b s.c p q)
+hanging_no_tip p q s h = below_no_tip s.a s.b s.c p q h.0 h.1
 
 -- a piece that lies above the row meets nothing of it
 pub above_not_met : (p q : Place) (s : Span) → q.y ≡ p.y → HasAll (λ e. p.y <ℤ e.y) s → ¬ (IsMet p q s)
@@ -300,7 +308,8 @@ above_not_met p q s e h (inr (inr (inl n))) =
     let i = under_off p s h in
     let j = under_off q s (HasAll-weaker (λ e. p.y <ℤ e.y) (λ e. q.y <ℤ e.y) (λ o l. omega (arith, signed_linear, l, e)) s h) in
     n (same_none i.0 i.1 j.0 j.1)
-above_not_met p q s e h (inr (inr (inr t))) = above_no_tip s.a s.b s.c p q h.0 h.1 h.2 t
+above_not_met p q s e h (inr (inr (inr t))) =
+    resting_no_tip p q s (HasAll-weaker (λ e. p.y <ℤ e.y) (λ e. p.y ≤ℤ e.y) (λ o l. omega (arith, signed_linear, l)) s h) t
 
 -- nor does one that lies below it
 pub below_not_met : (p q : Place) (s : Span) → q.y ≡ p.y → HasAll (λ e. e.y <ℤ p.y) s → ¬ (IsMet p q s)
@@ -310,4 +319,5 @@ below_not_met p q s e h (inr (inr (inl n))) =
     let i = over_off p s h in
     let j = over_off q s (HasAll-weaker (λ e. e.y <ℤ p.y) (λ e. e.y <ℤ q.y) (λ o l. omega (arith, signed_linear, l, e)) s h) in
     n (same_none i.0 i.1 j.0 j.1)
-below_not_met p q s e h (inr (inr (inr t))) = below_no_tip s.a s.b s.c p q h.0 h.1 h.2 t
+below_not_met p q s e h (inr (inr (inr t))) =
+    hanging_no_tip p q s (HasAll-weaker (λ e. e.y <ℤ p.y) (λ e. e.y ≤ℤ p.y) (λ o l. omega (arith, signed_linear, l)) s h) t

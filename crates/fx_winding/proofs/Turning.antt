@@ -1,6 +1,6 @@
 -- Segments of columns that a piece does not meet, from what it adds in their two rows. A column is a row of the exchanged piece.
 -- Serves the segments that a scan by rows notes.
-use Rattle.std.proofs.Common.{◌≡◌, refl, sym, ap, ◌∙◌, ◌⊎◌, inl, inr, ℤ, pos, negsuc, ◌+ℤ◌, ◌-ℤ◌, neg_ℤ, ◌<ℤ◌}
+use Rattle.std.proofs.Common.{◌≡◌, refl, sym, ap, ◌∙◌, ◌⊎◌, inl, inr, ℤ, pos, negsuc, ◌-ℤ◌, neg_ℤ, ◌≤ℤ◌, ◌<ℤ◌}
 use Rattle.std.proofs.Common.{int_lt, if◌then◌else◌, Option, Some, None, option_map, arith}
 use Rattle.std.proofs.lemmas.Int.{ints}
 use Rattle.fx_fixed.proofs.Linear.{signed_linear}
@@ -9,21 +9,21 @@ use Rattle.fx_winding.specs.Dropout.{turned_place, turned_span}
 use Rattle.fx_winding.specs.Meets.{turn, IsWithinRow, IsReached, IsTipPart, IsMet, IsBetweenEnds}
 use Rattle.fx_winding.specs.Outside.{HasAll, OptionAll}
 use Rattle.fx_winding.specs.Winding.{Span, IsBetween, IsOn}
-use Rattle.fx_winding.proofs.Aside.{right_turn, left_turn}
+use Rattle.fx_winding.proofs.Aside.{IsNoEnd, same_place, right_turn, left_turn, all_right, all_left, right_no_end, left_no_end}
+use Rattle.fx_winding.proofs.Aside.{right_end_not_met, left_end_not_met}
+use Rattle.fx_winding.proofs.Beside.{StartsFrom, EndsAt, RestsOn, HangsFrom, all_beyond, under_off, over_off}
 use Rattle.fx_winding.proofs.Crossings.{above}
+use Rattle.fx_winding.proofs.EndRows.{off_no_end}
 use Rattle.fx_winding.proofs.Sideways.{turned_rising, turned_falling}
 
 -- ---- beside all points of a piece
 -- what a piece adds at a place left of all its points
 pub left_of_all : (p : Place) (s : Span) → HasAll (λ e. p.x <ℤ e.x) s → turn p s ≡ above p.y s.c.y -ℤ above p.y s.a.y
-left_of_all p s h = right_turn p s h ∙ same (above p.y s.c.y -ℤ above p.y s.a.y)
-  where
-    same : (z : ℤ) → z +ℤ pos 0 ≡ z
-    same z = omega (arith, signed_linear)
+left_of_all p s h = right_turn p s (all_right p.x s h) (right_no_end p s h)
 
 -- and right of them: nothing
 pub right_of_all : (p : Place) (s : Span) → HasAll (λ e. e.x <ℤ p.x) s → turn p s ≡ pos 0
-right_of_all p s h = left_turn p s h
+right_of_all p s h = left_turn p s (all_left p.x s h) (left_no_end p s h)
 
 -- 1 where the chord of a piece rises, -1 where it falls
 abbrev pub rise_value : Span → ℤ
@@ -86,24 +86,37 @@ all_turned P s h = (h.0, option s.b h.1, h.2)
     option None h = h
     option (Some b) h = h
 
--- a place below all points lies left of the exchanged ones, and one above them right
-turned_below : (p : Place) (s : Span) → HasAll (λ e. p.y <ℤ e.y) s
+-- a piece that rests on a row starts from its column, exchanged
+starts_turned : (y : ℤ) (s : Span) → RestsOn y s → StartsFrom y (turned_span s)
+starts_turned y s h = record { all = all_turned (λ e. y ≤ℤ e.x) s h.all; one = h.one }
+
+-- and one that hangs from it ends at that
+ends_turned : (y : ℤ) (s : Span) → HangsFrom y s → EndsAt y (turned_span s)
+ends_turned y s h = record { all = all_turned (λ e. e.x ≤ℤ y) s h.all; one = h.one }
+
+no_end_turned : (p : Place) (s : Span) → IsNoEnd p s → IsNoEnd (turned_place p) (turned_span s)
+no_end_turned p s n = record { first = λ e. n.first (ap turned_place e); last = λ e. n.last (ap turned_place e) }
+
+-- what an exchanged piece adds at a place off the piece, if it rests on the place's row, or hangs from it
+turned_below : (p : Place) (s : Span) → RestsOn p.y s → ¬ (IsOn p s)
     → turn (turned_place p) (turned_span s) ≡ above p.x s.c.x -ℤ above p.x s.a.x
-turned_below p s h = left_of_all (turned_place p) (turned_span s) (all_turned (λ e. p.y <ℤ e.x) s h)
+turned_below p s h off =
+    right_turn (turned_place p) (turned_span s) (starts_turned p.y s h) (no_end_turned p s (off_no_end p s off))
 
-turned_above : (p : Place) (s : Span) → HasAll (λ e. e.y <ℤ p.y) s → turn (turned_place p) (turned_span s) ≡ pos 0
-turned_above p s h = right_of_all (turned_place p) (turned_span s) (all_turned (λ e. e.x <ℤ p.y) s h)
+turned_above : (p : Place) (s : Span) → HangsFrom p.y s → ¬ (IsOn p s) → turn (turned_place p) (turned_span s) ≡ pos 0
+turned_above p s h off =
+    left_turn (turned_place p) (turned_span s) (ends_turned p.y s h) (no_end_turned p s (off_no_end p s off))
 
--- the row of p lies below the piece
-pub turned_foot : (p q : Place) (s : Span) → p.x ≡ q.x → HasAll (λ e. p.y <ℤ e.y) s → IsBetweenEnds q s → ¬ (IsOn q s)
+-- the piece rests on the row of p
+turned_foot : (p q : Place) (s : Span) → p.x ≡ q.x → RestsOn p.y s → ¬ (IsOn p s) → IsBetweenEnds q s → ¬ (IsOn q s)
     → IsClearOfFoot q s → turn (turned_place p) (turned_span s) ≡ turn (turned_place q) (turned_span s)
-turned_foot p q s e h (inl (m, n)) nq (inl (r, k)) =
-    turned_below p s h ∙ (λ i. above (e i) s.c.x -ℤ above (e i) s.a.x)
+turned_foot p q s e h np (inl (m, n)) nq (inl (r, k)) =
+    turned_below p s h np ∙ (λ i. above (e i) s.c.x -ℤ above (e i) s.a.x)
     ∙ sym (turned_rising q s m n nq ∙ ap (λ t. above q.x s.c.x -ℤ t) (clear_rising s.a q s k))
-turned_foot p q s e h (inl (m, n)) nq (inr (r, k)) = absurd (omega (arith, signed_linear, m, n, r))
-turned_foot p q s e h (inr (m, n)) nq (inl (r, k)) = absurd (omega (arith, signed_linear, m, n, r))
-turned_foot p q s e h (inr (m, n)) nq (inr (r, k)) =
-    turned_below p s h ∙ (λ i. above (e i) s.c.x -ℤ above (e i) s.a.x) ∙ exchange (above q.x s.c.x) (above q.x s.a.x)
+turned_foot p q s e h np (inl (m, n)) nq (inr (r, k)) = absurd (omega (arith, signed_linear, m, n, r))
+turned_foot p q s e h np (inr (m, n)) nq (inl (r, k)) = absurd (omega (arith, signed_linear, m, n, r))
+turned_foot p q s e h np (inr (m, n)) nq (inr (r, k)) =
+    turned_below p s h np ∙ (λ i. above (e i) s.c.x -ℤ above (e i) s.a.x) ∙ exchange (above q.x s.c.x) (above q.x s.a.x)
     ∙ sym (turned_falling q s m n nq ∙ ap (λ t. neg_ℤ (above q.x s.a.x) -ℤ t) (clear_falling s.c q s k))
   where
     exchange : (x y : ℤ) → x -ℤ y ≡ neg_ℤ y -ℤ neg_ℤ x
@@ -112,17 +125,17 @@ turned_foot p q s e h (inr (m, n)) nq (inr (r, k)) =
 minus_self : (x : ℤ) → x -ℤ x ≡ pos 0
 minus_self x = omega (arith, signed_linear)
 
--- the row of q lies above it
-pub turned_head : (p q : Place) (s : Span) → IsBetweenEnds p s → ¬ (IsOn p s) → IsClearOfHead p s → HasAll (λ e. e.y <ℤ q.y) s
+-- it hangs from the row of q
+turned_head : (p q : Place) (s : Span) → IsBetweenEnds p s → ¬ (IsOn p s) → IsClearOfHead p s → HangsFrom q.y s → ¬ (IsOn q s)
     → turn (turned_place p) (turned_span s) ≡ turn (turned_place q) (turned_span s)
-turned_head p q s (inl (m, n)) np (inl (r, k)) h =
+turned_head p q s (inl (m, n)) np (inl (r, k)) h nq =
     turned_rising p s m n np ∙ ap (λ t. above p.x s.c.x -ℤ t) (clear_rising s.c p s k) ∙ minus_self (above p.x s.c.x)
-    ∙ sym (turned_above q s h)
-turned_head p q s (inl (m, n)) np (inr (r, k)) h = absurd (omega (arith, signed_linear, m, n, r))
-turned_head p q s (inr (m, n)) np (inl (r, k)) h = absurd (omega (arith, signed_linear, m, n, r))
-turned_head p q s (inr (m, n)) np (inr (r, k)) h =
+    ∙ sym (turned_above q s h nq)
+turned_head p q s (inl (m, n)) np (inr (r, k)) h nq = absurd (omega (arith, signed_linear, m, n, r))
+turned_head p q s (inr (m, n)) np (inl (r, k)) h nq = absurd (omega (arith, signed_linear, m, n, r))
+turned_head p q s (inr (m, n)) np (inr (r, k)) h nq =
     turned_falling p s m n np ∙ ap (λ t. neg_ℤ (above p.x s.a.x) -ℤ t) (clear_falling s.a p s k)
-    ∙ minus_self (neg_ℤ (above p.x s.a.x)) ∙ sym (turned_above q s h)
+    ∙ minus_self (neg_ℤ (above p.x s.a.x)) ∙ sym (turned_above q s h nq)
 
 -- ---- the segment from p up to q
 -- a column between the ends has no tip
@@ -173,11 +186,11 @@ other_column : (p q end : Place) (value : ℤ) (r : Place) (s : Span) → p.x �
 other_column p q end value r s e (inl h) k = let l = k.level in let m = h.0 in omega (arith, signed_linear, e, m, l)
 other_column p q end value r s e (inr h) k = let l = k.level in let m = h.0 in omega (arith, signed_linear, e, m, l)
 
--- where p lies below the piece
-pub foot_pair_not_met : (p q : Place) (s : Span) → p.x ≡ q.x → HasAll (λ e. p.y <ℤ e.y) s → IsBetweenEnds q s → ¬ (IsOn q s)
+-- from the row on which the piece rests to one between its ends
+pub from_foot_not_met : (p q : Place) (s : Span) → p.x ≡ q.x → RestsOn p.y s → ¬ (IsOn p s) → IsBetweenEnds q s → ¬ (IsOn q s)
     → IsClearOfFoot q s → IsBetween s.a.x s.c.x p.x → ¬ (IsMet (turned_place p) (turned_place q) (turned_span s))
-foot_pair_not_met p q s e h i nq c b =
-    column_not_met p q s b (first i c) (last i c) (turned_foot p q s e h i nq c)
+from_foot_not_met p q s e h np i nq c b =
+    column_not_met p q s b (first i c) (last i c) (turned_foot p q s e h np i nq c)
   where
     first : IsBetweenEnds q s → IsClearOfFoot q s → ¬ (IsWithinRow (turned_place p) (turned_place q) (turned_place s.a))
     first i (inl (r, k)) w = other_column p q s.a (pos 1) q s e k w
@@ -189,11 +202,11 @@ foot_pair_not_met p q s e h i nq c b =
     last (inl (m, n)) (inl (r, k)) w = let l = w.before in omega (arith, signed_linear, n, l)
     last (inr (m, n)) (inl (r, k)) w = omega (arith, signed_linear, m, n, r)
 
--- where q lies above it
-pub head_pair_not_met : (p q : Place) (s : Span) → IsBetweenEnds p s → ¬ (IsOn p s) → IsClearOfHead p s
-    → HasAll (λ e. e.y <ℤ q.y) s → IsBetween s.a.x s.c.x p.x → ¬ (IsMet (turned_place p) (turned_place q) (turned_span s))
-head_pair_not_met p q s i np c h b =
-    column_not_met p q s b (first i c) (last i c) (turned_head p q s i np c h)
+-- from a row between the ends to the one from which the piece hangs
+pub to_head_not_met : (p q : Place) (s : Span) → IsBetweenEnds p s → ¬ (IsOn p s) → IsClearOfHead p s → HangsFrom q.y s
+    → ¬ (IsOn q s) → IsBetween s.a.x s.c.x p.x → ¬ (IsMet (turned_place p) (turned_place q) (turned_span s))
+to_head_not_met p q s i np c h nq b =
+    column_not_met p q s b (first i c) (last i c) (turned_head p q s i np c h nq)
   where
     first : IsBetweenEnds p s → IsClearOfHead p s → ¬ (IsWithinRow (turned_place p) (turned_place q) (turned_place s.a))
     first i (inr (r, k)) w = other_column p q s.a (negsuc 0) p s refl k w
@@ -204,3 +217,52 @@ head_pair_not_met p q s i np c h b =
     last i (inl (r, k)) w = other_column p q s.c (pos 1) p s refl k w
     last (inl (m, n)) (inr (r, k)) w = omega (arith, signed_linear, m, n, r)
     last (inr (m, n)) (inr (r, k)) w = let l = w.after in omega (arith, signed_linear, m, l)
+
+-- all points of a piece lie above a row, or below it
+all_over : (y : ℤ) (s : Span) → HasAll (λ e. y <ℤ e.y) s → RestsOn y s
+all_over y s h = all_beyond (λ e. y ≤ℤ e.y) (λ e. y <ℤ e.y) (λ e l. omega (arith, signed_linear, l)) s h
+
+all_under : (y : ℤ) (s : Span) → HasAll (λ e. e.y <ℤ y) s → HangsFrom y s
+all_under y s h = all_beyond (λ e. e.y ≤ℤ y) (λ e. e.y <ℤ y) (λ e l. omega (arith, signed_linear, l)) s h
+
+-- where p lies below the piece
+pub foot_pair_not_met : (p q : Place) (s : Span) → p.x ≡ q.x → HasAll (λ e. p.y <ℤ e.y) s → IsBetweenEnds q s → ¬ (IsOn q s)
+    → IsClearOfFoot q s → IsBetween s.a.x s.c.x p.x → ¬ (IsMet (turned_place p) (turned_place q) (turned_span s))
+foot_pair_not_met p q s e h = from_foot_not_met p q s e (all_over p.y s h) (under_off p s h).2
+
+-- where q lies above it
+pub head_pair_not_met : (p q : Place) (s : Span) → IsBetweenEnds p s → ¬ (IsOn p s) → IsClearOfHead p s
+    → HasAll (λ e. e.y <ℤ q.y) s → IsBetween s.a.x s.c.x p.x → ¬ (IsMet (turned_place p) (turned_place q) (turned_span s))
+head_pair_not_met p q s i np c h = to_head_not_met p q s i np c (all_under q.y s h) (over_off q s h).2
+
+-- from a row up to the one on which the piece rests
+pub to_foot_not_met : (p q : Place) (s : Span) → p.x ≡ q.x → p.y ≤ℤ q.y → RestsOn q.y s → ¬ (IsOn q s)
+    → ¬ (IsMet (turned_place p) (turned_place q) (turned_span s))
+to_foot_not_met p q s e l h off = right_end_not_met (turned_place p) (turned_place q) (turned_span s) (sym e) l
+    (starts_turned q.y s h) (no_end_turned p s lower) (no_end_turned q s (off_no_end q s off))
+  where
+    at : (o : Place) → q.y ≤ℤ o.y → p ≡ o → q ≡ o
+    at o k z = same_place q o (sym e ∙ ap (λ (r : Place). r.x) z) (level p.y q.y o.y l k (ap (λ (r : Place). r.y) z))
+      where
+        level : (x y z : ℤ) → x ≤ℤ y → y ≤ℤ z → x ≡ z → y ≡ z
+        level x y z h k e = omega (arith, signed_linear, h, k, e)
+
+    lower : IsNoEnd p s
+    lower = let n = off_no_end q s off in
+        record { first = λ z. n.first (at s.a h.all.0 z); last = λ z. n.last (at s.c h.all.2 z) }
+
+-- and from the one from which it hangs up to another
+pub from_head_not_met : (p q : Place) (s : Span) → p.x ≡ q.x → p.y ≤ℤ q.y → HangsFrom p.y s → ¬ (IsOn p s)
+    → ¬ (IsMet (turned_place p) (turned_place q) (turned_span s))
+from_head_not_met p q s e l h off = left_end_not_met (turned_place p) (turned_place q) (turned_span s) l
+    (ends_turned p.y s h) (no_end_turned p s (off_no_end p s off)) (no_end_turned q s upper)
+  where
+    at : (o : Place) → o.y ≤ℤ p.y → q ≡ o → p ≡ o
+    at o k z = same_place p o (e ∙ ap (λ (r : Place). r.x) z) (level p.y q.y o.y l k (ap (λ (r : Place). r.y) z))
+      where
+        level : (x y z : ℤ) → x ≤ℤ y → z ≤ℤ x → y ≡ z → x ≡ z
+        level x y z h k e = omega (arith, signed_linear, h, k, e)
+
+    upper : IsNoEnd q s
+    upper = let n = off_no_end p s off in
+        record { first = λ z. n.first (at s.a h.all.0 z); last = λ z. n.last (at s.c h.all.2 z) }
