@@ -42,7 +42,7 @@ last_on s = part s.a s.b s.c
 pub first_on : (s : Span) → IsOn s.a s
 first_on s = (reversal_negates s.a s).0.0 (last_on (reversed s))
 
--- so that a place off the piece is none
+-- so that a place off the piece is neither of them
 pub off_no_end : (p : Place) (s : Span) → ¬ (IsOn p s) → IsNoEnd p s
 off_no_end p s off = record {
   first = λ e. off (subst (λ q. IsOn q s) (sym e) (first_on s));
@@ -111,7 +111,7 @@ rising_turn p s h up e =
     plain : (z : ℤ) → z +ℤ pos 0 ≡ z
     plain z = omega (arith, signed_linear)
 
--- what rests on another row is the same
+-- the same row, by another place of it
 same_row : (p q : Place) (s : Span) → q.y ≡ p.y → RestsOn p.y s → RestsOn q.y s
 same_row p q s e h = subst (λ y. RestsOn y s) (sym e) h
 
