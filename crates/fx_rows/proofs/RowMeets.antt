@@ -7,17 +7,16 @@ use Rattle.fx_fixed.proofs.Linear.{signed, signed_linear}
 use Rattle.fx_winding.specs.declared.frame.Frame.{Frame}
 use Rattle.fx_winding.specs.Area.{Place}
 use Rattle.fx_winding.specs.Meets.{turn}
-use Rattle.fx_winding.specs.Bitmaps.{word_bit}
-use Rattle.fx_winding.specs.Notes.{pixel_number, IsMetAcross, IsNotedAcross}
+use Rattle.fx_winding.specs.Notes.{IsMetAcross}
 use Rattle.fx_winding.specs.Winding.{Span, centre, IsOn}
 use Rattle.fx_winding.proofs.Aside.{left_not_met, right_not_met}
 use Rattle.fx_winding.proofs.Meeting.{inner_meets, above_not_met, below_not_met}
 use Rattle.fx_winding.proofs.Turning.{right_of_all, beside_turn}
-use Rattle.fx_rows.specs.declared.placed.Placed.{Placed}
-use Rattle.fx_rows.specs.inner.Bands.{bounded_span}
+use Rattle.fx_rows.specs.declared.heights.Met.{Met}
 use Rattle.fx_rows.specs.inner.Heights.{height_of, IsMissed}
-use Rattle.fx_rows.specs.inner.Placing.{IsPlaced}
+use Rattle.fx_rows.specs.inner.Placing.{AreMet}
 use Rattle.fx_rows.specs.inner.Points.{IsInner, AreAcross}
+use Rattle.fx_rows.specs.inner.Segments.{AreSetAcross}
 use Rattle.fx_rows.specs.inner.Told.{rise_value, IsEnd}
 use Rattle.fx_rows.proofs.Points.{to_all}
 
@@ -34,11 +33,6 @@ in_order f r k =
     omega (arith, signed) in l
 
 -- ---- rows that the piece misses
-pub missed_rows : (p : Placed) → IsPlaced p → (r : ℕ) → r < p.frame.height → (r < p.touched.first) ⊎ (p.touched.end ≤ r)
-    → IsMissed (bounded_span p.bounded) (height_of p.frame r)
-missed_rows p is r h (inl l) = inl (is.below r l)
-missed_rows p is r h (inr l) = inr (is.above r l h)
-
 missed_not_met : (s : Span) (f : Frame) (r k : ℕ) → IsMissed s (height_of f r) → ¬ (IsMetAcross s f r k)
 missed_not_met s f r k (inl h) m = above_not_met (left_end f r k) (right_end f r k) s refl h m.met
 missed_not_met s f r k (inr h) m = below_not_met (left_end f r k) (right_end f r k) s refl h m.met
@@ -147,24 +141,19 @@ met_end s f first end r n k h l w inner is m met = by (below_same_above k n)
     by (inr (inr o)) = absurd (changes (left_past_end s f r n k is o m met.off_left
         ∙ sym (right_past_end s f first end r n k h w is o m met.off_right)))
 
--- ---- a band's rows: those that the piece misses, those whose box is noted, and those whose end is noted, from m on and before n
-pub band_across : (s : Span) (f : Frame) (from to first end low high m n : ℕ) (across : List ℕ)
-    → ((r : ℕ) → from ≤ r → r < to → (r < first) ⊎ (end ≤ r) → IsMissed s (height_of f r))
-    → ((r k : ℕ) → k ≤ f.width → IsMetAcross s f r k → (low ≤ k) × (k ≤ high))
-    → ((r k : ℕ) → first ≤ r → r < m → low ≤ k → k ≤ high → word_bit across (pixel_number f r k) ≡ 1)
-    → ((r k : ℕ) → m ≤ r → r < n → k ≤ f.width → IsMetAcross s f r k → word_bit across (pixel_number f r k) ≡ 1)
-    → ((r k : ℕ) → n ≤ r → r < end → low ≤ k → k ≤ high → word_bit across (pixel_number f r k) ≡ 1)
-    → (r : ℕ) → from ≤ r → r < to → IsNotedAcross s f across r
-band_across s f from to first end low high m n across missed within below ended above r l o k w met =
-    by (below_or_not r first) (below_or_not r m) (below_or_not r n) (below_or_not r end)
+-- ---- all rows: those that the piece misses, those between its ends from m on and before n, and the others that it may touch
+pub all_across : (s : Span) (f : Frame) (met : Met) (below m n : ℕ) (across : List ℕ) → AreMet s f met
+    → ((r : ℕ) → met.touched.first ≤ r → r < m → AreSetAcross s f below across r)
+    → ((r : ℕ) → m ≤ r → r < n → AreSetAcross s f below across r)
+    → ((r : ℕ) → n ≤ r → r < met.touched.end → AreSetAcross s f below across r)
+    → (r : ℕ) → r < f.height → AreSetAcross s f below across r
+all_across s f met below m n across is under ended over r h =
+    by (below_or_not r met.touched.first) (below_or_not r m) (below_or_not r n) (below_or_not r met.touched.end)
   where
-    at : (low ≤ k) × (k ≤ high)
-    at = within r k w met
-
-    by : (r < first) ⊎ (first ≤ r) → (r < m) ⊎ (m ≤ r) → (r < n) ⊎ (n ≤ r) → (r < end) ⊎ (end ≤ r)
-        → word_bit across (pixel_number f r k) ≡ 1
-    by (inl a) b c d = absurd (missed_not_met s f r k (missed r l o (inl a)) met)
-    by (inr a) (inl b) c d = below r k a b at.0 at.1
-    by (inr a) (inr b) (inl c) d = ended r k b c w met
-    by (inr a) (inr b) (inr c) (inl d) = above r k c d at.0 at.1
-    by (inr a) (inr b) (inr c) (inr d) = absurd (missed_not_met s f r k (missed r l o (inr d)) met)
+    by : (r < met.touched.first) ⊎ (met.touched.first ≤ r) → (r < m) ⊎ (m ≤ r) → (r < n) ⊎ (n ≤ r)
+        → (r < met.touched.end) ⊎ (met.touched.end ≤ r) → AreSetAcross s f below across r
+    by (inl a) b c d = λ k w i. absurd (missed_not_met s f r k (inl (is.below r a)) i)
+    by (inr a) (inl b) c d = under r a b
+    by (inr a) (inr b) (inl c) d = ended r b c
+    by (inr a) (inr b) (inr c) (inl d) = over r c d
+    by (inr a) (inr b) (inr c) (inr d) = λ k w i. absurd (missed_not_met s f r k (inr (is.above r d h)) i)

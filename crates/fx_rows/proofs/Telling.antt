@@ -11,14 +11,17 @@ use Rattle.fx_winding.specs.declared.frame.Frame.{Frame}
 use Rattle.fx_winding.specs.Area.{Place}
 use Rattle.fx_winding.specs.Meets.{turn}
 use Rattle.fx_winding.specs.Notes.{IsNotedAcross, IsNotedUp, IsNoted}
+use Rattle.fx_winding.specs.Outside.{HasAll}
 use Rattle.fx_winding.specs.Winding.{Span, IsOn, centre}
+use Rattle.fx_rows.specs.declared.heights.Met.{Met}
 use Rattle.fx_rows.specs.declared.strip.Strip.{Strip}
 use Rattle.fx_rows.specs.declared.cells.Cut.{Cut}
 use Rattle.fx_rows.specs.inner.Cuts.{IsCut}
 use Rattle.fx_rows.specs.inner.Heights.{height_of, IsMissed}
+use Rattle.fx_rows.specs.inner.Placing.{AreMet}
 use Rattle.fx_rows.specs.inner.Points.{IsInner, IsRise}
 use Rattle.fx_rows.specs.inner.Sides.{place_at}
-use Rattle.fx_rows.specs.inner.Told.{rise_value, IsEnd, AreTold}
+use Rattle.fx_rows.specs.inner.Told.{rise_value, IsEnd}
 use Rattle.fx_rows.specs.inner.Telling.{IsRowTold, AreRowsTold, IsPartOf, AreRowsNoted, AreNotedIn}
 
 -- ---- the end of one row
@@ -107,79 +110,51 @@ not_inner_missed s y (inl h) (inr i) = let c = h.2 in absurd (omega (arith, sign
 not_inner_missed s y (inr h) (inl i) = let c = h.2 in absurd (omega (arith, signed_linear, c, i.1))
 not_inner_missed s y (inr h) (inr i) = let a = h.0 in absurd (omega (arith, signed_linear, a, i.1))
 
--- ---- the rows of a band as rows of the whole frame
-inner_or_not : (a c y : ℤ) → IsInner a c y ⊎ ¬ (IsInner a c y)
-inner_or_not a c y = by (below_or_not_ℤ a y) (below_or_not_ℤ y c) (below_or_not_ℤ c y) (below_or_not_ℤ y a)
-  where
-    no : ¬ ((a <ℤ y) × (y <ℤ c)) → ¬ ((c <ℤ y) × (y <ℤ a)) → ¬ (IsInner a c y)
-    no m n (inl h) = m h
-    no m n (inr h) = n h
+-- ---- frames that are the same rows of a frame
+row_same : (f g h : Frame) (from to r : ℕ) → IsPartOf f from to g → IsPartOf f from to h
+    → g.bottom +ℤ pos r ≡ h.bottom +ℤ pos r
+row_same f g h from to r a b = ap (λ (z : ℤ). z +ℤ pos r) (a.bottom ∙ sym b.bottom)
 
-    by : (a <ℤ y) ⊎ (y ≤ℤ a) → (y <ℤ c) ⊎ (c ≤ℤ y) → (c <ℤ y) ⊎ (y ≤ℤ c) → (y <ℤ a) ⊎ (a ≤ℤ y)
-        → IsInner a c y ⊎ ¬ (IsInner a c y)
-    by (inl h) (inl k) o p = inl (inl (h, k))
-    by (inl h) (inr k) o p = inr (no (λ x. let e = x.1 in absurd (omega (arith, signed_linear, k, e)))
-        (λ x. let e = x.1 in absurd (omega (arith, signed_linear, h, e))))
-    by (inr h) k (inl o) (inl p) = inl (inr (o, p))
-    by (inr h) k (inr o) p = inr (no (λ x. let e = x.0 in absurd (omega (arith, signed_linear, h, e)))
-        (λ x. let e = x.0 in absurd (omega (arith, signed_linear, o, e))))
-    by (inr h) k (inl o) (inr p) = inr (no (λ x. let e = x.0 in absurd (omega (arith, signed_linear, h, e)))
-        (λ x. let e = x.1 in absurd (omega (arith, signed_linear, p, e))))
+height_same : (f g h : Frame) (from to r : ℕ) → IsPartOf f from to g → IsPartOf f from to h → height_of g r ≡ height_of h r
+height_same f g h from to r a b = ap (λ (z : ℤ). pos 128 *ℤ z +ℤ pos 64) (row_same f g h from to r a b)
 
-row_whole : (f g : Frame) (from to r : ℕ) → IsPartOf f from to g → from ≤ r → g.bottom +ℤ pos (r - from) ≡ f.bottom +ℤ pos r
-row_whole f g from to r part l = let bottom = part.bottom in omega (arith, signed_linear, bottom, l)
+rows_same : (f g h : Frame) (from to : ℕ) → IsPartOf f from to g → IsPartOf f from to h → g.height ≡ h.height
+rows_same f g h from to a b = let low = a.height in let high = b.height in omega (arith, low, high)
 
-end_whole : (s : Span) (f g : Frame) (from to r n : ℕ) → IsPartOf f from to g → from ≤ r → IsEnd s g (r - from) n → IsEnd s f r n
-end_whole s f g from to r n part l h =
+end_same : (s : Span) (f g h : Frame) (from to r n : ℕ) → IsPartOf f from to g → IsPartOf f from to h → IsEnd s g r n
+    → IsEnd s h r n
+end_same s f g h from to r n a b is =
+    let wide : g.width ≡ h.width = a.width ∙ sym b.width in
+    let left : g.left ≡ h.left = a.left ∙ sym b.left in
+    let row = row_same f g h from to r a b in
+    let at : (k : ℕ) → centre (g.left +ℤ pos k) (g.bottom +ℤ pos r) ≡ centre (h.left +ℤ pos k) (h.bottom +ℤ pos r) =
+    λ k i. centre (left i +ℤ pos k) (row i) in
     record {
-      within = subst (λ (w : ℕ). n ≤ w) part.width h.within;
-      left = λ k m. subst (λ (q : Place). ¬ (IsOn q s) → turn q s ≡ rise_value s) (at k) (h.left k m);
+      within = subst (λ (w : ℕ). n ≤ w) wide is.within;
+      left = λ k m. subst (λ (q : Place). ¬ (IsOn q s) → turn q s ≡ rise_value s) (at k) (is.left k m);
       right = λ k m o. subst (λ (q : Place). ¬ (IsOn q s) → turn q s ≡ pos 0) (at k)
-          (h.right k m (subst (λ (w : ℕ). k < w) (sym part.width) o));
+          (is.right k m (subst (λ (w : ℕ). k < w) (sym wide) o));
     }
-  where
-    at : (k : ℕ) → centre (g.left +ℤ pos k) (g.bottom +ℤ pos (r - from)) ≡ centre (f.left +ℤ pos k) (f.bottom +ℤ pos r)
-    at k = let row = row_whole f g from to r part l in λ i. centre (part.left i +ℤ pos k) (row i)
 
-pub told_whole : (T : ℕ → ℕ → Type 0) (s : Span) (f g : Frame) (from to : ℕ) → IsPartOf f from to g → AreRowsTold T s g 0 g.height
-    → AreTold T s f from to
-told_whole T s f g from to part h = record {
-  end = λ r. end_at r (told_or_not r);
-  told = λ r l m i. told_at r (told_or_not r) l m i;
-  is = λ r l m i. is_at r (told_or_not r) l m i;
+pub told_same : (T : ℕ → ℕ → Type 0) (s : Span) (f g h : Frame) (from to : ℕ) → IsPartOf f from to g → IsPartOf f from to h
+    → AreRowsTold T s g 0 g.height → AreRowsTold T s h 0 h.height
+told_same T s f g h from to a b is = record { rows = λ r l m i. here r m i }
+  where
+    here : (r : ℕ) → r < h.height → IsInner s.a.y s.c.y (height_of h r) → IsRowTold T s h r
+    here r m i =
+        let t = is.rows r (omega arith) (omega (arith, m, rows_same f g h from to a b))
+        (subst (IsInner s.a.y s.c.y) (sym (height_same f g h from to r a b)) i) in
+        record { end = t.end; told = t.told; is = end_same s f g h from to r t.end a b t.is }
+
+pub met_same : (s : Span) (f g h : Frame) (from to : ℕ) (m : Met) → IsPartOf f from to g → IsPartOf f from to h → AreMet s g m
+    → AreMet s h m
+met_same s f g h from to m a b is = record {
+  below = λ r l. subst (λ y. HasAll (λ q. y <ℤ q.y) s) (height_same f g h from to r a b) (is.below r l);
+  above = λ r l o. subst (λ y. HasAll (λ q. q.y <ℤ y) s) (height_same f g h from to r a b)
+      (is.above r l (omega (arith, o, rows_same f g h from to a b)));
+  within = let w = is.within in omega (arith, w, rows_same f g h from to a b);
+  inner = λ r l o. subst (IsInner s.a.y s.c.y) (height_same f g h from to r a b) (is.inner r l o);
 }
-  where
-    here : (r : ℕ) → from ≤ r → r < to → IsInner s.a.y s.c.y (height_of f r) → IsRowTold T s g (r - from)
-    here r l m i =
-        let high = part.height in
-        let same : height_of f r ≡ height_of g (r - from) =
-        ap (λ z. pos 128 *ℤ z +ℤ pos 64) (sym (row_whole f g from to r part l)) in
-        h.rows (r - from) (omega arith) (omega (arith, high, l, m)) (subst (IsInner s.a.y s.c.y) same i)
-
-    told_or_not : (r : ℕ) → IsRowTold T s g (r - from) ⊎ ¬ ((from ≤ r) × (r < to) × IsInner s.a.y s.c.y (height_of f r))
-    told_or_not r = by (below_or_not r from) (below_or_not r to) (inner_or_not s.a.y s.c.y (height_of f r))
-      where
-        by : (r < from) ⊎ (from ≤ r) → (r < to) ⊎ (to ≤ r)
-            → IsInner s.a.y s.c.y (height_of f r) ⊎ ¬ (IsInner s.a.y s.c.y (height_of f r))
-            → IsRowTold T s g (r - from) ⊎ ¬ ((from ≤ r) × (r < to) × IsInner s.a.y s.c.y (height_of f r))
-        by (inl x) y z = inr (λ w. let l = w.0 in absurd (omega (arith, l, x)))
-        by (inr x) (inr y) z = inr (λ w. let m = w.1 in absurd (omega (arith, m, y)))
-        by (inr x) (inl y) (inr z) = inr (λ w. z w.2)
-        by (inr x) (inl y) (inl z) = inl (here r x y z)
-
-    end_at : (r : ℕ) → IsRowTold T s g (r - from) ⊎ ¬ ((from ≤ r) × (r < to) × IsInner s.a.y s.c.y (height_of f r)) → ℕ
-    end_at r (inl t) = t.end
-    end_at r (inr n) = 0
-
-    told_at : (r : ℕ) (t : IsRowTold T s g (r - from) ⊎ ¬ ((from ≤ r) × (r < to) × IsInner s.a.y s.c.y (height_of f r))) → from ≤ r
-        → r < to → IsInner s.a.y s.c.y (height_of f r) → T (r - from) (end_at r t)
-    told_at r (inl t) l m i = t.told
-    told_at r (inr n) l m i = absurd (n (l, m, i))
-
-    is_at : (r : ℕ) (t : IsRowTold T s g (r - from) ⊎ ¬ ((from ≤ r) × (r < to) × IsInner s.a.y s.c.y (height_of f r))) → from ≤ r
-        → r < to → IsInner s.a.y s.c.y (height_of f r) → IsEnd s f r (end_at r t)
-    is_at r (inl t) l m i = end_whole s f g from to r t.end part l t.is
-    is_at r (inr n) l m i = absurd (n (l, m, i))
 
 -- ---- the pieces that are noted
 -- no piece yet

@@ -1,17 +1,16 @@
 -- Segments between neighbouring rows that a piece does not meet.
 -- Serves `note_up`.
 use Rattle.std.proofs.Common.{◌≡◌, ◌⊎◌, inl, inr, refl, sym, ap, ◌∙◌, subst, ℕ, ◌+◌, ◌-◌, ◌<◌, ◌≤◌, min, max, ℤ, pos, negsuc}
-use Rattle.std.proofs.Common.{◌+ℤ◌, ◌-ℤ◌, ◌*ℤ◌, ◌≤ℤ◌, ◌<ℤ◌, List, length, get_or, arith}
+use Rattle.std.proofs.Common.{◌+ℤ◌, ◌-ℤ◌, ◌*ℤ◌, ◌≤ℤ◌, ◌<ℤ◌, List, arith}
 use Rattle.std.proofs.lemmas.Int.{ints, clamps}
 use Rattle.std.specs.Int.{int_min, int_max}
-use Rattle.fx_fixed.proofs.Order.{below_or_not, below_or_not_ℤ}
+use Rattle.fx_fixed.proofs.Order.{below_or_not, below_same_above, below_or_not_ℤ}
 use Rattle.fx_fixed.proofs.Linear.{signed, signed_linear}
 use Rattle.fx_winding.specs.declared.frame.Frame.{Frame}
 use Rattle.fx_winding.specs.Area.{Place}
-use Rattle.fx_winding.specs.Bitmaps.{word_bit}
 use Rattle.fx_winding.specs.Dropout.{turned_place, turned_span}
 use Rattle.fx_winding.specs.Meets.{turn}
-use Rattle.fx_winding.specs.Notes.{pixel_number, IsMetUp, IsNotedUp}
+use Rattle.fx_winding.specs.Notes.{IsMetUp}
 use Rattle.fx_winding.specs.Outside.{HasAll}
 use Rattle.fx_winding.specs.Winding.{Span, centre, IsOn, IsBetween}
 use Rattle.fx_winding.proofs.Aside.{left_not_met, right_not_met}
@@ -19,15 +18,14 @@ use Rattle.fx_winding.proofs.Beside.{HasAll-weaker}
 use Rattle.fx_winding.proofs.Meeting.{above_not_met, below_not_met}
 use Rattle.fx_winding.proofs.Turning.{IsClearOf, IsClearOfFoot, IsClearOfHead, all_turned, inner_pair_not_met, foot_pair_not_met}
 use Rattle.fx_winding.proofs.Turning.{head_pair_not_met}
-use Rattle.fx_rows.specs.declared.heights.RowRange.{RowRange}
+use Rattle.fx_rows.specs.declared.heights.Met.{Met}
 use Rattle.fx_rows.specs.declared.placed.Placed.{Placed}
-use Rattle.fx_rows.specs.inner.Bands.{bounded_span}
 use Rattle.fx_rows.specs.inner.Heights.{height_of}
-use Rattle.fx_rows.specs.inner.Placing.{IsPlaced}
+use Rattle.fx_rows.specs.inner.Placing.{AreMet, IsPlaced}
 use Rattle.fx_rows.specs.inner.Points.{AreAcross, IsInner}
-use Rattle.fx_rows.specs.inner.Told.{rise_value, AreKept, AreTold, IsEnd, IsEndIn}
-use Rattle.fx_rows.specs.inner.Upward.{column_of, height_below, AreMetBetween, AreMetWithin, IsNear}
-use Rattle.fx_rows.proofs.Kept.{rows_more}
+use Rattle.fx_rows.specs.inner.Segments.{AreSetUp}
+use Rattle.fx_rows.specs.inner.Told.{rise_value, IsEnd}
+use Rattle.fx_rows.specs.inner.Upward.{column_of, height_below, AreMetBetween, AreMetWithin}
 use Rattle.fx_rows.proofs.Points.{to_all}
 
 -- the ends of a segment
@@ -64,10 +62,8 @@ reach_within s f first end from to r h left right k l m = (low (below_or_not k f
     high (inl i) = i
     high (inr i) = absurd (right_unmet s f first end r k h (right k i l) m)
 
-pub reach_columns : (p : Placed) → IsPlaced p → (r : ℕ) → AreMetWithin (bounded_span p.bounded) p.frame r p.reach.first p.reach.end
-reach_columns p is r =
-    let t = p.bounded.across in
-    reach_within (bounded_span p.bounded) p.frame t.first t.end p.reach.first p.reach.end r p.bounded.between is.left is.right
+pub reach_columns : (s : Span) (p : Placed) → IsPlaced s p → (r : ℕ) → AreMetWithin s p.frame r p.reach.first p.reach.end
+reach_columns s p is r = reach_within s p.frame p.across.first p.across.end p.reach.first p.reach.end r is.across is.left is.right
 
 -- a box that is no wider than the chord's
 pub met_between : (s : Span) (f : Frame) (first end : ℤ) → AreAcross s first end
@@ -93,19 +89,19 @@ from_least_to_greatest a c low high x el eh h l = by (below_or_not_ℤ a c)
 next_up : (f : Frame) (r : ℕ) → height_below f r ≤ℤ height_of f r
 next_up f r = omega (arith, signed)
 
-under_unmet : (s : Span) (f : Frame) (r k : ℕ) → HasAll (λ e. height_of f r <ℤ e.y) s → ¬ (IsMetUp s f r k)
-under_unmet s f r k h m =
+-- all its points are above a height, and that is not below the upper ends
+pub above_unmet : (s : Span) (f : Frame) (y : ℤ) (r k : ℕ) → HasAll (λ e. y <ℤ e.y) s → height_of f r ≤ℤ y → ¬ (IsMetUp s f r k)
+above_unmet s f y r k h l m =
     right_not_met (turned_place (lower f r k)) (turned_place (upper f r k)) (turned_span s) refl (next_up f r)
-    (all_turned (λ e. height_of f r <ℤ e.x) s h) m.met
+    (all_turned (λ e. height_of f r <ℤ e.x) s
+    (HasAll-weaker (λ e. y <ℤ e.y) (λ e. height_of f r <ℤ e.y) (λ q o. omega (arith, signed_linear, l, o)) s h)) m.met
 
-over_unmet : (s : Span) (f : Frame) (r j k : ℕ) → j + 1 ≡ r → HasAll (λ e. e.y <ℤ height_of f j) s → ¬ (IsMetUp s f r k)
-over_unmet s f r j k e h m =
+-- all are below a height, and that is not above the lower ends
+pub below_unmet : (s : Span) (f : Frame) (y : ℤ) (r k : ℕ) → HasAll (λ e. e.y <ℤ y) s → y ≤ℤ height_below f r → ¬ (IsMetUp s f r k)
+below_unmet s f y r k h l m =
     left_not_met (turned_place (lower f r k)) (turned_place (upper f r k)) (turned_span s) (next_up f r)
     (all_turned (λ e. e.x <ℤ height_below f r) s
-    (HasAll-weaker (λ e. e.y <ℤ height_of f j) (λ e. e.y <ℤ height_below f r) (λ q l. weaker q.y l) s h)) m.met
-  where
-    weaker : (y : ℤ) → y <ℤ height_of f j → y <ℤ height_below f r
-    weaker y l = omega (arith, signed, l, e)
+    (HasAll-weaker (λ e. e.y <ℤ y) (λ e. e.y <ℤ height_below f r) (λ q o. omega (arith, signed_linear, l, o)) s h)) m.met
 
 -- ---- where a piece passes a row between its ends
 row_below : (f : Frame) (j r : ℕ) → j + 1 ≡ r → f.bottom +ℤ pos j ≡ (f.bottom -ℤ pos 1) +ℤ pos r
@@ -226,54 +222,51 @@ head_within s f x first last j r n e between above i h rising falling left right
     not_aside f x first last n k left right l
     (λ a. head_unmet s f x r n k above (passed_below s f j r n e i h) rising falling (between r k l m) a l m)
 
--- ---- what is told of a row between the ends
-pub inner_told : (p : Placed) (rows : RowRange) (ends : List ℕ) (r i : ℕ) → IsPlaced p
-    → AreTold (IsEndIn ends) (bounded_span p.bounded) p.frame rows.first rows.end → i + rows.first ≡ r → r < rows.end
-    → p.inner.first ≤ r → r < p.inner.end → (i < length ends) × IsEnd (bounded_span p.bounded) p.frame r (get_or ends i 0)
-inner_told p rows ends r i is h e l from to =
-    let low : rows.first ≤ r = omega (arith, e) in
-    let inner = is.inner r from to in
-    let t = h.told r low l inner in
-    let at : r - rows.first ≡ i = omega (arith, e) in (
-      omega (arith, t.0, at),
-      subst (λ (n : ℕ). IsEnd (bounded_span p.bounded) p.frame r n) (sym t.1 ∙ ap (λ (n : ℕ). get_or ends n 0) at)
-          (h.is r low l inner),
-    )
+-- ---- the columns of the box, and some more
+pub within_more : (s : Span) (f : Frame) (r from to n : ℕ) → AreMetWithin s f r from to → AreMetWithin s f r (min from n) (max to n)
+within_more s f r from to n h k l m = let at = h k l m in (omega (arith, at.0), omega (arith, at.1))
 
--- it is not the row above the frame, and so one of the band
-pub in_band : (p : Placed) (rows : RowRange) (r : ℕ) → IsPlaced p → IsNear p.frame rows p.touched r → r < p.inner.end
-    → r < rows.end
-in_band p rows r is h l = by (below_or_not r rows.end)
+-- ---- rows up to which a piece meets nothing
+-- its points are above the row below one, and this is one further down
+pub set_under : (s : Span) (f : Frame) (below row r : ℕ) (up : List ℕ) → HasAll (λ e. height_below f row <ℤ e.y) s → r < row
+    → AreSetUp s f below up r
+set_under s f below row r up h l k w m = absurd (above_unmet s f (height_below f row) r k h (omega (arith, signed, l)) m)
+
+-- its points are below a row, and this is one further up
+pub set_over : (s : Span) (f : Frame) (below row r : ℕ) (up : List ℕ) → HasAll (λ e. e.y <ℤ height_of f row) s → row < r
+    → AreSetUp s f below up r
+set_over s f below row r up h l k w m = absurd (below_unmet s f (height_of f row) r k h (omega (arith, signed, l)) m)
+
+-- rows below those that it can touch, and above them
+pub set_below : (s : Span) (f : Frame) (met : Met) (below r : ℕ) (up : List ℕ) → AreMet s f met
+    → (met.touched.first ≤ r → AreSetUp s f below up r) → AreSetUp s f below up r
+set_below s f met below r up is near = by (below_or_not r met.touched.first)
   where
-    by : (r < rows.end) ⊎ (rows.end ≤ r) → r < rows.end
-    by (inl k) = k
-    by (inr k) =
-        let last : r ≡ rows.end = omega (arith, h.to, k) in
-        let top = h.top last in
-        absurd (omega (arith, last, top, l, is.to, is.rows))
+    by : (r < met.touched.first) ⊎ (met.touched.first ≤ r) → AreSetUp s f below up r
+    by (inl i) = λ k w m. absurd (above_unmet s f (height_of f r) r k (is.below r i) (omega (arith, signed_linear)) m)
+    by (inr i) = near i
 
--- ---- what stays noted
-pub up_kept : (s : Span) (f : Frame) (r : ℕ) (a b : List ℕ) → IsNotedUp s f a r → AreKept a b → IsNotedUp s f b r
-up_kept s f r a b h kept k l m = kept (pixel_number f r k) (h k l m)
-
--- up to one row more
-pub up_more : (s : Span) (f : Frame) (first row : ℕ) (a b : List ℕ)
-    → ((r : ℕ) → first ≤ r → r < row → IsNotedUp s f a r) → AreKept a b → IsNotedUp s f b row
-    → (r : ℕ) → first ≤ r → r < row + 1 → IsNotedUp s f b r
-up_more s f first row a b before kept =
-    rows_more (IsNotedUp s f b) first row (λ r h l. up_kept s f r a b (before r h l) kept)
-
--- ---- up to the rows that a piece can touch and the one above them, and so up to all of a band
-pub band_noted : (p : Placed) (rows : RowRange) (up : List ℕ) → rows.end ≤ p.frame.height → IsPlaced p
-    → ((r : ℕ) → IsNear p.frame rows p.touched r → IsNotedUp (bounded_span p.bounded) p.frame up r) → (r : ℕ) → rows.first ≤ r
-    → r ≤ rows.end → (r ≡ rows.end → rows.end ≡ p.frame.height) → IsNotedUp (bounded_span p.bounded) p.frame up r
-band_noted p rows up high is near r from to top k l m =
-    by (below_or_not r p.touched.first) (below_or_not p.touched.end r)
+pub set_above : (s : Span) (f : Frame) (met : Met) (below r : ℕ) (up : List ℕ) → AreMet s f met → r ≤ f.height
+    → (r ≤ met.touched.end → AreSetUp s f below up r) → AreSetUp s f below up r
+set_above s f met below r up is h near = by (below_or_not met.touched.end r)
   where
-    by : (r < p.touched.first) ⊎ (p.touched.first ≤ r) → (p.touched.end < r) ⊎ (r ≤ p.touched.end)
-        → word_bit up (pixel_number p.frame r k) ≡ 1
-    by (inl i) j = absurd (under_unmet (bounded_span p.bounded) p.frame r k (is.below r i) m)
-    by (inr i) (inl j) =
-        absurd (over_unmet (bounded_span p.bounded) p.frame r (r - 1) k (omega (arith, j))
-        (is.above (r - 1) (omega (arith, j)) (omega (arith, j, to, high))) m)
-    by (inr i) (inr j) = near r (record { from = from; to = to; top = top; above = i; below = j }) k l m
+    by : (met.touched.end < r) ⊎ (r ≤ met.touched.end) → AreSetUp s f below up r
+    by (inl i) = set_over s f below (r - 1) r up (is.above (r - 1) (omega (arith, i)) (omega (arith, i, h))) (omega (arith, i))
+    by (inr i) = near i
+
+-- all its points are above the row above the frame, or below the row below it
+pub set_apart : (s : Span) (f : Frame) (below r : ℕ) (up : List ℕ)
+    → HasAll (λ e. height_of f f.height <ℤ e.y) s ⊎ HasAll (λ e. e.y <ℤ height_below f 0) s → r ≤ f.height → AreSetUp s f below up r
+set_apart s f below r up (inl h) l k w m = absurd (above_unmet s f (height_of f f.height) r k h (omega (arith, signed, l)) m)
+set_apart s f below r up (inr h) l k w m = absurd (below_unmet s f (height_below f 0) r k h (omega (arith, signed)) m)
+
+-- up to the rows before one, to that, and to those after it
+pub set_rows : (s : Span) (f : Frame) (below row : ℕ) (up : List ℕ) → ((r : ℕ) → r < row → AreSetUp s f below up r)
+    → AreSetUp s f below up row → ((r : ℕ) → row < r → r ≤ f.height → AreSetUp s f below up r) → (r : ℕ) → r ≤ f.height
+    → AreSetUp s f below up r
+set_rows s f below row up under here over r h = by (below_same_above r row)
+  where
+    by : (r < row) ⊎ ((r ≡ row) ⊎ (row < r)) → AreSetUp s f below up r
+    by (inl l) = under r l
+    by (inr (inl e)) = subst (AreSetUp s f below up) (sym e) here
+    by (inr (inr l)) = over r l h

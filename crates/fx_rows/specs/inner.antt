@@ -13,4 +13,5 @@ pub mod Heights
 pub mod Told
 pub mod Telling
 pub mod Placing
+pub mod Segments
 pub mod Upward

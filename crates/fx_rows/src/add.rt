@@ -4,6 +4,9 @@ ghost use Rattle.std.specs.Prelude.{◌≡◌, ℕ, ◌+◌, ◌-◌, ◌*◌, �
 ghost use Rattle.fx_winding.specs.Winding.{Span, span_of};
 ghost use Rattle.fx_winding.specs.declared.frame.Frame.{Frame};
 ghost use Rattle.fx_rows.specs.inner.Arcs.{AreAreas};
+ghost use Rattle.fx_rows.specs.inner.Heights.{height_of};
+ghost use Rattle.fx_rows.specs.inner.Placing.{AreMet};
+ghost use Rattle.fx_rows.specs.inner.Points.{IsInner};
 ghost use Rattle.fx_rows.specs.inner.Strips.{base_place};
 ghost use Rattle.fx_rows.specs.inner.Inside.{IsOnInside};
 ghost use Rattle.fx_rows.specs.inner.Cuts.{IsCut};
@@ -17,7 +20,7 @@ use crate::bounded::{Bounded, bounds_of, rise_of};
 use crate::cells::Cut;
 use crate::counts::{add_before, add_run};
 use crate::cuts::{ArcCuts, ClearCuts, Cuts, FlatCuts, LineCuts};
-use crate::heights::{RowRange, rows_between, rows_met};
+use crate::heights::{Met, RowRange, rows_between, rows_met};
 use crate::intervals::met_part;
 use crate::marks::mark;
 use crate::noting::Noting;
@@ -192,14 +195,14 @@ fn add_inner_rows<N: Noting>(
     }
 }
 
-/// Adds what a piece gives to the rows of a band that it can touch.
+/// Adds what a piece gives to the rows of a band that it can touch, and returns those of them that pass between its ends.
 fn add_met_piece<N: Noting>(
     piece: &Piece,
     rows: RowRange,
     band: &mut Band,
     noter: &mut N,
     tally: &mut Tally,
-)
+) -> RowRange
     requires rows { rows.end ≤ band.old.frame.height }
     requires some { rows.first < rows.end }
     requires small { AreWithin (2 ^ 25 + 4 * rows.first) band.old.diff.items }
@@ -208,12 +211,17 @@ fn add_met_piece<N: Noting>(
     ensures of { (f : Frame) → N.IsOf noter.old f → N.IsOf noter.new f }
     ensures kept { (s : Span) (r : ℕ) → N.IsNotedAt noter.old s r → N.IsNotedAt noter.new s r }
     ensures told { AreRowsTold (N.IsTold noter.new) (span_of piece.now) band.old.frame rows.first rows.end }
+    ensures from { rows.first ≤ result.first }
+    ensures to { result.end ≤ rows.end }
+    ensures inner { (r : ℕ) → result.first ≤ r → r < result.end →
+        IsInner piece.now.a.y piece.now.c.y (height_of band.old.frame r) }
     ensures count { tally.new.count ≤ tally.old.count + 12 * (rows.end - rows.first) }
 {
     let rise = rise_of(piece);
     let inner = rows_between(rise, band.frame, rows);
     if inner.first >= inner.end {
-        return add_met_rows(piece, rows, band, tally);
+        add_met_rows(piece, rows, band, tally);
+        return inner;
     }
     let below = RowRange {
         first: rows.first,
@@ -226,20 +234,32 @@ fn add_met_piece<N: Noting>(
     add_met_rows(piece, below, band, tally);
     add_inner_rows(&bounds_of(piece, rise), inner, band, noter, tally);
     add_met_rows(piece, above, band, tally);
+    inner
 }
 
-/// Adds what a piece gives to a band, and tells where it ends in the rows between its ends.
-pub(crate) fn add_piece<N: Noting>(piece: &Piece, band: &mut Band, noter: &mut N, tally: &mut Tally)
+/// Adds what a piece gives to a band, and tells where it ends in the rows between its ends. Returns the rows that it can touch.
+pub(crate) fn add_piece<N: Noting>(
+    piece: &Piece,
+    band: &mut Band,
+    noter: &mut N,
+    tally: &mut Tally,
+) -> Met
     requires small { AreWithin (2 ^ 25) band.old.diff.items }
     ensures frame { band.new.frame ≡ band.old.frame }
     ensures added { IsBandAdded (span_of piece.now) band.old.frame 0 band.old.frame.height band.old band.new }
     ensures of { (f : Frame) → N.IsOf noter.old f → N.IsOf noter.new f }
     ensures kept { (s : Span) (r : ℕ) → N.IsNotedAt noter.old s r → N.IsNotedAt noter.new s r }
     ensures told { AreRowsTold (N.IsTold noter.new) (span_of piece.now) band.old.frame 0 band.old.frame.height }
+    ensures met { AreMet (span_of piece.now) band.old.frame result }
     ensures count { tally.new.count ≤ tally.old.count + 12 * band.old.frame.height }
 {
-    let rows = rows_met(piece, band.frame);
-    if rows.first < rows.end {
-        add_met_piece(piece, rows, band, noter, tally);
+    let touched = rows_met(piece, band.frame);
+    if touched.first >= touched.end {
+        return Met {
+            touched,
+            inner: touched,
+        };
     }
+    let inner = add_met_piece(piece, touched, band, noter, tally);
+    Met { touched, inner }
 }

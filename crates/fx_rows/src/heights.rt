@@ -6,6 +6,7 @@ ghost use Rattle.fx_winding.specs.Limits.{IsPixelNumber};
 ghost use Rattle.fx_winding.specs.Outside.{HasAll};
 ghost use Rattle.fx_winding.specs.Winding.{span_of};
 ghost use Rattle.fx_rows.specs.inner.Heights.{height_of, IsMissed};
+ghost use Rattle.fx_rows.specs.inner.Telling.{IsPartOf};
 
 use crate::bounded::Rise;
 use crate::narrow::{high_y, low_y};
@@ -17,6 +18,29 @@ pub(crate) struct RowRange {
     pub first: u32,
     pub end: u32,
     ghost order: { first ≤ end },
+}
+
+/// The rows of a frame that a piece can touch, and those of them that pass between its ends.
+#[derive(Clone, Copy)]
+pub(crate) struct Met {
+    pub touched: RowRange,
+    pub inner: RowRange,
+    ghost from: { touched.first ≤ inner.first },
+    ghost to: { inner.end ≤ touched.end },
+}
+
+/// The pixels of some rows of a frame.
+#[inline(always)]
+pub(crate) fn band_of(frame: Frame, rows: RowRange) -> Frame
+    requires { rows.end ≤ frame.height }
+    ensures { IsPartOf frame rows.first rows.end result }
+{
+    Frame {
+        left: frame.left,
+        bottom: frame.bottom + rows.first as i32,
+        width: frame.width,
+        height: rows.end - rows.first,
+    }
 }
 
 /// How many rows of a frame are below a row of the plane.
@@ -38,7 +62,7 @@ fn rows_below(frame: Frame, row: i32) -> u32
 }
 
 /// A number, or the end of a range that it lies beyond.
-pub(crate) fn clamped(n: u32, low: u32, high: u32) -> u32
+fn clamped(n: u32, low: u32, high: u32) -> u32
     requires { low ≤ high }
     ensures low { low ≤ result }
     ensures high { result ≤ high }
@@ -51,21 +75,6 @@ pub(crate) fn clamped(n: u32, low: u32, high: u32) -> u32
         high
     } else {
         n
-    }
-}
-
-/// Those rows of a range that are in another.
-pub(crate) fn rows_within(rows: RowRange, all: RowRange) -> RowRange
-    ensures first { all.first ≤ result.first }
-    ensures end { result.end ≤ all.end }
-    ensures inside { (r : ℕ) → result.first ≤ r → r < result.end → (rows.first ≤ r) × (r < rows.end) }
-    ensures outside { (r : ℕ) → all.first ≤ r → r < all.end → (r < result.first) ⊎ (result.end ≤ r) →
-        (r < rows.first) ⊎ (rows.end ≤ r) }
-{
-    let first = clamped(rows.first, all.first, all.end);
-    RowRange {
-        first,
-        end: clamped(rows.end, first, all.end),
     }
 }
 
@@ -104,11 +113,28 @@ pub(crate) fn rows_between(rise: Rise, frame: Frame, rows: RowRange) -> RowRange
     }
 }
 
+/// Whether all points of a piece are above the centres of a row.
+#[inline(always)]
+pub(crate) fn is_above(piece: &Piece, row: i32) -> bool
+    requires { IsWithin (2 ^ 16) row }
+    ensures { IsTrue result → HasAll (λ q. (pos 128 *ℤ row +ℤ pos 64) <ℤ q.y) (span_of piece.now) }
+{
+    128 * row + 64 < low_y(piece)
+}
+
+/// Whether all points of a piece are below the centres of a row.
+#[inline(always)]
+pub(crate) fn is_below(piece: &Piece, row: i32) -> bool
+    requires { IsWithin (2 ^ 16) row }
+    ensures { IsTrue result → HasAll (λ q. q.y <ℤ (pos 128 *ℤ row +ℤ pos 64)) (span_of piece.now) }
+{
+    high_y(piece) < 128 * row + 64
+}
+
 /// Whether the centres of a row lie below or above a piece.
 pub(crate) fn misses(piece: &Piece, row: i32) -> bool
     requires { IsPixelNumber row }
     ensures { IsTrue result → IsMissed (span_of piece.now) (pos 128 *ℤ row +ℤ pos 64) }
 {
-    let y = 128 * row + 64;
-    y < low_y(piece) || high_y(piece) < y
+    is_above(piece, row) || is_below(piece, row)
 }

@@ -1,17 +1,23 @@
 //! What pieces meet, noted while they are added to bands.
 
-ghost use Rattle.std.specs.Prelude.{◌≡◌, ◌≢◌, ◌<◌, ◌≤◌, length, IfOk};
+ghost use Rattle.std.specs.Prelude.{◌≡◌, ◌≢◌, ◌*◌, ◌<◌, ◌≤◌, length, IfOk};
+ghost use Rattle.fx_winding.specs.Bitmaps.{words_for as words_for_of};
 ghost use Rattle.fx_winding.specs.Notes.{IsNotedAcross, IsNotedUp};
+ghost use Rattle.fx_winding.specs.Winding.{span_of};
+ghost use Rattle.fx_winding.specs.declared.frame.Frame.{Frame};
+ghost use Rattle.fx_rows.specs.inner.Placing.{AreMet, IsPlaced};
+ghost use Rattle.fx_rows.specs.inner.Telling.{IsPartOf};
 ghost use Rattle.fx_rows.specs.inner.Told.{IsEndIn};
 
 use crate::band::MOST_ROWS;
-use crate::bounded::{bounds_of, rise_of};
-use crate::heights::RowRange;
+use crate::heights::{Met, RowRange, band_of};
+use crate::narrow::across_of;
 use crate::note_across::note_across;
 use crate::note_up::note_up;
 use crate::noting::Noting;
-use crate::placed::placed_in;
-use fx_winding::{Frame, Notes, Piece};
+use crate::placed::Placed;
+use crate::reach::reach_of;
+use fx_winding::{Frame, Notes, Piece, words_for};
 use std::alloc::{AllocError, Global};
 
 /// The segments noted so far, and the ends of the rows of the piece that is being added to a band, from the band's lowest.
@@ -34,6 +40,26 @@ impl Noter {
     }
 }
 
+/// A piece in some rows of a frame.
+#[inline(always)]
+fn placed_in(piece: &Piece, frame: Frame, rows: RowRange, met: Met) -> Placed
+    requires rows { rows.end ≤ frame.height }
+    requires met { (g : Frame) → IsPartOf frame rows.first rows.end g → AreMet (span_of piece.now) g met }
+    ensures part { IsPartOf frame rows.first rows.end result.frame }
+    ensures below { result.below ≡ rows.first * words_for_of frame.width }
+    ensures placed { IsPlaced (span_of piece.now) result }
+{
+    let band = band_of(frame, rows);
+    let across = across_of(piece);
+    Placed {
+        frame: band,
+        below: rows.first as usize * words_for(frame.width),
+        met,
+        across,
+        reach: reach_of(across, band),
+    }
+}
+
 impl Noting for Noter {
     ghost IsOf = { λ n f. n.notes.frame ≡ f };
 
@@ -47,10 +73,10 @@ impl Noting for Noter {
         self.ends[up as usize] = end;
     }
 
-    #[inline]
-    fn note(&mut self, piece: &Piece, frame: Frame, rows: RowRange) {
-        let placed = placed_in(bounds_of(piece, rise_of(piece)), frame);
-        note_across(&placed, rows, &self.ends, &mut self.notes.across);
-        note_up(&placed, rows, &self.ends, &mut self.notes.up);
+    #[inline(always)]
+    fn note(&mut self, piece: &Piece, frame: Frame, rows: RowRange, met: Met) {
+        let placed = placed_in(piece, frame, rows, met);
+        note_across(piece, placed, &self.ends, &mut self.notes.across);
+        note_up(piece, placed, &self.ends, &mut self.notes.up);
     }
 }

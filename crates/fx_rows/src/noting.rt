@@ -1,6 +1,6 @@
 //! What is noted of pieces while they are added to bands: nothing, or the segments that they meet.
 
-use crate::heights::RowRange;
+use crate::heights::{Met, RowRange};
 use fx_winding::{Frame, Piece};
 
 /// What is noted while a piece is added to the rows of a band, which are those of a frame from one to before another.
@@ -8,7 +8,8 @@ pub(crate) trait Noting {
     ghost use Rattle.std.specs.Prelude.{◌≡◌, ◌≢◌, ℕ, ◌<◌, ◌≤◌};
     ghost use Rattle.fx_winding.specs.Winding.{Span, span_of};
     ghost use Rattle.fx_winding.specs.declared.frame.Frame.{Frame};
-    ghost use Rattle.fx_rows.specs.inner.Told.{AreTold};
+    ghost use Rattle.fx_rows.specs.inner.Placing.{AreMet};
+    ghost use Rattle.fx_rows.specs.inner.Telling.{AreRowsTold, IsPartOf};
 
     // The frame is the one of which segments are noted.
     ghost IsOf: { Self → Frame → Type 0 };
@@ -26,11 +27,14 @@ pub(crate) trait Noting {
         ensures others { (r n : ℕ) → r ≢ up → IsTold self.old r n → IsTold self.new r n }
         ensures kept { (s : Span) (r : ℕ) → IsNotedAt self.old s r → IsNotedAt self.new s r };
 
-    /// Notes the segments that a piece meets in a band, of whose rows those between its ends were told.
-    fn note(&mut self, piece: &Piece, frame: Frame, rows: RowRange)
+    /// Notes the segments that a piece meets in a band, of whose rows those between its ends were told. `met` counts the rows from
+    /// the band's lowest.
+    fn note(&mut self, piece: &Piece, frame: Frame, rows: RowRange, met: Met)
         requires frame { IsOf self.old frame }
         requires rows { rows.end ≤ frame.height }
-        requires told { AreTold (IsTold self.old) (span_of piece.now) frame rows.first rows.end }
+        requires met { (g : Frame) → IsPartOf frame rows.first rows.end g → AreMet (span_of piece.now) g met }
+        requires told { (g : Frame) → IsPartOf frame rows.first rows.end g →
+            AreRowsTold (IsTold self.old) (span_of piece.now) g 0 g.height }
         ensures frame { (f : Frame) → IsOf self.old f → IsOf self.new f }
         ensures noted { (r : ℕ) → rows.first ≤ r → r < rows.end → IsNotedAt self.new (span_of piece.now) r }
         ensures top { rows.end ≡ frame.height → IsNotedAt self.new (span_of piece.now) frame.height }
@@ -52,5 +56,5 @@ impl Noting for NoNotes {
     fn tell(&mut self, _up: u32, _end: u32) {}
 
     #[inline(always)]
-    fn note(&mut self, _piece: &Piece, _frame: Frame, _rows: RowRange) {}
+    fn note(&mut self, _piece: &Piece, _frame: Frame, _rows: RowRange, _met: Met) {}
 }

@@ -1,35 +1,38 @@
-//! Pieces in a frame.
+//! Pieces in a band of rows, as those who note segments see them.
 
-ghost use Rattle.std.specs.Prelude.{◌≡◌};
-ghost use Rattle.fx_rows.specs.inner.Placing.{IsPlaced};
+ghost use Rattle.std.specs.Prelude.{◌≡◌, ◌+◌, ◌*◌, ◌^◌, ◌≤◌};
+ghost use Rattle.fx_winding.specs.Bitmaps.{words_for as words_for_of};
 
-use crate::bounded::Bounded;
-use crate::heights::{RowRange, rows_between, rows_met};
-use crate::reach::{Reach, reach_of};
-use fx_winding::Frame;
+use crate::across::Across;
+use crate::heights::Met;
+use crate::reach::Reach;
+use fx_winding::{Frame, words_for};
 
-/// A piece in a frame: the rows that it can touch, those of them that pass between its ends, and the columns within its box.
+/// A piece in a band, which is some rows of a frame.
 #[derive(Clone, Copy)]
 pub(crate) struct Placed {
-    pub bounded: Bounded,
+    /// The band's pixels.
     pub frame: Frame,
-    pub touched: RowRange,
-    pub inner: RowRange,
+    /// How many words the notes of the rows below the band take.
+    pub below: usize,
+    /// The rows that the piece can touch.
+    pub met: Met,
+    /// The columns of the piece's box.
+    pub across: Across,
+    /// Those of them that the band has.
     pub reach: Reach,
+    ghost few: { below ≤ 2 ^ 22 },
+    ghost rows: { met.touched.end ≤ frame.height },
+    ghost order: { reach.first ≤ reach.end },
+    ghost columns: { reach.end ≤ frame.width },
 }
 
-/// A piece in a frame.
-pub(crate) fn placed_in(bounded: Bounded, frame: Frame) -> Placed
-    ensures bounded { result.bounded ≡ bounded }
-    ensures frame { result.frame ≡ frame }
-    ensures placed { IsPlaced result }
+/// The number of the first segment of a band's row, that to its first pixel.
+#[inline(always)]
+pub(crate) fn first_of(placed: Placed, up: u32) -> usize
+    requires { up ≤ placed.frame.height }
+    ensures value { result ≡ 32 * placed.below + up * (32 * words_for_of placed.frame.width) }
+    ensures few { result ≤ 2 ^ 28 }
 {
-    let touched = rows_met(&bounded.piece, frame);
-    Placed {
-        bounded,
-        frame,
-        touched,
-        inner: rows_between(bounded.rise, frame, touched),
-        reach: reach_of(bounded.across, frame),
-    }
+    32 * (placed.below + up as usize * words_for(placed.frame.width))
 }

@@ -1,11 +1,9 @@
 -- Where a piece's columns end in a row between its ends, as it is told to those who note segments; and bits that stay set.
-use Rattle.std.specs.Prelude.{◌≡◌, ℕ, ◌-◌, ◌≤◌, ◌<◌, ℤ, pos, negsuc, ◌+ℤ◌, int_lt, if◌then◌else◌, List, length, slice_index_or}
+use Rattle.std.specs.Prelude.{◌≡◌, ℕ, ◌≤◌, ◌<◌, ℤ, pos, negsuc, ◌+ℤ◌, int_lt, if◌then◌else◌, List, length, slice_index_or}
 use Rattle.fx_winding.specs.declared.frame.Frame.{Frame}
 use Rattle.fx_winding.specs.Bitmaps.{word_bit}
 use Rattle.fx_winding.specs.Meets.{turn}
 use Rattle.fx_winding.specs.Winding.{Span, IsOn, centre}
-use Rattle.fx_rows.specs.inner.Heights.{height_of}
-use Rattle.fx_rows.specs.inner.Points.{IsInner}
 
 -- what a piece adds left of it in a row between its ends: 1 if its chord rises, and else -1
 abbrev pub rise_value : Span → ℤ
@@ -18,13 +16,6 @@ pub record IsEnd (s : Span) (f : Frame) (r n : ℕ) : Type 0 where
       → turn (centre (f.left +ℤ pos k) (f.bottom +ℤ pos r)) s ≡ rise_value s
   pub right : (k : ℕ) → n ≤ k → k < f.width → ¬ (IsOn (centre (f.left +ℤ pos k) (f.bottom +ℤ pos r)) s)
       → turn (centre (f.left +ℤ pos k) (f.bottom +ℤ pos r)) s ≡ pos 0
-
--- the ends of the rows from one to before another that are between the ends of the piece are told, each by its row's number from
--- the first of these
-pub record AreTold (IsTold : ℕ → ℕ → Type 0) (s : Span) (f : Frame) (from to : ℕ) : Type 0 where
-  pub end : ℕ → ℕ
-  pub told : (r : ℕ) → from ≤ r → r < to → IsInner s.a.y s.c.y (height_of f r) → IsTold (r - from) (end r)
-  pub is : (r : ℕ) → from ≤ r → r < to → IsInner s.a.y s.c.y (height_of f r) → IsEnd s f r (end r)
 
 -- the end at a place of a list
 abbrev pub IsEndIn : List ℕ → ℕ → ℕ → Type 0

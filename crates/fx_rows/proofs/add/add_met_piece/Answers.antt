@@ -67,3 +67,13 @@ returns-clause-told g c =
     (subst (λ (p : Piece). AreRowsTold T (span_of p) f r.first r.end) c.bounds_of.ensures.piece
     (subst (λ (x : Frame). AreRowsTold T (span_of c.bounds_of.result.piece) x r.first r.end) c.add_met_rows-2.ensures.frame
     c.add_inner_rows.ensures.told))
+
+pub returns-then-inner-clause-inner : goal.returns-then-inner-clause-inner
+returns-then-inner-clause-inner g c = λ r h l. absurd (omega (arith, h, l))
+
+pub returns-clause-inner : goal.returns-clause-inner
+returns-clause-inner g c = λ r h l.
+    let e = c.rise_of-rise.result in
+    let i = c.rows_between-inner.ensures in
+    rise_inner (span_of c.args.piece.now) e.foot e.head e.value (height_of c.args.band.now.frame r) c.rise_of-rise.ensures
+    (i.foot r h l) (i.head r h l)

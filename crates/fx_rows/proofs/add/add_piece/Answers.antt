@@ -8,49 +8,69 @@ use Rattle.fx_rows.proofs.Banding.{band_three, band_missed}
 use Rattle.fx_rows.proofs.Telling.{told_none, told_beside, not_inner_missed}
 use Rattle.fx_rows.proofs.add.add_piece.Goals as goal
 
-pub returns-then-rows-clause-added : goal.returns-then-rows-clause-added
-returns-then-rows-clause-added g c =
+pub returns-clause-added : goal.returns-clause-added
+returns-clause-added g c =
     let s = span_of c.args.piece.now in
     let old = c.args.band.now in
     let f = old.frame in
-    let r = c.rows_met-rows.result in
-    let m = c.rows_met-rows.ensures in
-    let new = c.add_met_piece.new.band in
-    band_three s 0 r.first r.end f.height old old new new (omega arith) r.order m.within refl c.add_met_piece.ensures.frame
+    let r = c.rows_met-touched.result in
+    let m = c.rows_met-touched.ensures in
+    let new = c.add_met_piece-inner.new.band in
+    band_three s 0 r.first r.end f.height old old new new (omega arith) r.order m.within refl c.add_met_piece-inner.ensures.frame
     (band_missed s f 0 r.first old (omega arith) (λ k h l. m.missed k (omega (arith, m.within, r.order)) (inl l)))
-    c.add_met_piece.ensures.added
-    (subst (λ (x : Frame). IsBandAdded s x r.end f.height new new) (sym c.add_met_piece.ensures.frame)
+    c.add_met_piece-inner.ensures.added
+    (subst (λ (x : Frame). IsBandAdded s x r.end f.height new new) (sym c.add_met_piece-inner.ensures.frame)
     (band_missed s f r.end f.height new m.within (λ k h l. m.missed k l (inr h))))
 
-pub returns-else-rows-clause-added : goal.returns-else-rows-clause-added
-returns-else-rows-clause-added g c =
-    let r = c.rows_met-rows.result in
-    let m = c.rows_met-rows.ensures in
+pub returns-then-touched-clause-added : goal.returns-then-touched-clause-added
+returns-then-touched-clause-added g c =
+    let r = c.rows_met-touched.result in
+    let m = c.rows_met-touched.ensures in
     band_missed (span_of c.args.piece.now) c.args.band.now.frame 0 c.args.band.now.frame.height c.args.band.now (omega arith)
     (λ k h l. m.missed k l (by k (below_or_not k r.first)))
   where
-    by : (k : ℕ) → (k < c.rows_met-rows.result.first) ⊎ (c.rows_met-rows.result.first ≤ k)
-        → (k < c.rows_met-rows.result.first) ⊎ (c.rows_met-rows.result.end ≤ k)
+    by : (k : ℕ) → (k < c.rows_met-touched.result.first) ⊎ (c.rows_met-touched.result.first ≤ k)
+        → (k < c.rows_met-touched.result.first) ⊎ (c.rows_met-touched.result.end ≤ k)
     by k (inl h) = inl h
     by k (inr h) = inr (omega arith)
 
-pub returns-then-rows-clause-told : goal.returns-then-rows-clause-told
-returns-then-rows-clause-told g c =
+pub returns-clause-told : goal.returns-clause-told
+returns-clause-told g c =
     let s = span_of c.args.piece.now in
     let f = c.args.band.now.frame in
-    let r = c.rows_met-rows.result in
-    let m = c.rows_met-rows.ensures in
-    told_beside (g.N.Noting.IsTold c.add_met_piece.new.noter) s f 0 r.first r.end f.height
+    let r = c.rows_met-touched.result in
+    let m = c.rows_met-touched.ensures in
+    told_beside (g.N.Noting.IsTold c.add_met_piece-inner.new.noter) s f 0 r.first r.end f.height
     (λ k h l. not_inner_missed s (height_of f k) (m.missed k (omega (arith, m.within, r.order)) (inl l)))
-    (λ k h l. not_inner_missed s (height_of f k) (m.missed k l (inr h))) c.add_met_piece.ensures.told
+    (λ k h l. not_inner_missed s (height_of f k) (m.missed k l (inr h))) c.add_met_piece-inner.ensures.told
 
-pub returns-else-rows-clause-told : goal.returns-else-rows-clause-told
-returns-else-rows-clause-told g c =
+pub returns-then-touched-clause-told : goal.returns-then-touched-clause-told
+returns-then-touched-clause-told g c =
     let s = span_of c.args.piece.now in
     let f = c.args.band.now.frame in
-    let r = c.rows_met-rows.result in
-    let m = c.rows_met-rows.ensures in
+    let r = c.rows_met-touched.result in
+    let m = c.rows_met-touched.ensures in
     let T = g.N.Noting.IsTold c.args.noter.now in
     told_beside T s f 0 r.first r.end f.height
     (λ k h l. not_inner_missed s (height_of f k) (m.missed k (omega (arith, m.within, r.order)) (inl l)))
     (λ k h l. not_inner_missed s (height_of f k) (m.missed k l (inr h))) (told_none T s f r.first r.end (omega arith))
+
+pub returns-then-touched-clause-met : goal.returns-then-touched-clause-met
+returns-then-touched-clause-met g c =
+    let m = c.rows_met-touched.ensures in
+    record {
+      below = m.below;
+      above = m.above;
+      within = m.within;
+      inner = λ r l o. absurd (omega (arith, l, o));
+    }
+
+pub returns-clause-met : goal.returns-clause-met
+returns-clause-met g c =
+    let m = c.rows_met-touched.ensures in
+    record {
+      below = m.below;
+      above = m.above;
+      within = m.within;
+      inner = c.add_met_piece-inner.ensures.inner;
+    }

@@ -7,7 +7,7 @@ use Rattle.fx_rows.proofs.note_up.is_chord_wide.Goals as goal
 
 pub first_from-requires-2 : goal.first_from-requires-2
 first_from-requires-2 c =
-    let p = c.args.bounded.now.piece in
+    let p = c.args.piece.now in
     let high = c.max.ensures.value in
     record {
       near = (
@@ -18,14 +18,14 @@ first_from-requires-2 c =
 
 pub returns : goal.returns
 returns c = λ t col h l.
-    let p = c.args.bounded.now.piece in
+    let p = c.args.piece.now in
     let a = p.a.x in
     let e = p.c.x in
-    let across = c.args.bounded.now.across in
+    let across = c.args.across in
     let from : c.first_from.result ≤ℤ col =
-    omega (arith, signed_linear, c.if-bounded-first_from.false, c.first_from.ensures.size, across.near_first, h) in
+    omega (arith, signed_linear, c.if-across-first_from.false, c.first_from.ensures.size, across.near_first, h) in
     let before : col <ℤ c.first_from-2.result =
-    omega (arith, signed_linear, c.if-first_from-bounded.false, c.first_from-2.ensures.size, across.near_end, l) in
+    omega (arith, signed_linear, c.if-first_from-across.false, c.first_from-2.ensures.size, across.near_end, l) in
     let low = c.first_from.ensures.from col from in
     let high = c.first_from-2.ensures.before col before in
     let least : c.min.result ≡ int_min a e = omega (arith, signed_linear, clamps, c.min.ensures.value, p.a.near_x, p.c.near_x) in

@@ -1,25 +1,23 @@
 use Rattle.std.proofs.Common.{arith}
-use Rattle.fx_rows.proofs.Upward.{band_noted, reach_columns}
+use Rattle.fx_winding.specs.Winding.{span_of}
+use Rattle.fx_rows.proofs.Upward.{reach_columns, set_apart, set_below, set_above}
 use Rattle.fx_rows.proofs.note_up.note_up.Goals as goal
 
 pub returns-then-placed-clause-noted : goal.returns-then-placed-clause-noted
-returns-then-placed-clause-noted c = λ r h l k m met.
-    let o = reach_columns c.args.placed.now c.requires.placed r k m met in
-    absurd (omega (arith, o.0, o.1, c.if-placed.true))
+returns-then-placed-clause-noted c = λ r h k w m.
+    let at = reach_columns (span_of c.args.piece.now) c.args.placed c.requires.placed r k w m in
+    absurd (omega (arith, at.0, at.1, c.if-placed.true))
 
-pub returns-then-placed-clause-top : goal.returns-then-placed-clause-top
-returns-then-placed-clause-top c = λ e k m met.
-    let p = c.args.placed.now in
-    let o = reach_columns p c.requires.placed p.frame.height k m met in
-    absurd (omega (arith, o.0, o.1, c.if-placed.true))
+pub returns-then-is_apart-clause-noted : goal.returns-then-is_apart-clause-noted
+returns-then-is_apart-clause-noted c = λ r h.
+    let p = c.args.placed in
+    set_apart (span_of c.args.piece.now) p.frame p.below r c.args.up.now (c.is_apart.ensures c.if-is_apart.true) h
 
 pub returns-clause-noted : goal.returns-clause-noted
-returns-clause-noted c = λ r h l.
-    band_noted c.args.placed.now c.args.rows c.note_touched.new.up c.requires.rows c.requires.placed c.note_touched.ensures.noted
-    r h (omega arith) (λ e. absurd (omega arith))
-
-pub returns-clause-top : goal.returns-clause-top
-returns-clause-top c = λ e.
-    let p = c.args.placed.now in
-    band_noted p c.args.rows c.note_touched.new.up c.requires.rows c.requires.placed c.note_touched.ensures.noted p.frame.height
-    (omega (arith, c.args.rows.order, c.requires.rows)) (omega (arith, e)) (λ o. e)
+returns-clause-noted c = λ r h.
+    let s = span_of c.args.piece.now in
+    let p = c.args.placed in
+    let is = c.requires.placed in
+    let up = c.note_box.new.up in
+    set_below s p.frame p.met p.below r up is.met (λ a. set_above s p.frame p.met p.below r up is.met h
+    (λ b. c.note_box.ensures.noted s is r a (omega (arith, b))))

@@ -8,11 +8,12 @@ use Rattle.fx_winding.specs.declared.frame.Frame.{Frame}
 use Rattle.fx_winding.specs.Winding.{Span, span_of, centre, winding, IsOn}
 use Rattle.fx_rows.specs.inner.Sums.{before, AreWithin}
 use Rattle.fx_rows.specs.inner.Bands.{stride, turns_at, mark_at, IsBandAdded}
+use Rattle.fx_rows.specs.inner.Placing.{AreMet}
 use Rattle.fx_rows.specs.inner.Telling.{AreRowsTold, AreNotedIn}
 use Rattle.fx_rows.proofs.Counted.{counted_start, counted_more, counted_all, count_more, within_none}
 use Rattle.fx_rows.proofs.Banding.{IsNumber, number_or_not}
 use Rattle.fx_rows.proofs.Sums.{before_none}
-use Rattle.fx_rows.proofs.Telling.{told_whole, noted_start, noted_kept, noted_more}
+use Rattle.fx_rows.proofs.Telling.{told_same, met_same, noted_start, noted_kept, noted_more}
 use Rattle.fx_rows.proofs.rows.count_band.Goals as goal
 
 pub pieces-init : goal.pieces-init
@@ -36,22 +37,28 @@ pieces-init g c =
       count = omega arith;
     }
 
-pub add_piece-requires : goal.add_piece-requires
-add_piece-requires g c =
+pub add_piece-met-requires : goal.add_piece-met-requires
+add_piece-met-requires g c =
     let l : length c.args.pieces.now ≤ 65536 = c.requires.few in
     record {
       small = λ k. let e = c.pieces.invariant.small k in (omega (arith, signed_linear, e, l), omega (arith, signed_linear, e, l));
     }
 
-pub note-requires-clause-told : goal.note-requires-clause-told
-note-requires-clause-told g c =
+pub note-requires-clause-met : goal.note-requires-clause-met
+note-requires-clause-met g c = λ f part.
     let s = span_of c.piece-item.result in
-    let T = g.N.Noting.IsTold c.add_piece.new.noter in
-    told_whole T s c.args.frame c.args.band.now.frame c.args.rows.first c.args.rows.end c.requires.part
-    (subst (λ (f : Frame). AreRowsTold T s f 0 f.height) c.pieces.invariant.frame c.add_piece.ensures.told)
+    met_same s c.args.frame c.args.band.now.frame f c.args.rows.first c.args.rows.end c.add_piece-met.result c.requires.part part
+    (subst (λ (f : Frame). AreMet s f c.add_piece-met.result) c.pieces.invariant.frame c.add_piece-met.ensures.met)
+
+pub note-requires-clause-told : goal.note-requires-clause-told
+note-requires-clause-told g c = λ f part.
+    let s = span_of c.piece-item.result in
+    let T = g.N.Noting.IsTold c.add_piece-met.new.noter in
+    told_same T s c.args.frame c.args.band.now.frame f c.args.rows.first c.args.rows.end c.requires.part part
+    (subst (λ (f : Frame). AreRowsTold T s f 0 f.height) c.pieces.invariant.frame c.add_piece-met.ensures.told)
 
 pub note-requires-clause-frame : goal.note-requires-clause-frame
-note-requires-clause-frame g c = c.add_piece.ensures.of c.args.frame (c.pieces.invariant.of c.args.frame c.requires.of)
+note-requires-clause-frame g c = c.add_piece-met.ensures.of c.args.frame (c.pieces.invariant.of c.args.frame c.requires.of)
 
 pub pieces-preserved : goal.pieces-preserved
 pieces-preserved g c =
@@ -62,18 +69,18 @@ pieces-preserved g c =
     let piece = c.piece-item.result in
     let s = span_of piece in
     let old = c.pieces.band in
-    let new = c.add_piece.new.band in
+    let new = c.add_piece-met.new.band in
     let inside : here < length spans = omega (arith, length-map c.args.pieces.now span_of) in
     let is : s ≡ get_or spans here s =
     ap span_of c.piece-item.is ∙ sym (get_or-map span_of c.args.pieces.now here piece) in
-    let more = subst (λ (x : Frame). IsBandAdded s x 0 x.height old new) inv.frame c.add_piece.ensures.added in
+    let more = subst (λ (x : Frame). IsBandAdded s x 0 x.height old new) inv.frame c.add_piece-met.ensures.added in
     let few = c.args.band.now.few in
     let high = ap (λ (x : Frame). x.height) inv.frame in
-    let n = c.add_piece.ensures.count in
+    let n = c.add_piece-met.ensures.count in
     let whole : 512 * here ≡ 512 * here + 4 * 0 = omega arith in
-    let each : c.add_piece.new.tally.count ≤ c.pieces.tally.count + 12 * f.height = omega (arith, n, high) in
+    let each : c.add_piece-met.new.tally.count ≤ c.pieces.tally.count + 12 * f.height = omega (arith, n, high) in
     record {
-      frame = c.add_piece.ensures.frame ∙ inv.frame;
+      frame = c.add_piece-met.ensures.frame ∙ inv.frame;
       counted = λ r k h l. counted_more spans here s (centre (f.left +ℤ pos k) (f.bottom +ℤ pos r))
           (mark_at old (r * stride f.width + k)) (mark_at new (r * stride f.width + k))
           (turns_at old (r * stride f.width + k)) (turns_at new (r * stride f.width + k)) (more.added r k (omega arith) h l)
@@ -83,14 +90,14 @@ pieces-preserved g c =
       touched = more.touches inv.touched;
       small = λ k. let e = more.grown (512 * here) (subst (λ (n : ℕ). AreWithin n old.diff.items) whole inv.small) k in
           (omega (arith, signed_linear, e, few), omega (arith, signed_linear, e, few));
-      of = λ f h. c.note.ensures.frame f (c.add_piece.ensures.of f (inv.of f h));
-      kept = λ t r h. c.note.ensures.kept t r (c.add_piece.ensures.kept t r (inv.kept t r h));
+      of = λ f h. c.note.ensures.frame f (c.add_piece-met.ensures.of f (inv.of f h));
+      kept = λ t r h. c.note.ensures.kept t r (c.add_piece-met.ensures.kept t r (inv.kept t r h));
       noted = noted_more (g.N.Noting.IsNotedAt c.note.new.self) spans c.args.frame c.args.rows.first c.args.rows.end here s inside
           is (noted_kept (g.N.Noting.IsNotedAt c.pieces.noter) (g.N.Noting.IsNotedAt c.note.new.self) (take here spans)
           c.args.frame c.args.rows.first c.args.rows.end
-          (λ t r h. c.note.ensures.kept t r (c.add_piece.ensures.kept t r h)) inv.noted)
+          (λ t r h. c.note.ensures.kept t r (c.add_piece-met.ensures.kept t r h)) inv.noted)
           (record { rows = c.note.ensures.noted; top = c.note.ensures.top });
-      count = count_more c.args.tally.now.count c.pieces.tally.count c.add_piece.new.tally.count here (12 * f.height)
+      count = count_more c.args.tally.now.count c.pieces.tally.count c.add_piece-met.new.tally.count here (12 * f.height)
           inv.count each;
     }
 

@@ -1,35 +1,78 @@
-use Rattle.std.proofs.Common.{◌≡◌, ◌∙◌, sym, ap, subst, arith}
+use Rattle.std.proofs.Common.{◌≡◌, ◌∙◌, ◌*◌, sym, ap, subst, ℕ, List, length, arith}
 use Rattle.std.proofs.lemmas.List.{with_items_is}
+use Rattle.fx_winding.specs.Bitmaps.{words_for}
 use Rattle.fx_winding.specs.Notes.{IsNotedAcross, IsNotedUp}
 use Rattle.fx_winding.specs.Winding.{span_of}
 use Rattle.fx_winding.specs.declared.frame.Frame.{Frame}
-use Rattle.fx_rows.specs.inner.Bands.{bounded_span}
-use Rattle.fx_rows.specs.inner.Told.{AreKept}
+use Rattle.fx_rows.specs.inner.Telling.{AreRowsTold, IsPartOf}
+use Rattle.fx_rows.specs.inner.Told.{AreKept, IsEndIn}
+use Rattle.fx_rows.proofs.Segments.{room_across, room_up, across_whole, up_whole}
 use Rattle.fx_rows.proofs.noter.NoterNoting.note.Goals as goal
+
+-- the band is rows of the frame that is noted
+record IsBandOf (f g : Frame) (from to below : ℕ) : Type 0 where
+  part : IsPartOf f from to g
+  first : below ≡ from * words_for f.width
+
+band_of : {n f g : Frame} {from to below : ℕ} → n ≡ f → IsPartOf f from to g → below ≡ from * words_for f.width
+    → IsBandOf n g from to below
+band_of {n} {f} {g} {from} {to} {below} same part first =
+    subst (λ (x : Frame). IsBandOf x g from to below) (sym same) (record { part = part; first = first })
+
+pub note_across-requires-clause-told : goal.note_across-requires-clause-told
+note_across-requires-clause-told c =
+    let p = c.placed_in-placed.result in
+    subst (λ (xs : List ℕ). AreRowsTold (IsEndIn xs) (span_of c.args.piece.now) p.frame 0 p.frame.height) (sym c.deref.ensures.value)
+    (c.requires.told p.frame c.placed_in-placed.ensures.part)
+
+pub note_up-requires-clause-told : goal.note_up-requires-clause-told
+note_up-requires-clause-told c =
+    let p = c.placed_in-placed.result in
+    subst (λ (xs : List ℕ). AreRowsTold (IsEndIn xs) (span_of c.args.piece.now) p.frame 0 p.frame.height)
+    (sym c.deref-2.ensures.value) (c.requires.told p.frame c.placed_in-placed.ensures.part)
+
+pub note_across-requires-clause-room : goal.note_across-requires-clause-room
+note_across-requires-clause-room c =
+    let n = c.args.self.now.notes in
+    let p = c.placed_in-placed.result in
+    let is = band_of c.requires.frame c.placed_in-placed.ensures.part c.placed_in-placed.ensures.below in
+    room_across n.frame p.frame c.args.rows.first c.args.rows.end p.below (length c.deref_mut.result.now) is.part is.first
+    (ap length c.deref_mut.ensures.value ∙ n.across_room)
+
+pub note_up-requires-clause-room : goal.note_up-requires-clause-room
+note_up-requires-clause-room c =
+    let n = c.args.self.now.notes in
+    let p = c.placed_in-placed.result in
+    let is = band_of c.requires.frame c.placed_in-placed.ensures.part c.placed_in-placed.ensures.below in
+    room_up n.frame p.frame c.args.rows.first c.args.rows.end p.below (length c.deref_mut-2.result.now) is.part is.first
+    (ap length c.deref_mut-2.ensures.value ∙ n.up_room)
 
 pub returns-clause-noted : goal.returns-clause-noted
 returns-clause-noted c = λ r l m.
     let n = c.args.self.now.notes in
+    let s = span_of c.args.piece.now in
+    let p = c.placed_in-placed.result in
+    let is = band_of c.requires.frame c.placed_in-placed.ensures.part c.placed_in-placed.ensures.below in
     let a = sym (with_items_is n.across c.note_across.new.across (omega arith)) in
-    let u = sym (with_items_is n.up c.note_up.new.up (omega arith)) in
-    let f = c.placed_in-placed.ensures.frame ∙ sym c.requires.frame in
-    let s : bounded_span c.placed_in-placed.result.bounded ≡ span_of c.args.piece.now =
-    ap bounded_span c.placed_in-placed.ensures.bounded ∙ ap span_of c.bounds_of.ensures.piece in (
-      λ o. subst (λ z. z) (λ i. IsNotedAcross (s i) (f i) (a i) r) (c.note_across.ensures.noted r l m),
-      λ o. subst (λ z. z) (λ i. IsNotedUp (s i) (f i) (u i) r) (c.note_up.ensures.noted r l m),
+    let u = sym (with_items_is n.up c.note_up.new.up (omega arith)) in (
+      λ o. subst (λ (xs : List ℕ). IsNotedAcross s n.frame xs r) a (across_whole s n.frame p.frame c.args.rows.first c.args.rows.end
+          p.below c.note_across.new.across is.part is.first c.note_across.ensures.noted r l m),
+      λ o. subst (λ (xs : List ℕ). IsNotedUp s n.frame xs r) u (up_whole s n.frame p.frame c.args.rows.first c.args.rows.end
+          p.below c.note_up.new.up is.part is.first c.note_up.ensures.noted r l (omega (arith, m))),
     )
 
 pub returns-clause-top : goal.returns-clause-top
 returns-clause-top c = λ e.
     let n = c.args.self.now.notes in
+    let s = span_of c.args.piece.now in
+    let p = c.placed_in-placed.result in
+    let is = band_of c.requires.frame c.placed_in-placed.ensures.part c.placed_in-placed.ensures.below in
     let u = sym (with_items_is n.up c.note_up.new.up (omega arith)) in
-    let f = c.placed_in-placed.ensures.frame ∙ sym c.requires.frame in
-    let at = ap (λ (f : Frame). f.height) c.placed_in-placed.ensures.frame in
-    let high = ap (λ (f : Frame). f.height) c.requires.frame in
-    let s : bounded_span c.placed_in-placed.result.bounded ≡ span_of c.args.piece.now =
-    ap bounded_span c.placed_in-placed.ensures.bounded ∙ ap span_of c.bounds_of.ensures.piece in (
+    let high = ap (λ (f : Frame). f.height) c.requires.frame in (
       λ o. absurd (omega (arith, o, high)),
-      λ o. subst (λ z. z) (λ i. IsNotedUp (s i) (f i) (u i) (at i)) (c.note_up.ensures.top (e ∙ sym at)),
+      λ o. subst (λ (xs : List ℕ). IsNotedUp s n.frame xs c.args.frame.height) u (up_whole s n.frame p.frame c.args.rows.first
+          c.args.rows.end p.below c.note_up.new.up is.part is.first c.note_up.ensures.noted c.args.frame.height
+          (omega (arith, e, c.args.rows.order)) (omega (arith, e))),
     )
 
 pub returns-clause-kept : goal.returns-clause-kept

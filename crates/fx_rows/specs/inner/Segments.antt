@@ -1,0 +1,18 @@
+-- The segments of the rows of a band, noted among those of the whole frame.
+use Rattle.std.specs.Prelude.{◌≡◌, ℕ, ◌+◌, ◌*◌, ◌≤◌, ◌<◌, List}
+use Rattle.fx_winding.specs.declared.frame.Frame.{Frame}
+use Rattle.fx_winding.specs.Bitmaps.{word_bit}
+use Rattle.fx_winding.specs.Notes.{pixel_number, IsMetAcross, IsMetUp}
+use Rattle.fx_winding.specs.Winding.{Span}
+
+-- the number of a segment by its row and its column of a band; the notes of the rows below the band take so many words
+abbrev pub segment_number : Frame → ℕ → ℕ → ℕ → ℕ
+segment_number f below r k = 32 * below + pixel_number f r k
+
+-- the segments that a piece meets in a row of a band have their bits
+abbrev pub AreSetAcross : Span → Frame → ℕ → List ℕ → ℕ → Type 0
+AreSetAcross s f below across r = (k : ℕ) → k ≤ f.width → IsMetAcross s f r k → word_bit across (segment_number f below r k) ≡ 1
+
+-- the segments that it meets between that row and the one below have their bits
+abbrev pub AreSetUp : Span → Frame → ℕ → List ℕ → ℕ → Type 0
+AreSetUp s f below up r = (k : ℕ) → k < f.width → IsMetUp s f r k → word_bit up (segment_number f below r k) ≡ 1
