@@ -1,8 +1,6 @@
-use Rattle.std.proofs.Common.{◌≡◌, ◌⊎◌, inl, inr, ◌<◌, ◌≤◌, ℕ, refl, arith, w32, to_z, of_z}
+use Rattle.std.proofs.Common.{◌≡◌, arith, w32, to_z, of_z}
 use Rattle.fx_fixed.proofs.Linear.{signed_linear}
-use Rattle.fx_fixed.proofs.Order.{below_or_not}
 use Rattle.fx_winding.specs.Winding.{span_of}
-use Rattle.fx_rows.specs.inner.Segments.{AreSetUp}
 use Rattle.fx_rows.proofs.Upward.{foot_within, within_more, reach_columns, set_under, set_below}
 use Rattle.fx_rows.proofs.note_up.note_foot.Goals as goal
 
