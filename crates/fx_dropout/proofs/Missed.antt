@@ -1,7 +1,7 @@
--- Pieces of a list that meet a segment, as they are or with their coordinates exchanged.
+-- Pieces of a list that meet a segment, as they are or with their coordinates exchanged, and pieces that add nothing at a place.
 -- Serves `gaps`.
-use Rattle.std.proofs.Common.{◌≡◌, ◌↔◌, IsTrue, inl, inr, refl, sym, ap, subst, ℕ, ◌<◌, ℤ, pos, ◌+ℤ◌, Bool, true, false, List, [], ◌∷◌}
-use Rattle.std.proofs.Common.{◌≤ℤ◌, ◌*ℤ◌, arith, All, Any, map, length, get_or}
+use Rattle.std.proofs.Common.{◌≡◌, ◌↔◌, IsTrue, inl, inr, refl, sym, ap, subst, ℕ, ◌<◌, ℤ, pos, ◌+ℤ◌, Bool, true, false, List, []}
+use Rattle.std.proofs.Common.{◌∷◌, ◌≤ℤ◌, ◌*ℤ◌, arith, All, Any, map, length, get_or}
 use Rattle.fx_fixed.proofs.Linear.{signed}
 use Rattle.fx_winding.specs.Area.{Place}
 use Rattle.fx_winding.specs.Dropout.{turned_span}

@@ -22,7 +22,7 @@ fn row_above(frame: Frame, i: i32) -> i32
     ensures either { IsOneOf i result }
 {
     let last = frame.bottom + (frame.height - 1) as i32;
-    if i < last { i + 1 } else { last }
+    if i < last { i + 1 } else { i }
 }
 
 /// Closes the gaps between a row and the one above it: each by the pixel in the row `at`. Of two rows one of which lies outside the
