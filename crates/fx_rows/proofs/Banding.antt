@@ -2,7 +2,7 @@
 -- Serves the rows of a piece, and the pieces of a band.
 use Rattle.std.proofs.Common.{◌≡◌, ◌⊎◌, inl, inr, refl, sym, ap, ◌∙◌, subst, ℕ, zero, suc, ◌+◌, ◌-◌, ◌*◌, ◌/◌, ◌<◌, ◌≤◌, ℤ}
 use Rattle.std.proofs.Common.{pos, ◌+ℤ◌, Bool, false, arith, IsTrue, List}
-use Rattle.std.proofs.Math.Nat.{mul-le-mul_right, mul-le-mul_left}
+use Rattle.std.proofs.Math.Nat.{mul-le-mul_right}
 use Rattle.fx_fixed.proofs.Order.{below_or_not}
 use Rattle.fx_fixed.proofs.Linear.{signed_linear}
 use Rattle.fx_winding.specs.Bitmaps.{words_for}

@@ -10,14 +10,16 @@ use Rattle.fx_winding.specs.Meets.{turn}
 use Rattle.fx_winding.specs.Notes.{IsMetAcross}
 use Rattle.fx_winding.specs.Winding.{Span, centre, IsOn}
 use Rattle.fx_winding.proofs.Aside.{left_not_met, right_not_met}
+use Rattle.fx_winding.proofs.EndRows.{rests_on, hangs_from, IsFootWithin, IsHeadWithin, foot_row_met, head_row_met}
 use Rattle.fx_winding.proofs.Meeting.{inner_meets, above_not_met, below_not_met}
 use Rattle.fx_winding.proofs.Turning.{right_of_all, beside_turn}
 use Rattle.fx_rows.specs.declared.heights.Met.{Met}
-use Rattle.fx_rows.specs.inner.Heights.{height_of, IsMissed}
+use Rattle.fx_rows.specs.inner.Heights.{height_of, IsMissed, IsResting, IsHanging}
 use Rattle.fx_rows.specs.inner.Placing.{AreMet}
 use Rattle.fx_rows.specs.inner.Points.{IsInner, AreAcross}
 use Rattle.fx_rows.specs.inner.Segments.{AreSetAcross}
 use Rattle.fx_rows.specs.inner.Told.{rise_value, IsEnd}
+use Rattle.fx_rows.specs.inner.Upward.{column_of}
 use Rattle.fx_rows.proofs.Points.{to_all}
 
 -- the ends of the segment between a pixel and its left neighbour
@@ -90,6 +92,44 @@ met_within s f first end low high r k h left right l m = (from (below_or_not k l
     to zero w e b = omega arith
     to (suc i) w e b =
         past i w (subst (λ (n : ℕ). ((f.left -ℤ pos 1) +ℤ pos n) <ℤ end) (sym e) b) (split i (below_or_not i high))
+
+-- ---- the one segment of a row on which the piece rests, or from which it hangs
+-- a place between the ends of a segment is at the column to which that goes
+at_column : (f : Frame) (x : ℤ) (r n k : ℕ) → ((i : ℕ) → i < n → column_of f i <ℤ x)
+    → ((i : ℕ) → n ≤ i → i < f.width → x ≤ℤ column_of f i) → k ≤ f.width → (left_end f r k).x <ℤ x → x <ℤ (right_end f r k).x
+    → k ≡ n
+at_column f x r n k before from w after over = by k refl (below_same_above k n)
+  where
+    by : (j : ℕ) → j ≡ k → (j < n) ⊎ ((j ≡ n) ⊎ (n < j)) → k ≡ n
+    by j e (inl l) = let b = before j l in absurd (omega (arith, signed, b, over, e))
+    by j e (inr (inl l)) = omega (arith, e, l)
+    by zero e (inr (inr l)) = absurd (omega (arith, l))
+    by (suc i) e (inr (inr l)) =
+        let b = from i (omega (arith, l)) (omega (arith, e, w)) in absurd (omega (arith, signed, b, after, e))
+
+pub resting_segment : (s : Span) (f : Frame) (x : ℤ) (r n k : ℕ) → IsResting s (height_of f r) → (s.a.y <ℤ s.c.y → x ≡ s.a.x)
+    → (s.c.y <ℤ s.a.y → x ≡ s.c.x) → ((i : ℕ) → i < n → column_of f i <ℤ x)
+    → ((i : ℕ) → n ≤ i → i < f.width → x ≤ℤ column_of f i) → k ≤ f.width → IsMetAcross s f r k → k ≡ n
+resting_segment s f x r n k h rising falling before from w m =
+    by (foot_row_met (left_end f r k) (right_end f r k) s refl (in_order f r k) (rests_on (height_of f r) s h.0 h.1) m.off_right m.met)
+  where
+    by : IsFootWithin (left_end f r k) (right_end f r k) s → k ≡ n
+    by (inl (up, e)) = at_column f x r n k before from w (subst (λ (z : ℤ). (left_end f r k).x <ℤ z) (sym (rising up)) e.after)
+        (subst (λ (z : ℤ). z <ℤ (right_end f r k).x) (sym (rising up)) e.before)
+    by (inr (down, e)) = at_column f x r n k before from w (subst (λ (z : ℤ). (left_end f r k).x <ℤ z) (sym (falling down)) e.after)
+        (subst (λ (z : ℤ). z <ℤ (right_end f r k).x) (sym (falling down)) e.before)
+
+pub hanging_segment : (s : Span) (f : Frame) (x : ℤ) (r n k : ℕ) → IsHanging s (height_of f r) → (s.a.y <ℤ s.c.y → x ≡ s.c.x)
+    → (s.c.y <ℤ s.a.y → x ≡ s.a.x) → ((i : ℕ) → i < n → column_of f i <ℤ x)
+    → ((i : ℕ) → n ≤ i → i < f.width → x ≤ℤ column_of f i) → k ≤ f.width → IsMetAcross s f r k → k ≡ n
+hanging_segment s f x r n k h rising falling before from w m =
+    by (head_row_met (left_end f r k) (right_end f r k) s refl (hangs_from (height_of f r) s h.0 h.1) m.met)
+  where
+    by : IsHeadWithin (left_end f r k) (right_end f r k) s → k ≡ n
+    by (inl (up, e)) = at_column f x r n k before from w (subst (λ (z : ℤ). (left_end f r k).x <ℤ z) (sym (rising up)) e.after)
+        (subst (λ (z : ℤ). z <ℤ (right_end f r k).x) (sym (rising up)) e.before)
+    by (inr (down, e)) = at_column f x r n k before from w (subst (λ (z : ℤ). (left_end f r k).x <ℤ z) (sym (falling down)) e.after)
+        (subst (λ (z : ℤ). z <ℤ (right_end f r k).x) (sym (falling down)) e.before)
 
 -- ---- the one segment of a row between the ends
 -- what the piece adds at the left end of a segment that goes to a column before the row's end, or to the end

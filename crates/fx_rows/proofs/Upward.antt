@@ -16,11 +16,12 @@ use Rattle.fx_winding.specs.Winding.{Span, centre, IsOn, IsBetween}
 use Rattle.fx_winding.proofs.Aside.{left_not_met, right_not_met}
 use Rattle.fx_winding.proofs.Beside.{HasAll-weaker}
 use Rattle.fx_winding.proofs.Meeting.{above_not_met, below_not_met}
-use Rattle.fx_winding.proofs.Turning.{IsClearOf, IsClearOfFoot, IsClearOfHead, all_turned, inner_pair_not_met, foot_pair_not_met}
-use Rattle.fx_winding.proofs.Turning.{head_pair_not_met}
+use Rattle.fx_winding.proofs.EndRows.{rests_on, hangs_from}
+use Rattle.fx_winding.proofs.Turning.{IsClearOf, IsClearOfFoot, IsClearOfHead, all_turned, inner_pair_not_met, from_foot_not_met}
+use Rattle.fx_winding.proofs.Turning.{to_foot_not_met, from_head_not_met, to_head_not_met}
 use Rattle.fx_rows.specs.declared.heights.Met.{Met}
 use Rattle.fx_rows.specs.declared.placed.Placed.{Placed}
-use Rattle.fx_rows.specs.inner.Heights.{height_of}
+use Rattle.fx_rows.specs.inner.Heights.{height_of, IsResting, IsHanging}
 use Rattle.fx_rows.specs.inner.Placing.{AreMet, IsPlaced}
 use Rattle.fx_rows.specs.inner.Points.{AreAcross, IsInner}
 use Rattle.fx_rows.specs.inner.Segments.{AreSetUp}
@@ -158,12 +159,13 @@ clear : (s : Span) (f : Frame) (row x v : ℤ) (e : Place) (n k : ℕ) → IsPas
 clear s f row x v e n k h at is l off (inl (a, b)) = inl (subst (λ (z : ℤ). column_of f k <ℤ z) at a, h.left k b off ∙ is)
 clear s f row x v e n k h at is l off (inr (a, b)) = inr (subst (λ (z : ℤ). z <ℤ column_of f k) at a, h.right k b l off)
 
-foot_unmet : (s : Span) (f : Frame) (x : ℤ) (r n k : ℕ) → HasAll (λ e. height_below f r <ℤ e.y) s
+foot_unmet : (s : Span) (f : Frame) (x : ℤ) (r n k : ℕ) → IsResting s (height_below f r)
     → IsPassed s f (f.bottom +ℤ pos r) n → (s.a.y <ℤ s.c.y → x ≡ s.a.x) → (s.c.y <ℤ s.a.y → x ≡ s.c.x)
     → IsBetween s.a.x s.c.x (column_of f k) → IsAside f x n k
     → k < f.width → ¬ (IsMetUp s f r k)
 foot_unmet s f x r n k below h rising falling between aside l m =
-    foot_pair_not_met (lower f r k) (upper f r k) s refl below h.inner m.off_upper (by h.inner) between m.met
+    from_foot_not_met (lower f r k) (upper f r k) s refl (rests_on (height_below f r) s below.0 below.1) m.off_lower h.inner m.off_upper
+    (by h.inner) between m.met
   where
     by : IsInner s.a.y s.c.y (height_of f r) → IsClearOfFoot (upper f r k) s
     by (inl (u, v)) =
@@ -173,11 +175,12 @@ foot_unmet s f x r n k below h rising falling between aside l m =
         let down : s.c.y <ℤ s.a.y = omega (arith, signed_linear, u, v) in
         inr (down, clear s f (f.bottom +ℤ pos r) x (negsuc 0) s.c n k h (falling down) (value_falling s down) l m.off_upper aside)
 
-head_unmet : (s : Span) (f : Frame) (x : ℤ) (r n k : ℕ) → HasAll (λ e. e.y <ℤ height_of f r) s
+head_unmet : (s : Span) (f : Frame) (x : ℤ) (r n k : ℕ) → IsHanging s (height_of f r)
     → IsPassed s f ((f.bottom -ℤ pos 1) +ℤ pos r) n → (s.a.y <ℤ s.c.y → x ≡ s.c.x) → (s.c.y <ℤ s.a.y → x ≡ s.a.x)
     → IsBetween s.a.x s.c.x (column_of f k) → IsAside f x n k → k < f.width → ¬ (IsMetUp s f r k)
 head_unmet s f x r n k above h rising falling between aside l m =
-    head_pair_not_met (lower f r k) (upper f r k) s h.inner m.off_lower (by h.inner) above between m.met
+    to_head_not_met (lower f r k) (upper f r k) s h.inner m.off_lower (by h.inner) (hangs_from (height_of f r) s above.0 above.1)
+    m.off_upper between m.met
   where
     by : IsInner s.a.y s.c.y (height_below f r) → IsClearOfHead (lower f r k) s
     by (inl (u, v)) =
@@ -207,7 +210,7 @@ not_aside f x first last n k left right l unmet = (low (below_or_not k (min firs
     high (inr o) = absurd (unmet (inr (right k (omega (arith, o)) l, omega (arith, o))))
 
 pub foot_within : (s : Span) (f : Frame) (x : ℤ) (first last r n : ℕ) → AreMetBetween s f
-    → HasAll (λ e. height_below f r <ℤ e.y) s → IsInner s.a.y s.c.y (height_of f r) → IsEnd s f r n
+    → IsResting s (height_below f r) → IsInner s.a.y s.c.y (height_of f r) → IsEnd s f r n
     → (s.a.y <ℤ s.c.y → x ≡ s.a.x) → (s.c.y <ℤ s.a.y → x ≡ s.c.x) → ((k : ℕ) → k < first → column_of f k <ℤ x)
     → ((k : ℕ) → last ≤ k → k < f.width → x <ℤ column_of f k) → AreMetWithin s f r (min first n) (max last n)
 foot_within s f x first last r n between below i h rising falling left right k l m =
@@ -215,7 +218,7 @@ foot_within s f x first last r n between below i h rising falling left right k l
     (λ a. foot_unmet s f x r n k below (passes_row s f r n i h) rising falling (between r k l m) a l m)
 
 pub head_within : (s : Span) (f : Frame) (x : ℤ) (first last j r n : ℕ) → j + 1 ≡ r → AreMetBetween s f
-    → HasAll (λ e. e.y <ℤ height_of f r) s → IsInner s.a.y s.c.y (height_of f j) → IsEnd s f j n
+    → IsHanging s (height_of f r) → IsInner s.a.y s.c.y (height_of f j) → IsEnd s f j n
     → (s.a.y <ℤ s.c.y → x ≡ s.c.x) → (s.c.y <ℤ s.a.y → x ≡ s.a.x) → ((k : ℕ) → k < first → column_of f k <ℤ x)
     → ((k : ℕ) → last ≤ k → k < f.width → x <ℤ column_of f k) → AreMetWithin s f r (min first n) (max last n)
 head_within s f x first last j r n e between above i h rising falling left right k l m =
@@ -227,15 +230,27 @@ pub within_more : (s : Span) (f : Frame) (r from to n : ℕ) → AreMetWithin s 
 within_more s f r from to n h k l m = let at = h k l m in (omega (arith, at.0), omega (arith, at.1))
 
 -- ---- rows up to which a piece meets nothing
--- its points are above the row below one, and this is one further down
-pub set_under : (s : Span) (f : Frame) (below row r : ℕ) (up : List ℕ) → HasAll (λ e. height_below f row <ℤ e.y) s → r < row
+-- it rests on the row below one, and this is one further down
+pub set_under : (s : Span) (f : Frame) (below row r : ℕ) (up : List ℕ) → IsResting s (height_below f row) → r < row
     → AreSetUp s f below up r
-set_under s f below row r up h l k w m = absurd (above_unmet s f (height_below f row) r k h (omega (arith, signed, l)) m)
+set_under s f below row r up h l k w m =
+    absurd (to_foot_not_met (lower f r k) (upper f r k) s refl (next_up f r)
+    (rests_on (height_of f r) s (HasAll-weaker (λ e. height_below f row ≤ℤ e.y) (λ e. height_of f r ≤ℤ e.y) (λ q. under q.y) s h.0)
+    h.1) m.off_upper m.met)
+  where
+    under : (y : ℤ) → height_below f row ≤ℤ y → height_of f r ≤ℤ y
+    under y i = omega (arith, signed, l, i)
 
--- its points are below a row, and this is one further up
-pub set_over : (s : Span) (f : Frame) (below row r : ℕ) (up : List ℕ) → HasAll (λ e. e.y <ℤ height_of f row) s → row < r
+-- it hangs from a row, and this is one further up
+pub set_over : (s : Span) (f : Frame) (below row r : ℕ) (up : List ℕ) → IsHanging s (height_of f row) → row < r
     → AreSetUp s f below up r
-set_over s f below row r up h l k w m = absurd (below_unmet s f (height_of f row) r k h (omega (arith, signed, l)) m)
+set_over s f below row r up h l k w m =
+    absurd (from_head_not_met (lower f r k) (upper f r k) s refl (next_up f r)
+    (hangs_from (height_below f r) s (HasAll-weaker (λ e. e.y ≤ℤ height_of f row) (λ e. e.y ≤ℤ height_below f r) (λ q. over q.y) s h.0)
+    h.1) m.off_lower m.met)
+  where
+    over : (y : ℤ) → y ≤ℤ height_of f row → y ≤ℤ height_below f r
+    over y i = omega (arith, signed, l, i)
 
 -- rows below those that it can touch, and above them
 pub set_below : (s : Span) (f : Frame) (met : Met) (below r : ℕ) (up : List ℕ) → AreMet s f met
@@ -251,7 +266,8 @@ pub set_above : (s : Span) (f : Frame) (met : Met) (below r : ℕ) (up : List �
 set_above s f met below r up is h near = by (below_or_not met.touched.end r)
   where
     by : (met.touched.end < r) ⊎ (r ≤ met.touched.end) → AreSetUp s f below up r
-    by (inl i) = set_over s f below (r - 1) r up (is.above (r - 1) (omega (arith, i)) (omega (arith, i, h))) (omega (arith, i))
+    by (inl i) = λ k w m. absurd (below_unmet s f (height_of f (r - 1)) r k (is.above (r - 1) (omega (arith, i)) (omega (arith, i, h)))
+        (omega (arith, signed, i)) m)
     by (inr i) = near i
 
 -- all its points are above the row above the frame, or below the row below it

@@ -16,7 +16,7 @@ ghost use Rattle.fx_rows.specs.inner.Bands.{bounded_span};
 ghost use Rattle.fx_rows.specs.inner.Cuts.{CountsAt, CountsFirst, IsLast, IsCut};
 
 use crate::arc::{gaps_of, total_of};
-use crate::bounded::Bounded;
+use crate::bounded::{Bounded, foot_x};
 use crate::cells::Cut;
 use crate::chord::{edge_of, slope_of};
 use crate::narrow::columns_before;
@@ -155,20 +155,9 @@ fn count_of(bend: Bend, guess: u32, stop: u32) -> u32
     count_in(bend, window_of(bend, guess, stop), stop)
 }
 
-/// The x of the lower end of a chord.
-fn low_end(piece: &Piece) -> i32
-    ensures { IsWithin (2 ^ 22) result }
-{
-    if piece.a.y < piece.c.y {
-        piece.a.x
-    } else {
-        piece.c.x
-    }
-}
-
 /// Where the columns that count are likely to end on an arc's lowest row: at its chord's lower end.
 pub(crate) fn first_guess(piece: &Piece, frame: Frame) -> u32 {
-    let col = first_from(low_end(piece));
+    let col = first_from(foot_x(piece));
     if col <= frame.left {
         return 0;
     }

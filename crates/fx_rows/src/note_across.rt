@@ -1,9 +1,11 @@
 //! The segments of rows that a piece meets, noted as bits, each by its right end.
 //!
-//! In a row between its ends a piece meets one segment, that which goes to the column where its columns end. In the other rows that
-//! it can touch all segments of its box are noted, more than it meets.
+//! In a row between its ends a piece meets one segment, that which goes to the column where its columns end. In a row on which it
+//! rests, or from which it hangs, it meets the one that its end is on. In the other rows that it can touch all segments of its box
+//! are noted, more than it meets.
 
-ghost use Rattle.std.specs.Prelude.{◌≡◌, ℕ, ◌+◌, ◌*◌, ◌<◌, ◌≤◌, length, slice_index_or, IsTrue, pos, ◌+ℤ◌, ◌≤ℤ◌};
+ghost use Rattle.std.specs.Prelude.{◌≡◌, ℕ, ◌+◌, ◌*◌, ◌^◌, ◌<◌, ◌≤◌, length, slice_index_or, IsTrue, pos, ◌+ℤ◌, ◌<ℤ◌, ◌≤ℤ◌};
+ghost use Rattle.fx_fixed.specs.Ranges.{IsWithin};
 ghost use Rattle.fx_winding.specs.Bitmaps.{words_for as words_for_of, word_bit};
 ghost use Rattle.fx_winding.specs.Notes.{IsMetAcross};
 ghost use Rattle.fx_winding.specs.Winding.{Span, span_of};
@@ -13,13 +15,16 @@ ghost use Rattle.fx_rows.specs.inner.Points.{IsInner};
 ghost use Rattle.fx_rows.specs.inner.Segments.{segment_number, AreSetAcross};
 ghost use Rattle.fx_rows.specs.inner.Telling.{AreRowsTold};
 ghost use Rattle.fx_rows.specs.inner.Told.{IsEnd, IsEndIn, AreKept};
+ghost use Rattle.fx_rows.specs.inner.Upward.{column_of};
 
 use crate::across::Across;
-use crate::heights::RowRange;
+use crate::bounded::{foot_x, head_x};
+use crate::heights::{RowRange, hangs_from, rests_on};
 use crate::marks::set_bits;
 use crate::placed::{Placed, first_of};
-use crate::reach::Reach;
-use fx_winding::{Frame, Piece, set_bit};
+use crate::reach::{Reach, columns_under};
+use crate::strip::row_of;
+use fx_winding::{Frame, Piece, first_from, set_bit};
 
 /// Notes the segments of a row from that to one column to that to another.
 #[inline(always)]
@@ -40,29 +45,53 @@ fn note_segments(placed: Placed, up: u32, segments: Reach, across: &mut [u32])
     );
 }
 
-/// The segments that a piece can meet in a row that is not between its ends, by the columns to which they go: those of its box.
+/// The first column of a frame whose centres do not lie left of x, or the number of columns.
 #[inline(always)]
-fn segments_of(placed: Placed) -> Reach
+fn column_from(frame: Frame, x: i32) -> u32
+    requires { IsWithin (2 ^ 22) x }
+    ensures within { result ≤ frame.width }
+    ensures before { (k : ℕ) → k < result → column_of frame k <ℤ x }
+    ensures from { (k : ℕ) → result ≤ k → k < frame.width → x ≤ℤ column_of frame k }
+{
+    columns_under(frame, first_from(x))
+}
+
+/// The segments that a piece can meet in a row that is not between its ends, by the columns to which they go: the one of its lower
+/// end if it rests on the row, the one of its upper end if it hangs from it, and else those of its box.
+#[inline(always)]
+fn segments_of(piece: &Piece, placed: Placed, up: u32) -> Reach
+    requires up { up < placed.frame.height }
+    requires placed { IsPlaced (span_of piece.now) placed }
     ensures order { result.first ≤ result.end }
     ensures end { result.end ≤ placed.frame.width }
-    ensures met { (s : Span) (r k : ℕ) → IsPlaced s placed → k ≤ placed.frame.width → IsMetAcross s placed.frame r k →
+    ensures met { (k : ℕ) → k ≤ placed.frame.width → IsMetAcross (span_of piece.now) placed.frame up k →
         (result.first ≤ k) × (k ≤ result.end) }
 {
+    let row = row_of(placed.frame, up);
+    if rests_on(piece, row) {
+        let end = column_from(placed.frame, foot_x(piece));
+        return Reach { first: end, end };
+    }
+    if hangs_from(piece, row) {
+        let end = column_from(placed.frame, head_x(piece));
+        return Reach { first: end, end };
+    }
     placed.reach
 }
 
 /// Notes the segments that a piece can meet in rows that are not between its ends.
 #[inline]
-fn note_rows(placed: Placed, rows: RowRange, across: &mut [u32])
+fn note_rows(piece: &Piece, placed: Placed, rows: RowRange, across: &mut [u32])
+    requires placed { IsPlaced (span_of piece.now) placed }
     requires rows { rows.end ≤ placed.frame.height }
     requires room { placed.below + placed.frame.height * words_for_of placed.frame.width < length across.old }
-    ensures noted { (s : Span) → IsPlaced s placed → (r : ℕ) → rows.first ≤ r → r < rows.end →
-        AreSetAcross s placed.frame placed.below across.new r }
+    ensures noted { (r : ℕ) → rows.first ≤ r → r < rows.end →
+        AreSetAcross (span_of piece.now) placed.frame placed.below across.new r }
     ensures kept { AreKept across.old across.new }
 {
     // The segments of the rows before `up` are noted.
     'rows: for up in rows.first..rows.end {
-        note_segments(placed, up, segments_of(placed), across);
+        note_segments(placed, up, segments_of(piece, placed, up), across);
     }
 }
 
@@ -143,7 +172,7 @@ pub(crate) fn note_across(piece: &Piece, placed: Placed, ends: &[u32], across: &
         first: ended.end,
         end: touched.end,
     };
-    note_rows(placed, below, across);
+    note_rows(piece, placed, below, across);
     note_ends(placed, ended, ends, across);
-    note_rows(placed, above, across);
+    note_rows(piece, placed, above, across);
 }

@@ -9,7 +9,7 @@ ghost use Rattle.fx_fixed.specs.Ranges.{IsWithin};
 ghost use Rattle.fx_winding.specs.Bitmaps.{words_for as words_for_of};
 ghost use Rattle.fx_winding.specs.Outside.{HasAll};
 ghost use Rattle.fx_winding.specs.Winding.{Span, span_of, IsBetween};
-ghost use Rattle.fx_rows.specs.inner.Heights.{height_of};
+ghost use Rattle.fx_rows.specs.inner.Heights.{height_of, IsResting, IsHanging};
 ghost use Rattle.fx_rows.specs.inner.Placing.{IsPlaced};
 ghost use Rattle.fx_rows.specs.inner.Segments.{AreSetUp};
 ghost use Rattle.fx_rows.specs.inner.Telling.{AreRowsTold};
@@ -17,7 +17,8 @@ ghost use Rattle.fx_rows.specs.inner.Told.{AreKept, IsEnd, IsEndIn};
 ghost use Rattle.fx_rows.specs.inner.Upward.{column_of, height_below, AreMetTo, AreMetWithin, IsPassage};
 
 use crate::across::Across;
-use crate::heights::{RowRange, is_above, is_below};
+use crate::bounded::{foot_x, head_x};
+use crate::heights::{RowRange, hangs_from, is_above, is_below, rests_on};
 use crate::marks::set_bits;
 use crate::placed::{Placed, first_of};
 use crate::reach::{Reach, columns_under};
@@ -86,50 +87,22 @@ fn widened(columns: Reach, end: u32) -> Reach
     }
 }
 
-/// The x of the lower end of a piece's chord.
-#[inline(always)]
-fn foot_x(piece: &Piece) -> i32
-    ensures near { IsWithin (2 ^ 22) result }
-    ensures rising { piece.now.a.y <ℤ piece.now.c.y → result ≡ piece.now.a.x }
-    ensures falling { piece.now.c.y <ℤ piece.now.a.y → result ≡ piece.now.c.x }
-{
-    if piece.a.y < piece.c.y {
-        piece.a.x
-    } else {
-        piece.c.x
-    }
-}
-
-/// The x of the upper end of a piece's chord.
-#[inline(always)]
-fn head_x(piece: &Piece) -> i32
-    ensures near { IsWithin (2 ^ 22) result }
-    ensures rising { piece.now.a.y <ℤ piece.now.c.y → result ≡ piece.now.c.x }
-    ensures falling { piece.now.c.y <ℤ piece.now.a.y → result ≡ piece.now.a.x }
-{
-    if piece.a.y < piece.c.y {
-        piece.c.x
-    } else {
-        piece.a.x
-    }
-}
-
-/// Whether all points of a piece are above the centres of the row below one.
+/// Whether a piece rests on the centres of the row below one.
 #[inline(always)]
 fn has_foot(piece: &Piece, frame: Frame, row: u32) -> bool
     requires { row ≤ frame.height }
-    ensures { IsTrue result → HasAll (λ e. height_below frame row <ℤ e.y) (span_of piece.now) }
+    ensures { IsTrue result → IsResting (span_of piece.now) (height_below frame row) }
 {
-    is_above(piece, frame.bottom - 1 + row as i32)
+    rests_on(piece, frame.bottom - 1 + row as i32)
 }
 
-/// Whether all points of a piece are below the centres of a row.
+/// Whether a piece hangs from the centres of a row.
 #[inline(always)]
 fn has_head(piece: &Piece, frame: Frame, row: u32) -> bool
     requires { row ≤ frame.height }
-    ensures { IsTrue result → HasAll (λ e. e.y <ℤ height_of frame row) (span_of piece.now) }
+    ensures { IsTrue result → IsHanging (span_of piece.now) (height_of frame row) }
 {
-    is_below(piece, frame.bottom + row as i32)
+    hangs_from(piece, frame.bottom + row as i32)
 }
 
 /// Notes the segments that a piece meets up to the rows below those between its ends. Returns the columns from which it comes to the

@@ -27,7 +27,7 @@ returns-clause-noted c =
     let bits = c.note_rows-2.new.across in
     all_across s p.frame p.met p.below ended.first ended.end bits is.met
     (λ r l m. across_kept s p.frame p.below r mid bits
-    (across_kept s p.frame p.below r low mid (c.note_rows.ensures.noted s is r l m) c.note_ends.ensures.kept)
+    (across_kept s p.frame p.below r low mid (c.note_rows.ensures.noted r l m) c.note_ends.ensures.kept)
     c.note_rows-2.ensures.kept)
     (λ r l m k w met. c.note_rows-2.ensures.kept _
     (let inner = c.ended_rows-ended.ensures.inner s r is l m in
@@ -36,4 +36,4 @@ returns-clause-noted c =
     let end : IsEnd s p.frame r n = subst (IsEnd s p.frame r) (sym t.told.1) t.is in
     subst (λ (j : ℕ). word_bit mid (segment_number p.frame p.below r j) ≡ 1)
     (sym (c.ended_rows-ended.ensures.only s r k n is l m w end met)) (c.note_ends.ensures.set r l m)))
-    (c.note_rows-2.ensures.noted s is)
+    c.note_rows-2.ensures.noted

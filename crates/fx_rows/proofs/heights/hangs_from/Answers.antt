@@ -1,0 +1,19 @@
+use Rattle.std.proofs.Common.{◌≡◌, ap, pos, ◌+ℤ◌, ◌*ℤ◌, ◌≤ℤ◌, arith, w32, to_z, of_z}
+use Rattle.fx_fixed.proofs.Linear.{signed, signed_linear}
+use Rattle.fx_winding.specs.Winding.{span_of}
+use Rattle.fx_winding.proofs.Beside.{HasAll-weaker}
+use Rattle.fx_rows.proofs.Signs.{at_most_from_test}
+use Rattle.fx_rows.proofs.heights.hangs_from.Goals as goal
+
+pub returns : goal.returns
+returns c = λ t.
+    let row = c.args.row in
+    let y : to_z w32 (of_z w32 (to_z w32 (of_z w32 (pos 128 *ℤ to_z w32 (of_z w32 row))) +ℤ pos 64)) ≡ pos 128 *ℤ row +ℤ pos 64 =
+    omega (arith, signed, c.requires) in
+    let high : to_z w32 (of_z w32 c.high_y.result) ≡ c.high_y.result = omega (arith, signed_linear, c.high_y.ensures.size) in
+    let l = at_most_from_test (to_z w32 (of_z w32 c.high_y.result))
+    (to_z w32 (of_z w32 (to_z w32 (of_z w32 (pos 128 *ℤ to_z w32 (of_z w32 row))) +ℤ pos 64))) t in (
+      HasAll-weaker (λ q. q.y ≤ℤ c.high_y.result) (λ q. q.y ≤ℤ (pos 128 *ℤ row +ℤ pos 64))
+          (λ q h. omega (arith, signed_linear, y, high, l, h)) (span_of c.args.piece.now) c.high_y.ensures.high,
+      λ e. c.if-piece.false (ap (of_z w32) e),
+    )
