@@ -46,7 +46,8 @@ met_up s f g from to r k part m =
     let row = row_whole f g from to r part in
     let under = row_under f g from to r part in
     record {
-      met = subst (λ z. z) (λ i. IsMet (centre (under i) (left i +ℤ pos k)) (centre (row i) (left i +ℤ pos k)) (turned_span s)) m.met;
+      met = subst (λ z. z)
+          (λ i. IsMet (centre (under i) (left i +ℤ pos k)) (centre (row i) (left i +ℤ pos k)) (turned_span s)) m.met;
       off_lower = subst (λ z. z) (λ i. ¬ (IsOn (centre (left i +ℤ pos k) (under i)) s)) m.off_lower;
       off_upper = subst (λ z. z) (λ i. ¬ (IsOn (centre (left i +ℤ pos k) (row i)) s)) m.off_upper;
     }

@@ -20,10 +20,12 @@ pub(crate) struct RowRange {
     ghost order: { first ≤ end },
 }
 
-/// The rows of a frame that a piece can touch, and those of them that pass between its ends.
+/// Where a piece is among the rows of a frame.
 #[derive(Clone, Copy)]
 pub(crate) struct Met {
+    /// Those that it can touch.
     pub touched: RowRange,
+    /// Those of them that pass between its ends.
     pub inner: RowRange,
     ghost from: { touched.first ≤ inner.first },
     ghost to: { inner.end ≤ touched.end },

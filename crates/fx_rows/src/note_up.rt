@@ -1,7 +1,8 @@
 //! The segments that pieces meet between neighbouring rows, noted as bits. A segment is named by its column and its upper row.
 //!
-//! A piece whose box is no wider than its chord's goes from the column where it passes one row between its ends to that of the next,
-//! and meets the segments of the columns between them. Of any other piece all segments of its box are noted, more than it meets.
+//! A piece whose box is no wider than its chord's goes from the column where it passes one row between its ends to that of the
+//! next, and meets the segments of the columns between them. Of any other piece all segments of its box are noted, more than it
+//! meets.
 
 ghost use Rattle.std.specs.Prelude.{◌≡◌, ◌⊎◌, ℕ, ℤ, ◌+◌, ◌-◌, ◌*◌, ◌^◌, ◌<◌, ◌≤◌, length, pos, ◌+ℤ◌, ◌*ℤ◌, ◌<ℤ◌, ◌≤ℤ◌};
 ghost use Rattle.std.specs.Prelude.{IsTrue, min, max};
@@ -105,8 +106,8 @@ fn has_head(piece: &Piece, frame: Frame, row: u32) -> bool
     hangs_from(piece, frame.bottom + row as i32)
 }
 
-/// Notes the segments that a piece meets up to the rows below those between its ends. Returns the columns from which it comes to the
-/// lowest of these: that of its foot, or those of its box.
+/// Notes the segments that a piece meets up to the rows below those between its ends. Returns the columns from which it comes to
+/// the lowest of these: that of its foot, or those of its box.
 #[inline(always)]
 fn note_foot(piece: &Piece, placed: Placed, up: &mut [u32]) -> Reach
     requires passage { IsPassage (span_of piece.now) placed }
@@ -129,8 +130,8 @@ fn note_foot(piece: &Piece, placed: Placed, up: &mut [u32]) -> Reach
     placed.reach
 }
 
-/// Notes the segments that a piece meets up to the rows above the first that is above those between its ends. Returns the columns to
-/// which it goes up to that row: that of its head, or those of its box.
+/// Notes the segments that a piece meets up to the rows above the first that is above those between its ends. Returns the columns
+/// to which it goes up to that row: that of its head, or those of its box.
 #[inline(always)]
 fn note_head(piece: &Piece, placed: Placed, up: &mut [u32]) -> Reach
     requires passage { IsPassage (span_of piece.now) placed }

@@ -15,7 +15,7 @@ pub(crate) struct Placed {
     pub frame: Frame,
     /// How many words the notes of the rows below the band take.
     pub below: usize,
-    /// The rows that the piece can touch.
+    /// The rows of the band that the piece can touch.
     pub met: Met,
     /// The columns of the piece's box.
     pub across: Across,

@@ -22,8 +22,8 @@ band_of {n} {f} {g} {from} {to} {below} same part first =
 pub note_across-requires-clause-told : goal.note_across-requires-clause-told
 note_across-requires-clause-told c =
     let p = c.placed_in-placed.result in
-    subst (λ (xs : List ℕ). AreRowsTold (IsEndIn xs) (span_of c.args.piece.now) p.frame 0 p.frame.height) (sym c.deref.ensures.value)
-    (c.requires.told p.frame c.placed_in-placed.ensures.part)
+    subst (λ (xs : List ℕ). AreRowsTold (IsEndIn xs) (span_of c.args.piece.now) p.frame 0 p.frame.height)
+    (sym c.deref.ensures.value) (c.requires.told p.frame c.placed_in-placed.ensures.part)
 
 pub note_up-requires-clause-told : goal.note_up-requires-clause-told
 note_up-requires-clause-told c =
