@@ -111,7 +111,8 @@ pub resting_segment : (s : Span) (f : Frame) (x : ℤ) (r n k : ℕ) → IsResti
     → (s.c.y <ℤ s.a.y → x ≡ s.c.x) → ((i : ℕ) → i < n → column_of f i <ℤ x)
     → ((i : ℕ) → n ≤ i → i < f.width → x ≤ℤ column_of f i) → k ≤ f.width → IsMetAcross s f r k → k ≡ n
 resting_segment s f x r n k h rising falling before from w m =
-    by (foot_row_met (left_end f r k) (right_end f r k) s refl (in_order f r k) (rests_on (height_of f r) s h.0 h.1) m.off_right m.met)
+    by (foot_row_met (left_end f r k) (right_end f r k) s refl (in_order f r k) (rests_on (height_of f r) s h.0 h.1) m.off_right
+    m.met)
   where
     by : IsFootWithin (left_end f r k) (right_end f r k) s → k ≡ n
     by (inl (up, e)) = at_column f x r n k before from w (subst (λ (z : ℤ). (left_end f r k).x <ℤ z) (sym (rising up)) e.after)

@@ -164,8 +164,8 @@ foot_unmet : (s : Span) (f : Frame) (x : ℤ) (r n k : ℕ) → IsResting s (hei
     → IsBetween s.a.x s.c.x (column_of f k) → IsAside f x n k
     → k < f.width → ¬ (IsMetUp s f r k)
 foot_unmet s f x r n k below h rising falling between aside l m =
-    from_foot_not_met (lower f r k) (upper f r k) s refl (rests_on (height_below f r) s below.0 below.1) m.off_lower h.inner m.off_upper
-    (by h.inner) between m.met
+    from_foot_not_met (lower f r k) (upper f r k) s refl (rests_on (height_below f r) s below.0 below.1) m.off_lower h.inner
+    m.off_upper (by h.inner) between m.met
   where
     by : IsInner s.a.y s.c.y (height_of f r) → IsClearOfFoot (upper f r k) s
     by (inl (u, v)) =
@@ -246,8 +246,8 @@ pub set_over : (s : Span) (f : Frame) (below row r : ℕ) (up : List ℕ) → Is
     → AreSetUp s f below up r
 set_over s f below row r up h l k w m =
     absurd (from_head_not_met (lower f r k) (upper f r k) s refl (next_up f r)
-    (hangs_from (height_below f r) s (HasAll-weaker (λ e. e.y ≤ℤ height_of f row) (λ e. e.y ≤ℤ height_below f r) (λ q. over q.y) s h.0)
-    h.1) m.off_lower m.met)
+    (hangs_from (height_below f r) s
+    (HasAll-weaker (λ e. e.y ≤ℤ height_of f row) (λ e. e.y ≤ℤ height_below f r) (λ q. over q.y) s h.0) h.1) m.off_lower m.met)
   where
     over : (y : ℤ) → y ≤ℤ height_of f row → y ≤ℤ height_below f r
     over y i = omega (arith, signed, l, i)
@@ -266,7 +266,8 @@ pub set_above : (s : Span) (f : Frame) (met : Met) (below r : ℕ) (up : List �
 set_above s f met below r up is h near = by (below_or_not met.touched.end r)
   where
     by : (met.touched.end < r) ⊎ (r ≤ met.touched.end) → AreSetUp s f below up r
-    by (inl i) = λ k w m. absurd (below_unmet s f (height_of f (r - 1)) r k (is.above (r - 1) (omega (arith, i)) (omega (arith, i, h)))
+    by (inl i) = λ k w m.
+        absurd (below_unmet s f (height_of f (r - 1)) r k (is.above (r - 1) (omega (arith, i)) (omega (arith, i, h)))
         (omega (arith, signed, i)) m)
     by (inr i) = near i
 

@@ -117,7 +117,7 @@ pub(crate) fn rows_between(rise: Rise, frame: Frame, rows: RowRange) -> RowRange
 
 /// Whether all points of a piece are above the centres of a row.
 #[inline(always)]
-pub(crate) fn is_above(piece: &Piece, row: i32) -> bool
+pub(crate) fn lies_above(piece: &Piece, row: i32) -> bool
     requires { IsWithin (2 ^ 16) row }
     ensures { IsTrue result → HasAll (λ q. (pos 128 *ℤ row +ℤ pos 64) <ℤ q.y) (span_of piece.now) }
 {
@@ -126,7 +126,7 @@ pub(crate) fn is_above(piece: &Piece, row: i32) -> bool
 
 /// Whether all points of a piece are below the centres of a row.
 #[inline(always)]
-pub(crate) fn is_below(piece: &Piece, row: i32) -> bool
+pub(crate) fn lies_below(piece: &Piece, row: i32) -> bool
     requires { IsWithin (2 ^ 16) row }
     ensures { IsTrue result → HasAll (λ q. q.y <ℤ (pos 128 *ℤ row +ℤ pos 64)) (span_of piece.now) }
 {
@@ -162,5 +162,5 @@ pub(crate) fn misses(piece: &Piece, row: i32) -> bool
     requires { IsPixelNumber row }
     ensures { IsTrue result → IsMissed (span_of piece.now) (pos 128 *ℤ row +ℤ pos 64) }
 {
-    is_above(piece, row) || is_below(piece, row)
+    lies_above(piece, row) || lies_below(piece, row)
 }

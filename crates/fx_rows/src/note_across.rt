@@ -80,7 +80,7 @@ fn segments_of(piece: &Piece, placed: Placed, up: u32) -> Reach
 }
 
 /// Notes the segments that a piece can meet in rows that are not between its ends.
-#[inline]
+#[inline(always)]
 fn note_rows(piece: &Piece, placed: Placed, rows: RowRange, across: &mut [u32])
     requires placed { IsPlaced (span_of piece.now) placed }
     requires rows { rows.end ≤ placed.frame.height }

@@ -19,7 +19,7 @@ ghost use Rattle.fx_rows.specs.inner.Upward.{column_of, height_below, AreMetTo, 
 
 use crate::across::Across;
 use crate::bounded::{foot_x, head_x};
-use crate::heights::{RowRange, hangs_from, is_above, is_below, rests_on};
+use crate::heights::{RowRange, hangs_from, lies_above, lies_below, rests_on};
 use crate::marks::set_bits;
 use crate::placed::{Placed, first_of};
 use crate::reach::{Reach, columns_under};
@@ -208,7 +208,7 @@ fn is_apart(piece: &Piece, frame: Frame) -> bool
     ensures { IsTrue result → HasAll (λ e. height_of frame frame.height <ℤ e.y) (span_of piece.now) ⊎
         HasAll (λ e. e.y <ℤ height_below frame 0) (span_of piece.now) }
 {
-    is_above(piece, frame.bottom + frame.height as i32) || is_below(piece, frame.bottom - 1)
+    lies_above(piece, frame.bottom + frame.height as i32) || lies_below(piece, frame.bottom - 1)
 }
 
 /// Notes the segments that a piece meets between neighbouring rows: those up to a band's rows, and those from its highest row up.

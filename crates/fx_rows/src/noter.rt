@@ -24,8 +24,8 @@ use std::alloc::{AllocError, Global};
 #[derive(Drop)]
 pub(crate) struct Noter {
     pub notes: Notes,
-    ends: Vec<u32>,
-    ghost many: { length ends.items ≡ 128 },
+    ends: [u32; MOST_ROWS as usize],
+    ghost many: { length ends ≡ 128 },
 }
 
 impl Noter {
@@ -35,7 +35,7 @@ impl Noter {
     {
         Ok(Noter {
             notes: Notes::none(alloc, frame)?,
-            ends: vec![in alloc; 0; MOST_ROWS as usize]?,
+            ends: [0; MOST_ROWS as usize],
         })
     }
 }
@@ -63,7 +63,7 @@ fn placed_in(piece: &Piece, frame: Frame, rows: RowRange, met: Met) -> Placed
 impl Noting for Noter {
     ghost IsOf = { λ n f. n.notes.frame ≡ f };
 
-    ghost IsTold = { λ n up end. IsEndIn n.ends.items up end };
+    ghost IsTold = { λ n up end. IsEndIn n.ends up end };
 
     ghost IsNotedAt = { λ n s r. (r < n.notes.frame.height → IsNotedAcross s n.notes.frame n.notes.across.items r)
         × (r ≤ n.notes.frame.height → IsNotedUp s n.notes.frame n.notes.up.items r) };

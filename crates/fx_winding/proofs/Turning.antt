@@ -11,7 +11,7 @@ use Rattle.fx_winding.specs.Outside.{HasAll, OptionAll}
 use Rattle.fx_winding.specs.Winding.{Span, IsBetween, IsOn}
 use Rattle.fx_winding.proofs.Aside.{IsNoEnd, same_place, right_turn, left_turn, all_right, all_left, right_no_end, left_no_end}
 use Rattle.fx_winding.proofs.Aside.{right_end_not_met, left_end_not_met}
-use Rattle.fx_winding.proofs.Beside.{StartsFrom, EndsAt, RestsOn, HangsFrom, all_beyond, under_off, over_off}
+use Rattle.fx_winding.proofs.Beside.{StartsFrom, EndsAt, RestsOn, HangsFrom}
 use Rattle.fx_winding.proofs.Crossings.{above}
 use Rattle.fx_winding.proofs.EndRows.{off_no_end}
 use Rattle.fx_winding.proofs.Sideways.{turned_rising, turned_falling}
@@ -217,23 +217,6 @@ to_head_not_met p q s i np c h nq b =
     last i (inl (r, k)) w = other_column p q s.c (pos 1) p s refl k w
     last (inl (m, n)) (inr (r, k)) w = omega (arith, signed_linear, m, n, r)
     last (inr (m, n)) (inr (r, k)) w = let l = w.after in omega (arith, signed_linear, m, l)
-
--- all points of a piece lie above a row, or below it
-all_over : (y : ℤ) (s : Span) → HasAll (λ e. y <ℤ e.y) s → RestsOn y s
-all_over y s h = all_beyond (λ e. y ≤ℤ e.y) (λ e. y <ℤ e.y) (λ e l. omega (arith, signed_linear, l)) s h
-
-all_under : (y : ℤ) (s : Span) → HasAll (λ e. e.y <ℤ y) s → HangsFrom y s
-all_under y s h = all_beyond (λ e. e.y ≤ℤ y) (λ e. e.y <ℤ y) (λ e l. omega (arith, signed_linear, l)) s h
-
--- where p lies below the piece
-pub foot_pair_not_met : (p q : Place) (s : Span) → p.x ≡ q.x → HasAll (λ e. p.y <ℤ e.y) s → IsBetweenEnds q s → ¬ (IsOn q s)
-    → IsClearOfFoot q s → IsBetween s.a.x s.c.x p.x → ¬ (IsMet (turned_place p) (turned_place q) (turned_span s))
-foot_pair_not_met p q s e h = from_foot_not_met p q s e (all_over p.y s h) (under_off p s h).2
-
--- where q lies above it
-pub head_pair_not_met : (p q : Place) (s : Span) → IsBetweenEnds p s → ¬ (IsOn p s) → IsClearOfHead p s
-    → HasAll (λ e. e.y <ℤ q.y) s → IsBetween s.a.x s.c.x p.x → ¬ (IsMet (turned_place p) (turned_place q) (turned_span s))
-head_pair_not_met p q s i np c h = to_head_not_met p q s i np c (all_under q.y s h) (over_off q s h).2
 
 -- from a row up to the one on which the piece rests
 pub to_foot_not_met : (p q : Place) (s : Span) → p.x ≡ q.x → p.y ≤ℤ q.y → RestsOn q.y s → ¬ (IsOn q s)

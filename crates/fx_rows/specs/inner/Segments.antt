@@ -5,7 +5,7 @@ use Rattle.fx_winding.specs.Bitmaps.{word_bit}
 use Rattle.fx_winding.specs.Notes.{pixel_number, IsMetAcross, IsMetUp}
 use Rattle.fx_winding.specs.Winding.{Span}
 
--- the number of a segment by its row and its column of a band; the notes of the rows below the band take so many words
+-- the number of a segment by its row and its column of a band; the notes of the rows below the band take the words `below`
 abbrev pub segment_number : Frame → ℕ → ℕ → ℕ → ℕ
 segment_number f below r k = 32 * below + pixel_number f r k
 

@@ -4,8 +4,8 @@ use Rattle.fx_winding.specs.Bitmaps.{words_for}
 use Rattle.fx_winding.specs.Notes.{IsNotedAcross, IsNotedUp}
 use Rattle.fx_winding.specs.Winding.{span_of}
 use Rattle.fx_winding.specs.declared.frame.Frame.{Frame}
-use Rattle.fx_rows.specs.inner.Telling.{AreRowsTold, IsPartOf}
-use Rattle.fx_rows.specs.inner.Told.{AreKept, IsEndIn}
+use Rattle.fx_rows.specs.inner.Telling.{IsPartOf}
+use Rattle.fx_rows.specs.inner.Told.{AreKept}
 use Rattle.fx_rows.proofs.Segments.{room_across, room_up, across_whole, up_whole}
 use Rattle.fx_rows.proofs.noter.NoterNoting.note.Goals as goal
 
@@ -21,15 +21,11 @@ band_of {n} {f} {g} {from} {to} {below} same part first =
 
 pub note_across-requires-clause-told : goal.note_across-requires-clause-told
 note_across-requires-clause-told c =
-    let p = c.placed_in-placed.result in
-    subst (λ (xs : List ℕ). AreRowsTold (IsEndIn xs) (span_of c.args.piece.now) p.frame 0 p.frame.height)
-    (sym c.deref.ensures.value) (c.requires.told p.frame c.placed_in-placed.ensures.part)
+    c.requires.told c.placed_in-placed.result.frame c.placed_in-placed.ensures.part
 
 pub note_up-requires-clause-told : goal.note_up-requires-clause-told
 note_up-requires-clause-told c =
-    let p = c.placed_in-placed.result in
-    subst (λ (xs : List ℕ). AreRowsTold (IsEndIn xs) (span_of c.args.piece.now) p.frame 0 p.frame.height)
-    (sym c.deref-2.ensures.value) (c.requires.told p.frame c.placed_in-placed.ensures.part)
+    c.requires.told c.placed_in-placed.result.frame c.placed_in-placed.ensures.part
 
 pub note_across-requires-clause-room : goal.note_across-requires-clause-room
 note_across-requires-clause-room c =

@@ -3,7 +3,7 @@ use Rattle.fx_fixed.proofs.Linear.{signed, signed_linear}
 use Rattle.fx_winding.specs.Winding.{span_of}
 use Rattle.fx_winding.proofs.Beside.{HasAll-weaker}
 use Rattle.fx_rows.proofs.Signs.{less_from_test}
-use Rattle.fx_rows.proofs.heights.is_above.Goals as goal
+use Rattle.fx_rows.proofs.heights.lies_above.Goals as goal
 
 pub returns : goal.returns
 returns c = λ t.
