@@ -2,7 +2,7 @@
 -- Serves the rows of a piece, and the pieces of a band.
 use Rattle.std.proofs.Common.{◌≡◌, ◌⊎◌, inl, inr, refl, sym, ap, ◌∙◌, subst, ℕ, zero, suc, ◌+◌, ◌-◌, ◌*◌, ◌/◌, ◌<◌, ◌≤◌, ℤ}
 use Rattle.std.proofs.Common.{pos, ◌+ℤ◌, Bool, false, arith, IsTrue, List}
-use Rattle.std.proofs.Math.Nat.{mul-le-mul_right}
+use Rattle.std.proofs.Math.Nat.{mul-le-mul_right, mul-le-mul_left}
 use Rattle.fx_fixed.proofs.Order.{below_or_not}
 use Rattle.fx_fixed.proofs.Linear.{signed_linear}
 use Rattle.fx_winding.specs.Bitmaps.{words_for}
@@ -229,3 +229,10 @@ tests_more p u v h = by (v - u) (omega arith)
       where
         sum : (n : ℕ) → p * (12 * u) + p * (12 * n) ≡ p * (12 * (u + n))
         sum n = grind arith
+
+pub tests_fit : (p u h d : ℕ) → u ≤ h → p * (12 * u) ≤ p * h * (6 * d + 12)
+tests_fit p u h d l =
+    let m : 12 * u ≤ 12 * h = omega arith in
+    let n = mul-le-mul_left p m in
+    let e : p * h * (6 * d + 12) ≡ p * (12 * h) + 6 * (p * h * d) = grind arith in
+    omega (arith, n, e)

@@ -145,17 +145,6 @@ scanned_band ss f g from to marks old part new of e room bits unused more below 
     (subst (λ z. z) (λ i. AreScanned ss (of.left i) g.bottom (of.width i) g.height part)
     (scanned_marks ss g.left g.bottom g.width g.height marks part e room bits unused)))
 
--- the rows of a band that is the whole frame
-pub scanned_low : (ss : List Span) (f g : Frame) (marks words : List ℕ) → g ≡ f → words ≡ take (g.height * words_for g.width) marks
-    → length marks ≡ g.height * words_for g.width + 1
-    → ((r k : ℕ) → r < g.height → k < g.width
-    → (word_bit marks (r * stride g.width + k) ≡ 1) ↔ IsCovered (centre (g.left +ℤ pos k) (g.bottom +ℤ pos r)) ss)
-    → ((r k : ℕ) → r < g.height → g.width ≤ k → k < stride g.width → word_bit marks (r * stride g.width + k) ≡ 0)
-    → AreScanned ss f.left f.bottom f.width f.height words
-scanned_low ss f g marks words same is room bits unused =
-    subst (λ (h : Frame). AreScanned ss h.left h.bottom h.width h.height words) same
-    (scanned_marks ss g.left g.bottom g.width g.height marks words is room bits unused)
-
 pub scanned_words : (ss : List Span) (left bottom : ℤ) (width high : ℕ) (words : List ℕ)
     → AreScanned ss left bottom width high words → AreWords high width words
 scanned_words ss left bottom width high words h = record {

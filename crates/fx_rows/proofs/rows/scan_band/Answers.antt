@@ -1,5 +1,5 @@
-use Rattle.std.proofs.Common.{◌≡◌, ◌∙◌, ap, sym, subst, ◌+◌, ◌-◌, ◌*◌, ◌++◌, map, take, length, is_ok, Bool, true, refl, arith}
-use Rattle.std.specs.Prelude.{if◌then◌else◌, Result, Ok, Err, OnOk}
+use Rattle.std.proofs.Common.{◌≡◌, ◌∙◌, refl, ap, sym, subst, ℕ, ◌+◌, ◌-◌, ◌*◌, ◌<◌, ◌≤◌, nat_eq, IsTrue, List, [], ◌∷◌, map, take, length, arith}
+use Rattle.std.specs.Prelude.{Result, Ok, Err, IfOk}
 use Rattle.fx_winding.specs.Bitmaps.{words_for}
 use Rattle.fx_winding.specs.declared.frame.Frame.{Frame}
 use Rattle.fx_winding.specs.Winding.{span_of}
@@ -7,34 +7,44 @@ use Rattle.fx_rows.specs.inner.Telling.{IsPartOf}
 use Rattle.fx_rows.proofs.Scanning.{scanned_band}
 use Rattle.fx_rows.proofs.rows.scan_band.Goals as goal
 
-on_ok : {X E : Type 0} (r : Result X E) (P : Type 0) → (is_ok r ≡ true → P) → OnOk r P
-on_ok (Ok x) P f = f refl
-on_ok (Err e) P f = tt
+if_ok : {X E : Type 0} (r : Result X E) (P Q : X → Type 0) → ((x : X) → P x → Q x) → IfOk r P → IfOk r Q
+if_ok (Ok x) P Q f h = f x h
+if_ok (Err e) P Q f h = tt
+
+nothing : (xs : List ℕ) → length xs ≡ 0 → xs ≡ []
+nothing [] e = refl
+nothing (x ∷ xs) e = absurd (omega (arith, e))
+
+only_first : (first end height : ℕ) → 0 < height → end ≤ height → IsTrue (nat_eq (end - first) height) → first ≡ 0
+only_first first end height some within t = grind arith
+
+none_first : (first w n : ℕ) → n ≡ first * w → first ≡ 0 → n ≡ 0
+none_first first w n e z = grind arith
+
+pub joined-requires : goal.joined-requires
+joined-requires g c = λ t.
+    let r = c.requires in
+    nothing c.args.words.items (none_first c.args.rows.first _ _ r.words.long
+    (only_first c.args.rows.first c.args.rows.end c.args.frame.height r.some r.rows t))
 
 pub cover_band-requires-clause-part : goal.cover_band-requires-clause-part
 cover_band-requires-clause-part g c =
     subst (IsPartOf c.args.frame c.args.rows.first c.args.rows.end) (sym c.in_ok-band.ensures.frame) c.band_of.ensures
 
 pub returns-clause-words : goal.returns-clause-words
-returns-clause-words g c = λ below.
-    on_ok c.extend_from_slice.result _ (λ ok.
+returns-clause-words g c =
     let x = c.in_ok-band.band.frame in
     let b = c.cover_band.new.band in
     let frame = c.cover_band.ensures.frame in
-    let old = c.args.words.now.items in
-    let part = c.row_words.result.now in
     let room : length b.marks.items ≡ x.height * words_for x.width + 1 =
     b.room ∙ ap (λ (y : Frame). y.height * words_for y.width + 1) frame in
-    let is : part ≡ take (x.height * words_for x.width) b.marks.items =
-    c.row_words.ensures ∙ ap (λ (y : Frame). take (y.height * words_for y.width) b.marks.items) frame in
-    let P : Bool → Type 0 = λ t. c.extend_from_slice.new.self.items ≡ (if t then old ++ part else old) in
-    scanned_band (map span_of c.args.pieces.now) c.args.frame x c.args.rows.first c.args.rows.end b.marks.items old part
-    c.extend_from_slice.new.self.items
+    let is : take (b.frame.height * words_for b.frame.width) b.marks.items ≡ take (x.height * words_for x.width) b.marks.items =
+    ap (λ (y : Frame). take (y.height * words_for y.width) b.marks.items) frame in
+    if_ok c.joined.result _ _ (λ all e.
+    scanned_band (map span_of c.args.pieces.now) c.args.frame x c.args.rows.first c.args.rows.end b.marks.items c.args.words.items
+    (take (b.frame.height * words_for b.frame.width) b.marks.items) all.items
     (subst (IsPartOf c.args.frame c.args.rows.first c.args.rows.end) (sym c.in_ok-band.ensures.frame) c.band_of.ensures)
-    is room c.cover_band.ensures.bits c.cover_band.ensures.unused (subst P ok c.extend_from_slice.ensures.items) below)
-
-pub returns-clause-noted : goal.returns-clause-noted
-returns-clause-noted g c = on_ok c.extend_from_slice.result _ (λ ok. c.cover_band.ensures.noted)
+    is room c.cover_band.ensures.bits c.cover_band.ensures.unused e c.requires.words) c.joined.ensures
 
 pub returns-clause-count : goal.returns-clause-count
 returns-clause-count g c =

@@ -1,4 +1,4 @@
-use Rattle.std.proofs.Common.{ℕ, sym, subst, ◌<◌, ◌≤◌, map}
+use Rattle.std.proofs.Common.{ℕ, sym, subst, ◌<◌, ◌≤◌, map, arith}
 use Rattle.std.specs.List.{All}
 use Rattle.fx_winding.specs.declared.frame.Frame.{Frame}
 use Rattle.fx_winding.specs.Notes.{IsNotedAcross, IsNotedUp, IsNoted}
@@ -16,4 +16,4 @@ returns-clause-noted c =
     × (r ≤ n.frame.height → IsNotedUp s n.frame n.up.items r) in
     subst (λ (f : Frame). All (λ s. IsNoted s f n.across.items n.up.items) ss) same
     (noted_frame P ss n.frame n.across.items n.up.items (λ s r h. h)
-    (subst (λ (f : Frame). AreNotedIn P ss f 0 f.height) (sym same) c.in_ok-bitmap.ensures.noted))
+    (subst (λ (f : Frame). AreNotedIn P ss f 0 f.height) (sym same) (c.in_ok-bitmap.ensures.noted (omega arith))))

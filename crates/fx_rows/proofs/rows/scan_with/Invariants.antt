@@ -2,7 +2,7 @@ use Rattle.std.proofs.Common.{◌≤◌, ◌<◌, ◌+◌, ◌-◌, ◌*◌, len
 use Rattle.fx_winding.specs.Winding.{span_of}
 use Rattle.fx_rows.specs.inner.Bands.{AreScanned}
 use Rattle.fx_rows.specs.inner.Telling.{AreNotedIn}
-use Rattle.fx_rows.proofs.rows.high_words.Given as goal
+use Rattle.fx_rows.proofs.rows.scan_with.Given as goal
 
 abbrev pub invariant-bands : goal.invariant-bands
 invariant-bands g l = record {
