@@ -11,9 +11,9 @@ if_ok : {X E : Type 0} (r : Result X E) (P Q : X → Type 0) → ((x : X) → P 
 if_ok (Ok x) P Q f h = f x h
 if_ok (Err e) P Q f h = tt
 
-nothing : (xs : List ℕ) → length xs ≡ 0 → xs ≡ []
-nothing [] e = refl
-nothing (x ∷ xs) e = absurd (omega (arith, e))
+no_words : (xs : List ℕ) → length xs ≡ 0 → xs ≡ []
+no_words [] e = refl
+no_words (x ∷ xs) e = absurd (omega (arith, e))
 
 only_first : (first end height : ℕ) → 0 < height → end ≤ height → IsTrue (nat_eq (end - first) height) → first ≡ 0
 only_first first end height some within t = grind arith
@@ -24,7 +24,7 @@ none_first first w n e z = grind arith
 pub joined-requires : goal.joined-requires
 joined-requires g c = λ t.
     let r = c.requires in
-    nothing c.args.words.items (none_first c.args.rows.first _ _ r.words.long
+    no_words c.args.words.items (none_first c.args.rows.first _ _ r.words.long
     (only_first c.args.rows.first c.args.rows.end c.args.frame.height r.some r.rows t))
 
 pub cover_band-requires-clause-part : goal.cover_band-requires-clause-part

@@ -12,7 +12,8 @@ use Rattle.fx_rows.proofs.rows.scan_with.Goals as goal
 pub scan_band-requires-clause-words : goal.scan_band-requires-clause-words
 scan_band-requires-clause-words g c =
     let f = c.args.frame in
-    subst (λ z. z) (λ i. AreScanned (map span_of (sym c.as_slice.ensures.value i)) f.left f.bottom f.width c.bands.from c.bands.words.items)
+    subst (λ z. z)
+    (λ i. AreScanned (map span_of (sym c.as_slice.ensures.value i)) f.left f.bottom f.width c.bands.from c.bands.words.items)
     c.bands.invariant.scanned
 
 pub bands-preserved : goal.bands-preserved
