@@ -133,7 +133,8 @@ pub(crate) fn lies_below(piece: &Piece, row: i32) -> bool
     high_y(piece) < 128 * row + 64
 }
 
-/// Whether a piece rests on the centres of a row: none of its points is below them, and at most its lower end at their height.
+/// Whether a piece rests on the centres of a row: none of its points is below them, and of its ends at most the lower one at
+/// their height.
 #[inline(always)]
 pub(crate) fn rests_on(piece: &Piece, row: i32) -> bool
     requires { IsWithin (2 ^ 16) row }
@@ -145,7 +146,8 @@ pub(crate) fn rests_on(piece: &Piece, row: i32) -> bool
     128 * row + 64 <= low_y(piece)
 }
 
-/// Whether a piece hangs from the centres of a row: none of its points is above them, and at most its upper end at their height.
+/// Whether a piece hangs from the centres of a row: none of its points is above them, and of its ends at most the upper one at
+/// their height.
 #[inline(always)]
 pub(crate) fn hangs_from(piece: &Piece, row: i32) -> bool
     requires { IsWithin (2 ^ 16) row }

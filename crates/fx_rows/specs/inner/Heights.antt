@@ -12,10 +12,10 @@ height_of f r = pos 128 *ℤ (f.bottom +ℤ pos r) +ℤ pos 64
 abbrev pub IsMissed : Span → ℤ → Type 0
 IsMissed s y = HasAll (λ q. y <ℤ q.y) s ⊎ HasAll (λ q. q.y <ℤ y) s
 
--- no point of a piece is below this height, and its ends are at two heights: so at most its lower end is at this one
+-- no point of a piece is below this height, and its ends are at two heights: so of its ends at most the lower one is at this one
 abbrev pub IsResting : Span → ℤ → Type 0
 IsResting s y = HasAll (λ q. y ≤ℤ q.y) s × (s.a.y ≢ s.c.y)
 
--- no point is above it, and at most the upper end is at it
+-- no point is above it, and of the ends at most the upper one is at it
 abbrev pub IsHanging : Span → ℤ → Type 0
 IsHanging s y = HasAll (λ q. q.y ≤ℤ y) s × (s.a.y ≢ s.c.y)
