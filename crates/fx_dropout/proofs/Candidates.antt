@@ -4,7 +4,6 @@ use Rattle.std.proofs.Common.{◌≡◌, ◌⊎◌, ◌↔◌, inl, inr, sym, ap
 use Rattle.std.proofs.Common.{pos, ◌+ℤ◌, ◌-ℤ◌}
 use Rattle.std.proofs.Common.{List, [], length, take, drop, map, All, Any, get_or, arith}
 use Rattle.fx_fixed.proofs.Linear.{signed_linear}
-use Rattle.fx_fixed.proofs.Order.{below_or_not}
 use Rattle.fx_winding.specs.declared.frame.Frame.{Frame}
 use Rattle.fx_winding.specs.Area.{Place}
 use Rattle.fx_winding.specs.Bitmaps.{Bits, AreRowWords, words_for, bit_of, bits_in, word_bit}
@@ -180,54 +179,6 @@ level_passed ss f noted lower upper Old b i x y k m same rx ry ex ey few low lw 
     (level_kept (map turned_span ss) f.left k i x Old (IsSoFar true ss f b) a) (row_set f b x lower same rx lw lv)
     (row_set f b y upper same ry uw uv) ex ey (omega (arith, h))
     (shut n l (omega (arith, h)) (omega (arith, h, room, words_wide f.width)))) a
-
--- as the words of a row tell
-pub row_shut : (b : Bits) (across part row : List ℕ) (r m n from : ℕ) (j : ℤ)
-    → ((n : ℕ) → word_bit row n ≡ 1 → IsTrue (bit_of b (b.frame.left +ℤ pos n) j)) → j ≡ b.frame.bottom +ℤ pos r
-    → from ≡ r * words_for b.frame.width → part ≡ take m (drop from across) → n < 32 * m → IsShutAcross part row n
-    → IsShutInRow across b r n
-row_shut b across part row r m n from j set ej e p l (inl z) = inl (sym (part_number across part b.frame r m n from e l p) ∙ z)
-row_shut b across part row r m n from j set ej e p l (inr (inl o)) =
-    inr (inl (subst (λ (j : ℤ). IsTrue (bit_of b (b.frame.left +ℤ pos n) j)) ej (set n o)))
-row_shut b across part row r m n from j set ej e p l (inr (inr (some, o))) =
-    let i : b.frame.left +ℤ pos (n - 1) ≡ (b.frame.left -ℤ pos 1) +ℤ pos n = omega (arith, signed_linear, some) in
-    inr (inr (subst (λ (z : ℤ × ℤ). IsTrue (bit_of b z.0 z.1)) (λ t. (i t, ej t)) (set (n - 1) o)))
-
--- a row is one of the two between which a segment leads
-abbrev pub IsEither : Frame → ℕ → ℤ → Type 0
-IsEither f r i = (i ≡ (f.bottom -ℤ pos 1) +ℤ pos r) ⊎ (i ≡ f.bottom +ℤ pos r)
-
-pub lower_either : (f : Frame) (up k : ℕ) (i : ℤ) → k ≡ up - 1 → i ≡ f.bottom +ℤ pos k → IsEither f up i
-lower_either f up k i e ei = by (below_or_not 0 up)
-  where
-    by : (0 < up) ⊎ (up ≤ 0) → IsEither f up i
-    by (inl l) = inl (omega (arith, signed_linear, ei, e, l))
-    by (inr l) = inr (omega (arith, signed_linear, ei, e, l))
-
-pub upper_either : (f : Frame) (up k : ℕ) (j : ℤ) → k ≡ min up (f.height - 1) → up ≤ f.height → 0 < f.height
-    → j ≡ f.bottom +ℤ pos k → IsEither f up j
-upper_either f up k j e few some ej = by (below_or_not up f.height)
-  where
-    by : (up < f.height) ⊎ (f.height ≤ up) → IsEither f up j
-    by (inl l) = inr (omega (arith, signed_linear, ej, e, l))
-    by (inr l) = inl (omega (arith, signed_linear, ej, e, l, few, some))
-
-either_set : (b : Bits) (r n : ℕ) (i : ℤ) → IsEither b.frame r i → IsTrue (bit_of b (b.frame.left +ℤ pos n) i)
-    → IsTrue (bit_of b (b.frame.left +ℤ pos n) ((b.frame.bottom -ℤ pos 1) +ℤ pos r))
-    ⊎ IsTrue (bit_of b (b.frame.left +ℤ pos n) (b.frame.bottom +ℤ pos r))
-either_set b r n i (inl e) t = inl (subst (λ (i : ℤ). IsTrue (bit_of b (b.frame.left +ℤ pos n) i)) e t)
-either_set b r n i (inr e) t = inr (subst (λ (i : ℤ). IsTrue (bit_of b (b.frame.left +ℤ pos n) i)) e t)
-
--- as the words of two rows tell
-pub level_shut : (b : Bits) (up part lower upper : List ℕ) (r m n from : ℕ) (i j : ℤ)
-    → ((n : ℕ) → word_bit lower n ≡ 1 → IsTrue (bit_of b (b.frame.left +ℤ pos n) i))
-    → ((n : ℕ) → word_bit upper n ≡ 1 → IsTrue (bit_of b (b.frame.left +ℤ pos n) j)) → IsEither b.frame r i → IsEither b.frame r j
-    → from ≡ r * words_for b.frame.width → part ≡ take m (drop from up) → n < 32 * m → IsShutUp part lower upper n
-    → IsShutInColumn up b r n
-level_shut b up part lower upper r m n from i j below above ei ej e p l (inl z) =
-    inl (sym (part_number up part b.frame r m n from e l p) ∙ z)
-level_shut b up part lower upper r m n from i j below above ei ej e p l (inr (inl o)) = inr (either_set b r n i ei (below n o))
-level_shut b up part lower upper r m n from i j below above ei ej e p l (inr (inr o)) = inr (either_set b r n j ej (above n o))
 
 -- a segment that is shut in a row is no gap
 pub row_gapless : (ss : List Span) (f : Frame) (across up : List ℕ) (b : Bits) (r n : ℕ) → b.frame ≡ f

@@ -163,7 +163,3 @@ pub levels_all : (ss : List Span) (f : Frame) (k : ℕ) (old new : ℤ → ℤ �
 levels_all ss f k old new e a i j =
     let done = subst (λ (n : ℕ). new i j ↔ IsBridgedTo ss (λ i j. IsInFrame f j i) old f.bottom n i j) e (a i j) in
     both done (bridged_all ss (λ i j. IsInFrame f j i) old f.bottom f.height i j (λ h. h.row))
-
--- a frame without rows has no gap to close
-pub flat : (f : Frame) (i j : ℤ) → f.height ≡ 0 → ¬ (IsInFrame f j i)
-flat f i j e h = omega (arith, signed_linear, h.row.0, h.row.1, e)

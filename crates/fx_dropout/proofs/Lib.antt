@@ -4,4 +4,6 @@ pub mod Segments
 pub mod Rows
 pub mod Levels
 pub mod Candidates
+pub mod Looks
+pub mod Tests
 pub mod Words

@@ -1,16 +1,16 @@
 -- Bits of the words of rows and of notes.
 -- Serves `open`.
 use Rattle.std.proofs.Common.{◌≡◌, ◌⊎◌, inl, inr, sym, ap, ◌∙◌, subst, ℕ, zero, suc, ◌+◌, ◌-◌, ◌*◌, ◌/◌, ◌%◌, ◌<◌, ◌≤◌}
-use Rattle.std.proofs.Common.{◌^◌, List, take, drop, get_or, bit_and, bit_or, min, w32, arith}
+use Rattle.std.proofs.Common.{◌^◌, Bool, IsTrue, List, take, drop, get_or, bit_and, bit_or, min, w32, arith}
 use Rattle.std.specs.Int.{bit_at, leading_zeros}
 use Rattle.std.specs.Int.Count.{count_leading_zeros}
-use Rattle.std.proofs.lemmas.Nat.{or_of_32, pow_pos, shr_split, leading_length}
+use Rattle.std.proofs.lemmas.Nat.{or_of_32, pow_pos, shr_split, leading_length, le_or_l, le_or_r}
 use Rattle.std.proofs.lemmas.Nat.Bits.{bit_at_or, bit_at_and, bit_at_not, bit_at-lt, bit_at-zero, bit_at_above}
 use Rattle.std.proofs.lemmas.Nat.Bits.{bit_at_cat_high, bit_at_cat_low, bit_at-suc, bit_at_lowest}
 use Rattle.std.proofs.lemmas.List.{get_or-take, get_or-drop}
 use Rattle.fx_fixed.proofs.Order.{below_or_not}
 use Rattle.fx_winding.specs.Bitmaps.{word_bit}
-use Rattle.fx_dropout.specs.inner.Words.{IsShut, left_bit, IsShutAcross}
+use Rattle.fx_dropout.specs.inner.Words.{IsShut, left_bit, IsShutWithin}
 
 -- ---- the bits of pixels that are set or whose left neighbour is
 bit_of_row : (row : List ℕ) (w i : ℕ) → i < 32 → bit_at (get_or row w 0) (31 - i) ≡ word_bit row (32 * w + i)
@@ -130,52 +130,74 @@ leading_none word k i h below l = by (leading_length 32 (word * 2 ^ k % 42949672
         sym (ap (bit_at word) at) ∙ sym (moved_bit word k ((31 - i) + k) (omega arith) (omega (arith, h, l)))
         ∙ bit_at_above a m ((31 - i) + k) few (omega (arith, e, below, l))
 
--- ---- from words to rows
--- the segment n of a row by the bit i of the word w; `before` is the word before
-across_shut : (noted row : List ℕ) (w word before i n : ℕ) → 32 * w + i ≡ n → i < 32 → word ≡ get_or row w 0
-    → (0 < w → before ≡ get_or row (w - 1) 0) → (w ≡ 0 → before ≡ 0)
-    → IsShut (bit_at (get_or noted w 0) (31 - i)) (bit_at word (31 - i)) (left_bit word before i) → IsShutAcross noted row n
-across_shut noted row w word before i n en l is later first s = subst (IsShutAcross noted row) en (by i l s)
+-- ---- words one after the other
+or_none : (a b : ℕ) → bit_or a b ≡ 0 → (a ≡ 0) × (b ≡ 0)
+or_none a b h = (omega (arith, h, le_or_l a b), omega (arith, h, le_or_r a b))
+
+-- a place in a word, by its number
+in_word : (P : ℕ → Type 0) (w bits n : ℕ) → ((i : ℕ) → i < 32 → bit_at bits (31 - i) ≡ 0 → P (32 * w + i)) → 32 * w ≤ n
+    → n < 32 * (w + 1) → bit_at bits (31 - (n - 32 * w)) ≡ 0 → P n
+in_word P w bits n all low high none =
+    let e : 32 * w + (n - 32 * w) ≡ n = omega (arith, low) in
+    subst P e (all (n - 32 * w) (omega (arith, low, high)) none)
+
+-- the words of a part, as far as no bit is found
+pub part_more : (P : ℕ → Type 0) (from k found bits w : ℕ) → w ≡ from + k
+    → (found ≡ 0 → (n : ℕ) → 32 * from ≤ n → n < 32 * (from + k) → P n)
+    → ((i : ℕ) → i < 32 → bit_at bits (31 - i) ≡ 0 → P (32 * w + i)) → bit_or found bits ≡ 0 → (n : ℕ) → 32 * from ≤ n
+    → n < 32 * (from + (k + 1)) → P n
+part_more P from k found bits w at before all none n low high = by (below_or_not n (32 * (from + k)))
   where
-    here : (i : ℕ) → i < 32 → bit_at word (31 - i) ≡ word_bit row (32 * w + i)
-    here i l = ap (λ n. bit_at n (31 - i)) is ∙ bit_of_row row w i l
-
-    left : (i : ℕ) → i < 32 → left_bit word before i ≡ 1 → (0 < w) ⊎ (w ≤ 0) → IsShutAcross noted row (32 * w + i)
-    left (suc i) l s v =
-        let e : 32 * w + i ≡ 32 * w + suc i - 1 = omega arith in
-        inr (inr (omega arith, ap (word_bit row) (sym e) ∙ sym (here i (omega (arith, l))) ∙ s))
-    left zero l s (inl v) =
-        let e : 32 * (w - 1) + 31 ≡ 32 * w + 0 - 1 = omega (arith, v) in
-        inr (inr (
-          omega (arith, v),
-          ap (word_bit row) (sym e) ∙ sym (bit_of_row row (w - 1) 31 (omega arith)) ∙ ap (λ n. bit_at n 0) (sym (later v)) ∙ s,
-        ))
-    left zero l s (inr v) = let none = ap (λ n. bit_at n 0) (first (omega (arith, v))) in absurd (omega (arith, none, s))
-
-    by : (i : ℕ) → i < 32 → IsShut (bit_at (get_or noted w 0) (31 - i)) (bit_at word (31 - i)) (left_bit word before i)
-        → IsShutAcross noted row (32 * w + i)
-    by i l (inl z) = inl (sym (bit_of_row noted w i l) ∙ z)
-    by i l (inr (inl o)) = inr (inl (sym (here i l) ∙ o))
-    by i l (inr (inr o)) = left i l o (below_or_not 0 w)
+    by : (n < 32 * (from + k)) ⊎ (32 * (from + k) ≤ n) → P n
+    by (inl h) = before (or_none found bits none).0 n low h
+    by (inr h) = in_word P w bits n all (omega (arith, h, at)) (omega (arith, high, at))
+        (ap (λ b. bit_at b (31 - (n - 32 * w))) (or_none found bits none).1 ∙ bit_at-zero (31 - (n - 32 * w)))
 
 -- the segments from one on, as far as none before `bit` is found in the word w
-pub across_more : (noted row : List ℕ) (w word before bits bit from start n : ℕ) → word ≡ get_or row w 0
-    → (0 < w → before ≡ get_or row (w - 1) 0) → (w ≡ 0 → before ≡ 0)
-    → ((i : ℕ) → i < 32 → bit_at bits (31 - i) ≡ 0
-    → IsShut (bit_at (get_or noted w 0) (31 - i)) (bit_at word (31 - i)) (left_bit word before i))
-    → start ≡ from - 32 * w → ((i : ℕ) → start ≤ i → i < bit → i < 32 → bit_at bits (31 - i) ≡ 0)
-    → ((n : ℕ) → from ≤ n → n < 32 * w → IsShutAcross noted row n) → from ≤ n → n < 32 * w + bit → n < 32 * (w + 1)
-    → IsShutAcross noted row n
-across_more noted row w word before bits bit from start n is later first shut begin none lower low high whole =
-    by (below_or_not n (32 * w))
+pub word_more : (P : ℕ → Type 0) (w bits bit from start : ℕ)
+    → ((i : ℕ) → i < 32 → bit_at bits (31 - i) ≡ 0 → P (32 * w + i)) → start ≡ from - 32 * w
+    → ((i : ℕ) → start ≤ i → i < bit → i < 32 → bit_at bits (31 - i) ≡ 0) → ((n : ℕ) → from ≤ n → n < 32 * w → P n) → (n : ℕ)
+    → from ≤ n → n < 32 * w + bit → n < 32 * (w + 1) → P n
+word_more P w bits bit from start all begin none lower n low high whole = by (below_or_not n (32 * w))
   where
-    by : (n < 32 * w) ⊎ (32 * w ≤ n) → IsShutAcross noted row n
+    by : (n < 32 * w) ⊎ (32 * w ≤ n) → P n
     by (inl h) = lower n low h
-    by (inr h) =
-        let i = n - 32 * w in
-        let l : i < 32 = omega (arith, h, whole) in
-        across_shut noted row w word before i n (omega (arith, h)) l is later first
-        (shut i l (none i (omega (arith, begin, low)) (omega (arith, h, high)) l))
+    by (inr h) = in_word P w bits n all h whole
+        (none (n - 32 * w) (omega (arith, begin, low)) (omega (arith, h, high)) (omega (arith, h, whole)))
+
+-- ---- words of which each is seen alone
+bit_none : (a b i : ℕ) → bit_at (bit_or a b) i ≡ 0 → (bit_at a i ≡ 0) × (bit_at b i ≡ 0)
+bit_none a b i h = (omega (arith, h, bit_at_or a b i), omega (arith, h, bit_at_or a b i))
+
+-- the segment i of the word w; a word's first bit is bit 31
+pub within_shut : (noted pixels : List ℕ) (shared : Bool) (w found first i : ℕ) → i < 32 → (IsTrue shared → first ≡ 2147483648)
+    → ((i : ℕ) → i < 32 → bit_at found (31 - i) ≡ 0
+    → IsShut (bit_at (get_or noted w 0) (31 - i)) (bit_at (get_or pixels w 0) (31 - i)) (left_bit (get_or pixels w 0) 0 i))
+    → bit_at (bit_or found (bit_and (get_or noted w 0) first)) (31 - i) ≡ 0 → IsShutWithin noted pixels shared (32 * w + i)
+within_shut noted pixels shared w found first i l is all none = record {
+  shut = by i l (all i l parts.0);
+  first = λ s z. sym (bit_of_row noted w i l) ∙ unnoted s (omega (arith, z, l));
+}
+  where
+    parts : (bit_at found (31 - i) ≡ 0) × (bit_at (bit_and (get_or noted w 0) first) (31 - i) ≡ 0)
+    parts = bit_none found (bit_and (get_or noted w 0) first) (31 - i) none
+
+    unnoted : IsTrue shared → i ≡ 0 → bit_at (get_or noted w 0) (31 - i) ≡ 0
+    unnoted s z =
+        let k : 31 - i ≡ 31 = omega (arith, z) in
+        let one : bit_at first (31 - i) ≡ 1 = λ t. bit_at (is s t) (k t) in
+        omega (arith, one, bit_at-lt (get_or noted w 0) (31 - i), bit_at_and (get_or noted w 0) first (31 - i), parts.1)
+
+    by : (i : ℕ) → i < 32
+        → IsShut (bit_at (get_or noted w 0) (31 - i)) (bit_at (get_or pixels w 0) (31 - i)) (left_bit (get_or pixels w 0) 0 i)
+        → (word_bit noted (32 * w + i) ≡ 0) ⊎ ((word_bit pixels (32 * w + i) ≡ 1)
+        ⊎ ((0 < (32 * w + i) % 32) × (word_bit pixels (32 * w + i - 1) ≡ 1)))
+    by i l (inl z) = inl (sym (bit_of_row noted w i l) ∙ z)
+    by i l (inr (inl o)) = inr (inl (sym (bit_of_row pixels w i l) ∙ o))
+    by zero l (inr (inr o)) = absurd (omega (arith, bit_at-zero 0, o))
+    by (suc i) l (inr (inr o)) =
+        let e : 32 * w + i ≡ 32 * w + suc i - 1 = omega arith in
+        inr (inr (omega (arith, l), ap (word_bit pixels) (sym e) ∙ sym (bit_of_row pixels w i (omega (arith, l))) ∙ o))
 
 -- ---- a part of a list of words
 pub part_bit : (xs : List ℕ) (from n k : ℕ) → k < 32 * n → word_bit (take n (drop from xs)) k ≡ word_bit xs (32 * from + k)

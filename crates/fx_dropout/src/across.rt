@@ -1,42 +1,76 @@
 //! The gaps of rows closed, in place. Only rows are looked at in which a segment is noted whose pixels are not set.
 
-ghost use Rattle.std.specs.Prelude.{◌≡◌, ◌⊎◌, ◌↔◌, ℕ, ◌+◌, ◌*◌, ◌<◌, ◌≤◌, ℤ, pos, length, map, All, false};
+ghost use Rattle.std.specs.Prelude.{◌≡◌, ◌⊎◌, ◌↔◌, ℕ, ◌+◌, ◌-◌, ◌*◌, ◌<◌, ◌≤◌, IsTrue, ℤ, pos, length, map, All, false};
 ghost use Rattle.fx_winding.specs.Bitmaps.{words_for as words_for_of};
 ghost use Rattle.fx_winding.specs.Dropout.{IsBridged};
 ghost use Rattle.fx_winding.specs.Frames.{IsFrom, IsInFrame, HasMargin};
 ghost use Rattle.fx_winding.specs.Notes.{IsNoted};
 ghost use Rattle.fx_winding.specs.Winding.{span_of, centre, IsCovered};
+ghost use Rattle.fx_dropout.specs.Tests.{most_tests};
 ghost use Rattle.fx_dropout.specs.inner.Lines.{IsSoFar, IsRowClosed, IsRowNoted};
 ghost use Rattle.fx_dropout.specs.inner.Words.{IsShutInRow};
 
-use crate::close::{close_gap, closer};
-use crate::open::{is_open_across, next_across};
-use fx_winding::{Bitmap, Frame, Notes, Pieces, words_for};
+use crate::close::{close_gap, closer, is_empty};
+use crate::next::next_segment;
+use crate::open::{InRow, InRows};
+use fx_winding::{Bitmap, Frame, Notes, Pieces, Tally, words_for};
 
 /// Closes the gaps of a row of the frame, from left to right: each by its left pixel, and the one before the first pixel by that.
-fn close_row(pieces: &Pieces, noted: &[u32], frame: Frame, bitmap: &mut Bitmap, j: i32)
+fn close_row(
+    pieces: &Pieces,
+    noted: &[u32],
+    frame: Frame,
+    bitmap: &mut Bitmap,
+    j: i32,
+    tally: &mut Tally,
+)
     requires margin { HasMargin frame }
     requires some { 0 < frame.width }
     requires same { bitmap.old.frame ≡ frame }
     requires row { IsFrom frame.bottom frame.height j }
-    requires room { words_for_of frame.width + 1 ≤ length noted.now }
+    requires room { length noted.now ≡ words_for_of frame.width + 1 }
     requires noted { IsRowNoted (map span_of pieces.now) frame j
         (IsSoFar false (map span_of pieces.now) frame bitmap.old) noted.now }
     ensures frame { bitmap.new.frame ≡ frame }
     ensures closed { IsRowClosed (map span_of pieces.now) frame j (IsSoFar false (map span_of pieces.now) frame bitmap.old)
         (IsSoFar false (map span_of pieces.now) frame bitmap.new) }
+    ensures count { tally.new.count ≤ tally.old.count + (frame.width + 1) * most_tests (length pieces.now) }
 {
-    let mut k = next_across(noted, bitmap.row(j), 0);
+    let mut k = next_segment(
+        &InRow {
+            noted,
+            row: bitmap.row(j),
+        },
+        0,
+    );
     // The gaps among the first k segments are closed.
     'segments: while k <= frame.width as usize {
         let i = frame.left - 1 + k as i32;
-        close_gap(false, pieces, bitmap, i, j, closer(i, frame.left));
-        k = next_across(noted, bitmap.row(j), k + 1);
+        close_gap(false, pieces, bitmap, i, j, closer(i, frame.left), tally);
+        k = next_segment(
+            &InRow {
+                noted,
+                row: bitmap.row(j),
+            },
+            k + 1,
+        );
     }
 }
 
-/// The next row from one on in which a segment can be a gap, or the number of rows. Rows are counted from the lowest.
-fn next_open(across: &[u32], bitmap: &Bitmap, from: u32) -> u32
+/// How many of the first words, none of whose segments can be a gap, are followed by the last segment of a row that can't be one
+/// either. Where it has a shared bit, that is in the next word.
+#[inline(always)]
+fn whole_words(shut: usize, shared: bool) -> usize
+    ensures within { result ≤ shut }
+    ensures shared { IsTrue shared → result ≡ shut - 1 }
+{
+    if shared { shut.saturating_sub(1) } else { shut }
+}
+
+/// The next row from one on in which a segment can be a gap, or one before that, or the number of rows. Rows are counted from the
+/// lowest.
+fn next_row(across: &[u32], bitmap: &Bitmap, from: u32) -> u32
+    requires wide { 0 < bitmap.now.frame.width }
     requires room { length across.now ≡ bitmap.now.frame.height * words_for_of bitmap.now.frame.width + 1 }
     requires order { from ≤ bitmap.now.frame.height }
     ensures from { from ≤ result }
@@ -46,19 +80,21 @@ fn next_open(across: &[u32], bitmap: &Bitmap, from: u32) -> u32
 {
     let frame = bitmap.frame();
     let words = words_for(frame.width);
-    // In the rows from `from` on and before `up` no segment can be a gap.
-    'rows: for up in from..frame.height {
-        let first = up as usize * words;
-        let row = bitmap.row(frame.bottom + up as i32);
-        if is_open_across(&across[first..first + words + 1], row) {
-            return up;
-        }
-    }
-    frame.height
+    let start = from as usize * words;
+    let pixels = &bitmap.words()[start..];
+    let noted = &across[start..start + pixels.len()];
+    let shared = frame.width % 32 == 0;
+    let rows = InRows {
+        noted,
+        pixels,
+        shared,
+    };
+    let whole = whole_words(next_segment(&rows, 0) / 32, shared);
+    from + (whole / words) as u32
 }
 
 /// Closes the gaps of all rows of the frame.
-pub fn close_rows(pieces: &Pieces, notes: &Notes, bitmap: &mut Bitmap)
+pub fn close_rows(pieces: &Pieces, notes: &Notes, bitmap: &mut Bitmap, tally: &mut Tally)
     requires margin { HasMargin bitmap.old.frame }
     requires frame { notes.now.frame ≡ bitmap.old.frame }
     requires noted { All (λ s. IsNoted s notes.now.frame notes.now.across.items notes.now.up.items) (map span_of pieces.now) }
@@ -68,18 +104,27 @@ pub fn close_rows(pieces: &Pieces, notes: &Notes, bitmap: &mut Bitmap)
     ensures closed { (i j : ℤ) → IsSoFar false (map span_of pieces.now) bitmap.old.frame bitmap.new i j ↔
         IsBridged (map span_of pieces.now) (IsInFrame bitmap.old.frame)
         (IsSoFar false (map span_of pieces.now) bitmap.old.frame bitmap.old) i j }
+    ensures count { tally.new.count ≤ tally.old.count +
+        bitmap.old.frame.height * ((bitmap.old.frame.width + 1) * most_tests (length pieces.now)) }
 {
     let frame = notes.frame;
-    if frame.width == 0 {
+    if is_empty(frame) {
         return;
     }
     let words = words_for(frame.width);
-    let mut up = next_open(&notes.across, bitmap, 0);
+    let mut up = next_row(&notes.across, bitmap, 0);
     // The gaps of the rows before `up` are closed, and the others are as they were.
     'rows: while up < frame.height {
         let first = up as usize * words;
         let noted = &notes.across[first..first + words + 1];
-        close_row(pieces, noted, frame, bitmap, frame.bottom + up as i32);
-        up = next_open(&notes.across, bitmap, up + 1);
+        close_row(
+            pieces,
+            noted,
+            frame,
+            bitmap,
+            frame.bottom + up as i32,
+            tally,
+        );
+        up = next_row(&notes.across, bitmap, up + 1);
     }
 }

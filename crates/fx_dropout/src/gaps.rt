@@ -1,6 +1,6 @@
 //! Gaps of rows: pairs of neighbours, neither of which is set, between whose centres a piece passes.
 
-ghost use Rattle.std.specs.Prelude.{◌≡◌, ◌↔◌, ◌⊎◌, ◌<ℤ◌, IsTrue, ◌+ℤ◌, pos, Any, map, MatchOption};
+ghost use Rattle.std.specs.Prelude.{◌≡◌, ◌↔◌, ◌⊎◌, ◌+◌, ◌*◌, ◌≤◌, ◌<ℤ◌, IsTrue, ◌+ℤ◌, pos, length, Any, map, MatchOption};
 ghost use Rattle.fx_fixed.specs.Ranges.{IsWithin};
 ghost use Rattle.fx_winding.specs.Dropout.{IsGap};
 ghost use Rattle.fx_winding.specs.Frames.{IsInFrame};
@@ -8,6 +8,7 @@ ghost use Rattle.fx_winding.specs.Limits.{IsPixelNumber};
 ghost use Rattle.fx_winding.specs.Meets.{IsMet, turn};
 ghost use Rattle.fx_winding.specs.Outside.{HasAll};
 ghost use Rattle.fx_winding.specs.Winding.{place_of, span_of, centre as centre_of, IsOn, IsCovered};
+ghost use Rattle.fx_dropout.specs.Tests.{most_tests};
 ghost use Rattle.fx_dropout.specs.inner.Lines.{IsSoFar};
 ghost use Rattle.fx_winding.specs.Dropout.{turned_span};
 ghost use Rattle.fx_dropout.specs.inner.Turned.{seen_span, seen_spans, seen_centre, IsSeenInFrame, IsBeside, IsAside};
@@ -156,23 +157,25 @@ fn is_aside(turned: bool, piece: &Piece, first: i32, last: i32) -> bool
 }
 
 /// Whether a piece meets the segment from the centre of a pixel to that of its right neighbour.
-fn meets_next(piece: &Piece, i: i32, j: i32) -> bool
+fn meets_next(piece: &Piece, i: i32, j: i32, tally: &mut Tally) -> bool
     requires here { IsPixelNumber i }
     requires next { IsPixelNumber (i +ℤ pos 1) }
     requires row { IsPixelNumber j }
-    ensures { IsTrue result ↔ IsMet (centre_of i j) (centre_of (i +ℤ pos 1) j) (span_of piece.now) }
+    ensures value { IsTrue result ↔ IsMet (centre_of i j) (centre_of (i +ℤ pos 1) j) (span_of piece.now) }
+    ensures count { tally.new.count ≤ tally.old.count + 5 }
 {
-    let mut tally = Tally::new();
-    meets(piece, centre(i, j), centre(i + 1, j), &mut tally)
+    meets(piece, centre(i, j), centre(i + 1, j), tally)
 }
 
 /// Whether a piece, as it is or with its coordinates exchanged, meets that segment. Most pieces lie beside its row, or aside of it
 /// there.
-fn meets_seen(turned: bool, piece: &Piece, i: i32, j: i32) -> bool
+fn meets_seen(turned: bool, piece: &Piece, i: i32, j: i32, tally: &mut Tally) -> bool
     requires here { IsPixelNumber i }
     requires next { IsPixelNumber (i +ℤ pos 1) }
     requires row { IsPixelNumber j }
-    ensures { IsTrue result ↔ IsMet (centre_of i j) (centre_of (i +ℤ pos 1) j) (seen_span turned (span_of piece.now)) }
+    ensures value { IsTrue result ↔
+        IsMet (centre_of i j) (centre_of (i +ℤ pos 1) j) (seen_span turned (span_of piece.now)) }
+    ensures count { tally.new.count ≤ tally.old.count + 5 }
 {
     let p = centre(i, j);
     if is_beside(turned, piece, p.y) {
@@ -182,20 +185,22 @@ fn meets_seen(turned: bool, piece: &Piece, i: i32, j: i32) -> bool
     if is_aside(turned, piece, p.x, q.x) {
         return false;
     }
-    meets_next(&seen_piece(turned, piece), i, j)
+    meets_next(&seen_piece(turned, piece), i, j, tally)
 }
 
 /// Whether one of the pieces, as they are or with their coordinates exchanged, meets the segment from the centre of a pixel to that
 /// of its right neighbour.
-fn any_meets(turned: bool, pieces: &[Piece], i: i32, j: i32) -> bool
+fn any_meets(turned: bool, pieces: &[Piece], i: i32, j: i32, tally: &mut Tally) -> bool
     requires here { IsPixelNumber i }
     requires next { IsPixelNumber (i +ℤ pos 1) }
     requires row { IsPixelNumber j }
-    ensures { IsTrue result ↔ Any (IsMet (centre_of i j) (centre_of (i +ℤ pos 1) j)) (seen_spans turned (map span_of pieces.now)) }
+    ensures value { IsTrue result ↔
+        Any (IsMet (centre_of i j) (centre_of (i +ℤ pos 1) j)) (seen_spans turned (map span_of pieces.now)) }
+    ensures count { tally.new.count ≤ tally.old.count + 5 * length pieces.now }
 {
     // None of the pieces before this one meets the segment.
     'pieces: for piece in pieces {
-        if meets_seen(turned, piece, i, j) {
+        if meets_seen(turned, piece, i, j, tally) {
             return true;
         }
     }
@@ -222,29 +227,30 @@ fn is_in_frame(frame: Frame, col: i32, row: i32) -> bool
 }
 
 /// What a piece adds to the winding number at p, or None if p is on it. Most pieces lie above p or below it, and add nothing.
-fn turn_off(piece: &Piece, p: Point) -> Option<i32>
-    ensures { MatchOption result (IsOn (place_of p) (span_of piece.now))
+fn turn_off(piece: &Piece, p: Point, tally: &mut Tally) -> Option<i32>
+    ensures value { MatchOption result (IsOn (place_of p) (span_of piece.now))
         (λ t. IsWithin 2 t × (t ≡ turn (place_of p) (span_of piece.now)) × ¬ (IsOn (place_of p) (span_of piece.now))) }
+    ensures count { tally.new.count ≤ tally.old.count + 3 }
 {
     if is_beside_row(piece, p.y) {
         return Some(0);
     }
-    let mut tally = Tally::new();
-    if on_piece(piece, p.x, p.y, &mut tally) {
+    if on_piece(piece, p.x, p.y, tally) {
         return None;
     }
-    let crossed = crossing(piece, p.x, p.y, &mut tally);
-    Some(crossed + region(piece, p.x, p.y, &mut tally))
+    let crossed = crossing(piece, p.x, p.y, tally);
+    Some(crossed + region(piece, p.x, p.y, tally))
 }
 
 /// Whether p is on a piece, or has a winding number other than 0.
-fn covers(pieces: &[Piece], p: Point) -> bool
-    ensures { IsTrue result ↔ IsCovered (place_of p) (map span_of pieces.now) }
+fn covers(pieces: &[Piece], p: Point, tally: &mut Tally) -> bool
+    ensures value { IsTrue result ↔ IsCovered (place_of p) (map span_of pieces.now) }
+    ensures count { tally.new.count ≤ tally.old.count + 3 * length pieces.now }
 {
     let mut turns: i128 = 0;
     // p is on none of the pieces so far, and these add `turns` to its winding number.
     'pieces: for piece in pieces {
-        match turn_off(piece, p) {
+        match turn_off(piece, p, tally) {
             None => return true,
             Some(turn) => turns += i128::from(turn),
         }
@@ -253,50 +259,75 @@ fn covers(pieces: &[Piece], p: Point) -> bool
 }
 
 /// Whether a pixel lies outside the frame of a bitmap and is covered.
-fn is_covered_outside(pieces: &Pieces, frame: Frame, col: i32, row: i32) -> bool
+fn is_covered_outside(pieces: &Pieces, frame: Frame, col: i32, row: i32, tally: &mut Tally) -> bool
     requires column { IsPixelNumber col }
     requires row { IsPixelNumber row }
-    ensures { IsTrue result ↔ (¬ (IsInFrame frame col row) × IsCovered (centre_of col row) (map span_of pieces.now)) }
+    ensures value { IsTrue result ↔ (¬ (IsInFrame frame col row) × IsCovered (centre_of col row) (map span_of pieces.now)) }
+    ensures count { tally.new.count ≤ tally.old.count + 3 * length pieces.now }
 {
     if is_in_frame(frame, col, row) {
         return false;
     }
-    covers(pieces.as_slice(), centre(col, row))
+    covers(pieces.as_slice(), centre(col, row), tally)
 }
 
 /// The same of a pixel as it is, or with its coordinates exchanged.
-fn is_seen_outside(turned: bool, pieces: &Pieces, frame: Frame, i: i32, j: i32) -> bool
+fn is_seen_outside(
+    turned: bool,
+    pieces: &Pieces,
+    frame: Frame,
+    i: i32,
+    j: i32,
+    tally: &mut Tally,
+) -> bool
     requires column { IsPixelNumber i }
     requires row { IsPixelNumber j }
-    ensures { IsTrue result ↔
+    ensures value { IsTrue result ↔
         (¬ (IsSeenInFrame turned frame i j) × IsCovered (seen_centre turned i j) (map span_of pieces.now)) }
+    ensures count { tally.new.count ≤ tally.old.count + 3 * length pieces.now }
 {
     if turned {
-        is_covered_outside(pieces, frame, j, i)
+        is_covered_outside(pieces, frame, j, i, tally)
     } else {
-        is_covered_outside(pieces, frame, i, j)
+        is_covered_outside(pieces, frame, i, j, tally)
     }
 }
 
 /// Whether a pixel is not set so far.
-fn is_open(turned: bool, pieces: &Pieces, bitmap: &Bitmap, i: i32, j: i32) -> bool
+fn is_open(
+    turned: bool,
+    pieces: &Pieces,
+    bitmap: &Bitmap,
+    i: i32,
+    j: i32,
+    tally: &mut Tally,
+) -> bool
     requires column { IsPixelNumber i }
     requires row { IsPixelNumber j }
-    ensures { IsTrue result ↔ ¬ (IsSoFar turned (map span_of pieces.now) bitmap.now.frame bitmap.now i j) }
+    ensures value { IsTrue result ↔ ¬ (IsSoFar turned (map span_of pieces.now) bitmap.now.frame bitmap.now i j) }
+    ensures count { tally.new.count ≤ tally.old.count + 3 * length pieces.now }
 {
     if is_set(turned, bitmap, i, j) {
         return false;
     }
-    !is_seen_outside(turned, pieces, bitmap.frame(), i, j)
+    !is_seen_outside(turned, pieces, bitmap.frame(), i, j, tally)
 }
 
 /// Whether there is a gap between a pixel and its right neighbour. The bits are looked at first: most pairs are done with by that.
-pub fn is_gap(turned: bool, pieces: &Pieces, bitmap: &Bitmap, i: i32, j: i32) -> bool
+pub fn is_gap(
+    turned: bool,
+    pieces: &Pieces,
+    bitmap: &Bitmap,
+    i: i32,
+    j: i32,
+    tally: &mut Tally,
+) -> bool
     requires here { IsPixelNumber i }
     requires next { IsPixelNumber (i +ℤ pos 1) }
     requires row { IsPixelNumber j }
-    ensures { IsTrue result ↔ IsGap (seen_spans turned (map span_of pieces.now))
+    ensures value { IsTrue result ↔ IsGap (seen_spans turned (map span_of pieces.now))
         (IsSoFar turned (map span_of pieces.now) bitmap.now.frame bitmap.now) i j }
+    ensures count { tally.new.count ≤ tally.old.count + most_tests (length pieces.now) }
 {
     if is_set(turned, bitmap, i, j) {
         return false;
@@ -304,11 +335,11 @@ pub fn is_gap(turned: bool, pieces: &Pieces, bitmap: &Bitmap, i: i32, j: i32) ->
     if is_set(turned, bitmap, i + 1, j) {
         return false;
     }
-    if !any_meets(turned, pieces.as_slice(), i, j) {
+    if !any_meets(turned, pieces.as_slice(), i, j, tally) {
         return false;
     }
-    if !is_open(turned, pieces, bitmap, i, j) {
+    if !is_open(turned, pieces, bitmap, i, j, tally) {
         return false;
     }
-    is_open(turned, pieces, bitmap, i + 1, j)
+    is_open(turned, pieces, bitmap, i + 1, j, tally)
 }

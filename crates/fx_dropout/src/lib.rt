@@ -9,6 +9,7 @@
 mod across;
 mod close;
 mod gaps;
+mod next;
 mod noted;
 mod open;
 mod turned;

@@ -1,21 +1,23 @@
 //! Drop-out control by the notes of a scan.
 
-ghost use Rattle.std.specs.Prelude.{◌≡◌, ◌↔◌, IsTrue, ℤ, map, All};
+ghost use Rattle.std.specs.Prelude.{◌≡◌, ◌↔◌, ◌+◌, ◌*◌, ◌≤◌, IsTrue, ℤ, length, map, All};
 ghost use Rattle.fx_winding.specs.Bitmaps.{bit_of, IsScanOf};
 ghost use Rattle.fx_winding.specs.Dropout.{IsSet};
 ghost use Rattle.fx_winding.specs.Frames.{IsInFrame, HasMargin};
 ghost use Rattle.fx_winding.specs.Notes.{IsNoted};
 ghost use Rattle.fx_winding.specs.Winding.{span_of};
+ghost use Rattle.fx_dropout.specs.Tests.{most_tests, segments};
 
 use crate::across::close_rows;
 use crate::up::close_columns;
-use fx_winding::{Bitmap, Notes, Pieces};
+use fx_winding::{Bitmap, Notes, Pieces, Tally};
 
 /// Closes the gaps of the rows, and then those that are left in the columns: a bitmap that a scan of the pieces gave has the bits
 /// that drop-out control sets in its frame then. The segments that a piece meets must be noted; others may be.
 ///
-/// The columns and rows beside the frame must have numbers too.
-pub fn close_gaps(pieces: &Pieces, notes: &Notes, bitmap: &mut Bitmap)
+/// The columns and rows beside the frame must have numbers too. Tests of points are counted in `tally`: at most eleven for each
+/// segment of the frame and each piece.
+pub fn close_gaps(pieces: &Pieces, notes: &Notes, bitmap: &mut Bitmap, tally: &mut Tally)
     requires margin { HasMargin bitmap.old.frame }
     requires scanned { IsScanOf bitmap.old.frame (map span_of pieces.now) bitmap.old }
     requires frame { notes.now.frame ≡ bitmap.old.frame }
@@ -23,7 +25,8 @@ pub fn close_gaps(pieces: &Pieces, notes: &Notes, bitmap: &mut Bitmap)
     ensures frame { bitmap.new.frame ≡ bitmap.old.frame }
     ensures bits { (col row : ℤ) → IsInFrame bitmap.old.frame col row →
         IsTrue (bit_of bitmap.new col row) ↔ IsSet (map span_of pieces.now) bitmap.old.frame col row }
+    ensures count { tally.new.count ≤ tally.old.count + segments bitmap.old.frame * most_tests (length pieces.now) }
 {
-    close_rows(pieces, notes, bitmap);
-    close_columns(pieces, notes, bitmap);
+    close_rows(pieces, notes, bitmap, tally);
+    close_columns(pieces, notes, bitmap, tally);
 }

@@ -1,9 +1,8 @@
 //! Segments that can be gaps, found word by word: those that are noted, and neither of whose pixels is set.
 
-ghost use Rattle.std.specs.Prelude.{◌≡◌, ◌⊎◌, ℕ, ◌+◌, ◌-◌, ◌*◌, ◌<◌, ◌≤◌, length, slice_index, false};
+ghost use Rattle.std.specs.Prelude.{◌≡◌, ℕ, ◌-◌, ◌<◌, length, slice_index};
 ghost use Rattle.std.specs.Int.{bit_at};
-ghost use Rattle.fx_winding.specs.Limits.{greatest_side};
-ghost use Rattle.fx_dropout.specs.inner.Words.{left_bit, IsShut, IsShutAcross, IsShutUp};
+ghost use Rattle.fx_dropout.specs.inner.Words.{left_bit, IsShut};
 
 /// The segments of a word of a row that can be gaps, as bits: by the word of notes, the row's word, and the word before that.
 #[inline(always)]
@@ -31,89 +30,108 @@ fn word_at(row: &[u32], w: usize) -> u32
     if w < row.len() { row[w] } else { 0 }
 }
 
-/// The first bit of a word, from one on and counted from the left, that is set, or a number from 32 on.
-#[inline(always)]
-fn first_set(word: u32, from: usize) -> usize
-    requires { from < 32 }
-    ensures from { from ≤ result }
-    ensures to { result < 64 }
-    ensures skipped { (i : ℕ) → from ≤ i → i < result → i < 32 → bit_at word (31 - i) ≡ 0 }
-{
-    from + (word << from).leading_zeros() as usize
+/// Noted segments, 32 to a word.
+pub(crate) trait Segments {
+    ghost use Rattle.std.specs.Prelude.{◌≡◌, ℕ, ◌+◌, ◌-◌, ◌*◌, ◌<◌};
+    ghost use Rattle.std.specs.Int.{bit_at};
+
+    // how many words there are
+    ghost count: { Self → ℕ };
+    // a segment can't be a gap
+    ghost IsShutAt: { Self → ℕ → Type 0 };
+
+    /// How many words there are.
+    fn words(&self) -> usize
+        ensures { result ≡ count self.now };
+
+    /// The segments of a word that can be gaps, as bits; others may be among them.
+    fn open(&self, w: usize) -> u32
+        requires { w < count self.now }
+        ensures { (i : ℕ) → i < 32 → bit_at result (31 - i) ≡ 0 → IsShutAt self.now (32 * w + i) };
 }
 
-/// Whether a segment of a row can be a gap. `noted` has a word more than the row, for the segment after its last pixel.
-pub fn is_open_across(noted: &[u32], row: &[u32]) -> bool
-    requires { length row.now + 1 ≤ length noted.now }
-    ensures { result ≡ false → (n : ℕ) → n ≤ 32 * length row.now → IsShutAcross noted.now row.now n }
-{
-    let mut before = 0;
-    // None of the segments of the words before w can be a gap, and `before` is the word before w.
-    'words: for w in 0..row.len() {
-        let word = row[w];
-        if open_across(noted[w], word, before) != 0 {
-            return true;
-        }
-        before = word;
-    }
-    noted[row.len()] >> 31 > before % 2
+/// The segments of a row. `noted` has a word more than the row, for the segment after its last pixel.
+#[derive(Drop)]
+pub(crate) struct InRow<'a> {
+    pub noted: &'a [u32],
+    pub row: &'a [u32],
 }
 
-/// Whether a segment between two rows can be a gap.
-pub fn is_open_up(noted: &[u32], lower: &[u32], upper: &[u32]) -> bool
-    requires lower { length lower.now ≡ length noted.now }
-    requires upper { length upper.now ≡ length noted.now }
-    ensures { result ≡ false → (n : ℕ) → n < 32 * length noted.now → IsShutUp noted.now lower.now upper.now n }
-{
-    // None of the segments of the words before w can be a gap.
-    'words: for w in 0..noted.len() {
-        if open_up(noted[w], lower[w], upper[w]) != 0 {
-            return true;
-        }
+impl<'a> Segments for InRow<'a> {
+    ghost use Rattle.std.specs.Prelude.{length};
+    ghost use Rattle.fx_dropout.specs.inner.Words.{IsShutAcross};
+
+    ghost count = { λ s. length s.noted.now };
+
+    ghost IsShutAt = { λ s n. IsShutAcross s.noted.now s.row.now n };
+
+    #[inline(always)]
+    fn words(&self) -> usize {
+        self.noted.len()
     }
-    false
+
+    #[inline(always)]
+    fn open(&self, w: usize) -> u32 {
+        let before = if w == 0 { 0 } else { word_at(self.row, w - 1) };
+        open_across(self.noted[w], word_at(self.row, w), before)
+    }
 }
 
-/// The first segment of a row, from one on, that can be a gap, or a number after those of the row. `noted` has a word more than the
-/// row, for the segment after its last pixel.
-pub fn next_across(noted: &[u32], row: &[u32], from: usize) -> usize
-    requires few { length row.now ≤ greatest_side }
-    requires room { length row.now + 1 ≤ length noted.now }
-    requires order { from ≤ 32 * length row.now + 1 }
-    ensures from { from ≤ result }
-    ensures skipped { (n : ℕ) → from ≤ n → n < result → n ≤ 32 * length row.now → IsShutAcross noted.now row.now n }
-{
-    let mut before = if from < 32 { 0 } else { row[from / 32 - 1] };
-    // None of the segments from `from` on that come before the word w can be a gap, and `before` is the word before w.
-    'words: for w in from / 32..row.len() + 1 {
-        let word = word_at(row, w);
-        let open = open_across(noted[w], word, before);
-        let bit = first_set(open, from.saturating_sub(32 * w));
-        if bit < 32 {
-            return 32 * w + bit;
-        }
-        before = word;
-    }
-    32 * row.len() + 1
+/// The segments of rows one after the other. The first bit of a row's first word may tell of the last segment of the row below too:
+/// then it is `shared`, and the segment can be a gap if only it is noted.
+#[derive(Drop)]
+pub(crate) struct InRows<'a> {
+    pub noted: &'a [u32],
+    pub pixels: &'a [u32],
+    pub shared: bool,
+    ghost same: { length pixels.now ≡ length noted.now },
 }
 
-/// The first segment between two rows, from one on, that can be a gap, or the number after those of their words.
-pub fn next_up(noted: &[u32], lower: &[u32], upper: &[u32], from: usize) -> usize
-    requires few { length noted.now ≤ greatest_side }
-    requires lower { length lower.now ≡ length noted.now }
-    requires upper { length upper.now ≡ length noted.now }
-    requires order { from ≤ 32 * length noted.now }
-    ensures from { from ≤ result }
-    ensures skipped { (n : ℕ) → from ≤ n → n < result → n < 32 * length noted.now →
-        IsShutUp noted.now lower.now upper.now n }
-{
-    // None of the segments from `from` on that come before the word w can be a gap.
-    'words: for w in from / 32..noted.len() {
-        let open = open_up(noted[w], lower[w], upper[w]);
-        let bit = first_set(open, from.saturating_sub(32 * w));
-        if bit < 32 {
-            return 32 * w + bit;
-        }
+impl<'a> Segments for InRows<'a> {
+    ghost use Rattle.std.specs.Prelude.{length};
+    ghost use Rattle.fx_dropout.specs.inner.Words.{IsShutWithin};
+
+    ghost count = { λ s. length s.noted.now };
+
+    ghost IsShutAt = { λ s n. IsShutWithin s.noted.now s.pixels.now s.shared n };
+
+    #[inline(always)]
+    fn words(&self) -> usize {
+        self.noted.len()
     }
-    32 * noted.len()
+
+    #[inline(always)]
+    fn open(&self, w: usize) -> u32 {
+        let first = if self.shared { 1 << 31 } else { 0 };
+        open_across(self.noted[w], self.pixels[w], 0) | self.noted[w] & first
+    }
+}
+
+/// The segments between rows: from those of `lower` to those of `upper`, which are as many.
+#[derive(Drop)]
+pub(crate) struct Between<'a> {
+    pub noted: &'a [u32],
+    pub lower: &'a [u32],
+    pub upper: &'a [u32],
+    ghost same_lower: { length lower.now ≡ length noted.now },
+    ghost same_upper: { length upper.now ≡ length noted.now },
+}
+
+impl<'a> Segments for Between<'a> {
+    ghost use Rattle.std.specs.Prelude.{length};
+    ghost use Rattle.fx_dropout.specs.inner.Words.{IsShutUp};
+
+    ghost count = { λ s. length s.noted.now };
+
+    ghost IsShutAt = { λ s n. IsShutUp s.noted.now s.lower.now s.upper.now n };
+
+    #[inline(always)]
+    fn words(&self) -> usize {
+        self.noted.len()
+    }
+
+    #[inline(always)]
+    fn open(&self, w: usize) -> u32 {
+        open_up(self.noted[w], self.lower[w], self.upper[w])
+    }
 }

@@ -1,10 +1,10 @@
 //! Columns seen as rows: pieces, frames and bitmaps with their coordinates exchanged.
 
-ghost use Rattle.std.specs.Prelude.{◌≡◌, ◌≢◌, ◌⊎◌, ◌↔◌, ℤ, true, option_map};
+ghost use Rattle.std.specs.Prelude.{◌≡◌, ◌≢◌, ◌⊎◌, ◌↔◌, ◌+◌, ◌*◌, ℤ, true, option_map};
 ghost use Rattle.fx_winding.specs.Dropout.{turned_place};
 ghost use Rattle.fx_winding.specs.Frames.{IsInFrame, HasMargin};
 ghost use Rattle.fx_winding.specs.Winding.{place_of, maybe_place_of, span_of};
-ghost use Rattle.fx_dropout.specs.inner.Turned.{seen_span, seen_bit, IsSeenInFrame};
+ghost use Rattle.fx_dropout.specs.inner.Turned.{seen_span, seen_bit, seen_segments, IsSeenInFrame};
 
 use fx_winding::{Bitmap, Frame, Piece, Point};
 
@@ -43,6 +43,7 @@ pub fn seen_piece(turned: bool, piece: &Piece) -> Piece
 pub fn seen_frame(turned: bool, frame: Frame) -> Frame
     ensures inside { (i j : ℤ) → IsInFrame result i j ↔ IsSeenInFrame turned frame i j }
     ensures margin { HasMargin frame → HasMargin result }
+    ensures segments { seen_segments turned frame ≡ result.height * (result.width + 1) }
 {
     if !turned {
         return frame;

@@ -7,12 +7,14 @@ ghost use Rattle.fx_winding.specs.Dropout.{IsBridged, turned_span};
 ghost use Rattle.fx_winding.specs.Frames.{IsFrom, IsInFrame, HasMargin};
 ghost use Rattle.fx_winding.specs.Notes.{IsNoted};
 ghost use Rattle.fx_winding.specs.Winding.{span_of, centre, IsCovered};
+ghost use Rattle.fx_dropout.specs.Tests.{most_tests};
 ghost use Rattle.fx_dropout.specs.inner.Lines.{IsSoFar, IsOneOf, IsLevelClosed, IsLevelNoted};
 ghost use Rattle.fx_dropout.specs.inner.Words.{IsShutInColumn};
 
-use crate::close::{close_gap, closer};
-use crate::open::{is_open_up, next_up};
-use fx_winding::{Bitmap, Frame, Notes, Pieces, words_for};
+use crate::close::{close_gap, closer, is_empty};
+use crate::next::next_segment;
+use crate::open::Between;
+use fx_winding::{Bitmap, Frame, Notes, Pieces, Tally, words_for};
 
 /// The row above another, or that itself if it is the last of the frame.
 fn row_above(frame: Frame, i: i32) -> i32
@@ -27,7 +29,15 @@ fn row_above(frame: Frame, i: i32) -> i32
 
 /// Closes the gaps between a row and the one above it: each by the pixel in the row `at`. Of two rows one of which lies outside the
 /// frame, the other stands for both.
-fn close_level(pieces: &Pieces, noted: &[u32], frame: Frame, bitmap: &mut Bitmap, i: i32, at: i32)
+fn close_level(
+    pieces: &Pieces,
+    noted: &[u32],
+    frame: Frame,
+    bitmap: &mut Bitmap,
+    i: i32,
+    at: i32,
+    tally: &mut Tally,
+)
     requires margin { HasMargin frame }
     requires same { bitmap.old.frame ≡ frame }
     requires level { IsFrom (frame.bottom -ℤ pos 1) (frame.height + 1) i }
@@ -39,21 +49,36 @@ fn close_level(pieces: &Pieces, noted: &[u32], frame: Frame, bitmap: &mut Bitmap
     ensures frame { bitmap.new.frame ≡ frame }
     ensures closed { IsLevelClosed (map turned_span (map span_of pieces.now)) frame.left frame.width i at
         (IsSoFar true (map span_of pieces.now) frame bitmap.old) (IsSoFar true (map span_of pieces.now) frame bitmap.new) }
+    ensures count { tally.new.count ≤ tally.old.count + frame.width * most_tests (length pieces.now) }
 {
     let above = row_above(frame, i);
-    let mut k = next_up(noted, bitmap.row(at), bitmap.row(above), 0);
+    let mut k = next_segment(
+        &Between {
+            noted,
+            lower: bitmap.row(at),
+            upper: bitmap.row(above),
+        },
+        0,
+    );
     // The gaps in the columns before k are closed, and the later columns are as they were.
     'columns: while k < frame.width as usize {
-        close_gap(true, pieces, bitmap, i, frame.left + k as i32, at);
-        k = next_up(noted, bitmap.row(at), bitmap.row(above), k + 1);
+        close_gap(true, pieces, bitmap, i, frame.left + k as i32, at, tally);
+        k = next_segment(
+            &Between {
+                noted,
+                lower: bitmap.row(at),
+                upper: bitmap.row(above),
+            },
+            k + 1,
+        );
     }
 }
 
-/// The next row from one on to which a segment leads from the row below that can be a gap, or the number of rows and one more. Rows
-/// are counted from the lowest. Of two rows one of which lies outside the frame, the other stands for both.
-fn next_open(notes: &[u32], bitmap: &Bitmap, from: u32) -> u32
+/// The next row from one on to which a segment leads from the row below that can be a gap. The first, and the number of rows, stand
+/// for segments from outside the frame and to there, which are not looked at. Rows are counted from the lowest.
+fn next_level(notes: &[u32], bitmap: &Bitmap, from: u32) -> u32
+    requires wide { 0 < bitmap.now.frame.width }
     requires room { length notes.now ≡ (bitmap.now.frame.height + 1) * words_for_of bitmap.now.frame.width }
-    requires some { 0 < bitmap.now.frame.height }
     requires order { from ≤ bitmap.now.frame.height + 1 }
     ensures from { from ≤ result }
     ensures to { result ≤ bitmap.now.frame.height + 1 }
@@ -61,21 +86,23 @@ fn next_open(notes: &[u32], bitmap: &Bitmap, from: u32) -> u32
         IsShutInColumn notes.now bitmap.now r n }
 {
     let frame = bitmap.frame();
-    let words = words_for(frame.width);
-    // No segment that leads to the rows from `from` on and before `up` can be a gap.
-    'levels: for up in from..frame.height + 1 {
-        let first = up as usize * words;
-        let lower = bitmap.row(frame.bottom + up.saturating_sub(1) as i32);
-        let upper = bitmap.row(frame.bottom + up.min(frame.height - 1) as i32);
-        if is_open_up(&notes[first..first + words], lower, upper) {
-            return up;
-        }
+    if from == 0 || frame.height < from {
+        return from;
     }
-    frame.height + 1
+    let words = words_for(frame.width);
+    let start = from as usize * words;
+    let pixels = bitmap.words();
+    let upper = &pixels[start..];
+    let levels = Between {
+        noted: &notes[start..start + upper.len()],
+        lower: &pixels[start - words..start - words + upper.len()],
+        upper,
+    };
+    from + (next_segment(&levels, 0) / 32 / words) as u32
 }
 
 /// Closes the gaps of all columns of the frame: each by its lower pixel, and those below the lowest row by the pixels of that.
-pub fn close_columns(pieces: &Pieces, notes: &Notes, bitmap: &mut Bitmap)
+pub fn close_columns(pieces: &Pieces, notes: &Notes, bitmap: &mut Bitmap, tally: &mut Tally)
     requires margin { HasMargin bitmap.old.frame }
     requires frame { notes.now.frame ≡ bitmap.old.frame }
     requires noted { All (λ s. IsNoted s notes.now.frame notes.now.across.items notes.now.up.items) (map span_of pieces.now) }
@@ -85,19 +112,29 @@ pub fn close_columns(pieces: &Pieces, notes: &Notes, bitmap: &mut Bitmap)
     ensures closed { (i j : ℤ) → IsSoFar true (map span_of pieces.now) bitmap.old.frame bitmap.new i j ↔
         IsBridged (map turned_span (map span_of pieces.now)) (λ i j. IsInFrame bitmap.old.frame j i)
         (IsSoFar true (map span_of pieces.now) bitmap.old.frame bitmap.old) i j }
+    ensures count { tally.new.count ≤ tally.old.count +
+        (bitmap.old.frame.height + 1) * (bitmap.old.frame.width * most_tests (length pieces.now)) }
 {
     let frame = notes.frame;
-    if frame.height == 0 {
+    if is_empty(frame) {
         return;
     }
     let words = words_for(frame.width);
-    let mut up = next_open(&notes.up, bitmap, 0);
+    let mut up = next_level(&notes.up, bitmap, 0);
     // In each column the gaps among the lowest `up` segments are closed.
     'levels: while up <= frame.height {
         let first = up as usize * words;
         let noted = &notes.up[first..first + words];
         let i = frame.bottom - 1 + up as i32;
-        close_level(pieces, noted, frame, bitmap, i, closer(i, frame.bottom));
-        up = next_open(&notes.up, bitmap, up + 1);
+        close_level(
+            pieces,
+            noted,
+            frame,
+            bitmap,
+            i,
+            closer(i, frame.bottom),
+            tally,
+        );
+        up = next_level(&notes.up, bitmap, up + 1);
     }
 }

@@ -73,7 +73,7 @@ fn scanned<S: Scan>(
 }
 
 /// The bitmap of a scan with its gaps closed.
-fn closed(pieces: &Pieces, noted: Noted) -> Bitmap
+fn closed(pieces: &Pieces, noted: Noted, tally: &mut Tally) -> Bitmap
     requires margin { HasMargin noted.bitmap.frame }
     requires scanned { IsScanOf noted.bitmap.frame (map span_of pieces.now) noted.bitmap }
     requires frame { noted.notes.frame ≡ noted.bitmap.frame }
@@ -81,7 +81,7 @@ fn closed(pieces: &Pieces, noted: Noted) -> Bitmap
     ensures { IsBridgedScanOf noted.bitmap.frame (map span_of pieces.now) result }
 {
     let mut bitmap = noted.bitmap;
-    close_gaps(pieces, &noted.notes, &mut bitmap);
+    close_gaps(pieces, &noted.notes, &mut bitmap, tally);
     bitmap
 }
 
@@ -99,7 +99,7 @@ fn bridged<S: Scan>(
 {
     let mut tally = Tally::new();
     match scan.scan_noted(alloc, pieces, frame, &mut tally) {
-        Ok(noted) => Ok(closed(pieces, noted)),
+        Ok(noted) => Ok(closed(pieces, noted, &mut tally)),
         Err(ScanFault::OutOfMemory) => Err(Refusal::OutOfMemory),
     }
 }

@@ -136,9 +136,9 @@ fn closes_the_same(alloc: Global, pieces: &Pieces, frame: Frame) -> Result<bool>
     }
     let mut tally = Tally::new();
     let Noted { mut bitmap, notes } = Rows.scan_noted(alloc, pieces, frame, &mut tally)?;
-    close_gaps(pieces, &notes, &mut bitmap);
+    close_gaps(pieces, &notes, &mut bitmap, &mut tally);
     let mut plain = Rows.scan(alloc, pieces, frame, &mut tally)?;
-    close_gaps_plainly(pieces, &mut plain);
+    close_gaps_plainly(pieces, &mut plain, &mut tally);
     Ok(are_same(&bitmap, &plain, frame))
 }
 

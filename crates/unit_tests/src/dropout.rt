@@ -93,7 +93,7 @@ fn closed(alloc: Global, curves: &[Curve], frame: (u8, u8, u8, u8)) -> Result<Bi
     };
     let mut tally = Tally::new();
     let Noted { mut bitmap, notes } = Plain.scan_noted(alloc, &pieces, frame, &mut tally)?;
-    close_gaps(&pieces, &notes, &mut bitmap);
+    close_gaps(&pieces, &notes, &mut bitmap, &mut tally);
     Ok(bitmap)
 }
 

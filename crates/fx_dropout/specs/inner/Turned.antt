@@ -1,5 +1,5 @@
 -- Columns seen as rows: with `true` the coordinates of pieces and pixels are exchanged, with `false` all is as it is.
-use Rattle.std.specs.Prelude.{ℤ, ◌<ℤ◌, ◌⊎◌, Bool, true, false, List, map}
+use Rattle.std.specs.Prelude.{ℕ, ◌+◌, ◌*◌, ℤ, ◌<ℤ◌, ◌⊎◌, Bool, true, false, List, map}
 use Rattle.fx_winding.specs.declared.frame.Frame.{Frame}
 use Rattle.fx_winding.specs.Bitmaps.{Bits, bit_of}
 use Rattle.fx_winding.specs.Dropout.{turned_span}
@@ -40,3 +40,8 @@ IsBeside y s = HasAll (λ e. y <ℤ e.y) s ⊎ HasAll (λ e. e.y <ℤ y) s
 -- all points of a piece are left of a place of a row, or all right of another
 abbrev pub IsAside : ℤ → ℤ → Span → Type 0
 IsAside first last s = HasAll (λ e. e.x <ℤ first) s ⊎ HasAll (λ e. last <ℤ e.x) s
+
+-- the segments of a frame's rows, or those of its columns, those that lead out of it too
+abbrev pub seen_segments : Bool → Frame → ℕ
+seen_segments false f = f.height * (f.width + 1)
+seen_segments true f = f.width * (f.height + 1)

@@ -1,5 +1,5 @@
 -- Segments that can't be gaps, as notes and set pixels tell.
-use Rattle.std.specs.Prelude.{◌≡◌, ◌⊎◌, ℕ, zero, suc, ◌-◌, ◌<◌, pos, ◌+ℤ◌, ◌-ℤ◌, IsTrue, List}
+use Rattle.std.specs.Prelude.{◌≡◌, ◌⊎◌, ℕ, zero, suc, ◌-◌, ◌%◌, ◌<◌, pos, ◌+ℤ◌, ◌-ℤ◌, Bool, IsTrue, List}
 use Rattle.std.specs.Int.{bit_at}
 use Rattle.fx_winding.specs.Bitmaps.{Bits, bit_of, word_bit}
 use Rattle.fx_winding.specs.Notes.{pixel_number}
@@ -17,7 +17,13 @@ left_bit word before (suc i) = bit_at word (31 - i)
 abbrev pub IsShutAcross : List ℕ → List ℕ → ℕ → Type 0
 IsShutAcross noted row n = (word_bit noted n ≡ 0) ⊎ ((word_bit row n ≡ 1) ⊎ ((0 < n) × (word_bit row (n - 1) ≡ 1)))
 
--- the same of the segment between the pixels n of two rows
+-- of words of rows one after the other, of which each is seen alone: the segment n is not noted, or the pixel n is set, or the one
+-- left of that in its word; where a word's first bit is shared, it must not be noted
+pub record IsShutWithin (noted pixels : List ℕ) (shared : Bool) (n : ℕ) : Type 0 where
+  pub shut : (word_bit noted n ≡ 0) ⊎ ((word_bit pixels n ≡ 1) ⊎ ((0 < n % 32) × (word_bit pixels (n - 1) ≡ 1)))
+  pub first : IsTrue shared → n % 32 ≡ 0 → word_bit noted n ≡ 0
+
+-- the segment between the pixels n of two rows is not noted, or one of its pixels is set
 abbrev pub IsShutUp : List ℕ → List ℕ → List ℕ → ℕ → Type 0
 IsShutUp noted lower upper n = (word_bit noted n ≡ 0) ⊎ ((word_bit lower n ≡ 1) ⊎ (word_bit upper n ≡ 1))
 

@@ -1,13 +1,15 @@
-use Rattle.std.proofs.Common.{◌≡◌, ◌+◌, ◌+ℤ◌, ◌-ℤ◌, ◌∙◌, ℕ, pos, sym, subst, map, min, arith, w32, to_z, of_z, ℤ, false}
+use Rattle.std.proofs.Common.{◌≡◌, length, ◌+◌, ◌+ℤ◌, ◌-ℤ◌, ◌∙◌, ℕ, pos, sym, subst, map, min, arith, w32, to_z, of_z, ℤ, false}
 use Rattle.std.proofs.lemmas.Int.{to_z_pos}
 use Rattle.fx_fixed.proofs.Linear.{signed_linear}
 use Rattle.fx_winding.specs.declared.frame.Frame.{Frame}
 use Rattle.fx_winding.specs.Frames.{IsFrom, IsInFrame}
 use Rattle.fx_winding.specs.Winding.{span_of}
+use Rattle.fx_dropout.specs.Tests.{most_tests}
 use Rattle.fx_dropout.specs.inner.Lines.{AreClosed, IsRowClosed, IsRowNoted, IsSoFar}
 use Rattle.fx_dropout.proofs.Candidates.{row_passed}
 use Rattle.fx_dropout.proofs.Rows.{closed_none, closed_all, row_step}
 use Rattle.fx_dropout.proofs.Segments.{closer_made}
+use Rattle.fx_dropout.proofs.Tests.{counted_on, counted_to}
 use Rattle.fx_dropout.proofs.across.close_row.Goals as goal
 
 pub segments-init : goal.segments-init
@@ -22,9 +24,10 @@ segments-init c =
     c.requires.noted in
     record {
       same = c.requires.same;
-      closed = row_passed ss f c.args.noted.now c.row.result.now old c.args.bitmap.now row 0 c.next_across-k.result
+      closed = row_passed ss f c.args.noted.now c.row.result.now old c.args.bitmap.now row 0 c.next_segment-k.result
           c.requires.same inside c.requires.some (omega arith) (omega arith) c.row.ensures.words c.row.ensures.value noted
-          c.next_across-k.ensures.skipped (closed_none ss f row old);
+          (λ n l h few. c.next_segment-k.ensures.shut n l h) (closed_none ss f row old);
+      count = omega arith;
     }
 
 pub close_gap-requires-clause-inside : goal.close_gap-requires-clause-inside
@@ -68,8 +71,12 @@ segments-preserved c =
     record {
       same = same;
       closed = row_passed ss f c.args.noted.now c.row-in-segments.result.now old new row (k + 1)
-          c.next_across-k-in-segments.result same inside c.requires.some (omega arith) c.next_across-k-in-segments.ensures.from
-          c.row-in-segments.ensures.words c.row-in-segments.ensures.value noted c.next_across-k-in-segments.ensures.skipped closed;
+          c.next_segment-k-in-segments.result same inside c.requires.some (omega arith) c.next_segment-k-in-segments.ensures.from
+          c.row-in-segments.ensures.words c.row-in-segments.ensures.value noted
+          (λ n l h few. c.next_segment-k-in-segments.ensures.shut n l h) closed;
+      count = counted_on c.args.tally.now.count c.segments.tally.count c.close_gap.new.tally.count (min k (f.width + 1))
+          (min c.next_segment-k-in-segments.result (f.width + 1)) (most_tests (length c.args.pieces.now))
+          c.segments.invariant.count c.close_gap.ensures.count (omega (arith, c.next_segment-k-in-segments.ensures.from));
     }
 
 pub returns-clause-closed : goal.returns-clause-closed
@@ -82,3 +89,8 @@ returns-clause-closed c =
     let j : row ≡ c.args.j = omega (arith, signed_linear) in
     subst (λ (y : ℤ). IsRowClosed ss f y old new) j
     (closed_all ss f (min c.segments.k (f.width + 1)) row old new (omega arith) c.segments.invariant.closed)
+
+pub returns-clause-count : goal.returns-clause-count
+returns-clause-count c =
+    counted_to c.args.tally.now.count c.segments.tally.count (min c.segments.k (c.args.frame.width + 1)) (c.args.frame.width + 1)
+    (most_tests (length c.args.pieces.now)) c.segments.invariant.count (omega arith)

@@ -1,4 +1,4 @@
-use Rattle.std.proofs.Common.{◌≡◌, ◌↔◌, ◌+◌, ◌-◌, ◌*◌, ◌≤◌, List, ◌+ℤ◌, pos, sym, ap, subst, map, false, take, drop, arith, w32}
+use Rattle.std.proofs.Common.{◌≡◌, length, ◌↔◌, ◌+◌, ◌-◌, ◌*◌, ◌≤◌, List, ◌+ℤ◌, pos, sym, ap, subst, map, false, take, drop, arith, w32}
 use Rattle.std.proofs.Common.{to_z, of_z, ℤ, ℕ}
 use Rattle.std.proofs.lemmas.Int.{to_z_pos}
 use Rattle.fx_fixed.proofs.Linear.{signed_linear}
@@ -7,18 +7,20 @@ use Rattle.fx_winding.specs.Bitmaps.{words_for}
 use Rattle.fx_winding.specs.Dropout.{IsBridged}
 use Rattle.fx_winding.specs.Frames.{IsInFrame}
 use Rattle.fx_winding.specs.Winding.{span_of, centre, IsCovered}
+use Rattle.fx_dropout.specs.Tests.{most_tests}
 use Rattle.fx_dropout.specs.inner.Lines.{IsSoFar}
 use Rattle.fx_dropout.specs.inner.Words.{IsShutInRow}
 use Rattle.fx_dropout.proofs.Candidates.{row_noted, rows_pass}
-use Rattle.fx_dropout.proofs.Rows.{narrow, narrow_closed, rows_none, rows_more, rows_all}
+use Rattle.fx_dropout.proofs.Rows.{narrow_closed, rows_none, rows_more, rows_all}
+use Rattle.fx_dropout.proofs.Tests.{counted_on, counted_to}
 use Rattle.fx_dropout.proofs.across.close_rows.Goals as goal
 
-pub returns-then-frame-eq0-clause-closed : goal.returns-then-frame-eq0-clause-closed
-returns-then-frame-eq0-clause-closed c =
+pub returns-then-is_empty-clause-closed : goal.returns-then-is_empty-clause-closed
+returns-then-is_empty-clause-closed c =
     let f = c.args.bitmap.now.frame in
     let ss = map span_of c.args.pieces.now in
-    let none : f.width ≡ 0 = subst (λ (g : Frame). g.width ≡ 0) c.requires.frame c.if-frame-eq0.true in
-    narrow_closed ss (IsInFrame f) (IsSoFar false ss f c.args.bitmap.now) (λ i j h. narrow f i j none h)
+    narrow_closed ss (IsInFrame f) (IsSoFar false ss f c.args.bitmap.now) (λ i j.
+    subst (λ (g : Frame). ¬ (IsInFrame g i j)) c.requires.frame (c.is_empty.ensures.none c.if-is_empty.true i j))
 
 pub rows-init : goal.rows-init
 rows-init c =
@@ -28,7 +30,7 @@ rows-init c =
     let old = IsSoFar false ss f b in
     let covered : (i j : ℤ) → IsCovered (centre i j) ss → old i j = λ i j h.
     subst (λ (g : Frame). IsSoFar false ss g b i j) (sym c.requires.frame) (c.requires.covered i j h) in
-    let next = c.next_open-up in
+    let next = c.next_row-up in
     record {
       same = sym c.requires.frame;
       to = subst (λ (g : Frame). next.result ≤ g.height) (sym c.requires.frame) next.ensures.to;
@@ -36,6 +38,7 @@ rows-init c =
           (omega arith) (omega arith) (subst (λ (g : Frame). next.result ≤ g.height) (sym c.requires.frame) next.ensures.to)
           c.requires.noted covered (λ r n l m few. subst (λ (xs : List ℕ). IsShutInRow xs b r n) c.deref.ensures.value
           (next.ensures.skipped r n l m few)) (rows_none ss f old);
+      count = omega arith;
     }
 
 pub close_row-requires-clause-noted : goal.close_row-requires-clause-noted
@@ -72,7 +75,7 @@ rows-preserved c =
     let same = c.close_row.ensures.frame in
     let covered : (i j : ℤ) → IsCovered (centre i j) ss → old i j = λ i j h.
     subst (λ (g : Frame). IsSoFar false ss g c.args.bitmap.now i j) (sym c.requires.frame) (c.requires.covered i j h) in
-    let next = c.next_open-up-in-rows in
+    let next = c.next_row-up-in-rows in
     let to = subst (λ (g : Frame). next.result ≤ g.height) same next.ensures.to in
     record {
       same = same;
@@ -83,6 +86,9 @@ rows-preserved c =
           (next.ensures.skipped r n l m few))
           (rows_more ss f up old (IsSoFar false ss f c.rows.bitmap) (IsSoFar false ss f new) at row c.rows.invariant.closed
           c.close_row.ensures.closed);
+      count = counted_on c.args.tally.now.count c.rows.tally.count c.close_row.new.tally.count up next.result
+          ((f.width + 1) * most_tests (length c.args.pieces.now)) c.rows.invariant.count c.close_row.ensures.count
+          next.ensures.from;
     }
 
 pub returns-clause-closed : goal.returns-clause-closed
@@ -94,3 +100,11 @@ returns-clause-closed c =
     (rows_all ss f c.rows.up (IsSoFar false ss f c.args.bitmap.now) (IsSoFar false ss f c.rows.bitmap)
     (let to = c.rows.invariant.to in omega (arith, to))
     c.rows.invariant.closed)
+
+pub returns-clause-count : goal.returns-clause-count
+returns-clause-count c =
+    let f = c.args.notes.now.frame in
+    let each = most_tests (length c.args.pieces.now) in
+    let to = c.rows.invariant.to in
+    subst (λ (g : Frame). c.rows.tally.count ≤ c.args.tally.now.count + g.height * ((g.width + 1) * each)) c.requires.frame
+    (counted_to c.args.tally.now.count c.rows.tally.count c.rows.up f.height ((f.width + 1) * each) c.rows.invariant.count to)

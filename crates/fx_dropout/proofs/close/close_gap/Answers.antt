@@ -12,7 +12,7 @@ returns-then-is_gap-clause-here c =
     let at : to_z w32 (of_z w32 c.args.at) ≡ c.args.at = omega (arith, signed_linear) in
     let i : to_z w32 (of_z w32 c.args.i) ≡ c.args.i = omega (arith, signed_linear) in
     let j : to_z w32 (of_z w32 c.args.j) ≡ c.args.j = omega (arith, signed_linear) in
-    let gap = gap_at i j (c.is_gap.ensures.0 c.if-is_gap.true) in
+    let gap = gap_at i j (c.is_gap.ensures.value.0 c.if-is_gap.true) in
     let bit : seen_bit c.args.turned c.set.new.bitmap (to_z w32 (of_z w32 c.args.at)) (to_z w32 (of_z w32 c.args.j)) ≡
     seen_bit c.args.turned c.set.new.bitmap c.args.at c.args.j = (λ k. seen_bit c.args.turned c.set.new.bitmap (at k) (j k)) in
     (λ t. inr gap, λ s. inl (sym bit ∙ c.set.ensures.here))
@@ -28,7 +28,7 @@ pub returns-else-is_gap-clause-here : goal.returns-else-is_gap-clause-here
 returns-else-is_gap-clause-here c =
     let i : to_z w32 (of_z w32 c.args.i) ≡ c.args.i = omega (arith, signed_linear) in
     let j : to_z w32 (of_z w32 c.args.j) ≡ c.args.j = omega (arith, signed_linear) in
-    same_without (λ g. clash c.is_gap.result c.if-is_gap.false (c.is_gap.ensures.1 (gap_at (sym i) (sym j) g)))
+    same_without (λ g. clash c.is_gap.result c.if-is_gap.false (c.is_gap.ensures.value.1 (gap_at (sym i) (sym j) g)))
 
 pub returns-else-is_gap-clause-others : goal.returns-else-is_gap-clause-others
 returns-else-is_gap-clause-others c = λ m n h. (λ t. t, λ t. t)

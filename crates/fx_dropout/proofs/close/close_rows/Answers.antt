@@ -1,4 +1,4 @@
-use Rattle.std.proofs.Common.{◌≡◌, ◌↔◌, ◌+ℤ◌, ◌∙◌, pos, refl, sym, subst, map, arith, w32, to_z, of_z, ℤ}
+use Rattle.std.proofs.Common.{◌≡◌, ◌↔◌, ◌+◌, ◌*◌, length, ◌+ℤ◌, ◌∙◌, pos, refl, sym, subst, map, arith, w32, to_z, of_z, ℤ}
 use Rattle.std.proofs.lemmas.Int.{to_z_pos}
 use Rattle.fx_fixed.proofs.Linear.{signed_linear}
 use Rattle.fx_winding.specs.declared.frame.Frame.{Frame}
@@ -6,9 +6,11 @@ use Rattle.fx_winding.specs.Bitmaps.{Bits}
 use Rattle.fx_winding.specs.Frames.{IsInFrame}
 use Rattle.fx_winding.specs.Winding.{span_of}
 use Rattle.fx_winding.specs.Frames.{HasMargin}
+use Rattle.fx_dropout.specs.Tests.{most_tests}
 use Rattle.fx_dropout.specs.inner.Lines.{IsRowClosed, IsSoFar}
-use Rattle.fx_dropout.specs.inner.Turned.{seen_spans, IsSeenInFrame}
+use Rattle.fx_dropout.specs.inner.Turned.{seen_spans, seen_segments, IsSeenInFrame}
 use Rattle.fx_dropout.proofs.Rows.{rows_none, rows_more, rows_all, bridged_inside, narrow, narrow_closed}
+use Rattle.fx_dropout.proofs.Tests.{counted_on, counted_lines}
 use Rattle.fx_dropout.proofs.close.close_rows.Goals as goal
 
 pub returns-then-frame-eq0-clause-closed : goal.returns-then-frame-eq0-clause-closed
@@ -37,6 +39,7 @@ rows-init c = record {
   same = refl;
   closed = rows_none (seen_spans c.args.turned (map span_of c.args.pieces.now)) c.seen_frame-frame.result
       (IsSoFar c.args.turned (map span_of c.args.pieces.now) c.args.bitmap.now.frame c.args.bitmap.now);
+  count = omega arith;
 }
 
 pub rows-preserved : goal.rows-preserved
@@ -55,6 +58,8 @@ rows-preserved c =
       same = c.close_row.ensures.frame ∙ c.rows.invariant.same;
       closed = rows_more (seen_spans c.args.turned (map span_of c.args.pieces.now)) g up
           (so_far c.args.bitmap.now) (so_far c.rows.bitmap) (so_far c.close_row.new.bitmap) at row c.rows.invariant.closed closed;
+      count = counted_on c.args.tally.now.count c.rows.tally.count c.close_row.new.tally.count up (up + 1)
+          ((g.width + 1) * most_tests (length c.args.pieces.now)) c.rows.invariant.count c.close_row.ensures.count (omega arith);
     }
 
 pub returns-clause-closed : goal.returns-clause-closed
@@ -74,3 +79,16 @@ returns-clause-closed c =
       λ b. (all i j).1 (bridged_inside ts (IsSeenInFrame c.args.turned f) (IsInFrame g) old
           (λ i j. ((same i j).1, (same i j).0)) i j b),
     )
+
+pub returns-clause-count : goal.returns-clause-count
+returns-clause-count c =
+    let g = c.seen_frame-frame.result in
+    let f = c.args.bitmap.now.frame in
+    let all : seen_segments c.args.turned f ≡ g.height * (g.width + 1) =
+    subst (λ (f : Frame). seen_segments c.args.turned f ≡ g.height * (g.width + 1)) c.frame.ensures.value
+    c.seen_frame-frame.ensures.segments in
+    counted_lines c.args.tally.now.count c.rows.tally.count c.rows.up g.height (g.width + 1)
+    (most_tests (length c.args.pieces.now)) (seen_segments c.args.turned f) c.rows.invariant.count (omega arith) all
+
+pub returns-then-frame-eq0-clause-count : goal.returns-then-frame-eq0-clause-count
+returns-then-frame-eq0-clause-count c = omega arith

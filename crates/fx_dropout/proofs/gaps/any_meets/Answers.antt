@@ -9,15 +9,15 @@ use Rattle.fx_dropout.specs.inner.Turned.{seen_span}
 use Rattle.fx_dropout.proofs.Missed.{IsMissed, any_met, none_met}
 use Rattle.fx_dropout.proofs.gaps.any_meets.Goals as goal
 
-pub returns-then-meets_seen : goal.returns-then-meets_seen
-returns-then-meets_seen c =
+pub returns-then-meets_seen-clause-value : goal.returns-then-meets_seen-clause-value
+returns-then-meets_seen-clause-value c =
     let p = centre c.args.i c.args.j in
     let q = centre (c.args.i +ℤ pos 1) c.args.j in
     let i : to_z w32 (of_z w32 c.args.i) ≡ c.args.i = omega (arith, signed_linear) in
     let j : to_z w32 (of_z w32 c.args.j) ≡ c.args.j = omega (arith, signed_linear) in
     let met : IsMet (centre (to_z w32 (of_z w32 c.args.i)) (to_z w32 (of_z w32 c.args.j)))
     (centre (to_z w32 (of_z w32 c.args.i) +ℤ pos 1) (to_z w32 (of_z w32 c.args.j)))
-    (seen_span c.args.turned (span_of c.piece-item.result)) = c.meets_seen.ensures.0 c.if-meets_seen.true in
+    (seen_span c.args.turned (span_of c.piece-item.result)) = c.meets_seen.ensures.value.0 c.if-meets_seen.true in
     let seen : IsMet p q (seen_span c.args.turned (span_of c.piece-item.result)) = rw (← i, ← j) met in (
       λ t. any_met c.args.turned p q c.args.pieces.now c.pieces.piece-index c.piece-item.result (omega arith)
           (sym c.piece-item.is) seen,
@@ -29,12 +29,17 @@ pieces-preserved c =
     let p = centre (to_z w32 (of_z w32 c.args.i)) (to_z w32 (of_z w32 c.args.j)) in
     let q = centre (to_z w32 (of_z w32 c.args.i) +ℤ pos 1) (to_z w32 (of_z w32 c.args.j)) in
     let off : IsMissed c.args.turned p q c.piece-item.result =
-    λ m. clash c.meets_seen.result c.if-meets_seen.false (c.meets_seen.ensures.1 m) in
-    All-more (IsMissed c.args.turned p q) c.args.pieces.now c.pieces.piece-index c.piece-item.result (omega arith)
-    c.pieces.invariant (subst (IsMissed c.args.turned p q) c.piece-item.is off)
+    λ m. clash c.meets_seen.result c.if-meets_seen.false (c.meets_seen.ensures.value.1 m) in
+    let count = c.pieces.invariant.count in
+    let more = c.meets_seen.ensures.count in
+    record {
+      missed = All-more (IsMissed c.args.turned p q) c.args.pieces.now c.pieces.piece-index c.piece-item.result (omega arith)
+          c.pieces.invariant.missed (subst (IsMissed c.args.turned p q) c.piece-item.is off);
+      count = omega (arith, count, more);
+    }
 
-pub returns : goal.returns
-returns c =
+pub returns-clause-value : goal.returns-clause-value
+returns-clause-value c =
     let p = centre c.args.i c.args.j in
     let q = centre (c.args.i +ℤ pos 1) c.args.j in
     let i : to_z w32 (of_z w32 c.args.i) ≡ c.args.i = omega (arith, signed_linear) in
@@ -43,7 +48,7 @@ returns c =
     let P = λ (x y : ℤ). All (IsMissed c.args.turned (centre x y) (centre (x +ℤ pos 1) y))
     (take c.pieces.piece-index c.args.pieces.now) in
     let off : P c.args.i c.args.j =
-    subst (λ y. P c.args.i y) j (subst (λ x. P x (to_z w32 (of_z w32 c.args.j))) i c.pieces.invariant) in
+    subst (λ y. P c.args.i y) j (subst (λ x. P x (to_z w32 (of_z w32 c.args.j))) i c.pieces.invariant.missed) in
     let all : All (IsMissed c.args.turned p q) c.args.pieces.now =
     subst (All (IsMissed c.args.turned p q)) (ap (λ n. take n c.args.pieces.now) done ∙ take-length c.args.pieces.now) off in
     no (none_met c.args.turned p q c.args.pieces.now all)

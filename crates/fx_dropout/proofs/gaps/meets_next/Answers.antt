@@ -5,8 +5,8 @@ use Rattle.fx_winding.specs.Meets.{IsMet}
 use Rattle.fx_winding.specs.Winding.{place_of, span_of, centre}
 use Rattle.fx_dropout.proofs.gaps.meets_next.Goals as goal
 
-pub returns : goal.returns
-returns c =
+pub returns-clause-value : goal.returns-clause-value
+returns-clause-value c =
     let s = span_of c.args.piece.now in
     let i : to_z w32 (of_z w32 c.args.i) ≡ c.args.i = omega (arith, signed_linear) in
     let j : to_z w32 (of_z w32 c.args.j) ≡ c.args.j = omega (arith, signed_linear) in

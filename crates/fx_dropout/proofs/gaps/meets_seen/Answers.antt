@@ -8,8 +8,8 @@ use Rattle.fx_dropout.specs.inner.Turned.{seen_span}
 use Rattle.fx_dropout.proofs.Missed.{beside_not_met, aside_not_met, next_right}
 use Rattle.fx_dropout.proofs.gaps.meets_seen.Goals as goal
 
-pub returns-then-is_beside : goal.returns-then-is_beside
-returns-then-is_beside c =
+pub returns-then-is_beside-clause-value : goal.returns-then-is_beside-clause-value
+returns-then-is_beside-clause-value c =
     let i : to_z w32 (of_z w32 c.args.i) ≡ c.args.i = omega (arith, signed_linear) in
     let j : to_z w32 (of_z w32 c.args.j) ≡ c.args.j = omega (arith, signed_linear) in
     let p : place_of c.centre-p.result ≡ centre c.args.i c.args.j = c.centre-p.ensures ∙ (λ k. centre (i k) (j k)) in
@@ -18,8 +18,8 @@ returns-then-is_beside c =
     no (beside_not_met (centre c.args.i c.args.j) (centre (c.args.i +ℤ pos 1) c.args.j)
     (seen_span c.args.turned (span_of c.args.piece.now)) _ y refl (c.is_beside.ensures c.if-is_beside.true))
 
-pub returns-then-is_aside : goal.returns-then-is_aside
-returns-then-is_aside c =
+pub returns-then-is_aside-clause-value : goal.returns-then-is_aside-clause-value
+returns-then-is_aside-clause-value c =
     let i : to_z w32 (of_z w32 c.args.i) ≡ c.args.i = omega (arith, signed_linear) in
     let j : to_z w32 (of_z w32 c.args.j) ≡ c.args.j = omega (arith, signed_linear) in
     let n : to_z w32 (of_z w32 (to_z w32 (of_z w32 c.args.i) +ℤ pos 1)) ≡ c.args.i +ℤ pos 1 = omega (arith, signed_linear) in
@@ -33,10 +33,10 @@ returns-then-is_aside c =
     (seen_span c.args.turned (span_of c.args.piece.now)) _ _ first last refl (next_right c.args.i c.args.j)
     (c.is_aside.ensures c.if-is_aside.true))
 
-pub returns : goal.returns
-returns c =
+pub returns-clause-value : goal.returns-clause-value
+returns-clause-value c =
     let i : to_z w32 (of_z w32 c.args.i) ≡ c.args.i = omega (arith, signed_linear) in
     let j : to_z w32 (of_z w32 c.args.j) ≡ c.args.j = omega (arith, signed_linear) in
     let P = λ (x y : ℤ) (s : Span). IsTrue c.meets_next.result ↔ IsMet (centre x y) (centre (x +ℤ pos 1) y) s in
     subst (P c.args.i c.args.j) c.seen_piece.ensures
-    (subst (λ (p : ℤ × ℤ). P p.0 p.1 (span_of c.seen_piece.result)) (λ k. (i k, j k)) c.meets_next.ensures)
+    (subst (λ (p : ℤ × ℤ). P p.0 p.1 (span_of c.seen_piece.result)) (λ k. (i k, j k)) c.meets_next.ensures.value)

@@ -6,21 +6,21 @@ use Rattle.fx_winding.proofs.Swept.{moved, moved_fact}
 use Rattle.fx_dropout.proofs.Missed.{beside_none}
 use Rattle.fx_dropout.proofs.gaps.turn_off.Goals as goal
 
-pub returns-then-is_beside_row : goal.returns-then-is_beside_row
-returns-then-is_beside_row c =
+pub returns-then-is_beside_row-clause-value : goal.returns-then-is_beside_row-clause-value
+returns-then-is_beside_row-clause-value c =
     let y : to_z w32 (of_z w32 c.args.p.y) ≡ c.args.p.y = omega (arith, signed_linear) in
     let none = beside_none (place_of c.args.p) (span_of c.args.piece.now) (to_z w32 (of_z w32 c.args.p.y)) y
     (c.is_beside_row.ensures c.if-is_beside_row.true) in
     (omega (arith, signed_linear), none.0, none.1)
 
-pub returns-then-on_piece : goal.returns-then-on_piece
-returns-then-on_piece c =
+pub returns-then-on_piece-clause-value : goal.returns-then-on_piece-clause-value
+returns-then-on_piece-clause-value c =
     let x : to_z w32 (of_z w32 c.args.p.x) ≡ c.args.p.x = omega (arith, signed_linear) in
     let y : to_z w32 (of_z w32 c.args.p.y) ≡ c.args.p.y = omega (arith, signed_linear) in
     (moved_fact c.on_piece.result (λ q. IsOn q (span_of c.args.piece.now)) x y c.on_piece.ensures.value).0 c.if-on_piece.true
 
-pub returns : goal.returns
-returns c =
+pub returns-clause-value : goal.returns-clause-value
+returns-clause-value c =
     let s = span_of c.args.piece.now in
     let x : to_z w32 (of_z w32 c.args.p.x) ≡ c.args.p.x = omega (arith, signed_linear) in
     let y : to_z w32 (of_z w32 c.args.p.y) ≡ c.args.p.y = omega (arith, signed_linear) in

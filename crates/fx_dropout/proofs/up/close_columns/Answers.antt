@@ -1,4 +1,4 @@
-use Rattle.std.proofs.Common.{◌≡◌, ◌↔◌, ◌+◌, ◌-◌, ◌*◌, ◌≤◌, List, ◌+ℤ◌, ◌-ℤ◌, inl, pos, sym, ap, subst, map, true, take, drop}
+use Rattle.std.proofs.Common.{◌≡◌, length, ◌↔◌, ◌+◌, ◌-◌, ◌*◌, ◌≤◌, List, ◌+ℤ◌, ◌-ℤ◌, inl, pos, sym, ap, subst, map, true, take, drop}
 use Rattle.std.proofs.Common.{arith, w32, to_z}
 use Rattle.std.proofs.Common.{of_z, ℤ, ℕ}
 use Rattle.std.proofs.lemmas.Int.{to_z_pos}
@@ -8,21 +8,23 @@ use Rattle.fx_winding.specs.Bitmaps.{words_for}
 use Rattle.fx_winding.specs.Dropout.{IsBridged, turned_span}
 use Rattle.fx_winding.specs.Frames.{IsInFrame}
 use Rattle.fx_winding.specs.Winding.{span_of, centre, IsCovered}
+use Rattle.fx_dropout.specs.Tests.{most_tests}
 use Rattle.fx_dropout.specs.inner.Lines.{IsSoFar}
 use Rattle.fx_dropout.specs.inner.Words.{IsShutInColumn}
 use Rattle.fx_dropout.proofs.Candidates.{level_noted, levels_pass}
 use Rattle.fx_dropout.proofs.Rows.{narrow_closed}
-use Rattle.fx_dropout.proofs.Levels.{flat, levels_more, levels_all}
+use Rattle.fx_dropout.proofs.Levels.{levels_more, levels_all}
 use Rattle.fx_dropout.proofs.Segments.{bridged_none, closer_made, closer_either}
 use Rattle.fx_dropout.proofs.SoFar.{so_far_decided}
+use Rattle.fx_dropout.proofs.Tests.{counted_on, counted_to}
 use Rattle.fx_dropout.proofs.up.close_columns.Goals as goal
 
-pub returns-then-frame-eq0-clause-closed : goal.returns-then-frame-eq0-clause-closed
-returns-then-frame-eq0-clause-closed c =
+pub returns-then-is_empty-clause-closed : goal.returns-then-is_empty-clause-closed
+returns-then-is_empty-clause-closed c =
     let f = c.args.bitmap.now.frame in
     let ss = map span_of c.args.pieces.now in
-    let none : f.height ≡ 0 = subst (λ (g : Frame). g.height ≡ 0) c.requires.frame c.if-frame-eq0.true in
-    narrow_closed (map turned_span ss) (λ i j. IsInFrame f j i) (IsSoFar true ss f c.args.bitmap.now) (λ i j h. flat f i j none h)
+    narrow_closed (map turned_span ss) (λ i j. IsInFrame f j i) (IsSoFar true ss f c.args.bitmap.now) (λ i j.
+    subst (λ (g : Frame). ¬ (IsInFrame g j i)) c.requires.frame (c.is_empty.ensures.none c.if-is_empty.true j i))
 
 pub levels-init : goal.levels-init
 levels-init c =
@@ -32,7 +34,7 @@ levels-init c =
     let old = IsSoFar true ss f b in
     let covered : (i j : ℤ) → IsCovered (centre j i) ss → old i j = λ i j h.
     subst (λ (g : Frame). IsSoFar true ss g b i j) (sym c.requires.frame) (c.requires.covered i j h) in
-    let next = c.next_open-up in
+    let next = c.next_level-up in
     let to = subst (λ (g : Frame). next.result ≤ g.height + 1) (sym c.requires.frame) next.ensures.to in
     record {
       same = sym c.requires.frame;
@@ -42,6 +44,7 @@ levels-init c =
           (λ r n l m few. subst (λ (xs : List ℕ). IsShutInColumn xs b r n) c.deref.ensures.value
           (next.ensures.skipped r n l m few))
           (bridged_none (map turned_span ss) (λ i j. IsInFrame f j i) old f.bottom);
+      count = omega arith;
     }
 
 pub closer-requires : goal.closer-requires
@@ -114,7 +117,7 @@ levels-preserved c =
     let same = c.close_level.ensures.frame in
     let covered : (i j : ℤ) → IsCovered (centre j i) ss → old i j = λ i j h.
     subst (λ (g : Frame). IsSoFar true ss g c.args.bitmap.now i j) (sym c.requires.frame) (c.requires.covered i j h) in
-    let next = c.next_open-up-in-levels in
+    let next = c.next_level-up-in-levels in
     let to = subst (λ (g : Frame). next.result ≤ g.height + 1) same next.ensures.to in
     record {
       same = same;
@@ -126,6 +129,8 @@ levels-preserved c =
           (levels_more ts f up x at old mid new (omega arith) (omega arith) row closer.0
           (λ j h. so_far_decided true ss f c.levels.bitmap at j (record { column = h; row = closer.1 }))
           c.levels.invariant.closed c.close_level.ensures.closed);
+      count = counted_on c.args.tally.now.count c.levels.tally.count c.close_level.new.tally.count up next.result
+          (f.width * most_tests (length c.args.pieces.now)) c.levels.invariant.count c.close_level.ensures.count next.ensures.from;
     }
 
 pub returns-clause-closed : goal.returns-clause-closed
@@ -138,3 +143,11 @@ returns-clause-closed c =
     (levels_all ts f c.levels.up (IsSoFar true ss f c.args.bitmap.now) (IsSoFar true ss f c.levels.bitmap)
     (let to = c.levels.invariant.to in omega (arith, to))
     c.levels.invariant.closed)
+
+pub returns-clause-count : goal.returns-clause-count
+returns-clause-count c =
+    let f = c.args.notes.now.frame in
+    let each = most_tests (length c.args.pieces.now) in
+    let to = c.levels.invariant.to in
+    subst (λ (g : Frame). c.levels.tally.count ≤ c.args.tally.now.count + (g.height + 1) * (g.width * each)) c.requires.frame
+    (counted_to c.args.tally.now.count c.levels.tally.count c.levels.up (f.height + 1) (f.width * each) c.levels.invariant.count to)

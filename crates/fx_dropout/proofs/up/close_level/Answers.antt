@@ -1,13 +1,15 @@
-use Rattle.std.proofs.Common.{◌≡◌, ◌+◌, ◌+ℤ◌, ◌∙◌, pos, sym, subst, map, min, arith, w32, to_z, of_z, ℤ, ℕ, true}
+use Rattle.std.proofs.Common.{◌≡◌, length, ◌+◌, ◌+ℤ◌, ◌∙◌, pos, sym, subst, map, min, arith, w32, to_z, of_z, ℤ, ℕ, true}
 use Rattle.std.proofs.lemmas.Int.{to_z_pos}
 use Rattle.fx_fixed.proofs.Linear.{signed_linear}
 use Rattle.fx_winding.specs.declared.frame.Frame.{Frame}
 use Rattle.fx_winding.specs.Dropout.{turned_span}
 use Rattle.fx_winding.specs.Frames.{IsFrom, IsInFrame}
 use Rattle.fx_winding.specs.Winding.{span_of}
+use Rattle.fx_dropout.specs.Tests.{most_tests}
 use Rattle.fx_dropout.specs.inner.Lines.{IsSoFar, IsOneOf, IsLevelNoted, IsLevelClosed}
 use Rattle.fx_dropout.proofs.Candidates.{level_passed}
 use Rattle.fx_dropout.proofs.Levels.{level_none, level_step}
+use Rattle.fx_dropout.proofs.Tests.{counted_on, counted_to}
 use Rattle.fx_dropout.proofs.up.close_level.Goals as goal
 
 pub row-requires-2 : goal.row-requires-2
@@ -33,13 +35,14 @@ columns-init c =
     record {
       same = c.requires.same;
       closed = level_passed ss f c.args.noted.now c.row.result.now c.row-2.result.now old c.args.bitmap.now low at up 0
-          c.next_up-k.result c.requires.same (subst (IsFrom f.bottom f.height) y c.requires.at)
+          c.next_segment-k.result c.requires.same (subst (IsFrom f.bottom f.height) y c.requires.at)
           (subst (IsFrom f.bottom f.height) next above)
           (subst (λ (p : ℤ × ℤ). IsOneOf p.0 p.1) (λ t. (i t, y t)) c.requires.either)
           (subst (IsOneOf low) next c.row_above-above.ensures.either)
           (omega arith) (omega arith) c.row.ensures.words c.row.ensures.value c.row-2.ensures.words c.row-2.ensures.value
           (subst (λ (x : ℤ). IsLevelNoted ts f x old c.args.noted.now) i c.requires.noted) c.requires.room
-          c.next_up-k.ensures.skipped (level_none ts f.left low at old);
+          (λ n l h few. c.next_segment-k.ensures.shut n l h) (level_none ts f.left low at old);
+      count = omega arith;
     }
 
 pub close_gap-requires-clause-inside : goal.close_gap-requires-clause-inside
@@ -90,14 +93,17 @@ columns-preserved c =
     record {
       same = same;
       closed = level_passed ss f c.args.noted.now c.row-in-columns.result.now c.row-in-columns-2.result.now old new low at up
-          (k + 1) c.next_up-k-in-columns.result same (subst (IsFrom f.bottom f.height) y c.requires.at)
+          (k + 1) c.next_segment-k-in-columns.result same (subst (IsFrom f.bottom f.height) y c.requires.at)
           (subst (IsFrom f.bottom f.height) next above)
           (subst (λ (p : ℤ × ℤ). IsOneOf p.0 p.1) (λ t. (i t, y t)) c.requires.either)
           (subst (IsOneOf low) next c.row_above-above.ensures.either)
-          (omega arith) c.next_up-k-in-columns.ensures.from c.row-in-columns.ensures.words c.row-in-columns.ensures.value
+          (omega arith) c.next_segment-k-in-columns.ensures.from c.row-in-columns.ensures.words c.row-in-columns.ensures.value
           c.row-in-columns-2.ensures.words c.row-in-columns-2.ensures.value
           (subst (λ (x : ℤ). IsLevelNoted ts f x old c.args.noted.now) i c.requires.noted) c.requires.room
-          c.next_up-k-in-columns.ensures.skipped closed;
+          (λ n l h few. c.next_segment-k-in-columns.ensures.shut n l h) closed;
+      count = counted_on c.args.tally.now.count c.columns.tally.count c.close_gap.new.tally.count (min k f.width)
+          (min c.next_segment-k-in-columns.result f.width) (most_tests (length c.args.pieces.now)) c.columns.invariant.count
+          c.close_gap.ensures.count (omega (arith, c.next_segment-k-in-columns.ensures.from));
     }
 
 pub returns-clause-closed : goal.returns-clause-closed
@@ -111,3 +117,8 @@ returns-clause-closed c =
     let i : to_z w32 (of_z w32 c.args.i) ≡ c.args.i = omega (arith, signed_linear) in
     let whole : min c.columns.k f.width ≡ f.width = omega arith in
     subst (λ (p : ℤ × ℤ × ℕ). IsLevelClosed ts f.left p.2 p.0 p.1 old new) (λ t. (i t, at t, whole t)) c.columns.invariant.closed
+
+pub returns-clause-count : goal.returns-clause-count
+returns-clause-count c =
+    counted_to c.args.tally.now.count c.columns.tally.count (min c.columns.k c.args.frame.width) c.args.frame.width
+    (most_tests (length c.args.pieces.now)) c.columns.invariant.count (omega arith)
