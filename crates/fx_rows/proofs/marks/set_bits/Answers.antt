@@ -1,13 +1,15 @@
-use Rattle.std.proofs.Common.{◌∙◌, arith}
+use Rattle.std.proofs.Common.{◌/◌, arith}
 use Rattle.fx_rows.proofs.Marking.{set_inside, set_outside}
 use Rattle.fx_rows.proofs.marks.set_bits.Goals as goal
 
-pub words-preserved : goal.words-preserved
-words-preserved c = record {
-  inside = λ k h l m. set_inside c.words.line c.words.w c.between.result k c.args.first c.args.last
-      c.saturating_sub-before.result c.saturating_sub-after.result c.saturating_sub-before.ensures c.saturating_sub-after.ensures
-      (omega arith) h l m c.between.ensures.inside (c.words.invariant.inside k h l);
-  outside = λ k h. set_outside c.words.line c.words.w c.between.result k c.args.first c.args.last
-      c.saturating_sub-before.result c.saturating_sub-after.result c.saturating_sub-before.ensures c.saturating_sub-after.ensures
-      (omega arith) h c.between.ensures.outside ∙ c.words.invariant.outside k h;
-}
+pub returns-then-word-last-clause-inside : goal.returns-then-word-last-clause-inside
+returns-then-word-last-clause-inside c = λ k h l.
+    let w = c.args.first / 32 in
+    set_inside c.args.line.now w c.between.result k c.args.first c.args.last _ _ (omega arith) (omega arith) (omega arith) h l
+    (omega arith) c.between.ensures.inside (λ m. absurd (omega arith))
+
+pub returns-then-word-last-clause-outside : goal.returns-then-word-last-clause-outside
+returns-then-word-last-clause-outside c = λ k h.
+    let w = c.args.first / 32 in
+    set_outside c.args.line.now w c.between.result k c.args.first c.args.last _ _ (omega arith) (omega arith) (omega arith) h
+    c.between.ensures.outside

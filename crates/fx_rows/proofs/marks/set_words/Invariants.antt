@@ -1,6 +1,6 @@
 use Rattle.std.proofs.Common.{◌≡◌, ◌⊎◌, ℕ, ◌*◌, ◌<◌, ◌≤◌}
 use Rattle.fx_winding.specs.Bitmaps.{word_bit}
-use Rattle.fx_rows.proofs.marks.set_bits.Given as goal
+use Rattle.fx_rows.proofs.marks.set_words.Given as goal
 
 abbrev pub invariant-words : goal.invariant-words
 invariant-words l = record {
