@@ -74,6 +74,7 @@ row_added s f row at old new d d' t t' m m' ed ed' et et' em em' h =
       over = λ k l. record { turns = (a.over k l).0; mark = (a.over k l).1 };
       grown = a.grown;
       touches = a.touches;
+      bits = a.bits;
     }
 
 -- ---- rows of one piece
@@ -84,6 +85,7 @@ band_none s f at b = record {
   kept = λ n h. kept_none b n;
   grown = λ n h. h;
   touches = λ t. t;
+  bits = λ n h. h;
 }
 
 -- a number in a row before, or after
@@ -99,6 +101,7 @@ band_both s f from mid to old now new fm mt a b = record {
   kept = λ n h. kept_through old now new n (a.kept n (λ r x y. h r x (omega arith))) (b.kept n (λ r x y. h r (omega arith) y));
   grown = λ n w. b.grown n (a.grown n w);
   touches = λ t. b.touches (a.touches t);
+  bits = λ n h. b.bits n (a.bits n h);
 }
   where
     at : ℕ → ℕ → ℕ
@@ -126,6 +129,7 @@ band_row s f at old new h = record {
   grown = λ n w. let e : n + 4 * at + 4 ≡ n + 4 * (at + 1) = omega arith in
       subst (λ (m : ℕ). AreWithin m new.diff.items) e (h.grown (n + 4 * at) w);
   touches = h.touches;
+  bits = h.bits;
 }
   where
     by : (n : ℕ) → (n < at * stride f.width) ⊎ (at * stride f.width + f.width ≤ n) → IsKept old new n
@@ -161,6 +165,7 @@ band_missed s f from to b o h = record {
   kept = λ n l. kept_none b n;
   grown = λ n w k. let e = w k in omega (arith, signed_linear, e, o);
   touches = λ t. t;
+  bits = λ n h. h;
 }
 
 -- rows, rows after them, and rows after those

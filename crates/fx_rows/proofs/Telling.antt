@@ -78,6 +78,13 @@ pub told_end : (T : ℕ → ℕ → Type 0) (s : Span) (f : Frame) (from up end 
     → AreRowsTold T s f from end
 told_end T s f from up end e h = subst (λ (n : ℕ). AreRowsTold T s f from n) e h
 
+-- what is told is told in another way too
+pub told_also : (T U : ℕ → ℕ → Type 0) (s : Span) (f : Frame) (from to : ℕ) → ((r n : ℕ) → T r n → U r n)
+    → AreRowsTold T s f from to → AreRowsTold U s f from to
+told_also T U s f from to also h = record {
+  rows = λ r l m i. let t = h.rows r l m i in record { end = t.end; told = also r t.end t.told; is = t.is };
+}
+
 -- rows that are not between the ends, below and above
 pub told_beside : (T : ℕ → ℕ → Type 0) (s : Span) (f : Frame) (from low high to : ℕ)
     → ((r : ℕ) → from ≤ r → r < low → ¬ (IsInner s.a.y s.c.y (height_of f r)))

@@ -1,6 +1,7 @@
 //! What a piece adds to a band of rows.
 
 ghost use Rattle.std.specs.Prelude.{◌≡◌, ℕ, ◌+◌, ◌-◌, ◌*◌, ◌^◌, ◌<◌, ◌≤◌, pos, ◌+ℤ◌, Some};
+ghost use Rattle.fx_winding.specs.Bitmaps.{word_bit};
 ghost use Rattle.fx_winding.specs.Winding.{Span, span_of};
 ghost use Rattle.fx_winding.specs.declared.frame.Frame.{Frame};
 ghost use Rattle.fx_rows.specs.inner.Arcs.{AreAreas};
@@ -13,6 +14,7 @@ ghost use Rattle.fx_rows.specs.inner.Cuts.{IsCut};
 ghost use Rattle.fx_rows.specs.inner.Sums.{AreWithin};
 ghost use Rattle.fx_rows.specs.inner.Bands.{stride, AreInner, IsRowAdded, IsBandAdded, bounded_span};
 ghost use Rattle.fx_rows.specs.inner.Telling.{AreRowsTold};
+ghost use Rattle.fx_rows.specs.inner.Told.{IsEndSet};
 
 use crate::arc::total_of;
 use crate::band::Band;
@@ -79,7 +81,8 @@ fn add_met_rows(piece: &Piece, rows: RowRange, band: &mut Band, tally: &mut Tall
     }
 }
 
-/// Adds a cut to the counts and the marks of its row, in which `end` columns come before its end.
+/// Adds a cut to the counts and the marks of its row, in which `end` columns come before its end, where the bit of a difference is
+/// set.
 #[inline(always)]
 fn add_cut(band: &mut Band, up: u32, strip: Strip, end: u32, cut: Cut)
     requires up { up < band.old.frame.height }
@@ -92,6 +95,7 @@ fn add_cut(band: &mut Band, up: u32, strip: Strip, end: u32, cut: Cut)
     ensures frame { band.new.frame ≡ band.old.frame }
     ensures added { (s : Span) → IsCut s strip cut →
         IsRowAdded s band.old.frame strip.row (up * stride band.old.frame.width) band.old band.new }
+    ensures set { word_bit band.new.touched.items (up * stride band.old.frame.width + end) ≡ 1 }
 {
     let frame = band.frame;
     let first = band.first_of(up);
@@ -122,7 +126,8 @@ fn add_cuts<C: Cuts + Drop, N: Noting>(
     ensures added { IsBandAdded (bounded_span bounded.now) band.old.frame rows.first rows.end band.old band.new }
     ensures of { (f : Frame) → N.IsOf noter.old f → N.IsOf noter.new f }
     ensures kept { (s : Span) (r : ℕ) → N.IsNotedAt noter.old s r → N.IsNotedAt noter.new s r }
-    ensures told { AreRowsTold (N.IsTold noter.new) (bounded_span bounded.now) band.old.frame rows.first rows.end }
+    ensures told { AreRowsTold (IsEndSet (N.IsTold noter.new) band.old.frame band.new.touched.items)
+        (bounded_span bounded.now) band.old.frame rows.first rows.end }
     ensures count { tally.new.count ≤ tally.old.count + (rows.end - rows.first) }
 {
     let mut cuts = cuts;
@@ -155,7 +160,8 @@ fn add_curve_rows<N: Noting>(
     ensures added { IsBandAdded (bounded_span bounded.now) band.old.frame rows.first rows.end band.old band.new }
     ensures of { (f : Frame) → N.IsOf noter.old f → N.IsOf noter.new f }
     ensures kept { (s : Span) (r : ℕ) → N.IsNotedAt noter.old s r → N.IsNotedAt noter.new s r }
-    ensures told { AreRowsTold (N.IsTold noter.new) (bounded_span bounded.now) band.old.frame rows.first rows.end }
+    ensures told { AreRowsTold (IsEndSet (N.IsTold noter.new) band.old.frame band.new.touched.items)
+        (bounded_span bounded.now) band.old.frame rows.first rows.end }
     ensures count { tally.new.count ≤ tally.old.count + 10 * (rows.end - rows.first) }
 {
     if total_of(areas) == 0 {
@@ -181,7 +187,8 @@ fn add_inner_rows<N: Noting>(
     ensures added { IsBandAdded (bounded_span bounded.now) band.old.frame rows.first rows.end band.old band.new }
     ensures of { (f : Frame) → N.IsOf noter.old f → N.IsOf noter.new f }
     ensures kept { (s : Span) (r : ℕ) → N.IsNotedAt noter.old s r → N.IsNotedAt noter.new s r }
-    ensures told { AreRowsTold (N.IsTold noter.new) (bounded_span bounded.now) band.old.frame rows.first rows.end }
+    ensures told { AreRowsTold (IsEndSet (N.IsTold noter.new) band.old.frame band.new.touched.items)
+        (bounded_span bounded.now) band.old.frame rows.first rows.end }
     ensures count { tally.new.count ≤ tally.old.count + 12 * (rows.end - rows.first) }
 {
     if bounded.across.end <= bounded.across.first {
@@ -210,7 +217,8 @@ fn add_met_piece<N: Noting>(
     ensures added { IsBandAdded (span_of piece.now) band.old.frame rows.first rows.end band.old band.new }
     ensures of { (f : Frame) → N.IsOf noter.old f → N.IsOf noter.new f }
     ensures kept { (s : Span) (r : ℕ) → N.IsNotedAt noter.old s r → N.IsNotedAt noter.new s r }
-    ensures told { AreRowsTold (N.IsTold noter.new) (span_of piece.now) band.old.frame rows.first rows.end }
+    ensures told { AreRowsTold (IsEndSet (N.IsTold noter.new) band.old.frame band.new.touched.items)
+        (span_of piece.now) band.old.frame rows.first rows.end }
     ensures from { rows.first ≤ result.first }
     ensures to { result.end ≤ rows.end }
     ensures inner { (r : ℕ) → result.first ≤ r → r < result.end →
@@ -249,7 +257,8 @@ pub(crate) fn add_piece<N: Noting>(
     ensures added { IsBandAdded (span_of piece.now) band.old.frame 0 band.old.frame.height band.old band.new }
     ensures of { (f : Frame) → N.IsOf noter.old f → N.IsOf noter.new f }
     ensures kept { (s : Span) (r : ℕ) → N.IsNotedAt noter.old s r → N.IsNotedAt noter.new s r }
-    ensures told { AreRowsTold (N.IsTold noter.new) (span_of piece.now) band.old.frame 0 band.old.frame.height }
+    ensures told { AreRowsTold (IsEndSet (N.IsTold noter.new) band.old.frame band.new.touched.items)
+        (span_of piece.now) band.old.frame 0 band.old.frame.height }
     ensures met { AreMet (span_of piece.now) band.old.frame result }
     ensures count { tally.new.count ≤ tally.old.count + 12 * band.old.frame.height }
 {

@@ -3,6 +3,7 @@ use Rattle.std.specs.Prelude.{◌≡◌, ℕ, ◌≤◌, ◌<◌, ℤ, pos, negs
 use Rattle.fx_winding.specs.declared.frame.Frame.{Frame}
 use Rattle.fx_winding.specs.Bitmaps.{word_bit}
 use Rattle.fx_winding.specs.Meets.{turn}
+use Rattle.fx_winding.specs.Notes.{pixel_number}
 use Rattle.fx_winding.specs.Winding.{Span, IsOn, centre}
 
 -- what a piece adds left of it in a row between its ends: 1 if its chord rises, and else -1
@@ -20,6 +21,10 @@ pub record IsEnd (s : Span) (f : Frame) (r n : ℕ) : Type 0 where
 -- the end at a place of a list
 abbrev pub IsEndIn : List ℕ → ℕ → ℕ → Type 0
 IsEndIn ends i n = (i < length ends) × (slice_index_or ends i 0 ≡ n)
+
+-- the end of a row is told, and the segment across the row that goes to it has its bit
+abbrev pub IsEndSet : (ℕ → ℕ → Type 0) → Frame → List ℕ → ℕ → ℕ → Type 0
+IsEndSet IsTold f bits r n = IsTold r n × (word_bit bits (pixel_number f r n) ≡ 1)
 
 -- the bits that were set stay set
 abbrev pub AreKept : List ℕ → List ℕ → Type 0

@@ -10,10 +10,11 @@ use Rattle.fx_rows.specs.inner.Sums.{before, AreWithin}
 use Rattle.fx_rows.specs.inner.Bands.{stride, turns_at, mark_at, IsBandAdded}
 use Rattle.fx_rows.specs.inner.Placing.{AreMet}
 use Rattle.fx_rows.specs.inner.Telling.{AreRowsTold, AreNotedIn}
+use Rattle.fx_rows.specs.inner.Told.{IsEndSet}
 use Rattle.fx_rows.proofs.Counted.{counted_start, counted_more, counted_all, count_more, within_none}
 use Rattle.fx_rows.proofs.Banding.{IsNumber, number_or_not}
 use Rattle.fx_rows.proofs.Sums.{before_none}
-use Rattle.fx_rows.proofs.Telling.{told_same, met_same, noted_start, noted_kept, noted_more}
+use Rattle.fx_rows.proofs.Telling.{told_same, told_also, met_same, noted_start, noted_kept, noted_more}
 use Rattle.fx_rows.proofs.rows.count_band.Goals as goal
 
 pub pieces-init : goal.pieces-init
@@ -55,7 +56,9 @@ note-requires-clause-told g c = λ f part.
     let s = span_of c.piece-item.result in
     let T = g.N.Noting.IsTold c.add_piece-met.new.noter in
     told_same T s c.args.frame c.args.band.now.frame f c.args.rows.first c.args.rows.end c.requires.part part
-    (subst (λ (f : Frame). AreRowsTold T s f 0 f.height) c.pieces.invariant.frame c.add_piece-met.ensures.told)
+    (subst (λ (f : Frame). AreRowsTold T s f 0 f.height) c.pieces.invariant.frame
+    (told_also (IsEndSet T c.pieces.band.frame c.add_piece-met.new.band.touched.items) T s c.pieces.band.frame 0
+    c.pieces.band.frame.height (λ r n t. t.0) c.add_piece-met.ensures.told))
 
 pub note-requires-clause-frame : goal.note-requires-clause-frame
 note-requires-clause-frame g c = c.add_piece-met.ensures.of c.args.frame (c.pieces.invariant.of c.args.frame c.requires.of)
