@@ -7,7 +7,7 @@ use Rattle.fx_fixed.proofs.Linear.{signed, signed_linear}
 use Rattle.fx_winding.specs.declared.frame.Frame.{Frame}
 use Rattle.fx_winding.specs.Area.{Place}
 use Rattle.fx_winding.specs.Meets.{turn}
-use Rattle.fx_winding.specs.Notes.{IsMetAcross}
+use Rattle.fx_winding.specs.Notes.{IsMetAcross, IsNotedAcross}
 use Rattle.fx_winding.specs.Winding.{Span, centre, IsOn}
 use Rattle.fx_winding.proofs.Aside.{left_not_met, right_not_met}
 use Rattle.fx_winding.proofs.EndRows.{rests_on, hangs_from, IsFootWithin, IsHeadWithin, foot_row_met, head_row_met}
@@ -17,7 +17,6 @@ use Rattle.fx_rows.specs.declared.heights.Met.{Met}
 use Rattle.fx_rows.specs.inner.Heights.{height_of, IsMissed, IsResting, IsHanging}
 use Rattle.fx_rows.specs.inner.Placing.{AreMet}
 use Rattle.fx_rows.specs.inner.Points.{IsInner, AreAcross}
-use Rattle.fx_rows.specs.inner.Segments.{AreSetAcross}
 use Rattle.fx_rows.specs.inner.Told.{rise_value, IsEnd}
 use Rattle.fx_rows.specs.inner.Upward.{column_of}
 use Rattle.fx_rows.proofs.Points.{to_all}
@@ -183,16 +182,16 @@ met_end s f first end r n k h l w inner is m met = by (below_same_above k n)
         ∙ sym (right_past_end s f first end r n k h w is o m met.off_right)))
 
 -- ---- all rows: those that the piece misses, those between its ends from m on and before n, and the others that it may touch
-pub all_across : (s : Span) (f : Frame) (met : Met) (below m n : ℕ) (across : List ℕ) → AreMet s f met
-    → ((r : ℕ) → met.touched.first ≤ r → r < m → AreSetAcross s f below across r)
-    → ((r : ℕ) → m ≤ r → r < n → AreSetAcross s f below across r)
-    → ((r : ℕ) → n ≤ r → r < met.touched.end → AreSetAcross s f below across r)
-    → (r : ℕ) → r < f.height → AreSetAcross s f below across r
-all_across s f met below m n across is under ended over r h =
+pub all_across : (s : Span) (f : Frame) (met : Met) (m n : ℕ) (across : List ℕ) → AreMet s f met
+    → ((r : ℕ) → met.touched.first ≤ r → r < m → IsNotedAcross s f across r)
+    → ((r : ℕ) → m ≤ r → r < n → IsNotedAcross s f across r)
+    → ((r : ℕ) → n ≤ r → r < met.touched.end → IsNotedAcross s f across r)
+    → (r : ℕ) → r < f.height → IsNotedAcross s f across r
+all_across s f met m n across is under ended over r h =
     by (below_or_not r met.touched.first) (below_or_not r m) (below_or_not r n) (below_or_not r met.touched.end)
   where
     by : (r < met.touched.first) ⊎ (met.touched.first ≤ r) → (r < m) ⊎ (m ≤ r) → (r < n) ⊎ (n ≤ r)
-        → (r < met.touched.end) ⊎ (met.touched.end ≤ r) → AreSetAcross s f below across r
+        → (r < met.touched.end) ⊎ (met.touched.end ≤ r) → IsNotedAcross s f across r
     by (inl a) b c d = λ k w i. absurd (missed_not_met s f r k (inl (is.below r a)) i)
     by (inr a) (inl b) c d = under r a b
     by (inr a) (inr b) (inl c) d = ended r b c

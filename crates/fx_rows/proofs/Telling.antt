@@ -10,7 +10,7 @@ use Rattle.fx_fixed.proofs.Linear.{signed_linear}
 use Rattle.fx_winding.specs.declared.frame.Frame.{Frame}
 use Rattle.fx_winding.specs.Area.{Place}
 use Rattle.fx_winding.specs.Meets.{turn}
-use Rattle.fx_winding.specs.Notes.{IsNotedAcross, IsNotedUp, IsNoted}
+use Rattle.fx_winding.specs.Notes.{IsNotedUp, IsNoted}
 use Rattle.fx_winding.specs.Outside.{HasAll}
 use Rattle.fx_winding.specs.Winding.{Span, IsOn, centre}
 use Rattle.fx_rows.specs.declared.heights.Met.{Met}
@@ -22,7 +22,8 @@ use Rattle.fx_rows.specs.inner.Placing.{AreMet}
 use Rattle.fx_rows.specs.inner.Points.{IsInner, IsRise}
 use Rattle.fx_rows.specs.inner.Sides.{place_at}
 use Rattle.fx_rows.specs.inner.Told.{rise_value, IsEnd}
-use Rattle.fx_rows.specs.inner.Telling.{IsRowTold, AreRowsTold, IsPartOf, AreRowsNoted, AreNotedIn}
+use Rattle.fx_rows.specs.inner.Telling.{IsRowTold, AreRowsTold, IsPartOf, AreRowsNoted, AreNotedIn, IsNotedBy}
+use Rattle.fx_rows.specs.inner.Telling.{Way, across_row, up_to_row}
 
 -- ---- the end of one row
 rising : (a c : ℤ) → a <ℤ c → (if int_lt a c then pos 1 else negsuc 0) ≡ pos 1
@@ -164,50 +165,71 @@ met_same s f g h from to m a b is = record {
 }
 
 -- ---- the pieces that are noted
+-- one fact of the segments across a row, and another of those up to it
+abbrev pub by_way : (Span → ℕ → Type 0) → (Span → ℕ → Type 0) → Span → Way → ℕ → Type 0
+by_way P Q s across_row r = P s r
+by_way P Q s up_to_row r = Q s r
+
 -- no piece yet
-pub noted_start : (P : Span → ℕ → Type 0) (ss : List Span) (f : Frame) (from to : ℕ) → AreNotedIn P (take 0 ss) f from to
+pub noted_start : (P : Span → Way → ℕ → Type 0) (ss : List Span) (f : Frame) (from to : ℕ) → AreNotedIn P (take 0 ss) f from to
 noted_start P ss f from to k d h = absurd (omega (arith, h))
 
-rows_kept : (P Q : ℕ → Type 0) (f : Frame) (from to : ℕ) → ((r : ℕ) → P r → Q r) → AreRowsNoted P f from to
-    → AreRowsNoted Q f from to
-rows_kept P Q f from to kept h = record { rows = λ r l m. kept r (h.rows r l m); top = λ e. kept f.height (h.top e) }
+-- what is noted in one sense is noted in another
+pub noted_also : (P Q : Span → Way → ℕ → Type 0) (ss : List Span) (f : Frame) (from to : ℕ)
+    → ((s : Span) (r : ℕ) → from ≤ r → r < to → P s across_row r → Q s across_row r)
+    → ((s : Span) (r : ℕ) → P s up_to_row r → Q s up_to_row r) → AreNotedIn P ss f from to → AreNotedIn Q ss f from to
+noted_also P Q ss f from to across up h k d l =
+    let s = get_or ss k d in
+    let here = h k d l in
+    record {
+      across = λ r m n. across s r m n (here.across r m n);
+      up = λ r m n. up s r (here.up r m n);
+      top = λ e. up s f.height (here.top e);
+    }
 
-pub noted_kept : (P Q : Span → ℕ → Type 0) (ss : List Span) (f : Frame) (from to : ℕ) → ((s : Span) (r : ℕ) → P s r → Q s r)
-    → AreNotedIn P ss f from to → AreNotedIn Q ss f from to
-noted_kept P Q ss f from to kept h k d l =
-    rows_kept (P (get_or ss k d)) (Q (get_or ss k d)) f from to (kept (get_or ss k d)) (h k d l)
+pub noted_kept : (P Q : Span → Way → ℕ → Type 0) (ss : List Span) (f : Frame) (from to : ℕ)
+    → ((s : Span) (w : Way) (r : ℕ) → P s w r → Q s w r) → AreNotedIn P ss f from to → AreNotedIn Q ss f from to
+noted_kept P Q ss f from to kept h =
+    noted_also P Q ss f from to (λ s r l m. kept s across_row r) (λ s r. kept s up_to_row r) h
 
 -- one more piece
-pub noted_more : (P : Span → ℕ → Type 0) (ss : List Span) (f : Frame) (from to at : ℕ) (s : Span) → at < length ss
+pub noted_more : (P : Span → Way → ℕ → Type 0) (ss : List Span) (f : Frame) (from to at : ℕ) (s : Span) → at < length ss
     → s ≡ get_or ss at s → AreNotedIn P (take at ss) f from to → AreRowsNoted (P s) f from to
     → AreNotedIn P (take (at + 1) ss) f from to
 noted_more P ss f from to at s l e h here =
     All-more (λ t. AreRowsNoted (P t) f from to) ss at s l h (subst (λ t. AreRowsNoted (P t) f from to) e here)
 
 -- rows, and then the rows after them
-pub noted_both : (P Q : Span → ℕ → Type 0) (ss : List Span) (f : Frame) (from mid to : ℕ) → ((s : Span) (r : ℕ) → P s r → Q s r)
+pub noted_both : (P Q : Span → Way → ℕ → Type 0) (ss : List Span) (f : Frame) (from mid to : ℕ)
+    → ((s : Span) (w : Way) (r : ℕ) → P s w r → Q s w r)
     → AreNotedIn P ss f from mid → AreNotedIn Q ss f mid to → AreNotedIn Q ss f from to
 noted_both P Q ss f from mid to kept a b k d l = record {
-  rows = λ r m n. by r m n (below_or_not r mid);
+  across = λ r m n. across r m n (below_or_not r mid);
+  up = λ r m n. up r m n (below_or_not r mid);
   top = (b k d l).top;
 }
   where
-    by : (r : ℕ) → from ≤ r → r < to → (r < mid) ⊎ (mid ≤ r) → Q (get_or ss k d) r
-    by r m n (inl o) = kept (get_or ss k d) r ((a k d l).rows r m o)
-    by r m n (inr o) = (b k d l).rows r o n
+    across : (r : ℕ) → from ≤ r → r < to → (r < mid) ⊎ (mid ≤ r) → Q (get_or ss k d) across_row r
+    across r m n (inl o) = kept (get_or ss k d) across_row r ((a k d l).across r m o)
+    across r m n (inr o) = (b k d l).across r o n
+
+    up : (r : ℕ) → from ≤ r → r < to → (r < mid) ⊎ (mid ≤ r) → Q (get_or ss k d) up_to_row r
+    up r m n (inl o) = kept (get_or ss k d) up_to_row r ((a k d l).up r m o)
+    up r m n (inr o) = (b k d l).up r o n
 
 -- all rows
-pub noted_frame : (P : Span → ℕ → Type 0) (ss : List Span) (f : Frame) (rows columns : List ℕ)
-    → ((s : Span) (r : ℕ) → P s r → (r < f.height → IsNotedAcross s f rows r) × (r ≤ f.height → IsNotedUp s f columns r))
-    → AreNotedIn P ss f 0 f.height → All (λ s. IsNoted s f rows columns) ss
-noted_frame P ss f rows columns says h k d l = record {
-  across = λ r m. (says (get_or ss k d) r ((h k d l).rows r (omega arith) m)).0 m;
+pub noted_frame : (f : Frame) (rows columns : List ℕ) (ss : List Span)
+    → AreNotedIn (IsNotedBy f rows columns) ss f 0 f.height → All (λ s. IsNoted s f rows columns) ss
+noted_frame f rows columns ss h k d l = record {
+  across = λ r m. (h k d l).across r (omega arith) m;
   up = λ r m. by r m (below_or_not r f.height);
 }
   where
-    by : (r : ℕ) → r ≤ f.height → (r < f.height) ⊎ (f.height ≤ r) → IsNotedUp (get_or ss k d) f columns r
-    by r m (inl o) = (says (get_or ss k d) r ((h k d l).rows r (omega arith) o)).1 m
+    s : Span
+    s = get_or ss k d
+
+    by : (r : ℕ) → r ≤ f.height → (r < f.height) ⊎ (f.height ≤ r) → IsNotedUp s f columns r
+    by r m (inl o) = (h k d l).up r (omega arith) o
     by r m (inr o) =
         let e : f.height ≡ r = omega (arith, m, o) in
-        subst (IsNotedUp (get_or ss k d) f columns) e
-        ((says (get_or ss k d) f.height ((h k d l).top refl)).1 (omega arith))
+        subst (IsNotedUp s f columns) e ((h k d l).top refl)

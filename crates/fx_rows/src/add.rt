@@ -13,7 +13,7 @@ ghost use Rattle.fx_rows.specs.inner.Inside.{IsOnInside};
 ghost use Rattle.fx_rows.specs.inner.Cuts.{IsCut};
 ghost use Rattle.fx_rows.specs.inner.Sums.{AreWithin};
 ghost use Rattle.fx_rows.specs.inner.Bands.{stride, AreInner, IsRowAdded, IsBandAdded, bounded_span};
-ghost use Rattle.fx_rows.specs.inner.Telling.{AreRowsTold};
+ghost use Rattle.fx_rows.specs.inner.Telling.{AreRowsTold, Way};
 ghost use Rattle.fx_rows.specs.inner.Told.{IsEndSet};
 
 use crate::arc::total_of;
@@ -125,8 +125,8 @@ fn add_cuts<C: Cuts + Drop, N: Noting>(
     ensures frame { band.new.frame ≡ band.old.frame }
     ensures added { IsBandAdded (bounded_span bounded.now) band.old.frame rows.first rows.end band.old band.new }
     ensures of { (f : Frame) → N.IsOf noter.old f → N.IsOf noter.new f }
-    ensures kept { (s : Span) (r : ℕ) → N.IsNotedAt noter.old s r → N.IsNotedAt noter.new s r }
-    ensures told { AreRowsTold (IsEndSet (N.IsTold noter.new) band.old.frame band.new.touched.items)
+    ensures kept { (s : Span) (w : Way) (r : ℕ) → N.IsNotedAt noter.old s w r → N.IsNotedAt noter.new s w r }
+    ensures told { AreRowsTold (IsEndSet (N.IsTold noter.new) band.old.frame.width band.new.touched.items)
         (bounded_span bounded.now) band.old.frame rows.first rows.end }
     ensures count { tally.new.count ≤ tally.old.count + (rows.end - rows.first) }
 {
@@ -159,8 +159,8 @@ fn add_curve_rows<N: Noting>(
     ensures frame { band.new.frame ≡ band.old.frame }
     ensures added { IsBandAdded (bounded_span bounded.now) band.old.frame rows.first rows.end band.old band.new }
     ensures of { (f : Frame) → N.IsOf noter.old f → N.IsOf noter.new f }
-    ensures kept { (s : Span) (r : ℕ) → N.IsNotedAt noter.old s r → N.IsNotedAt noter.new s r }
-    ensures told { AreRowsTold (IsEndSet (N.IsTold noter.new) band.old.frame band.new.touched.items)
+    ensures kept { (s : Span) (w : Way) (r : ℕ) → N.IsNotedAt noter.old s w r → N.IsNotedAt noter.new s w r }
+    ensures told { AreRowsTold (IsEndSet (N.IsTold noter.new) band.old.frame.width band.new.touched.items)
         (bounded_span bounded.now) band.old.frame rows.first rows.end }
     ensures count { tally.new.count ≤ tally.old.count + 10 * (rows.end - rows.first) }
 {
@@ -186,8 +186,8 @@ fn add_inner_rows<N: Noting>(
     ensures frame { band.new.frame ≡ band.old.frame }
     ensures added { IsBandAdded (bounded_span bounded.now) band.old.frame rows.first rows.end band.old band.new }
     ensures of { (f : Frame) → N.IsOf noter.old f → N.IsOf noter.new f }
-    ensures kept { (s : Span) (r : ℕ) → N.IsNotedAt noter.old s r → N.IsNotedAt noter.new s r }
-    ensures told { AreRowsTold (IsEndSet (N.IsTold noter.new) band.old.frame band.new.touched.items)
+    ensures kept { (s : Span) (w : Way) (r : ℕ) → N.IsNotedAt noter.old s w r → N.IsNotedAt noter.new s w r }
+    ensures told { AreRowsTold (IsEndSet (N.IsTold noter.new) band.old.frame.width band.new.touched.items)
         (bounded_span bounded.now) band.old.frame rows.first rows.end }
     ensures count { tally.new.count ≤ tally.old.count + 12 * (rows.end - rows.first) }
 {
@@ -216,8 +216,8 @@ fn add_met_piece<N: Noting>(
     ensures frame { band.new.frame ≡ band.old.frame }
     ensures added { IsBandAdded (span_of piece.now) band.old.frame rows.first rows.end band.old band.new }
     ensures of { (f : Frame) → N.IsOf noter.old f → N.IsOf noter.new f }
-    ensures kept { (s : Span) (r : ℕ) → N.IsNotedAt noter.old s r → N.IsNotedAt noter.new s r }
-    ensures told { AreRowsTold (IsEndSet (N.IsTold noter.new) band.old.frame band.new.touched.items)
+    ensures kept { (s : Span) (w : Way) (r : ℕ) → N.IsNotedAt noter.old s w r → N.IsNotedAt noter.new s w r }
+    ensures told { AreRowsTold (IsEndSet (N.IsTold noter.new) band.old.frame.width band.new.touched.items)
         (span_of piece.now) band.old.frame rows.first rows.end }
     ensures from { rows.first ≤ result.first }
     ensures to { result.end ≤ rows.end }
@@ -256,8 +256,8 @@ pub(crate) fn add_piece<N: Noting>(
     ensures frame { band.new.frame ≡ band.old.frame }
     ensures added { IsBandAdded (span_of piece.now) band.old.frame 0 band.old.frame.height band.old band.new }
     ensures of { (f : Frame) → N.IsOf noter.old f → N.IsOf noter.new f }
-    ensures kept { (s : Span) (r : ℕ) → N.IsNotedAt noter.old s r → N.IsNotedAt noter.new s r }
-    ensures told { AreRowsTold (IsEndSet (N.IsTold noter.new) band.old.frame band.new.touched.items)
+    ensures kept { (s : Span) (w : Way) (r : ℕ) → N.IsNotedAt noter.old s w r → N.IsNotedAt noter.new s w r }
+    ensures told { AreRowsTold (IsEndSet (N.IsTold noter.new) band.old.frame.width band.new.touched.items)
         (span_of piece.now) band.old.frame 0 band.old.frame.height }
     ensures met { AreMet (span_of piece.now) band.old.frame result }
     ensures count { tally.new.count ≤ tally.old.count + 12 * band.old.frame.height }

@@ -1,30 +1,30 @@
-//! The segments of rows that a piece meets, noted as bits, each by its right end.
+//! The segments of a band's rows that a piece meets, noted as bits, each by its right end. The bits are numbered like the band's
+//! pixels.
 //!
-//! In a row between its ends a piece meets one segment, that which goes to the column where its columns end. In a row on which it
-//! rests, or from which it hangs, it meets the one that its end is on. In the other rows that it can touch all segments of its box
+//! In a row between its ends a piece meets one segment, that which goes to the column where its columns end: its bit is set
+//! already, since the counts change there. In a row on which it rests, or from which it hangs, it meets the one that its end is on. In the other rows that it can touch all segments of its box
 //! are noted, more than it meets.
 
-ghost use Rattle.std.specs.Prelude.{◌≡◌, ℕ, ◌+◌, ◌*◌, ◌^◌, ◌<◌, ◌≤◌, length, slice_index_or, IsTrue, pos, ◌+ℤ◌, ◌<ℤ◌, ◌≤ℤ◌};
+ghost use Rattle.std.specs.Prelude.{◌≡◌, ℕ, ◌+◌, ◌*◌, ◌^◌, ◌<◌, ◌≤◌, length, IsTrue, pos, ◌+ℤ◌, ◌<ℤ◌, ◌≤ℤ◌};
 ghost use Rattle.fx_fixed.specs.Ranges.{IsWithin};
 ghost use Rattle.fx_winding.specs.Bitmaps.{words_for as words_for_of, word_bit};
-ghost use Rattle.fx_winding.specs.Notes.{IsMetAcross};
+ghost use Rattle.fx_winding.specs.Notes.{pixel_number, IsMetAcross, IsNotedAcross};
 ghost use Rattle.fx_winding.specs.Winding.{Span, span_of};
 ghost use Rattle.fx_rows.specs.inner.Heights.{height_of};
 ghost use Rattle.fx_rows.specs.inner.Placing.{IsPlaced};
 ghost use Rattle.fx_rows.specs.inner.Points.{IsInner};
-ghost use Rattle.fx_rows.specs.inner.Segments.{segment_number, AreSetAcross};
 ghost use Rattle.fx_rows.specs.inner.Telling.{AreRowsTold};
-ghost use Rattle.fx_rows.specs.inner.Told.{IsEnd, IsEndIn, AreKept};
+ghost use Rattle.fx_rows.specs.inner.Told.{IsEnd, IsEndBit, AreKept};
 ghost use Rattle.fx_rows.specs.inner.Upward.{column_of};
 
 use crate::across::Across;
 use crate::bounded::{foot_x, head_x};
 use crate::heights::{RowRange, hangs_from, rests_on};
 use crate::marks::set_bits;
-use crate::placed::{Placed, first_of};
+use crate::placed::Placed;
 use crate::reach::{Reach, columns_under};
 use crate::strip::row_of;
-use fx_winding::{Frame, Piece, first_from, set_bit};
+use fx_winding::{Frame, Piece, first_from, words_for};
 
 /// Notes the segments of a row from that to one column to that to another.
 #[inline(always)]
@@ -32,12 +32,11 @@ fn note_segments(placed: Placed, up: u32, segments: Reach, across: &mut [u32])
     requires up { up < placed.frame.height }
     requires order { segments.first ≤ segments.end }
     requires end { segments.end ≤ placed.frame.width }
-    requires room { placed.below + placed.frame.height * words_for_of placed.frame.width < length across.old }
-    ensures set { (k : ℕ) → segments.first ≤ k → k ≤ segments.end →
-        word_bit across.new (segment_number placed.frame placed.below up k) ≡ 1 }
+    requires room { placed.frame.height * words_for_of placed.frame.width < length across.old }
+    ensures set { (k : ℕ) → segments.first ≤ k → k ≤ segments.end → word_bit across.new (pixel_number placed.frame up k) ≡ 1 }
     ensures kept { AreKept across.old across.new }
 {
-    let first = first_of(placed, up);
+    let first = up as usize * (32 * words_for(placed.frame.width));
     set_bits(
         across,
         first + segments.first as usize,
@@ -84,43 +83,13 @@ fn segments_of(piece: &Piece, placed: Placed, up: u32) -> Reach
 fn note_rows(piece: &Piece, placed: Placed, rows: RowRange, across: &mut [u32])
     requires placed { IsPlaced (span_of piece.now) placed }
     requires rows { rows.end ≤ placed.frame.height }
-    requires room { placed.below + placed.frame.height * words_for_of placed.frame.width < length across.old }
-    ensures noted { (r : ℕ) → rows.first ≤ r → r < rows.end →
-        AreSetAcross (span_of piece.now) placed.frame placed.below across.new r }
+    requires room { placed.frame.height * words_for_of placed.frame.width < length across.old }
+    ensures noted { (r : ℕ) → rows.first ≤ r → r < rows.end → IsNotedAcross (span_of piece.now) placed.frame across.new r }
     ensures kept { AreKept across.old across.new }
 {
     // The segments of the rows before `up` are noted.
     'rows: for up in rows.first..rows.end {
         note_segments(placed, up, segments_of(piece, placed, up), across);
-    }
-}
-
-/// Notes the segment that goes to a column of a row.
-#[inline(always)]
-fn note_end(placed: Placed, up: u32, end: u32, across: &mut [u32])
-    requires up { up < placed.frame.height }
-    requires end { end ≤ placed.frame.width }
-    requires room { placed.below + placed.frame.height * words_for_of placed.frame.width < length across.old }
-    ensures set { word_bit across.new (segment_number placed.frame placed.below up end) ≡ 1 }
-    ensures kept { AreKept across.old across.new }
-{
-    set_bit(across, first_of(placed, up) + end as usize);
-}
-
-/// Notes in each of some rows the segment that goes to the row's end.
-#[inline(always)]
-fn note_ends(placed: Placed, rows: RowRange, ends: &[u32], across: &mut [u32])
-    requires rows { rows.end ≤ placed.frame.height }
-    requires ends { (r : ℕ) → rows.first ≤ r → r < rows.end → r < length ends.now }
-    requires within { (r : ℕ) → rows.first ≤ r → r < rows.end → slice_index_or ends.now r 0 ≤ placed.frame.width }
-    requires room { placed.below + placed.frame.height * words_for_of placed.frame.width < length across.old }
-    ensures set { (r : ℕ) → rows.first ≤ r → r < rows.end →
-        word_bit across.new (segment_number placed.frame placed.below r (slice_index_or ends.now r 0)) ≡ 1 }
-    ensures kept { AreKept across.old across.new }
-{
-    // The segments of the rows before `up` are noted.
-    'rows: for up in rows.first..rows.end {
-        note_end(placed, up, ends[up as usize], across);
     }
 }
 
@@ -152,14 +121,14 @@ fn ended_rows(placed: Placed) -> RowRange
     }
 }
 
-/// Notes the segments that a piece meets across a band's rows. `ends` has a number for each row of the band: in a row between the
-/// piece's ends it is the column where the piece passes.
+/// Notes the segments that a piece meets across a band's rows. In the rows between the piece's ends the bit of the column where the
+/// piece passes is set already.
 #[inline(always)]
-pub(crate) fn note_across(piece: &Piece, placed: Placed, ends: &[u32], across: &mut [u32])
+pub(crate) fn note_across(piece: &Piece, placed: Placed, across: &mut [u32])
     requires placed { IsPlaced (span_of piece.now) placed }
-    requires told { AreRowsTold (IsEndIn ends.now) (span_of piece.now) placed.frame 0 placed.frame.height }
-    requires room { placed.below + placed.frame.height * words_for_of placed.frame.width < length across.old }
-    ensures noted { (r : ℕ) → r < placed.frame.height → AreSetAcross (span_of piece.now) placed.frame placed.below across.new r }
+    requires set { AreRowsTold (IsEndBit placed.frame.width across.old) (span_of piece.now) placed.frame 0 placed.frame.height }
+    requires room { placed.frame.height * words_for_of placed.frame.width < length across.old }
+    ensures noted { (r : ℕ) → r < placed.frame.height → IsNotedAcross (span_of piece.now) placed.frame across.new r }
     ensures kept { AreKept across.old across.new }
 {
     let touched = placed.met.touched;
@@ -173,6 +142,5 @@ pub(crate) fn note_across(piece: &Piece, placed: Placed, ends: &[u32], across: &
         end: touched.end,
     };
     note_rows(piece, placed, below, across);
-    note_ends(placed, ended, ends, across);
     note_rows(piece, placed, above, across);
 }

@@ -1,13 +1,12 @@
 //! What pieces meet, noted while they are added to bands.
 
-ghost use Rattle.std.specs.Prelude.{◌≡◌, ◌≢◌, ◌*◌, ◌<◌, ◌≤◌, length, IfOk};
-ghost use Rattle.fx_winding.specs.Bitmaps.{words_for as words_for_of};
-ghost use Rattle.fx_winding.specs.Notes.{IsNotedAcross, IsNotedUp};
+ghost use Rattle.std.specs.Prelude.{◌≡◌, ◌≢◌, ℕ, ◌+◌, ◌*◌, ◌<◌, ◌≤◌, length, IfOk};
+ghost use Rattle.fx_winding.specs.Bitmaps.{words_for as words_for_of, word_bit};
 ghost use Rattle.fx_winding.specs.Winding.{span_of};
 ghost use Rattle.fx_winding.specs.declared.frame.Frame.{Frame};
 ghost use Rattle.fx_rows.specs.inner.Placing.{AreMet, IsPlaced};
-ghost use Rattle.fx_rows.specs.inner.Telling.{IsPartOf};
-ghost use Rattle.fx_rows.specs.inner.Told.{IsEndIn};
+ghost use Rattle.fx_rows.specs.inner.Telling.{IsPartOf, IsNotedBy};
+ghost use Rattle.fx_rows.specs.inner.Told.{IsEndIn, AreKept};
 
 use crate::band::MOST_ROWS;
 use crate::heights::{Met, RowRange, band_of};
@@ -60,13 +59,26 @@ fn placed_in(piece: &Piece, frame: Frame, rows: RowRange, met: Met) -> Placed
     }
 }
 
+/// Sets the bits that words have, in a list of which these are some from one on.
+fn add_words(list: &mut [u32], from: usize, words: &[u32])
+    requires { from + length words.now ≤ length list.old }
+    ensures set { (n : ℕ) → word_bit words.now n ≡ 1 → word_bit list.new (32 * from + n) ≡ 1 }
+    ensures kept { AreKept list.old list.new }
+{
+    // The bits of the words before w are set.
+    'words: for w in 0..words.len() {
+        list[from + w] |= words[w];
+    }
+}
+
 impl Noting for Noter {
+    ghost IsNoting = { Unit {0} };
+
     ghost IsOf = { λ n f. n.notes.frame ≡ f };
 
     ghost IsTold = { λ n up end. IsEndIn n.ends up end };
 
-    ghost IsNotedAt = { λ n s r. (r < n.notes.frame.height → IsNotedAcross s n.notes.frame n.notes.across.items r)
-        × (r ≤ n.notes.frame.height → IsNotedUp s n.notes.frame n.notes.up.items r) };
+    ghost IsNotedAt = { λ n. IsNotedBy n.notes.frame n.notes.across.items n.notes.up.items };
 
     #[inline(always)]
     fn tell(&mut self, up: u32, end: u32) {
@@ -74,9 +86,14 @@ impl Noting for Noter {
     }
 
     #[inline(always)]
-    fn note(&mut self, piece: &Piece, frame: Frame, rows: RowRange, met: Met) {
+    fn note(&mut self, piece: &Piece, frame: Frame, rows: RowRange, met: Met, touched: &mut [u32]) {
         let placed = placed_in(piece, frame, rows, met);
-        note_across(piece, placed, &self.ends, &mut self.notes.across);
+        note_across(piece, placed, touched);
         note_up(piece, placed, &self.ends, &mut self.notes.up);
+    }
+
+    fn note_band(&mut self, touched: &[u32], frame: Frame, rows: RowRange) {
+        let below = rows.first as usize * words_for(frame.width);
+        add_words(&mut self.notes.across, below, touched);
     }
 }

@@ -1,6 +1,7 @@
 -- What is told and noted of pieces while they are added to the rows of a band.
 use Rattle.std.specs.Prelude.{◌≡◌, ℕ, ◌+◌, ◌≤◌, ◌<◌, pos, ◌+ℤ◌, List, All}
 use Rattle.fx_winding.specs.declared.frame.Frame.{Frame}
+use Rattle.fx_winding.specs.Notes.{IsNotedAcross, IsNotedUp}
 use Rattle.fx_winding.specs.Winding.{Span}
 use Rattle.fx_rows.specs.inner.Heights.{height_of}
 use Rattle.fx_rows.specs.inner.Points.{IsInner}
@@ -24,11 +25,22 @@ pub record IsPartOf (f : Frame) (from to : ℕ) (g : Frame) : Type 0 where
   pub height : from + g.height ≡ to
   pub within : to ≤ f.height
 
--- the rows of a frame from one to before another are noted, and with its highest row the number after that
-pub record AreRowsNoted (IsNotedAt : ℕ → Type 0) (f : Frame) (from to : ℕ) : Type 0 where
-  pub rows : (r : ℕ) → from ≤ r → r < to → IsNotedAt r
-  pub top : to ≡ f.height → IsNotedAt f.height
+-- the segments across a row, and those up to it
+pub data Way : Type 0 where
+  across_row : Way
+  up_to_row : Way
+
+-- the rows of a frame from one to before another are noted in both ways, and with its highest row the segments up from that
+pub record AreRowsNoted (IsNotedAt : Way → ℕ → Type 0) (f : Frame) (from to : ℕ) : Type 0 where
+  pub across : (r : ℕ) → from ≤ r → r < to → IsNotedAt across_row r
+  pub up : (r : ℕ) → from ≤ r → r < to → IsNotedAt up_to_row r
+  pub top : to ≡ f.height → IsNotedAt up_to_row f.height
 
 -- the same of each piece
-abbrev pub AreNotedIn : (Span → ℕ → Type 0) → List Span → Frame → ℕ → ℕ → Type 0
+abbrev pub AreNotedIn : (Span → Way → ℕ → Type 0) → List Span → Frame → ℕ → ℕ → Type 0
 AreNotedIn IsNotedAt ss f from to = All (λ s. AreRowsNoted (IsNotedAt s) f from to) ss
+
+-- the segments of a row that a piece meets have their bits in the notes of a frame
+abbrev pub IsNotedBy : Frame → List ℕ → List ℕ → Span → Way → ℕ → Type 0
+IsNotedBy f across up s across_row r = IsNotedAcross s f across r
+IsNotedBy f across up s up_to_row r = IsNotedUp s f up r

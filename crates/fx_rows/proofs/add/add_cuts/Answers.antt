@@ -1,8 +1,6 @@
 use Rattle.std.proofs.Common.{◌≡◌, ◌∙◌, refl, subst, arith}
 use Rattle.fx_winding.specs.declared.frame.Frame.{Frame}
-use Rattle.fx_winding.specs.Bitmaps.{word_bit}
-use Rattle.fx_winding.specs.Notes.{pixel_number}
-use Rattle.fx_rows.specs.inner.Told.{IsEnd, IsEndSet}
+use Rattle.fx_rows.specs.inner.Told.{IsEnd, IsEndBit, IsEndSet}
 use Rattle.fx_rows.specs.inner.Bands.{bounded_span}
 use Rattle.fx_rows.proofs.Banding.{band_none}
 use Rattle.fx_rows.proofs.Stepping.{strip_row, row_in, inner_row, cut_inside}
@@ -15,8 +13,8 @@ rows-init g c = record {
   frame = refl;
   added = band_none (bounded_span c.args.bounded.now) c.args.band.now.frame c.args.rows.first c.args.band.now;
   of = λ f h. h;
-  kept = λ s r h. h;
-  told = told_none (IsEndSet (g.N.Noting.IsTold c.args.noter.now) c.args.band.now.frame c.args.band.now.touched.items)
+  kept = λ s w r h. h;
+  told = told_none (IsEndSet (g.N.Noting.IsTold c.args.noter.now) c.args.band.now.frame.width c.args.band.now.touched.items)
       (bounded_span c.args.bounded.now) c.args.band.now.frame c.args.rows.first c.args.rows.first (omega arith);
   count = omega arith;
   at = λ h. c.requires.at;
@@ -77,15 +75,15 @@ rows-preserved g c =
     let U = g.N.Noting.IsTold c.tell.new.self in
     let new = c.add_cut.new.band.touched.items in
     let end = c.saturating_sub-end.result in
-    let set = subst (λ (x : Frame). word_bit new (pixel_number x up end) ≡ 1) inv.frame c.add_cut.ensures.set in
+    let set = subst (λ (x : Frame). IsEndBit x.width new up end) inv.frame c.add_cut.ensures.set in
     record {
       frame = c.add_cut.ensures.frame ∙ inv.frame;
       added = band_next s f now strip.row c.args.rows.first up c.args.band.now c.rows.band c.add_cut.new.band (omega arith)
           inv.frame at inv.added added;
       of = λ f h. c.tell.ensures.frame f (inv.of f h);
-      kept = λ t r h. c.tell.ensures.kept t r (inv.kept t r h);
-      told = told_next (IsEndSet T f c.rows.band.touched.items) (IsEndSet U f new) s f c.args.rows.first up end inv.told
-          (λ r m o t. (c.tell.ensures.others r m o t.0, added.bits (pixel_number f r m) t.1)) (c.tell.ensures.told, set)
+      kept = λ t w r h. c.tell.ensures.kept t w r (inv.kept t w r h);
+      told = told_next (IsEndSet T f.width c.rows.band.touched.items) (IsEndSet U f.width new) s f c.args.rows.first up end inv.told
+          (λ r m o t. (c.tell.ensures.others r m o t.0, added.bits _ t.1)) (c.tell.ensures.told, set)
           (subst (λ (x : Frame). IsEnd s x up end) inv.frame is);
       at = λ h.
           let r = c.requires.rows in
@@ -111,7 +109,7 @@ returns-clause-kept g c = c.rows.invariant.kept
 
 pub returns-clause-told : goal.returns-clause-told
 returns-clause-told g c =
-    told_end (IsEndSet (g.N.Noting.IsTold c.rows.noter) c.args.band.now.frame c.rows.band.touched.items)
+    told_end (IsEndSet (g.N.Noting.IsTold c.rows.noter) c.args.band.now.frame.width c.rows.band.touched.items)
     (bounded_span c.args.bounded.now) c.args.band.now.frame c.args.rows.first c.rows.up c.args.rows.end
     (omega (arith, c.args.rows.order)) c.rows.invariant.told
 

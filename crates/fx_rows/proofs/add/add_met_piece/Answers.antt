@@ -1,5 +1,4 @@
 use Rattle.std.proofs.Common.{sym, subst, ◌^◌, arith}
-use Rattle.fx_winding.specs.Notes.{pixel_number}
 use Rattle.fx_winding.specs.Winding.{span_of}
 use Rattle.fx_winding.specs.declared.point.Piece.{Piece}
 use Rattle.fx_winding.specs.declared.frame.Frame.{Frame}
@@ -49,7 +48,7 @@ returns-then-inner-clause-told g c =
     let e = c.rise_of-rise.result in
     let i = c.rows_between-inner.ensures in
     let r = c.rows_between-inner.result in
-    let T = IsEndSet (g.N.Noting.IsTold c.args.noter.now) f c.add_met_rows.new.band.touched.items in
+    let T = IsEndSet (g.N.Noting.IsTold c.args.noter.now) f.width c.add_met_rows.new.band.touched.items in
     told_beside T s f c.args.rows.first r.first r.end c.args.rows.end
     (λ k h l. not_inner_under s e.foot e.head e.value (height_of f k) c.rise_of-rise.ensures (i.under k h l))
     (λ k h l. not_inner_over s e.foot e.head e.value (height_of f k) c.rise_of-rise.ensures (i.over k h l))
@@ -63,14 +62,14 @@ returns-clause-told g c =
     let i = c.rows_between-inner.ensures in
     let r = c.rows_between-inner.result in
     let T = g.N.Noting.IsTold c.add_inner_rows.new.noter in
-    let mid = IsEndSet T f c.add_inner_rows.new.band.touched.items in
-    let now = IsEndSet T f c.add_met_rows-3.new.band.touched.items in
+    let mid = IsEndSet T f.width c.add_inner_rows.new.band.touched.items in
+    let now = IsEndSet T f.width c.add_met_rows-3.new.band.touched.items in
     told_beside now s f c.args.rows.first r.first r.end c.args.rows.end
     (λ k h l. not_inner_under s e.foot e.head e.value (height_of f k) c.rise_of-rise.ensures (i.under k h l))
     (λ k h l. not_inner_over s e.foot e.head e.value (height_of f k) c.rise_of-rise.ensures (i.over k h l))
-    (told_also mid now s f r.first r.end (λ k n t. (t.0, c.add_met_rows-3.ensures.added.bits (pixel_number f k n) t.1))
+    (told_also mid now s f r.first r.end (λ k n t. (t.0, c.add_met_rows-3.ensures.added.bits _ t.1))
     (subst (λ (p : Piece). AreRowsTold mid (span_of p) f r.first r.end) c.bounds_of.ensures.piece
-    (subst (λ (x : Frame). AreRowsTold (IsEndSet T x c.add_inner_rows.new.band.touched.items) (span_of c.bounds_of.result.piece) x
+    (subst (λ (x : Frame). AreRowsTold (IsEndSet T x.width c.add_inner_rows.new.band.touched.items) (span_of c.bounds_of.result.piece) x
     r.first r.end) c.add_met_rows-2.ensures.frame c.add_inner_rows.ensures.told)))
 
 pub returns-then-inner-clause-inner : goal.returns-then-inner-clause-inner
