@@ -187,11 +187,6 @@ noted_also P Q ss f from to across up h k d l =
       top = λ e. up s f.height (here.top e);
     }
 
-pub noted_kept : (P Q : Span → Way → ℕ → Type 0) (ss : List Span) (f : Frame) (from to : ℕ)
-    → ((s : Span) (w : Way) (r : ℕ) → P s w r → Q s w r) → AreNotedIn P ss f from to → AreNotedIn Q ss f from to
-noted_kept P Q ss f from to kept h =
-    noted_also P Q ss f from to (λ s r l m. kept s across_row r) (λ s r. kept s up_to_row r) h
-
 -- one more piece
 pub noted_more : (P : Span → Way → ℕ → Type 0) (ss : List Span) (f : Frame) (from to at : ℕ) (s : Span) → at < length ss
     → s ≡ get_or ss at s → AreNotedIn P (take at ss) f from to → AreRowsNoted (P s) f from to

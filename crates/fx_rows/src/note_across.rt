@@ -1,9 +1,9 @@
 //! The segments of a band's rows that a piece meets, noted as bits, each by its right end. The bits are numbered like the band's
 //! pixels.
 //!
-//! In a row between its ends a piece meets one segment, that which goes to the column where its columns end: its bit is set
-//! already, since the counts change there. In a row on which it rests, or from which it hangs, it meets the one that its end is on. In the other rows that it can touch all segments of its box
-//! are noted, more than it meets.
+//! In a row between its ends a piece meets one segment, that which goes to the column where its columns end. Its bit is set
+//! already, since the counts change there. In a row on which it rests, or from which it hangs, it meets the one that its end is on.
+//! In the other rows that it can touch all segments of its box are noted, more than it meets.
 
 ghost use Rattle.std.specs.Prelude.{◌≡◌, ℕ, ◌+◌, ◌*◌, ◌^◌, ◌<◌, ◌≤◌, length, IsTrue, pos, ◌+ℤ◌, ◌<ℤ◌, ◌≤ℤ◌};
 ghost use Rattle.fx_fixed.specs.Ranges.{IsWithin};

@@ -69,8 +69,8 @@ returns-clause-told g c =
     (λ k h l. not_inner_over s e.foot e.head e.value (height_of f k) c.rise_of-rise.ensures (i.over k h l))
     (told_also mid now s f r.first r.end (λ k n t. (t.0, c.add_met_rows-3.ensures.added.bits _ t.1))
     (subst (λ (p : Piece). AreRowsTold mid (span_of p) f r.first r.end) c.bounds_of.ensures.piece
-    (subst (λ (x : Frame). AreRowsTold (IsEndSet T x.width c.add_inner_rows.new.band.touched.items) (span_of c.bounds_of.result.piece) x
-    r.first r.end) c.add_met_rows-2.ensures.frame c.add_inner_rows.ensures.told)))
+    (subst (λ (x : Frame). AreRowsTold (IsEndSet T x.width c.add_inner_rows.new.band.touched.items)
+    (span_of c.bounds_of.result.piece) x r.first r.end) c.add_met_rows-2.ensures.frame c.add_inner_rows.ensures.told)))
 
 pub returns-then-inner-clause-inner : goal.returns-then-inner-clause-inner
 returns-then-inner-clause-inner g c = λ r h l. absurd (omega (arith, h, l))

@@ -38,8 +38,8 @@ pieces-init g c =
       of = λ f h. h;
       kept = λ s w r h. h;
       noted = noted_start (by_way (λ s r. g.N.Noting.IsNoting → AreSetFrom c.args.rows.first s c.args.frame b.touched.items r)
-          (λ s r. g.N.Noting.IsNotedAt c.args.noter.now s up_to_row r)) (map span_of c.args.pieces.now) c.args.frame c.args.rows.first
-          c.args.rows.end;
+          (λ s r. g.N.Noting.IsNotedAt c.args.noter.now s up_to_row r)) (map span_of c.args.pieces.now) c.args.frame
+          c.args.rows.first c.args.rows.end;
       count = omega arith;
     }
 
