@@ -210,3 +210,15 @@ returns-clause-count g c =
     let done : c.pieces.piece-index ≡ length c.args.pieces.now = omega arith in
     let P : ℕ → Type 0 = λ n. c.pieces.tally.count ≤ c.args.tally.now.count + n * (12 * c.args.band.now.frame.height) in
     subst P done c.pieces.invariant.count
+
+pub returns-clause-of : goal.returns-clause-of
+returns-clause-of g c = λ f h. c.note_band.ensures.frame f (c.pieces.invariant.of f h)
+
+pub returns-clause-kept : goal.returns-clause-kept
+returns-clause-kept g c = λ s w r h. c.note_band.ensures.kept s w r (c.pieces.invariant.kept s w r h)
+
+pub returns-clause-touched : goal.returns-clause-touched
+returns-clause-touched g c = c.pieces.invariant.touched
+
+pub note_band-requires-clause-frame : goal.note_band-requires-clause-frame
+note_band-requires-clause-frame g c = c.pieces.invariant.of c.args.frame c.requires.of
