@@ -16,7 +16,8 @@ from_within c =
     omega (arith, height)
 
 -- how many words the rows have, and those of them from the row `from` on
-pixel_words : (c : goal.After-next_segment) → length c.words-pixels.result.now ≡ c.args.bitmap.now.frame.height * c.words_for-words.result
+pixel_words : (c : goal.After-next_segment)
+    → length c.words-pixels.result.now ≡ c.args.bitmap.now.frame.height * c.words_for-words.result
 pixel_words c = c.words-pixels.ensures.words.long ∙ ap (λ k. c.args.bitmap.now.frame.height * k) (sym (level_words c))
 
 upper_long : (c : goal.After-next_segment)
@@ -84,4 +85,5 @@ returns-clause-skipped c = λ r n low top narrow.
     (ap (λ k. take count (drop (c.args.from * k) pixels)) (level_words c)) (omega (arith, held, a, pixel_words c))
     (omega (arith, held, a, pixel_words c)) (omega (arith, held, pixel_words c))
     (λ n l. c.next_segment.ensures.shut n (omega arith) (omega (arith, l))) low
-    (omega (arith, top, ap (λ k. c.next_segment.result / 32 / k) (level_words c))) (omega (arith, top, pairs_within c)) narrow
+    (omega (arith, top, ap (λ k. c.next_segment.result / 32 / k) (level_words c))) (omega (arith, top, pairs_within c))
+    narrow
