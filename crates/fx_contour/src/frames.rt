@@ -39,7 +39,7 @@ pub fn outline_frame(outline: &Outline) -> Result<Option<Frame>, ContourFault>
 }
 
 /// The bounding box of the pieces of an outline, if it has any pieces, or `TooFar` if a point of any contour lies too far out.
-#[inline]
+#[inline(always)]
 pub(crate) fn outline_bounds(outline: &Outline) -> Result<Option<Bounds>, ContourFault>
     ensures ok { IfOk result (λ b. AreBoundsOf b (spans_of outline.now.ends.items outline.now.points.items)) }
     ensures reach { IfOk result (λ _. All IsInReach outline.now.points.items) }
