@@ -10,6 +10,17 @@ import sys
 
 CHARS = "20-19b,19d-24f,251-ffff"
 FONT = "/usr/share/fonts/truetype/dejavu/DejaVuSans.ttf"
+# The fonts of --fonts: name, file, Debian's package, characters. Noto Sans and Carlito are hinted by ttfautohint.
+TRUETYPE = "/usr/share/fonts/truetype/"
+FONTS = (
+    ("DejaVu Sans", TRUETYPE + "dejavu/DejaVuSans.ttf", "fonts-dejavu-core", CHARS),
+    ("DejaVu Sans ASCII", TRUETYPE + "dejavu/DejaVuSans.ttf", "fonts-dejavu-core", "20-7e"),
+    ("Liberation Serif", TRUETYPE + "liberation2/LiberationSerif-Regular.ttf", "fonts-liberation2", "20-ffff"),
+    ("Noto Sans", TRUETYPE + "noto/NotoSans-Regular.ttf", "fonts-noto-core", "20-ffff"),
+    ("Carlito", TRUETYPE + "crosextra/Carlito-Regular.ttf", "fonts-crosextra-carlito", "20-ffff"),
+    ("FreeSerif", TRUETYPE + "freefont/FreeSerif.ttf", "fonts-freefont-ttf", "20-ffff"),
+    ("Droid Sans Fallback", TRUETYPE + "droid/DroidSansFallbackFull.ttf", "fonts-droid-fallback", "20-ffff"),
+)
 FIRST, CLOSED, BASIS = "mkstrike", "mkstrike --dropout", "FreeType"
 
 
@@ -197,22 +208,69 @@ def ratios(results):
     print(flush=True)
 
 
+def compare_fonts(tools, options):
+    """Prints a table for each font of FONTS: mkstrike beside FreeType with all texts kept, at each size and mode."""
+    tools = [tool for tool in tools if tool.name in (FIRST, CLOSED, BASIS)]
+    if len(tools) < 2:
+        say("--fonts wants mkstrike and FreeType's yardstick")
+        return 1
+    wanted = [name.strip() for name in options.fonts.split(",")]
+    for name, font, package, chars in FONTS:
+        if options.fonts != "all" and name not in wanted:
+            continue
+        if not os.path.exists(font):
+            say("%s is missing (Debian: %s) and left out" % (font, package))
+            continue
+        options.font, options.chars = font, chars
+        sizes = [int(size) for size in options.sizes.split()]
+        print("**%s**, characters %s\n" % (name, chars))
+        print("| Pixels per em | %s |" % " | ".join(map(str, sizes)))
+        print("|---|" + "---|" * len(sizes))
+        for mode in options.modes.split():
+            say("%s, %s" % (name, mode))
+            results = [measure(tools, ppem, mode == "hinted", options) for ppem in sizes]
+            print_font_rows(mode, tools, results)
+        print(flush=True)
+    return 0
+
+
+def print_font_rows(mode, tools, results):
+    """Prints the rows of one font and mode: millions of instructions, and the ratios to FreeType's."""
+    def cells(of):
+        return " | ".join(of(rows) if rows[BASIS]["fine"] else "-" for rows in results)
+
+    def millions(name):
+        return lambda rows: number(rows[name].get("instructions"), "%.1f", 1e6) if rows[name]["fine"] else rows[name]["line"]
+
+    def ratio(name, field):
+        return lambda rows: ("%.2f" % (rows[name][field] / rows[BASIS][field])) if field in rows[name] and rows[BASIS].get(field) else "-"
+
+    for tool in tools:
+        print("| %s: %s, millions | %s |" % (mode, tool.name, cells(millions(tool.name))))
+    for tool in tools:
+        if tool.name != BASIS:
+            print("| %s: %s to FreeType, instructions | %s |" % (mode, tool.name, cells(ratio(tool.name, "instructions"))))
+            print("| %s: %s to FreeType, time | %s |" % (mode, tool.name, cells(ratio(tool.name, "wall"))), flush=True)
+
+
 def main():
     p = argparse.ArgumentParser(prog="bench/run")
     p.add_argument("--program")
     p.add_argument("--font", default=FONT)
     p.add_argument("--chars", default=CHARS)
-    p.add_argument("--sizes", default="16 32 64 128 255")
+    p.add_argument("--sizes", help="16 32 64 128 255 if not given; with --fonts 8 too")
     p.add_argument("--modes", default="hinted unhinted")
     p.add_argument("--times", type=int, default=5)
     p.add_argument("--no-instructions", dest="instructions", action="store_false")
     p.add_argument("--dropout", action="store_true", help="measure mkstrike with drop-out control too")
+    p.add_argument("--fonts", help="all, or names: a table for each font of FONTS, mkstrike beside FreeType")
     p.add_argument("--keep", help="a folder for the strikes")
     p.add_argument("--tools", required=True, help=argparse.SUPPRESS)
     p.add_argument("--top", required=True, help=argparse.SUPPRESS)
     options = p.parse_args()
     options.top, options.work = os.path.realpath(options.top), options.tools
     options.instructions = options.instructions and shutil.which("valgrind") is not None
+    options.sizes = options.sizes or ("8 " if options.fonts else "") + "16 32 64 128 255"
     if options.program and not os.access(options.program, os.X_OK):
         say("%s is no program" % options.program)
         return 1
@@ -225,6 +283,8 @@ def main():
     if not tools:
         return 1
     print("\n".join(about(options, tools)) + "\n")
+    if options.fonts:
+        return compare_fonts(tools, options)
     for mode in options.modes.split():
         results = []
         for ppem in map(int, options.sizes.split()):

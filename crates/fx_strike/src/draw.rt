@@ -9,13 +9,15 @@ ghost use Rattle.fx_contour.specs.Frames.{NothingOutsideFrame};
 ghost use Rattle.fx_winding.specs.Frames.{HasMargin};
 ghost use Rattle.fx_winding.specs.Notes.{IsNoted};
 ghost use Rattle.fx_strike.specs.Strike.{Sketch, IsGlyphOf, setting_with, glyph_sketch_of};
-ghost use Rattle.fx_strike.specs.inner.Drawing.{HasBitsOf, IsBridgedScanOf, IsFramedBy, IsSketchedOf, Draws};
+ghost use Rattle.fx_cache.specs.Cached.{AreDue};
+ghost use Rattle.fx_strike.specs.inner.Drawing.{HasBitsOf, IsBridgedScanOf, IsFramedBy, IsSketchedOf, Draws, due_in};
 
 use crate::hinter::FontHinter;
 use crate::sketch::sketch_at;
 use crate::sketched::Sketched;
 use crate::tools::Tools;
 use fx_bdf::BitGlyph;
+use fx_cache::CacheReader;
 use fx_contour::pieces_in_reach;
 use fx_dropout::close_gaps;
 use fx_fixed::{F26, near_64};
@@ -155,14 +157,17 @@ impl<'a, S: Scan> Tools<'a, S> {
     pub(crate) fn draw(
         &self,
         hinter: &mut FontHinter<'_>,
+        cache: &mut CacheReader<'_>,
         code: u32,
         glyph: u16,
     ) -> Result<BitGlyph, Refusal>
+        requires cache { AreDue (due_in self.now.opened hinter.old) cache.old }
         ensures kept { hinter.new ≡ hinter.old }
+        ensures cache { AreDue (due_in self.now.opened hinter.old) cache.new }
         ensures sketch { Draws (glyph_sketch_of (setting_with self.now.opened self.now.dropout hinter.old) code glyph) result }
         ensures code { IfOk result (λ g. g.code ≡ code) }
     {
-        let sketched = sketch_at(self.alloc, hinter, &self.opened, self.dropout, glyph)?;
+        let sketched = sketch_at(self.alloc, hinter, cache, &self.opened, self.dropout, glyph)?;
         glyph_of(self.alloc, self.scan, code, &sketched)
     }
 }

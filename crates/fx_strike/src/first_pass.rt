@@ -7,7 +7,8 @@ ghost use Rattle.fx_contour.specs.Frames.{NothingOutsideFrame};
 ghost use Rattle.fx_bdf.specs.Glyphs.{IsPlaced};
 ghost use Rattle.fx_strike.specs.Title.{Title};
 ghost use Rattle.fx_strike.specs.Strike.{Sketch, pixels, setting_with, glyph_sketch_of, plan_with};
-ghost use Rattle.fx_strike.specs.inner.Drawing.{IsFramedBy, IsSketchedOf};
+ghost use Rattle.fx_cache.specs.Cached.{AreDue};
+ghost use Rattle.fx_strike.specs.inner.Drawing.{IsFramedBy, IsSketchedOf, due_in};
 ghost use Rattle.fx_strike.specs.inner.Surveying.{IsNarrow, Joins, SeesOne, Sees, Surveys, survey_from};
 
 use crate::draw::glyph_of;
@@ -20,6 +21,7 @@ use crate::surveyed::Survey;
 use crate::tools::Tools;
 use crate::within::lies_in;
 use fx_bdf::{Bounds, Summary};
+use fx_cache::{CacheReader, OutlineCache};
 use fx_fixed::{Ppem, near};
 use fx_machine::Usage;
 use fx_request::{Refusal, Report, rising_codes};
@@ -97,25 +99,44 @@ impl<'a, S: Scan> Tools<'a, S> {
         code: u32,
         glyph: u16,
         seen: &mut Seen,
+        cache: &mut OutlineCache,
     ) -> Result<(), Refusal>
+        requires cache { AreDue (due_in self.now.opened hinter.old) cache.old }
         requires few { seen.old.report.glyphs < max_characters }
         requires placed { IsPlaced seen.old.bounds }
         requires narrow { IsNarrow seen.old }
         ensures kept { hinter.new ≡ hinter.old }
         ensures seen { SeesOne (glyph_sketch_of (setting_with self.now.opened self.now.dropout hinter.old) code glyph)
             seen.old seen.new result }
+        ensures cache { AreDue (due_in self.now.opened hinter.old) cache.new }
     {
-        let sketched = sketch_at(self.alloc, hinter, &self.opened, self.dropout, glyph)?;
+        let mut none = CacheReader::empty();
+        let sketched = sketch_at(
+            self.alloc,
+            hinter,
+            &mut none,
+            &self.opened,
+            self.dropout,
+            glyph,
+        )?;
+        cache.put(glyph, &sketched.outline);
         let bounds = self.bounds_with(seen.bounds, code, &sketched)?;
         seen.add(code, bounds, &sketched.outline);
         Ok(())
     }
 
     /// What is seen of code points, in their order; or the first cause why one has no glyph.
-    fn see(&self, hinter: &mut FontHinter<'_>, codes: &[u32]) -> Result<Seen, Refusal>
+    fn see(
+        &self,
+        hinter: &mut FontHinter<'_>,
+        codes: &[u32],
+        cache: &mut OutlineCache,
+    ) -> Result<Seen, Refusal>
         requires few { length codes.now ≤ max_characters }
+        requires cache { AreDue (due_in self.now.opened hinter.old) cache.old }
         ensures kept { hinter.new ≡ hinter.old }
         ensures seen { Sees (setting_with self.now.opened self.now.dropout hinter.old) codes.now result }
+        ensures cache { AreDue (due_in self.now.opened hinter.old) cache.new }
     {
         let mut seen = Seen::new();
         let mut map = self.opened.map.cursor();
@@ -126,23 +147,26 @@ impl<'a, S: Scan> Tools<'a, S> {
                 seen.report.missing += 1;
                 continue;
             }
-            self.see_one(hinter, *code, glyph, &mut seen)?;
+            self.see_one(hinter, *code, glyph, &mut seen, cache)?;
         }
         Ok(seen)
     }
 
-    /// The survey of the strike of code points in rising order, whatever its title.
+    /// The survey of the strike of code points in rising order, whatever its title. Each outline is put into the cache.
     pub(crate) fn survey_codes(
         &self,
         hinter: &mut FontHinter<'_>,
         codes: &[u32],
+        cache: &mut OutlineCache,
     ) -> Result<Survey, Refusal>
         requires few { length codes.now ≤ max_characters }
+        requires cache { AreDue (due_in self.now.opened hinter.old) cache.old }
         ensures kept { hinter.new ≡ hinter.old }
+        ensures cache { AreDue (due_in self.now.opened hinter.old) cache.new }
         ensures survey { (title : Title) (chars : List ℕ) → codes.now ≡ rising chars
             → Surveys (plan_with (setting_with self.now.opened self.now.dropout hinter.old) title chars) result }
     {
-        let seen = self.see(hinter, codes)?;
+        let seen = self.see(hinter, codes, cache)?;
         let summary = seen.gathered.summary(seen.report.glyphs);
         Ok(survey_from(hinter.prelude(), &self.opened, seen, summary))
     }
@@ -159,6 +183,7 @@ impl<'a, S: Scan> Tools<'a, S> {
             → Surveys (plan_with (setting_with self.now.opened self.now.dropout hinter.old) title chars.now) result }
     {
         let codes = rising_codes(self.alloc, chars)?;
-        self.survey_codes(hinter, &codes)
+        let mut cache = OutlineCache::without_room(self.alloc);
+        self.survey_codes(hinter, &codes, &mut cache)
     }
 }

@@ -1,4 +1,4 @@
-//! The second pass over the characters: each is made again and written.
+//! The second pass over the characters: it makes each from its outline, which comes from the cache or is made again, and writes it.
 ghost use Rattle.std.specs.Prelude.{◌≡◌, ◌≤◌, ◌<◌, ◌^◌, ◌+◌, ◌++◌, ℕ, List, [], false, nat_lt, length, OnOk};
 ghost use Rattle.std.specs.List.{flat_map, list_any};
 ghost use Rattle.fx_fixed.specs.Texts.{Adds, length_of};
@@ -8,12 +8,15 @@ ghost use Rattle.fx_bdf.specs.Text.{IsName, header_text, end_text, longest_glyph
 ghost use Rattle.fx_request.specs.Limits.{max_characters, max_code};
 ghost use Rattle.fx_fixed.specs.Changes.{change_of};
 ghost use Rattle.fx_strike.specs.Strike.{setting_with};
+ghost use Rattle.fx_cache.specs.Cached.{AreDue};
+ghost use Rattle.fx_strike.specs.inner.Drawing.{due_in};
 ghost use Rattle.fx_strike.specs.inner.Writing.{AreLinesOf, AreAllLinesOf, HasRoom, Stops, Writes, longest_glyphs, longest_text};
 
 use crate::draft::Draft;
 use crate::hinter::FontHinter;
 use crate::tools::Tools;
 use fx_bdf::{write_end, write_glyph, write_header};
+use fx_cache::CacheReader;
 use fx_fixed::{Sink, TextWriter};
 use fx_request::Refusal;
 use fx_winding::Scan;
@@ -23,6 +26,7 @@ impl<'a, S: Scan> Tools<'a, S> {
     fn write_one<W: Sink>(
         &self,
         hinter: &mut FontHinter<'_>,
+        cache: &mut CacheReader<'_>,
         code: u32,
         glyph: u16,
         text: &mut TextWriter<'_, W>,
@@ -31,7 +35,9 @@ impl<'a, S: Scan> Tools<'a, S> {
         requires room { HasRoom text.old longest_glyph }
         requires code { code ≤ max_code }
         requires glyph { glyph ≡ glyph_for self.now.opened.map code }
+        requires cache { AreDue (due_in self.now.opened hinter.old) cache.old }
         ensures kept { hinter.new ≡ hinter.old }
+        ensures cache { AreDue (due_in self.now.opened hinter.old) cache.new }
         ensures same { text.new.sink ≡ text.old.sink }
         ensures quiet { OnOk result (text.new.faults ≡ text.old.faults) }
         ensures short { OnOk result (length_of text.new ≤ length_of text.old + longest_glyph) }
@@ -42,7 +48,7 @@ impl<'a, S: Scan> Tools<'a, S> {
         if glyph == 0 {
             return Ok(());
         }
-        let drawn = self.draw(hinter, code, glyph)?;
+        let drawn = self.draw(hinter, cache, code, glyph)?;
         Ok(write_glyph(&drawn, text)?)
     }
 
@@ -50,6 +56,7 @@ impl<'a, S: Scan> Tools<'a, S> {
     fn write_all<W: Sink>(
         &self,
         hinter: &mut FontHinter<'_>,
+        cache: &mut CacheReader<'_>,
         codes: &[u32],
         text: &mut TextWriter<'_, W>,
     ) -> Result<(), Refusal>
@@ -57,7 +64,9 @@ impl<'a, S: Scan> Tools<'a, S> {
         requires room { HasRoom text.old longest_glyphs }
         requires few { length codes.now ≤ max_characters }
         requires small { list_any (nat_lt max_code) codes.now ≡ false }
+        requires cache { AreDue (due_in self.now.opened hinter.old) cache.old }
         ensures kept { hinter.new ≡ hinter.old }
+        ensures cache { AreDue (due_in self.now.opened hinter.old) cache.new }
         ensures same { text.new.sink ≡ text.old.sink }
         ensures quiet { OnOk result (text.new.faults ≡ text.old.faults) }
         ensures short { OnOk result (length_of text.new ≤ length_of text.old + longest_glyphs) }
@@ -69,7 +78,7 @@ impl<'a, S: Scan> Tools<'a, S> {
         // The lines of the code points so far were written.
         'codes: for code in codes {
             let glyph = map.glyph(*code);
-            self.write_one(hinter, *code, glyph, text)?;
+            self.write_one(hinter, cache, *code, glyph, text)?;
         }
         Ok(())
     }
@@ -78,6 +87,7 @@ impl<'a, S: Scan> Tools<'a, S> {
     fn write_parts<W: Sink>(
         &self,
         hinter: &mut FontHinter<'_>,
+        cache: &mut CacheReader<'_>,
         draft: &Draft<'_>,
         text: &mut TextWriter<'_, W>,
     ) -> Result<(), Refusal>
@@ -87,7 +97,9 @@ impl<'a, S: Scan> Tools<'a, S> {
         requires properties { AreLines (seen_properties draft.now.properties.now) }
         requires few { length draft.now.codes.now ≤ max_characters }
         requires small { list_any (nat_lt max_code) draft.now.codes.now ≡ false }
+        requires cache { AreDue (due_in self.now.opened hinter.old) cache.old }
         ensures kept { hinter.new ≡ hinter.old }
+        ensures cache { AreDue (due_in self.now.opened hinter.old) cache.new }
         ensures same { text.new.sink ≡ text.old.sink }
         ensures ended { OnOk result (text.new.waiting ≡ []) }
         ensures lines { (lines : List (List ℕ))
@@ -98,7 +110,7 @@ impl<'a, S: Scan> Tools<'a, S> {
             result }
     {
         write_header(draft.name, draft.properties, &draft.header, text)?;
-        self.write_all(hinter, draft.codes, text)?;
+        self.write_all(hinter, cache, draft.codes, text)?;
         write_end(text)?;
         Ok(text.end()?)
     }
@@ -107,6 +119,7 @@ impl<'a, S: Scan> Tools<'a, S> {
     pub(crate) fn write_text<W: Sink>(
         &self,
         hinter: &mut FontHinter<'_>,
+        cache: &mut CacheReader<'_>,
         draft: &Draft<'_>,
         out: &mut W,
     ) -> Result<(), Refusal>
@@ -115,7 +128,9 @@ impl<'a, S: Scan> Tools<'a, S> {
         requires properties { AreLines (seen_properties draft.now.properties.now) }
         requires few { length draft.now.codes.now ≤ max_characters }
         requires small { list_any (nat_lt max_code) draft.now.codes.now ≡ false }
+        requires cache { AreDue (due_in self.now.opened hinter.old) cache.old }
         ensures kept { hinter.new ≡ hinter.old }
+        ensures cache { AreDue (due_in self.now.opened hinter.old) cache.new }
         ensures text { (lines : List (List ℕ))
             → AreAllLinesOf (setting_with self.now.opened self.now.dropout hinter.old) draft.now.codes.now lines
             → Writes (change_of W.held W.fault_count out.old out.new)
@@ -124,7 +139,7 @@ impl<'a, S: Scan> Tools<'a, S> {
             result }
     {
         let mut text = TextWriter::new(out);
-        let result = self.write_parts(hinter, draft, &mut text);
+        let result = self.write_parts(hinter, cache, draft, &mut text);
         text.close();
         result
     }

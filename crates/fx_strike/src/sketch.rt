@@ -1,5 +1,5 @@
 //! From a glyph's number to its outline, its frame and its advance.
-ghost use Rattle.std.specs.Prelude.{◌≡◌, ℕ, All, IfOk};
+ghost use Rattle.std.specs.Prelude.{◌≡◌, ℕ, All, Ok, IfOk};
 ghost use Rattle.fx_fixed.specs.Chain.{map_ok, map_fault, GivesUnless};
 ghost use Rattle.fx_sfnt.specs.Glyphs.{metrics_of};
 ghost use Rattle.fx_hint.specs.Outlines.{view_of_outline, outline_with};
@@ -8,12 +8,14 @@ ghost use Rattle.fx_contour.specs.Frames.{NothingOutsideFrame};
 ghost use Rattle.fx_request.specs.Faults.{of_font};
 ghost use Rattle.fx_strike.specs.Faults.{Fails, of_hint, of_contour};
 ghost use Rattle.fx_strike.specs.Strike.{hinting_by, setting_with, thousandths, glyph_sketch_of};
-ghost use Rattle.fx_strike.specs.inner.Drawing.{IsFramedBy, Sketches, outline_framed_by};
+ghost use Rattle.fx_cache.specs.Cached.{AreDue};
+ghost use Rattle.fx_strike.specs.inner.Drawing.{IsFramedBy, Sketches, due_in, outline_framed_by};
 
 use crate::faults::{of_contour, of_hint};
 use crate::hinter::FontHinter;
 use crate::opened::Opened;
 use crate::sketched::Sketched;
+use fx_cache::CacheReader;
 use fx_contour::{ContourFault, dropout_frame, outline_frame};
 use fx_fixed::near;
 use fx_hint::{Outline, outline_with};
@@ -22,8 +24,8 @@ use fx_sfnt::Font;
 use fx_winding::Frame;
 use std::alloc::Global;
 
-/// The outline of a glyph, scaled and hinted.
-fn outline_at(
+/// Makes the outline of a glyph, scaled and hinted.
+fn outline_made(
     alloc: Global,
     hinter: &mut FontHinter<'_>,
     opened: &Opened<'_>,
@@ -36,6 +38,26 @@ fn outline_at(
     match outline_with(alloc, hinter, &opened.font, opened.ppem, glyph) {
         Ok(outline) => Ok(outline),
         Err(fault) => Err(of_hint(fault)),
+    }
+}
+
+/// The outline of a glyph, scaled and hinted: from the cache if it is the next one there, else made.
+fn outline_at(
+    alloc: Global,
+    hinter: &mut FontHinter<'_>,
+    cache: &mut CacheReader<'_>,
+    opened: &Opened<'_>,
+    glyph: u16,
+) -> Result<Outline, Refusal>
+    requires cache { AreDue (due_in opened.now hinter.old) cache.old }
+    ensures kept { hinter.new ≡ hinter.old }
+    ensures cache { AreDue (due_in opened.now hinter.old) cache.new }
+    ensures value { GivesUnless Fails view_of_outline result
+        (map_fault of_hint (outline_with (hinting_by hinter.old) opened.now.font opened.now.ppem glyph)) }
+{
+    match cache.take(alloc, glyph) {
+        Some(outline) => Ok(outline),
+        None => outline_made(alloc, hinter, opened, glyph),
     }
 }
 
@@ -82,17 +104,21 @@ fn thousandths_at(font: &Font<'_>, glyph: u16) -> Result<i32, Refusal>
 pub(crate) fn sketch_at(
     alloc: Global,
     hinter: &mut FontHinter<'_>,
+    cache: &mut CacheReader<'_>,
     opened: &Opened<'_>,
     dropout: bool,
     glyph: u16,
 ) -> Result<Sketched, Refusal>
+    requires cache { AreDue (due_in opened.now hinter.old) cache.old }
     ensures kept { hinter.new ≡ hinter.old }
+    ensures cache { AreDue (due_in opened.now hinter.old) cache.new }
+    ensures outline { IfOk result (λ s. due_in opened.now hinter.old glyph ≡ Ok (view_of_outline s.outline)) }
     ensures sketch { (code : ℕ) → Sketches (glyph_sketch_of (setting_with opened.now dropout hinter.old) code glyph) result }
     ensures frame { IfOk result (λ s. IsFramedBy s.dropout s.frame (spans_of s.outline.ends.items s.outline.points.items)) }
     ensures outside { IfOk result (λ s. NothingOutsideFrame s.frame (spans_of s.outline.ends.items s.outline.points.items)) }
     ensures reach { IfOk result (λ s. All IsInReach s.outline.points.items) }
 {
-    let outline = outline_at(alloc, hinter, opened, glyph)?;
+    let outline = outline_at(alloc, hinter, cache, opened, glyph)?;
     let frame = frame_of_outline(&outline, dropout, glyph)?;
     let swidth = thousandths_at(&opened.font, glyph)?;
     Ok(Sketched {

@@ -11,6 +11,7 @@ use crate::draft::Draft;
 use crate::hinter::FontHinter;
 use crate::tools::Tools;
 use fx_bdf::{BitGlyph, Title};
+use fx_cache::{CacheReader, OutlineCache};
 use fx_fixed::Sink;
 use fx_request::{Refusal, Report, rising_codes};
 use fx_winding::Scan;
@@ -30,7 +31,8 @@ impl<'a, S: Scan> Tools<'a, S> {
         if glyph == 0 {
             return Ok(None);
         }
-        let drawn = self.draw(hinter, code, glyph)?;
+        let mut none = CacheReader::empty();
+        let drawn = self.draw(hinter, &mut none, code, glyph)?;
         Ok(Some(drawn))
     }
 
@@ -51,7 +53,8 @@ impl<'a, S: Scan> Tools<'a, S> {
             (change_of W.held W.fault_count out.old out.new) result }
     {
         let codes = rising_codes(self.alloc, chars)?;
-        let survey = self.survey_codes(hinter, &codes)?;
+        let mut cache = OutlineCache::new(self.alloc, codes.len());
+        let survey = self.survey_codes(hinter, &codes, &mut cache)?;
         let ppem = self.opened.ppem;
         let header = survey.header(ppem);
         let properties = title.all_properties(self.alloc, ppem.pixels(), survey.summary)?;
@@ -61,7 +64,8 @@ impl<'a, S: Scan> Tools<'a, S> {
             header,
             codes: &codes,
         };
-        self.write_text(hinter, &draft, out)?;
+        let mut kept = cache.reader();
+        self.write_text(hinter, &mut kept, &draft, out)?;
         Ok(survey.report)
     }
 }

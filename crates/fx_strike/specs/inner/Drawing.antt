@@ -17,7 +17,11 @@ use Rattle.fx_bdf.specs.Glyphs.{Box, Glyph}
 use Rattle.fx_request.specs.declared.refusal.Refusal.{Refusal}
 use Rattle.fx_strike.specs.declared.sketched.Sketched.{Sketched}
 use Rattle.fx_strike.specs.Faults.{Fails}
-use Rattle.fx_strike.specs.Strike.{Sketch, IsGlyphOf, IsPixelSet, framed_by}
+use Rattle.fx_machine.specs.Known.{Known}
+use Rattle.fx_hint.specs.Outlines.{OutlineView, outline_with}
+use Rattle.fx_hint.specs.declared.fault.HintFault.{HintFault}
+use Rattle.fx_strike.specs.declared.opened.Opened.{Opened}
+use Rattle.fx_strike.specs.Strike.{Sketch, IsGlyphOf, IsPixelSet, framed_by, hinting_by}
 use Rattle.fx_strike.specs.Headline.{IsOneOf}
 
 -- whether no point of an outline lies too far out and its frame keeps its limit; the first fault
@@ -28,6 +32,10 @@ outline_framed_by dropout ends points = drawn_of ends points >>= framed_by dropo
 abbrev pub IsFramedBy : Bool → Option Frame → List Span → Type 0
 IsFramedBy false f ss = IsFrameFor f ss
 IsFramedBy true f ss = IsDropoutFrameFor f ss × HaveMargin f
+
+-- the outline of a glyph that is due, scaled and hinted; or the first fault
+abbrev pub due_in : Opened → Option Known → ℕ → Result OutlineView HintFault
+due_in opened machine = outline_with (hinting_by machine) opened.font opened.ppem
 
 -- the bits are those of the frame, and each is set exactly when drop-out control sets the pixel
 pub record IsBridgedScanOf (f : Frame) (spans : List Span) (b : Bits) : Type 0 where

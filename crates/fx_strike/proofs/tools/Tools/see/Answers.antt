@@ -4,7 +4,8 @@ use Rattle.fx_strike.proofs.Seeing.{holds_none, seen_at, refused_at}
 use Rattle.fx_strike.proofs.tools.Tools.see.Goals as goal
 
 pub codes-init : goal.codes-init
-codes-init g c = record { kept = refl; map = c.cursor-map.ensures; held = holds_none _ _ c.new-seen.ensures }
+codes-init g c =
+    record { kept = refl; map = c.cursor-map.ensures; cache = c.requires.cache; held = holds_none _ _ c.new-seen.ensures }
 
 pub returns-in_err-see_one-clause-seen : goal.returns-in_err-see_one-clause-seen
 returns-in_err-see_one-clause-seen g c =
@@ -21,6 +22,10 @@ codes-preserved g c =
     record {
       kept = (c.in_ok-see_one.ensures).kept ∙ c.codes.invariant.kept;
       map = c.glyph-glyph.ensures.kept ∙ c.codes.invariant.map;
+      cache = rw c.codes.invariant.kept at (c.in_ok-see_one.ensures).cache;
       held = seen_at _ c.args.codes.now c.codes.code-index c.glyph-glyph.result c.codes.seen c.see_one.new.seen
           c.codes-test.true c.codes.invariant.held e c.if-glyph-eq0.false d;
     }
+
+pub see_one-requires-clause-cache : goal.see_one-requires-clause-cache
+see_one-requires-clause-cache g c = rw c.codes.invariant.kept c.codes.invariant.cache

@@ -1,5 +1,7 @@
 use Rattle.std.proofs.Common.{◌≡◌, take}
+use Rattle.fx_cache.specs.Cached.{AreDue}
 use Rattle.fx_strike.specs.Strike.{setting_with}
+use Rattle.fx_strike.specs.inner.Drawing.{due_in}
 use Rattle.fx_strike.specs.inner.Surveying.{Holds}
 use Rattle.fx_strike.proofs.tools.Tools.see.Given as goal
 
@@ -8,5 +10,6 @@ abbrev pub invariant-codes : goal.invariant-codes
 invariant-codes g l = record {
   kept : l.hinter ≡ l.fn.hinter;
   map : l.map ≡ l.self.opened.map;
+  cache : AreDue (due_in l.self.opened l.fn.hinter) l.cache;
   held : Holds (setting_with l.self.opened l.self.dropout l.fn.hinter) (take l.code-index l.codes) l.seen;
 }

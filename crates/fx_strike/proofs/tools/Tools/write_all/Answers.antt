@@ -9,6 +9,7 @@ pub codes-init : goal.codes-init
 codes-init g c = record {
   kept = refl;
   map = c.cursor-map.ensures;
+  cache = c.requires.cache;
   same = refl;
   quiet = refl;
   few = omega arith;
@@ -34,6 +35,7 @@ codes-preserved g c =
     record {
       kept = (c.in_ok-write_one.ensures).kept ∙ c.codes.invariant.kept;
       map = c.glyph-glyph.ensures.kept ∙ c.codes.invariant.map;
+      cache = rw c.codes.invariant.kept at (c.in_ok-write_one.ensures).cache;
       same = (c.in_ok-write_one.ensures).same ∙ c.codes.invariant.same;
       quiet = (c.in_ok-write_one.ensures).quiet ∙ c.codes.invariant.quiet;
       few = omega (arith, (c.in_ok-write_one.ensures).short, c.codes.invariant.few);
@@ -41,3 +43,6 @@ codes-preserved g c =
           adds_text (parts_more (λ (t : List ℕ). t) lines c.codes.code-index [] (omega (arith, h.count, c.codes-test.true)))
           (adds_then (c.codes.invariant.lines lines h) (w _ (h.each _ c.codes-test.true)));
     }
+
+pub write_one-requires-clause-cache : goal.write_one-requires-clause-cache
+write_one-requires-clause-cache g c = rw c.codes.invariant.kept c.codes.invariant.cache

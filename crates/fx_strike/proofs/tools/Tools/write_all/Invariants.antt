@@ -2,7 +2,9 @@ use Rattle.std.proofs.Common.{◌≡◌, ◌+◌, ◌*◌, ◌≤◌, List, ℕ,
 use Rattle.std.specs.List.{flat_map}
 use Rattle.fx_fixed.specs.Texts.{Adds, length_of}
 use Rattle.fx_bdf.specs.Text.{longest_glyph}
+use Rattle.fx_cache.specs.Cached.{AreDue}
 use Rattle.fx_strike.specs.Strike.{setting_with}
+use Rattle.fx_strike.specs.inner.Drawing.{due_in}
 use Rattle.fx_strike.specs.inner.Writing.{AreAllLinesOf, Stops}
 use Rattle.fx_strike.proofs.tools.Tools.write_all.Given as goal
 
@@ -12,6 +14,7 @@ abbrev pub invariant-codes : goal.invariant-codes
 invariant-codes g l = record {
   kept : l.hinter ≡ l.fn.hinter;
   map : l.map ≡ l.self.opened.map;
+  cache : AreDue (due_in l.self.opened l.fn.hinter) l.cache;
   same : l.text.sink ≡ l.fn.text.sink;
   quiet : l.text.faults ≡ l.fn.text.faults;
   few : length_of l.text ≤ length_of l.fn.text + l.code-index * longest_glyph;

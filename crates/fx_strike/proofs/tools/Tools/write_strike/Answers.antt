@@ -3,6 +3,7 @@ use Rattle.std.proofs.KnownBytes.{Keeps-refl}
 use Rattle.fx_request.specs.Limits.{max_code}
 use Rattle.fx_request.proofs.Rising.{few_rising, small_rising}
 use Rattle.fx_strike.specs.Title.{titled}
+use Rattle.fx_strike.specs.inner.Drawing.{due_in}
 use Rattle.fx_strike.proofs.Exits.{came}
 use Rattle.fx_strike.proofs.Making.{fails_leaves}
 use Rattle.fx_strike.proofs.Lines.{strike_leaves}
@@ -11,6 +12,7 @@ use Rattle.fx_strike.proofs.tools.Tools.write_strike.Goals as goal
 pub survey_codes-requires : goal.survey_codes-requires
 survey_codes-requires g c = record {
   few = few_rising c.args.chars.now c.deref.result.now (c.deref.ensures.value ∙ c.in_ok-codes.ensures) c.requires.chars.few;
+  cache = c.new-cache.ensures (due_in c.args.self.now.opened c.args.hinter.now);
 }
 
 pub write_text-requires-clause-few : goal.write_text-requires-clause-few
