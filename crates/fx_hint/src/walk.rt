@@ -1,12 +1,13 @@
 //! The walk over components.
 
-ghost use Rattle.std.specs.Prelude.{◌≡◌, ◌+◌, ◌-◌, ◌<◌, ◌≤◌, Ok, IfOk, OnOk, length};
+ghost use Rattle.std.specs.Prelude.{◌≡◌, ◌+◌, ◌-◌, ◌<◌, ◌≤◌, Ok, Err, IfOk, OnOk, length};
 ghost use Rattle.fx_fixed.specs.Chain.{GivesUnless, map_ok};
 ghost use Rattle.fx_glyf.specs.declared.glyph.Glyph.TheVariants as glyph;
 ghost use Rattle.fx_glyf.specs.Glyphs.{glyph_of};
 ghost use Rattle.fx_zone.specs.Figures.{empty_figure};
 ghost use Rattle.fx_scale.specs.Phantoms.{phantoms_of};
 ghost use Rattle.fx_hint.specs.Faults.{Fails};
+ghost use Rattle.fx_hint.specs.declared.fault.HintFault.{HintFault as TheFault};
 ghost use Rattle.fx_hint.specs.Outlines.{scaled_simple, simple_made, assembled, component, run_on, root_made};
 ghost use Rattle.fx_hint.specs.Limits.{max_components, max_depth, max_points};
 ghost use Rattle.fx_hint.specs.Parts.{with_part};
@@ -206,6 +207,7 @@ impl<'w, 'a> Walk<'w, 'a> {
     fn recalled(&self, made: Made, usage: Usage, count: &mut Count) -> Result<Step<'a>, HintFault>
         ensures value { GivesUnless Fails (λ step. (step, count.new)) result
             (counted_made self.now.root made usage count.old) }
+        ensures due { (e : TheFault) → result ≡ Err e → counted_made self.now.root made usage count.old ≡ Err e }
         ensures records { OnOk result (count.new.records ≡ count.old.records) }
     {
         count.more_points(self.root, made.zone.len())?;
