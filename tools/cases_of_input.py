@@ -185,16 +185,20 @@ def properties():
             (["N=2147483648"], ['N "2147483648"']), (["N=-"], ['N "-"']), (["N=+1"], ['N "+1"']), (["N="], ['N ""']),
             (['CHARSET_ENCODING="1"', "SPACING=M"], ['CHARSET_ENCODING "1"', 'SPACING "M"']), (["A=b=c"], ['A "b=c"']),
             (['A=say "hi"'], ['A "say ""hi"""']), (['A="'], ['A """"']), (['A=""""'], ['A """"""']), (["B=a b "], ['B "a b "']),
-            (["L" * 64 + "=" + "x" * 32000], ["L" * 64 + ' "' + "x" * 32000 + '"']), (many[:64], [p.replace("=", " ") for p in many[:64]])):
+            (["L" * 64 + "=" + "x" * 32000], ["L" * 64 + ' "' + "x" * 32000 + '"']),
+            (["A=007", "B=-0", "C=%s7" % ("0" * 40)], ["A 7", "B 0", "C 7"]), (["A=", "B=-007"], ['A ""', "B -7"]),
+            (["COMMENTS=1", "COMMEN=2", "ENDPROPERTY=3", "CHARS=4"], ["COMMENTS 1", "COMMEN 2", "ENDPROPERTY 3", "CHARS 4"]), (many[:64], [p.replace("=", " ") for p in many[:64]])):
         words = MAKE + ["--property=" + text for text in given]
         yield Run("the properties %s" % ", ".join(given)[:40], words, data, SHORT.make([A], 16, properties=lines))
     for given, position in (
             (["a=1"], 1), (["=1"], 1), (["1A=1"], 1), (["_=1"], 1), (["A-B=1"], 1), (["FONT_ASCENT=1"], 1), (["A=1", "FONT_DESCENT=1"], 2),
             (["A=1", "B=1", "A=2"], 3), (["A=1", "b=1", "A=2"], 2), (["L" * 65 + "=1"], 1), (["A=" + "x" * 32001], 1), (["A=a\x7Fb"], 1),
-            (["A=a\tb"], 1), (many, 65)):
+            (["A=a\tb"], 1), (many, 65),
+            (["ENDPROPERTIES=1"], 1), (["COMMENT=x"], 1), (["A=1", "COMMENT=1"], 2), (["A=1", "ENDPROPERTIES="], 2), (["-B=1"], 1)):
         words = MAKE + ["--property=" + text for text in given]
         yield Run("the properties %s" % ", ".join(given)[:40], words, data, refused("63 BadProperty %d" % position))
-    yield Run("a property without a value", MAKE + ["--property=A"], data, usage())
+    for words in (["--property=A"], ["--property", "A"], ["--property="], ["--property", "-B=1"]):
+        yield Run("a property that is not KEY=VALUE: %s" % words, MAKE + words, data, usage())
     yield Run("a property in the first line", [], b"make --ppem 16 --chars 41 --property A=1\n" + data,
               SHORT.make([A], 16, properties=["A 1"]))
 

@@ -1,4 +1,4 @@
-//! The properties of a strike: `--property NAME=VALUE`. Names, values and texts are by hand, from BDF 2.1.
+//! The properties of a strike: `--property KEY=VALUE`. Names, values and texts are by hand, from BDF 2.1.
 use crate::fonts::FONT;
 use crate::runs::{End, USAGE, ends};
 use fx_fixed::Limits;
@@ -13,7 +13,7 @@ const MAKE: &str = "mkstrike|make|--hex|--ppem|16|--chars|21|--name|F1";
 const LINE: &[u8] = b"mkstrike: glyphs 0 missing 1 strays 0 steps 0\n";
 
 /// Arguments after these, and the lines from STARTPROPERTIES to ENDPROPERTIES.
-const GOOD: [(&str, &str); 6] = [
+const GOOD: [(&str, &str); 7] = [
     ("", "2\nFONT_ASCENT 13\nFONT_DESCENT 4\n"),
     (
         "|--property|DEFAULT_CHAR=32",
@@ -34,6 +34,10 @@ const GOOD: [(&str, &str); 6] = [
     (
         "|--property|A=\"|--property|B=\"\"|--property|C=\"\"\"|--property|D=a\"b\"|--property|E=\" \"|--property|F=x y~",
         "8\nFONT_ASCENT 13\nFONT_DESCENT 4\nA \"\"\"\"\nB \"\"\nC \"\"\"\"\nD \"a\"\"b\"\"\"\nE \" \"\nF \"x y~\"\n",
+    ),
+    (
+        "|--property|COMMENTS=1|--property|COMMEN=2|--property|ENDPROPERTY=3|--property|ENDPROPERTIES_=4|--property|CHARS=5",
+        "7\nFONT_ASCENT 13\nFONT_DESCENT 4\nCOMMENTS 1\nCOMMEN 2\nENDPROPERTY 3\nENDPROPERTIES_ 4\nCHARS 5\n",
     ),
 ];
 
@@ -58,7 +62,7 @@ fn good_properties(rt: HostRuntime) -> Result<(), Fail> {
 }
 
 /// Arguments after the request, and the refusal's line.
-const BAD: [(&str, &[u8]); 10] = [
+const BAD: [(&str, &[u8]); 13] = [
     ("|--property|=1", b"mkstrike: 63 BadProperty 1\n"),
     ("|--property|a=1", b"mkstrike: 63 BadProperty 1\n"),
     ("|--property|9A=1", b"mkstrike: 63 BadProperty 1\n"),
@@ -81,6 +85,18 @@ const BAD: [(&str, &[u8]); 10] = [
         b"mkstrike: 63 BadProperty 2\n",
     ),
     ("|--property|A=\x1f", b"mkstrike: 63 BadProperty 1\n"),
+    (
+        "|--property|ENDPROPERTIES=1",
+        b"mkstrike: 63 BadProperty 1\n",
+    ),
+    (
+        "|--property|A=1|--property|COMMENT=x",
+        b"mkstrike: 63 BadProperty 2\n",
+    ),
+    (
+        "|--x11|--property|COMMENT=\"\"|--property|ENDPROPERTIES=",
+        b"mkstrike: 63 BadProperty 1\n",
+    ),
 ];
 
 #[test]

@@ -75,11 +75,17 @@ is_digit c = nat_le 48 c && nat_le c 57
 abbrev pub is_word_part : ℕ → Bool
 is_word_part c = is_letter c || (is_digit c || c == 95)
 
--- letters, digits and underscores, a letter first, and not a name that each strike has
+-- a name that each strike has; or a word that means something else in that block: ENDPROPERTIES ends it, and a COMMENT may stand
+-- anywhere (BDF 2.1)
+unfoldable pub is_reserved : List ℕ → Bool
+is_reserved name = bytes_eq name (codes "FONT_ASCENT") || (bytes_eq name (codes "FONT_DESCENT") ||
+    (bytes_eq name (codes "ENDPROPERTIES") || bytes_eq name (codes "COMMENT")))
+
+-- letters, digits and underscores, a letter first, and not reserved
 unfoldable pub is_word : List ℕ → Bool
 is_word name = nat_lt 0 (length name) &&
     (nat_le (length name) longest_word && (list_all is_word_part name && (is_letter (slice_index name 0) &&
-    (not (bytes_eq name (codes "FONT_ASCENT")) && not (bytes_eq name (codes "FONT_DESCENT"))))))
+    not (is_reserved name))))
 
 -- printed characters and spaces
 unfoldable pub is_string : List ℕ → Bool

@@ -2,8 +2,8 @@
 
 ghost use Rattle.std.specs.Prelude.{◌≡◌, ◌≤◌, length, IfSome};
 ghost use Rattle.std.specs.List.{list_all};
-ghost use Rattle.fx_bdf.specs.Properties.{first_bad, is_letter, is_string, is_taken, is_value, is_word, is_word_part, may_follow};
-ghost use Rattle.fx_bdf.specs.Properties.{most_properties, seen_properties, seen_property, seen_value};
+ghost use Rattle.fx_bdf.specs.Properties.{first_bad, is_letter, is_reserved, is_string, is_taken, is_value, is_word, is_word_part};
+ghost use Rattle.fx_bdf.specs.Properties.{may_follow, most_properties, seen_properties, seen_property, seen_value};
 
 use crate::name::all_printed;
 use crate::property::{Property, Value};
@@ -38,6 +38,14 @@ fn are_word_parts(text: &[u8]) -> bool
     text.iter().all(|byte| is_word_part(*byte))
 }
 
+/// Whether a name is one that each strike has, or a word that means something else in the block of properties.
+#[tactic(auto, unfolding(crate::specs::Properties::is_reserved))]
+fn is_reserved(name: &str) -> bool
+    ensures { result ≡ is_reserved name.now }
+{
+    name == "FONT_ASCENT" || name == "FONT_DESCENT" || name == "ENDPROPERTIES" || name == "COMMENT"
+}
+
 /// Whether a property can have this name.
 #[tactic(auto, unfolding(crate::specs::Properties::is_word))]
 fn is_word(name: &str) -> bool
@@ -47,7 +55,7 @@ fn is_word(name: &str) -> bool
     if text.is_empty() || text.len() > LONGEST_WORD || !are_word_parts(text) {
         return false;
     }
-    is_letter(text[0]) && name != "FONT_ASCENT" && name != "FONT_DESCENT"
+    is_letter(text[0]) && !is_reserved(name)
 }
 
 /// Whether a property's value can be this text.
