@@ -6,7 +6,8 @@ import runs
 from cases_of_input import LONG, MAKE, SHORT
 from due import cut_after, refused, usage
 from instructions import Code
-from made import Empty, Font, Simple, square
+from cases_of_programs import NOTHING
+from made import Composite, Empty, Font, Simple, comb, square
 from runs import KIB, Run
 from strikes import A, both, strike, words
 
@@ -80,6 +81,12 @@ def little_memory():
     yield strike("8,192 by 8,192 pixels", large, 1024, limits=limited(40000))
     everywhere = Font([Empty(), square(900)], 1)
     yield strike("65,536 characters", everywhere, 12, range(65536), limits=limited(20000))
+    two = Font([Empty(), comb(8192, NOTHING), comb(8192, NOTHING), Composite([(1, 0, 0), (2, 0, 20)])], {A: 3}, upem=8192, stack=9)
+    yield from both("two components of 8,192 points", two, 1024, limits=limited(12000))
+    some = [comb(4 + k, NOTHING) for k in range(100)]
+    parts = [Composite([(1 + k, 0, 0)]) for k in range(100)]
+    few = Font([Empty(), *some, *parts], {0x100 + k: 101 + k for k in range(100)}, upem=1024, stack=9)
+    yield from both("100 components of few points", few, 16, sorted(few.codes), limits=limited(5000))
     data = SHORT.data().ljust(1 << 26, b"\0")
     yield strike("an input of 64 MiB", SHORT, 16, data=data, limits=limited(200000))
 

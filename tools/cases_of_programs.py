@@ -4,7 +4,7 @@ import instructions as ins
 from instructions import Code
 from made import Simple, comb, square
 from runs import Run
-from strikes import both, one, refusal
+from strikes import both, one, refusal, strike
 
 POINTS, STEPS, CALLS, FUNCTIONS, ROOM = 16384, 250000, 32, 64, 32
 UPEM = 1000
@@ -223,5 +223,18 @@ def listings():
     yield Run("a listing of no program", "dump --of 1", font.data(), due.listed([]))
 
 
-CASES = [programmed_points, lengths_of_programs, functions, stack_elements, control_values, storage, twilight_points,
-         many_functions, defined_opcodes, steps, calls, listings]
+def loops_of_many_points():
+    """Instructions that take 32,000 points each, twenty times: the work is so many points, and no square of them. FLIPPT turns
+    each of 16,000 points twice, and SHPIX shifts it by 0."""
+    for name, more, opcode in (("FLIPPT", [], 0x80), ("SHPIX", [0], ins.SHPIX)):
+        body = Code().push(*range(16000), *range(16000)).push(32000).do(ins.SLOOP).push(*more).do(opcode)
+        font = one(comb(16000, Code().call_times(20, 0, body)), fpgm=Code().define(0, body), stack=32010, upem=8192)
+        yield strike("%s of 32,000 points" % name, font, 1024, limits={"RLIMIT_CPU": 2})
+    touched = Code().push(*range(0, 8000, 2)).push(4000).do(ins.SLOOP).push(0).do(ins.SHPIX)
+    body = Code().do(ins.IUP_X)
+    font = one(comb(16000, touched.call_times(400, 0, body)), fpgm=Code().define(0, body), stack=4010, upem=8192)
+    yield strike("IUP of 16,000 points", font, 1024, limits={"RLIMIT_CPU": 3})
+
+
+CASES = [programmed_points, loops_of_many_points, lengths_of_programs, functions, stack_elements, control_values, storage,
+         twilight_points, many_functions, defined_opcodes, steps, calls, listings]

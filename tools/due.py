@@ -5,6 +5,7 @@ when its centre lies in one of them, its sides included, and bits, boxes and tex
 `covered` has the rule for lines and arcs in general, pixel by pixel, for small glyphs.
 """
 import functools
+import re
 
 DONE, REFUSED, USAGE_STATUS = 0, 1, 2
 USAGE = b"mkstrike: usage\n"
@@ -86,6 +87,25 @@ class FewCalls(Due):
         if fault or answer[3] <= self.most:
             return fault
         return "the system was called %d times to write, and at most %d are due" % (answer[3], self.most)
+
+
+class Counted(Due):
+    """What is due of the strike of a font whose bits are not known beforehand: its status and counts, and a text of so many glyphs.
+
+    Without hinting no program runs, so that no instruction is counted; with it, some are."""
+
+    def __init__(self, glyphs, missing, hinted):
+        Due.__init__(self, DONE, b"")
+        self.glyphs, self.line = glyphs, rb"mkstrike: glyphs %d missing %d strays %s steps %s\n" % (
+            glyphs, missing, *((rb"\d+", rb"[1-9]\d*") if hinted else (b"0", b"0")))
+
+    def wrong(self, answer):
+        status, out, err = answer
+        if status != self.status or not re.fullmatch(self.line, err):
+            return "status %d and the line %r, and %d and %r are due" % (status, err[:200], self.status, self.line)
+        counted = [out.count(b"\n%s " % word) for word in (b"STARTCHAR", b"ENCODING", b"BBX")] + [out.count(b"\nENDCHAR\n")]
+        whole = out.startswith(b"STARTFONT 2.1\n") and out.endswith(b"ENDFONT\n") and b"\nCHARS %d\n" % self.glyphs in out
+        return None if whole and counted == [self.glyphs] * 4 else "a text of %s glyphs, and %d are due" % (counted, self.glyphs)
 
 
 def cut_after(whole, count):

@@ -1,0 +1,46 @@
+"""Cases of tools/check_program: whole real fonts at many sizes, of which the status and the counts are known beforehand.
+
+A refusal for one size or one number of points would pass all fonts that are made here; so whole fonts are drawn at every small size."""
+import os
+
+import fonts
+from due import Counted
+from made import list_of
+from runs import Run
+
+SIZES = [*range(6, 41), 47, 48, 55, 64, 72, 96, 100, 127, 128, 200, 255, 256]
+# Two characters of DejaVu Sans have glyphs whose programs halt.
+REAL = (("/usr/share/fonts/truetype/dejavu/DejaVuSans.ttf", (0x19C, 0x250)),
+        ("/usr/share/fonts/truetype/liberation/LiberationSans-Regular.ttf", ()))
+WAYS = ("", "--unhinted", "--dropout --x11")
+
+
+def whole_font(path, halting, sizes):
+    """All characters up to FFFF of a font at some sizes: hinted, not, and with drop-out control, each size in its turn."""
+    if not os.path.exists(path):
+        print("check_program: %s is missing and left out (Debian: fonts-dejavu-core, fonts-liberation)" % path)
+        return
+    with open(path, "rb") as file:
+        data = file.read()
+    codes = [code for code in range(0x10000) if code not in halting]
+    found = sum(code not in halting for code in fonts.glyph_numbers(data))
+    for k, ppem in enumerate(sizes):
+        for way in WAYS[:2] if k % 4 else WAYS:
+            asked = "make --ppem %d --chars %s %s" % (ppem, list_of(codes), way)
+            yield Run("%s at %d %s" % (os.path.basename(path), ppem, way), asked, data,
+                      Counted(found, len(codes) - found, hinted="unhinted" not in way))
+
+
+def whole_fonts_at_even_sizes():
+    """Both fonts at every other size."""
+    for path, halting in REAL:
+        yield from whole_font(path, halting, SIZES[::2])
+
+
+def whole_fonts_at_odd_sizes():
+    """Both fonts at the other sizes."""
+    for path, halting in REAL:
+        yield from whole_font(path, halting, SIZES[1::2])
+
+
+CASES = [whole_fonts_at_even_sizes, whole_fonts_at_odd_sizes]
