@@ -126,8 +126,20 @@ class Root:
         page, source = self.path(prefix, "share/man/man1/mkstrike.1.gz"), os.path.join(TOP, "docs/mkstrike.1")
         is_page = os.path.exists(page) and gzip.decompress(prebuilt.read(page)) == prebuilt.read(source)
         count.check("%s: the man page is there" % what, not is_page)
+        count.check("%s: the documents link to nothing that is not there" % what, self.dead_link(prefix))
+        count.check("%s: show-bdf is there" % what, not os.access(self.path(prefix, "bin/show-bdf"), os.X_OK))
         how = "as nobody, with the C library alone" if self.is_jail else "here"
         count.check("%s: the program runs %s" % (what, how), self.runs(os.path.join("/", prefix, "bin/mkstrike")))
+
+    def dead_link(self, prefix):
+        """A link of a document below the prefix that leads to nothing there, or None."""
+        for at, _, names in os.walk(self.path(prefix, "share/doc/mkstrike")):
+            for name in sorted(it for it in names if it.endswith(".md")):
+                links = re.findall(r"\]\(([^):#]+)[)#]", prebuilt.read(os.path.join(at, name)).decode())
+                dead = next((it for it in links if not os.path.exists(os.path.join(at, it))), None)
+                if dead:
+                    return "%s links to %s" % (name, dead)
+        return None
 
     def builds(self, prefix):
         """What is wrong with an example built with what is installed below the prefix, or None: it has to refuse no font."""
