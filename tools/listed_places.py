@@ -9,7 +9,6 @@ PLACES = {
     "crates/fx_bdf/src/x11.rt": ["from_slice(alloc, self.properties)"],
     "crates/fx_cache/src/cache.rt": [
         "with_capacity(alloc, glyphs.min(MOST_GLYPHS) * WORDS_A_GLYPH)",
-        "let _put = put_words(&mut self.words, glyph, outline)",
         "let _ = &self.words",
     ],
     "crates/fx_cache/src/words.rt": ["with_capacity(alloc, words.len())", "with_capacity(alloc, words.len())"],
