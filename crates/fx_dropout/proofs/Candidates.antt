@@ -10,11 +10,11 @@ use Rattle.fx_winding.specs.Bitmaps.{Bits, AreRowWords, words_for, bit_of, bits_
 use Rattle.fx_winding.specs.Dropout.{IsGap, turned_span}
 use Rattle.fx_winding.specs.Frames.{IsFrom, steps, IsInFrame}
 use Rattle.fx_winding.specs.Meets.{IsMet}
-use Rattle.fx_winding.specs.Notes.{pixel_number, IsNoted}
+use Rattle.fx_winding.specs.Notes.{pixel_number, AreExact, IsNoted}
 use Rattle.fx_winding.specs.Winding.{Span, centre, IsOn, IsCovered}
 use Rattle.fx_winding.proofs.Covers.{any_unmap}
 use Rattle.fx_dropout.specs.inner.Lines.{IsSoFar, IsBridgedTo, IsOneOf, IsRowNoted, IsLevelNoted, AreClosed, IsLevelClosed}
-use Rattle.fx_dropout.specs.inner.Lines.{AreRowsClosed}
+use Rattle.fx_dropout.specs.inner.Lines.{AreRowsClosed, IsRowExact}
 use Rattle.fx_dropout.specs.inner.Words.{IsShutAcross, IsShutUp, IsShutInRow, IsShutInColumn}
 use Rattle.fx_dropout.proofs.Levels.{level_kept, level_skip, levels_skip}
 use Rattle.fx_dropout.proofs.Rows.{closed_skip, rows_skip}
@@ -99,6 +99,36 @@ pub row_noted : (ss : List Span) (f : Frame) (across up part : List ℕ) (Old : 
 row_noted ss f across up part Old r from j all covered l ej e p k m g =
     part_number across part f r (words_for f.width + 1) k from e (omega (arith, words_wide f.width, m)) p
     ∙ (across_noted ss f across up Old r k ((f.left -ℤ pos 1) +ℤ pos k) j all covered l m (λ t. (f.left -ℤ pos 1) +ℤ pos k) ej g)
+
+-- notes that are exact: where no piece covers the ends of a segment that has its bit, one meets it
+pub row_exact : (ss : List Span) (f : Frame) (across part : List ℕ) (Old : ℤ → ℤ → Type 0) (r from : ℕ) (j : ℤ)
+    → AreExact f across ss → ((i : ℤ) → IsCovered (centre i j) ss → Old i j) → r < f.height → j ≡ f.bottom +ℤ pos r
+    → from ≡ r * words_for f.width → part ≡ take (words_for f.width + 1) (drop from across) → IsRowExact ss f j Old part
+row_exact ss f across part Old r from j exact covered l ej e p k o m set bare bare' =
+    let number = part_number across part f r (words_for f.width + 1) k from e (omega (arith, words_wide f.width, m)) p in
+    let any = exact r k l o m (sym number ∙ set) in
+    let right : f.left +ℤ pos k ≡ ((f.left -ℤ pos 1) +ℤ pos k) +ℤ pos 1 = omega (arith, signed_linear) in
+    let low : centre ((f.left -ℤ pos 1) +ℤ pos k) (f.bottom +ℤ pos r) ≡ centre ((f.left -ℤ pos 1) +ℤ pos k) j =
+    λ z. centre ((f.left -ℤ pos 1) +ℤ pos k) (sym ej z) in
+    let high : centre (f.left +ℤ pos k) (f.bottom +ℤ pos r) ≡ centre (((f.left -ℤ pos 1) +ℤ pos k) +ℤ pos 1) j =
+    λ z. centre (right z) (sym ej z) in
+    let met = subst (λ z. z) (λ z. ¬ (IsOn (low z) any.1) → ¬ (IsOn (high z) any.1) → IsMet (low z) (high z) any.1) any.4 in (
+      any.0,
+      any.1,
+      any.2,
+      any.3,
+      met
+          (off ss (centre ((f.left -ℤ pos 1) +ℤ pos k) j) any.0 any.1 any.2 any.3 (λ h. bare (covered ((f.left -ℤ pos 1) +ℤ pos k) h)))
+          (off ss (centre (((f.left -ℤ pos 1) +ℤ pos k) +ℤ pos 1) j) any.0 any.1 any.2 any.3
+          (λ h. bare' (covered (((f.left -ℤ pos 1) +ℤ pos k) +ℤ pos 1) h))),
+    )
+
+-- and more pixels are set since
+pub exact_on : (ss : List Span) (f : Frame) (j : ℤ) (Old New : ℤ → ℤ → Type 0) (noted : List ℕ) → ((i : ℤ) → Old i j → New i j)
+    → IsRowExact ss f j Old noted → IsRowExact ss f j New noted
+exact_on ss f j Old New noted grows exact k o m set bare bare' =
+    exact k o m set (λ h. bare (grows ((f.left -ℤ pos 1) +ℤ pos k) h))
+    (λ h. bare' (grows (((f.left -ℤ pos 1) +ℤ pos k) +ℤ pos 1) h))
 
 pub level_noted : (ss : List Span) (f : Frame) (across up part : List ℕ) (Old : ℤ → ℤ → Type 0) (r from : ℕ) (i : ℤ)
     → All (λ s. IsNoted s f across up) ss → ((i j : ℤ) → IsCovered (centre j i) ss → Old i j) → r ≤ f.height

@@ -1,22 +1,85 @@
 //! The gaps of rows closed, in place. Only rows are looked at in which a segment is noted whose pixels are not set.
 
-ghost use Rattle.std.specs.Prelude.{◌≡◌, ◌⊎◌, ◌↔◌, ℕ, ◌+◌, ◌-◌, ◌*◌, ◌<◌, ◌≤◌, IsTrue, ℤ, pos, length, map, All, false};
-ghost use Rattle.fx_winding.specs.Bitmaps.{words_for as words_for_of};
-ghost use Rattle.fx_winding.specs.Dropout.{IsBridged};
+ghost use Rattle.std.specs.Prelude.{◌≡◌, ◌≢◌, ◌⊎◌, ◌↔◌, ℕ, ◌+◌, ◌-◌, ◌*◌, ◌/◌, ◌+ℤ◌, ◌-ℤ◌, ◌<◌, ◌≤◌, IsTrue, ℤ, pos, length, map, All, false};
+ghost use Rattle.fx_winding.specs.Bitmaps.{words_for as words_for_of, word_bit};
+ghost use Rattle.fx_winding.specs.Dropout.{IsBridged, IsGap};
 ghost use Rattle.fx_winding.specs.Frames.{IsFrom, IsInFrame, HasMargin};
-ghost use Rattle.fx_winding.specs.Notes.{IsNoted};
+ghost use Rattle.fx_winding.specs.Limits.{IsPixelNumber};
+ghost use Rattle.fx_winding.specs.Notes.{AreExact, IsNoted};
 ghost use Rattle.fx_winding.specs.Winding.{span_of, centre, IsCovered};
 ghost use Rattle.fx_dropout.specs.Tests.{most_tests};
-ghost use Rattle.fx_dropout.specs.inner.Lines.{IsSoFar, IsRowClosed, IsRowNoted};
+ghost use Rattle.fx_dropout.specs.inner.Lines.{IsSoFar, IsRowClosed, IsRowExact, IsRowNoted};
+ghost use Rattle.fx_dropout.specs.inner.Turned.{seen_bit};
 ghost use Rattle.fx_dropout.specs.inner.Words.{IsShutInRow};
 
 use crate::close::{close_gap, closer, is_empty};
 use crate::next::next_segment;
 use crate::open::{InRow, InRows};
-use fx_winding::{Bitmap, Frame, Notes, Pieces, Tally, words_for};
+use crate::turned::{is_set, set};
+use fx_winding::{Bitmap, Frame, Notes, Pieces, Tally, is_set as is_noted, words_for};
+
+/// Whether a noted segment within the frame has two pixels that are not set.
+fn is_shown(noted: &[u32], bitmap: &Bitmap, k: usize, i: i32, j: i32) -> bool
+    requires word { k / 32 < length noted.now }
+    requires here { IsPixelNumber i }
+    requires next { IsPixelNumber (i +ℤ pos 1) }
+    ensures noted { IsTrue result → word_bit noted.now k ≡ 1 }
+    ensures left { IsTrue result → seen_bit false bitmap.now i j ≡ false }
+    ensures right { IsTrue result → seen_bit false bitmap.now (i +ℤ pos 1) j ≡ false }
+{
+    if is_set(false, bitmap, i, j) {
+        return false;
+    }
+    if is_set(false, bitmap, i + 1, j) {
+        return false;
+    }
+    is_noted(noted, k)
+}
+
+/// Closes the gap from the pixel `i` to its right neighbour, if there is one. With exact notes a noted segment within the frame is
+/// met, and no piece is tested.
+fn close_segment(
+    exact: bool,
+    pieces: &Pieces,
+    noted: &[u32],
+    bitmap: &mut Bitmap,
+    k: usize,
+    i: i32,
+    j: i32,
+    at: i32,
+    tally: &mut Tally,
+)
+    requires word { k / 32 < length noted.now }
+    requires here { IsPixelNumber i }
+    requires next { IsPixelNumber (i +ℤ pos 1) }
+    requires row { IsPixelNumber j }
+    requires inside { IsInFrame bitmap.old.frame at j }
+    requires column { i ≡ (bitmap.old.frame.left -ℤ pos 1) +ℤ pos k }
+    requires closer { 0 < k → at ≡ i }
+    requires exact { IsTrue exact → IsRowExact (map span_of pieces.now) bitmap.old.frame j
+        (IsSoFar false (map span_of pieces.now) bitmap.old.frame bitmap.old) noted.now }
+    ensures frame { bitmap.new.frame ≡ bitmap.old.frame }
+    ensures here { IsSoFar false (map span_of pieces.now) bitmap.old.frame bitmap.new at j ↔
+        (IsSoFar false (map span_of pieces.now) bitmap.old.frame bitmap.old at j ⊎
+        IsGap (map span_of pieces.now) (IsSoFar false (map span_of pieces.now) bitmap.old.frame bitmap.old) i j) }
+    ensures others { (m n : ℤ) → (m ≢ at) ⊎ (n ≢ j) →
+        IsSoFar false (map span_of pieces.now) bitmap.old.frame bitmap.new m n ↔
+        IsSoFar false (map span_of pieces.now) bitmap.old.frame bitmap.old m n }
+    ensures count { tally.new.count ≤ tally.old.count + most_tests (length pieces.now) }
+{
+    let width = bitmap.frame().width as usize;
+    if exact && k > 0 && k < width {
+        if is_shown(noted, bitmap, k, i, j) {
+            set(false, bitmap, at, j);
+            return;
+        }
+    }
+    close_gap(false, pieces, bitmap, i, j, at, tally);
+}
 
 /// Closes the gaps of a row of the frame, from left to right: each by its left pixel, and the one before the first pixel by that.
 fn close_row(
+    exact: bool,
     pieces: &Pieces,
     noted: &[u32],
     frame: Frame,
@@ -30,6 +93,8 @@ fn close_row(
     requires row { IsFrom frame.bottom frame.height j }
     requires room { length noted.now ≡ words_for_of frame.width + 1 }
     requires noted { IsRowNoted (map span_of pieces.now) frame j
+        (IsSoFar false (map span_of pieces.now) frame bitmap.old) noted.now }
+    requires exact { IsTrue exact → IsRowExact (map span_of pieces.now) frame j
         (IsSoFar false (map span_of pieces.now) frame bitmap.old) noted.now }
     ensures frame { bitmap.new.frame ≡ frame }
     ensures closed { IsRowClosed (map span_of pieces.now) frame j (IsSoFar false (map span_of pieces.now) frame bitmap.old)
@@ -46,7 +111,17 @@ fn close_row(
     // The gaps among the first k segments are closed.
     'segments: while k <= frame.width as usize {
         let i = frame.left - 1 + k as i32;
-        close_gap(false, pieces, bitmap, i, j, closer(i, frame.left), tally);
+        close_segment(
+            exact,
+            pieces,
+            noted,
+            bitmap,
+            k,
+            i,
+            j,
+            closer(i, frame.left),
+            tally,
+        );
         k = next_segment(
             &InRow {
                 noted,
@@ -93,8 +168,9 @@ fn next_row(across: &[u32], bitmap: &Bitmap, from: u32) -> u32
     from + (whole / words) as u32
 }
 
-/// Closes the gaps of all rows of the frame.
+/// Closes the gaps of all rows of the frame. No piece is tested for a segment within the frame if the notes are exact.
 pub fn close_rows(pieces: &Pieces, notes: &Notes, bitmap: &mut Bitmap, tally: &mut Tally)
+    requires exact { IsTrue notes.now.exact → AreExact notes.now.frame notes.now.across.items (map span_of pieces.now) }
     requires margin { HasMargin bitmap.old.frame }
     requires frame { notes.now.frame ≡ bitmap.old.frame }
     requires noted { All (λ s. IsNoted s notes.now.frame notes.now.across.items notes.now.up.items) (map span_of pieces.now) }
@@ -118,6 +194,7 @@ pub fn close_rows(pieces: &Pieces, notes: &Notes, bitmap: &mut Bitmap, tally: &m
         let first = up as usize * words;
         let noted = &notes.across[first..first + words + 1];
         close_row(
+            notes.exact,
             pieces,
             noted,
             frame,

@@ -1,42 +1,17 @@
 //! Columns seen as rows: pieces, frames and bitmaps with their coordinates exchanged.
 
-ghost use Rattle.std.specs.Prelude.{◌≡◌, ◌≢◌, ◌⊎◌, ◌↔◌, ◌+◌, ◌*◌, ℤ, true, option_map};
-ghost use Rattle.fx_winding.specs.Dropout.{turned_place};
+ghost use Rattle.std.specs.Prelude.{◌≡◌, ◌≢◌, ◌⊎◌, ◌↔◌, ◌+◌, ◌*◌, ℤ, true};
 ghost use Rattle.fx_winding.specs.Frames.{IsInFrame, HasMargin};
-ghost use Rattle.fx_winding.specs.Winding.{place_of, maybe_place_of, span_of};
+ghost use Rattle.fx_winding.specs.Winding.{span_of};
 ghost use Rattle.fx_dropout.specs.inner.Turned.{seen_span, seen_bit, seen_segments, IsSeenInFrame};
 
-use fx_winding::{Bitmap, Frame, Piece, Point};
-
-/// A point with its coordinates exchanged.
-fn turned_point(p: Point) -> Point
-    ensures { place_of result ≡ turned_place (place_of p) }
-{
-    Point { x: p.y, y: p.x }
-}
-
-/// A control point with its coordinates exchanged, if there is one.
-fn turned_control(b: Option<Point>) -> Option<Point>
-    ensures { maybe_place_of result ≡ option_map turned_place (maybe_place_of b) }
-{
-    match b {
-        None => None,
-        Some(b) => Some(turned_point(b)),
-    }
-}
+use fx_winding::{Bitmap, Frame, Piece};
 
 /// A piece as it is, or with its coordinates exchanged.
 pub fn seen_piece(turned: bool, piece: &Piece) -> Piece
     ensures { span_of result ≡ seen_span turned (span_of piece.now) }
 {
-    if !turned {
-        return *piece;
-    }
-    Piece {
-        a: turned_point(piece.a),
-        b: turned_control(piece.b),
-        c: turned_point(piece.c),
-    }
+    if turned { piece.turned() } else { *piece }
 }
 
 /// A frame as it is, or with its coordinates exchanged.
@@ -45,15 +20,7 @@ pub fn seen_frame(turned: bool, frame: Frame) -> Frame
     ensures margin { HasMargin frame → HasMargin result }
     ensures segments { seen_segments turned frame ≡ result.height * (result.width + 1) }
 {
-    if !turned {
-        return frame;
-    }
-    Frame {
-        left: frame.bottom,
-        bottom: frame.left,
-        width: frame.height,
-        height: frame.width,
-    }
+    if turned { frame.turned() } else { frame }
 }
 
 /// A bit of a bitmap as it is, or with its coordinates exchanged.

@@ -74,7 +74,6 @@ row_added s f row at old new d d' t t' m m' ed ed' et et' em em' h =
       over = λ k l. record { turns = (a.over k l).0; mark = (a.over k l).1 };
       grown = a.grown;
       touches = a.touches;
-      bits = a.bits;
     }
 
 -- ---- rows of one piece
@@ -85,7 +84,6 @@ band_none s f at b = record {
   kept = λ n h. kept_none b n;
   grown = λ n h. h;
   touches = λ t. t;
-  bits = λ n h. h;
 }
 
 -- a number in a row before, or after
@@ -101,7 +99,6 @@ band_both s f from mid to old now new fm mt a b = record {
   kept = λ n h. kept_through old now new n (a.kept n (λ r x y. h r x (omega arith))) (b.kept n (λ r x y. h r (omega arith) y));
   grown = λ n w. b.grown n (a.grown n w);
   touches = λ t. b.touches (a.touches t);
-  bits = λ n h. b.bits n (a.bits n h);
 }
   where
     at : ℕ → ℕ → ℕ
@@ -129,7 +126,6 @@ band_row s f at old new h = record {
   grown = λ n w. let e : n + 4 * at + 4 ≡ n + 4 * (at + 1) = omega arith in
       subst (λ (m : ℕ). AreWithin m new.diff.items) e (h.grown (n + 4 * at) w);
   touches = h.touches;
-  bits = h.bits;
 }
   where
     by : (n : ℕ) → (n < at * stride f.width) ⊎ (at * stride f.width + f.width ≤ n) → IsKept old new n
@@ -165,7 +161,6 @@ band_missed s f from to b o h = record {
   kept = λ n l. kept_none b n;
   grown = λ n w k. let e = w k in omega (arith, signed_linear, e, o);
   touches = λ t. t;
-  bits = λ n h. h;
 }
 
 -- rows, rows after them, and rows after those
@@ -226,18 +221,18 @@ number_in up high w k n h l e = by (words_for w) l e
         omega (arith, rows, at, t, m)
 
 -- ---- counts of tests
-pub tests_more : (p u v : ℕ) → u ≤ v → p * (12 * u) + p * (12 * (v - u)) ≡ p * (12 * v)
-tests_more p u v h = by (v - u) (omega arith)
+pub tests_more : (p c u v : ℕ) → u ≤ v → p * (c * u) + p * (c * (v - u)) ≡ p * (c * v)
+tests_more p c u v h = by (v - u) (omega arith)
   where
-    by : (n : ℕ) → u + n ≡ v → p * (12 * u) + p * (12 * n) ≡ p * (12 * v)
-    by n e = sum n ∙ ap (λ (m : ℕ). p * (12 * m)) e
+    by : (n : ℕ) → u + n ≡ v → p * (c * u) + p * (c * n) ≡ p * (c * v)
+    by n e = sum n ∙ ap (λ (m : ℕ). p * (c * m)) e
       where
-        sum : (n : ℕ) → p * (12 * u) + p * (12 * n) ≡ p * (12 * (u + n))
+        sum : (n : ℕ) → p * (c * u) + p * (c * n) ≡ p * (c * (u + n))
         sum n = grind arith
 
-pub tests_fit : (p u h d : ℕ) → u ≤ h → p * (12 * u) ≤ p * h * (6 * d + 12)
-tests_fit p u h d l =
-    let m : 12 * u ≤ 12 * h = omega arith in
+pub tests_fit : (p c u h d : ℕ) → u ≤ h → p * (c * u) ≤ p * h * (6 * d + c)
+tests_fit p c u h d l =
+    let m = mul-le-mul_left c l in
     let n = mul-le-mul_left p m in
-    let e : p * h * (6 * d + 12) ≡ p * (12 * h) + 6 * (p * h * d) = grind arith in
+    let e : p * h * (6 * d + c) ≡ p * (c * h) + 6 * (p * h * d) = grind arith in
     omega (arith, n, e)

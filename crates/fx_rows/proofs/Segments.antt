@@ -1,26 +1,22 @@
 -- The segments of a band's rows as those of the whole frame.
 -- Serves `note` and `note_band`.
-use Rattle.std.proofs.Common.{◌≡◌, ◌∙◌, sym, ap, subst, ℕ, ◌+◌, ◌-◌, ◌*◌, ◌<◌, ◌≤◌, pos, ◌+ℤ◌, ◌-ℤ◌, List, arith}
+use Rattle.std.proofs.Common.{◌≡◌, ◌⊎◌, inl, inr, refl, ◌∙◌, sym, ap, subst, ℕ, ◌+◌, ◌-◌, ◌*◌, ◌/◌, ◌<◌, ◌≤◌, ℤ, pos, ◌+ℤ◌, ◌-ℤ◌, List, arith}
+use Rattle.fx_fixed.proofs.Order.{below_same_above}
+use Rattle.fx_rows.proofs.Kept.{only_more}
 use Rattle.std.proofs.Math.Nat.{mul-le-mul_right}
 use Rattle.fx_fixed.proofs.Linear.{signed_linear}
 use Rattle.fx_winding.specs.declared.frame.Frame.{Frame}
 use Rattle.fx_winding.specs.Bitmaps.{words_for, word_bit}
 use Rattle.fx_winding.specs.Dropout.{turned_span}
 use Rattle.fx_winding.specs.Meets.{IsMet}
-use Rattle.fx_winding.specs.Notes.{pixel_number, IsMetAcross, IsMetUp, IsNotedAcross, IsNotedUp}
+use Rattle.fx_winding.specs.Notes.{pixel_number, IsMetAcross, IsMetUp, IsNotedAcross, IsNotedUp, IsNoted}
 use Rattle.fx_winding.specs.Winding.{Span, IsOn, centre}
-use Rattle.fx_rows.specs.inner.Segments.{segment_number, AreSetUp, AreSetFrom}
-use Rattle.fx_rows.specs.inner.Telling.{IsPartOf, Way, across_row, up_to_row, IsNotedBy}
+use Rattle.fx_rows.specs.inner.Lines.{AreOnly, IsLineBit, IsRowSet, IsRowsBit}
+use Rattle.fx_rows.specs.inner.Segments.{segment_number, first_number, AreSetAcross, AreSetUp, IsBandBit}
+use Rattle.fx_rows.specs.inner.Telling.{IsPartOf, Way, across_row, up_to_row, IsNotedBy, IsAmong, IsMetByOne, AreMetBySome}
 use Rattle.fx_rows.specs.inner.Told.{AreKept}
 
 -- ---- what stays noted
-pub across_kept : (s : Span) (f : Frame) (r : ℕ) (a b : List ℕ) → IsNotedAcross s f a r → AreKept a b → IsNotedAcross s f b r
-across_kept s f r a b h kept k l m = kept (pixel_number f r k) (h k l m)
-
-pub from_kept : (from : ℕ) (s : Span) (f : Frame) (r : ℕ) (a b : List ℕ) → AreSetFrom from s f a r → AreKept a b
-    → AreSetFrom from s f b r
-from_kept from s f r a b h kept k l m = kept (pixel_number f (r - from) k) (h k l m)
-
 pub up_kept : (s : Span) (f : Frame) (below r : ℕ) (a b : List ℕ) → AreSetUp s f below a r → AreKept a b → AreSetUp s f below b r
 up_kept s f below r a b h kept k l m = kept (segment_number f below r k) (h k l m)
 
@@ -28,6 +24,12 @@ pub noted_kept : (f : Frame) (a b u v : List ℕ) (s : Span) (w : Way) (r : ℕ)
     → IsNotedBy f b v s w r
 noted_kept f a b u v s across_row r across up h = λ k l m. across (pixel_number f r k) (h k l m)
 noted_kept f a b u v s up_to_row r across up h = λ k l m. up (pixel_number f r k) (h k l m)
+
+pub all_kept : (s : Span) (f : Frame) (a b u v : List ℕ) → AreKept a b → AreKept u v → IsNoted s f a u → IsNoted s f b v
+all_kept s f a b u v across up h = record {
+  across = λ r l k m met. across (pixel_number f r k) (h.across r l k m met);
+  up = λ r l k m met. up (pixel_number f r k) (h.up r l k m met);
+}
 
 -- ---- a row of the band is one of the frame
 -- g is the rows of the frame f from one on, and r a row of g
@@ -81,27 +83,24 @@ room_before from h w all l =
     let both : (from + h) * w ≡ from * w + h * w = omega arith in
     omega (arith, m, both)
 
-pub room_across : (f : Frame) (from to below n m : ℕ) → from ≤ to → to ≤ f.height → below ≡ from * words_for f.width
-    → n ≡ (to - from) * words_for f.width + 1 → m ≡ f.height * words_for f.width + 1 → below + n ≤ m
-room_across f from to below n m o l e here all =
-    let r = room_before from (to - from) (words_for f.width) f.height (omega arith) in
-    omega (arith, r, e, here, all)
-
--- a band has the bits of its rows and one more word
-pub band_words : (f g : Frame) (from to n : ℕ) → IsPartOf f from to g → n ≡ g.height * words_for g.width + 1
-    → n ≡ (to - from) * words_for f.width + 1
-band_words f g from to n part e =
+pub room_rows : (f g : Frame) (from to below n : ℕ) → IsPartOf f from to g → below ≡ from * words_for f.width
+    → n ≡ f.height * words_for f.width + 1 → below + g.height * words_for g.width < n
+room_rows f g from to below n part e all =
     let high = part.height in
-    let rows : g.height ≡ to - from = omega (arith, high) in
-    e ∙ (λ i. rows i * words_for (part.width i) + 1)
+    let l = part.within in
+    let m = room_before from g.height (words_for f.width) f.height (omega (arith, high, l)) in
+    let same = ap (λ w. g.height * words_for w) part.width in
+    omega (arith, m, same, e, all)
 
-pub room_band : (f g : Frame) (from to n : ℕ) → IsPartOf f from to g → n ≡ (to - from) * words_for f.width + 1
-    → g.height * words_for g.width < n
-room_band f g from to n part e =
-    let high = part.height in
-    let rows : to - from ≡ g.height = omega (arith, high) in
-    let same : (to - from) * words_for f.width ≡ g.height * words_for g.width = λ i. rows i * words_for (sym part.width i) in
-    omega (arith, same, e)
+-- the word of a segment's bit
+pub bit_room : (below r h width k n i : ℕ) → r < h → k ≤ width → below + h * words_for width < n
+    → i ≡ 32 * below + r * (32 * words_for width) + k → i / 32 < n
+bit_room below r h width k n i l m room e =
+    let rows : (r + 1) * words_for width ≤ h * words_for width = mul-le-mul_right (words_for width) (omega (arith, l)) in
+    let next : (r + 1) * words_for width ≡ r * words_for width + words_for width = omega arith in
+    let all : r * (32 * words_for width) ≡ 32 * (r * words_for width) = omega arith in
+    let long : i < 32 * n = omega (arith, rows, next, all, room, e, m) in
+    omega (arith, long)
 
 pub room_up : (f g : Frame) (from to below n : ℕ) → IsPartOf f from to g → below ≡ from * words_for f.width
     → n ≡ (f.height + 1) * words_for f.width → below + (g.height + 1) * words_for g.width ≤ n
@@ -112,33 +111,7 @@ room_up f g from to below n part e all =
     let same = ap (λ w. (g.height + 1) * words_for w) part.width in
     omega (arith, m, same, e, all)
 
--- ---- all rows of the band
-pub across_from : (s : Span) (f g : Frame) (from to : ℕ) (across : List ℕ) → IsPartOf f from to g
-    → ((r : ℕ) → r < g.height → IsNotedAcross s g across r) → (r : ℕ) → from ≤ r → r < to → AreSetFrom from s f across r
-across_from s f g from to across part h r l m k w met =
-    let high = part.height in
-    let same : r ≡ from + (r - from) = omega (arith, l) in
-    subst (λ (x : ℕ). word_bit across ((r - from) * (32 * words_for x) + k) ≡ 1) part.width
-    (h (r - from) (omega (arith, high, l, m)) k (subst (λ (x : ℕ). k ≤ x) (sym part.width) w)
-    (met_across s f g from to (r - from) k part (subst (λ (x : ℕ). IsMetAcross s f x k) same met)))
-
--- the bits of the band's rows among those of all rows
-pub across_whole : (s : Span) (f : Frame) (from below r : ℕ) (bits across : List ℕ) → below ≡ from * words_for f.width → from ≤ r
-    → ((n : ℕ) → word_bit bits n ≡ 1 → word_bit across (32 * below + n) ≡ 1) → AreSetFrom from s f bits r
-    → IsNotedAcross s f across r
-across_whole s f from below r bits across e l set h k w met =
-    subst (λ (n : ℕ). word_bit across n ≡ 1) (at (words_for f.width) e) (set (pixel_number f (r - from) k) (h k w met))
-  where
-    rows : (i j w : ℕ) → 32 * (i * w) + (j * (32 * w) + k) ≡ (i + j) * (32 * w) + k
-    rows i j w = omega arith
-
-    at : (w : ℕ) → below ≡ from * w → 32 * below + ((r - from) * (32 * w) + k) ≡ r * (32 * w) + k
-    at w is =
-        let same : from + (r - from) ≡ r = omega (arith, l) in
-        ap (λ (x : ℕ). 32 * x + ((r - from) * (32 * w) + k)) is ∙ rows from (r - from) w
-        ∙ ap (λ (x : ℕ). x * (32 * w) + k) same
-
--- and the number after the highest
+-- ---- all rows of the band, and the number after the highest
 pub up_whole : (s : Span) (f g : Frame) (from to below : ℕ) (up : List ℕ) → IsPartOf f from to g
     → below ≡ from * words_for f.width → ((r : ℕ) → r ≤ g.height → AreSetUp s g below up r)
     → (r : ℕ) → from ≤ r → r ≤ to → IsNotedUp s f up r
@@ -147,3 +120,94 @@ up_whole s f g from to below up part e h r l m =
     let same : from + (r - from) ≡ r = omega (arith, l) in
     subst (IsNotedUp s f up) same
     (up_at s f g from to below (r - from) up part e (h (r - from) (omega (arith, high, l, m))))
+
+-- ---- the segments across a band's rows, with their numbers among those of the whole frame
+pub set_across : (s : Span) (f : Frame) (below r : ℕ) (bits : List ℕ)
+    → IsRowSet s f (f.bottom +ℤ pos r) (first_number f below r) 1 bits → AreSetAcross s f below bits r
+set_across s f below r bits h k l met =
+    let e : first_number f below r + k * 1 ≡ segment_number f below r k = omega arith in
+    subst (λ (n : ℕ). word_bit bits n ≡ 1) e (h k l met.met)
+
+pub set_across_kept : (s : Span) (f : Frame) (below r : ℕ) (a b : List ℕ) → AreKept a b → AreSetAcross s f below a r
+    → AreSetAcross s f below b r
+set_across_kept s f below r a b kept h k l met = kept (segment_number f below r k) (h k l met)
+
+across_at : (s : Span) (f g : Frame) (from to below r : ℕ) (across : List ℕ) → IsPartOf f from to g
+    → below ≡ from * words_for f.width → AreSetAcross s g below across r → IsNotedAcross s f across (from + r)
+across_at s f g from to below r across part e h k l m =
+    subst (λ n. word_bit across n ≡ 1) (number_whole f g from to below r k part e)
+    (h k (subst (λ (w : ℕ). k ≤ w) (sym part.width) l) (met_across s f g from to r k part m))
+
+pub across_rows : (s : Span) (f g : Frame) (from to below : ℕ) (across : List ℕ) → IsPartOf f from to g
+    → below ≡ from * words_for f.width → ((r : ℕ) → r < g.height → AreSetAcross s g below across r)
+    → (r : ℕ) → from ≤ r → r < to → IsNotedAcross s f across r
+across_rows s f g from to below across part e h r l m =
+    let high = part.height in
+    let same : from + (r - from) ≡ r = omega (arith, l) in
+    subst (IsNotedAcross s f across) same
+    (across_at s f g from to below (r - from) across part e (h (r - from) (omega (arith, high, l, m))))
+
+-- ---- the bits are of segments that some piece meets
+same_place : (w r q k j : ℕ) → 0 < k → k < w → j ≤ w → r * w + k ≡ q * w + j → (r ≡ q) × (k ≡ j)
+same_place w r q k j o l m e = by (below_same_above r q)
+  where
+    by : (r < q) ⊎ ((r ≡ q) ⊎ (q < r)) → (r ≡ q) × (k ≡ j)
+    by (inl a) =
+        let n : (r + 1) * w ≤ q * w = mul-le-mul_right w (omega (arith, a)) in
+        let next : (r + 1) * w ≡ r * w + w = omega arith in
+        absurd (omega (arith, n, next, e, l))
+    by (inr (inl a)) = let same = ap (λ (x : ℕ). x * w) a in (a, omega (arith, same, e))
+    by (inr (inr a)) =
+        let n : (q + 1) * w ≤ r * w = mul-le-mul_right w (omega (arith, a)) in
+        let next : (q + 1) * w ≡ q * w + w = omega arith in
+        absurd (omega (arith, n, next, e, m, o))
+
+met_moved : (s : Span) (x x' y y' : ℤ) (k k' : ℕ) → x ≡ x' → y ≡ y' → k ≡ k'
+    → (¬ (IsOn (centre ((x -ℤ pos 1) +ℤ pos k) y) s) → ¬ (IsOn (centre (x +ℤ pos k) y) s)
+    → IsMet (centre ((x -ℤ pos 1) +ℤ pos k) y) (centre (x +ℤ pos k) y) s)
+    → ¬ (IsOn (centre ((x' -ℤ pos 1) +ℤ pos k') y') s) → ¬ (IsOn (centre (x' +ℤ pos k') y') s)
+    → IsMet (centre ((x' -ℤ pos 1) +ℤ pos k') y') (centre (x' +ℤ pos k') y') s
+met_moved s x x' y y' k k' ex ey ek h = subst (λ z. z)
+    (λ i. ¬ (IsOn (centre ((ex i -ℤ pos 1) +ℤ pos (ek i)) (ey i)) s) → ¬ (IsOn (centre (ex i +ℤ pos (ek i)) (ey i)) s)
+    → IsMet (centre ((ex i -ℤ pos 1) +ℤ pos (ek i)) (ey i)) (centre (ex i +ℤ pos (ek i)) (ey i)) s) h
+
+pub some_more : (s : Span) (ss : List Span) (f g : Frame) (from to below : ℕ) (a b : List ℕ) → IsPartOf f from to g
+    → below ≡ from * words_for f.width → IsAmong s ss → AreOnly (IsBandBit s g below) a b → AreMetBySome f a ss
+    → AreMetBySome f b ss
+some_more s ss f g from to below a b part e among only old r k h o l set = by (only (pixel_number f r k) set)
+  where
+    by : (word_bit a (pixel_number f r k) ≡ 1) ⊎ IsBandBit s g below (pixel_number f r k) → IsMetByOne ss f r k
+    by (inl was) = old r k h o l was
+    by (inr new) =
+        let line = new.line in
+        let high = part.height in
+        let wide = ap words_for part.width in
+        let fits : line.k ≤ f.width = subst (λ (w : ℕ). line.k ≤ w) part.width line.within in
+        let number : 32 * below + new.r * (32 * words_for g.width) + line.k * 1 ≡ segment_number g below new.r line.k = omega arith in
+        let whole : r * (32 * words_for f.width) + k ≡ (from + new.r) * (32 * words_for f.width) + line.k =
+        line.at ∙ number ∙ number_whole f g from to below new.r line.k part e in
+        let place = same_place (32 * words_for f.width) r (from + new.r) k line.k o (omega (arith, l)) (omega (arith, fits)) whole in
+        let row : g.bottom +ℤ pos new.r ≡ f.bottom +ℤ pos r =
+        sym (row_whole f g from to new.r part) ∙ ap (λ (n : ℕ). f.bottom +ℤ pos n) (sym place.0) in
+        let is = place.1 in
+        record {
+          piece = s;
+          among = among;
+          met = met_moved s g.left f.left (g.bottom +ℤ pos new.r) (f.bottom +ℤ pos r) line.k k part.left row (sym is)
+              (line.met (omega (arith, is, o)) (subst (λ (w : ℕ). line.k < w) (sym part.width) (omega (arith, is, l))));
+        }
+
+-- the same of all rows of a frame
+pub some_more_rows : (s : Span) (ss : List Span) (f : Frame) (a b : List ℕ) → IsAmong s ss
+    → AreOnly (IsRowsBit s f (32 * words_for f.width) 1) a b → AreMetBySome f a ss → AreMetBySome f b ss
+some_more_rows s ss f a b among only =
+    some_more s ss f f 0 f.height 0 a b
+    (record { left = refl; bottom = omega (arith, signed_linear); width = refl; height = omega arith; within = omega arith }) (omega arith) among
+    (only_more (IsRowsBit s f (32 * words_for f.width) 1) (IsBandBit s f 0) a b (λ n h. record {
+      r = h.r;
+      row = h.row;
+      line = subst (λ (i : ℕ). IsLineBit s f (f.bottom +ℤ pos h.r) i 1 n) (number h.r) h.line;
+    }) only)
+  where
+    number : (r : ℕ) → r * (32 * words_for f.width) ≡ first_number f 0 r
+    number r = omega arith

@@ -10,7 +10,7 @@ use Rattle.fx_fixed.proofs.Linear.{signed_linear}
 use Rattle.fx_winding.specs.declared.frame.Frame.{Frame}
 use Rattle.fx_winding.specs.Area.{Place}
 use Rattle.fx_winding.specs.Meets.{turn}
-use Rattle.fx_winding.specs.Notes.{IsNotedUp, IsNoted}
+use Rattle.fx_winding.specs.Notes.{AreExact, IsNotedUp, IsNoted}
 use Rattle.fx_winding.specs.Outside.{HasAll}
 use Rattle.fx_winding.specs.Winding.{Span, IsOn, centre}
 use Rattle.fx_rows.specs.declared.heights.Met.{Met}
@@ -22,7 +22,7 @@ use Rattle.fx_rows.specs.inner.Placing.{AreMet}
 use Rattle.fx_rows.specs.inner.Points.{IsInner, IsRise}
 use Rattle.fx_rows.specs.inner.Sides.{place_at}
 use Rattle.fx_rows.specs.inner.Told.{rise_value, IsEnd}
-use Rattle.fx_rows.specs.inner.Telling.{IsRowTold, AreRowsTold, IsPartOf, AreRowsNoted, AreNotedIn, IsNotedBy}
+use Rattle.fx_rows.specs.inner.Telling.{AreMetBySome, IsRowTold, AreRowsTold, IsPartOf, AreRowsNoted, AreNotedIn, IsNotedBy}
 use Rattle.fx_rows.specs.inner.Telling.{Way, across_row, up_to_row}
 
 -- ---- the end of one row
@@ -78,13 +78,6 @@ told_next T U s f from up n h kept here is = record { rows = λ r l m i. by r l 
 pub told_end : (T : ℕ → ℕ → Type 0) (s : Span) (f : Frame) (from up end : ℕ) → up ≡ end → AreRowsTold T s f from up
     → AreRowsTold T s f from end
 told_end T s f from up end e h = subst (λ (n : ℕ). AreRowsTold T s f from n) e h
-
--- what is told is told in another way too
-pub told_also : (T U : ℕ → ℕ → Type 0) (s : Span) (f : Frame) (from to : ℕ) → ((r n : ℕ) → T r n → U r n)
-    → AreRowsTold T s f from to → AreRowsTold U s f from to
-told_also T U s f from to also h = record {
-  rows = λ r l m i. let t = h.rows r l m i in record { end = t.end; told = also r t.end t.told; is = t.is };
-}
 
 -- rows that are not between the ends, below and above
 pub told_beside : (T : ℕ → ℕ → Type 0) (s : Span) (f : Frame) (from low high to : ℕ)
@@ -165,11 +158,6 @@ met_same s f g h from to m a b is = record {
 }
 
 -- ---- the pieces that are noted
--- one fact of the segments across a row, and another of those up to it
-abbrev pub by_way : (Span → ℕ → Type 0) → (Span → ℕ → Type 0) → Span → Way → ℕ → Type 0
-by_way P Q s across_row r = P s r
-by_way P Q s up_to_row r = Q s r
-
 -- no piece yet
 pub noted_start : (P : Span → Way → ℕ → Type 0) (ss : List Span) (f : Frame) (from to : ℕ) → AreNotedIn P (take 0 ss) f from to
 noted_start P ss f from to k d h = absurd (omega (arith, h))
@@ -212,19 +200,21 @@ noted_both P Q ss f from mid to kept a b k d l = record {
     up r m n (inl o) = kept (get_or ss k d) up_to_row r ((a k d l).up r m o)
     up r m n (inr o) = (b k d l).up r o n
 
--- all rows
-pub noted_frame : (f : Frame) (rows columns : List ℕ) (ss : List Span)
-    → AreNotedIn (IsNotedBy f rows columns) ss f 0 f.height → All (λ s. IsNoted s f rows columns) ss
-noted_frame f rows columns ss h k d l = record {
-  across = λ r m. (h k d l).across r (omega arith) m;
+-- the same, but for pieces that are noted apart
+pub noted_unless : (B : Span → Type 0) (f : Frame) (rows columns : List ℕ) (ss : List Span)
+    → AreNotedIn (λ s w r. ¬ (B s) → IsNotedBy f rows columns s w r) ss f 0 f.height
+    → All (λ s. ¬ (B s) → IsNoted s f rows columns) ss
+noted_unless B f rows columns ss h k d l apart = record {
+  across = λ r m. (h k d l).across r (omega arith) m apart;
   up = λ r m. by r m (below_or_not r f.height);
 }
   where
-    s : Span
-    s = get_or ss k d
-
-    by : (r : ℕ) → r ≤ f.height → (r < f.height) ⊎ (f.height ≤ r) → IsNotedUp s f columns r
-    by r m (inl o) = (h k d l).up r (omega arith) o
+    by : (r : ℕ) → r ≤ f.height → (r < f.height) ⊎ (f.height ≤ r) → IsNotedUp (get_or ss k d) f columns r
+    by r m (inl o) = (h k d l).up r (omega arith) o apart
     by r m (inr o) =
         let e : f.height ≡ r = omega (arith, m, o) in
-        subst (IsNotedUp s f columns) e ((h k d l).top refl)
+        subst (IsNotedUp (get_or ss k d) f columns) e ((h k d l).top refl apart)
+
+-- what is noted across rows is exact
+pub exact_of : (f : Frame) (across : List ℕ) (ss : List Span) → AreMetBySome f across ss → AreExact f across ss
+exact_of f across ss h r k l o m e = let p = h r k l o m e in (p.among.at, p.piece, p.among.inside, p.among.is, p.met)

@@ -15,3 +15,5 @@ pub mod Telling
 pub mod Placing
 pub mod Segments
 pub mod Upward
+pub mod Lines
+pub mod Bulging

@@ -1,9 +1,7 @@
 //! What a piece adds to a band of rows.
 
 ghost use Rattle.std.specs.Prelude.{◌≡◌, ℕ, ◌+◌, ◌-◌, ◌*◌, ◌^◌, ◌<◌, ◌≤◌, pos, ◌+ℤ◌, Some};
-ghost use Rattle.fx_winding.specs.Bitmaps.{word_bit};
 ghost use Rattle.fx_winding.specs.Winding.{Span, span_of};
-ghost use Rattle.fx_winding.specs.declared.frame.Frame.{Frame};
 ghost use Rattle.fx_rows.specs.inner.Arcs.{AreAreas};
 ghost use Rattle.fx_rows.specs.inner.Heights.{height_of};
 ghost use Rattle.fx_rows.specs.inner.Placing.{AreMet};
@@ -13,8 +11,7 @@ ghost use Rattle.fx_rows.specs.inner.Inside.{IsOnInside};
 ghost use Rattle.fx_rows.specs.inner.Cuts.{IsCut};
 ghost use Rattle.fx_rows.specs.inner.Sums.{AreWithin};
 ghost use Rattle.fx_rows.specs.inner.Bands.{stride, AreInner, IsRowAdded, IsBandAdded, bounded_span};
-ghost use Rattle.fx_rows.specs.inner.Telling.{AreRowsTold, Way};
-ghost use Rattle.fx_rows.specs.inner.Told.{IsEndSet};
+ghost use Rattle.fx_rows.specs.inner.Telling.{AreRowsTold, Subject, Way};
 
 use crate::arc::total_of;
 use crate::band::Band;
@@ -81,8 +78,7 @@ fn add_met_rows(piece: &Piece, rows: RowRange, band: &mut Band, tally: &mut Tall
     }
 }
 
-/// Adds a cut to the counts and the marks of its row, in which `end` columns come before its end, where the bit of a difference is
-/// set.
+/// Adds a cut to the counts and the marks of its row, in which `end` columns come before its end.
 #[inline(always)]
 fn add_cut(band: &mut Band, up: u32, strip: Strip, end: u32, cut: Cut)
     requires up { up < band.old.frame.height }
@@ -95,7 +91,6 @@ fn add_cut(band: &mut Band, up: u32, strip: Strip, end: u32, cut: Cut)
     ensures frame { band.new.frame ≡ band.old.frame }
     ensures added { (s : Span) → IsCut s strip cut →
         IsRowAdded s band.old.frame strip.row (up * stride band.old.frame.width) band.old band.new }
-    ensures set { word_bit band.new.touched.items (up * stride band.old.frame.width + end) ≡ 1 }
 {
     let frame = band.frame;
     let first = band.first_of(up);
@@ -124,10 +119,9 @@ fn add_cuts<C: Cuts + Drop, N: Noting>(
     requires small { AreWithin (2 ^ 25 + 4 * rows.first) band.old.diff.items }
     ensures frame { band.new.frame ≡ band.old.frame }
     ensures added { IsBandAdded (bounded_span bounded.now) band.old.frame rows.first rows.end band.old band.new }
-    ensures of { (f : Frame) → N.IsOf noter.old f → N.IsOf noter.new f }
+    ensures of { (t : Subject) → N.IsOf noter.old t → N.IsOf noter.new t }
     ensures kept { (s : Span) (w : Way) (r : ℕ) → N.IsNotedAt noter.old s w r → N.IsNotedAt noter.new s w r }
-    ensures told { AreRowsTold (IsEndSet (N.IsTold noter.new) band.old.frame.width band.new.touched.items)
-        (bounded_span bounded.now) band.old.frame rows.first rows.end }
+    ensures told { AreRowsTold (N.IsTold noter.new) (bounded_span bounded.now) band.old.frame rows.first rows.end }
     ensures count { tally.new.count ≤ tally.old.count + (rows.end - rows.first) }
 {
     let mut cuts = cuts;
@@ -158,10 +152,9 @@ fn add_curve_rows<N: Noting>(
     requires small { AreWithin (2 ^ 25 + 4 * rows.first) band.old.diff.items }
     ensures frame { band.new.frame ≡ band.old.frame }
     ensures added { IsBandAdded (bounded_span bounded.now) band.old.frame rows.first rows.end band.old band.new }
-    ensures of { (f : Frame) → N.IsOf noter.old f → N.IsOf noter.new f }
+    ensures of { (t : Subject) → N.IsOf noter.old t → N.IsOf noter.new t }
     ensures kept { (s : Span) (w : Way) (r : ℕ) → N.IsNotedAt noter.old s w r → N.IsNotedAt noter.new s w r }
-    ensures told { AreRowsTold (IsEndSet (N.IsTold noter.new) band.old.frame.width band.new.touched.items)
-        (bounded_span bounded.now) band.old.frame rows.first rows.end }
+    ensures told { AreRowsTold (N.IsTold noter.new) (bounded_span bounded.now) band.old.frame rows.first rows.end }
     ensures count { tally.new.count ≤ tally.old.count + 10 * (rows.end - rows.first) }
 {
     if total_of(areas) == 0 {
@@ -185,10 +178,9 @@ fn add_inner_rows<N: Noting>(
     requires small { AreWithin (2 ^ 25 + 4 * rows.first) band.old.diff.items }
     ensures frame { band.new.frame ≡ band.old.frame }
     ensures added { IsBandAdded (bounded_span bounded.now) band.old.frame rows.first rows.end band.old band.new }
-    ensures of { (f : Frame) → N.IsOf noter.old f → N.IsOf noter.new f }
+    ensures of { (t : Subject) → N.IsOf noter.old t → N.IsOf noter.new t }
     ensures kept { (s : Span) (w : Way) (r : ℕ) → N.IsNotedAt noter.old s w r → N.IsNotedAt noter.new s w r }
-    ensures told { AreRowsTold (IsEndSet (N.IsTold noter.new) band.old.frame.width band.new.touched.items)
-        (bounded_span bounded.now) band.old.frame rows.first rows.end }
+    ensures told { AreRowsTold (N.IsTold noter.new) (bounded_span bounded.now) band.old.frame rows.first rows.end }
     ensures count { tally.new.count ≤ tally.old.count + 12 * (rows.end - rows.first) }
 {
     if bounded.across.end <= bounded.across.first {
@@ -215,10 +207,9 @@ fn add_met_piece<N: Noting>(
     requires small { AreWithin (2 ^ 25 + 4 * rows.first) band.old.diff.items }
     ensures frame { band.new.frame ≡ band.old.frame }
     ensures added { IsBandAdded (span_of piece.now) band.old.frame rows.first rows.end band.old band.new }
-    ensures of { (f : Frame) → N.IsOf noter.old f → N.IsOf noter.new f }
+    ensures of { (t : Subject) → N.IsOf noter.old t → N.IsOf noter.new t }
     ensures kept { (s : Span) (w : Way) (r : ℕ) → N.IsNotedAt noter.old s w r → N.IsNotedAt noter.new s w r }
-    ensures told { AreRowsTold (IsEndSet (N.IsTold noter.new) band.old.frame.width band.new.touched.items)
-        (span_of piece.now) band.old.frame rows.first rows.end }
+    ensures told { AreRowsTold (N.IsTold noter.new) (span_of piece.now) band.old.frame rows.first rows.end }
     ensures from { rows.first ≤ result.first }
     ensures to { result.end ≤ rows.end }
     ensures inner { (r : ℕ) → result.first ≤ r → r < result.end →
@@ -255,10 +246,9 @@ pub(crate) fn add_piece<N: Noting>(
     requires small { AreWithin (2 ^ 25) band.old.diff.items }
     ensures frame { band.new.frame ≡ band.old.frame }
     ensures added { IsBandAdded (span_of piece.now) band.old.frame 0 band.old.frame.height band.old band.new }
-    ensures of { (f : Frame) → N.IsOf noter.old f → N.IsOf noter.new f }
+    ensures of { (t : Subject) → N.IsOf noter.old t → N.IsOf noter.new t }
     ensures kept { (s : Span) (w : Way) (r : ℕ) → N.IsNotedAt noter.old s w r → N.IsNotedAt noter.new s w r }
-    ensures told { AreRowsTold (IsEndSet (N.IsTold noter.new) band.old.frame.width band.new.touched.items)
-        (span_of piece.now) band.old.frame 0 band.old.frame.height }
+    ensures told { AreRowsTold (N.IsTold noter.new) (span_of piece.now) band.old.frame 0 band.old.frame.height }
     ensures met { AreMet (span_of piece.now) band.old.frame result }
     ensures count { tally.new.count ≤ tally.old.count + 12 * band.old.frame.height }
 {

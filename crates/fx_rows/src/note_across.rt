@@ -1,52 +1,36 @@
-//! The segments of a band's rows that a piece meets, noted as bits, each by its right end. The bits are numbered like the band's
-//! pixels.
+//! The segments of a band's rows that a piece meets, noted as bits, each by its right end.
 //!
-//! In a row between its ends a piece meets one segment, that which goes to the column where its columns end. Its bit is set
-//! already, since the counts change there. In a row on which it rests, or from which it hangs, it meets the one that its end is on.
-//! In the other rows that it can touch all segments of its box are noted, more than it meets.
+//! In a row between its ends a piece meets one segment, that which goes to the column where its columns end, and its bit is set. In
+//! the few other rows that it can touch the segments are tested that it can meet.
 
-ghost use Rattle.std.specs.Prelude.{◌≡◌, ℕ, ◌+◌, ◌*◌, ◌^◌, ◌<◌, ◌≤◌, length, IsTrue, pos, ◌+ℤ◌, ◌<ℤ◌, ◌≤ℤ◌};
+ghost use Rattle.std.specs.Prelude.{◌≡◌, ℕ, ◌+◌, ◌-◌, ◌*◌, ◌^◌, ◌<◌, ◌≤◌, length, IsTrue, pos, ◌+ℤ◌, ◌<ℤ◌, ◌≤ℤ◌};
 ghost use Rattle.fx_fixed.specs.Ranges.{IsWithin};
 ghost use Rattle.fx_winding.specs.Bitmaps.{words_for as words_for_of, word_bit};
-ghost use Rattle.fx_winding.specs.Notes.{pixel_number, IsMetAcross, IsNotedAcross};
+ghost use Rattle.fx_winding.specs.Notes.{IsMetAcross};
 ghost use Rattle.fx_winding.specs.Winding.{Span, span_of};
+ghost use Rattle.fx_rows.specs.inner.Bands.{bounded_span};
 ghost use Rattle.fx_rows.specs.inner.Heights.{height_of};
+ghost use Rattle.fx_rows.specs.inner.Lines.{AreOnly};
 ghost use Rattle.fx_rows.specs.inner.Placing.{IsPlaced};
 ghost use Rattle.fx_rows.specs.inner.Points.{IsInner};
+ghost use Rattle.fx_rows.specs.inner.Segments.{segment_number, AreSetAcross, IsBandBit};
 ghost use Rattle.fx_rows.specs.inner.Telling.{AreRowsTold};
-ghost use Rattle.fx_rows.specs.inner.Told.{IsEnd, IsEndBit, AreKept};
+ghost use Rattle.fx_rows.specs.inner.Told.{IsEnd, IsEndIn, AreKept};
 ghost use Rattle.fx_rows.specs.inner.Upward.{column_of};
 
 use crate::across::Across;
-use crate::bounded::{foot_x, head_x};
-use crate::heights::{RowRange, hangs_from, rests_on};
-use crate::marks::set_bits;
-use crate::placed::Placed;
-use crate::reach::{Reach, columns_under};
+use crate::bounded::{Bounded, bounds_of, rise_of};
+use crate::bulge::note_line;
+use crate::heights::RowRange;
+use crate::line::Line;
+use crate::placed::{Placed, first_of};
+use crate::reach::columns_under;
 use crate::strip::row_of;
-use fx_winding::{Frame, Piece, first_from, words_for};
-
-/// Notes the segments of a row from that to one column to that to another.
-#[inline(always)]
-fn note_segments(placed: Placed, up: u32, segments: Reach, across: &mut [u32])
-    requires up { up < placed.frame.height }
-    requires order { segments.first ≤ segments.end }
-    requires end { segments.end ≤ placed.frame.width }
-    requires room { placed.frame.height * words_for_of placed.frame.width < length across.old }
-    ensures set { (k : ℕ) → segments.first ≤ k → k ≤ segments.end → word_bit across.new (pixel_number placed.frame up k) ≡ 1 }
-    ensures kept { AreKept across.old across.new }
-{
-    let first = up as usize * (32 * words_for(placed.frame.width));
-    set_bits(
-        across,
-        first + segments.first as usize,
-        first + segments.end as usize,
-    );
-}
+use fx_winding::{Frame, Piece, Tally, first_from, set_bit};
 
 /// The first column of a frame whose centres do not lie left of x, or the number of columns.
 #[inline(always)]
-fn column_from(frame: Frame, x: i32) -> u32
+pub(crate) fn column_from(frame: Frame, x: i32) -> u32
     requires { IsWithin (2 ^ 22) x }
     ensures within { result ≤ frame.width }
     ensures before { (k : ℕ) → k < result → column_of frame k <ℤ x }
@@ -55,41 +39,50 @@ fn column_from(frame: Frame, x: i32) -> u32
     columns_under(frame, first_from(x))
 }
 
-/// The segments that a piece can meet in a row that is not between its ends, by the columns to which they go: the one of its lower
-/// end if it rests on the row, the one of its upper end if it hangs from it, and else those of its box.
+/// Notes the segments to the columns where a piece's columns end, in rows between its ends.
 #[inline(always)]
-fn segments_of(piece: &Piece, placed: Placed, up: u32) -> Reach
-    requires up { up < placed.frame.height }
-    requires placed { IsPlaced (span_of piece.now) placed }
-    ensures order { result.first ≤ result.end }
-    ensures end { result.end ≤ placed.frame.width }
-    ensures met { (k : ℕ) → k ≤ placed.frame.width → IsMetAcross (span_of piece.now) placed.frame up k →
-        (result.first ≤ k) × (k ≤ result.end) }
-{
-    let row = row_of(placed.frame, up);
-    if rests_on(piece, row) {
-        let end = column_from(placed.frame, foot_x(piece));
-        return Reach { first: end, end };
-    }
-    if hangs_from(piece, row) {
-        let end = column_from(placed.frame, head_x(piece));
-        return Reach { first: end, end };
-    }
-    placed.reach
-}
-
-/// Notes the segments that a piece can meet in rows that are not between its ends.
-#[inline(always)]
-fn note_rows(piece: &Piece, placed: Placed, rows: RowRange, across: &mut [u32])
-    requires placed { IsPlaced (span_of piece.now) placed }
+fn note_ends(piece: &Piece, placed: Placed, rows: RowRange, ends: &[u32], across: &mut [u32])
     requires rows { rows.end ≤ placed.frame.height }
-    requires room { placed.frame.height * words_for_of placed.frame.width < length across.old }
-    ensures noted { (r : ℕ) → rows.first ≤ r → r < rows.end → IsNotedAcross (span_of piece.now) placed.frame across.new r }
+    requires inner { (r : ℕ) → rows.first ≤ r → r < rows.end →
+        IsInner (span_of piece.now).a.y (span_of piece.now).c.y (height_of placed.frame r) }
+    requires told { AreRowsTold (IsEndIn ends.now) (span_of piece.now) placed.frame 0 placed.frame.height }
+    requires room { placed.below + placed.frame.height * words_for_of placed.frame.width < length across.old }
+    ensures set { (r n : ℕ) → rows.first ≤ r → r < rows.end → IsEndIn ends.now r n →
+        word_bit across.new (segment_number placed.frame placed.below r n) ≡ 1 }
     ensures kept { AreKept across.old across.new }
+    ensures only { AreOnly (IsBandBit (span_of piece.now) placed.frame placed.below) across.old across.new }
 {
     // The segments of the rows before `up` are noted.
     'rows: for up in rows.first..rows.end {
-        note_segments(placed, up, segments_of(piece, placed, up), across);
+        set_bit(across, first_of(placed, up) + ends[up as usize] as usize);
+    }
+}
+
+/// Notes the segments that a piece meets in rows of a band.
+fn note_rows(
+    bounded: &Bounded,
+    placed: Placed,
+    rows: RowRange,
+    across: &mut [u32],
+    tally: &mut Tally,
+)
+    requires rows { rows.end ≤ placed.frame.height }
+    requires room { placed.below + placed.frame.height * words_for_of placed.frame.width < length across.old }
+    ensures noted { (r : ℕ) → rows.first ≤ r → r < rows.end →
+        AreSetAcross (bounded_span bounded.now) placed.frame placed.below across.new r }
+    ensures kept { AreKept across.old across.new }
+    ensures only { AreOnly (IsBandBit (bounded_span bounded.now) placed.frame placed.below) across.old across.new }
+    ensures count { tally.new.count ≤ tally.old.count + 45 * (rows.end - rows.first) }
+{
+    // The segments of the rows before `up` are noted.
+    'rows: for up in rows.first..rows.end {
+        let line = Line {
+            frame: placed.frame,
+            row: row_of(placed.frame, up),
+            first: first_of(placed, up),
+            step: 1,
+        };
+        note_line(bounded, line, across, tally);
     }
 }
 
@@ -121,18 +114,28 @@ fn ended_rows(placed: Placed) -> RowRange
     }
 }
 
-/// Notes the segments that a piece meets across a band's rows. In the rows between the piece's ends the bit of the column where the
-/// piece passes is set already.
-#[inline(always)]
-pub(crate) fn note_across(piece: &Piece, placed: Placed, across: &mut [u32])
-    requires placed { IsPlaced (span_of piece.now) placed }
-    requires set { AreRowsTold (IsEndBit placed.frame.width across.old) (span_of piece.now) placed.frame 0 placed.frame.height }
-    requires room { placed.frame.height * words_for_of placed.frame.width < length across.old }
-    ensures noted { (r : ℕ) → r < placed.frame.height → IsNotedAcross (span_of piece.now) placed.frame across.new r }
+/// Notes the segments that a piece meets across those rows of a band that are before some of the rows that it can touch, or after
+/// them. There are few.
+fn note_others(
+    piece: &Piece,
+    placed: Placed,
+    ended: RowRange,
+    across: &mut [u32],
+    tally: &mut Tally,
+)
+    requires first { placed.met.touched.first ≤ ended.first }
+    requires end { ended.end ≤ placed.met.touched.end }
+    requires room { placed.below + placed.frame.height * words_for_of placed.frame.width < length across.old }
+    ensures below { (r : ℕ) → placed.met.touched.first ≤ r → r < ended.first →
+        AreSetAcross (span_of piece.now) placed.frame placed.below across.new r }
+    ensures above { (r : ℕ) → ended.end ≤ r → r < placed.met.touched.end →
+        AreSetAcross (span_of piece.now) placed.frame placed.below across.new r }
     ensures kept { AreKept across.old across.new }
+    ensures only { AreOnly (IsBandBit (span_of piece.now) placed.frame placed.below) across.old across.new }
+    ensures count { tally.new.count ≤ tally.old.count + 45 * placed.frame.height }
 {
     let touched = placed.met.touched;
-    let ended = ended_rows(placed);
+    let bounded = bounds_of(piece, rise_of(piece));
     let below = RowRange {
         first: touched.first,
         end: ended.first,
@@ -141,6 +144,31 @@ pub(crate) fn note_across(piece: &Piece, placed: Placed, across: &mut [u32])
         first: ended.end,
         end: touched.end,
     };
-    note_rows(piece, placed, below, across);
-    note_rows(piece, placed, above, across);
+    note_rows(&bounded, placed, below, across, tally);
+    note_rows(&bounded, placed, above, across, tally);
+}
+
+/// Notes the segments that a piece meets across a band's rows. `ends` has its column in each row between its ends.
+#[inline(always)]
+pub(crate) fn note_across(
+    piece: &Piece,
+    placed: Placed,
+    ends: &[u32],
+    across: &mut [u32],
+    tally: &mut Tally,
+)
+    requires placed { IsPlaced (span_of piece.now) placed }
+    requires told { AreRowsTold (IsEndIn ends.now) (span_of piece.now) placed.frame 0 placed.frame.height }
+    requires room { placed.below + placed.frame.height * words_for_of placed.frame.width < length across.old }
+    ensures noted { (r : ℕ) → r < placed.frame.height → AreSetAcross (span_of piece.now) placed.frame placed.below across.new r }
+    ensures kept { AreKept across.old across.new }
+    ensures only { AreOnly (IsBandBit (span_of piece.now) placed.frame placed.below) across.old across.new }
+    ensures count { tally.new.count ≤ tally.old.count + 45 * placed.frame.height }
+{
+    let touched = placed.met.touched;
+    let ended = ended_rows(placed);
+    note_ends(piece, placed, ended, ends, across);
+    if touched.first < ended.first || ended.end < touched.end {
+        note_others(piece, placed, ended, across, tally);
+    }
 }

@@ -1,14 +1,16 @@
 //! What pieces meet, noted while they are added to bands.
 
-ghost use Rattle.std.specs.Prelude.{◌≡◌, ◌≢◌, ℕ, ◌+◌, ◌*◌, ◌<◌, ◌≤◌, length, IfOk};
-ghost use Rattle.fx_winding.specs.Bitmaps.{words_for as words_for_of, word_bit};
-ghost use Rattle.fx_winding.specs.Winding.{span_of};
+ghost use Rattle.std.specs.Prelude.{◌≡◌, ◌≢◌, ℕ, ◌+◌, ◌*◌, ◌<◌, ◌≤◌, length, IfOk, List};
+ghost use Rattle.fx_winding.specs.Bitmaps.{words_for as words_for_of};
+ghost use Rattle.fx_winding.specs.Winding.{Span, span_of};
 ghost use Rattle.fx_winding.specs.declared.frame.Frame.{Frame};
+ghost use Rattle.fx_rows.specs.inner.Bulging.{IsBulge};
 ghost use Rattle.fx_rows.specs.inner.Placing.{AreMet, IsPlaced};
-ghost use Rattle.fx_rows.specs.inner.Telling.{IsPartOf, IsNotedBy};
-ghost use Rattle.fx_rows.specs.inner.Told.{IsEndIn, AreKept};
+ghost use Rattle.fx_rows.specs.inner.Telling.{AreMetBySome, IsAbout, IsPartOf, IsNotedBy};
+ghost use Rattle.fx_rows.specs.inner.Told.{IsEndIn};
 
 use crate::band::MOST_ROWS;
+use crate::bulge::is_bulge;
 use crate::heights::{Met, RowRange, band_of};
 use crate::narrow::across_of;
 use crate::note_across::note_across;
@@ -16,10 +18,11 @@ use crate::note_up::note_up;
 use crate::noting::Noting;
 use crate::placed::Placed;
 use crate::reach::reach_of;
-use fx_winding::{Frame, Notes, Piece, words_for};
+use fx_winding::{Frame, Notes, Piece, Tally, words_for};
 use std::alloc::{AllocError, Global};
 
-/// The segments noted so far, and the ends of the rows of the piece that is being added to a band, from the band's lowest.
+/// The segments noted so far, but for those of arcs that bulge, and the ends of the rows of the piece that is being added to a band,
+/// from the band's lowest.
 #[derive(Drop)]
 pub(crate) struct Noter {
     pub notes: Notes,
@@ -30,7 +33,8 @@ pub(crate) struct Noter {
 impl Noter {
     /// Nothing is noted of a frame's segments.
     pub(crate) fn new(alloc: Global, frame: Frame) -> Result<Noter, AllocError>
-        ensures { IfOk result (λ n. n.notes.frame ≡ frame) }
+        ensures frame { IfOk result (λ n. n.notes.frame ≡ frame) }
+        ensures none { (ss : List Span) → IfOk result (λ n. AreMetBySome n.notes.frame n.notes.across.items ss) }
     {
         Ok(Noter {
             notes: Notes::none(alloc, frame)?,
@@ -59,26 +63,14 @@ fn placed_in(piece: &Piece, frame: Frame, rows: RowRange, met: Met) -> Placed
     }
 }
 
-/// Sets the bits that words have, in a list of which these are some from one on.
-fn add_words(list: &mut [u32], from: usize, words: &[u32])
-    requires { from + length words.now ≤ length list.old }
-    ensures set { (n : ℕ) → word_bit words.now n ≡ 1 → word_bit list.new (32 * from + n) ≡ 1 }
-    ensures kept { AreKept list.old list.new }
-{
-    // The bits of the words before w are set.
-    'words: for w in 0..words.len() {
-        list[from + w] |= words[w];
-    }
-}
-
 impl Noting for Noter {
-    ghost IsNoting = { Unit {0} };
+    ghost tests = { 45 };
 
-    ghost IsOf = { λ n f. n.notes.frame ≡ f };
+    ghost IsOf = { λ n t. IsAbout n.notes.frame n.notes.across.items t };
 
     ghost IsTold = { λ n up end. IsEndIn n.ends up end };
 
-    ghost IsNotedAt = { λ n. IsNotedBy n.notes.frame n.notes.across.items n.notes.up.items };
+    ghost IsNotedAt = { λ n s w r. ¬ (IsBulge s) → IsNotedBy n.notes.frame n.notes.across.items n.notes.up.items s w r };
 
     #[inline(always)]
     fn tell(&mut self, up: u32, end: u32) {
@@ -86,14 +78,12 @@ impl Noting for Noter {
     }
 
     #[inline(always)]
-    fn note(&mut self, piece: &Piece, frame: Frame, rows: RowRange, met: Met, touched: &mut [u32]) {
+    fn note(&mut self, piece: &Piece, frame: Frame, rows: RowRange, met: Met, tally: &mut Tally) {
+        if is_bulge(piece) {
+            return;
+        }
         let placed = placed_in(piece, frame, rows, met);
-        note_across(piece, placed, touched);
+        note_across(piece, placed, &self.ends, &mut self.notes.across, tally);
         note_up(piece, placed, &self.ends, &mut self.notes.up);
-    }
-
-    fn note_band(&mut self, touched: &[u32], frame: Frame, rows: RowRange) {
-        let below = rows.first as usize * words_for(frame.width);
-        add_words(&mut self.notes.across, below, touched);
     }
 }

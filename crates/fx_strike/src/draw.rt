@@ -1,5 +1,5 @@
 //! From a glyph's number to its bits.
-ghost use Rattle.std.specs.Prelude.{◌≡◌, ◌≤◌, ◌^◌, pos, unsigned_abs, map, All, IfOk, IfErr};
+ghost use Rattle.std.specs.Prelude.{IsTrue, ◌≡◌, ◌≤◌, ◌^◌, pos, unsigned_abs, map, All, IfOk, IfErr};
 ghost use Rattle.fx_fixed.specs.Numbers.{near_of};
 ghost use Rattle.fx_winding.specs.Winding.{span_of};
 ghost use Rattle.fx_winding.specs.Bitmaps.{IsScanOf};
@@ -7,7 +7,7 @@ ghost use Rattle.fx_winding.specs.Outside.{AreOfOutline};
 ghost use Rattle.fx_contour.specs.Contours.{IsInReach, spans_of};
 ghost use Rattle.fx_contour.specs.Frames.{NothingOutsideFrame};
 ghost use Rattle.fx_winding.specs.Frames.{HasMargin};
-ghost use Rattle.fx_winding.specs.Notes.{IsNoted};
+ghost use Rattle.fx_winding.specs.Notes.{AreExact, IsNoted};
 ghost use Rattle.fx_strike.specs.Strike.{Sketch, IsGlyphOf, setting_with, glyph_sketch_of};
 ghost use Rattle.fx_cache.specs.Cached.{AreDue};
 ghost use Rattle.fx_strike.specs.inner.Drawing.{HasBitsOf, IsBridgedScanOf, IsFramedBy, IsSketchedOf, Draws, due_in};
@@ -80,6 +80,7 @@ fn closed(pieces: &Pieces, noted: Noted, tally: &mut Tally) -> Bitmap
     requires scanned { IsScanOf noted.bitmap.frame (map span_of pieces.now) noted.bitmap }
     requires frame { noted.notes.frame ≡ noted.bitmap.frame }
     requires noted { All (λ s. IsNoted s noted.notes.frame noted.notes.across.items noted.notes.up.items) (map span_of pieces.now) }
+    requires exact { IsTrue noted.notes.exact → AreExact noted.notes.frame noted.notes.across.items (map span_of pieces.now) }
     ensures { IsBridgedScanOf noted.bitmap.frame (map span_of pieces.now) result }
 {
     let mut bitmap = noted.bitmap;

@@ -15,7 +15,7 @@ use Rattle.fx_winding.specs.Winding.{sign, weight_a, weight_b, weight_c, region_
 use Rattle.fx_winding.proofs.Beside.{total_above}
 use Rattle.fx_winding.proofs.Columns.{IsOnRising, end_ahead, end_behind, times_none, weight_up, weight_down}
 use Rattle.fx_winding.proofs.Crossings.{above}
-use Rattle.fx_winding.proofs.Exchanged.{area_turned, sign_area_turned, weight}
+use Rattle.fx_winding.proofs.TurnedAreas.{area_turned, sign_area_turned, weight}
 use Rattle.fx_winding.proofs.HalfAreas.{area_swap, sign_above}
 use Rattle.fx_winding.proofs.Places.{clash}
 use Rattle.fx_winding.proofs.Regions.{IsInRegion, region_in, region_out}

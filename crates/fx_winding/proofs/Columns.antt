@@ -12,7 +12,7 @@ use Rattle.fx_winding.specs.Dropout.{turned_place}
 use Rattle.fx_winding.specs.Winding.{IsBetween, IsInRange, IsOnLine, IsOnFlatArc, chord_crossing}
 use Rattle.fx_winding.proofs.Crossings.{above, crossing_number, area_split_right, left_of_rising, right_of_rising}
 use Rattle.fx_winding.proofs.Crossings.{no_crossing}
-use Rattle.fx_winding.proofs.Exchanged.{area_turned}
+use Rattle.fx_winding.proofs.TurnedAreas.{area_turned}
 use Rattle.fx_winding.proofs.HalfAreas.{area_next}
 use Rattle.fx_winding.proofs.Triangle.{area_expr}
 

@@ -12,7 +12,7 @@ use Rattle.fx_winding.specs.Winding.{Span, sign, weight_b, IsOnPart, IsOn, chord
 use Rattle.fx_winding.proofs.ChordSides.{column_region, regions_on}
 use Rattle.fx_winding.proofs.Columns.{column_crossing, crossings_sum, crossings_none, flat_on, line_on}
 use Rattle.fx_winding.proofs.Crossings.{above}
-use Rattle.fx_winding.proofs.Exchanged.{area_turned, sign_area_turned, weight}
+use Rattle.fx_winding.proofs.TurnedAreas.{area_turned, sign_area_turned, weight}
 use Rattle.fx_winding.proofs.HalfAreas.{area_swap}
 use Rattle.fx_winding.proofs.Meeting.{added_back}
 use Rattle.fx_winding.proofs.Ranges.{by_zero}

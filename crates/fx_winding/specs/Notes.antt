@@ -1,6 +1,6 @@
 -- The segments between neighbouring centres of a frame's rows and columns, noted as bits: those that drop-out control looks at.
 -- More may be noted than pieces meet.
-use Rattle.std.specs.Prelude.{◌≡◌, ℕ, ◌+◌, ◌*◌, ◌≤◌, ◌<◌, pos, ◌+ℤ◌, ◌-ℤ◌, List}
+use Rattle.std.specs.Prelude.{◌≡◌, ℕ, ◌+◌, ◌*◌, ◌≤◌, ◌<◌, pos, ◌+ℤ◌, ◌-ℤ◌, List, Any}
 use Rattle.fx_winding.specs.declared.frame.Frame.{Frame}
 use Rattle.fx_winding.specs.Bitmaps.{words_for, word_bit}
 use Rattle.fx_winding.specs.Dropout.{turned_span}
@@ -38,3 +38,10 @@ IsNotedUp s f up r = (k : ℕ) → k < f.width → IsMetUp s f r k → word_bit 
 pub record IsNoted (s : Span) (f : Frame) (rows columns : List ℕ) : Type 0 where
   pub across : (r : ℕ) → r < f.height → IsNotedAcross s f rows r
   pub up : (r : ℕ) → r ≤ f.height → IsNotedUp s f columns r
+
+-- the bits of a frame's segments across its rows, but for those at its edges, are of such as some piece meets, unless an end is on it
+abbrev pub AreExact : Frame → List ℕ → List Span → Type 0
+AreExact f across ss = (r k : ℕ) → r < f.height → 0 < k → k < f.width → word_bit across (pixel_number f r k) ≡ 1
+    → Any (λ s. ¬ (IsOn (centre ((f.left -ℤ pos 1) +ℤ pos k) (f.bottom +ℤ pos r)) s)
+    → ¬ (IsOn (centre (f.left +ℤ pos k) (f.bottom +ℤ pos r)) s)
+    → IsMet (centre ((f.left -ℤ pos 1) +ℤ pos k) (f.bottom +ℤ pos r)) (centre (f.left +ℤ pos k) (f.bottom +ℤ pos r)) s) ss

@@ -1,7 +1,7 @@
 //! Segments between neighbouring centres, noted as bits.
 
-ghost use Rattle.std.specs.Prelude.{◌≡◌, ◌+◌, ◌*◌, length, replicate, IfOk};
-ghost use Rattle.fx_winding.specs.Bitmaps.{words_for as words_for_of};
+ghost use Rattle.std.specs.Prelude.{◌≡◌, ℕ, ◌+◌, ◌*◌, length, replicate, IfOk, false};
+ghost use Rattle.fx_winding.specs.Bitmaps.{words_for as words_for_of, word_bit};
 ghost use Rattle.fx_winding.specs.Notes.{IsNoted};
 ghost use Rattle.fx_winding.specs.Winding.{Span};
 
@@ -18,14 +18,17 @@ pub struct Notes {
     pub across: Vec<u32>,
     /// The segments of columns, from lower neighbours. They take a row more than the pixels.
     pub up: Vec<u32>,
+    /// Whether of the segments of rows within the frame only such are noted as a piece meets, unless an end of one is on a piece.
+    pub exact: bool,
     ghost across_room: { length across.items ≡ frame.height * words_for_of frame.width + 1 },
     ghost up_room: { length up.items ≡ (frame.height + 1) * words_for_of frame.width },
 }
 
 impl Notes {
-    /// The notes of a frame in which each bit is `set`.
-    fn with_bits(alloc: Global, frame: Frame, bits: u32) -> Result<Notes, AllocError>
+    /// The notes of a frame whose words have these bits.
+    fn with_bits(alloc: Global, frame: Frame, bits: u32, exact: bool) -> Result<Notes, AllocError>
         ensures frame { IfOk result (λ n. n.frame ≡ frame) }
+        ensures exact { IfOk result (λ n. n.exact ≡ exact) }
         ensures across { IfOk result (λ n. n.across.items ≡ replicate (frame.height * words_for_of frame.width + 1) bits) }
         ensures up { IfOk result (λ n. n.up.items ≡ replicate ((frame.height + 1) * words_for_of frame.width) bits) }
     {
@@ -35,22 +38,27 @@ impl Notes {
             frame,
             across: vec![in alloc; bits; rows * words + 1]?,
             up: vec![in alloc; bits; (rows + 1) * words]?,
+            exact,
         })
     }
 
     /// The notes of a frame in which no segment is noted.
     pub fn none(alloc: Global, frame: Frame) -> Result<Notes, AllocError>
         ensures frame { IfOk result (λ n. n.frame ≡ frame) }
+        ensures across { (i : ℕ) → IfOk result (λ n. word_bit n.across.items i ≡ 0) }
+        ensures up { (i : ℕ) → IfOk result (λ n. word_bit n.up.items i ≡ 0) }
     {
-        Notes::with_bits(alloc, frame, 0)
+        let notes = Notes::with_bits(alloc, frame, 0, true)?;
+        Ok(notes)
     }
 
     /// The notes of a frame in which each segment is noted.
     pub fn all(alloc: Global, frame: Frame) -> Result<Notes, AllocError>
         ensures frame { IfOk result (λ n. n.frame ≡ frame) }
+        ensures inexact { IfOk result (λ n. n.exact ≡ false) }
         ensures noted { (s : Span) → IfOk result (λ n. IsNoted s frame n.across.items n.up.items) }
     {
-        let notes = Notes::with_bits(alloc, frame, u32::MAX)?;
+        let notes = Notes::with_bits(alloc, frame, u32::MAX, false)?;
         Ok(notes)
     }
 }

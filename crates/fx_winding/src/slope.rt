@@ -10,7 +10,7 @@ use crate::point::Point;
 
 /// Half of how fast the gap 4uw - v² grows along a row, where u, v and w are the areas of p with an arc's points: it is
 /// 2 ((by - cy) w + (ay - by) u) + (ay - cy) v.
-pub(crate) fn slope(a: Point, b: Point, c: Point, p: Point) -> i128
+pub fn gap_slope(a: Point, b: Point, c: Point, p: Point) -> i128
     ensures value { result ≡ slope_of (place_of a) (place_of b) (place_of c) (place_of p) }
     ensures size { IsWithin (2 ^ 97) result }
 {

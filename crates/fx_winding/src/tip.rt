@@ -7,7 +7,7 @@ ghost use Rattle.fx_winding.specs.Meets.{IsTip};
 use crate::cover::region;
 use crate::point::{Piece, Point};
 use crate::range::reached_y;
-use crate::slope::slope;
+use crate::slope::gap_slope;
 use crate::tally::Tally;
 
 /// Whether the tip of an arc comes between two places of a row.
@@ -22,8 +22,8 @@ pub(crate) fn is_tip(piece: &Piece, b: Point, p: Point, q: Point, tally: &mut Ta
     if region(piece, p.x, p.y, tally) != 0 {
         return false;
     }
-    if slope(piece.a, b, piece.c, p) <= 0 {
+    if gap_slope(piece.a, b, piece.c, p) <= 0 {
         return false;
     }
-    slope(piece.a, b, piece.c, q) < 0
+    gap_slope(piece.a, b, piece.c, q) < 0
 }

@@ -1,11 +1,12 @@
 -- Rows, or columns seen as rows, whose gaps are closed one after the other, in place. The segments of a row are those that lead to
 -- its pixels from their left neighbours, and one more from the last pixel.
-use Rattle.std.specs.Prelude.{◌≡◌, ◌≢◌, ◌⊎◌, ◌↔◌, ℕ, ◌<◌, ◌≤◌, ℤ, pos, ◌+ℤ◌, ◌-ℤ◌, ◌≤ℤ◌, ◌<ℤ◌, Bool, IsTrue, List}
+use Rattle.std.specs.Prelude.{◌≡◌, ◌≢◌, ◌⊎◌, ◌↔◌, ℕ, ◌<◌, ◌≤◌, ℤ, pos, ◌+ℤ◌, ◌-ℤ◌, ◌≤ℤ◌, ◌<ℤ◌, Bool, IsTrue, List, Any}
 use Rattle.fx_winding.specs.declared.frame.Frame.{Frame}
 use Rattle.fx_winding.specs.Bitmaps.{Bits, word_bit}
 use Rattle.fx_winding.specs.Dropout.{IsGap, IsBridged}
 use Rattle.fx_winding.specs.Frames.{IsFrom, IsInFrame}
-use Rattle.fx_winding.specs.Winding.{Span, IsCovered}
+use Rattle.fx_winding.specs.Meets.{IsMet}
+use Rattle.fx_winding.specs.Winding.{Span, IsCovered, centre}
 use Rattle.fx_dropout.specs.inner.Turned.{seen_bit, seen_centre, IsSeenInFrame}
 
 -- what is set so far: the bits of a bitmap, and outside its frame f the pixels whose centres are covered
@@ -59,3 +60,9 @@ IsRowNoted ss f j Old noted = (k : ℕ) → k ≤ f.width → IsGap ss Old ((f.l
 -- each gap of the frame's columns, seen as rows, between i and i + 1 has its bit
 abbrev pub IsLevelNoted : List Span → Frame → ℤ → (ℤ → ℤ → Type 0) → List ℕ → Type 0
 IsLevelNoted ss f i Old noted = (k : ℕ) → k < f.width → IsGap ss Old i (f.left +ℤ pos k) → word_bit noted k ≡ 1
+
+-- the bits of a row's segments, but for those at the edges of the frame, are of such as a piece meets, if neither pixel is set
+abbrev pub IsRowExact : List Span → Frame → ℤ → (ℤ → ℤ → Type 0) → List ℕ → Type 0
+IsRowExact ss f j Old noted = (k : ℕ) → 0 < k → k < f.width → word_bit noted k ≡ 1 → ¬ (Old ((f.left -ℤ pos 1) +ℤ pos k) j)
+    → ¬ (Old (((f.left -ℤ pos 1) +ℤ pos k) +ℤ pos 1) j)
+    → Any (IsMet (centre ((f.left -ℤ pos 1) +ℤ pos k) j) (centre (((f.left -ℤ pos 1) +ℤ pos k) +ℤ pos 1) j)) ss

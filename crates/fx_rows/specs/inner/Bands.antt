@@ -10,7 +10,6 @@ use Rattle.fx_rows.specs.inner.Heights.{height_of}
 use Rattle.fx_rows.specs.inner.Points.{IsInner}
 use Rattle.fx_rows.specs.inner.Sums.{before, AreWithin, AreZero, AreTouched, is_marked}
 use Rattle.fx_rows.specs.inner.Cuts.{IsAdded}
-use Rattle.fx_rows.specs.inner.Told.{AreKept}
 
 -- the piece alone
 abbrev pub bounded_span : Bounded → Span
@@ -50,7 +49,6 @@ pub record IsRowAdded (s : Span) (f : Frame) (row : ℤ) (first : ℕ) (old new 
   pub over : (k : ℕ) → f.width ≤ k → IsKept old new (first + k)
   pub grown : (n : ℕ) → AreWithin n old.diff.items → AreWithin (n + 4) new.diff.items
   pub touches : AreTouched old.diff.items old.touched.items → AreTouched new.diff.items new.touched.items
-  pub bits : AreKept old.touched.items new.touched.items
 
 -- n is the number of no pixel in the rows of a frame from one to before another, counted from its lowest
 abbrev pub IsBeside : Frame → ℕ → ℕ → ℕ → Type 0
@@ -64,7 +62,6 @@ pub record IsBandAdded (s : Span) (f : Frame) (from to : ℕ) (old new : Band) :
   pub kept : (n : ℕ) → IsBeside f from to n → IsKept old new n
   pub grown : (n : ℕ) → AreWithin (n + 4 * from) old.diff.items → AreWithin (n + 4 * to) new.diff.items
   pub touches : AreTouched old.diff.items old.touched.items → AreTouched new.diff.items new.touched.items
-  pub bits : AreKept old.touched.items new.touched.items
 
 -- in a frame each pixel on a piece is marked, the count of each other pixel is its winding number, and all else is unmarked and
 -- counts 0

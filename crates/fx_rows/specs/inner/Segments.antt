@@ -1,9 +1,10 @@
 -- The segments of the rows of a band, noted among those of the whole frame.
-use Rattle.std.specs.Prelude.{◌≡◌, ℕ, ◌+◌, ◌-◌, ◌*◌, ◌≤◌, ◌<◌, List}
+use Rattle.std.specs.Prelude.{◌≡◌, ℕ, ◌+◌, ◌*◌, ◌≤◌, ◌<◌, pos, ◌+ℤ◌, List}
 use Rattle.fx_winding.specs.declared.frame.Frame.{Frame}
-use Rattle.fx_winding.specs.Bitmaps.{word_bit}
+use Rattle.fx_winding.specs.Bitmaps.{words_for, word_bit}
 use Rattle.fx_winding.specs.Notes.{pixel_number, IsMetAcross, IsMetUp}
 use Rattle.fx_winding.specs.Winding.{Span}
+use Rattle.fx_rows.specs.inner.Lines.{IsLineBit}
 
 -- the number of a segment by its row and its column of a band; the notes of the rows below the band take the words `below`
 abbrev pub segment_number : Frame → ℕ → ℕ → ℕ → ℕ
@@ -13,6 +14,16 @@ segment_number f below r k = 32 * below + pixel_number f r k
 abbrev pub AreSetUp : Span → Frame → ℕ → List ℕ → ℕ → Type 0
 AreSetUp s f below up r = (k : ℕ) → k < f.width → IsMetUp s f r k → word_bit up (segment_number f below r k) ≡ 1
 
--- the segments that a piece meets across a row of a frame have their bits among those of the rows from one on
-abbrev pub AreSetFrom : ℕ → Span → Frame → List ℕ → ℕ → Type 0
-AreSetFrom from s f across r = (k : ℕ) → k ≤ f.width → IsMetAcross s f r k → word_bit across (pixel_number f (r - from) k) ≡ 1
+-- the segments that it meets across a row of a band have their bits
+abbrev pub AreSetAcross : Span → Frame → ℕ → List ℕ → ℕ → Type 0
+AreSetAcross s f below across r = (k : ℕ) → k ≤ f.width → IsMetAcross s f r k → word_bit across (segment_number f below r k) ≡ 1
+
+-- the number of the first segment of a band's row, that to its first pixel
+abbrev pub first_number : Frame → ℕ → ℕ → ℕ
+first_number f below r = 32 * below + r * (32 * words_for f.width)
+
+-- n is the bit of a segment across a row of a band; within the frame the piece meets it, unless an end of that is on it
+pub record IsBandBit (s : Span) (f : Frame) (below n : ℕ) : Type 0 where
+  pub r : ℕ
+  pub row : r < f.height
+  pub line : IsLineBit s f (f.bottom +ℤ pos r) (first_number f below r) 1 n

@@ -1,9 +1,11 @@
 -- What is told and noted of pieces while they are added to the rows of a band.
-use Rattle.std.specs.Prelude.{◌≡◌, ℕ, ◌+◌, ◌≤◌, ◌<◌, pos, ◌+ℤ◌, List, All}
+use Rattle.std.specs.Prelude.{◌≡◌, ℕ, ◌+◌, ◌≤◌, ◌<◌, pos, ◌+ℤ◌, List, All, length, get_or}
 use Rattle.fx_winding.specs.declared.frame.Frame.{Frame}
-use Rattle.fx_winding.specs.Notes.{IsNotedAcross, IsNotedUp}
-use Rattle.fx_winding.specs.Winding.{Span}
+use Rattle.fx_winding.specs.Bitmaps.{word_bit}
+use Rattle.fx_winding.specs.Notes.{pixel_number, IsNotedAcross, IsNotedUp}
+use Rattle.fx_winding.specs.Winding.{Span, IsOn}
 use Rattle.fx_rows.specs.inner.Heights.{height_of}
+use Rattle.fx_rows.specs.inner.Lines.{left_at, right_at, IsMetTo}
 use Rattle.fx_rows.specs.inner.Points.{IsInner}
 use Rattle.fx_rows.specs.inner.Told.{IsEnd}
 
@@ -44,3 +46,30 @@ AreNotedIn IsNotedAt ss f from to = All (λ s. AreRowsNoted (IsNotedAt s) f from
 abbrev pub IsNotedBy : Frame → List ℕ → List ℕ → Span → Way → ℕ → Type 0
 IsNotedBy f across up s across_row r = IsNotedAcross s f across r
 IsNotedBy f across up s up_to_row r = IsNotedUp s f up r
+
+-- a piece is one of some
+pub record IsAmong (s : Span) (ss : List Span) : Type 0 where
+  pub at : ℕ
+  pub inside : at < length ss
+  pub is : get_or ss at s ≡ s
+
+-- one of some pieces meets the segment across a row that goes to a column, unless an end of that is on this piece
+pub record IsMetByOne (ss : List Span) (f : Frame) (r k : ℕ) : Type 0 where
+  pub piece : Span
+  pub among : IsAmong piece ss
+  pub met : ¬ (IsOn (left_at f (f.bottom +ℤ pos r) k) piece) → ¬ (IsOn (right_at f (f.bottom +ℤ pos r) k) piece)
+      → IsMetTo piece f (f.bottom +ℤ pos r) k
+
+-- the bits of a frame's segments across its rows, but for those at its edges, are of such as one of some pieces meets
+abbrev pub AreMetBySome : Frame → List ℕ → List Span → Type 0
+AreMetBySome f across ss = (r k : ℕ) → r < f.height → 0 < k → k < f.width → word_bit across (pixel_number f r k) ≡ 1
+    → IsMetByOne ss f r k
+
+-- what notes are about: a frame, and pieces
+pub data Subject : Type 0 where
+  of_frame : Frame → Subject
+  of_pieces : List Span → Subject
+
+abbrev pub IsAbout : Frame → List ℕ → Subject → Type 0
+IsAbout f across (of_frame g) = f ≡ g
+IsAbout f across (of_pieces ss) = AreMetBySome f across ss

@@ -1,7 +1,7 @@
 -- Where a piece's columns end in a row between its ends, as it is told to those who note segments; and bits that stay set.
-use Rattle.std.specs.Prelude.{◌≡◌, ℕ, ◌+◌, ◌*◌, ◌≤◌, ◌<◌, ℤ, pos, negsuc, ◌+ℤ◌, int_lt, if◌then◌else◌, List, length, slice_index_or}
+use Rattle.std.specs.Prelude.{◌≡◌, ℕ, ◌≤◌, ◌<◌, ℤ, pos, negsuc, ◌+ℤ◌, int_lt, if◌then◌else◌, List, length, slice_index_or}
 use Rattle.fx_winding.specs.declared.frame.Frame.{Frame}
-use Rattle.fx_winding.specs.Bitmaps.{words_for, word_bit}
+use Rattle.fx_winding.specs.Bitmaps.{word_bit}
 use Rattle.fx_winding.specs.Meets.{turn}
 use Rattle.fx_winding.specs.Winding.{Span, IsOn, centre}
 
@@ -20,14 +20,6 @@ pub record IsEnd (s : Span) (f : Frame) (r n : ℕ) : Type 0 where
 -- the end at a place of a list
 abbrev pub IsEndIn : List ℕ → ℕ → ℕ → Type 0
 IsEndIn ends i n = (i < length ends) × (slice_index_or ends i 0 ≡ n)
-
--- in rows of this width, the segment that goes to the end of a row has its bit
-abbrev pub IsEndBit : ℕ → List ℕ → ℕ → ℕ → Type 0
-IsEndBit width bits r n = word_bit bits (r * (32 * words_for width) + n) ≡ 1
-
--- and the end is told
-abbrev pub IsEndSet : (ℕ → ℕ → Type 0) → ℕ → List ℕ → ℕ → ℕ → Type 0
-IsEndSet IsTold width bits r n = IsTold r n × IsEndBit width bits r n
 
 -- the bits that were set stay set
 abbrev pub AreKept : List ℕ → List ℕ → Type 0

@@ -10,7 +10,7 @@ use Rattle.fx_winding.specs.Winding.{span_of, centre, IsCovered}
 use Rattle.fx_dropout.specs.Tests.{most_tests}
 use Rattle.fx_dropout.specs.inner.Lines.{IsSoFar}
 use Rattle.fx_dropout.specs.inner.Words.{IsShutInRow}
-use Rattle.fx_dropout.proofs.Candidates.{row_noted, rows_pass}
+use Rattle.fx_dropout.proofs.Candidates.{row_noted, row_exact, rows_pass}
 use Rattle.fx_dropout.proofs.Rows.{narrow_closed, rows_none, rows_more, rows_all}
 use Rattle.fx_dropout.proofs.Tests.{counted_on, counted_to}
 use Rattle.fx_dropout.proofs.across.close_rows.Goals as goal
@@ -60,6 +60,27 @@ close_row-requires-clause-noted c =
     let items = c.deref-in-rows.ensures.value in
     row_noted ss f c.args.notes.now.across.items c.args.notes.now.up.items
     (take (up * w + w + 1 - up * w) (drop (up * w) c.deref-in-rows.result.now)) new up (up * w) at c.requires.noted
+    covered (omega arith) row first (λ t. take (few t) (drop (up * w) (items t)))
+
+pub close_row-requires-clause-exact : goal.close_row-requires-clause-exact
+close_row-requires-clause-exact c = λ e.
+    let f = c.args.notes.now.frame in
+    let ss = map span_of c.args.pieces.now in
+    let up = c.rows.up in
+    let step : to_z w32 up ≡ pos up = to_z_pos w32 up (omega arith) in
+    let at = to_z w32 (of_z w32 (to_z w32 (of_z w32 f.bottom) +ℤ to_z w32 up)) in
+    let row : at ≡ f.bottom +ℤ pos up = omega (arith, signed_linear, step) in
+    let new = IsSoFar false ss f c.rows.bitmap in
+    let covered : (i : ℤ) → IsCovered (centre i at) ss → new i at = λ i h.
+    (c.rows.invariant.closed.others i at (λ o. omega (arith, signed_linear, o.1, row))).1
+    (subst (λ (g : Frame). IsSoFar false ss g c.args.bitmap.now i at) (sym c.requires.frame) (c.requires.covered i at h)) in
+    let w = c.words_for-words.result in
+    let words = c.words_for-words.ensures in
+    let few : up * w + w + 1 - up * w ≡ words_for f.width + 1 = omega (arith, words) in
+    let first : up * w ≡ up * words_for f.width = ap (λ (n : ℕ). up * n) words in
+    let items = c.deref-in-rows.ensures.value in
+    row_exact ss f c.args.notes.now.across.items
+    (take (up * w + w + 1 - up * w) (drop (up * w) c.deref-in-rows.result.now)) new up (up * w) at (c.requires.exact e)
     covered (omega arith) row first (λ t. take (few t) (drop (up * w) (items t)))
 
 pub rows-preserved : goal.rows-preserved

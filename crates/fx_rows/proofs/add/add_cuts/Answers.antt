@@ -1,6 +1,6 @@
 use Rattle.std.proofs.Common.{◌≡◌, ◌∙◌, refl, subst, arith}
 use Rattle.fx_winding.specs.declared.frame.Frame.{Frame}
-use Rattle.fx_rows.specs.inner.Told.{IsEnd, IsEndBit, IsEndSet}
+use Rattle.fx_rows.specs.inner.Told.{IsEnd}
 use Rattle.fx_rows.specs.inner.Bands.{bounded_span}
 use Rattle.fx_rows.proofs.Banding.{band_none}
 use Rattle.fx_rows.proofs.Stepping.{strip_row, row_in, inner_row, cut_inside}
@@ -14,8 +14,7 @@ rows-init g c = record {
   added = band_none (bounded_span c.args.bounded.now) c.args.band.now.frame c.args.rows.first c.args.band.now;
   of = λ f h. h;
   kept = λ s w r h. h;
-  told = told_none (IsEndSet (g.N.Noting.IsTold c.args.noter.now) c.args.band.now.frame.width c.args.band.now.touched.items)
-      (bounded_span c.args.bounded.now) c.args.band.now.frame c.args.rows.first c.args.rows.first (omega arith);
+  told = told_none (g.N.Noting.IsTold c.args.noter.now) (bounded_span c.args.bounded.now) c.args.band.now.frame c.args.rows.first c.args.rows.first (omega arith);
   count = omega arith;
   at = λ h. c.requires.at;
 }
@@ -73,17 +72,14 @@ rows-preserved g c =
     let added = c.add_cut.ensures.added s c.next-cut.ensures.cut in
     let T = g.N.Noting.IsTold c.rows.noter in
     let U = g.N.Noting.IsTold c.tell.new.self in
-    let new = c.add_cut.new.band.touched.items in
     let end = c.saturating_sub-end.result in
-    let set = subst (λ (x : Frame). IsEndBit x.width new up end) inv.frame c.add_cut.ensures.set in
     record {
       frame = c.add_cut.ensures.frame ∙ inv.frame;
       added = band_next s f now strip.row c.args.rows.first up c.args.band.now c.rows.band c.add_cut.new.band (omega arith)
           inv.frame at inv.added added;
       of = λ f h. c.tell.ensures.frame f (inv.of f h);
       kept = λ t w r h. c.tell.ensures.kept t w r (inv.kept t w r h);
-      told = told_next (IsEndSet T f.width c.rows.band.touched.items) (IsEndSet U f.width new) s f c.args.rows.first up end inv.told
-          (λ r m o t. (c.tell.ensures.others r m o t.0, added.bits _ t.1)) (c.tell.ensures.told, set)
+      told = told_next T U s f c.args.rows.first up end inv.told c.tell.ensures.others c.tell.ensures.told
           (subst (λ (x : Frame). IsEnd s x up end) inv.frame is);
       at = λ h.
           let r = c.requires.rows in
@@ -109,8 +105,7 @@ returns-clause-kept g c = c.rows.invariant.kept
 
 pub returns-clause-told : goal.returns-clause-told
 returns-clause-told g c =
-    told_end (IsEndSet (g.N.Noting.IsTold c.rows.noter) c.args.band.now.frame.width c.rows.band.touched.items)
-    (bounded_span c.args.bounded.now) c.args.band.now.frame c.args.rows.first c.rows.up c.args.rows.end
+    told_end (g.N.Noting.IsTold c.rows.noter) (bounded_span c.args.bounded.now) c.args.band.now.frame c.args.rows.first c.rows.up c.args.rows.end
     (omega (arith, c.args.rows.order)) c.rows.invariant.told
 
 pub returns-clause-count : goal.returns-clause-count

@@ -2,7 +2,6 @@ use Rattle.std.proofs.Common.{◌≡◌, ◌∙◌, ap, sym, subst, arith, w32, 
 use Rattle.std.specs.Vec.{with_items}
 use Rattle.std.proofs.lemmas.List.{with_items_is}
 use Rattle.fx_fixed.proofs.Linear.{signed_linear}
-use Rattle.fx_winding.specs.Bitmaps.{word_bit}
 use Rattle.fx_rows.specs.Parts.{IsRowPart}
 use Rattle.fx_rows.specs.inner.Sums.{before, AreWithin, AreTouched}
 use Rattle.fx_rows.specs.inner.Bands.{bounded_span}
@@ -122,7 +121,6 @@ returns-clause-added c =
     (λ n w k. let e = c.add_run-2.ensures.grown (n + 2) (subst (AreWithin (n + 2)) (sym ed) (c.add_run.ensures.grown n w)) k in
     omega (arith, signed_linear, e))
     (λ a. c.add_run-2.ensures.touched (subst (λ z. z) (λ i. AreTouched (sym ed i) (sym et i)) (c.add_run.ensures.touched a)))
-    (λ n h. c.add_run-2.ensures.kept n (subst (λ (ts : List ℕ). word_bit ts n ≡ 1) (sym et) (c.add_run.ensures.kept n h)))
     c.mark.ensures.row c.mark.ensures.under in
     row_added s f (f.bottom +ℤ pos c.args.up) _ b _ d d' t t' m m'
     c.deref_mut.ensures.value (sym (with_items_is mid d' (omega arith)))

@@ -6,10 +6,9 @@ use Rattle.fx_rows.specs.inner.Points.{IsInner}
 use Rattle.fx_rows.specs.inner.Heights.{height_of}
 use Rattle.fx_rows.specs.inner.Bands.{IsBandAdded}
 use Rattle.fx_rows.specs.inner.Telling.{AreRowsTold}
-use Rattle.fx_rows.specs.inner.Told.{IsEndSet}
 use Rattle.fx_rows.proofs.Counting.{rise_inner}
 use Rattle.fx_rows.proofs.Banding.{band_three}
-use Rattle.fx_rows.proofs.Telling.{told_none, told_also, told_beside, not_inner_under, not_inner_over}
+use Rattle.fx_rows.proofs.Telling.{told_none, told_beside, not_inner_under, not_inner_over}
 use Rattle.fx_rows.proofs.add.add_met_piece.Goals as goal
 
 pub add_inner_rows-requires-clause-inner : goal.add_inner_rows-requires-clause-inner
@@ -48,7 +47,7 @@ returns-then-inner-clause-told g c =
     let e = c.rise_of-rise.result in
     let i = c.rows_between-inner.ensures in
     let r = c.rows_between-inner.result in
-    let T = IsEndSet (g.N.Noting.IsTold c.args.noter.now) f.width c.add_met_rows.new.band.touched.items in
+    let T = g.N.Noting.IsTold c.args.noter.now in
     told_beside T s f c.args.rows.first r.first r.end c.args.rows.end
     (λ k h l. not_inner_under s e.foot e.head e.value (height_of f k) c.rise_of-rise.ensures (i.under k h l))
     (λ k h l. not_inner_over s e.foot e.head e.value (height_of f k) c.rise_of-rise.ensures (i.over k h l))
@@ -62,15 +61,12 @@ returns-clause-told g c =
     let i = c.rows_between-inner.ensures in
     let r = c.rows_between-inner.result in
     let T = g.N.Noting.IsTold c.add_inner_rows.new.noter in
-    let mid = IsEndSet T f.width c.add_inner_rows.new.band.touched.items in
-    let now = IsEndSet T f.width c.add_met_rows-3.new.band.touched.items in
-    told_beside now s f c.args.rows.first r.first r.end c.args.rows.end
+    told_beside T s f c.args.rows.first r.first r.end c.args.rows.end
     (λ k h l. not_inner_under s e.foot e.head e.value (height_of f k) c.rise_of-rise.ensures (i.under k h l))
     (λ k h l. not_inner_over s e.foot e.head e.value (height_of f k) c.rise_of-rise.ensures (i.over k h l))
-    (told_also mid now s f r.first r.end (λ k n t. (t.0, c.add_met_rows-3.ensures.added.bits _ t.1))
-    (subst (λ (p : Piece). AreRowsTold mid (span_of p) f r.first r.end) c.bounds_of.ensures.piece
-    (subst (λ (x : Frame). AreRowsTold (IsEndSet T x.width c.add_inner_rows.new.band.touched.items)
-    (span_of c.bounds_of.result.piece) x r.first r.end) c.add_met_rows-2.ensures.frame c.add_inner_rows.ensures.told)))
+    (subst (λ (p : Piece). AreRowsTold T (span_of p) f r.first r.end) c.bounds_of.ensures.piece
+    (subst (λ (x : Frame). AreRowsTold T (span_of c.bounds_of.result.piece) x r.first r.end) c.add_met_rows-2.ensures.frame
+    c.add_inner_rows.ensures.told))
 
 pub returns-then-inner-clause-inner : goal.returns-then-inner-clause-inner
 returns-then-inner-clause-inner g c = λ r h l. absurd (omega (arith, h, l))

@@ -4,7 +4,6 @@ use Rattle.fx_winding.specs.declared.frame.Frame.{Frame}
 use Rattle.fx_fixed.proofs.Order.{below_or_not}
 use Rattle.fx_rows.specs.inner.Heights.{height_of}
 use Rattle.fx_rows.specs.inner.Bands.{IsBandAdded}
-use Rattle.fx_rows.specs.inner.Told.{IsEndSet}
 use Rattle.fx_rows.proofs.Banding.{band_three, band_missed}
 use Rattle.fx_rows.proofs.Telling.{told_none, told_beside, not_inner_missed}
 use Rattle.fx_rows.proofs.add.add_piece.Goals as goal
@@ -41,7 +40,7 @@ returns-clause-told g c =
     let f = c.args.band.now.frame in
     let r = c.rows_met-touched.result in
     let m = c.rows_met-touched.ensures in
-    let T = IsEndSet (g.N.Noting.IsTold c.add_met_piece-inner.new.noter) f.width c.add_met_piece-inner.new.band.touched.items in
+    let T = g.N.Noting.IsTold c.add_met_piece-inner.new.noter in
     told_beside T s f 0 r.first r.end f.height
     (λ k h l. not_inner_missed s (height_of f k) (m.missed k (omega (arith, m.within, r.order)) (inl l)))
     (λ k h l. not_inner_missed s (height_of f k) (m.missed k l (inr h))) c.add_met_piece-inner.ensures.told
@@ -52,7 +51,7 @@ returns-then-touched-clause-told g c =
     let f = c.args.band.now.frame in
     let r = c.rows_met-touched.result in
     let m = c.rows_met-touched.ensures in
-    let T = IsEndSet (g.N.Noting.IsTold c.args.noter.now) f.width c.args.band.now.touched.items in
+    let T = g.N.Noting.IsTold c.args.noter.now in
     told_beside T s f 0 r.first r.end f.height
     (λ k h l. not_inner_missed s (height_of f k) (m.missed k (omega (arith, m.within, r.order)) (inl l)))
     (λ k h l. not_inner_missed s (height_of f k) (m.missed k l (inr h))) (told_none T s f r.first r.end (omega arith))

@@ -23,9 +23,3 @@ returns-clause-grown c = λ n w k. let e =
 
 pub returns-clause-touched : goal.returns-clause-touched
 returns-clause-touched c = λ t. c.add.ensures.touched (c.add_first.ensures.touched c.args.touched.now t)
-
-pub returns-clause-set : goal.returns-clause-set
-returns-clause-set c = c.add.ensures.set
-
-pub returns-clause-kept : goal.returns-clause-kept
-returns-clause-kept c = c.add.ensures.kept

@@ -1,23 +1,48 @@
 use Rattle.std.proofs.Common.{ℕ, sym, subst, arith}
 use Rattle.fx_winding.specs.Winding.{span_of}
-use Rattle.fx_rows.specs.inner.Told.{IsEndBit}
+use Rattle.fx_rows.specs.inner.Segments.{IsBandBit}
+use Rattle.fx_rows.specs.inner.Told.{IsEndIn}
+use Rattle.fx_rows.proofs.Kept.{kept_both, only_both}
 use Rattle.fx_rows.proofs.RowMeets.{all_across}
-use Rattle.fx_rows.proofs.Segments.{across_kept}
 use Rattle.fx_rows.proofs.note_across.note_across.Goals as goal
 
-pub returns-clause-noted : goal.returns-clause-noted
-returns-clause-noted c =
+pub note_ends-requires-clause-inner : goal.note_ends-requires-clause-inner
+note_ends-requires-clause-inner c = λ r l m. c.ended_rows-ended.ensures.inner (span_of c.args.piece.now) r c.requires.placed l m
+
+pub returns-then-touched-ended-clause-noted : goal.returns-then-touched-ended-clause-noted
+returns-then-touched-ended-clause-noted c =
     let s = span_of c.args.piece.now in
     let p = c.args.placed in
     let is = c.requires.placed in
     let ended = c.ended_rows-ended.result in
-    let low = c.note_rows.new.across in
-    let bits = c.note_rows-2.new.across in
-    all_across s p.frame p.met ended.first ended.end bits is.met
-    (λ r l m. across_kept s p.frame r low bits (c.note_rows.ensures.noted r l m) c.note_rows-2.ensures.kept)
+    all_across s p.frame p.met ended.first ended.end p.below c.note_others.new.across is.met c.note_others.ensures.below
     (λ r l m k w met.
     let inner = c.ended_rows-ended.ensures.inner s r is l m in
-    let t = c.requires.set.rows r (omega arith) (omega arith) inner in
-    c.note_rows-2.ensures.kept _ (c.note_rows.ensures.kept _ (subst (λ (j : ℕ). IsEndBit p.frame.width c.args.across.now r j)
-    (sym (c.ended_rows-ended.ensures.only s r k t.end is l m w t.is met)) t.told)))
-    c.note_rows-2.ensures.noted
+    let t = c.requires.told.rows r (omega arith) (omega (arith, m, c.ended_rows-ended.ensures.end, p.rows)) inner in
+    let e = c.ended_rows-ended.ensures.only s r k t.end is l m w t.is met in
+    c.note_others.ensures.kept _ (c.note_ends.ensures.set r k l m
+    (subst (λ (j : ℕ). IsEndIn c.args.ends.now r j) (sym e) t.told)))
+    c.note_others.ensures.above
+
+pub returns-then-touched-ended-clause-kept : goal.returns-then-touched-ended-clause-kept
+returns-then-touched-ended-clause-kept c = kept_both _ _ _ c.note_ends.ensures.kept c.note_others.ensures.kept
+
+pub returns-then-touched-ended-clause-only : goal.returns-then-touched-ended-clause-only
+returns-then-touched-ended-clause-only c =
+    let p = c.args.placed in
+    only_both (IsBandBit (span_of c.args.piece.now) p.frame p.below) _ _ _ c.note_ends.ensures.only c.note_others.ensures.only
+
+pub returns-else-ended-touched-clause-noted : goal.returns-else-ended-touched-clause-noted
+returns-else-ended-touched-clause-noted c =
+    let s = span_of c.args.piece.now in
+    let p = c.args.placed in
+    let is = c.requires.placed in
+    let ended = c.ended_rows-ended.result in
+    all_across s p.frame p.met ended.first ended.end p.below c.note_ends.new.across is.met
+    (λ r l m. absurd (omega (arith, l, m)))
+    (λ r l m k w met.
+    let inner = c.ended_rows-ended.ensures.inner s r is l m in
+    let t = c.requires.told.rows r (omega arith) (omega (arith, m, c.ended_rows-ended.ensures.end, p.rows)) inner in
+    let e = c.ended_rows-ended.ensures.only s r k t.end is l m w t.is met in
+    c.note_ends.ensures.set r k l m (subst (λ (j : ℕ). IsEndIn c.args.ends.now r j) (sym e) t.told))
+    (λ r l m. absurd (omega (arith, l, m)))

@@ -1,25 +1,23 @@
-use Rattle.std.proofs.Common.{◌≡◌, ◌⊎◌, inl, inr, refl, ◌∙◌, ℕ, zero, suc, ◌+◌, ◌*◌, ◌^◌, ◌<◌, ◌≤◌, ◌↔◌, IsTrue, Any, subst, sym}
+use Rattle.std.proofs.Common.{◌≡◌, ◌⊎◌, inl, inr, refl, ◌∙◌, ℕ, zero, suc, ◌+◌, ◌*◌, ◌-◌, ◌^◌, ◌<◌, ◌≤◌, ◌↔◌, IsTrue, Any, subst, sym}
 use Rattle.std.proofs.Common.{ap, pos, ◌+ℤ◌, map, length, get_or, take, arith, List, false}
 use Rattle.std.proofs.Math.ListN.{get_or-map}
-use Rattle.std.proofs.lemmas.List.{length-map, take_all, with_items_is}
-use Rattle.std.specs.Vec.{with_items}
+use Rattle.std.proofs.lemmas.List.{length-map, take_all}
 use Rattle.fx_fixed.proofs.Linear.{signed_linear}
 use Rattle.fx_fixed.specs.Ranges.{IsWithin}
-use Rattle.fx_winding.specs.Bitmaps.{words_for}
 use Rattle.fx_winding.specs.declared.frame.Frame.{Frame}
 use Rattle.fx_winding.specs.Winding.{Span, span_of, centre, winding, IsOn}
 use Rattle.fx_rows.specs.inner.Sums.{before, AreWithin}
 use Rattle.fx_rows.specs.inner.Bands.{stride, turns_at, mark_at, IsBandAdded}
 use Rattle.fx_rows.specs.inner.Placing.{AreMet}
-use Rattle.fx_rows.specs.inner.Telling.{AreRowsTold, AreNotedIn, up_to_row}
-use Rattle.fx_rows.specs.inner.Segments.{AreSetFrom}
-use Rattle.fx_rows.specs.inner.Told.{IsEndBit, IsEndSet, AreKept}
+use Rattle.fx_rows.specs.inner.Telling.{AreRowsTold, AreNotedIn, Way, across_row, up_to_row, of_frame, of_pieces}
 use Rattle.fx_rows.proofs.Counted.{counted_start, counted_more, counted_all, count_more, within_none}
 use Rattle.fx_rows.proofs.Banding.{IsNumber, number_or_not}
-use Rattle.fx_rows.proofs.Sums.{before_none, touched_more}
-use Rattle.fx_rows.proofs.Segments.{from_kept, band_words}
-use Rattle.fx_rows.proofs.Telling.{told_same, told_also, met_same, by_way, noted_start, noted_also, noted_more}
+use Rattle.fx_rows.proofs.Sums.{before_none}
+use Rattle.fx_rows.proofs.Telling.{told_same, met_same, noted_start, noted_also, noted_more}
 use Rattle.fx_rows.proofs.rows.count_band.Goals as goal
+
+sum_times : (a b h : ℕ) → (a + b) * h ≡ a * h + b * h
+sum_times a b h = omega arith
 
 pub pieces-init : goal.pieces-init
 pieces-init g c =
@@ -36,10 +34,10 @@ pieces-init g c =
       touched = λ k o z. c.requires.clear.counts k;
       small = within_none b.diff.items c.requires.clear.counts;
       of = λ f h. h;
+      only = λ h. h;
       kept = λ s w r h. h;
-      noted = noted_start (by_way (λ s r. g.N.Noting.IsNoting → AreSetFrom c.args.rows.first s c.args.frame b.touched.items r)
-          (λ s r. g.N.Noting.IsNotedAt c.args.noter.now s up_to_row r)) (map span_of c.args.pieces.now) c.args.frame
-          c.args.rows.first c.args.rows.end;
+      noted = noted_start (g.N.Noting.IsNotedAt c.args.noter.now) (map span_of c.args.pieces.now) c.args.frame c.args.rows.first
+          c.args.rows.end;
       count = omega arith;
     }
 
@@ -60,25 +58,12 @@ pub note-requires-clause-told : goal.note-requires-clause-told
 note-requires-clause-told g c = λ f part.
     let s = span_of c.piece-item.result in
     let T = g.N.Noting.IsTold c.add_piece-met.new.noter in
-    let old = c.pieces.band.frame in
-    let bits = c.add_piece-met.new.band.touched.items in
-    let whole = IsEndSet T c.args.frame.width c.deref_mut.result.now in
-    let wide : old.width ≡ c.args.frame.width = ap (λ (x : Frame). x.width) c.pieces.invariant.frame ∙ c.requires.part.width in
-    told_same whole s c.args.frame c.args.band.now.frame f c.args.rows.first c.args.rows.end c.requires.part part
-    (subst (λ (f : Frame). AreRowsTold whole s f 0 f.height) c.pieces.invariant.frame
-    (told_also (IsEndSet T old.width bits) whole s old 0 old.height
-    (λ r n t. (t.0, subst (λ z. z) (λ i. IsEndBit (wide i) (sym c.deref_mut.ensures.value i) r n) t.1))
-    c.add_piece-met.ensures.told))
-
-pub note-requires-clause-words : goal.note-requires-clause-words
-note-requires-clause-words g c =
-    let b = c.add_piece-met.new.band in
-    let same = c.add_piece-met.ensures.frame ∙ c.pieces.invariant.frame in
-    band_words c.args.frame c.args.band.now.frame c.args.rows.first c.args.rows.end _ c.requires.part
-    (ap length c.deref_mut.ensures.value ∙ b.words ∙ b.room ∙ ap (λ (f : Frame). f.height * words_for f.width + 1) same)
+    told_same T s c.args.frame c.args.band.now.frame f c.args.rows.first c.args.rows.end c.requires.part part
+    (subst (λ (f : Frame). AreRowsTold T s f 0 f.height) c.pieces.invariant.frame c.add_piece-met.ensures.told)
 
 pub note-requires-clause-frame : goal.note-requires-clause-frame
-note-requires-clause-frame g c = c.add_piece-met.ensures.of c.args.frame (c.pieces.invariant.of c.args.frame c.requires.of)
+note-requires-clause-frame g c =
+    c.add_piece-met.ensures.of (of_frame c.args.frame) (c.pieces.invariant.of c.args.frame c.requires.of)
 
 pub pieces-preserved : goal.pieces-preserved
 pieces-preserved g c =
@@ -99,13 +84,18 @@ pieces-preserved g c =
     let n = c.add_piece-met.ensures.count in
     let whole : 512 * here ≡ 512 * here + 4 * 0 = omega arith in
     let each : c.add_piece-met.new.tally.count ≤ c.pieces.tally.count + 12 * f.height = omega (arith, n, high) in
-    let is_now = sym (with_items_is new.touched c.note.new.touched (omega arith)) in
-    let bits = subst (λ z. z) (λ i. AreKept (c.deref_mut.ensures.value i) (is_now i)) c.note.ensures.bits in
-    let set : List ℕ → Span → ℕ → Type 0 =
-    λ xs t r. g.N.Noting.IsNoting → AreSetFrom c.args.rows.first t c.args.frame xs r in
-    let P = by_way (set old.touched.items) (λ t r. g.N.Noting.IsNotedAt c.pieces.noter t up_to_row r) in
-    let Q = by_way (set (with_items new.touched c.note.new.touched).items)
-    (λ t r. g.N.Noting.IsNotedAt c.note.new.self t up_to_row r) in
+    let part = c.requires.part.height in
+    let rows : c.args.rows.end - c.args.rows.first ≡ f.height = omega (arith, part) in
+    let tests = ap (λ (n : ℕ). g.N.Noting.tests * n) rows in
+    let sum : (12 + g.N.Noting.tests) * f.height ≡ 12 * f.height + g.N.Noting.tests * f.height =
+    sum_times 12 g.N.Noting.tests f.height in
+    let m = c.note.ensures.count in
+    let all : c.note.new.tally.count ≤ c.pieces.tally.count + (12 + g.N.Noting.tests) * f.height =
+    omega (arith, each, m, tests, sum) in
+    let P = g.N.Noting.IsNotedAt c.pieces.noter in
+    let Q = g.N.Noting.IsNotedAt c.note.new.self in
+    let kept : (t : Span) (w : Way) (r : ℕ) → P t w r → Q t w r =
+    λ t w r h. c.note.ensures.kept t w r (c.add_piece-met.ensures.kept t w r h) in
     record {
       frame = c.add_piece-met.ensures.frame ∙ inv.frame;
       counted = λ r k h l. counted_more spans here s (centre (f.left +ℤ pos k) (f.bottom +ℤ pos r))
@@ -114,24 +104,19 @@ pieces-preserved g c =
           inside is (inv.counted r k h l);
       rest = λ n h. (more.kept n h).turns ∙ inv.rest n h;
       unused = λ n h. (more.kept n h).mark ∙ inv.unused n h;
-      touched = touched_more new.diff.items new.touched.items _ bits (more.touches inv.touched);
+      touched = more.touches inv.touched;
       small = λ k. let e = more.grown (512 * here) (subst (λ (n : ℕ). AreWithin n old.diff.items) whole inv.small) k in
           (omega (arith, signed_linear, e, few), omega (arith, signed_linear, e, few));
-      of = λ f h. c.note.ensures.frame f (c.add_piece-met.ensures.of f (inv.of f h));
+      of = λ f h. c.note.ensures.frame f (c.add_piece-met.ensures.of (of_frame f) (inv.of f h));
+      only = λ h. c.note.ensures.only spans (record { at = here; inside = inside; is = sym is })
+          (c.add_piece-met.ensures.of (of_pieces spans) (inv.only h));
       kept = λ t w r h. c.note.ensures.kept t w r (c.add_piece-met.ensures.kept t w r (inv.kept t w r h));
       noted = noted_more Q spans c.args.frame c.args.rows.first c.args.rows.end here s inside is
           (noted_also P Q (take here spans) c.args.frame c.args.rows.first c.args.rows.end
-          (λ t r l m h noting. from_kept c.args.rows.first t c.args.frame r old.touched.items _ (h noting)
-          (λ n e. bits n (more.bits n e)))
-          (λ t r h. c.note.ensures.kept t up_to_row r (c.add_piece-met.ensures.kept t up_to_row r h)) inv.noted)
-          (record {
-            across = λ r l m noting. subst (λ xs. AreSetFrom c.args.rows.first s c.args.frame xs r) is_now
-                (c.note.ensures.across noting r l m);
-            up = c.note.ensures.up;
-            top = c.note.ensures.top;
-          });
-      count = count_more c.args.tally.now.count c.pieces.tally.count c.add_piece-met.new.tally.count here (12 * f.height)
-          inv.count each;
+          (λ t r l m h. kept t across_row r h) (λ t r h. kept t up_to_row r h) inv.noted)
+          (record { across = c.note.ensures.across; up = c.note.ensures.up; top = c.note.ensures.top });
+      count = count_more c.args.tally.now.count c.pieces.tally.count c.note.new.tally.count here
+          ((12 + g.N.Noting.tests) * f.height) inv.count all;
     }
 
 pub returns-clause-frame : goal.returns-clause-frame
@@ -166,21 +151,8 @@ pub returns-clause-noted : goal.returns-clause-noted
 returns-clause-noted g c =
     let spans = map span_of c.args.pieces.now in
     let n = length-map c.args.pieces.now span_of in
-    let P = by_way (λ s r. g.N.Noting.IsNoting → AreSetFrom c.args.rows.first s c.args.frame c.pieces.band.touched.items r)
-    (λ s r. g.N.Noting.IsNotedAt c.pieces.noter s up_to_row r) in
-    noted_also P (g.N.Noting.IsNotedAt c.note_band.new.self) spans c.args.frame c.args.rows.first c.args.rows.end
-    (λ s r l m h. c.note_band.ensures.across s r l m
-    (λ noting. subst (λ xs. AreSetFrom c.args.rows.first s c.args.frame xs r) (sym c.deref.ensures.value) (h noting)))
-    (λ s r. c.note_band.ensures.kept s up_to_row r)
-    (subst (λ (ss : List Span). AreNotedIn P ss c.args.frame c.args.rows.first c.args.rows.end)
-    (take_all c.pieces.piece-index spans (omega (arith, n))) c.pieces.invariant.noted)
-
-pub note_band-requires-clause-words : goal.note_band-requires-clause-words
-note_band-requires-clause-words g c =
-    let b = c.pieces.band in
-    band_words c.args.frame c.args.band.now.frame c.args.rows.first c.args.rows.end _ c.requires.part
-    (ap length c.deref.ensures.value ∙ b.words ∙ b.room
-    ∙ ap (λ (f : Frame). f.height * words_for f.width + 1) c.pieces.invariant.frame)
+    subst (λ (ss : List Span). AreNotedIn (g.N.Noting.IsNotedAt c.pieces.noter) ss c.args.frame c.args.rows.first c.args.rows.end)
+    (take_all c.pieces.piece-index spans (omega (arith, n))) c.pieces.invariant.noted
 
 pub returns-clause-small : goal.returns-clause-small
 returns-clause-small g c = λ n. by n
@@ -208,17 +180,17 @@ returns-clause-small g c = λ n. by n
 pub returns-clause-count : goal.returns-clause-count
 returns-clause-count g c =
     let done : c.pieces.piece-index ≡ length c.args.pieces.now = omega arith in
-    let P : ℕ → Type 0 = λ n. c.pieces.tally.count ≤ c.args.tally.now.count + n * (12 * c.args.band.now.frame.height) in
+    let P : ℕ → Type 0 = λ n. c.pieces.tally.count ≤ c.args.tally.now.count + n * ((12 + g.N.Noting.tests) * c.args.band.now.frame.height) in
     subst P done c.pieces.invariant.count
 
 pub returns-clause-of : goal.returns-clause-of
-returns-clause-of g c = λ f h. c.note_band.ensures.frame f (c.pieces.invariant.of f h)
+returns-clause-of g c = c.pieces.invariant.of
+
+pub returns-clause-only : goal.returns-clause-only
+returns-clause-only g c = c.pieces.invariant.only
 
 pub returns-clause-kept : goal.returns-clause-kept
-returns-clause-kept g c = λ s w r h. c.note_band.ensures.kept s w r (c.pieces.invariant.kept s w r h)
+returns-clause-kept g c = c.pieces.invariant.kept
 
 pub returns-clause-touched : goal.returns-clause-touched
 returns-clause-touched g c = c.pieces.invariant.touched
-
-pub note_band-requires-clause-frame : goal.note_band-requires-clause-frame
-note_band-requires-clause-frame g c = c.pieces.invariant.of c.args.frame c.requires.of

@@ -51,6 +51,6 @@ returns-clause-count g c =
     let rows = c.args.rows in
     let high : c.in_ok-band.band.frame.height ≡ rows.end - rows.first =
     ap (λ (y : Frame). y.height) c.in_ok-band.ensures.frame ∙ omega (arith, c.band_of.ensures.height) in
-    let tests = ap (λ n. length c.args.pieces.now * (12 * n)) high in
+    let tests = ap (λ n. length c.args.pieces.now * ((12 + g.N.Noting.tests) * n)) high in
     let n = c.cover_band.ensures.count in
     omega (arith, n, tests)

@@ -1,9 +1,9 @@
-use Rattle.std.proofs.Common.{◌≡◌, ◌-◌, ◌*◌, map, length, sym, subst, arith}
+use Rattle.std.proofs.Common.{◌≡◌, ◌+◌, ◌-◌, ◌*◌, map, length, sym, subst, arith}
 use Rattle.fx_winding.specs.Winding.{span_of}
 use Rattle.fx_winding.specs.Bitmaps.{IsScanOf}
 use Rattle.fx_rows.specs.Parts.{digits}
 use Rattle.fx_rows.specs.inner.Bands.{AreScanned}
-use Rattle.fx_rows.specs.inner.Telling.{AreNotedIn}
+use Rattle.fx_rows.specs.inner.Telling.{AreNotedIn, of_pieces}
 use Rattle.fx_rows.proofs.Banding.{tests_more, tests_fit}
 use Rattle.fx_rows.proofs.Scanning.{scanned_words, scanned_bitmap}
 use Rattle.fx_rows.proofs.Telling.{noted_both}
@@ -25,9 +25,9 @@ bands-preserved g c =
     let inv = c.bands.invariant in
     let done = c.in_ok-words-2.ensures in
     let new = g.N.Noting.IsNotedAt c.scan_band.new.noter in
-    let more = tests_more (length c.args.pieces.now) from to (omega arith) in
-    let tests : length c.as_slice.result.now * (12 * (to - from)) ≡ length c.args.pieces.now * (12 * (to - from)) =
-    λ i. length (same i) * (12 * (to - from)) in
+    let more = tests_more (length c.args.pieces.now) (12 + g.N.Noting.tests) from to (omega arith) in
+    let tests : length c.as_slice.result.now * ((12 + g.N.Noting.tests) * (to - from)) ≡ length c.args.pieces.now * ((12 + g.N.Noting.tests) * (to - from)) =
+    λ i. length (same i) * ((12 + g.N.Noting.tests) * (to - from)) in
     let n = done.count in
     let m = inv.count in
     record {
@@ -35,6 +35,9 @@ bands-preserved g c =
       scanned = subst (λ z. z) (λ i. AreScanned (map span_of (same i)) f.left f.bottom f.width to c.in_ok-words-2.words.items)
           done.words;
       of = done.of f inv.of;
+      only = λ h. subst (λ z. z)
+          (λ i. g.N.Noting.IsOf c.bands.noter (of_pieces (map span_of (same i)))
+          → g.N.Noting.IsOf c.scan_band.new.noter (of_pieces (map span_of (same i)))) done.only (inv.only h);
       noted = λ some. noted_both (g.N.Noting.IsNotedAt c.bands.noter) new (map span_of c.args.pieces.now) f 0 from to done.kept
           (inv.noted some) (subst (λ z. z) (λ i. AreNotedIn new (map span_of (same i)) f from to) done.noted);
       count = omega (arith, n, m, tests, more);
@@ -47,10 +50,10 @@ returns-in_err-words-2-clause-count g c =
     let same = c.as_slice.ensures.value in
     let from = c.bands.from in
     let to = c.band_end.result in
-    let more = tests_more (length c.args.pieces.now) from to (omega arith) in
-    let fit = tests_fit (length c.args.pieces.now) to f.height (digits f.width) (omega arith) in
-    let tests : length c.as_slice.result.now * (12 * (to - from)) ≡ length c.args.pieces.now * (12 * (to - from)) =
-    λ i. length (same i) * (12 * (to - from)) in
+    let more = tests_more (length c.args.pieces.now) (12 + g.N.Noting.tests) from to (omega arith) in
+    let fit = tests_fit (length c.args.pieces.now) (12 + g.N.Noting.tests) to f.height (digits f.width) (omega arith) in
+    let tests : length c.as_slice.result.now * ((12 + g.N.Noting.tests) * (to - from)) ≡ length c.args.pieces.now * ((12 + g.N.Noting.tests) * (to - from)) =
+    λ i. length (same i) * ((12 + g.N.Noting.tests) * (to - from)) in
     let n = c.scan_band.ensures.count in
     omega (arith, inv, more, fit, tests, n)
 

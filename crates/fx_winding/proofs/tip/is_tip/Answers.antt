@@ -22,10 +22,10 @@ falling z h k =
     let e : to_z w128 (of_z w128 z) ≡ z = omega (arith, signed_linear) in
     rw (e) (sym (omega (arith, ints)))
 
-pub returns-then-slope-le0-clause-value : goal.returns-then-slope-le0-clause-value
-returns-then-slope-le0-clause-value c =
-    let low : c.slope.result ≤ℤ pos 0 = omega (arith, signed_linear) in
-    (λ t. absurd (never t), λ k. absurd (not_above c.slope.result low (rw (c.slope.ensures.value) k.rises)))
+pub returns-then-gap_slope-le0-clause-value : goal.returns-then-gap_slope-le0-clause-value
+returns-then-gap_slope-le0-clause-value c =
+    let low : c.gap_slope.result ≤ℤ pos 0 = omega (arith, signed_linear) in
+    (λ t. absurd (never t), λ k. absurd (not_above c.gap_slope.result low (rw (c.gap_slope.ensures.value) k.rises)))
 
 pub returns-clause-value : goal.returns-clause-value
 returns-clause-value c =
@@ -39,12 +39,12 @@ returns-clause-value c =
     let zero : c.region.result ≡ pos 0 = zero_bits_w32 c.region.result (omega (arith, signed_linear)) c.if-region-ne0.false in
     let bent : region p s ≡ region_part a (Some (place_of c.args.b)) e p =
     ap (λ m. region_part a (maybe_place_of m) e p) c.requires.middle in
-    let high : pos 0 <ℤ c.slope.result = omega (arith, signed_linear) in (
+    let high : pos 0 <ℤ c.gap_slope.result = omega (arith, signed_linear) in (
       λ t. record {
         reached = c.reached_y.ensures.0 c.if-not-reached_y.false;
         outside = sym bent ∙ sym part ∙ zero;
-        rises = rw (← c.slope.ensures.value) high;
-        falls = rw (← c.slope-2.ensures.value) (omega (arith, signed_linear));
+        rises = rw (← c.gap_slope.ensures.value) high;
+        falls = rw (← c.gap_slope-2.ensures.value) (omega (arith, signed_linear));
       },
-      λ k. falling c.slope-2.result c.slope-2.ensures.size (rw (c.slope-2.ensures.value) k.falls),
+      λ k. falling c.gap_slope-2.result c.gap_slope-2.ensures.size (rw (c.gap_slope-2.ensures.value) k.falls),
     )

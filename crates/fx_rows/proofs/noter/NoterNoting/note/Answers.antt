@@ -1,13 +1,14 @@
-use Rattle.std.proofs.Common.{◌≡◌, ◌∙◌, ◌*◌, sym, ap, subst, ℕ, List, length, arith}
+use Rattle.std.proofs.Common.{◌≡◌, ◌∙◌, ◌*◌, ◌-◌, sym, ap, subst, ℕ, List, length, arith}
 use Rattle.std.proofs.lemmas.List.{with_items_is}
 use Rattle.fx_winding.specs.Bitmaps.{words_for}
-use Rattle.fx_winding.specs.Notes.{IsNotedUp}
+use Rattle.fx_winding.specs.Notes.{IsNotedAcross, IsNotedUp}
 use Rattle.fx_winding.specs.Winding.{span_of}
 use Rattle.fx_winding.specs.declared.frame.Frame.{Frame}
-use Rattle.fx_rows.specs.inner.Telling.{IsPartOf}
-use Rattle.fx_rows.specs.inner.Told.{IsEndIn, IsEndBit, IsEndSet, AreKept}
-use Rattle.fx_rows.proofs.Segments.{noted_kept, room_band, room_up, across_from, up_whole}
-use Rattle.fx_rows.proofs.Telling.{told_also}
+use Rattle.fx_rows.specs.inner.Telling.{IsPartOf, AreMetBySome}
+use Rattle.fx_rows.specs.inner.Lines.{AreOnly}
+use Rattle.fx_rows.specs.inner.Segments.{IsBandBit}
+use Rattle.fx_rows.specs.inner.Told.{AreKept}
+use Rattle.fx_rows.proofs.Segments.{noted_kept, room_rows, room_up, across_rows, some_more, up_whole}
 use Rattle.fx_rows.proofs.noter.NoterNoting.note.Goals as goal
 
 -- the band is rows of the frame that is noted
@@ -20,42 +21,62 @@ band_of : {n f g : Frame} {from to below : ℕ} → n ≡ f → IsPartOf f from 
 band_of {n} {f} {g} {from} {to} {below} same part first =
     subst (λ (x : Frame). IsBandOf x g from to below) (sym same) (record { part = part; first = first })
 
-pub note_across-requires-clause-set : goal.note_across-requires-clause-set
-note_across-requires-clause-set c =
-    let s = span_of c.args.piece.now in
-    let g = c.placed_in-placed.result.frame in
-    let part = c.placed_in-placed.ensures.part in
-    let bits = c.args.touched.now in
-    told_also (IsEndSet (IsEndIn c.args.self.now.ends) c.args.frame.width bits) (IsEndBit g.width bits) s g 0 g.height
-    (λ r n t. subst (λ (w : ℕ). IsEndBit w bits r n) (sym part.width) t.1) (c.requires.told g part)
+pub note_across-requires-clause-told : goal.note_across-requires-clause-told
+note_across-requires-clause-told c = c.requires.told c.placed_in-placed.result.frame c.placed_in-placed.ensures.part
 
 pub note_across-requires-clause-room : goal.note_across-requires-clause-room
 note_across-requires-clause-room c =
-    room_band c.args.frame c.placed_in-placed.result.frame c.args.rows.first c.args.rows.end (length c.args.touched.now)
-    c.placed_in-placed.ensures.part c.requires.words
+    let n = c.args.self.now.notes in
+    let p = c.placed_in-placed.result in
+    let is = band_of c.requires.frame c.placed_in-placed.ensures.part c.placed_in-placed.ensures.below in
+    room_rows n.frame p.frame c.args.rows.first c.args.rows.end p.below (length c.deref_mut.result.now) is.part is.first
+    (ap length c.deref_mut.ensures.value ∙ n.across_room)
 
 pub note_up-requires-clause-told : goal.note_up-requires-clause-told
-note_up-requires-clause-told c =
-    let s = span_of c.args.piece.now in
-    let g = c.placed_in-placed.result.frame in
-    told_also (IsEndSet (IsEndIn c.args.self.now.ends) c.args.frame.width c.args.touched.now) (IsEndIn c.args.self.now.ends) s g 0
-    g.height (λ r n t. t.0) (c.requires.told g c.placed_in-placed.ensures.part)
+note_up-requires-clause-told c = c.requires.told c.placed_in-placed.result.frame c.placed_in-placed.ensures.part
 
 pub note_up-requires-clause-room : goal.note_up-requires-clause-room
 note_up-requires-clause-room c =
     let n = c.args.self.now.notes in
     let p = c.placed_in-placed.result in
     let is = band_of c.requires.frame c.placed_in-placed.ensures.part c.placed_in-placed.ensures.below in
-    room_up n.frame p.frame c.args.rows.first c.args.rows.end p.below (length c.deref_mut.result.now) is.part is.first
-    (ap length c.deref_mut.ensures.value ∙ n.up_room)
+    room_up n.frame p.frame c.args.rows.first c.args.rows.end p.below (length c.deref_mut-2.result.now) is.part is.first
+    (ap length c.deref_mut-2.ensures.value ∙ n.up_room)
 
 pub returns-clause-across : goal.returns-clause-across
-returns-clause-across c = λ noting.
-    across_from (span_of c.args.piece.now) c.args.frame c.placed_in-placed.result.frame c.args.rows.first c.args.rows.end
-    c.note_across.new.across c.placed_in-placed.ensures.part c.note_across.ensures.noted
+returns-clause-across c = λ r l m no.
+    let n = c.args.self.now.notes in
+    let s = span_of c.args.piece.now in
+    let p = c.placed_in-placed.result in
+    let is = band_of c.requires.frame c.placed_in-placed.ensures.part c.placed_in-placed.ensures.below in
+    let a = sym (with_items_is n.across c.note_across.new.across (omega arith)) in
+    subst (λ (xs : List ℕ). IsNotedAcross s n.frame xs r) a (across_rows s n.frame p.frame c.args.rows.first c.args.rows.end
+    p.below c.note_across.new.across is.part is.first c.note_across.ensures.noted r l m)
+
+pub returns-clause-only : goal.returns-clause-only
+returns-clause-only c = λ ss among old.
+    let n = c.args.self.now.notes in
+    let s = span_of c.args.piece.now in
+    let p = c.placed_in-placed.result in
+    let is = band_of c.requires.frame c.placed_in-placed.ensures.part c.placed_in-placed.ensures.below in
+    let a = sym (with_items_is n.across c.note_across.new.across (omega arith)) in
+    let only : AreOnly (IsBandBit s p.frame p.below) n.across.items c.note_across.new.across =
+    subst (λ (xs : List ℕ). AreOnly (IsBandBit s p.frame p.below) xs c.note_across.new.across) c.deref_mut.ensures.value
+    c.note_across.ensures.only in
+    subst (λ (xs : List ℕ). AreMetBySome n.frame xs ss) a (some_more s ss n.frame p.frame c.args.rows.first c.args.rows.end
+    p.below n.across.items c.note_across.new.across is.part is.first among only old)
+
+pub returns-clause-count : goal.returns-clause-count
+returns-clause-count c =
+    let p = c.placed_in-placed.result in
+    let high = c.placed_in-placed.ensures.part.height in
+    let n = c.note_across.ensures.count in
+    let rows : p.frame.height ≡ c.args.rows.end - c.args.rows.first = omega (arith, high) in
+    let tests = ap (λ (h : ℕ). 45 * h) rows in
+    omega (arith, n, tests)
 
 pub returns-clause-up : goal.returns-clause-up
-returns-clause-up c = λ r l m.
+returns-clause-up c = λ r l m no.
     let n = c.args.self.now.notes in
     let s = span_of c.args.piece.now in
     let p = c.placed_in-placed.result in
@@ -65,7 +86,7 @@ returns-clause-up c = λ r l m.
     p.below c.note_up.new.up is.part is.first c.note_up.ensures.noted r l (omega (arith, m)))
 
 pub returns-clause-top : goal.returns-clause-top
-returns-clause-top c = λ e.
+returns-clause-top c = λ e no.
     let n = c.args.self.now.notes in
     let s = span_of c.args.piece.now in
     let p = c.placed_in-placed.result in
@@ -76,8 +97,19 @@ returns-clause-top c = λ e.
     (omega (arith, e, c.args.rows.order)) (omega (arith, e)))
 
 pub returns-clause-kept : goal.returns-clause-kept
-returns-clause-kept c = λ s w r.
+returns-clause-kept c = λ s w r h no.
     let n = c.args.self.now.notes in
+    let a = sym (with_items_is n.across c.note_across.new.across (omega arith)) in
     let u = sym (with_items_is n.up c.note_up.new.up (omega arith)) in
-    noted_kept n.frame _ _ _ _ s w r (λ k h. h)
-    (subst (λ z. z) (λ i. AreKept (c.deref_mut.ensures.value i) (u i)) c.note_up.ensures.kept)
+    noted_kept n.frame _ _ _ _ s w r
+    (subst (λ z. z) (λ i. AreKept (c.deref_mut.ensures.value i) (a i)) c.note_across.ensures.kept)
+    (subst (λ z. z) (λ i. AreKept (c.deref_mut-2.ensures.value i) (u i)) c.note_up.ensures.kept) (h no)
+
+pub returns-then-is_bulge-clause-across : goal.returns-then-is_bulge-clause-across
+returns-then-is_bulge-clause-across c = λ r l m no. absurd (no (c.is_bulge.ensures.0 c.if-is_bulge.true))
+
+pub returns-then-is_bulge-clause-up : goal.returns-then-is_bulge-clause-up
+returns-then-is_bulge-clause-up c = λ r l m no. absurd (no (c.is_bulge.ensures.0 c.if-is_bulge.true))
+
+pub returns-then-is_bulge-clause-top : goal.returns-then-is_bulge-clause-top
+returns-then-is_bulge-clause-top c = λ e no. absurd (no (c.is_bulge.ensures.0 c.if-is_bulge.true))

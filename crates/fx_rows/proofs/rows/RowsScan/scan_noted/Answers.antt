@@ -1,18 +1,33 @@
-use Rattle.std.proofs.Common.{sym, subst, map, arith}
+use Rattle.std.proofs.Common.{sym, subst, map, List, arith}
 use Rattle.std.specs.List.{All}
 use Rattle.fx_winding.specs.declared.frame.Frame.{Frame}
+use Rattle.fx_winding.specs.declared.point.Piece.{Piece}
 use Rattle.fx_winding.specs.Notes.{IsNoted}
 use Rattle.fx_winding.specs.Winding.{span_of}
-use Rattle.fx_rows.specs.inner.Telling.{AreNotedIn, IsNotedBy}
-use Rattle.fx_rows.proofs.Telling.{noted_frame}
+use Rattle.fx_rows.specs.inner.Bulging.{IsBulge}
+use Rattle.fx_rows.specs.inner.Telling.{AreMetBySome, AreNotedIn, IsNotedBy}
+use Rattle.fx_rows.proofs.Telling.{noted_unless, exact_of}
 use Rattle.fx_rows.proofs.rows.RowsScan.scan_noted.Goals as goal
 
-pub returns-clause-noted : goal.returns-clause-noted
-returns-clause-noted c =
+pub note_bulges-requires : goal.note_bulges-requires
+note_bulges-requires c =
     let n = c.scan_with.new.noter.notes in
     let ss = map span_of c.args.pieces.now in
     let same = c.scan_with.ensures.of in
-    subst (λ (f : Frame). All (λ s. IsNoted s f n.across.items n.up.items) ss) same
-    (noted_frame n.frame n.across.items n.up.items ss
-    (subst (λ (f : Frame). AreNotedIn (IsNotedBy n.frame n.across.items n.up.items) ss f 0 f.height) (sym same)
-    (c.in_ok-bitmap.ensures.noted (omega arith))))
+    record {
+      noted = subst (λ (ps : List Piece). All (λ s. ¬ (IsBulge s) → IsNoted s n.frame n.across.items n.up.items) (map span_of ps))
+          (sym c.as_slice.ensures.value) (noted_unless IsBulge n.frame n.across.items n.up.items ss
+          (subst (λ (f : Frame). AreNotedIn (λ s w r. ¬ (IsBulge s) → IsNotedBy n.frame n.across.items n.up.items s w r) ss f 0
+          f.height) (sym same) (c.in_ok-bitmap.ensures.noted (omega arith))));
+    }
+
+pub returns-clause-exact : goal.returns-clause-exact
+returns-clause-exact c = λ t.
+    let n = c.scan_with.new.noter.notes in
+    let ss = map span_of c.args.pieces.now in
+    let new = c.note_bulges.new.notes.across.items in
+    let P : List Piece → Type 0 =
+    λ ps. AreMetBySome n.frame n.across.items (map span_of ps) → AreMetBySome n.frame new (map span_of ps) in
+    let all = subst P c.as_slice.ensures.value c.note_bulges.ensures.only in
+    exact_of c.args.frame new ss (subst (λ (f : Frame). AreMetBySome f new ss) c.scan_with.ensures.of
+    (all (c.scan_with.ensures.only (c.in_ok-noter.ensures.none ss))))

@@ -3,7 +3,7 @@ use Rattle.fx_fixed.proofs.Linear.{signed, signed_linear}
 use Rattle.fx_fixed.specs.Ranges.{IsWithin}
 use Rattle.fx_winding.specs.Area.{Place, area}
 use Rattle.fx_winding.specs.Winding.{place_of}
-use Rattle.fx_winding.proofs.slope.slope.Goals as goal
+use Rattle.fx_winding.proofs.slope.gap_slope.Goals as goal
 use mir.Syntax.{w128}
 
 copied : (z : ℤ) → IsWithin (2 ^ 98) z → to_z w128 (of_z w128 z) ≡ z

@@ -1,0 +1,17 @@
+use Rattle.std.proofs.Common.{◌≡◌, ◌<ℤ◌, arith, w32, to_z, of_z}
+use Rattle.fx_fixed.proofs.Linear.{signed_linear}
+use Rattle.fx_rows.proofs.Bulges.{line_same}
+use Rattle.fx_rows.proofs.bulge.has_line_from.Goals as goal
+
+pub returns : goal.returns
+returns c =
+    let x : to_z w32 (of_z w32 c.args.x) ≡ c.args.x = omega (arith, signed_linear, c.requires.near_x) in
+    let y : to_z w32 (of_z w32 c.args.y) ≡ c.args.y = omega (arith, signed_linear, c.requires.near_y) in
+    let z : to_z w32 (of_z w32 c.args.z) ≡ c.args.z = omega (arith, signed_linear, c.requires.near_z) in
+    let first = line_same c.has_line.result x y c.has_line.ensures in
+    let second = line_same c.has_line-2.result z y c.has_line-2.ensures in
+    let one : c.args.x <ℤ c.args.y = omega (arith, signed_linear, x, y, c.if-y-x.false) in
+    let two : c.args.z <ℤ c.args.y = omega (arith, signed_linear, x, y, z, c.if-y-z.false) in (
+      λ t. record { above = one; above_too = two; line = first.0 c.if-not-has_line.false; line_too = second.0 t },
+      λ h. second.1 h.line_too,
+    )

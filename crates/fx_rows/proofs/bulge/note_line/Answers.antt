@@ -1,0 +1,63 @@
+use Rattle.std.proofs.Common.{◌≡◌, ◌⊎◌, inl, inr, ℕ, ℤ, subst, arith, w32, to_z, of_z}
+use Rattle.fx_fixed.proofs.Linear.{signed_linear}
+use Rattle.fx_rows.specs.Parts.{IsRowPart}
+use Rattle.fx_rows.specs.inner.Bands.{bounded_span}
+use Rattle.fx_rows.specs.inner.Lines.{AreOnly, IsLineBit, IsSetTo}
+use Rattle.fx_rows.specs.inner.Told.{AreKept}
+use Rattle.fx_rows.proofs.Bulges.{row_set, set_kept}
+use Rattle.fx_rows.proofs.Kept.{only_both}
+use Rattle.fx_rows.proofs.Counted.{part_crosses, part_regions}
+use Rattle.fx_rows.proofs.bulge.note_line.Goals as goal
+
+pub note_run-requires-clause-inside : goal.note_run-requires-clause-inside
+note_run-requires-clause-inside c = part_crosses _ _ _ _ c.met_part-part.ensures.part
+
+pub note_run-requires-2-clause-inside : goal.note_run-requires-2-clause-inside
+note_run-requires-2-clause-inside c = part_regions _ _ _ _ c.met_part-part.ensures.part
+
+pub returns-clause-kept : goal.returns-clause-kept
+returns-clause-kept c = λ n h. c.note_last.ensures.kept n (c.note_first.ensures.kept n (c.note_tip.ensures.kept n
+    (c.note_end-2.ensures.kept n (c.note_end.ensures.kept n (c.note_run-2.ensures.kept n (c.note_run.ensures.kept n h))))))
+
+pub returns-clause-noted : goal.returns-clause-noted
+returns-clause-noted c =
+    let line = c.args.line in
+    let f = line.frame in
+    let b = c.args.bounded.now in
+    let s = bounded_span b in
+    let same : to_z w32 (of_z w32 line.row) ≡ line.row = omega (arith, signed_linear, line.row_near) in
+    let is = subst (λ (y : ℤ). IsRowPart s y f c.met_part-part.result) same c.met_part-part.ensures.part in
+    let last = c.note_last.new.bits in
+    let k6 : AreKept c.note_first.new.bits last = c.note_last.ensures.kept in
+    let k5 : AreKept c.note_tip.new.bits last = λ n h. k6 n (c.note_first.ensures.kept n h) in
+    let k4 : AreKept c.note_end-2.new.bits last = λ n h. k5 n (c.note_tip.ensures.kept n h) in
+    let k3 : AreKept c.note_end.new.bits last = λ n h. k4 n (c.note_end-2.ensures.kept n h) in
+    let k2 : AreKept c.note_run-2.new.bits last = λ n h. k3 n (c.note_end.ensures.kept n h) in
+    let k1 : AreKept c.note_run.new.bits last = λ n h. k2 n (c.note_run-2.ensures.kept n h) in
+    row_set s f line.row c.met_part-part.result line.first line.step last is
+    (λ k o l h. set_kept s f line.row line.first line.step k _ last k1 (c.note_run.ensures.noted k o l h))
+    (λ k o l h. set_kept s f line.row line.first line.step k _ last k2 (c.note_run-2.ensures.noted k o l h))
+    (λ k o l h. set_kept s f line.row line.first line.step k _ last k3 (c.note_end.ensures.noted k o l h))
+    (λ k o l h. set_kept s f line.row line.first line.step k _ last k4 (c.note_end-2.ensures.noted k o l h))
+    (λ k o l h. set_kept s f line.row line.first line.step k _ last k5 (c.note_tip.ensures.noted k o l h))
+    (λ k e. by k6 k e)
+  where
+    by : AreKept c.note_first.new.bits c.note_last.new.bits → (k : ℕ) → (k ≡ 0) ⊎ (k ≡ c.args.line.frame.width)
+        → IsSetTo (bounded_span c.args.bounded.now) c.args.line.frame c.args.line.row c.args.line.first c.args.line.step
+        c.note_last.new.bits k
+    by kept k (inl e) = set_kept (bounded_span c.args.bounded.now) c.args.line.frame c.args.line.row c.args.line.first
+        c.args.line.step k _ _ kept (c.note_first.ensures.noted (bounded_span c.args.bounded.now) c.args.bounded.now.between k e)
+    by kept k (inr e) = c.note_last.ensures.noted (bounded_span c.args.bounded.now) c.args.bounded.now.between k e
+
+pub returns-clause-only : goal.returns-clause-only
+returns-clause-only c =
+    let line = c.args.line in
+    let s = bounded_span c.args.bounded.now in
+    let P = IsLineBit s line.frame line.row line.first line.step in
+    let first = c.args.bits.now in
+    let o2 : AreOnly P first c.note_run-2.new.bits = only_both P _ _ _ c.note_run.ensures.only c.note_run-2.ensures.only in
+    let o3 : AreOnly P first c.note_end.new.bits = only_both P _ _ _ o2 c.note_end.ensures.only in
+    let o4 : AreOnly P first c.note_end-2.new.bits = only_both P _ _ _ o3 c.note_end-2.ensures.only in
+    let o5 : AreOnly P first c.note_tip.new.bits = only_both P _ _ _ o4 c.note_tip.ensures.only in
+    let o6 : AreOnly P first c.note_first.new.bits = only_both P _ _ _ o5 (c.note_first.ensures.only s) in
+    only_both P _ _ _ o6 (c.note_last.ensures.only s)

@@ -1,0 +1,14 @@
+use Rattle.std.proofs.Common.{◌≤◌, ◌<◌, ◌+◌, ◌-◌, ◌*◌, ℕ, pos, ◌+ℤ◌}
+use Rattle.fx_rows.specs.inner.Bands.{bounded_span}
+use Rattle.fx_rows.specs.inner.Lines.{AreOnly, IsRowSet, IsRowsBit}
+use Rattle.fx_rows.specs.inner.Told.{AreKept}
+use Rattle.fx_rows.proofs.bulge.note_met_lines.Given as goal
+
+abbrev pub invariant-rows : goal.invariant-rows
+invariant-rows l = record {
+  noted : (r : ℕ) → l.fn.rows.first ≤ r → r < l.up
+      → IsRowSet (bounded_span l.bounded) l.frame (l.frame.bottom +ℤ pos r) (r * l.row_step) l.step l.bits;
+  kept : AreKept l.fn.bits l.bits;
+  only : AreOnly (IsRowsBit (bounded_span l.bounded) l.frame l.row_step l.step) l.fn.bits l.bits;
+  count : l.tally.count ≤ l.fn.tally.count + 45 * (l.up - l.fn.rows.first);
+}

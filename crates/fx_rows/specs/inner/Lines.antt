@@ -1,0 +1,53 @@
+-- The segments of a row, or of a column seen as a row, that a piece meets, and the bits that they have.
+use Rattle.std.specs.Prelude.{◌≡◌, ◌⊎◌, ℕ, ◌+◌, ◌*◌, ◌<◌, ◌≤◌, ℤ, pos, ◌+ℤ◌, ◌-ℤ◌, List, Option, Some, None}
+use Rattle.fx_winding.specs.Area.{Place}
+use Rattle.fx_winding.specs.Bitmaps.{word_bit}
+use Rattle.fx_winding.specs.Meets.{IsMet}
+use Rattle.fx_winding.specs.Winding.{Span, IsOn, centre}
+use Rattle.fx_winding.specs.declared.frame.Frame.{Frame}
+use Rattle.fx_rows.specs.declared.part.Run.{Run}
+
+-- the ends of the segment of a row that goes to a frame's column
+abbrev pub left_at : Frame → ℤ → ℕ → Place
+left_at f row k = centre ((f.left -ℤ pos 1) +ℤ pos k) row
+
+abbrev pub right_at : Frame → ℤ → ℕ → Place
+right_at f row k = centre (f.left +ℤ pos k) row
+
+-- a piece meets that segment
+abbrev pub IsMetTo : Span → Frame → ℤ → ℕ → Type 0
+IsMetTo s f row k = IsMet (left_at f row k) (right_at f row k) s
+
+-- the column is the first of a run, or the one after its last
+abbrev pub IsRunEnd : Frame → Option Run → ℕ → Type 0
+IsRunEnd f None k = ⊥
+IsRunEnd f (Some r) k = (f.left +ℤ pos k ≡ r.first) ⊎ (f.left +ℤ pos k ≡ r.last +ℤ pos 1)
+
+-- the segment to a column within the frame, if the piece meets it, has its bit: the one that is k steps from first
+abbrev pub IsSetTo : Span → Frame → ℤ → ℕ → ℕ → List ℕ → ℕ → Type 0
+IsSetTo s f row first step bits k = IsMetTo s f row k → word_bit bits (first + k * step) ≡ 1
+
+-- all segments of a row
+abbrev pub IsRowSet : Span → Frame → ℤ → ℕ → ℕ → List ℕ → Type 0
+IsRowSet s f row first step bits = (k : ℕ) → k ≤ f.width → IsSetTo s f row first step bits k
+
+-- all segments of a frame's rows; the bits of a row's begin as many after those of the row below as row_step says
+abbrev pub AreRowsSet : Span → Frame → ℕ → ℕ → List ℕ → Type 0
+AreRowsSet s f row_step step bits = (r : ℕ) → r < f.height → IsRowSet s f (f.bottom +ℤ pos r) (r * row_step) step bits
+
+-- n is the bit of a segment of a row; within the frame the piece meets the segment, unless an end of that is on it
+pub record IsLineBit (s : Span) (f : Frame) (row : ℤ) (first step n : ℕ) : Type 0 where
+  pub k : ℕ
+  pub within : k ≤ f.width
+  pub at : n ≡ first + k * step
+  pub met : 0 < k → k < f.width → ¬ (IsOn (left_at f row k) s) → ¬ (IsOn (right_at f row k) s) → IsMetTo s f row k
+
+-- of the bits that are set only these were not set before
+abbrev pub AreOnly : (ℕ → Type 0) → List ℕ → List ℕ → Type 0
+AreOnly IsNew old new = (n : ℕ) → word_bit new n ≡ 1 → (word_bit old n ≡ 1) ⊎ IsNew n
+
+-- the same of the segments of a frame's rows
+pub record IsRowsBit (s : Span) (f : Frame) (row_step step n : ℕ) : Type 0 where
+  pub r : ℕ
+  pub row : r < f.height
+  pub line : IsLineBit s f (f.bottom +ℤ pos r) (r * row_step) step n

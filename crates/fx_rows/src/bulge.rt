@@ -1,0 +1,212 @@
+//! Arcs that bulge: the box of one is larger than that of its chord. What they meet is noted row by row, and then column by column,
+//! as rows of the arc with its coordinates exchanged.
+
+ghost use Rattle.std.specs.Prelude.{◌≡◌, ◌⊎◌, ℕ, ◌+◌, ◌*◌, ◌^◌, ◌-◌, ◌<◌, ◌≤◌, length, pos, ◌+ℤ◌, ◌↔◌, IsTrue, List};
+ghost use Rattle.fx_fixed.specs.Ranges.{IsWithin};
+ghost use Rattle.fx_rows.specs.inner.Bulging.{HasLine, IsLineTo, IsLineFrom, IsBeyond, IsBulge};
+ghost use Rattle.fx_winding.specs.Frames.{IsFrom};
+ghost use Rattle.fx_winding.specs.Notes.{IsNoted};
+ghost use Rattle.fx_winding.specs.Winding.{Span, span_of};
+ghost use Rattle.fx_rows.specs.inner.Bands.{bounded_span};
+ghost use Rattle.fx_rows.specs.inner.Lines.{AreOnly, AreRowsSet, IsLineBit, IsRowSet, IsRowsBit};
+ghost use Rattle.fx_rows.specs.inner.Telling.{AreMetBySome, IsAmong};
+ghost use Rattle.fx_rows.specs.inner.Told.{AreKept};
+
+use crate::bounded::{Bounded, bounds_of, rise_of};
+use crate::heights::{RowRange, rows_met};
+use crate::intervals::met_part;
+use crate::line::{Line, note_end, note_first, note_last, note_run, note_tip};
+use crate::strip::row_of;
+use fx_winding::{Frame, Notes, Piece, Point, Tally, first_from, words_for};
+
+/// Whether a line of centres comes from x on and up to y.
+#[inline(always)]
+fn has_line(x: i32, y: i32) -> bool
+    requires near_x { IsWithin (2 ^ 22) x }
+    requires near_y { IsWithin (2 ^ 22) y }
+    ensures { IsTrue result ↔ HasLine x y }
+{
+    first_from(x) < first_from(y + 1)
+}
+
+/// Whether x is below both of two values, and a line of centres comes from it on and up to both.
+#[inline(always)]
+fn has_line_to(x: i32, y: i32, z: i32) -> bool
+    requires near_x { IsWithin (2 ^ 22) x }
+    requires near_y { IsWithin (2 ^ 22) y }
+    requires near_z { IsWithin (2 ^ 22) z }
+    ensures { IsTrue result ↔ IsLineTo x y z }
+{
+    if y <= x {
+        return false;
+    }
+    if z <= x {
+        return false;
+    }
+    if !has_line(x, y) {
+        return false;
+    }
+    has_line(x, z)
+}
+
+/// Whether y is above both of two values, and a line of centres comes from both on and up to it.
+#[inline(always)]
+fn has_line_from(x: i32, z: i32, y: i32) -> bool
+    requires near_x { IsWithin (2 ^ 22) x }
+    requires near_y { IsWithin (2 ^ 22) y }
+    requires near_z { IsWithin (2 ^ 22) z }
+    ensures { IsTrue result ↔ IsLineFrom x z y }
+{
+    if y <= x {
+        return false;
+    }
+    if y <= z {
+        return false;
+    }
+    if !has_line(x, y) {
+        return false;
+    }
+    has_line(z, y)
+}
+
+/// Whether a line of centres comes between a control value and both end values, or is at one of them.
+#[inline(always)]
+fn is_beyond(a: i32, b: i32, c: i32) -> bool
+    requires near_a { IsWithin (2 ^ 22) a }
+    requires near_b { IsWithin (2 ^ 22) b }
+    requires near_c { IsWithin (2 ^ 22) c }
+    ensures { IsTrue result ↔ IsBeyond a b c }
+{
+    if has_line_to(b, a, c) {
+        return true;
+    }
+    has_line_from(a, c, b)
+}
+
+/// Whether an arc bulges.
+#[inline(always)]
+fn bulges(a: Point, b: Point, c: Point) -> bool
+    ensures { IsTrue result ↔ (IsBeyond a.x b.x c.x ⊎ IsBeyond a.y b.y c.y) }
+{
+    if is_beyond(a.x, b.x, c.x) {
+        return true;
+    }
+    is_beyond(a.y, b.y, c.y)
+}
+
+/// Whether a piece is an arc that bulges.
+#[inline(always)]
+pub(crate) fn is_bulge(piece: &Piece) -> bool
+    ensures { IsTrue result ↔ IsBulge (span_of piece.now) }
+{
+    match piece.b {
+        None => false,
+        Some(b) => bulges(piece.a, b, piece.c),
+    }
+}
+
+/// Notes the segments of a row that a piece meets.
+pub(crate) fn note_line(bounded: &Bounded, line: Line, bits: &mut [u32], tally: &mut Tally)
+    requires row { IsFrom line.frame.bottom line.frame.height line.row }
+    requires room { line.first + line.frame.width * line.step < 32 * length bits.old }
+    ensures noted { IsRowSet (bounded_span bounded.now) line.frame line.row line.first line.step bits.new }
+    ensures kept { AreKept bits.old bits.new }
+    ensures only { AreOnly (IsLineBit (bounded_span bounded.now) line.frame line.row line.first line.step) bits.old bits.new }
+    ensures count { tally.new.count ≤ tally.old.count + 45 }
+{
+    let piece = &bounded.piece;
+    let part = met_part(bounded, line.row, line.frame, tally);
+    note_run(piece, line, part.crossing, bits, tally);
+    note_run(piece, line, part.region, bits, tally);
+    note_end(piece, line, piece.a, bits, tally);
+    note_end(piece, line, piece.c, bits, tally);
+    note_tip(piece, line, bits, tally);
+    note_first(bounded.across, line, bits);
+    note_last(bounded.across, line, bits);
+}
+
+/// Notes the segments of some rows of a frame that a piece meets. The bits of a row begin `row_step` bits after those of the row
+/// below.
+fn note_met_lines(
+    bounded: &Bounded,
+    rows: RowRange,
+    frame: Frame,
+    row_step: usize,
+    step: usize,
+    bits: &mut [u32],
+    tally: &mut Tally,
+)
+    requires rows { rows.end ≤ frame.height }
+    requires row_few { row_step ≤ 2 ^ 16 }
+    requires few { step ≤ 2 ^ 16 }
+    requires room { (r : ℕ) → r < frame.height → r * row_step + frame.width * step < 32 * length bits.old }
+    ensures noted { (r : ℕ) → rows.first ≤ r → r < rows.end →
+        IsRowSet (bounded_span bounded.now) frame (frame.bottom +ℤ pos r) (r * row_step) step bits.new }
+    ensures kept { AreKept bits.old bits.new }
+    ensures only { AreOnly (IsRowsBit (bounded_span bounded.now) frame row_step step) bits.old bits.new }
+    ensures count { tally.new.count ≤ tally.old.count + 45 * (rows.end - rows.first) }
+{
+    // The segments of the rows before `up` are noted.
+    'rows: for up in rows.first..rows.end {
+        let line = Line {
+            frame,
+            row: row_of(frame, up),
+            first: up as usize * row_step,
+            step,
+        };
+        note_line(bounded, line, bits, tally);
+    }
+}
+
+/// Notes the segments of a frame's rows that a piece meets.
+fn note_lines(
+    piece: &Piece,
+    frame: Frame,
+    row_step: usize,
+    step: usize,
+    bits: &mut [u32],
+    tally: &mut Tally,
+)
+    requires row_few { row_step ≤ 2 ^ 16 }
+    requires few { step ≤ 2 ^ 16 }
+    requires room { (r : ℕ) → r < frame.height → r * row_step + frame.width * step < 32 * length bits.old }
+    ensures noted { AreRowsSet (span_of piece.now) frame row_step step bits.new }
+    ensures kept { AreKept bits.old bits.new }
+    ensures only { AreOnly (IsRowsBit (span_of piece.now) frame row_step step) bits.old bits.new }
+    ensures count { tally.new.count ≤ tally.old.count + 45 * frame.height }
+{
+    let bounded = bounds_of(piece, rise_of(piece));
+    note_met_lines(
+        &bounded,
+        rows_met(piece, frame),
+        frame,
+        row_step,
+        step,
+        bits,
+        tally,
+    );
+}
+
+/// Notes the segments that a piece meets, and so what no band has noted.
+#[inline(never)]
+pub(crate) fn note_bulge(piece: &Piece, notes: &mut Notes, tally: &mut Tally)
+    ensures frame { notes.new.frame ≡ notes.old.frame }
+    ensures noted { IsNoted (span_of piece.now) notes.old.frame notes.new.across.items notes.new.up.items }
+    ensures across { AreKept notes.old.across.items notes.new.across.items }
+    ensures up { AreKept notes.old.up.items notes.new.up.items }
+    ensures only { (ss : List Span) → IsAmong (span_of piece.now) ss → AreMetBySome notes.old.frame notes.old.across.items ss →
+        AreMetBySome notes.old.frame notes.new.across.items ss }
+    ensures count { tally.new.count ≤ tally.old.count + 45 * (notes.old.frame.height + notes.old.frame.width) }
+{
+    let frame = notes.frame;
+    let row = 32 * words_for(frame.width);
+    note_lines(piece, frame, row, 1, &mut notes.across, tally);
+    note_lines(
+        &piece.turned(),
+        frame.turned(),
+        1,
+        row,
+        &mut notes.up,
+        tally,
+    );
+}

@@ -1,0 +1,60 @@
+//! Columns seen as rows: points, pieces and frames with their coordinates exchanged.
+
+ghost use Rattle.std.specs.Prelude.{◌≡◌, option_map};
+ghost use Rattle.fx_winding.specs.Dropout.{turned_place, turned_span};
+ghost use Rattle.fx_winding.specs.Winding.{place_of, maybe_place_of, span_of};
+
+use crate::frame::Frame;
+use crate::point::{Piece, Point};
+
+impl Point {
+    /// The point with its coordinates exchanged.
+    pub fn turned(self) -> Point
+        ensures { place_of result ≡ turned_place (place_of self) }
+    {
+        Point {
+            x: self.y,
+            y: self.x,
+        }
+    }
+}
+
+/// A control point with its coordinates exchanged, if there is one.
+fn turned_control(b: Option<Point>) -> Option<Point>
+    ensures { maybe_place_of result ≡ option_map turned_place (maybe_place_of b) }
+{
+    match b {
+        None => None,
+        Some(b) => Some(b.turned()),
+    }
+}
+
+impl Piece {
+    /// The piece with its coordinates exchanged.
+    pub fn turned(&self) -> Piece
+        ensures { span_of result ≡ turned_span (span_of self.now) }
+    {
+        Piece {
+            a: self.a.turned(),
+            b: turned_control(self.b),
+            c: self.c.turned(),
+        }
+    }
+}
+
+impl Frame {
+    /// The frame with its coordinates exchanged.
+    pub fn turned(self) -> Frame
+        ensures left { result.left ≡ self.bottom }
+        ensures bottom { result.bottom ≡ self.left }
+        ensures width { result.width ≡ self.height }
+        ensures height { result.height ≡ self.width }
+    {
+        Frame {
+            left: self.bottom,
+            bottom: self.left,
+            width: self.height,
+            height: self.width,
+        }
+    }
+}
