@@ -9,7 +9,9 @@
  *     check_c refuse FONT                           each request for memory refused in turn
  *     check_c threads FONT                          eight threads at once
  *     check_c stack FONT KIB                        in a thread with a stack of that many KiB
- *     check_c reasons                               the name of each number */
+ *     check_c reasons                               the name of each number
+ *
+ * With -DHEAP_BESIDE the heap is that of another file, and `refuse` is left out. */
 #define _POSIX_C_SOURCE 200112L
 #include "mkstrike.h"
 #include <pthread.h>
@@ -18,6 +20,8 @@
 #include <string.h>
 
 /* ---- the heap */
+
+#ifndef HEAP_BESIDE
 
 struct given {
     size_t ok;
@@ -60,6 +64,7 @@ void rattle_dealloc(void *at) {
 }
 #ifdef __cplusplus
 }
+#endif
 #endif
 
 /* ---- what is asked for */
@@ -464,6 +469,7 @@ static int requests(struct request *r) {
 
 /* ---- memory, threads and the stack */
 
+#ifndef HEAP_BESIDE
 /* Each request for memory is refused in turn; the call must say so, change nothing and give back what it took. */
 static long refuse_each(const struct request *r, char call) {
     struct mkstrike_told told;
@@ -495,8 +501,9 @@ static long refuse_each(const struct request *r, char call) {
         if (memcmp(out, before, sizeof out) != 0 || memcmp(placed, placed_before, sizeof placed) != 0) stop("a refusal changed a buffer");
     }
 }
+#endif
 
-static struct request shared, second;
+static struct request shared;
 static uint8_t *shared_text;
 static size_t shared_len;
 static struct many shared_many;
@@ -553,8 +560,7 @@ static int reasons(void) {
 }
 
 int main(int argc, char **argv) {
-    const char *mode = argc > 1 ? argv[1] : "", *call;
-    long count = 0;
+    const char *mode = argc > 1 ? argv[1] : "";
     if (argc == 7 && (strcmp(mode, "strike") == 0 || strcmp(mode, "glyphs") == 0 || strcmp(mode, "many") == 0)) {
         shared = request_of(argv[2], atoi(argv[3]), (uint32_t)atoi(argv[4]), (uint32_t)strtoul(argv[5], NULL, 16),
             (uint32_t)strtoul(argv[6], NULL, 16));
@@ -564,13 +570,18 @@ int main(int argc, char **argv) {
         shared = request_of(argv[2], 16, 0, 0x20, 0x20);
         return requests(&shared);
     }
+#ifndef HEAP_BESIDE
     if (argc == 3 && strcmp(mode, "refuse") == 0) {
-        shared = request_of(argv[2], 16, MKSTRIKE_HINTED, 0x20, 0x7E);
+        const char *call;
+        long count = 0;
+        static struct request second;
         second = request_of(argv[2], 33, MKSTRIKE_DROPOUT, 0x20, 0x7E);
+        shared = request_of(argv[2], 16, MKSTRIKE_HINTED, 0x20, 0x7E);
         for (call = "mgs"; *call != 0; call++) count += refuse_each(&shared, *call) + refuse_each(&second, *call);
         printf("%ld\n", count);
         return 0;
     }
+#endif
     if (argc == 3 && strcmp(mode, "threads") == 0) {
         shared = request_of(argv[2], 16, MKSTRIKE_HINTED, 0x20, 0x7E);
         run_threads(8, 100, 0);
