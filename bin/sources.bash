@@ -2,7 +2,8 @@
 #
 #     source FOLDER/bin/sources.bash && go_to_top && list_crates && hash_of_sources
 #
-# The hash is that of names below the repository's top and of contents. Folder, dates, locale and what is built change nothing.
+# The hash is that of names below the repository's top and of contents, those that symbolic links lead to as well. Folder, dates, locale
+# and what is built change nothing.
 # shellcheck shell=bash
 
 # Goes to the top of the repository that this file is in, from which all paths here count. To be called before any other `cd`, since
@@ -35,13 +36,16 @@ add_crate() {
     crates+=("$1")
 }
 
-# Sets `parts` to the folders of the sources of the crates given.
+# Sets `parts` to the folders of the sources of the crates given, and to the files of Bazel's that rt reads where they are.
 list_parts() {
     local crate part
     parts=()
+    for part in MODULE.bazel BUILD.bazel; do
+        [ ! -e "$part" ] || parts+=("$part")
+    done
     for crate; do
-        for part in src specs proofs; do
-            [ ! -d "crates/$crate/$part" ] || parts+=("crates/$crate/$part")
+        for part in src specs proofs BUILD.bazel; do
+            [ ! -e "crates/$crate/$part" ] || parts+=("crates/$crate/$part")
         done
     done
 }
@@ -54,5 +58,5 @@ hash_of_sources() {
 
 # Prints one hash of the names and contents of the files given and of all files below the folders given.
 hash_of() {
-    find "$@" -type f -print0 | LC_ALL=C sort -z | LC_ALL=C xargs -0 -r sha256sum | sha256sum | tr -d ' -'
+    find -L "$@" -type f -print0 | LC_ALL=C sort -z | LC_ALL=C xargs -0 -r sha256sum | sha256sum | tr -d ' -'
 }
