@@ -5,7 +5,7 @@ use Rattle.std.specs.Prelude.{Bool, false, ◌==◌, ◌&&◌, nat_lt, nat_le}
 use Rattle.std.specs.Option.{option_or}
 use Rattle.fx_fixed.specs.Chain.{◌>>=◌, refuse, wanted, map_ok}
 use Rattle.fx_sfnt.specs.Fields.{field, number_at}
-use Rattle.fx_sfnt.specs.Tables.{records, table_of}
+use Rattle.fx_sfnt.specs.Tables.{Face, records, table_in}
 use Rattle.fx_cmap.specs.Segments.{segments_at, glyph_by_segments}
 use Rattle.fx_cmap.specs.Groups.{groups_at, glyph_by_groups}
 use Rattle.fx_cmap.specs.declared.fault.CharMapFault.{CharMapFault}
@@ -74,10 +74,10 @@ char_map_of cmap = do
   chosen ← wanted (chosen_of cmap candidates) NoCharMap
   subtable_at cmap chosen
 
--- the character map of a font file, or the first fault
-unfoldable pub map_of_file : List ℕ → Result Mapping CharMapFault
-map_of_file file = do
-  cmap ← wanted (table_of file (codes "cmap")) NoCharMap
+-- the character map of a font, or the first fault
+unfoldable pub map_of : Face → Result Mapping CharMapFault
+map_of face = do
+  cmap ← wanted (table_in face (codes "cmap")) NoCharMap
   char_map_of cmap
 
 -- the glyph of a character code, 0 if it has none

@@ -1,7 +1,7 @@
 //! A character map over the bytes of `cmap`.
 
 ghost use Rattle.std.specs.Prelude.{◌≡◌, ℕ, ◌<◌, ◌≤◌};
-ghost use Rattle.fx_cmap.specs.Lookup.{char_map_of, map_of_file, glyph_for};
+ghost use Rattle.fx_cmap.specs.Lookup.{char_map_of, map_of, glyph_for};
 
 use crate::cursor::Cursor;
 use crate::fault::CharMapFault;
@@ -33,9 +33,9 @@ impl<'a> CharMap<'a> {
     /// before the fields of its segments or groups do, or if its last codes fall. The subtable that is taken is that of the first
     /// candidate that has one (`candidates.rt`): of format 12 for Windows with all of Unicode, else for Unicode; else of format 4
     /// for Windows with Unicode, else for Unicode, else for Windows with symbols.
-    #[tactic(auto, unfolding(crate::specs::Lookup::map_of_file))]
+    #[tactic(auto, unfolding(crate::specs::Lookup::map_of))]
     pub fn open(font: &Font<'a>) -> Result<CharMap<'a>, CharMapFault>
-        ensures { result ≡ map_of_file font.now.file }
+        ensures { result ≡ map_of font.now }
     {
         match font.table(*b"cmap") {
             Some(cmap) => CharMap::read(cmap),

@@ -62,7 +62,7 @@ module _ (texts : Program → List ℕ) (g : ℕ) (s t : State) (n : ℕ) (eg : 
 
 module _ (face : Face) (ppem : ℕ) (scale : Scale) (a b c : List ℕ) (n : ℕ) (s : State)
     (ez : scale ≡ scale_of face ppem)
-    (ea : a ≡ table_or_empty face.file (codes "fpgm")) (eb : b ≡ table_or_empty face.file (codes "prep")) (ec : c ≡ [])
+    (ea : a ≡ table_or_empty face (codes "fpgm")) (eb : b ≡ table_or_empty face (codes "prep")) (ec : c ≡ [])
     (es : s ≡ first_state face scale) where
   abbrev these : Program → List ℕ
   these = texts (record { font = a; prep = b; glyph = c; number = n })

@@ -41,15 +41,15 @@ pub record MachineView : Type 0 where
 
 -- the bytes of a font's programs, and of a glyph's
 abbrev pub texts_of : Face → List ℕ → Program → List ℕ
-texts_of face code Font = table_or_empty face.file (codes "fpgm")
-texts_of face code Prep = table_or_empty face.file (codes "prep")
+texts_of face code Font = table_or_empty face (codes "fpgm")
+texts_of face code Prep = table_or_empty face (codes "prep")
 texts_of face code Glyph = code
 
 -- ---- what the programs of a font leave
 
 -- the control values: each entry of `cvt ` scaled
 abbrev pub controls_of : Face → Scale → List ℤ
-controls_of face scale = control_values scale (table_or_empty face.file (codes "cvt "))
+controls_of face scale = control_values scale (table_or_empty face (codes "cvt "))
 
 -- an empty stack, storage cells of 0, the control values
 abbrev pub first_store : Face → Scale → StoreView

@@ -139,8 +139,8 @@ impl<'a> Model for Machine<'a> {
 
     ghost invariant = { λ m. (Fits m.prepared.value m.state.value)
         × (m.state.value.store.room ≡ room_of m.font.maxp.max_stack_elements)
-        × (m.font_program.now ≡ table_or_empty m.font.file (codes "fpgm"))
-        × (m.prep.now ≡ table_or_empty m.font.file (codes "prep"))
+        × (m.font_program.now ≡ table_or_empty m.font (codes "fpgm"))
+        × (m.prep.now ≡ table_or_empty m.font (codes "prep"))
         × (m.state.value.scale ≡ scale_of m.font m.state.value.scale.ppem) };
 }
 

@@ -46,7 +46,7 @@ pub struct State {
 
 /// A table of a font's programs, which may be absent.
 pub(crate) fn table_or_empty<'a>(font: &Font<'a>, tag: [u8; 4]) -> &'a [u8]
-    ensures { result.now ≡ table_or_empty font.now.file tag }
+    ensures { result.now ≡ table_or_empty font.now tag }
 {
     font.table(tag).unwrap_or(&[])
 }

@@ -27,7 +27,7 @@ lsb_of hmtx pairs g = unwrap_or (signed_at hmtx (lsb_offset pairs g)) (pos 0)
 unfoldable pub metrics_of : Face → ℕ → Result Metrics FontFault
 metrics_of face g = do
   _ ← refuse (nat_le face.maxp.num_glyphs g) (BadGlyphNumber g)
-  let hmtx = table_or_empty face.file (codes "hmtx") in
+  let hmtx = table_or_empty face (codes "hmtx") in
       Ok (record {
         advance_width = advance_width_of hmtx face.hhea.number_of_h_metrics g;
         lsb = lsb_of hmtx
@@ -52,4 +52,4 @@ glyph_data_of format loca glyf g = do
 unfoldable pub glyph_bytes_of : Face → ℕ → Result (List ℕ) FontFault
 glyph_bytes_of face g = do
   _ ← refuse (nat_le face.maxp.num_glyphs g) (BadGlyphNumber g)
-  glyph_data_of face.head.index_to_loc_format (table_or_empty face.file (codes "loca")) (table_or_empty face.file (codes "glyf")) g
+  glyph_data_of face.head.index_to_loc_format (table_or_empty face (codes "loca")) (table_or_empty face (codes "glyf")) g

@@ -36,10 +36,6 @@ table_bytes file entry = take (field 4 entry 12) (drop (field 4 entry 8) file)
 abbrev pub table_of : List ℕ → List ℕ → Option (List ℕ)
 table_of file tag = option_map (table_bytes file) (find (has_tag tag) (records 16 (field 2 file 4) (drop 12 file)))
 
--- the table of a tag that may be absent, and is then empty
-abbrev pub table_or_empty : List ℕ → List ℕ → List ℕ
-table_or_empty file tag = unwrap_or (table_of file tag) []
-
 -- a table that is required
 abbrev pub required_table_of : List ℕ → List ℕ → Result (List ℕ) FontFault
 required_table_of file tag = wanted (table_of file tag) (TableMissing tag)
@@ -83,6 +79,14 @@ pub record Face : Type 0 where
   pub head : Head
   pub maxp : Maxp
   pub hhea : Hhea
+
+-- the table of a tag in a font; crates above know a font's tables by this alone
+abbrev pub table_in : Face → List ℕ → Option (List ℕ)
+table_in face tag = table_of face.file tag
+
+-- the table of a tag that may be absent, and is then empty
+abbrev pub table_or_empty : Face → List ℕ → List ℕ
+table_or_empty face tag = unwrap_or (table_in face tag) []
 
 -- the font of a file, or the first fault
 unfoldable pub font_of : List ℕ → Result Face FontFault

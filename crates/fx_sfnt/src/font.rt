@@ -2,7 +2,7 @@
 
 ghost use Rattle.std.specs.Prelude.{◌≡◌, ◌<◌, ◌^◌, length, option_map, IfSome, IsOk};
 ghost use Rattle.fx_fixed.specs.Chain.{map_ok};
-ghost use Rattle.fx_sfnt.specs.Tables.{table_of, font_of};
+ghost use Rattle.fx_sfnt.specs.Tables.{table_in, font_of};
 ghost use Rattle.fx_sfnt.specs.Glyphs.{metrics_of, glyph_bytes_of};
 
 use crate::directory::{find_table, is_directory, required_table};
@@ -78,17 +78,10 @@ impl<'a> Font<'a> {
     /// The bytes of the table with a tag, if the directory has one: from the first such record's offset, for its length, cut at
     /// the file's end.
     pub fn table(&self, tag: [u8; 4]) -> Option<&'a [u8]>
-        ensures table { option_map (λ t. t.now) result ≡ table_of self.now.file tag }
+        ensures table { option_map (λ t. t.now) result ≡ table_in self.now tag }
         ensures short { IfSome result (λ t. length t.now < 2 ^ 32) }
     {
         find_table(self.file, tag)
-    }
-
-    /// The file that the font was opened on.
-    pub fn file(&self) -> &'a [u8]
-        ensures { result.now ≡ self.now.file }
-    {
-        self.file
     }
 
     /// The fields of `head`.

@@ -25,8 +25,8 @@ code_of (Composite assembly) = assembly.code
 
 -- a program of an opened font, empty if its table is absent; or the first cause why it can't be read
 abbrev pub program_in : Face → FontProgram → Result (List ℕ) Refusal
-program_in face program.Fpgm = Ok (table_or_empty face.file (codes "fpgm"))
-program_in face program.Prep = Ok (table_or_empty face.file (codes "prep"))
+program_in face program.Fpgm = Ok (table_or_empty face (codes "fpgm"))
+program_in face program.Prep = Ok (table_or_empty face (codes "prep"))
 program_in face (program.Glyph g) = do
   bytes ← map_fault of_font (glyph_bytes_of face g)
   glyph ← map_fault of_glyph (glyph_of bytes g)

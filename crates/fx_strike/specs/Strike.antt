@@ -8,7 +8,7 @@ use Rattle.fx_fixed.specs.Sizes.{ppem_of}
 use Rattle.fx_sfnt.specs.Tables.{Face, font_of}
 use Rattle.fx_sfnt.specs.Glyphs.{metrics_of}
 use Rattle.fx_sfnt.specs.declared.records.Metrics.{Metrics}
-use Rattle.fx_cmap.specs.Lookup.{map_of_file, glyph_for}
+use Rattle.fx_cmap.specs.Lookup.{map_of, glyph_for}
 use Rattle.fx_cmap.specs.declared.mapping.Mapping.{Mapping}
 use Rattle.fx_machine.specs.Known.{Known, machine_of}
 use Rattle.fx_machine.specs.declared.usage.Usage.{Usage}
@@ -209,7 +209,7 @@ checked_text title chars = do
 unfoldable pub font_with_map : List ℕ → Result (Face × Mapping) Refusal
 font_with_map file = do
   face ← map_fault of_font (font_of file)
-  mapping ← map_fault of_char_map (map_of_file face.file)
+  mapping ← map_fault of_char_map (map_of face)
   Ok (face, mapping)
 
 -- a valid size and an opened font with its character map, or the first cause why there is none
