@@ -27,9 +27,9 @@ pub record Opened (file : List ℕ) (face : Face) : Type 0 where
   pub inside : 4 * face.hhea.number_of_h_metrics ≤ length hmtx
   pub file_is : face.file ≡ file
 
-pub opened : (file : List ℕ) (face : Face) → font_of file ≡ Ok face → Opened file face
+pub opened : {file : List ℕ} {face : Face} → font_of file ≡ Ok face → Opened file face
 unfolding font_of
-opened file face h =
+opened {file} {face} h =
     refuse_then (not (is_directory file)) NotTrueType _ face h (λ directory h.
     wanted_then (table_of file (codes "head")) (TableMissing (codes "head")) _ face h (λ head _ h.
     wanted_then (table_of file (codes "maxp")) (TableMissing (codes "maxp")) _ face h (λ maxp _ h.
@@ -72,12 +72,12 @@ maxp_glyphs table maxp h =
     subst (λ (maxp : Maxp). 0 < maxp.num_glyphs) (same_Ok _ _ refl h) above)))
 
 -- the glyphs of a font
-pub font_glyphs : (file : List ℕ) (face : Face) → font_of file ≡ Ok face → 0 < face.maxp.num_glyphs
-font_glyphs file face h = let o = opened file face h in maxp_glyphs o.maxp face.maxp o.maxp_is
+pub font_glyphs : {file : List ℕ} {face : Face} → Opened file face → 0 < face.maxp.num_glyphs
+font_glyphs {file} {face} o = maxp_glyphs o.maxp face.maxp o.maxp_is
 
 -- `hmtx` has its pairs
-pub font_pairs : (file : List ℕ) (face : Face) (hmtx : List ℕ) → font_of file ≡ Ok face → table_of file (codes "hmtx") ≡ Some hmtx
+pub font_pairs : {file : List ℕ} {face : Face} {hmtx : List ℕ} → Opened file face → table_of file (codes "hmtx") ≡ Some hmtx
     → 4 * face.hhea.number_of_h_metrics ≤ length hmtx
-font_pairs file face hmtx h t = let o = opened file face h in
+font_pairs {file} {face} {hmtx} o t =
     let same : o.hmtx ≡ hmtx = same_Some _ _ (sym o.hmtx_is ∙ t) in
     subst (λ (table : List ℕ). 4 * face.hhea.number_of_h_metrics ≤ length table) same o.inside

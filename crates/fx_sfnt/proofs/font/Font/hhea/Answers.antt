@@ -2,4 +2,4 @@ use Rattle.fx_sfnt.proofs.Opening.{opened}
 use Rattle.fx_sfnt.proofs.font.Font.hhea.Goals as goal
 
 pub returns-clause-metrics : goal.returns-clause-metrics
-returns-clause-metrics c = (opened _ _ c.self.invariant.0).pairs
+returns-clause-metrics c = (opened c.self.invariant.0).pairs

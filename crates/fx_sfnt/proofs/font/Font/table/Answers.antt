@@ -2,4 +2,4 @@ use Rattle.fx_sfnt.proofs.Opening.{opened}
 use Rattle.fx_sfnt.proofs.font.Font.table.Goals as goal
 
 pub find_table-requires : goal.find_table-requires
-find_table-requires c = (opened _ _ c.self.invariant.0).records
+find_table-requires c = (opened c.self.invariant.0).records
