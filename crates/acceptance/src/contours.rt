@@ -1,14 +1,12 @@
 //! Small outlines, with their pieces and frames by hand.
 ghost use Rattle.std.specs.Prelude.{◌≤◌, length};
-ghost use Rattle.fx_hint.specs.Limits.{max_points};
-ghost use Rattle.fx_hint.specs.Ends.{AreEnds};
+ghost use Rattle.fx_outline.specs.Limits.{max_points};
+ghost use Rattle.fx_outline.specs.Ends.{AreEnds};
 
 use crate::curves::{place, places};
 use crate::outlines::{off, on};
 use fx_contour::{ContourFault, frame, outline_frame, pieces};
-use fx_fixed::F26;
-use fx_hint::{Outline, OutlinePoint};
-use fx_machine::Usage;
+use fx_outline::{Outline, OutlinePoint};
 use fx_winding::{Frame, Piece};
 use std::alloc::{AllocError, Global};
 use std::process::Abort;
@@ -26,8 +24,6 @@ pub(crate) fn outline(
     Ok(Outline {
         points: Vec::from_slice(alloc, points)?,
         ends: Vec::from_slice(alloc, ends)?,
-        advance: F26(0),
-        usage: Usage::none(),
     })
 }
 

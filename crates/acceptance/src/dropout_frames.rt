@@ -2,7 +2,7 @@
 use crate::contours::{has_sides, outline};
 use crate::outlines::on;
 use fx_contour::{ContourFault, dropout_frame, outline_frame, pieces, pieces_dropout_frame};
-use fx_hint::Outline;
+use fx_outline::Outline;
 use std::alloc::Global;
 use std::process::Abort;
 use std::test::Fail;

@@ -1,8 +1,9 @@
 //! Outlines of glyphs: of few points and of many, and with components that come again.
 use crate::fonts::{ARC, fixture, font, of_points, patch};
 use fx_fixed::{F26, Ppem};
-use fx_hint::{KeepingMachine, Outline, OutlinePoint, outline, outline_with};
+use fx_hint::{GlyphOutline, KeepingMachine, outline, outline_with};
 use fx_machine::{Machine, Usage};
+use fx_outline::OutlinePoint;
 use fx_sfnt::Font;
 use std::alloc::Global;
 use std::process::Abort;
@@ -27,24 +28,29 @@ pub fn off(x: i32, y: i32) -> OutlinePoint {
 }
 
 /// The unhinted outline of glyph 2 of a font, at a size.
-fn outline_at(alloc: Global, file: &[u8], pixels: u16) -> Result<Outline, Fail> {
+fn outline_at(alloc: Global, file: &[u8], pixels: u16) -> Result<GlyphOutline, Fail> {
     let font = Font::open(file)?;
     let ppem = Ppem::new(pixels).ok_or("no size")?;
     Ok(outline(alloc, &font, ppem, None, 2)?)
 }
 
 /// Whether an outline has these points, ends of contours and advance width, and no strays.
-pub fn is_outline(outline: &Outline, points: &[OutlinePoint], ends: &[u16], advance: i32) -> bool {
-    outline.points.as_slice() == points
-        && outline.ends.as_slice() == ends
-        && outline.advance == F26(advance)
-        && outline.usage.strays == 0
+pub fn is_outline(
+    made: &GlyphOutline,
+    points: &[OutlinePoint],
+    ends: &[u16],
+    advance: i32,
+) -> bool {
+    made.outline.points.as_slice() == points
+        && made.outline.ends.as_slice() == ends
+        && made.advance == F26(advance)
+        && made.usage.strays == 0
 }
 
 #[test]
 fn an_outline_of_eight_points(rt: HostRuntime) -> Result<(), Fail> {
     let file = fixture(rt.alloc())?;
-    let outline = outline_at(rt.alloc(), file.as_slice(), 16)?;
+    let made = outline_at(rt.alloc(), file.as_slice(), 16)?;
     let points = [
         on(0, 0),
         on(320, 0),
@@ -55,8 +61,8 @@ fn an_outline_of_eight_points(rt: HostRuntime) -> Result<(), Fail> {
         on(224, 224),
         on(224, 96),
     ];
-    assert!(rt; is_outline(&outline, &points, &[3, 7], 384));
-    assert!(rt; outline.usage.steps == 0);
+    assert!(rt; is_outline(&made, &points, &[3, 7], 384));
+    assert!(rt; made.usage.steps == 0);
     Ok(())
 }
 
@@ -64,7 +70,8 @@ fn an_outline_of_eight_points(rt: HostRuntime) -> Result<(), Fail> {
 fn an_outline_of_16384_points(rt: HostRuntime) -> Result<(), Fail> {
     let glyph = of_points(rt.alloc(), "3fff", "")?;
     let file = font(rt.alloc(), glyph.as_str(), ARC)?;
-    let outline = outline_at(rt.alloc(), file.as_slice(), 255)?;
+    let made = outline_at(rt.alloc(), file.as_slice(), 255)?;
+    let outline = &made.outline;
     assert!(rt; outline.points.len() == 16384);
     assert!(rt; outline.points.last().copied() == Some(on(0, 0)));
     assert!(rt; outline.ends.as_slice() == [16383].as_slice());
@@ -79,7 +86,7 @@ const READING_A_STRAY: &str =
     "0001 0000 0000 0080 0080 0002 0008 B0 63 43 21 B1 01 20 38 31 36 17 40 40 80 80 00";
 
 /// The outline of glyph 2 by a machine that keeps nothing.
-fn made_plainly(alloc: Global, font: &Font<'_>, ppem: Ppem) -> Result<Outline, Fail> {
+fn made_plainly(alloc: Global, font: &Font<'_>, ppem: Ppem) -> Result<GlyphOutline, Fail> {
     let size = Ppem::new(16).ok_or("no size")?;
     let mut machine = Machine::new(alloc, font.shared(), size)?;
     Ok(outline_with(alloc, &mut machine, font, ppem, 2)?)
@@ -93,9 +100,9 @@ fn keeping_machine<'a>(alloc: Global, font: &Font<'a>) -> Result<KeepingMachine<
 }
 
 /// Whether two outlines are the same.
-fn is_same(a: &Outline, b: &Outline) -> bool {
-    a.points.as_slice() == b.points.as_slice()
-        && a.ends.as_slice() == b.ends.as_slice()
+fn is_same(a: &GlyphOutline, b: &GlyphOutline) -> bool {
+    a.outline.points.as_slice() == b.outline.points.as_slice()
+        && a.outline.ends.as_slice() == b.outline.ends.as_slice()
         && a.advance == b.advance
         && a.usage == b.usage
 }

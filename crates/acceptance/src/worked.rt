@@ -5,8 +5,9 @@ use crate::outlines::{is_outline, on};
 use crate::programs::{machine, square};
 use fx_cmap::CharMap;
 use fx_code::Code;
-use fx_hint::{Outline, OutlinePoint, outline};
+use fx_hint::{GlyphOutline, outline};
 use fx_machine::Machine;
+use fx_outline::OutlinePoint;
 use fx_sfnt::Font;
 use std::alloc::Global;
 use std::process::Abort;
@@ -46,28 +47,28 @@ fn the_stack_that_a_program_leaves(rt: HostRuntime) -> Result<(), Fail> {
 }
 
 /// The outline of glyph 3 by a machine of its font and size.
-fn outline_by(alloc: Global, machine: &mut Machine<'_>) -> Result<Outline, Fail> {
+fn outline_by(alloc: Global, machine: &mut Machine<'_>) -> Result<GlyphOutline, Fail> {
     Ok(outline(alloc, &machine.font(), machine.ppem(), Some(machine), 3)?)
 }
 
 /// The outline of glyph 3 of a font by a machine.
-fn hinted_outline(alloc: Global, file: &[u8]) -> Result<Outline, Fail> {
+fn hinted_outline(alloc: Global, file: &[u8]) -> Result<GlyphOutline, Fail> {
     let mut machine = machine(alloc, file)?;
     outline_by(alloc, &mut machine)
 }
 
 /// Whether an outline has these points, in one contour, after five instructions.
-fn is_rounded(outline: &Outline, points: &[OutlinePoint]) -> bool {
-    is_outline(outline, points, &[3], 384) && outline.usage.steps == 5
+fn is_rounded(made: &GlyphOutline, points: &[OutlinePoint]) -> bool {
+    is_outline(made, points, &[3], 384) && made.usage.steps == 5
 }
 
 /// A square of 90 units at 16 pixels an em, whose program rounds its right side up to the grid.
 #[test]
 fn an_outline_by_a_machine(rt: HostRuntime) -> Result<(), Fail> {
     let file = font(rt.alloc(), RING, ROUNDED)?;
-    let outline = hinted_outline(rt.alloc(), file.as_slice())?;
+    let made = hinted_outline(rt.alloc(), file.as_slice())?;
     let points = [on(0, 0), on(128, 0), on(128, 90), on(0, 90)];
-    assert!(rt; is_rounded(&outline, &points));
+    assert!(rt; is_rounded(&made, &points));
     Ok(())
 }
 

@@ -1,7 +1,7 @@
 -- One contour more.
 -- For the contours that `ends_of` reads.
 use Rattle.std.proofs.Common.{◌≡◌, ℕ, ◌+◌, ◌≤◌, List, [], ◌∷◌, ◌++◌, arith, sym, refl}
-use Rattle.fx_hint.specs.Ends.{AreEnds}
+use Rattle.fx_outline.specs.Ends.{AreEnds}
 
 pub ends_pushed : (start : ℕ) (es : List ℕ) (n e m : ℕ) → AreEnds start es n → n ≤ e → m ≡ e + 1 → AreEnds start (es ++ e ∷ []) m
 ends_pushed start [] n e m h k q = (omega arith, sym q)

@@ -4,7 +4,7 @@ use Rattle.std.proofs.Common.{◌≡◌, ℕ, ◌+◌, ◌*◌, ◌/◌, ◌%◌
 use Rattle.std.specs.Prelude.{ℤ, pos, negsuc, ◌+ℤ◌, ◌-ℤ◌, ◌≤ℤ◌, int_le, unsigned_abs}
 use Rattle.std.proofs.lemmas.Int.{ints}
 use Rattle.std.proofs.lemmas.Grind.{common_steps}
-use Rattle.fx_hint.specs.declared.points.OutlinePoint.{OutlinePoint}
+use Rattle.fx_outline.specs.declared.points.OutlinePoint.{OutlinePoint}
 use Rattle.fx_cache.specs.Words.{is_within, fits, bit_of, point_word, point_of}
 
 bit_below : (b : Bool) → bit_of b < 2
@@ -44,7 +44,11 @@ point_back p h =
     let wy = within (negsuc 16383) (pos 16383) p.y hy in
     let y = unsigned_abs (p.y +ℤ pos 16384) in
     let yb : y < 32768 = moved_below p.y 16383 wy.0 wy.1 in
-    rw (x_back (unsigned_abs (p.x +ℤ pos 32768)) y (bit_of p.on_curve) yb (bit_below p.on_curve),
-        y_back (unsigned_abs (p.x +ℤ pos 32768)) y (bit_of p.on_curve) yb (bit_below p.on_curve),
-        b_back (unsigned_abs (p.x +ℤ pos 32768)) y (bit_of p.on_curve) (bit_below p.on_curve),
-        down_again p.x 32767 wx.0, down_again p.y 16383 wy.0, bit_back p.on_curve) refl
+    rw (
+      x_back (unsigned_abs (p.x +ℤ pos 32768)) y (bit_of p.on_curve) yb (bit_below p.on_curve),
+      y_back (unsigned_abs (p.x +ℤ pos 32768)) y (bit_of p.on_curve) yb (bit_below p.on_curve),
+      b_back (unsigned_abs (p.x +ℤ pos 32768)) y (bit_of p.on_curve) (bit_below p.on_curve),
+      down_again p.x 32767 wx.0,
+      down_again p.y 16383 wy.0,
+      bit_back p.on_curve,
+    ) refl

@@ -11,9 +11,9 @@ use Rattle.std.proofs.lemmas.Nat.{div-mul-add, mod-mul-add, div-add-mod'}
 use Rattle.std.proofs.lemmas.List.{length-map, take_at, drop_at}
 use mir.Syntax.{w32}
 use Rattle.fx_machine.specs.declared.usage.Usage.{Usage}
-use Rattle.fx_hint.specs.declared.points.OutlinePoint.{OutlinePoint}
+use Rattle.fx_outline.specs.declared.points.OutlinePoint.{OutlinePoint}
 use Rattle.fx_cache.specs.Words.{fits, point_word, point_of}
-use Rattle.fx_hint.specs.Outlines.{OutlineView}
+use Rattle.fx_hint.specs.Outlines.{GlyphOutlineView}
 use Rattle.fx_cache.specs.Words.{HasWords, outline_words, glyph_in, points_in, ends_in, outline_in, words_after}
 use Rattle.fx_cache.proofs.PointWords.{point_back}
 
@@ -25,35 +25,39 @@ points_back (p ∷ ps) h =
     rw (point_back p here, points_back ps there) refl
 
 -- the words of a glyph's outline, with words after them
-pub glyph_back : (g : ℕ) (o : OutlineView) (rest : List ℕ) → length o.points < 65536 → glyph_in (outline_words g o ++ rest) ≡ g
+pub glyph_back : (g : ℕ) (o : GlyphOutlineView) (rest : List ℕ) → length o.points < 65536 → glyph_in (outline_words g o ++ rest) ≡ g
 glyph_back g o rest h = div-mul-add g 65536 (length o.points) h
 
-points_in_back : (g : ℕ) (o : OutlineView) (rest : List ℕ) → length o.points < 65536
+points_in_back : (g : ℕ) (o : GlyphOutlineView) (rest : List ℕ) → length o.points < 65536
     → points_in (outline_words g o ++ rest) ≡ length o.points
 points_in_back g o rest h = mod-mul-add g 65536 (length o.points) h
 
-tail_is : (g : ℕ) (o : OutlineView) (rest : List ℕ)
+tail_is : (g : ℕ) (o : GlyphOutlineView) (rest : List ℕ)
     → drop 7 (outline_words g o ++ rest) ≡ o.ends ++ (map point_word o.points ++ rest)
 tail_is g o rest = append_assoc o.ends (map point_word o.points) rest
 
-ends_back : (g : ℕ) (o : OutlineView) (rest : List ℕ)
+ends_back : (g : ℕ) (o : GlyphOutlineView) (rest : List ℕ)
     → take (length o.ends) (drop 7 (outline_words g o ++ rest)) ≡ o.ends
 ends_back g o rest = rw (tail_is g o rest) (take_at o.ends (map point_word o.points ++ rest) (length o.ends) refl)
 
-after_ends : (g : ℕ) (o : OutlineView) (rest : List ℕ)
+after_ends : (g : ℕ) (o : GlyphOutlineView) (rest : List ℕ)
     → drop (length o.ends) (drop 7 (outline_words g o ++ rest)) ≡ map point_word o.points ++ rest
 after_ends g o rest = rw (tail_is g o rest) (drop_at o.ends (map point_word o.points ++ rest) (length o.ends) refl)
 
-pub words_back : (g : ℕ) (o : OutlineView) (rest : List ℕ) → length o.points < 65536
+pub words_back : (g : ℕ) (o : GlyphOutlineView) (rest : List ℕ) → length o.points < 65536
     → words_after (outline_words g o ++ rest) ≡ rest
 words_back g o rest h = rw (points_in_back g o rest h, after_ends g o rest)
     (drop_at (map point_word o.points) rest (length o.points) (length-map o.points point_word))
 
-taken_points : (g : ℕ) (o : OutlineView) (rest : List ℕ) → HasWords o → (outline_in (outline_words g o ++ rest)).points ≡ o.points
-taken_points g o rest h = rw (points_in_back g o rest h.few, after_ends g o rest,
-    take_at (map point_word o.points) rest (length o.points) (length-map o.points point_word)) (points_back o.points h.fit)
+taken_points : (g : ℕ) (o : GlyphOutlineView) (rest : List ℕ) → HasWords o
+    → (outline_in (outline_words g o ++ rest)).points ≡ o.points
+taken_points g o rest h = rw (
+  points_in_back g o rest h.few,
+  after_ends g o rest,
+  take_at (map point_word o.points) rest (length o.points) (length-map o.points point_word),
+) (points_back o.points h.fit)
 
-unfoldable view_with : List OutlinePoint → List ℕ → ℤ → Usage → OutlineView
+unfoldable view_with : List OutlinePoint → List ℕ → ℤ → Usage → GlyphOutlineView
 view_with p e v u = record { points = p; ends = e; advance = v; usage = u }
 
 unfoldable usage_with : ℕ → ℕ → Usage
@@ -63,12 +67,12 @@ same_parts : (p p' : List OutlinePoint) (e e' : List ℕ) (v v' : ℤ) (s s' t t
     → view_with p e v (usage_with s t) ≡ view_with p' e' v' (usage_with s' t')
 same_parts p p' e e' v v' s s' t t' a b c d f = cc
 
-same_views : (a b : OutlineView) → a.points ≡ b.points → a.ends ≡ b.ends → a.advance ≡ b.advance
+same_views : (a b : GlyphOutlineView) → a.points ≡ b.points → a.ends ≡ b.ends → a.advance ≡ b.advance
     → a.usage.steps ≡ b.usage.steps → a.usage.strays ≡ b.usage.strays → a ≡ b
 unfolding view_with usage_with
 same_views a b p e v s t = same_parts a.points b.points a.ends b.ends a.advance b.advance a.usage.steps b.usage.steps
     a.usage.strays b.usage.strays p e v s t
 
-pub outline_back : (g : ℕ) (o : OutlineView) (rest : List ℕ) → HasWords o → outline_in (outline_words g o ++ rest) ≡ o
+pub outline_back : (g : ℕ) (o : GlyphOutlineView) (rest : List ℕ) → HasWords o → outline_in (outline_words g o ++ rest) ≡ o
 outline_back g o rest h = same_views (outline_in (outline_words g o ++ rest)) o (taken_points g o rest h) (ends_back g o rest)
     (to_z-of_z w32 o.advance h.advance) (div-add-mod' o.usage.steps (2 ^ 32)) (div-add-mod' o.usage.strays (2 ^ 32))

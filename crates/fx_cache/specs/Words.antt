@@ -5,8 +5,8 @@ use Rattle.std.specs.List.{list_all}
 use Rattle.std.specs.Int.{cast_unsigned, cast_signed}
 use Rattle.std.specs.Int.RustNames.{FitsSigned}
 use mir.Syntax.{w32}
-use Rattle.fx_hint.specs.declared.points.OutlinePoint.{OutlinePoint}
-use Rattle.fx_hint.specs.Outlines.{OutlineView}
+use Rattle.fx_outline.specs.declared.points.OutlinePoint.{OutlinePoint}
+use Rattle.fx_hint.specs.Outlines.{GlyphOutlineView}
 
 -- ---- points
 
@@ -33,7 +33,7 @@ point_of w = record { x = pos (w / 65536) -ℤ pos 32768; y = pos (w % 65536 / 2
 -- ---- outlines
 
 -- the words of a glyph's outline
-abbrev pub outline_words : ℕ → OutlineView → List ℕ
+abbrev pub outline_words : ℕ → GlyphOutlineView → List ℕ
 outline_words glyph o = (glyph * 65536 + length o.points) ∷ length o.ends ∷ cast_unsigned w32 o.advance
     ∷ o.usage.steps / 2 ^ 32 ∷ o.usage.steps % 2 ^ 32 ∷ o.usage.strays / 2 ^ 32 ∷ o.usage.strays % 2 ^ 32
     ∷ (o.ends ++ map point_word o.points)
@@ -49,7 +49,7 @@ abbrev pub ends_in : List ℕ → ℕ
 ends_in ws = slice_index ws 1
 
 -- the outline that words begin with, and the words after it
-abbrev pub outline_in : List ℕ → OutlineView
+abbrev pub outline_in : List ℕ → GlyphOutlineView
 outline_in ws = record {
   points = map point_of (take (points_in ws) (drop (ends_in ws) (drop 7 ws)));
   ends = take (ends_in ws) (drop 7 ws);
@@ -61,14 +61,14 @@ abbrev pub words_after : List ℕ → List ℕ
 words_after ws = drop (points_in ws) (drop (ends_in ws) (drop 7 ws))
 
 -- the outline of a glyph is taken from the front of words
-pub record IsTaken (words : List ℕ) (glyph : ℕ) (o : OutlineView) (left : List ℕ) : Type 0 where
+pub record IsTaken (words : List ℕ) (glyph : ℕ) (o : GlyphOutlineView) (left : List ℕ) : Type 0 where
   pub some : 0 < length words
   pub glyph_is : glyph_in words ≡ glyph
   pub outline : o ≡ outline_in words
   pub left_is : left ≡ words_after words
 
 -- an outline that a cache can keep
-pub record HasWords (o : OutlineView) : Type 0 where
+pub record HasWords (o : GlyphOutlineView) : Type 0 where
   pub few : length o.points < 65536
   pub fit : list_all fits o.points ≡ true
   pub advance : FitsSigned w32 o.advance

@@ -1,13 +1,13 @@
 //! A cache of outlines, and its reader.
 ghost use Rattle.std.specs.Prelude.{◌≡◌, ◌≤◌, ℕ, Result, Ok, length, IfSome};
-ghost use Rattle.fx_hint.specs.Outlines.{OutlineView, view_of_outline};
+ghost use Rattle.fx_hint.specs.Outlines.{GlyphOutlineView, view_of_glyph_outline};
 ghost use Rattle.fx_hint.specs.declared.fault.HintFault.{HintFault};
 ghost use Rattle.fx_cache.specs.Cached.{AreDue};
 ghost use Rattle.fx_cache.specs.Limits.{max_words};
 
 use crate::put::put_words;
 use crate::take::take_words;
-use fx_hint::Outline;
+use fx_hint::GlyphOutline;
 use std::alloc::Global;
 use std::marker::Model;
 
@@ -51,7 +51,7 @@ impl<'a> Model for CacheReader<'a> {
 impl OutlineCache {
     /// An empty cache with a buffer for about this many glyphs, at most 1 MiB. If memory is refused it keeps nothing.
     pub fn new(alloc: Global, glyphs: usize) -> OutlineCache
-        ensures { (due : ℕ → Result OutlineView HintFault) → AreDue due result }
+        ensures { (due : ℕ → Result GlyphOutlineView HintFault) → AreDue due result }
     {
         match Vec::with_capacity(alloc, glyphs.min(MOST_GLYPHS) * WORDS_A_GLYPH) {
             Ok(words) => OutlineCache { words },
@@ -61,7 +61,7 @@ impl OutlineCache {
 
     /// A cache that keeps nothing and takes no memory.
     pub fn without_room(alloc: Global) -> OutlineCache
-        ensures { (due : ℕ → Result OutlineView HintFault) → AreDue due result }
+        ensures { (due : ℕ → Result GlyphOutlineView HintFault) → AreDue due result }
     {
         OutlineCache {
             words: Vec::new(alloc),
@@ -70,11 +70,11 @@ impl OutlineCache {
 
     /// Keeps the outline of a glyph if it fits into the buffer. If each cached outline was due for its glyph, and this one is, then
     /// so is each one afterwards.
-    pub fn put(&mut self, glyph: u16, outline: &Outline)
-        ensures { (due : ℕ → Result OutlineView HintFault) → AreDue due self.old → due glyph ≡ Ok (view_of_outline outline.now)
-            → AreDue due self.new }
+    pub fn put(&mut self, glyph: u16, made: &GlyphOutline)
+        ensures { (due : ℕ → Result GlyphOutlineView HintFault) → AreDue due self.old
+            → due glyph ≡ Ok (view_of_glyph_outline made.now) → AreDue due self.new }
     {
-        put_words(&mut self.words, glyph, outline);
+        put_words(&mut self.words, glyph, made);
     }
 
     /// A reader that begins with the first outline.
@@ -95,20 +95,20 @@ impl OutlineCache {
 impl<'a> CacheReader<'a> {
     /// A reader without outlines.
     pub fn empty() -> CacheReader<'a>
-        ensures { (due : ℕ → Result OutlineView HintFault) → AreDue due result }
+        ensures { (due : ℕ → Result GlyphOutlineView HintFault) → AreDue due result }
     {
         CacheReader { left: &[] }
     }
 
     /// Takes the next outline if it is of this glyph. None if it is of another glyph, if there is none, or if memory is refused. If
     /// each outline that is left is due for its glyph, then so is the one taken, and each one left afterwards.
-    pub fn take(&mut self, alloc: Global, glyph: u16) -> Option<Outline>
-        ensures outline { (due : ℕ → Result OutlineView HintFault) → AreDue due self.old
-            → IfSome result (λ o. due glyph ≡ Ok (view_of_outline o)) }
-        ensures left { (due : ℕ → Result OutlineView HintFault) → AreDue due self.old → AreDue due self.new }
+    pub fn take(&mut self, alloc: Global, glyph: u16) -> Option<GlyphOutline>
+        ensures outline { (due : ℕ → Result GlyphOutlineView HintFault) → AreDue due self.old
+            → IfSome result (λ o. due glyph ≡ Ok (view_of_glyph_outline o)) }
+        ensures left { (due : ℕ → Result GlyphOutlineView HintFault) → AreDue due self.old → AreDue due self.new }
     {
-        let (outline, after) = take_words(self.left, alloc, glyph)?;
+        let (made, after) = take_words(self.left, alloc, glyph)?;
         self.left = after;
-        Some(outline)
+        Some(made)
     }
 }

@@ -1,10 +1,10 @@
 //! From an outline to its words.
 ghost use Rattle.std.specs.Prelude.{◌≡◌, ◌++◌, false, vec_capacity, IsTrue};
-ghost use Rattle.fx_hint.specs.Outlines.{view_of_outline};
+ghost use Rattle.fx_hint.specs.Outlines.{view_of_glyph_outline};
 ghost use Rattle.fx_cache.specs.Words.{outline_words, HasWords};
 
 use crate::words::{all_fit, push_ends, push_points};
-use fx_hint::Outline;
+use fx_hint::GlyphOutline;
 
 /// The number of words before an outline's contours and points: glyph and points, contours, advance, steps, strays.
 pub(crate) const HEAD: usize = 7;
@@ -13,25 +13,30 @@ pub(crate) const HEAD: usize = 7;
 const MOST_CONTOURS: usize = 65_535;
 
 /// Adds the words of a glyph's outline. Returns false, and adds none, if they do not fit into the buffer or a point has no word.
-pub(crate) fn put_words(words: &mut Vec<u32>, glyph: u16, outline: &Outline) -> bool
-    ensures put { IsTrue result → words.new.items ≡ words.old.items ++ outline_words glyph (view_of_outline outline.now) }
-    ensures fit { IsTrue result → HasWords (view_of_outline outline.now) }
+pub(crate) fn put_words(words: &mut Vec<u32>, glyph: u16, made: &GlyphOutline) -> bool
+    ensures put { IsTrue result → words.new.items ≡ words.old.items ++ outline_words glyph (view_of_glyph_outline made.now) }
+    ensures fit { IsTrue result → HasWords (view_of_glyph_outline made.now) }
     ensures same { result ≡ false → words.new.items ≡ words.old.items }
     ensures capacity { vec_capacity words.new ≡ vec_capacity words.old }
 {
     let room = words.capacity() - words.len();
+    let outline = &made.outline;
     let contours = outline.ends.len();
     let points = outline.points.len();
-    if contours > MOST_CONTOURS || room < HEAD || room - HEAD < contours || room - HEAD - contours < points {
+    if contours > MOST_CONTOURS
+        || room < HEAD
+        || room - HEAD < contours
+        || room - HEAD - contours < points
+    {
         return false;
     }
     if !all_fit(&outline.points) {
         return false;
     }
-    let usage = outline.usage;
+    let usage = made.usage;
     words.push_reserved(u32::from(glyph) * 65536 + points as u32);
     words.push_reserved(contours as u32);
-    words.push_reserved(outline.advance.0.cast_unsigned());
+    words.push_reserved(made.advance.0.cast_unsigned());
     words.push_reserved((usage.steps >> 32) as u32);
     words.push_reserved((usage.steps % (1 << 32)) as u32);
     words.push_reserved((usage.strays >> 32) as u32);

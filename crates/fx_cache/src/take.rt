@@ -1,13 +1,14 @@
 //! From words back to the outline.
 ghost use Rattle.std.specs.Prelude.{IfSome};
-ghost use Rattle.fx_hint.specs.Outlines.{view_of_outline};
+ghost use Rattle.fx_hint.specs.Outlines.{view_of_glyph_outline};
 ghost use Rattle.fx_cache.specs.Words.{IsTaken};
 
 use crate::put::HEAD;
 use crate::words::{ends_of, points_of};
 use fx_fixed::F26;
-use fx_hint::{MAX_POINTS, Outline};
+use fx_hint::GlyphOutline;
 use fx_machine::Usage;
+use fx_outline::{MAX_POINTS, Outline};
 use std::alloc::Global;
 
 /// The outline of this glyph that the words begin with, and the words after it. None if they begin with another glyph's outline or
@@ -16,8 +17,8 @@ pub(crate) fn take_words<'a>(
     words: &'a [u32],
     alloc: Global,
     glyph: u16,
-) -> Option<(Outline, &'a [u32])>
-    ensures { IfSome result (λ r. IsTaken words.now glyph (view_of_outline r.0) r.1.now) }
+) -> Option<(GlyphOutline, &'a [u32])>
+    ensures { IfSome result (λ r. IsTaken words.now glyph (view_of_glyph_outline r.0) r.1.now) }
 {
     if words.len() < HEAD || words[0] / 65536 != u32::from(glyph) {
         return None;
@@ -31,11 +32,14 @@ pub(crate) fn take_words<'a>(
     let outline = Outline {
         points: points_of(alloc, points)?,
         ends: ends_of(alloc, ends, count)?,
+    };
+    let made = GlyphOutline {
+        outline,
         advance: F26(words[2].cast_signed()),
         usage: Usage {
             steps: (u64::from(words[3]) << 32) + u64::from(words[4]),
             strays: (u64::from(words[5]) << 32) + u64::from(words[6]),
         },
     };
-    Some((outline, after))
+    Some((made, after))
 }

@@ -1,11 +1,11 @@
 //! Points and contours as words, and back.
 ghost use Rattle.std.specs.Prelude.{◌≡◌, ◌+◌, ◌≤◌, ◌++◌, true, map, length, vec_len, vec_capacity, IfSome};
 ghost use Rattle.std.specs.List.{list_all};
-ghost use Rattle.fx_hint.specs.Ends.{AreEnds};
+ghost use Rattle.fx_outline.specs.Ends.{AreEnds};
 ghost use Rattle.fx_cache.specs.Words.{fits, point_word, point_of};
 
 use fx_fixed::F26;
-use fx_hint::OutlinePoint;
+use fx_outline::OutlinePoint;
 use std::alloc::Global;
 
 /// Whether a point has a word: x within 512 pixels of the origin and y within 256, in 26.6.

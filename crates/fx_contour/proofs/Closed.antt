@@ -5,7 +5,7 @@ use Rattle.std.proofs.Common.{option_to_list, if◌then◌else◌, ◌||◌}
 use Rattle.fx_winding.specs.Area.{Place}
 use Rattle.fx_winding.specs.Winding.{Span}
 use Rattle.fx_winding.specs.Outside.{Leads, IsOutline}
-use Rattle.fx_hint.specs.declared.points.OutlinePoint.{OutlinePoint}
+use Rattle.fx_outline.specs.declared.points.OutlinePoint.{OutlinePoint}
 use Rattle.fx_contour.specs.Curve.{Knot, doubled_of, middle_of, joint_of, span_at, first_or, last_or, spans_between, curve_of}
 use Rattle.fx_contour.specs.Curve.{CurvesAreClosed, knot_of, midpoint, with_midpoints, head_or, along, CurveIsByMidpoints}
 

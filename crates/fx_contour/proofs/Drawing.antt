@@ -8,9 +8,9 @@ use Rattle.std.proofs.lemmas.List.{drop-drop, length-take, length-drop}
 use Rattle.std.proofs.lemmas.List.Elements.{All-nil, All-cons, All-head, All-tail}
 use Rattle.fx_winding.specs.Area.{Place}
 use Rattle.fx_winding.specs.Outside.{joined}
-use Rattle.fx_hint.specs.declared.points.OutlinePoint.{OutlinePoint}
-use Rattle.fx_hint.specs.Ends.{AreEnds}
-use Rattle.fx_hint.proofs.Contours.{ends_reach}
+use Rattle.fx_outline.specs.declared.points.OutlinePoint.{OutlinePoint}
+use Rattle.fx_outline.specs.Ends.{AreEnds}
+use Rattle.fx_outline.proofs.Ends.{ends_reach}
 use Rattle.fx_contour.specs.declared.extent.Extent.{Extent}
 use Rattle.fx_contour.specs.Curve.{doubled_of, curve_of}
 use Rattle.fx_contour.specs.Contours.{contours_from, spans_of, farthest, IsInReach}

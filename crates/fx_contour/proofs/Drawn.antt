@@ -3,7 +3,7 @@
 use Rattle.std.proofs.Common.{◌≡◌, refl, Bool, true, false, List, Ok, ℕ}
 use Rattle.std.specs.List.{list_all}
 use Rattle.fx_winding.specs.Winding.{Span}
-use Rattle.fx_hint.specs.declared.points.OutlinePoint.{OutlinePoint}
+use Rattle.fx_outline.specs.declared.points.OutlinePoint.{OutlinePoint}
 use Rattle.fx_contour.specs.Contours.{is_in_reach, spans_of, drawn_of}
 
 -- it draws the spans of its contours

@@ -4,9 +4,9 @@ use Rattle.std.proofs.Common.{◌≡◌, refl, sym, subst, ◌∙◌, ℕ, zero,
 use Rattle.std.proofs.Common.{length, get_or, append_assoc, arith}
 use Rattle.std.proofs.lemmas.List.{drop_more, append-nil, length-take, length-drop}
 use Rattle.fx_winding.specs.declared.point.Piece.{Piece}
-use Rattle.fx_hint.specs.declared.points.OutlinePoint.{OutlinePoint}
-use Rattle.fx_hint.specs.Ends.{AreEnds}
-use Rattle.fx_hint.proofs.Contours.{ends_reach}
+use Rattle.fx_outline.specs.declared.points.OutlinePoint.{OutlinePoint}
+use Rattle.fx_outline.specs.Ends.{AreEnds}
+use Rattle.fx_outline.proofs.Ends.{ends_reach}
 use Rattle.fx_winding.specs.Winding.{Span, span_of}
 use Rattle.fx_winding.specs.Outside.{joined}
 use Rattle.fx_contour.specs.Curve.{curve_of}

@@ -14,9 +14,9 @@ use Rattle.fx_winding.specs.Winding.{Span, centre}
 use Rattle.fx_winding.specs.Outside.{joined}
 use Rattle.fx_winding.specs.Moves.{reversed}
 use Rattle.fx_winding.proofs.Reversal.{reversal_keeps_cover}
-use Rattle.fx_hint.specs.declared.points.OutlinePoint.{OutlinePoint}
-use Rattle.fx_hint.specs.Ends.{AreEnds}
-use Rattle.fx_hint.proofs.Contours.{ends_reach}
+use Rattle.fx_outline.specs.declared.points.OutlinePoint.{OutlinePoint}
+use Rattle.fx_outline.specs.Ends.{AreEnds}
+use Rattle.fx_outline.proofs.Ends.{ends_reach}
 use Rattle.fx_contour.specs.Curve.{doubled_of, middle_of, joint_of, span_at, first_or, last_or, spans_between, curve_of}
 use Rattle.fx_contour.specs.Contours.{contours_from, spans_of, IsInReach}
 use Rattle.fx_contour.specs.Moves.{reversed_from, reversed_points, ReversalReversesContours, ReversalReversesSpans}

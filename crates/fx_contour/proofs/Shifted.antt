@@ -11,7 +11,7 @@ use Rattle.fx_winding.specs.Winding.{Span, IsCovered, centre}
 use Rattle.fx_winding.specs.Outside.{joined}
 use Rattle.fx_winding.specs.Moves.{shifted_place, shifted}
 use Rattle.fx_winding.proofs.Shifts.{shift_moves_bits}
-use Rattle.fx_hint.specs.declared.points.OutlinePoint.{OutlinePoint}
+use Rattle.fx_outline.specs.declared.points.OutlinePoint.{OutlinePoint}
 use Rattle.fx_contour.specs.Curve.{doubled_of, middle_of, joint_of, span_at, first_or, last_or, spans_between, curve_of}
 use Rattle.fx_contour.specs.Contours.{contours_from}
 use Rattle.fx_contour.specs.Moves.{shifted_point, ShiftMovesSpans, ShiftMovesBits}

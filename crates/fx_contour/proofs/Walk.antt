@@ -5,7 +5,7 @@ use Rattle.std.proofs.Common.{length, get_or, arith, Option, Some, None, option_
 use Rattle.std.proofs.lemmas.List.{drop_more, map-append}
 use Rattle.fx_winding.specs.declared.point.Piece.{Piece}
 use Rattle.fx_winding.specs.Winding.{Span, span_of}
-use Rattle.fx_hint.specs.declared.points.OutlinePoint.{OutlinePoint}
+use Rattle.fx_outline.specs.declared.points.OutlinePoint.{OutlinePoint}
 use Rattle.fx_contour.specs.Curve.{span_at, last_or, spans_between, curve_of}
 use Rattle.fx_contour.specs.Contours.{IsInReach}
 

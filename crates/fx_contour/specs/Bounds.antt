@@ -7,7 +7,7 @@ use Rattle.fx_winding.specs.Frames.{IsFrom}
 use Rattle.fx_contour.specs.declared.bounds.Bounds.{Bounds}
 use Rattle.fx_contour.specs.declared.extent.Extent.{Extent}
 use Rattle.fx_contour.specs.declared.pixels.Pixels.{Pixels}
-use Rattle.fx_hint.specs.declared.points.OutlinePoint.{OutlinePoint}
+use Rattle.fx_outline.specs.declared.points.OutlinePoint.{OutlinePoint}
 use Rattle.fx_contour.specs.Curve.{doubled_of}
 use Rattle.fx_contour.specs.Contours.{IsRangeNear}
 use Rattle.fx_contour.specs.Frames.{HaveAny, IsCentreIn}

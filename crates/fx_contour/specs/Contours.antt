@@ -6,7 +6,7 @@ use Rattle.fx_fixed.specs.Chain.{◌>>=◌, refuse}
 use Rattle.fx_fixed.specs.Ranges.{IsWithin}
 use Rattle.fx_winding.specs.Winding.{Span}
 use Rattle.fx_winding.specs.Outside.{joined}
-use Rattle.fx_hint.specs.declared.points.OutlinePoint.{OutlinePoint}
+use Rattle.fx_outline.specs.declared.points.OutlinePoint.{OutlinePoint}
 use Rattle.fx_contour.specs.declared.fault.ContourFault.{ContourFault}
 use Rattle.fx_contour.specs.declared.fault.ContourFault.TheVariants.{TooFar}
 use Rattle.fx_contour.specs.Curve.{curve_of}

@@ -5,7 +5,7 @@ use Rattle.std.specs.Prelude.{option_to_list}
 use Rattle.fx_winding.specs.Area.{Place}
 use Rattle.fx_winding.specs.Winding.{Span}
 use Rattle.fx_winding.specs.Outside.{IsClosed}
-use Rattle.fx_hint.specs.declared.points.OutlinePoint.{OutlinePoint}
+use Rattle.fx_outline.specs.declared.points.OutlinePoint.{OutlinePoint}
 
 -- a point in 1/128 pixel
 abbrev pub doubled_of : OutlinePoint → Place

@@ -13,7 +13,7 @@ use Rattle.fx_winding.specs.declared.frame.Frame.{Frame}
 use Rattle.fx_winding.specs.Frames.{HasMargin}
 use Rattle.fx_winding.specs.Limits.{greatest_side}
 use Rattle.fx_winding.specs.Outside.{AreOfOutline}
-use Rattle.fx_hint.specs.declared.points.OutlinePoint.{OutlinePoint}
+use Rattle.fx_outline.specs.declared.points.OutlinePoint.{OutlinePoint}
 use Rattle.fx_contour.specs.Contours.{is_within, drawn_of}
 use Rattle.fx_contour.specs.Frames.{HaveAny, IsInBoundingBox, IsCentreIn, AreNoPixels, IsInside, have_any, first_from}
 use Rattle.fx_contour.specs.declared.fault.ContourFault.{ContourFault}

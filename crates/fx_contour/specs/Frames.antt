@@ -10,7 +10,7 @@ use Rattle.fx_winding.specs.declared.frame.Frame.{Frame}
 use Rattle.fx_winding.specs.Frames.{IsInFrame}
 use Rattle.fx_winding.specs.Limits.{greatest_side}
 use Rattle.fx_winding.specs.Outside.{AreOfOutline}
-use Rattle.fx_hint.specs.declared.points.OutlinePoint.{OutlinePoint}
+use Rattle.fx_outline.specs.declared.points.OutlinePoint.{OutlinePoint}
 use Rattle.fx_contour.specs.Contours.{drawn_of}
 use Rattle.fx_contour.specs.declared.fault.ContourFault.{ContourFault}
 use Rattle.fx_contour.specs.declared.fault.ContourFault.TheVariants.{TooLarge}

@@ -3,8 +3,8 @@ use Rattle.std.specs.Prelude.{◌≡◌, ◌↔◌, ℤ, pos, ◌+ℤ◌, ◌*�
 use Rattle.std.specs.List.Sorted.{IsPermutation}
 use Rattle.fx_winding.specs.Winding.{Span, IsCovered, centre}
 use Rattle.fx_winding.specs.Moves.{shifted, reversed}
-use Rattle.fx_hint.specs.declared.points.OutlinePoint.{OutlinePoint}
-use Rattle.fx_hint.specs.Ends.{AreEnds}
+use Rattle.fx_outline.specs.declared.points.OutlinePoint.{OutlinePoint}
+use Rattle.fx_outline.specs.Ends.{AreEnds}
 use Rattle.fx_contour.specs.Contours.{contours_from, spans_of, drawn_of}
 
 -- a point moved by x to the right and by y up, in 26.6 pixels

@@ -5,7 +5,7 @@ ghost use Rattle.fx_contour.specs.DropoutFrames.{farthest_with_margin};
 
 use crate::curves::twice;
 use crate::extent::Extent;
-use fx_hint::Outline;
+use fx_outline::Outline;
 use fx_winding::{Piece, Point};
 
 /// The greatest distance of a point of a piece from either axis, with drop-out control, in 1/128 pixel: two pixels less than that

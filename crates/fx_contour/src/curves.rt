@@ -2,7 +2,7 @@
 
 ghost use Rattle.std.specs.Prelude.{◌≡◌, pos, ◌+◌, ◌-◌, ◌+ℤ◌, ◌*ℤ◌, ◌≤◌, ◌<◌, ◌^◌, ◌++◌, ◌⊎◌, ◌↔◌, All, IsTrue, IfOk, OnOk, IfErr, IsErrOf, length, map, take, drop, option_map, option_to_list};
 ghost use Rattle.fx_fixed.specs.Ranges.{IsWithin};
-ghost use Rattle.fx_hint.specs.Limits.{max_points};
+ghost use Rattle.fx_outline.specs.Limits.{max_points};
 ghost use Rattle.fx_winding.specs.Winding.{place_of, span_of};
 ghost use Rattle.fx_winding.specs.Outside.{AreOfOutline};
 ghost use Rattle.fx_contour.specs.Curve.{doubled_of, middle_of, joint_of, span_at, first_or, curve_of};
@@ -14,7 +14,7 @@ ghost use Rattle.fx_contour.specs.Faults.{Fails};
 use crate::extent::Extent;
 use crate::fault::ContourFault;
 use fx_fixed::F26;
-use fx_hint::{Outline, OutlinePoint};
+use fx_outline::{Outline, OutlinePoint};
 use fx_winding::{Piece, Pieces, Point};
 use std::alloc::{AllocError, Global};
 

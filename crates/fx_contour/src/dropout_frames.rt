@@ -12,7 +12,7 @@ use crate::bounds::Bounds;
 use crate::fault::ContourFault;
 use crate::frames::{box_of, outline_bounds};
 use crate::pixels::Pixels;
-use fx_hint::Outline;
+use fx_outline::Outline;
 use fx_winding::{Frame, Pieces};
 
 /// The frame of the pieces of an outline with drop-out control, which has a pixel wherever there is a piece: in each direction the

@@ -5,7 +5,7 @@ ghost use Rattle.fx_contour.specs.Contours.{IsRangeNear};
 
 use crate::curves::{contour, have_two};
 use fx_fixed::F26;
-use fx_hint::{Outline, OutlinePoint};
+use fx_outline::{Outline, OutlinePoint};
 
 /// The greatest distance of a point from either axis, in 26.6 pixels.
 const FARTHEST: i32 = 1 << 21;

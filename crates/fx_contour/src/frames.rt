@@ -12,7 +12,7 @@ use crate::bounds::Bounds;
 use crate::extent::Extent;
 use crate::fault::ContourFault;
 use crate::pixels::Pixels;
-use fx_hint::Outline;
+use fx_outline::Outline;
 use fx_winding::{Frame, MAX_SIDE, Pieces};
 
 /// The least box of pixels that holds every pixel whose centre lies in the closed bounding box of the points of the pieces,

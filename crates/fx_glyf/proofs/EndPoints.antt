@@ -1,6 +1,6 @@
 -- End points, one at a time, and what they tell.
--- For `count_points`, and for `Simple::ends`.
-use Rattle.std.proofs.Common.{◌≡◌, ℕ, suc, ◌+◌, ◌<◌, ◌≤◌, Bool, true, false, List, [], ◌∷◌, drop, cond, Option, Some, None, refl}
+-- For `count_points` and `Simple::ends`, and for the crates above that walk over contours.
+use Rattle.std.proofs.Common.{◌≡◌, ℕ, suc, ◌+◌, ◌<◌, ◌≤◌, Bool, true, false, List, [], ◌∷◌, drop, cond, Option, Some, None, refl, arith}
 use Rattle.std.proofs.Common.{ap, ◌∙◌}
 use Rattle.std.proofs.lemmas.Bool.{lt-ltb, le-ltb, ltb-false}
 use Rattle.std.proofs.lemmas.Option.{same_Some, none-some}
@@ -50,3 +50,8 @@ unfolding count_from
 ends_count start [] n h = ap Some h
 ends_count start (e ∷ es) n h =
     ap (λ (b : Bool). cond b None (count_from (e + 1) es)) (le-ltb _ _ h.0) ∙ ends_count (e + 1) es n h.1
+
+-- no contour begins after the last point
+pub ends_reach : (start : ℕ) (es : List ℕ) (n : ℕ) → AreEnds start es n → start ≤ n
+ends_reach start [] n h = omega arith
+ends_reach start (e ∷ es) n h = let r = ends_reach (e + 1) es n h.1 in let s = h.0 in omega arith

@@ -25,8 +25,9 @@ use Rattle.fx_scale.specs.Zones.{scaled_point, zone_of_simple}
 use Rattle.fx_hint.specs.declared.count.Count.{Count}
 use Rattle.fx_hint.specs.declared.made.Made.{Made}
 use Rattle.fx_hint.specs.declared.fault.HintFault.TheVariants.{Font, Glyph, TooManyComponents, TooManyPoints}
-use Rattle.fx_hint.specs.Limits.{max_points, max_components, max_depth}
-use Rattle.fx_hint.specs.Ends.{AreEnds}
+use Rattle.fx_outline.specs.Limits.{max_points}
+use Rattle.fx_hint.specs.Limits.{max_components, max_depth}
+use Rattle.fx_outline.specs.Ends.{AreEnds}
 use Rattle.fx_machine.specs.declared.usage.Usage.{Usage}
 use Rattle.fx_machine.specs.Usages.{usage_with}
 use Rattle.fx_hint.specs.Hinting.{Hinting, KeepsShape}

@@ -20,7 +20,7 @@ use Rattle.fx_hint.specs.declared.below.Waiting.{Waiting}
 use Rattle.fx_hint.specs.declared.walk.Step.{Step}
 use Rattle.fx_hint.specs.declared.walk.Step.TheVariants.{Assembled, Open}
 use Rattle.fx_hint.specs.declared.fault.HintFault.TheVariants.{Font, Glyph}
-use Rattle.fx_hint.specs.Limits.{max_points}
+use Rattle.fx_outline.specs.Limits.{max_points}
 use Rattle.fx_hint.specs.Hinting.{Hinting, KeepsShape}
 use Rattle.fx_hint.specs.Parts.{laid, offset_of, with_part}
 use Rattle.fx_hint.specs.Outlines.{one_component, simple_made, run_on}

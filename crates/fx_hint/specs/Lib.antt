@@ -1,5 +1,4 @@
 pub mod Limits
-pub mod Ends
 pub mod Faults
 pub mod Parts
 pub mod Hinting

@@ -22,13 +22,14 @@ use Rattle.fx_machine.specs.Known.{machine_of}
 use Rattle.fx_hint.specs.declared.count.Count.{Count}
 use Rattle.fx_machine.specs.declared.usage.Usage.{Usage}
 use Rattle.fx_hint.specs.declared.made.Made.{Made}
-use Rattle.fx_hint.specs.declared.points.OutlinePoint.{OutlinePoint}
-use Rattle.fx_hint.specs.declared.points.Outline.{Outline}
+use Rattle.fx_outline.specs.declared.points.OutlinePoint.{OutlinePoint}
+use Rattle.fx_hint.specs.declared.glyph_outline.GlyphOutline.{GlyphOutline}
 use Rattle.fx_hint.specs.declared.fault.HintFault.{HintFault}
 use Rattle.fx_hint.specs.declared.fault.HintFault.TheVariants.{Font, Glyph, ComponentDepth, TooManyComponents, TooManyPoints}
 use Rattle.fx_hint.specs.declared.fault.HintFault.TheVariants.{Halted, OutOfMemory}
-use Rattle.fx_hint.specs.Limits.{max_points, max_components, max_depth}
-use Rattle.fx_hint.specs.Ends.{AreEnds}
+use Rattle.fx_outline.specs.Limits.{max_points}
+use Rattle.fx_hint.specs.Limits.{max_components, max_depth}
+use Rattle.fx_outline.specs.Ends.{AreEnds}
 use Rattle.fx_machine.specs.Usages.{no_usage, usage_with}
 use Rattle.fx_hint.specs.Hinting.{Hinting, no_hinting}
 use Rattle.fx_hint.specs.Programmed.{hinting_of}
@@ -109,22 +110,27 @@ root_made h face s g = do
   made ← assembled h face s g (component h face s g max_depth) g nothing_counted
   Ok (made.0, made.1.usage)
 
--- what an outline is seen as
-pub record OutlineView : Type 0 where
+-- what a glyph's outline is seen as
+pub record GlyphOutlineView : Type 0 where
   pub points : List OutlinePoint
   pub ends : List ℕ
   pub advance : ℤ
   pub usage : Usage
 
-abbrev pub view_of_outline : Outline → OutlineView
-view_of_outline o = record { points = o.points.items; ends = o.ends.items; advance = o.advance; usage = o.usage }
+abbrev pub view_of_glyph_outline : GlyphOutline → GlyphOutlineView
+view_of_glyph_outline g = record {
+  points = g.outline.points.items;
+  ends = g.outline.ends.items;
+  advance = g.advance;
+  usage = g.usage;
+}
 
 -- a point of an outline: its current place, moved so that the first phantom point lies at x = 0
 abbrev pub moved_point : ℤ → Point → OutlinePoint
 moved_point origin p = record { x = difference_of p.cur.x origin; y = p.cur.y; on_curve = p.on }
 
 -- the outline moved; its advance is the second phantom point's x from the first's
-unfoldable pub moved_outline_of : Made → Usage → OutlineView
+unfoldable pub moved_outline_of : Made → Usage → GlyphOutlineView
 moved_outline_of made usage = record {
   points = map (moved_point made.phantoms.origin.cur.x) made.zone.points;
   ends = made.zone.ends;
@@ -133,13 +139,13 @@ moved_outline_of made usage = record {
 }
 
 -- the outline of a glyph as hinting makes it
-unfoldable pub outline_with : Hinting → Face → ℕ → ℕ → Result OutlineView HintFault
+unfoldable pub outline_with : Hinting → Face → ℕ → ℕ → Result GlyphOutlineView HintFault
 outline_with h face ppem g = do
   made ← root_made h face (scale_of face ppem) g
   Ok (moved_outline_of made.0 made.1)
 
 -- the outline of a glyph with hinting off
-abbrev pub outline_of : Face → ℕ → ℕ → Result OutlineView HintFault
+abbrev pub outline_of : Face → ℕ → ℕ → Result GlyphOutlineView HintFault
 outline_of face ppem g = outline_with no_hinting face ppem g
 
 -- why there is no machine, as a cause why there is no outline
@@ -149,7 +155,7 @@ of_machine machine_fault.OutOfMemory = OutOfMemory
 
 -- the outline of a glyph with hinting on: fpgm and prep run, and then the programs of the glyph and of its components, each from
 -- what prep left. It depends on the font, the size and the glyph alone
-unfoldable pub hinted_outline_of : Face → ℕ → ℕ → Result OutlineView HintFault
+unfoldable pub hinted_outline_of : Face → ℕ → ℕ → Result GlyphOutlineView HintFault
 hinted_outline_of face ppem g = do
   known ← map_fault of_machine (machine_of face ppem)
   outline_with (hinting_of known) face ppem g

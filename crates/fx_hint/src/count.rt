@@ -9,8 +9,9 @@ ghost use Rattle.fx_hint.specs.Limits.{max_components};
 ghost use Rattle.fx_hint.specs.Outlines.{one_component, more_points};
 
 use crate::fault::HintFault;
-use crate::limits::{MAX_COMPONENTS, MAX_POINTS};
+use crate::limits::MAX_COMPONENTS;
 use fx_machine::Usage;
+use fx_outline::MAX_POINTS;
 
 /// Component records and points so far, of a root and all components below it, and what their programs used up.
 #[derive(Clone, Copy, Debug, PartialEq, Eq)]

@@ -9,6 +9,7 @@
 mod below;
 mod count;
 mod fault;
+mod glyph_outline;
 mod hinter;
 mod keeping;
 mod kept;
@@ -16,16 +17,15 @@ mod limits;
 mod made;
 mod outlines;
 mod part;
-mod points;
 mod programmed;
 mod walk;
 
 pub use count::Count;
 pub use fault::HintFault;
+pub use glyph_outline::GlyphOutline;
 pub use hinter::{Hinter, NoHinter};
 pub use keeping::KeepingMachine;
 pub use kept::GlyphInput;
-pub use limits::{MAX_COMPONENTS, MAX_DEPTH, MAX_POINTS};
+pub use limits::{MAX_COMPONENTS, MAX_DEPTH};
 pub use made::Made;
 pub use outlines::{outline, outline_with};
-pub use points::{Outline, OutlinePoint};

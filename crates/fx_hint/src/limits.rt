@@ -1,8 +1,5 @@
 //! The limits of outlines.
 
-/// The greatest number of points of an outline.
-pub const MAX_POINTS: u32 = 16_384;
-
 /// The greatest number of component records below a root.
 pub const MAX_COMPONENTS: u32 = 256;
 

@@ -4,16 +4,17 @@ ghost use Rattle.std.specs.Prelude.{◌≡◌, map, Ok, IfOk};
 ghost use Rattle.fx_fixed.specs.Chain.{GivesUnless};
 ghost use Rattle.fx_machine.specs.Known.{machine_of};
 ghost use Rattle.fx_hint.specs.Faults.{Fails};
-ghost use Rattle.fx_hint.specs.Outlines.{moved_point, moved_outline_of, view_of_outline, outline_with, hinted_outline_of, IsSound};
+ghost use Rattle.fx_hint.specs.Outlines.{moved_point, moved_outline_of, view_of_glyph_outline, outline_with, hinted_outline_of, IsSound};
 ghost use Rattle.fx_hint.specs.Machines.{hinting_with, IfMachine, IsOf, KnowsSame};
 
 use crate::fault::HintFault;
+use crate::glyph_outline::GlyphOutline;
 use crate::hinter::{Hinter, NoHinter};
 use crate::made::Made;
-use crate::points::{Outline, OutlinePoint};
 use crate::walk::root_made;
 use fx_fixed::{F26, Ppem};
 use fx_machine::{Machine, Usage};
+use fx_outline::{Outline, OutlinePoint};
 use fx_scale::Scale;
 use fx_sfnt::Font;
 use fx_zone::Point;
@@ -32,11 +33,11 @@ pub fn outline(
     ppem: Ppem,
     machine: Option<&mut Machine<'_>>,
     g: u16,
-) -> Result<Outline, HintFault>
+) -> Result<GlyphOutline, HintFault>
     requires { IfMachine (IsOf font.now ppem) machine }
-    ensures value { GivesUnless Fails view_of_outline result (outline_with (hinting_with machine.entry) font.now ppem g) }
+    ensures value { GivesUnless Fails view_of_glyph_outline result (outline_with (hinting_with machine.entry) font.now ppem g) }
     ensures hinted { IfMachine (λ known. machine_of font.now ppem ≡ Ok known
-        → GivesUnless Fails view_of_outline result (hinted_outline_of font.now ppem g)) machine.entry }
+        → GivesUnless Fails view_of_glyph_outline result (hinted_outline_of font.now ppem g)) machine.entry }
     ensures kept { KnowsSame machine.entry machine.exit }
 {
     match machine {
@@ -53,10 +54,10 @@ pub fn outline_with<H: Hinter>(
     font: &Font<'_>,
     ppem: Ppem,
     g: u16,
-) -> Result<Outline, HintFault>
+) -> Result<GlyphOutline, HintFault>
     ensures known { H.known hinter.new ≡ H.known hinter.old }
     ensures kept { H.hinting hinter.new ≡ H.hinting hinter.old }
-    ensures value { GivesUnless Fails view_of_outline result (outline_with (H.hinting hinter.old) font.now ppem g) }
+    ensures value { GivesUnless Fails view_of_glyph_outline result (outline_with (H.hinting hinter.old) font.now ppem g) }
 {
     let scale = Scale::of(font, ppem);
     hinter.law_keeps_shape();
@@ -67,17 +68,20 @@ pub fn outline_with<H: Hinter>(
 
 /// The outline moved, so that its first phantom point lies at x = 0.
 #[tactic(auto, unfolding(crate::specs::Outlines::moved_outline_of))]
-fn moved_outline(alloc: Global, made: Made, usage: Usage) -> Result<Outline, AllocError>
+fn moved_outline(alloc: Global, made: Made, usage: Usage) -> Result<GlyphOutline, AllocError>
     requires { IsSound made }
-    ensures { IfOk result (λ o. view_of_outline o ≡ moved_outline_of made usage) }
+    ensures { IfOk result (λ o. view_of_glyph_outline o ≡ moved_outline_of made usage) }
 {
     let Made { zone, phantoms } = made;
     let origin = phantoms.origin.cur.x;
     let points = moved_points(alloc, zone.points(), origin)?;
     let advance = phantoms.advance.cur.x.minus(origin);
-    Ok(Outline {
+    let outline = Outline {
         points,
         ends: zone.into_ends(),
+    };
+    Ok(GlyphOutline {
+        outline,
         advance,
         usage,
     })

@@ -9,7 +9,8 @@ ghost use Rattle.fx_scale.specs.Phantoms.{phantoms_of};
 ghost use Rattle.fx_hint.specs.Faults.{Fails};
 ghost use Rattle.fx_hint.specs.declared.fault.HintFault.{HintFault as TheFault};
 ghost use Rattle.fx_hint.specs.Outlines.{scaled_simple, simple_made, assembled, component, run_on, root_made};
-ghost use Rattle.fx_hint.specs.Limits.{max_components, max_depth, max_points};
+ghost use Rattle.fx_outline.specs.Limits.{max_points};
+ghost use Rattle.fx_hint.specs.Limits.{max_components, max_depth};
 ghost use Rattle.fx_hint.specs.Parts.{with_part};
 ghost use Rattle.fx_hint.specs.inner.Steps.{begun, begun_by, begun_component, counted_made, left};
 

@@ -1,13 +1,9 @@
 -- The ends of contours are numbers of points.
--- For `zone_of`, and for the walk over contours in fx_contour.
-use Rattle.std.proofs.Common.{◌≡◌, ℕ, zero, suc, ◌+◌, ◌<◌, ◌≤◌, List, [], ◌∷◌, arith}
+-- For `zone_of`.
+use Rattle.std.proofs.Common.{◌≡◌, ℕ, zero, suc, ◌+◌, ◌<◌, List, [], ◌∷◌, arith}
 use Rattle.std.specs.List.{All}
 use Rattle.fx_glyf.specs.Grammar.{AreEnds}
-
--- no contour begins after the last point
-pub ends_reach : (start : ℕ) (es : List ℕ) (n : ℕ) → AreEnds start es n → start ≤ n
-ends_reach start [] n h = omega arith
-ends_reach start (e ∷ es) n h = let r = ends_reach (e + 1) es n h.1 in let s = h.0 in omega arith
+use Rattle.fx_glyf.proofs.EndPoints.{ends_reach}
 
 -- each end is below the number of points
 pub ends_below : (start : ℕ) (es : List ℕ) (n : ℕ) → AreEnds start es n → All (λ e. e < n) es

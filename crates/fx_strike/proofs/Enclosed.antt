@@ -12,7 +12,7 @@ use Rattle.fx_fixed.proofs.Chain.{refuse_ok}
 use Rattle.fx_winding.specs.Winding.{Span}
 use Rattle.fx_winding.specs.Frames.{IsFrom, steps}
 use Rattle.fx_winding.specs.declared.frame.Frame.{Frame}
-use Rattle.fx_hint.specs.declared.points.OutlinePoint.{OutlinePoint}
+use Rattle.fx_outline.specs.declared.points.OutlinePoint.{OutlinePoint}
 use Rattle.fx_contour.specs.declared.fault.ContourFault.TheVariants.{TooFar}
 use Rattle.fx_contour.specs.Contours.{is_in_reach, spans_of, drawn_of}
 use Rattle.fx_contour.specs.Frames.{IsInside, NothingOutsideFrame}
@@ -135,22 +135,22 @@ spans_drawn ends points ss h =
 
 -- and of a sketch
 pub sketch_spans : (sketch : Sketch) (made : Sketched) (ss : List Span) → IsSketchedOf sketch made
-    → ss ≡ spans_of made.outline.ends.items made.outline.points.items → sketch.spans ≡ ss
+    → ss ≡ spans_of made.drawing.outline.ends.items made.drawing.outline.points.items → sketch.spans ≡ ss
 sketch_spans sketch made ss is e =
-    sym (e ∙ spans_drawn made.outline.ends.items made.outline.points.items sketch.spans is.spans)
+    sym (e ∙ spans_drawn made.drawing.outline.ends.items made.drawing.outline.points.items sketch.spans is.spans)
 
 pub skipped : (sketch : Sketch) (made : Sketched) (box : Box)
-    → NothingOutsideFrame made.frame (spans_of made.outline.ends.items made.outline.points.items)
-    → IsFramedBy made.dropout made.frame (spans_of made.outline.ends.items made.outline.points.items)
+    → NothingOutsideFrame made.frame (spans_of made.drawing.outline.ends.items made.drawing.outline.points.items)
+    → IsFramedBy made.dropout made.frame (spans_of made.drawing.outline.ends.items made.drawing.outline.points.items)
     → ((col row : ℤ) → IsInside made.frame col row → IsTrue (is_in_box box col row))
     → IsPlaced box → IsSketchedOf sketch made → Joins sketch box (Ok box)
 skipped sketch made box outside framed inside placed is =
-    let drawn = are_drawn made.outline.ends.items made.outline.points.items sketch.spans is.spans in
+    let drawn = are_drawn made.drawing.outline.ends.items made.drawing.outline.points.items sketch.spans is.spans in
     let g = glyph_of_spans sketch drawn is.small in
     let N : List Span → Type 0 = λ ss. NothingOutsideFrame made.frame ss in
     let F : List Span → Type 0 = λ ss. IsFramedBy made.dropout made.frame ss in
     let D : Bool → Type 0 = λ d. IsFramedBy d made.frame sketch.spans in
-    let same = spans_drawn made.outline.ends.items made.outline.points.items sketch.spans is.spans in
+    let same = spans_drawn made.drawing.outline.ends.items made.drawing.outline.points.items sketch.spans is.spans in
     let none = nothing_set sketch.dropout made.frame sketch.spans (subst D is.dropout (subst F same framed))
     (subst N same outside) in
     let bits : (col row : ℤ) → IsTrue (glyph_bit g.0 col row) → IsTrue (is_in_box box col row) =
@@ -167,7 +167,7 @@ joins_made sketch box new g is e placed = (g, is, e, placed)
 
 -- a character was added
 pub has_added : (sketch : Sketch) (made : Sketched) (old new : Seen) (code : ℕ) (box : Box) → IsSketchedOf sketch made
-    → sketch.code ≡ code → Joins sketch old.bounds (Ok box) → Adds old new code box made.outline → Has sketch old new
+    → sketch.code ≡ code → Joins sketch old.bounds (Ok box) → Adds old new code box made.drawing → Has sketch old new
 has_added sketch made old new code box is e j a =
     let P : Box → Type 0 = λ b. IsPlaced b in
     record {

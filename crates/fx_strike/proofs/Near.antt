@@ -12,7 +12,7 @@ use Rattle.fx_fixed.proofs.Chain.{refuse_ok}
 use Rattle.fx_winding.specs.Area.{Place}
 use Rattle.fx_winding.specs.Winding.{Span}
 use Rattle.fx_winding.specs.Outside.{HasAll, OptionAll, AreOfOutline, joined}
-use Rattle.fx_hint.specs.declared.points.OutlinePoint.{OutlinePoint}
+use Rattle.fx_outline.specs.declared.points.OutlinePoint.{OutlinePoint}
 use Rattle.fx_contour.specs.declared.fault.ContourFault.TheVariants.{TooFar, TooLarge}
 use Rattle.fx_contour.specs.Curve.{doubled_of, middle_of, joint_of, span_at, first_or, last_or, spans_between, curve_of}
 use Rattle.fx_contour.specs.Contours.{IsInReach, is_in_reach, contours_from, spans_of, drawn_of}

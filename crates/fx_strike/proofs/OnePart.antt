@@ -8,7 +8,7 @@ use Rattle.fx_fixed.specs.Sizes.{ppem_of}
 use Rattle.fx_fixed.proofs.Chain.{bind_ok, map_fault_ok, same_Ok}
 use Rattle.fx_sfnt.specs.Glyphs.{metrics_of}
 use Rattle.fx_sfnt.specs.declared.records.Metrics.{Metrics}
-use Rattle.fx_hint.specs.Outlines.{OutlineView}
+use Rattle.fx_hint.specs.Outlines.{GlyphOutlineView}
 use Rattle.fx_winding.specs.Winding.{Span}
 use Rattle.fx_contour.specs.Contours.{drawn_of}
 use Rattle.fx_bdf.specs.Glyphs.{Glyph, TrimmedIsOne, glyph_bit}
@@ -74,7 +74,7 @@ text_is_one one plan gs hs p q = ap (strike_text plan) (glyphs_are_one one plan.
 
 -- a sketch that is due is made of an outline, its spans and its metrics
 pub record Made (setting : Setting) (code : ℕ) (s : Sketch) : Type 0 where
-  pub drawing : OutlineView
+  pub drawing : GlyphOutlineView
   pub spans : List Span
   pub metrics : Metrics
   pub drawn : drawn_of drawing.ends drawing.points ≡ Ok spans
@@ -85,9 +85,9 @@ pub sketch_made : (setting : Setting) (code glyph : ℕ) (s : Sketch) → glyph_
     → Made setting code s
 unfolding glyph_sketch_of
 sketch_made setting code glyph s h =
-    let measured : OutlineView → List Span → Result Sketch Refusal =
+    let measured : GlyphOutlineView → List Span → Result Sketch Refusal =
     λ d ss. map_fault of_font (metrics_of setting.font glyph) >>= λ m. Ok (sketch_from setting code d ss m) in
-    let framed : OutlineView → List Span → Result Sketch Refusal =
+    let framed : GlyphOutlineView → List Span → Result Sketch Refusal =
     λ d ss. map_fault (of_contour glyph) (framed_by setting.dropout ss) >>= λ _. measured d ss in
     let a = bind_ok (map_fault of_hint (outline_in setting glyph))
     (λ d. map_fault (of_contour glyph) (drawn_of d.ends d.points) >>= framed d) s h in

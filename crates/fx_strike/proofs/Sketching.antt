@@ -12,7 +12,7 @@ use Rattle.fx_sfnt.specs.declared.records.Metrics.{Metrics}
 use Rattle.fx_sfnt.specs.declared.fault.FontFault.{FontFault}
 use Rattle.fx_sfnt.specs.declared.fault.FontFault.TheVariants.{NotTrueType, TableMissing, TableShort, BadHead, BadMaxp, BadLoca}
 use Rattle.fx_sfnt.specs.declared.fault.FontFault.TheVariants.{BadGlyphNumber}
-use Rattle.fx_hint.specs.Outlines.{OutlineView, view_of_outline}
+use Rattle.fx_hint.specs.Outlines.{GlyphOutlineView, view_of_glyph_outline}
 use Rattle.fx_winding.specs.Winding.{Span}
 use Rattle.fx_winding.specs.Bitmaps.{Bits, bit_of}
 use Rattle.fx_contour.specs.declared.fault.ContourFault.{ContourFault}
@@ -57,7 +57,7 @@ tight_along box a b e h =
     }
 
 -- all checks passed: the sketch is there
-sketch_is : (setting : Setting) (code glyph : ℕ) (drawing : OutlineView) (ss : List Span) (m : Metrics)
+sketch_is : (setting : Setting) (code glyph : ℕ) (drawing : GlyphOutlineView) (ss : List Span) (m : Metrics)
     → map_fault of_hint (outline_in setting glyph) ≡ Ok drawing
     → map_fault (of_contour glyph) (drawn_of drawing.ends drawing.points) ≡ Ok ss
     → map_fault (of_contour glyph) (framed_by setting.dropout ss) ≡ Ok tt
@@ -68,12 +68,12 @@ sketch_is setting code glyph drawing ss m e1 e2 e3 e4 = rw (e1, e2, e3, e4)
 
 -- the sketch of a glyph before its bits, by its spans and its metrics
 abbrev sketch_by : Setting → ℕ → Sketched → List Span → Metrics → Sketch
-sketch_by setting code made ss m = sketch_from setting code (view_of_outline made.outline) ss m
+sketch_by setting code made ss m = sketch_from setting code (view_of_glyph_outline made.drawing) ss m
 
 -- all steps went well: the glyph before its bits is that of the sketch
 sketched_whole : (setting : Setting) (code glyph : ℕ) (made : Sketched) (ss : List Span) (swidth : ℤ)
-    → map_fault of_hint (outline_in setting glyph) ≡ Ok (view_of_outline made.outline)
-    → drawn_of made.outline.ends.items made.outline.points.items ≡ Ok ss
+    → map_fault of_hint (outline_in setting glyph) ≡ Ok (view_of_glyph_outline made.drawing)
+    → drawn_of made.drawing.outline.ends.items made.drawing.outline.points.items ≡ Ok ss
     → framed_by setting.dropout ss ≡ Ok tt
     → Ok swidth ≡ map_ok (λ (m : Metrics). thousandths m.advance_width setting.font.head.units_per_em)
     (map_fault of_font (metrics_of setting.font glyph))
@@ -84,7 +84,7 @@ sketched_whole setting code glyph made ss swidth h1 h2 h3 h4 s d =
     let m = map_ok_ok (λ (m : Metrics). thousandths m.advance_width setting.font.head.units_per_em)
     (map_fault of_font (metrics_of setting.font glyph)) swidth (sym h4) in (
       m.0,
-      sketch_is setting code glyph (view_of_outline made.outline) ss m.0 h1 (ap (map_fault (of_contour glyph)) h2)
+      sketch_is setting code glyph (view_of_glyph_outline made.drawing) ss m.0 h1 (ap (map_fault (of_contour glyph)) h2)
           (ap (map_fault (of_contour glyph)) h3) m.1,
       record { spans = h2; dropout = d; small = h3; swidth = s ∙ sym m.2; dwidth = refl; usage = refl },
     )
@@ -103,15 +103,15 @@ drawn_whole due sketch made code (Err e) h is k of m = memory_fails e due m
 
 -- the same where the checks of the spans and of the frame are one
 pub sketched_framed : (setting : Setting) (code glyph : ℕ) (made : Sketched) (swidth : ℤ)
-    → map_fault of_hint (outline_in setting glyph) ≡ Ok (view_of_outline made.outline)
-    → map_fault (of_contour glyph) (drawn_of made.outline.ends.items made.outline.points.items >>= framed_by setting.dropout)
+    → map_fault of_hint (outline_in setting glyph) ≡ Ok (view_of_glyph_outline made.drawing)
+    → map_fault (of_contour glyph) (drawn_of made.drawing.outline.ends.items made.drawing.outline.points.items >>= framed_by setting.dropout)
     ≡ Ok tt
     → Ok swidth ≡ map_ok (λ (m : Metrics). thousandths m.advance_width setting.font.head.units_per_em)
     (map_fault of_font (metrics_of setting.font glyph))
     → made.swidth ≡ swidth → made.dropout ≡ setting.dropout
     → (sketch : Sketch) × (glyph_sketch_of setting code glyph ≡ Ok sketch) × IsSketchedOf sketch made
 sketched_framed setting code glyph made swidth h1 h2 h4 s d =
-    let drawn : Result (List Span) ContourFault = drawn_of made.outline.ends.items made.outline.points.items in
+    let drawn : Result (List Span) ContourFault = drawn_of made.drawing.outline.ends.items made.drawing.outline.points.items in
     let frame : List Span → Result (Unit {0}) ContourFault = framed_by setting.dropout in
     let p = bind_ok drawn frame tt (map_fault_ok (of_contour glyph) (drawn >>= frame) tt h2) in
     let w = sketched_whole setting code glyph made p.0 swidth h1 p.1 p.2 h4 s d in
@@ -121,7 +121,7 @@ sketched_framed setting code glyph made swidth h1 h2 h4 s d =
 pub glyph_whole : (sketch : Sketch) (made : Sketched) (ss : List Span) (bits : Bits) (g : Glyph) (code code2 : ℕ)
     (swidth dwidth : ℤ)
     → HasBitsOf made.dropout ss bits → IsTrimmed code2 swidth dwidth (bit_of bits) g → code2 ≡ code → swidth ≡ made.swidth
-    → dwidth ≡ near_of made.outline.advance (pos 64)
+    → dwidth ≡ near_of made.drawing.advance (pos 64)
     → IsSketchedOf sketch made → sketch.code ≡ code → sketch.spans ≡ ss → IsGlyphOf sketch g
 glyph_whole sketch made ss bits g code code2 swidth dwidth b t c s d is e spans =
     let P : Bool → Type 0 = λ x. IsTrue x in
@@ -168,7 +168,7 @@ both_checked view (Ok x) f g e h = rw h refl
 both_checked view (Err d) f g e h = let same : view d ≡ e = cc in ap Err same
 
 -- the outline lies too far out or is too large
-pub no_frame : (setting : Setting) (code glyph : ℕ) (drawing : OutlineView) (d : Refusal)
+pub no_frame : (setting : Setting) (code glyph : ℕ) (drawing : GlyphOutlineView) (d : Refusal)
     → map_fault of_hint (outline_in setting glyph) ≡ Ok drawing
     → Fails d (map_fault (of_contour glyph) (drawn_of drawing.ends drawing.points >>= framed_by setting.dropout))
     → Fails d (glyph_sketch_of setting code glyph)
@@ -195,7 +195,7 @@ refused_metrics view (Err f) d due h g =
     let same : of_font f ≡ d = cc in subst P same (font_fails f due (g f refl))
 
 -- no advance
-pub no_advance : (setting : Setting) (code glyph : ℕ) (drawing : OutlineView) (d : Refusal)
+pub no_advance : (setting : Setting) (code glyph : ℕ) (drawing : GlyphOutlineView) (d : Refusal)
     → map_fault of_hint (outline_in setting glyph) ≡ Ok drawing
     → map_fault (of_contour glyph) (drawn_of drawing.ends drawing.points >>= framed_by setting.dropout) ≡ Ok tt
     → Err d ≡ map_ok (λ (m : Metrics). thousandths m.advance_width setting.font.head.units_per_em)

@@ -16,7 +16,7 @@ use Rattle.fx_machine.specs.Usages.{no_usage}
 use Rattle.fx_hint.specs.Hinting.{Hinting, no_hinting}
 use Rattle.fx_hint.specs.Programmed.{hinting_of}
 use Rattle.fx_hint.specs.declared.fault.HintFault.{HintFault}
-use Rattle.fx_hint.specs.Outlines.{OutlineView, outline_with}
+use Rattle.fx_hint.specs.Outlines.{GlyphOutlineView, outline_with}
 use Rattle.fx_winding.specs.Winding.{Span, IsCovered, centre}
 use Rattle.fx_winding.specs.Dropout.{IsSetIn}
 use Rattle.fx_contour.specs.declared.fault.ContourFault.{ContourFault}
@@ -97,11 +97,11 @@ abbrev pub thousandths : ℕ → ℕ → ℤ
 thousandths advance em = near_of (pos (advance * 1000)) (pos em)
 
 -- a glyph's outline, scaled, and hinted if there is a machine
-abbrev pub outline_in : Setting → ℕ → Result OutlineView HintFault
+abbrev pub outline_in : Setting → ℕ → Result GlyphOutlineView HintFault
 outline_in setting glyph = outline_with (hinting_by setting.machine) setting.font setting.ppem glyph
 
 -- the sketch of a code point that has this outline, spans and metrics
-abbrev pub sketch_from : Setting → ℕ → OutlineView → List Span → Metrics → Sketch
+abbrev pub sketch_from : Setting → ℕ → GlyphOutlineView → List Span → Metrics → Sketch
 sketch_from setting code outline spans metrics = record {
   code = code;
   swidth = thousandths metrics.advance_width setting.font.head.units_per_em;

@@ -137,19 +137,19 @@ pub(crate) fn glyph_of<S: Scan>(
     code: u32,
     sketched: &Sketched,
 ) -> Result<BitGlyph, Refusal>
-    requires reach { All IsInReach sketched.now.outline.points.items }
+    requires reach { All IsInReach sketched.now.drawing.outline.points.items }
     requires outside { NothingOutsideFrame sketched.now.frame
-        (spans_of sketched.now.outline.ends.items sketched.now.outline.points.items) }
+        (spans_of sketched.now.drawing.outline.ends.items sketched.now.drawing.outline.points.items) }
     requires framed { IsFramedBy sketched.now.dropout sketched.now.frame
-        (spans_of sketched.now.outline.ends.items sketched.now.outline.points.items) }
+        (spans_of sketched.now.drawing.outline.ends.items sketched.now.drawing.outline.points.items) }
     ensures glyph { IfOk result (λ g. (sketch : Sketch) → IsSketchedOf sketch sketched.now → sketch.code ≡ code →
         IsGlyphOf sketch g) }
     ensures code { IfOk result (λ g. g.code ≡ code) }
     ensures fault { IfErr result (λ e. e ≡ Refusal.OutOfMemory) }
 {
-    let pieces = pieces_in_reach(alloc, &sketched.outline)?;
+    let pieces = pieces_in_reach(alloc, &sketched.drawing.outline)?;
     let bitmap = bitmap_of(alloc, scan, &pieces, sketched.dropout, sketched.frame)?;
-    let dwidth = whole_pixels(sketched.outline.advance);
+    let dwidth = whole_pixels(sketched.drawing.advance);
     Ok(BitGlyph::of(code, sketched.swidth, dwidth, bitmap))
 }
 

@@ -78,11 +78,11 @@ impl<'a, S: Scan> Tools<'a, S> {
     /// in the box: all its bits lie in its frame.
     fn bounds_with(&self, bounds: Bounds, code: u32, sketched: &Sketched) -> Result<Bounds, Refusal>
         requires placed { IsPlaced bounds }
-        requires reach { All IsInReach sketched.now.outline.points.items }
+        requires reach { All IsInReach sketched.now.drawing.outline.points.items }
         requires outside { NothingOutsideFrame sketched.now.frame
-            (spans_of sketched.now.outline.ends.items sketched.now.outline.points.items) }
+            (spans_of sketched.now.drawing.outline.ends.items sketched.now.drawing.outline.points.items) }
         requires framed { IsFramedBy sketched.now.dropout sketched.now.frame
-            (spans_of sketched.now.outline.ends.items sketched.now.outline.points.items) }
+            (spans_of sketched.now.drawing.outline.ends.items sketched.now.drawing.outline.points.items) }
         ensures { (sketch : Sketch) → IsSketchedOf sketch sketched.now → sketch.code ≡ code → Joins sketch bounds result }
     {
         if lies_in(sketched.frame, bounds) {
@@ -119,9 +119,9 @@ impl<'a, S: Scan> Tools<'a, S> {
             self.dropout,
             glyph,
         )?;
-        cache.put(glyph, &sketched.outline);
+        cache.put(glyph, &sketched.drawing);
         let bounds = self.bounds_with(seen.bounds, code, &sketched)?;
-        seen.add(code, bounds, &sketched.outline);
+        seen.add(code, bounds, &sketched.drawing);
         Ok(())
     }
 

@@ -3,7 +3,7 @@
 use crate::draw::whole_pixels;
 use crate::gathered::Gathered;
 use fx_bdf::Bounds;
-use fx_hint::Outline;
+use fx_hint::GlyphOutline;
 use fx_machine::Usage;
 use fx_request::Report;
 
@@ -36,15 +36,15 @@ impl Seen {
     }
 
     /// Adds a character: its code point, the box of the glyphs up to it, its advance, and what its programs counted.
-    pub(crate) fn add(&mut self, code: u32, bounds: Bounds, outline: &Outline)
+    pub(crate) fn add(&mut self, code: u32, bounds: Bounds, drawing: &GlyphOutline)
         requires few { self.old.report.glyphs < max_characters }
         requires narrow { IsNarrow self.old }
-        ensures { Adds self.old self.new code bounds outline.now }
+        ensures { Adds self.old self.new code bounds drawing.now }
     {
-        let dwidth = whole_pixels(outline.advance);
+        let dwidth = whole_pixels(drawing.advance);
         self.bounds = bounds;
         self.gathered = self.gathered.with(code, dwidth);
         self.report.glyphs += 1;
-        self.report.usage = self.report.usage.plus(outline.usage);
+        self.report.usage = self.report.usage.plus(drawing.usage);
     }
 }

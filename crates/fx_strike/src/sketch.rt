@@ -2,7 +2,7 @@
 ghost use Rattle.std.specs.Prelude.{◌≡◌, ℕ, All, Ok, IfOk};
 ghost use Rattle.fx_fixed.specs.Chain.{map_ok, map_fault, GivesUnless};
 ghost use Rattle.fx_sfnt.specs.Glyphs.{metrics_of};
-ghost use Rattle.fx_hint.specs.Outlines.{view_of_outline, outline_with};
+ghost use Rattle.fx_hint.specs.Outlines.{view_of_glyph_outline, outline_with};
 ghost use Rattle.fx_contour.specs.Contours.{IsInReach, spans_of};
 ghost use Rattle.fx_contour.specs.Frames.{NothingOutsideFrame};
 ghost use Rattle.fx_request.specs.Faults.{of_font};
@@ -18,7 +18,8 @@ use crate::sketched::Sketched;
 use fx_cache::CacheReader;
 use fx_contour::{ContourFault, dropout_frame, outline_frame};
 use fx_fixed::near;
-use fx_hint::{Outline, outline_with};
+use fx_hint::{GlyphOutline, outline_with};
+use fx_outline::Outline;
 use fx_request::Refusal;
 use fx_sfnt::Font;
 use fx_winding::Frame;
@@ -30,13 +31,13 @@ fn outline_made(
     hinter: &mut FontHinter<'_>,
     opened: &Opened<'_>,
     glyph: u16,
-) -> Result<Outline, Refusal>
+) -> Result<GlyphOutline, Refusal>
     ensures kept { hinter.new ≡ hinter.old }
-    ensures value { GivesUnless Fails view_of_outline result
+    ensures value { GivesUnless Fails view_of_glyph_outline result
         (map_fault of_hint (outline_with (hinting_by hinter.old) opened.now.font opened.now.ppem glyph)) }
 {
     match outline_with(alloc, hinter, &opened.font, opened.ppem, glyph) {
-        Ok(outline) => Ok(outline),
+        Ok(made) => Ok(made),
         Err(fault) => Err(of_hint(fault)),
     }
 }
@@ -48,11 +49,11 @@ fn outline_at(
     cache: &mut CacheReader<'_>,
     opened: &Opened<'_>,
     glyph: u16,
-) -> Result<Outline, Refusal>
+) -> Result<GlyphOutline, Refusal>
     requires cache { AreDue (due_in opened.now hinter.old) cache.old }
     ensures kept { hinter.new ≡ hinter.old }
     ensures cache { AreDue (due_in opened.now hinter.old) cache.new }
-    ensures value { GivesUnless Fails view_of_outline result
+    ensures value { GivesUnless Fails view_of_glyph_outline result
         (map_fault of_hint (outline_with (hinting_by hinter.old) opened.now.font opened.now.ppem glyph)) }
 {
     match cache.take(alloc, glyph) {
@@ -112,17 +113,19 @@ pub(crate) fn sketch_at(
     requires cache { AreDue (due_in opened.now hinter.old) cache.old }
     ensures kept { hinter.new ≡ hinter.old }
     ensures cache { AreDue (due_in opened.now hinter.old) cache.new }
-    ensures outline { IfOk result (λ s. due_in opened.now hinter.old glyph ≡ Ok (view_of_outline s.outline)) }
+    ensures outline { IfOk result (λ s. due_in opened.now hinter.old glyph ≡ Ok (view_of_glyph_outline s.drawing)) }
     ensures sketch { (code : ℕ) → Sketches (glyph_sketch_of (setting_with opened.now dropout hinter.old) code glyph) result }
-    ensures frame { IfOk result (λ s. IsFramedBy s.dropout s.frame (spans_of s.outline.ends.items s.outline.points.items)) }
-    ensures outside { IfOk result (λ s. NothingOutsideFrame s.frame (spans_of s.outline.ends.items s.outline.points.items)) }
-    ensures reach { IfOk result (λ s. All IsInReach s.outline.points.items) }
+    ensures frame { IfOk result (λ s. IsFramedBy s.dropout s.frame
+        (spans_of s.drawing.outline.ends.items s.drawing.outline.points.items)) }
+    ensures outside { IfOk result (λ s. NothingOutsideFrame s.frame
+        (spans_of s.drawing.outline.ends.items s.drawing.outline.points.items)) }
+    ensures reach { IfOk result (λ s. All IsInReach s.drawing.outline.points.items) }
 {
-    let outline = outline_at(alloc, hinter, cache, opened, glyph)?;
-    let frame = frame_of_outline(&outline, dropout, glyph)?;
+    let drawing = outline_at(alloc, hinter, cache, opened, glyph)?;
+    let frame = frame_of_outline(&drawing.outline, dropout, glyph)?;
     let swidth = thousandths_at(&opened.font, glyph)?;
     Ok(Sketched {
-        outline,
+        drawing,
         dropout,
         frame,
         swidth,

@@ -171,7 +171,8 @@ fn random_outlines(alloc: Global, contours: u32, seed: u64) -> Result<Counts> {
 fn glyphs(alloc: Global, font: &Font<'_>, ppem: Ppem) -> Result<Counts> {
     let mut counts = Counts::NONE;
     'glyphs: for glyph in 0..font.maxp().num_glyphs {
-        let outline = outline(alloc, font, ppem, None, glyph)?;
+        let glyph_outline = outline(alloc, font, ppem, None, glyph)?;
+        let outline = glyph_outline.outline;
         let pieces = pieces(alloc, &outline)?;
         if let Some(frame) = frame(&pieces)? {
             counts = counts.with(frame, compare(alloc, &pieces, frame)?);

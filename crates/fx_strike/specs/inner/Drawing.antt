@@ -12,13 +12,13 @@ use Rattle.fx_contour.specs.declared.fault.ContourFault.{ContourFault}
 use Rattle.fx_contour.specs.Contours.{drawn_of}
 use Rattle.fx_contour.specs.Frames.{IsFrameFor}
 use Rattle.fx_contour.specs.DropoutFrames.{HaveMargin, IsDropoutFrameFor}
-use Rattle.fx_hint.specs.declared.points.OutlinePoint.{OutlinePoint}
+use Rattle.fx_outline.specs.declared.points.OutlinePoint.{OutlinePoint}
 use Rattle.fx_bdf.specs.Glyphs.{Box, Glyph}
 use Rattle.fx_request.specs.declared.refusal.Refusal.{Refusal}
 use Rattle.fx_strike.specs.declared.sketched.Sketched.{Sketched}
 use Rattle.fx_strike.specs.Faults.{Fails}
 use Rattle.fx_machine.specs.Known.{Known}
-use Rattle.fx_hint.specs.Outlines.{OutlineView, outline_with}
+use Rattle.fx_hint.specs.Outlines.{GlyphOutlineView, outline_with}
 use Rattle.fx_hint.specs.declared.fault.HintFault.{HintFault}
 use Rattle.fx_strike.specs.declared.opened.Opened.{Opened}
 use Rattle.fx_strike.specs.Strike.{Sketch, IsGlyphOf, IsPixelSet, framed_by, hinting_by}
@@ -34,7 +34,7 @@ IsFramedBy false f ss = IsFrameFor f ss
 IsFramedBy true f ss = IsDropoutFrameFor f ss × HaveMargin f
 
 -- the outline of a glyph that is due, scaled and hinted; or the first fault
-abbrev pub due_in : Opened → Option Known → ℕ → Result OutlineView HintFault
+abbrev pub due_in : Opened → Option Known → ℕ → Result GlyphOutlineView HintFault
 due_in opened machine = outline_with (hinting_by machine) opened.font opened.ppem
 
 -- the bits are those of the frame, and each is set exactly when drop-out control sets the pixel
@@ -61,12 +61,12 @@ lies_in (Some f) box = sides_lie_in f box
 
 -- a glyph before its bits is that of its sketch
 pub record IsSketchedOf (sketch : Sketch) (sketched : Sketched) : Type 0 where
-  pub spans : drawn_of sketched.outline.ends.items sketched.outline.points.items ≡ Ok sketch.spans
+  pub spans : drawn_of sketched.drawing.outline.ends.items sketched.drawing.outline.points.items ≡ Ok sketch.spans
   pub dropout : sketched.dropout ≡ sketch.dropout
   pub small : framed_by sketch.dropout sketch.spans ≡ Ok tt
   pub swidth : sketched.swidth ≡ sketch.swidth
-  pub dwidth : near_of sketched.outline.advance (pos 64) ≡ sketch.dwidth
-  pub usage : sketched.outline.usage ≡ sketch.usage
+  pub dwidth : near_of sketched.drawing.advance (pos 64) ≡ sketch.dwidth
+  pub usage : sketched.drawing.usage ≡ sketch.usage
 
 -- a glyph before its bits is made if its sketch is due; a refusal is one that is due, or out of memory
 abbrev pub Sketches : Result Sketch Refusal → Result Sketched Refusal → Type 0

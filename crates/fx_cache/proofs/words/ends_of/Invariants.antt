@@ -1,5 +1,5 @@
 use Rattle.std.proofs.Common.{◌≡◌, ◌+◌, ◌-◌, ◌≤◌, length, take, vec_len, vec_capacity}
-use Rattle.fx_hint.specs.Ends.{AreEnds}
+use Rattle.fx_outline.specs.Ends.{AreEnds}
 use Rattle.fx_cache.proofs.words.ends_of.Given as goal
 
 abbrev pub invariant-ends : goal.invariant-ends

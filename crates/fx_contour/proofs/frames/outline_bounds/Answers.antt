@@ -1,5 +1,5 @@
 use Rattle.std.proofs.Common.{List, All, subst}
-use Rattle.fx_hint.specs.declared.points.OutlinePoint.{OutlinePoint}
+use Rattle.fx_outline.specs.declared.points.OutlinePoint.{OutlinePoint}
 use Rattle.fx_contour.specs.Bounds.{IsLeast, DoesExtend, HavePoint}
 use Rattle.fx_contour.specs.Contours.{IsInReach}
 use Rattle.fx_contour.proofs.Decided.{drawn_far}

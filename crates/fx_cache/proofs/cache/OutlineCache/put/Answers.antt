@@ -1,8 +1,8 @@
-use Rattle.fx_hint.specs.Outlines.{view_of_outline}
+use Rattle.fx_hint.specs.Outlines.{view_of_glyph_outline}
 use Rattle.fx_cache.proofs.DueWords.{put_or_not}
 use Rattle.fx_cache.proofs.cache.OutlineCache.put.Goals as goal
 
 pub returns : goal.returns
 returns c = λ due d i. put_or_not due c.put_words.result c.self.inside.words.items c.put_words.new.words.items c.args.glyph
-    (view_of_outline c.args.outline.now) c.put_words.ensures.put c.put_words.ensures.fit c.put_words.ensures.same
+    (view_of_glyph_outline c.args.made.now) c.put_words.ensures.put c.put_words.ensures.fit c.put_words.ensures.same
     (rw c.self.view_is d) i

@@ -1,5 +1,5 @@
 use Rattle.std.proofs.Common.{◌≡◌, ◌<◌, ◌+◌, ◌-◌, ◌∙◌, ap, subst, get_or, length, take, drop, arith, List}
-use Rattle.fx_hint.specs.declared.points.OutlinePoint.{OutlinePoint}
+use Rattle.fx_outline.specs.declared.points.OutlinePoint.{OutlinePoint}
 use Rattle.fx_contour.specs.Curve.{curve_of}
 use Rattle.fx_contour.specs.Frames.{HaveAny}
 use Rattle.fx_contour.specs.Bounds.{Grows, DoesExtend}

@@ -1,5 +1,6 @@
 use Rattle.std.proofs.Common.{◌≡◌, ◌+◌, ◌-◌, ◌*◌, ◌≤◌, length}
-use Rattle.fx_hint.specs.Limits.{max_components, max_depth, max_points}
+use Rattle.fx_outline.specs.Limits.{max_points}
+use Rattle.fx_hint.specs.Limits.{max_components, max_depth}
 use Rattle.fx_hint.specs.inner.Steps.{left, rest_of}
 use Rattle.fx_hint.proofs.Totals.{points_waiting}
 use Rattle.fx_hint.proofs.walk.Walk.closed.Given as goal

@@ -1,0 +1,3 @@
+-- No contour begins after the last point.
+-- For the walk over contours in fx_contour.
+pub use Rattle.fx_glyf.proofs.EndPoints.{ends_reach}
