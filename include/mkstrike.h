@@ -88,7 +88,7 @@ enum {
 
 /* How outlines become pixels, a mode: 0, one of these, or their sum. Hinted, the font's programs run. With drop-out control thin strokes
  * stay whole: if a piece of the outline passes between the centres of two neighbours in a row or a column and neither is set, the left,
- * or the lower, one is. Other bits say nothing. */
+ * or the lower, one is. Other bits are ignored. */
 #define MKSTRIKE_HINTED UINT32_C(1)
 #define MKSTRIKE_DROPOUT UINT32_C(2)
 
