@@ -1,25 +1,25 @@
 /* mkstrike for C: strikes (BDF 2.1) and glyphs of a TrueType font, hinted by the font's own programs, black and white.
  *
- * Each call takes all that it needs and keeps nothing: there is no state, no handle, no lock, and nothing to close. Calls may run in
- * several threads at once, as long as no two are handed the same bytes to write to. All memory that a call takes is given back before
- * it returns. A call opens no file and prints nothing. docs/LIBRARY.md has the memory, the stack and the time that calls take.
+ * A call takes all that it needs and keeps nothing: there is no state, no handle, no lock, and nothing to close. Calls may run in
+ * several threads at once, as long as no two write to the same bytes. A call gives back all memory that it takes before it returns. It
+ * opens no file and prints nothing. docs/LIBRARY.md has the memory, the stack and the time that calls take.
  *
- * Units. A size is in pixels an em. Pixels are counted from the origin on the baseline, columns to the right, rows upwards; row 0 lies
+ * Units. A size is in pixels per em. Pixels are counted from the origin on the baseline, columns to the right, rows upwards; row 0 lies
  * above the baseline. A font is the bytes of its file. A character is a code point of Unicode.
  *
  * Errors. A call returns 0 when it is done, or a number that never changes its meaning (docs/REFUSALS.md; MKSTRIKE_ below). A refused
  * call writes the fields of the refusal and nothing else. A call that is done writes no refusal.
  *
- * Sizes. A call that makes a text or pixels tells how many bytes it has for them, also if the buffer that it was given is too small. So
- * the first call may have a buffer of 0 bytes, as with snprintf.
+ * Sizes. A call that makes a text or pixels tells how many bytes these have, even if your buffer is too small. So you can ask for the
+ * size with a buffer of 0 bytes, as with snprintf.
  *
- * What is trusted. The proofs say what each call does for all bytes, sizes and characters (docs/PROVED.md). Nothing checks these, which
- * they take as given:
- *   - no pointer is null, also if its count is 0: pass the address of anything;
+ * What is trusted. The proofs say what each call does for all bytes, sizes and characters (docs/PROVED.md). The calls take this as given,
+ * and nothing checks it:
+ *   - no pointer is null, even if its count is 0: pass the address of anything;
  *   - each pointer has as many elements behind it as its count says, and nobody changes them during the call;
  *   - what a call writes to overlaps nothing else that the call is handed;
  *   - a bool is 0 or 1;
- *   - there is stack enough: 64 KiB for a thread is more than twice what calls were seen to take;
+ *   - there is stack enough: 64 KiB per thread is more than twice what calls were seen to take;
  *   - the processor has the instructions of x86-64-v2 (SSE4.2, POPCNT; from 2009 on): the calls do not look.
  *
  * Linking. libmkstrike_c.a and one of c/heap.c (malloc, realloc and free of the C library) and c/arena.c (a block that you hand over, no
@@ -87,8 +87,8 @@ enum {
 };
 
 /* How outlines become pixels, a mode: 0, one of these, or their sum. Hinted, the font's programs run. With drop-out control thin strokes
- * stay whole: if a piece of the outline passes between the centres of two neighbours in a row or a column and neither is set, the left,
- * or the lower, one is. Other bits are ignored. */
+ * stay whole: if the outline passes between the centres of two neighbours in a row or a column and neither is set, the left one, or the
+ * lower one, is. Other bits are ignored. */
 #define MKSTRIKE_HINTED UINT32_C(1)
 #define MKSTRIKE_DROPOUT UINT32_C(2)
 
@@ -108,8 +108,8 @@ struct mkstrike_refused {
     uint64_t address; /* where it is in those bytes; else 0 */
 };
 
-/* Puts the name of a number that a call returned into `text`, as much of it as fits before a 0, and that 0; nothing if `text_len` is 0.
- * Returns the length of the whole name without the 0, at most 20. Numbers that no call returns are "Unknown". */
+/* Writes the name of a number that a call returned to `text`: as much of it as fits before a 0, and that 0. If `text_len` is 0, it
+ * writes nothing. Returns the length of the whole name without the 0, at most 20. Numbers that no call returns are "Unknown". */
 size_t mkstrike_reason(uint32_t number, char *text, size_t text_len);
 
 /* The heights of a font. */
@@ -129,9 +129,9 @@ struct mkstrike_glyph {
     int32_t dwidth, swidth; /* the advance in pixels, and in 1/1000 of an em */
 };
 
-/* Makes the glyph of one character at a size of 1 to 1,024: its numbers, and, if `pixels` has room for all of them, its pixels, row by
- * row from the top. Not packed, a pixel is a byte, 255 if it is set and 0 if not. Packed, it is a bit, the leftmost the highest of its
- * byte, and a row takes whole bytes, the last filled up with 0. `mode` is MKSTRIKE_HINTED and MKSTRIKE_DROPOUT, or one of them, or 0.
+/* Makes the glyph of one character at a size of 1 to 1,024. It writes its numbers and, if `pixels` has room for all of them, its pixels,
+ * row by row from the top. Not packed, a pixel is a byte, 255 if it is set and 0 if not. Packed, it is a bit, the leftmost the highest of
+ * its byte, and a row takes whole bytes, the last filled up with 0. `mode` is MKSTRIKE_HINTED, MKSTRIKE_DROPOUT, their sum, or 0.
  *
  * Returns MKSTRIKE_MISSING and writes nothing if the font does not have the character. A call opens the font and, if hinted, runs its
  * `fpgm` and `prep` again: for many characters at once there is mkstrike_glyphs. */
@@ -152,13 +152,15 @@ struct mkstrike_drawn {
     uint32_t missing; /* characters that the font does not have, repeats included */
 };
 
-/* Makes the glyphs of characters at a size of 1 to 1,024, with the font opened once: as many calls of mkstrike_glyph would give the same.
- * `chars` are at most 65,536 code points, which are made in the order given, repeats again. There is an entry for each character; the
- * pixels of all lie one glyph after the other in that order. As many entries as fit go to the front of `glyphs`, and as many bytes of
- * pixels as fit to the front of `pixels`; what lies after them stays as it was. So the pixels of an entry are whole if its offset and its
- * stride * height together are at most `pixels_len`; and a call with no room for either asks for `drawn->bytes`.
+/* Makes the glyphs of characters at a size of 1 to 1,024, and opens the font once. Calls of mkstrike_glyph, one per character, would give
+ * the same. `chars` are at most 65,536 code points, which are made in the order given, repeats again. There is an entry for each character;
+ * the pixels of all lie one glyph after the other in that order.
  *
- * It is refused if one of the characters is; the refusal is that of the first such in the order given. */
+ * As many entries as fit go to the front of `glyphs`, and as many bytes of pixels as fit to the front of `pixels`; what lies after them
+ * stays as it was. So the pixels of an entry are whole if its offset and its stride * height together are at most `pixels_len`. A call
+ * with no room for either asks for `drawn->bytes`.
+ *
+ * If a character is refused, the call is refused, by the refusal of the first such in the order given. */
 uint32_t mkstrike_glyphs(const uint8_t *font, size_t font_len, uint16_t ppem, uint32_t mode, const uint32_t *chars, size_t chars_len,
     bool packed, struct mkstrike_placed *glyphs, size_t glyphs_len, uint8_t *pixels, size_t pixels_len, struct mkstrike_drawn *drawn,
     struct mkstrike_refused *refused);
@@ -172,8 +174,8 @@ struct mkstrike_told {
 };
 
 /* Makes the text of a strike at a size of 1 to 1,024, in BDF. As much of it as fits goes to the front of `out`; what lies after it stays
- * as it was. There is no 0 at its end. `chars` are code points in any order, at most 65,536, repeats count once; `name` is 1 to 255
- * printed characters of ASCII, no space first or last, and needs no 0 at its end. */
+ * as it was. There is no 0 at its end. `chars` are code points in any order, at most 65,536, and repeats count once. `name` is 1 to 255
+ * printable ASCII characters, no space first or last, and needs no 0 at its end. */
 uint32_t mkstrike_make(const uint8_t *font, size_t font_len, uint16_t ppem, uint32_t mode, const uint32_t *chars, size_t chars_len,
     const char *name, size_t name_len, uint8_t *out, size_t out_len, struct mkstrike_told *told, struct mkstrike_refused *refused);
 
