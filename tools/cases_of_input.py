@@ -45,6 +45,24 @@ def words_that_do_not_parse():
         yield Run(repr(words), words, data, usage())
 
 
+def many_words():
+    """Command lines of very many words of which only the last is wrong: each word counts."""
+    for count in (64, 295, 296, 300, 3000, 60000):
+        for last in ("x", "--ppem=16", "--property"):
+            words = MAKE + ["--property=A=1"] * count + [last]
+            yield Run("%d words, then %s" % (len(words) - 1, last), words, SHORT.data(), usage())
+    many = ["--property=A=1"] * 60000
+    yield Run("60,005 words", MAKE + many, SHORT.data(), refused("63 BadProperty 2"))
+
+
+def words_before_the_input():
+    """Command lines that are told to be wrong before anything is read: the input is silent and open."""
+    for words, answer in ((["mak"], usage()), (["make"], usage()), (MAKE + ["x"], usage()), (["--help"], usage()),
+                          (["dump", "--of", "cvt"], usage()), (MAKE[:4] + ["g"], refused("61 BadChars")),
+                          (["show", "--ppem", "16", "--char", "41-42"], refused("61 BadChars"))):
+        yield Run("%s, and nothing is typed" % words, words, b"", answer, way=runs.from_silent_pipe)
+
+
 def words_that_are_no_text():
     """Words that are no UTF-8, as any argument and on the first line; and text that is no ASCII."""
     data = SHORT.data()
@@ -285,6 +303,18 @@ def large_inputs_by_pipe():
         yield Run("hexadecimal text in pieces of %s" % sizes, MAKE + ["--hex"], text, made, feed=sizes)
 
 
+def calls_that_read():
+    """The input is read in few calls: each has room for 32 KiB, so that it takes a packet of that size whole."""
+    font, packets = Font([Empty(), square(500, length=300000), square(900)], {A: 2}), runs.in_packets(32768)
+    data, made = font.data(), font.make([A], 16)
+    yield Run("a font in packets", MAKE, data, made, way=packets)
+    yield Run("hexadecimal text in packets", MAKE + ["--hex"], data.hex().encode(), made, way=packets)
+    yield Run("a listing in packets", "dump --of 0", data, due.listed([]), way=packets)
+    for length in (len(FIRST) + 1, LINE):
+        line = FIRST.ljust(length - 1) + b"\n"
+        yield Run("a first line of %d bytes in packets of 4 KiB" % length, [], line + data, made, way=runs.in_packets(4096))
+
+
 def hexadecimal():
     """Hexadecimal text of several lengths and forms."""
     for length in (0, 10, 15000, 15001, 30000, 40000, 70000):
@@ -324,6 +354,6 @@ def faults_before_the_input_breaks():
         yield Run(words, words, b"", answer, way=runs.failing_after(b""))
 
 
-CASES = [large_inputs_by_pipe, small_inputs_by_pipe, words_that_do_not_parse, words_that_are_no_text,
-         words_that_parse, first_lines, long_lists_on_the_first_line, lists, long_lists, names, properties, x11_by_name,
+CASES = [large_inputs_by_pipe, small_inputs_by_pipe, words_that_do_not_parse, many_words, words_before_the_input, words_that_are_no_text,
+         calls_that_read, words_that_parse, first_lines, long_lists_on_the_first_line, lists, long_lists, names, properties, x11_by_name,
          x11_by_glyphs, x11_and_properties, hexadecimal, broken_inputs, faults_before_the_input_breaks]

@@ -123,6 +123,41 @@ def write_in_pieces(pipe, data, sizes):
         pass
 
 
+def from_silent_pipe(program, run):
+    """The input is a pipe into which nothing is written and which is not closed, as a terminal at which nobody types."""
+    reading, writing = os.pipe()
+    with open(reading, "rb") as given, open(writing, "wb"), memory_file() as out:
+        return answer_of(program, run, given, out)
+
+
+def in_packets(size):
+    """The input comes in packets of which a call of the system reads one: what of it the call has no room for is lost.
+
+    So a program that reads fewer bytes at a time loses some, and its answer is another."""
+    def way(program, run):
+        writing, reading = socket.socketpair(socket.AF_UNIX, socket.SOCK_SEQPACKET)
+        with writing, memory_file() as out, memory_file() as err:
+            with reading:
+                child = start(program, run, reading, out, err)
+            writer = threading.Thread(target=send_packets, args=(writing, run.data, size))
+            writer.start()
+            try:
+                return end_of(child), read_again(out), read_again(err)
+            finally:
+                writer.join()
+    return way
+
+
+def send_packets(connection, data, size):
+    """Sends data in packets of a size, and ends it."""
+    try:
+        for at in range(0, len(data), size):
+            connection.send(data[at:at + size])
+        connection.shutdown(socket.SHUT_WR)
+    except (BrokenPipeError, ConnectionResetError):
+        pass
+
+
 def failing_after(data):
     """The input gives these bytes and then fails: it is the end of a part of memory."""
     def way(program, run):
