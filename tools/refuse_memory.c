@@ -2,6 +2,7 @@
 
    REFUSE_AT=N       the request that is refused, counted from 1; 0: none
    REFUSE_ON=1       all after it are refused too
+   REFUSE_FROM=N     all for N bytes or more are refused, whatever their number; 0: none
    REFUSE_MARK=FD    at the first refusal the byte `R` is written to this open file
 
    Requests are the calls of malloc, calloc, realloc, reallocarray, memalign and their kin that ask for bytes, and anonymous mappings. */
@@ -21,7 +22,7 @@ extern void *__libc_realloc(void *, size_t);
 extern void *__libc_memalign(size_t, size_t);
 extern char **environ;
 
-static long at, count;
+static long at, count, from;
 static int on, mark = -1, ready;
 
 static long number_of(const char *name) {
@@ -39,25 +40,27 @@ static long number_of(const char *name) {
 /* What the C library asks for before the program begins is not the program's. */
 __attribute__((constructor)) static void begin(void) {
     at = number_of("REFUSE_AT");
+    from = number_of("REFUSE_FROM");
     on = number_of("REFUSE_ON") != 0;
     mark = (int)number_of("REFUSE_MARK");
     ready = 1;
 }
 
-static int is_refused(void) {
-    if (!ready || at == 0) return 0;
+static int is_refused(size_t size) {
+    if (!ready || (at == 0 && from == 0)) return 0;
     long n = __atomic_add_fetch(&count, 1, __ATOMIC_RELAXED);
-    if (n != at && !(on && n > at)) return 0;
-    if (n == at && mark > 0) syscall(SYS_write, mark, "R", 1);
+    int large = from != 0 && size >= (size_t)from;
+    if (n != at && !(on && n > at) && !large) return 0;
+    if ((n == at || large) && mark > 0) syscall(SYS_write, mark, "R", 1);
     errno = ENOMEM;
     return 1;
 }
 
-void *malloc(size_t size) { return is_refused() ? NULL : __libc_malloc(size); }
-void *calloc(size_t n, size_t size) { return is_refused() ? NULL : __libc_calloc(n, size); }
-void *realloc(void *old, size_t size) { return size != 0 && is_refused() ? NULL : __libc_realloc(old, size); }
-void *memalign(size_t align, size_t size) { return is_refused() ? NULL : __libc_memalign(align, size); }
-void *aligned_alloc(size_t align, size_t size) { return is_refused() ? NULL : __libc_memalign(align, size); }
+void *malloc(size_t size) { return is_refused(size) ? NULL : __libc_malloc(size); }
+void *calloc(size_t n, size_t size) { return is_refused(n * size) ? NULL : __libc_calloc(n, size); }
+void *realloc(void *old, size_t size) { return size != 0 && is_refused(size) ? NULL : __libc_realloc(old, size); }
+void *memalign(size_t align, size_t size) { return is_refused(size) ? NULL : __libc_memalign(align, size); }
+void *aligned_alloc(size_t align, size_t size) { return is_refused(size) ? NULL : __libc_memalign(align, size); }
 
 void *reallocarray(void *old, size_t n, size_t size) {
     size_t bytes;
@@ -69,13 +72,13 @@ void *reallocarray(void *old, size_t n, size_t size) {
 }
 
 int posix_memalign(void **to, size_t align, size_t size) {
-    void *got = is_refused() ? NULL : __libc_memalign(align, size);
+    void *got = is_refused(size) ? NULL : __libc_memalign(align, size);
     if (got == NULL) return ENOMEM;
     *to = got;
     return 0;
 }
 
 void *mmap(void *where, size_t size, int protection, int flags, int file, off_t offset) {
-    if ((flags & MAP_ANONYMOUS) != 0 && is_refused()) return MAP_FAILED;
+    if ((flags & MAP_ANONYMOUS) != 0 && is_refused(size)) return MAP_FAILED;
     return (void *)syscall(SYS_mmap, where, size, protection, flags, file, offset);
 }
