@@ -12,8 +12,8 @@ PLACES = {
         "let _ = &self.words",
     ],
     "crates/fx_cache/src/words.rt": ["with_capacity(alloc, words.len())", "with_capacity(alloc, words.len())"],
-    "crates/fx_cli/src/lines.rt": ["let _ = put_all(err, line.text())"],
-    "crates/fx_cli/src/read_ahead.rt": ["from_slice(alloc, self.text)"],
+    "crates/fx_arguments/src/lines.rt": ["let _ = put_all(err, line.text())"],
+    "crates/fx_arguments/src/read_ahead.rt": ["from_slice(alloc, self.text)"],
     "crates/fx_contour/src/curves.rt": ["with_capacity(alloc, outline.points.len())"],
     "crates/fx_fixed/src/memory.rt": ["with_capacity(alloc, capacity)"],
     "crates/fx_hint/src/keeping.rt": [

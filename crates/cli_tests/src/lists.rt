@@ -1,5 +1,5 @@
 //! Lists of characters.
-use fx_cli::parse_chars;
+use fx_arguments::parse_chars;
 use fx_request::Refusal;
 use std::test::Fail;
 

@@ -15,17 +15,17 @@ use Rattle.std.proofs.lemmas.Bool.{ne_eqb, eqb-false, lt-ltb}
 use Rattle.fx_request.specs.declared.refusal.Refusal.{Refusal}
 use Rattle.fx_request.specs.declared.refusal.Refusal.TheVariants.{BadChars, BadHex, InputTooLarge, OutOfMemory, ReadFailed}
 use Rattle.fx_fixed.specs.Changes.{Change}
-use Rattle.fx_cli.specs.Limits.{max_line}
-use Rattle.fx_cli.specs.declared.done.Done.{Done}
-use Rattle.fx_cli.specs.declared.fault.Fault.{Fault}
-use Rattle.fx_cli.specs.declared.fault.Fault.TheVariants.{Usage, Early, Late}
-use Rattle.fx_cli.specs.Arguments.{command_of, texts}
-use Rattle.fx_cli.specs.Commands.{CommandView, Refuses}
-use Rattle.fx_cli.specs.ReadAhead.{ahead_of}
-use Rattle.fx_cli.specs.Input.{line_of, rest_of, arguments_of_line}
+use Rattle.fx_arguments.specs.Limits.{max_line}
+use Rattle.fx_arguments.specs.declared.done.Done.{Done}
+use Rattle.fx_arguments.specs.declared.fault.Fault.{Fault}
+use Rattle.fx_arguments.specs.declared.fault.Fault.TheVariants.{Usage, Early, Late}
+use Rattle.fx_arguments.specs.Arguments.{command_of, texts}
+use Rattle.fx_arguments.specs.Commands.{CommandView, Refuses}
+use Rattle.fx_arguments.specs.ReadAhead.{ahead_of}
+use Rattle.fx_arguments.specs.Input.{line_of, rest_of, arguments_of_line}
 use Rattle.fx_cli.specs.Runs.{AreArguments, Ends, HasLine, IsReadForArguments, IsReason, IsSpared}
-use Rattle.fx_cli.specs.Lines.{refusal_line}
-use Rattle.fx_cli.specs.Runs.{IsUnread, Does, Runs, Stops, Tells, font_bytes, has_arguments, called, text_of}
+use Rattle.fx_arguments.specs.Lines.{Tells, refusal_line}
+use Rattle.fx_cli.specs.Runs.{IsUnread, Does, Runs, Stops, font_bytes, has_arguments, called, text_of}
 use Rattle.clap.specs.Walk.{Text}
 use Rattle.fx_cli.specs.Steps.{EndsAfter, IsReasonAfter, DoesAfter, StopsAfter}
 

@@ -1,12 +1,3 @@
-pub mod Parts
-pub mod Chars
-pub mod Arguments
-pub mod Input
-pub mod ReadAhead
 pub mod Pictures
-pub mod Commands
-pub mod Properties
-pub mod Lines
 pub mod Runs
 pub mod Steps
-pub mod Limits

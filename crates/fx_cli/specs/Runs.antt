@@ -6,9 +6,7 @@ use Rattle.std.specs.Str.{IsUtf8}
 use Rattle.std.specs.Io.KnownBytes.{Consumes, IsAtEnd, Keeps}
 use Rattle.std.specs.declared.io.ErrorKind.{ErrorKind}
 use Rattle.std.specs.declared.io.ErrorKind.TheVariants as kind
-use Rattle.fx_fixed.specs.declared.sink.WriteFailed.{WriteFailed}
 use Rattle.fx_fixed.specs.Changes.{Change}
-use Rattle.fx_fixed.specs.Wrote.{Wrote}
 use Rattle.fx_request.specs.declared.refusal.Refusal.{Refusal}
 use Rattle.fx_request.specs.declared.refusal.Refusal.TheVariants.{BadChars, BadHex, InputTooLarge, OutOfMemory, ReadFailed}
 use Rattle.fx_machine.specs.declared.program.FontProgram.{FontProgram}
@@ -17,17 +15,17 @@ use Rattle.fx_strike.specs.Title.{Title}
 use Rattle.fx_strike.specs.Strike.{one_of, opened_of, opened_one_of, plan_of}
 use Rattle.fx_strike.specs.Headline.{Leaves}
 use Rattle.fx_strike.specs.Listings.{Lists, program_of}
-use Rattle.fx_cli.specs.Limits.{max_input, max_line}
-use Rattle.fx_cli.specs.declared.done.Done.{Done}
-use Rattle.fx_cli.specs.declared.done.Done.TheVariants.{Strike, Picture, Listing}
-use Rattle.fx_cli.specs.declared.fault.Fault.{Fault}
-use Rattle.fx_cli.specs.declared.fault.Fault.TheVariants.{Usage, Early, Late}
-use Rattle.fx_cli.specs.Arguments.{command_of}
-use Rattle.fx_cli.specs.Commands.{CommandView, MakeView, TaskView, strike, picture, listing}
-use Rattle.fx_cli.specs.declared.command.Show.{Show}
-use Rattle.fx_cli.specs.Lines.{outcome_line}
+use Rattle.fx_arguments.specs.Limits.{max_input, max_line}
+use Rattle.fx_arguments.specs.declared.done.Done.{Done}
+use Rattle.fx_arguments.specs.declared.done.Done.TheVariants.{Strike, Picture, Listing}
+use Rattle.fx_arguments.specs.declared.fault.Fault.{Fault}
+use Rattle.fx_arguments.specs.declared.fault.Fault.TheVariants.{Usage, Early, Late}
+use Rattle.fx_arguments.specs.Arguments.{command_of}
+use Rattle.fx_arguments.specs.Commands.{CommandView, MakeView, TaskView, strike, picture, listing}
+use Rattle.fx_arguments.specs.declared.command.Show.{Show}
+use Rattle.fx_arguments.specs.Lines.{Tells, outcome_line, status_of}
 use Rattle.fx_cli.specs.Pictures.{Shows}
-use Rattle.fx_cli.specs.Input.{bytes_of_hex, line_of, rest_of, arguments_of_line}
+use Rattle.fx_arguments.specs.Input.{bytes_of_hex, line_of, rest_of, arguments_of_line}
 
 -- there are arguments after the program's name
 abbrev pub has_arguments : List Text → Bool
@@ -167,17 +165,6 @@ Ends given source sink (Err fault) = Stops given source sink fault
 -- nothing was read or written
 abbrev pub IsUntouched : Change → Change → Type 0
 IsUntouched source sink = IsUnread source × (sink.bytes ≡ sink.bytes_before) × (sink.faults ≡ sink.faults_before)
-
--- the status: 0 done, 1 refused, 2 usage
-abbrev pub status_of : Result Done Fault → ℕ
-status_of (Ok done) = 0
-status_of (Err Usage) = 2
-status_of (Err _) = 1
-
--- a text was written, and nothing else; or exactly its first n bytes, with one fault more
-abbrev pub Tells : List ℕ → Change → Type 0
-Tells text err =
-    (result : Result (Unit {0}) WriteFailed) × Wrote err text result
 
 -- a run on these arguments, the program's name first: how it ended, its status, and its line for people
 pub record Runs (given : List Text) (source sink err : Change) (status : ℕ) : Type 0 where

@@ -3,12 +3,12 @@ use Rattle.std.specs.Prelude.{◌≡◌, ◌⊎◌, ◌+◌, ◌<◌, ◌≤◌,
 use Rattle.std.specs.Io.KnownBytes.{Consumes, IsAtEnd}
 use Rattle.fx_request.specs.declared.refusal.Refusal.{Refusal}
 use Rattle.fx_request.specs.declared.refusal.Refusal.TheVariants.{BadHex, InputTooLarge, OutOfMemory, ReadFailed}
-use Rattle.fx_cli.specs.Limits.{max_input}
-use Rattle.fx_cli.specs.declared.done.Done.{Done}
-use Rattle.fx_cli.specs.declared.fault.Fault.{Fault}
-use Rattle.fx_cli.specs.declared.fault.Fault.TheVariants.{Usage, Early, Late}
-use Rattle.fx_cli.specs.Commands.{CommandView}
-use Rattle.fx_cli.specs.ReadAhead.{ReadAheadView}
+use Rattle.fx_arguments.specs.Limits.{max_input}
+use Rattle.fx_arguments.specs.declared.done.Done.{Done}
+use Rattle.fx_arguments.specs.declared.fault.Fault.{Fault}
+use Rattle.fx_arguments.specs.declared.fault.Fault.TheVariants.{Usage, Early, Late}
+use Rattle.fx_arguments.specs.Commands.{CommandView}
+use Rattle.fx_arguments.specs.ReadAhead.{ReadAheadView}
 use Rattle.fx_fixed.specs.Changes.{Change}
 use Rattle.fx_cli.specs.Runs.{IsSpared, TaskLeaves, font_bytes}
 

@@ -1,28 +1,22 @@
 //! A run of the program.
-ghost use Rattle.std.specs.Prelude.{◌≡◌, ◌∷◌, ◌<◌, ◌≤◌, ◌^◌, length, true, IfOk};
+ghost use Rattle.std.specs.Prelude.{◌≡◌, ◌<◌, ◌≤◌, ◌^◌, length, true};
 ghost use Rattle.std.specs.Io.KnownBytes.{IsAtEnd};
 ghost use Rattle.fx_fixed.specs.Chain.{map_fault};
-ghost use Rattle.fx_cli.specs.Arguments.{texts};
-ghost use Rattle.fx_cli.specs.Commands.{seen, seen_task};
-ghost use Rattle.fx_cli.specs.Input.{arguments_of_line};
+ghost use Rattle.fx_arguments.specs.Arguments.{texts};
+ghost use Rattle.fx_arguments.specs.Commands.{seen, seen_task};
 ghost use Rattle.fx_fixed.specs.Changes.{change_of};
 ghost use Rattle.fx_cli.specs.Runs.{Ends, Runs, TaskLeaves, called};
 ghost use Rattle.fx_cli.specs.Steps.{EndsAfter, EndsText};
 
-use crate::arguments::read;
-use crate::command::{Command, Task};
-use crate::done::Done;
-use crate::fault::Fault;
-use crate::hexadecimal::decode_hex;
-use crate::input::{LINE_BUFFER, read_line};
-use crate::lines::status;
-use crate::parts::first_part;
-use crate::read_ahead::ReadAhead;
 use crate::show::put_character;
+use fx_arguments::{
+    Command, Done, Fault, LINE_BUFFER, ReadAhead, Task, arguments_of_line, decode_hex,
+    read_arguments, read_line, status,
+};
 use fx_fixed::{Sink, Source};
 use fx_request::Refusal;
 use fx_strike::{listing_of, make_strike};
-use std::alloc::{AllocError, Global};
+use std::alloc::Global;
 
 /// The size of the buffer that the input is read through.
 const BUFFER: usize = 32_768;
@@ -62,7 +56,7 @@ fn run_arguments<R: Source, O: Sink>(
     ensures { Ends (texts arguments.now) (change_of R.left R.fault_count reader.old reader.new)
         (change_of O.held O.fault_count out.old out.new) result }
 {
-    let command = read(alloc, arguments)?;
+    let command = read_arguments(alloc, arguments)?;
     run_command(alloc, &command, &ReadAhead::none(), reader, out)
 }
 
@@ -86,7 +80,7 @@ fn run_line<R: Source, O: Sink>(
         return Err(Fault::Usage);
     };
     let arguments = arguments_of_line(alloc, program_name(arguments), line)?;
-    let command = read(alloc, &arguments)?;
+    let command = read_arguments(alloc, &arguments)?;
     run_command(alloc, &command, &ReadAhead::of(got, end), reader, out)
 }
 
@@ -98,29 +92,6 @@ fn program_name<'a>(arguments: &[&'a str]) -> &'a str
         Some(program) => program,
         None => "mkstrike",
     }
-}
-
-/// The arguments of a line, after the program's name.
-fn arguments_of_line<'a>(
-    alloc: Global,
-    program: &'a str,
-    line: &'a str,
-) -> Result<Vec<&'a str>, AllocError>
-    ensures { IfOk result (λ arguments.
-        texts arguments.items ≡ program.entry.now ∷ arguments_of_line line.entry.now) }
-{
-    let mut all = Vec::new(alloc);
-    all.push(program)?;
-    let mut left = Some(line);
-    // The program and the arguments before `left` were pushed.
-    'arguments: while let Some(text) = left {
-        let (argument, more) = first_part(text, ' ');
-        if !argument.is_empty() {
-            all.push(argument)?;
-        }
-        left = more;
-    }
-    Ok(all)
 }
 
 /// Does what a command asks for; `ahead` is what was read of the input before.

@@ -3,8 +3,8 @@ ghost use Rattle.std.specs.Prelude.{◌<◌, ◌^◌};
 ghost use Rattle.fx_fixed.specs.Changes.{change_of};
 ghost use Rattle.fx_cli.specs.Runs.{ShowLeaves};
 
-use crate::command::Show;
 use crate::picture::put_shown;
+use fx_arguments::Show;
 use fx_fixed::Sink;
 use fx_request::Refusal;
 use fx_strike::one;

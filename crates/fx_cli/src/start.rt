@@ -2,13 +2,13 @@
 ghost use Rattle.std.specs.Prelude.{◌≡◌, ◌<◌, ◌^◌, map, string_bytes, IfOk};
 ghost use Rattle.fx_fixed.specs.Chain.{map_fault, map_ok};
 ghost use Rattle.fx_fixed.specs.Changes.{change_of};
-ghost use Rattle.fx_cli.specs.Arguments.{texts};
-ghost use Rattle.fx_cli.specs.Lines.{outcome_line};
-ghost use Rattle.fx_cli.specs.Runs.{Starts, Tells, status_of, unread_outcome};
+ghost use Rattle.fx_arguments.specs.Arguments.{texts};
+ghost use Rattle.fx_arguments.specs.Lines.{Tells, outcome_line, status_of};
+ghost use Rattle.fx_cli.specs.Runs.{Starts, unread_outcome};
 ghost use Rattle.std.specs.IoError.{error_kind};
 
-use crate::lines::{out_of_memory, usage};
 use crate::program::run;
+use fx_arguments::{out_of_memory, usage};
 use fx_fixed::{FromReader, Sink, Source, ToSink};
 use std::alloc::{AllocError, Global};
 use std::io::{ErrorKind, Write};

@@ -3,9 +3,9 @@ use Rattle.std.proofs.lemmas.List.{length-take-le}
 use Rattle.std.proofs.KnownBytes.{Keeps-refl}
 use Rattle.clap.specs.Walk.{Text}
 use Rattle.fx_fixed.specs.Changes.{Change}
-use Rattle.fx_cli.specs.Input.{line_of, arguments_of_line}
-use Rattle.fx_cli.specs.Arguments.{texts}
-use Rattle.fx_cli.specs.Commands.{seen}
+use Rattle.fx_arguments.specs.Input.{line_of, arguments_of_line}
+use Rattle.fx_arguments.specs.Arguments.{texts}
+use Rattle.fx_arguments.specs.Commands.{seen}
 use Rattle.fx_cli.specs.Runs.{called}
 use Rattle.fx_strike.proofs.Exits.{came}
 use Rattle.fx_cli.proofs.FirstLines.{few_arguments, for_line, length-line_of, line_ends, line_read, unread}

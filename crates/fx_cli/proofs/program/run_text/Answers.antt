@@ -1,5 +1,5 @@
 use Rattle.std.proofs.Common.{ap, ◌∙◌, ◌≡◌, Bool, Some, sym}
-use Rattle.fx_cli.specs.Commands.{seen}
+use Rattle.fx_arguments.specs.Commands.{seen}
 use Rattle.fx_cli.specs.Runs.{font_bytes}
 use Rattle.fx_cli.proofs.Made.{text_done}
 use Rattle.fx_cli.proofs.program.run_text.Goals as goal

@@ -1,5 +1,5 @@
 use Rattle.std.proofs.Common.{◌≡◌, take, map, string_bytes}
-use Rattle.fx_cli.specs.Arguments.{texts}
+use Rattle.fx_arguments.specs.Arguments.{texts}
 use Rattle.fx_cli.proofs.start.texts_of.Given as goal
 
 abbrev pub invariant-arguments : goal.invariant-arguments

@@ -1,0 +1,6 @@
+pub mod Numerals
+pub mod Items
+pub mod Buffers
+pub mod Options
+pub mod Given
+pub mod Telling

@@ -1,0 +1,165 @@
+-- What the arguments of a command line ask for.
+use Rattle.std.specs.Prelude.{ℕ, Bool, true, false, List, [], ◌∷◌, map, length, codes, Option, Some, None, unwrap_or, option_map}
+use Rattle.std.specs.Prelude.{option_and_then, if◌then◌else◌, nat_lt, drop, ◌&&◌, ◌||◌, not, Result, Ok, Err}
+use denote.Ref.{Bor}
+use Rattle.std.specs.List.{list_all, list_any}
+use Rattle.std.specs.Str.{bytes_eq}
+use Rattle.std.specs.Char.{digit_value}
+use Rattle.std.specs.Str.Parse.{digits_value, without_leading_plus}
+use Rattle.clap.specs.Walk.{Row, Rule, Text, all_of, first_of}
+use Rattle.clap.specs.Simple.{App, new_app, new_rule, with_rule, matches_of}
+use Rattle.clap.specs.Faults.{fault_of}
+use Rattle.clap.specs.Kinds.{Kinds}
+use Rattle.clap.specs.declared.builder.action.ArgAction.TheVariants.{Append, Set, SetTrue}
+use Rattle.fx_fixed.specs.Chain.{◌>>=◌, wanted}
+use Rattle.fx_machine.specs.declared.program.FontProgram.{FontProgram}
+use Rattle.fx_machine.specs.declared.program.FontProgram.TheVariants.{Fpgm, Prep, Glyph}
+use Rattle.fx_request.specs.declared.request.Mode.{Mode}
+use Rattle.fx_request.specs.declared.refusal.Refusal.TheVariants.{BadChars}
+use Rattle.fx_arguments.specs.declared.fault.Fault.{Fault}
+use Rattle.fx_arguments.specs.declared.fault.Fault.TheVariants.{Usage, Early}
+use Rattle.fx_arguments.specs.Chars.{number_of, numbers_of_list}
+use Rattle.fx_arguments.specs.Properties.{properties_of}
+use Rattle.fx_arguments.specs.Commands.{CommandView, strike, picture, listing}
+
+-- an option `--id VALUE`
+abbrev pub option_rule : Text → Rule
+option_rule id = record (new_rule id) { long = Some id; action = Some Set }
+
+-- an option `--id VALUE` that may be given many times
+abbrev pub many_rule : Text → Rule
+many_rule id = record (new_rule id) { long = Some id; action = Some Append }
+
+-- a flag `--id`
+abbrev pub flag_rule : Text → Rule
+flag_rule id = record (new_rule id) { long = Some id; action = Some SetTrue }
+
+-- the command `make` with its options
+unfoldable pub make_app : App
+make_app = with_rule (with_rule (with_rule (with_rule (with_rule (with_rule (with_rule (with_rule (new_app (codes "make"))
+    (option_rule (codes "ppem"))) (option_rule (codes "chars"))) (option_rule (codes "name"))) (many_rule (codes "property")))
+    (flag_rule (codes "x11"))) (flag_rule (codes "unhinted"))) (flag_rule (codes "dropout"))) (flag_rule (codes "hex"))
+
+-- the command `show` with its options
+unfoldable pub show_app : App
+show_app = with_rule (with_rule (with_rule (with_rule (with_rule (new_app (codes "show")) (option_rule (codes "ppem")))
+    (option_rule (codes "char"))) (flag_rule (codes "unhinted"))) (flag_rule (codes "dropout"))) (flag_rule (codes "hex"))
+
+-- the command `dump` with its options
+unfoldable pub dump_app : App
+dump_app = with_rule (with_rule (new_app (codes "dump")) (option_rule (codes "of"))) (flag_rule (codes "hex"))
+
+-- ---- what is asked for
+
+-- arguments as texts
+abbrev pub texts : List (Bor Text) → List Text
+texts arguments = map (λ argument. argument.now) arguments
+
+-- a whole number from 0 to 65,535 in decimal digits
+unfoldable pub size_of : Text → Option ℕ
+size_of text =
+    let ds = without_leading_plus text in
+    if nat_lt 0 (length ds) && (list_all (λ d. nat_lt (digit_value d) 10) ds && nat_lt (digits_value 10 ds) 65536)
+    then Some (digits_value 10 ds) else None
+
+abbrev pub is_true : Option Text → Bool
+is_true None = false
+is_true (Some text) = bytes_eq text (codes "true")
+
+-- a flag was given
+abbrev pub is_given : Text → List Row → Bool
+is_given id rows = is_true (first_of id rows)
+
+-- how outlines become pixels: the font's programs run unless `--unhinted` was given, and drop-out control is on if `--dropout` was
+abbrev pub mode_by : List Row → Mode
+mode_by rows = record { hinting = not (is_given (codes "unhinted") rows); dropout = is_given (codes "dropout") rows }
+
+-- a size that is required
+abbrev pub size_by : Option Text → Result ℕ Fault
+size_by text = wanted (option_and_then size_of text) Usage
+
+-- what the values of `make`'s options ask for: the size and the list are required
+abbrev pub make_by : Option Text → Option Text → Option Text → Option (List Text) → Bool → Mode → Bool
+    → Result CommandView Fault
+make_by size list name given x11 mode hex = do
+  ppem ← size_by size
+  text ← wanted list Usage
+  properties ← wanted (properties_of (unwrap_or given [])) Usage
+  chars ← wanted (numbers_of_list text) (Early BadChars)
+  Ok (record {
+    task = strike (record {
+      ppem = ppem;
+      chars = chars;
+      name = unwrap_or name (codes "strike");
+      properties = properties;
+      x11 = x11;
+      mode = mode;
+    });
+    hex = hex;
+  })
+
+abbrev pub make_of_rows : List Row → Result CommandView Fault
+make_of_rows rows = make_by (first_of (codes "ppem") rows) (first_of (codes "chars") rows) (first_of (codes "name") rows)
+    (all_of (codes "property") rows) (is_given (codes "x11") rows) (mode_by rows) (is_given (codes "hex") rows)
+
+-- what the values of `show`'s options ask for: the size and the character are required
+abbrev pub show_by : Option Text → Option Text → Mode → Bool → Result CommandView Fault
+show_by size number mode hex = do
+  ppem ← size_by size
+  text ← wanted number Usage
+  code ← wanted (number_of text) (Early BadChars)
+  Ok (record { task = picture (record { ppem = ppem; code = code; mode = mode }); hex = hex })
+
+abbrev pub show_of_rows : List Row → Result CommandView Fault
+show_of_rows rows = show_by (first_of (codes "ppem") rows) (first_of (codes "char") rows) (mode_by rows)
+    (is_given (codes "hex") rows)
+
+-- a program's name: `fpgm`, `prep`, or the number of a glyph
+abbrev pub which_of : Text → Option FontProgram
+which_of text = if bytes_eq text (codes "fpgm") then Some Fpgm else (if bytes_eq text (codes "prep") then Some Prep
+    else option_map Glyph (size_of text))
+
+-- what the values of `dump`'s options ask for: the program's name is required
+abbrev pub dump_by : Option Text → Bool → Result CommandView Fault
+dump_by name hex = do
+  what ← wanted (option_and_then which_of name) Usage
+  Ok (record { task = listing what; hex = hex })
+
+abbrev pub dump_of_rows : List Row → Result CommandView Fault
+dump_of_rows rows = dump_by (first_of (codes "of") rows) (is_given (codes "hex") rows)
+
+-- an argument that has only hyphens
+abbrev pub is_bare : Text → Bool
+is_bare argument = bytes_eq argument (codes "-") || bytes_eq argument (codes "--")
+
+-- clap names a fault
+abbrev pub is_some_kind : Kinds → Bool
+is_some_kind [] = false
+is_some_kind (kind ∷ kinds) = true
+
+-- the values that arguments give a command's options, by clap
+unfoldable pub rows_by : App → List Text → Option (List Row)
+rows_by app arguments =
+    if list_any is_bare arguments || is_some_kind (fault_of app arguments) then None else Some (matches_of app arguments)
+
+-- the arguments from a command's name on
+abbrev pub command_of_make : List Text → Result CommandView Fault
+command_of_make arguments = wanted (rows_by make_app arguments) Usage >>= make_of_rows
+
+abbrev pub command_of_show : List Text → Result CommandView Fault
+command_of_show arguments = wanted (rows_by show_app arguments) Usage >>= show_of_rows
+
+abbrev pub command_of_dump : List Text → Result CommandView Fault
+command_of_dump arguments = wanted (rows_by dump_app arguments) Usage >>= dump_of_rows
+
+-- the first argument is the name
+abbrev pub is_command : Text → List Text → Bool
+is_command name [] = false
+is_command name (argument ∷ arguments) = bytes_eq argument name
+
+-- the arguments of a command line, its program's name first; or the first fault: of their form, or of a character's
+abbrev pub command_of : List Text → Result CommandView Fault
+command_of arguments =
+    if is_command (codes "make") (drop 1 arguments) then command_of_make (drop 1 arguments)
+    else (if is_command (codes "show") (drop 1 arguments) then command_of_show (drop 1 arguments)
+    else (if is_command (codes "dump") (drop 1 arguments) then command_of_dump (drop 1 arguments) else Err Usage))

@@ -1,0 +1,71 @@
+-- What a command line asks for.
+use Rattle.std.specs.Prelude.{◌≡◌, ℕ, Bool, List, Result, Err}
+use Rattle.clap.specs.Walk.{Text}
+use Rattle.fx_bdf.specs.Properties.{PropertyView, seen_properties}
+use Rattle.fx_machine.specs.declared.program.FontProgram.{FontProgram}
+use Rattle.fx_request.specs.declared.request.Mode.{Mode}
+use Rattle.fx_request.specs.declared.request.Request.{Request}
+use Rattle.fx_request.specs.declared.refusal.Refusal.TheVariants.{BadChars, OutOfMemory}
+use Rattle.fx_arguments.specs.declared.command.Command.{Command}
+use Rattle.fx_arguments.specs.declared.command.Make.{Make}
+use Rattle.fx_arguments.specs.declared.command.Show.{Show}
+use Rattle.fx_arguments.specs.declared.command.Task.{Task}
+use Rattle.fx_arguments.specs.declared.command.Task.TheVariants.{Strike, Picture, Listing}
+use Rattle.fx_arguments.specs.declared.fault.Fault.{Fault}
+use Rattle.fx_arguments.specs.declared.fault.Fault.TheVariants.{Usage, Early}
+
+-- a strike: its size, its characters, its name, its properties, whether it has those of X11 too, and how outlines become pixels
+pub record MakeView : Type 0 where
+  pub ppem : ℕ
+  pub chars : List ℕ
+  pub name : Text
+  pub properties : List PropertyView
+  pub x11 : Bool
+  pub mode : Mode
+
+-- a strike, the picture of a character, or the listing of a program
+pub data TaskView : Type 0 where
+  strike : MakeView → TaskView
+  picture : Show → TaskView
+  listing : FontProgram → TaskView
+
+-- a task, and whether the font is hexadecimal text
+pub record CommandView : Type 0 where
+  pub task : TaskView
+  pub hex : Bool
+
+-- what the program holds of it
+abbrev pub seen_make : Make → MakeView
+seen_make make = record {
+  ppem = make.ppem;
+  chars = make.chars.items;
+  name = make.name.now;
+  properties = seen_properties make.properties.items;
+  x11 = make.x11;
+  mode = make.mode;
+}
+
+abbrev pub seen_request : Request → MakeView
+seen_request request = record {
+  ppem = request.ppem;
+  chars = request.chars.now;
+  name = request.name.now;
+  properties = seen_properties request.properties.now;
+  x11 = request.x11;
+  mode = request.mode;
+}
+
+abbrev pub seen_task : Task → TaskView
+seen_task (Strike make) = strike (seen_make make)
+seen_task (Picture show) = picture show
+seen_task (Listing what) = listing what
+
+abbrev pub seen : Command → CommandView
+seen command = record { task = seen_task command.task; hex = command.hex }
+
+-- why there is no command: out of memory, or what is due is a usage fault, or characters in another form
+abbrev pub Refuses : {Y : Type 0} → Fault → Result Y Fault → Type 0
+Refuses (Early OutOfMemory) due = Unit {0}
+Refuses (Early BadChars) due = due ≡ Err (Early BadChars)
+Refuses Usage due = due ≡ Err Usage
+Refuses _ due = ⊥

@@ -1,0 +1,9 @@
+pub mod Parts
+pub mod Chars
+pub mod Arguments
+pub mod Input
+pub mod ReadAhead
+pub mod Commands
+pub mod Properties
+pub mod Lines
+pub mod Limits

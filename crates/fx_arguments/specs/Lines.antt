@@ -1,0 +1,110 @@
+-- The lines for people: the program's name and words, each after a space, and LF.
+use Rattle.std.specs.Prelude.{ℕ, List, [], ◌∷◌, ◌++◌, codes, Result, Ok, Err}
+use Rattle.std.specs.List.{flat_map}
+use Rattle.std.specs.Fmt.{decimal}
+use Rattle.fx_fixed.specs.declared.sink.WriteFailed.{WriteFailed as Failed}
+use Rattle.fx_fixed.specs.Changes.{Change}
+use Rattle.fx_fixed.specs.Lines.{hexadecimal}
+use Rattle.fx_fixed.specs.Wrote.{Wrote}
+use Rattle.fx_machine.specs.declared.halt.Halt.{Halt}
+use Rattle.fx_machine.specs.declared.program.FontProgram.{FontProgram}
+use Rattle.fx_machine.specs.declared.program.FontProgram.TheVariants.{Fpgm, Prep, Glyph}
+use Rattle.fx_request.specs.declared.refusal.Refusal.{Refusal}
+use Rattle.fx_request.specs.declared.refusal.Refusal.TheVariants.{TableMissing, TableShort, BadLoca, GlyphShort, BadContours}
+use Rattle.fx_request.specs.declared.refusal.Refusal.TheVariants.{ComponentDepth, TooManyComponents, TooManyPoints, BadPointMatch}
+use Rattle.fx_request.specs.declared.refusal.Refusal.TheVariants.{BadGlyphNumber, Halted, TooFar, GlyphTooLarge, WriteFailed, BadProperty}
+use Rattle.fx_request.specs.declared.request.Report.{Report}
+use Rattle.fx_request.specs.Refusals.{number_of, name_of}
+use Rattle.fx_arguments.specs.declared.done.Done.{Done}
+use Rattle.fx_arguments.specs.declared.done.Done.TheVariants.{Strike, Picture, Listing}
+use Rattle.fx_arguments.specs.declared.fault.Fault.{Fault}
+use Rattle.fx_arguments.specs.declared.fault.Fault.TheVariants.{Usage, Early, Late}
+
+-- words, each after a space
+abbrev pub spaced : List (List ℕ) → List ℕ
+spaced words = flat_map (λ word. 32 ∷ word) words
+
+-- the line of these words
+abbrev pub line_of : List (List ℕ) → List ℕ
+line_of words = codes "mkstrike:" ++ (spaced words ++ 10 ∷ [])
+
+-- the line of a bad command line
+abbrev pub usage_line : List ℕ
+usage_line = line_of (codes "usage" ∷ [])
+
+-- ---- a strike
+
+-- what was counted over it
+abbrev pub counts_of : Report → List (List ℕ)
+counts_of report =
+    codes "glyphs" ∷ decimal report.glyphs ∷ codes "missing" ∷ decimal report.missing ∷
+    codes "strays" ∷ decimal report.usage.strays ∷ codes "steps" ∷ decimal report.usage.steps ∷ []
+
+-- its line
+abbrev pub report_line : Report → List ℕ
+report_line report = line_of (counts_of report)
+
+-- ---- a refusal
+
+-- which program of the font
+abbrev pub program_words : FontProgram → List (List ℕ)
+program_words Fpgm = codes "fpgm" ∷ []
+program_words Prep = codes "prep" ∷ []
+program_words (Glyph g) = codes "glyph" ∷ decimal g ∷ []
+
+-- the program that was started, the one that halted, the address in it and the opcode there in two digits
+abbrev pub halt_words : Halt → List (List ℕ)
+halt_words halt =
+    (codes "during" ∷ program_words halt.during) ++
+    ((codes "in" ∷ program_words halt.program) ++
+    (codes "at" ∷ decimal halt.address ∷ codes "opcode" ∷ hexadecimal 2 halt.opcode ∷ []))
+
+-- the fields: a table's tag, the number of a glyph, where a program halted, the position of a property, or the number of
+-- bytes written
+abbrev pub fields_of : Refusal → List (List ℕ)
+fields_of (TableMissing tag) = tag ∷ []
+fields_of (TableShort tag) = tag ∷ []
+fields_of (BadLoca g) = decimal g ∷ []
+fields_of (GlyphShort g) = decimal g ∷ []
+fields_of (BadContours g) = decimal g ∷ []
+fields_of (ComponentDepth g) = decimal g ∷ []
+fields_of (TooManyComponents g) = decimal g ∷ []
+fields_of (TooManyPoints g) = decimal g ∷ []
+fields_of (BadPointMatch g) = decimal g ∷ []
+fields_of (BadGlyphNumber g) = decimal g ∷ []
+fields_of (Halted halt) = halt_words halt
+fields_of (TooFar g) = decimal g ∷ []
+fields_of (GlyphTooLarge g) = decimal g ∷ []
+fields_of (BadProperty i) = decimal i ∷ []
+fields_of (WriteFailed n) = decimal n ∷ []
+fields_of _ = []
+
+-- its line: the number, the name and the fields
+abbrev pub refusal_line : Refusal → List ℕ
+refusal_line refusal = line_of (decimal (number_of refusal) ∷ name_of refusal ∷ fields_of refusal)
+
+-- ---- a run
+
+-- the line of what it did; a picture and a listing have none
+abbrev pub done_line : Done → List ℕ
+done_line (Strike report) = report_line report
+done_line Picture = []
+done_line Listing = []
+
+-- the line of how it ended
+abbrev pub outcome_line : Result Done Fault → List ℕ
+outcome_line (Ok done) = done_line done
+outcome_line (Err Usage) = usage_line
+outcome_line (Err (Early refusal)) = refusal_line refusal
+outcome_line (Err (Late refusal)) = refusal_line refusal
+
+-- the status: 0 done, 1 refused, 2 usage
+abbrev pub status_of : Result Done Fault → ℕ
+status_of (Ok done) = 0
+status_of (Err Usage) = 2
+status_of (Err _) = 1
+
+-- a text was written, and nothing else; or exactly its first n bytes, with one fault more
+abbrev pub Tells : List ℕ → Change → Type 0
+Tells text err =
+    (result : Result (Unit {0}) Failed) × Wrote err text result

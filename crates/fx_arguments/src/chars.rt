@@ -1,0 +1,106 @@
+//! Lists of characters.
+ghost use Rattle.std.specs.Prelude.{◌≡◌, ◌⊎◌, ◌+◌, ◌-◌, ◌<◌, ◌≤◌, ◌++◌, length, option_and_then, IfOk, IfErr, IfSome, OnOk, vec_len};
+ghost use Rattle.fx_request.specs.Limits.{max_characters};
+ghost use Rattle.fx_arguments.specs.Chars.{number_of, numbers_between, numbers_of_list, pair_of, range_of};
+ghost use Rattle.hex.specs.Hex.{hex_digit_value};
+
+use crate::parts::first_part;
+use fx_request::{MAX_CHARACTERS, Refusal};
+use std::alloc::Global;
+
+/// The numbers of a list of characters, in their order: items joined by commas, each a number of one to six hexadecimal digits
+/// or two such joined by `-`, low first. The empty text is the empty list. `BadChars` if its form is wrong or it has more
+/// than `MAX_CHARACTERS` numbers; any other refusal is `OutOfMemory`.
+pub fn parse_chars(alloc: Global, list: &str) -> Result<Vec<u32>, Refusal>
+    ensures numbers { IfOk result (λ chars. numbers_of_list list.now ≡ Some chars.items) }
+    ensures refused { IfErr result (λ refusal.
+        (refusal ≡ Refusal.OutOfMemory) ⊎ ((refusal ≡ Refusal.BadChars) × (numbers_of_list list.now ≡ None))) }
+{
+    let mut chars = Vec::new(alloc);
+    let mut left = if list.is_empty() { None } else { Some(list) };
+    // The numbers of the items before `left` were pushed.
+    'items: while let Some(text) = left {
+        let (item, more) = first_part(text, ',');
+        let Some((low, high)) = range(item) else {
+            return Err(Refusal::BadChars);
+        };
+        push_range(&mut chars, low, high)?;
+        left = more;
+    }
+    Ok(chars)
+}
+
+/// The first and the last number of an item.
+fn range(item: &str) -> Option<(u32, u32)>
+    ensures value { result ≡ range_of item.now }
+    ensures order { IfSome result (λ range. range.0 ≤ range.1) }
+{
+    match item.split_once('-') {
+        Some((low, high)) => pair(number(low), number(high)),
+        None => {
+            let only = number(item);
+            pair(only, only)
+        }
+    }
+}
+
+/// Two numbers, low first.
+fn pair(low: Option<u32>, high: Option<u32>) -> Option<(u32, u32)>
+    ensures value { result ≡ pair_of low high }
+    ensures order { IfSome result (λ range. range.0 ≤ range.1) }
+{
+    match (low, high) {
+        (Some(low), Some(high)) if low <= high => Some((low, high)),
+        _ => None,
+    }
+}
+
+/// A number of one to six hexadecimal digits.
+pub fn number(text: &str) -> Option<u32>
+    ensures { result ≡ number_of text.now }
+{
+    let digits = text.as_bytes();
+    if digits.is_empty() || digits.len() > 6 {
+        return None;
+    }
+    let mut number = 0u32;
+    // `number` is that of the digits so far.
+    'digits: for digit in digits {
+        number = number * 16 + u32::from(digit_value(*digit)?);
+    }
+    Some(number)
+}
+
+/// The value of a hexadecimal digit in either case.
+fn digit_value(digit: u8) -> Option<u8>
+    ensures value { result ≡ hex_digit_value digit }
+    ensures bound { IfSome result (λ value. value < 16) }
+{
+    match digit {
+        b'A'..=b'F' => Some(digit - b'A' + 10),
+        b'a'..=b'f' => Some(digit - b'a' + 10),
+        b'0'..=b'9' => Some(digit - b'0'),
+        _ => None,
+    }
+}
+
+/// Appends all numbers from one to the other.
+fn push_range(chars: &mut Vec<u32>, low: u32, high: u32) -> Result<(), Refusal>
+    requires order { low ≤ high }
+    requires few { vec_len chars.old ≤ max_characters }
+    ensures ok { OnOk result (
+        (chars.new.items ≡ chars.old.items ++ numbers_between (low, high)) × (vec_len chars.new ≤ max_characters)) }
+    ensures err { IfErr result (λ refusal. (refusal ≡ Refusal.OutOfMemory)
+        ⊎ ((refusal ≡ Refusal.BadChars) × (max_characters < vec_len chars.old + (high - low + 1)))) }
+{
+    if (high - low) as usize >= MAX_CHARACTERS - chars.len() {
+        return Err(Refusal::BadChars);
+    }
+    // The first k numbers were pushed.
+    'numbers: for k in 0..high - low + 1 {
+        if chars.push(low + k).is_err() {
+            return Err(Refusal::OutOfMemory);
+        }
+    }
+    Ok(())
+}

@@ -1,0 +1,62 @@
+//! What a command line asks for.
+
+use fx_bdf::Property;
+use fx_machine::FontProgram;
+use fx_request::{Mode, Request};
+
+/// What is to be written, and whether the font is hexadecimal text.
+#[derive(Drop)]
+pub struct Command<'a> {
+    pub task: Task<'a>,
+    pub hex: bool,
+}
+
+/// What is to be written.
+#[derive(Drop)]
+pub enum Task<'a> {
+    /// A strike.
+    Strike(Make<'a>),
+    /// The picture of a character.
+    Picture(Show),
+    /// The listing of a program.
+    Listing(FontProgram),
+}
+
+/// A strike: its size in pixels an em, its characters, its name, its properties, whether it has those of X11 too, and how outlines
+/// become pixels.
+#[derive(Drop)]
+pub struct Make<'a> {
+    pub ppem: u16,
+    pub chars: Vec<u32>,
+    pub name: &'a str,
+    pub properties: Vec<Property<'a>>,
+    pub x11: bool,
+    pub mode: Mode,
+}
+
+/// The picture of a character: the size in pixels an em, the code point, and how outlines become pixels.
+#[derive(Clone, Copy)]
+pub struct Show {
+    pub ppem: u16,
+    pub code: u32,
+    pub mode: Mode,
+}
+
+impl<'a> Make<'a> {
+    ghost use Rattle.std.specs.Prelude.{◌≡◌};
+    ghost use Rattle.fx_arguments.specs.Commands.{seen_make, seen_request};
+
+    /// The request for the strike.
+    pub fn request(&self) -> Request<'_>
+        ensures { seen_request result ≡ seen_make self.now }
+    {
+        Request {
+            ppem: self.ppem,
+            name: self.name,
+            properties: &self.properties,
+            x11: self.x11,
+            chars: &self.chars,
+            mode: self.mode,
+        }
+    }
+}

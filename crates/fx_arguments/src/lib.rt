@@ -1,0 +1,31 @@
+//! What `mkstrike` is asked for, and what it tells: the arguments of a command line, lists of characters, properties, hexadecimal
+//! text, the bytes of the input, lines on standard error and statuses.
+//!
+//! No font is opened here: `fx_cli` does what a `Command` says.
+#![tactic(auto)]
+
+mod arguments;
+mod chars;
+mod command;
+mod commands;
+mod done;
+mod fault;
+mod hexadecimal;
+mod input;
+mod limits;
+mod line;
+mod lines;
+mod parts;
+mod properties;
+mod read_ahead;
+mod values;
+
+pub use arguments::read_arguments;
+pub use chars::parse_chars;
+pub use command::{Command, Make, Show, Task};
+pub use done::Done;
+pub use fault::Fault;
+pub use hexadecimal::decode_hex;
+pub use input::{LINE_BUFFER, arguments_of_line, read_line};
+pub use lines::{out_of_memory, status, usage};
+pub use read_ahead::ReadAhead;

@@ -1,0 +1,105 @@
+//! Properties as arguments.
+ghost use Rattle.std.specs.Prelude.{◌≡◌, [], option_map, unwrap_or};
+ghost use Rattle.fx_bdf.specs.Properties.{seen_properties, seen_property, seen_value};
+ghost use Rattle.fx_fixed.specs.Chain.{GivesUnless, wanted};
+ghost use Rattle.fx_arguments.specs.Arguments.{texts};
+ghost use Rattle.fx_arguments.specs.Commands.{Refuses};
+ghost use Rattle.fx_arguments.specs.Properties.{before_mark, between_marks, has_plus, properties_of, property_of, value_of, whole_of};
+ghost use Rattle.fx_arguments.specs.declared.fault.Fault.TheVariants.{Usage};
+
+use crate::fault::Fault;
+use fx_bdf::{Property, Value};
+use std::alloc::Global;
+
+/// The properties that are asked for; none if no option asks for one.
+pub fn given_properties<'a>(
+    alloc: Global,
+    given: Option<&[&'a str]>,
+) -> Result<Vec<Property<'a>>, Fault>
+    ensures { GivesUnless Refuses (λ all. seen_properties all.items) result
+        (wanted (properties_of (unwrap_or (option_map (λ given. texts given.now) given.entry) [])) Usage) }
+{
+    match given {
+        Some(given) => read_properties(alloc, given),
+        None => Ok(Vec::new(alloc)),
+    }
+}
+
+/// The properties of texts, each `NAME=VALUE`. One without `=` is a usage fault.
+fn read_properties<'a>(alloc: Global, given: &[&'a str]) -> Result<Vec<Property<'a>>, Fault>
+    ensures { GivesUnless Refuses (λ all. seen_properties all.items) result
+        (wanted (properties_of (texts given.entry.now)) Usage) }
+{
+    let mut all = Vec::new(alloc);
+    // The properties of the texts so far were pushed.
+    'given: for text in given {
+        let Some(property) = property_of(text) else {
+            return Err(Fault::Usage);
+        };
+        all.push(property)?;
+    }
+    Ok(all)
+}
+
+/// A name, and a value after the first `=`.
+fn property_of(text: &str) -> Option<Property<'_>>
+    ensures { option_map seen_property result ≡ property_of text.entry.now }
+{
+    match text.split_once('=') {
+        Some((name, value)) => Some(Property {
+            name,
+            value: value_of(value),
+        }),
+        None => None,
+    }
+}
+
+/// A value: the text between quotation marks, a whole number, or the text itself.
+fn value_of(value: &str) -> Value<'_>
+    ensures { seen_value result ≡ value_of value.entry.now }
+{
+    match between_marks(value) {
+        Some(string) => Value::Text(string),
+        None => match whole_of(value) {
+            Some(number) => Value::Number(number),
+            None => Value::Text(value),
+        },
+    }
+}
+
+/// The text between the quotation mark that begins a text and the one that ends it.
+fn between_marks(value: &str) -> Option<&str>
+    ensures { option_map (λ string. string.now) result ≡ between_marks value.entry.now }
+{
+    match value.strip_prefix('"') {
+        Some(rest) => before_mark(rest),
+        None => None,
+    }
+}
+
+/// A text before the quotation mark that ends it.
+fn before_mark(rest: &str) -> Option<&str>
+    ensures { option_map (λ string. string.now) result ≡ before_mark rest.entry.now }
+{
+    rest.strip_suffix('"')
+}
+
+/// Whether a text begins with a plus.
+fn has_plus(value: &str) -> bool
+    ensures { result ≡ has_plus value.now }
+{
+    match value.as_bytes().first() {
+        Some(byte) => *byte == b'+',
+        None => false,
+    }
+}
+
+/// A whole number of 32 bits in decimal digits, perhaps a minus before them.
+fn whole_of(value: &str) -> Option<i32>
+    ensures { result ≡ whole_of value.now }
+{
+    if has_plus(value) {
+        return None;
+    }
+    value.parse::<i32>().ok()
+}

@@ -1,8 +1,0 @@
-use Rattle.std.proofs.Common.{◌≡◌, drop}
-use Rattle.std.specs.List.{list_any}
-use Rattle.fx_cli.specs.Arguments.{is_bare, texts}
-use Rattle.fx_cli.proofs.values.has_bare.Given as goal
-
-abbrev pub invariant-arguments : goal.invariant-arguments
-invariant-arguments l = list_any is_bare (texts l.arguments) ≡ list_any is_bare
-    (texts (drop l.argument-index l.arguments))

@@ -1,6 +1,0 @@
-use Rattle.std.proofs.Common.{◌∙◌}
-use Rattle.fx_cli.proofs.Options.{size_parsed}
-use Rattle.fx_cli.proofs.values.size_of.Goals as goal
-
-pub returns : goal.returns
-returns c = c.ok.ensures.value ∙ size_parsed c.args.text.now c.parse.result c.parse.ensures.value.0
