@@ -1,21 +1,14 @@
--- A glyph whose frame lies in a box leaves that box as it is.
--- Serves `are_among`, `lies_in`, `bounds_with` and `see_one`.
+-- A glyph whose shape lies in a box leaves that box as it is.
+-- Serves `bounds_with` and `see_one`.
 use Rattle.std.proofs.Common.{◌≡◌, refl, sym, ap, ap₂, ◌∙◌, subst, inl, inr, ℕ, ◌<◌, ℤ, pos, ◌+ℤ◌, ◌≤ℤ◌, ◌<ℤ◌, Bool, true}
-use Rattle.std.proofs.Common.{false, true≢false, not, ◌||◌, List, Option, Some, None, Ok, arith}
-use Rattle.std.specs.Prelude.{IsTrue, ◌==◌, int_le, if◌then◌else◌}
-use Rattle.std.specs.List.{list_all}
+use Rattle.std.proofs.Common.{false, ◌||◌, Ok, arith}
+use Rattle.std.specs.Prelude.{IsTrue, ◌==◌, if◌then◌else◌}
 use Rattle.std.specs.Int.{int_min, int_max}
-use Rattle.std.proofs.lemmas.Bool.{eqb-true, and_parts}
-use Rattle.std.proofs.lemmas.Int.{ints, int_min_is, int_max_is}
+use Rattle.std.proofs.lemmas.Bool.{eqb-true}
+use Rattle.std.proofs.lemmas.Int.{int_min_is, int_max_is}
 use Rattle.fx_fixed.proofs.Linear.{signed_linear}
-use Rattle.fx_fixed.proofs.Chain.{refuse_ok}
-use Rattle.fx_winding.specs.Winding.{Span}
-use Rattle.fx_winding.specs.Frames.{IsFrom, steps}
-use Rattle.fx_winding.specs.declared.frame.Frame.{Frame}
-use Rattle.fx_outline.specs.declared.points.OutlinePoint.{OutlinePoint}
-use Rattle.fx_contour.specs.declared.fault.ContourFault.TheVariants.{TooFar}
-use Rattle.fx_contour.specs.Contours.{is_in_reach, spans_of, drawn_of}
-use Rattle.fx_contour.specs.Frames.{IsInside, NothingOutsideFrame}
+use Rattle.fx_winding.specs.Frames.{steps}
+use Rattle.fx_raster.specs.Rules.{ShapeView, IsInRegion, IsPixelSet}
 use Rattle.fx_bdf.specs.Glyphs.{Box, Glyph, HasSides, IsTight, IsPlaced, is_in_box, is_empty, around, joined, last_of}
 use Rattle.fx_bdf.specs.Glyphs.{glyph_bit}
 use Rattle.fx_bdf.proofs.Boxes.{steps_above, parts_of_place, lies_in_box}
@@ -23,12 +16,10 @@ use Rattle.fx_strike.specs.declared.sketched.Sketched.{Sketched}
 use Rattle.fx_strike.specs.declared.seen.Seen.{Seen}
 use Rattle.fx_strike.specs.Strike.{Sketch, IsGlyphOf}
 use Rattle.fx_machine.specs.Usages.{usage_with}
-use Rattle.fx_strike.specs.inner.Drawing.{are_among, lies_in, IsFramedBy, IsSketchedOf}
+use Rattle.fx_strike.specs.inner.Drawing.{IsSketchedOf}
 use Rattle.fx_strike.specs.inner.Gathering.{gathered_with}
-use Rattle.fx_strike.specs.inner.Surveying.{Adds, Joins, Has}
-use Rattle.fx_strike.proofs.Bridged.{nothing_set}
-use Rattle.fx_strike.proofs.Near.{are_drawn}
-use Rattle.fx_strike.proofs.Existing.{glyph_of_spans}
+use Rattle.fx_strike.specs.inner.Surveying.{Adds, Joins, Has, region_of}
+use Rattle.fx_strike.proofs.Existing.{glyph_of_shape}
 
 -- ---- a box that holds the bits of another
 
@@ -96,66 +87,18 @@ joined_kept big box bit t h = elim t.sides [
   | inr s ↦ joined_kept_by big box (is_empty box) (is_empty big) refl refl (encloses big box bit s h)
 ]
 
--- ---- the frame of a glyph in a box
+-- ---- a shape in a box
 
--- the test of two runs, as the code has it
-pub among_is : (end more_end first other : ℤ) (count more : ℕ) → end ≡ first +ℤ pos count → more_end ≡ other +ℤ pos more
-    → int_le other first ≡ true → int_le end more_end ≡ are_among first count other more
-among_is end more_end first other count more p q h = rw (p, q, h) refl
-
--- numbers of a run that lies among others
-among_from : (first other n : ℤ) (count more : ℕ) → are_among first count other more ≡ true → IsFrom first count n
-    → IsFrom other more n
-among_from first other n count more h i =
-    let p = and_parts (int_le other first) (int_le (first +ℤ pos count) (other +ℤ pos more)) h in
-    let low : other ≤ℤ first = grind (arith, ints, p.0) in
-    let high : (first +ℤ pos count) ≤ℤ (other +ℤ pos more) = grind (arith, ints, p.1) in
-    (omega (arith, signed_linear, low, i.0), omega (arith, signed_linear, high, i.1))
-
--- each pixel of a frame that lies in a box is in the box
-pub lies_inside : (frame : Option Frame) (box : Box) → lies_in frame box ≡ true → (col row : ℤ) → IsInside frame col row
-    → IsTrue (is_in_box box col row)
-lies_inside None box h col row i = absurd i
-lies_inside (Some f) box h col row i =
-    let p = and_parts (are_among f.left f.width box.left box.width) (are_among f.bottom f.height box.bottom box.height) h in
-    lies_in_box box col row (among_from f.left box.left col f.width box.width p.0 i.column)
-    (among_from f.bottom box.bottom row f.height box.height p.1 i.row)
-
--- a pixel is in the box if it can't be outside the frame
-not_outside : (b : Bool) → (b ≡ false → ⊥) → b ≡ true
-not_outside true h = refl
-not_outside false h = absurd (h refl)
-
--- the spans of an outline within the limit
-pub spans_drawn : (ends : List ℕ) (points : List OutlinePoint) (ss : List Span) → drawn_of ends points ≡ Ok ss
-    → spans_of ends points ≡ ss
-unfolding drawn_of
-spans_drawn ends points ss h =
-    let p = refuse_ok (not (list_all is_in_reach points)) TooFar (λ _. Ok (spans_of ends points)) ss h in cc (p.1)
-
--- and of a sketch
-pub sketch_spans : (sketch : Sketch) (made : Sketched) (ss : List Span) → IsSketchedOf sketch made
-    → ss ≡ spans_of made.drawing.outline.ends.items made.drawing.outline.points.items → sketch.spans ≡ ss
-sketch_spans sketch made ss is e =
-    sym (e ∙ spans_drawn made.drawing.outline.ends.items made.drawing.outline.points.items sketch.spans is.spans)
-
+-- a glyph whose shape lies in a box leaves the box as it is
 pub skipped : (sketch : Sketch) (made : Sketched) (box : Box)
-    → NothingOutsideFrame made.frame (spans_of made.drawing.outline.ends.items made.drawing.outline.points.items)
-    → IsFramedBy made.dropout made.frame (spans_of made.drawing.outline.ends.items made.drawing.outline.points.items)
-    → ((col row : ℤ) → IsInside made.frame col row → IsTrue (is_in_box box col row))
+    → ((col row : ℤ) → IsPixelSet made.shape.rule made.shape.spans col row → IsInRegion (region_of box) col row)
     → IsPlaced box → IsSketchedOf sketch made → Joins sketch box (Ok box)
-skipped sketch made box outside framed inside placed is =
-    let drawn = are_drawn made.drawing.outline.ends.items made.drawing.outline.points.items sketch.spans is.spans in
-    let g = glyph_of_spans sketch drawn is.small in
-    let N : List Span → Type 0 = λ ss. NothingOutsideFrame made.frame ss in
-    let F : List Span → Type 0 = λ ss. IsFramedBy made.dropout made.frame ss in
-    let D : Bool → Type 0 = λ d. IsFramedBy d made.frame sketch.spans in
-    let same = spans_drawn made.drawing.outline.ends.items made.drawing.outline.points.items sketch.spans is.spans in
-    let none = nothing_set sketch.dropout made.frame sketch.spans (subst D is.dropout (subst F same framed))
-    (subst N same outside) in
+skipped sketch made box inside placed is =
+    let g = glyph_of_shape sketch is.outlined in
+    let P : ShapeView → Type 0 = λ s. (col row : ℤ) → IsPixelSet s.rule s.spans col row → IsInRegion (region_of box) col row in
+    let within = subst P is.shape inside in
     let bits : (col row : ℤ) → IsTrue (glyph_bit g.0 col row) → IsTrue (is_in_box box col row) =
-    λ col row t. not_outside (is_in_box box col row) (λ f. none drawn.closed col row
-    (λ i. true≢false (sym (inside col row i) ∙ f)) ((g.1.bits col row).0 t)) in
+    λ col row t. let r = within col row ((g.1.bits col row).0 t) in lies_in_box box col row r.0 r.1 in
     (g.0, g.1, sym (joined_kept box g.0.box (glyph_bit g.0) g.1.tight bits), placed)
 
 -- ---- the steps of the first pass
@@ -167,7 +110,7 @@ joins_made sketch box new g is e placed = (g, is, e, placed)
 
 -- a character was added
 pub has_added : (sketch : Sketch) (made : Sketched) (old new : Seen) (code : ℕ) (box : Box) → IsSketchedOf sketch made
-    → sketch.code ≡ code → Joins sketch old.bounds (Ok box) → Adds old new code box made.drawing → Has sketch old new
+    → sketch.code ≡ code → Joins sketch old.bounds (Ok box) → Adds old new code box made → Has sketch old new
 has_added sketch made old new code box is e j a =
     let P : Box → Type 0 = λ b. IsPlaced b in
     record {

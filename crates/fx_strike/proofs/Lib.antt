@@ -4,14 +4,9 @@ pub mod GatheredGlyphs
 pub mod Seeing
 pub mod Making
 pub mod Prepared
-pub mod Bitmaps
 pub mod Lines
 pub mod OnePart
 pub mod OneCharacter
-pub mod Covering
-pub mod Near
-pub mod Bridged
-pub mod Kept
 pub mod Trimming
 pub mod Existing
 pub mod Enclosed

@@ -1,7 +1,7 @@
 -- From what was seen to a survey, and what a call leaves that was refused.
 -- Serves `survey_codes`, `survey_chars`, `write_strike`, `make_strike_with` and `whole_pixels`.
 use Rattle.std.proofs.Common.{refl, sym, ap, subst, ◌≡◌, ◌∙◌, arith, inl, ℕ, ◌+◌, ◌<◌, ◌≤◌, ◌^◌, ℤ, pos, List, map}
-use Rattle.std.proofs.Common.{Bool, Option, Result, Ok}
+use Rattle.std.proofs.Common.{Option, Result, Ok}
 use Rattle.std.proofs.Common.{Err, FitsSigned, w32, to_z, of_z, lit<}
 use Rattle.std.specs.Int.{w128}
 use Rattle.std.specs.Prelude.{◌*ℤ◌, neg_ℤ, unsigned_abs, IsOk, IfOk, IfErr, IsErrOf}
@@ -18,6 +18,7 @@ use Rattle.fx_bdf.specs.Glyphs.{Box, bounds_of}
 use Rattle.fx_bdf.specs.declared.summary.Summary.{Summary}
 use Rattle.fx_request.specs.declared.refusal.Refusal.{Refusal}
 use Rattle.fx_request.specs.declared.refusal.Refusal.TheVariants.{WriteFailed, ReadFailed, BadHex, InputTooLarge, OutOfMemory}
+use Rattle.fx_raster.specs.declared.rule.Rule.{Rule}
 use Rattle.fx_strike.specs.declared.opened.Opened.{Opened}
 use Rattle.fx_strike.specs.declared.seen.Seen.{Seen}
 use Rattle.fx_request.specs.declared.request.Report.{Report}
@@ -54,12 +55,12 @@ unseen setting title chars codes d c f =
 counted_on : (before after total : ℕ) → after ≡ counted total → counted (before + after) ≡ counted (before + total)
 counted_on before after total h = omega arith
 
-surveyed_here : (opened : Opened) (dropout : Bool) (machine : Option Known) (title : Title) (chars : List ℕ) (seen : Seen)
-    → Holds (setting_with opened dropout machine) (rising chars) seen
-    → Surveyed (plan_with (setting_with opened dropout machine) title chars)
+surveyed_here : (opened : Opened) (rule : Rule) (machine : Option Known) (title : Title) (chars : List ℕ) (seen : Seen)
+    → Holds (setting_with opened rule machine) (rising chars) seen
+    → Surveyed (plan_with (setting_with opened rule machine) title chars)
     (survey_from (prelude_by machine) opened seen (summary_with seen.gathered seen.report.glyphs))
 unfolding plan_with
-surveyed_here opened dropout machine title chars seen g =
+surveyed_here opened rule machine title chars seen g =
     let heading : Box → ℕ → Header = λ b n. record {
       ppem = opened.ppem;
       bounds = b;
@@ -68,7 +69,7 @@ surveyed_here opened dropout machine title chars seen g =
       glyphs = n;
     } in
     record {
-      plan = plan_from (setting_with opened dropout machine) title chars g.sketches;
+      plan = plan_from (setting_with opened rule machine) title chars g.sketches;
       glyphs = g.glyphs;
       is = rw g.planned;
       drawn = g.drawn;
@@ -83,13 +84,13 @@ surveyed_here opened dropout machine title chars seen g =
       };
     }
 
-pub surveyed : (opened : Opened) (dropout : Bool) (machine : Option Known) (prelude : Usage) (title : Title)
+pub surveyed : (opened : Opened) (rule : Rule) (machine : Option Known) (prelude : Usage) (title : Title)
     (chars codes : List ℕ) (seen : Seen) (summary : Summary) (survey : Survey)
-    → prelude ≡ prelude_by machine → codes ≡ rising chars → Holds (setting_with opened dropout machine) codes seen
+    → prelude ≡ prelude_by machine → codes ≡ rising chars → Holds (setting_with opened rule machine) codes seen
     → summary ≡ summary_with seen.gathered seen.report.glyphs → survey ≡ survey_from prelude opened seen summary
-    → Surveyed (plan_with (setting_with opened dropout machine) title chars) survey
-surveyed opened dropout machine prelude title chars codes seen summary survey n c g m e =
-    rw (e, n, m) (surveyed_here opened dropout machine title chars seen (rw c at g))
+    → Surveyed (plan_with (setting_with opened rule machine) title chars) survey
+surveyed opened rule machine prelude title chars codes seen summary survey n c g m e =
+    rw (e, n, m) (surveyed_here opened rule machine title chars seen (rw c at g))
 
 -- ---- refusals that are due
 

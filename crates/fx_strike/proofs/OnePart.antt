@@ -9,17 +9,16 @@ use Rattle.fx_fixed.proofs.Chain.{bind_ok, map_fault_ok, same_Ok}
 use Rattle.fx_sfnt.specs.Glyphs.{metrics_of}
 use Rattle.fx_sfnt.specs.declared.records.Metrics.{Metrics}
 use Rattle.fx_hint.specs.Outlines.{GlyphOutlineView}
-use Rattle.fx_winding.specs.Winding.{Span}
-use Rattle.fx_contour.specs.Contours.{drawn_of}
+use Rattle.fx_raster.specs.Rules.{ShapeView, shape_of}
 use Rattle.fx_bdf.specs.Glyphs.{Glyph, TrimmedIsOne, glyph_bit}
 use Rattle.fx_request.specs.declared.request.Mode.{Mode}
 use Rattle.fx_request.specs.declared.refusal.Refusal.{Refusal}
 use Rattle.fx_request.specs.declared.refusal.Refusal.TheVariants.{BadSize}
 use Rattle.fx_request.specs.Faults.{of_font}
-use Rattle.fx_strike.specs.Faults.{of_hint, of_contour}
+use Rattle.fx_strike.specs.Faults.{of_hint, of_raster}
 use Rattle.fx_request.specs.Characters.{rising}
 use Rattle.fx_strike.specs.Title.{Title}
-use Rattle.fx_strike.specs.Strike.{Sketch, Setting, Plan, AreGlyphsOf, outline_in, sketch_from, framed_by}
+use Rattle.fx_strike.specs.Strike.{Sketch, Setting, Plan, AreGlyphsOf, outline_in, sketch_from}
 use Rattle.fx_strike.specs.Strike.{glyph_sketch_of, sketch_of, is_missing, sketches_of, checked_text, opened_after, opened_of}
 use Rattle.fx_strike.specs.Strike.{opened_at, setting_in, setting_of, plan_from, plan_with, plan_in, plan_of}
 use Rattle.fx_strike.specs.Strike.{strike_text}
@@ -72,35 +71,30 @@ text_is_one one plan gs hs p q = ap (strike_text plan) (glyphs_are_one one plan.
 
 -- ---- one part
 
--- a sketch that is due is made of an outline, its spans and its metrics
+-- a sketch that is due is made of an outline, its shape and its metrics
 pub record Made (setting : Setting) (code : ℕ) (s : Sketch) : Type 0 where
   pub drawing : GlyphOutlineView
-  pub spans : List Span
+  pub shape : ShapeView
   pub metrics : Metrics
-  pub drawn : drawn_of drawing.ends drawing.points ≡ Ok spans
-  pub small : framed_by setting.dropout spans ≡ Ok tt
-  pub is : s ≡ sketch_from setting code drawing spans metrics
+  pub shaped : shape_of setting.rule drawing.ends drawing.points ≡ Ok shape
+  pub is : s ≡ sketch_from setting code drawing shape metrics
 
 pub sketch_made : (setting : Setting) (code glyph : ℕ) (s : Sketch) → glyph_sketch_of setting code glyph ≡ Ok s
     → Made setting code s
 unfolding glyph_sketch_of
 sketch_made setting code glyph s h =
-    let measured : GlyphOutlineView → List Span → Result Sketch Refusal =
-    λ d ss. map_fault of_font (metrics_of setting.font glyph) >>= λ m. Ok (sketch_from setting code d ss m) in
-    let framed : GlyphOutlineView → List Span → Result Sketch Refusal =
-    λ d ss. map_fault (of_contour glyph) (framed_by setting.dropout ss) >>= λ _. measured d ss in
+    let measured : GlyphOutlineView → ShapeView → Result Sketch Refusal =
+    λ d x. map_fault of_font (metrics_of setting.font glyph) >>= λ m. Ok (sketch_from setting code d x m) in
     let a = bind_ok (map_fault of_hint (outline_in setting glyph))
-    (λ d. map_fault (of_contour glyph) (drawn_of d.ends d.points) >>= framed d) s h in
-    let b = bind_ok (map_fault (of_contour glyph) (drawn_of a.0.ends a.0.points)) (framed a.0) s a.2 in
-    let c = bind_ok (map_fault (of_contour glyph) (framed_by setting.dropout b.0)) (λ _. measured a.0 b.0) s b.2 in
-    let d = bind_ok (map_fault of_font (metrics_of setting.font glyph)) (λ m. Ok (sketch_from setting code a.0 b.0 m)) s c.2 in
+    (λ d. map_fault (of_raster glyph) (shape_of setting.rule d.ends d.points) >>= measured d) s h in
+    let b = bind_ok (map_fault (of_raster glyph) (shape_of setting.rule a.0.ends a.0.points)) (measured a.0) s a.2 in
+    let c = bind_ok (map_fault of_font (metrics_of setting.font glyph)) (λ m. Ok (sketch_from setting code a.0 b.0 m)) s b.2 in
     record {
       drawing = a.0;
-      spans = b.0;
-      metrics = d.0;
-      drawn = map_fault_ok (of_contour glyph) (drawn_of a.0.ends a.0.points) b.0 b.1;
-      small = map_fault_ok (of_contour glyph) (framed_by setting.dropout b.0) c.0 c.1;
-      is = cc (d.2);
+      shape = b.0;
+      metrics = c.0;
+      shaped = map_fault_ok (of_raster glyph) (shape_of setting.rule a.0.ends a.0.points) b.0 b.1;
+      is = cc (c.2);
     }
 
 -- a sketch has the code point that it is of

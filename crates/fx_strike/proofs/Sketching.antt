@@ -1,29 +1,28 @@
 -- From a glyph's number to its bits: what each step says of the sketch that is due.
--- Serves `sketch_at`, `draw` and `near_pixels`, the first pass and the laws.
-use Rattle.std.proofs.Common.{◌≡◌, ◌≤◌, ◌^◌, inl, inr, refl, sym, ap, ◌∙◌, subst, arith, ℕ, ℤ, pos, negsuc, Bool, List, Result, Ok, Err}
+-- Serves `sketch_with`, `draw` and `near_pixels`, the first pass and the laws.
+use Rattle.std.proofs.Common.{◌≡◌, ◌≤◌, ◌^◌, inl, inr, refl, sym, ap, ◌∙◌, subst, arith, ℕ, ℤ, pos, negsuc, Bool, Result, Ok, Err}
 use Rattle.std.proofs.Common.{FitsSigned, w32, w64, to_z, of_z}
 use Rattle.std.specs.Prelude.{IsTrue, IfOk, IfErr, unsigned_abs}
 use Rattle.std.proofs.lemmas.Int.{ints}
-use Rattle.fx_fixed.specs.Chain.{◌>>=◌, map_ok, map_fault}
+use Rattle.fx_fixed.specs.Chain.{map_ok, map_fault}
 use Rattle.fx_fixed.specs.Numbers.{near_of}
-use Rattle.fx_fixed.proofs.Chain.{bind_ok, map_ok_ok, map_fault_ok}
+use Rattle.fx_fixed.proofs.Chain.{map_ok_ok, map_fault_ok}
 use Rattle.fx_sfnt.specs.Glyphs.{metrics_of}
 use Rattle.fx_sfnt.specs.declared.records.Metrics.{Metrics}
 use Rattle.fx_sfnt.specs.declared.fault.FontFault.{FontFault}
 use Rattle.fx_sfnt.specs.declared.fault.FontFault.TheVariants.{NotTrueType, TableMissing, TableShort, BadHead, BadMaxp, BadLoca}
 use Rattle.fx_sfnt.specs.declared.fault.FontFault.TheVariants.{BadGlyphNumber}
-use Rattle.fx_hint.specs.Outlines.{GlyphOutlineView, view_of_glyph_outline}
-use Rattle.fx_winding.specs.Winding.{Span}
+use Rattle.fx_hint.specs.Outlines.{GlyphOutlineView}
 use Rattle.fx_winding.specs.Bitmaps.{Bits, bit_of}
-use Rattle.fx_contour.specs.declared.fault.ContourFault.{ContourFault}
-use Rattle.fx_contour.specs.Contours.{drawn_of}
+use Rattle.fx_raster.specs.Rules.{ShapeView, shape_of}
+use Rattle.fx_raster.specs.Laws.{AreBitsOf}
 use Rattle.fx_bdf.specs.Glyphs.{Box, Glyph, IsTight, IsTrimmed, glyph_bit}
 use Rattle.fx_request.specs.declared.refusal.Refusal.{Refusal}
 use Rattle.fx_request.specs.declared.refusal.Refusal.TheVariants.{OutOfMemory, WriteFailed, ReadFailed, BadHex, InputTooLarge}
 use Rattle.fx_request.specs.Faults.{of_font}
-use Rattle.fx_strike.specs.Faults.{Fails, of_hint, of_contour}
-use Rattle.fx_strike.specs.Strike.{Sketch, Setting, IsGlyphOf, thousandths, outline_in, sketch_from, framed_by, glyph_sketch_of}
-use Rattle.fx_strike.specs.inner.Drawing.{HasBitsOf, IsSketchedOf, Draws}
+use Rattle.fx_strike.specs.Faults.{Fails, of_hint, of_raster}
+use Rattle.fx_strike.specs.Strike.{Sketch, Setting, IsGlyphOf, thousandths, outline_in, sketch_from, glyph_sketch_of}
+use Rattle.fx_strike.specs.inner.Drawing.{IsSketchedOf, Draws}
 use Rattle.fx_strike.specs.declared.sketched.Sketched.{Sketched}
 
 -- ---- whole pixels fit
@@ -57,36 +56,35 @@ tight_along box a b e h =
     }
 
 -- all checks passed: the sketch is there
-sketch_is : (setting : Setting) (code glyph : ℕ) (drawing : GlyphOutlineView) (ss : List Span) (m : Metrics)
+sketch_is : (setting : Setting) (code glyph : ℕ) (drawing : GlyphOutlineView) (shape : ShapeView) (m : Metrics)
     → map_fault of_hint (outline_in setting glyph) ≡ Ok drawing
-    → map_fault (of_contour glyph) (drawn_of drawing.ends drawing.points) ≡ Ok ss
-    → map_fault (of_contour glyph) (framed_by setting.dropout ss) ≡ Ok tt
+    → map_fault (of_raster glyph) (shape_of setting.rule drawing.ends drawing.points) ≡ Ok shape
     → map_fault of_font (metrics_of setting.font glyph) ≡ Ok m
-    → glyph_sketch_of setting code glyph ≡ Ok (sketch_from setting code drawing ss m)
+    → glyph_sketch_of setting code glyph ≡ Ok (sketch_from setting code drawing shape m)
 unfolding glyph_sketch_of
-sketch_is setting code glyph drawing ss m e1 e2 e3 e4 = rw (e1, e2, e3, e4)
-
--- the sketch of a glyph before its bits, by its spans and its metrics
-abbrev sketch_by : Setting → ℕ → Sketched → List Span → Metrics → Sketch
-sketch_by setting code made ss m = sketch_from setting code (view_of_glyph_outline made.drawing) ss m
+sketch_is setting code glyph drawing shape m e1 e2 e3 = rw (e1, e2, e3)
 
 -- all steps went well: the glyph before its bits is that of the sketch
-sketched_whole : (setting : Setting) (code glyph : ℕ) (made : Sketched) (ss : List Span) (swidth : ℤ)
-    → map_fault of_hint (outline_in setting glyph) ≡ Ok (view_of_glyph_outline made.drawing)
-    → drawn_of made.drawing.outline.ends.items made.drawing.outline.points.items ≡ Ok ss
-    → framed_by setting.dropout ss ≡ Ok tt
+pub sketched_whole : (setting : Setting) (code glyph : ℕ) (drawing : GlyphOutlineView) (made : Sketched) (swidth : ℤ)
+    → map_fault of_hint (outline_in setting glyph) ≡ Ok drawing
+    → map_fault (of_raster glyph) (shape_of setting.rule drawing.ends drawing.points) ≡ Ok made.shape
     → Ok swidth ≡ map_ok (λ (m : Metrics). thousandths m.advance_width setting.font.head.units_per_em)
     (map_fault of_font (metrics_of setting.font glyph))
-    → made.swidth ≡ swidth → made.dropout ≡ setting.dropout
-    → (m : Metrics) × (glyph_sketch_of setting code glyph ≡ Ok (sketch_by setting code made ss m))
-    × IsSketchedOf (sketch_by setting code made ss m) made
-sketched_whole setting code glyph made ss swidth h1 h2 h3 h4 s d =
+    → made.swidth ≡ swidth → made.advance ≡ drawing.advance → made.usage ≡ drawing.usage
+    → (sketch : Sketch) × (glyph_sketch_of setting code glyph ≡ Ok sketch) × IsSketchedOf sketch made
+sketched_whole setting code glyph drawing made swidth h1 h2 h3 s a u =
     let m = map_ok_ok (λ (m : Metrics). thousandths m.advance_width setting.font.head.units_per_em)
-    (map_fault of_font (metrics_of setting.font glyph)) swidth (sym h4) in (
-      m.0,
-      sketch_is setting code glyph (view_of_glyph_outline made.drawing) ss m.0 h1 (ap (map_fault (of_contour glyph)) h2)
-          (ap (map_fault (of_contour glyph)) h3) m.1,
-      record { spans = h2; dropout = d; small = h3; swidth = s ∙ sym m.2; dwidth = refl; usage = refl },
+    (map_fault of_font (metrics_of setting.font glyph)) swidth (sym h3) in
+    let shaped = map_fault_ok (of_raster glyph) (shape_of setting.rule drawing.ends drawing.points) made.shape h2 in (
+      sketch_from setting code drawing made.shape m.0,
+      sketch_is setting code glyph drawing made.shape m.0 h1 h2 m.1,
+      record {
+        shape = refl;
+        outlined = (setting.rule, drawing.ends, drawing.points, shaped);
+        swidth = s ∙ sym m.2;
+        dwidth = ap (λ (z : ℤ). near_of z (pos 64)) a;
+        usage = u;
+      },
     )
 
 -- out of memory is a refusal whatever was due
@@ -101,41 +99,22 @@ pub drawn_whole : (due : Result Sketch Refusal) (sketch : Sketch) (made : Sketch
 drawn_whole due sketch made code (Ok g) h is e of m = (sketch, h, of sketch is e)
 drawn_whole due sketch made code (Err e) h is k of m = memory_fails e due m
 
--- the same where the checks of the spans and of the frame are one
-pub sketched_framed : (setting : Setting) (code glyph : ℕ) (made : Sketched) (swidth : ℤ)
-    → map_fault of_hint (outline_in setting glyph) ≡ Ok (view_of_glyph_outline made.drawing)
-    → map_fault (of_contour glyph) (drawn_of made.drawing.outline.ends.items made.drawing.outline.points.items >>= framed_by setting.dropout)
-    ≡ Ok tt
-    → Ok swidth ≡ map_ok (λ (m : Metrics). thousandths m.advance_width setting.font.head.units_per_em)
-    (map_fault of_font (metrics_of setting.font glyph))
-    → made.swidth ≡ swidth → made.dropout ≡ setting.dropout
-    → (sketch : Sketch) × (glyph_sketch_of setting code glyph ≡ Ok sketch) × IsSketchedOf sketch made
-sketched_framed setting code glyph made swidth h1 h2 h4 s d =
-    let drawn : Result (List Span) ContourFault = drawn_of made.drawing.outline.ends.items made.drawing.outline.points.items in
-    let frame : List Span → Result (Unit {0}) ContourFault = framed_by setting.dropout in
-    let p = bind_ok drawn frame tt (map_fault_ok (of_contour glyph) (drawn >>= frame) tt h2) in
-    let w = sketched_whole setting code glyph made p.0 swidth h1 p.1 p.2 h4 s d in
-    (sketch_by setting code made p.0 w.0, w.1, w.2)
-
 -- the glyph of a sketch, by its bits
-pub glyph_whole : (sketch : Sketch) (made : Sketched) (ss : List Span) (bits : Bits) (g : Glyph) (code code2 : ℕ)
-    (swidth dwidth : ℤ)
-    → HasBitsOf made.dropout ss bits → IsTrimmed code2 swidth dwidth (bit_of bits) g → code2 ≡ code → swidth ≡ made.swidth
-    → dwidth ≡ near_of made.drawing.advance (pos 64)
-    → IsSketchedOf sketch made → sketch.code ≡ code → sketch.spans ≡ ss → IsGlyphOf sketch g
-glyph_whole sketch made ss bits g code code2 swidth dwidth b t c s d is e spans =
+pub glyph_whole : (sketch : Sketch) (made : Sketched) (bits : Bits) (g : Glyph) (code code2 : ℕ) (swidth dwidth : ℤ)
+    → AreBitsOf made.shape (bit_of bits) → IsTrimmed code2 swidth dwidth (bit_of bits) g → code2 ≡ code → swidth ≡ made.swidth
+    → dwidth ≡ near_of made.advance (pos 64) → IsSketchedOf sketch made → sketch.code ≡ code → IsGlyphOf sketch g
+glyph_whole sketch made bits g code code2 swidth dwidth b t c s d is e =
     let P : Bool → Type 0 = λ x. IsTrue x in
-    let Q : List Span → Type 0 = λ xs. HasBitsOf made.dropout xs bits in
-    let D : Bool → Type 0 = λ d. HasBitsOf d sketch.spans bits in
-    let here : HasBitsOf sketch.dropout sketch.spans bits = subst D is.dropout (subst Q (sym spans) b) in
+    let Q : ShapeView → Type 0 = λ x. AreBitsOf x (bit_of bits) in
+    let here : AreBitsOf sketch.shape (bit_of bits) = subst Q is.shape b in
     record {
       code = t.code_is ∙ c ∙ sym e;
       swidth = t.swidth_is ∙ s ∙ is.swidth;
       dwidth = t.dwidth_is ∙ d ∙ is.dwidth;
       bits = λ col row. (
-        λ g. (here.each col row).0 (subst P (t.bits col row) g),
+        λ g. (here col row).0 (subst P (t.bits col row) g),
         λ g. subst P (sym (t.bits col row))
-            ((here.each col row).1 g),
+            ((here col row).1 g),
       );
       tight = tight_along g.box (bit_of bits) (glyph_bit g) (λ col row. sym (t.bits col row)) t.tight;
       formed = t.formed;
@@ -161,22 +140,15 @@ no_outline setting code glyph d f =
     fails_on d (map_fault of_hint (outline_in setting glyph)) (glyph_sketch_of setting code glyph)
     (λ e k. rw k refl) f
 
--- two checks whose faults are seen alike
-both_checked : {A B C D E : Type 0} (view : D → E) (a : Result A D) (f : A → Result B D) (g : A → B → Result C E) (e : E)
-    → map_fault view (a >>= f) ≡ Err e → (map_fault view a >>= λ x. map_fault view (f x) >>= g x) ≡ Err e
-both_checked view (Ok x) f g e h = rw h refl
-both_checked view (Err d) f g e h = let same : view d ≡ e = cc in ap Err same
-
 -- the outline lies too far out or is too large
-pub no_frame : (setting : Setting) (code glyph : ℕ) (drawing : GlyphOutlineView) (d : Refusal)
+pub no_shape : (setting : Setting) (code glyph : ℕ) (drawing : GlyphOutlineView) (d : Refusal)
     → map_fault of_hint (outline_in setting glyph) ≡ Ok drawing
-    → Fails d (map_fault (of_contour glyph) (drawn_of drawing.ends drawing.points >>= framed_by setting.dropout))
+    → Fails d (map_fault (of_raster glyph) (shape_of setting.rule drawing.ends drawing.points))
     → Fails d (glyph_sketch_of setting code glyph)
 unfolding glyph_sketch_of
-no_frame setting code glyph drawing d h f =
-    fails_on d (map_fault (of_contour glyph) (drawn_of drawing.ends drawing.points >>= framed_by setting.dropout))
-    (glyph_sketch_of setting code glyph)
-    (λ e k. rw h (both_checked (of_contour glyph) (drawn_of drawing.ends drawing.points) (framed_by setting.dropout) _ e k)) f
+no_shape setting code glyph drawing d h f =
+    fails_on d (map_fault (of_raster glyph) (shape_of setting.rule drawing.ends drawing.points))
+    (glyph_sketch_of setting code glyph) (λ e k. rw (h, k) refl) f
 
 font_fails : {Y : Type 0} (f : FontFault) (due : Result Y Refusal) → due ≡ Err (of_font f) → Fails (of_font f) due
 font_fails NotTrueType due h = h
@@ -195,20 +167,16 @@ refused_metrics view (Err f) d due h g =
     let same : of_font f ≡ d = cc in subst P same (font_fails f due (g f refl))
 
 -- no advance
-pub no_advance : (setting : Setting) (code glyph : ℕ) (drawing : GlyphOutlineView) (d : Refusal)
+pub no_advance : (setting : Setting) (code glyph : ℕ) (drawing : GlyphOutlineView) (shape : ShapeView) (d : Refusal)
     → map_fault of_hint (outline_in setting glyph) ≡ Ok drawing
-    → map_fault (of_contour glyph) (drawn_of drawing.ends drawing.points >>= framed_by setting.dropout) ≡ Ok tt
+    → map_fault (of_raster glyph) (shape_of setting.rule drawing.ends drawing.points) ≡ Ok shape
     → Err d ≡ map_ok (λ (m : Metrics). thousandths m.advance_width setting.font.head.units_per_em)
     (map_fault of_font (metrics_of setting.font glyph))
     → Fails d (glyph_sketch_of setting code glyph)
 unfolding glyph_sketch_of
-no_advance setting code glyph drawing d h1 h2 h3 =
-    let drawn : Result (List Span) ContourFault = drawn_of drawing.ends drawing.points in
-    let frame : List Span → Result (Unit {0}) ContourFault = framed_by setting.dropout in
-    let p = bind_ok drawn frame tt (map_fault_ok (of_contour glyph) (drawn >>= frame) tt h2) in
+no_advance setting code glyph drawing shape d h1 h2 h3 =
     refused_metrics (λ (m : Metrics). thousandths m.advance_width setting.font.head.units_per_em) (metrics_of setting.font glyph) d
-    (glyph_sketch_of setting code glyph) h3
-    (λ f k. rw (h1, ap (map_fault (of_contour glyph)) p.1, ap (map_fault (of_contour glyph)) p.2, k) refl)
+    (glyph_sketch_of setting code glyph) h3 (λ f k. rw (h1, h2, k) refl)
 
 -- ---- lemmas for answers
 

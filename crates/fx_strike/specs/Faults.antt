@@ -1,9 +1,9 @@
--- Faults of outlines and contours as refusals, and what code returns that may run out of memory.
+-- Faults of outlines and shapes as refusals, and what code returns that may run out of memory.
 use Rattle.std.specs.Prelude.{◌≡◌, ℕ, Result, Err}
 use Rattle.fx_hint.specs.declared.fault.HintFault.{HintFault}
 use Rattle.fx_hint.specs.declared.fault.HintFault.TheVariants as hint
-use Rattle.fx_contour.specs.declared.fault.ContourFault.{ContourFault}
-use Rattle.fx_contour.specs.declared.fault.ContourFault.TheVariants as contour
+use Rattle.fx_raster.specs.Faults.{RasterFault}
+use Rattle.fx_raster.specs.Faults as raster
 use Rattle.fx_request.specs.declared.refusal.Refusal.{Refusal}
 use Rattle.fx_request.specs.declared.refusal.Refusal.TheVariants.{ComponentDepth, TooManyComponents, TooManyPoints, BadPointMatch}
 use Rattle.fx_request.specs.declared.refusal.Refusal.TheVariants.{Halted, TooFar, GlyphTooLarge, WriteFailed}
@@ -21,11 +21,11 @@ of_hint (hint.BadPointMatch g) = BadPointMatch g
 of_hint (hint.Halted halt) = Halted halt
 of_hint hint.OutOfMemory = OutOfMemory
 
--- a fault of the contours of a glyph, or of its frame
-abbrev pub of_contour : ℕ → ContourFault → Refusal
-of_contour glyph contour.TooFar = TooFar glyph
-of_contour glyph contour.TooLarge = GlyphTooLarge glyph
-of_contour glyph contour.OutOfMemory = OutOfMemory
+-- a fault of a glyph's shape
+abbrev pub of_raster : ℕ → RasterFault → Refusal
+of_raster glyph raster.TooFar = TooFar glyph
+of_raster glyph raster.TooLarge = GlyphTooLarge glyph
+of_raster glyph raster.OutOfMemory = OutOfMemory
 
 -- a refusal on the way to a value: out of memory, or the cause that is due; never one of the writer, the reader or the input
 abbrev pub Fails : {Y : Type 0} → Refusal → Result Y Refusal → Type 0

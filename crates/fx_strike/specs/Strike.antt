@@ -17,12 +17,9 @@ use Rattle.fx_hint.specs.Hinting.{Hinting, no_hinting}
 use Rattle.fx_hint.specs.Programmed.{hinting_of}
 use Rattle.fx_hint.specs.declared.fault.HintFault.{HintFault}
 use Rattle.fx_hint.specs.Outlines.{GlyphOutlineView, outline_with}
-use Rattle.fx_winding.specs.Winding.{Span, IsCovered, centre}
-use Rattle.fx_winding.specs.Dropout.{IsSetIn}
-use Rattle.fx_contour.specs.declared.fault.ContourFault.{ContourFault}
-use Rattle.fx_contour.specs.Contours.{drawn_of}
-use Rattle.fx_contour.specs.Frames.{framed_of}
-use Rattle.fx_contour.specs.DropoutFrames.{IsInDropoutFrame, dropout_framed_of}
+use Rattle.fx_raster.specs.declared.rule.Rule.{Rule}
+use Rattle.fx_raster.specs.declared.rule.Rule.TheVariants.{Centres, Bridged}
+use Rattle.fx_raster.specs.Rules.{ShapeView, IsPixelSet, shape_of}
 use Rattle.fx_bdf.specs.declared.header.Header.{Header}
 use Rattle.fx_bdf.specs.Glyphs.{Glyph, IsTight, IsFormed, glyph_bit, bounds_of}
 use Rattle.fx_bdf.specs.Properties.{PropertyView, first_bad}
@@ -33,7 +30,7 @@ use Rattle.fx_request.specs.declared.refusal.Refusal.{Refusal}
 use Rattle.fx_request.specs.declared.refusal.Refusal.TheVariants.{BadSize, BadChars, BadName, BadProperty}
 use Rattle.fx_request.specs.Faults.{of_font, of_char_map, of_machine}
 use Rattle.fx_strike.specs.declared.opened.Opened.{Opened}
-use Rattle.fx_strike.specs.Faults.{of_hint, of_contour}
+use Rattle.fx_strike.specs.Faults.{of_hint, of_raster}
 use Rattle.fx_strike.specs.Title.{Title}
 use Rattle.fx_request.specs.Characters.{rising}
 use Rattle.fx_request.specs.Limits.{max_characters, max_code}
@@ -45,22 +42,27 @@ unfoldable pub machine_for : Face → ℕ → Bool → Result (Option Known) Ref
 machine_for face ppem false = Ok None
 machine_for face ppem true = map_ok Some (map_fault of_machine (machine_of face ppem))
 
--- all that a character's glyph depends on but its code point: a font, its character map, a size, whether drop-out control is on,
--- and the machine; and nothing that was made before
+-- all that a character's glyph depends on but its code point: a font, its character map, a size, which pixels an outline sets, and
+-- the machine; and nothing that was made before
 pub record Setting : Type 0 where
   pub font : Face
   pub map : Mapping
   pub ppem : ℕ
-  pub dropout : Bool
+  pub rule : Rule
   pub machine : Option Known
 
--- an opened font, with drop-out control or without, and the machine
-abbrev pub setting_with : Opened → Bool → Option Known → Setting
-setting_with opened dropout machine = record {
+-- which pixels an outline sets, with drop-out control or without
+abbrev pub rule_of : Bool → Rule
+rule_of false = Centres
+rule_of true = Bridged
+
+-- an opened font, which pixels an outline sets, and the machine
+abbrev pub setting_with : Opened → Rule → Option Known → Setting
+setting_with opened rule machine = record {
   font = opened.font;
   map = opened.map;
   ppem = opened.ppem;
-  dropout = dropout;
+  rule = rule;
   machine = machine;
 }
 
@@ -68,7 +70,7 @@ setting_with opened dropout machine = record {
 unfoldable pub setting_in : Opened → Mode → Result Setting Refusal
 setting_in opened mode = do
   machine ← machine_for opened.font opened.ppem mode.hinting
-  Ok (setting_with opened mode.dropout machine)
+  Ok (setting_with opened (rule_of mode.dropout) machine)
 
 -- what the machine adds to scaling; nothing without one
 abbrev pub hinting_by : Option Known → Hinting
@@ -82,14 +84,13 @@ prelude_by (Some known) = known.prelude
 
 -- ---- a character
 
--- a character of a strike before its bits: its code point, its advance in 1/1000 of an em and in pixels, the spans of its
--- outline in 1/128 pixel, whether drop-out control is on, and what its glyph's programs used up
+-- a character of a strike before its bits: its code point, its advance in 1/1000 of an em and in pixels, the shape of its outline,
+-- and what its glyph's programs used up
 pub record Sketch : Type 0 where
   pub code : ℕ
   pub swidth : ℤ
   pub dwidth : ℤ
-  pub spans : List Span
-  pub dropout : Bool
+  pub shape : ShapeView
   pub usage : Usage
 
 -- an advance of FUnits in 1/1000 of an em, which is `em` FUnits
@@ -100,30 +101,23 @@ thousandths advance em = near_of (pos (advance * 1000)) (pos em)
 abbrev pub outline_in : Setting → ℕ → Result GlyphOutlineView HintFault
 outline_in setting glyph = outline_with (hinting_by setting.machine) setting.font setting.ppem glyph
 
--- the sketch of a code point that has this outline, spans and metrics
-abbrev pub sketch_from : Setting → ℕ → GlyphOutlineView → List Span → Metrics → Sketch
-sketch_from setting code outline spans metrics = record {
+-- the sketch of a code point that has this outline, shape and metrics
+abbrev pub sketch_from : Setting → ℕ → GlyphOutlineView → ShapeView → Metrics → Sketch
+sketch_from setting code outline shape metrics = record {
   code = code;
   swidth = thousandths metrics.advance_width setting.font.head.units_per_em;
   dwidth = near_of outline.advance (pos 64);
-  spans = spans;
-  dropout = setting.dropout;
+  shape = shape;
   usage = outline.usage;
 }
-
--- whether the frame of spans keeps its limit, with drop-out control or without
-abbrev pub framed_by : Bool → List Span → Result (Unit {0}) ContourFault
-framed_by false = framed_of
-framed_by true = dropout_framed_of
 
 -- the sketch of a code point by its glyph's number, or the first cause why it has none
 unfoldable pub glyph_sketch_of : Setting → ℕ → ℕ → Result Sketch Refusal
 glyph_sketch_of setting code glyph = do
   outline ← map_fault of_hint (outline_in setting glyph)
-  spans ← map_fault (of_contour glyph) (drawn_of outline.ends outline.points)
-  _ ← map_fault (of_contour glyph) (framed_by setting.dropout spans)
+  shape ← map_fault (of_raster glyph) (shape_of setting.rule outline.ends outline.points)
   metrics ← map_fault of_font (metrics_of setting.font glyph)
-  Ok (sketch_from setting code outline spans metrics)
+  Ok (sketch_from setting code outline shape metrics)
 
 -- the sketch of a code point
 abbrev pub sketch_of : Setting → ℕ → Result Sketch Refusal
@@ -269,18 +263,13 @@ one_of file ppem code mode = do
 
 -- ---- its bits and its text
 
--- the pixel in a column and a row is set: its centre is covered; or, with drop-out control, it closes a gap in the frame
-abbrev pub IsPixelSet : Bool → List Span → ℤ → ℤ → Type 0
-IsPixelSet false ss col row = IsCovered (centre col row) ss
-IsPixelSet true ss col row = IsSetIn ss (IsInDropoutFrame ss) col row
-
 -- the glyph of a sketch: of all pixels of the plane exactly those are set whose centre is covered, with drop-out control also those
 -- that close a gap, in their tight box
 pub record IsGlyphOf (sketch : Sketch) (glyph : Glyph) : Type 0 where
   pub code : glyph.code ≡ sketch.code
   pub swidth : glyph.swidth ≡ sketch.swidth
   pub dwidth : glyph.dwidth ≡ sketch.dwidth
-  pub bits : (col row : ℤ) → IsTrue (glyph_bit glyph col row) ↔ IsPixelSet sketch.dropout sketch.spans col row
+  pub bits : (col row : ℤ) → IsTrue (glyph_bit glyph col row) ↔ IsPixelSet sketch.shape.rule sketch.shape.spans col row
   pub tight : IsTight glyph.box (glyph_bit glyph)
   pub formed : IsFormed glyph
 

@@ -1,9 +1,9 @@
-//! The faults of outlines and contours as refusals.
+//! The faults of outlines and shapes as refusals.
 ghost use Rattle.std.specs.Prelude.{◌≡◌};
-ghost use Rattle.fx_strike.specs.Faults.{of_hint, of_contour};
+ghost use Rattle.fx_strike.specs.Faults.{of_hint, of_raster};
 
-use fx_contour::ContourFault;
 use fx_hint::HintFault;
+use fx_raster::RasterFault;
 use fx_request::Refusal;
 
 /// What a fault of an outline is refused as.
@@ -22,13 +22,13 @@ pub(crate) fn of_hint(fault: HintFault) -> Refusal
     }
 }
 
-/// What a fault of the contours of a glyph, or of its frame, is refused as.
-pub(crate) fn of_contour(glyph: u16, fault: ContourFault) -> Refusal
-    ensures { result ≡ of_contour glyph fault }
+/// What a fault of a glyph's shape is refused as.
+pub(crate) fn of_raster(glyph: u16, fault: RasterFault) -> Refusal
+    ensures { result ≡ of_raster glyph fault }
 {
     match fault {
-        ContourFault::TooFar => Refusal::TooFar(glyph),
-        ContourFault::TooLarge => Refusal::GlyphTooLarge(glyph),
-        ContourFault::OutOfMemory => Refusal::OutOfMemory,
+        RasterFault::TooFar => Refusal::TooFar(glyph),
+        RasterFault::TooLarge => Refusal::GlyphTooLarge(glyph),
+        RasterFault::OutOfMemory => Refusal::OutOfMemory,
     }
 }

@@ -1,31 +1,28 @@
 //! The first pass over the characters: a survey of the strike.
-ghost use Rattle.std.specs.Prelude.{◌≡◌, ◌<◌, ◌≤◌, List, ℕ, All, neg_ℤ, unsigned_abs, length};
+ghost use Rattle.std.specs.Prelude.{◌≡◌, ◌<◌, ◌≤◌, List, ℕ, neg_ℤ, unsigned_abs, length};
 ghost use Rattle.fx_request.specs.Limits.{max_characters};
 ghost use Rattle.fx_request.specs.Characters.{rising};
-ghost use Rattle.fx_contour.specs.Contours.{IsInReach, spans_of};
-ghost use Rattle.fx_contour.specs.Frames.{NothingOutsideFrame};
 ghost use Rattle.fx_bdf.specs.Glyphs.{IsPlaced};
 ghost use Rattle.fx_strike.specs.Title.{Title};
 ghost use Rattle.fx_strike.specs.Strike.{Sketch, pixels, setting_with, glyph_sketch_of, plan_with};
 ghost use Rattle.fx_cache.specs.Cached.{AreDue};
-ghost use Rattle.fx_strike.specs.inner.Drawing.{IsFramedBy, IsSketchedOf, due_in};
-ghost use Rattle.fx_strike.specs.inner.Surveying.{IsNarrow, Joins, SeesOne, Sees, Surveys, survey_from};
+ghost use Rattle.fx_strike.specs.inner.Drawing.{IsSketchedOf, due_in};
+ghost use Rattle.fx_strike.specs.inner.Surveying.{IsNarrow, Joins, SeesOne, Sees, Surveys, region_of, survey_from};
 
 use crate::draw::glyph_of;
 use crate::hinter::FontHinter;
 use crate::opened::Opened;
 use crate::seen::Seen;
-use crate::sketch::sketch_at;
+use crate::sketch::{outline_made, sketch_with};
 use crate::sketched::Sketched;
 use crate::surveyed::Survey;
 use crate::tools::Tools;
-use crate::within::lies_in;
 use fx_bdf::{Bounds, Summary};
-use fx_cache::{CacheReader, OutlineCache};
+use fx_cache::OutlineCache;
 use fx_fixed::{Ppem, near};
 use fx_machine::Usage;
+use fx_raster::{Region, Scan};
 use fx_request::{Refusal, Report, rising_codes};
-use fx_winding::Scan;
 
 /// FUnits in whole pixels.
 fn whole_pixels(units: i32, ppem: Ppem, em: u16) -> i32
@@ -73,19 +70,26 @@ fn survey_from(prelude: Usage, opened: &Opened<'_>, seen: Seen, summary: Summary
     }
 }
 
+/// The pixels of a box.
+fn region_of(bounds: Bounds) -> Region
+    ensures { result ≡ region_of bounds }
+{
+    Region {
+        left: bounds.left,
+        bottom: bounds.bottom,
+        width: bounds.width,
+        height: bounds.height,
+    }
+}
+
 impl<'a, S: Scan> Tools<'a, S> {
-    /// The least box that holds a box and the box of a character's glyph. The glyph's bits are made only if its frame does not lie
-    /// in the box: all its bits lie in its frame.
+    /// The least box that holds a box and the box of a character's glyph. The glyph's bits are made only if its shape does not lie
+    /// in the box.
     fn bounds_with(&self, bounds: Bounds, code: u32, sketched: &Sketched) -> Result<Bounds, Refusal>
         requires placed { IsPlaced bounds }
-        requires reach { All IsInReach sketched.now.drawing.outline.points.items }
-        requires outside { NothingOutsideFrame sketched.now.frame
-            (spans_of sketched.now.drawing.outline.ends.items sketched.now.drawing.outline.points.items) }
-        requires framed { IsFramedBy sketched.now.dropout sketched.now.frame
-            (spans_of sketched.now.drawing.outline.ends.items sketched.now.drawing.outline.points.items) }
         ensures { (sketch : Sketch) → IsSketchedOf sketch sketched.now → sketch.code ≡ code → Joins sketch bounds result }
     {
-        if lies_in(sketched.frame, bounds) {
+        if sketched.shape.lies_in(region_of(bounds)) {
             return Ok(bounds);
         }
         let glyph = glyph_of(self.alloc, self.scan, code, sketched)?;
@@ -106,22 +110,15 @@ impl<'a, S: Scan> Tools<'a, S> {
         requires placed { IsPlaced seen.old.bounds }
         requires narrow { IsNarrow seen.old }
         ensures kept { hinter.new ≡ hinter.old }
-        ensures seen { SeesOne (glyph_sketch_of (setting_with self.now.opened self.now.dropout hinter.old) code glyph)
+        ensures seen { SeesOne (glyph_sketch_of (setting_with self.now.opened self.now.rule hinter.old) code glyph)
             seen.old seen.new result }
         ensures cache { AreDue (due_in self.now.opened hinter.old) cache.new }
     {
-        let mut none = CacheReader::empty();
-        let sketched = sketch_at(
-            self.alloc,
-            hinter,
-            &mut none,
-            &self.opened,
-            self.dropout,
-            glyph,
-        )?;
-        cache.put(glyph, &sketched.drawing);
+        let drawing = outline_made(self.alloc, hinter, &self.opened, glyph)?;
+        cache.put(glyph, &drawing);
+        let sketched = sketch_with(&self.opened, self.rule, glyph, drawing)?;
         let bounds = self.bounds_with(seen.bounds, code, &sketched)?;
-        seen.add(code, bounds, &sketched.drawing);
+        seen.add(code, bounds, &sketched);
         Ok(())
     }
 
@@ -135,7 +132,7 @@ impl<'a, S: Scan> Tools<'a, S> {
         requires few { length codes.now ≤ max_characters }
         requires cache { AreDue (due_in self.now.opened hinter.old) cache.old }
         ensures kept { hinter.new ≡ hinter.old }
-        ensures seen { Sees (setting_with self.now.opened self.now.dropout hinter.old) codes.now result }
+        ensures seen { Sees (setting_with self.now.opened self.now.rule hinter.old) codes.now result }
         ensures cache { AreDue (due_in self.now.opened hinter.old) cache.new }
     {
         let mut seen = Seen::new();
@@ -164,7 +161,7 @@ impl<'a, S: Scan> Tools<'a, S> {
         ensures kept { hinter.new ≡ hinter.old }
         ensures cache { AreDue (due_in self.now.opened hinter.old) cache.new }
         ensures survey { (title : Title) (chars : List ℕ) → codes.now ≡ rising chars
-            → Surveys (plan_with (setting_with self.now.opened self.now.dropout hinter.old) title chars) result }
+            → Surveys (plan_with (setting_with self.now.opened self.now.rule hinter.old) title chars) result }
     {
         let seen = self.see(hinter, codes, cache)?;
         let summary = seen.gathered.summary(seen.report.glyphs);
@@ -180,7 +177,7 @@ impl<'a, S: Scan> Tools<'a, S> {
         requires few { length chars.now ≤ max_characters }
         ensures kept { hinter.new ≡ hinter.old }
         ensures survey { (title : Title)
-            → Surveys (plan_with (setting_with self.now.opened self.now.dropout hinter.old) title chars.now) result }
+            → Surveys (plan_with (setting_with self.now.opened self.now.rule hinter.old) title chars.now) result }
     {
         let codes = rising_codes(self.alloc, chars)?;
         let mut cache = OutlineCache::without_room(self.alloc);

@@ -36,7 +36,6 @@ mod strikes;
 mod surveyed;
 mod surveying;
 mod tools;
-mod within;
 
 pub use fx_bdf::Title;
 pub use listing::listing_of;

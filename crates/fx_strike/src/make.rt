@@ -6,9 +6,8 @@ ghost use Rattle.fx_strike.specs.Headline.{Makes, opening_of, strike_of};
 use crate::open::{open, title_of};
 use crate::striker::Striker;
 use fx_fixed::Sink;
+use fx_raster::{Rows, Scan};
 use fx_request::{Refusal, Report, Request};
-use fx_rows::Rows;
-use fx_winding::Scan;
 use std::alloc::Global;
 
 /// Makes the strike of a font and writes its text, with a scan of the caller's choice.

@@ -8,8 +8,8 @@ ghost use Rattle.fx_strike.specs.inner.Drawing.{Finds};
 use crate::open::open_one;
 use crate::striker::Striker;
 use fx_bdf::BitGlyph;
+use fx_raster::Rows;
 use fx_request::{Mode, Refusal};
-use fx_rows::Rows;
 use std::alloc::Global;
 
 /// Makes the glyph of one character of a font at a size: its bits, in their tight box, and its advances. None if the font lacks

@@ -18,8 +18,8 @@ use crate::tools::Tools;
 use fx_bdf::{write_end, write_glyph, write_header};
 use fx_cache::CacheReader;
 use fx_fixed::{Sink, TextWriter};
+use fx_raster::Scan;
 use fx_request::Refusal;
-use fx_winding::Scan;
 
 impl<'a, S: Scan> Tools<'a, S> {
     /// Makes a character and writes its lines. A character that the font lacks, whose glyph is 0, has none.
@@ -41,7 +41,7 @@ impl<'a, S: Scan> Tools<'a, S> {
         ensures same { text.new.sink ≡ text.old.sink }
         ensures quiet { OnOk result (text.new.faults ≡ text.old.faults) }
         ensures short { OnOk result (length_of text.new ≤ length_of text.old + longest_glyph) }
-        ensures lines { (lines : List ℕ) → AreLinesOf (setting_with self.now.opened self.now.dropout hinter.old) code lines
+        ensures lines { (lines : List ℕ) → AreLinesOf (setting_with self.now.opened self.now.rule hinter.old) code lines
             → Adds Stops text.old text.new lines result }
     {
         fx_bdf::laws::trimmed();
@@ -71,7 +71,7 @@ impl<'a, S: Scan> Tools<'a, S> {
         ensures quiet { OnOk result (text.new.faults ≡ text.old.faults) }
         ensures short { OnOk result (length_of text.new ≤ length_of text.old + longest_glyphs) }
         ensures lines { (lines : List (List ℕ))
-            → AreAllLinesOf (setting_with self.now.opened self.now.dropout hinter.old) codes.now lines
+            → AreAllLinesOf (setting_with self.now.opened self.now.rule hinter.old) codes.now lines
             → Adds Stops text.old text.new (flat_map (λ t. t) lines) result }
     {
         let mut map = self.opened.map.cursor();
@@ -103,7 +103,7 @@ impl<'a, S: Scan> Tools<'a, S> {
         ensures same { text.new.sink ≡ text.old.sink }
         ensures ended { OnOk result (text.new.waiting ≡ []) }
         ensures lines { (lines : List (List ℕ))
-            → AreAllLinesOf (setting_with self.now.opened self.now.dropout hinter.old) draft.now.codes.now lines
+            → AreAllLinesOf (setting_with self.now.opened self.now.rule hinter.old) draft.now.codes.now lines
             → Adds Stops text.old text.new
             (header_text draft.now.name.now (seen_properties draft.now.properties.now) draft.now.header
             ++ (flat_map (λ t. t) lines ++ end_text))
@@ -132,7 +132,7 @@ impl<'a, S: Scan> Tools<'a, S> {
         ensures kept { hinter.new ≡ hinter.old }
         ensures cache { AreDue (due_in self.now.opened hinter.old) cache.new }
         ensures text { (lines : List (List ℕ))
-            → AreAllLinesOf (setting_with self.now.opened self.now.dropout hinter.old) draft.now.codes.now lines
+            → AreAllLinesOf (setting_with self.now.opened self.now.rule hinter.old) draft.now.codes.now lines
             → Writes (change_of W.held W.fault_count out.old out.new)
             (header_text draft.now.name.now (seen_properties draft.now.properties.now) draft.now.header
             ++ (flat_map (λ t. t) lines ++ end_text))

@@ -2,8 +2,8 @@
 
 use crate::draw::whole_pixels;
 use crate::gathered::Gathered;
+use crate::sketched::Sketched;
 use fx_bdf::Bounds;
-use fx_hint::GlyphOutline;
 use fx_machine::Usage;
 use fx_request::Report;
 
@@ -36,15 +36,15 @@ impl Seen {
     }
 
     /// Adds a character: its code point, the box of the glyphs up to it, its advance, and what its programs counted.
-    pub(crate) fn add(&mut self, code: u32, bounds: Bounds, drawing: &GlyphOutline)
+    pub(crate) fn add(&mut self, code: u32, bounds: Bounds, sketched: &Sketched)
         requires few { self.old.report.glyphs < max_characters }
         requires narrow { IsNarrow self.old }
-        ensures { Adds self.old self.new code bounds drawing.now }
+        ensures { Adds self.old self.new code bounds sketched.now }
     {
-        let dwidth = whole_pixels(drawing.advance);
+        let dwidth = whole_pixels(sketched.advance);
         self.bounds = bounds;
         self.gathered = self.gathered.with(code, dwidth);
         self.report.glyphs += 1;
-        self.report.usage = self.report.usage.plus(drawing.usage);
+        self.report.usage = self.report.usage.plus(sketched.usage);
     }
 }

@@ -1,38 +1,38 @@
-//! From a glyph's number to its outline, its frame and its advance.
-ghost use Rattle.std.specs.Prelude.{◌≡◌, ℕ, All, Ok, IfOk};
+//! From a glyph's number to its outline, its shape and its advance.
+ghost use Rattle.std.specs.Prelude.{◌≡◌, ℕ, Option, Ok, IfOk};
 ghost use Rattle.fx_fixed.specs.Chain.{map_ok, map_fault, GivesUnless};
 ghost use Rattle.fx_sfnt.specs.Glyphs.{metrics_of};
+ghost use Rattle.fx_machine.specs.Known.{Known};
 ghost use Rattle.fx_hint.specs.Outlines.{view_of_glyph_outline, outline_with};
-ghost use Rattle.fx_contour.specs.Contours.{IsInReach, spans_of};
-ghost use Rattle.fx_contour.specs.Frames.{NothingOutsideFrame};
+ghost use Rattle.fx_raster.specs.Rules.{shape_of};
 ghost use Rattle.fx_request.specs.Faults.{of_font};
-ghost use Rattle.fx_strike.specs.Faults.{Fails, of_hint, of_contour};
+ghost use Rattle.fx_strike.specs.Faults.{Fails, of_hint, of_raster};
 ghost use Rattle.fx_strike.specs.Strike.{hinting_by, setting_with, thousandths, glyph_sketch_of};
 ghost use Rattle.fx_cache.specs.Cached.{AreDue};
-ghost use Rattle.fx_strike.specs.inner.Drawing.{IsFramedBy, Sketches, due_in, outline_framed_by};
+ghost use Rattle.fx_strike.specs.inner.Drawing.{Sketches, due_in};
 
-use crate::faults::{of_contour, of_hint};
+use crate::faults::{of_hint, of_raster};
 use crate::hinter::FontHinter;
 use crate::opened::Opened;
 use crate::sketched::Sketched;
 use fx_cache::CacheReader;
-use fx_contour::{ContourFault, dropout_frame, outline_frame};
 use fx_fixed::near;
 use fx_hint::{GlyphOutline, outline_with};
 use fx_outline::Outline;
+use fx_raster::{Rule, Shape};
 use fx_request::Refusal;
 use fx_sfnt::Font;
-use fx_winding::Frame;
 use std::alloc::Global;
 
 /// Makes the outline of a glyph, scaled and hinted.
-fn outline_made(
+pub(crate) fn outline_made(
     alloc: Global,
     hinter: &mut FontHinter<'_>,
     opened: &Opened<'_>,
     glyph: u16,
 ) -> Result<GlyphOutline, Refusal>
     ensures kept { hinter.new ≡ hinter.old }
+    ensures outline { IfOk result (λ o. due_in opened.now hinter.old glyph ≡ Ok (view_of_glyph_outline o)) }
     ensures value { GivesUnless Fails view_of_glyph_outline result
         (map_fault of_hint (outline_with (hinting_by hinter.old) opened.now.font opened.now.ppem glyph)) }
 {
@@ -43,7 +43,7 @@ fn outline_made(
 }
 
 /// The outline of a glyph, scaled and hinted: from the cache if it is the next one there, else made.
-fn outline_at(
+pub(crate) fn outline_at(
     alloc: Global,
     hinter: &mut FontHinter<'_>,
     cache: &mut CacheReader<'_>,
@@ -53,6 +53,7 @@ fn outline_at(
     requires cache { AreDue (due_in opened.now hinter.old) cache.old }
     ensures kept { hinter.new ≡ hinter.old }
     ensures cache { AreDue (due_in opened.now hinter.old) cache.new }
+    ensures outline { IfOk result (λ o. due_in opened.now hinter.old glyph ≡ Ok (view_of_glyph_outline o)) }
     ensures value { GivesUnless Fails view_of_glyph_outline result
         (map_fault of_hint (outline_with (hinting_by hinter.old) opened.now.font opened.now.ppem glyph)) }
 {
@@ -62,31 +63,14 @@ fn outline_at(
     }
 }
 
-/// The frame of an outline, with drop-out control or without.
-fn frame_by(outline: &Outline, dropout: bool) -> Result<Option<Frame>, ContourFault>
-    ensures exact { map_ok (λ _. tt) result ≡ outline_framed_by dropout outline.now.ends.items outline.now.points.items }
-    ensures frame { IfOk result (λ f. IsFramedBy dropout f (spans_of outline.now.ends.items outline.now.points.items)) }
-    ensures outside { IfOk result (λ f. NothingOutsideFrame f (spans_of outline.now.ends.items outline.now.points.items)) }
-    ensures reach { IfOk result (λ _. All IsInReach outline.now.points.items) }
+/// The shape of an outline; `TooFar` if a point of it lies too far out, `GlyphTooLarge` if it has too many pixels.
+fn shaped(outline: Outline, rule: Rule, glyph: u16) -> Result<Shape, Refusal>
+    ensures { GivesUnless Fails (λ s. s) result
+        (map_fault (of_raster glyph) (shape_of rule outline.ends.items outline.points.items)) }
 {
-    if dropout {
-        dropout_frame(outline)
-    } else {
-        outline_frame(outline)
-    }
-}
-
-/// The frame of an outline; `TooFar` if a point of it lies too far out, `GlyphTooLarge` if it has too many pixels.
-fn frame_of_outline(outline: &Outline, dropout: bool, glyph: u16) -> Result<Option<Frame>, Refusal>
-    ensures checked { GivesUnless Fails (λ _. tt) result (map_fault (of_contour glyph)
-        (outline_framed_by dropout outline.now.ends.items outline.now.points.items)) }
-    ensures frame { IfOk result (λ f. IsFramedBy dropout f (spans_of outline.now.ends.items outline.now.points.items)) }
-    ensures outside { IfOk result (λ f. NothingOutsideFrame f (spans_of outline.now.ends.items outline.now.points.items)) }
-    ensures reach { IfOk result (λ _. All IsInReach outline.now.points.items) }
-{
-    match frame_by(outline, dropout) {
-        Ok(frame) => Ok(frame),
-        Err(fault) => Err(of_contour(glyph, fault)),
+    match Shape::of(outline, rule) {
+        Ok(shape) => Ok(shape),
+        Err(fault) => Err(of_raster(glyph, fault)),
     }
 }
 
@@ -100,34 +84,23 @@ fn thousandths_at(font: &Font<'_>, glyph: u16) -> Result<i32, Refusal>
     Ok(near(advance * 1000, i128::from(em)) as i32)
 }
 
-/// A glyph before its bits, or the first cause why there is none: its outline, then how far out it lies and how large it is,
+/// A glyph before its bits, by its outline, or the first cause why there is none: how far out the outline lies and how large it is,
 /// then its advance.
-pub(crate) fn sketch_at(
-    alloc: Global,
-    hinter: &mut FontHinter<'_>,
-    cache: &mut CacheReader<'_>,
+pub(crate) fn sketch_with(
     opened: &Opened<'_>,
-    dropout: bool,
+    rule: Rule,
     glyph: u16,
+    drawing: GlyphOutline,
 ) -> Result<Sketched, Refusal>
-    requires cache { AreDue (due_in opened.now hinter.old) cache.old }
-    ensures kept { hinter.new ≡ hinter.old }
-    ensures cache { AreDue (due_in opened.now hinter.old) cache.new }
-    ensures outline { IfOk result (λ s. due_in opened.now hinter.old glyph ≡ Ok (view_of_glyph_outline s.drawing)) }
-    ensures sketch { (code : ℕ) → Sketches (glyph_sketch_of (setting_with opened.now dropout hinter.old) code glyph) result }
-    ensures frame { IfOk result (λ s. IsFramedBy s.dropout s.frame
-        (spans_of s.drawing.outline.ends.items s.drawing.outline.points.items)) }
-    ensures outside { IfOk result (λ s. NothingOutsideFrame s.frame
-        (spans_of s.drawing.outline.ends.items s.drawing.outline.points.items)) }
-    ensures reach { IfOk result (λ s. All IsInReach s.drawing.outline.points.items) }
+    ensures { (machine : Option Known) (code : ℕ) → due_in opened.now machine glyph ≡ Ok (view_of_glyph_outline drawing)
+        → Sketches (glyph_sketch_of (setting_with opened.now rule machine) code glyph) result }
 {
-    let drawing = outline_at(alloc, hinter, cache, opened, glyph)?;
-    let frame = frame_of_outline(&drawing.outline, dropout, glyph)?;
+    let shape = shaped(drawing.outline, rule, glyph)?;
     let swidth = thousandths_at(&opened.font, glyph)?;
     Ok(Sketched {
-        drawing,
-        dropout,
-        frame,
+        shape,
+        advance: drawing.advance,
+        usage: drawing.usage,
         swidth,
     })
 }

@@ -11,15 +11,14 @@ ghost use Rattle.fx_strike.specs.inner.Drawing.{Finds};
 ghost use Rattle.fx_strike.specs.inner.Surveying.{AreChars, IsChecked, SurveysNameless};
 
 use crate::hinter::{FontHinter, hinter_at};
-use crate::open::{check_chars, check_text, open_at};
+use crate::open::{check_chars, check_text, open_at, rule_of};
 use crate::opened::Opened;
 use crate::surveyed::Survey;
 use crate::tools::Tools;
 use fx_bdf::{BitGlyph, Title};
 use fx_fixed::Sink;
+use fx_raster::{Rows, Scan};
 use fx_request::{Mode, Refusal, Report};
-use fx_rows::Rows;
-use fx_winding::Scan;
 use std::alloc::Global;
 use std::marker::Model;
 
@@ -37,7 +36,7 @@ impl<'a, S: Scan> Model for Striker<'a, S> {
 
     ghost Value = { Setting };
 
-    ghost view = { λ s. setting_with s.tools.opened s.tools.dropout s.hinter };
+    ghost view = { λ s. setting_with s.tools.opened s.tools.rule s.hinter };
 }
 
 impl<'a> Striker<'a, Rows> {
@@ -92,7 +91,7 @@ impl<'a, S: Scan> Striker<'a, S> {
             alloc,
             scan,
             opened,
-            dropout: mode.dropout,
+            rule: rule_of(mode.dropout),
         };
         Ok(Striker { tools, hinter })
     }
@@ -106,7 +105,7 @@ impl<'a, S: Scan> Striker<'a, S> {
                 alloc: self.tools.alloc,
                 scan,
                 opened: self.tools.opened,
-                dropout: self.tools.dropout,
+                rule: self.tools.rule,
             },
             hinter: self.hinter,
         }

@@ -13,8 +13,8 @@ use crate::tools::Tools;
 use fx_bdf::{BitGlyph, Title};
 use fx_cache::{CacheReader, OutlineCache};
 use fx_fixed::Sink;
+use fx_raster::Scan;
 use fx_request::{Refusal, Report, rising_codes};
-use fx_winding::Scan;
 
 impl<'a, S: Scan> Tools<'a, S> {
     /// The glyph of a code point; none if the font lacks it.
@@ -25,7 +25,7 @@ impl<'a, S: Scan> Tools<'a, S> {
         code: u32,
     ) -> Result<Option<BitGlyph>, Refusal>
         ensures kept { hinter.new ≡ hinter.old }
-        ensures one { Finds (one_with (setting_with self.now.opened self.now.dropout hinter.old) code) result }
+        ensures one { Finds (one_with (setting_with self.now.opened self.now.rule hinter.old) code) result }
     {
         let glyph = self.opened.map.glyph(code);
         if glyph == 0 {
@@ -49,7 +49,7 @@ impl<'a, S: Scan> Tools<'a, S> {
         requires title { IsChecked (titled title.now) }
         ensures kept { hinter.new ≡ hinter.old }
         ensures leaves { Leaves {Y = Unit {0}} (Ok tt)
-            (plan_with (setting_with self.now.opened self.now.dropout hinter.old) (titled title.now) chars.now)
+            (plan_with (setting_with self.now.opened self.now.rule hinter.old) (titled title.now) chars.now)
             (change_of W.held W.fault_count out.old out.new) result }
     {
         let codes = rising_codes(self.alloc, chars)?;

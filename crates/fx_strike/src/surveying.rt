@@ -7,8 +7,8 @@ ghost use Rattle.fx_strike.specs.Headline.{Surveyed, Late, opening_of, strike_of
 use crate::open::open;
 use crate::striker::Striker;
 use crate::surveyed::Survey;
+use fx_raster::Scan;
 use fx_request::{Refusal, Request};
-use fx_winding::Scan;
 use std::alloc::Global;
 
 /// Surveys the strike of a font: the numbers of its header, and what is counted over it, with a scan of the caller's choice.

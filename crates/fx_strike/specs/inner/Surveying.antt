@@ -2,7 +2,7 @@
 use Rattle.std.specs.Prelude.{◌≡◌, neg_ℤ, pos, ℕ, ◌+◌, ◌*◌, ◌^◌, ◌≤◌, nat_lt, false, List, [], length, map, Result, Ok, Err}
 use Rattle.std.specs.List.{sum_by, count_by, list_any}
 use Rattle.fx_fixed.specs.Numbers.{counted, near_of}
-use Rattle.fx_hint.specs.declared.glyph_outline.GlyphOutline.{GlyphOutline}
+use Rattle.fx_raster.specs.declared.region.Region.{Region}
 use Rattle.fx_bdf.specs.Glyphs.{Box, Glyph, IsPlaced, no_box, joined, bounds_of}
 use Rattle.fx_bdf.specs.declared.summary.Summary.{Summary}
 use Rattle.fx_bdf.specs.Properties.{AreProperties}
@@ -13,6 +13,7 @@ use Rattle.fx_machine.specs.declared.usage.Usage.{Usage}
 use Rattle.fx_machine.specs.Usages.{no_usage, usage_with}
 use Rattle.fx_strike.specs.declared.opened.Opened.{Opened}
 use Rattle.fx_strike.specs.declared.seen.Seen.{Seen}
+use Rattle.fx_strike.specs.declared.sketched.Sketched.{Sketched}
 use Rattle.fx_strike.specs.declared.surveyed.Survey.{Survey}
 use Rattle.fx_strike.specs.Faults.{Fails}
 use Rattle.fx_request.specs.Limits.{max_characters, max_code}
@@ -44,13 +45,17 @@ pub record IsEmpty (new : Seen) : Type 0 where
   pub usage : new.report.usage ≡ no_usage
 
 -- one character more: its code point, the box of the glyphs up to it, its advance, and what its programs used up
-pub record Adds (old new : Seen) (code : ℕ) (bounds : Box) (drawing : GlyphOutline) : Type 0 where
+pub record Adds (old new : Seen) (code : ℕ) (bounds : Box) (sketched : Sketched) : Type 0 where
   pub bounds_is : new.bounds ≡ bounds
-  pub gathered : new.gathered ≡ gathered_with old.gathered code (near_of drawing.advance (pos 64))
+  pub gathered : new.gathered ≡ gathered_with old.gathered code (near_of sketched.advance (pos 64))
   pub narrow : IsNarrow new
   pub glyphs : new.report.glyphs ≡ old.report.glyphs + 1
   pub missing : new.report.missing ≡ old.report.missing
-  pub usage : new.report.usage ≡ usage_with old.report.usage drawing.usage
+  pub usage : new.report.usage ≡ usage_with old.report.usage sketched.usage
+
+-- the pixels of a box
+abbrev pub region_of : Box → Region
+region_of box = record { left = box.left; bottom = box.bottom; width = box.width; height = box.height }
 
 -- the box of the glyph of a sketch is joined to a box; or memory ran out
 abbrev pub Joins : Sketch → Box → Result Box Refusal → Type 0

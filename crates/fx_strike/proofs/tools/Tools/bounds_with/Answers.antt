@@ -6,8 +6,8 @@ use Rattle.fx_strike.proofs.tools.Tools.bounds_with.Goals as goal
 
 pub returns-then-lies_in : goal.returns-then-lies_in
 returns-then-lies_in g c sketch is e =
-    skipped sketch c.args.sketched.now c.args.bounds c.requires.outside c.requires.framed
-    (c.lies_in.ensures.pixels c.if-lies_in.true) c.requires.placed is
+    skipped sketch c.args.sketched.now c.args.bounds (rw c.region_of.ensures at (c.lies_in.ensures c.if-lies_in.true))
+    c.requires.placed is
 
 pub returns-in_err-glyph : goal.returns-in_err-glyph
 returns-in_err-glyph g c sketch is e =

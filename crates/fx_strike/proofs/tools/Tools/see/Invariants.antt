@@ -11,5 +11,5 @@ invariant-codes g l = record {
   kept : l.hinter ≡ l.fn.hinter;
   map : l.map ≡ l.self.opened.map;
   cache : AreDue (due_in l.self.opened l.fn.hinter) l.cache;
-  held : Holds (setting_with l.self.opened l.self.dropout l.fn.hinter) (take l.code-index l.codes) l.seen;
+  held : Holds (setting_with l.self.opened l.self.rule l.fn.hinter) (take l.code-index l.codes) l.seen;
 }

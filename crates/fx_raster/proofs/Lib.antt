@@ -1,0 +1,9 @@
+pub mod Covering
+pub mod Near
+pub mod Bridged
+pub mod Kept
+pub mod Bitmaps
+pub mod Inside
+pub mod Shaping
+pub mod Existing
+pub mod Moved

@@ -1,0 +1,39 @@
+-- The shape of an outline, by the frame that was found.
+-- Serves `of` and `lies_in`.
+use Rattle.std.proofs.Common.{◌≡◌, refl, sym, ap, ℕ, List, map, Result, Ok, Err}
+use Rattle.fx_fixed.specs.Chain.{◌>>=◌}
+use Rattle.fx_fixed.proofs.Chain.{bind_ok}
+use Rattle.fx_winding.specs.Outside.{AreOfOutline}
+use Rattle.fx_outline.specs.declared.points.OutlinePoint.{OutlinePoint}
+use Rattle.fx_contour.specs.declared.fault.ContourFault.{ContourFault}
+use Rattle.fx_contour.specs.Curve.{curve_of}
+use Rattle.fx_contour.specs.Contours.{contours_from, drawn_of, spans_of}
+use Rattle.fx_contour.proofs.Closed.{all_closed}
+use Rattle.fx_contour.proofs.Drawn.{drawn_spans}
+use Rattle.fx_raster.specs.declared.rule.Rule.{Rule}
+use Rattle.fx_raster.specs.Rules.{framed_by, shape_of}
+use Rattle.fx_raster.specs.inner.Framing.{outline_framed_by}
+
+-- all checks passed: the shape is there
+pub shape_due : (rule : Rule) (ends : List ℕ) (points : List OutlinePoint) → Ok tt ≡ outline_framed_by rule ends points
+    → Ok (record { rule = rule; spans = spans_of ends points }) ≡ shape_of rule ends points
+unfolding shape_of
+shape_due rule ends points h =
+    let a = bind_ok (drawn_of ends points) (framed_by rule) tt (sym h) in
+    rw (a.1, a.2, (drawn_spans ends points a.0 a.1).1) refl
+
+-- what two checks refuse, a chain that goes on after them refuses
+refused : {A B C E : Type 0} (a : Result A E) (f : A → Result B E) (g : A → B → Result C E) (e : E)
+    → Err e ≡ (a >>= f) → Err e ≡ (a >>= λ x. f x >>= g x)
+refused (Ok x) f g e h = rw (sym h) refl
+refused (Err d) f g e h = let same : e ≡ d = cc in ap Err same
+
+-- a check refused the outline
+pub shape_refused : (rule : Rule) (ends : List ℕ) (points : List OutlinePoint) (e : ContourFault)
+    → Err e ≡ outline_framed_by rule ends points → Err e ≡ shape_of rule ends points
+unfolding shape_of
+shape_refused rule ends points e h = refused (drawn_of ends points) (framed_by rule) _ e h
+
+-- the contours of an outline are closed
+pub are_of_outline : (ends : List ℕ) (points : List OutlinePoint) → AreOfOutline (spans_of ends points)
+are_of_outline ends points = (map curve_of (contours_from 0 ends points), all_closed (contours_from 0 ends points), refl)

@@ -1,0 +1,100 @@
+//! The bits of an outline's pieces in their frame.
+ghost use Rattle.std.specs.Prelude.{◌≡◌, IsTrue, map, All, IfOk};
+ghost use Rattle.fx_winding.specs.Winding.{span_of};
+ghost use Rattle.fx_winding.specs.Bitmaps.{IsScanOf};
+ghost use Rattle.fx_winding.specs.Outside.{AreOfOutline};
+ghost use Rattle.fx_winding.specs.Frames.{HasMargin};
+ghost use Rattle.fx_winding.specs.Notes.{AreExact, IsNoted};
+ghost use Rattle.fx_contour.specs.Frames.{NothingOutsideFrame};
+ghost use Rattle.fx_raster.specs.inner.Framing.{HasBitsOf, IsBridgedScanOf, IsFramedBy};
+
+use crate::rule::Rule;
+use fx_dropout::close_gaps;
+use fx_winding::{Bitmap, Frame, Noted, Pieces, Scan, ScanFault, Tally};
+use std::alloc::{AllocError, Global};
+
+/// A bitmap without a pixel.
+fn empty_bitmap(alloc: Global) -> Result<Bitmap, AllocError>
+    ensures { IfOk result (λ b. b.frame.width ≡ 0) }
+{
+    let frame = Frame {
+        left: 0,
+        bottom: 0,
+        width: 0,
+        height: 0,
+    };
+    Bitmap::new(alloc, frame)
+}
+
+/// The bits of a frame.
+///
+/// It stays a function of its own: the loops of the scan need all registers.
+#[inline(never)]
+fn scanned<S: Scan>(
+    alloc: Global,
+    scan: &S,
+    pieces: &Pieces,
+    frame: Frame,
+) -> Result<Bitmap, AllocError>
+    ensures { IfOk result (IsScanOf frame (map span_of pieces.now)) }
+{
+    let mut tally = Tally::new();
+    match scan.scan(alloc, pieces, frame, &mut tally) {
+        Ok(bitmap) => Ok(bitmap),
+        Err(ScanFault::OutOfMemory) => Err(AllocError),
+    }
+}
+
+/// The bitmap of a scan with its gaps closed.
+fn closed(pieces: &Pieces, noted: Noted, tally: &mut Tally) -> Bitmap
+    requires margin { HasMargin noted.bitmap.frame }
+    requires scanned { IsScanOf noted.bitmap.frame (map span_of pieces.now) noted.bitmap }
+    requires frame { noted.notes.frame ≡ noted.bitmap.frame }
+    requires noted { All (λ s. IsNoted s noted.notes.frame noted.notes.across.items noted.notes.up.items) (map span_of pieces.now) }
+    requires exact { IsTrue noted.notes.exact → AreExact noted.notes.frame noted.notes.across.items (map span_of pieces.now) }
+    ensures { IsBridgedScanOf noted.bitmap.frame (map span_of pieces.now) result }
+{
+    let mut bitmap = noted.bitmap;
+    close_gaps(pieces, &noted.notes, &mut bitmap, tally);
+    bitmap
+}
+
+/// The bits of a frame with drop-out control: those of a scan, and those that close gaps.
+#[inline(never)]
+fn bridged<S: Scan>(
+    alloc: Global,
+    scan: &S,
+    pieces: &Pieces,
+    frame: Frame,
+) -> Result<Bitmap, AllocError>
+    requires { HasMargin frame }
+    ensures { IfOk result (IsBridgedScanOf frame (map span_of pieces.now)) }
+{
+    let mut tally = Tally::new();
+    match scan.scan_noted(alloc, pieces, frame, &mut tally) {
+        Ok(noted) => Ok(closed(pieces, noted, &mut tally)),
+        Err(ScanFault::OutOfMemory) => Err(AllocError),
+    }
+}
+
+/// The bits of closed contours in their frame, by a rule; none if there is no frame.
+pub(crate) fn bitmap_of<S: Scan>(
+    alloc: Global,
+    scan: &S,
+    pieces: &Pieces,
+    rule: Rule,
+    frame: Option<Frame>,
+) -> Result<Bitmap, AllocError>
+    requires closed { AreOfOutline (map span_of pieces.now) }
+    requires outside { NothingOutsideFrame frame (map span_of pieces.now) }
+    requires framed { IsFramedBy rule frame (map span_of pieces.now) }
+    ensures { IfOk result (HasBitsOf rule (map span_of pieces.now)) }
+{
+    let Some(frame) = frame else {
+        return empty_bitmap(alloc);
+    };
+    match rule {
+        Rule::Centres => scanned(alloc, scan, pieces, frame),
+        Rule::Bridged => bridged(alloc, scan, pieces, frame),
+    }
+}

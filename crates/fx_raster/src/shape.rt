@@ -1,0 +1,84 @@
+//! An outline within the limits, and the pixels that it sets.
+ghost use Rattle.std.specs.Prelude.{◌≡◌, ◌↔◌, IsTrue, ℤ, All, IfOk};
+ghost use Rattle.fx_fixed.specs.Chain.{map_ok};
+ghost use Rattle.fx_winding.specs.Bitmaps.{bit_of};
+ghost use Rattle.fx_contour.specs.Contours.{IsInReach, spans_of};
+ghost use Rattle.fx_contour.specs.Frames.{NothingOutsideFrame};
+ghost use Rattle.fx_raster.specs.Rules.{IsInRegion, IsPixelSet, shape_of};
+ghost use Rattle.fx_raster.specs.inner.Framing.{IsFramedBy, outline_framed_by};
+
+use crate::bits::bitmap_of;
+use crate::region::Region;
+use crate::rule::Rule;
+use crate::within::lies_in;
+use fx_contour::{ContourFault, dropout_frame, outline_frame, pieces_in_reach};
+use fx_outline::Outline;
+use fx_winding::{Bitmap, Frame, Scan};
+use std::alloc::{AllocError, Global};
+use std::marker::Model;
+
+/// An outline within the limits, with the rule by which it sets pixels. Contracts see the rule and the pieces of the outline.
+#[derive(Drop)]
+pub struct Shape {
+    outline: Outline,
+    rule: Rule,
+    /// The frame that holds every pixel that can be set. There is none if no pixel's centre lies in the box of the outline's
+    /// points; with drop-out control only if the outline has no piece.
+    frame: Option<Frame>,
+}
+
+impl Model for Shape {
+    ghost use Rattle.fx_contour.specs.Contours.{spans_of};
+    ghost use Rattle.fx_raster.specs.Rules.{ShapeView};
+    ghost use Rattle.fx_raster.specs.inner.Framing.{IsShape};
+
+    ghost Value = { ShapeView };
+
+    ghost view = { λ s. record { rule = s.rule; spans = spans_of s.outline.ends.items s.outline.points.items } };
+
+    ghost invariant = { λ s. IsShape s.rule s.frame s.outline.ends.items s.outline.points.items };
+}
+
+/// The frame of an outline by a rule.
+fn framed(outline: &Outline, rule: Rule) -> Result<Option<Frame>, ContourFault>
+    ensures exact { map_ok (λ _. tt) result ≡ outline_framed_by rule outline.now.ends.items outline.now.points.items }
+    ensures frame { IfOk result (λ f. IsFramedBy rule f (spans_of outline.now.ends.items outline.now.points.items)) }
+    ensures outside { IfOk result (λ f. NothingOutsideFrame f (spans_of outline.now.ends.items outline.now.points.items)) }
+    ensures reach { IfOk result (λ _. All IsInReach outline.now.points.items) }
+{
+    match rule {
+        Rule::Centres => outline_frame(outline),
+        Rule::Bridged => dropout_frame(outline),
+    }
+}
+
+impl Shape {
+    /// The shape of an outline by a rule. `TooFar` if a point of the outline lies too far out, `TooLarge` if its frame has too many
+    /// pixels a side. It takes no memory.
+    pub fn of(outline: Outline, rule: Rule) -> Result<Shape, ContourFault>
+        ensures { result ≡ shape_of rule outline.ends.items outline.points.items }
+    {
+        let frame = framed(&outline, rule)?;
+        Ok(Shape {
+            outline,
+            rule,
+            frame,
+        })
+    }
+
+    /// Whether the shape's frame lies in a region; if so, each pixel that is set does. It takes no memory and makes no bits.
+    pub fn lies_in(&self, region: Region) -> bool
+        ensures { IsTrue result → (col row : ℤ) → IsPixelSet self.now.rule self.now.spans col row → IsInRegion region col row }
+    {
+        lies_in(self.frame, region)
+    }
+
+    /// The bits of all pixels, by a scan of the caller's choice: a bit is set exactly if the rule sets the pixel.
+    pub fn bitmap<S: Scan>(&self, alloc: Global, scan: &S) -> Result<Bitmap, AllocError>
+        ensures { IfOk result (λ b.
+            (col row : ℤ) → IsTrue (bit_of b col row) ↔ IsPixelSet self.now.rule self.now.spans col row) }
+    {
+        let pieces = pieces_in_reach(alloc, &self.outline)?;
+        bitmap_of(alloc, scan, &pieces, self.rule, self.frame)
+    }
+}
