@@ -45,6 +45,14 @@ fn refusals_show_number_name_and_fields(rt: HostRuntime) -> Result<(), Fail> {
             ),
             "40 NestedDefinition during glyph 65535 in glyph 65535 at 18446744073709551615 opcode FF",
         ),
+        (
+            halted(Cause::StackUnder, FontProgram::Prep, 0, 0x07),
+            "30 StackUnder during glyph 65535 in prep at 0 opcode 07",
+        ),
+        (
+            halted(Cause::CodeEnd, FontProgram::Glyph(0), 9, 0),
+            "33 CodeEnd during glyph 65535 in glyph 0 at 9 opcode 00",
+        ),
         (Refusal::TooFar(8), "51 TooFar 8"),
         (Refusal::GlyphTooLarge(9), "52 GlyphTooLarge 9"),
         (Refusal::BadSize, "60 BadSize"),
