@@ -10,11 +10,13 @@ use Rattle.fx_winding.specs.Bitmaps.{Bits, AreRowWords, words_for, bit_of, bits_
 use Rattle.fx_winding.specs.Dropout.{IsGap, turned_span}
 use Rattle.fx_winding.specs.Frames.{IsFrom, steps, IsInFrame}
 use Rattle.fx_winding.specs.Meets.{IsMet}
-use Rattle.fx_winding.specs.Notes.{pixel_number, AreExact, IsNoted}
+use Rattle.fx_winding.specs.Notes.{pixel_number, AreExact, IsMetUp, IsNoted}
 use Rattle.fx_winding.specs.Winding.{Span, centre, IsOn, IsCovered}
 use Rattle.fx_winding.proofs.Covers.{any_unmap}
+use Rattle.std.proofs.Math.ListN.{get_or-map}
+use Rattle.std.proofs.lemmas.List.{length-map}
 use Rattle.fx_dropout.specs.inner.Lines.{IsSoFar, IsBridgedTo, IsOneOf, IsRowNoted, IsLevelNoted, AreClosed, IsLevelClosed}
-use Rattle.fx_dropout.specs.inner.Lines.{AreRowsClosed, IsRowExact}
+use Rattle.fx_dropout.specs.inner.Lines.{AreRowsClosed, IsRowExact, IsLevelTrusted}
 use Rattle.fx_dropout.specs.inner.Words.{IsShutAcross, IsShutUp, IsShutInRow, IsShutInColumn}
 use Rattle.fx_dropout.proofs.Levels.{level_kept, level_skip, levels_skip}
 use Rattle.fx_dropout.proofs.Rows.{closed_skip, rows_skip}
@@ -101,12 +103,12 @@ row_noted ss f across up part Old r from j all covered l ej e p k m g =
     ∙ (across_noted ss f across up Old r k ((f.left -ℤ pos 1) +ℤ pos k) j all covered l m (λ t. (f.left -ℤ pos 1) +ℤ pos k) ej g)
 
 -- notes that are exact: where no piece covers the ends of a segment that has its bit, one meets it
-pub row_exact : (ss : List Span) (f : Frame) (across part : List ℕ) (Old : ℤ → ℤ → Type 0) (r from : ℕ) (j : ℤ)
-    → AreExact f across ss → ((i : ℤ) → IsCovered (centre i j) ss → Old i j) → r < f.height → j ≡ f.bottom +ℤ pos r
+pub row_exact : (ss : List Span) (f : Frame) (across up part : List ℕ) (Old : ℤ → ℤ → Type 0) (r from : ℕ) (j : ℤ)
+    → AreExact f across up ss → ((i : ℤ) → IsCovered (centre i j) ss → Old i j) → r < f.height → j ≡ f.bottom +ℤ pos r
     → from ≡ r * words_for f.width → part ≡ take (words_for f.width + 1) (drop from across) → IsRowExact ss f j Old part
-row_exact ss f across part Old r from j exact covered l ej e p k o m set bare bare' =
+row_exact ss f across up part Old r from j exact covered l ej e p k o m set bare bare' =
     let number = part_number across part f r (words_for f.width + 1) k from e (omega (arith, words_wide f.width, m)) p in
-    let any = exact r k l o m (sym number ∙ set) in
+    let any = exact.across r k l o m (sym number ∙ set) in
     let right : f.left +ℤ pos k ≡ ((f.left -ℤ pos 1) +ℤ pos k) +ℤ pos 1 = omega (arith, signed_linear) in
     let low : centre ((f.left -ℤ pos 1) +ℤ pos k) (f.bottom +ℤ pos r) ≡ centre ((f.left -ℤ pos 1) +ℤ pos k) j =
     λ z. centre ((f.left -ℤ pos 1) +ℤ pos k) (sym ej z) in
@@ -129,6 +131,43 @@ pub exact_on : (ss : List Span) (f : Frame) (j : ℤ) (Old New : ℤ → ℤ →
 exact_on ss f j Old New noted grows exact k o m set bare bare' =
     exact k o m set (λ h. bare (grows ((f.left -ℤ pos 1) +ℤ pos k) h))
     (λ h. bare' (grows (((f.left -ℤ pos 1) +ℤ pos k) +ℤ pos 1) h))
+
+-- the same between two rows
+pub level_exact : (ss : List Span) (f : Frame) (across up part : List ℕ) (Old : ℤ → ℤ → Type 0) (r from : ℕ) (i at : ℤ)
+    → AreExact f across up ss → ((i j : ℤ) → IsCovered (centre j i) ss → Old i j) → 0 < r → r < f.height
+    → i ≡ (f.bottom -ℤ pos 1) +ℤ pos r → at ≡ i → from ≡ r * words_for f.width
+    → part ≡ take (words_for f.width) (drop from up) → IsLevelTrusted (map turned_span ss) f i at Old part
+level_exact ss f across up part Old r from i at exact covered o l ei closer e p = record {
+  closer = closer;
+  next = (omega (arith, signed_linear, ei, o), omega (arith, signed_linear, ei, l));
+  met = met;
+}
+  where
+    upper : i +ℤ pos 1 ≡ f.bottom +ℤ pos r
+    upper = omega (arith, signed_linear, ei)
+
+    met : (k : ℕ) → k < f.width → word_bit part k ≡ 1 → ¬ (Old i (f.left +ℤ pos k)) → ¬ (Old (i +ℤ pos 1) (f.left +ℤ pos k))
+        → Any (IsMet (centre i (f.left +ℤ pos k)) (centre (i +ℤ pos 1) (f.left +ℤ pos k))) (map turned_span ss)
+    met k m set bare bare' = by (exact.up r k o l m (sym number ∙ set))
+      where
+        number : word_bit part k ≡ word_bit up (pixel_number f r k)
+        number = part_number up part f r (words_for f.width) k from e (omega (arith, words_wide f.width, m)) p
+
+        by : Any (λ s. ¬ (IsOn (centre (f.left +ℤ pos k) ((f.bottom -ℤ pos 1) +ℤ pos r)) s)
+            → ¬ (IsOn (centre (f.left +ℤ pos k) (f.bottom +ℤ pos r)) s) → IsMetUp s f r k) ss
+            → Any (IsMet (centre i (f.left +ℤ pos k)) (centre (i +ℤ pos 1) (f.left +ℤ pos k))) (map turned_span ss)
+        by (n, s, within, is, h) = (
+          n,
+          turned_span s,
+          omega (arith, within, length-map ss turned_span),
+          get_or-map turned_span ss n s ∙ ap turned_span is,
+          subst (λ z. z) (λ t. IsMet (centre (sym ei t) (f.left +ℤ pos k)) (centre (sym upper t) (f.left +ℤ pos k)) (turned_span s))
+              (h (subst (λ (y : ℤ). ¬ (IsOn (centre (f.left +ℤ pos k) y) s)) ei
+              (off ss (centre (f.left +ℤ pos k) i) n s within is (λ c. bare (covered i (f.left +ℤ pos k) c))))
+              (subst (λ (y : ℤ). ¬ (IsOn (centre (f.left +ℤ pos k) y) s)) upper
+              (off ss (centre (f.left +ℤ pos k) (i +ℤ pos 1)) n s within is
+              (λ c. bare' (covered (i +ℤ pos 1) (f.left +ℤ pos k) c))))).met,
+        )
 
 pub level_noted : (ss : List Span) (f : Frame) (across up part : List ℕ) (Old : ℤ → ℤ → Type 0) (r from : ℕ) (i : ℤ)
     → All (λ s. IsNoted s f across up) ss → ((i j : ℤ) → IsCovered (centre j i) ss → Old i j) → r ≤ f.height

@@ -12,70 +12,11 @@ ghost use Rattle.fx_dropout.specs.inner.Lines.{IsSoFar, IsRowClosed, IsRowExact,
 ghost use Rattle.fx_dropout.specs.inner.Turned.{seen_bit};
 ghost use Rattle.fx_dropout.specs.inner.Words.{IsShutInRow};
 
-use crate::close::{close_gap, closer, is_empty};
+use crate::close::{closer, is_empty};
 use crate::next::next_segment;
 use crate::open::{InRow, InRows};
-use crate::turned::{is_set, set};
-use fx_winding::{Bitmap, Frame, Notes, Pieces, Tally, is_set as is_noted, words_for};
-
-/// Whether a noted segment within the frame has two pixels that are not set.
-fn is_shown(noted: &[u32], bitmap: &Bitmap, k: usize, i: i32, j: i32) -> bool
-    requires word { k / 32 < length noted.now }
-    requires here { IsPixelNumber i }
-    requires next { IsPixelNumber (i +ℤ pos 1) }
-    ensures noted { IsTrue result → word_bit noted.now k ≡ 1 }
-    ensures left { IsTrue result → seen_bit false bitmap.now i j ≡ false }
-    ensures right { IsTrue result → seen_bit false bitmap.now (i +ℤ pos 1) j ≡ false }
-{
-    if is_set(false, bitmap, i, j) {
-        return false;
-    }
-    if is_set(false, bitmap, i + 1, j) {
-        return false;
-    }
-    is_noted(noted, k)
-}
-
-/// Closes the gap from the pixel `i` to its right neighbour, if there is one. With exact notes a noted segment within the frame is
-/// met, and no piece is tested.
-fn close_segment(
-    exact: bool,
-    pieces: &Pieces,
-    noted: &[u32],
-    bitmap: &mut Bitmap,
-    k: usize,
-    i: i32,
-    j: i32,
-    at: i32,
-    tally: &mut Tally,
-)
-    requires word { k / 32 < length noted.now }
-    requires here { IsPixelNumber i }
-    requires next { IsPixelNumber (i +ℤ pos 1) }
-    requires row { IsPixelNumber j }
-    requires inside { IsInFrame bitmap.old.frame at j }
-    requires column { i ≡ (bitmap.old.frame.left -ℤ pos 1) +ℤ pos k }
-    requires closer { 0 < k → at ≡ i }
-    requires exact { IsTrue exact → IsRowExact (map span_of pieces.now) bitmap.old.frame j
-        (IsSoFar false (map span_of pieces.now) bitmap.old.frame bitmap.old) noted.now }
-    ensures frame { bitmap.new.frame ≡ bitmap.old.frame }
-    ensures here { IsSoFar false (map span_of pieces.now) bitmap.old.frame bitmap.new at j ↔
-        (IsSoFar false (map span_of pieces.now) bitmap.old.frame bitmap.old at j ⊎
-        IsGap (map span_of pieces.now) (IsSoFar false (map span_of pieces.now) bitmap.old.frame bitmap.old) i j) }
-    ensures others { (m n : ℤ) → (m ≢ at) ⊎ (n ≢ j) →
-        IsSoFar false (map span_of pieces.now) bitmap.old.frame bitmap.new m n ↔
-        IsSoFar false (map span_of pieces.now) bitmap.old.frame bitmap.old m n }
-    ensures count { tally.new.count ≤ tally.old.count + most_tests (length pieces.now) }
-{
-    let width = bitmap.frame().width as usize;
-    if exact && k > 0 && k < width {
-        if is_shown(noted, bitmap, k, i, j) {
-            set(false, bitmap, at, j);
-            return;
-        }
-    }
-    close_gap(false, pieces, bitmap, i, j, at, tally);
-}
+use crate::trusted::{close_noted, is_trusted};
+use fx_winding::{Bitmap, Frame, Notes, Pieces, Tally, words_for};
 
 /// Closes the gaps of a row of the frame, from left to right: each by its left pixel, and the one before the first pixel by that.
 fn close_row(
@@ -111,8 +52,9 @@ fn close_row(
     // The gaps among the first k segments are closed.
     'segments: while k <= frame.width as usize {
         let i = frame.left - 1 + k as i32;
-        close_segment(
-            exact,
+        close_noted(
+            false,
+            is_trusted(exact, k, frame.width as usize),
             pieces,
             noted,
             bitmap,
@@ -170,7 +112,8 @@ fn next_row(across: &[u32], bitmap: &Bitmap, from: u32) -> u32
 
 /// Closes the gaps of all rows of the frame. No piece is tested for a segment within the frame if the notes are exact.
 pub fn close_rows(pieces: &Pieces, notes: &Notes, bitmap: &mut Bitmap, tally: &mut Tally)
-    requires exact { IsTrue notes.now.exact → AreExact notes.now.frame notes.now.across.items (map span_of pieces.now) }
+    requires exact { IsTrue notes.now.exact → AreExact notes.now.frame notes.now.across.items notes.now.up.items
+        (map span_of pieces.now) }
     requires margin { HasMargin bitmap.old.frame }
     requires frame { notes.now.frame ≡ bitmap.old.frame }
     requires noted { All (λ s. IsNoted s notes.now.frame notes.now.across.items notes.now.up.items) (map span_of pieces.now) }

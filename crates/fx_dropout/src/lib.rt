@@ -12,6 +12,7 @@ mod gaps;
 mod next;
 mod noted;
 mod open;
+mod trusted;
 mod turned;
 mod up;
 

@@ -22,7 +22,8 @@ pub fn close_gaps(pieces: &Pieces, notes: &Notes, bitmap: &mut Bitmap, tally: &m
     requires scanned { IsScanOf bitmap.old.frame (map span_of pieces.now) bitmap.old }
     requires frame { notes.now.frame ≡ bitmap.old.frame }
     requires noted { All (λ s. IsNoted s notes.now.frame notes.now.across.items notes.now.up.items) (map span_of pieces.now) }
-    requires exact { IsTrue notes.now.exact → AreExact notes.now.frame notes.now.across.items (map span_of pieces.now) }
+    requires exact { IsTrue notes.now.exact → AreExact notes.now.frame notes.now.across.items notes.now.up.items
+        (map span_of pieces.now) }
     ensures frame { bitmap.new.frame ≡ bitmap.old.frame }
     ensures bits { (col row : ℤ) → IsInFrame bitmap.old.frame col row →
         IsTrue (bit_of bitmap.new col row) ↔ IsSet (map span_of pieces.now) bitmap.old.frame col row }

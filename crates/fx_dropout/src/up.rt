@@ -1,19 +1,20 @@
 //! The gaps of columns closed, in place, one pair of rows after the other. Only pairs are looked at between which a segment is
 //! noted whose pixels are not set.
 
-ghost use Rattle.std.specs.Prelude.{◌≡◌, ◌⊎◌, ◌↔◌, ℕ, ◌+◌, ◌*◌, ◌<◌, ◌≤◌, ℤ, pos, ◌+ℤ◌, ◌-ℤ◌, length, map, All, true};
+ghost use Rattle.std.specs.Prelude.{◌≡◌, IsTrue, ◌⊎◌, ◌↔◌, ℕ, ◌+◌, ◌*◌, ◌<◌, ◌≤◌, ℤ, pos, ◌+ℤ◌, ◌-ℤ◌, length, map, All, true};
 ghost use Rattle.fx_winding.specs.Bitmaps.{words_for as words_for_of};
 ghost use Rattle.fx_winding.specs.Dropout.{IsBridged, turned_span};
 ghost use Rattle.fx_winding.specs.Frames.{IsFrom, IsInFrame, HasMargin};
-ghost use Rattle.fx_winding.specs.Notes.{IsNoted};
+ghost use Rattle.fx_winding.specs.Notes.{AreExact, IsNoted};
 ghost use Rattle.fx_winding.specs.Winding.{span_of, centre, IsCovered};
 ghost use Rattle.fx_dropout.specs.Tests.{most_tests};
-ghost use Rattle.fx_dropout.specs.inner.Lines.{IsSoFar, IsOneOf, IsLevelClosed, IsLevelNoted};
+ghost use Rattle.fx_dropout.specs.inner.Lines.{IsSoFar, IsOneOf, IsLevelClosed, IsLevelNoted, IsLevelTrusted};
 ghost use Rattle.fx_dropout.specs.inner.Words.{IsShutInColumn};
 
-use crate::close::{close_gap, closer, is_empty};
+use crate::close::{closer, is_empty};
 use crate::next::next_segment;
 use crate::open::Between;
+use crate::trusted::{close_noted, is_trusted};
 use fx_winding::{Bitmap, Frame, Notes, Pieces, Tally, words_for};
 
 /// The row above another, or that itself if it is the last of the frame.
@@ -28,8 +29,9 @@ fn row_above(frame: Frame, i: i32) -> i32
 }
 
 /// Closes the gaps between a row and the one above it: each by the pixel in the row `at`. Of two rows one of which lies outside the
-/// frame, the other stands for both.
+/// frame, the other stands for both. If the level is trusted, no piece is tested.
 fn close_level(
+    trusted: bool,
     pieces: &Pieces,
     noted: &[u32],
     frame: Frame,
@@ -45,6 +47,8 @@ fn close_level(
     requires either { IsOneOf i at }
     requires room { length noted.now ≡ words_for_of frame.width }
     requires noted { IsLevelNoted (map turned_span (map span_of pieces.now)) frame i
+        (IsSoFar true (map span_of pieces.now) frame bitmap.old) noted.now }
+    requires trusted { IsTrue trusted → IsLevelTrusted (map turned_span (map span_of pieces.now)) frame i at
         (IsSoFar true (map span_of pieces.now) frame bitmap.old) noted.now }
     ensures frame { bitmap.new.frame ≡ frame }
     ensures closed { IsLevelClosed (map turned_span (map span_of pieces.now)) frame.left frame.width i at
@@ -62,7 +66,18 @@ fn close_level(
     );
     // The gaps in the columns before k are closed, and the later columns are as they were.
     'columns: while k < frame.width as usize {
-        close_gap(true, pieces, bitmap, i, frame.left + k as i32, at, tally);
+        close_noted(
+            true,
+            trusted,
+            pieces,
+            noted,
+            bitmap,
+            k,
+            i,
+            frame.left + k as i32,
+            at,
+            tally,
+        );
         k = next_segment(
             &Between {
                 noted,
@@ -101,8 +116,11 @@ fn next_level(notes: &[u32], bitmap: &Bitmap, from: u32) -> u32
     from + (next_segment(&levels, 0) / 32 / words) as u32
 }
 
-/// Closes the gaps of all columns of the frame: each by its lower pixel, and those below the lowest row by the pixels of that.
+/// Closes the gaps of all columns of the frame: each by its lower pixel, and those below the lowest row by the pixels of that. No
+/// piece is tested for a segment within the frame if the notes are exact.
 pub fn close_columns(pieces: &Pieces, notes: &Notes, bitmap: &mut Bitmap, tally: &mut Tally)
+    requires exact { IsTrue notes.now.exact → AreExact notes.now.frame notes.now.across.items notes.now.up.items
+        (map span_of pieces.now) }
     requires margin { HasMargin bitmap.old.frame }
     requires frame { notes.now.frame ≡ bitmap.old.frame }
     requires noted { All (λ s. IsNoted s notes.now.frame notes.now.across.items notes.now.up.items) (map span_of pieces.now) }
@@ -127,6 +145,7 @@ pub fn close_columns(pieces: &Pieces, notes: &Notes, bitmap: &mut Bitmap, tally:
         let noted = &notes.up[first..first + words];
         let i = frame.bottom - 1 + up as i32;
         close_level(
+            is_trusted(notes.exact, up as usize, frame.height as usize),
             pieces,
             noted,
             frame,

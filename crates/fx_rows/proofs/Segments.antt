@@ -1,6 +1,6 @@
 -- The segments of a band's rows as those of the whole frame.
 -- Serves `note` and `note_band`.
-use Rattle.std.proofs.Common.{◌≡◌, ◌⊎◌, inl, inr, refl, ◌∙◌, sym, ap, subst, ℕ, ◌+◌, ◌-◌, ◌*◌, ◌/◌, ◌<◌, ◌≤◌, ℤ, pos, ◌+ℤ◌, ◌-ℤ◌, List, arith}
+use Rattle.std.proofs.Common.{◌≡◌, ◌⊎◌, inl, inr, refl, ◌∙◌, sym, ap, subst, ℕ, ◌+◌, ◌-◌, ◌*◌, ◌/◌, ◌<◌, ◌≤◌, ℤ, pos, ◌+ℤ◌, ◌-ℤ◌, List, IsTrue, arith}
 use Rattle.fx_fixed.proofs.Order.{below_same_above}
 use Rattle.fx_rows.proofs.Kept.{only_more}
 use Rattle.std.proofs.Math.Nat.{mul-le-mul_right}
@@ -11,10 +11,14 @@ use Rattle.fx_winding.specs.Dropout.{turned_span}
 use Rattle.fx_winding.specs.Meets.{IsMet}
 use Rattle.fx_winding.specs.Notes.{pixel_number, IsMetAcross, IsMetUp, IsNotedAcross, IsNotedUp, IsNoted}
 use Rattle.fx_winding.specs.Winding.{Span, IsOn, centre}
-use Rattle.fx_rows.specs.inner.Lines.{AreOnly, IsLineBit, IsRowSet, IsRowsBit}
-use Rattle.fx_rows.specs.inner.Segments.{segment_number, first_number, AreSetAcross, AreSetUp, IsBandBit}
-use Rattle.fx_rows.specs.inner.Telling.{IsPartOf, Way, across_row, up_to_row, IsNotedBy, IsAmong, IsMetByOne, AreMetBySome}
+use Rattle.fx_rows.specs.declared.placed.Placed.{Placed}
+use Rattle.fx_rows.specs.inner.Lines.{left_at, right_at, AreOnly, IsLineBit, IsMetTo, IsRowSet, IsRowsBit}
+use Rattle.fx_rows.specs.inner.Segments.{segment_number, first_number, AreSetAcross, AreSetUp, IsBandBit, IsUpBit}
+use Rattle.fx_rows.specs.inner.Telling.{IsPartOf, Way, across_row, up_to_row, IsNotedBy, IsAmong, IsMetByOne, IsMetUpByOne, AreMetAcross, AreMetUp}
 use Rattle.fx_rows.specs.inner.Told.{AreKept}
+use Rattle.fx_rows.specs.inner.Upward.{IsEdge}
+use Rattle.fx_rows.specs.inner.Lines.{IsMetUnlessOn}
+use Rattle.fx_rows.proofs.Turned.{on_turned}
 
 -- ---- what stays noted
 pub up_kept : (s : Span) (f : Frame) (below r : ℕ) (a b : List ℕ) → AreSetUp s f below a r → AreKept a b → AreSetUp s f below b r
@@ -112,14 +116,19 @@ room_up f g from to below n part e all =
     omega (arith, m, same, e, all)
 
 -- ---- all rows of the band, and the number after the highest
-pub up_whole : (s : Span) (f g : Frame) (from to below : ℕ) (up : List ℕ) → IsPartOf f from to g
-    → below ≡ from * words_for f.width → ((r : ℕ) → r ≤ g.height → AreSetUp s g below up r)
-    → (r : ℕ) → from ≤ r → r ≤ to → IsNotedUp s f up r
-up_whole s f g from to below up part e h r l m =
+pub up_rows : (s : Span) (f g : Frame) (from to below : ℕ) (up : List ℕ) → IsPartOf f from to g
+    → below ≡ from * words_for f.width → ((r : ℕ) → r < g.height → AreSetUp s g below up r)
+    → (r : ℕ) → from ≤ r → r < to → IsNotedUp s f up r
+up_rows s f g from to below up part e h r l m =
     let high = part.height in
     let same : from + (r - from) ≡ r = omega (arith, l) in
     subst (IsNotedUp s f up) same
     (up_at s f g from to below (r - from) up part e (h (r - from) (omega (arith, high, l, m))))
+
+pub up_top : (s : Span) (f g : Frame) (from to below : ℕ) (up : List ℕ) → IsPartOf f from to g
+    → below ≡ from * words_for f.width → AreSetUp s g below up g.height → IsNotedUp s f up to
+up_top s f g from to below up part e h =
+    subst (IsNotedUp s f up) part.height (up_at s f g from to below g.height up part e h)
 
 -- ---- the segments across a band's rows, with their numbers among those of the whole frame
 pub set_across : (s : Span) (f : Frame) (below r : ℕ) (bits : List ℕ)
@@ -171,10 +180,10 @@ met_moved s x x' y y' k k' ex ey ek h = subst (λ z. z)
     (λ i. ¬ (IsOn (centre ((ex i -ℤ pos 1) +ℤ pos (ek i)) (ey i)) s) → ¬ (IsOn (centre (ex i +ℤ pos (ek i)) (ey i)) s)
     → IsMet (centre ((ex i -ℤ pos 1) +ℤ pos (ek i)) (ey i)) (centre (ex i +ℤ pos (ek i)) (ey i)) s) h
 
-pub some_more : (s : Span) (ss : List Span) (f g : Frame) (from to below : ℕ) (a b : List ℕ) → IsPartOf f from to g
-    → below ≡ from * words_for f.width → IsAmong s ss → AreOnly (IsBandBit s g below) a b → AreMetBySome f a ss
-    → AreMetBySome f b ss
-some_more s ss f g from to below a b part e among only old r k h o l set = by (only (pixel_number f r k) set)
+pub some_across : (s : Span) (ss : List Span) (f g : Frame) (from to below : ℕ) (a b : List ℕ) → IsPartOf f from to g
+    → below ≡ from * words_for f.width → IsAmong s ss → AreOnly (IsBandBit s g below) a b → AreMetAcross f a ss
+    → AreMetAcross f b ss
+some_across s ss f g from to below a b part e among only old r k h o l set = by (only (pixel_number f r k) set)
   where
     by : (word_bit a (pixel_number f r k) ≡ 1) ⊎ IsBandBit s g below (pixel_number f r k) → IsMetByOne ss f r k
     by (inl was) = old r k h o l was
@@ -198,10 +207,10 @@ some_more s ss f g from to below a b part e among only old r k h o l set = by (o
         }
 
 -- the same of all rows of a frame
-pub some_more_rows : (s : Span) (ss : List Span) (f : Frame) (a b : List ℕ) → IsAmong s ss
-    → AreOnly (IsRowsBit s f (32 * words_for f.width) 1) a b → AreMetBySome f a ss → AreMetBySome f b ss
-some_more_rows s ss f a b among only =
-    some_more s ss f f 0 f.height 0 a b
+pub some_rows : (s : Span) (ss : List Span) (f : Frame) (a b : List ℕ) → IsAmong s ss
+    → AreOnly (IsRowsBit s f (32 * words_for f.width) 1) a b → AreMetAcross f a ss → AreMetAcross f b ss
+some_rows s ss f a b among only =
+    some_across s ss f f 0 f.height 0 a b
     (record { left = refl; bottom = omega (arith, signed_linear); width = refl; height = omega arith; within = omega arith }) (omega arith) among
     (only_more (IsRowsBit s f (32 * words_for f.width) 1) (IsBandBit s f 0) a b (λ n h. record {
       r = h.r;
@@ -211,3 +220,113 @@ some_more_rows s ss f a b among only =
   where
     number : (r : ℕ) → r * (32 * words_for f.width) ≡ first_number f 0 r
     number r = omega arith
+
+-- ---- the same of the segments up to rows
+same_cell : (w r q k j : ℕ) → k < w → j < w → r * w + k ≡ q * w + j → (r ≡ q) × (k ≡ j)
+same_cell w r q k j l m e = by (below_same_above r q)
+  where
+    by : (r < q) ⊎ ((r ≡ q) ⊎ (q < r)) → (r ≡ q) × (k ≡ j)
+    by (inl a) =
+        let n : (r + 1) * w ≤ q * w = mul-le-mul_right w (omega (arith, a)) in
+        let next : (r + 1) * w ≡ r * w + w = omega arith in
+        absurd (omega (arith, n, next, e, l))
+    by (inr (inl a)) = let same = ap (λ (x : ℕ). x * w) a in (a, omega (arith, same, e))
+    by (inr (inr a)) =
+        let n : (q + 1) * w ≤ r * w = mul-le-mul_right w (omega (arith, a)) in
+        let next : (q + 1) * w ≡ q * w + w = omega arith in
+        absurd (omega (arith, n, next, e, m))
+
+-- a segment by other names of its place
+up_moved : (s : Span) (f g : Frame) (r r' k k' : ℕ) → g.left ≡ f.left → g.bottom +ℤ pos r' ≡ f.bottom +ℤ pos r
+    → (g.bottom -ℤ pos 1) +ℤ pos r' ≡ (f.bottom -ℤ pos 1) +ℤ pos r → k' ≡ k → IsMetUnlessOn s g r' k' → IsMetUnlessOn s f r k
+up_moved s f g r r' k k' left row under same h off off' =
+    let m = h (subst (λ z. z) (λ i. ¬ (IsOn (centre (sym left i +ℤ pos (sym same i)) (sym under i)) s)) off)
+    (subst (λ z. z) (λ i. ¬ (IsOn (centre (sym left i +ℤ pos (sym same i)) (sym row i)) s)) off') in
+    record {
+      met = subst (λ z. z) (λ i. IsMet (centre (under i) (left i +ℤ pos (same i))) (centre (row i) (left i +ℤ pos (same i)))
+          (turned_span s)) m.met;
+      off_lower = off;
+      off_upper = off';
+    }
+
+pub some_up : (s : Span) (ss : List Span) (f : Frame) (p : Placed) (from to : ℕ) (a b : List ℕ) → IsPartOf f from to p.frame
+    → p.below ≡ from * words_for f.width → (IsTrue p.lowest → from ≡ 0) → (IsTrue p.highest → to ≡ f.height) → IsAmong s ss
+    → AreOnly (IsUpBit s p) a b → AreMetUp f a ss → AreMetUp f b ss
+some_up s ss f p from to a b part e lowest highest among only old r k o l w set = by (only (pixel_number f r k) set)
+  where
+    g : Frame
+    g = p.frame
+
+    by : (word_bit a (pixel_number f r k) ≡ 1) ⊎ IsUpBit s p (pixel_number f r k) → IsMetUpByOne ss f r k
+    by (inl was) = old r k o l w was
+    by (inr new) =
+        let wide : new.k < f.width = subst (λ (w : ℕ). new.k < w) part.width new.column in
+        let whole : r * (32 * words_for f.width) + k ≡ (from + new.r) * (32 * words_for f.width) + new.k =
+        new.at ∙ number_whole f g from to p.below new.r new.k part e in
+        let place = same_cell (32 * words_for f.width) r (from + new.r) k new.k (omega (arith, w)) (omega (arith, wide)) whole in
+        let is = place.0 in
+        let row : g.bottom +ℤ pos new.r ≡ f.bottom +ℤ pos r =
+        sym (row_whole f g from to new.r part) ∙ ap (λ (n : ℕ). f.bottom +ℤ pos n) (sym is) in
+        let under : (g.bottom -ℤ pos 1) +ℤ pos new.r ≡ (f.bottom -ℤ pos 1) +ℤ pos r =
+        sym (row_under f g from to new.r part) ∙ ap (λ (n : ℕ). (f.bottom -ℤ pos 1) +ℤ pos n) (sym is) in
+        record {
+          piece = s;
+          among = among;
+          met = up_moved s f g r new.r k new.k part.left row under (sym place.1) (new.met inside);
+        }
+      where
+        inside : ¬ (IsEdge p new.r)
+        inside (inl (t, z)) =
+            let first = lowest t in
+            let whole = new.at ∙ number_whole f g from to p.below new.r new.k part e in
+            let wide : new.k < f.width = subst (λ (w : ℕ). new.k < w) part.width new.column in
+            let place = same_cell (32 * words_for f.width) r (from + new.r) k new.k (omega (arith, w)) (omega (arith, wide)) whole in
+            let is = place.0 in
+            omega (arith, first, z, is, o)
+        inside (inr (t, z)) =
+            let last = highest t in
+            let high = part.height in
+            let whole = new.at ∙ number_whole f g from to p.below new.r new.k part e in
+            let wide : new.k < f.width = subst (λ (w : ℕ). new.k < w) part.width new.column in
+            let place = same_cell (32 * words_for f.width) r (from + new.r) k new.k (omega (arith, w)) (omega (arith, wide)) whole in
+            let is = place.0 in
+            omega (arith, last, high, z, is, l)
+
+-- the same of the columns of a frame, seen as rows of the exchanged piece
+pub some_columns : (s : Span) (ss : List Span) (f g : Frame) (a b : List ℕ) → g.left ≡ f.bottom → g.bottom ≡ f.left
+    → g.width ≡ f.height → g.height ≡ f.width → IsAmong s ss
+    → AreOnly (IsRowsBit (turned_span s) g 1 (32 * words_for f.width)) a b → AreMetUp f a ss → AreMetUp f b ss
+some_columns s ss f g a b el eb ew eh among only old r k o l w set = by (only (pixel_number f r k) set)
+  where
+    by : (word_bit a (pixel_number f r k) ≡ 1) ⊎ IsRowsBit (turned_span s) g 1 (32 * words_for f.width) (pixel_number f r k)
+        → IsMetUpByOne ss f r k
+    by (inl was) = old r k o l w was
+    by (inr new) =
+        let line = new.line in
+        let inside : new.r < f.width = subst (λ (n : ℕ). new.r < n) eh new.row in
+        let at = line.at in
+        let number : new.r * 1 + line.k * (32 * words_for f.width) ≡ line.k * (32 * words_for f.width) + new.r = omega arith in
+        let whole : r * (32 * words_for f.width) + k ≡ line.k * (32 * words_for f.width) + new.r = at ∙ number in
+        let place = same_cell (32 * words_for f.width) r line.k k new.r (omega (arith, w)) (omega (arith, inside)) whole in
+        let row = place.0 in
+        let column = place.1 in
+        record {
+          piece = s;
+          among = among;
+          met = met new.r line.k row column (line.met (omega (arith, row, o))
+              (subst (λ (n : ℕ). line.k < n) (sym ew) (omega (arith, row, l))));
+        }
+      where
+        met : (j q : ℕ) → r ≡ q → k ≡ j
+            → (¬ (IsOn (left_at g (g.bottom +ℤ pos j) q) (turned_span s)) → ¬ (IsOn (right_at g (g.bottom +ℤ pos j) q) (turned_span s))
+            → IsMetTo (turned_span s) g (g.bottom +ℤ pos j) q) → IsMetUnlessOn s f r k
+        met j q row column h off off' = record {
+          met = subst (λ z. z) (λ i. IsMet (centre ((el i -ℤ pos 1) +ℤ pos (sym row i)) (eb i +ℤ pos (sym column i)))
+              (centre (el i +ℤ pos (sym row i)) (eb i +ℤ pos (sym column i))) (turned_span s))
+              (h (λ on. off (on_turned (centre (f.left +ℤ pos k) ((f.bottom -ℤ pos 1) +ℤ pos r)) s
+              (subst (λ z. z) (λ i. IsOn (centre ((el i -ℤ pos 1) +ℤ pos (sym row i)) (eb i +ℤ pos (sym column i))) (turned_span s)) on)))
+              (λ on. off' (on_turned (centre (f.left +ℤ pos k) (f.bottom +ℤ pos r)) s
+              (subst (λ z. z) (λ i. IsOn (centre (el i +ℤ pos (sym row i)) (eb i +ℤ pos (sym column i))) (turned_span s)) on))));
+          off_lower = off;
+          off_upper = off';
+        }

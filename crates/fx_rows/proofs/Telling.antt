@@ -17,11 +17,11 @@ use Rattle.fx_rows.specs.declared.heights.Met.{Met}
 use Rattle.fx_rows.specs.declared.strip.Strip.{Strip}
 use Rattle.fx_rows.specs.declared.cells.Cut.{Cut}
 use Rattle.fx_rows.specs.inner.Cuts.{IsCut}
-use Rattle.fx_rows.specs.inner.Heights.{height_of, IsMissed}
+use Rattle.fx_rows.specs.inner.Heights.{height_of, IsMissed, IsAtMostEnds, IsAtLeastEnds}
 use Rattle.fx_rows.specs.inner.Placing.{AreMet}
 use Rattle.fx_rows.specs.inner.Points.{IsInner, IsRise}
 use Rattle.fx_rows.specs.inner.Sides.{place_at}
-use Rattle.fx_rows.specs.inner.Told.{rise_value, IsEnd}
+use Rattle.fx_rows.specs.inner.Told.{rise_value, IsEnd, IsEndOn}
 use Rattle.fx_rows.specs.inner.Telling.{AreMetBySome, IsRowTold, AreRowsTold, IsPartOf, AreRowsNoted, AreNotedIn, IsNotedBy}
 use Rattle.fx_rows.specs.inner.Telling.{Way, across_row, up_to_row}
 
@@ -39,10 +39,10 @@ rise_told s foot head value h = by (below_or_not_ℤ s.a.y s.c.y)
     by (inl l) = (h.up l).2 ∙ sym (rising s.a.y s.c.y l)
     by (inr l) = (h.down l).2 ∙ sym (falling s.a.y s.c.y l)
 
-pub cut_end : (s : Span) (f : Frame) (strip : Strip) (cut : Cut) (r n : ℕ) → strip.row ≡ f.bottom +ℤ pos r
+pub cut_end : (s : Span) (f : Frame) (strip : Strip) (cut : Cut) (row : ℤ) (n : ℕ) → strip.row ≡ row
     → strip.base +ℤ pos strip.start ≡ f.left → strip.base +ℤ pos strip.stop ≡ f.left +ℤ pos f.width
-    → n ≡ cut.end - strip.start → cut.value ≡ rise_value s → IsCut s strip cut → IsEnd s f r n
-cut_end s f strip cut r n row first last e value is = record {
+    → n ≡ cut.end - strip.start → cut.value ≡ rise_value s → IsCut s strip cut → IsEndOn s f row n
+cut_end s f strip cut row n at_row first last e value is = record {
   within = let w = is.within in omega (arith, signed_linear, first, last, e, w);
   left = λ k h off. ap (λ (q : Place). turn q s) (sym (at k)) ∙ is.inside (strip.start + k) (omega arith)
       (let w = is.within in omega (arith, e, h, w)) (omega (arith, e, h)) (off_at k off) ∙ value;
@@ -50,12 +50,12 @@ cut_end s f strip cut r n row first last e value is = record {
       (omega (arith, signed_linear, first, last, l)) (omega (arith, e, h)) (off_at k off);
 }
   where
-    at : (k : ℕ) → place_at strip (strip.start + k) ≡ centre (f.left +ℤ pos k) (f.bottom +ℤ pos r)
+    at : (k : ℕ) → place_at strip (strip.start + k) ≡ centre (f.left +ℤ pos k) row
     at k =
         let x : strip.base +ℤ pos (strip.start + k) ≡ f.left +ℤ pos k = omega (arith, signed_linear, first) in
-        λ i. centre (x i) (row i)
+        λ i. centre (x i) (at_row i)
 
-    off_at : (k : ℕ) → ¬ (IsOn (centre (f.left +ℤ pos k) (f.bottom +ℤ pos r)) s) → ¬ (IsOn (place_at strip (strip.start + k)) s)
+    off_at : (k : ℕ) → ¬ (IsOn (centre (f.left +ℤ pos k) row) s) → ¬ (IsOn (place_at strip (strip.start + k)) s)
     off_at k off = subst (λ (q : Place). ¬ (IsOn q s)) (sym (at k)) off
 
 -- ---- from row to row
@@ -92,6 +92,28 @@ told_beside T s f from low high to under over h =
     by r l m i (inl x) o = absurd (under r l x i)
     by r l m i (inr x) (inl y) = h.rows r x y i
     by r l m i (inr x) (inr y) = absurd (over r y m i)
+
+-- a height that is not above the lower end, or not below the upper one
+pub at_most_ends : (s : Span) (foot head value y : ℤ) → IsRise s foot head value → y ≤ℤ foot → IsAtMostEnds s y
+at_most_ends s foot head value y h l = by (below_or_not_ℤ s.a.y s.c.y)
+  where
+    by : (s.a.y <ℤ s.c.y) ⊎ (s.c.y ≤ℤ s.a.y) → IsAtMostEnds s y
+    by (inl o) = let e = (h.up o).0 in (omega (arith, signed_linear, e, l), omega (arith, signed_linear, e, l, o))
+    by (inr o) = let e = (h.down o).0 in (omega (arith, signed_linear, e, l, o), omega (arith, signed_linear, e, l))
+
+pub at_least_ends : (s : Span) (foot head value y : ℤ) → IsRise s foot head value → head ≤ℤ y → IsAtLeastEnds s y
+at_least_ends s foot head value y h l = by (below_or_not_ℤ s.a.y s.c.y)
+  where
+    by : (s.a.y <ℤ s.c.y) ⊎ (s.c.y ≤ℤ s.a.y) → IsAtLeastEnds s y
+    by (inl o) = let e = (h.up o).1 in (omega (arith, signed_linear, e, l, o), omega (arith, signed_linear, e, l))
+    by (inr o) = let e = (h.down o).1 in (omega (arith, signed_linear, e, l), omega (arith, signed_linear, e, l, o))
+
+-- all points of a piece are above a height, or below it: so are its ends
+pub above_all : (s : Span) (y : ℤ) → HasAll (λ q. y <ℤ q.y) s → IsAtMostEnds s y
+above_all s y h = let a = h.0 in let c = h.2 in (omega (arith, signed_linear, a), omega (arith, signed_linear, c))
+
+pub below_all : (s : Span) (y : ℤ) → HasAll (λ q. q.y <ℤ y) s → IsAtLeastEnds s y
+below_all s y h = let a = h.0 in let c = h.2 in (omega (arith, signed_linear, a), omega (arith, signed_linear, c))
 
 pub not_inner_under : (s : Span) (foot head value y : ℤ) → IsRise s foot head value → y ≤ℤ foot → ¬ (IsInner s.a.y s.c.y y)
 not_inner_under s foot head value y h l (inl i) =
@@ -155,6 +177,9 @@ met_same s f g h from to m a b is = record {
       (is.above r l (omega (arith, o, rows_same f g h from to a b)));
   within = let w = is.within in omega (arith, w, rows_same f g h from to a b);
   inner = λ r l o. subst (IsInner s.a.y s.c.y) (height_same f g h from to r a b) (is.inner r l o);
+  under = λ r l. subst (IsAtMostEnds s) (height_same f g h from to r a b) (is.under r l);
+  over = λ r l o. subst (IsAtLeastEnds s) (height_same f g h from to r a b)
+      (is.over r l (omega (arith, o, rows_same f g h from to a b)));
 }
 
 -- ---- the pieces that are noted
@@ -215,6 +240,9 @@ noted_unless B f rows columns ss h k d l apart = record {
         let e : f.height ≡ r = omega (arith, m, o) in
         subst (IsNotedUp (get_or ss k d) f columns) e ((h k d l).top refl apart)
 
--- what is noted across rows is exact
-pub exact_of : (f : Frame) (across : List ℕ) (ss : List Span) → AreMetBySome f across ss → AreExact f across ss
-exact_of f across ss h r k l o m e = let p = h r k l o m e in (p.among.at, p.piece, p.among.inside, p.among.is, p.met)
+-- what is noted is exact
+pub exact_of : (f : Frame) (across up : List ℕ) (ss : List Span) → AreMetBySome f across up ss → AreExact f across up ss
+exact_of f across up ss h = record {
+  across = λ r k l o m e. let p = h.rows r k l o m e in (p.among.at, p.piece, p.among.inside, p.among.is, p.met);
+  up = λ r k o l m e. let p = h.columns r k o l m e in (p.among.at, p.piece, p.among.inside, p.among.is, p.met);
+}

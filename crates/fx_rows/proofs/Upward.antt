@@ -1,9 +1,10 @@
--- Segments between neighbouring rows that a piece does not meet.
+-- Which segments between neighbouring rows a piece meets that does not bulge.
 -- Serves `note_up`.
-use Rattle.std.proofs.Common.{◌≡◌, ◌⊎◌, inl, inr, refl, sym, ◌∙◌, subst, ℕ, ◌+◌, ◌-◌, ◌<◌, ◌≤◌, min, max, ℤ, pos, negsuc}
-use Rattle.std.proofs.Common.{◌+ℤ◌, ◌-ℤ◌, ◌*ℤ◌, ◌≤ℤ◌, ◌<ℤ◌, List, arith}
-use Rattle.std.proofs.lemmas.Int.{ints, clamps}
-use Rattle.std.specs.Int.{int_min, int_max}
+use Rattle.std.proofs.Common.{◌≡◌, ◌≢◌, ◌⊎◌, inl, inr, refl, sym, ap, ◌∙◌, subst, ℕ, zero, suc, ◌+◌, ◌<◌, ◌≤◌, min, max, ℤ, pos, negsuc}
+use Rattle.std.proofs.Common.{◌+ℤ◌, ◌-ℤ◌, ◌*ℤ◌, ◌≤ℤ◌, ◌<ℤ◌, List, Option, Some, None, int_lt, if◌then◌else◌, IsTrue, ◌^◌, arith}
+use Rattle.std.proofs.Common.{w32, to_z, of_z}
+use Rattle.fx_fixed.specs.Ranges.{IsWithin}
+use Rattle.std.proofs.lemmas.Int.{ints}
 use Rattle.fx_fixed.proofs.Order.{below_or_not, below_same_above, below_or_not_ℤ}
 use Rattle.fx_fixed.proofs.Linear.{signed, signed_linear}
 use Rattle.fx_winding.specs.declared.frame.Frame.{Frame}
@@ -11,22 +12,25 @@ use Rattle.fx_winding.specs.Area.{Place}
 use Rattle.fx_winding.specs.Dropout.{turned_place, turned_span}
 use Rattle.fx_winding.specs.Meets.{turn}
 use Rattle.fx_winding.specs.Notes.{IsMetUp}
-use Rattle.fx_winding.specs.Outside.{HasAll}
+use Rattle.fx_winding.specs.Outside.{HasAll, OptionAll}
 use Rattle.fx_winding.specs.Winding.{Span, centre, IsOn, IsBetween}
 use Rattle.fx_winding.proofs.Aside.{left_not_met, right_not_met}
 use Rattle.fx_winding.proofs.Beside.{HasAll-weaker}
+use Rattle.fx_winding.proofs.Columnwise.{up_met, foot_met, head_met, through_met, level_on, IsPastEnd}
 use Rattle.fx_winding.proofs.Meeting.{above_not_met, below_not_met}
-use Rattle.fx_winding.proofs.EndRows.{rests_on, hangs_from}
 use Rattle.fx_winding.proofs.Turning.{IsClearOf, IsClearOfFoot, IsClearOfHead, all_turned, inner_pair_not_met, from_foot_not_met}
 use Rattle.fx_winding.proofs.Turning.{to_foot_not_met, from_head_not_met, to_head_not_met}
 use Rattle.fx_rows.specs.declared.heights.Met.{Met}
 use Rattle.fx_rows.specs.declared.placed.Placed.{Placed}
-use Rattle.fx_rows.specs.inner.Heights.{height_of, IsResting, IsHanging}
+use Rattle.fx_rows.specs.declared.reach.Reach.{Reach}
+use Rattle.fx_rows.specs.inner.Bulging.{HasLine, IsBulge, IsBulgePart, IsOnLine}
+use Rattle.fx_rows.specs.inner.Heights.{height_of, IsResting, IsHanging, IsAtMostEnds, IsAtLeastEnds, IsOneOver, IsOneUnder}
 use Rattle.fx_rows.specs.inner.Placing.{AreMet, IsPlaced}
 use Rattle.fx_rows.specs.inner.Points.{AreAcross, IsInner}
 use Rattle.fx_rows.specs.inner.Segments.{AreSetUp}
-use Rattle.fx_rows.specs.inner.Told.{rise_value, IsEnd}
-use Rattle.fx_rows.specs.inner.Upward.{column_of, height_below, AreMetBetween, AreMetWithin}
+use Rattle.fx_rows.specs.inner.Told.{rise_value}
+use Rattle.fx_rows.specs.inner.Upward.{column_of, height_below, AreMetBetween, AreMetWithin, AreAllMet, AreAt}
+use Rattle.fx_rows.specs.inner.Upward.{AreAtFoot, AreAtHead, IsFootX, IsHeadX, IsPassing, IsLow, IsHigh, IsLevel, ComesFrom}
 use Rattle.fx_rows.proofs.Points.{to_all}
 
 -- the ends of a segment
@@ -66,224 +70,637 @@ reach_within s f first end from to r h left right k l m = (low (below_or_not k f
 pub reach_columns : (s : Span) (p : Placed) → IsPlaced s p → (r : ℕ) → AreMetWithin s p.frame r p.reach.first p.reach.end
 reach_columns s p is r = reach_within s p.frame p.across.first p.across.end p.reach.first p.reach.end r is.across is.left is.right
 
--- a box that is no wider than the chord's
-pub met_between : (s : Span) (f : Frame) (first end : ℤ) → AreAcross s first end
-    → ((col : ℤ) → first ≤ℤ col → col <ℤ end → IsBetween s.a.x s.c.x (pos 128 *ℤ col +ℤ pos 64)) → AreMetBetween s f
-met_between s f first end h wide r k l m =
-    by (below_or_not_ℤ (f.left +ℤ pos k) first) (below_or_not_ℤ (f.left +ℤ pos k) end)
+-- ---- what it means that a piece does not bulge: its control point is on no other side of a line of centres than both its ends
+above_line : (s : Span) (row : ℤ) → ¬ (IsBulge s) → (pos 128 *ℤ row +ℤ pos 64) ≤ℤ s.a.y → (pos 128 *ℤ row +ℤ pos 64) ≤ℤ s.c.y
+    → HasAll (λ q. (pos 128 *ℤ row +ℤ pos 64) ≤ℤ q.y) s
+above_line s row plain a c = (a, part s.b plain, c)
   where
-    by : ((f.left +ℤ pos k) <ℤ first) ⊎ (first ≤ℤ (f.left +ℤ pos k)) → ((f.left +ℤ pos k) <ℤ end) ⊎ (end ≤ℤ (f.left +ℤ pos k))
-        → IsBetween s.a.x s.c.x (column_of f k)
-    by (inl i) j = absurd (left_unmet s f first end r k h i m)
-    by (inr i) (inl j) = wide (f.left +ℤ pos k) i j
-    by (inr i) (inr j) = absurd (right_unmet s f first end r k h j m)
+    part : (b : Option Place) → ¬ (IsBulgePart s.a b s.c) → OptionAll (λ q. (pos 128 *ℤ row +ℤ pos 64) ≤ℤ q.y) b
+    part None n = tt
+    part (Some b) n = by (below_or_not_ℤ b.y (pos 128 *ℤ row +ℤ pos 64))
+      where
+        by : (b.y <ℤ (pos 128 *ℤ row +ℤ pos 64)) ⊎ ((pos 128 *ℤ row +ℤ pos 64) ≤ℤ b.y) → (pos 128 *ℤ row +ℤ pos 64) ≤ℤ b.y
+        by (inr l) = l
+        by (inl l) =
+            let from : b.y ≤ℤ (pos 128 *ℤ row +ℤ pos 64) = omega (arith, signed_linear, l) in
+            absurd (n (inr (inl (record {
+              below = omega (arith, signed_linear, l, a);
+              below_too = omega (arith, signed_linear, l, c);
+              line = record { line = row; from = from; to = a };
+              line_too = record { line = row; from = from; to = c };
+            }))))
 
--- a place between the least and the greatest of two
-pub from_least_to_greatest : (a c low high x : ℤ) → low ≡ int_min a c → high ≡ int_max a c → low ≤ℤ x → x ≤ℤ high → IsBetween a c x
-from_least_to_greatest a c low high x el eh h l = by (below_or_not_ℤ a c)
+below_line : (s : Span) (row : ℤ) → ¬ (IsBulge s) → s.a.y ≤ℤ (pos 128 *ℤ row +ℤ pos 64) → s.c.y ≤ℤ (pos 128 *ℤ row +ℤ pos 64)
+    → HasAll (λ q. q.y ≤ℤ (pos 128 *ℤ row +ℤ pos 64)) s
+below_line s row plain a c = (a, part s.b plain, c)
   where
-    by : (a <ℤ c) ⊎ (c ≤ℤ a) → IsBetween a c x
-    by (inl o) = inl (omega (arith, signed_linear, clamps), omega (arith, signed_linear, clamps))
-    by (inr o) = inr (omega (arith, signed_linear, clamps), omega (arith, signed_linear, clamps))
+    part : (b : Option Place) → ¬ (IsBulgePart s.a b s.c) → OptionAll (λ q. q.y ≤ℤ (pos 128 *ℤ row +ℤ pos 64)) b
+    part None n = tt
+    part (Some b) n = by (below_or_not_ℤ (pos 128 *ℤ row +ℤ pos 64) b.y)
+      where
+        by : ((pos 128 *ℤ row +ℤ pos 64) <ℤ b.y) ⊎ (b.y ≤ℤ (pos 128 *ℤ row +ℤ pos 64)) → b.y ≤ℤ (pos 128 *ℤ row +ℤ pos 64)
+        by (inr l) = l
+        by (inl l) =
+            let to : (pos 128 *ℤ row +ℤ pos 64) ≤ℤ b.y = omega (arith, signed_linear, l) in
+            absurd (n (inr (inr (record {
+              above = omega (arith, signed_linear, l, a);
+              above_too = omega (arith, signed_linear, l, c);
+              line = record { line = row; from = a; to = to };
+              line_too = record { line = row; from = c; to = to };
+            }))))
+
+-- a line of centres that is at both ends
+on_line : (a c row : ℤ) → a ≡ pos 128 *ℤ row +ℤ pos 64 → c ≡ pos 128 *ℤ row +ℤ pos 64 → (a ≡ c) × HasLine a a
+on_line a c row e f = (
+  e ∙ sym f,
+  record {
+    line = row;
+    from = omega (arith, signed_linear, e);
+    to = omega (arith, signed_linear, e);
+  },
+)
+
+-- a row that is below both ends, or at one of them
+pub resting : (s : Span) (row : ℤ) → ¬ (IsBulge s) → ¬ (IsOnLine s) → IsAtMostEnds s (pos 128 *ℤ row +ℤ pos 64)
+    → IsResting s (pos 128 *ℤ row +ℤ pos 64)
+resting s row plain off (a, c) = (
+  above_line s row plain a c,
+  by (below_or_not_ℤ (pos 128 *ℤ row +ℤ pos 64) s.a.y) (below_or_not_ℤ (pos 128 *ℤ row +ℤ pos 64) s.c.y),
+)
+  where
+    by : ((pos 128 *ℤ row +ℤ pos 64) <ℤ s.a.y) ⊎ (s.a.y ≤ℤ (pos 128 *ℤ row +ℤ pos 64))
+        → ((pos 128 *ℤ row +ℤ pos 64) <ℤ s.c.y) ⊎ (s.c.y ≤ℤ (pos 128 *ℤ row +ℤ pos 64))
+        → ((pos 128 *ℤ row +ℤ pos 64) <ℤ s.a.y) ⊎ ((pos 128 *ℤ row +ℤ pos 64) <ℤ s.c.y)
+    by (inl l) k = inl l
+    by (inr l) (inl k) = inr k
+    by (inr l) (inr k) =
+        let is = on_line s.a.y s.c.y row (omega (arith, signed_linear, a, l)) (omega (arith, signed_linear, c, k)) in
+        absurd (off (record { level = is.0; line = is.1 }))
+
+-- a row that is above both ends, or at one of them
+pub hanging : (s : Span) (row : ℤ) → ¬ (IsBulge s) → ¬ (IsOnLine s) → IsAtLeastEnds s (pos 128 *ℤ row +ℤ pos 64)
+    → IsHanging s (pos 128 *ℤ row +ℤ pos 64)
+hanging s row plain off (a, c) = (
+  below_line s row plain a c,
+  by (below_or_not_ℤ s.a.y (pos 128 *ℤ row +ℤ pos 64)) (below_or_not_ℤ s.c.y (pos 128 *ℤ row +ℤ pos 64)),
+)
+  where
+    by : (s.a.y <ℤ (pos 128 *ℤ row +ℤ pos 64)) ⊎ ((pos 128 *ℤ row +ℤ pos 64) ≤ℤ s.a.y)
+        → (s.c.y <ℤ (pos 128 *ℤ row +ℤ pos 64)) ⊎ ((pos 128 *ℤ row +ℤ pos 64) ≤ℤ s.c.y)
+        → (s.a.y <ℤ (pos 128 *ℤ row +ℤ pos 64)) ⊎ (s.c.y <ℤ (pos 128 *ℤ row +ℤ pos 64))
+    by (inl l) k = inl l
+    by (inr l) (inl k) = inr k
+    by (inr l) (inr k) =
+        let is = on_line s.a.y s.c.y row (omega (arith, signed_linear, a, l)) (omega (arith, signed_linear, c, k)) in
+        absurd (off (record { level = is.0; line = is.1 }))
+
+-- it meets segments in columns between its ends alone
+pub met_between : (s : Span) (f : Frame) → ¬ (IsBulge s) → AreMetBetween s f
+met_between s f plain r k l m =
+    by (below_or_not_ℤ x s.a.x) (below_or_not_ℤ x s.c.x) (below_or_not_ℤ s.a.x x) (below_or_not_ℤ s.c.x x)
+  where
+    x : ℤ
+    x = column_of f k
+
+    right_of : x <ℤ s.a.x → x <ℤ s.c.x → (b : Option Place) → ¬ (IsBulgePart s.a b s.c) → OptionAll (λ e. x <ℤ e.x) b
+    right_of a c None n = tt
+    right_of a c (Some b) n = each (below_or_not_ℤ x b.x)
+      where
+        each : (x <ℤ b.x) ⊎ (b.x ≤ℤ x) → x <ℤ b.x
+        each (inl i) = i
+        each (inr i) = absurd (n (inl (inl (record {
+          below = omega (arith, signed_linear, i, a);
+          below_too = omega (arith, signed_linear, i, c);
+          line = record { line = f.left +ℤ pos k; from = i; to = omega (arith, signed_linear, a) };
+          line_too = record { line = f.left +ℤ pos k; from = i; to = omega (arith, signed_linear, c) };
+        }))))
+
+    left_of : s.a.x <ℤ x → s.c.x <ℤ x → (b : Option Place) → ¬ (IsBulgePart s.a b s.c) → OptionAll (λ e. e.x <ℤ x) b
+    left_of a c None n = tt
+    left_of a c (Some b) n = each (below_or_not_ℤ b.x x)
+      where
+        each : (b.x <ℤ x) ⊎ (x ≤ℤ b.x) → b.x <ℤ x
+        each (inl i) = i
+        each (inr i) = absurd (n (inl (inr (record {
+          above = omega (arith, signed_linear, i, a);
+          above_too = omega (arith, signed_linear, i, c);
+          line = record { line = f.left +ℤ pos k; from = omega (arith, signed_linear, a); to = i };
+          line_too = record { line = f.left +ℤ pos k; from = omega (arith, signed_linear, c); to = i };
+        }))))
+
+    left : x <ℤ s.a.x → x <ℤ s.c.x → ⊥
+    left a c = above_not_met (turned_place (lower f r k)) (turned_place (upper f r k)) (turned_span s) refl
+        (all_turned (λ e. x <ℤ e.y) s (a, right_of a c s.b plain, c)) m.met
+
+    right : s.a.x <ℤ x → s.c.x <ℤ x → ⊥
+    right a c = below_not_met (turned_place (lower f r k)) (turned_place (upper f r k)) (turned_span s) refl
+        (all_turned (λ e. e.y <ℤ x) s (a, left_of a c s.b plain, c)) m.met
+
+    by : (x <ℤ s.a.x) ⊎ (s.a.x ≤ℤ x) → (x <ℤ s.c.x) ⊎ (s.c.x ≤ℤ x) → (s.a.x <ℤ x) ⊎ (x ≤ℤ s.a.x) → (s.c.x <ℤ x) ⊎ (x ≤ℤ s.c.x)
+        → IsBetween s.a.x s.c.x (column_of f k)
+    by (inl a) (inl c) u v = absurd (left a c)
+    by (inl a) (inr c) u v = inr (c, omega (arith, signed_linear, a))
+    by (inr a) (inl c) u v = inl (a, omega (arith, signed_linear, c))
+    by (inr a) (inr c) (inr u) v = inr (c, u)
+    by (inr a) (inr c) (inl u) (inr v) = inl (a, v)
+    by (inr a) (inr c) (inl u) (inl v) = absurd (right u v)
 
 -- ---- rows beside a piece
 next_up : (f : Frame) (r : ℕ) → height_below f r ≤ℤ height_of f r
 next_up f r = omega (arith, signed)
 
--- all its points are above a height, and that is not below the upper ends
-pub above_unmet : (s : Span) (f : Frame) (y : ℤ) (r k : ℕ) → HasAll (λ e. y <ℤ e.y) s → height_of f r ≤ℤ y → ¬ (IsMetUp s f r k)
-above_unmet s f y r k h l m =
-    right_not_met (turned_place (lower f r k)) (turned_place (upper f r k)) (turned_span s) refl (next_up f r)
-    (all_turned (λ e. height_of f r <ℤ e.x) s
-    (HasAll-weaker (λ e. y <ℤ e.y) (λ e. height_of f r <ℤ e.y) (λ q o. omega (arith, signed_linear, l, o)) s h)) m.met
+-- it rests on the upper row of a segment
+pub resting_unmet : (s : Span) (f : Frame) (r k : ℕ) → IsResting s (height_of f r) → ¬ (IsMetUp s f r k)
+resting_unmet s f r k h m =
+    to_foot_not_met (lower f r k) (upper f r k) s refl (next_up f r) (record { all = h.0; one = h.1 }) m.off_upper m.met
 
--- all are below a height, and that is not above the lower ends
-pub below_unmet : (s : Span) (f : Frame) (y : ℤ) (r k : ℕ) → HasAll (λ e. e.y <ℤ y) s → y ≤ℤ height_below f r → ¬ (IsMetUp s f r k)
-below_unmet s f y r k h l m =
-    left_not_met (turned_place (lower f r k)) (turned_place (upper f r k)) (turned_span s) (next_up f r)
-    (all_turned (λ e. e.x <ℤ height_below f r) s
-    (HasAll-weaker (λ e. e.y <ℤ y) (λ e. e.y <ℤ height_below f r) (λ q o. omega (arith, signed_linear, l, o)) s h)) m.met
+-- it hangs from the lower row
+pub hanging_unmet : (s : Span) (f : Frame) (r k : ℕ) → IsHanging s (height_below f r) → ¬ (IsMetUp s f r k)
+hanging_unmet s f r k h m =
+    from_head_not_met (lower f r k) (upper f r k) s refl (next_up f r) (record { all = h.0; one = h.1 }) m.off_lower m.met
 
--- ---- where a piece passes a row between its ends
-row_below : (f : Frame) (j r : ℕ) → j + 1 ≡ r → f.bottom +ℤ pos j ≡ (f.bottom -ℤ pos 1) +ℤ pos r
-row_below f j r e = omega (arith, signed_linear, e)
+-- no end of it is below the upper row; or none is above the lower row
+pub set_under : (s : Span) (f : Frame) (below r : ℕ) (up : List ℕ) → ¬ (IsBulge s) → ¬ (IsOnLine s)
+    → IsAtMostEnds s (height_of f r) → AreSetUp s f below up r
+set_under s f below r up plain off h k w m = absurd (resting_unmet s f r k (resting s (f.bottom +ℤ pos r) plain off h) m)
 
--- what a piece that passes a row at a column adds at the row's centres
-record IsPassed (s : Span) (f : Frame) (row : ℤ) (n : ℕ) : Type 0 where
-  inner : IsInner s.a.y s.c.y (pos 128 *ℤ row +ℤ pos 64)
-  left : (k : ℕ) → k < n → ¬ (IsOn (centre (f.left +ℤ pos k) row) s) → turn (centre (f.left +ℤ pos k) row) s ≡ rise_value s
-  right : (k : ℕ) → n ≤ k → k < f.width → ¬ (IsOn (centre (f.left +ℤ pos k) row) s)
-      → turn (centre (f.left +ℤ pos k) row) s ≡ pos 0
+pub set_over : (s : Span) (f : Frame) (below r : ℕ) (up : List ℕ) → ¬ (IsBulge s) → ¬ (IsOnLine s)
+    → IsAtLeastEnds s (height_below f r) → AreSetUp s f below up r
+set_over s f below r up plain off h k w m =
+    absurd (hanging_unmet s f r k (hanging s ((f.bottom -ℤ pos 1) +ℤ pos r) plain off h) m)
 
-passes_row : (s : Span) (f : Frame) (r n : ℕ) → IsInner s.a.y s.c.y (height_of f r) → IsEnd s f r n
-    → IsPassed s f (f.bottom +ℤ pos r) n
-passes_row s f r n i h = record { inner = i; left = h.left; right = h.right }
+-- no line of centres comes between two neighbours
+same_line : (j b r : ℤ) → (pos 128 *ℤ ((b -ℤ pos 1) +ℤ r) +ℤ pos 64) <ℤ (pos 128 *ℤ j +ℤ pos 64)
+    → (pos 128 *ℤ j +ℤ pos 64) ≤ℤ (pos 128 *ℤ (b +ℤ r) +ℤ pos 64) → pos 128 *ℤ j +ℤ pos 64 ≡ pos 128 *ℤ (b +ℤ r) +ℤ pos 64
+same_line j b r h l =
+    let e : j ≡ b +ℤ r = omega (arith, signed, h, l) in
+    ap (λ (z : ℤ). pos 128 *ℤ z +ℤ pos 64) e
 
-passed_below : (s : Span) (f : Frame) (j r n : ℕ) → j + 1 ≡ r → IsInner s.a.y s.c.y (height_of f j) → IsEnd s f j n
-    → IsPassed s f ((f.bottom -ℤ pos 1) +ℤ pos r) n
-passed_below s f j r n e i h = subst (λ (y : ℤ). IsPassed s f y n) (row_below f j r e) (passes_row s f j n i h)
-
--- ---- from one row between the ends to the next
-pub pair_within : (s : Span) (f : Frame) (j r m n : ℕ) → j + 1 ≡ r → AreMetBetween s f → IsInner s.a.y s.c.y (height_of f j)
-    → IsInner s.a.y s.c.y (height_of f r) → IsEnd s f j m → IsEnd s f r n → AreMetWithin s f r (min m n) (max m n)
-pair_within s f j r m n e between i i' h h' k l met = (low (below_or_not k (min m n)), high (below_or_not k (max m n)))
+-- a level piece on a row of centres meets no segment: those of its columns have an end on it
+pub on_line_unmet : (s : Span) (f : Frame) (r k : ℕ) → ¬ (IsBulge s) → IsOnLine s → k < f.width → ¬ (IsMetUp s f r k)
+on_line_unmet s f r k plain on w m =
+    by (below_or_not_ℤ y (height_below f r)) (below_or_not_ℤ (height_below f r) y) (below_or_not_ℤ (height_of f r) y)
   where
-    same_unmet : turn (lower f r k) s ≡ turn (upper f r k) s → ⊥
-    same_unmet t =
-        inner_pair_not_met (lower f r k) (upper f r k) s refl (passed_below s f j r m e i h).inner i' met.off_lower met.off_upper t
-        (between r k l met) met.met
+    row : ℤ
+    row = on.line.line
 
-    low : (k < min m n) ⊎ (min m n ≤ k) → min m n ≤ k
-    low (inl o) = absurd (same_unmet ((passed_below s f j r m e i h).left k (omega (arith, o)) met.off_lower
-        ∙ sym (h'.left k (omega (arith, o)) met.off_upper)))
-    low (inr o) = o
+    y : ℤ
+    y = pos 128 *ℤ row +ℤ pos 64
 
-    high : (k < max m n) ⊎ (max m n ≤ k) → k < max m n
-    high (inl o) = o
-    high (inr o) = absurd (same_unmet ((passed_below s f j r m e i h).right k (omega (arith, o)) l met.off_lower
-        ∙ sym (h'.right k (omega (arith, o)) l met.off_upper)))
+    at_a : s.a.y ≡ y
+    at_a = let from = on.line.from in let to = on.line.to in omega (arith, signed_linear, from, to)
 
--- ---- from a row below a piece to one between its ends, and from one between them to a row above it
+    at_c : s.c.y ≡ y
+    at_c = sym on.level ∙ at_a
+
+    all_at : HasAll (λ e. e.y ≡ y) s
+    all_at = join s.b (above_line s row plain (omega (arith, signed_linear, at_a)) (omega (arith, signed_linear, at_c))).1
+        (below_line s row plain (omega (arith, signed_linear, at_a)) (omega (arith, signed_linear, at_c))).1
+      where
+        join : (b : Option Place) → OptionAll (λ e. y ≤ℤ e.y) b → OptionAll (λ e. e.y ≤ℤ y) b
+            → (s.a.y ≡ y) × OptionAll (λ e. e.y ≡ y) b × (s.c.y ≡ y)
+        join None h k = (at_a, tt, at_c)
+        join (Some b) h k = (at_a, omega (arith, signed_linear, h, k), at_c)
+
+    between : IsBetween s.a.x s.c.x (column_of f k)
+    between = met_between s f plain r k w m
+
+    on_at : (p : Place) → y ≡ p.y → IsBetween s.a.x s.c.x p.x → IsOn p s
+    on_at p e b = level_on p s (HasAll-weaker (λ q. q.y ≡ y) (λ q. q.y ≡ p.y) (λ q h. h ∙ e) s all_at) b
+
+    by : (y <ℤ height_below f r) ⊎ (height_below f r ≤ℤ y) → (height_below f r <ℤ y) ⊎ (y ≤ℤ height_below f r)
+        → (height_of f r <ℤ y) ⊎ (y ≤ℤ height_of f r) → ⊥
+    by (inl l) j h =
+        left_not_met (turned_place (lower f r k)) (turned_place (upper f r k)) (turned_span s) (next_up f r)
+        (all_turned (λ e. e.x <ℤ height_below f r) s
+        (HasAll-weaker (λ e. e.y ≡ y) (λ e. e.y <ℤ height_below f r) (λ q o. omega (arith, signed_linear, l, o)) s all_at)) m.met
+    by (inr l) (inr j) h = m.off_lower (on_at (lower f r k) (omega (arith, signed_linear, l, j)) between)
+    by (inr l) (inl j) (inl h) =
+        right_not_met (turned_place (lower f r k)) (turned_place (upper f r k)) (turned_span s) refl (next_up f r)
+        (all_turned (λ e. height_of f r <ℤ e.x) s
+        (HasAll-weaker (λ e. e.y ≡ y) (λ e. height_of f r <ℤ e.y) (λ q o. omega (arith, signed_linear, h, o)) s all_at)) m.met
+    by (inr l) (inl j) (inr h) = m.off_upper (on_at (upper f r k) (same_line row f.bottom (pos r) j h) between)
+
+-- ---- from columns of one row to columns of the next
+pub value_counts : (s : Span) → rise_value s ≢ pos 0
+value_counts s e = by s.a.y s.c.y e
+  where
+    by : (a c : ℤ) → (if int_lt a c then pos 1 else negsuc 0) ≡ pos 0 → ⊥
+    by a c e = absurd (grind (arith, ints))
+
 value_rising : (s : Span) → s.a.y <ℤ s.c.y → rise_value s ≡ pos 1
 value_rising s h = grind (arith, ints)
 
 value_falling : (s : Span) → s.c.y <ℤ s.a.y → rise_value s ≡ negsuc 0
 value_falling s h = grind (arith, ints)
 
--- left of an end at x and of the column where the piece passes a row, or right of both
-abbrev IsAside : Frame → ℤ → ℕ → ℕ → Type 0
-IsAside f x n k = ((column_of f k <ℤ x) × (k < n)) ⊎ ((x <ℤ column_of f k) × (n ≤ k))
-
-clear : (s : Span) (f : Frame) (row x v : ℤ) (e : Place) (n k : ℕ) → IsPassed s f row n → x ≡ e.x → rise_value s ≡ v → k < f.width
-    → ¬ (IsOn (centre (f.left +ℤ pos k) row) s) → IsAside f x n k → IsClearOf e v (centre (f.left +ℤ pos k) row) s
-clear s f row x v e n k h at is l off (inl (a, b)) = inl (subst (λ (z : ℤ). column_of f k <ℤ z) at a, h.left k b off ∙ is)
-clear s f row x v e n k h at is l off (inr (a, b)) = inr (subst (λ (z : ℤ). z <ℤ column_of f k) at a, h.right k b l off)
-
-foot_unmet : (s : Span) (f : Frame) (x : ℤ) (r n k : ℕ) → IsResting s (height_below f r)
-    → IsPassed s f (f.bottom +ℤ pos r) n → (s.a.y <ℤ s.c.y → x ≡ s.a.x) → (s.c.y <ℤ s.a.y → x ≡ s.c.x)
-    → IsBetween s.a.x s.c.x (column_of f k) → IsAside f x n k
-    → k < f.width → ¬ (IsMetUp s f r k)
-foot_unmet s f x r n k below h rising falling between aside l m =
-    from_foot_not_met (lower f r k) (upper f r k) s refl (rests_on (height_below f r) s below.0 below.1) m.off_lower h.inner
-    m.off_upper (by h.inner) between m.met
+-- the columns before both of two numbers, or from both on, are not between them
+not_aside : (from from' to to' k : ℕ) → ¬ ((k < from) × (k < from')) → ¬ ((to ≤ k) × (to' ≤ k))
+    → (min from from' ≤ k) × (k < max to to')
+not_aside from from' to to' k before after = (low (below_or_not k (min from from')), high (below_or_not k (max to to')))
   where
-    by : IsInner s.a.y s.c.y (height_of f r) → IsClearOfFoot (upper f r k) s
+    low : (k < min from from') ⊎ (min from from' ≤ k) → min from from' ≤ k
+    low (inl o) = absurd (before (omega (arith, o), omega (arith, o)))
+    low (inr o) = o
+
+    high : (k < max to to') ⊎ (max to to' ≤ k) → k < max to to'
+    high (inl o) = o
+    high (inr o) = absurd (after (omega (arith, o), omega (arith, o)))
+
+-- two rows between the ends
+pass_within : (s : Span) (f : Frame) (r : ℕ) (c d : Reach) → AreMetBetween s f
+    → IsPassing s f ((f.bottom -ℤ pos 1) +ℤ pos r) c → IsPassing s f (f.bottom +ℤ pos r) d
+    → AreMetWithin s f r (min c.first d.first) (max c.end d.end)
+pass_within s f r c d between low high k l met =
+    not_aside c.first d.first c.end d.end k
+    (λ o. same_unmet (low.is.left k (omega (arith, o.0, low.same)) met.off_lower
+    ∙ sym (high.is.left k (omega (arith, o.1, high.same)) met.off_upper)))
+    (λ o. same_unmet (low.is.right k o.0 l met.off_lower ∙ sym (high.is.right k o.1 l met.off_upper)))
+  where
+    same_unmet : turn (lower f r k) s ≡ turn (upper f r k) s → ⊥
+    same_unmet t = inner_pair_not_met (lower f r k) (upper f r k) s refl low.inner high.inner met.off_lower met.off_upper t
+        (between r k l met) met.met
+
+pass_met : (s : Span) (f : Frame) (r : ℕ) (c d : Reach) → IsPassing s f ((f.bottom -ℤ pos 1) +ℤ pos r) c
+    → IsPassing s f (f.bottom +ℤ pos r) d → AreAllMet s f r (min c.first d.first) (max c.end d.end)
+pass_met s f r c d low high k from to l off off' = record {
+  met = up_met (lower f r k) (upper f r k) s refl low.inner high.inner off off'
+      (by (below_or_not k c.end) (below_or_not k d.end));
+  off_lower = off;
+  off_upper = off';
+}
+  where
+    by : (k < c.end) ⊎ (c.end ≤ k) → (k < d.end) ⊎ (d.end ≤ k) → turn (lower f r k) s ≢ turn (upper f r k) s
+    by (inl a) (inl b) z = absurd (omega (arith, a, b, from, low.same, high.same))
+    by (inl a) (inr b) z = value_counts s (sym (low.is.left k a off) ∙ z ∙ high.is.right k b l off')
+    by (inr a) (inl b) z = value_counts s (sym (high.is.left k b off') ∙ sym z ∙ low.is.right k a l off)
+    by (inr a) (inr b) z = absurd (omega (arith, a, b, to))
+
+-- what a piece adds at a place of a row between its ends, aside of one of these, and what past it
+clear : (s : Span) (f : Frame) (row x v : ℤ) (e : Place) (c d : Reach) (k : ℕ) → IsPassing s f row d → AreAt f x c → x ≡ e.x
+    → rise_value s ≡ v → k < f.width → ¬ (IsOn (centre (f.left +ℤ pos k) row) s)
+    → ((k < c.first) × (k < d.first)) ⊎ ((c.end ≤ k) × (d.end ≤ k)) → IsClearOf e v (centre (f.left +ℤ pos k) row) s
+clear s f row x v e c d k h is at rises l off (inl (a, b)) =
+    inl (subst (λ (z : ℤ). column_of f k <ℤ z) at (is.left k a), h.is.left k (omega (arith, b, h.same)) off ∙ rises)
+clear s f row x v e c d k h is at rises l off (inr (a, b)) =
+    inr (subst (λ (z : ℤ). z <ℤ column_of f k) at (is.right k a l), h.is.right k b l off)
+
+past : (s : Span) (f : Frame) (row x v : ℤ) (e : Place) (c d : Reach) (k : ℕ) → IsPassing s f row d → AreAt f x c → x ≡ e.x
+    → rise_value s ≡ v → k < f.width → ¬ (IsOn (centre (f.left +ℤ pos k) row) s) → min c.first d.first ≤ k → k < max c.end d.end
+    → IsPastEnd e.x v (centre (f.left +ℤ pos k) row) s
+past s f row x v e c d k h is at rises l off from to = by (below_or_not k d.end)
+  where
+    by : (k < d.end) ⊎ (d.end ≤ k) → IsPastEnd e.x v (centre (f.left +ℤ pos k) row) s
+    by (inl b) = inl (
+      subst (λ (z : ℤ). z ≤ℤ column_of f k) at (is.from k (omega (arith, b, from, h.same)) l),
+      h.is.left k b off ∙ rises,
+    )
+    by (inr b) = inr (subst (λ (z : ℤ). column_of f k ≤ℤ z) at (is.to k (omega (arith, b, to))), h.is.right k b l off)
+
+-- from the lower end to a row between the ends
+foot_clear : (s : Span) (f : Frame) (row : ℤ) (c d : Reach) (k : ℕ) → AreAtFoot s f c → IsPassing s f row d → k < f.width
+    → ¬ (IsOn (centre (f.left +ℤ pos k) row) s) → ((k < c.first) × (k < d.first)) ⊎ ((c.end ≤ k) × (d.end ≤ k))
+    → IsClearOfFoot (centre (f.left +ℤ pos k) row) s
+foot_clear s f row c d k foot high l off aside = by high.inner
+  where
+    by : IsInner s.a.y s.c.y (pos 128 *ℤ row +ℤ pos 64) → IsClearOfFoot (centre (f.left +ℤ pos k) row) s
     by (inl (u, v)) =
         let up : s.a.y <ℤ s.c.y = omega (arith, signed_linear, u, v) in
-        inl (up, clear s f (f.bottom +ℤ pos r) x (pos 1) s.a n k h (rising up) (value_rising s up) l m.off_upper aside)
-    by (inr (u, v)) =
-        let down : s.c.y <ℤ s.a.y = omega (arith, signed_linear, u, v) in
-        inr (down, clear s f (f.bottom +ℤ pos r) x (negsuc 0) s.c n k h (falling down) (value_falling s down) l m.off_upper aside)
-
-head_unmet : (s : Span) (f : Frame) (x : ℤ) (r n k : ℕ) → IsHanging s (height_of f r)
-    → IsPassed s f ((f.bottom -ℤ pos 1) +ℤ pos r) n → (s.a.y <ℤ s.c.y → x ≡ s.c.x) → (s.c.y <ℤ s.a.y → x ≡ s.a.x)
-    → IsBetween s.a.x s.c.x (column_of f k) → IsAside f x n k → k < f.width → ¬ (IsMetUp s f r k)
-head_unmet s f x r n k above h rising falling between aside l m =
-    to_head_not_met (lower f r k) (upper f r k) s h.inner m.off_lower (by h.inner) (hangs_from (height_of f r) s above.0 above.1)
-    m.off_upper between m.met
-  where
-    by : IsInner s.a.y s.c.y (height_below f r) → IsClearOfHead (lower f r k) s
-    by (inl (u, v)) =
-        let up : s.a.y <ℤ s.c.y = omega (arith, signed_linear, u, v) in
-        let row = (f.bottom -ℤ pos 1) +ℤ pos r in
-        inl (up, clear s f row x (pos 1) s.c n k h (rising up) (value_rising s up) l m.off_lower aside)
+        inl (up, clear s f row foot.x (pos 1) s.a c d k high foot.at (foot.is.rising up) (value_rising s up) l off aside)
     by (inr (u, v)) =
         let down : s.c.y <ℤ s.a.y = omega (arith, signed_linear, u, v) in
         inr (
           down,
-          clear s f ((f.bottom -ℤ pos 1) +ℤ pos r) x (negsuc 0) s.a n k h (falling down) (value_falling s down) l m.off_lower
-              aside,
+          clear s f row foot.x (negsuc 0) s.c c d k high foot.at (foot.is.falling (omega (arith, signed_linear, down)))
+              (value_falling s down) l off aside,
         )
 
--- the columns that are not aside of an end, whose column is among those from first on and before last
-not_aside : (f : Frame) (x : ℤ) (first last n k : ℕ) → ((k : ℕ) → k < first → column_of f k <ℤ x)
-    → ((k : ℕ) → last ≤ k → k < f.width → x <ℤ column_of f k) → k < f.width → ¬ (IsAside f x n k)
-    → (min first n ≤ k) × (k < max last n)
-not_aside f x first last n k left right l unmet = (low (below_or_not k (min first n)), high (below_or_not k (max last n)))
+foot_within : (s : Span) (f : Frame) (r : ℕ) (c d : Reach) → AreMetBetween s f → IsResting s (height_below f r)
+    → AreAtFoot s f c → IsPassing s f (f.bottom +ℤ pos r) d → AreMetWithin s f r (min c.first d.first) (max c.end d.end)
+foot_within s f r c d between rests foot high k l met =
+    not_aside c.first d.first c.end d.end k (λ o. unmet (inl o)) (λ o. unmet (inr o))
   where
-    low : (k < min first n) ⊎ (min first n ≤ k) → min first n ≤ k
-    low (inl o) = absurd (unmet (inl (left k (omega (arith, o)), omega (arith, o))))
-    low (inr o) = o
+    unmet : ((k < c.first) × (k < d.first)) ⊎ ((c.end ≤ k) × (d.end ≤ k)) → ⊥
+    unmet aside = from_foot_not_met (lower f r k) (upper f r k) s refl (record { all = rests.0; one = rests.1 }) met.off_lower
+        high.inner met.off_upper (foot_clear s f (f.bottom +ℤ pos r) c d k foot high l met.off_upper aside) (between r k l met)
+        met.met
 
-    high : (k < max last n) ⊎ (max last n ≤ k) → k < max last n
-    high (inl o) = o
-    high (inr o) = absurd (unmet (inr (right k (omega (arith, o)) l, omega (arith, o))))
-
-pub foot_within : (s : Span) (f : Frame) (x : ℤ) (first last r n : ℕ) → AreMetBetween s f
-    → IsResting s (height_below f r) → IsInner s.a.y s.c.y (height_of f r) → IsEnd s f r n
-    → (s.a.y <ℤ s.c.y → x ≡ s.a.x) → (s.c.y <ℤ s.a.y → x ≡ s.c.x) → ((k : ℕ) → k < first → column_of f k <ℤ x)
-    → ((k : ℕ) → last ≤ k → k < f.width → x <ℤ column_of f k) → AreMetWithin s f r (min first n) (max last n)
-foot_within s f x first last r n between below i h rising falling left right k l m =
-    not_aside f x first last n k left right l
-    (λ a. foot_unmet s f x r n k below (passes_row s f r n i h) rising falling (between r k l m) a l m)
-
-pub head_within : (s : Span) (f : Frame) (x : ℤ) (first last j r n : ℕ) → j + 1 ≡ r → AreMetBetween s f
-    → IsHanging s (height_of f r) → IsInner s.a.y s.c.y (height_of f j) → IsEnd s f j n
-    → (s.a.y <ℤ s.c.y → x ≡ s.c.x) → (s.c.y <ℤ s.a.y → x ≡ s.a.x) → ((k : ℕ) → k < first → column_of f k <ℤ x)
-    → ((k : ℕ) → last ≤ k → k < f.width → x <ℤ column_of f k) → AreMetWithin s f r (min first n) (max last n)
-head_within s f x first last j r n e between above i h rising falling left right k l m =
-    not_aside f x first last n k left right l
-    (λ a. head_unmet s f x r n k above (passed_below s f j r n e i h) rising falling (between r k l m) a l m)
-
--- ---- the columns of the box, and some more
-pub within_more : (s : Span) (f : Frame) (r from to n : ℕ) → AreMetWithin s f r from to → AreMetWithin s f r (min from n) (max to n)
-within_more s f r from to n h k l m = let at = h k l m in (omega (arith, at.0), omega (arith, at.1))
-
--- ---- rows up to which a piece meets nothing
--- it rests on the row below one, and this is one further down
-pub set_under : (s : Span) (f : Frame) (below row r : ℕ) (up : List ℕ) → IsResting s (height_below f row) → r < row
-    → AreSetUp s f below up r
-set_under s f below row r up h l k w m =
-    absurd (to_foot_not_met (lower f r k) (upper f r k) s refl (next_up f r)
-    (rests_on (height_of f r) s (HasAll-weaker (λ e. height_below f row ≤ℤ e.y) (λ e. height_of f r ≤ℤ e.y) (λ q. under q.y) s h.0)
-    h.1) m.off_upper m.met)
+foot_all : (s : Span) (f : Frame) (r : ℕ) (c d : Reach) → IsResting s (height_below f r) → AreAtFoot s f c
+    → IsPassing s f (f.bottom +ℤ pos r) d → AreAllMet s f r (min c.first d.first) (max c.end d.end)
+foot_all s f r c d rests foot high k from to l off off' = record {
+  met = foot_met (lower f r k) (upper f r k) s refl (record { all = rests.0; one = rests.1 }) off high.inner off' (by high.inner);
+  off_lower = off;
+  off_upper = off';
+}
   where
-    under : (y : ℤ) → height_below f row ≤ℤ y → height_of f r ≤ℤ y
-    under y i = omega (arith, signed, l, i)
+    row : ℤ
+    row = f.bottom +ℤ pos r
 
--- it hangs from a row, and this is one further up
-pub set_over : (s : Span) (f : Frame) (below row r : ℕ) (up : List ℕ) → IsHanging s (height_of f row) → row < r
-    → AreSetUp s f below up r
-set_over s f below row r up h l k w m =
-    absurd (from_head_not_met (lower f r k) (upper f r k) s refl (next_up f r)
-    (hangs_from (height_below f r) s
-    (HasAll-weaker (λ e. e.y ≤ℤ height_of f row) (λ e. e.y ≤ℤ height_below f r) (λ q. over q.y) s h.0) h.1) m.off_lower m.met)
+    by : IsInner s.a.y s.c.y (height_of f r) → ((s.a.y <ℤ s.c.y) × IsPastEnd s.a.x (pos 1) (upper f r k) s)
+        ⊎ ((s.c.y <ℤ s.a.y) × IsPastEnd s.c.x (negsuc 0) (upper f r k) s)
+    by (inl (u, v)) =
+        let up : s.a.y <ℤ s.c.y = omega (arith, signed_linear, u, v) in
+        inl (up, past s f row foot.x (pos 1) s.a c d k high foot.at (foot.is.rising up) (value_rising s up) l off' from to)
+    by (inr (u, v)) =
+        let down : s.c.y <ℤ s.a.y = omega (arith, signed_linear, u, v) in
+        inr (
+          down,
+          past s f row foot.x (negsuc 0) s.c c d k high foot.at (foot.is.falling (omega (arith, signed_linear, down)))
+              (value_falling s down) l off' from to,
+        )
+
+-- from a row between the ends to the upper end
+head_clear : (s : Span) (f : Frame) (row : ℤ) (c d : Reach) (k : ℕ) → AreAtHead s f c → IsPassing s f row d → k < f.width
+    → ¬ (IsOn (centre (f.left +ℤ pos k) row) s) → ((k < c.first) × (k < d.first)) ⊎ ((c.end ≤ k) × (d.end ≤ k))
+    → IsClearOfHead (centre (f.left +ℤ pos k) row) s
+head_clear s f row c d k head low l off aside = by low.inner
   where
-    over : (y : ℤ) → y ≤ℤ height_of f row → y ≤ℤ height_below f r
-    over y i = omega (arith, signed, l, i)
+    by : IsInner s.a.y s.c.y (pos 128 *ℤ row +ℤ pos 64) → IsClearOfHead (centre (f.left +ℤ pos k) row) s
+    by (inl (u, v)) =
+        let up : s.a.y <ℤ s.c.y = omega (arith, signed_linear, u, v) in
+        inl (up, clear s f row head.x (pos 1) s.c c d k low head.at (head.is.rising up) (value_rising s up) l off aside)
+    by (inr (u, v)) =
+        let down : s.c.y <ℤ s.a.y = omega (arith, signed_linear, u, v) in
+        inr (
+          down,
+          clear s f row head.x (negsuc 0) s.a c d k low head.at (head.is.falling (omega (arith, signed_linear, down)))
+              (value_falling s down) l off aside,
+        )
 
--- rows below those that it can touch, and above them
-pub set_below : (s : Span) (f : Frame) (met : Met) (below r : ℕ) (up : List ℕ) → AreMet s f met
-    → (met.touched.first ≤ r → AreSetUp s f below up r) → AreSetUp s f below up r
-set_below s f met below r up is near = by (below_or_not r met.touched.first)
+head_within : (s : Span) (f : Frame) (r : ℕ) (c d : Reach) → AreMetBetween s f
+    → IsPassing s f ((f.bottom -ℤ pos 1) +ℤ pos r) c → IsHanging s (height_of f r) → AreAtHead s f d
+    → AreMetWithin s f r (min c.first d.first) (max c.end d.end)
+head_within s f r c d between low hangs head k l met =
+    not_aside c.first d.first c.end d.end k (λ o. unmet (inl (o.1, o.0))) (λ o. unmet (inr (o.1, o.0)))
   where
-    by : (r < met.touched.first) ⊎ (met.touched.first ≤ r) → AreSetUp s f below up r
-    by (inl i) = λ k w m. absurd (above_unmet s f (height_of f r) r k (is.below r i) (omega (arith, signed_linear)) m)
-    by (inr i) = near i
+    unmet : ((k < d.first) × (k < c.first)) ⊎ ((d.end ≤ k) × (c.end ≤ k)) → ⊥
+    unmet aside = to_head_not_met (lower f r k) (upper f r k) s low.inner met.off_lower
+        (head_clear s f ((f.bottom -ℤ pos 1) +ℤ pos r) d c k head low l met.off_lower aside)
+        (record { all = hangs.0; one = hangs.1 }) met.off_upper (between r k l met) met.met
 
-pub set_above : (s : Span) (f : Frame) (met : Met) (below r : ℕ) (up : List ℕ) → AreMet s f met → r ≤ f.height
-    → (r ≤ met.touched.end → AreSetUp s f below up r) → AreSetUp s f below up r
-set_above s f met below r up is h near = by (below_or_not met.touched.end r)
+head_all : (s : Span) (f : Frame) (r : ℕ) (c d : Reach) → IsPassing s f ((f.bottom -ℤ pos 1) +ℤ pos r) c
+    → IsHanging s (height_of f r) → AreAtHead s f d → AreAllMet s f r (min c.first d.first) (max c.end d.end)
+head_all s f r c d low hangs head k from to l off off' = record {
+  met = head_met (lower f r k) (upper f r k) s refl low.inner off (record { all = hangs.0; one = hangs.1 }) off' (by low.inner);
+  off_lower = off;
+  off_upper = off';
+}
   where
-    by : (met.touched.end < r) ⊎ (r ≤ met.touched.end) → AreSetUp s f below up r
-    by (inl i) = λ k w m.
-        absurd (below_unmet s f (height_of f (r - 1)) r k (is.above (r - 1) (omega (arith, i)) (omega (arith, i, h)))
-        (omega (arith, signed, i)) m)
-    by (inr i) = near i
+    row : ℤ
+    row = (f.bottom -ℤ pos 1) +ℤ pos r
 
--- all its points are above the row above the frame, or below the row below it
-pub set_apart : (s : Span) (f : Frame) (below r : ℕ) (up : List ℕ)
-    → HasAll (λ e. height_of f f.height <ℤ e.y) s ⊎ HasAll (λ e. e.y <ℤ height_below f 0) s → r ≤ f.height → AreSetUp s f below up r
-set_apart s f below r up (inl h) l k w m = absurd (above_unmet s f (height_of f f.height) r k h (omega (arith, signed, l)) m)
-set_apart s f below r up (inr h) l k w m = absurd (below_unmet s f (height_below f 0) r k h (omega (arith, signed)) m)
+    from' : min d.first c.first ≤ k
+    from' = omega (arith, from)
 
--- up to the rows before one, to that, and to those after it
-pub set_rows : (s : Span) (f : Frame) (below row : ℕ) (up : List ℕ) → ((r : ℕ) → r < row → AreSetUp s f below up r)
-    → AreSetUp s f below up row → ((r : ℕ) → row < r → r ≤ f.height → AreSetUp s f below up r) → (r : ℕ) → r ≤ f.height
-    → AreSetUp s f below up r
-set_rows s f below row up under here over r h = by (below_same_above r row)
+    to' : k < max d.end c.end
+    to' = omega (arith, to)
+
+    by : IsInner s.a.y s.c.y (height_below f r) → ((s.a.y <ℤ s.c.y) × IsPastEnd s.c.x (pos 1) (lower f r k) s)
+        ⊎ ((s.c.y <ℤ s.a.y) × IsPastEnd s.a.x (negsuc 0) (lower f r k) s)
+    by (inl (u, v)) =
+        let up : s.a.y <ℤ s.c.y = omega (arith, signed_linear, u, v) in
+        inl (up, past s f row head.x (pos 1) s.c d c k low head.at (head.is.rising up) (value_rising s up) l off from' to')
+    by (inr (u, v)) =
+        let down : s.c.y <ℤ s.a.y = omega (arith, signed_linear, u, v) in
+        inr (
+          down,
+          past s f row head.x (negsuc 0) s.a d c k low head.at (head.is.falling (omega (arith, signed_linear, down)))
+              (value_falling s down) l off from' to',
+        )
+
+-- from the lower end to the upper one, between two rows
+-- these are the ends' places, in one order or the other
+ends_between : (s : Span) (x y z : ℤ) → IsFootX s x → IsHeadX s y → (IsBetween s.a.x s.c.x z → IsBetween x y z)
+    × (IsBetween x y z → IsBetween s.a.x s.c.x z)
+ends_between s x y z foot head = by (below_or_not_ℤ s.a.y s.c.y)
   where
-    by : (r < row) ⊎ ((r ≡ row) ⊎ (row < r)) → AreSetUp s f below up r
-    by (inl l) = under r l
-    by (inr (inl e)) = subst (AreSetUp s f below up) (sym e) here
-    by (inr (inr l)) = over r l h
+    turned_between : (a b : ℤ) → IsBetween a b z → IsBetween b a z
+    turned_between a b (inl h) = inr h
+    turned_between a b (inr h) = inl h
+
+    by : (s.a.y <ℤ s.c.y) ⊎ (s.c.y ≤ℤ s.a.y) → (IsBetween s.a.x s.c.x z → IsBetween x y z)
+        × (IsBetween x y z → IsBetween s.a.x s.c.x z)
+    by (inl l) =
+        let e = foot.rising l in
+        let h = head.rising l in
+        (subst (λ z. z) (λ i. IsBetween (sym e i) (sym h i) z), subst (λ z. z) (λ i. IsBetween (e i) (h i) z))
+    by (inr l) =
+        let e = foot.falling l in
+        let h = head.falling l in (
+          λ b. subst (λ z. z) (λ i. IsBetween (sym e i) (sym h i) z) (turned_between s.a.x s.c.x b),
+          λ b. turned_between s.c.x s.a.x (subst (λ z. z) (λ i. IsBetween (e i) (h i) z) b),
+        )
+
+through_within : (s : Span) (f : Frame) (r : ℕ) (c d : Reach) → AreMetBetween s f → AreAtFoot s f c → AreAtHead s f d
+    → AreMetWithin s f r (min c.first d.first) (max c.end d.end)
+through_within s f r c d between foot head k l met =
+    not_aside c.first d.first c.end d.end k (λ o. left is (foot.at.left k o.0) (head.at.left k o.1))
+    (λ o. right is (foot.at.right k o.0 l) (head.at.right k o.1 l))
+  where
+    is : IsBetween foot.x head.x (column_of f k)
+    is = (ends_between s foot.x head.x (column_of f k) foot.is head.is).0 (between r k l met)
+
+    left : IsBetween foot.x head.x (column_of f k) → column_of f k <ℤ foot.x → column_of f k <ℤ head.x → ⊥
+    left (inl h) a b = absurd (omega (arith, signed_linear, h.0, a))
+    left (inr h) a b = absurd (omega (arith, signed_linear, h.0, b))
+
+    right : IsBetween foot.x head.x (column_of f k) → foot.x <ℤ column_of f k → head.x <ℤ column_of f k → ⊥
+    right (inl h) a b = absurd (omega (arith, signed_linear, h.1, b))
+    right (inr h) a b = absurd (omega (arith, signed_linear, h.1, a))
+
+through_all : (s : Span) (f : Frame) (r : ℕ) (c d : Reach) → IsResting s (height_below f r) → AreAtFoot s f c
+    → IsHanging s (height_of f r) → AreAtHead s f d → AreAllMet s f r (min c.first d.first) (max c.end d.end)
+through_all s f r c d rests foot hangs head k from to l off off' = record {
+  met = through_met (lower f r k) (upper f r k) s refl (record { all = rests.0; one = rests.1 }) off
+      (record { all = hangs.0; one = hangs.1 }) off'
+      ((ends_between s foot.x head.x x foot.is head.is).1 (by (below_or_not_ℤ foot.x x) (below_or_not_ℤ head.x x)
+      (below_or_not_ℤ x foot.x) (below_or_not_ℤ x head.x)));
+  off_lower = off;
+  off_upper = off';
+}
+  where
+    x : ℤ
+    x = column_of f k
+
+    before : x <ℤ foot.x → x <ℤ head.x → ⊥
+    before a b = each (below_or_not k c.first)
+      where
+        each : (k < c.first) ⊎ (c.first ≤ k) → ⊥
+        each (inr i) = let h = foot.at.from k i l in absurd (omega (arith, signed_linear, h, a))
+        each (inl i) = let h = head.at.from k (omega (arith, from, i)) l in absurd (omega (arith, signed_linear, h, b))
+
+    after : foot.x <ℤ x → head.x <ℤ x → ⊥
+    after a b = each (below_or_not k c.end)
+      where
+        each : (k < c.end) ⊎ (c.end ≤ k) → ⊥
+        each (inl i) = let h = foot.at.to k i in absurd (omega (arith, signed_linear, h, a))
+        each (inr i) = let h = head.at.to k (omega (arith, to, i)) in absurd (omega (arith, signed_linear, h, b))
+
+    by : (foot.x <ℤ x) ⊎ (x ≤ℤ foot.x) → (head.x <ℤ x) ⊎ (x ≤ℤ head.x) → (x <ℤ foot.x) ⊎ (foot.x ≤ℤ x)
+        → (x <ℤ head.x) ⊎ (head.x ≤ℤ x) → IsBetween foot.x head.x x
+    by (inl a) (inl b) u v = absurd (after a b)
+    by (inl a) (inr b) u v = inl (omega (arith, signed_linear, a), b)
+    by (inr a) (inl b) u v = inr (omega (arith, signed_linear, b), a)
+    by (inr a) (inr b) (inr u) v = inl (u, b)
+    by (inr a) (inr b) (inl u) (inr v) = inr (v, a)
+    by (inr a) (inr b) (inl u) (inl v) = absurd (before u v)
+
+-- ---- all four
+pub level_of : (s : Span) (p : Placed) (r : ℕ) (c d : Reach) → ¬ (IsBulge s) → IsLow s p.frame r c → IsHigh s p.frame r d
+    → IsLevel s p r (min c.first d.first) (max c.end d.end)
+level_of s p r c d plain (inl low) (inl high) = record {
+  within = pass_within s p.frame r c d (met_between s p.frame plain) low high;
+  all = λ n. pass_met s p.frame r c d low high;
+}
+level_of s p r c d plain (inl low) (inr (hangs, head)) = record {
+  within = head_within s p.frame r c d (met_between s p.frame plain) low hangs head;
+  all = λ n. head_all s p.frame r c d low hangs head;
+}
+level_of s p r c d plain (inr (rests, foot)) (inl high) = record {
+  within = foot_within s p.frame r c d (met_between s p.frame plain) rests foot high;
+  all = λ n. foot_all s p.frame r c d rests foot high;
+}
+level_of s p r c d plain (inr (rests, foot)) (inr (hangs, head)) = record {
+  within = through_within s p.frame r c d (met_between s p.frame plain) foot head;
+  all = λ n. through_all s p.frame r c d rests foot hangs head;
+}
+
+pub comes_from : (s : Span) (p : Placed) (r : ℕ) (c : Reach) → ¬ (IsBulge s) → IsLow s p.frame r c → ComesFrom s p r c
+comes_from s p r c plain low d high = level_of s p r c d plain low high
+
+-- the same row, by its number
+passing_on : (s : Span) (f : Frame) (row row' : ℤ) (c : Reach) → row ≡ row' → IsPassing s f row c → IsPassing s f row' c
+passing_on s f row row' c e = subst (λ (y : ℤ). IsPassing s f y c) e
+
+pub comes_passing : (s : Span) (p : Placed) (r : ℕ) (c : Reach) → ¬ (IsBulge s) → IsPassing s p.frame (p.frame.bottom +ℤ pos r) c
+    → ComesFrom s p (r + 1) c
+comes_passing s p r c plain h =
+    comes_from s p (r + 1) c plain (inl (passing_on s p.frame (p.frame.bottom +ℤ pos r)
+    ((p.frame.bottom -ℤ pos 1) +ℤ pos (r + 1)) c (omega (arith, signed_linear)) h))
+
+pub comes_passing_below : (s : Span) (p : Placed) (r : ℕ) (c : Reach) → ¬ (IsBulge s) → r ≡ 0
+    → IsPassing s p.frame (p.frame.bottom -ℤ pos 1) c → ComesFrom s p r c
+comes_passing_below s p r c plain e h =
+    comes_from s p r c plain (inl (passing_on s p.frame (p.frame.bottom -ℤ pos 1)
+    ((p.frame.bottom -ℤ pos 1) +ℤ pos r) c (omega (arith, signed_linear, e)) h))
+
+-- ---- at the edge of the frame: all columns of the box, and some more
+within_more : (s : Span) (f : Frame) (r from to from' to' : ℕ) → AreMetWithin s f r from to
+    → AreMetWithin s f r (min from from') (max to to')
+within_more s f r from to from' to' h k l m = let at = h k l m in (omega (arith, at.0), omega (arith, at.1))
+
+within_more_after : (s : Span) (f : Frame) (r from to from' to' : ℕ) → AreMetWithin s f r from to
+    → AreMetWithin s f r (min from' from) (max to' to)
+within_more_after s f r from to from' to' h k l m = let at = h k l m in (omega (arith, at.0), omega (arith, at.1))
+
+pub comes_at_edge : (s : Span) (p : Placed) (r : ℕ) → IsPlaced s p → IsTrue p.lowest → r ≡ 0 → ComesFrom s p r p.reach
+comes_at_edge s p r is low e d high = record {
+  within = within_more s p.frame r p.reach.first p.reach.end d.first d.end (reach_columns s p is r);
+  all = λ n. absurd (n (inl (low, e)));
+}
+
+pub goes_at_edge : (s : Span) (p : Placed) (r : ℕ) (c : Reach) → IsPlaced s p → IsTrue p.highest → r ≡ p.frame.height
+    → IsLevel s p r (min c.first p.reach.first) (max c.end p.reach.end)
+goes_at_edge s p r c is high e = record {
+  within = within_more_after s p.frame r p.reach.first p.reach.end c.first c.end (reach_columns s p is r);
+  all = λ n. absurd (n (inr (high, e)));
+}
+
+-- ---- the levels of a band
+-- the height of a row, as code holds it
+pub height_kept : (row : ℤ) → IsWithin (2 ^ 16) row
+    → to_z w32 (of_z w32 (to_z w32 (of_z w32 (pos 128 *ℤ to_z w32 (of_z w32 row))) +ℤ pos 64)) ≡ pos 128 *ℤ row +ℤ pos 64
+height_kept row h =
+    let own : to_z w32 (of_z w32 row) ≡ row = omega (arith, signed_linear, h) in
+    let times : to_z w32 (of_z w32 (pos 128 *ℤ row)) ≡ pos 128 *ℤ row = omega (arith, signed, h) in
+    let all : to_z w32 (of_z w32 (pos 128 *ℤ row +ℤ pos 64)) ≡ pos 128 *ℤ row +ℤ pos 64 = omega (arith, signed, h) in
+    (λ i. to_z w32 (of_z w32 (to_z w32 (of_z w32 (pos 128 *ℤ own i)) +ℤ pos 64)))
+    ∙ (λ i. to_z w32 (of_z w32 (times i +ℤ pos 64))) ∙ all
+
+-- the row below the first one that is above the lower end
+pub row_under : (s : Span) (f : Frame) (first : ℕ) → IsAtMostEnds s (pos 128 *ℤ (f.bottom -ℤ pos 1) +ℤ pos 64)
+    → ((r : ℕ) → r < first → IsAtMostEnds s (height_of f r)) → IsAtMostEnds s (height_below f first)
+row_under s f first below under = by first refl
+  where
+    lowest : (b : ℤ) (n : ℕ) → n ≡ 0 → pos 128 *ℤ (b -ℤ pos 1) +ℤ pos 64 ≡ pos 128 *ℤ ((b -ℤ pos 1) +ℤ pos n) +ℤ pos 64
+    lowest b n e =
+        let same : b -ℤ pos 1 ≡ (b -ℤ pos 1) +ℤ pos n = omega (arith, signed_linear, e) in
+        ap (λ (z : ℤ). pos 128 *ℤ z +ℤ pos 64) same
+
+    next : (b : ℤ) (j n : ℕ) → n ≡ suc j → pos 128 *ℤ (b +ℤ pos j) +ℤ pos 64 ≡ pos 128 *ℤ ((b -ℤ pos 1) +ℤ pos n) +ℤ pos 64
+    next b j n e =
+        let same : b +ℤ pos j ≡ (b -ℤ pos 1) +ℤ pos n = omega (arith, signed_linear, e) in
+        ap (λ (z : ℤ). pos 128 *ℤ z +ℤ pos 64) same
+
+    by : (n : ℕ) → first ≡ n → IsAtMostEnds s (height_below f first)
+    by zero e = subst (IsAtMostEnds s) (lowest f.bottom first e) below
+    by (suc j) e = subst (IsAtMostEnds s) (next f.bottom j first e) (under j (omega (arith, e)))
+
+-- if an end is below the row below the band, no row of the band is at or below the lower end
+pub first_row : (s : Span) (f : Frame) (first : ℕ) → IsOneUnder s (pos 128 *ℤ (f.bottom -ℤ pos 1) +ℤ pos 64)
+    → ((r : ℕ) → r < first → IsAtMostEnds s (height_of f r)) → first ≡ 0
+first_row s f first one under = by first refl
+  where
+    none : IsOneUnder s (pos 128 *ℤ (f.bottom -ℤ pos 1) +ℤ pos 64) → IsAtMostEnds s (height_of f 0) → ⊥
+    none (inl l) h = let a = h.0 in absurd (omega (arith, signed, l, a))
+    none (inr l) h = let a = h.1 in absurd (omega (arith, signed, l, a))
+
+    by : (n : ℕ) → first ≡ n → first ≡ 0
+    by zero e = e
+    by (suc j) e = absurd (none one (under 0 (omega (arith, e))))
+
+-- if an end is above the row above those between the ends, that is no row of the band
+pub last_row : (s : Span) (f : Frame) (end : ℕ) → end ≤ f.height → IsOneOver s (height_of f end)
+    → (end < f.height → IsAtLeastEnds s (height_of f end)) → end ≡ f.height
+last_row s f end l one over = by (below_or_not end f.height)
+  where
+    none : IsOneOver s (height_of f end) → IsAtLeastEnds s (height_of f end) → ⊥
+    none (inl k) h = let a = h.0 in absurd (omega (arith, signed_linear, k, a))
+    none (inr k) h = let a = h.1 in absurd (omega (arith, signed_linear, k, a))
+
+    by : (end < f.height) ⊎ (f.height ≤ end) → end ≡ f.height
+    by (inl k) = absurd (none one (over k))
+    by (inr k) = omega (arith, k, l)
+
+-- one end below a height, and one above it
+pub between_ends : (s : Span) (y : ℤ) → IsOneUnder s y → IsOneOver s y → IsInner s.a.y s.c.y y
+between_ends s y (inl h) (inl k) = absurd (omega (arith, signed_linear, h, k))
+between_ends s y (inl h) (inr k) = inl (h, k)
+between_ends s y (inr h) (inl k) = inr (h, k)
+between_ends s y (inr h) (inr k) = absurd (omega (arith, signed_linear, h, k))
+
+-- no end is above a height: so none is above a higher one
+pub at_least_more : (s : Span) (y z : ℤ) → y ≤ℤ z → IsAtLeastEnds s y → IsAtLeastEnds s z
+at_least_more s y z l h =
+    let a = h.0 in let c = h.1 in (omega (arith, signed_linear, l, a), omega (arith, signed_linear, l, c))
+
+pub over_row : (f : Frame) (e r : ℕ) → e < r → height_of f e ≤ℤ height_below f r
+over_row f e r l = omega (arith, signed, l)
+
+pub over_lowest : (f : Frame) (r : ℕ) → (pos 128 *ℤ (f.bottom -ℤ pos 1) +ℤ pos 64) ≤ℤ height_below f r
+over_lowest f r = omega (arith, signed)
+
+-- up to each row of a band: those up to the first between the ends, those between, that above them, and those further up
+pub all_levels : (s : Span) (f : Frame) (m : Met) (below : ℕ) (up : List ℕ) → ¬ (IsBulge s) → ¬ (IsOnLine s) → AreMet s f m
+    → ((r : ℕ) → m.inner.first ≤ r → r < m.inner.end → AreSetUp s f below up r)
+    → (m.inner.end < f.height → AreSetUp s f below up m.inner.end) → (r : ℕ) → r < f.height → AreSetUp s f below up r
+all_levels s f m below up plain off is inner top r l = by (below_or_not r m.inner.first) (below_same_above r m.inner.end)
+  where
+    by : (r < m.inner.first) ⊎ (m.inner.first ≤ r) → (r < m.inner.end) ⊎ ((r ≡ m.inner.end) ⊎ (m.inner.end < r))
+        → AreSetUp s f below up r
+    by (inl a) b = set_under s f below r up plain off (is.under r a)
+    by (inr a) (inl b) = inner r a b
+    by (inr a) (inr (inl b)) = subst (AreSetUp s f below up) (sym b) (top (omega (arith, b, l)))
+    by (inr a) (inr (inr b)) = set_over s f below r up plain off
+        (at_least_more s (height_of f m.inner.end) (height_below f r) (over_row f m.inner.end r b)
+        (is.over m.inner.end (omega arith) (omega (arith, b, l))))
+
+pub top_level : (s : Span) (f : Frame) (m : Met) (below : ℕ) (up : List ℕ) → ¬ (IsBulge s) → ¬ (IsOnLine s) → AreMet s f m
+    → AreSetUp s f below up m.inner.end → m.inner.end ≤ f.height → AreSetUp s f below up f.height
+top_level s f m below up plain off is top l = by (below_or_not m.inner.end f.height)
+  where
+    by : (m.inner.end < f.height) ⊎ (f.height ≤ m.inner.end) → AreSetUp s f below up f.height
+    by (inl a) = set_over s f below f.height up plain off
+        (at_least_more s (height_of f m.inner.end) (height_below f f.height) (over_row f m.inner.end f.height a)
+        (is.over m.inner.end (omega arith) a))
+    by (inr a) = let e : m.inner.end ≡ f.height = omega (arith, a, l) in subst (AreSetUp s f below up) e top

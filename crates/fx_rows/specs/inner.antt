@@ -13,7 +13,7 @@ pub mod Heights
 pub mod Told
 pub mod Telling
 pub mod Placing
-pub mod Segments
 pub mod Upward
+pub mod Segments
 pub mod Lines
 pub mod Bulging

@@ -3,7 +3,7 @@
 ghost use Rattle.std.specs.Prelude.{◌≡◌, ℕ, ◌+◌, ◌-◌, ◌*◌, ◌^◌, ◌<◌, ◌≤◌, pos, ◌+ℤ◌, Some};
 ghost use Rattle.fx_winding.specs.Winding.{Span, span_of};
 ghost use Rattle.fx_rows.specs.inner.Arcs.{AreAreas};
-ghost use Rattle.fx_rows.specs.inner.Heights.{height_of};
+ghost use Rattle.fx_rows.specs.inner.Heights.{height_of, IsAtLeastEnds, IsAtMostEnds};
 ghost use Rattle.fx_rows.specs.inner.Placing.{AreMet};
 ghost use Rattle.fx_rows.specs.inner.Points.{IsInner};
 ghost use Rattle.fx_rows.specs.inner.Strips.{base_place};
@@ -214,6 +214,8 @@ fn add_met_piece<N: Noting>(
     ensures to { result.end ≤ rows.end }
     ensures inner { (r : ℕ) → result.first ≤ r → r < result.end →
         IsInner piece.now.a.y piece.now.c.y (height_of band.old.frame r) }
+    ensures under { (r : ℕ) → rows.first ≤ r → r < result.first → IsAtMostEnds (span_of piece.now) (height_of band.old.frame r) }
+    ensures over { (r : ℕ) → result.end ≤ r → r < rows.end → IsAtLeastEnds (span_of piece.now) (height_of band.old.frame r) }
     ensures count { tally.new.count ≤ tally.old.count + 12 * (rows.end - rows.first) }
 {
     let rise = rise_of(piece);

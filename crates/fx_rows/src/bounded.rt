@@ -1,6 +1,6 @@
 //! Pieces with their columns and the heights of their ends.
 
-ghost use Rattle.std.specs.Prelude.{◌≡◌, ◌^◌, ◌<ℤ◌};
+ghost use Rattle.std.specs.Prelude.{◌≡◌, ◌^◌, ◌<ℤ◌, ◌≤ℤ◌};
 ghost use Rattle.fx_fixed.specs.Ranges.{IsWithin};
 ghost use Rattle.fx_winding.specs.Winding.{span_of};
 ghost use Rattle.fx_rows.specs.inner.Points.{AreAcross, IsRise};
@@ -56,7 +56,7 @@ pub(crate) fn rise_of(piece: &Piece) -> Rise
 pub(crate) fn foot_x(piece: &Piece) -> i32
     ensures near { IsWithin (2 ^ 22) result }
     ensures rising { piece.now.a.y <ℤ piece.now.c.y → result ≡ piece.now.a.x }
-    ensures falling { piece.now.c.y <ℤ piece.now.a.y → result ≡ piece.now.c.x }
+    ensures falling { piece.now.c.y ≤ℤ piece.now.a.y → result ≡ piece.now.c.x }
 {
     if piece.a.y < piece.c.y {
         piece.a.x
@@ -70,7 +70,7 @@ pub(crate) fn foot_x(piece: &Piece) -> i32
 pub(crate) fn head_x(piece: &Piece) -> i32
     ensures near { IsWithin (2 ^ 22) result }
     ensures rising { piece.now.a.y <ℤ piece.now.c.y → result ≡ piece.now.c.x }
-    ensures falling { piece.now.c.y <ℤ piece.now.a.y → result ≡ piece.now.a.x }
+    ensures falling { piece.now.c.y ≤ℤ piece.now.a.y → result ≡ piece.now.a.x }
 {
     if piece.a.y < piece.c.y {
         piece.c.x

@@ -21,7 +21,7 @@ use fx_winding::{Frame, Notes, Piece, Point, Tally, first_from, words_for};
 
 /// Whether a line of centres comes from x on and up to y.
 #[inline(always)]
-fn has_line(x: i32, y: i32) -> bool
+pub(crate) fn has_line(x: i32, y: i32) -> bool
     requires near_x { IsWithin (2 ^ 22) x }
     requires near_y { IsWithin (2 ^ 22) y }
     ensures { IsTrue result ↔ HasLine x y }
@@ -194,8 +194,9 @@ pub(crate) fn note_bulge(piece: &Piece, notes: &mut Notes, tally: &mut Tally)
     ensures noted { IsNoted (span_of piece.now) notes.old.frame notes.new.across.items notes.new.up.items }
     ensures across { AreKept notes.old.across.items notes.new.across.items }
     ensures up { AreKept notes.old.up.items notes.new.up.items }
-    ensures only { (ss : List Span) → IsAmong (span_of piece.now) ss → AreMetBySome notes.old.frame notes.old.across.items ss →
-        AreMetBySome notes.old.frame notes.new.across.items ss }
+    ensures only { (ss : List Span) → IsAmong (span_of piece.now) ss →
+        AreMetBySome notes.old.frame notes.old.across.items notes.old.up.items ss →
+        AreMetBySome notes.old.frame notes.new.across.items notes.new.up.items ss }
     ensures count { tally.new.count ≤ tally.old.count + 45 * (notes.old.frame.height + notes.old.frame.width) }
 {
     let frame = notes.frame;

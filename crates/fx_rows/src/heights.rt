@@ -5,7 +5,7 @@ ghost use Rattle.fx_fixed.specs.Ranges.{IsWithin};
 ghost use Rattle.fx_winding.specs.Limits.{IsPixelNumber};
 ghost use Rattle.fx_winding.specs.Outside.{HasAll};
 ghost use Rattle.fx_winding.specs.Winding.{span_of};
-ghost use Rattle.fx_rows.specs.inner.Heights.{height_of, IsMissed, IsResting, IsHanging};
+ghost use Rattle.fx_rows.specs.inner.Heights.{height_of, IsMissed};
 ghost use Rattle.fx_rows.specs.inner.Telling.{IsPartOf};
 
 use crate::bounded::Rise;
@@ -131,32 +131,6 @@ pub(crate) fn lies_below(piece: &Piece, row: i32) -> bool
     ensures { IsTrue result → HasAll (λ q. q.y <ℤ (pos 128 *ℤ row +ℤ pos 64)) (span_of piece.now) }
 {
     high_y(piece) < 128 * row + 64
-}
-
-/// Whether a piece rests on the centres of a row: none of its points is below them, and of its ends at most the lower one at
-/// their height.
-#[inline(always)]
-pub(crate) fn rests_on(piece: &Piece, row: i32) -> bool
-    requires { IsWithin (2 ^ 16) row }
-    ensures { IsTrue result → IsResting (span_of piece.now) (pos 128 *ℤ row +ℤ pos 64) }
-{
-    if piece.a.y == piece.c.y {
-        return false;
-    }
-    128 * row + 64 <= low_y(piece)
-}
-
-/// Whether a piece hangs from the centres of a row: none of its points is above them, and of its ends at most the upper one at
-/// their height.
-#[inline(always)]
-pub(crate) fn hangs_from(piece: &Piece, row: i32) -> bool
-    requires { IsWithin (2 ^ 16) row }
-    ensures { IsTrue result → IsHanging (span_of piece.now) (pos 128 *ℤ row +ℤ pos 64) }
-{
-    if piece.a.y == piece.c.y {
-        return false;
-    }
-    high_y(piece) <= 128 * row + 64
 }
 
 /// Whether the centres of a row lie below or above a piece.

@@ -1,29 +1,32 @@
 //! The segments that pieces meet between neighbouring rows, noted as bits. A segment is named by its column and its upper row.
 //!
-//! A piece whose box is no wider than its chord's goes from the column where it passes one row between its ends to that of the
-//! next, and meets the segments of the columns between them. Of any other piece all segments of its box are noted, more than it
-//! meets.
+//! A piece comes up to a row from columns of the row below, and goes on to columns of the row: those where it passes a row between
+//! its ends, or those of its lower or its upper end. It meets the segments of the columns between them, and no others.
 
-ghost use Rattle.std.specs.Prelude.{◌≡◌, ◌⊎◌, ℕ, ℤ, ◌+◌, ◌-◌, ◌*◌, ◌^◌, ◌<◌, ◌≤◌, length, pos, ◌+ℤ◌, ◌*ℤ◌, ◌<ℤ◌, ◌≤ℤ◌};
-ghost use Rattle.std.specs.Prelude.{IsTrue, min, max};
+ghost use Rattle.std.specs.Prelude.{◌≡◌, ◌⊎◌, ℕ, ℤ, ◌+◌, ◌-◌, ◌*◌, ◌^◌, ◌<◌, ◌≤◌, length, pos, ◌+ℤ◌, ◌-ℤ◌, ◌*ℤ◌, ◌<ℤ◌, ◌≤ℤ◌};
+ghost use Rattle.std.specs.Prelude.{IsTrue, min, max, false};
 ghost use Rattle.fx_fixed.specs.Ranges.{IsWithin};
 ghost use Rattle.fx_winding.specs.Bitmaps.{words_for as words_for_of};
-ghost use Rattle.fx_winding.specs.Outside.{HasAll};
-ghost use Rattle.fx_winding.specs.Winding.{Span, span_of, IsBetween};
-ghost use Rattle.fx_rows.specs.inner.Heights.{height_of, IsResting, IsHanging};
+ghost use Rattle.fx_winding.specs.Limits.{IsPixelNumber};
+ghost use Rattle.fx_winding.specs.Winding.{Span, span_of};
+ghost use Rattle.fx_rows.specs.inner.Bulging.{IsBulge, IsOnLine};
+ghost use Rattle.fx_rows.specs.inner.Heights.{IsAtLeastEnds, IsAtMostEnds, IsOneOver, IsOneUnder};
+ghost use Rattle.fx_rows.specs.inner.Lines.{AreOnly};
 ghost use Rattle.fx_rows.specs.inner.Placing.{IsPlaced};
-ghost use Rattle.fx_rows.specs.inner.Segments.{AreSetUp};
+ghost use Rattle.fx_rows.specs.inner.Points.{IsInner};
+ghost use Rattle.fx_rows.specs.inner.Segments.{AreSetUp, IsUpBit};
 ghost use Rattle.fx_rows.specs.inner.Telling.{AreRowsTold};
-ghost use Rattle.fx_rows.specs.inner.Told.{AreKept, IsEnd, IsEndIn};
-ghost use Rattle.fx_rows.specs.inner.Upward.{column_of, height_below, AreMetTo, AreMetWithin, IsPassage};
+ghost use Rattle.fx_rows.specs.inner.Told.{AreKept, IsEndIn};
+ghost use Rattle.fx_rows.specs.inner.Upward.{AreAllMet, AreAt, AreAtFoot, AreAtHead, AreMetWithin, ComesFrom};
+ghost use Rattle.fx_rows.specs.inner.Upward.{IsEdge, IsLevel, IsPassing};
 
-use crate::across::Across;
-use crate::bounded::{foot_x, head_x};
-use crate::heights::{RowRange, hangs_from, lies_above, lies_below, rests_on};
+use crate::bounded::{bounds_of, foot_x, head_x, rise_of};
+use crate::bulge::has_line;
 use crate::marks::set_bits;
+use crate::passing::end_in;
 use crate::placed::{Placed, first_of};
 use crate::reach::{Reach, columns_under};
-use fx_winding::{Frame, Piece, first_from};
+use fx_winding::{Frame, Piece, Tally, first_from};
 
 /// Notes the segments up to a row in some columns.
 #[inline(always)]
@@ -33,6 +36,8 @@ fn note_columns(placed: Placed, row: u32, columns: Reach, up: &mut [u32])
     requires room { placed.below + (placed.frame.height + 1) * words_for_of placed.frame.width ≤ length up.old }
     ensures noted { (s : Span) → AreMetWithin s placed.frame row columns.first columns.end →
         AreSetUp s placed.frame placed.below up.new row }
+    ensures only { (s : Span) → (¬ (IsEdge placed row) → AreAllMet s placed.frame row columns.first columns.end) →
+        AreOnly (IsUpBit s placed) up.old up.new }
     ensures kept { AreKept up.old up.new }
 {
     if columns.end <= columns.first {
@@ -46,29 +51,11 @@ fn note_columns(placed: Placed, row: u32, columns: Reach, up: &mut [u32])
     );
 }
 
-/// Notes the segments up to some rows in the columns of a piece's box.
-#[inline]
-fn note_box(placed: Placed, rows: RowRange, up: &mut [u32])
-    requires rows { rows.end ≤ placed.frame.height + 1 }
-    requires room { placed.below + (placed.frame.height + 1) * words_for_of placed.frame.width ≤ length up.old }
-    ensures noted { (s : Span) → IsPlaced s placed →
-        (r : ℕ) → rows.first ≤ r → r < rows.end → AreSetUp s placed.frame placed.below up.new r }
-    ensures kept { AreKept up.old up.new }
-{
-    // The segments up to the rows before `row` are noted.
-    'rows: for row in rows.first..rows.end {
-        note_columns(placed, row, placed.reach, up);
-    }
-}
-
 /// The columns of a frame whose centres are at x: those before them are left of it, and those after them right of it.
 #[inline(always)]
 fn columns_at(frame: Frame, x: i32) -> Reach
     requires { IsWithin (2 ^ 22) x }
-    ensures first { result.first ≤ frame.width }
-    ensures end { result.end ≤ frame.width }
-    ensures left { (k : ℕ) → k < result.first → column_of frame k <ℤ x }
-    ensures right { (k : ℕ) → result.end ≤ k → k < frame.width → x <ℤ column_of frame k }
+    ensures { AreAt frame x result }
 {
     Reach {
         first: columns_under(frame, first_from(x)),
@@ -76,163 +63,208 @@ fn columns_at(frame: Frame, x: i32) -> Reach
     }
 }
 
-/// The columns from the first of some on, and from `end` on, to before the end of both.
+/// The columns at the lower end of a piece.
 #[inline(always)]
-fn widened(columns: Reach, end: u32) -> Reach
-    ensures first { result.first ≡ min columns.first end }
-    ensures end { result.end ≡ max columns.end end }
+fn foot_columns(piece: &Piece, frame: Frame) -> Reach
+    ensures { AreAtFoot (span_of piece.now) frame result }
+{
+    columns_at(frame, foot_x(piece))
+}
+
+/// The columns at the upper end of a piece.
+#[inline(always)]
+fn head_columns(piece: &Piece, frame: Frame) -> Reach
+    ensures { AreAtHead (span_of piece.now) frame result }
+{
+    columns_at(frame, head_x(piece))
+}
+
+/// The columns from the first of two ranges to the last of them.
+#[inline(always)]
+fn joined(a: Reach, b: Reach) -> Reach
+    ensures first { result.first ≡ min a.first b.first }
+    ensures end { result.end ≡ max a.end b.end }
 {
     Reach {
-        first: columns.first.min(end),
-        end: columns.end.max(end),
+        first: a.first.min(b.first),
+        end: a.end.max(b.end),
     }
 }
 
-/// Whether a piece rests on the centres of the row below one.
-#[inline(always)]
-fn has_foot(piece: &Piece, frame: Frame, row: u32) -> bool
-    requires { row ≤ frame.height }
-    ensures { IsTrue result → IsResting (span_of piece.now) (height_below frame row) }
+/// Where a piece passes the row below a band, which is between its ends. Few pieces need it, so its code is kept out of its caller.
+#[inline(never)]
+fn columns_passed(piece: &Piece, frame: Frame, tally: &mut Tally) -> Reach
+    requires row { IsPixelNumber (frame.bottom -ℤ pos 1) }
+    requires inner { IsInner piece.now.a.y piece.now.c.y (pos 128 *ℤ (frame.bottom -ℤ pos 1) +ℤ pos 64) }
+    ensures passing { IsPassing (span_of piece.now) frame (frame.bottom -ℤ pos 1) result }
+    ensures count { tally.new.count ≤ tally.old.count + 2 }
 {
-    rests_on(piece, frame.bottom - 1 + row as i32)
+    let bounded = bounds_of(piece, rise_of(piece));
+    let end = end_in(&bounded, frame, frame.bottom - 1, tally);
+    Reach { first: end, end }
 }
 
-/// Whether a piece hangs from the centres of a row.
+/// Whether no end of a piece is below the centres of a row.
 #[inline(always)]
-fn has_head(piece: &Piece, frame: Frame, row: u32) -> bool
-    requires { row ≤ frame.height }
-    ensures { IsTrue result → IsHanging (span_of piece.now) (height_of frame row) }
+fn is_over(piece: &Piece, row: i32) -> bool
+    requires { IsWithin (2 ^ 16) row }
+    ensures over { IsTrue result → IsAtMostEnds (span_of piece.now) (pos 128 *ℤ row +ℤ pos 64) }
+    ensures below { result ≡ false → IsOneUnder (span_of piece.now) (pos 128 *ℤ row +ℤ pos 64) }
 {
-    hangs_from(piece, frame.bottom + row as i32)
-}
-
-/// Notes the segments that a piece meets up to the rows below those between its ends. Returns the columns from which it comes to
-/// the lowest of these: that of its foot, or those of its box.
-#[inline(always)]
-fn note_foot(piece: &Piece, placed: Placed, up: &mut [u32]) -> Reach
-    requires passage { IsPassage (span_of piece.now) placed }
-    requires room { placed.below + (placed.frame.height + 1) * words_for_of placed.frame.width ≤ length up.old }
-    ensures columns { result.end ≤ placed.frame.width }
-    ensures met { (n : ℕ) → IsEnd (span_of piece.now) placed.frame placed.met.inner.first n →
-        AreMetTo (span_of piece.now) placed.frame placed.met.inner.first result n }
-    ensures noted { (r : ℕ) → r < placed.met.inner.first → AreSetUp (span_of piece.now) placed.frame placed.below up.new r }
-    ensures kept { AreKept up.old up.new }
-{
-    let row = placed.met.inner.first;
-    if has_foot(piece, placed.frame, row) {
-        return columns_at(placed.frame, foot_x(piece));
-    }
-    let below = RowRange {
-        first: placed.met.touched.first,
-        end: row,
-    };
-    note_box(placed, below, up);
-    placed.reach
-}
-
-/// Notes the segments that a piece meets up to the rows above the first that is above those between its ends. Returns the columns
-/// to which it goes up to that row: that of its head, or those of its box.
-#[inline(always)]
-fn note_head(piece: &Piece, placed: Placed, up: &mut [u32]) -> Reach
-    requires passage { IsPassage (span_of piece.now) placed }
-    requires room { placed.below + (placed.frame.height + 1) * words_for_of placed.frame.width ≤ length up.old }
-    ensures columns { result.end ≤ placed.frame.width }
-    ensures met { (n : ℕ) → IsEnd (span_of piece.now) placed.frame (placed.met.inner.end - 1) n →
-        AreMetTo (span_of piece.now) placed.frame placed.met.inner.end result n }
-    ensures noted { (r : ℕ) → placed.met.inner.end < r → r ≤ placed.frame.height →
-        AreSetUp (span_of piece.now) placed.frame placed.below up.new r }
-    ensures kept { AreKept up.old up.new }
-{
-    let row = placed.met.inner.end;
-    if has_head(piece, placed.frame, row) {
-        return columns_at(placed.frame, head_x(piece));
-    }
-    let above = RowRange {
-        first: row + 1,
-        end: placed.met.touched.end + 1,
-    };
-    note_box(placed, above, up);
-    placed.reach
-}
-
-/// Notes the segments that a piece meets which goes from row to row. `ends` has its column in each row between its ends.
-#[inline]
-fn note_passage(piece: &Piece, placed: Placed, ends: &[u32], up: &mut [u32])
-    requires passage { IsPassage (span_of piece.now) placed }
-    requires told { AreRowsTold (IsEndIn ends.now) (span_of piece.now) placed.frame 0 placed.frame.height }
-    requires room { placed.below + (placed.frame.height + 1) * words_for_of placed.frame.width ≤ length up.old }
-    ensures noted { (r : ℕ) → r ≤ placed.frame.height → AreSetUp (span_of piece.now) placed.frame placed.below up.new r }
-    ensures kept { AreKept up.old up.new }
-{
-    let inner = placed.met.inner;
-    let mut last = note_foot(piece, placed, up);
-    // The segments up to the rows before `row` are noted, and `last` is the columns from which the piece comes to this one.
-    'rows: for row in inner.first..inner.end {
-        let end = ends[row as usize];
-        note_columns(placed, row, widened(last, end), up);
-        last = Reach { first: end, end };
-    }
-    let head = note_head(piece, placed, up);
-    note_columns(placed, inner.end, widened(head, last.first), up);
-}
-
-/// Whether the columns of a piece's box are those of its chord's box.
-#[inline(always)]
-fn is_chord_wide(piece: &Piece, across: Across) -> bool
-    ensures { IsTrue result → (col : ℤ) → across.first ≤ℤ col → col <ℤ across.end →
-        IsBetween piece.now.a.x piece.now.c.x (pos 128 *ℤ col +ℤ pos 64) }
-{
-    let a = piece.a.x;
-    let c = piece.c.x;
-    if across.first < first_from(a.min(c)) {
+    let y = 128 * row + 64;
+    if piece.a.y < y {
         return false;
     }
-    if first_from(a.max(c) + 1) < across.end {
+    if piece.c.y < y {
         return false;
     }
     true
 }
 
-/// Whether a piece has rows between its ends, and a box that is no wider than its chord's.
+/// Whether no end of a piece is above the centres of a row.
 #[inline(always)]
-fn is_passage(piece: &Piece, placed: Placed) -> bool
-    requires { IsPlaced (span_of piece.now) placed }
-    ensures { IsTrue result → IsPassage (span_of piece.now) placed }
+fn is_under(piece: &Piece, row: i32) -> bool
+    requires { IsWithin (2 ^ 16) row }
+    ensures under { IsTrue result → IsAtLeastEnds (span_of piece.now) (pos 128 *ℤ row +ℤ pos 64) }
+    ensures above { result ≡ false → IsOneOver (span_of piece.now) (pos 128 *ℤ row +ℤ pos 64) }
 {
-    placed.met.inner.first < placed.met.inner.end && is_chord_wide(piece, placed.across)
+    let y = 128 * row + 64;
+    if y < piece.a.y {
+        return false;
+    }
+    if y < piece.c.y {
+        return false;
+    }
+    true
 }
 
-/// Whether all points of a piece are above the row above a frame, or all below the row below it.
+/// Whether both ends of a piece are on a line of centres, at one height.
 #[inline(always)]
-fn is_apart(piece: &Piece, frame: Frame) -> bool
-    ensures { IsTrue result → HasAll (λ e. height_of frame frame.height <ℤ e.y) (span_of piece.now) ⊎
-        HasAll (λ e. e.y <ℤ height_below frame 0) (span_of piece.now) }
+fn is_on_line(piece: &Piece) -> bool
+    ensures on { IsTrue result → IsOnLine (span_of piece.now) }
+    ensures off { result ≡ false → ¬ (IsOnLine (span_of piece.now)) }
 {
-    lies_above(piece, frame.bottom + frame.height as i32) || lies_below(piece, frame.bottom - 1)
+    if piece.a.y != piece.c.y {
+        return false;
+    }
+    has_line(piece.a.y, piece.a.y)
 }
 
-/// Notes the segments that a piece meets between neighbouring rows: those up to a band's rows, and those from its highest row up.
-/// `ends` has a number for each row of the band: in a row between the piece's ends it is the column where the piece passes.
+/// The columns from which a piece comes up to the lowest row of a band that is between its ends, or to the lowest one above it. Where
+/// it comes from below the frame they are those of its box.
 #[inline(always)]
-pub(crate) fn note_up(piece: &Piece, placed: Placed, ends: &[u32], up: &mut [u32])
+fn columns_below(piece: &Piece, placed: Placed, tally: &mut Tally) -> Reach
     requires placed { IsPlaced (span_of piece.now) placed }
+    requires plain { ¬ (IsBulge (span_of piece.now)) }
+    requires off { ¬ (IsOnLine (span_of piece.now)) }
+    requires over { IsOneOver (span_of piece.now) (pos 128 *ℤ (placed.frame.bottom -ℤ pos 1) +ℤ pos 64) }
+    ensures columns { result.end ≤ placed.frame.width }
+    ensures from { ComesFrom (span_of piece.now) placed placed.met.inner.first result }
+    ensures count { tally.new.count ≤ tally.old.count + 2 }
+{
+    if is_over(piece, placed.frame.bottom - 1) {
+        return foot_columns(piece, placed.frame);
+    }
+    if placed.lowest {
+        return placed.reach;
+    }
+    columns_passed(piece, placed.frame, tally)
+}
+
+/// The columns to which a piece goes up to the row above those between its ends. Where it leaves the frame they are those of its box.
+#[inline(always)]
+fn columns_above(piece: &Piece, placed: Placed) -> Reach
+    requires placed { IsPlaced (span_of piece.now) placed }
+    requires plain { ¬ (IsBulge (span_of piece.now)) }
+    requires off { ¬ (IsOnLine (span_of piece.now)) }
+    requires row { placed.met.inner.end ≡ placed.frame.height → IsTrue placed.highest }
+    ensures columns { result.end ≤ placed.frame.width }
+    ensures to { (low : Reach) → ComesFrom (span_of piece.now) placed placed.met.inner.end low →
+        IsLevel (span_of piece.now) placed placed.met.inner.end (min low.first result.first) (max low.end result.end) }
+{
+    if is_under(piece, placed.frame.bottom + placed.met.inner.end as i32) {
+        return head_columns(piece, placed.frame);
+    }
+    placed.reach
+}
+
+/// Whether the segments up to the row above those between a piece's ends are those of the next band.
+#[inline(always)]
+fn leaves_band(placed: Placed) -> bool
+    ensures leaves { IsTrue result → placed.met.inner.end ≡ placed.frame.height }
+    ensures next { IsTrue result → placed.highest ≡ false }
+    ensures stays { result ≡ false → placed.met.inner.end ≡ placed.frame.height → IsTrue placed.highest }
+{
+    if placed.highest {
+        return false;
+    }
+    placed.met.inner.end == placed.frame.height
+}
+
+/// Notes the segments that a piece meets up to the rows between its ends. Returns the columns from which it comes up to the row above
+/// them.
+#[inline(always)]
+fn note_passage(piece: &Piece, placed: Placed, ends: &[u32], low: Reach, up: &mut [u32]) -> Reach
+    requires placed { IsPlaced (span_of piece.now) placed }
+    requires plain { ¬ (IsBulge (span_of piece.now)) }
+    requires off { ¬ (IsOnLine (span_of piece.now)) }
     requires told { AreRowsTold (IsEndIn ends.now) (span_of piece.now) placed.frame 0 placed.frame.height }
     requires room { placed.below + (placed.frame.height + 1) * words_for_of placed.frame.width ≤ length up.old }
-    ensures noted { (r : ℕ) → r ≤ placed.frame.height → AreSetUp (span_of piece.now) placed.frame placed.below up.new r }
+    requires columns { low.end ≤ placed.frame.width }
+    requires from { ComesFrom (span_of piece.now) placed placed.met.inner.first low }
+    ensures columns { result.end ≤ placed.frame.width }
+    ensures from { ComesFrom (span_of piece.now) placed placed.met.inner.end result }
+    ensures noted { (r : ℕ) → placed.met.inner.first ≤ r → r < placed.met.inner.end →
+        AreSetUp (span_of piece.now) placed.frame placed.below up.new r }
+    ensures only { AreOnly (IsUpBit (span_of piece.now) placed) up.old up.new }
     ensures kept { AreKept up.old up.new }
+{
+    let inner = placed.met.inner;
+    let mut low = low;
+    // The segments up to the rows before `row` are noted, and `low` is the columns from which the piece comes to this one.
+    'rows: for row in inner.first..inner.end {
+        let end = ends[row as usize];
+        let high = Reach { first: end, end };
+        note_columns(placed, row, joined(low, high), up);
+        low = high;
+    }
+    low
+}
+
+/// Notes the segments that a piece meets up to a band's rows, and of the highest band also those from its highest row up. `ends` has
+/// a number for each row of the band: in a row between the piece's ends it is the column where the piece passes.
+#[inline(always)]
+pub(crate) fn note_up(
+    piece: &Piece,
+    placed: Placed,
+    ends: &[u32],
+    up: &mut [u32],
+    tally: &mut Tally,
+)
+    requires placed { IsPlaced (span_of piece.now) placed }
+    requires plain { ¬ (IsBulge (span_of piece.now)) }
+    requires told { AreRowsTold (IsEndIn ends.now) (span_of piece.now) placed.frame 0 placed.frame.height }
+    requires room { placed.below + (placed.frame.height + 1) * words_for_of placed.frame.width ≤ length up.old }
+    ensures noted { (r : ℕ) → r < placed.frame.height → AreSetUp (span_of piece.now) placed.frame placed.below up.new r }
+    ensures top { IsTrue placed.highest → AreSetUp (span_of piece.now) placed.frame placed.below up.new placed.frame.height }
+    ensures only { AreOnly (IsUpBit (span_of piece.now) placed) up.old up.new }
+    ensures kept { AreKept up.old up.new }
+    ensures count { tally.new.count ≤ tally.old.count + 2 }
 {
     if placed.reach.end <= placed.reach.first {
         return;
     }
-    if is_passage(piece, placed) {
-        return note_passage(piece, placed, ends, up);
-    }
-    if is_apart(piece, placed.frame) {
+    if is_on_line(piece) {
         return;
     }
-    let near = RowRange {
-        first: placed.met.touched.first,
-        end: placed.met.touched.end + 1,
-    };
-    note_box(placed, near, up);
+    if is_under(piece, placed.frame.bottom - 1) {
+        return;
+    }
+    let low = columns_below(piece, placed, tally);
+    let low = note_passage(piece, placed, ends, low, up);
+    if leaves_band(placed) {
+        return;
+    }
+    let high = columns_above(piece, placed);
+    note_columns(placed, placed.met.inner.end, joined(low, high), up);
 }

@@ -1,6 +1,6 @@
 //! What pieces meet, noted while they are added to bands.
 
-ghost use Rattle.std.specs.Prelude.{◌≡◌, ◌≢◌, ℕ, ◌+◌, ◌*◌, ◌<◌, ◌≤◌, length, IfOk, List};
+ghost use Rattle.std.specs.Prelude.{◌≡◌, ◌≢◌, ℕ, ◌+◌, ◌*◌, ◌<◌, ◌≤◌, length, IfOk, IsTrue, List};
 ghost use Rattle.fx_winding.specs.Bitmaps.{words_for as words_for_of};
 ghost use Rattle.fx_winding.specs.Winding.{Span, span_of};
 ghost use Rattle.fx_winding.specs.declared.frame.Frame.{Frame};
@@ -34,7 +34,7 @@ impl Noter {
     /// Nothing is noted of a frame's segments.
     pub(crate) fn new(alloc: Global, frame: Frame) -> Result<Noter, AllocError>
         ensures frame { IfOk result (λ n. n.notes.frame ≡ frame) }
-        ensures none { (ss : List Span) → IfOk result (λ n. AreMetBySome n.notes.frame n.notes.across.items ss) }
+        ensures none { (ss : List Span) → IfOk result (λ n. AreMetBySome n.notes.frame n.notes.across.items n.notes.up.items ss) }
     {
         Ok(Noter {
             notes: Notes::none(alloc, frame)?,
@@ -51,6 +51,9 @@ fn placed_in(piece: &Piece, frame: Frame, rows: RowRange, met: Met) -> Placed
     ensures part { IsPartOf frame rows.first rows.end result.frame }
     ensures below { result.below ≡ rows.first * words_for_of frame.width }
     ensures placed { IsPlaced (span_of piece.now) result }
+    ensures lowest { IsTrue result.lowest → rows.first ≡ 0 }
+    ensures highest { IsTrue result.highest → rows.end ≡ frame.height }
+    ensures top { rows.end ≡ frame.height → IsTrue result.highest }
 {
     let band = band_of(frame, rows);
     let across = across_of(piece);
@@ -60,13 +63,15 @@ fn placed_in(piece: &Piece, frame: Frame, rows: RowRange, met: Met) -> Placed
         met,
         across,
         reach: reach_of(across, band),
+        lowest: rows.first == 0,
+        highest: rows.end == frame.height,
     }
 }
 
 impl Noting for Noter {
-    ghost tests = { 45 };
+    ghost tests = { 47 };
 
-    ghost IsOf = { λ n t. IsAbout n.notes.frame n.notes.across.items t };
+    ghost IsOf = { λ n t. IsAbout n.notes.frame n.notes.across.items n.notes.up.items t };
 
     ghost IsTold = { λ n up end. IsEndIn n.ends up end };
 
@@ -84,6 +89,6 @@ impl Noting for Noter {
         }
         let placed = placed_in(piece, frame, rows, met);
         note_across(piece, placed, &self.ends, &mut self.notes.across, tally);
-        note_up(piece, placed, &self.ends, &mut self.notes.up);
+        note_up(piece, placed, &self.ends, &mut self.notes.up, tally);
     }
 }

@@ -14,7 +14,7 @@ pub(crate) trait Noting {
 
     // How many tests a row takes.
     ghost tests: { ℕ };
-    // The frame is the one of which segments are noted; or one of the pieces meets each that is noted across a row.
+    // The frame is the one of which segments are noted; or one of the pieces meets each that is noted within the frame.
     ghost IsOf: { Self → Subject → Type 0 };
     // The end of a row of the band is told.
     ghost IsTold: { Self → ℕ → ℕ → Type 0 };
@@ -35,6 +35,7 @@ pub(crate) trait Noting {
     fn note(&mut self, piece: &Piece, frame: Frame, rows: RowRange, met: Met, tally: &mut Tally)
         requires frame { IsOf self.old (of_frame frame) }
         requires rows { rows.end ≤ frame.height }
+        requires some { rows.first < rows.end }
         requires met { (g : Frame) → IsPartOf frame rows.first rows.end g → AreMet (span_of piece.now) g met }
         requires told { (g : Frame) → IsPartOf frame rows.first rows.end g →
             AreRowsTold (IsTold self.old) (span_of piece.now) g 0 g.height }

@@ -1,7 +1,8 @@
 //! Pieces in a band of rows, as those who note segments see them.
 
-ghost use Rattle.std.specs.Prelude.{◌≡◌, ◌+◌, ◌*◌, ◌^◌, ◌≤◌};
+ghost use Rattle.std.specs.Prelude.{◌≡◌, ◌+◌, ◌*◌, ◌^◌, ◌≤◌, pos, ◌-ℤ◌, false};
 ghost use Rattle.fx_winding.specs.Bitmaps.{words_for as words_for_of};
+ghost use Rattle.fx_winding.specs.Limits.{IsPixelNumber};
 
 use crate::across::Across;
 use crate::heights::Met;
@@ -21,10 +22,15 @@ pub(crate) struct Placed {
     pub across: Across,
     /// Those of them that the band has.
     pub reach: Reach,
+    /// Whether the band has the frame's lowest row.
+    pub lowest: bool,
+    /// Whether it has its highest.
+    pub highest: bool,
     ghost few: { below ≤ 2 ^ 22 },
     ghost rows: { met.touched.end ≤ frame.height },
     ghost order: { reach.first ≤ reach.end },
     ghost columns: { reach.end ≤ frame.width },
+    ghost row_below: { lowest ≡ false → IsPixelNumber (frame.bottom -ℤ pos 1) },
 }
 
 /// The number of the first segment of a band's row, that to its first pixel.

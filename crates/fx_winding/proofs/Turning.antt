@@ -13,7 +13,7 @@ use Rattle.fx_winding.proofs.Aside.{IsNoEnd, same_place, right_turn, left_turn, 
 use Rattle.fx_winding.proofs.Aside.{right_end_not_met, left_end_not_met}
 use Rattle.fx_winding.proofs.Beside.{StartsFrom, EndsAt, RestsOn, HangsFrom}
 use Rattle.fx_winding.proofs.Crossings.{above}
-use Rattle.fx_winding.proofs.EndRows.{off_no_end}
+use Rattle.fx_winding.proofs.EndsOn.{off_no_end}
 use Rattle.fx_winding.proofs.Sideways.{turned_rising, turned_falling}
 
 -- ---- beside all points of a piece

@@ -39,9 +39,12 @@ pub record IsNoted (s : Span) (f : Frame) (rows columns : List ℕ) : Type 0 whe
   pub across : (r : ℕ) → r < f.height → IsNotedAcross s f rows r
   pub up : (r : ℕ) → r ≤ f.height → IsNotedUp s f columns r
 
--- the bits of a frame's segments across its rows, but for those at its edges, are of such as some piece meets, unless an end is on it
-abbrev pub AreExact : Frame → List ℕ → List Span → Type 0
-AreExact f across ss = (r k : ℕ) → r < f.height → 0 < k → k < f.width → word_bit across (pixel_number f r k) ≡ 1
-    → Any (λ s. ¬ (IsOn (centre ((f.left -ℤ pos 1) +ℤ pos k) (f.bottom +ℤ pos r)) s)
-    → ¬ (IsOn (centre (f.left +ℤ pos k) (f.bottom +ℤ pos r)) s)
-    → IsMet (centre ((f.left -ℤ pos 1) +ℤ pos k) (f.bottom +ℤ pos r)) (centre (f.left +ℤ pos k) (f.bottom +ℤ pos r)) s) ss
+-- the bits of a frame's segments, but for those at its edges, are of such as some piece meets, unless an end is on it
+pub record AreExact (f : Frame) (rows columns : List ℕ) (ss : List Span) : Type 0 where
+  pub across : (r k : ℕ) → r < f.height → 0 < k → k < f.width → word_bit rows (pixel_number f r k) ≡ 1
+      → Any (λ s. ¬ (IsOn (centre ((f.left -ℤ pos 1) +ℤ pos k) (f.bottom +ℤ pos r)) s)
+      → ¬ (IsOn (centre (f.left +ℤ pos k) (f.bottom +ℤ pos r)) s)
+      → IsMet (centre ((f.left -ℤ pos 1) +ℤ pos k) (f.bottom +ℤ pos r)) (centre (f.left +ℤ pos k) (f.bottom +ℤ pos r)) s) ss
+  pub up : (r k : ℕ) → 0 < r → r < f.height → k < f.width → word_bit columns (pixel_number f r k) ≡ 1
+      → Any (λ s. ¬ (IsOn (centre (f.left +ℤ pos k) ((f.bottom -ℤ pos 1) +ℤ pos r)) s)
+      → ¬ (IsOn (centre (f.left +ℤ pos k) (f.bottom +ℤ pos r)) s) → IsMetUp s f r k) ss

@@ -18,7 +18,7 @@ pub struct Notes {
     pub across: Vec<u32>,
     /// The segments of columns, from lower neighbours. They take a row more than the pixels.
     pub up: Vec<u32>,
-    /// Whether of the segments of rows within the frame only such are noted as a piece meets, unless an end of one is on a piece.
+    /// Whether of the segments within the frame only such are noted as a piece meets, unless an end of one is on a piece.
     pub exact: bool,
     ghost across_room: { length across.items ≡ frame.height * words_for_of frame.width + 1 },
     ghost up_room: { length up.items ≡ (frame.height + 1) * words_for_of frame.width },

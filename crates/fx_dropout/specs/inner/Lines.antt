@@ -7,7 +7,7 @@ use Rattle.fx_winding.specs.Dropout.{IsGap, IsBridged}
 use Rattle.fx_winding.specs.Frames.{IsFrom, IsInFrame}
 use Rattle.fx_winding.specs.Meets.{IsMet}
 use Rattle.fx_winding.specs.Winding.{Span, IsCovered, centre}
-use Rattle.fx_dropout.specs.inner.Turned.{seen_bit, seen_centre, IsSeenInFrame}
+use Rattle.fx_dropout.specs.inner.Turned.{seen_bit, seen_centre, seen_spans, IsSeenInFrame}
 
 -- what is set so far: the bits of a bitmap, and outside its frame f the pixels whose centres are covered
 abbrev pub IsSoFar : Bool → List Span → Frame → Bits → ℤ → ℤ → Type 0
@@ -66,3 +66,18 @@ abbrev pub IsRowExact : List Span → Frame → ℤ → (ℤ → ℤ → Type 0)
 IsRowExact ss f j Old noted = (k : ℕ) → 0 < k → k < f.width → word_bit noted k ≡ 1 → ¬ (Old ((f.left -ℤ pos 1) +ℤ pos k) j)
     → ¬ (Old (((f.left -ℤ pos 1) +ℤ pos k) +ℤ pos 1) j)
     → Any (IsMet (centre ((f.left -ℤ pos 1) +ℤ pos k) j) (centre (((f.left -ℤ pos 1) +ℤ pos k) +ℤ pos 1) j)) ss
+
+-- the same between i and i + 1 of the frame's columns, seen as rows: both are in the frame, and the pixels at close the gaps
+pub record IsLevelTrusted (ss : List Span) (f : Frame) (i at : ℤ) (Old : ℤ → ℤ → Type 0) (noted : List ℕ) : Type 0 where
+  pub closer : at ≡ i
+  pub next : IsFrom f.bottom f.height (i +ℤ pos 1)
+  pub met : (k : ℕ) → k < f.width → word_bit noted k ≡ 1 → ¬ (Old i (f.left +ℤ pos k)) → ¬ (Old (i +ℤ pos 1) (f.left +ℤ pos k))
+      → Any (IsMet (centre i (f.left +ℤ pos k)) (centre (i +ℤ pos 1) (f.left +ℤ pos k))) ss
+
+-- the bit of one segment tells in this way: both its pixels are in the frame, and i closes the gap
+pub record IsTrusted (turned : Bool) (ss : List Span) (f : Frame) (b : Bits) (noted : List ℕ) (k : ℕ) (i j at : ℤ) : Type 0 where
+  pub closer : at ≡ i
+  pub here : IsSeenInFrame turned f i j
+  pub next : IsSeenInFrame turned f (i +ℤ pos 1) j
+  pub met : word_bit noted k ≡ 1 → ¬ (IsSoFar turned ss f b i j) → ¬ (IsSoFar turned ss f b (i +ℤ pos 1) j)
+      → Any (IsMet (centre i j) (centre (i +ℤ pos 1) j)) (seen_spans turned ss)

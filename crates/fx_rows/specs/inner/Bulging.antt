@@ -1,5 +1,5 @@
 -- Arcs that bulge: a line of centres comes between the control point and both ends, so that the arc may pass it and turn back.
-use Rattle.std.specs.Prelude.{◌⊎◌, ℤ, pos, ◌+ℤ◌, ◌*ℤ◌, ◌≤ℤ◌, ◌<ℤ◌, Option, Some, None}
+use Rattle.std.specs.Prelude.{◌≡◌, ◌⊎◌, ℤ, pos, ◌+ℤ◌, ◌*ℤ◌, ◌≤ℤ◌, ◌<ℤ◌, Option, Some, None}
 use Rattle.fx_winding.specs.Area.{Place}
 use Rattle.fx_winding.specs.Winding.{Span}
 
@@ -22,6 +22,11 @@ pub record IsLineFrom (x z y : ℤ) : Type 0 where
   pub above_too : z <ℤ y
   pub line : HasLine x y
   pub line_too : HasLine z y
+
+-- both ends of a piece are on a line of centres, at one height
+pub record IsOnLine (s : Span) : Type 0 where
+  pub level : s.a.y ≡ s.c.y
+  pub line : HasLine s.a.y s.a.y
 
 -- a control value b is beyond both end values, and a line comes between, or is at one of them
 abbrev pub IsBeyond : ℤ → ℤ → ℤ → Type 0

@@ -1,5 +1,5 @@
 -- The heights of rows, and pieces that rows miss.
-use Rattle.std.specs.Prelude.{◌≢◌, ◌⊎◌, ℕ, ℤ, pos, ◌+ℤ◌, ◌*ℤ◌, ◌≤ℤ◌, ◌<ℤ◌}
+use Rattle.std.specs.Prelude.{◌⊎◌, ℕ, ℤ, pos, ◌+ℤ◌, ◌*ℤ◌, ◌≤ℤ◌, ◌<ℤ◌}
 use Rattle.fx_winding.specs.Outside.{HasAll}
 use Rattle.fx_winding.specs.Winding.{Span}
 use Rattle.fx_winding.specs.declared.frame.Frame.{Frame}
@@ -12,10 +12,26 @@ height_of f r = pos 128 *ℤ (f.bottom +ℤ pos r) +ℤ pos 64
 abbrev pub IsMissed : Span → ℤ → Type 0
 IsMissed s y = HasAll (λ q. y <ℤ q.y) s ⊎ HasAll (λ q. q.y <ℤ y) s
 
--- no point of a piece is below this height, and its ends are at two heights: so of its ends at most the lower one is at this one
-abbrev pub IsResting : Span → ℤ → Type 0
-IsResting s y = HasAll (λ q. y ≤ℤ q.y) s × (s.a.y ≢ s.c.y)
+-- one of a piece's ends is below this height
+abbrev pub IsOneUnder : Span → ℤ → Type 0
+IsOneUnder s y = (s.a.y <ℤ y) ⊎ (s.c.y <ℤ y)
 
--- no point is above it, and of the ends at most the upper one is at it
+-- one of the ends is above it
+abbrev pub IsOneOver : Span → ℤ → Type 0
+IsOneOver s y = (y <ℤ s.a.y) ⊎ (y <ℤ s.c.y)
+
+-- no point of a piece is below this height, and one of its ends is above it
+abbrev pub IsResting : Span → ℤ → Type 0
+IsResting s y = HasAll (λ q. y ≤ℤ q.y) s × IsOneOver s y
+
+-- no point is above it, and one of the ends is below it
 abbrev pub IsHanging : Span → ℤ → Type 0
-IsHanging s y = HasAll (λ q. q.y ≤ℤ y) s × (s.a.y ≢ s.c.y)
+IsHanging s y = HasAll (λ q. q.y ≤ℤ y) s × IsOneUnder s y
+
+-- neither end is below this height
+abbrev pub IsAtMostEnds : Span → ℤ → Type 0
+IsAtMostEnds s y = (y ≤ℤ s.a.y) × (y ≤ℤ s.c.y)
+
+-- neither end is above it
+abbrev pub IsAtLeastEnds : Span → ℤ → Type 0
+IsAtLeastEnds s y = (s.a.y ≤ℤ y) × (s.c.y ≤ℤ y)

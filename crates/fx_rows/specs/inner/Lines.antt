@@ -3,6 +3,7 @@ use Rattle.std.specs.Prelude.{◌≡◌, ◌⊎◌, ℕ, ◌+◌, ◌*◌, ◌<�
 use Rattle.fx_winding.specs.Area.{Place}
 use Rattle.fx_winding.specs.Bitmaps.{word_bit}
 use Rattle.fx_winding.specs.Meets.{IsMet}
+use Rattle.fx_winding.specs.Notes.{IsMetUp}
 use Rattle.fx_winding.specs.Winding.{Span, IsOn, centre}
 use Rattle.fx_winding.specs.declared.frame.Frame.{Frame}
 use Rattle.fx_rows.specs.declared.part.Run.{Run}
@@ -51,3 +52,8 @@ pub record IsRowsBit (s : Span) (f : Frame) (row_step step n : ℕ) : Type 0 whe
   pub r : ℕ
   pub row : r < f.height
   pub line : IsLineBit s f (f.bottom +ℤ pos r) (r * row_step) step n
+
+-- a piece meets the segment up to a row in a column, unless an end of it is on the piece
+abbrev pub IsMetUnlessOn : Span → Frame → ℕ → ℕ → Type 0
+IsMetUnlessOn s f r k = ¬ (IsOn (centre (f.left +ℤ pos k) ((f.bottom -ℤ pos 1) +ℤ pos r)) s)
+    → ¬ (IsOn (centre (f.left +ℤ pos k) (f.bottom +ℤ pos r)) s) → IsMetUp s f r k

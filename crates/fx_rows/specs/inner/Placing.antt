@@ -5,7 +5,7 @@ use Rattle.fx_winding.specs.Outside.{HasAll}
 use Rattle.fx_winding.specs.Winding.{Span}
 use Rattle.fx_rows.specs.declared.heights.Met.{Met}
 use Rattle.fx_rows.specs.declared.placed.Placed.{Placed}
-use Rattle.fx_rows.specs.inner.Heights.{height_of}
+use Rattle.fx_rows.specs.inner.Heights.{height_of, IsAtMostEnds, IsAtLeastEnds}
 use Rattle.fx_rows.specs.inner.Points.{IsInner, AreAcross}
 
 -- the rows of a frame that a piece may touch, and those of them that pass between its ends
@@ -14,6 +14,8 @@ pub record AreMet (s : Span) (f : Frame) (m : Met) : Type 0 where
   pub above : (r : ℕ) → m.touched.end ≤ r → r < f.height → HasAll (λ q. q.y <ℤ height_of f r) s
   pub within : m.touched.end ≤ f.height
   pub inner : (r : ℕ) → m.inner.first ≤ r → r < m.inner.end → IsInner s.a.y s.c.y (height_of f r)
+  pub under : (r : ℕ) → r < m.inner.first → IsAtMostEnds s (height_of f r)
+  pub over : (r : ℕ) → m.inner.end ≤ r → r < f.height → IsAtLeastEnds s (height_of f r)
 
 -- and the columns of its box
 pub record IsPlaced (s : Span) (p : Placed) : Type 0 where

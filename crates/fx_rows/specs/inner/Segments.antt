@@ -4,7 +4,10 @@ use Rattle.fx_winding.specs.declared.frame.Frame.{Frame}
 use Rattle.fx_winding.specs.Bitmaps.{words_for, word_bit}
 use Rattle.fx_winding.specs.Notes.{pixel_number, IsMetAcross, IsMetUp}
 use Rattle.fx_winding.specs.Winding.{Span}
+use Rattle.fx_rows.specs.declared.placed.Placed.{Placed}
 use Rattle.fx_rows.specs.inner.Lines.{IsLineBit}
+use Rattle.fx_rows.specs.inner.Upward.{IsEdge}
+use Rattle.fx_rows.specs.inner.Lines.{IsMetUnlessOn}
 
 -- the number of a segment by its row and its column of a band; the notes of the rows below the band take the words `below`
 abbrev pub segment_number : Frame → ℕ → ℕ → ℕ → ℕ
@@ -13,6 +16,16 @@ segment_number f below r k = 32 * below + pixel_number f r k
 -- the segments that a piece meets between a row of a band and the one below have their bits
 abbrev pub AreSetUp : Span → Frame → ℕ → List ℕ → ℕ → Type 0
 AreSetUp s f below up r = (k : ℕ) → k < f.width → IsMetUp s f r k → word_bit up (segment_number f below r k) ≡ 1
+
+-- n is the bit of a segment up to a row of a band, or from its highest up; within the frame the piece meets it, unless an end of that
+-- is on it
+pub record IsUpBit (s : Span) (p : Placed) (n : ℕ) : Type 0 where
+  pub r : ℕ
+  pub k : ℕ
+  pub row : r ≤ p.frame.height
+  pub column : k < p.frame.width
+  pub at : n ≡ segment_number p.frame p.below r k
+  pub met : ¬ (IsEdge p r) → IsMetUnlessOn s p.frame r k
 
 -- the segments that it meets across a row of a band have their bits
 abbrev pub AreSetAcross : Span → Frame → ℕ → List ℕ → ℕ → Type 0

@@ -8,6 +8,7 @@ use Rattle.fx_rows.specs.inner.Heights.{height_of}
 use Rattle.fx_rows.specs.inner.Lines.{left_at, right_at, IsMetTo}
 use Rattle.fx_rows.specs.inner.Points.{IsInner}
 use Rattle.fx_rows.specs.inner.Told.{IsEnd}
+use Rattle.fx_rows.specs.inner.Lines.{IsMetUnlessOn}
 
 -- where the columns of a row end that are left of the piece is told
 pub record IsRowTold (IsTold : ℕ → ℕ → Type 0) (s : Span) (f : Frame) (r : ℕ) : Type 0 where
@@ -60,16 +61,29 @@ pub record IsMetByOne (ss : List Span) (f : Frame) (r k : ℕ) : Type 0 where
   pub met : ¬ (IsOn (left_at f (f.bottom +ℤ pos r) k) piece) → ¬ (IsOn (right_at f (f.bottom +ℤ pos r) k) piece)
       → IsMetTo piece f (f.bottom +ℤ pos r) k
 
--- the bits of a frame's segments across its rows, but for those at its edges, are of such as one of some pieces meets
-abbrev pub AreMetBySome : Frame → List ℕ → List Span → Type 0
-AreMetBySome f across ss = (r k : ℕ) → r < f.height → 0 < k → k < f.width → word_bit across (pixel_number f r k) ≡ 1
+-- the same of the segment up to a row in a column
+pub record IsMetUpByOne (ss : List Span) (f : Frame) (r k : ℕ) : Type 0 where
+  pub piece : Span
+  pub among : IsAmong piece ss
+  pub met : IsMetUnlessOn piece f r k
+
+-- the bits of a frame's segments, but for those at its edges, are of such as one of some pieces meets
+abbrev pub AreMetAcross : Frame → List ℕ → List Span → Type 0
+AreMetAcross f across ss = (r k : ℕ) → r < f.height → 0 < k → k < f.width → word_bit across (pixel_number f r k) ≡ 1
     → IsMetByOne ss f r k
+
+abbrev pub AreMetUp : Frame → List ℕ → List Span → Type 0
+AreMetUp f up ss = (r k : ℕ) → 0 < r → r < f.height → k < f.width → word_bit up (pixel_number f r k) ≡ 1 → IsMetUpByOne ss f r k
+
+pub record AreMetBySome (f : Frame) (across up : List ℕ) (ss : List Span) : Type 0 where
+  pub rows : AreMetAcross f across ss
+  pub columns : AreMetUp f up ss
 
 -- what notes are about: a frame, and pieces
 pub data Subject : Type 0 where
   of_frame : Frame → Subject
   of_pieces : List Span → Subject
 
-abbrev pub IsAbout : Frame → List ℕ → Subject → Type 0
-IsAbout f across (of_frame g) = f ≡ g
-IsAbout f across (of_pieces ss) = AreMetBySome f across ss
+abbrev pub IsAbout : Frame → List ℕ → List ℕ → Subject → Type 0
+IsAbout f across up (of_frame g) = f ≡ g
+IsAbout f across up (of_pieces ss) = AreMetBySome f across up ss

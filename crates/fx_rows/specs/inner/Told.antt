@@ -9,13 +9,16 @@ use Rattle.fx_winding.specs.Winding.{Span, IsOn, centre}
 abbrev pub rise_value : Span → ℤ
 rise_value s = if int_lt s.a.y s.c.y then pos 1 else negsuc 0
 
--- of the columns of a frame's row the first n are left of the piece, and the others right of it, but for those on it
-pub record IsEnd (s : Span) (f : Frame) (r n : ℕ) : Type 0 where
+-- of a frame's columns the first n are left of the piece in a row of the plane, and the others right of it, but for those on it
+pub record IsEndOn (s : Span) (f : Frame) (row : ℤ) (n : ℕ) : Type 0 where
   pub within : n ≤ f.width
-  pub left : (k : ℕ) → k < n → ¬ (IsOn (centre (f.left +ℤ pos k) (f.bottom +ℤ pos r)) s)
-      → turn (centre (f.left +ℤ pos k) (f.bottom +ℤ pos r)) s ≡ rise_value s
-  pub right : (k : ℕ) → n ≤ k → k < f.width → ¬ (IsOn (centre (f.left +ℤ pos k) (f.bottom +ℤ pos r)) s)
-      → turn (centre (f.left +ℤ pos k) (f.bottom +ℤ pos r)) s ≡ pos 0
+  pub left : (k : ℕ) → k < n → ¬ (IsOn (centre (f.left +ℤ pos k) row) s) → turn (centre (f.left +ℤ pos k) row) s ≡ rise_value s
+  pub right : (k : ℕ) → n ≤ k → k < f.width → ¬ (IsOn (centre (f.left +ℤ pos k) row) s)
+      → turn (centre (f.left +ℤ pos k) row) s ≡ pos 0
+
+-- the same in a row of the frame, counted from its lowest
+abbrev pub IsEnd : Span → Frame → ℕ → ℕ → Type 0
+IsEnd s f r n = IsEndOn s f (f.bottom +ℤ pos r) n
 
 -- the end at a place of a list
 abbrev pub IsEndIn : List ℕ → ℕ → ℕ → Type 0

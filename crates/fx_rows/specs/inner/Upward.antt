@@ -1,11 +1,14 @@
--- Where a piece can meet segments between neighbouring rows of a frame. A segment is named by its column and its upper row.
-use Rattle.std.specs.Prelude.{ℕ, ◌≤◌, ◌<◌, min, max, ℤ, pos, ◌+ℤ◌, ◌-ℤ◌, ◌*ℤ◌}
+-- Which segments between neighbouring rows of a frame a piece meets. A segment is named by its column and its upper row.
+use Rattle.std.specs.Prelude.{◌≡◌, ◌⊎◌, ℕ, ◌≤◌, ◌<◌, min, max, ℤ, pos, ◌+ℤ◌, ◌-ℤ◌, ◌*ℤ◌, ◌≤ℤ◌, ◌<ℤ◌, IsTrue}
 use Rattle.fx_winding.specs.declared.frame.Frame.{Frame}
 use Rattle.fx_winding.specs.Notes.{IsMetUp}
 use Rattle.fx_winding.specs.Winding.{Span, IsBetween}
 use Rattle.fx_rows.specs.declared.placed.Placed.{Placed}
 use Rattle.fx_rows.specs.declared.reach.Reach.{Reach}
-use Rattle.fx_rows.specs.inner.Placing.{IsPlaced}
+use Rattle.fx_rows.specs.inner.Heights.{height_of, IsResting, IsHanging}
+use Rattle.fx_rows.specs.inner.Lines.{IsMetUnlessOn}
+use Rattle.fx_rows.specs.inner.Points.{IsInner}
+use Rattle.fx_rows.specs.inner.Told.{IsEndOn}
 
 -- how far right the centres of a frame's column are
 abbrev pub column_of : Frame → ℕ → ℤ
@@ -23,12 +26,63 @@ AreMetWithin s f r from to = (k : ℕ) → k < f.width → IsMetUp s f r k → (
 abbrev pub AreMetBetween : Span → Frame → Type 0
 AreMetBetween s f = (r k : ℕ) → k < f.width → IsMetUp s f r k → IsBetween s.a.x s.c.x (column_of f k)
 
--- the segments up to a row that a piece meets are between some columns and the end of a row
-abbrev pub AreMetTo : Span → Frame → ℕ → Reach → ℕ → Type 0
-AreMetTo s f r columns end = AreMetWithin s f r (min columns.first end) (max columns.end end)
+-- a piece meets the segments up to a row in the columns from one on and before another, but for those an end of which is on it
+abbrev pub AreAllMet : Span → Frame → ℕ → ℕ → ℕ → Type 0
+AreAllMet s f r from to = (k : ℕ) → from ≤ k → k < to → k < f.width → IsMetUnlessOn s f r k
 
--- a piece with rows between its ends that meets segments in columns between these alone
-pub record IsPassage (s : Span) (p : Placed) : Type 0 where
-  pub placed : IsPlaced s p
-  pub some : p.met.inner.first < p.met.inner.end
-  pub between : AreMetBetween s p.frame
+-- the columns of a frame whose centres are at x
+pub record AreAt (f : Frame) (x : ℤ) (c : Reach) : Type 0 where
+  pub within : c.end ≤ f.width
+  pub left : (k : ℕ) → k < c.first → column_of f k <ℤ x
+  pub from : (k : ℕ) → c.first ≤ k → k < f.width → x ≤ℤ column_of f k
+  pub to : (k : ℕ) → k < c.end → column_of f k ≤ℤ x
+  pub right : (k : ℕ) → c.end ≤ k → k < f.width → x <ℤ column_of f k
+
+-- how far right the lower end of a piece is, and how far its upper one
+pub record IsFootX (s : Span) (x : ℤ) : Type 0 where
+  pub rising : s.a.y <ℤ s.c.y → x ≡ s.a.x
+  pub falling : s.c.y ≤ℤ s.a.y → x ≡ s.c.x
+
+pub record IsHeadX (s : Span) (x : ℤ) : Type 0 where
+  pub rising : s.a.y <ℤ s.c.y → x ≡ s.c.x
+  pub falling : s.c.y ≤ℤ s.a.y → x ≡ s.a.x
+
+-- the columns of a frame at the lower end of a piece, and those at its upper one
+pub record AreAtFoot (s : Span) (f : Frame) (c : Reach) : Type 0 where
+  pub x : ℤ
+  pub is : IsFootX s x
+  pub at : AreAt f x c
+
+pub record AreAtHead (s : Span) (f : Frame) (c : Reach) : Type 0 where
+  pub x : ℤ
+  pub is : IsHeadX s x
+  pub at : AreAt f x c
+
+-- a piece passes a row of the plane, which is between its ends, at no column's centre but before one column
+pub record IsPassing (s : Span) (f : Frame) (row : ℤ) (c : Reach) : Type 0 where
+  pub inner : IsInner s.a.y s.c.y (pos 128 *ℤ row +ℤ pos 64)
+  pub same : c.first ≡ c.end
+  pub is : IsEndOn s f row c.end
+
+-- a piece comes up to a row from these columns: it passes the row below there, or rests on that with its lower end there
+abbrev pub IsLow : Span → Frame → ℕ → Reach → Type 0
+IsLow s f r c = IsPassing s f ((f.bottom -ℤ pos 1) +ℤ pos r) c ⊎ (IsResting s (height_below f r) × AreAtFoot s f c)
+
+-- it goes up to a row to these columns: it passes the row there, or hangs from it with its upper end there
+abbrev pub IsHigh : Span → Frame → ℕ → Reach → Type 0
+IsHigh s f r c = IsPassing s f (f.bottom +ℤ pos r) c ⊎ (IsHanging s (height_of f r) × AreAtHead s f c)
+
+-- the segments up to a band's row lead into the frame from below, or out of it
+abbrev pub IsEdge : Placed → ℕ → Type 0
+IsEdge p r = (IsTrue p.lowest × (r ≡ 0)) ⊎ (IsTrue p.highest × (r ≡ p.frame.height))
+
+-- the segments up to a band's row that a piece meets are those in the columns from one on and before another; at the edge of the
+-- frame they are among them
+pub record IsLevel (s : Span) (p : Placed) (r from to : ℕ) : Type 0 where
+  pub within : AreMetWithin s p.frame r from to
+  pub all : ¬ (IsEdge p r) → AreAllMet s p.frame r from to
+
+-- a piece comes up to a band's row from these columns: to whichever columns it goes there
+abbrev pub ComesFrom : Span → Placed → ℕ → Reach → Type 0
+ComesFrom s p r low =
+    (c : Reach) → IsHigh s p.frame r c → IsLevel s p r (min low.first c.first) (max low.end c.end)

@@ -1,11 +1,12 @@
-use Rattle.std.proofs.Common.{◌≡◌, length, ◌+◌, ◌+ℤ◌, ◌-ℤ◌, ◌∙◌, inl, ℕ, pos, sym, subst, map, min, arith, w32, to_z, of_z, ℤ, false}
+use Rattle.std.proofs.Common.{◌≡◌, length, ◌+◌, ◌+ℤ◌, ◌-ℤ◌, ◌∙◌, inl, ℕ, pos, sym, subst, map, min, arith, w32, to_z, of_z, ℤ, false, Any, ◌<◌}
 use Rattle.std.proofs.lemmas.Int.{to_z_pos}
 use Rattle.fx_fixed.proofs.Linear.{signed_linear}
 use Rattle.fx_winding.specs.declared.frame.Frame.{Frame}
 use Rattle.fx_winding.specs.Frames.{IsFrom, IsInFrame}
-use Rattle.fx_winding.specs.Winding.{span_of}
+use Rattle.fx_winding.specs.Meets.{IsMet}
+use Rattle.fx_winding.specs.Winding.{span_of, centre}
 use Rattle.fx_dropout.specs.Tests.{most_tests}
-use Rattle.fx_dropout.specs.inner.Lines.{AreClosed, IsRowClosed, IsRowExact, IsRowNoted, IsSoFar}
+use Rattle.fx_dropout.specs.inner.Lines.{AreClosed, IsRowClosed, IsRowExact, IsRowNoted, IsSoFar, IsTrusted}
 use Rattle.fx_dropout.proofs.Candidates.{row_passed, exact_on}
 use Rattle.fx_dropout.proofs.Rows.{closed_none, closed_all, row_step}
 use Rattle.fx_dropout.proofs.Segments.{closer_made}
@@ -30,8 +31,8 @@ segments-init c =
       count = omega arith;
     }
 
-pub close_segment-requires-clause-inside : goal.close_segment-requires-clause-inside
-close_segment-requires-clause-inside c =
+pub close_noted-requires-clause-inside : goal.close_noted-requires-clause-inside
+close_noted-requires-clause-inside c =
     let f = c.args.frame in
     let k = c.segments.k in
     let step : to_z w32 k ≡ pos k = to_z_pos w32 k (omega arith) in
@@ -44,37 +45,39 @@ close_segment-requires-clause-inside c =
       row = (omega (arith, signed_linear), omega (arith, signed_linear));
     })
 
-pub close_segment-requires-clause-column : goal.close_segment-requires-clause-column
-close_segment-requires-clause-column c =
+pub close_noted-requires-clause-trusted : goal.close_noted-requires-clause-trusted
+close_noted-requires-clause-trusted c = λ t.
     let f = c.args.frame in
-    let k = c.segments.k in
-    let step : to_z w32 k ≡ pos k = to_z_pos w32 k (omega arith) in
-    let x = to_z w32 (of_z w32 (to_z w32 (of_z w32 (to_z w32 (of_z w32 f.left) -ℤ pos 1)) +ℤ to_z w32 k)) in
-    let col : x ≡ (f.left -ℤ pos 1) +ℤ pos k = omega (arith, signed_linear, step) in
-    col ∙ (λ z. ((sym c.segments.invariant.same z).left -ℤ pos 1) +ℤ pos k)
-
-pub close_segment-requires-clause-closer : goal.close_segment-requires-clause-closer
-close_segment-requires-clause-closer c = λ o.
-    let f = c.args.frame in
+    let ss = map span_of c.args.pieces.now in
+    let row = to_z w32 (of_z w32 c.args.j) in
+    let j : row ≡ c.args.j = omega (arith, signed_linear) in
+    let inside : IsFrom f.bottom f.height row = (omega (arith, signed_linear), omega (arith, signed_linear)) in
     let k = c.segments.k in
     let step : to_z w32 k ≡ pos k = to_z_pos w32 k (omega arith) in
     let x = to_z w32 (of_z w32 (to_z w32 (of_z w32 (to_z w32 (of_z w32 f.left) -ℤ pos 1)) +ℤ to_z w32 k)) in
     let col : x ≡ (f.left -ℤ pos 1) +ℤ pos k = omega (arith, signed_linear, step) in
     let closer = closer_made f.left f.width k x c.closer.result f.columns c.requires.some (omega arith) col c.closer.ensures in
-    closer.0.inner (omega (arith, signed_linear, col, o))
-
-pub close_segment-requires-clause-exact : goal.close_segment-requires-clause-exact
-close_segment-requires-clause-exact c = λ t.
-    let f = c.args.frame in
-    let ss = map span_of c.args.pieces.now in
-    let row = to_z w32 (of_z w32 c.args.j) in
-    let j : row ≡ c.args.j = omega (arith, signed_linear) in
+    let from : 0 < k = c.is_trusted.ensures.from t in
+    let to : k < f.width = c.is_trusted.ensures.to t in
     let old = IsSoFar false ss f c.args.bitmap.now in
     let mid = IsSoFar false ss f c.segments.bitmap in
-    subst (λ (g : Frame). IsRowExact ss g row (IsSoFar false ss g c.segments.bitmap) c.args.noted.now)
-    (sym c.segments.invariant.same)
-    (exact_on ss f row old mid c.args.noted.now (λ i h. (c.segments.invariant.closed.row i).1 (inl h))
-    (subst (λ (y : ℤ). IsRowExact ss f y old c.args.noted.now) (sym j) (c.requires.exact t)))
+    let exact : IsRowExact ss f row mid c.args.noted.now =
+    exact_on ss f row old mid c.args.noted.now (λ i h. (c.segments.invariant.closed.row i).1 (inl h))
+    (subst (λ (y : ℤ). IsRowExact ss f y old c.args.noted.now) (sym j) (c.requires.exact (c.is_trusted.ensures.exact t))) in
+    subst (λ (g : Frame). IsTrusted false ss g c.segments.bitmap c.args.noted.now k x row (to_z w32 (of_z w32 c.closer.result)))
+    (sym c.segments.invariant.same) (record {
+      closer = closer.0.inner (omega (arith, signed_linear, col, from));
+      here = record {
+        column = (omega (arith, signed_linear, col, from), omega (arith, signed_linear, col, to));
+        row = inside;
+      };
+      next = record {
+        column = (omega (arith, signed_linear, col, from), omega (arith, signed_linear, col, to));
+        row = inside;
+      };
+      met = λ set bare bare'. subst (λ (y : ℤ). ¬ (mid y row) → ¬ (mid (y +ℤ pos 1) row)
+          → Any (IsMet (centre y row) (centre (y +ℤ pos 1) row)) ss) (sym col) (exact k from to set) bare bare';
+    })
 
 pub segments-preserved : goal.segments-preserved
 segments-preserved c =
@@ -90,8 +93,8 @@ segments-preserved c =
     let closer = closer_made f.left f.width k x c.closer.result f.columns c.requires.some (omega arith) col c.closer.ensures in
     let old = IsSoFar false ss f c.args.bitmap.now in
     let mid = c.segments.bitmap in
-    let new = c.close_segment.new.bitmap in
-    let same = c.close_segment.ensures.frame ∙ c.segments.invariant.same in
+    let new = c.close_noted.new.bitmap in
+    let same = c.close_noted.ensures.frame ∙ c.segments.invariant.same in
     let here : min k (f.width + 1) ≡ k = omega arith in
     let noted : IsRowNoted ss f row old c.args.noted.now = subst (λ (y : ℤ). IsRowNoted ss f y old c.args.noted.now) (sym j)
     c.requires.noted in
@@ -99,16 +102,16 @@ segments-preserved c =
     row_step false ss f f mid.frame c.args.bitmap.now mid new k row x (to_z w32 (of_z w32 c.closer.result))
     c.segments.invariant.same (λ m n. (λ h. h, λ h. h)) inside c.requires.some (omega arith) col closer.0
     (subst (λ (n : ℕ). AreClosed ss f n row old (IsSoFar false ss f mid)) here c.segments.invariant.closed)
-    c.close_segment.ensures.here c.close_segment.ensures.others in
+    c.close_noted.ensures.here c.close_noted.ensures.others in
     record {
       same = same;
       closed = row_passed ss f c.args.noted.now c.row-in-segments.result.now old new row (k + 1)
           c.next_segment-k-in-segments.result same inside c.requires.some (omega arith) c.next_segment-k-in-segments.ensures.from
           c.row-in-segments.ensures.words c.row-in-segments.ensures.value noted
           (λ n l h few. c.next_segment-k-in-segments.ensures.shut n l h) closed;
-      count = counted_on c.args.tally.now.count c.segments.tally.count c.close_segment.new.tally.count (min k (f.width + 1))
+      count = counted_on c.args.tally.now.count c.segments.tally.count c.close_noted.new.tally.count (min k (f.width + 1))
           (min c.next_segment-k-in-segments.result (f.width + 1)) (most_tests (length c.args.pieces.now))
-          c.segments.invariant.count c.close_segment.ensures.count (omega (arith, c.next_segment-k-in-segments.ensures.from));
+          c.segments.invariant.count c.close_noted.ensures.count (omega (arith, c.next_segment-k-in-segments.ensures.from));
     }
 
 pub returns-clause-closed : goal.returns-clause-closed

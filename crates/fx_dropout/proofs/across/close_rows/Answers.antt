@@ -79,7 +79,7 @@ close_row-requires-clause-exact c = λ e.
     let few : up * w + w + 1 - up * w ≡ words_for f.width + 1 = omega (arith, words) in
     let first : up * w ≡ up * words_for f.width = ap (λ (n : ℕ). up * n) words in
     let items = c.deref-in-rows.ensures.value in
-    row_exact ss f c.args.notes.now.across.items
+    row_exact ss f c.args.notes.now.across.items c.args.notes.now.up.items
     (take (up * w + w + 1 - up * w) (drop (up * w) c.deref-in-rows.result.now)) new up (up * w) at (c.requires.exact e)
     covered (omega arith) row first (λ t. take (few t) (drop (up * w) (items t)))
 

@@ -1,4 +1,4 @@
-use Rattle.std.proofs.Common.{◌≡◌, length, ◌↔◌, ◌+◌, ◌-◌, ◌*◌, ◌≤◌, List, ◌+ℤ◌, ◌-ℤ◌, inl, pos, sym, ap, subst, map, true, take, drop}
+use Rattle.std.proofs.Common.{◌≡◌, length, ◌↔◌, ◌+◌, ◌-◌, ◌*◌, ◌≤◌, ◌<◌, List, ◌+ℤ◌, ◌-ℤ◌, inl, pos, sym, ap, subst, map, true, take, drop}
 use Rattle.std.proofs.Common.{arith, w32, to_z}
 use Rattle.std.proofs.Common.{of_z, ℤ, ℕ}
 use Rattle.std.proofs.lemmas.Int.{to_z_pos}
@@ -11,7 +11,7 @@ use Rattle.fx_winding.specs.Winding.{span_of, centre, IsCovered}
 use Rattle.fx_dropout.specs.Tests.{most_tests}
 use Rattle.fx_dropout.specs.inner.Lines.{IsSoFar}
 use Rattle.fx_dropout.specs.inner.Words.{IsShutInColumn}
-use Rattle.fx_dropout.proofs.Candidates.{level_noted, levels_pass}
+use Rattle.fx_dropout.proofs.Candidates.{level_exact, level_noted, levels_pass}
 use Rattle.fx_dropout.proofs.Rows.{narrow_closed}
 use Rattle.fx_dropout.proofs.Levels.{levels_more, levels_all}
 use Rattle.fx_dropout.proofs.Segments.{bridged_none, closer_made, closer_either}
@@ -66,7 +66,8 @@ close_level-requires-clause-at c =
     let step : to_z w32 up ≡ pos up = to_z_pos w32 up (omega arith) in
     let x = to_z w32 (of_z w32 (to_z w32 (of_z w32 (to_z w32 (of_z w32 f.bottom) -ℤ pos 1)) +ℤ to_z w32 up)) in
     let row : x ≡ (f.bottom -ℤ pos 1) +ℤ pos up = omega (arith, signed_linear, step) in
-    let closer = closer_made f.bottom f.height up x c.closer.result f.rows (omega arith) (omega arith) row c.closer.ensures in
+    let closer = closer_made f.bottom f.height up x c.closer.result f.rows (c.is_empty.ensures.high c.if-is_empty.false)
+    (omega arith) row c.closer.ensures in
     closer.1
 
 pub close_level-requires-clause-either : goal.close_level-requires-clause-either
@@ -76,7 +77,8 @@ close_level-requires-clause-either c =
     let step : to_z w32 up ≡ pos up = to_z_pos w32 up (omega arith) in
     let x = to_z w32 (of_z w32 (to_z w32 (of_z w32 (to_z w32 (of_z w32 f.bottom) -ℤ pos 1)) +ℤ to_z w32 up)) in
     let row : x ≡ (f.bottom -ℤ pos 1) +ℤ pos up = omega (arith, signed_linear, step) in
-    let closer = closer_made f.bottom f.height up x c.closer.result f.rows (omega arith) (omega arith) row c.closer.ensures in
+    let closer = closer_made f.bottom f.height up x c.closer.result f.rows (c.is_empty.ensures.high c.if-is_empty.false)
+    (omega arith) row c.closer.ensures in
     closer_either f.bottom up x (to_z w32 (of_z w32 c.closer.result)) row closer.0
 
 pub close_level-requires-clause-noted : goal.close_level-requires-clause-noted
@@ -99,6 +101,31 @@ close_level-requires-clause-noted c =
     (take (up * w + w - up * w) (drop (up * w) c.deref-in-levels.result.now)) new up (up * w) x c.requires.noted
     covered (omega arith) row first (λ t. take (few t) (drop (up * w) (items t)))
 
+pub close_level-requires-clause-trusted : goal.close_level-requires-clause-trusted
+close_level-requires-clause-trusted c = λ t.
+    let f = c.args.notes.now.frame in
+    let ss = map span_of c.args.pieces.now in
+    let up = c.levels.up in
+    let step : to_z w32 up ≡ pos up = to_z_pos w32 up (omega arith) in
+    let x = to_z w32 (of_z w32 (to_z w32 (of_z w32 (to_z w32 (of_z w32 f.bottom) -ℤ pos 1)) +ℤ to_z w32 up)) in
+    let row : x ≡ (f.bottom -ℤ pos 1) +ℤ pos up = omega (arith, signed_linear, step) in
+    let closer = closer_made f.bottom f.height up x c.closer.result f.rows (c.is_empty.ensures.high c.if-is_empty.false)
+    (omega arith) row c.closer.ensures in
+    let new = IsSoFar true ss f c.levels.bitmap in
+    let covered : (i j : ℤ) → IsCovered (centre j i) ss → new i j = λ i j h. (c.levels.invariant.closed i j).1
+    (inl (subst (λ (g : Frame). IsSoFar true ss g c.args.bitmap.now i j) (sym c.requires.frame) (c.requires.covered i j h))) in
+    let w = c.words_for-words.result in
+    let words = c.words_for-words.ensures in
+    let few : up * w + w - up * w ≡ words_for f.width = omega (arith, words) in
+    let first : up * w ≡ up * words_for f.width = ap (λ (n : ℕ). up * n) words in
+    let items = c.deref-in-levels.ensures.value in
+    let from : 0 < up = c.is_trusted.ensures.from t in
+    level_exact ss f c.args.notes.now.across.items c.args.notes.now.up.items
+    (take (up * w + w - up * w) (drop (up * w) c.deref-in-levels.result.now)) new up (up * w) x
+    (to_z w32 (of_z w32 c.closer.result)) (c.requires.exact (c.is_trusted.ensures.exact t)) covered from
+    (c.is_trusted.ensures.to t) row (closer.0.inner (omega (arith, signed_linear, row, from))) first
+    (λ t. take (few t) (drop (up * w) (items t)))
+
 pub levels-preserved : goal.levels-preserved
 levels-preserved c =
     let f = c.args.notes.now.frame in
@@ -108,7 +135,8 @@ levels-preserved c =
     let step : to_z w32 up ≡ pos up = to_z_pos w32 up (omega arith) in
     let x = to_z w32 (of_z w32 (to_z w32 (of_z w32 (to_z w32 (of_z w32 f.bottom) -ℤ pos 1)) +ℤ to_z w32 up)) in
     let row : x ≡ (f.bottom -ℤ pos 1) +ℤ pos up = omega (arith, signed_linear, step) in
-    let closer = closer_made f.bottom f.height up x c.closer.result f.rows (omega arith) (omega arith) row c.closer.ensures in
+    let closer = closer_made f.bottom f.height up x c.closer.result f.rows (c.is_empty.ensures.high c.if-is_empty.false)
+    (omega arith) row c.closer.ensures in
     let at = to_z w32 (of_z w32 c.closer.result) in
     let old = IsSoFar true ss f c.args.bitmap.now in
     let mid = IsSoFar true ss f c.levels.bitmap in
@@ -123,10 +151,10 @@ levels-preserved c =
       same = same;
       to = to;
       closed = levels_pass ss f c.args.notes.now.across.items c.args.notes.now.up.items old b (up + 1) next.result same
-          (omega arith) next.ensures.from to c.requires.noted covered
+          (c.is_empty.ensures.high c.if-is_empty.false) next.ensures.from to c.requires.noted covered
           (λ r n l m few. subst (λ (xs : List ℕ). IsShutInColumn xs b r n) c.deref-in-levels-2.ensures.value
           (next.ensures.skipped r n l m few))
-          (levels_more ts f up x at old mid new (omega arith) (omega arith) row closer.0
+          (levels_more ts f up x at old mid new (c.is_empty.ensures.high c.if-is_empty.false) (omega arith) row closer.0
           (λ j h. so_far_decided true ss f c.levels.bitmap at j (record { column = h; row = closer.1 }))
           c.levels.invariant.closed c.close_level.ensures.closed);
       count = counted_on c.args.tally.now.count c.levels.tally.count c.close_level.new.tally.count up next.result

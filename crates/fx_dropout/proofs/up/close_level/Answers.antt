@@ -1,14 +1,15 @@
-use Rattle.std.proofs.Common.{◌≡◌, length, ◌+◌, ◌+ℤ◌, ◌∙◌, pos, sym, subst, map, min, arith, w32, to_z, of_z, ℤ, ℕ, true}
+use Rattle.std.proofs.Common.{◌≡◌, length, ◌+◌, ◌+ℤ◌, ◌∙◌, pos, sym, subst, map, min, arith, w32, to_z, of_z, ℤ, ℕ, true, Any, ◌<◌}
 use Rattle.std.proofs.lemmas.Int.{to_z_pos}
 use Rattle.fx_fixed.proofs.Linear.{signed_linear}
 use Rattle.fx_winding.specs.declared.frame.Frame.{Frame}
 use Rattle.fx_winding.specs.Dropout.{turned_span}
 use Rattle.fx_winding.specs.Frames.{IsFrom, IsInFrame}
-use Rattle.fx_winding.specs.Winding.{span_of}
+use Rattle.fx_winding.specs.Meets.{IsMet}
+use Rattle.fx_winding.specs.Winding.{span_of, centre}
 use Rattle.fx_dropout.specs.Tests.{most_tests}
-use Rattle.fx_dropout.specs.inner.Lines.{IsSoFar, IsOneOf, IsLevelNoted, IsLevelClosed}
+use Rattle.fx_dropout.specs.inner.Lines.{IsSoFar, IsOneOf, IsLevelNoted, IsLevelClosed, IsTrusted}
 use Rattle.fx_dropout.proofs.Candidates.{level_passed}
-use Rattle.fx_dropout.proofs.Levels.{level_none, level_step}
+use Rattle.fx_dropout.proofs.Levels.{level_kept, level_none, level_step}
 use Rattle.fx_dropout.proofs.Tests.{counted_on, counted_to}
 use Rattle.fx_dropout.proofs.up.close_level.Goals as goal
 
@@ -45,8 +46,8 @@ columns-init c =
       count = omega arith;
     }
 
-pub close_gap-requires-clause-inside : goal.close_gap-requires-clause-inside
-close_gap-requires-clause-inside c =
+pub close_noted-requires-clause-inside : goal.close_noted-requires-clause-inside
+close_noted-requires-clause-inside c =
     let f = c.args.frame in
     let k = c.columns.k in
     let step : to_z w32 k ≡ pos k = to_z_pos w32 k (omega arith) in
@@ -62,8 +63,39 @@ row-requires-in-columns-2 c =
     let above = c.row_above-above.ensures.inside in
     let next : c.row_above-above.result ≡ to_z w32 (of_z w32 c.row_above-above.result) =
     omega (arith, signed_linear, above.0, above.1) in
-    let same = c.close_gap.ensures.frame ∙ c.columns.invariant.same in
+    let same = c.close_noted.ensures.frame ∙ c.columns.invariant.same in
     subst (λ (z : Frame × ℤ). IsFrom z.0.bottom z.0.height z.1) (λ t. (sym same t, next t)) above
+
+pub close_noted-requires-clause-trusted : goal.close_noted-requires-clause-trusted
+close_noted-requires-clause-trusted c = λ t.
+    let f = c.args.frame in
+    let ss = map span_of c.args.pieces.now in
+    let ts = map turned_span ss in
+    let k = c.columns.k in
+    let step : to_z w32 k ≡ pos k = to_z_pos w32 k (omega arith) in
+    let x = to_z w32 (of_z w32 (to_z w32 (of_z w32 f.left) +ℤ to_z w32 k)) in
+    let col : x ≡ f.left +ℤ pos k = omega (arith, signed_linear, step) in
+    let low = to_z w32 (of_z w32 c.args.i) in
+    let i : c.args.i ≡ low = omega (arith, signed_linear) in
+    let at = to_z w32 (of_z w32 c.args.at) in
+    let y : c.args.at ≡ at = omega (arith, signed_linear) in
+    let old = IsSoFar true ss f c.args.bitmap.now in
+    let mid = IsSoFar true ss f c.columns.bitmap in
+    let trusted = c.requires.trusted t in
+    let same : at ≡ low = sym y ∙ trusted.closer ∙ i in
+    let inside : k < f.width = omega arith in
+    let column : IsFrom f.left f.width x = (omega (arith, signed_linear, col), omega (arith, signed_linear, col, inside)) in
+    let grows : (m j : ℤ) → old m j → mid m j =
+    level_kept ts f.left (min k f.width) low at old mid c.columns.invariant.closed in
+    subst (λ (g : Frame). IsTrusted true ss g c.columns.bitmap c.args.noted.now k low x at) (sym c.columns.invariant.same) (record {
+      closer = same;
+      here = record { column = column; row = subst (IsFrom f.bottom f.height) (trusted.closer ∙ i) c.requires.at };
+      next = record { column = column; row = subst (λ (z : ℤ). IsFrom f.bottom f.height (z +ℤ pos 1)) i trusted.next };
+      met = λ set bare bare'. subst (λ (z : ℤ × ℤ). ¬ (mid z.0 z.1) → ¬ (mid (z.0 +ℤ pos 1) z.1)
+          → Any (IsMet (centre z.0 z.1) (centre (z.0 +ℤ pos 1) z.1)) ts) (λ u. (i u, sym col u))
+          (λ b b'. trusted.met k inside set (λ h. b (grows c.args.i (f.left +ℤ pos k) h))
+          (λ h. b' (grows (c.args.i +ℤ pos 1) (f.left +ℤ pos k) h))) bare bare';
+    })
 
 pub columns-preserved : goal.columns-preserved
 columns-preserved c =
@@ -83,13 +115,13 @@ columns-preserved c =
     let col : x ≡ f.left +ℤ pos k = omega (arith, signed_linear, step) in
     let old = IsSoFar true ss f c.args.bitmap.now in
     let mid = c.columns.bitmap in
-    let new = c.close_gap.new.bitmap in
-    let same = c.close_gap.ensures.frame ∙ c.columns.invariant.same in
+    let new = c.close_noted.new.bitmap in
+    let same = c.close_noted.ensures.frame ∙ c.columns.invariant.same in
     let here : min k f.width ≡ k = omega arith in
     let closed : IsLevelClosed ts f.left (k + 1) low at old (IsSoFar true ss f new) =
     level_step ss f mid.frame mid new k low at x old c.columns.invariant.same col
     (subst (λ (n : ℕ). IsLevelClosed ts f.left n low at old (IsSoFar true ss f mid)) here c.columns.invariant.closed)
-    c.close_gap.ensures.here c.close_gap.ensures.others in
+    c.close_noted.ensures.here c.close_noted.ensures.others in
     record {
       same = same;
       closed = level_passed ss f c.args.noted.now c.row-in-columns.result.now c.row-in-columns-2.result.now old new low at up
@@ -101,9 +133,9 @@ columns-preserved c =
           c.row-in-columns-2.ensures.words c.row-in-columns-2.ensures.value
           (subst (λ (x : ℤ). IsLevelNoted ts f x old c.args.noted.now) i c.requires.noted) c.requires.room
           (λ n l h few. c.next_segment-k-in-columns.ensures.shut n l h) closed;
-      count = counted_on c.args.tally.now.count c.columns.tally.count c.close_gap.new.tally.count (min k f.width)
+      count = counted_on c.args.tally.now.count c.columns.tally.count c.close_noted.new.tally.count (min k f.width)
           (min c.next_segment-k-in-columns.result f.width) (most_tests (length c.args.pieces.now)) c.columns.invariant.count
-          c.close_gap.ensures.count (omega (arith, c.next_segment-k-in-columns.ensures.from));
+          c.close_noted.ensures.count (omega (arith, c.next_segment-k-in-columns.ensures.from));
     }
 
 pub returns-clause-closed : goal.returns-clause-closed

@@ -1,4 +1,4 @@
-use Rattle.std.proofs.Common.{◌≡◌, ◌∙◌, refl, subst, arith}
+use Rattle.std.proofs.Common.{◌≡◌, ◌∙◌, refl, subst, pos, ◌+ℤ◌, arith}
 use Rattle.fx_winding.specs.declared.frame.Frame.{Frame}
 use Rattle.fx_rows.specs.inner.Told.{IsEnd}
 use Rattle.fx_rows.specs.inner.Bands.{bounded_span}
@@ -67,7 +67,7 @@ rows-preserved g c =
     let first = c.strip_of-strip.ensures.first in
     let last = c.strip_of-strip.ensures.last in
     let value = c.next-cut.ensures.value ∙ rise_told s _ _ _ c.args.bounded.now.rises in
-    let is = cut_end s now strip c.next-cut.result up c.saturating_sub-end.result at first last c.saturating_sub-end.ensures value
+    let is = cut_end s now strip c.next-cut.result (now.bottom +ℤ pos up) c.saturating_sub-end.result at first last c.saturating_sub-end.ensures value
     c.next-cut.ensures.cut in
     let added = c.add_cut.ensures.added s c.next-cut.ensures.cut in
     let T = g.N.Noting.IsTold c.rows.noter in

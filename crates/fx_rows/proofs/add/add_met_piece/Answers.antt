@@ -8,7 +8,7 @@ use Rattle.fx_rows.specs.inner.Bands.{IsBandAdded}
 use Rattle.fx_rows.specs.inner.Telling.{AreRowsTold}
 use Rattle.fx_rows.proofs.Counting.{rise_inner}
 use Rattle.fx_rows.proofs.Banding.{band_three}
-use Rattle.fx_rows.proofs.Telling.{told_none, told_beside, not_inner_under, not_inner_over}
+use Rattle.fx_rows.proofs.Telling.{at_least_ends, at_most_ends, told_none, told_beside, not_inner_under, not_inner_over}
 use Rattle.fx_rows.proofs.add.add_met_piece.Goals as goal
 
 pub add_inner_rows-requires-clause-inner : goal.add_inner_rows-requires-clause-inner
@@ -77,3 +77,27 @@ returns-clause-inner g c = λ r h l.
     let i = c.rows_between-inner.ensures in
     rise_inner (span_of c.args.piece.now) e.foot e.head e.value (height_of c.args.band.now.frame r) c.rise_of-rise.ensures
     (i.foot r h l) (i.head r h l)
+
+pub returns-clause-under : goal.returns-clause-under
+returns-clause-under g c = λ r h l.
+    let e = c.rise_of-rise.result in
+    at_most_ends (span_of c.args.piece.now) e.foot e.head e.value (height_of c.args.band.now.frame r) c.rise_of-rise.ensures
+    (c.rows_between-inner.ensures.under r h l)
+
+pub returns-clause-over : goal.returns-clause-over
+returns-clause-over g c = λ r h l.
+    let e = c.rise_of-rise.result in
+    at_least_ends (span_of c.args.piece.now) e.foot e.head e.value (height_of c.args.band.now.frame r) c.rise_of-rise.ensures
+    (c.rows_between-inner.ensures.over r h l)
+
+pub returns-then-inner-clause-under : goal.returns-then-inner-clause-under
+returns-then-inner-clause-under g c = λ r h l.
+    let e = c.rise_of-rise.result in
+    at_most_ends (span_of c.args.piece.now) e.foot e.head e.value (height_of c.args.band.now.frame r) c.rise_of-rise.ensures
+    (c.rows_between-inner.ensures.under r h l)
+
+pub returns-then-inner-clause-over : goal.returns-then-inner-clause-over
+returns-then-inner-clause-over g c = λ r h l.
+    let e = c.rise_of-rise.result in
+    at_least_ends (span_of c.args.piece.now) e.foot e.head e.value (height_of c.args.band.now.frame r) c.rise_of-rise.ensures
+    (c.rows_between-inner.ensures.over r h l)

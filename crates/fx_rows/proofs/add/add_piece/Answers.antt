@@ -1,11 +1,11 @@
 use Rattle.std.proofs.Common.{refl, sym, subst, ◌≤◌, ◌<◌, ℕ, ◌⊎◌, inl, inr, arith}
-use Rattle.fx_winding.specs.Winding.{span_of}
+use Rattle.fx_winding.specs.Winding.{Span, span_of}
 use Rattle.fx_winding.specs.declared.frame.Frame.{Frame}
 use Rattle.fx_fixed.proofs.Order.{below_or_not}
-use Rattle.fx_rows.specs.inner.Heights.{height_of}
+use Rattle.fx_rows.specs.inner.Heights.{height_of, IsAtLeastEnds, IsAtMostEnds}
 use Rattle.fx_rows.specs.inner.Bands.{IsBandAdded}
 use Rattle.fx_rows.proofs.Banding.{band_three, band_missed}
-use Rattle.fx_rows.proofs.Telling.{told_none, told_beside, not_inner_missed}
+use Rattle.fx_rows.proofs.Telling.{above_all, below_all, told_none, told_beside, not_inner_missed}
 use Rattle.fx_rows.proofs.add.add_piece.Goals as goal
 
 pub returns-clause-added : goal.returns-clause-added
@@ -58,12 +58,16 @@ returns-then-touched-clause-told g c =
 
 pub returns-then-touched-clause-met : goal.returns-then-touched-clause-met
 returns-then-touched-clause-met g c =
+    let s = span_of c.args.piece.now in
+    let f = c.args.band.now.frame in
     let m = c.rows_met-touched.ensures in
     record {
       below = m.below;
       above = m.above;
       within = m.within;
       inner = λ r l o. absurd (omega (arith, l, o));
+      under = λ r l. above_all s (height_of f r) (m.below r l);
+      over = λ r l o. below_all s (height_of f r) (m.above r l o);
     }
 
 pub returns-clause-met : goal.returns-clause-met
@@ -74,4 +78,22 @@ returns-clause-met g c =
       above = m.above;
       within = m.within;
       inner = c.add_met_piece-inner.ensures.inner;
+      under = λ r l. under r l (below_or_not r c.rows_met-touched.result.first);
+      over = λ r l o. over r l o (below_or_not r c.rows_met-touched.result.end);
     }
+  where
+    s : Span
+    s = span_of c.args.piece.now
+
+    f : Frame
+    f = c.args.band.now.frame
+
+    under : (r : ℕ) → r < c.add_met_piece-inner.result.first
+        → (r < c.rows_met-touched.result.first) ⊎ (c.rows_met-touched.result.first ≤ r) → IsAtMostEnds s (height_of f r)
+    under r l (inl k) = above_all s (height_of f r) (c.rows_met-touched.ensures.below r k)
+    under r l (inr k) = c.add_met_piece-inner.ensures.under r k l
+
+    over : (r : ℕ) → c.add_met_piece-inner.result.end ≤ r → r < f.height
+        → (r < c.rows_met-touched.result.end) ⊎ (c.rows_met-touched.result.end ≤ r) → IsAtLeastEnds s (height_of f r)
+    over r l o (inl k) = c.add_met_piece-inner.ensures.over r l k
+    over r l o (inr k) = below_all s (height_of f r) (c.rows_met-touched.ensures.above r k o)

@@ -6,8 +6,8 @@ use Rattle.fx_winding.specs.Notes.{IsNotedAcross, IsNotedUp}
 use Rattle.fx_winding.specs.Winding.{Span, span_of}
 use Rattle.fx_rows.specs.inner.Lines.{AreOnly, AreRowsSet, IsRowsBit}
 use Rattle.fx_rows.proofs.Bulges.{across_set, up_set}
-use Rattle.fx_rows.specs.inner.Telling.{AreMetBySome}
-use Rattle.fx_rows.proofs.Segments.{some_more_rows}
+use Rattle.fx_rows.specs.inner.Telling.{AreMetAcross, AreMetUp}
+use Rattle.fx_rows.proofs.Segments.{some_rows, some_columns}
 use Rattle.fx_rows.proofs.bulge.note_bulge.Goals as goal
 
 pub returns-clause-noted : goal.returns-clause-noted
@@ -35,9 +35,20 @@ returns-clause-only c = λ ss among old.
     let n = c.args.notes.now in
     let f = n.frame in
     let s = span_of c.args.piece.now in
+    let g = c.turned-2.result in
+    let at = c.turned-2.ensures in
     let row : 32 * c.words_for-row.result ≡ 32 * words_for f.width = ap (λ (w : ℕ). 32 * w) c.words_for-row.ensures in
     let a = sym (with_items_is n.across c.note_lines.new.bits (omega arith)) in
-    let only : AreOnly (IsRowsBit s f (32 * words_for f.width) 1) n.across.items c.note_lines.new.bits =
+    let u = sym (with_items_is n.up c.note_lines-2.new.bits (omega arith)) in
+    let across : AreOnly (IsRowsBit s f (32 * words_for f.width) 1) n.across.items c.note_lines.new.bits =
     subst (λ z. z) (λ i. AreOnly (IsRowsBit s f (row i) 1) (c.deref_mut.ensures.value i) c.note_lines.new.bits)
     c.note_lines.ensures.only in
-    subst (λ (xs : List ℕ). AreMetBySome f xs ss) a (some_more_rows s ss f n.across.items c.note_lines.new.bits among only old)
+    let up : AreOnly (IsRowsBit (turned_span s) g 1 (32 * words_for f.width)) n.up.items c.note_lines-2.new.bits =
+    subst (λ z. z) (λ i. AreOnly (IsRowsBit (c.turned.ensures i) g 1 (row i)) (c.deref_mut-2.ensures.value i)
+    c.note_lines-2.new.bits) c.note_lines-2.ensures.only in
+    record {
+      rows = subst (λ (xs : List ℕ). AreMetAcross f xs ss) a
+          (some_rows s ss f n.across.items c.note_lines.new.bits among across old.rows);
+      columns = subst (λ (xs : List ℕ). AreMetUp f xs ss) u (some_columns s ss f g n.up.items c.note_lines-2.new.bits at.left
+          at.bottom at.width at.height among up old.columns);
+    }

@@ -1,66 +1,70 @@
-use Rattle.std.proofs.Common.{◌≡◌, ◌-◌, ◌+◌, ℕ, refl, sym, subst, get_or, arith}
+use Rattle.std.proofs.Common.{◌≡◌, ℕ, inl, refl, sym, subst, get_or, pos, ◌+ℤ◌, arith}
 use Rattle.fx_winding.specs.Winding.{span_of}
-use Rattle.fx_rows.specs.inner.Segments.{AreSetUp}
+use Rattle.fx_rows.specs.declared.reach.Reach.{Reach}
+use Rattle.fx_rows.specs.inner.Segments.{AreSetUp, IsUpBit}
 use Rattle.fx_rows.specs.inner.Told.{IsEnd}
-use Rattle.fx_rows.proofs.Kept.{kept_both, rows_more}
+use Rattle.fx_rows.specs.inner.Upward.{ComesFrom, IsPassing, IsLevel}
+use Rattle.fx_rows.proofs.Kept.{kept_both, only_both, rows_more}
 use Rattle.fx_rows.proofs.Segments.{up_kept}
-use Rattle.fx_rows.proofs.Upward.{pair_within, set_rows}
+use Rattle.fx_rows.proofs.Upward.{comes_passing}
 use Rattle.fx_rows.proofs.note_up.note_passage.Goals as goal
 
 pub rows-init : goal.rows-init
 rows-init c = record {
-  columns = c.note_foot-last.ensures.columns;
-  met = λ n i is. c.note_foot-last.ensures.met n is;
-  passed = λ l. absurd (omega (arith, l));
-  noted = c.note_foot-last.ensures.noted;
-  kept = c.note_foot-last.ensures.kept;
+  columns = c.requires.columns;
+  from = c.requires.from;
+  noted = λ r l m. absurd (omega (arith, l, m));
+  only = λ n e. inl e;
+  kept = λ n e. e;
 }
 
 pub bounds-ends-row : goal.bounds-ends-row
 bounds-ends-row c =
     let row = c.rows.row in
-    let inner = c.requires.passage.placed.met.inner row (omega arith) (omega arith) in
+    let inner = c.requires.placed.met.inner row (omega arith) (omega arith) in
     (c.requires.told.rows row (omega arith) (omega arith) inner).told.0
+
+pub note_columns-requires-clause-columns : goal.note_columns-requires-clause-columns
+note_columns-requires-clause-columns c =
+    let p = c.args.placed in
+    let row = c.rows.row in
+    let inner = c.requires.placed.met.inner row (omega arith) (omega arith) in
+    let told = c.requires.told.rows row (omega arith) (omega arith) inner in
+    let is : IsEnd (span_of c.args.piece.now) p.frame row (get_or c.args.ends.now row 0) =
+    subst (IsEnd (span_of c.args.piece.now) p.frame row) (sym told.told.1) told.is in
+    let within = is.within in
+    let low = c.rows.invariant.columns in
+    let end = c.joined.ensures.end in
+    omega (arith, within, low, end)
 
 pub rows-preserved : goal.rows-preserved
 rows-preserved c =
     let s = span_of c.args.piece.now in
     let p = c.args.placed in
     let row = c.rows.row in
-    let inner = c.requires.passage.placed.met.inner row (omega arith) (omega arith) in
+    let inner = c.requires.placed.met.inner row (omega arith) (omega arith) in
     let told = c.requires.told.rows row (omega arith) (omega arith) inner in
     let end = get_or c.args.ends.now row 0 in
     let is : IsEnd s p.frame row end = subst (IsEnd s p.frame row) (sym told.told.1) told.is in
+    let high : Reach = record { first = end; end = end } in
+    let passing : IsPassing s p.frame (p.frame.bottom +ℤ pos row) high = record { inner = inner; same = refl; is = is } in
+    let level : IsLevel s p row c.joined.result.first c.joined.result.end =
+    rw (c.joined.ensures.first, c.joined.ensures.end) (c.rows.invariant.from high (inl passing)) in
     let now = c.note_columns.new.up in
-    let same : row + 1 - 1 ≡ row = omega arith in
-    let noted : AreSetUp s p.frame p.below now row =
-    c.note_columns.ensures.noted s (rw (c.widened.ensures.first, c.widened.ensures.end) (c.rows.invariant.met end inner is)) in
     record {
       columns = is.within;
-      met = λ n i h. pair_within s p.frame row (row + 1) end n refl c.requires.passage.between inner i is h;
-      passed = λ l. subst (λ (r : ℕ). IsEnd s p.frame r end) (sym same) is;
-      noted = λ r l. rows_more (AreSetUp s p.frame p.below now) 0 row
-          (λ q o m. up_kept s p.frame p.below q c.rows.up now (c.rows.invariant.noted q m) c.note_columns.ensures.kept) noted r
-          (omega arith) l;
+      from = comes_passing s p row high c.requires.plain passing;
+      noted = rows_more (AreSetUp s p.frame p.below now) p.met.inner.first row
+          (λ r l m. up_kept s p.frame p.below r c.rows.up now (c.rows.invariant.noted r l m) c.note_columns.ensures.kept)
+          (c.note_columns.ensures.noted s level.within);
+      only = only_both (IsUpBit s p) _ _ _ c.rows.invariant.only (c.note_columns.ensures.only s level.all);
       kept = kept_both _ _ _ c.rows.invariant.kept c.note_columns.ensures.kept;
     }
 
+pub returns-clause-from : goal.returns-clause-from
+returns-clause-from c =
+    let done : c.rows.row ≡ c.args.placed.met.inner.end = omega (arith, c.args.placed.met.inner.order) in
+    subst (λ (r : ℕ). ComesFrom (span_of c.args.piece.now) c.args.placed r c.rows.low) done c.rows.invariant.from
+
 pub returns-clause-noted : goal.returns-clause-noted
-returns-clause-noted c =
-    let s = span_of c.args.piece.now in
-    let p = c.args.placed in
-    let top = p.met.inner.end in
-    let low = c.rows.up in
-    let mid = c.note_head-head.new.up in
-    let up = c.note_columns-2.new.up in
-    let done : c.rows.row ≡ top = omega arith in
-    let some = c.requires.passage.some in
-    let passed : IsEnd s p.frame (top - 1) c.rows.last.first =
-    subst (λ (r : ℕ). IsEnd s p.frame (r - 1) c.rows.last.first) done (c.rows.invariant.passed (omega (arith, some, done))) in
-    set_rows s p.frame p.below top up
-    (λ r l. up_kept s p.frame p.below r mid up
-    (up_kept s p.frame p.below r low mid (c.rows.invariant.noted r (omega (arith, l, done))) c.note_head-head.ensures.kept)
-    c.note_columns-2.ensures.kept)
-    (c.note_columns-2.ensures.noted s
-    (rw (c.widened-2.ensures.first, c.widened-2.ensures.end) (c.note_head-head.ensures.met c.rows.last.first passed)))
-    (λ r l m. up_kept s p.frame p.below r mid up (c.note_head-head.ensures.noted r l m) c.note_columns-2.ensures.kept)
+returns-clause-noted c = λ r l m. c.rows.invariant.noted r l (omega (arith, m))

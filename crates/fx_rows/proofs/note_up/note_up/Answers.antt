@@ -1,6 +1,13 @@
-use Rattle.std.proofs.Common.{arith}
+use Rattle.std.proofs.Common.{◌≡◌, ℤ, subst, pos, ◌+ℤ◌, ◌-ℤ◌, ◌*ℤ◌, arith, w32, to_z, of_z}
+use Rattle.fx_fixed.proofs.Linear.{signed_linear}
 use Rattle.fx_winding.specs.Winding.{span_of}
-use Rattle.fx_rows.proofs.Upward.{reach_columns, set_apart, set_below, set_above}
+use Rattle.fx_winding.proofs.Places.{clash}
+use Rattle.fx_rows.specs.inner.Heights.{IsAtLeastEnds, IsOneOver}
+use Rattle.fx_rows.specs.inner.Segments.{IsUpBit}
+use Rattle.fx_rows.specs.inner.Upward.{height_below, IsLevel}
+use Rattle.fx_rows.proofs.Kept.{kept_both, only_both}
+use Rattle.fx_rows.proofs.Segments.{up_kept}
+use Rattle.fx_rows.proofs.Upward.{reach_columns, on_line_unmet, set_over, at_least_more, over_lowest, all_levels, top_level}
 use Rattle.fx_rows.proofs.note_up.note_up.Goals as goal
 
 pub returns-then-placed-clause-noted : goal.returns-then-placed-clause-noted
@@ -8,16 +15,100 @@ returns-then-placed-clause-noted c = λ r h k w m.
     let at = reach_columns (span_of c.args.piece.now) c.args.placed c.requires.placed r k w m in
     absurd (omega (arith, at.0, at.1, c.if-placed.true))
 
-pub returns-then-is_apart-clause-noted : goal.returns-then-is_apart-clause-noted
-returns-then-is_apart-clause-noted c = λ r h.
+pub returns-then-placed-clause-top : goal.returns-then-placed-clause-top
+returns-then-placed-clause-top c = λ t k w m.
+    let at = reach_columns (span_of c.args.piece.now) c.args.placed c.requires.placed c.args.placed.frame.height k w m in
+    absurd (omega (arith, at.0, at.1, c.if-placed.true))
+
+pub returns-then-is_on_line-clause-noted : goal.returns-then-is_on_line-clause-noted
+returns-then-is_on_line-clause-noted c = λ r h k w m. absurd (on_line_unmet (span_of c.args.piece.now) c.args.placed.frame r k
+    c.requires.plain (c.is_on_line.ensures.on c.if-is_on_line.true) w m)
+
+pub returns-then-is_on_line-clause-top : goal.returns-then-is_on_line-clause-top
+returns-then-is_on_line-clause-top c = λ t k w m. absurd (on_line_unmet (span_of c.args.piece.now) c.args.placed.frame
+    c.args.placed.frame.height k c.requires.plain (c.is_on_line.ensures.on c.if-is_on_line.true) w m)
+
+pub returns-then-is_under-clause-noted : goal.returns-then-is_under-clause-noted
+returns-then-is_under-clause-noted c = λ r h.
+    let s = span_of c.args.piece.now in
     let p = c.args.placed in
-    set_apart (span_of c.args.piece.now) p.frame p.below r c.args.up.now (c.is_apart.ensures c.if-is_apart.true) h
+    let low = c.args.placed.frame.rows.from in
+    let high = c.args.placed.frame.rows.to in
+    let row : to_z w32 (of_z w32 (to_z w32 (of_z w32 c.args.placed.frame.bottom) -ℤ pos 1)) ≡ c.args.placed.frame.bottom -ℤ pos 1 =
+    omega (arith, signed_linear, low, high) in
+    set_over s p.frame p.below r c.args.up.now c.requires.plain (c.is_on_line.ensures.off c.if-is_on_line.false)
+    (at_least_more s (pos 128 *ℤ (p.frame.bottom -ℤ pos 1) +ℤ pos 64) (height_below p.frame r) (over_lowest p.frame r)
+    (subst (λ (z : ℤ). IsAtLeastEnds s (pos 128 *ℤ z +ℤ pos 64)) row (c.is_under.ensures.under c.if-is_under.true)))
+
+pub returns-then-is_under-clause-top : goal.returns-then-is_under-clause-top
+returns-then-is_under-clause-top c = λ t.
+    let s = span_of c.args.piece.now in
+    let p = c.args.placed in
+    let low = c.args.placed.frame.rows.from in
+    let high = c.args.placed.frame.rows.to in
+    let row : to_z w32 (of_z w32 (to_z w32 (of_z w32 c.args.placed.frame.bottom) -ℤ pos 1)) ≡ c.args.placed.frame.bottom -ℤ pos 1 =
+    omega (arith, signed_linear, low, high) in
+    set_over s p.frame p.below p.frame.height c.args.up.now c.requires.plain (c.is_on_line.ensures.off c.if-is_on_line.false)
+    (at_least_more s (pos 128 *ℤ (p.frame.bottom -ℤ pos 1) +ℤ pos 64) (height_below p.frame p.frame.height)
+    (over_lowest p.frame p.frame.height)
+    (subst (λ (z : ℤ). IsAtLeastEnds s (pos 128 *ℤ z +ℤ pos 64)) row (c.is_under.ensures.under c.if-is_under.true)))
+
+pub columns_below-low-requires-clause-over : goal.columns_below-low-requires-clause-over
+columns_below-low-requires-clause-over c =
+    let s = span_of c.args.piece.now in
+    let low = c.args.placed.frame.rows.from in
+    let high = c.args.placed.frame.rows.to in
+    let row : to_z w32 (of_z w32 (to_z w32 (of_z w32 c.args.placed.frame.bottom) -ℤ pos 1)) ≡ c.args.placed.frame.bottom -ℤ pos 1 =
+    omega (arith, signed_linear, low, high) in
+    subst (λ (z : ℤ). IsOneOver s (pos 128 *ℤ z +ℤ pos 64)) row (c.is_under.ensures.above c.if-is_under.false)
+
+pub returns-then-leaves_band-clause-noted : goal.returns-then-leaves_band-clause-noted
+returns-then-leaves_band-clause-noted c = λ r h.
+    let s = span_of c.args.piece.now in
+    let p = c.args.placed in
+    let leaves = c.leaves_band.ensures.leaves c.if-leaves_band.true in
+    all_levels s p.frame p.met p.below c.note_passage-low.new.up c.requires.plain (c.is_on_line.ensures.off c.if-is_on_line.false)
+    c.requires.placed.met c.note_passage-low.ensures.noted (λ l. absurd (omega (arith, leaves, l))) r h
+
+pub returns-then-leaves_band-clause-top : goal.returns-then-leaves_band-clause-top
+returns-then-leaves_band-clause-top c = λ t.
+    absurd (clash c.args.placed.highest (c.leaves_band.ensures.next c.if-leaves_band.true) t)
 
 pub returns-clause-noted : goal.returns-clause-noted
 returns-clause-noted c = λ r h.
     let s = span_of c.args.piece.now in
     let p = c.args.placed in
-    let is = c.requires.placed in
-    let up = c.note_box.new.up in
-    set_below s p.frame p.met p.below r up is.met (λ a. set_above s p.frame p.met p.below r up is.met h
-    (λ b. c.note_box.ensures.noted s is r a (omega (arith, b))))
+    let mid = c.note_passage-low.new.up in
+    let up = c.note_columns.new.up in
+    let level : IsLevel s p p.met.inner.end c.joined.result.first c.joined.result.end =
+    rw (c.joined.ensures.first, c.joined.ensures.end)
+    (c.columns_above-high.ensures.to c.note_passage-low.result c.note_passage-low.ensures.from) in
+    all_levels s p.frame p.met p.below up c.requires.plain (c.is_on_line.ensures.off c.if-is_on_line.false)
+    c.requires.placed.met
+    (λ q l m. up_kept s p.frame p.below q mid up (c.note_passage-low.ensures.noted q l m) c.note_columns.ensures.kept)
+    (λ l. c.note_columns.ensures.noted s level.within) r h
+
+pub returns-clause-top : goal.returns-clause-top
+returns-clause-top c = λ t.
+    let s = span_of c.args.piece.now in
+    let p = c.args.placed in
+    let up = c.note_columns.new.up in
+    let within = p.met.to in
+    let rows = p.rows in
+    let level : IsLevel s p p.met.inner.end c.joined.result.first c.joined.result.end =
+    rw (c.joined.ensures.first, c.joined.ensures.end)
+    (c.columns_above-high.ensures.to c.note_passage-low.result c.note_passage-low.ensures.from) in
+    top_level s p.frame p.met p.below up c.requires.plain (c.is_on_line.ensures.off c.if-is_on_line.false) c.requires.placed.met
+    (c.note_columns.ensures.noted s level.within) (omega (arith, within, rows))
+
+pub returns-clause-only : goal.returns-clause-only
+returns-clause-only c =
+    let s = span_of c.args.piece.now in
+    let p = c.args.placed in
+    let level : IsLevel s p p.met.inner.end c.joined.result.first c.joined.result.end =
+    rw (c.joined.ensures.first, c.joined.ensures.end)
+    (c.columns_above-high.ensures.to c.note_passage-low.result c.note_passage-low.ensures.from) in
+    only_both (IsUpBit s p) _ _ _ c.note_passage-low.ensures.only (c.note_columns.ensures.only s level.all)
+
+pub returns-clause-kept : goal.returns-clause-kept
+returns-clause-kept c = kept_both _ _ _ c.note_passage-low.ensures.kept c.note_columns.ensures.kept

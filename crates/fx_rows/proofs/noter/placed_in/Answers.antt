@@ -1,7 +1,17 @@
-use Rattle.std.proofs.Common.{◌≤◌, arith}
+use Rattle.std.proofs.Common.{◌≡◌, ◌<◌, ◌≤◌, ℕ, ℤ, pos, ◌+ℤ◌, ◌-ℤ◌, ◌≤ℤ◌, nat_eq, false, arith}
+use Rattle.fx_fixed.proofs.Linear.{signed_linear}
+use Rattle.fx_winding.specs.Limits.{IsPixelNumber, least_pixel, end_of_pixels}
+use Rattle.fx_winding.specs.declared.frame.Frame.{Frame}
 use Rattle.std.proofs.Math.Nat.{mul-le-mul_left}
 use Rattle.fx_rows.proofs.RowMeets.{reach_order}
 use Rattle.fx_rows.proofs.noter.placed_in.Goals as goal
+
+-- the row below a band that does not begin with the frame's lowest row is one of the frame
+row_below : (f : Frame) (first end : ℕ) (bottom : ℤ) → bottom ≡ f.bottom +ℤ pos first → nat_eq first 0 ≡ false → first ≤ f.height
+    → least_pixel ≤ℤ f.bottom → (f.bottom +ℤ pos f.height) ≤ℤ end_of_pixels → IsPixelNumber (bottom -ℤ pos 1)
+row_below f first end bottom at e l from to =
+    let some : 0 < first = grind (arith, e) in
+    (omega (arith, signed_linear, at, some, from), omega (arith, signed_linear, at, l, to, some))
 
 pub invariant_of-result : goal.invariant_of-result
 invariant_of-result c =
@@ -18,6 +28,8 @@ invariant_of-result c =
       rows = (c.requires.met band c.band_of-band.ensures).within;
       order = reach_order _ band across.first across.end _ _ c.across_of-across.ensures reach.first reach.left reach.right;
       columns = reach.end;
+      row_below = λ e. row_below f c.args.rows.first c.args.rows.end band.bottom c.band_of-band.ensures.bottom e
+          (omega (arith, c.args.rows.order, c.requires.rows)) f.rows.from f.rows.to;
     }
 
 pub returns-clause-placed : goal.returns-clause-placed

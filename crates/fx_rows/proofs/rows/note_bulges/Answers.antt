@@ -46,9 +46,9 @@ pieces-preserved c =
       noted = All-more (λ t. IsNoted t f new.across.items new.up.items) spans here s inside
           (λ k d l. all_kept _ f old.across.items new.across.items old.up.items new.up.items done.across done.up (inv.noted k d l))
           (subst (λ t. IsNoted t f new.across.items new.up.items) is this);
-      only = λ h. subst (λ (g : Frame). AreMetBySome g new.across.items spans) inv.frame (done.only spans
+      only = λ h. subst (λ (g : Frame). AreMetBySome g new.across.items new.up.items spans) inv.frame (done.only spans
           (record { at = here; inside = inside; is = sym is })
-          (subst (λ (g : Frame). AreMetBySome g old.across.items spans) (sym inv.frame) (inv.only h)));
+          (subst (λ (g : Frame). AreMetBySome g old.across.items old.up.items spans) (sym inv.frame) (inv.only h)));
       count = count_more c.args.tally.now.count c.pieces.tally.count c.note_if_bulge.new.tally.count here
           (45 * (f.height + f.width)) inv.count (omega (arith, each, tests));
     }

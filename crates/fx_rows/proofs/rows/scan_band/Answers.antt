@@ -24,8 +24,10 @@ none_first first w n e z = grind arith
 pub joined-requires : goal.joined-requires
 joined-requires g c = λ t.
     let r = c.requires in
+    let some = r.some in
+    let rows = r.rows in
     no_words c.args.words.items (none_first c.args.rows.first _ _ r.words.long
-    (only_first c.args.rows.first c.args.rows.end c.args.frame.height r.some r.rows t))
+    (only_first c.args.rows.first c.args.rows.end c.args.frame.height (omega (arith, some, rows)) rows t))
 
 pub cover_band-requires-clause-part : goal.cover_band-requires-clause-part
 cover_band-requires-clause-part g c =

@@ -1,14 +1,15 @@
-use Rattle.std.proofs.Common.{◌≡◌, ◌∙◌, ◌*◌, ◌-◌, sym, ap, subst, ℕ, List, length, arith}
+use Rattle.std.proofs.Common.{◌≡◌, ◌∙◌, ◌*◌, ◌+◌, ◌-◌, ◌≤◌, sym, ap, subst, ℕ, List, length, arith}
 use Rattle.std.proofs.lemmas.List.{with_items_is}
 use Rattle.fx_winding.specs.Bitmaps.{words_for}
 use Rattle.fx_winding.specs.Notes.{IsNotedAcross, IsNotedUp}
 use Rattle.fx_winding.specs.Winding.{span_of}
 use Rattle.fx_winding.specs.declared.frame.Frame.{Frame}
-use Rattle.fx_rows.specs.inner.Telling.{IsPartOf, AreMetBySome}
+use Rattle.fx_winding.proofs.Places.{clash}
+use Rattle.fx_rows.specs.inner.Telling.{IsPartOf, AreMetAcross, AreMetUp}
 use Rattle.fx_rows.specs.inner.Lines.{AreOnly}
-use Rattle.fx_rows.specs.inner.Segments.{IsBandBit}
+use Rattle.fx_rows.specs.inner.Segments.{IsBandBit, IsUpBit}
 use Rattle.fx_rows.specs.inner.Told.{AreKept}
-use Rattle.fx_rows.proofs.Segments.{noted_kept, room_rows, room_up, across_rows, some_more, up_whole}
+use Rattle.fx_rows.proofs.Segments.{noted_kept, room_rows, room_up, across_rows, some_across, some_up, up_rows, up_top}
 use Rattle.fx_rows.proofs.noter.NoterNoting.note.Goals as goal
 
 -- the band is rows of the frame that is noted
@@ -60,20 +61,35 @@ returns-clause-only c = λ ss among old.
     let p = c.placed_in-placed.result in
     let is = band_of c.requires.frame c.placed_in-placed.ensures.part c.placed_in-placed.ensures.below in
     let a = sym (with_items_is n.across c.note_across.new.across (omega arith)) in
-    let only : AreOnly (IsBandBit s p.frame p.below) n.across.items c.note_across.new.across =
+    let u = sym (with_items_is n.up c.note_up.new.up (omega arith)) in
+    let high = ap (λ (f : Frame). f.height) c.requires.frame in
+    let across : AreOnly (IsBandBit s p.frame p.below) n.across.items c.note_across.new.across =
     subst (λ (xs : List ℕ). AreOnly (IsBandBit s p.frame p.below) xs c.note_across.new.across) c.deref_mut.ensures.value
     c.note_across.ensures.only in
-    subst (λ (xs : List ℕ). AreMetBySome n.frame xs ss) a (some_more s ss n.frame p.frame c.args.rows.first c.args.rows.end
-    p.below n.across.items c.note_across.new.across is.part is.first among only old)
+    let up : AreOnly (IsUpBit s p) n.up.items c.note_up.new.up =
+    subst (λ (xs : List ℕ). AreOnly (IsUpBit s p) xs c.note_up.new.up) c.deref_mut-2.ensures.value c.note_up.ensures.only in
+    record {
+      rows = subst (λ (xs : List ℕ). AreMetAcross n.frame xs ss) a (some_across s ss n.frame p.frame c.args.rows.first
+          c.args.rows.end p.below n.across.items c.note_across.new.across is.part is.first among across old.rows);
+      columns = subst (λ (xs : List ℕ). AreMetUp n.frame xs ss) u (some_up s ss n.frame p c.args.rows.first c.args.rows.end
+          n.up.items c.note_up.new.up is.part is.first c.placed_in-placed.ensures.lowest
+          (λ t. c.placed_in-placed.ensures.highest t ∙ sym high) among up old.columns);
+    }
 
 pub returns-clause-count : goal.returns-clause-count
 returns-clause-count c =
     let p = c.placed_in-placed.result in
     let high = c.placed_in-placed.ensures.part.height in
     let n = c.note_across.ensures.count in
+    let m = c.note_up.ensures.count in
+    let some = c.requires.some in
     let rows : p.frame.height ≡ c.args.rows.end - c.args.rows.first = omega (arith, high) in
     let tests = ap (λ (h : ℕ). 45 * h) rows in
-    omega (arith, n, tests)
+    let more : 45 * (c.args.rows.end - c.args.rows.first) + 2 ≤ 47 * (c.args.rows.end - c.args.rows.first) = omega (arith, some) in
+    omega (arith, n, m, tests, more)
+
+pub note_up-requires-clause-plain : goal.note_up-requires-clause-plain
+note_up-requires-clause-plain c = λ b. clash c.is_bulge.result c.if-is_bulge.false (c.is_bulge.ensures.1 b)
 
 pub returns-clause-up : goal.returns-clause-up
 returns-clause-up c = λ r l m no.
@@ -82,8 +98,8 @@ returns-clause-up c = λ r l m no.
     let p = c.placed_in-placed.result in
     let is = band_of c.requires.frame c.placed_in-placed.ensures.part c.placed_in-placed.ensures.below in
     let u = sym (with_items_is n.up c.note_up.new.up (omega arith)) in
-    subst (λ (xs : List ℕ). IsNotedUp s n.frame xs r) u (up_whole s n.frame p.frame c.args.rows.first c.args.rows.end
-    p.below c.note_up.new.up is.part is.first c.note_up.ensures.noted r l (omega (arith, m)))
+    subst (λ (xs : List ℕ). IsNotedUp s n.frame xs r) u (up_rows s n.frame p.frame c.args.rows.first c.args.rows.end
+    p.below c.note_up.new.up is.part is.first c.note_up.ensures.noted r l m)
 
 pub returns-clause-top : goal.returns-clause-top
 returns-clause-top c = λ e no.
@@ -92,9 +108,9 @@ returns-clause-top c = λ e no.
     let p = c.placed_in-placed.result in
     let is = band_of c.requires.frame c.placed_in-placed.ensures.part c.placed_in-placed.ensures.below in
     let u = sym (with_items_is n.up c.note_up.new.up (omega arith)) in
-    subst (λ (xs : List ℕ). IsNotedUp s n.frame xs c.args.frame.height) u (up_whole s n.frame p.frame c.args.rows.first
-    c.args.rows.end p.below c.note_up.new.up is.part is.first c.note_up.ensures.noted c.args.frame.height
-    (omega (arith, e, c.args.rows.order)) (omega (arith, e)))
+    subst (λ (xs : List ℕ). IsNotedUp s n.frame xs c.args.frame.height) u (subst (IsNotedUp s n.frame c.note_up.new.up) e
+    (up_top s n.frame p.frame c.args.rows.first c.args.rows.end p.below c.note_up.new.up is.part is.first
+    (c.note_up.ensures.top (c.placed_in-placed.ensures.top e))))
 
 pub returns-clause-kept : goal.returns-clause-kept
 returns-clause-kept c = λ s w r h no.

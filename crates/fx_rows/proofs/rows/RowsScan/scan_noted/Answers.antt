@@ -25,9 +25,10 @@ pub returns-clause-exact : goal.returns-clause-exact
 returns-clause-exact c = λ t.
     let n = c.scan_with.new.noter.notes in
     let ss = map span_of c.args.pieces.now in
-    let new = c.note_bulges.new.notes.across.items in
+    let across = c.note_bulges.new.notes.across.items in
+    let up = c.note_bulges.new.notes.up.items in
     let P : List Piece → Type 0 =
-    λ ps. AreMetBySome n.frame n.across.items (map span_of ps) → AreMetBySome n.frame new (map span_of ps) in
+    λ ps. AreMetBySome n.frame n.across.items n.up.items (map span_of ps) → AreMetBySome n.frame across up (map span_of ps) in
     let all = subst P c.as_slice.ensures.value c.note_bulges.ensures.only in
-    exact_of c.args.frame new ss (subst (λ (f : Frame). AreMetBySome f new ss) c.scan_with.ensures.of
+    exact_of c.args.frame across up ss (subst (λ (f : Frame). AreMetBySome f across up ss) c.scan_with.ensures.of
     (all (c.scan_with.ensures.only (c.in_ok-noter.ensures.none ss))))
