@@ -6,6 +6,8 @@
 #[cfg(test)]
 mod contours;
 #[cfg(test)]
+mod counted;
+#[cfg(test)]
 mod covering;
 #[cfg(test)]
 mod curves;

@@ -79,10 +79,10 @@ fn an_outline_of_16384_points(rt: HostRuntime) -> Result<(), Fail> {
 }
 
 /// Glyph 3 twice, the second time moved.
-const TWICE: &str = "ffff 0000 0000 0080 0080 0022 0003 00 00 0002 0003 40 20";
+pub const TWICE: &str = "ffff 0000 0000 0080 0080 0022 0003 00 00 0002 0003 40 20";
 
 /// The arc with a program that reads a cell that the storage area does not have, and moves point 1 by half a pixel.
-const READING_A_STRAY: &str =
+pub const READING_A_STRAY: &str =
     "0001 0000 0000 0080 0080 0002 0008 B0 63 43 21 B1 01 20 38 31 36 17 40 40 80 80 00";
 
 /// The outline of glyph 2 by a machine that keeps nothing.
