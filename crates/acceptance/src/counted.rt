@@ -9,7 +9,8 @@ use std::alloc::Global;
 use std::marker::Model;
 use std::test::Fail;
 
-/// A machine that keeps components, and how many programs of glyphs it ran that are not empty. Contracts see what is known of the machine.
+/// A machine that keeps components, and how many programs of glyphs it ran that are not empty. Contracts see what is known of the
+/// machine.
 #[derive(Drop)]
 struct Counting<'a> {
     keeping: KeepingMachine<'a>,
@@ -79,7 +80,8 @@ fn runs_until(
     Ok(counting.runs)
 }
 
-/// Glyph 2 has glyph 3 twice, whose program runs once, and not again for another outline of glyph 2. As a root glyph 3 is made anew.
+/// Glyph 2 has glyph 3 twice, whose program runs once, and not again for another outline of glyph 2. As a root glyph 3 is made
+/// anew.
 #[test]
 fn a_component_that_comes_again_runs_once(rt: HostRuntime) -> Result<(), Fail> {
     let file = font(rt.alloc(), TWICE, READING_A_STRAY)?;

@@ -1,4 +1,5 @@
 //! What refusals show: their number, name and fields.
+use fx_hint::HintFault;
 use fx_machine::{Cause, FontProgram, Halt};
 use fx_request::Refusal;
 use std::test::Fail;
@@ -69,6 +70,26 @@ fn refusals_show_number_name_and_fields(rt: HostRuntime) -> Result<(), Fail> {
         (Refusal::OutOfMemory, "90 OutOfMemory"),
     ] {
         assert!(rt; format!(in rt.alloc(); "{refusal}")?.as_str() == text);
+    }
+    Ok(())
+}
+
+#[test]
+fn faults_of_outlines_name_their_glyph(rt: HostRuntime) -> Result<(), Fail> {
+    for (fault, text) in [
+        (HintFault::ComponentDepth(3), "component 3 lies too deep"),
+        (
+            HintFault::TooManyComponents(4),
+            "glyph 4 has too many components",
+        ),
+        (HintFault::TooManyPoints(5), "glyph 5 has too many points"),
+        (
+            HintFault::BadPointMatch(6),
+            "a component of glyph 6 is placed by a point that does not exist",
+        ),
+        (HintFault::OutOfMemory, "out of memory"),
+    ] {
+        assert!(rt; format!(in rt.alloc(); "{fault}")?.as_str() == text);
     }
     Ok(())
 }

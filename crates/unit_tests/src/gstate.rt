@@ -162,3 +162,13 @@ fn deltas(rt: HostRuntime) -> Result<(), Fail> {
     }
     Ok(())
 }
+
+#[test]
+fn the_fault_says_what_is_wrong(rt: HostRuntime) -> Result<(), Fail> {
+    let fault = BadArgument;
+    assert!(rt;
+        format!(in rt.alloc(); "{fault}")?.as_str()
+            == "the argument of an instruction is out of range"
+    );
+    Ok(())
+}

@@ -330,3 +330,16 @@ fn begins_anew(rt: HostRuntime) -> Result<(), Fail> {
     assert!(rt; is_anew(&store));
     Ok(())
 }
+
+#[test]
+fn faults_say_what_is_wrong(rt: HostRuntime) -> Result<(), Fail> {
+    for (fault, text) in [
+        (StackFault::StackUnder, "the stack holds too few numbers"),
+        (StackFault::StackOver, "the stack is full"),
+        (StackFault::DivideByZero, "a division by zero"),
+        (StackFault::BadArgument, "an operand is out of range"),
+    ] {
+        assert!(rt; format!(in rt.alloc(); "{fault}")?.as_str() == text);
+    }
+    Ok(())
+}
