@@ -111,11 +111,15 @@ class Source:
         return words[::-1]
 
     def frame(self, at):
-        """The item, function and `impl` that a place is in."""
+        """The item, function (or constant) and `impl` that a place is in."""
         kind, function, impl = "", "", []
         opening = self.parent[at]
         while opening is not None:
-            head = self.head_of(opening) if self.words[opening] == "{" else []
+            head = self.head_of(opening) if self.words[opening] in "{[" else []
+            if self.words[opening] == "[":
+                if "const" in head and not function:
+                    function = head[head.index("const") + 1]
+                head = []
             item = next((it for it in head if it in HEADS), "")
             kind = kind or item
             if item == "fn" and not function:

@@ -9,12 +9,11 @@ use Rattle.fx_fixed.specs.Wrote.{Wrote}
 use Rattle.fx_machine.specs.declared.halt.Halt.{Halt}
 use Rattle.fx_machine.specs.declared.program.FontProgram.{FontProgram}
 use Rattle.fx_machine.specs.declared.program.FontProgram.TheVariants.{Fpgm, Prep, Glyph}
+use Rattle.fx_request.specs.declared.place.Place.{Place}
+use Rattle.fx_request.specs.declared.place.Place.TheVariants as place
 use Rattle.fx_request.specs.declared.refusal.Refusal.{Refusal}
-use Rattle.fx_request.specs.declared.refusal.Refusal.TheVariants.{TableMissing, TableShort, BadLoca, GlyphShort, BadContours}
-use Rattle.fx_request.specs.declared.refusal.Refusal.TheVariants.{ComponentDepth, TooManyComponents, TooManyPoints, BadPointMatch}
-use Rattle.fx_request.specs.declared.refusal.Refusal.TheVariants.{BadGlyphNumber, Halted, TooFar, GlyphTooLarge, WriteFailed, BadProperty}
 use Rattle.fx_request.specs.declared.request.Report.{Report}
-use Rattle.fx_request.specs.Refusals.{number_of, name_of}
+use Rattle.fx_request.specs.Refusals.{number_of, name_of, place_of}
 use Rattle.fx_arguments.specs.declared.done.Done.{Done}
 use Rattle.fx_arguments.specs.declared.done.Done.TheVariants.{Strike, Picture, Listing}
 use Rattle.fx_arguments.specs.declared.fault.Fault.{Fault}
@@ -59,29 +58,19 @@ halt_words halt =
     ((codes "in" ∷ program_words halt.program) ++
     (codes "at" ∷ decimal halt.address ∷ codes "opcode" ∷ hexadecimal 2 halt.opcode ∷ []))
 
--- the fields: a table's tag, the number of a glyph, where a program halted, the position of a property, or the number of
--- bytes written
-abbrev pub fields_of : Refusal → List (List ℕ)
-fields_of (TableMissing tag) = tag ∷ []
-fields_of (TableShort tag) = tag ∷ []
-fields_of (BadLoca g) = decimal g ∷ []
-fields_of (GlyphShort g) = decimal g ∷ []
-fields_of (BadContours g) = decimal g ∷ []
-fields_of (ComponentDepth g) = decimal g ∷ []
-fields_of (TooManyComponents g) = decimal g ∷ []
-fields_of (TooManyPoints g) = decimal g ∷ []
-fields_of (BadPointMatch g) = decimal g ∷ []
-fields_of (BadGlyphNumber g) = decimal g ∷ []
-fields_of (Halted halt) = halt_words halt
-fields_of (TooFar g) = decimal g ∷ []
-fields_of (GlyphTooLarge g) = decimal g ∷ []
-fields_of (BadProperty i) = decimal i ∷ []
-fields_of (WriteFailed n) = decimal n ∷ []
-fields_of _ = []
+-- where it is: a table's tag, the number of a glyph, the position of a property, the number of bytes written, or where a program
+-- halted
+abbrev pub place_words : Place → List (List ℕ)
+place_words place.Nowhere = []
+place_words (place.Table tag) = tag ∷ []
+place_words (place.Glyph g) = decimal g ∷ []
+place_words (place.Property i) = decimal i ∷ []
+place_words (place.Bytes n) = decimal n ∷ []
+place_words (place.Halt halt) = halt_words halt
 
--- its line: the number, the name and the fields
+-- its line: the number, the name and the place
 abbrev pub refusal_line : Refusal → List ℕ
-refusal_line refusal = line_of (decimal (number_of refusal) ∷ name_of refusal ∷ fields_of refusal)
+refusal_line refusal = line_of (decimal (number_of refusal) ∷ name_of refusal ∷ place_words (place_of refusal))
 
 -- ---- a run
 

@@ -3,7 +3,7 @@ ghost use Rattle.std.specs.Prelude.{◌≡◌, ◌∷◌, [], ◌++◌, ◌+◌,
 ghost use Rattle.fx_request.specs.declared.refusal.Refusal.TheVariants.{OutOfMemory};
 ghost use Rattle.fx_fixed.specs.Changes.{change_of};
 ghost use Rattle.fx_arguments.specs.declared.line.TheConstants.{CAPACITY};
-ghost use Rattle.fx_arguments.specs.Lines.{counts_of, done_line, fields_of, halt_words, outcome_line, program_words, refusal_line};
+ghost use Rattle.fx_arguments.specs.Lines.{counts_of, done_line, halt_words, outcome_line, place_words, program_words, refusal_line};
 ghost use Rattle.fx_arguments.specs.Lines.{Tells, report_line, spaced, status_of, usage_line};
 
 use crate::done::Done;
@@ -11,7 +11,7 @@ use crate::fault::Fault;
 use crate::line::Line;
 use fx_fixed::{Digits, Sink, put_all};
 use fx_machine::{FontProgram, Halt};
-use fx_request::{Refusal, Report};
+use fx_request::{Place, Refusal, Report};
 
 /// Writes the line of invalid arguments, and returns the status.
 pub fn usage<E: Sink>(err: &mut E) -> u8
@@ -40,47 +40,28 @@ fn refused<E: Sink>(err: &mut E, refusal: Refusal) -> u8
     ensures status { result ≡ 1 }
     ensures line { Tells (refusal_line refusal) (change_of E.held E.fault_count err.old err.new) }
 {
+    let (number, name, place) = refusal.entry();
     let mut line = Line::new();
-    line.number(u64::from(refusal.number()));
-    line.word(refusal.name().as_bytes());
-    add_fields(&mut line, refusal);
+    line.number(u64::from(number));
+    line.word(name.as_bytes());
+    add_place(&mut line, place);
     put_line(err, line);
     1
 }
 
-/// Adds the fields of a refusal.
-fn add_fields(line: &mut Line, refusal: Refusal)
+/// Adds where a refusal is.
+fn add_place(line: &mut Line, place: Place)
     requires { length line.old ≤ 60 }
-    ensures text { line.new ≡ line.old ++ spaced (fields_of refusal) }
+    ensures text { line.new ≡ line.old ++ spaced (place_words place) }
     ensures room { length line.new < CAPACITY }
 {
-    match refusal {
-        Refusal::TableMissing(tag) | Refusal::TableShort(tag) => line.word(&tag),
-        Refusal::BadLoca(g)
-        | Refusal::GlyphShort(g)
-        | Refusal::BadContours(g)
-        | Refusal::ComponentDepth(g)
-        | Refusal::TooManyComponents(g)
-        | Refusal::TooManyPoints(g)
-        | Refusal::BadPointMatch(g)
-        | Refusal::BadGlyphNumber(g)
-        | Refusal::TooFar(g)
-        | Refusal::GlyphTooLarge(g) => line.number(u64::from(g)),
-        Refusal::Halted(halt) => add_halt(line, halt),
-        Refusal::BadProperty(i) => line.number(u64::from(i)),
-        Refusal::WriteFailed(n) => line.number(n),
-        Refusal::NotTrueType
-        | Refusal::BadHead
-        | Refusal::BadMaxp
-        | Refusal::NoCharMap
-        | Refusal::BadCharMap
-        | Refusal::BadSize
-        | Refusal::BadChars
-        | Refusal::BadName
-        | Refusal::ReadFailed
-        | Refusal::BadHex
-        | Refusal::InputTooLarge
-        | Refusal::OutOfMemory => {}
+    match place {
+        Place::Nowhere => {}
+        Place::Table(tag) => line.word(&tag),
+        Place::Glyph(g) => line.number(u64::from(g)),
+        Place::Property(i) => line.number(u64::from(i)),
+        Place::Bytes(n) => line.number(n),
+        Place::Halt(halt) => add_halt(line, halt),
     }
 }
 

@@ -1,45 +1,83 @@
--- The numbers and names of the refusals.
-use Rattle.std.specs.Prelude.{ℕ, List, codes}
-use Rattle.fx_machine.specs.Causes.{entry_of as cause_entry_of}
+-- The numbers, names and places of the refusals.
+use Rattle.std.specs.Prelude.{◌≡◌, ℕ, ◌==◌, List, [], ◌∷◌, codes, Option, Some, option_map}
+use Rattle.std.specs.List.{find}
+use Rattle.std.specs.Option.{option_or}
+use Rattle.fx_machine.specs.Causes as causes
+use Rattle.fx_machine.specs.declared.halt.Cause.{Cause}
+use Rattle.fx_machine.specs.declared.halt.Cause.TheVariants as cause
+use Rattle.fx_request.specs.declared.place.Place.{Place}
+use Rattle.fx_request.specs.declared.place.Place.TheVariants.{Nowhere, Table, Glyph, Property, Bytes, Halt}
 use Rattle.fx_request.specs.declared.refusal.Refusal.{Refusal}
-use Rattle.fx_request.specs.declared.refusal.Refusal.TheVariants.{NotTrueType, TableMissing, TableShort, BadHead, BadMaxp, NoCharMap}
-use Rattle.fx_request.specs.declared.refusal.Refusal.TheVariants.{BadCharMap, BadLoca, GlyphShort, BadContours, ComponentDepth}
-use Rattle.fx_request.specs.declared.refusal.Refusal.TheVariants.{TooManyComponents, TooManyPoints, BadPointMatch, BadGlyphNumber}
-use Rattle.fx_request.specs.declared.refusal.Refusal.TheVariants.{TooFar, GlyphTooLarge, BadSize, BadChars, BadName, BadProperty}
-use Rattle.fx_request.specs.declared.refusal.Refusal.TheVariants.{WriteFailed, ReadFailed, BadHex, InputTooLarge, OutOfMemory, Halted}
+use Rattle.fx_request.specs.declared.refusal.Refusal.TheVariants as refusal
 
--- a refusal's number and name; those of a halt are its cause's
-abbrev pub entry_of : Refusal → ℕ × List ℕ
-entry_of NotTrueType = (10, codes "NotTrueType")
-entry_of (TableMissing _) = (11, codes "TableMissing")
-entry_of (TableShort _) = (12, codes "TableShort")
-entry_of BadHead = (13, codes "BadHead")
-entry_of BadMaxp = (14, codes "BadMaxp")
-entry_of NoCharMap = (15, codes "NoCharMap")
-entry_of BadCharMap = (16, codes "BadCharMap")
-entry_of (BadLoca _) = (17, codes "BadLoca")
-entry_of (GlyphShort _) = (18, codes "GlyphShort")
-entry_of (BadContours _) = (19, codes "BadContours")
-entry_of (ComponentDepth _) = (20, codes "ComponentDepth")
-entry_of (TooManyComponents _) = (21, codes "TooManyComponents")
-entry_of (TooManyPoints _) = (22, codes "TooManyPoints")
-entry_of (BadPointMatch _) = (23, codes "BadPointMatch")
-entry_of (BadGlyphNumber _) = (24, codes "BadGlyphNumber")
-entry_of (Halted halt) = cause_entry_of halt.cause
-entry_of (TooFar _) = (51, codes "TooFar")
-entry_of (GlyphTooLarge _) = (52, codes "GlyphTooLarge")
-entry_of BadSize = (60, codes "BadSize")
-entry_of BadChars = (61, codes "BadChars")
-entry_of BadName = (62, codes "BadName")
-entry_of (BadProperty _) = (63, codes "BadProperty")
-entry_of (WriteFailed _) = (70, codes "WriteFailed")
-entry_of ReadFailed = (71, codes "ReadFailed")
-entry_of BadHex = (72, codes "BadHex")
-entry_of InputTooLarge = (73, codes "InputTooLarge")
-entry_of OutOfMemory = (90, codes "OutOfMemory")
+-- a refusal's number, name and place; the number and the name of a halt are its cause's
+abbrev pub entry_of : Refusal → ℕ × List ℕ × Place
+entry_of refusal.NotTrueType = (10, codes "NotTrueType", Nowhere)
+entry_of (refusal.TableMissing tag) = (11, codes "TableMissing", Table tag)
+entry_of (refusal.TableShort tag) = (12, codes "TableShort", Table tag)
+entry_of refusal.BadHead = (13, codes "BadHead", Nowhere)
+entry_of refusal.BadMaxp = (14, codes "BadMaxp", Nowhere)
+entry_of refusal.NoCharMap = (15, codes "NoCharMap", Nowhere)
+entry_of refusal.BadCharMap = (16, codes "BadCharMap", Nowhere)
+entry_of (refusal.BadLoca g) = (17, codes "BadLoca", Glyph g)
+entry_of (refusal.GlyphShort g) = (18, codes "GlyphShort", Glyph g)
+entry_of (refusal.BadContours g) = (19, codes "BadContours", Glyph g)
+entry_of (refusal.ComponentDepth g) = (20, codes "ComponentDepth", Glyph g)
+entry_of (refusal.TooManyComponents g) = (21, codes "TooManyComponents", Glyph g)
+entry_of (refusal.TooManyPoints g) = (22, codes "TooManyPoints", Glyph g)
+entry_of (refusal.BadPointMatch g) = (23, codes "BadPointMatch", Glyph g)
+entry_of (refusal.BadGlyphNumber g) = (24, codes "BadGlyphNumber", Glyph g)
+entry_of (refusal.Halted halt) = (causes.number_of halt.cause, causes.name_of halt.cause, Halt halt)
+entry_of (refusal.TooFar g) = (51, codes "TooFar", Glyph g)
+entry_of (refusal.GlyphTooLarge g) = (52, codes "GlyphTooLarge", Glyph g)
+entry_of refusal.BadSize = (60, codes "BadSize", Nowhere)
+entry_of refusal.BadChars = (61, codes "BadChars", Nowhere)
+entry_of refusal.BadName = (62, codes "BadName", Nowhere)
+entry_of (refusal.BadProperty i) = (63, codes "BadProperty", Property i)
+entry_of (refusal.WriteFailed n) = (70, codes "WriteFailed", Bytes n)
+entry_of refusal.ReadFailed = (71, codes "ReadFailed", Nowhere)
+entry_of refusal.BadHex = (72, codes "BadHex", Nowhere)
+entry_of refusal.InputTooLarge = (73, codes "InputTooLarge", Nowhere)
+entry_of refusal.OutOfMemory = (90, codes "OutOfMemory", Nowhere)
 
 abbrev pub number_of : Refusal → ℕ
-number_of refusal = (entry_of refusal).0
+number_of r = (entry_of r).0
 
 abbrev pub name_of : Refusal → List ℕ
-name_of refusal = (entry_of refusal).1
+name_of r = (entry_of r).1
+
+abbrev pub place_of : Refusal → Place
+place_of r = (entry_of r).2
+
+-- ---- the names by their numbers
+
+-- one of each refusal but the halts
+abbrev pub each_refusal : List Refusal
+each_refusal =
+    refusal.NotTrueType ∷ refusal.TableMissing (codes "glyf") ∷ refusal.TableShort (codes "glyf") ∷ refusal.BadHead ∷
+    refusal.BadMaxp ∷ refusal.NoCharMap ∷ refusal.BadCharMap ∷ refusal.BadLoca 0 ∷ refusal.GlyphShort 0 ∷
+    refusal.BadContours 0 ∷ refusal.ComponentDepth 0 ∷ refusal.TooManyComponents 0 ∷ refusal.TooManyPoints 0 ∷
+    refusal.BadPointMatch 0 ∷ refusal.BadGlyphNumber 0 ∷ refusal.TooFar 0 ∷ refusal.GlyphTooLarge 0 ∷ refusal.BadSize ∷
+    refusal.BadChars ∷ refusal.BadName ∷ refusal.BadProperty 1 ∷ refusal.WriteFailed 0 ∷ refusal.ReadFailed ∷
+    refusal.BadHex ∷ refusal.InputTooLarge ∷ refusal.OutOfMemory ∷ []
+
+-- each cause of a halt
+abbrev pub each_cause : List Cause
+each_cause =
+    cause.StackUnder ∷ cause.StackOver ∷ cause.BadOpcode ∷ cause.CodeEnd ∷ cause.BadJump ∷ cause.NoFunction ∷
+    cause.CallDepth ∷ cause.StepLimit ∷ cause.DivideByZero ∷ cause.BadArgument ∷ cause.NestedDefinition ∷ cause.StrayEnd ∷ []
+
+-- the name of the first of refusals that has a number
+abbrev pub name_among : List Refusal → ℕ → Option (List ℕ)
+name_among refusals number = option_map name_of (find (λ r. number_of r == number) refusals)
+
+abbrev pub cause_name_among : List Cause → ℕ → Option (List ℕ)
+cause_name_among all number = option_map causes.name_of (find (λ c. causes.number_of c == number) all)
+
+-- the name of the refusals that have a number, if there are any
+unfoldable pub named : ℕ → Option (List ℕ)
+named number = option_or (name_among each_refusal number) (cause_name_among each_cause number)
+
+-- the law: it is the name of each refusal that has the number
+abbrev pub NumbersHaveNames : Type 0
+NumbersHaveNames = (r : Refusal) → named (number_of r) ≡ Some (name_of r)

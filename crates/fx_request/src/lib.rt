@@ -1,17 +1,21 @@
 //! What a caller asks for and what it is told: requests for strikes and their limits, reports, and refusals.
 //!
-//! A refusal has a number that never changes, a name and fields. The faults of the crates below become refusals here. The code
-//! points of a request are made in rising order, each once, by `rising_codes`.
+//! A refusal has a number that never changes, a name and a place: `Refusal::entry` is their table. The faults of the crates below
+//! become refusals here. The code points of a request are made in rising order, each once, by `rising_codes`.
 #![tactic(auto)]
 
 mod characters;
 mod faults;
 pub mod laws;
 mod limits;
+mod names;
+mod place;
 mod refusal;
 mod request;
 
 pub use characters::rising_codes;
 pub use limits::{MAX_CHARACTERS, MAX_CODE};
+pub use names::named;
+pub use place::Place;
 pub use refusal::Refusal;
 pub use request::{Mode, Report, Request};

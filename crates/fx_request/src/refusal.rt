@@ -1,8 +1,9 @@
 //! Why there is no strike.
 ghost use Rattle.std.specs.Prelude.{◌≡◌};
-ghost use Rattle.fx_request.specs.Refusals.{number_of, name_of, entry_of};
+ghost use Rattle.fx_request.specs.Refusals.{number_of, name_of, place_of, entry_of};
 
-use fx_machine::Halt;
+use crate::place::Place;
+use fx_machine::{Cause, Halt};
 use std::fmt;
 use thiserror::Error;
 
@@ -66,51 +67,41 @@ pub enum Refusal {
     OutOfMemory,
 }
 
-/// The fields of a refusal, which follow its name; a halt has a text of its own.
-#[derive(Clone, Copy)]
-enum Fields {
-    None,
-    Tag([u8; 4]),
-    Glyph(u16),
-    Position(u32),
-    Bytes(u64),
-    Halt(Halt),
-}
-
 impl Refusal {
-    /// The number, the name and the fields, in one table.
-    fn entry(self) -> (u8, &'static str, Fields)
+    /// The number, the name and the place: the table of the refusals.
+    pub fn entry(self) -> (u8, &'static str, Place)
         ensures number { result.0 ≡ number_of self }
         ensures name { result.1.now ≡ name_of self }
+        ensures place { result.2 ≡ place_of self }
     {
         match self {
-            Refusal::NotTrueType => (10, "NotTrueType", Fields::None),
-            Refusal::TableMissing(tag) => (11, "TableMissing", Fields::Tag(tag)),
-            Refusal::TableShort(tag) => (12, "TableShort", Fields::Tag(tag)),
-            Refusal::BadHead => (13, "BadHead", Fields::None),
-            Refusal::BadMaxp => (14, "BadMaxp", Fields::None),
-            Refusal::NoCharMap => (15, "NoCharMap", Fields::None),
-            Refusal::BadCharMap => (16, "BadCharMap", Fields::None),
-            Refusal::BadLoca(g) => (17, "BadLoca", Fields::Glyph(g)),
-            Refusal::GlyphShort(g) => (18, "GlyphShort", Fields::Glyph(g)),
-            Refusal::BadContours(g) => (19, "BadContours", Fields::Glyph(g)),
-            Refusal::ComponentDepth(g) => (20, "ComponentDepth", Fields::Glyph(g)),
-            Refusal::TooManyComponents(g) => (21, "TooManyComponents", Fields::Glyph(g)),
-            Refusal::TooManyPoints(g) => (22, "TooManyPoints", Fields::Glyph(g)),
-            Refusal::BadPointMatch(g) => (23, "BadPointMatch", Fields::Glyph(g)),
-            Refusal::BadGlyphNumber(g) => (24, "BadGlyphNumber", Fields::Glyph(g)),
-            Refusal::Halted(halt) => (halt.cause.number(), halt.cause.name(), Fields::Halt(halt)),
-            Refusal::TooFar(g) => (51, "TooFar", Fields::Glyph(g)),
-            Refusal::GlyphTooLarge(g) => (52, "GlyphTooLarge", Fields::Glyph(g)),
-            Refusal::BadSize => (60, "BadSize", Fields::None),
-            Refusal::BadChars => (61, "BadChars", Fields::None),
-            Refusal::BadName => (62, "BadName", Fields::None),
-            Refusal::BadProperty(i) => (63, "BadProperty", Fields::Position(i)),
-            Refusal::WriteFailed(n) => (70, "WriteFailed", Fields::Bytes(n)),
-            Refusal::ReadFailed => (71, "ReadFailed", Fields::None),
-            Refusal::BadHex => (72, "BadHex", Fields::None),
-            Refusal::InputTooLarge => (73, "InputTooLarge", Fields::None),
-            Refusal::OutOfMemory => (90, "OutOfMemory", Fields::None),
+            Refusal::NotTrueType => (10, "NotTrueType", Place::Nowhere),
+            Refusal::TableMissing(tag) => (11, "TableMissing", Place::Table(tag)),
+            Refusal::TableShort(tag) => (12, "TableShort", Place::Table(tag)),
+            Refusal::BadHead => (13, "BadHead", Place::Nowhere),
+            Refusal::BadMaxp => (14, "BadMaxp", Place::Nowhere),
+            Refusal::NoCharMap => (15, "NoCharMap", Place::Nowhere),
+            Refusal::BadCharMap => (16, "BadCharMap", Place::Nowhere),
+            Refusal::BadLoca(g) => (17, "BadLoca", Place::Glyph(g)),
+            Refusal::GlyphShort(g) => (18, "GlyphShort", Place::Glyph(g)),
+            Refusal::BadContours(g) => (19, "BadContours", Place::Glyph(g)),
+            Refusal::ComponentDepth(g) => (20, "ComponentDepth", Place::Glyph(g)),
+            Refusal::TooManyComponents(g) => (21, "TooManyComponents", Place::Glyph(g)),
+            Refusal::TooManyPoints(g) => (22, "TooManyPoints", Place::Glyph(g)),
+            Refusal::BadPointMatch(g) => (23, "BadPointMatch", Place::Glyph(g)),
+            Refusal::BadGlyphNumber(g) => (24, "BadGlyphNumber", Place::Glyph(g)),
+            Refusal::Halted(halt) => (halt.cause.number(), halt.cause.name(), Place::Halt(halt)),
+            Refusal::TooFar(g) => (51, "TooFar", Place::Glyph(g)),
+            Refusal::GlyphTooLarge(g) => (52, "GlyphTooLarge", Place::Glyph(g)),
+            Refusal::BadSize => (60, "BadSize", Place::Nowhere),
+            Refusal::BadChars => (61, "BadChars", Place::Nowhere),
+            Refusal::BadName => (62, "BadName", Place::Nowhere),
+            Refusal::BadProperty(i) => (63, "BadProperty", Place::Property(i)),
+            Refusal::WriteFailed(n) => (70, "WriteFailed", Place::Bytes(n)),
+            Refusal::ReadFailed => (71, "ReadFailed", Place::Nowhere),
+            Refusal::BadHex => (72, "BadHex", Place::Nowhere),
+            Refusal::InputTooLarge => (73, "InputTooLarge", Place::Nowhere),
+            Refusal::OutOfMemory => (90, "OutOfMemory", Place::Nowhere),
         }
     }
 
@@ -127,15 +118,75 @@ impl Refusal {
     {
         self.entry().1
     }
+
+    /// Where the refusal is.
+    pub fn place(self) -> Place
+        ensures { result ≡ place_of self }
+    {
+        self.entry().2
+    }
 }
 
-/// The number, the name and the fields, or the text of a halt.
+/// One of each refusal but the halts.
+pub const EACH_REFUSAL: [Refusal; 26] = [
+    Refusal::NotTrueType,
+    Refusal::TableMissing(*b"glyf"),
+    Refusal::TableShort(*b"glyf"),
+    Refusal::BadHead,
+    Refusal::BadMaxp,
+    Refusal::NoCharMap,
+    Refusal::BadCharMap,
+    Refusal::BadLoca(0),
+    Refusal::GlyphShort(0),
+    Refusal::BadContours(0),
+    Refusal::ComponentDepth(0),
+    Refusal::TooManyComponents(0),
+    Refusal::TooManyPoints(0),
+    Refusal::BadPointMatch(0),
+    Refusal::BadGlyphNumber(0),
+    Refusal::TooFar(0),
+    Refusal::GlyphTooLarge(0),
+    Refusal::BadSize,
+    Refusal::BadChars,
+    Refusal::BadName,
+    Refusal::BadProperty(1),
+    Refusal::WriteFailed(0),
+    Refusal::ReadFailed,
+    Refusal::BadHex,
+    Refusal::InputTooLarge,
+    Refusal::OutOfMemory,
+];
+
+/// Each cause of a halt.
+pub const EACH_CAUSE: [Cause; 12] = [
+    Cause::StackUnder,
+    Cause::StackOver,
+    Cause::BadOpcode,
+    Cause::CodeEnd,
+    Cause::BadJump,
+    Cause::NoFunction,
+    Cause::CallDepth,
+    Cause::StepLimit,
+    Cause::DivideByZero,
+    Cause::BadArgument,
+    Cause::NestedDefinition,
+    Cause::StrayEnd,
+];
+
+/// The number, the name and the place.
 impl fmt::Display for Refusal {
     fn fmt<W: fmt::Write>(&self, f: &mut fmt::Formatter<W>) -> fmt::Result {
-        let (number, name, fields) = self.entry();
-        match fields {
-            Fields::Halt(halt) => write!(f, "{halt}"),
-            _ => write!(f, "{number} {name}{fields}"),
+        let (number, name, place) = self.entry();
+        match place {
+            Place::Nowhere => write!(f, "{number} {name}"),
+            Place::Table(tag) => {
+                write!(f, "{number} {name} ")?;
+                write_tag(f, tag)
+            }
+            Place::Glyph(g) => write!(f, "{number} {name} {g}"),
+            Place::Property(i) => write!(f, "{number} {name} {i}"),
+            Place::Bytes(n) => write!(f, "{number} {name} {n}"),
+            Place::Halt(halt) => write!(f, "{halt}"),
         }
     }
 }
@@ -147,22 +198,8 @@ impl fmt::Debug for Refusal {
     }
 }
 
-/// Each field after a space.
-impl fmt::Display for Fields {
-    fn fmt<W: fmt::Write>(&self, f: &mut fmt::Formatter<W>) -> fmt::Result {
-        match *self {
-            Fields::None | Fields::Halt(_) => Ok(()),
-            Fields::Tag(tag) => write_tag(f, tag),
-            Fields::Glyph(g) => write!(f, " {g}"),
-            Fields::Position(i) => write!(f, " {i}"),
-            Fields::Bytes(n) => write!(f, " {n}"),
-        }
-    }
-}
-
-/// The name of a table.
+/// The tag of a table.
 fn write_tag<W: fmt::Write>(f: &mut fmt::Formatter<W>, tag: [u8; 4]) -> fmt::Result {
-    f.write_str(" ")?;
     // The bytes so far were written.
     'bytes: for byte in tag {
         f.write_char(char::from(byte))?;

@@ -10,8 +10,7 @@ use Rattle.fx_fixed.proofs.Chain.{map_ok_ok, map_fault_ok}
 use Rattle.fx_sfnt.specs.Glyphs.{metrics_of}
 use Rattle.fx_sfnt.specs.declared.records.Metrics.{Metrics}
 use Rattle.fx_sfnt.specs.declared.fault.FontFault.{FontFault}
-use Rattle.fx_sfnt.specs.declared.fault.FontFault.TheVariants.{NotTrueType, TableMissing, TableShort, BadHead, BadMaxp, BadLoca}
-use Rattle.fx_sfnt.specs.declared.fault.FontFault.TheVariants.{BadGlyphNumber}
+use Rattle.fx_sfnt.specs.declared.fault.FontFault.TheVariants.{NotTrueType}
 use Rattle.fx_hint.specs.Outlines.{GlyphOutlineView}
 use Rattle.fx_winding.specs.Bitmaps.{Bits, bit_of}
 use Rattle.fx_raster.specs.Rules.{ShapeView, shape_of}
@@ -152,12 +151,7 @@ no_shape setting code glyph drawing d h f =
 
 font_fails : {Y : Type 0} (f : FontFault) (due : Result Y Refusal) → due ≡ Err (of_font f) → Fails (of_font f) due
 font_fails NotTrueType due h = h
-font_fails (TableMissing tag) due h = h
-font_fails (TableShort tag) due h = h
-font_fails BadHead due h = h
-font_fails BadMaxp due h = h
-font_fails (BadLoca g) due h = h
-font_fails (BadGlyphNumber g) due h = h
+font_fails _ due h = h
 
 refused_metrics : {Y : Type 0} (view : Metrics → ℤ) (m : Result Metrics FontFault) (d : Refusal) (due : Result Y Refusal)
     → Err d ≡ map_ok view (map_fault of_font m) → ((f : FontFault) → m ≡ Err f → due ≡ Err (of_font f)) → Fails d due

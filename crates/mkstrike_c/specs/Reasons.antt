@@ -1,51 +1,14 @@
 -- The names of what calls return (docs/REFUSALS.md).
-use Rattle.std.specs.Prelude.{◌≡◌, ◌+◌, ◌-◌, ◌<◌, ℕ, List, [], ◌∷◌, ◌++◌, codes, length, min, take, drop, slice_index_or}
-use Rattle.fx_code.specs.Names.{words}
+use Rattle.std.specs.Prelude.{◌≡◌, ◌==◌, ◌+◌, ◌-◌, ◌<◌, ℕ, List, [], ◌∷◌, ◌++◌, codes, length, min, take, drop, unwrap_or}
+use Rattle.std.specs.Prelude.{if◌then◌else◌}
 use Rattle.fx_request.specs.declared.refusal.Refusal.{Refusal}
-use Rattle.fx_request.specs.Refusals.{number_of, name_of}
+use Rattle.fx_request.specs.Refusals.{number_of, name_of, named}
 
--- a number that no call returns
-abbrev pub unknown : List ℕ
-unknown = codes "Unknown"
-
-abbrev pub row_0 : List (List ℕ)
-row_0 = words (codes "Done Missing Unknown Unknown Unknown Unknown Unknown Unknown Unknown Unknown")
-
-abbrev pub row_10 : List (List ℕ)
-row_10 = words (codes "NotTrueType TableMissing TableShort BadHead BadMaxp NoCharMap BadCharMap BadLoca GlyphShort BadContours")
-
-abbrev pub row_20 : List (List ℕ)
-row_20 = words (codes "ComponentDepth TooManyComponents TooManyPoints BadPointMatch BadGlyphNumber")
-    ++ words (codes "Unknown Unknown Unknown Unknown Unknown")
-
-abbrev pub row_30 : List (List ℕ)
-row_30 = words (codes "StackUnder StackOver BadOpcode CodeEnd BadJump NoFunction CallDepth StepLimit DivideByZero BadArgument")
-
-abbrev pub row_40 : List (List ℕ)
-row_40 = words (codes "NestedDefinition StrayEnd Unknown Unknown Unknown Unknown Unknown Unknown Unknown Unknown")
-
-abbrev pub row_50 : List (List ℕ)
-row_50 = words (codes "Unknown TooFar GlyphTooLarge Unknown Unknown Unknown Unknown Unknown Unknown Unknown")
-
-abbrev pub row_60 : List (List ℕ)
-row_60 = words (codes "BadSize BadChars BadName BadProperty Unknown Unknown Unknown Unknown Unknown Unknown")
-
-abbrev pub row_70 : List (List ℕ)
-row_70 = words (codes "WriteFailed ReadFailed BadHex InputTooLarge Unknown Unknown Unknown Unknown Unknown Unknown")
-
-abbrev pub row_80 : List (List ℕ)
-row_80 = words (codes "Unknown Unknown Unknown Unknown Unknown Unknown Unknown Unknown Unknown Unknown")
-
-abbrev pub row_90 : List (List ℕ)
-row_90 = words (codes "OutOfMemory")
-
--- all of them
-abbrev pub names : List (List ℕ)
-names = row_0 ++ row_10 ++ row_20 ++ row_30 ++ row_40 ++ row_50 ++ row_60 ++ row_70 ++ row_80 ++ row_90
-
--- the name of a number
+-- the name of a number: that of the refusals that have it
 unfoldable pub reason_of : ℕ → List ℕ
-reason_of number = slice_index_or names number unknown
+reason_of number =
+    if number == 0 then codes "Done"
+    else (if number == 1 then codes "Missing" else unwrap_or (named number) (codes "Unknown"))
 
 -- the law: that of a refusal's number is the refusal's name
 abbrev pub ReasonsAreNames : Type 0

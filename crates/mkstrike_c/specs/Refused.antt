@@ -4,11 +4,11 @@ use Rattle.std.specs.Int.{from_be_bytes, w32}
 use Rattle.fx_machine.specs.declared.halt.Halt.{Halt}
 use Rattle.fx_machine.specs.declared.program.FontProgram.{FontProgram}
 use Rattle.fx_machine.specs.declared.program.FontProgram.TheVariants.{Fpgm, Prep, Glyph}
+use Rattle.fx_request.specs.declared.place.Place.{Place}
+use Rattle.fx_request.specs.declared.place.Place.TheVariants as place
 use Rattle.fx_request.specs.declared.refusal.Refusal.{Refusal}
-use Rattle.fx_request.specs.declared.refusal.Refusal.TheVariants.{TableMissing, TableShort, BadLoca, GlyphShort, BadContours}
-use Rattle.fx_request.specs.declared.refusal.Refusal.TheVariants.{ComponentDepth, TooManyComponents, TooManyPoints, BadPointMatch}
-use Rattle.fx_request.specs.declared.refusal.Refusal.TheVariants.{BadGlyphNumber, Halted, TooFar, GlyphTooLarge, OutOfMemory}
-use Rattle.fx_request.specs.Refusals.{number_of}
+use Rattle.fx_request.specs.declared.refusal.Refusal.TheVariants.{OutOfMemory}
+use Rattle.fx_request.specs.Refusals.{number_of, place_of}
 use Rattle.fx_strike.specs.Strike.{Opening}
 use Rattle.fx_strike.specs.Headline.{Late}
 use Rattle.fx_strike.specs.Faults.{Fails}
@@ -58,26 +58,18 @@ halted number halt = record {
   address = halt.address;
 }
 
--- the fields of a refusal of this number
-abbrev pub fields : ℕ → Refusal → Refused
-fields number (TableMissing tag) = with_table number tag
-fields number (TableShort tag) = with_table number tag
-fields number (BadLoca g) = with_glyph number g
-fields number (GlyphShort g) = with_glyph number g
-fields number (BadContours g) = with_glyph number g
-fields number (ComponentDepth g) = with_glyph number g
-fields number (TooManyComponents g) = with_glyph number g
-fields number (TooManyPoints g) = with_glyph number g
-fields number (BadPointMatch g) = with_glyph number g
-fields number (BadGlyphNumber g) = with_glyph number g
-fields number (TooFar g) = with_glyph number g
-fields number (GlyphTooLarge g) = with_glyph number g
-fields number (Halted halt) = halted number halt
-fields number _ = no_fields number
+-- the fields of a refusal of this number; a property and a number of bytes have none
+abbrev pub fields : ℕ → Place → Refused
+fields number place.Nowhere = no_fields number
+fields number (place.Table tag) = with_table number tag
+fields number (place.Glyph g) = with_glyph number g
+fields number (place.Property i) = no_fields number
+fields number (place.Bytes n) = no_fields number
+fields number (place.Halt halt) = halted number halt
 
 -- the number and the fields of a refusal
 abbrev pub refused_of : Refusal → Refused
-refused_of refusal = fields (number_of refusal) refusal
+refused_of refusal = fields (number_of refusal) (place_of refusal)
 
 -- why there is no value: the first cause; or memory was refused, after the request passed its checks and the font and its
 -- character map opened

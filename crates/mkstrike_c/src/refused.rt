@@ -4,7 +4,7 @@ ghost use Rattle.fx_request.specs.Refusals.{number_of};
 ghost use Rattle.mkstrike_c.specs.Refused.{fields, halted, no_fields, program_number, refused_of};
 
 use fx_machine::{FontProgram, Halt};
-use fx_request::Refusal;
+use fx_request::{Place, Refusal};
 
 /// No glyph, no program.
 pub const NONE: u32 = 0xFFFF_FFFF;
@@ -81,42 +81,20 @@ fn halted(number: u32, halt: Halt) -> Refused
 }
 
 /// The fields of a refusal of this number.
-fn fields(number: u32, refusal: Refusal) -> Refused
-    ensures { result ≡ fields number refusal }
+fn fields(number: u32, place: Place) -> Refused
+    ensures { result ≡ fields number place }
 {
-    match refusal {
-        Refusal::TableMissing(tag) | Refusal::TableShort(tag) => Refused {
+    match place {
+        Place::Table(tag) => Refused {
             table: u32::from_be_bytes(tag),
             ..no_fields(number)
         },
-        Refusal::BadLoca(g)
-        | Refusal::GlyphShort(g)
-        | Refusal::BadContours(g)
-        | Refusal::ComponentDepth(g)
-        | Refusal::TooManyComponents(g)
-        | Refusal::TooManyPoints(g)
-        | Refusal::BadPointMatch(g)
-        | Refusal::BadGlyphNumber(g)
-        | Refusal::TooFar(g)
-        | Refusal::GlyphTooLarge(g) => Refused {
+        Place::Glyph(g) => Refused {
             glyph: u32::from(g),
             ..no_fields(number)
         },
-        Refusal::Halted(halt) => halted(number, halt),
-        Refusal::NotTrueType
-        | Refusal::BadHead
-        | Refusal::BadMaxp
-        | Refusal::NoCharMap
-        | Refusal::BadCharMap
-        | Refusal::BadSize
-        | Refusal::BadChars
-        | Refusal::BadName
-        | Refusal::BadProperty(_)
-        | Refusal::WriteFailed(_)
-        | Refusal::ReadFailed
-        | Refusal::BadHex
-        | Refusal::InputTooLarge
-        | Refusal::OutOfMemory => no_fields(number),
+        Place::Halt(halt) => halted(number, halt),
+        Place::Nowhere | Place::Property(_) | Place::Bytes(_) => no_fields(number),
     }
 }
 
@@ -127,6 +105,6 @@ pub fn refuse(refusal: Refusal, refused: &mut Refused) -> u32
     ensures fields { refused.new ≡ refused_of refusal }
 {
     let number = number(refusal);
-    *refused = fields(number, refusal);
+    *refused = fields(number, refusal.place());
     number
 }

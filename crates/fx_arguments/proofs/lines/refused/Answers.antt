@@ -8,7 +8,7 @@ word-requires g c =
       arith,
       name_short c.args.refusal,
       ap length c.new-line.ensures,
-      c.number-2.ensures.short,
-      ap length c.name.ensures,
+      c.number.ensures.short,
+      ap length c.entry-number.ensures.name,
       ap length c.as_bytes.ensures.value,
     )
