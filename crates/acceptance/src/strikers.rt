@@ -134,6 +134,25 @@ fn fonts_that_do_not_open(rt: HostRuntime) -> Result<(), Fail> {
     Ok(())
 }
 
+/// The number of the refusal of a font that is opened at a size for a character.
+fn refused_for(alloc: Global, font: &[u8], ppem: u16, code: u32) -> Option<u8> {
+    match Striker::open_for(alloc, font, ppem, &[code], HINTED) {
+        Ok(_striker) => None,
+        Err(refusal) => Some(refusal.number()),
+    }
+}
+
+/// The size is checked before the characters, and both before the font.
+#[test]
+fn fonts_that_do_not_open_for_characters(rt: HostRuntime) -> Result<(), Fail> {
+    let font = fixture(rt.alloc())?;
+    assert!(rt; refused_for(rt.alloc(), font.as_slice(), 16, 0x41).is_none());
+    for (ppem, code, number) in [(16, 0x41, 10), (16, 0x11_0000, 61), (0, 0x11_0000, 60)] {
+        assert!(rt; refused_for(rt.alloc(), &[], ppem, code) == Some(number));
+    }
+    Ok(())
+}
+
 /// `fpgm` and `prep` run when the striker is opened, and only with hinting on.
 #[test]
 fn programs_that_halt(rt: HostRuntime) -> Result<(), Fail> {

@@ -223,9 +223,13 @@ opened_after ppem checks file = do
 abbrev pub opened_of : List ℕ → ℕ → Title → List ℕ → Opening
 opened_of file ppem title chars = opened_after ppem (checked_text title chars) file
 
+-- for characters that are made one by one
+abbrev pub opened_many_of : List ℕ → ℕ → List ℕ → Opening
+opened_many_of file ppem chars = opened_after ppem (checked_chars chars) file
+
 -- for one character
 abbrev pub opened_one_of : List ℕ → ℕ → ℕ → Opening
-opened_one_of file ppem code = opened_after ppem (checked_chars (code ∷ [])) file
+opened_one_of file ppem code = opened_many_of file ppem (code ∷ [])
 
 -- for a striker, which is not asked for anything yet
 abbrev pub opened_at : List ℕ → ℕ → Opening
@@ -235,6 +239,12 @@ opened_at file ppem = opened_after ppem (Ok tt) file
 unfoldable pub setting_of : List ℕ → ℕ → Mode → Result Setting Refusal
 setting_of file ppem mode = do
   opened ← opened_at file ppem
+  setting_in opened mode
+
+-- the same for characters that are made one by one
+unfoldable pub setting_for : List ℕ → ℕ → List ℕ → Mode → Result Setting Refusal
+setting_for file ppem chars mode = do
+  opened ← opened_many_of file ppem chars
   setting_in opened mode
 
 -- the strike of an opened font, a title and characters, or the first cause why there is none

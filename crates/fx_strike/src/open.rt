@@ -1,5 +1,5 @@
 //! From a request and a file to a size, a font and its character map.
-ghost use Rattle.std.specs.Prelude.{◌≡◌, ◌||◌, nat_lt, length, IfErr, OnOk};
+ghost use Rattle.std.specs.Prelude.{◌≡◌, ◌||◌, nat_lt, length, Ok, IfErr, OnOk};
 ghost use Rattle.std.specs.List.{list_any};
 ghost use Rattle.fx_fixed.specs.Chain.{wanted};
 ghost use Rattle.fx_fixed.specs.Sizes.{ppem_of};
@@ -7,7 +7,7 @@ ghost use Rattle.fx_bdf.specs.Properties.{AreProperties, seen_properties};
 ghost use Rattle.fx_request.specs.Limits.{max_characters, max_code};
 ghost use Rattle.fx_strike.specs.Title.{title_of, titled};
 ghost use Rattle.fx_strike.specs.Strike.{checked_chars, checked_properties, checked_text, checked_title, font_with_map};
-ghost use Rattle.fx_strike.specs.Strike.{opened_one_of, opened_at, rule_of};
+ghost use Rattle.fx_strike.specs.Strike.{opened_many_of, opened_one_of, opened_at, rule_of};
 ghost use Rattle.fx_strike.specs.inner.Surveying.{AreChars, IsChecked};
 ghost use Rattle.fx_strike.specs.Headline.{IsCause, opening_of};
 
@@ -142,16 +142,25 @@ pub(crate) fn open<'a>(file: &'a [u8], request: &Request<'_>) -> Result<Opened<'
     Ok(Opened { ppem, font, map })
 }
 
-/// The size, the font and its character map, for one character.
+/// The size, the font and its character map, for characters that are made one by one.
 #[tactic(auto, unfolding(crate::specs::Strike::opened_after))]
+pub(crate) fn open_many<'a>(file: &'a [u8], ppem: u16, chars: &[u32]) -> Result<Opened<'a>, Refusal>
+    ensures due { result ≡ opened_many_of file.now ppem chars.now }
+    ensures named { IfErr result IsCause }
+    ensures passed { OnOk result (Ok tt ≡ checked_chars chars.now) }
+{
+    let ppem = sized(ppem)?;
+    check_chars(chars)?;
+    let (font, map) = font_with_map(file)?;
+    Ok(Opened { ppem, font, map })
+}
+
+/// The size, the font and its character map, for one character.
 pub(crate) fn open_one<'a>(file: &'a [u8], ppem: u16, code: u32) -> Result<Opened<'a>, Refusal>
     ensures due { result ≡ opened_one_of file.now ppem code }
     ensures named { IfErr result IsCause }
 {
-    let ppem = sized(ppem)?;
-    check_chars(&[code])?;
-    let (font, map) = font_with_map(file)?;
-    Ok(Opened { ppem, font, map })
+    open_many(file, ppem, &[code])
 }
 
 /// The size, the font and its character map, for no character yet.

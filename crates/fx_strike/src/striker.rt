@@ -1,17 +1,17 @@
 //! A font at a size, ready to make its characters.
-ghost use Rattle.std.specs.Prelude.{◌≡◌, ◌<◌, ◌^◌, ◌≤◌, ℕ, List, [], ◌∷◌, Ok, IfOk, IfErr, IsErrOf, length};
+ghost use Rattle.std.specs.Prelude.{◌≡◌, ◌<◌, ◌^◌, ◌≤◌, ℕ, List, [], ◌∷◌, Ok, IfOk, IfErr, IsErrOf, OnOk, length};
 ghost use Rattle.fx_fixed.specs.Chain.{GivesUnless};
 ghost use Rattle.fx_request.specs.Limits.{max_characters};
 ghost use Rattle.fx_fixed.specs.Changes.{change_of};
 ghost use Rattle.fx_strike.specs.Faults.{Fails};
 ghost use Rattle.fx_strike.specs.Title.{titled};
-ghost use Rattle.fx_strike.specs.Strike.{setting_in, setting_of, opened_at, checked_chars, checked_text, plan_with, one_with};
+ghost use Rattle.fx_strike.specs.Strike.{setting_for, setting_in, setting_of, opened_at, opened_many_of, checked_chars, checked_text, plan_with, one_with};
 ghost use Rattle.fx_strike.specs.Headline.{IsOneOf, Surveyed, Makes, Leaves, Late, strike_with, nameless_with, character_with};
 ghost use Rattle.fx_strike.specs.inner.Drawing.{Finds};
 ghost use Rattle.fx_strike.specs.inner.Surveying.{AreChars, IsChecked, SurveysNameless};
 
 use crate::hinter::{FontHinter, hinter_at};
-use crate::open::{check_chars, check_text, open_at, rule_of};
+use crate::open::{check_chars, check_text, open_at, open_many, rule_of};
 use crate::opened::Opened;
 use crate::surveyed::Survey;
 use crate::tools::Tools;
@@ -59,6 +59,29 @@ impl<'a> Striker<'a, Rows> {
     {
         open_inner(alloc, font, ppem, mode)
     }
+
+    /// Opens a font at a size for characters that are made one by one, with the scan by rows; with hinting on, the font's programs
+    /// run.
+    ///
+    /// The first cause is returned, in this order: the size, the characters; then as by `open`.
+    pub fn open_for(
+        alloc: Global,
+        font: &'a [u8],
+        ppem: u16,
+        chars: &[u32],
+        mode: Mode,
+    ) -> Result<Striker<'a, Rows>, Refusal>
+        // The striker is in the font's setting.
+        ensures setting { IfOk result (λ s. setting_for font.now ppem chars.now mode ≡ Ok s) }
+        // The characters are within their limits.
+        ensures chars { OnOk result (Ok tt ≡ checked_chars chars.now) }
+        // The first cause was named, or memory ran out.
+        ensures cause { IfErr result (λ refusal. Fails refusal (setting_for font.now ppem chars.now mode)) }
+        // The size is valid, the characters are within their limits, and the font and its character map opened.
+        ensures late { IsErrOf result Refusal.OutOfMemory → Late (opened_many_of font.now ppem chars.now) }
+    {
+        open_for_inner(alloc, font, ppem, chars, mode)
+    }
 }
 
 /// `Striker::open` with its clauses as one.
@@ -72,6 +95,22 @@ fn open_inner<'a>(
     ensures late { IsErrOf result Refusal.OutOfMemory → Late (opened_at font.now ppem) }
 {
     let opened = open_at(font, ppem)?;
+    Striker::of(alloc, &Rows, opened, mode)
+}
+
+/// `Striker::open_for` with its clauses as one.
+fn open_for_inner<'a>(
+    alloc: Global,
+    font: &'a [u8],
+    ppem: u16,
+    chars: &[u32],
+    mode: Mode,
+) -> Result<Striker<'a, Rows>, Refusal>
+    ensures due { GivesUnless Fails (λ s. s) result (setting_for font.now ppem chars.now mode) }
+    ensures chars { OnOk result (Ok tt ≡ checked_chars chars.now) }
+    ensures late { IsErrOf result Refusal.OutOfMemory → Late (opened_many_of font.now ppem chars.now) }
+{
+    let opened = open_many(font, ppem, chars)?;
     Striker::of(alloc, &Rows, opened, mode)
 }
 

@@ -11,20 +11,15 @@ use Rattle.std.proofs.lemmas.List.FromFn.{length-range_with_len}
 use Rattle.std.proofs.lemmas.List.Concat.{flat_map-append}
 use Rattle.std.proofs.lemmas.List.Sums.{sum_by_push}
 use Rattle.std.proofs.lemmas.Bool.Decides.{nat_tests}
-use Rattle.fx_fixed.specs.Chain.{◌>>=◌, refuse, wanted, map_ok, map_chain}
-use Rattle.fx_fixed.specs.Sizes.{ppem_of}
-use Rattle.fx_sfnt.specs.Tables.{Face}
-use Rattle.fx_cmap.specs.declared.mapping.Mapping.{Mapping}
+use Rattle.fx_fixed.specs.Chain.{◌>>=◌, refuse, map_ok, map_chain}
 use Rattle.fx_bdf.specs.Glyphs as bits
 use Rattle.fx_request.specs.declared.refusal.Refusal.{Refusal}
 use Rattle.fx_request.specs.declared.request.Mode.{Mode}
-use Rattle.fx_request.specs.declared.refusal.Refusal.TheVariants.{BadSize, BadChars, OutOfMemory}
+use Rattle.fx_request.specs.declared.refusal.Refusal.TheVariants.{BadChars, OutOfMemory}
 use Rattle.fx_request.specs.Limits.{max_characters, max_code}
 use Rattle.fx_strike.specs.Faults.{Fails}
-use Rattle.fx_strike.specs.Strike.{Sketch, Setting, Opening, checked_chars, opened_after, opened_at, setting_in, setting_of, one_with}
-use Rattle.fx_strike.specs.Strike.{font_with_map}
-use Rattle.fx_strike.specs.Headline.{IsCause, IsOneOf, Late, character_with}
-use Rattle.fx_strike.proofs.Making.{fails_cause}
+use Rattle.fx_strike.specs.Strike.{Sketch, Setting, Opening, checked_chars, opened_many_of, setting_for, setting_in, one_with}
+use Rattle.fx_strike.specs.Headline.{IsOneOf, Late, character_with}
 use Rattle.fx_strike.proofs.Seeing.{code_fits}
 use Rattle.fx_strike.proofs.Sketching.{fails_on}
 use Rattle.mkstrike_c.specs.declared.gathered.Drawn.{Drawn}
@@ -33,9 +28,8 @@ use Rattle.mkstrike_c.specs.declared.gathered.Wanted.{Wanted}
 use Rattle.mkstrike_c.specs.declared.gathered.Gathered.{Gathered}
 use Rattle.mkstrike_c.specs.Refused.{IsReason}
 use Rattle.mkstrike_c.specs.Pixels.{row_byte, row_bytes, size_of, stride_of}
-use Rattle.mkstrike_c.specs.Drawn.{AreDrawn, AreOnesOf, HasFront, all_pixels, drawn_of, entries_from, entry_of, many_of, opened_many_of, pixels_of}
-use Rattle.mkstrike_c.specs.inner.Gathering.{AreGathered, Holds, IsGathered, IsTold, checks, with_one}
-use Rattle.mkstrike_c.proofs.Requested.{opening}
+use Rattle.mkstrike_c.specs.Drawn.{AreDrawn, AreOnesOf, HasFront, all_pixels, drawn_of, entries_from, entry_of, many_of, pixels_of}
+use Rattle.mkstrike_c.specs.inner.Gathering.{AreGathered, Holds, IsGathered, IsTold, with_one}
 
 -- ---- lists with room
 
@@ -238,69 +232,20 @@ refused_at setting chars i wanted old d l h so_far f =
 
 -- ---- from a file
 
-pub checked_after : (ppem : ℕ) (chars : List ℕ) → Ok tt ≡ checks ppem chars → checked_chars chars ≡ Ok tt
-checked_after ppem chars h = by_size (wanted (ppem_of ppem) BadSize) h
-  where
-    by_size : (r : Result ℕ Refusal) → Ok tt ≡ (r >>= λ _. checked_chars chars) → checked_chars chars ≡ Ok tt
-    by_size (Ok size) h = sym h
-    by_size (Err e) h = absurd (cc)
-
--- what passed is opened as for no character
-opened_alike : (file : List ℕ) (ppem : ℕ) (chars : List ℕ) → Ok tt ≡ checks ppem chars
-    → opened_many_of file ppem chars ≡ opened_at file ppem
-unfolding opened_after
-opened_alike file ppem chars h =
-    ap (λ (k : Result (Unit {0}) Refusal). opened_after ppem k file) (checked_after ppem chars h)
-
--- what did not pass is refused
-opened_unchecked : (file : List ℕ) (ppem : ℕ) (chars : List ℕ) (d : Refusal) → Err d ≡ checks ppem chars
-    → opened_many_of file ppem chars ≡ Err d
-unfolding opened_after
-opened_unchecked file ppem chars d h =
-    by_checks (wanted (ppem_of ppem) BadSize) (checked_chars chars) (font_with_map file) h
-  where
-    by_checks : (r : Result ℕ Refusal) (k : Result (Unit {0}) Refusal) (f : Result (Face × Mapping) Refusal)
-        → Err d ≡ (r >>= λ _. k)
-        → opening r k f ≡ Err d
-    by_checks (Ok size) (Ok u) f h = absurd (cc)
-    by_checks (Ok size) (Err e) f h = cc
-    by_checks (Err e) k f h = cc
-
-many_unchecked : (file : List ℕ) (ppem : ℕ) (chars : List ℕ) (mode : Mode) (d : Refusal) → Err d ≡ checks ppem chars
-    → many_of file ppem chars mode ≡ Err d
+many_set : (file : List ℕ) (ppem : ℕ) (chars : List ℕ) (mode : Mode) (s : Setting) → setting_for file ppem chars mode ≡ Ok s
+    → many_of file ppem chars mode ≡ map_chain (one_with s) chars
 unfolding many_of
-many_unchecked file ppem chars mode d h = rw (opened_unchecked file ppem chars d h) refl
+many_set file ppem chars mode s k =
+    ap (λ (r : Result Setting Refusal). r >>= λ s. map_chain (one_with s) chars) k
 
--- they are due in the setting of the font
-many_in : (file : List ℕ) (ppem : ℕ) (chars : List ℕ) (mode : Mode) → Ok tt ≡ checks ppem chars
-    → many_of file ppem chars mode ≡ (setting_of file ppem mode >>= λ s. map_chain (one_with s) chars)
-unfolding many_of setting_of
-many_in file ppem chars mode h = rw (opened_alike file ppem chars h) (by_opened (opened_at file ppem))
-  where
-    by_opened : (o : Opening)
-        → (o >>= λ o. setting_in o mode >>= λ s. map_chain (one_with s) chars) ≡
-        ((o >>= λ o. setting_in o mode) >>= λ s. map_chain (one_with s) chars)
-    by_opened (Ok o) = refl
-    by_opened (Err e) = refl
-
-many_set : (file : List ℕ) (ppem : ℕ) (chars : List ℕ) (mode : Mode) (s : Setting) → Ok tt ≡ checks ppem chars
-    → setting_of file ppem mode ≡ Ok s → many_of file ppem chars mode ≡ map_chain (one_with s) chars
-many_set file ppem chars mode s h k =
-    many_in file ppem chars mode h ∙ ap (λ (r : Result Setting Refusal). r >>= λ s. map_chain (one_with s) chars) k
-
-opened_late : (file : List ℕ) (ppem : ℕ) (mode : Mode) (s : Setting) → setting_of file ppem mode ≡ Ok s
-    → Late (opened_at file ppem)
-unfolding setting_of
-opened_late file ppem mode s h = by_opened (opened_at file ppem) h
+opened_late : (file : List ℕ) (ppem : ℕ) (chars : List ℕ) (mode : Mode) (s : Setting) → setting_for file ppem chars mode ≡ Ok s
+    → Late (opened_many_of file ppem chars)
+unfolding setting_for
+opened_late file ppem chars mode s h = by_opened (opened_many_of file ppem chars) h
   where
     by_opened : (o : Opening) → (o >>= λ o. setting_in o mode) ≡ Ok s → Late o
     by_opened (Ok o) h = refl
     by_opened (Err e) h = absurd (cc)
-
-late_alike : (file : List ℕ) (ppem : ℕ) (chars : List ℕ) → Ok tt ≡ checks ppem chars → Late (opened_at file ppem)
-    → Late (opened_many_of file ppem chars)
-late_alike file ppem chars h late =
-    let P : Opening → Type 0 = λ o. Late o in subst P (sym (opened_alike file ppem chars h)) late
 
 -- ---- why there are none
 
@@ -316,54 +261,40 @@ reason_of_err file ppem chars mode r e d p q h =
     let P : Result Gathered Refusal → Type 0 = λ r. HasReason file ppem chars mode r in
     subst P (sym (p ∙ ap (λ (d : Refusal). Err d) q)) h
 
--- a check did not pass
-pub refused_unchecked : (file : List ℕ) (ppem : ℕ) (chars : List ℕ) (mode : Mode) (r : Result Gathered Refusal)
-    (e d : Refusal) → r ≡ Err e → e ≡ d → IsCause d → Err d ≡ checks ppem chars → HasReason file ppem chars mode r
-refused_unchecked file ppem chars mode r e d p q named h =
-    let P : Refusal → Type 0 = λ d. IsCause d in
-    reason_of_err file ppem chars mode r e d p q (
-      fails_cause d (many_of file ppem chars mode) named (many_unchecked file ppem chars mode d h),
-      λ m. absurd (subst P m named),
-    )
-
--- the font was not opened, or its programs halted
+-- a check did not pass, the font was not opened, or its programs halted
 pub refused_unset : (file : List ℕ) (ppem : ℕ) (chars : List ℕ) (mode : Mode) (r : Result Gathered Refusal)
-    (e d : Refusal) → r ≡ Err e → e ≡ d → Ok tt ≡ checks ppem chars → Fails d (setting_of file ppem mode)
-    → (d ≡ OutOfMemory → Late (opened_at file ppem)) → HasReason file ppem chars mode r
-refused_unset file ppem chars mode r e d p q h f late =
+    (e d : Refusal) → r ≡ Err e → e ≡ d → Fails d (setting_for file ppem chars mode)
+    → (d ≡ OutOfMemory → Late (opened_many_of file ppem chars)) → HasReason file ppem chars mode r
+unfolding many_of
+refused_unset file ppem chars mode r e d p q f late =
     reason_of_err file ppem chars mode r e d p q (
-      fails_on d (setting_of file ppem mode) (many_of file ppem chars mode)
-          (λ e k. many_in file ppem chars mode h
-          ∙ ap (λ (r : Result Setting Refusal). r >>= λ s. map_chain (one_with s) chars) k) f,
-      λ m. late_alike file ppem chars h (late m),
+      fails_on d (setting_for file ppem chars mode) (many_of file ppem chars mode)
+          (λ e k. ap (λ (r : Result Setting Refusal). r >>= λ s. map_chain (one_with s) chars) k) f,
+      late,
     )
 
 -- a character was not made
 pub refused_later : (file : List ℕ) (ppem : ℕ) (chars : List ℕ) (mode : Mode) (s : Setting) (r : Result Gathered Refusal)
-    → Ok tt ≡ checks ppem chars → setting_of file ppem mode ≡ Ok s
-    → IfErr r (λ d. Fails d (map_chain (one_with s) chars)) → HasReason file ppem chars mode r
-refused_later file ppem chars mode s (Ok g) h k f = tt
-refused_later file ppem chars mode s (Err d) h k f =
-    let P : Result (List (Option Sketch)) Refusal → Type 0 = λ due. Fails d due in (
-      subst P (sym (many_set file ppem chars mode s h k)) f,
-      λ m. late_alike file ppem chars h (opened_late file ppem mode s k),
-    )
+    → setting_for file ppem chars mode ≡ Ok s → IfErr r (λ d. Fails d (map_chain (one_with s) chars))
+    → HasReason file ppem chars mode r
+refused_later file ppem chars mode s (Ok g) k f = tt
+refused_later file ppem chars mode s (Err d) k f =
+    let P : Result (List (Option Sketch)) Refusal → Type 0 = λ due. Fails d due in
+    (subst P (sym (many_set file ppem chars mode s k)) f, λ m. opened_late file ppem chars mode s k)
 
 -- memory was refused then
 pub refused_memory : (file : List ℕ) (ppem : ℕ) (chars : List ℕ) (mode : Mode) (s : Setting) (r : Result Gathered Refusal)
-    (e : Refusal) → r ≡ Err e → e ≡ OutOfMemory → Ok tt ≡ checks ppem chars → setting_of file ppem mode ≡ Ok s
-    → HasReason file ppem chars mode r
-refused_memory file ppem chars mode s r e p q h k =
-    reason_of_err file ppem chars mode r e OutOfMemory p q
-    (tt, λ m. late_alike file ppem chars h (opened_late file ppem mode s k))
+    (e : Refusal) → r ≡ Err e → e ≡ OutOfMemory → setting_for file ppem chars mode ≡ Ok s → HasReason file ppem chars mode r
+refused_memory file ppem chars mode s r e p q k =
+    reason_of_err file ppem chars mode r e OutOfMemory p q (tt, λ m. opened_late file ppem chars mode s k)
 
 -- all are there
 pub gathered_from : (file : List ℕ) (ppem : ℕ) (chars : List ℕ) (mode : Mode) (s : Setting) (wanted : Wanted)
-    (r : Result Gathered Refusal) → Ok tt ≡ checks ppem chars → setting_of file ppem mode ≡ Ok s
-    → IfOk r (AreGathered s chars wanted) → IfOk r (IsGathered wanted (many_of file ppem chars mode))
-gathered_from file ppem chars mode s wanted r h k are =
+    (r : Result Gathered Refusal) → setting_for file ppem chars mode ≡ Ok s → IfOk r (AreGathered s chars wanted)
+    → IfOk r (IsGathered wanted (many_of file ppem chars mode))
+gathered_from file ppem chars mode s wanted r k are =
     let P : Result (List (Option Sketch)) Refusal → Type 0 = λ due. IfOk r (IsGathered wanted due) in
-    subst P (sym (many_set file ppem chars mode s h k)) are
+    subst P (sym (many_set file ppem chars mode s k)) are
 
 -- ---- what is told
 

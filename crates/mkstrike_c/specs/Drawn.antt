@@ -6,7 +6,7 @@ use Rattle.fx_fixed.specs.Chain.{◌>>=◌, map_chain}
 use Rattle.fx_bdf.specs.Glyphs as bits
 use Rattle.fx_request.specs.declared.refusal.Refusal.{Refusal}
 use Rattle.fx_request.specs.declared.request.Mode.{Mode}
-use Rattle.fx_strike.specs.Strike.{Sketch, Opening, checked_chars, opened_after, setting_in, one_with}
+use Rattle.fx_strike.specs.Strike.{Sketch, setting_for, one_with}
 use Rattle.fx_strike.specs.Headline.{IsOneOf}
 use Rattle.mkstrike_c.specs.declared.glyph.Glyph.{Glyph}
 use Rattle.mkstrike_c.specs.declared.gathered.Placed.{Placed}
@@ -14,15 +14,10 @@ use Rattle.mkstrike_c.specs.declared.gathered.Drawn.{Drawn}
 use Rattle.mkstrike_c.specs.Pixels.{row_bytes}
 use Rattle.mkstrike_c.specs.Shown.{numbers_of, status_of}
 
--- what takes no memory: the size is valid, the characters are within their limits, and the font and its character map open
-abbrev pub opened_many_of : List ℕ → ℕ → List ℕ → Opening
-opened_many_of file ppem chars = opened_after ppem (checked_chars chars) file
-
 -- the sketches of characters in the order given, none where the font lacks one; or the first cause
 unfoldable pub many_of : List ℕ → ℕ → List ℕ → Mode → Result (List (Option Sketch)) Refusal
 many_of file ppem chars mode = do
-  opened ← opened_many_of file ppem chars
-  setting ← setting_in opened mode
+  setting ← setting_for file ppem chars mode
   map_chain (one_with setting) chars
 
 -- one for each character: the glyph of its sketch, none where the font lacks it

@@ -3,13 +3,12 @@ ghost use Rattle.std.specs.Prelude.{◌≡◌, ◌<◌, ◌≤◌, [], Ok, IfOk,
 ghost use Rattle.fx_fixed.specs.Chain.{map_chain};
 ghost use Rattle.fx_request.specs.Refusals.{number_of};
 ghost use Rattle.fx_strike.specs.Faults.{Fails};
-ghost use Rattle.fx_strike.specs.Strike.{checked_chars, one_with};
-ghost use Rattle.mkstrike_c.specs.Drawn.{AreDrawn, many_of, opened_many_of};
+ghost use Rattle.fx_strike.specs.Strike.{checked_chars, one_with, opened_many_of};
+ghost use Rattle.mkstrike_c.specs.Drawn.{AreDrawn, many_of};
 ghost use Rattle.mkstrike_c.specs.Modes.{mode_of};
 ghost use Rattle.mkstrike_c.specs.Refused.{IsReason, IsRefused, refused_of};
 ghost use Rattle.mkstrike_c.specs.inner.Gathering.{AreCounted, AreGathered, Holds, IsGathered, IsTold};
 
-use crate::asked::check;
 use crate::buffer::put_front;
 use crate::gathered::{Drawn, Gathered, Placed, Wanted};
 use crate::mode::mode_of;
@@ -52,8 +51,7 @@ fn gathered_of(
     ensures gathered { IfOk result (IsGathered wanted (many_of font.now ppem chars.now mode)) }
     ensures refused { IfErr result (IsReason (opened_many_of font.now ppem chars.now) (many_of font.now ppem chars.now mode)) }
 {
-    check(ppem, chars)?;
-    let mut striker = Striker::open(alloc, font, ppem, mode)?;
+    let mut striker = Striker::open_for(alloc, font, ppem, chars, mode)?;
     let none = Gathered::new(alloc, wanted, chars.len())?;
     gather(&mut striker, chars, none)
 }

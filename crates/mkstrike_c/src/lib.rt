@@ -6,7 +6,6 @@
 //! `specs/`, by the definitions of the crates below. `include/mkstrike.h` declares them.
 #![tactic(auto)]
 
-mod asked;
 mod buffer;
 mod gathered;
 mod glyph;

@@ -1,22 +1,14 @@
 -- What was made of characters so far, in memory.
 use Rattle.std.specs.Prelude.{◌≡◌, ℕ, ◌+◌, ◌*◌, ◌^◌, ◌≤◌, Bool, if◌then◌else◌, List, length, take, Option, is_some, is_none, Result, Ok}
-use Rattle.fx_fixed.specs.Chain.{◌>>=◌, wanted, map_chain}
-use Rattle.fx_fixed.specs.Sizes.{ppem_of}
+use Rattle.fx_fixed.specs.Chain.{map_chain}
 use Rattle.fx_bdf.specs.Glyphs as bits
 use Rattle.fx_request.specs.declared.refusal.Refusal.{Refusal}
-use Rattle.fx_request.specs.declared.refusal.Refusal.TheVariants.{BadSize}
-use Rattle.fx_strike.specs.Strike.{Sketch, Setting, checked_chars, one_with}
+use Rattle.fx_strike.specs.Strike.{Sketch, Setting, one_with}
 use Rattle.mkstrike_c.specs.declared.gathered.Drawn.{Drawn}
 use Rattle.mkstrike_c.specs.declared.gathered.Placed.{Placed}
 use Rattle.mkstrike_c.specs.declared.gathered.Wanted.{Wanted}
 use Rattle.mkstrike_c.specs.declared.gathered.Gathered.{Gathered}
 use Rattle.mkstrike_c.specs.Drawn.{AreOnesOf, HasFront, all_pixels, drawn_of, entries_from, pixels_of}
-
--- the checks before a font is opened: the size is valid, and the characters are within their limits
-abbrev pub checks : ℕ → List ℕ → Result (Unit {0}) Refusal
-checks ppem chars = do
-  _ ← wanted (ppem_of ppem) BadSize
-  checked_chars chars
 
 -- n characters were counted, and their pixels take no more bytes than those of n glyphs of the greatest size
 pub record AreCounted (drawn : Drawn) (n : ℕ) : Type 0 where
