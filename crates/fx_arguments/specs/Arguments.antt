@@ -79,40 +79,34 @@ abbrev pub size_by : Option Text → Result ℕ Fault
 size_by text = wanted (option_and_then size_of text) Usage
 
 -- what the values of `make`'s options ask for: the size and the list are required
-abbrev pub make_by : Option Text → Option Text → Option Text → Option (List Text) → Bool → Mode → Bool
-    → Result CommandView Fault
-make_by size list name given x11 mode hex = do
-  ppem ← size_by size
-  text ← wanted list Usage
-  properties ← wanted (properties_of (unwrap_or given [])) Usage
-  chars ← wanted (numbers_of_list text) (Early BadChars)
+abbrev pub make_by : List Row → Result CommandView Fault
+make_by rows = do
+  ppem ← size_by (first_of (codes "ppem") rows)
+  list ← wanted (first_of (codes "chars") rows) Usage
+  properties ← wanted (properties_of (unwrap_or (all_of (codes "property") rows) [])) Usage
+  chars ← wanted (numbers_of_list list) (Early BadChars)
   Ok (record {
     task = strike (record {
       ppem = ppem;
       chars = chars;
-      name = unwrap_or name (codes "strike");
+      name = unwrap_or (first_of (codes "name") rows) (codes "strike");
       properties = properties;
-      x11 = x11;
-      mode = mode;
+      x11 = is_given (codes "x11") rows;
+      mode = mode_by rows;
     });
-    hex = hex;
+    hex = is_given (codes "hex") rows;
   })
 
-abbrev pub make_of_rows : List Row → Result CommandView Fault
-make_of_rows rows = make_by (first_of (codes "ppem") rows) (first_of (codes "chars") rows) (first_of (codes "name") rows)
-    (all_of (codes "property") rows) (is_given (codes "x11") rows) (mode_by rows) (is_given (codes "hex") rows)
-
 -- what the values of `show`'s options ask for: the size and the character are required
-abbrev pub show_by : Option Text → Option Text → Mode → Bool → Result CommandView Fault
-show_by size number mode hex = do
-  ppem ← size_by size
-  text ← wanted number Usage
-  code ← wanted (number_of text) (Early BadChars)
-  Ok (record { task = picture (record { ppem = ppem; code = code; mode = mode }); hex = hex })
-
-abbrev pub show_of_rows : List Row → Result CommandView Fault
-show_of_rows rows = show_by (first_of (codes "ppem") rows) (first_of (codes "char") rows) (mode_by rows)
-    (is_given (codes "hex") rows)
+abbrev pub show_by : List Row → Result CommandView Fault
+show_by rows = do
+  ppem ← size_by (first_of (codes "ppem") rows)
+  character ← wanted (first_of (codes "char") rows) Usage
+  code ← wanted (number_of character) (Early BadChars)
+  Ok (record {
+    task = picture (record { ppem = ppem; code = code; mode = mode_by rows });
+    hex = is_given (codes "hex") rows;
+  })
 
 -- a program's name: `fpgm`, `prep`, or the number of a glyph
 abbrev pub which_of : Text → Option FontProgram
@@ -120,13 +114,10 @@ which_of text = if bytes_eq text (codes "fpgm") then Some Fpgm else (if bytes_eq
     else option_map Glyph (size_of text))
 
 -- what the values of `dump`'s options ask for: the program's name is required
-abbrev pub dump_by : Option Text → Bool → Result CommandView Fault
-dump_by name hex = do
-  what ← wanted (option_and_then which_of name) Usage
-  Ok (record { task = listing what; hex = hex })
-
-abbrev pub dump_of_rows : List Row → Result CommandView Fault
-dump_of_rows rows = dump_by (first_of (codes "of") rows) (is_given (codes "hex") rows)
+abbrev pub dump_by : List Row → Result CommandView Fault
+dump_by rows = do
+  what ← wanted (option_and_then which_of (first_of (codes "of") rows)) Usage
+  Ok (record { task = listing what; hex = is_given (codes "hex") rows })
 
 -- an argument that has only hyphens
 abbrev pub is_bare : Text → Bool
@@ -144,13 +135,13 @@ rows_by app arguments =
 
 -- the arguments from a command's name on
 abbrev pub command_of_make : List Text → Result CommandView Fault
-command_of_make arguments = wanted (rows_by make_app arguments) Usage >>= make_of_rows
+command_of_make arguments = wanted (rows_by make_app arguments) Usage >>= make_by
 
 abbrev pub command_of_show : List Text → Result CommandView Fault
-command_of_show arguments = wanted (rows_by show_app arguments) Usage >>= show_of_rows
+command_of_show arguments = wanted (rows_by show_app arguments) Usage >>= show_by
 
 abbrev pub command_of_dump : List Text → Result CommandView Fault
-command_of_dump arguments = wanted (rows_by dump_app arguments) Usage >>= dump_of_rows
+command_of_dump arguments = wanted (rows_by dump_app arguments) Usage >>= dump_by
 
 -- the first argument is the name
 abbrev pub is_command : Text → List Text → Bool

@@ -3,8 +3,8 @@ ghost use Rattle.std.specs.Prelude.{◌≡◌, codes, map, option_map, option_an
 ghost use Rattle.std.specs.Str.{bytes_eq};
 ghost use Rattle.clap.specs.Words.{found_of, rows_of};
 ghost use Rattle.fx_fixed.specs.Chain.{GivesUnless, map_ok, wanted};
-ghost use Rattle.fx_arguments.specs.Arguments.{command_of, command_of_dump, command_of_make, command_of_show, dump_by, dump_of_rows};
-ghost use Rattle.fx_arguments.specs.Arguments.{is_command, make_by, make_of_rows, mode_by, show_by, show_of_rows, size_by, texts, which_of};
+ghost use Rattle.fx_arguments.specs.Arguments.{command_of, command_of_dump, command_of_make, command_of_show, dump_by};
+ghost use Rattle.fx_arguments.specs.Arguments.{is_command, make_by, mode_by, show_by, size_by, texts, which_of};
 ghost use Rattle.fx_arguments.specs.Commands.{Refuses, seen};
 ghost use Rattle.fx_arguments.specs.declared.fault.Fault.TheVariants.{Usage};
 
@@ -85,104 +85,56 @@ fn mode_of(matches: &ArgMatches<'_>) -> Mode
     }
 }
 
-/// What the values of `make` ask for.
+/// What the values of `make` ask for: the size and the list of characters are required.
 fn make_of<'a>(alloc: Global, matches: &ArgMatches<'a>) -> Result<Command<'a>, Fault>
-    ensures { GivesUnless Refuses seen result (make_of_rows (rows_of (found_of matches.now))) }
+    ensures { GivesUnless Refuses seen result (make_by (rows_of (found_of matches.now))) }
 {
-    make_by(
-        alloc,
-        value(matches, "ppem"),
-        value(matches, "chars"),
-        value(matches, "name"),
-        values(matches, "property"),
-        is_given(matches, "x11"),
-        mode_of(matches),
-        is_given(matches, "hex"),
-    )
-}
-
-/// What values of `make` ask for: the size and the list of characters are required.
-fn make_by<'a>(
-    alloc: Global,
-    ppem: Option<&'a str>,
-    list: Option<&'a str>,
-    name: Option<&'a str>,
-    given: Option<&[&'a str]>,
-    x11: bool,
-    mode: Mode,
-    hex: bool,
-) -> Result<Command<'a>, Fault>
-    ensures { GivesUnless Refuses seen result (make_by (option_map (λ text. text.now) ppem.entry)
-        (option_map (λ text. text.now) list.entry) (option_map (λ text. text.now) name.entry)
-        (option_map (λ given. texts given.now) given.entry) x11 mode hex) }
-{
-    let ppem = required_size(ppem)?;
-    let list = list.ok_or(Fault::Usage)?;
-    let properties = given_properties(alloc, given)?;
+    let ppem = required_size(value(matches, "ppem"))?;
+    let list = value(matches, "chars").ok_or(Fault::Usage)?;
+    let properties = given_properties(alloc, values(matches, "property"))?;
     let make = Make {
         ppem,
         chars: parse_chars(alloc, list)?,
-        name: name.unwrap_or("strike"),
+        name: value(matches, "name").unwrap_or("strike"),
         properties,
-        x11,
-        mode,
+        x11: is_given(matches, "x11"),
+        mode: mode_of(matches),
     };
     Ok(Command {
         task: Task::Strike(make),
-        hex,
+        hex: is_given(matches, "hex"),
     })
 }
 
-/// What the values of `show` ask for.
+/// What the values of `show` ask for: the size and the character are required.
 fn show_of<'a>(matches: &ArgMatches<'a>) -> Result<Command<'a>, Fault>
-    ensures { GivesUnless Refuses seen result (show_of_rows (rows_of (found_of matches.now))) }
+    ensures { GivesUnless Refuses seen result (show_by (rows_of (found_of matches.now))) }
 {
-    show_by(
-        value(matches, "ppem"),
-        value(matches, "char"),
-        mode_of(matches),
-        is_given(matches, "hex"),
-    )
-}
-
-/// What values of `show` ask for: the size and the character are required.
-fn show_by<'a>(
-    ppem: Option<&'a str>,
-    character: Option<&'a str>,
-    mode: Mode,
-    hex: bool,
-) -> Result<Command<'a>, Fault>
-    ensures { GivesUnless Refuses seen result (show_by (option_map (λ text. text.now) ppem.entry)
-        (option_map (λ text. text.now) character.entry) mode hex) }
-{
-    let ppem = required_size(ppem)?;
-    let Some(code) = number(character.ok_or(Fault::Usage)?) else {
+    let ppem = required_size(value(matches, "ppem"))?;
+    let character = value(matches, "char").ok_or(Fault::Usage)?;
+    let Some(code) = number(character) else {
         return Err(Fault::Early(Refusal::BadChars));
     };
-    let show = Show { ppem, code, mode };
+    let show = Show {
+        ppem,
+        code,
+        mode: mode_of(matches),
+    };
     Ok(Command {
         task: Task::Picture(show),
-        hex,
+        hex: is_given(matches, "hex"),
     })
 }
 
-/// What the values of `dump` ask for.
+/// What the values of `dump` ask for: the name of the program is required.
 fn dump_of<'a>(matches: &ArgMatches<'a>) -> Result<Command<'a>, Fault>
-    ensures { GivesUnless Refuses seen result (dump_of_rows (rows_of (found_of matches.now))) }
+    ensures { GivesUnless Refuses seen result (dump_by (rows_of (found_of matches.now))) }
 {
-    dump_by(value(matches, "of"), is_given(matches, "hex"))
-}
-
-/// What values of `dump` ask for: the name of the program is required.
-fn dump_by<'a>(name: Option<&str>, hex: bool) -> Result<Command<'a>, Fault>
-    ensures { GivesUnless Refuses seen result (dump_by (option_map (λ text. text.now) name.entry) hex) }
-{
-    let Some(what) = which_of(name.ok_or(Fault::Usage)?) else {
-        return Err(Fault::Usage);
-    };
+    let name = value(matches, "of").ok_or(Fault::Usage)?;
+    let what = which_of(name).ok_or(Fault::Usage)?;
     Ok(Command {
         task: Task::Listing(what),
-        hex,
+        hex: is_given(matches, "hex"),
     })
 }
 
