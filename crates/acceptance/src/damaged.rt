@@ -1,7 +1,7 @@
 //! Fonts with each byte in turn set to others, hinted and not.
 use crate::fonts::{fixture, font, patch};
 use crate::hinted::{READING, STORING};
-use crate::strikes::{HINTED, UNHINTED};
+use crate::strikes::{HINTED, UNHINTED, request};
 use crate::tables::{Tables, with_tables};
 use fx_fixed::{Limits, MemorySink};
 use fx_request::{Mode, Request};
@@ -13,12 +13,8 @@ use std::test::Fail;
 /// Whether a strike of a font ends well, or a cause is named and nothing is written.
 fn ends_well(alloc: Global, font: &[u8], mode: Mode) -> Result<bool, AllocError> {
     let request = Request {
-        ppem: 16,
-        name: "F1",
-        properties: &[],
-        x11: false,
-        chars: &[0x20, 0x41, 0x42],
         mode,
+        ..request(16, &[0x20, 0x41, 0x42])
     };
     let mut out = MemorySink::new(alloc, 4096, Limits::NONE)?;
     let ends = match make_strike(alloc, font, &request, &mut out) {

@@ -1,13 +1,13 @@
 //! Characters and strikes that one striker makes, one after the other.
 use crate::fonts::{ARC, RING, fixture, font};
 use crate::hinted::{READING, ROUNDED, STORING};
-use crate::strikes::{HINTED, UNHINTED, request};
+use crate::strikes::{HINTED, UNHINTED, named, request};
 use crate::surveys::OfWideFrames;
 use crate::tables::{NO_TABLES, Tables, with_tables};
 use fx_fixed::{Limits, MemorySink};
 use fx_request::{Mode, Refusal, Request};
 use fx_rows::Rows;
-use fx_strike::{Striker, Title, make_strike, survey};
+use fx_strike::{Striker, make_strike, survey};
 use std::alloc::Global;
 use std::process::Abort;
 use std::test::Fail;
@@ -26,15 +26,6 @@ fn hinted(chars: &[u32]) -> Request<'_> {
     Request {
         mode: HINTED,
         ..request(16, chars)
-    }
-}
-
-/// A name alone.
-fn named(name: &str) -> Title<'_> {
-    Title {
-        name,
-        properties: &[],
-        x11: false,
     }
 }
 

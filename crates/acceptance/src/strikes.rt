@@ -3,7 +3,7 @@ use crate::fonts::{ARC, RING, STRIKE, fixture, font, of_points, patch};
 use fx_fixed::{Limits, MemorySink, Sink};
 use fx_machine::Usage;
 use fx_request::{Mode, Refusal, Report, Request};
-use fx_strike::make_strike;
+use fx_strike::{Title, make_strike};
 use std::alloc::Global;
 use std::process::Abort;
 use std::test::Fail;
@@ -20,13 +20,20 @@ pub const HINTED: Mode = Mode {
     dropout: false,
 };
 
+/// A name alone.
+pub fn named(name: &str) -> Title<'_> {
+    Title {
+        name,
+        properties: &[],
+        x11: false,
+    }
+}
+
 /// An unhinted request for a size and characters.
 pub fn request(ppem: u16, chars: &[u32]) -> Request<'_> {
     Request {
         ppem,
-        name: "F1",
-        properties: &[],
-        x11: false,
+        title: named("F1"),
         chars,
         mode: UNHINTED,
     }
@@ -382,7 +389,7 @@ fn nothing_is_written_of_a_refused_strike(rt: HostRuntime) -> Result<(), Fail> {
 fn requests_that_are_refused(rt: HostRuntime) -> Result<(), Fail> {
     let font = fixture(rt.alloc())?;
     let nameless = Request {
-        name: " F1",
+        title: named(" F1"),
         ..request(16, &[0x41])
     };
     for (request, refusal) in [

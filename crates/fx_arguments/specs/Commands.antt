@@ -49,9 +49,9 @@ abbrev pub seen_request : Request → MakeView
 seen_request request = record {
   ppem = request.ppem;
   chars = request.chars.now;
-  name = request.name.now;
-  properties = seen_properties request.properties.now;
-  x11 = request.x11;
+  name = request.title.name.now;
+  properties = seen_properties request.title.properties.now;
+  x11 = request.title.x11;
   mode = request.mode;
 }
 

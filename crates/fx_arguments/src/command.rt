@@ -1,6 +1,6 @@
 //! What a command line asks for.
 
-use fx_bdf::Property;
+use fx_bdf::{Property, Title};
 use fx_machine::FontProgram;
 use fx_request::{Mode, Request};
 
@@ -52,9 +52,11 @@ impl<'a> Make<'a> {
     {
         Request {
             ppem: self.ppem,
-            name: self.name,
-            properties: &self.properties,
-            x11: self.x11,
+            title: Title {
+                name: self.name,
+                properties: &self.properties,
+                x11: self.x11,
+            },
             chars: &self.chars,
             mode: self.mode,
         }

@@ -1,6 +1,6 @@
 //! Requests, and what is told of a strike.
 
-use fx_bdf::Property;
+use fx_bdf::Title;
 use fx_machine::Usage;
 
 /// How outlines become pixels: whether the font's programs run, and whether drop-out control keeps thin strokes whole (Apple
@@ -18,14 +18,9 @@ pub struct Mode {
 pub struct Request<'a> {
     /// Pixels of an em, 1 to 1,024; any other number is refused.
     pub ppem: u16,
-    /// The font's name: 1 to 255 printed characters of ASCII, no space first or last; any other text is refused.
-    pub name: &'a str,
-    /// The properties that the strike has beside FONT_ASCENT and FONT_DESCENT, in their order: at most 64, each with another name;
-    /// the first that is bad is refused.
-    pub properties: &'a [Property<'a>],
-    /// Whether the strike has the properties of the X logical font description too, before the given ones: those whose names the
-    /// given ones leave free.
-    pub x11: bool,
+    /// What the strike is called. A name other than 1 to 255 printed characters of ASCII, no space first or last, is refused, and
+    /// so is the first property that is bad: at most 64 are given, each with another name.
+    pub title: Title<'a>,
     /// Code points up to U+10FFFF, at most 65,536 of them; their order and repeats do not count.
     pub chars: &'a [u32],
     /// How outlines become pixels.

@@ -16,11 +16,7 @@ titled title = record { name = title.name.now; properties = seen_properties titl
 
 -- that of a request
 abbrev pub title_of : Request → Title
-title_of request = record {
-  name = request.name.now;
-  properties = seen_properties request.properties.now;
-  x11 = request.x11;
-}
+title_of request = titled request.title
 
 -- an empty name, and no properties
 abbrev pub no_title : Title

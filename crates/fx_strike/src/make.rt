@@ -3,7 +3,7 @@ ghost use Rattle.std.specs.Prelude.{◌<◌, ◌^◌};
 ghost use Rattle.fx_fixed.specs.Changes.{change_of};
 ghost use Rattle.fx_strike.specs.Headline.{Makes, opening_of, strike_of};
 
-use crate::open::{open, title_of};
+use crate::open::open;
 use crate::striker::Striker;
 use fx_fixed::Sink;
 use fx_raster::{Rows, Scan};
@@ -33,7 +33,7 @@ pub fn make_strike_with<S: Scan, W: Sink>(
 {
     let opened = open(font, request)?;
     let mut striker = Striker::of(alloc, scan, opened, request.mode)?;
-    striker.write_checked(&title_of(request), request.chars, out)
+    striker.write_checked(&request.title, request.chars, out)
 }
 
 /// Makes the strike of a font and writes its text.

@@ -106,17 +106,6 @@ pub(crate) fn rule_of(dropout: bool) -> Rule
     }
 }
 
-/// The title of a request.
-pub(crate) fn title_of<'a>(request: &Request<'a>) -> Title<'a>
-    ensures { titled result ≡ title_of request.now }
-{
-    Title {
-        name: request.name,
-        properties: request.properties,
-        x11: request.x11,
-    }
-}
-
 /// A font with its character map.
 #[tactic(auto, unfolding(crate::specs::Strike::font_with_map))]
 fn font_with_map<'a>(file: &'a [u8]) -> Result<(Font<'a>, CharMap<'a>), Refusal>
@@ -137,7 +126,7 @@ pub(crate) fn open<'a>(file: &'a [u8], request: &Request<'_>) -> Result<Opened<'
     ensures title { OnOk result (IsChecked (title_of request.now)) }
 {
     let ppem = sized(request.ppem)?;
-    check_text(&title_of(request), request.chars)?;
+    check_text(&request.title, request.chars)?;
     let (font, map) = font_with_map(file)?;
     Ok(Opened { ppem, font, map })
 }

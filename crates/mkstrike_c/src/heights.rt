@@ -8,7 +8,7 @@ ghost use Rattle.mkstrike_c.specs.Refused.{IsReason, IsRefused, refused_of};
 use crate::refused::{Refused, refuse};
 use fx_request::{Mode, Refusal, Request};
 use fx_rows::Rows;
-use fx_strike::{Survey, survey};
+use fx_strike::{Survey, Title, survey};
 use std::alloc::Global;
 
 /// The heights of a font.
@@ -37,9 +37,11 @@ fn heights_of(alloc: Global, font: &[u8], ppem: u16) -> Result<Heights, Refusal>
 {
     let request = Request {
         ppem,
-        name: "heights",
-        properties: &[],
-        x11: false,
+        title: Title {
+            name: "heights",
+            properties: &[],
+            x11: false,
+        },
         chars: &[],
         mode: Mode {
             hinting: false,

@@ -12,7 +12,7 @@ use crate::refused::{Refused, refuse};
 use crate::sink::TextSink;
 use fx_fixed::Sink;
 use fx_request::{Mode, Refusal, Report, Request};
-use fx_strike::make_strike;
+use fx_strike::{Title, make_strike};
 use std::alloc::Global;
 
 /// What is told of a strike.
@@ -68,13 +68,13 @@ fn name_of(name: &[u8]) -> &str
 }
 
 /// The same for a name of any bytes.
-fn text_for(
+fn text_for<'r>(
     alloc: Global,
     font: &[u8],
     ppem: u16,
     mode: Mode,
-    chars: &[u32],
-    name: &[u8],
+    chars: &'r [u32],
+    name: &'r [u8],
 ) -> Result<(TextSink, Report), Refusal>
     ensures text { IfOk result (λ made. HoldsText (plan_of font.now ppem (plain name.now) chars.now mode)
         (⟦<TextSink as Sink>⟧.held made.0) made.1) }
@@ -83,9 +83,11 @@ fn text_for(
 {
     let request = Request {
         ppem,
-        name: name_of(name),
-        properties: &[],
-        x11: false,
+        title: Title {
+            name: name_of(name),
+            properties: &[],
+            x11: false,
+        },
         chars,
         mode,
     };

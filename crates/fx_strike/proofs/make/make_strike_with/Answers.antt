@@ -24,5 +24,5 @@ pub returns : goal.returns
 returns g c =
     let opened = (c.in_ok-opened.ensures).due in
     makes c.write_checked.result (λ m. is_ok _ _ opened)
-    (rw (plan_set _ _ _ _ c.args.request.now.mode _ _ opened c.in_ok-striker.ensures, ← c.title_of.ensures)
+    (rw (plan_set _ _ _ _ c.args.request.now.mode _ _ opened c.in_ok-striker.ensures)
     c.write_checked.ensures.leaves)
