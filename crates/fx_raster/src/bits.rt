@@ -51,7 +51,8 @@ fn closed(pieces: &Pieces, noted: Noted, tally: &mut Tally) -> Bitmap
     requires scanned { IsScanOf noted.bitmap.frame (map span_of pieces.now) noted.bitmap }
     requires frame { noted.notes.frame ≡ noted.bitmap.frame }
     requires noted { All (λ s. IsNoted s noted.notes.frame noted.notes.across.items noted.notes.up.items) (map span_of pieces.now) }
-    requires exact { IsTrue noted.notes.exact → AreExact noted.notes.frame noted.notes.across.items (map span_of pieces.now) }
+    requires exact { IsTrue noted.notes.exact →
+        AreExact noted.notes.frame noted.notes.across.items noted.notes.up.items (map span_of pieces.now) }
     ensures { IsBridgedScanOf noted.bitmap.frame (map span_of pieces.now) result }
 {
     let mut bitmap = noted.bitmap;

@@ -7,5 +7,5 @@ use Rattle.fx_raster.proofs.bits.bridged.Goals as goal
 pub closed-requires-clause-exact : goal.closed-requires-clause-exact
 closed-requires-clause-exact g c = λ t.
     let notes = c.in-Ok.noted.notes in
-    subst (λ (f : Frame). AreExact f notes.across.items (map span_of c.args.pieces.now)) (sym c.in-Ok.ensures.frame)
+    subst (λ (f : Frame). AreExact f notes.across.items notes.up.items (map span_of c.args.pieces.now)) (sym c.in-Ok.ensures.frame)
     (c.in-Ok.ensures.exact t)
