@@ -6,7 +6,7 @@ ghost use Rattle.fx_bdf.specs.Glyphs.{IsBoxed, rows_in};
 
 use crate::bounds::Bounds;
 use crate::rows::Row;
-use crate::span::{above, distance};
+use crate::numbers::{above, distance};
 use fx_winding::Bitmap;
 use std::marker::Model;
 

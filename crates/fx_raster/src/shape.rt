@@ -7,11 +7,12 @@ ghost use Rattle.fx_contour.specs.Frames.{NothingOutsideFrame};
 ghost use Rattle.fx_raster.specs.Rules.{IsInRegion, IsPixelSet, shape_of};
 ghost use Rattle.fx_raster.specs.inner.Framing.{IsFramedBy, outline_framed_by};
 
+use crate::RasterFault;
 use crate::bits::bitmap_of;
 use crate::region::Region;
 use crate::rule::Rule;
 use crate::within::lies_in;
-use fx_contour::{ContourFault, dropout_frame, outline_frame, pieces_in_reach};
+use fx_contour::{dropout_frame, outline_frame, pieces_in_reach};
 use fx_outline::Outline;
 use fx_winding::{Bitmap, Frame, Scan};
 use std::alloc::{AllocError, Global};
@@ -40,7 +41,7 @@ impl Model for Shape {
 }
 
 /// The frame of an outline by a rule.
-fn framed(outline: &Outline, rule: Rule) -> Result<Option<Frame>, ContourFault>
+fn framed(outline: &Outline, rule: Rule) -> Result<Option<Frame>, RasterFault>
     ensures exact { map_ok (λ _. tt) result ≡ outline_framed_by rule outline.now.ends.items outline.now.points.items }
     ensures frame { IfOk result (λ f. IsFramedBy rule f (spans_of outline.now.ends.items outline.now.points.items)) }
     ensures outside { IfOk result (λ f. NothingOutsideFrame f (spans_of outline.now.ends.items outline.now.points.items)) }
@@ -55,7 +56,8 @@ fn framed(outline: &Outline, rule: Rule) -> Result<Option<Frame>, ContourFault>
 impl Shape {
     /// The shape of an outline by a rule. `TooFar` if a point of the outline lies too far out, `TooLarge` if its frame has too many
     /// pixels a side. It takes no memory.
-    pub fn of(outline: Outline, rule: Rule) -> Result<Shape, ContourFault>
+    #[inline(always)]
+    pub fn of(outline: Outline, rule: Rule) -> Result<Shape, RasterFault>
         ensures { result ≡ shape_of rule outline.ends.items outline.points.items }
     {
         let frame = framed(&outline, rule)?;

@@ -7,7 +7,7 @@ ghost use Rattle.fx_bdf.specs.Properties.{AreProperties, seen_properties};
 ghost use Rattle.fx_request.specs.Limits.{max_characters, max_code};
 ghost use Rattle.fx_strike.specs.Title.{title_of, titled};
 ghost use Rattle.fx_strike.specs.Strike.{checked_chars, checked_properties, checked_text, checked_title, font_with_map};
-ghost use Rattle.fx_strike.specs.Strike.{opened_many_of, opened_one_of, opened_at, rule_of};
+ghost use Rattle.fx_strike.specs.Strike.{opened_many_of, opened_one_of, opened_at};
 ghost use Rattle.fx_strike.specs.inner.Surveying.{AreChars, IsChecked};
 ghost use Rattle.fx_strike.specs.Headline.{IsCause, opening_of};
 
@@ -15,7 +15,6 @@ use crate::opened::Opened;
 use fx_bdf::{Property, Title, check_name, first_bad};
 use fx_cmap::CharMap;
 use fx_fixed::Ppem;
-use fx_raster::Rule;
 use fx_request::{MAX_CHARACTERS, MAX_CODE, Refusal, Request};
 use fx_sfnt::Font;
 
@@ -93,17 +92,6 @@ pub(crate) fn check_text(title: &Title<'_>, chars: &[u32]) -> Result<(), Refusal
 {
     check_chars(chars)?;
     check_title(title)
-}
-
-/// Which pixels an outline sets, with drop-out control or without.
-pub(crate) fn rule_of(dropout: bool) -> Rule
-    ensures { result ≡ rule_of dropout }
-{
-    if dropout {
-        Rule::Bridged
-    } else {
-        Rule::Centres
-    }
 }
 
 /// A font with its character map.

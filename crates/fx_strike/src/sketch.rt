@@ -25,6 +25,7 @@ use fx_sfnt::Font;
 use std::alloc::Global;
 
 /// Makes the outline of a glyph, scaled and hinted.
+#[inline(always)]
 pub(crate) fn outline_made(
     alloc: Global,
     hinter: &mut FontHinter<'_>,
@@ -64,6 +65,7 @@ pub(crate) fn outline_at(
 }
 
 /// The shape of an outline; `TooFar` if a point of it lies too far out, `GlyphTooLarge` if it has too many pixels.
+#[inline(always)]
 fn shaped(outline: Outline, rule: Rule, glyph: u16) -> Result<Shape, Refusal>
     ensures { GivesUnless Fails (λ s. s) result
         (map_fault (of_raster glyph) (shape_of rule outline.ends.items outline.points.items)) }
@@ -86,6 +88,7 @@ fn thousandths_at(font: &Font<'_>, glyph: u16) -> Result<i32, Refusal>
 
 /// A glyph before its bits, by its outline, or the first cause why there is none: how far out the outline lies and how large it is,
 /// then its advance.
+#[inline(always)]
 pub(crate) fn sketch_with(
     opened: &Opened<'_>,
     rule: Rule,

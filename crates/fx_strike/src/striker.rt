@@ -5,19 +5,20 @@ ghost use Rattle.fx_request.specs.Limits.{max_characters};
 ghost use Rattle.fx_fixed.specs.Changes.{change_of};
 ghost use Rattle.fx_strike.specs.Faults.{Fails};
 ghost use Rattle.fx_strike.specs.Title.{titled};
-ghost use Rattle.fx_strike.specs.Strike.{setting_for, setting_in, setting_of, opened_at, opened_many_of, checked_chars, checked_text, plan_with, one_with};
+ghost use Rattle.fx_strike.specs.Strike.{setting_for, setting_in, setting_of, opened_at, opened_many_of, checked_chars, checked_text};
+ghost use Rattle.fx_strike.specs.Strike.{plan_with, one_with, rule_of};
 ghost use Rattle.fx_strike.specs.Headline.{IsOneOf, Surveyed, Makes, Leaves, Late, strike_with, nameless_with, character_with};
 ghost use Rattle.fx_strike.specs.inner.Drawing.{Finds};
 ghost use Rattle.fx_strike.specs.inner.Surveying.{AreChars, IsChecked, SurveysNameless};
 
 use crate::hinter::{FontHinter, hinter_at};
-use crate::open::{check_chars, check_text, open_at, open_many, rule_of};
+use crate::open::{check_chars, check_text, open_at, open_many};
 use crate::opened::Opened;
 use crate::surveyed::Survey;
 use crate::tools::Tools;
 use fx_bdf::{BitGlyph, Title};
 use fx_fixed::Sink;
-use fx_raster::{Rows, Scan};
+use fx_raster::{Rows, Rule, Scan};
 use fx_request::{Mode, Refusal, Report};
 use std::alloc::Global;
 use std::marker::Model;
@@ -81,6 +82,17 @@ impl<'a> Striker<'a, Rows> {
         ensures late { IsErrOf result Refusal.OutOfMemory → Late (opened_many_of font.now ppem chars.now) }
     {
         open_for_inner(alloc, font, ppem, chars, mode)
+    }
+}
+
+/// Which pixels an outline sets, with drop-out control or without.
+fn rule_of(dropout: bool) -> Rule
+    ensures { result ≡ rule_of dropout }
+{
+    if dropout {
+        Rule::Bridged
+    } else {
+        Rule::Centres
     }
 }
 
