@@ -170,6 +170,20 @@ def long_hairlines():
         yield Run("%s, 4,096 pixels" % name, asked(1024, [A], False), font.data(), font.make([A], 1024, False, closed=True))
 
 
+def many_hairlines():
+    """512 hairlines beside each other, each a contour of two points, in bounded time. Each lies after the centres of an even column or
+    row, and sets that; the first one sets the next, since its own is outside the frame."""
+    many, top = 512, 8191
+    places = [5 + 16 * k for k in range(many)]
+    whole, empty = "#" * (2 * many), "." * (2 * many)
+    for name, contours, left, bottom, rows in (
+            ("upright", [[(x, 0, 1), (x, top, 1)] for x in places], 1, 0, ["#" + "#." * (many - 2) + "#"] * (2 * many)),
+            ("level", [[(0, y, 1), (top, y, 1)] for y in places], 0, 1, [whole, empty] * (many - 2) + [whole, whole])):
+        font = unmoved([Empty(), Drawn(contours, left, bottom, rows)], {A: 1}, 8192)
+        yield Run("%d %s hairlines" % (many, name), asked(1024, [A], False), font.data(), font.make([A], 1024, False, closed=True),
+                  limits={"RLIMIT_CPU": 2})
+
+
 def distances_with_dropout():
     """Points as far out as they may lie with drop-out control, two pixels less than without, and farther; sides to the limit and past
     it. A glyph of one unit to the pixel; the hairlines hold no centre, and have a frame with drop-out control alone."""
@@ -188,5 +202,5 @@ def distances_with_dropout():
         yield Run(name, asked(1024, [A], False), font.data(), answer)
 
 
-CASES = [random_outlines, dropout_by_hand, sizes_with_dropout, long_hairlines, distances_with_dropout, composites_with_dropout,
+CASES = [random_outlines, dropout_by_hand, sizes_with_dropout, long_hairlines, many_hairlines, distances_with_dropout, composites_with_dropout,
          words_with_dropout]

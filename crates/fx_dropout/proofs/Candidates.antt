@@ -120,7 +120,8 @@ row_exact ss f across up part Old r from j exact covered l ej e p k o m set bare
       any.2,
       any.3,
       met
-          (off ss (centre ((f.left -ℤ pos 1) +ℤ pos k) j) any.0 any.1 any.2 any.3 (λ h. bare (covered ((f.left -ℤ pos 1) +ℤ pos k) h)))
+          (off ss (centre ((f.left -ℤ pos 1) +ℤ pos k) j) any.0 any.1 any.2 any.3 (λ h. bare (covered
+          ((f.left -ℤ pos 1) +ℤ pos k) h)))
           (off ss (centre (((f.left -ℤ pos 1) +ℤ pos k) +ℤ pos 1) j) any.0 any.1 any.2 any.3
           (λ h. bare' (covered (((f.left -ℤ pos 1) +ℤ pos k) +ℤ pos 1) h))),
     )

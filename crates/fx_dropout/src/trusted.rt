@@ -49,8 +49,8 @@ fn is_shown(turned: bool, noted: &[u32], bitmap: &Bitmap, k: usize, i: i32, j: i
     is_noted(noted, k)
 }
 
-/// Closes the gap from the pixel `i` to the one after it, if there is one. If the segment is trusted, its bit tells, and no piece is
-/// tested.
+/// Closes the gap from the pixel `i` to the one after it, if there is one. If the segment is trusted, its bit tells, and no piece
+/// is tested.
 pub(crate) fn close_noted(
     turned: bool,
     trusted: bool,

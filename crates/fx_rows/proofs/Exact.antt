@@ -13,7 +13,8 @@ use Rattle.fx_rows.proofs.Upward.{value_counts}
 
 -- ---- across a row between the ends: the segment to the column where the piece's columns end, within the frame
 pub end_met : (s : Span) (f : Frame) (r n : ℕ) → IsEnd s f r n → 0 < n → n < f.width
-    → ¬ (IsOn (centre ((f.left -ℤ pos 1) +ℤ pos n) (f.bottom +ℤ pos r)) s) → ¬ (IsOn (centre (f.left +ℤ pos n) (f.bottom +ℤ pos r)) s)
+    → ¬ (IsOn (centre ((f.left -ℤ pos 1) +ℤ pos n) (f.bottom +ℤ pos r)) s)
+    → ¬ (IsOn (centre (f.left +ℤ pos n) (f.bottom +ℤ pos r)) s)
     → IsMetAcross s f r n
 end_met s f r zero is some l off off' = absurd (omega (arith, some))
 end_met s f r (suc j) is some l off off' = record {

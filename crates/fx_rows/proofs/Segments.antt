@@ -192,10 +192,12 @@ some_across s ss f g from to below a b part e among only old r k h o l set = by 
         let high = part.height in
         let wide = ap words_for part.width in
         let fits : line.k ≤ f.width = subst (λ (w : ℕ). line.k ≤ w) part.width line.within in
-        let number : 32 * below + new.r * (32 * words_for g.width) + line.k * 1 ≡ segment_number g below new.r line.k = omega arith in
+        let number : 32 * below + new.r * (32 * words_for g.width) + line.k * 1
+        ≡ segment_number g below new.r line.k = omega arith in
         let whole : r * (32 * words_for f.width) + k ≡ (from + new.r) * (32 * words_for f.width) + line.k =
         line.at ∙ number ∙ number_whole f g from to below new.r line.k part e in
-        let place = same_place (32 * words_for f.width) r (from + new.r) k line.k o (omega (arith, l)) (omega (arith, fits)) whole in
+        let place = same_place (32 * words_for f.width) r (from + new.r) k line.k o (omega (arith, l)) (omega
+        (arith, fits)) whole in
         let row : g.bottom +ℤ pos new.r ≡ f.bottom +ℤ pos r =
         sym (row_whole f g from to new.r part) ∙ ap (λ (n : ℕ). f.bottom +ℤ pos n) (sym place.0) in
         let is = place.1 in
@@ -211,7 +213,8 @@ pub some_rows : (s : Span) (ss : List Span) (f : Frame) (a b : List ℕ) → IsA
     → AreOnly (IsRowsBit s f (32 * words_for f.width) 1) a b → AreMetAcross f a ss → AreMetAcross f b ss
 some_rows s ss f a b among only =
     some_across s ss f f 0 f.height 0 a b
-    (record { left = refl; bottom = omega (arith, signed_linear); width = refl; height = omega arith; within = omega arith }) (omega arith) among
+    (record { left = refl; bottom = omega (arith, signed_linear); width = refl; height = omega arith; within = omega arith })
+    (omega arith) among
     (only_more (IsRowsBit s f (32 * words_for f.width) 1) (IsBandBit s f 0) a b (λ n h. record {
       r = h.r;
       row = h.row;
@@ -280,7 +283,8 @@ some_up s ss f p from to a b part e lowest highest among only old r k o l w set 
             let first = lowest t in
             let whole = new.at ∙ number_whole f g from to p.below new.r new.k part e in
             let wide : new.k < f.width = subst (λ (w : ℕ). new.k < w) part.width new.column in
-            let place = same_cell (32 * words_for f.width) r (from + new.r) k new.k (omega (arith, w)) (omega (arith, wide)) whole in
+            let place = same_cell (32 * words_for f.width) r (from + new.r) k new.k (omega (arith, w)) (omega
+            (arith, wide)) whole in
             let is = place.0 in
             omega (arith, first, z, is, o)
         inside (inr (t, z)) =
@@ -288,7 +292,8 @@ some_up s ss f p from to a b part e lowest highest among only old r k o l w set 
             let high = part.height in
             let whole = new.at ∙ number_whole f g from to p.below new.r new.k part e in
             let wide : new.k < f.width = subst (λ (w : ℕ). new.k < w) part.width new.column in
-            let place = same_cell (32 * words_for f.width) r (from + new.r) k new.k (omega (arith, w)) (omega (arith, wide)) whole in
+            let place = same_cell (32 * words_for f.width) r (from + new.r) k new.k (omega (arith, w)) (omega
+            (arith, wide)) whole in
             let is = place.0 in
             omega (arith, last, high, z, is, l)
 
@@ -318,13 +323,15 @@ some_columns s ss f g a b el eb ew eh among only old r k o l w set = by (only (p
         }
       where
         met : (j q : ℕ) → r ≡ q → k ≡ j
-            → (¬ (IsOn (left_at g (g.bottom +ℤ pos j) q) (turned_span s)) → ¬ (IsOn (right_at g (g.bottom +ℤ pos j) q) (turned_span s))
+            → (¬ (IsOn (left_at g (g.bottom +ℤ pos j) q) (turned_span s))
+            → ¬ (IsOn (right_at g (g.bottom +ℤ pos j) q) (turned_span s))
             → IsMetTo (turned_span s) g (g.bottom +ℤ pos j) q) → IsMetUnlessOn s f r k
         met j q row column h off off' = record {
           met = subst (λ z. z) (λ i. IsMet (centre ((el i -ℤ pos 1) +ℤ pos (sym row i)) (eb i +ℤ pos (sym column i)))
               (centre (el i +ℤ pos (sym row i)) (eb i +ℤ pos (sym column i))) (turned_span s))
               (h (λ on. off (on_turned (centre (f.left +ℤ pos k) ((f.bottom -ℤ pos 1) +ℤ pos r)) s
-              (subst (λ z. z) (λ i. IsOn (centre ((el i -ℤ pos 1) +ℤ pos (sym row i)) (eb i +ℤ pos (sym column i))) (turned_span s)) on)))
+              (subst (λ z. z) (λ i. IsOn (centre ((el i -ℤ pos 1) +ℤ pos (sym row i)) (eb i +ℤ pos (sym column i)))
+              (turned_span s)) on)))
               (λ on. off' (on_turned (centre (f.left +ℤ pos k) (f.bottom +ℤ pos r)) s
               (subst (λ z. z) (λ i. IsOn (centre (el i +ℤ pos (sym row i)) (eb i +ℤ pos (sym column i))) (turned_span s)) on))));
           off_lower = off;

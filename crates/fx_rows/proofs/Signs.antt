@@ -1,7 +1,7 @@
 -- Numbers and 0, and whether two numbers are equal.
 -- Serves the lemmas on gaps, sides and marks.
 use Rattle.std.proofs.Common.{◌≡◌, ◌≢◌, ◌⊎◌, IsTrue, ℕ, ℤ, pos, ◌<ℤ◌, ◌≤ℤ◌, arith}
-use Rattle.std.specs.Int.Signed.{lt_z, le_z}
+use Rattle.std.specs.Int.Signed.{lt_z}
 use Rattle.std.proofs.lemmas.Int.{ints}
 
 pub not_below_zero : (x : ℤ) → ¬ (x <ℤ pos 0) → pos 0 ≤ℤ x
@@ -15,9 +15,6 @@ above_or_zero z h = grind (arith, ints)
 
 pub less_from_test : (x y : ℤ) → IsTrue (lt_z x y) → x <ℤ y
 less_from_test x y t = grind (arith, ints)
-
-pub at_most_from_test : (x y : ℤ) → IsTrue (le_z x y) → x ≤ℤ y
-at_most_from_test x y t = grind (arith, ints)
 
 pub equal_or_not : (a b : ℕ) → (a ≡ b) ⊎ (a ≢ b)
 equal_or_not a b = grind arith

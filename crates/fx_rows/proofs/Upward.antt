@@ -618,9 +618,9 @@ height_kept row h =
     ∙ (λ i. to_z w32 (of_z w32 (times i +ℤ pos 64))) ∙ all
 
 -- the row below the first one that is above the lower end
-pub row_under : (s : Span) (f : Frame) (first : ℕ) → IsAtMostEnds s (pos 128 *ℤ (f.bottom -ℤ pos 1) +ℤ pos 64)
+pub level_under : (s : Span) (f : Frame) (first : ℕ) → IsAtMostEnds s (pos 128 *ℤ (f.bottom -ℤ pos 1) +ℤ pos 64)
     → ((r : ℕ) → r < first → IsAtMostEnds s (height_of f r)) → IsAtMostEnds s (height_below f first)
-row_under s f first below under = by first refl
+level_under s f first below under = by first refl
   where
     lowest : (b : ℤ) (n : ℕ) → n ≡ 0 → pos 128 *ℤ (b -ℤ pos 1) +ℤ pos 64 ≡ pos 128 *ℤ ((b -ℤ pos 1) +ℤ pos n) +ℤ pos 64
     lowest b n e =
@@ -663,11 +663,11 @@ last_row s f end l one over = by (below_or_not end f.height)
     by (inr k) = omega (arith, k, l)
 
 -- one end below a height, and one above it
-pub between_ends : (s : Span) (y : ℤ) → IsOneUnder s y → IsOneOver s y → IsInner s.a.y s.c.y y
-between_ends s y (inl h) (inl k) = absurd (omega (arith, signed_linear, h, k))
-between_ends s y (inl h) (inr k) = inl (h, k)
-between_ends s y (inr h) (inl k) = inr (h, k)
-between_ends s y (inr h) (inr k) = absurd (omega (arith, signed_linear, h, k))
+pub one_each : (s : Span) (y : ℤ) → IsOneUnder s y → IsOneOver s y → IsInner s.a.y s.c.y y
+one_each s y (inl h) (inl k) = absurd (omega (arith, signed_linear, h, k))
+one_each s y (inl h) (inr k) = inl (h, k)
+one_each s y (inr h) (inl k) = inr (h, k)
+one_each s y (inr h) (inr k) = absurd (omega (arith, signed_linear, h, k))
 
 -- no end is above a height: so none is above a higher one
 pub at_least_more : (s : Span) (y z : ℤ) → y ≤ℤ z → IsAtLeastEnds s y → IsAtLeastEnds s z

@@ -150,8 +150,8 @@ fn is_on_line(piece: &Piece) -> bool
     has_line(piece.a.y, piece.a.y)
 }
 
-/// The columns from which a piece comes up to the lowest row of a band that is between its ends, or to the lowest one above it. Where
-/// it comes from below the frame they are those of its box.
+/// The columns from which a piece comes up to the lowest row of a band that is between its ends, or to the lowest one above it.
+/// Where it comes from below the frame they are those of its box.
 #[inline(always)]
 fn columns_below(piece: &Piece, placed: Placed, tally: &mut Tally) -> Reach
     requires placed { IsPlaced (span_of piece.now) placed }
@@ -171,7 +171,8 @@ fn columns_below(piece: &Piece, placed: Placed, tally: &mut Tally) -> Reach
     columns_passed(piece, placed.frame, tally)
 }
 
-/// The columns to which a piece goes up to the row above those between its ends. Where it leaves the frame they are those of its box.
+/// The columns to which a piece goes up to the row above those between its ends. Where it leaves the frame they are those of its
+/// box.
 #[inline(always)]
 fn columns_above(piece: &Piece, placed: Placed) -> Reach
     requires placed { IsPlaced (span_of piece.now) placed }
@@ -201,8 +202,8 @@ fn leaves_band(placed: Placed) -> bool
     placed.met.inner.end == placed.frame.height
 }
 
-/// Notes the segments that a piece meets up to the rows between its ends. Returns the columns from which it comes up to the row above
-/// them.
+/// Notes the segments that a piece meets up to the rows between its ends. Returns the columns from which it comes up to the row
+/// above them.
 #[inline(always)]
 fn note_passage(piece: &Piece, placed: Placed, ends: &[u32], low: Reach, up: &mut [u32]) -> Reach
     requires placed { IsPlaced (span_of piece.now) placed }
@@ -231,8 +232,8 @@ fn note_passage(piece: &Piece, placed: Placed, ends: &[u32], low: Reach, up: &mu
     low
 }
 
-/// Notes the segments that a piece meets up to a band's rows, and of the highest band also those from its highest row up. `ends` has
-/// a number for each row of the band: in a row between the piece's ends it is the column where the piece passes.
+/// Notes the segments that a piece meets up to a band's rows, and of the highest band also those from its highest row up. `ends`
+/// has a number for each row of the band: in a row between the piece's ends it is the column where the piece passes.
 #[inline(always)]
 pub(crate) fn note_up(
     piece: &Piece,

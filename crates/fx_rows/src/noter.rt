@@ -21,8 +21,8 @@ use crate::reach::reach_of;
 use fx_winding::{Frame, Notes, Piece, Tally, words_for};
 use std::alloc::{AllocError, Global};
 
-/// The segments noted so far, but for those of arcs that bulge, and the ends of the rows of the piece that is being added to a band,
-/// from the band's lowest.
+/// The segments noted so far, but for those of arcs that bulge; and of the piece that is being added to a band, the ends of its
+/// rows, from the band's lowest.
 #[derive(Drop)]
 pub(crate) struct Noter {
     pub notes: Notes,

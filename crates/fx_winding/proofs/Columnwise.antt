@@ -94,7 +94,8 @@ falling_past : (x z t : ℤ) → ((z ≤ℤ x) × (t ≡ negsuc 0)) ⊎ ((x ≤�
 falling_past x z t (inl (h, e)) n k = absurd (grind (arith, ints))
 falling_past x z t (inr (h, e)) n k = absurd (grind (arith, ints))
 
--- an end at x, and a place of another row: the place is not left of the end but left of the piece; or it is not right of the end but
+-- an end at x, and a place of another row: the place is not left of the end but left of the piece; or it is not right of the end
+-- but
 -- right of the piece
 abbrev pub IsPastEnd : ℤ → ℤ → Place → Span → Type 0
 IsPastEnd x value q s = ((x ≤ℤ q.x) × (turn q s ≡ value)) ⊎ ((q.x ≤ℤ x) × (turn q s ≡ pos 0))

@@ -17,7 +17,8 @@ segment_number f below r k = 32 * below + pixel_number f r k
 abbrev pub AreSetUp : Span → Frame → ℕ → List ℕ → ℕ → Type 0
 AreSetUp s f below up r = (k : ℕ) → k < f.width → IsMetUp s f r k → word_bit up (segment_number f below r k) ≡ 1
 
--- n is the bit of a segment up to a row of a band, or from its highest up; within the frame the piece meets it, unless an end of that
+-- n is the bit of a segment up to a row of a band, or from its highest up; within the frame the piece meets it, unless an end of
+-- that
 -- is on it
 pub record IsUpBit (s : Span) (p : Placed) (n : ℕ) : Type 0 where
   pub r : ℕ

@@ -14,7 +14,8 @@ rows-init g c = record {
   added = band_none (bounded_span c.args.bounded.now) c.args.band.now.frame c.args.rows.first c.args.band.now;
   of = λ f h. h;
   kept = λ s w r h. h;
-  told = told_none (g.N.Noting.IsTold c.args.noter.now) (bounded_span c.args.bounded.now) c.args.band.now.frame c.args.rows.first c.args.rows.first (omega arith);
+  told = told_none (g.N.Noting.IsTold c.args.noter.now)
+      (bounded_span c.args.bounded.now) c.args.band.now.frame c.args.rows.first c.args.rows.first (omega arith);
   count = omega arith;
   at = λ h. c.requires.at;
 }
@@ -67,7 +68,8 @@ rows-preserved g c =
     let first = c.strip_of-strip.ensures.first in
     let last = c.strip_of-strip.ensures.last in
     let value = c.next-cut.ensures.value ∙ rise_told s _ _ _ c.args.bounded.now.rises in
-    let is = cut_end s now strip c.next-cut.result (now.bottom +ℤ pos up) c.saturating_sub-end.result at first last c.saturating_sub-end.ensures value
+    let is = cut_end s now strip c.next-cut.result
+    (now.bottom +ℤ pos up) c.saturating_sub-end.result at first last c.saturating_sub-end.ensures value
     c.next-cut.ensures.cut in
     let added = c.add_cut.ensures.added s c.next-cut.ensures.cut in
     let T = g.N.Noting.IsTold c.rows.noter in
@@ -105,7 +107,8 @@ returns-clause-kept g c = c.rows.invariant.kept
 
 pub returns-clause-told : goal.returns-clause-told
 returns-clause-told g c =
-    told_end (g.N.Noting.IsTold c.rows.noter) (bounded_span c.args.bounded.now) c.args.band.now.frame c.args.rows.first c.rows.up c.args.rows.end
+    told_end (g.N.Noting.IsTold c.rows.noter)
+    (bounded_span c.args.bounded.now) c.args.band.now.frame c.args.rows.first c.rows.up c.args.rows.end
     (omega (arith, c.args.rows.order)) c.rows.invariant.told
 
 pub returns-clause-count : goal.returns-clause-count

@@ -19,5 +19,6 @@ returns c =
       λ t. line_found c.args.x c.args.y c.first_from.result c.first_from-2.result
           (rw x at (a.from c.first_from.result (omega (arith, signed_linear)))) (rw y at b.before)
           (omega (arith, signed_linear, t, n, m)),
-      λ h. is_before n m (line_lost c.args.x c.args.y c.first_from.result c.first_from-2.result (rw x at a.before) (rw y at b.from) h),
+      λ h. is_before n m (line_lost c.args.x c.args.y c.first_from.result c.first_from-2.result (rw x at a.before)
+          (rw y at b.from) h),
     )

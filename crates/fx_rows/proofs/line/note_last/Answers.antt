@@ -19,4 +19,5 @@ returns-then-across-line-clause-noted c = λ s h k e met.
 pub returns-clause-noted : goal.returns-clause-noted
 returns-clause-noted c = λ s h k e.
     let line = c.args.line in
-    subst (λ (j : ℕ). IsSetTo s line.frame line.row line.first line.step c.set_segment.new.bits j) (sym e) (c.set_segment.ensures.set s)
+    subst (λ (j : ℕ). IsSetTo s line.frame line.row line.first line.step c.set_segment.new.bits j) (sym e)
+    (c.set_segment.ensures.set s)

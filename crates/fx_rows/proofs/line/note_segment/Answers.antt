@@ -6,7 +6,8 @@ pub returns-then-meets_to-clause-noted : goal.returns-then-meets_to-clause-noted
 returns-then-meets_to-clause-noted c = λ o l. c.set_segment.ensures.set (span_of c.args.piece.now)
 
 pub returns-else-meets_to-clause-noted : goal.returns-else-meets_to-clause-noted
-returns-else-meets_to-clause-noted c = λ o l met. absurd (clash c.meets_to.result c.if-meets_to.false (c.meets_to.ensures.value.1 met))
+returns-else-meets_to-clause-noted c = λ o l met. absurd (clash c.meets_to.result c.if-meets_to.false
+    (c.meets_to.ensures.value.1 met))
 
 pub returns-then-meets_to-clause-only : goal.returns-then-meets_to-clause-only
 returns-then-meets_to-clause-only c =

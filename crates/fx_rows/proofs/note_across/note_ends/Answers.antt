@@ -11,13 +11,15 @@ use Rattle.fx_rows.proofs.note_across.note_ends.Goals as goal
 pub bounds-ends-up : goal.bounds-ends-up
 bounds-ends-up c =
     let up = c.rows.up in
-    (c.requires.told.rows up (omega arith) (omega (arith, c.requires.rows)) (c.requires.inner up (omega arith) (omega arith))).told.0
+    (c.requires.told.rows up (omega arith) (omega (arith, c.requires.rows)) (c.requires.inner up (omega arith)
+    (omega arith))).told.0
 
 pub set_bit-requires : goal.set_bit-requires
 set_bit-requires c =
     let p = c.args.placed in
     let up = c.rows.up in
-    let told = c.requires.told.rows up (omega arith) (omega (arith, c.requires.rows)) (c.requires.inner up (omega arith) (omega arith)) in
+    let told = c.requires.told.rows up (omega arith) (omega (arith, c.requires.rows)) (c.requires.inner up (omega arith)
+    (omega arith)) in
     let end = get_or c.args.ends.now up 0 in
     let is : IsEnd (span_of c.args.piece.now) p.frame up end =
     subst (IsEnd (span_of c.args.piece.now) p.frame up) (sym told.told.1) told.is in

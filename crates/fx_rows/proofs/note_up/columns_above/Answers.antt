@@ -18,7 +18,8 @@ returns-then-is_under-clause-to c = λ from comes.
     let few = p.frame.rows.few in
     let within = p.met.to in
     let rows = p.rows in
-    let row : to_z w32 (of_z w32 (to_z w32 (of_z w32 p.frame.bottom) +ℤ to_z w32 p.met.inner.end)) ≡ p.frame.bottom +ℤ pos p.met.inner.end =
+    let row : to_z w32 (of_z w32 (to_z w32 (of_z w32 p.frame.bottom) +ℤ to_z w32 p.met.inner.end))
+    ≡ p.frame.bottom +ℤ pos p.met.inner.end =
     omega (arith, signed_linear, low, high, few, within, rows, to_z_pos w32 p.met.inner.end (omega (arith, few, within, rows))) in
     comes c.head_columns.result (inr (
       hanging s (p.frame.bottom +ℤ pos p.met.inner.end) c.requires.plain c.requires.off
@@ -35,7 +36,8 @@ returns-clause-to c = λ from comes.
     let few = p.frame.rows.few in
     let within = p.met.to in
     let rows = p.rows in
-    let row : to_z w32 (of_z w32 (to_z w32 (of_z w32 p.frame.bottom) +ℤ to_z w32 p.met.inner.end)) ≡ p.frame.bottom +ℤ pos p.met.inner.end =
+    let row : to_z w32 (of_z w32 (to_z w32 (of_z w32 p.frame.bottom) +ℤ to_z w32 p.met.inner.end))
+    ≡ p.frame.bottom +ℤ pos p.met.inner.end =
     omega (arith, signed_linear, low, high, few, within, rows, to_z_pos w32 p.met.inner.end (omega (arith, few, within, rows))) in
     let last = last_row s p.frame p.met.inner.end (omega (arith, within, rows))
     (subst (λ (z : ℤ). IsOneOver s (pos 128 *ℤ z +ℤ pos 64)) row (c.is_under.ensures.above c.if-is_under.false))

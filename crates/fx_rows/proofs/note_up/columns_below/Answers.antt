@@ -2,7 +2,7 @@ use Rattle.std.proofs.Common.{◌≡◌, inr, subst, ℤ, pos, ◌+ℤ◌, ◌-�
 use Rattle.fx_fixed.proofs.Linear.{signed_linear}
 use Rattle.fx_winding.specs.Winding.{span_of}
 use Rattle.fx_rows.specs.inner.Heights.{IsAtMostEnds, IsOneUnder}
-use Rattle.fx_rows.proofs.Upward.{resting, row_under, first_row, between_ends, comes_from, comes_at_edge, comes_passing_below}
+use Rattle.fx_rows.proofs.Upward.{resting, level_under, first_row, one_each, comes_from, comes_at_edge, comes_passing_below}
 use Rattle.fx_rows.proofs.note_up.columns_below.Goals as goal
 
 pub returns-then-is_over-clause-from : goal.returns-then-is_over-clause-from
@@ -14,7 +14,7 @@ returns-then-is_over-clause-from c =
     let high = c.args.placed.frame.rows.to in
     let row : to_z w32 (of_z w32 (to_z w32 (of_z w32 c.args.placed.frame.bottom) -ℤ pos 1)) ≡ c.args.placed.frame.bottom -ℤ pos 1 =
     omega (arith, signed_linear, low, high) in
-    let under = row_under s p.frame first
+    let under = level_under s p.frame first
     (subst (λ (z : ℤ). IsAtMostEnds s (pos 128 *ℤ z +ℤ pos 64)) row (c.is_over.ensures.over c.if-is_over.true))
     c.requires.placed.met.under in
     comes_from s p first c.foot_columns.result c.requires.plain
@@ -44,7 +44,7 @@ columns_passed-requires-clause-inner c =
     let high = c.args.placed.frame.rows.to in
     let row : to_z w32 (of_z w32 (to_z w32 (of_z w32 c.args.placed.frame.bottom) -ℤ pos 1)) ≡ c.args.placed.frame.bottom -ℤ pos 1 =
     omega (arith, signed_linear, low, high) in
-    between_ends s (pos 128 *ℤ (p.frame.bottom -ℤ pos 1) +ℤ pos 64)
+    one_each s (pos 128 *ℤ (p.frame.bottom -ℤ pos 1) +ℤ pos 64)
     (subst (λ (z : ℤ). IsOneUnder s (pos 128 *ℤ z +ℤ pos 64)) row (c.is_over.ensures.below c.if-is_over.false)) c.requires.over
 
 pub columns_passed-requires-clause-row : goal.columns_passed-requires-clause-row

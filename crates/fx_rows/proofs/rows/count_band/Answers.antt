@@ -180,7 +180,8 @@ returns-clause-small g c = λ n. by n
 pub returns-clause-count : goal.returns-clause-count
 returns-clause-count g c =
     let done : c.pieces.piece-index ≡ length c.args.pieces.now = omega arith in
-    let P : ℕ → Type 0 = λ n. c.pieces.tally.count ≤ c.args.tally.now.count + n * ((12 + g.N.Noting.tests) * c.args.band.now.frame.height) in
+    let P : ℕ → Type 0 = λ n. c.pieces.tally.count ≤ c.args.tally.now.count + n *
+    ((12 + g.N.Noting.tests) * c.args.band.now.frame.height) in
     subst P done c.pieces.invariant.count
 
 pub returns-clause-of : goal.returns-clause-of

@@ -26,7 +26,8 @@ bands-preserved g c =
     let done = c.in_ok-words-2.ensures in
     let new = g.N.Noting.IsNotedAt c.scan_band.new.noter in
     let more = tests_more (length c.args.pieces.now) (12 + g.N.Noting.tests) from to (omega arith) in
-    let tests : length c.as_slice.result.now * ((12 + g.N.Noting.tests) * (to - from)) ≡ length c.args.pieces.now * ((12 + g.N.Noting.tests) * (to - from)) =
+    let tests : length c.as_slice.result.now * ((12 + g.N.Noting.tests) * (to - from))
+    ≡ length c.args.pieces.now * ((12 + g.N.Noting.tests) * (to - from)) =
     λ i. length (same i) * ((12 + g.N.Noting.tests) * (to - from)) in
     let n = done.count in
     let m = inv.count in
@@ -52,7 +53,8 @@ returns-in_err-words-2-clause-count g c =
     let to = c.band_end.result in
     let more = tests_more (length c.args.pieces.now) (12 + g.N.Noting.tests) from to (omega arith) in
     let fit = tests_fit (length c.args.pieces.now) (12 + g.N.Noting.tests) to f.height (digits f.width) (omega arith) in
-    let tests : length c.as_slice.result.now * ((12 + g.N.Noting.tests) * (to - from)) ≡ length c.args.pieces.now * ((12 + g.N.Noting.tests) * (to - from)) =
+    let tests : length c.as_slice.result.now * ((12 + g.N.Noting.tests) * (to - from))
+    ≡ length c.args.pieces.now * ((12 + g.N.Noting.tests) * (to - from)) =
     λ i. length (same i) * ((12 + g.N.Noting.tests) * (to - from)) in
     let n = c.scan_band.ensures.count in
     omega (arith, inv, more, fit, tests, n)

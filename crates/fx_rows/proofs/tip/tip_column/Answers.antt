@@ -19,7 +19,8 @@ returns-then-bend-eq0-clause-only c = λ k l tip.
     let same : to_z w64 (of_z w64 c.bend-bend.result) ≡ c.bend-bend.result = omega (arith, signed_linear, size) in
     let zero = c.if-bend-eq0.true in
     let none : bend p.a.y c.args.b.y p.c.y ≡ pos 0 = sym value ∙ sym same ∙ ap (to_z w64) zero in
-    absurd (flat_no_tip (place_of p.a) (place_of c.args.b) (place_of p.c) (place_at s k) (place_at s (k + 1)) (λ i. (place_at s k).y)
+    absurd (flat_no_tip (place_of p.a) (place_of c.args.b) (place_of p.c) (place_at s k) (place_at s (k + 1)) (λ i.
+    (place_at s k).y)
     none is)
 
 pub returns-clause-only : goal.returns-clause-only
