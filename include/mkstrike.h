@@ -1,4 +1,4 @@
-/* mkstrike for C: strikes (BDF 2.1) and glyphs of a TrueType font, hinted by the font's own programs, black and white.
+/* mkstrike 0.20261125 for C: strikes (BDF 2.1) and glyphs of a TrueType font, hinted by the font's own programs, black and white.
  *
  * A call takes all that it needs and keeps nothing: there is no state, no handle, no lock, and nothing to close. Calls may run in
  * several threads at once, as long as no two write to the same bytes. A call gives back all memory that it takes before it returns. It

@@ -74,16 +74,17 @@ def make_again(count, made, again):
 
 
 class Root:
-    """An empty root with the C library alone, where commands can be run as nobody if this process may."""
+    """An empty root with the C library and a shell alone, where commands can be run as nobody if this process may."""
 
     def __init__(self, folder, program):
         self.folder = folder
         os.chmod(folder, 0o755)
         self.is_jail = os.geteuid() == 0 and failure_of(["chroot", "/", "true"]) is None
-        for library in self.libraries(program) if self.is_jail else ():
-            os.makedirs(os.path.dirname(self.path(library)), exist_ok=True)
-            shutil.copyfile(library, self.path(library))
-            os.chmod(self.path(library), 0o755)
+        needed = {"/bin/sh", *self.libraries("/bin/sh"), *self.libraries(program)} if self.is_jail else ()
+        for path in sorted(needed):
+            os.makedirs(os.path.dirname(self.path(path)), exist_ok=True)
+            shutil.copyfile(path, self.path(path))
+            os.chmod(self.path(path), 0o755)
         os.makedirs(self.path(ADMIN, "info"))
         os.makedirs(self.path(ADMIN, "updates"))
         with open(self.path(ADMIN, "status"), "w") as file:
@@ -120,15 +121,17 @@ class Root:
         count.check("%s: the C library is there, as it was packed" % what, not is_same)
         if shutil.which("cc"):
             count.check("%s: an example builds with it, and runs" % what, self.builds(prefix))
-        at = self.path(prefix, "bin/mkstrike")
+        at = self.path(prefix, "libexec/mkstrike/mkstrike")
         is_same = os.access(at, os.X_OK) and prebuilt.read(at) == program
         count.check("%s: the program is there, as it was packed" % what, not is_same)
+        for words in (["--version"], ["help", "make"]):
+            count.check("%s: mkstrike %s" % (what, " ".join(words)), failure_of([self.path(prefix, "bin/mkstrike"), *words]))
         page, source = self.path(prefix, "share/man/man1/mkstrike.1.gz"), os.path.join(TOP, "docs/mkstrike.1")
         is_page = os.path.exists(page) and gzip.decompress(prebuilt.read(page)) == prebuilt.read(source)
         count.check("%s: the man page is there" % what, not is_page)
         count.check("%s: the documents link to nothing that is not there" % what, self.dead_link(prefix))
         count.check("%s: show-bdf is there" % what, not os.access(self.path(prefix, "bin/show-bdf"), os.X_OK))
-        how = "as nobody, with the C library alone" if self.is_jail else "here"
+        how = "as nobody, with the C library and a shell alone" if self.is_jail else "here"
         count.check("%s: the program runs %s" % (what, how), self.runs(os.path.join("/", prefix, "bin/mkstrike")))
 
     def dead_link(self, prefix):

@@ -1,0 +1,237 @@
+# The second line on standard error: what to do after a refusal or a wrong command line, and what is missing in a strike. To be sourced by
+# bin/mkstrike, which sets `status` and `said`, the program's status and line, and `command`, `font`, `list` and `is_hex` from the
+# arguments. It says only what is certain whatever the program read: each fault that it names is there.
+# shellcheck shell=sh disable=SC2154
+
+explain() {
+    LC_ALL=C
+    case $status:$said in
+        0:*) explain_counts ;;
+        1:'mkstrike: '[1-9][0-9] | 1:'mkstrike: '[1-9][0-9]' '*) explain_refusal ;;
+        2:'mkstrike: usage') explain_usage "$@" ;;
+    esac
+}
+
+# A strike that is done, but lacks characters.
+explain_counts() {
+    # shellcheck disable=SC2086
+    set -- ${said#mkstrike: }
+    case $2:$4 in
+        0:0) say 'the strike has no glyph: the list of characters is empty' ;;
+        0:*) say "the strike has no glyph: the font has no requested character; --chars is hexadecimal, and the letter A is 41" ;;
+        *:1) say '1 of the requested characters is missing in the font' ;;
+        *) say "$4 of the requested characters are missing in the font" ;;
+    esac
+}
+
+# ---- refusals
+
+explain_refusal() {
+    number=${said#mkstrike: }
+    number=${number%% *}
+    to_do=$(advice "$number")
+    case $number in
+        10) to_do=$(advice_by_bytes) || to_do=$(advice 10) ;;
+        3[0-9] | 4[0-1]) to_do="with --unhinted no program of the font runs; to mend the font, $to_do" ;;
+        61) to_do=$(advice_by_list "$to_do") ;;
+    esac
+    [ -z "$to_do" ] || say "$to_do"
+}
+
+# Prints what to do after the refusal $1, in the words of docs/REFUSALS.md.
+advice() {
+    case $1 in
+        10) echo 'give a TrueType font: OTTO (CFF), ttcf (a collection) and an empty input are not read' ;;
+        11) echo 'the font is damaged, or no TrueType font with outlines' ;;
+        12) echo 'the file is cut' ;;
+        13 | 14 | 16 | 24) echo 'the font is damaged' ;;
+        15) echo "convert the font's map to format 4 or 12" ;;
+        17 | 18 | 19 | 20 | 21 | 22 | 23) echo 'leave the characters with that glyph out' ;;
+        30) echo 'push what it needs first: the stack is empty when a program begins' ;;
+        31) echo 'raise maxStackElements in maxp' ;;
+        32) echo 'take the instruction out, or define it by an IDEF' ;;
+        33) echo "complete the program: the table or the glyph's program is cut" ;;
+        34) echo "mend the jump's offset; a jump to the end itself is allowed" ;;
+        35) echo 'define it in fpgm or prep, or mend the number' ;;
+        36) echo 'end the recursion' ;;
+        37) echo 'look for a loop without end at the address that is named' ;;
+        38) echo 'test the divisor first' ;;
+        39) echo 'mend the number that was pushed for it' ;;
+        40) echo 'end the first definition with ENDF' ;;
+        41) echo 'take the ENDF out, or end the function with one' ;;
+        51 | 52) echo 'take a smaller size' ;;
+        60) echo 'give 1 to 1024' ;;
+        61) echo 'give hexadecimal numbers and ranges joined by commas, as 20-7e,a0' ;;
+        62) echo 'give another name' ;;
+        63) echo 'give another name or text, or fewer properties' ;;
+        70) echo 'make room, and run it again' ;;
+        71) echo 'look at the device or pipe that it comes from' ;;
+        72) echo 'give the font itself without --hex, or its text by xxd -p' ;;
+        73) echo 'no font of that size is read' ;;
+        90) echo 'free memory, or ask for fewer characters or a smaller size' ;;
+    esac
+}
+
+# Prints what the font's file looks like by its first bytes, and what to do. Returns 1 if it is no file, or if they say nothing.
+advice_by_bytes() {
+    if [ -z "$command" ] || [ "$is_hex" = 1 ] || [ ! -f /dev/stdin ]; then return 1; fi
+    first=$(od -An -v -tx1 -N 8 /dev/stdin 2>/dev/null | tr -d ' \n') || return 1
+    case $first in
+        '') echo 'the file is empty: give a TrueType font' ;;
+        4f54544f*) echo 'the file looks like an OpenType font with CFF outlines, which is not read: give a TrueType font' ;;
+        74746366*) echo 'the file looks like a collection of fonts, which is not read: take one font out of it' ;;
+        774f4646*) echo 'the file looks like a WOFF font, which is not read: unpack it to a .ttf file first' ;;
+        774f4632*) echo 'the file looks like a WOFF2 font, which is not read: unpack it to a .ttf file first' ;;
+        1f8b*) echo 'the file looks like gzip data: unpack it first, as by gunzip' ;;
+        504b0304*) echo 'the file looks like a zip archive: unpack it first' ;;
+        25504446*) echo 'the file looks like a PDF: give a TrueType font' ;;
+        5354415254464f4e*) echo 'the file looks like a BDF font, which is a bitmap font already' ;;
+        00010000* | 74727565*) echo 'the file begins like a TrueType font, but is shorter than its directory: it is cut' ;;
+        *) echo "$first" | grep -qE '^(3[0-9]|[46][1-6]|0[ad]|20)+$' && echo 'the file may be hexadecimal text: then add --hex' ;;
+    esac
+}
+
+# Prints what is wrong with the list of characters, if the arguments have it, and what to do, $1.
+advice_by_list() {
+    case $command in
+        '') echo "$1" ;;
+        show) echo "--char takes one hexadecimal number up to 10FFFF, not '$list'; the letter A is 41" ;;
+        *) echo "$(fault_of_list): $1; the letter A is 41" ;;
+    esac
+}
+
+fault_of_list() {
+    set -f
+    IFS=,
+    # shellcheck disable=SC2086
+    set -- $list
+    unset IFS
+    for item; do
+        ! fault_of_item || return 0
+    done
+    case $list in
+        *,) echo 'the list ends with a comma' ;;
+        *) echo 'the list has more than 65,536 numbers' ;;
+    esac
+}
+
+# Prints what is wrong with `item`, or returns 1.
+fault_of_item() {
+    low=${item%%-*} high=${item#*-}
+    for each in "$low" "$high"; do
+        case $each in
+            '' | *[!0-9a-fA-F]*) echo "'$item' in the list is no hexadecimal number or range" && return ;;
+            ???????*) echo "'$item' in the list has a number of more than six digits" && return ;;
+        esac
+        [ $((0x$each)) -le 1114111 ] || { echo "'$item' in the list is above 10FFFF" && return; }
+    done
+    [ $((0x$low)) -gt $((0x$high)) ] && echo "'$item' in the list ends before it begins"
+}
+
+# ---- a wrong command line
+
+# The arguments are those that the program was given: without the font and the output.
+explain_usage() {
+    # shellcheck source=bin/help.sh
+    . "$texts/help.sh"
+    if [ $# = 0 ]; then
+        say "without arguments the first line of the input is the command line, and it is wrong; 'mkstrike help' shows how it is written"
+    elif [ -z "$command" ]; then
+        explain_command "$1"
+    else
+        shift
+        wrong=$(wrong_word "$@") || wrong='the command line is wrong'
+        case $wrong in *'?') ;; *) wrong="$wrong;" ;; esac
+        say "$wrong 'mkstrike help $command' shows how it is written"
+    fi
+}
+
+explain_command() {
+    case $1 in
+        -*) say "the first word is the command, make, show or dump, not '$1'; 'mkstrike help' shows how it is written" ;;
+        *)
+            meant=$(meant_by "$1" make show dump help)
+            say "unknown command '$1'; ${meant:+did you mean $meant? }'mkstrike help' lists the commands"
+            ;;
+    esac
+}
+
+# Prints the first word that no option is, or that lacks its value; or returns 1.
+wrong_word() {
+    options=$("help_$command" | sed -n 's/^      \(--*[a-z0-9]*\) .*/\1/p')
+    while [ $# -gt 0 ]; do
+        word=$1
+        shift
+        case $word in
+            -o) echo "-o takes the name of a file, and is given once" && return ;;
+            --ppem | --chars | --char | --name | --property | --of)
+                is_option "$word" || { unknown_option && return; }
+                case $#:${1-} in
+                    0:*) echo "$word takes a value" && return ;;
+                    *:-*) is_option "$1" && echo "$word takes a value" && return ;;
+                esac
+                case $word:$1 in
+                    --name:-* | --property:-*) echo "a value that begins with '-' is given as $word=$1" && return ;;
+                    *:-*) echo "'$1' is no value of $word" && return ;;
+                esac
+                shift
+                ;;
+            -*) is_option "${word%%=*}" || { unknown_option && return; } ;;
+            *) [ -z "$font" ] || { echo "one word too many, '$word': '$font' names the font" && return; } ;;
+        esac
+    done
+    return 1
+}
+
+is_option() {
+    case "
+$options
+" in
+        *"
+$1
+"*) return 0 ;;
+    esac
+    return 1
+}
+
+unknown_option() {
+    # shellcheck disable=SC2086
+    meant=$(meant_by "${word%%=*}" $options)
+    echo "unknown option '${word%%=*}'${meant:+; did you mean $meant?}"
+}
+
+# Prints which of the other words may be meant by $1: by a usual word for it, or those with the fewest letters that differ, at most two.
+meant_by() {
+    case $1 in
+        --size | --px | --pixels | --pixelsize | --pixel-size | --height | -p | -s) usual=--ppem ;;
+        --characters | --unicode | --range | --text | -c) usual='--chars --char' ;;
+        --output | --out | --outfile | --file) usual=-o ;;
+        --no-hinting | --nohinting | --no-hint) usual=--unhinted ;;
+        *) usual='' ;;
+    esac
+    for each in $usual; do
+        ! is_option "$each" || { echo "'$each'" && return; }
+    done
+    awk '
+        function least(a, b) { return a < b ? a : b }
+        # The number of letters to put in, take out or change, between two words.
+        function distance(a, b,    i, j, d) {
+            for (i = 0; i <= length(a); i++) d[i, 0] = i
+            for (j = 0; j <= length(b); j++) d[0, j] = j
+            for (i = 1; i <= length(a); i++)
+                for (j = 1; j <= length(b); j++)
+                    d[i, j] = least(least(d[i - 1, j], d[i, j - 1]) + 1, d[i - 1, j - 1] + (substr(a, i, 1) != substr(b, j, 1)))
+            return d[length(a), length(b)]
+        }
+        BEGIN {
+            nearest = 3
+            for (k = 2; k < ARGC; k++) {
+                at = distance(ARGV[1], ARGV[k])
+                if (length(ARGV[1]) < 5 && ARGV[1] ~ /^-/ || at > nearest || at == 3) continue
+                found = at < nearest ? "\047" ARGV[k] "\047" : found " or \047" ARGV[k] "\047"
+                nearest = at
+            }
+            if (found != "") print found
+        }
+    ' "$@" </dev/null
+}

@@ -1,0 +1,146 @@
+"""Mistakes that users make, each with the status and the lines on standard error that are due: 82 that were tried, and some near them.
+
+A row has the mistake in words, the arguments, the standard input, the status, the form of the first line, and a part of the second line.
+The input is a file of FILES, SANS for a real font, or bytes. A second line of '' means that there is none.
+"""
+import collections
+import os
+
+Mistake = collections.namedtuple("Mistake", "what words given status first second needs_font")
+
+# What stands for files that are no TrueType font: their first bytes.
+FILES = {
+    "empty": b"", "cff.otf": b"OTTO\0\x0a\0\x80" + bytes(200), "two.ttc": b"ttcf\0\1\0\0" + bytes(200), "web.woff": b"wOFF\0\1\0\0" + bytes(60),
+    "web.woff2": b"wOF2\0\1\0\0" + bytes(60), "a.pdf": b"%PDF-1.4\n" + bytes(60), "a.bdf": b"STARTFONT 2.1\nFONT a\n", "a.gz": b"\x1f\x8b\x08\0" + bytes(40),
+    "a.zip": b"PK\3\4" + bytes(40), "cut.ttf": b"\0\1\0\0\0\x10\1\0", "text": b"this is text, and no font\n", "hex.txt": b"0001 0000 0010\n0100 0004\n",
+}
+SANS = object()
+COUNTS = r"mkstrike: glyphs \d+ missing \d+ strays \d+ steps \d+"
+USAGE, NONE = "mkstrike: usage", ""
+GENERAL = "the command line is wrong; 'mkstrike help make' shows how it is written"
+LIST = "give hexadecimal numbers and ranges joined by commas, as 20-7e,a0"
+NO_GLYPH = "--chars is hexadecimal, and the letter A is 41"
+MANY = ",".join("%x" % it for it in range(0x100, 0x200)) + ",0-ffff"
+
+# After `make --ppem 16 --chars 41`, unless the arguments name a command.
+ROWS = [
+    # the font and the output
+    ("font as argument", ["FONT"], b"", 0, COUNTS, ""),
+    ("font as argument, with an input", ["FONT"], SANS, 0, COUNTS, ""),
+    ("-o out.bdf", ["-o", "out.bdf"], SANS, 0, COUNTS, ""),
+    ("-o without a name", ["-o"], SANS, 2, USAGE, "-o takes the name of a file"),
+    ("two outputs", ["-o", "a", "-o", "b"], SANS, 2, USAGE, "-o takes the name of a file, and is given once"),
+    ("two fonts", ["FONT", "other.ttf"], b"", 2, USAGE, "one word too many, 'other.ttf'"),
+    ("wrong path", ["nosuch.ttf"], b"", 1, "mkstrike: can't open the font 'nosuch.ttf': there is no such file", "names the font"),
+    ("directory as font", ["."], b"", 1, r"mkstrike: can't open the font '\.': it is a folder", "names the font"),
+    ("empty stdin, by a pipe", [], b"", 1, "mkstrike: 10 NotTrueType", "an empty input are not read"),
+    ("empty stdin, a file", [], "empty", 1, "mkstrike: 10 NotTrueType", "the file is empty"),
+    (".otf (CFF)", [], "cff.otf", 1, "mkstrike: 10 NotTrueType", "OpenType font with CFF outlines"),
+    (".otf by its name", ["cff.otf"], b"", 1, "mkstrike: 10 NotTrueType", "OpenType font with CFF outlines"),
+    (".ttc", [], "two.ttc", 1, "mkstrike: 10 NotTrueType", "a collection of fonts"),
+    (".woff", [], "web.woff", 1, "mkstrike: 10 NotTrueType", "WOFF font"),
+    (".woff2", [], "web.woff2", 1, "mkstrike: 10 NotTrueType", "WOFF2 font"),
+    ("PDF as font", [], "a.pdf", 1, "mkstrike: 10 NotTrueType", "looks like a PDF"),
+    ("text as font", [], "text", 1, "mkstrike: 10 NotTrueType", "give a TrueType font"),
+    ("BDF as font", [], "a.bdf", 1, "mkstrike: 10 NotTrueType", "BDF font"),
+    ("gzip font", [], "a.gz", 1, "mkstrike: 10 NotTrueType", "gzip data"),
+    ("zip archive", [], "a.zip", 1, "mkstrike: 10 NotTrueType", "zip archive"),
+    ("cut font", [], "cut.ttf", 1, "mkstrike: 10 NotTrueType", "shorter than its directory"),
+    ("hex text without --hex", [], "hex.txt", 1, "mkstrike: 10 NotTrueType", "then add --hex"),
+    ("hex of binary", ["--hex"], SANS, 1, "mkstrike: 72 BadHex", "give the font itself without --hex"),
+    ("no cmap", [], "no cmap.ttf", 1, "mkstrike: 15 NoCharMap", "convert the font's map to format 4 or 12"),
+    # the list of characters
+    ("letter instead of hex: A", ["make", "--ppem", "16", "--chars", "A"], SANS, 0, COUNTS, NO_GLYPH),
+    ("letter: Z", ["make", "--ppem", "16", "--chars", "Z"], SANS, 1, "mkstrike: 61 BadChars", "'Z' in the list is no hexadecimal number"),
+    ("letters: A-Z", ["make", "--ppem", "16", "--chars", "A-Z"], SANS, 1, "mkstrike: 61 BadChars", "'A-Z' in the list is no hex"),
+    ("a-f (letters meant)", ["make", "--ppem", "16", "--chars", "a-f"], SANS, 0, COUNTS, NO_GLYPH),
+    ("show --char g", ["show", "--ppem", "16", "--char", "g"], SANS, 1, "mkstrike: 61 BadChars", "--char takes one hexadecimal number up to 10FFFF, not 'g'"),
+    ("show --char A", ["show", "--ppem", "16", "--char", "A"], SANS, 0, "", NONE),
+    ("decimal range 32-126", ["make", "--ppem", "16", "--chars", "32-126"], SANS, 0, COUNTS, "33 of the requested characters are missing"),
+    ("0x20-0x7e", ["make", "--ppem", "16", "--chars", "0x20-0x7e"], SANS, 1, "mkstrike: 61 BadChars", "'0x20-0x7e' in the list"),
+    ("U+20-U+7E", ["make", "--ppem", "16", "--chars", "U+20-U+7E"], SANS, 1, "mkstrike: 61 BadChars", "'U+20-U+7E' in the list"),
+    ("space in list (quoted)", ["make", "--ppem", "16", "--chars", "20-7e, a0"], SANS, 1, "mkstrike: 61 BadChars", "' a0' in the list"),
+    ("space in list (unquoted)", ["make", "--ppem", "16", "--chars", "20-7e,", "a0"], SANS, 1, "mkstrike: can't open the font 'a0': there is no such file", "names the font"),
+    ("trailing comma", ["make", "--ppem", "16", "--chars", "41,"], SANS, 1, "mkstrike: 61 BadChars", "the list ends with a comma"),
+    ("two commas", ["make", "--ppem", "16", "--chars=41,,42"], SANS, 1, "mkstrike: 61 BadChars", "'' in the list is no"),
+    ("empty list", ["make", "--ppem", "16", "--chars", ""], SANS, 0, COUNTS, "the list of characters is empty"),
+    ("reversed range", ["make", "--ppem", "16", "--chars", "7e-20"], SANS, 1, "mkstrike: 61 BadChars", "'7e-20' in the list ends before it begins"),
+    ("110000", ["make", "--ppem", "16", "--chars", "110000"], SANS, 1, "mkstrike: 61 BadChars", "'110000' in the list is above 10FFFF"),
+    ("0-10ffff", ["make", "--ppem", "16", "--chars", "0-10ffff"], SANS, 1, "mkstrike: 61 BadChars", "the list has more than 65,536 numbers"),
+    ("0-1ffff", ["make", "--ppem", "16", "--chars", "0-1ffff"], SANS, 1, "mkstrike: 61 BadChars", "the list has more than 65,536 numbers"),
+    ("many numbers", ["make", "--ppem", "16", "--chars", MANY], SANS, 1, "mkstrike: 61 BadChars", "the list has more than 65,536 numbers"),
+    ("seven digits", ["make", "--ppem", "16", "--chars", "0000041"], SANS, 1, "mkstrike: 61 BadChars", "more than six digits"),
+    ("show of several", ["show", "--ppem", "16", "--char", "41,42"], SANS, 1, "mkstrike: 61 BadChars", "--char takes one hexadecimal number"),
+    ("make all missing", ["make", "--ppem", "16", "--chars", "4e00-4e10"], SANS, 0, COUNTS, NO_GLYPH),
+    ("one missing", ["make", "--ppem", "16", "--chars", "41,4e00"], SANS, 0, COUNTS, "1 of the requested characters is missing"),
+    ("show of missing", ["show", "--ppem", "16", "--char", "4e00"], SANS, 0, "", NONE),
+    # the size
+    ("ppem 0", ["make", "--ppem", "0", "--chars", "41"], SANS, 1, "mkstrike: 60 BadSize", "give 1 to 1024"),
+    ("ppem 2000", ["make", "--ppem", "2000", "--chars", "41"], SANS, 1, "mkstrike: 60 BadSize", "give 1 to 1024"),
+    ("ppem 1,000", ["make", "--ppem", "1,000", "--chars", "41"], SANS, 2, USAGE, GENERAL),
+    ("ppem 12.5", ["make", "--ppem", "12.5", "--chars", "41"], SANS, 2, USAGE, GENERAL),
+    ("ppem 12px", ["make", "--ppem", "12px", "--chars", "41"], SANS, 2, USAGE, GENERAL),
+    ("ppem -5", ["make", "--ppem", "-5", "--chars", "41"], SANS, 2, USAGE, "'-5' is no value of --ppem"),
+    ("ppem 99999999999", ["make", "--ppem", "99999999999", "--chars", "41"], SANS, 2, USAGE, GENERAL),
+    ("ppem missing", ["make", "--chars", "41"], SANS, 2, USAGE, GENERAL),
+    ("ppem without value", ["make", "--chars", "41", "--ppem"], SANS, 2, USAGE, "--ppem takes a value"),
+    ("ppem before another option", ["make", "--ppem", "--chars", "41"], SANS, 2, USAGE, "--ppem takes a value"),
+    ("chars missing", ["make", "--ppem", "16"], SANS, 2, USAGE, GENERAL),
+    # options and commands
+    ("unknown option", ["--frobnicate"], SANS, 2, USAGE, "unknown option '--frobnicate'; 'mkstrike help make'"),
+    ("--size", ["make", "--size", "16", "--chars", "41"], SANS, 2, USAGE, "unknown option '--size'; did you mean '--ppem'?"),
+    ("--verbose", ["--verbose"], SANS, 2, USAGE, "unknown option '--verbose'"),
+    ("-v", ["-v"], SANS, 2, USAGE, "unknown option '-v'"),
+    ("short -p 16", ["make", "-p", "16", "--chars", "41"], SANS, 2, USAGE, "unknown option '-p'; did you mean '--ppem'?"),
+    ("--char for make", ["make", "--ppem", "16", "--char", "41"], SANS, 2, USAGE, "unknown option '--char'; did you mean '--chars'?"),
+    ("--unhintd", ["--unhintd"], SANS, 2, USAGE, "did you mean '--unhinted'?"),
+    ("= form", ["make", "--ppem=16", "--chars=41"], SANS, 0, COUNTS, ""),
+    ("flag with =", ["--unhinted=1"], SANS, 2, USAGE, GENERAL),
+    ("duplicate --ppem", ["--ppem", "16"], SANS, 2, USAGE, GENERAL),
+    ("duplicate --chars", ["--chars", "41"], SANS, 2, USAGE, GENERAL),
+    ("duplicate flag", ["--hex", "--hex"], SANS, 2, USAGE, GENERAL),
+    ("command missing", ["--ppem", "16", "--chars", "41"], SANS, 2, USAGE, "the first word is the command, make, show or dump, not '--ppem'"),
+    ("command misspelt", ["mkae", "--ppem", "16"], SANS, 2, USAGE, "unknown command 'mkae'; did you mean 'make'?"),
+    ("font in place of the command", ["font.ttf"], SANS, 2, USAGE, "unknown command 'font.ttf'; 'mkstrike help' lists the commands"),
+    ("options before command", ["--ppem", "16", "make", "--chars", "41"], SANS, 2, USAGE, "the first word is the command"),
+    ("no args, font in", None, SANS, 2, USAGE, "without arguments the first line of the input is the command line"),
+    # names and properties
+    ("--name -misc (no =)", ["--name", "-misc-a"], SANS, 2, USAGE, "a value that begins with '-' is given as --name=-misc-a"),
+    ("--name with umlaut", ["--name", "Gr\xfc\xdfe"], SANS, 1, "mkstrike: 62 BadName", "give another name"),
+    ("--property no =", ["--property", "A"], SANS, 2, USAGE, GENERAL),
+    ("--property lower", ["--property", "a=1"], SANS, 1, "mkstrike: 63 BadProperty 1", "give another name or text"),
+    ("--property FONT_ASCENT", ["--property", "FONT_ASCENT=1"], SANS, 1, "mkstrike: 63 BadProperty 1", "give another name or text"),
+    ("--property dup", ["--property", "A=1", "--property", "A=2"], SANS, 1, "mkstrike: 63 BadProperty 2", "give another name or text"),
+    ("huge property", ["--property", "A=" + "x" * 40000], SANS, 1, "mkstrike: 63 BadProperty 1", "give another name or text"),
+    ("umlaut property", ["--property", "A=\xe4"], SANS, 1, "mkstrike: 63 BadProperty 1", "give another name or text"),
+    # what the front takes
+    ("--help", ["--help"], b"", 0, "", NONE), ("-h", ["-h"], b"", 0, "", NONE), ("help make", ["help", "make"], b"", 0, "", NONE),
+    ("--version", ["--version"], b"", 0, "", NONE), ("-V", ["-V"], b"", 0, "", NONE), ("make --help", ["--help"], b"", 0, "", NONE),
+    # the font's programs
+    ("dump of what is not there", ["dump", "--of", "gpos"], SANS, 2, USAGE, "'mkstrike help dump' shows how it is written"),
+    ("dump glyph 99999", ["dump", "--of", "99999"], SANS, 2, USAGE, "'mkstrike help dump' shows how it is written"),
+    ("dump glyph name", ["dump", "--of", "Aacute"], SANS, 2, USAGE, "'mkstrike help dump' shows how it is written"),
+    ("a glyph whose program halts", ["make", "--ppem", "16", "--chars", "19c"], SANS, 1, "mkstrike: 30 StackUnder .*", "with --unhinted no program"),
+]
+ALONE = ("make", "show", "dump", "mkae", "font.ttf", "-h", "help", "--version", "-V")
+
+
+def mistakes(sans):
+    """The rows, with the arguments as they are given."""
+    for what, words, given, status, first, second in ROWS:
+        if words is None:
+            words = []
+        elif not (words and (words[0] in ALONE or what.startswith(("command", "options before", "--help")))):
+            words = ["make", "--ppem", "16", "--chars", "41"] + words
+        needs = given in (SANS, "no cmap.ttf") or "FONT" in words
+        yield Mistake(what, [sans if it == "FONT" else it for it in words], sans if given is SANS else given, status, first, second, needs)
+
+
+def write_files(folder, sans):
+    """Puts the files of the mistakes into a folder."""
+    if os.path.exists(sans):
+        with open(sans, "rb") as font, open(os.path.join(folder, "no cmap.ttf"), "wb") as file:
+            file.write(font.read().replace(b"cmap", b"cmaq", 1))
+    for name, data in FILES.items():
+        with open(os.path.join(folder, name), "wb") as file:
+            file.write(data)
