@@ -75,8 +75,8 @@ ROWS = [
     ("one missing", ["make", "--ppem", "16", "--chars", "41,4e00"], SANS, 0, COUNTS, "1 of the requested characters is missing"),
     ("show of missing", ["show", "--ppem", "16", "--char", "4e00"], SANS, 0, "", NONE),
     # the size
-    ("ppem 0", ["make", "--ppem", "0", "--chars", "41"], SANS, 1, "mkstrike: 60 BadSize", "give 1 to 1024"),
-    ("ppem 2000", ["make", "--ppem", "2000", "--chars", "41"], SANS, 1, "mkstrike: 60 BadSize", "give 1 to 1024"),
+    ("ppem 0", ["make", "--ppem", "0", "--chars", "41"], SANS, 1, "mkstrike: 60 BadSize", "give a size of 1 to 1024"),
+    ("ppem 2000", ["make", "--ppem", "2000", "--chars", "41"], SANS, 1, "mkstrike: 60 BadSize", "give a size of 1 to 1024"),
     ("ppem 1,000", ["make", "--ppem", "1,000", "--chars", "41"], SANS, 2, USAGE, GENERAL),
     ("ppem 12.5", ["make", "--ppem", "12.5", "--chars", "41"], SANS, 2, USAGE, GENERAL),
     ("ppem 12px", ["make", "--ppem", "12px", "--chars", "41"], SANS, 2, USAGE, GENERAL),
