@@ -35,17 +35,18 @@ standard input is the command line. 'mkstrike help make' lists the options of ma
 Documents:
 
 END
+    above=$(CDPATH='' cd -P -- "$here/.." && pwd)
     if [ -n "$about" ]; then
-        print_package_documents
+        print_package_documents "$above"
     else
-        print_documents "$(cd -P -- "$here/.." && pwd)"
+        print_documents "$above"
     fi
 }
 
 print_package_documents() {
     cat <<END
-    man mkstrike                all options
-    /usr/share/doc/mkstrike     the cookbook, what each refusal means, what is proved
+    man mkstrike             all options
+    $1/share/doc/mkstrike    the cookbook, what each refusal means, what is proved
 END
 }
 
