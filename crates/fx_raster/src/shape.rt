@@ -41,6 +41,7 @@ impl Model for Shape {
 }
 
 /// The frame of an outline by a rule.
+#[inline(always)]
 fn framed(outline: &Outline, rule: Rule) -> Result<Option<Frame>, RasterFault>
     ensures exact { map_ok (λ _. tt) result ≡ outline_framed_by rule outline.now.ends.items outline.now.points.items }
     ensures frame { IfOk result (λ f. IsFramedBy rule f (spans_of outline.now.ends.items outline.now.points.items)) }
