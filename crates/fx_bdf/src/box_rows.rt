@@ -5,8 +5,8 @@ ghost use Rattle.fx_winding.specs.Bitmaps.{bit_of};
 ghost use Rattle.fx_bdf.specs.Glyphs.{IsBoxed, rows_in};
 
 use crate::bounds::Bounds;
-use crate::rows::Row;
 use crate::numbers::{above, distance};
+use crate::rows::Row;
 use fx_winding::Bitmap;
 use std::marker::Model;
 
