@@ -470,15 +470,18 @@ static int requests(struct request *r) {
 /* ---- memory, threads and the stack */
 
 #ifndef HEAP_BESIDE
-/* Each request for memory is refused in turn; the call must say so, change nothing and give back what it took. */
+/* Each request for memory is refused in turn; the call must say so, change nothing and give back what it took. A strike that has no memory
+   for its cache of outlines, or for an outline that it reads from there, is made all the same. */
 static long refuse_each(const struct request *r, char call) {
     struct mkstrike_told told;
     struct mkstrike_refused refused;
     struct mkstrike_glyph g;
     struct mkstrike_drawn drawn;
     static struct mkstrike_placed placed[256], placed_before[256];
-    static uint8_t out[1 << 20], before[1 << 20];
+    static uint8_t out[1 << 20], before[1 << 20], whole[1 << 20];
     long n;
+    memset(whole, 7, sizeof whole);
+    if (call == 'm' && make(r, whole, sizeof whole, &told, &refused) != 0) stop("no strike without refusals");
     for (n = 1;; n++) {
         uint32_t status;
         memset(out, 7, sizeof out);
@@ -497,6 +500,7 @@ static long refuse_each(const struct request *r, char call) {
         refused_at = 0;
         if (held != 0) stop("memory was kept");
         if (asked < n && status == 0) return n - 1;
+        if (call == 'm' && status == 0 && memcmp(out, whole, sizeof out) == 0) continue;
         if (status != MKSTRIKE_OUT_OF_MEMORY || refused.number != status) stop("another answer to refused memory");
         if (memcmp(out, before, sizeof out) != 0 || memcmp(placed, placed_before, sizeof placed) != 0) stop("a refusal changed a buffer");
     }
