@@ -1,8 +1,10 @@
 """Cases of tools/check_program: drop-out control, worked out by hand and by its definition."""
+import math
 import random
 
 import due
-from due import listed, usage
+import fonts
+from due import Counted, listed, usage
 from cases_of_programs import NOTHING
 from made import Composite, Curved, Empty, Font, Simple, list_of, square
 from runs import Run
@@ -184,6 +186,25 @@ def many_hairlines():
                   limits={"RLIMIT_CPU": 2})
 
 
+def ring(count, radius):
+    """A ring of arcs: every other one of so many points on a circle is off the curve."""
+    turns = [2 * math.pi * k / count for k in range(count)]
+    return [[(round(radius * math.cos(turn)), round(radius * math.sin(turn)), 1 - k % 2) for k, turn in enumerate(turns)]]
+
+
+def shapes_in_bounded_time():
+    """Shapes whose time was once that of all their gaps, or of all segments of an arc's box: an arc that turns back far from its ends, with
+    its chord; lenses of two arcs that lie on each other; a ring of many arcs."""
+    far = 32767
+    for name, ppem, contours, seconds in (
+            ("three points", 128, [[(-far, -far, 1), (far, far, 0), (-far, 1 - far, 1)]], 3),
+            ("64 lenses", 255, [[(8 * k, 0, 1), (8 * k + 700, 1000, 0), (8 * k, 4000, 1), (8 * k + 700, 1000, 0)] for k in range(64)], 3),
+            ("a ring of 2,048 arcs", 1024, ring(4096, 500), 2)):
+        font = fonts.font_of([b"", fonts.simple(contours)], fonts.map_to_one(1), upem=1024)
+        yield Run("%s with drop-out control" % name, "make --ppem %d --chars 41 --unhinted --dropout" % ppem, font, Counted(1, 0, hinted=False),
+                  limits={"RLIMIT_CPU": seconds})
+
+
 def distances_with_dropout():
     """Points as far out as they may lie with drop-out control, two pixels less than without, and farther; sides to the limit and past
     it. A glyph of one unit to the pixel; the hairlines hold no centre, and have a frame with drop-out control alone."""
@@ -202,5 +223,5 @@ def distances_with_dropout():
         yield Run(name, asked(1024, [A], False), font.data(), answer)
 
 
-CASES = [random_outlines, dropout_by_hand, sizes_with_dropout, long_hairlines, many_hairlines, distances_with_dropout, composites_with_dropout,
-         words_with_dropout]
+CASES = [random_outlines, dropout_by_hand, sizes_with_dropout, long_hairlines, many_hairlines, shapes_in_bounded_time,
+         distances_with_dropout, composites_with_dropout, words_with_dropout]
