@@ -1,0 +1,171 @@
+"""Strikes as arrays in C: rows of bytes in cells, and fonts for the library Adafruit GFX."""
+from __future__ import annotations
+
+import re
+import warnings
+from collections.abc import Iterable, Sequence
+from typing import TYPE_CHECKING
+
+from .refused import code_name
+
+if TYPE_CHECKING:
+    from .glyph import Glyph
+    from .strike import Strike
+
+ROWS = """\
+/* {count} glyphs of {font} at {size} pixels per em, as {name}: made by mkstrike.
+ *
+ * Glyph k is the character {name}_chars[k]; they rise. {name}_rows[k] are its rows from the top: {name}_HEIGHT rows of {name}_STRIDE
+ * bytes, the leftmost pixel the highest bit. Draw the cell {name}_LEFT columns right of the pen, with {name}_ASCENT of its rows above
+ * the baseline; then move the pen by {name}_advances[k]. */
+#ifndef {guard}
+#define {guard}
+
+#include <stdint.h>
+
+enum {{
+    {name}_COUNT = {count},
+    {name}_WIDTH = {width},
+    {name}_HEIGHT = {height},
+    {name}_STRIDE = {stride},
+    {name}_LEFT = {left},
+    {name}_ASCENT = {ascent}
+}};
+
+static const {kind} {name}_chars[{name}_COUNT] = {{
+{chars}
+}};
+
+static const int16_t {name}_advances[{name}_COUNT] = {{
+{advances}
+}};
+
+static const uint8_t {name}_rows[{name}_COUNT][{name}_HEIGHT * {name}_STRIDE] = {{
+{rows}
+}};
+
+#endif
+"""
+GFX = """\
+/* {count} glyphs of {font} at {size} pixels per em, as {name} for Adafruit GFX: made by mkstrike. Include it after Adafruit_GFX.h, and say
+ * setFont(&{name}). */
+#ifndef {guard}
+#define {guard}
+
+#ifndef PROGMEM
+#define PROGMEM
+#endif
+
+const uint8_t {name}Bitmaps[] PROGMEM = {{
+{bitmaps}
+}};
+
+const GFXglyph {name}Glyphs[] PROGMEM = {{
+{glyphs}
+}};
+
+const GFXfont {name} PROGMEM = {{(uint8_t *){name}Bitmaps, (GFXglyph *){name}Glyphs, 0x{first:02X}, 0x{last:02X}, {height}}};
+
+#endif
+"""
+
+
+def identifier(text: str) -> str:
+    """A name in C made of a text, as `DejaVuSans_16` of `DejaVuSans-16`."""
+    name = re.sub(r"\W+", "_", text, flags=re.ASCII).strip("_") or "strike"
+    return "_" + name if name[0].isdigit() else name
+
+
+def cell_of(strike: Strike) -> tuple[int, int, int, int]:
+    """The least cell that has room for each glyph and for a line of text: width, height, and its lower left pixel."""
+    width, height, left, bottom = strike.box
+    first, below = min(left, 0), min(bottom, -strike.descent)
+    end = max([left + width] + [it.advance for it in strike.values()])
+    return end - first, max(bottom + height, strike.ascent) - below, first, below
+
+
+def rows(strike: Strike, name: str) -> str:
+    """Every glyph in a cell of the same size, its rows in whole bytes."""
+    width, height, left, bottom = cell_of(strike)
+    codes = [ord(it) for it in strike]
+    _filled(codes)
+    lines = ["    {%s}, /* %s */" % (_hexadecimal(_in_cell(it, width, height, left, bottom)), _shown(it.char)) for it in strike.values()]
+    return ROWS.format(
+        name=name, guard=name.upper() + "_H", font=_comment(strike.name), size=strike.size, count=len(codes), width=width, height=height,
+        stride=(width + 7) // 8, left=left, ascent=bottom + height, kind="uint16_t" if codes[-1] <= 0xFFFF else "uint32_t",
+        chars=_wrapped("0x%04X" % it for it in codes), advances=_wrapped(str(it.advance) for it in strike.values()), rows="\n".join(lines))
+
+
+def gfx(strike: Strike, name: str) -> str:
+    """A GFXfont: boxes packed bit by bit. What the strike lacks between the first and the last character is empty there."""
+    codes = [ord(it) for it in strike]
+    _filled(codes)
+    bitmaps, lines = bytearray(), []
+    for code in range(codes[0], codes[-1] + 1):
+        glyph = strike.get(chr(code))
+        numbers = (0, 0, 0, 0, 0, 0)
+        if glyph is not None:
+            numbers = (len(bitmaps), glyph.width, glyph.height, glyph.advance, glyph.left, 1 - glyph.top)
+            if not glyph.width:
+                numbers = (len(bitmaps), 0, 0, glyph.advance, 0, 0)
+            _check_gfx(code, numbers)
+            bitmaps += _bits(glyph)
+        lines.append("    {%d, %d, %d, %d, %d, %d}, /* %s */" % (*numbers, _shown(chr(code))))
+    if codes[-1] > 0xFFFF or not 0 <= strike.height <= 255:
+        raise ValueError("a font for Adafruit GFX has characters up to U+FFFF and lines of at most 255 rows")
+    empty = codes[-1] - codes[0] + 1 - len(codes)
+    if empty > len(codes):
+        warnings.warn("%d of the %d entries of %s are empty, since a GFXfont has all from the first character to the last" % (
+            empty, empty + len(codes), name), stacklevel=4)
+    return GFX.format(name=name, guard=name.upper() + "_GFX_H", font=_comment(strike.name), size=strike.size, count=len(codes),
+                      bitmaps=_wrapped("0x%02X" % it for it in bitmaps or b"\0"), glyphs="\n".join(lines), first=codes[0], last=codes[-1],
+                      height=strike.height)
+
+
+def _check_gfx(code: int, numbers: Sequence[int]) -> None:
+    """Raises an error if a number does not fit its field of a GFXglyph."""
+    for number, least, most, what in zip(numbers, (0, 0, 0, 0, -128, -128), (65535, 255, 255, 255, 127, 127),
+                                         ("the bytes before it", "its width", "its height", "its advance", "its left", "its top")):
+        if not least <= number <= most:
+            raise ValueError("%s does not fit a font for Adafruit GFX: %s, %d, is not in %d to %d" % (code_name(code), what, number, least, most))
+
+
+def _filled(codes: list[int]) -> None:
+    if not codes:
+        raise ValueError("the strike has no glyph")
+
+
+def _in_cell(glyph: Glyph, width: int, height: int, left: int, bottom: int) -> bytes:
+    """The rows of a cell with a glyph in it."""
+    stride, size = (width + 7) // 8, (glyph.width + 7) // 8
+    shift = 8 * stride - 8 * size - (glyph.left - left)
+    given = {glyph.top - 1 - k: int.from_bytes(row, "big") for k, row in enumerate(glyph.rows)}
+    placed = {row: it << shift if shift >= 0 else it >> -shift for row, it in given.items()}
+    return b"".join(placed.get(row, 0).to_bytes(stride, "big") for row in range(bottom + height - 1, bottom - 1, -1))
+
+
+def _bits(glyph: Glyph) -> bytes:
+    """The pixels of a glyph, bit by bit, filled up to a whole byte at the end alone."""
+    count = glyph.width * glyph.height
+    digits = "".join("1" if it else "0" for it in glyph.tobytes()).ljust((count + 7) // 8 * 8, "0")
+    return int(digits, 2).to_bytes(len(digits) // 8, "big") if digits else b""
+
+
+def _hexadecimal(data: bytes) -> str:
+    return ", ".join("0x%02X" % it for it in data)
+
+
+def _wrapped(items: Iterable[str]) -> str:
+    """Items in lines of twelve."""
+    given = list(items)
+    return "\n".join("    " + ", ".join(given[at:at + 12]) + "," for at in range(0, len(given), 12))
+
+
+def _shown(char: str | None) -> str:
+    """A character in a comment of C: never one that could end it or hide it."""
+    text = char or ""
+    return code_name(ord(text)) + (" " + text if text.isprintable() and not text.isspace() and text not in "*/\\" else "")
+
+
+def _comment(text: str) -> str:
+    return text.replace("*/", "* /")

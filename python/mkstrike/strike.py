@@ -1,0 +1,178 @@
+"""A strike: the pictures of characters at one size."""
+from __future__ import annotations
+
+import os
+from collections.abc import Iterator, Mapping
+
+from . import bdf, glyph as glyphs
+from .refused import Missing
+
+TYPE_CHECKING = False  # as in glyph.py
+if TYPE_CHECKING:
+    from PIL.Image import Image
+
+    from .refused import Refused
+
+
+class Strike(Mapping[str, glyphs.Glyph]):
+    """A strike: from each character to its glyph, in rising order of the characters.
+
+    - `text`: the strike in BDF, as bytes
+    - `missing`: the characters that were asked for and that the font lacks
+    - `refused`: from each character that was refused to its refusal
+    - `outside`: from each character that left its cell to how far (see `cell`)
+    - `strays`, `steps`: what the font's programs did, if the strike was made here, else 0
+    """
+
+    def __init__(self, text: bytes, *, missing: tuple[str, ...] | None = (), refused: Mapping[str, Refused] | None = None,
+                 outside: Mapping[str, Outside] | None = None, requested: tuple[int, ...] = (), strays: int = 0, steps: int = 0) -> None:
+        self.text = text
+        self.refused: dict[str, Refused] = dict(refused or {})
+        self.outside: dict[str, Outside] = dict(outside or {})
+        self.strays, self.steps = strays, steps
+        self._missing, self._requested = missing, requested
+        self._parsed: bdf.Text | None = None
+        self._made: dict[str, glyphs.Glyph] = {}
+
+    @classmethod
+    def open(cls, path: str | os.PathLike[str]) -> Strike:
+        """Reads a strike in BDF from a file, also one of another program."""
+        with open(path, "rb") as file:
+            strike = cls(file.read())
+        strike.parsed()
+        return strike
+
+    # ---- what it says
+
+    def parsed(self) -> bdf.Text:
+        """What the text says, read once."""
+        if self._parsed is None:
+            self._parsed = bdf.parse(self.text)
+        return self._parsed
+
+    @property
+    def missing(self) -> tuple[str, ...]:
+        """The characters that were asked for and that the font lacks."""
+        if self._missing is None:
+            has, refused = self.parsed().entries, self.refused
+            self._missing = tuple(chr(it) for it in self._requested if it not in has and chr(it) not in refused)
+        return self._missing
+
+    @property
+    def name(self) -> str:
+        """The name of the font in the text."""
+        return self.parsed().name
+
+    @property
+    def size(self) -> int:
+        """The size in pixels per em."""
+        return self.parsed().size
+
+    @property
+    def ascent(self) -> int:
+        """The rows above the baseline."""
+        return self.parsed().ascent
+
+    @property
+    def descent(self) -> int:
+        """The rows below the baseline."""
+        return self.parsed().descent
+
+    @property
+    def height(self) -> int:
+        """The rows of a line: ascent and descent together."""
+        return self.ascent + self.descent
+
+    @property
+    def box(self) -> tuple[int, int, int, int]:
+        """The least box that holds all glyphs: width, height, and the column and the row of its lower left pixel."""
+        return self.parsed().box
+
+    @property
+    def properties(self) -> dict[str, bdf.Value]:
+        """The properties of the text beside FONT_ASCENT and FONT_DESCENT."""
+        return dict(self.parsed().properties)
+
+    def __getitem__(self, char: str | int) -> glyphs.Glyph:
+        char = chr(char) if isinstance(char, int) else char
+        if char not in self._made:
+            entry = self.parsed().entries.get(ord(char)) if len(char) == 1 else None
+            if entry is None:
+                raise Missing(char)
+            pixels = glyphs.unpacked(entry.rows, entry.width, entry.height)
+            self._made[char] = glyphs.glyph(char, entry.width, entry.height, entry.left, entry.bottom, entry.dwidth, entry.swidth, pixels)
+        return self._made[char]
+
+    def __contains__(self, char: object) -> bool:
+        code = char if isinstance(char, int) else ord(char) if isinstance(char, str) and len(char) == 1 else None
+        return code in self.parsed().entries
+
+    def __iter__(self) -> Iterator[str]:
+        return map(chr, sorted(self.parsed().entries))
+
+    def __len__(self) -> int:
+        return len(self.parsed().entries)
+
+    def __eq__(self, other: object) -> bool:
+        return isinstance(other, Strike) and self.text == other.text
+
+    def __hash__(self) -> int:
+        return hash(self.text)
+
+    def __repr__(self) -> str:
+        return "<Strike %r, %d pixels, %d glyphs>" % (self.name, self.size, len(self))
+
+    # ---- what becomes of it
+
+    def save(self, path: str | os.PathLike[str], format: str | None = None, **options: object) -> None:
+        """Writes a file in the format that its ending says, or that is named: see `encode`. An older file stays if this fails."""
+        from . import formats
+        formats.save(self, os.fspath(path), format, options)
+
+    def encode(self, format: str, **options: object) -> bytes:
+        """The strike in another format, as bytes:
+
+        - "bdf": its text
+        - "png", "pbm": the sheet; the options are those of `sheet`
+        - "c": rows of bytes in C, every glyph in a cell; "gfx": a font for Adafruit GFX; `name` is that of the arrays
+        - "psf", "pcf", "otb": by bdf2psf, bdftopcf and fonttosfnt, which must be installed
+        """
+        from . import formats
+        return formats.encode(self, format, options)
+
+    def sheet(self, columns: int = 32, scale: int = 1) -> Image:
+        """All glyphs as a picture of Pillow, black on white, each in a cell of the strike's box."""
+        from . import picture
+        return picture.sheet(self, columns, scale)
+
+    def line(self, text: str, scale: int = 1) -> Image:
+        """A line of text as a picture of Pillow. A character that the strike does not have is an error."""
+        from . import picture
+        return picture.line(self, text, scale)
+
+    def cell(self, width: int, height: int, *, ascent: int | None = None, clip: bool = False) -> Strike:
+        """The same glyphs in a cell: each has the advance `width`, and ascent and descent together are `height`.
+
+        `ascent` says how many rows of the cell are above the baseline; without it the rows that are too many or too few are shared by
+        above and below. Glyphs keep their place from the origin. `outside` names those that leave the cell; with `clip` they lose the
+        pixels there."""
+        from . import cell
+        return cell.in_cell(self, width, height, ascent, clip)
+
+    def with_properties(self, properties: Mapping[str, bdf.Value] | None = None, *, x11: bool = False) -> Strike:
+        """The strike with more properties; with `x11` those that X11, fontconfig and bdf2psf look for, which given ones replace."""
+        given = dict(properties or {})
+        bdf.check(given)
+        text = self.parsed()
+        more = {name: value for name, value in (bdf.x11(text) if x11 else {}).items() if name not in given}
+        kept = {name: value for name, value in text.properties.items() if name not in more and name not in given}
+        return self._with(bdf.Text(text.name, text.size, text.box, text.ascent, text.descent, {**kept, **more, **given}, text.entries))
+
+    def _with(self, text: bdf.Text, outside: Mapping[str, Outside] | None = None) -> Strike:
+        """A strike of another text, with what was missing and refused here."""
+        return Strike(text.encoded(), missing=self.missing, refused=self.refused, outside=self.outside if outside is None else outside,
+                      strays=self.strays, steps=self.steps)
+
+
+if TYPE_CHECKING:
+    from .cell import Outside
