@@ -1,0 +1,102 @@
+"""Makes the page in one file, and the files of web/ that are made of others; keeps them in dist/ beside the module."""
+import base64
+import hashlib
+import json
+import os
+import re
+
+import prebuilt
+import sample_font
+import web_module
+from prebuilt import TOP, Fault
+
+WEB = os.path.join(TOP, "web")
+MODULE, PAGE = "mkstrike.wasm", "mkstrike.html"
+SHARED = ("mkstrike.js", "outputs.js", "refusals.js")  # what the page and the worker both need
+
+
+def refusals():
+    """web/refusals.js: the table of docs/REFUSALS.md."""
+    rows, before = {}, ""
+    text = prebuilt.read(os.path.join(TOP, "docs/REFUSALS.md")).decode()
+    for number, name, means, todo in re.findall(r"^\| (\d+) \| (\w+)[^|]* \| (.+?) \| (.+?) \|$", text, re.M):
+        before = before if todo == "the same" else todo
+        rows[number] = {"name": name, "means": means, "todo": before}
+    lines = ["  %s: %s," % (number, json.dumps(row, ensure_ascii=False)) for number, row in rows.items()]
+    return ("// The table of docs/REFUSALS.md, by number. Made by tools/make_web.\nexport const REFUSALS = {\n%s\n};\n" % "\n".join(lines)).encode()
+
+
+def source(name):
+    """A source of the page, as text for one file: without the words that tie modules together."""
+    text = prebuilt.read(os.path.join(WEB, name)).decode()
+    text = re.sub(r"^import [^;]*;\n", "", text, flags=re.M)
+    return re.sub(r"^export (?=const |function |async |class )", "", text, flags=re.M)
+
+
+def policy(scripts):
+    """What the page in one file may load: nothing but its own parts. So it can send nothing either."""
+    hashes = " ".join("'sha256-%s'" % base64.b64encode(hashlib.sha256(it.encode()).digest()).decode() for it in scripts)
+    return ("default-src 'none'; script-src %s 'wasm-unsafe-eval'; worker-src blob:; style-src 'unsafe-inline'; base-uri 'none'; "
+            "form-action 'none'" % hashes)
+
+
+def once(text, old, new):
+    """The text with one part replaced, which must be there once."""
+    if text.count(old) != 1:
+        raise Fault("web/index.html has %d times: %s" % (text.count(old), old))
+    return text.replace(old, new)
+
+
+def page_of(module):
+    """The page in one file, with the module in it. It depends on web/, VERSION and the module alone."""
+    text = prebuilt.read(os.path.join(WEB, "index.html")).decode()
+    shared, page, worker = "".join(map(source, SHARED)), source("page.js"), source("worker.js")
+    for it in (shared, page, worker):
+        if "</script" in it:
+            raise Fault("a script of web/ has the end of a script in it")
+    data = [("module", module), ("sample", prebuilt.read(os.path.join(WEB, "sample.ttf")))]
+    parts = ['<script id="shared">%s</script>' % shared, '<script type="text/plain" id="worker">%s</script>' % worker]
+    parts += ['<script type="text/plain" id="%s">%s</script>' % (name, base64.b64encode(it).decode()) for name, it in data]
+    parts.append('<script type="module">%s</script>' % page)
+    text = once(text, '<script type="module" src="page.js"></script>', "\n".join(parts))
+    release = prebuilt.read(os.path.join(TOP, "VERSION")).decode().strip()
+    about = "mkstrike %s; SHA-256 of the module: %s" % (release, prebuilt.sha256(module))
+    text = once(text, '<p id="versions" class="hint"></p>', '<p id="versions" class="hint">%s</p>' % about)
+    style = prebuilt.read(os.path.join(WEB, "page.css")).decode()
+    text = once(text, '<link rel="stylesheet" href="page.css">', "<style>\n%s</style>" % style)
+    return re.sub(r'(http-equiv="Content-Security-Policy" content=")[^"]*', lambda it: it.group(1) + policy([shared, page]), text).encode()
+
+
+# ---- what is kept
+
+def made_of_others():
+    """The files of web/ that are made of other files: pairs of a path and its bytes."""
+    return [(os.path.join(WEB, "refusals.js"), refusals()), (os.path.join(WEB, "sample.ttf"), sample_font.sample())]
+
+
+def put_page(module, say):
+    """Writes the files of web/ that are made, and dist/mkstrike.html."""
+    for path, data in made_of_others() + [(os.path.join(prebuilt.DIST, PAGE), None)]:
+        data = page_of(module) if data is None else data
+        if not os.path.exists(path) or prebuilt.read(path) != data:
+            prebuilt.write(path, data)
+            say("%s, %d bytes" % (prebuilt.shown(path), len(data)))
+
+
+def put(module, say):
+    """Puts the module and the page into dist/, and the module's lines into the manifest."""
+    manifest = prebuilt.read_manifest()._replace(module_sources=web_module.hash_of_sources(), module=prebuilt.sha256(module))
+    prebuilt.write(os.path.join(prebuilt.DIST, MODULE), module)
+    prebuilt.write(os.path.join(prebuilt.DIST, "manifest"), prebuilt.manifest_of(manifest))
+    say("dist/%s, %d bytes, %s" % (MODULE, len(module), manifest.module))
+    put_page(module, say)
+
+
+def faults(manifest):
+    """What is wrong with the files that are made, in lines, if dist/ has a module."""
+    found = ["%s is not what tools/make_web writes" % prebuilt.shown(path) for path, data in made_of_others() if prebuilt.read(path) != data]
+    if manifest.module_sources != web_module.hash_of_sources():
+        found.append("dist/%s is of other sources: tools/make_web makes it anew" % MODULE)
+    if prebuilt.read(os.path.join(prebuilt.DIST, PAGE)) != page_of(prebuilt.read(os.path.join(prebuilt.DIST, MODULE))):
+        found.append("dist/%s is not the page of web/ with that module: tools/make_web --page makes it anew" % PAGE)
+    return found

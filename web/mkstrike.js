@@ -1,0 +1,229 @@
+// The calls of the WebAssembly module dist/mkstrike.wasm: those of include/mkstrike.h, with JavaScript's values.
+// It runs in a page, in a worker and in Node, and reaches nothing outside the module's memory.
+
+// The structs of include/mkstrike.h, field by field; tools/check_web compares them with the header.
+export const STRUCTS = {
+  mkstrike_refused: { number: 'u32', table: 'u32', glyph: 'u32', during: 'u32', program: 'u32', opcode: 'u32', index: 'u32', code: 'u32',
+    address: 'u64' },
+  mkstrike_font_info: { ascent: 'i32', descent: 'i32', line_gap: 'i32', glyphs: 'u32' },
+  mkstrike_glyph_info: { width: 'u32', height: 'u32', left: 'i32', bottom: 'i32', stride: 'u32', dwidth: 'i32', swidth: 'i32' },
+  mkstrike_placed: { glyph: 'mkstrike_glyph_info', status: 'u32', offset: 'u64' },
+  mkstrike_drawn: { bytes: 'u64', glyphs: 'u32', missing: 'u32', refused: 'u32' },
+  mkstrike_told: { bytes: 'u64', glyphs: 'u32', missing: 'u32', strays: 'u64', steps: 'u64' },
+};
+
+export const HINTED = 0x001, DROPOUT = 0x002; // a mode: their sum, or 0
+const PACKED = 0x100; // pixels as bits, which all glyphs here have
+export const DONE = 0, MISSING = 1; // what calls return; any other number is a refusal
+export const NONE = 0xffffffff, FPGM = 0x10000, PREP = 0x10001; // in a refusal
+export const MOST_PPEM = 1024, MOST_BYTES = 67108864;
+
+// Whether this engine has WebAssembly with 64-bit memory: the head of a module with such a memory.
+export function hasMemory64() {
+  return typeof WebAssembly === 'object' && WebAssembly.validate(new Uint8Array([0, 97, 115, 109, 1, 0, 0, 0, 5, 3, 1, 4, 1]));
+}
+
+// How many fonts a file has: those of a collection, or one.
+export function facesOf(bytes) {
+  const isCollection = bytes.length >= 12 && String.fromCharCode(...bytes.subarray(0, 4)) === 'ttcf';
+  return isCollection ? new DataView(bytes.buffer, bytes.byteOffset).getUint32(8) : 1;
+}
+
+// What a refusal says, as the program's line says it after `mkstrike: `; `name` is that of its number.
+export function lineOf(refused, name) {
+  const program = (it) => (it === FPGM ? 'fpgm' : it === PREP ? 'prep' : `glyph ${it}`);
+  let line = `${refused.number} ${name}`;
+  if (refused.table) line += ` ${String.fromCharCode(...[24, 16, 8, 0].map((by) => (refused.table >>> by) & 255)).trimEnd()}`;
+  if (refused.glyph !== NONE) line += ` ${refused.glyph}`;
+  if (refused.during !== NONE) {
+    const opcode = refused.opcode.toString(16).toUpperCase().padStart(2, '0');
+    line += ` during ${program(refused.during)} in ${program(refused.program)} at ${refused.address} opcode ${opcode}`;
+  }
+  return line;
+}
+
+const BYTES = { u32: 4, i32: 4, u64: 8 };
+
+// The size of a struct, and each number in it with its offset; a struct inside another has its fields between the other's.
+function layoutOf(name) {
+  const fields = [];
+  let at = 0, widest = 1;
+  for (const [field, kind] of Object.entries(STRUCTS[name])) {
+    const inner = STRUCTS[kind] && layoutOf(kind), align = inner ? inner.align : BYTES[kind];
+    at = Math.ceil(at / align) * align;
+    if (inner) fields.push(...inner.fields.map(([of, type, offset]) => [of, type, at + offset]));
+    else fields.push([field, kind, at]);
+    at += inner ? inner.size : BYTES[kind];
+    widest = Math.max(widest, align);
+  }
+  return { fields, align: widest, size: Math.ceil(at / widest) * widest };
+}
+
+const LAYOUTS = Object.fromEntries(Object.keys(STRUCTS).map((name) => [name, layoutOf(name)]));
+
+// A module at work, with one font in its memory.
+export class Mkstrike {
+  // Of a compiled module, or the bytes of one.
+  static async open(module) {
+    const made = await WebAssembly.instantiate(module, {});
+    return new Mkstrike((made.instance ?? made).exports);
+  }
+
+  constructor(calls) {
+    this.calls = calls;
+    this.font = null;
+  }
+
+  // Takes another font, in place of the one before; of a collection the font with this index.
+  setFont(bytes, face = 0) {
+    if (this.font) this.calls.page_free(this.font.at);
+    this.font = null;
+    const at = this.room(bytes.length);
+    this.bytes(at, bytes.length).set(bytes);
+    this.font = { at, length: BigInt(bytes.length), face };
+  }
+
+  // ---- memory: addresses are BigInts, as the module's memory has 64 bits
+
+  room(size) {
+    const at = this.calls.page_alloc(BigInt(Math.max(size, 1)));
+    if (!at) throw new RangeError('out of memory');
+    return at;
+  }
+
+  // The bytes at an address, until the next call.
+  bytes(at, size) {
+    return new Uint8Array(this.calls.memory.buffer, Number(at), size);
+  }
+
+  // The font as calls take it: its bytes, and which of a collection.
+  ofFont() {
+    return [this.font.at, this.font.length, this.font.face];
+  }
+
+  // Does `work`, whose `take` gives memory for a size or with bytes in it; all is given back at the end.
+  within(work) {
+    const held = [];
+    try {
+      return work((given) => {
+        const at = this.room(typeof given === 'number' ? given : given.length);
+        held.push(at);
+        if (typeof given !== 'number') this.bytes(at, given.length).set(given);
+        return at;
+      });
+    } finally {
+      held.forEach((it) => this.calls.page_free(it));
+    }
+  }
+
+  // The struct at an address, as an object of numbers.
+  read(name, at) {
+    const view = new DataView(this.calls.memory.buffer, Number(at), LAYOUTS[name].size), made = {};
+    for (const [field, kind, offset] of LAYOUTS[name].fields) {
+      if (kind === 'u64') made[field] = Number(view.getBigUint64(offset, true));
+      else made[field] = kind === 'u32' ? view.getUint32(offset, true) : view.getInt32(offset, true);
+    }
+    return made;
+  }
+
+  size(name) {
+    return LAYOUTS[name].size;
+  }
+
+  // ---- the calls
+
+  // The name of what a call returned.
+  reason(number) {
+    return this.within((take) => {
+      const at = take(32);
+      const length = Number(this.calls.mkstrike_reason(number, at, 32n));
+      return new TextDecoder().decode(this.bytes(at, length).slice());
+    });
+  }
+
+  // The ascent, the descent and more of the font at a size; or `refused`.
+  heights(ppem) {
+    return this.within((take) => {
+      const info = take(this.size('mkstrike_font_info')), refused = take(this.size('mkstrike_refused'));
+      const status = this.calls.mkstrike_font(...this.ofFont(), ppem, info, refused);
+      return status ? { refused: this.read('mkstrike_refused', refused) } : this.read('mkstrike_font_info', info);
+    });
+  }
+
+  // The refusal of one character, or null.
+  refusalOf(ppem, mode, code) {
+    return this.within((take) => {
+      const info = take(this.size('mkstrike_glyph_info')), refused = take(this.size('mkstrike_refused'));
+      const status = this.calls.mkstrike_glyph(...this.ofFont(), ppem, mode | PACKED, code, info, 0n, info, refused);
+      return status > MISSING ? this.read('mkstrike_refused', refused) : null;
+    });
+  }
+
+  // The glyphs of characters, in one call: an entry for each, and their packed pixels. An entry has its `status`, and `refused` if its
+  // character was refused. If the call was refused the answer has `refused` in place of all. Without pixels, if `withPixels` is false, it
+  // takes half the time.
+  glyphs(ppem, mode, chars, withPixels = true) {
+    return this.within((take) => {
+      const codes = take(new Uint8Array(Uint32Array.from(chars).buffer)), count = BigInt(chars.length);
+      const entry = this.size('mkstrike_placed'), entries = take(entry * chars.length);
+      const drawn = take(this.size('mkstrike_drawn')), refused = take(this.size('mkstrike_refused'));
+      const call = (pixels, room) => this.calls.mkstrike_glyphs(...this.ofFont(), ppem, mode | PACKED, codes, count, entries, count,
+        pixels, BigInt(room), drawn, refused);
+      // room for glyphs of the size is mostly enough
+      let room = withPixels ? chars.length * Math.ceil(ppem / 8 + 1) * ppem : 0, pixels = take(room);
+      let status = call(pixels, room);
+      const due = status || !withPixels ? 0 : this.read('mkstrike_drawn', drawn).bytes;
+      if (due > room) status = call(pixels = take(due), room = due);
+      if (status) return { refused: this.read('mkstrike_refused', refused) };
+      const glyphs = Array.from(chars, (code, k) => ({ code, ...this.read('mkstrike_placed', entries + BigInt(k * entry)) }));
+      const made = { glyphs, pixels: this.bytes(pixels, due).slice() };
+      for (const it of glyphs) if (it.status > MISSING) it.refused = this.refusalOf(ppem, mode, it.code);
+      return made;
+    });
+  }
+
+  // Which of these characters the font has; or `refused`.
+  present(chars) {
+    return this.within((take) => {
+      const codes = take(new Uint8Array(Uint32Array.from(chars).buffer)), count = BigInt(chars.length);
+      const ids = take(2 * chars.length), refused = take(this.size('mkstrike_refused'));
+      const status = this.calls.mkstrike_glyph_ids(...this.ofFont(), codes, count, ids, count, refused);
+      if (status) return { refused: this.read('mkstrike_refused', refused) };
+      const found = new Uint16Array(this.calls.memory.buffer, Number(ids), chars.length);
+      return { chars: chars.filter((_, k) => found[k]) };
+    });
+  }
+
+  // The strike's text and what is told of it; or `refused`.
+  make(ppem, mode, chars, name) {
+    return this.within((take) => {
+      const codes = take(new Uint8Array(Uint32Array.from(chars).buffer)), title = new TextEncoder().encode(name), named = take(title);
+      const told = take(this.size('mkstrike_told')), refused = take(this.size('mkstrike_refused'));
+      const call = (out, room) => this.calls.mkstrike_make(...this.ofFont(), ppem, mode, codes, BigInt(chars.length), named,
+        BigInt(title.length), out, BigInt(room), told, refused);
+      let room = 4096 + chars.length * (128 + Math.ceil(ppem / 4 + 3) * ppem), out = take(room);
+      let status = call(out, room);
+      const size = status ? 0 : this.read('mkstrike_told', told).bytes;
+      if (size > room) status = call(out = take(size), room = size);
+      if (status) return { refused: this.read('mkstrike_refused', refused) };
+      return { text: this.bytes(out, size).slice(), told: this.read('mkstrike_told', told) };
+    });
+  }
+}
+
+// Whether a refusal is of no character alone, but of the font, of its programs, of the request, or of memory.
+export function isOfAll({ glyph, during }) {
+  return glyph === NONE && (during === NONE || during === FPGM || during === PREP);
+}
+
+// Runs of glyphs, one after the other, as one.
+export function joined(parts) {
+  const pixels = new Uint8Array(parts.reduce((sum, it) => sum + it.pixels.length, 0)), glyphs = [];
+  let at = 0;
+  for (const part of parts) {
+    pixels.set(part.pixels, at);
+    for (const glyph of part.glyphs) glyphs.push({ ...glyph, offset: glyph.offset + at });
+    at += part.pixels.length;
+  }
+  return { glyphs, pixels };
+}

@@ -1,0 +1,127 @@
+// Makes strikes beside the page, so that the page stays usable: it hands over jobs, and gets back glyphs part by part.
+import { Mkstrike, isOfAll, joined, DONE } from './mkstrike.js';
+import { sheetPng, sheetSize, arraysForC, boxOf } from './outputs.js';
+
+const SLICE = 25; // milliseconds of work between two looks for messages
+const MOST_SCALED = 6e7; // pixels of a sheet whose glyphs are drawn three times as large
+const CODES = 0x110000, AT_ONCE = 16384; // code points, and how many are looked up in a slice
+
+let mkstrike = null;
+// The work under way, the most urgent first: each is a generator that yields between two slices.
+const under = { draw: null, save: null, list: null };
+let isRunning = false;
+
+// Lets messages in that came meanwhile.
+const turn = new MessageChannel();
+let resume = null;
+turn.port1.onmessage = () => resume();
+const tick = () => new Promise((done) => {
+  resume = done;
+  turn.port2.postMessage(0);
+});
+
+async function run() {
+  if (isRunning) return;
+  isRunning = true;
+  try {
+    for (let kind; (kind = Object.keys(under).find((it) => under[it])); await tick()) {
+      const work = under[kind], { done } = await work.next();
+      if (done && under[kind] === work) under[kind] = null;
+    }
+  } catch (fault) {
+    under.draw = under.save = under.list = null;
+    postMessage({ kind: 'failed', text: String(fault.message ?? fault) });
+  }
+  isRunning = false;
+}
+
+// The glyphs of characters, part by part, each part in about a slice.
+function* parts(ppem, mode, chars) {
+  for (let from = 0, size = 128; from < chars.length;) {
+    const start = performance.now(), part = chars.slice(from, from + size), made = mkstrike.glyphs(ppem, mode, part);
+    const took = performance.now() - start;
+    from += part.length;
+    yield { from, ...made };
+    if (made.refused) return;
+    size = Math.min(4096, Math.max(16, Math.round((size * SLICE) / Math.max(took, 1))));
+  }
+}
+
+// The glyphs of a text's characters at a size and a mode, by code point, and the heights.
+function lookOf({ ppem, mode }, chars) {
+  const heights = mkstrike.heights(ppem);
+  if (heights.refused) return { refused: heights.refused };
+  const made = chars.length ? mkstrike.glyphs(ppem, mode, chars) : { glyphs: [], pixels: new Uint8Array(0) };
+  return { ppem, mode, heights, ...made };
+}
+
+async function* draw({ id, main, other, textChars, chars }) {
+  const start = performance.now(), told = (given) => postMessage({ id, ...given });
+  const look = lookOf(main, textChars);
+  told({ kind: 'text', main: look, other: other && lookOf(other, textChars), took: performance.now() - start });
+  yield;
+  let refused = look.refused && isOfAll(look.refused) ? look.refused : null;
+  for (const part of refused ? [] : parts(main.ppem, main.mode, chars)) {
+    refused = part.refused ?? null;
+    if (!refused) told({ kind: 'sheet', glyphs: part.glyphs, pixels: part.pixels, done: part.from, total: chars.length });
+    yield;
+  }
+  told({ kind: 'drawn', refused, took: performance.now() - start });
+}
+
+// The characters that the font has.
+async function* list({ id }) {
+  const found = [];
+  for (let first = 0; first < CODES; first += AT_ONCE) {
+    const { chars, refused } = mkstrike.present(Uint32Array.from({ length: AT_ONCE }, (_, k) => first + k));
+    if (refused) break;
+    found.push(...chars);
+    yield;
+  }
+  postMessage({ kind: 'listed', id, chars: Uint32Array.from(found) });
+}
+
+async function* save({ id, what, main, chars, name, about }) {
+  const told = (given, transfer) => postMessage({ kind: 'saved', id, what, ...given }, transfer);
+  postMessage({ kind: 'progress', id, done: 0, total: 0 });
+  yield;
+  if (what === 'bdf') {
+    const made = mkstrike.make(main.ppem, main.mode, chars, name);
+    return made.refused ? told({ refused: made.refused }) : told({ bytes: made.text }, [made.text.buffer]);
+  }
+  const all = [];
+  for (const part of parts(main.ppem, main.mode, chars)) {
+    const refused = part.refused ?? part.glyphs.find((it) => it.refused)?.refused;
+    if (refused) return told({ refused });
+    all.push(part);
+    postMessage({ kind: 'progress', id, done: part.from, total: chars.length });
+    yield;
+  }
+  const made = joined(all);
+  made.glyphs = made.glyphs.filter((it) => it.status === DONE);
+  if (what === 'c') {
+    const text = arraysForC(made, name, mkstrike.heights(main.ppem), about);
+    return told({ bytes: new TextEncoder().encode(text) });
+  }
+  const { width, height } = sheetSize(made.glyphs.length, boxOf(made.glyphs), 32, 3);
+  return told({ bytes: await sheetPng(made, width * height > MOST_SCALED ? 1 : 3) });
+}
+
+async function take(data) {
+  if (data.kind === 'open') {
+    mkstrike = await Mkstrike.open(data.module);
+  } else if (data.kind === 'font') {
+    under.draw = under.save = under.list = null;
+    mkstrike.setFont(data.bytes, data.face);
+    under.list = list(data);
+  } else {
+    under[data.kind] = { draw, save }[data.kind](data);
+    run();
+  }
+}
+
+// One after the other: the module has to be there before a font.
+let before = Promise.resolve();
+onmessage = ({ data }) => {
+  before = before.then(() => take(data)).catch((fault) => postMessage({ kind: 'failed', text: String(fault.message ?? fault) }));
+};
