@@ -2,10 +2,12 @@
 
    glyphs WAY PPEM MODE ROUNDS FONT FIRST-LAST[,FIRST-LAST ..]
 
-   WAY is one (mkstrike_glyph for each), many (mkstrike_glyphs, a byte a pixel), packed (the same, packed), numbers (the same without
-   room for pixels), strike (mkstrike_make), or freetype: FT_Load_Char with FT_LOAD_RENDER and FT_LOAD_TARGET_MONO, its interpreter 35,
-   the autohinter off. Of the characters only those that the font has are taken. In each round the font is opened once, but by `one`,
-   which opens it for each glyph. MODE is hinted, unhinted, hinted-dropout or unhinted-dropout. Prints the number of glyphs, and microseconds a glyph in the best round. */
+   WAY is one (mkstrike_glyph for each), many (mkstrike_glyphs, a byte a pixel), packed (the same, packed), line (the same, ten characters
+   a call), numbers (the same without room for pixels), strike (mkstrike_make), freetype (FT_Load_Char with FT_LOAD_RENDER and
+   FT_LOAD_TARGET_MONO, its interpreter 35, the autohinter off), or open (the same with a face that stays open). Of the characters only
+   those that the font has are taken. In each round the font is opened once; by `one` for each glyph, by `line` for each ten, by `open` only
+   in the first round. MODE is hinted, unhinted, hinted-dropout or unhinted-dropout. Prints the number of glyphs, and microseconds a glyph
+   in the best round. */
 
 #define _POSIX_C_SOURCE 200112L
 #include "mkstrike.h"
@@ -18,7 +20,7 @@
 #include <string.h>
 #include <time.h>
 
-enum { MOST = 65536 };
+enum { MOST = 65536, LINE = 10 };
 
 static uint8_t *font, *out;
 static size_t font_len, out_len;
@@ -46,9 +48,17 @@ static void read_font(const char *path) {
     fclose(file);
 }
 
-static void make_many(bool packed, size_t room) {
-    uint32_t status = mkstrike_glyphs(font, font_len, ppem, mode, chars, count, packed, placed, MOST, out, room, &drawn, &refused);
+/* The glyphs of `len` characters from the one at `from` on. */
+static void make_some(uint32_t packed, size_t room, size_t from, size_t len) {
+    uint32_t status = mkstrike_glyphs(font, font_len, 0, ppem, mode | packed, chars + from, len, placed, MOST, out, room, &drawn, &refused);
     if (status != 0) fail("mkstrike_glyphs", (long)status);
+}
+
+static void make_many(uint32_t packed, size_t room) { make_some(packed, room, 0, count); }
+
+static void make_lines(void) {
+    size_t i;
+    for (i = 0; i < count; i += LINE) make_some(MKSTRIKE_PACKED, out_len, i, count - i < LINE ? count - i : LINE);
 }
 
 /* The characters of the list that the font has. */
@@ -62,42 +72,60 @@ static void read_chars(const char *list) {
         while (low <= high) chars[count++] = (uint32_t)low++;
         list = *end == ',' ? end + 1 : end;
     }
-    make_many(false, 0);
+    make_many(0, 0);
     for (i = 0; i < count; i++)
         if (placed[i].status == MKSTRIKE_DONE) chars[kept++] = chars[i];
     count = kept;
 }
 
 static void make_each(void) {
-    struct mkstrike_glyph glyph;
+    struct mkstrike_glyph_info info;
     size_t i;
     for (i = 0; i < count; i++)
-        if (mkstrike_glyph(font, font_len, ppem, mode, chars[i], false, out, out_len, &glyph, &refused) != 0) fail("mkstrike_glyph", 0);
+        if (mkstrike_glyph(font, font_len, 0, ppem, mode, chars[i], out, out_len, &info, &refused) != 0) fail("mkstrike_glyph", 0);
 }
 
 static void make_strike(void) {
     struct mkstrike_told told;
-    if (mkstrike_make(font, font_len, ppem, mode, chars, count, "bench", 5, out, out_len, &told, &refused) != 0) fail("mkstrike_make", 0);
+    if (mkstrike_make(font, font_len, 0, ppem, mode, chars, count, "bench", 5, out, out_len, &told, &refused) != 0) fail("mkstrike_make", 0);
     if (told.bytes > out_len) fail("room", (long)told.bytes);
 }
 
-static void make_freetype(void) {
-    FT_Int32 flags = FT_LOAD_RENDER | FT_LOAD_TARGET_MONO | FT_LOAD_NO_BITMAP | FT_LOAD_NO_AUTOHINT | (mode & MKSTRIKE_HINTED ? 0 : FT_LOAD_NO_HINTING);
+static FT_Face opened(void) {
     FT_Face face;
-    size_t i;
     if (FT_New_Memory_Face(library, font, (FT_Long)font_len, 0, &face) != 0 || FT_Set_Pixel_Sizes(face, 0, ppem) != 0) fail("face", 0);
+    return face;
+}
+
+static void load_each(FT_Face face) {
+    FT_Int32 flags = FT_LOAD_RENDER | FT_LOAD_TARGET_MONO | FT_LOAD_NO_BITMAP | FT_LOAD_NO_AUTOHINT;
+    size_t i;
+    if (!(mode & MKSTRIKE_HINTED)) flags |= FT_LOAD_NO_HINTING;
     for (i = 0; i < count; i++)
         if (FT_Load_Char(face, chars[i], flags) != 0) fail("FT_Load_Char", (long)chars[i]);
+}
+
+static void make_freetype(void) {
+    FT_Face face = opened();
+    load_each(face);
     FT_Done_Face(face);
+}
+
+static void make_with_open_face(void) {
+    static FT_Face face;
+    if (face == NULL) face = opened();
+    load_each(face);
 }
 
 static void make(const char *way) {
     if (strcmp(way, "one") == 0) make_each();
-    else if (strcmp(way, "many") == 0) make_many(false, out_len);
-    else if (strcmp(way, "packed") == 0) make_many(true, out_len);
-    else if (strcmp(way, "numbers") == 0) make_many(false, 0);
+    else if (strcmp(way, "many") == 0) make_many(0, out_len);
+    else if (strcmp(way, "packed") == 0) make_many(MKSTRIKE_PACKED, out_len);
+    else if (strcmp(way, "line") == 0) make_lines();
+    else if (strcmp(way, "numbers") == 0) make_many(0, 0);
     else if (strcmp(way, "strike") == 0) make_strike();
     else if (strcmp(way, "freetype") == 0) make_freetype();
+    else if (strcmp(way, "open") == 0) make_with_open_face();
     else fail("no such way", 0);
 }
 

@@ -1,5 +1,5 @@
 # The second line on standard error: what to do after a refusal or a wrong command line, and what is missing in a strike. To be sourced by
-# bin/mkstrike, which sets `status` and `said`, the program's status and line, and `command`, `font`, `list` and `is_hex` from the
+# bin/mkstrike, which sets `program`, `status` and `said`, the program's status and line, and `command`, `font`, `list` and `is_hex` from the
 # arguments. It says only what is certain whatever the program read: each fault that it names is there.
 # shellcheck shell=sh disable=SC2154
 
@@ -32,7 +32,9 @@ explain_refusal() {
     to_do=$(advice "$number")
     case $number in
         10) to_do=$(advice_by_bytes) || to_do=$(advice 10) ;;
-        3[0-9] | 4[0-1]) to_do="with --unhinted no program of the font runs; to mend the font, $to_do" ;;
+        3[0-9] | 4[0-1]) to_do="$(advice_by_program)with --unhinted no program of the font runs; to mend the font, $to_do" ;;
+        1[7-9] | 2[0-3]) to_do="$to_do$(advice_by_command)" ;;
+        25) to_do=$(advice_by_faces) || to_do=$(advice 25) ;;
         61) to_do=$(advice_by_list "$to_do") ;;
     esac
     [ -z "$to_do" ] || say "$to_do"
@@ -41,12 +43,13 @@ explain_refusal() {
 # Prints what to do after the refusal $1, in the words of docs/REFUSALS.md.
 advice() {
     case $1 in
-        10) echo 'give a TrueType font: OTTO (CFF), ttcf (a collection) and an empty input are not read' ;;
+        10) echo 'give a TrueType font: OTTO (CFF) and an empty input are not read' ;;
         11) echo 'the font is damaged, or no TrueType font with outlines' ;;
         12) echo 'the file is cut' ;;
         13 | 14 | 16 | 24) echo 'the font is damaged' ;;
         15) echo "convert the font's map to format 4 or 12" ;;
         17 | 18 | 19 | 20 | 21 | 22 | 23) echo 'leave the characters with that glyph out' ;;
+        25) echo 'give a number below the number of faces; a file that is no collection has face 0 alone' ;;
         30) echo 'push what the instruction needs first: the stack is empty when a program begins' ;;
         31) echo 'raise maxStackElements in maxp' ;;
         32) echo 'take the instruction out, or define it by an IDEF' ;;
@@ -64,12 +67,25 @@ advice() {
         61) echo 'give hexadecimal numbers and ranges joined by commas, as 20-7e,a0' ;;
         62) echo 'give another name' ;;
         63) echo 'give another name or text, or fewer properties' ;;
+        64) echo 'give a sum of the modes of mkstrike.h' ;;
         70) echo 'make room, and run it again' ;;
         71) echo 'look at the device or pipe that the input comes from' ;;
         72) echo 'give the font itself without --hex, or its text by xxd -p' ;;
         73) echo 'no font of that size is read' ;;
         90) echo 'free memory, or ask for fewer characters or a smaller size' ;;
     esac
+}
+
+# Prints what makes a strike although a glyph's program halts.
+advice_by_program() {
+    case $command:$said in
+        make:*' during glyph '*) echo "--refused unhinted draws such characters without hinting; " ;;
+    esac
+}
+
+# Prints what leaves such characters out.
+advice_by_command() {
+    [ "$command" != make ] || echo '; --refused leave-out does so'
 }
 
 # Prints what the font's file looks like by its first bytes, and what to do. Returns 1 if it is no file, or if they say nothing.
@@ -79,7 +95,7 @@ advice_by_bytes() {
     case $first in
         '') echo 'the file is empty: give a TrueType font' ;;
         4f54544f*) echo 'the file looks like an OpenType font with CFF outlines, which is not read: give a TrueType font' ;;
-        74746366*) echo 'the file looks like a collection of fonts, which is not read: take one font out of it' ;;
+        74746366*) echo 'the file looks like a collection of fonts: it is cut, or this one is no TrueType font; --face takes another' ;;
         774f4646*) echo 'the file looks like a WOFF font, which is not read: unpack it to a .ttf file first' ;;
         774f4632*) echo 'the file looks like a WOFF2 font, which is not read: unpack it to a .ttf file first' ;;
         1f8b*) echo 'the file looks like gzip data: unpack it first, as by gunzip' ;;
@@ -88,6 +104,21 @@ advice_by_bytes() {
         5354415254464f4e*) echo 'the file looks like a BDF font, which is a bitmap font already' ;;
         00010000* | 74727565*) echo 'the file begins like a TrueType font, but is shorter than its directory: it is cut' ;;
         *) echo "$first" | grep -qE '^(3[0-9]|[46][1-6]|0[ad]|20)+$' && echo 'the file may be hexadecimal text: then add --hex' ;;
+    esac
+}
+
+# Prints which faces the font's file has, by its first bytes. Returns 1 if it is no file.
+advice_by_faces() {
+    if [ -z "$command" ] || [ "$is_hex" = 1 ] || [ ! -f /dev/stdin ]; then return 1; fi
+    first=$(od -An -v -tx1 -N 12 /dev/stdin 2>/dev/null | tr -d ' \n') || return 1
+    case $first in
+        7474636600??0000????????) faces=$((0x${first#????????????????})) ;;
+        *) echo 'the file is no collection: leave --face out' && return ;;
+    esac
+    case $faces in
+        0) echo 'the collection has no font' ;;
+        1) echo 'the collection has one font: leave --face out' ;;
+        *) echo "the collection has $faces fonts: --face takes 0 to $((faces - 1))" ;;
     esac
 }
 
@@ -139,11 +170,30 @@ explain_usage() {
     elif [ -z "$command" ]; then
         explain_command "$1"
     else
-        shift
-        wrong=$(wrong_word "$@") || wrong='the command line is wrong'
-        case $wrong in *'?') ;; *) wrong="$wrong;" ;; esac
+        explain_words "$@"
         say "$wrong 'mkstrike help $command' shows how it is written"
     fi
+}
+
+# Sets `wrong` to what is wrong first, which the program says, and to what is meant if it is near.
+explain_words() {
+    wrong=$("$program" explain "$@" </dev/null 2>/dev/null) || wrong=''
+    case $wrong in
+        '') wrong='the command line is wrong' ;;
+        "unknown option '-o'") wrong='-o takes the name of a file, and is given once' ;;
+        "unknown option '"*) wrong=$wrong$(meant_in "$wrong") ;;
+        'one word too many'*) [ -z "$font" ] || wrong="$wrong: '$font' names the font" ;;
+    esac
+    case $wrong in *'?') ;; *) wrong="$wrong;" ;; esac
+}
+
+# Prints which option may be meant by the unknown one that $1 names.
+meant_in() {
+    option=${1#*\'}
+    options=$("help_$command" | sed -n 's/^      \(--*[a-z0-9]*\) .*/\1/p')
+    # shellcheck disable=SC2086
+    meant=$(meant_by "${option%\'}" $options)
+    [ -z "$meant" ] || echo "; did you mean $meant?"
 }
 
 explain_command() {
@@ -154,33 +204,6 @@ explain_command() {
             say "unknown command '$1'; ${meant:+did you mean $meant? }'mkstrike help' lists the commands"
             ;;
     esac
-}
-
-# Prints the first word that no option is, or that lacks its value; or returns 1.
-wrong_word() {
-    options=$("help_$command" | sed -n 's/^      \(--*[a-z0-9]*\) .*/\1/p')
-    while [ $# -gt 0 ]; do
-        word=$1
-        shift
-        case $word in
-            -o) echo "-o takes the name of a file, and is given once" && return ;;
-            --ppem | --chars | --char | --name | --property | --of)
-                is_option "$word" || { unknown_option && return; }
-                case $#:${1-} in
-                    0:*) echo "$word takes a value" && return ;;
-                    *:-*) is_option "$1" && echo "$word takes a value" && return ;;
-                esac
-                case $word:$1 in
-                    --name:-* | --property:-*) echo "a value that begins with '-' is given as $word=$1" && return ;;
-                    *:-*) echo "'$1' is no value of $word" && return ;;
-                esac
-                shift
-                ;;
-            -*) is_option "${word%%=*}" || { unknown_option && return; } ;;
-            *) [ -z "$font" ] || { echo "one word too many, '$word': '$font' names the font" && return; } ;;
-        esac
-    done
-    return 1
 }
 
 is_option() {
@@ -194,18 +217,13 @@ $1
     return 1
 }
 
-unknown_option() {
-    # shellcheck disable=SC2086
-    meant=$(meant_by "${word%%=*}" $options)
-    echo "unknown option '${word%%=*}'${meant:+; did you mean $meant?}"
-}
-
 # Prints which of the other words may be meant by $1: by a usual word for it, or those with the fewest letters that differ, at most two.
 meant_by() {
     case $1 in
         --size | --px | --pixels | --pixelsize | --pixel-size | --height | -p | -s) usual=--ppem ;;
         --characters | --unicode | --range | --text | -c) usual='--chars --char' ;;
         --output | --out | --outfile | --file) usual=-o ;;
+        --index | --font-index | --fontindex | --number) usual=--face ;;
         --no-hinting | --nohinting | --no-hint) usual=--unhinted ;;
         *) usual='' ;;
     esac

@@ -17,9 +17,10 @@ print_overview() {
     cat <<END
 mkstrike makes a bitmap font (BDF 2.1) from a TrueType font.
 
-    mkstrike make --ppem N --chars LIST [--name NAME] [--property KEY=VALUE]... [--x11] [--unhinted] [--dropout] [--hex] [FONT] [-o FILE]
-    mkstrike show --ppem N --char HEX [--unhinted] [--dropout] [--hex] [FONT] [-o FILE]
-    mkstrike dump --of WHAT [--hex] [FONT] [-o FILE]
+    mkstrike make --ppem N --chars LIST [--name NAME] [--property KEY=VALUE]... [--x11] [--refused WHAT] [--unhinted] [--dropout]
+                  [--face N] [--hex] [FONT] [-o FILE]
+    mkstrike show --ppem N --char HEX [--unhinted] [--dropout] [--face N] [--hex] [FONT] [-o FILE]
+    mkstrike dump --of WHAT [--face N] [--hex] [FONT] [-o FILE]
     mkstrike help [COMMAND]
     mkstrike --version
     mkstrike
@@ -72,8 +73,11 @@ mkstrike make writes a strike: the bitmaps of characters at one size.
       --name NAME             the strike's name; one that begins with a hyphen is given as --name=-misc-..
       --property KEY=VALUE    add a property; may be given up to 64 times
       --x11                   add the properties that X11 and fontconfig look for
+      --refused WHAT          what becomes of a character that is refused: stop (the default, no strike), leave-out, or unhinted
+                              (drawn without hinting if its program halts, else left out)
       --unhinted              do not run the font's own programs
       --dropout               keep thin strokes whole
+      --face N                the font of a collection, counted from 0; without it the first
       --hex                   the font is hexadecimal text
       -o FILE                 write to FILE, which is there only if all was done; else to standard output
       FONT                    the font's file; else standard input
@@ -92,6 +96,7 @@ mkstrike show writes the picture of one character.
       --char HEX    the character, one hexadecimal number; the letter A is 41
       --unhinted    do not run the font's own programs
       --dropout     keep thin strokes whole
+      --face N      the font of a collection, counted from 0; without it the first
       --hex         the font is hexadecimal text
       -o FILE       write to FILE, which is there only if all was done; else to standard output
       FONT          the font's file; else standard input
@@ -104,9 +109,10 @@ help_dump() {
     cat <<END
 mkstrike dump lists one of the font's own programs.
 
-    mkstrike dump --of WHAT [--hex] [FONT] [-o FILE]
+    mkstrike dump --of WHAT [--face N] [--hex] [FONT] [-o FILE]
 
       --of WHAT    the program: fpgm, prep, or the number of a glyph
+      --face N     the font of a collection, counted from 0; without it the first
       --hex        the font is hexadecimal text
       -o FILE      write to FILE, which is there only if all was done; else to standard output
       FONT         the font's file; else standard input

@@ -1,7 +1,7 @@
 /* The memory of libmkstrike_c.a from one block of the caller's, without a C library. Link this file or heap.c, not both.
  *
- * Blocks are powers of two, with a list of free ones for each size, so that each request takes a bounded number of steps, and what a call
- * gave back serves the next. For one thread at a time. With -DMKSTRIKE_BARE there are memcpy, memmove and memset too, which compilers call
+ * Pieces are powers of two, with a list of free ones for each size, so that each request takes a bounded number of steps. Once the last
+ * piece is given back, as at the end of each call, the block is whole again. For one thread at a time. With -DMKSTRIKE_BARE there are memcpy, memmove and memset too, which compilers call
  * and a machine without a C library lacks. */
 #include "arena.h"
 #include <stdint.h>
@@ -12,7 +12,7 @@ struct given {
     void *at;
 };
 
-/* The head of a block: its size as a power of two, and the next free one of that size. */
+/* The head of a piece: its size as a power of two, and the next free one of that size. */
 union head {
     struct {
         size_t log;
@@ -25,7 +25,7 @@ enum { LEAST = 5, SIZES = 40 };
 
 static unsigned char nothing[16];
 static unsigned char *block;
-static size_t block_size, used;
+static size_t block_size, used, most, live; /* bytes handed out at once, the most so far, and pieces not given back */
 static union head *freed[SIZES];
 
 #ifdef __cplusplus
@@ -38,15 +38,22 @@ void rattle_dealloc(void *at);
 }
 #endif
 
-void mkstrike_arena(void *at, size_t size) {
-    size_t i, skip = (size_t)(-(uintptr_t)at & 15);
-    block = (unsigned char *)at + (skip < size ? skip : size);
-    block_size = skip < size ? size - skip : 0;
+/* Makes the block whole: no piece of it is in use. */
+static void begin(void) {
+    size_t i;
     used = 0;
     for (i = 0; i < SIZES; i++) freed[i] = NULL;
 }
 
-size_t mkstrike_arena_used(void) { return used; }
+void mkstrike_arena(void *at, size_t size) {
+    size_t skip = (size_t)(-(uintptr_t)at & 15);
+    block = (unsigned char *)at + (skip < size ? skip : size);
+    block_size = skip < size ? size - skip : 0;
+    most = live = 0;
+    begin();
+}
+
+size_t mkstrike_arena_used(void) { return most; }
 
 static struct given given(union head *it) {
     struct given answer;
@@ -64,11 +71,14 @@ struct given rattle_alloc(size_t size, size_t align) {
     it = freed[log];
     if (it != NULL) {
         freed[log] = it->is.next;
+        live++;
         return given(it);
     }
     if (((size_t)1 << log) > block_size - used) return given(NULL);
     it = (union head *)(void *)(block + used);
     used += (size_t)1 << log;
+    if (used > most) most = used;
+    live++;
     it->is.log = log;
     return given(it);
 }
@@ -77,6 +87,7 @@ void rattle_dealloc(void *at) {
     union head *it = (union head *)at - 1;
     it->is.next = freed[it->is.log];
     freed[it->is.log] = it;
+    if (--live == 0) begin();
 }
 
 struct given rattle_realloc(void *at, size_t kept, size_t size, size_t align) {

@@ -1,9 +1,11 @@
 /* console FONT PPEM TEXT > line.pbm
  *
- * Draws a line of UTF-8 into a frame buffer of one bit a pixel, as a text console does, and writes it as a picture in PBM. The memory is
- * one block: no malloc, so this is also how a boot loader or firmware uses the library.
+ * Draws a line of UTF-8 into a frame buffer of one bit a pixel, as a text console does, and writes it as a picture in PBM. A character that
+ * the font does not have, or that is refused, is a box. The memory is one block: no malloc, so this is also how a boot loader or firmware
+ * uses the library.
  *
- * cc -Iinclude -Ic examples/console.c c/arena.c libmkstrike_c.a -o console */
+ * cc -I/usr/share/mkstrike console.c /usr/share/mkstrike/arena.c -lmkstrike_c -o console
+ * In a checkout: cc -Iinclude -Ic examples/console.c c/arena.c dist/libmkstrike_c.a -o console */
 #include "arena.h"
 #include "mkstrike.h"
 #include <stdio.h>
@@ -31,62 +33,67 @@ static uint32_t next_code(const char **text) {
     return code;
 }
 
-/* Sets the pixels of a glyph whose origin is at a column and a row of the frame, counted from the top; what lies outside is left out. */
-static void draw(const struct mkstrike_placed *placed, int32_t column, int32_t base) {
-    const struct mkstrike_glyph *g = &placed->glyph;
-    const uint8_t *rows = pixels + placed->offset;
-    int32_t top = base - g->bottom - (int32_t)g->height, x, y, i, j;
-    for (i = 0; i < (int32_t)g->height; i++)
-        for (j = 0; j < (int32_t)g->width; j++) {
-            x = column + g->left + j;
-            y = top + i;
-            if (x < 0 || x >= WIDTH || y < 0 || y >= HEIGHT) continue;
-            if (rows[(uint32_t)i * g->stride + (uint32_t)j / 8] >> (7 - j % 8) & 1) frame[y * ROW + x / 8] |= (uint8_t)(0x80 >> x % 8);
-        }
+/* Sets a pixel of the frame, of which rows are counted from the top; one outside is left out. */
+static void set(int32_t x, int32_t y) {
+    if (x >= 0 && x < WIDTH && y >= 0 && y < HEIGHT) frame[y * ROW + x / 8] |= (uint8_t)(0x80 >> x % 8);
 }
 
-/* Makes the characters of a line in one call. Those that the font lacks become U+FFFD, and if it lacks that, question marks. */
-static uint32_t make_line(size_t font_len, uint16_t ppem, size_t count, struct mkstrike_refused *why) {
-    static const uint32_t others[] = {0xFFFD, '?'};
-    struct mkstrike_drawn drawn;
-    uint32_t status;
-    size_t i, other;
-    for (other = 0;; other++) {
-        status = mkstrike_glyphs(font, font_len, ppem, MKSTRIKE_HINTED, codes, count, true, glyphs, MOST, pixels, sizeof pixels, &drawn, why);
-        if (status != MKSTRIKE_DONE || drawn.missing == 0 || other == 2) return status;
-        for (i = 0; i < count; i++)
-            if (glyphs[i].status == MKSTRIKE_MISSING) codes[i] = others[other];
-    }
+/* Sets the pixels of a glyph whose origin is at a column and a row of the frame. */
+static void draw(const struct mkstrike_placed *placed, int32_t column, int32_t base) {
+    const struct mkstrike_glyph_info *g = &placed->glyph;
+    const uint8_t *rows = pixels + placed->offset;
+    int32_t top = base - g->bottom - (int32_t)g->height, i, j;
+    for (i = 0; i < (int32_t)g->height; i++)
+        for (j = 0; j < (int32_t)g->width; j++)
+            if (rows[(uint32_t)i * g->stride + (uint32_t)j / 8] >> (7 - j % 8) & 1) set(column + g->left + j, top + i);
+}
+
+/* Draws a box above the baseline; returns its advance. */
+static int32_t draw_box(int32_t column, int32_t base, int32_t ppem) {
+    int32_t width = ppem / 2 + 1, height = ppem * 3 / 4, i;
+    for (i = 0; i < width; i++) set(column + 1 + i, base - 1), set(column + 1 + i, base - height);
+    for (i = 1; i < height; i++) set(column + 1, base - i), set(column + width, base - i);
+    return width + 2;
+}
+
+static int refused(const struct mkstrike_refused *why) {
+    char name[24];
+    mkstrike_reason(why->number, name, sizeof name);
+    fprintf(stderr, "refused: %u %s", (unsigned)why->number, name);
+    if (why->code != MKSTRIKE_NONE) fprintf(stderr, " U+%04X", (unsigned)why->code);
+    fputc('\n', stderr);
+    return 1;
 }
 
 int main(int argc, char **argv) {
     struct mkstrike_refused why;
-    struct mkstrike_heights heights;
+    struct mkstrike_font_info info;
+    struct mkstrike_drawn drawn;
     uint16_t ppem = (uint16_t)(argc == 4 ? atoi(argv[2]) : 0);
     FILE *file = argc == 4 ? fopen(argv[1], "rb") : NULL;
     const char *text = argc == 4 ? argv[3] : "";
     size_t len = file != NULL ? fread(font, 1, sizeof font, file) : 0, count = 0, i;
     int32_t column = 0, rows, row;
-    uint32_t status;
-    char name[24];
+    uint32_t mode = MKSTRIKE_HINTED | MKSTRIKE_PACKED;
     if (file == NULL) return 2;
     fclose(file);
     mkstrike_arena(block, sizeof block);
-    status = mkstrike_heights(font, len, ppem, &heights, &why);
     while (*text != 0 && count < MOST) codes[count++] = next_code(&text);
-    if (status == MKSTRIKE_DONE) status = make_line(len, ppem, count, &why);
-    if (status != MKSTRIKE_DONE) {
-        mkstrike_reason(status, name, sizeof name);
-        fprintf(stderr, "refused: %u %s\n", (unsigned)status, name);
-        return 1;
-    }
+    if (mkstrike_font(font, len, 0, ppem, &info, &why) != MKSTRIKE_DONE) return refused(&why);
+    if (mkstrike_glyphs(font, len, 0, ppem, mode, codes, count, glyphs, MOST, pixels, sizeof pixels, &drawn, &why) != MKSTRIKE_DONE)
+        return refused(&why);
+    if (drawn.refused != 0) refused(&why); /* the first of them; the others are drawn */
     for (i = 0; i < count && column < WIDTH; i++) {
-        const struct mkstrike_glyph *g = &glyphs[i].glyph;
-        if (glyphs[i].offset + (size_t)g->stride * g->height <= sizeof pixels) draw(glyphs + i, column, heights.ascent);
+        const struct mkstrike_glyph_info *g = &glyphs[i].glyph;
+        if (glyphs[i].status != MKSTRIKE_DONE) {
+            column += draw_box(column, info.ascent, ppem);
+            continue;
+        }
+        if (glyphs[i].offset + (size_t)g->stride * g->height <= sizeof pixels) draw(glyphs + i, column, info.ascent);
         if (g->dwidth > 0) column += g->dwidth; /* a font may say anything */
     }
     if (column > WIDTH) column = WIDTH;
-    rows = heights.ascent + heights.descent;
+    rows = info.ascent + info.descent;
     rows = rows < 0 ? 0 : rows > HEIGHT ? HEIGHT : rows;
     printf("P4\n%d %d\n", (int)column, (int)rows);
     for (row = 0; row < rows; row++) fwrite(frame + row * ROW, 1, (size_t)(column + 7) / 8, stdout);

@@ -1,28 +1,30 @@
 #!/usr/bin/env python3
 """Glyphs of a font from Python, by ctypes, through a shared object.
 
-    cc -shared -fPIC -o libmkstrike.so c/heap.c -Wl,--whole-archive libmkstrike_c.a -Wl,--no-whole-archive
-    examples/glyphs.py ./libmkstrike.so FONT PPEM TEXT
+    python3 glyphs.py libmkstrike.so.1 FONT PPEM TEXT
 
-prints the text as a picture, a character after the other.
+prints the text as a picture, a character after the other. docs/LIBRARY.md says how to make the shared object in a checkout:
+
+    In a checkout: python3 examples/glyphs.py ./libmkstrike.so.1 FONT PPEM TEXT
 """
 import ctypes
 import sys
-from ctypes import POINTER, byref, c_bool, c_char_p, c_int32, c_size_t, c_uint16, c_uint32, c_uint64
+from ctypes import POINTER, byref, c_char_p, c_int32, c_size_t, c_uint16, c_uint32, c_uint64
 
 DONE, MISSING = 0, 1
-HINTED, DROPOUT = 1, 2  # the bits of a mode
+HINTED, DROPOUT, PACKED = 1, 2, 256  # the bits of a mode
 
 
 class Refused(ctypes.Structure):
-    _fields_ = [(name, c_uint32) for name in ("number", "table", "glyph", "during", "program", "opcode")] + [("address", c_uint64)]
+    _fields_ = [(name, c_uint32) for name in ("number", "table", "glyph", "during", "program", "opcode", "index", "code")] + [
+        ("address", c_uint64)]
 
 
-class Heights(ctypes.Structure):
-    _fields_ = [("ascent", c_int32), ("descent", c_int32)]
+class FontInfo(ctypes.Structure):
+    _fields_ = [("ascent", c_int32), ("descent", c_int32), ("line_gap", c_int32), ("glyphs", c_uint32)]
 
 
-class Glyph(ctypes.Structure):
+class GlyphInfo(ctypes.Structure):
     _fields_ = [("width", c_uint32), ("height", c_uint32), ("left", c_int32), ("bottom", c_int32), ("stride", c_uint32),
                 ("dwidth", c_int32), ("swidth", c_int32)]
 
@@ -44,24 +46,24 @@ class Library:
         self.c = ctypes.CDLL(path)
         self.c.mkstrike_reason.argtypes = [c_uint32, c_char_p, c_size_t]
         self.c.mkstrike_reason.restype = c_size_t
-        self.c.mkstrike_heights.argtypes = [c_char_p, c_size_t, c_uint16, POINTER(Heights), POINTER(Refused)]
-        self.c.mkstrike_heights.restype = c_uint32
-        self.c.mkstrike_glyph.argtypes = [c_char_p, c_size_t, c_uint16, c_uint32, c_uint32, c_bool, c_char_p, c_size_t, POINTER(Glyph),
-                                          POINTER(Refused)]
+        self.c.mkstrike_font.argtypes = [c_char_p, c_size_t, c_uint32, c_uint16, POINTER(FontInfo), POINTER(Refused)]
+        self.c.mkstrike_font.restype = c_uint32
+        self.c.mkstrike_glyph.argtypes = [c_char_p, c_size_t, c_uint32, c_uint16, c_uint32, c_uint32, c_char_p, c_size_t,
+                                          POINTER(GlyphInfo), POINTER(Refused)]
         self.c.mkstrike_glyph.restype = c_uint32
 
-    def heights(self, font, ppem):
-        """The ascent and the descent of a font in pixels."""
-        heights, refused = Heights(), Refused()
-        if self.c.mkstrike_heights(font, len(font), ppem, byref(heights), byref(refused)) != DONE:
+    def font(self, font, ppem, face=0):
+        """What a font is at a size: its heights in pixels, and how many glyphs it has."""
+        info, refused = FontInfo(), Refused()
+        if self.c.mkstrike_font(font, len(font), face, ppem, byref(info), byref(refused)) != DONE:
             raise Refusal(self.c, refused)
-        return heights
+        return info
 
-    def glyph(self, font, ppem, code, mode=HINTED):
+    def glyph(self, font, ppem, code, mode=HINTED, face=0):
         """The numbers of a character's glyph and its rows from the top, a byte a pixel; None if the font lacks it."""
-        glyph, refused, room = Glyph(), Refused(), ctypes.create_string_buffer(4096)
+        glyph, refused, room = GlyphInfo(), Refused(), ctypes.create_string_buffer(4096)
         for _ in range(2):
-            status = self.c.mkstrike_glyph(font, len(font), ppem, mode, code, False, room, len(room), byref(glyph), byref(refused))
+            status = self.c.mkstrike_glyph(font, len(font), face, ppem, mode, code, room, len(room), byref(glyph), byref(refused))
             if status == MISSING:
                 return None
             if status != DONE:
@@ -76,8 +78,8 @@ class Library:
 def main():
     path, font, ppem, text = sys.argv[1], open(sys.argv[2], "rb").read(), int(sys.argv[3]), sys.argv[4]
     library = Library(path)
-    heights = library.heights(font, ppem)
-    print("heights %d %d" % (heights.ascent, heights.descent))
+    info = library.font(font, ppem)
+    print("ascent %d descent %d line gap %d glyphs %d" % (info.ascent, info.descent, info.line_gap, info.glyphs))
     for character in text:
         shown = library.glyph(font, ppem, ord(character))
         print("U+%04X %s" % (ord(character), "missing" if shown is None else "advance %d" % shown[0].dwidth))

@@ -1,6 +1,7 @@
 //! Glyphs of a font from Rust, behind a safe wrapper.
 //!
-//! rustc -O examples/glyphs.rs -C link-arg=heap.o -C link-arg=libmkstrike_c.a && ./glyphs FONT PPEM TEXT
+//! rustc -O glyphs.rs -lmkstrike && ./glyphs FONT PPEM TEXT
+//! In a checkout: rustc -O examples/glyphs.rs -L. -lmkstrike && ./glyphs FONT PPEM TEXT
 
 mod sys {
     #[repr(C)]
@@ -12,12 +13,14 @@ mod sys {
         pub during: u32,
         pub program: u32,
         pub opcode: u32,
+        pub index: u32,
+        pub code: u32,
         pub address: u64,
     }
 
     #[repr(C)]
     #[derive(Clone, Copy, Debug, Default)]
-    pub struct Glyph {
+    pub struct GlyphInfo {
         pub width: u32,
         pub height: u32,
         pub left: i32,
@@ -30,15 +33,16 @@ mod sys {
     extern "C" {
         pub fn mkstrike_reason(number: u32, text: *mut u8, text_len: usize) -> usize;
         pub fn mkstrike_glyph(
-            font: *const u8, font_len: usize, ppem: u16, mode: u32, code: u32, packed: bool,
-            pixels: *mut u8, pixels_len: usize, glyph: *mut Glyph, refused: *mut Refused,
+            font: *const u8, font_len: usize, face: u32, ppem: u16, mode: u32, code: u32,
+            pixels: *mut u8, pixels_len: usize, info: *mut GlyphInfo, refused: *mut Refused,
         ) -> u32;
     }
 }
 
-pub use sys::{Glyph, Refused};
+pub use sys::{GlyphInfo, Refused};
 
-/// Bits of a mode: the font's programs run; drop-out control is on.
+/// Bits of a mode: the font's programs run; drop-out control is on. Pixels are a byte each here, so that the bit for packed ones is not
+/// for callers.
 pub const HINTED: u32 = 1;
 pub const DROPOUT: u32 = 2;
 
@@ -51,13 +55,13 @@ pub fn reason(number: u32) -> String {
 }
 
 /// The numbers of a character's glyph, and its pixels row by row from the top, a byte each; none if the font lacks it.
-pub fn glyph(font: &[u8], ppem: u16, mode: u32, code: u32) -> Result<Option<(Glyph, Vec<u8>)>, Refused> {
-    let (mut glyph, mut refused, mut pixels) = (Glyph::default(), Refused::default(), vec![0; 4096]);
+pub fn glyph(font: &[u8], ppem: u16, mode: u32, code: u32) -> Result<Option<(GlyphInfo, Vec<u8>)>, Refused> {
+    let (mut glyph, mut refused, mut pixels) = (GlyphInfo::default(), Refused::default(), vec![0; 4096]);
     loop {
-        // A slice's pointer is never null; the buffers are apart, as each is borrowed alone, and as long as is said; a `bool` is 0 or 1.
+        // A slice's pointer is never null; the buffers are apart, as each is borrowed alone, and as long as is said.
         let status = unsafe {
-            sys::mkstrike_glyph(font.as_ptr(), font.len(), ppem, mode, code, false, pixels.as_mut_ptr(), pixels.len(),
-                &mut glyph, &mut refused)
+            sys::mkstrike_glyph(font.as_ptr(), font.len(), 0, ppem, mode, code, pixels.as_mut_ptr(), pixels.len(), &mut glyph,
+                &mut refused)
         };
         let size = glyph.stride as usize * glyph.height as usize;
         match status {

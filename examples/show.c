@@ -1,7 +1,8 @@
 /* show FONT PPEM HEX          the picture of a character, and its numbers
  * show FONT PPEM FIRST-LAST   a strike of those characters, to standard output
  *
- * cc -Iinclude examples/show.c c/heap.c libmkstrike_c.a -o show */
+ * cc show.c $(pkg-config --cflags --libs mkstrike) -o show
+ * In a checkout: cc -Iinclude examples/show.c c/heap.c dist/libmkstrike_c.a -o show */
 #include "mkstrike.h"
 #include <stdio.h>
 #include <stdlib.h>
@@ -31,34 +32,35 @@ static uint32_t strike(const uint8_t *font, size_t len, uint16_t ppem, uint32_t 
     uint32_t count = last - first + 1, i, status;
     uint32_t *chars = (uint32_t *)malloc(count * sizeof *chars);
     struct mkstrike_told told;
-    uint8_t none[1], *text = none;
+    uint8_t *text = NULL;
     size_t room = 0;
     if (chars == NULL) return MKSTRIKE_OUT_OF_MEMORY;
     for (i = 0; i < count; i++) chars[i] = first + i;
-    status = mkstrike_make(font, len, ppem, MKSTRIKE_HINTED, chars, count, "strike", 6, none, 0, &told, &why);
+    status = mkstrike_make(font, len, 0, ppem, MKSTRIKE_HINTED, chars, count, "strike", 6, NULL, 0, &told, &why);
     if (status == MKSTRIKE_DONE) {
         room = told.bytes;
         text = (uint8_t *)malloc(room);
         status = MKSTRIKE_OUT_OF_MEMORY;
-        if (text != NULL) status = mkstrike_make(font, len, ppem, MKSTRIKE_HINTED, chars, count, "strike", 6, text, room, &told, &why);
+        if (text != NULL)
+            status = mkstrike_make(font, len, 0, ppem, MKSTRIKE_HINTED, chars, count, "strike", 6, text, room, &told, &why);
     }
     if (status == MKSTRIKE_DONE) {
         fwrite(text, 1, room, stdout);
         fprintf(stderr, "glyphs %u missing %u\n", (unsigned)told.glyphs, (unsigned)told.missing);
     }
-    if (text != none) free(text);
+    free(text);
     free(chars);
     return status;
 }
 
 static uint32_t picture(const uint8_t *font, size_t len, uint16_t ppem, uint32_t code) {
-    struct mkstrike_glyph g;
-    uint8_t none[1], *pixels;
-    uint32_t i, j, status = mkstrike_glyph(font, len, ppem, MKSTRIKE_HINTED, code, false, none, 0, &g, &why);
+    struct mkstrike_glyph_info g;
+    uint8_t *pixels;
+    uint32_t i, j, status = mkstrike_glyph(font, len, 0, ppem, MKSTRIKE_HINTED, code, NULL, 0, &g, &why);
     if (status != MKSTRIKE_DONE) return status;
     pixels = (uint8_t *)malloc((size_t)g.stride * g.height + 1);
     if (pixels == NULL) return MKSTRIKE_OUT_OF_MEMORY;
-    status = mkstrike_glyph(font, len, ppem, MKSTRIKE_HINTED, code, false, pixels, (size_t)g.stride * g.height, &g, &why);
+    status = mkstrike_glyph(font, len, 0, ppem, MKSTRIKE_HINTED, code, pixels, (size_t)g.stride * g.height, &g, &why);
     for (i = 0; status == MKSTRIKE_DONE && i < g.height; i++) {
         for (j = 0; j < g.width; j++) putchar(pixels[i * g.stride + j] ? '#' : '.');
         putchar('\n');

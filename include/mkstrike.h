@@ -5,35 +5,46 @@
  * opens no file and prints nothing. docs/LIBRARY.md has the memory, the stack and the time that calls take.
  *
  * Units. A size is in pixels per em. Pixels are counted from the origin on the baseline, columns to the right, rows upwards; row 0 lies
- * above the baseline. A font is the bytes of its file. A character is a code point of Unicode.
+ * above the baseline. A font is the bytes of its file, and `face` says which font of a collection: 0 is the first, and the only one of a
+ * file that is no collection. A character is a code point of Unicode, a glyph a number of the font.
  *
  * Errors. A call returns 0 when it is done, or a number that never changes its meaning (docs/REFUSALS.md; MKSTRIKE_ below). A refused
- * call writes the fields of the refusal and nothing else. A call that is done writes no refusal.
+ * call writes the fields of the refusal and nothing else. A call that is done writes no refusal; mkstrike_glyphs alone then writes that of
+ * the first refused character, if there is one.
  *
  * Sizes. A call that makes a text or pixels tells how many bytes these have, even if your buffer is too small. So you can ask for the
  * size with a buffer of 0 bytes, as with snprintf.
  *
+ * NULL. A buffer with a count of 0 may be NULL. A struct that you don't want to be written may be NULL, such as `refused`. The functions
+ * at the end of this header see to it. They are for C and C++: a program that calls the symbols of the library by itself, from another
+ * language, must not hand over NULL.
+ *
+ * What is promised. Numbers keep their meaning. The structs keep their size and their fields, and the calls their parameters, as long as
+ * MKSTRIKE_ABI is the same. It is also the number in the shared object's name, libmkstrike.so.1. A release can add calls.
+ *
  * What is trusted. The proofs say what each call does for all bytes, sizes and characters (docs/PROVED.md). The calls take this as given,
  * and nothing checks it:
- *   - no pointer is null, even if its count is 0: pass the address of anything;
- *   - each pointer has as many elements behind it as its count says, and nobody changes them during the call;
+ *   - each pointer has as many elements behind it as its count says, aligned, and nobody changes them during the call;
  *   - what a call writes to overlaps nothing else that the call is handed;
- *   - a bool is 0 or 1;
- *   - there is stack enough: 64 KiB per thread is more than twice what calls were seen to take;
+ *   - there is stack enough (docs/LIBRARY.md);
  *   - the processor has the instructions of x86-64-v2 (SSE4.2, POPCNT; from 2009 on): the calls do not look.
  *
- * Linking. libmkstrike_c.a and one of c/heap.c (malloc, realloc and free of the C library) and c/arena.c (a block that you hand over, no
- * C library). Beside these the archive needs memcpy, memmove and memset, and __udivti3 of the compiler's own library (libgcc). */
+ * Linking. libmkstrike.a or the shared object, which take memory by malloc; or libmkstrike_c.a with c/arena.c (a block that you hand over,
+ * no C library) or c/heap.c. Beside these the archive needs memcpy, memmove and memset, and __udivti3 of the compiler's own library
+ * (libgcc). */
 #ifndef MKSTRIKE_H
 #define MKSTRIKE_H
 
-#include <stdbool.h>
 #include <stddef.h>
 #include <stdint.h>
 
 #ifdef __cplusplus
 extern "C" {
 #endif
+
+/* The release, by its day; and the number that changes when structs or calls do. */
+#define MKSTRIKE_VERSION UINT32_C(20261125)
+#define MKSTRIKE_ABI UINT32_C(1)
 
 /* What a call returns. */
 enum {
@@ -59,6 +70,8 @@ enum {
     MKSTRIKE_BAD_POINT_MATCH = 23,
     MKSTRIKE_BAD_GLYPH_NUMBER = 24,
 
+    MKSTRIKE_NO_FACE = 25, /* the file has no such font */
+
     /* a program of the font halted: the fields `during`, `program`, `address`, `opcode` */
     MKSTRIKE_STACK_UNDER = 30,
     MKSTRIKE_STACK_OVER = 31,
@@ -82,47 +95,62 @@ enum {
     MKSTRIKE_BAD_CHARS = 61,
     MKSTRIKE_BAD_NAME = 62,
     MKSTRIKE_BAD_PROPERTY = 63, /* no call gives it: a strike made here has no properties of its own */
+    MKSTRIKE_BAD_MODE = 64,     /* a bit of the mode that the call does not know */
 
     MKSTRIKE_OUT_OF_MEMORY = 90
 };
 
-/* How outlines become pixels, a mode: 0, one of these, or their sum. Hinted, the font's programs run. With drop-out control thin strokes
- * stay whole: if the outline passes between the centres of two neighbours in a row or a column and neither is set, the left one, or the
- * lower one, is. Other bits are ignored. */
-#define MKSTRIKE_HINTED UINT32_C(1)
-#define MKSTRIKE_DROPOUT UINT32_C(2)
+/* A mode: 0, or a sum of these. Hinted, the font's programs run. With drop-out control thin strokes stay whole: if the outline passes
+ * between the centres of two neighbours in a row or a column and neither is set, the left one, or the lower one, is. Packed, a pixel is
+ * a bit, the leftmost the highest of its byte, and a row takes whole bytes, the last filled up with 0; not packed, a pixel is a byte, 255
+ * if it is set and 0 if not. All other bits, and MKSTRIKE_PACKED for mkstrike_make, are refused by MKSTRIKE_BAD_MODE, before all else. */
+#define MKSTRIKE_HINTED UINT32_C(0x001)
+#define MKSTRIKE_DROPOUT UINT32_C(0x002)
+#define MKSTRIKE_PACKED UINT32_C(0x100)
 
-/* In a refusal: no glyph, no program; the font's two programs that belong to no glyph. */
+/* In a refusal: no glyph, no program, no character; the font's two programs that belong to no glyph. */
 #define MKSTRIKE_NONE UINT32_C(0xFFFFFFFF)
 #define MKSTRIKE_FPGM UINT32_C(0x10000)
 #define MKSTRIKE_PREP UINT32_C(0x10001)
 
-/* Why a call was refused, and where. */
+/* Why a call was refused, and where; or the first of many characters that was. */
 struct mkstrike_refused {
-    uint32_t number;  /* what the call returned */
+    uint32_t number;  /* what the call returned, or the status of the character */
     uint32_t table;   /* the tag of the table that is missing or short, its first byte the highest; else 0 */
     uint32_t glyph;   /* the glyph at fault; else MKSTRIKE_NONE */
     uint32_t during;  /* a program halted: the one that was started, a glyph's number, MKSTRIKE_FPGM or MKSTRIKE_PREP; else MKSTRIKE_NONE */
     uint32_t program; /* and the one whose bytes hold the instruction */
     uint32_t opcode;  /* that instruction, 0 past the program's end; else 0 */
-    uint64_t address; /* where it is in those bytes; else 0 */
+    uint32_t index;   /* of many characters, the first that was refused, counted from 0; else MKSTRIKE_NONE */
+    uint32_t code;    /* and its code point, or its glyph's number; else MKSTRIKE_NONE */
+    uint64_t address; /* where the instruction is in the program's bytes; else 0 */
 };
+
+/* The release of the library that was linked: MKSTRIKE_VERSION of its header. */
+uint32_t mkstrike_version(void);
 
 /* Writes the name of a number that a call returned to `text`: as much of it as fits before a 0, and that 0. If `text_len` is 0, it
  * writes nothing. Returns the length of the whole name without the 0, at most 20. Numbers that no call returns are "Unknown". */
 size_t mkstrike_reason(uint32_t number, char *text, size_t text_len);
 
-/* The heights of a font. */
-struct mkstrike_heights {
+/* A font at a size. */
+struct mkstrike_font_info {
     int32_t ascent, descent; /* in pixels; the descent is positive below the baseline */
+    int32_t line_gap;        /* in pixels: the font asks for so many more between two lines */
+    uint32_t glyphs;         /* how many glyphs it has, at most 65,535 */
 };
 
-/* Tells the heights of a font at a size of 1 to 1,024. */
-uint32_t mkstrike_heights(const uint8_t *font, size_t font_len, uint16_t ppem, struct mkstrike_heights *heights,
+/* Tells about a font at a size of 1 to 1,024. */
+uint32_t mkstrike_font(const uint8_t *font, size_t font_len, uint32_t face, uint16_t ppem, struct mkstrike_font_info *info,
     struct mkstrike_refused *refused);
 
+/* Tells the glyphs of characters: as many of their numbers as fit go to the front of `glyphs`, in the order given, and what lies after
+ * them stays as it was. A character that the font does not have has the number 0. `chars` are at most 65,536 code points. */
+uint32_t mkstrike_glyph_ids(const uint8_t *font, size_t font_len, uint32_t face, const uint32_t *chars, size_t chars_len, uint16_t *glyphs,
+    size_t glyphs_len, struct mkstrike_refused *refused);
+
 /* The numbers of a glyph. */
-struct mkstrike_glyph {
+struct mkstrike_glyph_info {
     uint32_t width, height; /* of the least box that holds every set pixel; 0 and 0 if no pixel is set */
     int32_t left, bottom;   /* the column and the row of the box's lower left pixel */
     uint32_t stride;        /* the bytes of a row: width, or if packed (width + 7) / 8; stride * height is the size of all pixels */
@@ -130,26 +158,31 @@ struct mkstrike_glyph {
 };
 
 /* Makes the glyph of one character at a size of 1 to 1,024. It writes its numbers and, if `pixels` has room for all of them, its pixels,
- * row by row from the top. Not packed, a pixel is a byte, 255 if it is set and 0 if not. Packed, it is a bit, the leftmost the highest of
- * its byte, and a row takes whole bytes, the last filled up with 0. `mode` is MKSTRIKE_HINTED, MKSTRIKE_DROPOUT, their sum, or 0.
+ * row by row from the top, in the form that the mode says.
  *
  * Returns MKSTRIKE_MISSING and writes nothing if the font does not have the character. A call opens the font and, if hinted, runs its
  * `fpgm` and `prep` again: for many characters at once there is mkstrike_glyphs. */
-uint32_t mkstrike_glyph(const uint8_t *font, size_t font_len, uint16_t ppem, uint32_t mode, uint32_t code, bool packed, uint8_t *pixels,
-    size_t pixels_len, struct mkstrike_glyph *glyph, struct mkstrike_refused *refused);
+uint32_t mkstrike_glyph(const uint8_t *font, size_t font_len, uint32_t face, uint16_t ppem, uint32_t mode, uint32_t code, uint8_t *pixels,
+    size_t pixels_len, struct mkstrike_glyph_info *info, struct mkstrike_refused *refused);
+
+/* The same of a glyph by its number. Glyph 0 is the font's box for characters that it does not have. A number that the font does not have
+ * is refused by MKSTRIKE_BAD_GLYPH_NUMBER. */
+uint32_t mkstrike_glyph_by_id(const uint8_t *font, size_t font_len, uint32_t face, uint16_t ppem, uint32_t mode, uint32_t glyph,
+    uint8_t *pixels, size_t pixels_len, struct mkstrike_glyph_info *info, struct mkstrike_refused *refused);
 
 /* One of many characters. */
 struct mkstrike_placed {
-    struct mkstrike_glyph glyph; /* its numbers; all are 0 if the font does not have the character */
-    uint32_t status;             /* MKSTRIKE_DONE, or MKSTRIKE_MISSING */
-    size_t offset;               /* of its first byte in the pixels of all */
+    struct mkstrike_glyph_info glyph; /* its numbers; all are 0 unless the status is MKSTRIKE_DONE */
+    uint32_t status;                  /* MKSTRIKE_DONE, MKSTRIKE_MISSING, or the number of the refusal */
+    size_t offset;                    /* of its first byte in the pixels of all */
 };
 
 /* What is told of many characters. */
 struct mkstrike_drawn {
     size_t bytes;     /* of the pixels of all, also of those that did not fit */
-    uint32_t glyphs;  /* characters that the font has, repeats included */
+    uint32_t glyphs;  /* characters that were made, repeats included */
     uint32_t missing; /* characters that the font does not have, repeats included */
+    uint32_t refused; /* characters that were refused, repeats included */
 };
 
 /* Makes the glyphs of characters at a size of 1 to 1,024, and opens the font once. Calls of mkstrike_glyph, one per character, would give
@@ -160,9 +193,11 @@ struct mkstrike_drawn {
  * stays as it was. So the pixels of an entry are whole if its offset and its stride * height together are at most `pixels_len`. A call
  * with no room for either asks for `drawn->bytes`.
  *
- * If a character is refused, the call is refused, by the refusal of the first such in the order given. */
-uint32_t mkstrike_glyphs(const uint8_t *font, size_t font_len, uint16_t ppem, uint32_t mode, const uint32_t *chars, size_t chars_len,
-    bool packed, struct mkstrike_placed *glyphs, size_t glyphs_len, uint8_t *pixels, size_t pixels_len, struct mkstrike_drawn *drawn,
+ * A character that is refused has the refusal's number as its status, and the others are made. The call returns 0 then too, and `refused`
+ * tells the first such character. The call itself is refused only if no character can be made (the size, the characters, the font, its
+ * `fpgm` and `prep`) or if memory runs out. */
+uint32_t mkstrike_glyphs(const uint8_t *font, size_t font_len, uint32_t face, uint16_t ppem, uint32_t mode, const uint32_t *chars,
+    size_t chars_len, struct mkstrike_placed *glyphs, size_t glyphs_len, uint8_t *pixels, size_t pixels_len, struct mkstrike_drawn *drawn,
     struct mkstrike_refused *refused);
 
 /* What is told of a strike. */
@@ -176,8 +211,97 @@ struct mkstrike_told {
 /* Makes the text of a strike at a size of 1 to 1,024, in BDF. As much of it as fits goes to the front of `out`; what lies after it stays
  * as it was. There is no 0 at its end. `chars` are code points in any order, at most 65,536, and repeats count once. `name` is 1 to 255
  * printable ASCII characters, no space first or last, and needs no 0 at its end. */
-uint32_t mkstrike_make(const uint8_t *font, size_t font_len, uint16_t ppem, uint32_t mode, const uint32_t *chars, size_t chars_len,
-    const char *name, size_t name_len, uint8_t *out, size_t out_len, struct mkstrike_told *told, struct mkstrike_refused *refused);
+uint32_t mkstrike_make(const uint8_t *font, size_t font_len, uint32_t face, uint16_t ppem, uint32_t mode, const uint32_t *chars,
+    size_t chars_len, const char *name, size_t name_len, uint8_t *out, size_t out_len, struct mkstrike_told *told,
+    struct mkstrike_refused *refused);
+
+/* ---- NULL
+ *
+ * The library wants an address for each pointer. In C and C++ the names of the calls stand for these functions, which hand over the address
+ * of something of their own in place of NULL. */
+#if defined(__cplusplus) || (defined(__STDC_VERSION__) && __STDC_VERSION__ >= 199901L)
+#define MKSTRIKE_INLINE static inline
+#else
+#define MKSTRIKE_INLINE static __inline
+#endif
+
+/* A pointer, or if it is NULL the address of something else. */
+#ifdef __cplusplus
+#define MKSTRIKE_OR(type, pointer, other) ((pointer) != NULL ? (pointer) : reinterpret_cast<type *>(&(other)))
+#else
+#define MKSTRIKE_OR(type, pointer, other) ((pointer) != NULL ? (pointer) : (type *)(void *)&(other))
+#endif
+
+MKSTRIKE_INLINE size_t mkstrike_reason_or_null(uint32_t number, char *text, size_t text_len) {
+    uint64_t none = 0;
+    return mkstrike_reason(number, MKSTRIKE_OR(char, text, none), text_len);
+}
+
+MKSTRIKE_INLINE uint32_t mkstrike_font_or_null(const uint8_t *font, size_t font_len, uint32_t face, uint16_t ppem,
+    struct mkstrike_font_info *info, struct mkstrike_refused *refused) {
+    uint64_t none = 0;
+    struct mkstrike_refused unwanted;
+    struct mkstrike_font_info no_info;
+    return mkstrike_font(MKSTRIKE_OR(const uint8_t, font, none), font_len, face, ppem,
+        MKSTRIKE_OR(struct mkstrike_font_info, info, no_info), MKSTRIKE_OR(struct mkstrike_refused, refused, unwanted));
+}
+
+MKSTRIKE_INLINE uint32_t mkstrike_glyph_ids_or_null(const uint8_t *font, size_t font_len, uint32_t face, const uint32_t *chars,
+    size_t chars_len, uint16_t *glyphs, size_t glyphs_len, struct mkstrike_refused *refused) {
+    uint64_t none = 0;
+    struct mkstrike_refused unwanted;
+    return mkstrike_glyph_ids(MKSTRIKE_OR(const uint8_t, font, none), font_len, face, MKSTRIKE_OR(const uint32_t, chars, none), chars_len,
+        MKSTRIKE_OR(uint16_t, glyphs, none), glyphs_len, MKSTRIKE_OR(struct mkstrike_refused, refused, unwanted));
+}
+
+MKSTRIKE_INLINE uint32_t mkstrike_glyph_or_null(const uint8_t *font, size_t font_len, uint32_t face, uint16_t ppem, uint32_t mode,
+    uint32_t code, uint8_t *pixels, size_t pixels_len, struct mkstrike_glyph_info *info, struct mkstrike_refused *refused) {
+    uint64_t none = 0;
+    struct mkstrike_refused unwanted;
+    struct mkstrike_glyph_info no_info;
+    return mkstrike_glyph(MKSTRIKE_OR(const uint8_t, font, none), font_len, face, ppem, mode, code, MKSTRIKE_OR(uint8_t, pixels, none),
+        pixels_len, MKSTRIKE_OR(struct mkstrike_glyph_info, info, no_info), MKSTRIKE_OR(struct mkstrike_refused, refused, unwanted));
+}
+
+MKSTRIKE_INLINE uint32_t mkstrike_glyph_by_id_or_null(const uint8_t *font, size_t font_len, uint32_t face, uint16_t ppem, uint32_t mode,
+    uint32_t glyph, uint8_t *pixels, size_t pixels_len, struct mkstrike_glyph_info *info, struct mkstrike_refused *refused) {
+    uint64_t none = 0;
+    struct mkstrike_refused unwanted;
+    struct mkstrike_glyph_info no_info;
+    return mkstrike_glyph_by_id(MKSTRIKE_OR(const uint8_t, font, none), font_len, face, ppem, mode, glyph,
+        MKSTRIKE_OR(uint8_t, pixels, none), pixels_len, MKSTRIKE_OR(struct mkstrike_glyph_info, info, no_info),
+        MKSTRIKE_OR(struct mkstrike_refused, refused, unwanted));
+}
+
+MKSTRIKE_INLINE uint32_t mkstrike_glyphs_or_null(const uint8_t *font, size_t font_len, uint32_t face, uint16_t ppem, uint32_t mode,
+    const uint32_t *chars, size_t chars_len, struct mkstrike_placed *glyphs, size_t glyphs_len, uint8_t *pixels, size_t pixels_len,
+    struct mkstrike_drawn *drawn, struct mkstrike_refused *refused) {
+    uint64_t none = 0;
+    struct mkstrike_refused unwanted;
+    struct mkstrike_drawn not_told;
+    return mkstrike_glyphs(MKSTRIKE_OR(const uint8_t, font, none), font_len, face, ppem, mode, MKSTRIKE_OR(const uint32_t, chars, none),
+        chars_len, MKSTRIKE_OR(struct mkstrike_placed, glyphs, none), glyphs_len, MKSTRIKE_OR(uint8_t, pixels, none), pixels_len,
+        MKSTRIKE_OR(struct mkstrike_drawn, drawn, not_told), MKSTRIKE_OR(struct mkstrike_refused, refused, unwanted));
+}
+
+MKSTRIKE_INLINE uint32_t mkstrike_make_or_null(const uint8_t *font, size_t font_len, uint32_t face, uint16_t ppem, uint32_t mode,
+    const uint32_t *chars, size_t chars_len, const char *name, size_t name_len, uint8_t *out, size_t out_len, struct mkstrike_told *told,
+    struct mkstrike_refused *refused) {
+    uint64_t none = 0;
+    struct mkstrike_refused unwanted;
+    struct mkstrike_told not_told;
+    return mkstrike_make(MKSTRIKE_OR(const uint8_t, font, none), font_len, face, ppem, mode, MKSTRIKE_OR(const uint32_t, chars, none),
+        chars_len, MKSTRIKE_OR(const char, name, none), name_len, MKSTRIKE_OR(uint8_t, out, none), out_len,
+        MKSTRIKE_OR(struct mkstrike_told, told, not_told), MKSTRIKE_OR(struct mkstrike_refused, refused, unwanted));
+}
+
+#define mkstrike_reason mkstrike_reason_or_null
+#define mkstrike_font mkstrike_font_or_null
+#define mkstrike_glyph_ids mkstrike_glyph_ids_or_null
+#define mkstrike_glyph mkstrike_glyph_or_null
+#define mkstrike_glyph_by_id mkstrike_glyph_by_id_or_null
+#define mkstrike_glyphs mkstrike_glyphs_or_null
+#define mkstrike_make mkstrike_make_or_null
 
 #ifdef __cplusplus
 }

@@ -43,4 +43,19 @@ def whole_fonts_at_odd_sizes():
         yield from whole_font(path, halting, SIZES[1::2])
 
 
-CASES = [whole_fonts_at_even_sizes, whole_fonts_at_odd_sizes]
+def in_spite_of_two_characters():
+    """DejaVu Sans with the two characters whose programs halt: left out, or drawn without hinting."""
+    path, halting = REAL[0]
+    if not os.path.exists(path):
+        return
+    with open(path, "rb") as file:
+        data = file.read()
+    found = len(set(fonts.glyph_numbers(data)) & set(range(0x10000)))
+    causes = ("30 StackUnder during glyph 350 in glyph 350 at 73 opcode 39", "30 StackUnder during glyph 530 in glyph 530 at 177 opcode 5D")
+    for way, text, count in (("leave-out", "left out", found - 2), ("unhinted", "unhinted", found)):
+        lines = "".join("mkstrike: %s U+%04X: %s\n" % (text, code, cause) for code, cause in zip(halting, causes))
+        yield Run("DejaVu Sans, %s" % way, "make --ppem 16 --chars 0-ffff --refused %s" % way, data,
+                  Counted(count, 0x10000 - found, True, lines.encode()))
+
+
+CASES = [whole_fonts_at_even_sizes, whole_fonts_at_odd_sizes, in_spite_of_two_characters]

@@ -2,10 +2,12 @@
  *
  *     check_c strike FONT PPEM MODE FIRST LAST      a strike, as `mkstrike make` writes it, with its line and its status; asked for with
  *                                                   no room, with room enough, and with a byte too few
- *     check_c glyphs FONT PPEM MODE FIRST LAST      each of these characters alone, packed and not, against their strike
+ *     check_c glyphs FONT PPEM MODE FIRST LAST      each of these characters alone, packed and not, by its code point and by its glyph's
+ *                                                   number, against their strike
  *     check_c many FONT PPEM MODE FIRST LAST        these characters in one call, in another order and some of them twice: each against
- *                                                   mkstrike_glyph and against their strike, or the refusal of the first that has none
+ *                                                   mkstrike_glyph, its refusal too, and against their strike
  *     check_c requests FONT                         requests of many characters that are refused before the font is opened
+ *     check_c calls FONT                            the other calls, what they refuse, unknown bits of modes, and NULL
  *     check_c refuse FONT                           each request for memory refused in turn
  *     check_c threads FONT                          eight threads at once
  *     check_c stack FONT KIB                        in a thread with a stack of that many KiB
@@ -74,6 +76,7 @@ struct request {
     size_t font_len;
     uint16_t ppem;
     uint32_t mode;
+    uint32_t face;
     uint32_t *chars;
     size_t chars_len;
 };
@@ -101,6 +104,7 @@ static struct request request_of(const char *name, int ppem, uint32_t mode, uint
     if (fread(font, 1, r.font_len, file) != r.font_len) stop("no font");
     fclose(file);
     r.font = font;
+    r.face = 0;
     r.ppem = (uint16_t)ppem;
     r.mode = mode;
     r.chars_len = last - first + 1;
@@ -110,7 +114,7 @@ static struct request request_of(const char *name, int ppem, uint32_t mode, uint
 }
 
 static uint32_t make(const struct request *r, uint8_t *out, size_t out_len, struct mkstrike_told *told, struct mkstrike_refused *refused) {
-    return mkstrike_make(r->font, r->font_len, r->ppem, r->mode, r->chars, r->chars_len, "mkstrike", 8, out, out_len, told, refused);
+    return mkstrike_make(r->font, r->font_len, r->face, r->ppem, r->mode, r->chars, r->chars_len, "mkstrike", 8, out, out_len, told, refused);
 }
 
 /* A strike's text in as many bytes as it has. */
@@ -203,7 +207,7 @@ static int strike(const struct request *r) {
 /* ---- glyphs */
 
 /* The lines of a glyph in a strike, from its numbers and packed pixels. */
-static size_t lines_of(char *to, uint32_t code, const struct mkstrike_glyph *g, const uint8_t *pixels) {
+static size_t lines_of(char *to, uint32_t code, const struct mkstrike_glyph_info *g, const uint8_t *pixels) {
     char *at = to;
     size_t i, j;
     at += sprintf(at, "STARTCHAR %s%04lX\nENCODING %lu\nSWIDTH %d 0\nDWIDTH %d 0\nBBX %u %u %d %d\nBITMAP\n", code > 0xFFFF ? "u" : "uni",
@@ -218,20 +222,20 @@ static size_t lines_of(char *to, uint32_t code, const struct mkstrike_glyph *g, 
 }
 
 /* The bytes of pixels are the bits of packed ones. */
-static void same_pixels(const struct mkstrike_glyph *g, const uint8_t *packed, const uint8_t *pixels) {
+static void same_pixels(const struct mkstrike_glyph_info *g, const uint8_t *packed, const uint8_t *pixels) {
     size_t i, j;
     for (i = 0; i < g->height; i++)
         for (j = 0; j < g->width; j++)
             if (pixels[i * g->width + j] != ((packed[i * g->stride + j / 8] >> (7 - j % 8) & 1) ? 255 : 0)) stop("other pixels");
 }
 
-static uint32_t one(const struct request *r, uint32_t code, bool packed, uint8_t *pixels, size_t room, struct mkstrike_glyph *g) {
+static uint32_t one(const struct request *r, uint32_t code, uint32_t packed, uint8_t *pixels, size_t room, struct mkstrike_glyph_info *g) {
     struct mkstrike_refused refused;
-    return mkstrike_glyph(r->font, r->font_len, r->ppem, r->mode, code, packed, pixels, room, g, &refused);
+    return mkstrike_glyph(r->font, r->font_len, r->face, r->ppem, r->mode | packed, code, pixels, room, g, &refused);
 }
 
 /* One character, packed or not, in a buffer of its own size; and with a byte too few, which must not be touched. */
-static uint8_t *pixels_of(const struct request *r, uint32_t code, bool packed, struct mkstrike_glyph *g) {
+static uint8_t *pixels_of(const struct request *r, uint32_t code, uint32_t packed, struct mkstrike_glyph_info *g) {
     uint8_t none = 7, *pixels;
     size_t size, i;
     if (one(r, code, packed, &none, 0, g) != 0) stop("no glyph");
@@ -248,21 +252,35 @@ static uint8_t *pixels_of(const struct request *r, uint32_t code, bool packed, s
     return pixels;
 }
 
+/* A character's glyph by its number is the character's. */
+static void same_by_id(const struct request *r, uint32_t code, const struct mkstrike_glyph_info *due, const uint8_t *pixels) {
+    size_t size = (size_t)due->stride * due->height;
+    uint8_t *found = (uint8_t *)bytes(size);
+    struct mkstrike_glyph_info g;
+    uint16_t glyph = 7;
+    if (mkstrike_glyph_ids(r->font, r->font_len, r->face, &code, 1, &glyph, 1, NULL) != 0 || glyph == 0) stop("no glyph of a character");
+    if (mkstrike_glyph_by_id(r->font, r->font_len, r->face, r->ppem, r->mode | MKSTRIKE_PACKED, glyph, found, size, &g, NULL) != 0)
+        stop("no glyph by its number");
+    if (memcmp(&g, due, sizeof g) != 0 || memcmp(found, pixels, size) != 0) stop("another glyph by its number");
+    free(found);
+}
+
 static int glyphs(const struct request *r) {
     size_t len, at = 0, n, i;
     uint8_t *text = text_of(r, &len);
     char *lines = (char *)bytes(len + 300);
-    struct mkstrike_glyph g, h;
+    struct mkstrike_glyph_info g, h;
     unsigned long count = 0;
     while (at < len && memcmp(text + at, "STARTCHAR", 9) != 0) at++;
     for (i = 0; i < r->chars_len; i++) {
         uint8_t none = 7, *packed, *pixels;
-        uint32_t status = one(r, r->chars[i], true, &none, 1, &g);
+        uint32_t status = one(r, r->chars[i], MKSTRIKE_PACKED, &none, 1, &g);
         if (status == MKSTRIKE_MISSING && none == 7) continue;
         if (status != 0) stop("a character that the strike has is refused");
-        packed = pixels_of(r, r->chars[i], true, &g);
-        pixels = pixels_of(r, r->chars[i], false, &h);
+        packed = pixels_of(r, r->chars[i], MKSTRIKE_PACKED, &g);
+        pixels = pixels_of(r, r->chars[i], 0, &h);
         same_pixels(&g, packed, pixels);
+        if (count % 8 == 0) same_by_id(r, r->chars[i], &g, packed);
         n = lines_of(lines, r->chars[i], &g, packed);
         if (len - at < n || memcmp(text + at, lines, n) != 0) stop("a glyph that is not the strike's");
         at += n;
@@ -283,7 +301,7 @@ static int glyphs(const struct request *r) {
 struct many {
     const uint32_t *chars;
     size_t len;
-    bool packed;
+    uint32_t packed; /* MKSTRIKE_PACKED or 0 */
     struct mkstrike_placed *glyphs;
     uint8_t *pixels;
     struct mkstrike_drawn drawn;
@@ -291,8 +309,8 @@ struct many {
 };
 
 static uint32_t call_many(const struct request *r, struct many *it, size_t glyphs_len, size_t pixels_len) {
-    return mkstrike_glyphs(r->font, r->font_len, r->ppem, r->mode, it->chars, it->len, it->packed, it->glyphs, glyphs_len, it->pixels,
-        pixels_len, &it->drawn, &it->refused);
+    return mkstrike_glyphs(r->font, r->font_len, r->face, r->ppem, r->mode | it->packed, it->chars, it->len, it->glyphs, glyphs_len,
+        it->pixels, pixels_len, &it->drawn, &it->refused);
 }
 
 /* With one entry or one byte too few all others are the same, and what lies after the buffer is as it was. */
@@ -322,6 +340,7 @@ static uint32_t many_of(const struct request *r, struct many *it) {
     uint32_t status;
     memset(&no_entry, 7, sizeof no_entry);
     memset(&it->drawn, 7, sizeof it->drawn);
+    memset(&it->refused, 7, sizeof it->refused);
     it->glyphs = &no_entry;
     it->pixels = &no_pixel;
     status = call_many(r, it, 0, 0);
@@ -334,54 +353,86 @@ static uint32_t many_of(const struct request *r, struct many *it) {
     }
     it->glyphs = (struct mkstrike_placed *)bytes(it->len * sizeof no_entry);
     it->pixels = (uint8_t *)bytes(it->drawn.bytes);
+    memset(it->glyphs, 0, it->len * sizeof no_entry);
+    memset(&it->refused, 7, sizeof it->refused);
     if (call_many(r, it, it->len, it->drawn.bytes) != 0) stop("no glyphs the second time");
     cut_many(r, it);
     return 0;
 }
 
-/* An entry is what mkstrike_glyph gives. */
-static void same_entry(const struct request *r, uint32_t code, const struct many *it, const struct mkstrike_placed *entry) {
-    struct mkstrike_glyph g, none = {0, 0, 0, 0, 0, 0, 0};
+/* An entry is what mkstrike_glyph gives; returns what that returned, and the fields of its refusal. */
+static uint32_t same_entry(const struct request *r, uint32_t code, const struct many *it, const struct mkstrike_placed *entry,
+    struct mkstrike_refused *refused) {
+    struct mkstrike_glyph_info g, none = {0, 0, 0, 0, 0, 0, 0};
     static uint8_t pixels[1 << 20];
-    uint32_t status = one(r, code, it->packed, pixels, sizeof pixels, &g);
-    if (status > 1 || status != entry->status) stop("another status of one of many");
+    uint32_t mode = r->mode | it->packed;
+    uint32_t status = mkstrike_glyph(r->font, r->font_len, r->face, r->ppem, mode, code, pixels, sizeof pixels, &g, refused);
+    if (status != entry->status) stop("another status of one of many");
     if (memcmp(status == 0 ? &g : &none, &entry->glyph, sizeof g) != 0) stop("other numbers of one of many");
     if (status == 0 && memcmp(it->pixels + entry->offset, pixels, (size_t)g.stride * g.height) != 0) stop("other pixels of one of many");
+    return status;
+}
+
+/* The first that was refused was told: as for it alone, with its index and its code point. If none was, nothing was told. */
+static void same_first(const struct many *it, size_t first, struct mkstrike_refused *due) {
+    if (first == it->len) {
+        memset(due, 7, sizeof *due);
+    } else {
+        if (due->index != MKSTRIKE_NONE || due->code != MKSTRIKE_NONE) stop("the index of one alone");
+        due->index = (uint32_t)first;
+        due->code = it->chars[first];
+    }
+    if (memcmp(due, &it->refused, sizeof *due) != 0) stop("another first refusal");
 }
 
 /* The entries lie one after the other, and the counts are theirs; each is what mkstrike_glyph gives. Of those that the font lacks only
  * some are looked at, since each call runs the font's programs. */
 static void same_many(const struct request *r, const struct many *it) {
-    size_t i, at = 0, lacked = 0;
+    size_t i, at = 0, lacked = 0, refused = 0, first = it->len;
+    struct mkstrike_refused why, of_first;
     for (i = 0; i < it->len; i++) {
         const struct mkstrike_placed *entry = it->glyphs + i;
         if (entry->offset != at) stop("pixels at another offset");
         at += (size_t)entry->glyph.stride * entry->glyph.height;
         lacked += entry->status == MKSTRIKE_MISSING;
-        if (entry->status == 0 || lacked % 64 == 1) same_entry(r, it->chars[i], it, entry);
+        refused += entry->status > MKSTRIKE_MISSING;
+        if (entry->status != MKSTRIKE_MISSING || lacked % 64 == 1)
+            if (same_entry(r, it->chars[i], it, entry, &why) > 1 && first == it->len) {
+                first = i;
+                of_first = why;
+            }
     }
-    if (it->drawn.bytes != at || it->drawn.missing != lacked || it->drawn.glyphs != it->len - lacked) stop("other counts of many");
+    same_first(it, first, &of_first);
+    if (it->drawn.bytes != at || it->drawn.missing != lacked || it->drawn.refused != refused) stop("other counts of many");
+    if (it->drawn.glyphs != it->len - lacked - refused) stop("another count of glyphs");
 }
 
-/* The refusal is that of the first character that mkstrike_glyph refuses. */
+/* A refusal of all is that of each alone. */
 static void same_refusal(const struct request *r, const struct many *it) {
     struct mkstrike_refused due;
-    struct mkstrike_glyph g;
-    uint8_t none;
+    struct mkstrike_glyph_info g;
     size_t i;
-    for (i = 0; i < it->len; i++) {
-        if (mkstrike_glyph(r->font, r->font_len, r->ppem, r->mode, it->chars[i], false, &none, 0, &g, &due) <= 1) continue;
-        if (memcmp(&due, &it->refused, sizeof due) != 0) stop("many refused for another reason");
-        return;
+    for (i = 0; i < it->len; i += 1 + it->len / 8) {
+        uint32_t status = mkstrike_glyph(r->font, r->font_len, r->face, r->ppem, r->mode, it->chars[i], NULL, 0, &g, &due);
+        if (status <= 1 || memcmp(&due, &it->refused, sizeof due) != 0) stop("many refused for another reason");
     }
-    stop("many refused, and each alone is not");
 }
 
-/* In rising order, each once, they are the strike's. */
+/* In rising order, each once, they are the strike's, or it is refused as the first of them is. */
 static void same_strike(const struct request *r, const struct many *it) {
     size_t len, at = 0, n, i;
-    uint8_t *text = text_of(r, &len);
-    char *lines = (char *)bytes(len + 300);
+    uint8_t *text;
+    char *lines;
+    if (it->drawn.refused != 0) {
+        struct mkstrike_refused refused;
+        if (make(r, NULL, 0, NULL, &refused) != it->refused.number) stop("another refusal of a strike");
+        refused.index = it->refused.index;
+        refused.code = it->refused.code;
+        if (memcmp(&refused, &it->refused, sizeof refused) != 0) stop("other fields of a strike's refusal");
+        return;
+    }
+    text = text_of(r, &len);
+    lines = (char *)bytes(len + 300);
     while (at < len && memcmp(text + at, "STARTCHAR", 9) != 0 && memcmp(text + at, "ENDFONT", 7) != 0) at++;
     for (i = 0; i < it->len; i++) {
         const struct mkstrike_placed *entry = it->glyphs + i;
@@ -421,12 +472,12 @@ static int many(const struct request *r) {
     struct many it;
     uint32_t *chars = shuffled(r, &it.len), status;
     it.chars = chars;
-    it.packed = false;
+    it.packed = 0;
     status = many_of(r, &it);
     if (status != 0) same_refusal(r, &it);
     else same_many(r, &it);
     free_many(&it);
-    it.packed = true;
+    it.packed = MKSTRIKE_PACKED;
     if (many_of(r, &it) != status) stop("another status packed");
     if (status == 0) same_many(r, &it);
     free_many(&it);
@@ -434,7 +485,8 @@ static int many(const struct request *r) {
     it.len = r->chars_len;
     if (many_of(r, &it) == 0) same_strike(r, &it);
     else if (status == 0) stop("another status in another order");
-    printf("%u %lu\n", (unsigned)status, status == 0 ? (unsigned long)it.drawn.glyphs : 0ul);
+    printf("%u %lu %lu\n", (unsigned)status, status == 0 ? (unsigned long)it.drawn.glyphs : 0ul,
+        status == 0 ? (unsigned long)it.drawn.refused : 0ul);
     free_many(&it);
     free(chars);
     return 0;
@@ -446,13 +498,16 @@ static int requests(struct request *r) {
     struct many it;
     size_t font_len = r->font_len;
     it.chars = chars;
-    it.packed = false;
+    it.packed = 0;
     for (it.len = 0; it.len < 65537; it.len++) chars[it.len] = 0x20;
     if (many_of(r, &it) != MKSTRIKE_BAD_CHARS) stop("too many characters");
     r->font_len = 0;
     if (many_of(r, &it) != MKSTRIKE_BAD_CHARS) stop("too many characters, and no font");
     r->ppem = 0;
     if (many_of(r, &it) != MKSTRIKE_BAD_SIZE) stop("no size");
+    r->mode = 4;
+    if (many_of(r, &it) != MKSTRIKE_BAD_MODE) stop("no mode");
+    r->mode = 0;
     r->ppem = 16;
     it.len = 65536;
     if (many_of(r, &it) != MKSTRIKE_NOT_TRUE_TYPE) stop("no font");
@@ -467,6 +522,106 @@ static int requests(struct request *r) {
     return 0;
 }
 
+/* ---- the other calls */
+
+/* Each bit that is no mode is refused by each call that takes a mode, whatever else is wrong, and nothing else is written. */
+static void modes(const struct request *r) {
+    struct mkstrike_refused refused, due;
+    int bit, call;
+    memset(&due, 0xFF, sizeof due);
+    due.number = MKSTRIKE_BAD_MODE;
+    due.table = due.opcode = 0;
+    due.address = 0;
+    for (bit = 2; bit < 32; bit++)
+        for (call = 0; call < 4; call++) {
+            uint32_t mode = (UINT32_C(1) << bit) | (uint32_t)(bit & 3), status;
+            if (mode >> 8 == 1 && call != 0) continue; /* packed */
+            memset(&refused, 7, sizeof refused);
+            if (call == 0) status = mkstrike_make(r->font, 0, 0, 0, mode, NULL, 0, NULL, 0, NULL, 0, NULL, &refused);
+            else if (call == 1) status = mkstrike_glyph(r->font, 0, 0, 0, mode, 0xFFFFFFFF, NULL, 0, NULL, &refused);
+            else if (call == 2) status = mkstrike_glyph_by_id(r->font, 0, 0, 0, mode, 0, NULL, 0, NULL, &refused);
+            else status = mkstrike_glyphs(r->font, 0, 0, 0, mode, NULL, 0, NULL, 0, NULL, 0, NULL, &refused);
+            if (status != MKSTRIKE_BAD_MODE || memcmp(&refused, &due, sizeof due) != 0) stop("a bit of a mode that is not refused");
+        }
+}
+
+/* The numbers of glyphs: each character's, as many as fit; and what is refused. */
+static void ids(const struct request *r) {
+    uint32_t chars[300], far = 0x110000;
+    uint16_t all[300], some[300];
+    struct mkstrike_refused refused;
+    struct mkstrike_glyph_info g;
+    size_t i, room;
+    for (i = 0; i < 300; i++) chars[i] = (uint32_t)(i * 37 % 300);
+    if (mkstrike_glyph_ids(r->font, r->font_len, r->face, chars, 300, all, 300, &refused) != 0) stop("no numbers of glyphs");
+    for (i = 0; i < 300; i++)
+        if ((all[i] == 0) != (one(r, chars[i], 0, NULL, 0, &g) == MKSTRIKE_MISSING)) stop("the number of a glyph that is not there");
+    for (room = 0; room < 300; room += 23) {
+        memset(some, 7, sizeof some);
+        if (mkstrike_glyph_ids(r->font, r->font_len, r->face, chars, 300, some, room, NULL) != 0) stop("no numbers in a small buffer");
+        if (memcmp(some, all, room * sizeof *some) != 0 || some[room] != 0x0707) stop("other numbers in a small buffer");
+    }
+    if (mkstrike_glyph_ids(r->font, r->font_len, r->face, &far, 1, all, 1, &refused) != MKSTRIKE_BAD_CHARS) stop("a number of no character");
+    if (mkstrike_glyph_ids(r->font, 0, r->face, chars, 1, all, 1, &refused) != MKSTRIKE_NOT_TRUE_TYPE) stop("numbers of no font");
+}
+
+/* What a font is: its numbers, and a glyph for each number below its count and for no other. */
+static void font_told(const struct request *r) {
+    struct mkstrike_font_info info;
+    struct mkstrike_glyph_info g;
+    struct mkstrike_refused refused;
+    uint32_t past[] = {0, 65535, 65536, 0xFFFFFFFF, 65536 + 3}, i;
+    if (mkstrike_font(r->font, r->font_len, r->face, r->ppem, &info, &refused) != 0) stop("nothing of a font");
+    if (info.glyphs == 0 || info.glyphs > 65535) stop("a number of glyphs");
+    printf("%d %d %d %u\n", (int)info.ascent, (int)info.descent, (int)info.line_gap, (unsigned)info.glyphs);
+    if (mkstrike_glyph_by_id(r->font, r->font_len, r->face, r->ppem, 0, info.glyphs - 1, NULL, 0, &g, &refused) != 0) stop("no last glyph");
+    past[0] = info.glyphs;
+    for (i = 0; i < sizeof past / sizeof *past; i++)
+        if (mkstrike_glyph_by_id(r->font, r->font_len, r->face, r->ppem, 0, past[i], NULL, 0, &g, &refused) != MKSTRIKE_BAD_GLYPH_NUMBER ||
+            refused.glyph != (past[i] < 65535 ? past[i] : 65535))
+            stop("a glyph that the font does not have");
+    if (mkstrike_font(r->font, r->font_len, r->face, 0, &info, &refused) != MKSTRIKE_BAD_SIZE) stop("a font without a size");
+    if (mkstrike_font(r->font, r->font_len, 1, 16, &info, &refused) != MKSTRIKE_NO_FACE) stop("a second font");
+}
+
+/* NULL for each buffer of nothing, and for each struct. */
+static void nulls(const struct request *r) {
+    struct mkstrike_glyph_info g;
+    struct mkstrike_drawn drawn;
+    struct mkstrike_told told;
+    size_t len = mkstrike_reason(52, NULL, 0);
+    uint32_t code = 'A', none = 0;
+    if (len != strlen("GlyphTooLarge")) stop("a name and no buffer");
+    if (mkstrike_font(NULL, 0, 0, 16, NULL, NULL) != MKSTRIKE_NOT_TRUE_TYPE) stop("NULL, mkstrike_font");
+    if (mkstrike_font(r->font, r->font_len, 0, 16, NULL, NULL) != 0) stop("NULL, mkstrike_font");
+    if (mkstrike_glyph_ids(r->font, r->font_len, 0, NULL, 0, NULL, 0, NULL) != 0) stop("NULL, mkstrike_glyph_ids");
+    if (mkstrike_glyph(r->font, r->font_len, 0, 16, 0, code, NULL, 0, &g, NULL) != 0 || g.height == 0) stop("NULL, mkstrike_glyph");
+    if (mkstrike_glyph(r->font, r->font_len, 0, 16, 0, code, NULL, 0, NULL, NULL) != 0) stop("NULL, mkstrike_glyph");
+    if (mkstrike_glyph(NULL, 0, 0, 16, 0, code, NULL, 0, NULL, NULL) != MKSTRIKE_NOT_TRUE_TYPE) stop("NULL, mkstrike_glyph");
+    if (mkstrike_glyph_by_id(r->font, r->font_len, 0, 16, 0, 0, NULL, 0, NULL, NULL) != 0) stop("NULL, mkstrike_glyph_by_id");
+    if (mkstrike_glyphs(r->font, r->font_len, 0, 16, 0, &code, 1, NULL, 0, NULL, 0, &drawn, NULL) != 0 || drawn.bytes == 0)
+        stop("NULL, mkstrike_glyphs");
+    if (mkstrike_glyphs(r->font, r->font_len, 0, 16, 0, NULL, 0, NULL, 0, NULL, 0, NULL, NULL) != 0) stop("NULL, mkstrike_glyphs");
+    if (mkstrike_make(r->font, r->font_len, 0, 16, 0, &code, 1, "a", 1, NULL, 0, &told, NULL) != 0 || told.glyphs != 1)
+        stop("NULL, mkstrike_make");
+    if (mkstrike_make(r->font, r->font_len, 0, 16, 0, &none, 0, NULL, 0, NULL, 0, NULL, NULL) != MKSTRIKE_BAD_NAME)
+        stop("NULL, mkstrike_make");
+    if (mkstrike_make(r->font, r->font_len, 0, 16, 0, NULL, 0, "a", 1, NULL, 0, NULL, NULL) != 0) stop("NULL, mkstrike_make");
+}
+
+static int calls(const struct request *r) {
+    if (mkstrike_version() != MKSTRIKE_VERSION) stop("another release");
+    if (sizeof(void *) == 8 && (sizeof(struct mkstrike_refused) != 40 || sizeof(struct mkstrike_font_info) != 16 ||
+            sizeof(struct mkstrike_glyph_info) != 28 || sizeof(struct mkstrike_placed) != 40 || sizeof(struct mkstrike_drawn) != 24 ||
+            sizeof(struct mkstrike_told) != 32))
+        stop("another size of a struct");
+    font_told(r);
+    ids(r);
+    modes(r);
+    nulls(r);
+    return 0;
+}
+
 /* ---- memory, threads and the stack */
 
 #ifndef HEAP_BESIDE
@@ -475,7 +630,7 @@ static int requests(struct request *r) {
 static long refuse_each(const struct request *r, char call) {
     struct mkstrike_told told;
     struct mkstrike_refused refused;
-    struct mkstrike_glyph g;
+    struct mkstrike_glyph_info g;
     struct mkstrike_drawn drawn;
     static struct mkstrike_placed placed[256], placed_before[256];
     static uint8_t out[1 << 20], before[1 << 20], whole[1 << 20];
@@ -493,9 +648,11 @@ static long refuse_each(const struct request *r, char call) {
         if (call == 'm')
             status = make(r, out, sizeof out, &told, &refused);
         else if (call == 'g')
-            status = mkstrike_glyph(r->font, r->font_len, r->ppem, r->mode, 'g', true, out, sizeof out, &g, &refused);
+            status = mkstrike_glyph(r->font, r->font_len, r->face, r->ppem, r->mode | MKSTRIKE_PACKED, 'g', out, sizeof out, &g, &refused);
+        else if (call == 'i')
+            status = mkstrike_glyph_by_id(r->font, r->font_len, r->face, r->ppem, r->mode, 36, out, sizeof out, &g, &refused);
         else
-            status = mkstrike_glyphs(r->font, r->font_len, r->ppem, r->mode, r->chars, r->chars_len, false, placed, 256, out,
+            status = mkstrike_glyphs(r->font, r->font_len, r->face, r->ppem, r->mode, r->chars, r->chars_len, placed, 256, out,
                 sizeof out, &drawn, &refused);
         refused_at = 0;
         if (held != 0) stop("memory was kept");
@@ -574,6 +731,10 @@ int main(int argc, char **argv) {
         shared = request_of(argv[2], 16, 0, 0x20, 0x20);
         return requests(&shared);
     }
+    if (argc == 3 && strcmp(mode, "calls") == 0) {
+        shared = request_of(argv[2], 16, 0, 0x20, 0x20);
+        return calls(&shared);
+    }
 #ifndef HEAP_BESIDE
     if (argc == 3 && strcmp(mode, "refuse") == 0) {
         const char *call;
@@ -581,7 +742,7 @@ int main(int argc, char **argv) {
         static struct request second;
         second = request_of(argv[2], 33, MKSTRIKE_DROPOUT, 0x20, 0x7E);
         shared = request_of(argv[2], 16, MKSTRIKE_HINTED, 0x20, 0x7E);
-        for (call = "mgs"; *call != 0; call++) count += refuse_each(&shared, *call) + refuse_each(&second, *call);
+        for (call = "mgis"; *call != 0; call++) count += refuse_each(&shared, *call) + refuse_each(&second, *call);
         printf("%ld\n", count);
         return 0;
     }

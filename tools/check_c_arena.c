@@ -169,6 +169,28 @@ static void grow_in_vain(void) {
     look(must(112) == it, "a piece that was given back");
 }
 
+/* Once all pieces are given back the block is whole again, and serves pieces of other sizes; the most that was in use is remembered. */
+static void whole_again(void) {
+    unsigned char *block = block_at(16, 4096), *it[128];
+    size_t i, round;
+    for (round = 0; round < 3; round++) {
+        for (i = 0; i < 128; i++) it[i] = must(16);
+        must_not(1, "a request beyond a block of small pieces");
+        for (i = 0; i < 127; i++) rattle_dealloc(it[i]);
+        must_not(17, "a large piece where a small one is in use");
+        rattle_dealloc(it[127]);
+        it[0] = must(4096 - 16);
+        look(it[0] == block + 16, "a block that is whole is not used from its start");
+        memset(it[0], 3, 4096 - 16);
+        must_not(1, "a request beyond a whole block");
+        rattle_dealloc(it[0]);
+        look(mkstrike_arena_used() == 4096, "the most bytes that were in use");
+    }
+    look(all_are(room, 16, AROUND) && all_are(block + 4096, ROOM - 16 - 4096, AROUND), "a byte outside the block was changed");
+    (void)must(16);
+    look(mkstrike_arena_used() == 4096, "the most bytes are forgotten");
+}
+
 static void huge(void) {
     static const int bits[] = {17, 31, 32, 38, 39, 40, 45, 62, 63};
     size_t i, k;
@@ -195,6 +217,7 @@ int main(void) {
     grow();
     look(mkstrike_arena_used() == size, "what a growing piece left does not serve again");
     grow_in_vain();
+    whole_again();
     huge();
     free(room);
     return 0;

@@ -72,7 +72,7 @@ __attribute__((used)) int work(void) {
     if (sets_well() != 0) return sets_well();
     for (i = 0; i < 95; i++) chars[i] = 0x20 + i;
     mkstrike_arena(block, sizeof block);
-    status = mkstrike_make(font, (size_t)(font_end - font), 16, MKSTRIKE_HINTED, chars, 95, "mkstrike", 8, text, sizeof text, &told, &refused);
+    status = mkstrike_make(font, (size_t)(font_end - font), 0, 16, MKSTRIKE_HINTED, chars, 95, "mkstrike", 8, text, sizeof text, &told, &refused);
     if (status != 0) return (int)status;
     if (told.bytes > sizeof text) return 1;
     __asm__ volatile("syscall" : "=a"(done) : "0"(1L), "D"(1L), "S"(text), "d"(told.bytes) : "rcx", "r11", "memory");

@@ -350,7 +350,7 @@ static const struct { int number; const char *name; char kind; } refusals[] = {
     {10, "NotTrueType", ' '}, {11, "TableMissing", 't'}, {12, "TableShort", 't'}, {13, "BadHead", ' '}, {14, "BadMaxp", ' '},
     {15, "NoCharMap", ' '}, {16, "BadCharMap", ' '}, {17, "BadLoca", 'g'}, {18, "GlyphShort", 'g'}, {19, "BadContours", 'g'},
     {20, "ComponentDepth", 'g'}, {21, "TooManyComponents", 'g'}, {22, "TooManyPoints", 'g'}, {23, "BadPointMatch", 'g'},
-    {24, "BadGlyphNumber", 'g'}, {30, "StackUnder", 'h'}, {31, "StackOver", 'h'}, {32, "BadOpcode", 'h'}, {33, "CodeEnd", 'h'},
+    {24, "BadGlyphNumber", 'g'}, {25, "NoFace", ' '}, {30, "StackUnder", 'h'}, {31, "StackOver", 'h'}, {32, "BadOpcode", 'h'}, {33, "CodeEnd", 'h'},
     {34, "BadJump", 'h'}, {35, "NoFunction", 'h'}, {36, "CallDepth", 'h'}, {37, "StepLimit", 'h'}, {38, "DivideByZero", 'h'},
     {39, "BadArgument", 'h'}, {40, "NestedDefinition", 'h'}, {41, "StrayEnd", 'h'}, {51, "TooFar", 'g'}, {52, "GlyphTooLarge", 'g'},
     {60, "BadSize", ' '}, {61, "BadChars", ' '}, {72, "BadHex", ' '}};

@@ -92,11 +92,11 @@ class FewCalls(Due):
 class Counted(Due):
     """What is due of the strike of a font whose bits are not known beforehand: its status and counts, and a text of so many glyphs.
 
-    Without hinting no program runs, so that no instruction is counted; with it, some are."""
+    Without hinting no program runs, so that no instruction is counted; with it, some are. `told` is the lines before the counts."""
 
-    def __init__(self, glyphs, missing, hinted):
+    def __init__(self, glyphs, missing, hinted, told=b""):
         Due.__init__(self, DONE, b"")
-        self.glyphs, self.line = glyphs, rb"mkstrike: glyphs %d missing %d strays %s steps %s\n" % (
+        self.glyphs, self.line = glyphs, re.escape(told) + rb"mkstrike: glyphs %d missing %d strays %s steps %s\n" % (
             glyphs, missing, *((rb"\d+", rb"[1-9]\d*") if hinted else (b"0", b"0")))
 
     def wrong(self, answer):

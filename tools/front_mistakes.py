@@ -10,14 +10,13 @@ Mistake = collections.namedtuple("Mistake", "what words given status first secon
 
 # What stands for files that are no TrueType font: their first bytes.
 FILES = {
-    "empty": b"", "cff.otf": b"OTTO\0\x0a\0\x80" + bytes(200), "two.ttc": b"ttcf\0\1\0\0" + bytes(200), "web.woff": b"wOFF\0\1\0\0" + bytes(60),
+    "empty": b"", "cff.otf": b"OTTO\0\x0a\0\x80" + bytes(200), "two.ttc": b"ttcf\0\1\0\0\0\0\0\2" + bytes(200), "none.ttc": b"ttcf\0\1\0\0" + bytes(200), "web.woff": b"wOFF\0\1\0\0" + bytes(60),
     "web.woff2": b"wOF2\0\1\0\0" + bytes(60), "a.pdf": b"%PDF-1.4\n" + bytes(60), "a.bdf": b"STARTFONT 2.1\nFONT a\n", "a.gz": b"\x1f\x8b\x08\0" + bytes(40),
     "a.zip": b"PK\3\4" + bytes(40), "cut.ttf": b"\0\1\0\0\0\x10\1\0", "text": b"this is text, and no font\n", "hex.txt": b"0001 0000 0010\n0100 0004\n",
 }
 SANS = object()
 COUNTS = r"mkstrike: glyphs \d+ missing \d+ strays \d+ steps \d+"
 USAGE, NONE = "mkstrike: usage", ""
-GENERAL = "the command line is wrong; 'mkstrike help make' shows how it is written"
 LIST = "give hexadecimal numbers and ranges joined by commas, as 20-7e,a0"
 NO_GLYPH = "--chars is hexadecimal, and the letter A is 41"
 MANY = ",".join("%x" % it for it in range(0x100, 0x200)) + ",0-ffff"
@@ -37,7 +36,14 @@ ROWS = [
     ("empty stdin, a file", [], "empty", 1, "mkstrike: 10 NotTrueType", "the file is empty"),
     (".otf (CFF)", [], "cff.otf", 1, "mkstrike: 10 NotTrueType", "OpenType font with CFF outlines"),
     (".otf by its name", ["cff.otf"], b"", 1, "mkstrike: 10 NotTrueType", "OpenType font with CFF outlines"),
-    (".ttc", [], "two.ttc", 1, "mkstrike: 10 NotTrueType", "a collection of fonts"),
+    (".ttc without fonts that are read", [], "two.ttc", 1, "mkstrike: 10 NotTrueType", "--face takes another"),
+    (".ttc, and a face too far", ["--face", "2"], "two.ttc", 1, "mkstrike: 25 NoFace", "the collection has 2 fonts: --face takes 0 to 1"),
+    (".ttc without a font", [], "none.ttc", 1, "mkstrike: 25 NoFace", "the collection has no font"),
+    ("--face 1 of one font", ["--face", "1"], SANS, 1, "mkstrike: 25 NoFace", "the file is no collection: leave --face out"),
+    ("--face by a pipe", ["--face", "1"], b"", 1, "mkstrike: 25 NoFace", "give a number below the number of faces"),
+    ("--face of a name", ["--face", "Bold"], SANS, 2, USAGE, "--face takes a whole number, counted from 0, not 'Bold'"),
+    ("--face without a number", ["--face"], SANS, 2, USAGE, "--face takes a value"),
+    ("--index", ["--index", "1"], SANS, 2, USAGE, "unknown option '--index'; did you mean '--face'?"),
     (".woff", [], "web.woff", 1, "mkstrike: 10 NotTrueType", "WOFF font"),
     (".woff2", [], "web.woff2", 1, "mkstrike: 10 NotTrueType", "WOFF2 font"),
     ("PDF as font", [], "a.pdf", 1, "mkstrike: 10 NotTrueType", "looks like a PDF"),
@@ -77,15 +83,15 @@ ROWS = [
     # the size
     ("ppem 0", ["make", "--ppem", "0", "--chars", "41"], SANS, 1, "mkstrike: 60 BadSize", "give a size of 1 to 1024"),
     ("ppem 2000", ["make", "--ppem", "2000", "--chars", "41"], SANS, 1, "mkstrike: 60 BadSize", "give a size of 1 to 1024"),
-    ("ppem 1,000", ["make", "--ppem", "1,000", "--chars", "41"], SANS, 2, USAGE, GENERAL),
-    ("ppem 12.5", ["make", "--ppem", "12.5", "--chars", "41"], SANS, 2, USAGE, GENERAL),
-    ("ppem 12px", ["make", "--ppem", "12px", "--chars", "41"], SANS, 2, USAGE, GENERAL),
-    ("ppem -5", ["make", "--ppem", "-5", "--chars", "41"], SANS, 2, USAGE, "'-5' is no value of --ppem"),
-    ("ppem 99999999999", ["make", "--ppem", "99999999999", "--chars", "41"], SANS, 2, USAGE, GENERAL),
-    ("ppem missing", ["make", "--chars", "41"], SANS, 2, USAGE, GENERAL),
+    ("ppem 1,000", ["make", "--ppem", "1,000", "--chars", "41"], SANS, 2, USAGE, "--ppem takes a whole number from 1 to 1024, not '1,000'; 'mkstrike help make'"),
+    ("ppem 12.5", ["make", "--ppem", "12.5", "--chars", "41"], SANS, 2, USAGE, "1 to 1024, not '12.5'"),
+    ("ppem 12px", ["make", "--ppem", "12px", "--chars", "41"], SANS, 2, USAGE, "1 to 1024, not '12px'"),
+    ("ppem -5", ["make", "--ppem", "-5", "--chars", "41"], SANS, 2, USAGE, "--ppem takes a value; one that begins with '-' is given as --ppem=-5"),
+    ("ppem 99999999999", ["make", "--ppem", "99999999999", "--chars", "41"], SANS, 2, USAGE, "1 to 1024, not '99999999999'"),
+    ("ppem missing", ["make", "--chars", "41"], SANS, 2, USAGE, "--ppem is missing; 'mkstrike help make'"),
     ("ppem without value", ["make", "--chars", "41", "--ppem"], SANS, 2, USAGE, "--ppem takes a value"),
     ("ppem before another option", ["make", "--ppem", "--chars", "41"], SANS, 2, USAGE, "--ppem takes a value"),
-    ("chars missing", ["make", "--ppem", "16"], SANS, 2, USAGE, GENERAL),
+    ("chars missing", ["make", "--ppem", "16"], SANS, 2, USAGE, "--chars is missing"),
     # options and commands
     ("unknown option", ["--frobnicate"], SANS, 2, USAGE, "unknown option '--frobnicate'; 'mkstrike help make'"),
     ("--size", ["make", "--size", "16", "--chars", "41"], SANS, 2, USAGE, "unknown option '--size'; did you mean '--ppem'?"),
@@ -95,19 +101,20 @@ ROWS = [
     ("--char for make", ["make", "--ppem", "16", "--char", "41"], SANS, 2, USAGE, "unknown option '--char'; did you mean '--chars'?"),
     ("--unhintd", ["--unhintd"], SANS, 2, USAGE, "did you mean '--unhinted'?"),
     ("= form", ["make", "--ppem=16", "--chars=41"], SANS, 0, COUNTS, ""),
-    ("flag with =", ["--unhinted=1"], SANS, 2, USAGE, GENERAL),
-    ("duplicate --ppem", ["--ppem", "16"], SANS, 2, USAGE, GENERAL),
-    ("duplicate --chars", ["--chars", "41"], SANS, 2, USAGE, GENERAL),
-    ("duplicate flag", ["--hex", "--hex"], SANS, 2, USAGE, GENERAL),
+    ("flag with =", ["--unhinted=1"], SANS, 2, USAGE, "--unhinted takes no value"),
+    ("duplicate --ppem", ["--ppem", "16"], SANS, 2, USAGE, "--ppem is given twice"),
+    ("duplicate --chars", ["--chars", "41"], SANS, 2, USAGE, "--chars is given twice"),
+    ("duplicate with =", ["--chars=41"], SANS, 2, USAGE, "'--chars=41' is given twice"),
+    ("duplicate flag", ["--hex", "--hex"], SANS, 2, USAGE, "'--hex' is given twice"),
     ("command missing", ["--ppem", "16", "--chars", "41"], SANS, 2, USAGE, "the first word is the command, make, show or dump, not '--ppem'"),
     ("command misspelt", ["mkae", "--ppem", "16"], SANS, 2, USAGE, "unknown command 'mkae'; did you mean 'make'?"),
     ("font in place of the command", ["font.ttf"], SANS, 2, USAGE, "unknown command 'font.ttf'; 'mkstrike help' lists the commands"),
     ("options before command", ["--ppem", "16", "make", "--chars", "41"], SANS, 2, USAGE, "the first word is the command"),
     ("no args, font in", None, SANS, 2, USAGE, "without arguments the first line of the input is the command line"),
     # names and properties
-    ("--name -misc (no =)", ["--name", "-misc-a"], SANS, 2, USAGE, "a value that begins with '-' is given as --name=-misc-a"),
+    ("--name -misc (no =)", ["--name", "-misc-a"], SANS, 2, USAGE, "--name takes a value; one that begins with '-' is given as --name=-misc-a"),
     ("--name with umlaut", ["--name", "Gr\xfc\xdfe"], SANS, 1, "mkstrike: 62 BadName", "give another name"),
-    ("--property no =", ["--property", "A"], SANS, 2, USAGE, GENERAL),
+    ("--property no =", ["--property", "A"], SANS, 2, USAGE, "--property takes KEY=VALUE, not 'A'"),
     ("--property lower", ["--property", "a=1"], SANS, 1, "mkstrike: 63 BadProperty 1", "give another name or text"),
     ("--property FONT_ASCENT", ["--property", "FONT_ASCENT=1"], SANS, 1, "mkstrike: 63 BadProperty 1", "give another name or text"),
     ("--property dup", ["--property", "A=1", "--property", "A=2"], SANS, 1, "mkstrike: 63 BadProperty 2", "give another name or text"),
@@ -117,9 +124,9 @@ ROWS = [
     ("--help", ["--help"], b"", 0, "", NONE), ("-h", ["-h"], b"", 0, "", NONE), ("help make", ["help", "make"], b"", 0, "", NONE),
     ("--version", ["--version"], b"", 0, "", NONE), ("-V", ["-V"], b"", 0, "", NONE), ("make --help", ["--help"], b"", 0, "", NONE),
     # the font's programs
-    ("dump of what is not there", ["dump", "--of", "gpos"], SANS, 2, USAGE, "'mkstrike help dump' shows how it is written"),
-    ("dump glyph 99999", ["dump", "--of", "99999"], SANS, 2, USAGE, "'mkstrike help dump' shows how it is written"),
-    ("dump glyph name", ["dump", "--of", "Aacute"], SANS, 2, USAGE, "'mkstrike help dump' shows how it is written"),
+    ("dump of what is not there", ["dump", "--of", "gpos"], SANS, 2, USAGE, "--of takes fpgm, prep or the number of a glyph, not 'gpos'; 'mkstrike help dump'"),
+    ("dump glyph 99999", ["dump", "--of", "99999"], SANS, 2, USAGE, "the number of a glyph, not '99999'"),
+    ("dump glyph name", ["dump", "--of", "Aacute"], SANS, 2, USAGE, "the number of a glyph, not 'Aacute'"),
     ("a glyph whose program halts", ["make", "--ppem", "16", "--chars", "19c"], SANS, 1, "mkstrike: 30 StackUnder .*", "with --unhinted no program"),
 ]
 ALONE = ("make", "show", "dump", "mkae", "font.ttf", "-h", "help", "--version", "-V")

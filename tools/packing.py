@@ -1,7 +1,7 @@
 """Archives as bytes that depend on nothing but names, contents and one time: gzip, tar, and the ar of a .deb.
 
-A tree is a dict from a path, as `usr/bin/mkstrike`, to a pair of its bytes and whether it is executable. Times are
-seconds since 1970.
+A tree is a dict from a path, as `usr/bin/mkstrike`, to a pair of its bytes and whether it is executable; or, of a symbolic link, of the
+bytes of where it leads and LINK. Times are seconds since 1970.
 """
 import io
 import os
@@ -10,6 +10,7 @@ import tarfile
 import zlib
 
 AR = b"!<arch>\n"
+LINK = "link"
 
 
 def gzipped(data):
@@ -47,6 +48,11 @@ def tarred(tree, time, top="./"):
                 tar.addfile(member(top + path, 0o755, time, tarfile.DIRTYPE))
                 continue
             data, is_program = tree[path]
+            if is_program == LINK:
+                made = member(top + path, 0o777, time, tarfile.SYMTYPE)
+                made.linkname = data.decode()
+                tar.addfile(made)
+                continue
             made = member(top + path, 0o755 if is_program else 0o644, time, tarfile.REGTYPE)
             made.size = len(data)
             tar.addfile(made, io.BytesIO(data))
@@ -92,8 +98,11 @@ def unpack(packed, folder, leave_out=0):
             if it.isdir():
                 os.makedirs(path, exist_ok=True)
                 continue
+            made.append(path)
+            if it.issym():
+                os.symlink(it.linkname, path)
+                continue
             with open(path, "wb") as file:
                 file.write(tar.extractfile(it).read())
             os.chmod(path, it.mode)
-            made.append(path)
     return made

@@ -1,10 +1,15 @@
-"""The program and the C library kept in dist/, and their manifest: five lines of text that say of what they were made.
+"""The program, the C library and the page kept in dist/, and their manifest: lines of text that say of what they were made.
 
     sources SHA256             the hash of the program's sources, 64 hexadecimal digits, as bin/sources.bash makes it
     kit LINE                   what `rt version` prints
     mkstrike SHA256            the hash of the file dist/mkstrike
     library-sources SHA256     the hash of the sources of crates/mkstrike_c and of what it stands on
     libmkstrike_c.a SHA256     the hash of the file dist/libmkstrike_c.a
+    libmkstrike_c-aarch64.a SHA256     that of the same library for 64-bit ARM, if dist/ has it
+    module-sources SHA256      the hash of what the module of the page is made of, as tools/web_module.py makes it
+    mkstrike.wasm SHA256       the hash of the file dist/mkstrike.wasm
+
+The last two lines are there if the module is. dist/mkstrike.html needs none: tools/check_dist makes it anew from web/ and the module.
 """
 import collections
 import hashlib
@@ -18,13 +23,17 @@ TOP = os.path.dirname(os.path.dirname(os.path.realpath(__file__)))
 DIST = os.path.join(TOP, "dist")
 BUILT = os.path.join(TOP, "crates/mkstrike/out/mkstrike")
 ARCHIVE = os.path.join(TOP, "crates/mkstrike_c/out/libmkstrike_c.a")
+ARM_ARCHIVE = "libmkstrike_c-aarch64.a"
 MOST = 1000000  # bytes of a file of dist/
 FORM = re.compile(r"sources ([0-9a-f]{64})\nkit ([^\n]+)\nmkstrike ([0-9a-f]{64})\n"
-                  r"library-sources ([0-9a-f]{64})\nlibmkstrike_c\.a ([0-9a-f]{64})\n")
+                  r"library-sources ([0-9a-f]{64})\nlibmkstrike_c\.a ([0-9a-f]{64})\n"
+                  r"(?:libmkstrike_c-aarch64\.a ([0-9a-f]{64})\n)?"
+                  r"(?:module-sources ([0-9a-f]{64})\nmkstrike\.wasm ([0-9a-f]{64})\n)?")
 HASH = """set -euo pipefail; shopt -s inherit_errexit; source "$0"; go_to_top; list_crates; crates=(); add_crate "$1"; hash_of_sources"""
 
 
 FILES = ("manifest", "mkstrike", "libmkstrike_c.a")
+WEB_FILES = ("mkstrike.wasm", "mkstrike.html")
 
 
 class Fault(Exception):
@@ -81,12 +90,28 @@ def read(path):
         raise Fault("%s: %s" % (shown(path), fault.strerror))
 
 
-Manifest = collections.namedtuple("Manifest", "sources kit program library_sources library")
+def write(path, data, mode=0o644):
+    """Puts a file in place whole, in one step."""
+    new = os.path.join(TOP, "out", "%s.%d" % (os.path.basename(path), os.getpid()))
+    os.makedirs(os.path.dirname(new), exist_ok=True)
+    with open(new, "wb") as file:
+        file.write(data)
+    os.chmod(new, mode)
+    os.replace(new, path)
+
+
+Manifest = collections.namedtuple("Manifest", "sources kit program library_sources library arm module_sources module",
+                                  defaults=(None, None, None))
 
 
 def manifest_of(manifest):
     """The bytes of dist/manifest."""
-    return ("sources %s\nkit %s\nmkstrike %s\nlibrary-sources %s\nlibmkstrike_c.a %s\n" % manifest).encode()
+    text = "sources %s\nkit %s\nmkstrike %s\nlibrary-sources %s\nlibmkstrike_c.a %s\n" % manifest[:5]
+    if manifest.arm:
+        text += "%s %s\n" % (ARM_ARCHIVE, manifest.arm)
+    if manifest.module:
+        text += "module-sources %s\nmkstrike.wasm %s\n" % manifest[6:]
+    return text.encode()
 
 
 def read_manifest():
@@ -98,11 +123,13 @@ def read_manifest():
 
 
 def look_at_dist():
-    """Raises a fault unless dist/ has just its three files, as they have to be, and the manifest is of the two others."""
+    """Raises a fault unless dist/ has just its files, as they have to be, and the manifest is of the others."""
+    manifest = read_manifest()
+    files = FILES + ((ARM_ARCHIVE,) if manifest.arm else ()) + (WEB_FILES if manifest.module else ())
     for name in sorted(os.listdir(DIST)):
-        if name not in FILES:
+        if name not in FILES + (ARM_ARCHIVE,) + WEB_FILES:
             raise Fault("dist/%s has no place there" % name)
-    for name in FILES:
+    for name in files:
         try:
             seen = os.lstat(os.path.join(DIST, name))
         except OSError as fault:
@@ -113,9 +140,9 @@ def look_at_dist():
             raise Fault("dist/%s has %d bytes: it has to be under %d" % (name, seen.st_size, MOST))
         if (name == "mkstrike") != bool(seen.st_mode & 0o111):
             raise Fault("dist/%s is %sexecutable" % (name, "not " if name == "mkstrike" else ""))
-    manifest = read_manifest()
-    for name, named in (("mkstrike", manifest.program), ("libmkstrike_c.a", manifest.library)):
-        if named != sha256(read(os.path.join(DIST, name))):
+    for name, named in (("mkstrike", manifest.program), ("libmkstrike_c.a", manifest.library), (ARM_ARCHIVE, manifest.arm),
+                        ("mkstrike.wasm", manifest.module)):
+        if named and named != sha256(read(os.path.join(DIST, name))):
             raise Fault("dist/%s is not the file that dist/manifest names by its hash" % name)
 
 

@@ -7,6 +7,8 @@ import subprocess
 import sys
 import tempfile
 
+import compile_lines
+import fonts
 import packing
 import prebuilt
 from prebuilt import TOP
@@ -115,28 +117,50 @@ class Root:
             return prebuilt.run_stored_request(["chroot", "--userspec=65534:65534", self.folder, inside])
         return prebuilt.run_stored_request([self.path(inside)], {"env": {}})
 
-    def look(self, count, prefix, what, program, library):
-        """Looks at what was installed below the prefix."""
-        is_same = prebuilt.read(self.path(prefix, "lib/libmkstrike_c.a")) == library
+    def look(self, count, prefix, what, program, library, libraries):
+        """Looks at what was installed below the prefix; the library is in the folder `libraries` there."""
+        is_same = prebuilt.read(self.path(prefix, libraries, "libmkstrike_c.a")) == library
         count.check("%s: the C library is there, as it was packed" % what, not is_same)
         if shutil.which("cc"):
-            count.check("%s: an example builds with it, and runs" % what, self.builds(prefix))
+            self.look_at_examples(count, prefix, what, libraries)
         at = self.path(prefix, "libexec/mkstrike/mkstrike")
         is_same = os.access(at, os.X_OK) and prebuilt.read(at) == program
         count.check("%s: the program is there, as it was packed" % what, not is_same)
         for words in (["--version"], ["help", "make"]):
             count.check("%s: mkstrike %s" % (what, " ".join(words)), failure_of([self.path(prefix, "bin/mkstrike"), *words]))
-        page, source = self.path(prefix, "share/man/man1/mkstrike.1.gz"), os.path.join(TOP, "docs/mkstrike.1")
-        is_page = os.path.exists(page) and gzip.decompress(prebuilt.read(page)) == prebuilt.read(source)
-        count.check("%s: the man page is there" % what, not is_page)
+        for name in ("mkstrike", "show-bdf"):
+            page, source = self.path(prefix, "share/man/man1/%s.1.gz" % name), os.path.join(TOP, "docs/%s.1" % name)
+            is_page = os.path.exists(page) and gzip.decompress(prebuilt.read(page)) == prebuilt.read(source)
+            count.check("%s: the man page of %s is there" % (what, name), not is_page)
         count.check("%s: the documents link to nothing that is not there" % what, self.dead_link(prefix))
         count.check("%s: show-bdf is there" % what, not os.access(self.path(prefix, "bin/show-bdf"), os.X_OK))
         how = "as nobody, with the C library and a shell alone" if self.is_jail else "here"
         count.check("%s: the program runs %s" % (what, how), self.runs(os.path.join("/", prefix, "bin/mkstrike")))
 
+    def look_at_examples(self, count, prefix, what, libraries):
+        """Builds and runs each example by the command that it shows, with what is installed below the prefix alone."""
+        at, include = self.path(prefix, libraries), self.path(prefix, "include")
+        env = {**os.environ, "PKG_CONFIG_PATH": at + "/pkgconfig", "LIBRARY_PATH": at, "LD_LIBRARY_PATH": at, "CPATH": include,
+               "GOCACHE": self.path("..", "go"), "GOFLAGS": "-mod=mod", "CGO_LDFLAGS": "-L" + at, "CGO_CFLAGS": "-I" + include}
+        if prefix == "usr":
+            env["PKG_CONFIG_SYSROOT_DIR"] = self.folder
+        where = next(it for it in ("share/doc/libmkstrike-dev", "share/doc/mkstrike") if os.path.exists(self.path(prefix, it, "examples")))
+        with tempfile.TemporaryDirectory() as folder:
+            shutil.copytree(self.path(prefix, where, "examples"), folder, dirs_exist_ok=True)
+            font = os.path.join(folder, "font.ttf")
+            with open(font, "wb") as file:
+                file.write(fonts.FIXTURE)
+            try:
+                printed, absent = compile_lines.tried(folder, font, env, False, lambda it: it.replace("/usr/share", self.path(prefix, "share")))
+                wrong = None if all(printed.values()) else "nothing is printed"
+            except prebuilt.Fault as fault:
+                printed, absent, wrong = {}, set(), str(fault)
+        left = "; without %s" % " ".join(sorted(absent)) if absent else ""
+        count.check("%s: %d examples build and run by their own commands%s" % (what, len(printed), left), wrong)
+
     def dead_link(self, prefix):
         """A link of a document below the prefix that leads to nothing there, or None."""
-        for at, _, names in os.walk(self.path(prefix, "share/doc/mkstrike")):
+        for at, _, names in os.walk(self.path(prefix, "share/doc")):
             for name in sorted(it for it in names if it.endswith(".md")):
                 links = re.findall(r"\]\(([^):#]+)[)#]", prebuilt.read(os.path.join(at, name)).decode())
                 dead = next((it for it in links if not os.path.exists(os.path.join(at, it))), None)
@@ -144,41 +168,49 @@ class Root:
                     return "%s links to %s" % (name, dead)
         return None
 
-    def builds(self, prefix):
-        """What is wrong with an example built with what is installed below the prefix, or None: it has to refuse no font."""
-        with tempfile.TemporaryDirectory() as folder:
-            show = os.path.join(folder, "show")
-            words = ["cc", "-I" + self.path(prefix, "include"), self.path(prefix, "share/doc/mkstrike/examples/show.c"),
-                     self.path(prefix, "share/mkstrike/heap.c"), "-L" + self.path(prefix, "lib"), "-lmkstrike_c", "-o", show]
-            wrong = failure_of(words)
-            if wrong:
-                return wrong
-            status, said = run([show, os.devnull, "16", "41"])
-            return None if (status, said) == (1, "refused: 10 NotTrueType") else "status %d: %s" % (status, said)
-
     def is_left(self):
         """What is left after a removal, or what went with it, or None."""
         return " ".join(sorted(self.seen() ^ self.before)) or None
 
 
-def try_deb(count, deb, files, root):
-    """Installs and removes the Debian package, by dpkg if it is there and may, else by hand."""
-    if shutil.which("dpkg-deb"):
+def control_field(deb, name):
+    """A field of a Debian package's control file."""
+    with tempfile.TemporaryDirectory() as folder:
+        packing.unpack(dict(packing.members_of(prebuilt.read(deb)))["control.tar.gz"], folder)
+        return re.search(r"^%s: (.*)$" % name, prebuilt.read(os.path.join(folder, "control")).decode(), re.M).group(1)
+
+
+def try_debs(count, debs, files, root):
+    """Installs and removes the Debian packages, by dpkg if it is there and may, else by hand."""
+    for deb in debs if shutil.which("dpkg-deb") else ():
         for way in ("--info", "--contents"):
-            count.check("dpkg-deb %s reads the package" % way, failure_of(["dpkg-deb", way, deb]))
+            count.check("dpkg-deb %s reads %s" % (way, os.path.basename(deb)), failure_of(["dpkg-deb", way, deb]))
+    debs = [it for it in debs if control_field(it, "Architecture") == "amd64"]
+    names = [control_field(it, "Package") for it in debs]
     dpkg = ["dpkg", "--root=%s" % root.folder, "--log=/dev/null"]
     if os.geteuid() == 0 and shutil.which("dpkg"):
         how = {"env": {**os.environ, "PATH": os.environ["PATH"] + ":/usr/sbin:/sbin"}}
-        count.check("dpkg installs it, with what it depends on", failure_of([*dpkg, "--install", deb], how))
-        root.look(count, "usr", "installed by dpkg", *files)
-        count.check("dpkg finds each file as it was packed", run([*dpkg, "--verify", "mkstrike"], how)[1])
-        count.check("dpkg removes it", failure_of([*dpkg, "--purge", "mkstrike"], how))
+        count.check("dpkg installs them, with what they depend on", failure_of([*dpkg, "--install", *debs], how))
+        root.look(count, "usr", "installed by dpkg", *files, "lib/x86_64-linux-gnu")
+        count.check("dpkg finds each file as it was packed", run([*dpkg, "--verify", *names], how)[1])
+        count.check("dpkg removes them", failure_of([*dpkg, "--purge", *names], how))
     else:
-        parts = dict(packing.members_of(prebuilt.read(deb)))
-        made = packing.unpack(parts["data.tar.gz"], root.folder)
-        root.look(count, "usr", "unpacked by hand", *files)
+        made = []
+        for deb in debs:
+            made += packing.unpack(dict(packing.members_of(prebuilt.read(deb)))["data.tar.gz"], root.folder)
+        root.look(count, "usr", "unpacked by hand", *files, "lib/x86_64-linux-gnu")
         remove(made, root.folder)
     count.check("after the removal nothing is left", root.is_left())
+
+
+def look_by_lintian(count, debs):
+    """What lintian says of the packages, beside what the owner has to say: there is no licence yet."""
+    if not shutil.which("lintian"):
+        return
+    for deb in debs:
+        said = run(["lintian", "--allow-root", deb])[1].splitlines()
+        said = [it for it in said if re.match("[EW]: ", it) and "no-copyright-file" not in it]
+        count.check("lintian is content with %s but for the copyright" % os.path.basename(deb), said and "; ".join(said))
 
 
 def remove(paths, top):
@@ -194,25 +226,28 @@ def remove(paths, top):
 def try_tarball(count, tarball, files, root):
     """Unpacks the tarball below /usr/local, without its own top, and removes what came out."""
     made = packing.unpack(prebuilt.read(tarball), root.path("usr/local"), leave_out=1)
-    root.look(count, "usr/local", "unpacked tarball", *files)
+    root.look(count, "usr/local", "unpacked tarball", *files, "lib")
     remove(made, root.folder)
     count.check("without its files nothing is left", root.is_left())
 
 
 def check_all(made, program, library, again):
-    """Tries the .deb and the tarball, the two paths `made`, which have the program's and the library's bytes.
+    """Tries the packages but Python's, among the paths `made`, which have the program's and the library's bytes.
 
-    `again` are the words, a Python file first, that make them once more. Returns the status.
+    `again` are the words, a Python file first, that make all once more. Returns the status.
     """
     count = Count()
     make_again(count, made, again)
+    debs = [it for it in made if it.endswith(".deb") and not os.path.basename(it).startswith("python3-")]
+    tar = next(it for it in made if it.endswith(".tar.gz"))
+    look_by_lintian(count, debs)
     with tempfile.TemporaryDirectory() as folder:
         named = os.path.join(folder, "mkstrike")
         with open(named, "wb") as file:
             file.write(program)
         os.chmod(named, 0o755)
-        for name, attempt in (("deb", try_deb), ("tar", try_tarball)):
+        for name, attempt, it in (("deb", try_debs, debs), ("tar", try_tarball, tar)):
             os.mkdir(os.path.join(folder, name))
-            attempt(count, made[name == "tar"], (program, library), Root(os.path.join(folder, name), named))
+            attempt(count, it, (program, library), Root(os.path.join(folder, name), named))
     print("%d passed, %d failed" % (count.passed, count.failed))
     return 1 if count.failed else 0

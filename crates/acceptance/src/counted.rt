@@ -4,7 +4,7 @@ use crate::outlines::{READING_A_STRAY, TWICE};
 use fx_fixed::Ppem;
 use fx_hint::{GlyphInput, HintFault, Hinter, KeepingMachine, Made, outline_with};
 use fx_machine::{Machine, Usage};
-use fx_sfnt::Font;
+use fx_sfnt::{Font, FontFile};
 use std::alloc::Global;
 use std::marker::Model;
 use std::test::Fail;
@@ -85,7 +85,7 @@ fn runs_until(
 #[test]
 fn a_component_that_comes_again_runs_once(rt: HostRuntime) -> Result<(), Fail> {
     let file = font(rt.alloc(), TWICE, READING_A_STRAY)?;
-    let font = Font::open(file.as_slice())?;
+    let font = Font::open(&FontFile::of(file.as_slice()))?;
     let mut counting = counting_machine(rt.alloc(), &font)?;
     for (g, runs) in [(2, 1), (2, 1), (3, 2), (3, 3), (2, 3)] {
         assert!(rt; runs_until(rt.alloc(), &mut counting, &font, g)? == runs);

@@ -3,6 +3,7 @@ use crate::fonts::fixture;
 use crate::strikes::request;
 use fx_fixed::{Limits, MemorySink};
 use fx_request::Refusal;
+use fx_sfnt::FontFile;
 use fx_strike::make_strike;
 use std::alloc::{AllocError, Global};
 use std::test::Fail;
@@ -30,7 +31,7 @@ fn expected(length: usize) -> Result<&'static str, Refusal> {
 fn is_expected(alloc: Global, front: &[u8]) -> Result<bool, AllocError> {
     let request = request(16, &[0x41]);
     let mut out = MemorySink::new(alloc, 512, Limits::NONE)?;
-    let result = make_strike(alloc, front, &request, &mut out);
+    let result = make_strike(alloc, &FontFile::of(front), &request, &mut out);
     let so = match expected(front.len()) {
         Err(refusal) => result == Err(refusal) && out.bytes().is_empty(),
         Ok(lines) => result.is_ok() && out.bytes().ends_with(lines.as_bytes()),

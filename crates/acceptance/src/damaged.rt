@@ -5,6 +5,7 @@ use crate::strikes::{HINTED, UNHINTED, request};
 use crate::tables::{Tables, with_tables};
 use fx_fixed::{Limits, MemorySink};
 use fx_request::{Mode, Request};
+use fx_sfnt::FontFile;
 use fx_strike::make_strike;
 use std::alloc::{AllocError, Global};
 use std::process::Abort;
@@ -17,7 +18,7 @@ fn ends_well(alloc: Global, font: &[u8], mode: Mode) -> Result<bool, AllocError>
         ..request(16, &[0x20, 0x41, 0x42])
     };
     let mut out = MemorySink::new(alloc, 4096, Limits::NONE)?;
-    let ends = match make_strike(alloc, font, &request, &mut out) {
+    let ends = match make_strike(alloc, &FontFile::of(font), &request, &mut out) {
         Ok(_) => out.bytes().ends_with(b"ENDFONT\n"),
         Err(refusal) => 10 <= refusal.number() && refusal.number() <= 62 && out.bytes().is_empty(),
     };

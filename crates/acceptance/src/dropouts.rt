@@ -2,6 +2,7 @@
 use crate::fonts::{RING, font};
 use crate::strikes::{UNHINTED, ends_so, request};
 use fx_request::{Mode, Request};
+use fx_sfnt::FontFile;
 use fx_strike::{Striker, one};
 use std::test::Fail;
 
@@ -105,9 +106,9 @@ fn the_common_box_holds_them(rt: HostRuntime) -> Result<(), Fail> {
 fn one_character_with_its_thin_strokes(rt: HostRuntime) -> Result<(), Fail> {
     let font = font(rt.alloc(), RING, ROWS[0].glyph)?;
     for (mode, bounds) in [(UNHINTED, (0, 0, 0, 0)), (DROPOUT, (4, 1, 0, 0))] {
-        let glyph = one(rt.alloc(), font.as_slice(), 16, 0x42, mode)?;
+        let glyph = one(rt.alloc(), &FontFile::of(font.as_slice()), 16, 0x42, mode)?;
         assert!(rt; glyph.as_ref().map(|glyph| glyph.bbox()) == Some(bounds));
-        let mut striker = Striker::open(rt.alloc(), font.as_slice(), 16, mode)?;
+        let mut striker = Striker::open(rt.alloc(), &FontFile::of(font.as_slice()), 16, mode)?;
         let again = striker.glyph(0x42)?;
         assert!(rt; again.as_ref().map(|glyph| glyph.bbox()) == Some(bounds));
     }

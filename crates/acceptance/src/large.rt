@@ -3,6 +3,7 @@ use crate::fonts::{self, ARC, bytes, fixture, patch};
 use crate::strikes::{counts, request};
 use fx_fixed::{Limits, MemorySink, Sink};
 use fx_request::{Report, Request};
+use fx_sfnt::FontFile;
 use fx_strike::make_strike;
 use std::alloc::Global;
 use std::process::Abort;
@@ -70,7 +71,7 @@ fn is_made(
     text: &str,
 ) -> Result<(), Fail> {
     let mut out = MemorySink::new(alloc, 0, Limits::NONE)?;
-    let result = make_strike(alloc, font, request, &mut out);
+    let result = make_strike(alloc, &FontFile::of(font), request, &mut out);
     assert!(rt; result == Ok(report));
     assert!(rt; out.faults() == 0);
     assert!(rt; out.bytes() == text.as_bytes());

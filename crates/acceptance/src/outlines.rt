@@ -4,7 +4,7 @@ use fx_fixed::{F26, Ppem};
 use fx_hint::{GlyphOutline, KeepingMachine, outline, outline_with};
 use fx_machine::{Machine, Usage};
 use fx_outline::OutlinePoint;
-use fx_sfnt::Font;
+use fx_sfnt::{Font, FontFile};
 use std::alloc::Global;
 use std::process::Abort;
 use std::test::Fail;
@@ -29,7 +29,7 @@ pub fn off(x: i32, y: i32) -> OutlinePoint {
 
 /// The unhinted outline of glyph 2 of a font, at a size.
 fn outline_at(alloc: Global, file: &[u8], pixels: u16) -> Result<GlyphOutline, Fail> {
-    let font = Font::open(file)?;
+    let font = Font::open(&FontFile::of(file))?;
     let ppem = Ppem::new(pixels).ok_or("no size")?;
     Ok(outline(alloc, &font, ppem, None, 2)?)
 }
@@ -138,7 +138,7 @@ fn outlines_by_both(
     keeping: &mut KeepingMachine<'_>,
     file: &[u8],
 ) -> Result<(), Fail> {
-    let font = Font::open(file)?;
+    let font = Font::open(&FontFile::of(file))?;
     for pixels in [16, 16, 33, 16] {
         outline_by_both(rt, alloc, keeping, &font, pixels)?;
     }
@@ -160,14 +160,14 @@ fn outline_of_changed(
 ) -> Result<(), Fail> {
     let mut changed = Vec::from_slice(alloc, file)?;
     patch(&mut changed, at, &[new])?;
-    let font = Font::open(changed.as_slice())?;
+    let font = Font::open(&FontFile::of(changed.as_slice()))?;
     outline_by_both(rt, alloc, keeping, &font, 16)
 }
 
 #[test]
 fn a_component_that_comes_again(rt: HostRuntime) -> Result<(), Fail> {
     let file = font(rt.alloc(), TWICE, READING_A_STRAY)?;
-    let font = Font::open(file.as_slice())?;
+    let font = Font::open(&FontFile::of(file.as_slice()))?;
     let mut keeping = keeping_machine(rt.alloc(), &font)?;
     outlines_by_both(&rt, rt.alloc(), &mut keeping, file.as_slice())
 }

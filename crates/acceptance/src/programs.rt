@@ -4,7 +4,7 @@ use crate::tables::{self, NO_TABLES, Tables};
 use fx_code::Code;
 use fx_fixed::{F26, Place, Ppem};
 use fx_machine::{Cause, FontProgram, Halt, Machine, MachineFault, Usage};
-use fx_sfnt::Font;
+use fx_sfnt::{Font, FontFile};
 use fx_zone::{Point, Zone};
 use std::alloc::Global;
 use std::process::Abort;
@@ -23,7 +23,7 @@ fn size() -> Result<Ppem, Fail> {
 
 /// The machine of a font of which no program halts.
 pub fn machine<'a>(alloc: Global, file: &'a [u8]) -> Result<Machine<'a>, Fail> {
-    Ok(Machine::new(alloc, Font::open(file)?, size()?)?)
+    Ok(Machine::new(alloc, Font::open(&FontFile::of(file))?, size()?)?)
 }
 
 // A point at rest on the curve.
@@ -329,7 +329,7 @@ const EIGHT: &str = "b0 00 2c 2d
 
 // What the programs of a font use up before any glyph, or where they halt.
 fn prelude_of(alloc: Global, file: &[u8]) -> Result<Result<Usage, Halt>, Fail> {
-    match Machine::new(alloc, Font::open(file)?, size()?) {
+    match Machine::new(alloc, Font::open(&FontFile::of(file))?, size()?) {
         Ok(machine) => Ok(Ok(machine.prelude())),
         Err(MachineFault::Halted(halt)) => Ok(Err(halt)),
         Err(fault) => Err(fault.into()),

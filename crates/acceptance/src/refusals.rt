@@ -33,6 +33,7 @@ fn refusals_show_number_name_and_fields(rt: HostRuntime) -> Result<(), Fail> {
         (Refusal::TooManyPoints(5), "22 TooManyPoints 5"),
         (Refusal::BadPointMatch(6), "23 BadPointMatch 6"),
         (Refusal::BadGlyphNumber(65_535), "24 BadGlyphNumber 65535"),
+        (Refusal::NoFace, "25 NoFace"),
         (
             halted(Cause::NoFunction, FontProgram::Fpgm, 17, 0x2b),
             "35 NoFunction during glyph 65535 in fpgm at 17 opcode 2B",

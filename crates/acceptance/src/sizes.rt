@@ -4,6 +4,7 @@ use crate::strikes::{counts, ends_with, request};
 use fx_fixed::{Limits, MemorySink};
 use fx_request::{Refusal, Request};
 use fx_rows::Rows;
+use fx_sfnt::FontFile;
 use fx_strike::{make_strike, make_strike_with};
 use fx_winding::{Bitmap, Frame, Pieces, Scan, ScanFault, Tally};
 use std::alloc::Global;
@@ -59,7 +60,7 @@ fn ends_by(
     end: &str,
 ) -> Result<(), Fail> {
     let mut out = MemorySink::new(alloc, 4096, Limits::NONE)?;
-    let result = make_strike_with(alloc, scan, font, request, &mut out);
+    let result = make_strike_with(alloc, scan, &FontFile::of(font), request, &mut out);
     assert!(rt; result.is_ok());
     assert!(rt; out.bytes().ends_with(end.as_bytes()));
     Ok(())
@@ -75,7 +76,7 @@ fn refused_by(
     refusal: Refusal,
 ) -> Result<(), Fail> {
     let mut out = MemorySink::new(alloc, 4096, Limits::NONE)?;
-    let result = make_strike_with(alloc, scan, font, request, &mut out);
+    let result = make_strike_with(alloc, scan, &FontFile::of(font), request, &mut out);
     assert!(rt; result == Err(refusal));
     assert!(rt; out.bytes().is_empty());
     Ok(())
@@ -164,7 +165,7 @@ fn the_greatest_size(rt: HostRuntime) -> Result<(), Fail> {
     let font = fixture(alloc)?;
     let mut out = MemorySink::new(alloc, 0, Limits::NONE)?;
     let request = request(1024, &[0x41]);
-    let result = make_strike(alloc, font.as_slice(), &request, &mut out);
+    let result = make_strike(alloc, &FontFile::of(font.as_slice()), &request, &mut out);
     assert!(rt; result.is_ok());
     let rows = large_ring(alloc)?;
     assert!(rt; out.bytes().strip_prefix(HEAD) == Some(rows.as_slice()));
@@ -176,7 +177,12 @@ fn sizes_up_to_1024(rt: HostRuntime) -> Result<(), Fail> {
     let font = fixture(rt.alloc())?;
     for (ppem, ok) in [(256, true), (1024, true), (1025, false)] {
         let mut out = MemorySink::new(rt.alloc(), 0, Limits::NONE)?;
-        let result = make_strike(rt.alloc(), font.as_slice(), &request(ppem, &[]), &mut out);
+        let result = make_strike(
+            rt.alloc(),
+            &FontFile::of(font.as_slice()),
+            &request(ppem, &[]),
+            &mut out,
+        );
         assert!(rt; result.is_ok() == ok, "{ppem}");
         assert!(rt; ok || result == Err(Refusal::BadSize), "{ppem}");
     }

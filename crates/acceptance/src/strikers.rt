@@ -7,6 +7,7 @@ use crate::tables::{NO_TABLES, Tables, with_tables};
 use fx_fixed::{Limits, MemorySink};
 use fx_request::{Mode, Refusal, Request};
 use fx_rows::Rows;
+use fx_sfnt::FontFile;
 use fx_strike::{Striker, make_strike, survey};
 use std::alloc::Global;
 use std::process::Abort;
@@ -39,7 +40,7 @@ fn writes_as_alone(
 ) -> Result<(), Fail> {
     let chars = [code];
     let mut alone = MemorySink::new(alloc, 1024, Limits::NONE)?;
-    let due = make_strike(alloc, font, &hinted(&chars), &mut alone);
+    let due = make_strike(alloc, &FontFile::of(font), &hinted(&chars), &mut alone);
     let mut out = MemorySink::new(alloc, 1024, Limits::NONE)?;
     let told = striker.write(&named("F1"), &chars, &mut out);
     assert_eq!(rt; told, due);
@@ -76,7 +77,7 @@ fn twice_as_alone(
 #[test]
 fn characters_in_any_order(rt: HostRuntime) -> Result<(), Fail> {
     let font = of_storing(rt.alloc())?;
-    let mut striker = Striker::open(rt.alloc(), font.as_slice(), 16, HINTED)?;
+    let mut striker = Striker::open(rt.alloc(), &FontFile::of(font.as_slice()), 16, HINTED)?;
     twice_as_alone(&rt, rt.alloc(), &mut striker, font.as_slice())
 }
 
@@ -102,14 +103,14 @@ fn refuses_twice(rt: &impl Abort, striker: &mut Striker<'_, Rows>) {
 #[test]
 fn a_refusal_leaves_the_striker(rt: HostRuntime) -> Result<(), Fail> {
     let font = font(rt.alloc(), ROUNDED, DIVIDING)?;
-    let mut striker = Striker::open(rt.alloc(), font.as_slice(), 16, HINTED)?;
+    let mut striker = Striker::open(rt.alloc(), &FontFile::of(font.as_slice()), 16, HINTED)?;
     refuses_twice(&rt, &mut striker);
     writes_as_alone(&rt, rt.alloc(), &mut striker, font.as_slice(), 0x42)
 }
 
 /// The number of the refusal of a font at 16 pixels an em.
 fn refused(alloc: Global, font: &[u8], mode: Mode) -> Option<u8> {
-    match Striker::open(alloc, font, 16, mode) {
+    match Striker::open(alloc, &FontFile::of(font), 16, mode) {
         Ok(_striker) => None,
         Err(refusal) => Some(refusal.number()),
     }
@@ -127,7 +128,7 @@ fn fonts_that_do_not_open(rt: HostRuntime) -> Result<(), Fail> {
 
 /// The number of the refusal of a font that is opened at a size for a character.
 fn refused_for(alloc: Global, font: &[u8], ppem: u16, code: u32) -> Option<u8> {
-    match Striker::open_for(alloc, font, ppem, &[code], HINTED) {
+    match Striker::open_for(alloc, &FontFile::of(font), ppem, &[code], HINTED) {
         Ok(_striker) => None,
         Err(refusal) => Some(refusal.number()),
     }
@@ -167,9 +168,9 @@ fn programs_that_halt(rt: HostRuntime) -> Result<(), Fail> {
 #[test]
 fn sizes_characters_and_names(rt: HostRuntime) -> Result<(), Fail> {
     let font = fixture(rt.alloc())?;
-    let small = Striker::open(rt.alloc(), font.as_slice(), 0, UNHINTED).err();
+    let small = Striker::open(rt.alloc(), &FontFile::of(font.as_slice()), 0, UNHINTED).err();
     assert_eq!(rt; small, Some(Refusal::BadSize));
-    let mut striker = Striker::open(rt.alloc(), font.as_slice(), 16, UNHINTED)?;
+    let mut striker = Striker::open(rt.alloc(), &FontFile::of(font.as_slice()), 16, UNHINTED)?;
     assert_eq!(rt; box_of(&mut striker, 0x110000), Err(Refusal::BadChars));
     let far = striker.survey(&[0x41, 0x110000]);
     assert_eq!(rt; far, Err(Refusal::BadChars));
@@ -185,7 +186,7 @@ fn sizes_characters_and_names(rt: HostRuntime) -> Result<(), Fail> {
 /// A survey by a striker is that of a request, once and again.
 fn surveys_as_alone(rt: &impl Abort, alloc: Global, striker: &mut Striker<'_, Rows>, font: &[u8]) {
     let chars = [0x42, 0x41, 0x21, 0x41];
-    let due = survey(alloc, &Rows, font, &hinted(&chars));
+    let due = survey(alloc, &Rows, &FontFile::of(font), &hinted(&chars));
     assert_eq!(rt; striker.survey(&chars), due);
     assert_eq!(rt; striker.survey(&chars), due);
 }
@@ -193,7 +194,7 @@ fn surveys_as_alone(rt: &impl Abort, alloc: Global, striker: &mut Striker<'_, Ro
 #[test]
 fn surveys_by_a_striker(rt: HostRuntime) -> Result<(), Fail> {
     let font = fixture(rt.alloc())?;
-    let mut striker = Striker::open(rt.alloc(), font.as_slice(), 16, HINTED)?;
+    let mut striker = Striker::open(rt.alloc(), &FontFile::of(font.as_slice()), 16, HINTED)?;
     surveys_as_alone(&rt, rt.alloc(), &mut striker, font.as_slice());
     Ok(())
 }
@@ -202,7 +203,7 @@ fn surveys_by_a_striker(rt: HostRuntime) -> Result<(), Fail> {
 #[test]
 fn a_striker_asks_its_scan(rt: HostRuntime) -> Result<(), Fail> {
     let font = fixture(rt.alloc())?;
-    let striker = Striker::open(rt.alloc(), font.as_slice(), 16, UNHINTED)?;
+    let striker = Striker::open(rt.alloc(), &FontFile::of(font.as_slice()), 16, UNHINTED)?;
     let mut striker = striker.with_scan(&OfWideFrames);
     assert_eq!(rt; striker.survey(&[0x42]), Err(Refusal::OutOfMemory));
     Ok(())

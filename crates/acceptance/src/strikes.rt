@@ -2,7 +2,8 @@
 use crate::fonts::{ARC, RING, STRIKE, fixture, font, of_points, patch};
 use fx_fixed::{Limits, MemorySink, Sink};
 use fx_machine::Usage;
-use fx_request::{Mode, Refusal, Report, Request};
+use fx_request::{Mode, OnRefused, Refusal, Report, Request};
+use fx_sfnt::FontFile;
 use fx_strike::{Title, make_strike};
 use std::alloc::Global;
 use std::process::Abort;
@@ -36,6 +37,7 @@ pub fn request(ppem: u16, chars: &[u32]) -> Request<'_> {
         title: named("F1"),
         chars,
         mode: UNHINTED,
+        on_refused: OnRefused::Stop,
     }
 }
 
@@ -58,7 +60,7 @@ pub fn ends_with(
     end: &str,
 ) -> Result<(), Fail> {
     let mut out = MemorySink::new(alloc, 4096, Limits::NONE)?;
-    let result = make_strike(alloc, font, request, &mut out);
+    let result = make_strike(alloc, &FontFile::of(font), request, &mut out);
     assert!(rt; result == Ok(counts), "{end}");
     assert!(rt; out.faults() == 0, "{end}");
     assert!(rt; out.bytes().ends_with(end.as_bytes()), "{end}");
@@ -86,7 +88,7 @@ pub fn is_refused(
     refusal: Refusal,
 ) -> Result<(), Fail> {
     let mut out = MemorySink::new(alloc, 4096, Limits::NONE)?;
-    let result = make_strike(alloc, font, request, &mut out);
+    let result = make_strike(alloc, &FontFile::of(font), request, &mut out);
     assert!(rt; result == Err(refusal));
     assert!(rt; out.bytes().is_empty());
     Ok(())
@@ -187,7 +189,7 @@ fn whole(
     text: &str,
 ) -> Result<(), Fail> {
     let mut out = MemorySink::new(alloc, 4096, Limits::NONE)?;
-    let result = make_strike(alloc, font, &request(16, chars), &mut out);
+    let result = make_strike(alloc, &FontFile::of(font), &request(16, chars), &mut out);
     assert!(rt; result == Ok(counts));
     assert!(rt; out.faults() == 0);
     assert!(rt; out.bytes() == text.as_bytes());

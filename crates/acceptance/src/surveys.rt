@@ -4,6 +4,7 @@ use crate::strikes::{HINTED, UNHINTED, request};
 use fx_bdf::{Bounds, Summary};
 use fx_machine::Usage;
 use fx_request::{Refusal, Report, Request};
+use fx_sfnt::FontFile;
 use fx_strike::{Survey, one, survey};
 use fx_winding::{Bitmap, Frame, Pieces, Plain, Scan, ScanFault, Tally};
 use std::alloc::Global;
@@ -13,9 +14,9 @@ use std::test::Fail;
 fn one_character_is_made(rt: HostRuntime) -> Result<(), Fail> {
     let font = fixture(rt.alloc())?;
     for mode in [UNHINTED, HINTED] {
-        let glyph = one(rt.alloc(), font.as_slice(), 16, 0x42, mode)?;
+        let glyph = one(rt.alloc(), &FontFile::of(font.as_slice()), 16, 0x42, mode)?;
         assert!(rt; glyph.as_ref().map(|glyph| glyph.bbox()) == Some((2, 1, 0, 0)));
-        let missing = one(rt.alloc(), font.as_slice(), 16, 0x21, mode)?;
+        let missing = one(rt.alloc(), &FontFile::of(font.as_slice()), 16, 0x21, mode)?;
         assert!(rt; missing.is_none());
     }
     Ok(())
@@ -52,7 +53,7 @@ fn a_strike_is_surveyed(rt: HostRuntime) -> Result<(), Fail> {
             usage: Usage::none(),
         },
     };
-    assert!(rt; survey(rt.alloc(), &Plain, font.as_slice(), &request) == Ok(told));
+    assert!(rt; survey(rt.alloc(), &Plain, &FontFile::of(font.as_slice()), &request) == Ok(told));
     Ok(())
 }
 
@@ -79,10 +80,20 @@ impl Scan for OfWideFrames {
 fn a_survey_scans_what_may_widen_its_box(rt: HostRuntime) -> Result<(), Fail> {
     let font = fixture(rt.alloc())?;
     let both = request(16, &[0x41, 0x42]);
-    let told = survey(rt.alloc(), &OfWideFrames, font.as_slice(), &both);
+    let told = survey(
+        rt.alloc(),
+        &OfWideFrames,
+        &FontFile::of(font.as_slice()),
+        &both,
+    );
     assert!(rt; told.map(|told| told.bounds) == Ok(OF_RING));
     let alone = request(16, &[0x42]);
-    let refused = survey(rt.alloc(), &OfWideFrames, font.as_slice(), &alone);
+    let refused = survey(
+        rt.alloc(),
+        &OfWideFrames,
+        &FontFile::of(font.as_slice()),
+        &alone,
+    );
     assert!(rt; refused == Err(Refusal::OutOfMemory));
     Ok(())
 }

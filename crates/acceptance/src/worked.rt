@@ -8,7 +8,7 @@ use fx_code::Code;
 use fx_hint::{GlyphOutline, outline};
 use fx_machine::Machine;
 use fx_outline::OutlinePoint;
-use fx_sfnt::Font;
+use fx_sfnt::{Font, FontFile};
 use std::alloc::Global;
 use std::process::Abort;
 use std::test::Fail;
@@ -74,7 +74,7 @@ fn an_outline_by_a_machine(rt: HostRuntime) -> Result<(), Fail> {
 
 /// The glyph of a code in the character map of a font.
 fn glyph_of(file: &[u8], code: u32) -> Result<u16, Fail> {
-    let font = Font::open(file)?;
+    let font = Font::open(&FontFile::of(file))?;
     let map = CharMap::open(&font)?;
     Ok(map.glyph(code))
 }

@@ -3,6 +3,7 @@ use crate::fonts::{STRIKE, fixture};
 use crate::strikes::{counts, request};
 use fx_fixed::{Limits, MemorySink, Sink};
 use fx_request::{Refusal, Report};
+use fx_sfnt::FontFile;
 use fx_strike::make_strike;
 use std::alloc::Global;
 use std::process::Abort;
@@ -24,7 +25,12 @@ fn writes(
 ) -> Result<(), Fail> {
     let mut out = MemorySink::new(alloc, 399, limits)?;
     assert!(rt; out.faults() == 0, "{bytes}");
-    let result = make_strike(alloc, font, &request(16, &[0x20, 0x41, 0x42]), &mut out);
+    let result = make_strike(
+        alloc,
+        &FontFile::of(font),
+        &request(16, &[0x20, 0x41, 0x42]),
+        &mut out,
+    );
     assert!(rt; result == want, "{bytes}");
     assert!(rt; out.faults() == if want.is_ok() { 0 } else { 1 }, "{bytes}");
     assert!(rt;

@@ -8,7 +8,7 @@ use std::process::Abort;
 use std::test::Fail;
 
 /// Arguments that are valid, of size 0 or 1025.
-const VALID: [&str; 13] = [
+const VALID: [&str; 20] = [
     "mkstrike|make|--ppem|0|--chars|41",
     "mkstrike|make|--chars=41|--ppem=0",
     "mkstrike|make|--hex|--name=a b|--unhinted|--chars|20,41-42|--ppem|00000000",
@@ -18,14 +18,21 @@ const VALID: [&str; 13] = [
     "|make|--ppem=1025|--chars=41|--name=-",
     "mkstrike|make|--ppem|0|--chars|41|--name=-misc-fixed-medium-r-normal--16-160-72-72-c-80-iso10646-1",
     "mkstrike|make|--dropout|--ppem|0|--unhinted|--chars|41",
+    "mkstrike|make|--ppem|0|--refused|stop|--chars|41",
+    "mkstrike|make|--ppem|0|--refused=leave-out|--chars|41|--unhinted",
+    "mkstrike|make|--refused|unhinted|--ppem|0|--chars|41",
     "mkstrike|show|--ppem|0|--char|41",
     "mkstrike|show|--ppem|0|--char|41|--dropout",
     "mkstrike|show|--hex|--char=0000fF|--unhinted|--ppem=0",
     "mkstrike|show|--ppem|1025|--char|110000",
+    "mkstrike|make|--face|0|--ppem|0|--chars|41",
+    "mkstrike|make|--ppem|0|--chars|41|--face|4294967295",
+    "mkstrike|show|--ppem|0|--char|41|--face=00007",
+    "mkstrike|show|--face|+7|--ppem|0|--char|41",
 ];
 
 /// Arguments that are not valid.
-const NOT_VALID: [&str; 69] = [
+const NOT_VALID: [&str; 84] = [
     "mkstrike|",
     "mkstrike|make",
     "mkstrike|make|--ppem|0",
@@ -44,6 +51,7 @@ const NOT_VALID: [&str; 69] = [
     "mkstrike|show|--ppem|0|--char|41|--of|prep",
     "mkstrike|show|--ppem|65536|--char|41",
     "mkstrike|show|--ppem||--char|41",
+    "mkstrike|show|--ppem|0|--char|41|--refused|stop",
     "mkstrike|show|--help",
     "mkstrike|help|show",
     "mkstrike|dump",
@@ -57,6 +65,14 @@ const NOT_VALID: [&str; 69] = [
     "mkstrike|dump|--of|prep|--ppem|16",
     "mkstrike|dump|--of|prep|-",
     "mkstrike|dump|prep",
+    "mkstrike|dump|--of|prep|--face",
+    "mkstrike|dump|--of|prep|--face|1a",
+    "mkstrike|dump|--of|prep|--face|4294967296",
+    "mkstrike|dump|--face|0",
+    "mkstrike|show|--ppem|0|--char|41|--face|",
+    "mkstrike|show|--ppem|0|--char|41|--face|-1",
+    "mkstrike|make|--ppem|0|--chars|41|--face|x",
+    "mkstrike|make|--ppem|0|--chars|41|--face|0|--face|0",
     "mkstrike|dump|--help",
     "mkstrike|help|dump",
     "mkstrike|make|--ppem|0|--chars|41|--ppem|0",
@@ -74,6 +90,12 @@ const NOT_VALID: [&str; 69] = [
     "mkstrike|make|--pp|0|--chars|41",
     "mkstrike|make|--ppem|0|--chars|41|--unhinted=yes",
     "mkstrike|make|--ppem|0|--chars|41|--dropout=3",
+    "mkstrike|make|--ppem|0|--chars|41|--refused",
+    "mkstrike|make|--ppem|0|--chars|41|--refused|",
+    "mkstrike|make|--ppem|0|--chars|41|--refused|Stop",
+    "mkstrike|make|--ppem|0|--chars|41|--refused|leave-outs",
+    "mkstrike|make|--ppem|0|--chars|41|--refused|hinted",
+    "mkstrike|make|--ppem|0|--chars|41|--refused|stop|--refused|stop",
     "mkstrike|show|--ppem|0|--char|41|--dropout|--dropout",
     "mkstrike|dump|--of|prep|--dropout",
     "mkstrike|make|--ppem|0|--chars|41|--hex=",

@@ -15,6 +15,8 @@ mod properties;
 #[cfg(test)]
 mod readers;
 #[cfg(test)]
+mod refused;
+#[cfg(test)]
 mod runs;
 #[cfg(test)]
 mod shows;

@@ -88,7 +88,7 @@ fn components(rt: HostRuntime) -> Result<(), Fail> {
 }
 
 /// Arguments, and the line with a font of 16 units an em, of which A has a side of 320 * 1024 / 16 pixels.
-const REQUESTS: [(&str, &str); 8] = [
+const REQUESTS: [(&str, &str); 12] = [
     ("mkstrike|make|--ppem|1024|--chars|41", "52 GlyphTooLarge 2"),
     ("mkstrike|show|--ppem|1024|--char|41", "52 GlyphTooLarge 2"),
     ("mkstrike|make|--ppem|1025|--chars|41", "60 BadSize"),
@@ -97,6 +97,10 @@ const REQUESTS: [(&str, &str); 8] = [
     ("mkstrike|make|--ppem|16|--chars|41|--name=a ", "62 BadName"),
     ("mkstrike|make|--ppem|16|--chars|41|--hex", "72 BadHex"),
     ("mkstrike|dump|--of|9", "24 BadGlyphNumber 9"),
+    ("mkstrike|make|--ppem|16|--chars|41|--face|1", "25 NoFace"),
+    ("mkstrike|show|--ppem|16|--char|41|--face|1", "25 NoFace"),
+    ("mkstrike|dump|--of|prep|--face|4294967295", "25 NoFace"),
+    ("mkstrike|make|--ppem|0|--chars|41|--face|1", "60 BadSize"),
 ];
 
 /// What is asked for comes before the font.

@@ -166,7 +166,7 @@ rest_all all given e =
 pub none_given : {E : Type 0} (fault : E) → wanted (properties_of []) fault ≡ Ok []
 none_given fault = ap (λ (o : Option (List PropertyView)). wanted o fault) properties-nil
 
-next_text : (given : List (Bor Text)) (i : ℕ) (d : Bor Text) → i < length given
+pub next_text : (given : List (Bor Text)) (i : ℕ) (d : Bor Text) → i < length given
     → drop i (texts given) ≡ (get_or given i d).now ∷ drop (i + 1) (texts given)
 next_text given i d h =
     drop-map (λ (t : Bor Text). t.now) i given ∙ ap texts (drop_more given i d h)

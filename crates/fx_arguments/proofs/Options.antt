@@ -1,6 +1,6 @@
 -- The options of the commands, as clap sees them.
--- Serves the arguments of the commands: `read_make`, `read_show`, `read_dump`, `size_of`.
-use Rattle.std.proofs.Common.{◌≡◌, ◌∙◌, ℕ, ◌<◌, List, [], ◌∷◌, length, refl, sym, ap, ap₂, Option, Some, None, Bool, true, false}
+-- Serves the arguments of the commands: `read_make`, `read_show`, `read_dump`, `size_of`, `face_of`.
+use Rattle.std.proofs.Common.{◌≡◌, ◌∙◌, ℕ, ◌<◌, ◌^◌, List, [], ◌∷◌, length, refl, sym, ap, ap₂, Option, Some, None, Bool, true, false}
 use Rattle.std.proofs.Common.{Result, Ok, Err, ◌&&◌, ◌||◌, subst, ◌⊎◌, inl, inr}
 use Rattle.fx_fixed.specs.Chain.{◌>>=◌, GivesUnless, wanted}
 use Rattle.fx_request.specs.declared.refusal.Refusal.TheVariants.{OutOfMemory}
@@ -17,7 +17,7 @@ use Rattle.clap.proofs.OnLiterals.{clap_on_literals}
 use Rattle.clap.proofs.WalkLemmas.{both}
 use Rattle.clap.specs.Words.{App, IsAmong, Kinds, Row, Text, fault_of, is_simple, is_simple_and_free, matches_of}
 use Rattle.clap.specs.declared.error.kind.ErrorKind.{ErrorKind}
-use Rattle.fx_arguments.specs.Arguments.{dump_app, is_bare, is_some_kind, make_app, rows_by, show_app, size_of}
+use Rattle.fx_arguments.specs.Arguments.{dump_app, is_bare, is_some_kind, make_app, rows_by, show_app, unsigned_of}
 use Rattle.fx_arguments.specs.Commands.{CommandView, Refuses, seen}
 
 pub make_is_simple : is_simple make_app ≡ true
@@ -53,38 +53,40 @@ pub digits_tested : (ds : List ℕ) → list_all (λ d. nat_lt (digit_value d) 1
 digits_tested [] h = tt
 digits_tested (d ∷ ds) h = let p = both _ _ h in (ltb-true _ _ p.0, digits_tested ds p.1)
 
--- what is parsed as a number is a size
-size_passes : (ds : List ℕ) → IsNumeral 10 ds → digits_value 10 ds < 65536
-    → nat_lt 0 (length ds) && (list_all (λ d. nat_lt (digit_value d) 10) ds && nat_lt (digits_value 10 ds) 65536) ≡ true
-size_passes ds h g = ap₂ ◌&&◌ (lt-ltb _ _ h.0) (ap₂ ◌&&◌ (tests_digits ds h.1) (lt-ltb _ _ g))
+-- what is parsed as a number is one
+number_passes : (limit : ℕ) (ds : List ℕ) → IsNumeral 10 ds → digits_value 10 ds < limit
+    → nat_lt 0 (length ds) && (list_all (λ d. nat_lt (digit_value d) 10) ds && nat_lt (digits_value 10 ds) limit) ≡ true
+number_passes limit ds h g = ap₂ ◌&&◌ (lt-ltb _ _ h.0) (ap₂ ◌&&◌ (tests_digits ds h.1) (lt-ltb _ _ g))
 
-passed_size : (ds : List ℕ) → nat_lt 0 (length ds) &&
-    (list_all (λ d. nat_lt (digit_value d) 10) ds && nat_lt (digits_value 10 ds) 65536) ≡ true
-    → IsNumeral 10 ds × (digits_value 10 ds < 65536)
-passed_size ds e =
+passed_number : (limit : ℕ) (ds : List ℕ) → nat_lt 0 (length ds) &&
+    (list_all (λ d. nat_lt (digit_value d) 10) ds && nat_lt (digits_value 10 ds) limit) ≡ true
+    → IsNumeral 10 ds × (digits_value 10 ds < limit)
+passed_number limit ds e =
     let p = both _ _ e in
     let q = both _ _ p.1 in
     ((ltb-true _ _ p.0, digits_tested ds q.0), ltb-true _ _ q.1)
 
-abbrev sized : Bool → ℕ → Option ℕ
-sized b n = if b then Some n else None
+abbrev numbered : Bool → ℕ → Option ℕ
+numbered b n = if b then Some n else None
 
-size_is : (text : List ℕ) → size_of text ≡
-    sized (nat_lt 0 (length (without_leading_plus text)) &&
+unsigned_is : (bits : ℕ) (text : List ℕ) → unsigned_of bits text ≡
+    numbered (nat_lt 0 (length (without_leading_plus text)) &&
     (list_all (λ d. nat_lt (digit_value d) 10) (without_leading_plus text) && nat_lt (digits_value 10 (without_leading_plus text))
-    65536)) (digits_value 10 (without_leading_plus text))
-unfolding size_of
-size_is text = refl
+    (2 ^ bits))) (digits_value 10 (without_leading_plus text))
+unfolding unsigned_of
+unsigned_is bits text = refl
 
-none_sized : (b : Bool) (n : ℕ) → (b ≡ true → ⊥) → sized b n ≡ None
-none_sized true n h = absurd (h refl)
-none_sized false n h = refl
+none_numbered : (b : Bool) (n : ℕ) → (b ≡ true → ⊥) → numbered b n ≡ None
+none_numbered true n h = absurd (h refl)
+none_numbered false n h = refl
 
-pub size_parsed : {E : Type 0} (text : List ℕ) (r : Result ℕ E) → ParsesUnsigned 16 10 text r → result_ok r ≡ size_of text
-size_parsed text (Ok n) h = ap (λ (k : ℕ). Some k) h.1 ∙
-    sym (size_is text ∙ ap (λ (b : Bool). sized b (digits_value 10 (without_leading_plus text)))
-    (size_passes (without_leading_plus text) h.0.0 h.0.1))
-size_parsed text (Err e) h = sym (size_is text ∙ none_sized _ _ (λ passed. h (passed_size (without_leading_plus text) passed)))
+pub unsigned_parsed : {E : Type 0} (bits : ℕ) (text : List ℕ) (r : Result ℕ E) → ParsesUnsigned bits 10 text r
+    → result_ok r ≡ unsigned_of bits text
+unsigned_parsed bits text (Ok n) h = ap (λ (k : ℕ). Some k) h.1 ∙
+    sym (unsigned_is bits text ∙ ap (λ (b : Bool). numbered b (digits_value 10 (without_leading_plus text)))
+    (number_passes (2 ^ bits) (without_leading_plus text) h.0.0 h.0.1))
+unsigned_parsed bits text (Err e) h =
+    sym (unsigned_is bits text ∙ none_numbered _ _ (λ passed. h (passed_number (2 ^ bits) (without_leading_plus text) passed)))
 
 -- ---- the values that arguments give a command's options
 

@@ -1,5 +1,5 @@
 -- What the arguments of a command line ask for.
-use Rattle.std.specs.Prelude.{ℕ, Bool, true, false, List, [], ◌∷◌, map, length, codes, Option, Some, None, unwrap_or, option_map}
+use Rattle.std.specs.Prelude.{ℕ, ◌^◌, Bool, true, false, List, [], ◌∷◌, map, length, codes, Option, Some, None, unwrap_or, option_map}
 use Rattle.std.specs.Prelude.{option_and_then, if◌then◌else◌, nat_lt, drop, ◌&&◌, ◌||◌, not, Result, Ok, Err}
 use denote.Ref.{Bor}
 use Rattle.std.specs.List.{list_all, list_any}
@@ -15,6 +15,8 @@ use Rattle.fx_fixed.specs.Chain.{◌>>=◌, wanted}
 use Rattle.fx_machine.specs.declared.program.FontProgram.{FontProgram}
 use Rattle.fx_machine.specs.declared.program.FontProgram.TheVariants.{Fpgm, Prep, Glyph}
 use Rattle.fx_request.specs.declared.request.Mode.{Mode}
+use Rattle.fx_request.specs.declared.request.OnRefused.{OnRefused}
+use Rattle.fx_request.specs.declared.request.OnRefused.TheVariants.{Stop, LeaveOut, Unhinted}
 use Rattle.fx_request.specs.declared.refusal.Refusal.TheVariants.{BadChars}
 use Rattle.fx_arguments.specs.declared.fault.Fault.{Fault}
 use Rattle.fx_arguments.specs.declared.fault.Fault.TheVariants.{Usage, Early}
@@ -36,18 +38,21 @@ flag_rule id = record (new_rule id) { long = Some id; action = Some SetTrue }
 
 -- the command `make` with its options
 unfoldable pub make_app : App
-make_app = with_rule (with_rule (with_rule (with_rule (with_rule (with_rule (with_rule (with_rule (new_app (codes "make"))
-    (option_rule (codes "ppem"))) (option_rule (codes "chars"))) (option_rule (codes "name"))) (many_rule (codes "property")))
-    (flag_rule (codes "x11"))) (flag_rule (codes "unhinted"))) (flag_rule (codes "dropout"))) (flag_rule (codes "hex"))
+make_app = with_rule (with_rule (with_rule (with_rule (with_rule (with_rule (with_rule (with_rule (with_rule (with_rule
+    (new_app (codes "make")) (option_rule (codes "ppem"))) (option_rule (codes "chars"))) (option_rule (codes "name")))
+    (many_rule (codes "property"))) (flag_rule (codes "x11"))) (option_rule (codes "refused"))) (flag_rule (codes "unhinted")))
+    (flag_rule (codes "dropout"))) (option_rule (codes "face"))) (flag_rule (codes "hex"))
 
 -- the command `show` with its options
 unfoldable pub show_app : App
-show_app = with_rule (with_rule (with_rule (with_rule (with_rule (new_app (codes "show")) (option_rule (codes "ppem")))
-    (option_rule (codes "char"))) (flag_rule (codes "unhinted"))) (flag_rule (codes "dropout"))) (flag_rule (codes "hex"))
+show_app = with_rule (with_rule (with_rule (with_rule (with_rule (with_rule (new_app (codes "show")) (option_rule (codes "ppem")))
+    (option_rule (codes "char"))) (flag_rule (codes "unhinted"))) (flag_rule (codes "dropout")))
+    (option_rule (codes "face"))) (flag_rule (codes "hex"))
 
 -- the command `dump` with its options
 unfoldable pub dump_app : App
-dump_app = with_rule (with_rule (new_app (codes "dump")) (option_rule (codes "of"))) (flag_rule (codes "hex"))
+dump_app = with_rule (with_rule (with_rule (new_app (codes "dump")) (option_rule (codes "of"))) (option_rule (codes "face")))
+    (flag_rule (codes "hex"))
 
 -- ---- what is asked for
 
@@ -55,12 +60,16 @@ dump_app = with_rule (with_rule (new_app (codes "dump")) (option_rule (codes "of
 abbrev pub texts : List (Bor Text) → List Text
 texts arguments = map (λ argument. argument.now) arguments
 
--- a whole number from 0 to 65,535 in decimal digits
-unfoldable pub size_of : Text → Option ℕ
-size_of text =
+-- a whole number in decimal digits, below 2 to the number of bits
+unfoldable pub unsigned_of : ℕ → Text → Option ℕ
+unsigned_of bits text =
     let ds = without_leading_plus text in
-    if nat_lt 0 (length ds) && (list_all (λ d. nat_lt (digit_value d) 10) ds && nat_lt (digits_value 10 ds) 65536)
+    if nat_lt 0 (length ds) && (list_all (λ d. nat_lt (digit_value d) 10) ds && nat_lt (digits_value 10 ds) (2 ^ bits))
     then Some (digits_value 10 ds) else None
+
+-- a whole number from 0 to 65,535
+abbrev pub size_of : Text → Option ℕ
+size_of text = unsigned_of 16 text
 
 abbrev pub is_true : Option Text → Bool
 is_true None = false
@@ -78,12 +87,29 @@ mode_by rows = record { hinting = not (is_given (codes "unhinted") rows); dropou
 abbrev pub size_by : Option Text → Result ℕ Fault
 size_by text = wanted (option_and_then size_of text) Usage
 
+-- the number of a face, counted from 0; 0 if it is not given
+abbrev pub face_by : Option Text → Result ℕ Fault
+face_by None = Ok 0
+face_by (Some text) = wanted (unsigned_of 32 text) Usage
+
+-- what becomes of refused characters, by its name
+abbrev pub named_refused : Text → Option OnRefused
+named_refused text = if bytes_eq text (codes "stop") then Some Stop else (if bytes_eq text (codes "leave-out") then Some LeaveOut
+    else (if bytes_eq text (codes "unhinted") then Some Unhinted else None))
+
+-- the first one refuses the strike unless something else is asked for
+abbrev pub refused_by : Option Text → Result OnRefused Fault
+refused_by None = Ok Stop
+refused_by (Some text) = wanted (named_refused text) Usage
+
 -- what the values of `make`'s options ask for: the size and the list are required
 abbrev pub make_by : List Row → Result CommandView Fault
 make_by rows = do
   ppem ← size_by (first_of (codes "ppem") rows)
   list ← wanted (first_of (codes "chars") rows) Usage
   properties ← wanted (properties_of (unwrap_or (all_of (codes "property") rows) [])) Usage
+  refused ← refused_by (first_of (codes "refused") rows)
+  face ← face_by (first_of (codes "face") rows)
   chars ← wanted (numbers_of_list list) (Early BadChars)
   Ok (record {
     task = strike (record {
@@ -93,7 +119,9 @@ make_by rows = do
       properties = properties;
       x11 = is_given (codes "x11") rows;
       mode = mode_by rows;
+      on_refused = refused;
     });
+    face = face;
     hex = is_given (codes "hex") rows;
   })
 
@@ -102,9 +130,11 @@ abbrev pub show_by : List Row → Result CommandView Fault
 show_by rows = do
   ppem ← size_by (first_of (codes "ppem") rows)
   character ← wanted (first_of (codes "char") rows) Usage
+  face ← face_by (first_of (codes "face") rows)
   code ← wanted (number_of character) (Early BadChars)
   Ok (record {
     task = picture (record { ppem = ppem; code = code; mode = mode_by rows });
+    face = face;
     hex = is_given (codes "hex") rows;
   })
 
@@ -117,7 +147,8 @@ which_of text = if bytes_eq text (codes "fpgm") then Some Fpgm else (if bytes_eq
 abbrev pub dump_by : List Row → Result CommandView Fault
 dump_by rows = do
   what ← wanted (option_and_then which_of (first_of (codes "of") rows)) Usage
-  Ok (record { task = listing what; hex = is_given (codes "hex") rows })
+  face ← face_by (first_of (codes "face") rows)
+  Ok (record { task = listing what; face = face; hex = is_given (codes "hex") rows })
 
 -- an argument that has only hyphens
 abbrev pub is_bare : Text → Bool
@@ -147,10 +178,3 @@ command_of_dump arguments = wanted (rows_by dump_app arguments) Usage >>= dump_b
 abbrev pub is_command : Text → List Text → Bool
 is_command name [] = false
 is_command name (argument ∷ arguments) = bytes_eq argument name
-
--- the arguments of a command line, its program's name first; or the first fault: of their form, or of a character's
-abbrev pub command_of : List Text → Result CommandView Fault
-command_of arguments =
-    if is_command (codes "make") (drop 1 arguments) then command_of_make (drop 1 arguments)
-    else (if is_command (codes "show") (drop 1 arguments) then command_of_show (drop 1 arguments)
-    else (if is_command (codes "dump") (drop 1 arguments) then command_of_dump (drop 1 arguments) else Err Usage))

@@ -4,17 +4,19 @@ use Rattle.clap.specs.Walk.{Text}
 use Rattle.fx_bdf.specs.Properties.{PropertyView, seen_properties}
 use Rattle.fx_machine.specs.declared.program.FontProgram.{FontProgram}
 use Rattle.fx_request.specs.declared.request.Mode.{Mode}
+use Rattle.fx_request.specs.declared.request.OnRefused.{OnRefused}
 use Rattle.fx_request.specs.declared.request.Request.{Request}
 use Rattle.fx_request.specs.declared.refusal.Refusal.TheVariants.{BadChars, OutOfMemory}
 use Rattle.fx_arguments.specs.declared.command.Command.{Command}
 use Rattle.fx_arguments.specs.declared.command.Make.{Make}
 use Rattle.fx_arguments.specs.declared.command.Show.{Show}
 use Rattle.fx_arguments.specs.declared.command.Task.{Task}
-use Rattle.fx_arguments.specs.declared.command.Task.TheVariants.{Strike, Picture, Listing}
+use Rattle.fx_arguments.specs.declared.command.Task.TheVariants.{Strike, Picture, Listing, Explanation}
 use Rattle.fx_arguments.specs.declared.fault.Fault.{Fault}
 use Rattle.fx_arguments.specs.declared.fault.Fault.TheVariants.{Usage, Early}
 
--- a strike: its size, its characters, its name, its properties, whether it has those of X11 too, and how outlines become pixels
+-- a strike: its size, its characters, its name, its properties, whether it has those of X11 too, how outlines become pixels, and
+-- what becomes of refused characters
 pub record MakeView : Type 0 where
   pub ppem : ℕ
   pub chars : List ℕ
@@ -22,16 +24,19 @@ pub record MakeView : Type 0 where
   pub properties : List PropertyView
   pub x11 : Bool
   pub mode : Mode
+  pub on_refused : OnRefused
 
--- a strike, the picture of a character, or the listing of a program
+-- a strike, the picture of a character, the listing of a program, or a line that explains what is wrong with arguments
 pub data TaskView : Type 0 where
   strike : MakeView → TaskView
   picture : Show → TaskView
   listing : FontProgram → TaskView
+  explanation : List ℕ → TaskView
 
--- a task, and whether the font is hexadecimal text
+-- a task, the face of the font file that it is for, and whether the file is hexadecimal text
 pub record CommandView : Type 0 where
   pub task : TaskView
+  pub face : ℕ
   pub hex : Bool
 
 -- what the program holds of it
@@ -43,6 +48,7 @@ seen_make make = record {
   properties = seen_properties make.properties.items;
   x11 = make.x11;
   mode = make.mode;
+  on_refused = make.on_refused;
 }
 
 abbrev pub seen_request : Request → MakeView
@@ -53,15 +59,17 @@ seen_request request = record {
   properties = seen_properties request.title.properties.now;
   x11 = request.title.x11;
   mode = request.mode;
+  on_refused = request.on_refused;
 }
 
 abbrev pub seen_task : Task → TaskView
 seen_task (Strike make) = strike (seen_make make)
 seen_task (Picture show) = picture show
 seen_task (Listing what) = listing what
+seen_task (Explanation line) = explanation line.items
 
 abbrev pub seen : Command → CommandView
-seen command = record { task = seen_task command.task; hex = command.hex }
+seen command = record { task = seen_task command.task; face = command.face; hex = command.hex }
 
 -- why there is no command: out of memory, or what is due is a usage fault, or characters in another form
 abbrev pub Refuses : {Y : Type 0} → Fault → Result Y Fault → Type 0

@@ -1,9 +1,12 @@
 pub mod Parts
 pub mod Chars
 pub mod Arguments
+pub mod Mistakes
+pub mod CommandLine
 pub mod Input
 pub mod ReadAhead
 pub mod Commands
 pub mod Properties
 pub mod Lines
+pub mod Tellers
 pub mod Limits

@@ -1,5 +1,5 @@
 -- The lines for people: the program's name and words, each after a space, and LF.
-use Rattle.std.specs.Prelude.{ℕ, List, [], ◌∷◌, ◌++◌, codes, Result, Ok, Err}
+use Rattle.std.specs.Prelude.{ℕ, Bool, true, false, List, [], ◌∷◌, ◌++◌, codes, Result, Ok, Err}
 use Rattle.std.specs.List.{flat_map}
 use Rattle.std.specs.Fmt.{decimal}
 use Rattle.fx_fixed.specs.declared.sink.WriteFailed.{WriteFailed as Failed}
@@ -11,11 +11,12 @@ use Rattle.fx_machine.specs.declared.program.FontProgram.{FontProgram}
 use Rattle.fx_machine.specs.declared.program.FontProgram.TheVariants.{Fpgm, Prep, Glyph}
 use Rattle.fx_request.specs.declared.place.Place.{Place}
 use Rattle.fx_request.specs.declared.place.Place.TheVariants as place
+use Rattle.fx_request.specs.declared.notice.Notice.{Notice}
 use Rattle.fx_request.specs.declared.refusal.Refusal.{Refusal}
 use Rattle.fx_request.specs.declared.request.Report.{Report}
 use Rattle.fx_request.specs.Refusals.{number_of, name_of, place_of}
 use Rattle.fx_arguments.specs.declared.done.Done.{Done}
-use Rattle.fx_arguments.specs.declared.done.Done.TheVariants.{Strike, Picture, Listing}
+use Rattle.fx_arguments.specs.declared.done.Done.TheVariants.{Strike, Picture, Listing, Explanation}
 use Rattle.fx_arguments.specs.declared.fault.Fault.{Fault}
 use Rattle.fx_arguments.specs.declared.fault.Fault.TheVariants.{Usage, Early, Late}
 
@@ -68,17 +69,37 @@ place_words (place.Property i) = decimal i ∷ []
 place_words (place.Bytes n) = decimal n ∷ []
 place_words (place.Halt halt) = halt_words halt
 
--- its line: the number, the name and the place
+-- the number, the name and the place
+abbrev pub refusal_words : Refusal → List (List ℕ)
+refusal_words refusal = decimal (number_of refusal) ∷ name_of refusal ∷ place_words (place_of refusal)
+
+-- its line
 abbrev pub refusal_line : Refusal → List ℕ
-refusal_line refusal = line_of (decimal (number_of refusal) ∷ name_of refusal ∷ place_words (place_of refusal))
+refusal_line refusal = line_of (refusal_words refusal)
+
+-- ---- a character that was refused, while its strike was made
+
+-- what became of it
+abbrev pub fate_words : Bool → List (List ℕ)
+fate_words true = codes "unhinted" ∷ []
+fate_words false = codes "left" ∷ codes "out" ∷ []
+
+-- a code point in at least four hexadecimal digits
+abbrev pub code_word : ℕ → List ℕ
+code_word code = codes "U+" ++ (hexadecimal 4 code ++ codes ":")
+
+-- its line: what became of it, its code point, and why
+abbrev pub notice_line : Notice → List ℕ
+notice_line notice = line_of (fate_words notice.unhinted ++ code_word notice.code ∷ refusal_words notice.cause)
 
 -- ---- a run
 
--- the line of what it did; a picture and a listing have none
+-- the line of what it did; only a strike has one
 abbrev pub done_line : Done → List ℕ
 done_line (Strike report) = report_line report
 done_line Picture = []
 done_line Listing = []
+done_line Explanation = []
 
 -- the line of how it ended
 abbrev pub outcome_line : Result Done Fault → List ℕ

@@ -1,10 +1,12 @@
 //! The arguments of a command line.
-ghost use Rattle.std.specs.Prelude.{◌≡◌, codes, map, option_map, option_and_then};
+ghost use Rattle.std.specs.Prelude.{◌≡◌, Ok, codes, drop, map, option_map, option_and_then};
 ghost use Rattle.std.specs.Str.{bytes_eq};
 ghost use Rattle.clap.specs.Words.{found_of, rows_of};
 ghost use Rattle.fx_fixed.specs.Chain.{GivesUnless, map_ok, wanted};
-ghost use Rattle.fx_arguments.specs.Arguments.{command_of, command_of_dump, command_of_make, command_of_show, dump_by};
-ghost use Rattle.fx_arguments.specs.Arguments.{is_command, make_by, mode_by, show_by, size_by, texts, which_of};
+ghost use Rattle.fx_arguments.specs.Arguments.{command_of_dump, command_of_make, command_of_show, dump_by};
+ghost use Rattle.fx_arguments.specs.Arguments.{face_by, is_command, make_by, mode_by, named_refused, refused_by, show_by, size_by};
+ghost use Rattle.fx_arguments.specs.Arguments.{texts, which_of};
+ghost use Rattle.fx_arguments.specs.CommandLine.{command_of, command_of_explain};
 ghost use Rattle.fx_arguments.specs.Commands.{Refuses, seen};
 ghost use Rattle.fx_arguments.specs.declared.fault.Fault.TheVariants.{Usage};
 
@@ -12,11 +14,12 @@ use crate::chars::{number, parse_chars};
 use crate::command::{Command, Make, Show, Task};
 use crate::commands::{dump_command, make_command, show_command};
 use crate::fault::Fault;
+use crate::mistakes::explain;
 use crate::properties::given_properties;
-use crate::values::{is_given, matches, size_of, value, values};
+use crate::values::{face_of, is_given, matches, size_of, value, values};
 use clap::ArgMatches;
 use fx_machine::FontProgram;
-use fx_request::{Mode, Refusal};
+use fx_request::{Mode, OnRefused, Refusal};
 use std::alloc::Global;
 
 /// Reads the arguments of a command line, the program's name first.
@@ -27,12 +30,13 @@ pub fn read_arguments<'a>(alloc: Global, arguments: &'a [&'a str]) -> Result<Com
         Some((_, rest)) if is_command("make", rest) => read_make(alloc, rest),
         Some((_, rest)) if is_command("show", rest) => read_show(alloc, rest),
         Some((_, rest)) if is_command("dump", rest) => read_dump(alloc, rest),
+        Some((_, rest)) if is_command("explain", rest) => read_explain(alloc, rest),
         _ => Err(Fault::Usage),
     }
 }
 
 /// Whether the first argument is this one.
-fn is_command(name: &str, arguments: &[&str]) -> bool
+pub fn is_command(name: &str, arguments: &[&str]) -> bool
     ensures { result ≡ is_command name.now (texts arguments.now) }
 {
     match arguments.first() {
@@ -65,6 +69,18 @@ fn read_dump<'a>(alloc: Global, arguments: &'a [&'a str]) -> Result<Command<'a>,
     dump_of(&matches)
 }
 
+/// Reads the arguments from `explain` on.
+fn read_explain<'a>(alloc: Global, arguments: &[&'a str]) -> Result<Command<'a>, Fault>
+    ensures { GivesUnless Refuses seen result (Ok (command_of_explain (drop 1 (texts arguments.now)))) }
+{
+    let words = arguments.get(1..).unwrap_or(&[]);
+    Ok(Command {
+        task: Task::Explanation(explain(alloc, words)?),
+        face: 0,
+        hex: false,
+    })
+}
+
 /// A size that is required.
 fn required_size(text: Option<&str>) -> Result<u16, Fault>
     ensures { result ≡ size_by (option_map (λ text. text.now) text.entry) }
@@ -72,6 +88,16 @@ fn required_size(text: Option<&str>) -> Result<u16, Fault>
     match text {
         Some(text) => size_of(text).ok_or(Fault::Usage),
         None => Err(Fault::Usage),
+    }
+}
+
+/// The number of a face; 0 if it is not given.
+fn face_by(text: Option<&str>) -> Result<u32, Fault>
+    ensures { result ≡ face_by (option_map (λ text. text.now) text.entry) }
+{
+    match text {
+        Some(text) => face_of(text).ok_or(Fault::Usage),
+        None => Ok(0),
     }
 }
 
@@ -85,6 +111,28 @@ fn mode_of(matches: &ArgMatches<'_>) -> Mode
     }
 }
 
+/// What becomes of refused characters, by its name; if none is given, the first one refuses the strike.
+fn on_refused(name: Option<&str>) -> Result<OnRefused, Fault>
+    ensures { result ≡ refused_by (option_map (λ name. name.now) name.entry) }
+{
+    match name {
+        Some(name) => named_refused(name).ok_or(Fault::Usage),
+        None => Ok(OnRefused::Stop),
+    }
+}
+
+/// What becomes of refused characters, by its name.
+pub(crate) fn named_refused(name: &str) -> Option<OnRefused>
+    ensures { result ≡ named_refused name.now }
+{
+    match name {
+        "stop" => Some(OnRefused::Stop),
+        "leave-out" => Some(OnRefused::LeaveOut),
+        "unhinted" => Some(OnRefused::Unhinted),
+        _ => None,
+    }
+}
+
 /// What the values of `make` ask for: the size and the list of characters are required.
 fn make_of<'a>(alloc: Global, matches: &ArgMatches<'a>) -> Result<Command<'a>, Fault>
     ensures { GivesUnless Refuses seen result (make_by (rows_of (found_of matches.now))) }
@@ -92,6 +140,8 @@ fn make_of<'a>(alloc: Global, matches: &ArgMatches<'a>) -> Result<Command<'a>, F
     let ppem = required_size(value(matches, "ppem"))?;
     let list = value(matches, "chars").ok_or(Fault::Usage)?;
     let properties = given_properties(alloc, values(matches, "property"))?;
+    let on_refused = on_refused(value(matches, "refused"))?;
+    let face = face_by(value(matches, "face"))?;
     let make = Make {
         ppem,
         chars: parse_chars(alloc, list)?,
@@ -99,9 +149,11 @@ fn make_of<'a>(alloc: Global, matches: &ArgMatches<'a>) -> Result<Command<'a>, F
         properties,
         x11: is_given(matches, "x11"),
         mode: mode_of(matches),
+        on_refused,
     };
     Ok(Command {
         task: Task::Strike(make),
+        face,
         hex: is_given(matches, "hex"),
     })
 }
@@ -112,6 +164,7 @@ fn show_of<'a>(matches: &ArgMatches<'a>) -> Result<Command<'a>, Fault>
 {
     let ppem = required_size(value(matches, "ppem"))?;
     let character = value(matches, "char").ok_or(Fault::Usage)?;
+    let face = face_by(value(matches, "face"))?;
     let Some(code) = number(character) else {
         return Err(Fault::Early(Refusal::BadChars));
     };
@@ -122,6 +175,7 @@ fn show_of<'a>(matches: &ArgMatches<'a>) -> Result<Command<'a>, Fault>
     };
     Ok(Command {
         task: Task::Picture(show),
+        face,
         hex: is_given(matches, "hex"),
     })
 }
@@ -132,14 +186,16 @@ fn dump_of<'a>(matches: &ArgMatches<'a>) -> Result<Command<'a>, Fault>
 {
     let name = value(matches, "of").ok_or(Fault::Usage)?;
     let what = which_of(name).ok_or(Fault::Usage)?;
+    let face = face_by(value(matches, "face"))?;
     Ok(Command {
         task: Task::Listing(what),
+        face,
         hex: is_given(matches, "hex"),
     })
 }
 
 /// The program of a name.
-fn which_of(name: &str) -> Option<FontProgram>
+pub fn which_of(name: &str) -> Option<FontProgram>
     ensures { result ≡ which_of name.now }
 {
     match name {

@@ -2,12 +2,13 @@
 
 use fx_bdf::{Property, Title};
 use fx_machine::FontProgram;
-use fx_request::{Mode, Request};
+use fx_request::{Mode, OnRefused, Request};
 
-/// What is to be written, and whether the font is hexadecimal text.
+/// What is to be written, the face of the font file that it is for, and whether the file is hexadecimal text.
 #[derive(Drop)]
 pub struct Command<'a> {
     pub task: Task<'a>,
+    pub face: u32,
     pub hex: bool,
 }
 
@@ -20,10 +21,12 @@ pub enum Task<'a> {
     Picture(Show),
     /// The listing of a program.
     Listing(FontProgram),
+    /// A line that explains what is wrong with arguments, without bytes if nothing is.
+    Explanation(Vec<u8>),
 }
 
-/// A strike: its size in pixels an em, its characters, its name, its properties, whether it has those of X11 too, and how outlines
-/// become pixels.
+/// A strike: its size in pixels an em, its characters, its name, its properties, whether it has those of X11 too, how outlines
+/// become pixels, and what becomes of refused characters.
 #[derive(Drop)]
 pub struct Make<'a> {
     pub ppem: u16,
@@ -32,6 +35,7 @@ pub struct Make<'a> {
     pub properties: Vec<Property<'a>>,
     pub x11: bool,
     pub mode: Mode,
+    pub on_refused: OnRefused,
 }
 
 /// The picture of a character: the size in pixels an em, the code point, and how outlines become pixels.
@@ -59,6 +63,7 @@ impl<'a> Make<'a> {
             },
             chars: &self.chars,
             mode: self.mode,
+            on_refused: self.on_refused,
         }
     }
 }

@@ -16,8 +16,10 @@ pub fn make_command<'a>(alloc: Global) -> Result<Command<'a>, AllocError>
         .arg(option(alloc, "name"))?
         .arg(many(alloc, "property"))?
         .arg(flag(alloc, "x11"))?
+        .arg(option(alloc, "refused"))?
         .arg(flag(alloc, "unhinted"))?
         .arg(flag(alloc, "dropout"))?
+        .arg(option(alloc, "face"))?
         .arg(flag(alloc, "hex"))
 }
 
@@ -30,6 +32,7 @@ pub fn show_command<'a>(alloc: Global) -> Result<Command<'a>, AllocError>
         .arg(option(alloc, "char"))?
         .arg(flag(alloc, "unhinted"))?
         .arg(flag(alloc, "dropout"))?
+        .arg(option(alloc, "face"))?
         .arg(flag(alloc, "hex"))
 }
 
@@ -39,6 +42,7 @@ pub fn dump_command<'a>(alloc: Global) -> Result<Command<'a>, AllocError>
 {
     Command::new(alloc, "dump")
         .arg(option(alloc, "of"))?
+        .arg(option(alloc, "face"))?
         .arg(flag(alloc, "hex"))
 }
 

@@ -11,4 +11,6 @@ pub enum Done {
     Picture,
     /// It wrote a listing.
     Listing,
+    /// It explained what is wrong with arguments.
+    Explanation,
 }

@@ -3,15 +3,13 @@ ghost use Rattle.std.specs.Prelude.{◌≡◌, ◌∷◌, [], ◌++◌, ◌+◌,
 ghost use Rattle.fx_request.specs.declared.refusal.Refusal.TheVariants.{OutOfMemory};
 ghost use Rattle.fx_fixed.specs.Changes.{change_of};
 ghost use Rattle.fx_arguments.specs.declared.line.TheConstants.{CAPACITY};
-ghost use Rattle.fx_arguments.specs.Lines.{counts_of, done_line, halt_words, outcome_line, place_words, program_words, refusal_line};
-ghost use Rattle.fx_arguments.specs.Lines.{Tells, report_line, spaced, status_of, usage_line};
+ghost use Rattle.fx_arguments.specs.Lines.{code_word, counts_of, fate_words, halt_words, notice_line, place_words, program_words};
+ghost use Rattle.fx_arguments.specs.Lines.{Tells, refusal_line, refusal_words, report_line, spaced, usage_line};
 
-use crate::done::Done;
-use crate::fault::Fault;
 use crate::line::Line;
 use fx_fixed::{Digits, Sink, put_all};
 use fx_machine::{FontProgram, Halt};
-use fx_request::{Place, Refusal, Report};
+use fx_request::{Notice, Place, Refusal, Report};
 
 /// Writes the line of invalid arguments, and returns the status.
 pub fn usage<E: Sink>(err: &mut E) -> u8
@@ -19,9 +17,7 @@ pub fn usage<E: Sink>(err: &mut E) -> u8
     ensures status { result ≡ 2 }
     ensures line { Tells usage_line (change_of E.held E.fault_count err.old err.new) }
 {
-    let mut line = Line::new();
-    line.word(b"usage");
-    put_line(err, line);
+    put_line(err, line_of_usage());
     2
 }
 
@@ -31,27 +27,92 @@ pub fn out_of_memory<E: Sink>(err: &mut E) -> u8
     ensures status { result ≡ 1 }
     ensures line { Tells (refusal_line OutOfMemory) (change_of E.held E.fault_count err.old err.new) }
 {
-    refused(err, Refusal::OutOfMemory)
+    put_line(err, line_of_refusal(Refusal::OutOfMemory));
+    1
 }
 
-/// Writes the line of a refusal, and returns the status.
-fn refused<E: Sink>(err: &mut E, refusal: Refusal) -> u8
-    requires { E.fault_count err.old < 2 ^ 63 }
-    ensures status { result ≡ 1 }
-    ensures line { Tells (refusal_line refusal) (change_of E.held E.fault_count err.old err.new) }
+/// The line of invalid arguments, but for its end.
+pub(crate) fn line_of_usage() -> Line
+    ensures text { result ++ 10 ∷ [] ≡ usage_line }
+    ensures room { length result < CAPACITY }
+{
+    let mut line = Line::new();
+    line.word(b"usage");
+    line
+}
+
+/// The line of a refusal, but for its end.
+pub(crate) fn line_of_refusal(refusal: Refusal) -> Line
+    ensures text { result ++ 10 ∷ [] ≡ refusal_line refusal }
+    ensures room { length result < CAPACITY }
+{
+    let mut line = Line::new();
+    add_refusal(&mut line, refusal);
+    line
+}
+
+/// The line of what was counted over a strike, but for its end.
+pub(crate) fn line_of_report(report: Report) -> Line
+    ensures text { result ++ 10 ∷ [] ≡ report_line report }
+    ensures room { length result < CAPACITY }
+{
+    let mut line = Line::new();
+    add_counts(&mut line, report);
+    line
+}
+
+/// The line of a character that was refused, but for its end.
+pub(crate) fn line_of_notice(notice: Notice) -> Line
+    ensures text { result ++ 10 ∷ [] ≡ notice_line notice }
+    ensures room { length result < CAPACITY }
+{
+    let mut line = Line::new();
+    add_fate(&mut line, notice.unhinted);
+    add_code(&mut line, notice.code);
+    add_refusal(&mut line, notice.cause);
+    line
+}
+
+/// Adds what became of a character.
+fn add_fate(line: &mut Line, unhinted: bool)
+    requires { length line.old ≤ 9 }
+    ensures text { line.new ≡ line.old ++ spaced (fate_words unhinted) }
+    ensures short { length line.new ≤ 18 }
+{
+    if unhinted {
+        line.word(b"unhinted");
+    } else {
+        line.word(b"left");
+        line.word(b"out");
+    }
+}
+
+/// Adds a code point.
+fn add_code(line: &mut Line, code: u32)
+    requires { length line.old ≤ 18 }
+    ensures text { line.new ≡ line.old ++ spaced (code_word code ∷ []) }
+    ensures short { length line.new ≤ 42 }
+{
+    line.word(b"U+");
+    line.put(Digits::hexadecimal(u64::from(code), 4).text());
+    line.put(b":");
+}
+
+/// Adds a refusal: its number, its name and where it is.
+fn add_refusal(line: &mut Line, refusal: Refusal)
+    requires { length line.old ≤ 42 }
+    ensures text { line.new ≡ line.old ++ spaced (refusal_words refusal) }
+    ensures room { length line.new < CAPACITY }
 {
     let (number, name, place) = refusal.entry();
-    let mut line = Line::new();
     line.number(u64::from(number));
     line.word(name.as_bytes());
-    add_place(&mut line, place);
-    put_line(err, line);
-    1
+    add_place(line, place);
 }
 
 /// Adds where a refusal is.
 fn add_place(line: &mut Line, place: Place)
-    requires { length line.old ≤ 60 }
+    requires { length line.old ≤ 90 }
     ensures text { line.new ≡ line.old ++ spaced (place_words place) }
     ensures room { length line.new < CAPACITY }
 {
@@ -67,7 +128,7 @@ fn add_place(line: &mut Line, place: Place)
 
 /// Adds where a program halted.
 fn add_halt(line: &mut Line, halt: Halt)
-    requires { length line.old ≤ 60 }
+    requires { length line.old ≤ 90 }
     ensures text { line.new ≡ line.old ++ spaced (halt_words halt) }
     ensures room { length line.new < CAPACITY }
 {
@@ -95,43 +156,6 @@ fn add_program(line: &mut Line, program: FontProgram)
             line.number(u64::from(g));
         }
     }
-}
-
-/// Writes the line of how a run ended, and returns the status.
-pub fn status<E: Sink>(err: &mut E, outcome: &Result<Done, Fault>) -> u8
-    requires { E.fault_count err.old < 2 ^ 63 }
-    ensures status { result ≡ status_of outcome.now }
-    ensures line { Tells (outcome_line outcome.now) (change_of E.held E.fault_count err.old err.new) }
-{
-    match outcome {
-        Ok(done) => {
-            put_done(err, *done);
-            0
-        }
-        Err(Fault::Usage) => usage(err),
-        Err(Fault::Early(refusal)) | Err(Fault::Late(refusal)) => refused(err, *refusal),
-    }
-}
-
-/// Writes the line of what a run did. A picture and a listing have none.
-fn put_done<E: Sink>(err: &mut E, done: Done)
-    requires { E.fault_count err.old < 2 ^ 63 }
-    ensures { Tells (done_line done) (change_of E.held E.fault_count err.old err.new) }
-{
-    match done {
-        Done::Strike(report) => put_report(err, report),
-        Done::Picture | Done::Listing => {}
-    }
-}
-
-/// Writes the line of what was counted over a strike.
-fn put_report<E: Sink>(err: &mut E, report: Report)
-    requires { E.fault_count err.old < 2 ^ 63 }
-    ensures { Tells (report_line report) (change_of E.held E.fault_count err.old err.new) }
-{
-    let mut line = Line::new();
-    add_counts(&mut line, report);
-    put_line(err, line);
 }
 
 /// Adds what was counted over a strike.

@@ -42,7 +42,7 @@ fn read_properties<'a>(alloc: Global, given: &[&'a str]) -> Result<Vec<Property<
 }
 
 /// A name, and a value after the first `=`.
-fn property_of(text: &str) -> Option<Property<'_>>
+pub fn property_of(text: &str) -> Option<Property<'_>>
     ensures { option_map seen_property result ≡ property_of text.entry.now }
 {
     match text.split_once('=') {

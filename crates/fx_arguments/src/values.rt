@@ -3,7 +3,7 @@ ghost use Rattle.std.specs.Prelude.{◌≡◌, ◌⊎◌, ◌==◌, ◌||◌, No
 ghost use Rattle.std.specs.List.{list_any};
 ghost use Rattle.std.specs.Str.{bytes_eq};
 ghost use Rattle.clap.specs.Words.{all_of, app_of, first_of, found_of, is_simple, is_simple_and_free, rows_of};
-ghost use Rattle.fx_arguments.specs.Arguments.{is_bare, is_given, rows_by, size_of, texts};
+ghost use Rattle.fx_arguments.specs.Arguments.{is_bare, is_given, rows_by, size_of, texts, unsigned_of};
 
 use crate::fault::Fault;
 use clap::error::ErrorKind;
@@ -81,6 +81,13 @@ pub fn is_given(matches: &ArgMatches<'_>, id: &str) -> bool
         Some(text) => text == "true",
         None => false,
     }
+}
+
+/// The number of a face: a whole number from 0 to 4,294,967,295.
+pub fn face_of(text: &str) -> Option<u32>
+    ensures { result ≡ unsigned_of 32 text.now }
+{
+    text.parse::<u32>().ok()
 }
 
 /// A whole number from 0 to 65,535.

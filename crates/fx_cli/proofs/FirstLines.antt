@@ -12,6 +12,7 @@ use Rattle.std.proofs.lemmas.List.{take-append-le, drop-append-le}
 use Rattle.std.proofs.lemmas.List.Folds.{prefix_len-append}
 use Rattle.std.proofs.lemmas.List.{length-take-le, length-drop}
 use Rattle.std.proofs.lemmas.Bool.{ne_eqb, eqb-false, lt-ltb}
+use Rattle.fx_request.specs.declared.notice.Notice.{Notice}
 use Rattle.fx_request.specs.declared.refusal.Refusal.{Refusal}
 use Rattle.fx_request.specs.declared.refusal.Refusal.TheVariants.{BadChars, BadHex, InputTooLarge, OutOfMemory, ReadFailed}
 use Rattle.fx_fixed.specs.Changes.{Change}
@@ -19,7 +20,8 @@ use Rattle.fx_arguments.specs.Limits.{max_line}
 use Rattle.fx_arguments.specs.declared.done.Done.{Done}
 use Rattle.fx_arguments.specs.declared.fault.Fault.{Fault}
 use Rattle.fx_arguments.specs.declared.fault.Fault.TheVariants.{Usage, Early, Late}
-use Rattle.fx_arguments.specs.Arguments.{command_of, texts}
+use Rattle.fx_arguments.specs.Arguments.{texts}
+use Rattle.fx_arguments.specs.CommandLine.{command_of}
 use Rattle.fx_arguments.specs.Commands.{CommandView, Refuses}
 use Rattle.fx_arguments.specs.ReadAhead.{ahead_of}
 use Rattle.fx_arguments.specs.Input.{line_of, rest_of, arguments_of_line}
@@ -114,12 +116,12 @@ abbrev pub from_start : Option (List ℕ) → ℕ → Change → Change
 from_start before faults_before source = record source { bytes_before = before; faults_before = faults_before }
 
 does : {given : List Text} {first : List ℕ} {before : Option (List ℕ)} {arguments : List Text}
-    (faults_before : ℕ) (command : CommandView) (source sink : Change) (answer : Result Done Refusal)
+    (faults_before : ℕ) (command : CommandView) (source sink : Change) (told : List Notice) (answer : Result Done Refusal)
     → faults_before ≡ source.faults_before
     → IsFirst given first before source.bytes_before arguments → command_of arguments ≡ Ok command
-    → DoesAfter command (ahead_of first) source sink answer
-    → Does given (from_start before faults_before source) sink answer
-does {given} {first} {before} {arguments} faults_before command source sink answer same f asks m = record {
+    → DoesAfter command (ahead_of first) source sink told answer
+    → Does given (from_start before faults_before source) sink told answer
+does {given} {first} {before} {arguments} faults_before command source sink told answer same f asks m = record {
   input = first ++ m.more;
   read = Consumes-trans before source.bytes_before source.bytes first m.more f.read m.read;
   whole = m.whole;
@@ -155,29 +157,32 @@ reasons faults_before command source more same f asks rest OutOfMemory h = tt
 reasons faults_before command source more same f asks rest _ h = absurd h
 
 stops : {given : List Text} {first : List ℕ} {before : Option (List ℕ)} {arguments : List Text}
-    (faults_before : ℕ) (command : CommandView) (source sink : Change) (refusal : Refusal) → faults_before ≡ source.faults_before
+    (faults_before : ℕ) (command : CommandView) (source sink : Change) (told : List Notice) (refusal : Refusal)
+    → faults_before ≡ source.faults_before
     → IsFirst given first before source.bytes_before arguments → command_of arguments ≡ Ok command
-    → StopsAfter command (ahead_of first) source sink refusal
-    → Stops given (from_start before faults_before source) sink (Early refusal)
-stops {given} {first} {before} {arguments} faults_before command source sink refusal same f asks s = record {
+    → StopsAfter command (ahead_of first) source sink told refusal
+    → Stops given (from_start before faults_before source) sink told (Early refusal)
+stops {given} {first} {before} {arguments} faults_before command source sink told refusal same f asks s = record {
   got = first ++ s.more;
   read = Consumes-trans before source.bytes_before source.bytes first s.more f.read s.read;
   spared = s.spared;
+  silent = s.silent;
   reason = reasons faults_before command source s.more same f asks s.rest refusal s.reason;
 }
 
 -- the run after the line ends the run
 pub line_ends : {given : List Text} {first : List ℕ} {before : Option (List ℕ)} {arguments : List Text}
-    (faults_before : ℕ) (command : CommandView) (source sink : Change) → faults_before ≡ source.faults_before
+    (faults_before : ℕ) (command : CommandView) (source sink : Change) (told : List Notice) → faults_before ≡ source.faults_before
     → IsFirst given first before source.bytes_before arguments → command_of arguments ≡ Ok command
-    → (outcome : Result Done Fault) → EndsAfter command (ahead_of first) source sink outcome
-    → Ends given (from_start before faults_before source) sink outcome
-line_ends faults_before command source sink same f asks (Ok done) m = does faults_before command source sink (Ok done) same f asks m
-line_ends faults_before command source sink same f asks (Err (Late refusal)) m =
-    does faults_before command source sink (Err refusal) same f asks m
-line_ends faults_before command source sink same f asks (Err (Early refusal)) s =
-    stops faults_before command source sink refusal same f asks s
-line_ends faults_before command source sink same f asks (Err Usage) s = absurd s
+    → (outcome : Result Done Fault) → EndsAfter command (ahead_of first) source sink told outcome
+    → Ends given (from_start before faults_before source) sink told outcome
+line_ends faults_before command source sink told same f asks (Ok done) m =
+    does faults_before command source sink told (Ok done) same f asks m
+line_ends faults_before command source sink told same f asks (Err (Late refusal)) m =
+    does faults_before command source sink told (Err refusal) same f asks m
+line_ends faults_before command source sink told same f asks (Err (Early refusal)) s =
+    stops faults_before command source sink told refusal same f asks s
+line_ends faults_before command source sink told same f asks (Err Usage) s = absurd s
 
 pub few_arguments : (arguments : List (Bor Text)) → length arguments ≤ 1 → has_arguments (texts arguments) ≡ false
 few_arguments [] h = refl
@@ -194,21 +199,23 @@ pub unread : (given : List Text) (source sink : Change) (got : List ℕ) → has
     → length got ≤ max_line + 1 → source.faults ≡ source.faults_before → Consumes source.bytes_before source.bytes got
     → IsSpared sink → HasLine got source.bytes → IsUtf8 (line_of got) → length (line_of got) ≤ max_line
     → (fault : Fault) → Refuses fault (command_of (called given ∷ arguments_of_line (line_of got)))
-    → Ends given source sink (Err fault)
+    → Ends given source sink [] (Err fault)
 unread given source sink got none few quiet read spared line utf8 short (Early OutOfMemory) h =
-    record { got = got; read = read; spared = spared; reason = tt }
+    record { got = got; read = read; spared = spared; silent = refl; reason = tt }
 unread given source sink got none few quiet read spared line utf8 short (Early BadChars) h =
     let arguments = called given ∷ arguments_of_line (line_of got) in
     record {
       got = got;
       read = read;
       spared = spared;
+      silent = refl;
       reason = ((arguments, rw none (line, utf8, short, refl), h), for_line given got source none few quiet);
     }
 unread given source sink got none few quiet read spared line utf8 short Usage h = record {
   got = got;
   read = read;
   spared = spared;
+  silent = refl;
   reason = (rw none (inr (line, inr h)), for_line given got source none few quiet);
 }
 unread given source sink got none few quiet read spared line utf8 short _ h = absurd h
@@ -223,16 +230,16 @@ many_arguments (argument ∷ more ∷ arguments) h = lt-ltb 1 _ (omega arith)
 -- nothing was read, and they are refused
 pub unasked : (given : List Text) (source sink : Change) → has_arguments given ≡ true → IsUnread source
     → (sink.bytes ≡ sink.bytes_before) × (sink.faults ≡ sink.faults_before)
-    → (fault : Fault) → Refuses fault (command_of given) → Ends given source sink (Err fault)
+    → (fault : Fault) → Refuses fault (command_of given) → Ends given source sink [] (Err fault)
 unasked given source sink some same untouched fault why =
     by (rw same.0 (Consumes-nil source.bytes_before)) (rw untouched.0 (Keeps-refl sink.bytes_before), untouched.1) fault why
   where
     by : Consumes source.bytes_before source.bytes [] → IsSpared sink → (fault : Fault) → Refuses fault (command_of given)
-        → Ends given source sink (Err fault)
-    by read spared (Early OutOfMemory) h = record { got = []; read = read; spared = spared; reason = tt }
+        → Ends given source sink [] (Err fault)
+    by read spared (Early OutOfMemory) h = record { got = []; read = read; spared = spared; silent = refl; reason = tt }
     by read spared (Early BadChars) h =
-        record { got = []; read = read; spared = spared; reason = ((given, rw some refl, h), rw some same) }
-    by read spared Usage h = record { got = []; read = read; spared = spared; reason = (rw some h, rw some same) }
+        record { got = []; read = read; spared = spared; silent = refl; reason = ((given, rw some refl, h), rw some same) }
+    by read spared Usage h = record { got = []; read = read; spared = spared; silent = refl; reason = (rw some h, rw some same) }
     by read spared _ h = absurd h
 
 -- a source or a sink that was not used
@@ -245,7 +252,8 @@ pub without_arguments : (given : List Text) (left held : Option (List ℕ)) (rea
     → Runs given (unchanged left read_faults) (unchanged held write_faults) err status
 without_arguments given left held read_faults write_faults err status e t = record {
   outcome = Err (Early OutOfMemory);
-  ends = record { got = []; read = Consumes-nil left; spared = (Keeps-refl held, refl); reason = tt };
+  notices = [];
+  ends = record { got = []; read = Consumes-nil left; spared = (Keeps-refl held, refl); silent = refl; reason = tt };
   told = e;
-  line = t;
+  lines = t;
 }

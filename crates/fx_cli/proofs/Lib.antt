@@ -1,3 +1,4 @@
 pub mod Made
 pub mod FirstLines
 pub mod Pictures
+pub mod Telling

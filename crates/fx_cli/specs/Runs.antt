@@ -1,6 +1,7 @@
 -- What a run of the program does.
-use Rattle.std.specs.Prelude.{◌≡◌, ◌⊎◌, ◌+◌, ◌<◌, ◌≤◌, ℕ, Bool, true, false, nat_lt, List, [], ◌∷◌, length, codes, Option}
+use Rattle.std.specs.Prelude.{◌≡◌, ◌⊎◌, ◌+◌, ◌<◌, ◌≤◌, ℕ, Bool, true, false, nat_lt, List, [], ◌∷◌, ◌++◌, length, codes, Option}
 use Rattle.std.specs.Prelude.{Some, None, Result, Ok, Err}
+use Rattle.std.specs.List.{flat_map}
 use Rattle.clap.specs.Walk.{Text}
 use Rattle.std.specs.Str.{IsUtf8}
 use Rattle.std.specs.Io.KnownBytes.{Consumes, IsAtEnd, Keeps}
@@ -9,21 +10,26 @@ use Rattle.std.specs.declared.io.ErrorKind.TheVariants as kind
 use Rattle.fx_fixed.specs.Changes.{Change}
 use Rattle.fx_request.specs.declared.refusal.Refusal.{Refusal}
 use Rattle.fx_request.specs.declared.refusal.Refusal.TheVariants.{BadChars, BadHex, InputTooLarge, OutOfMemory, ReadFailed}
+use Rattle.fx_request.specs.declared.refusal.Refusal.TheVariants.{WriteFailed}
+use Rattle.fx_fixed.specs.Wrote.{Wrote}
+use Rattle.fx_sfnt.specs.Collections.{FontFileView, face_in}
 use Rattle.fx_machine.specs.declared.program.FontProgram.{FontProgram}
 use Rattle.fx_request.specs.declared.request.Report.{Report}
 use Rattle.fx_strike.specs.Title.{Title}
-use Rattle.fx_strike.specs.Strike.{one_of, opened_of, opened_one_of, plan_of}
-use Rattle.fx_strike.specs.Headline.{Leaves}
+use Rattle.fx_request.specs.declared.notice.Notice.{Notice}
+use Rattle.fx_request.specs.Notices.{AreTold}
+use Rattle.fx_strike.specs.Strike.{Plan, one_of, opened_of, opened_one_of, plan_of}
+use Rattle.fx_strike.specs.Headline.{Leaves, notices_of}
 use Rattle.fx_strike.specs.Listings.{Lists, program_of}
 use Rattle.fx_arguments.specs.Limits.{max_input, max_line}
 use Rattle.fx_arguments.specs.declared.done.Done.{Done}
-use Rattle.fx_arguments.specs.declared.done.Done.TheVariants.{Strike, Picture, Listing}
+use Rattle.fx_arguments.specs.declared.done.Done.TheVariants.{Strike, Picture, Listing, Explanation}
 use Rattle.fx_arguments.specs.declared.fault.Fault.{Fault}
 use Rattle.fx_arguments.specs.declared.fault.Fault.TheVariants.{Usage, Early, Late}
-use Rattle.fx_arguments.specs.Arguments.{command_of}
-use Rattle.fx_arguments.specs.Commands.{CommandView, MakeView, TaskView, strike, picture, listing}
+use Rattle.fx_arguments.specs.CommandLine.{command_of}
+use Rattle.fx_arguments.specs.Commands.{CommandView, MakeView, TaskView, strike, picture, listing, explanation}
 use Rattle.fx_arguments.specs.declared.command.Show.{Show}
-use Rattle.fx_arguments.specs.Lines.{Tells, outcome_line, status_of}
+use Rattle.fx_arguments.specs.Lines.{Tells, notice_line, outcome_line, status_of}
 use Rattle.fx_cli.specs.Pictures.{Shows}
 use Rattle.fx_arguments.specs.Input.{bytes_of_hex, line_of, rest_of, arguments_of_line}
 
@@ -68,34 +74,47 @@ font_bytes false text = Some text
 abbrev pub title : MakeView → Title
 title make = record { name = make.name; properties = make.properties; x11 = make.x11 }
 
--- what a call that makes the strike leaves of the sink
-abbrev pub MakeLeaves : MakeView → List ℕ → Change → Result Report Refusal → Type 0
-MakeLeaves make font sink answer =
-    Leaves (opened_of font make.ppem (title make) make.chars) (plan_of font make.ppem (title make) make.chars make.mode)
-    sink answer
+-- the strike that is asked for, or the first cause why there is none
+abbrev pub strike_for : MakeView → FontFileView → Result Plan Refusal
+strike_for make font = plan_of font make.ppem (title make) make.chars make.mode make.on_refused
+
+-- what a call that makes the strike leaves of the sink, and what it told of refused characters
+abbrev pub MakeLeaves : MakeView → FontFileView → Change → List Notice → Result Report Refusal → Type 0
+MakeLeaves make font sink told answer =
+    Leaves (opened_of font make.ppem (title make) make.chars) (strike_for make font) sink answer
+    × AreTold (notices_of (strike_for make font)) told answer
 
 -- what a call that shows a character leaves of it
-abbrev pub ShowLeaves : Show → List ℕ → Change → Result (Unit {0}) Refusal → Type 0
+abbrev pub ShowLeaves : Show → FontFileView → Change → Result (Unit {0}) Refusal → Type 0
 ShowLeaves show font sink answer =
     Shows (opened_one_of font show.ppem show.code) (one_of font show.ppem show.code show.mode) sink answer
 
 -- what a call that lists a program leaves of it
-abbrev pub ListingLeaves : FontProgram → List ℕ → Change → Result (Unit {0}) Refusal → Type 0
+abbrev pub ListingLeaves : FontProgram → FontFileView → Change → Result (Unit {0}) Refusal → Type 0
 ListingLeaves what font sink answer =
     Lists (program_of font what) sink answer
 
--- what a task leaves of the sink, from a font's bytes: its strike, its picture, or the listing of a program of it
-abbrev pub TaskLeaves : TaskView → List ℕ → Change → Result Done Refusal → Type 0
-TaskLeaves (strike make) font sink (Ok (Strike report)) = MakeLeaves make font sink (Ok report)
-TaskLeaves (strike make) font sink (Err refusal) = MakeLeaves make font sink (Err refusal)
-TaskLeaves (picture show) font sink (Ok Picture) = ShowLeaves show font sink (Ok tt)
-TaskLeaves (picture show) font sink (Err refusal) = ShowLeaves show font sink (Err refusal)
-TaskLeaves (listing what) font sink (Ok Listing) = ListingLeaves what font sink (Ok tt)
-TaskLeaves (listing what) font sink (Err refusal) = ListingLeaves what font sink (Err refusal)
-TaskLeaves task font sink (Ok done) = ⊥
+-- what a call that writes a line leaves of it
+abbrev pub LineLeaves : List ℕ → Change → Result (Unit {0}) Refusal → Type 0
+LineLeaves line sink (Ok _) = Wrote sink line (Ok tt)
+LineLeaves line sink (Err (WriteFailed n)) = Wrote sink line (Err (record { 0 = n }))
+LineLeaves line sink (Err refusal) = ⊥
+
+-- what a task leaves of the sink, from a font: its strike, its picture, or the listing of a program of it; or a line, whatever the
+-- font is; and what it told of refused characters. Only a strike tells of any
+abbrev pub TaskLeaves : TaskView → FontFileView → Change → List Notice → Result Done Refusal → Type 0
+TaskLeaves (strike make) font sink told (Ok (Strike report)) = MakeLeaves make font sink told (Ok report)
+TaskLeaves (strike make) font sink told (Err refusal) = MakeLeaves make font sink told (Err refusal)
+TaskLeaves (picture show) font sink told (Ok Picture) = ShowLeaves show font sink (Ok tt) × (told ≡ [])
+TaskLeaves (picture show) font sink told (Err refusal) = ShowLeaves show font sink (Err refusal) × (told ≡ [])
+TaskLeaves (listing what) font sink told (Ok Listing) = ListingLeaves what font sink (Ok tt) × (told ≡ [])
+TaskLeaves (listing what) font sink told (Err refusal) = ListingLeaves what font sink (Err refusal) × (told ≡ [])
+TaskLeaves (explanation line) font sink told (Ok Explanation) = LineLeaves line sink (Ok tt) × (told ≡ [])
+TaskLeaves (explanation line) font sink told (Err refusal) = LineLeaves line sink (Err refusal) × (told ≡ [])
+TaskLeaves task font sink told (Ok done) = ⊥
 
 -- the arguments are valid, the source was read to its end, and the sink has what results from that font and request
-pub record Does (given : List Text) (source sink : Change) (answer : Result Done Refusal) : Type 0 where
+pub record Does (given : List Text) (source sink : Change) (told : List Notice) (answer : Result Done Refusal) : Type 0 where
   pub input : List ℕ
   pub read : Consumes source.bytes_before source.bytes input
   pub whole : IsAtEnd source.bytes
@@ -107,7 +126,7 @@ pub record Does (given : List Text) (source sink : Change) (answer : Result Done
   pub asks : command_of arguments ≡ Ok command
   pub font : List ℕ
   pub decoded : font_bytes command.hex (text_of given input) ≡ Some font
-  pub leaves : TaskLeaves command.task font sink answer
+  pub leaves : TaskLeaves command.task (face_in font command.face) sink told answer
 
 -- the arguments are invalid
 abbrev pub IsUsageBy : Bool → List Text → List ℕ → Option (List ℕ) → Type 0
@@ -149,29 +168,32 @@ IsReason given got source _ = ⊥
 abbrev pub IsSpared : Change → Type 0
 IsSpared sink = Keeps sink.bytes_before sink.bytes × (sink.faults ≡ sink.faults_before)
 
--- the sink is as it was, and the reason is a true one
-pub record Stops (given : List Text) (source sink : Change) (fault : Fault) : Type 0 where
+-- the sink is as it was, nothing was told of characters, and the reason is a true one
+pub record Stops (given : List Text) (source sink : Change) (told : List Notice) (fault : Fault) : Type 0 where
   pub got : List ℕ
   pub read : Consumes source.bytes_before source.bytes got
   pub spared : IsSpared sink
+  pub silent : told ≡ []
   pub reason : IsReason given got source fault
 
 -- how a run ends
-abbrev pub Ends : List Text → Change → Change → Result Done Fault → Type 0
-Ends given source sink (Ok done) = Does given source sink (Ok done)
-Ends given source sink (Err (Late refusal)) = Does given source sink (Err refusal)
-Ends given source sink (Err fault) = Stops given source sink fault
+abbrev pub Ends : List Text → Change → Change → List Notice → Result Done Fault → Type 0
+Ends given source sink told (Ok done) = Does given source sink told (Ok done)
+Ends given source sink told (Err (Late refusal)) = Does given source sink told (Err refusal)
+Ends given source sink told (Err fault) = Stops given source sink told fault
 
 -- nothing was read or written
 abbrev pub IsUntouched : Change → Change → Type 0
 IsUntouched source sink = IsUnread source × (sink.bytes ≡ sink.bytes_before) × (sink.faults ≡ sink.faults_before)
 
--- a run on these arguments, the program's name first: how it ended, its status, and its line for people
+-- a run on these arguments, the program's name first: how it ended, its status, and its lines for people: one for each refused
+-- character of a strike that was made in spite of it, and then that of how the run ended
 pub record Runs (given : List Text) (source sink err : Change) (status : ℕ) : Type 0 where
   pub outcome : Result Done Fault
-  pub ends : Ends given source sink outcome
+  pub notices : List Notice
+  pub ends : Ends given source sink notices outcome
   pub told : status ≡ status_of outcome
-  pub line : Tells (outcome_line outcome) err
+  pub lines : Tells (flat_map notice_line notices ++ outcome_line outcome) err
 
 -- how a run ends if the system gives no arguments: out of memory, or an argument that is not text
 abbrev pub unread_outcome : ErrorKind → Result Done Fault

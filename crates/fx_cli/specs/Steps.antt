@@ -1,6 +1,7 @@
 -- The steps of a run after its arguments.
 use Rattle.std.specs.Prelude.{◌≡◌, ◌⊎◌, ◌+◌, ◌<◌, ◌≤◌, ◌++◌, ℕ, true, List, [], length, Some, None, Result, Ok, Err}
 use Rattle.std.specs.Io.KnownBytes.{Consumes, IsAtEnd}
+use Rattle.fx_sfnt.specs.Collections.{face_in}
 use Rattle.fx_request.specs.declared.refusal.Refusal.{Refusal}
 use Rattle.fx_request.specs.declared.refusal.Refusal.TheVariants.{BadHex, InputTooLarge, OutOfMemory, ReadFailed}
 use Rattle.fx_arguments.specs.Limits.{max_input}
@@ -10,34 +11,41 @@ use Rattle.fx_arguments.specs.declared.fault.Fault.TheVariants.{Usage, Early, La
 use Rattle.fx_arguments.specs.Commands.{CommandView}
 use Rattle.fx_arguments.specs.ReadAhead.{ReadAheadView}
 use Rattle.fx_fixed.specs.Changes.{Change}
+use Rattle.fx_request.specs.declared.notice.Notice.{Notice}
+use Rattle.fx_request.specs.Notices.{HearsAll}
+use Rattle.fx_arguments.specs.Tellers.{TellerView, HearsLine}
 use Rattle.fx_cli.specs.Runs.{IsSpared, TaskLeaves, font_bytes}
 
 -- the font's text, hexadecimal if the command says so, was decoded, and the sink has what comes of it
-pub record DoesText (command : CommandView) (text : List ℕ) (sink : Change) (answer : Result Done Refusal) : Type 0 where
+pub record DoesText (command : CommandView) (text : List ℕ) (sink : Change) (told : List Notice)
+    (answer : Result Done Refusal) : Type 0 where
   pub font : List ℕ
   pub decoded : font_bytes command.hex text ≡ Some font
-  pub leaves : TaskLeaves command.task font sink answer
+  pub leaves : TaskLeaves command.task (face_in font command.face) sink told answer
 
 -- it was not
-pub record SparesText (command : CommandView) (text : List ℕ) (sink : Change) (refusal : Refusal) : Type 0 where
+pub record SparesText (command : CommandView) (text : List ℕ) (sink : Change) (told : List Notice)
+    (refusal : Refusal) : Type 0 where
   pub spared : IsSpared sink
+  pub silent : told ≡ []
   pub reason : (refusal ≡ OutOfMemory) ⊎ ((refusal ≡ BadHex) × (font_bytes command.hex text ≡ None))
 
-abbrev pub EndsText : CommandView → List ℕ → Change → Result Done Fault → Type 0
-EndsText command text sink (Ok done) = DoesText command text sink (Ok done)
-EndsText command text sink (Err (Late refusal)) = DoesText command text sink (Err refusal)
-EndsText command text sink (Err (Early refusal)) = SparesText command text sink refusal
-EndsText command text sink (Err Usage) = ⊥
+abbrev pub EndsText : CommandView → List ℕ → Change → List Notice → Result Done Fault → Type 0
+EndsText command text sink told (Ok done) = DoesText command text sink told (Ok done)
+EndsText command text sink told (Err (Late refusal)) = DoesText command text sink told (Err refusal)
+EndsText command text sink told (Err (Early refusal)) = SparesText command text sink told refusal
+EndsText command text sink told (Err Usage) = ⊥
 
 -- the source was read on to its end, and what was asked for was done with its text
-pub record DoesAfter (command : CommandView) (ahead : ReadAheadView) (source sink : Change) (answer : Result Done Refusal) : Type 0 where
+pub record DoesAfter (command : CommandView) (ahead : ReadAheadView) (source sink : Change) (told : List Notice)
+    (answer : Result Done Refusal) : Type 0 where
   pub more : List ℕ
   pub read : Consumes source.bytes_before source.bytes more
   pub whole : IsAtEnd source.bytes
   pub calm : source.faults ≡ source.faults_before
   pub rest : ahead.ended ≡ true → more ≡ []
   pub fits : ahead.line + length (ahead.text ++ more) ≤ max_input
-  pub made : DoesText command (ahead.text ++ more) sink answer
+  pub made : DoesText command (ahead.text ++ more) sink told answer
 
 abbrev pub IsReasonAfter : CommandView → ReadAheadView → List ℕ → Change → Refusal → Type 0
 IsReasonAfter command ahead more source ReadFailed = source.faults ≡ source.faults_before + 1
@@ -46,15 +54,25 @@ IsReasonAfter command ahead more source InputTooLarge = max_input < ahead.line +
 IsReasonAfter command ahead more source OutOfMemory = Unit {0}
 IsReasonAfter command ahead more source _ = ⊥
 
-pub record StopsAfter (command : CommandView) (ahead : ReadAheadView) (source sink : Change) (refusal : Refusal) : Type 0 where
+pub record StopsAfter (command : CommandView) (ahead : ReadAheadView) (source sink : Change) (told : List Notice)
+    (refusal : Refusal) : Type 0 where
   pub more : List ℕ
   pub read : Consumes source.bytes_before source.bytes more
   pub rest : ahead.ended ≡ true → (more ≡ []) × IsAtEnd source.bytes
   pub spared : IsSpared sink
+  pub silent : told ≡ []
   pub reason : IsReasonAfter command ahead more source refusal
 
-abbrev pub EndsAfter : CommandView → ReadAheadView → Change → Change → Result Done Fault → Type 0
-EndsAfter command ahead source sink (Ok done) = DoesAfter command ahead source sink (Ok done)
-EndsAfter command ahead source sink (Err (Late refusal)) = DoesAfter command ahead source sink (Err refusal)
-EndsAfter command ahead source sink (Err (Early refusal)) = StopsAfter command ahead source sink refusal
-EndsAfter command ahead source sink (Err Usage) = ⊥
+abbrev pub EndsAfter : CommandView → ReadAheadView → Change → Change → List Notice → Result Done Fault → Type 0
+EndsAfter command ahead source sink told (Ok done) = DoesAfter command ahead source sink told (Ok done)
+EndsAfter command ahead source sink told (Err (Late refusal)) = DoesAfter command ahead source sink told (Err refusal)
+EndsAfter command ahead source sink told (Err (Early refusal)) = StopsAfter command ahead source sink told refusal
+EndsAfter command ahead source sink told (Err Usage) = ⊥
+
+-- ---- what was told
+
+-- a teller of lines before and after a step that ended with these notices, and it heard them
+pub record Telling (was now : TellerView) (EndsBy : List Notice → Type 0) : Type 0 where
+  pub notices : List Notice
+  pub heard : HearsAll HearsLine was notices now
+  pub ends : EndsBy notices

@@ -5,17 +5,19 @@ ghost use Rattle.fx_fixed.specs.Chain.{map_fault};
 ghost use Rattle.fx_arguments.specs.Arguments.{texts};
 ghost use Rattle.fx_arguments.specs.Commands.{seen, seen_task};
 ghost use Rattle.fx_fixed.specs.Changes.{change_of};
+ghost use Rattle.fx_sfnt.specs.Collections.{face_in};
 ghost use Rattle.fx_cli.specs.Runs.{Ends, Runs, TaskLeaves, called};
-ghost use Rattle.fx_cli.specs.Steps.{EndsAfter, EndsText};
+ghost use Rattle.fx_cli.specs.Steps.{EndsAfter, EndsText, Telling};
 
 use crate::show::put_character;
 use fx_arguments::{
-    Command, Done, Fault, LINE_BUFFER, ReadAhead, Task, arguments_of_line, decode_hex,
-    read_arguments, read_line, status,
+    Command, Done, Fault, LINE_BUFFER, ReadAhead, Task, Teller, arguments_of_line, decode_hex,
+    read_arguments, read_line,
 };
-use fx_fixed::{Sink, Source};
+use fx_fixed::{Sink, Source, put_all};
 use fx_request::Refusal;
-use fx_strike::{listing_of, make_strike};
+use fx_sfnt::FontFile;
+use fx_strike::{listing_of, make_strike_telling};
 use std::alloc::Global;
 
 /// The size of the buffer that the input is read through.
@@ -35,43 +37,64 @@ pub fn run<R: Source, O: Sink, E: Sink>(
     ensures { Runs (texts arguments.now) (change_of R.left R.fault_count reader.old reader.new)
         (change_of O.held O.fault_count out.old out.new) (change_of E.held E.fault_count err.old err.new) result }
 {
-    let outcome = if arguments.len() > 1 {
-        run_arguments(alloc, arguments, reader, out)
-    } else {
-        run_line(alloc, arguments, reader, out)
-    };
-    status(err, &outcome)
+    let mut teller = Teller::new(err);
+    let outcome = run_told(alloc, arguments, reader, out, &mut teller);
+    let status = teller.status(&outcome);
+    teller.close();
+    status
 }
 
-/// The arguments are given, and the input is the font.
-fn run_arguments<R: Source, O: Sink>(
+/// Runs the program, and tells a teller of refused characters.
+fn run_told<R: Source, O: Sink, E: Sink>(
     alloc: Global,
     arguments: &[&str],
     reader: &mut R,
     out: &mut O,
+    teller: &mut Teller<'_, E>,
+) -> Result<Done, Fault>
+    requires reader { R.fault_count reader.old < 2 ^ 63 }
+    requires out { O.fault_count out.old < 2 ^ 63 }
+    ensures { Telling teller.old teller.new (λ told. Ends (texts arguments.now)
+        (change_of R.left R.fault_count reader.old reader.new) (change_of O.held O.fault_count out.old out.new) told result) }
+{
+    if arguments.len() > 1 {
+        run_arguments(alloc, arguments, reader, out, teller)
+    } else {
+        run_line(alloc, arguments, reader, out, teller)
+    }
+}
+
+/// The arguments are given, and the input is the font.
+fn run_arguments<R: Source, O: Sink, E: Sink>(
+    alloc: Global,
+    arguments: &[&str],
+    reader: &mut R,
+    out: &mut O,
+    teller: &mut Teller<'_, E>,
 ) -> Result<Done, Fault>
     requires reader { R.fault_count reader.old < 2 ^ 63 }
     requires out { O.fault_count out.old < 2 ^ 63 }
     requires given { 1 < length arguments.now }
-    ensures { Ends (texts arguments.now) (change_of R.left R.fault_count reader.old reader.new)
-        (change_of O.held O.fault_count out.old out.new) result }
+    ensures { Telling teller.old teller.new (λ told. Ends (texts arguments.now)
+        (change_of R.left R.fault_count reader.old reader.new) (change_of O.held O.fault_count out.old out.new) told result) }
 {
     let command = read_arguments(alloc, arguments)?;
-    run_command(alloc, &command, &ReadAhead::none(), reader, out)
+    run_command(alloc, &command, &ReadAhead::none(), reader, out, teller)
 }
 
 /// The input's first line holds the arguments, and what follows it is the font.
-fn run_line<R: Source, O: Sink>(
+fn run_line<R: Source, O: Sink, E: Sink>(
     alloc: Global,
     arguments: &[&str],
     reader: &mut R,
     out: &mut O,
+    teller: &mut Teller<'_, E>,
 ) -> Result<Done, Fault>
     requires reader { R.fault_count reader.old < 2 ^ 63 }
     requires out { O.fault_count out.old < 2 ^ 63 }
     requires given { length arguments.now ≤ 1 }
-    ensures { Ends (texts arguments.now) (change_of R.left R.fault_count reader.old reader.new)
-        (change_of O.held O.fault_count out.old out.new) result }
+    ensures { Telling teller.old teller.new (λ told. Ends (texts arguments.now)
+        (change_of R.left R.fault_count reader.old reader.new) (change_of O.held O.fault_count out.old out.new) told result) }
 {
     let mut buffer = [0u8; LINE_BUFFER];
     let (filled, end) = read_line(reader, &mut buffer)?;
@@ -81,7 +104,14 @@ fn run_line<R: Source, O: Sink>(
     };
     let arguments = arguments_of_line(alloc, program_name(arguments), line)?;
     let command = read_arguments(alloc, &arguments)?;
-    run_command(alloc, &command, &ReadAhead::of(got, end), reader, out)
+    run_command(
+        alloc,
+        &command,
+        &ReadAhead::of(got, end),
+        reader,
+        out,
+        teller,
+    )
 }
 
 /// The program's name.
@@ -95,54 +125,83 @@ fn program_name<'a>(arguments: &[&'a str]) -> &'a str
 }
 
 /// Does what a command asks for; `ahead` is what was read of the input before.
-fn run_command<R: Source, O: Sink>(
+fn run_command<R: Source, O: Sink, E: Sink>(
     alloc: Global,
     command: &Command<'_>,
     ahead: &ReadAhead<'_>,
     reader: &mut R,
     out: &mut O,
+    teller: &mut Teller<'_, E>,
 ) -> Result<Done, Fault>
     requires reader { R.fault_count reader.old < 2 ^ 63 }
     requires out { O.fault_count out.old < 2 ^ 63 }
     requires ended { ahead.now.ended ≡ true → IsAtEnd (R.left reader.old) }
-    ensures { EndsAfter (seen command.now) ahead.now (change_of R.left R.fault_count reader.old reader.new)
-        (change_of O.held O.fault_count out.old out.new) result }
+    ensures { Telling teller.old teller.new (λ told. EndsAfter (seen command.now) ahead.now
+        (change_of R.left R.fault_count reader.old reader.new) (change_of O.held O.fault_count out.old out.new) told result) }
 {
     let mut buffer = [0u8; BUFFER];
     let text = ahead.read_on(alloc, reader, &mut buffer)?;
-    run_text(alloc, command, &text, out)
+    run_text(alloc, command, &text, out, teller)
 }
 
 /// Does what a command asks for with a font's text.
-fn run_text<O: Sink>(
+fn run_text<O: Sink, E: Sink>(
     alloc: Global,
     command: &Command<'_>,
     text: &[u8],
     out: &mut O,
+    teller: &mut Teller<'_, E>,
 ) -> Result<Done, Fault>
     requires { O.fault_count out.old < 2 ^ 63 }
-    ensures { EndsText (seen command.now) text.now (change_of O.held O.fault_count out.old out.new) result }
+    ensures { Telling teller.old teller.new (λ told. EndsText (seen command.now) text.now
+        (change_of O.held O.fault_count out.old out.new) told result) }
 {
     if command.hex {
         let font = decode_hex(alloc, text)?;
-        late(run_task(alloc, &command.task, &font, out))
+        late(run_bytes(alloc, command, &font, out, teller))
     } else {
-        late(run_task(alloc, &command.task, text, out))
+        late(run_bytes(alloc, command, text, out, teller))
     }
 }
 
-/// Does a task with a font's bytes.
-fn run_task<O: Sink>(
+/// Does what a command asks for with the bytes of a font file.
+fn run_bytes<O: Sink, E: Sink>(
     alloc: Global,
-    task: &Task<'_>,
-    font: &[u8],
+    command: &Command<'_>,
+    bytes: &[u8],
     out: &mut O,
+    teller: &mut Teller<'_, E>,
 ) -> Result<Done, Refusal>
     requires { O.fault_count out.old < 2 ^ 63 }
-    ensures { TaskLeaves (seen_task task.now) font.now (change_of O.held O.fault_count out.old out.new) result }
+    ensures { Telling teller.old teller.new (λ told. TaskLeaves (seen command.now).task (face_in bytes.now command.now.face)
+        (change_of O.held O.fault_count out.old out.new) told result) }
+{
+    run_task(
+        alloc,
+        &command.task,
+        &FontFile::new(bytes, command.face),
+        out,
+        teller,
+    )
+}
+
+/// Does a task with a font.
+fn run_task<O: Sink, E: Sink>(
+    alloc: Global,
+    task: &Task<'_>,
+    font: &FontFile<'_>,
+    out: &mut O,
+    teller: &mut Teller<'_, E>,
+) -> Result<Done, Refusal>
+    requires { O.fault_count out.old < 2 ^ 63 }
+    ensures { Telling teller.old teller.new (λ told. TaskLeaves (seen_task task.now) font.now
+        (change_of O.held O.fault_count out.old out.new) told result) }
 {
     match task {
-        Task::Strike(make) => Ok(Done::Strike(make_strike(alloc, font, &make.request(), out)?)),
+        Task::Strike(make) => {
+            let report = make_strike_telling(alloc, font, &make.request(), out, teller)?;
+            Ok(Done::Strike(report))
+        }
         Task::Picture(show) => {
             put_character(alloc, show, font, out)?;
             Ok(Done::Picture)
@@ -150,6 +209,10 @@ fn run_task<O: Sink>(
         Task::Listing(what) => {
             listing_of(font, *what, out)?;
             Ok(Done::Listing)
+        }
+        Task::Explanation(line) => {
+            put_all(out, line)?;
+            Ok(Done::Explanation)
         }
     }
 }

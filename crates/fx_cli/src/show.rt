@@ -7,6 +7,7 @@ use crate::picture::put_shown;
 use fx_arguments::Show;
 use fx_fixed::Sink;
 use fx_request::Refusal;
+use fx_sfnt::FontFile;
 use fx_strike::one;
 use std::alloc::Global;
 
@@ -14,7 +15,7 @@ use std::alloc::Global;
 pub fn put_character<O: Sink>(
     alloc: Global,
     show: &Show,
-    font: &[u8],
+    font: &FontFile<'_>,
     out: &mut O,
 ) -> Result<(), Refusal>
     requires { O.fault_count out.old < 2 ^ 63 }

@@ -2,6 +2,7 @@ pub mod Opcodes
 pub mod Chain
 pub mod Past
 pub mod Seek
+pub mod Targets
 pub mod Numbers
 pub mod Names
 pub mod Line

@@ -66,6 +66,13 @@ impl<'a> Code<'a> {
         Code { bytes }
     }
 
+    /// Its bytes.
+    pub fn bytes(&self) -> &'a [u8]
+        ensures { result.now ≡ self.now }
+    {
+        self.bytes
+    }
+
     /// How many bytes it has.
     pub fn len(&self) -> usize
         ensures { result ≡ length self.now }

@@ -1,7 +1,7 @@
 -- Gaps of columns, seen as rows, closed one pair of the frame's rows after the other.
 -- Serves `up`.
 use Rattle.std.proofs.Common.{◌≡◌, ◌≢◌, ◌⊎◌, ◌↔◌, inl, inr, sym, subst, ℕ, zero, suc, ◌+◌, ◌-◌, ◌<◌, ◌≤◌, ℤ, pos, ◌+ℤ◌, ◌-ℤ◌}
-use Rattle.std.proofs.Common.{List, map, true, arith}
+use Rattle.std.proofs.Common.{List, map, arith}
 use Rattle.fx_fixed.proofs.Linear.{signed_linear}
 use Rattle.fx_winding.specs.declared.frame.Frame.{Frame}
 use Rattle.fx_winding.specs.Dropout.{IsGap, IsBridged, turned_span}
@@ -9,8 +9,9 @@ use Rattle.fx_winding.specs.Bitmaps.{Bits}
 use Rattle.fx_winding.specs.Frames.{IsFrom, IsInFrame}
 use Rattle.fx_winding.specs.Winding.{Span}
 use Rattle.fx_dropout.specs.inner.Lines.{IsSoFar, IsBridgedTo, IsCloser, IsLevelClosed}
+use Rattle.fx_dropout.specs.inner.Pairs.{Turned}
 use Rattle.fx_dropout.proofs.Segments.{same_or_not, both, same_without, gap_on_row, bridged_more, bridged_all, bridged_wider}
-use Rattle.fx_dropout.proofs.Segments.{closer_of}
+use Rattle.fx_dropout.proofs.Segments.{closer_from, closer_of}
 use Rattle.fx_dropout.proofs.SoFar.{from_or_not}
 
 -- ---- from column to column
@@ -56,15 +57,19 @@ level_more ss first k i at y old mid new e a here others = record {
 
 -- the same of a bitmap
 pub level_step : (ss : List Span) (f h : Frame) (mid new : Bits) (k : ℕ) (i at y : ℤ) (old : ℤ → ℤ → Type 0) → h ≡ f
-    → y ≡ f.left +ℤ pos k → IsLevelClosed (map turned_span ss) f.left k i at old (IsSoFar true ss f mid)
-    → (IsSoFar true ss h new at y ↔ (IsSoFar true ss h mid at y ⊎ IsGap (map turned_span ss) (IsSoFar true ss h mid) i y))
-    → ((m n : ℤ) → (m ≢ at) ⊎ (n ≢ y) → IsSoFar true ss h new m n ↔ IsSoFar true ss h mid m n)
-    → IsLevelClosed (map turned_span ss) f.left (k + 1) i at old (IsSoFar true ss f new)
+    → y ≡ f.left +ℤ pos k → IsLevelClosed (map turned_span ss) f.left k i at old (Turned (IsSoFar ss f mid))
+    → (IsSoFar ss h new y at ↔ (IsSoFar ss h mid y at ⊎ IsGap (map turned_span ss) (Turned (IsSoFar ss h mid)) i y))
+    → ((m n : ℤ) → (m ≢ y) ⊎ (n ≢ at) → IsSoFar ss h new m n ↔ IsSoFar ss h mid m n)
+    → IsLevelClosed (map turned_span ss) f.left (k + 1) i at old (Turned (IsSoFar ss f new))
 level_step ss f h mid new k i at y old same e a here others =
-    level_more (map turned_span ss) f.left k i at y old (IsSoFar true ss f mid) (IsSoFar true ss f new) e a
-    (subst (λ (g : Frame). IsSoFar true ss g new at y ↔ (IsSoFar true ss g mid at y ⊎
-    IsGap (map turned_span ss) (IsSoFar true ss g mid) i y)) same here)
-    (subst (λ (g : Frame). (m n : ℤ) → (m ≢ at) ⊎ (n ≢ y) → IsSoFar true ss g new m n ↔ IsSoFar true ss g mid m n) same others)
+    level_more (map turned_span ss) f.left k i at y old (Turned (IsSoFar ss f mid)) (Turned (IsSoFar ss f new)) e a
+    (subst (λ (g : Frame). IsSoFar ss g new y at ↔ (IsSoFar ss g mid y at ⊎
+    IsGap (map turned_span ss) (Turned (IsSoFar ss g mid)) i y)) same here)
+    (λ m n o. subst (λ (g : Frame). IsSoFar ss g new n m ↔ IsSoFar ss g mid n m) same (others n m (swap o)))
+  where
+    swap : {X Y : Type 0} → X ⊎ Y → Y ⊎ X
+    swap (inl x) = inr x
+    swap (inr y) = inl y
 
 level_steps : (ss : List Span) (first : ℤ) (k d : ℕ) (i at : ℤ) (old new : ℤ → ℤ → Type 0)
     → ((n : ℕ) → k ≤ n → n < k + d → ¬ (IsGap ss new i (first +ℤ pos n))) → IsLevelClosed ss first k i at old new
@@ -113,8 +118,9 @@ levels_more ss f k x at old mid new some high e closer decided a c i j = by (fro
     narrower n (inr b) = absurd (n b.inside.column)
 
     by : IsFrom f.left f.width j ⊎ (¬ (IsFrom f.left f.width j)) → new i j ↔ IsBridgedTo ss In old f.bottom (k + 1) i j
-    by (inl h) = bridged_more ss In f.bottom f.height k j x at old mid new
-        (λ i. (λ s. s.row, λ r. record { column = h; row = r })) some high e closer (decided j h) (λ i. a i j) (c.here j h)
+    by (inl h) = bridged_more ss In f.bottom k j x at old mid new
+        (record { column = h; row = closer_from f.bottom f.height k x at some high e closer }) e closer (decided j h)
+        (λ i. a i j) (c.here j h)
         (λ i n. c.others i j (inl n)) i
     by (inr n) = (
       λ t. bridged_wider ss In old f.bottom k i j ((a i j).0 ((c.others i j (inr n)).0 t)),
@@ -162,4 +168,5 @@ pub levels_all : (ss : List Span) (f : Frame) (k : ℕ) (old new : ℤ → ℤ �
     → (i j : ℤ) → new i j ↔ IsBridged ss (λ i j. IsInFrame f j i) old i j
 levels_all ss f k old new e a i j =
     let done = subst (λ (n : ℕ). new i j ↔ IsBridgedTo ss (λ i j. IsInFrame f j i) old f.bottom n i j) e (a i j) in
-    both done (bridged_all ss (λ i j. IsInFrame f j i) old f.bottom f.height i j (λ h. h.row))
+    both done (bridged_all ss (λ i j. IsInFrame f j i) old f.bottom f.height i j (λ h. h.row) (λ m h. h.row.0)
+    (λ h l. record { column = h.column; row = (l, omega (arith, signed_linear, h.row.1)) }))

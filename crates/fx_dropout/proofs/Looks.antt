@@ -132,12 +132,14 @@ row_looked b across pixels noted rows shared from many count words whole r n are
         → (word_bit noted at ≡ 0) ⊎ ((word_bit rows at ≡ 1) ⊎ ((0 < at % 32) × (word_bit rows (at - 1) ≡ 1)))
         → IsShutInRow across b r n
     open_by l h (inl z) = unnoted (omega (arith, h, fits)) z
-    open_by l h (inr (inl o)) = inr (inl (set n l (omega (arith, h, held)) o))
+    open_by l h (inr (inl o)) =
+        let i : f.left +ℤ pos n ≡ ((f.left -ℤ pos 1) +ℤ pos n) +ℤ pos 1 = omega (arith, signed_linear) in
+        inr (inr (subst (λ (i : ℤ). IsTrue (bit_of b i (f.bottom +ℤ pos r))) i (set n l (omega (arith, h, held)) o)))
     open_by l h (inr (inr (some, o))) =
         let k : 0 < n = omega (arith, some, far (r - from) n) in
         let e : at - 1 ≡ (r - from) * (32 * w) + (n - 1) = omega (arith, k) in
         let i : f.left +ℤ pos (n - 1) ≡ (f.left -ℤ pos 1) +ℤ pos n = omega (arith, signed_linear, k) in
-        inr (inr (subst (λ (i : ℤ). IsTrue (bit_of b i (f.bottom +ℤ pos r))) i
+        inr (inl (subst (λ (i : ℤ). IsTrue (bit_of b i (f.bottom +ℤ pos r))) i
         (set (n - 1) (omega (arith, l)) (omega (arith, h, k, held)) (sym (ap (word_bit rows) e) ∙ o))))
 
     by : (n < 32 * w) ⊎ (32 * w ≤ n) → IsShutInRow across b r n
@@ -195,5 +197,7 @@ level_looked b up pixels noted lower upper from many low_count high_count words 
     by (inl z) = inl (sym (part_at up noted w from many r n en low (omega (arith, inside, fits))) ∙ z)
     by (inr (inl o)) = inr (inl (subst (λ (j : ℤ). IsTrue (bit_of b (f.left +ℤ pos n) j)) below
         (pixel_set b pixels (r - 1) n are is (omega (arith, within)) small (sym under ∙ o))))
-    by (inr (inr o)) = inr (inr (pixel_set b pixels r n are is within small
-        (sym (part_at pixels upper w from high_count r n eu low (omega (arith, inside, held))) ∙ o)))
+    by (inr (inr o)) =
+        let above : f.bottom +ℤ pos r ≡ ((f.bottom -ℤ pos 1) +ℤ pos r) +ℤ pos 1 = omega (arith, signed_linear) in
+        inr (inr (subst (λ (j : ℤ). IsTrue (bit_of b (f.left +ℤ pos n) j)) above (pixel_set b pixels r n are is within small
+        (sym (part_at pixels upper w from high_count r n eu low (omega (arith, inside, held))) ∙ o))))

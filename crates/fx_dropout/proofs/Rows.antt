@@ -1,7 +1,7 @@
 -- Gaps of rows closed one row after the other, and then those of columns.
--- Serves `close` and `across`.
+-- Serves `across` and `noted`.
 use Rattle.std.proofs.Common.{◌≡◌, ◌≢◌, ◌⊎◌, ◌↔◌, inl, inr, sym, subst, ℕ, zero, suc, ◌+◌, ◌-◌, ◌<◌, ◌≤◌, ℤ, pos, ◌+ℤ◌, ◌-ℤ◌}
-use Rattle.std.proofs.Common.{Bool, List, map, arith}
+use Rattle.std.proofs.Common.{List, map, arith}
 use Rattle.fx_fixed.proofs.Linear.{signed_linear}
 use Rattle.fx_winding.specs.declared.frame.Frame.{Frame}
 use Rattle.fx_winding.specs.Dropout.{turned_span, IsGap, IsBridged, IsRowSet, IsSet}
@@ -9,7 +9,6 @@ use Rattle.fx_winding.specs.Bitmaps.{Bits}
 use Rattle.fx_winding.specs.Frames.{IsFrom, IsInFrame}
 use Rattle.fx_winding.specs.Winding.{Span, IsCovered, centre}
 use Rattle.fx_dropout.specs.inner.Lines.{IsSoFar, AreClosed, IsRowClosed, AreRowsClosed, IsBridgedTo, IsCloser}
-use Rattle.fx_dropout.specs.inner.Turned.{seen_spans, IsSeenInFrame}
 use Rattle.fx_dropout.proofs.Segments.{same_or_not, both, gap_on_row, bridged_none, bridged_more, bridged_skip, bridged_all}
 use Rattle.fx_dropout.proofs.Segments.{closer_from}
 use Rattle.fx_dropout.proofs.SoFar.{from_or_not, so_far_decided}
@@ -24,16 +23,6 @@ bridged_on_row ss In S T j e i (inr b) = inr (record { inside = b.inside; gap = 
     by (inl g) = inl (gap_on_row ss S T j e i g)
     by (inr (g, n)) = inr (gap_on_row ss S T j e (i -ℤ pos 1) g, n)
 
-pub bridged_inside : (ss : List Span) (In To S : ℤ → ℤ → Type 0) → ((i j : ℤ) → In i j ↔ To i j) → (i j : ℤ)
-    → IsBridged ss In S i j → IsBridged ss To S i j
-bridged_inside ss In To S e i j (inl s) = inl s
-bridged_inside ss In To S e i j (inr b) = inr (record { inside = (e i j).0 b.inside; gap = by b.gap })
-  where
-    by : IsGap ss S i j ⊎ (IsGap ss S (i -ℤ pos 1) j × ¬ (In (i -ℤ pos 1) j))
-        → IsGap ss S i j ⊎ (IsGap ss S (i -ℤ pos 1) j × ¬ (To (i -ℤ pos 1) j))
-    by (inl g) = inl g
-    by (inr (g, n)) = inr (g, λ h. n ((e (i -ℤ pos 1) j).1 h))
-
 -- ---- a row of a frame
 pub row_of : (f : Frame) (j : ℤ) → IsFrom f.bottom f.height j → (i : ℤ) → IsInFrame f i j ↔ IsFrom f.left f.width i
 row_of f j r i = (λ h. h.column, λ c. record { column = c; row = r })
@@ -47,7 +36,8 @@ pub closed_more : (ss : List Span) (f : Frame) (k : ℕ) (j x at : ℤ) (old mid
     → mid at j ⊎ (¬ (mid at j)) → AreClosed ss f k j old mid → (new at j ↔ (mid at j ⊎ IsGap ss mid x j))
     → ((m n : ℤ) → (m ≢ at) ⊎ (n ≢ j) → new m n ↔ mid m n) → AreClosed ss f (k + 1) j old new
 closed_more ss f k j x at old mid new r some high e closer decided a here others = record {
-  row = λ i. bridged_more ss (IsInFrame f) f.left f.width k j x at old mid new (row_of f j r) some high e closer decided a.row here
+  row = λ i. bridged_more ss (IsInFrame f) f.left k j x at old mid new
+      (record { column = closer_from f.left f.width k x at some high e closer; row = r }) e closer decided a.row here
       (λ i n. others i j (inl n)) i;
   others = λ i m n. both (others i m (inr n)) (a.others i m n);
 }
@@ -70,32 +60,28 @@ pub closed_all : (ss : List Span) (f : Frame) (k : ℕ) (j : ℤ) (old new : ℤ
     → AreClosed ss f k j old new → IsRowClosed ss f j old new
 closed_all ss f k j old new e a = record {
   row = λ i.
-      let all = bridged_all ss (IsInFrame f) old f.left f.width i j (λ h. h.column) in
+      let all = bridged_all ss (IsInFrame f) old f.left f.width i j (λ h. h.column) (λ m h. h.column.0)
+      (λ h l. record { column = (l, omega (arith, signed_linear, h.column.1)); row = h.row }) in
       let done = subst (λ (n : ℕ). new i j ↔ IsBridgedTo ss (IsInFrame f) old f.left n i j) e (a.row i) in
       both done all;
   others = a.others;
 }
 
 -- the same of a bitmap
-pub row_step : (turned : Bool) (ss : List Span) (f g h : Frame) (b mid new : Bits) (k : ℕ) (j x at : ℤ) → h ≡ g
-    → ((m n : ℤ) → IsInFrame f m n ↔ IsSeenInFrame turned g m n) → IsFrom f.bottom f.height j → 0 < f.width → k ≤ f.width
-    → x ≡ (f.left -ℤ pos 1) +ℤ pos k → IsCloser f.left x at
-    → AreClosed (seen_spans turned ss) f k j (IsSoFar turned ss g b) (IsSoFar turned ss g mid)
-    → (IsSoFar turned ss h new at j ↔ (IsSoFar turned ss h mid at j ⊎ IsGap (seen_spans turned ss) (IsSoFar turned ss h mid) x j))
-    → ((m n : ℤ) → (m ≢ at) ⊎ (n ≢ j) → IsSoFar turned ss h new m n ↔ IsSoFar turned ss h mid m n)
-    → AreClosed (seen_spans turned ss) f (k + 1) j (IsSoFar turned ss g b) (IsSoFar turned ss g new)
-row_step turned ss f g h b mid new k j x at same seen r some high e closer a here others =
+pub row_step : (ss : List Span) (f h : Frame) (b mid new : Bits) (k : ℕ) (j x at : ℤ) → h ≡ f → IsFrom f.bottom f.height j
+    → 0 < f.width → k ≤ f.width → x ≡ (f.left -ℤ pos 1) +ℤ pos k → IsCloser f.left x at
+    → AreClosed ss f k j (IsSoFar ss f b) (IsSoFar ss f mid)
+    → (IsSoFar ss h new at j ↔ (IsSoFar ss h mid at j ⊎ IsGap ss (IsSoFar ss h mid) x j))
+    → ((m n : ℤ) → (m ≢ at) ⊎ (n ≢ j) → IsSoFar ss h new m n ↔ IsSoFar ss h mid m n)
+    → AreClosed ss f (k + 1) j (IsSoFar ss f b) (IsSoFar ss f new)
+row_step ss f h b mid new k j x at same r some high e closer a here others =
     let inside : IsInFrame f at j = record { column = closer_from f.left f.width k x at some high e closer; row = r } in
-    closed_more (seen_spans turned ss) f k j x at (IsSoFar turned ss g b) (IsSoFar turned ss g mid) (IsSoFar turned ss g new)
-    r some high e closer (so_far_decided turned ss g mid at j ((seen at j).0 inside)) a
-    (subst (λ (g : Frame). IsSoFar turned ss g new at j ↔ (IsSoFar turned ss g mid at j ⊎
-    IsGap (seen_spans turned ss) (IsSoFar turned ss g mid) x j)) same here)
-    (subst (λ (g : Frame). (m n : ℤ) → (m ≢ at) ⊎ (n ≢ j) → IsSoFar turned ss g new m n ↔ IsSoFar turned ss g mid m n) same others)
+    closed_more ss f k j x at (IsSoFar ss f b) (IsSoFar ss f mid) (IsSoFar ss f new) r some high e closer
+    (so_far_decided ss f mid at j inside) a
+    (subst (λ (g : Frame). IsSoFar ss g new at j ↔ (IsSoFar ss g mid at j ⊎ IsGap ss (IsSoFar ss g mid) x j)) same here)
+    (subst (λ (g : Frame). (m n : ℤ) → (m ≢ at) ⊎ (n ≢ j) → IsSoFar ss g new m n ↔ IsSoFar ss g mid m n) same others)
 
--- a frame without columns has no gap to close
-pub narrow : (f : Frame) (i j : ℤ) → f.width ≡ 0 → ¬ (IsInFrame f i j)
-narrow f i j e h = omega (arith, signed_linear, h.column.0, h.column.1, e)
-
+-- a frame without pixels has no gap to close
 pub narrow_closed : (ss : List Span) (In : ℤ → ℤ → Type 0) (old : ℤ → ℤ → Type 0) → ((i j : ℤ) → ¬ (In i j)) → (i j : ℤ)
     → old i j ↔ IsBridged ss In old i j
 narrow_closed ss In old none i j = (λ o. inl o, λ b. by b)
@@ -110,6 +96,15 @@ rows_none ss f old = record {
   rows = λ i j h. absurd (omega (arith, signed_linear, h.0, h.1));
   others = λ i j n. (λ t. t, λ t. t);
 }
+
+-- what was set stays
+pub rows_kept : (ss : List Span) (f : Frame) (k : ℕ) (old new : ℤ → ℤ → Type 0) → AreRowsClosed ss f k old new → (i j : ℤ) → old i j
+    → new i j
+rows_kept ss f k old new a i j o = by (from_or_not f.bottom k j)
+  where
+    by : IsFrom f.bottom k j ⊎ (¬ (IsFrom f.bottom k j)) → new i j
+    by (inl h) = (a.rows i j h).1 (inl o)
+    by (inr n) = (a.others i j n).1 o
 
 pub rows_more : (ss : List Span) (f : Frame) (up : ℕ) (old mid new : ℤ → ℤ → Type 0) (at : ℤ) → at ≡ f.bottom +ℤ pos up
     → AreRowsClosed ss f up old mid → IsRowClosed ss f at mid new → AreRowsClosed ss f (up + 1) old new

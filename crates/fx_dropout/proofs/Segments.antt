@@ -1,6 +1,6 @@
 -- Gaps of a row closed one after the other, in place.
 -- Serves rows, and columns seen as rows.
-use Rattle.std.proofs.Common.{◌≡◌, ◌≢◌, ◌⊎◌, ◌↔◌, inl, inr, sym, ◌∙◌, subst, ℕ, zero, suc, ◌+◌, ◌<◌, ◌≤◌, ℤ, pos, ◌+ℤ◌, ◌-ℤ◌}
+use Rattle.std.proofs.Common.{◌≡◌, ◌≢◌, ◌⊎◌, ◌↔◌, inl, inr, sym, ◌∙◌, subst, ℕ, zero, suc, ◌+◌, ◌<◌, ◌≤◌, ℤ, pos, ◌+ℤ◌, ◌-ℤ◌, ◌≤ℤ◌, ◌<ℤ◌}
 use Rattle.std.proofs.Common.{List, w32, to_z, of_z, arith}
 use Rattle.std.proofs.lemmas.Int.{ints}
 use Rattle.fx_fixed.proofs.Linear.{signed_linear}
@@ -9,10 +9,13 @@ use Rattle.fx_winding.specs.Dropout.{IsGap, IsBridged}
 use Rattle.fx_winding.specs.Frames.{IsFrom}
 use Rattle.fx_winding.specs.Limits.{IsSide}
 use Rattle.fx_winding.specs.Winding.{Span}
-use Rattle.fx_dropout.specs.inner.Lines.{IsBridgedTo, IsCloser, IsOneOf}
+use Rattle.fx_dropout.specs.inner.Lines.{IsBridgeTo, IsBridgedTo, IsCloser, IsOneOf}
 
 pub same_or_not : (a b : ℤ) → (a ≡ b) ⊎ (a ≢ b)
 same_or_not a b = grind (arith, ints)
+
+before_or_not : (a b : ℤ) → (a ≤ℤ b) ⊎ (b <ℤ a)
+before_or_not a b = grind (arith, ints)
 
 pub both : {X Y Z : Type 0} → X ↔ Y → Y ↔ Z → X ↔ Z
 both h k = (λ x. k.0 (h.0 x), λ z. h.1 (k.1 z))
@@ -22,9 +25,6 @@ pub gap_on_row : (ss : List Span) (S T : ℤ → ℤ → Type 0) (j : ℤ) → (
     → IsGap ss T i j
 gap_on_row ss S T j e i g =
     record { here = λ t. g.here ((e i).1 t); next = λ t. g.next ((e (i +ℤ pos 1)).1 t); met = g.met }
-
-pub gap_at : {ss : List Span} {S : ℤ → ℤ → Type 0} {i j x y : ℤ} → i ≡ x → j ≡ y → IsGap ss S i j → IsGap ss S x y
-gap_at {ss} {S} ex ey g = subst (λ (p : ℤ × ℤ). IsGap ss S p.0 p.1) (λ k. (ex k, ey k)) g
 
 pub same_without : {X G : Type 0} → ¬ G → X ↔ (X ⊎ G)
 same_without {X} {G} n = (λ x. inl x, λ k. by k)
@@ -43,175 +43,93 @@ gap_before ss old mid j more i g =
 pub bridged_none : (ss : List Span) (In old : ℤ → ℤ → Type 0) (first i j : ℤ) → old i j ↔ IsBridgedTo ss In old first 0 i j
 bridged_none ss In old first i j = (λ o. inl o, λ b. back b)
   where
-    by : (IsFrom (first -ℤ pos 1) 0 i × IsGap ss old i j)
-        ⊎ (IsFrom (first -ℤ pos 1) 0 (i -ℤ pos 1) × (IsGap ss old (i -ℤ pos 1) j × ¬ (In (i -ℤ pos 1) j))) → old i j
-    by (inl (f, g)) = absurd (omega (arith, signed_linear, f.0, f.1))
-    by (inr (f, g)) = absurd (omega (arith, signed_linear, f.0, f.1))
-
     back : IsBridgedTo ss In old first 0 i j → old i j
     back (inl o) = o
-    back (inr b) = by b.gap
+    back (inr b) = absurd (omega (arith, signed_linear, b.among.0, b.among.1))
+
+-- a gap that is closed among count segments, among others
+bridge_among : (ss : List Span) (In old : ℤ → ℤ → Type 0) (first : ℤ) (k m : ℕ) (i j : ℤ)
+    → (b : IsBridgeTo ss In old first k i j) → b.left <ℤ ((first -ℤ pos 1) +ℤ pos m) → IsBridgedTo ss In old first m i j
+bridge_among ss In old first k m i j b h =
+    inr (record { inside = b.inside; left = b.left; among = (b.among.0, h); closer = b.closer; gap = b.gap })
 
 pub bridged_wider : (ss : List Span) (In old : ℤ → ℤ → Type 0) (first : ℤ) (k : ℕ) (i j : ℤ) → IsBridgedTo ss In old first k i j
     → IsBridgedTo ss In old first (k + 1) i j
 bridged_wider ss In old first k i j (inl o) = inl o
-bridged_wider ss In old first k i j (inr b) = inr (record { inside = b.inside; gap = by b.gap })
+bridged_wider ss In old first k i j (inr b) =
+    bridge_among ss In old first k (k + 1) i j b (omega (arith, signed_linear, b.among.1))
+
+-- one pixel closes a gap
+closer_one : (first x i at : ℤ) → IsCloser first x i → IsCloser first x at → i ≡ at
+closer_one first x i at c d = by (before_or_not first x)
   where
-    by : (IsFrom (first -ℤ pos 1) k i × IsGap ss old i j)
-        ⊎ (IsFrom (first -ℤ pos 1) k (i -ℤ pos 1) × (IsGap ss old (i -ℤ pos 1) j × ¬ (In (i -ℤ pos 1) j)))
-        → (IsFrom (first -ℤ pos 1) (k + 1) i × IsGap ss old i j)
-        ⊎ (IsFrom (first -ℤ pos 1) (k + 1) (i -ℤ pos 1) × (IsGap ss old (i -ℤ pos 1) j × ¬ (In (i -ℤ pos 1) j)))
-    by (inl (f, g)) = inl ((f.0, omega (arith, signed_linear, f.1)), g)
-    by (inr (f, g)) = inr ((f.0, omega (arith, signed_linear, f.1)), g)
+    by : (first ≤ℤ x) ⊎ (x <ℤ first) → i ≡ at
+    by (inl h) = c.inner h ∙ sym (d.inner h)
+    by (inr h) = c.outer h ∙ sym (d.outer h)
 
--- the gap before the first pixel, closed by that
-bridged_first : (ss : List Span) (In : ℤ → ℤ → Type 0) (first : ℤ) (count : ℕ) (j : ℤ) (old mid new : ℤ → ℤ → Type 0)
-    → ((i : ℤ) → In i j ↔ IsFrom first count i) → 0 < count → ((i : ℤ) → mid i j ↔ IsBridgedTo ss In old first 0 i j)
-    → (new first j ↔ (mid first j ⊎ IsGap ss mid (first -ℤ pos 1) j)) → ((i : ℤ) → i ≢ first → new i j ↔ mid i j)
-    → (i : ℤ) → new i j ↔ IsBridgedTo ss In old first 1 i j
-bridged_first ss In first count j old mid new is some a here others i = by (same_or_not i first)
+-- one segment more: the gap there, if there is one, is closed
+pub bridged_more : (ss : List Span) (In : ℤ → ℤ → Type 0) (first : ℤ) (k : ℕ) (j x at : ℤ) (old mid new : ℤ → ℤ → Type 0)
+    → In at j → x ≡ (first -ℤ pos 1) +ℤ pos k → IsCloser first x at → mid at j ⊎ (¬ (mid at j))
+    → ((i : ℤ) → mid i j ↔ IsBridgedTo ss In old first k i j) → (new at j ↔ (mid at j ⊎ IsGap ss mid x j))
+    → ((i : ℤ) → i ≢ at → new i j ↔ mid i j) → (i : ℤ) → new i j ↔ IsBridgedTo ss In old first (k + 1) i j
+bridged_more ss In first k j x at old mid new inside e closer decided a here others i = by (same_or_not i at)
   where
-    was : (i : ℤ) → mid i j ↔ old i j
-    was i = let n = bridged_none ss In old first i j in (λ m. n.1 ((a i).0 m), λ o. (a i).1 (n.0 o))
+    -- neither x nor the pixel after it has closed a gap before, unless x closes this one
+    unset : (y : ℤ) → x ≤ℤ y → ¬ (mid at j) → ¬ (old y j) → ¬ (mid y j)
+    unset y low off bare m = by ((a y).0 m)
+      where
+        by : IsBridgedTo ss In old first k y j → ⊥
+        by (inl o) = bare o
+        by (inr b) = of (before_or_not first b.left)
+          where
+            of : (first ≤ℤ b.left) ⊎ (b.left <ℤ first) → ⊥
+            of (inl h) = let s = b.closer.inner h in omega (arith, signed_linear, s, b.among.1, e, low)
+            of (inr h) =
+                let s = b.closer.outer h in
+                let y_is : y ≡ x = omega (arith, signed_linear, s, h, b.among.1, e, low) in
+                let at_is : at ≡ x = closer.inner (omega (arith, signed_linear, b.among.0, b.among.1, e)) in
+                off (subst (λ z. mid z j) (y_is ∙ sym at_is) m)
 
-    inside : In first j
-    inside = (is first).1 (omega (arith, signed_linear), omega (arith, signed_linear, some))
-
-    outside : ¬ (In (first -ℤ pos 1) j)
-    outside h = omega (arith, signed_linear, ((is (first -ℤ pos 1)).0 h).0)
-
-    to : mid first j ⊎ IsGap ss mid (first -ℤ pos 1) j → IsBridgedTo ss In old first 1 first j
-    to (inl m) = inl ((was first).0 m)
+    to : mid at j ⊎ IsGap ss mid x j → IsBridgedTo ss In old first (k + 1) at j
+    to (inl m) = bridged_wider ss In old first k at j ((a at).0 m)
     to (inr g) = inr (record {
       inside = inside;
-      gap = inr (
-        (omega (arith, signed_linear), omega (arith, signed_linear)),
-        (gap_on_row ss mid old j was (first -ℤ pos 1) g, outside),
-      );
+      left = x;
+      among = (omega (arith, signed_linear, e), omega (arith, signed_linear, e));
+      closer = closer;
+      gap = gap_before ss old mid j (λ i o. (a i).1 (inl o)) x g;
     })
 
-    from : IsBridgedTo ss In old first 1 first j → mid first j ⊎ IsGap ss mid (first -ℤ pos 1) j
-    from (inl o) = inl ((was first).1 o)
-    from (inr b) = by b.gap
+    from : IsBridgedTo ss In old first (k + 1) at j → mid at j ⊎ IsGap ss mid x j
+    from (inl o) = inl ((a at).1 (inl o))
+    from (inr b) = by (same_or_not b.left x) decided
       where
-        by : (IsFrom (first -ℤ pos 1) 1 first × IsGap ss old first j)
-            ⊎ (IsFrom (first -ℤ pos 1) 1 (first -ℤ pos 1) × (IsGap ss old (first -ℤ pos 1) j × ¬ (In (first -ℤ pos 1) j)))
-            → mid first j ⊎ IsGap ss mid (first -ℤ pos 1) j
-        by (inl (f, g)) = absurd (omega (arith, signed_linear, f.1))
-        by (inr (f, (g, n))) = inr (gap_on_row ss old mid j (λ i. ((was i).1, (was i).0)) (first -ℤ pos 1) g)
+        by : (b.left ≡ x) ⊎ (b.left ≢ x) → mid at j ⊎ (¬ (mid at j)) → mid at j ⊎ IsGap ss mid x j
+        by (inr n) d =
+            inl ((a at).1 (bridge_among ss In old first (k + 1) k at j b (omega (arith, signed_linear, b.among.1, e, n))))
+        by (inl s) (inl m) = inl m
+        by (inl s) (inr off) =
+            let g = subst (λ y. IsGap ss old y j) s b.gap in
+            inr (record {
+              here = unset x (omega (arith, signed_linear)) off g.here;
+              next = unset (x +ℤ pos 1) (omega (arith, signed_linear)) off g.next;
+              met = g.met;
+            })
 
-    narrower : (i : ℤ) → i ≢ first → IsBridgedTo ss In old first 1 i j → old i j
-    narrower i n (inl o) = o
-    narrower i n (inr b) = by b.gap
-      where
-        by : (IsFrom (first -ℤ pos 1) 1 i × IsGap ss old i j)
-            ⊎ (IsFrom (first -ℤ pos 1) 1 (i -ℤ pos 1) × (IsGap ss old (i -ℤ pos 1) j × ¬ (In (i -ℤ pos 1) j))) → old i j
-        by (inl (f, g)) = let l = ((is i).0 b.inside).0 in absurd (omega (arith, signed_linear, f.1, l))
-        by (inr (f, g)) = let l = ((is i).0 b.inside).0 in absurd (omega (arith, signed_linear, f.1, l, n))
+    narrower : i ≢ at → IsBridgedTo ss In old first (k + 1) i j → IsBridgedTo ss In old first k i j
+    narrower n (inl o) = inl o
+    narrower n (inr b) =
+        let other : b.left ≢ x =
+        λ s. n (closer_one first x i at (subst (λ y. IsCloser first y i) s b.closer) closer) in
+        bridge_among ss In old first (k + 1) k i j b (omega (arith, signed_linear, b.among.1, e, other))
 
-    by : (i ≡ first) ⊎ (i ≢ first) → new i j ↔ IsBridgedTo ss In old first 1 i j
-    by (inl e) = subst (λ i. new i j ↔ IsBridgedTo ss In old first 1 i j) (sym e) (λ t. to (here.0 t), λ b. here.1 (from b))
-    by (inr n) = (λ t. inl ((was i).0 ((others i n).0 t)), λ b. (others i n).1 ((was i).1 (narrower i n b)))
-
--- a later gap, closed by its left pixel; that may have closed the gap before it
-bridged_inner : (ss : List Span) (In : ℤ → ℤ → Type 0) (first : ℤ) (count k : ℕ) (j x : ℤ) (old mid new : ℤ → ℤ → Type 0)
-    → ((i : ℤ) → In i j ↔ IsFrom first count i) → 0 < k → k ≤ count → x ≡ (first -ℤ pos 1) +ℤ pos k
-    → mid x j ⊎ (¬ (mid x j)) → ((i : ℤ) → mid i j ↔ IsBridgedTo ss In old first k i j)
-    → (new x j ↔ (mid x j ⊎ IsGap ss mid x j)) → ((i : ℤ) → i ≢ x → new i j ↔ mid i j)
-    → (i : ℤ) → new i j ↔ IsBridgedTo ss In old first (k + 1) i j
-bridged_inner ss In first count k j x old mid new is low high e decided a here others i = by (same_or_not i x)
-  where
-    inside : In x j
-    inside = (is x).1 (omega (arith, signed_linear, e, low), omega (arith, signed_linear, e, high))
-
-    -- the pixel after x is as it was
-    next_was : IsBridgedTo ss In old first k (x +ℤ pos 1) j → old (x +ℤ pos 1) j
-    next_was (inl o) = o
-    next_was (inr b) = by b.gap
-      where
-        by : (IsFrom (first -ℤ pos 1) k (x +ℤ pos 1) × IsGap ss old (x +ℤ pos 1) j)
-            ⊎ (IsFrom (first -ℤ pos 1) k ((x +ℤ pos 1) -ℤ pos 1)
-            × (IsGap ss old ((x +ℤ pos 1) -ℤ pos 1) j × ¬ (In ((x +ℤ pos 1) -ℤ pos 1) j))) → old (x +ℤ pos 1) j
-        by (inl (f, g)) = absurd (omega (arith, signed_linear, f.1, e))
-        by (inr (f, g)) = absurd (omega (arith, signed_linear, f.1, e))
-
-    to : mid x j ⊎ IsGap ss mid x j → IsBridgedTo ss In old first (k + 1) x j
-    to (inl m) = bridged_wider ss In old first k x j ((a x).0 m)
-    to (inr g) = inr (record {
-      inside = inside;
-      gap = inl (
-        (omega (arith, signed_linear, e), omega (arith, signed_linear, e)),
-        gap_before ss old mid j (λ i o. (a i).1 (inl o)) x g,
-      );
-    })
-
-    -- a gap whose left pixel is not yet set is one still
-    still : ¬ (mid x j) → IsGap ss old x j → IsGap ss mid x j
-    still n g = record { here = n; next = λ m. g.next (next_was ((a (x +ℤ pos 1)).0 m)); met = g.met }
-
-    from : IsBridgedTo ss In old first (k + 1) x j → mid x j ⊎ IsGap ss mid x j
-    from (inl o) = inl ((a x).1 (inl o))
-    from (inr b) = by b.gap decided (same_or_not x first)
-      where
-        by : (IsFrom (first -ℤ pos 1) (k + 1) x × IsGap ss old x j)
-            ⊎ (IsFrom (first -ℤ pos 1) (k + 1) (x -ℤ pos 1) × (IsGap ss old (x -ℤ pos 1) j × ¬ (In (x -ℤ pos 1) j)))
-            → mid x j ⊎ (¬ (mid x j)) → (x ≡ first) ⊎ (x ≢ first) → mid x j ⊎ IsGap ss mid x j
-        by (inl (f, g)) (inl m) s = inl m
-        by (inl (f, g)) (inr n) s = inr (still n g)
-        by (inr (f, g)) d (inl s) = inl ((a x).1 (inr (record {
-          inside = inside;
-          gap = inr ((f.0, omega (arith, signed_linear, low, s)), g);
-        })))
-        by (inr (f, (g, n))) d (inr s) = absurd (n ((is (x -ℤ pos 1)).1 (
-          omega (arith, signed_linear, e, low, s),
-          omega (arith, signed_linear, e, high),
-        )))
-
-    narrower : (i : ℤ) → i ≢ x → IsBridgedTo ss In old first (k + 1) i j → IsBridgedTo ss In old first k i j
-    narrower i n (inl o) = inl o
-    narrower i n (inr b) = by b.gap (same_or_not (i -ℤ pos 1) x)
-      where
-        by : (IsFrom (first -ℤ pos 1) (k + 1) i × IsGap ss old i j)
-            ⊎ (IsFrom (first -ℤ pos 1) (k + 1) (i -ℤ pos 1) × (IsGap ss old (i -ℤ pos 1) j × ¬ (In (i -ℤ pos 1) j)))
-            → (i -ℤ pos 1 ≡ x) ⊎ (i -ℤ pos 1 ≢ x) → IsBridgedTo ss In old first k i j
-        by (inl (f, g)) s = inr (record { inside = b.inside; gap = inl ((f.0, omega (arith, signed_linear, f.1, e, n)), g) })
-        by (inr (f, (g, o))) (inl s) = absurd (o (subst (λ i. In i j) (sym s) inside))
-        by (inr (f, g)) (inr s) = inr (record { inside = b.inside; gap = inr ((f.0, omega (arith, signed_linear, f.1, e, s)), g) })
-
-    by : (i ≡ x) ⊎ (i ≢ x) → new i j ↔ IsBridgedTo ss In old first (k + 1) i j
+    by : (i ≡ at) ⊎ (i ≢ at) → new i j ↔ IsBridgedTo ss In old first (k + 1) i j
     by (inl s) =
         subst (λ i. new i j ↔ IsBridgedTo ss In old first (k + 1) i j) (sym s) (λ t. to (here.0 t), λ b. here.1 (from b))
     by (inr n) = (
       λ t. bridged_wider ss In old first k i j ((a i).0 ((others i n).0 t)),
-      λ b. (others i n).1 ((a i).1 (narrower i n b)),
+      λ b. (others i n).1 ((a i).1 (narrower n b)),
     )
-
--- one segment more: the gap there, if there is one, is closed
-pub bridged_more : (ss : List Span) (In : ℤ → ℤ → Type 0) (first : ℤ) (count k : ℕ) (j x at : ℤ) (old mid new : ℤ → ℤ → Type 0)
-    → ((i : ℤ) → In i j ↔ IsFrom first count i) → 0 < count → k ≤ count → x ≡ (first -ℤ pos 1) +ℤ pos k → IsCloser first x at
-    → mid at j ⊎ (¬ (mid at j)) → ((i : ℤ) → mid i j ↔ IsBridgedTo ss In old first k i j)
-    → (new at j ↔ (mid at j ⊎ IsGap ss mid x j)) → ((i : ℤ) → i ≢ at → new i j ↔ mid i j)
-    → (i : ℤ) → new i j ↔ IsBridgedTo ss In old first (k + 1) i j
-bridged_more ss In first count k j x at old mid new is some high e closer decided a here others i = by (below_or_not 0 k)
-  where
-    by : (0 < k) ⊎ (k ≤ 0) → new i j ↔ IsBridgedTo ss In old first (k + 1) i j
-    by (inl low) =
-        let s : at ≡ x = closer.inner (omega (arith, signed_linear, e, low)) in
-        bridged_inner ss In first count k j x old mid new is low high e
-        (subst (λ y. mid y j ⊎ (¬ (mid y j))) s decided) a
-        (subst (λ y. new y j ↔ (mid y j ⊎ IsGap ss mid x j)) s here)
-        (λ i n. others i (λ q. n (q ∙ s))) i
-    by (inr z) =
-        let none : k ≡ 0 = omega (arith, z) in
-        let before : x ≡ first -ℤ pos 1 = omega (arith, signed_linear, e, z) in
-        let outer = closer.outer (omega (arith, signed_linear, e, z)) in
-        let s : at ≡ first = omega (arith, signed_linear, outer, before) in
-        subst (λ (m : ℕ). new i j ↔ IsBridgedTo ss In old first (m + 1) i j) (sym none)
-        (bridged_first ss In first count j old mid new is some
-        (subst (λ (m : ℕ). (i : ℤ) → mid i j ↔ IsBridgedTo ss In old first m i j) none a)
-        (subst (λ (y : ℤ). new first j ↔ (mid first j ⊎ IsGap ss mid y j)) before
-        (subst (λ y. new y j ↔ (mid y j ⊎ IsGap ss mid x j)) s here))
-        (λ i n. others i (λ q. n (q ∙ s))) i)
 
 -- the pixel that closes a gap is one of the row
 pub closer_from : (first : ℤ) (count k : ℕ) (x at : ℤ) → 0 < count → k ≤ count → x ≡ (first -ℤ pos 1) +ℤ pos k → IsCloser first x at
@@ -272,7 +190,7 @@ bridged_same ss In first count k j old new is some high decided none a i =
   where
     by : (at : ℤ) × IsCloser first ((first -ℤ pos 1) +ℤ pos k) at × IsFrom first count at
         → new i j ↔ IsBridgedTo ss In old first (k + 1) i j
-    by (at, c, f) = bridged_more ss In first count k j ((first -ℤ pos 1) +ℤ pos k) at old new new is some high
+    by (at, c, f) = bridged_more ss In first k j ((first -ℤ pos 1) +ℤ pos k) at old new new ((is at).1 f)
         (λ t. (first -ℤ pos 1) +ℤ pos k) c (decided at ((is at).1 f)) a (same_without none) (λ i n. (λ t. t, λ t. t)) i
 
 -- segments at which there is no gap
@@ -294,25 +212,43 @@ bridged_skip ss In first count k (suc d) j old new is some high decided none a i
 
 -- all segments of a row
 pub bridged_all : (ss : List Span) (In : ℤ → ℤ → Type 0) (old : ℤ → ℤ → Type 0) (first : ℤ) (count : ℕ) (i j : ℤ)
-    → (In i j → IsFrom first count i) → IsBridgedTo ss In old first (count + 1) i j ↔ IsBridged ss In old i j
-bridged_all ss In old first count i j is = (λ b. to b, λ b. from b)
+    → (In i j → IsFrom first count i) → ((m : ℤ) → In m j → first ≤ℤ m) → (In i j → first ≤ℤ (i -ℤ pos 1) → In (i -ℤ pos 1) j)
+    → IsBridgedTo ss In old first (count + 1) i j ↔ IsBridged ss In old i j
+bridged_all ss In old first count i j is low before = (λ b. to b, λ b. from b)
   where
     to : IsBridgedTo ss In old first (count + 1) i j → IsBridged ss In old i j
     to (inl o) = inl o
-    to (inr b) = inr (record { inside = b.inside; gap = by b.gap })
+    to (inr b) = inr (record { inside = b.inside; gap = by (before_or_not first b.left) })
       where
-        by : (IsFrom (first -ℤ pos 1) (count + 1) i × IsGap ss old i j)
-            ⊎ (IsFrom (first -ℤ pos 1) (count + 1) (i -ℤ pos 1) × (IsGap ss old (i -ℤ pos 1) j × ¬ (In (i -ℤ pos 1) j)))
-            → IsGap ss old i j ⊎ (IsGap ss old (i -ℤ pos 1) j × ¬ (In (i -ℤ pos 1) j))
-        by (inl (f, g)) = inl g
-        by (inr (f, g)) = inr g
+        by : (first ≤ℤ b.left) ⊎ (b.left <ℤ first) → IsGap ss old i j ⊎ (IsGap ss old (i -ℤ pos 1) j × ¬ (In (i -ℤ pos 1) j))
+        by (inl h) = inl (subst (λ y. IsGap ss old y j) (sym (b.closer.inner h)) b.gap)
+        by (inr h) =
+            let s = b.closer.outer h in
+            let e : b.left ≡ i -ℤ pos 1 = omega (arith, signed_linear, s) in
+            inr (
+              subst (λ y. IsGap ss old y j) e b.gap,
+              λ o. let l = low (i -ℤ pos 1) o in omega (arith, signed_linear, l, e, h),
+            )
 
     from : IsBridged ss In old i j → IsBridgedTo ss In old first (count + 1) i j
     from (inl o) = inl o
-    from (inr b) = inr (record { inside = b.inside; gap = by (is b.inside) b.gap })
+    from (inr b) = by b.gap
       where
-        by : IsFrom first count i → IsGap ss old i j ⊎ (IsGap ss old (i -ℤ pos 1) j × ¬ (In (i -ℤ pos 1) j))
-            → (IsFrom (first -ℤ pos 1) (count + 1) i × IsGap ss old i j)
-            ⊎ (IsFrom (first -ℤ pos 1) (count + 1) (i -ℤ pos 1) × (IsGap ss old (i -ℤ pos 1) j × ¬ (In (i -ℤ pos 1) j)))
-        by f (inl g) = inl ((omega (arith, signed_linear, f.0), omega (arith, signed_linear, f.1)), g)
-        by f (inr g) = inr ((omega (arith, signed_linear, f.0), omega (arith, signed_linear, f.1)), g)
+        f : IsFrom first count i
+        f = is b.inside
+
+        by : IsGap ss old i j ⊎ (IsGap ss old (i -ℤ pos 1) j × ¬ (In (i -ℤ pos 1) j)) → IsBridgedTo ss In old first (count + 1) i j
+        by (inl g) = inr (record {
+          inside = b.inside;
+          left = i;
+          among = (omega (arith, signed_linear, f.0), omega (arith, signed_linear, f.1));
+          closer = record { inner = λ h. λ t. i; outer = λ h. absurd (omega (arith, signed_linear, h, f.0)) };
+          gap = g;
+        })
+        by (inr (g, n)) = inr (record {
+          inside = b.inside;
+          left = i -ℤ pos 1;
+          among = (omega (arith, signed_linear, f.0), omega (arith, signed_linear, f.1));
+          closer = record { inner = λ h. absurd (n (before b.inside h)); outer = λ h. omega (arith, signed_linear) };
+          gap = g;
+        })

@@ -1,7 +1,7 @@
 -- The bits of a bitmap, and what is covered outside its frame.
 -- Serves `close`, `gaps` and the rows and columns that are noted.
 use Rattle.std.proofs.Common.{◌≡◌, ◌⊎◌, ◌↔◌, inl, inr, refl, sym, ap, ◌∙◌, subst, ℕ, ◌-◌, ◌*◌, ◌/◌, ◌%◌, ◌<◌, ◌≤◌, ℤ, pos, ◌+ℤ◌}
-use Rattle.std.proofs.Common.{◌-ℤ◌, unsigned_abs, IsTrue, Bool, true, false, not, List, [], length, get_or, arith}
+use Rattle.std.proofs.Common.{◌-ℤ◌, unsigned_abs, IsTrue, Bool, true, false, List, [], length, get_or, arith}
 use Rattle.std.specs.Prelude.{◌==◌}
 use Rattle.std.specs.Int.{bit_at}
 use Rattle.std.proofs.lemmas.List.{get_or_past}
@@ -13,19 +13,16 @@ use Rattle.fx_winding.specs.Frames.{IsFrom, is_from, steps, IsInFrame}
 use Rattle.fx_winding.specs.Bitmaps.{Bits, AreRowWords, bit_of, bits_in, word_bit, IsScanOf}
 use Rattle.fx_winding.specs.Winding.{Span, IsCovered, centre}
 use Rattle.fx_winding.proofs.Grid.{from_true, bits_in-at}
+use Rattle.fx_winding.proofs.Places.{clash}
 use Rattle.fx_winding.proofs.Scanned.{from_is}
 use Rattle.fx_dropout.specs.inner.Lines.{IsSoFar}
-use Rattle.fx_dropout.specs.inner.Turned.{seen_bit, IsSeenInFrame}
 
 pub from_or_not : (first : ℤ) (count : ℕ) (n : ℤ) → IsFrom first count n ⊎ (¬ (IsFrom first count n))
 from_or_not first count n = by (is_from first count n) refl
   where
-    clash : {b : Bool} → b ≡ false → b ≡ true → ⊥
-    clash h t = cc
-
     by : (b : Bool) → is_from first count n ≡ b → IsFrom first count n ⊎ (¬ (IsFrom first count n))
     by true e = inl (from_true first count n e)
-    by false e = inr (λ h. clash e (from_is first count n h))
+    by false e = inr (λ h. clash (is_from first count n) e (from_is first count n h))
 
 pub in_frame_or_not : (f : Frame) (i j : ℤ) → IsInFrame f i j ⊎ (¬ (IsInFrame f i j))
 in_frame_or_not f i j = by (from_or_not f.left f.width i) (from_or_not f.bottom f.height j)
@@ -53,67 +50,42 @@ bit_in_frame b i j t = by (is_from b.frame.left b.frame.width i) (is_from b.fram
 
 -- a scan knows which pixels are covered
 pub scan_so_far : (ss : List Span) (f : Frame) (b : Bits) → IsScanOf f ss b → (i j : ℤ)
-    → IsSoFar false ss f b i j ↔ IsCovered (centre i j) ss
+    → IsSoFar ss f b i j ↔ IsCovered (centre i j) ss
 scan_so_far ss f b s i j = (λ t. to t, λ c. from c (in_frame_or_not f i j))
   where
-    to : IsSoFar false ss f b i j → IsCovered (centre i j) ss
+    to : IsSoFar ss f b i j → IsCovered (centre i j) ss
     to (inl t) = (s.bits i j (subst (λ g. IsInFrame g i j) s.same (bit_in_frame b i j t))).0 t
     to (inr (n, c)) = c
 
-    from : IsCovered (centre i j) ss → IsInFrame f i j ⊎ (¬ (IsInFrame f i j)) → IsSoFar false ss f b i j
+    from : IsCovered (centre i j) ss → IsInFrame f i j ⊎ (¬ (IsInFrame f i j)) → IsSoFar ss f b i j
     from c (inl h) = inl ((s.bits i j h).1 c)
     from c (inr n) = inr (n, c)
 
 -- in the frame the bits alone tell what is set
-pub so_far_in_frame : (ss : List Span) (f : Frame) (b : Bits) (i j : ℤ) → IsInFrame f i j → IsSoFar false ss f b i j
+pub so_far_in_frame : (ss : List Span) (f : Frame) (b : Bits) (i j : ℤ) → IsInFrame f i j → IsSoFar ss f b i j
     → IsTrue (bit_of b i j)
 so_far_in_frame ss f b i j h (inl t) = t
 so_far_in_frame ss f b i j h (inr (n, c)) = absurd (n h)
 
-pub so_far_decided : (turned : Bool) (ss : List Span) (f : Frame) (b : Bits) (i j : ℤ) → IsSeenInFrame turned f i j
-    → IsSoFar turned ss f b i j ⊎ (¬ (IsSoFar turned ss f b i j))
-so_far_decided turned ss f b i j h = by (seen_bit turned b i j) refl
+pub so_far_decided : (ss : List Span) (f : Frame) (b : Bits) (i j : ℤ) → IsInFrame f i j
+    → IsSoFar ss f b i j ⊎ (¬ (IsSoFar ss f b i j))
+so_far_decided ss f b i j h = by (bit_of b i j) refl
   where
-    clash : {b : Bool} → b ≡ false → b ≡ true → ⊥
-    clash h t = cc
-
-    by : (bit : Bool) → seen_bit turned b i j ≡ bit → IsSoFar turned ss f b i j ⊎ (¬ (IsSoFar turned ss f b i j))
+    by : (bit : Bool) → bit_of b i j ≡ bit → IsSoFar ss f b i j ⊎ (¬ (IsSoFar ss f b i j))
     by true e = inl (inl e)
-    by false e = inr (λ s. not_set s)
-      where
-        not_set : IsSoFar turned ss f b i j → ⊥
-        not_set (inl t) = clash e t
-        not_set (inr (n, c)) = n h
+    by false e = inr (λ s. clash (bit_of b i j) e (so_far_in_frame ss f b i j h s))
 
-pub so_far_same : (turned : Bool) (ss : List Span) (f : Frame) (old new : Bits) (i j : ℤ)
-    → seen_bit turned new i j ≡ seen_bit turned old i j → IsSoFar turned ss f new i j ↔ IsSoFar turned ss f old i j
-so_far_same turned ss f old new i j e = (λ t. to t, λ t. from t)
+pub so_far_same : (ss : List Span) (f : Frame) (old new : Bits) (i j : ℤ) → bit_of new i j ≡ bit_of old i j
+    → IsSoFar ss f new i j ↔ IsSoFar ss f old i j
+so_far_same ss f old new i j e = (λ t. to t, λ t. from t)
   where
-    to : IsSoFar turned ss f new i j → IsSoFar turned ss f old i j
+    to : IsSoFar ss f new i j → IsSoFar ss f old i j
     to (inl t) = inl (sym e ∙ t)
     to (inr k) = inr k
 
-    from : IsSoFar turned ss f old i j → IsSoFar turned ss f new i j
+    from : IsSoFar ss f old i j → IsSoFar ss f new i j
     from (inl t) = inl (e ∙ t)
     from (inr k) = inr k
-
-pub open_when : {X : Type 0} (bit seen outside : Bool) → bit ≡ seen → bit ≡ false → (IsTrue outside ↔ X)
-    → IsTrue (not outside) ↔ (¬ (IsTrue seen ⊎ X))
-open_when {X} bit seen outside e f h = by outside refl
-  where
-    never : false ≡ true → ⊥
-    never e = cc
-
-    clash : {b : Bool} → b ≡ false → b ≡ true → ⊥
-    clash h t = cc
-
-    by : (r : Bool) → outside ≡ r → IsTrue (not r) ↔ (¬ (IsTrue seen ⊎ X))
-    by true k = (λ t. absurd (never t), λ n. absurd (n (inr (h.0 k))))
-    by false k = (λ t s. neither s, λ n. refl)
-      where
-        neither : IsTrue seen ⊎ X → ⊥
-        neither (inl t) = clash f (e ∙ t)
-        neither (inr x) = clash k (h.1 x)
 
 -- a bit of a row's words is that of a pixel
 pub row_pixel : (b : Bits) (j : ℤ) (row : List ℕ) (n : ℕ) → IsFrom b.frame.bottom b.frame.height j → AreRowWords b.frame.width row

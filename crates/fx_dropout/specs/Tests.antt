@@ -1,5 +1,5 @@
 -- How many tests of points the closing of gaps takes at most.
-use Rattle.std.specs.Prelude.{ℕ, ◌+◌, ◌*◌}
+use Rattle.std.specs.Prelude.{ℕ, ◌+◌, ◌*◌, Bool, true, false}
 use Rattle.fx_winding.specs.declared.frame.Frame.{Frame}
 
 -- those of the segment between two neighbours, by the number of pieces: five for what each piece meets, and three for whether each
@@ -7,6 +7,11 @@ use Rattle.fx_winding.specs.declared.frame.Frame.{Frame}
 abbrev pub most_tests : ℕ → ℕ
 most_tests pieces = 11 * pieces
 
--- the segments of a frame's rows and columns, those that lead out of it too
-abbrev pub segments : Frame → ℕ
-segments f = f.height * (f.width + 1) + (f.height + 1) * f.width
+-- how many segments of a line of n pixels are tested: with exact notes those at its two ends, which lead out of the frame, else all
+abbrev pub tested : Bool → ℕ → ℕ
+tested true n = 2
+tested false n = n + 1
+
+-- the same of all rows and all columns of a frame
+abbrev pub tested_segments : Bool → Frame → ℕ
+tested_segments exact f = f.height * tested exact f.width + tested exact f.height * f.width

@@ -1,4 +1,4 @@
 -- What only private contracts cite.
-pub mod Turned
+pub mod Pairs
 pub mod Lines
 pub mod Words

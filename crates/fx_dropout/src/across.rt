@@ -7,15 +7,14 @@ ghost use Rattle.fx_winding.specs.Frames.{IsFrom, IsInFrame, HasMargin};
 ghost use Rattle.fx_winding.specs.Limits.{IsPixelNumber};
 ghost use Rattle.fx_winding.specs.Notes.{AreExact, IsNoted};
 ghost use Rattle.fx_winding.specs.Winding.{span_of, centre, IsCovered};
-ghost use Rattle.fx_dropout.specs.Tests.{most_tests};
-ghost use Rattle.fx_dropout.specs.inner.Lines.{IsSoFar, IsRowClosed, IsRowExact, IsRowNoted};
-ghost use Rattle.fx_dropout.specs.inner.Turned.{seen_bit};
+ghost use Rattle.fx_dropout.specs.Tests.{most_tests, tested};
+ghost use Rattle.fx_dropout.specs.inner.Lines.{IsSoFar, IsRowClosed, IsRowNoted};
 ghost use Rattle.fx_dropout.specs.inner.Words.{IsShutInRow};
 
-use crate::close::{closer, is_empty};
+use crate::close::{close_gap, closer, is_empty, is_told};
 use crate::next::next_segment;
 use crate::open::{InRow, InRows};
-use crate::trusted::{close_noted, is_trusted};
+use crate::pair::{Pair, Pixel};
 use fx_winding::{Bitmap, Frame, Notes, Pieces, Tally, words_for};
 
 /// Closes the gaps of a row of the frame, from left to right: each by its left pixel, and the one before the first pixel by that.
@@ -33,14 +32,12 @@ fn close_row(
     requires same { bitmap.old.frame ≡ frame }
     requires row { IsFrom frame.bottom frame.height j }
     requires room { length noted.now ≡ words_for_of frame.width + 1 }
-    requires noted { IsRowNoted (map span_of pieces.now) frame j
-        (IsSoFar false (map span_of pieces.now) frame bitmap.old) noted.now }
-    requires exact { IsTrue exact → IsRowExact (map span_of pieces.now) frame j
-        (IsSoFar false (map span_of pieces.now) frame bitmap.old) noted.now }
+    requires noted { IsRowNoted exact (map span_of pieces.now) frame j
+        (IsSoFar (map span_of pieces.now) frame bitmap.old) noted.now }
     ensures frame { bitmap.new.frame ≡ frame }
-    ensures closed { IsRowClosed (map span_of pieces.now) frame j (IsSoFar false (map span_of pieces.now) frame bitmap.old)
-        (IsSoFar false (map span_of pieces.now) frame bitmap.new) }
-    ensures count { tally.new.count ≤ tally.old.count + (frame.width + 1) * most_tests (length pieces.now) }
+    ensures closed { IsRowClosed (map span_of pieces.now) frame j (IsSoFar (map span_of pieces.now) frame bitmap.old)
+        (IsSoFar (map span_of pieces.now) frame bitmap.new) }
+    ensures count { tally.new.count ≤ tally.old.count + tested exact frame.width * most_tests (length pieces.now) }
 {
     let mut k = next_segment(
         &InRow {
@@ -52,18 +49,17 @@ fn close_row(
     // The gaps among the first k segments are closed.
     'segments: while k <= frame.width as usize {
         let i = frame.left - 1 + k as i32;
-        close_noted(
-            false,
-            is_trusted(exact, k, frame.width as usize),
-            pieces,
-            noted,
-            bitmap,
-            k,
-            i,
-            j,
-            closer(i, frame.left),
-            tally,
-        );
+        let pair = Pair {
+            here: Pixel { col: i, row: j },
+            is_up: false,
+            number: k,
+            is_told: is_told(exact, k, frame.width as usize),
+        };
+        let at = Pixel {
+            col: closer(i, frame.left),
+            row: j,
+        };
+        close_gap(pieces, noted, bitmap, pair, at, tally);
         k = next_segment(
             &InRow {
                 noted,
@@ -110,7 +106,8 @@ fn next_row(across: &[u32], bitmap: &Bitmap, from: u32) -> u32
     from + (whole / words) as u32
 }
 
-/// Closes the gaps of all rows of the frame. No piece is tested for a segment within the frame if the notes are exact.
+/// Closes the gaps of all rows of the frame. If the notes are exact, pieces are tested only for the first and the last segment of
+/// each row.
 pub fn close_rows(pieces: &Pieces, notes: &Notes, bitmap: &mut Bitmap, tally: &mut Tally)
     requires exact { IsTrue notes.now.exact → AreExact notes.now.frame notes.now.across.items notes.now.up.items
         (map span_of pieces.now) }
@@ -118,13 +115,13 @@ pub fn close_rows(pieces: &Pieces, notes: &Notes, bitmap: &mut Bitmap, tally: &m
     requires frame { notes.now.frame ≡ bitmap.old.frame }
     requires noted { All (λ s. IsNoted s notes.now.frame notes.now.across.items notes.now.up.items) (map span_of pieces.now) }
     requires covered { (i j : ℤ) → IsCovered (centre i j) (map span_of pieces.now) →
-        IsSoFar false (map span_of pieces.now) bitmap.old.frame bitmap.old i j }
+        IsSoFar (map span_of pieces.now) bitmap.old.frame bitmap.old i j }
     ensures frame { bitmap.new.frame ≡ bitmap.old.frame }
-    ensures closed { (i j : ℤ) → IsSoFar false (map span_of pieces.now) bitmap.old.frame bitmap.new i j ↔
+    ensures closed { (i j : ℤ) → IsSoFar (map span_of pieces.now) bitmap.old.frame bitmap.new i j ↔
         IsBridged (map span_of pieces.now) (IsInFrame bitmap.old.frame)
-        (IsSoFar false (map span_of pieces.now) bitmap.old.frame bitmap.old) i j }
+        (IsSoFar (map span_of pieces.now) bitmap.old.frame bitmap.old) i j }
     ensures count { tally.new.count ≤ tally.old.count +
-        bitmap.old.frame.height * ((bitmap.old.frame.width + 1) * most_tests (length pieces.now)) }
+        bitmap.old.frame.height * (tested notes.now.exact bitmap.old.frame.width * most_tests (length pieces.now)) }
 {
     let frame = notes.frame;
     if is_empty(frame) {

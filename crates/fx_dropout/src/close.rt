@@ -1,17 +1,14 @@
-//! The gaps of rows and of columns closed, in place, by a look at each pair of neighbours.
+//! One gap closed, in place.
 
-ghost use Rattle.std.specs.Prelude.{◌≡◌, ◌≢◌, ◌⊎◌, ◌↔◌, ◌+◌, ◌*◌, ◌<◌, ◌≤◌, IsTrue, ℤ, ◌+ℤ◌, ◌≤ℤ◌, pos, length, map, true, false};
-ghost use Rattle.fx_winding.specs.Bitmaps.{bit_of, IsScanOf};
-ghost use Rattle.fx_winding.specs.Dropout.{IsGap, IsBridged, IsSet};
-ghost use Rattle.fx_winding.specs.Frames.{IsFrom, IsInFrame, HasMargin};
-ghost use Rattle.fx_winding.specs.Limits.{IsPixelNumber};
+ghost use Rattle.std.specs.Prelude.{◌≡◌, ◌≢◌, ◌⊎◌, ◌↔◌, ◌+◌, ◌/◌, ◌<◌, ◌≤◌, IsTrue, ℤ, ◌+ℤ◌, ◌≤ℤ◌, pos, length, map, false};
+ghost use Rattle.fx_winding.specs.Frames.{IsInFrame};
 ghost use Rattle.fx_winding.specs.Winding.{span_of};
-ghost use Rattle.fx_dropout.specs.Tests.{most_tests, segments};
-ghost use Rattle.fx_dropout.specs.inner.Lines.{IsSoFar, IsCloser, IsRowClosed};
-ghost use Rattle.fx_dropout.specs.inner.Turned.{seen_spans, seen_segments, IsSeenInFrame};
+ghost use Rattle.fx_dropout.specs.Tests.{most_tests};
+ghost use Rattle.fx_dropout.specs.inner.Lines.{IsSoFar, IsCloser, tests};
+ghost use Rattle.fx_dropout.specs.inner.Pairs.{IsGapNext, IsTold};
 
 use crate::gaps::is_gap;
-use crate::turned::{seen_frame, set};
+use crate::pair::{Pair, Pixel};
 use fx_winding::{Bitmap, Frame, Pieces, Tally};
 
 /// Whether a frame has no pixel.
@@ -23,7 +20,23 @@ pub(crate) fn is_empty(frame: Frame) -> bool
     frame.width == 0 || frame.height == 0
 }
 
-/// The pixel that closes a gap: the left one, or the right one if that is the first of the frame.
+/// Whether the notes are exact and a segment lies within the frame: it is neither the first nor the last of its line's segments,
+/// which are numbered from 0 to `end`.
+#[inline(always)]
+pub(crate) fn is_told(exact: bool, n: usize, end: usize) -> bool
+    ensures inner { IsTrue result → (IsTrue exact × (0 < n) × (n < end)) }
+    ensures edge { result ≡ false → IsTrue exact → (n ≡ 0) ⊎ (end ≤ n) }
+{
+    if n == 0 {
+        return false;
+    }
+    if end <= n {
+        return false;
+    }
+    exact
+}
+
+/// The column or row of the pixel that closes a gap: that of the left or lower one, or the frame's first if that comes after it.
 pub(crate) fn closer(i: i32, first: i32) -> i32
     requires { first ≤ℤ (i +ℤ pos 1) }
     ensures { IsCloser first i result }
@@ -31,99 +44,31 @@ pub(crate) fn closer(i: i32, first: i32) -> i32
     i.max(first)
 }
 
-/// Sets one of two neighbours, at `at`, if they are a gap: those in the columns i and i + 1.
+/// Sets the pixel `at` if there is a gap between two neighbours.
+#[inline(always)]
 pub(crate) fn close_gap(
-    turned: bool,
     pieces: &Pieces,
+    noted: &[u32],
     bitmap: &mut Bitmap,
-    i: i32,
-    j: i32,
-    at: i32,
+    pair: Pair,
+    at: Pixel,
     tally: &mut Tally,
 )
-    requires here { IsPixelNumber i }
-    requires next { IsPixelNumber (i +ℤ pos 1) }
-    requires row { IsPixelNumber j }
-    requires inside { IsSeenInFrame turned bitmap.old.frame at j }
+    requires inside { IsInFrame bitmap.old.frame at.col at.row }
+    requires word { pair.number / 32 < length noted.now }
+    requires told { IsTrue pair.is_told → IsTold pair.is_up (map span_of pieces.now) bitmap.old.frame
+        (IsSoFar (map span_of pieces.now) bitmap.old.frame bitmap.old) noted.now pair.number pair.here.col pair.here.row }
     ensures frame { bitmap.new.frame ≡ bitmap.old.frame }
-    ensures here { IsSoFar turned (map span_of pieces.now) bitmap.old.frame bitmap.new at j ↔
-        (IsSoFar turned (map span_of pieces.now) bitmap.old.frame bitmap.old at j ⊎
-        IsGap (seen_spans turned (map span_of pieces.now))
-        (IsSoFar turned (map span_of pieces.now) bitmap.old.frame bitmap.old) i j) }
-    ensures others { (m n : ℤ) → (m ≢ at) ⊎ (n ≢ j) →
-        IsSoFar turned (map span_of pieces.now) bitmap.old.frame bitmap.new m n ↔
-        IsSoFar turned (map span_of pieces.now) bitmap.old.frame bitmap.old m n }
-    ensures count { tally.new.count ≤ tally.old.count + most_tests (length pieces.now) }
+    ensures here { IsSoFar (map span_of pieces.now) bitmap.old.frame bitmap.new at.col at.row ↔
+        (IsSoFar (map span_of pieces.now) bitmap.old.frame bitmap.old at.col at.row ⊎
+        IsGapNext pair.is_up (map span_of pieces.now) (IsSoFar (map span_of pieces.now) bitmap.old.frame bitmap.old)
+        pair.here.col pair.here.row) }
+    ensures others { (m n : ℤ) → (m ≢ at.col) ⊎ (n ≢ at.row) →
+        IsSoFar (map span_of pieces.now) bitmap.old.frame bitmap.new m n ↔
+        IsSoFar (map span_of pieces.now) bitmap.old.frame bitmap.old m n }
+    ensures count { tally.new.count ≤ tally.old.count + tests pair.is_told (most_tests (length pieces.now)) }
 {
-    if is_gap(turned, pieces, bitmap, i, j, tally) {
-        set(turned, bitmap, at, j);
+    if is_gap(pieces, noted, bitmap, pair, tally) {
+        at.set(bitmap);
     }
-}
-
-/// Closes the gaps of a row of the frame, from left to right: each by its left pixel, and the one before the first pixel by that.
-fn close_row(
-    turned: bool,
-    pieces: &Pieces,
-    frame: Frame,
-    bitmap: &mut Bitmap,
-    j: i32,
-    tally: &mut Tally,
-)
-    requires margin { HasMargin frame }
-    requires some { 0 < frame.width }
-    requires row { IsFrom frame.bottom frame.height j }
-    requires seen { (m n : ℤ) → IsInFrame frame m n ↔ IsSeenInFrame turned bitmap.old.frame m n }
-    ensures frame { bitmap.new.frame ≡ bitmap.old.frame }
-    ensures closed { IsRowClosed (seen_spans turned (map span_of pieces.now)) frame j
-        (IsSoFar turned (map span_of pieces.now) bitmap.old.frame bitmap.old)
-        (IsSoFar turned (map span_of pieces.now) bitmap.old.frame bitmap.new) }
-    ensures count { tally.new.count ≤ tally.old.count + (frame.width + 1) * most_tests (length pieces.now) }
-{
-    // The gaps among the first k segments are closed. The pixels of later gaps are as they were, but for the first pixel, which
-    // closes the first two gaps.
-    'segments: for k in 0..frame.width + 1 {
-        let i = frame.left - 1 + k as i32;
-        close_gap(turned, pieces, bitmap, i, j, closer(i, frame.left), tally);
-    }
-}
-
-/// Closes the gaps of all rows of the frame, or of its columns, seen as rows.
-fn close_rows(turned: bool, pieces: &Pieces, bitmap: &mut Bitmap, tally: &mut Tally)
-    requires margin { HasMargin bitmap.old.frame }
-    ensures frame { bitmap.new.frame ≡ bitmap.old.frame }
-    ensures closed { (i j : ℤ) → IsSoFar turned (map span_of pieces.now) bitmap.old.frame bitmap.new i j ↔
-        IsBridged (seen_spans turned (map span_of pieces.now)) (IsSeenInFrame turned bitmap.old.frame)
-        (IsSoFar turned (map span_of pieces.now) bitmap.old.frame bitmap.old) i j }
-    ensures count { tally.new.count ≤ tally.old.count +
-        seen_segments turned bitmap.old.frame * most_tests (length pieces.now) }
-{
-    let frame = seen_frame(turned, bitmap.frame());
-    if frame.width == 0 {
-        return;
-    }
-    // The gaps of the rows before `up` are closed, and the others are as they were.
-    'rows: for up in 0..frame.height {
-        close_row(
-            turned,
-            pieces,
-            frame,
-            bitmap,
-            frame.bottom + up as i32,
-            tally,
-        );
-    }
-}
-
-/// Closes the gaps of the rows, and then those that are left in the columns, as `close_gaps` does, but looks at each pair of
-/// neighbours.
-pub fn close_gaps_plainly(pieces: &Pieces, bitmap: &mut Bitmap, tally: &mut Tally)
-    requires margin { HasMargin bitmap.old.frame }
-    requires scanned { IsScanOf bitmap.old.frame (map span_of pieces.now) bitmap.old }
-    ensures frame { bitmap.new.frame ≡ bitmap.old.frame }
-    ensures bits { (col row : ℤ) → IsInFrame bitmap.old.frame col row →
-        IsTrue (bit_of bitmap.new col row) ↔ IsSet (map span_of pieces.now) bitmap.old.frame col row }
-    ensures count { tally.new.count ≤ tally.old.count + segments bitmap.old.frame * most_tests (length pieces.now) }
-{
-    close_rows(false, pieces, bitmap, tally);
-    close_rows(true, pieces, bitmap, tally);
 }

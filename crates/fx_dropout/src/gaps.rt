@@ -1,32 +1,20 @@
-//! Gaps of rows: pairs of neighbours, neither of which is set, between whose centres a piece passes.
+//! Gaps: pairs of neighbours, neither of which is set, between whose centres a piece passes.
 
-ghost use Rattle.std.specs.Prelude.{◌≡◌, ◌↔◌, ◌⊎◌, ◌+◌, ◌*◌, ◌≤◌, ◌<ℤ◌, IsTrue, ◌+ℤ◌, pos, length, Any, map, MatchOption};
+ghost use Rattle.std.specs.Prelude.{◌≡◌, ◌↔◌, ◌+◌, ◌*◌, ◌/◌, ◌≤◌, ◌<◌, ◌<ℤ◌, ◌≤ℤ◌, IsTrue, length, Any, map, MatchOption};
 ghost use Rattle.fx_fixed.specs.Ranges.{IsWithin};
-ghost use Rattle.fx_winding.specs.Dropout.{IsGap};
 ghost use Rattle.fx_winding.specs.Frames.{IsInFrame};
-ghost use Rattle.fx_winding.specs.Limits.{IsPixelNumber};
 ghost use Rattle.fx_winding.specs.Meets.{IsMet, turn};
 ghost use Rattle.fx_winding.specs.Outside.{HasAll};
-ghost use Rattle.fx_winding.specs.Winding.{place_of, span_of, centre as centre_of, IsOn, IsCovered};
+ghost use Rattle.fx_winding.specs.Winding.{place_of, span_of, IsOn, IsCovered};
 ghost use Rattle.fx_dropout.specs.Tests.{most_tests};
-ghost use Rattle.fx_dropout.specs.inner.Lines.{IsSoFar};
-ghost use Rattle.fx_winding.specs.Dropout.{turned_span};
-ghost use Rattle.fx_dropout.specs.inner.Turned.{seen_span, seen_spans, seen_centre, IsSeenInFrame, IsBeside, IsAside};
+ghost use Rattle.fx_dropout.specs.inner.Lines.{IsCoveredOutside, IsSoFar, tests};
+ghost use Rattle.fx_dropout.specs.inner.Pairs.{IsMetNext, IsGapNext, IsTold, IsBeside, IsAside};
 
-use crate::turned::{is_set, seen_piece};
-use fx_winding::{Bitmap, Frame, Piece, Pieces, Point, Tally, crossing, meets, on_piece, region};
-
-/// The centre of a pixel.
-fn centre(col: i32, row: i32) -> Point
-    requires column { IsPixelNumber col }
-    requires row { IsPixelNumber row }
-    ensures { place_of result ≡ centre_of col row }
-{
-    Point {
-        x: 128 * col + 64,
-        y: 128 * row + 64,
-    }
-}
+use crate::pair::{Pair, Pixel};
+use fx_winding::{
+    Bitmap, Frame, Piece, Pieces, Point, Tally, crossing, is_set as is_noted, meets, on_piece,
+    region,
+};
 
 /// Whether all points of a piece lie above a height.
 fn is_above(piece: &Piece, y: i32) -> bool
@@ -93,7 +81,7 @@ fn is_left(piece: &Piece, x: i32) -> bool
 }
 
 /// Whether a piece lies beside a row of centres: above it or below it.
-fn is_beside_row(piece: &Piece, y: i32) -> bool
+fn is_beside(piece: &Piece, y: i32) -> bool
     ensures { IsTrue result → IsBeside y (span_of piece.now) }
 {
     if is_above(piece, y) {
@@ -102,30 +90,8 @@ fn is_beside_row(piece: &Piece, y: i32) -> bool
     is_below(piece, y)
 }
 
-/// Whether a piece with its coordinates exchanged lies beside a row of centres.
-fn is_beside_column(piece: &Piece, x: i32) -> bool
-    ensures { IsTrue result → IsBeside x (turned_span (span_of piece.now)) }
-{
-    if is_right(piece, x) {
-        return true;
-    }
-    is_left(piece, x)
-}
-
-/// The same of a piece as it is, or with its coordinates exchanged.
-#[inline(always)]
-fn is_beside(turned: bool, piece: &Piece, y: i32) -> bool
-    ensures { IsTrue result → IsBeside y (seen_span turned (span_of piece.now)) }
-{
-    if turned {
-        is_beside_column(piece, y)
-    } else {
-        is_beside_row(piece, y)
-    }
-}
-
 /// Whether a piece lies aside of a segment of a row: left of its first place or right of its last one.
-fn is_aside_row(piece: &Piece, first: i32, last: i32) -> bool
+fn is_aside(piece: &Piece, first: i32, last: i32) -> bool
     ensures { IsTrue result → IsAside first last (span_of piece.now) }
 {
     if is_left(piece, first) {
@@ -134,73 +100,45 @@ fn is_aside_row(piece: &Piece, first: i32, last: i32) -> bool
     is_right(piece, last)
 }
 
-/// Whether a piece with its coordinates exchanged lies aside of a segment of a row.
-fn is_aside_column(piece: &Piece, first: i32, last: i32) -> bool
-    ensures { IsTrue result → IsAside first last (turned_span (span_of piece.now)) }
+/// Whether a piece meets the segment from one place of a row to another. Most pieces lie beside its row, or aside of it there.
+fn meets_segment(piece: &Piece, p: Point, q: Point, tally: &mut Tally) -> bool
+    requires level { q.y ≡ p.y }
+    requires order { p.x ≤ℤ q.x }
+    ensures value { IsTrue result ↔ IsMet (place_of p) (place_of q) (span_of piece.now) }
+    ensures count { tally.new.count ≤ tally.old.count + 5 }
 {
-    if is_below(piece, first) {
-        return true;
+    if is_beside(piece, p.y) {
+        return false;
     }
-    is_above(piece, last)
+    if is_aside(piece, p.x, q.x) {
+        return false;
+    }
+    meets(piece, p, q, tally)
 }
 
-/// The same of a piece as it is, or with its coordinates exchanged.
-#[inline(always)]
-fn is_aside(turned: bool, piece: &Piece, first: i32, last: i32) -> bool
-    ensures { IsTrue result → IsAside first last (seen_span turned (span_of piece.now)) }
+/// Whether a piece passes between the centres of two neighbours. A column is a row of the piece with its coordinates exchanged.
+fn passes(piece: &Piece, pair: Pair, tally: &mut Tally) -> bool
+    ensures value { IsTrue result ↔ IsMetNext pair.is_up pair.here.col pair.here.row (span_of piece.now) }
+    ensures count { tally.new.count ≤ tally.old.count + 5 }
 {
-    if turned {
-        is_aside_column(piece, first, last)
+    let p = pair.here.centre();
+    let q = pair.next().centre();
+    if pair.is_up {
+        meets_segment(&piece.turned(), p.turned(), q.turned(), tally)
     } else {
-        is_aside_row(piece, first, last)
+        meets_segment(piece, p, q, tally)
     }
 }
 
-/// Whether a piece meets the segment from the centre of a pixel to that of its right neighbour.
-fn meets_next(piece: &Piece, i: i32, j: i32, tally: &mut Tally) -> bool
-    requires here { IsPixelNumber i }
-    requires next { IsPixelNumber (i +ℤ pos 1) }
-    requires row { IsPixelNumber j }
-    ensures value { IsTrue result ↔ IsMet (centre_of i j) (centre_of (i +ℤ pos 1) j) (span_of piece.now) }
-    ensures count { tally.new.count ≤ tally.old.count + 5 }
-{
-    meets(piece, centre(i, j), centre(i + 1, j), tally)
-}
-
-/// Whether a piece, as it is or with its coordinates exchanged, meets that segment. Most pieces lie beside its row, or aside of it
-/// there.
-fn meets_seen(turned: bool, piece: &Piece, i: i32, j: i32, tally: &mut Tally) -> bool
-    requires here { IsPixelNumber i }
-    requires next { IsPixelNumber (i +ℤ pos 1) }
-    requires row { IsPixelNumber j }
+/// Whether one of the pieces passes between the centres of two neighbours.
+fn any_passes(pieces: &[Piece], pair: Pair, tally: &mut Tally) -> bool
     ensures value { IsTrue result ↔
-        IsMet (centre_of i j) (centre_of (i +ℤ pos 1) j) (seen_span turned (span_of piece.now)) }
-    ensures count { tally.new.count ≤ tally.old.count + 5 }
-{
-    let p = centre(i, j);
-    if is_beside(turned, piece, p.y) {
-        return false;
-    }
-    let q = centre(i + 1, j);
-    if is_aside(turned, piece, p.x, q.x) {
-        return false;
-    }
-    meets_next(&seen_piece(turned, piece), i, j, tally)
-}
-
-/// Whether one of the pieces, as they are or with their coordinates exchanged, meets the segment from the centre of a pixel to that
-/// of its right neighbour.
-fn any_meets(turned: bool, pieces: &[Piece], i: i32, j: i32, tally: &mut Tally) -> bool
-    requires here { IsPixelNumber i }
-    requires next { IsPixelNumber (i +ℤ pos 1) }
-    requires row { IsPixelNumber j }
-    ensures value { IsTrue result ↔
-        Any (IsMet (centre_of i j) (centre_of (i +ℤ pos 1) j)) (seen_spans turned (map span_of pieces.now)) }
+        Any (λ s. IsMetNext pair.is_up pair.here.col pair.here.row (span_of s)) pieces.now }
     ensures count { tally.new.count ≤ tally.old.count + 5 * length pieces.now }
 {
-    // None of the pieces before this one meets the segment.
+    // None of the pieces before this one does.
     'pieces: for piece in pieces {
-        if meets_seen(turned, piece, i, j, tally) {
+        if passes(piece, pair, tally) {
             return true;
         }
     }
@@ -208,19 +146,19 @@ fn any_meets(turned: bool, pieces: &[Piece], i: i32, j: i32, tally: &mut Tally) 
 }
 
 /// Whether a pixel lies in a frame.
-fn is_in_frame(frame: Frame, col: i32, row: i32) -> bool
-    ensures { IsTrue result ↔ IsInFrame frame col row }
+fn is_in_frame(frame: Frame, pixel: Pixel) -> bool
+    ensures { IsTrue result ↔ IsInFrame frame pixel.col pixel.row }
 {
-    if col < frame.left {
+    if pixel.col < frame.left {
         return false;
     }
-    if i64::from(col) >= i64::from(frame.left) + i64::from(frame.width) {
+    if i64::from(pixel.col) >= i64::from(frame.left) + i64::from(frame.width) {
         return false;
     }
-    if row < frame.bottom {
+    if pixel.row < frame.bottom {
         return false;
     }
-    if i64::from(row) >= i64::from(frame.bottom) + i64::from(frame.height) {
+    if i64::from(pixel.row) >= i64::from(frame.bottom) + i64::from(frame.height) {
         return false;
     }
     true
@@ -232,7 +170,7 @@ fn turn_off(piece: &Piece, p: Point, tally: &mut Tally) -> Option<i32>
         (λ t. IsWithin 2 t × (t ≡ turn (place_of p) (span_of piece.now)) × ¬ (IsOn (place_of p) (span_of piece.now))) }
     ensures count { tally.new.count ≤ tally.old.count + 3 }
 {
-    if is_beside_row(piece, p.y) {
+    if is_beside(piece, p.y) {
         return Some(0);
     }
     if on_piece(piece, p.x, p.y, tally) {
@@ -258,88 +196,60 @@ fn covers(pieces: &[Piece], p: Point, tally: &mut Tally) -> bool
     turns != 0
 }
 
-/// Whether a pixel lies outside the frame of a bitmap and is covered.
-fn is_covered_outside(pieces: &Pieces, frame: Frame, col: i32, row: i32, tally: &mut Tally) -> bool
-    requires column { IsPixelNumber col }
-    requires row { IsPixelNumber row }
-    ensures value { IsTrue result ↔ (¬ (IsInFrame frame col row) × IsCovered (centre_of col row) (map span_of pieces.now)) }
+/// Whether a pixel lies outside a frame and is covered.
+fn is_covered_outside(pieces: &Pieces, frame: Frame, pixel: Pixel, tally: &mut Tally) -> bool
+    ensures value { IsTrue result ↔ IsCoveredOutside (map span_of pieces.now) frame pixel.col pixel.row }
     ensures count { tally.new.count ≤ tally.old.count + 3 * length pieces.now }
 {
-    if is_in_frame(frame, col, row) {
+    if is_in_frame(frame, pixel) {
         return false;
     }
-    covers(pieces.as_slice(), centre(col, row), tally)
+    covers(pieces.as_slice(), pixel.centre(), tally)
 }
 
-/// The same of a pixel as it is, or with its coordinates exchanged.
-fn is_seen_outside(
-    turned: bool,
-    pieces: &Pieces,
-    frame: Frame,
-    i: i32,
-    j: i32,
-    tally: &mut Tally,
-) -> bool
-    requires column { IsPixelNumber i }
-    requires row { IsPixelNumber j }
-    ensures value { IsTrue result ↔
-        (¬ (IsSeenInFrame turned frame i j) × IsCovered (seen_centre turned i j) (map span_of pieces.now)) }
-    ensures count { tally.new.count ≤ tally.old.count + 3 * length pieces.now }
-{
-    if turned {
-        is_covered_outside(pieces, frame, j, i, tally)
-    } else {
-        is_covered_outside(pieces, frame, i, j, tally)
-    }
-}
-
-/// Whether a pixel is not set so far.
-fn is_open(
-    turned: bool,
-    pieces: &Pieces,
-    bitmap: &Bitmap,
-    i: i32,
-    j: i32,
-    tally: &mut Tally,
-) -> bool
-    requires column { IsPixelNumber i }
-    requires row { IsPixelNumber j }
-    ensures value { IsTrue result ↔ ¬ (IsSoFar turned (map span_of pieces.now) bitmap.now.frame bitmap.now i j) }
-    ensures count { tally.new.count ≤ tally.old.count + 3 * length pieces.now }
-{
-    if is_set(turned, bitmap, i, j) {
-        return false;
-    }
-    !is_seen_outside(turned, pieces, bitmap.frame(), i, j, tally)
-}
-
-/// Whether there is a gap between a pixel and its right neighbour. The bits are looked at first: most pairs are done with by that.
-pub fn is_gap(
-    turned: bool,
-    pieces: &Pieces,
-    bitmap: &Bitmap,
-    i: i32,
-    j: i32,
-    tally: &mut Tally,
-) -> bool
-    requires here { IsPixelNumber i }
-    requires next { IsPixelNumber (i +ℤ pos 1) }
-    requires row { IsPixelNumber j }
-    ensures value { IsTrue result ↔ IsGap (seen_spans turned (map span_of pieces.now))
-        (IsSoFar turned (map span_of pieces.now) bitmap.now.frame bitmap.now) i j }
+/// Whether a piece passes between two neighbours, neither of which is covered outside the frame.
+fn is_open(pieces: &Pieces, frame: Frame, pair: Pair, tally: &mut Tally) -> bool
+    ensures value { IsTrue result ↔ IsGapNext pair.is_up (map span_of pieces.now)
+        (IsCoveredOutside (map span_of pieces.now) frame) pair.here.col pair.here.row }
     ensures count { tally.new.count ≤ tally.old.count + most_tests (length pieces.now) }
 {
-    if is_set(turned, bitmap, i, j) {
+    if !any_passes(pieces.as_slice(), pair, tally) {
         return false;
     }
-    if is_set(turned, bitmap, i + 1, j) {
+    if is_covered_outside(pieces, frame, pair.here, tally) {
         return false;
     }
-    if !any_meets(turned, pieces.as_slice(), i, j, tally) {
+    if is_covered_outside(pieces, frame, pair.next(), tally) {
         return false;
     }
-    if !is_open(turned, pieces, bitmap, i, j, tally) {
+    true
+}
+
+/// Whether there is a gap between two neighbours. Their bits come first, since those settle most pairs. If the bit of their segment
+/// tells, no piece is tested.
+#[inline(always)]
+pub(crate) fn is_gap(
+    pieces: &Pieces,
+    noted: &[u32],
+    bitmap: &Bitmap,
+    pair: Pair,
+    tally: &mut Tally,
+) -> bool
+    requires word { pair.number / 32 < length noted.now }
+    requires told { IsTrue pair.is_told → IsTold pair.is_up (map span_of pieces.now) bitmap.now.frame
+        (IsSoFar (map span_of pieces.now) bitmap.now.frame bitmap.now) noted.now pair.number pair.here.col pair.here.row }
+    ensures value { IsTrue result ↔ IsGapNext pair.is_up (map span_of pieces.now)
+        (IsSoFar (map span_of pieces.now) bitmap.now.frame bitmap.now) pair.here.col pair.here.row }
+    ensures count { tally.new.count ≤ tally.old.count + tests pair.is_told (most_tests (length pieces.now)) }
+{
+    if pair.here.is_set(bitmap) {
         return false;
     }
-    is_open(turned, pieces, bitmap, i + 1, j, tally)
+    if pair.next().is_set(bitmap) {
+        return false;
+    }
+    if pair.is_told {
+        return is_noted(noted, pair.number);
+    }
+    is_open(pieces, bitmap.frame(), pair, tally)
 }

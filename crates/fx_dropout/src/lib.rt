@@ -12,9 +12,7 @@ mod gaps;
 mod next;
 mod noted;
 mod open;
-mod trusted;
-mod turned;
+mod pair;
 mod up;
 
-pub use close::close_gaps_plainly;
 pub use noted::close_gaps;

@@ -6,7 +6,7 @@ ghost use Rattle.fx_winding.specs.Dropout.{IsSet};
 ghost use Rattle.fx_winding.specs.Frames.{IsInFrame, HasMargin};
 ghost use Rattle.fx_winding.specs.Notes.{AreExact, IsNoted};
 ghost use Rattle.fx_winding.specs.Winding.{span_of};
-ghost use Rattle.fx_dropout.specs.Tests.{most_tests, segments};
+ghost use Rattle.fx_dropout.specs.Tests.{most_tests, tested_segments};
 
 use crate::across::close_rows;
 use crate::up::close_columns;
@@ -16,7 +16,7 @@ use fx_winding::{Bitmap, Notes, Pieces, Tally};
 /// that drop-out control sets in its frame then. The segments that a piece meets must be noted; others may be.
 ///
 /// The columns and rows beside the frame must have numbers too. Tests of points are counted in `tally`: at most eleven for each
-/// segment of the frame and each piece.
+/// piece and each segment that is tested. With exact notes only segments that lead out of the frame are tested, else all.
 pub fn close_gaps(pieces: &Pieces, notes: &Notes, bitmap: &mut Bitmap, tally: &mut Tally)
     requires margin { HasMargin bitmap.old.frame }
     requires scanned { IsScanOf bitmap.old.frame (map span_of pieces.now) bitmap.old }
@@ -27,7 +27,8 @@ pub fn close_gaps(pieces: &Pieces, notes: &Notes, bitmap: &mut Bitmap, tally: &m
     ensures frame { bitmap.new.frame ≡ bitmap.old.frame }
     ensures bits { (col row : ℤ) → IsInFrame bitmap.old.frame col row →
         IsTrue (bit_of bitmap.new col row) ↔ IsSet (map span_of pieces.now) bitmap.old.frame col row }
-    ensures count { tally.new.count ≤ tally.old.count + segments bitmap.old.frame * most_tests (length pieces.now) }
+    ensures count { tally.new.count ≤
+        tally.old.count + tested_segments notes.now.exact bitmap.old.frame * most_tests (length pieces.now) }
 {
     close_rows(pieces, notes, bitmap, tally);
     close_columns(pieces, notes, bitmap, tally);

@@ -7,14 +7,15 @@ ghost use Rattle.fx_winding.specs.Dropout.{IsBridged, turned_span};
 ghost use Rattle.fx_winding.specs.Frames.{IsFrom, IsInFrame, HasMargin};
 ghost use Rattle.fx_winding.specs.Notes.{AreExact, IsNoted};
 ghost use Rattle.fx_winding.specs.Winding.{span_of, centre, IsCovered};
-ghost use Rattle.fx_dropout.specs.Tests.{most_tests};
-ghost use Rattle.fx_dropout.specs.inner.Lines.{IsSoFar, IsOneOf, IsLevelClosed, IsLevelNoted, IsLevelTrusted};
+ghost use Rattle.fx_dropout.specs.Tests.{most_tests, tested};
+ghost use Rattle.fx_dropout.specs.inner.Lines.{IsSoFar, IsOneOf, IsLevelClosed, IsLevelNoted, tests};
+ghost use Rattle.fx_dropout.specs.inner.Pairs.{Turned};
 ghost use Rattle.fx_dropout.specs.inner.Words.{IsShutInColumn};
 
-use crate::close::{closer, is_empty};
+use crate::close::{close_gap, closer, is_empty, is_told};
 use crate::next::next_segment;
 use crate::open::Between;
-use crate::trusted::{close_noted, is_trusted};
+use crate::pair::{Pair, Pixel};
 use fx_winding::{Bitmap, Frame, Notes, Pieces, Tally, words_for};
 
 /// The row above another, or that itself if it is the last of the frame.
@@ -29,9 +30,9 @@ fn row_above(frame: Frame, i: i32) -> i32
 }
 
 /// Closes the gaps between a row and the one above it: each by the pixel in the row `at`. Of two rows one of which lies outside the
-/// frame, the other stands for both. If the level is trusted, no piece is tested.
+/// frame, the other stands for both. If the bits of their segments tell, no piece is tested.
 fn close_level(
-    trusted: bool,
+    told: bool,
     pieces: &Pieces,
     noted: &[u32],
     frame: Frame,
@@ -46,14 +47,12 @@ fn close_level(
     requires at { IsFrom frame.bottom frame.height at }
     requires either { IsOneOf i at }
     requires room { length noted.now ≡ words_for_of frame.width }
-    requires noted { IsLevelNoted (map turned_span (map span_of pieces.now)) frame i
-        (IsSoFar true (map span_of pieces.now) frame bitmap.old) noted.now }
-    requires trusted { IsTrue trusted → IsLevelTrusted (map turned_span (map span_of pieces.now)) frame i at
-        (IsSoFar true (map span_of pieces.now) frame bitmap.old) noted.now }
+    requires noted { IsLevelNoted told (map span_of pieces.now) frame i
+        (IsSoFar (map span_of pieces.now) frame bitmap.old) noted.now }
     ensures frame { bitmap.new.frame ≡ frame }
     ensures closed { IsLevelClosed (map turned_span (map span_of pieces.now)) frame.left frame.width i at
-        (IsSoFar true (map span_of pieces.now) frame bitmap.old) (IsSoFar true (map span_of pieces.now) frame bitmap.new) }
-    ensures count { tally.new.count ≤ tally.old.count + frame.width * most_tests (length pieces.now) }
+        (Turned (IsSoFar (map span_of pieces.now) frame bitmap.old)) (Turned (IsSoFar (map span_of pieces.now) frame bitmap.new)) }
+    ensures count { tally.new.count ≤ tally.old.count + tests told (frame.width * most_tests (length pieces.now)) }
 {
     let above = row_above(frame, i);
     let mut k = next_segment(
@@ -66,18 +65,14 @@ fn close_level(
     );
     // The gaps in the columns before k are closed, and the later columns are as they were.
     'columns: while k < frame.width as usize {
-        close_noted(
-            true,
-            trusted,
-            pieces,
-            noted,
-            bitmap,
-            k,
-            i,
-            frame.left + k as i32,
-            at,
-            tally,
-        );
+        let col = frame.left + k as i32;
+        let pair = Pair {
+            here: Pixel { col, row: i },
+            is_up: true,
+            number: k,
+            is_told: told,
+        };
+        close_gap(pieces, noted, bitmap, pair, Pixel { col, row: at }, tally);
         k = next_segment(
             &Between {
                 noted,
@@ -116,22 +111,22 @@ fn next_level(notes: &[u32], bitmap: &Bitmap, from: u32) -> u32
     from + (next_segment(&levels, 0) / 32 / words) as u32
 }
 
-/// Closes the gaps of all columns of the frame: each by its lower pixel, and those below the lowest row by the pixels of that. No
-/// piece is tested for a segment within the frame if the notes are exact.
+/// Closes the gaps of all columns of the frame: each by its lower pixel, and those below the lowest row by the pixels of that. If
+/// the notes are exact, pieces are tested only for the first and the last segment of each column.
 pub fn close_columns(pieces: &Pieces, notes: &Notes, bitmap: &mut Bitmap, tally: &mut Tally)
     requires exact { IsTrue notes.now.exact → AreExact notes.now.frame notes.now.across.items notes.now.up.items
         (map span_of pieces.now) }
     requires margin { HasMargin bitmap.old.frame }
     requires frame { notes.now.frame ≡ bitmap.old.frame }
     requires noted { All (λ s. IsNoted s notes.now.frame notes.now.across.items notes.now.up.items) (map span_of pieces.now) }
-    requires covered { (i j : ℤ) → IsCovered (centre j i) (map span_of pieces.now) →
-        IsSoFar true (map span_of pieces.now) bitmap.old.frame bitmap.old i j }
+    requires covered { (i j : ℤ) → IsCovered (centre i j) (map span_of pieces.now) →
+        IsSoFar (map span_of pieces.now) bitmap.old.frame bitmap.old i j }
     ensures frame { bitmap.new.frame ≡ bitmap.old.frame }
-    ensures closed { (i j : ℤ) → IsSoFar true (map span_of pieces.now) bitmap.old.frame bitmap.new i j ↔
+    ensures closed { (i j : ℤ) → Turned (IsSoFar (map span_of pieces.now) bitmap.old.frame bitmap.new) i j ↔
         IsBridged (map turned_span (map span_of pieces.now)) (λ i j. IsInFrame bitmap.old.frame j i)
-        (IsSoFar true (map span_of pieces.now) bitmap.old.frame bitmap.old) i j }
+        (Turned (IsSoFar (map span_of pieces.now) bitmap.old.frame bitmap.old)) i j }
     ensures count { tally.new.count ≤ tally.old.count +
-        (bitmap.old.frame.height + 1) * (bitmap.old.frame.width * most_tests (length pieces.now)) }
+        tested notes.now.exact bitmap.old.frame.height * (bitmap.old.frame.width * most_tests (length pieces.now)) }
 {
     let frame = notes.frame;
     if is_empty(frame) {
@@ -145,7 +140,7 @@ pub fn close_columns(pieces: &Pieces, notes: &Notes, bitmap: &mut Bitmap, tally:
         let noted = &notes.up[first..first + words];
         let i = frame.bottom - 1 + up as i32;
         close_level(
-            is_trusted(notes.exact, up as usize, frame.height as usize),
+            is_told(notes.exact, up as usize, frame.height as usize),
             pieces,
             noted,
             frame,

@@ -80,6 +80,13 @@ impl<'a> KeepingMachine<'a> {
         Ok(KeepingMachine { machine, places })
     }
 
+    /// The machine.
+    pub fn machine(&self) -> &Machine<'a>
+        ensures { result.now ≡ self.now.machine }
+    {
+        &self.machine
+    }
+
     /// What `fpgm` and `prep` used up.
     pub fn prelude(&self) -> Usage
         ensures { result ≡ self.now.machine.known.prelude }

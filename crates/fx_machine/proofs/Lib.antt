@@ -6,3 +6,7 @@ pub mod Keeping
 pub mod KeptShapes
 pub mod Starting
 pub mod Named
+pub mod WordsBack
+pub mod PointsMore
+pub mod BlocksBack
+pub mod BlockMachines

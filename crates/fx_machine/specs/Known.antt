@@ -25,7 +25,7 @@ use Rattle.fx_machine.specs.Machine.{answer_of}
 use Rattle.fx_machine.specs.Table.{row_at}
 use Rattle.fx_machine.specs.Configs.{answered}
 use Rattle.fx_zone.specs.Figures.{HasShape}
-use Rattle.fx_machine.specs.Prepared.{glyph_end, ran_of, stack_if, strays_of}
+use Rattle.fx_machine.specs.Prepared.{begun, glyph_end, ran_of, stack_if, strays_of}
 
 -- the font, the size, what prep left, and what fpgm and prep used up
 pub record Known : Type 0 where
@@ -94,7 +94,7 @@ prepared_from s = record {
   storage = s.store.storage;
   cvt = s.store.cvt;
   twilight = s.zones.twilight;
-  graphics = s.graphics;
+  graphics = begun s.flags s.graphics;
   definitions = s.definitions;
   flags = s.flags;
 }

@@ -16,3 +16,5 @@ pub mod Shapes
 pub mod Usages
 pub mod Prepared
 pub mod Known
+pub mod Words
+pub mod Blocks

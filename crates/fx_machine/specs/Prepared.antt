@@ -20,27 +20,29 @@ use Rattle.fx_machine.specs.Table.{row_at}
 use Rattle.fx_machine.specs.Configs.{answered}
 use Rattle.fx_zone.specs.Figures.{HasShape}
 
--- the graphics state that a program of a glyph begins with: as prep left it, but for vectors, reference points, zone pointers, loop
--- and round state, which are at their defaults; or the default state
+-- what of a graphics state programs of glyphs take over: all but vectors, reference points, zone pointers, loop and round state,
+-- which are at their defaults
+abbrev pub carried : GState → GState
+carried g = record default_state {
+  auto_flip = g.auto_flip;
+  cut_in = g.cut_in;
+  minimum_distance = g.minimum_distance;
+  single_width = g.single_width;
+  single_width_cut_in = g.single_width_cut_in;
+  delta_base = g.delta_base;
+  delta_shift = g.delta_shift;
+}
+
+-- the graphics state that a program of a glyph begins with: as prep left it, or the default state
 abbrev pub begun : Flags → GState → GState
-begun flags g =
-    if flags.default_state then default_state
-    else record default_state {
-      auto_flip = g.auto_flip;
-      cut_in = g.cut_in;
-      minimum_distance = g.minimum_distance;
-      single_width = g.single_width;
-      single_width_cut_in = g.single_width_cut_in;
-      delta_base = g.delta_base;
-      delta_shift = g.delta_shift;
-    }
+begun flags g = if flags.default_state then default_state else carried g
 
 -- the state that a program of a glyph begins with, on these points
 abbrev pub started : Prepared → Scale → ℕ → Figure → State
 started p scale room glyph = record {
   store = record { stack = []; room = room; storage = p.storage; cvt = p.cvt; strays = 0 };
   zones = record { twilight = p.twilight; glyph = glyph; strays = 0 };
-  graphics = begun p.flags p.graphics;
+  graphics = p.graphics;
   definitions = p.definitions;
   flags = p.flags;
   scale = scale;

@@ -1,9 +1,12 @@
 //! The functions, and the definitions of opcodes.
 
-ghost use Rattle.std.specs.Prelude.{◌≡◌, ◌≤◌, ◌<◌, ◌++◌, None, Some, length, take, drop, slice_index_or, slice_set, replicate, IfOk};
+ghost use Rattle.std.specs.Prelude.{◌≡◌, ◌≤◌, ◌<◌, ◌++◌, ◌&&◌, true, OnOk, None, Some, length, take, drop, slice_index_or, slice_set, replicate, map, IfOk};
 ghost use Rattle.fx_machine.specs.Definitions.{function_at};
+ghost use Rattle.std.specs.List.{list_all};
+ghost use Rattle.fx_machine.specs.Words.{function_word, function_in, is_near};
 
 use crate::program::Program;
+use crate::words::{are_near, push_functions, read_functions};
 use std::alloc::{AllocError, Global};
 use std::marker::Model;
 
@@ -61,6 +64,30 @@ impl FunctionTable {
         let most = self.used.max(other.used);
         copy_front(&mut self.functions, &other.functions, most);
         self.used = other.used;
+    }
+
+    /// Reads the functions from their words, one for each.
+    fn read(&mut self, words: &[u32])
+        requires { length self.old ≡ length words.now }
+        ensures { self.new ≡ map function_in words.now }
+    {
+        self.used = self.functions.len();
+        read_functions(&mut self.functions, words);
+    }
+
+    /// Whether each function has a word.
+    fn is_near(&self) -> bool
+        ensures { result ≡ list_all is_near self.now }
+    {
+        are_near(&self.functions)
+    }
+
+    /// Adds the words of the functions, one for each.
+    fn push(&self, words: &mut Vec<u32>) -> Result<(), AllocError>
+        requires { list_all is_near self.now ≡ true }
+        ensures { OnOk result (words.new.items ≡ words.old.items ++ map function_word self.now) }
+    {
+        push_functions(words, &self.functions)
     }
 
     /// How many there can be.
@@ -124,6 +151,41 @@ impl Definitions {
     {
         self.functions.copy_from(&other.functions);
         self.opcodes.copy_from(&other.opcodes);
+    }
+
+    /// Reads the definitions from their words.
+    pub(crate) fn read(&mut self, functions: &[u32], opcodes: &[u32])
+        requires functions { length self.old.functions ≡ length functions.now }
+        requires opcodes { length self.old.opcodes ≡ length opcodes.now }
+        ensures { self.new ≡ record { functions = map function_in functions.now; opcodes = map function_in opcodes.now } }
+    {
+        self.functions.read(functions);
+        self.opcodes.read(opcodes);
+    }
+
+    /// Whether each definition has a word.
+    pub(crate) fn are_near(&self) -> bool
+        ensures { result ≡ (list_all is_near self.now.functions && list_all is_near self.now.opcodes) }
+    {
+        self.functions.is_near() && self.opcodes.is_near()
+    }
+
+    /// Adds the words of the definitions, one for each.
+    pub(crate) fn push(&self, words: &mut Vec<u32>) -> Result<(), AllocError>
+        requires functions { list_all is_near self.now.functions ≡ true }
+        requires opcodes { list_all is_near self.now.opcodes ≡ true }
+        ensures { OnOk result (words.new.items ≡ words.old.items ++ (map function_word self.now.functions
+            ++ map function_word self.now.opcodes)) }
+    {
+        self.functions.push(words)?;
+        self.opcodes.push(words)
+    }
+
+    /// How many opcodes there are.
+    pub(crate) fn opcode_count(&self) -> usize
+        ensures { result ≡ length self.now.opcodes }
+    {
+        self.opcodes.len()
     }
 
     /// How many functions there can be.

@@ -11,6 +11,7 @@ ghost use Rattle.fx_machine.specs.Table.{relative_row, then_at, row_here, opcode
 ghost use Rattle.fx_machine.specs.Table.{opcodes_5x, opcodes_6x, opcodes_7x, opcodes_8x};
 
 use crate::action::Action;
+use crate::flow::past_else;
 use crate::graphics_rows::{
     gfv, gpv, s45round, scvtci, sdb, sds, sfvfs, sloop, smd, spvfs, sround, srp0, srp1, srp2, ssw,
     sswci, szp0, szp1, szp2, szps, wcvtf,
@@ -18,8 +19,8 @@ use crate::graphics_rows::{
 use crate::halt::Cause;
 use crate::program::Program;
 use crate::state::State;
-use fx_code::Code;
 use fx_code::opcode::*;
+use fx_code::{Code, Targets};
 use fx_fixed::Axis;
 use fx_gstate::{DeltaForm, RoundState};
 use fx_pointops::Relative;
@@ -307,21 +308,24 @@ impl State {
     pub fn row(
         &mut self,
         code: &Code<'_>,
+        targets: &mut Targets<'_>,
         opcode: u8,
         program: Program,
         address: usize,
         next: usize,
     ) -> Result<Action, Cause>
-        requires { next ≡ address + 1 }
+        requires next { next ≡ address + 1 }
+        requires targets { program ≡ Program.Font → targets.old ≡ code.now }
         ensures value { acts result self.new ≡ row_here opcode code.now program address self.old }
         ensures kept { OnErr result (self.new.zones ≡ self.old.zones) }
         ensures sizes { HasSizes self.old self.new }
+        ensures targets { targets.new ≡ targets.old }
     {
         match opcode / 16 {
             0x0 => self.opcodes_0x(opcode)?,
             0x1 => match opcode {
                 ELSE => {
-                    let after = code.skip_else(next)?;
+                    let after = past_else(code, targets, program, next)?;
                     return Ok(Action::Went(after));
                 }
                 JMPR => return self.jmpr(code.len(), address),
@@ -341,7 +345,7 @@ impl State {
                 _ => self.opcodes_4x(opcode)?,
             },
             0x5 => match opcode {
-                IF => return self.if_else(code, next),
+                IF => return self.if_else(code, targets, program, next),
                 EIF => {}
                 _ => self.opcodes_5x(opcode)?,
             },

@@ -4,6 +4,8 @@
 //! stack, whose top is written last, and what the row sets.
 
 ghost use Rattle.std.specs.Prelude.{◌≡◌, OnErr, ◌+ℤ◌, pos, length};
+ghost use Rattle.fx_code.specs.Chain.{stops_at_false, stops_at_else};
+ghost use Rattle.fx_code.specs.Past.{past_of};
 ghost use Rattle.fx_machine.specs.Actions.{acts};
 ghost use Rattle.fx_machine.specs.Shapes.{HasSizes};
 ghost use Rattle.fx_machine.specs.Flow.{number_below, jumped, if_row, jmpr_row, jrot_row, jrof_row, call_row, loopcall_row, fdef_row, idef_row, undefined_row};
@@ -14,7 +16,7 @@ use crate::definitions::Function;
 use crate::halt::Cause;
 use crate::program::Program;
 use crate::state::State;
-use fx_code::Code;
+use fx_code::{Code, CodeFault, Targets};
 
 /// A number below a count.
 fn number_below(count: usize, number: i32) -> Result<usize, Cause>
@@ -24,6 +26,41 @@ fn number_below(count: usize, number: i32) -> Result<usize, Cause>
         return Err(Cause::BadArgument);
     }
     Ok(number as usize)
+}
+
+/// Where a false `IF` of a program continues. In `fpgm` it is remembered: functions are called again and again, and with them the
+/// same `IF`s.
+fn past_false(
+    code: &Code<'_>,
+    targets: &mut Targets<'_>,
+    program: Program,
+    next: usize,
+) -> Result<usize, CodeFault>
+    requires { program ≡ Program.Font → targets.old ≡ code.now }
+    ensures value { result ≡ past_of stops_at_false code.now next }
+    ensures targets { targets.new ≡ targets.old }
+{
+    match program {
+        Program::Font => targets.skip_false(next),
+        _ => code.skip_false(next),
+    }
+}
+
+/// Where an executed `ELSE` of a program continues, remembered in the same way.
+pub(crate) fn past_else(
+    code: &Code<'_>,
+    targets: &mut Targets<'_>,
+    program: Program,
+    next: usize,
+) -> Result<usize, CodeFault>
+    requires { program ≡ Program.Font → targets.old ≡ code.now }
+    ensures value { result ≡ past_of stops_at_else code.now next }
+    ensures targets { targets.new ≡ targets.old }
+{
+    match program {
+        Program::Font => targets.skip_else(next),
+        _ => code.skip_else(next),
+    }
 }
 
 impl State {
@@ -41,15 +78,23 @@ impl State {
 
     /// 58 IF, IF test: `e ->`. Continues, or if e is 0 after the ELSE or EIF of its level.
     #[tactic(auto, unfolding(crate::specs::Flow::if_row))]
-    pub(crate) fn if_else(&mut self, code: &Code<'_>, next: usize) -> Result<Action, Cause>
+    pub(crate) fn if_else(
+        &mut self,
+        code: &Code<'_>,
+        targets: &mut Targets<'_>,
+        program: Program,
+        next: usize,
+    ) -> Result<Action, Cause>
+        requires targets { program ≡ Program.Font → targets.old ≡ code.now }
         ensures value { acts result self.new ≡ if_row code.now next self.old }
         ensures kept { OnErr result (self.new.zones ≡ self.old.zones) }
         ensures sizes { HasSizes self.old self.new }
+        ensures targets { targets.new ≡ targets.old }
     {
         if self.store.one()? != 0 {
             return Ok(Action::Went(next));
         }
-        let address = code.skip_false(next)?;
+        let address = past_false(code, targets, program, next)?;
         Ok(Action::Went(address))
     }
 

@@ -2,6 +2,7 @@
 #![tactic(auto)]
 
 mod action;
+mod block;
 mod definitions;
 mod dispatch;
 mod flow;
@@ -19,6 +20,7 @@ mod state;
 mod state_rows;
 mod step;
 mod usage;
+mod words;
 
 pub use definitions::{Definitions, Function};
 pub use halt::{Cause, Halt, MachineFault};

@@ -1,6 +1,6 @@
 //! The machine of a font at a size.
 
-ghost use Rattle.std.specs.Prelude.{◌≡◌, length, option_map, IfOk, OnOk, is_ok};
+ghost use Rattle.std.specs.Prelude.{◌≡◌, length, option_map, Some, IfOk, IfSome, IsSome, OnOk, is_ok, is_some};
 ghost use Rattle.fx_fixed.specs.Chain.{GivesUnless};
 ghost use Rattle.fx_machine.specs.Programs.{texts};
 ghost use Rattle.fx_zone.specs.Figures.{HasShape};
@@ -10,7 +10,10 @@ ghost use Rattle.fx_machine.specs.Prepared.{Fits, glyph_end, ran_of, stack_after
 ghost use Rattle.fx_machine.specs.Known.{Fails, with_state, prelude_of, machine_of, final_stack_of, glyph_run, glyph_ran, first_state};
 ghost use Rattle.fx_machine.specs.Known.{controls_of, prepared_from};
 ghost use Rattle.fx_scale.specs.Scaling.{scale_of};
+ghost use Rattle.fx_machine.specs.Known.{Known};
+ghost use Rattle.fx_machine.specs.Blocks.{IsBlockOf, checksum_of, known_words, has_words};
 
+use crate::block::{after_origin, push_origin};
 use crate::halt::{Halt, MachineFault};
 use crate::limits::STEP_LIMIT;
 use crate::prepared::Prepared;
@@ -18,7 +21,7 @@ use crate::program::{Program, Programs};
 use crate::run::run;
 use crate::state::{State, table_or_empty};
 use crate::usage::Usage;
-use fx_code::Code;
+use fx_code::{Code, Targets};
 use fx_fixed::Ppem;
 use fx_scale::Scale;
 use fx_sfnt::Font;
@@ -34,9 +37,11 @@ fn run_from(
     state: &mut State,
     prepared: &Prepared,
     programs: &Programs<'_>,
+    targets: &mut Targets<'_>,
     zone: &mut Zone,
 ) -> Result<Usage, Halt>
-    requires { Fits prepared.now state.old }
+    requires fits { Fits prepared.now state.old }
+    requires targets { targets.old ≡ programs.now.font }
     ensures value { with_zone result zone.new ≡ ran_of
         (glyph_end (texts programs.now) programs.now.number prepared.now state.old.scale state.old.store.room zone.old) }
     ensures stack { stack_if (is_ok result) state.new.store.stack ≡ stack_after
@@ -45,10 +50,11 @@ fn run_from(
     ensures fits { Fits prepared.now state.new }
     ensures room { state.new.store.room ≡ state.old.store.room }
     ensures scale { state.new.scale ≡ state.old.scale }
+    ensures targets { targets.new ≡ targets.old }
 {
     swap(&mut state.zones.glyph, zone);
     state.restart(prepared);
-    let result = run(state, programs, Program::Glyph, STEP_LIMIT);
+    let result = run(state, programs, targets, Program::Glyph, STEP_LIMIT);
     swap(&mut state.zones.glyph, zone);
     let steps = result?;
     Ok(Usage {
@@ -59,15 +65,21 @@ fn run_from(
 
 /// Runs `fpgm`, then `prep`: what they have used up, or the first halt.
 #[tactic(auto, unfolding(crate::specs::Known::prelude_of))]
-fn run_prelude(state: &mut State, programs: &Programs<'_>) -> Result<Usage, Halt>
-    requires { programs.now.number ≡ 0 }
+fn run_prelude(
+    state: &mut State,
+    programs: &Programs<'_>,
+    targets: &mut Targets<'_>,
+) -> Result<Usage, Halt>
+    requires number { programs.now.number ≡ 0 }
+    requires targets { targets.old ≡ programs.now.font }
     ensures value { with_state result state.new ≡ prelude_of (texts programs.now) state.old }
     ensures shapes { HasShapes state.old.zones state.new.zones }
     ensures sizes { HasSizes state.old state.new }
+    ensures targets { targets.new ≡ targets.old }
 {
-    let first = run(state, programs, Program::Font, STEP_LIMIT)?;
+    let first = run(state, programs, targets, Program::Font, STEP_LIMIT)?;
     state.prepare();
-    let second = run(state, programs, Program::Prep, STEP_LIMIT)?;
+    let second = run(state, programs, targets, Program::Prep, STEP_LIMIT)?;
     Ok(Usage {
         steps: u64::from(first + second),
         strays: state.strays(),
@@ -78,16 +90,19 @@ fn run_prelude(state: &mut State, programs: &Programs<'_>) -> Result<Usage, Halt
 fn run_and_take(
     state: &mut State,
     programs: &Programs<'_>,
+    targets: &mut Targets<'_>,
     prepared: &mut Prepared,
 ) -> Result<Usage, Halt>
     requires number { programs.now.number ≡ 0 }
     requires fits { Fits prepared.old state.old }
+    requires targets { targets.old ≡ programs.now.font }
     ensures value { with_state result state.new ≡ prelude_of (texts programs.now) state.old }
     ensures prepared { OnOk result (prepared.new ≡ prepared_from state.new) }
     ensures shapes { HasShapes state.old.zones state.new.zones }
     ensures sizes { HasSizes state.old state.new }
+    ensures targets { targets.new ≡ targets.old }
 {
-    let prelude = run_prelude(state, programs)?;
+    let prelude = run_prelude(state, programs, targets)?;
     prepared.take(state);
     Ok(prelude)
 }
@@ -114,7 +129,7 @@ fn boxed_tables(alloc: Global, state: &State) -> Result<Box<Prepared>, AllocErro
 #[derive(Drop)]
 pub struct Machine<'a> {
     font: Font<'a>,
-    font_program: &'a [u8],
+    targets: Targets<'a>,
     prep: &'a [u8],
     prepared: Box<Prepared>,
     prelude: Usage,
@@ -128,6 +143,7 @@ impl<'a> Model for Machine<'a> {
     ghost use Rattle.fx_scale.specs.Scaling.{scale_of};
     ghost use Rattle.fx_machine.specs.Prepared.{Fits, stack_if};
     ghost use Rattle.fx_machine.specs.Known.{MachineView};
+    ghost use Rattle.fx_machine.specs.Blocks.{IsOfFont};
     ghost use Rattle.fx_machine.specs.Limits.{room_of};
 
     ghost Value = { MachineView };
@@ -139,9 +155,10 @@ impl<'a> Model for Machine<'a> {
 
     ghost invariant = { λ m. (Fits m.prepared.value m.state.value)
         × (m.state.value.store.room ≡ room_of m.font.maxp.max_stack_elements)
-        × (m.font_program.now ≡ table_or_empty m.font (codes "fpgm"))
+        × (m.targets ≡ table_or_empty m.font (codes "fpgm"))
         × (m.prep.now ≡ table_or_empty m.font (codes "prep"))
-        × (m.state.value.scale ≡ scale_of m.font m.state.value.scale.ppem) };
+        × (m.state.value.scale ≡ scale_of m.font m.state.value.scale.ppem)
+        × IsOfFont m.font m.state.value.scale.ppem m.prepared.value };
 }
 
 impl<'a> Machine<'a> {
@@ -166,18 +183,76 @@ impl<'a> Machine<'a> {
             number: 0,
         };
         let scale = Scale::of(&font, ppem);
+        let mut targets = Targets::new(alloc, Code::new(font_program))?;
         let mut state = boxed_state(alloc, &font, scale)?;
         let mut prepared = boxed_tables(alloc, &state)?;
-        let prelude = run_and_take(&mut state, &programs, &mut prepared)?;
+        let prelude = run_and_take(&mut state, &programs, &mut targets, &mut prepared)?;
         Ok(Machine {
             font,
-            font_program,
+            targets,
             prep,
             prepared,
             prelude,
             state,
             ended_well: true,
         })
+    }
+
+    /// The machine of a font at a size, read from a block. It knows what the machine knew that wrote the block; no program runs.
+    ///
+    /// `None` if the words are not a block of this font and size, as far as words can tell: a block begins with its form, the size,
+    /// the checksum in `head` and the lengths of `fpgm` and `prep`, and then says how long its lists are. A block that was written
+    /// for this font and size is always taken.
+    pub fn of_block(
+        alloc: Global,
+        font: Font<'a>,
+        ppem: Ppem,
+        block: &[u32],
+    ) -> Result<Option<Machine<'a>>, AllocError>
+        ensures known { IfOk result (λ made. (known : Known) → known.face ≡ font.entry → known.ppem ≡ ppem
+            → IsBlockOf known block.now → option_map (λ m. m.known) made ≡ Some known) }
+        ensures own { IfOk result (λ made. (known : Known) → IsBlockOf known block.now → IsSome made → (known.ppem ≡ ppem)
+            × (checksum_of known.face ≡ checksum_of font.entry)) }
+        ensures font { IfOk result (λ made. IfSome made (λ m. m.known.face ≡ font.entry)) }
+        ensures size { IfOk result (λ made. IfSome made (λ m. m.known.ppem ≡ ppem)) }
+    {
+        let Some(words) = after_origin(&font, ppem, block) else {
+            return Ok(None);
+        };
+        let font_program = table_or_empty(&font, *b"fpgm");
+        let prep = table_or_empty(&font, *b"prep");
+        let scale = Scale::of(&font, ppem);
+        let targets = Targets::new(alloc, Code::new(font_program))?;
+        let state = boxed_state(alloc, &font, scale)?;
+        let mut prepared = boxed_tables(alloc, &state)?;
+        let Some(prelude) = prepared.read(words) else {
+            return Ok(None);
+        };
+        Ok(Some(Machine {
+            font,
+            targets,
+            prep,
+            prepared,
+            prelude,
+            state,
+            ended_well: true,
+        }))
+    }
+
+    /// The block of what the machine knows, from which `of_block` makes such a machine again. `None` if there is no such block: a
+    /// function begins at an address of 2^30 or more, or a list has 2^32 entries.
+    pub fn block(&self, alloc: Global) -> Result<Option<Vec<u32>>, AllocError>
+        ensures block { IfOk result (λ made. IfSome made (λ words. IsBlockOf self.now.known words.items)) }
+        ensures words { IfOk result (λ made. IfSome made (λ words. words.items ≡ known_words self.now.known)) }
+        ensures there { IfOk result (λ made. is_some made ≡ has_words self.now.known.prepared) }
+    {
+        if !self.prepared.has_words() {
+            return Ok(None);
+        }
+        let mut words = Vec::new(alloc);
+        push_origin(&mut words, &self.font, self.ppem())?;
+        self.prepared.push(&mut words, self.prelude)?;
+        Ok(Some(words))
     }
 
     /// The font.
@@ -232,18 +307,19 @@ impl<'a> Machine<'a> {
         ensures stack { self.new.final_stack ≡ stack_after (glyph_run self.old.known g code.entry zone.old) }
     {
         let programs = Programs {
-            font: Code::new(self.font_program),
+            font: Code::new(self.targets.bytes()),
             prep: Code::new(self.prep),
             glyph: code,
             number: g,
         };
         let Machine {
             prepared,
+            targets,
             state,
             ended_well,
             ..
         } = self;
-        let result = run_from(state, prepared, &programs, zone);
+        let result = run_from(state, prepared, &programs, targets, zone);
         *ended_well = result.is_ok();
         result
     }

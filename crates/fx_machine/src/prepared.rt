@@ -1,15 +1,26 @@
 //! The state that programs of glyphs begin with.
 
-ghost use Rattle.std.specs.Prelude.{◌≡◌, length, IfOk};
+ghost use Rattle.std.specs.Prelude.{◌≡◌, ◌≤◌, ◌*◌, ◌++◌, [], true, map, length, IsTrue, IfOk, OnOk, IfSome, IsSome};
+ghost use Rattle.fx_machine.specs.Words.{number_in, points_in, function_in, AreNumbers, ArePoints};
+ghost use Rattle.fx_machine.specs.Blocks.{IsRead, SaysAll, sizes_in, sizes_of, sizes_words, lists_words, state_words, has_words, IsNumbered};
 ghost use Rattle.fx_machine.specs.Known.{prepared_from};
-ghost use Rattle.fx_machine.specs.Prepared.{Fits, begun, started};
+ghost use Rattle.fx_machine.specs.Prepared.{Fits, begun, carried, started};
 
+use crate::block::{
+    HEAD, Parts, count_in, flags_in, parts_of, push_flags, push_start, push_usage, shift_in,
+    start_in, usage_in,
+};
 use crate::definitions::Definitions;
 use crate::state::{Flags, State};
+use crate::usage::Usage;
+use crate::words::{push_numbers, push_points, read_table, read_zone};
 use fx_gstate::GState;
 use fx_stackops::Table;
 use fx_zone::Zone;
 use std::alloc::{AllocError, Global};
+
+/// One more than the greatest word.
+const MOST: usize = 4_294_967_296;
 
 /// What `prep` left, which no program of a glyph changes.
 #[derive(Drop)]
@@ -42,6 +53,128 @@ impl Prepared {
         })
     }
 
+    /// Whether words say how long its lists are.
+    fn has_sizes(&self, words: &[u32]) -> bool
+        requires { 18 ≤ length words.now }
+        ensures right { IsTrue result → sizes_in words.now ≡ sizes_of self.now }
+        ensures found { sizes_in words.now ≡ sizes_of self.now → IsTrue result }
+    {
+        words[0] as usize == self.storage.len()
+            && words[1] as usize == self.cvt.len()
+            && words[2] as usize == self.twilight.len()
+            && words[3] as usize == self.definitions.count()
+            && words[4] as usize == self.definitions.opcode_count()
+    }
+
+    /// Whether words say something for lists of its sizes.
+    fn is_said(&self, words: &[u32]) -> bool
+        ensures right { IsTrue result → SaysAll (sizes_of self.now) words.now }
+        ensures found { SaysAll (sizes_of self.now) words.now → IsTrue result }
+    {
+        HEAD <= words.len()
+            && self.has_sizes(words)
+            && count_in(words) <= words.len()
+            && words[15] <= 6
+    }
+
+    /// Reads the lists of a block.
+    fn read_lists(&mut self, parts: &Parts<'_>)
+        requires storage { length parts.now.storage.now ≡ length self.old.storage }
+        requires cvt { length parts.now.cvt.now ≡ length self.old.cvt }
+        requires twilight { length parts.now.twilight.now ≡ 5 * length self.old.twilight.points }
+        requires functions { length parts.now.functions.now ≡ length self.old.definitions.functions }
+        requires opcodes { length parts.now.opcodes.now ≡ length self.old.definitions.opcodes }
+        ensures value { self.new ≡ record self.old {
+          storage = map number_in parts.now.storage.now;
+          cvt = map number_in parts.now.cvt.now;
+          twilight = record self.old.twilight { points = points_in (length self.old.twilight.points) parts.now.twilight.now };
+          definitions = record {
+            functions = map function_in parts.now.functions.now;
+            opcodes = map function_in parts.now.opcodes.now;
+          };
+        } }
+        ensures sizes { sizes_of self.new ≡ sizes_of self.old }
+    {
+        read_table(&mut self.storage, parts.storage);
+        read_table(&mut self.cvt, parts.cvt);
+        read_zone(&mut self.twilight, parts.twilight);
+        self.definitions.read(parts.functions, parts.opcodes);
+    }
+
+    /// Reads a block, and returns what `fpgm` and `prep` used up. `None`, with nothing changed, if the words say nothing for lists
+    /// of these sizes.
+    pub(crate) fn read(&mut self, words: &[u32]) -> Option<Usage>
+        requires { self.old.twilight.ends ≡ [] }
+        ensures read { IfSome result (IsRead self.old self.new words.now) }
+        ensures taken { SaysAll (sizes_of self.old) words.now → IsSome result }
+        ensures sizes { sizes_of self.new ≡ sizes_of self.old }
+        ensures ends { self.new.twilight.ends ≡ self.old.twilight.ends }
+        ensures carried { IfSome result (λ _. carried self.new.graphics ≡ self.new.graphics) }
+    {
+        if !self.is_said(words) {
+            return None;
+        }
+        let shift = shift_in(words)?;
+        let parts = parts_of(words);
+        self.read_lists(&parts);
+        self.graphics = start_in(words, shift);
+        self.flags = flags_in(words);
+        Some(usage_in(words))
+    }
+
+    /// Whether its lists' lengths and its functions have words.
+    pub(crate) fn has_words(&self) -> bool
+        ensures { result ≡ has_words self.now }
+    {
+        self.storage.len() < MOST
+            && self.cvt.len() < MOST
+            && self.twilight.len() < MOST
+            && self.definitions.count() < MOST
+            && self.definitions.opcode_count() < MOST
+            && self.definitions.are_near()
+    }
+
+    /// Adds the words of how long its lists are.
+    fn push_sizes(&self, words: &mut Vec<u32>) -> Result<(), AllocError>
+        requires { has_words self.now ≡ true }
+        ensures { OnOk result (words.new.items ≡ words.old.items ++ sizes_words (sizes_of self.now)) }
+    {
+        words.push(self.storage.len() as u32)?;
+        words.push(self.cvt.len() as u32)?;
+        words.push(self.twilight.len() as u32)?;
+        words.push(self.definitions.count() as u32)?;
+        words.push(self.definitions.opcode_count() as u32)?;
+        Ok(())
+    }
+
+    /// Adds the words of its lists.
+    fn push_lists(&self, words: &mut Vec<u32>) -> Result<(), AllocError>
+        requires { has_words self.now ≡ true }
+        ensures words { OnOk result (words.new.items ≡ words.old.items ++ lists_words self.now) }
+        ensures storage { OnOk result (AreNumbers self.now.storage) }
+        ensures cvt { OnOk result (AreNumbers self.now.cvt) }
+        ensures twilight { OnOk result (ArePoints self.now.twilight.points) }
+    {
+        push_numbers(words, self.storage.numbers())?;
+        push_numbers(words, self.cvt.numbers())?;
+        push_points(words, self.twilight.points())?;
+        self.definitions.push(words)
+    }
+
+    /// Adds its words, and those of what `fpgm` and `prep` used up.
+    pub(crate) fn push(&self, words: &mut Vec<u32>, usage: Usage) -> Result<(), AllocError>
+        requires { has_words self.now ≡ true }
+        ensures words { OnOk result (words.new.items ≡ words.old.items ++ state_words self.now usage) }
+        ensures numbered { OnOk result (IsNumbered self.now) }
+    {
+        self.push_sizes(words)?;
+        push_usage(words, usage)?;
+        push_start(words, &self.graphics)?;
+        push_flags(words, self.flags)?;
+        self.push_lists(words)?;
+        Ok(())
+    }
+
     /// Takes what programs have left of a state.
     pub fn take(&mut self, state: &State)
         requires { Fits self.old state.now }
@@ -50,7 +183,7 @@ impl Prepared {
         self.storage.copy_from(state.store.storage());
         self.cvt.copy_from(state.store.controls());
         self.twilight.copy_from(&state.zones.twilight);
-        self.graphics = state.graphics;
+        self.graphics = begun(state.flags, &state.graphics);
         self.definitions.copy_from(&state.definitions);
         self.flags = state.flags;
     }
@@ -93,7 +226,7 @@ impl State {
         self.store.restart(&prepared.storage, &prepared.cvt);
         self.zones.twilight.copy_from(&prepared.twilight);
         self.zones.strays = 0;
-        self.graphics = begun(prepared.flags, &prepared.graphics);
+        self.graphics = prepared.graphics;
         self.definitions.copy_from(&prepared.definitions);
         self.flags = prepared.flags;
         self.preparing = false;

@@ -14,7 +14,7 @@ use crate::program::{Program, Programs};
 use crate::state::State;
 use crate::step::advance;
 use arrayvec::ArrayVec;
-use fx_code::Code;
+use fx_code::{Code, Targets};
 
 /// The bytes of a program, which are those at hand if it was not left.
 fn code_then<'a, 'b>(
@@ -33,14 +33,17 @@ fn code_then<'a, 'b>(
 pub fn run(
     state: &mut State,
     programs: &Programs<'_>,
+    targets: &mut Targets<'_>,
     start: Program,
     limit: u32,
 ) -> Result<u32, Halt>
+    requires { targets.old ≡ programs.now.font }
     ensures value { sees result state.new
         ≡ answered (texts programs.now) programs.now.number start (answer_of (row_at (texts programs.now)) limit start state.old) }
     ensures few { IfOk result (λ steps. steps ≤ limit) }
     ensures shapes { HasShapes state.old.zones state.new.zones }
     ensures sizes { HasSizes state.old state.new }
+    ensures targets { targets.new ≡ targets.old }
 {
     let mut cursor = Cursor {
         program: start,
@@ -65,7 +68,7 @@ pub fn run(
         if ended {
             return Err(halted(programs, start, program, address, Cause::StrayEnd));
         }
-        let left = match advance(&mut cursor, &mut calls, state, code) {
+        let left = match advance(&mut cursor, &mut calls, state, code, targets) {
             Ok(left) => left,
             Err(cause) => return Err(halted(programs, start, program, address, cause)),
         };

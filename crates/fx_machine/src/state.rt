@@ -1,6 +1,6 @@
 //! The state of a machine.
 
-ghost use Rattle.std.specs.Prelude.{◌≡◌, IfOk};
+ghost use Rattle.std.specs.Prelude.{◌≡◌, ◌<◌, ◌^◌, length, IfOk};
 ghost use Rattle.fx_sfnt.specs.Tables.{table_or_empty};
 ghost use Rattle.fx_machine.specs.Prepared.{strays_of};
 ghost use Rattle.fx_machine.specs.Known.{controls_of, first_store, twilight_of, nothing_defined, first_state, second_state};
@@ -46,7 +46,8 @@ pub struct State {
 
 /// A table of a font's programs, which may be absent.
 pub(crate) fn table_or_empty<'a>(font: &Font<'a>, tag: [u8; 4]) -> &'a [u8]
-    ensures { result.now ≡ table_or_empty font.now tag }
+    ensures table { result.now ≡ table_or_empty font.now tag }
+    ensures short { length result.now < 2 ^ 32 }
 {
     font.table(tag).unwrap_or(&[])
 }

@@ -13,24 +13,34 @@ use crate::frames::{Calls, Cursor};
 use crate::halt::Cause;
 use crate::program::Program;
 use crate::state::State;
-use fx_code::Code;
+use fx_code::{Code, Targets};
 
 /// Executes the instruction at an address of a program with these bytes; if that faults, the points are as they were.
 fn execute(
     state: &mut State,
     code: &Code<'_>,
+    targets: &mut Targets<'_>,
     program: Program,
     address: usize,
 ) -> Result<Action, Cause>
-    requires { address ≢ length code.now }
+    requires inside { address ≢ length code.now }
+    requires targets { program ≡ Program.Font → targets.old ≡ code.now }
     ensures value { settled (acts result state.new) ≡ row_in code.now program address state.old }
     ensures kept { OnErr result (state.new.zones ≡ state.old.zones) }
     ensures sizes { HasSizes state.old state.new }
+    ensures targets { targets.new ≡ targets.old }
 {
     if address >= code.len() {
         return Err(Cause::CodeEnd);
     }
-    state.row(code, code.opcode(address), program, address, address + 1)
+    state.row(
+        code,
+        targets,
+        code.opcode(address),
+        program,
+        address,
+        address + 1,
+    )
 }
 
 /// Executes the instruction at the cursor, and says whether the program may have changed.
@@ -39,8 +49,10 @@ pub fn advance(
     calls: &mut Calls,
     state: &mut State,
     code: &Code<'_>,
+    targets: &mut Targets<'_>,
 ) -> Result<bool, Cause>
-    requires { cursor.old.address ≢ length code.now }
+    requires inside { cursor.old.address ≢ length code.now }
+    requires targets { cursor.old.program ≡ Program.Font → targets.old ≡ code.now }
     ensures moved { MatchResult result
         (λ _. moved_by (row_in code.now cursor.old.program cursor.old.address state.old) (calls_of calls.old) cursor.old.program
         ≡ Moves (config_of cursor.new calls.new state.new))
@@ -49,7 +61,8 @@ pub fn advance(
     ensures stays { IfOk result (λ left. left ≡ false → cursor.new.program ≡ cursor.old.program) }
     ensures shapes { HasShapes state.old.zones state.new.zones }
     ensures sizes { HasSizes state.old state.new }
+    ensures targets { targets.new ≡ targets.old }
 {
-    let action = execute(state, code, cursor.program, cursor.address)?;
+    let action = execute(state, code, targets, cursor.program, cursor.address)?;
     cursor.follow(calls, action)
 }

@@ -10,7 +10,7 @@ ghost use Rattle.fx_raster.specs.inner.Framing.{HasBitsOf, IsBridgedScanOf, IsFr
 
 use crate::rule::Rule;
 use fx_dropout::close_gaps;
-use fx_winding::{Bitmap, Frame, Noted, Pieces, Scan, ScanFault, Tally};
+use fx_winding::{Bitmap, Frame, Noted, Pieces, Scan, ScanFault, Scratch, Tally};
 use std::alloc::{AllocError, Global};
 
 /// A bitmap without a pixel.
@@ -35,11 +35,12 @@ fn scanned<S: Scan>(
     scan: &S,
     pieces: &Pieces,
     frame: Frame,
+    scratch: &mut Scratch,
 ) -> Result<Bitmap, AllocError>
     ensures { IfOk result (IsScanOf frame (map span_of pieces.now)) }
 {
     let mut tally = Tally::new();
-    match scan.scan(alloc, pieces, frame, &mut tally) {
+    match scan.scan_with(alloc, pieces, frame, scratch, &mut tally) {
         Ok(bitmap) => Ok(bitmap),
         Err(ScanFault::OutOfMemory) => Err(AllocError),
     }
@@ -67,12 +68,13 @@ fn bridged<S: Scan>(
     scan: &S,
     pieces: &Pieces,
     frame: Frame,
+    scratch: &mut Scratch,
 ) -> Result<Bitmap, AllocError>
     requires { HasMargin frame }
     ensures { IfOk result (IsBridgedScanOf frame (map span_of pieces.now)) }
 {
     let mut tally = Tally::new();
-    match scan.scan_noted(alloc, pieces, frame, &mut tally) {
+    match scan.scan_noted(alloc, pieces, frame, scratch, &mut tally) {
         Ok(noted) => Ok(closed(pieces, noted, &mut tally)),
         Err(ScanFault::OutOfMemory) => Err(AllocError),
     }
@@ -85,6 +87,7 @@ pub(crate) fn bitmap_of<S: Scan>(
     pieces: &Pieces,
     rule: Rule,
     frame: Option<Frame>,
+    scratch: &mut Scratch,
 ) -> Result<Bitmap, AllocError>
     requires closed { AreOfOutline (map span_of pieces.now) }
     requires outside { NothingOutsideFrame frame (map span_of pieces.now) }
@@ -95,7 +98,7 @@ pub(crate) fn bitmap_of<S: Scan>(
         return empty_bitmap(alloc);
     };
     match rule {
-        Rule::Centres => scanned(alloc, scan, pieces, frame),
-        Rule::Bridged => bridged(alloc, scan, pieces, frame),
+        Rule::Centres => scanned(alloc, scan, pieces, frame, scratch),
+        Rule::Bridged => bridged(alloc, scan, pieces, frame, scratch),
     }
 }

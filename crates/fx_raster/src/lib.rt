@@ -15,7 +15,7 @@ mod within;
 
 pub use fx_contour::ContourFault as RasterFault;
 pub use fx_rows::Rows;
-pub use fx_winding::{Bitmap, Scan};
+pub use fx_winding::{Bitmap, Scan, Scratch};
 pub use region::Region;
 pub use rule::Rule;
 pub use shape::Shape;

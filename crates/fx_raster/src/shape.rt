@@ -14,7 +14,7 @@ use crate::rule::Rule;
 use crate::within::lies_in;
 use fx_contour::{dropout_frame, outline_frame, pieces_in_reach};
 use fx_outline::Outline;
-use fx_winding::{Bitmap, Frame, Scan};
+use fx_winding::{Bitmap, Frame, Scan, Scratch};
 use std::alloc::{AllocError, Global};
 use std::marker::Model;
 
@@ -76,12 +76,18 @@ impl Shape {
         lies_in(self.frame, region)
     }
 
-    /// The bits of all pixels, by a scan of the caller's choice: a bit is set exactly if the rule sets the pixel.
-    pub fn bitmap<S: Scan>(&self, alloc: Global, scan: &S) -> Result<Bitmap, AllocError>
+    /// The bits of all pixels, by a scan of the caller's choice: a bit is set exactly if the rule sets the pixel. The scan can work
+    /// in the scratch, which the caller keeps for the next shape.
+    pub fn bitmap<S: Scan>(
+        &self,
+        alloc: Global,
+        scan: &S,
+        scratch: &mut Scratch,
+    ) -> Result<Bitmap, AllocError>
         ensures { IfOk result (λ b.
             (col row : ℤ) → IsTrue (bit_of b col row) ↔ IsPixelSet self.now.rule self.now.spans col row) }
     {
         let pieces = pieces_in_reach(alloc, &self.outline)?;
-        bitmap_of(alloc, scan, &pieces, self.rule, self.frame)
+        bitmap_of(alloc, scan, &pieces, self.rule, self.frame, scratch)
     }
 }

@@ -9,12 +9,13 @@ use Rattle.fx_machine.specs.declared.halt.MachineFault.{MachineFault}
 use Rattle.fx_machine.specs.declared.halt.MachineFault.TheVariants as machine
 use Rattle.fx_request.specs.declared.refusal.Refusal.{Refusal}
 use Rattle.fx_request.specs.declared.refusal.Refusal.TheVariants.{NotTrueType, TableMissing, TableShort, BadHead, BadMaxp}
-use Rattle.fx_request.specs.declared.refusal.Refusal.TheVariants.{BadLoca, BadGlyphNumber, NoCharMap, BadCharMap}
+use Rattle.fx_request.specs.declared.refusal.Refusal.TheVariants.{NoFace, BadLoca, BadGlyphNumber, NoCharMap, BadCharMap}
 use Rattle.fx_request.specs.declared.refusal.Refusal.TheVariants.{GlyphShort, BadContours, Halted, OutOfMemory}
 
 -- a font's fault
 abbrev pub of_font : FontFault → Refusal
 of_font font.NotTrueType = NotTrueType
+of_font font.NoFace = NoFace
 of_font (font.TableMissing tag) = TableMissing tag
 of_font (font.TableShort tag) = TableShort tag
 of_font font.BadHead = BadHead

@@ -2,3 +2,4 @@ pub mod Limits
 pub mod Refusals
 pub mod Faults
 pub mod Characters
+pub mod Notices

@@ -27,6 +27,7 @@ entry_of (refusal.TooManyComponents g) = (21, codes "TooManyComponents", Glyph g
 entry_of (refusal.TooManyPoints g) = (22, codes "TooManyPoints", Glyph g)
 entry_of (refusal.BadPointMatch g) = (23, codes "BadPointMatch", Glyph g)
 entry_of (refusal.BadGlyphNumber g) = (24, codes "BadGlyphNumber", Glyph g)
+entry_of refusal.NoFace = (25, codes "NoFace", Nowhere)
 entry_of (refusal.Halted halt) = (causes.number_of halt.cause, causes.name_of halt.cause, Halt halt)
 entry_of (refusal.TooFar g) = (51, codes "TooFar", Glyph g)
 entry_of (refusal.GlyphTooLarge g) = (52, codes "GlyphTooLarge", Glyph g)
@@ -57,9 +58,9 @@ each_refusal =
     refusal.NotTrueType ∷ refusal.TableMissing (codes "glyf") ∷ refusal.TableShort (codes "glyf") ∷ refusal.BadHead ∷
     refusal.BadMaxp ∷ refusal.NoCharMap ∷ refusal.BadCharMap ∷ refusal.BadLoca 0 ∷ refusal.GlyphShort 0 ∷
     refusal.BadContours 0 ∷ refusal.ComponentDepth 0 ∷ refusal.TooManyComponents 0 ∷ refusal.TooManyPoints 0 ∷
-    refusal.BadPointMatch 0 ∷ refusal.BadGlyphNumber 0 ∷ refusal.TooFar 0 ∷ refusal.GlyphTooLarge 0 ∷ refusal.BadSize ∷
-    refusal.BadChars ∷ refusal.BadName ∷ refusal.BadProperty 1 ∷ refusal.WriteFailed 0 ∷ refusal.ReadFailed ∷
-    refusal.BadHex ∷ refusal.InputTooLarge ∷ refusal.OutOfMemory ∷ []
+    refusal.BadPointMatch 0 ∷ refusal.BadGlyphNumber 0 ∷ refusal.NoFace ∷ refusal.TooFar 0 ∷ refusal.GlyphTooLarge 0 ∷
+    refusal.BadSize ∷ refusal.BadChars ∷ refusal.BadName ∷ refusal.BadProperty 1 ∷ refusal.WriteFailed 0 ∷
+    refusal.ReadFailed ∷ refusal.BadHex ∷ refusal.InputTooLarge ∷ refusal.OutOfMemory ∷ []
 
 -- each cause of a halt
 abbrev pub each_cause : List Cause

@@ -33,6 +33,7 @@ impl From<FontFault> for Refusal {
     fn from(fault: FontFault) -> Refusal {
         match fault {
             FontFault::NotTrueType => Refusal::NotTrueType,
+            FontFault::NoFace => Refusal::NoFace,
             FontFault::TableMissing(tag) => Refusal::TableMissing(tag),
             FontFault::TableShort(tag) => Refusal::TableShort(tag),
             FontFault::BadHead => Refusal::BadHead,

@@ -1,7 +1,8 @@
 //! What a caller asks for and what it is told: requests for strikes and their limits, reports, and refusals.
 //!
 //! A refusal has a number that never changes, a name and a place: `Refusal::entry` is their table. The faults of the crates below
-//! become refusals here. The code points of a request are made in rising order, each once, by `rising_codes`.
+//! become refusals here. The code points of a request are made in rising order, each once, by `rising_codes`. A `Listener` is told
+//! of the characters that were refused, if the strike is made in spite of them.
 #![tactic(auto)]
 
 mod characters;
@@ -9,6 +10,7 @@ mod faults;
 pub mod laws;
 mod limits;
 mod names;
+mod notice;
 mod place;
 mod refusal;
 mod request;
@@ -16,6 +18,7 @@ mod request;
 pub use characters::rising_codes;
 pub use limits::{MAX_CHARACTERS, MAX_CODE};
 pub use names::named;
+pub use notice::{Deaf, Listener, Notice};
 pub use place::Place;
 pub use refusal::Refusal;
-pub use request::{Mode, Report, Request};
+pub use request::{Mode, OnRefused, Report, Request};

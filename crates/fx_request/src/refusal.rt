@@ -10,7 +10,7 @@ use thiserror::Error;
 /// Why there is no strike, or why it was not written completely. A `u16` is the number of a glyph.
 #[derive(Clone, Copy, PartialEq, Eq, Error)]
 pub enum Refusal {
-    /// The file is not a TrueType font, or its table directory is cut.
+    /// The file is not a TrueType font, or its table directory or its header as a collection is cut.
     NotTrueType,
     /// The font lacks a table.
     TableMissing([u8; 4]),
@@ -40,6 +40,8 @@ pub enum Refusal {
     BadPointMatch(u16),
     /// The font has no glyph of this number.
     BadGlyphNumber(u16),
+    /// The file has no face of the number that is asked for.
+    NoFace,
     /// A program of the font halted.
     Halted(Halt),
     /// A point of an outline lies past 2^21 in 26.6 pixels.
@@ -90,6 +92,7 @@ impl Refusal {
             Refusal::TooManyPoints(g) => (22, "TooManyPoints", Place::Glyph(g)),
             Refusal::BadPointMatch(g) => (23, "BadPointMatch", Place::Glyph(g)),
             Refusal::BadGlyphNumber(g) => (24, "BadGlyphNumber", Place::Glyph(g)),
+            Refusal::NoFace => (25, "NoFace", Place::Nowhere),
             Refusal::Halted(halt) => (halt.cause.number(), halt.cause.name(), Place::Halt(halt)),
             Refusal::TooFar(g) => (51, "TooFar", Place::Glyph(g)),
             Refusal::GlyphTooLarge(g) => (52, "GlyphTooLarge", Place::Glyph(g)),
@@ -128,7 +131,7 @@ impl Refusal {
 }
 
 /// One of each refusal but the halts.
-pub const EACH_REFUSAL: [Refusal; 26] = [
+pub const EACH_REFUSAL: [Refusal; 27] = [
     Refusal::NotTrueType,
     Refusal::TableMissing(*b"glyf"),
     Refusal::TableShort(*b"glyf"),
@@ -144,6 +147,7 @@ pub const EACH_REFUSAL: [Refusal; 26] = [
     Refusal::TooManyPoints(0),
     Refusal::BadPointMatch(0),
     Refusal::BadGlyphNumber(0),
+    Refusal::NoFace,
     Refusal::TooFar(0),
     Refusal::GlyphTooLarge(0),
     Refusal::BadSize,

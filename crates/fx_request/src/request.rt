@@ -13,6 +13,18 @@ pub struct Mode {
     pub dropout: bool,
 }
 
+/// What becomes of a character that is refused: one whose outline can't be made, lies too far out or is too large, or whose program
+/// halts.
+#[derive(Clone, Copy, Debug, PartialEq, Eq)]
+pub enum OnRefused {
+    /// The first such character refuses the strike.
+    Stop,
+    /// It is left out of the strike.
+    LeaveOut,
+    /// If its program halts it is drawn without hinting. If it is refused even so, or for another cause, it is left out.
+    Unhinted,
+}
+
 /// A request for a strike.
 #[derive(Clone, Copy, Debug)]
 pub struct Request<'a> {
@@ -25,12 +37,14 @@ pub struct Request<'a> {
     pub chars: &'a [u32],
     /// How outlines become pixels.
     pub mode: Mode,
+    /// What becomes of a character that is refused.
+    pub on_refused: OnRefused,
 }
 
 /// What was counted over a strike.
 #[derive(Clone, Copy, Debug, PartialEq, Eq)]
 pub struct Report {
-    /// The number of glyphs written: one for each requested character that the font has.
+    /// The number of glyphs written: one for each requested character that the font has, but for those left out.
     pub glyphs: u32,
     /// The number of requested characters that the font does not have.
     pub missing: u32,

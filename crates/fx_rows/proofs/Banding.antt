@@ -1,7 +1,7 @@
 -- What pieces add to a band, row by row.
 -- Serves the rows of a piece, and the pieces of a band.
 use Rattle.std.proofs.Common.{◌≡◌, ◌⊎◌, inl, inr, refl, sym, ap, ◌∙◌, subst, ℕ, zero, suc, ◌+◌, ◌-◌, ◌*◌, ◌/◌, ◌<◌, ◌≤◌, ℤ}
-use Rattle.std.proofs.Common.{pos, ◌+ℤ◌, Bool, false, arith, IsTrue, List}
+use Rattle.std.proofs.Common.{pos, ◌+ℤ◌, Bool, false, arith, IsTrue, List, length, get_or}
 use Rattle.std.proofs.Math.Nat.{mul-le-mul_right, mul-le-mul_left}
 use Rattle.fx_fixed.proofs.Order.{below_or_not}
 use Rattle.fx_fixed.proofs.Linear.{signed_linear}
@@ -11,11 +11,12 @@ use Rattle.fx_winding.specs.Winding.{Span, centre}
 use Rattle.fx_winding.specs.declared.frame.Frame.{Frame}
 use Rattle.fx_rows.specs.declared.band.Band.{Band}
 use Rattle.fx_rows.specs.inner.Heights.{height_of, IsMissed}
-use Rattle.fx_rows.specs.inner.Sums.{AreWithin}
+use Rattle.fx_rows.specs.inner.Sums.{AreWithin, before}
+use Rattle.fx_rows.proofs.Sums.{before_more}
 use Rattle.fx_rows.specs.inner.Cuts.{IsAdded}
 use Rattle.fx_rows.proofs.Counted.{Added}
 use Rattle.fx_rows.proofs.Parts.{missed}
-use Rattle.fx_rows.specs.inner.Bands.{stride, turns_at, mark_at, IsKept, IsRowAdded, IsBandAdded}
+use Rattle.fx_rows.specs.inner.Bands.{stride, turns_at, mark_at, IsKept, IsRowAdded, IsBandAdded, IsCounted}
 
 -- ---- numbers of different rows
 next_row : (r s : ℕ) → (r + 1) * s ≡ r * s + s
@@ -219,6 +220,36 @@ number_in up high w k n h l e = by (words_for w) l e
         let rows = row_before up high q h in
         let at : up * (32 * q) ≡ 32 * (up * q) = grind arith in
         omega (arith, rows, at, t, m)
+
+-- the numbers from the last row on are those of no pixel
+past_rows : (w high n : ℕ) → high * stride w ≤ n → (t : ℕ) → 0 ≤ t → t < high → (n < t * stride w) ⊎ (t * stride w + w ≤ n)
+past_rows w high n h t z a = let e = row_before t high (stride w) a in let x = wide w in inr (omega (arith, e, x))
+
+past_room : (high w n k : ℕ) → n ≡ high * words_for w + 1 → 32 * n ≤ k + 1 → high * stride w ≤ k
+past_room high w n k e h = by (words_for w) e
+  where
+    by : (q : ℕ) → n ≡ high * q + 1 → high * (32 * q) ≤ k
+    by q t = let at : high * (32 * q) ≡ 32 * (high * q) = grind arith in omega (arith, at, t)
+
+last_added : (xs : List ℤ) (k : ℕ) → before (k + 1) xs ≡ pos 0 → before (k + 2) xs ≡ pos 0 → get_or xs (k + 1) (pos 0) ≡ pos 0
+last_added xs k h l =
+    let e : k + 2 ≡ suc (k + 1) = omega arith in
+    let m = before_more (k + 1) xs in
+    let n = ap (λ (j : ℕ). before j xs) e in
+    omega (arith, signed_linear, h, l, m, n)
+
+-- after the room of its marks a counted band has no difference
+pub past_marks : (ss : List Span) (f : Frame) (b : Band) (k : ℕ) → length b.marks.items ≡ f.height * words_for f.width + 1
+    → IsCounted ss f b → 32 * length b.marks.items ≤ k → get_or b.diff.items k (pos 0) ≡ pos 0
+past_marks ss f b zero e c h = absurd (omega (arith, e))
+past_marks ss f b (suc k) e c h =
+    let one = c.rest k (past_rows f.width f.height k (past_room f.height f.width (length b.marks.items) k e (omega arith))) in
+    let two = c.rest (k + 1)
+    (past_rows f.width f.height (k + 1) (past_room f.height f.width (length b.marks.items) (k + 1) e (omega arith))) in
+    let s : suc k ≡ k + 1 = omega arith in
+    let t : k + 1 + 1 ≡ k + 2 = omega arith in
+    ap (λ (n : ℕ). get_or b.diff.items n (pos 0)) s
+    ∙ last_added b.diff.items k one (sym (ap (λ (n : ℕ). before n b.diff.items) t) ∙ two)
 
 -- ---- counts of tests
 pub tests_more : (p c u v : ℕ) → u ≤ v → p * (c * u) + p * (c * (v - u)) ≡ p * (c * v)

@@ -4,13 +4,12 @@ use Rattle.std.proofs.Common.{◌≡◌, ◌≢◌, ◌⊎◌, inl, inr, refl, s
 use Rattle.std.proofs.Common.{List, length, get_or, set, arith, ◌/◌, ◌%◌, max, bit_or, Bool, true, false, cond}
 use Rattle.std.specs.Int.{bit_at}
 use Rattle.std.specs.Ordering.{int_eq}
-use Rattle.std.proofs.lemmas.List.{get_or-set_other}
+use Rattle.std.proofs.lemmas.List.{get_or-set_other, get_or-set_same}
 use Rattle.std.proofs.lemmas.Nat.Bits.{bit_at-zero, bit_at-lt, bit_at_or}
-use Rattle.fx_fixed.proofs.Order.{below_or_not}
+use Rattle.fx_fixed.proofs.Order.{below_or_not, below_same_above}
 use Rattle.fx_fixed.proofs.Linear.{signed_linear}
 use Rattle.fx_winding.specs.Bitmaps.{word_bit}
-use Rattle.fx_rows.specs.inner.Sums.{before, sum_of, AreTouched, count_bit}
-use Rattle.fx_rows.proofs.Signs.{equal_or_not}
+use Rattle.fx_rows.specs.inner.Sums.{before, sum_of, count_bit}
 use Rattle.fx_rows.proofs.Masks.{word_more}
 use Rattle.fx_rows.proofs.Sums.{before_more}
 
@@ -121,17 +120,17 @@ pub settling_more : (diff : List ℤ) (from : ℕ) (start count count' : ℤ) (b
     → ((i : ℕ) → i < k → bit_at left (31 - i) ≡ 0) → count' ≡ count +ℤ get_or diff (from + k) (pos 0)
     → ((i : ℕ) → i < k → bit_at bits' (31 - i) ≡ bit_at bits (31 - i))
     → ((i : ℕ) → k ≤ i → i < 32 → bit_at bits' (31 - i) ≡ count_bit count' 0)
-    → bit_at left' (31 - k) ≡ 0 → ((i : ℕ) → i < 32 → i ≢ k → bit_at left' (31 - i) ≡ bit_at left (31 - i))
-    → IsSettling diff from start count' bits' left'
-settling_more diff from start count count' bits bits' left left' k (p, s) l bit b c low high here others = (
+    → ((i : ℕ) → i ≤ k → bit_at left' (31 - i) ≡ 0)
+    → ((i : ℕ) → k < i → i < 32 → bit_at left' (31 - i) ≡ bit_at left (31 - i)) → IsSettling diff from start count' bits' left'
+settling_more diff from start count count' bits bits' left left' k (p, s) l bit b c low high gone others = (
   k + 1,
   record {
     few = omega arith;
     sum = whole;
     done = λ i h. by_done i h (below_or_not i k) (below_or_not i p);
     rest = λ i h m. high i (omega arith) m;
-    visited = λ i h. by_visited i h (equal_or_not i k);
-    none = λ i h m z. let ne : i ≢ k = omega arith in s.none i (omega (arith, after)) m (sym (others i m ne) ∙ z);
+    visited = λ i h. gone i (omega arith);
+    none = λ i h m z. s.none i (omega (arith, after)) m (sym (others i (omega arith) m) ∙ z);
   },
 )
   where
@@ -154,9 +153,61 @@ settling_more diff from start count count' bits bits' left left' k (p, s) l bit 
         high i x (omega arith) ∙ ap (λ (z : ℤ). count_bit z 0) whole
         ∙ ap (λ (j : ℕ). count_bit (start +ℤ sum_of diff from (j + 1)) 0) e
 
-    by_visited : (i : ℕ) → i < k + 1 → (i ≡ k) ⊎ (i ≢ k) → bit_at left' (31 - i) ≡ 0
-    by_visited i h (inl e) = ap (λ (j : ℕ). bit_at left' (31 - j)) e ∙ here
-    by_visited i h (inr n) = others i (omega arith) n ∙ b i (omega arith)
+-- the differences of a word whose columns are left have stayed, and the others are 0
+pub record Emptying (old new : List ℤ) (from left : ℕ) : Type 0 where
+  pub due : (i : ℕ) → i < 32 → bit_at left (31 - i) ≡ 1 → get_or new (from + i) (pos 0) ≡ get_or old (from + i) (pos 0)
+  pub done : (i : ℕ) → i < 32 → bit_at left (31 - i) ≡ 0 → get_or new (from + i) (pos 0) ≡ pos 0
+  pub others : (k : ℕ) → (k < from) ⊎ (from + 32 ≤ k) → get_or new k (pos 0) ≡ get_or old k (pos 0)
+
+pub emptying_first : (old new : List ℤ) (from touched left : ℕ) → get_or new from (pos 0) ≡ pos 0
+    → ((k : ℕ) → k ≢ from → get_or new k (pos 0) ≡ get_or old k (pos 0))
+    → ((i : ℕ) → 0 < i → i < 32 → bit_at touched (31 - i) ≡ 0 → get_or old (from + i) (pos 0) ≡ pos 0)
+    → ((i : ℕ) → i ≤ 0 → bit_at left (31 - i) ≡ 0)
+    → ((i : ℕ) → 0 < i → i < 32 → bit_at left (31 - i) ≡ bit_at touched (31 - i)) → Emptying old new from left
+emptying_first old new from touched left here same none gone rest = record {
+  due = λ i h b. by_due i h b (below_or_not 0 i);
+  done = λ i h b. by_done i h b (below_or_not 0 i);
+  others = λ k h. let ne : k ≢ from = omega (arith, h) in same k ne;
+}
+  where
+    by_due : (i : ℕ) → i < 32 → bit_at left (31 - i) ≡ 1 → (0 < i) ⊎ (i ≤ 0)
+        → get_or new (from + i) (pos 0) ≡ get_or old (from + i) (pos 0)
+    by_due i h b (inl l) = let ne : from + i ≢ from = omega arith in same (from + i) ne
+    by_due i h b (inr l) = let z = gone i l in absurd (omega (arith, z, b))
+
+    by_done : (i : ℕ) → i < 32 → bit_at left (31 - i) ≡ 0 → (0 < i) ⊎ (i ≤ 0) → get_or new (from + i) (pos 0) ≡ pos 0
+    by_done i h b (inl l) =
+        let ne : from + i ≢ from = omega arith in same (from + i) ne ∙ none i l h (sym (rest i l h) ∙ b)
+    by_done i h b (inr l) =
+        let e : from + i ≡ from = omega arith in ap (λ (k : ℕ). get_or new k (pos 0)) e ∙ here
+
+pub emptying_more : (old new new' : List ℤ) (from left left' c : ℕ) → Emptying old new from left
+    → get_or new' (from + c) (pos 0) ≡ pos 0 → c < 32
+    → ((k : ℕ) → k ≢ from + c → get_or new' k (pos 0) ≡ get_or new k (pos 0))
+    → ((i : ℕ) → i < c → bit_at left (31 - i) ≡ 0) → ((i : ℕ) → i ≤ c → bit_at left' (31 - i) ≡ 0)
+    → ((i : ℕ) → c < i → i < 32 → bit_at left' (31 - i) ≡ bit_at left (31 - i)) → Emptying old new' from left'
+emptying_more old new new' from left left' c s here few same before gone rest = record {
+  due = λ i h b. by_due i h b (below_same_above i c);
+  done = λ i h b. by_done i h b (below_same_above i c);
+  others = λ k h. let ne : k ≢ from + c = omega (arith, h) in same k ne ∙ s.others k h;
+}
+  where
+    by_due : (i : ℕ) → i < 32 → bit_at left' (31 - i) ≡ 1 → (i < c) ⊎ ((i ≡ c) ⊎ (c < i))
+        → get_or new' (from + i) (pos 0) ≡ get_or old (from + i) (pos 0)
+    by_due i h b (inl l) = let z = gone i (omega arith) in absurd (omega (arith, z, b))
+    by_due i h b (inr (inl e)) = let z = gone i (omega arith) in absurd (omega (arith, z, b))
+    by_due i h b (inr (inr l)) =
+        let ne : from + i ≢ from + c = omega arith in same (from + i) ne ∙ s.due i h (sym (rest i l h) ∙ b)
+
+    by_done : (i : ℕ) → i < 32 → bit_at left' (31 - i) ≡ 0 → (i < c) ⊎ ((i ≡ c) ⊎ (c < i)) → get_or new' (from + i) (pos 0) ≡ pos 0
+    by_done i h b (inl l) = let ne : from + i ≢ from + c = omega arith in same (from + i) ne ∙ s.done i h (before i l)
+    by_done i h b (inr (inl e)) = ap (λ (k : ℕ). get_or new' (from + k) (pos 0)) e ∙ here
+    by_done i h b (inr (inr l)) =
+        let ne : from + i ≢ from + c = omega arith in same (from + i) ne ∙ s.done i h (sym (rest i l h) ∙ b)
+
+pub emptied : (old new : List ℤ) (from left : ℕ) → left ≡ 0 → Emptying old new from left → (i : ℕ) → i < 32
+    → get_or new (from + i) (pos 0) ≡ pos 0
+emptied old new from left zeros s i h = s.done i h (ap (λ n. bit_at n (31 - i)) zeros ∙ bit_at-zero (31 - i))
 
 -- ---- a settled word
 pub record Settled (diff : List ℤ) (from : ℕ) (start count : ℤ) (bits : ℕ) : Type 0 where
@@ -189,16 +240,6 @@ pub record SettledTo (diff : List ℤ) (line lining : List ℕ) (count : ℤ) (w
   pub sum : count ≡ before (32 * w) diff
   pub bits : (k : ℕ) → k < 32 * w → word_bit lining k ≡ count_bit (before (k + 1) diff) (word_bit line k)
   pub rest : (v : ℕ) → w ≤ v → get_or lining v 0 ≡ get_or line v 0
-
--- the columns of a word that are not touched
-pub word_touched : (diff : List ℤ) (touched : List ℕ) (w : ℕ) → AreTouched diff touched → (i : ℕ) → 0 < i → i < 32
-    → bit_at (get_or touched w 0) (31 - i) ≡ 0 → get_or diff (32 * w + i) (pos 0) ≡ pos 0
-word_touched diff touched w t i o h z =
-    let word : (32 * w + i) / 32 ≡ w = omega arith in
-    let place : (32 * w + i) % 32 ≡ i = omega arith in
-    let bit : word_bit touched (32 * w + i) ≡ bit_at (get_or touched w 0) (31 - i) =
-    (λ j. bit_at (get_or touched (word j) 0) (31 - place j)) in
-    t (32 * w + i) (omega arith) (bit ∙ z)
 
 -- a sum in the next word
 pub word_sum : (diff : List ℤ) (line lining : List ℕ) (count : ℤ) (w n : ℕ) → SettledTo diff line lining count w
@@ -247,3 +288,46 @@ settled_more diff line lining count count' w word s long bits c = record {
         bit_at_or (get_or lining w 0) word (31 - i)
         ∙ ap (λ n. max n (bit_at word (31 - i))) old
         ∙ max_with_count_bit z b (bit_at word (31 - i)) (bit_at-lt (get_or line ((32 * w + i) / 32) 0) (31 - (32 * w + i) % 32)) new
+
+-- ---- the differences of the words before w are 0
+pub record EmptiedTo (old new : List ℤ) (w : ℕ) : Type 0 where
+  pub done : (k : ℕ) → k < 32 * w → get_or new k (pos 0) ≡ pos 0
+  pub rest : (k : ℕ) → 32 * w ≤ k → get_or new k (pos 0) ≡ get_or old k (pos 0)
+
+pub emptied_more : (old new new' : List ℤ) (w : ℕ) → EmptiedTo old new w
+    → ((i : ℕ) → i < 32 → get_or new' (32 * w + i) (pos 0) ≡ pos 0)
+    → ((k : ℕ) → (k < 32 * w) ⊎ (32 * w + 32 ≤ k) → get_or new' k (pos 0) ≡ get_or new k (pos 0)) → EmptiedTo old new' (w + 1)
+emptied_more old new new' w s zeros same = record {
+  done = λ k h. by k h (below_or_not k (32 * w));
+  rest = λ k h. same k (inr (omega arith)) ∙ s.rest k (omega arith);
+}
+  where
+    by : (k : ℕ) → k < 32 * (w + 1) → (k < 32 * w) ⊎ (32 * w ≤ k) → get_or new' k (pos 0) ≡ pos 0
+    by k h (inl l) = same k (inl l) ∙ s.done k l
+    by k h (inr l) =
+        let e : k ≡ 32 * w + (k - 32 * w) = omega arith in
+        ap (λ (n : ℕ). get_or new' n (pos 0)) e ∙ zeros (k - 32 * w) (omega arith)
+
+-- sums from a place on do not see what came before it
+pub sum_same : (old new : List ℤ) (from n : ℕ) → ((k : ℕ) → from ≤ k → get_or new k (pos 0) ≡ get_or old k (pos 0))
+    → sum_of new from n ≡ sum_of old from n
+unfolding sum_of
+sum_same old new from zero h = refl
+sum_same old new from (suc n) h =
+    let e = sum_same old new from n h in
+    let k = h (from + n) (omega arith) in
+    (λ i. e i +ℤ k i)
+
+-- the words of bits before w are 0
+pub untouched_more : (touched : List ℕ) (w : ℕ) → w < length touched → ((v : ℕ) → v < w → get_or touched v 0 ≡ 0) → (v : ℕ)
+    → v < w + 1 → get_or (set touched w 0) v 0 ≡ 0
+untouched_more touched w long s v h = by (below_or_not v w)
+  where
+    by : (v < w) ⊎ (w ≤ v) → get_or (set touched w 0) v 0 ≡ 0
+    by (inl l) = let ne : v ≢ w = omega arith in get_or-set_other touched w v 0 0 ne ∙ s v l
+    by (inr l) =
+        let e : v ≡ w = omega arith in ap (λ (n : ℕ). get_or (set touched w 0) n 0) e ∙ get_or-set_same touched w 0 0 long
+
+pub touched_more : (old touched : List ℕ) (w : ℕ) → ((v : ℕ) → w ≤ v → get_or touched v 0 ≡ get_or old v 0) → (v : ℕ)
+    → w + 1 ≤ v → get_or (set touched w 0) v 0 ≡ get_or old v 0
+touched_more old touched w s v h = let ne : v ≢ w = omega arith in get_or-set_other touched w v 0 0 ne ∙ s v (omega arith)

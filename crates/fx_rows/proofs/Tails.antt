@@ -1,12 +1,12 @@
 -- The bits of a word from a column on.
 -- Serves the words whose bits change at a column.
-use Rattle.std.proofs.Common.{◌≡◌, ◌⊎◌, inl, inr, ◌∙◌, ap, ℕ, suc, ◌+◌, ◌-◌, ◌/◌, ◌*◌, ◌<◌, ◌≤◌, ◌^◌, min, arith}
+use Rattle.std.proofs.Common.{◌≡◌, ◌⊎◌, inl, inr, ◌∙◌, ap, sym, ℕ, zero, suc, ◌+◌, ◌-◌, ◌/◌, ◌*◌, ◌<◌, ◌≤◌, ◌^◌, min, arith}
 use Rattle.std.proofs.Common.{w32, bit_and, bit_or, ◌%◌}
 use Rattle.std.specs.Int.{bit_at}
 use Rattle.std.specs.Int.Count.{count_leading_zeros}
 use Rattle.std.proofs.lemmas.Nat.{leading_top, and_le_l}
 use Rattle.std.proofs.Math.Nat.{pow-succ', div-le_self}
-use Rattle.std.proofs.lemmas.Nat.Bits.{bit_at_or, bit_at_and, bit_at_not, bit_at-lt, bit_at_above, bit_at_ones, bit_at_ones_above}
+use Rattle.std.proofs.lemmas.Nat.Bits.{bit_at_or, bit_at_and, bit_at_not, bit_at-lt, bit_at_above, bit_at-suc, bit_at_ones, bit_at_ones_above}
 use Rattle.std.proofs.lemmas.Nat.Bits.{bit_at_cat_high, bit_at_mask_inside, bit_at_mask_below, ones_shr, ones_shl}
 use Rattle.fx_fixed.proofs.Order.{below_or_not}
 
@@ -61,6 +61,30 @@ clear_before word c i h l =
 
 pub clear_from : (word c i : ℕ) → c < 32 → c ≤ i → i < 32 → bit_at (bit_and word (4294967295 - tail c)) (31 - i) ≡ 0
 clear_from word c i h l k = omega (arith, kept word c i h k, tail_from c i h l k)
+
+-- the word of all bits after a column
+half_tail : (c i : ℕ) → i < 32 → bit_at (tail c / 2) (31 - i) ≡ bit_at (tail c) (32 - i)
+half_tail c i h =
+    let e : suc (31 - i) ≡ 32 - i = omega arith in sym (bit_at-suc (tail c) (31 - i)) ∙ ap (bit_at (tail c)) e
+
+after_upto : (c i : ℕ) → c < 32 → i ≤ c → bit_at (tail c / 2) (31 - i) ≡ 0
+after_upto c zero h l = half_tail c zero (omega arith) ∙ bit_at_above (tail c) 32 32 (tail_fits c h) (omega arith)
+after_upto c (suc i) h l =
+    let e : 32 - suc i ≡ 31 - i = omega arith in
+    half_tail c (suc i) (omega arith) ∙ ap (bit_at (tail c)) e ∙ tail_before c i h (omega arith)
+
+after_rest : (c i : ℕ) → c < 32 → c < i → i < 32 → bit_at (tail c / 2) (31 - i) ≡ 1
+after_rest c zero h l k = absurd (omega arith)
+after_rest c (suc i) h l k =
+    let e : 32 - suc i ≡ 31 - i = omega arith in
+    half_tail c (suc i) k ∙ ap (bit_at (tail c)) e ∙ tail_from c i h (omega arith) (omega arith)
+
+pub left_before : (word c i : ℕ) → c < 32 → i ≤ c → bit_at (bit_and word (tail c / 2)) (31 - i) ≡ 0
+left_before word c i h l = omega (arith, bit_at_and word (tail c / 2) (31 - i), after_upto c i h l)
+
+pub left_rest : (word c i : ℕ) → c < 32 → c < i → i < 32 → bit_at (bit_and word (tail c / 2)) (31 - i) ≡ bit_at word (31 - i)
+left_rest word c i h l k =
+    omega (arith, bit_at_and word (tail c / 2) (31 - i), after_rest c i h l k, bit_at-lt word (31 - i))
 
 -- ---- the word of the bits from a column to another
 head_fits : (a : ℕ) → a < 32 → 4294967295 * 2 ^ a % 4294967296 ≡ 4294967296 - 2 ^ a

@@ -3,17 +3,19 @@
 //! The pixels of a band are numbered row by row, from the lowest. After a row's last pixel the numbers up to the next multiple of
 //! 32 are left out, so that each row begins a word of bits, as in a bitmap.
 
-ghost use Rattle.std.specs.Prelude.{◌≡◌, ◌+◌, ◌*◌, ◌/◌, ◌%◌, ◌^◌, ◌<◌, ◌≤◌, length, take, replicate, pos, IfOk};
+ghost use Rattle.std.specs.Prelude.{◌≡◌, ◌+◌, ◌*◌, ◌/◌, ◌%◌, ◌^◌, ◌<◌, ◌≤◌, length, take, pos, IfOk};
 ghost use Rattle.fx_winding.specs.Bitmaps.{words_for};
 
-use fx_winding::{Frame, words_for};
+use fx_winding::{Frame, Scratch, words_for};
 use std::alloc::{AllocError, Global};
+use std::mem;
 
 /// The most rows of a band.
 pub(crate) const MOST_ROWS: u32 = 128;
 
 /// The counts of a band's pixels, as differences between neighbours whose sums are the counts, and the pixels on pieces. Each list
-/// has a word more than the rows take, since there is a difference after the last pixel too.
+/// has at least a word more than the rows take, since there is a difference after the last pixel too. Those of the differences are
+/// lent by a scratch and can be longer.
 #[derive(Drop)]
 pub(crate) struct Band {
     /// The band's pixels.
@@ -26,56 +28,31 @@ pub(crate) struct Band {
     pub marks: Vec<u32>,
     ghost few: { frame.height ≤ 128 },
     ghost room: { length marks.items ≡ frame.height * words_for frame.width + 1 },
-    ghost words: { length touched.items ≡ length marks.items },
-    ghost cells: { length diff.items ≡ 32 * length marks.items },
-}
-
-/// How many zeros are written at once.
-const PART: usize = 512;
-
-/// Where the next part of a list ends.
-fn part_end(len: usize, count: usize) -> usize
-    requires { len < count }
-    ensures after { len < result }
-    ensures within { result ≤ count }
-{
-    if count - len < PART {
-        count
-    } else {
-        len + PART
-    }
-}
-
-/// A list of zeros, written part by part: glibc makes a longer run by one repeated instruction, which takes no less time and which
-/// profilers count once a byte.
-fn zeros(alloc: Global, count: usize) -> Result<Vec<i32>, AllocError>
-    ensures { IfOk result (λ v. v.items ≡ replicate count (pos 0)) }
-{
-    let mut list = Vec::with_capacity(alloc, count)?;
-    // The list has zeros alone, and no more than are wanted.
-    'parts: while list.len() < count {
-        list.resize(part_end(list.len(), count), 0)?;
-    }
-    Ok(list)
+    ghost words: { length marks.items ≤ length touched.items },
+    ghost cells: { length diff.items ≡ 32 * length touched.items },
 }
 
 impl Band {
     ghost use Rattle.fx_rows.specs.inner.Bands.{stride, IsClear};
+    ghost use Rattle.fx_rows.specs.inner.Sums.{AreZero};
 
-    /// A band that nothing was added to.
-    pub(crate) fn new(alloc: Global, frame: Frame) -> Result<Band, AllocError>
+    /// A band that nothing was added to, with the lists of a scratch, which is left without any.
+    pub(crate) fn new(
+        alloc: Global,
+        frame: Frame,
+        scratch: &mut Scratch,
+    ) -> Result<Band, AllocError>
         requires { frame.height ≤ 128 }
         ensures frame { IfOk result (λ b. b.frame ≡ frame) }
         ensures clear { IfOk result (λ b. IsClear b) }
     {
         let words = frame.height as usize * words_for(frame.width) + 1;
-        let diff = zeros(alloc, 32 * words)?;
-        let touched = vec![in alloc; 0u32; words]?;
+        let lent = mem::replace(scratch, Scratch::new(alloc)).with_words(alloc, words)?;
         let marks = vec![in alloc; 0u32; words]?;
         Ok(Band {
             frame,
-            diff,
-            touched,
+            diff: lent.numbers,
+            touched: lent.bits,
             marks,
         })
     }
@@ -90,17 +67,15 @@ impl Band {
         up as usize * (32 * words_for(self.frame.width))
     }
 
-    /// The words of marks of the rows, from the lowest.
-    pub(crate) fn row_words(&self) -> &[u32]
-        ensures { result.now ≡ take (self.now.frame.height * words_for self.now.frame.width) self.now.marks.items }
-    {
-        &self.marks[..self.marks.len() - 1]
-    }
-
-    /// The words of marks of the rows, from the lowest, in place.
-    pub(crate) fn into_words(self) -> Vec<u32>
+    /// The words of marks of the rows, from the lowest. The lists of the differences, which are all 0, go back to the scratch.
+    pub(crate) fn into_words(self, scratch: &mut Scratch) -> Vec<u32>
+        requires { AreZero self.diff.items }
         ensures { result.items ≡ take (self.frame.height * words_for self.frame.width) self.marks.items }
     {
+        *scratch = Scratch {
+            numbers: self.diff,
+            bits: self.touched,
+        };
         let mut words = self.marks;
         let _ = words.pop();
         words

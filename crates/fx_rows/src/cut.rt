@@ -2,7 +2,7 @@
 //! and 0 from it on, but for the columns on the piece, which are set anyway.
 
 ghost use Rattle.std.specs.Prelude.{◌≡◌, ℕ, ◌+◌, ◌-◌, ◌*◌, ◌^◌, ◌<◌, ◌≤◌, min, pos, ◌+ℤ◌, ◌-ℤ◌, ◌*ℤ◌, ◌≤ℤ◌, IsTrue, ◌↔◌};
-ghost use Rattle.std.specs.Prelude.{Some};
+ghost use Rattle.std.specs.Prelude.{Some, None};
 ghost use Rattle.fx_fixed.specs.Ranges.{IsWithin};
 ghost use Rattle.fx_winding.specs.Limits.{greatest_side};
 ghost use Rattle.fx_winding.specs.Winding.{span_of, sign, IsOn};
@@ -20,7 +20,7 @@ use crate::bounded::{Bounded, foot_x};
 use crate::cells::Cut;
 use crate::chord::{edge_of, slope_of};
 use crate::narrow::columns_before;
-use crate::on::{on_edge, on_one};
+use crate::on::{met_column, on_edge, on_one};
 use crate::parabola::Gaps;
 use crate::part::OnRow;
 use crate::rest::is_right;
@@ -217,8 +217,24 @@ pub(crate) fn arc_cut(
     }
 }
 
-/// What a line adds, or an arc whose points are on one line.
-pub(crate) fn line_cut(bounded: &Bounded, strip: Strip, areas: Weights, tally: &mut Tally) -> Cut
+/// What a line adds. Between its ends a centre on the chord's line is on the line, so none is tested.
+pub(crate) fn line_cut(bounded: &Bounded, strip: Strip, areas: Weights) -> Cut
+    requires line { bounded.now.piece.b ≡ None }
+    requires inner { IsInner bounded.now.piece.a.y bounded.now.piece.c.y (pos 128 *ℤ strip.row +ℤ pos 64) }
+    requires areas { AreAreas (bounded_span bounded.now) (place_at strip 0) areas }
+    ensures cut { IsCut (bounded_span bounded.now) strip result }
+    ensures value { result.value ≡ bounded.now.rise.value }
+{
+    let edge = edge_of(&bounded.piece, strip, areas);
+    Cut {
+        end: edge.at,
+        value: bounded.rise.value,
+        on: met_column(strip, edge),
+    }
+}
+
+/// What an arc adds whose points are on one line.
+pub(crate) fn flat_cut(bounded: &Bounded, strip: Strip, areas: Weights, tally: &mut Tally) -> Cut
     requires straight { ¬ (IsBent (bounded_span bounded.now)) }
     requires inner { IsInner bounded.now.piece.a.y bounded.now.piece.c.y (pos 128 *ℤ strip.row +ℤ pos 64) }
     requires areas { AreAreas (bounded_span bounded.now) (place_at strip 0) areas }

@@ -11,7 +11,7 @@ ghost use Rattle.fx_rows.specs.inner.Cuts.{IsCut};
 use crate::above::{arc_areas_above, line_areas_above};
 use crate::bounded::Bounded;
 use crate::cells::Cut;
-use crate::cut::{arc_cut, clear_cut, first_guess, line_cut};
+use crate::cut::{arc_cut, clear_cut, first_guess, flat_cut, line_cut};
 use crate::strip::Strip;
 use fx_winding::{Frame, Point, Tally, Weights};
 
@@ -63,8 +63,8 @@ impl Cuts for LineCuts {
     ghost AreAt = { λ cuts b p. (b.piece.b ≡ None) × AreAreas (bounded_span b) p cuts.areas };
 
     #[inline(always)]
-    fn next(&mut self, bounded: &Bounded, strip: Strip, tally: &mut Tally) -> Cut {
-        let cut = line_cut(bounded, strip, self.areas, tally);
+    fn next(&mut self, bounded: &Bounded, strip: Strip, _tally: &mut Tally) -> Cut {
+        let cut = line_cut(bounded, strip, self.areas);
         self.areas = line_areas_above(&bounded.piece, strip, self.areas);
         cut
     }
@@ -87,7 +87,7 @@ impl Cuts for FlatCuts {
         (b.piece.b ≡ Some cuts.b) × (¬ (IsBent (bounded_span b))) × AreAreas (bounded_span b) p cuts.areas };
 
     fn next(&mut self, bounded: &Bounded, strip: Strip, tally: &mut Tally) -> Cut {
-        let cut = line_cut(bounded, strip, self.areas, tally);
+        let cut = flat_cut(bounded, strip, self.areas, tally);
         self.areas = arc_areas_above(&bounded.piece, self.b, strip, self.areas);
         cut
     }

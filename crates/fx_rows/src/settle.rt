@@ -1,6 +1,6 @@
 //! The bits of a row from the differences of its counts.
 
-ghost use Rattle.std.specs.Prelude.{◌≡◌, ◌≢◌, ℕ, ◌+◌, ◌*◌, ◌-◌, ◌^◌, ◌<◌, ◌≤◌, pos, ◌+ℤ◌, length, get_or, cond};
+ghost use Rattle.std.specs.Prelude.{◌≡◌, ◌≢◌, ◌⊎◌, ℕ, ◌+◌, ◌*◌, ◌-◌, ◌^◌, ◌<◌, ◌≤◌, pos, ◌+ℤ◌, length, get_or, cond};
 ghost use Rattle.std.specs.Int.{bit_at};
 ghost use Rattle.fx_fixed.specs.Ranges.{IsWithin};
 ghost use Rattle.fx_winding.specs.Bitmaps.{word_bit};
@@ -16,14 +16,14 @@ pub(crate) fn first_column(word: u32) -> u32
     word.leading_zeros()
 }
 
-/// The word without the bit of a column.
-fn without_column(word: u32, column: u32) -> u32
+/// The word without the bits up to a column.
+fn without_columns(word: u32, column: u32) -> u32
     requires within { column < 32 }
-    ensures here { bit_at result (31 - column) ≡ 0 }
-    ensures others { (i : ℕ) → i < 32 → i ≢ column → bit_at result (31 - i) ≡ bit_at word (31 - i) }
+    ensures before { (i : ℕ) → i ≤ column → bit_at result (31 - i) ≡ 0 }
+    ensures rest { (i : ℕ) → column < i → i < 32 → bit_at result (31 - i) ≡ bit_at word (31 - i) }
     ensures less { bit_at word (31 - column) ≡ 1 → result < word }
 {
-    word & !(1 << (31 - column))
+    word & u32::MAX >> column >> 1
 }
 
 /// The word with the bits from a column on all set, or all 0.
@@ -36,40 +36,65 @@ fn with_rest(word: u32, column: u32, set: bool) -> u32
     if set { word | rest } else { word & !rest }
 }
 
-/// The bits of the 32 columns from one on, the first one's the highest: set where the count is not 0. `count`, which is that
-/// of the column before, moves on to the last one's. The first column needs no bit of `touched`.
-fn settle_word(diff: &[i32], touched: u32, from: usize, count: &mut i32) -> u32
-    requires inside { from + 32 ≤ length diff.now }
-    requires touched { (i : ℕ) → 0 < i → i < 32 → bit_at touched (31 - i) ≡ 0 → get_or diff.now (from + i) (pos 0) ≡ pos 0 }
-    requires small { (i : ℕ) → i ≤ 32 → IsWithin (2 ^ 20) (count.old +ℤ sum_of diff.now from i) }
-    ensures bits { (i : ℕ) → i < 32 → bit_at result (31 - i) ≡ count_bit (count.old +ℤ sum_of diff.now from (i + 1)) 0 }
-    ensures count { count.new ≡ count.old +ℤ sum_of diff.now from 32 }
+/// The number at a place, which becomes 0.
+fn taken(diff: &mut [i32], at: usize) -> i32
+    requires { at < length diff.old }
+    ensures value { result ≡ get_or diff.old at (pos 0) }
+    ensures here { get_or diff.new at (pos 0) ≡ pos 0 }
+    ensures others { (k : ℕ) → k ≢ at → get_or diff.new k (pos 0) ≡ get_or diff.old k (pos 0) }
 {
-    *count += diff[from];
-    let mut bits = with_rest(0, 0, *count != 0);
-    let mut left = without_column(touched, 0);
+    let number = diff[at];
+    diff[at] = 0;
+    number
+}
+
+/// The bits of the 32 columns from one on, the first one's the highest: set where the count is not 0. `count`, which is that
+/// of the column before, moves on to the last one's, and the differences become 0. The first column needs no bit of `touched`.
+/// The loop over words is to have it in its body.
+#[inline(always)]
+fn settle_word(diff: &mut [i32], touched: u32, from: usize, count: &mut i32) -> u32
+    requires inside { from + 32 ≤ length diff.old }
+    requires touched { (i : ℕ) → 0 < i → i < 32 → bit_at touched (31 - i) ≡ 0 → get_or diff.old (from + i) (pos 0) ≡ pos 0 }
+    requires small { (i : ℕ) → i ≤ 32 → IsWithin (2 ^ 20) (count.old +ℤ sum_of diff.old from i) }
+    ensures bits { (i : ℕ) → i < 32 → bit_at result (31 - i) ≡ count_bit (count.old +ℤ sum_of diff.old from (i + 1)) 0 }
+    ensures count { count.new ≡ count.old +ℤ sum_of diff.old from 32 }
+    ensures zeros { (i : ℕ) → i < 32 → get_or diff.new (from + i) (pos 0) ≡ pos 0 }
+    ensures others { (k : ℕ) → (k < from) ⊎ (from + 32 ≤ k) → get_or diff.new k (pos 0) ≡ get_or diff.old k (pos 0) }
+{
+    let mut sum = *count + taken(diff, from);
+    let mut bits = with_rest(0, 0, sum != 0);
+    let mut left = without_columns(touched, 0);
     // The touched columns before those left are settled; from the last of them on, all bits are that of the count.
     'columns: while left != 0 {
         let column = first_column(left);
-        *count += diff[from + column as usize];
-        bits = with_rest(bits, column, *count != 0);
-        left = without_column(left, column);
+        sum += taken(diff, from + column as usize);
+        bits = with_rest(bits, column, sum != 0);
+        left = without_columns(left, column);
     }
+    *count = sum;
     bits
 }
 
-/// Sets the bit of each number whose count is not 0: the sum of the differences up to it.
-pub fn settle(diff: &[i32], touched: &[u32], line: &mut [u32])
-    requires long { length diff.now ≡ 32 * length line.old }
-    requires words { length touched.now ≡ length line.old }
-    requires touched { AreTouched diff.now touched.now }
-    requires small { (k : ℕ) → IsWithin (2 ^ 20) (before k diff.now) }
+/// Sets the bit of each number whose count is not 0: the sum of the differences up to it. The differences become 0 and lose their
+/// bits.
+///
+/// It stays a function of its own: its loop needs all registers.
+#[inline(never)]
+pub fn settle(diff: &mut [i32], touched: &mut [u32], line: &mut [u32])
+    requires long { 32 * length line.old ≤ length diff.old }
+    requires words { length line.old ≤ length touched.old }
+    requires touched { AreTouched diff.old touched.old }
+    requires small { (k : ℕ) → IsWithin (2 ^ 20) (before k diff.old) }
     ensures bits { (k : ℕ) → k < 32 * length line.old →
-        word_bit line.new k ≡ count_bit (before (k + 1) diff.now) (word_bit line.old k) }
+        word_bit line.new k ≡ count_bit (before (k + 1) diff.old) (word_bit line.old k) }
+    ensures zeros { (k : ℕ) → k < 32 * length line.old → get_or diff.new k (pos 0) ≡ pos 0 }
+    ensures others { (k : ℕ) → 32 * length line.old ≤ k → get_or diff.new k (pos 0) ≡ get_or diff.old k (pos 0) }
+    ensures untouched { (w : ℕ) → w < length line.old → get_or touched.new w 0 ≡ 0 }
 {
     let mut count = 0;
     // The words before w are settled, and the count is that of the last column of the word before.
     'words: for w in 0..line.len() {
         line[w] |= settle_word(diff, touched[w], 32 * w, &mut count);
+        touched[w] = 0;
     }
 }

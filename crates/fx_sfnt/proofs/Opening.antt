@@ -6,37 +6,36 @@ use Rattle.std.proofs.lemmas.Option.{same_Some}
 use Rattle.std.proofs.lemmas.Bool.{and_parts, or_parts, leb-true, ltb-false, eqb-false, not-false}
 use Rattle.fx_fixed.proofs.Chain.{refuse_then, bind_then, wanted_then, same_Ok}
 use Rattle.fx_sfnt.specs.Fields.{field}
-use Rattle.fx_sfnt.specs.Tables.{Face, font_of, head_of, maxp_of, hhea_of, table_of, is_directory}
+use Rattle.fx_sfnt.specs.Tables.{Face, face_at, head_of, maxp_of, hhea_of, table_of, is_directory}
 use Rattle.fx_sfnt.specs.declared.fault.FontFault.TheVariants.{NotTrueType, TableMissing, TableShort, BadMaxp}
 use Rattle.fx_sfnt.specs.declared.records.Maxp.{Maxp}
 
 -- the file of a directory includes its records
-pub directory_records : (file : List ℕ) → is_directory file ≡ true → 12 + 16 * field 2 file 4 ≤ length file
-directory_records file h = leb-true _ _ ((and_parts _ _ h).1)
+pub directory_records : (directory : List ℕ) → is_directory directory ≡ true → 12 + 16 * field 2 directory 4 ≤ length directory
+directory_records directory h = leb-true _ _ ((and_parts _ _ h).1)
 
 -- what was checked of a file that is a font's
-pub record Opened (file : List ℕ) (face : Face) : Type 0 where
-  pub records : 12 + 16 * field 2 file 4 ≤ length file
+pub record Opened (file directory : List ℕ) (face : Face) : Type 0 where
+  pub records : 12 + 16 * field 2 directory 4 ≤ length directory
   pub head : List ℕ
   pub maxp : List ℕ
   pub hmtx : List ℕ
   pub head_is : head_of head ≡ Ok face.head
   pub maxp_is : maxp_of maxp ≡ Ok face.maxp
-  pub hmtx_is : table_of file (codes "hmtx") ≡ Some hmtx
+  pub hmtx_is : table_of file directory (codes "hmtx") ≡ Some hmtx
   pub pairs : 0 < face.hhea.number_of_h_metrics
   pub inside : 4 * face.hhea.number_of_h_metrics ≤ length hmtx
-  pub file_is : face.file ≡ file
 
-pub opened : {file : List ℕ} {face : Face} → font_of file ≡ Ok face → Opened file face
-unfolding font_of
-opened {file} {face} h =
-    refuse_then (not (is_directory file)) NotTrueType _ face h (λ directory h.
-    wanted_then (table_of file (codes "head")) (TableMissing (codes "head")) _ face h (λ head _ h.
-    wanted_then (table_of file (codes "maxp")) (TableMissing (codes "maxp")) _ face h (λ maxp _ h.
-    wanted_then (table_of file (codes "hhea")) (TableMissing (codes "hhea")) _ face h (λ hhea _ h.
-    wanted_then (table_of file (codes "hmtx")) (TableMissing (codes "hmtx")) _ face h (λ hmtx hmtx_is h.
-    wanted_then (table_of file (codes "loca")) (TableMissing (codes "loca")) _ face h (λ loca _ h.
-    wanted_then (table_of file (codes "glyf")) (TableMissing (codes "glyf")) _ face h (λ glyf _ h.
+pub opened : {file directory : List ℕ} {face : Face} → face_at file directory ≡ Ok face → Opened file directory face
+unfolding face_at
+opened {file} {directory} {face} h =
+    refuse_then (not (is_directory directory)) NotTrueType _ face h (λ readable h.
+    wanted_then (table_of file directory (codes "head")) (TableMissing (codes "head")) _ face h (λ head _ h.
+    wanted_then (table_of file directory (codes "maxp")) (TableMissing (codes "maxp")) _ face h (λ maxp _ h.
+    wanted_then (table_of file directory (codes "hhea")) (TableMissing (codes "hhea")) _ face h (λ hhea _ h.
+    wanted_then (table_of file directory (codes "hmtx")) (TableMissing (codes "hmtx")) _ face h (λ hmtx hmtx_is h.
+    wanted_then (table_of file directory (codes "loca")) (TableMissing (codes "loca")) _ face h (λ loca _ h.
+    wanted_then (table_of file directory (codes "glyf")) (TableMissing (codes "glyf")) _ face h (λ glyf _ h.
     bind_then (head_of head) _ face h (λ head_fields head_is h.
     bind_then (maxp_of maxp) _ face h (λ maxp_fields maxp_is h.
     bind_then (hhea_of hhea) _ face h (λ hhea_fields _ h.
@@ -46,8 +45,8 @@ opened {file} {face} h =
     let some : hhea_fields.number_of_h_metrics ≡ 0 → ⊥ = eqb-false hhea_fields.number_of_h_metrics 0 both.0 in
     let inside : 4 * hhea_fields.number_of_h_metrics ≤ length hmtx =
     ltb-false (length hmtx) (4 * hhea_fields.number_of_h_metrics) both.1 in
-    subst (Opened file) (same_Ok _ _ refl h) (record {
-      records = directory_records file (not-false _ directory);
+    subst (Opened file directory) (same_Ok _ _ refl h) (record {
+      records = directory_records directory (not-false _ readable);
       head = head;
       maxp = maxp;
       hmtx = hmtx;
@@ -56,7 +55,6 @@ opened {file} {face} h =
       hmtx_is = hmtx_is;
       pairs = omega arith;
       inside = inside;
-      file_is = refl;
     })
     )))))))))))
 
@@ -72,12 +70,13 @@ maxp_glyphs table maxp h =
     subst (λ (maxp : Maxp). 0 < maxp.num_glyphs) (same_Ok _ _ refl h) above)))
 
 -- the glyphs of a font
-pub font_glyphs : {file : List ℕ} {face : Face} → Opened file face → 0 < face.maxp.num_glyphs
-font_glyphs {file} {face} o = maxp_glyphs o.maxp face.maxp o.maxp_is
+pub font_glyphs : {file directory : List ℕ} {face : Face} → Opened file directory face → 0 < face.maxp.num_glyphs
+font_glyphs {face = face} o = maxp_glyphs o.maxp face.maxp o.maxp_is
 
 -- `hmtx` has its pairs
-pub font_pairs : {file : List ℕ} {face : Face} {hmtx : List ℕ} → Opened file face → table_of file (codes "hmtx") ≡ Some hmtx
+pub font_pairs : {file directory : List ℕ} {face : Face} {hmtx : List ℕ} → Opened file directory face
+    → table_of file directory (codes "hmtx") ≡ Some hmtx
     → 4 * face.hhea.number_of_h_metrics ≤ length hmtx
-font_pairs {file} {face} {hmtx} o t =
+font_pairs {face = face} {hmtx = hmtx} o t =
     let same : o.hmtx ≡ hmtx = same_Some _ _ (sym o.hmtx_is ∙ t) in
     subst (λ (table : List ℕ). 4 * face.hhea.number_of_h_metrics ≤ length table) same o.inside

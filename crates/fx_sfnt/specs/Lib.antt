@@ -1,4 +1,5 @@
 pub mod Fields
 pub mod Units
+pub mod Collections
 pub mod Tables
 pub mod Glyphs

@@ -5,6 +5,7 @@ use Rattle.std.specs.Prelude.{option_map, unwrap_or, Result, Ok, Bool, ◌==◌,
 use Rattle.fx_fixed.specs.Chain.{◌>>=◌, refuse, wanted}
 use Rattle.fx_sfnt.specs.Fields.{field, signed_field}
 use Rattle.fx_sfnt.specs.Units.{units_per_em_of}
+use Rattle.fx_sfnt.specs.Collections.{FontFileView, directory_offset_of}
 use Rattle.fx_sfnt.specs.declared.fault.FontFault.{FontFault}
 use Rattle.fx_sfnt.specs.declared.fault.FontFault.TheVariants.{NotTrueType, TableMissing, TableShort, BadHead, BadMaxp}
 use Rattle.fx_sfnt.specs.declared.records.Head.{Head}
@@ -18,11 +19,11 @@ abbrev pub records : ℕ → ℕ → List ℕ → List (List ℕ)
 records size zero bytes = []
 records size (suc n) bytes = bytes ∷ records size n (drop size bytes)
 
--- the directory has a version that is read, 1.0 or `true`, and its records lie in the file
+-- a file from its directory on: the directory has a version that is read, 1.0 or `true`, and its records lie in the file
 abbrev pub is_directory : List ℕ → Bool
-is_directory file =
-    nat_le 12 (length file) && (field 4 file 0 == 0x00010000 || field 4 file 0 == 0x74727565) && nat_le (12 + 16 * field 2 file 4)
-    (length file)
+is_directory directory =
+    nat_le 12 (length directory) && (field 4 directory 0 == 0x00010000 || field 4 directory 0 == 0x74727565) &&
+    nat_le (12 + 16 * field 2 directory 4) (length directory)
 
 -- a table record (tag, checksum, offset, length) has the tag
 abbrev pub has_tag : List ℕ → List ℕ → Bool
@@ -32,13 +33,14 @@ has_tag tag entry = field 4 entry 0 == field 4 tag 0
 abbrev pub table_bytes : List ℕ → List ℕ → List ℕ
 table_bytes file entry = take (field 4 entry 12) (drop (field 4 entry 8) file)
 
--- the table of a tag: that of the first record with the tag
-abbrev pub table_of : List ℕ → List ℕ → Option (List ℕ)
-table_of file tag = option_map (table_bytes file) (find (has_tag tag) (records 16 (field 2 file 4) (drop 12 file)))
+-- the table of a tag in a file: that of the first record of the directory with the tag
+abbrev pub table_of : List ℕ → List ℕ → List ℕ → Option (List ℕ)
+table_of file directory tag =
+    option_map (table_bytes file) (find (has_tag tag) (records 16 (field 2 directory 4) (drop 12 directory)))
 
 -- a table that is required
-abbrev pub required_table_of : List ℕ → List ℕ → Result (List ℕ) FontFault
-required_table_of file tag = wanted (table_of file tag) (TableMissing tag)
+abbrev pub required_table_of : List ℕ → List ℕ → List ℕ → Result (List ℕ) FontFault
+required_table_of file directory tag = wanted (table_of file directory tag) (TableMissing tag)
 
 -- the format of `loca`, by its number
 abbrev pub loc_format_of : ℕ → Option LocFormat
@@ -73,33 +75,40 @@ hhea_of table = do
   _ ← refuse (nat_lt (length table) 36) (TableShort (codes "hhea"))
   Ok (record { ascender = signed_field table 4; descender = signed_field table 6; number_of_h_metrics = field 2 table 34 })
 
--- what a font is seen as: its file, and the fields of its tables
+-- what a font is seen as: its file, the file from the face's directory on, and the fields of its tables
 pub record Face : Type 0 where
   pub file : List ℕ
+  pub directory : List ℕ
   pub head : Head
   pub maxp : Maxp
   pub hhea : Hhea
 
 -- the table of a tag in a font; crates above know a font's tables by this alone
 abbrev pub table_in : Face → List ℕ → Option (List ℕ)
-table_in face tag = table_of face.file tag
+table_in face tag = table_of face.file face.directory tag
 
 -- the table of a tag that may be absent, and is then empty
 abbrev pub table_or_empty : Face → List ℕ → List ℕ
 table_or_empty face tag = unwrap_or (table_in face tag) []
 
--- the font of a file, or the first fault
-unfoldable pub font_of : List ℕ → Result Face FontFault
-font_of file = do
-  _ ← refuse (not (is_directory file)) NotTrueType
-  head ← required_table_of file (codes "head")
-  maxp ← required_table_of file (codes "maxp")
-  hhea ← required_table_of file (codes "hhea")
-  hmtx ← required_table_of file (codes "hmtx")
-  _ ← required_table_of file (codes "loca")
-  _ ← required_table_of file (codes "glyf")
+-- the face of a file whose directory begins here, or the first fault
+unfoldable pub face_at : List ℕ → List ℕ → Result Face FontFault
+face_at file directory = do
+  _ ← refuse (not (is_directory directory)) NotTrueType
+  head ← required_table_of file directory (codes "head")
+  maxp ← required_table_of file directory (codes "maxp")
+  hhea ← required_table_of file directory (codes "hhea")
+  hmtx ← required_table_of file directory (codes "hmtx")
+  _ ← required_table_of file directory (codes "loca")
+  _ ← required_table_of file directory (codes "glyf")
   head ← head_of head
   maxp ← maxp_of maxp
   hhea ← hhea_of hhea
   _ ← refuse (hhea.number_of_h_metrics == 0 || nat_lt (length hmtx) (4 * hhea.number_of_h_metrics)) (TableShort (codes "hmtx"))
-  Ok (record { file = file; head = head; maxp = maxp; hhea = hhea })
+  Ok (record { file = file; directory = directory; head = head; maxp = maxp; hhea = hhea })
+
+-- the face that is meant of a font file, or the first fault
+unfoldable pub font_of : FontFileView → Result Face FontFault
+font_of file = do
+  at ← directory_offset_of file
+  face_at file.bytes (drop at file.bytes)

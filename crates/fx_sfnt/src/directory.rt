@@ -9,27 +9,27 @@ use crate::fault::FontFault;
 use crate::fields::{u16_in, u32_in};
 use fx_fixed::{after, part};
 
-/// Whether the directory has a version that is read, and the file includes its records.
-pub fn is_directory(file: &[u8]) -> bool
-    ensures { result ≡ is_directory file.now }
+/// Whether a file, from its directory on, has a version that is read, and includes its records.
+pub fn is_directory(directory: &[u8]) -> bool
+    ensures { result ≡ is_directory directory.now }
 {
-    if file.len() < 12 {
+    if directory.len() < 12 {
         return false;
     }
-    let version = u32_in(file, 0);
-    let count = u16_in(file, 4) as usize;
-    (version == 0x0001_0000 || version == 0x7472_7565) && 12 + 16 * count <= file.len()
+    let version = u32_in(directory, 0);
+    let count = u16_in(directory, 4) as usize;
+    (version == 0x0001_0000 || version == 0x7472_7565) && 12 + 16 * count <= directory.len()
 }
 
-/// The table of a tag: that of the first record with the tag.
-pub fn find_table<'a>(file: &'a [u8], tag: [u8; 4]) -> Option<&'a [u8]>
-    requires { 12 + 16 * field 2 file.now 4 ≤ length file.now }
-    ensures table { option_map (λ t. t.now) result ≡ table_of file.now tag }
+/// The table of a tag in a file: that of the first record of the directory with the tag.
+pub fn find_table<'a>(file: &'a [u8], directory: &[u8], tag: [u8; 4]) -> Option<&'a [u8]>
+    requires { 12 + 16 * field 2 directory.now 4 ≤ length directory.now }
+    ensures table { option_map (λ t. t.now) result ≡ table_of file.now directory.now tag }
     ensures short { IfSome result (λ t. length t.now < 2 ^ 32) }
 {
-    let count = u16_in(file, 4);
+    let count = u16_in(directory, 4);
     let want = u32_in(&tag, 0);
-    let mut rest = after(file, 12);
+    let mut rest = after(directory, 12);
     // The first record with the tag among the records that are left is that among all.
     'records: for k in 0..count {
         if u32_in(rest, 0) == want {
@@ -43,9 +43,13 @@ pub fn find_table<'a>(file: &'a [u8], tag: [u8; 4]) -> Option<&'a [u8]>
 }
 
 /// A table that is required.
-pub fn required_table<'a>(file: &'a [u8], tag: [u8; 4]) -> Result<&'a [u8], FontFault>
-    requires { 12 + 16 * field 2 file.now 4 ≤ length file.now }
-    ensures { map_ok (λ t. t.now) result ≡ required_table_of file.now tag }
+pub fn required_table<'a>(
+    file: &'a [u8],
+    directory: &[u8],
+    tag: [u8; 4],
+) -> Result<&'a [u8], FontFault>
+    requires { 12 + 16 * field 2 directory.now 4 ≤ length directory.now }
+    ensures { map_ok (λ t. t.now) result ≡ required_table_of file.now directory.now tag }
 {
-    find_table(file, tag).ok_or(FontFault::TableMissing(tag))
+    find_table(file, directory, tag).ok_or(FontFault::TableMissing(tag))
 }

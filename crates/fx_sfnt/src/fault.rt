@@ -5,9 +5,13 @@ use thiserror::Error;
 /// What is wrong with a font's tables: the first fault, in the order of the checks.
 #[derive(Clone, Copy, Debug, PartialEq, Eq, Error)]
 pub enum FontFault {
-    /// The directory is cut, or has a version other than 1.0 and `true`.
+    /// The directory is cut, or has a version other than 1.0 and `true`; or so does a collection's header, whose versions are 1.0
+    /// and 2.0.
     #[error("the file is no TrueType font")]
     NotTrueType,
+    /// The file has no face of the number that is asked for.
+    #[error("the file has no such face")]
+    NoFace,
     /// A required table is not in the directory.
     #[error("the table with tag {0:?} is missing")]
     TableMissing([u8; 4]),

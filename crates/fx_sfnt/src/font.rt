@@ -1,12 +1,13 @@
-//! A font over the bytes of its file.
+//! A face of a font over the bytes of its file.
 
-ghost use Rattle.std.specs.Prelude.{◌≡◌, ◌<◌, ◌^◌, length, option_map, IfSome, IsOk};
+ghost use Rattle.std.specs.Prelude.{◌≡◌, ◌<◌, ◌^◌, drop, length, option_map, IfSome, IsOk};
 ghost use Rattle.fx_fixed.specs.Chain.{map_ok};
-ghost use Rattle.fx_sfnt.specs.Tables.{table_in, font_of};
+ghost use Rattle.fx_sfnt.specs.Tables.{table_in, face_at, font_of};
 ghost use Rattle.fx_sfnt.specs.Glyphs.{metrics_of, glyph_bytes_of};
 
 use crate::directory::{find_table, is_directory, required_table};
 use crate::fault::FontFault;
+use crate::file::FontFile;
 use crate::glyphs::{advance_width, glyph_data, lsb};
 use crate::records::{Head, Hhea, Maxp, Metrics};
 use crate::tables::{read_head, read_hhea, read_maxp};
@@ -14,10 +15,11 @@ use std::marker::Model;
 
 /// A font: a view over the bytes of its file, with the fields of its tables.
 ///
-/// Its file is one in which `Font::open` found no fault.
+/// Its file is one in which `Font::open` found no fault. `directory` is the file from the face's directory on.
 #[derive(Drop)]
 pub struct Font<'a> {
     file: &'a [u8],
+    directory: &'a [u8],
     head: Head,
     maxp: Maxp,
     hhea: Hhea,
@@ -27,37 +29,55 @@ pub struct Font<'a> {
 }
 
 impl<'a> Model for Font<'a> {
-    ghost use Rattle.fx_sfnt.specs.Tables.{Face, font_of, table_of};
+    ghost use Rattle.fx_sfnt.specs.Tables.{Face, face_at, table_of};
     ghost use Rattle.std.specs.Prelude.{◌≡◌, Ok, Some, codes};
 
     ghost Value = { Face };
 
-    ghost view = { λ f. record { file = f.file.now; head = f.head; maxp = f.maxp; hhea = f.hhea } };
+    ghost view = { λ f.
+        record { file = f.file.now; directory = f.directory.now; head = f.head; maxp = f.maxp; hhea = f.hhea } };
 
-    ghost invariant = { λ f. (font_of f.file.now ≡ Ok (record { file = f.file.now; head = f.head; maxp = f.maxp; hhea = f.hhea }))
-        × (table_of f.file.now (codes "hmtx") ≡ Some f.hmtx.now)
-        × (table_of f.file.now (codes "loca") ≡ Some f.loca.now)
-        × (table_of f.file.now (codes "glyf") ≡ Some f.glyf.now) };
+    ghost invariant = { λ f. (face_at f.file.now f.directory.now ≡
+        Ok (record { file = f.file.now; directory = f.directory.now; head = f.head; maxp = f.maxp; hhea = f.hhea }))
+        × (table_of f.file.now f.directory.now (codes "hmtx") ≡ Some f.hmtx.now)
+        × (table_of f.file.now f.directory.now (codes "loca") ≡ Some f.loca.now)
+        × (table_of f.file.now f.directory.now (codes "glyf") ≡ Some f.glyf.now) };
+}
+
+/// The bytes from an offset on; none if it is past the end.
+fn from(bytes: &[u8], at: usize) -> &[u8]
+    ensures { result.now ≡ drop at bytes.now }
+{
+    if at < bytes.len() { &bytes[at..] } else { &[] }
 }
 
 impl<'a> Font<'a> {
-    /// Reads the font of a file: its fields, or the first fault.
+    /// Reads the face that is meant of a font file: its fields, or the first fault.
     ///
-    /// The checks come in this order: the directory; that there are tables `head`, `maxp`, `hhea`, `hmtx`, `loca`, `glyf`; then
-    /// the length and the fields of `head`, `maxp`, `hhea`; then the length of `hmtx`.
+    /// The checks come in this order: where the face's directory is; the directory; that there are tables `head`, `maxp`, `hhea`,
+    /// `hmtx`, `loca`, `glyf`; then the length and the fields of `head`, `maxp`, `hhea`; then the length of `hmtx`.
     #[tactic(auto, unfolding(crate::specs::Tables::font_of))]
-    pub fn open(file: &'a [u8]) -> Result<Font<'a>, FontFault>
+    pub fn open(file: &FontFile<'a>) -> Result<Font<'a>, FontFault>
         ensures { result ≡ font_of file.now }
     {
-        if !is_directory(file) {
+        let at = file.directory_offset()?;
+        Font::open_at(file.bytes(), from(file.bytes(), at))
+    }
+
+    /// Reads the face of a file whose directory begins here.
+    #[tactic(auto, unfolding(crate::specs::Tables::face_at))]
+    fn open_at(file: &'a [u8], directory: &'a [u8]) -> Result<Font<'a>, FontFault>
+        ensures { result ≡ face_at file.entry.now directory.entry.now }
+    {
+        if !is_directory(directory) {
             return Err(FontFault::NotTrueType);
         }
-        let head = required_table(file, *b"head")?;
-        let maxp = required_table(file, *b"maxp")?;
-        let hhea = required_table(file, *b"hhea")?;
-        let hmtx = required_table(file, *b"hmtx")?;
-        let loca = required_table(file, *b"loca")?;
-        let glyf = required_table(file, *b"glyf")?;
+        let head = required_table(file, directory, *b"head")?;
+        let maxp = required_table(file, directory, *b"maxp")?;
+        let hhea = required_table(file, directory, *b"hhea")?;
+        let hmtx = required_table(file, directory, *b"hmtx")?;
+        let loca = required_table(file, directory, *b"loca")?;
+        let glyf = required_table(file, directory, *b"glyf")?;
         let head = read_head(head)?;
         let maxp = read_maxp(maxp)?;
         let hhea = read_hhea(hhea)?;
@@ -66,6 +86,7 @@ impl<'a> Font<'a> {
         }
         Ok(Font {
             file,
+            directory,
             head,
             maxp,
             hhea,
@@ -81,7 +102,7 @@ impl<'a> Font<'a> {
         ensures table { option_map (λ t. t.now) result ≡ table_in self.now tag }
         ensures short { IfSome result (λ t. length t.now < 2 ^ 32) }
     {
-        find_table(self.file, tag)
+        find_table(self.file, self.directory, tag)
     }
 
     /// The fields of `head`.
@@ -144,6 +165,7 @@ impl<'a> Font<'a> {
     {
         Font {
             file: self.file,
+            directory: self.directory,
             head: self.head,
             maxp: self.maxp,
             hhea: self.hhea,

@@ -1,7 +1,8 @@
 -- Where a plan is due there are glyphs of its sketches.
 -- Serves the law that a strike exists, and `bounds_with`.
-use Rattle.std.proofs.Common.{◌≡◌, sym, ◌∙◌, ℕ, ℤ, pos, negsuc, ◌+ℤ◌, ◌<ℤ◌, Bool, not, List, [], ◌∷◌, Ok, arith}
+use Rattle.std.proofs.Common.{◌≡◌, sym, ◌∙◌, ℕ, ℤ, pos, negsuc, ◌+ℤ◌, ◌<ℤ◌, Bool, not, List, [], ◌∷◌, ◌++◌, Ok, arith}
 use Rattle.std.specs.Prelude.{filter}
+use Rattle.std.specs.List.{flat_map}
 use Rattle.std.proofs.lemmas.Int.{ints}
 use Rattle.fx_fixed.specs.Chain.{map_chain}
 use Rattle.fx_cmap.specs.Lookup.{glyph_for}
@@ -10,10 +11,12 @@ use Rattle.fx_raster.specs.Laws.{IsOfOutline, IsPicture}
 use Rattle.fx_raster.proofs.Existing.{picture_exists}
 use Rattle.fx_bdf.specs.Glyphs.{Glyph, glyph_bit}
 use Rattle.fx_request.specs.Characters.{rising}
-use Rattle.fx_strike.specs.Strike.{Sketch, Setting, IsGlyphOf, AreGlyphsOf, sketch_from, glyph_sketch_of, sketch_of, is_missing}
+use Rattle.fx_request.specs.declared.request.OnRefused.{OnRefused}
+use Rattle.fx_strike.specs.Strike.{Sketch, Setting, IsGlyphOf, AreGlyphsOf, sketch_from, glyph_sketch_of, is_missing}
+use Rattle.fx_strike.specs.Strike.{Fate, drawn, unhinted, left_out, sketches_in, machineless, glyph_fate_of, fate_of}
 use Rattle.fx_strike.specs.Laws.{StrikeExists}
 use Rattle.fx_strike.proofs.Sketching.{tight_along}
-use Rattle.fx_strike.proofs.OnePart.{chain_parts, parts_of, sketch_made}
+use Rattle.fx_strike.proofs.OnePart.{chain_parts, has_sketch, parts_of, sketch_made}
 use Rattle.fx_strike.proofs.Trimming.{AreSmall, trimmed}
 
 -- the bits of a picture lie near
@@ -50,6 +53,14 @@ glyph_of_shape s outlined =
       },
     )
 
+-- the glyphs of sketches, and of more
+pub glyphs_append : (ss ts : List Sketch) (gs hs : List Glyph) → AreGlyphsOf ss gs → AreGlyphsOf ts hs
+    → AreGlyphsOf (ss ++ ts) (gs ++ hs)
+glyphs_append [] ts [] hs h k = k
+glyphs_append (s ∷ ss) ts (g ∷ gs) hs h k = (h.0, glyphs_append ss ts gs hs h.1 k)
+glyphs_append [] ts (g ∷ gs) hs h k = absurd h
+glyphs_append (s ∷ ss) ts [] hs h k = absurd h
+
 glyph_of_sketch : (setting : Setting) (code glyph : ℕ) (s : Sketch)
     → glyph_sketch_of setting code glyph ≡ Ok s
     → (g : Glyph) × IsGlyphOf s g
@@ -58,16 +69,26 @@ glyph_of_sketch setting code glyph s h =
     rw x.is (glyph_of_shape (sketch_from setting code x.drawing x.shape x.metrics)
     (setting.rule, x.drawing.ends, x.drawing.points, x.shaped))
 
-glyphs_of_sketches : (setting : Setting) (codes : List ℕ) (ss : List Sketch)
-    → map_chain (sketch_of setting) codes ≡ Ok ss → (gs : List Glyph) × AreGlyphsOf ss gs
-glyphs_of_sketches setting [] ss h = let none : ss ≡ [] = cc in rw none ([], tt)
-glyphs_of_sketches setting (c ∷ cs) ss h =
-    let p = chain_parts (sketch_of setting) c cs ss h in
-    let g = glyph_of_sketch setting c (glyph_for setting.map c) p.0 p.2 in
-    let gs = glyphs_of_sketches setting cs p.1 p.3 in
-    rw p.4 (g.0 ∷ gs.0, (g.1, gs.1))
+-- a sketch that is due with hinting or without has a glyph
+glyphs_of_fate : (setting : Setting) (refused : OnRefused) (code glyph : ℕ) (f : Fate)
+    → glyph_fate_of setting refused code glyph ≡ Ok f → (gs : List Glyph) × AreGlyphsOf (sketches_in f) gs
+glyphs_of_fate setting refused code glyph (drawn s) h =
+    let g = glyph_of_sketch setting code glyph s (has_sketch setting refused code glyph (drawn s) h) in (g.0 ∷ [], (g.1, tt))
+glyphs_of_fate setting refused code glyph (unhinted notice s) h =
+    let g = glyph_of_sketch (machineless setting) code glyph s (has_sketch setting refused code glyph (unhinted notice s) h) in
+    (g.0 ∷ [], (g.1, tt))
+glyphs_of_fate setting refused code glyph (left_out notice) h = ([], tt)
+
+glyphs_of_fates : (setting : Setting) (refused : OnRefused) (codes : List ℕ) (fs : List Fate)
+    → map_chain (fate_of setting refused) codes ≡ Ok fs → (gs : List Glyph) × AreGlyphsOf (flat_map sketches_in fs) gs
+glyphs_of_fates setting refused [] fs h = let none : fs ≡ [] = cc in rw none ([], tt)
+glyphs_of_fates setting refused (c ∷ cs) fs h =
+    let p = chain_parts (fate_of setting refused) c cs fs h in
+    let g = glyphs_of_fate setting refused c (glyph_for setting.map c) p.0 p.2 in
+    let gs = glyphs_of_fates setting refused cs p.1 p.3 in
+    rw p.4 (g.0 ++ gs.0, glyphs_append (sketches_in p.0) (flat_map sketches_in p.1) g.0 gs.0 g.1 gs.1)
 
 pub strike_exists : StrikeExists
-strike_exists file ppem title chars mode plan h =
-    let p = parts_of file ppem title chars mode plan h in
-    glyphs_of_sketches p.setting (filter (λ c. not (is_missing p.setting c)) (rising chars)) plan.sketches p.sketches
+strike_exists file ppem title chars mode refused plan h =
+    let p = parts_of file ppem title chars mode refused plan h in
+    rw p.sketches (glyphs_of_fates p.setting refused (filter (λ c. not (is_missing p.setting c)) (rising chars)) p.fates p.planned)

@@ -6,7 +6,10 @@ pub mod Making
 pub mod Prepared
 pub mod Lines
 pub mod OnePart
+pub mod Fates
+pub mod Telling
 pub mod OneCharacter
 pub mod Trimming
 pub mod Existing
 pub mod Enclosed
+pub mod BlockSettings

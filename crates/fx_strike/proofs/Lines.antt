@@ -1,15 +1,16 @@
 -- What the second pass writes: of a character, of all characters, and of a strike.
 -- Serves `write_one`, `write_all`, `write_text` and `write_strike`.
-use Rattle.std.proofs.Common.{◌≡◌, refl, sym, ap, ap₂, ◌∙◌, arith, inr, ℕ, zero, suc, ◌-◌, ◌^◌, ◌<◌, OnOk, Bool, true, false, Option}
+use Rattle.std.proofs.Common.{◌≡◌, refl, sym, ap, ap₂, ◌∙◌, subst, append_assoc, arith, inr, ℕ, zero, suc, ◌-◌, ◌^◌, ◌<◌, OnOk, Bool, true, false, Option}
 use Rattle.std.proofs.Common.{List, [], ◌∷◌, ◌++◌, length, get_or, length-append, Result, Ok, Err, cond}
 use Rattle.std.specs.Prelude.{filter, not, ◌==◌}
 use Rattle.std.specs.List.{flat_map}
 use Rattle.std.specs.Borrow.{GName}
 use Rattle.std.proofs.KnownBytes.{Appends-nil}
 use Rattle.std.proofs.lemmas.List.{append-nil}
+use Rattle.std.proofs.lemmas.Grind.{flat_map-append}
 use Rattle.fx_fixed.specs.Chain.{map_ok, map_chain}
 use Rattle.fx_fixed.specs.Texts.{TextView, Adds, Fails as WriterFails, after, begun}
-use Rattle.fx_fixed.proofs.Texts.{adds_nothing, adds_text}
+use Rattle.fx_fixed.proofs.Texts.{adds_nothing, adds_stopped, adds_text, adds_then}
 use Rattle.fx_fixed.specs.declared.sink.WriteFailed.{WriteFailed as Failed}
 use Rattle.fx_fixed.proofs.Chain.{same_Ok}
 use Rattle.fx_cmap.specs.Lookup.{glyph_for}
@@ -26,12 +27,19 @@ use Rattle.fx_request.specs.declared.refusal.Refusal.TheVariants.{WriteFailed, R
 use Rattle.fx_strike.specs.Faults.{Fails}
 use Rattle.fx_fixed.specs.Changes.{Change}
 use Rattle.fx_strike.specs.Title.{Title}
-use Rattle.fx_strike.specs.Strike.{Sketch, Setting, Plan, IsGlyphOf, AreGlyphsOf, glyph_sketch_of, sketch_of, is_missing}
-use Rattle.fx_strike.specs.Strike.{sketches_of, plan_with, properties_of, strike_text}
+use Rattle.fx_request.specs.declared.notice.Notice.{Notice}
+use Rattle.fx_request.specs.declared.request.OnRefused.{OnRefused}
+use Rattle.fx_strike.specs.declared.fate.Fate as held
+use Rattle.fx_strike.specs.declared.fate.Fate.TheVariants.{Drawn, Unhinted, LeftOut}
+use Rattle.fx_strike.specs.declared.sketched.Sketched.{Sketched}
+use Rattle.fx_strike.specs.Strike.{Sketch, Setting, Plan, Fate, drawn, unhinted, left_out, IsGlyphOf, AreGlyphsOf, sketches_in}
+use Rattle.fx_strike.specs.Strike.{glyph_fate_of, fate_of, fates_of, is_missing, plan_with, properties_of, strike_text}
+use Rattle.fx_strike.specs.inner.Drawing.{AreOf, IsFateOf, IsSketchedOf}
 use Rattle.fx_strike.specs.Headline.{Surveyed, Leaves, surveyed_header}
-use Rattle.fx_strike.specs.inner.Writing.{AreLinesOf, AreAllLinesOf, HasRoom, Stops, Writes}
+use Rattle.fx_strike.specs.inner.Writing.{AddsMore, AreLinesOf, AreAllLinesOf, HasRoom, Stops, Writes}
 use Rattle.fx_strike.proofs.OnePart.{chain_parts, glyph_is_one, planned}
-use Rattle.fx_strike.proofs.Seeing.{missing_is, not_zero, same_sketch}
+use Rattle.fx_strike.proofs.Fates.{fate_code}
+use Rattle.fx_strike.proofs.Seeing.{missing_is, not_zero, same_fate}
 
 -- ---- parts of a text
 
@@ -75,91 +83,175 @@ only_memory BadHex due y h f = absurd f
 only_memory InputTooLarge due y h f = absurd f
 only_memory d due y h f = let e : Err d ≡ Ok y = sym f ∙ h in absurd (cc)
 
--- a glyph has lines
-has_lines : (g : Glyph) → 0 < length (glyph_text g)
-unfolding head_text
-has_lines g = omega arith
+-- out of memory before its lines
+stopped : {was : TextView} (lines : List ℕ) → AddsMore was was lines (Err OutOfMemory)
+stopped {was} lines = record {
+  outcome = λ more l.
+      let low : 0 < length (was.waiting ++ (lines ++ more)) =
+      omega (arith, l, length-append was.waiting (lines ++ more), length-append lines more) in
+      record { same = refl; outcome = (0, low, Appends-nil was.held, refl) };
+}
 
--- its glyph is the one that is drawn
-record Due (setting : Setting) (code glyph : ℕ) (text : List ℕ) : Type 0 where
-  pub sketch : Sketch
-  pub bits : Glyph
-  pub is : glyph_sketch_of setting code glyph ≡ Ok sketch
-  pub of : IsGlyphOf sketch bits
-  pub text_is : text ≡ glyph_text bits
+-- these are the lines
+same_lines : {was now : TextView} {a b : List ℕ} {r : Result (Unit {0}) Refusal} → a ≡ b → AddsMore was now a r
+    → AddsMore was now b r
+same_lines {was} {now} {r = r} e h = let P : List ℕ → Type 0 = λ t. AddsMore was now t r in subst P e h
 
-module _ {setting : Setting} {code glyph : ℕ} {text : List ℕ} where
+pub adds_stopped_at : {was now : TextView} {lines : List ℕ} {d : Refusal} → Adds Stops was now lines (Err d)
+    → AddsMore was now lines (Err d)
+adds_stopped_at h = record { outcome = λ more l. adds_stopped more h }
+
+pub adds_all : {was now : TextView} {lines : List ℕ} → Adds Stops was now lines (Ok tt) → AddsMore was now lines (Ok tt)
+adds_all h = record { outcome = h }
+
+-- out of memory is the refusal in which a sketch had its bits made
+pub stopped_by : {was : TextView} (lines : List ℕ) (d : Refusal) → d ≡ OutOfMemory → AddsMore was was lines (Err d)
+stopped_by {was} lines d e = let P : Refusal → Type 0 = λ x. AddsMore was was lines (Err x) in subst P (sym e) (stopped lines)
+
+-- the glyph of a sketch that is drawn has its lines
+pub drawn_lines : {g : Glyph} → TrimmedIsOne → (sketch : Sketch) (glyph : Glyph) → IsGlyphOf sketch g → IsGlyphOf sketch glyph
+    → glyph_text g ≡ glyph_text glyph
+drawn_lines {g} one sketch glyph here is = ap glyph_text (glyph_is_one one sketch g glyph here is)
+
+-- by what becomes of a character
+module _ {was now : TextView} {code : ℕ} {r : Result (Unit {0}) Refusal} where
+  one_glyph : (made : Sketched) (sketch : Sketch) (glyphs : List Glyph)
+      → ((sketch : Sketch) (glyph : Glyph) → IsSketchedOf sketch made → sketch.code ≡ code → IsGlyphOf sketch glyph
+      → AddsMore was now (glyph_text glyph) r)
+      → IsSketchedOf sketch made → sketch.code ≡ code → AreGlyphsOf (sketch ∷ []) glyphs
+      → AddsMore was now (flat_map glyph_text glyphs) r
+  one_glyph made sketch [] h is e g = absurd g
+  one_glyph made sketch (x ∷ []) h is e g = same_lines (sym (append-nil (glyph_text x))) (h sketch x is e g.0)
+  one_glyph made sketch (x ∷ y ∷ xs) h is e g = absurd g.1
+
+  pub lines_drawn : (due : Fate) (made : Sketched) (glyphs : List Glyph)
+      → ((sketch : Sketch) (glyph : Glyph) → IsSketchedOf sketch made → sketch.code ≡ code → IsGlyphOf sketch glyph
+      → AddsMore was now (glyph_text glyph) r)
+      → IsFateOf due (Drawn made) → AreOf code due → AreGlyphsOf (sketches_in due) glyphs
+      → AddsMore was now (flat_map glyph_text glyphs) r
+  lines_drawn (drawn s) made glyphs h is e g = one_glyph made s glyphs h is e g
+  lines_drawn (unhinted notice s) made glyphs h is e g = absurd is
+  lines_drawn (left_out notice) made glyphs h is e g = absurd is
+
+  pub lines_unhinted : (due : Fate) (notice : Notice) (made : Sketched) (glyphs : List Glyph)
+      → ((sketch : Sketch) (glyph : Glyph) → IsSketchedOf sketch made → sketch.code ≡ code → IsGlyphOf sketch glyph
+      → AddsMore was now (glyph_text glyph) r)
+      → IsFateOf due (Unhinted notice made) → AreOf code due → AreGlyphsOf (sketches_in due) glyphs
+      → AddsMore was now (flat_map glyph_text glyphs) r
+  lines_unhinted (drawn s) told made glyphs h is e g = absurd is
+  lines_unhinted (unhinted notice s) told made glyphs h is e g = one_glyph made s glyphs h is.1 e g
+  lines_unhinted (left_out notice) told made glyphs h is e g = absurd is
+
+-- what becomes of a character, and its glyphs
+record Due (setting : Setting) (refused : OnRefused) (code glyph : ℕ) (text : List ℕ) : Type 0 where
+  pub fate : Fate
+  pub glyphs : List Glyph
+  pub is : glyph_fate_of setting refused code glyph ≡ Ok fate
+  pub drawn : AreGlyphsOf (sketches_in fate) glyphs
+  pub text_is : text ≡ flat_map glyph_text glyphs
+
+module _ {setting : Setting} {refused : OnRefused} {code glyph : ℕ} {text : List ℕ} where
   -- the font lacks it
-  pub adds_missing : {was : TextView} → glyph ≡ glyph_for setting.map code → glyph ≡ 0 → AreLinesOf setting code text
-      → Adds Stops was was text (Ok tt)
+  pub adds_missing : {was : TextView} → glyph ≡ glyph_for setting.map code → glyph ≡ 0 → AreLinesOf setting refused code text
+      → AddsMore was was text (Ok tt)
   adds_missing e m h =
       let none : is_missing setting code ≡ true = ap (λ (n : ℕ). n == 0) (sym e ∙ m) in
-      adds_text (sym (rw none at h.lines)) adds_nothing
+      adds_all (adds_text (sym (rw none at h.lines)) adds_nothing)
 
-  due_lines : glyph ≡ glyph_for setting.map code → (glyph ≡ 0 → ⊥) → AreLinesOf setting code text → Due setting code glyph text
+  due_lines : glyph ≡ glyph_for setting.map code → (glyph ≡ 0 → ⊥) → AreLinesOf setting refused code text
+      → Due setting refused code glyph text
   due_lines e m h =
       let x = rw (missing_is setting code glyph e false (not_zero glyph m)) at h.lines in
-      record { sketch = x.0; bits = x.1; is = same_sketch setting code glyph e ∙ x.2; of = x.3; text_is = x.4 }
-
-  pub drawn_lines : {g : Glyph} → TrimmedIsOne → glyph ≡ glyph_for setting.map code → (glyph ≡ 0 → ⊥)
-      → (sketch : Sketch) × (glyph_sketch_of setting code glyph ≡ Ok sketch) × IsGlyphOf sketch g
-      → AreLinesOf setting code text → glyph_text g ≡ text
-  drawn_lines {g} one e m d h =
-      let x = due_lines e m h in
-      let here = rw (same_Ok d.0 x.sketch d.1 x.is) at d.2 in
-      ap glyph_text (glyph_is_one one x.sketch g x.bits here x.of) ∙ sym x.text_is
+      record { fate = x.0; glyphs = x.1; is = same_fate setting refused code glyph e ∙ x.2; drawn = x.3; text_is = x.4 }
 
   -- nothing was written of it when memory ran out
   pub adds_undrawn : {was : TextView} (d : Refusal) → glyph ≡ glyph_for setting.map code → (glyph ≡ 0 → ⊥)
-      → Fails d (glyph_sketch_of setting code glyph) → AreLinesOf setting code text → Adds Stops was was text (Err d)
-  adds_undrawn {was} d e m fails h =
+      → Fails d (glyph_fate_of setting refused code glyph) → AreLinesOf setting refused code text → AddsMore was was text (Err d)
+  adds_undrawn d e m fails h =
+      let x = due_lines e m h in stopped_by text d (only_memory d _ x.fate x.is fails)
+
+  -- it was written, or as much of it as could be
+  pub adds_fate : {was now : TextView} {made : held.Fate} (r : Result (Unit {0}) Refusal) → glyph ≡ glyph_for setting.map code
+      → (glyph ≡ 0 → ⊥)
+      → (fate : Fate) × (glyph_fate_of setting refused code glyph ≡ Ok fate) × IsFateOf fate made
+      → ((due : Fate) (glyphs : List Glyph) → IsFateOf due made → AreOf code due → AreGlyphsOf (sketches_in due) glyphs
+      → AddsMore was now (flat_map glyph_text glyphs) r)
+      → AreLinesOf setting refused code text → AddsMore was now text r
+  adds_fate r e m f w h =
       let x = due_lines e m h in
-      let low : 0 < length (was.waiting ++ text) =
-      omega (arith, length-append was.waiting text, ap length x.text_is, has_lines x.bits) in
-      rw (only_memory d _ x.sketch x.is fails) (record { same = refl; outcome = (0, low, Appends-nil was.held, refl) })
+      let here = rw (same_Ok x.fate f.0 x.is f.1) at x.drawn in
+      same_lines (sym x.text_is) (w f.0 x.glyphs f.2 (fate_code setting refused code glyph f.0 f.1) here)
+
+-- the lines of a code point in the middle
+pub adds_part : {was now next : TextView} {all front lines : List ℕ} (back : List ℕ) {d : Refusal} → all ≡ front ++ (lines ++ back)
+    → Adds Stops was now front (Ok tt) → AddsMore now next lines (Err d) → AddsMore was next all (Err d)
+adds_part {was} {now} {next} {all} {front} {lines} back {d} e h g = same_lines (sym e) (record {
+  outcome = λ more l.
+      let low : 0 < length (back ++ more) = omega (arith, l, length-append back more) in
+      adds_text (sym (append_assoc front (lines ++ back) more ∙ ap (λ (t : List ℕ). front ++ t) (append_assoc lines back more)))
+      (adds_then h (g.outcome (back ++ more) low));
+})
 
 -- ---- all characters
 
 -- the texts of glyphs as pieces for code points
-record Pieces (setting : Setting) (codes : List ℕ) (glyphs : List Glyph) : Type 0 where
+record Pieces (setting : Setting) (refused : OnRefused) (codes : List ℕ) (glyphs : List Glyph) : Type 0 where
   pub pieces : List (List ℕ)
-  pub lines : AreAllLinesOf setting codes pieces
+  pub lines : AreAllLinesOf setting refused codes pieces
   pub whole : flat_map (λ t. t) pieces ≡ flat_map glyph_text glyphs
 
 -- with the lines of one more code point before them
-more_pieces : {setting : Setting} {c : ℕ} {cs text : List ℕ} {gs hs : List Glyph} → AreLinesOf setting c text
-    → Pieces setting cs gs → flat_map glyph_text hs ≡ text ++ flat_map glyph_text gs → Pieces setting (c ∷ cs) hs
-more_pieces {setting} {c} {cs} {text} h p e = record {
+more_pieces : {setting : Setting} {refused : OnRefused} {c : ℕ} {cs text : List ℕ} {gs hs : List Glyph}
+    → AreLinesOf setting refused c text → Pieces setting refused cs gs → flat_map glyph_text hs ≡ text ++ flat_map glyph_text gs
+    → Pieces setting refused (c ∷ cs) hs
+more_pieces {setting} {refused} {c} {cs} {text} h p e = record {
   pieces = text ∷ p.pieces;
   lines = record { count = ap suc p.lines.count; each = each };
   whole = ap (λ (t : List ℕ). text ++ t) p.whole ∙ sym e;
 }
   where
-    each : (i : ℕ) → i < length (c ∷ cs) → AreLinesOf setting (get_or (c ∷ cs) i 0) (get_or (text ∷ p.pieces) i [])
+    each : (i : ℕ) → i < length (c ∷ cs) → AreLinesOf setting refused (get_or (c ∷ cs) i 0) (get_or (text ∷ p.pieces) i [])
     each zero l = h
     each (suc i) l = p.lines.each i (omega arith)
 
-pieces_with : (setting : Setting) (c : ℕ) (cs : List ℕ) (ss : List Sketch) (gs : List Glyph) (b : Bool) → is_missing setting c ≡ b
-    → map_chain (sketch_of setting) (cond (not b) (c ∷ filter (λ d. not (is_missing setting d)) cs)
-    (filter (λ d. not (is_missing setting d)) cs)) ≡ Ok ss
-    → ((ys : List Sketch) (xs : List Glyph) → sketches_of setting cs ≡ Ok ys → AreGlyphsOf ys xs → Pieces setting cs xs)
-    → AreGlyphsOf ss gs → Pieces setting (c ∷ cs) gs
-pieces_with setting c cs ss gs true e h more g = more_pieces {text = []} (record { lines = rw e refl }) (more ss gs h g) refl
-pieces_with setting c cs ss [] false e h more g =
-    let p = chain_parts (sketch_of setting) c _ ss h in absurd (rw p.4 at g)
-pieces_with setting c cs ss (x ∷ xs) false e h more g =
-    let p = chain_parts (sketch_of setting) c _ ss h in
-    let k = rw p.4 at g in
-    more_pieces {text = glyph_text x} (record { lines = rw e (p.0, x, p.2, k.0, refl) }) (more p.1 xs p.3 k.1) refl
+-- the glyphs of one character, and those of the others
+record Split (f : Fate) (fs : List Fate) (gs : List Glyph) : Type 0 where
+  pub front : List Glyph
+  pub back : List Glyph
+  pub whole : gs ≡ front ++ back
+  pub drawn : AreGlyphsOf (sketches_in f) front
+  pub others : AreGlyphsOf (flat_map sketches_in fs) back
 
-pieces_of : (setting : Setting) (codes : List ℕ) (ss : List Sketch) (gs : List Glyph) → sketches_of setting codes ≡ Ok ss
-    → AreGlyphsOf ss gs → Pieces setting codes gs
-pieces_of setting [] ss [] h g =
+split : (f : Fate) (fs : List Fate) (gs : List Glyph) → AreGlyphsOf (flat_map sketches_in (f ∷ fs)) gs → Split f fs gs
+split (drawn s) fs [] h = absurd h
+split (drawn s) fs (g ∷ gs) h = record { front = g ∷ []; back = gs; whole = refl; drawn = (h.0, tt); others = h.1 }
+split (unhinted notice s) fs [] h = absurd h
+split (unhinted notice s) fs (g ∷ gs) h = record { front = g ∷ []; back = gs; whole = refl; drawn = (h.0, tt); others = h.1 }
+split (left_out notice) fs gs h = record { front = []; back = gs; whole = refl; drawn = tt; others = h }
+
+pieces_with : (setting : Setting) (refused : OnRefused) (c : ℕ) (cs : List ℕ) (fs : List Fate) (gs : List Glyph) (b : Bool)
+    → is_missing setting c ≡ b
+    → map_chain (fate_of setting refused) (cond (not b) (c ∷ filter (λ d. not (is_missing setting d)) cs)
+    (filter (λ d. not (is_missing setting d)) cs)) ≡ Ok fs
+    → ((ys : List Fate) (xs : List Glyph) → fates_of setting refused cs ≡ Ok ys → AreGlyphsOf (flat_map sketches_in ys) xs
+    → Pieces setting refused cs xs)
+    → AreGlyphsOf (flat_map sketches_in fs) gs → Pieces setting refused (c ∷ cs) gs
+pieces_with setting refused c cs fs gs true e h more g =
+    more_pieces {text = []} (record { lines = rw e refl }) (more fs gs h g) refl
+pieces_with setting refused c cs fs gs false e h more g =
+    let p = chain_parts (fate_of setting refused) c _ fs h in
+    let s = split p.0 p.1 gs (rw p.4 at g) in
+    more_pieces {text = flat_map glyph_text s.front} (record { lines = rw e (p.0, s.front, p.2, s.drawn, refl) })
+    (more p.1 s.back p.3 s.others) (ap (flat_map glyph_text) s.whole ∙ flat_map-append glyph_text s.front s.back)
+
+pieces_of : (setting : Setting) (refused : OnRefused) (codes : List ℕ) (fs : List Fate) (gs : List Glyph)
+    → fates_of setting refused codes ≡ Ok fs → AreGlyphsOf (flat_map sketches_in fs) gs → Pieces setting refused codes gs
+pieces_of setting refused [] fs [] h g =
     record { pieces = []; lines = record { count = refl; each = λ i l. absurd (omega arith) }; whole = refl }
-pieces_of setting [] ss (x ∷ xs) h g =
-    let none : ss ≡ [] = cc in absurd (rw none at g)
-pieces_of setting (c ∷ cs) ss gs h g =
-    pieces_with setting c cs ss gs (is_missing setting c) refl h (λ ys xs k l. pieces_of setting cs ys xs k l) g
+pieces_of setting refused [] fs (x ∷ xs) h g =
+    let none : fs ≡ [] = cc in absurd (rw none at g)
+pieces_of setting refused (c ∷ cs) fs gs h g =
+    pieces_with setting refused c cs fs gs (is_missing setting c) refl h (λ ys xs k l. pieces_of setting refused cs ys xs k l) g
 
 -- ---- a strike
 
@@ -168,13 +260,13 @@ abbrev pub properties_by : Title → ℕ → Survey → List PropertyView
 properties_by title ppem survey = all_properties title.x11 title.name ppem survey.summary title.properties
 
 -- the text of a strike that was surveyed
-survey_text : (setting : Setting) (title : Title) (chars : List ℕ) (survey : Survey)
-    (s : Surveyed (plan_with setting title chars) survey)
+survey_text : (setting : Setting) (title : Title) (chars : List ℕ) (refused : OnRefused) (survey : Survey)
+    (s : Surveyed (plan_with setting title chars refused) survey)
     → header_text title.name (properties_by title setting.ppem survey) (surveyed_header setting.ppem survey)
     ++ (flat_map glyph_text s.glyphs ++ end_text) ≡ strike_text s.plan s.glyphs
 unfolding strike_text
-survey_text setting title chars survey s =
-    let p = planned setting title chars s.plan s.is in
+survey_text setting title chars refused survey s =
+    let p = planned setting title chars refused s.plan s.is in
     let given : properties_by title setting.ppem survey ≡ properties_of s.plan s.glyphs =
     ap₂ (λ (b : Bool) (name : List ℕ). all_properties b name setting.ppem survey.summary title.properties) (sym p.x11_is)
     (sym p.name_is)
@@ -224,16 +316,17 @@ leaves_by s (Err (WriteFailed n)) w =
 leaves_by s (Err d) w = absurd w.outcome.3
 
 -- the text of a strike was written, or a beginning of it
-pub strike_leaves : {setting : Setting} (title : Title) (chars : List ℕ) {codes : List ℕ} {change : Change} {survey : Survey}
+pub strike_leaves : {setting : Setting} (title : Title) (chars : List ℕ) {refused : OnRefused} {codes : List ℕ}
+    {change : Change} {survey : Survey}
     {header : Header} {all : List PropertyView} (r : Result (Unit {0}) Refusal)
     → codes ≡ rising chars → header ≡ surveyed_header setting.ppem survey → all ≡ properties_by title setting.ppem survey
-    → Surveyed (plan_with setting title chars) survey
-    → ((lines : List (List ℕ)) → AreAllLinesOf setting codes lines
+    → Surveyed (plan_with setting title chars refused) survey
+    → ((lines : List (List ℕ)) → AreAllLinesOf setting refused codes lines
     → Writes change (header_text title.name all header ++ (flat_map (λ t. t) lines ++ end_text)) r)
-    → Leaves {Y = Unit {0}} (Ok tt) (plan_with setting title chars) change (map_ok (λ _. survey.report) r)
-strike_leaves {setting} title chars {codes} {change} {survey} {header} {all} r c q a s w =
-    let p = planned setting title chars s.plan s.is in
-    let x = pieces_of setting codes s.plan.sketches s.glyphs (rw c p.sketches) s.drawn in
+    → Leaves {Y = Unit {0}} (Ok tt) (plan_with setting title chars refused) change (map_ok (λ _. survey.report) r)
+strike_leaves {setting} title chars {refused} {codes} {change} {survey} {header} {all} r c q a s w =
+    let p = planned setting title chars refused s.plan s.is in
+    let x = pieces_of setting refused codes p.fates s.glyphs (rw c p.planned) (rw p.sketches at s.drawn) in
     let same : header_text title.name all header ++ (flat_map (λ t. t) x.pieces ++ end_text) ≡ strike_text s.plan s.glyphs =
-    rw (q, a, x.whole) (survey_text setting title chars survey s) in
+    rw (q, a, x.whole) (survey_text setting title chars refused survey s) in
     leaves_by s r (rw same at (w x.pieces x.lines))

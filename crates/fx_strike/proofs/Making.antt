@@ -6,7 +6,7 @@ use Rattle.std.proofs.Common.{Err, FitsSigned, w32, to_z, of_z, lit<}
 use Rattle.std.specs.Int.{w128}
 use Rattle.std.specs.Prelude.{◌*ℤ◌, neg_ℤ, unsigned_abs, IsOk, IfOk, IfErr, IsErrOf}
 use Rattle.std.specs.Io.KnownBytes.{Keeps}
-use Rattle.std.specs.List.{sum_by}
+use Rattle.std.specs.List.{sum_by, flat_map}
 use Rattle.std.proofs.lemmas.Int.{ints, fits_signed_mul, fits_signed_from_abs, unsigned_abs-mul}
 use Rattle.std.proofs.Math.Nat.{mul-le-mul_left}
 use Rattle.fx_fixed.specs.Numbers.{near_of}
@@ -28,7 +28,8 @@ use Rattle.fx_fixed.specs.Changes.{Change}
 use Rattle.fx_request.specs.Characters.{rising}
 use Rattle.fx_fixed.specs.Numbers.{counted}
 use Rattle.fx_strike.specs.Title.{Title}
-use Rattle.fx_strike.specs.Strike.{Setting, Plan, setting_with, prelude_by, pixels, sketches_of, plan_from, plan_with}
+use Rattle.fx_request.specs.declared.request.OnRefused.{OnRefused}
+use Rattle.fx_strike.specs.Strike.{Setting, Plan, sketches_in, setting_with, prelude_by, pixels, fates_of, plan_from, plan_with}
 use Rattle.fx_strike.specs.Headline.{IsCause, Surveyed, Leaves, Makes}
 use Rattle.fx_strike.specs.inner.Gathering.{summary_with}
 use Rattle.fx_strike.specs.inner.Surveying.{Holds, survey_from, Surveys}
@@ -45,22 +46,22 @@ pub surveys_cause : (due : Result Plan Refusal) (r : Result Survey Refusal) → 
 surveys_cause due (Ok survey) h = tt
 surveys_cause due (Err d) h = h
 
-pub unseen : (setting : Setting) (title : Title) (chars codes : List ℕ) (d : Refusal) → codes ≡ rising chars
-    → Fails d (sketches_of setting codes) → Fails d (plan_with setting title chars)
+pub unseen : (setting : Setting) (title : Title) (chars codes : List ℕ) (refused : OnRefused) (d : Refusal) → codes ≡ rising chars
+    → Fails d (fates_of setting refused codes) → Fails d (plan_with setting title chars refused)
 unfolding plan_with
-unseen setting title chars codes d c f =
-    fails_on d (sketches_of setting codes) _ (λ x g. rw (ap (sketches_of setting) (sym c) ∙ g)) f
+unseen setting title chars codes refused d c f =
+    fails_on d (fates_of setting refused codes) _ (λ x g. rw (ap (fates_of setting refused) (sym c) ∙ g)) f
 
 -- a count goes on after what was counted before
 counted_on : (before after total : ℕ) → after ≡ counted total → counted (before + after) ≡ counted (before + total)
 counted_on before after total h = omega arith
 
-surveyed_here : (opened : Opened) (rule : Rule) (machine : Option Known) (title : Title) (chars : List ℕ) (seen : Seen)
-    → Holds (setting_with opened rule machine) (rising chars) seen
-    → Surveyed (plan_with (setting_with opened rule machine) title chars)
+surveyed_here : (opened : Opened) (rule : Rule) (machine : Option Known) (title : Title) (chars : List ℕ) (refused : OnRefused)
+    (seen : Seen) → Holds (setting_with opened rule machine) refused (rising chars) seen
+    → Surveyed (plan_with (setting_with opened rule machine) title chars refused)
     (survey_from (prelude_by machine) opened seen (summary_with seen.gathered seen.report.glyphs))
 unfolding plan_with
-surveyed_here opened rule machine title chars seen g =
+surveyed_here opened rule machine title chars refused seen g =
     let heading : Box → ℕ → Header = λ b n. record {
       ppem = opened.ppem;
       bounds = b;
@@ -69,28 +70,31 @@ surveyed_here opened rule machine title chars seen g =
       glyphs = n;
     } in
     record {
-      plan = plan_from (setting_with opened rule machine) title chars g.sketches;
+      plan = plan_from (setting_with opened rule machine) title chars g.fates;
       glyphs = g.glyphs;
       is = rw g.planned;
       drawn = g.drawn;
       header = ap (λ (b : Box). heading b seen.report.glyphs) g.bounds ∙
           ap (λ (n : ℕ). heading (bounds_of (map (λ x. x.box) g.glyphs)) n) g.count;
-      summary = summary_is g.glyphs seen.gathered seen.report.glyphs g.gathered (g.count ∙ as_many g.sketches g.glyphs g.drawn);
+      summary = summary_is g.glyphs seen.gathered seen.report.glyphs g.gathered
+          (g.count ∙ as_many (flat_map sketches_in g.fates) g.glyphs g.drawn);
       told = record {
         glyphs = g.count;
         missing = g.missing;
-        strays = counted_on (prelude_by machine).strays seen.report.usage.strays (sum_by (λ s. s.usage.strays) g.sketches) g.strays;
-        steps = counted_on (prelude_by machine).steps seen.report.usage.steps (sum_by (λ s. s.usage.steps) g.sketches) g.steps;
+        strays = counted_on (prelude_by machine).strays seen.report.usage.strays
+            (sum_by (λ s. s.usage.strays) (flat_map sketches_in g.fates)) g.strays;
+        steps = counted_on (prelude_by machine).steps seen.report.usage.steps
+            (sum_by (λ s. s.usage.steps) (flat_map sketches_in g.fates)) g.steps;
       };
     }
 
 pub surveyed : (opened : Opened) (rule : Rule) (machine : Option Known) (prelude : Usage) (title : Title)
-    (chars codes : List ℕ) (seen : Seen) (summary : Summary) (survey : Survey)
-    → prelude ≡ prelude_by machine → codes ≡ rising chars → Holds (setting_with opened rule machine) codes seen
+    (chars codes : List ℕ) (refused : OnRefused) (seen : Seen) (summary : Summary) (survey : Survey)
+    → prelude ≡ prelude_by machine → codes ≡ rising chars → Holds (setting_with opened rule machine) refused codes seen
     → summary ≡ summary_with seen.gathered seen.report.glyphs → survey ≡ survey_from prelude opened seen summary
-    → Surveyed (plan_with (setting_with opened rule machine) title chars) survey
-surveyed opened rule machine prelude title chars codes seen summary survey n c g m e =
-    rw (e, n, m) (surveyed_here opened rule machine title chars seen (rw c at g))
+    → Surveyed (plan_with (setting_with opened rule machine) title chars refused) survey
+surveyed opened rule machine prelude title chars codes refused seen summary survey n c g m e =
+    rw (e, n, m) (surveyed_here opened rule machine title chars refused seen (rw c at g))
 
 -- ---- refusals that are due
 

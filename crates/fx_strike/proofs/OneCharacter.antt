@@ -3,11 +3,14 @@
 use Rattle.std.proofs.Common.{◌≡◌, refl, sym, ap, ◌∙◌, ℕ, Bool, true, false, not, cond, List, [], ◌∷◌, Some, None}
 use Rattle.std.proofs.Common.{Result, Ok, Err}
 use Rattle.std.specs.Prelude.{slice_get, if◌then◌else◌}
+use Rattle.std.specs.List.{flat_map}
 use Rattle.fx_fixed.specs.Chain.{◌>>=◌, wanted, map_ok, map_chain}
 use Rattle.fx_fixed.specs.Sizes.{ppem_of}
 use Rattle.fx_sfnt.specs.Tables.{Face}
 use Rattle.fx_cmap.specs.declared.mapping.Mapping.{Mapping}
+use Rattle.fx_cmap.specs.Lookup.{glyph_for}
 use Rattle.fx_request.specs.declared.request.Mode.{Mode}
+use Rattle.fx_request.specs.declared.request.OnRefused.TheVariants.{Stop}
 use Rattle.fx_request.specs.declared.refusal.Refusal.{Refusal}
 use Rattle.fx_request.specs.declared.refusal.Refusal.TheVariants.{BadSize}
 use Rattle.fx_request.specs.Characters.{rising}
@@ -15,37 +18,40 @@ use Rattle.fx_strike.specs.declared.opened.Opened.{Opened}
 use Rattle.fx_strike.specs.Title.{Title}
 use Rattle.fx_strike.specs.Strike.{Sketch, Setting, Plan, Opening, sketch_of, is_missing, checked_chars, checked_text, checked_title}
 use Rattle.fx_strike.specs.Strike.{font_with_map, opened_after, opened_one_of, setting_in, plan_from, plan_with, plan_in, plan_of}
+use Rattle.fx_strike.specs.Strike.{Fate, drawn, sketches_in, fate_by, machineless, glyph_sketch_of, glyph_fate_of, fate_of}
 use Rattle.fx_strike.specs.Strike.{one_with, one_in, one_of}
 use Rattle.fx_strike.specs.Laws.{OneIsOfStrike, only_sketch}
 
 -- ---- an opened font
 
--- a chain of one step, or of none
-one_step : (f : ℕ → Result Sketch Refusal) (code : ℕ) (last : List Sketch → Plan) (b : Bool)
-    → ((ss : List Sketch) → (last ss).sketches ≡ ss)
-    → (if b then Ok None else map_ok Some (f code)) ≡
-    map_ok only_sketch (map_chain f (cond (not b) (code ∷ []) []) >>= λ ss. Ok (last ss))
-one_step f code last true same = ap (λ (ss : List Sketch). Ok (slice_get ss 0)) (sym (same []))
-one_step f code last false same = by_result (f code)
+-- a chain of one step, or of none, whose first refused character refuses the strike
+one_step : (first second : Result Sketch Refusal) (code : ℕ) (f : ℕ → Result Fate Refusal) (last : List Fate → Plan) (b : Bool)
+    → f code ≡ fate_by Stop code second first → ((fs : List Fate) → (last fs).sketches ≡ flat_map sketches_in fs)
+    → (if b then Ok None else map_ok Some first) ≡
+    map_ok only_sketch (map_chain f (cond (not b) (code ∷ []) []) >>= λ fs. Ok (last fs))
+one_step first second code f last true is same = ap (λ (ss : List Sketch). Ok (slice_get ss 0)) (sym (same []))
+one_step first second code f last false is same = rw is (by_result first)
   where
     by_result : (r : Result Sketch Refusal)
-        → map_ok Some r ≡ map_ok only_sketch ((r >>= λ y. Ok [] >>= λ ys. Ok (y ∷ ys)) >>= λ ss. Ok (last ss))
-    by_result (Ok s) = ap (λ (ss : List Sketch). Ok (slice_get ss 0)) (sym (same (s ∷ [])))
+        → map_ok Some r ≡
+        map_ok only_sketch ((fate_by Stop code second r >>= λ y. Ok [] >>= λ ys. Ok (y ∷ ys)) >>= λ fs. Ok (last fs))
+    by_result (Ok s) = ap (λ (ss : List Sketch). Ok (slice_get ss 0)) (sym (same (drawn s ∷ [])))
     by_result (Err e) = refl
 
 with_is : (setting : Setting) (title : Title) (code : ℕ)
-    → one_with setting code ≡ map_ok only_sketch (plan_with setting title (code ∷ []))
-unfolding rising one_with plan_with
+    → one_with setting code ≡ map_ok only_sketch (plan_with setting title (code ∷ []) Stop)
+unfolding rising one_with plan_with glyph_fate_of
 with_is setting title code =
-    one_step (sketch_of setting) code (plan_from setting title (code ∷ [])) (is_missing setting code) (λ ss. refl)
+    one_step (sketch_of setting code) (glyph_sketch_of (machineless setting) code (glyph_for setting.map code)) code
+    (fate_of setting Stop) (plan_from setting title (code ∷ [])) (is_missing setting code) refl (λ fs. refl)
 
 in_is : (opened : Opened) (title : Title) (code : ℕ) (mode : Mode)
-    → one_in opened code mode ≡ map_ok only_sketch (plan_in opened title (code ∷ []) mode)
+    → one_in opened code mode ≡ map_ok only_sketch (plan_in opened title (code ∷ []) mode Stop)
 unfolding one_in plan_in
 in_is opened title code mode = by_setting (setting_in opened mode)
   where
     by_setting : (r : Result Setting Refusal)
-        → (r >>= λ s. one_with s code) ≡ map_ok only_sketch (r >>= λ s. plan_with s title (code ∷ []))
+        → (r >>= λ s. one_with s code) ≡ map_ok only_sketch (r >>= λ s. plan_with s title (code ∷ []) Stop)
     by_setting (Ok s) = with_is s title code
     by_setting (Err e) = refl
 
@@ -69,10 +75,10 @@ pub one_is_of_strike : OneIsOfStrike
 unfolding opened_after checked_text plan_of one_of
 one_is_of_strike file ppem title code mode named =
     by_opened (opened_one_of file ppem code)
-    ∙ ap (λ (o : Opening). map_ok only_sketch (o >>= λ o. plan_in o title (code ∷ []) mode))
+    ∙ ap (λ (o : Opening). map_ok only_sketch (o >>= λ o. plan_in o title (code ∷ []) mode Stop))
     (sym (named_alike (wanted (ppem_of ppem) BadSize) (checked_chars (code ∷ [])) (checked_title title) (font_with_map file) named))
   where
     by_opened : (o : Opening)
-        → (o >>= λ o. one_in o code mode) ≡ map_ok only_sketch (o >>= λ o. plan_in o title (code ∷ []) mode)
+        → (o >>= λ o. one_in o code mode) ≡ map_ok only_sketch (o >>= λ o. plan_in o title (code ∷ []) mode Stop)
     by_opened (Ok o) = in_is o title code mode
     by_opened (Err e) = refl

@@ -10,16 +10,22 @@ use Rattle.fx_sfnt.specs.Glyphs.{metrics_of}
 use Rattle.fx_sfnt.specs.declared.records.Metrics.{Metrics}
 use Rattle.fx_hint.specs.Outlines.{GlyphOutlineView}
 use Rattle.fx_raster.specs.Rules.{ShapeView, shape_of}
+use Rattle.fx_sfnt.specs.Collections.{FontFileView}
 use Rattle.fx_bdf.specs.Glyphs.{Glyph, TrimmedIsOne, glyph_bit}
+use Rattle.fx_request.specs.declared.notice.Notice.{Notice}
 use Rattle.fx_request.specs.declared.request.Mode.{Mode}
+use Rattle.fx_request.specs.declared.request.OnRefused.{OnRefused}
+use Rattle.fx_request.specs.declared.request.OnRefused.TheVariants.{Stop, LeaveOut, Unhinted}
 use Rattle.fx_request.specs.declared.refusal.Refusal.{Refusal}
-use Rattle.fx_request.specs.declared.refusal.Refusal.TheVariants.{BadSize}
+use Rattle.fx_request.specs.declared.refusal.Refusal.TheVariants.{BadSize, Halted}
 use Rattle.fx_request.specs.Faults.{of_font}
 use Rattle.fx_strike.specs.Faults.{of_hint, of_raster}
 use Rattle.fx_request.specs.Characters.{rising}
 use Rattle.fx_strike.specs.Title.{Title}
+use Rattle.std.specs.List.{flat_map}
 use Rattle.fx_strike.specs.Strike.{Sketch, Setting, Plan, AreGlyphsOf, outline_in, sketch_from}
-use Rattle.fx_strike.specs.Strike.{glyph_sketch_of, sketch_of, is_missing, sketches_of, checked_text, opened_after, opened_of}
+use Rattle.fx_strike.specs.Strike.{Fate, drawn, unhinted, left_out, sketches_in, fate_by, machineless, glyph_fate_of, fate_of, fates_of}
+use Rattle.fx_strike.specs.Strike.{glyph_sketch_of, is_missing, checked_text, opened_after, opened_of}
 use Rattle.fx_strike.specs.Strike.{opened_at, setting_in, setting_of, plan_from, plan_with, plan_in, plan_of}
 use Rattle.fx_strike.specs.Strike.{strike_text}
 use Rattle.fx_strike.specs.Laws.{GlyphIsOne, TextIsOne, PartIsOne}
@@ -102,6 +108,62 @@ pub sketch_code : (setting : Setting) (code glyph : ℕ) (s : Sketch)
     → glyph_sketch_of setting code glyph ≡ Ok s → s.code ≡ code
 sketch_code setting code glyph s h = ap (λ (y : Sketch). y.code) (sketch_made setting code glyph s h).is
 
+-- ---- what becomes of a character
+
+-- by its sketch, and its sketch without hinting
+abbrev FateFrom : Result Sketch Refusal → Result Sketch Refusal → Fate → Type 0
+FateFrom first second (drawn s) = first ≡ Ok s
+FateFrom first second (unhinted notice s) = second ≡ Ok s
+FateFrom first second (left_out notice) = Unit {0}
+
+fate_from : (refused : OnRefused) (code : ℕ) (second first : Result Sketch Refusal) (f : Fate)
+    → fate_by refused code second first ≡ Ok f → FateFrom first second f
+fate_from refused code second (Ok s) f h =
+    let P : Fate → Type 0 = λ x. FateFrom (Ok s) second x in
+    let e : drawn s ≡ f = cc in subst P e refl
+fate_from Stop code second (Err cause) f h = absurd (cc)
+fate_from LeaveOut code second (Err cause) f h =
+    let P : Fate → Type 0 = λ x. FateFrom (Err cause) second x in
+    let e : left_out (record { code = code; cause = cause; unhinted = false }) ≡ f = cc in subst P e tt
+fate_from Unhinted code (Ok s) (Err (Halted halt)) f h =
+    let P : Fate → Type 0 = λ x. FateFrom (Err (Halted halt)) (Ok s) x in
+    let e : unhinted (record { code = code; cause = Halted halt; unhinted = true }) s ≡ f = cc in subst P e refl
+fate_from Unhinted code (Err d) (Err (Halted halt)) f h =
+    let P : Fate → Type 0 = λ x. FateFrom (Err (Halted halt)) (Err d) x in
+    let e : left_out (record { code = code; cause = d; unhinted = false }) ≡ f = cc in subst P e tt
+fate_from Unhinted code second (Err cause) f h =
+    let P : Fate → Type 0 = λ x. FateFrom (Err cause) second x in
+    let e : left_out (record { code = code; cause = cause; unhinted = false }) ≡ f = cc in subst P e tt
+
+-- its sketch is due, with hinting or without
+abbrev pub HasSketch : Setting → ℕ → ℕ → Fate → Type 0
+HasSketch setting code glyph (drawn s) = glyph_sketch_of setting code glyph ≡ Ok s
+HasSketch setting code glyph (unhinted notice s) = glyph_sketch_of (machineless setting) code glyph ≡ Ok s
+HasSketch setting code glyph (left_out notice) = Unit {0}
+
+pub has_sketch : (setting : Setting) (refused : OnRefused) (code glyph : ℕ) (f : Fate)
+    → glyph_fate_of setting refused code glyph ≡ Ok f → HasSketch setting code glyph f
+unfolding glyph_fate_of
+has_sketch setting refused code glyph (drawn s) h = fate_from refused code _ _ (drawn s) h
+has_sketch setting refused code glyph (unhinted notice s) h = fate_from refused code _ _ (unhinted notice s) h
+has_sketch setting refused code glyph (left_out notice) h = tt
+
+-- and is of the code point
+abbrev IsOf : ℕ → Fate → Type 0
+IsOf code f = (s : Sketch) → sketches_in f ≡ s ∷ [] → s.code ≡ code
+
+is_of : (setting : Setting) (refused : OnRefused) (code glyph : ℕ) (f : Fate)
+    → glyph_fate_of setting refused code glyph ≡ Ok f → IsOf code f
+is_of setting refused code glyph (drawn x) h s e =
+    let k : glyph_sketch_of setting code glyph ≡ Ok x = has_sketch setting refused code glyph (drawn x) h in
+    let same : x ≡ s = cc (e) in rw (← same) (sketch_code setting code glyph x k)
+is_of setting refused code glyph (unhinted notice x) h s e =
+    let k : glyph_sketch_of (machineless setting) code glyph ≡ Ok x = has_sketch setting refused code glyph (unhinted notice x) h in
+    let same : x ≡ s = cc (e) in rw (← same) (sketch_code (machineless setting) code glyph x k)
+is_of setting refused code glyph (left_out notice) h s e = absurd (cc (e))
+
+-- ---- chains
+
 -- a chain with values gave its first, and then the others
 pub chain_parts : {A B : Type 0} (f : A → Result B Refusal) (x : A) (xs : List A) (ys : List B) → map_chain f (x ∷ xs) ≡ Ok ys
     → (z : B) × (zs : List B) × (f x ≡ Ok z) × (map_chain f xs ≡ Ok zs) × (ys ≡ z ∷ zs)
@@ -109,17 +171,35 @@ chain_parts f x xs ys h =
     let p = bind_ok (f x) (λ y. map_chain f xs >>= λ zs. Ok (y ∷ zs)) ys h in
     let q = bind_ok (map_chain f xs) (λ zs. Ok (p.0 ∷ zs)) ys p.2 in (p.0, q.0, p.1, q.1, cc (q.2))
 
--- what a chain gives at a place is what its step gives of something
-chain_at : {A B : Type 0} (f : A → Result B Refusal) (xs : List A) (ys : List B) → map_chain f xs ≡ Ok ys → (k : ℕ) (d : B)
-    → k < length ys → (x : A) × (f x ≡ Ok (get_or ys k d))
-chain_at f [] [] h k d l = absurd (omega arith)
-chain_at f [] (y ∷ ys) h k d l = absurd (cc)
-chain_at {B = B} f (x ∷ xs) ys h zero d l =
-    let p = chain_parts f x xs ys h in (x, p.2 ∙ ap (λ (zs : List B). Ok (get_or zs 0 d)) (sym p.4))
-chain_at {B = B} f (x ∷ xs) ys h (suc k) d l =
-    let p = chain_parts f x xs ys h in
-    let less : k < length p.1 = omega (arith, ap length p.4) in
-    let r = chain_at f xs p.1 p.3 k d less in (r.0, r.1 ∙ ap (λ (zs : List B). Ok (get_or zs (suc k) d)) (sym p.4))
+-- what becomes of a code point has this one sketch
+abbrev Gives : (ℕ → Result Fate Refusal) → Sketch → Type 0
+Gives f s = (c : ℕ) × (x : Fate) × (f c ≡ Ok x) × (sketches_in x ≡ s ∷ [])
+
+-- the sketch at a place of a chain is that of something
+sketch_at : (f : ℕ → Result Fate Refusal) (codes : List ℕ) (fates : List Fate) → map_chain f codes ≡ Ok fates
+    → (k : ℕ) (d : Sketch) → k < length (flat_map sketches_in fates) → Gives f (get_or (flat_map sketches_in fates) k d)
+sketch_at f [] [] h k d l = absurd (omega arith)
+sketch_at f [] (x ∷ fates) h k d l = absurd (cc)
+sketch_at f (c ∷ cs) fates h k d l =
+    let p = chain_parts f c cs fates h in
+    let P : List Fate → Type 0 = λ xs. k < length (flat_map sketches_in xs) in
+    let Q : List Fate → Type 0 = λ xs. Gives f (get_or (flat_map sketches_in xs) k d) in
+    subst Q (sym p.4) (first p.0 p.1 p.2 (sketch_at f cs p.1 p.3) k (subst P p.4 l))
+  where
+    one : (x : Fate) (s : Sketch) (xs : List Fate) → f c ≡ Ok x → sketches_in x ≡ s ∷ []
+        → ((k : ℕ) (d : Sketch) → k < length (flat_map sketches_in xs) → Gives f (get_or (flat_map sketches_in xs) k d))
+        → (k : ℕ) → k < suc (length (flat_map sketches_in xs)) → Gives f (get_or (s ∷ flat_map sketches_in xs) k d)
+    one x s xs is e more zero l = (c, x, is, e)
+    one x s xs is e more (suc k) l = more k d (omega (arith, l))
+
+    first : (x : Fate) (xs : List Fate) → f c ≡ Ok x
+        → ((k : ℕ) (d : Sketch) → k < length (flat_map sketches_in xs) → Gives f (get_or (flat_map sketches_in xs) k d))
+        → (k : ℕ) → k < length (flat_map sketches_in (x ∷ xs)) → Gives f (get_or (flat_map sketches_in (x ∷ xs)) k d)
+    first (drawn s) xs is more k l = one (drawn s) s xs is refl more k l
+    first (unhinted notice s) xs is more k l = one (unhinted notice s) s xs is refl more k l
+    first (left_out notice) xs is more k l = more k d l
+
+-- ---- plans
 
 -- what opens after checks opens without them
 unchecked : {A B : Type 0} (size : Result A Refusal) (checks : Result (Unit {0}) Refusal) (opens : A → Result B Refusal) (o : B)
@@ -129,52 +209,79 @@ unchecked (Ok n) (Err e) opens o h = absurd (cc)
 unchecked (Err e) checks opens o h = absurd (cc)
 
 -- the setting of a plan
-pub record Parts (file : List ℕ) (ppem : ℕ) (chars : List ℕ) (mode : Mode) (ss : List Sketch) : Type 0 where
+pub record Parts (file : FontFileView) (ppem : ℕ) (chars : List ℕ) (mode : Mode) (refused : OnRefused)
+    (ss : List Sketch) : Type 0 where
   pub setting : Setting
   pub is : setting_of file ppem mode ≡ Ok setting
-  pub sketches : sketches_of setting (rising chars) ≡ Ok ss
+  pub fates : List Fate
+  pub planned : fates_of setting refused (rising chars) ≡ Ok fates
+  pub sketches : ss ≡ flat_map sketches_in fates
 
--- a plan has the title and the size that it is of, and the sketches of its code points
-pub record Planned (setting : Setting) (title : Title) (chars : List ℕ) (plan : Plan) : Type 0 where
-  pub sketches : sketches_of setting (rising chars) ≡ Ok plan.sketches
+-- a plan has the title and the size that it is of, and what becomes of its code points
+pub record Planned (setting : Setting) (title : Title) (chars : List ℕ) (refused : OnRefused) (plan : Plan) : Type 0 where
+  pub fates : List Fate
+  pub planned : fates_of setting refused (rising chars) ≡ Ok fates
+  pub sketches : plan.sketches ≡ flat_map sketches_in fates
   pub name_is : plan.name ≡ title.name
   pub properties_are : plan.properties ≡ title.properties
   pub x11_is : plan.x11 ≡ title.x11
   pub ppem_is : plan.ppem ≡ setting.ppem
 
-pub planned : (setting : Setting) (title : Title) (chars : List ℕ) (plan : Plan) → plan_with setting title chars ≡ Ok plan
-    → Planned setting title chars plan
+pub planned : (setting : Setting) (title : Title) (chars : List ℕ) (refused : OnRefused) (plan : Plan)
+    → plan_with setting title chars refused ≡ Ok plan → Planned setting title chars refused plan
 unfolding plan_with
-planned setting title chars plan h =
-    let d = bind_ok (sketches_of setting (rising chars)) (λ ss. Ok (plan_from setting title chars ss)) plan h in
+planned setting title chars refused plan h =
+    let d = bind_ok (fates_of setting refused (rising chars)) (λ fs. Ok (plan_from setting title chars fs)) plan h in
     let e : plan_from setting title chars d.0 ≡ plan = cc (d.2) in
-    let P : Plan → Type 0 = λ p. Planned setting title chars p in
-    subst P e (record { sketches = d.1; name_is = refl; properties_are = refl; x11_is = refl; ppem_is = refl })
+    let P : Plan → Type 0 = λ p. Planned setting title chars refused p in
+    subst P e (record {
+      fates = d.0;
+      planned = d.1;
+      sketches = refl;
+      name_is = refl;
+      properties_are = refl;
+      x11_is = refl;
+      ppem_is = refl;
+    })
 
-pub parts_of : (file : List ℕ) (ppem : ℕ) (title : Title) (chars : List ℕ) (mode : Mode) (plan : Plan)
-    → plan_of file ppem title chars mode ≡ Ok plan → Parts file ppem chars mode plan.sketches
+pub parts_of : (file : FontFileView) (ppem : ℕ) (title : Title) (chars : List ℕ) (mode : Mode) (refused : OnRefused) (plan : Plan)
+    → plan_of file ppem title chars mode refused ≡ Ok plan → Parts file ppem chars mode refused plan.sketches
 unfolding opened_after setting_of plan_in plan_of
-parts_of file ppem title chars mode plan h =
-    let o = bind_ok (opened_of file ppem title chars) (λ o. plan_in o title chars mode) plan h in
-    let s = bind_ok (setting_in o.0 mode) (λ s. plan_with s title chars) plan o.2 in
+parts_of file ppem title chars mode refused plan h =
+    let o = bind_ok (opened_of file ppem title chars) (λ o. plan_in o title chars mode refused) plan h in
+    let s = bind_ok (setting_in o.0 mode) (λ s. plan_with s title chars refused) plan o.2 in
     let opened : opened_at file ppem ≡ Ok o.0 = unchecked (wanted (ppem_of ppem) BadSize) (checked_text title chars) _ o.0 o.1 in
-    record { setting = s.0; is = rw opened s.1; sketches = (planned s.0 title chars plan s.2).sketches }
+    let p = planned s.0 title chars refused plan s.2 in
+    record { setting = s.0; is = rw opened s.1; fates = p.fates; planned = p.planned; sketches = p.sketches }
 
--- a sketch of a plan is that of its code point
-sketch_there : (setting : Setting) (chars : List ℕ) (ss : List Sketch) (s : Sketch)
-    → sketches_of setting (rising chars) ≡ Ok ss → Contains ss s → sketch_of setting s.code ≡ Ok s
-sketch_there setting chars ss s p h =
+-- a sketch of a plan is that of what becomes of its code point
+abbrev IsDue : Setting → OnRefused → Sketch → Type 0
+IsDue setting refused s = (x : Fate) × (fate_of setting refused s.code ≡ Ok x) × (sketches_in x ≡ s ∷ [])
+
+sketch_there : (setting : Setting) (refused : OnRefused) (chars : List ℕ) (fates : List Fate) (s : Sketch)
+    → fates_of setting refused (rising chars) ≡ Ok fates → Contains (flat_map sketches_in fates) s → IsDue setting refused s
+sketch_there setting refused chars fates s p h =
     let codes : List ℕ = filter (λ c. not (is_missing setting c)) (rising chars) in
-    let x = chain_at (sketch_of setting) codes ss p h.0 s h.1 in
-    let here : sketch_of setting x.0 ≡ Ok s = x.1 ∙ ap Ok h.2 in
-    ap (sketch_of setting) (sketch_code setting x.0 _ s here) ∙ here
+    let x = sketch_at (fate_of setting refused) codes fates p h.0 s h.1 in
+    let here : sketches_in x.1 ≡ s ∷ [] = x.3 ∙ ap (λ (y : Sketch). y ∷ []) h.2 in
+    let code : s.code ≡ x.0 = is_of setting refused x.0 _ x.1 x.2 s here in
+    (x.1, ap (fate_of setting refused) code ∙ x.2, here)
+
+-- two sketches that are due for one code point are one
+due_is_one : (setting : Setting) (refused : OnRefused) (s t : Sketch) → IsDue setting refused s → IsDue setting refused t
+    → s.code ≡ t.code → s ≡ t
+due_is_one setting refused s t p q e =
+    let same : p.0 ≡ q.0 = same_Ok p.0 q.0 p.1 (ap (fate_of setting refused) e ∙ q.1) in
+    let lists : s ∷ [] ≡ t ∷ [] = sym p.2 ∙ ap sketches_in same ∙ q.2 in cc (lists)
 
 pub part_is_one : PartIsOne
-part_is_one file ppem mode title title2 chars chars2 plan plan2 h g s t i j e =
-    let p = parts_of file ppem title chars mode plan h in
-    let q = parts_of file ppem title2 chars2 mode plan2 g in
+part_is_one file ppem mode refused title title2 chars chars2 plan plan2 h g s t i j e =
+    let p = parts_of file ppem title chars mode refused plan h in
+    let q = parts_of file ppem title2 chars2 mode refused plan2 g in
     let same : p.setting ≡ q.setting = same_Ok p.setting q.setting p.is q.is in
-    same_Ok s t
-    (ap (sketch_of q.setting) (sym e) ∙ ap (λ (x : Setting). sketch_of x s.code) (sym same)
-    ∙ sketch_there p.setting chars plan.sketches s p.sketches i)
-    (sketch_there q.setting chars2 plan2.sketches t q.sketches j)
+    let P : List Sketch → Type 0 = λ ss. Contains ss s in
+    let Q : List Sketch → Type 0 = λ ss. Contains ss t in
+    let R : Setting → Type 0 = λ x. IsDue x refused s in
+    due_is_one q.setting refused s t
+    (subst R same (sketch_there p.setting refused chars p.fates s p.planned (subst P p.sketches i)))
+    (sketch_there q.setting refused chars2 q.fates t q.planned (subst Q q.sketches j)) e

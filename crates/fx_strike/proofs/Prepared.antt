@@ -2,8 +2,10 @@
 -- Serves `make_strike_with`, `survey_inner`, `one_inner` and the calls of `Striker`.
 use Rattle.std.proofs.Common.{◌≡◌, refl, sym, ℕ, List, Option, Result, Ok, Err}
 use Rattle.std.specs.Prelude.{IsOk, IfOk, IfErr}
+use Rattle.fx_sfnt.specs.Collections.{FontFileView}
 use Rattle.fx_bdf.specs.Glyphs.{Glyph}
 use Rattle.fx_request.specs.declared.request.Mode.{Mode}
+use Rattle.fx_request.specs.declared.request.OnRefused.{OnRefused}
 use Rattle.fx_request.specs.declared.refusal.Refusal.{Refusal}
 use Rattle.fx_strike.specs.declared.opened.Opened.{Opened}
 use Rattle.fx_strike.specs.Faults.{Fails}
@@ -19,22 +21,25 @@ is_ok a x h = rw (sym h) refl
 
 -- ---- a strike
 
-pub plan_unopened : (file : List ℕ) (ppem : ℕ) (title : Title) (chars : List ℕ) (mode : Mode) (d : Refusal)
-    → Err d ≡ opened_of file ppem title chars → plan_of file ppem title chars mode ≡ Err d
+pub plan_unopened : (file : FontFileView) (ppem : ℕ) (title : Title) (chars : List ℕ) (mode : Mode) (refused : OnRefused)
+    (d : Refusal)
+    → Err d ≡ opened_of file ppem title chars → plan_of file ppem title chars mode refused ≡ Err d
 unfolding plan_of
-plan_unopened file ppem title chars mode d h = rw (sym h) refl
+plan_unopened file ppem title chars mode refused d h = rw (sym h) refl
 
-pub plan_unset : (file : List ℕ) (ppem : ℕ) (title : Title) (chars : List ℕ) (mode : Mode) (o : Opened) (d : Refusal)
-    → Ok o ≡ opened_of file ppem title chars → Fails d (setting_in o mode) → Fails d (plan_of file ppem title chars mode)
+pub plan_unset : (file : FontFileView) (ppem : ℕ) (title : Title) (chars : List ℕ) (mode : Mode) (refused : OnRefused)
+    (o : Opened) (d : Refusal)
+    → Ok o ≡ opened_of file ppem title chars → Fails d (setting_in o mode) → Fails d (plan_of file ppem title chars mode refused)
 unfolding plan_in plan_of
-plan_unset file ppem title chars mode o d h f =
-    fails_on d (setting_in o mode) (plan_of file ppem title chars mode) (λ e k. rw (sym h, k) refl) f
+plan_unset file ppem title chars mode refused o d h f =
+    fails_on d (setting_in o mode) (plan_of file ppem title chars mode refused) (λ e k. rw (sym h, k) refl) f
 
-pub plan_set : (file : List ℕ) (ppem : ℕ) (title : Title) (chars : List ℕ) (mode : Mode) (o : Opened) (s : Setting)
+pub plan_set : (file : FontFileView) (ppem : ℕ) (title : Title) (chars : List ℕ) (mode : Mode) (refused : OnRefused)
+    (o : Opened) (s : Setting)
     → Ok o ≡ opened_of file ppem title chars → setting_in o mode ≡ Ok s
-    → plan_of file ppem title chars mode ≡ plan_with s title chars
+    → plan_of file ppem title chars mode refused ≡ plan_with s title chars refused
 unfolding plan_in plan_of
-plan_set file ppem title chars mode o s h k = rw (sym h, k) refl
+plan_set file ppem title chars mode refused o s h k = rw (sym h, k) refl
 
 -- ---- one character
 

@@ -3,10 +3,11 @@
 use Rattle.std.proofs.Common.{◌≡◌, refl, sym, ap, ap₂, ◌∙◌, subst, arith, ℕ, suc, zero, ◌+◌, ◌<◌, ◌≤◌, Bool, true, false, not, List, []}
 use Rattle.std.proofs.Common.{◌∷◌, ◌++◌, map, length, take, drop, get_or, length-append, Result, Ok, Err, cond}
 use Rattle.std.specs.Prelude.{nat_lt, ◌==◌, filter}
-use Rattle.std.specs.List.{list_any, sum_by, count_by}
+use Rattle.std.specs.List.{list_any, sum_by, count_by, flat_map}
 use Rattle.std.proofs.lemmas.Bool.{ltb-false, or_parts}
 use Rattle.std.proofs.lemmas.Bool.Decides.{nat_tests}
-use Rattle.std.proofs.lemmas.List.{take_more, drop_more, map-append, take-append-drop}
+use Rattle.std.proofs.lemmas.List.{take_more, drop_more, map-append, take-append-drop, append-nil}
+use Rattle.std.proofs.lemmas.Grind.{flat_map-append}
 use Rattle.std.proofs.lemmas.List.Elements.{filter-append}
 use Rattle.std.proofs.lemmas.List.Sums.{fold-append, sum_by-append}
 use Rattle.fx_fixed.specs.Chain.{map_chain}
@@ -16,11 +17,13 @@ use Rattle.fx_request.specs.declared.refusal.Refusal.{Refusal}
 use Rattle.fx_strike.specs.declared.seen.Seen.{Seen}
 use Rattle.fx_strike.specs.Faults.{Fails}
 use Rattle.fx_request.specs.Limits.{max_code}
-use Rattle.fx_strike.specs.Strike.{Sketch, Setting, IsGlyphOf, AreGlyphsOf, glyph_sketch_of, sketch_of, is_missing, sketches_of}
+use Rattle.fx_request.specs.declared.request.OnRefused.{OnRefused}
+use Rattle.fx_strike.specs.Strike.{Sketch, Setting, Fate, drawn, unhinted, left_out, IsGlyphOf, AreGlyphsOf, sketches_in}
+use Rattle.fx_strike.specs.Strike.{glyph_fate_of, fate_of, fates_of, is_missing}
 use Rattle.fx_fixed.specs.Numbers.{counted}
 use Rattle.fx_machine.specs.declared.usage.Usage.{Usage}
 use Rattle.fx_strike.specs.inner.Gathering.{gathered_with}
-use Rattle.fx_strike.specs.inner.Surveying.{IsEmpty, Has, Holds}
+use Rattle.fx_strike.specs.inner.Surveying.{IsEmpty, Has, HasFate, Holds}
 use Rattle.fx_strike.proofs.GatheredGlyphs.{gathered_push}
 use Rattle.fx_strike.proofs.OnePart.{chain_parts}
 use Rattle.fx_strike.proofs.Sketching.{fails_on}
@@ -100,12 +103,29 @@ sum_push f ss s total more new h k e =
         → new ≡ counted c
     by_sum a b c total more new p h k e = omega arith
 
-pub holds_none : (setting : Setting) (new : Seen) → IsEmpty new
-    → Holds setting [] new
-holds_none setting new h =
+-- one character more that the font has
+fates_push : (setting : Setting) (refused : OnRefused) (codes : List ℕ) (c : ℕ) (fates : List Fate) (fate : Fate)
+    → is_missing setting c ≡ false → fates_of setting refused codes ≡ Ok fates → fate_of setting refused c ≡ Ok fate
+    → fates_of setting refused (codes ++ c ∷ []) ≡ Ok (fates ++ fate ∷ [])
+fates_push setting refused codes c fates fate m h s = ap (map_chain (fate_of setting refused)) (kept setting c m codes []) ∙
+    chain_push (fate_of setting refused) (filter (λ x. not (is_missing setting x)) codes) c fates fate h s
+
+sketches_push : (fates : List Fate) (fate : Fate)
+    → flat_map sketches_in (fates ++ fate ∷ []) ≡ flat_map sketches_in fates ++ sketches_in fate
+sketches_push fates fate = flat_map-append sketches_in fates (fate ∷ []) ∙
+    ap (λ (xs : List Sketch). flat_map sketches_in fates ++ xs) (append-nil (sketches_in fate))
+
+count_none : (setting : Setting) (codes : List ℕ) (c : ℕ) → is_missing setting c ≡ false
+    → count_by (is_missing setting) (codes ++ c ∷ []) ≡ count_by (is_missing setting) codes
+count_none setting codes c m = count_one (is_missing setting) codes c 0 (ap (λ (b : Bool). cond b 1 0) m) ∙
+    (let z : count_by (is_missing setting) codes + 0 ≡ count_by (is_missing setting) codes = omega arith in z)
+
+pub holds_none : (setting : Setting) (refused : OnRefused) (new : Seen) → IsEmpty new
+    → Holds setting refused [] new
+holds_none setting refused new h =
     let P : Box → Type 0 = λ b. IsPlaced b in
     record {
-      sketches = [];
+      fates = [];
       glyphs = [];
       planned = refl;
       drawn = tt;
@@ -121,32 +141,71 @@ holds_none setting new h =
       each = omega (arith, h.glyphs, h.missing);
     }
 
-holds_push : (setting : Setting) (codes : List ℕ) (c : ℕ) (old new : Seen)
-    (sketch : Sketch)
-    → Holds setting codes old → is_missing setting c ≡ false
-    → sketch_of setting c ≡ Ok sketch
-    → Has sketch old new → Holds setting (codes ++ c ∷ []) new
-holds_push setting codes c old new sketch h m s a = record {
-  sketches = h.sketches ++ sketch ∷ [];
-  glyphs = h.glyphs ++ a.glyph ∷ [];
-  planned = ap (map_chain (sketch_of setting)) (kept setting c m codes []) ∙
-      chain_push (sketch_of setting)
-      (filter (λ x. not (is_missing setting x)) codes) c h.sketches sketch h.planned s;
-  drawn = glyphs_push h.sketches h.glyphs sketch a.glyph h.drawn a.drawn;
-  bounds = a.bounds ∙ ap (λ (b : Box). joined b a.glyph.box) h.bounds ∙ sym (bounds_push h.glyphs a.glyph);
-  placed = a.placed;
-  gathered = gathered_push h.glyphs a.glyph old.gathered new.gathered h.gathered
-      (a.gathered ∙ ap₂ (gathered_with old.gathered) (sym a.drawn.code) (sym a.drawn.dwidth));
-  narrow = a.narrow;
-  count = omega (arith, a.glyphs, h.count, length-append h.sketches (sketch ∷ []));
-  missing = a.missing ∙ h.missing ∙ sym (count_one (is_missing setting) codes c 0 (ap (λ (b : Bool). cond b 1 0) m) ∙
-      (let z : count_by (is_missing setting) codes + 0 ≡ count_by (is_missing setting) codes = omega arith in z));
-  strays = sum_push (λ x. x.usage.strays) h.sketches sketch old.report.usage.strays sketch.usage.strays new.report.usage.strays
-      h.strays refl (ap (λ (u : Usage). u.strays) a.usage);
-  steps = sum_push (λ x. x.usage.steps) h.sketches sketch old.report.usage.steps sketch.usage.steps new.report.usage.steps
-      h.steps refl (ap (λ (u : Usage). u.steps) a.usage);
-  each = omega (arith, a.glyphs, a.missing, h.each, length-append codes (c ∷ []));
-}
+-- a character that is drawn
+holds_drawn : (setting : Setting) (refused : OnRefused) (codes : List ℕ) (c : ℕ) (old new : Seen) (fate : Fate) (sketch : Sketch)
+    → sketches_in fate ≡ sketch ∷ [] → Holds setting refused codes old → is_missing setting c ≡ false
+    → fate_of setting refused c ≡ Ok fate → Has sketch old new → Holds setting refused (codes ++ c ∷ []) new
+holds_drawn setting refused codes c old new fate sketch one h m s a =
+    let ss : List Sketch = flat_map sketches_in h.fates in
+    let more : flat_map sketches_in (h.fates ++ fate ∷ []) ≡ ss ++ sketch ∷ [] = sketches_push h.fates fate ∙
+    ap (λ (xs : List Sketch). ss ++ xs) one in
+    let P : List Sketch → Type 0 = λ xs. AreGlyphsOf xs (h.glyphs ++ a.glyph ∷ []) in
+    record {
+      fates = h.fates ++ fate ∷ [];
+      glyphs = h.glyphs ++ a.glyph ∷ [];
+      planned = fates_push setting refused codes c h.fates fate m h.planned s;
+      drawn = subst P (sym more) (glyphs_push ss h.glyphs sketch a.glyph h.drawn a.drawn);
+      bounds = a.bounds ∙ ap (λ (b : Box). joined b a.glyph.box) h.bounds ∙ sym (bounds_push h.glyphs a.glyph);
+      placed = a.placed;
+      gathered = gathered_push h.glyphs a.glyph old.gathered new.gathered h.gathered
+          (a.gathered ∙ ap₂ (gathered_with old.gathered) (sym a.drawn.code) (sym a.drawn.dwidth));
+      narrow = a.narrow;
+      count = omega (arith, a.glyphs, h.count, length-append ss (sketch ∷ []), ap length more);
+      missing = a.missing ∙ h.missing ∙ sym (count_none setting codes c m);
+      strays = sum_push (λ x. x.usage.strays) ss sketch old.report.usage.strays sketch.usage.strays new.report.usage.strays
+          h.strays refl (ap (λ (u : Usage). u.strays) a.usage) ∙
+          ap (λ (xs : List Sketch). counted (sum_by (λ x. x.usage.strays) xs)) (sym more);
+      steps = sum_push (λ x. x.usage.steps) ss sketch old.report.usage.steps sketch.usage.steps new.report.usage.steps
+          h.steps refl (ap (λ (u : Usage). u.steps) a.usage) ∙
+          ap (λ (xs : List Sketch). counted (sum_by (λ x. x.usage.steps) xs)) (sym more);
+      each = omega (arith, a.glyphs, a.missing, h.each, length-append codes (c ∷ []));
+    }
+
+-- a character that is left out
+holds_left_out : (setting : Setting) (refused : OnRefused) (codes : List ℕ) (c : ℕ) (seen : Seen) (fate : Fate)
+    → sketches_in fate ≡ [] → Holds setting refused codes seen → is_missing setting c ≡ false
+    → fate_of setting refused c ≡ Ok fate → Holds setting refused (codes ++ c ∷ []) seen
+holds_left_out setting refused codes c seen fate none h m s =
+    let ss : List Sketch = flat_map sketches_in h.fates in
+    let same : ss ≡ flat_map sketches_in (h.fates ++ fate ∷ []) = sym (sketches_push h.fates fate ∙
+    ap (λ (xs : List Sketch). ss ++ xs) none ∙ append-nil ss) in
+    let P : List Sketch → Type 0 = λ xs. AreGlyphsOf xs h.glyphs in
+    record {
+      fates = h.fates ++ fate ∷ [];
+      glyphs = h.glyphs;
+      planned = fates_push setting refused codes c h.fates fate m h.planned s;
+      drawn = subst P same h.drawn;
+      bounds = h.bounds;
+      placed = h.placed;
+      gathered = h.gathered;
+      narrow = h.narrow;
+      count = h.count ∙ ap length same;
+      missing = h.missing ∙ sym (count_none setting codes c m);
+      strays = h.strays ∙ ap (λ (xs : List Sketch). counted (sum_by (λ x. x.usage.strays) xs)) same;
+      steps = h.steps ∙ ap (λ (xs : List Sketch). counted (sum_by (λ x. x.usage.steps) xs)) same;
+      each = omega (arith, h.each, length-append codes (c ∷ []));
+    }
+
+holds_push : (setting : Setting) (refused : OnRefused) (codes : List ℕ) (c : ℕ) (old new : Seen) (fate : Fate)
+    → Holds setting refused codes old → is_missing setting c ≡ false → fate_of setting refused c ≡ Ok fate
+    → HasFate fate old new → Holds setting refused (codes ++ c ∷ []) new
+holds_push setting refused codes c old new (drawn sketch) h m s a =
+    holds_drawn setting refused codes c old new (drawn sketch) sketch refl h m s a
+holds_push setting refused codes c old new (unhinted notice sketch) h m s a =
+    holds_drawn setting refused codes c old new (unhinted notice sketch) sketch refl h m s a
+holds_push setting refused codes c old new (left_out notice) h m s a =
+    let P : Seen → Type 0 = λ x. Holds setting refused (codes ++ c ∷ []) x in
+    subst P (sym a) (holds_left_out setting refused codes c old (left_out notice) refl h m s)
 
 -- ---- the same at a place of the code points
 
@@ -158,38 +217,36 @@ pub missing_is : (setting : Setting) (c glyph : ℕ) → glyph ≡ glyph_for set
     → is_missing setting c ≡ b
 missing_is setting c glyph e b h = ap (λ (g : ℕ). g == 0) (sym e) ∙ h
 
-pub same_sketch : (setting : Setting) (c glyph : ℕ) → glyph ≡ glyph_for setting.map c
-    → glyph_sketch_of setting c glyph ≡ sketch_of setting c
-same_sketch setting c glyph e = ap (λ (g : ℕ). glyph_sketch_of setting c g) e
+pub same_fate : (setting : Setting) (refused : OnRefused) (c glyph : ℕ) → glyph ≡ glyph_for setting.map c
+    → glyph_fate_of setting refused c glyph ≡ fate_of setting refused c
+same_fate setting refused c glyph e = ap (λ (g : ℕ). glyph_fate_of setting refused c g) e
 
-pub seen_at : (setting : Setting) (codes : List ℕ) (i glyph : ℕ)
-    (old new : Seen)
-    → i < length codes → Holds setting (take i codes) old → glyph ≡ glyph_for setting.map (get_or codes i 0)
+pub seen_at : (setting : Setting) (refused : OnRefused) (codes : List ℕ) (i glyph : ℕ) (old new : Seen)
+    → i < length codes → Holds setting refused (take i codes) old → glyph ≡ glyph_for setting.map (get_or codes i 0)
     → (glyph ≡ 0 → ⊥)
-    → (sketch : Sketch) × (glyph_sketch_of setting (get_or codes i 0) glyph ≡ Ok sketch) × Has sketch old new
-    → Holds setting (take (i + 1) codes) new
-seen_at setting codes i glyph old new l h e m d =
-    let P : List ℕ → Type 0 = λ xs. Holds setting xs new in
+    → (fate : Fate) × (glyph_fate_of setting refused (get_or codes i 0) glyph ≡ Ok fate) × HasFate fate old new
+    → Holds setting refused (take (i + 1) codes) new
+seen_at setting refused codes i glyph old new l h e m d =
+    let P : List ℕ → Type 0 = λ xs. Holds setting refused xs new in
     subst P (sym (take_more codes i 0 l))
-    (holds_push setting (take i codes) (get_or codes i 0) old new d.0 h
+    (holds_push setting refused (take i codes) (get_or codes i 0) old new d.0 h
     (missing_is setting (get_or codes i 0) glyph e false (not_zero glyph m))
-    (sym (same_sketch setting (get_or codes i 0) glyph e) ∙ d.1) d.2)
+    (sym (same_fate setting refused (get_or codes i 0) glyph e) ∙ d.1) d.2)
 
-pub refused_at : (setting : Setting) (codes : List ℕ) (i glyph : ℕ)
-    (old : Seen) (refusal : Refusal)
-    → i < length codes → Holds setting (take i codes) old → glyph ≡ glyph_for setting.map (get_or codes i 0)
+pub refused_at : (setting : Setting) (refused : OnRefused) (codes : List ℕ) (i glyph : ℕ) (old : Seen) (refusal : Refusal)
+    → i < length codes → Holds setting refused (take i codes) old → glyph ≡ glyph_for setting.map (get_or codes i 0)
     → (glyph ≡ 0 → ⊥)
-    → Fails refusal (glyph_sketch_of setting (get_or codes i 0) glyph)
-    → Fails refusal (sketches_of setting codes)
-refused_at setting codes i glyph old refusal l h e m f =
-    fails_on refusal (glyph_sketch_of setting (get_or codes i 0) glyph) (sketches_of setting codes)
+    → Fails refusal (glyph_fate_of setting refused (get_or codes i 0) glyph)
+    → Fails refusal (fates_of setting refused codes)
+refused_at setting refused codes i glyph old refusal l h e m f =
+    fails_on refusal (glyph_fate_of setting refused (get_or codes i 0) glyph) (fates_of setting refused codes)
     (λ d k.
-    ap (sketches_of setting) (sym (take-append-drop i codes) ∙ ap (λ (xs : List ℕ). take i codes ++ xs)
+    ap (fates_of setting refused) (sym (take-append-drop i codes) ∙ ap (λ (xs : List ℕ). take i codes ++ xs)
     (drop_more codes i 0 l))
-    ∙ ap (map_chain (sketch_of setting))
+    ∙ ap (map_chain (fate_of setting refused))
     (kept setting (get_or codes i 0) (missing_is setting (get_or codes i 0) glyph e false (not_zero glyph m)) (take i codes)
     (drop (i + 1) codes))
-    ∙ chain_refused (sketch_of setting) (filter (λ x. not (is_missing setting x)) (take i codes))
+    ∙ chain_refused (fate_of setting refused) (filter (λ x. not (is_missing setting x)) (take i codes))
     (get_or codes i 0)
-    (filter (λ x. not (is_missing setting x)) (drop (i + 1) codes)) h.sketches d h.planned
-    (sym (same_sketch setting (get_or codes i 0) glyph e) ∙ k)) f
+    (filter (λ x. not (is_missing setting x)) (drop (i + 1) codes)) h.fates d h.planned
+    (sym (same_fate setting refused (get_or codes i 0) glyph e) ∙ k)) f

@@ -3,13 +3,16 @@ use Rattle.std.specs.Prelude.{◌≡◌, ℕ, ◌+◌, ◌<◌, List, [], ◌∷
 use Rattle.std.specs.Prelude.{Result, Ok, Err, IsOk, IfOk, IfErr, IsErrOf, ◌⊎◌}
 use Rattle.std.specs.Io.KnownBytes.{Appends, Keeps}
 use Rattle.std.specs.List.{sum_by}
+use Rattle.fx_sfnt.specs.Collections.{FontFileView}
 use Rattle.fx_bdf.specs.declared.header.Header.{Header}
 use Rattle.fx_bdf.specs.Glyphs.{Glyph}
 use Rattle.fx_bdf.specs.X11.{summary_of}
 use Rattle.fx_fixed.specs.Numbers.{counted}
 use Rattle.fx_fixed.specs.Chain.{◌>>=◌}
+use Rattle.fx_request.specs.declared.notice.Notice.{Notice}
 use Rattle.fx_request.specs.declared.refusal.Refusal.{Refusal}
 use Rattle.fx_request.specs.declared.refusal.Refusal.TheVariants.{WriteFailed, ReadFailed, BadHex, InputTooLarge, OutOfMemory}
+use Rattle.fx_request.specs.declared.request.OnRefused.TheVariants.{Stop}
 use Rattle.fx_request.specs.declared.request.Report.{Report}
 use Rattle.fx_request.specs.declared.request.Request.{Request}
 use Rattle.fx_strike.specs.declared.surveyed.Survey.{Survey}
@@ -19,12 +22,17 @@ use Rattle.fx_strike.specs.Title.{Title, no_title, title_of}
 use Rattle.fx_strike.specs.Strike.{opened_of, one_with, plan_with, plan_of, strike_text}
 
 -- the requested strike of a font file, or the first cause why there is none
-abbrev pub strike_of : List ℕ → Request → Result Plan Refusal
-strike_of file request = plan_of file request.ppem (title_of request) request.chars.now request.mode
+abbrev pub strike_of : FontFileView → Request → Result Plan Refusal
+strike_of file request = plan_of file request.ppem (title_of request) request.chars.now request.mode request.on_refused
 
 -- the outcome of a request before memory is taken: the size, the opened font and its character map; or the first cause
-abbrev pub opening_of : List ℕ → Request → Opening
+abbrev pub opening_of : FontFileView → Request → Opening
 opening_of file request = opened_of file request.ppem (title_of request) request.chars.now
+
+-- what is told of the refused characters of a strike, in rising order; nothing if there is no strike
+abbrev pub notices_of : Result Plan Refusal → List Notice
+notices_of (Ok plan) = plan.notices
+notices_of (Err cause) = []
 
 -- what is counted over a strike: `fpgm` and `prep` once, and each character once
 pub record IsReportOf (plan : Plan) (report : Report) : Type 0 where
@@ -138,19 +146,19 @@ abbrev pub IsOneOf : Result (Option Sketch) Refusal → Option Glyph → Type 0
 IsOneOf due None = due ≡ Ok None
 IsOneOf due (Some glyph) = (sketch : Sketch) × (due ≡ Ok (Some sketch)) × IsGlyphOf sketch glyph
 
--- ---- with a striker
+-- ---- with a striker, for which the first refused character refuses the strike
 
 -- the strike of a title and characters, or the first cause why there is none
 unfoldable pub strike_with : Setting → Title → List ℕ → Result Plan Refusal
 strike_with setting title chars = do
   _ ← checked_text title chars
-  plan_with setting title chars
+  plan_with setting title chars Stop
 
 -- that of characters, whatever its title
 unfoldable pub nameless_with : Setting → List ℕ → Result Plan Refusal
 nameless_with setting chars = do
   _ ← checked_chars chars
-  plan_with setting no_title chars
+  plan_with setting no_title chars Stop
 
 -- the sketch of a code point, none if the font lacks it; or the first cause
 unfoldable pub character_with : Setting → ℕ → Result (Option Sketch) Refusal

@@ -1,8 +1,11 @@
 -- What the definitions of a strike imply.
 use Rattle.std.specs.Prelude.{◌≡◌, ℕ, List, [], ◌∷◌, slice_get, Option, Ok, Contains}
 use Rattle.fx_fixed.specs.Chain.{map_ok}
+use Rattle.fx_sfnt.specs.Collections.{FontFileView}
 use Rattle.fx_bdf.specs.Glyphs.{Glyph}
 use Rattle.fx_request.specs.declared.request.Mode.{Mode}
+use Rattle.fx_request.specs.declared.request.OnRefused.{OnRefused}
+use Rattle.fx_request.specs.declared.request.OnRefused.TheVariants.{Stop}
 use Rattle.fx_strike.specs.Title.{Title}
 use Rattle.fx_strike.specs.Strike.{Sketch, Plan, IsGlyphOf, AreGlyphsOf, checked_title, plan_of, one_of, strike_text}
 
@@ -18,14 +21,16 @@ TextIsOne = (plan : Plan) (gs hs : List Glyph) → AreGlyphsOf plan.sketches gs 
 -- a strike has its glyphs: if no cause refuses it there is one, however much memory there is
 abbrev pub StrikeExists : Type 0
 StrikeExists =
-    (file : List ℕ) (ppem : ℕ) (title : Title) (chars : List ℕ) (mode : Mode) (plan : Plan)
-    → plan_of file ppem title chars mode ≡ Ok plan → (gs : List Glyph) × AreGlyphsOf plan.sketches gs
+    (file : FontFileView) (ppem : ℕ) (title : Title) (chars : List ℕ) (mode : Mode) (refused : OnRefused) (plan : Plan)
+    → plan_of file ppem title chars mode refused ≡ Ok plan → (gs : List Glyph) × AreGlyphsOf plan.sketches gs
 
--- a character's part depends on the font, the size, the mode and its code point alone: it is the same in all strikes of those
+-- a character's part depends on the font, the size, the mode, what becomes of refused characters, and its code point alone: it is
+-- the same in all strikes of those
 abbrev pub PartIsOne : Type 0
 PartIsOne =
-    (file : List ℕ) (ppem : ℕ) (mode : Mode) (title other_title : Title) (chars other_chars : List ℕ) (plan other : Plan)
-    → plan_of file ppem title chars mode ≡ Ok plan → plan_of file ppem other_title other_chars mode ≡ Ok other
+    (file : FontFileView) (ppem : ℕ) (mode : Mode) (refused : OnRefused) (title other_title : Title) (chars other_chars : List ℕ)
+    (plan other : Plan)
+    → plan_of file ppem title chars mode refused ≡ Ok plan → plan_of file ppem other_title other_chars mode refused ≡ Ok other
     → (s t : Sketch) → Contains plan.sketches s → Contains other.sketches t → s.code ≡ t.code → s ≡ t
 
 -- the first sketch of a strike, if it has one
@@ -35,5 +40,5 @@ only_sketch plan = slice_get plan.sketches 0
 -- one character is the part of a strike of that character alone, or is refused as that strike is, whatever its title
 abbrev pub OneIsOfStrike : Type 0
 OneIsOfStrike =
-    (file : List ℕ) (ppem : ℕ) (title : Title) (code : ℕ) (mode : Mode) → checked_title title ≡ Ok tt
-    → one_of file ppem code mode ≡ map_ok only_sketch (plan_of file ppem title (code ∷ []) mode)
+    (file : FontFileView) (ppem : ℕ) (title : Title) (code : ℕ) (mode : Mode) → checked_title title ≡ Ok tt
+    → one_of file ppem code mode ≡ map_ok only_sketch (plan_of file ppem title (code ∷ []) mode Stop)

@@ -1,7 +1,9 @@
 pub mod Faults
 pub mod Title
 pub mod Strike
+pub mod Numbers
 pub mod Headline
+pub mod Blocks
 pub mod Listings
 pub mod Laws
 pub mod inner

@@ -2,6 +2,7 @@
 use Rattle.std.specs.Prelude.{◌≡◌, ℕ, ◌+◌, ◌<◌, List, [], codes, length, take, Result, Ok, Err}
 use Rattle.std.specs.Io.KnownBytes.{Appends, Keeps}
 use Rattle.fx_fixed.specs.Chain.{◌>>=◌, map_fault}
+use Rattle.fx_sfnt.specs.Collections.{FontFileView}
 use Rattle.fx_sfnt.specs.Tables.{Face, font_of, table_or_empty}
 use Rattle.fx_sfnt.specs.Glyphs.{glyph_bytes_of}
 use Rattle.fx_glyf.specs.declared.glyph.Glyph as glyf
@@ -33,7 +34,7 @@ program_in face (program.Glyph g) = do
   Ok (code_of glyph)
 
 -- and of a font file
-unfoldable pub program_of : List ℕ → FontProgram → Result (List ℕ) Refusal
+unfoldable pub program_of : FontFileView → FontProgram → Result (List ℕ) Refusal
 program_of file what = do
   face ← map_fault of_font (font_of file)
   program_in face what

@@ -5,6 +5,7 @@ use Rattle.std.specs.List.{list_any, count_by, flat_map}
 use Rattle.fx_fixed.specs.Chain.{◌>>=◌, refuse, wanted, map_ok, map_fault, map_chain}
 use Rattle.fx_fixed.specs.Numbers.{near_of}
 use Rattle.fx_fixed.specs.Sizes.{ppem_of}
+use Rattle.fx_sfnt.specs.Collections.{FontFileView}
 use Rattle.fx_sfnt.specs.Tables.{Face, font_of}
 use Rattle.fx_sfnt.specs.Glyphs.{metrics_of}
 use Rattle.fx_sfnt.specs.declared.records.Metrics.{Metrics}
@@ -25,9 +26,12 @@ use Rattle.fx_bdf.specs.Glyphs.{Glyph, IsTight, IsFormed, glyph_bit, bounds_of}
 use Rattle.fx_bdf.specs.Properties.{PropertyView, first_bad}
 use Rattle.fx_bdf.specs.Text.{is_name, header_text, glyph_text, end_text}
 use Rattle.fx_bdf.specs.X11.{all_properties, summary_of}
+use Rattle.fx_request.specs.declared.notice.Notice.{Notice}
 use Rattle.fx_request.specs.declared.request.Mode.{Mode}
+use Rattle.fx_request.specs.declared.request.OnRefused.{OnRefused}
+use Rattle.fx_request.specs.declared.request.OnRefused.TheVariants.{Stop, LeaveOut, Unhinted}
 use Rattle.fx_request.specs.declared.refusal.Refusal.{Refusal}
-use Rattle.fx_request.specs.declared.refusal.Refusal.TheVariants.{BadSize, BadChars, BadName, BadProperty}
+use Rattle.fx_request.specs.declared.refusal.Refusal.TheVariants.{BadSize, BadChars, BadName, BadProperty, Halted}
 use Rattle.fx_request.specs.Faults.{of_font, of_char_map, of_machine}
 use Rattle.fx_strike.specs.declared.opened.Opened.{Opened}
 use Rattle.fx_strike.specs.Faults.{of_hint, of_raster}
@@ -131,9 +135,65 @@ is_missing setting code = glyph_for setting.map code == 0
 unfoldable pub one_with : Setting → ℕ → Result (Option Sketch) Refusal
 one_with setting code = if is_missing setting code then Ok None else map_ok Some (sketch_of setting code)
 
+-- ---- characters that are refused
+
+-- what becomes of a character that the font has: it is drawn; or it is refused, which is told, and drawn without hinting or
+-- left out
+pub data Fate : Type 0 where
+  drawn : Sketch → Fate
+  unhinted : Notice → Sketch → Fate
+  left_out : Notice → Fate
+
+-- its sketch, if it is in the strike
+abbrev pub sketches_in : Fate → List Sketch
+sketches_in (drawn sketch) = sketch ∷ []
+sketches_in (unhinted notice sketch) = sketch ∷ []
+sketches_in (left_out notice) = []
+
+-- what is told of it
+abbrev pub notices_in : Fate → List Notice
+notices_in (drawn sketch) = []
+notices_in (unhinted notice sketch) = notice ∷ []
+notices_in (left_out notice) = notice ∷ []
+
+-- a code point is left out for a cause
+abbrev pub left_out_for : ℕ → Refusal → Fate
+left_out_for code cause = left_out (record { code = code; cause = cause; unhinted = false })
+
+-- a code point whose program halted, by its sketch without hinting, or the cause why it has none even so
+abbrev pub halted_by : ℕ → Refusal → Result Sketch Refusal → Fate
+halted_by code halt (Ok sketch) = unhinted (record { code = code; cause = halt; unhinted = true }) sketch
+halted_by code halt (Err cause) = left_out_for code cause
+
+-- a code point that is refused for a cause, as the request says; `second` is its sketch without hinting, or the cause why it has
+-- none
+abbrev pub refused_by : OnRefused → ℕ → Result Sketch Refusal → Refusal → Result Fate Refusal
+refused_by Stop code second cause = Err cause
+refused_by LeaveOut code second cause = Ok (left_out_for code cause)
+refused_by Unhinted code second (Halted halt) = Ok (halted_by code (Halted halt) second)
+refused_by Unhinted code second cause = Ok (left_out_for code cause)
+
+-- a code point by its sketch, or the first cause why it has none
+abbrev pub fate_by : OnRefused → ℕ → Result Sketch Refusal → Result Sketch Refusal → Result Fate Refusal
+fate_by refused code second (Ok sketch) = Ok (drawn sketch)
+fate_by refused code second (Err cause) = refused_by refused code second cause
+
+-- the setting without its machine
+abbrev pub machineless : Setting → Setting
+machineless setting = record setting { machine = None }
+
+-- what becomes of a code point by its glyph's number
+unfoldable pub glyph_fate_of : Setting → OnRefused → ℕ → ℕ → Result Fate Refusal
+glyph_fate_of setting refused code glyph =
+    fate_by refused code (glyph_sketch_of (machineless setting) code glyph) (glyph_sketch_of setting code glyph)
+
+-- what becomes of a code point that the font has, or the cause that refuses the strike
+abbrev pub fate_of : Setting → OnRefused → ℕ → Result Fate Refusal
+fate_of setting refused code = glyph_fate_of setting refused code (glyph_for setting.map code)
+
 -- ---- the strike
 
--- a strike before its bits, with what `fpgm` and `prep` used up
+-- a strike before its bits, with what is told of refused characters and what `fpgm` and `prep` used up
 pub record Plan : Type 0 where
   pub name : List ℕ
   pub properties : List PropertyView
@@ -143,35 +203,37 @@ pub record Plan : Type 0 where
   pub descent : ℤ
   pub sketches : List Sketch
   pub missing : ℕ
+  pub notices : List Notice
   pub prelude : Usage
 
 -- FUnits in pixels, rounded
 abbrev pub pixels : ℤ → ℕ → ℕ → ℤ
 pixels units ppem em = near_of (units *ℤ pos ppem) (pos em)
 
--- the sketches of code points that the font has
-abbrev pub sketches_of : Setting → List ℕ → Result (List Sketch) Refusal
-sketches_of setting codes = map_chain (sketch_of setting) (filter (λ c. not (is_missing setting c)) codes)
+-- what becomes of code points that the font has
+abbrev pub fates_of : Setting → OnRefused → List ℕ → Result (List Fate) Refusal
+fates_of setting refused codes = map_chain (fate_of setting refused) (filter (λ c. not (is_missing setting c)) codes)
 
--- the strike of a title, and of characters that have these sketches
-abbrev pub plan_from : Setting → Title → List ℕ → List Sketch → Plan
-plan_from setting title chars sketches = record {
+-- the strike of a title, and of characters of which this becomes
+abbrev pub plan_from : Setting → Title → List ℕ → List Fate → Plan
+plan_from setting title chars fates = record {
   name = title.name;
   properties = title.properties;
   x11 = title.x11;
   ppem = setting.ppem;
   ascent = pixels setting.font.hhea.ascender setting.ppem setting.font.head.units_per_em;
   descent = pixels (neg_ℤ setting.font.hhea.descender) setting.ppem setting.font.head.units_per_em;
-  sketches = sketches;
+  sketches = flat_map sketches_in fates;
   missing = count_by (is_missing setting) (rising chars);
+  notices = flat_map notices_in fates;
   prelude = prelude_by setting.machine;
 }
 
 -- the strike of a title and characters, or the first cause why there is none
-unfoldable pub plan_with : Setting → Title → List ℕ → Result Plan Refusal
-plan_with setting title chars = do
-  sketches ← sketches_of setting (rising chars)
-  Ok (plan_from setting title chars sketches)
+unfoldable pub plan_with : Setting → Title → List ℕ → OnRefused → Result Plan Refusal
+plan_with setting title chars refused = do
+  fates ← fates_of setting refused (rising chars)
+  Ok (plan_from setting title chars fates)
 
 -- ---- the order of causes
 
@@ -200,7 +262,7 @@ checked_text title chars = do
   checked_title title
 
 -- a font opened with its character map, or the first cause why it can't be
-unfoldable pub font_with_map : List ℕ → Result (Face × Mapping) Refusal
+unfoldable pub font_with_map : FontFileView → Result (Face × Mapping) Refusal
 font_with_map file = do
   face ← map_fault of_font (font_of file)
   mapping ← map_fault of_char_map (map_of face)
@@ -212,7 +274,7 @@ Opening = Result Opened Refusal
 
 -- what takes no memory: the size is valid, the checks of what is asked for pass, and the font and its character map open; or the
 -- first cause
-unfoldable pub opened_after : ℕ → Result (Unit {0}) Refusal → List ℕ → Opening
+unfoldable pub opened_after : ℕ → Result (Unit {0}) Refusal → FontFileView → Opening
 opened_after ppem checks file = do
   size ← wanted (ppem_of ppem) BadSize
   _ ← checks
@@ -220,44 +282,44 @@ opened_after ppem checks file = do
   Ok (record { ppem = size; font = opened.0; map = opened.1 })
 
 -- for a strike of a title and characters
-abbrev pub opened_of : List ℕ → ℕ → Title → List ℕ → Opening
+abbrev pub opened_of : FontFileView → ℕ → Title → List ℕ → Opening
 opened_of file ppem title chars = opened_after ppem (checked_text title chars) file
 
 -- for characters that are made one by one
-abbrev pub opened_many_of : List ℕ → ℕ → List ℕ → Opening
+abbrev pub opened_many_of : FontFileView → ℕ → List ℕ → Opening
 opened_many_of file ppem chars = opened_after ppem (checked_chars chars) file
 
 -- for one character
-abbrev pub opened_one_of : List ℕ → ℕ → ℕ → Opening
+abbrev pub opened_one_of : FontFileView → ℕ → ℕ → Opening
 opened_one_of file ppem code = opened_many_of file ppem (code ∷ [])
 
 -- for a striker, which is not asked for anything yet
-abbrev pub opened_at : List ℕ → ℕ → Opening
+abbrev pub opened_at : FontFileView → ℕ → Opening
 opened_at file ppem = opened_after ppem (Ok tt) file
 
 -- the setting of a font file at a size, or the first cause why there is none
-unfoldable pub setting_of : List ℕ → ℕ → Mode → Result Setting Refusal
+unfoldable pub setting_of : FontFileView → ℕ → Mode → Result Setting Refusal
 setting_of file ppem mode = do
   opened ← opened_at file ppem
   setting_in opened mode
 
 -- the same for characters that are made one by one
-unfoldable pub setting_for : List ℕ → ℕ → List ℕ → Mode → Result Setting Refusal
+unfoldable pub setting_for : FontFileView → ℕ → List ℕ → Mode → Result Setting Refusal
 setting_for file ppem chars mode = do
   opened ← opened_many_of file ppem chars
   setting_in opened mode
 
 -- the strike of an opened font, a title and characters, or the first cause why there is none
-unfoldable pub plan_in : Opened → Title → List ℕ → Mode → Result Plan Refusal
-plan_in opened title chars mode = do
+unfoldable pub plan_in : Opened → Title → List ℕ → Mode → OnRefused → Result Plan Refusal
+plan_in opened title chars mode refused = do
   setting ← setting_in opened mode
-  plan_with setting title chars
+  plan_with setting title chars refused
 
 -- and of a font file
-unfoldable pub plan_of : List ℕ → ℕ → Title → List ℕ → Mode → Result Plan Refusal
-plan_of file ppem title chars mode = do
+unfoldable pub plan_of : FontFileView → ℕ → Title → List ℕ → Mode → OnRefused → Result Plan Refusal
+plan_of file ppem title chars mode refused = do
   opened ← opened_of file ppem title chars
-  plan_in opened title chars mode
+  plan_in opened title chars mode refused
 
 -- the sketch of a code point of an opened font, none if the font lacks it; or the first cause
 unfoldable pub one_in : Opened → ℕ → Mode → Result (Option Sketch) Refusal
@@ -266,7 +328,7 @@ one_in opened code mode = do
   one_with setting code
 
 -- and of a font file: it is refused as the strike of that one character is, but for its title
-unfoldable pub one_of : List ℕ → ℕ → ℕ → Mode → Result (Option Sketch) Refusal
+unfoldable pub one_of : FontFileView → ℕ → ℕ → Mode → Result (Option Sketch) Refusal
 one_of file ppem code mode = do
   opened ← opened_one_of file ppem code
   one_in opened code mode

@@ -6,13 +6,12 @@ ghost use Rattle.fx_cache.specs.Cached.{AreDue};
 ghost use Rattle.fx_strike.specs.inner.Drawing.{IsSketchedOf, Draws, due_in};
 
 use crate::hinter::FontHinter;
-use crate::sketch::{outline_at, sketch_with};
 use crate::sketched::Sketched;
 use crate::tools::Tools;
 use fx_bdf::BitGlyph;
 use fx_cache::CacheReader;
 use fx_fixed::{F26, near_64};
-use fx_raster::Scan;
+use fx_raster::{Scan, Scratch};
 use fx_request::Refusal;
 use std::alloc::Global;
 
@@ -37,13 +36,14 @@ pub(crate) fn glyph_of<S: Scan>(
     scan: &S,
     code: u32,
     sketched: &Sketched,
+    scratch: &mut Scratch,
 ) -> Result<BitGlyph, Refusal>
     ensures glyph { IfOk result (λ g. (sketch : Sketch) → IsSketchedOf sketch sketched.now → sketch.code ≡ code →
         IsGlyphOf sketch g) }
     ensures code { IfOk result (λ g. g.code ≡ code) }
     ensures fault { IfErr result (λ e. e ≡ Refusal.OutOfMemory) }
 {
-    let bitmap = sketched.shape.bitmap(alloc, scan)?;
+    let bitmap = sketched.shape.bitmap(alloc, scan, scratch)?;
     let dwidth = whole_pixels(sketched.advance);
     Ok(BitGlyph::of(code, sketched.swidth, dwidth, bitmap))
 }
@@ -63,8 +63,7 @@ impl<'a, S: Scan> Tools<'a, S> {
         ensures sketch { Draws (glyph_sketch_of (setting_with self.now.opened self.now.rule hinter.old) code glyph) result }
         ensures code { IfOk result (λ g. g.code ≡ code) }
     {
-        let drawing = outline_at(self.alloc, hinter, cache, &self.opened, glyph)?;
-        let sketched = sketch_with(&self.opened, self.rule, glyph, drawing)?;
-        glyph_of(self.alloc, self.scan, code, &sketched)
+        let sketched = self.sketch_at(hinter, cache, glyph)?;
+        glyph_of(self.alloc, self.scan, code, &sketched, &mut hinter.scratch)
     }
 }

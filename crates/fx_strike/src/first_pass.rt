@@ -1,19 +1,23 @@
 //! The first pass over the characters: a survey of the strike.
-ghost use Rattle.std.specs.Prelude.{◌≡◌, ◌<◌, ◌≤◌, List, ℕ, neg_ℤ, unsigned_abs, length};
+ghost use Rattle.std.specs.Prelude.{◌≡◌, ◌<◌, ◌≤◌, List, ℕ, neg_ℤ, unsigned_abs, length, IfErr, OnOk};
 ghost use Rattle.fx_request.specs.Limits.{max_characters};
 ghost use Rattle.fx_request.specs.Characters.{rising};
 ghost use Rattle.fx_bdf.specs.Glyphs.{IsPlaced};
 ghost use Rattle.fx_strike.specs.Title.{Title};
-ghost use Rattle.fx_strike.specs.Strike.{Sketch, pixels, setting_with, glyph_sketch_of, plan_with};
+ghost use Rattle.fx_request.specs.Notices.{HearsAll, Told};
+ghost use Rattle.fx_strike.specs.Strike as strikes;
+ghost use Rattle.fx_strike.specs.Strike.{Sketch, pixels, setting_with, glyph_fate_of, notices_in, plan_with};
+ghost use Rattle.fx_strike.specs.Headline.{notices_of};
 ghost use Rattle.fx_cache.specs.Cached.{AreDue};
-ghost use Rattle.fx_strike.specs.inner.Drawing.{IsSketchedOf, due_in};
-ghost use Rattle.fx_strike.specs.inner.Surveying.{IsNarrow, Joins, SeesOne, Sees, Surveys, region_of, survey_from};
+ghost use Rattle.fx_strike.specs.inner.Drawing.{AreOf, IsFateOf, IsSketchedOf, due_in};
+ghost use Rattle.fx_strike.specs.inner.Surveying.{IsNarrow, Joins, Has, HasFate, SeesOne, Sees, Surveys, notices_about, notices_by};
+ghost use Rattle.fx_strike.specs.inner.Surveying.{region_of, survey_from};
 
 use crate::draw::glyph_of;
+use crate::fate::Fate;
 use crate::hinter::FontHinter;
 use crate::opened::Opened;
 use crate::seen::Seen;
-use crate::sketch::{outline_made, sketch_with};
 use crate::sketched::Sketched;
 use crate::surveyed::Survey;
 use crate::tools::Tools;
@@ -21,11 +25,11 @@ use fx_bdf::{Bounds, Summary};
 use fx_cache::OutlineCache;
 use fx_fixed::{Ppem, near};
 use fx_machine::Usage;
-use fx_raster::{Region, Scan};
-use fx_request::{Refusal, Report, rising_codes};
+use fx_raster::{Region, Scan, Scratch};
+use fx_request::{Deaf, Listener, OnRefused, Refusal, Report, rising_codes};
 
 /// FUnits in whole pixels.
-fn whole_pixels(units: i32, ppem: Ppem, em: u16) -> i32
+pub(crate) fn whole_pixels(units: i32, ppem: Ppem, em: u16) -> i32
     requires units { unsigned_abs units ≤ 32768 }
     requires em { 16 ≤ em }
     ensures { result ≡ pixels units ppem em }
@@ -37,7 +41,7 @@ fn whole_pixels(units: i32, ppem: Ppem, em: u16) -> i32
 }
 
 /// A font's ascent in whole pixels.
-fn ascent_of(opened: &Opened<'_>) -> i32
+pub(crate) fn ascent_of(opened: &Opened<'_>) -> i32
     ensures { result ≡ pixels opened.now.font.hhea.ascender opened.now.ppem opened.now.font.head.units_per_em }
 {
     let em = opened.font.head().units_per_em.funits();
@@ -45,7 +49,7 @@ fn ascent_of(opened: &Opened<'_>) -> i32
 }
 
 /// A font's descent in whole pixels, counted down.
-fn descent_of(opened: &Opened<'_>) -> i32
+pub(crate) fn descent_of(opened: &Opened<'_>) -> i32
     ensures { result ≡ pixels (neg_ℤ opened.now.font.hhea.descender) opened.now.ppem opened.now.font.head.units_per_em }
 {
     let em = opened.font.head().units_per_em.funits();
@@ -85,85 +89,156 @@ fn region_of(bounds: Bounds) -> Region
 impl<'a, S: Scan> Tools<'a, S> {
     /// The least box that holds a box and the box of a character's glyph. The glyph's bits are made only if its shape does not lie
     /// in the box.
-    fn bounds_with(&self, bounds: Bounds, code: u32, sketched: &Sketched) -> Result<Bounds, Refusal>
+    fn bounds_with(
+        &self,
+        bounds: Bounds,
+        code: u32,
+        sketched: &Sketched,
+        scratch: &mut Scratch,
+    ) -> Result<Bounds, Refusal>
         requires placed { IsPlaced bounds }
-        ensures { (sketch : Sketch) → IsSketchedOf sketch sketched.now → sketch.code ≡ code → Joins sketch bounds result }
+        ensures joined { (sketch : Sketch) → IsSketchedOf sketch sketched.now → sketch.code ≡ code → Joins sketch bounds result }
+        ensures fault { IfErr result (λ e. e ≡ Refusal.OutOfMemory) }
     {
         if sketched.shape.lies_in(region_of(bounds)) {
             return Ok(bounds);
         }
-        let glyph = glyph_of(self.alloc, self.scan, code, sketched)?;
+        let glyph = glyph_of(self.alloc, self.scan, code, sketched, scratch)?;
         Ok(bounds.joined(glyph.bounds()))
     }
 
-    /// Adds what is seen of a character with this glyph; or the first cause why it has none.
-    fn see_one(
+    /// Adds what is seen of a character that is drawn.
+    fn see_drawn(
         &self,
+        code: u32,
+        sketched: &Sketched,
+        seen: &mut Seen,
+        scratch: &mut Scratch,
+    ) -> Result<(), Refusal>
+        requires few { seen.old.report.glyphs < max_characters }
+        requires placed { IsPlaced seen.old.bounds }
+        requires narrow { IsNarrow seen.old }
+        ensures seen { OnOk result ((sketch : Sketch) → IsSketchedOf sketch sketched.now → sketch.code ≡ code
+            → Has sketch seen.old seen.new) }
+        ensures fault { IfErr result (λ e. e ≡ Refusal.OutOfMemory) }
+    {
+        let bounds = self.bounds_with(seen.bounds, code, sketched, scratch)?;
+        seen.add(code, bounds, sketched);
+        Ok(())
+    }
+
+    /// Adds what is seen of a character of which this becomes, and tells of one that is refused.
+    fn see_fate<L: Listener>(
+        &self,
+        code: u32,
+        fate: &Fate,
+        seen: &mut Seen,
+        scratch: &mut Scratch,
+        listener: &mut L,
+    ) -> Result<(), Refusal>
+        requires few { seen.old.report.glyphs < max_characters }
+        requires placed { IsPlaced seen.old.bounds }
+        requires narrow { IsNarrow seen.old }
+        ensures seen { OnOk result ((due : strikes.Fate) → IsFateOf due fate.now → AreOf code due → HasFate due seen.old seen.new) }
+        ensures heard { OnOk result ((due : strikes.Fate) → IsFateOf due fate.now
+            → HearsAll L.Hears listener.old (notices_in due) listener.new) }
+        ensures fault { IfErr result (λ e. e ≡ Refusal.OutOfMemory) }
+        ensures unheard { IfErr result (λ _. listener.new ≡ listener.old) }
+    {
+        match fate {
+            Fate::Drawn(sketched) => self.see_drawn(code, sketched, seen, scratch),
+            Fate::Unhinted(notice, sketched) => {
+                self.see_drawn(code, sketched, seen, scratch)?;
+                listener.hear(*notice);
+                Ok(())
+            }
+            Fate::LeftOut(notice) => {
+                listener.hear(*notice);
+                Ok(())
+            }
+        }
+    }
+
+    /// Adds what is seen of a character with this glyph, and tells of one that is refused; or the first cause that refuses the
+    /// strike.
+    fn see_one<L: Listener>(
+        &self,
+        refused: OnRefused,
         hinter: &mut FontHinter<'_>,
         code: u32,
         glyph: u16,
         seen: &mut Seen,
         cache: &mut OutlineCache,
+        listener: &mut L,
     ) -> Result<(), Refusal>
         requires cache { AreDue (due_in self.now.opened hinter.old) cache.old }
         requires few { seen.old.report.glyphs < max_characters }
         requires placed { IsPlaced seen.old.bounds }
         requires narrow { IsNarrow seen.old }
         ensures kept { hinter.new ≡ hinter.old }
-        ensures seen { SeesOne (glyph_sketch_of (setting_with self.now.opened self.now.rule hinter.old) code glyph)
+        ensures seen { SeesOne (glyph_fate_of (setting_with self.now.opened self.now.rule hinter.old) refused code glyph)
             seen.old seen.new result }
+        ensures heard { OnOk result (HearsAll L.Hears listener.old
+            (notices_by (glyph_fate_of (setting_with self.now.opened self.now.rule hinter.old) refused code glyph)) listener.new) }
+        ensures unheard { IfErr result (λ _. listener.new ≡ listener.old) }
         ensures cache { AreDue (due_in self.now.opened hinter.old) cache.new }
     {
-        let drawing = outline_made(self.alloc, hinter, &self.opened, glyph)?;
-        cache.put(glyph, &drawing);
-        let sketched = sketch_with(&self.opened, self.rule, glyph, drawing)?;
-        let bounds = self.bounds_with(seen.bounds, code, &sketched)?;
-        seen.add(code, bounds, &sketched);
-        Ok(())
+        let fate = self.fate_made(refused, hinter, cache, code, glyph)?;
+        self.see_fate(code, &fate, seen, &mut hinter.scratch, listener)
     }
 
-    /// What is seen of code points, in their order; or the first cause why one has no glyph.
-    fn see(
+    /// What is seen of code points, in their order; or the first cause that refuses the strike. Each one that is refused in spite
+    /// of which there is a strike is told.
+    fn see<L: Listener>(
         &self,
+        refused: OnRefused,
         hinter: &mut FontHinter<'_>,
         codes: &[u32],
         cache: &mut OutlineCache,
+        listener: &mut L,
     ) -> Result<Seen, Refusal>
         requires few { length codes.now ≤ max_characters }
         requires cache { AreDue (due_in self.now.opened hinter.old) cache.old }
         ensures kept { hinter.new ≡ hinter.old }
-        ensures seen { Sees (setting_with self.now.opened self.now.rule hinter.old) codes.now result }
+        ensures seen { Sees (setting_with self.now.opened self.now.rule hinter.old) refused codes.now result }
+        ensures heard { Told L.Hears listener.old listener.new
+            (notices_about (setting_with self.now.opened self.now.rule hinter.old) refused codes.now) result }
         ensures cache { AreDue (due_in self.now.opened hinter.old) cache.new }
     {
         let mut seen = Seen::new();
         let mut map = self.opened.map.cursor();
-        // `seen` is what is seen of the code points before this one.
+        // `seen` is what is seen of the code points before this one, and what there is to tell of them was told.
         'codes: for code in codes {
             let glyph = map.glyph(*code);
             if glyph == 0 {
                 seen.report.missing += 1;
                 continue;
             }
-            self.see_one(hinter, *code, glyph, &mut seen, cache)?;
+            self.see_one(refused, hinter, *code, glyph, &mut seen, cache, listener)?;
         }
         Ok(seen)
     }
 
     /// The survey of the strike of code points in rising order, whatever its title. Each outline is put into the cache.
-    pub(crate) fn survey_codes(
+    pub(crate) fn survey_codes<L: Listener>(
         &self,
+        refused: OnRefused,
         hinter: &mut FontHinter<'_>,
         codes: &[u32],
         cache: &mut OutlineCache,
+        listener: &mut L,
     ) -> Result<Survey, Refusal>
         requires few { length codes.now ≤ max_characters }
         requires cache { AreDue (due_in self.now.opened hinter.old) cache.old }
         ensures kept { hinter.new ≡ hinter.old }
         ensures cache { AreDue (due_in self.now.opened hinter.old) cache.new }
         ensures survey { (title : Title) (chars : List ℕ) → codes.now ≡ rising chars
-            → Surveys (plan_with (setting_with self.now.opened self.now.rule hinter.old) title chars) result }
+            → Surveys (plan_with (setting_with self.now.opened self.now.rule hinter.old) title chars refused) result }
+        ensures heard { (title : Title) (chars : List ℕ) → codes.now ≡ rising chars
+            → Told L.Hears listener.old listener.new
+            (notices_of (plan_with (setting_with self.now.opened self.now.rule hinter.old) title chars refused)) result }
     {
-        let seen = self.see(hinter, codes, cache)?;
+        let seen = self.see(refused, hinter, codes, cache, listener)?;
         let summary = seen.gathered.summary(seen.report.glyphs);
         Ok(survey_from(hinter.prelude(), &self.opened, seen, summary))
     }
@@ -171,16 +246,17 @@ impl<'a, S: Scan> Tools<'a, S> {
     /// The survey of the strike of characters, whatever its title.
     pub(crate) fn survey_chars(
         &self,
+        refused: OnRefused,
         hinter: &mut FontHinter<'_>,
         chars: &[u32],
     ) -> Result<Survey, Refusal>
         requires few { length chars.now ≤ max_characters }
         ensures kept { hinter.new ≡ hinter.old }
         ensures survey { (title : Title)
-            → Surveys (plan_with (setting_with self.now.opened self.now.rule hinter.old) title chars.now) result }
+            → Surveys (plan_with (setting_with self.now.opened self.now.rule hinter.old) title chars.now refused) result }
     {
         let codes = rising_codes(self.alloc, chars)?;
         let mut cache = OutlineCache::without_room(self.alloc);
-        self.survey_codes(hinter, &codes, &mut cache)
+        self.survey_codes(refused, hinter, &codes, &mut cache, &mut Deaf)
     }
 }

@@ -1,5 +1,5 @@
 //! What hints the glyphs of a strike.
-ghost use Rattle.std.specs.Prelude.{◌≡◌, IfOk};
+ghost use Rattle.std.specs.Prelude.{◌≡◌, None, IfOk};
 ghost use Rattle.fx_fixed.specs.Chain.{map_fault, GivesUnless};
 ghost use Rattle.fx_machine.specs.Known.{machine_of};
 ghost use Rattle.fx_request.specs.Faults.{of_machine};
@@ -9,16 +9,19 @@ ghost use Rattle.fx_strike.specs.Strike.{machine_for, prelude_by};
 use crate::opened::Opened;
 use fx_hint::{GlyphInput, HintFault, Hinter, KeepingMachine, Made, NoHinter};
 use fx_machine::{Machine, Usage};
+use fx_raster::Scratch;
 use fx_request::Refusal;
 use std::alloc::{AllocError, Global};
 use std::marker::Model;
 
 /// What hints the glyphs of a font at a size: a machine of the font whose `fpgm` and `prep` ran, or nothing with hinting off. The
-/// machine lies in a box, so that the functions that hand it on hold little. Contracts see it as what stays as it is, whatever
-/// runs: what is known of the machine.
+/// machine lies in a box, so that the functions that hand it on hold little. With it goes the scratch that one glyph's scan leaves
+/// to the next. Contracts see it as what stays as it is, whatever runs: what is known of the machine.
 #[derive(Drop)]
 pub(crate) struct FontHinter<'a> {
-    machine: Option<Box<KeepingMachine<'a>>>,
+    pub(crate) machine: Option<Box<KeepingMachine<'a>>>,
+    /// What scans work with.
+    pub scratch: Scratch,
 }
 
 impl<'a> Model for FontHinter<'a> {
@@ -31,6 +34,16 @@ impl<'a> Model for FontHinter<'a> {
 }
 
 impl<'a> FontHinter<'a> {
+    /// No machine: nothing is hinted.
+    pub(crate) fn none(alloc: Global) -> FontHinter<'a>
+        ensures { result ≡ None }
+    {
+        FontHinter {
+            machine: None,
+            scratch: Scratch::new(alloc),
+        }
+    }
+
     /// What `fpgm` and `prep` used up.
     pub(crate) fn prelude(&self) -> Usage
         ensures { result ≡ prelude_by self.now }
@@ -89,7 +102,10 @@ impl<'a> Hinter for FontHinter<'a> {
 }
 
 /// A machine in a box, which keeps components that come again.
-fn keeping<'a>(alloc: Global, machine: Machine<'a>) -> Result<Box<KeepingMachine<'a>>, AllocError>
+pub(crate) fn keeping<'a>(
+    alloc: Global,
+    machine: Machine<'a>,
+) -> Result<Box<KeepingMachine<'a>>, AllocError>
     ensures { IfOk result (λ b. b.value.machine ≡ machine.entry) }
 {
     let keeping = KeepingMachine::new(alloc, machine)?;
@@ -115,10 +131,11 @@ pub(crate) fn hinter_at<'a>(
     ensures { GivesUnless Fails (λ h. h) result (machine_for opened.now.font opened.now.ppem hinting) }
 {
     if !hinting {
-        return Ok(FontHinter { machine: None });
+        return Ok(FontHinter::none(alloc));
     }
     let machine = machine_at(alloc, opened)?;
     Ok(FontHinter {
         machine: Some(machine),
+        scratch: Scratch::new(alloc),
     })
 }

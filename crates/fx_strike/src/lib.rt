@@ -6,8 +6,9 @@
 //! runs; with drop-out control the pixels that close a gap are set as well); or it names the first cause why no such strike
 //! exists, or that it is out of memory, or a fault of the writer.
 //! `specs/Strike` says what a strike is, `specs/Headline` what a call returns and leaves; both cite the definitions of the crates
-//! below and nothing of their code. `one` makes one character alone. A `Striker` is a font at a size that is opened once, and makes
-//! characters and strikes one after the other; the other calls open one, and let it go.
+//! below and nothing of their code. A request says what becomes of characters that are refused, and `make_strike_telling` tells a
+//! listener of those in spite of which the strike was made. `one` makes one character alone. A `Striker` is a font at a size that
+//! is opened once, and makes characters and strikes one after the other; the other calls open one, and let it go.
 //!
 //! A strike is made in two passes over its characters: the first surveys it, so that no byte is written of a strike that is
 //! refused; the second makes each character again and writes it. Only one character is held at a time. The first pass makes a
@@ -15,8 +16,10 @@
 //! alone. `listing_of` writes the listing of a program straight to the writer, and takes no memory.
 #![tactic(auto)]
 
+mod block;
 mod draft;
 mod draw;
+mod fate;
 mod faults;
 mod first_pass;
 mod gathered;
@@ -24,6 +27,8 @@ mod hinter;
 pub mod laws;
 mod listing;
 mod make;
+mod numbered;
+mod numbers;
 mod one_character;
 mod open;
 mod opened;
@@ -39,7 +44,8 @@ mod tools;
 
 pub use fx_bdf::Title;
 pub use listing::listing_of;
-pub use make::{make_strike, make_strike_with};
+pub use make::{make_strike, make_strike_telling, make_strike_with};
+pub use numbers::{FontMetrics, font_metrics, map_for};
 pub use one_character::one;
 pub use striker::Striker;
 pub use surveyed::Survey;

@@ -9,7 +9,7 @@ use fx_fixed::Sink;
 use fx_glyf::{Glyph, read};
 use fx_machine::FontProgram;
 use fx_request::Refusal;
-use fx_sfnt::Font;
+use fx_sfnt::{Font, FontFile};
 
 /// The program in a glyph's description; an empty glyph has none.
 fn code_of<'a>(glyph: &Glyph<'a>) -> &'a [u8]
@@ -48,7 +48,7 @@ fn program_in<'a>(font: &Font<'a>, what: FontProgram) -> Result<&'a [u8], Refusa
 
 /// A program of a font file.
 #[tactic(auto, unfolding(crate::specs::Listings::program_of))]
-fn program_of(font: &[u8], what: FontProgram) -> Result<&[u8], Refusal>
+fn program_of<'a>(font: &FontFile<'a>, what: FontProgram) -> Result<&'a [u8], Refusal>
     ensures value { map_ok (λ p. p.now) result ≡ program_of font.now what }
     ensures short { IfOk result (λ p. length p.now < 2 ^ 32) }
     ensures named { IfErr result IsNoFault }
@@ -62,7 +62,11 @@ fn program_of(font: &[u8], what: FontProgram) -> Result<&[u8], Refusal>
 ///
 /// The first cause is returned, and nothing is written: the font's tables, then the glyph's number, its offsets and its bytes.
 /// After `WriteFailed(n)` the writer holds the first n bytes of the listing. No memory is taken.
-pub fn listing_of<W: Sink>(font: &[u8], what: FontProgram, out: &mut W) -> Result<(), Refusal>
+pub fn listing_of<W: Sink>(
+    font: &FontFile<'_>,
+    what: FontProgram,
+    out: &mut W,
+) -> Result<(), Refusal>
     requires { W.fault_count out.old < 2 ^ 63 }
     // The program exists, its listing was written, and the writer counted no fault.
     ensures text { IfOk result (λ _.

@@ -1,13 +1,15 @@
 //! From a font and a request to a strike.
 ghost use Rattle.std.specs.Prelude.{◌<◌, ◌^◌};
 ghost use Rattle.fx_fixed.specs.Changes.{change_of};
-ghost use Rattle.fx_strike.specs.Headline.{Makes, opening_of, strike_of};
+ghost use Rattle.fx_request.specs.Notices.{Told};
+ghost use Rattle.fx_strike.specs.Headline.{Makes, notices_of, opening_of, strike_of};
 
 use crate::open::open;
 use crate::striker::Striker;
 use fx_fixed::Sink;
 use fx_raster::{Rows, Scan};
-use fx_request::{Refusal, Report, Request};
+use fx_request::{Deaf, Listener, Refusal, Report, Request};
+use fx_sfnt::FontFile;
 use std::alloc::Global;
 
 /// Makes the strike of a font and writes its text, with a scan of the caller's choice.
@@ -16,13 +18,14 @@ use std::alloc::Global;
 /// it. Hence nothing is written before every character was made once, and beside the font, its machine with the components that it
 /// keeps, and the code points only one character is held at a time. The first cause is returned, in this order: the size, the
 /// characters, the name, the properties; the font's tables, its character map; with hinting on the halts of `fpgm`, then of
-/// `prep`; then the characters in rising order, each by its outline, then how far out it lies and how large it is.
+/// `prep`; then, if the request stops at refused characters, the characters in rising order, each by its outline, then how far out
+/// it lies and how large it is.
 /// `OutOfMemory` may be returned in place of any step after the character map, and of none before it. After `WriteFailed(n)` the
 /// writer holds the first n bytes of the text; after any other refusal but `OutOfMemory` nothing was written.
 pub fn make_strike_with<S: Scan, W: Sink>(
     alloc: Global,
     scan: &S,
-    font: &[u8],
+    font: &FontFile<'_>,
     request: &Request<'_>,
     out: &mut W,
 ) -> Result<Report, Refusal>
@@ -31,9 +34,7 @@ pub fn make_strike_with<S: Scan, W: Sink>(
     ensures { Makes (opening_of font.now request.now) (strike_of font.now request.now)
         (change_of W.held W.fault_count out.old out.new) result }
 {
-    let opened = open(font, request)?;
-    let mut striker = Striker::of(alloc, scan, opened, request.mode)?;
-    striker.write_checked(&request.title, request.chars, out)
+    make_inner(alloc, scan, font, request, out, &mut Deaf)
 }
 
 /// Makes the strike of a font and writes its text.
@@ -41,7 +42,7 @@ pub fn make_strike_with<S: Scan, W: Sink>(
 /// This is `make_strike_with` with the scan by rows.
 pub fn make_strike<W: Sink>(
     alloc: Global,
-    font: &[u8],
+    font: &FontFile<'_>,
     request: &Request<'_>,
     out: &mut W,
 ) -> Result<Report, Refusal>
@@ -51,4 +52,50 @@ pub fn make_strike<W: Sink>(
         (change_of W.held W.fault_count out.old out.new) result }
 {
     make_strike_with(alloc, &Rows, font, request, out)
+}
+
+/// Makes the strike of a font and writes its text, as `make_strike` does, and tells a listener of the characters that are refused
+/// if the request says to make the strike in spite of them.
+///
+/// The first pass tells of each such character once, in rising order, before the first byte is written.
+pub fn make_strike_telling<W: Sink, L: Listener>(
+    alloc: Global,
+    font: &FontFile<'_>,
+    request: &Request<'_>,
+    out: &mut W,
+    listener: &mut L,
+) -> Result<Report, Refusal>
+    requires { W.fault_count out.old < 2 ^ 63 }
+    // Five clauses: `text`, `cause`, `memory`, `late` and `writer`.
+    ensures made { Makes (opening_of font.now request.now) (strike_of font.now request.now)
+        (change_of W.held W.fault_count out.old out.new) result }
+    // The listener heard the strike's notices in turn; if memory ran out, perhaps only the first of them.
+    ensures told { Told L.Hears listener.old listener.new (notices_of (strike_of font.now request.now)) result }
+{
+    make_inner(alloc, &Rows, font, request, out, listener)
+}
+
+/// `make_strike_with`, and a listener is told of the refused characters.
+fn make_inner<S: Scan, W: Sink, L: Listener>(
+    alloc: Global,
+    scan: &S,
+    font: &FontFile<'_>,
+    request: &Request<'_>,
+    out: &mut W,
+    listener: &mut L,
+) -> Result<Report, Refusal>
+    requires { W.fault_count out.old < 2 ^ 63 }
+    ensures made { Makes (opening_of font.now request.now) (strike_of font.now request.now)
+        (change_of W.held W.fault_count out.old out.new) result }
+    ensures told { Told L.Hears listener.old listener.new (notices_of (strike_of font.now request.now)) result }
+{
+    let opened = open(font, request)?;
+    let mut striker = Striker::of(alloc, scan, opened, request.mode)?;
+    striker.write_checked(
+        &request.title,
+        request.chars,
+        request.on_refused,
+        out,
+        listener,
+    )
 }

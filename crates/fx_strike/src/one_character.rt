@@ -10,6 +10,7 @@ use crate::striker::Striker;
 use fx_bdf::BitGlyph;
 use fx_raster::Rows;
 use fx_request::{Mode, Refusal};
+use fx_sfnt::FontFile;
 use std::alloc::Global;
 
 /// Makes the glyph of one character of a font at a size: its bits, in their tight box, and its advances. None if the font lacks
@@ -20,7 +21,7 @@ use std::alloc::Global;
 /// after the character map, and of none before it.
 pub fn one(
     alloc: Global,
-    font: &[u8],
+    font: &FontFile<'_>,
     ppem: u16,
     code: u32,
     mode: Mode,
@@ -38,7 +39,7 @@ pub fn one(
 /// `one` with its clauses as two.
 fn one_inner(
     alloc: Global,
-    font: &[u8],
+    font: &FontFile<'_>,
     ppem: u16,
     code: u32,
     mode: Mode,

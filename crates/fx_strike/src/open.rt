@@ -16,7 +16,7 @@ use fx_bdf::{Property, Title, check_name, first_bad};
 use fx_cmap::CharMap;
 use fx_fixed::Ppem;
 use fx_request::{MAX_CHARACTERS, MAX_CODE, Refusal, Request};
-use fx_sfnt::Font;
+use fx_sfnt::{Font, FontFile};
 
 /// Whether a code point is past U+10FFFF.
 fn is_past(chars: &[u32]) -> bool
@@ -96,7 +96,7 @@ pub(crate) fn check_text(title: &Title<'_>, chars: &[u32]) -> Result<(), Refusal
 
 /// A font with its character map.
 #[tactic(auto, unfolding(crate::specs::Strike::font_with_map))]
-fn font_with_map<'a>(file: &'a [u8]) -> Result<(Font<'a>, CharMap<'a>), Refusal>
+pub(crate) fn font_with_map<'a>(file: &FontFile<'a>) -> Result<(Font<'a>, CharMap<'a>), Refusal>
     ensures due { result ≡ font_with_map file.now }
     ensures named { IfErr result IsCause }
 {
@@ -107,7 +107,7 @@ fn font_with_map<'a>(file: &'a [u8]) -> Result<(Font<'a>, CharMap<'a>), Refusal>
 
 /// The size, the font and its character map, for a request that passes its checks. No memory is taken.
 #[tactic(auto, unfolding(crate::specs::Strike::opened_after))]
-pub(crate) fn open<'a>(file: &'a [u8], request: &Request<'_>) -> Result<Opened<'a>, Refusal>
+pub(crate) fn open<'a>(file: &FontFile<'a>, request: &Request<'_>) -> Result<Opened<'a>, Refusal>
     ensures due { result ≡ opening_of file.now request.now }
     ensures named { IfErr result IsCause }
     ensures passed { OnOk result (AreChars request.now.chars.now) }
@@ -121,7 +121,11 @@ pub(crate) fn open<'a>(file: &'a [u8], request: &Request<'_>) -> Result<Opened<'
 
 /// The size, the font and its character map, for characters that are made one by one.
 #[tactic(auto, unfolding(crate::specs::Strike::opened_after))]
-pub(crate) fn open_many<'a>(file: &'a [u8], ppem: u16, chars: &[u32]) -> Result<Opened<'a>, Refusal>
+pub(crate) fn open_many<'a>(
+    file: &FontFile<'a>,
+    ppem: u16,
+    chars: &[u32],
+) -> Result<Opened<'a>, Refusal>
     ensures due { result ≡ opened_many_of file.now ppem chars.now }
     ensures named { IfErr result IsCause }
     ensures passed { OnOk result (Ok tt ≡ checked_chars chars.now) }
@@ -133,7 +137,7 @@ pub(crate) fn open_many<'a>(file: &'a [u8], ppem: u16, chars: &[u32]) -> Result<
 }
 
 /// The size, the font and its character map, for one character.
-pub(crate) fn open_one<'a>(file: &'a [u8], ppem: u16, code: u32) -> Result<Opened<'a>, Refusal>
+pub(crate) fn open_one<'a>(file: &FontFile<'a>, ppem: u16, code: u32) -> Result<Opened<'a>, Refusal>
     ensures due { result ≡ opened_one_of file.now ppem code }
     ensures named { IfErr result IsCause }
 {
@@ -142,7 +146,7 @@ pub(crate) fn open_one<'a>(file: &'a [u8], ppem: u16, code: u32) -> Result<Opene
 
 /// The size, the font and its character map, for no character yet.
 #[tactic(auto, unfolding(crate::specs::Strike::opened_after))]
-pub(crate) fn open_at<'a>(file: &'a [u8], ppem: u16) -> Result<Opened<'a>, Refusal>
+pub(crate) fn open_at<'a>(file: &FontFile<'a>, ppem: u16) -> Result<Opened<'a>, Refusal>
     ensures due { result ≡ opened_at file.now ppem }
     ensures named { IfErr result IsCause }
 {

@@ -4,27 +4,80 @@ ghost use Rattle.std.specs.List.{flat_map, list_any};
 ghost use Rattle.fx_fixed.specs.Texts.{Adds, length_of};
 ghost use Rattle.fx_cmap.specs.Lookup.{glyph_for};
 ghost use Rattle.fx_bdf.specs.Properties.{AreLines, seen_properties};
-ghost use Rattle.fx_bdf.specs.Text.{IsName, header_text, end_text, longest_glyph};
+ghost use Rattle.fx_bdf.specs.Text.{IsName, header_text, glyph_text, end_text, longest_glyph};
 ghost use Rattle.fx_request.specs.Limits.{max_characters, max_code};
 ghost use Rattle.fx_fixed.specs.Changes.{change_of};
-ghost use Rattle.fx_strike.specs.Strike.{setting_with};
+ghost use Rattle.fx_strike.specs.Strike as strikes;
+ghost use Rattle.fx_strike.specs.Strike.{Sketch, AreGlyphsOf, IsGlyphOf, setting_with, sketches_in};
 ghost use Rattle.fx_cache.specs.Cached.{AreDue};
-ghost use Rattle.fx_strike.specs.inner.Drawing.{due_in};
-ghost use Rattle.fx_strike.specs.inner.Writing.{AreLinesOf, AreAllLinesOf, HasRoom, Stops, Writes, longest_glyphs, longest_text};
+ghost use Rattle.fx_bdf.specs.Glyphs.{Glyph};
+ghost use Rattle.fx_strike.specs.inner.Drawing.{AreOf, IsFateOf, IsSketchedOf, due_in};
+ghost use Rattle.fx_strike.specs.inner.Writing.{AddsMore, AreLinesOf, AreAllLinesOf, HasRoom, Stops, Writes};
+ghost use Rattle.fx_strike.specs.inner.Writing.{longest_glyphs, longest_text};
 
 use crate::draft::Draft;
+use crate::draw::glyph_of;
+use crate::fate::Fate;
 use crate::hinter::FontHinter;
+use crate::sketched::Sketched;
 use crate::tools::Tools;
 use fx_bdf::{write_end, write_glyph, write_header};
 use fx_cache::CacheReader;
 use fx_fixed::{Sink, TextWriter};
-use fx_raster::Scan;
-use fx_request::Refusal;
+use fx_raster::{Scan, Scratch};
+use fx_request::{OnRefused, Refusal};
 
 impl<'a, S: Scan> Tools<'a, S> {
+    /// Writes the lines of a character of which this becomes. One that is left out has none.
+    fn write_fate<W: Sink>(
+        &self,
+        code: u32,
+        fate: &Fate,
+        scratch: &mut Scratch,
+        text: &mut TextWriter<'_, W>,
+    ) -> Result<(), Refusal>
+        requires faults { text.old.faults < 2 ^ 63 }
+        requires room { HasRoom text.old longest_glyph }
+        requires code { code ≤ max_code }
+        ensures same { text.new.sink ≡ text.old.sink }
+        ensures quiet { OnOk result (text.new.faults ≡ text.old.faults) }
+        ensures short { OnOk result (length_of text.new ≤ length_of text.old + longest_glyph) }
+        ensures lines { (due : strikes.Fate) (glyphs : List Glyph) → IsFateOf due fate.now → AreOf code due
+            → AreGlyphsOf (sketches_in due) glyphs → AddsMore text.old text.new (flat_map glyph_text glyphs) result }
+    {
+        match fate {
+            Fate::Drawn(sketched) => self.write_drawn(code, sketched, scratch, text),
+            Fate::Unhinted(_, sketched) => self.write_drawn(code, sketched, scratch, text),
+            Fate::LeftOut(_) => Ok(()),
+        }
+    }
+
+    /// Makes the bits of a character, and writes its lines.
+    fn write_drawn<W: Sink>(
+        &self,
+        code: u32,
+        sketched: &Sketched,
+        scratch: &mut Scratch,
+        text: &mut TextWriter<'_, W>,
+    ) -> Result<(), Refusal>
+        requires faults { text.old.faults < 2 ^ 63 }
+        requires room { HasRoom text.old longest_glyph }
+        requires code { code ≤ max_code }
+        ensures same { text.new.sink ≡ text.old.sink }
+        ensures quiet { OnOk result (text.new.faults ≡ text.old.faults) }
+        ensures short { OnOk result (length_of text.new ≤ length_of text.old + longest_glyph) }
+        ensures lines { (sketch : Sketch) (glyph : Glyph) → IsSketchedOf sketch sketched.now → sketch.code ≡ code
+            → IsGlyphOf sketch glyph → AddsMore text.old text.new (glyph_text glyph) result }
+    {
+        fx_bdf::laws::trimmed();
+        let drawn = glyph_of(self.alloc, self.scan, code, sketched, scratch)?;
+        Ok(write_glyph(&drawn, text)?)
+    }
+
     /// Makes a character and writes its lines. A character that the font lacks, whose glyph is 0, has none.
     fn write_one<W: Sink>(
         &self,
+        refused: OnRefused,
         hinter: &mut FontHinter<'_>,
         cache: &mut CacheReader<'_>,
         code: u32,
@@ -41,20 +94,20 @@ impl<'a, S: Scan> Tools<'a, S> {
         ensures same { text.new.sink ≡ text.old.sink }
         ensures quiet { OnOk result (text.new.faults ≡ text.old.faults) }
         ensures short { OnOk result (length_of text.new ≤ length_of text.old + longest_glyph) }
-        ensures lines { (lines : List ℕ) → AreLinesOf (setting_with self.now.opened self.now.rule hinter.old) code lines
-            → Adds Stops text.old text.new lines result }
+        ensures lines { (lines : List ℕ) → AreLinesOf (setting_with self.now.opened self.now.rule hinter.old) refused code lines
+            → AddsMore text.old text.new lines result }
     {
-        fx_bdf::laws::trimmed();
         if glyph == 0 {
             return Ok(());
         }
-        let drawn = self.draw(hinter, cache, code, glyph)?;
-        Ok(write_glyph(&drawn, text)?)
+        let fate = self.fate_at(refused, hinter, cache, code, glyph)?;
+        self.write_fate(code, &fate, &mut hinter.scratch, text)
     }
 
     /// Makes the characters of code points in their order, and writes their lines.
     fn write_all<W: Sink>(
         &self,
+        refused: OnRefused,
         hinter: &mut FontHinter<'_>,
         cache: &mut CacheReader<'_>,
         codes: &[u32],
@@ -71,14 +124,14 @@ impl<'a, S: Scan> Tools<'a, S> {
         ensures quiet { OnOk result (text.new.faults ≡ text.old.faults) }
         ensures short { OnOk result (length_of text.new ≤ length_of text.old + longest_glyphs) }
         ensures lines { (lines : List (List ℕ))
-            → AreAllLinesOf (setting_with self.now.opened self.now.rule hinter.old) codes.now lines
-            → Adds Stops text.old text.new (flat_map (λ t. t) lines) result }
+            → AreAllLinesOf (setting_with self.now.opened self.now.rule hinter.old) refused codes.now lines
+            → AddsMore text.old text.new (flat_map (λ t. t) lines) result }
     {
         let mut map = self.opened.map.cursor();
         // The lines of the code points so far were written.
         'codes: for code in codes {
             let glyph = map.glyph(*code);
-            self.write_one(hinter, cache, *code, glyph, text)?;
+            self.write_one(refused, hinter, cache, *code, glyph, text)?;
         }
         Ok(())
     }
@@ -103,14 +156,14 @@ impl<'a, S: Scan> Tools<'a, S> {
         ensures same { text.new.sink ≡ text.old.sink }
         ensures ended { OnOk result (text.new.waiting ≡ []) }
         ensures lines { (lines : List (List ℕ))
-            → AreAllLinesOf (setting_with self.now.opened self.now.rule hinter.old) draft.now.codes.now lines
+            → AreAllLinesOf (setting_with self.now.opened self.now.rule hinter.old) draft.now.refused draft.now.codes.now lines
             → Adds Stops text.old text.new
             (header_text draft.now.name.now (seen_properties draft.now.properties.now) draft.now.header
             ++ (flat_map (λ t. t) lines ++ end_text))
             result }
     {
         write_header(draft.name, draft.properties, &draft.header, text)?;
-        self.write_all(hinter, cache, draft.codes, text)?;
+        self.write_all(draft.refused, hinter, cache, draft.codes, text)?;
         write_end(text)?;
         Ok(text.end()?)
     }
@@ -132,7 +185,7 @@ impl<'a, S: Scan> Tools<'a, S> {
         ensures kept { hinter.new ≡ hinter.old }
         ensures cache { AreDue (due_in self.now.opened hinter.old) cache.new }
         ensures text { (lines : List (List ℕ))
-            → AreAllLinesOf (setting_with self.now.opened self.now.rule hinter.old) draft.now.codes.now lines
+            → AreAllLinesOf (setting_with self.now.opened self.now.rule hinter.old) draft.now.refused draft.now.codes.now lines
             → Writes (change_of W.held W.fault_count out.old out.new)
             (header_text draft.now.name.now (seen_properties draft.now.properties.now) draft.now.header
             ++ (flat_map (λ t. t) lines ++ end_text))

@@ -2,12 +2,13 @@
 ghost use Rattle.std.specs.Prelude.{◌≡◌, ◌<◌, ◌^◌, ◌≤◌, ℕ, List, [], ◌∷◌, Ok, IfOk, IfErr, IsErrOf, OnOk, length};
 ghost use Rattle.fx_fixed.specs.Chain.{GivesUnless};
 ghost use Rattle.fx_request.specs.Limits.{max_characters};
+ghost use Rattle.fx_request.specs.Notices.{Told};
 ghost use Rattle.fx_fixed.specs.Changes.{change_of};
 ghost use Rattle.fx_strike.specs.Faults.{Fails};
 ghost use Rattle.fx_strike.specs.Title.{titled};
 ghost use Rattle.fx_strike.specs.Strike.{setting_for, setting_in, setting_of, opened_at, opened_many_of, checked_chars, checked_text};
 ghost use Rattle.fx_strike.specs.Strike.{plan_with, one_with, rule_of};
-ghost use Rattle.fx_strike.specs.Headline.{IsOneOf, Surveyed, Makes, Leaves, Late, strike_with, nameless_with, character_with};
+ghost use Rattle.fx_strike.specs.Headline.{IsOneOf, Surveyed, Makes, Leaves, Late, notices_of, strike_with, nameless_with, character_with};
 ghost use Rattle.fx_strike.specs.inner.Drawing.{Finds};
 ghost use Rattle.fx_strike.specs.inner.Surveying.{AreChars, IsChecked, SurveysNameless};
 
@@ -19,7 +20,8 @@ use crate::tools::Tools;
 use fx_bdf::{BitGlyph, Title};
 use fx_fixed::Sink;
 use fx_raster::{Rows, Rule, Scan};
-use fx_request::{Mode, Refusal, Report};
+use fx_request::{Deaf, Listener, Mode, OnRefused, Refusal, Report};
+use fx_sfnt::FontFile;
 use std::alloc::Global;
 use std::marker::Model;
 
@@ -28,8 +30,8 @@ use std::marker::Model;
 /// or refused, has no part in what is made next.
 #[derive(Drop)]
 pub struct Striker<'a, S: Scan> {
-    tools: Tools<'a, S>,
-    hinter: FontHinter<'a>,
+    pub(crate) tools: Tools<'a, S>,
+    pub(crate) hinter: FontHinter<'a>,
 }
 
 impl<'a, S: Scan> Model for Striker<'a, S> {
@@ -47,7 +49,7 @@ impl<'a> Striker<'a, Rows> {
     /// `fpgm`, then of `prep`. `OutOfMemory` may be returned in place of any step after the character map, and of none before it.
     pub fn open(
         alloc: Global,
-        font: &'a [u8],
+        font: &FontFile<'a>,
         ppem: u16,
         mode: Mode,
     ) -> Result<Striker<'a, Rows>, Refusal>
@@ -67,7 +69,7 @@ impl<'a> Striker<'a, Rows> {
     /// The first cause is returned, in this order: the size, the characters; then as by `open`.
     pub fn open_for(
         alloc: Global,
-        font: &'a [u8],
+        font: &FontFile<'a>,
         ppem: u16,
         chars: &[u32],
         mode: Mode,
@@ -86,7 +88,7 @@ impl<'a> Striker<'a, Rows> {
 }
 
 /// Which pixels an outline sets, with drop-out control or without.
-fn rule_of(dropout: bool) -> Rule
+pub(crate) fn rule_of(dropout: bool) -> Rule
     ensures { result ≡ rule_of dropout }
 {
     if dropout {
@@ -99,7 +101,7 @@ fn rule_of(dropout: bool) -> Rule
 /// `Striker::open` with its clauses as one.
 fn open_inner<'a>(
     alloc: Global,
-    font: &'a [u8],
+    font: &FontFile<'a>,
     ppem: u16,
     mode: Mode,
 ) -> Result<Striker<'a, Rows>, Refusal>
@@ -113,7 +115,7 @@ fn open_inner<'a>(
 /// `Striker::open_for` with its clauses as one.
 fn open_for_inner<'a>(
     alloc: Global,
-    font: &'a [u8],
+    font: &FontFile<'a>,
     ppem: u16,
     chars: &[u32],
     mode: Mode,
@@ -194,7 +196,7 @@ impl<'a, S: Scan> Striker<'a, S> {
         ensures kept { self.new ≡ self.old }
     {
         check_chars(chars)?;
-        self.survey_checked(chars)
+        self.survey_checked(chars, OnRefused::Stop)
     }
 
     /// Makes the strike of characters and writes its text, in two passes as `make_strike_with` does.
@@ -217,7 +219,7 @@ impl<'a, S: Scan> Striker<'a, S> {
         ensures kept { self.new ≡ self.old }
     {
         check_text(title, chars)?;
-        self.write_checked(title, chars, out)
+        self.write_checked(title, chars, OnRefused::Stop, out, &mut Deaf)
     }
 
     /// The glyph of a code point within the limit.
@@ -229,28 +231,37 @@ impl<'a, S: Scan> Striker<'a, S> {
     }
 
     /// The survey of characters within their limits.
-    pub(crate) fn survey_checked(&mut self, chars: &[u32]) -> Result<Survey, Refusal>
+    pub(crate) fn survey_checked(
+        &mut self,
+        chars: &[u32],
+        refused: OnRefused,
+    ) -> Result<Survey, Refusal>
         requires few { length chars.now ≤ max_characters }
-        ensures survey { SurveysNameless self.old chars.now result }
+        ensures survey { SurveysNameless self.old chars.now refused result }
         ensures kept { self.new ≡ self.old }
     {
-        self.tools.survey_chars(&mut self.hinter, chars)
+        self.tools.survey_chars(refused, &mut self.hinter, chars)
     }
 
     /// Writes the strike of characters and a title within their limits.
-    pub(crate) fn write_checked<W: Sink>(
+    pub(crate) fn write_checked<W: Sink, L: Listener>(
         &mut self,
         title: &Title<'_>,
         chars: &[u32],
+        refused: OnRefused,
         out: &mut W,
+        listener: &mut L,
     ) -> Result<Report, Refusal>
         requires faults { W.fault_count out.old < 2 ^ 63 }
         requires chars { AreChars chars.now }
         requires title { IsChecked (titled title.now) }
-        ensures leaves { Leaves {Y = Unit {0}} (Ok tt) (plan_with self.old (titled title.now) chars.now)
+        ensures leaves { Leaves {Y = Unit {0}} (Ok tt) (plan_with self.old (titled title.now) chars.now refused)
             (change_of W.held W.fault_count out.old out.new) result }
+        ensures heard { Told L.Hears listener.old listener.new
+            (notices_of (plan_with self.old (titled title.now) chars.now refused)) result }
         ensures kept { self.new ≡ self.old }
     {
-        self.tools.write_strike(&mut self.hinter, title, chars, out)
+        self.tools
+            .write_strike(refused, &mut self.hinter, title, chars, out, listener)
     }
 }

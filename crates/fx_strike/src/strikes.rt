@@ -3,7 +3,8 @@ ghost use Rattle.std.specs.Prelude.{◌≡◌, ◌<◌, ◌^◌, ℕ, List, Ok, 
 ghost use Rattle.fx_fixed.specs.Changes.{change_of};
 ghost use Rattle.fx_strike.specs.Title.{titled};
 ghost use Rattle.fx_strike.specs.Strike.{setting_with, plan_with, one_with};
-ghost use Rattle.fx_strike.specs.Headline.{Leaves};
+ghost use Rattle.fx_request.specs.Notices.{Told};
+ghost use Rattle.fx_strike.specs.Headline.{Leaves, notices_of};
 ghost use Rattle.fx_strike.specs.inner.Drawing.{Finds};
 ghost use Rattle.fx_strike.specs.inner.Surveying.{AreChars, IsChecked};
 
@@ -14,7 +15,7 @@ use fx_bdf::{BitGlyph, Title};
 use fx_cache::{CacheReader, OutlineCache};
 use fx_fixed::Sink;
 use fx_raster::Scan;
-use fx_request::{Refusal, Report, rising_codes};
+use fx_request::{Listener, OnRefused, Refusal, Report, rising_codes};
 
 impl<'a, S: Scan> Tools<'a, S> {
     /// The glyph of a code point; none if the font lacks it.
@@ -36,25 +37,29 @@ impl<'a, S: Scan> Tools<'a, S> {
         Ok(Some(drawn))
     }
 
-    /// Writes a strike: a first pass surveys it, a second writes it.
-    pub(crate) fn write_strike<W: Sink>(
+    /// Writes a strike: a first pass surveys it and tells of refused characters, a second writes it.
+    pub(crate) fn write_strike<W: Sink, L: Listener>(
         &self,
+        refused: OnRefused,
         hinter: &mut FontHinter<'_>,
         title: &Title<'_>,
         chars: &[u32],
         out: &mut W,
+        listener: &mut L,
     ) -> Result<Report, Refusal>
         requires faults { W.fault_count out.old < 2 ^ 63 }
         requires chars { AreChars chars.now }
         requires title { IsChecked (titled title.now) }
         ensures kept { hinter.new ≡ hinter.old }
         ensures leaves { Leaves {Y = Unit {0}} (Ok tt)
-            (plan_with (setting_with self.now.opened self.now.rule hinter.old) (titled title.now) chars.now)
+            (plan_with (setting_with self.now.opened self.now.rule hinter.old) (titled title.now) chars.now refused)
             (change_of W.held W.fault_count out.old out.new) result }
+        ensures heard { Told L.Hears listener.old listener.new (notices_of
+            (plan_with (setting_with self.now.opened self.now.rule hinter.old) (titled title.now) chars.now refused)) result }
     {
         let codes = rising_codes(self.alloc, chars)?;
         let mut cache = OutlineCache::new(self.alloc, codes.len());
-        let survey = self.survey_codes(hinter, &codes, &mut cache)?;
+        let survey = self.survey_codes(refused, hinter, &codes, &mut cache, listener)?;
         let ppem = self.opened.ppem;
         let header = survey.header(ppem);
         let properties = title.all_properties(self.alloc, ppem.pixels(), survey.summary)?;
@@ -63,6 +68,7 @@ impl<'a, S: Scan> Tools<'a, S> {
             properties: &properties,
             header,
             codes: &codes,
+            refused,
         };
         let mut kept = cache.reader();
         self.write_text(hinter, &mut kept, &draft, out)?;

@@ -9,6 +9,7 @@ use crate::striker::Striker;
 use crate::surveyed::Survey;
 use fx_raster::Scan;
 use fx_request::{Refusal, Request};
+use fx_sfnt::FontFile;
 use std::alloc::Global;
 
 /// Surveys the strike of a font: the numbers of its header, and what is counted over it, with a scan of the caller's choice.
@@ -18,7 +19,7 @@ use std::alloc::Global;
 pub fn survey<S: Scan>(
     alloc: Global,
     scan: &S,
-    font: &[u8],
+    font: &FontFile<'_>,
     request: &Request<'_>,
 ) -> Result<Survey, Refusal>
     // The strike exists, and these are its numbers.
@@ -35,7 +36,7 @@ pub fn survey<S: Scan>(
 fn survey_inner<S: Scan>(
     alloc: Global,
     scan: &S,
-    font: &[u8],
+    font: &FontFile<'_>,
     request: &Request<'_>,
 ) -> Result<Survey, Refusal>
     ensures survey { Surveys (strike_of font.now request.now) result }
@@ -43,5 +44,5 @@ fn survey_inner<S: Scan>(
 {
     let opened = open(font, request)?;
     let mut striker = Striker::of(alloc, scan, opened, request.mode)?;
-    striker.survey_checked(request.chars)
+    striker.survey_checked(request.chars, request.on_refused)
 }

@@ -5,9 +5,10 @@ pub mod Pixels
 pub mod Made
 pub mod Shown
 pub mod Drawn
-pub mod Heights
+pub mod Fonts
 pub mod inner
 pub use Rattle.fx_request.specs.Refusals
 pub use Rattle.fx_strike.specs.Strike
+pub use Rattle.fx_strike.specs.Numbers
 pub use Rattle.fx_strike.specs.Headline
 pub use Rattle.fx_strike.specs.Faults

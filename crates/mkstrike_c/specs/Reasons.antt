@@ -3,12 +3,14 @@ use Rattle.std.specs.Prelude.{◌≡◌, ◌==◌, ◌+◌, ◌-◌, ◌<◌, �
 use Rattle.std.specs.Prelude.{if◌then◌else◌}
 use Rattle.fx_request.specs.declared.refusal.Refusal.{Refusal}
 use Rattle.fx_request.specs.Refusals.{number_of, name_of, named}
+use Rattle.mkstrike_c.specs.Refused.{bad_mode}
 
 -- the name of a number: that of the refusals that have it
 unfoldable pub reason_of : ℕ → List ℕ
 reason_of number =
     if number == 0 then codes "Done"
-    else (if number == 1 then codes "Missing" else unwrap_or (named number) (codes "Unknown"))
+    else (if number == 1 then codes "Missing"
+    else (if number == bad_mode then codes "BadMode" else unwrap_or (named number) (codes "Unknown")))
 
 -- the law: that of a refusal's number is the refusal's name
 abbrev pub ReasonsAreNames : Type 0

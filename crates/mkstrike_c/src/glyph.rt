@@ -1,23 +1,28 @@
-//! One character for C.
-ghost use Rattle.std.specs.Prelude.{◌≡◌, ◌<◌, ◌≤◌, ◌^◌, length};
+//! One glyph for C.
+ghost use Rattle.std.specs.Prelude.{◌≡◌, ◌<◌, ◌≤◌, ◌^◌, length, min, true, IfOk, IfErr};
 ghost use Rattle.std.specs.List.{flat_map};
-ghost use Rattle.fx_strike.specs.Strike.{one_of, opened_one_of};
-ghost use Rattle.mkstrike_c.specs.Modes.{mode_of};
+ghost use Rattle.fx_sfnt.specs.Collections.{face_in};
+ghost use Rattle.fx_request.specs.Refusals.{number_of};
+ghost use Rattle.fx_strike.specs.Strike.{one_of, opened_at, opened_one_of};
+ghost use Rattle.mkstrike_c.specs.Modes.{is_mode, is_packed, mode_of};
 ghost use Rattle.mkstrike_c.specs.Pixels.{row_bytes, size_of};
-ghost use Rattle.mkstrike_c.specs.Shown.{HasPixels, IsMissing, IsShown, numbers_of, status_of};
-ghost use Rattle.mkstrike_c.specs.Refused.{IsRefused};
+ghost use Rattle.mkstrike_c.specs.Shown.{HasPixels, IsMissing, IsShown, by_id, info_of, status_of};
+ghost use Rattle.mkstrike_c.specs.Refused.{IsReason, IsRefused, refused_of};
+ghost use Rattle.mkstrike_c.specs.inner.Showing.{FindsById, IsPut};
 
-use crate::mode::mode_of;
+use crate::mode::{is_mode, is_packed, mode_of};
 use crate::pixels::{put_pixels, stride};
-use crate::refused::{Refused, refuse};
+use crate::refused::{Refused, refuse, refuse_mode};
 use fx_bdf::BitGlyph;
-use fx_strike::one;
+use fx_request::{Mode, Refusal};
+use fx_sfnt::FontFile;
+use fx_strike::{Striker, one};
 use std::alloc::Global;
 
 /// The numbers of a glyph.
 #[repr(C)]
 #[derive(Clone, Copy)]
-pub struct Glyph {
+pub struct GlyphInfo {
     /// The width and the height of the tight box of the set bits in pixels, and the column and row of its lower left pixel.
     pub width: u32,
     pub height: u32,
@@ -34,11 +39,11 @@ pub struct Glyph {
 const MISSING: u32 = 1;
 
 /// The numbers of a glyph.
-pub fn numbers_of(glyph: &BitGlyph, packed: bool) -> Glyph
-    ensures { result ≡ numbers_of packed glyph.now }
+pub fn info_of(glyph: &BitGlyph, packed: bool) -> GlyphInfo
+    ensures { result ≡ info_of packed glyph.now }
 {
     let bounds = glyph.bounds();
-    Glyph {
+    GlyphInfo {
         width: bounds.width,
         height: bounds.height,
         left: bounds.left,
@@ -76,6 +81,32 @@ pub fn status_of(made: &Option<BitGlyph>) -> u32
     if made.is_some() { 0 } else { MISSING }
 }
 
+/// Tells the glyph that was made, or why there is none.
+fn tell(
+    found: Result<Option<BitGlyph>, Refusal>,
+    packed: bool,
+    pixels: &mut [u8],
+    info: &mut GlyphInfo,
+    refused: &mut Refused,
+) -> u32
+    ensures found { IfOk found (λ made. IsPut packed made pixels.old pixels.new info.old info.new result) }
+    ensures silent { IfOk found (λ made. refused.new ≡ refused.old) }
+    ensures refused { IfErr found (λ r. (result ≡ number_of r) × (refused.new ≡ refused_of r)) }
+    ensures least { IfErr found (λ r. 10 ≤ result) }
+    ensures kept { IfErr found (λ r. (pixels.new ≡ pixels.old) × (info.new ≡ info.old)) }
+{
+    match found {
+        Ok(made) => {
+            if let Some(made) = &made {
+                put_if_room(made, packed, pixels);
+                *info = info_of(made, packed);
+            }
+            status_of(&made)
+        }
+        Err(refusal) => refuse(refusal, refused),
+    }
+}
+
 /// Makes the glyph of one character of a font: its numbers, and, if `pixels` has room for them, its pixels at the front, row by
 /// row from the top: a byte each, or packed, eight a byte. Returns 0; 1 if the font does not have the character; or the number of
 /// a refusal, whose fields it puts into `refused`.
@@ -83,33 +114,93 @@ pub fn status_of(made: &Option<BitGlyph>) -> u32
 pub extern "C" fn mkstrike_glyph(
     alloc: Global,
     font: &[u8],
+    face: u32,
     ppem: u16,
     mode: u32,
     code: u32,
-    packed: bool,
     pixels: &mut [u8],
-    glyph: &mut Glyph,
+    info: &mut GlyphInfo,
     refused: &mut Refused,
 ) -> u32
+    // No bit of the mode is unknown.
+    ensures known { result ≤ 1 → is_mode mode ≡ true }
     // The glyph is that of the character; these are its numbers, and its pixels where there is room.
-    ensures shown { result ≡ 0 → IsShown packed (one_of font.now ppem code (mode_of mode)) pixels.old pixels.new glyph.new }
+    ensures shown { result ≡ 0 → IsShown (is_packed mode) (one_of (face_in font.now face) ppem code (mode_of mode))
+        pixels.old pixels.new info.new }
     // The font does not have the character.
-    ensures missing { result ≡ 1 → IsMissing (one_of font.now ppem code (mode_of mode)) }
-    // The first cause was named; or memory was refused, after the font and its character map opened.
-    ensures refused { 1 < result → IsRefused (opened_one_of font.now ppem code) (one_of font.now ppem code (mode_of mode))
-        result refused.new }
+    ensures missing { result ≡ 1 → IsMissing (one_of (face_in font.now face) ppem code (mode_of mode)) }
+    // The mode was named; or the first cause; or memory was refused, after the font and its character map opened.
+    ensures refused { 1 < result → IsRefused (is_mode mode) (opened_one_of (face_in font.now face) ppem code)
+        (one_of (face_in font.now face) ppem code (mode_of mode)) result refused.new }
     // Nothing but what was named is written.
-    ensures kept { 0 < result → (pixels.new ≡ pixels.old) × (glyph.new ≡ glyph.old) }
+    ensures kept { 0 < result → (pixels.new ≡ pixels.old) × (info.new ≡ info.old) }
     ensures silent { result ≤ 1 → refused.new ≡ refused.old }
 {
-    match one(alloc, font, ppem, code, mode_of(mode)) {
-        Ok(made) => {
-            if let Some(made) = &made {
-                put_if_room(made, packed, pixels);
-                *glyph = numbers_of(made, packed);
-            }
-            status_of(&made)
-        }
-        Err(refusal) => refuse(refusal, refused),
+    if !is_mode(mode) {
+        return refuse_mode(refused);
     }
+    let found = one(alloc, &FontFile::new(font, face), ppem, code, mode_of(mode));
+    tell(found, is_packed(mode), pixels, info, refused)
+}
+
+/// A glyph's number in 16 bits; no font has a glyph of the number 65,535.
+fn id_of(glyph: u32) -> u16
+    ensures { result ≡ min glyph 65535 }
+{
+    glyph.min(65535) as u16
+}
+
+/// A glyph of a font by its number.
+fn found_by_id(
+    alloc: Global,
+    font: &FontFile<'_>,
+    ppem: u16,
+    glyph: u32,
+    mode: Mode,
+) -> Result<Option<BitGlyph>, Refusal>
+    ensures found { IfOk result (FindsById (by_id font.now ppem glyph mode)) }
+    ensures refused { IfErr result (IsReason (opened_at font.now ppem) (by_id font.now ppem glyph mode)) }
+{
+    let mut striker = Striker::open(alloc, font, ppem, mode)?;
+    let id = id_of(glyph);
+    let made = striker.numbered(id)?;
+    Ok(Some(made))
+}
+
+/// Makes a glyph of a font by its number, as `mkstrike_glyph` makes that of a character.
+#[unsafe(no_mangle)]
+pub extern "C" fn mkstrike_glyph_by_id(
+    alloc: Global,
+    font: &[u8],
+    face: u32,
+    ppem: u16,
+    mode: u32,
+    glyph: u32,
+    pixels: &mut [u8],
+    info: &mut GlyphInfo,
+    refused: &mut Refused,
+) -> u32
+    // No bit of the mode is unknown.
+    ensures known { result ≡ 0 → is_mode mode ≡ true }
+    // The glyph is that of the number; these are its numbers, and its pixels where there is room.
+    ensures shown { result ≡ 0 → IsShown (is_packed mode) (by_id (face_in font.now face) ppem glyph (mode_of mode))
+        pixels.old pixels.new info.new }
+    // The mode was named; or the first cause; or memory was refused, after the font and its character map opened.
+    ensures refused { 0 < result → IsRefused (is_mode mode) (opened_at (face_in font.now face) ppem)
+        (by_id (face_in font.now face) ppem glyph (mode_of mode)) result refused.new }
+    // Nothing but what was named is written.
+    ensures kept { 0 < result → (pixels.new ≡ pixels.old) × (info.new ≡ info.old) }
+    ensures silent { result ≡ 0 → refused.new ≡ refused.old }
+{
+    if !is_mode(mode) {
+        return refuse_mode(refused);
+    }
+    let found = found_by_id(
+        alloc,
+        &FontFile::new(font, face),
+        ppem,
+        glyph,
+        mode_of(mode),
+    );
+    tell(found, is_packed(mode), pixels, info, refused)
 }

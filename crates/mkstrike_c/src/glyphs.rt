@@ -1,22 +1,34 @@
 //! Many characters for C.
-ghost use Rattle.std.specs.Prelude.{◌≡◌, ◌<◌, ◌≤◌, [], Ok, IfOk, IfErr, length};
-ghost use Rattle.fx_fixed.specs.Chain.{map_chain};
+ghost use Rattle.std.specs.Prelude.{◌≡◌, ◌<◌, ◌≤◌, [], true, false, Ok, IfOk, IfErr, OnOk, length};
+ghost use Rattle.fx_sfnt.specs.Collections.{face_in};
 ghost use Rattle.fx_request.specs.Refusals.{number_of};
-ghost use Rattle.fx_strike.specs.Faults.{Fails};
-ghost use Rattle.fx_strike.specs.Strike.{checked_chars, one_with, opened_many_of};
-ghost use Rattle.mkstrike_c.specs.Drawn.{AreDrawn, many_of};
-ghost use Rattle.mkstrike_c.specs.Modes.{mode_of};
+ghost use Rattle.fx_strike.specs.Strike.{checked_chars, opened_many_of, setting_for};
+ghost use Rattle.mkstrike_c.specs.Drawn.{AreDrawn};
+ghost use Rattle.mkstrike_c.specs.Modes.{is_mode, is_packed, mode_of};
 ghost use Rattle.mkstrike_c.specs.Refused.{IsReason, IsRefused, refused_of};
-ghost use Rattle.mkstrike_c.specs.inner.Gathering.{AreCounted, AreGathered, Holds, IsGathered, IsTold};
+ghost use Rattle.mkstrike_c.specs.inner.Gathering.{AreCounted, AreGathered, Holds, IsGathered, IsTold, is_memory};
 
 use crate::buffer::put_front;
-use crate::gathered::{Drawn, Gathered, Placed, Wanted};
-use crate::mode::mode_of;
-use crate::refused::{Refused, refuse};
+use crate::gathered::{Drawn, Gathered, Outcome, Placed, Wanted};
+use crate::mode::{is_mode, is_packed, mode_of};
+use crate::refused::{Refused, refuse, refuse_mode};
 use fx_request::{Mode, Refusal};
 use fx_rows::Rows;
+use fx_sfnt::FontFile;
 use fx_strike::Striker;
 use std::alloc::Global;
+
+/// What became of a character, unless memory was refused to it.
+fn settled(outcome: Outcome) -> Result<Outcome, Refusal>
+    ensures same { IfOk result (λ o. o ≡ outcome) }
+    ensures settled { OnOk result (is_memory outcome ≡ false) }
+    ensures memory { IfErr result (λ r. r ≡ Refusal.OutOfMemory) }
+{
+    match outcome {
+        Err(Refusal::OutOfMemory) => Err(Refusal::OutOfMemory),
+        outcome => Ok(outcome),
+    }
+}
 
 /// Makes characters in their order and adds them to none.
 fn gather(
@@ -25,16 +37,16 @@ fn gather(
     none: Gathered,
 ) -> Result<Gathered, Refusal>
     requires chars { Ok tt ≡ checked_chars chars.now }
-    requires none { Holds none.wanted [] none }
+    requires none { Holds none.wanted [] [] none }
     requires counted { AreCounted none.drawn 0 }
     ensures gathered { IfOk result (AreGathered striker.old chars.now none.wanted) }
-    ensures refused { IfErr result (λ r. Fails r (map_chain (one_with striker.old) chars.now)) }
+    ensures memory { IfErr result (λ r. r ≡ Refusal.OutOfMemory) }
 {
     let mut gathered = none;
     // `gathered` has the characters before this one.
     'chars: for code in chars {
-        let made = striker.glyph(*code)?;
-        gathered.add(&made)?;
+        let outcome = settled(striker.glyph(*code))?;
+        gathered.add(*code, &outcome)?;
     }
     Ok(gathered)
 }
@@ -42,14 +54,15 @@ fn gather(
 /// Makes the characters of a font at a size, in memory.
 fn gathered_of(
     alloc: Global,
-    font: &[u8],
+    font: &FontFile<'_>,
     ppem: u16,
     mode: Mode,
     chars: &[u32],
     wanted: Wanted,
 ) -> Result<Gathered, Refusal>
-    ensures gathered { IfOk result (IsGathered wanted (many_of font.now ppem chars.now mode)) }
-    ensures refused { IfErr result (IsReason (opened_many_of font.now ppem chars.now) (many_of font.now ppem chars.now mode)) }
+    ensures gathered { IfOk result (IsGathered wanted (setting_for font.now ppem chars.now mode) chars.now) }
+    ensures refused { IfErr result (IsReason (opened_many_of font.now ppem chars.now)
+        (setting_for font.now ppem chars.now mode)) }
 {
     let mut striker = Striker::open_for(alloc, font, ppem, chars, mode)?;
     let none = Gathered::new(alloc, wanted, chars.len())?;
@@ -64,8 +77,8 @@ fn tell(
     drawn: &mut Drawn,
     refused: &mut Refused,
 ) -> u32
-    ensures found { IfOk found (λ g. IsTold g glyphs.old glyphs.new pixels.old pixels.new drawn.new result) }
-    ensures silent { IfOk found (λ g. refused.new ≡ refused.old) }
+    ensures found { IfOk found (λ g. IsTold g glyphs.old glyphs.new pixels.old pixels.new drawn.new
+        refused.old refused.new result) }
     ensures refused { IfErr found (λ r. (result ≡ number_of r) × (refused.new ≡ refused_of r)) }
     ensures least { IfErr found (λ r. 10 ≤ result) }
     ensures kept { IfErr found (λ r. (glyphs.new ≡ glyphs.old) × (pixels.new ≡ pixels.old) × (drawn.new ≡ drawn.old)) }
@@ -75,6 +88,7 @@ fn tell(
             put_front(glyphs, gathered.entries());
             put_front(pixels, gathered.pixels());
             *drawn = gathered.drawn();
+            *refused = gathered.first().unwrap_or(*refused);
             0
         }
         Err(refusal) => refuse(refusal, refused),
@@ -83,36 +97,44 @@ fn tell(
 
 /// Makes the glyphs of characters of a font, in the order given; repeats are made again. Copies as many entries and as many bytes
 /// of pixels as fit to the front of `glyphs` and `pixels`, and tells of all. The pixels of a glyph are as `mkstrike_glyph` puts
-/// them, those of one glyph after those of the one before. Returns 0; or the number of a refusal, whose fields it puts into
-/// `refused`.
+/// them, those of one glyph after those of the one before. A character that is refused has the refusal's number in its entry, and
+/// `refused` has the fields of the first one. Returns 0; or, if nothing can be made, the number of a refusal, whose fields it puts
+/// into `refused`.
 #[unsafe(no_mangle)]
 pub extern "C" fn mkstrike_glyphs(
     alloc: Global,
     font: &[u8],
+    face: u32,
     ppem: u16,
     mode: u32,
     chars: &[u32],
-    packed: bool,
     glyphs: &mut [Placed],
     pixels: &mut [u8],
     drawn: &mut Drawn,
     refused: &mut Refused,
 ) -> u32
-    // The glyphs are those of the characters; as many of their entries and pixels as fit were copied.
-    ensures drawn { result ≡ 0 → AreDrawn packed (many_of font.now ppem chars.now (mode_of mode)) glyphs.old glyphs.new
-        pixels.old pixels.new drawn.new }
-    // The first cause was named; or memory was refused, after the size and the characters passed and the font and its map opened.
-    ensures refused { 0 < result → IsRefused (opened_many_of font.now ppem chars.now)
-        (many_of font.now ppem chars.now (mode_of mode)) result refused.new }
-    // A refusal leaves the buffers and what is told as they were, and glyphs leave the refusal's fields.
+    // No bit of the mode is unknown.
+    ensures known { result ≡ 0 → is_mode mode ≡ true }
+    // The glyphs are those of the characters; as many of their entries and pixels as fit were copied, and the first character that
+    // was refused was told.
+    ensures drawn { result ≡ 0 → AreDrawn (is_packed mode) (setting_for (face_in font.now face) ppem chars.now (mode_of mode))
+        chars.now glyphs.old glyphs.new pixels.old pixels.new drawn.new refused.old refused.new }
+    // The mode was named; or the first cause; or memory was refused, after the size and the characters passed and the font and its
+    // map opened.
+    ensures refused { 0 < result → IsRefused (is_mode mode) (opened_many_of (face_in font.now face) ppem chars.now)
+        (setting_for (face_in font.now face) ppem chars.now (mode_of mode)) result refused.new }
+    // A refusal leaves the buffers and what is told as they were.
     ensures kept { 0 < result → (glyphs.new ≡ glyphs.old) × (pixels.new ≡ pixels.old) × (drawn.new ≡ drawn.old) }
-    ensures silent { result ≡ 0 → refused.new ≡ refused.old }
 {
+    if !is_mode(mode) {
+        return refuse_mode(refused);
+    }
     let wanted = Wanted {
-        packed,
+        packed: is_packed(mode),
         entries: glyphs.len(),
         pixels: pixels.len(),
     };
-    let found = gathered_of(alloc, font, ppem, mode_of(mode), chars, wanted);
+    let font = FontFile::new(font, face);
+    let found = gathered_of(alloc, &font, ppem, mode_of(mode), chars, wanted);
     tell(found, glyphs, pixels, drawn, refused)
 }

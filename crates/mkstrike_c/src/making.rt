@@ -1,17 +1,19 @@
 //! A strike for C.
-ghost use Rattle.std.specs.Prelude.{◌≡◌, ◌<◌, IfOk, IfErr};
+ghost use Rattle.std.specs.Prelude.{◌≡◌, ◌<◌, ◌≤◌, true, IfOk, IfErr};
+ghost use Rattle.fx_sfnt.specs.Collections.{face_in};
 ghost use Rattle.fx_strike.specs.Strike.{opened_of, plan_of};
 ghost use Rattle.fx_strike.specs.Headline.{opening_of, strike_of};
 ghost use Rattle.mkstrike_c.specs.Made.{AreNamesAlike, HoldsText, IsMade, plain, told_of};
-ghost use Rattle.mkstrike_c.specs.Modes.{mode_of};
+ghost use Rattle.mkstrike_c.specs.Modes.{is_strike_mode, mode_of};
 ghost use Rattle.mkstrike_c.specs.Refused.{IsReason, IsRefused};
 
 use crate::buffer::put_front;
-use crate::mode::mode_of;
-use crate::refused::{Refused, refuse};
+use crate::mode::{is_strike_mode, mode_of};
+use crate::refused::{Refused, refuse, refuse_mode};
 use crate::sink::TextSink;
 use fx_fixed::Sink;
-use fx_request::{Mode, Refusal, Report, Request};
+use fx_request::{Mode, OnRefused, Refusal, Report, Request};
+use fx_sfnt::FontFile;
 use fx_strike::{Title, make_strike};
 use std::alloc::Global;
 
@@ -45,7 +47,11 @@ fn told_of(text: &[u8], report: Report) -> Told
 }
 
 /// The text of a strike in memory, and what was counted over it.
-fn text_of(alloc: Global, font: &[u8], request: &Request<'_>) -> Result<(TextSink, Report), Refusal>
+fn text_of(
+    alloc: Global,
+    font: &FontFile<'_>,
+    request: &Request<'_>,
+) -> Result<(TextSink, Report), Refusal>
     ensures text { IfOk result (λ made. HoldsText (strike_of font.now request.now) (⟦<TextSink as Sink>⟧.held made.0) made.1) }
     ensures refused { IfErr result (IsReason (opening_of font.now request.now) (strike_of font.now request.now)) }
 {
@@ -70,16 +76,16 @@ fn name_of(name: &[u8]) -> &str
 /// The same for a name of any bytes.
 fn text_for<'r>(
     alloc: Global,
-    font: &[u8],
+    font: &FontFile<'_>,
     ppem: u16,
     mode: Mode,
     chars: &'r [u32],
     name: &'r [u8],
 ) -> Result<(TextSink, Report), Refusal>
-    ensures text { IfOk result (λ made. HoldsText (plan_of font.now ppem (plain name.now) chars.now mode)
+    ensures text { IfOk result (λ made. HoldsText (plan_of font.now ppem (plain name.now) chars.now mode OnRefused.Stop)
         (⟦<TextSink as Sink>⟧.held made.0) made.1) }
     ensures refused { IfErr result (IsReason (opened_of font.now ppem (plain name.now) chars.now)
-        (plan_of font.now ppem (plain name.now) chars.now mode)) }
+        (plan_of font.now ppem (plain name.now) chars.now mode OnRefused.Stop)) }
 {
     let request = Request {
         ppem,
@@ -90,6 +96,7 @@ fn text_for<'r>(
         },
         chars,
         mode,
+        on_refused: OnRefused::Stop,
     };
     text_of(alloc, font, &request)
 }
@@ -100,6 +107,7 @@ fn text_for<'r>(
 pub extern "C" fn mkstrike_make(
     alloc: Global,
     font: &[u8],
+    face: u32,
     ppem: u16,
     mode: u32,
     chars: &[u32],
@@ -108,16 +116,31 @@ pub extern "C" fn mkstrike_make(
     told: &mut Told,
     refused: &mut Refused,
 ) -> u32
+    // No bit of the mode is unknown.
+    ensures known { result ≡ 0 → is_strike_mode mode ≡ true }
     // The strike exists, and as much of its text as fits was copied.
-    ensures made { result ≡ 0 → IsMade (plan_of font.now ppem (plain name.now) chars.now (mode_of mode)) out.old out.new told.new }
-    // The first cause was named; or memory was refused, after the request passed its checks and the font and its map opened.
-    ensures refused { 0 < result → IsRefused (opened_of font.now ppem (plain name.now) chars.now)
-        (plan_of font.now ppem (plain name.now) chars.now (mode_of mode)) result refused.new }
+    ensures made { result ≡ 0 → IsMade
+        (plan_of (face_in font.now face) ppem (plain name.now) chars.now (mode_of mode) OnRefused.Stop) out.old out.new told.new }
+    // The mode was named; or the first cause; or memory was refused, after the request passed its checks and the font and its map
+    // opened.
+    ensures refused { 0 < result → IsRefused (is_strike_mode mode)
+        (opened_of (face_in font.now face) ppem (plain name.now) chars.now)
+        (plan_of (face_in font.now face) ppem (plain name.now) chars.now (mode_of mode) OnRefused.Stop) result refused.new }
     // A refusal leaves the buffer and what is told as they were, and a strike the refusal's fields.
     ensures kept { 0 < result → (out.new ≡ out.old) × (told.new ≡ told.old) }
     ensures silent { result ≡ 0 → refused.new ≡ refused.old }
 {
-    match text_for(alloc, font, ppem, mode_of(mode), chars, name) {
+    if !is_strike_mode(mode) {
+        return refuse_mode(refused);
+    }
+    match text_for(
+        alloc,
+        &FontFile::new(font, face),
+        ppem,
+        mode_of(mode),
+        chars,
+        name,
+    ) {
         Ok((sink, report)) => {
             put_front(out, sink.text());
             *told = told_of(sink.text(), report);

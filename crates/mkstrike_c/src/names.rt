@@ -2,6 +2,7 @@
 ghost use Rattle.std.specs.Prelude.{◌≡◌};
 ghost use Rattle.mkstrike_c.specs.Reasons.{reason_of};
 
+use crate::refused::BAD_MODE;
 use fx_request::named;
 
 /// The name of a number; `Unknown` if no call returns it.
@@ -12,6 +13,7 @@ pub fn reason(number: u32) -> &'static str
     match number {
         0 => "Done",
         1 => "Missing",
+        BAD_MODE => "BadMode",
         _ => named(number).unwrap_or("Unknown"),
     }
 }

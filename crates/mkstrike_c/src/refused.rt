@@ -1,12 +1,12 @@
 //! The fields of a refusal.
 ghost use Rattle.std.specs.Prelude.{◌≡◌, ◌≤◌};
 ghost use Rattle.fx_request.specs.Refusals.{number_of};
-ghost use Rattle.mkstrike_c.specs.Refused.{fields, halted, no_fields, program_number, refused_of};
+ghost use Rattle.mkstrike_c.specs.Refused.{at_character, bad_mode, fields, halted, no_fields, program_number, refused_of};
 
 use fx_machine::{FontProgram, Halt};
 use fx_request::{Place, Refusal};
 
-/// No glyph, no program.
+/// No glyph, no program, no character.
 pub const NONE: u32 = 0xFFFF_FFFF;
 
 /// The font program; the program of a glyph has the glyph's number, which is below.
@@ -14,6 +14,9 @@ pub const FPGM: u32 = 0x1_0000;
 
 /// The control value program.
 pub const PREP: u32 = 0x1_0001;
+
+/// The number of a refusal that only C has: a bit of the mode is not known.
+pub const BAD_MODE: u32 = 64;
 
 /// Why a call was refused, and where.
 #[repr(C)]
@@ -28,8 +31,12 @@ pub struct Refused {
     /// Of a halt: the program that was started, and the one whose bytes hold the instruction; or `NONE`.
     pub during: u32,
     pub program: u32,
-    /// Of a halt: the instruction's opcode, 0 past the end, and its address; or 0.
+    /// Of a halt: the instruction's opcode, 0 past the end; or 0.
     pub opcode: u32,
+    /// Of many characters, the index of the first that was refused, and its code point; or `NONE`.
+    pub index: u32,
+    pub code: u32,
+    /// Of a halt: the instruction's address; or 0.
     pub address: u64,
 }
 
@@ -52,6 +59,8 @@ fn no_fields(number: u32) -> Refused
         during: NONE,
         program: NONE,
         opcode: 0,
+        index: NONE,
+        code: NONE,
         address: 0,
     }
 }
@@ -96,6 +105,26 @@ fn fields(number: u32, place: Place) -> Refused
         Place::Halt(halt) => halted(number, halt),
         Place::Nowhere | Place::Property(_) | Place::Bytes(_) => no_fields(number),
     }
+}
+
+/// The fields of the refusal of one of many characters.
+pub fn refused_at(index: u32, code: u32, refusal: Refusal) -> Refused
+    ensures { result ≡ at_character index code (refused_of refusal) }
+{
+    Refused {
+        index,
+        code,
+        ..fields(number(refusal), refusal.place())
+    }
+}
+
+/// Puts the fields of a refused mode, and returns its number.
+pub fn refuse_mode(refused: &mut Refused) -> u32
+    ensures value { result ≡ bad_mode }
+    ensures fields { refused.new ≡ no_fields bad_mode }
+{
+    *refused = no_fields(BAD_MODE);
+    BAD_MODE
 }
 
 /// Puts the fields of a refusal, and returns its number.

@@ -4,25 +4,30 @@
 //!
 //! Of the font on standard input, if it is not empty, each glyph is scanned at 12, 16, 33 and 128 pixels an em, without
 //! hinting. Each outline is scanned once more with the halves of each arc that has any in its place. With drop-out control the
-//! gaps are closed at the segments that are noted and, in another bitmap, by a look at each pair of neighbours. For each kind the
-//! program writes how many outlines it compared, how many pixels they have, how many outlines differ, how many differ with halves,
-//! and how many differ with their gaps closed.
+//! gaps are closed at the segments that are noted, and each pixel is compared with the definition. Random outlines are of any
+//! lines and arcs, and then of thin shapes: arcs that bulge past their ends, hairlines and lenses. For each kind the program writes
+//! how many outlines it compared, how many pixels they have, how many outlines differ, how many differ with halves, and how many
+//! differ with their gaps closed.
 #![tactic(auto)]
 
 ghost use Rattle.std.specs.Prelude.{IsTrue};
 ghost use Rattle.fx_winding.specs.Frames.{HasMargin};
 
+mod closed;
 mod random;
 
+use crate::closed::{Drawing, turned};
 use crate::random::Random;
 use anyhow::{Result, bail};
 use fx_contour::{frame, pieces};
-use fx_dropout::{close_gaps, close_gaps_plainly};
+use fx_dropout::close_gaps;
 use fx_fixed::Ppem;
 use fx_hint::outline;
 use fx_rows::Rows;
-use fx_sfnt::Font;
-use fx_winding::{Bitmap, Frame, MAX_PIXEL, Noted, Piece, Pieces, Plain, Scan, Tally, halves};
+use fx_sfnt::{Font, FontFile};
+use fx_winding::{
+    Bitmap, Frame, MAX_PIXEL, Noted, Piece, Pieces, Plain, Scan, Scratch, Tally, halves,
+};
 use std::alloc::Global;
 use std::env;
 use std::io::Read;
@@ -40,8 +45,8 @@ struct Counts {
     differing_closed: u64,
 }
 
-/// What the scan by rows sets the same: the bits of the scan by pixels, its own with halves in place of arcs, and the same with its
-/// gaps closed either way.
+/// What the scan by rows sets the same: the bits of the scan by pixels, its own with halves in place of arcs, and with its gaps
+/// closed the pixels that drop-out control sets.
 #[derive(Clone, Copy)]
 struct Agreement {
     with_pixels: bool,
@@ -129,17 +134,27 @@ fn has_margin(frame: Frame) -> bool
     frame.bottom + frame.height as i32 <= MAX_PIXEL
 }
 
-/// Whether the gaps of an outline are the same, closed where they are noted and closed plainly.
+/// Whether the gaps of an outline are closed where they are noted just as drop-out control is defined.
 fn closes_the_same(alloc: Global, pieces: &Pieces, frame: Frame) -> Result<bool> {
     if !has_margin(frame) {
         return Ok(true);
     }
     let mut tally = Tally::new();
-    let Noted { mut bitmap, notes } = Rows.scan_noted(alloc, pieces, frame, &mut tally)?;
+    let mut scratch = Scratch::new(alloc);
+    let Noted { mut bitmap, notes } = Rows.scan_noted(
+        alloc,
+        pieces,
+        frame,
+        &mut scratch,
+        &mut tally,
+    )?;
     close_gaps(pieces, &notes, &mut bitmap, &mut tally);
-    let mut plain = Rows.scan(alloc, pieces, frame, &mut tally)?;
-    close_gaps_plainly(pieces, &mut plain, &mut tally);
-    Ok(are_same(&bitmap, &plain, frame))
+    let drawing = Drawing {
+        pieces,
+        turned: &turned(alloc, pieces)?,
+        frame,
+    };
+    Ok(drawing.is_drawn_in(&bitmap, &mut tally))
 }
 
 /// What the scan by rows of an outline sets the same.
@@ -161,6 +176,18 @@ fn random_outlines(alloc: Global, contours: u32, seed: u64) -> Result<Counts> {
     let mut counts = Counts::NONE;
     'outlines: for k in 0..contours - contours / 3 {
         let outline = random.outline(alloc, 1 + k % 2)?;
+        let frame = random.frame();
+        counts = counts.with(frame, compare(alloc, &outline, frame)?);
+    }
+    Ok(counts)
+}
+
+/// Compares random outlines of thin shapes, each of one to four contours, until there are this many contours.
+fn thin_outlines(alloc: Global, contours: u32, seed: u64) -> Result<Counts> {
+    let mut random = Random::new(seed);
+    let mut counts = Counts::NONE;
+    'outlines: for k in 0..contours / 5 * 2 {
+        let outline = random.thin_outline(alloc, 1 + k % 4)?;
         let frame = random.frame();
         counts = counts.with(frame, compare(alloc, &outline, frame)?);
     }
@@ -198,7 +225,7 @@ fn report(rt: &HostRuntime, what: &str, counts: Counts) -> Result<()> {
 
 /// Compares the glyphs of a font at each size.
 fn font(rt: &HostRuntime, file: &[u8]) -> Result<()> {
-    let font = Font::open(file)?;
+    let font = Font::open(&FontFile::of(file))?;
     'sizes: for pixels in [12, 16, 33, 128] {
         let Some(ppem) = Ppem::new(pixels) else {
             bail!("{pixels} is no size");
@@ -215,9 +242,9 @@ fn main(rt: HostRuntime) -> Result<()> {
     let Some(contours) = number(1) else {
         bail!("rows_against_plain CONTOURS [SEED] < FONT");
     };
-    let seed = number(2).unwrap_or(1);
-    let counts = random_outlines(rt.alloc(), contours, u64::from(seed))?;
-    report(&rt, "random", counts)?;
+    let seed = u64::from(number(2).unwrap_or(1));
+    report(&rt, "random", random_outlines(rt.alloc(), contours, seed)?)?;
+    report(&rt, "thin", thin_outlines(rt.alloc(), contours, seed)?)?;
     let mut file = Vec::new(rt.alloc());
     rt.stdin().read_to_end(&mut file)?;
     if !file.is_empty() {

@@ -1,4 +1,4 @@
-//! Random outlines, closed, of lines and arcs: many with points on centres of pixels, on one line or at one place.
+//! Random outlines, closed, of lines and arcs: many with points on centres of pixels, on one line or at one place, or thin.
 
 ghost use Rattle.std.specs.Prelude.{◌<◌};
 
@@ -8,6 +8,9 @@ use std::alloc::{AllocError, Global};
 
 /// A place in 1/128 pixel.
 type At = (i16, i16);
+
+/// How far apart the two sides of a thin shape are, in 1/128 pixel.
+const THIN: [i16; 6] = [0, 0, 1, 3, 8, 20];
 
 /// A generator of numbers that look random: the same seed gives the same numbers.
 #[derive(Drop)]
@@ -83,6 +86,45 @@ impl Random {
             here = end;
         }
         Ok(())
+    }
+
+    /// Adds a closed contour of two pieces, there and back: an arc that bulges past its ends and its chord; a hairline, steep,
+    /// level or slanted; or a lens of two arcs.
+    fn thin_contour(&mut self, pieces: &mut Pieces) -> Result<(), AllocError> {
+        let a = (self.coordinate(), self.coordinate());
+        let b = (self.coordinate(), self.coordinate());
+        let far = (self.coordinate(), self.coordinate());
+        let by = THIN[self.below(6) as usize];
+        let (c, there, back) = match self.below(5) {
+            0 => ((a.0, a.1.wrapping_add(by)), Some(b), None),
+            1 => ((a.0.wrapping_add(by), far.1), None, None),
+            2 => ((far.0, a.1.wrapping_add(by)), None, None),
+            3 => (far, None, None),
+            _ => (far, Some(b), Some((b.0.wrapping_add(by), b.1))),
+        };
+        'pieces: for (from, over, to) in [(a, there, c), (c, back, a)] {
+            if pieces.len() < MOST_PIECES {
+                pieces.push(Piece {
+                    a: point(from),
+                    b: over.map(point),
+                    c: point(to),
+                })?;
+            }
+        }
+        Ok(())
+    }
+
+    /// An outline of this many thin contours.
+    pub(crate) fn thin_outline(
+        &mut self,
+        alloc: Global,
+        contours: u32,
+    ) -> Result<Pieces, AllocError> {
+        let mut pieces = Pieces::new(alloc);
+        'contours: for _ in 0..contours {
+            self.thin_contour(&mut pieces)?;
+        }
+        Ok(pieces)
     }
 
     /// An outline of this many closed contours.

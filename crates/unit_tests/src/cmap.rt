@@ -1,12 +1,12 @@
 //! Characters looked up in maps of formats 4 and 12.
 use fx_cmap::CharMap;
-use fx_sfnt::Font;
+use fx_sfnt::{Font, FontFile};
 use std::alloc::Global;
 use std::process::Abort;
 use std::test::Fail;
 
 /// A font of one empty glyph, up to its last table, `cmap`, which ends where the file does.
-const FRONT: &[u8] = b"\0\x01\0\0\0\x07\0\0\0\0\0\0\
+pub(crate) const FRONT: &[u8] = b"\0\x01\0\0\0\x07\0\0\0\0\0\0\
     cmap\0\0\0\0\0\0\0\xFE\0\0\xFF\xFF\
     glyf\0\0\0\0\0\0\0\xFE\0\0\0\0\
     head\0\0\0\0\0\0\0\x7C\0\0\0\x36\
@@ -33,7 +33,7 @@ fn has(rt: &impl Abort, map: &CharMap, rows: &[(u32, u16)]) {
 fn finds(rt: &impl Abort, alloc: Global, cmap: &[u8], rows: &[(u32, u16)]) -> Result<(), Fail> {
     let mut file = Vec::from_slice(alloc, FRONT)?;
     file.extend_from_slice(cmap)?;
-    let font = Font::open(file.as_slice())?;
+    let font = Font::open(&FontFile::of(file.as_slice()))?;
     has(rt, &CharMap::open(&font)?, rows);
     Ok(())
 }

@@ -1,6 +1,6 @@
 //! Drop-out control: the segments that pieces meet, and the gaps that are closed, by hand.
 use fx_dropout::close_gaps;
-use fx_winding::{Bitmap, Frame, Noted, Piece, Pieces, Plain, Point, Scan, Tally, meets};
+use fx_winding::{Bitmap, Frame, Noted, Piece, Pieces, Plain, Point, Scan, Scratch, Tally, meets};
 use std::alloc::{AllocError, Global};
 use std::process::Abort;
 use std::test::Fail;
@@ -92,7 +92,14 @@ fn closed(alloc: Global, curves: &[Curve], frame: (u8, u8, u8, u8)) -> Result<Bi
         height: frame.3.into(),
     };
     let mut tally = Tally::new();
-    let Noted { mut bitmap, notes } = Plain.scan_noted(alloc, &pieces, frame, &mut tally)?;
+    let mut scratch = Scratch::new(alloc);
+    let Noted { mut bitmap, notes } = Plain.scan_noted(
+        alloc,
+        &pieces,
+        frame,
+        &mut scratch,
+        &mut tally,
+    )?;
     close_gaps(&pieces, &notes, &mut bitmap, &mut tally);
     Ok(bitmap)
 }

@@ -21,6 +21,8 @@ mod pointops;
 #[cfg(test)]
 mod scale;
 #[cfg(test)]
+mod sfnt;
+#[cfg(test)]
 mod stackops;
 #[cfg(test)]
 mod x11;

@@ -30,11 +30,11 @@ IsShutUp noted lower upper n = (word_bit noted n ≡ 0) ⊎ ((word_bit lower n �
 -- the same of the segment that leads to the pixel that is n right of a bitmap's left one and r above its lowest row
 abbrev pub IsShutInRow : List ℕ → Bits → ℕ → ℕ → Type 0
 IsShutInRow across b r n = (word_bit across (pixel_number b.frame r n) ≡ 0)
-    ⊎ (IsTrue (bit_of b (b.frame.left +ℤ pos n) (b.frame.bottom +ℤ pos r))
-    ⊎ IsTrue (bit_of b ((b.frame.left -ℤ pos 1) +ℤ pos n) (b.frame.bottom +ℤ pos r)))
+    ⊎ (IsTrue (bit_of b ((b.frame.left -ℤ pos 1) +ℤ pos n) (b.frame.bottom +ℤ pos r))
+    ⊎ IsTrue (bit_of b (((b.frame.left -ℤ pos 1) +ℤ pos n) +ℤ pos 1) (b.frame.bottom +ℤ pos r)))
 
 -- the same of the segment that leads to that pixel from the row below
 abbrev pub IsShutInColumn : List ℕ → Bits → ℕ → ℕ → Type 0
 IsShutInColumn up b r n = (word_bit up (pixel_number b.frame r n) ≡ 0)
     ⊎ (IsTrue (bit_of b (b.frame.left +ℤ pos n) ((b.frame.bottom -ℤ pos 1) +ℤ pos r))
-    ⊎ IsTrue (bit_of b (b.frame.left +ℤ pos n) (b.frame.bottom +ℤ pos r)))
+    ⊎ IsTrue (bit_of b (b.frame.left +ℤ pos n) (((b.frame.bottom -ℤ pos 1) +ℤ pos r) +ℤ pos 1)))

@@ -10,7 +10,9 @@ use Rattle.fx_machine.specs.Known.{Known}
 use Rattle.fx_hint.specs.Outlines.{GlyphOutlineView, outline_with}
 use Rattle.fx_hint.specs.declared.fault.HintFault.{HintFault}
 use Rattle.fx_strike.specs.declared.opened.Opened.{Opened}
-use Rattle.fx_strike.specs.Strike.{Sketch, IsGlyphOf, hinting_by}
+use Rattle.fx_strike.specs.Strike.{Sketch, IsGlyphOf, Fate, drawn, unhinted, left_out, hinting_by}
+use Rattle.fx_strike.specs.declared.fate.Fate as code
+use Rattle.fx_strike.specs.declared.fate.Fate.TheVariants.{Drawn, Unhinted, LeftOut}
 use Rattle.fx_strike.specs.Headline.{IsOneOf}
 
 -- the outline of a glyph that is due, scaled and hinted; or the first fault
@@ -39,3 +41,23 @@ Draws due (Err refusal) = Fails refusal due
 abbrev pub Finds : Result (Option Sketch) Refusal → Result (Option Glyph) Refusal → Type 0
 Finds due (Ok glyph) = IsOneOf due glyph
 Finds due (Err refusal) = Fails refusal due
+
+-- ---- what becomes of a character
+
+-- what the code holds of it
+abbrev pub IsFateOf : Fate → code.Fate → Type 0
+IsFateOf (drawn sketch) (Drawn sketched) = IsSketchedOf sketch sketched
+IsFateOf (unhinted notice sketch) (Unhinted told sketched) = (told ≡ notice) × IsSketchedOf sketch sketched
+IsFateOf (left_out notice) (LeftOut told) = told ≡ notice
+IsFateOf _ _ = ⊥
+
+-- it is found if it is due; a refusal is one that is due, or out of memory
+abbrev pub Decides : Result Fate Refusal → Result code.Fate Refusal → Type 0
+Decides due (Ok found) = (fate : Fate) × (due ≡ Ok fate) × IsFateOf fate found
+Decides due (Err refusal) = Fails refusal due
+
+-- its sketch is of this code point
+abbrev pub AreOf : ℕ → Fate → Type 0
+AreOf code (drawn sketch) = sketch.code ≡ code
+AreOf code (unhinted notice sketch) = sketch.code ≡ code
+AreOf code (left_out notice) = Unit {0}

@@ -1,6 +1,6 @@
 -- What is seen of code points so far, before the first byte of a strike is written.
-use Rattle.std.specs.Prelude.{◌≡◌, neg_ℤ, pos, ℕ, ◌+◌, ◌*◌, ◌^◌, ◌≤◌, nat_lt, false, List, [], length, map, Result, Ok, Err}
-use Rattle.std.specs.List.{sum_by, count_by, list_any}
+use Rattle.std.specs.Prelude.{◌≡◌, neg_ℤ, pos, ℕ, ◌+◌, ◌*◌, ◌^◌, ◌≤◌, nat_lt, not, false, List, [], length, map, filter, Result, Ok, Err}
+use Rattle.std.specs.List.{sum_by, count_by, flat_map, list_any}
 use Rattle.fx_fixed.specs.Numbers.{counted, near_of}
 use Rattle.fx_raster.specs.declared.region.Region.{Region}
 use Rattle.fx_bdf.specs.Glyphs.{Box, Glyph, IsPlaced, no_box, joined, bounds_of}
@@ -17,7 +17,10 @@ use Rattle.fx_strike.specs.declared.sketched.Sketched.{Sketched}
 use Rattle.fx_strike.specs.declared.surveyed.Survey.{Survey}
 use Rattle.fx_strike.specs.Faults.{Fails}
 use Rattle.fx_request.specs.Limits.{max_characters, max_code}
-use Rattle.fx_strike.specs.Strike.{Sketch, Setting, Plan, IsGlyphOf, AreGlyphsOf, is_missing, sketches_of, pixels, plan_with}
+use Rattle.fx_request.specs.declared.notice.Notice.{Notice}
+use Rattle.fx_request.specs.declared.request.OnRefused.{OnRefused}
+use Rattle.fx_strike.specs.Strike.{Sketch, Setting, Plan, Fate, drawn, unhinted, left_out, IsGlyphOf, AreGlyphsOf, sketches_in}
+use Rattle.fx_strike.specs.Strike.{notices_in, fate_of, fates_of, is_missing, pixels, plan_with}
 use Rattle.fx_strike.specs.Headline.{Surveyed}
 use Rattle.fx_strike.specs.Title.{Title}
 use Rattle.fx_strike.specs.inner.Gathering.{IsGatheredOf, gathered_with}
@@ -74,32 +77,50 @@ pub record Has (sketch : Sketch) (old new : Seen) : Type 0 where
   pub missing : new.report.missing ≡ old.report.missing
   pub usage : new.report.usage ≡ usage_with old.report.usage sketch.usage
 
--- a character is seen if its sketch is due; a refusal is one that is due, or out of memory
-abbrev pub SeesOne : Result Sketch Refusal → Seen → Seen → Result (Unit {0}) Refusal → Type 0
-SeesOne due old new (Ok _) = (sketch : Sketch) × (due ≡ Ok sketch) × Has sketch old new
+-- a character was seen, of which this becomes
+abbrev pub HasFate : Fate → Seen → Seen → Type 0
+HasFate (drawn sketch) old new = Has sketch old new
+HasFate (unhinted notice sketch) old new = Has sketch old new
+HasFate (left_out notice) old new = new ≡ old
+
+-- a character is seen if what becomes of it is due; a refusal is one that is due, or out of memory
+abbrev pub SeesOne : Result Fate Refusal → Seen → Seen → Result (Unit {0}) Refusal → Type 0
+SeesOne due old new (Ok _) = (fate : Fate) × (due ≡ Ok fate) × HasFate fate old new
 SeesOne due old new (Err refusal) = Fails refusal due
 
 -- these code points were seen
-pub record Holds (setting : Setting) (codes : List ℕ) (seen : Seen) : Type 0
-  where
-    pub sketches : List Sketch
-    pub glyphs : List Glyph
-    pub planned : sketches_of setting codes ≡ Ok sketches
-    pub drawn : AreGlyphsOf sketches glyphs
-    pub bounds : seen.bounds ≡ bounds_of (map (λ g. g.box) glyphs)
-    pub placed : IsPlaced seen.bounds
-    pub gathered : IsGatheredOf glyphs seen.gathered
-    pub narrow : IsNarrow seen
-    pub count : seen.report.glyphs ≡ length sketches
-    pub missing : seen.report.missing ≡ count_by (is_missing setting) codes
-    pub strays : seen.report.usage.strays ≡ counted (sum_by (λ s. s.usage.strays) sketches)
-    pub steps : seen.report.usage.steps ≡ counted (sum_by (λ s. s.usage.steps) sketches)
-    pub each : seen.report.glyphs + seen.report.missing ≡ length codes
+pub record Holds (setting : Setting) (refused : OnRefused) (codes : List ℕ) (seen : Seen) : Type 0 where
+  pub fates : List Fate
+  pub glyphs : List Glyph
+  pub planned : fates_of setting refused codes ≡ Ok fates
+  pub drawn : AreGlyphsOf (flat_map sketches_in fates) glyphs
+  pub bounds : seen.bounds ≡ bounds_of (map (λ g. g.box) glyphs)
+  pub placed : IsPlaced seen.bounds
+  pub gathered : IsGatheredOf glyphs seen.gathered
+  pub narrow : IsNarrow seen
+  pub count : seen.report.glyphs ≡ length (flat_map sketches_in fates)
+  pub missing : seen.report.missing ≡ count_by (is_missing setting) codes
+  pub strays : seen.report.usage.strays ≡ counted (sum_by (λ s. s.usage.strays) (flat_map sketches_in fates))
+  pub steps : seen.report.usage.steps ≡ counted (sum_by (λ s. s.usage.steps) (flat_map sketches_in fates))
+  pub each : seen.report.glyphs + seen.report.missing ≤ length codes
 
--- they are seen if their sketches are due; a refusal is one that is due, or out of memory
-abbrev pub Sees : Setting → List ℕ → Result Seen Refusal → Type 0
-Sees setting codes (Ok seen) = Holds setting codes seen
-Sees setting codes (Err refusal) = Fails refusal (sketches_of setting codes)
+-- they are seen if what becomes of them is due; a refusal is one that is due, or out of memory
+abbrev pub Sees : Setting → OnRefused → List ℕ → Result Seen Refusal → Type 0
+Sees setting refused codes (Ok seen) = Holds setting refused codes seen
+Sees setting refused codes (Err refusal) = Fails refusal (fates_of setting refused codes)
+
+-- ---- what is told
+
+abbrev pub notices_by : Result Fate Refusal → List Notice
+notices_by (Ok fate) = notices_in fate
+notices_by (Err cause) = []
+
+-- all that there is to tell of code points
+abbrev pub notices_about : Setting → OnRefused → List ℕ → List Notice
+notices_about setting refused codes =
+    flat_map (λ c. notices_by (fate_of setting refused c)) (filter (λ c. not (is_missing setting c)) codes)
+
+-- ---- a survey
 
 -- the survey of the code points that were seen, with what `fpgm` and `prep` used up, and what the glyphs settle
 abbrev pub survey_from : Usage → Opened → Seen → Summary → Survey
@@ -121,5 +142,5 @@ Surveys due (Ok survey) = Surveyed due survey
 Surveys due (Err refusal) = Fails refusal due
 
 -- that of characters, whatever their title
-abbrev pub SurveysNameless : Setting → List ℕ → Result Survey Refusal → Type 0
-SurveysNameless setting chars result = (title : Title) → Surveys (plan_with setting title chars) result
+abbrev pub SurveysNameless : Setting → List ℕ → OnRefused → Result Survey Refusal → Type 0
+SurveysNameless setting chars refused result = (title : Title) → Surveys (plan_with setting title chars refused) result

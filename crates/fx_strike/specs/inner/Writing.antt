@@ -1,31 +1,33 @@
 -- What is written of a strike.
-use Rattle.std.specs.Prelude.{◌≡◌, ℕ, ◌+◌, ◌-◌, ◌*◌, ◌^◌, ◌<◌, Bool, true, false, List, [], length, take, slice_index, slice_index_or}
+use Rattle.std.specs.Prelude.{◌≡◌, ℕ, ◌+◌, ◌-◌, ◌*◌, ◌^◌, ◌<◌, Bool, true, false, List, [], ◌++◌, length, take, slice_index, slice_index_or}
 use Rattle.std.specs.Prelude.{Result, Ok, Err}
 use Rattle.std.specs.Io.KnownBytes.{Appends}
-use Rattle.fx_fixed.specs.Texts.{TextView, after, length_of}
+use Rattle.std.specs.List.{flat_map}
+use Rattle.fx_fixed.specs.Texts.{TextView, Adds, after, length_of}
 use Rattle.fx_bdf.specs.Glyphs.{Glyph}
 use Rattle.fx_bdf.specs.Text.{glyph_text, end_text, longest_header, longest_glyph}
 use Rattle.fx_request.specs.Limits.{max_characters}
 use Rattle.fx_request.specs.declared.refusal.Refusal.{Refusal}
 use Rattle.fx_request.specs.declared.refusal.Refusal.TheVariants.{WriteFailed, OutOfMemory}
 use Rattle.fx_fixed.specs.Changes.{Change}
-use Rattle.fx_strike.specs.Strike.{Sketch, Setting, IsGlyphOf, sketch_of, is_missing}
+use Rattle.fx_request.specs.declared.request.OnRefused.{OnRefused}
+use Rattle.fx_strike.specs.Strike.{Setting, Fate, AreGlyphsOf, sketches_in, fate_of, is_missing}
 
 -- ---- lines
 
--- the lines of a code point: none if the font lacks it, else those of its glyph
-abbrev pub AreLinesBy : Bool → Result Sketch Refusal → List ℕ → Type 0
+-- the lines of a code point: none if the font lacks it, else those of its glyph, if it is not left out
+abbrev pub AreLinesBy : Bool → Result Fate Refusal → List ℕ → Type 0
 AreLinesBy true due text = text ≡ []
-AreLinesBy false due text =
-    (sketch : Sketch) × (glyph : Glyph) × (due ≡ Ok sketch) × IsGlyphOf sketch glyph × (text ≡ glyph_text glyph)
+AreLinesBy false due text = (fate : Fate) × (glyphs : List Glyph) × (due ≡ Ok fate) × AreGlyphsOf (sketches_in fate) glyphs
+    × (text ≡ flat_map glyph_text glyphs)
 
-pub record AreLinesOf (setting : Setting) (code : ℕ) (text : List ℕ) : Type 0 where
-  pub lines : AreLinesBy (is_missing setting code) (sketch_of setting code) text
+pub record AreLinesOf (setting : Setting) (refused : OnRefused) (code : ℕ) (text : List ℕ) : Type 0 where
+  pub lines : AreLinesBy (is_missing setting code) (fate_of setting refused code) text
 
 -- the lines of code points, a piece of text for each
-pub record AreAllLinesOf (setting : Setting) (codes : List ℕ) (pieces : List (List ℕ)) : Type 0 where
+pub record AreAllLinesOf (setting : Setting) (refused : OnRefused) (codes : List ℕ) (pieces : List (List ℕ)) : Type 0 where
   pub count : length pieces ≡ length codes
-  pub each : (i : ℕ) → i < length codes → AreLinesOf setting (slice_index codes i) (slice_index_or pieces i [])
+  pub each : (i : ℕ) → i < length codes → AreLinesOf setting refused (slice_index codes i) (slice_index_or pieces i [])
 
 -- ---- as much of a text as was written
 
@@ -34,6 +36,15 @@ abbrev pub Stops : Refusal → ℕ → ℕ → ℕ → Type 0
 Stops OutOfMemory n faults_before faults = faults ≡ faults_before
 Stops (WriteFailed m) n faults_before faults = (m ≡ n) × (n < 2 ^ 64 - 1) × (faults ≡ faults_before + 1)
 Stops _ n faults_before faults = ⊥
+
+-- lines were added to a text, as others will be: all of them; or it stopped in the lines and what follows them
+abbrev pub AddsMoreBy : TextView → TextView → List ℕ → Result (Unit {0}) Refusal → Type 0
+AddsMoreBy was now lines (Ok _) = Adds Stops was now lines (Ok tt)
+AddsMoreBy was now lines (Err refusal) = (more : List ℕ) → 0 < length more → Adds Stops was now (lines ++ more) (Err refusal)
+
+-- the same as a record, so that a proof finds its arguments
+pub record AddsMore (was now : TextView) (lines : List ℕ) (result : Result (Unit {0}) Refusal) : Type 0 where
+  pub outcome : AddsMoreBy was now lines result
 
 -- how many bytes the lines of all glyphs have at most
 abbrev pub longest_glyphs : ℕ

@@ -11,5 +11,6 @@ returns c =
     let two = c.in_ok-arg-2.ensures.shape c.option-2.ensures.local ∙ ap₂ with_rule one c.option-2.ensures.rule in
     let three = c.in_ok-arg-3.ensures.shape c.flag.ensures.local ∙ ap₂ with_rule two c.flag.ensures.rule in
     let four = c.in_ok-arg-4.ensures.shape c.flag-2.ensures.local ∙ ap₂ with_rule three c.flag-2.ensures.rule in
-    IfOk-weaker c.arg-5.result _ _ (λ command h. h.shape c.flag-3.ensures.local ∙ ap₂ with_rule four c.flag-3.ensures.rule)
-    c.arg-5.ensures
+    let five = c.in_ok-arg-5.ensures.shape c.option-3.ensures.local ∙ ap₂ with_rule four c.option-3.ensures.rule in
+    IfOk-weaker c.arg-6.result _ _ (λ command h. h.shape c.flag-3.ensures.local ∙ ap₂ with_rule five c.flag-3.ensures.rule)
+    c.arg-6.ensures

@@ -9,6 +9,8 @@ use Rattle.fx_arguments.specs.Commands.{seen}
 use Rattle.fx_cli.specs.Runs.{called}
 use Rattle.fx_strike.proofs.Exits.{came}
 use Rattle.fx_cli.proofs.FirstLines.{few_arguments, for_line, length-line_of, line_ends, line_read, unread}
+use Rattle.fx_cli.proofs.Made.{told_as, untold}
+use Rattle.fx_cli.proofs.Telling.{no_line, no_room}
 use Rattle.fx_cli.proofs.program.run_line.Goals as goal
 
 pub returns-in_default : goal.returns-in_default
@@ -18,10 +20,11 @@ returns-in_default g c =
     let all : length first ≡ c.in_ok-filled.filled =
     length-take-le c.in_ok-filled.filled c.read_line.new.buffer (omega (arith, c.in_ok-filled.ensures.sizes.1)) in
     let line : take c.in_ok-filled.end first ≡ line_of first = ap (λ (k : ℕ). take k first) c.in_ok-filled.ensures.line in
-    record {
+    untold (record {
       got = first;
       read = c.in_ok-filled.ensures.read;
       spared = (Keeps-refl (g.O.Sink.held c.args.out.now), refl);
+      silent = refl;
       reason = (
         rw (few_arguments c.args.arguments.now c.requires.given) (inr (
           line_read first (g.R.Source.left c.read_line.new.reader) (elim c.in_ok-filled.ensures.whole [
@@ -33,7 +36,20 @@ returns-in_default g c =
         for_line given first _ (few_arguments c.args.arguments.now c.requires.given)
             (omega (arith, all, c.in_ok-filled.ensures.sizes.1)) c.in_ok-filled.ensures.quiet,
       );
-    }
+    })
+
+pub returns-in_err-filled : goal.returns-in_err-filled
+returns-in_err-filled g c =
+    let e = (c.in_err-filled.ensures).cut in
+    rw (came c.from_residual.result c.from_residual.ensures.1)
+    (untold (no_line (texts c.args.arguments.now) _ _ e.0 (few_arguments c.args.arguments.now c.requires.given) e.1
+    (Keeps-refl (g.O.Sink.held c.args.out.now), refl) c.in_err-filled.field-0.0 e.2))
+
+pub returns-in_err-arguments : goal.returns-in_err-arguments
+returns-in_err-arguments g c =
+    untold (no_room (texts c.args.arguments.now) _ _ _ c.in_ok-filled.ensures.read
+    (Keeps-refl (g.O.Sink.held c.args.out.now), refl) c.from_residual-in_err-arguments.result
+    c.from_residual-in_err-arguments.ensures.1)
 
 pub returns-in_err-command : goal.returns-in_err-command
 returns-in_err-command g c =
@@ -47,7 +63,7 @@ returns-in_err-command g c =
     = ap texts c.deref.ensures.value ∙ c.in_ok-arguments.ensures ∙
     ap₂ (λ (p l : List ℕ). p ∷ arguments_of_line l) c.program_name.ensures line_is in
     rw (came c.from_residual-in_err-command.result c.from_residual-in_err-command.ensures.1)
-    (unread given _ _ first (few_arguments c.args.arguments.now c.requires.given)
+    (untold (unread given _ _ first (few_arguments c.args.arguments.now c.requires.given)
     (omega (arith, all, c.in_ok-filled.ensures.sizes.1)) c.in_ok-filled.ensures.quiet c.in_ok-filled.ensures.read
     (Keeps-refl (g.O.Sink.held c.args.out.now), refl)
     (line_read first (g.R.Source.left c.read_line.new.reader) (elim c.in_ok-filled.ensures.whole [
@@ -57,7 +73,7 @@ returns-in_err-command g c =
     (rw line at c.in-Ok.ensures.cases.1)
     (omega (arith, length-line_of first, c.in_ok-filled.ensures.line, c.in_ok-filled.ensures.sizes.2))
     c.in_err-command.field-0.0
-    (rw arguments_are at c.in_err-command.ensures))
+    (rw arguments_are at c.in_err-command.ensures)))
 
 pub returns : goal.returns
 returns g c =
@@ -79,8 +95,10 @@ returns g c =
       faults_before = g.O.Sink.fault_count c.args.out.now;
       faults = g.O.Sink.fault_count c.run_command.new.out;
     } in
-    line_ends {given = given} {first = first} {before = g.R.Source.left c.args.reader.now} {arguments = texts c.deref.result.now}
-    (g.R.Source.fault_count c.args.reader.now) (seen c.in_ok-command.command) source sink (sym c.in_ok-filled.ensures.quiet)
+    let told = rw c.of.ensures at c.run_command.ensures in
+    told_as told (λ notices ends. line_ends {given = given} {first = first} {before = g.R.Source.left c.args.reader.now}
+    {arguments = texts c.deref.result.now}
+    (g.R.Source.fault_count c.args.reader.now) (seen c.in_ok-command.command) source sink notices (sym c.in_ok-filled.ensures.quiet)
     (record {
       none = few_arguments c.args.arguments.now c.requires.given;
       read = c.in_ok-filled.ensures.read;
@@ -90,4 +108,4 @@ returns g c =
       arguments_are = ap texts c.deref.ensures.value ∙ c.in_ok-arguments.ensures ∙
           ap₂ (λ (p l : List ℕ). p ∷ arguments_of_line l) c.program_name.ensures line_is;
     })
-    c.in_ok-command.ensures c.run_command.result (rw c.of.ensures at c.run_command.ensures)
+    c.in_ok-command.ensures c.run_command.result ends)

@@ -1,16 +1,17 @@
-use Rattle.std.proofs.Common.{◌≡◌, ◌+ℤ◌, ◌∙◌, arith, w32, to_z, of_z}
+use Rattle.std.proofs.Common.{◌≡◌, ◌+ℤ◌, ◌∙◌, ℤ, subst, arith, w32, to_z, of_z}
 use Rattle.fx_fixed.proofs.Linear.{signed_linear}
 use Rattle.fx_winding.specs.Winding.{place_of, span_of, crossing, region, IsOn}
 use Rattle.fx_winding.proofs.Places.{clash}
 use Rattle.fx_winding.proofs.Swept.{moved, moved_fact}
+use Rattle.fx_dropout.specs.inner.Pairs.{IsBeside}
 use Rattle.fx_dropout.proofs.Missed.{beside_none}
 use Rattle.fx_dropout.proofs.gaps.turn_off.Goals as goal
 
-pub returns-then-is_beside_row-clause-value : goal.returns-then-is_beside_row-clause-value
-returns-then-is_beside_row-clause-value c =
+pub returns-then-is_beside-clause-value : goal.returns-then-is_beside-clause-value
+returns-then-is_beside-clause-value c =
     let y : to_z w32 (of_z w32 c.args.p.y) ≡ c.args.p.y = omega (arith, signed_linear) in
-    let none = beside_none (place_of c.args.p) (span_of c.args.piece.now) (to_z w32 (of_z w32 c.args.p.y)) y
-    (c.is_beside_row.ensures c.if-is_beside_row.true) in
+    let none = beside_none (place_of c.args.p) (span_of c.args.piece.now)
+    (subst (λ (y : ℤ). IsBeside y (span_of c.args.piece.now)) y (c.is_beside.ensures c.if-is_beside.true)) in
     (omega (arith, signed_linear), none.0, none.1)
 
 pub returns-then-on_piece-clause-value : goal.returns-then-on_piece-clause-value

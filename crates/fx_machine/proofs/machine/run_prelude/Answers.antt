@@ -5,10 +5,10 @@ use Rattle.fx_machine.proofs.machine.run_prelude.Goals as goal
 pub returns-in_err-second-clause-value : goal.returns-in_err-second-clause-value
 returns-in_err-second-clause-value c =
     let p = err_from_is_err_and c.from_residual-in_err-second.result c.from_residual-in_err-second.ensures.1 in
-    prep_halts _ _ _ _ _ c.requires c.in_ok-first.ensures.value _ _ _ _ p.1 p.2
+    prep_halts _ _ _ _ _ c.requires.number c.in_ok-first.ensures.value _ _ _ _ p.1 p.2
     (rw c.prepare.ensures at c.in_err-second.ensures.value)
 
 pub returns-clause-value : goal.returns-clause-value
 returns-clause-value c =
-    prep_ends _ _ _ _ _ c.requires c.in_ok-first.ensures.value _ _ _ _ c.from.ensures c.strays.ensures
+    prep_ends _ _ _ _ _ c.requires.number c.in_ok-first.ensures.value _ _ _ _ c.from.ensures c.strays.ensures
     (rw c.prepare.ensures at c.in_ok-second.ensures.value)

@@ -1,4 +1,4 @@
-use Rattle.std.proofs.Common.{arith, rules}
+use Rattle.std.proofs.Common.{◌∙◌, arith, rules}
 use Rattle.fx_pointops.proofs.Keeping.{shapes_same, shapes_then}
 use Rattle.fx_machine.proofs.Keeping.{sized, sized_then}
 use Rattle.fx_machine.proofs.Looping.{finished_here, halted_here, stray_here, limit_here, stepped}
@@ -12,6 +12,7 @@ steps-init c = record {
   counted = omega arith;
   shapes = shapes_same c.args.state.now.zones;
   sizes = sized c.args.state.now;
+  targets = c.requires;
 }
 
 pub returns-then-is_empty-clause-value : goal.returns-then-is_empty-clause-value
@@ -56,4 +57,5 @@ steps-preserved c = record {
   counted = omega arith;
   shapes = shapes_then _ _ _ c.steps.invariant.shapes c.in-Ok.ensures.shapes;
   sizes = sized_then c.steps.invariant.sizes c.in-Ok.ensures.sizes;
+  targets = c.in-Ok.ensures.targets ∙ c.steps.invariant.targets;
 }

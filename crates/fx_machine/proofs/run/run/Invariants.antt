@@ -16,6 +16,7 @@ invariant-steps l = record {
   counted : l.steps ≤ l.limit;
   shapes : HasShapes l.fn.state.zones l.state.zones;
   sizes : HasSizes l.fn.state l.state;
+  targets : l.targets ≡ l.programs.font;
 }
 
 abbrev pub decreases-steps : goal.decreases-steps

@@ -1,5 +1,5 @@
 use Rattle.fx_fixed.proofs.Linear.{signed_linear}
-use Rattle.std.proofs.Common.{◌≡◌, ◌∙◌, ℕ, ◌+◌, ◌*◌, ◌↔◌, subst, sym, ap, pos, ◌+ℤ◌, map, arith, ℤ, List, length}
+use Rattle.std.proofs.Common.{◌≡◌, ◌⊎◌, inl, inr, ◌∙◌, ℕ, ◌+◌, ◌*◌, ◌<◌, ◌≤◌, get_or, ◌↔◌, subst, sym, ap, pos, ◌+ℤ◌, map, arith, ℤ, List, length}
 use Rattle.std.specs.Vec.{with_items}
 use Rattle.std.proofs.lemmas.List.{with_items_is}
 use Rattle.fx_winding.specs.Bitmaps.{words_for, word_bit}
@@ -9,7 +9,9 @@ use Rattle.fx_rows.specs.inner.Bands.{stride}
 use Rattle.fx_rows.specs.inner.Sums.{before, count_bit}
 use Rattle.fx_rows.proofs.Counted.{bit_covered}
 use Rattle.fx_rows.proofs.Marking.{bit_off}
-use Rattle.fx_rows.proofs.Banding.{number_in, after_last}
+use Rattle.fx_rows.proofs.Banding.{number_in, after_last, past_marks}
+use Rattle.fx_fixed.proofs.Order.{below_or_not}
+use Rattle.fx_rows.specs.declared.band.Band.{Band}
 use Rattle.fx_rows.proofs.rows.cover_band.Goals as goal
 
 pub returns-clause-count : goal.returns-clause-count
@@ -27,6 +29,28 @@ settled_bit : (new line marks marks' : List ℕ) (diff diff' : List ℤ) (n : �
 settled_bit new line marks marks' diff diff' n el em ed h =
     ap (λ (ws : List ℕ). word_bit ws n) el ∙ h ∙ (λ i. count_bit (before (n + 1) (ed i)) (word_bit (em i) n))
 
+pub returns-clause-clear : goal.returns-clause-clear
+returns-clause-clear g c = λ k. by k (below_or_not k (32 * length c.deref_mut-3.result.now))
+  where
+    b : Band
+    b = c.count_band.new.band
+
+    room : length b.marks.items ≡ c.args.band.now.frame.height * words_for c.args.band.now.frame.width + 1
+    room = b.room ∙ ap (λ (x : Frame). x.height * words_for x.width + 1) c.count_band.ensures.frame
+
+    same : (with_items b.diff c.settle.new.diff).items ≡ c.settle.new.diff
+    same = with_items_is b.diff c.settle.new.diff (omega arith)
+
+    by : (k : ℕ) → (k < 32 * length c.deref_mut-3.result.now) ⊎ (32 * length c.deref_mut-3.result.now ≤ k)
+        → get_or (with_items b.diff c.settle.new.diff).items k (pos 0) ≡ pos 0
+    by k (inl l) = ap (λ (xs : List ℤ). get_or xs k (pos 0)) same ∙ c.settle.ensures.zeros k l
+    by k (inr l) =
+        let long : length c.deref_mut-3.result.now ≡ length b.marks.items = ap length c.deref_mut-3.ensures.value in
+        ap (λ (xs : List ℤ). get_or xs k (pos 0)) same ∙ c.settle.ensures.others k l
+        ∙ ap (λ (xs : List ℤ). get_or xs k (pos 0)) c.deref_mut.ensures.value
+        ∙ past_marks (map span_of c.args.pieces.now) c.args.band.now.frame b k room c.count_band.ensures.counted
+        (omega (arith, long, l))
+
 pub returns-clause-bits : goal.returns-clause-bits
 returns-clause-bits g c = λ r k h l.
     let b = c.count_band.new.band in
@@ -35,11 +59,11 @@ returns-clause-bits g c = λ r k h l.
     let frame = c.count_band.ensures.frame in
     let room : length b.marks.items ≡ f.height * words_for f.width + 1 =
     b.room ∙ ap (λ (x : Frame). x.height * words_for x.width + 1) frame in
-    let long : length c.deref_mut.result.now ≡ length b.marks.items = ap length c.deref_mut.ensures.value in
+    let long : length c.deref_mut-3.result.now ≡ length b.marks.items = ap length c.deref_mut-3.ensures.value in
     let inside = number_in r f.height f.width k (length b.marks.items) h (omega (arith, l)) room in
-    let whole = settled_bit (with_items b.marks c.settle.new.line).items c.settle.new.line c.deref_mut.result.now b.marks.items
-    c.deref.result.now b.diff.items n (with_items_is b.marks c.settle.new.line (omega arith)) c.deref_mut.ensures.value
-    c.deref.ensures.value (c.settle.ensures.bits n (omega (arith, inside, long))) in
+    let whole = settled_bit (with_items b.marks c.settle.new.line).items c.settle.new.line c.deref_mut-3.result.now b.marks.items
+    c.deref_mut.result.now b.diff.items n (with_items_is b.marks c.settle.new.line (omega arith)) c.deref_mut-3.ensures.value
+    c.deref_mut.ensures.value (c.settle.ensures.bits n (omega (arith, inside, long))) in
     let p = centre (f.left +ℤ pos k) (f.bottom +ℤ pos r) in
     let spans = map span_of c.args.pieces.now in
     let set = bit_covered p spans (before (n + 1) b.diff.items) (word_bit b.marks.items n)
@@ -54,11 +78,11 @@ returns-clause-unused g c = λ r k h w l.
     let frame = c.count_band.ensures.frame in
     let room : length b.marks.items ≡ f.height * words_for f.width + 1 =
     b.room ∙ ap (λ (x : Frame). x.height * words_for x.width + 1) frame in
-    let long : length c.deref_mut.result.now ≡ length b.marks.items = ap length c.deref_mut.ensures.value in
+    let long : length c.deref_mut-3.result.now ≡ length b.marks.items = ap length c.deref_mut-3.ensures.value in
     let inside = number_in r f.height f.width k (length b.marks.items) h (l) room in
-    let whole = settled_bit (with_items b.marks c.settle.new.line).items c.settle.new.line c.deref_mut.result.now b.marks.items
-    c.deref.result.now b.diff.items n (with_items_is b.marks c.settle.new.line (omega arith)) c.deref_mut.ensures.value
-    c.deref.ensures.value (c.settle.ensures.bits n (omega (arith, inside, long))) in
+    let whole = settled_bit (with_items b.marks c.settle.new.line).items c.settle.new.line c.deref_mut-3.result.now b.marks.items
+    c.deref_mut.result.now b.diff.items n (with_items_is b.marks c.settle.new.line (omega arith)) c.deref_mut-3.ensures.value
+    c.deref_mut.ensures.value (c.settle.ensures.bits n (omega (arith, inside, long))) in
     let beside = after_last f.width f.height r k w l in
     let none = c.count_band.ensures.counted.rest n beside in
     let off = bit_off b.marks.items n (c.count_band.ensures.counted.unused n beside) in

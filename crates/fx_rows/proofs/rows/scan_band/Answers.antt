@@ -21,8 +21,8 @@ only_first first end height some within t = grind arith
 none_first : (first w n : ℕ) → n ≡ first * w → first ≡ 0 → n ≡ 0
 none_first first w n e z = grind arith
 
-pub joined-requires : goal.joined-requires
-joined-requires g c = λ t.
+pub joined-requires-clause-only : goal.joined-requires-clause-only
+joined-requires-clause-only g c = λ t.
     let r = c.requires in
     let some = r.some in
     let rows = r.rows in

@@ -7,6 +7,6 @@ use Rattle.fx_sfnt.proofs.directory.find_table.Given as goal
 abbrev pub invariant-records : goal.invariant-records
 invariant-records l = record {
   same : find (has_tag l.fn.tag) (records 16 (l.count - l.k) l.rest) ≡ find (has_tag l.fn.tag)
-      (records 16 l.count (drop 12 l.file));
+      (records 16 l.count (drop 12 l.directory));
   inside : 16 * (l.count - l.k) ≤ length l.rest;
 }

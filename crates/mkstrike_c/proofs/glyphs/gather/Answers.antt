@@ -1,26 +1,19 @@
-use Rattle.std.proofs.Common.{◌∙◌, ◌+◌, ℕ, ap, refl, sym, subst, arith, get_or}
+use Rattle.std.proofs.Common.{◌∙◌, ◌+◌, ◌++◌, ◌∷◌, [], ◌≡◌, ℕ, List, ap, refl, sym, subst, arith, length, get_or, IfOk, IfErr}
 use Rattle.fx_strike.specs.Faults.{Fails}
 use Rattle.fx_strike.specs.Strike.{Setting}
 use Rattle.fx_strike.specs.Headline.{IsOneOf, character_with}
-use Rattle.fx_strike.proofs.Exits.{came}
-use Rattle.mkstrike_c.specs.inner.Gathering.{AreCounted}
-use Rattle.mkstrike_c.proofs.Gathering.{chars_pass, none_made, made_at, refused_at}
+use Rattle.mkstrike_c.specs.declared.gathered.Wanted.{Wanted}
+use Rattle.mkstrike_c.specs.Drawn.{Outcome}
+use Rattle.mkstrike_c.specs.inner.Gathering.{AreCounted, Holds}
+use Rattle.mkstrike_c.proofs.Gathering.{chars_pass, made_at, none_made}
 use Rattle.mkstrike_c.proofs.glyphs.gather.Goals as goal
 
 pub chars-init : goal.chars-init
 chars-init c = record {
   same = refl;
   counted = c.requires.counted;
-  made = none_made c.args.striker.now c.args.chars.now c.args.none c.requires.none;
+  made = none_made c.args.striker.now c.args.none c.requires.none;
 }
-
-pub returns-in_err-made-clause-refused : goal.returns-in_err-made-clause-refused
-returns-in_err-made-clause-refused c =
-    let d = c.in_err-made.field-0.0 in
-    let P : Setting → Type 0 = λ s. Fails d (character_with s (get_or c.args.chars.now c.chars.code-index 0)) in
-    rw (came c.from_residual.result c.from_residual.ensures.1)
-    (refused_at c.args.striker.now c.args.chars.now c.chars.code-index c.args.none.wanted c.chars.gathered d c.chars-test.true
-    (sym c.requires.chars) c.chars.invariant.made (subst P c.chars.invariant.same c.in_err-made.ensures.cause))
 
 pub add-requires-clause-few : goal.add-requires-clause-few
 add-requires-clause-few c =
@@ -29,13 +22,17 @@ add-requires-clause-few c =
 
 pub chars-preserved : goal.chars-preserved
 chars-preserved c =
-    let P : Setting → Type 0 =
-    λ s. IsOneOf (character_with s (get_or c.args.chars.now c.chars.code-index 0)) c.in_ok-made.made in
+    let at = get_or c.args.chars.now c.chars.code-index 0 in
+    let P : Setting → Type 0 = λ s. IfOk c.glyph.result (IsOneOf (character_with s at)) in
+    let E : Setting → Type 0 = λ s. IfErr c.glyph.result (λ d. Fails d (character_with s at)) in
     let Q : ℕ → Type 0 = λ n. AreCounted c.add.new.self.drawn n in
+    let A : Outcome → Type 0 = λ o. (wanted : Wanted) (codes : List ℕ) (outcomes : List Outcome) → length codes ≡ length outcomes
+    → Holds wanted codes outcomes c.chars.gathered → Holds wanted (codes ++ at ∷ []) (outcomes ++ o ∷ []) c.add.new.self in
     record {
       same = c.glyph.ensures.kept ∙ c.chars.invariant.same;
       counted = subst Q (ap (λ (n : ℕ). n + 1) c.chars.invariant.counted.each) c.in_ok-add.ensures.counted;
       made = made_at c.args.striker.now c.args.chars.now c.chars.code-index c.args.none.wanted c.chars.gathered
-          c.add.new.self c.in_ok-made.made c.chars-test.true (sym c.requires.chars) c.chars.invariant.made
-          (subst P c.chars.invariant.same c.in_ok-made.ensures.glyph) c.in_ok-add.ensures.holds;
+          c.add.new.self c.glyph.result c.chars-test.true (sym c.requires.chars) c.chars.invariant.made
+          (subst P c.chars.invariant.same c.glyph.ensures.glyph) (subst E c.chars.invariant.same c.glyph.ensures.cause)
+          c.in_ok-outcome.ensures.settled (subst A c.in_ok-outcome.ensures.same c.in_ok-add.ensures.holds);
     }

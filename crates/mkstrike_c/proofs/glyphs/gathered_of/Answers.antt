@@ -1,5 +1,6 @@
 use Rattle.std.proofs.Common.{ap, subst, Err, IfOk}
 use Rattle.std.proofs.lemmas.Result.{err_from_is_err_and}
+use Rattle.fx_strike.specs.Strike.{setting_for}
 use Rattle.mkstrike_c.specs.declared.gathered.Wanted.{Wanted}
 use Rattle.mkstrike_c.specs.inner.Gathering.{AreGathered}
 use Rattle.mkstrike_c.proofs.Gathering.{refused_unset, refused_memory, refused_later, gathered_from}
@@ -22,11 +23,11 @@ pub returns-clause-gathered : goal.returns-clause-gathered
 returns-clause-gathered c =
     let P : Wanted → Type 0 =
     λ w. IfOk c.gather.result (AreGathered c.in_ok-striker.striker c.args.chars.now w) in
-    gathered_from c.args.font.now c.args.ppem c.args.chars.now c.args.mode c.in_ok-striker.striker c.args.wanted
-    c.gather.result c.in_ok-striker.ensures.setting
+    gathered_from (setting_for c.args.font.now c.args.ppem c.args.chars.now c.args.mode) c.args.chars.now
+    c.in_ok-striker.striker c.args.wanted c.gather.result c.in_ok-striker.ensures.setting
     (subst P c.in_ok-none.ensures.holds.wanted_is c.gather.ensures.gathered)
 
 pub returns-clause-refused : goal.returns-clause-refused
 returns-clause-refused c =
     refused_later c.args.font.now c.args.ppem c.args.chars.now c.args.mode c.in_ok-striker.striker
-    c.gather.result c.in_ok-striker.ensures.setting c.gather.ensures.refused
+    c.gather.result c.in_ok-striker.ensures.setting c.gather.ensures.memory

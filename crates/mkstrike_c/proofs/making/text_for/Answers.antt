@@ -1,5 +1,6 @@
 use Rattle.std.proofs.Common.{subst, Some, IfOk, IfErr, Result}
 use Rattle.fx_request.specs.declared.refusal.Refusal.{Refusal}
+use Rattle.fx_request.specs.declared.request.OnRefused.TheVariants.{Stop}
 use Rattle.fx_strike.specs.Strike.{Opening, Plan, opened_of, plan_of}
 use Rattle.mkstrike_c.specs.Made.{HoldsText, plain}
 use Rattle.mkstrike_c.specs.Refused.{IsReason}
@@ -22,5 +23,5 @@ returns-clause-refused c =
     λ strike. IfErr c.text_of.result
     (IsReason (opened_of c.args.font.now c.args.ppem (plain c.name_of.result.now) c.args.chars.now) strike) in
     let Q : Opening → Type 0 = λ opening. IfErr c.text_of.result (IsReason opening
-    (plan_of c.args.font.now c.args.ppem (plain c.args.name.now) c.args.chars.now c.args.mode)) in
+    (plan_of c.args.font.now c.args.ppem (plain c.args.name.now) c.args.chars.now c.args.mode Stop)) in
     subst Q opened (subst P made c.text_of.ensures.refused)

@@ -8,5 +8,5 @@ returns-in-Err-WriteFailed-clause-refused c =
     let w = c.in-Err-WriteFailed.ensures.writer c.in-Err-WriteFailed.field-0-0 (ap Err c.in-Err-WriteFailed.field-0-is) in (
       tt,
       λ m. opened_if_made c.args.font.now c.args.request.now.ppem (title_of c.args.request.now) c.args.request.now.chars.now
-          c.args.request.now.mode w.begun.plan w.begun.is,
+          c.args.request.now.mode c.args.request.now.on_refused w.begun.plan w.begun.is,
     )

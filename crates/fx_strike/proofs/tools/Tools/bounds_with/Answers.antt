@@ -4,16 +4,16 @@ use Rattle.fx_strike.proofs.Exits.{came}
 use Rattle.fx_strike.proofs.Enclosed.{skipped, joins_made}
 use Rattle.fx_strike.proofs.tools.Tools.bounds_with.Goals as goal
 
-pub returns-then-lies_in : goal.returns-then-lies_in
-returns-then-lies_in g c sketch is e =
+pub returns-then-lies_in-clause-joined : goal.returns-then-lies_in-clause-joined
+returns-then-lies_in-clause-joined g c sketch is e =
     skipped sketch c.args.sketched.now c.args.bounds (rw c.region_of.ensures at (c.lies_in.ensures c.if-lies_in.true))
     c.requires.placed is
 
-pub returns-in_err-glyph : goal.returns-in_err-glyph
-returns-in_err-glyph g c sketch is e =
+pub returns-in_err-glyph-clause-joined : goal.returns-in_err-glyph-clause-joined
+returns-in_err-glyph-clause-joined g c sketch is e =
     rw (came c.from_residual.result c.from_residual.ensures.1) c.in_err-glyph.ensures.fault
 
-pub returns : goal.returns
-returns g c sketch is e =
+pub returns-clause-joined : goal.returns-clause-joined
+returns-clause-joined g c sketch is e =
     joins_made sketch c.args.bounds _ c.in_ok-glyph.glyph (c.in_ok-glyph.ensures.glyph sketch is e)
     (c.joined.ensures.value ∙ ap (λ (b : Box). joined c.args.bounds b) c.bounds.ensures.value) c.joined.ensures.placed

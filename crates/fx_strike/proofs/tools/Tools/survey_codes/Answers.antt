@@ -3,16 +3,25 @@ use Rattle.fx_machine.specs.Known.{Known}
 use Rattle.fx_strike.specs.Strike.{prelude_by}
 use Rattle.fx_strike.proofs.Exits.{came}
 use Rattle.fx_strike.proofs.Making.{unseen, surveyed}
+use Rattle.fx_strike.proofs.Telling.{told_all, told_on, told_strike}
 use Rattle.fx_strike.proofs.tools.Tools.survey_codes.Goals as goal
 
 pub returns-in_err-seen-clause-survey : goal.returns-in_err-seen-clause-survey
 returns-in_err-seen-clause-survey g c title chars rising =
     rw (came c.from_residual.result c.from_residual.ensures.1)
-    (unseen _ title chars c.args.codes.now _ rising (c.in_err-seen.ensures).seen)
+    (unseen _ title chars c.args.codes.now _ _ rising (c.in_err-seen.ensures).seen)
+
+pub returns-in_err-seen-clause-heard : goal.returns-in_err-seen-clause-heard
+returns-in_err-seen-clause-heard g c title chars rising =
+    rw (came c.from_residual.result c.from_residual.ensures.1)
+    (told_strike _ title chars _ rising (told_on (c.in_err-seen.ensures).heard))
 
 pub returns-clause-survey : goal.returns-clause-survey
 returns-clause-survey g c title chars rising =
     surveyed c.args.self.now.opened c.args.self.now.rule c.args.hinter.now c.prelude.result title chars c.args.codes.now
-    c.in_ok-seen.seen c.summary-summary.result c.survey_from.result
+    c.args.refused c.in_ok-seen.seen c.summary-summary.result c.survey_from.result
     (c.prelude.ensures ∙ ap (λ (m : Option Known). prelude_by m) (c.in_ok-seen.ensures).kept) rising
     (c.in_ok-seen.ensures).seen c.summary-summary.ensures c.survey_from.ensures
+
+pub returns-clause-heard : goal.returns-clause-heard
+returns-clause-heard g c title chars rising = told_strike _ title chars _ rising (told_all _ (c.in_ok-seen.ensures).heard)

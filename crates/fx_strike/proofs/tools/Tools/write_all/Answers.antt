@@ -1,7 +1,8 @@
 use Rattle.std.proofs.Common.{refl, ◌∙◌, sym, arith, List, [], ℕ}
-use Rattle.fx_fixed.proofs.Texts.{adds_nothing, adds_text, adds_then, adds_stopped}
+use Rattle.fx_fixed.proofs.Texts.{adds_nothing, adds_text, adds_then}
 use Rattle.fx_fixed.proofs.Writing.{parts, parts_more}
 use Rattle.fx_strike.proofs.Exits.{came}
+use Rattle.fx_strike.proofs.Lines.{adds_part}
 use Rattle.fx_strike.proofs.Seeing.{code_fits}
 use Rattle.fx_strike.proofs.tools.Tools.write_all.Goals as goal
 
@@ -26,8 +27,8 @@ pub returns-in_err-write_one-clause-lines : goal.returns-in_err-write_one-clause
 returns-in_err-write_one-clause-lines g c lines h =
     let w = rw c.codes.invariant.kept at (c.in_err-write_one.ensures).lines in
     rw (came c.from_residual.result c.from_residual.ensures.1)
-    (adds_text (sym (parts (λ (t : List ℕ). t) lines c.codes.code-index [] (omega (arith, h.count, c.codes-test.true))))
-    (adds_then (c.codes.invariant.lines lines h) (adds_stopped _ (w _ (h.each _ c.codes-test.true)))))
+    (adds_part _ (parts (λ (t : List ℕ). t) lines c.codes.code-index [] (omega (arith, h.count, c.codes-test.true)))
+    (c.codes.invariant.lines lines h) (w _ (h.each _ c.codes-test.true)))
 
 pub codes-preserved : goal.codes-preserved
 codes-preserved g c =
@@ -41,7 +42,7 @@ codes-preserved g c =
       few = omega (arith, (c.in_ok-write_one.ensures).short, c.codes.invariant.few);
       lines = λ lines h.
           adds_text (parts_more (λ (t : List ℕ). t) lines c.codes.code-index [] (omega (arith, h.count, c.codes-test.true)))
-          (adds_then (c.codes.invariant.lines lines h) (w _ (h.each _ c.codes-test.true)));
+          (adds_then (c.codes.invariant.lines lines h) (w _ (h.each _ c.codes-test.true)).outcome);
     }
 
 pub write_one-requires-clause-cache : goal.write_one-requires-clause-cache

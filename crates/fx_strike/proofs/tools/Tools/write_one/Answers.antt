@@ -1,30 +1,15 @@
-use Rattle.std.proofs.Common.{arith}
-use Rattle.fx_fixed.proofs.Texts.{adds_text, adds_count, adds_quiet}
 use Rattle.fx_strike.proofs.Exits.{came}
-use Rattle.fx_strike.proofs.Lines.{adds_missing, adds_undrawn, drawn_lines, added, unadded}
+use Rattle.fx_strike.proofs.Lines.{adds_missing, adds_undrawn, adds_fate}
 use Rattle.fx_strike.proofs.tools.Tools.write_one.Goals as goal
 
 pub returns-then-glyph-eq0-clause-lines : goal.returns-then-glyph-eq0-clause-lines
 returns-then-glyph-eq0-clause-lines g c text h = adds_missing c.requires.glyph c.if-glyph-eq0.true h
 
-pub returns-in_err-drawn-clause-lines : goal.returns-in_err-drawn-clause-lines
-returns-in_err-drawn-clause-lines g c text h =
+pub returns-in_err-fate-clause-lines : goal.returns-in_err-fate-clause-lines
+returns-in_err-fate-clause-lines g c text h =
     rw (came c.from_residual.result c.from_residual.ensures.1)
-    (adds_undrawn _ c.requires.glyph c.if-glyph-eq0.false (c.in_err-drawn.ensures).sketch h)
-
-pub returns-in_err-write_glyph-clause-lines : goal.returns-in_err-write_glyph-clause-lines
-returns-in_err-write_glyph-clause-lines g c text h =
-    let t = drawn_lines c.trimmed.ensures c.requires.glyph c.if-glyph-eq0.false (c.in_ok-drawn.ensures).sketch h in
-    rw (came c.from_residual-in_err-write_glyph.result c.from_residual-in_err-write_glyph.ensures.1)
-    (adds_text t (unadded c.in_err-write_glyph.ensures.text (omega (arith, c.in_err-write_glyph.ensures.short))))
-
-pub returns-clause-quiet : goal.returns-clause-quiet
-returns-clause-quiet g c = adds_quiet c.in_ok-write_glyph.ensures.text
-
-pub returns-clause-short : goal.returns-clause-short
-returns-clause-short g c = omega (arith, adds_count c.in_ok-write_glyph.ensures.text, c.in_ok-write_glyph.ensures.short)
+    (adds_undrawn _ c.requires.glyph c.if-glyph-eq0.false (c.in_err-fate.ensures).fate h)
 
 pub returns-clause-lines : goal.returns-clause-lines
 returns-clause-lines g c text h =
-    let t = drawn_lines c.trimmed.ensures c.requires.glyph c.if-glyph-eq0.false (c.in_ok-drawn.ensures).sketch h in
-    adds_text t (added c.in_ok-write_glyph.ensures.text)
+    adds_fate c.write_fate.result c.requires.glyph c.if-glyph-eq0.false (c.in_ok-fate.ensures).fate c.write_fate.ensures.lines h

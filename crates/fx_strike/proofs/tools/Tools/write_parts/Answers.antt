@@ -17,25 +17,26 @@ returns-in_err-write_header-clause-lines g c lines h =
 pub returns-in_err-write_all-clause-lines : goal.returns-in_err-write_all-clause-lines
 returns-in_err-write_all-clause-lines g c lines h =
     rw (came c.from_residual-in_err-write_all.result c.from_residual-in_err-write_all.ensures.1)
-    (adds_then (added c.in_ok-write_header.ensures.text) (adds_stopped end_text (c.in_err-write_all.ensures.lines lines h)))
+    (adds_then (added c.in_ok-write_header.ensures.text)
+    ((c.in_err-write_all.ensures.lines lines h).outcome end_text (omega arith)))
 
 pub returns-in_err-write_end-clause-lines : goal.returns-in_err-write_end-clause-lines
 returns-in_err-write_end-clause-lines g c lines h =
     let header = c.in_ok-write_header.ensures in
     rw (came c.from_residual-in_err-write_end.result c.from_residual-in_err-write_end.ensures.1)
-    (adds_then (added header.text) (adds_then (c.in_ok-write_all.ensures.lines lines h)
+    (adds_then (added header.text) (adds_then (c.in_ok-write_all.ensures.lines lines h).outcome
     (unadded c.in_err-write_end.ensures (omega (arith, adds_count header.text, header.short, c.in_ok-write_all.ensures.short)))))
 
 pub returns-in_err-end-clause-lines : goal.returns-in_err-end-clause-lines
 returns-in_err-end-clause-lines g c lines h =
     let header = c.in_ok-write_header.ensures in
     rw (came c.from_residual-in_err-end.result c.from_residual-in_err-end.ensures.1)
-    (adds_ended (adds_then (added header.text) (adds_then (c.in_ok-write_all.ensures.lines lines h)
+    (adds_ended (adds_then (added header.text) (adds_then (c.in_ok-write_all.ensures.lines lines h).outcome
     (added c.in_ok-write_end.ensures)))
     (unadded c.in_err-end.ensures.adds
     (omega (arith, adds_count header.text, header.short, c.in_ok-write_all.ensures.short, adds_count c.in_ok-write_end.ensures))))
 
 pub returns-clause-lines : goal.returns-clause-lines
 returns-clause-lines g c lines h =
-    adds_ended (adds_then (added c.in_ok-write_header.ensures.text) (adds_then (c.in_ok-write_all.ensures.lines lines h)
+    adds_ended (adds_then (added c.in_ok-write_header.ensures.text) (adds_then (c.in_ok-write_all.ensures.lines lines h).outcome
     (added c.in_ok-write_end.ensures))) (added c.in_ok-end.ensures.adds)

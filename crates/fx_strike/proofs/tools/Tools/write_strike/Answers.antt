@@ -7,6 +7,7 @@ use Rattle.fx_strike.specs.inner.Drawing.{due_in}
 use Rattle.fx_strike.proofs.Exits.{came}
 use Rattle.fx_strike.proofs.Making.{fails_leaves}
 use Rattle.fx_strike.proofs.Lines.{strike_leaves}
+use Rattle.fx_strike.proofs.Telling.{told_all, told_none, told_on}
 use Rattle.fx_strike.proofs.tools.Tools.write_strike.Goals as goal
 
 pub survey_codes-requires : goal.survey_codes-requires
@@ -29,6 +30,30 @@ returns-in_err-survey-clause-leaves g c =
     rw (came c.from_residual-in_err-survey.result c.from_residual-in_err-survey.ensures.1)
     (fails_leaves _ _ c.in_err-survey.field-0.0 (Keeps-refl _) refl
     ((c.in_err-survey.ensures).survey (titled c.args.title.now) c.args.chars.now (c.deref.ensures.value ∙ c.in_ok-codes.ensures)))
+
+pub returns-in_err-codes-clause-heard : goal.returns-in_err-codes-clause-heard
+returns-in_err-codes-clause-heard g c = told_none c.from_residual.result c.from_residual.ensures.1
+
+pub returns-in_err-survey-clause-heard : goal.returns-in_err-survey-clause-heard
+returns-in_err-survey-clause-heard g c =
+    rw (came c.from_residual-in_err-survey.result c.from_residual-in_err-survey.ensures.1)
+    (told_on ((c.in_err-survey.ensures).heard (titled c.args.title.now) c.args.chars.now
+    (c.deref.ensures.value ∙ c.in_ok-codes.ensures)))
+
+pub returns-in_err-properties-clause-heard : goal.returns-in_err-properties-clause-heard
+returns-in_err-properties-clause-heard g c =
+    told_all _ ((c.in_ok-survey.ensures).heard (titled c.args.title.now) c.args.chars.now
+    (c.deref.ensures.value ∙ c.in_ok-codes.ensures))
+
+pub returns-in_err-write_text-clause-heard : goal.returns-in_err-write_text-clause-heard
+returns-in_err-write_text-clause-heard g c =
+    told_all _ ((c.in_ok-survey.ensures).heard (titled c.args.title.now) c.args.chars.now
+    (c.deref.ensures.value ∙ c.in_ok-codes.ensures))
+
+pub returns-clause-heard : goal.returns-clause-heard
+returns-clause-heard g c =
+    told_all _ ((c.in_ok-survey.ensures).heard (titled c.args.title.now) c.args.chars.now
+    (c.deref.ensures.value ∙ c.in_ok-codes.ensures))
 
 pub returns-in_err-write_text-clause-leaves : goal.returns-in_err-write_text-clause-leaves
 returns-in_err-write_text-clause-leaves g c =

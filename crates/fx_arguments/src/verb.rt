@@ -1,0 +1,12 @@
+//! The commands that have options.
+
+/// A command that has options.
+#[derive(Clone, Copy)]
+pub enum Verb {
+    /// `make`.
+    Make,
+    /// `show`.
+    Show,
+    /// `dump`.
+    Dump,
+}

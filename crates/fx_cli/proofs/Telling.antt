@@ -1,0 +1,99 @@
+-- Runs that tell of refused characters, and those that stop before.
+-- Serves `run`, `run_line`, `run_command` and `run_task`.
+use Rattle.std.proofs.Common.{◌≡◌, ◌∙◌, refl, sym, ap, subst, inl, ℕ, ◌+◌, Bool, true, false, List, [], ◌∷◌, ◌++◌, length, Option, Result, Ok, Err}
+use Rattle.std.specs.Prelude.{IsErrOf, IsErrAnd}
+use Rattle.std.specs.List.{flat_map}
+use Rattle.std.specs.Borrow.{GName}
+use Rattle.std.specs.Io.KnownBytes.{Consumes, IsAtEnd}
+use Rattle.clap.specs.Walk.{Text}
+use Rattle.fx_fixed.specs.Changes.{Change}
+use Rattle.fx_request.specs.declared.notice.Notice.{Notice}
+use Rattle.fx_request.specs.Notices.{HearsAll}
+use Rattle.fx_request.specs.declared.refusal.Refusal.{Refusal}
+use Rattle.fx_request.specs.declared.refusal.Refusal.TheVariants.{InputTooLarge, OutOfMemory, ReadFailed, WriteFailed}
+use Rattle.fx_strike.specs.Listings.{IsListedTo, IsNoFault, IsNotListed, Lists}
+use Rattle.fx_arguments.specs.declared.done.Done.{Done}
+use Rattle.fx_arguments.specs.declared.fault.Fault.{Fault}
+use Rattle.fx_arguments.specs.declared.fault.Fault.TheVariants.{Usage, Early}
+use Rattle.fx_arguments.specs.Commands.{CommandView}
+use Rattle.fx_arguments.specs.Input.{IsLineCause, IsReadCause}
+use Rattle.fx_arguments.specs.Lines.{notice_line, outcome_line, status_of}
+use Rattle.fx_arguments.specs.ReadAhead.{ReadAheadView}
+use Rattle.fx_arguments.specs.Tellers.{TellerView, Tells, TellsBy, HearsLine, begun}
+use Rattle.fx_arguments.proofs.Telling.{tells_change, tells_notices, tells_then}
+use Rattle.fx_cli.specs.Runs.{Ends, IsSpared, Runs, has_arguments}
+use Rattle.fx_cli.specs.Steps.{EndsAfter, Telling}
+use Rattle.fx_cli.proofs.FirstLines.{for_line}
+
+-- what a teller was told from its start to the end of a run
+pub runs_told : {given : List Text} {source sink : Change} {name : GName} {old new : Option (List ℕ)}
+    {faults_before faults status : ℕ} {was now end : TellerView} (outcome : Result Done Fault)
+    → was ≡ begun name old faults_before → Telling was now (λ told. Ends given source sink told outcome)
+    → Tells now end (outcome_line outcome) → status ≡ status_of outcome → new ≡ end.held → faults ≡ end.faults
+    → Runs given source sink (record { bytes_before = old; bytes = new; faults_before = faults_before; faults = faults }) status
+runs_told {old = old} {end = end} outcome w t line s held count =
+    let P : TellerView → Type 0 = λ x. Tells x end (flat_map notice_line t.notices ++ outcome_line outcome) in
+    record {
+      outcome = outcome;
+      notices = t.notices;
+      ends = t.ends;
+      told = s;
+      lines = rw (held, count) (tells_change (subst P w (tells_then (flat_map notice_line t.notices) (outcome_line outcome)
+          (tells_notices t.notices t.heard) line)));
+    }
+
+-- the sink of a teller stays
+tells_same_by : (b : Bool) (was now : TellerView) (text : List ℕ) → TellsBy b was now text → now.sink ≡ was.sink
+tells_same_by true was now text h = ap (λ (x : TellerView). x.sink) h
+tells_same_by false was now text h = h.0
+
+pub tells_same : {was now : TellerView} {text : List ℕ} → Tells was now text → now.sink ≡ was.sink
+tells_same {was} {now} {text} h = tells_same_by was.failed was now text h.outcome
+
+pub heard_same : (notices : List Notice) (was now : TellerView) → HearsAll HearsLine was notices now → now.sink ≡ was.sink
+heard_same [] was now h = ap (λ (x : TellerView). x.sink) h
+heard_same (n ∷ ns) was now h = heard_same ns h.0 now h.2 ∙ tells_same h.1
+
+-- there is no first line
+pub no_line : (given : List Text) (source sink : Change) (got : List ℕ) → has_arguments given ≡ false
+    → Consumes source.bytes_before source.bytes got → IsSpared sink → (fault : Fault)
+    → IsLineCause fault got source.faults_before source.faults → Ends given source sink [] (Err fault)
+no_line given source sink got none read spared Usage h = record {
+  got = got;
+  read = read;
+  spared = spared;
+  silent = refl;
+  reason = (rw none (inl h.0), for_line given got source none h.1 h.2);
+}
+no_line given source sink got none read spared (Early ReadFailed) h =
+    record { got = got; read = read; spared = spared; silent = refl; reason = h }
+no_line given source sink got none read spared _ h = absurd h
+
+-- there was no memory for the arguments of a line
+pub no_room : (given : List Text) (source sink : Change) (got : List ℕ) → Consumes source.bytes_before source.bytes got
+    → IsSpared sink → (r : Result Done Fault) → IsErrAnd r (λ e. e ≡ Early OutOfMemory) → Ends given source sink [] r
+no_room given source sink got read spared (Ok done) h = absurd h
+no_room given source sink got read spared (Err e) h =
+    let P : Fault → Type 0 = λ f. Ends given source sink [] (Err f) in
+    subst P (sym h) (record { got = got; read = read; spared = spared; silent = refl; reason = tt })
+
+-- the input was not read to its end
+pub no_text : (command : CommandView) (ahead : ReadAheadView) (source sink : Change) (more : List ℕ)
+    → Consumes source.bytes_before source.bytes more → (ahead.ended ≡ true → (more ≡ []) × IsAtEnd source.bytes) → IsSpared sink
+    → (refusal : Refusal)
+    → IsReadCause refusal (ahead.line + length (ahead.text ++ more)) source.faults_before source.faults
+    → EndsAfter command ahead source sink [] (Err (Early refusal))
+no_text command ahead source sink more read rest spared ReadFailed h =
+    record { more = more; read = read; rest = rest; spared = spared; silent = refl; reason = h }
+no_text command ahead source sink more read rest spared InputTooLarge h =
+    record { more = more; read = read; rest = rest; spared = spared; silent = refl; reason = h }
+no_text command ahead source sink more read rest spared OutOfMemory h =
+    record { more = more; read = read; rest = rest; spared = spared; silent = refl; reason = tt }
+no_text command ahead source sink more read rest spared _ h = absurd h
+
+-- a listing was refused
+pub unlisted : (program : Result (List ℕ) Refusal) (sink : Change) (r : Result (Unit {0}) Refusal) (d : Refusal) → r ≡ Err d
+    → (IsNoFault d → IsNotListed program sink d) → ((n : ℕ) → IsErrOf r (WriteFailed n) → IsListedTo program sink n)
+    → Lists program sink (Err d)
+unlisted program sink r (WriteFailed n) e c w = w n e
+unlisted program sink r d e c w = c tt

@@ -1,0 +1,18 @@
+use Rattle.std.proofs.Common.{refl, Err}
+use Rattle.fx_strike.proofs.Exits.{came}
+use Rattle.fx_cli.proofs.Made.{untold}
+use Rattle.fx_cli.proofs.Telling.{unlisted}
+use Rattle.fx_cli.proofs.program.run_task.Goals as goal
+
+pub returns-in_err-listing_of-in-Listing : goal.returns-in_err-listing_of-in-Listing
+returns-in_err-listing_of-in-Listing g c =
+    let e = c.in_err-listing_of-in-Listing.ensures in
+    rw (
+      c.in-Listing.is,
+      came c.from_residual-in_err-listing_of-in-Listing.result
+          c.from_residual-in_err-listing_of-in-Listing.ensures.1,
+    )
+    (untold (
+      unlisted _ _ (Err c.in_err-listing_of-in-Listing.field-0.0) c.in_err-listing_of-in-Listing.field-0.0 refl e.cause e.writer,
+      refl,
+    ))

@@ -1,0 +1,176 @@
+-- A machine that is read from a block knows what the machine knew that wrote the block.
+-- For a machine that is made of a block.
+use Rattle.std.proofs.Common.{◌≡◌, inl, inr, ℕ, ◌+◌, ◌*◌, List, [], ◌∷◌, ◌++◌, length, take, drop, refl, ap, sym, ◌∙◌, Bool, true}
+use Rattle.std.proofs.Common.{false, ◌==◌, arith}
+use Rattle.std.proofs.Common.{subst, Option, Some, None, Result, Ok, Err, if◌then◌else◌, ◌&&◌}
+use Rattle.std.specs.Prelude.{nat_eq, nat_le, codes}
+use Rattle.std.proofs.lemmas.Bool.{eqb-true, eq-eqb, le-leb}
+use Rattle.std.proofs.lemmas.List.{length-replicate, append_assoc}
+use Rattle.fx_sfnt.specs.Tables.{Face, table_or_empty}
+use Rattle.fx_scale.specs.Scaling.{scale_of}
+use Rattle.fx_zone.specs.Figures.{HasShape}
+use Rattle.fx_gstate.specs.declared.state.GState.{GState}
+use Rattle.fx_pointops.specs.Zones.{HasShapes}
+use Rattle.fx_machine.specs.declared.state.State.{State}
+use Rattle.fx_machine.specs.declared.state.Flags.{Flags}
+use Rattle.fx_machine.specs.declared.usage.Usage.{Usage}
+use Rattle.fx_machine.specs.declared.prepared.Prepared.{Prepared}
+use Rattle.fx_machine.specs.Shapes.{HasSizes}
+use Rattle.fx_machine.specs.Prepared.{Fits, carried, begun}
+use Rattle.fx_machine.specs.Known.{Known, machine_of, font_ran, first_state, prepared_from}
+use Rattle.fx_machine.specs.declared.halt.MachineFault.{MachineFault}
+use Rattle.fx_fixed.specs.Chain.{◌>>=◌}
+use Rattle.fx_machine.specs.Blocks.{Sizes, AreParts, IsRead, SaysAll, IsBlockOf, IsOfFont, IsNumbered, known_words, state_words}
+use Rattle.fx_machine.specs.Blocks.{origin_words, sizes_of}
+use Rattle.fx_machine.specs.Blocks.{block_form, has_origin, font_sizes, sizes_in, usage_in, prepared_in, checksum_of}
+use Rattle.fx_machine.specs.Blocks.{after_origin}
+use Rattle.fx_machine.proofs.BlocksBack.{prepared_back, sizes_back, usage_back, all_said}
+
+unfoldable known_with : Face → ℕ → Prepared → Usage → Known
+known_with face ppem p u = record { face = face; ppem = ppem; prepared = p; prelude = u }
+
+same_known_parts : (f f' : Face) (n n' : ℕ) (p p' : Prepared) (u u' : Usage) → f ≡ f' → n ≡ n' → p ≡ p' → u ≡ u'
+    → known_with f n p u ≡ known_with f' n' p' u'
+same_known_parts f f' n n' p p' u u' a b c d = cc
+
+same_known : (a b : Known) → a.face ≡ b.face → a.ppem ≡ b.ppem → a.prepared ≡ b.prepared → a.prelude ≡ b.prelude → a ≡ b
+unfolding known_with
+same_known a b f n p u = same_known_parts a.face b.face a.ppem b.ppem a.prepared b.prepared a.prelude b.prelude f n p u
+
+same_some : {x y : List ℕ} → Some x ≡ Some y → x ≡ y
+same_some e = cc
+
+-- ---- the words that tell the font
+
+equal : (n : ℕ) → (n == n) ≡ true
+equal n = eq-eqb n n refl
+
+origin_said : (face : Face) (ppem : ℕ) (ws : List ℕ) → has_origin face ppem (origin_words face ppem ++ ws) ≡ true
+origin_said face ppem ws = rw (
+  equal ppem,
+  equal (checksum_of face),
+  equal (length (table_or_empty face (codes "fpgm"))),
+  equal (length (table_or_empty face (codes "prep"))),
+) refl
+
+five_there : (a b c d e : ℕ) (ws : List ℕ) → nat_le 5 (length (a ∷ b ∷ c ∷ d ∷ e ∷ ws)) ≡ true
+five_there a b c d e ws = le-leb 5 _ (omega arith)
+
+origin_back : (face : Face) (ppem : ℕ) (ws : List ℕ) → after_origin face ppem (origin_words face ppem ++ ws) ≡ Some ws
+unfolding after_origin
+origin_back face ppem ws = rw (
+  five_there block_form ppem (checksum_of face) (length (table_or_empty face (codes "fpgm")))
+      (length (table_or_empty face (codes "prep"))) ws,
+  origin_said face ppem ws,
+) refl
+
+module _ (face : Face) (ppem : ℕ) (block : List ℕ) (known : Known) (ef : known.face ≡ face) (ep : known.ppem ≡ ppem)
+    (b : IsBlockOf known block) where
+  words_there : after_origin face ppem block ≡ Some (state_words known.prepared known.prelude ++ b.rest)
+  words_there =
+      rw (
+        b.block_is,
+        append_assoc (origin_words known.face known.ppem) (state_words known.prepared known.prelude) b.rest,
+        ← ef,
+        ← ep,
+      ) (origin_back known.face known.ppem (state_words known.prepared known.prelude ++ b.rest))
+
+  -- they are there
+  pub origin_there : None ≡ after_origin face ppem block → ⊥
+  origin_there e =
+      let f : None ≡ Some (state_words known.prepared known.prelude ++ b.rest) = e ∙ words_there in
+      cc
+
+  -- and say all of it
+  pub all_there : (ws : List ℕ) (old : Prepared) → Some ws ≡ after_origin face ppem block → sizes_of old ≡ font_sizes face ppem
+      → SaysAll (sizes_of old) ws
+  all_there ws old e s =
+      let w : ws ≡ state_words known.prepared known.prelude ++ b.rest = same_some (e ∙ words_there) in
+      let z : sizes_of old ≡ sizes_of known.prepared = s ∙ (rw (← ef, ← ep) (sym b.of_font.sizes)) in
+      rw (w, z) (all_said known.prepared known.prelude b.rest b.numbered)
+
+  pub known_is : (size : ℕ) (ws : List ℕ) (old new : Prepared) (u : Usage) → size ≡ ppem → Some ws ≡ after_origin face ppem block
+      → IsRead old new ws u → ◌≡◌ {A = Known} (record { face = face; ppem = size; prepared = new; prelude = u }) known
+  known_is size ws old new u s e r =
+      let p = known.prepared in
+      let w : ws ≡ state_words p known.prelude ++ b.rest = same_some (e ∙ words_there) in
+      let back : sizes_in ws ≡ sizes_of p = ap sizes_in w ∙ sizes_back p known.prelude b.rest in
+      let sizes : sizes_of old ≡ sizes_of p = sym r.sizes ∙ back in
+      let prepared : new ≡ p = r.prepared ∙ (ap (λ n. prepared_in n ws) sizes ∙ (ap (prepared_in (sizes_of p)) w
+      ∙ prepared_back p known.prelude b.rest b.numbered b.of_font.ends b.of_font.carried)) in
+      let usage : u ≡ known.prelude = r.usage_is ∙ (ap usage_in w ∙ usage_back p known.prelude b.rest) in
+      same_known (record { face = face; ppem = size; prepared = new; prelude = u }) known (sym ef) (s ∙ sym ep) prepared usage
+
+-- a block that is taken is one of this size, and of a font with this checksum
+if_some : (x : Bool) (a ws : List ℕ) → Some ws ≡ (if x then Some a else None) → x ≡ true
+if_some true a ws e = refl
+if_some false a ws e = cc
+
+right_one : (a b : Bool) → (a && b) ≡ true → b ≡ true
+right_one true b e = e
+right_one false b e = cc
+
+second_two : (a b c d e : Bool) → (a && b && c && d && e) ≡ true → (b ≡ true) × (c ≡ true)
+second_two true true true d e h = (refl, refl)
+second_two true true false d e h = cc
+second_two true false c d e h = cc
+second_two false b c d e h = cc
+
+pub own_origin : (face : Face) (ppem : ℕ) (block ws : List ℕ) (known : Known) → Some ws ≡ after_origin face ppem block
+    → IsBlockOf known block → (known.ppem ≡ ppem) × (checksum_of known.face ≡ checksum_of face)
+unfolding after_origin
+own_origin face ppem block ws known e b =
+    let all = right_one (nat_le 5 (length block)) (has_origin face ppem block) (if_some _ (drop 5 block) ws e) in
+    let p : block ≡ origin_words known.face known.ppem ++ (state_words known.prepared known.prelude ++ b.rest) =
+    b.block_is ∙ append_assoc (origin_words known.face known.ppem) (state_words known.prepared known.prelude) b.rest in
+    let told : has_origin face ppem (origin_words known.face known.ppem ++ (state_words known.prepared known.prelude ++ b.rest)) ≡
+    true =
+    subst (λ w. has_origin face ppem w ≡ true) p all in
+    let two = second_two (block_form == block_form) (known.ppem == ppem) (checksum_of known.face == checksum_of face)
+    (length (table_or_empty known.face (codes "fpgm")) == length (table_or_empty face (codes "fpgm")))
+    (length (table_or_empty known.face (codes "prep")) == length (table_or_empty face (codes "prep"))) told in
+    (eqb-true known.ppem ppem two.0, eqb-true (checksum_of known.face) (checksum_of face) two.1)
+
+-- ---- tables of a font's sizes
+
+unfoldable sizes_with : ℕ → ℕ → ℕ → ℕ → ℕ → Sizes
+sizes_with s c t f o = record { storage = s; cvt = c; twilight = t; functions = f; opcodes = o }
+
+same_numbers : (s s' c c' t t' f f' o o' : ℕ) → s ≡ s' → c ≡ c' → t ≡ t' → f ≡ f' → o ≡ o'
+    → sizes_with s c t f o ≡ sizes_with s' c' t' f' o'
+same_numbers s s' c c' t t' f f' o o' p q r u v = cc
+
+pub same_sizes : (m n : Sizes) → m.storage ≡ n.storage → m.cvt ≡ n.cvt → m.twilight ≡ n.twilight → m.functions ≡ n.functions
+    → m.opcodes ≡ n.opcodes → m ≡ n
+unfolding sizes_with
+same_sizes m n p q r u v = same_numbers m.storage n.storage m.cvt n.cvt m.twilight n.twilight m.functions n.functions m.opcodes
+    n.opcodes p q r u v
+
+pub first_sizes : (face : Face) (ppem : ℕ) (p : Prepared) (s : State) → s ≡ first_state face (scale_of face ppem) → Fits p s
+    → sizes_of p ≡ font_sizes face ppem
+first_sizes face ppem p s e f = same_sizes (sizes_of p) (font_sizes face ppem)
+    (sym f.storage ∙ (ap (λ t. length t.store.storage) e ∙ length-replicate _ _))
+    (sym f.cvt ∙ ap (λ t. length t.store.cvt) e)
+    (sym f.twilight.points ∙ (ap (λ t. length t.zones.twilight.points) e ∙ length-replicate _ _))
+    (sym f.functions ∙ (ap (λ t. length t.definitions.functions) e ∙ length-replicate _ _))
+    (sym f.opcodes ∙ ap (λ t. length t.definitions.opcodes) e)
+
+-- ---- the words of each list, cut one after the other
+
+pub parts_are : (n : Sizes) (ws a ra b rb c rc d rd e : List ℕ) → a ≡ take n.storage (drop 18 ws)
+    → ra ≡ drop n.storage (drop 18 ws)
+    → b ≡ take n.cvt ra → rb ≡ drop n.cvt ra → c ≡ take (5 * n.twilight) rb → rc ≡ drop (5 * n.twilight) rb
+    → d ≡ take n.functions rc → rd ≡ drop n.functions rc → e ≡ take n.opcodes rd → AreParts n ws a b c d e
+parts_are n ws a ra b rb c rc d rd e f h i k l o p r s = record {
+  storage_is = f;
+  cvt_is = i ∙ ap (take n.cvt) h;
+  twilight_is = l ∙ ap (take (5 * n.twilight)) (k ∙ ap (drop n.cvt) h);
+  functions_is = p ∙ ap (take n.functions) (o ∙ ap (drop (5 * n.twilight)) (k ∙ ap (drop n.cvt) h));
+  opcodes_is = s ∙ ap (take n.opcodes) (r ∙ ap (drop n.functions) (o ∙ ap (drop (5 * n.twilight)) (k ∙ ap (drop n.cvt) h)));
+}
+
+-- ---- words that are added one after the other
+
+pub all_added : (w x y z u v a b c d e : List ℕ) → x ≡ w ++ a → y ≡ x ++ b → z ≡ y ++ c → u ≡ z ++ d → v ≡ u ++ e
+    → v ≡ w ++ (a ++ (b ++ (c ++ (d ++ e))))
+all_added w x y z u v a b c d e f g h i j = rw (j, i, h, g, f) (simp append_assoc)

@@ -1,0 +1,11 @@
+use Rattle.std.proofs.Common.{ap}
+use Rattle.std.proofs.lemmas.Result.{err_from_is_err_and}
+use Rattle.fx_machine.specs.Prepared.{glyph_end, ran_of}
+use Rattle.fx_machine.proofs.machine.run_from.Goals as goal
+
+pub returns-in_err-steps-clause-value : goal.returns-in_err-steps-clause-value
+unfolding glyph_end
+returns-in_err-steps-clause-value c =
+    let p = err_from_is_err_and c.from_residual.result c.from_residual.ensures.1 in
+    let ran = rw (c.restart.ensures, c.swap.ensures.x_after) at c.in_err-steps.ensures.value in
+    rw (p.1, p.2) (ap ran_of ran)

@@ -1,0 +1,113 @@
+-- What is read from a block of a font's setting is its machine, and with it the setting.
+-- Serves the calls that open a font by a block.
+use Rattle.std.proofs.Common.{◌≡◌, refl, sym, ap, ◌∙◌, ℕ, List, Bool, true, false, Option, Some, None, Result, Ok, Err}
+use Rattle.std.specs.Prelude.{option_map}
+use Rattle.fx_fixed.specs.Chain.{◌>>=◌, map_ok, map_fault}
+use Rattle.fx_sfnt.specs.Collections.{FontFileView}
+use Rattle.fx_sfnt.specs.Tables.{Face}
+use Rattle.fx_machine.specs.declared.halt.MachineFault.{MachineFault}
+use Rattle.fx_machine.specs.Known.{Known, MachineView, machine_of, font_ran, prepared_from}
+use Rattle.fx_machine.specs.Blocks.{IsBlockOf}
+use Rattle.fx_machine.specs.declared.state.State.{State}
+use Rattle.fx_machine.specs.declared.usage.Usage.{Usage}
+use Rattle.fx_raster.specs.declared.rule.Rule.{Rule}
+use Rattle.fx_request.specs.Faults.{of_machine}
+use Rattle.fx_request.specs.declared.request.Mode.{Mode}
+use Rattle.fx_request.specs.declared.refusal.Refusal.{Refusal}
+use Rattle.fx_strike.specs.declared.opened.Opened.{Opened}
+use Rattle.fx_strike.specs.Strike.{Setting, machine_for, setting_with, setting_in, setting_of, opened_at, rule_of}
+use Rattle.fx_strike.specs.Blocks.{IsBlockFor}
+
+-- ---- the machine
+
+same_known : (a b : Known) → ◌≡◌ {A = Result Known MachineFault} (Ok a) (Ok b) → a ≡ b
+same_known a b e = cc
+
+ran_is : (face : Face) (ppem : ℕ) (ran : Result (Usage × State) MachineFault) (known : Known)
+    → (ran >>= λ r. Ok (record { face = face; ppem = ppem; prepared = prepared_from r.1; prelude = r.0 })) ≡ Ok known
+    → (known.face ≡ face) × (known.ppem ≡ ppem)
+ran_is face ppem (Ok r) known e =
+    let same = same_known (record { face = face; ppem = ppem; prepared = prepared_from r.1; prelude = r.0 }) known e in
+    (sym (ap (λ k. k.face) same), sym (ap (λ k. k.ppem) same))
+ran_is face ppem (Err f) known e = cc
+
+-- the machine of a font at a size is of this font and size
+machine_is_of : (face : Face) (ppem : ℕ) (known : Known) → machine_of face ppem ≡ Ok known
+    → (known.face ≡ face) × (known.ppem ≡ ppem)
+unfolding machine_of
+machine_is_of face ppem known e = ran_is face ppem (font_ran face ppem) known e
+
+same_machine : {x y : Option Known} → ◌≡◌ {A = Result (Option Known) Refusal} (Ok x) (Ok y) → x ≡ y
+same_machine e = cc
+
+record IsRun (x : Result Known MachineFault) (machine : Option Known) : Type 0 where
+  known : Known
+  run : x ≡ Ok known
+  machine_is : machine ≡ Some known
+
+run_is : (x : Result Known MachineFault) (machine : Option Known) → map_ok Some (map_fault of_machine x) ≡ Ok machine
+    → IsRun x machine
+run_is (Ok k) machine e = record { known = k; run = refl; machine_is = sym (same_machine e) }
+run_is (Err f) machine e = cc
+
+is_taken : (made : Option MachineView) (known : Known) → option_map (λ m. m.known) made ≡ Some known
+    → option_map (λ m. Some m.known) made ≡ Some (Some known)
+is_taken (Some m) known e = ap (option_map Some) e
+is_taken None known e = cc
+
+-- with hinting on it is the one that is read
+pub on_is : (face : Face) (ppem : ℕ) (hinting : Bool) (block : List ℕ) (machine : Option Known) (made : Option MachineView)
+    → hinting ≡ true → machine_for face ppem hinting ≡ Ok machine → IsBlockFor machine block
+    → ((known : Known) → known.face ≡ face → known.ppem ≡ ppem → IsBlockOf known block
+    → option_map (λ m. m.known) made ≡ Some known)
+    → option_map (λ m. Some m.known) made ≡ Some machine
+unfolding machine_for
+on_is face ppem hinting block machine made h e b t =
+    let r = run_is (machine_of face ppem) machine (rw h at e) in
+    let of = machine_is_of face ppem r.known r.run in
+    let taken = t r.known of.0 of.1 (rw r.machine_is at b) in
+    is_taken made r.known taken ∙ ap Some (sym r.machine_is)
+
+pub on_none : (machine : Option Known) (made : Option MachineView) → made ≡ None
+    → option_map (λ m. Some m.known) made ≡ Some machine → None ≡ Some machine
+on_none machine made n h = rw n at h
+
+pub on_some : (machine : Option Known) (made : Option MachineView) (m : MachineView) → made ≡ Some m
+    → option_map (λ m. Some m.known) made ≡ Some machine → Some (Some m.known) ≡ Some machine
+on_some machine made m s h = rw s at h
+
+-- ---- the setting
+
+same_setting : {x y : Setting} → ◌≡◌ {A = Result Setting Refusal} (Ok x) (Ok y) → x ≡ y
+same_setting e = cc
+
+pub record IsSet (o : Opened) (rule : Rule) (x : Result (Option Known) Refusal) (s : Setting) : Type 0 where
+  pub machine : x ≡ Ok s.machine
+  pub setting : setting_with o rule s.machine ≡ s
+
+parts : (o : Opened) (rule : Rule) (x : Result (Option Known) Refusal) (s : Setting)
+    → (x >>= λ m. Ok (setting_with o rule m)) ≡ Ok s
+    → IsSet o rule x s
+parts o rule (Ok m) s e =
+    let k : setting_with o rule m ≡ s = same_setting e in
+    let j : m ≡ s.machine = ap (λ t. t.machine) k in
+    record { machine = ap Ok j; setting = ap (setting_with o rule) (sym j) ∙ k }
+parts o rule (Err d) s e = cc
+
+pub setting_parts : (file : FontFileView) (ppem : ℕ) (mode : Mode) (o : Opened) (s : Setting) → Ok o ≡ opened_at file ppem
+    → setting_of file ppem mode ≡ Ok s → IsSet o (rule_of mode.dropout) (machine_for o.font o.ppem mode.hinting) s
+unfolding setting_of setting_in
+setting_parts file ppem mode o s h e =
+    parts o (rule_of mode.dropout) (machine_for o.font o.ppem mode.hinting) s (rw (sym h) at e)
+
+pub set_as : (o : Opened) (dropout : Bool) (rule : Rule) (hinter : Option Known) (s : Setting) → rule ≡ rule_of dropout
+    → hinter ≡ s.machine → setting_with o (rule_of dropout) s.machine ≡ s → setting_with o rule hinter ≡ s
+set_as o dropout rule hinter s r h e = rw (r, h) e
+
+-- ---- what was made
+
+pub not_none : (made : Option (Option Known)) (m : Option Known) → made ≡ None → made ≡ Some m → ⊥
+not_none made m n s = let e : None ≡ Some m = sym n ∙ s in cc
+
+pub same_hinter : (made : Option (Option Known)) (m h : Option Known) → made ≡ Some h → made ≡ Some m → h ≡ m
+same_hinter made m h i j = let e : Some h ≡ Some m = sym i ∙ j in cc

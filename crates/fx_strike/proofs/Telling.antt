@@ -1,0 +1,243 @@
+-- What is told of the refused characters of a strike.
+-- Serves `see`, `survey_codes`, `write_strike` and `make_inner`.
+use Rattle.std.proofs.Common.{◌≡◌, refl, sym, ap, ◌∙◌, subst, arith, ℕ, ◌+◌, ◌<◌, ◌≤◌, Bool, true, false, not, List, [], ◌∷◌, ◌++◌, length}
+use Rattle.std.proofs.Common.{take, drop, get_or, cond, Result, Ok, Err}
+use Rattle.std.specs.Prelude.{filter, IsErrAnd}
+use Rattle.std.specs.List.{flat_map}
+use Rattle.std.proofs.Math.Seq.{take-append_seam, take-length}
+use Rattle.std.proofs.lemmas.List.{take_more, take_all, take-append-drop, append-nil}
+use Rattle.std.proofs.lemmas.List.Elements.{filter-append}
+use Rattle.std.proofs.lemmas.Grind.{flat_map-append}
+use Rattle.fx_fixed.specs.Chain.{map_chain}
+use Rattle.fx_request.specs.declared.notice.Notice.{Notice}
+use Rattle.fx_request.specs.declared.refusal.Refusal.{Refusal}
+use Rattle.fx_request.specs.declared.refusal.Refusal.TheVariants.{Halted, WriteFailed, ReadFailed, BadHex, InputTooLarge, OutOfMemory}
+use Rattle.fx_request.specs.declared.request.OnRefused.{OnRefused}
+use Rattle.fx_request.specs.declared.request.OnRefused.TheVariants.{Stop, LeaveOut, Unhinted}
+use Rattle.fx_request.specs.Characters.{rising}
+use Rattle.fx_request.specs.Notices.{AreTold, HearsAll, Told}
+use Rattle.fx_strike.specs.Faults.{Fails}
+use Rattle.fx_strike.specs.Headline.{notices_of}
+use Rattle.fx_strike.specs.Title.{Title}
+use Rattle.fx_strike.specs.Strike.{Sketch, Setting, Plan, Fate, notices_in, fate_by, glyph_fate_of, fate_of, fates_of, is_missing}
+use Rattle.fx_strike.specs.Strike.{glyph_sketch_of, machineless, plan_from, plan_with}
+use Rattle.fx_strike.specs.inner.Surveying.{notices_by, notices_about}
+use Rattle.fx_cmap.specs.Lookup.{glyph_for}
+use Rattle.fx_strike.proofs.OnePart.{chain_parts}
+use Rattle.fx_strike.proofs.Seeing.{missing_is, not_zero, same_fate}
+
+-- ---- listeners
+
+-- it hears more
+pub hears_more : {L : Type 0} (Hears : L → Notice → L → Type 0) (ns : List Notice) (was now next : L) (ms : List Notice)
+    → HearsAll Hears was ns now → HearsAll Hears now ms next → HearsAll Hears was (ns ++ ms) next
+hears_more {L} Hears [] was now next ms h g =
+    let P : L → Type 0 = λ x. HearsAll Hears x ms next in subst P h g
+hears_more Hears (n ∷ ns) was now next ms h g = (h.0, h.1, hears_more Hears ns h.0 now next ms h.2 g)
+
+-- ---- characters
+
+-- a refusal of the strike tells nothing, whatever its other characters
+silent : (code : ℕ) (second first : Result Sketch Refusal) → notices_by (fate_by Stop code second first) ≡ []
+silent code second (Ok s) = refl
+silent code second (Err cause) = refl
+
+never : (refused : OnRefused) (code : ℕ) (second first : Result Sketch Refusal) (cause : Refusal) → (refused ≡ Stop → ⊥)
+    → fate_by refused code second first ≡ Err cause → ⊥
+never Stop code second first cause s h = s refl
+never refused code second (Ok sketch) cause s h = absurd (cc)
+never LeaveOut code second (Err d) cause s h = absurd (cc)
+never Unhinted code second (Err (Halted halt)) cause s h = absurd (cc)
+never Unhinted code second (Err d) cause s h = absurd (cc)
+
+never_of : (setting : Setting) (refused : OnRefused) (code : ℕ) (cause : Refusal) → (refused ≡ Stop → ⊥)
+    → fate_of setting refused code ≡ Err cause → ⊥
+unfolding glyph_fate_of
+never_of setting refused code cause s h =
+    never refused code (glyph_sketch_of (machineless setting) code (glyph_for setting.map code))
+    (glyph_sketch_of setting code (glyph_for setting.map code)) cause s h
+
+silent_of : (setting : Setting) (code : ℕ) → notices_by (fate_of setting Stop code) ≡ []
+unfolding glyph_fate_of
+silent_of setting code =
+    silent code (glyph_sketch_of (machineless setting) code (glyph_for setting.map code))
+    (glyph_sketch_of setting code (glyph_for setting.map code))
+
+-- a chain whose steps are never refused is not
+one_refused : {A B : Type 0} (f : A → Result B Refusal) → ((x : A) (d : Refusal) → f x ≡ Err d → ⊥) → (x : A) (xs : List A)
+    (d : Refusal) → ((c : Refusal) → map_chain f xs ≡ Err c → ⊥) → map_chain f (x ∷ xs) ≡ Err d → ⊥
+one_refused {A} {B} f n x xs d rest h = by_first (f x) refl
+  where
+    by_rest : (y : B) (r : Result (List B) Refusal) → f x ≡ Ok y → map_chain f xs ≡ r → ⊥
+    by_rest y (Ok ys) e g =
+        let k : map_chain f (x ∷ xs) ≡ Ok (y ∷ ys) = rw (e, g) refl in let m : Ok (y ∷ ys) ≡ Err d = sym k ∙ h in absurd (cc)
+    by_rest y (Err c) e g = rest c g
+
+    by_first : (r : Result B Refusal) → f x ≡ r → ⊥
+    by_first (Ok y) e = by_rest y (map_chain f xs) e refl
+    by_first (Err c) e = n x c e
+
+never_refused : {A B : Type 0} (f : A → Result B Refusal) → ((x : A) (d : Refusal) → f x ≡ Err d → ⊥) → (xs : List A) (d : Refusal)
+    → map_chain f xs ≡ Err d → ⊥
+never_refused f n [] d h = absurd (cc)
+never_refused f n (x ∷ xs) d h = one_refused f n x xs d (λ c g. never_refused f n xs c g) h
+
+none_told : (setting : Setting) (codes : List ℕ) → flat_map (λ c. notices_by (fate_of setting Stop c)) codes ≡ []
+none_told setting [] = refl
+none_told setting (c ∷ cs) = rw (silent_of setting c) (none_told setting cs)
+
+-- if the strike is refused there is nothing to tell
+pub quiet : (setting : Setting) (refused : OnRefused) (codes others : List ℕ) (d : Refusal) → fates_of setting refused codes ≡ Err d
+    → notices_about setting refused others ≡ []
+quiet setting Stop codes others d h = none_told setting (filter (λ c. not (is_missing setting c)) others)
+quiet setting LeaveOut codes others d h =
+    absurd (never_refused (fate_of setting LeaveOut) (λ x e. never_of setting LeaveOut x e (λ k. absurd (cc (k)))) _ d h)
+quiet setting Unhinted codes others d h =
+    absurd (never_refused (fate_of setting Unhinted) (λ x e. never_of setting Unhinted x e (λ k. absurd (cc (k)))) _ d h)
+
+-- ---- the strike
+
+notices_chain : (f : ℕ → Result Fate Refusal) (codes : List ℕ) (fates : List Fate) → map_chain f codes ≡ Ok fates
+    → flat_map notices_in fates ≡ flat_map (λ c. notices_by (f c)) codes
+notices_chain f [] fates h = let none : fates ≡ [] = cc in rw none refl
+notices_chain f (c ∷ cs) fates h =
+    let p = chain_parts f c cs fates h in
+    rw (p.4, p.2) (ap (λ (ns : List Notice). notices_in p.0 ++ ns) (notices_chain f cs p.1 p.3))
+
+-- the notices of a strike are those about its code points
+pub notices_are : (setting : Setting) (title : Title) (chars : List ℕ) (refused : OnRefused)
+    → notices_of (plan_with setting title chars refused) ≡ notices_about setting refused (rising chars)
+unfolding plan_with
+notices_are setting title chars refused = by_fates (fates_of setting refused (rising chars)) refl
+  where
+    by_fates : (r : Result (List Fate) Refusal) → fates_of setting refused (rising chars) ≡ r
+        → notices_of (plan_with setting title chars refused) ≡ notices_about setting refused (rising chars)
+    by_fates (Ok fates) h = rw h (notices_chain (fate_of setting refused) _ fates h)
+    by_fates (Err d) h = rw h (sym (quiet setting refused (rising chars) (rising chars) d h))
+
+-- ---- a part of the code points
+
+notices_append : (setting : Setting) (refused : OnRefused) (xs ys : List ℕ)
+    → notices_about setting refused (xs ++ ys) ≡ notices_about setting refused xs ++ notices_about setting refused ys
+notices_append setting refused xs ys =
+    ap (flat_map (λ c. notices_by (fate_of setting refused c))) (filter-append (λ c. not (is_missing setting c)) xs ys)
+    ∙ flat_map-append (λ c. notices_by (fate_of setting refused c)) (filter (λ c. not (is_missing setting c)) xs)
+    (filter (λ c. not (is_missing setting c)) ys)
+
+-- what was told before a refusal
+pub told_until : (Y : Type 0) (setting : Setting) (refused : OnRefused) (codes : List ℕ) (i : ℕ) (d : Refusal)
+    → Fails d (fates_of setting refused codes)
+    → AreTold {Y = Y} (notices_about setting refused codes) (notices_about setting refused (take i codes)) (Err d)
+told_until Y setting refused codes i OutOfMemory f =
+    let all : notices_about setting refused codes
+    ≡ notices_about setting refused (take i codes) ++ notices_about setting refused (drop i codes) =
+    ap (notices_about setting refused) (sym (take-append-drop i codes))
+    ∙ notices_append setting refused (take i codes) (drop i codes)
+    in (
+      length (notices_about setting refused (take i codes)),
+      sym (ap (take (length (notices_about setting refused (take i codes)))) all ∙ take-append_seam _ _),
+    )
+told_until Y setting refused codes i (WriteFailed n) f = absurd f
+told_until Y setting refused codes i ReadFailed f = absurd f
+told_until Y setting refused codes i BadHex f = absurd f
+told_until Y setting refused codes i InputTooLarge f = absurd f
+told_until Y setting refused codes i d f =
+    quiet setting refused codes (take i codes) d f ∙ sym (quiet setting refused codes codes d f)
+
+-- one code point more, that the font has or lacks
+pub told_more : (setting : Setting) (refused : OnRefused) (codes : List ℕ) (i : ℕ) → i < length codes
+    → is_missing setting (get_or codes i 0) ≡ false
+    → notices_about setting refused (take (i + 1) codes)
+    ≡ notices_about setting refused (take i codes) ++ notices_by (fate_of setting refused (get_or codes i 0))
+told_more setting refused codes i l m =
+    ap (notices_about setting refused) (take_more codes i 0 l)
+    ∙ notices_append setting refused (take i codes) (get_or codes i 0 ∷ [])
+    ∙ ap (λ (ns : List Notice). notices_about setting refused (take i codes) ++ ns) (one (is_missing setting (get_or codes i 0)) m)
+  where
+    f : ℕ → List Notice
+    f c = notices_by (fate_of setting refused c)
+
+    one : (b : Bool) → b ≡ false → flat_map f (cond (not b) (get_or codes i 0 ∷ []) []) ≡ f (get_or codes i 0)
+    one true h = absurd (cc)
+    one false h = append-nil (f (get_or codes i 0))
+
+-- ---- a call
+
+-- nothing was told before a refusal
+pub untold : {L Y : Type 0} {Hears : L → Notice → L → Type 0} {was now : L} (strike : Result Plan Refusal) (d : Refusal) → now ≡ was
+    → Fails d strike → Told {L = L} {Y = Y} Hears was now (notices_of strike) (Err d)
+untold {L} {Y} strike d e f = record { told = []; heard = e; are = by_cause d f }
+  where
+    by_cause : (d : Refusal) → Fails d strike → AreTold {Y = Y} (notices_of strike) [] (Err d)
+    by_cause OutOfMemory f = (0, refl)
+    by_cause (WriteFailed n) f = absurd f
+    by_cause ReadFailed f = absurd f
+    by_cause BadHex f = absurd f
+    by_cause InputTooLarge f = absurd f
+    by_cause d f = let none : notices_of strike ≡ [] = rw f refl in sym none
+
+-- nothing was told before memory ran out
+pub told_none : {L Y : Type 0} {Hears : L → Notice → L → Type 0} {was : L} {all : List Notice} (r : Result Y Refusal)
+    → IsErrAnd r (λ e. e ≡ OutOfMemory) → Told Hears was was all r
+told_none (Ok y) h = absurd h
+told_none {L} {Y} {Hears} {was} {all} (Err e) h =
+    let P : Refusal → Type 0 = λ d. Told {Y = Y} Hears was was all (Err d) in
+    subst P (sym h) (record { told = []; heard = refl; are = (0, refl) })
+
+-- the same of another value, or another's refusal
+pub told_on : {L X Y : Type 0} {Hears : L → Notice → L → Type 0} {was now : L} {all : List Notice} {d : Refusal}
+    → Told {Y = X} Hears was now all (Err d) → Told {Y = Y} Hears was now all (Err d)
+told_on {L} {X} {Y} {Hears} {was} {now} {all} {d} t = record { told = t.told; heard = t.heard; are = by_cause d t.are }
+  where
+    by_cause : (d : Refusal) → AreTold {Y = X} all t.told (Err d) → AreTold {Y = Y} all t.told (Err d)
+    by_cause OutOfMemory h = h
+    by_cause d h = h
+
+-- all was told, whatever comes after
+pub told_all : {L X Y : Type 0} {Hears : L → Notice → L → Type 0} {was now : L} {all : List Notice} {x : X} (r : Result Y Refusal)
+    → Told Hears was now all (Ok x) → Told Hears was now all r
+told_all {L} {X} {Y} {Hears} {was} {now} {all} {x} r t = record { told = t.told; heard = t.heard; are = by_result r }
+  where
+    by_result : (r : Result Y Refusal) → AreTold all t.told r
+    by_result (Ok y) = t.are
+    by_result (Err OutOfMemory) = (
+      length all,
+      t.are ∙ sym (take-length all),
+    )
+    by_result (Err d) = t.are
+
+-- ---- the first pass
+
+-- the code points so far, and nothing of the one that was refused
+pub told_so_far : {L Y : Type 0} {Hears : L → Notice → L → Type 0} {was now next : L} (setting : Setting) (refused : OnRefused)
+    (codes : List ℕ) (i : ℕ) (d : Refusal) → HearsAll Hears was (notices_about setting refused (take i codes)) now → next ≡ now
+    → Fails d (fates_of setting refused codes) → Told {L = L} {Y = Y} Hears was next (notices_about setting refused codes) (Err d)
+told_so_far {L} {Y} {Hears} {was} setting refused codes i d h e f =
+    let P : L → Type 0 = λ x. HearsAll Hears was (notices_about setting refused (take i codes)) x in
+    record {
+      told = notices_about setting refused (take i codes);
+      heard = subst P (sym e) h;
+      are = told_until Y setting refused codes i d f;
+    }
+
+-- one code point more
+pub heard_at : {L : Type 0} (Hears : L → Notice → L → Type 0) (was now next : L) (setting : Setting) (refused : OnRefused)
+    (codes : List ℕ) (i glyph : ℕ) → i < length codes → glyph ≡ glyph_for setting.map (get_or codes i 0) → (glyph ≡ 0 → ⊥)
+    → HearsAll Hears was (notices_about setting refused (take i codes)) now
+    → HearsAll Hears now (notices_by (glyph_fate_of setting refused (get_or codes i 0) glyph)) next
+    → HearsAll Hears was (notices_about setting refused (take (i + 1) codes)) next
+heard_at {L} Hears was now next setting refused codes i glyph l e m h g =
+    let P : List Notice → Type 0 = λ ns. HearsAll Hears was ns next in
+    let Q : Result Fate Refusal → Type 0 = λ r. HearsAll Hears now (notices_by r) next in
+    subst P
+    (sym (told_more setting refused codes i l (missing_is setting (get_or codes i 0) glyph e false (not_zero glyph m))))
+    (hears_more Hears _ was now next _ h (subst Q (same_fate setting refused (get_or codes i 0) glyph e) g))
+
+-- of the strike
+pub told_strike : {L Y : Type 0} {Hears : L → Notice → L → Type 0} {was now : L} (setting : Setting) (title : Title)
+    (chars : List ℕ) (refused : OnRefused) {codes : List ℕ} {r : Result Y Refusal} → codes ≡ rising chars
+    → Told Hears was now (notices_about setting refused codes) r
+    → Told Hears was now (notices_of (plan_with setting title chars refused)) r
+told_strike {L} {Y} {Hears} {was} {now} setting title chars refused {codes} {r} c t =
+    let P : List Notice → Type 0 = λ ns. Told Hears was now ns r in
+    subst P (sym (notices_are setting title chars refused ∙ ap (notices_about setting refused) (sym c))) t

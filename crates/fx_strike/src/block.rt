@@ -1,0 +1,122 @@
+//! Blocks: a font that was opened at a size, as words, so that no program runs when it is opened again.
+ghost use Rattle.std.specs.Prelude.{◌≡◌, Option, Ok, Some, IfOk, IfErr, IfSome, IsErrOf, is_some};
+ghost use Rattle.fx_machine.specs.Known.{Known};
+ghost use Rattle.fx_request.specs.Faults.{of_machine};
+ghost use Rattle.fx_strike.specs.Faults.{Fails};
+ghost use Rattle.fx_strike.specs.Blocks.{IsBlockFor, IsBlockIn, has_block};
+ghost use Rattle.fx_strike.specs.Strike.{Setting, machine_for, setting_in, setting_of, opened_at};
+ghost use Rattle.fx_strike.specs.Headline.{Late};
+
+use crate::hinter::{FontHinter, keeping};
+use crate::open::open_at;
+use crate::opened::Opened;
+use crate::striker::{Striker, rule_of};
+use crate::tools::Tools;
+use fx_machine::Machine;
+use fx_raster::{Rows, Scan, Scratch};
+use fx_request::{Mode, Refusal};
+use fx_sfnt::FontFile;
+use std::alloc::{AllocError, Global};
+
+/// The hinter of an opened font, read from a block; no program runs. None if hinting is on and the words are not a block of this
+/// font and size.
+#[tactic(auto, unfolding(crate::specs::Strike::machine_for))]
+fn hinter_in<'a>(
+    alloc: Global,
+    opened: &Opened<'a>,
+    hinting: bool,
+    block: &[u32],
+) -> Result<Option<FontHinter<'a>>, AllocError>
+    ensures { IfOk result (λ made. (machine : Option Known) → machine_for opened.now.font opened.now.ppem hinting ≡ Ok machine
+        → IsBlockFor machine block.now → made ≡ Some machine) }
+{
+    if !hinting {
+        return Ok(Some(FontHinter::none(alloc)));
+    }
+    let Some(machine) = Machine::of_block(alloc, opened.font.shared(), opened.ppem, block)? else {
+        return Ok(None);
+    };
+    let machine = keeping(alloc, machine)?;
+    Ok(Some(FontHinter {
+        machine: Some(machine),
+        scratch: Scratch::new(alloc),
+    }))
+}
+
+/// `Striker::of_block`.
+fn of_block_inner<'a>(
+    alloc: Global,
+    font: &FontFile<'a>,
+    ppem: u16,
+    mode: Mode,
+    block: &[u32],
+) -> Result<Option<Striker<'a, Rows>>, Refusal>
+    ensures setting { IfOk result (λ made. (s : Setting) → setting_of font.now ppem mode ≡ Ok s → IsBlockIn s block.now
+        → made ≡ Some s) }
+    ensures cause { IfErr result (λ refusal. Fails refusal (opened_at font.now ppem)) }
+    ensures late { IsErrOf result Refusal.OutOfMemory → Late (opened_at font.now ppem) }
+{
+    let opened = open_at(font, ppem)?;
+    let Some(hinter) = hinter_in(alloc, &opened, mode.hinting, block)? else {
+        return Ok(None);
+    };
+    let tools = Tools {
+        alloc,
+        scan: &Rows,
+        opened,
+        rule: rule_of(mode.dropout),
+    };
+    Ok(Some(Striker { tools, hinter }))
+}
+
+impl<'a> FontHinter<'a> {
+    /// The block of what its machine knows; no words with hinting off.
+    fn block(&self, alloc: Global) -> Result<Option<Vec<u32>>, AllocError>
+        ensures block { IfOk result (λ made. IfSome made (λ words. IsBlockFor self.now words.items)) }
+        ensures there { IfOk result (λ made. is_some made ≡ has_block self.now) }
+    {
+        match &self.machine {
+            Some(machine) => machine.machine().block(alloc),
+            None => Ok(Some(Vec::new(alloc))),
+        }
+    }
+}
+
+impl<'a> Striker<'a, Rows> {
+    /// Opens a font at a size as `open` does, but with hinting on a block takes the place of the font's programs: none runs.
+    ///
+    /// None if hinting is on and the words are not a block of this font and size, as far as words can tell
+    /// (`fx_machine::Machine::of_block`). A block that `block` returned for this font, size and mode is always taken.
+    ///
+    /// The first cause is returned, in this order: the size; the font's tables, its character map. `OutOfMemory` may be returned
+    /// after these.
+    pub fn of_block(
+        alloc: Global,
+        font: &FontFile<'a>,
+        ppem: u16,
+        mode: Mode,
+        block: &[u32],
+    ) -> Result<Option<Striker<'a, Rows>>, Refusal>
+        // With a block of the font's setting the striker is in that setting.
+        ensures setting { IfOk result (λ made. (s : Setting) → setting_of font.now ppem mode ≡ Ok s → IsBlockIn s block.now
+            → made ≡ Some s) }
+        // The first cause was named, or memory ran out.
+        ensures cause { IfErr result (λ refusal. Fails refusal (opened_at font.now ppem)) }
+        // The size is valid, and the font and its character map opened.
+        ensures late { IsErrOf result Refusal.OutOfMemory → Late (opened_at font.now ppem) }
+    {
+        of_block_inner(alloc, font, ppem, mode, block)
+    }
+}
+
+impl<'a, S: Scan> Striker<'a, S> {
+    /// The block of its font and size, from which `of_block` opens it again; no words with hinting off.
+    ///
+    /// None if there is no such block (`fx_machine::Machine::block`): the font would have 1 GiB.
+    pub fn block(&self) -> Result<Option<Vec<u32>>, AllocError>
+        ensures block { IfOk result (λ made. IfSome made (λ words. IsBlockIn self.now words.items)) }
+        ensures there { IfOk result (λ made. is_some made ≡ has_block self.now.machine) }
+    {
+        self.hinter.block(self.tools.alloc)
+    }
+}

@@ -1,0 +1,17 @@
+-- One glyph, in memory.
+use Rattle.std.specs.Prelude.{◌≡◌, ℕ, Bool, List, Option, Some, None, Result}
+use Rattle.fx_bdf.specs.Glyphs as bits
+use Rattle.fx_request.specs.declared.refusal.Refusal.{Refusal}
+use Rattle.fx_strike.specs.Strike.{Sketch}
+use Rattle.fx_strike.specs.Headline.{IsOneOf}
+use Rattle.mkstrike_c.specs.declared.glyph.GlyphInfo.{GlyphInfo}
+use Rattle.mkstrike_c.specs.Shown.{HasPixels, info_of}
+
+-- a glyph that is due was found
+abbrev pub FindsById : Result (Option Sketch) Refusal → Option bits.Glyph → Type 0
+FindsById due found = (glyph : bits.Glyph) × (found ≡ Some glyph) × IsOneOf due (Some glyph)
+
+-- the numbers and the pixels of a glyph were told; of none nothing was
+abbrev pub IsPut : Bool → Option bits.Glyph → List ℕ → List ℕ → GlyphInfo → GlyphInfo → ℕ → Type 0
+IsPut packed (Some g) old new old_info info result = (result ≡ 0) × (info ≡ info_of packed g) × HasPixels packed g old new
+IsPut packed None old new old_info info result = (result ≡ 1) × (new ≡ old) × (info ≡ old_info)

@@ -1,0 +1,417 @@
+/* Calls the C library with fonts that libFuzzer makes, and stops at the first thing that is wrong. An input is a font and 24 bytes after it
+ * that say what is asked. Each buffer, and each piece of memory that the library asks for, begins or ends at a page that can't be touched;
+ * fonts can't be written to. On each input:
+ *
+ *   - what a strike, its cut text and its numbers are agrees from call to call, and with what is told of the font;
+ *   - each entry of many characters is what a call for it alone gives; boxes are tight, the bits that fill up a row are 0; by the number of
+ *     its glyph a character gives the same;
+ *   - what a refused call must leave is as it was, and nothing is written beside a buffer;
+ *   - one request for memory, another one each time, is refused: the answer is 90, or the same;
+ *   - all memory is given back.
+ *
+ * tools/fuzz_c builds and runs it. The archive has no marks of coverage, so statuses, tables, opcodes and counts are the features. */
+#define _GNU_SOURCE
+#include "mkstrike.h"
+#include <stdio.h>
+#include <stdlib.h>
+#include <string.h>
+#include <sys/mman.h>
+
+enum { PAGE = 4096, ASKED = 24, MOST = 14, FILL = 0xA5 };
+
+__attribute__((section("__libfuzzer_extra_counters"))) static uint8_t counters[1 << 14];
+
+static void feature(uint32_t it) {
+    uint8_t *counter = counters + ((it * 2654435761u) >> 18);
+    if (*counter < 255) ++*counter;
+}
+
+static void look(int is_right, const char *what) {
+    if (is_right) return;
+    fprintf(stderr, "fuzz_c: %s\n", what);
+    abort();
+}
+
+static uint32_t state;
+
+static uint32_t draw(uint32_t below) {
+    state ^= state << 13;
+    state ^= state >> 17;
+    state ^= state << 5;
+    return below ? state % below : 0;
+}
+
+/* ---- blocks between pages that can't be touched */
+
+struct block {
+    uint8_t *map, *at;
+    size_t pages, len;
+};
+
+static uint8_t *kept[16][32];
+static int kept_count[16];
+
+/* A block of so many bytes, filled with FILL; it begins at its first page, or ends at the end of its last as far as alignment allows. */
+static struct block block_of(size_t len, size_t align, int at_front) {
+    struct block b;
+    size_t body;
+    b.pages = (len + PAGE - 1) / PAGE + (len == 0);
+    b.len = len;
+    body = b.pages * PAGE;
+    if (b.pages < 16 && kept_count[b.pages] > 0) {
+        b.map = kept[b.pages][--kept_count[b.pages]];
+    } else {
+        b.map = (uint8_t *)mmap(NULL, body + 2 * PAGE, PROT_NONE, MAP_PRIVATE | MAP_ANONYMOUS | MAP_NORESERVE, -1, 0);
+        look(b.map != MAP_FAILED, "no memory for a block");
+        mprotect(b.map + PAGE, body, PROT_READ | PROT_WRITE);
+    }
+    memset(b.map + PAGE, FILL, body);
+    b.at = b.map + PAGE;
+    if (!at_front) b.at += (body - len) & ~(align - 1);
+    return b;
+}
+
+static int is_filled(const uint8_t *from, size_t len) {
+    size_t i;
+    for (i = 0; i < len; i++)
+        if (from[i] != FILL) return 0;
+    return 1;
+}
+
+/* Gives a block back, once nothing beside it was written. */
+static void free_block(struct block *b) {
+    uint8_t *body = b->map + PAGE;
+    size_t before = (size_t)(b->at - body);
+    look(is_filled(body, before) && is_filled(b->at + b->len, b->pages * PAGE - before - b->len), "a byte beside a buffer was changed");
+    if (b->pages < 16 && kept_count[b->pages] < 32) kept[b->pages][kept_count[b->pages]++] = b->map;
+    else munmap(b->map, (b->pages + 2) * PAGE);
+}
+
+/* ---- the memory of the library */
+
+struct given {
+    size_t ok;
+    void *at;
+};
+
+static struct block live[4096];
+static int live_count, at_front;
+static long requests, refused_at;
+static char nothing[16];
+
+struct given rattle_alloc(size_t size, size_t align) {
+    struct given it = {0, nothing};
+    look(align <= 16 && (align & (align - 1)) == 0 && size < (size_t)1 << 32, "an odd request for memory");
+    if (++requests == refused_at) return it;
+    look(live_count < 4096, "thousands of pieces of memory");
+    live[live_count] = block_of(size, 16, at_front);
+    it.ok = 1;
+    it.at = live[live_count++].at;
+    return it;
+}
+
+static int find(const void *at) {
+    int i = live_count - 1;
+    while (i >= 0 && live[i].at != at) i--;
+    look(i >= 0, "memory given back that was not given");
+    return i;
+}
+
+void rattle_dealloc(void *at) {
+    int i = find(at);
+    free_block(live + i);
+    live[i] = live[--live_count];
+}
+
+struct given rattle_realloc(void *at, size_t used, size_t size, size_t align) {
+    size_t len = live[find(at)].len;
+    struct given it = rattle_alloc(size, align);
+    look(used <= len, "more bytes to keep than were given");
+    if (it.ok) {
+        memcpy(it.at, at, used < size ? used : size);
+        rattle_dealloc(at);
+    }
+    return it;
+}
+
+/* ---- what is asked */
+
+struct asked {
+    const uint8_t *font;
+    size_t font_len;
+    uint32_t face, mode, packed;
+    uint16_t ppem;
+    const uint32_t *chars;
+    uint32_t chars_len;
+};
+
+static struct mkstrike_refused why;
+
+/* Before a call: nothing was told yet, and request `refused` is refused. */
+static void begin(long refused) {
+    memset(&why, FILL, sizeof why);
+    requests = 0;
+    refused_at = refused;
+}
+
+/* After it: it gave all back; refused it told its number, else nothing. */
+static uint32_t ended(uint32_t status, int is_told) {
+    look(live_count == 0, "memory was kept");
+    refused_at = 0;
+    if (is_told) look(why.number == status, "two numbers of a refusal");
+    else look(is_filled((const uint8_t *)&why, sizeof why), "a call that was done told a refusal");
+    feature(status * 977 + why.table * 31 + why.opcode * 17 + why.glyph * 13);
+    return status;
+}
+
+static uint32_t make(const struct asked *a, struct block *out, struct mkstrike_told *told, long refused) {
+    uint32_t status;
+    begin(refused);
+    status = mkstrike_make(a->font, a->font_len, a->face, a->ppem, a->mode, a->chars, a->chars_len, "n", 1, out->at, out->len, told, &why);
+    return ended(status, status != 0);
+}
+
+static uint32_t glyph(const struct asked *a, uint32_t code, struct block *pixels, struct mkstrike_glyph_info *info, long refused) {
+    uint32_t status;
+    begin(refused);
+    status = mkstrike_glyph(a->font, a->font_len, a->face, a->ppem, a->mode | a->packed, code, pixels->at, pixels->len, info, &why);
+    return ended(status, status > 1);
+}
+
+static uint32_t glyphs(const struct asked *a, struct block *entries, struct block *pixels, struct mkstrike_drawn *drawn, long refused) {
+    uint32_t status;
+    begin(refused);
+    status = mkstrike_glyphs(a->font, a->font_len, a->face, a->ppem, a->mode | a->packed, a->chars, a->chars_len,
+        (struct mkstrike_placed *)(void *)entries->at, entries->len / sizeof(struct mkstrike_placed), pixels->at, pixels->len, drawn, &why);
+    return ended(status, status != 0 || drawn->refused != 0);
+}
+
+/* ---- strikes */
+
+/* The text in a buffer of this length is the beginning of the whole text. */
+static void cut_text(const struct asked *a, const struct block *whole, size_t len, const struct mkstrike_told *due) {
+    struct block out = block_of(len, 1, (int)draw(2));
+    struct mkstrike_told told;
+    look(make(a, &out, &told, 0) == 0 && memcmp(&told, due, sizeof told) == 0, "another strike in another buffer");
+    look(memcmp(out.at, whole->at, len < whole->len ? len : whole->len) == 0, "another text in another buffer");
+    if (len > whole->len) look(is_filled(out.at + whole->len, len - whole->len), "a byte after the text was changed");
+    free_block(&out);
+}
+
+static void strike(const struct asked *a, const struct mkstrike_font_info *info, uint32_t font_status) {
+    struct block none = block_of(0, 1, at_front), whole;
+    struct mkstrike_told told, again;
+    uint32_t status, second;
+    long count;
+    memset(&told, FILL, sizeof told);
+    status = make(a, &none, &told, 0);
+    count = requests;
+    if (status != 0) look(is_filled((uint8_t *)&told, sizeof told), "a refusal changed what is told");
+    again = told;
+    if (status == 0) {
+        char heights[64];
+        look(font_status == 0, "a strike of a font that is refused");
+        whole = block_of(told.bytes, 1, (int)draw(2));
+        look(make(a, &whole, &again, 0) == 0 && memcmp(&told, &again, sizeof told) == 0, "another strike the second time");
+        sprintf(heights, "\nFONT_ASCENT %d\nFONT_DESCENT %d\n", (int)info->ascent, (int)info->descent);
+        look(memmem(whole.at, whole.len, heights, strlen(heights)) != NULL, "other heights in a strike");
+        look(memcmp(whole.at + whole.len - 8, "ENDFONT\n", 8) == 0, "a strike without an end");
+        cut_text(a, &whole, draw((uint32_t)told.bytes), &told);
+        if (draw(3) == 0) cut_text(a, &whole, told.bytes + 1 + draw(99), &told);
+        feature(0x10000 + (uint32_t)__builtin_clzll(told.steps + 1) * 64 + (uint32_t)__builtin_clzll(told.bytes));
+        free_block(&whole);
+    }
+    if (count > 0) {
+        second = make(a, &none, &again, 1 + (long)draw((uint32_t)count));
+        look(second == MKSTRIKE_OUT_OF_MEMORY || second == status, "another answer to refused memory");
+        look(memcmp(&told, &again, sizeof told) == 0, "refused memory changed what is told");
+    }
+    free_block(&none);
+}
+
+/* ---- glyphs */
+
+static int bit(const struct asked *a, const struct mkstrike_glyph_info *g, const uint8_t *pixels, uint32_t row, uint32_t column) {
+    const uint8_t *at = pixels + (size_t)row * g->stride;
+    return a->packed ? at[column / 8] >> (7 - column % 8) & 1 : at[column] == 255;
+}
+
+/* A glyph's box is tight, and its bytes have no other values than they may. */
+static void look_at_box(const struct asked *a, const struct mkstrike_glyph_info *g, const uint8_t *pixels) {
+    int top = 0, bottom = 0, left = 0, right = 0;
+    uint32_t i;
+    look((g->width == 0) == (g->height == 0), "a box of one side");
+    look(g->stride == (a->packed ? (g->width + 7) / 8 : g->width), "another stride");
+    if (g->height == 0) return;
+    for (i = 0; i < g->width; i++) top |= bit(a, g, pixels, 0, i), bottom |= bit(a, g, pixels, g->height - 1, i);
+    for (i = 0; i < g->height; i++) left |= bit(a, g, pixels, i, 0), right |= bit(a, g, pixels, i, g->width - 1);
+    look(top && bottom && left && right, "a box that is not tight");
+    for (i = 0; a->packed && g->width % 8 != 0 && i < g->height; i++)
+        look((pixels[(size_t)(i + 1) * g->stride - 1] & (0xFF >> g->width % 8)) == 0, "bits beyond a row");
+    for (i = 0; !a->packed && i < g->stride * g->height; i++) look(pixels[i] == 0 || pixels[i] == 255, "a byte that is no pixel");
+}
+
+/* A call for the character alone gives what the entry says, also by its glyph's number and when memory is refused. */
+static void alone(const struct asked *a, uint32_t code, const struct mkstrike_placed *entry, const uint8_t *pixels) {
+    struct mkstrike_glyph_info g;
+    size_t size = (size_t)entry->glyph.stride * entry->glyph.height, room = size - (size > 0 && draw(4) == 0);
+    struct block out = block_of(room, 1, (int)draw(2));
+    uint16_t id = 0;
+    long count;
+    memset(&g, FILL, sizeof g);
+    look(glyph(a, code, &out, &g, 0) == entry->status, "another status alone");
+    count = requests;
+    if (entry->status == 0) {
+        look(memcmp(&g, &entry->glyph, sizeof g) == 0, "other numbers alone");
+        if (room == size) look(memcmp(out.at, pixels, size) == 0, "other pixels alone");
+        begin(0);
+        look(mkstrike_glyph_ids(a->font, a->font_len, a->face, &code, 1, &id, 1, NULL) == 0 && id != 0, "no glyph of a character");
+        look(mkstrike_glyph_by_id(a->font, a->font_len, a->face, a->ppem, a->mode | a->packed, id, out.at, room, &g, &why) == 0, "none by id");
+        look(memcmp(&g, &entry->glyph, sizeof g) == 0 && (room < size || memcmp(out.at, pixels, size) == 0), "another glyph by id");
+    } else {
+        look(is_filled((uint8_t *)&g, sizeof g) && is_filled(out.at, room), "a buffer changed, and no glyph");
+    }
+    if (count > 0) {
+        uint32_t status = glyph(a, code, &out, &g, 1 + (long)draw((uint32_t)count));
+        look(status == MKSTRIKE_OUT_OF_MEMORY || status == entry->status, "another answer to refused memory");
+    }
+    free_block(&out);
+}
+
+/* The entries of many characters, one after the other. */
+static void each(const struct asked *a, const struct mkstrike_placed *entries, const uint8_t *pixels, const struct mkstrike_drawn *drawn) {
+    static const struct mkstrike_glyph_info no_info;
+    uint32_t i, counts[3] = {0, 0, 0};
+    size_t at = 0;
+    for (i = 0; i < a->chars_len; i++) {
+        const struct mkstrike_glyph_info *g = &entries[i].glyph;
+        look(entries[i].offset == at, "pixels at another offset");
+        at += (size_t)g->stride * g->height;
+        counts[entries[i].status < 2 ? entries[i].status : 2]++;
+        if (entries[i].status != 0) look(memcmp(g, &no_info, sizeof no_info) == 0, "numbers of no glyph");
+        else look_at_box(a, g, pixels + entries[i].offset);
+        if (draw(3) == 0) alone(a, a->chars[i], entries + i, pixels + entries[i].offset);
+    }
+    look(at == drawn->bytes && counts[0] == drawn->glyphs && counts[1] == drawn->missing && counts[2] == drawn->refused, "other counts");
+}
+
+static void many(const struct asked *a) {
+    struct block none = block_of(0, 8, at_front), entries, pixels;
+    struct mkstrike_drawn drawn, again;
+    struct mkstrike_refused first;
+    uint32_t status, second;
+    long count;
+    memset(&drawn, 0, sizeof drawn);
+    status = glyphs(a, &none, &none, &drawn, 0);
+    count = requests;
+    first = why;
+    if (status == 0) {
+        uint32_t few = draw(a->chars_len + 1);
+        entries = block_of(a->chars_len * sizeof(struct mkstrike_placed), 8, (int)draw(2));
+        pixels = block_of(drawn.bytes, 1, (int)draw(2));
+        look(glyphs(a, &entries, &pixels, &again, 0) == 0 && again.bytes == drawn.bytes && again.refused == drawn.refused, "others");
+        look(memcmp(&first, &why, sizeof why) == 0, "another first refusal");
+        if (drawn.refused != 0)
+            look(why.index < a->chars_len && why.code == a->chars[why.index] &&
+                     ((struct mkstrike_placed *)(void *)entries.at)[why.index].status == why.number,
+                "the first refusal of another character");
+        each(a, (const struct mkstrike_placed *)(const void *)entries.at, pixels.at, &drawn);
+        if (few < a->chars_len) {
+            struct block cut = block_of(few * sizeof(struct mkstrike_placed), 8, 0), cut_pixels = block_of(draw((uint32_t)drawn.bytes + 1), 1, 0);
+            look(glyphs(a, &cut, &cut_pixels, &again, 0) == 0 && again.bytes == drawn.bytes, "others in small buffers");
+            look(memcmp(cut_pixels.at, pixels.at, cut_pixels.len) == 0, "other pixels in a small buffer");
+            free_block(&cut);
+            free_block(&cut_pixels);
+        }
+        free_block(&entries);
+        free_block(&pixels);
+    }
+    if (count > 0) {
+        memset(&again, 0, sizeof again);
+        second = glyphs(a, &none, &none, &again, 1 + (long)draw((uint32_t)count));
+        look(second == MKSTRIKE_OUT_OF_MEMORY || second == status, "another answer to refused memory");
+    }
+    free_block(&none);
+}
+
+/* ---- an input */
+
+int LLVMFuzzerTestOneInput(const uint8_t *input, size_t len);
+
+int LLVMFuzzerTestOneInput(const uint8_t *input, size_t len) {
+    static const uint16_t sizes[] = {16, 16, 16, 9, 12, 24, 33, 1, 0, 1024, 1025, 65535, 64, 8, 100, 7};
+    static const uint32_t odd[] = {0x20, 0x41, 0x67, 0xE9, 0x25, 0x1EB4, 0x42, 0x21, 0xFFFFFFFF, 0x110000, 0x10FFFF, 0xFFFF};
+    const uint8_t *said = input + len - ASKED;
+    struct mkstrike_font_info info;
+    struct block font, chars;
+    struct asked a;
+    uint32_t i, status;
+    if (len < ASKED) return 0;
+    memcpy(&state, said, 4);
+    state |= 1;
+    at_front = said[6] & 1;
+    a.ppem = said[4] & 1 ? sizes[said[4] >> 1 & 15] : (uint16_t)(1 + said[4] % 40);
+    a.mode = said[5] & 3;
+    if (said[5] > 252) a.mode |= UINT32_C(4) << draw(28);
+    a.packed = said[6] & 2 ? MKSTRIKE_PACKED : 0;
+    a.face = said[22] % 8 == 0 ? said[22] / 8 : 0;
+    a.chars_len = said[7] % MOST;
+    chars = block_of(a.chars_len * sizeof(uint32_t), 4, said[6] & 4);
+    for (i = 0; i < a.chars_len; i++)
+        ((uint32_t *)(void *)chars.at)[i] = said[8 + i] < 12 ? odd[said[8 + i]] : said[8 + i] < 128 ? said[8 + i] : odd[said[8 + i] % 8];
+    a.chars = (const uint32_t *)(const void *)chars.at;
+    font = block_of(len - ASKED, 1, said[6] & 8);
+    memcpy(font.at, input, font.len);
+    mprotect(font.map + PAGE, font.pages * PAGE, PROT_READ);
+    a.font = font.at;
+    a.font_len = font.len;
+    begin(0);
+    status = mkstrike_font(a.font, a.font_len, a.face, a.ppem, &info, &why);
+    status = ended(status, status != 0);
+    look(requests == 0, "a font's heights take memory");
+    strike(&a, &info, status);
+    many(&a);
+    free_block(&chars);
+    munmap(font.map, (font.pages + 2) * PAGE);
+    return 0;
+}
+
+/* ---- how inputs are changed: mostly within a table */
+
+size_t LLVMFuzzerMutate(uint8_t *data, size_t len, size_t most);
+size_t LLVMFuzzerCustomMutator(uint8_t *data, size_t len, size_t most, unsigned seed);
+
+static uint32_t number(const uint8_t *at) { return (uint32_t)at[0] << 24 | (uint32_t)at[1] << 16 | (uint32_t)at[2] << 8 | at[3]; }
+
+static void change_in_table(uint8_t *font, size_t len) {
+    static const uint8_t values[] = {0, 0xFF, 0x7F, 0x80, 1, 2, 0x40, 0xFE};
+    size_t at = 12 + 16 * (size_t)draw(font[5] < 1 || font[5] > 40 ? 1 : font[5]), start, room;
+    if (at + 16 > len) return;
+    start = number(font + at + 8);
+    room = number(font + at + 12);
+    if (start >= len || room == 0) start = 0, room = len;
+    if (room > len - start) room = len - start;
+    start += draw((uint32_t)room);
+    switch (draw(4)) {
+    case 0: font[start] = values[draw(8)]; break;
+    case 1: font[start] ^= (uint8_t)(1 << draw(8)); break;
+    case 2: font[start] = (uint8_t)draw(256); break;
+    default: font[start] = (uint8_t)(font[start] + draw(7) - 3);
+    }
+}
+
+size_t LLVMFuzzerCustomMutator(uint8_t *data, size_t len, size_t most, unsigned seed) {
+    uint32_t before = state, i, how;
+    state = seed | 1;
+    how = draw(10);
+    if (len < ASKED + 40 || how < 3) {
+        len = LLVMFuzzerMutate(data, len, most);
+    } else if (how < 4) {
+        LLVMFuzzerMutate(data + len - ASKED, ASKED, ASKED);
+    } else {
+        for (i = 0; i <= draw(4); i++) change_in_table(data, len - ASKED);
+        for (i = 0; i < 4; i++) data[len - ASKED + i] = (uint8_t)draw(256);
+    }
+    state = before;
+    return len;
+}
