@@ -112,6 +112,35 @@ class Browser:
             raise Failed("%s: %s" % (address, told["errorText"]))
         self.until("document.readyState === 'complete'", "loading %s" % address)
 
+    def save_in(self, folder):
+        """From now on the browser keeps each download in this folder, under a name of its own, and tells how far it is."""
+        self.call("Browser.setDownloadBehavior", behavior="allowAndName", downloadPath=folder, eventsEnabled=True)
+
+    def downloads(self):
+        """What the browser has told of downloads since they were forgotten, in order."""
+        return [it["params"] for it in self.events if it["method"].startswith("Browser.download")]
+
+    def forget_downloads(self):
+        self.events = [it for it in self.events if not it["method"].startswith("Browser.download")]
+
+    def downloaded(self, folder, seconds=20):
+        """Waits for the download that was begun since; returns its name and bytes, or None if it did not come to a good end."""
+        end = time.monotonic() + seconds
+        while time.monotonic() < end:
+            told = self.downloads()
+            ends = [it["state"] for it in told if it.get("state") in ("completed", "canceled")]
+            if ends:
+                begun, path = told[0], os.path.join(folder, told[0]["guid"])
+                if ends[0] == "canceled":
+                    return None
+                with open(path, "rb") as file:
+                    data = file.read()
+                os.remove(path)
+                return begun["suggestedFilename"], data
+            self.evaluate("0")  # takes in what the browser tells
+            time.sleep(0.005)
+        return None
+
     def picture(self, path, whole=False):
         """Writes a picture of the window, or of the whole page."""
         data = self.call("Page.captureScreenshot", format="png", captureBeyondViewport=whole)["data"]
