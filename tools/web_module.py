@@ -20,7 +20,6 @@ TARGET = ["--target=wasm64-unknown-unknown", "-mcpu=lime1", "-mllvm", "-expand-d
 LINK = ["-flavor", "wasm", "-mwasm64", "--no-entry", "--stack-first", "-z", "stack-size=1048576", "--gc-sections", "--fatal-warnings",
         "--strip-debug"]
 # Of x86-64, in the attributes of functions: what a function does to grow the stack, and the processor.
-CALL = re.compile(r"^define [^@\n]*@(mkstrike_\w+)\(", re.M)
 FOREIGN = re.compile(r'"(?:probe-stack|stack-probe-size|target-cpu|target-features)"="[^"]*"')
 # What web/module.c has for the bitcode.
 BESIDE = ("rattle_alloc", "rattle_realloc", "rattle_dealloc", "memset", "memcpy", "memmove", "memcmp", "__multi3", "__ashlti3", "__lshrti3", "__ashrti3")
@@ -129,6 +128,11 @@ def beside_alone():
         return linked(room, ["beside.o"], BESIDE)
 
 
+def calls_of_page():
+    """The calls of the library that web/mkstrike.js makes: the module exports these, and has no others."""
+    return sorted(set(re.findall(r"\.calls\.(mkstrike_\w+)", prebuilt.read(os.path.join(WEB, "mkstrike.js")).decode())))
+
+
 def module_of(code):
     """The WebAssembly module of the bitcode of mkstrike_c."""
     clang = os.path.join(kit_folder(), "toolchain/bin/clang")
@@ -142,7 +146,7 @@ def module_of(code):
         compile_beside(room)
         for level in LEVELS:
             run([clang, *TARGET, level, "-x", "ir", "module.ll", "-c", "-o", "module.o"], room)
-            module = linked(room, ["module.o", "beside.o"], sorted(CALL.findall(text)))
+            module = linked(room, ["module.o", "beside.o"], calls_of_page())
             packed = len(zlib.compress(module, 9))
             if len(module) <= MOST and packed <= MOST_PACKED:
                 return module
@@ -150,6 +154,6 @@ def module_of(code):
 
 
 def hash_of_sources():
-    """The hash of what the module is made of: the sources of mkstrike_c and below, web/module.c, and this file."""
+    """The hash of what the module is made of: the sources of mkstrike_c and below, web/module.c, this file, and the calls that it exports."""
     own = [prebuilt.read(os.path.join(WEB, "module.c")), prebuilt.read(os.path.realpath(__file__))]
-    return prebuilt.sha256("\n".join([prebuilt.hash_of_sources("mkstrike_c"), *map(prebuilt.sha256, own)]).encode())
+    return prebuilt.sha256("\n".join([prebuilt.hash_of_sources("mkstrike_c"), *map(prebuilt.sha256, own), *calls_of_page()]).encode())

@@ -96,6 +96,23 @@ export function eachPixel(glyph, pixels, set) {
   }
 }
 
+// The contours of an outline as curves: where each starts, and of each piece its end and, if it is an arc, its control point. Between two
+// points off the curve is one on it, halfway (OpenType, glyf). `ends` has the last point of each contour.
+export function curvesOf({ points, ends }) {
+  const middle = (one, other) => ({ x: (one.x + other.x) / 2, y: (one.y + other.y) / 2 });
+  return ends.map((end, k) => {
+    const contour = points.slice(k ? ends[k - 1] + 1 : 0, end + 1), first = contour.findIndex((it) => it.on);
+    // the start comes last; the point after the last is the first
+    const turned = [...contour.slice(first + 1), ...contour.slice(0, first + 1)];
+    const pieces = turned.flatMap((it, at) => {
+      const next = turned[(at + 1) % turned.length];
+      if (it.on) return turned.at(at - 1).on ? [{ end: it }] : [];
+      return [{ control: it, end: next.on ? next : middle(it, next) }];
+    });
+    return { start: first < 0 ? middle(contour.at(-1), contour[0]) : contour[first], pieces };
+  });
+}
+
 // ---- PNG
 
 const CRCS = Uint32Array.from({ length: 256 }, (_, byte) => {

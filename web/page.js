@@ -1,6 +1,6 @@
 // The page: reads the controls, hands jobs to the worker, and draws what comes back.
 import { facesOf, hasMemory64, isOfAll, lineOf, HINTED, DROPOUT, MISSING, DONE, NONE, MOST_PPEM, MOST_BYTES } from './mkstrike.js';
-import { SETS, boxOf, charsOf, charsOfText, eachPixel, identifierOf, listOf, nameOf } from './outputs.js';
+import { SETS, boxOf, charsOf, charsOfText, curvesOf, eachPixel, identifierOf, listOf, nameOf } from './outputs.js';
 import { REFUSALS } from './refusals.js';
 
 const $ = (id) => document.getElementById(id);
@@ -16,6 +16,7 @@ const state = {
   hasWorked: false, // the worker that is there
   text: null, // what the worker made of the text
   sheet: { glyphs: [], refused: new Map(), missing: 0, chosen: -1, box: boxOf([]), columns: 1 },
+  outline: null, // that of the chosen glyph, or of one before
 };
 
 // ---- what the page is made of: in one file all parts are elements of it, else they lie beside it
@@ -185,6 +186,13 @@ const receive = {
     showSheet(state.next, true);
     showRefused(refused);
     document.body.dataset.drawn = id;
+  },
+
+  outline(data) {
+    if (data.id !== state.jobs) return;
+    state.outline = data;
+    drawGlyph();
+    document.body.dataset.outline = `${data.id} ${data.code}`;
   },
 
   progress({ done, total }) {
@@ -467,7 +475,40 @@ function choose(at) {
   drawGlyph();
 }
 
-// Draws the chosen glyph large, with its box, its baseline, its origin and its advance.
+// The outline of the chosen glyph, if the worker has told it; else it is asked.
+function outlineOf({ code }) {
+  const { outline, jobs } = state;
+  if (outline?.id === jobs && outline.code === code) return outline.points ? outline : null;
+  const look = looks();
+  if (look) state.worker.postMessage({ kind: 'outline', id: jobs, main: look.main, code });
+  return null;
+}
+
+// Draws an outline on pixels whose column and row 0 begin at `left` and `top`: its lines and arcs, and its points, filled if on the curve.
+function drawOutline(context, outline, left, top, side) {
+  const place = ({ x, y }) => [(x / 64 - left) * side, (top - y / 64) * side], ratio = devicePixelRatio || 1;
+  context.strokeStyle = context.fillStyle = colour('curve');
+  context.lineWidth = Math.max(1.5, 1.5 * ratio);
+  context.setLineDash([]);
+  for (const { start, pieces } of curvesOf(outline)) {
+    context.beginPath();
+    context.moveTo(...place(start));
+    for (const { control, end } of pieces) {
+      if (control) context.quadraticCurveTo(...place(control), ...place(end));
+      else context.lineTo(...place(end));
+    }
+    context.closePath();
+    context.stroke();
+  }
+  for (const point of outline.points) {
+    context.beginPath();
+    context.arc(...place(point), 3 * ratio, 0, 2 * Math.PI);
+    if (point.on) context.fill();
+    else context.stroke();
+  }
+}
+
+// Draws the chosen glyph large, with its box, its baseline, its origin and its advance, and its outline.
 function drawGlyph() {
   const glyph = state.sheet.glyphs[state.sheet.chosen], numbers = $('glyph-numbers');
   if (!glyph || glyph.refused) {
@@ -500,6 +541,8 @@ function drawGlyph() {
     context.setLineDash([3 * thick, 2 * thick]);
     context.strokeRect(x0 * side, y0 * side, glyph.width * side, glyph.height * side);
   }
+  const outline = outlineOf(glyph);
+  if (outline) drawOutline(context, outline, left, top, side);
   $('glyph-name').textContent = nameOf(glyph.code);
   const facts = { box: `${glyph.width} × ${glyph.height}`, left: glyph.left, bottom: glyph.bottom, advance: `${glyph.dwidth} pixels`, 'scaled advance': `${glyph.swidth} / 1000 em` };
   numbers.replaceChildren(...Object.entries(facts).flatMap(([name, value]) => [

@@ -8,7 +8,7 @@ const CODES = 0x110000, AT_ONCE = 16384; // code points, and how many are looked
 
 let mkstrike = null;
 // The work under way, the most urgent first: each is a generator that yields between two slices.
-const under = { draw: null, save: null, list: null };
+const under = { draw: null, outline: null, save: null, list: null };
 let isRunning = false;
 
 // Lets messages in that came meanwhile.
@@ -20,6 +20,8 @@ const tick = () => new Promise((done) => {
   turn.port2.postMessage(0);
 });
 
+const forget = () => Object.keys(under).forEach((kind) => (under[kind] = null));
+
 async function run() {
   if (isRunning) return;
   isRunning = true;
@@ -29,7 +31,7 @@ async function run() {
       if (done && under[kind] === work) under[kind] = null;
     }
   } catch (fault) {
-    under.draw = under.save = under.list = null;
+    forget();
     postMessage({ kind: 'failed', text: String(fault.message ?? fault) });
   }
   isRunning = false;
@@ -67,6 +69,11 @@ async function* draw({ id, main, other, textChars, chars }) {
     yield;
   }
   told({ kind: 'drawn', refused, took: performance.now() - start });
+}
+
+// The outline that a character's pixels are of.
+async function* outline({ id, main, code }) {
+  postMessage({ kind: 'outline', id, code, ...mkstrike.outline(main.ppem, main.mode, code) });
 }
 
 // The characters that the font has.
@@ -111,11 +118,11 @@ async function take(data) {
   if (data.kind === 'open') {
     mkstrike = await Mkstrike.open(data.module);
   } else if (data.kind === 'font') {
-    under.draw = under.save = under.list = null;
+    forget();
     mkstrike.setFont(data.bytes, data.face);
     under.list = list(data);
   } else {
-    under[data.kind] = { draw, save }[data.kind](data);
+    under[data.kind] = { draw, outline, save }[data.kind](data);
     run();
   }
 }
