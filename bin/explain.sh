@@ -126,8 +126,8 @@ advice_by_faces() {
 advice_by_list() {
     case $command in
         '') echo "$1" ;;
-        show) echo "--char takes one hexadecimal number up to 10FFFF, not '$list'; the letter A is 41" ;;
-        *) echo "$(fault_of_list): $1; the letter A is 41" ;;
+        make) echo "$(fault_of_list): $1; the letter A is 41" ;;
+        *) echo "--char takes one hexadecimal number up to 10FFFF, not '$list'; the letter A is 41" ;;
     esac
 }
 
@@ -198,9 +198,11 @@ meant_in() {
 
 explain_command() {
     case $1 in
-        -*) say "the first word is the command, make, show or dump, not '$1'; 'mkstrike help' shows how it is written" ;;
+        # shellcheck disable=SC2086
+        -*) say "the first word is the command, $(printf '%s, ' $commands)or help, not '$1'; 'mkstrike help' shows how it is written" ;;
         *)
-            meant=$(meant_by "$1" make show dump help)
+            # shellcheck disable=SC2086
+            meant=$(meant_by "$1" $commands help)
             say "unknown command '$1'; ${meant:+did you mean $meant? }'mkstrike help' lists the commands"
             ;;
     esac
