@@ -7,7 +7,10 @@ import subprocess
 import sys
 import tempfile
 
+import c_library
 import compile_lines
+import elf
+import other_machine
 import package_layout
 import packing
 import prebuilt
@@ -186,6 +189,8 @@ def try_debs(count, debs, files, root):
     for deb in debs if shutil.which("dpkg-deb") else ():
         for way in ("--info", "--contents"):
             count.check("dpkg-deb %s reads %s" % (way, os.path.basename(deb)), failure_of(["dpkg-deb", way, deb]))
+    for deb in (it for it in debs if control_field(it, "Architecture") != "amd64"):
+        look_at_other(count, deb, files[0])
     debs = [it for it in debs if control_field(it, "Architecture") == "amd64"]
     names = [control_field(it, "Package") for it in debs]
     dpkg = ["dpkg", "--root=%s" % root.folder, "--log=/dev/null"]
@@ -202,6 +207,17 @@ def try_debs(count, debs, files, root):
         root.look(count, "usr", "unpacked by hand", *files, "lib/x86_64-linux-gnu")
         remove(made, root.folder)
     count.check("after the removal nothing is left", root.is_left())
+
+
+def look_at_other(count, deb, program):
+    """Runs a program with the shared object of a package for another machine, if it has one, against the program's bytes."""
+    with tempfile.TemporaryDirectory() as folder:
+        made = packing.unpack(dict(packing.members_of(prebuilt.read(deb)))["data.tar.gz"], os.path.join(folder, "made"))
+        named, font = os.path.join(folder, "mkstrike"), sample_font.sample()
+        prebuilt.write(named, program, 0o755)
+        for shared in (prebuilt.read(it) for it in made if os.path.basename(it) == c_library.SONAME):
+            due = subprocess.run([named, "make", "--ppem", "16", "--chars", "20-42"], input=font, capture_output=True).stdout
+            other_machine.check(count, control_field(deb, "Package"), elf.machine(shared), shared, font, due)
 
 
 def look_by_lintian(count, debs):
