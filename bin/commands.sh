@@ -5,8 +5,8 @@ commands='make show dump explain'
 
 print_synopses() {
     cat <<'END'
-    mkstrike make --ppem N --chars LIST [--name NAME] [--property KEY=VALUE]... [--x11] [--refused WHAT] [--unhinted] [--dropout]
-                  [--face N] [--hex] [FONT] [-o FILE]
+    mkstrike make --ppem N --chars LIST [--name NAME] [--property KEY=VALUE]... [--x11] [--refused WHAT] [--missing] [--unhinted]
+                  [--dropout] [--face N] [--hex] [FONT] [-o FILE]
     mkstrike show --ppem N --char HEX [--unhinted] [--dropout] [--face N] [--hex] [FONT] [-o FILE]
     mkstrike dump --of WHAT [--face N] [--hex] [FONT] [-o FILE]
     mkstrike explain ARGUMENT...
@@ -26,6 +26,7 @@ mkstrike make writes a strike: the bitmaps of characters at one size.
       --x11                   add the properties that X11 and fontconfig look for
       --refused WHAT          what becomes of a character that is refused: stop (the default, no strike), leave-out, or unhinted
                               (drawn without hinting if its program halts, else left out)
+      --missing               name all missing characters on standard error, not the first alone
       --unhinted              do not run the font's own programs
       --dropout               keep thin strokes whole
       --face N                the font of a collection, counted from 0; without it the first
