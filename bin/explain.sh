@@ -1,12 +1,13 @@
 # The second line on standard error: what to do after a refusal or a wrong command line, and what is missing in a strike. To be sourced by
-# bin/mkstrike, which sets `program`, `status` and `said`, the program's status and line, and `command`, `font`, `list` and `is_hex` from the
-# arguments. It says only what is certain whatever the program read: each fault that it names is there.
+# bin/mkstrike, which sets `program`, `status`, `said` and `notices`, the program's status, last line and all lines, and `command`, `font`,
+# `output`, `list`, `is_all` and `is_hex` from the arguments. It says only what is certain whatever the program read: each fault that it names
+# is there.
 # shellcheck shell=sh disable=SC2154
 
 explain() {
     LC_ALL=C
     case $status:$said in
-        0:*) explain_counts ;;
+        0:*) explain_counts "$@" ;;
         1:'mkstrike: '[1-9][0-9] | 1:'mkstrike: '[1-9][0-9]' '*) explain_refusal ;;
         2:'mkstrike: usage') explain_usage "$@" ;;
     esac
@@ -14,14 +15,56 @@ explain() {
 
 # A strike that is done, but lacks characters.
 explain_counts() {
-    # shellcheck disable=SC2086
-    set -- ${said#mkstrike: }
-    case $2:$4 in
-        0:0) say 'the strike has no glyph: the list of characters is empty' ;;
+    count=${said#* missing } glyphs=${said#* glyphs }
+    count=${count%% *} glyphs=${glyphs%% *}
+    case $glyphs:$count in
+        0:0) say "the strike has no glyph: $([ -n "$list" ] && echo 'the requested characters are refused' || echo 'the list of characters is empty')" ;;
         0:*) say "the strike has no glyph: the font has no requested character; --chars is hexadecimal, and the letter A is 41" ;;
-        *:1) say '1 of the requested characters is missing in the font' ;;
-        *) say "$4 of the requested characters are missing in the font" ;;
+        *:1) say "1 of the requested characters is missing in the font$(names_of_missing "$@")" ;;
+        *) say "$count of the requested characters are missing in the font$(names_of_missing "$@")" ;;
     esac
+}
+
+# Prints which characters are missing, as `: 4e00-4e10,5000`: all, or the first 8 ranges. Prints nothing if the strike can't be read again.
+names_of_missing() {
+    { printf '%s\n' "$notices" && strike_again "$@"; } | awk -v list="$list" -v all="$is_all" -v glyphs="$glyphs" -v count="$count" '
+        function value(hex,    n, k) {
+            for (k = 1; k <= length(hex); k++) n = 16 * n + index("0123456789abcdef", tolower(substr(hex, k, 1))) - 1
+            return n
+        }
+        BEGIN {
+            least = 1114112
+            for (k = split(list, items, ","); k >= 1; k--) {
+                ends = split(items[k], pair, "-")
+                first = value(pair[1]); last = value(pair[ends])
+                for (c = first; c <= last; c++) wanted[c] = 1
+                if (first < least) least = first
+                if (last > most) most = last
+            }
+        }
+        $1 == "mkstrike:" && $2 == "left" { delete wanted[value(substr($4, 3, length($4) - 3))] }
+        $1 == "ENDPROPERTIES" { is_glyph = 1 }
+        is_glyph && $1 == "ENCODING" { delete wanted[$2]; found++ }
+        END {
+            for (c = least; c <= most; c++) {
+                if (!(c in wanted)) continue
+                for (first = c; c + 1 in wanted; c++) total++
+                total++
+                if (ranges++ < 8 || all) text = text "," sprintf(first < c ? "%x-%x" : "%x", first, c)
+            }
+            if (found != glyphs || total != count) exit
+            print ": " substr(text, 2) (ranges > 8 && !all ? ",..; --missing names all" : "")
+        }
+    '
+}
+
+# Prints the strike once more: what was written to the output, or what the font gives again if it is a file.
+strike_again() {
+    if [ -n "$output" ] && [ -f "$output" ]; then
+        cat <"$output"
+    elif [ -f /dev/stdin ]; then
+        "$program" "$@" </dev/stdin 2>&-
+    fi
 }
 
 # ---- refusals
@@ -126,8 +169,8 @@ advice_by_faces() {
 advice_by_list() {
     case $command in
         '') echo "$1" ;;
-        show) echo "--char takes one hexadecimal number up to 10FFFF, not '$list'; the letter A is 41" ;;
-        *) echo "$(fault_of_list): $1; the letter A is 41" ;;
+        make) echo "$(fault_of_list): $1; the letter A is 41" ;;
+        *) echo "--char takes one hexadecimal number up to 10FFFF, not '$list'; the letter A is 41" ;;
     esac
 }
 
@@ -151,12 +194,23 @@ fault_of_item() {
     low=${item%%-*} high=${item#*-}
     for each in "$low" "$high"; do
         case $each in
-            '' | *[!0-9a-fA-F]*) echo "'$item' in the list is no hexadecimal number or range" && return ;;
+            '' | *[!0-9a-fA-F]*) echo "'$item' in the list is no hexadecimal number or range$(without_marks)" && return ;;
             ???????*) echo "'$item' in the list has a number of more than six digits" && return ;;
         esac
         [ $((0x$each)) -le 1114111 ] || { echo "'$item' in the list is above 10FFFF" && return; }
     done
     [ $((0x$low)) -gt $((0x$high)) ] && echo "'$item' in the list ends before it begins"
+}
+
+# Prints the item without 0x and U+, if that makes it right.
+without_marks() {
+    low=${low#0[xX]} high=${high#0[xX]}
+    low=${low#[uU]+} high=${high#[uU]+}
+    case $item in *-*) low=$low-$high ;; esac
+    case $low in
+        '' | "$item" | -* | *- | *[!0-9a-fA-F-]*) ;;
+        *) echo ", but $low is" ;;
+    esac
 }
 
 # ---- a wrong command line
@@ -197,10 +251,11 @@ meant_in() {
 }
 
 explain_command() {
+    # shellcheck disable=SC2086
     case $1 in
-        -*) say "the first word is the command, make, show or dump, not '$1'; 'mkstrike help' shows how it is written" ;;
+        -*) say "the first word is the command, $(printf '%s, ' $commands)or help, not '$1'; 'mkstrike help' shows how it is written" ;;
         *)
-            meant=$(meant_by "$1" make show dump help)
+            meant=$(meant_by "$1" $commands help)
             say "unknown command '$1'; ${meant:+did you mean $meant? }'mkstrike help' lists the commands"
             ;;
     esac

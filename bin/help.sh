@@ -1,26 +1,32 @@
-# What `mkstrike help`, `--help` and `--version` print. To be sourced by bin/mkstrike, which sets `here` and `about`.
+# What `mkstrike help`, `--help` and `--version` print. To be sourced by bin/mkstrike, which sets `here`, `texts` and `about`.
 # shellcheck shell=sh disable=SC2154
+
+# shellcheck source=bin/commands.sh
+. "$texts/commands.sh"
 
 help() {
     case $1:${2-} in
         --version:* | -V:*) print_version ;;
-        *:make | *:show | *:dump) "help_$2" ;;
         *:) print_overview ;;
         *)
-            say "there is no help for '$2'; 'mkstrike help' lists the commands"
-            exit 2
+            is_command "$2" || {
+                say "there is no help for '$2'; 'mkstrike help' lists the commands"
+                exit 2
+            }
+            "help_$2"
             ;;
     esac
 }
 
-print_overview() {
-    cat <<END
-mkstrike makes a bitmap font (BDF 2.1) from a TrueType font.
+is_command() {
+    case " $commands " in *" $1 "*) return 0 ;; esac
+    return 1
+}
 
-    mkstrike make --ppem N --chars LIST [--name NAME] [--property KEY=VALUE]... [--x11] [--refused WHAT] [--unhinted] [--dropout]
-                  [--face N] [--hex] [FONT] [-o FILE]
-    mkstrike show --ppem N --char HEX [--unhinted] [--dropout] [--face N] [--hex] [FONT] [-o FILE]
-    mkstrike dump --of WHAT [--face N] [--hex] [FONT] [-o FILE]
+print_overview() {
+    printf 'mkstrike makes a bitmap font (BDF 2.1) from a TrueType font.\n\n'
+    print_synopses
+    cat <<END
     mkstrike help [COMMAND]
     mkstrike --version
     mkstrike
@@ -31,7 +37,7 @@ Examples:
     mkstrike show --ppem 16 --char 41 font.ttf
 
 Without FONT the font is read from standard input. Without -o the output goes to standard output. Without any argument the first line of
-standard input is the command line. 'mkstrike help make' lists the options of make, and so for show and dump.
+standard input is the command line. 'mkstrike help make' lists the options of make, and so for the other commands.
 
 Documents:
 
@@ -46,78 +52,19 @@ END
 
 print_package_documents() {
     cat <<END
-    man mkstrike             all options
+    man mkstrike             what it does; man mkstrike-make and so on: all options of a command
     $1/share/doc/mkstrike    the cookbook, what each refusal means, what is proved
 END
 }
 
 print_documents() {
     cat <<END
-    $1/docs/mkstrike.1    the man page, with all options (man -l docs/mkstrike.1)
+    $1/docs/mkstrike.1    the man page (man -l docs/mkstrike.1); mkstrike-make.1 and so on beside it: all options of a command
     $1/docs/COOKBOOK.md   recipes for a terminal, X11, a console, a boot screen, a small display
     $1/docs/REFUSALS.md   what each refusal means, and what to do
     $1/README.md          what it is, and what is proved
 
 bin/mkstrike runs the program in dist/. With MKSTRIKE_PROVE=1 in the environment it proves and builds the sources here first, once.
-END
-}
-
-help_make() {
-    cat <<END
-mkstrike make writes a strike: the bitmaps of characters at one size.
-
-    mkstrike make --ppem N --chars LIST [OPTION].. [FONT] [-o FILE]
-
-      --ppem N                the size in pixels per em, 1 to 1024
-      --chars LIST            hexadecimal numbers and ranges, as 20-7e,a0,20ac; the letter A is 41
-      --name NAME             the strike's name; one that begins with a hyphen is given as --name=-misc-..
-      --property KEY=VALUE    add a property; may be given up to 64 times
-      --x11                   add the properties that X11 and fontconfig look for
-      --refused WHAT          what becomes of a character that is refused: stop (the default, no strike), leave-out, or unhinted
-                              (drawn without hinting if its program halts, else left out)
-      --unhinted              do not run the font's own programs
-      --dropout               keep thin strokes whole
-      --face N                the font of a collection, counted from 0; without it the first
-      --hex                   the font is hexadecimal text
-      -o FILE                 write to FILE, which is there only if all was done; else to standard output
-      FONT                    the font's file; else standard input
-
-    mkstrike make --ppem 16 --chars 20-7e font.ttf -o font.bdf
-END
-}
-
-help_show() {
-    cat <<END
-mkstrike show writes the picture of one character.
-
-    mkstrike show --ppem N --char HEX [OPTION].. [FONT] [-o FILE]
-
-      --ppem N      the size in pixels per em, 1 to 1024
-      --char HEX    the character, one hexadecimal number; the letter A is 41
-      --unhinted    do not run the font's own programs
-      --dropout     keep thin strokes whole
-      --face N      the font of a collection, counted from 0; without it the first
-      --hex         the font is hexadecimal text
-      -o FILE       write to FILE, which is there only if all was done; else to standard output
-      FONT          the font's file; else standard input
-
-    mkstrike show --ppem 16 --char 41 font.ttf
-END
-}
-
-help_dump() {
-    cat <<END
-mkstrike dump lists one of the font's own programs.
-
-    mkstrike dump --of WHAT [--face N] [--hex] [FONT] [-o FILE]
-
-      --of WHAT    the program: fpgm, prep, or the number of a glyph
-      --face N     the font of a collection, counted from 0; without it the first
-      --hex        the font is hexadecimal text
-      -o FILE      write to FILE, which is there only if all was done; else to standard output
-      FONT         the font's file; else standard input
-
-    mkstrike dump --of fpgm font.ttf
 END
 }
 

@@ -1,9 +1,10 @@
-"""Reads which libraries a 64-bit ELF program is linked to, and which versions of their symbols it needs."""
+"""Reads of a 64-bit ELF program the machine, the libraries that it is linked to, the versions of their symbols, and what it shows."""
 import re
 import struct
 
-DYNAMIC, NEEDED_VERSIONS, STRINGS = 6, 0x6FFFFFFE, 3  # types of sections
+DYNAMIC, SYMBOLS, NEEDED_VERSIONS, STRINGS = 6, 11, 0x6FFFFFFE, 3  # types of sections
 NEEDED = 1  # the tag of a needed library
+MACHINES = {62: "x86_64", 183: "aarch64"}
 
 
 class NoProgram(Exception):
@@ -21,6 +22,23 @@ def sections_of(data):
         kind, = struct.unpack_from("<I", data, row + 4)
         offset, length, link = struct.unpack_from("<QQI", data, row + 0x18)
         found.append((kind, offset, length, link))
+    return found
+
+
+def machine(data):
+    """What the kernel calls the machine that the program is for, or None if it is another one."""
+    sections_of(data)
+    return MACHINES.get(struct.unpack_from("<H", data, 0x12)[0])
+
+
+def shown(data):
+    """The names that a shared object defines for others."""
+    sections, found = sections_of(data), set()
+    for kind, offset, length, link in sections:
+        for at in range(offset, offset + length, 24) if kind == SYMBOLS else ():
+            name, about, _, section = struct.unpack_from("<IBBH", data, at)
+            if section and about >> 4:
+                found.add(text_at(data, sections[link][1] + name))
     return found
 
 

@@ -19,6 +19,7 @@ COUNTS = r"mkstrike: glyphs \d+ missing \d+ strays \d+ steps \d+"
 USAGE, NONE = "mkstrike: usage", ""
 LIST = "give hexadecimal numbers and ranges joined by commas, as 20-7e,a0"
 NO_GLYPH = "--chars is hexadecimal, and the letter A is 41"
+SEVERAL = "41," + ",".join("4e%02x" % it for it in range(0, 20, 2))
 MANY = ",".join("%x" % it for it in range(0x100, 0x200)) + ",0-ffff"
 
 # After `make --ppem 16 --chars 41`, unless the arguments name a command.
@@ -62,9 +63,9 @@ ROWS = [
     ("a-f (letters meant)", ["make", "--ppem", "16", "--chars", "a-f"], SANS, 0, COUNTS, NO_GLYPH),
     ("show --char g", ["show", "--ppem", "16", "--char", "g"], SANS, 1, "mkstrike: 61 BadChars", "--char takes one hexadecimal number up to 10FFFF, not 'g'"),
     ("show --char A", ["show", "--ppem", "16", "--char", "A"], SANS, 0, "", NONE),
-    ("decimal range 32-126", ["make", "--ppem", "16", "--chars", "32-126"], SANS, 0, COUNTS, "33 of the requested characters are missing"),
-    ("0x20-0x7e", ["make", "--ppem", "16", "--chars", "0x20-0x7e"], SANS, 1, "mkstrike: 61 BadChars", "'0x20-0x7e' in the list"),
-    ("U+20-U+7E", ["make", "--ppem", "16", "--chars", "U+20-U+7E"], SANS, 1, "mkstrike: 61 BadChars", "'U+20-U+7E' in the list"),
+    ("decimal range 32-126", ["make", "--ppem", "16", "--chars", "32-126"], SANS, 0, COUNTS, "33 of the requested characters are missing in the font: 7f-9f"),
+    ("0x20-0x7e", ["make", "--ppem", "16", "--chars", "0x20-0x7e"], SANS, 1, "mkstrike: 61 BadChars", "'0x20-0x7e' in the list is no hexadecimal number or range, but 20-7e is"),
+    ("U+20-U+7E", ["make", "--ppem", "16", "--chars", "U+20-U+7E"], SANS, 1, "mkstrike: 61 BadChars", "'U+20-U+7E' in the list is no hexadecimal number or range, but 20-7E is"),
     ("space in list (quoted)", ["make", "--ppem", "16", "--chars", "20-7e, a0"], SANS, 1, "mkstrike: 61 BadChars", "' a0' in the list"),
     ("space in list (unquoted)", ["make", "--ppem", "16", "--chars", "20-7e,", "a0"], SANS, 1, "mkstrike: can't open the font 'a0': there is no such file", "names the font"),
     ("trailing comma", ["make", "--ppem", "16", "--chars", "41,"], SANS, 1, "mkstrike: 61 BadChars", "the list ends with a comma"),
@@ -78,7 +79,17 @@ ROWS = [
     ("seven digits", ["make", "--ppem", "16", "--chars", "0000041"], SANS, 1, "mkstrike: 61 BadChars", "more than six digits"),
     ("show of several", ["show", "--ppem", "16", "--char", "41,42"], SANS, 1, "mkstrike: 61 BadChars", "--char takes one hexadecimal number"),
     ("make all missing", ["make", "--ppem", "16", "--chars", "4e00-4e10"], SANS, 0, COUNTS, NO_GLYPH),
-    ("one missing", ["make", "--ppem", "16", "--chars", "41,4e00"], SANS, 0, COUNTS, "1 of the requested characters is missing"),
+    ("one missing", ["make", "--ppem", "16", "--chars", "41,4e00"], SANS, 0, COUNTS, "1 of the requested characters is missing in the font: 4e00"),
+    ("some missing, through a pipe", ["make", "--ppem", "16", "--chars", "41,4e00,4e02"], b"SANS", 0, COUNTS, "2 of the requested characters are missing in the font"),
+    ("some missing, with an output", ["make", "--ppem", "16", "--chars", "4e00,41,4e01", "FONT", "-o", "some.bdf"], b"", 0, COUNTS, "are missing in the font: 4e00-4e01"),
+    ("many missing", ["make", "--ppem", "16", "--chars", SEVERAL], SANS, 0, COUNTS, "are missing in the font: 4e00,4e02,4e04,4e06,4e08,4e0a,4e0c,4e0e,..; --missing names all"),
+    ("all that are missing", ["make", "--missing", "--ppem", "16", "--chars", SEVERAL], SANS, 0, COUNTS, "4e0c,4e0e,4e10,4e12"),
+    ("only refused", ["make", "--ppem", "16", "--chars", "19c", "--refused", "unhinted"], SANS, 0, r"mkstrike: unhinted U\+019C: .*", "mkstrike: glyphs 1 missing 0"),
+    ("--missing for show", ["show", "--missing", "--ppem", "16", "--char", "41"], SANS, 2, USAGE, "unknown option '--missing'"),
+    ("no pixel", ["make", "--ppem", "16", "--chars", "20,a0", "FONT", "-o", "blank.bdf"], b"", 0, COUNTS, "no pixel of the strike is set"),
+    ("variable font", ["variable.ttf"], b"", 0, COUNTS, "the font is a variable font, and this is its default instance"),
+    ("show of a variable font", ["show", "--ppem", "16", "--char", "41", "variable.ttf"], b"", 0, "mkstrike: the font is a variable font, and this is its default instance", ""),
+    ("a variable font that is refused", ["make", "--ppem", "0", "--chars", "41", "variable.ttf"], b"", 1, "mkstrike: 60 BadSize", "give a size"),
     ("show of missing", ["show", "--ppem", "16", "--char", "4e00"], SANS, 0, "", NONE),
     # the size
     ("ppem 0", ["make", "--ppem", "0", "--chars", "41"], SANS, 1, "mkstrike: 60 BadSize", "give a size of 1 to 1024"),
@@ -106,7 +117,7 @@ ROWS = [
     ("duplicate --chars", ["--chars", "41"], SANS, 2, USAGE, "--chars is given twice"),
     ("duplicate with =", ["--chars=41"], SANS, 2, USAGE, "'--chars=41' is given twice"),
     ("duplicate flag", ["--hex", "--hex"], SANS, 2, USAGE, "'--hex' is given twice"),
-    ("command missing", ["--ppem", "16", "--chars", "41"], SANS, 2, USAGE, "the first word is the command, make, show or dump, not '--ppem'"),
+    ("command missing", ["--ppem", "16", "--chars", "41"], SANS, 2, USAGE, "the first word is the command, make, show, dump, explain, or help, not '--ppem'"),
     ("command misspelt", ["mkae", "--ppem", "16"], SANS, 2, USAGE, "unknown command 'mkae'; did you mean 'make'?"),
     ("font in place of the command", ["font.ttf"], SANS, 2, USAGE, "unknown command 'font.ttf'; 'mkstrike help' lists the commands"),
     ("options before command", ["--ppem", "16", "make", "--chars", "41"], SANS, 2, USAGE, "the first word is the command"),
@@ -139,15 +150,17 @@ def mistakes(sans):
             words = []
         elif not (words and (words[0] in ALONE or what.startswith(("command", "options before", "--help")))):
             words = ["make", "--ppem", "16", "--chars", "41"] + words
-        needs = given in (SANS, "no cmap.ttf") or "FONT" in words
-        yield Mistake(what, [sans if it == "FONT" else it for it in words], sans if given is SANS else given, status, first, second, needs)
+        needs = given in (SANS, b"SANS", "no cmap.ttf") or "FONT" in words or "variable.ttf" in words
+        given = sans if given is SANS else open(sans, "rb").read() if given == b"SANS" and os.path.exists(sans) else given
+        yield Mistake(what, [sans if it == "FONT" else it for it in words], given, status, first, second, needs)
 
 
 def write_files(folder, sans):
     """Puts the files of the mistakes into a folder."""
     if os.path.exists(sans):
-        with open(sans, "rb") as font, open(os.path.join(folder, "no cmap.ttf"), "wb") as file:
-            file.write(font.read().replace(b"cmap", b"cmaq", 1))
+        for name, table, other in (("no cmap.ttf", b"cmap", b"cmaq"), ("variable.ttf", b"gasp", b"fvar")):
+            with open(sans, "rb") as font, open(os.path.join(folder, name), "wb") as file:
+                file.write(font.read().replace(table, other, 1))
     for name, data in FILES.items():
         with open(os.path.join(folder, name), "wb") as file:
             file.write(data)

@@ -1,9 +1,11 @@
 """Which files the package has of the front of the program: paths below a prefix such as /usr."""
+import glob
 import os
 
+import packing
 import prebuilt
 
-TEXTS = ("help.sh", "explain.sh")
+TEXTS = ("commands.sh", "help.sh", "explain.sh")
 
 
 def about(program, release):
@@ -13,6 +15,17 @@ def about(program, release):
     if manifest.program == prebuilt.sha256(program):
         told += "sources %s\nkit %s\n" % (manifest.sources, manifest.kit)
     return told.encode()
+
+
+def man_pages():
+    """The man pages: of each the name below docs/, and its bytes. `strike` is a command of the package for Python."""
+    paths = glob.glob(os.path.join(glob.escape(prebuilt.TOP), "docs/*.1"))
+    return {os.path.basename(it): prebuilt.read(it) for it in sorted(paths) if os.path.basename(it) != "strike.1"}
+
+
+def installed_pages():
+    """The man pages as they are installed."""
+    return {"share/man/man1/%s.gz" % name: (packing.gzipped(data), False) for name, data in man_pages().items()}
 
 
 def front(program, release):

@@ -7,10 +7,14 @@ import subprocess
 import sys
 import tempfile
 
+import c_library
 import compile_lines
-import fonts
+import elf
+import other_machine
+import package_layout
 import packing
 import prebuilt
+import sample_font
 from prebuilt import TOP
 
 OTHER = {"TZ": "Asia/Kathmandu", "LC_ALL": "C", "LANG": "C", "HOME": "/nonexistent", "PYTHONHASHSEED": "7"}
@@ -126,12 +130,12 @@ class Root:
         at = self.path(prefix, "libexec/mkstrike/mkstrike")
         is_same = os.access(at, os.X_OK) and prebuilt.read(at) == program
         count.check("%s: the program is there, as it was packed" % what, not is_same)
-        for words in (["--version"], ["help", "make"]):
+        for words in (["--version"], ["help"], ["help", "make"]):
             count.check("%s: mkstrike %s" % (what, " ".join(words)), failure_of([self.path(prefix, "bin/mkstrike"), *words]))
-        for name in ("mkstrike", "show-bdf"):
-            page, source = self.path(prefix, "share/man/man1/%s.1.gz" % name), os.path.join(TOP, "docs/%s.1" % name)
-            is_page = os.path.exists(page) and gzip.decompress(prebuilt.read(page)) == prebuilt.read(source)
-            count.check("%s: the man page of %s is there" % (what, name), not is_page)
+        for name, data in package_layout.man_pages().items():
+            page = self.path(prefix, "share/man/man1/%s.gz" % name)
+            is_page = os.path.exists(page) and gzip.decompress(prebuilt.read(page)) == data
+            count.check("%s: the man page %s is there" % (what, name), not is_page)
         count.check("%s: the documents link to nothing that is not there" % what, self.dead_link(prefix))
         count.check("%s: show-bdf is there" % what, not os.access(self.path(prefix, "bin/show-bdf"), os.X_OK))
         how = "as nobody, with the C library and a shell alone" if self.is_jail else "here"
@@ -149,7 +153,7 @@ class Root:
             shutil.copytree(self.path(prefix, where, "examples"), folder, dirs_exist_ok=True)
             font = os.path.join(folder, "font.ttf")
             with open(font, "wb") as file:
-                file.write(fonts.FIXTURE)
+                file.write(sample_font.sample())
             try:
                 printed, absent = compile_lines.tried(folder, font, env, False, lambda it: it.replace("/usr/share", self.path(prefix, "share")))
                 wrong = None if all(printed.values()) else "nothing is printed"
@@ -185,6 +189,8 @@ def try_debs(count, debs, files, root):
     for deb in debs if shutil.which("dpkg-deb") else ():
         for way in ("--info", "--contents"):
             count.check("dpkg-deb %s reads %s" % (way, os.path.basename(deb)), failure_of(["dpkg-deb", way, deb]))
+    for deb in (it for it in debs if control_field(it, "Architecture") != "amd64"):
+        look_at_other(count, deb, files[0])
     debs = [it for it in debs if control_field(it, "Architecture") == "amd64"]
     names = [control_field(it, "Package") for it in debs]
     dpkg = ["dpkg", "--root=%s" % root.folder, "--log=/dev/null"]
@@ -203,13 +209,25 @@ def try_debs(count, debs, files, root):
     count.check("after the removal nothing is left", root.is_left())
 
 
+def look_at_other(count, deb, program):
+    """Runs a program with the shared object of a package for another machine, if it has one, against the program's bytes."""
+    with tempfile.TemporaryDirectory() as folder:
+        made = packing.unpack(dict(packing.members_of(prebuilt.read(deb)))["data.tar.gz"], os.path.join(folder, "made"))
+        named, font = os.path.join(folder, "mkstrike"), sample_font.sample()
+        prebuilt.write(named, program, 0o755)
+        for shared in (prebuilt.read(it) for it in made if os.path.basename(it) == c_library.SONAME):
+            due = subprocess.run([named, "make", "--ppem", "16", "--chars", "20-42"], input=font, capture_output=True).stdout
+            other_machine.check(count, control_field(deb, "Package"), elf.machine(shared), shared, font, due)
+
+
 def look_by_lintian(count, debs):
     """What lintian says of the packages, beside what the owner has to say: there is no licence yet."""
     if not shutil.which("lintian"):
-        return
+        return print("try_packages: left out: lintian, which is not installed")
     for deb in debs:
-        said = run(["lintian", "--allow-root", deb])[1].splitlines()
-        said = [it for it in said if re.match("[EW]: ", it) and "no-copyright-file" not in it]
+        ran = subprocess.run(["lintian", "--allow-root", deb], stdin=subprocess.DEVNULL, capture_output=True, text=True)
+        said = [it for it in ran.stdout.splitlines() if re.match("[EW]: ", it) and "no-copyright-file" not in it]
+        said += [] if ran.returncode in (0, 2) else ["status %d: %s" % (ran.returncode, ran.stderr[-300:])]
         count.check("lintian is content with %s but for the copyright" % os.path.basename(deb), said and "; ".join(said))
 
 

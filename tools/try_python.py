@@ -7,14 +7,19 @@ import sys
 import tempfile
 import zipfile
 
+import c_library
+import elf
 import fonts
+import other_machine
 import packing
 import prebuilt
-from try_packages import Count, Root, failure_of, make_again
+from try_packages import Count, Root, control_field, failure_of, look_by_lintian, make_again
 
 # Prints the strike of the font on standard input.
 STRIKE = "import sys, mkstrike; sys.stdout.buffer.write(mkstrike.Font(sys.stdin.buffer.read()).strike(16, '20-42').text)"
 REQUEST = ["make", "--ppem", "16", "--chars", "20-42"]
+SHARED = "mkstrike/libmkstrike.so"
+PACKAGES = "usr/lib/python3/dist-packages"
 
 
 def strike_of(words, env=None):
@@ -39,22 +44,42 @@ def try_wheel(count, wheel, folder, due):
         names = file.namelist()
         record = file.read(next(it for it in names if it.endswith("RECORD"))).decode().split("\n")
     count.check("the wheel %s: its list has each file" % what, sorted(it.split(",")[0] for it in record if it) != sorted(names))
-    if wheel.endswith(os.uname().machine + ".whl"):
+    shared = prebuilt.read(os.path.join(folder, SHARED))
+    count.check("the wheel %s: the library fits the name" % what, misfit(shared, what))
+    if elf.machine(shared) == os.uname().machine:
         look(count, "wheel", folder, due)
+    else:
+        other_machine.check(count, "wheel", elf.machine(shared), shared, fonts.FIXTURE, due)
+
+
+def misfit(shared, name):
+    """What of a shared object does not fit the wheel's name `manylinux_MAJOR_MINOR_MACHINE.whl`, or the header; or None."""
+    major, minor, machine = re.fullmatch(r"manylinux_(\d+)_(\d+)_(\w+)\.whl", name).groups()
+    if elf.machine(shared) != machine:
+        return "it is for %s" % elf.machine(shared)
+    least = tuple(map(int, (elf.least_c_library(shared) or "0").split(".")))
+    if least > (int(major), int(minor)) or elf.libraries(shared) != ["libc.so.6"]:
+        return "it needs %s, of glibc at least %s" % (" ".join(elf.libraries(shared)), elf.least_c_library(shared))
+    calls = set(re.findall(r"^\w+ (mkstrike_\w+)\(", prebuilt.read(c_library.HEADER).decode(), re.M))
+    return " ".join(sorted(calls ^ elf.shown(shared))) or None
 
 
 def try_deb(count, deb, folder, program, due):
-    """Installs and removes the Debian package, by dpkg if it is there and may, else by hand."""
+    """Installs and removes the Debian package, by dpkg if it is there and may, else by hand; looks at that of another machine."""
+    if control_field(deb, "Architecture") != other_machine.DEBIAN.get(os.uname().machine):
+        packing.unpack(dict(packing.members_of(prebuilt.read(deb)))["data.tar.gz"], folder)
+        shared = prebuilt.read(os.path.join(folder, PACKAGES, SHARED))
+        return other_machine.check(count, "python3-mkstrike", elf.machine(shared), shared, fonts.FIXTURE, due)
     root = Root(folder, program)
     if os.geteuid() != 0 or not shutil.which("dpkg"):
         packing.unpack(dict(packing.members_of(prebuilt.read(deb)))["data.tar.gz"], folder)
-        return look(count, "python3-mkstrike", root.path("usr/lib/python3/dist-packages"), due)
+        return look(count, "python3-mkstrike", root.path(PACKAGES), due)
     dpkg = ["dpkg", "--root=" + folder, "--log=/dev/null", "--force-depends"]
     how = {"env": {**os.environ, "PATH": os.environ["PATH"] + ":/usr/sbin:/sbin"}}
     count.check("dpkg installs python3-mkstrike", failure_of([*dpkg, "--install", deb], how))
-    look(count, "python3-mkstrike", root.path("usr/lib/python3/dist-packages"), due)
+    look(count, "python3-mkstrike", root.path(PACKAGES), due)
     script = subprocess.run([sys.executable, root.path("usr/bin/strike"), "--help"], capture_output=True,
-                            env={"PYTHONPATH": root.path("usr/lib/python3/dist-packages"), "PYTHONDONTWRITEBYTECODE": "1"})
+                            env={"PYTHONPATH": root.path(PACKAGES), "PYTHONDONTWRITEBYTECODE": "1"})
     count.check("python3-mkstrike: strike --help", script.returncode)
     count.check("dpkg removes it", failure_of([*dpkg, "--purge", "python3-mkstrike"], how))
     count.check("after the removal nothing is left", root.is_left())
@@ -66,6 +91,7 @@ def check_all(made, program, again):
     `again` are the words, a Python file first, that make them once more."""
     count = Count()
     make_again(count, made, again)
+    look_by_lintian(count, [it for it in made if it.endswith(".deb")])
     with tempfile.TemporaryDirectory() as folder:
         named = os.path.join(folder, "mkstrike")
         with open(named, "wb") as file:

@@ -1,0 +1,84 @@
+# The commands, and what `mkstrike help` prints of each. Written by tools/make_pages from docs/mkstrike-*.1: change those.
+# shellcheck shell=sh disable=SC2034
+
+commands='make show dump explain'
+
+print_synopses() {
+    cat <<'END'
+    mkstrike make --ppem N --chars LIST [--name NAME] [--property KEY=VALUE]... [--x11] [--refused WHAT] [--missing] [--unhinted]
+                  [--dropout] [--face N] [--hex] [FONT] [-o FILE]
+    mkstrike show --ppem N --char HEX [--unhinted] [--dropout] [--face N] [--hex] [FONT] [-o FILE]
+    mkstrike dump --of WHAT [--face N] [--hex] [FONT] [-o FILE]
+    mkstrike explain ARGUMENT...
+END
+}
+
+help_make() {
+    cat <<'END'
+mkstrike make writes a strike: the bitmaps of characters at one size.
+
+    mkstrike make --ppem N --chars LIST [OPTION].. [FONT] [-o FILE]
+
+      --ppem N                the size in pixels per em, 1 to 1024
+      --chars LIST            hexadecimal numbers and ranges, as 20-7e,a0,20ac; the letter A is 41
+      --name NAME             the strike's name; one that begins with a hyphen is given as --name=-misc-..
+      --property KEY=VALUE    add a property; may be given up to 64 times
+      --x11                   add the properties that X11 and fontconfig look for
+      --refused WHAT          what becomes of a character that is refused: stop (the default, no strike), leave-out, or unhinted
+                              (drawn without hinting if its program halts, else left out)
+      --missing               name all missing characters on standard error, not the first alone
+      --unhinted              do not run the font's own programs
+      --dropout               keep thin strokes whole
+      --face N                the font of a collection, counted from 0; without it the first
+      --hex                   the font is hexadecimal text
+      -o FILE                 write to FILE, which is there only if all was done; else to standard output
+      FONT                    the font's file; else standard input
+
+    mkstrike make --ppem 16 --chars 20-7e font.ttf -o font.bdf
+END
+}
+
+help_show() {
+    cat <<'END'
+mkstrike show writes the picture of one character.
+
+    mkstrike show --ppem N --char HEX [OPTION].. [FONT] [-o FILE]
+
+      --ppem N      the size in pixels per em, 1 to 1024
+      --char HEX    the character, one hexadecimal number; the letter A is 41
+      --unhinted    do not run the font's own programs
+      --dropout     keep thin strokes whole
+      --face N      the font of a collection, counted from 0; without it the first
+      --hex         the font is hexadecimal text
+      -o FILE       write to FILE, which is there only if all was done; else to standard output
+      FONT          the font's file; else standard input
+
+    mkstrike show --ppem 16 --char 41 font.ttf
+END
+}
+
+help_dump() {
+    cat <<'END'
+mkstrike dump lists one of the font's own programs.
+
+    mkstrike dump --of WHAT [--face N] [--hex] [FONT] [-o FILE]
+
+      --of WHAT    the program: fpgm, prep, or the number of a glyph
+      --face N     the font of a collection, counted from 0; without it the first
+      --hex        the font is hexadecimal text
+      -o FILE      write to FILE, which is there only if all was done; else to standard output
+      FONT         the font's file; else standard input
+
+    mkstrike dump --of fpgm font.ttf -o fpgm.txt
+END
+}
+
+help_explain() {
+    cat <<'END'
+mkstrike explain writes what is wrong first with a command line, and nothing if it is right.
+
+    mkstrike explain ARGUMENT...
+
+    mkstrike explain make --ppem 12px --chars 20-7e font.ttf
+END
+}
