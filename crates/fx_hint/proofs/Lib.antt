@@ -4,9 +4,13 @@ pub mod Sound
 mod Totals
 mod Places
 mod Steps
+mod RunSteps
+mod RunLaws
 mod KeptGlyphs
 mod Programs
 mod Machines
 mod Turning
 mod Joined
 mod Multiplying
+pub mod Watching
+mod Forgetting

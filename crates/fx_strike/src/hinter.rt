@@ -66,6 +66,8 @@ impl<'a> Hinter for FontHinter<'a> {
 
     ghost hinting = { hinting_by };
 
+    ghost Leads = { λ _ _ _. Unit {0} };
+
     fn is_on(&self) -> bool {
         match &self.machine {
             Some(machine) => machine.is_on(),
@@ -99,6 +101,10 @@ impl<'a> Hinter for FontHinter<'a> {
             None => NoHinter.law_keeps_shape(),
         }
     }
+
+    ghost leads_same = { λ _. tt };
+
+    ghost leads_then = { λ _ _ _ _ _ _ _. tt };
 }
 
 /// A machine in a box, which keeps components that come again.
