@@ -60,7 +60,7 @@ fn run_program<W: Watching>(
     let _ends = made.zone.ends();
     let phantoms = made.phantoms.in_order();
     made.zone.append(&phantoms, &[])?;
-    let usage = machine.run_glyph_watched(g, Code::new(code), &mut made.zone, watcher)?;
+    let usage = machine.run_glyph(g, Code::new(code), &mut made.zone, watcher)?;
     made.phantoms = phantoms_at(&made.zone, count);
     made.zone.truncate(count);
     Ok(usage)

@@ -8,7 +8,7 @@ ghost use Rattle.fx_strike.specs.Strike.{machine_for, prelude_by};
 
 use crate::opened::Opened;
 use fx_hint::{GlyphInput, HintFault, Hinter, KeepingMachine, Made, NoHinter};
-use fx_machine::{Machine, Usage};
+use fx_machine::{Machine, Unwatched, Usage};
 use fx_raster::Scratch;
 use fx_request::Refusal;
 use std::alloc::{AllocError, Global};
@@ -123,7 +123,7 @@ fn machine_at<'a>(alloc: Global, opened: &Opened<'a>) -> Result<Box<KeepingMachi
     ensures { GivesUnless Fails (λ b. b.value.machine.known) result
         (map_fault of_machine (machine_of opened.now.font opened.now.ppem)) }
 {
-    let machine = Machine::new(alloc, opened.font.shared(), opened.ppem)?;
+    let machine = Machine::new(alloc, opened.font.shared(), opened.ppem, &mut Unwatched)?;
     Ok(keeping(alloc, machine)?)
 }
 
