@@ -1,6 +1,6 @@
 -- The walk that lists the programs is the walk: without its list it gives what the definition of an outline gives.
--- It serves the reader of `runs_of`.
-use Rattle.std.proofs.Common.{◌≡◌, ℕ, zero, suc, List, [], ◌∷◌, refl, ap, ◌∙◌, Result, Ok, Err}
+-- It serves the walk, and the reader of `runs_of`.
+use Rattle.std.proofs.Common.{◌≡◌, ℕ, zero, suc, List, [], ◌∷◌, refl, sym, ap, ◌∙◌, Result, Ok, Err}
 use Rattle.fx_fixed.specs.Chain.{◌>>=◌, map_fault}
 use Rattle.fx_sfnt.specs.declared.records.Metrics.{Metrics}
 use Rattle.fx_sfnt.specs.Tables.{Face}
@@ -12,6 +12,7 @@ use Rattle.fx_glyf.specs.Glyphs.{glyph_of}
 use Rattle.fx_scale.specs.declared.scale.Scale.{Scale}
 use Rattle.fx_hint.specs.declared.count.Count.{Count}
 use Rattle.fx_hint.specs.declared.made.Made.{Made}
+use Rattle.fx_hint.specs.declared.below.OpenComposite.{OpenComposite}
 use Rattle.fx_hint.specs.declared.fault.HintFault.{HintFault}
 use Rattle.fx_hint.specs.declared.fault.HintFault.TheVariants.{Font, Glyph}
 use Rattle.fx_hint.specs.Hinting.{Hinting}
@@ -19,6 +20,8 @@ use Rattle.fx_hint.specs.Parts.{with_part}
 use Rattle.fx_hint.specs.Outlines.{Maker, one_component, simple_made, run_on, with_parts, made_of, assembled, component}
 use Rattle.fx_hint.specs.Runs.{ProgramRun, Logged, LoggedFault, LoggedMaker, after, with_run, plain}
 use Rattle.fx_hint.specs.Runs.{logged_one, logged_simple, logged_run, logged_parts, logged_made_of, logged_assembled, logged_component}
+use Rattle.fx_hint.specs.inner.Steps.{left}
+use Rattle.fx_hint.specs.inner.RunSteps.{logged_left}
 
 -- a check, and then the rest
 checked : {A B : Type 0} (runs : List ProgramRun) (r : Result A HintFault) (f : A → Result (B × Logged) LoggedFault)
@@ -95,3 +98,38 @@ module _ (h : Hinting) (face : Face) (s : Scale) (root : ℕ) where
   plain_root levels g count =
       plain_assembled (logged_component h face s root levels) (component h face s root levels) g count
       (λ k d. plain_component levels k d)
+
+  plain_left : (levels : ℕ) (c : OpenComposite) (count : Logged)
+      → plain (logged_left h face s root levels c count) ≡ left h face s root levels c count.0
+  plain_left levels c count =
+      chained _ _ _ _
+      (plain_parts (logged_component h face s root levels) (component h face s root levels) c.g c.parts c.base count
+      (λ k d. plain_component levels k d)) (λ x. plain_run c.g c.glyph.code x)
+
+  -- in the loop: an open composite fails, or is assembled
+  pub left_fails : (levels : ℕ) (c : OpenComposite) (count : Count) (e : HintFault) (runs : List ProgramRun)
+      → logged_left h face s root levels c (count, []) ≡ Err (e, runs) → left h face s root levels c count ≡ Err e
+  left_fails levels c count e runs i = sym (plain_left levels c (count, [])) ∙ ap plain i
+
+  pub left_gives : (levels : ℕ) (c : OpenComposite) (count : Count) (made : Made) (counted : Logged)
+      → logged_left h face s root levels c (count, []) ≡ Ok (made, counted)
+      → left h face s root levels c count ≡ Ok (made, counted.0)
+  left_gives levels c count made counted i = sym (plain_left levels c (count, [])) ∙ ap plain i
+
+  -- the root fails, or is assembled, or is an open composite
+  pub root_fails : (levels g : ℕ) (count : Count) (e : HintFault) (runs : List ProgramRun)
+      → logged_assembled h face s root (logged_component h face s root levels) g (count, []) ≡ Err (e, runs)
+      → assembled h face s root (component h face s root levels) g count ≡ Err e
+  root_fails levels g count e runs i = sym (plain_root levels g (count, [])) ∙ ap plain i
+
+  pub root_gives : (levels g : ℕ) (count : Count) (made : Made) (counted : Logged)
+      → logged_assembled h face s root (logged_component h face s root levels) g (count, []) ≡ Ok (made, counted)
+      → assembled h face s root (component h face s root levels) g count ≡ Ok (made, counted.0)
+  root_gives levels g count made counted i = sym (plain_root levels g (count, [])) ∙ ap plain i
+
+  pub root_left : (levels g : ℕ) (count counted : Count) (c : OpenComposite)
+      → logged_assembled h face s root (logged_component h face s root levels) g (count, [])
+      ≡ logged_left h face s root levels c (counted, [])
+      → assembled h face s root (component h face s root levels) g count ≡ left h face s root levels c counted
+  root_left levels g count counted c i =
+      sym (plain_root levels g (count, [])) ∙ ap plain i ∙ plain_left levels c (counted, [])

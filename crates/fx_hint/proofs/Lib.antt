@@ -4,7 +4,6 @@ pub mod Sound
 mod Totals
 mod Places
 mod Steps
-mod RunSteps
 mod RunLaws
 mod KeptGlyphs
 mod Programs

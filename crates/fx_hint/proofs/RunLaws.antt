@@ -31,7 +31,7 @@ use Rattle.fx_hint.specs.Limits.{max_depth}
 use Rattle.fx_hint.specs.Faults.{Fails}
 use Rattle.fx_hint.specs.Runs.{StopsAfter, HasRun, started_by}
 use Rattle.fx_hint.specs.declared.fault.HintFault.TheVariants.{OutOfMemory}
-use Rattle.fx_hint.proofs.RunSteps.{down, closes, assembled_by}
+use Rattle.fx_hint.proofs.Steps.{down, closes, assembled_by}
 use Rattle.fx_hint.specs.inner.RunSteps.{logged_left, logged_given_by, logged_goes_into, logged_rest_of}
 
 -- ---- the first of some programs

@@ -19,10 +19,10 @@ WatchesRuns Sees known was runs known' now = (known' ≡ known) × Watches Sees 
 pub watched_none : {W : Type 0} (Sees : W → Event → W → Type 0) (known : Known) (was : W) → WatchesRuns Sees known was [] known was
 watched_none Sees known was = (refl, refl)
 
-joined : (f : ProgramRun → List Event) (xs ys : List ProgramRun) → flat_map f (xs ++ ys) ≡ flat_map f xs ++ flat_map f ys
-joined f [] ys = refl
-joined f (x ∷ xs) ys =
-    ap (λ (t : List Event). f x ++ t) (joined f xs ys) ∙ sym (append_assoc (f x) (flat_map f xs) (flat_map f ys))
+pub runs_joined : (f : ProgramRun → List Event) (xs ys : List ProgramRun) → flat_map f (xs ++ ys) ≡ flat_map f xs ++ flat_map f ys
+runs_joined f [] ys = refl
+runs_joined f (x ∷ xs) ys =
+    ap (λ (t : List Event). f x ++ t) (runs_joined f xs ys) ∙ sym (append_assoc (f x) (flat_map f xs) (flat_map f ys))
 
 pub watched_then : {W : Type 0} (Sees : W → Event → W → Type 0) (a b c : Known) (was mid now : W) (some more : List ProgramRun)
     → WatchesRuns Sees a was some b mid → WatchesRuns Sees b mid more c now → WatchesRuns Sees a was (some ++ more) c now
@@ -31,6 +31,6 @@ watched_then Sees a b c was mid now some more h k =
     let rest = subst P h.0 k.1 in
     let Q : List Event → Type 0 = λ es. Watches Sees was es now in (
       k.0 ∙ h.0,
-      subst Q (sym (joined (run_events a) some more))
+      subst Q (sym (runs_joined (run_events a) some more))
           (seen_both Sees was mid now (flat_map (run_events a) some) (flat_map (run_events a) more) h.1 rest),
     )

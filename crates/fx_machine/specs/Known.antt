@@ -24,6 +24,7 @@ use Rattle.fx_machine.specs.declared.prepared.Prepared.{Prepared}
 use Rattle.fx_machine.specs.Machine.{answer_of}
 use Rattle.fx_machine.specs.Table.{row_at}
 use Rattle.fx_machine.specs.Configs.{answered}
+use Rattle.fx_machine.specs.Events.{Event, events_of}
 use Rattle.fx_zone.specs.Figures.{HasShape}
 use Rattle.fx_machine.specs.Prepared.{begun, glyph_end, glyph_events, ran_of, stack_if, strays_of}
 

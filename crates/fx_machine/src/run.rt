@@ -1,17 +1,17 @@
 //! Runs, one instruction after the other.
 
-ghost use Rattle.std.specs.Prelude.{◌≡◌, ◌≤◌, IfOk, false};
+ghost use Rattle.std.specs.Prelude.{◌≡◌, ◌≤◌, IfOk, false, length};
 ghost use Rattle.fx_machine.specs.Programs.{texts};
 ghost use Rattle.fx_machine.specs.Table.{row_at};
 ghost use Rattle.fx_pointops.specs.Zones.{HasShapes};
 ghost use Rattle.fx_machine.specs.Shapes.{HasSizes};
 ghost use Rattle.fx_machine.specs.Machine.{answer_of};
 ghost use Rattle.fx_machine.specs.Configs.{answered, sees};
-ghost use Rattle.fx_machine.specs.Events.{Watches, events_of};
+ghost use Rattle.fx_machine.specs.Events.{Watches, Executed, events_of};
 
 use crate::frames::{Calls, Cursor};
 use crate::halt::{Cause, Halt, halted};
-use crate::program::{Program, Programs};
+use crate::program::{FontProgram, Program, Programs};
 use crate::state::State;
 use crate::step::advance;
 use crate::watching::Watching;
@@ -29,6 +29,21 @@ fn code_then<'a, 'b>(
     ensures { result.now ≡ texts programs.now program }
 {
     if left { programs.code(program) } else { code }
+}
+
+/// Shows a watcher an instruction that was executed.
+#[inline(always)]
+fn tell<W: Watching>(
+    watcher: &mut W,
+    program: FontProgram,
+    code: &Code<'_>,
+    address: usize,
+    calls: &Calls,
+    state: &State,
+)
+    ensures { W.Sees watcher.old (Executed program code.now address (length calls.now.frames.items) state.now) watcher.new }
+{
+    watcher.see(program, code, address, calls.frames.len(), state);
 }
 
 /// Runs a program from its first byte, for at most `limit` instructions: how many it executed, or where and why it halted. The watcher
@@ -75,17 +90,12 @@ pub fn run<W: Watching>(
         if ended {
             return Err(halted(programs, start, program, address, Cause::StrayEnd));
         }
+        let name = programs.name(program);
         let left = match advance(&mut cursor, &mut calls, state, code, targets) {
             Ok(left) => left,
             Err(cause) => return Err(halted(programs, start, program, address, cause)),
         };
-        watcher.see(
-            programs.name(program),
-            code,
-            address,
-            calls.frames.len(),
-            state,
-        );
+        tell(watcher, name, code, address, &calls, state);
         code = code_then(programs, code, cursor.program, left);
         steps += 1;
     }

@@ -1,4 +1,4 @@
-use Rattle.std.proofs.Common.{◌∙◌, arith, rules}
+use Rattle.std.proofs.Common.{◌∙◌, refl, arith, rules}
 use Rattle.fx_pointops.proofs.Keeping.{shapes_same, shapes_then}
 use Rattle.fx_machine.proofs.Keeping.{sized, sized_then}
 use Rattle.fx_machine.proofs.Looping.{finished_here, halted_here, stray_here, limit_here, stepped}
@@ -81,8 +81,8 @@ steps-preserved g c = record {
       (rw c.steps.invariant.code at c.in-Ok.ensures.moved);
   watched = seen_one c.steps.invariant.watched
       (one_event _ _ _ _ _ _ _ _ c.advance.new.calls.frames.items c.advance.new.cursor.program c.advance.new.cursor.address
-      c.advance.new.state c.len-in-steps.result (search rules) (omega arith) (rw c.steps.invariant.code at c.in-Ok.ensures.moved))
-      (rw (c.name-in-steps.ensures, c.steps.invariant.code) at c.see.ensures);
+      c.advance.new.state _ refl (omega arith) (rw c.steps.invariant.code at c.in-Ok.ensures.moved))
+      (rw (c.name-name.ensures, c.steps.invariant.code) at c.tell.ensures);
   code = c.code_then-code.ensures;
   counted = omega arith;
   shapes = shapes_then _ _ _ c.steps.invariant.shapes c.in-Ok.ensures.shapes;
