@@ -88,8 +88,14 @@ pub(crate) fn rows_met(piece: &Piece, frame: Frame) -> RowRange
     ensures below { (r : ℕ) → r < result.first → HasAll (λ q. height_of frame r <ℤ q.y) (span_of piece.now) }
     ensures above { (r : ℕ) → result.end ≤ r → r < frame.height → HasAll (λ q. q.y <ℤ height_of frame r) (span_of piece.now) }
 {
-    let first = rows_below(frame, first_from(low_y(piece)));
-    let end = rows_below(frame, first_from(high_y(piece) + 1));
+    let low = first_from(low_y(piece));
+    let past = first_from(high_y(piece) + 1);
+    let first = rows_below(frame, low);
+    // Many pieces lie between two rows of centres.
+    if past <= low {
+        return RowRange { first, end: first };
+    }
+    let end = rows_below(frame, past);
     RowRange {
         first,
         end: clamped(end, first, frame.height),

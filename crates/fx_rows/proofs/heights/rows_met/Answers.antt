@@ -8,12 +8,12 @@ use Rattle.fx_rows.proofs.heights.rows_met.Goals as goal
 pub returns-clause-below : goal.returns-clause-below
 returns-clause-below c = λ r l.
     let y = c.low_y.result in
-    let same : to_z w32 (of_z w32 c.first_from.result) ≡ c.first_from.result =
-    omega (arith, signed_linear, c.first_from.ensures.size) in
-    let b : (c.args.frame.bottom +ℤ pos r) <ℤ c.first_from.result =
+    let same : to_z w32 (of_z w32 c.first_from-low.result) ≡ c.first_from-low.result =
+    omega (arith, signed_linear, c.first_from-low.ensures.size) in
+    let b : (c.args.frame.bottom +ℤ pos r) <ℤ c.first_from-low.result =
     rw same at (c.rows_below-first.ensures.below r l) in
     let near : to_z w32 (of_z w32 y) ≡ y = omega (arith, signed_linear, c.low_y.ensures.size) in
-    let under = c.first_from.ensures.before (c.args.frame.bottom +ℤ pos r) b in
+    let under = c.first_from-low.ensures.before (c.args.frame.bottom +ℤ pos r) b in
     HasAll-weaker (λ q. y ≤ℤ q.y) (λ q. height_of c.args.frame r <ℤ q.y)
     (λ q h. omega (arith, signed_linear, under, near, h)) (span_of c.args.piece.now) c.low_y.ensures.low
 
@@ -21,13 +21,13 @@ pub returns-clause-above : goal.returns-clause-above
 returns-clause-above c = λ r m h.
     let y = c.high_y.result in
     let l = c.clamped.ensures.from r m h in
-    let same : to_z w32 (of_z w32 c.first_from-2.result) ≡ c.first_from-2.result =
-    omega (arith, signed_linear, c.first_from-2.ensures.size) in
-    let b : c.first_from-2.result ≤ℤ (c.args.frame.bottom +ℤ pos r) =
+    let same : to_z w32 (of_z w32 c.first_from-past.result) ≡ c.first_from-past.result =
+    omega (arith, signed_linear, c.first_from-past.ensures.size) in
+    let b : c.first_from-past.result ≤ℤ (c.args.frame.bottom +ℤ pos r) =
     rw same at (c.rows_below-end.ensures.rest r l h) in
     let near : to_z w32 (of_z w32 (to_z w32 (of_z w32 y) +ℤ pos 1)) ≡ y +ℤ pos 1 =
     omega (arith, signed_linear, c.high_y.ensures.size) in
-    let over = c.first_from-2.ensures.from (c.args.frame.bottom +ℤ pos r) b in
+    let over = c.first_from-past.ensures.from (c.args.frame.bottom +ℤ pos r) b in
     HasAll-weaker (λ q. q.y ≤ℤ y) (λ q. q.y <ℤ height_of c.args.frame r)
     (λ q h. omega (arith, signed_linear, over, near, h)) (span_of c.args.piece.now) c.high_y.ensures.high
 
@@ -38,3 +38,39 @@ returns-clause-missed c = λ r h o. by r h o
         → IsMissed (span_of c.args.piece.now) (height_of c.args.frame r)
     by r h (inl l) = inl (returns-clause-below c r l)
     by r h (inr l) = inr (returns-clause-above c r l h)
+
+pub returns-then-past-low-clause-below : goal.returns-then-past-low-clause-below
+returns-then-past-low-clause-below c = λ r l.
+    let y = c.low_y.result in
+    let same : to_z w32 (of_z w32 c.first_from-low.result) ≡ c.first_from-low.result =
+    omega (arith, signed_linear, c.first_from-low.ensures.size) in
+    let b : (c.args.frame.bottom +ℤ pos r) <ℤ c.first_from-low.result =
+    rw same at (c.rows_below-first.ensures.below r l) in
+    let near : to_z w32 (of_z w32 y) ≡ y = omega (arith, signed_linear, c.low_y.ensures.size) in
+    let under = c.first_from-low.ensures.before (c.args.frame.bottom +ℤ pos r) b in
+    HasAll-weaker (λ q. y ≤ℤ q.y) (λ q. height_of c.args.frame r <ℤ q.y)
+    (λ q h. omega (arith, signed_linear, under, near, h)) (span_of c.args.piece.now) c.low_y.ensures.low
+
+pub returns-then-past-low-clause-above : goal.returns-then-past-low-clause-above
+returns-then-past-low-clause-above c = λ r l h.
+    let y = c.high_y.result in
+    let low : to_z w32 (of_z w32 c.first_from-low.result) ≡ c.first_from-low.result =
+    omega (arith, signed_linear, c.first_from-low.ensures.size) in
+    let past : to_z w32 (of_z w32 c.first_from-past.result) ≡ c.first_from-past.result =
+    omega (arith, signed_linear, c.first_from-past.ensures.size) in
+    let from : c.first_from-low.result ≤ℤ (c.args.frame.bottom +ℤ pos r) = rw low at (c.rows_below-first.ensures.rest r l h) in
+    let order = c.if-past-low.true in
+    let b : c.first_from-past.result ≤ℤ (c.args.frame.bottom +ℤ pos r) = omega (arith, signed_linear, low, past, from, order) in
+    let near : to_z w32 (of_z w32 (to_z w32 (of_z w32 y) +ℤ pos 1)) ≡ y +ℤ pos 1 =
+    omega (arith, signed_linear, c.high_y.ensures.size) in
+    let over = c.first_from-past.ensures.from (c.args.frame.bottom +ℤ pos r) b in
+    HasAll-weaker (λ q. q.y ≤ℤ y) (λ q. q.y <ℤ height_of c.args.frame r)
+    (λ q h. omega (arith, signed_linear, over, near, h)) (span_of c.args.piece.now) c.high_y.ensures.high
+
+pub returns-then-past-low-clause-missed : goal.returns-then-past-low-clause-missed
+returns-then-past-low-clause-missed c = λ r h o. by r h o
+  where
+    by : (r : ℕ) → r < c.args.frame.height → (r < c.rows_below-first.result) ⊎ (c.rows_below-first.result ≤ r)
+        → IsMissed (span_of c.args.piece.now) (height_of c.args.frame r)
+    by r h (inl l) = inl (returns-then-past-low-clause-below c r l)
+    by r h (inr l) = inr (returns-then-past-low-clause-above c r l h)
