@@ -80,6 +80,25 @@ fn clamped(n: u32, low: u32, high: u32) -> u32
     }
 }
 
+/// The rows of a frame from one row of the plane on and before another. Many pieces lie between two rows of centres, and have none.
+fn rows_in(frame: Frame, low: i32, past: i32) -> RowRange
+    requires low { IsWithin (2 ^ 15) low }
+    requires past { IsWithin (2 ^ 15) past }
+    ensures within { result.end ≤ frame.height }
+    ensures below { (r : ℕ) → r < result.first → (frame.bottom +ℤ pos r) <ℤ low }
+    ensures rest { (r : ℕ) → result.end ≤ r → r < frame.height → past ≤ℤ (frame.bottom +ℤ pos r) }
+{
+    let first = rows_below(frame, low);
+    if past <= low {
+        return RowRange { first, end: first };
+    }
+    let end = rows_below(frame, past);
+    RowRange {
+        first,
+        end: clamped(end, first, frame.height),
+    }
+}
+
 /// The rows of a frame that a piece can touch.
 pub(crate) fn rows_met(piece: &Piece, frame: Frame) -> RowRange
     ensures within { result.end ≤ frame.height }
@@ -90,16 +109,7 @@ pub(crate) fn rows_met(piece: &Piece, frame: Frame) -> RowRange
 {
     let low = first_from(low_y(piece));
     let past = first_from(high_y(piece) + 1);
-    let first = rows_below(frame, low);
-    // Many pieces lie between two rows of centres.
-    if past <= low {
-        return RowRange { first, end: first };
-    }
-    let end = rows_below(frame, past);
-    RowRange {
-        first,
-        end: clamped(end, first, frame.height),
-    }
+    rows_in(frame, low, past)
 }
 
 /// Those of some rows of a frame whose centres are above the lower end of a chord and below the upper one.

@@ -43,7 +43,8 @@ low_zero u v w hu hv hw e =
     let fv : FitsSigned w64 v = omega (arith, signed_linear) in
     let fw : FitsSigned w64 w = omega (arith, signed_linear) in
     let same : pos 4 *ℤ (u *ℤ w) ≡ v *ℤ v = omega (arith, signed_linear, e) in
-    same_bits (pos 4 *ℤ u) w v _ _ _ (Fits-lt-pow (Fits-of_z fu)) (Fits-lt-pow (Fits-of_z fw)) (Fits-lt-pow (Fits-of_z fv)) cu cw cv (*ℤ_assoc (pos 4) u w ∙ same)
+    same_bits (pos 4 *ℤ u) w v _ _ _ (Fits-lt-pow (Fits-of_z fu)) (Fits-lt-pow (Fits-of_z fw)) (Fits-lt-pow (Fits-of_z fv))
+    cu cw cv (*ℤ_assoc (pos 4) u w ∙ same)
 
 pub returns : goal.returns
 returns c = λ z.
