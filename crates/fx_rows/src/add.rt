@@ -23,6 +23,7 @@ use crate::heights::{Met, RowRange, rows_between, rows_met};
 use crate::intervals::met_part;
 use crate::marks::mark;
 use crate::noting::Noting;
+use crate::rest::is_right;
 use crate::strip::{Strip, areas_at, row_of, strip_of};
 use fx_winding::{Piece, Point, Tally, Weights};
 
@@ -146,6 +147,7 @@ fn add_curve_rows<N: Noting>(
     tally: &mut Tally,
 )
     requires middle { bounded.now.piece.b ≡ Some b }
+    requires some { rows.first < rows.end }
     requires rows { rows.end ≤ band.old.frame.height }
     requires inner { AreInner bounded.now band.old.frame rows.first rows.end }
     requires areas { AreAreas (bounded_span bounded.now) (base_place band.old.frame rows.first) areas }
@@ -157,10 +159,12 @@ fn add_curve_rows<N: Noting>(
     ensures told { AreRowsTold (N.IsTold noter.new) (bounded_span bounded.now) band.old.frame rows.first rows.end }
     ensures count { tally.new.count ≤ tally.old.count + 10 * (rows.end - rows.first) }
 {
-    if total_of(areas) == 0 {
+    let total = total_of(areas);
+    if total == 0 {
         return add_cuts(bounded, FlatCuts { b, areas }, rows, band, noter, tally);
     }
-    let cuts = ArcCuts::from_lowest(bounded, b, areas, band.frame);
+    let right = is_right(&bounded.piece, total);
+    let cuts = ArcCuts::from_lowest(bounded, b, right, areas, band.frame);
     add_cuts(bounded, cuts, rows, band, noter, tally);
 }
 

@@ -9,13 +9,13 @@ ghost use Rattle.fx_winding.specs.Winding.{span_of, sign, IsOn};
 ghost use Rattle.fx_rows.specs.Parts.{IsBent};
 ghost use Rattle.fx_rows.specs.inner.Runs.{gap_at};
 ghost use Rattle.fx_rows.specs.inner.Sides.{place_at};
-ghost use Rattle.fx_rows.specs.inner.Arcs.{AreAreas};
+ghost use Rattle.fx_rows.specs.inner.Arcs.{AreAreas, IsTurned};
 ghost use Rattle.fx_rows.specs.inner.Candidates.{IsOnStrip};
 ghost use Rattle.fx_rows.specs.inner.Points.{IsInner};
 ghost use Rattle.fx_rows.specs.inner.Bands.{bounded_span};
 ghost use Rattle.fx_rows.specs.inner.Cuts.{CountsAt, CountsFirst, IsLast, IsCut};
 
-use crate::arc::{gaps_of, total_of};
+use crate::arc::gaps_of;
 use crate::bounded::{Bounded, foot_x};
 use crate::cells::Cut;
 use crate::chord::{edge_of, slope_of};
@@ -23,8 +23,7 @@ use crate::narrow::columns_before;
 use crate::on::{met_column, on_edge, on_one};
 use crate::parabola::Gaps;
 use crate::part::OnRow;
-use crate::rest::is_right;
-use crate::search::{is_below, is_zero, within};
+use crate::search::{is_below, is_zero, may_be_zero, within};
 use crate::slope::{Slope, is_left};
 use crate::strip::Strip;
 use fx_winding::{Frame, Piece, Point, Tally, Weights, first_from};
@@ -179,19 +178,23 @@ fn on_end(piece: &Piece, bend: Bend, strip: Strip, end: u32, tally: &mut Tally) 
     if past > strip.stop {
         return OnRow::None;
     }
+    if !may_be_zero(bend.gaps, past - 1) {
+        return OnRow::None;
+    }
     if !is_zero(bend.gaps, past - 1) {
         return OnRow::None;
     }
     on_one(piece, strip, past - 1, tally)
 }
 
-/// What a bent arc adds. Two loops call it, and each is to have it in its body.
+/// What a bent arc adds; `right` says on which side of its chord it lies. Two loops call it, and each is to have it in its body.
 #[inline(always)]
 pub(crate) fn arc_cut(
     bounded: &Bounded,
     b: Point,
     strip: Strip,
     areas: Weights,
+    right: bool,
     guess: u32,
     tally: &mut Tally,
 ) -> Cut
@@ -199,6 +202,7 @@ pub(crate) fn arc_cut(
     requires bent { IsBent (bounded_span bounded.now) }
     requires inner { IsInner bounded.now.piece.a.y bounded.now.piece.c.y (pos 128 *ℤ strip.row +ℤ pos 64) }
     requires areas { AreAreas (bounded_span bounded.now) (place_at strip 0) areas }
+    requires right { IsTurned (bounded_span bounded.now) right }
     ensures cut { IsCut (bounded_span bounded.now) strip result }
     ensures value { result.value ≡ bounded.now.rise.value }
     ensures count { tally.new.count ≤ tally.old.count + 1 }
@@ -207,7 +211,7 @@ pub(crate) fn arc_cut(
     let bend = Bend {
         slope: slope_of(piece, strip, areas),
         gaps: gaps_of(piece, b, strip, areas),
-        right: is_right(piece, total_of(areas)),
+        right,
     };
     let end = count_of(bend, guess, strip.stop);
     Cut {

@@ -93,11 +93,12 @@ impl Cuts for FlatCuts {
     }
 }
 
-/// The cuts of a bent arc: its control point, the areas of the next row's base, where the next row's columns are likely to end,
-/// and where those of the row before ended.
+/// The cuts of a bent arc: its control point, whether it lies right of its chord, the areas of the next row's base, where the
+/// next row's columns are likely to end, and where those of the row before ended.
 #[derive(Clone, Copy)]
 pub(crate) struct ArcCuts {
     pub b: Point,
+    pub right: bool,
     pub areas: Weights,
     guess: u32,
     last: u32,
@@ -105,13 +106,21 @@ pub(crate) struct ArcCuts {
 
 impl ArcCuts {
     /// Those from an arc's lowest row on.
-    pub(crate) fn from_lowest(bounded: &Bounded, b: Point, areas: Weights, frame: Frame) -> ArcCuts
+    pub(crate) fn from_lowest(
+        bounded: &Bounded,
+        b: Point,
+        right: bool,
+        areas: Weights,
+        frame: Frame,
+    ) -> ArcCuts
         ensures b { result.b ≡ b }
+        ensures right { result.right ≡ right }
         ensures areas { result.areas ≡ areas }
     {
         let guess = first_guess(&bounded.piece, frame);
         ArcCuts {
             b,
+            right,
             areas,
             guess,
             last: guess,
@@ -122,14 +131,17 @@ impl ArcCuts {
 impl Cuts for ArcCuts {
     ghost use Rattle.std.specs.Prelude.{◌≡◌, Some};
     ghost use Rattle.fx_rows.specs.Parts.{IsBent};
-    ghost use Rattle.fx_rows.specs.inner.Arcs.{AreAreas};
+    ghost use Rattle.fx_rows.specs.inner.Arcs.{AreAreas, IsTurned};
     ghost use Rattle.fx_rows.specs.inner.Bands.{bounded_span};
 
-    ghost AreAt = { λ cuts b p. (b.piece.b ≡ Some cuts.b) × IsBent (bounded_span b) × AreAreas (bounded_span b) p cuts.areas };
+    ghost AreAt = { λ cuts b p. (b.piece.b ≡ Some cuts.b) × IsBent (bounded_span b) × IsTurned (bounded_span b) cuts.right
+        × AreAreas (bounded_span b) p cuts.areas };
 
     #[inline(always)]
     fn next(&mut self, bounded: &Bounded, strip: Strip, tally: &mut Tally) -> Cut {
-        let cut = arc_cut(bounded, self.b, strip, self.areas, self.guess, tally);
+        let cut = arc_cut(
+            bounded, self.b, strip, self.areas, self.right, self.guess, tally,
+        );
         self.guess = cut.end.saturating_add(cut.end).saturating_sub(self.last);
         self.last = cut.end;
         self.areas = arc_areas_above(&bounded.piece, self.b, strip, self.areas);

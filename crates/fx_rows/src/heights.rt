@@ -80,6 +80,25 @@ fn clamped(n: u32, low: u32, high: u32) -> u32
     }
 }
 
+/// The rows of a frame from one row of the plane on and before another. Many pieces lie between two rows of centres, and have none.
+fn rows_in(frame: Frame, low: i32, past: i32) -> RowRange
+    requires low { IsWithin (2 ^ 15) low }
+    requires past { IsWithin (2 ^ 15) past }
+    ensures within { result.end ≤ frame.height }
+    ensures below { (r : ℕ) → r < result.first → (frame.bottom +ℤ pos r) <ℤ low }
+    ensures rest { (r : ℕ) → result.end ≤ r → r < frame.height → past ≤ℤ (frame.bottom +ℤ pos r) }
+{
+    let first = rows_below(frame, low);
+    if past <= low {
+        return RowRange { first, end: first };
+    }
+    let end = rows_below(frame, past);
+    RowRange {
+        first,
+        end: clamped(end, first, frame.height),
+    }
+}
+
 /// The rows of a frame that a piece can touch.
 pub(crate) fn rows_met(piece: &Piece, frame: Frame) -> RowRange
     ensures within { result.end ≤ frame.height }
@@ -88,12 +107,9 @@ pub(crate) fn rows_met(piece: &Piece, frame: Frame) -> RowRange
     ensures below { (r : ℕ) → r < result.first → HasAll (λ q. height_of frame r <ℤ q.y) (span_of piece.now) }
     ensures above { (r : ℕ) → result.end ≤ r → r < frame.height → HasAll (λ q. q.y <ℤ height_of frame r) (span_of piece.now) }
 {
-    let first = rows_below(frame, first_from(low_y(piece)));
-    let end = rows_below(frame, first_from(high_y(piece) + 1));
-    RowRange {
-        first,
-        end: clamped(end, first, frame.height),
-    }
+    let low = first_from(low_y(piece));
+    let past = first_from(high_y(piece) + 1);
+    rows_in(frame, low, past)
 }
 
 /// Those of some rows of a frame whose centres are above the lower end of a chord and below the upper one.

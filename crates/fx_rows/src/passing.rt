@@ -13,6 +13,7 @@ use crate::arc::total_of;
 use crate::bounded::Bounded;
 use crate::cells::Cut;
 use crate::cuts::{ArcCuts, ClearCuts, Cuts, FlatCuts, LineCuts};
+use crate::rest::is_right;
 use crate::strip::{Strip, areas_at, strip_of};
 use fx_winding::{Frame, Point, Tally, Weights};
 
@@ -32,10 +33,12 @@ fn curve_cut(
     ensures value { result.value ≡ bounded.now.rise.value }
     ensures count { tally.new.count ≤ tally.old.count + 1 }
 {
-    if total_of(areas) == 0 {
+    let total = total_of(areas);
+    if total == 0 {
         return FlatCuts { b, areas }.next(bounded, strip, tally);
     }
-    ArcCuts::from_lowest(bounded, b, areas, frame).next(bounded, strip, tally)
+    let right = is_right(&bounded.piece, total);
+    ArcCuts::from_lowest(bounded, b, right, areas, frame).next(bounded, strip, tally)
 }
 
 /// The cut of a piece in a row between its ends.

@@ -8,33 +8,30 @@ use Rattle.fx_rows.proofs.heights.rows_met.Goals as goal
 pub returns-clause-below : goal.returns-clause-below
 returns-clause-below c = λ r l.
     let y = c.low_y.result in
-    let same : to_z w32 (of_z w32 c.first_from.result) ≡ c.first_from.result =
-    omega (arith, signed_linear, c.first_from.ensures.size) in
-    let b : (c.args.frame.bottom +ℤ pos r) <ℤ c.first_from.result =
-    rw same at (c.rows_below-first.ensures.below r l) in
+    let same : to_z w32 (of_z w32 c.first_from-low.result) ≡ c.first_from-low.result =
+    omega (arith, signed_linear, c.first_from-low.ensures.size) in
+    let b : (c.args.frame.bottom +ℤ pos r) <ℤ c.first_from-low.result = rw same at (c.rows_in.ensures.below r l) in
     let near : to_z w32 (of_z w32 y) ≡ y = omega (arith, signed_linear, c.low_y.ensures.size) in
-    let under = c.first_from.ensures.before (c.args.frame.bottom +ℤ pos r) b in
+    let under = c.first_from-low.ensures.before (c.args.frame.bottom +ℤ pos r) b in
     HasAll-weaker (λ q. y ≤ℤ q.y) (λ q. height_of c.args.frame r <ℤ q.y)
     (λ q h. omega (arith, signed_linear, under, near, h)) (span_of c.args.piece.now) c.low_y.ensures.low
 
 pub returns-clause-above : goal.returns-clause-above
 returns-clause-above c = λ r m h.
     let y = c.high_y.result in
-    let l = c.clamped.ensures.from r m h in
-    let same : to_z w32 (of_z w32 c.first_from-2.result) ≡ c.first_from-2.result =
-    omega (arith, signed_linear, c.first_from-2.ensures.size) in
-    let b : c.first_from-2.result ≤ℤ (c.args.frame.bottom +ℤ pos r) =
-    rw same at (c.rows_below-end.ensures.rest r l h) in
+    let same : to_z w32 (of_z w32 c.first_from-past.result) ≡ c.first_from-past.result =
+    omega (arith, signed_linear, c.first_from-past.ensures.size) in
+    let b : c.first_from-past.result ≤ℤ (c.args.frame.bottom +ℤ pos r) = rw same at (c.rows_in.ensures.rest r m h) in
     let near : to_z w32 (of_z w32 (to_z w32 (of_z w32 y) +ℤ pos 1)) ≡ y +ℤ pos 1 =
     omega (arith, signed_linear, c.high_y.ensures.size) in
-    let over = c.first_from-2.ensures.from (c.args.frame.bottom +ℤ pos r) b in
+    let over = c.first_from-past.ensures.from (c.args.frame.bottom +ℤ pos r) b in
     HasAll-weaker (λ q. q.y ≤ℤ y) (λ q. q.y <ℤ height_of c.args.frame r)
     (λ q h. omega (arith, signed_linear, over, near, h)) (span_of c.args.piece.now) c.high_y.ensures.high
 
 pub returns-clause-missed : goal.returns-clause-missed
 returns-clause-missed c = λ r h o. by r h o
   where
-    by : (r : ℕ) → r < c.args.frame.height → (r < c.rows_below-first.result) ⊎ (c.clamped.result ≤ r)
+    by : (r : ℕ) → r < c.args.frame.height → (r < c.rows_in.result.first) ⊎ (c.rows_in.result.end ≤ r)
         → IsMissed (span_of c.args.piece.now) (height_of c.args.frame r)
     by r h (inl l) = inl (returns-clause-below c r l)
     by r h (inr l) = inr (returns-clause-above c r l h)

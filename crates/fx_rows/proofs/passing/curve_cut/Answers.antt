@@ -1,24 +1,39 @@
 use Rattle.std.proofs.Common.{◌≡◌, ap, sym, ◌∙◌, to_z, of_z, w64, arith}
 use Rattle.fx_fixed.proofs.Linear.{signed_linear}
 use Rattle.fx_rows.specs.inner.Sides.{place_at}
-use Rattle.fx_rows.proofs.Gaps.{area_of_areas}
+use Rattle.fx_rows.proofs.Gaps.{area_of_areas, total_of_areas}
 use Rattle.fx_rows.proofs.Flats.{is_bent, flat_not_bent}
 use Rattle.fx_rows.proofs.passing.curve_cut.Goals as goal
+
+pub is_right-right-requires-clause-bent : goal.is_right-right-requires-clause-bent
+is_right-right-requires-clause-bent c =
+    let p = c.args.bounded.now.piece in
+    let whole = area_of_areas p c.args.b (place_at c.args.strip 0) c.args.areas _ c.requires.middle c.requires.areas
+    c.total_of-total.ensures.value in
+    is_bent p c.args.b c.requires.middle (λ z. c.if-total-eq0.false (ap (of_z w64) (whole ∙ z)))
+
+pub is_right-right-requires-clause-total : goal.is_right-right-requires-clause-total
+is_right-right-requires-clause-total c =
+    let size = c.total_of-total.ensures.size in
+    let same : to_z w64 (of_z w64 c.total_of-total.result) ≡ c.total_of-total.result = omega (arith, signed_linear, size) in
+    total_of_areas c.args.bounded.now.piece c.args.b (place_at c.args.strip 0) c.args.areas _ c.requires.middle c.requires.areas
+    (same ∙ c.total_of-total.ensures.value)
 
 pub next-requires-clause-at : goal.next-requires-clause-at
 next-requires-clause-at c =
     let p = c.args.bounded.now.piece in
     let whole = area_of_areas p c.args.b (place_at c.args.strip 0) c.args.areas _ c.requires.middle c.requires.areas
-    c.total_of.ensures.value in
-    let size = c.total_of.ensures.size in
-    let same : to_z w64 (of_z w64 c.total_of.result) ≡ c.total_of.result = omega (arith, signed_linear, size) in
-    let flat = flat_not_bent p c.args.b c.requires.middle (sym whole ∙ sym same ∙ ap (to_z w64) c.if-total_of-eq0.true) in
+    c.total_of-total.ensures.value in
+    let size = c.total_of-total.ensures.size in
+    let same : to_z w64 (of_z w64 c.total_of-total.result) ≡ c.total_of-total.result = omega (arith, signed_linear, size) in
+    let flat = flat_not_bent p c.args.b c.requires.middle (sym whole ∙ sym same ∙ ap (to_z w64) c.if-total-eq0.true) in
     (c.requires.middle, flat, c.requires.areas)
 
 pub next-requires-2-clause-at : goal.next-requires-2-clause-at
 next-requires-2-clause-at c =
     let p = c.args.bounded.now.piece in
     let whole = area_of_areas p c.args.b (place_at c.args.strip 0) c.args.areas _ c.requires.middle c.requires.areas
-    c.total_of.ensures.value in
-    let bent = is_bent p c.args.b c.requires.middle (λ z. c.if-total_of-eq0.false (ap (of_z w64) (whole ∙ z))) in
-    rw (c.from_lowest.ensures.b, c.from_lowest.ensures.areas) (c.requires.middle, bent, c.requires.areas)
+    c.total_of-total.ensures.value in
+    let bent = is_bent p c.args.b c.requires.middle (λ z. c.if-total-eq0.false (ap (of_z w64) (whole ∙ z))) in
+    rw (c.from_lowest.ensures.b, c.from_lowest.ensures.right, c.from_lowest.ensures.areas)
+    (c.requires.middle, bent, c.is_right-right.ensures, c.requires.areas)
