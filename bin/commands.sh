@@ -1,13 +1,14 @@
 # The commands, and what `mkstrike help` prints of each. Written by tools/make_pages from docs/mkstrike-*.1: change those.
 # shellcheck shell=sh disable=SC2034
 
-commands='make show dump explain'
+commands='make show outline dump explain'
 
 print_synopses() {
     cat <<'END'
     mkstrike make --ppem N --chars LIST [--name NAME] [--property KEY=VALUE]... [--x11] [--refused WHAT] [--missing] [--unhinted]
                   [--dropout] [--face N] [--hex] [FONT] [-o FILE]
-    mkstrike show --ppem N --char HEX [--unhinted] [--dropout] [--face N] [--hex] [FONT] [-o FILE]
+    mkstrike show --ppem N --char HEX|--glyph G [--unhinted] [--dropout] [--face N] [--hex] [FONT] [-o FILE]
+    mkstrike outline --ppem N --char HEX|--glyph G [--unhinted] [--face N] [--hex] [FONT] [-o FILE]
     mkstrike dump --of WHAT [--face N] [--hex] [FONT] [-o FILE]
     mkstrike explain ARGUMENT...
 END
@@ -40,12 +41,13 @@ END
 
 help_show() {
     cat <<'END'
-mkstrike show writes the picture of one character.
+mkstrike show writes the picture of one glyph.
 
-    mkstrike show --ppem N --char HEX [OPTION].. [FONT] [-o FILE]
+    mkstrike show --ppem N --char HEX|--glyph G [OPTION].. [FONT] [-o FILE]
 
       --ppem N      the size in pixels per em, 1 to 1024
-      --char HEX    the character, one hexadecimal number; the letter A is 41
+      --char HEX    the glyph of a character, one hexadecimal number; the letter A is 41
+      --glyph G     a glyph by its number in the font, counted from 0, in place of --char
       --unhinted    do not run the font's own programs
       --dropout     keep thin strokes whole
       --face N      the font of a collection, counted from 0; without it the first
@@ -54,6 +56,25 @@ mkstrike show writes the picture of one character.
       FONT          the font's file; else standard input
 
     mkstrike show --ppem 16 --char 41 font.ttf
+END
+}
+
+help_outline() {
+    cat <<'END'
+mkstrike outline writes the outline of one glyph, which its bits are of.
+
+    mkstrike outline --ppem N --char HEX|--glyph G [OPTION].. [FONT] [-o FILE]
+
+      --ppem N      the size in pixels per em, 1 to 1024
+      --char HEX    the glyph of a character, one hexadecimal number; the letter A is 41
+      --glyph G     a glyph by its number in the font, counted from 0, in place of --char
+      --unhinted    do not run the font's own programs
+      --face N      the font of a collection, counted from 0; without it the first
+      --hex         the font is hexadecimal text
+      -o FILE       write to FILE, which is there only if all was done; else to standard output
+      FONT          the font's file; else standard input
+
+    mkstrike outline --ppem 12 --char 41 font.ttf
 END
 }
 

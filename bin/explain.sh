@@ -89,9 +89,10 @@ advice() {
         10) echo 'give a TrueType font: OTTO (CFF) and an empty input are not read' ;;
         11) echo 'the font is damaged, or no TrueType font with outlines' ;;
         12) echo 'the file is cut' ;;
-        13 | 14 | 16 | 24) echo 'the font is damaged' ;;
+        13 | 14 | 16) echo 'the font is damaged' ;;
         15) echo "convert the font's map to format 4 or 12" ;;
         17 | 18 | 19 | 20 | 21 | 22 | 23) echo 'leave the characters with that glyph out' ;;
+        24) echo 'give a number below the number of glyphs; if none was given, the font is damaged' ;;
         25) echo 'give a number below the number of faces; a file that is no collection has face 0 alone' ;;
         30) echo 'push what the instruction needs first: the stack is empty when a program begins' ;;
         31) echo 'raise maxStackElements in maxp' ;;

@@ -1,4 +1,5 @@
 pub mod Exits
+pub mod OutlineLines
 pub mod Sketching
 pub mod GatheredGlyphs
 pub mod Seeing
