@@ -8,7 +8,7 @@ explain() {
     LC_ALL=C
     case $status:$said in
         0:*) explain_counts "$@" ;;
-        1:'mkstrike: '[1-9][0-9] | 1:'mkstrike: '[1-9][0-9]' '*) explain_refusal ;;
+        1:'mkstrike: '[1-9][0-9] | 1:'mkstrike: '[1-9][0-9]' '*) explain_refusal "$@" ;;
         2:'mkstrike: usage') explain_usage "$@" ;;
     esac
 }
@@ -77,10 +77,19 @@ explain_refusal() {
         10) to_do=$(advice_by_bytes) || to_do=$(advice 10) ;;
         3[0-9] | 4[0-1]) to_do="$(advice_by_program)with --unhinted no program of the font runs; to mend the font, $to_do" ;;
         1[7-9] | 2[0-3]) to_do="$to_do$(advice_by_command)" ;;
+        24) ! names_glyph "$@" || to_do='the font has no glyph of that number' ;;
         25) to_do=$(advice_by_faces) || to_do=$(advice 25) ;;
         61) to_do=$(advice_by_list "$to_do") ;;
     esac
     [ -z "$to_do" ] || say "$to_do"
+}
+
+# Returns whether the glyph that is refused is one that the arguments name.
+names_glyph() {
+    for word; do
+        case $word in "${said##* }" | --of="${said##* }" | --glyph="${said##* }") return 0 ;; esac
+    done
+    return 1
 }
 
 # Prints what to do after the refusal $1, in the words of docs/REFUSALS.md.
@@ -255,7 +264,9 @@ explain_command() {
     # shellcheck disable=SC2086
     case $1 in
         -*) say "the first word is the command, $(printf '%s, ' $commands)or help, not '$1'; 'mkstrike help' shows how it is written" ;;
+        version) say "unknown command 'version'; did you mean '--version'? 'mkstrike help' lists the commands" ;;
         *)
+            [ ! -f "$1" ] || { say "the first word is the command: 'mkstrike make --ppem 16 --chars 20-7e FONT' makes a strike" && return; }
             meant=$(meant_by "$1" $commands help)
             say "unknown command '$1'; ${meant:+did you mean $meant? }'mkstrike help' lists the commands"
             ;;
@@ -300,7 +311,7 @@ meant_by() {
         BEGIN {
             nearest = 3
             for (k = 2; k < ARGC; k++) {
-                at = distance(ARGV[1], ARGV[k])
+                at = distance(tolower(ARGV[1]), ARGV[k])
                 if (length(ARGV[1]) < 5 && ARGV[1] ~ /^-/ || at > nearest || at == 3) continue
                 found = at < nearest ? "\047" ARGV[k] "\047" : found " or \047" ARGV[k] "\047"
                 nearest = at

@@ -120,6 +120,9 @@ ROWS = [
     ("command missing", ["--ppem", "16", "--chars", "41"], SANS, 2, USAGE, "the first word is the command, make, show, dump, explain, or help, not '--ppem'"),
     ("command misspelt", ["mkae", "--ppem", "16"], SANS, 2, USAGE, "unknown command 'mkae'; did you mean 'make'?"),
     ("font in place of the command", ["font.ttf"], SANS, 2, USAGE, "unknown command 'font.ttf'; 'mkstrike help' lists the commands"),
+    ("a font that is there in place of the command", ["cut.ttf", "16"], SANS, 2, USAGE, "'mkstrike make --ppem 16 --chars 20-7e FONT' makes a strike"),
+    ("version", ["version"], SANS, 2, USAGE, "unknown command 'version'; did you mean '--version'?"),
+    ("--PPEM", ["make", "--PPEM", "16", "--chars", "41"], SANS, 2, USAGE, "did you mean '--ppem'?"),
     ("options before command", ["--ppem", "16", "make", "--chars", "41"], SANS, 2, USAGE, "the first word is the command"),
     ("no args, font in", None, SANS, 2, USAGE, "without arguments the first line of the input is the command line"),
     # names and properties
@@ -137,10 +140,11 @@ ROWS = [
     # the font's programs
     ("dump of what is not there", ["dump", "--of", "gpos"], SANS, 2, USAGE, "--of takes fpgm, prep or the number of a glyph, not 'gpos'; 'mkstrike help dump'"),
     ("dump glyph 99999", ["dump", "--of", "99999"], SANS, 2, USAGE, "the number of a glyph, not '99999'"),
+    ("dump of a glyph that is not there", ["dump", "--of", "65000"], SANS, 1, "mkstrike: 24 BadGlyphNumber 65000", "the font has no glyph of that number"),
     ("dump glyph name", ["dump", "--of", "Aacute"], SANS, 2, USAGE, "the number of a glyph, not 'Aacute'"),
     ("a glyph whose program halts", ["make", "--ppem", "16", "--chars", "19c"], SANS, 1, "mkstrike: 30 StackUnder .*", "with --unhinted no program"),
 ]
-ALONE = ("make", "show", "dump", "mkae", "font.ttf", "-h", "help", "--version", "-V")
+ALONE = ("make", "show", "dump", "mkae", "font.ttf", "cut.ttf", "version", "-h", "help", "--version", "-V")
 
 
 def mistakes(sans):
