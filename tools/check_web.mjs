@@ -1,6 +1,7 @@
 // What tools/check_web asks the module in Node: node check_web.mjs MODULE < REQUESTS. A request is a line of JSON with the path of a font, a
-// size, a mode, characters and a name; the answer is a line with the SHA-256 and the counts of the strike, or the refusal's line. The
-// glyphs of the same characters, made in one call, have to be those of the strike.
+// size, a mode, characters and a name; the answer is a line with the SHA-256 of the strike, its counts, and the SHA-256 of the outline of its
+// first glyph as `mkstrike outline` writes it; or the refusal's line. The glyphs of the same characters, made in one call, must be those of
+// the strike.
 import { createHash } from 'node:crypto';
 import { readFileSync } from 'node:fs';
 import { createInterface } from 'node:readline';
@@ -36,13 +37,24 @@ function differences({ ppem, mode, chars }, text) {
   return '';
 }
 
+const sha256 = (text) => createHash('sha256').update(text).digest('hex');
+
+// The outline of a strike's first glyph, as the program writes it.
+function outlineOf({ ppem, mode }, text) {
+  const first = /^ENCODING (\d+)$/m.exec(text.toString('latin1'));
+  if (!first) return '';
+  const { points, ends, advance } = mkstrike.outline(ppem, mode, Number(first[1]));
+  const lines = points.map(({ x, y, on }, k) => `${ends.findIndex((end) => k <= end)} ${k} ${on ? 'on' : 'off'} ${x} ${y}\n`);
+  return `${lines.join('')}advance ${advance}\n`;
+}
+
 function answer(request) {
   if (request.font !== path) mkstrike.setFont(new Uint8Array(readFileSync(path = request.font)));
   const made = mkstrike.make(request.ppem, request.mode, request.chars, request.name);
   if (made.refused) return lineOf(made.refused, mkstrike.reason(made.refused.number));
   const { glyphs, missing, strays, steps } = made.told, text = Buffer.from(made.text);
-  const sum = createHash('sha256').update(text).digest('hex');
-  return `${sum} ${glyphs} ${missing} ${strays} ${steps}${differences(request, text.toString('latin1'))}`;
+  const counts = `${glyphs} ${missing} ${strays} ${steps}`;
+  return `${sha256(text)} ${counts} ${sha256(outlineOf(request, text))}${differences(request, text.toString('latin1'))}`;
 }
 
 for await (const line of createInterface({ input: process.stdin })) console.log(answer(JSON.parse(line)));

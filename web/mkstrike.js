@@ -7,6 +7,8 @@ export const STRUCTS = {
     address: 'u64' },
   mkstrike_font_info: { ascent: 'i32', descent: 'i32', line_gap: 'i32', glyphs: 'u32' },
   mkstrike_glyph_info: { width: 'u32', height: 'u32', left: 'i32', bottom: 'i32', stride: 'u32', dwidth: 'i32', swidth: 'i32' },
+  mkstrike_outline_point: { x: 'i32', y: 'i32', on_curve: 'u32' },
+  mkstrike_outlined: { points: 'u64', contours: 'u64', advance: 'i32' },
   mkstrike_placed: { glyph: 'mkstrike_glyph_info', status: 'u32', offset: 'u64' },
   mkstrike_drawn: { bytes: 'u64', glyphs: 'u32', missing: 'u32', refused: 'u32' },
   mkstrike_told: { bytes: 'u64', glyphs: 'u32', missing: 'u32', strays: 'u64', steps: 'u64' },
@@ -148,6 +150,32 @@ export class Mkstrike {
       const status = this.calls.mkstrike_font(...this.ofFont(), ppem, info, refused);
       return status ? { refused: this.read('mkstrike_refused', refused) } : this.read('mkstrike_font_info', info);
     });
+  }
+
+  // The outline that a character's pixels are made of: its points, in 1/64 pixels, and the number of each contour's last point. Nothing is
+  // told of an outline that is refused.
+  outline(ppem, mode, code) {
+    return this.within((take) => {
+      const codes = take(new Uint8Array(Uint32Array.of(code).buffer)), id = take(2), refused = take(this.size('mkstrike_refused'));
+      if (this.calls.mkstrike_glyph_ids(...this.ofFont(), codes, 1n, id, 1n, refused)) return {};
+      const glyph = new Uint16Array(this.calls.memory.buffer, Number(id), 1)[0], told = take(this.size('mkstrike_outlined'));
+      const call = (points, room, ends, contours) => this.calls.mkstrike_outline(...this.ofFont(), ppem, mode & HINTED, glyph, points,
+        BigInt(room), ends, BigInt(contours), told, refused);
+      if (call(0n, 0, 0n, 0)) return {};
+      const counts = this.read('mkstrike_outlined', told), each = this.size('mkstrike_outline_point');
+      const points = take(counts.points * each), ends = take(2 * counts.contours);
+      if (call(points, counts.points, ends, counts.contours)) return {};
+      return {
+        points: Array.from({ length: counts.points }, (_, k) => this.pointAt(points + BigInt(k * each))),
+        ends: Array.from(new Uint16Array(this.calls.memory.buffer, Number(ends), counts.contours)),
+        advance: counts.advance,
+      };
+    });
+  }
+
+  pointAt(at) {
+    const { x, y, on_curve: on } = this.read('mkstrike_outline_point', at);
+    return { x, y, on: on === 1 };
   }
 
   // The refusal of one character, or null.

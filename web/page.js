@@ -524,7 +524,9 @@ function drawGlyph() {
   const x0 = glyph.left - left, y0 = top - glyph.bottom - glyph.height;
   eachPixel(glyph, glyph.pixels, (x, y) => (words[(y0 + y) * columns + x0 + x] = ink));
   const zoom = Math.max(1, Math.floor(Math.min(room / columns, 420 / rows)));
-  const { context, side } = paint($('glyph'), words, columns, rows, zoom), thick = Math.max(2, Math.round(2 * (devicePixelRatio || 1)));
+  const { context, side } = paint($('glyph'), words, columns, rows, zoom);
+  $('glyph').dataset.place = `${left} ${top} ${side}`;
+  const thick = Math.max(2, Math.round(2 * (devicePixelRatio || 1)));
   const line = (name, dashes, from, to) => {
     context.strokeStyle = colour(name);
     context.lineWidth = thick;
