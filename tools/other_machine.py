@@ -1,8 +1,10 @@
 """Tries the C library for another machine than this one: links examples/show.c to its shared object, and runs that by qemu-user.
 
-If MKSTRIKE_ARM_ROOT names a folder into which packages of Debian for arm64 were unpacked, Python and what it needs, Python there tries the
-wheel too. In an empty folder, with APT for "-o APT::Architecture=arm64 -o Dir::State::lists=$PWD/lists -o Dir::State::status=/dev/null -o Dir::Cache::pkgcache= -o Dir::Cache::srcpkgcache=":
+If MKSTRIKE_ARM_ROOT names a folder into which Debian's packages of Python for arm64 were unpacked, that Python tries the wheel too. The
+folder `root` is such a one after these commands in an empty folder:
 
+    APT="-o APT::Architecture=arm64 -o Dir::State::lists=$PWD/lists -o Dir::State::status=/dev/null"
+    APT="$APT -o Dir::Cache::pkgcache= -o Dir::Cache::srcpkgcache="
     mkdir -p lists/partial && apt-get $APT update
     apt-get $APT download python3.11-minimal libpython3.11-minimal libpython3.11-stdlib libc6 zlib1g libexpat1 libffi8 libgcc-s1
     for it in *.deb; do dpkg-deb -x $it root; done
