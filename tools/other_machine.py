@@ -1,4 +1,15 @@
-"""Tries the C library for another machine than this one: links examples/show.c to its shared object, and runs that by qemu-user."""
+"""Tries the C library for another machine than this one: links examples/show.c to its shared object, and runs that by qemu-user.
+
+If MKSTRIKE_ARM_ROOT names a folder into which Debian's packages of Python for arm64 were unpacked, that Python tries the wheel too. The
+folder `root` is such a one after these commands in an empty folder:
+
+    APT="-o APT::Architecture=arm64 -o Dir::State::lists=$PWD/lists -o Dir::State::status=/dev/null"
+    APT="$APT -o Dir::Cache::pkgcache= -o Dir::Cache::srcpkgcache="
+    mkdir -p lists/partial && apt-get $APT update
+    apt-get $APT download python3.11-minimal libpython3.11-minimal libpython3.11-stdlib libc6 zlib1g libexpat1 libffi8 libgcc-s1
+    for it in *.deb; do dpkg-deb -x $it root; done
+"""
+import glob
 import os
 import shutil
 import subprocess
@@ -33,6 +44,14 @@ def strike(machine, shared, font, ppem, chars):
     if ran.returncode:
         raise prebuilt.Fault("%s: status %d: %s" % (" ".join(words[:1]), ran.returncode, ran.stderr.decode("latin-1").strip()[-300:]))
     return ran.stdout
+
+
+def python(machine):
+    """The words that run Python for another machine, or None if there is none."""
+    found = glob.glob(os.path.join(glob.escape(os.environ.get("MKSTRIKE_ARM_ROOT", "")), "usr/bin/python3.*[0-9]"))
+    if machine != "aarch64" or not os.environ.get("MKSTRIKE_ARM_ROOT") or not found:
+        return None
+    return [TOOLS[machine][1], "-L", os.environ["MKSTRIKE_ARM_ROOT"], found[0]]
 
 
 def check(count, what, machine, shared, font, due):

@@ -28,11 +28,11 @@ def strike_of(words, env=None):
     return ran.stdout if ran.returncode == 0 else None
 
 
-def look(count, what, folder, due):
+def look(count, what, folder, due, python=(sys.executable,)):
     """Looks at the package in a folder: it makes the program's strike, and imports nothing from elsewhere."""
     env = {"PYTHONPATH": folder, "PATH": os.environ["PATH"], "PYTHONDONTWRITEBYTECODE": "1"}
-    count.check("%s: its strike is the program's" % what, strike_of([sys.executable, "-c", STRIKE], env) != due)
-    version = subprocess.run([sys.executable, "-c", "import mkstrike; print(mkstrike.__version__)"], env=env, capture_output=True, text=True)
+    count.check("%s: its strike is the program's" % what, strike_of([*python, "-c", STRIKE], env) != due)
+    version = subprocess.run([*python, "-c", "import mkstrike; print(mkstrike.__version__)"], env=env, capture_output=True, text=True)
     count.check("%s: it tells its version" % what, not re.match(r"0\.\d{8}", version.stdout))
 
 
@@ -48,8 +48,11 @@ def try_wheel(count, wheel, folder, due):
     count.check("the wheel %s: the library fits the name" % what, misfit(shared, what))
     if elf.machine(shared) == os.uname().machine:
         look(count, "wheel", folder, due)
-    else:
-        other_machine.check(count, "wheel", elf.machine(shared), shared, fonts.FIXTURE, due)
+        return
+    other_machine.check(count, "wheel", elf.machine(shared), shared, fonts.FIXTURE, due)
+    python = other_machine.python(elf.machine(shared))
+    if python:
+        look(count, "wheel for %s" % elf.machine(shared), folder, due, python)
 
 
 def misfit(shared, name):
