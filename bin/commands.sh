@@ -7,8 +7,8 @@ print_synopses() {
     cat <<'END'
     mkstrike make --ppem N --chars LIST [--name NAME] [--property KEY=VALUE]... [--x11] [--refused WHAT] [--missing] [--unhinted]
                   [--dropout] [--face N] [--hex] [FONT] [-o FILE]
-    mkstrike show --ppem N --char HEX|--glyph G [--unhinted] [--dropout] [--face N] [--hex] [FONT] [-o FILE]
-    mkstrike outline --ppem N --char HEX|--glyph G [--unhinted] [--face N] [--hex] [FONT] [-o FILE]
+    mkstrike show --ppem N --char HEX | --glyph G [--unhinted] [--dropout] [--face N] [--hex] [FONT] [-o FILE]
+    mkstrike outline --ppem N --char HEX | --glyph G [--unhinted] [--face N] [--hex] [FONT] [-o FILE]
     mkstrike dump --of WHAT [--face N] [--hex] [FONT] [-o FILE]
     mkstrike explain ARGUMENT...
 END
@@ -43,7 +43,7 @@ help_show() {
     cat <<'END'
 mkstrike show writes the picture of one glyph.
 
-    mkstrike show --ppem N --char HEX|--glyph G [OPTION].. [FONT] [-o FILE]
+    mkstrike show --ppem N --char HEX | --glyph G [OPTION].. [FONT] [-o FILE]
 
       --ppem N      the size in pixels per em, 1 to 1024
       --char HEX    the glyph of a character, one hexadecimal number; the letter A is 41
@@ -63,7 +63,7 @@ help_outline() {
     cat <<'END'
 mkstrike outline writes the outline of one glyph, which its bits are of.
 
-    mkstrike outline --ppem N --char HEX|--glyph G [OPTION].. [FONT] [-o FILE]
+    mkstrike outline --ppem N --char HEX | --glyph G [OPTION].. [FONT] [-o FILE]
 
       --ppem N      the size in pixels per em, 1 to 1024
       --char HEX    the glyph of a character, one hexadecimal number; the letter A is 41
