@@ -8,8 +8,10 @@ ghost use Rattle.fx_cache.specs.Limits.{max_words};
 use crate::put::put_words;
 use crate::take::take_words;
 use fx_hint::GlyphOutline;
+use fx_outline::Outline;
 use std::alloc::Global;
 use std::marker::Model;
+use std::mem;
 
 /// The greatest number of glyphs that a cache asks memory for.
 const MOST_GLYPHS: usize = 4_096;
@@ -38,6 +40,8 @@ impl Model for OutlineCache {
 #[derive(Drop)]
 pub struct CacheReader<'a> {
     left: &'a [u32],
+    /// An outline that is done with, whose buffers the next one takes over.
+    spare: Option<Outline>,
 }
 
 impl<'a> Model for CacheReader<'a> {
@@ -81,7 +85,10 @@ impl OutlineCache {
     pub fn reader(&self) -> CacheReader<'_>
         ensures { result ≡ self.now }
     {
-        CacheReader { left: &self.words }
+        CacheReader {
+            left: &self.words,
+            spare: None,
+        }
     }
 
     /// The law: a cache holds at most 262,144 words, 1 MiB.
@@ -97,7 +104,10 @@ impl<'a> CacheReader<'a> {
     pub fn empty() -> CacheReader<'a>
         ensures { (due : ℕ → Result GlyphOutlineView HintFault) → AreDue due result }
     {
-        CacheReader { left: &[] }
+        CacheReader {
+            left: &[],
+            spare: None,
+        }
     }
 
     /// Takes the next outline if it is of this glyph. None if it is of another glyph, if there is none, or if memory is refused. If
@@ -107,8 +117,19 @@ impl<'a> CacheReader<'a> {
             → IfSome result (λ o. due glyph ≡ Ok (view_of_glyph_outline o)) }
         ensures left { (due : ℕ → Result GlyphOutlineView HintFault) → AreDue due self.old → AreDue due self.new }
     {
-        let (made, after) = take_words(self.left, alloc, glyph)?;
+        let (points, ends) = match mem::replace(&mut self.spare, None) {
+            Some(outline) => (outline.points, outline.ends),
+            None => (Vec::new(alloc), Vec::new(alloc)),
+        };
+        let (made, after) = take_words(self.left, points, ends, glyph)?;
         self.left = after;
         Some(made)
+    }
+
+    /// Takes an outline that is done with, so that the next one is put into its buffers.
+    pub fn give_back(&mut self, outline: Outline)
+        ensures { self.new ≡ self.old }
+    {
+        self.spare = Some(outline);
     }
 }

@@ -8,14 +8,14 @@ use crate::words::{ends_of, points_of};
 use fx_fixed::F26;
 use fx_hint::GlyphOutline;
 use fx_machine::Usage;
-use fx_outline::{MAX_POINTS, Outline};
-use std::alloc::Global;
+use fx_outline::{MAX_POINTS, Outline, OutlinePoint};
 
 /// The outline of this glyph that the words begin with, and the words after it. None if they begin with another glyph's outline or
-/// with no outline, or if memory is refused.
+/// with no outline, or if memory is refused. It is put into the buffers of another outline's points and ends, which are lost.
 pub(crate) fn take_words<'a>(
     words: &'a [u32],
-    alloc: Global,
+    points: Vec<OutlinePoint>,
+    ends: Vec<u16>,
     glyph: u16,
 ) -> Option<(GlyphOutline, &'a [u32])>
     ensures { IfSome result (λ r. IsTaken words.now glyph (view_of_glyph_outline r.0) r.1.now) }
@@ -27,11 +27,11 @@ pub(crate) fn take_words<'a>(
     if count > MAX_POINTS {
         return None;
     }
-    let (ends, after) = words[HEAD..].split_at_checked(words[1] as usize)?;
-    let (points, after) = after.split_at_checked(count as usize)?;
+    let (end_words, after) = words[HEAD..].split_at_checked(words[1] as usize)?;
+    let (point_words, after) = after.split_at_checked(count as usize)?;
     let outline = Outline {
-        points: points_of(alloc, points)?,
-        ends: ends_of(alloc, ends, count)?,
+        points: points_of(points, point_words)?,
+        ends: ends_of(ends, end_words, count)?,
     };
     let made = GlyphOutline {
         outline,

@@ -6,7 +6,6 @@ ghost use Rattle.fx_cache.specs.Words.{fits, point_word, point_of};
 
 use fx_fixed::F26;
 use fx_outline::OutlinePoint;
-use std::alloc::Global;
 
 /// Whether a point has a word: x within 512 pixels of the origin and y within 256, in 26.6.
 fn fits(point: &OutlinePoint) -> bool
@@ -38,11 +37,16 @@ fn point_of(word: u32) -> OutlinePoint
     }
 }
 
-/// Whether each point has a word.
+/// Whether each point has a word. It looks at all points, also after one that has none, so that a compiler tests several at once.
 pub(crate) fn all_fit(points: &[OutlinePoint]) -> bool
     ensures { result ≡ list_all fits points.now }
 {
-    points.iter().all(fits)
+    let mut all = true;
+    // `all` says whether each point so far has a word.
+    'points: for point in points {
+        all = all & fits(point);
+    }
+    all
 }
 
 /// Adds the words of points.
@@ -72,11 +76,13 @@ pub(crate) fn push_ends(words: &mut Vec<u32>, ends: &[u16])
     }
 }
 
-/// The points of these words. None if memory is refused.
-pub(crate) fn points_of(alloc: Global, words: &[u32]) -> Option<Vec<OutlinePoint>>
+/// The points of these words, in a buffer whose points are lost. None if memory is refused.
+pub(crate) fn points_of(buffer: Vec<OutlinePoint>, words: &[u32]) -> Option<Vec<OutlinePoint>>
     ensures { IfSome result (λ v. v.items ≡ map point_of words.now) }
 {
-    let mut points = Vec::with_capacity(alloc, words.len()).ok()?;
+    let mut points = buffer;
+    points.clear();
+    points.reserve(words.len()).ok()?;
     // The points of the words so far are there, and there is room for the others.
     'words: for word in words {
         points.push_reserved(point_of(*word));
@@ -85,12 +91,14 @@ pub(crate) fn points_of(alloc: Global, words: &[u32]) -> Option<Vec<OutlinePoint
 }
 
 /// The numbers of the contours' last points, which end with the last of this number of points. None if the words are no such
-/// numbers, or if memory is refused.
-pub(crate) fn ends_of(alloc: Global, words: &[u32], count: u32) -> Option<Vec<u16>>
+/// numbers, or if memory is refused. They are put into a buffer whose numbers are lost.
+pub(crate) fn ends_of(buffer: Vec<u16>, words: &[u32], count: u32) -> Option<Vec<u16>>
     ensures same { IfSome result (λ v. v.items ≡ words.now) }
     ensures ends { IfSome result (λ v. AreEnds 0 v.items count) }
 {
-    let mut ends = Vec::with_capacity(alloc, words.len()).ok()?;
+    let mut ends = buffer;
+    ends.clear();
+    ends.reserve(words.len()).ok()?;
     let mut next = 0u32;
     // The ends so far are those of contours with `next` points, and there is room for the others.
     'ends: for word in words {

@@ -191,13 +191,14 @@ pub(crate) fn contour(points: &[OutlinePoint], start: usize, next: usize) -> &[O
 }
 
 /// The pieces of an outline whose points are all within the limit, in 1/128 pixel: those of each contour, a closed chain, one
-/// contour after the other. A contour of fewer than two points has none.
-pub fn pieces_in_reach(alloc: Global, outline: &Outline) -> Result<Pieces, AllocError>
+/// contour after the other. A contour of fewer than two points has none. They are put into the buffer of other pieces, which are
+/// lost.
+pub fn pieces_in_reach(buffer: Pieces, outline: &Outline) -> Result<Pieces, AllocError>
     requires reach { All IsInReach outline.now.points.items }
     ensures ok { IfOk result (λ ps. map span_of ps ≡ spans_of outline.now.ends.items outline.now.points.items) }
     ensures closed { IfOk result (λ ps. AreOfOutline (map span_of ps)) }
 {
-    let mut made = Pieces::with_capacity(alloc, outline.points.len())?;
+    let mut made = buffer.emptied(outline.points.len())?;
     let mut start = 0;
     // The pieces of the contours so far were added, and the next one begins at `start`.
     'contours: for end in &outline.ends {
@@ -220,5 +221,5 @@ pub fn pieces(alloc: Global, outline: &Outline) -> Result<Pieces, ContourFault>
     if !are_in_reach(&outline.points) {
         return Err(ContourFault::TooFar);
     }
-    Ok(pieces_in_reach(alloc, outline)?)
+    Ok(pieces_in_reach(Pieces::new(alloc), outline)?)
 }

@@ -10,12 +10,14 @@ mod bits;
 pub mod laws;
 mod region;
 mod rule;
+mod scratch;
 mod shape;
 mod within;
 
 pub use fx_contour::ContourFault as RasterFault;
 pub use fx_rows::Rows;
-pub use fx_winding::{Bitmap, Scan, Scratch};
+pub use fx_winding::{Bitmap, Scan};
 pub use region::Region;
 pub use rule::Rule;
+pub use scratch::Scratch;
 pub use shape::Shape;

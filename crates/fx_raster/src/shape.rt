@@ -11,12 +11,14 @@ use crate::RasterFault;
 use crate::bits::bitmap_of;
 use crate::region::Region;
 use crate::rule::Rule;
+use crate::scratch::Scratch;
 use crate::within::lies_in;
 use fx_contour::{dropout_frame, outline_frame, pieces_in_reach};
 use fx_outline::Outline;
-use fx_winding::{Bitmap, Frame, Scan, Scratch};
+use fx_winding::{Bitmap, Frame, Pieces, Scan};
 use std::alloc::{AllocError, Global};
 use std::marker::Model;
+use std::mem;
 
 /// An outline within the limits, with the rule by which it sets pixels. Contracts see the rule and the pieces of the outline.
 #[derive(Drop)]
@@ -87,7 +89,24 @@ impl Shape {
         ensures { IfOk result (λ b.
             (col row : ℤ) → IsTrue (bit_of b col row) ↔ IsPixelSet self.now.rule self.now.spans col row) }
     {
-        let pieces = pieces_in_reach(alloc, &self.outline)?;
-        bitmap_of(alloc, scan, &pieces, self.rule, self.frame, scratch)
+        let buffer = mem::replace(&mut scratch.pieces, Pieces::new(alloc));
+        let pieces = pieces_in_reach(buffer, &self.outline)?;
+        let bitmap = bitmap_of(
+            alloc,
+            scan,
+            &pieces,
+            self.rule,
+            self.frame,
+            &mut scratch.scan,
+        )?;
+        scratch.pieces = pieces;
+        Ok(bitmap)
+    }
+
+    /// The outline of a shape, whose buffers can hold another outline.
+    pub fn into_outline(self) -> Outline
+        ensures { spans_of result.ends.items result.points.items ≡ self.spans }
+    {
+        self.outline
     }
 }

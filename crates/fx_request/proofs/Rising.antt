@@ -4,7 +4,7 @@ use Rattle.std.proofs.Common.{◌≡◌, ◌⊎◌, inl, inr, refl, sym, ap, ◌
 use Rattle.std.proofs.Common.{◌∷◌, length}
 use Rattle.std.specs.Prelude.{◌||◌}
 use Rattle.std.specs.List.{dedup, list_any}
-use Rattle.std.specs.List.Sorted.{IsPermutation, IsSorted}
+use Rattle.std.specs.List.Sorted.{IsPermutation, IsSorted, IsStrictlyIncreasing}
 use Rattle.std.specs.Ordering.{nat_cmp}
 use Rattle.std.proofs.lemmas.Bool.Decides.{nat_tests}
 use Rattle.std.proofs.lemmas.List.Kept.{Contains-dedup_nat, Contains-from_dedup}
@@ -122,6 +122,11 @@ sorted_is_rising chars sorted codes p s e =
         λ h. Contains-dedup_nat sorted c (Contains-permutation chars sorted c p h),
       );
     }) (rising_are_risen chars)
+
+-- rising from the start
+pub risen_is_rising : (chars : List ℕ) → IsStrictlyIncreasing chars → chars ≡ rising chars
+risen_is_rising chars h =
+    risen_is_one chars chars (rising chars) (record { rise = h; same = λ c. (λ x. x, λ x. x) }) (rising_are_risen chars)
 
 -- no more than the request has
 pub length_rising : (chars : List ℕ) → length (rising chars) ≤ length chars

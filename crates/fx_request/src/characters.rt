@@ -1,7 +1,7 @@
 //! The characters of a request.
-ghost use Rattle.std.specs.Prelude.{◌≡◌, nat_eq, IfOk};
+ghost use Rattle.std.specs.Prelude.{◌≡◌, nat_eq, IsTrue, IfOk};
 ghost use Rattle.std.specs.List.{dedup};
-ghost use Rattle.std.specs.List.Sorted.{IsPermutation, IsSorted};
+ghost use Rattle.std.specs.List.Sorted.{IsPermutation, IsSorted, IsStrictlyIncreasing};
 ghost use Rattle.std.specs.Ordering.{nat_cmp};
 ghost use Rattle.fx_request.specs.Characters.{rising};
 
@@ -26,9 +26,26 @@ fn each_once(codes: Vec<u32>) -> Vec<u32>
     codes
 }
 
+/// Whether each code point is above the one before it. Those of ranges are, and need not be sorted.
+fn is_rising(chars: &[u32]) -> bool
+    ensures { IsTrue result → IsStrictlyIncreasing chars.now }
+{
+    // The code points before this one rise.
+    'codes: for k in 1..chars.len() {
+        if chars[k] <= chars[k - 1] {
+            return false;
+        }
+    }
+    true
+}
+
 /// The code points in rising order, each once.
 pub fn rising_codes(alloc: Global, chars: &[u32]) -> Result<Vec<u32>, AllocError>
     ensures { IfOk result (λ v. v.items ≡ rising chars.now) }
 {
+    if is_rising(chars) {
+        let codes = Vec::from_slice(alloc, chars)?;
+        return Ok(codes);
+    }
     Ok(each_once(sorted(alloc, chars)?))
 }
