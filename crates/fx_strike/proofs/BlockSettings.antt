@@ -15,7 +15,8 @@ use Rattle.fx_request.specs.Faults.{of_machine}
 use Rattle.fx_request.specs.declared.request.Mode.{Mode}
 use Rattle.fx_request.specs.declared.refusal.Refusal.{Refusal}
 use Rattle.fx_strike.specs.declared.opened.Opened.{Opened}
-use Rattle.fx_strike.specs.Strike.{Setting, machine_for, setting_with, setting_in, setting_of, opened_at, rule_of}
+use Rattle.fx_strike.specs.Strike.{Setting, machine_for, opened_at, opened_many_of, rule_of, setting_for, setting_in, setting_of}
+use Rattle.fx_strike.specs.Strike.{setting_with}
 use Rattle.fx_strike.specs.Blocks.{IsBlockFor}
 
 -- ---- the machine
@@ -68,6 +69,22 @@ on_is face ppem hinting block machine made h e b t =
     let taken = t r.known of.0 of.1 (rw r.machine_is at b) in
     is_taken made r.known taken ∙ ap Some (sym r.machine_is)
 
+-- with hinting on there is one, of this font
+pub record IsKnown (face : Face) (block : List ℕ) : Type 0 where
+  pub known : Known
+  pub face_is : known.face ≡ face
+  pub of_known : IsBlockOf known block
+
+pub known_is : (face : Face) (ppem : ℕ) (block : List ℕ) (machine : Option Known) → machine_for face ppem true ≡ Ok machine
+    → IsBlockFor machine block → IsKnown face block
+unfolding machine_for
+known_is face ppem block machine e b =
+    let r = run_is (machine_of face ppem) machine e in record {
+      known = r.known;
+      face_is = (machine_is_of face ppem r.known r.run).0;
+      of_known = rw r.machine_is at b;
+    }
+
 pub on_none : (machine : Option Known) (made : Option MachineView) → made ≡ None
     → option_map (λ m. Some m.known) made ≡ Some machine → None ≡ Some machine
 on_none machine made n h = rw n at h
@@ -94,11 +111,21 @@ parts o rule (Ok m) s e =
     record { machine = ap Ok j; setting = ap (setting_with o rule) (sym j) ∙ k }
 parts o rule (Err d) s e = cc
 
-pub setting_parts : (file : FontFileView) (ppem : ℕ) (mode : Mode) (o : Opened) (s : Setting) → Ok o ≡ opened_at file ppem
-    → setting_of file ppem mode ≡ Ok s → IsSet o (rule_of mode.dropout) (machine_for o.font o.ppem mode.hinting) s
-unfolding setting_of setting_in
-setting_parts file ppem mode o s h e =
-    parts o (rule_of mode.dropout) (machine_for o.font o.ppem mode.hinting) s (rw (sym h) at e)
+pub setting_parts : (o : Opened) (mode : Mode) (s : Setting) → setting_in o mode ≡ Ok s
+    → IsSet o (rule_of mode.dropout) (machine_for o.font o.ppem mode.hinting) s
+unfolding setting_in
+setting_parts o mode s e = parts o (rule_of mode.dropout) (machine_for o.font o.ppem mode.hinting) s e
+
+-- the setting of a font file is that of the opened font
+pub of_opened : (file : FontFileView) (ppem : ℕ) (mode : Mode) (o : Opened) (s : Setting) → Ok o ≡ opened_at file ppem
+    → setting_of file ppem mode ≡ Ok s → setting_in o mode ≡ Ok s
+unfolding setting_of
+of_opened file ppem mode o s h e = rw (sym h) at e
+
+pub for_opened : (file : FontFileView) (ppem : ℕ) (chars : List ℕ) (mode : Mode) (o : Opened) (s : Setting)
+    → Ok o ≡ opened_many_of file ppem chars → setting_for file ppem chars mode ≡ Ok s → setting_in o mode ≡ Ok s
+unfolding setting_for
+for_opened file ppem chars mode o s h e = rw (sym h) at e
 
 pub set_as : (o : Opened) (dropout : Bool) (rule : Rule) (hinter : Option Known) (s : Setting) → rule ≡ rule_of dropout
     → hinter ≡ s.machine → setting_with o (rule_of dropout) s.machine ≡ s → setting_with o rule hinter ≡ s

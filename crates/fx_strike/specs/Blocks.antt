@@ -1,7 +1,9 @@
 -- Blocks of opened fonts.
-use Rattle.std.specs.Prelude.{List, ℕ, Bool, true, Option, Some, None}
+use Rattle.std.specs.Prelude.{◌≡◌, List, ℕ, Bool, true, Option, Some, None}
+use Rattle.fx_sfnt.specs.Tables.{Face}
 use Rattle.fx_machine.specs.Known.{Known}
-use Rattle.fx_machine.specs.Blocks.{IsBlockOf, has_words}
+use Rattle.fx_machine.specs.Blocks.{IsBlockOf, checksum_of, has_words}
+use Rattle.fx_strike.specs.declared.opened.Opened.{Opened}
 use Rattle.fx_strike.specs.Strike.{Setting}
 
 -- words are a block of what a machine knows; any words are one with hinting off
@@ -17,3 +19,11 @@ IsBlockIn setting block = IsBlockFor setting.machine block
 abbrev pub has_block : Option Known → Bool
 has_block None = true
 has_block (Some known) = has_words known.prepared
+
+-- what is known is of this size, and of a font with this checksum
+abbrev pub IsOwn : Known → Face → ℕ → Type 0
+IsOwn known face ppem = (known.ppem ≡ ppem) × (checksum_of known.face ≡ checksum_of face)
+
+-- the size, the font and its character map of a setting
+abbrev pub opened_in : Setting → Opened
+opened_in setting = record { ppem = setting.ppem; font = setting.font; map = setting.map }

@@ -1,14 +1,16 @@
 //! Blocks: a font that was opened at a size, as words, so that no program runs when it is opened again.
-ghost use Rattle.std.specs.Prelude.{◌≡◌, Option, Ok, Some, IfOk, IfErr, IfSome, IsErrOf, is_some};
+ghost use Rattle.std.specs.Prelude.{◌≡◌, Option, Ok, Some, true, IfOk, IfErr, IfSome, IsSome, IsErrOf, OnOk, is_some};
 ghost use Rattle.fx_machine.specs.Known.{Known};
+ghost use Rattle.fx_machine.specs.Blocks.{IsBlockOf};
 ghost use Rattle.fx_request.specs.Faults.{of_machine};
 ghost use Rattle.fx_strike.specs.Faults.{Fails};
-ghost use Rattle.fx_strike.specs.Blocks.{IsBlockFor, IsBlockIn, has_block};
-ghost use Rattle.fx_strike.specs.Strike.{Setting, machine_for, setting_in, setting_of, opened_at};
+ghost use Rattle.fx_strike.specs.Blocks.{IsBlockFor, IsBlockIn, IsOwn, has_block, opened_in};
+ghost use Rattle.fx_strike.specs.Strike.{Setting, checked_chars, machine_for, setting_for, setting_in, setting_of};
+ghost use Rattle.fx_strike.specs.Strike.{opened_at, opened_many_of};
 ghost use Rattle.fx_strike.specs.Headline.{Late};
 
 use crate::hinter::{FontHinter, keeping};
-use crate::open::open_at;
+use crate::open::{open_at, open_many};
 use crate::opened::Opened;
 use crate::striker::{Striker, rule_of};
 use crate::tools::Tools;
@@ -27,8 +29,10 @@ fn hinter_in<'a>(
     hinting: bool,
     block: &[u32],
 ) -> Result<Option<FontHinter<'a>>, AllocError>
-    ensures { IfOk result (λ made. (machine : Option Known) → machine_for opened.now.font opened.now.ppem hinting ≡ Ok machine
+    ensures taken { IfOk result (λ made. (machine : Option Known) → machine_for opened.now.font opened.now.ppem hinting ≡ Ok machine
         → IsBlockFor machine block.now → made ≡ Some machine) }
+    ensures own { IfOk result (λ made. (known : Known) → IsBlockOf known block.now → hinting ≡ true → IsSome made
+        → IsOwn known opened.now.font opened.now.ppem) }
 {
     if !hinting {
         return Ok(Some(FontHinter::none(alloc)));
@@ -43,20 +47,19 @@ fn hinter_in<'a>(
     }))
 }
 
-/// `Striker::of_block`.
-fn of_block_inner<'a>(
+/// The striker of an opened font, its hinter read from a block.
+fn striker_in<'a>(
     alloc: Global,
-    font: &FontFile<'a>,
-    ppem: u16,
+    opened: Opened<'a>,
     mode: Mode,
     block: &[u32],
-) -> Result<Option<Striker<'a, Rows>>, Refusal>
-    ensures setting { IfOk result (λ made. (s : Setting) → setting_of font.now ppem mode ≡ Ok s → IsBlockIn s block.now
+) -> Result<Option<Striker<'a, Rows>>, AllocError>
+    ensures setting { IfOk result (λ made. (s : Setting) → setting_in opened.entry mode ≡ Ok s → IsBlockIn s block.now
         → made ≡ Some s) }
-    ensures cause { IfErr result (λ refusal. Fails refusal (opened_at font.now ppem)) }
-    ensures late { IsErrOf result Refusal.OutOfMemory → Late (opened_at font.now ppem) }
+    ensures opened { IfOk result (λ made. IfSome made (λ s. opened_in s ≡ opened.entry)) }
+    ensures own { IfOk result (λ made. (known : Known) → IsBlockOf known block.now → mode.hinting ≡ true → IsSome made
+        → IsOwn known opened.entry.font opened.entry.ppem) }
 {
-    let opened = open_at(font, ppem)?;
     let Some(hinter) = hinter_in(alloc, &opened, mode.hinting, block)? else {
         return Ok(None);
     };
@@ -67,6 +70,48 @@ fn of_block_inner<'a>(
         rule: rule_of(mode.dropout),
     };
     Ok(Some(Striker { tools, hinter }))
+}
+
+/// `Striker::of_block`.
+fn of_block_inner<'a>(
+    alloc: Global,
+    font: &FontFile<'a>,
+    ppem: u16,
+    mode: Mode,
+    block: &[u32],
+) -> Result<Option<Striker<'a, Rows>>, Refusal>
+    ensures setting { IfOk result (λ made. (s : Setting) → setting_of font.now ppem mode ≡ Ok s → IsBlockIn s block.now
+        → made ≡ Some s) }
+    ensures opened { IfOk result (λ made. IfSome made (λ s. opened_at font.now ppem ≡ Ok (opened_in s))) }
+    ensures own { IfOk result (λ made. IfSome made (λ s. (known : Known) → IsBlockOf known block.now → mode.hinting ≡ true
+        → IsOwn known s.font s.ppem)) }
+    ensures cause { IfErr result (λ refusal. Fails refusal (opened_at font.now ppem)) }
+    ensures late { IsErrOf result Refusal.OutOfMemory → Late (opened_at font.now ppem) }
+{
+    let opened = open_at(font, ppem)?;
+    Ok(striker_in(alloc, opened, mode, block)?)
+}
+
+/// `Striker::of_block_for`.
+fn of_block_for_inner<'a>(
+    alloc: Global,
+    font: &FontFile<'a>,
+    ppem: u16,
+    chars: &[u32],
+    mode: Mode,
+    block: &[u32],
+) -> Result<Option<Striker<'a, Rows>>, Refusal>
+    ensures setting { IfOk result (λ made. (s : Setting) → setting_for font.now ppem chars.now mode ≡ Ok s
+        → IsBlockIn s block.now → made ≡ Some s) }
+    ensures chars { OnOk result (Ok tt ≡ checked_chars chars.now) }
+    ensures opened { IfOk result (λ made. IfSome made (λ s. opened_many_of font.now ppem chars.now ≡ Ok (opened_in s))) }
+    ensures own { IfOk result (λ made. IfSome made (λ s. (known : Known) → IsBlockOf known block.now → mode.hinting ≡ true
+        → IsOwn known s.font s.ppem)) }
+    ensures cause { IfErr result (λ refusal. Fails refusal (opened_many_of font.now ppem chars.now)) }
+    ensures late { IsErrOf result Refusal.OutOfMemory → Late (opened_many_of font.now ppem chars.now) }
+{
+    let opened = open_many(font, ppem, chars)?;
+    Ok(striker_in(alloc, opened, mode, block)?)
 }
 
 impl<'a> FontHinter<'a> {
@@ -100,12 +145,46 @@ impl<'a> Striker<'a, Rows> {
         // With a block of the font's setting the striker is in that setting.
         ensures setting { IfOk result (λ made. (s : Setting) → setting_of font.now ppem mode ≡ Ok s → IsBlockIn s block.now
             → made ≡ Some s) }
+        // Whatever the words, the font, its map and the size are these.
+        ensures opened { IfOk result (λ made. IfSome made (λ s. opened_at font.now ppem ≡ Ok (opened_in s))) }
+        // With hinting on, a block of another size or of a font with another checksum is never taken.
+        ensures own { IfOk result (λ made. IfSome made (λ s. (known : Known) → IsBlockOf known block.now → mode.hinting ≡ true
+            → IsOwn known s.font s.ppem)) }
         // The first cause was named, or memory ran out.
         ensures cause { IfErr result (λ refusal. Fails refusal (opened_at font.now ppem)) }
         // The size is valid, and the font and its character map opened.
         ensures late { IsErrOf result Refusal.OutOfMemory → Late (opened_at font.now ppem) }
     {
         of_block_inner(alloc, font, ppem, mode, block)
+    }
+
+    /// Opens a font at a size for characters that are made one by one, as `open_for` does, by a block as `of_block`.
+    ///
+    /// The first cause is returned, in this order: the size, the characters; then as by `of_block`.
+    pub fn of_block_for(
+        alloc: Global,
+        font: &FontFile<'a>,
+        ppem: u16,
+        chars: &[u32],
+        mode: Mode,
+        block: &[u32],
+    ) -> Result<Option<Striker<'a, Rows>>, Refusal>
+        // With a block of the font's setting the striker is in that setting.
+        ensures setting { IfOk result (λ made. (s : Setting) → setting_for font.now ppem chars.now mode ≡ Ok s
+            → IsBlockIn s block.now → made ≡ Some s) }
+        // The characters are within their limits.
+        ensures chars { OnOk result (Ok tt ≡ checked_chars chars.now) }
+        // Whatever the words, the font, its map and the size are these.
+        ensures opened { IfOk result (λ made. IfSome made (λ s. opened_many_of font.now ppem chars.now ≡ Ok (opened_in s))) }
+        // With hinting on, a block of another size or of a font with another checksum is never taken.
+        ensures own { IfOk result (λ made. IfSome made (λ s. (known : Known) → IsBlockOf known block.now → mode.hinting ≡ true
+            → IsOwn known s.font s.ppem)) }
+        // The first cause was named, or memory ran out.
+        ensures cause { IfErr result (λ refusal. Fails refusal (opened_many_of font.now ppem chars.now)) }
+        // The size is valid, the characters are within their limits, and the font and its character map opened.
+        ensures late { IsErrOf result Refusal.OutOfMemory → Late (opened_many_of font.now ppem chars.now) }
+    {
+        of_block_for_inner(alloc, font, ppem, chars, mode, block)
     }
 }
 
