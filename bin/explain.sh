@@ -291,6 +291,7 @@ meant_by() {
         --characters | --unicode | --range | --text | -c) usual='--chars --char' ;;
         --output | --out | --outfile | --file) usual=-o ;;
         --index | --font-index | --fontindex | --number) usual=--face ;;
+        --gid | --glyph-id | --glyphid | --glyph-index) usual=--glyph ;;
         --no-hinting | --nohinting | --no-hint) usual=--unhinted ;;
         *) usual='' ;;
     esac

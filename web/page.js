@@ -117,7 +117,7 @@ function draw() {
   const textChars = charsOfText($('text').value).slice(0, MOST_TEXT);
   $('saved').textContent = '';
   state.started = performance.now();
-  state.next = { id: ++state.jobs, glyphs: [], refused: new Map(), missing: 0 };
+  state.next = { id: ++state.jobs, look: look.main, glyphs: [], refused: new Map(), missing: 0 };
   state.worker.postMessage({ kind: 'draw', id: state.jobs, ...look, textChars, chars });
   busy(wantsAll() && !state.font.chars ? 'looking which characters the font has' : 'drawing');
 }
@@ -189,7 +189,7 @@ const receive = {
   },
 
   outline(data) {
-    if (data.id !== state.jobs) return;
+    if (data.id !== state.sheet.id) return;
     state.outline = data;
     drawGlyph();
     document.body.dataset.outline = `${data.id} ${data.code}`;
@@ -477,10 +477,9 @@ function choose(at) {
 
 // The outline of the chosen glyph, if the worker has told it; else it is asked.
 function outlineOf({ code }) {
-  const { outline, jobs } = state;
-  if (outline?.id === jobs && outline.code === code) return outline.points ? outline : null;
-  const look = looks();
-  if (look) state.worker.postMessage({ kind: 'outline', id: jobs, main: look.main, code });
+  const { outline, sheet: { id, look } } = state;
+  if (outline?.id === id && outline.code === code) return outline.points ? outline : null;
+  if (look) state.worker.postMessage({ kind: 'outline', id, main: look, code });
   return null;
 }
 

@@ -79,7 +79,10 @@ const OUTLINES: [(&str, End<'static>); 18] = [
         "mkstrike|show|--hex|--ppem|16|--glyph|0|--dropout",
         (0, b"empty\n", b""),
     ),
-    ("mkstrike|show|--hex|--ppem|16|--glyph|4|--unhinted", NO_GLYPH),
+    (
+        "mkstrike|show|--hex|--ppem|16|--glyph|4|--unhinted",
+        NO_GLYPH,
+    ),
     (
         "mkstrike|outline|--ppem|16|--glyph|0",
         (1, b"", b"mkstrike: 10 NotTrueType\n"),

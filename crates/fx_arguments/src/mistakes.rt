@@ -274,11 +274,7 @@ fn shown_checked(alloc: Global, matches: &ArgMatches<'_>) -> Result<(), Said>
 }
 
 /// A glyph that is chosen by a character or by its number.
-fn choice_checked(
-    alloc: Global,
-    character: Option<&str>,
-    glyph: Option<&str>,
-) -> Result<(), Said>
+fn choice_checked(alloc: Global, character: Option<&str>, glyph: Option<&str>) -> Result<(), Said>
     ensures { SaysUnless (λ u. u) result (choice_checked (option_map (λ text. text.now) character.entry)
         (option_map (λ text. text.now) glyph.entry)) }
 {

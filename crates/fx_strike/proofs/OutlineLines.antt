@@ -8,7 +8,7 @@ use Rattle.std.proofs.lemmas.Bool.{cases_lt, lt-ltb, le-ltb}
 use Rattle.std.proofs.lemmas.List.Sums.{length-filter}
 use Rattle.fx_outline.specs.Ends.{AreEnds}
 use Rattle.fx_outline.specs.declared.points.OutlinePoint.{OutlinePoint}
-use Rattle.fx_strike.specs.Outlined.{contour_at, curve_word, point_line, point_lines}
+use Rattle.fx_strike.specs.Outlines.{contour_at, curve_word, point_line, point_lines}
 
 -- ---- the contour of a point
 
@@ -106,7 +106,22 @@ line_short contour number p a b w x y ea eb ew ex ey la lb lw lx ly =
     let one = length-append (decimal contour) (32 ∷ (decimal number ++
     (curve_word p.on_curve ++ (signed_decimal p.x ++ (32 ∷ (signed_decimal p.y ++ 10 ∷ [])))))) in
     omega (
-      arith, one, two, three, four, five, ap length ea, ap length eb, ap length ew, ap length ex, ap length ey, la, lb, lw, lx, ly,
+      arith,
+      one,
+      two,
+      three,
+      four,
+      five,
+      ap length ea,
+      ap length eb,
+      ap length ew,
+      ap length ex,
+      ap length ey,
+      la,
+      lb,
+      lw,
+      lx,
+      ly,
     )
 
 -- the line of a point, with those before and after it

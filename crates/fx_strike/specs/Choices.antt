@@ -1,5 +1,5 @@
 -- One glyph of a font, chosen by a character or by its number.
-use Rattle.std.specs.Prelude.{ℕ, ◌==◌, if◌then◌else◌, List, [], ◌∷◌, Option, Some, None, Result, Ok}
+use Rattle.std.specs.Prelude.{ℕ, ◌==◌, if◌then◌else◌, [], ◌∷◌, Option, Some, None, Result, Ok}
 use Rattle.fx_fixed.specs.Chain.{map_ok}
 use Rattle.fx_sfnt.specs.Collections.{FontFileView}
 use Rattle.fx_cmap.specs.Lookup.{glyph_for}

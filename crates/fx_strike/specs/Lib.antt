@@ -3,7 +3,7 @@ pub mod Title
 pub mod Strike
 pub mod Numbers
 pub mod Choices
-pub mod Outlined
+pub mod Outlines
 pub mod Headline
 pub mod Blocks
 pub mod Listings

@@ -18,7 +18,7 @@
 #![tactic(auto)]
 
 mod block;
-mod chosen;
+mod choices;
 mod draft;
 mod draw;
 mod fate;
@@ -35,7 +35,7 @@ mod one_character;
 mod open;
 mod opened;
 mod outline_text;
-mod outlined;
+mod outlines;
 mod second_pass;
 mod seen;
 mod sketch;
@@ -46,13 +46,13 @@ mod surveyed;
 mod surveying;
 mod tools;
 
-pub use chosen::chosen;
+pub use choices::chosen;
 pub use fx_bdf::Title;
 pub use listing::listing_of;
 pub use make::{make_strike, make_strike_telling, make_strike_with};
 pub use numbers::{FontMetrics, font_metrics, map_for};
 pub use one_character::one;
-pub use outlined::{outline_numbered, outlined, write_outline};
+pub use outlines::{outline_numbered, outlined, write_outline};
 pub use striker::Striker;
 pub use surveyed::Survey;
 pub use surveying::survey;

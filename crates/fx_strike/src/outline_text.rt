@@ -6,7 +6,7 @@ ghost use Rattle.fx_fixed.specs.Texts.{Adds, Fails, length_of};
 ghost use Rattle.fx_fixed.specs.Wrote.{Wrote};
 ghost use Rattle.fx_hint.specs.Outlines.{view_of_glyph_outline};
 ghost use Rattle.fx_outline.specs.Ends.{AreEnds};
-ghost use Rattle.fx_strike.specs.Outlined.{advance_line, contour_at, curve_word, outline_text, point_line, point_lines};
+ghost use Rattle.fx_strike.specs.Outlines.{advance_line, contour_at, curve_word, outline_text, point_line, point_lines};
 ghost use Rattle.fx_strike.specs.inner.Lengths.{longest_outline};
 
 use fx_fixed::{Digits, F26, Sink, TextWriter, WriteFailed};

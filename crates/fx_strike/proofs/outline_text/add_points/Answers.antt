@@ -2,7 +2,7 @@ use Rattle.std.proofs.Common.{◌<◌, ◌+◌, ◌*◌, sym, ap, arith, length,
 use Rattle.std.proofs.lemmas.Result.{err_from_is_err_and}
 use Rattle.fx_fixed.specs.Texts.{length_of}
 use Rattle.fx_fixed.proofs.Texts.{adds_nothing, adds_out, adds_short, adds_stopped, adds_text, adds_then}
-use Rattle.fx_strike.specs.Outlined.{point_line, point_lines}
+use Rattle.fx_strike.specs.Outlines.{point_line, point_lines}
 use Rattle.fx_strike.proofs.OutlineLines.{contour_on, lines_more, lines_split}
 use Rattle.fx_strike.proofs.outline_text.add_points.Goals as goal
 
@@ -23,9 +23,14 @@ returns-in_err-add_point-clause-short g c =
     let high : c.points.i < length c.args.points.now = omega (arith, c.points-test.true) in
     adds_short (length_of c.args.text.now + 88 * length c.args.points.now)
     (adds_out (adds_then c.points.invariant.added c.in_err-add_point.ensures.text) p.1 p.2)
-    (omega (arith, high, c.points.invariant.few, c.add_point.ensures.short,
-    length-append (point_lines c.args.ends.now 0 (take c.points.i c.args.points.now))
-    (point_line c.contour_of-contour.result c.points.i c.index-points-i.result)))
+    (omega (
+      arith,
+      high,
+      c.points.invariant.few,
+      c.add_point.ensures.short,
+      length-append (point_lines c.args.ends.now 0 (take c.points.i c.args.points.now))
+          (point_line c.contour_of-contour.result c.points.i c.index-points-i.result),
+    ))
 
 pub points-preserved : goal.points-preserved
 points-preserved g c =
@@ -35,11 +40,11 @@ points-preserved g c =
       contour = contour_on c.points.i c.contour_of-contour.result c.args.ends.now c.contour_of-contour.ensures;
       added = adds_text more (adds_then c.points.invariant.added c.in_ok-add_point.ensures.text);
       few = omega (
-          arith,
-          c.points.invariant.few,
-          c.add_point.ensures.short,
-          ap length more,
-          length-append (point_lines c.args.ends.now 0 (take c.points.i c.args.points.now))
-              (point_line c.contour_of-contour.result c.points.i c.index-points-i.result),
-        );
+        arith,
+        c.points.invariant.few,
+        c.add_point.ensures.short,
+        ap length more,
+        length-append (point_lines c.args.ends.now 0 (take c.points.i c.args.points.now))
+            (point_line c.contour_of-contour.result c.points.i c.index-points-i.result),
+      );
     }

@@ -1,6 +1,6 @@
 use Rattle.std.proofs.Common.{◌*◌, ◌≤◌, length, take, Ok}
 use Rattle.fx_fixed.specs.Texts.{Adds, Fails}
-use Rattle.fx_strike.specs.Outlined.{contour_at, point_lines}
+use Rattle.fx_strike.specs.Outlines.{contour_at, point_lines}
 use Rattle.fx_strike.proofs.outline_text.add_points.Given as goal
 
 -- the lines of the points before i were added, and at least as many contours end before it

@@ -1,5 +1,5 @@
 use Rattle.std.proofs.Common.{◌≤◌, ◌-◌, length}
-use Rattle.fx_strike.specs.Outlined.{contour_at}
+use Rattle.fx_strike.specs.Outlines.{contour_at}
 use Rattle.fx_strike.proofs.outline_text.contour_of.Given as goal
 
 -- the contours before this one end before the point

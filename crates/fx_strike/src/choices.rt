@@ -13,6 +13,7 @@ use crate::opened::Opened;
 use crate::striker::Striker;
 use fx_bdf::BitGlyph;
 use fx_cmap::CharMap;
+use fx_raster::Rows;
 use fx_request::{Choice, Mode, Refusal};
 use fx_sfnt::FontFile;
 use std::alloc::Global;
@@ -57,7 +58,8 @@ fn numbered_one(
     ensures drawn { Draws (numbered_of font.now ppem glyph mode) result }
     ensures late { IsErrOf result Refusal.OutOfMemory → Late (opened_at font.now ppem) }
 {
-    let mut striker = Striker::open(alloc, font, ppem, mode)?;
+    let opened = open_at(font, ppem)?;
+    let mut striker = Striker::of(alloc, &Rows, opened, mode)?;
     striker.numbered(glyph)
 }
 

@@ -5,7 +5,7 @@ ghost use Rattle.fx_sfnt.specs.Collections.{face_in};
 ghost use Rattle.fx_strike.specs.Strike.{opened_at};
 ghost use Rattle.mkstrike_c.specs.Drawn.{HasFront};
 ghost use Rattle.mkstrike_c.specs.Modes.{is_mode, mode_of};
-ghost use Rattle.mkstrike_c.specs.Outlined.{IsOutlined, outline_by_id, outlined_of, point_of};
+ghost use Rattle.mkstrike_c.specs.Outlines.{IsOutlined, outline_by_id, outlined_of, point_of};
 ghost use Rattle.mkstrike_c.specs.Refused.{IsReason, IsRefused};
 
 use crate::buffer::put_front;
@@ -42,13 +42,13 @@ pub struct Outlined {
 }
 
 /// A point for C.
-fn point_of(point: Point) -> OutlinePoint
-    ensures { result ≡ point_of point }
+fn point_of(point: &Point) -> OutlinePoint
+    ensures { result ≡ point_of point.now }
 {
     OutlinePoint {
         x: point.x.0,
         y: point.y.0,
-        on_curve: u32::from(point.on_curve),
+        on_curve: if point.on_curve { 1 } else { 0 },
     }
 }
 
@@ -59,7 +59,7 @@ fn put_points(points: &[Point], buffer: &mut [OutlinePoint])
     let n = points.len().min(buffer.len());
     // The points before i are in their places.
     'points: for i in 0..n {
-        buffer[i] = point_of(points[i]);
+        buffer[i] = point_of(&points[i]);
     }
 }
 
@@ -119,7 +119,13 @@ pub extern "C" fn mkstrike_outline(
     if !is_mode(mode) {
         return refuse_mode(refused);
     }
-    match outline_by_id(alloc, &FontFile::new(font, face), ppem, glyph, mode_of(mode)) {
+    match outline_by_id(
+        alloc,
+        &FontFile::new(font, face),
+        ppem,
+        glyph,
+        mode_of(mode),
+    ) {
         Ok(outline) => {
             put_points(&outline.outline.points, points);
             put_front(ends, &outline.outline.ends);

@@ -7,12 +7,13 @@ ghost use Rattle.fx_strike.specs.Faults.{Fails};
 ghost use Rattle.fx_strike.specs.Choices.{chosen_glyph, opened_choice_of};
 ghost use Rattle.fx_strike.specs.Headline.{Late};
 ghost use Rattle.fx_strike.specs.Listings.{IsNoFault};
-ghost use Rattle.fx_strike.specs.Outlined.{IsNotOutlined, IsOutlined, IsOutlinedTo, outline_numbered_of, outlined_for};
-ghost use Rattle.fx_strike.specs.Outlined.{outlined_of, outlined_with};
+ghost use Rattle.fx_strike.specs.Outlines.{IsNotOutlined, IsOutlined, IsOutlinedTo, outline_numbered_of, outlined_for};
+ghost use Rattle.fx_strike.specs.Outlines.{outlined_of, outlined_with};
 ghost use Rattle.fx_strike.specs.Strike.{opened_at, setting_with};
 
-use crate::chosen::{chosen_glyph, open_choice};
+use crate::choices::{chosen_glyph, open_choice};
 use crate::hinter::FontHinter;
+use crate::open::open_at;
 use crate::outline_text::put_outline;
 use crate::sketch::outline_made;
 use crate::striker::Striker;
@@ -58,7 +59,7 @@ impl<'a, S: Scan> Striker<'a, S> {
     /// Makes the outline of a glyph by its number: the points that its bits are of, scaled and hinted, and its advance.
     ///
     /// The first cause why it cannot be made is returned, such as `BadGlyphNumber` if the font does not have it, or `OutOfMemory`.
-    /// How far out the points lie and how many pixels the glyph has is not looked at, so `TooFar` and `GlyphTooLarge` are no causes.
+    /// How far out the points lie and how many pixels the glyph has is not looked at: `TooFar` and `GlyphTooLarge` are no causes.
     pub fn outline(&mut self, glyph: u16) -> Result<GlyphOutline, Refusal>
         // It is the outline of that glyph.
         ensures outline { IfOk result (λ o. outlined_with self.old glyph ≡ Ok (view_of_glyph_outline o)) }
@@ -66,6 +67,13 @@ impl<'a, S: Scan> Striker<'a, S> {
         ensures cause { IfErr result (λ refusal. Fails refusal (outlined_with self.old glyph)) }
         // Nothing of it has a part in what is made next.
         ensures kept { self.new ≡ self.old }
+    {
+        self.tools.outlined(&mut self.hinter, glyph)
+    }
+
+    /// `Striker::outline` with its clauses as one.
+    fn outline_due(&mut self, glyph: u16) -> Result<GlyphOutline, Refusal>
+        ensures { GivesUnless Fails view_of_glyph_outline result (outlined_with self.old glyph) }
     {
         self.tools.outlined(&mut self.hinter, glyph)
     }
@@ -115,8 +123,9 @@ pub fn outline_numbered(
     // Memory is taken late: after the size is valid, and the font and its map opened.
     ensures late { IsErrOf result Refusal.OutOfMemory → Late (opened_at font.now ppem) }
 {
-    let mut striker = Striker::open(alloc, font, ppem, mode)?;
-    striker.outline(glyph)
+    let opened = open_at(font, ppem)?;
+    let mut striker = Striker::of(alloc, &Rows, opened, mode)?;
+    striker.outline_due(glyph)
 }
 
 /// Writes the outline of one glyph of a font at a size: a line for each point with the number of its contour, its own number, `on`

@@ -1,6 +1,6 @@
 use Rattle.std.proofs.Common.{◌≡◌, length, map, take, drop}
-use Rattle.mkstrike_c.specs.Outlined.{point_of}
-use Rattle.mkstrike_c.proofs.outlined.put_points.Given as goal
+use Rattle.mkstrike_c.specs.Outlines.{point_of}
+use Rattle.mkstrike_c.proofs.outlines.put_points.Given as goal
 
 -- the points so far are at the front
 abbrev pub invariant-points : goal.invariant-points
