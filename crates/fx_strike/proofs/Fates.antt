@@ -1,5 +1,5 @@
 -- What becomes of characters.
--- Serves `fate_made`, `fate_at`, `fate_refused`, `fate_halted`, `see_fate` and `write_one`.
+-- Serves `fate_refused`, `fate_halted`, `see_fate`, `see_one` and `write_one`.
 use Rattle.std.proofs.Common.{◌≡◌, refl, sym, ap, ◌∙◌, subst, ℕ, Option, None, true, Result, Ok, Err}
 use Rattle.std.specs.Prelude.{IfErr, OnOk}
 use Rattle.fx_machine.specs.Known.{Known}
@@ -115,6 +115,29 @@ pub seen_fate : {due : Result Fate Refusal} (code : ℕ) (old new : Seen) (made 
     → SeesOne due old new r
 seen_fate code old new made (Ok u) fate e is of h m = (fate, e, h fate is of)
 seen_fate {due} code old new made (Err d) fate e is of h m = memory_fails d due m
+
+-- a character that is drawn was seen
+pub drawn_seen : (code : ℕ) (old new : Seen) (made : Sketched) (r : Result (Unit {0}) Refusal)
+    → OnOk r ((sketch : Sketch) → IsSketchedOf sketch made → sketch.code ≡ code → Has sketch old new)
+    → OnOk r ((due : Fate) → IsFateOf due (Drawn made) → AreOf code due → HasFate due old new)
+drawn_seen code old new made (Ok u) h = by
+  where
+    by : (due : Fate) → IsFateOf due (Drawn made) → AreOf code due → HasFate due old new
+    by (drawn s) is of = h s is of
+    by (unhinted notice s) is of = absurd is
+    by (left_out notice) is of = absurd is
+drawn_seen code old new made (Err d) h = tt
+
+-- there is nothing to tell of it
+pub drawn_unheard : {L : Type 0} (Hears : L → Notice → L → Type 0) (was : L) (made : Sketched) (r : Result (Unit {0}) Refusal)
+    → OnOk r ((due : Fate) → IsFateOf due (Drawn made) → HearsAll Hears was (notices_in due) was)
+drawn_unheard {L} Hears was made (Ok u) = by
+  where
+    by : (due : Fate) → IsFateOf due (Drawn made) → HearsAll Hears was (notices_in due) was
+    by (drawn s) is = refl
+    by (unhinted notice s) is = absurd is
+    by (left_out notice) is = absurd is
+drawn_unheard Hears was made (Err d) = tt
 
 pub told_fate : {L : Type 0} (Hears : L → Notice → L → Type 0) (was now : L) {due : Result Fate Refusal} (made : held.Fate)
     (r : Result (Unit {0}) Refusal) (fate : Fate) → due ≡ Ok fate → IsFateOf fate made

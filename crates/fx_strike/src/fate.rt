@@ -45,7 +45,7 @@ impl<'a, S: Scan> Tools<'a, S> {
     }
 
     /// The glyph of this number before its bits. Its outline is made, and put into the cache.
-    fn sketch_made(
+    pub(crate) fn sketch_made(
         &self,
         hinter: &mut FontHinter<'_>,
         cache: &mut OutlineCache,
@@ -62,49 +62,8 @@ impl<'a, S: Scan> Tools<'a, S> {
         sketch_with(&self.opened, self.rule, glyph, drawing)
     }
 
-    /// What becomes of a code point. Its outline is made, and put into the cache.
-    pub(crate) fn fate_made(
-        &self,
-        refused: OnRefused,
-        hinter: &mut FontHinter<'_>,
-        cache: &mut OutlineCache,
-        code: u32,
-        glyph: u16,
-    ) -> Result<Fate, Refusal>
-        requires cache { AreDue (due_in self.now.opened hinter.old) cache.old }
-        ensures kept { hinter.new ≡ hinter.old }
-        ensures cache { AreDue (due_in self.now.opened hinter.old) cache.new }
-        ensures fate { Decides (glyph_fate_of (setting_with self.now.opened self.now.rule hinter.old) refused code glyph) result }
-    {
-        match self.sketch_made(hinter, cache, glyph) {
-            Ok(sketched) => Ok(Fate::Drawn(sketched)),
-            Err(cause) => self.fate_refused(refused, code, glyph, cause),
-        }
-    }
-
-    /// What becomes of a code point. Its outline comes from the cache if it is the next one there, else it is made.
-    pub(crate) fn fate_at(
-        &self,
-        refused: OnRefused,
-        hinter: &mut FontHinter<'_>,
-        cache: &mut CacheReader<'_>,
-        code: u32,
-        glyph: u16,
-    ) -> Result<Fate, Refusal>
-        requires cache { AreDue (due_in self.now.opened hinter.old) cache.old }
-        ensures kept { hinter.new ≡ hinter.old }
-        ensures cache { AreDue (due_in self.now.opened hinter.old) cache.new }
-        ensures fate { Decides (glyph_fate_of (setting_with self.now.opened self.now.rule hinter.old) refused code glyph) result }
-    {
-        match self.sketch_at(hinter, cache, glyph) {
-            Ok(sketched) => Ok(Fate::Drawn(sketched)),
-            Err(cause) => self.fate_refused(refused, code, glyph, cause),
-        }
-    }
-
     /// What becomes of a code point that is refused for a cause. Out of memory is none.
-    #[inline(never)]
-    fn fate_refused(
+    pub(crate) fn fate_refused(
         &self,
         refused: OnRefused,
         code: u32,

@@ -6,7 +6,8 @@ ghost use Rattle.fx_bdf.specs.Glyphs.{IsPlaced};
 ghost use Rattle.fx_strike.specs.Title.{Title};
 ghost use Rattle.fx_request.specs.Notices.{HearsAll, Told};
 ghost use Rattle.fx_strike.specs.Strike as strikes;
-ghost use Rattle.fx_strike.specs.Strike.{Sketch, pixels, setting_with, glyph_fate_of, notices_in, plan_with};
+ghost use Rattle.fx_strike.specs.Faults.{Fails};
+ghost use Rattle.fx_strike.specs.Strike.{Sketch, pixels, setting_with, glyph_sketch_of, glyph_fate_of, notices_in, plan_with};
 ghost use Rattle.fx_strike.specs.Headline.{notices_of};
 ghost use Rattle.fx_cache.specs.Cached.{AreDue};
 ghost use Rattle.fx_strike.specs.inner.Drawing.{AreOf, IsFateOf, IsSketchedOf, due_in};
@@ -183,7 +184,37 @@ impl<'a, S: Scan> Tools<'a, S> {
         ensures unheard { IfErr result (λ _. listener.new ≡ listener.old) }
         ensures cache { AreDue (due_in self.now.opened hinter.old) cache.new }
     {
-        let fate = self.fate_made(refused, hinter, cache, code, glyph)?;
+        match self.sketch_made(hinter, cache, glyph) {
+            Ok(sketched) => self.see_drawn(code, &sketched, seen, &mut hinter.scratch),
+            Err(cause) => self.see_refused(refused, hinter, code, glyph, cause, seen, listener),
+        }
+    }
+
+    /// Adds what is seen of a character that is refused for a cause, and tells of it; or refuses the strike. Few characters are, so
+    /// its code is kept out of the loop over the others.
+    #[inline(never)]
+    fn see_refused<L: Listener>(
+        &self,
+        refused: OnRefused,
+        hinter: &mut FontHinter<'_>,
+        code: u32,
+        glyph: u16,
+        cause: Refusal,
+        seen: &mut Seen,
+        listener: &mut L,
+    ) -> Result<(), Refusal>
+        requires few { seen.old.report.glyphs < max_characters }
+        requires placed { IsPlaced seen.old.bounds }
+        requires narrow { IsNarrow seen.old }
+        requires cause { Fails cause (glyph_sketch_of (setting_with self.now.opened self.now.rule hinter.old) code glyph) }
+        ensures kept { hinter.new ≡ hinter.old }
+        ensures seen { SeesOne (glyph_fate_of (setting_with self.now.opened self.now.rule hinter.old) refused code glyph)
+            seen.old seen.new result }
+        ensures heard { OnOk result (HearsAll L.Hears listener.old
+            (notices_by (glyph_fate_of (setting_with self.now.opened self.now.rule hinter.old) refused code glyph)) listener.new) }
+        ensures unheard { IfErr result (λ _. listener.new ≡ listener.old) }
+    {
+        let fate = self.fate_refused(refused, code, glyph, cause)?;
         self.see_fate(code, &fate, seen, &mut hinter.scratch, listener)
     }
 

@@ -8,7 +8,8 @@ ghost use Rattle.fx_bdf.specs.Text.{IsName, header_text, glyph_text, end_text, l
 ghost use Rattle.fx_request.specs.Limits.{max_characters, max_code};
 ghost use Rattle.fx_fixed.specs.Changes.{change_of};
 ghost use Rattle.fx_strike.specs.Strike as strikes;
-ghost use Rattle.fx_strike.specs.Strike.{Sketch, AreGlyphsOf, IsGlyphOf, setting_with, sketches_in};
+ghost use Rattle.fx_strike.specs.Faults.{Fails};
+ghost use Rattle.fx_strike.specs.Strike.{Sketch, AreGlyphsOf, IsGlyphOf, setting_with, sketches_in, glyph_sketch_of};
 ghost use Rattle.fx_cache.specs.Cached.{AreDue};
 ghost use Rattle.fx_bdf.specs.Glyphs.{Glyph};
 ghost use Rattle.fx_strike.specs.inner.Drawing.{AreOf, IsFateOf, IsSketchedOf, due_in};
@@ -100,7 +101,42 @@ impl<'a, S: Scan> Tools<'a, S> {
         if glyph == 0 {
             return Ok(());
         }
-        let fate = self.fate_at(refused, hinter, cache, code, glyph)?;
+        match self.sketch_at(hinter, cache, glyph) {
+            Ok(sketched) => {
+                let written = self.write_drawn(code, &sketched, &mut hinter.scratch, text);
+                cache.give_back(sketched.shape.into_outline());
+                written
+            }
+            Err(cause) => self.write_refused(refused, hinter, code, glyph, cause, text),
+        }
+    }
+
+    /// Writes the lines of a character that is refused for a cause, if it has any; or refuses the strike. Few characters are, so its
+    /// code is kept out of the loop over the others.
+    #[inline(never)]
+    fn write_refused<W: Sink>(
+        &self,
+        refused: OnRefused,
+        hinter: &mut FontHinter<'_>,
+        code: u32,
+        glyph: u16,
+        cause: Refusal,
+        text: &mut TextWriter<'_, W>,
+    ) -> Result<(), Refusal>
+        requires faults { text.old.faults < 2 ^ 63 }
+        requires room { HasRoom text.old longest_glyph }
+        requires code { code ≤ max_code }
+        requires glyph { glyph ≡ glyph_for self.now.opened.map code }
+        requires here { ¬ (glyph ≡ 0) }
+        requires cause { Fails cause (glyph_sketch_of (setting_with self.now.opened self.now.rule hinter.old) code glyph) }
+        ensures kept { hinter.new ≡ hinter.old }
+        ensures same { text.new.sink ≡ text.old.sink }
+        ensures quiet { OnOk result (text.new.faults ≡ text.old.faults) }
+        ensures short { OnOk result (length_of text.new ≤ length_of text.old + longest_glyph) }
+        ensures lines { (lines : List ℕ) → AreLinesOf (setting_with self.now.opened self.now.rule hinter.old) refused code lines
+            → AddsMore text.old text.new lines result }
+    {
+        let fate = self.fate_refused(refused, code, glyph, cause)?;
         self.write_fate(code, &fate, &mut hinter.scratch, text)
     }
 

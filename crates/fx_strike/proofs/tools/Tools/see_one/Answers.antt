@@ -1,18 +1,19 @@
-use Rattle.fx_strike.proofs.Exits.{came}
-use Rattle.fx_strike.proofs.Fates.{fate_code, seen_fate, told_fate}
+use Rattle.fx_strike.proofs.Fates.{drawn_seen, drawn_unheard, fate_code, fate_drawn, seen_fate, told_fate}
+use Rattle.fx_strike.specs.declared.fate.Fate.TheVariants.{Drawn}
 use Rattle.fx_strike.proofs.tools.Tools.see_one.Goals as goal
 
-pub returns-in_err-fate-clause-seen : goal.returns-in_err-fate-clause-seen
-returns-in_err-fate-clause-seen g c =
-    rw (came c.from_residual.result c.from_residual.ensures.1) (c.in_err-fate.ensures).fate
-
-pub returns-clause-seen : goal.returns-clause-seen
-returns-clause-seen g c =
-    let f = (c.in_ok-fate.ensures).fate in
-    seen_fate c.args.code c.args.seen.now c.see_fate.new.seen c.in_ok-fate.fate c.see_fate.result f.0 f.1 f.2
+pub returns-in-Ok-clause-seen : goal.returns-in-Ok-clause-seen
+returns-in-Ok-clause-seen g c =
+    let f = fate_drawn _ c.args.refused c.args.code c.args.glyph _ ((c.in-Ok.ensures).sketch c.args.code) in
+    seen_fate c.args.code c.args.seen.now c.see_drawn.new.seen (Drawn c.in-Ok.sketched) c.see_drawn.result f.0 f.1 f.2
     (fate_code _ c.args.refused c.args.code _ f.0 f.1)
-    c.see_fate.ensures.seen c.see_fate.ensures.fault
+    (drawn_seen c.args.code c.args.seen.now c.see_drawn.new.seen c.in-Ok.sketched c.see_drawn.result c.see_drawn.ensures.seen)
+    c.see_drawn.ensures.fault
 
-pub returns-clause-heard : goal.returns-clause-heard
-returns-clause-heard g c =
-    let f = (c.in_ok-fate.ensures).fate in told_fate _ _ _ c.in_ok-fate.fate c.see_fate.result f.0 f.1 f.2 c.see_fate.ensures.heard
+pub returns-in-Ok-clause-heard : goal.returns-in-Ok-clause-heard
+returns-in-Ok-clause-heard g c =
+    let f = fate_drawn _ c.args.refused c.args.code c.args.glyph _ ((c.in-Ok.ensures).sketch c.args.code) in
+    told_fate _ _ _ (Drawn c.in-Ok.sketched) c.see_drawn.result f.0 f.1 f.2 (drawn_unheard _ _ c.in-Ok.sketched c.see_drawn.result)
+
+pub see_refused-requires-clause-cause : goal.see_refused-requires-clause-cause
+see_refused-requires-clause-cause g c = rw (c.in-Err.ensures).kept ((c.in-Err.ensures).sketch c.args.code)
