@@ -3,7 +3,7 @@ use crate::fonts::font;
 use crate::outlines::{READING_A_STRAY, TWICE};
 use fx_fixed::Ppem;
 use fx_hint::{GlyphInput, HintFault, Hinter, KeepingMachine, Made, outline_with};
-use fx_machine::{Machine, Usage};
+use fx_machine::{Machine, Unwatched, Usage};
 use fx_sfnt::{Font, FontFile};
 use std::alloc::Global;
 use std::marker::Model;
@@ -35,6 +35,8 @@ impl<'a> Hinter for Counting<'a> {
 
     ghost hinting = { hinting_of };
 
+    ghost Leads = { λ _ _ _. Unit {0} };
+
     fn is_on(&self) -> bool {
         self.keeping.is_on()
     }
@@ -57,12 +59,16 @@ impl<'a> Hinter for Counting<'a> {
     fn law_keeps_shape(&self) {
         self.keeping.law_keeps_shape()
     }
+
+    ghost leads_same = { λ _. tt };
+
+    ghost leads_then = { λ _ _ _ _ _ _ _. tt };
 }
 
 /// A machine that counts, and has run nothing yet.
 fn counting_machine<'a>(alloc: Global, font: &Font<'a>) -> Result<Counting<'a>, Fail> {
     let size = Ppem::new(16).ok_or("no size")?;
-    let machine = Machine::new(alloc, font.shared(), size)?;
+    let machine = Machine::new(alloc, font.shared(), size, &mut Unwatched)?;
     let keeping = KeepingMachine::new(alloc, machine)?;
     Ok(Counting { keeping, runs: 0 })
 }

@@ -2,7 +2,7 @@
 use crate::fonts::{ARC, fixture, font, of_points, patch};
 use fx_fixed::{F26, Ppem};
 use fx_hint::{GlyphOutline, KeepingMachine, outline, outline_with};
-use fx_machine::{Machine, Usage};
+use fx_machine::{Machine, Unwatched, Usage};
 use fx_outline::OutlinePoint;
 use fx_sfnt::{Font, FontFile};
 use std::alloc::Global;
@@ -88,14 +88,14 @@ pub const READING_A_STRAY: &str =
 /// The outline of glyph 2 by a machine that keeps nothing.
 fn made_plainly(alloc: Global, font: &Font<'_>, ppem: Ppem) -> Result<GlyphOutline, Fail> {
     let size = Ppem::new(16).ok_or("no size")?;
-    let mut machine = Machine::new(alloc, font.shared(), size)?;
+    let mut machine = Machine::new(alloc, font.shared(), size, &mut Unwatched)?;
     Ok(outline_with(alloc, &mut machine, font, ppem, 2)?)
 }
 
 /// A machine that keeps components, but has none yet.
 fn keeping_machine<'a>(alloc: Global, font: &Font<'a>) -> Result<KeepingMachine<'a>, Fail> {
     let size = Ppem::new(16).ok_or("no size")?;
-    let machine = Machine::new(alloc, font.shared(), size)?;
+    let machine = Machine::new(alloc, font.shared(), size, &mut Unwatched)?;
     Ok(KeepingMachine::new(alloc, machine)?)
 }
 

@@ -3,7 +3,7 @@ use crate::fonts::{bytes, fixture};
 use crate::tables::{self, NO_TABLES, Tables};
 use fx_code::Code;
 use fx_fixed::{F26, Place, Ppem};
-use fx_machine::{Cause, FontProgram, Halt, Machine, MachineFault, Usage};
+use fx_machine::{Cause, FontProgram, Halt, Machine, MachineFault, Unwatched, Usage};
 use fx_sfnt::{Font, FontFile};
 use fx_zone::{Point, Zone};
 use std::alloc::Global;
@@ -23,7 +23,7 @@ fn size() -> Result<Ppem, Fail> {
 
 /// The machine of a font of which no program halts.
 pub fn machine<'a>(alloc: Global, file: &'a [u8]) -> Result<Machine<'a>, Fail> {
-    Ok(Machine::new(alloc, Font::open(&FontFile::of(file))?, size()?)?)
+    Ok(Machine::new(alloc, Font::open(&FontFile::of(file))?, size()?, &mut Unwatched)?)
 }
 
 // A point at rest on the curve.
@@ -109,7 +109,7 @@ fn does(
     want: Want,
     places: [i32; 4],
 ) -> bool {
-    let answer = machine.run_glyph(GLYPH, Code::new(code), zone);
+    let answer = machine.run_glyph(GLYPH, Code::new(code), zone, &mut Unwatched);
     answer == answer_of(FontProgram::Glyph(GLYPH), want)
         && corners(zone) == places
         && zone.len() == 8
@@ -329,7 +329,7 @@ const EIGHT: &str = "b0 00 2c 2d
 
 // What the programs of a font use up before any glyph, or where they halt.
 fn prelude_of(alloc: Global, file: &[u8]) -> Result<Result<Usage, Halt>, Fail> {
-    match Machine::new(alloc, Font::open(&FontFile::of(file))?, size()?) {
+    match Machine::new(alloc, Font::open(&FontFile::of(file))?, size()?, &mut Unwatched) {
         Ok(machine) => Ok(Ok(machine.prelude())),
         Err(MachineFault::Halted(halt)) => Ok(Err(halt)),
         Err(fault) => Err(fault.into()),

@@ -6,7 +6,7 @@ use crate::programs::{machine, square};
 use fx_cmap::CharMap;
 use fx_code::Code;
 use fx_hint::{GlyphOutline, outline};
-use fx_machine::Machine;
+use fx_machine::{Machine, Unwatched};
 use fx_outline::OutlinePoint;
 use fx_sfnt::{Font, FontFile};
 use std::alloc::Global;
@@ -23,7 +23,7 @@ fn leaves(
 ) -> Result<(), Fail> {
     let code = bytes(alloc, program)?;
     let mut zone = square(alloc)?;
-    let ran = machine.run_glyph(3, Code::new(code.as_slice()), &mut zone);
+    let ran = machine.run_glyph(3, Code::new(code.as_slice()), &mut zone, &mut Unwatched);
     assert!(rt;
         ran.is_ok() && machine.final_stack() == Some(stack),
         "{program}"

@@ -4,9 +4,12 @@ pub mod Sound
 mod Totals
 mod Places
 mod Steps
+mod RunLaws
 mod KeptGlyphs
 mod Programs
 mod Machines
 mod Turning
 mod Joined
 mod Multiplying
+pub mod Watching
+mod Forgetting

@@ -1,4 +1,4 @@
--- The walk over components by its steps gives what the recursion on components gives.
+-- The walk over components by its steps gives what the recursion on components gives, with the programs that it starts.
 -- For the walk, one loop with the composites that wait in a list.
 use Rattle.std.proofs.Common.{◌≡◌, ℕ, zero, suc, ◌+◌, ◌-◌, List, [], ◌∷◌, ◌++◌, length, refl, sym}
 use Rattle.std.proofs.Common.{ap, ◌∙◌, subst, Result, Ok, Err, arith}
@@ -14,7 +14,6 @@ use Rattle.fx_glyf.specs.declared.glyph.Glyph as glyf
 use Rattle.fx_glyf.specs.declared.glyph.Glyph.TheVariants.{Empty, Simple, Composite}
 use Rattle.fx_glyf.specs.Glyphs.{glyph_of}
 use Rattle.fx_scale.specs.declared.scale.Scale.{Scale}
-use Rattle.fx_hint.specs.declared.count.Count.{Count}
 use Rattle.fx_hint.specs.declared.made.Made.{Made}
 use Rattle.fx_hint.specs.declared.below.OpenComposite.{OpenComposite}
 use Rattle.fx_hint.specs.declared.below.Waiting.{Waiting}
@@ -24,8 +23,8 @@ use Rattle.fx_hint.specs.declared.fault.HintFault.{HintFault}
 use Rattle.fx_hint.specs.declared.fault.HintFault.TheVariants.{Font, Glyph}
 use Rattle.fx_hint.specs.Hinting.{Hinting}
 use Rattle.fx_hint.specs.Parts.{with_part}
-use Rattle.fx_hint.specs.Outlines.{one_component, simple_made, run_on, with_parts, made_of, assembled, component}
-use Rattle.fx_hint.specs.inner.Steps.{Outcome, begun_by, begun, begun_component, left, given_by, goes_into, rest_of}
+use Rattle.fx_hint.specs.Runs.{Logged, LoggedFault, after, logged_one, logged_simple, logged_run, logged_parts, logged_made_of, logged_assembled, logged_component}
+use Rattle.fx_hint.specs.inner.RunSteps.{LoggedOutcome, logged_begun_by, logged_begun, logged_begun_component, logged_left, logged_given_by, logged_goes_into, logged_rest_of}
 
 -- a chain that is parted
 last_of : {C D G E : Type 0} (r : Result C E) (f : C → Result D E) (g : C → Result G E) (k : G → Result D E)
@@ -51,222 +50,240 @@ two_after (Ok x) a b k = one_after (a x) (b x) k
 two_after (Err e) a b k = refl
 
 module _ (h : Hinting) (face : Face) (s : Scale) (root : ℕ) where
-  again : (levels : ℕ) (q : Outcome) → q ≡ ((q >>= λ ran. Ok (Assembled ran.0, ran.1)) >>= given_by h face s root levels)
+  again : (levels : ℕ) (q : LoggedOutcome) → q
+      ≡ ((q >>= λ ran. Ok (Assembled ran.0, ran.1)) >>= logged_given_by h face s root levels)
   again levels (Ok ran) = refl
   again levels (Err e) = refl
 
-  simple_by : (levels : ℕ) (r : Outcome) (f : Made × Count → Outcome)
-      → (r >>= f) ≡ ((r >>= λ made. f made >>= λ ran. Ok (Assembled ran.0, ran.1)) >>= given_by h face s root levels)
+  simple_by : (levels : ℕ) (r : LoggedOutcome) (f : Made × Logged → LoggedOutcome)
+      → (r >>= f) ≡ ((r >>= λ made. f made >>= λ ran. Ok (Assembled ran.0, ran.1)) >>= logged_given_by h face s root levels)
   simple_by levels (Ok made) f = again levels (f made)
   simple_by levels (Err e) f = refl
 
   -- a glyph that has been read is begun, and then gives what it gives
-  made_by : (levels g : ℕ) (m : Metrics) (glyph : glyf.Glyph) (count : Count)
-      → made_of h s root (component h face s root levels) g m glyph count
-      ≡ (begun_by h s root g m glyph count >>= given_by h face s root levels)
-  unfolding made_of begun_by
+  made_by : (levels g : ℕ) (m : Metrics) (glyph : glyf.Glyph) (count : Logged)
+      → logged_made_of h s root (logged_component h face s root levels) g m glyph count
+      ≡ (logged_begun_by h s root g m glyph count >>= logged_given_by h face s root levels)
+  unfolding logged_made_of logged_begun_by
   made_by levels g m Empty count = refl
-  made_by levels g m (Simple shape) count = simple_by levels (simple_made s h.on root m shape count) (run_on h g shape.code)
+  made_by levels g m (Simple shape) count = simple_by levels (logged_simple s h.on root m shape count) (logged_run h g shape.code)
   made_by levels g m (Composite assembly) count = refl
 
   -- a glyph is begun, and then gives what it gives
-  assembled_by : (levels g : ℕ) (count : Count) → assembled h face s root (component h face s root levels) g count
-      ≡ (begun h face s root g count >>= given_by h face s root levels)
-  unfolding assembled begun
+  pub assembled_by : (levels g : ℕ) (count : Logged)
+      → logged_assembled h face s root (logged_component h face s root levels) g count
+      ≡ (logged_begun h face s root g count >>= logged_given_by h face s root levels)
+  unfolding logged_assembled logged_begun
   assembled_by levels g count =
-      three_of (map_fault Font (metrics_of face g)) (map_fault Font (glyph_bytes_of face g))
-      (λ bytes. map_fault Glyph (glyph_of bytes g))
-      (λ m glyph. made_of h s root (component h face s root levels) g m glyph count)
-      (λ m glyph. begun_by h s root g m glyph count) (given_by h face s root levels)
+      three_of (after count.1 (map_fault Font (metrics_of face g))) (after count.1 (map_fault Font (glyph_bytes_of face g)))
+      (λ bytes. after count.1 (map_fault Glyph (glyph_of bytes g)))
+      (λ m glyph. logged_made_of h s root (logged_component h face s root levels) g m glyph count)
+      (λ m glyph. logged_begun_by h s root g m glyph count) (logged_given_by h face s root levels)
       (λ m glyph. made_by levels g m glyph count)
 
-  component_by : (levels g : ℕ) (count : Count) → component h face s root levels g count
-      ≡ (begun_component h face s root levels g count >>= given_by h face s root (levels - 1))
-  unfolding component begun_component
+  component_by : (levels g : ℕ) (count : Logged) → logged_component h face s root levels g count
+      ≡ (logged_begun_component h face s root levels g count >>= logged_given_by h face s root (levels - 1))
+  unfolding logged_component logged_begun_component
   component_by zero g count = refl
   component_by (suc levels) g count =
       let e : suc levels - 1 ≡ levels = omega arith in
-      rw e (last_of (one_component root count) (λ counted. assembled h face s root (component h face s root levels) g counted)
-      (λ counted. begun h face s root g counted) (given_by h face s root levels) (λ counted. assembled_by levels g counted))
+      rw e (last_of (logged_one root count) (λ counted. logged_assembled h face s root
+      (logged_component h face s root levels) g counted)
+      (λ counted. logged_begun h face s root g counted) (logged_given_by h face s root levels)
+      (λ counted. assembled_by levels g counted))
 
   -- the next component of an open composite: the composite waits for it
-  waits : (levels : ℕ) (c : OpenComposite) (part : Part) (parts : List Part) (count : Count) → c.parts ≡ part ∷ parts
-      → left h face s root levels c count ≡ (component h face s root levels part.glyph count
-      >>= goes_into h face s root levels (record { part = part; composite = record c { parts = parts } }))
-  unfolding with_parts
+  waits : (levels : ℕ) (c : OpenComposite) (part : Part) (parts : List Part) (count : Logged) → c.parts ≡ part ∷ parts
+      → logged_left h face s root levels c count ≡ (logged_component h face s root levels part.glyph count
+      >>= logged_goes_into h face s root levels (record { part = part; composite = record c { parts = parts } }))
+  unfolding logged_parts
   waits levels c part parts count e =
-      ap (λ (ps : List Part). with_parts s h.on (component h face s root levels) c.g ps c.base count
-      >>= run_on h c.g c.glyph.code) e
-      ∙ two_after (component h face s root levels part.glyph count) (λ m. with_part s h.on c.g part c.base m.0)
-      (λ m more. with_parts s h.on (component h face s root levels) c.g parts more m.1) (run_on h c.g c.glyph.code)
+      ap (λ (ps : List Part). logged_parts s h.on (logged_component h face s root levels) c.g ps c.base count
+      >>= logged_run h c.g c.glyph.code) e
+      ∙ two_after (logged_component h face s root levels part.glyph count) (λ m. after m.1.1 (with_part s h.on c.g part c.base m.0))
+      (λ m more. logged_parts s h.on (logged_component h face s root levels) c.g parts more m.1) (logged_run h c.g c.glyph.code)
 
   -- no component is left: the composite's program runs
-  closes : (levels : ℕ) (c : OpenComposite) (count : Count) → c.parts ≡ []
-      → left h face s root levels c count ≡ run_on h c.g c.glyph.code (c.base, count)
-  unfolding with_parts
+  pub closes : (levels : ℕ) (c : OpenComposite) (count : Logged) → c.parts ≡ []
+      → logged_left h face s root levels c count ≡ logged_run h c.g c.glyph.code (c.base, count)
+  unfolding logged_parts
   closes levels c count e =
-      ap (λ (ps : List Part). with_parts s h.on (component h face s root levels) c.g ps c.base count
-      >>= run_on h c.g c.glyph.code) e
+      ap (λ (ps : List Part). logged_parts s h.on (logged_component h face s root levels) c.g ps c.base count
+      >>= logged_run h c.g c.glyph.code) e
 
   -- a refusal is the root's
-  rest_refused : (levels : ℕ) (ws : List Waiting) (e : HintFault) → rest_of h face s root levels ws (Err e) ≡ Err e
-  unfolding rest_of
+  rest_refused : (levels : ℕ) (ws : List Waiting) (e : LoggedFault) → logged_rest_of h face s root levels ws (Err e) ≡ Err e
+  unfolding logged_rest_of
   rest_refused levels [] e = refl
   rest_refused levels (w ∷ ws) e =
-      ap (λ (q : Outcome). q >>= goes_into h face s root levels w) (rest_refused (levels - 1) ws e)
+      ap (λ (q : LoggedOutcome). q >>= logged_goes_into h face s root levels w) (rest_refused (levels - 1) ws e)
 
   -- one more composite that waits, the innermost
-  rest_after : (levels : ℕ) (ws : List Waiting) (w : Waiting) (r : Outcome)
-      → rest_of h face s root levels (ws ++ w ∷ []) r
-      ≡ rest_of h face s root levels ws (r >>= goes_into h face s root (levels - length ws) w)
-  unfolding rest_of
+  rest_after : (levels : ℕ) (ws : List Waiting) (w : Waiting) (r : LoggedOutcome)
+      → logged_rest_of h face s root levels (ws ++ w ∷ []) r
+      ≡ logged_rest_of h face s root levels ws (r >>= logged_goes_into h face s root (levels - length ws) w)
+  unfolding logged_rest_of
   rest_after levels [] w r =
       let e : levels - 0 ≡ levels = omega arith in
-      ap (λ k. r >>= goes_into h face s root k w) (sym e)
+      ap (λ k. r >>= logged_goes_into h face s root k w) (sym e)
   rest_after levels (v ∷ ws) w r =
       let e : levels - 1 - length ws ≡ levels - suc (length ws) = omega arith in
-      ap (λ (q : Outcome). q >>= goes_into h face s root levels v)
+      ap (λ (q : LoggedOutcome). q >>= logged_goes_into h face s root levels v)
       (rest_after (levels - 1) ws w r
-      ∙ ap (λ k. rest_of h face s root (levels - 1) ws (r >>= goes_into h face s root k w)) e)
+      ∙ ap (λ k. logged_rest_of h face s root (levels - 1) ws (r >>= logged_goes_into h face s root k w)) e)
 
   -- ---- the steps of the loop: what the root gives stays the same, `due`
 
   -- the root is begun
-  pub begins : (g : ℕ) (count counted : Count) (step : Step) → begun h face s root g count ≡ Ok (step, counted)
-      → assembled h face s root (component h face s root max_depth) g count ≡ given_by h face s root max_depth (step, counted)
+  pub begins : (g : ℕ) (count counted : Logged) (step : Step) → logged_begun h face s root g count ≡ Ok (step, counted)
+      → logged_assembled h face s root (logged_component h face s root max_depth) g count
+      ≡ logged_given_by h face s root max_depth (step, counted)
   begins g count counted step e =
       assembled_by max_depth g count
-      ∙ ap (λ (q : Result (Step × Count) HintFault). q >>= given_by h face s root max_depth) e
+      ∙ ap (λ (q : Result (Step × Logged) LoggedFault). q >>= logged_given_by h face s root max_depth) e
 
   -- and no composite waits yet
-  pub opens : (below : List Waiting) (c : OpenComposite) (count : Count) → below ≡ []
-      → rest_of h face s root max_depth below (given_by h face s root (max_depth - length below) (Open c, count))
-      ≡ left h face s root max_depth c count
-  unfolding rest_of
+  pub opens : (below : List Waiting) (c : OpenComposite) (count : Logged) → below ≡ []
+      → logged_rest_of h face s root max_depth below (logged_given_by h face s root (max_depth - length below) (Open c, count))
+      ≡ logged_left h face s root max_depth c count
+  unfolding logged_rest_of
   opens below c count b =
       let P : List Waiting → Type 0 =
-      λ ws. rest_of h face s root max_depth ws (given_by h face s root (max_depth - length ws) (Open c, count))
-      ≡ left h face s root max_depth c count in
+      λ ws. logged_rest_of h face s root max_depth ws (logged_given_by h face s root (max_depth - length ws) (Open c, count))
+      ≡ logged_left h face s root max_depth c count in
       subst P (sym b) refl
 
-  pub not_begun : (g : ℕ) (count : Count) (e : HintFault) → begun h face s root g count ≡ Err e
-      → assembled h face s root (component h face s root max_depth) g count ≡ Err e
+  pub not_begun : (g : ℕ) (count : Logged) (e : LoggedFault) → logged_begun h face s root g count ≡ Err e
+      → logged_assembled h face s root (logged_component h face s root max_depth) g count ≡ Err e
   not_begun g count e b =
-      assembled_by max_depth g count ∙ ap (λ (q : Result (Step × Count) HintFault). q >>= given_by h face s root max_depth) b
+      assembled_by max_depth g count ∙ ap (λ (q : Result
+      (Step × Logged) LoggedFault). q >>= logged_given_by h face s root max_depth) b
 
   -- an assembled glyph goes into the composite that waits for it
-  into : (below all : List Waiting) (w : Waiting) (made : Made) (count : Count) (due : Outcome)
-      → rest_of h face s root max_depth all (Ok (made, count)) ≡ due → all ≡ below ++ w ∷ []
-      → rest_of h face s root max_depth below (goes_into h face s root (max_depth - length below) w (made, count)) ≡ due
+  into : (below all : List Waiting) (w : Waiting) (made : Made) (count : Logged) (due : LoggedOutcome)
+      → logged_rest_of h face s root max_depth all (Ok (made, count)) ≡ due → all ≡ below ++ w ∷ []
+      → logged_rest_of h face s root max_depth below (logged_goes_into h face s root (max_depth - length below) w
+      (made, count)) ≡ due
   into below all w made count due i e =
       sym (rest_after max_depth below w (Ok (made, count)))
-      ∙ sym (ap (λ (ws : List Waiting). rest_of h face s root max_depth ws (Ok (made, count))) e) ∙ i
+      ∙ sym (ap (λ (ws : List Waiting). logged_rest_of h face s root max_depth ws (Ok (made, count))) e) ∙ i
 
-  pub joins : (below all : List Waiting) (w : Waiting) (made : Made) (count : Count) (c : OpenComposite) (due : Outcome)
-      → rest_of h face s root max_depth all (Ok (made, count)) ≡ due → all ≡ below ++ w ∷ []
+  pub joins : (below all : List Waiting) (w : Waiting) (made : Made) (count : Logged) (c : OpenComposite) (due : LoggedOutcome)
+      → logged_rest_of h face s root max_depth all (Ok (made, count)) ≡ due → all ≡ below ++ w ∷ []
       → map_ok (λ more. record w.composite { base = more }) (with_part s h.on w.composite.g w.part w.composite.base made) ≡ Ok c
-      → rest_of h face s root max_depth below (given_by h face s root (max_depth - length below) (Open c, count)) ≡ due
+      → logged_rest_of h face s root max_depth below (logged_given_by h face s root (max_depth - length below)
+      (Open c, count)) ≡ due
   joins below all w made count c due i e j =
       let p = map_ok_ok (λ more. record w.composite { base = more })
       (with_part s h.on w.composite.g w.part w.composite.base made) c j in
-      ap (λ (d : OpenComposite). rest_of h face s root max_depth below (left h face s root (max_depth - length below) d count))
+      ap (λ (d : OpenComposite). logged_rest_of h face s root max_depth below (logged_left h face s root
+      (max_depth - length below) d count))
       (sym p.2)
-      ∙ sym (ap (λ (q : Result Made HintFault). rest_of h face s root max_depth below
-      (q >>= λ more. left h face s root (max_depth - length below) (record w.composite { base = more }) count)) p.1)
+      ∙ sym (ap (λ (q : Result Made HintFault). logged_rest_of h face s root max_depth below
+      (after count.1 q >>= λ more. logged_left h face s root (max_depth - length below)
+      (record w.composite { base = more }) count)) p.1)
       ∙ into below all w made count due i e
 
   map_ok_err : {A B : Type 0} (view : A → B) (r : Result A HintFault) (e : HintFault) → map_ok view r ≡ Err e → r ≡ Err e
   map_ok_err view (Ok x) e h = absurd (cc)
   map_ok_err view (Err d) e h = cc
 
-  pub not_joined : (below all : List Waiting) (w : Waiting) (made : Made) (count : Count) (due : Outcome) (d : HintFault)
-      → rest_of h face s root max_depth all (Ok (made, count)) ≡ due → all ≡ below ++ w ∷ []
+  pub not_joined : (below all : List Waiting) (w : Waiting) (made : Made) (count : Logged) (due : LoggedOutcome) (d : HintFault)
+      → logged_rest_of h face s root max_depth all (Ok (made, count)) ≡ due → all ≡ below ++ w ∷ []
       → map_ok (λ more. record w.composite { base = more }) (with_part s h.on w.composite.g w.part w.composite.base made) ≡ Err d
-      → due ≡ Err d
+      → due ≡ Err (d, count.1)
   not_joined below all w made count due d i e j =
       let p = map_ok_err (λ more. record w.composite { base = more })
       (with_part s h.on w.composite.g w.part w.composite.base made) d j in
       sym (into below all w made count due i e)
-      ∙ ap (λ (q : Result Made HintFault). rest_of h face s root max_depth below
-      (q >>= λ more. left h face s root (max_depth - length below) (record w.composite { base = more }) count)) p
-      ∙ rest_refused max_depth below d
+      ∙ ap (λ (q : Result Made HintFault). logged_rest_of h face s root max_depth below
+      (after count.1 q >>= λ more. logged_left h face s root (max_depth - length below)
+      (record w.composite { base = more }) count)) p
+      ∙ rest_refused max_depth below (d, count.1)
 
   -- no component is left: the program runs
-  pub runs : (below : List Waiting) (levels : ℕ) (c : OpenComposite) (count counted : Count) (made : Made) (due : Outcome)
-      → rest_of h face s root max_depth below (given_by h face s root levels (Open c, count)) ≡ due → c.parts ≡ []
-      → run_on h c.g c.glyph.code (c.base, count) ≡ Ok (made, counted)
-      → rest_of h face s root max_depth below (Ok (made, counted)) ≡ due
+  pub runs : (below : List Waiting) (levels : ℕ) (c : OpenComposite) (count counted : Logged) (made : Made) (due : LoggedOutcome)
+      → logged_rest_of h face s root max_depth below (logged_given_by h face s root levels (Open c, count)) ≡ due → c.parts ≡ []
+      → logged_run h c.g c.glyph.code (c.base, count) ≡ Ok (made, counted)
+      → logged_rest_of h face s root max_depth below (Ok (made, counted)) ≡ due
   runs below levels c count counted made due i e r =
-      sym (ap (λ (q : Outcome). rest_of h face s root max_depth below q) (closes levels c count e ∙ r)) ∙ i
+      sym (ap (λ (q : LoggedOutcome). logged_rest_of h face s root max_depth below q) (closes levels c count e ∙ r)) ∙ i
 
-  pub not_run : (below : List Waiting) (levels : ℕ) (c : OpenComposite) (count : Count) (due : Outcome) (d : HintFault)
-      → rest_of h face s root max_depth below (given_by h face s root levels (Open c, count)) ≡ due → c.parts ≡ []
-      → run_on h c.g c.glyph.code (c.base, count) ≡ Err d → due ≡ Err d
+  pub not_run : (below : List Waiting) (levels : ℕ) (c : OpenComposite) (count : Logged) (due : LoggedOutcome) (d : LoggedFault)
+      → logged_rest_of h face s root max_depth below (logged_given_by h face s root levels (Open c, count)) ≡ due → c.parts ≡ []
+      → logged_run h c.g c.glyph.code (c.base, count) ≡ Err d → due ≡ Err d
   not_run below levels c count due d i e r =
-      sym i ∙ ap (λ (q : Outcome). rest_of h face s root max_depth below q) (closes levels c count e ∙ r)
+      sym i ∙ ap (λ (q : LoggedOutcome). logged_rest_of h face s root max_depth below q) (closes levels c count e ∙ r)
       ∙ rest_refused max_depth below d
 
   -- the next component is begun, and the composite waits for it
-  down : (below : List Waiting) (c : OpenComposite) (part : Part) (parts : List Part) (count : Count) (due : Outcome)
-      → rest_of h face s root max_depth below (given_by h face s root (max_depth - length below) (Open c, count)) ≡ due
+  pub down : (below : List Waiting) (c : OpenComposite) (part : Part) (parts : List Part) (count : Logged) (due : LoggedOutcome)
+      → logged_rest_of h face s root max_depth below (logged_given_by h face s root (max_depth - length below)
+      (Open c, count)) ≡ due
       → c.parts ≡ part ∷ parts
-      → rest_of h face s root max_depth below
-      ((begun_component h face s root (max_depth - length below) part.glyph count
-      >>= given_by h face s root (max_depth - length below - 1))
-      >>= goes_into h face s root (max_depth - length below) (record { part = part; composite = record c { parts = parts } })) ≡ due
+      → logged_rest_of h face s root max_depth below
+      ((logged_begun_component h face s root (max_depth - length below) part.glyph count
+      >>= logged_given_by h face s root (max_depth - length below - 1))
+      >>= logged_goes_into h face s root (max_depth - length below)
+      (record { part = part; composite = record c { parts = parts } })) ≡ due
   down below c part parts count due i e =
-      sym (ap (λ (q : Outcome). rest_of h face s root max_depth below q)
+      sym (ap (λ (q : LoggedOutcome). logged_rest_of h face s root max_depth below q)
       (waits (max_depth - length below) c part parts count e
-      ∙ ap (λ (q : Outcome). q >>= goes_into h face s root (max_depth - length below)
+      ∙ ap (λ (q : LoggedOutcome). q >>= logged_goes_into h face s root (max_depth - length below)
       (record { part = part; composite = record c { parts = parts } })) (component_by (max_depth - length below) part.glyph count)))
       ∙ i
 
   pub descends : (below all : List Waiting) (levels : ℕ) (c : OpenComposite) (part : Part) (parts : List Part) (step : Step)
-      (count counted : Count) (due : Outcome)
-      → rest_of h face s root max_depth below (given_by h face s root (max_depth - length below) (Open c, count)) ≡ due
+      (count counted : Logged) (due : LoggedOutcome)
+      → logged_rest_of h face s root max_depth below (logged_given_by h face s root (max_depth - length below)
+      (Open c, count)) ≡ due
       → c.parts ≡ part ∷ parts → levels ≡ max_depth - length below
-      → begun_component h face s root levels part.glyph count ≡ Ok (step, counted)
+      → logged_begun_component h face s root levels part.glyph count ≡ Ok (step, counted)
       → all ≡ below ++ record { part = part; composite = record c { parts = parts } } ∷ []
-      → rest_of h face s root max_depth all (given_by h face s root (max_depth - length all) (step, counted)) ≡ due
+      → logged_rest_of h face s root max_depth all (logged_given_by h face s root (max_depth - length all) (step, counted)) ≡ due
   descends below all levels c part parts step count counted due i e l b a =
       let w : Waiting = record { part = part; composite = record c { parts = parts } } in
-      let begun : begun_component h face s root (max_depth - length below) part.glyph count ≡ Ok (step, counted) = rw l at b in
+      let logged_begun : logged_begun_component h face s root (max_depth - length below) part.glyph count
+      ≡ Ok (step, counted) = rw l at b in
       let n : length (below ++ w ∷ []) ≡ length below + 1 = length-append below (w ∷ []) in
       let deeper : max_depth - length (below ++ w ∷ []) ≡ max_depth - length below - 1 = omega arith in
-      let there = rest_after max_depth below w (given_by h face s root (max_depth - length below - 1) (step, counted))
-      ∙ sym (ap (λ (q : Result (Step × Count) HintFault). rest_of h face s root max_depth below
-      ((q >>= given_by h face s root (max_depth - length below - 1))
-      >>= goes_into h face s root (max_depth - length below) w)) begun)
+      let there = rest_after max_depth below w (logged_given_by h face s root (max_depth - length below - 1) (step, counted))
+      ∙ sym (ap (λ (q : Result (Step × Logged) LoggedFault). logged_rest_of h face s root max_depth below
+      ((q >>= logged_given_by h face s root (max_depth - length below - 1))
+      >>= logged_goes_into h face s root (max_depth - length below) w)) logged_begun)
       ∙ down below c part parts count due i e in
       let P : ℕ → Type 0 =
-      λ k. rest_of h face s root max_depth (below ++ w ∷ []) (given_by h face s root k (step, counted)) ≡ due in
+      λ k. logged_rest_of h face s root max_depth (below ++ w ∷ []) (logged_given_by h face s root k (step, counted)) ≡ due in
       let Q : List Waiting → Type 0 =
-      λ ws. rest_of h face s root max_depth ws (given_by h face s root (max_depth - length ws) (step, counted)) ≡ due in
+      λ ws. logged_rest_of h face s root max_depth ws (logged_given_by h face s root (max_depth - length ws) (step, counted))
+      ≡ due in
       subst Q (sym a) (subst P (sym deeper) there)
 
-  pub not_descended : (below : List Waiting) (levels : ℕ) (c : OpenComposite) (part : Part) (parts : List Part) (count : Count)
-      (due : Outcome) (d : HintFault)
-      → rest_of h face s root max_depth below (given_by h face s root (max_depth - length below) (Open c, count)) ≡ due
+  pub not_descended : (below : List Waiting) (levels : ℕ) (c : OpenComposite) (part : Part) (parts : List Part) (count : Logged)
+      (due : LoggedOutcome) (d : LoggedFault)
+      → logged_rest_of h face s root max_depth below (logged_given_by h face s root (max_depth - length below)
+      (Open c, count)) ≡ due
       → c.parts ≡ part ∷ parts → levels ≡ max_depth - length below
-      → begun_component h face s root levels part.glyph count ≡ Err d → due ≡ Err d
+      → logged_begun_component h face s root levels part.glyph count ≡ Err d → due ≡ Err d
   not_descended below levels c part parts count due d i e l b =
       let w : Waiting = record { part = part; composite = record c { parts = parts } } in
-      let begun : begun_component h face s root (max_depth - length below) part.glyph count ≡ Err d = rw l at b in
+      let logged_begun : logged_begun_component h face s root (max_depth - length below) part.glyph count ≡ Err d = rw l at b in
       sym (down below c part parts count due i e)
-      ∙ ap (λ (q : Result (Step × Count) HintFault). rest_of h face s root max_depth below
-      ((q >>= given_by h face s root (max_depth - length below - 1))
-      >>= goes_into h face s root (max_depth - length below) w)) begun
+      ∙ ap (λ (q : Result (Step × Logged) LoggedFault). logged_rest_of h face s root max_depth below
+      ((q >>= logged_given_by h face s root (max_depth - length below - 1))
+      >>= logged_goes_into h face s root (max_depth - length below) w)) logged_begun
       ∙ rest_refused max_depth below d
 
   -- the next component is assembled at once, and goes into the composite
   pub fills : (below : List Waiting) (levels : ℕ) (c : OpenComposite) (part : Part) (parts : List Part) (made more : Made)
-      (count counted : Count) (due : Outcome)
-      → rest_of h face s root max_depth below (given_by h face s root (max_depth - length below) (Open c, count)) ≡ due
+      (count counted : Logged) (due : LoggedOutcome)
+      → logged_rest_of h face s root max_depth below (logged_given_by h face s root (max_depth - length below)
+      (Open c, count)) ≡ due
       → c.parts ≡ part ∷ parts → levels ≡ max_depth - length below
-      → begun_component h face s root levels part.glyph count ≡ Ok (Assembled made, counted)
+      → logged_begun_component h face s root levels part.glyph count ≡ Ok (Assembled made, counted)
       → with_part s h.on c.g part c.base made ≡ Ok more
-      → rest_of h face s root max_depth below
-      (given_by h face s root (max_depth - length below) (Open (record c { parts = parts; base = more }), counted)) ≡ due
+      → logged_rest_of h face s root max_depth below
+      (logged_given_by h face s root (max_depth - length below) (Open (record c { parts = parts; base = more }), counted)) ≡ due
   fills below levels c part parts made more count counted due i e l b j =
       let w : Waiting = record { part = part; composite = record c { parts = parts } } in
       joins below (below ++ w ∷ []) w made counted (record c { parts = parts; base = more }) due
@@ -274,11 +291,12 @@ module _ (h : Hinting) (face : Face) (s : Scale) (root : ℕ) where
       (ap (map_ok (λ (m : Made). record w.composite { base = m })) j)
 
   pub not_filled : (below : List Waiting) (levels : ℕ) (c : OpenComposite) (part : Part) (parts : List Part) (made : Made)
-      (count counted : Count) (due : Outcome) (d : HintFault)
-      → rest_of h face s root max_depth below (given_by h face s root (max_depth - length below) (Open c, count)) ≡ due
+      (count counted : Logged) (due : LoggedOutcome) (d : HintFault)
+      → logged_rest_of h face s root max_depth below (logged_given_by h face s root (max_depth - length below)
+      (Open c, count)) ≡ due
       → c.parts ≡ part ∷ parts → levels ≡ max_depth - length below
-      → begun_component h face s root levels part.glyph count ≡ Ok (Assembled made, counted)
-      → with_part s h.on c.g part c.base made ≡ Err d → due ≡ Err d
+      → logged_begun_component h face s root levels part.glyph count ≡ Ok (Assembled made, counted)
+      → with_part s h.on c.g part c.base made ≡ Err d → due ≡ Err (d, counted.1)
   not_filled below levels c part parts made count counted due d i e l b j =
       let w : Waiting = record { part = part; composite = record c { parts = parts } } in
       not_joined below (below ++ w ∷ []) w made counted due d
@@ -286,7 +304,7 @@ module _ (h : Hinting) (face : Face) (s : Scale) (root : ℕ) where
       (ap (map_ok (λ (m : Made). record w.composite { base = m })) j)
 
   -- no composite waits: the root is assembled
-  pub done : (all : List Waiting) (made : Made) (count : Count) (due : Outcome)
-      → rest_of h face s root max_depth all (Ok (made, count)) ≡ due → all ≡ [] → due ≡ Ok (made, count)
-  unfolding rest_of
-  done all made count due i e = sym i ∙ ap (λ (ws : List Waiting). rest_of h face s root max_depth ws (Ok (made, count))) e
+  pub done : (all : List Waiting) (made : Made) (count : Logged) (due : LoggedOutcome)
+      → logged_rest_of h face s root max_depth all (Ok (made, count)) ≡ due → all ≡ [] → due ≡ Ok (made, count)
+  unfolding logged_rest_of
+  done all made count due i e = sym i ∙ ap (λ (ws : List Waiting). logged_rest_of h face s root max_depth ws (Ok (made, count))) e

@@ -4,6 +4,8 @@ pub mod Parts
 pub mod Hinting
 pub mod Programmed
 pub mod Outlines
+pub mod Runs
 pub mod Kept
 pub mod Machines
 pub mod inner
+pub mod Watched

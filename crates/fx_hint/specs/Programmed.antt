@@ -2,7 +2,7 @@
 -- Apple TrueType Reference Manual, "Instructing TrueType Glyphs": phantom points; "The Instruction Set": INSTCTRL.
 use Rattle.std.specs.Prelude.{ℕ, ◌+◌, List, [], length, take, true, false, ◌||◌, nat_eq}
 use Rattle.std.specs.Prelude.{if◌then◌else◌, Option, Some, None, slice_get}
-use Rattle.std.specs.Prelude.{Result, Ok}
+use Rattle.std.specs.Prelude.{Result, Ok, Err}
 use Rattle.fx_fixed.specs.Chain.{◌>>=◌, map_fault}
 use Rattle.fx_fixed.specs.Places.{origin}
 use Rattle.fx_zone.specs.declared.point.Point.{Point}
@@ -10,11 +10,12 @@ use Rattle.fx_zone.specs.Points.{resting}
 use Rattle.fx_zone.specs.Figures.{Figure, joined}
 use Rattle.fx_scale.specs.declared.phantom.PhantomPoints.{PhantomPoints}
 use Rattle.fx_scale.specs.Phantoms.{in_order}
-use Rattle.fx_machine.specs.Known.{Known, glyph_ran}
+use Rattle.fx_machine.specs.Known.{Known, glyph_ran, glyph_run_events}
+use Rattle.fx_machine.specs.Events.{Event}
 use Rattle.fx_machine.specs.declared.usage.Usage.{Usage}
 use Rattle.fx_hint.specs.declared.made.Made.{Made}
 use Rattle.fx_hint.specs.declared.fault.HintFault.{HintFault}
-use Rattle.fx_hint.specs.declared.fault.HintFault.TheVariants.{Halted}
+use Rattle.fx_hint.specs.declared.fault.HintFault.TheVariants.{Halted, OutOfMemory}
 use Rattle.fx_machine.specs.Usages.{no_usage}
 use Rattle.fx_hint.specs.Hinting.{Hinting}
 
@@ -55,6 +56,19 @@ unfoldable pub hinted : Known → ℕ → List ℕ → Made → Result (Made × 
 hinted known g code made =
     if known.prepared.flags.no_programs || nat_eq (length code) 0 then Ok (made, no_usage)
     else program_run known g code made
+
+-- what a watcher sees of it
+unfoldable pub program_events : Known → ℕ → List ℕ → Made → List Event
+program_events known g code made = glyph_run_events known g code (with_phantoms made)
+
+unfoldable pub hinted_events : Known → ℕ → List ℕ → Made → List Event
+hinted_events known g code made =
+    if known.prepared.flags.no_programs || nat_eq (length code) 0 then [] else program_events known g code made
+
+-- what is seen if memory does not run out, and nothing if it does
+abbrev pub seen_by : {Y : Type 0} → Result Y HintFault → List Event → List Event
+seen_by (Err OutOfMemory) events = []
+seen_by _ events = events
 
 -- hinting by the programs of a font at a size, with what fpgm and prep left
 abbrev pub hinting_of : Known → Hinting

@@ -1,5 +1,6 @@
 -- What only private contracts cite.
 pub mod Places
 pub mod Steps
+pub mod RunSteps
 pub mod Plain
 pub mod Kept

@@ -1,10 +1,11 @@
 //! What hinting adds to scaling.
 
-ghost use Rattle.std.specs.Prelude.{◌≡◌, false, IfSome};
+ghost use Rattle.std.specs.Prelude.{◌≡◌, false, IfSome, List, [], ◌∷◌, ◌++◌};
 ghost use Rattle.fx_fixed.specs.Chain.{GivesUnless};
 ghost use Rattle.fx_hint.specs.Faults.{Fails};
 ghost use Rattle.fx_hint.specs.Hinting.{Hinting, KeepsShape, no_hinting};
 ghost use Rattle.fx_hint.specs.Kept.{IsMadeAlone};
+ghost use Rattle.fx_hint.specs.Runs.{ProgramRun, started};
 
 use crate::fault::HintFault;
 use crate::kept::GlyphInput;
@@ -16,6 +17,7 @@ use std::alloc::Global;
 /// same state: nothing passes from one glyph to another.
 pub trait Hinter {
     ghost use Rattle.fx_hint.specs.Hinting.{Hinting};
+    ghost use Rattle.fx_hint.specs.Runs.{ProgramRun};
 
     // What stays as it is, whatever runs.
     ghost Known: { Type 0 };
@@ -23,6 +25,9 @@ pub trait Hinter {
     ghost known: { Self → Known };
 
     ghost hinting: { Self → Hinting };
+
+    // What becomes of it by these programs in turn.
+    ghost Leads: { Self → List ProgramRun → Self → Type 0 };
 
     /// Whether hinting is on.
     fn is_on(&self) -> bool
@@ -32,22 +37,30 @@ pub trait Hinter {
     fn run(&mut self, g: u16, code: &[u8], made: &mut Made) -> Result<Usage, HintFault>
         ensures known { known self.new ≡ known self.old }
         ensures kept { hinting self.new ≡ hinting self.old }
+        ensures leads { Leads self.old (started result (record { g = g; code = code.now; made = made.old })) self.new }
         ensures value { GivesUnless Fails (λ usage. (made.new, usage)) result ((hinting self.old).run g code.now made.old) };
 
     /// A simple glyph as it was made before from the same input, if the hinter has kept it; none if memory is refused for it.
     fn recall(&self, alloc: Global, input: &GlyphInput<'_>) -> Option<(Made, Usage)>
-        ensures { IfSome result (λ r. IsMadeAlone (hinting self.now) input.now.scale input.now.g input.now.metrics
-            input.now.bytes.now r.0 r.1) };
+        ensures value { IfSome result (λ r. IsMadeAlone (hinting self.now) input.now.scale input.now.g input.now.metrics
+            input.now.bytes.now r.0 r.1) }
+        ensures leads { IfSome result (λ _. (run : ProgramRun) → Leads self.now (run ∷ []) self.now) };
 
     /// Takes notice of a simple glyph that was made, and may keep it.
     fn keep(&mut self, input: &GlyphInput<'_>, made: &Made, usage: Usage)
         requires { IsMadeAlone (hinting self.old) input.now.scale input.now.g input.now.metrics input.now.bytes.now made.now usage }
         ensures known { known self.new ≡ known self.old }
-        ensures kept { hinting self.new ≡ hinting self.old };
+        ensures kept { hinting self.new ≡ hinting self.old }
+        ensures leads { Leads self.old [] self.new };
 
     /// The law: no program changes the number of points or the contours.
     fn law_keeps_shape(&self)
         ensures { KeepsShape (hinting self.now) };
+
+    // No program, and some programs after others.
+    ghost leads_same: { (x : Self) → Leads x [] x };
+
+    ghost leads_then: { (x y z : Self) (some more : List ProgramRun) → Leads x some y → Leads y more z → Leads x (some ++ more) z };
 }
 
 /// Hinting off: nothing is rounded, and no program runs.
@@ -62,6 +75,8 @@ impl Hinter for NoHinter {
     ghost known = { λ _. tt };
 
     ghost hinting = { λ _. no_hinting };
+
+    ghost Leads = { λ _ _ _. Unit {0} };
 
     fn is_on(&self) -> bool {
         false
@@ -78,4 +93,8 @@ impl Hinter for NoHinter {
     fn keep(&mut self, _input: &GlyphInput<'_>, _made: &Made, _usage: Usage) {}
 
     fn law_keeps_shape(&self) {}
+
+    ghost leads_same = { λ _. tt };
+
+    ghost leads_then = { λ _ _ _ _ _ _ _. tt };
 }

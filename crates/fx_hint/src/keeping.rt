@@ -113,6 +113,8 @@ impl<'a> Hinter for KeepingMachine<'a> {
 
     ghost hinting = { λ m. hinting_of m.machine.known };
 
+    ghost Leads = { λ _ _ _. Unit {0} };
+
     fn is_on(&self) -> bool {
         true
     }
@@ -133,4 +135,8 @@ impl<'a> Hinter for KeepingMachine<'a> {
     }
 
     fn law_keeps_shape(&self) {}
+
+    ghost leads_same = { λ _. tt };
+
+    ghost leads_then = { λ _ _ _ _ _ _ _. tt };
 }

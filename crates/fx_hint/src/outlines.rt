@@ -5,6 +5,8 @@ ghost use Rattle.fx_fixed.specs.Chain.{GivesUnless};
 ghost use Rattle.fx_machine.specs.Known.{machine_of};
 ghost use Rattle.fx_hint.specs.Faults.{Fails};
 ghost use Rattle.fx_hint.specs.Outlines.{moved_point, moved_outline_of, view_of_glyph_outline, outline_with, hinted_outline_of, IsSound};
+ghost use Rattle.fx_scale.specs.Scaling.{scale_of};
+ghost use Rattle.fx_hint.specs.Runs.{HasRun, runs_of};
 ghost use Rattle.fx_hint.specs.Machines.{hinting_with, IfMachine, IsOf, KnowsSame};
 
 use crate::fault::HintFault;
@@ -57,6 +59,8 @@ pub fn outline_with<H: Hinter>(
 ) -> Result<GlyphOutline, HintFault>
     ensures known { H.known hinter.new ≡ H.known hinter.old }
     ensures kept { H.hinting hinter.new ≡ H.hinting hinter.old }
+    ensures leads { HasRun H.Leads hinter.old hinter.new result
+        (runs_of (H.hinting hinter.old) font.now (scale_of font.now ppem) g) }
     ensures value { GivesUnless Fails view_of_glyph_outline result (outline_with (H.hinting hinter.old) font.now ppem g) }
 {
     let scale = Scale::of(font, ppem);

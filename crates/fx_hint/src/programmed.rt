@@ -3,7 +3,8 @@
 ghost use Rattle.std.specs.Prelude.{◌≡◌, ◌≤◌, length};
 ghost use Rattle.fx_fixed.specs.Chain.{GivesUnless};
 ghost use Rattle.fx_hint.specs.Faults.{Fails};
-ghost use Rattle.fx_hint.specs.Programmed.{point_or, point_at, phantoms_at, program_run, hinted};
+ghost use Rattle.fx_machine.specs.Events.{Watches};
+ghost use Rattle.fx_hint.specs.Programmed.{point_or, point_at, phantoms_at, program_run, hinted, program_events, hinted_events, seen_by};
 
 use crate::fault::HintFault;
 use crate::hinter::Hinter;
@@ -11,7 +12,7 @@ use crate::kept::GlyphInput;
 use crate::made::Made;
 use fx_code::Code;
 use fx_fixed::Place;
-use fx_machine::{Machine, Usage};
+use fx_machine::{Machine, Unwatched, Usage, Watching};
 use fx_scale::PhantomPoints;
 use fx_zone::{Point, Zone};
 use std::alloc::Global;
@@ -42,37 +43,48 @@ fn phantoms_at(zone: &Zone, first: usize) -> PhantomPoints
 }
 
 /// The program of a glyph runs on its points, with the phantom points after them.
-#[tactic(auto, unfolding(crate::specs::Programmed::program_run))]
-fn run_program(
+#[tactic(auto, unfolding(crate::specs::Programmed::program_run, crate::specs::Programmed::program_events))]
+fn run_program<W: Watching>(
     machine: &mut Machine<'_>,
     g: u16,
     code: &[u8],
     made: &mut Made,
+    watcher: &mut W,
 ) -> Result<Usage, HintFault>
     ensures kept { machine.new.known ≡ machine.old.known }
     ensures value { GivesUnless Fails (λ usage. (made.new, usage)) result (program_run machine.old.known g code.now made.old) }
+    ensures watched { Watches W.Sees watcher.old (seen_by result
+        (program_events machine.old.known g code.now made.old)) watcher.new }
 {
     let count = made.zone.len();
     // For the prover: where the contours end.
     let _ends = made.zone.ends();
     let phantoms = made.phantoms.in_order();
     made.zone.append(&phantoms, &[])?;
-    let usage = machine.run_glyph(g, Code::new(code), &mut made.zone)?;
+    let usage = machine.run_glyph(g, Code::new(code), &mut made.zone, watcher)?;
     made.phantoms = phantoms_at(&made.zone, count);
     made.zone.truncate(count);
     Ok(usage)
 }
 
 /// The program of a glyph runs, unless there is none, or `prep` asked for none.
-#[tactic(auto, unfolding(crate::specs::Programmed::hinted))]
-fn hint(machine: &mut Machine<'_>, g: u16, code: &[u8], made: &mut Made) -> Result<Usage, HintFault>
+#[tactic(auto, unfolding(crate::specs::Programmed::hinted, crate::specs::Programmed::hinted_events))]
+fn hint<W: Watching>(
+    machine: &mut Machine<'_>,
+    g: u16,
+    code: &[u8],
+    made: &mut Made,
+    watcher: &mut W,
+) -> Result<Usage, HintFault>
     ensures kept { machine.new.known ≡ machine.old.known }
     ensures value { GivesUnless Fails (λ usage. (made.new, usage)) result (hinted machine.old.known g code.now made.old) }
+    ensures watched { Watches W.Sees watcher.old (seen_by result
+        (hinted_events machine.old.known g code.now made.old)) watcher.new }
 {
     if machine.skips_programs() || code.is_empty() {
         return Ok(Usage::none());
     }
-    run_program(machine, g, code, made)
+    run_program(machine, g, code, made, watcher)
 }
 
 impl<'a> Hinter for Machine<'a> {
@@ -85,12 +97,14 @@ impl<'a> Hinter for Machine<'a> {
 
     ghost hinting = { λ m. hinting_of m.known };
 
+    ghost Leads = { λ _ _ _. Unit {0} };
+
     fn is_on(&self) -> bool {
         true
     }
 
     fn run(&mut self, g: u16, code: &[u8], made: &mut Made) -> Result<Usage, HintFault> {
-        hint(self, g, code, made)
+        hint(self, g, code, made, &mut Unwatched)
     }
 
     fn recall(&self, _alloc: Global, _input: &GlyphInput<'_>) -> Option<(Made, Usage)> {
@@ -100,4 +114,62 @@ impl<'a> Hinter for Machine<'a> {
     fn keep(&mut self, _input: &GlyphInput<'_>, _made: &Made, _usage: Usage) {}
 
     fn law_keeps_shape(&self) {}
+
+    ghost leads_same = { λ _. tt };
+
+    ghost leads_then = { λ _ _ _ _ _ _ _. tt };
+}
+
+/// A machine whose programs of glyphs are watched.
+#[derive(Drop)]
+pub struct WatchedMachine<'a, W> {
+    pub machine: Machine<'a>,
+    pub watcher: W,
+}
+
+impl<'a, W: Watching> WatchedMachine<'a, W> {
+    /// Runs the program of glyph `g` as `run` does, and says what the watcher sees.
+    pub fn run_watched(&mut self, g: u16, code: &[u8], made: &mut Made) -> Result<Usage, HintFault>
+        ensures kept { self.new.machine.known ≡ self.old.machine.known }
+        ensures value { GivesUnless Fails (λ usage. (made.new, usage)) result (hinted self.old.machine.known g code.now made.old) }
+        ensures watched { Watches W.Sees self.old.watcher
+            (seen_by result (hinted_events self.old.machine.known g code.now made.old)) self.new.watcher }
+    {
+        hint(&mut self.machine, g, code, made, &mut self.watcher)
+    }
+}
+
+impl<'a, W: Watching> Hinter for WatchedMachine<'a, W> {
+    ghost use Rattle.fx_machine.specs.Known.{Known};
+    ghost use Rattle.fx_hint.specs.Programmed.{hinting_of};
+    ghost use Rattle.fx_hint.specs.Watched.{WatchesRuns, watched_none, watched_then};
+
+    ghost Known = { Known };
+
+    ghost known = { λ m. m.machine.known };
+
+    ghost hinting = { λ m. hinting_of m.machine.known };
+
+    ghost Leads = { λ a runs b. WatchesRuns W.Sees a.machine.known a.watcher runs b.machine.known b.watcher };
+
+    fn is_on(&self) -> bool {
+        true
+    }
+
+    fn run(&mut self, g: u16, code: &[u8], made: &mut Made) -> Result<Usage, HintFault> {
+        self.run_watched(g, code, made)
+    }
+
+    fn recall(&self, _alloc: Global, _input: &GlyphInput<'_>) -> Option<(Made, Usage)> {
+        None
+    }
+
+    fn keep(&mut self, _input: &GlyphInput<'_>, _made: &Made, _usage: Usage) {}
+
+    fn law_keeps_shape(&self) {}
+
+    ghost leads_same = { λ x. watched_none W.Sees x.machine.known x.watcher };
+
+    ghost leads_then = { λ x y z some more h k. watched_then W.Sees x.machine.known y.machine.known z.machine.known x.watcher
+        y.watcher z.watcher some more h k };
 }

@@ -1,6 +1,6 @@
 //! The walk over components.
 
-ghost use Rattle.std.specs.Prelude.{◌≡◌, ◌+◌, ◌-◌, ◌<◌, ◌≤◌, Ok, Err, IfOk, OnOk, length};
+ghost use Rattle.std.specs.Prelude.{[], ◌∷◌, ◌≡◌, ◌+◌, ◌-◌, ◌<◌, ◌≤◌, Ok, Err, IfOk, OnOk, length};
 ghost use Rattle.fx_fixed.specs.Chain.{GivesUnless, map_ok};
 ghost use Rattle.fx_glyf.specs.declared.glyph.Glyph.TheVariants as glyph;
 ghost use Rattle.fx_glyf.specs.Glyphs.{glyph_of};
@@ -9,9 +9,11 @@ ghost use Rattle.fx_scale.specs.Phantoms.{phantoms_of};
 ghost use Rattle.fx_hint.specs.Faults.{Fails};
 ghost use Rattle.fx_hint.specs.declared.fault.HintFault.{HintFault as TheFault};
 ghost use Rattle.fx_hint.specs.Outlines.{scaled_simple, simple_made, assembled, component, run_on, root_made};
+ghost use Rattle.fx_hint.specs.Runs.{HasRun, runs_in, logged_assembled, logged_component, runs_of};
 ghost use Rattle.fx_outline.specs.Limits.{max_points};
 ghost use Rattle.fx_hint.specs.Limits.{max_components, max_depth};
 ghost use Rattle.fx_hint.specs.Parts.{with_part};
+ghost use Rattle.fx_hint.specs.inner.RunSteps.{begun_runs, begun_by_runs, begun_component_runs, logged_left};
 ghost use Rattle.fx_hint.specs.inner.Steps.{begun, begun_by, begun_component, counted_made, left};
 
 use crate::below::{Below, OpenComposite, Waiting};
@@ -71,6 +73,8 @@ fn run_on<H: Hinter>(
 ) -> Result<Usage, HintFault>
     ensures known { H.known hinter.new ≡ H.known hinter.old }
     ensures kept { H.hinting hinter.new ≡ H.hinting hinter.old }
+    ensures leads { HasRun H.Leads hinter.old hinter.new result
+        (record { g = g; code = code.now; made = made.old } ∷ []) }
     ensures value { GivesUnless Fails (λ _. (made.new, count.new)) result
         (run_on (H.hinting hinter.old) g code.now (made.old, count.old)) }
     ensures ran { IfOk result (λ usage. (H.hinting hinter.old).run g code.now made.old ≡ Ok (made.new, usage)) }
@@ -122,7 +126,7 @@ impl<'w, 'a> Walk<'w, 'a> {
     }
 
     /// A glyph begun: its number and bytes, its reading; and then it is assembled, or open.
-    #[tactic(auto, unfolding(crate::specs::inner::Steps::begun))]
+    #[tactic(auto, unfolding(crate::specs::inner::Steps::begun, crate::specs::inner::RunSteps::begun_runs))]
     fn begun<H: Hinter>(
         &self,
         hinter: &mut H,
@@ -131,6 +135,8 @@ impl<'w, 'a> Walk<'w, 'a> {
     ) -> Result<Step<'a>, HintFault>
         ensures known { H.known hinter.new ≡ H.known hinter.old }
         ensures kept { H.hinting hinter.new ≡ H.hinting hinter.old }
+        ensures leads { HasRun H.Leads hinter.old hinter.new result
+            (begun_runs (H.hinting hinter.old) self.now.font.now self.now.scale.now self.now.root g count.old) }
         ensures value { GivesUnless Fails (λ step. (step, count.new)) result
             (begun (H.hinting hinter.old) self.now.font.now self.now.scale.now self.now.root g count.old) }
         ensures records { OnOk result (count.new.records ≡ count.old.records) }
@@ -142,7 +148,7 @@ impl<'w, 'a> Walk<'w, 'a> {
     }
 
     /// A glyph that has been read, begun: an empty or a simple one is assembled, a composite is open.
-    #[tactic(auto, unfolding(crate::specs::inner::Steps::begun_by))]
+    #[tactic(auto, unfolding(crate::specs::inner::Steps::begun_by, crate::specs::inner::RunSteps::begun_by_runs))]
     fn begun_by<H: Hinter>(
         &self,
         hinter: &mut H,
@@ -153,6 +159,8 @@ impl<'w, 'a> Walk<'w, 'a> {
     ) -> Result<Step<'a>, HintFault>
         ensures known { H.known hinter.new ≡ H.known hinter.old }
         ensures kept { H.hinting hinter.new ≡ H.hinting hinter.old }
+        ensures leads { HasRun H.Leads hinter.old hinter.new result
+            (begun_by_runs (H.hinting hinter.old) self.now.scale.now self.now.root g metrics glyph.entry count.old) }
         ensures value { GivesUnless Fails (λ step. (step, count.new)) result
             (begun_by (H.hinting hinter.old) self.now.scale.now self.now.root g metrics glyph.entry count.old) }
         ensures records { OnOk result (count.new.records ≡ count.old.records) }
@@ -179,7 +187,7 @@ impl<'w, 'a> Walk<'w, 'a> {
     }
 
     /// A simple component that has been read, assembled; the hinter may keep it.
-    #[tactic(auto, unfolding(crate::specs::inner::Steps::begun_by))]
+    #[tactic(auto, unfolding(crate::specs::inner::Steps::begun_by, crate::specs::inner::RunSteps::begun_by_runs))]
     fn simple_kept<H: Hinter>(
         &self,
         hinter: &mut H,
@@ -191,6 +199,9 @@ impl<'w, 'a> Walk<'w, 'a> {
         requires read { glyph_of input.now.bytes.now input.now.g ≡ Ok (glyph.Simple simple.now) }
         ensures known { H.known hinter.new ≡ H.known hinter.old }
         ensures kept { H.hinting hinter.new ≡ H.hinting hinter.old }
+        ensures leads { HasRun H.Leads hinter.old hinter.new result
+            (begun_by_runs (H.hinting hinter.old) self.now.scale.now self.now.root input.now.g input.now.metrics
+            (glyph.Simple simple.now) count.old) }
         ensures value { GivesUnless Fails (λ step. (step, count.new)) result
             (begun_by (H.hinting hinter.old) self.now.scale.now self.now.root input.now.g input.now.metrics
             (glyph.Simple simple.now) count.old) }
@@ -217,7 +228,7 @@ impl<'w, 'a> Walk<'w, 'a> {
     }
 
     /// A glyph begun, which is a component: the hinter may recall it if it is simple, or keep it.
-    #[tactic(auto, unfolding(crate::specs::inner::Steps::begun))]
+    #[tactic(auto, unfolding(crate::specs::inner::Steps::begun, crate::specs::inner::RunSteps::begun_runs))]
     fn begun_or_recalled<H: Hinter>(
         &self,
         hinter: &mut H,
@@ -226,6 +237,8 @@ impl<'w, 'a> Walk<'w, 'a> {
     ) -> Result<Step<'a>, HintFault>
         ensures known { H.known hinter.new ≡ H.known hinter.old }
         ensures kept { H.hinting hinter.new ≡ H.hinting hinter.old }
+        ensures leads { HasRun H.Leads hinter.old hinter.new result
+            (begun_runs (H.hinting hinter.old) self.now.font.now self.now.scale.now self.now.root g count.old) }
         ensures value { GivesUnless Fails (λ step. (step, count.new)) result
             (begun (H.hinting hinter.old) self.now.font.now self.now.scale.now self.now.root g count.old) }
         ensures records { OnOk result (count.new.records ≡ count.old.records) }
@@ -249,7 +262,7 @@ impl<'w, 'a> Walk<'w, 'a> {
     }
 
     /// A component begun, with `levels` levels allowed from here on.
-    #[tactic(auto, unfolding(crate::specs::inner::Steps::begun_component))]
+    #[tactic(auto, unfolding(crate::specs::inner::Steps::begun_component, crate::specs::inner::RunSteps::begun_component_runs))]
     fn begun_component<H: Hinter>(
         &self,
         hinter: &mut H,
@@ -259,6 +272,8 @@ impl<'w, 'a> Walk<'w, 'a> {
     ) -> Result<Step<'a>, HintFault>
         ensures known { H.known hinter.new ≡ H.known hinter.old }
         ensures kept { H.hinting hinter.new ≡ H.hinting hinter.old }
+        ensures leads { HasRun H.Leads hinter.old hinter.new result
+            (begun_component_runs (H.hinting hinter.old) self.now.font.now self.now.scale.now self.now.root levels g count.old) }
         ensures value { GivesUnless Fails (λ step. (step, count.new)) result
             (begun_component (H.hinting hinter.old) self.now.font.now self.now.scale.now self.now.root levels g count.old) }
         ensures records { OnOk result ((count.new.records ≡ count.old.records + 1) × (count.new.records ≤ max_components)) }
@@ -295,9 +310,14 @@ impl<'w, 'a> Walk<'w, 'a> {
         requires points { count.old.points ≤ max_points }
         ensures known { H.known hinter.new ≡ H.known hinter.old }
         ensures kept { H.hinting hinter.new ≡ H.hinting hinter.old }
+        ensures leads { HasRun H.Leads hinter.old hinter.new result
+            (runs_in (logged_assembled (H.hinting hinter.old) self.now.font.now self.now.scale.now self.now.root
+            (logged_component (H.hinting hinter.old) self.now.font.now self.now.scale.now self.now.root max_depth) self.now.root
+            (count.old, []))) }
         ensures value { GivesUnless Fails (λ m. (m, count.new)) result
             (assembled (H.hinting hinter.old) self.now.font.now self.now.scale.now self.now.root
-            (component (H.hinting hinter.old) self.now.font.now self.now.scale.now self.now.root max_depth) self.now.root count.old) }
+            (component (H.hinting hinter.old) self.now.font.now self.now.scale.now self.now.root max_depth) self.now.root
+            count.old) }
     {
         hinter.law_keeps_shape();
         match self.begun(hinter, self.root, count)? {
@@ -318,6 +338,9 @@ impl<'w, 'a> Walk<'w, 'a> {
         requires counted { length root.base.zone.points ≤ count.old.points }
         ensures known { H.known hinter.new ≡ H.known hinter.old }
         ensures kept { H.hinting hinter.new ≡ H.hinting hinter.old }
+        ensures leads { HasRun H.Leads hinter.old hinter.new result
+            (runs_in (logged_left (H.hinting hinter.old) self.now.font.now self.now.scale.now self.now.root max_depth root.entry
+            (count.old, []))) }
         ensures value { GivesUnless Fails (λ m. (m, count.new)) result
             (left (H.hinting hinter.old) self.now.font.now self.now.scale.now self.now.root max_depth root.entry count.old) }
     {
@@ -360,7 +383,7 @@ impl<'w, 'a> Walk<'w, 'a> {
 }
 
 /// A root assembled, and what all programs together used up.
-#[tactic(auto, unfolding(crate::specs::Outlines::root_made))]
+#[tactic(auto, unfolding(crate::specs::Outlines::root_made, crate::specs::Runs::runs_of))]
 pub fn root_made<H: Hinter>(
     alloc: Global,
     hinter: &mut H,
@@ -370,6 +393,7 @@ pub fn root_made<H: Hinter>(
 ) -> Result<(Made, Usage), HintFault>
     ensures known { H.known hinter.new ≡ H.known hinter.old }
     ensures kept { H.hinting hinter.new ≡ H.hinting hinter.old }
+    ensures leads { HasRun H.Leads hinter.old hinter.new result (runs_of (H.hinting hinter.old) font.now scale.now g) }
     ensures value { GivesUnless Fails (λ r. (r.0, r.1)) result (root_made (H.hinting hinter.old) font.now scale.now g) }
 {
     let walk = Walk {

@@ -1,3 +1,5 @@
+pub mod Watched
+pub mod Stepping
 pub mod Steps
 mod Tables
 pub mod Reading

@@ -21,6 +21,7 @@ use Rattle.fx_machine.specs.Machine.{Config, config, Move, Finishes, Stops, Move
 use Rattle.fx_machine.specs.Table.{row_at, row_in, settled}
 use Rattle.fx_machine.specs.Configs.{answered, halt_at}
 use Rattle.fx_machine.proofs.Steps.{go_moves, go_stops, go_finishes, go_limit_moves, go_limit_stops, Takes}
+use Rattle.fx_machine.proofs.Stepping.{none_left, none_after_end, none_after_halt, left_events, no_events}
 
 module _ (texts : Program → List ℕ) (g : ℕ) (start : Program) (limit : ℕ) (first now : State) (n : ℕ) (items : List Frame)
     (w : Program) (p : ℕ)
@@ -106,3 +107,25 @@ module _ (texts : Program → List ℕ) (g : ℕ) (start : Program) (limit : ℕ
         let q : n + 1 ≡ suc n = omega arith in
         let x = go_moves (row_at texts) (limit - suc n) n (reverse items) w p now d (record { is = m }) in
         rw q (h ∙ rw e x)
+
+    -- ---- what is left for a watcher
+
+    abbrev Nothing : Type 0
+    Nothing = left_events texts g (limit - n) (config (reverse items) w p now) ≡ []
+
+    pub unseen_end : p ≡ length (texts w) → length items ≡ 0 → Nothing
+    unseen_end e z = no_events texts g (limit - n) (config (reverse items) w p now)
+        (none_after_end (row_at texts) (limit - n) (reverse items) w p now
+        (rw (at_end e) (no_calls (reverse items) (rw length-reverse z))))
+
+    pub unseen_halt : (cause : Cause) → moved_by (row_at texts w p now) (reverse items) w ≡ Stops cause → Nothing
+    unseen_halt cause m = no_events texts g (limit - n) (config (reverse items) w p now)
+        (none_after_halt (row_at texts) (limit - n) (reverse items) w p now cause m)
+
+    pub unseen_stray : p ≡ length (texts w) → 0 < length items → Nothing
+    unseen_stray e z = unseen_halt StrayEnd (rw (at_end e) (some_calls (reverse items) (rw length-reverse z)))
+
+    pub unseen_limit : n ≡ limit → Nothing
+    unseen_limit e =
+        let z : limit - n ≡ 0 = omega arith in
+        no_events texts g (limit - n) (config (reverse items) w p now) (rw z (none_left (row_at texts) (reverse items) w p now))

@@ -23,9 +23,11 @@ use Rattle.fx_machine.specs.declared.state.State.{State}
 use Rattle.fx_machine.specs.Machine.{answer_of}
 use Rattle.fx_machine.specs.Table.{row_at}
 use Rattle.fx_machine.specs.Configs.{answered}
+use Rattle.fx_machine.specs.Events.{Event, Watches, events_of}
+use Rattle.fx_machine.proofs.Watched.{seen_both}
 use Rattle.fx_machine.specs.Limits.{STEP_LIMIT}
-use Rattle.fx_machine.specs.Known.{Fails, texts_of, first_state, second_state, prepared_from, prelude_of}
-use Rattle.fx_machine.specs.Known.{machine_of, font_ran, final_stack_of, MachineView, with_state}
+use Rattle.fx_machine.specs.Known.{Fails, texts_of, first_state, second_state, prepared_from, prelude_of, prelude_events, prep_events}
+use Rattle.fx_machine.specs.Known.{machine_of, font_ran, final_stack_of, MachineView, with_state, machine_events, seen_by}
 use Rattle.std.specs.Int.{w32}
 use Rattle.std.specs.Prelude.{codes}
 
@@ -57,6 +59,32 @@ module _ (texts : Program → List ℕ) (g : ℕ) (s t : State) (n : ℕ) (eg : 
       let first = rw eg at h in
       let second = rw eg at k in
       rw (← first, ← second, i, j) refl
+
+-- ---- what a watcher sees of both
+
+module _ {W : Type 0} (Sees : W → Event → W → Type 0) (texts : Program → List ℕ) (g : ℕ) (s : State) (eg : g ≡ 0) where
+  watched_both : (was mid now : W) (r : Result (ℕ × State) Halt)
+      → r ≡ answered texts g Font (answer_of (row_at texts) STEP_LIMIT Font s)
+      → Watches Sees was (events_of texts g STEP_LIMIT Font s) mid → Watches Sees mid (prep_events texts r) now
+      → Watches Sees was (prelude_events texts s) now
+  unfolding prelude_events
+  watched_both was mid now r e h k =
+      let h' = rw eg at h in
+      let e' = rw eg at e in
+      rw (← e') (seen_both Sees was mid now _ _ h' k)
+
+  -- fpgm halted
+  pub prep_unseen : (was mid : W) (halt : Halt) → Err halt ≡ answered texts g Font (answer_of (row_at texts) STEP_LIMIT Font s)
+      → Watches Sees was (events_of texts g STEP_LIMIT Font s) mid → Watches Sees was (prelude_events texts s) mid
+  prep_unseen was mid halt e h = watched_both was mid mid (Err halt) e h refl
+
+  -- it finished
+  pub prep_seen : (was mid now : W) (n : ℕ) (t : State)
+      → Ok (n, t) ≡ answered texts g Font (answer_of (row_at texts) STEP_LIMIT Font s)
+      → Watches Sees was (events_of texts g STEP_LIMIT Font s) mid
+      → Watches Sees mid (events_of texts g STEP_LIMIT Prep (second_state t)) now
+      → Watches Sees was (prelude_events texts s) now
+  prep_seen was mid now n t e h k = watched_both was mid now (Ok (n, t)) e h (rw eg at k)
 
 -- ---- a machine
 
@@ -96,3 +124,16 @@ module _ (face : Face) (ppem : ℕ) (scale : Scale) (a b c : List ℕ) (n : ℕ)
       → final_stack_of face ppem ≡ Ok (stack_if true t.store.stack)
   unfolding final_stack_of font_ran
   stack_is ran t k = let e = same_run (Ok (ran, t)) k in rw (← e) refl
+
+  module _ {W : Type 0} (Sees : W → Event → W → Type 0) (was now : W) where
+    same_events : Watches Sees was (prelude_events these s) now → Watches Sees was (machine_events face ppem) now
+    unfolding machine_events
+    same_events k = rw (ea, eb, ec, es, ez) at k
+
+    pub seen_halted : (r : Result MachineView MachineFault) (x : MachineFault) (d : Halt) → r ≡ Err x → x ≡ Halted d
+        → Watches Sees was (prelude_events these s) now
+        → Watches Sees was (seen_by r (machine_events face ppem)) now
+    seen_halted r x d i j k = let e = same_events k in rw (i, j) e
+
+    pub seen_made : Watches Sees was (prelude_events these s) now → Watches Sees was (machine_events face ppem) now
+    seen_made k = same_events k

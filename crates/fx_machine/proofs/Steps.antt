@@ -1,6 +1,7 @@
 -- The function's answer is the relation's, and there is no other.
 -- Serves the laws of `answer_of` and the loop of `run`.
-use Rattle.std.proofs.Common.{◌≡◌, ◌⊎◌, inl, inr, ℕ, zero, suc, ◌+◌, ◌-◌, ◌<◌, ◌≤◌, List, [], ◌∷◌, length, refl, sym, ap, ◌∙◌}
+use Rattle.std.proofs.Common.{◌≡◌, ◌⊎◌, inl, inr, ℕ, zero, suc, ◌+◌, ◌-◌, ◌<◌, ◌≤◌, List, [], ◌∷◌, length, refl, sym, ap, ◌∙◌, Some, subst}
+use Rattle.std.specs.Prelude.{slice_get}
 use Rattle.std.proofs.Common.{arith, add-zero, zero-add}
 use Rattle.std.proofs.Math.Numerals.{one-add}
 use Rattle.std.proofs.lemmas.Bool.{cases_lt, lt-ltb, le-ltb}
@@ -16,6 +17,8 @@ use Rattle.fx_machine.specs.Limits.{CALL_LIMIT}
 use Rattle.fx_machine.specs.Runs.{ends_inside, fails, goes, returns, returns_outside, calls, too_deep, done, turn, last_turn}
 use Rattle.fx_machine.specs.Runs.{Verdict, Finished, Halted, Exhausted, Answer, finished, faulted, stopped}
 use Rattle.fx_machine.specs.Machine.{Config, config, turned, Move, Finishes, Stops, Moves, moved_by, answer_from, answer_of}
+use Rattle.fx_machine.specs.Events.{Step, steps_from, steps_of, Counts, LeadsTo}
+use Rattle.fx_machine.proofs.Stepping.{none_left, none_after_end, none_after_halt, one_step}
 
 module _ (row : Program → ℕ → State → Effect) where
   abbrev go : ℕ → ℕ → Config → Verdict
@@ -334,3 +337,118 @@ module _ (row : Program → ℕ → State → Effect) where
 
     pub one_answer : (v v' : Verdict) → Answer row limit w s v → Answer row limit w s v' → v ≡ v'
     one_answer v v' x y = same_answer x ∙ sym (same_answer y)
+
+  -- ---- the instructions, one by one
+
+  abbrev steps : ℕ → Config → List Step
+  steps left c = steps_from row left c
+
+  -- n instructions from a configuration lead to another
+  ToLeft : Config → ℕ → Config → Type 0
+  ToLeft c n (config L v q t) = Left c n t (Open v q)
+
+  Numbered : Config → ℕ → Step → Type 0
+  Numbered c k x = ((u : State) × Left c k u (Open x.program x.address)) × ToLeft c (suc k) x.to
+
+  open_here : (c : Config) → ToLeft c 0 c
+  unfolding ToLeft Left
+  open_here (config K w p s) = rest_last K open_at tt
+
+  to_left : (K : List Frame) (w : Program) (p : ℕ) (s : State) (d : Config) (n : ℕ) (e : Config) → Leads K w p s (Moves d)
+      → ToLeft d n e → ToLeft (config K w p s) (suc n) e
+  unfolding ToLeft Leads
+  to_left K w p s d n (config L v q t) l x = l n t (Open v q) x
+
+  numbered_first : (K : List Frame) (w : Program) (p : ℕ) (s : State) (d : Config) → Leads K w p s (Moves d)
+      → Numbered (config K w p s) 0 (record { program = w; address = p; to = d })
+  unfolding Numbered Left
+  numbered_first K w p s d l = ((s, rest_last K open_at tt), to_left K w p s d 0 d l (open_here d))
+
+  numbered_next : (K : List Frame) (w : Program) (p : ℕ) (s : State) (d : Config) (k : ℕ) (x : Step) → Leads K w p s (Moves d)
+      → Numbered d k x → Numbered (config K w p s) (suc k) x
+  unfolding Numbered Leads
+  numbered_next K w p s d k x l y = ((y.0.0, l k y.0.0 (Open x.program x.address) y.0.1), to_left K w p s d (suc k) x.to l y.1)
+
+  numbered_in : (K : List Frame) (w : Program) (p : ℕ) (s : State) (d : Config) (xs : List Step) (k : ℕ) (x : Step)
+      → Leads K w p s (Moves d) → ((j : ℕ) → slice_get xs j ≡ Some x → Numbered d j x)
+      → slice_get (record { program = w; address = p; to = d } ∷ xs) k ≡ Some x → Numbered (config K w p s) k x
+  numbered_in K w p s d xs zero x l more h =
+      let e : record { program = w; address = p; to = d } ≡ x = grind (arith, h) in
+      let P : Step → Type 0 = λ y. Numbered (config K w p s) 0 y in subst P e (numbered_first K w p s d l)
+  numbered_in K w p s d xs (suc k) x l more h = numbered_next K w p s d k x l (more k h)
+
+  nowhere : (xs : List Step) (k : ℕ) (x : Step) → xs ≡ [] → slice_get xs k ≡ Some x → ⊥
+  nowhere [] k x e h = absurd cc
+  nowhere (y ∷ ys) k x e h = absurd cc
+
+  numbered_by : (left k : ℕ) (K : List Frame) (w : Program) (p : ℕ) (s : State) (x : Step) (m : Move) → Takes K w p s m
+      → Leads K w p s m → ((d : Config) (j : ℕ) → slice_get (steps left d) j ≡ Some x → Numbered d j x)
+      → slice_get (steps (suc left) (config K w p s)) k ≡ Some x → Numbered (config K w p s) k x
+  numbered_by left k K w p s x Finishes e l more h = absurd (nowhere _ k x (none_after_end row (suc left) K w p s e.is) h)
+  numbered_by left k K w p s x (Stops c) e l more h = absurd (nowhere _ k x (none_after_halt row (suc left) K w p s c e.is) h)
+  numbered_by left k K w p s x (Moves d) e l more h =
+      numbered_in K w p s d (steps left d) k x l (more d) (rw (one_step row left K w p s d e.is) at h)
+
+  numbered : (left k : ℕ) (c : Config) (x : Step) → slice_get (steps left c) k ≡ Some x → Numbered c k x
+  numbered zero k (config K w p s) x h = absurd (nowhere _ k x (none_left row K w p s) h)
+  numbered (suc left) k (config K w p s) x h =
+      numbered_by left k K w p s x (moved_by (row w p s) K w) (record { is = refl }) (leads K w p s (row w p s) refl)
+      (λ d j y. numbered left j d x y) h
+
+  -- ---- how many there are
+
+  CountsFrom : ℕ → ℕ → Config → ℕ → Verdict → Type 0
+  CountsFrom left n c m (Finished k t) = m + n ≡ k
+  CountsFrom left n c m (Halted x v q) = (u : State) × Left c m u (Faulted x v q)
+  CountsFrom left n c m (Exhausted v q) = m ≡ left
+
+  counts_more : (left n : ℕ) (K : List Frame) (w : Program) (p : ℕ) (s : State) (d : Config) (m : ℕ) (v : Verdict)
+      → Leads K w p s (Moves d) → CountsFrom left (suc n) d m v → CountsFrom (suc left) n (config K w p s) (suc m) v
+  unfolding CountsFrom Leads
+  counts_more left n K w p s d m (Finished k t) l e = omega (arith, e)
+  counts_more left n K w p s d m (Halted x v q) l e = (e.0, l m e.0 (Faulted x v q) e.1)
+  counts_more left n K w p s d m (Exhausted v q) l e = omega (arith, e)
+
+  counts_one : (left n : ℕ) (K : List Frame) (w : Program) (p : ℕ) (s : State) (m : Move) → Takes K w p s m → Leads K w p s m
+      → ((d : Config) → CountsFrom left (suc n) d (length (steps left d)) (go left (suc n) d))
+      → CountsFrom (suc left) n (config K w p s) (length (steps (suc left) (config K w p s))) (go (suc left) n (config K w p s))
+  unfolding CountsFrom Leads
+  counts_one left n K w p s Finishes e l more =
+      rw (go_finishes (suc left) n K w p s e, none_after_end row (suc left) K w p s e.is) (omega arith)
+  counts_one left n K w p s (Stops c) e l more =
+      rw (go_stops left n K w p s c e, none_after_halt row (suc left) K w p s c e.is) (s, l)
+  counts_one left n K w p s (Moves d) e l more =
+      rw (go_moves left n K w p s d e, one_step row left K w p s d e.is)
+      (counts_more left n K w p s d (length (steps left d)) (go left (suc n) d) l (more d))
+
+  counts_none : (n : ℕ) (K : List Frame) (w : Program) (p : ℕ) (s : State) (m : Move) → Takes K w p s m
+      → CountsFrom zero n (config K w p s) 0 (go zero n (config K w p s))
+  unfolding CountsFrom
+  counts_none n K w p s Finishes e = rw (go_finishes zero n K w p s e) (omega arith)
+  counts_none n K w p s (Stops c) e = rw (go_limit_stops n K w p s c e) refl
+  counts_none n K w p s (Moves d) e = rw (go_limit_moves n K w p s d e) refl
+
+  counts : (left n : ℕ) (c : Config) → CountsFrom left n c (length (steps left c)) (go left n c)
+  counts zero n (config K w p s) =
+      rw (none_left row K w p s) (counts_none n K w p s (moved_by (row w p s) K w) (record { is = refl }))
+  counts (suc left) n (config K w p s) = counts_one left n K w p s (moved_by (row w p s) K w) (record { is = refl })
+      (leads K w p s (row w p s) refl) (λ d. counts left (suc n) d)
+
+  module _ (limit : ℕ) (w : Program) (s : State) where
+    leads_to : (n : ℕ) (c : Config) → ToLeft (config [] w 0 s) n c → LeadsTo row limit w s n c
+    unfolding ToLeft Left Rest
+    leads_to n (config L v q t) r = r
+
+    pub step_is_run : (k : ℕ) (x : Step) → slice_get (steps_of row limit w s) k ≡ Some x
+        → ((u : State) × Runs row w (At 0) 0 s k u (Open x.program x.address)) × LeadsTo row limit w s (suc k) x.to
+    unfolding Numbered Left Rest
+    step_is_run k x h = let y = numbered limit k (config [] w 0 s) x h in (y.0, leads_to (suc k) x.to y.1)
+
+    counted_by : (m : ℕ) (v : Verdict) → CountsFrom limit 0 (config [] w 0 s) m v → Counts row limit w s m v
+    unfolding CountsFrom Left Rest
+    counted_by m (Finished n t) e = omega (arith, e)
+    counted_by m (Halted c v p) e = e
+    counted_by m (Exhausted v p) e = e
+
+    pub steps_counted : Counts row limit w s (length (steps_of row limit w s)) (answer_of row limit w s)
+    steps_counted = counted_by _ _ (counts limit 0 (config [] w 0 s))

@@ -1,6 +1,6 @@
 -- What a machine of a font at a size knows, and what becomes of a glyph's program.
 -- Apple TrueType Reference Manual, "Instructing Fonts": the font program, the control value program, glyph programs.
-use Rattle.std.specs.Prelude.{◌≡◌, ℕ, ℤ, ◌+◌, pos, List, [], codes, Option, None, Result, Ok, Err, true, false, replicate}
+use Rattle.std.specs.Prelude.{◌≡◌, ℕ, ℤ, ◌+◌, pos, List, [], ◌++◌, codes, Option, None, Result, Ok, Err, true, false, replicate}
 use Rattle.fx_fixed.specs.Chain.{◌>>=◌, map_fault}
 use Rattle.fx_sfnt.specs.Tables.{Face, table_or_empty}
 use Rattle.fx_zone.specs.Figures.{Figure, empty_figure}
@@ -24,8 +24,9 @@ use Rattle.fx_machine.specs.declared.prepared.Prepared.{Prepared}
 use Rattle.fx_machine.specs.Machine.{answer_of}
 use Rattle.fx_machine.specs.Table.{row_at}
 use Rattle.fx_machine.specs.Configs.{answered}
+use Rattle.fx_machine.specs.Events.{Event, events_of}
 use Rattle.fx_zone.specs.Figures.{HasShape}
-use Rattle.fx_machine.specs.Prepared.{begun, glyph_end, ran_of, stack_if, strays_of}
+use Rattle.fx_machine.specs.Prepared.{begun, glyph_end, glyph_events, ran_of, stack_if, strays_of}
 
 -- the font, the size, what prep left, and what fpgm and prep used up
 pub record Known : Type 0 where
@@ -106,6 +107,15 @@ prelude_of texts s = do
   second ← answered texts 0 Prep (answer_of (row_at texts) STEP_LIMIT Prep (second_state first.1))
   Ok (record { steps = first.0 + second.0; strays = strays_of second.1 }, second.1)
 
+-- what a watcher sees of both: prep begins only if fpgm finished
+abbrev pub prep_events : (Program → List ℕ) → Result (ℕ × State) Halt → List Event
+prep_events texts (Ok first) = events_of texts 0 STEP_LIMIT Prep (second_state first.1)
+prep_events texts (Err halt) = []
+
+unfoldable pub prelude_events : (Program → List ℕ) → State → List Event
+prelude_events texts s =
+    events_of texts 0 STEP_LIMIT Font s ++ prep_events texts (answered texts 0 Font (answer_of (row_at texts) STEP_LIMIT Font s))
+
 -- those of a font at a size
 unfoldable pub font_ran : Face → ℕ → Result (Usage × State) MachineFault
 font_ran face ppem = map_fault Halted (prelude_of (texts_of face []) (first_state face (scale_of face ppem)))
@@ -115,6 +125,10 @@ unfoldable pub machine_of : Face → ℕ → Result Known MachineFault
 machine_of face ppem = do
   ran ← font_ran face ppem
   Ok (record { face = face; ppem = ppem; prepared = prepared_from ran.1; prelude = ran.0 })
+
+-- what a watcher sees of fpgm and prep
+unfoldable pub machine_events : Face → ℕ → List Event
+machine_events face ppem = prelude_events (texts_of face []) (first_state face (scale_of face ppem))
 
 -- and the stack that prep leaves, the deepest number first
 unfoldable pub final_stack_of : Face → ℕ → Result (Option (List ℤ)) MachineFault
@@ -132,11 +146,22 @@ abbrev pub Fails : {Y : Type 0} → MachineFault → Result Y MachineFault → T
 Fails OutOfMemory due = Unit {0}
 Fails fault due = due ≡ Err fault
 
+-- what is seen if memory does not run out, and nothing if it does
+abbrev pub seen_by : {Y : Type 0} → Result Y MachineFault → List Event → List Event
+seen_by (Err OutOfMemory) events = []
+seen_by (Err (Halted halt)) events = events
+seen_by (Ok y) events = events
+
 -- ---- what becomes of the program of a glyph on its points
 
 -- the program of glyph g: the instructions executed and the state then; or a halt
 unfoldable pub glyph_run : Known → ℕ → List ℕ → Figure → Result (ℕ × State) Halt
 glyph_run known g code glyph = glyph_end (texts_of known.face code) g known.prepared (scale_of known.face known.ppem)
+    (room_of known.face.maxp.max_stack_elements) glyph
+
+-- what a watcher sees of it
+unfoldable pub glyph_run_events : Known → ℕ → List ℕ → Figure → List Event
+glyph_run_events known g code glyph = glyph_events (texts_of known.face code) g known.prepared (scale_of known.face known.ppem)
     (room_of known.face.maxp.max_stack_elements) glyph
 
 -- what is told of it
@@ -145,7 +170,8 @@ glyph_ran known g code glyph = ran_of (glyph_run known g code glyph)
 
 -- it keeps the number of points and the contours
 abbrev pub GlyphsKeepShape : Type 0
-GlyphsKeepShape = (known : Known) (g : ℕ) (code : List ℕ) (glyph : Figure) (r : Usage × Figure) → glyph_ran known g code glyph ≡ Ok r
+GlyphsKeepShape = (known : Known) (g : ℕ) (code : List ℕ) (glyph : Figure) (r : Usage × Figure)
+    → glyph_ran known g code glyph ≡ Ok r
     → HasShape glyph r.1
 
 -- what fpgm and prep used up has no part in it

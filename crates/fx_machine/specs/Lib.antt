@@ -12,6 +12,7 @@ pub mod StateRows
 pub mod PointRows
 pub mod Table
 pub mod Configs
+pub mod Events
 pub mod Shapes
 pub mod Usages
 pub mod Prepared

@@ -18,6 +18,7 @@ use Rattle.fx_machine.specs.Limits.{STEP_LIMIT}
 use Rattle.fx_machine.specs.Machine.{answer_of}
 use Rattle.fx_machine.specs.Table.{row_at}
 use Rattle.fx_machine.specs.Configs.{answered}
+use Rattle.fx_machine.specs.Events.{Event, events_of}
 use Rattle.fx_zone.specs.Figures.{HasShape}
 
 -- what of a graphics state programs of glyphs take over: all but vectors, reference points, zone pointers, loop and round state,
@@ -53,6 +54,10 @@ started p scale room glyph = record {
 unfoldable pub glyph_end : (Program → List ℕ) → ℕ → Prepared → Scale → ℕ → Figure → Result (ℕ × State) Halt
 glyph_end texts g p scale room glyph =
     answered texts g Glyph (answer_of (row_at texts) STEP_LIMIT Glyph (started p scale room glyph))
+
+-- what a watcher sees of it
+unfoldable pub glyph_events : (Program → List ℕ) → ℕ → Prepared → Scale → ℕ → Figure → List Event
+glyph_events texts g p scale room glyph = events_of texts g STEP_LIMIT Glyph (started p scale room glyph)
 
 -- how many strays a run has counted: outside the storage area and the control values, and outside the zones
 abbrev pub strays_of : State → ℕ

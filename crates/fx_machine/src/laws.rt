@@ -1,6 +1,7 @@
 //! What the definitions imply.
 
 ghost use Rattle.fx_machine.specs.Machine.{AnswerIsOne, AnswerOfIsAnswer};
+ghost use Rattle.fx_machine.specs.Events.{StepsAreRuns, StepsAreCounted};
 ghost use Rattle.fx_machine.specs.Shapes.{RunsKeepShapes};
 ghost use Rattle.fx_machine.specs.Table.{EveryRowIsNamed};
 ghost use Rattle.fx_machine.specs.Known.{GlyphsKeepShape, GlyphsDependOnPrepared};
@@ -13,6 +14,16 @@ pub fn answer_is_one()
 /// A program has an answer, and `answer_of` gives it.
 pub fn answer_of_is_answer()
     ensures { AnswerOfIsAnswer }
+{}
+
+/// The instructions that a watcher sees are those of the run, in their order.
+pub fn steps_are_runs()
+    ensures { StepsAreRuns }
+{}
+
+/// A watcher sees as many instructions as the answer counts.
+pub fn steps_are_counted()
+    ensures { StepsAreCounted }
 {}
 
 /// Programs change neither the number of points nor the contours.

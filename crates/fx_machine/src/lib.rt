@@ -20,6 +20,7 @@ mod state;
 mod state_rows;
 mod step;
 mod usage;
+mod watching;
 mod words;
 
 pub use definitions::{Definitions, Function};
@@ -30,3 +31,4 @@ pub use prepared::Prepared;
 pub use program::{FontProgram, Program, Programs};
 pub use state::{Flags, State};
 pub use usage::Usage;
+pub use watching::{Unwatched, Watching};

@@ -6,9 +6,10 @@ ghost use Rattle.fx_machine.specs.Programs.{texts};
 ghost use Rattle.fx_zone.specs.Figures.{HasShape};
 ghost use Rattle.fx_pointops.specs.Zones.{HasShapes};
 ghost use Rattle.fx_machine.specs.Shapes.{HasSizes};
-ghost use Rattle.fx_machine.specs.Prepared.{Fits, glyph_end, ran_of, stack_after, stack_if, with_zone};
+ghost use Rattle.fx_machine.specs.Prepared.{Fits, glyph_end, glyph_events, ran_of, stack_after, stack_if, with_zone};
+ghost use Rattle.fx_machine.specs.Events.{Watches};
 ghost use Rattle.fx_machine.specs.Known.{Fails, with_state, prelude_of, machine_of, final_stack_of, glyph_run, glyph_ran, first_state};
-ghost use Rattle.fx_machine.specs.Known.{controls_of, prepared_from};
+ghost use Rattle.fx_machine.specs.Known.{controls_of, prepared_from, prelude_events, machine_events, seen_by, glyph_run_events};
 ghost use Rattle.fx_scale.specs.Scaling.{scale_of};
 ghost use Rattle.fx_machine.specs.Known.{Known};
 ghost use Rattle.fx_machine.specs.Blocks.{IsBlockOf, checksum_of, known_words, has_words};
@@ -21,6 +22,7 @@ use crate::program::{Program, Programs};
 use crate::run::run;
 use crate::state::{State, table_or_empty};
 use crate::usage::Usage;
+use crate::watching::Watching;
 use fx_code::{Code, Targets};
 use fx_fixed::Ppem;
 use fx_scale::Scale;
@@ -32,13 +34,14 @@ use std::mem::swap;
 
 /// Runs the program of a glyph on its points, from what `prep` left: what it has used up, or where and why it halted. The points
 /// keep their number and contours, and the state its sizes, also after a halt; the state's stack is then that of the program.
-#[tactic(auto, unfolding(crate::specs::Prepared::glyph_end))]
-fn run_from(
+#[tactic(auto, unfolding(crate::specs::Prepared::glyph_end, crate::specs::Prepared::glyph_events))]
+fn run_from<W: Watching>(
     state: &mut State,
     prepared: &Prepared,
     programs: &Programs<'_>,
     targets: &mut Targets<'_>,
     zone: &mut Zone,
+    watcher: &mut W,
 ) -> Result<Usage, Halt>
     requires fits { Fits prepared.now state.old }
     requires targets { targets.old ≡ programs.now.font }
@@ -46,6 +49,9 @@ fn run_from(
         (glyph_end (texts programs.now) programs.now.number prepared.now state.old.scale state.old.store.room zone.old) }
     ensures stack { stack_if (is_ok result) state.new.store.stack ≡ stack_after
         (glyph_end (texts programs.now) programs.now.number prepared.now state.old.scale state.old.store.room zone.old) }
+    ensures watched { Watches W.Sees watcher.old
+        (glyph_events (texts programs.now) programs.now.number prepared.now state.old.scale state.old.store.room zone.old)
+        watcher.new }
     ensures shape { HasShape zone.old zone.new }
     ensures fits { Fits prepared.now state.new }
     ensures room { state.new.store.room ≡ state.old.store.room }
@@ -54,7 +60,14 @@ fn run_from(
 {
     swap(&mut state.zones.glyph, zone);
     state.restart(prepared);
-    let result = run(state, programs, targets, Program::Glyph, STEP_LIMIT);
+    let result = run(
+        state,
+        programs,
+        targets,
+        Program::Glyph,
+        STEP_LIMIT,
+        watcher,
+    );
     swap(&mut state.zones.glyph, zone);
     let steps = result?;
     Ok(Usage {
@@ -65,21 +78,23 @@ fn run_from(
 
 /// Runs `fpgm`, then `prep`: what they have used up, or the first halt.
 #[tactic(auto, unfolding(crate::specs::Known::prelude_of))]
-fn run_prelude(
+fn run_prelude<W: Watching>(
     state: &mut State,
     programs: &Programs<'_>,
     targets: &mut Targets<'_>,
+    watcher: &mut W,
 ) -> Result<Usage, Halt>
     requires number { programs.now.number ≡ 0 }
     requires targets { targets.old ≡ programs.now.font }
     ensures value { with_state result state.new ≡ prelude_of (texts programs.now) state.old }
+    ensures watched { Watches W.Sees watcher.old (prelude_events (texts programs.now) state.old) watcher.new }
     ensures shapes { HasShapes state.old.zones state.new.zones }
     ensures sizes { HasSizes state.old state.new }
     ensures targets { targets.new ≡ targets.old }
 {
-    let first = run(state, programs, targets, Program::Font, STEP_LIMIT)?;
+    let first = run(state, programs, targets, Program::Font, STEP_LIMIT, watcher)?;
     state.prepare();
-    let second = run(state, programs, targets, Program::Prep, STEP_LIMIT)?;
+    let second = run(state, programs, targets, Program::Prep, STEP_LIMIT, watcher)?;
     Ok(Usage {
         steps: u64::from(first + second),
         strays: state.strays(),
@@ -87,22 +102,24 @@ fn run_prelude(
 }
 
 /// Runs `fpgm`, then `prep`, and takes what they leave: what they have used up, or the first halt.
-fn run_and_take(
+fn run_and_take<W: Watching>(
     state: &mut State,
     programs: &Programs<'_>,
     targets: &mut Targets<'_>,
     prepared: &mut Prepared,
+    watcher: &mut W,
 ) -> Result<Usage, Halt>
     requires number { programs.now.number ≡ 0 }
     requires fits { Fits prepared.old state.old }
     requires targets { targets.old ≡ programs.now.font }
     ensures value { with_state result state.new ≡ prelude_of (texts programs.now) state.old }
+    ensures watched { Watches W.Sees watcher.old (prelude_events (texts programs.now) state.old) watcher.new }
     ensures prepared { OnOk result (prepared.new ≡ prepared_from state.new) }
     ensures shapes { HasShapes state.old.zones state.new.zones }
     ensures sizes { HasSizes state.old state.new }
     ensures targets { targets.new ≡ targets.old }
 {
-    let prelude = run_prelude(state, programs, targets)?;
+    let prelude = run_prelude(state, programs, targets, watcher)?;
     prepared.take(state);
     Ok(prelude)
 }
@@ -162,9 +179,15 @@ impl<'a> Model for Machine<'a> {
 }
 
 impl<'a> Machine<'a> {
-    /// The machine of a font at a size: `fpgm` runs, then `prep`. It takes all its memory before the first instruction.
+    /// The machine of a font at a size: `fpgm` runs, then `prep`. It takes all its memory before the first instruction. The watcher
+    /// sees both programs.
     #[tactic(auto, unfolding(crate::specs::Known::machine_of, crate::specs::Known::final_stack_of, crate::specs::Known::font_ran))]
-    pub fn new(alloc: Global, font: Font<'a>, ppem: Ppem) -> Result<Machine<'a>, MachineFault>
+    pub fn new<W: Watching>(
+        alloc: Global,
+        font: Font<'a>,
+        ppem: Ppem,
+        watcher: &mut W,
+    ) -> Result<Machine<'a>, MachineFault>
         ensures value { GivesUnless Fails (λ m. m.known) result (machine_of font.entry ppem) }
         ensures stack { GivesUnless Fails (λ m. m.final_stack) result (final_stack_of font.entry ppem) }
         ensures font { IfOk result (λ m. m.known.face ≡ font.entry) }
@@ -173,6 +196,7 @@ impl<'a> Machine<'a> {
         ensures controls { IfOk result
             (λ m. length m.known.prepared.cvt ≡ length (controls_of font.entry (scale_of font.entry ppem))) }
         ensures twilight { IfOk result (λ m. length m.known.prepared.twilight.points ≡ font.entry.maxp.max_twilight_points) }
+        ensures watched { Watches W.Sees watcher.old (seen_by result (machine_events font.entry ppem)) watcher.new }
     {
         let font_program = table_or_empty(&font, *b"fpgm");
         let prep = table_or_empty(&font, *b"prep");
@@ -186,7 +210,7 @@ impl<'a> Machine<'a> {
         let mut targets = Targets::new(alloc, Code::new(font_program))?;
         let mut state = boxed_state(alloc, &font, scale)?;
         let mut prepared = boxed_tables(alloc, &state)?;
-        let prelude = run_and_take(&mut state, &programs, &mut targets, &mut prepared)?;
+        let prelude = run_and_take(&mut state, &programs, &mut targets, &mut prepared, watcher)?;
         Ok(Machine {
             font,
             targets,
@@ -298,13 +322,21 @@ impl<'a> Machine<'a> {
     }
 
     /// Runs the program of glyph `g` on its points, from what `prep` left: what it has used up, or where and why it halted. The
-    /// points keep their number and contours, also after a halt. Nothing passes from one glyph to another.
-    #[tactic(auto, unfolding(crate::specs::Known::glyph_ran, crate::specs::Known::glyph_run))]
-    pub fn run_glyph(&mut self, g: u16, code: Code<'_>, zone: &mut Zone) -> Result<Usage, Halt>
+    /// points keep their number and contours, also after a halt. Nothing passes from one glyph to another. The watcher sees
+    /// the program.
+    #[tactic(auto, unfolding(crate::specs::Known::glyph_ran, crate::specs::Known::glyph_run, crate::specs::Known::glyph_run_events))]
+    pub fn run_glyph<W: Watching>(
+        &mut self,
+        g: u16,
+        code: Code<'_>,
+        zone: &mut Zone,
+        watcher: &mut W,
+    ) -> Result<Usage, Halt>
         ensures value { with_zone result zone.new ≡ glyph_ran self.old.known g code.entry zone.old }
         ensures shape { HasShape zone.old zone.new }
         ensures kept { self.new.known ≡ self.old.known }
         ensures stack { self.new.final_stack ≡ stack_after (glyph_run self.old.known g code.entry zone.old) }
+        ensures watched { Watches W.Sees watcher.old (glyph_run_events self.old.known g code.entry zone.old) watcher.new }
     {
         let programs = Programs {
             font: Code::new(self.targets.bytes()),
@@ -319,7 +351,7 @@ impl<'a> Machine<'a> {
             ended_well,
             ..
         } = self;
-        let result = run_from(state, prepared, &programs, targets, zone);
+        let result = run_from(state, prepared, &programs, targets, zone, watcher);
         *ended_well = result.is_ok();
         result
     }

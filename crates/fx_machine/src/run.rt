@@ -1,18 +1,20 @@
 //! Runs, one instruction after the other.
 
-ghost use Rattle.std.specs.Prelude.{◌≡◌, ◌≤◌, IfOk, false};
+ghost use Rattle.std.specs.Prelude.{◌≡◌, ◌≤◌, IfOk, false, length};
 ghost use Rattle.fx_machine.specs.Programs.{texts};
 ghost use Rattle.fx_machine.specs.Table.{row_at};
 ghost use Rattle.fx_pointops.specs.Zones.{HasShapes};
 ghost use Rattle.fx_machine.specs.Shapes.{HasSizes};
 ghost use Rattle.fx_machine.specs.Machine.{answer_of};
 ghost use Rattle.fx_machine.specs.Configs.{answered, sees};
+ghost use Rattle.fx_machine.specs.Events.{Watches, Executed, events_of};
 
 use crate::frames::{Calls, Cursor};
 use crate::halt::{Cause, Halt, halted};
-use crate::program::{Program, Programs};
+use crate::program::{FontProgram, Program, Programs};
 use crate::state::State;
 use crate::step::advance;
+use crate::watching::Watching;
 use arrayvec::ArrayVec;
 use fx_code::{Code, Targets};
 
@@ -29,17 +31,37 @@ fn code_then<'a, 'b>(
     if left { programs.code(program) } else { code }
 }
 
-/// Runs a program from its first byte, for at most `limit` instructions: how many it executed, or where and why it halted.
-pub fn run(
+/// Shows a watcher an instruction that was executed.
+#[inline(always)]
+fn tell<W: Watching>(
+    watcher: &mut W,
+    program: FontProgram,
+    code: &Code<'_>,
+    address: usize,
+    calls: &Calls,
+    state: &State,
+)
+    ensures { W.Sees watcher.old (Executed program code.now address (length calls.now.frames.items) state.now) watcher.new }
+{
+    watcher.see(program, code, address, calls.frames.len(), state);
+}
+
+/// Runs a program from its first byte, for at most `limit` instructions: how many it executed, or where and why it halted. The
+/// watcher
+/// sees it begin, and each instruction after it was executed.
+pub fn run<W: Watching>(
     state: &mut State,
     programs: &Programs<'_>,
     targets: &mut Targets<'_>,
     start: Program,
     limit: u32,
+    watcher: &mut W,
 ) -> Result<u32, Halt>
     requires { targets.old ≡ programs.now.font }
     ensures value { sees result state.new
         ≡ answered (texts programs.now) programs.now.number start (answer_of (row_at (texts programs.now)) limit start state.old) }
+    ensures watched { Watches W.Sees watcher.old (events_of
+        (texts programs.now) programs.now.number limit start state.old) watcher.new }
     ensures few { IfOk result (λ steps. steps ≤ limit) }
     ensures shapes { HasShapes state.old.zones state.new.zones }
     ensures sizes { HasSizes state.old state.new }
@@ -54,7 +76,10 @@ pub fn run(
     };
     let mut code = programs.code(start);
     let mut steps: u32 = 0;
-    // The program's result is what comes of the cursor, the calls and the state after `steps` instructions.
+    watcher.begin(programs.name(start), state);
+    // The program's result is what comes of the cursor, the calls and the state after `steps` instructions. Once the watcher
+    // sees the
+    // instructions that are left, it has seen all.
     'steps: loop {
         let ended = cursor.address == code.len();
         if ended && calls.frames.is_empty() {
@@ -68,10 +93,12 @@ pub fn run(
         if ended {
             return Err(halted(programs, start, program, address, Cause::StrayEnd));
         }
+        let name = programs.name(program);
         let left = match advance(&mut cursor, &mut calls, state, code, targets) {
             Ok(left) => left,
             Err(cause) => return Err(halted(programs, start, program, address, cause)),
         };
+        tell(watcher, name, code, address, &calls, state);
         code = code_then(programs, code, cursor.program, left);
         steps += 1;
     }

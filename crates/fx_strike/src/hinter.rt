@@ -8,7 +8,7 @@ ghost use Rattle.fx_strike.specs.Strike.{machine_for, prelude_by};
 
 use crate::opened::Opened;
 use fx_hint::{GlyphInput, HintFault, Hinter, KeepingMachine, Made, NoHinter};
-use fx_machine::{Machine, Usage};
+use fx_machine::{Machine, Unwatched, Usage};
 use fx_raster::Scratch;
 use fx_request::Refusal;
 use std::alloc::{AllocError, Global};
@@ -66,6 +66,8 @@ impl<'a> Hinter for FontHinter<'a> {
 
     ghost hinting = { hinting_by };
 
+    ghost Leads = { λ _ _ _. Unit {0} };
+
     fn is_on(&self) -> bool {
         match &self.machine {
             Some(machine) => machine.is_on(),
@@ -99,6 +101,10 @@ impl<'a> Hinter for FontHinter<'a> {
             None => NoHinter.law_keeps_shape(),
         }
     }
+
+    ghost leads_same = { λ _. tt };
+
+    ghost leads_then = { λ _ _ _ _ _ _ _. tt };
 }
 
 /// A machine in a box, which keeps components that come again.
@@ -117,7 +123,7 @@ fn machine_at<'a>(alloc: Global, opened: &Opened<'a>) -> Result<Box<KeepingMachi
     ensures { GivesUnless Fails (λ b. b.value.machine.known) result
         (map_fault of_machine (machine_of opened.now.font opened.now.ppem)) }
 {
-    let machine = Machine::new(alloc, opened.font.shared(), opened.ppem)?;
+    let machine = Machine::new(alloc, opened.font.shared(), opened.ppem, &mut Unwatched)?;
     Ok(keeping(alloc, machine)?)
 }
 

@@ -14,14 +14,12 @@ use Rattle.fx_hint.specs.declared.count.Count.{Count}
 use Rattle.fx_machine.specs.declared.usage.Usage.{Usage}
 use Rattle.fx_hint.specs.declared.made.Made.{Made}
 use Rattle.fx_hint.specs.declared.below.OpenComposite.{OpenComposite}
-use Rattle.fx_hint.specs.declared.below.Waiting.{Waiting}
 use Rattle.fx_hint.specs.declared.walk.Step.{Step}
 use Rattle.fx_hint.specs.declared.walk.Step.TheVariants.{Assembled, Open}
 use Rattle.fx_hint.specs.declared.fault.HintFault.{HintFault}
 use Rattle.fx_hint.specs.declared.fault.HintFault.TheVariants.{Font, Glyph, ComponentDepth}
 use Rattle.fx_machine.specs.Usages.{usage_with}
 use Rattle.fx_hint.specs.Hinting.{Hinting}
-use Rattle.fx_hint.specs.Parts.{with_part}
 use Rattle.fx_hint.specs.Outlines.{one_component, more_points, simple_made, run_on, with_parts, component}
 
 -- what becomes of a glyph, and the counts then
@@ -69,23 +67,6 @@ begun_component h face s root (suc levels) g count = one_component root count >>
 abbrev pub left : Hinting → Face → Scale → ℕ → ℕ → OpenComposite → Count → Outcome
 left h face s root levels c count =
     with_parts s h.on (component h face s root levels) c.g c.parts c.base count >>= run_on h c.g c.glyph.code
-
--- what a glyph gives that has been begun
-abbrev pub given_by : Hinting → Face → Scale → ℕ → ℕ → Step × Count → Outcome
-given_by h face s root levels (Assembled made, count) = Ok (made, count)
-given_by h face s root levels (Open c, count) = left h face s root levels c count
-
--- what a waiting composite gives with its component
-abbrev pub goes_into : Hinting → Face → Scale → ℕ → ℕ → Waiting → Made × Count → Outcome
-goes_into h face s root levels w r = do
-  more ← with_part s h.on w.composite.g w.part w.composite.base r.0
-  left h face s root levels (record w.composite { base = more }) r.1
-
--- what the root gives: composites wait, the root first, with this number of levels allowed below it; the innermost one's
--- component gives r
-unfoldable pub rest_of : Hinting → Face → Scale → ℕ → ℕ → List Waiting → Outcome → Outcome
-rest_of h face s root levels [] r = r
-rest_of h face s root levels (w ∷ ws) r = rest_of h face s root (levels - 1) ws r >>= goes_into h face s root levels w
 
 -- an open composite has one step more
 abbrev pub weight : Step → ℕ

@@ -5,7 +5,7 @@ use Rattle.fx_machine.proofs.machine.run_from.Goals as goal
 
 pub returns-in_err-steps-clause-value : goal.returns-in_err-steps-clause-value
 unfolding glyph_end
-returns-in_err-steps-clause-value c =
+returns-in_err-steps-clause-value g c =
     let p = err_from_is_err_and c.from_residual.result c.from_residual.ensures.1 in
     let ran = rw (c.restart.ensures, c.swap.ensures.x_after) at c.in_err-steps.ensures.value in
     rw (p.1, p.2) (ap ran_of ran)

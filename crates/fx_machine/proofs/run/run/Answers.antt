@@ -1,13 +1,17 @@
-use Rattle.std.proofs.Common.{◌∙◌, arith, rules}
+use Rattle.std.proofs.Common.{◌∙◌, refl, arith, rules}
 use Rattle.fx_pointops.proofs.Keeping.{shapes_same, shapes_then}
 use Rattle.fx_machine.proofs.Keeping.{sized, sized_then}
 use Rattle.fx_machine.proofs.Looping.{finished_here, halted_here, stray_here, limit_here, stepped}
+use Rattle.fx_machine.proofs.Looping.{unseen_end, unseen_halt, unseen_stray, unseen_limit}
+use Rattle.fx_machine.proofs.Watched.{seen_first, seen_one, seen_all}
+use Rattle.fx_machine.proofs.Stepping.{events_begin, one_event}
 use Rattle.fx_machine.proofs.run.run.Goals as goal
 use Rattle.fx_machine.proofs.run.run.Goals.{else-ended-via-then-ended+else-is_empty, else-ended-via-else-ended}
 
 pub steps-init : goal.steps-init
-steps-init c = record {
+steps-init g c = record {
   answer = search rules;
+  watched = seen_first _ (events_begin _ _ _ _ _ c.new.result.items (search rules)) (rw c.name.ensures at c.begin.ensures);
   code = c.code-code.ensures;
   counted = omega arith;
   shapes = shapes_same c.args.state.now.zones;
@@ -16,11 +20,15 @@ steps-init c = record {
 }
 
 pub returns-then-is_empty-clause-value : goal.returns-then-is_empty-clause-value
-returns-then-is_empty-clause-value c =
+returns-then-is_empty-clause-value g c =
     finished_here _ _ _ _ _ _ _ c.steps.calls.frames.items _ _ c.steps.invariant.answer (cc) (grind arith)
 
+pub returns-then-is_empty-clause-watched : goal.returns-then-is_empty-clause-watched
+returns-then-is_empty-clause-watched g c = seen_all c.steps.invariant.watched
+    (unseen_end _ _ _ _ _ _ _ c.steps.calls.frames.items _ _ c.steps.invariant.answer (cc) (grind arith))
+
 pub returns-then-steps-limit-clause-value : goal.returns-then-steps-limit-clause-value
-returns-then-steps-limit-clause-value c = rw c.halted.ensures
+returns-then-steps-limit-clause-value g c = rw c.halted.ensures
     (limit_here _ _ _ _ _ _ _ c.steps.calls.frames.items _ _ c.steps.invariant.answer c.if-steps-limit.true
     (elim c.else-ended.branch [
       | else-ended-via-then-ended+else-is_empty w ↦ (λ e z. grind arith)
@@ -28,8 +36,12 @@ returns-then-steps-limit-clause-value c = rw c.halted.ensures
           (λ e z. w.if-ended.false (cc))
     ]))
 
+pub returns-then-steps-limit-clause-watched : goal.returns-then-steps-limit-clause-watched
+returns-then-steps-limit-clause-watched g c = seen_all c.steps.invariant.watched
+    (unseen_limit _ _ _ _ _ _ _ c.steps.calls.frames.items _ _ c.steps.invariant.answer c.if-steps-limit.true)
+
 pub returns-then-ended-2-clause-value : goal.returns-then-ended-2-clause-value
-returns-then-ended-2-clause-value c = rw c.halted-then-ended-2.ensures
+returns-then-ended-2-clause-value g c = rw c.halted-then-ended-2.ensures
     (stray_here _ _ _ _ _ c.steps.state _ c.steps.calls.frames.items _ _ c.steps.invariant.answer (omega arith) (cc)
     (elim c.else-ended.branch [
       | else-ended-via-then-ended+else-is_empty w ↦ grind arith
@@ -37,22 +49,40 @@ returns-then-ended-2-clause-value c = rw c.halted-then-ended-2.ensures
           absurd (w.if-ended.false c.if-ended-2.true)
     ]))
 
+pub returns-then-ended-2-clause-watched : goal.returns-then-ended-2-clause-watched
+returns-then-ended-2-clause-watched g c = seen_all c.steps.invariant.watched
+    (unseen_stray _ _ _ _ _ c.steps.state _ c.steps.calls.frames.items _ _ c.steps.invariant.answer (cc)
+    (elim c.else-ended.branch [
+      | else-ended-via-then-ended+else-is_empty w ↦ grind arith
+      | else-ended-via-else-ended w ↦
+          absurd (w.if-ended.false c.if-ended-2.true)
+    ]))
+
+pub returns-in-Err-clause-watched : goal.returns-in-Err-clause-watched
+returns-in-Err-clause-watched g c = seen_all c.steps.invariant.watched
+    (unseen_halt _ _ _ _ _ c.steps.state _ c.steps.calls.frames.items _ _ c.steps.invariant.answer _
+    (rw c.steps.invariant.code at c.in-Err.ensures.moved))
+
 pub returns-in-Err-clause-value : goal.returns-in-Err-clause-value
-returns-in-Err-clause-value c =
+returns-in-Err-clause-value g c =
     rw c.halted-in-Err.ensures
     (halted_here _ _ _ _ _ c.steps.state _ c.steps.calls.frames.items _ _ c.steps.invariant.answer _ (omega arith)
     (rw c.steps.invariant.code at c.in-Err.ensures.moved))
 
 pub returns-in-Err-clause-shapes : goal.returns-in-Err-clause-shapes
-returns-in-Err-clause-shapes c = shapes_then _ _ _ c.steps.invariant.shapes c.in-Err.ensures.shapes
+returns-in-Err-clause-shapes g c = shapes_then _ _ _ c.steps.invariant.shapes c.in-Err.ensures.shapes
 
 pub returns-in-Err-clause-sizes : goal.returns-in-Err-clause-sizes
-returns-in-Err-clause-sizes c = sized_then c.steps.invariant.sizes c.in-Err.ensures.sizes
+returns-in-Err-clause-sizes g c = sized_then c.steps.invariant.sizes c.in-Err.ensures.sizes
 
 pub steps-preserved : goal.steps-preserved
-steps-preserved c = record {
+steps-preserved g c = record {
   answer = stepped _ 0 _ _ _ _ _ c.steps.calls.frames.items _ _ c.steps.invariant.answer _ (omega arith)
       (rw c.steps.invariant.code at c.in-Ok.ensures.moved);
+  watched = seen_one c.steps.invariant.watched
+      (one_event _ _ _ _ _ _ _ _ c.advance.new.calls.frames.items c.advance.new.cursor.program c.advance.new.cursor.address
+      c.advance.new.state _ refl (omega arith) (rw c.steps.invariant.code at c.in-Ok.ensures.moved))
+      (rw (c.name-name.ensures, c.steps.invariant.code) at c.tell.ensures);
   code = c.code_then-code.ensures;
   counted = omega arith;
   shapes = shapes_then _ _ _ c.steps.invariant.shapes c.in-Ok.ensures.shapes;

@@ -3,15 +3,21 @@ use Rattle.fx_machine.specs.Programs.{texts}
 use Rattle.fx_machine.specs.Machine.{answer_from, answer_of}
 use Rattle.fx_machine.specs.Table.{row_at}
 use Rattle.fx_machine.specs.Configs.{config_of}
+use Rattle.fx_machine.specs.Events.{events_of}
 use Rattle.fx_pointops.specs.Zones.{HasShapes}
 use Rattle.fx_machine.specs.Shapes.{HasSizes}
+use Rattle.fx_machine.proofs.Watched.{HasSeen}
+use Rattle.fx_machine.proofs.Stepping.{left_events}
 use Rattle.fx_machine.proofs.run.run.Given as goal
 
--- the answer is what is answered from here
+-- the answer is what is answered from here, and a watcher that sees what is left from here has seen all
 abbrev pub invariant-steps : goal.invariant-steps
-invariant-steps l = record {
+invariant-steps g l = record {
   answer : answer_of (row_at (texts l.programs)) l.limit l.start l.fn.state ≡ answer_from (row_at (texts l.programs))
       (l.limit - l.steps) l.steps (config_of l.cursor l.calls l.state);
+  watched : HasSeen g.W.Watching.Sees l.fn.watcher l.watcher
+      (events_of (texts l.programs) l.programs.number l.limit l.start l.fn.state)
+      (left_events (texts l.programs) l.programs.number (l.limit - l.steps) (config_of l.cursor l.calls l.state));
   code : l.code ≡ texts l.programs l.cursor.program;
   counted : l.steps ≤ l.limit;
   shapes : HasShapes l.fn.state.zones l.state.zones;
@@ -20,4 +26,4 @@ invariant-steps l = record {
 }
 
 abbrev pub decreases-steps : goal.decreases-steps
-decreases-steps l = l.limit - l.steps
+decreases-steps g l = l.limit - l.steps

@@ -1,10 +1,13 @@
-use Rattle.std.proofs.Common.{rules, arith, [], ◌∷◌, length, ap, length-append}
+use Rattle.std.proofs.Common.{rules, arith, refl, ◌∙◌, ◌-◌, [], ◌∷◌, length, ap, length-append}
 use Rattle.std.proofs.lemmas.Result.{err_from_is_err_and}
 use Rattle.fx_fixed.proofs.Chain.{map_ok_ok}
+use Rattle.fx_hint.specs.Limits.{max_depth}
 use Rattle.fx_hint.specs.declared.below.OpenComposite.{OpenComposite}
 use Rattle.fx_hint.specs.declared.below.Waiting.{Waiting}
 use Rattle.fx_hint.proofs.Walking.{fails_on}
 use Rattle.fx_hint.proofs.Steps.{opens, joins, not_joined, runs, not_run, descends, not_descended, fills, not_filled, done}
+use Rattle.fx_hint.proofs.Forgetting.{left_fails, left_gives}
+use Rattle.fx_hint.proofs.RunLaws.{logged_is, run_is, first_of_begun, first_of_closed, first_of_ok, first_of_ran, stops_here, stops_on}
 use Rattle.fx_hint.proofs.Totals.{points_with_one_more, component_begun_counted, run_keeps_points, part_adds_points}
 use Rattle.fx_hint.proofs.walk.Walk.closed.Goals as goal
 
@@ -12,7 +15,7 @@ pub steps-init : goal.steps-init
 steps-init g c = record {
   known = search rules;
   kept = search rules;
-  due = opens _ _ _ _ _ c.args.root _ c.new-below.ensures;
+  ran = ([], g.met.H.Hinter.leads_same _, opens _ _ _ _ _ c.args.root (c.args.count.now, []) c.new-below.ensures);
   deep = rw c.new-below.ensures (omega arith);
   few = c.requires.records;
   counted = let n = c.requires.counted in rw c.new-below.ensures (omega (arith, n));
@@ -40,9 +43,10 @@ returns-in_err-step-in-Some-clause-value g c =
     let p = err_from_is_err_and c.from_residual.result c.from_residual.ensures.1 in
     let n = c.len.ensures in
     let v = rw c.steps.invariant.kept at c.in_err-step-in-Some.ensures.value in
+    let lev = c.levels_below-levels.ensures ∙ ap (λ k. max_depth - k) n in
     rw (p.1, p.2) (fails_on c.in_err-step-in-Some.field-0.0 _ _
-    (λ e b. not_descended _ _ _ _ _ _ c.steps.open c.in-Some.part c.next.new.self _ _ e
-    c.steps.invariant.due c.in-Some.ensures.steps (omega arith) b) v)
+    (λ e b. left_fails _ _ _ _ _ c.args.root _ _ _ (not_descended _ _ _ _ _ _ c.steps.open c.in-Some.part c.next.new.self _ _ _
+    c.steps.invariant.ran.2 c.in-Some.ensures.steps lev (logged_is _ _ _ _ _ _ _ c.steps.invariant.ran.0 _ b))) v)
 
 pub steps-preserved-in-Continue-branch-2 : goal.steps-preserved-in-Continue-branch-2
 steps-preserved-in-Continue-branch-2 g c =
@@ -52,11 +56,17 @@ steps-preserved-in-Continue-branch-2 g c =
     let m = c.steps.invariant.counted in
     let p = component_begun_counted _ _ _ _ _ _ _ _ c.law_keeps_shape.ensures c.steps.invariant.points v in
     let s = part_adds_points _ _ _ _ _ _ _ a in
+    let led = rw c.steps.invariant.kept at c.in_ok-step-in-Some.ensures.leads in
+    let lv = logged_is _ _ _ _ _ _ _ c.steps.invariant.ran.0 _ v in
     record {
       known = search rules;
       kept = search rules;
-      due = fills _ _ _ _ _ _ c.steps.open c.in-Some.part c.next.new.self _ _ _ _ _
-          c.steps.invariant.due c.in-Some.ensures.steps (omega arith) v a;
+      ran = (
+        _,
+        g.met.H.Hinter.leads_then _ _ _ _ _ c.steps.invariant.ran.1 led,
+        fills _ _ _ _ _ _ c.steps.open c.in-Some.part c.next.new.self _ _ _ _ _
+            c.steps.invariant.ran.2 c.in-Some.ensures.steps (omega arith) lv a,
+      );
       deep = c.steps.invariant.deep;
       few = c.in_ok-step-in-Some.ensures.records.1;
       counted = omega (arith, m, p.0, s);
@@ -70,9 +80,11 @@ returns-in_err-add_part-in-Assembled-clause-value g c =
     let n = c.len.ensures in
     let v = rw (c.steps.invariant.kept, c.in-Assembled.is) at c.in_ok-step-in-Some.ensures.value in
     let a = rw c.is_on-on.ensures at c.in_err-add_part-in-Assembled.ensures in
+    let lv = logged_is _ _ _ _ _ _ _ c.steps.invariant.ran.0 _ v in
+    let lev = c.levels_below-levels.ensures ∙ ap (λ k. max_depth - k) n in
     rw (p.1, p.2) (fails_on c.in_err-add_part-in-Assembled.field-0.0 _ _
-    (λ e b. not_filled _ _ _ _ _ _ c.steps.open c.in-Some.part c.next.new.self _ _ _ _ e
-    c.steps.invariant.due c.in-Some.ensures.steps (omega arith) v b) a)
+    (λ e b. left_fails _ _ _ _ _ c.args.root _ _ _ (not_filled _ _ _ _ _ _ c.steps.open c.in-Some.part c.next.new.self _ _ _ _ e
+    c.steps.invariant.ran.2 c.in-Some.ensures.steps lev lv b)) a)
 
 pub steps-preserved-in-Open : goal.steps-preserved-in-Open
 steps-preserved-in-Open g c =
@@ -85,11 +97,17 @@ steps-preserved-in-Open g c =
     let m = c.steps.invariant.counted in
     let p = component_begun_counted _ _ _ _ _ _ _ _ c.law_keeps_shape.ensures c.steps.invariant.points v in
     let s = points_with_one_more c.steps.below w in
+    let led = rw c.steps.invariant.kept at c.in_ok-step-in-Some.ensures.leads in
+    let lv = logged_is _ _ _ _ _ _ _ c.steps.invariant.ran.0 _ v in
     record {
       known = search rules;
       kept = search rules;
-      due = descends _ _ _ _ _ _ _ c.steps.open c.in-Some.part c.next.new.self _ _ _ _
-          c.steps.invariant.due c.in-Some.ensures.steps (omega arith) v c.in_ok-push-in-Open.ensures;
+      ran = (
+        _,
+        g.met.H.Hinter.leads_then _ _ _ _ _ c.steps.invariant.ran.1 led,
+        descends _ _ _ _ _ _ _ c.steps.open c.in-Some.part c.next.new.self _ _ _ _
+            c.steps.invariant.ran.2 c.in-Some.ensures.steps (omega arith) lv c.in_ok-push-in-Open.ensures,
+      );
       deep = rw c.in_ok-push-in-Open.ensures (omega arith);
       few = c.in_ok-step-in-Some.ensures.records.1;
       counted = rw c.in_ok-push-in-Open.ensures (omega (arith, m, p.0, s));
@@ -101,28 +119,30 @@ returns-in_err-run_on-in-None-clause-value g c =
     let p = err_from_is_err_and c.from_residual-in_err-run_on-in-None.result c.from_residual-in_err-run_on-in-None.ensures.1 in
     let v = rw (c.steps.invariant.kept, c.code.ensures.value) at c.in_err-run_on-in-None.ensures.value in
     rw (p.1, p.2) (fails_on c.in_err-run_on-in-None.field-0.0 _ _
-    (λ e b. not_run _ _ _ _ _ _ c.steps.open _ _ e c.steps.invariant.due c.in-None.ensures.steps.0 b) v)
+    (λ e b. left_fails _ _ _ _ _ c.args.root _ _ _ (not_run _ _ _ _ _ _ c.steps.open _ _ _ c.steps.invariant.ran.2
+    c.in-None.ensures.steps.0 (run_is _ _ _ _ _ c.steps.invariant.ran.0 _ b))) v)
 
 pub returns-in-None-pop-clause-value : goal.returns-in-None-pop-clause-value
 returns-in-None-pop-clause-value g c =
     let v = rw (c.steps.invariant.kept, c.code.ensures.value) at c.in_ok-run_on-in-None.ensures.value in
-    let ran = runs _ _ _ _ _ _ c.steps.open _ _ _ _ c.steps.invariant.due c.in-None.ensures.steps.0 v in
-    done _ _ _ _ _ _ _ _ ran c.in-None-pop.ensures
+    let lv = run_is _ _ _ _ _ c.steps.invariant.ran.0 _ v in
+    let ran = runs _ _ _ _ _ _ c.steps.open _ _ _ _ c.steps.invariant.ran.2 c.in-None.ensures.steps.0 lv in
+    left_gives _ _ _ _ _ c.args.root _ _ _ (done _ _ _ _ _ _ _ _ ran c.in-None-pop.ensures)
 
 pub returns-in_err-open-in-Some-pop-clause-value : goal.returns-in_err-open-in-Some-pop-clause-value
 returns-in_err-open-in-Some-pop-clause-value g c =
     let p = err_from_is_err_and c.from_residual-in_err-open-in-Some-pop.result
     c.from_residual-in_err-open-in-Some-pop.ensures.1 in
     let v = rw (c.steps.invariant.kept, c.code.ensures.value) at c.in_ok-run_on-in-None.ensures.value in
-    let ran = runs _ _ _ _ _ _ c.steps.open _ _ _ _ c.steps.invariant.due c.in-None.ensures.steps.0 v in
+    let lv = run_is _ _ _ _ _ c.steps.invariant.ran.0 _ v in
+    let ran = runs _ _ _ _ _ _ c.steps.open _ _ _ _ c.steps.invariant.ran.2 c.in-None.ensures.steps.0 lv in
     let j = rw c.is_on-on.ensures at c.in_err-open-in-Some-pop.ensures in
     rw (p.1, p.2) (fails_on c.in_err-open-in-Some-pop.field-0.0 _ _
-    (λ e b. not_joined _ _ _ _ _ _ _ _ _ _ e ran c.in-Some-pop.ensures b) j)
+    (λ e b. left_fails _ _ _ _ _ c.args.root _ _ _ (not_joined _ _ _ _ _ _ _ _ _ _ e ran c.in-Some-pop.ensures b)) j)
 
 pub steps-preserved : goal.steps-preserved
 steps-preserved g c =
     let v = rw (c.steps.invariant.kept, c.code.ensures.value) at c.in_ok-run_on-in-None.ensures.value in
-    let ran = runs _ _ _ _ _ _ c.steps.open _ _ _ _ c.steps.invariant.due c.in-None.ensures.steps.0 v in
     let j = rw c.is_on-on.ensures at c.in_ok-open-in-Some-pop.ensures in
     let n = length-append c.pop.new.self (c.in-Some-pop.waiting ∷ []) in
     let d = rw c.in-Some-pop.ensures at c.steps.invariant.deep in
@@ -132,12 +152,98 @@ steps-preserved g c =
     let q = map_ok_ok _ _ _ j in
     let s = part_adds_points _ _ _ _ _ _ _ q.1 in
     let e = ap (λ (o : OpenComposite). length o.base.zone.points) q.2 in
+    let led = rw c.code.ensures.value at c.in_ok-run_on-in-None.ensures.leads in
+    let lv = run_is _ _ _ _ _ c.steps.invariant.ran.0 _ v in
+    let ran = runs _ _ _ _ _ _ c.steps.open _ _ _ _ c.steps.invariant.ran.2 c.in-None.ensures.steps.0 lv in
     record {
       known = search rules;
       kept = search rules;
-      due = joins _ _ _ _ _ _ _ _ _ _ _ ran c.in-Some-pop.ensures j;
+      ran = (
+        _,
+        g.met.H.Hinter.leads_then _ _ _ _ _ c.steps.invariant.ran.1 led,
+        joins _ _ _ _ _ _ _ _ _ _ _ ran c.in-Some-pop.ensures j,
+      );
       deep = omega arith;
       few = rw c.in_ok-run_on-in-None.ensures.records c.steps.invariant.few;
       counted = omega (arith, all, one, kept.0, kept.1, s, e);
       points = let few = c.steps.invariant.points in omega (arith, few, kept.1);
     }
+
+pub returns-in-None-pop-clause-leads : goal.returns-in-None-pop-clause-leads
+returns-in-None-pop-clause-leads g c =
+    let v = rw (c.steps.invariant.kept, c.code.ensures.value) at c.in_ok-run_on-in-None.ensures.value in
+    let led = rw c.code.ensures.value at c.in_ok-run_on-in-None.ensures.leads in
+    let lv = run_is _ _ _ _ _ c.steps.invariant.ran.0 _ v in
+    let ran = runs _ _ _ _ _ _ c.steps.open _ _ _ _ c.steps.invariant.ran.2 c.in-None.ensures.steps.0 lv in
+    let e = done _ _ _ _ _ _ _ _ ran c.in-None-pop.ensures in
+    rw e (g.met.H.Hinter.leads_then _ _ _ _ _ c.steps.invariant.ran.1 led)
+
+pub returns-in_err-step-in-Some-clause-leads : goal.returns-in_err-step-in-Some-clause-leads
+returns-in_err-step-in-Some-clause-leads g c =
+    let p = err_from_is_err_and c.from_residual.result c.from_residual.ensures.1 in
+    let n = c.len.ensures in
+    let v = rw c.steps.invariant.kept at c.in_err-step-in-Some.ensures.value in
+    let led = rw c.steps.invariant.kept at c.in_err-step-in-Some.ensures.leads in
+    let lev = c.levels_below-levels.ensures ∙ ap (λ k. max_depth - k) n in
+    let f = first_of_begun _ _ _ _ _ _ c.steps.open c.in-Some.part c.next.new.self _ _ _ _
+    c.steps.invariant.ran.2 c.in-Some.ensures.steps lev (logged_is _ _ _ _ _ _ _ c.steps.invariant.ran.0 _ refl) in
+    rw (p.1, p.2) (stops_on g.H.Hinter.Leads g.met.H.Hinter.leads_then _ _ _ c.in_err-step-in-Some.field-0.0 _
+    c.steps.invariant.ran.0 _ _ c.steps.invariant.ran.1 led f v
+    (λ e b. not_descended _ _ _ _ _ _ c.steps.open c.in-Some.part c.next.new.self _ _ _
+    c.steps.invariant.ran.2 c.in-Some.ensures.steps lev
+    (logged_is _ _ _ _ _ _ _ c.steps.invariant.ran.0 _ b)))
+
+pub returns-in_err-add_part-in-Assembled-clause-leads : goal.returns-in_err-add_part-in-Assembled-clause-leads
+returns-in_err-add_part-in-Assembled-clause-leads g c =
+    let p = err_from_is_err_and c.from_residual-in_err-add_part-in-Assembled.result
+    c.from_residual-in_err-add_part-in-Assembled.ensures.1 in
+    let n = c.len.ensures in
+    let v = rw (c.steps.invariant.kept, c.in-Assembled.is) at c.in_ok-step-in-Some.ensures.value in
+    let a = rw c.is_on-on.ensures at c.in_err-add_part-in-Assembled.ensures in
+    let led = rw c.steps.invariant.kept at c.in_ok-step-in-Some.ensures.leads in
+    let lv = logged_is _ _ _ _ _ _ _ c.steps.invariant.ran.0 _ v in
+    let lev = c.levels_below-levels.ensures ∙ ap (λ k. max_depth - k) n in
+    let f = first_of_ok _ _ _ _ _ _ c.steps.open c.in-Some.part c.next.new.self _ _ _ _
+    c.steps.invariant.ran.2 c.in-Some.ensures.steps lev lv in
+    rw (p.1, p.2) (stops_here g.H.Hinter.Leads _ _ c.in_err-add_part-in-Assembled.field-0.0 _ _ _
+    (g.met.H.Hinter.leads_then _ _ _ _ _ c.steps.invariant.ran.1 led) f a
+    (λ e b. not_filled _ _ _ _ _ _ c.steps.open c.in-Some.part c.next.new.self _ _ _ _ e
+    c.steps.invariant.ran.2 c.in-Some.ensures.steps lev lv b))
+
+pub returns-in_err-push-in-Open-clause-leads : goal.returns-in_err-push-in-Open-clause-leads
+returns-in_err-push-in-Open-clause-leads g c =
+    let p = err_from_is_err_and c.from_residual-in_err-push-in-Open.result c.from_residual-in_err-push-in-Open.ensures.1 in
+    let n = c.len.ensures in
+    let v = rw (c.steps.invariant.kept, c.in-Open.is) at c.in_ok-step-in-Some.ensures.value in
+    let led = rw c.steps.invariant.kept at c.in_ok-step-in-Some.ensures.leads in
+    let lv = logged_is _ _ _ _ _ _ _ c.steps.invariant.ran.0 _ v in
+    let lev = c.levels_below-levels.ensures ∙ ap (λ k. max_depth - k) n in
+    let f = first_of_ok _ _ _ _ _ _ c.steps.open c.in-Some.part c.next.new.self _ _ _ _
+    c.steps.invariant.ran.2 c.in-Some.ensures.steps lev lv in
+    rw (p.1, p.2) (_, f, g.met.H.Hinter.leads_then _ _ _ _ _ c.steps.invariant.ran.1 led)
+
+pub returns-in_err-run_on-in-None-clause-leads : goal.returns-in_err-run_on-in-None-clause-leads
+returns-in_err-run_on-in-None-clause-leads g c =
+    let p = err_from_is_err_and c.from_residual-in_err-run_on-in-None.result c.from_residual-in_err-run_on-in-None.ensures.1 in
+    let v = rw (c.steps.invariant.kept, c.code.ensures.value) at c.in_err-run_on-in-None.ensures.value in
+    let led = rw c.code.ensures.value at c.in_err-run_on-in-None.ensures.leads in
+    let f = first_of_closed _ _ _ _ _ _ c.steps.open _ _ _ _ c.steps.invariant.ran.2 c.in-None.ensures.steps.0
+    (run_is _ _ _ _ _ c.steps.invariant.ran.0 _ refl) in
+    rw (p.1, p.2) (stops_on g.H.Hinter.Leads g.met.H.Hinter.leads_then _ _ _ c.in_err-run_on-in-None.field-0.0 _
+    c.steps.invariant.ran.0 _ _ c.steps.invariant.ran.1 led f v
+    (λ e b. not_run _ _ _ _ _ _ c.steps.open _ _ _ c.steps.invariant.ran.2 c.in-None.ensures.steps.0
+    (run_is _ _ _ _ _ c.steps.invariant.ran.0 _ b)))
+
+pub returns-in_err-open-in-Some-pop-clause-leads : goal.returns-in_err-open-in-Some-pop-clause-leads
+returns-in_err-open-in-Some-pop-clause-leads g c =
+    let p = err_from_is_err_and c.from_residual-in_err-open-in-Some-pop.result
+    c.from_residual-in_err-open-in-Some-pop.ensures.1 in
+    let v = rw (c.steps.invariant.kept, c.code.ensures.value) at c.in_ok-run_on-in-None.ensures.value in
+    let led = rw c.code.ensures.value at c.in_ok-run_on-in-None.ensures.leads in
+    let lv = run_is _ _ _ _ _ c.steps.invariant.ran.0 _ v in
+    let ran = runs _ _ _ _ _ _ c.steps.open _ _ _ _ c.steps.invariant.ran.2 c.in-None.ensures.steps.0 lv in
+    let j = rw c.is_on-on.ensures at c.in_err-open-in-Some-pop.ensures in
+    let f = first_of_ran _ _ _ _ _ _ c.steps.open _ _ _ _ c.steps.invariant.ran.2 c.in-None.ensures.steps.0 lv in
+    rw (p.1, p.2) (stops_here g.H.Hinter.Leads _ _ c.in_err-open-in-Some-pop.field-0.0 _ _ _
+    (g.met.H.Hinter.leads_then _ _ _ _ _ c.steps.invariant.ran.1 led) f j
+    (λ e b. not_joined _ _ _ _ _ _ _ _ _ _ e ran c.in-Some-pop.ensures b))

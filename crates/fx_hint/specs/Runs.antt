@@ -1,0 +1,142 @@
+-- The programs that are run for a glyph, in their order: the recursion on components again, which lists each program it starts.
+use Rattle.std.specs.Prelude.{◌≡◌, ℕ, zero, suc, List, [], ◌∷◌, ◌++◌, pos, Bool, Result, Ok, Err}
+use Rattle.fx_fixed.specs.Chain.{◌>>=◌, map_fault}
+use Rattle.fx_sfnt.specs.declared.records.Metrics.{Metrics}
+use Rattle.fx_sfnt.specs.Tables.{Face}
+use Rattle.fx_sfnt.specs.Glyphs.{metrics_of, glyph_bytes_of}
+use Rattle.fx_glyf.specs.declared.part.Part.{Part}
+use Rattle.fx_glyf.specs.declared.glyph.Glyph as glyf
+use Rattle.fx_glyf.specs.declared.glyph.Glyph.TheVariants.{Empty, Simple, Composite}
+use Rattle.fx_glyf.specs.Shapes.{SimpleView}
+use Rattle.fx_glyf.specs.Glyphs.{glyph_of}
+use Rattle.fx_zone.specs.Figures.{empty_figure}
+use Rattle.fx_scale.specs.declared.scale.Scale.{Scale}
+use Rattle.fx_scale.specs.Phantoms.{phantoms_of}
+use Rattle.fx_hint.specs.declared.count.Count.{Count}
+use Rattle.fx_hint.specs.declared.made.Made.{Made}
+use Rattle.fx_hint.specs.declared.fault.HintFault.{HintFault}
+use Rattle.fx_hint.specs.declared.fault.HintFault.TheVariants.{Font, Glyph, ComponentDepth, OutOfMemory}
+use Rattle.fx_hint.specs.Limits.{max_depth}
+use Rattle.fx_hint.specs.Hinting.{Hinting}
+use Rattle.fx_hint.specs.Parts.{with_part}
+use Rattle.fx_hint.specs.Outlines.{one_component, simple_made, run_on, nothing_counted, assembled, component}
+
+-- a program of a glyph, started on these points
+pub record ProgramRun : Type 0 where
+  pub g : ℕ
+  pub code : List ℕ
+  pub made : Made
+
+-- the counts so far, and the programs started so far
+abbrev pub Logged : Type 0
+Logged = Count × List ProgramRun
+
+-- a fault, and the programs started until then; one that halts is the last of them
+abbrev pub LoggedFault : Type 0
+LoggedFault = HintFault × List ProgramRun
+
+abbrev pub LoggedMaker : Type 0
+LoggedMaker = ℕ → Logged → Result (Made × Logged) LoggedFault
+
+-- a check after these programs
+abbrev pub after : {A : Type 0} → List ProgramRun → Result A HintFault → Result A LoggedFault
+after runs r = map_fault (λ (e : HintFault). (e, runs)) r
+
+unfoldable pub logged_one : ℕ → Logged → Result Logged LoggedFault
+logged_one root count = do
+  counted ← after count.1 (one_component root count.0)
+  Ok (counted, count.1)
+
+unfoldable pub logged_simple : Scale → Bool → ℕ → Metrics → SimpleView → Logged → Result (Made × Logged) LoggedFault
+logged_simple s hinted root m shape count = do
+  made ← after count.1 (simple_made s hinted root m shape count.0)
+  Ok (made.0, (made.1, count.1))
+
+-- one program more
+abbrev pub with_run : List ProgramRun → ℕ → List ℕ → Made → List ProgramRun
+with_run runs g code made = runs ++ record { g = g; code = code; made = made } ∷ []
+
+unfoldable pub logged_run : Hinting → ℕ → List ℕ → Made × Logged → Result (Made × Logged) LoggedFault
+logged_run h g code made = do
+  ran ← after (with_run made.1.1 g code made.0) (run_on h g code (made.0, made.1.0))
+  Ok (ran.0, (ran.1, with_run made.1.1 g code made.0))
+
+unfoldable pub logged_parts : Scale → Bool → LoggedMaker → ℕ → List Part → Made → Logged → Result (Made × Logged) LoggedFault
+logged_parts s hinted make g [] base count = Ok (base, count)
+logged_parts s hinted make g (part ∷ parts) base count = do
+  component ← make part.glyph count
+  more ← after component.1.1 (with_part s hinted g part base component.0)
+  logged_parts s hinted make g parts more component.1
+
+unfoldable pub logged_made_of : Hinting → Scale → ℕ → LoggedMaker → ℕ → Metrics → glyf.Glyph → Logged
+    → Result (Made × Logged) LoggedFault
+logged_made_of h s root make g m Empty count = Ok (record { zone = empty_figure; phantoms = phantoms_of s h.on (pos 0) m }, count)
+logged_made_of h s root make g m (Simple shape) count = do
+  made ← logged_simple s h.on root m shape count
+  logged_run h g shape.code made
+logged_made_of h s root make g m (Composite assembly) count = do
+  made ← logged_parts s h.on make g assembly.components
+      (record { zone = empty_figure; phantoms = phantoms_of s h.on assembly.x_min m }) count
+  logged_run h g assembly.code made
+
+unfoldable pub logged_assembled : Hinting → Face → Scale → ℕ → LoggedMaker → ℕ → Logged → Result (Made × Logged) LoggedFault
+logged_assembled h face s root make g count = do
+  m ← after count.1 (map_fault Font (metrics_of face g))
+  bytes ← after count.1 (map_fault Font (glyph_bytes_of face g))
+  glyph ← after count.1 (map_fault Glyph (glyph_of bytes g))
+  logged_made_of h s root make g m glyph count
+
+unfoldable pub logged_component : Hinting → Face → Scale → ℕ → ℕ → ℕ → Logged → Result (Made × Logged) LoggedFault
+logged_component h face s root zero = λ g count. Err (ComponentDepth g, count.1)
+logged_component h face s root (suc levels) = λ g count.
+    logged_one root count >>= λ counted. logged_assembled h face s root (logged_component h face s root levels) g counted
+
+-- the programs of an answer
+abbrev pub runs_in : {A : Type 0} → Result (A × Logged) LoggedFault → List ProgramRun
+runs_in (Ok x) = x.1.1
+runs_in (Err e) = e.1
+
+-- the programs that are run for a root, in their order: those of components before that of the composite; the last may halt
+unfoldable pub runs_of : Hinting → Face → Scale → ℕ → List ProgramRun
+runs_of h face s g =
+    runs_in (logged_assembled h face s g (logged_component h face s g max_depth) g (nothing_counted, []))
+
+-- some of these programs, from the first on
+abbrev pub AreFirst : List ProgramRun → List ProgramRun → Type 0
+AreFirst some all = (others : List ProgramRun) × (some ++ others ≡ all)
+
+-- it has come to `now` from `was` by these programs, when this fault is returned; if memory runs out, by the first of them
+abbrev pub StopsAfter : {S : Type 0} → (S → List ProgramRun → S → Type 0) → S → S → HintFault → List ProgramRun → Type 0
+StopsAfter Leads was now OutOfMemory runs = (some : List ProgramRun) × AreFirst some runs × Leads was some now
+StopsAfter Leads was now fault runs = Leads was runs now
+
+-- it has come to `now` from `was` by these programs
+abbrev pub HasRun : {S A : Type 0} → (S → List ProgramRun → S → Type 0) → S → S → Result A HintFault → List ProgramRun → Type 0
+HasRun Leads was now (Ok x) runs = Leads was runs now
+HasRun Leads was now (Err e) runs = StopsAfter Leads was now e runs
+
+-- what is seen of a program: nothing if memory runs out
+abbrev pub started_by : HintFault → ProgramRun → List ProgramRun
+started_by OutOfMemory run = []
+started_by fault run = run ∷ []
+
+abbrev pub started : {Y : Type 0} → Result Y HintFault → ProgramRun → List ProgramRun
+started (Ok y) run = run ∷ []
+started (Err e) run = started_by e run
+
+-- the programs that run once a value is there
+abbrev pub once : {A : Type 0} → Result A HintFault → (A → List ProgramRun) → List ProgramRun
+once (Ok x) f = f x
+once (Err e) f = []
+
+-- without the list
+abbrev pub plain : {A : Type 0} → Result (A × Logged) LoggedFault → Result (A × Count) HintFault
+plain (Ok x) = Ok (x.0, x.1.0)
+plain (Err e) = Err e.0
+
+-- the recursion that lists programs is that of the outline, in all else
+abbrev pub ListsTheWalk : Type 0
+ListsTheWalk =
+    (h : Hinting) (face : Face) (s : Scale) (root g : ℕ) (count : Logged)
+    → plain (logged_assembled h face s root (logged_component h face s root max_depth) g count)
+    ≡ assembled h face s root (component h face s root max_depth) g count.0

@@ -1,0 +1,32 @@
+-- What a watcher has seen in the middle of a run.
+-- It serves the loop of `run`, and two programs that run one after the other.
+use Rattle.std.proofs.Common.{◌≡◌, List, [], ◌∷◌, ◌++◌, refl, subst, sym}
+use Rattle.fx_machine.specs.Events.{Event, Watches}
+
+-- once it has seen what is left, it has seen all
+pub record HasSeen {W : Type 0} (Sees : W → Event → W → Type 0) (was now : W) (all left : List Event) : Type 0 where
+  pub then : (end : W) → Watches Sees now left end → Watches Sees was all end
+
+module _ {W : Type 0} {Sees : W → Event → W → Type 0} where
+  -- the first event was seen
+  pub seen_first : {was now : W} {x : Event} {left : List Event} (all : List Event) → all ≡ x ∷ left → Sees was x now
+      → HasSeen Sees was now all left
+  seen_first {was} {now} {x} {left} all e s =
+      record { then = λ end w. let P : List Event → Type 0 = λ l. Watches Sees was l end in subst P (sym e) (now, s, w) }
+
+  -- one more
+  pub seen_one : {was now next : W} {all left more : List Event} {x : Event} → HasSeen Sees was now all left → left ≡ x ∷ more
+      → Sees now x next → HasSeen Sees was next all more
+  seen_one {now = now} {next = next} {left = left} h e s = record {
+    then = λ end w. h.then end (let P : List Event → Type 0 = λ l. Watches Sees now l end in subst P (sym e) (next, s, w));
+  }
+
+  -- none is left
+  pub seen_all : {was now : W} {all left : List Event} → HasSeen Sees was now all left → left ≡ [] → Watches Sees was all now
+  seen_all {now = now} h e = h.then now (let P : List Event → Type 0 = λ l. Watches Sees now l now in subst P (sym e) refl)
+
+-- some events, and then others
+pub seen_both : {W : Type 0} (Sees : W → Event → W → Type 0) (was mid now : W) (xs ys : List Event) → Watches Sees was xs mid
+    → Watches Sees mid ys now → Watches Sees was (xs ++ ys) now
+seen_both {W} Sees was mid now [] ys h k = let P : W → Type 0 = λ w. Watches Sees w ys now in subst P h k
+seen_both Sees was mid now (x ∷ xs) ys h k = (h.0, h.1, seen_both Sees h.0 mid now xs ys h.2 k)
