@@ -70,7 +70,8 @@ up_logged x = Ok (Assembled x.0, x.1)
 abbrev up : Made × Count → Result (Step × Count) HintFault
 up x = Ok (Assembled x.0, x.1)
 
-pub run_is : (h : Hinting) (g : ℕ) (code : List ℕ) (made : Made) (count : Count) (runs : List ProgramRun) (q : Result (Made × Count) HintFault)
+pub run_is : (h : Hinting) (g : ℕ) (code : List ℕ) (made : Made) (count : Count) (runs : List ProgramRun) (q : Result
+    (Made × Count) HintFault)
     → run_on h g code (made, count) ≡ q → logged_run h g code (made, (count, runs)) ≡ logged (with_run runs g code made) q
 unfolding logged_run
 run_is h g code made count runs (Ok x) e =
@@ -145,7 +146,8 @@ module _ (h : Hinting) (face : Face) (s : Scale) (root : ℕ) where
       first_one count (one_component root count.0) (λ c. logged_assembled h face s root (logged_component h face s root levels) g c)
       (λ c. first_assembled (logged_component h face s root levels) g c (λ n d. first_component levels n d))
 
-  first_left : (levels : ℕ) (c : OpenComposite) (count : Logged) → AreFirst count.1 (runs_in (logged_left h face s root levels c count))
+  first_left : (levels : ℕ) (c : OpenComposite) (count : Logged)
+      → AreFirst count.1 (runs_in (logged_left h face s root levels c count))
   first_left levels c count =
       first_then count.1 _ _ (first_parts (logged_component h face s root levels) c.g c.parts c.base count
       (λ n d. first_component levels n d))
@@ -170,14 +172,6 @@ module _ (h : Hinting) (face : Face) (s : Scale) (root : ℕ) where
       first_then (runs_in r) _ _ (first_rest (levels - 1) ws r)
       (first_chain (logged_rest_of h face s root (levels - 1) ws r) (logged_goes_into h face s root levels w)
       (λ x. first_into levels w x))
-
-  -- the programs so far are the first of what is due
-  pub first_of_left : (levels deep : ℕ) (ws : List Waiting) (c : OpenComposite) (count : Logged) (due : LoggedOutcome)
-      → logged_rest_of h face s root levels ws (logged_left h face s root deep c count) ≡ due → AreFirst count.1 (runs_in due)
-  first_of_left levels deep ws c count due e =
-      let P : LoggedOutcome → Type 0 = λ q. AreFirst count.1 (runs_in q) in
-      subst P e (first_then count.1 _ _ (first_left deep c count)
-      (first_rest levels ws (logged_left h face s root deep c count)))
 
   -- ---- a glyph that is begun starts at most one program
 
@@ -247,7 +241,8 @@ module _ (h : Hinting) (face : Face) (s : Scale) (root : ℕ) where
   -- when a component was begun, the programs so far are the first of what is due
   pub first_of_begun : (below : List Waiting) (levels : ℕ) (c : OpenComposite) (part : Part) (parts : List Part) (count : Logged)
       (due : LoggedOutcome) (runs : List ProgramRun) (q : Result (Step × Count) HintFault)
-      → logged_rest_of h face s root max_depth below (logged_given_by h face s root (max_depth - length below) (Open c, count)) ≡ due
+      → logged_rest_of h face s root max_depth below (logged_given_by h face s root (max_depth - length below)
+      (Open c, count)) ≡ due
       → c.parts ≡ part ∷ parts → levels ≡ max_depth - length below
       → logged_begun_component h face s root levels part.glyph count ≡ logged runs q → AreFirst runs (runs_in due)
   first_of_begun below levels c part parts count due runs q i e l b =
@@ -283,9 +278,11 @@ module _ (h : Hinting) (face : Face) (s : Scale) (root : ℕ) where
       let Q : List ProgramRun → Type 0 = λ rs. AreFirst rs (runs_in due) in
       subst Q same f
 
-  pub first_of_ok : (below : List Waiting) (levels : ℕ) (c : OpenComposite) (part : Part) (parts : List Part) (count counted : Logged)
+  pub first_of_ok : (below : List Waiting) (levels : ℕ) (c : OpenComposite) (part : Part) (parts : List Part)
+      (count counted : Logged)
       (due : LoggedOutcome) (step : Step)
-      → logged_rest_of h face s root max_depth below (logged_given_by h face s root (max_depth - length below) (Open c, count)) ≡ due
+      → logged_rest_of h face s root max_depth below (logged_given_by h face s root (max_depth - length below)
+      (Open c, count)) ≡ due
       → c.parts ≡ part ∷ parts → levels ≡ max_depth - length below
       → logged_begun_component h face s root levels part.glyph count ≡ Ok (step, counted) → AreFirst counted.1 (runs_in due)
   first_of_ok below levels c part parts count counted due step i e l b =

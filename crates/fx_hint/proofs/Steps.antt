@@ -50,7 +50,8 @@ two_after (Ok x) a b k = one_after (a x) (b x) k
 two_after (Err e) a b k = refl
 
 module _ (h : Hinting) (face : Face) (s : Scale) (root : ℕ) where
-  again : (levels : ℕ) (q : LoggedOutcome) → q ≡ ((q >>= λ ran. Ok (Assembled ran.0, ran.1)) >>= logged_given_by h face s root levels)
+  again : (levels : ℕ) (q : LoggedOutcome) → q
+      ≡ ((q >>= λ ran. Ok (Assembled ran.0, ran.1)) >>= logged_given_by h face s root levels)
   again levels (Ok ran) = refl
   again levels (Err e) = refl
 
@@ -69,7 +70,8 @@ module _ (h : Hinting) (face : Face) (s : Scale) (root : ℕ) where
   made_by levels g m (Composite assembly) count = refl
 
   -- a glyph is begun, and then gives what it gives
-  pub assembled_by : (levels g : ℕ) (count : Logged) → logged_assembled h face s root (logged_component h face s root levels) g count
+  pub assembled_by : (levels g : ℕ) (count : Logged)
+      → logged_assembled h face s root (logged_component h face s root levels) g count
       ≡ (logged_begun h face s root g count >>= logged_given_by h face s root levels)
   unfolding logged_assembled logged_begun
   assembled_by levels g count =
@@ -85,8 +87,10 @@ module _ (h : Hinting) (face : Face) (s : Scale) (root : ℕ) where
   component_by zero g count = refl
   component_by (suc levels) g count =
       let e : suc levels - 1 ≡ levels = omega arith in
-      rw e (last_of (logged_one root count) (λ counted. logged_assembled h face s root (logged_component h face s root levels) g counted)
-      (λ counted. logged_begun h face s root g counted) (logged_given_by h face s root levels) (λ counted. assembled_by levels g counted))
+      rw e (last_of (logged_one root count) (λ counted. logged_assembled h face s root
+      (logged_component h face s root levels) g counted)
+      (λ counted. logged_begun h face s root g counted) (logged_given_by h face s root levels)
+      (λ counted. assembled_by levels g counted))
 
   -- the next component of an open composite: the composite waits for it
   waits : (levels : ℕ) (c : OpenComposite) (part : Part) (parts : List Part) (count : Logged) → c.parts ≡ part ∷ parts
@@ -132,7 +136,8 @@ module _ (h : Hinting) (face : Face) (s : Scale) (root : ℕ) where
 
   -- the root is begun
   pub begins : (g : ℕ) (count counted : Logged) (step : Step) → logged_begun h face s root g count ≡ Ok (step, counted)
-      → logged_assembled h face s root (logged_component h face s root max_depth) g count ≡ logged_given_by h face s root max_depth (step, counted)
+      → logged_assembled h face s root (logged_component h face s root max_depth) g count
+      ≡ logged_given_by h face s root max_depth (step, counted)
   begins g count counted step e =
       assembled_by max_depth g count
       ∙ ap (λ (q : Result (Step × Logged) LoggedFault). q >>= logged_given_by h face s root max_depth) e
@@ -151,12 +156,14 @@ module _ (h : Hinting) (face : Face) (s : Scale) (root : ℕ) where
   pub not_begun : (g : ℕ) (count : Logged) (e : LoggedFault) → logged_begun h face s root g count ≡ Err e
       → logged_assembled h face s root (logged_component h face s root max_depth) g count ≡ Err e
   not_begun g count e b =
-      assembled_by max_depth g count ∙ ap (λ (q : Result (Step × Logged) LoggedFault). q >>= logged_given_by h face s root max_depth) b
+      assembled_by max_depth g count ∙ ap (λ (q : Result
+      (Step × Logged) LoggedFault). q >>= logged_given_by h face s root max_depth) b
 
   -- an assembled glyph goes into the composite that waits for it
   into : (below all : List Waiting) (w : Waiting) (made : Made) (count : Logged) (due : LoggedOutcome)
       → logged_rest_of h face s root max_depth all (Ok (made, count)) ≡ due → all ≡ below ++ w ∷ []
-      → logged_rest_of h face s root max_depth below (logged_goes_into h face s root (max_depth - length below) w (made, count)) ≡ due
+      → logged_rest_of h face s root max_depth below (logged_goes_into h face s root (max_depth - length below) w
+      (made, count)) ≡ due
   into below all w made count due i e =
       sym (rest_after max_depth below w (Ok (made, count)))
       ∙ sym (ap (λ (ws : List Waiting). logged_rest_of h face s root max_depth ws (Ok (made, count))) e) ∙ i
@@ -164,14 +171,17 @@ module _ (h : Hinting) (face : Face) (s : Scale) (root : ℕ) where
   pub joins : (below all : List Waiting) (w : Waiting) (made : Made) (count : Logged) (c : OpenComposite) (due : LoggedOutcome)
       → logged_rest_of h face s root max_depth all (Ok (made, count)) ≡ due → all ≡ below ++ w ∷ []
       → map_ok (λ more. record w.composite { base = more }) (with_part s h.on w.composite.g w.part w.composite.base made) ≡ Ok c
-      → logged_rest_of h face s root max_depth below (logged_given_by h face s root (max_depth - length below) (Open c, count)) ≡ due
+      → logged_rest_of h face s root max_depth below (logged_given_by h face s root (max_depth - length below)
+      (Open c, count)) ≡ due
   joins below all w made count c due i e j =
       let p = map_ok_ok (λ more. record w.composite { base = more })
       (with_part s h.on w.composite.g w.part w.composite.base made) c j in
-      ap (λ (d : OpenComposite). logged_rest_of h face s root max_depth below (logged_left h face s root (max_depth - length below) d count))
+      ap (λ (d : OpenComposite). logged_rest_of h face s root max_depth below (logged_left h face s root
+      (max_depth - length below) d count))
       (sym p.2)
       ∙ sym (ap (λ (q : Result Made HintFault). logged_rest_of h face s root max_depth below
-      (after count.1 q >>= λ more. logged_left h face s root (max_depth - length below) (record w.composite { base = more }) count)) p.1)
+      (after count.1 q >>= λ more. logged_left h face s root (max_depth - length below)
+      (record w.composite { base = more }) count)) p.1)
       ∙ into below all w made count due i e
 
   map_ok_err : {A B : Type 0} (view : A → B) (r : Result A HintFault) (e : HintFault) → map_ok view r ≡ Err e → r ≡ Err e
@@ -187,7 +197,8 @@ module _ (h : Hinting) (face : Face) (s : Scale) (root : ℕ) where
       (with_part s h.on w.composite.g w.part w.composite.base made) d j in
       sym (into below all w made count due i e)
       ∙ ap (λ (q : Result Made HintFault). logged_rest_of h face s root max_depth below
-      (after count.1 q >>= λ more. logged_left h face s root (max_depth - length below) (record w.composite { base = more }) count)) p
+      (after count.1 q >>= λ more. logged_left h face s root (max_depth - length below)
+      (record w.composite { base = more }) count)) p
       ∙ rest_refused max_depth below (d, count.1)
 
   -- no component is left: the program runs
@@ -207,12 +218,14 @@ module _ (h : Hinting) (face : Face) (s : Scale) (root : ℕ) where
 
   -- the next component is begun, and the composite waits for it
   pub down : (below : List Waiting) (c : OpenComposite) (part : Part) (parts : List Part) (count : Logged) (due : LoggedOutcome)
-      → logged_rest_of h face s root max_depth below (logged_given_by h face s root (max_depth - length below) (Open c, count)) ≡ due
+      → logged_rest_of h face s root max_depth below (logged_given_by h face s root (max_depth - length below)
+      (Open c, count)) ≡ due
       → c.parts ≡ part ∷ parts
       → logged_rest_of h face s root max_depth below
       ((logged_begun_component h face s root (max_depth - length below) part.glyph count
       >>= logged_given_by h face s root (max_depth - length below - 1))
-      >>= logged_goes_into h face s root (max_depth - length below) (record { part = part; composite = record c { parts = parts } })) ≡ due
+      >>= logged_goes_into h face s root (max_depth - length below)
+      (record { part = part; composite = record c { parts = parts } })) ≡ due
   down below c part parts count due i e =
       sym (ap (λ (q : LoggedOutcome). logged_rest_of h face s root max_depth below q)
       (waits (max_depth - length below) c part parts count e
@@ -222,14 +235,16 @@ module _ (h : Hinting) (face : Face) (s : Scale) (root : ℕ) where
 
   pub descends : (below all : List Waiting) (levels : ℕ) (c : OpenComposite) (part : Part) (parts : List Part) (step : Step)
       (count counted : Logged) (due : LoggedOutcome)
-      → logged_rest_of h face s root max_depth below (logged_given_by h face s root (max_depth - length below) (Open c, count)) ≡ due
+      → logged_rest_of h face s root max_depth below (logged_given_by h face s root (max_depth - length below)
+      (Open c, count)) ≡ due
       → c.parts ≡ part ∷ parts → levels ≡ max_depth - length below
       → logged_begun_component h face s root levels part.glyph count ≡ Ok (step, counted)
       → all ≡ below ++ record { part = part; composite = record c { parts = parts } } ∷ []
       → logged_rest_of h face s root max_depth all (logged_given_by h face s root (max_depth - length all) (step, counted)) ≡ due
   descends below all levels c part parts step count counted due i e l b a =
       let w : Waiting = record { part = part; composite = record c { parts = parts } } in
-      let logged_begun : logged_begun_component h face s root (max_depth - length below) part.glyph count ≡ Ok (step, counted) = rw l at b in
+      let logged_begun : logged_begun_component h face s root (max_depth - length below) part.glyph count
+      ≡ Ok (step, counted) = rw l at b in
       let n : length (below ++ w ∷ []) ≡ length below + 1 = length-append below (w ∷ []) in
       let deeper : max_depth - length (below ++ w ∷ []) ≡ max_depth - length below - 1 = omega arith in
       let there = rest_after max_depth below w (logged_given_by h face s root (max_depth - length below - 1) (step, counted))
@@ -240,12 +255,14 @@ module _ (h : Hinting) (face : Face) (s : Scale) (root : ℕ) where
       let P : ℕ → Type 0 =
       λ k. logged_rest_of h face s root max_depth (below ++ w ∷ []) (logged_given_by h face s root k (step, counted)) ≡ due in
       let Q : List Waiting → Type 0 =
-      λ ws. logged_rest_of h face s root max_depth ws (logged_given_by h face s root (max_depth - length ws) (step, counted)) ≡ due in
+      λ ws. logged_rest_of h face s root max_depth ws (logged_given_by h face s root (max_depth - length ws) (step, counted))
+      ≡ due in
       subst Q (sym a) (subst P (sym deeper) there)
 
   pub not_descended : (below : List Waiting) (levels : ℕ) (c : OpenComposite) (part : Part) (parts : List Part) (count : Logged)
       (due : LoggedOutcome) (d : LoggedFault)
-      → logged_rest_of h face s root max_depth below (logged_given_by h face s root (max_depth - length below) (Open c, count)) ≡ due
+      → logged_rest_of h face s root max_depth below (logged_given_by h face s root (max_depth - length below)
+      (Open c, count)) ≡ due
       → c.parts ≡ part ∷ parts → levels ≡ max_depth - length below
       → logged_begun_component h face s root levels part.glyph count ≡ Err d → due ≡ Err d
   not_descended below levels c part parts count due d i e l b =
@@ -260,7 +277,8 @@ module _ (h : Hinting) (face : Face) (s : Scale) (root : ℕ) where
   -- the next component is assembled at once, and goes into the composite
   pub fills : (below : List Waiting) (levels : ℕ) (c : OpenComposite) (part : Part) (parts : List Part) (made more : Made)
       (count counted : Logged) (due : LoggedOutcome)
-      → logged_rest_of h face s root max_depth below (logged_given_by h face s root (max_depth - length below) (Open c, count)) ≡ due
+      → logged_rest_of h face s root max_depth below (logged_given_by h face s root (max_depth - length below)
+      (Open c, count)) ≡ due
       → c.parts ≡ part ∷ parts → levels ≡ max_depth - length below
       → logged_begun_component h face s root levels part.glyph count ≡ Ok (Assembled made, counted)
       → with_part s h.on c.g part c.base made ≡ Ok more
@@ -274,7 +292,8 @@ module _ (h : Hinting) (face : Face) (s : Scale) (root : ℕ) where
 
   pub not_filled : (below : List Waiting) (levels : ℕ) (c : OpenComposite) (part : Part) (parts : List Part) (made : Made)
       (count counted : Logged) (due : LoggedOutcome) (d : HintFault)
-      → logged_rest_of h face s root max_depth below (logged_given_by h face s root (max_depth - length below) (Open c, count)) ≡ due
+      → logged_rest_of h face s root max_depth below (logged_given_by h face s root (max_depth - length below)
+      (Open c, count)) ≡ due
       → c.parts ≡ part ∷ parts → levels ≡ max_depth - length below
       → logged_begun_component h face s root levels part.glyph count ≡ Ok (Assembled made, counted)
       → with_part s h.on c.g part c.base made ≡ Err d → due ≡ Err (d, counted.1)

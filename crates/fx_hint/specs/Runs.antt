@@ -68,7 +68,8 @@ logged_parts s hinted make g (part ∷ parts) base count = do
   more ← after component.1.1 (with_part s hinted g part base component.0)
   logged_parts s hinted make g parts more component.1
 
-unfoldable pub logged_made_of : Hinting → Scale → ℕ → LoggedMaker → ℕ → Metrics → glyf.Glyph → Logged → Result (Made × Logged) LoggedFault
+unfoldable pub logged_made_of : Hinting → Scale → ℕ → LoggedMaker → ℕ → Metrics → glyf.Glyph → Logged
+    → Result (Made × Logged) LoggedFault
 logged_made_of h s root make g m Empty count = Ok (record { zone = empty_figure; phantoms = phantoms_of s h.on (pos 0) m }, count)
 logged_made_of h s root make g m (Simple shape) count = do
   made ← logged_simple s h.on root m shape count

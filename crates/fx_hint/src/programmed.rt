@@ -53,7 +53,8 @@ fn run_program<W: Watching>(
 ) -> Result<Usage, HintFault>
     ensures kept { machine.new.known ≡ machine.old.known }
     ensures value { GivesUnless Fails (λ usage. (made.new, usage)) result (program_run machine.old.known g code.now made.old) }
-    ensures watched { Watches W.Sees watcher.old (seen_by result (program_events machine.old.known g code.now made.old)) watcher.new }
+    ensures watched { Watches W.Sees watcher.old (seen_by result
+        (program_events machine.old.known g code.now made.old)) watcher.new }
 {
     let count = made.zone.len();
     // For the prover: where the contours end.
@@ -77,7 +78,8 @@ fn hint<W: Watching>(
 ) -> Result<Usage, HintFault>
     ensures kept { machine.new.known ≡ machine.old.known }
     ensures value { GivesUnless Fails (λ usage. (made.new, usage)) result (hinted machine.old.known g code.now made.old) }
-    ensures watched { Watches W.Sees watcher.old (seen_by result (hinted_events machine.old.known g code.now made.old)) watcher.new }
+    ensures watched { Watches W.Sees watcher.old (seen_by result
+        (hinted_events machine.old.known g code.now made.old)) watcher.new }
 {
     if machine.skips_programs() || code.is_empty() {
         return Ok(Usage::none());

@@ -312,10 +312,12 @@ impl<'w, 'a> Walk<'w, 'a> {
         ensures kept { H.hinting hinter.new ≡ H.hinting hinter.old }
         ensures leads { HasRun H.Leads hinter.old hinter.new result
             (runs_in (logged_assembled (H.hinting hinter.old) self.now.font.now self.now.scale.now self.now.root
-            (logged_component (H.hinting hinter.old) self.now.font.now self.now.scale.now self.now.root max_depth) self.now.root (count.old, []))) }
+            (logged_component (H.hinting hinter.old) self.now.font.now self.now.scale.now self.now.root max_depth) self.now.root
+            (count.old, []))) }
         ensures value { GivesUnless Fails (λ m. (m, count.new)) result
             (assembled (H.hinting hinter.old) self.now.font.now self.now.scale.now self.now.root
-            (component (H.hinting hinter.old) self.now.font.now self.now.scale.now self.now.root max_depth) self.now.root count.old) }
+            (component (H.hinting hinter.old) self.now.font.now self.now.scale.now self.now.root max_depth) self.now.root
+            count.old) }
     {
         hinter.law_keeps_shape();
         match self.begun(hinter, self.root, count)? {
@@ -337,7 +339,8 @@ impl<'w, 'a> Walk<'w, 'a> {
         ensures known { H.known hinter.new ≡ H.known hinter.old }
         ensures kept { H.hinting hinter.new ≡ H.hinting hinter.old }
         ensures leads { HasRun H.Leads hinter.old hinter.new result
-            (runs_in (logged_left (H.hinting hinter.old) self.now.font.now self.now.scale.now self.now.root max_depth root.entry (count.old, []))) }
+            (runs_in (logged_left (H.hinting hinter.old) self.now.font.now self.now.scale.now self.now.root max_depth root.entry
+            (count.old, []))) }
         ensures value { GivesUnless Fails (λ m. (m, count.new)) result
             (left (H.hinting hinter.old) self.now.font.now self.now.scale.now self.now.root max_depth root.entry count.old) }
     {

@@ -25,7 +25,8 @@ keeps texts g s (Finished n t) r h e =
 keeps texts g s (Halted c w p) r h e = absurd (cc)
 keeps texts g s (Exhausted w p) r h e = absurd (cc)
 
-pub glyphs_keep : (known : Known) (g : ℕ) (code : List ℕ) (glyph : Figure) (r : Usage × Figure) → glyph_ran known g code glyph ≡ Ok r
+pub glyphs_keep : (known : Known) (g : ℕ) (code : List ℕ) (glyph : Figure) (r : Usage × Figure)
+    → glyph_ran known g code glyph ≡ Ok r
     → HasShape glyph r.1
 unfolding glyph_ran glyph_run glyph_end
 glyphs_keep known g code glyph r e =

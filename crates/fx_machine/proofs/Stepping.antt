@@ -51,7 +51,8 @@ module _ (texts : Program → List ℕ) (g : ℕ) where
   no_events left c e = rw e refl
 
   pub one_event : (limit n : ℕ) (K : List Frame) (w : Program) (p : ℕ) (s : State) (items : List Frame) (v : Program) (q : ℕ)
-      (t : State) (count : ℕ) → count ≡ length items → n < limit → moved_by (row_at texts w p s) K w ≡ Moves (config (reverse items) v q t)
+      (t : State) (count : ℕ) → count ≡ length items → n < limit
+      → moved_by (row_at texts w p s) K w ≡ Moves (config (reverse items) v q t)
       → left_events (limit - n) (config K w p s)
       ≡ Executed (named g w) (texts w) p count t ∷ left_events (limit - (n + 1)) (config (reverse items) v q t)
   unfolding left_events

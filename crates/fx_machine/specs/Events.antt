@@ -32,7 +32,8 @@ module _ (row : Program → ℕ → State → Effect) where
   abbrev pub steps_of : ℕ → Program → State → List Step
   steps_of limit w s = steps_from limit (config [] w 0 s)
 
--- an event: a program begins in this state; or the instruction at an address of a program with these bytes was executed, and then so
+-- an event: a program begins in this state; or the instruction at an address of a program with these bytes was executed, and
+-- then so
 -- many calls are open, in this state
 pub data Event : Type 0 where
   Begins : (program : FontProgram) (s : State) → Event
@@ -66,7 +67,8 @@ module _ (row : Program → ℕ → State → Effect) (limit : ℕ) (w : Program
   Counts m (Halted cause v p) = (u : State) × Runs row w (At 0) 0 s m u (Faulted cause v p)
   Counts m (Exhausted v p) = m ≡ limit
 
--- the instruction of number k, from 0, is the one that the run of k instructions is cut off before, and the run of one more leads to
+-- the instruction of number k, from 0, is the one that the run of k instructions is cut off before, and the run of one more
+-- leads to
 -- what it led to
 abbrev pub StepsAreRuns : Type 0
 StepsAreRuns = (row : Program → ℕ → State → Effect) (limit : ℕ) (w : Program) (s : State) (k : ℕ) (x : Step)

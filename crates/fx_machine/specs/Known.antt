@@ -170,7 +170,8 @@ glyph_ran known g code glyph = ran_of (glyph_run known g code glyph)
 
 -- it keeps the number of points and the contours
 abbrev pub GlyphsKeepShape : Type 0
-GlyphsKeepShape = (known : Known) (g : ℕ) (code : List ℕ) (glyph : Figure) (r : Usage × Figure) → glyph_ran known g code glyph ≡ Ok r
+GlyphsKeepShape = (known : Known) (g : ℕ) (code : List ℕ) (glyph : Figure) (r : Usage × Figure)
+    → glyph_ran known g code glyph ≡ Ok r
     → HasShape glyph r.1
 
 -- what fpgm and prep used up has no part in it

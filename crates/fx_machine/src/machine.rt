@@ -50,7 +50,8 @@ fn run_from<W: Watching>(
     ensures stack { stack_if (is_ok result) state.new.store.stack ≡ stack_after
         (glyph_end (texts programs.now) programs.now.number prepared.now state.old.scale state.old.store.room zone.old) }
     ensures watched { Watches W.Sees watcher.old
-        (glyph_events (texts programs.now) programs.now.number prepared.now state.old.scale state.old.store.room zone.old) watcher.new }
+        (glyph_events (texts programs.now) programs.now.number prepared.now state.old.scale state.old.store.room zone.old)
+        watcher.new }
     ensures shape { HasShape zone.old zone.new }
     ensures fits { Fits prepared.now state.new }
     ensures room { state.new.store.room ≡ state.old.store.room }
@@ -321,7 +322,8 @@ impl<'a> Machine<'a> {
     }
 
     /// Runs the program of glyph `g` on its points, from what `prep` left: what it has used up, or where and why it halted. The
-    /// points keep their number and contours, also after a halt. Nothing passes from one glyph to another. The watcher sees the program.
+    /// points keep their number and contours, also after a halt. Nothing passes from one glyph to another. The watcher sees
+    /// the program.
     #[tactic(auto, unfolding(crate::specs::Known::glyph_ran, crate::specs::Known::glyph_run, crate::specs::Known::glyph_run_events))]
     pub fn run_glyph<W: Watching>(
         &mut self,

@@ -46,7 +46,8 @@ fn tell<W: Watching>(
     watcher.see(program, code, address, calls.frames.len(), state);
 }
 
-/// Runs a program from its first byte, for at most `limit` instructions: how many it executed, or where and why it halted. The watcher
+/// Runs a program from its first byte, for at most `limit` instructions: how many it executed, or where and why it halted. The
+/// watcher
 /// sees it begin, and each instruction after it was executed.
 pub fn run<W: Watching>(
     state: &mut State,
@@ -59,7 +60,8 @@ pub fn run<W: Watching>(
     requires { targets.old ≡ programs.now.font }
     ensures value { sees result state.new
         ≡ answered (texts programs.now) programs.now.number start (answer_of (row_at (texts programs.now)) limit start state.old) }
-    ensures watched { Watches W.Sees watcher.old (events_of (texts programs.now) programs.now.number limit start state.old) watcher.new }
+    ensures watched { Watches W.Sees watcher.old (events_of
+        (texts programs.now) programs.now.number limit start state.old) watcher.new }
     ensures few { IfOk result (λ steps. steps ≤ limit) }
     ensures shapes { HasShapes state.old.zones state.new.zones }
     ensures sizes { HasSizes state.old state.new }
@@ -75,7 +77,8 @@ pub fn run<W: Watching>(
     let mut code = programs.code(start);
     let mut steps: u32 = 0;
     watcher.begin(programs.name(start), state);
-    // The program's result is what comes of the cursor, the calls and the state after `steps` instructions. Once the watcher sees the
+    // The program's result is what comes of the cursor, the calls and the state after `steps` instructions. Once the watcher
+    // sees the
     // instructions that are left, it has seen all.
     'steps: loop {
         let ended = cursor.address == code.len();

@@ -21,7 +21,8 @@ closed-requires-clause-points g c =
 pub returns-in_err-made-clause-value : goal.returns-in_err-made-clause-value
 returns-in_err-made-clause-value g c =
     let p = err_from_is_err_and c.from_residual.result c.from_residual.ensures.1 in
-    rw (p.1, p.2) (fails_on c.in_err-made.field-0.0 _ _ (λ e b. root_fails _ _ _ _ _ _ _ _ _ (not_begun _ _ _ _ _ _ _ (begun_is _ _ _ _ _ _ [] _ b))) c.in_err-made.ensures.value)
+    rw (p.1, p.2) (fails_on c.in_err-made.field-0.0 _ _ (λ e b. root_fails _ _ _ _ _ _ _ _ _ (not_begun _ _ _ _ _ _ _
+    (begun_is _ _ _ _ _ _ [] _ b))) c.in_err-made.ensures.value)
 
 pub returns-in-Assembled-clause-value : goal.returns-in-Assembled-clause-value
 returns-in-Assembled-clause-value g c =
