@@ -3,6 +3,20 @@
 PARTS = ("advance", "outline", "bits")
 
 
+def is_close(expected, answer, most):
+    """Whether an answer's points and advance differ by at most so many 1/64 pixels. Bits are not looked at then."""
+    if "outline" not in expected or "outline" not in answer:
+        return False
+    pairs = list(zip(flat(expected), flat(answer)))
+    same = [len(c) for c in expected["outline"]] == [len(c) for c in answer["outline"]]
+    return same and all(a[2] == b[2] and abs(a[0] - b[0]) <= most and abs(a[1] - b[1]) <= most for a, b in pairs)
+
+
+def flat(answer):
+    """The points of an answer, and its advance as one more."""
+    return [point for contour in answer["outline"] for point in contour] + [[answer.get("advance", 0), 0, 1]]
+
+
 def wrong(expected, answer):
     """What is wrong with an answer, in a few words, or None."""
     if "refusal" in expected:

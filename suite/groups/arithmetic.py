@@ -44,7 +44,7 @@ def make(suite):
 def add(suite, font, name, k, program, own=None, wide=False):
     """A case of a program that leaves one number."""
     glyph = picture(font, shown_wide(program) if wide else shown(program, 1))
-    suite.case("%s-%s" % (name.lower(), k), font, ARITHMETIC % name, glyph, own=own, bits=False)
+    suite.case("%s-%s" % (name.lower(), k), font, ARITHMETIC % name, glyph, own=own, within=1 if own in (HALVES, FRACTION) else None, bits=False)
 
 
 def make_wide(suite, font):

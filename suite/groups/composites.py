@@ -48,11 +48,11 @@ def make(suite):
     make_nested(suite, font, parts)
 
 
-def both(suite, font, name, data, about, own=None, own_hinted=None, ppem=16, **more):
+def both(suite, font, name, data, about, own=None, own_hinted=None, ppem=16, within=None, **more):
     """A case of a composite, hinted and not."""
     glyph = font.add(data, **{"bearing": 0, **more})
     for hinted in (False, True):
-        suite.case("%s-%s" % (name, "hinted" if hinted else "unhinted"), font, ABOUT % about, glyph, hinted=hinted, ppem=ppem, own=own or own_hinted if hinted else own)
+        suite.case("%s-%s" % (name, "hinted" if hinted else "unhinted"), font, ABOUT % about, glyph, hinted=hinted, ppem=ppem, own=own or own_hinted if hinted else own, within=within if own else None)
 
 
 def make_offsets(suite, font, parts):
@@ -64,7 +64,7 @@ def make_offsets(suite, font, parts):
                  "ARGS_ARE_XY_VALUES, ROUND_XY_TO_GRID", own_hinted=HALVES if half else None)
     for ppem in (9, 13, 29):
         both(suite, font, "offset-at-%d" % ppem, composite([(XY, parts["arc"], (0, 0)), (XY | WORDS | ROUND, parts["box"], (300, -217))]), "ROUND_XY_TO_GRID",
-             ppem=ppem, own="a scaled value is exact and rounded once, halves away from zero")
+             ppem=ppem, within=1, own="a scaled value is exact and rounded once, halves away from zero")
     for flag in (0x0010, 0x0400, 0x0800, 0x1000, 0x2000, 0x4000, 0x8000):
         both(suite, font, "flag-%04x" % flag, composite([(XY | flag, parts["box"], (10, 20)), (XY, parts["arc"], (90, 60))]),
              "OVERLAP_COMPOUND, offsets that are scaled, and reserved flags", own=RESERVED)
@@ -80,7 +80,7 @@ def make_matrices(suite, font, parts):
         for kind in ("box", "arc", "moved"):
             for dx, dy in ((0, 0), (100, 40)):
                 both(suite, font, "matrix-%s-%s-%d" % (name, kind, dx), composite([(XY | flag, parts[kind], (dx, dy), matrix), (XY, parts["box"], (60, 70))]),
-                     "WE_HAVE_A_SCALE, X_AND_Y_SCALE, TWO_BY_TWO", own=PRODUCTS if name in ("odd", "odd-two", "thirds", "most", "all", "half", "narrow", "skew", "slant", "two") else None)
+                     "WE_HAVE_A_SCALE, X_AND_Y_SCALE, TWO_BY_TWO", own=PRODUCTS if name in ("odd", "odd-two", "thirds", "most", "all", "half", "narrow", "skew", "slant", "two") else None, within=2)
     for name, flag, matrix in [("scale-two", SCALE | TWO, (ONE / 2,)), ("two-four", TWO | FOUR, (ONE / 2, ONE)), ("scale-four", SCALE | FOUR, (ONE / 2,))]:
         both(suite, font, "matrix-%s" % name, composite([(XY | flag, parts["box"], (0, 0), matrix)]), "more than one kind of scale", own=ORDER)
 
@@ -101,14 +101,16 @@ def make_matches(suite, font, parts):
 
 def make_metrics(suite, font, parts):
     """USE_MY_METRICS takes the component's phantom points."""
+    between = "an advance that a program leaves between pixels is answered as it is"
     for kind in ("box", "arc", "moved"):
         for offset in ((0, 0), (50, 10)):
             both(suite, font, "metrics-%s-%d" % (kind, offset[0]), composite([(XY | METRICS, parts[kind], offset), (XY, parts["box"], (99, 0))]), "USE_MY_METRICS",
-                 advance=777, bearing=5)
+                 advance=777, bearing=5, own_hinted=between if kind == "moved" else None)
     both(suite, font, "metrics-second", composite([(XY, parts["box"], (0, 0)), (XY | METRICS, parts["arc"], (99, 0))]), "USE_MY_METRICS", advance=777, bearing=5)
     both(suite, font, "metrics-two", composite([(XY | METRICS, parts["box"], (0, 0)), (XY | METRICS, parts["arc"], (99, 0))]), "USE_MY_METRICS", advance=777,
          own="of two components with USE_MY_METRICS the last counts")
-    both(suite, font, "metrics-none", composite([(XY, parts["moved"], (0, 0))]), "metrics of the composite", advance=777, bearing=5)
+    both(suite, font, "metrics-none", composite([(XY, parts["moved"], (0, 0))]), "metrics of the composite", advance=777, bearing=5,
+         own_hinted="the phantom points of a hinted composite are on whole pixels, with a program of its own or without")
 
 
 def make_programs(suite, font, parts):

@@ -25,7 +25,7 @@ JUMPS = {
 BACK = "0 4 SWAP 10 ADD SWAP 1 SUB DUP -13 SWAP JROT POP"
 FPGM = "0 FDEF 5 ENDF 1 FDEF 2 ADD ENDF 2 FDEF 1 CALL 1 CALL ENDF 3 FDEF 1 IF 4 ELSE 6 EIF ENDF 4 FDEF ENDF " \
     "5 FDEF DUP 1 SUB DUP IF 5 CALL EIF ENDF 6 FDEF 1 ENDF 6 FDEF 2 ENDF 63 FDEF 63 ENDF 7 FDEF 3 1 1 LOOPCALL ADD ENDF"
-LOOKS_ONCE = "LOOPCALL looks the function up once, when it is executed"
+IN_GLYPH = "a glyph's program may define functions and opcodes, which are forgotten at its end"
 NO_TURN = "LOOPCALL with a count below 1 does nothing and does not look at the function"
 CALLS = {
     "CALL": [("0 CALL", 1), ("7 1 CALL", 1), ("7 2 CALL", 1), ("3 CALL", 1), ("9 4 CALL", 1), ("4 5 CALL", 4), ("6 CALL", 1), ("63 CALL", 1),
@@ -53,22 +53,36 @@ def make(suite):
     suite.group = "functions"
     for name, tries in CALLS.items():
         for k, (program, left) in enumerate(tries):
-            suite.case("%s-%d" % (name.lower(), k), font, FUNCTIONS % name, picture(font, shown(program, left)), bits=False)
+            own = IN_GLYPH if name.endswith("DEF") else None
+            suite.case("%s-%d" % (name.lower(), k), font, FUNCTIONS % name, picture(font, shown(program, left)), own=own, bits=False)
     for k, (name, program, left, own) in enumerate(OWN_CALLS):
         suite.case("%s-own-%d" % (name.lower(), k), font, FUNCTIONS % name, picture(font, shown(program, left)), own=own, bits=False)
+    make_definitions(suite)
     make_inherited(suite)
+
+
+def make_definitions(suite):
+    """FDEF and IDEF in `fpgm`, and replaced in `prep`."""
+    fpgm = "20 FDEF 77 ENDF 21 FDEF 0 IF 1 ELSE 2 EIF ENDF 22 FDEF #B0 #2D ENDF 0 FDEF 5 ENDF 23 FDEF 1 ENDF 23 FDEF 2 ENDF 24 FDEF 1 ENDF " \
+        "145 IDEF 7 ENDF 163 IDEF DUP ADD ENDF 123 IDEF 3 ENDF 143 IDEF 1 ENDF 143 IDEF 2 ENDF 40 IDEF 9 ENDF 144 IDEF 1 ENDF 151 IDEF #91 #91 ADD ENDF"
+    font = suite.font(FontMaker("definitions", fpgm=fpgm, prep="24 FDEF 3 ENDF 144 IDEF 4 ENDF 25 FDEF 8 ENDF"))
+    for name, tries in {"FDEF": ["20 CALL", "21 CALL", "22 CALL", "0 CALL", "23 CALL", "24 CALL", "25 CALL"],
+                        "IDEF": ["#91", "21 #A3", "#7B 5", "#8F", "#28 1", "#90", "#97"]}.items():
+        for k, program in enumerate(tries):
+            suite.case("%s-defined-%d" % (name.lower(), k), font, FUNCTIONS % name, picture(font, shown(program, 1)), bits=False)
 
 
 def make_inherited(suite):
     """What passes from `fpgm` and `prep` to a glyph's program, and what does not pass from glyph to glyph."""
     font = suite.font(FontMaker("inherited", cvt=[100, 200, -50], fpgm="3 7 WS 9 FDEF 44 ENDF 2 FDEF 1 ENDF 145 IDEF 6 ENDF 0 555 WCVTP",
-                                prep="2 FDEF 3 ENDF 4 9 WS 10 FDEF 3 RS ENDF 1 777 WCVTP 0 SZPS 2 64 MSIRP 1 SZPS 96 SCVTCI 32 SMD"))
+                                prep="2 FDEF 3 ENDF 4 9 WS 10 FDEF 4 RS ENDF 1 777 WCVTP 0 SZPS 2 64 MSIRP 1 SZPS 96 SCVTCI 32 SMD"))
     about = APPLE + "Instruction set, font program and control value program: %s"
     tries = [("functions-of-fpgm", "9 CALL", 1), ("storage-of-fpgm", "3 RS", 1), ("storage-of-prep", "4 RS", 1), ("cvt-of-prep", "1 RCVT", 1),
              ("cvt-of-fpgm", "0 RCVT", 1), ("functions-of-prep", "10 CALL", 1), ("replaced-by-prep", "2 CALL", 1), ("opcodes-of-fpgm", "#91", 1),
              ("twilight-of-prep", "0 SZPS 2 GC 1 SZPS", 1)]
     for name, program, left in tries:
-        suite.case(name, font, about % name.replace("-", " "), picture(font, shown(program, left)), bits=False)
+        own = "storage, control values and twilight points pass from fpgm to prep" if name in ("storage-of-fpgm", "cvt-of-fpgm") else None
+        suite.case(name, font, about % name.replace("-", " "), picture(font, shown(program, left)), own=own, bits=False)
     own = "nothing passes from one glyph's program to another's"
     for name, program in [("storage", "5 RS 5 9 WS"), ("cvt", "2 RCVT 2 9 WCVTP"), ("function", "1 11 FDEF 9 ENDF"), ("twilight", "0 SZPS 5 GC 5 64 SCFS 1 SZPS")]:
         for turn in (0, 1):

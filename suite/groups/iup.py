@@ -6,6 +6,7 @@ from making.probe import CONTOURS, POINTS, picture
 from making.suite import APPLE
 
 ABOUT = APPLE + "Instruction set, Managing outlines: IUP"
+ONCE = "an interpolated place is exact and rounded once to 1/64 pixel"
 RESET = "IUP sets an untouched point from its original place, wherever a row without touching moved it"
 
 
@@ -35,7 +36,7 @@ def make_random(suite, font):
             rows.append("SVTCA:%d" % axis)
             for point in sorted(chance.sample(range(POINTS), chance.randrange(1, 7))):
                 rows.append(chance.choice(["%d MDAP:1" % point, "%d %d SHPIX" % (point, chance.randrange(-90, 90)), "%d MDAP:0" % point]))
-        suite.case("random-%d" % k, font, ABOUT, picture(font, " ".join(rows) + " IUP:0 IUP:1"))
+        suite.case("random-%d" % k, font, ABOUT, picture(font, " ".join(rows) + " IUP:0 IUP:1"), own=ONCE, within=1)
 
 
 def make_special(suite):

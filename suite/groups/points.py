@@ -6,7 +6,9 @@ from making.suite import APPLE
 ABOUT = APPLE + "Instruction set, Managing outlines: %s"
 STRAY = "a point outside its zone reads as (0, 0), and what the row does to it is dropped"
 HALF = "ALIGNPTS moves the first point by half the distance, cut toward zero, and the second by the rest"
-ZONE = "SHZ moves the zone that its operand names"
+PLACE = "the place where lines meet, and the middle of four ends, is rounded to the nearest 1/64 pixel"
+RESET = "IUP sets an untouched point from its original place, wherever it was moved before"
+ADVANCE = "an advance that a program leaves between pixels is answered as it is"
 # Points are moved first, so that original and current places differ; and twilight points are put at places.
 MOVED = "SVTCA:0 1 30 SHPIX 6 -20 SHPIX 8 13 SHPIX SVTCA:1 5 45 SHPIX 2 -25 SHPIX 0 10 SHPIX 11 -9 SHPIX"
 TWILIGHT = "0 SZPS SVTCA:1 3 100 SCFS 4 -77 SCFS 5 300 SCFS SVTCA:0 3 50 SCFS 4 211 SCFS 5 31 SCFS 1 SZPS"
@@ -43,6 +45,7 @@ ROWS = {
 }
 MEASURES = ("GC", "MD")
 UNMOVED = ("FLIP", "UTP", "ISECT")
+BETWEEN = (2, 4, 8, 10, 16)  # the programs of phantom points that leave the advance between pixels
 STRAYS = ["99 MDAP:1", "99 0 MIAP:1", "5 99 MIAP:1", "99 SRP0 5 40 MSIRP:0", "99 40 MSIRP:0", "99 SRP0 5 ALIGNRP", "99 ALIGNRP", "99 SRP1 5 IP", "99 SRP2 5 IP",
           "99 IP", "5 SRP2 99 SHP:0", "99 SRP2 5 SHP:0", "99 SHC:0", "99 SRP2 1 SHC:0", "99 SRP2 1 SHZ:0", "99 40 SHPIX", "2 SLOOP 99 5 40 SHPIX", "99 40 SCFS",
           "9 0 2 5 99 ISECT", "99 0 2 5 7 ISECT", "5 99 ALIGNPTS", "99 5 ALIGNPTS", "99 UTP", "99 GC:0 10 SWAP SCFS", "5 99 MD:0 10 SWAP SCFS", "99 FLIPPT",
@@ -59,18 +62,20 @@ def make(suite):
                 add(suite, font, name, k, row, vector, setting, slanted)
         for k, row in enumerate(tries):
             glyph = picture(font, "%s SVTCA:1 %s IUP:0 IUP:1" % (MOVED if name[:3] != "SHZ" else "SVTCA:1 5 45 SHPIX", row) if "SZP" not in row else row)
-            suite.case("%s-%d-iup" % (name.lower(), k), font, ABOUT % name.split(":")[0], glyph, own=own_of(name, False))
+            suite.case("%s-%d-iup" % (name.lower(), k), font, ABOUT % name.split(":")[0], glyph, **own_of(name, False, iup=True))
     for k, row in enumerate(STRAYS):
         suite.case("stray-%d" % k, font, ABOUT % "a point that is not there", picture(font, "%s SVTCA:1 %s" % (MOVED, row)), own=STRAY)
     make_phantom_points(suite, font)
     make_parallel(suite, font)
 
 
-def own_of(name, slanted):
-    """The decision that a case needs beside the manual, or None."""
-    if name == "ALIGNPTS":
-        return HALF
-    return OFF_AXES if slanted and not name.startswith(UNMOVED) else None
+def own_of(name, slanted, iup=False):
+    """The decision that a case needs beside the manual, and by how much it is open."""
+    if name == "ALIGNPTS" or name == "ISECT":
+        return {"own": HALF if name == "ALIGNPTS" else PLACE, "within": 2}
+    if name.startswith(("UTP", "SHZ")) and (iup or name == "UTP"):
+        return {"own": RESET}
+    return {"own": OFF_AXES, "within": 3} if slanted and not name.startswith(UNMOVED) else {}
 
 
 def add(suite, font, name, k, row, vector, setting, slanted):
@@ -80,7 +85,7 @@ def add(suite, font, name, k, row, vector, setting, slanted):
     elif "SZP" in row:
         row += " 1 SZPS " + SEEN_TWILIGHT
     glyph = picture(font, "%s %s %s %s" % (MOVED, TWILIGHT, setting, row))
-    suite.case("%s-%d-%s" % (name.lower(), k, vector.replace(" ", "-")), font, ABOUT % name.split(":")[0], glyph, own=own_of(name, slanted))
+    suite.case("%s-%d-%s" % (name.lower(), k, vector.replace(" ", "-")), font, ABOUT % name.split(":")[0], glyph, **own_of(name, slanted))
 
 
 def make_phantom_points(suite, font):
@@ -91,7 +96,7 @@ def make_phantom_points(suite, font):
                              "SVTCA:0 15 SRP0 1 ALIGNRP", "12 GC:0 1 SWAP SCFS 13 GC:0 2 SWAP SCFS", "12 GC:1 1 SWAP SCFS 13 GC:1 2 SWAP SCFS",
                              "SVTCA:0 14 GC:0 1 SWAP SCFS 15 GC:0 2 SWAP SCFS", "12 60 SHPIX 0 MDAP:0 IUP:1"]):
         for bearing in (37, 50, 0, -21):
-            own = "the last two phantom points are at the ascender and the descender of hhea" if "14" in row or "15" in row else None
+            own = "the last two phantom points are at the ascender and the descender of hhea" if "14" in row or "15" in row else ADVANCE if k in BETWEEN else None
             glyph = picture(font, "SVTCA:1 " + row, bearing=bearing, advance=652)
             suite.case("phantom-%d-bearing-%d" % (k, bearing), font, about, glyph, own=own)
 
@@ -100,4 +105,4 @@ def make_parallel(suite, font):
     """ISECT of parallel lines puts the point in the middle of the four ends."""
     setup = "SVTCA:0 0 100 SCFS 2 100 SCFS 5 300 SCFS 7 300 SCFS SVTCA:1"
     for k, row in enumerate(["9 0 2 5 7 ISECT", "9 0 2 7 5 ISECT", "9 0 0 5 7 ISECT", "9 5 5 5 5 ISECT", "9 0 2 0 2 ISECT"]):
-        suite.case("isect-parallel-%d" % k, font, ABOUT % "ISECT", picture(font, "%s %s" % (setup, row)))
+        suite.case("isect-parallel-%d" % k, font, ABOUT % "ISECT", picture(font, "%s %s" % (setup, row)), own=PLACE, within=2)

@@ -35,11 +35,11 @@ def make_mdrp(suite):
             suite.case("%02x-%s" % (0xC0 + flags, name.replace(" ", "-")), font, MDRP, glyph, own=own)
         for k, setting in enumerate(SLANTED):
             glyph = picture(font, "SVTCA:1 1 20 SHPIX 1 SRP0 %s 5 MDRP:%X" % (setting, flags))
-            suite.case("%02x-slanted-%d" % (0xC0 + flags, k), font, MDRP, glyph, own=OFF_AXES)
+            suite.case("%02x-slanted-%d" % (0xC0 + flags, k), font, MDRP, glyph, own=OFF_AXES, within=3)
     for k, (row, own) in enumerate([("0 SZP1 1 SRP0 3 40 MSIRP:0 0 SZP0 1 SZP1 3 SRP0 5 MDRP:0C", None), ("2 6 SDPVTL:0 SFVTCA:1 1 SRP0 5 MDRP:04", OFF_AXES),
                                     ("5 SRP0 5 MDRP:1C", None), ("100 SSW 2000 SSWCI 5 SRP0 5 MDRP:00", None), ("-100 SSW 2000 SSWCI 1 SRP0 5 MDRP:00", None),
                                     ("-64 SMD 1 SRP0 0 MDRP:0C", None)]):
-        suite.case("more-%d" % k, font, MDRP, picture(font, "SVTCA:1 " + row), own=own)
+        suite.case("more-%d" % k, font, MDRP, picture(font, "SVTCA:1 " + row), own=own, within=3 if own else None)
 
 
 def make_mirp(suite):
@@ -55,7 +55,7 @@ def make_mirp(suite):
         twilight = "SVTCA:1 1 20 SHPIX 1 SRP0 0 SZP1 3 %d MIRP:%X 0 SZP0 1 SZP1 9 MDRP:0 0 SZP2 3 GC:0 1 SZP2 8 SWAP SCFS" % (flags % 5, flags)
         suite.case("%02x-twilight" % (0xE0 + flags), font, MIRP, picture(font, twilight), own=TWILIGHT)
         slanted = "SVTCA:1 1 20 SHPIX 1 SRP0 %s 5 %d MIRP:%X" % (SLANTED[flags & 1], flags % 5, flags)
-        suite.case("%02x-slanted" % (0xE0 + flags), font, MIRP, picture(font, slanted), own=OFF_AXES)
+        suite.case("%02x-slanted" % (0xE0 + flags), font, MIRP, picture(font, slanted), own=OFF_AXES, within=3)
     for flags in (0, 4, 0x1C):
         suite.case("minus-one-%02x" % flags, font, MIRP, picture(font, "SVTCA:1 1 SRP0 5 -1 MIRP:%X" % flags), own=NEGATIVE)
 

@@ -24,13 +24,18 @@ def make(suite):
             for hinted in (False, True):
                 for name, number in (("plain", glyph), ("odd", odd)):
                     suite.case("%s-%d-at-%d-%s" % (name, upem, ppem, "hinted" if hinted else "unhinted"), font, SCALE, number, ppem=ppem, hinted=hinted,
-                               own=HALVES if upem & (upem - 1) or ppem * 64 % upem else None)
+                               **(open_by(HALVES, 1) if ppem * 64 % upem else {}))
         for k, program in enumerate(["SVTCA:1 0 SRP0 1 MDRP:04 0 SRP1 6 SRP2 2 IP 5 MDAP:1 IUP:0 IUP:1", "SVTCA:0 1 MDAP:1 0 MDAP:1 IUP:0", "SVTCA:1 5 1 MD:1 2 SWAP SCFS"]):
             hinted = font.simple(some, program, advance=upem * 5 // 8)
             for ppem in (12, 13, 23):
-                suite.case("hinted-%d-%d-at-%d" % (upem, k, ppem), font, SCALE, hinted, ppem=ppem, own=ORIGINAL if ppem * 64 % upem else None)
+                suite.case("hinted-%d-%d-at-%d" % (upem, k, ppem), font, SCALE, hinted, ppem=ppem, **(open_by(ORIGINAL, 64) if ppem * 64 % upem else {}))
     make_limits(suite)
     make_metrics(suite)
+
+
+def open_by(own, within):
+    """A decision, and by how much it is open."""
+    return {"own": own, "within": within}
 
 
 def make_limits(suite):
@@ -62,5 +67,5 @@ def make_metrics(suite):
     empty = font.add(b"", advance=333, bearing=40)
     for hinted in (False, True):
         for ppem in (9, 16, 31):
-            own = "an empty glyph has no box, and xMin 0" if hinted else None
+            own = "an empty glyph has no box, and xMin 0" if hinted else HALVES if 333 * ppem * 64 % 1024 else None
             suite.case("empty-%d-%s" % (ppem, "hinted" if hinted else "unhinted"), font, METRICS, empty, ppem=ppem, hinted=hinted, own=own)
