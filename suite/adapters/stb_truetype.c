@@ -1,9 +1,12 @@
 /* stb_truetype as a tool under test: characters, advances, and the insides of unhinted glyphs.
  *
  * stb_truetype draws grey and runs no programs. So its bits are taken from a drawing in which a pixel is 1/64 of one: a pixel is set if one of
- * the four little ones around its centre is at least half covered. It has no outlines in 26.6, so none are answered. Drop-out control and
+ * the four little ones around its centre is at least half covered. stb_truetype leaves it to its callers to move a glyph by its left side
+ * bearing, which is done here. It has no outlines in 26.6, so none are answered. Drop-out control and
  * hinted requests are unsupported. */
 #include "request.h"
+
+#include <math.h>
 
 #define STB_TRUETYPE_IMPLEMENTATION
 #include "stb_truetype.h"
@@ -41,10 +44,11 @@ static int floor_by(int value, int by) {
 }
 
 /* Draws a glyph with 64 little pixels to a side of one, and looks at the centres. */
-static void write_drawn(int glyph, float scale) {
+static void write_drawn(int glyph, float scale, int moved) {
     int x0, y0, x1, y1, left, top, width, height, x, y;
     unsigned char *fine, *pixels;
     stbtt_GetGlyphBitmapBox(&font, glyph, 64 * scale, 64 * scale, &x0, &y0, &x1, &y1);
+    x0 += moved, x1 += moved;
     left = floor_by(x0, 64) - 1, top = floor_by(y0, 64) - 1;
     width = floor_by(x1, 64) + 2 - left, height = floor_by(y1, 64) + 2 - top;
     fine = calloc((size_t)width * height, 4096);
@@ -84,7 +88,7 @@ static void answer(const struct request *r) {
     printf("\"advance\": %d", (int)(advance * scale * 64 + 0.5f));
     if (r->bits) {
         printf(", ");
-        write_drawn(glyph, scale);
+        write_drawn(glyph, scale, (int)floor((bearing - x0) * scale * 64 + 0.5));
     }
 }
 

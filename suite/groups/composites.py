@@ -2,6 +2,7 @@
 import struct
 
 from making.assembler import assemble
+from making.boxes import fill_boxes
 from making.fontmaker import FontMaker
 from making.probe import CONTOURS
 from making.suite import OPENTYPE
@@ -46,6 +47,7 @@ def make(suite):
     make_metrics(suite, font, parts)
     make_programs(suite, font, parts)
     make_nested(suite, font, parts)
+    fill_boxes(font)
 
 
 def both(suite, font, name, data, about, own=None, own_hinted=None, ppem=16, within=None, **more):

@@ -7,6 +7,7 @@ sys.path.insert(0, os.path.join(os.path.dirname(os.path.realpath(__file__)), "..
 import fonts  # noqa: E402
 
 from .assembler import assemble  # noqa: E402
+from .charmaps import in_order  # noqa: E402
 
 UPEM, ASCENDER, DESCENDER = 1024, 800, -224
 FIRST_CHAR = 0xE000  # of the private use area
@@ -44,7 +45,7 @@ class FontMaker:
     def bytes(self):
         """The font's bytes."""
         pairs = self.pairs or len(self.glyphs)
-        tables = {"cmap": fonts.map_of([(FIRST_CHAR + g, g) for g in range(1, len(self.glyphs))]), **{tag: data for tag, data in self.programs.items() if data}}
+        tables = {"cmap": in_order(FIRST_CHAR + 1, len(self.glyphs) - 1), **{tag: data for tag, data in self.programs.items() if data}}
         tables.update({"glyf": b"".join(g.data for g in self.glyphs), "head": self.head(), "loca": self.loca(), "maxp": self.maxp()})
         tables["hhea"] = struct.pack(">Lhhh", 0x10000, ASCENDER * self.upem // UPEM, DESCENDER * self.upem // UPEM, 0) \
             + bytes(24) + struct.pack(">H", pairs)
