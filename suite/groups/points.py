@@ -28,8 +28,8 @@ ROWS = {
     "SHP:1": ["5 SRP1 9 SHP:1", "1 SRP1 3 SLOOP 2 9 4 SHP:1", "0 SZP0 3 SRP1 9 SHP:1", "6 SRP1 6 SHP:1"],
     "SHC:0": ["5 SRP2 2 SHC:0", "1 SRP2 0 SHC:0", "0 SZP1 3 SRP2 1 SHC:0", "6 SRP2 1 SHC:0"],
     "SHC:1": ["5 SRP1 2 SHC:1", "1 SRP1 0 SHC:1", "0 SZP0 3 SRP1 1 SHC:1", "6 SRP1 1 SHC:1"],
-    "SHZ:0": ["5 SRP2 1 SHZ:0", "0 SZP1 3 SRP2 1 SHZ:0", "1 SRP2 0 SZP2 0 SHZ:0"],
-    "SHZ:1": ["5 SRP1 1 SHZ:1", "0 SZP0 3 SRP1 1 SHZ:1", "1 SRP1 0 SZP2 0 SHZ:1"],
+    "SHZ:0": ["5 SRP2 1 SHZ:0", "0 SZP2 5 SRP2 1 SHZ:0", "0 SZP1 3 SRP2 1 SHZ:0", "1 SRP2 0 SZP2 0 SHZ:0"],
+    "SHZ:1": ["5 SRP1 1 SHZ:1", "0 SZP2 5 SRP1 1 SHZ:1", "0 SZP0 3 SRP1 1 SHZ:1", "1 SRP1 0 SZP2 0 SHZ:1"],
     "SHPIX": ["5 70 SHPIX", "3 SLOOP 1 6 11 -33 SHPIX", "0 SZP2 3 64 SHPIX", "2 SLOOP 4 4 7 SHPIX"],
     "SCFS": ["5 70 SCFS", "1 -333 SCFS", "0 SZP2 3 64 SCFS"],
     "ISECT": ["9 0 2 5 7 ISECT", "3 0 1 4 6 ISECT", "10 1 2 0 3 ISECT", "0 SZP0 9 0 2 3 4 ISECT"],
@@ -61,7 +61,7 @@ def make(suite):
             for vector, setting, slanted in VECTORS:
                 add(suite, font, name, k, row, vector, setting, slanted)
         for k, row in enumerate(tries):
-            glyph = picture(font, "%s SVTCA:1 %s IUP:0 IUP:1" % (MOVED if name[:3] != "SHZ" else "SVTCA:1 5 45 SHPIX", row) if "SZP" not in row else row)
+            glyph = picture(font, "%s SVTCA:1 %s IUP:0 IUP:1" % (MOVED if name[:3] != "SHZ" else "SVTCA:1 5 45 SHPIX 6 -20 SHPIX", row) if "SZP" not in row else row)
             suite.case("%s-%d-iup" % (name.lower(), k), font, ABOUT % name.split(":")[0], glyph, **own_of(name, False, iup=True))
     for k, row in enumerate(STRAYS):
         suite.case("stray-%d" % k, font, ABOUT % "a point that is not there", picture(font, "%s SVTCA:1 %s" % (MOVED, row)), own=STRAY)

@@ -14,7 +14,7 @@ SLANTED = ["8192 14189 SPVFS SFVTPV", "SVTCA:1 13107 9830 SFVFS"]
 TRIES = [("right", "SVTCA:1 1 20 SHPIX 1 SRP0 5"), ("left", "SVTCA:1 5 30 SHPIX 5 SRP0 1"), ("up", "SVTCA:0 9 -14 SHPIX 9 SRP0 2"), ("down", "SVTCA:0 2 SRP0 9"),
          ("near", "SVTCA:1 0 SRP0 1"), ("rthg", "SVTCA:1 RTHG 2 SRP0 6"), ("minimum", "SVTCA:1 400 SMD 3 SRP0 7"), ("width", "SVTCA:1 360 SSW 60 SSWCI 1 SRP0 5"),
          ("auto flip off", "SVTCA:1 FLIPOFF 6 SRP0 2")]
-AFTER = "11 MDRP:0 1 SRP1 10 SHP:0"  # shows what the three reference points are
+AFTER = "8 SHP:1 10 SHP:0 11 MDRP:0"  # shows what the three reference points are
 
 
 def make(suite):
