@@ -118,7 +118,7 @@ replaced("super_phase_by_eighths", "rounding", "SROUND's phase is in eighths", "
          lambda right: lambda n, p: (right(n, p)[0], (n >> 4 & 3) * right(n, p)[0] // 8, right(n, p)[2]))
 replaced("super_zero_threshold", "rounding", "SROUND's threshold 0 is a threshold of 0", "super_round",
          lambda right: lambda n, p: right(n, p) if n & 15 else (right(n, p)[0], right(n, p)[1], 0))
-replaced("scaled_floored", "scaling phantoms", "FUnits are scaled without rounding", "scaled", lambda right: lambda v, ppem, upem: v * ppem * 64 // upem)
+replaced("scaled_floored", "scaling", "FUnits are scaled without rounding", "scaled", lambda right: lambda v, ppem, upem: v * ppem * 64 // upem)
 replaced("scaled_to_pixels", "scaling", "points are scaled to whole pixels", "scaled", lambda right: lambda v, ppem, upem: numbers.near(v * ppem, upem) * 64)
 replaced("phantoms_unrounded", "phantoms points", "hinted phantom points stay between pixels", "to_pixel", lambda right: lambda v: v)
 replaced("parity_without_rounding", "rounding", "ODD and EVEN do not round", "parity", lambda right: lambda gs, v: v % 128)
@@ -260,6 +260,63 @@ def _nested(c):
     c.attribute(machine, "IDEF", lambda old: -1)
 
 
+@reading("if_always", "flow", "IF is always true")
+def _if_always(c):
+    c.row("IF", lambda old: lambda m: m.pop(1))
+
+
+@reading("if_never", "flow functions", "IF is always false")
+def _if_never(c):
+    c.row("IF", lambda old: lambda m: (m.pop(1), m.push(0), old(m)))
+
+
+@reading("else_passed", "flow", "a program that comes to ELSE goes on after it")
+def _else_passed(c):
+    c.row("ELSE", lambda old: lambda m: None)
+
+
+for _name, _count in (("JMPR", 1), ("JROT", 2), ("JROF", 2)):
+    READINGS.append(Reading("%s_never" % _name.lower(), "flow", "%s never jumps" % _name, lambda c, name=_name, count=_count: c.row(
+        name, lambda old: lambda m: m.pop(count))))
+for _name in ("JROT", "JROF"):
+    READINGS.append(Reading("%s_always" % _name.lower(), "flow", "%s always jumps" % _name, lambda c, name=_name: c.row(
+        name, lambda old: lambda m: m.jump(m.pop(2)[0]))))
+
+
+@reading("call_never", "functions", "CALL does nothing")
+def _call_never(c):
+    c.row("CALL", lambda old: lambda m: m.pop(1))
+
+
+@reading("loop_call_once_more", "functions", "LOOPCALL calls once more than it should")
+def _loop_call_more(c):
+    c.row("LOOPCALL", lambda old: lambda m: m.enter(rows_stack.function_of(m, m.stack[-1]), max(1, m.pop(2)[0] + 1)))
+
+
+@reading("defined_opcodes_first", "functions", "an IDEF replaces an instruction of the manual")
+def _defined_first(c):
+    c.attribute(machine.Machine, "step", lambda right: lambda m: _step_defined(right, m))
+
+
+def _step_defined(right, m):
+    """A step in which a defined opcode is run, whether or not it has a row."""
+    if m.opcode in m.idefs and m.start < len(m.code):
+        m.at = machine.next_place(m.code, m.start)
+        m.run_defined()
+    else:
+        right(m)
+
+
+@reading("prep_not_run", "state functions halts", "prep is not run")
+def _prep_not_run(c):
+    c.attribute(machine.Machine, "run", lambda right: lambda m, name, code: right(m, name, b"" if name == "prep" else code))
+
+
+@reading("unhinted_runs_programs", "halts scaling composites", "programs run without hinting too")
+def _unhinted_runs(c):
+    c.attribute(outline.Maker, "__init__", lambda right: lambda maker, font, ppem, hinted: right(maker, font, ppem, True))
+
+
 # ---- points
 value_of("cut_in_of_one_pixel", "cut-in mirp", "the cut-in is 64 at first", state.Graphics, "cut_in", 64)
 value_of("minimum_of_zero", "mdrp mirp", "the minimum distance is 0 at first", state.Graphics, "minimum", 0)
@@ -299,7 +356,7 @@ for _name, _first in (("MDRP", "mdrp"), ("MIRP", "mirp")):
         READINGS.append(Reading("%s_bit_%d" % (_first, _bit), _first, "the flag for %s means its opposite in %s" % (_what, _name), _change))
 
 
-@reading("loop_not_reset", "points state", "the loop stays after a row")
+@reading("loop_not_reset", "state", "the loop stays after a row")
 def _loop_not_reset(c):
     c.everywhere("looped", lambda right: lambda m: m.pop(m.gs.loop)[::-1] if m.gs.loop else [])
 
@@ -417,6 +474,19 @@ replaced("delta_zero_step", "deltas", "a delta's nibble 8 is no step", "delta_of
 replaced("delta_all_sizes", "deltas", "a delta acts from its size on", "delta_of", lambda right: lambda m, arg, step: _from_size(right, m, arg, step))
 
 
+replaced("delta_up_to_size", "deltas", "a delta acts up to its size", "delta_of", lambda right: lambda m, arg, step: _to_size(right, m, arg, step))
+
+
+def _to_size(right, m, arg, step):
+    """A delta that acts at its size and below."""
+    size = m.gs.base + step + (arg >> 4 & 15)
+    saved, m.ppem = m.ppem, max(m.ppem, size)
+    try:
+        return right(m, arg, step)
+    finally:
+        m.ppem = saved
+
+
 def _from_size(right, m, arg, step):
     """A delta that acts at its size and above."""
     size = m.gs.base + step + (arg >> 4 & 15)
@@ -430,6 +500,70 @@ def _from_size(right, m, arg, step):
 # ---- composites, metrics, `loca` and `glyf`
 replaced("matrix_transposed", "composites", "the four numbers of a component are read by columns", "transformed", lambda right: lambda place, m: right(place, (m[0], m[2], m[1], m[3])))
 value_of("offset_rounded_always", "composites", "offsets are rounded without ROUND_XY_TO_GRID", outline, "ROUND", 2)
+
+
+value_of("one_scale_ignored", "composites", "WE_HAVE_A_SCALE is ignored, and so its number", fontfile, "SCALE", 0)
+value_of("two_scales_ignored", "composites", "WE_HAVE_AN_X_AND_Y_SCALE is ignored, and so its numbers", fontfile, "TWO", 0)
+replaced("matrix_not_applied", "composites", "components are not transformed", "transformed", lambda right: lambda place, m: place)
+
+
+@reading("offsets_ignored", "composites", "components are put where they are")
+def _offsets_ignored(c):
+    c.attribute(outline.Maker, "offset", lambda right: lambda maker, made, number, part, points: (right(maker, made, number, part, points), (0, 0))[1])
+
+
+@reading("first_component_alone", "composites", "a composite has one component")
+def _first_component(c):
+    c.everywhere("read_composite", lambda right: lambda reader, x_min: _one_part(right(reader, x_min)))
+
+
+def _one_part(glyph):
+    """A composite with its first component alone."""
+    glyph.parts = glyph.parts[:1]
+    return glyph
+
+
+@reading("match_before_the_matrix", "composites", "a component's matched point is taken before its transformation")
+def _match_before(c):
+    c.attribute(outline.Maker, "offset", lambda right: lambda maker, made, number, part, points: right(
+        maker, made, number, part, points if part.flags & 2 else [p for p in maker.make(part.glyph, 1).points]))
+
+
+for _em in (1000, 2048):
+    replaced("em_of_%d" % _em, "scaling phantoms", "an em is %d units whatever head says" % _em, "scaled", lambda right, em=_em: lambda v, ppem, upem: right(v, ppem, em))
+
+
+@reading("origin_at_zero", "phantoms", "an outline is not moved to its origin")
+def _origin(c):
+    c.attribute(outline.Maker, "outline", lambda right: lambda maker, glyph: _not_moved(right(maker, glyph), maker, glyph))
+
+
+def _not_moved(found, maker, glyph):
+    """The outline moved back by where the first phantom point was without hinting."""
+    x_min = getattr(fontfile.read_glyph(maker.font.glyph_bytes(glyph), glyph), "x_min", 0)
+    left = maker.scale(x_min - maker.font.bearing(glyph))
+    return [(x + left, y) for x, y in found[0]], found[1], found[2], found[3]
+
+
+@reading("advance_in_pixels", "phantoms scaling", "an advance is a whole number of pixels without hinting too")
+def _advance_in_pixels(c):
+    c.attribute(outline.Maker, "outline", lambda right: lambda maker, glyph: right(maker, glyph)[:3] + (numbers.to_pixel(right(maker, glyph)[3]),))
+
+
+@reading("bad_tables_read", "grammar", "tables that are cut are read all the same")
+def _bad_tables(c):
+    c.attribute(fontfile.Font, "need", lambda right: lambda tag, table, length: None)
+
+
+@reading("missing_tables_empty", "grammar", "a table that is missing is empty")
+def _missing_tables(c):
+    c.attribute(fontfile.Font, "directory", lambda right: lambda data: collections.defaultdict(bytes, {**{tag: b"" for tag in fontfile.REQUIRED}, **right(data)}))
+
+
+replaced("all_on_the_curve", "grammar scan", "all points are on the curve", "read_flags", lambda right: lambda reader, count: [f | 1 for f in right(reader, count)])
+replaced("reserved_flags_refused", "grammar", "a point with OVERLAP_SIMPLE or the reserved flag is off the curve", "read_flags",
+         lambda right: lambda reader, count: [f & ~1 if f & 0xC0 else f for f in right(reader, count)])
+replaced("shorts_are_words", "grammar", "deltas are words whatever the flags", "read_deltas", lambda right: lambda reader, flags, short, same: right(reader, [f & ~short for f in flags], short, same))
 
 
 @reading("offset_rounded_unhinted", "composites", "ROUND_XY_TO_GRID counts without hinting too")
@@ -527,6 +661,24 @@ def _start_ignored(c):
     c.attribute(charmap.CharMap, "by_group", lambda right: lambda self, k, code: max(0, fontfile.u32(self.data, self.at + 24 + 12 * k) + code - fontfile.u32(self.data, self.at + 16 + 12 * k)))
 
 
+@reading("broken_maps_empty", "maps", "a map that is cut or falls has no characters")
+def _broken_maps(c):
+    c.attribute(charmap.CharMap, "__init__", lambda right: lambda self, font: _lenient(right, self, font))
+
+
+def _lenient(right, self, font):
+    """Opens a map; one that is refused has no ranges."""
+    try:
+        right(self, font)
+    except Refused:
+        self.end_codes, self.format = [], 4
+
+
+@reading("next_glyph", "maps", "glyphs are counted from 1")
+def _next_glyph(c):
+    c.attribute(charmap.CharMap, "glyph", lambda right: lambda self, code: right(self, code) + 1)
+
+
 value_of("four_before_twelve", "maps", "format 12 is not read", charmap, "WIDE", [])
 value_of("symbols_first", "maps", "a symbol map goes first", charmap, "NARROW", [(3, (0,)), (3, (1,)), (0, range(4))])
 
@@ -553,6 +705,7 @@ def _upper(piece, p):
 
 
 # ---- drop-out control
+replaced("centres_in_corners", "scan dropout", "a pixel's centre is its lower left corner", "centre", lambda right: lambda i, j: (128 * i, 128 * j))
 replaced("right_pixel", "dropout", "of a gap the right or upper pixel is set", "chosen", lambda right: lambda i: i + 1)
 replaced("touches_left_out", "dropout", "an outline that only touches a row does not pass there", "roots", lambda right: lambda k2, k1, k0: (
     root for root in right(k2, k1, k0) if k2 == 0 or k1 * k1 - 4 * k2 * k0 > 0))
@@ -562,10 +715,10 @@ replaced("dropout_is_rule_one", "dropout", "drop-out control sets nothing more",
 
 # ---- each row: without effect, or with another result
 EFFECTS = {
-    "state": "SMD SCVTCI SSWCI SSW FLIPON FLIPOFF SRP0 SRP1 SRP2 SZP0 SZP1 SZP2 SZPS SLOOP SFVTPV", "tables": "WS WCVTP WCVTF",
+    "state": "SMD SCVTCI SSWCI SSW FLIPON FLIPOFF SRP0 SRP1 SRP2 SZP0 SZP1 SZP2 SZPS SLOOP SFVTPV RTG", "tables": "WS WCVTP WCVTF",
     "vectors": "SVTCA SPVTCA SFVTCA SPVTL SFVTL SPVFS SFVFS SDPVTL", "functions": "INSTCTRL FDEF IDEF", "deltas": "SDB SDS DELTAP1 DELTAP2 DELTAP3 DELTAC1 DELTAC2 DELTAC3",
     "points": "ISECT ALIGNPTS UTP MDAP MIAP MSIRP ALIGNRP IP SHP SHC SHZ SHPIX SCFS FLIPPT FLIPRGON FLIPRGOFF", "mdrp": "MDRP", "mirp": "MIRP", "iup": "IUP",
-    "rounding": "SROUND S45ROUND RTG RTHG RTDG RDTG RUTG ROFF",
+    "cut-in": "MIAP MIRP", "rounding": "SROUND S45ROUND RTHG RTDG RDTG RUTG ROFF",
 }
 RESULTS = {
     "stack": "DUP SWAP DEPTH CINDEX MINDEX ROLL", "push": "PUSHB PUSHW NPUSHB NPUSHW", "tables": "RS RCVT", "points": "GC MD", "vectors": "GPV GFV",
@@ -664,9 +817,11 @@ def main():
         for number, found in pool.imap(task, numbers_):
             read = READINGS[number]
             groups = {name.split("/")[0] for name in found}
-            missed += len(set(read.groups) - groups)
+            without = sorted(set(read.groups) - groups)
+            missed += len(without)
             covered |= set(found)
-            print("%-28s %-18s %s: %s" % (read.name, " ".join(read.groups), read.text, ", ".join(found[:2]) if found else "NOT FOUND"), flush=True)
+            where = ", ".join(found[:2]) + "".join("; NOT FOUND by %s" % group for group in without)
+            print("%-28s %-18s %s: %s" % (read.name, " ".join(read.groups), read.text, where), flush=True)
     print("%d readings, %d not found by a group of theirs" % (len(numbers_), missed))
     if options.cover:
         for group, cases in CASES.items():

@@ -48,15 +48,15 @@ def make(suite):
     for table in (CONDITIONS, JUMPS):
         for name, tries in table.items():
             for k, (program, left) in enumerate(tries):
-                suite.case("%s-%d" % (name.lower(), k), font, FLOW % name, picture(font, shown(program, left)), bits=False)
-    suite.case("jrot-back", font, FLOW % "JROT", picture(font, shown(BACK, 1)), bits=False)
+                suite.case("%s-%d" % (name.lower(), k), font, FLOW % name, picture(font, shown(program + " DEPTH", left + 1)), bits=False)
+    suite.case("jrot-back", font, FLOW % "JROT", picture(font, shown(BACK + " DEPTH", 2)), bits=False)
     suite.group = "functions"
     for name, tries in CALLS.items():
         for k, (program, left) in enumerate(tries):
             own = IN_GLYPH if name.endswith("DEF") else None
-            suite.case("%s-%d" % (name.lower(), k), font, FUNCTIONS % name, picture(font, shown(program, left)), own=own, bits=False)
+            suite.case("%s-%d" % (name.lower(), k), font, FUNCTIONS % name, picture(font, shown(program + " DEPTH", left + 1)), own=own, bits=False)
     for k, (name, program, left, own) in enumerate(OWN_CALLS):
-        suite.case("%s-own-%d" % (name.lower(), k), font, FUNCTIONS % name, picture(font, shown(program, left)), own=own, bits=False)
+        suite.case("%s-own-%d" % (name.lower(), k), font, FUNCTIONS % name, picture(font, shown(program + " DEPTH", left + 1)), own=own, bits=False)
     make_definitions(suite)
     make_inherited(suite)
 
@@ -82,7 +82,7 @@ def make_inherited(suite):
              ("twilight-of-prep", "0 SZPS 2 GC 1 SZPS", 1)]
     for name, program, left in tries:
         own = "storage, control values and twilight points pass from fpgm to prep" if name in ("storage-of-fpgm", "cvt-of-fpgm") else None
-        suite.case(name, font, about % name.replace("-", " "), picture(font, shown(program, left)), own=own, bits=False)
+        suite.case(name, font, about % name.replace("-", " "), picture(font, shown(program + " DEPTH", left + 1)), own=own, bits=False)
     own = "nothing passes from one glyph's program to another's"
     for name, program in [("storage", "5 RS 5 9 WS"), ("cvt", "2 RCVT 2 9 WCVTP"), ("function", "1 11 FDEF 9 ENDF"), ("twilight", "0 SZPS 5 GC 5 64 SCFS 1 SZPS")]:
         for turn in (0, 1):

@@ -12,7 +12,7 @@ NEGATIVE = "MIRP's control value -1 is a value of 0"
 SLANTED = ["8192 14189 SPVFS SFVTPV", "SVTCA:1 13107 9830 SFVFS"]
 # Point 1 is left of point 5, point 9 below point 2; a program moves reference points first, so that all distances differ.
 TRIES = [("right", "SVTCA:1 1 20 SHPIX 1 SRP0 5"), ("left", "SVTCA:1 5 30 SHPIX 5 SRP0 1"), ("up", "SVTCA:0 9 -14 SHPIX 9 SRP0 2"), ("down", "SVTCA:0 2 SRP0 9"),
-         ("near", "SVTCA:1 0 SRP0 1"), ("rthg", "SVTCA:1 RTHG 2 SRP0 6"), ("minimum", "SVTCA:1 400 SMD 3 SRP0 7"), ("width", "SVTCA:1 360 SSW 60 SSWCI 1 SRP0 5"),
+         ("near", "SVTCA:1 0 SRP0 1"), ("small", "SVTCA:1 3 SRP0 2"), ("rthg", "SVTCA:1 RTHG 2 SRP0 6"), ("minimum", "SVTCA:1 400 SMD 3 SRP0 7"), ("width", "SVTCA:1 360 SSW 60 SSWCI 1 SRP0 5"),
          ("auto flip off", "SVTCA:1 FLIPOFF 6 SRP0 2")]
 AFTER = "8 SHP:1 10 SHP:0 11 MDRP:0"  # shows what the three reference points are
 
@@ -45,7 +45,7 @@ def make_mdrp(suite):
 def make_mirp(suite):
     """MIRP: control values, by each flag."""
     suite.group = "mirp"
-    font = suite.font(FontMaker("mirp", cvt=[396, 350, -300, 590, 0, 40]))
+    font = suite.font(FontMaker("mirp", cvt=[396, 350, -300, 380, 0, 40]))
     for flags in range(32):
         own = COLOUR if flags & 3 == 3 else None
         for k, (name, setting) in enumerate(TRIES):
@@ -63,7 +63,7 @@ def make_mirp(suite):
 def make_cut_in(suite):
     """The cut-in: a control value counts if it differs from the distance by no more. The distances are 396 and 588."""
     suite.group = "cut-in"
-    values = [396, 397, 464, 465, 328, 327, 300, -396, -464, 588, 587, 0]
+    values = [396, 397, 462, 464, 465, 330, 328, 327, 300, -396, -464, 588, 587, 0]
     font = suite.font(FontMaker("cut-in", cvt=values))
     for k, value in enumerate(values):
         for cut in (0, 1, 68, 69, 500):
@@ -72,5 +72,7 @@ def make_cut_in(suite):
         for cut in (0, 17, 32, 68):
             glyph = picture(font, "SVTCA:1 %d SCVTCI 5 %d MIAP:1 1 %d MIAP:0" % (cut, k, k))
             suite.case("miap-%d-%d" % (value, cut), font, CUT_IN, glyph)
+        glyph = picture(font, "SVTCA:1 1 SRP0 5 %d MIRP:04 9 %d MIAP:1" % (k, k))
+        suite.case("default-%d" % value, font, CUT_IN, glyph)
         row = "SVTCA:1 0 SZP0 3 %d MIAP:1 3 SRP0 5 %d MIRP:04 1 %d MIRP:00" % (k, k, k)
         suite.case("zones-%d" % value, font, CUT_IN, picture(font, row))

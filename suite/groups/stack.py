@@ -27,7 +27,7 @@ def make(suite):
     suite.group = "stack"
     for name, tries in MANAGED.items():
         for k, (program, left) in enumerate(tries):
-            glyph = picture(font, shown(program, left))
+            glyph = picture(font, shown(program + " DEPTH", left + 1))
             suite.case("%s-%d" % (name.lower(), k), font, MANAGING % name, glyph, bits=False)
 
 

@@ -7,6 +7,7 @@ STORAGE = APPLE + "Instruction set, Managing the Storage Area: %s"
 VALUES = APPLE + "Instruction set, Managing the Control Value Table: %s"
 STATE = APPLE + "Instruction set, Managing the Graphics State: %s"
 INFO = APPLE + "Instruction set, %s"
+SIZE = "the single width is compared with the size of a distance, whatever its sign"
 STRAY = "a number outside a table reads as 0, and a write there is dropped"
 
 TABLES = {
@@ -20,7 +21,7 @@ STRAYS = [(STORAGE, "RS", "32 RS", 1), (STORAGE, "RS", "-1 RS", 1), (STORAGE, "W
           (VALUES, "RCVT", "8 RCVT", 1), (VALUES, "RCVT", "-1 RCVT", 1), (VALUES, "WCVTP", "8 9 WCVTP 7 RCVT", 1), (VALUES, "WCVTF", "-1 9 WCVTF 7 RCVT 0 RCVT", 2)]
 
 # What a state is seen by: point 5 moved from point 0 by MDRP and MIRP, and point 9 to a control value by MIAP.
-SEEN = "SVTCA:1 0 SRP0 5 MDRP:0C 0 SRP0 9 0 MIRP:0C 0 SRP0 2 1 MIRP:04 7 2 MIAP:1 3 MDAP:1 0 SRP0 10 MDRP:04"
+SEEN = "SVTCA:1 0 SRP0 5 MDRP:0C 0 SRP0 9 0 MIRP:0C 0 SRP0 2 1 MIRP:04 7 2 MIAP:1 3 MDAP:1 0 SRP0 10 MDRP:04 0 SRP0 6 2 MIRP:00"
 SETTERS = {
     "SMD": ["%d SMD" % v for v in (0, 64, 100, 400, 1000, -100)],
     "SCVTCI": ["%d SCVTCI" % v for v in (0, 1, 16, 68, 200, 2000)],
@@ -57,7 +58,8 @@ def make(suite):
     suite.group = "state"
     for name, tries in SETTERS.items():
         for k, program in enumerate(tries):
-            suite.case("%s-%d" % (name.lower(), k), font, STATE % name, picture(font, program + " " + SEEN))
+            own = SIZE if name == "SSW" else None
+            suite.case("%s-%d" % (name.lower(), k), font, STATE % name, picture(font, program + " " + SEEN), own=own)
     for name, tries in POINTERS.items():
         for k, program in enumerate(tries):
             own = STRAY if "20 SRP" in program else None

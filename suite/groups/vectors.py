@@ -34,6 +34,9 @@ def make_axes(suite, font):
                 suite.case("%s-%d-%d" % (name.lower(), axis, k), font, ABOUT % name, picture(font, seen("%s%s:%d" % (before, name, axis))), bits=False)
             row = "SVTCA:%d %s:%d 1 MDAP:1 2 40 SHPIX" % (1 - axis, name, axis)
             suite.case("%s-%d-moves" % (name.lower(), axis), font, ABOUT % name, picture(font, row), own=None if name == "SVTCA" else OFF_AXES, within=None if name == "SVTCA" else 3)
+    for k, before in enumerate(["SVTCA:0", "SPVTCA:0", "0 16384 SPVFS", "SVTCA:0 SPVTCA:1"]):
+        glyph = picture(font, shown(before + " 5 GC:1 5 1 MD:1", 2))
+        suite.case("dual-with-projection-%d" % k, font, ABOUT % "the dual projection vector", glyph, bits=False)
     for k, before in enumerate(["SPVTCA:0 SFVTCA:1", "0 -16384 SPVFS", "SVTCA:0 SFVTCA:1", "8192 14189 SPVFS SVTCA:1 8192 14189 SPVFS"]):
         own = UNIT if "8192" in before else None
         suite.case("sfvtpv-%d" % k, font, ABOUT % "SFVTPV", picture(font, seen(before + " SFVTPV")), own=own, within=2 if own else None, bits=False)
