@@ -1,6 +1,7 @@
 """Writes a page of the differences: pictures of expected and given pixels and points side by side."""
 import collections
 import html
+import re
 
 MOST = 400  # differences that are drawn
 SIDE = 260  # of a picture, in pixels of the screen
@@ -59,7 +60,7 @@ def figure(title, one, *both):
     low, high = min(y for _, y in places) - 32, max(y for _, y in places) + 32
     size = max(right - left, high - low, 1)
     width, height = SIDE * (right - left) / size, SIDE * (high - low) / size
-    body = pixels(one.get("bits")) + lines(one.get("outline", []), size) + dots(one.get("outline", []), size, both)
+    body = pixels(one) + only_here(one, both) + lines(one.get("outline", []), size) + dots(one.get("outline", []), size, both)
     return ("<figure><svg width=%d height=%d viewBox='%d %d %d %d' role=img aria-label='%s'>%s</svg><figcaption>%s, advance %s</figcaption></figure>"
             % (width + 2, height + 2, left, -high, right - left, high - low, title, body, title, one.get("advance", "not told")))
 
@@ -69,28 +70,66 @@ def extent(answer):
     yield 0, 0
     for contour in answer.get("outline", []):
         yield from ((x, y) for x, y, _ in contour)
-    if answer.get("bits") and answer["bits"]["rows"]:
+    if has_pixels(answer):
         width, height, left, bottom = answer["bits"]["box"]
         yield 64 * left, 64 * bottom
         yield 64 * (left + width), 64 * (bottom + height)
 
 
-def pixels(bits):
-    """Squares of 64 units for the set pixels."""
-    found = []
-    for k, row in enumerate(bits["rows"] if bits else []):
+def has_pixels(answer):
+    """Whether an answer has bits in the protocol's form."""
+    return isinstance(answer.get("bits"), dict) and bool(answer["bits"].get("rows"))
+
+
+def pixels(answer):
+    """Bars of 64 units' height for the runs of set pixels."""
+    found, bits = [], answer.get("bits")
+    for k, row in enumerate(bits["rows"] if has_pixels(answer) else []):
         width, height, left, bottom = bits["box"]
-        value = bin(int(row, 16))[2:].zfill(4 * len(row))
-        for i in range(width):
-            if value[i] == "1":
-                found.append("<rect x=%d y=%d width=60 height=60 fill='#b9c7d6'/>" % (64 * (left + i) + 2, -64 * (bottom + height - k) + 2))
+        value = bin(int(row, 16))[2:].zfill(4 * len(row))[:width]
+        for run in re.finditer("1+", value):
+            place = 64 * (left + run.start()) + 2, -64 * (bottom + height - k) + 2, 64 * len(run.group()) - 4
+            found.append("<rect x=%d y=%d width=%d height=60 fill='#b9c7d6'/>" % place)
     return "".join(found)
 
 
+def pixel_set(answer):
+    """The set pixels of an answer, as pairs of column and row."""
+    if not has_pixels(answer):
+        return set()
+    width, height, left, bottom = answer["bits"]["box"]
+    rows = [bin(int(row, 16))[2:].zfill(4 * len(row)) for row in answer["bits"]["rows"]]
+    return {(left + i, bottom + height - 1 - k) for k, row in enumerate(rows) for i in range(width) if row[i] == "1"}
+
+
+def only_here(one, both):
+    """Red squares for the pixels that are set in one answer and not in the other."""
+    other = both[1] if one is both[0] else both[0]
+    found = sorted(pixel_set(one) - pixel_set(other)) if has_pixels(other) else []
+    return "".join("<rect x=%d y=%d width=60 height=60 fill='#d9534f'/>" % (64 * i + 2, -64 * (j + 1) + 2) for i, j in found)
+
+
 def lines(contours, size):
-    """The contours as straight lines from point to point."""
-    return "".join("<polygon points='%s' fill=none stroke='#345' stroke-width='%.2f'/>" % (" ".join("%d,%d" % (x, -y) for x, y, _ in contour), size / 300)
-                   for contour in contours)
+    """The contours as lines and arcs."""
+    return "".join("<path d='%s' fill=none stroke='#345' stroke-width='%.2f'/>" % (way_of(contour), size / 300) for contour in contours)
+
+
+def way_of(contour):
+    """A contour as the words of an SVG path, from a point on the curve or a middle of two that are off it."""
+    full = []
+    for (x, y, on), (nx, ny, next_on) in zip(contour, contour[1:] + contour[:1]):
+        full.append((x, -y, on))
+        if not on and not next_on:
+            full.append(((x + nx) / 2, -(y + ny) / 2, 1))
+    start = next((k for k, place in enumerate(full) if place[2]), 0)
+    full = full[start:] + full[:start + 1]
+    words = ["M%g %g" % full[0][:2]]
+    for k, (x, y, on) in enumerate(full[1:], 1):
+        if not on:
+            words.append("Q%g %g" % (x, y))
+        else:
+            words.append(("%g %g" if not full[k - 1][2] else "L%g %g") % (x, y))
+    return " ".join(words)
 
 
 def dots(contours, size, both):
