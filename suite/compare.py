@@ -1,0 +1,60 @@
+"""Compares a tool's answer with what a case expects."""
+
+PARTS = ("advance", "outline", "bits")
+
+
+def is_close(expected, answer, most):
+    """Whether an answer's points and advance differ by at most so many 1/64 pixels. Bits are not looked at then."""
+    if "outline" not in expected or "outline" not in answer:
+        return False
+    pairs = list(zip(flat(expected), flat(answer)))
+    same = [len(c) for c in expected["outline"]] == [len(c) for c in answer["outline"]]
+    return same and all(a[2] == b[2] and abs(a[0] - b[0]) <= most and abs(a[1] - b[1]) <= most for a, b in pairs)
+
+
+def flat(answer):
+    """The points of an answer, and its advance as one more."""
+    return [point for contour in answer["outline"] for point in contour] + [[answer.get("advance", 0), 0, 1]]
+
+
+def wrong(expected, answer):
+    """What is wrong with an answer, in a few words, or None."""
+    if "refusal" in expected:
+        return wrong_refusal(expected["refusal"], answer)
+    if "missing" in expected:
+        return None if answer.get("missing") else "a glyph, and the map has none"
+    if "refusal" in answer:
+        return "refused: %s" % (answer["refusal"].get("name") or answer["refusal"].get("text") or "no name")
+    if answer.get("missing"):
+        return "missing, and the map has a glyph"
+    given = [part for part in PARTS if part in answer and part in expected]
+    if not given:
+        return "no answer"
+    differing = [part for part in given if answer[part] != expected[part]]
+    return ", ".join(different(part, expected[part], answer[part]) for part in differing) or None
+
+
+def wrong_refusal(expected, answer):
+    """A refusal is compared by the fields that the tool gives. `text` is free."""
+    if "refusal" not in answer:
+        return "not refused: %s" % expected["name"]
+    for key, value in answer["refusal"].items():
+        if key != "text" and key in expected and expected[key] != value:
+            return "%s %s in place of %s" % (key, value, expected[key])
+    return None
+
+
+def different(part, expected, given):
+    """How a part differs."""
+    if part == "advance":
+        return "advance %s in place of %s" % (given, expected)
+    if part == "bits":
+        return "bits"
+    if [len(contour) for contour in expected] != [len(contour) for contour in given]:
+        return "another number of points"
+    pairs = [(a, b) for one, two in zip(expected, given) for a, b in zip(one, two) if a != b]
+    places = [(a, b) for a, b in pairs if a[:2] != b[:2]]
+    if not places:
+        return "on or off the curve at %d points" % len(pairs)
+    most = max(max(abs(a[0] - b[0]), abs(a[1] - b[1])) for a, b in places)
+    return "%d points, by up to %d/64 pixel" % (len(places), most)

@@ -1,0 +1,1 @@
+"""Makes the suite: an assembler, fonts, and the list of cases."""
