@@ -82,7 +82,7 @@ pub fn status_of(made: &Option<BitGlyph>) -> u32
 }
 
 /// Tells the glyph that was made, or why there is none.
-fn tell(
+pub fn tell(
     found: Result<Option<BitGlyph>, Refusal>,
     packed: bool,
     pixels: &mut [u8],
@@ -144,7 +144,7 @@ pub extern "C" fn mkstrike_glyph(
 }
 
 /// A glyph's number in 16 bits; no font has a glyph of the number 65,535.
-fn id_of(glyph: u32) -> u16
+pub fn id_of(glyph: u32) -> u16
     ensures { result ≡ min glyph 65535 }
 {
     glyph.min(65535) as u16
