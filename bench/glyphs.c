@@ -3,11 +3,12 @@
    glyphs WAY PPEM MODE ROUNDS FONT FIRST-LAST[,FIRST-LAST ..]
 
    WAY is one (mkstrike_glyph for each), many (mkstrike_glyphs, a byte a pixel), packed (the same, packed), line (the same, ten characters
-   a call), numbers (the same without room for pixels), strike (mkstrike_make), freetype (FT_Load_Char with FT_LOAD_RENDER and
+   a call), numbers (the same without room for pixels), prepared (mkstrike_glyph_prepared for each, packed), prepared-lineN
+   (mkstrike_glyphs_prepared, packed, N characters a call), strike (mkstrike_make), freetype (FT_Load_Char with FT_LOAD_RENDER and
    FT_LOAD_TARGET_MONO, its interpreter 35, the autohinter off), or open (the same with a face that stays open). Of the characters only
    those that the font has are taken. In each round the font is opened once; by `one` for each glyph, by `line` for each ten, by `open` only
-   in the first round. MODE is hinted, unhinted, hinted-dropout or unhinted-dropout. Prints the number of glyphs, and microseconds a glyph
-   in the best round. */
+   in the first round, and the block is made only then too. MODE is hinted, unhinted, hinted-dropout or unhinted-dropout. Prints the number
+   of glyphs, and microseconds a glyph in the best round. */
 
 #define _POSIX_C_SOURCE 200112L
 #include "mkstrike.h"
@@ -20,7 +21,7 @@
 #include <string.h>
 #include <time.h>
 
-enum { MOST = 65536, LINE = 10 };
+enum { MOST = 65536, LINE = 10, WORDS = 65536 };
 
 static uint8_t *font, *out;
 static size_t font_len, out_len;
@@ -28,6 +29,8 @@ static uint16_t ppem;
 static uint32_t mode;
 static uint32_t chars[MOST];
 static size_t count;
+static uint32_t block[WORDS];
+static size_t words;
 static struct mkstrike_placed placed[MOST];
 static struct mkstrike_drawn drawn;
 static struct mkstrike_refused refused;
@@ -59,6 +62,30 @@ static void make_many(uint32_t packed, size_t room) { make_some(packed, room, 0,
 static void make_lines(void) {
     size_t i;
     for (i = 0; i < count; i += LINE) make_some(MKSTRIKE_PACKED, out_len, i, count - i < LINE ? count - i : LINE);
+}
+
+/* The block of the font, made once. */
+static void prepare(void) {
+    if (words != 0) return;
+    if (mkstrike_prepare(font, font_len, 0, ppem, mode, block, WORDS, &words, &refused) != 0 || words > WORDS) fail("mkstrike_prepare", 0);
+}
+
+static void make_each_prepared(void) {
+    struct mkstrike_glyph_info info;
+    size_t i;
+    prepare();
+    for (i = 0; i < count; i++)
+        if (mkstrike_glyph_prepared(font, font_len, 0, ppem, mode | MKSTRIKE_PACKED, block, words, chars[i], out, out_len, &info, &refused) != 0)
+            fail("mkstrike_glyph_prepared", (long)chars[i]);
+}
+
+static void make_lines_prepared(size_t line) {
+    size_t i;
+    prepare();
+    for (i = 0; i < count; i += line)
+        if (mkstrike_glyphs_prepared(font, font_len, 0, ppem, mode | MKSTRIKE_PACKED, block, words, chars + i,
+                count - i < line ? count - i : line, placed, MOST, out, out_len, &drawn, &refused) != 0)
+            fail("mkstrike_glyphs_prepared", 0);
 }
 
 /* The characters of the list that the font has. */
@@ -123,6 +150,8 @@ static void make(const char *way) {
     else if (strcmp(way, "packed") == 0) make_many(MKSTRIKE_PACKED, out_len);
     else if (strcmp(way, "line") == 0) make_lines();
     else if (strcmp(way, "numbers") == 0) make_many(0, 0);
+    else if (strcmp(way, "prepared") == 0) make_each_prepared();
+    else if (strncmp(way, "prepared-line", 13) == 0 && atoi(way + 13) > 0) make_lines_prepared((size_t)atoi(way + 13));
     else if (strcmp(way, "strike") == 0) make_strike();
     else if (strcmp(way, "freetype") == 0) make_freetype();
     else if (strcmp(way, "open") == 0) make_with_open_face();

@@ -96,6 +96,7 @@ enum {
     MKSTRIKE_BAD_NAME = 62,
     MKSTRIKE_BAD_PROPERTY = 63, /* no call gives it: a strike made here has no properties of its own */
     MKSTRIKE_BAD_MODE = 64,     /* a bit of the mode that the call does not know */
+    MKSTRIKE_BAD_BLOCK = 65,    /* the words are not a block of this font, face and size */
 
     MKSTRIKE_OUT_OF_MEMORY = 90
 };
@@ -222,6 +223,36 @@ uint32_t mkstrike_glyphs(const uint8_t *font, size_t font_len, uint32_t face, ui
     size_t chars_len, struct mkstrike_placed *glyphs, size_t glyphs_len, uint8_t *pixels, size_t pixels_len, struct mkstrike_drawn *drawn,
     struct mkstrike_refused *refused);
 
+/* ---- blocks
+ *
+ * A block is a font that was opened at a size, as words. Hinted, a call without one runs the font's `fpgm` and `prep` first, which takes
+ * most of the time of a single glyph. A block has what they left; a call by it gives the same answer, and runs neither. The words are yours:
+ * copy them, share them between threads, keep them in ROM. They hold no pointer, and nothing has to be closed.
+ *
+ * A block is for one font, face and size, and for hinted calls or for unhinted ones; MKSTRIKE_DROPOUT and MKSTRIKE_PACKED may differ from
+ * those of mkstrike_prepare. Any other words are refused by MKSTRIKE_BAD_BLOCK, as far as words can tell: a block has the face, the size,
+ * the length of the file and, hinted, the checksum that the font has in `head` and the lengths of `fpgm` and `prep`. Reading words is safe,
+ * whatever they are. Unhinted, a block has 6 words and saves nothing; so one piece of code can serve both. */
+
+/* Writes a block of a font at a size of 1 to 1,024: as many of its words as fit go to the front of `block`, and what lies after them stays
+ * as it was. `need` tells how many it has, some 800 in most fonts and at most 3,393 in 326 of them. So you can ask with a buffer of
+ * 0 words. A block that did not fit is of no use. MKSTRIKE_BAD_BLOCK is returned for a font of more than 1 GiB that defines a function past that. */
+uint32_t mkstrike_prepare(const uint8_t *font, size_t font_len, uint32_t face, uint16_t ppem, uint32_t mode, uint32_t *block,
+    size_t block_len, size_t *need, struct mkstrike_refused *refused);
+
+/* The calls without `_prepared`, by a block: the same answers. Words may lie after the block. */
+uint32_t mkstrike_glyph_prepared(const uint8_t *font, size_t font_len, uint32_t face, uint16_t ppem, uint32_t mode, const uint32_t *block,
+    size_t block_len, uint32_t code, uint8_t *pixels, size_t pixels_len, struct mkstrike_glyph_info *info,
+    struct mkstrike_refused *refused);
+
+uint32_t mkstrike_glyph_by_id_prepared(const uint8_t *font, size_t font_len, uint32_t face, uint16_t ppem, uint32_t mode,
+    const uint32_t *block, size_t block_len, uint32_t glyph, uint8_t *pixels, size_t pixels_len, struct mkstrike_glyph_info *info,
+    struct mkstrike_refused *refused);
+
+uint32_t mkstrike_glyphs_prepared(const uint8_t *font, size_t font_len, uint32_t face, uint16_t ppem, uint32_t mode, const uint32_t *block,
+    size_t block_len, const uint32_t *chars, size_t chars_len, struct mkstrike_placed *glyphs, size_t glyphs_len, uint8_t *pixels,
+    size_t pixels_len, struct mkstrike_drawn *drawn, struct mkstrike_refused *refused);
+
 /* What is told of a strike. */
 struct mkstrike_told {
     size_t bytes;           /* of the whole text, also of one that did not fit */
@@ -317,6 +348,49 @@ MKSTRIKE_INLINE uint32_t mkstrike_glyphs_or_null(const uint8_t *font, size_t fon
         MKSTRIKE_OR(struct mkstrike_drawn, drawn, not_told), MKSTRIKE_OR(struct mkstrike_refused, refused, unwanted));
 }
 
+MKSTRIKE_INLINE uint32_t mkstrike_prepare_or_null(const uint8_t *font, size_t font_len, uint32_t face, uint16_t ppem, uint32_t mode,
+    uint32_t *block, size_t block_len, size_t *need, struct mkstrike_refused *refused) {
+    uint64_t none = 0;
+    struct mkstrike_refused unwanted;
+    size_t not_told;
+    return mkstrike_prepare(MKSTRIKE_OR(const uint8_t, font, none), font_len, face, ppem, mode, MKSTRIKE_OR(uint32_t, block, none), block_len,
+        MKSTRIKE_OR(size_t, need, not_told), MKSTRIKE_OR(struct mkstrike_refused, refused, unwanted));
+}
+
+MKSTRIKE_INLINE uint32_t mkstrike_glyph_prepared_or_null(const uint8_t *font, size_t font_len, uint32_t face, uint16_t ppem, uint32_t mode,
+    const uint32_t *block, size_t block_len, uint32_t code, uint8_t *pixels, size_t pixels_len, struct mkstrike_glyph_info *info,
+    struct mkstrike_refused *refused) {
+    uint64_t none = 0;
+    struct mkstrike_refused unwanted;
+    struct mkstrike_glyph_info no_info;
+    return mkstrike_glyph_prepared(MKSTRIKE_OR(const uint8_t, font, none), font_len, face, ppem, mode,
+        MKSTRIKE_OR(const uint32_t, block, none), block_len, code, MKSTRIKE_OR(uint8_t, pixels, none), pixels_len,
+        MKSTRIKE_OR(struct mkstrike_glyph_info, info, no_info), MKSTRIKE_OR(struct mkstrike_refused, refused, unwanted));
+}
+
+MKSTRIKE_INLINE uint32_t mkstrike_glyph_by_id_prepared_or_null(const uint8_t *font, size_t font_len, uint32_t face, uint16_t ppem,
+    uint32_t mode, const uint32_t *block, size_t block_len, uint32_t glyph, uint8_t *pixels, size_t pixels_len,
+    struct mkstrike_glyph_info *info, struct mkstrike_refused *refused) {
+    uint64_t none = 0;
+    struct mkstrike_refused unwanted;
+    struct mkstrike_glyph_info no_info;
+    return mkstrike_glyph_by_id_prepared(MKSTRIKE_OR(const uint8_t, font, none), font_len, face, ppem, mode,
+        MKSTRIKE_OR(const uint32_t, block, none), block_len, glyph, MKSTRIKE_OR(uint8_t, pixels, none), pixels_len,
+        MKSTRIKE_OR(struct mkstrike_glyph_info, info, no_info), MKSTRIKE_OR(struct mkstrike_refused, refused, unwanted));
+}
+
+MKSTRIKE_INLINE uint32_t mkstrike_glyphs_prepared_or_null(const uint8_t *font, size_t font_len, uint32_t face, uint16_t ppem, uint32_t mode,
+    const uint32_t *block, size_t block_len, const uint32_t *chars, size_t chars_len, struct mkstrike_placed *glyphs, size_t glyphs_len,
+    uint8_t *pixels, size_t pixels_len, struct mkstrike_drawn *drawn, struct mkstrike_refused *refused) {
+    uint64_t none = 0;
+    struct mkstrike_refused unwanted;
+    struct mkstrike_drawn not_told;
+    return mkstrike_glyphs_prepared(MKSTRIKE_OR(const uint8_t, font, none), font_len, face, ppem, mode,
+        MKSTRIKE_OR(const uint32_t, block, none), block_len, MKSTRIKE_OR(const uint32_t, chars, none), chars_len,
+        MKSTRIKE_OR(struct mkstrike_placed, glyphs, none), glyphs_len, MKSTRIKE_OR(uint8_t, pixels, none), pixels_len,
+        MKSTRIKE_OR(struct mkstrike_drawn, drawn, not_told), MKSTRIKE_OR(struct mkstrike_refused, refused, unwanted));
+}
+
 MKSTRIKE_INLINE uint32_t mkstrike_make_or_null(const uint8_t *font, size_t font_len, uint32_t face, uint16_t ppem, uint32_t mode,
     const uint32_t *chars, size_t chars_len, const char *name, size_t name_len, uint8_t *out, size_t out_len, struct mkstrike_told *told,
     struct mkstrike_refused *refused) {
@@ -336,6 +410,10 @@ MKSTRIKE_INLINE uint32_t mkstrike_make_or_null(const uint8_t *font, size_t font_
 #define mkstrike_outline mkstrike_outline_or_null
 #define mkstrike_glyphs mkstrike_glyphs_or_null
 #define mkstrike_make mkstrike_make_or_null
+#define mkstrike_prepare mkstrike_prepare_or_null
+#define mkstrike_glyph_prepared mkstrike_glyph_prepared_or_null
+#define mkstrike_glyph_by_id_prepared mkstrike_glyph_by_id_prepared_or_null
+#define mkstrike_glyphs_prepared mkstrike_glyphs_prepared_or_null
 
 #ifdef __cplusplus
 }

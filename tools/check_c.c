@@ -79,6 +79,8 @@ struct request {
     uint32_t face;
     uint32_t *chars;
     size_t chars_len;
+    uint32_t *block;
+    size_t block_len;
 };
 
 static void stop(const char *why) {
@@ -110,7 +112,16 @@ static struct request request_of(const char *name, int ppem, uint32_t mode, uint
     r.chars_len = last - first + 1;
     r.chars = (uint32_t *)bytes(r.chars_len * sizeof *r.chars);
     for (i = 0; i < r.chars_len; i++) r.chars[i] = first + i;
+    r.block = NULL;
+    r.block_len = 0;
     return r;
+}
+
+/* The font's block, for calls by it. */
+static void prepare(struct request *r) {
+    if (mkstrike_prepare(r->font, r->font_len, r->face, r->ppem, r->mode, NULL, 0, &r->block_len, NULL) != 0) stop("no size of a block");
+    r->block = (uint32_t *)bytes(r->block_len * sizeof *r->block);
+    if (mkstrike_prepare(r->font, r->font_len, r->face, r->ppem, r->mode, r->block, r->block_len, &r->block_len, NULL) != 0) stop("no block");
 }
 
 static uint32_t make(const struct request *r, uint8_t *out, size_t out_len, struct mkstrike_told *told, struct mkstrike_refused *refused) {
@@ -362,6 +373,9 @@ struct many {
 };
 
 static uint32_t call_many(const struct request *r, struct many *it, size_t glyphs_len, size_t pixels_len) {
+    if (r->block != NULL)
+        return mkstrike_glyphs_prepared(r->font, r->font_len, r->face, r->ppem, r->mode | it->packed, r->block, r->block_len, it->chars, it->len,
+            it->glyphs, glyphs_len, it->pixels, pixels_len, &it->drawn, &it->refused);
     return mkstrike_glyphs(r->font, r->font_len, r->face, r->ppem, r->mode | it->packed, it->chars, it->len, it->glyphs, glyphs_len,
         it->pixels, pixels_len, &it->drawn, &it->refused);
 }
@@ -693,6 +707,7 @@ static long refuse_each(const struct request *r, char call) {
     static uint16_t ends[64], ends_before[64];
     static struct mkstrike_placed placed[256], placed_before[256];
     static uint8_t out[1 << 20], before[1 << 20], whole[1 << 20];
+    size_t need;
     long n;
     memset(whole, 7, sizeof whole);
     if (call == 'm' && make(r, whole, sizeof whole, &told, &refused) != 0) stop("no strike without refusals");
@@ -712,6 +727,11 @@ static long refuse_each(const struct request *r, char call) {
             status = make(r, out, sizeof out, &told, &refused);
         else if (call == 'g')
             status = mkstrike_glyph(r->font, r->font_len, r->face, r->ppem, r->mode | MKSTRIKE_PACKED, 'g', out, sizeof out, &g, &refused);
+        else if (call == 'p')
+            status = mkstrike_prepare(r->font, r->font_len, r->face, r->ppem, r->mode, (uint32_t *)(void *)out, sizeof out / 4, &need, &refused);
+        else if (call == 'b')
+            status = mkstrike_glyph_prepared(r->font, r->font_len, r->face, r->ppem, r->mode, r->block, r->block_len, 'g', out, sizeof out, &g,
+                &refused);
         else if (call == 'i')
             status = mkstrike_glyph_by_id(r->font, r->font_len, r->face, r->ppem, r->mode, 36, out, sizeof out, &g, &refused);
         else if (call == 'o')
@@ -762,6 +782,7 @@ static void run_threads(int count, int rounds, size_t stack) {
     shared_many.chars = shared.chars;
     shared_many.len = shared.chars_len;
     if (many_of(&shared, &shared_many) != 0) stop("no glyphs before the threads");
+    prepare(&shared); /* and the threads draw by one block, which they share */
     pthread_attr_init(&attributes);
     if (stack != 0 && pthread_attr_setstacksize(&attributes, stack) != 0) stop("no thread with such a stack");
     for (i = 0; i < count; i++)
@@ -812,7 +833,9 @@ int main(int argc, char **argv) {
         static struct request second;
         second = request_of(argv[2], 33, MKSTRIKE_DROPOUT, 0x20, 0x7E);
         shared = request_of(argv[2], 16, MKSTRIKE_HINTED, 0x20, 0x7E);
-        for (call = "mgios"; *call != 0; call++) count += refuse_each(&shared, *call) + refuse_each(&second, *call);
+        prepare(&shared);
+        prepare(&second);
+        for (call = "mgpbios"; *call != 0; call++) count += refuse_each(&shared, *call) + refuse_each(&second, *call);
         printf("%ld\n", count);
         return 0;
     }

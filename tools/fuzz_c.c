@@ -5,6 +5,7 @@
  *   - what a strike, its cut text and its numbers are agrees from call to call, and with what is told of the font;
  *   - each entry of many characters is what a call for it alone gives; boxes are tight, the bits that fill up a row are 0; by the number of
  *     its glyph a character gives the same;
+ *   - by a block each character is the same, also when memory is refused; and whatever words are given as a block, no call goes wrong;
  *   - what a refused call must leave is as it was, and nothing is written beside a buffer;
  *   - one request for memory, another one each time, is refused: the answer is 90, or the same;
  *   - all memory is given back.
@@ -154,11 +155,12 @@ static void begin(long refused) {
     refused_at = refused;
 }
 
-/* After it: it gave all back; refused it told its number, else nothing. */
+/* After it: it gave all back; refused it told its number, else nothing. A call for many that is done may tell of a character. */
 static uint32_t ended(uint32_t status, int is_told) {
     look(live_count == 0, "memory was kept");
     refused_at = 0;
-    if (is_told) look(why.number == status, "two numbers of a refusal");
+    if (is_told && status == 0) look(why.number > 1 && why.index != MKSTRIKE_NONE, "no refusal of a character");
+    else if (is_told) look(why.number == status, "two numbers of a refusal");
     else look(is_filled((const uint8_t *)&why, sizeof why), "a call that was done told a refusal");
     feature(status * 977 + why.table * 31 + why.opcode * 17 + why.glyph * 13);
     return status;
@@ -334,6 +336,90 @@ static void many(const struct asked *a) {
     free_block(&none);
 }
 
+/* ---- blocks */
+
+static uint32_t prepare(const struct asked *a, struct block *words, size_t *need, long refused) {
+    uint32_t status;
+    begin(refused);
+    status = mkstrike_prepare(a->font, a->font_len, a->face, a->ppem, a->mode | a->packed, (uint32_t *)(void *)words->at, words->len / 4, need, &why);
+    return ended(status, status != 0);
+}
+
+static uint32_t by_block(const struct asked *a, const struct block *words, uint32_t code, struct block *pixels, struct mkstrike_glyph_info *info,
+    long refused) {
+    uint32_t status;
+    begin(refused);
+    status = mkstrike_glyph_prepared(a->font, a->font_len, a->face, a->ppem, a->mode | a->packed, (const uint32_t *)(const void *)words->at,
+        words->len / 4, code, pixels->at, pixels->len, info, &why);
+    return ended(status, status > 1);
+}
+
+/* A character by its font's block: the answer is that of a call without it. */
+static void same_by_block(const struct asked *a, const struct block *words, uint32_t code) {
+    struct mkstrike_glyph_info due, found;
+    struct block pixels = block_of(4096, 1, (int)draw(2)), others = block_of(4096, 1, (int)draw(2));
+    struct mkstrike_refused refused;
+    uint32_t status;
+    long count;
+    memset(&due, FILL, sizeof due);
+    memset(&found, FILL, sizeof found);
+    status = glyph(a, code, &pixels, &due, 0);
+    refused = why;
+    look(by_block(a, words, code, &others, &found, 0) == status, "another status by a block");
+    look(memcmp(&why, &refused, sizeof why) == 0, "another refusal by a block");
+    look(memcmp(&due, &found, sizeof due) == 0 && memcmp(pixels.at, others.at, 4096) == 0, "another glyph by a block");
+    count = requests;
+    if (count > 0) {
+        uint32_t again = by_block(a, words, code, &others, &found, 1 + (long)draw((uint32_t)count));
+        look(again == MKSTRIKE_OUT_OF_MEMORY || again == status, "another answer to refused memory by a block");
+    }
+    free_block(&pixels);
+    free_block(&others);
+}
+
+/* Some words of a block are changed, or it is cut: a refused call changes nothing, and each call ends. */
+static void changed_block(const struct asked *a, struct block *words, uint32_t code) {
+    static const uint32_t values[] = {0, 1, 0xFFFFFFFF, 0x7FFFFFFF, 0x80000000, 256, 0x10000, 3};
+    struct mkstrike_glyph_info info;
+    struct block pixels = block_of(4096, 1, (int)draw(2));
+    uint32_t *at = (uint32_t *)(void *)words->at, count = (uint32_t)(words->len / 4), i, status;
+    for (i = 0; i <= draw(5); i++) {
+        uint32_t k = 6 + draw(draw(2) ? 30 : count);
+        if (k < count) at[k] = draw(2) ? values[draw(8)] : draw(2) ? at[k] ^ 1u << draw(32) : draw(0);
+    }
+    memset(&info, FILL, sizeof info);
+    status = by_block(a, words, code, &pixels, &info, 0);
+    feature(0x20000 + status);
+    if (status != 0) look(is_filled((uint8_t *)&info, sizeof info) && is_filled(pixels.at, 4096), "a refused block changed a buffer");
+    free_block(&pixels);
+}
+
+static void blocks(const struct asked *a) {
+    struct block none = block_of(0, 4, at_front), words;
+    struct mkstrike_glyph_info info;
+    size_t need = 1, again = 1, i;
+    uint32_t status = prepare(a, &none, &need, 0);
+    long count = requests;
+    look(status == 0 || need == 1, "a refusal changed the size of a block");
+    if (count > 0) {
+        uint32_t second = prepare(a, &none, &again, 1 + (long)draw((uint32_t)count));
+        look(second == MKSTRIKE_OUT_OF_MEMORY || second == status, "another answer to refused memory");
+    }
+    if (status == 0) {
+        words = block_of(need * 4, 4, (int)draw(2));
+        look(prepare(a, &words, &again, 0) == 0 && again == need, "another block the second time");
+        for (i = 0; i < a->chars_len; i++)
+            if (draw(2) == 0) same_by_block(a, &words, a->chars[i]);
+        if (a->chars_len > 0)
+            for (i = 0; i < 4; i++) changed_block(a, &words, a->chars[draw(a->chars_len)]);
+        free_block(&words);
+    } else if (a->chars_len > 0 && (a->mode & ~UINT32_C(3)) == 0) {
+        memset(&info, FILL, sizeof info);
+        look(by_block(a, &none, a->chars[0], &none, &info, 0) == MKSTRIKE_BAD_BLOCK, "no words were taken for a block");
+    }
+    free_block(&none);
+}
+
 /* ---- an input */
 
 int LLVMFuzzerTestOneInput(const uint8_t *input, size_t len);
@@ -371,6 +457,7 @@ int LLVMFuzzerTestOneInput(const uint8_t *input, size_t len) {
     look(requests == 0, "a font's heights take memory");
     strike(&a, &info, status);
     many(&a);
+    blocks(&a);
     free_block(&chars);
     munmap(font.map, (font.pages + 2) * PAGE);
     return 0;

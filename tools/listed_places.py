@@ -51,6 +51,7 @@ PLACES = {
     "crates/fx_winding/src/plain.rt": ["vec![in alloc; 0u32; words_for(frame.width)]"],
     "crates/fx_winding/src/scratch.rt": ["vec![in alloc; 0i32; 32 * words]", "vec![in alloc; 0u32; words]"],
     "crates/fx_zone/src/zone.rt": ["reserve(points.len())", "reserve(more.len())"],
+    "crates/mkstrike_c/src/block.rt": ["with_capacity(alloc, ORIGIN + words.len())"],
     "crates/mkstrike_c/src/gathered.rt": [
         "resize(start + size(glyph, packed), 0)",
         "with_capacity(alloc, most.min(wanted.entries))",

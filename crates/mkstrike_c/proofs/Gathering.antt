@@ -207,7 +207,7 @@ chars_pass chars h = by_tests (nat_lt max_characters (length chars)) (list_any (
     by_tests false true e h = absurd (cc)
     by_tests true b e h = absurd (cc)
 
-one_checked : (setting : Setting) (c : ℕ) → c ≤ max_code → character_with setting c ≡ one_with setting c
+pub one_checked : (setting : Setting) (c : ℕ) → c ≤ max_code → character_with setting c ≡ one_with setting c
 unfolding character_with checked_chars
 one_checked setting c h = by_test (nat_lt max_code c) refl
   where
@@ -247,7 +247,7 @@ made_at setting chars i wanted old new o l h so_far is fails passed adds =
 
 -- ---- from a file
 
-opened_late : (file : FontFileView) (ppem : ℕ) (chars : List ℕ) (mode : Mode) (s : Setting)
+pub opened_late : (file : FontFileView) (ppem : ℕ) (chars : List ℕ) (mode : Mode) (s : Setting)
     → setting_for file ppem chars mode ≡ Ok s → Late (opened_many_of file ppem chars)
 unfolding setting_for
 opened_late file ppem chars mode s h = by_opened (opened_many_of file ppem chars) h

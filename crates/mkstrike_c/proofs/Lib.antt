@@ -5,3 +5,5 @@ pub mod Gathering
 pub mod Ids
 pub mod Showing
 pub mod Fours
+pub mod Origins
+pub mod Preparing

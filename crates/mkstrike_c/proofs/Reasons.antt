@@ -1,12 +1,14 @@
 -- The names of numbers.
--- Serves the law `reasons`.
-use Rattle.std.proofs.Common.{◌≡◌, refl}
+-- Serves the laws `reasons` and `numbers`.
+use Rattle.std.proofs.Common.{◌≡◌, refl, arith, ◌<◌}
+use Rattle.fx_request.specs.Refusals.{number_of}
+use Rattle.mkstrike_c.specs.Refused.{bad_block, bad_mode}
 use Rattle.fx_machine.specs.Causes as causes
 use Rattle.fx_machine.specs.declared.halt.Cause.{Cause}
 use Rattle.fx_machine.specs.declared.halt.Cause.TheVariants as cause
 use Rattle.fx_request.specs.declared.refusal.Refusal.TheVariants as refusal
 use Rattle.fx_request.specs.Refusals.{named}
-use Rattle.mkstrike_c.specs.Reasons.{reason_of, ReasonsAreNames}
+use Rattle.mkstrike_c.specs.Reasons.{reason_of, NumbersAreApart, ReasonsAreNames}
 
 of_cause : (c : Cause) → reason_of (causes.number_of c) ≡ causes.name_of c
 unfolding reason_of named
@@ -17,3 +19,11 @@ pub reasons_are_names : ReasonsAreNames
 unfolding reason_of named
 reasons_are_names (refusal.Halted halt) = of_cause halt.cause
 reasons_are_names _ = refl
+
+cause_apart : (c : Cause) → (1 < causes.number_of c) × (causes.number_of c ≡ bad_mode → ⊥) × (causes.number_of c ≡ bad_block → ⊥)
+cause_apart cause.StackUnder = (omega arith, λ e. omega (arith, e), λ e. omega (arith, e))
+cause_apart _ = (omega arith, λ e. omega (arith, e), λ e. omega (arith, e))
+
+pub numbers_are_apart : NumbersAreApart
+numbers_are_apart (refusal.Halted halt) = cause_apart halt.cause
+numbers_are_apart _ = (omega arith, λ e. omega (arith, e), λ e. omega (arith, e))

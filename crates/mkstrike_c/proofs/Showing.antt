@@ -1,5 +1,5 @@
 -- A glyph by its number.
--- Serves `found_by_id`.
+-- Serves `found_by_id`, `numbered_by`.
 use Rattle.std.proofs.Common.{◌≡◌, refl, sym, ap, ◌∙◌, subst, ℕ, min, Option, Some}
 use Rattle.std.proofs.Common.{Result, Ok, Err}
 use Rattle.std.specs.Prelude.{IfOk, IfErr}
@@ -18,13 +18,13 @@ use Rattle.mkstrike_c.specs.Refused.{IsReason}
 use Rattle.mkstrike_c.specs.Shown.{by_id}
 use Rattle.mkstrike_c.specs.inner.Showing.{FindsById}
 
-by_id_set : (file : FontFileView) (ppem glyph : ℕ) (mode : Mode) (s : Setting) → setting_of file ppem mode ≡ Ok s
+pub by_id_set : (file : FontFileView) (ppem glyph : ℕ) (mode : Mode) (s : Setting) → setting_of file ppem mode ≡ Ok s
     → by_id file ppem glyph mode ≡ map_ok Some (numbered_with s (min glyph 65535))
 unfolding numbered_of
 by_id_set file ppem glyph mode s k =
     ap (λ (r : Result Setting Refusal). map_ok Some (r >>= λ s. numbered_with s (min glyph 65535))) k
 
-late_at : (file : FontFileView) (ppem : ℕ) (mode : Mode) (s : Setting) → setting_of file ppem mode ≡ Ok s
+pub late_at : (file : FontFileView) (ppem : ℕ) (mode : Mode) (s : Setting) → setting_of file ppem mode ≡ Ok s
     → Late (opened_at file ppem)
 unfolding setting_of
 late_at file ppem mode s h = by_opened (opened_at file ppem) h

@@ -7,9 +7,11 @@ pub mod Shown
 pub mod Drawn
 pub mod Fonts
 pub mod Outlines
+pub mod Prepared
 pub mod inner
 pub use Rattle.fx_request.specs.Refusals
 pub use Rattle.fx_strike.specs.Strike
 pub use Rattle.fx_strike.specs.Numbers
 pub use Rattle.fx_strike.specs.Headline
 pub use Rattle.fx_strike.specs.Faults
+pub use Rattle.fx_strike.specs.Blocks

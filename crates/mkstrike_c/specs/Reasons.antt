@@ -3,18 +3,24 @@ use Rattle.std.specs.Prelude.{◌≡◌, ◌==◌, ◌+◌, ◌-◌, ◌<◌, �
 use Rattle.std.specs.Prelude.{if◌then◌else◌}
 use Rattle.fx_request.specs.declared.refusal.Refusal.{Refusal}
 use Rattle.fx_request.specs.Refusals.{number_of, name_of, named}
-use Rattle.mkstrike_c.specs.Refused.{bad_mode}
+use Rattle.mkstrike_c.specs.Refused.{bad_block, bad_mode}
 
 -- the name of a number: that of the refusals that have it
 unfoldable pub reason_of : ℕ → List ℕ
 reason_of number =
     if number == 0 then codes "Done"
     else (if number == 1 then codes "Missing"
-    else (if number == bad_mode then codes "BadMode" else unwrap_or (named number) (codes "Unknown")))
+    else (if number == bad_mode then codes "BadMode"
+    else (if number == bad_block then codes "BadBlock" else unwrap_or (named number) (codes "Unknown"))))
 
 -- the law: that of a refusal's number is the refusal's name
 abbrev pub ReasonsAreNames : Type 0
 ReasonsAreNames = (refusal : Refusal) → reason_of (number_of refusal) ≡ name_of refusal
+
+-- the law: no refusal has a number that only C has, nor that of a call that is done or finds nothing
+abbrev pub NumbersAreApart : Type 0
+NumbersAreApart = (refusal : Refusal) → (1 < number_of refusal) × (number_of refusal ≡ bad_mode → ⊥)
+    × (number_of refusal ≡ bad_block → ⊥)
 
 -- as much of a text as fits before a 0, and the 0, stand at the front of the caller's buffer, and what lies after them is as it
 -- was; nothing is written to a buffer without a byte

@@ -22,6 +22,10 @@ none = 0xFFFFFFFF
 abbrev pub bad_mode : ℕ
 bad_mode = 64
 
+-- and of another: words are not a block of the font at this size
+abbrev pub bad_block : ℕ
+bad_block = 65
+
 -- a refusal without fields
 abbrev pub no_fields : ℕ → Refused
 no_fields number = record {

@@ -82,7 +82,7 @@ pub fn status_of(made: &Option<BitGlyph>) -> u32
 }
 
 /// Tells the glyph that was made, or why there is none.
-fn tell(
+pub fn tell(
     found: Result<Option<BitGlyph>, Refusal>,
     packed: bool,
     pixels: &mut [u8],

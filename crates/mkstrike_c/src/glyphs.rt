@@ -51,6 +51,21 @@ fn gather(
     Ok(gathered)
 }
 
+/// Makes the characters of an opened font, in memory.
+pub fn gathered_with(
+    alloc: Global,
+    striker: &mut Striker<'_, Rows>,
+    chars: &[u32],
+    wanted: Wanted,
+) -> Result<Gathered, Refusal>
+    requires chars { Ok tt ≡ checked_chars chars.now }
+    ensures gathered { IfOk result (AreGathered striker.old chars.now wanted) }
+    ensures memory { IfErr result (λ r. r ≡ Refusal.OutOfMemory) }
+{
+    let none = Gathered::new(alloc, wanted, chars.len())?;
+    gather(striker, chars, none)
+}
+
 /// Makes the characters of a font at a size, in memory.
 fn gathered_of(
     alloc: Global,
@@ -65,12 +80,11 @@ fn gathered_of(
         (setting_for font.now ppem chars.now mode)) }
 {
     let mut striker = Striker::open_for(alloc, font, ppem, chars, mode)?;
-    let none = Gathered::new(alloc, wanted, chars.len())?;
-    gather(&mut striker, chars, none)
+    gathered_with(alloc, &mut striker, chars, wanted)
 }
 
 /// Copies what was gathered to the front of the caller's buffers, or tells why there is nothing.
-fn tell(
+pub fn tell(
     found: Result<Gathered, Refusal>,
     glyphs: &mut [Placed],
     pixels: &mut [u8],

@@ -1,7 +1,12 @@
 //! What the definitions imply.
-ghost use Rattle.mkstrike_c.specs.Reasons.{ReasonsAreNames};
+ghost use Rattle.mkstrike_c.specs.Reasons.{NumbersAreApart, ReasonsAreNames};
 
 /// The name of a refusal's number is the refusal's name.
 pub fn reasons()
     ensures { ReasonsAreNames }
+{}
+
+/// No refusal has a number that only C has, nor that of a call that is done or finds nothing.
+pub fn numbers()
+    ensures { NumbersAreApart }
 {}

@@ -1,7 +1,7 @@
 //! The fields of a refusal.
 ghost use Rattle.std.specs.Prelude.{◌≡◌, ◌≤◌};
 ghost use Rattle.fx_request.specs.Refusals.{number_of};
-ghost use Rattle.mkstrike_c.specs.Refused.{at_character, bad_mode, fields, halted, no_fields, program_number, refused_of};
+ghost use Rattle.mkstrike_c.specs.Refused.{at_character, bad_block, bad_mode, fields, halted, no_fields, program_number, refused_of};
 
 use fx_machine::{FontProgram, Halt};
 use fx_request::{Place, Refusal};
@@ -17,6 +17,9 @@ pub const PREP: u32 = 0x1_0001;
 
 /// The number of a refusal that only C has: a bit of the mode is not known.
 pub const BAD_MODE: u32 = 64;
+
+/// The number of another: words are not a block of the font at this size.
+pub const BAD_BLOCK: u32 = 65;
 
 /// Why a call was refused, and where.
 #[repr(C)]
@@ -125,6 +128,15 @@ pub fn refuse_mode(refused: &mut Refused) -> u32
 {
     *refused = no_fields(BAD_MODE);
     BAD_MODE
+}
+
+/// Puts the fields of a refused block, and returns its number.
+pub fn refuse_block(refused: &mut Refused) -> u32
+    ensures value { result ≡ bad_block }
+    ensures fields { refused.new ≡ no_fields bad_block }
+{
+    *refused = no_fields(BAD_BLOCK);
+    BAD_BLOCK
 }
 
 /// Puts the fields of a refusal, and returns its number.

@@ -1,5 +1,5 @@
 -- One glyph, in memory.
-use Rattle.std.specs.Prelude.{◌≡◌, ℕ, Bool, List, Option, Some, None, Result}
+use Rattle.std.specs.Prelude.{◌≡◌, ℕ, Bool, List, Option, Some, None, Result, Ok, Err}
 use Rattle.fx_bdf.specs.Glyphs as bits
 use Rattle.fx_request.specs.declared.refusal.Refusal.{Refusal}
 use Rattle.fx_strike.specs.Strike.{Sketch}
@@ -15,3 +15,9 @@ FindsById due found = (glyph : bits.Glyph) × (found ≡ Some glyph) × IsOneOf 
 abbrev pub IsPut : Bool → Option bits.Glyph → List ℕ → List ℕ → GlyphInfo → GlyphInfo → ℕ → Type 0
 IsPut packed (Some g) old new old_info info result = (result ≡ 0) × (info ≡ info_of packed g) × HasPixels packed g old new
 IsPut packed None old new old_info info result = (result ≡ 1) × (new ≡ old) × (info ≡ old_info)
+
+-- words were taken for a block, and with what they say a value was found that is the one due, or a refusal that is the reason
+abbrev pub IsFoundBy : {A : Type 0} → (A → Type 0) → (Refusal → Type 0) → Option (Result A Refusal) → Type 0
+IsFoundBy IsDue IsWhy None = ⊥
+IsFoundBy IsDue IsWhy (Some (Ok found)) = IsDue found
+IsFoundBy IsDue IsWhy (Some (Err refusal)) = IsWhy refusal

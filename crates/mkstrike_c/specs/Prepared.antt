@@ -1,0 +1,74 @@
+-- Blocks as C has them: a font that was opened at a size, as words of 32 bits, by which calls draw and don't run `fpgm` and `prep`.
+-- The first six words say what a block is for. Hinted, those of the machine follow.
+use Rattle.std.specs.Prelude.{◌≡◌, ◌⊎◌, ℕ, ◌/◌, ◌%◌, ◌^◌, Bool, true, false, List, [], ◌∷◌, ◌++◌, length, Option, Some, None, Result, Ok}
+use Rattle.fx_sfnt.specs.Collections.{FontFileView, face_in}
+use Rattle.fx_machine.specs.Known.{Known}
+use Rattle.fx_machine.specs.Words.{bit_of}
+use Rattle.fx_machine.specs.Blocks.{checksum_of}
+use Rattle.fx_request.specs.declared.refusal.Refusal.{Refusal}
+use Rattle.fx_strike.specs.declared.opened.Opened.{Opened}
+use Rattle.fx_strike.specs.Strike.{Opening, Setting, machine_for, opened_at}
+use Rattle.fx_strike.specs.Blocks.{IsBlockFor, has_block}
+use Rattle.mkstrike_c.specs.declared.refused.Refused.{Refused}
+use Rattle.mkstrike_c.specs.Drawn.{HasFront}
+use Rattle.mkstrike_c.specs.Refused.{IsRefused, bad_block, no_fields}
+
+-- "mkC", and the version of this form
+abbrev pub block_form : ℕ
+block_form = 0x6D6B4301
+
+-- what a block is for: its form; the face, the size, whether the font's programs run; and the length of the file
+abbrev pub origin_words : List ℕ → ℕ → ℕ → Bool → List ℕ
+origin_words file face ppem hinting =
+    block_form ∷ face ∷ ppem ∷ bit_of hinting ∷ length file / 2 ^ 32 ∷ length file % 2 ^ 32 ∷ []
+
+-- the font opens at the size, and words are a block of its machine; any words are, if its programs don't run
+pub record AreWordsOf (file : FontFileView) (ppem : ℕ) (hinting : Bool) (words : List ℕ) : Type 0 where
+  pub opened : Opened
+  pub machine : Option Known
+  pub opens : opened_at file ppem ≡ Ok opened
+  pub runs : machine_for opened.font opened.ppem hinting ≡ Ok machine
+  pub of_machine : IsBlockFor machine words
+
+-- a block of a font at a size
+pub record IsBlock (file : List ℕ) (face ppem : ℕ) (hinting : Bool) (block : List ℕ) : Type 0 where
+  pub words : List ℕ
+  pub are : AreWordsOf (face_in file face) ppem hinting words
+  pub is : block ≡ origin_words file face ppem hinting ++ words
+
+-- a block was made; as many of its words as fit stand at the front of the caller's buffer, and what lies after them is as it was
+pub record IsPrepared (file : List ℕ) (face ppem : ℕ) (hinting : Bool) (old new : List ℕ) (need : ℕ) : Type 0 where
+  pub block : List ℕ
+  pub is : IsBlock file face ppem hinting block
+  pub front : HasFront block old new
+  pub need_is : need ≡ length block
+
+-- a font that opens has no block: it has 1 GiB (fx_machine, has_words)
+pub record HasNone (due : Result Setting Refusal) : Type 0 where
+  pub setting : Setting
+  pub is : due ≡ Ok setting
+  pub none : has_block setting.machine ≡ false
+
+-- why no block was made, and the number and the fields of that
+abbrev pub IsUnprepared : Bool → Opening → Result Setting Refusal → ℕ → Refused → Type 0
+IsUnprepared is_known opening due number refused = IsRefused is_known opening due number refused
+    ⊎ (HasNone due × (number ≡ bad_block) × (refused ≡ no_fields bad_block))
+
+-- a block is for a file of this length, for this face and size, and hinted or unhinted like this
+abbrev pub IsFor : List ℕ → ℕ → ℕ → Bool → List ℕ → Type 0
+IsFor file face ppem hinting block = (f : List ℕ) (i s : ℕ) (h : Bool) → IsBlock f i s h block
+    → (length f ≡ length file) × (i ≡ face) × (s ≡ ppem) × (h ≡ hinting)
+
+-- hinted, words are those of no font with another checksum in `head`
+abbrev pub AreOwn : FontFileView → ℕ → Bool → List ℕ → Type 0
+AreOwn file ppem hinting words = (f : FontFileView) (s : ℕ) (o p : Opened) → AreWordsOf f s hinting words → hinting ≡ true
+    → opened_at f s ≡ Ok o → opened_at file ppem ≡ Ok p → checksum_of o.font ≡ checksum_of p.font
+
+-- so is a block
+abbrev pub HasChecksum : List ℕ → ℕ → ℕ → Bool → List ℕ → Type 0
+HasChecksum file face ppem hinting block = (f : List ℕ) (i s : ℕ) (o p : Opened) → IsBlock f i s hinting block → hinting ≡ true
+    → opened_at (face_in f i) s ≡ Ok o → opened_at (face_in file face) ppem ≡ Ok p → checksum_of o.font ≡ checksum_of p.font
+
+-- a block that is taken is for this, and is of no font with another checksum
+abbrev pub IsOwn : List ℕ → ℕ → ℕ → Bool → List ℕ → Type 0
+IsOwn file face ppem hinting block = IsFor file face ppem hinting block × HasChecksum file face ppem hinting block

@@ -1,0 +1,245 @@
+//! Glyphs by a block, for C.
+ghost use Rattle.std.specs.Prelude.{◌≡◌, ◌<◌, ◌≤◌, true, min, IfOk, IfErr, IfSome, OnOk, length};
+ghost use Rattle.fx_fixed.specs.Chain.{map_ok};
+ghost use Rattle.fx_sfnt.specs.Collections.{face_in};
+ghost use Rattle.fx_strike.specs.Faults.{Fails};
+ghost use Rattle.fx_strike.specs.Headline.{IsOneOf};
+ghost use Rattle.fx_strike.specs.Numbers.{numbered_with};
+ghost use Rattle.fx_strike.specs.Strike.{one_of, opened_at, opened_many_of, opened_one_of, setting_for};
+ghost use Rattle.mkstrike_c.specs.Drawn.{AreDrawn};
+ghost use Rattle.mkstrike_c.specs.Modes.{is_mode, is_packed, mode_of};
+ghost use Rattle.mkstrike_c.specs.Prepared.{AreOwn, AreWordsOf, IsBlock, IsOwn};
+ghost use Rattle.mkstrike_c.specs.Refused.{IsReason, IsRefused};
+ghost use Rattle.mkstrike_c.specs.Shown.{IsMissing, IsShown, by_id};
+ghost use Rattle.mkstrike_c.specs.inner.Gathering.{IsGathered};
+ghost use Rattle.mkstrike_c.specs.inner.Showing.{FindsById, IsFoundBy};
+
+use crate::block::words_for;
+use crate::gathered::{Drawn, Gathered, Placed, Wanted};
+use crate::glyph::{GlyphInfo, id_of, tell};
+use crate::glyphs::{gathered_with, tell as tell_all};
+use crate::mode::{is_mode, is_packed, mode_of};
+use crate::refused::{Refused, refuse_block, refuse_mode};
+use fx_bdf::BitGlyph;
+use fx_request::{Mode, Refusal};
+use fx_rows::Rows;
+use fx_sfnt::FontFile;
+use fx_strike::Striker;
+use std::alloc::Global;
+
+/// The glyph of a character, by the words of a block. None if they are not those of one.
+fn one_by(
+    alloc: Global,
+    font: &FontFile<'_>,
+    ppem: u16,
+    mode: Mode,
+    words: &[u32],
+    code: u32,
+) -> Option<Result<Option<BitGlyph>, Refusal>>
+    ensures due { AreWordsOf font.now ppem mode.hinting words.now
+        → IsFoundBy (IsOneOf (one_of font.now ppem code mode))
+        (IsReason (opened_one_of font.now ppem code) (one_of font.now ppem code mode)) result }
+    ensures own { IfSome result (λ r. OnOk r (AreOwn font.now ppem mode.hinting words.now)) }
+{
+    match Striker::of_block_for(alloc, font, ppem, &[code], mode, words) {
+        Ok(Some(mut striker)) => Some(striker.glyph(code)),
+        Ok(None) => None,
+        Err(refusal) => Some(Err(refusal)),
+    }
+}
+
+/// Makes the glyph of one character as `mkstrike_glyph` does, by a block. Returns also 65 if the words are not a block of this
+/// font, face and size, or if it was made hinted and the mode is unhinted, or the other way round.
+#[unsafe(no_mangle)]
+pub extern "C" fn mkstrike_glyph_prepared(
+    alloc: Global,
+    font: &[u8],
+    face: u32,
+    ppem: u16,
+    mode: u32,
+    block: &[u32],
+    code: u32,
+    pixels: &mut [u8],
+    info: &mut GlyphInfo,
+    refused: &mut Refused,
+) -> u32
+    // No bit of the mode is unknown.
+    ensures known { result ≤ 1 → is_mode mode ≡ true }
+    // The block is for this font, face and size, and hinted or unhinted like the mode, as far as words can tell.
+    ensures own { result ≤ 1 → IsOwn font.now face ppem (mode_of mode).hinting block.now }
+    // With a block of this font all is as without it: the glyph is that of the character; these are its numbers, and its pixels
+    // where there is room.
+    ensures shown { IsBlock font.now face ppem (mode_of mode).hinting block.now → result ≡ 0
+        → IsShown (is_packed mode) (one_of (face_in font.now face) ppem code (mode_of mode)) pixels.old pixels.new info.new }
+    // The font does not have the character.
+    ensures missing { IsBlock font.now face ppem (mode_of mode).hinting block.now → result ≡ 1
+        → IsMissing (one_of (face_in font.now face) ppem code (mode_of mode)) }
+    // The mode was named; or the first cause; or memory was refused, after the font and its character map opened. So the block is
+    // not refused.
+    ensures refused { IsBlock font.now face ppem (mode_of mode).hinting block.now → 1 < result
+        → IsRefused (is_mode mode) (opened_one_of (face_in font.now face) ppem code)
+        (one_of (face_in font.now face) ppem code (mode_of mode)) result refused.new }
+    // Whatever the block, nothing but what was named is written.
+    ensures kept { 0 < result → (pixels.new ≡ pixels.old) × (info.new ≡ info.old) }
+    ensures silent { result ≤ 1 → refused.new ≡ refused.old }
+{
+    if !is_mode(mode) {
+        return refuse_mode(refused);
+    }
+    let how = mode_of(mode);
+    let Some(words) = words_for(font, face, ppem, how.hinting, block) else {
+        return refuse_block(refused);
+    };
+    let font = FontFile::new(font, face);
+    let Some(found) = one_by(alloc, &font, ppem, how, words, code) else {
+        return refuse_block(refused);
+    };
+    tell(found, is_packed(mode), pixels, info, refused)
+}
+
+/// A glyph by its number, of an opened font.
+fn numbered(striker: &mut Striker<'_, Rows>, glyph: u32) -> Result<Option<BitGlyph>, Refusal>
+    ensures found { IfOk result (FindsById (map_ok Some (numbered_with striker.old (min glyph 65535)))) }
+    ensures refused { IfErr result (λ r. Fails r (map_ok Some (numbered_with striker.old (min glyph 65535)))) }
+{
+    let made = striker.numbered(id_of(glyph))?;
+    Ok(Some(made))
+}
+
+/// A glyph by its number, by the words of a block. None if they are not those of one.
+fn numbered_by(
+    alloc: Global,
+    font: &FontFile<'_>,
+    ppem: u16,
+    mode: Mode,
+    words: &[u32],
+    glyph: u32,
+) -> Option<Result<Option<BitGlyph>, Refusal>>
+    ensures due { AreWordsOf font.now ppem mode.hinting words.now → IsFoundBy (FindsById (by_id font.now ppem glyph mode))
+        (IsReason (opened_at font.now ppem) (by_id font.now ppem glyph mode)) result }
+    ensures own { IfSome result (λ r. OnOk r (AreOwn font.now ppem mode.hinting words.now)) }
+{
+    match Striker::of_block(alloc, font, ppem, mode, words) {
+        Ok(Some(mut striker)) => Some(numbered(&mut striker, glyph)),
+        Ok(None) => None,
+        Err(refusal) => Some(Err(refusal)),
+    }
+}
+
+/// Makes a glyph of a font by its number as `mkstrike_glyph_by_id` does, by a block as `mkstrike_glyph_prepared`.
+#[unsafe(no_mangle)]
+pub extern "C" fn mkstrike_glyph_by_id_prepared(
+    alloc: Global,
+    font: &[u8],
+    face: u32,
+    ppem: u16,
+    mode: u32,
+    block: &[u32],
+    glyph: u32,
+    pixels: &mut [u8],
+    info: &mut GlyphInfo,
+    refused: &mut Refused,
+) -> u32
+    // No bit of the mode is unknown.
+    ensures known { result ≡ 0 → is_mode mode ≡ true }
+    // The block is for this font, face and size, and hinted or unhinted like the mode, as far as words can tell.
+    ensures own { result ≡ 0 → IsOwn font.now face ppem (mode_of mode).hinting block.now }
+    // With a block of this font all is as without it: the glyph is that of the number; these are its numbers, and its pixels where
+    // there is room.
+    ensures shown { IsBlock font.now face ppem (mode_of mode).hinting block.now → result ≡ 0
+        → IsShown (is_packed mode) (by_id (face_in font.now face) ppem glyph (mode_of mode)) pixels.old pixels.new info.new }
+    // The mode was named; or the first cause; or memory was refused, after the font and its character map opened. So the block is
+    // not refused.
+    ensures refused { IsBlock font.now face ppem (mode_of mode).hinting block.now → 0 < result
+        → IsRefused (is_mode mode) (opened_at (face_in font.now face) ppem)
+        (by_id (face_in font.now face) ppem glyph (mode_of mode)) result refused.new }
+    // Whatever the block, nothing but what was named is written.
+    ensures kept { 0 < result → (pixels.new ≡ pixels.old) × (info.new ≡ info.old) }
+    ensures silent { result ≡ 0 → refused.new ≡ refused.old }
+{
+    if !is_mode(mode) {
+        return refuse_mode(refused);
+    }
+    let how = mode_of(mode);
+    let Some(words) = words_for(font, face, ppem, how.hinting, block) else {
+        return refuse_block(refused);
+    };
+    let font = FontFile::new(font, face);
+    let Some(found) = numbered_by(alloc, &font, ppem, how, words, glyph) else {
+        return refuse_block(refused);
+    };
+    tell(found, is_packed(mode), pixels, info, refused)
+}
+
+/// The glyphs of characters, by the words of a block. None if they are not those of one.
+fn gathered_by(
+    alloc: Global,
+    font: &FontFile<'_>,
+    ppem: u16,
+    mode: Mode,
+    words: &[u32],
+    chars: &[u32],
+    wanted: Wanted,
+) -> Option<Result<Gathered, Refusal>>
+    ensures due { AreWordsOf font.now ppem mode.hinting words.now
+        → IsFoundBy (IsGathered wanted (setting_for font.now ppem chars.now mode) chars.now)
+        (IsReason (opened_many_of font.now ppem chars.now) (setting_for font.now ppem chars.now mode)) result }
+    ensures own { IfSome result (λ r. OnOk r (AreOwn font.now ppem mode.hinting words.now)) }
+{
+    match Striker::of_block_for(alloc, font, ppem, chars, mode, words) {
+        Ok(Some(mut striker)) => Some(gathered_with(alloc, &mut striker, chars, wanted)),
+        Ok(None) => None,
+        Err(refusal) => Some(Err(refusal)),
+    }
+}
+
+/// Makes the glyphs of characters of a font as `mkstrike_glyphs` does, by a block as `mkstrike_glyph_prepared`.
+#[unsafe(no_mangle)]
+pub extern "C" fn mkstrike_glyphs_prepared(
+    alloc: Global,
+    font: &[u8],
+    face: u32,
+    ppem: u16,
+    mode: u32,
+    block: &[u32],
+    chars: &[u32],
+    glyphs: &mut [Placed],
+    pixels: &mut [u8],
+    drawn: &mut Drawn,
+    refused: &mut Refused,
+) -> u32
+    // No bit of the mode is unknown.
+    ensures known { result ≡ 0 → is_mode mode ≡ true }
+    // The block is for this font, face and size, and hinted or unhinted like the mode, as far as words can tell.
+    ensures own { result ≡ 0 → IsOwn font.now face ppem (mode_of mode).hinting block.now }
+    // With a block of this font all is as without it: the glyphs are those of the characters; as many of their entries and pixels
+    // as fit were copied, and the first character that was refused was told.
+    ensures drawn { IsBlock font.now face ppem (mode_of mode).hinting block.now → result ≡ 0
+        → AreDrawn (is_packed mode) (setting_for (face_in font.now face) ppem chars.now (mode_of mode))
+        chars.now glyphs.old glyphs.new pixels.old pixels.new drawn.new refused.old refused.new }
+    // The mode was named; or the first cause; or memory was refused, after the size and the characters passed and the font and its
+    // map opened. So the block is not refused.
+    ensures refused { IsBlock font.now face ppem (mode_of mode).hinting block.now → 0 < result
+        → IsRefused (is_mode mode) (opened_many_of (face_in font.now face) ppem chars.now)
+        (setting_for (face_in font.now face) ppem chars.now (mode_of mode)) result refused.new }
+    // Whatever the block, a refusal leaves the buffers and what is told as they were.
+    ensures kept { 0 < result → (glyphs.new ≡ glyphs.old) × (pixels.new ≡ pixels.old) × (drawn.new ≡ drawn.old) }
+{
+    if !is_mode(mode) {
+        return refuse_mode(refused);
+    }
+    let how = mode_of(mode);
+    let Some(words) = words_for(font, face, ppem, how.hinting, block) else {
+        return refuse_block(refused);
+    };
+    let wanted = Wanted {
+        packed: is_packed(mode),
+        entries: glyphs.len(),
+        pixels: pixels.len(),
+    };
+    let font = FontFile::new(font, face);
+    let Some(found) = gathered_by(alloc, &font, ppem, how, words, chars, wanted) else {
+        return refuse_block(refused);
+    };
+    tell_all(found, glyphs, pixels, drawn, refused)
+}
