@@ -111,8 +111,8 @@ impl<'a, S: Scan> Tools<'a, S> {
         }
     }
 
-    /// Writes the lines of a character that is refused for a cause, if it has any; or refuses the strike. Few characters are, so its
-    /// code is kept out of the loop over the others.
+    /// Writes the lines of a character that is refused for a cause, if it has any; or refuses the strike. Few characters are, so
+    /// its code is kept out of the loop over the others.
     #[inline(never)]
     fn write_refused<W: Sink>(
         &self,

@@ -9,4 +9,5 @@ returns-in_err-fate-clause-lines g c text h =
 
 pub returns-clause-lines : goal.returns-clause-lines
 returns-clause-lines g c text h =
-    adds_fate c.write_fate.result c.requires.glyph c.requires.here (c.in_ok-fate.ensures _ c.requires.cause) c.write_fate.ensures.lines h
+    adds_fate c.write_fate.result c.requires.glyph c.requires.here (c.in_ok-fate.ensures _ c.requires.cause)
+    c.write_fate.ensures.lines h
