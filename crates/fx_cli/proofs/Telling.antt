@@ -11,11 +11,7 @@ use Rattle.fx_request.specs.declared.notice.Notice.{Notice}
 use Rattle.fx_request.specs.Notices.{HearsAll}
 use Rattle.fx_request.specs.declared.refusal.Refusal.{Refusal}
 use Rattle.fx_request.specs.declared.refusal.Refusal.TheVariants.{InputTooLarge, OutOfMemory, ReadFailed, WriteFailed}
-use Rattle.fx_hint.specs.Outlines.{GlyphOutlineView}
-use Rattle.fx_strike.specs.Headline.{Late}
 use Rattle.fx_strike.specs.Listings.{IsListedTo, IsNoFault, IsNotListed, Lists}
-use Rattle.fx_strike.specs.Outlines.{IsNotOutlined, IsOutlinedTo, Outlines}
-use Rattle.fx_strike.specs.Strike.{Opening}
 use Rattle.fx_arguments.specs.declared.done.Done.{Done}
 use Rattle.fx_arguments.specs.declared.fault.Fault.{Fault}
 use Rattle.fx_arguments.specs.declared.fault.Fault.TheVariants.{Usage, Early}
@@ -101,12 +97,3 @@ pub unlisted : (program : Result (List ℕ) Refusal) (sink : Change) (r : Result
     → Lists program sink (Err d)
 unlisted program sink r (WriteFailed n) e c w = w n e
 unlisted program sink r d e c w = c tt
-
--- an outline was refused
-pub not_outlined : (opening : Opening) (due : Result (Option GlyphOutlineView) Refusal) (sink : Change)
-    (r : Result (Unit {0}) Refusal) (d : Refusal) → r ≡ Err d → (IsNoFault d → IsNotOutlined due sink d)
-    → (IsErrOf r OutOfMemory → Late opening)
-    → ((n : ℕ) → IsErrOf r (WriteFailed n) → IsOutlinedTo due sink n) → Outlines opening due sink (Err d)
-not_outlined opening due sink r OutOfMemory e c l w = (l e, c tt)
-not_outlined opening due sink r (WriteFailed n) e c l w = w n e
-not_outlined opening due sink r d e c l w = c tt
