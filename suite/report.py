@@ -6,10 +6,13 @@ import re
 MOST = 400  # differences that are drawn
 SIDE = 260  # of a picture, in pixels of the screen
 STYLE = """
-body { font: 15px/1.45 system-ui, sans-serif; margin: 2rem auto; max-width: 62rem; padding: 0 1rem; color: #1c1c1c; background: #fff }
-table { border-collapse: collapse } th, td { padding: .2rem .8rem; text-align: right; border-bottom: 1px solid #ddd } th:first-child, td:first-child { text-align: left }
+body { font: 15px/1.45 system-ui, sans-serif; margin: 2rem auto; max-width: 62rem; padding: 0 1rem; color: #1c1c1c }
+body { background: #fff }
+table { border-collapse: collapse } th, td { padding: .2rem .8rem; text-align: right; border-bottom: 1px solid #ddd }
+th:first-child, td:first-child { text-align: left }
 h2 { font-size: 1.05rem; margin: 2rem 0 .2rem } p { margin: .2rem 0 } .own { color: #6b4e00 } .wrong { color: #a01010 }
-.pair { display: flex; gap: 1.5rem; flex-wrap: wrap } figure { margin: .4rem 0 } figcaption { color: #555; font-size: .85rem } svg { background: #fafafa; border: 1px solid #ccc }
+.pair { display: flex; gap: 1.5rem; flex-wrap: wrap } figure { margin: .4rem 0 } figcaption { color: #555; font-size: .85rem }
+svg { background: #fafafa; border: 1px solid #ccc }
 pre { font-size: .8rem; overflow-x: auto; background: #f4f4f4; padding: .5rem }
 """
 
@@ -21,7 +24,8 @@ def write(path, command, results):
         rows.setdefault(result.case["group"], collections.Counter())[result.kind] += 1
     different = [result for result in results if result.fault]
     different.sort(key=lambda result: result.kind != "wrong")
-    parts = ["<!doctype html><html lang=en><meta charset=utf-8><title>TrueType suite: %s</title><style>%s</style>" % (html.escape(command), STYLE),
+    parts = ["<!doctype html><html lang=en><meta charset=utf-8><title>TrueType suite: %s</title><style>%s</style>"
+             % (html.escape(command), STYLE),
              "<h1>TrueType suite</h1><p>Tool: <code>%s</code></p>" % html.escape(command), table(rows)]
     if len(different) > MOST:
         parts.append("<p>The first %d of %d differences:</p>" % (MOST, len(different)))
@@ -46,7 +50,8 @@ def section(result):
     mode = ("hinted" if case["hinted"] else "unhinted") + (", with drop-out control" if case["dropout"] else "")
     own = "<p class=own>Own choice: %s</p>" % html.escape(case["own"]) if "own" in case else ""
     return "<h2 id='%s'>%s</h2><p>%s. %s of %s at %d, %s.</p><p class=wrong>%s</p>%s<div class=pair>%s%s</div>" % (
-        html.escape(case["id"]), html.escape(case["id"]), html.escape(case["about"]), which, html.escape(case["font"]), case["ppem"], mode,
+        html.escape(case["id"]), html.escape(case["id"]), html.escape(case["about"]), which, html.escape(case["font"]),
+        case["ppem"], mode,
         html.escape(result.fault), own, figure("expected", case["expect"], case["expect"], result.answer),
         figure("given", result.answer, case["expect"], result.answer))
 
@@ -61,7 +66,8 @@ def figure(title, one, *both):
     size = max(right - left, high - low, 1)
     width, height = SIDE * (right - left) / size, SIDE * (high - low) / size
     body = pixels(one) + only_here(one, both) + lines(one.get("outline", []), size) + dots(one.get("outline", []), size, both)
-    return ("<figure><svg width=%d height=%d viewBox='%d %d %d %d' role=img aria-label='%s'>%s</svg><figcaption>%s, advance %s</figcaption></figure>"
+    return ("<figure><svg width=%d height=%d viewBox='%d %d %d %d' role=img aria-label='%s'>%s</svg>"
+            "<figcaption>%s, advance %s</figcaption></figure>"
             % (width + 2, height + 2, left, -high, right - left, high - low, title, body, title, one.get("advance", "not told")))
 
 
@@ -111,7 +117,8 @@ def only_here(one, both):
 
 def lines(contours, size):
     """The contours as lines and arcs."""
-    return "".join("<path d='%s' fill=none stroke='#345' stroke-width='%.2f'/>" % (way_of(contour), size / 300) for contour in contours)
+    return "".join("<path d='%s' fill=none stroke='#345' stroke-width='%.2f'/>" % (way_of(contour),
+        size / 300) for contour in contours)
 
 
 def way_of(contour):
@@ -140,6 +147,7 @@ def dots(contours, size, both):
         for x, y, on in contour:
             same = all(k < len(places) for places in other) and other[0][k] == other[1][k] or not all(other)
             colour = "#345" if same else "#c00"
-            found.append("<circle cx=%d cy=%d r='%.1f' fill='%s' stroke='%s' stroke-width='%.1f'/>" % (x, -y, size / 90, colour if on else "#fff", colour, size / 250))
+            found.append("<circle cx=%d cy=%d r='%.1f' fill='%s' stroke='%s' stroke-width='%.1f'/>" % (x, -y, size / 90,
+                colour if on else "#fff", colour, size / 250))
             k += 1
     return "".join(found)

@@ -14,11 +14,14 @@ LEAST, MOST = -1 << 31, (1 << 31) - 1
 PAIRS = [(3, 5), (5, 3), (4, 4), (-7, 2), (2, -7), (0, -1), (-4, -4), (32767, -32768)]
 ONES = [0, 1, -1, 63, 64, 65, -63, -64, -65, 100, 32767, -32768]
 PRODUCTS = [(64, 64), (128, 96), (-64, 64), (32, 1), (32, 3), (-32, 1), (31, 1), (33, 1), (-33, 1), (100, 77), (-100, 77), (0, 5)]
-QUOTIENTS = [(64, 64), (64, 128), (64, 192), (128, 192), (-64, 192), (64, -192), (-128, -192), (1, 64), (1, 65), (-1, 65), (0, 7), (32767, 64)]
-WIDE = {"ADD": [(MOST, 1), (LEAST, -1), (1 << 30, 1 << 30), (123456789, -987654)], "SUB": [(LEAST, 1), (MOST, -1), (0, LEAST), (1 << 24, 77)],
+QUOTIENTS = [(64, 64), (64, 128), (64, 192), (128, 192), (-64, 192), (64, -192), (-128, -192), (1, 64), (1, 65), (-1, 65), (0, 7),
+             (32767, 64)]
+WIDE = {"ADD": [(MOST, 1), (LEAST, -1), (1 << 30, 1 << 30), (123456789, -987654)],
+        "SUB": [(LEAST, 1), (MOST, -1), (0, LEAST), (1 << 24, 77)],
         "MUL": [(1 << 20, 1 << 17), (-1 << 20, 1 << 17), (1 << 20, 1 << 16), (123456, 6543)],
         "DIV": [(MOST, 1), (LEAST, 64), (1 << 30, 32), (-123456789, 100)]}
-WIDE_ONES = {"ABS": [LEAST, MOST, -70000], "NEG": [LEAST, MOST, 70000], "FLOOR": [LEAST, MOST, 70001], "CEILING": [LEAST + 1, MOST, 70001]}
+WIDE_ONES = {"ABS": [LEAST, MOST, -70000], "NEG": [LEAST, MOST, 70000], "FLOOR": [LEAST, MOST, 70001],
+             "CEILING": [LEAST + 1, MOST, 70001]}
 
 
 def make(suite):
@@ -44,7 +47,8 @@ def make(suite):
 def add(suite, font, name, k, program, own=None, wide=False):
     """A case of a program that leaves one number."""
     glyph = picture(font, shown_wide(program) if wide else shown(program, 1))
-    suite.case("%s-%s" % (name.lower(), k), font, ARITHMETIC % name, glyph, own=own, within=1 if own in (HALVES, FRACTION) else None, bits=False)
+    suite.case("%s-%s" % (name.lower(), k), font, ARITHMETIC % name, glyph, own=own,
+               within=1 if own in (HALVES, FRACTION) else None, bits=False)
 
 
 def make_wide(suite, font):
@@ -52,7 +56,8 @@ def make_wide(suite, font):
     for name, pairs in WIDE.items():
         for k, (a, b) in enumerate(pairs):
             exact = {"ADD": a + b, "SUB": a - b, "MUL": a * b // 64, "DIV": 64 * a // b}[name]
-            own = WRAPS if not LEAST <= exact <= MOST else HALVES if name == "MUL" and a * b % 64 else FRACTION if name == "DIV" and 64 * a % b else None
+            inexact = HALVES if name == "MUL" and a * b % 64 else FRACTION if name == "DIV" and 64 * a % b else None
+            own = inexact if LEAST <= exact <= MOST else WRAPS
             add(suite, font, name, "wide-%d" % k, "%s %s %s" % (number(a), number(b), name), own, wide=True)
     for name, values in WIDE_ONES.items():
         for k, a in enumerate(values):

@@ -36,11 +36,13 @@ def shapes():
     yield "steep", [[(40, 10, 1), (120, 500, 1), (125, 500, 1), (45, 10, 1)]], "slanted strokes", LEFT
     yield "flat", [[(10, 40, 1), (500, 120, 1), (500, 125, 1), (10, 45, 1)]], "slanted strokes", LEFT
     yield "diagonal", [[(0, 0, 1), (400, 396, 1), (400, 400, 1), (0, 4, 1)]], "slanted strokes", LEFT
-    yield "cross", [[(0, 0, 1), (400, 396, 1), (400, 400, 1), (0, 4, 1)], [(0, 400, 1), (400, 4, 1), (400, 0, 1), (0, 396, 1)]], "slanted strokes", LEFT
+    yield "cross", [[(0, 0, 1), (400, 396, 1), (400, 400, 1), (0, 4, 1)],
+                    [(0, 400, 1), (400, 4, 1), (400, 0, 1), (0, 396, 1)]], "slanted strokes", LEFT
     yield "v", [[(0, 400, 1), (150, 0, 1), (300, 400, 1), (290, 400, 1), (150, 30, 1), (10, 400, 1)]], "corners", LEFT
     for k, (x, y) in enumerate([(10, 10), (40, 40), (33, 10), (32, 5), (60, 60), (64, 64), (0, 0), (96, 30)]):
         yield "dot-%d" % k, [box(x, y, x + 3, y + 3)], "dots", FRAME
-    for k, (x, y, dx, dy) in enumerate([(40, 40, 30, 100), (40, 40, 100, 30), (90, 90, 60, 60), (33, 33, 62, 62), (33, 97, 62, 62)]):
+    for k, (x, y, dx, dy) in enumerate([(40, 40, 30, 100), (40, 40, 100, 30), (90, 90, 60, 60), (33, 33, 62, 62),
+                                        (33, 97, 62, 62)]):
         yield "hole-%d" % k, [box(x, y, x + dx, y + dy)], "boxes between centres", FRAME
     yield "tip-up", [[(0, 0, 1), (160, 700, 0), (320, 0, 1)], box(0, 0, 320, 20)], "tips of arcs", LEFT
     yield "tip-right", [[(0, 0, 1), (700, 160, 0), (0, 320, 1)]], "tips of arcs", LEFT
@@ -49,7 +51,8 @@ def shapes():
     yield "crescent", [[(0, 0, 1), (200, 420, 0), (400, 0, 1), (200, 400, 0)]], "thin arcs", LEFT
     yield "crescent-side", [[(0, 0, 1), (420, 200, 0), (0, 400, 1), (400, 200, 0)]], "thin arcs", LEFT
     yield "ring", [[(160, 0, 1), (0, 0, 0), (0, 160, 1), (0, 320, 0), (160, 320, 1), (320, 320, 0), (320, 160, 1), (320, 0, 0)],
-                   [(160, 8, 1), (312, 8, 0), (312, 160, 1), (312, 312, 0), (160, 312, 1), (8, 312, 0), (8, 160, 1), (8, 8, 0)]], "thin arcs", LEFT
+                   [(160, 8, 1), (312, 8, 0), (312, 160, 1), (312, 312, 0), (160, 312, 1), (8, 312, 0), (8, 160, 1),
+                    (8, 8, 0)]], "thin arcs", LEFT
     yield "no-width", [[(40, 10, 1), (400, 300, 1)]], "strokes without width", TOUCH
     yield "no-width-level", [[(10, 40, 1), (300, 40, 1)]], "strokes without width", TOUCH
     yield "no-width-upright", [[(40, 10, 1), (40, 300, 1)]], "strokes without width", TOUCH
@@ -71,8 +74,10 @@ def make_random(suite, font):
         grid, contours = chance.choice((1, 1, 8, 32)), []
         for _ in range(chance.choice((1, 1, 2))):
             count = chance.randrange(3, 7)
-            contours.append([(grid * chance.randrange(-60 // grid, 380 // grid), grid * chance.randrange(-60 // grid, 380 // grid), chance.choice((1, 1, 0))) for _ in range(count)])
-        suite.case("random-%d" % k, font, RULE % "outlines of lines and arcs", font.simple(contours), hinted=False, dropout=True, own=LEFT)
+            contours.append([(grid * chance.randrange(-60 // grid, 380 // grid), grid * chance.randrange(-60 // grid, 380 // grid),
+                              chance.choice((1, 1, 0))) for _ in range(count)])
+        suite.case("random-%d" % k, font, RULE % "outlines of lines and arcs", font.simple(contours), hinted=False, dropout=True,
+                   own=LEFT)
 
 
 def make_moved(suite, font):
@@ -80,4 +85,5 @@ def make_moved(suite, font):
     shape = [(0, 0, 1), (90, 250, 0), (200, 130, 1), (204, 134, 1), (94, 262, 0), (4, 4, 1)]
     for dx in (-64, -33, -32, 0, 1, 31, 32, 64):
         for dy in (-32, 0, 1, 32):
-            suite.case("moved-%d-%d" % (dx, dy), font, RULE % "places of centres", font.simple([[(x + dx, y + dy, on) for x, y, on in shape]]), hinted=False, dropout=True, own=LEFT)
+            suite.case("moved-%d-%d" % (dx, dy), font, RULE % "places of centres",
+                       font.simple([[(x + dx, y + dy, on) for x, y, on in shape]]), hinted=False, dropout=True, own=LEFT)

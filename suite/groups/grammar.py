@@ -50,22 +50,32 @@ def tries():
     """Glyphs by name, with the part of the description that they are about."""
     word = [ON] * 4
     yield "shorts", square(), "flags", None
-    yield "words", glyph([3], word, struct.pack(">4h", 10, 0, 300, 0), struct.pack(">4h", -20, 200, 0, -200)), "coordinates as words", None
-    for name, flag in [("x-short-positive", XS | XP), ("x-short-negative", XS), ("y-short-positive", YS | YP), ("y-short-negative", YS), ("x-same", XP), ("y-same", YP)]:
+    yield "words", glyph([3], word, struct.pack(">4h", 10, 0, 300, 0),
+                         struct.pack(">4h", -20, 200, 0, -200)), "coordinates as words", None
+    for name, flag in [("x-short-positive", XS | XP), ("x-short-negative", XS), ("y-short-positive", YS | YP),
+                       ("y-short-negative", YS), ("x-same", XP), ("y-same", YP)]:
         flags = [ON | flag, ON, ON, ON]
         xs = (bytes([77]) if flag & XS else b"" if flag & XP else struct.pack(">h", 5)) + struct.pack(">3h", 100, 200, -50)
         ys = (bytes([88]) if flag & YS else b"" if flag & YP else struct.pack(">h", -9)) + struct.pack(">3h", 150, -40, 70)
         yield name, glyph([3], flags, xs, ys), "X_SHORT_VECTOR, X_IS_SAME, and the same of y", None
-    yield "repeat", glyph([3], [ON | REPEAT, 3], struct.pack(">4h", 10, 0, 300, 0), struct.pack(">4h", -20, 200, 0, -200)), "REPEAT_FLAG", None
-    yield "repeat-zero", glyph([3], [ON | REPEAT, 0, ON, ON, ON], struct.pack(">4h", 10, 0, 300, 0), struct.pack(">4h", -20, 200, 0, -200)), "REPEAT_FLAG", None
-    yield "repeat-two-runs", glyph([4], [ON | XS | XP | YP | REPEAT, 1, ON | YS | YP | XP | REPEAT, 2], bytes([10, 200]), bytes([90, 80, 70])), "REPEAT_FLAG", None
-    yield "repeat-past-the-end", glyph([3], [ON | REPEAT, 9], struct.pack(">4h", 10, 0, 300, 0), struct.pack(">4h", -20, 200, 0, -200)), "REPEAT_FLAG", RUN
-    yield "off-curve", glyph([3], [ON, 0, ON, 0], struct.pack(">4h", 10, 100, 200, 0), struct.pack(">4h", -20, 200, 0, -200)), "ON_CURVE_POINT", None
-    yield "all-off", glyph([3], [0] * 4, struct.pack(">4h", 10, 0, 300, 0), struct.pack(">4h", -20, 200, 0, -200)), "ON_CURVE_POINT", None
+    yield "repeat", glyph([3], [ON | REPEAT, 3], struct.pack(">4h", 10, 0, 300, 0),
+                          struct.pack(">4h", -20, 200, 0, -200)), "REPEAT_FLAG", None
+    yield "repeat-zero", glyph([3], [ON | REPEAT, 0, ON, ON, ON], struct.pack(">4h", 10, 0, 300, 0),
+                               struct.pack(">4h", -20, 200, 0, -200)), "REPEAT_FLAG", None
+    yield "repeat-two-runs", glyph([4], [ON | XS | XP | YP | REPEAT, 1, ON | YS | YP | XP | REPEAT, 2], bytes([10, 200]),
+                                   bytes([90, 80, 70])), "REPEAT_FLAG", None
+    yield "repeat-past-the-end", glyph([3], [ON | REPEAT, 9], struct.pack(">4h", 10, 0, 300, 0),
+                                       struct.pack(">4h", -20, 200, 0, -200)), "REPEAT_FLAG", RUN
+    yield "off-curve", glyph([3], [ON, 0, ON, 0], struct.pack(">4h", 10, 100, 200, 0),
+                             struct.pack(">4h", -20, 200, 0, -200)), "ON_CURVE_POINT", None
+    yield "all-off", glyph([3], [0] * 4, struct.pack(">4h", 10, 0, 300, 0),
+                           struct.pack(">4h", -20, 200, 0, -200)), "ON_CURVE_POINT", None
     for flag in (0x40, 0x80, 0xC0):
         yield "flag-%02x" % flag, square(flags=[f | flag for f in SQUARE[0]]), "OVERLAP_SIMPLE and the reserved flag", None
-    yield "two-contours", glyph([3, 6], [ON] * 7, struct.pack(">7h", 10, 0, 300, 0, -200, 100, 50), struct.pack(">7h", -20, 200, 0, -200, 50, 90, -60)), "endPtsOfContours", None
-    yield "point-contour", glyph([0, 4], [ON] * 5, struct.pack(">5h", 10, 0, 300, 0, -200), struct.pack(">5h", -20, 200, 0, -200, 50)), "endPtsOfContours", None
+    yield "two-contours", glyph([3, 6], [ON] * 7, struct.pack(">7h", 10, 0, 300, 0, -200, 100, 50),
+                                struct.pack(">7h", -20, 200, 0, -200, 50, 90, -60)), "endPtsOfContours", None
+    yield "point-contour", glyph([0, 4], [ON] * 5, struct.pack(">5h", 10, 0, 300, 0, -200),
+                                 struct.pack(">5h", -20, 200, 0, -200, 50)), "endPtsOfContours", None
     yield "equal-ends", glyph([3, 3], *SQUARE), "endPtsOfContours", EQUAL
     yield "falling-ends", glyph([3, 2], *SQUARE), "endPtsOfContours", FALLING
     yield "falling-first", glyph([5, 2, 3], *SQUARE), "endPtsOfContours", FALLING
@@ -74,10 +84,12 @@ def tries():
     yield "bytes-after", square(more=b"\xA5" * 9), "bytes after the coordinates", LENIENT
     yield "zero-contours", square(ends=[], count=0), "numberOfContours", EMPTY
     yield "zero-contours-header", square(ends=[], count=0)[:10], "numberOfContours", EMPTY
-    yield "wrap", glyph([3], [ON] * 4, struct.pack(">4h", 32767, -32767, 300, 0), struct.pack(">4h", -20, 200, 0, -200)), "coordinates", None
+    yield "wrap", glyph([3], [ON] * 4, struct.pack(">4h", 32767, -32767, 300, 0),
+                        struct.pack(">4h", -20, 200, 0, -200)), "coordinates", None
     yield "box-ignored", square(box=(0, 999, -5, 7)), "yMin, xMax, yMax", None
     yield "x-min", square(box=(64, 0, 0, 0)), "xMin, with a left side bearing of 0", None
-    yield "far-words", glyph([3], [ON] * 4, struct.pack(">4h", 2000, 0, 300, 0), struct.pack(">4h", -1500, 200, 0, -200)), "coordinates as words", None
+    yield "far-words", glyph([3], [ON] * 4, struct.pack(">4h", 2000, 0, 300, 0),
+                             struct.pack(">4h", -1500, 200, 0, -200)), "coordinates as words", None
 
 
 def make_cuts(suite):
@@ -89,7 +101,8 @@ def make_cuts(suite):
         number = font.add(data, bearing=0)
         suite.case("cut-%d" % length, font, SIMPLE % "length", number, hinted=False, own=CUT)
     flags = [ON | REPEAT]
-    for name, data in [("repeat-count", glyph([3], flags, b"", b"")), ("repeat-count-of-one", glyph([0], flags, b"", b"")), ("program", square(program=b"\x01\x02")[:13])]:
+    for name, data in [("repeat-count", glyph([3], flags, b"", b"")), ("repeat-count-of-one", glyph([0], flags, b"", b"")),
+                       ("program", square(program=b"\x01\x02")[:13])]:
         suite.case("cut-%s" % name, font, SIMPLE % "length", font.add(data, bearing=0), hinted=False, own=CUT)
 
 
@@ -113,7 +126,8 @@ def make_loca(suite):
         one = len(broken.glyphs[2].data)
         ends = [0, first, first, first + one, first, first + one, length + 400, length + 400, length + 600, length]
         broken.tables["loca"] = struct.pack(">%d%s" % (len(ends), "L" if long else "H"), *(e // unit for e in ends))
-        names = {2: "usual", 3: "falling", 4: "after-falling", 5: "end-past-glyf", 6: "equal-past-glyf", 7: "start-past-glyf", 8: "start-past-and-falling"}
+        names = {2: "usual", 3: "falling", 4: "after-falling", 5: "end-past-glyf", 6: "equal-past-glyf", 7: "start-past-glyf",
+                 8: "start-past-and-falling"}
         for k, name in names.items():
             own = None if k == 2 else "offsets that fall or begin past glyf refuse the glyph; an end past glyf is moved to its end"
             suite.case("loca-%s-%s" % (kind, name), broken, LOCA, k, hinted=False, own=own)
@@ -133,10 +147,14 @@ def make_tables(suite):
     own = "a font with a bad required table is refused"
     changes = [("missing-" + tag, tag, None) for tag in ("head", "maxp", "hhea", "hmtx", "loca", "glyf")]
     base = FontMaker("base")
-    changes += [("short-head", "head", base.head()[:53]), ("short-hhea", "hhea", bytes(35)), ("short-maxp", "maxp", base.maxp()[:31]), ("no-pairs", "hhea", bytes(36)),
-                ("bad-magic", "head", base.head()[:12] + bytes(4) + base.head()[16:]), ("em-15", "head", base.head()[:18] + struct.pack(">H", 15) + base.head()[20:]),
-                ("em-16385", "head", base.head()[:18] + struct.pack(">H", 16385) + base.head()[20:]), ("bad-loca-format", "head", base.head()[:50] + b"\0\2" + base.head()[52:]),
-                ("bad-maxp", "maxp", b"\0\2\0\0" + base.maxp()[4:]), ("no-glyphs", "maxp", base.maxp()[:4] + bytes(2) + base.maxp()[6:]), ("short-hmtx", "hmtx", bytes(7))]
+    changes += [("short-head", "head", base.head()[:53]), ("short-hhea", "hhea", bytes(35)),
+                ("short-maxp", "maxp", base.maxp()[:31]), ("no-pairs", "hhea", bytes(36)),
+                ("bad-magic", "head", base.head()[:12] + bytes(4) + base.head()[16:]),
+                ("em-15", "head", base.head()[:18] + struct.pack(">H", 15) + base.head()[20:]),
+                ("em-16385", "head", base.head()[:18] + struct.pack(">H", 16385) + base.head()[20:]),
+                ("bad-loca-format", "head", base.head()[:50] + b"\0\2" + base.head()[52:]),
+                ("bad-maxp", "maxp", b"\0\2\0\0" + base.maxp()[4:]),
+                ("no-glyphs", "maxp", base.maxp()[:4] + bytes(2) + base.maxp()[6:]), ("short-hmtx", "hmtx", bytes(7))]
     for name, tag, data in changes:
         font = suite.font(FontMaker("table-" + name))
         font.simple([[(0, 0, 1), (0, 64, 1), (64, 0, 1)]])

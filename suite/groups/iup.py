@@ -15,11 +15,15 @@ def make(suite):
     suite.group = "iup"
     font = suite.font(FontMaker("iup"))
     for axis in (0, 1):
-        for k, program in enumerate(["IUP:%d", "SVTCA:%d 0 40 SHPIX IUP:%d", "SVTCA:%d 1 40 SHPIX 2 -30 SHPIX IUP:%d", "SVTCA:%d 0 MDAP:0 2 90 SHPIX IUP:%d",
-                                     "SVTCA:%d 0 MDAP:1 1 MDAP:1 2 MDAP:1 3 MDAP:1 IUP:%d", "SVTCA:%d 4 30 SHPIX 11 -30 SHPIX IUP:%d",
-                                     "SVTCA:%d 0 40 SHPIX 1 40 SHPIX 2 40 SHPIX 3 50 SHPIX IUP:%d", "SVTCA:%d 12 64 SHPIX 0 MDAP:0 IUP:%d"]):
+        for k, program in enumerate(["IUP:%d", "SVTCA:%d 0 40 SHPIX IUP:%d", "SVTCA:%d 1 40 SHPIX 2 -30 SHPIX IUP:%d",
+                                     "SVTCA:%d 0 MDAP:0 2 90 SHPIX IUP:%d",
+                                     "SVTCA:%d 0 MDAP:1 1 MDAP:1 2 MDAP:1 3 MDAP:1 IUP:%d",
+                                     "SVTCA:%d 4 30 SHPIX 11 -30 SHPIX IUP:%d",
+                                     "SVTCA:%d 0 40 SHPIX 1 40 SHPIX 2 40 SHPIX 3 50 SHPIX IUP:%d",
+                                     "SVTCA:%d 12 64 SHPIX 0 MDAP:0 IUP:%d"]):
             suite.case("plain-%d-%d" % (axis, k), font, ABOUT, picture(font, program.replace("%d", str(axis))))
-        for k, program in enumerate(["SVTCA:%d 5 SRP2 5 40 SHPIX 1 SHZ:0 IUP:%d", "SVTCA:%d 5 SRP2 5 40 SHPIX 1 SHZ:0 0 MDAP:0 IUP:%d"]):
+        for k, program in enumerate(["SVTCA:%d 5 SRP2 5 40 SHPIX 1 SHZ:0 IUP:%d",
+                                     "SVTCA:%d 5 SRP2 5 40 SHPIX 1 SHZ:0 0 MDAP:0 IUP:%d"]):
             suite.case("after-shz-%d-%d" % (axis, k), font, ABOUT, picture(font, program.replace("%d", str(axis))), own=RESET)
         other = "SVTCA:%d 0 40 SHPIX 2 40 SHPIX IUP:%d" % (axis, 1 - axis)
         suite.case("other-axis-%d" % axis, font, ABOUT, picture(font, other))
@@ -35,7 +39,8 @@ def make_random(suite, font):
         for axis in (0, 1):
             rows.append("SVTCA:%d" % axis)
             for point in sorted(chance.sample(range(POINTS), chance.randrange(1, 7))):
-                rows.append(chance.choice(["%d MDAP:1" % point, "%d %d SHPIX" % (point, chance.randrange(-90, 90)), "%d MDAP:0" % point]))
+                rows.append(chance.choice(["%d MDAP:1" % point, "%d %d SHPIX" % (point, chance.randrange(-90, 90)),
+                                           "%d MDAP:0" % point]))
         suite.case("random-%d" % k, font, ABOUT, picture(font, " ".join(rows) + " IUP:0 IUP:1"), own=ONCE, within=1)
 
 
@@ -49,7 +54,8 @@ def make_special(suite):
         "order": [[(300, 0, 1), (100, 300, 1), (200, 150, 1), (250, 20, 0), (400, 170, 1), (150, 90, 1)]],
         "many": CONTOURS + [[(700 + 20 * k, (k * k * 37) % 600, k % 3 > 0) for k in range(14)]],
     }
-    touches = ["0 33 SHPIX", "0 33 SHPIX 2 -21 SHPIX", "1 MDAP:0 2 50 SHPIX", "0 40 SHPIX 1 40 SHPIX", "1 200 SHPIX 2 -200 SHPIX", "3 64 SHPIX 0 MDAP:0 1 9 SHPIX"]
+    touches = ["0 33 SHPIX", "0 33 SHPIX 2 -21 SHPIX", "1 MDAP:0 2 50 SHPIX", "0 40 SHPIX 1 40 SHPIX", "1 200 SHPIX 2 -200 SHPIX",
+               "3 64 SHPIX 0 MDAP:0 1 9 SHPIX"]
     for name, contours in shapes.items():
         for k, touch in enumerate(touches):
             for axis in (0, 1):

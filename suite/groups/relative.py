@@ -7,12 +7,15 @@ MDRP = APPLE + "Instruction set, Managing outlines: MDRP"
 MIRP = APPLE + "Instruction set, Managing outlines: MIRP"
 CUT_IN = APPLE + "Instruction set, Managing the Graphics State: control value cut-in"
 COLOUR = "engine compensation is 0 for all distances"
-TWILIGHT = "where zp1 is the twilight zone, MIRP puts the point at the reference point's original place and the control value along the freedom vector first"
+TWILIGHT = "in the twilight zone MIRP first puts the point at the reference point's original place and the control value along the " \
+    "freedom vector"
 NEGATIVE = "MIRP's control value -1 is a value of 0"
 SLANTED = ["8192 14189 SPVFS SFVTPV", "SVTCA:1 13107 9830 SFVFS"]
 # Point 1 is left of point 5, point 9 below point 2; a program moves reference points first, so that all distances differ.
-TRIES = [("right", "SVTCA:1 1 20 SHPIX 1 SRP0 5"), ("left", "SVTCA:1 5 30 SHPIX 5 SRP0 1"), ("up", "SVTCA:0 9 -14 SHPIX 9 SRP0 2"), ("down", "SVTCA:0 2 SRP0 9"),
-         ("near", "SVTCA:1 0 SRP0 1"), ("small", "SVTCA:1 3 SRP0 2"), ("rthg", "SVTCA:1 RTHG 2 SRP0 6"), ("minimum", "SVTCA:1 400 SMD 3 SRP0 7"), ("width", "SVTCA:1 360 SSW 60 SSWCI 1 SRP0 5"),
+TRIES = [("right", "SVTCA:1 1 20 SHPIX 1 SRP0 5"), ("left", "SVTCA:1 5 30 SHPIX 5 SRP0 1"), ("up", "SVTCA:0 9 -14 SHPIX 9 SRP0 2"),
+         ("down", "SVTCA:0 2 SRP0 9"),
+         ("near", "SVTCA:1 0 SRP0 1"), ("small", "SVTCA:1 3 SRP0 2"), ("rthg", "SVTCA:1 RTHG 2 SRP0 6"),
+         ("minimum", "SVTCA:1 400 SMD 3 SRP0 7"), ("width", "SVTCA:1 360 SSW 60 SSWCI 1 SRP0 5"),
          ("auto flip off", "SVTCA:1 FLIPOFF 6 SRP0 2")]
 AFTER = "8 SHP:1 10 SHP:0 11 MDRP:0"  # shows what the three reference points are
 
@@ -36,8 +39,10 @@ def make_mdrp(suite):
         for k, setting in enumerate(SLANTED):
             glyph = picture(font, "SVTCA:1 1 20 SHPIX 1 SRP0 %s 5 MDRP:%X" % (setting, flags))
             suite.case("%02x-slanted-%d" % (0xC0 + flags, k), font, MDRP, glyph, own=OFF_AXES, within=3)
-    for k, (row, own) in enumerate([("0 SZP1 1 SRP0 3 40 MSIRP:0 0 SZP0 1 SZP1 3 SRP0 5 MDRP:0C", None), ("2 6 SDPVTL:0 SFVTCA:1 1 SRP0 5 MDRP:04", OFF_AXES),
-                                    ("5 SRP0 5 MDRP:1C", None), ("100 SSW 2000 SSWCI 5 SRP0 5 MDRP:00", None), ("-100 SSW 2000 SSWCI 1 SRP0 5 MDRP:00", None),
+    for k, (row, own) in enumerate([("0 SZP1 1 SRP0 3 40 MSIRP:0 0 SZP0 1 SZP1 3 SRP0 5 MDRP:0C", None),
+                                    ("2 6 SDPVTL:0 SFVTCA:1 1 SRP0 5 MDRP:04", OFF_AXES),
+                                    ("5 SRP0 5 MDRP:1C", None), ("100 SSW 2000 SSWCI 5 SRP0 5 MDRP:00", None),
+                                    ("-100 SSW 2000 SSWCI 1 SRP0 5 MDRP:00", None),
                                     ("-64 SMD 1 SRP0 0 MDRP:0C", None)]):
         suite.case("more-%d" % k, font, MDRP, picture(font, "SVTCA:1 " + row), own=own, within=3 if own else None)
 
@@ -52,7 +57,8 @@ def make_mirp(suite):
             for entry in (k % 4, 4 + k % 2):
                 glyph = picture(font, "%s %d MIRP:%X %s" % (setting, entry, flags, AFTER))
                 suite.case("%02x-%s-%d" % (0xE0 + flags, name.replace(" ", "-"), entry), font, MIRP, glyph, own=own)
-        twilight = "SVTCA:1 1 20 SHPIX 1 SRP0 0 SZP1 3 %d MIRP:%X 0 SZP0 1 SZP1 9 MDRP:0 0 SZP2 3 GC:0 1 SZP2 8 SWAP SCFS" % (flags % 5, flags)
+        twilight = "SVTCA:1 1 20 SHPIX 1 SRP0 0 SZP1 3 %d MIRP:%X 0 SZP0 1 SZP1 9 MDRP:0 0 SZP2 3 GC:0 1 SZP2 8 SWAP SCFS" % (flags
+            % 5, flags)
         suite.case("%02x-twilight" % (0xE0 + flags), font, MIRP, picture(font, twilight), own=TWILIGHT)
         slanted = "SVTCA:1 1 20 SHPIX 1 SRP0 %s 5 %d MIRP:%X" % (SLANTED[flags & 1], flags % 5, flags)
         suite.case("%02x-slanted" % (0xE0 + flags), font, MIRP, picture(font, slanted), own=OFF_AXES, within=3)

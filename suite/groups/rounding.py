@@ -9,7 +9,8 @@ RESERVED = "the reserved period counts as the usual one"
 FRACTIONS = "S45ROUND has periods of 22, 45 and 90, and drops fractions of phase and threshold"
 NO_COLOUR = "engine compensation is 0 for all distances"
 PARITY = "a value that is no whole number of pixels after rounding is neither odd nor even"
-VALUES = [[0, 1, 31, 32, 33, 63, 64, 65, 95, 96], [-1, -31, -32, -33, -63, -64, -65, -95, -96, -1000], [15, 16, 17, 47, 48, 49, 128, 1000, 2047, 32767]]
+VALUES = [[0, 1, 31, 32, 33, 63, 64, 65, 95, 96], [-1, -31, -32, -33, -63, -64, -65, -95, -96, -1000],
+          [15, 16, 17, 47, 48, 49, 128, 1000, 2047, 32767]]
 NAMES = ["RTG", "RTHG", "RTDG", "RDTG", "RUTG", "ROFF"]
 
 
@@ -20,7 +21,8 @@ def make(suite):
     for name in NAMES:
         for k, values in enumerate(VALUES):
             suite.case("%s-%d" % (name.lower(), k), font, STATES % name, picture(font, shown(rounds(name, values), 10)), bits=False)
-        suite.case("%s-mdap" % name.lower(), font, STATES % name, picture(font, name + " SVTCA:1 0 MDAP:1 5 MDAP:1 SVTCA:0 8 MDAP:1 10 MDAP:1"))
+        suite.case("%s-mdap" % name.lower(), font, STATES % name,
+                   picture(font, name + " SVTCA:1 0 MDAP:1 5 MDAP:1 SVTCA:0 8 MDAP:1 10 MDAP:1"))
     for colour in range(4):
         for k, values in enumerate(VALUES):
             for row in ("ROUND", "NROUND"):
@@ -47,7 +49,8 @@ def make_super(suite, font):
             suite.case("%s-%02x" % (name.lower(), n), font, STATES % name, glyph, own=own, bits=False)
         for k, n in enumerate((0x148, 0x1048, -1)):
             glyph = picture(font, shown(rounds("%d %s" % (n, name), [0, 31, 32, -32, 100]), 5))
-            suite.case("%s-low-byte-%d" % (name.lower(), k), font, STATES % name, glyph, own="only the operand's low byte counts", bits=False)
+            suite.case("%s-low-byte-%d" % (name.lower(), k), font, STATES % name, glyph, own="only the operand's low byte counts",
+                       bits=False)
 
 
 def make_parity(suite, font):
@@ -56,5 +59,6 @@ def make_parity(suite, font):
         for state in ("RTG", "RTHG", "RTDG", "RDTG", "RUTG", "ROFF"):
             for k, values in enumerate(([0, 31, 32, 64, 95, 96, 128, 160], [-1, -32, -64, -96, -128, -160, 63, 97])):
                 own = PARITY if state in ("RTHG", "RTDG", "ROFF") else None
-                suite.case("%s-%s-%d" % (name.lower(), state.lower(), k), font, ROUNDING % name, picture(font, shown(rounds(state, values, name), 8)),
+                suite.case("%s-%s-%d" % (name.lower(), state.lower(), k), font, ROUNDING % name,
+                           picture(font, shown(rounds(state, values, name), 8)),
                            own=own, bits=False)

@@ -19,16 +19,20 @@ def make(suite):
         font = suite.font(FontMaker("em-%d" % upem, upem=upem))
         some = [[(x * upem // 1024, y * upem // 1024, on) for x, y, on in contour] for contour in CONTOURS]
         glyph = font.simple(some, advance=upem * 5 // 8)
-        odd = font.simple([[(1, 1, 1), (3, upem // 3, 1), (upem // 2, upem // 2 - 1, 0), (upem * 2 // 3, -1, 1)]], advance=upem // 2 + 1, bearing=0)
+        odd = font.simple([[(1, 1, 1), (3, upem // 3, 1), (upem // 2, upem // 2 - 1, 0), (upem * 2 // 3, -1, 1)]],
+                          advance=upem // 2 + 1, bearing=0)
         for ppem in SIZES:
             for hinted in (False, True):
                 for name, number in (("plain", glyph), ("odd", odd)):
-                    suite.case("%s-%d-at-%d-%s" % (name, upem, ppem, "hinted" if hinted else "unhinted"), font, SCALE, number, ppem=ppem, hinted=hinted,
+                    suite.case("%s-%d-at-%d-%s" % (name, upem, ppem, "hinted" if hinted else "unhinted"), font, SCALE, number,
+                               ppem=ppem, hinted=hinted,
                                **(open_by(HALVES, 1) if ppem * 64 % upem else {}))
-        for k, program in enumerate(["SVTCA:1 0 SRP0 1 MDRP:04 0 SRP1 6 SRP2 2 IP 5 MDAP:1 IUP:0 IUP:1", "SVTCA:0 1 MDAP:1 0 MDAP:1 IUP:0", "SVTCA:1 5 1 MD:1 2 SWAP SCFS"]):
+        for k, program in enumerate(["SVTCA:1 0 SRP0 1 MDRP:04 0 SRP1 6 SRP2 2 IP 5 MDAP:1 IUP:0 IUP:1",
+                                     "SVTCA:0 1 MDAP:1 0 MDAP:1 IUP:0", "SVTCA:1 5 1 MD:1 2 SWAP SCFS"]):
             hinted = font.simple(some, program, advance=upem * 5 // 8)
             for ppem in (12, 13, 23):
-                suite.case("hinted-%d-%d-at-%d" % (upem, k, ppem), font, SCALE, hinted, ppem=ppem, **(open_by(ORIGINAL, 64) if ppem * 64 % upem else {}))
+                suite.case("hinted-%d-%d-at-%d" % (upem, k, ppem), font, SCALE, hinted, ppem=ppem,
+                           **(open_by(ORIGINAL, 64) if ppem * 64 % upem else {}))
     make_limits(suite)
     make_metrics(suite)
 
@@ -41,9 +45,11 @@ def open_by(own, within):
 def make_limits(suite):
     """Outlines that are too far or too large to draw."""
     font = suite.font(FontMaker("limits", upem=16))
-    for k, (x, y, side) in enumerate([(0, 0, 128), (0, 0, 100), (32000, 0, 60), (-32768, 0, 60), (0, 32000, 60), (500, 0, 1), (512, 0, 1), (0, -512, 1)]):
+    for k, (x, y, side) in enumerate([(0, 0, 128), (0, 0, 100), (32000, 0, 60), (-32768, 0, 60), (0, 32000, 60), (500, 0, 1),
+                                      (512, 0, 1), (0, -512, 1)]):
         glyph = font.simple([[(x, y, 1), (x, y + side, 1), (x + side, y, 1)]], advance=16)
-        suite.case("limit-%d" % k, font, SCALE, glyph, ppem=16 if x == 0 and side > 1 else 1024, hinted=False, own="a coordinate is at most 2^21/64 pixels, a side at most 8192 pixels")
+        suite.case("limit-%d" % k, font, SCALE, glyph, ppem=16 if x == 0 and side > 1 else 1024, hinted=False,
+                   own="a coordinate is at most 2^21/64 pixels, a side at most 8192 pixels")
 
 
 def make_metrics(suite):
@@ -56,8 +62,10 @@ def make_metrics(suite):
             glyph = font.simple(square, advance=advance, bearing=bearing)
             for hinted in (False, True):
                 left = 64 - bearing
-                own = "a phantom point in the middle between two pixels goes away from zero" if hinted and (left % 64 == 32 or (left + advance) % 64 == 32) else None
-                suite.case("bearing-%d-advance-%d-%s" % (bearing, advance, "hinted" if hinted else "unhinted"), font, PHANTOM, glyph, hinted=hinted, own=own)
+                own = "a phantom point in the middle between two pixels goes away from zero" if hinted and (left % 64 == 32
+                    or (left + advance) % 64 == 32) else None
+                suite.case("bearing-%d-advance-%d-%s" % (bearing, advance, "hinted" if hinted else "unhinted"), font, PHANTOM,
+                           glyph, hinted=hinted, own=own)
     pairs = suite.font(FontMaker("pairs"))
     pairs.pairs = 3
     for k in range(6):
@@ -68,4 +76,5 @@ def make_metrics(suite):
     for hinted in (False, True):
         for ppem in (9, 16, 31):
             own = "an empty glyph has no box, and xMin 0" if hinted else HALVES if 333 * ppem * 64 % 1024 else None
-            suite.case("empty-%d-%s" % (ppem, "hinted" if hinted else "unhinted"), font, METRICS, empty, ppem=ppem, hinted=hinted, own=own)
+            suite.case("empty-%d-%s" % (ppem, "hinted" if hinted else "unhinted"), font, METRICS, empty, ppem=ppem, hinted=hinted,
+                       own=own)

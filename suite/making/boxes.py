@@ -22,8 +22,9 @@ def with_box(data):
 
 
 def fill_boxes(font):
-    """Fills in the boxes of a font's composites, and moves their bearings with xMin. The em square is 1024 units, so that at 16 pixels
-    a unit is 1/64 pixel."""
+    """Fills in the boxes of a font's composites, and moves their bearings with xMin.
+
+    The em square is 1024 units, so that at 16 pixels a unit is 1/64 pixel."""
     maker = Maker(Font(font.bytes()), 16, False)
     for number, glyph in enumerate(font.glyphs):
         maker.root, maker.records, maker.count = number, 0, 0

@@ -45,8 +45,10 @@ class FontMaker:
     def bytes(self):
         """The font's bytes."""
         pairs = self.pairs or len(self.glyphs)
-        tables = {"cmap": in_order(FIRST_CHAR + 1, len(self.glyphs) - 1), **{tag: data for tag, data in self.programs.items() if data}}
-        tables.update({"glyf": b"".join(g.data for g in self.glyphs), "head": self.head(), "loca": self.loca(), "maxp": self.maxp()})
+        tables = {"cmap": in_order(FIRST_CHAR + 1, len(self.glyphs) - 1),
+                  **{tag: data for tag, data in self.programs.items() if data}}
+        tables.update({"glyf": b"".join(g.data for g in self.glyphs), "head": self.head(), "loca": self.loca(),
+                       "maxp": self.maxp()})
         tables["hhea"] = struct.pack(">Lhhh", 0x10000, ASCENDER * self.upem // UPEM, DESCENDER * self.upem // UPEM, 0) \
             + bytes(24) + struct.pack(">H", pairs)
         tables["hmtx"] = b"".join(struct.pack(">Hh", g.advance, g.bearing) for g in self.glyphs[:pairs]) \
@@ -63,7 +65,8 @@ class FontMaker:
         places = [0]
         for glyph in self.glyphs:
             places.append(places[-1] + len(glyph.data))
-        return struct.pack(">%dL" % len(places), *places) if self.long else struct.pack(">%dH" % len(places), *(p // 2 for p in places))
+        return struct.pack(">%dL" % len(places), *places) if self.long else struct.pack(">%dH" % len(places),
+            *(p // 2 for p in places))
 
     def maxp(self):
         """`maxp`: counts, with room for whatever a case needs."""

@@ -1,4 +1,4 @@
-"""Glyphs of the cases of instructions: a fixed outline whose points a program moves or measures, and numbers shown as places of points."""
+"""Glyphs of the cases of instructions: an outline whose points a program moves, and numbers shown as places of points."""
 
 # Three contours of four points; at 16 pixels of 1024 units to the em a unit is 1/64 pixel.
 CONTOURS = [
@@ -18,7 +18,7 @@ OFF_AXES = "projections and moves along a slanted vector are exact products, rou
 
 
 def shown(program, values):
-    """A program followed by instructions that put so many numbers from the stack into the x of the points from 0 on, the top first."""
+    """A program, and instructions that put so many numbers from the stack into the x of the points from 0 on, the top first."""
     return "%s SVTCA:1 1 SZPS %s" % (program, " ".join("%d SWAP SCFS" % k for k in range(values)))
 
 

@@ -9,7 +9,8 @@ class Case:
     """A case: a request about a font, what it is about, and the decision if no text says the answer."""
 
     def __init__(self, name, group, font, request, about, own, within):
-        self.name, self.group, self.font, self.request, self.about, self.own, self.within = name, group, font, request, about, own, within
+        self.name, self.group, self.font, self.request = name, group, font, request
+        self.about, self.own, self.within = about, own, within
 
     def line(self, expected):
         """Its line of cases.jsonl."""
@@ -34,7 +35,10 @@ class Suite:
         return maker
 
     def case(self, name, font, about, glyph=None, char=None, ppem=16, hinted=True, dropout=False, own=None, within=None, bits=True):
-        """Adds a case of a glyph's number or a character. `own` is the decision if no text says the answer; with `within` only by so many 1/64 pixels."""
+        """Adds a case of a glyph's number or a character.
+
+        `own` is the decision if no text says the answer; with `within` only so many 1/64 pixels are open."""
         named = {"char": char} if glyph is None else {"glyph": glyph}
-        request = {"ppem": ppem, **named, "hinted": hinted, "dropout": dropout, "want": ["outline", "bits"] if bits else ["outline"]}
+        request = {"ppem": ppem, **named, "hinted": hinted, "dropout": dropout,
+                   "want": ["outline", "bits"] if bits else ["outline"]}
         self.cases.append(Case("%s/%s" % (self.group, name), self.group, font, request, about, own, within))

@@ -1,1 +1,1 @@
-"""A small TrueType rasterizer in Python, written from the manuals and apart from the proved program. It confirms the suite's answers."""
+"""A small TrueType rasterizer in Python, written apart from the proved program. It confirms the suite's answers."""

@@ -1,7 +1,7 @@
-"""Drop-out control, rule 3 of the manual: where an outline passes between two neighbouring centres and neither is set, one pixel is set.
+"""Drop-out control, rule 3 of the manual: if an outline passes between two neighbouring centres and neither is set, one is set.
 
-Rows come first and set the left pixel; then columns, for pairs that are still unset, and set the lower one. Where an outline crosses a
-row is found by its roots, kept exact as (p + q * root(d)) / r.
+Rows come first and set the left pixel; then columns, for pairs that are still unset, and set the lower one. Where an outline
+crosses a row is found by its roots, kept exact as (p + q * root(d)) / r.
 """
 import math
 
@@ -26,7 +26,7 @@ def turned(place):
 
 
 def crossings(piece, y):
-    """Where a piece meets the height y: exact numbers (p, q, d, r) for (p + q root(d)) / r, r above 0. Of a level piece, its ends."""
+    """Where a piece meets the height y: numbers (p, q, d, r) for (p + q root(d)) / r, r above 0. Of a level piece, its ends."""
     a, b, c = piece
     if b is None:
         b, line = a, True

@@ -54,7 +54,8 @@ class Maker:
         """The four phantom points, original and current."""
         font = self.font
         left = self.scale(x_min - font.bearing(glyph))
-        places = [(left, 0), (w32(left + self.scale(font.advance(glyph))), 0), (0, self.scale(font.ascender)), (0, self.scale(font.descender))]
+        places = [(left, 0), (w32(left + self.scale(font.advance(glyph))), 0), (0, self.scale(font.ascender)),
+                  (0, self.scale(font.descender))]
         if not self.hinted:
             return places, list(places)
         return places, [(w32(to_pixel(x)), w32(to_pixel(y))) for x, y in places]

@@ -281,7 +281,8 @@ def between(zone, axis, o, before, after):
 
 
 ROWS = {
-    0x0F: intersect, 0x27: align_points, 0x29: untouch, 0x2E: move_absolute, 0x2F: move_absolute, 0x3E: move_to_cvt, 0x3F: move_to_cvt,
+    0x0F: intersect, 0x27: align_points, 0x29: untouch, 0x2E: move_absolute, 0x2F: move_absolute, 0x3E: move_to_cvt,
+        0x3F: move_to_cvt,
     **{opcode: move_relative for opcode in range(0xC0, 0xE0)}, **{opcode: move_relative_cvt for opcode in range(0xE0, 0x100)},
     0x3A: move_stack_relative, 0x3B: move_stack_relative, 0x3C: align_to_reference, 0x39: interpolate,
     0x32: shift_points, 0x33: shift_points, 0x34: shift_contour, 0x35: shift_contour, 0x36: shift_zone, 0x37: shift_zone,

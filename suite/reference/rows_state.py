@@ -146,11 +146,13 @@ def delta_cvt(m):
 
 
 ROWS = {
-    **{opcode: to_axis for opcode in range(6)}, **{opcode: to_line for opcode in range(6, 10)}, 0x86: dual_to_line, 0x87: dual_to_line,
+    **{opcode: to_axis for opcode in range(6)}, **{opcode: to_line for opcode in range(6, 10)}, 0x86: dual_to_line,
+        0x87: dual_to_line,
     0x0A: from_stack, 0x0B: from_stack, 0x0C: lambda m: m.push(*m.gs.pv), 0x0D: lambda m: m.push(*m.gs.fv),
     0x0E: lambda m: setattr(m.gs, "fv", m.gs.pv), **{opcode: set_entry("rp", 0x10) for opcode in range(0x10, 0x13)},
     **{opcode: set_zone for opcode in range(0x13, 0x17)}, 0x17: set_loop, 0x1A: set_value("minimum"), 0x1D: set_value("cut_in"),
-    0x1E: set_value("width_cut_in"), 0x1F: set_width, 0x4D: lambda m: setattr(m.gs, "flip", True), 0x4E: lambda m: setattr(m.gs, "flip", False),
+    0x1E: set_value("width_cut_in"), 0x1F: set_width, 0x4D: lambda m: setattr(m.gs, "flip", True),
+        0x4E: lambda m: setattr(m.gs, "flip", False),
     0x5E: set_value("base"), 0x5F: set_shift, 0x18: set_round(GRID), 0x19: set_round(HALF_GRID), 0x3D: set_round(DOUBLE),
     0x7D: set_round(DOWN), 0x7C: set_round(UP), 0x7A: set_round(OFF), 0x76: set_super_round, 0x77: set_super_round,
     **{opcode: delta_cvt for opcode in range(0x73, 0x76)},
