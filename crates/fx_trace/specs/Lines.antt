@@ -1,0 +1,39 @@
+-- The lines of a trace (own).
+use Rattle.std.specs.Prelude.{ℕ, ℤ, ◌-◌, List, ◌∷◌, ◌++◌, codes, drop, reverse, length}
+use Rattle.std.specs.List.{flat_map}
+use Rattle.std.specs.Fmt.{decimal, signed_decimal}
+use Rattle.fx_code.specs.Listing.{instruction_text}
+use Rattle.fx_machine.specs.declared.program.FontProgram.{FontProgram}
+use Rattle.fx_machine.specs.declared.program.FontProgram.TheVariants.{Fpgm, Prep, Glyph}
+use Rattle.fx_machine.specs.declared.state.State.{State}
+
+-- how many numbers of the stack a line shows at most, from the top
+abbrev pub shown : ℕ
+shown = 8
+
+-- the last numbers of a list
+abbrev pub last_of : List ℤ → List ℤ
+last_of numbers = drop (length numbers - shown) numbers
+
+abbrev pub number_text : ℤ → List ℕ
+number_text number = 32 ∷ signed_decimal number
+
+-- the top of a stack, the top last
+unfoldable pub stack_text : List ℤ → List ℕ
+stack_text stack = codes " |" ++ flat_map number_text (last_of (reverse stack))
+
+-- a program's name
+abbrev pub program_text : FontProgram → List ℕ
+program_text Fpgm = codes "fpgm"
+program_text Prep = codes "prep"
+program_text (Glyph g) = codes "glyph " ++ decimal g
+
+-- the line of a program that begins
+unfoldable pub begin_text : FontProgram → List ℕ
+begin_text program = program_text program ++ codes " begins\n"
+
+-- the line of an instruction at an address of a program with these bytes: the program, the instruction as in the program's listing,
+-- and the top of the stack after it
+unfoldable pub line_text : FontProgram → List ℕ → ℕ → State → List ℕ
+line_text program code address s =
+    program_text program ++ (codes " " ++ (instruction_text code address ++ (stack_text s.store.stack ++ codes "\n")))

@@ -1,0 +1,130 @@
+-- Traces: the text of what programs did, and how they ended (own).
+use Rattle.std.specs.Prelude.{◌≡◌, ℕ, ◌+◌, ◌<◌, Bool, true, false, if◌then◌else◌, List, [], ◌∷◌, ◌++◌, length, take, Result, Ok, Err}
+use Rattle.std.specs.Io.KnownBytes.{Appends}
+use Rattle.std.specs.List.{flat_map}
+use Rattle.fx_fixed.specs.Changes.{Change}
+use Rattle.fx_fixed.specs.Chain.{map_fault}
+use Rattle.fx_fixed.specs.Texts.{TextView, Adds, Fails, after}
+use Rattle.fx_sfnt.specs.Tables.{Face}
+use Rattle.fx_scale.specs.Scaling.{scale_of}
+use Rattle.fx_machine.specs.declared.program.FontProgram.{FontProgram}
+use Rattle.fx_machine.specs.declared.program.FontProgram.TheVariants as program
+use Rattle.fx_machine.specs.Events.{Event, Begins, Executed}
+use Rattle.fx_machine.specs.Known.{Known, machine_of, machine_events}
+use Rattle.fx_hint.specs.declared.fault.HintFault.{HintFault}
+use Rattle.fx_hint.specs.Programmed.{hinting_of}
+use Rattle.fx_hint.specs.Outlines.{outline_with, of_machine}
+use Rattle.fx_hint.specs.Runs.{runs_of}
+use Rattle.fx_hint.specs.Watched.{run_events}
+use Rattle.fx_fixed.specs.declared.sink.WriteFailed.{WriteFailed as WriterFailed}
+use Rattle.fx_trace.specs.declared.fault.TraceFault.{TraceFault}
+use Rattle.fx_trace.specs.declared.fault.TraceFault.TheVariants.{Cause, WriteFailed, OutOfMemory}
+use Rattle.fx_trace.specs.declared.wanted.Wanted.{Wanted}
+use Rattle.fx_trace.specs.declared.wanted.Wanted.TheVariants.{Fpgm, Prep, Each}
+use Rattle.fx_trace.specs.Lines.{begin_text, line_text}
+
+-- ---- the text of events
+
+-- whether a program that begins is one that is wanted
+abbrev pub is_wanted : Wanted → FontProgram → Bool
+is_wanted Fpgm program.Fpgm = true
+is_wanted Prep program.Prep = true
+is_wanted Each p = true
+is_wanted _ _ = false
+
+-- the lines of an event, if lines are written
+abbrev pub told_of : Wanted → Bool → Event → List ℕ
+told_of wanted on (Begins program s) = if is_wanted wanted program then begin_text program else []
+told_of wanted on (Executed program code address calls s) = if on then line_text program code address s else []
+
+-- whether lines are written after it
+abbrev pub on_after : Wanted → Bool → Event → Bool
+on_after wanted on (Begins program s) = is_wanted wanted program
+on_after wanted on (Executed program code address calls s) = on
+
+-- the lines of events in turn: those of the programs that are wanted, from where each begins
+abbrev pub lines_after : Wanted → Bool → List Event → List ℕ
+lines_after wanted on [] = []
+lines_after wanted on (x ∷ xs) = told_of wanted on x ++ lines_after wanted (on_after wanted on x) xs
+
+unfoldable pub trace_text : Wanted → List Event → List ℕ
+trace_text wanted events = lines_after wanted false events
+
+-- ---- traces
+
+-- a text, and how the programs ended
+pub record Trace : Type 0 where
+  pub text : List ℕ
+  pub end : Result (Unit {0}) HintFault
+
+-- whether there was a fault, and which
+abbrev pub end_of : {Y : Type 0} → Result Y HintFault → Result (Unit {0}) HintFault
+end_of (Ok y) = Ok tt
+end_of (Err fault) = Err fault
+
+-- that of `fpgm` or `prep`, at a size: `prep` runs after `fpgm`
+unfoldable pub prelude_trace : Face → ℕ → Wanted → Trace
+prelude_trace face ppem wanted = record {
+  text = trace_text wanted (machine_events face ppem);
+  end = end_of (map_fault of_machine (machine_of face ppem));
+}
+
+-- the trace of a glyph by what `prep` left: the programs of the glyph and of its components, in the order in which they run
+unfoldable pub glyph_trace_with : Known → Face → ℕ → ℕ → Trace
+glyph_trace_with known face ppem g = record {
+  text = trace_text Each (flat_map (run_events known) (runs_of (hinting_of known) face (scale_of face ppem) g));
+  end = end_of (outline_with (hinting_of known) face ppem g);
+}
+
+-- and that of a glyph of a font: if `fpgm` or `prep` halts, there is no line
+abbrev pub glyph_trace_by : Result Known HintFault → Face → ℕ → ℕ → Trace
+glyph_trace_by (Ok known) face ppem g = glyph_trace_with known face ppem g
+glyph_trace_by (Err fault) face ppem g = record { text = []; end = Err fault }
+
+unfoldable pub glyph_trace : Face → ℕ → ℕ → Trace
+glyph_trace face ppem g = glyph_trace_by (map_fault of_machine (machine_of face ppem)) face ppem g
+
+-- ---- what a call that writes a trace returns and leaves
+
+-- the programs ended without a fault, their trace was written, and the writer counted no fault
+pub record IsTraced (trace : Trace) (change : Change) : Type 0 where
+  pub end : trace.end ≡ Ok tt
+  pub written : Appends change.bytes_before change.bytes trace.text
+  pub quiet : change.faults ≡ change.faults_before
+
+-- the programs ended with this fault, the trace until then was written, and the writer counted no fault
+pub record IsTracedUntil (trace : Trace) (change : Change) (fault : HintFault) : Type 0 where
+  pub end : trace.end ≡ Err fault
+  pub written : Appends change.bytes_before change.bytes trace.text
+  pub quiet : change.faults ≡ change.faults_before
+
+-- out of memory: a beginning of the trace was written, and the writer counted no fault
+pub record IsTracedSome (trace : Trace) (change : Change) : Type 0 where
+  pub count : ℕ
+  pub written : Appends change.bytes_before change.bytes (take count trace.text)
+  pub quiet : change.faults ≡ change.faults_before
+
+-- the writer failed: exactly the first k bytes of the trace were written, the writer counted one fault, and n is k, or the greatest
+-- number of 64 bits if k is above it
+pub record IsTracedTo (trace : Trace) (change : Change) (n : ℕ) : Type 0 where
+  pub count : ℕ
+  pub short : count < length trace.text
+  pub told : n ≡ after 0 count
+  pub written : Appends change.bytes_before change.bytes (take count trace.text)
+  pub fault : change.faults ≡ change.faults_before + 1
+
+-- all of it, by the result
+abbrev pub Traces : Trace → Change → Result (Unit {0}) TraceFault → Type 0
+Traces trace change (Ok _) = IsTraced trace change
+Traces trace change (Err (Cause fault)) = IsTracedUntil trace change fault
+Traces trace change (Err OutOfMemory) = IsTracedSome trace change
+Traces trace change (Err (WriteFailed n)) = IsTracedTo trace change n
+
+-- ---- the watcher
+
+-- the lines of an event are added to a text, or the text stops; then nothing more is added
+abbrev pub Tells : Wanted → TextView → Bool → Result (Unit {0}) WriterFailed → Event → TextView → Bool
+    → Result (Unit {0}) WriterFailed
+    → Type 0
+Tells wanted was on (Ok u) x now next outcome = Adds Fails was now (told_of wanted on x) outcome × (next ≡ on_after wanted on x)
+Tells wanted was on (Err fault) x now next outcome = (now ≡ was) × (outcome ≡ Err fault)

@@ -1,0 +1,47 @@
+-- How a trace ends.
+use Rattle.std.specs.Prelude.{◌≡◌, List, [], ◌++◌, Bool, Result, Ok, Err, OnOk}
+use Rattle.std.specs.List.{flat_map}
+use Rattle.fx_fixed.specs.Texts.{TextView, Adds, Fails}
+use Rattle.fx_machine.specs.Events.{Event, Watches}
+use Rattle.fx_machine.specs.Known.{Known}
+use Rattle.fx_hint.specs.Runs.{ProgramRun}
+use Rattle.fx_hint.specs.Watched.{run_events}
+use Rattle.fx_hint.specs.declared.fault.HintFault.{HintFault}
+use Rattle.fx_hint.specs.declared.fault.HintFault.TheVariants as hint
+use Rattle.fx_fixed.specs.declared.sink.WriteFailed.{WriteFailed as WriterFailed}
+use Rattle.fx_trace.specs.declared.wanted.Wanted.{Wanted}
+use Rattle.fx_trace.specs.Traces.{Tells}
+use Rattle.fx_trace.specs.declared.fault.TraceFault.{TraceFault}
+use Rattle.fx_trace.specs.declared.fault.TraceFault.TheVariants.{Cause, WriteFailed, OutOfMemory}
+
+-- what a trace returns once its text was written, by how the programs ended
+abbrev pub ended_by : Result (Unit {0}) HintFault → Result (Unit {0}) TraceFault
+ended_by (Ok u) = Ok u
+ended_by (Err hint.OutOfMemory) = Err OutOfMemory
+ended_by (Err fault) = Err (Cause fault)
+
+-- by what became of its text, and of the programs
+abbrev pub result_of : Result (Unit {0}) WriterFailed → Result (Unit {0}) HintFault → Result (Unit {0}) TraceFault
+result_of (Ok u) end = ended_by end
+result_of (Err fault) end = Err (WriteFailed fault.0)
+
+-- a text ends, if it has not stopped
+abbrev pub EndsText : TextView → Result (Unit {0}) WriterFailed → TextView → Result (Unit {0}) WriterFailed → Type 0
+EndsText was (Ok u) now outcome = Adds Fails was now [] outcome × OnOk outcome (now.waiting ≡ [])
+EndsText was (Err fault) now outcome = (now ≡ was) × (outcome ≡ Err fault)
+
+-- what becomes of a tracer at an event, by its parts
+abbrev pub Sees : {W : Type 0} → (W → Wanted) → (W → TextView) → (W → Bool) → (W → Result (Unit {0}) WriterFailed) → W → Event → W → Type 0
+Sees wanted text on outcome was x now =
+    Tells (wanted was) (text was) (on was) (outcome was) x (text now) (on now) (outcome now) × (wanted now ≡ wanted was)
+
+-- unless memory ran out, no program is left to run
+abbrev pub NoneLeft : {A : Type 0} → Result A HintFault → List ProgramRun → Type 0
+NoneLeft (Err hint.OutOfMemory) others = Unit {0}
+NoneLeft r others = others ≡ []
+
+-- a watcher saw these programs in turn, or if memory ran out the first of them
+abbrev pub Ran : {W A : Type 0} → (W → Event → W → Type 0) → Known → List ProgramRun → W → W → Result A HintFault → Type 0
+Ran Sees known runs was now end =
+    (some : List ProgramRun) × (others : List ProgramRun) × (some ++ others ≡ runs)
+    × Watches Sees was (flat_map (run_events known) some) now × NoneLeft end others

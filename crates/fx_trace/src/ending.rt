@@ -1,0 +1,36 @@
+//! How a trace ends.
+
+ghost use Rattle.std.specs.Prelude.{◌≡◌};
+ghost use Rattle.fx_trace.specs.Traces.{end_of};
+ghost use Rattle.fx_trace.specs.inner.Ending.{result_of};
+
+use crate::fault::TraceFault;
+use fx_fixed::WriteFailed;
+use fx_hint::HintFault;
+
+/// Whether there was a fault, and which.
+pub fn end_of<Y: Drop>(made: Result<Y, HintFault>) -> Result<(), HintFault>
+    ensures { result ≡ end_of made }
+{
+    match made {
+        Ok(_) => Ok(()),
+        Err(fault) => Err(fault),
+    }
+}
+
+/// What a trace returns, by what became of its text, and of the programs.
+pub fn result_of(
+    told: Result<(), WriteFailed>,
+    end: Result<(), HintFault>,
+) -> Result<(), TraceFault>
+    ensures { result ≡ result_of told end }
+{
+    match told {
+        Err(fault) => Err(TraceFault::WriteFailed(fault.0)),
+        Ok(()) => match end {
+            Ok(()) => Ok(()),
+            Err(HintFault::OutOfMemory) => Err(TraceFault::OutOfMemory),
+            Err(fault) => Err(TraceFault::Cause(fault)),
+        },
+    }
+}

@@ -1,0 +1,31 @@
+//! Which programs are traced.
+
+ghost use Rattle.std.specs.Prelude.{◌≡◌};
+ghost use Rattle.fx_trace.specs.Traces.{is_wanted};
+
+use fx_machine::FontProgram;
+
+/// Which programs are traced, each with the functions that it calls.
+#[derive(Clone, Copy, Debug, PartialEq, Eq)]
+pub enum Wanted {
+    /// `fpgm`.
+    Fpgm,
+    /// `prep`.
+    Prep,
+    /// Each program that runs.
+    Each,
+}
+
+impl Wanted {
+    /// Whether a program that begins is traced.
+    pub fn wants(self, program: FontProgram) -> bool
+        ensures { result ≡ is_wanted self program }
+    {
+        match (self, program) {
+            (Wanted::Fpgm, FontProgram::Fpgm) => true,
+            (Wanted::Prep, FontProgram::Prep) => true,
+            (Wanted::Each, _) => true,
+            _ => false,
+        }
+    }
+}
