@@ -72,48 +72,6 @@ fn striker_in<'a>(
     Ok(Some(Striker { tools, hinter }))
 }
 
-/// `Striker::of_block`.
-fn of_block_inner<'a>(
-    alloc: Global,
-    font: &FontFile<'a>,
-    ppem: u16,
-    mode: Mode,
-    block: &[u32],
-) -> Result<Option<Striker<'a, Rows>>, Refusal>
-    ensures setting { IfOk result (λ made. (s : Setting) → setting_of font.now ppem mode ≡ Ok s → IsBlockIn s block.now
-        → made ≡ Some s) }
-    ensures opened { IfOk result (λ made. IfSome made (λ s. opened_at font.now ppem ≡ Ok (opened_in s))) }
-    ensures own { IfOk result (λ made. IfSome made (λ s. (known : Known) → IsBlockOf known block.now → mode.hinting ≡ true
-        → IsOwn known s.font s.ppem)) }
-    ensures cause { IfErr result (λ refusal. Fails refusal (opened_at font.now ppem)) }
-    ensures late { IsErrOf result Refusal.OutOfMemory → Late (opened_at font.now ppem) }
-{
-    let opened = open_at(font, ppem)?;
-    Ok(striker_in(alloc, opened, mode, block)?)
-}
-
-/// `Striker::of_block_for`.
-fn of_block_for_inner<'a>(
-    alloc: Global,
-    font: &FontFile<'a>,
-    ppem: u16,
-    chars: &[u32],
-    mode: Mode,
-    block: &[u32],
-) -> Result<Option<Striker<'a, Rows>>, Refusal>
-    ensures setting { IfOk result (λ made. (s : Setting) → setting_for font.now ppem chars.now mode ≡ Ok s
-        → IsBlockIn s block.now → made ≡ Some s) }
-    ensures chars { OnOk result (Ok tt ≡ checked_chars chars.now) }
-    ensures opened { IfOk result (λ made. IfSome made (λ s. opened_many_of font.now ppem chars.now ≡ Ok (opened_in s))) }
-    ensures own { IfOk result (λ made. IfSome made (λ s. (known : Known) → IsBlockOf known block.now → mode.hinting ≡ true
-        → IsOwn known s.font s.ppem)) }
-    ensures cause { IfErr result (λ refusal. Fails refusal (opened_many_of font.now ppem chars.now)) }
-    ensures late { IsErrOf result Refusal.OutOfMemory → Late (opened_many_of font.now ppem chars.now) }
-{
-    let opened = open_many(font, ppem, chars)?;
-    Ok(striker_in(alloc, opened, mode, block)?)
-}
-
 impl<'a> FontHinter<'a> {
     /// The block of what its machine knows; no words with hinting off.
     fn block(&self, alloc: Global) -> Result<Option<Vec<u32>>, AllocError>
@@ -155,7 +113,8 @@ impl<'a> Striker<'a, Rows> {
         // The size is valid, and the font and its character map opened.
         ensures late { IsErrOf result Refusal.OutOfMemory → Late (opened_at font.now ppem) }
     {
-        of_block_inner(alloc, font, ppem, mode, block)
+        let opened = open_at(font, ppem)?;
+        Ok(striker_in(alloc, opened, mode, block)?)
     }
 
     /// Opens a font at a size for characters that are made one by one, as `open_for` does, by a block as `of_block`.
@@ -184,7 +143,8 @@ impl<'a> Striker<'a, Rows> {
         // The size is valid, the characters are within their limits, and the font and its character map opened.
         ensures late { IsErrOf result Refusal.OutOfMemory → Late (opened_many_of font.now ppem chars.now) }
     {
-        of_block_for_inner(alloc, font, ppem, chars, mode, block)
+        let opened = open_many(font, ppem, chars)?;
+        Ok(striker_in(alloc, opened, mode, block)?)
     }
 }
 
