@@ -2,7 +2,7 @@
 -- Serves `size`, `push_within`, `append_within`, `Gathered::new`, `Gathered::add`, `gather`, `gathered_of`, `mkstrike_glyphs`.
 use Rattle.std.proofs.Common.{◌≡◌, refl, sym, ap, ◌∙◌, subst, arith, true≢false, ℕ, zero, suc, ◌+◌, ◌*◌, ◌<◌, ◌≤◌}
 use Rattle.std.proofs.Common.{Bool, true, false}
-use Rattle.std.proofs.Common.{List, [], ◌∷◌, ◌++◌, length, take, drop, get_or, length-append, append_assoc, add-zero, zero-add}
+use Rattle.std.proofs.Common.{List, [], ◌∷◌, ◌++◌, length, take, get_or, length-append, add-zero, zero-add}
 use Rattle.std.proofs.Common.{Option, Some, None, Result, Ok, Err, All}
 use Rattle.std.specs.Prelude.{nat_lt, nat_le, ◌||◌, IfOk, IfErr, if◌then◌else◌, unwrap_or}
 use Rattle.std.specs.Option.{option_or}

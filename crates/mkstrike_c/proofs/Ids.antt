@@ -1,9 +1,9 @@
 -- The front of a buffer that was filled one by one.
 -- Serves `put_ids` and `put_points`.
-use Rattle.std.proofs.Common.{◌≡◌, refl, sym, ap, ◌∙◌, subst, arith, ℕ, ◌+◌, ◌<◌, ◌≤◌, min, Bool, true, false}
+use Rattle.std.proofs.Common.{◌≡◌, refl, sym, ap, ◌∙◌, arith, ℕ, ◌+◌, ◌<◌, ◌≤◌, min, Bool, true, false}
 use Rattle.std.proofs.Common.{List, [], ◌∷◌, ◌++◌, length, take, drop, get_or, set, map}
 use Rattle.std.specs.Prelude.{nat_le}
-use Rattle.std.proofs.lemmas.List.{length-map, take_all, take_more, take_more_set, take-map, drop_all, drop-drop, drop-set-lt, map_more}
+use Rattle.std.proofs.lemmas.List.{length-map, take_all, take_more_set, take-map, drop_all, drop-drop, drop-set-lt, map_more}
 use Rattle.std.proofs.lemmas.Bool.Decides.{nat_tests}
 use Rattle.mkstrike_c.specs.Drawn.{HasFront}
 

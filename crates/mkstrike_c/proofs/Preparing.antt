@@ -10,7 +10,6 @@ use Rattle.fx_machine.specs.Blocks.{IsBlockOf, checksum_of}
 use Rattle.fx_request.specs.declared.request.Mode.{Mode}
 use Rattle.fx_request.specs.declared.refusal.Refusal.{Refusal}
 use Rattle.fx_request.specs.declared.refusal.Refusal.TheVariants.{OutOfMemory}
-use Rattle.fx_request.specs.Limits.{max_code}
 use Rattle.fx_strike.specs.declared.opened.Opened.{Opened}
 use Rattle.fx_strike.specs.Faults.{Fails}
 use Rattle.fx_strike.specs.Blocks.{IsBlockIn, opened_in}
@@ -18,7 +17,7 @@ use Rattle.fx_strike.specs.Blocks as block
 use Rattle.fx_strike.specs.Strike.{Sketch, Setting, Opening, checked_chars, machine_for, one_in, one_of, one_with, opened_after}
 use Rattle.fx_strike.specs.Strike.{opened_at, opened_many_of, opened_one_of, rule_of, setting_for, setting_in, setting_of, setting_with}
 use Rattle.fx_strike.specs.Headline.{IsOneOf, Late, character_with}
-use Rattle.fx_strike.specs.Numbers.{numbered_of, numbered_with}
+use Rattle.fx_strike.specs.Numbers.{numbered_with}
 use Rattle.fx_strike.proofs.BlockSettings.{known_is}
 use Rattle.fx_strike.proofs.Sketching.{fails_on}
 use Rattle.mkstrike_c.specs.declared.gathered.Gathered.{Gathered}
@@ -28,7 +27,7 @@ use Rattle.mkstrike_c.specs.Refused.{IsReason}
 use Rattle.mkstrike_c.specs.Shown.{by_id}
 use Rattle.mkstrike_c.specs.inner.Gathering.{AreGathered, IsGathered}
 use Rattle.mkstrike_c.specs.inner.Showing.{FindsById, IsFoundBy}
-use Rattle.mkstrike_c.proofs.Gathering.{chars_pass, gathered_from, one_checked, opened_late, refused_later}
+use Rattle.mkstrike_c.proofs.Gathering.{gathered_from, opened_late, refused_later}
 use Rattle.mkstrike_c.proofs.Showing.{by_id_set, late_at}
 
 -- ---- the setting of words

@@ -1,7 +1,6 @@
 -- The names of numbers.
 -- Serves the laws `reasons` and `numbers`.
 use Rattle.std.proofs.Common.{◌≡◌, refl, arith, ◌<◌}
-use Rattle.fx_request.specs.Refusals.{number_of}
 use Rattle.mkstrike_c.specs.Refused.{bad_block, bad_mode}
 use Rattle.fx_machine.specs.Causes as causes
 use Rattle.fx_machine.specs.declared.halt.Cause.{Cause}

@@ -2,7 +2,7 @@
 -- Serves `found_by_id`, `numbered_by`.
 use Rattle.std.proofs.Common.{◌≡◌, refl, sym, ap, ◌∙◌, subst, ℕ, min, Option, Some}
 use Rattle.std.proofs.Common.{Result, Ok, Err}
-use Rattle.std.specs.Prelude.{IfOk, IfErr}
+use Rattle.std.specs.Prelude.{IfErr}
 use Rattle.fx_fixed.specs.Chain.{◌>>=◌, map_ok}
 use Rattle.fx_sfnt.specs.Collections.{FontFileView}
 use Rattle.fx_bdf.specs.Glyphs as bits
@@ -10,7 +10,7 @@ use Rattle.fx_request.specs.declared.request.Mode.{Mode}
 use Rattle.fx_request.specs.declared.refusal.Refusal.{Refusal}
 use Rattle.fx_request.specs.declared.refusal.Refusal.TheVariants.{OutOfMemory}
 use Rattle.fx_strike.specs.Faults.{Fails}
-use Rattle.fx_strike.specs.Strike.{Sketch, Setting, Opening, opened_at, setting_in, setting_of}
+use Rattle.fx_strike.specs.Strike.{Setting, Opening, opened_at, setting_in, setting_of}
 use Rattle.fx_strike.specs.Numbers.{IsDrawnOf, numbered_of, numbered_with}
 use Rattle.fx_strike.specs.Headline.{Late}
 use Rattle.fx_strike.proofs.Sketching.{fails_on}

@@ -1,6 +1,5 @@
 -- What a call from C returns and leaves that tells about a font, or the glyphs of characters by their numbers.
 use Rattle.std.specs.Prelude.{◌≡◌, ℕ, List, map, Result, Ok}
-use Rattle.fx_fixed.specs.Chain.{map_ok}
 use Rattle.fx_cmap.specs.Lookup.{glyph_for}
 use Rattle.fx_cmap.specs.declared.mapping.Mapping.{Mapping}
 use Rattle.fx_request.specs.declared.refusal.Refusal.{Refusal}

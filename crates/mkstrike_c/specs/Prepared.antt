@@ -1,6 +1,6 @@
 -- Blocks as C has them: a font that was opened at a size, as words of 32 bits, by which calls draw and don't run `fpgm` and `prep`.
 -- The first six words say what a block is for. Hinted, those of the machine follow.
-use Rattle.std.specs.Prelude.{◌≡◌, ◌⊎◌, ℕ, ◌/◌, ◌%◌, ◌^◌, Bool, true, false, List, [], ◌∷◌, ◌++◌, length, Option, Some, None, Result, Ok}
+use Rattle.std.specs.Prelude.{◌≡◌, ◌⊎◌, ℕ, ◌/◌, ◌%◌, ◌^◌, Bool, true, false, List, [], ◌∷◌, ◌++◌, length, Option, Result, Ok}
 use Rattle.fx_sfnt.specs.Collections.{FontFileView, face_in}
 use Rattle.fx_machine.specs.Known.{Known}
 use Rattle.fx_machine.specs.Words.{bit_of}

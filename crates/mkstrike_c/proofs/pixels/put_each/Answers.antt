@@ -1,4 +1,4 @@
-use Rattle.std.proofs.Common.{◌≡◌, ◌*◌, ◌∙◌, sym, ap, refl, false, arith, length, take}
+use Rattle.std.proofs.Common.{◌≡◌, ◌*◌, ◌∙◌, sym, refl, false, arith, length}
 use Rattle.std.proofs.lemmas.List.{take_all}
 use Rattle.std.proofs.lemmas.List.FromFn.{length-map-range_with_len}
 use Rattle.mkstrike_c.specs.Pixels.{row_byte, row_bytes}

@@ -1,4 +1,4 @@
-use Rattle.std.proofs.Common.{◌∙◌, ap, true, arith, length}
+use Rattle.std.proofs.Common.{◌∙◌, true, arith}
 use Rattle.std.proofs.lemmas.List.{length-set}
 use Rattle.mkstrike_c.specs.Pixels.{row_byte}
 use Rattle.mkstrike_c.proofs.Rows.{bytes_more}

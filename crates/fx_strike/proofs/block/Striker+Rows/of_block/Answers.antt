@@ -1,5 +1,5 @@
 use Rattle.fx_strike.proofs.BlockSettings.{of_opened}
-use Rattle.fx_strike.proofs.striker.Striker.of_block.Goals as goal
+use Rattle.fx_strike.proofs.block.Striker+Rows.of_block.Goals as goal
 
 pub returns-clause-setting : goal.returns-clause-setting
 returns-clause-setting c = λ s e b.
