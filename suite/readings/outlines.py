@@ -1,7 +1,7 @@
 """Wrong readings of composites, metrics, `loca`, `glyf`, maps, scan conversion and drop-out control."""
 import collections
 
-from reference import answer, charmap, dropout, fontfile, numbers, outline, scan
+from reference import answer, charmap, fontfile, numbers, outline, scan
 from reference.faults import Refused
 
 from .base import reading, replaced, value_of
