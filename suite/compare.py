@@ -3,6 +3,33 @@
 PARTS = ("advance", "outline", "bits")
 
 
+def not_of_the_protocol(name, answer):
+    """What is wrong with the form of an answer, or None."""
+    if answer.get("id", name) != name:
+        return "an answer to %s" % answer["id"]
+    if not isinstance(answer.get("refusal", {}), dict):
+        return "a refusal that is no object"
+    bits = answer.get("bits", {"box": [0] * 4, "rows": []})
+    if not isinstance(bits, dict) or not are_numbers(bits.get("box"), 4) or not are_rows(bits.get("rows"), bits["box"]):
+        return "bits that are not of the protocol"
+    contours = answer.get("outline", [])
+    if not isinstance(contours, list) or not all(isinstance(c, list) and all(are_numbers(p, 3) for p in c) for c in contours):
+        return "an outline that is not of the protocol"
+    return None if isinstance(answer.get("advance", 0), int) else "an advance that is no whole number"
+
+
+def are_numbers(values, count):
+    """Whether these are so many whole numbers."""
+    return isinstance(values, list) and len(values) == count and all(isinstance(value, int) for value in values)
+
+
+def are_rows(rows, box):
+    """Whether these are the rows of a box, in hexadecimal."""
+    if not isinstance(rows, list) or len(rows) != box[1]:
+        return False
+    return all(isinstance(row, str) and len(row) == 2 * (-(-box[0] // 8)) and set(row) <= set("0123456789ABCDEF") for row in rows)
+
+
 def is_close(expected, answer, most):
     """Whether an answer's points and advance differ by at most so many 1/64 pixels. Bits are not looked at then."""
     if "outline" not in expected or "outline" not in answer:

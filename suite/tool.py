@@ -78,7 +78,8 @@ class Tool:
         """The next answer, or None."""
         try:
             line = self.lines.get(timeout=PATIENCE)
-            return None if line is None else json.loads(line)
+            answer = None if line is None else json.loads(line)
+            return answer if isinstance(answer, dict) else None
         except (queue.Empty, ValueError):
             return None
 

@@ -61,12 +61,20 @@ def is_different(case):
         return True
 
 
-def task(of):
-    """Tries one reading on its groups."""
-    number, all_of_them = of
+def task(number):
+    """Tries one reading on its groups: the first case of each that finds it."""
     read = READINGS[number]
-    return number, [name for group in read.groups for name in found_by(read, CASES[group],
-                                                                       all_of_them)[:None if all_of_them else 1]]
+    return number, [name for group in read.groups for name in found_by(read, CASES[group], False)]
+
+
+def uncovered(group):
+    """The cases of a group that no reading changes."""
+    left = CASES[group]
+    for read in READINGS:
+        if group in read.groups:
+            found = set(found_by(read, left, True))
+            left = [case for case in left if case["id"] not in found]
+    return group, [case["id"] for case in left]
 
 
 CASES = cases_by_group()
@@ -77,23 +85,31 @@ def main():
     parser.add_argument("--only", default="")
     parser.add_argument("--cover", action="store_true")
     options = parser.parse_args()
-    numbers_ = [(k, options.cover) for k, read in enumerate(READINGS) if options.only in read.name]
-    missed, covered = 0, set()
     with multiprocessing.Pool() as pool:
-        for number, found in pool.imap(task, numbers_):
-            read = READINGS[number]
-            groups = {name.split("/")[0] for name in found}
-            without = sorted(set(read.groups) - groups)
-            missed += len(without)
-            covered |= set(found)
-            where = ", ".join(found[:2]) + "".join("; NOT FOUND by %s" % group for group in without)
-            print("%-28s %-18s %s: %s" % (read.name, " ".join(read.groups), read.text, where), flush=True)
-    print("%d readings, %d not found by a group of theirs" % (len(numbers_), missed))
-    if options.cover:
-        for group, cases in CASES.items():
-            left = [case["id"] for case in cases if case["id"] not in covered]
-            print("%-12s %5d cases, %4d that no reading changes %s" % (group, len(cases), len(left), " ".join(left[:4])))
+        return cover(pool) if options.cover else find(pool, options.only)
+
+
+def find(pool, only):
+    """Tells which case finds each reading."""
+    tried, missed = [k for k, read in enumerate(READINGS) if only in read.name], 0
+    for number, found in pool.imap(task, tried):
+        read = READINGS[number]
+        without = sorted(set(read.groups) - {name.split("/")[0] for name in found})
+        missed += len(without)
+        where = ", ".join(found) + "".join("; NOT FOUND by %s" % group for group in without)
+        print("%-28s %-18s %s: %s" % (read.name, " ".join(read.groups), read.text, where), flush=True)
+    print("%d readings, %d not found by a group of theirs" % (len(tried), missed))
     return 1 if missed else 0
+
+
+def cover(pool):
+    """Counts the cases that no reading changes."""
+    total = 0
+    for group, left in pool.imap(uncovered, CASES):
+        total += len(left)
+        print("%-12s %5d cases, %4d that no reading changes %s" % (group, len(CASES[group]), len(left), " ".join(left[:6])), flush=True)
+    print("%d cases that no reading changes" % total)
+    return 0
 
 
 if __name__ == "__main__":

@@ -66,6 +66,11 @@ def tries():
                                    bytes([90, 80, 70])), "REPEAT_FLAG", None
     yield "repeat-past-the-end", glyph([3], [ON | REPEAT, 9], struct.pack(">4h", 10, 0, 300, 0),
                                        struct.pack(">4h", -20, 200, 0, -200)), "REPEAT_FLAG", RUN
+    yield from more_tries()
+
+
+def more_tries():
+    """Points off the curve, contours, programs, boxes, and what is not looked at."""
     yield "off-curve", glyph([3], [ON, 0, ON, 0], struct.pack(">4h", 10, 100, 200, 0),
                              struct.pack(">4h", -20, 200, 0, -200)), "ON_CURVE_POINT", None
     yield "all-off", glyph([3], [0] * 4, struct.pack(">4h", 10, 0, 300, 0),

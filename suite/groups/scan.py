@@ -30,6 +30,14 @@ def box(x0, y0, x1, y1):
 
 def shapes():
     """Contours in 26.6 by name, the part of the rules, and the decision if there is one."""
+    yield from edges()
+    yield from windings()
+    yield from arcs()
+    yield from flats()
+
+
+def edges():
+    """Boxes and triangles, with centres on their edges and beside them."""
     for k, (x0, y0, x1, y1) in enumerate([(0, 0, 64, 64), (32, 32, 96, 96), (33, 33, 95, 95), (31, 31, 97, 97), (32, 0, 33, 300),
                                           (33, 0, 95, 300), (0, 33, 300, 95),
                                           (-96, -96, -32, -32), (-31, -31, 31, 31), (0, 0, 640, 640), (-64, 32, 64, 32),
@@ -40,6 +48,10 @@ def shapes():
                                 [(-32, -32), (32, 288), (352, 96)], [(0, 0), (1000, 100), (200, 700)],
                                 [(32, 0), (33, 640), (34, 0)], [(0, 32), (640, 33), (0, 34)], [(0, 0), (640, 640), (640, 641)]]):
         yield "triangle-%d" % k, [[(x, y, 1) for x, y in points]], "slanted edges", None
+
+
+def windings():
+    """Contours within contours, across contours and across themselves."""
     outer = box(0, 0, 320, 320)
     yield "ring-same-way", [outer, box(96, 96, 224, 224)], "winding", None
     yield "ring-other-way", [outer, box(96, 96, 224, 224)[::-1]], "winding", None
@@ -55,6 +67,10 @@ def shapes():
     yield "spike", [[(0, 0, 1), (0, 100, 1), (100, 100, 1), (100, 50, 1), (416, 50, 1), (100, 50, 1), (100, 0, 1)]], "spikes", None
     yield "spike-on-centres", [[(0, 0, 1), (0, 100, 1), (100, 100, 1), (100, 32, 1), (416, 32, 1), (100, 32, 1),
                                 (100, 0, 1)]], "spikes", TOUCH
+
+
+def arcs():
+    """Contours with points off the curve."""
     for name, contour, own in [("arch", [(0, 0, 1), (64, 128, 0), (128, 0, 1)], None),
             ("on-corner", [(0, 0, 1), (32, 64, 0), (64, 0, 1)], None), ("tall", [(0, 0, 1), (100, 1000, 0), (200, 0, 1)], None),
                                ("circle", [(160, 0, 1), (0, 0, 0), (0, 160, 1), (0, 320, 0), (160, 320, 1), (320, 320, 0),
@@ -76,6 +92,10 @@ def shapes():
                                ("tip-on-centre", [(0, 0, 1), (192, 32, 0), (0, 64, 1)], None),
                                ("tip-before-centre", [(0, 0, 1), (190, 32, 0), (0, 64, 1)], None)]:
         yield "arc-" + name, [contour], "arcs", own
+
+
+def flats():
+    """Arcs whose points lie on one line, and contours of one and two points."""
     for name, contour in [("overshoot", [(0, 32, 1), (192, 32, 0)]),
             ("straight", [(0, 0, 1), (100, 100, 0), (200, 200, 1), (200, 0, 1)]),
                           ("upright", [(32, 0, 1), (32, 300, 0), (32, 100, 1)]),

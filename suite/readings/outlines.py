@@ -1,7 +1,7 @@
 """Wrong readings of composites, metrics, `loca`, `glyf`, maps, scan conversion and drop-out control."""
 import collections
 
-from reference import charmap, dropout, fontfile, numbers, outline, scan
+from reference import answer, charmap, fontfile, numbers, outline, scan
 from reference.faults import Refused
 
 from .base import reading, replaced, value_of
@@ -43,6 +43,28 @@ def _match_before(c):
 for _em in (1000, 2048):
     replaced("em_of_%d" % _em, "scaling phantoms", "an em is %d units whatever head says" % _em, "scaled",
              lambda right, em=_em: lambda v, ppem, upem: right(v, ppem, em))
+
+
+@reading("y_downwards", "scan dropout grammar composites scaling phantoms maps iup", "y grows downwards")
+def _y_downwards(c):
+    c.attribute(outline.Maker, "outline", lambda right: lambda maker, glyph: _upside_down(right(maker, glyph)))
+
+
+def _upside_down(found):
+    """An outline with its y turned."""
+    return ([(x, -y) for x, y in found[0]], *found[1:])
+
+
+@reading("refused_is_empty", "grammar maps composites scaling", "what is refused is an empty glyph")
+def _refused_is_empty(c):
+    def made(right):
+        def lenient(data, request):
+            try:
+                return right(data, request)
+            except Refused:
+                return {"advance": 0, "outline": []}
+        return lenient
+    c.attribute(answer, "made", made)
 
 
 @reading("origin_at_zero", "phantoms", "an outline is not moved to its origin")

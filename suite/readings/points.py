@@ -1,5 +1,5 @@
 """Wrong readings of the rows that move points, and rows without an effect or with another result."""
-from reference import numbers, rows_points, rows_stack, state
+from reference import rows_points, rows_stack, state
 
 from .base import READINGS, Reading, reading, replaced, value_of
 

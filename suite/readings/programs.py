@@ -232,6 +232,11 @@ def _step_defined(right, m):
         right(m)
 
 
+@reading("glyph_programs_not_run", "flow functions state vectors points deltas mdrp halts", "glyphs have no programs")
+def _no_glyph_programs(c):
+    c.attribute(outline.Maker, "run", lambda right: lambda maker, made, number, program: None)
+
+
 @reading("prep_not_run", "state functions halts", "prep is not run")
 def _prep_not_run(c):
     c.attribute(machine.Machine, "run", lambda right: lambda m, name, code: right(m, name, b"" if name == "prep" else code))

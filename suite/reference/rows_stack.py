@@ -2,7 +2,7 @@
 from .faults import Halt
 from .machine import EIF, ELSE
 from .numbers import cut, near, w32
-from .state import GRID, Graphics, rounded  # noqa: F401
+from .state import rounded
 
 
 def read(table, k):
