@@ -13,3 +13,4 @@ pub mod Trimming
 pub mod Existing
 pub mod Enclosed
 pub mod BlockSettings
+pub mod TracesTold

@@ -5,5 +5,6 @@ pub mod Numbers
 pub mod Headline
 pub mod Blocks
 pub mod Listings
+pub mod Traces
 pub mod Laws
 pub mod inner

@@ -41,6 +41,7 @@ mod strikes;
 mod surveyed;
 mod surveying;
 mod tools;
+mod trace;
 
 pub use fx_bdf::Title;
 pub use listing::listing_of;
@@ -50,3 +51,4 @@ pub use one_character::one;
 pub use striker::Striker;
 pub use surveyed::Survey;
 pub use surveying::survey;
+pub use trace::{Traced, trace_of};
