@@ -15,3 +15,4 @@ pub mod Trimming
 pub mod Existing
 pub mod Enclosed
 pub mod BlockSettings
+pub mod TracesTold

@@ -7,5 +7,6 @@ pub mod Outlines
 pub mod Headline
 pub mod Blocks
 pub mod Listings
+pub mod Traces
 pub mod Laws
 pub mod inner

@@ -45,6 +45,7 @@ mod strikes;
 mod surveyed;
 mod surveying;
 mod tools;
+mod trace;
 
 pub use choices::chosen;
 pub use fx_bdf::Title;
@@ -56,3 +57,4 @@ pub use outlines::{outline_numbered, outlined, write_outline};
 pub use striker::Striker;
 pub use surveyed::Survey;
 pub use surveying::survey;
+pub use trace::{Traced, trace_of};

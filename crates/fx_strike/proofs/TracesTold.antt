@@ -1,0 +1,116 @@
+-- A trace that was written, as one that ends with a refusal.
+-- It serves `trace_of`.
+use Rattle.std.proofs.Common.{◌≡◌, ℕ, Bool, true, false, List, [], length, take, Option, Result, Ok, Err, refl, sym, ap, ◌∙◌, subst, arith}
+use Rattle.std.specs.Io.KnownBytes.{Appends}
+use Rattle.std.proofs.KnownBytes.{Appends-nil}
+use Rattle.std.proofs.lemmas.List.{take_all}
+use Rattle.fx_fixed.specs.Changes.{Change}
+use Rattle.fx_sfnt.specs.declared.fault.FontFault.{FontFault}
+use Rattle.fx_sfnt.specs.declared.fault.FontFault.TheVariants as font
+use Rattle.fx_glyf.specs.declared.fault.GlyphFault.{GlyphFault}
+use Rattle.fx_glyf.specs.declared.fault.GlyphFault.TheVariants as glyf
+use Rattle.fx_hint.specs.declared.fault.HintFault.{HintFault}
+use Rattle.fx_hint.specs.declared.fault.HintFault.TheVariants as hint
+use Rattle.fx_trace.specs.declared.fault.TraceFault.{TraceFault}
+use Rattle.fx_trace.specs.declared.fault.TraceFault.TheVariants as trace
+use Rattle.fx_trace.specs.Traces.{Trace, Traces}
+use Rattle.fx_request.specs.declared.refusal.Refusal.{Refusal}
+use Rattle.fx_request.specs.declared.refusal.Refusal.TheVariants.{WriteFailed}
+use Rattle.fx_request.specs.Faults.{of_font, of_glyph}
+use Rattle.fx_strike.specs.Faults.{of_hint}
+use Rattle.fx_strike.specs.Headline.{IsCause}
+use Rattle.fx_strike.specs.Traces.{Told, untold, told_by, end_with, Tells, refused_as}
+
+-- ---- no fault of programs is one of the writer
+
+not_font : (f : FontFault) (n : ℕ) → of_font f ≡ WriteFailed n → ⊥
+not_font font.NotTrueType n e = absurd cc
+not_font font.NoFace n e = absurd cc
+not_font (font.TableMissing tag) n e = absurd cc
+not_font (font.TableShort tag) n e = absurd cc
+not_font font.BadHead n e = absurd cc
+not_font font.BadMaxp n e = absurd cc
+not_font (font.BadLoca g) n e = absurd cc
+not_font (font.BadGlyphNumber g) n e = absurd cc
+
+not_glyph : (f : GlyphFault) (n : ℕ) → of_glyph f ≡ WriteFailed n → ⊥
+not_glyph (glyf.GlyphShort g) n e = absurd cc
+not_glyph (glyf.BadContours g) n e = absurd cc
+
+not_writer : (f : HintFault) (n : ℕ) → of_hint f ≡ WriteFailed n → ⊥
+not_writer (hint.Font f) n e = not_font f n e
+not_writer (hint.Glyph f) n e = not_glyph f n e
+not_writer (hint.ComponentDepth g) n e = absurd cc
+not_writer (hint.TooManyComponents g) n e = absurd cc
+not_writer (hint.TooManyPoints g) n e = absurd cc
+not_writer (hint.BadPointMatch g) n e = absurd cc
+not_writer (hint.Halted halt) n e = absurd cc
+not_writer hint.OutOfMemory n e = absurd cc
+
+same_refusal : {a b : Refusal} → ◌≡◌ {A = Result Bool Refusal} (Err a) (Err b) → a ≡ b
+same_refusal e = cc
+
+same_count : {m n : ℕ} → WriteFailed m ≡ WriteFailed n → m ≡ n
+same_count e = cc
+
+-- ---- what was written
+
+whole_text : (old new : Option (List ℕ)) (text : List ℕ) → Appends old new text → Appends old new (take (length text) text)
+whole_text old new text h =
+    let P : List ℕ → Type 0 = λ t. Appends old new t in subst P (sym (take_all (length text) text (omega arith))) h
+
+pub refused_tells : (t : Trace) (change : Change) (r : Result (Unit {0}) TraceFault) → Traces t change r
+    → Tells (told_by t) change (refused_as r)
+refused_tells t change (Ok u) h = record {
+  text = record { is = ap end_with h.end; written = h.written; quiet = h.quiet };
+  cause = tt;
+  memory = λ e. absurd cc;
+  writer = λ n e. absurd cc;
+}
+refused_tells t change (Err (trace.Cause f)) h = record {
+  text = tt;
+  cause = λ named. record { is = ap end_with h.end; written = h.written; quiet = h.quiet };
+  memory = λ e. record { count = length t.text; written = whole_text change.bytes_before change.bytes t.text h.written; quiet = h.quiet };
+  writer = λ n e. absurd (not_writer f n (same_refusal e));
+}
+refused_tells t change (Err trace.OutOfMemory) h = record {
+  text = tt;
+  cause = λ named. absurd named;
+  memory = λ e. record { count = h.count; written = h.written; quiet = h.quiet };
+  writer = λ n e. absurd cc;
+}
+refused_tells t change (Err (trace.WriteFailed n)) h = record {
+  text = tt;
+  cause = λ named. absurd named;
+  memory = λ e. absurd cc;
+  writer = λ m e. record {
+    count = h.count;
+    short = h.short;
+    number = sym (same_count (same_refusal e)) ∙ h.told;
+    written = h.written;
+    fault = h.fault;
+  };
+}
+
+-- ---- nothing was traced
+
+-- the writer stays as it is
+abbrev unchanged : Option (List ℕ) → ℕ → Change
+unchanged bytes faults = record { bytes_before = bytes; bytes = bytes; faults_before = faults; faults = faults }
+
+pub untold_false : (bytes : Option (List ℕ)) (faults : ℕ) → Tells (untold (Ok false)) (unchanged bytes faults) (Ok false)
+untold_false bytes faults = record {
+  text = record { is = refl; written = Appends-nil bytes; quiet = refl };
+  cause = tt;
+  memory = λ e. absurd cc;
+  writer = λ n e. absurd cc;
+}
+
+pub untold_refusal : (bytes : Option (List ℕ)) (faults : ℕ) (refusal : Refusal) → IsCause refusal
+    → Tells (untold (Err refusal)) (unchanged bytes faults) (Err refusal)
+untold_refusal bytes faults refusal c = record {
+  text = tt;
+  cause = λ named. record { is = refl; written = Appends-nil bytes; quiet = refl };
+  memory = λ e. record { count = 0; written = Appends-nil bytes; quiet = refl };
+  writer = λ n e. absurd (let P : Refusal → Type 0 = λ r. IsCause r in subst P (same_refusal e) c);
+}

@@ -1,0 +1,14 @@
+use Rattle.fx_strike.specs.Traces.{trace_of}
+use Rattle.fx_strike.proofs.Exits.{came}
+use Rattle.fx_strike.proofs.TracesTold.{untold_refusal}
+use Rattle.fx_strike.proofs.trace.trace_inner.Goals as goal
+
+pub returns-in_err-opened : goal.returns-in_err-opened
+unfolding trace_of
+returns-in_err-opened g c =
+    rw (came c.from_residual.result c.from_residual.ensures.1)
+    (rw (← c.in_err-opened.ensures.due) (untold_refusal _ _ _ c.in_err-opened.ensures.named))
+
+pub returns : goal.returns
+unfolding trace_of
+returns g c = rw (← c.in_ok-opened.ensures.due) c.trace_in.ensures

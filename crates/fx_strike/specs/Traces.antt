@@ -1,0 +1,107 @@
+-- Traces of a font's programs, and what a call that writes one leaves.
+use Rattle.std.specs.Prelude.{◌≡◌, ℕ, ◌+◌, ◌<◌, ◌==◌, Bool, true, false, if◌then◌else◌, List, [], length, take}
+use Rattle.std.specs.Prelude.{Result, Ok, Err, IfOk, IfErr, IsErrOf}
+use Rattle.std.specs.Io.KnownBytes.{Appends}
+use Rattle.fx_fixed.specs.Changes.{Change}
+use Rattle.fx_fixed.specs.Texts.{after}
+use Rattle.fx_sfnt.specs.Collections.{FontFileView}
+use Rattle.fx_cmap.specs.Lookup.{glyph_for}
+use Rattle.fx_hint.specs.declared.fault.HintFault.{HintFault}
+use Rattle.fx_trace.specs.declared.wanted.Wanted.TheVariants as wanted
+use Rattle.fx_trace.specs.declared.fault.TraceFault.{TraceFault}
+use Rattle.fx_trace.specs.declared.fault.TraceFault.TheVariants as trace
+use Rattle.fx_trace.specs.Traces.{Trace, prelude_trace, glyph_trace}
+use Rattle.fx_request.specs.declared.refusal.Refusal.{Refusal}
+use Rattle.fx_request.specs.declared.refusal.Refusal.TheVariants.{WriteFailed, OutOfMemory}
+use Rattle.fx_strike.specs.declared.opened.Opened.{Opened}
+use Rattle.fx_strike.specs.declared.trace.Traced.{Traced}
+use Rattle.fx_strike.specs.declared.trace.Traced.TheVariants.{Fpgm, Prep, Number, Character}
+use Rattle.fx_strike.specs.Faults.{of_hint}
+use Rattle.fx_strike.specs.Strike.{Opening, opened_at, opened_one_of}
+use Rattle.fx_strike.specs.Headline.{HasToName}
+
+-- ---- the trace
+
+-- a text, and how it ends: whether there was something to trace, or the refusal after its last line
+pub record Told : Type 0 where
+  pub text : List ℕ
+  pub end : Result Bool Refusal
+
+-- nothing was traced
+abbrev pub untold : Result Bool Refusal → Told
+untold end = record { text = []; end = end }
+
+-- how programs ended, as a refusal
+abbrev pub end_with : Result (Unit {0}) HintFault → Result Bool Refusal
+end_with (Ok _) = Ok true
+end_with (Err fault) = Err (of_hint fault)
+
+abbrev pub told_by : Trace → Told
+told_by trace = record { text = trace.text; end = end_with trace.end }
+
+-- the trace of the glyph of a character; a character that the font lacks has none
+abbrev pub told_of : Opened → ℕ → Told
+told_of opened glyph = if glyph == 0 then untold (Ok false) else told_by (glyph_trace opened.font opened.ppem glyph)
+
+-- the trace of an opened font
+abbrev pub told_in : Opened → Traced → Told
+told_in opened Fpgm = told_by (prelude_trace opened.font opened.ppem wanted.Fpgm)
+told_in opened Prep = told_by (prelude_trace opened.font opened.ppem wanted.Prep)
+told_in opened (Number g) = told_by (glyph_trace opened.font opened.ppem g)
+told_in opened (Character code) = told_of opened (glyph_for opened.map code)
+
+-- the size, the font and its character map, and for a character its code point
+abbrev pub opening_for : FontFileView → ℕ → Traced → Opening
+opening_for file ppem Fpgm = opened_at file ppem
+opening_for file ppem Prep = opened_at file ppem
+opening_for file ppem (Number g) = opened_at file ppem
+opening_for file ppem (Character code) = opened_one_of file ppem code
+
+abbrev pub told_after : Opening → Traced → Told
+told_after (Ok opened) traced = told_in opened traced
+told_after (Err refusal) traced = untold (Err refusal)
+
+-- the trace of a font file at a size, or the first cause why there is none
+unfoldable pub trace_of : FontFileView → ℕ → Traced → Told
+trace_of file ppem traced = told_after (opening_for file ppem traced) traced
+
+-- ---- what a call that writes a trace leaves
+
+-- the programs ended so, all of their trace was written, and the writer counted no fault
+pub record IsTold (told : Told) (change : Change) (end : Result Bool Refusal) : Type 0 where
+  pub is : told.end ≡ end
+  pub written : Appends change.bytes_before change.bytes told.text
+  pub quiet : change.faults ≡ change.faults_before
+
+-- out of memory: a beginning of the trace was written, and the writer counted no fault
+pub record IsToldSome (told : Told) (change : Change) : Type 0 where
+  pub count : ℕ
+  pub written : Appends change.bytes_before change.bytes (take count told.text)
+  pub quiet : change.faults ≡ change.faults_before
+
+-- the writer failed: exactly the first bytes of the trace were written, the writer counted one fault, and n is their number, or the
+-- greatest number of 64 bits if there are more
+pub record IsToldTo (told : Told) (change : Change) (n : ℕ) : Type 0 where
+  pub count : ℕ
+  pub short : count < length told.text
+  pub number : n ≡ after 0 count
+  pub written : Appends change.bytes_before change.bytes (take count told.text)
+  pub fault : change.faults ≡ change.faults_before + 1
+
+-- all of it
+pub record Tells (told : Told) (change : Change) (result : Result Bool Refusal) : Type 0 where
+  -- the programs ended well, or the font lacks the character; the trace was written
+  pub text : IfOk result (λ there. IsTold told change (Ok there))
+  -- the first cause was named after the lines until then
+  pub cause : IfErr result (λ refusal. HasToName refusal → IsTold told change (Err refusal))
+  -- a beginning of the trace was written
+  pub memory : IsErrOf result OutOfMemory → IsToldSome told change
+  -- exactly the first bytes of the trace were written
+  pub writer : (n : ℕ) → IsErrOf result (WriteFailed n) → IsToldTo told change n
+
+-- what a trace returns, as a refusal
+abbrev pub refused_as : Result (Unit {0}) TraceFault → Result Bool Refusal
+refused_as (Ok u) = Ok true
+refused_as (Err (trace.Cause fault)) = Err (of_hint fault)
+refused_as (Err (trace.WriteFailed n)) = Err (WriteFailed n)
+refused_as (Err trace.OutOfMemory) = Err OutOfMemory
