@@ -20,7 +20,7 @@ use Rattle.fx_strike.specs.Faults.{Fails}
 use Rattle.fx_strike.specs.Strike.{Sketch, Setting, Fate, drawn, unhinted, left_out, notices_in, setting_with, left_out_for}
 use Rattle.fx_strike.specs.Strike.{halted_by, refused_by, glyph_sketch_of, glyph_fate_of}
 use Rattle.fx_strike.specs.inner.Drawing.{AreOf, Decides, IsFateOf, IsSketchedOf, Sketches}
-use Rattle.fx_strike.specs.inner.Surveying.{HasFate, SeesOne, notices_by}
+use Rattle.fx_strike.specs.inner.Surveying.{Has, HasFate, SeesOne, notices_by}
 use Rattle.fx_strike.proofs.OnePart.{has_sketch, sketch_code}
 use Rattle.fx_strike.proofs.Sketching.{fails_on, memory_fails}
 
