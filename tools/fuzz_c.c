@@ -438,7 +438,7 @@ int LLVMFuzzerTestOneInput(const uint8_t *input, size_t len) {
     at_front = said[6] & 1;
     a.ppem = said[4] & 1 ? sizes[said[4] >> 1 & 15] : (uint16_t)(1 + said[4] % 40);
     a.mode = said[5] & 3;
-    if (said[5] > 252) a.mode |= UINT32_C(4) << draw(28);
+    if (said[5] > 252) a.mode |= (UINT32_C(4) << draw(28)) & ~MKSTRIKE_PACKED;
     a.packed = said[6] & 2 ? MKSTRIKE_PACKED : 0;
     a.face = said[22] % 8 == 0 ? said[22] / 8 : 0;
     a.chars_len = said[7] % MOST;
