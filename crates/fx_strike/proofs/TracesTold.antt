@@ -70,7 +70,12 @@ refused_tells t change (Ok u) h = record {
 refused_tells t change (Err (trace.Cause f)) h = record {
   text = tt;
   cause = λ named. record { is = ap end_with h.end; written = h.written; quiet = h.quiet };
-  memory = λ e. record { count = length t.text; written = whole_text change.bytes_before change.bytes t.text h.written; quiet = h.quiet };
+  memory = λ e. record {
+    count = length t.text;
+    written = whole_text change.bytes_before change.bytes t.text h.written;
+    quiet =
+        h.quiet;
+  };
   writer = λ n e. absurd (not_writer f n (same_refusal e));
 }
 refused_tells t change (Err trace.OutOfMemory) h = record {

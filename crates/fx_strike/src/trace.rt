@@ -48,7 +48,8 @@ fn trace_number<W: Sink>(
     out: &mut W,
 ) -> Result<bool, Refusal>
     requires { W.fault_count out.old < 2 ^ 63 }
-    ensures { Tells (told_by (glyph_trace opened.now.font opened.now.ppem g)) (change_of W.held W.fault_count out.old out.new) result }
+    ensures { Tells (told_by (glyph_trace opened.now.font opened.now.ppem g))
+        (change_of W.held W.fault_count out.old out.new) result }
 {
     refused_as(trace_glyph(alloc, &opened.font, opened.ppem, g, out))
 }

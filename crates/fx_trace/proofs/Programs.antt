@@ -90,7 +90,8 @@ module _ {W : Type 0} (wanted : W → Wanted) (text : W → TextView) (on : W �
       text_ended (outcome now) told_last d ends
 
   -- the sink is the same
-  pub same_sink : (w : Wanted) (es : List Event) → wanted was ≡ w → Watches (Sees wanted text on outcome) was es now → last.sink ≡ sink
+  pub same_sink : (w : Wanted) (es : List Event) → wanted was ≡ w → Watches (Sees wanted text on outcome) was es now
+      → last.sink ≡ sink
   same_sink w es e seen = (added w es e seen).0.same
 
   module _ (known : Known) (face : Face) (ppem g : ℕ) where

@@ -31,7 +31,8 @@ EndsText was (Ok u) now outcome = Adds Fails was now [] outcome × OnOk outcome 
 EndsText was (Err fault) now outcome = (now ≡ was) × (outcome ≡ Err fault)
 
 -- what becomes of a tracer at an event, by its parts
-abbrev pub Sees : {W : Type 0} → (W → Wanted) → (W → TextView) → (W → Bool) → (W → Result (Unit {0}) WriterFailed) → W → Event → W → Type 0
+abbrev pub Sees : {W : Type 0} → (W → Wanted) → (W → TextView) → (W → Bool) → (W → Result (Unit {0}) WriterFailed) → W → Event
+    → W → Type 0
 Sees wanted text on outcome was x now =
     Tells (wanted was) (text was) (on was) (outcome was) x (text now) (on now) (outcome now) × (wanted now ≡ wanted was)
 
