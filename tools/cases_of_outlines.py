@@ -18,9 +18,9 @@ def asked(command, ppem, number, hinted=True):
     return "%s --ppem %d --glyph %d%s" % (command, ppem, number, "" if hinted else " --unhinted")
 
 
-def each_glyph(name, font, sizes):
+def each_glyph(name, font, sizes, data=None):
     """The outline and the picture of each glyph of a font, by its number, and by its character if it has one."""
-    data, codes = font.data(), {number: code for code, number in font.codes.items()}
+    data, codes = data or font.data(), {number: code for code, number in font.codes.items()}
     for ppem in sizes:
         for hinted, mode in MODES:
             for number in range(len(font.glyphs)):
@@ -34,7 +34,9 @@ def each_glyph(name, font, sizes):
 
 def glyphs_by_number():
     """Each glyph of small fonts: empty, simple, curved, composite; with metrics that move them, and with other em squares."""
-    yield from each_glyph("the fixture", fixture(), (1, 4, 16, 17, 1024))
+    small = fixture()
+    small.metrics = [(256, 0)] + [(384, 0)] * 3
+    yield from each_glyph("the fixture", small, (1, 4, 16, 17, 1024), fonts.FIXTURE)
     parts = [Empty(), square(300), Simple([(-50, -70, 40, 30), (100, 0, 200, 900)]), Composite([(1, 10, -20), (2, 300, 7)], NOTHING),
              Composite([(3, -5, 500), (1, 0, 0)])]
     yield from each_glyph("composites", Font(parts, {A: 3, B: 4}, upem=1000), (1, 13, 333))
