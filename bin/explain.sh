@@ -46,9 +46,10 @@ advice() {
         10) echo 'give a TrueType font: OTTO (CFF) and an empty input are not read' ;;
         11) echo 'the font is damaged, or no TrueType font with outlines' ;;
         12) echo 'the file is cut' ;;
-        13 | 14 | 16 | 24) echo 'the font is damaged' ;;
+        13 | 14 | 16) echo 'the font is damaged' ;;
         15) echo "convert the font's map to format 4 or 12" ;;
         17 | 18 | 19 | 20 | 21 | 22 | 23) echo 'leave the characters with that glyph out' ;;
+        24) echo 'give a number below the number of glyphs; if none was given, the font is damaged' ;;
         25) echo 'give a number below the number of faces; a file that is no collection has face 0 alone' ;;
         30) echo 'push what the instruction needs first: the stack is empty when a program begins' ;;
         31) echo 'raise maxStackElements in maxp' ;;
@@ -126,7 +127,7 @@ advice_by_faces() {
 advice_by_list() {
     case $command in
         '') echo "$1" ;;
-        show) echo "--char takes one hexadecimal number up to 10FFFF, not '$list'; the letter A is 41" ;;
+        show | outline) echo "--char takes one hexadecimal number up to 10FFFF, not '$list'; the letter A is 41" ;;
         *) echo "$(fault_of_list): $1; the letter A is 41" ;;
     esac
 }
@@ -198,9 +199,9 @@ meant_in() {
 
 explain_command() {
     case $1 in
-        -*) say "the first word is the command, make, show or dump, not '$1'; 'mkstrike help' shows how it is written" ;;
+        -*) say "the first word is the command, make, show, outline or dump, not '$1'; 'mkstrike help' shows how it is written" ;;
         *)
-            meant=$(meant_by "$1" make show dump help)
+            meant=$(meant_by "$1" make show outline dump help)
             say "unknown command '$1'; ${meant:+did you mean $meant? }'mkstrike help' lists the commands"
             ;;
     esac
@@ -224,6 +225,7 @@ meant_by() {
         --characters | --unicode | --range | --text | -c) usual='--chars --char' ;;
         --output | --out | --outfile | --file) usual=-o ;;
         --index | --font-index | --fontindex | --number) usual=--face ;;
+        --gid | --glyph-id | --glyphid | --glyph-index) usual=--glyph ;;
         --no-hinting | --nohinting | --no-hint) usual=--unhinted ;;
         *) usual='' ;;
     esac

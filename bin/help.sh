@@ -4,7 +4,7 @@
 help() {
     case $1:${2-} in
         --version:* | -V:*) print_version ;;
-        *:make | *:show | *:dump) "help_$2" ;;
+        *:make | *:show | *:outline | *:dump) "help_$2" ;;
         *:) print_overview ;;
         *)
             say "there is no help for '$2'; 'mkstrike help' lists the commands"
@@ -19,7 +19,8 @@ mkstrike makes a bitmap font (BDF 2.1) from a TrueType font.
 
     mkstrike make --ppem N --chars LIST [--name NAME] [--property KEY=VALUE]... [--x11] [--refused WHAT] [--unhinted] [--dropout]
                   [--face N] [--hex] [FONT] [-o FILE]
-    mkstrike show --ppem N --char HEX [--unhinted] [--dropout] [--face N] [--hex] [FONT] [-o FILE]
+    mkstrike show --ppem N --char HEX|--glyph G [--unhinted] [--dropout] [--face N] [--hex] [FONT] [-o FILE]
+    mkstrike outline --ppem N --char HEX|--glyph G [--unhinted] [--face N] [--hex] [FONT] [-o FILE]
     mkstrike dump --of WHAT [--face N] [--hex] [FONT] [-o FILE]
     mkstrike help [COMMAND]
     mkstrike --version
@@ -31,7 +32,7 @@ Examples:
     mkstrike show --ppem 16 --char 41 font.ttf
 
 Without FONT the font is read from standard input. Without -o the output goes to standard output. Without any argument the first line of
-standard input is the command line. 'mkstrike help make' lists the options of make, and so for show and dump.
+standard input is the command line. 'mkstrike help make' lists the options of make, and so for the other commands.
 
 Documents:
 
@@ -88,12 +89,13 @@ END
 
 help_show() {
     cat <<END
-mkstrike show writes the picture of one character.
+mkstrike show writes the picture of one glyph.
 
-    mkstrike show --ppem N --char HEX [OPTION].. [FONT] [-o FILE]
+    mkstrike show --ppem N --char HEX|--glyph G [OPTION].. [FONT] [-o FILE]
 
       --ppem N      the size in pixels per em, 1 to 1024
-      --char HEX    the character, one hexadecimal number; the letter A is 41
+      --char HEX    the glyph of a character, one hexadecimal number; the letter A is 41
+      --glyph G     a glyph by its number in the font, counted from 0, in place of --char
       --unhinted    do not run the font's own programs
       --dropout     keep thin strokes whole
       --face N      the font of a collection, counted from 0; without it the first
@@ -102,6 +104,27 @@ mkstrike show writes the picture of one character.
       FONT          the font's file; else standard input
 
     mkstrike show --ppem 16 --char 41 font.ttf
+END
+}
+
+help_outline() {
+    cat <<END
+mkstrike outline writes the outline of one glyph, which its bits are of.
+
+    mkstrike outline --ppem N --char HEX|--glyph G [OPTION].. [FONT] [-o FILE]
+
+      --ppem N      the size in pixels per em, 1 to 1024
+      --char HEX    the glyph of a character, one hexadecimal number; the letter A is 41
+      --glyph G     a glyph by its number in the font, counted from 0, in place of --char
+      --unhinted    do not run the font's own programs
+      --face N      the font of a collection, counted from 0; without it the first
+      --hex         the font is hexadecimal text
+      -o FILE       write to FILE, which is there only if all was done; else to standard output
+      FONT          the font's file; else standard input
+
+A line has a contour, a point, on or off the curve, x and y in 1/64 pixels. The last line has the advance.
+
+    mkstrike outline --ppem 16 --char 41 font.ttf
 END
 }
 

@@ -170,6 +170,28 @@ uint32_t mkstrike_glyph(const uint8_t *font, size_t font_len, uint32_t face, uin
 uint32_t mkstrike_glyph_by_id(const uint8_t *font, size_t font_len, uint32_t face, uint16_t ppem, uint32_t mode, uint32_t glyph,
     uint8_t *pixels, size_t pixels_len, struct mkstrike_glyph_info *info, struct mkstrike_refused *refused);
 
+/* A point of an outline. */
+struct mkstrike_outline_point {
+    int32_t x, y;      /* in 1/64 pixels, to the right of the glyph's origin and above the baseline */
+    uint32_t on_curve; /* 1 on the curve, 0 off it */
+};
+
+/* What is told of an outline. */
+struct mkstrike_outlined {
+    size_t points, contours; /* how many there are, also of those that did not fit */
+    int32_t advance;         /* in 1/64 pixels */
+};
+
+/* Makes the outline of a glyph by its number, at a size of 1 to 1,024: the points that its pixels are made of, after hinting if the mode
+ * says so. As many points as fit go to the front of `points`, in the order of their numbers, and as many of the numbers of the contours'
+ * last points as fit to the front of `ends`; what lies after them stays as it was. A call with no room for either asks for the counts.
+ *
+ * A number that the font does not have is refused by MKSTRIKE_BAD_GLYPH_NUMBER. An outline that lies too far out or has too many pixels is
+ * made all the same. */
+uint32_t mkstrike_outline(const uint8_t *font, size_t font_len, uint32_t face, uint16_t ppem, uint32_t mode, uint32_t glyph,
+    struct mkstrike_outline_point *points, size_t points_len, uint16_t *ends, size_t ends_len, struct mkstrike_outlined *outlined,
+    struct mkstrike_refused *refused);
+
 /* One of many characters. */
 struct mkstrike_placed {
     struct mkstrike_glyph_info glyph; /* its numbers; all are 0 unless the status is MKSTRIKE_DONE */
@@ -273,6 +295,17 @@ MKSTRIKE_INLINE uint32_t mkstrike_glyph_by_id_or_null(const uint8_t *font, size_
         MKSTRIKE_OR(struct mkstrike_refused, refused, unwanted));
 }
 
+MKSTRIKE_INLINE uint32_t mkstrike_outline_or_null(const uint8_t *font, size_t font_len, uint32_t face, uint16_t ppem, uint32_t mode,
+    uint32_t glyph, struct mkstrike_outline_point *points, size_t points_len, uint16_t *ends, size_t ends_len,
+    struct mkstrike_outlined *outlined, struct mkstrike_refused *refused) {
+    uint64_t none = 0;
+    struct mkstrike_refused unwanted;
+    struct mkstrike_outlined not_told;
+    return mkstrike_outline(MKSTRIKE_OR(const uint8_t, font, none), font_len, face, ppem, mode, glyph,
+        MKSTRIKE_OR(struct mkstrike_outline_point, points, none), points_len, MKSTRIKE_OR(uint16_t, ends, none), ends_len,
+        MKSTRIKE_OR(struct mkstrike_outlined, outlined, not_told), MKSTRIKE_OR(struct mkstrike_refused, refused, unwanted));
+}
+
 MKSTRIKE_INLINE uint32_t mkstrike_glyphs_or_null(const uint8_t *font, size_t font_len, uint32_t face, uint16_t ppem, uint32_t mode,
     const uint32_t *chars, size_t chars_len, struct mkstrike_placed *glyphs, size_t glyphs_len, uint8_t *pixels, size_t pixels_len,
     struct mkstrike_drawn *drawn, struct mkstrike_refused *refused) {
@@ -300,6 +333,7 @@ MKSTRIKE_INLINE uint32_t mkstrike_make_or_null(const uint8_t *font, size_t font_
 #define mkstrike_glyph_ids mkstrike_glyph_ids_or_null
 #define mkstrike_glyph mkstrike_glyph_or_null
 #define mkstrike_glyph_by_id mkstrike_glyph_by_id_or_null
+#define mkstrike_outline mkstrike_outline_or_null
 #define mkstrike_glyphs mkstrike_glyphs_or_null
 #define mkstrike_make mkstrike_make_or_null
 

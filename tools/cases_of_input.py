@@ -30,7 +30,8 @@ BAD_ADDITIONS = ("--ppem 16", "--chars 41", "--hex --hex", "--name", "--name -x"
 BAD_SIZES = ("65536", "-1", "1.0", "", "16x", " 16", "0x10", "99999999999999999999")
 BAD_COMMANDS = ("make --ppem 16 --chars -41", "make --ppem 16 --chars --hex", "show", "show --ppem 16",
                 "show --char 41", "show --ppem 16 --chars 41", "show --ppem 16 --char 41 --name x",
-                "show --ppem 16 --char 41 42", "show --help", "show --ppem 65536 --char 41", "dump", "dump --of",
+                "show --ppem 16 --char 41 42", "show --ppem 16 --char 41 --glyph 1", "outline --ppem 16", "outline --of 1",
+                "show --help", "show --ppem 65536 --char 41", "dump", "dump --of",
                 "dump --of cvt", "dump --of 65536", "dump --of -1", "dump --of 2 --ppem 16", "dump --of 2 --of 2",
                 "dump 2")
 

@@ -295,6 +295,59 @@ static int glyphs(const struct request *r) {
     return 0;
 }
 
+/* ---- outlines */
+
+static uint32_t outlined(const struct request *r, uint32_t glyph, struct mkstrike_outline_point *points, size_t points_len, uint16_t *ends,
+    size_t ends_len, struct mkstrike_outlined *told, struct mkstrike_refused *refused) {
+    return mkstrike_outline(r->font, r->font_len, r->face, r->ppem, r->mode, glyph, points, points_len, ends, ends_len, told, refused);
+}
+
+/* With a point and a contour too few the others are the same, and what lies after them is as it was. */
+static void outline_short(const struct request *r, uint32_t glyph, const struct mkstrike_outline_point *points, const uint16_t *ends,
+    const struct mkstrike_outlined *whole) {
+    size_t n = whole->points, m = whole->contours;
+    struct mkstrike_outline_point *some = (struct mkstrike_outline_point *)bytes(n * sizeof *some);
+    uint16_t *few = (uint16_t *)bytes(m * sizeof *few);
+    struct mkstrike_outlined told;
+    if (n == 0 || m == 0) stop("an outline with points and no contours");
+    memset(some, 7, n * sizeof *some);
+    memset(few, 7, m * sizeof *few);
+    memset(&told, 0, sizeof told);
+    if (outlined(r, glyph, some, n - 1, few, m - 1, &told, NULL) != 0) stop("an outline that is refused where there is no room");
+    if (memcmp(some, points, (n - 1) * sizeof *some) != 0 || memcmp(few, ends, (m - 1) * sizeof *few) != 0) stop("other points without room");
+    if (some[n - 1].x != 0x07070707 || few[m - 1] != 0x0707) stop("points without room");
+    if (told.points != n || told.contours != m || told.advance != whole->advance) stop("other counts of an outline");
+    free(some);
+    free(few);
+}
+
+/* The outline of a glyph, in buffers of just its size, as mkstrike outline writes it. */
+static int outline(const struct request *r, uint32_t glyph) {
+    struct mkstrike_outlined told, again;
+    struct mkstrike_refused refused;
+    struct mkstrike_outline_point *points;
+    uint16_t *ends;
+    size_t i, contour = 0;
+    if (outlined(r, glyph, NULL, 0, NULL, 0, &told, &refused) != 0) {
+        put_refusal(&refused);
+        return 1;
+    }
+    points = (struct mkstrike_outline_point *)bytes(told.points * sizeof *points);
+    ends = (uint16_t *)bytes(told.contours * sizeof *ends);
+    if (outlined(r, glyph, points, told.points, ends, told.contours, &again, NULL) != 0) stop("no outline the second time");
+    if (again.points != told.points || again.contours != told.contours || again.advance != told.advance) stop("another outline");
+    if (told.points != 0) outline_short(r, glyph, points, ends, &told);
+    for (i = 0; i < told.points; i++) {
+        while (contour < told.contours && ends[contour] < i) contour++;
+        printf("%lu %lu %s %ld %ld\n", (unsigned long)contour, (unsigned long)i, points[i].on_curve == 1 ? "on" : "off", (long)points[i].x,
+            (long)points[i].y);
+    }
+    printf("advance %ld\n", (long)told.advance);
+    free(points);
+    free(ends);
+    return 0;
+}
+
 /* ---- many characters in one call */
 
 /* What a call of mkstrike_glyphs gave, in buffers of their own sizes. */
@@ -533,14 +586,15 @@ static void modes(const struct request *r) {
     due.table = due.opcode = 0;
     due.address = 0;
     for (bit = 2; bit < 32; bit++)
-        for (call = 0; call < 4; call++) {
+        for (call = 0; call < 5; call++) {
             uint32_t mode = (UINT32_C(1) << bit) | (uint32_t)(bit & 3), status;
             if (mode >> 8 == 1 && call != 0) continue; /* packed */
             memset(&refused, 7, sizeof refused);
             if (call == 0) status = mkstrike_make(r->font, 0, 0, 0, mode, NULL, 0, NULL, 0, NULL, 0, NULL, &refused);
             else if (call == 1) status = mkstrike_glyph(r->font, 0, 0, 0, mode, 0xFFFFFFFF, NULL, 0, NULL, &refused);
             else if (call == 2) status = mkstrike_glyph_by_id(r->font, 0, 0, 0, mode, 0, NULL, 0, NULL, &refused);
-            else status = mkstrike_glyphs(r->font, 0, 0, 0, mode, NULL, 0, NULL, 0, NULL, 0, NULL, &refused);
+            else if (call == 3) status = mkstrike_glyphs(r->font, 0, 0, 0, mode, NULL, 0, NULL, 0, NULL, 0, NULL, &refused);
+            else status = mkstrike_outline(r->font, 0, 0, 0, mode, 0, NULL, 0, NULL, 0, NULL, &refused);
             if (status != MKSTRIKE_BAD_MODE || memcmp(&refused, &due, sizeof due) != 0) stop("a bit of a mode that is not refused");
         }
 }
@@ -599,6 +653,8 @@ static void nulls(const struct request *r) {
     if (mkstrike_glyph(r->font, r->font_len, 0, 16, 0, code, NULL, 0, NULL, NULL) != 0) stop("NULL, mkstrike_glyph");
     if (mkstrike_glyph(NULL, 0, 0, 16, 0, code, NULL, 0, NULL, NULL) != MKSTRIKE_NOT_TRUE_TYPE) stop("NULL, mkstrike_glyph");
     if (mkstrike_glyph_by_id(r->font, r->font_len, 0, 16, 0, 0, NULL, 0, NULL, NULL) != 0) stop("NULL, mkstrike_glyph_by_id");
+    if (mkstrike_outline(r->font, r->font_len, 0, 16, 0, 0, NULL, 0, NULL, 0, NULL, NULL) != 0) stop("NULL, mkstrike_outline");
+    if (mkstrike_outline(NULL, 0, 0, 16, 0, 0, NULL, 0, NULL, 0, NULL, NULL) != MKSTRIKE_NOT_TRUE_TYPE) stop("NULL, mkstrike_outline");
     if (mkstrike_glyphs(r->font, r->font_len, 0, 16, 0, &code, 1, NULL, 0, NULL, 0, &drawn, NULL) != 0 || drawn.bytes == 0)
         stop("NULL, mkstrike_glyphs");
     if (mkstrike_glyphs(r->font, r->font_len, 0, 16, 0, NULL, 0, NULL, 0, NULL, 0, NULL, NULL) != 0) stop("NULL, mkstrike_glyphs");
@@ -613,7 +669,7 @@ static int calls(const struct request *r) {
     if (mkstrike_version() != MKSTRIKE_VERSION) stop("another release");
     if (sizeof(void *) == 8 && (sizeof(struct mkstrike_refused) != 40 || sizeof(struct mkstrike_font_info) != 16 ||
             sizeof(struct mkstrike_glyph_info) != 28 || sizeof(struct mkstrike_placed) != 40 || sizeof(struct mkstrike_drawn) != 24 ||
-            sizeof(struct mkstrike_told) != 32))
+            sizeof(struct mkstrike_told) != 32 || sizeof(struct mkstrike_outline_point) != 12 || sizeof(struct mkstrike_outlined) != 24))
         stop("another size of a struct");
     font_told(r);
     ids(r);
@@ -632,6 +688,9 @@ static long refuse_each(const struct request *r, char call) {
     struct mkstrike_refused refused;
     struct mkstrike_glyph_info g;
     struct mkstrike_drawn drawn;
+    struct mkstrike_outlined told_of;
+    static struct mkstrike_outline_point points[256], points_before[256];
+    static uint16_t ends[64], ends_before[64];
     static struct mkstrike_placed placed[256], placed_before[256];
     static uint8_t out[1 << 20], before[1 << 20], whole[1 << 20];
     long n;
@@ -643,6 +702,10 @@ static long refuse_each(const struct request *r, char call) {
         memset(before, 7, sizeof before);
         memset(placed, 7, sizeof placed);
         memset(placed_before, 7, sizeof placed);
+        memset(points, 7, sizeof points);
+        memset(points_before, 7, sizeof points);
+        memset(ends, 7, sizeof ends);
+        memset(ends_before, 7, sizeof ends);
         asked = held = 0;
         refused_at = n;
         if (call == 'm')
@@ -651,6 +714,8 @@ static long refuse_each(const struct request *r, char call) {
             status = mkstrike_glyph(r->font, r->font_len, r->face, r->ppem, r->mode | MKSTRIKE_PACKED, 'g', out, sizeof out, &g, &refused);
         else if (call == 'i')
             status = mkstrike_glyph_by_id(r->font, r->font_len, r->face, r->ppem, r->mode, 36, out, sizeof out, &g, &refused);
+        else if (call == 'o')
+            status = outlined(r, 36, points, 256, ends, 64, &told_of, &refused);
         else
             status = mkstrike_glyphs(r->font, r->font_len, r->face, r->ppem, r->mode, r->chars, r->chars_len, placed, 256, out,
                 sizeof out, &drawn, &refused);
@@ -659,6 +724,7 @@ static long refuse_each(const struct request *r, char call) {
         if (asked < n && status == 0) return n - 1;
         if (call == 'm' && status == 0 && memcmp(out, whole, sizeof out) == 0) continue;
         if (status != MKSTRIKE_OUT_OF_MEMORY || refused.number != status) stop("another answer to refused memory");
+        if (memcmp(points, points_before, sizeof points) != 0 || memcmp(ends, ends_before, sizeof ends) != 0) stop("a refusal changed points");
         if (memcmp(out, before, sizeof out) != 0 || memcmp(placed, placed_before, sizeof placed) != 0) stop("a refusal changed a buffer");
     }
 }
@@ -727,6 +793,10 @@ int main(int argc, char **argv) {
             (uint32_t)strtoul(argv[6], NULL, 16));
         return strcmp(mode, "strike") == 0 ? strike(&shared) : strcmp(mode, "glyphs") == 0 ? glyphs(&shared) : many(&shared);
     }
+    if (argc == 6 && strcmp(mode, "outline") == 0) {
+        shared = request_of(argv[2], atoi(argv[3]), (uint32_t)atoi(argv[4]), 0x20, 0x20);
+        return outline(&shared, (uint32_t)strtoul(argv[5], NULL, 10));
+    }
     if (argc == 3 && strcmp(mode, "requests") == 0) {
         shared = request_of(argv[2], 16, 0, 0x20, 0x20);
         return requests(&shared);
@@ -742,7 +812,7 @@ int main(int argc, char **argv) {
         static struct request second;
         second = request_of(argv[2], 33, MKSTRIKE_DROPOUT, 0x20, 0x7E);
         shared = request_of(argv[2], 16, MKSTRIKE_HINTED, 0x20, 0x7E);
-        for (call = "mgis"; *call != 0; call++) count += refuse_each(&shared, *call) + refuse_each(&second, *call);
+        for (call = "mgios"; *call != 0; call++) count += refuse_each(&shared, *call) + refuse_each(&second, *call);
         printf("%ld\n", count);
         return 0;
     }

@@ -1,6 +1,6 @@
 // What tools/check_web asks the module in Node: node check_web.mjs MODULE < REQUESTS. A request is a line of JSON with the path of a font, a
-// size, a mode, characters and a name; the answer is a line with the SHA-256 and the counts of the strike, or the refusal's line. The
-// glyphs of the same characters, made in one call, have to be those of the strike.
+// size, a mode, characters and a name; the answer is a line with the SHA-256 and the counts of the strike and the SHA-256 of an outline, or
+// the refusal's line. The glyphs of the same characters, made in one call, have to be those of the strike.
 import { createHash } from 'node:crypto';
 import { readFileSync } from 'node:fs';
 import { createInterface } from 'node:readline';
@@ -36,13 +36,22 @@ function differences({ ppem, mode, chars }, text) {
   return '';
 }
 
+// The SHA-256 of the outline of the 34th character, or of the first, as mkstrike outline writes it.
+function outlineOf({ ppem, mode, chars }) {
+  const made = mkstrike.outline(ppem, mode, chars[33] ?? chars[0]);
+  if (!made) return 'none';
+  let at = 0;
+  const lines = made.contours.flatMap((points, k) => points.map(({ x, y, on }) => `${k} ${at++} ${on ? 'on' : 'off'} ${x} ${y}`));
+  return createHash('sha256').update([...lines, `advance ${made.advance}`, ''].join('\n')).digest('hex');
+}
+
 function answer(request) {
   if (request.font !== path) mkstrike.setFont(new Uint8Array(readFileSync(path = request.font)));
   const made = mkstrike.make(request.ppem, request.mode, request.chars, request.name);
   if (made.refused) return lineOf(made.refused, mkstrike.reason(made.refused.number));
   const { glyphs, missing, strays, steps } = made.told, text = Buffer.from(made.text);
   const sum = createHash('sha256').update(text).digest('hex');
-  return `${sum} ${glyphs} ${missing} ${strays} ${steps}${differences(request, text.toString('latin1'))}`;
+  return `${sum} ${glyphs} ${missing} ${strays} ${steps} ${outlineOf(request)}${differences(request, text.toString('latin1'))}`;
 }
 
 for await (const line of createInterface({ input: process.stdin })) console.log(answer(JSON.parse(line)));

@@ -77,6 +77,12 @@ ROWS = [
     ("many numbers", ["make", "--ppem", "16", "--chars", MANY], SANS, 1, "mkstrike: 61 BadChars", "the list has more than 65,536 numbers"),
     ("seven digits", ["make", "--ppem", "16", "--chars", "0000041"], SANS, 1, "mkstrike: 61 BadChars", "more than six digits"),
     ("show of several", ["show", "--ppem", "16", "--char", "41,42"], SANS, 1, "mkstrike: 61 BadChars", "--char takes one hexadecimal number"),
+    ("outline --char g", ["outline", "--ppem", "16", "--char", "g"], SANS, 1, "mkstrike: 61 BadChars", "--char takes one hexadecimal number up to 10FFFF, not 'g'"),
+    ("a glyph by a letter", ["show", "--ppem", "16", "--glyph", "A"], SANS, 2, USAGE, "--glyph takes a whole number from 0 to 65535, not 'A'"),
+    ("a glyph chosen twice", ["outline", "--ppem", "16", "--char", "41", "--glyph", "36"], SANS, 2, USAGE, "--char and --glyph can't be given together"),
+    ("no glyph chosen", ["outline", "--ppem", "16"], SANS, 2, USAGE, "--char or --glyph is missing; 'mkstrike help outline'"),
+    ("a glyph past the last", ["show", "--ppem", "16", "--glyph", "65000"], SANS, 1, "mkstrike: 24 BadGlyphNumber 65000", "give a number below the number"),
+    ("--gid", ["outline", "--ppem", "16", "--gid", "36"], SANS, 2, USAGE, "unknown option '--gid'; did you mean '--glyph'?"),
     ("make all missing", ["make", "--ppem", "16", "--chars", "4e00-4e10"], SANS, 0, COUNTS, NO_GLYPH),
     ("one missing", ["make", "--ppem", "16", "--chars", "41,4e00"], SANS, 0, COUNTS, "1 of the requested characters is missing"),
     ("show of missing", ["show", "--ppem", "16", "--char", "4e00"], SANS, 0, "", NONE),
@@ -106,7 +112,7 @@ ROWS = [
     ("duplicate --chars", ["--chars", "41"], SANS, 2, USAGE, "--chars is given twice"),
     ("duplicate with =", ["--chars=41"], SANS, 2, USAGE, "'--chars=41' is given twice"),
     ("duplicate flag", ["--hex", "--hex"], SANS, 2, USAGE, "'--hex' is given twice"),
-    ("command missing", ["--ppem", "16", "--chars", "41"], SANS, 2, USAGE, "the first word is the command, make, show or dump, not '--ppem'"),
+    ("command missing", ["--ppem", "16", "--chars", "41"], SANS, 2, USAGE, "the first word is the command, make, show, outline or dump, not '--ppem'"),
     ("command misspelt", ["mkae", "--ppem", "16"], SANS, 2, USAGE, "unknown command 'mkae'; did you mean 'make'?"),
     ("font in place of the command", ["font.ttf"], SANS, 2, USAGE, "unknown command 'font.ttf'; 'mkstrike help' lists the commands"),
     ("options before command", ["--ppem", "16", "make", "--chars", "41"], SANS, 2, USAGE, "the first word is the command"),
@@ -129,7 +135,7 @@ ROWS = [
     ("dump glyph name", ["dump", "--of", "Aacute"], SANS, 2, USAGE, "the number of a glyph, not 'Aacute'"),
     ("a glyph whose program halts", ["make", "--ppem", "16", "--chars", "19c"], SANS, 1, "mkstrike: 30 StackUnder .*", "with --unhinted no program"),
 ]
-ALONE = ("make", "show", "dump", "mkae", "font.ttf", "-h", "help", "--version", "-V")
+ALONE = ("make", "show", "dump", "mkae", "font.ttf", "-h", "help", "--version", "-V", "outline")
 
 
 def mistakes(sans):

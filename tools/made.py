@@ -156,15 +156,22 @@ class Font:
 
     def glyph(self, number, ppem, hinted, closed=False):
         """A glyph at a size as the text has it; `closed` says whether with drop-out control."""
-        advance, bearing = self.metrics[number] if self.metrics else (self.advance, 0)
+        advance, bearing = self.metrics_of(number)
         return self.glyph_of_model(self.glyphs[number], ppem, hinted, closed, advance, bearing)
+
+    def metrics_of(self, number):
+        """A glyph's advance and left side bearing."""
+        return self.metrics[number] if self.metrics else (self.advance, 0)
+
+    def span(self, model, ppem, hinted, advance, bearing):
+        """Where a glyph's origin and the next one's lie, in 1/64 pixels."""
+        start = due.scaled(model.x_min - bearing, ppem, self.upem)
+        end = start + due.scaled(advance, ppem, self.upem)
+        return (due.to_pixel(start), due.to_pixel(end)) if hinted else (start, end)
 
     def look_of(self, model, ppem, hinted, closed, advance, bearing):
         """The same of a glyph's model, advance and left side bearing."""
-        start = due.scaled(model.x_min - bearing, ppem, self.upem)
-        end = start + due.scaled(advance, ppem, self.upem)
-        if hinted:
-            start, end = due.to_pixel(start), due.to_pixel(end)
+        start, end = self.span(model, ppem, hinted, advance, bearing)
         steps, strays = self.counts_of_model(model) if hinted else (0, 0)
         bits = model.closed_bits(self, ppem, -start) if closed else model.bits(self, ppem, hinted, -start)
         return due.Glyph(bits, advance, end - start, steps, strays)
@@ -182,7 +189,20 @@ class Font:
     def show(self, code, ppem, hinted=True, closed=False):
         """What is due of a character's picture."""
         number = self.number_of(code)
-        return due.picture(self.glyph(number, ppem, hinted, closed).bits) if number else due.listed(["missing"])
+        return self.show_number(number, ppem, hinted, closed) if number else due.listed(["missing"])
+
+    def show_number(self, number, ppem, hinted=True, closed=False):
+        """What is due of a glyph's picture."""
+        return due.picture(self.glyph(number, ppem, hinted, closed).bits)
+
+    def outline(self, number, ppem, hinted=True):
+        """What is due of a glyph's outline, if its program moves no point."""
+        start, end = self.span(self.glyphs[number], ppem, hinted, *self.metrics_of(number))
+        contours, lines = self.glyphs[number].placed(self, ppem), []
+        for k, contour in enumerate(contours):
+            for x, y, on in contour:
+                lines.append("%d %d %s %d %d" % (k, len(lines), "on" if on else "off", x - start, y))
+        return due.listed(lines + ["advance %d" % (end - start)])
 
 
 def fixture():

@@ -116,7 +116,7 @@ function draw() {
   const textChars = charsOfText($('text').value).slice(0, MOST_TEXT);
   $('saved').textContent = '';
   state.started = performance.now();
-  state.next = { id: ++state.jobs, glyphs: [], refused: new Map(), missing: 0 };
+  state.next = { id: ++state.jobs, look: look.main, glyphs: [], refused: new Map(), missing: 0 };
   state.worker.postMessage({ kind: 'draw', id: state.jobs, ...look, textChars, chars });
   busy(wantsAll() && !state.font.chars ? 'looking which characters the font has' : 'drawing');
 }
@@ -163,6 +163,12 @@ const receive = {
     drawText();
     document.body.dataset.ms = (performance.now() - state.started).toFixed(1);
     $('status').textContent = `Drawn in ${Math.ceil(performance.now() - state.started)} ms.`;
+  },
+
+  outline(data) {
+    state.outline = data;
+    document.body.dataset.outline = data.contours.reduce((sum, it) => sum + it.length, 0);
+    drawGlyph();
   },
 
   sheet({ id, glyphs, pixels, done, total }) {
@@ -467,7 +473,36 @@ function choose(at) {
   drawGlyph();
 }
 
-// Draws the chosen glyph large, with its box, its baseline, its origin and its advance.
+// Asks the worker for the outline of a character of the sheet, once.
+function askOutline(code) {
+  const { id, look } = state.sheet;
+  if (!look || (state.asked?.id === id && state.asked.code === code)) return;
+  state.asked = { id, code };
+  state.worker.postMessage({ kind: 'outline', id, code, ...look });
+}
+
+// Draws contours of points on and off the curve; `place` tells where a point lies on the canvas.
+function strokeOutline(context, contours, place) {
+  const middle = (p, q) => ({ x: (p.x + q.x) / 2, y: (p.y + q.y) / 2, on: true });
+  context.beginPath();
+  for (const points of contours.filter((it) => it.length)) {
+    const first = points.findIndex((it) => it.on);
+    const turned = first < 0 ? points : [...points.slice(first + 1), ...points.slice(0, first)];
+    const start = first < 0 ? middle(points[points.length - 1], points[0]) : points[first];
+    let control = null;
+    context.moveTo(...place(start));
+    for (const point of [...turned, start]) {
+      if (!point.on && control) context.quadraticCurveTo(...place(control), ...place(middle(control, point)));
+      if (point.on && control) context.quadraticCurveTo(...place(control), ...place(point));
+      if (point.on && !control) context.lineTo(...place(point));
+      control = point.on ? null : point;
+    }
+    context.closePath();
+  }
+  context.stroke();
+}
+
+// Draws the chosen glyph large, with its box, its baseline, its origin, its advance and its outline.
 function drawGlyph() {
   const glyph = state.sheet.glyphs[state.sheet.chosen], numbers = $('glyph-numbers');
   if (!glyph || glyph.refused) {
@@ -500,6 +535,11 @@ function drawGlyph() {
     context.setLineDash([3 * thick, 2 * thick]);
     context.strokeRect(x0 * side, y0 * side, glyph.width * side, glyph.height * side);
   }
+  if (state.outline?.id === state.sheet.id && state.outline.code === glyph.code) {
+    context.strokeStyle = colour('outline');
+    context.setLineDash([]);
+    strokeOutline(context, state.outline.contours, ({ x, y }) => [(x / 64 - left) * side, (top - y / 64) * side]);
+  } else askOutline(glyph.code);
   $('glyph-name').textContent = nameOf(glyph.code);
   const facts = { box: `${glyph.width} × ${glyph.height}`, left: glyph.left, bottom: glyph.bottom, advance: `${glyph.dwidth} pixels`, 'scaled advance': `${glyph.swidth} / 1000 em` };
   numbers.replaceChildren(...Object.entries(facts).flatMap(([name, value]) => [

@@ -114,6 +114,9 @@ async function take(data) {
     under.draw = under.save = under.list = null;
     mkstrike.setFont(data.bytes, data.face);
     under.list = list(data);
+  } else if (data.kind === 'outline') {
+    const { id, ppem, mode, code } = data;
+    postMessage({ kind: 'outline', id, code, contours: mkstrike.outline(ppem, mode, code)?.contours ?? [] });
   } else {
     under[data.kind] = { draw, save }[data.kind](data);
     run();

@@ -11,6 +11,8 @@ mod lines;
 #[cfg(test)]
 mod lists;
 #[cfg(test)]
+mod outlines;
+#[cfg(test)]
 mod properties;
 #[cfg(test)]
 mod readers;

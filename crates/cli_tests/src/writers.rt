@@ -9,8 +9,8 @@ use std::io::Write;
 use std::process::Abort;
 use std::test::Fail;
 
-/// What is written to a writer that never fails, of a strike and of pictures.
-const TEXTS: [(&str, &[u8]); 3] = [
+/// What is written to a writer that never fails, of a strike, of pictures and of an outline.
+const TEXTS: [(&str, &[u8]); 4] = [
     (
         "mkstrike|make|--hex|--ppem=16|--chars=20,41-42|--name=F1|--unhinted",
         STRIKE,
@@ -20,6 +20,10 @@ const TEXTS: [(&str, &[u8]); 3] = [
         b"#####\n#####\n##.##\n#####\n#####\n",
     ),
     ("mkstrike|show|--hex|--ppem=16|--char=20", b"empty\n"),
+    (
+        "mkstrike|outline|--hex|--ppem=16|--char=42",
+        b"0 0 on 0 0\n0 1 off 64 128\n0 2 on 128 0\nadvance 384\n",
+    ),
 ];
 
 /// The writer fails after each number of bytes. Exactly these are written.

@@ -4,21 +4,24 @@ use Rattle.std.proofs.Common.{◌≡◌, ◌⊎◌, inl, inr, refl, ℕ, List, [
 use Rattle.std.proofs.Common.{Result, Ok, Err, option_map}
 use Rattle.std.specs.Prelude.{IsOk, is_some, unwrap_or, if◌then◌else◌, option_and_then}
 use Rattle.clap.specs.Words.{Row, Text, all_of, first_of}
-use Rattle.fx_fixed.specs.Chain.{◌>>=◌, refuse, wanted}
+use Rattle.fx_fixed.specs.Chain.{◌>>=◌, map_ok, refuse, wanted}
 use Rattle.fx_bdf.specs.Properties.{PropertyView}
 use Rattle.fx_machine.specs.declared.program.FontProgram.{FontProgram}
 use Rattle.fx_request.specs.declared.refusal.Refusal.TheVariants.{BadChars}
+use Rattle.fx_request.specs.declared.request.Choice.TheVariants.{Character, Number}
 use Rattle.fx_request.specs.declared.request.OnRefused.TheVariants.{Stop}
 use Rattle.fx_arguments.specs.declared.fault.Fault.{Fault}
 use Rattle.fx_arguments.specs.declared.fault.Fault.TheVariants.{Usage, Early}
 use Rattle.fx_arguments.specs.declared.verb.Verb.{Verb}
-use Rattle.fx_arguments.specs.declared.verb.Verb.TheVariants.{Make, Show, Dump}
+use Rattle.fx_arguments.specs.declared.verb.Verb.TheVariants.{Make, Show, Outline, Dump}
 use Rattle.fx_arguments.specs.Arguments.{dump_app, dump_by, face_by, is_command, make_app, make_by, named_refused, refused_by, rows_by, show_app, show_by}
-use Rattle.fx_arguments.specs.Arguments.{command_of_dump, command_of_make, command_of_show, size_by, size_of, unsigned_of, which_of}
+use Rattle.fx_arguments.specs.Arguments.{choice_by, command_of_dump, command_of_make, command_of_outline, command_of_show, outline_app, outline_by, shown_by}
+use Rattle.fx_arguments.specs.Arguments.{size_by, size_of, unsigned_of, which_of}
+use Rattle.fx_arguments.specs.Chars.{number_of}
 use Rattle.fx_arguments.specs.CommandLine.{MistakesAreUsage, command_of, command_of_explain}
 use Rattle.fx_arguments.specs.Commands.{CommandView}
 use Rattle.fx_arguments.specs.Mistakes.{checked, checked_by, command_said, dump_checked, face_checked, make_checked, properties_checked}
-use Rattle.fx_arguments.specs.Mistakes.{refused_checked, required, show_checked, size_checked, taken_if, verb_checked}
+use Rattle.fx_arguments.specs.Mistakes.{choice_checked, outline_checked, refused_checked, required, show_checked, shown_checked, size_checked, taken_if, verb_checked}
 use Rattle.fx_arguments.specs.Properties.{properties_of, property_of}
 
 -- a step fails as usage and is explained, or passes and is not
@@ -92,12 +95,41 @@ make_ends rows =
     step _ _ _ _ (same_refused (first_of (codes "refused") rows)) (λ _ _.
     last _ _ _ (same_face (first_of (codes "face") rows)) (λ _. no_usage _ _)))))
 
+-- a character, which may be malformed but is no usage fault
+character_ends : (o : Option ℕ) → Ends {B = Unit {0}} (map_ok Character (wanted o (Early BadChars))) (Ok tt)
+character_ends None = inr (λ e. absurd (cc), refl)
+character_ends (Some code) = inr (λ e. absurd (cc), refl)
+
+number_ends : (o : Option ℕ) (line : Text) → Ends (map_ok Number (wanted o Usage)) (refuse (not (is_some o)) line)
+number_ends None line = inl (refl, (line, refl))
+number_ends (Some number) line = inr (λ e. absurd (cc), refl)
+
+choice_ends : (character number : Option Text) → Ends (choice_by character number) (choice_checked character number)
+choice_ends (Some character) None = character_ends (number_of character)
+choice_ends None (Some number) = number_ends (size_of number) _
+choice_ends None None = inl (refl, (_, refl))
+choice_ends (Some character) (Some number) = inl (refl, (_, refl))
+
+-- what is due last, and a value that is made of it
+value_last : {A B C : Type 0} (a : Result A Fault) (b : Result B Text) (f : A → C) → Ends a b → Ends (a >>= λ x. Ok (f x)) b
+value_last (Ok x) b f (inl (e, d)) = absurd (cc)
+value_last (Ok x) b f (inr (none, d)) = inr (λ e. absurd (cc), d)
+value_last (Err fault) b f (inl (e, d)) = inl (cc, d)
+value_last (Err fault) b f (inr (none, d)) = inr (λ e. none (cc), d)
+
+shown_ends : (rows : List Row) → Ends (shown_by rows) (shown_checked rows)
+unfolding shown_checked
+shown_ends rows =
+    step _ _ _ _ (same_size (first_of (codes "ppem") rows)) (λ ppem _.
+    value_last _ _ _ (choice_ends (first_of (codes "char") rows) (first_of (codes "glyph") rows)))
+
 show_ends : (rows : List Row) → Ends (show_by rows) (show_checked rows)
 unfolding show_checked
-show_ends rows =
-    step _ _ _ _ (same_size (first_of (codes "ppem") rows)) (λ _ _.
-    step _ _ _ _ (same_required (codes "char") (first_of (codes "char") rows)) (λ _ _.
-    last _ _ _ (same_face (first_of (codes "face") rows)) (λ _. no_usage _ _)))
+show_ends rows = step _ _ _ _ (same_face (first_of (codes "face") rows)) (λ face _. value_last _ _ _ (shown_ends rows))
+
+outline_ends : (rows : List Row) → Ends (outline_by rows) (outline_checked rows)
+unfolding outline_checked
+outline_ends rows = step _ _ _ _ (same_face (first_of (codes "face") rows)) (λ face _. value_last _ _ _ (shown_ends rows))
 
 -- the program's name, which is required and must be one
 named : {C : Type 0} (o : Option Text) (f : Result (Unit {0}) Text) (k : FontProgram → Result C Fault)
@@ -129,21 +161,28 @@ show_words : (words : List Text) → Ends (command_of_show words) (verb_checked 
 unfolding verb_checked
 show_words words = taken_or_not Show words (rows_by show_app words) show_by show_ends
 
+outline_words : (words : List Text) → Ends (command_of_outline words) (verb_checked Outline words)
+unfolding verb_checked
+outline_words words = taken_or_not Outline words (rows_by outline_app words) outline_by outline_ends
+
 dump_words : (words : List Text) → Ends (command_of_dump words) (verb_checked Dump words)
 unfolding verb_checked
 dump_words words = taken_or_not Dump words (rows_by dump_app words) dump_by dump_ends
 
 -- by the command
-by_command : (make show dump explain : Bool) (words : List Text) (command : CommandView) (line : Text)
+by_command : (make show outline dump explain : Bool) (words : List Text) (command : CommandView) (line : Text)
     → Ends (if make then command_of_make words else (if show then command_of_show words
-    else (if dump then command_of_dump words else (if explain then Ok command else Err Usage))))
+    else (if outline then command_of_outline words
+    else (if dump then command_of_dump words else (if explain then Ok command else Err Usage)))))
     (if make then verb_checked Make words else (if show then verb_checked Show words
-    else (if dump then verb_checked Dump words else (if explain then Ok tt else Err line))))
-by_command true show dump explain words command line = make_words words
-by_command false true dump explain words command line = show_words words
-by_command false false true explain words command line = dump_words words
-by_command false false false true words command line = inr (λ e. absurd (cc), refl)
-by_command false false false false words command line = inl (refl, (line, refl))
+    else (if outline then verb_checked Outline words
+    else (if dump then verb_checked Dump words else (if explain then Ok tt else Err line)))))
+by_command true show outline dump explain words command line = make_words words
+by_command false true outline dump explain words command line = show_words words
+by_command false false true dump explain words command line = outline_words words
+by_command false false false true explain words command line = dump_words words
+by_command false false false false true words command line = inr (λ e. absurd (cc), refl)
+by_command false false false false false words command line = inl (refl, (line, refl))
 
 told : {A B : Type 0} (a : Result A Fault) (b : Result B Text) → Ends a b
     → (IsOk b → a ≡ Err Usage → ⊥) × ((a ≡ Err Usage → ⊥) → IsOk b)
@@ -154,6 +193,7 @@ pub mistakes : MistakesAreUsage
 unfolding checked
 mistakes arguments =
     told (command_of arguments) (checked (drop 1 arguments)) (by_command (is_command (codes "make") (drop 1 arguments))
-    (is_command (codes "show") (drop 1 arguments)) (is_command (codes "dump") (drop 1 arguments))
+    (is_command (codes "show") (drop 1 arguments)) (is_command (codes "outline") (drop 1 arguments))
+    (is_command (codes "dump") (drop 1 arguments))
     (is_command (codes "explain") (drop 1 arguments)) (drop 1 arguments) (command_of_explain (drop 2 arguments))
     (command_said (drop 1 arguments)))

@@ -1,5 +1,5 @@
 -- The options of the commands, as clap sees them.
--- Serves the arguments of the commands: `read_make`, `read_show`, `read_dump`, `size_of`, `face_of`.
+-- Serves the arguments of the commands: `read_make`, `read_show`, `read_outline`, `read_dump`, `size_of`, `face_of`.
 use Rattle.std.proofs.Common.{◌≡◌, ◌∙◌, ℕ, ◌<◌, ◌^◌, List, [], ◌∷◌, length, refl, sym, ap, ap₂, Option, Some, None, Bool, true, false}
 use Rattle.std.proofs.Common.{Result, Ok, Err, ◌&&◌, ◌||◌, subst, ◌⊎◌, inl, inr}
 use Rattle.fx_fixed.specs.Chain.{◌>>=◌, GivesUnless, wanted}
@@ -17,7 +17,7 @@ use Rattle.clap.proofs.OnLiterals.{clap_on_literals}
 use Rattle.clap.proofs.WalkLemmas.{both}
 use Rattle.clap.specs.Words.{App, IsAmong, Kinds, Row, Text, fault_of, is_simple, is_simple_and_free, matches_of}
 use Rattle.clap.specs.declared.error.kind.ErrorKind.{ErrorKind}
-use Rattle.fx_arguments.specs.Arguments.{dump_app, is_bare, is_some_kind, make_app, rows_by, show_app, unsigned_of}
+use Rattle.fx_arguments.specs.Arguments.{dump_app, is_bare, is_some_kind, make_app, outline_app, rows_by, show_app, unsigned_of}
 use Rattle.fx_arguments.specs.Commands.{CommandView, Refuses, seen}
 
 pub make_is_simple : is_simple make_app ≡ true
@@ -35,6 +35,14 @@ show_is_simple = refl
 pub show_is_free : is_simple_and_free show_app ≡ true
 unfolding show_app clap_on_literals
 show_is_free = refl
+
+pub outline_is_simple : is_simple outline_app ≡ true
+unfolding outline_app clap_on_literals
+outline_is_simple = refl
+
+pub outline_is_free : is_simple_and_free outline_app ≡ true
+unfolding outline_app clap_on_literals
+outline_is_free = refl
 
 pub dump_is_simple : is_simple dump_app ≡ true
 unfolding dump_app clap_on_literals

@@ -11,18 +11,21 @@ use Rattle.clap.specs.Simple.{App, new_app, new_rule, with_rule, matches_of}
 use Rattle.clap.specs.Faults.{fault_of}
 use Rattle.clap.specs.Kinds.{Kinds}
 use Rattle.clap.specs.declared.builder.action.ArgAction.TheVariants.{Append, Set, SetTrue}
-use Rattle.fx_fixed.specs.Chain.{◌>>=◌, wanted}
+use Rattle.fx_fixed.specs.Chain.{◌>>=◌, map_ok, wanted}
 use Rattle.fx_machine.specs.declared.program.FontProgram.{FontProgram}
 use Rattle.fx_machine.specs.declared.program.FontProgram.TheVariants.{Fpgm, Prep, Glyph}
+use Rattle.fx_request.specs.declared.request.Choice.{Choice}
+use Rattle.fx_request.specs.declared.request.Choice.TheVariants.{Character, Number}
 use Rattle.fx_request.specs.declared.request.Mode.{Mode}
 use Rattle.fx_request.specs.declared.request.OnRefused.{OnRefused}
 use Rattle.fx_request.specs.declared.request.OnRefused.TheVariants.{Stop, LeaveOut, Unhinted}
 use Rattle.fx_request.specs.declared.refusal.Refusal.TheVariants.{BadChars}
+use Rattle.fx_arguments.specs.declared.command.Show.{Show}
 use Rattle.fx_arguments.specs.declared.fault.Fault.{Fault}
 use Rattle.fx_arguments.specs.declared.fault.Fault.TheVariants.{Usage, Early}
 use Rattle.fx_arguments.specs.Chars.{number_of, numbers_of_list}
 use Rattle.fx_arguments.specs.Properties.{properties_of}
-use Rattle.fx_arguments.specs.Commands.{CommandView, strike, picture, listing}
+use Rattle.fx_arguments.specs.Commands.{CommandView, strike, picture, outline, listing}
 
 -- an option `--id VALUE`
 abbrev pub option_rule : Text → Rule
@@ -45,8 +48,14 @@ make_app = with_rule (with_rule (with_rule (with_rule (with_rule (with_rule (wit
 
 -- the command `show` with its options
 unfoldable pub show_app : App
-show_app = with_rule (with_rule (with_rule (with_rule (with_rule (with_rule (new_app (codes "show")) (option_rule (codes "ppem")))
-    (option_rule (codes "char"))) (flag_rule (codes "unhinted"))) (flag_rule (codes "dropout")))
+show_app = with_rule (with_rule (with_rule (with_rule (with_rule (with_rule (with_rule (new_app (codes "show"))
+    (option_rule (codes "ppem"))) (option_rule (codes "char"))) (option_rule (codes "glyph"))) (flag_rule (codes "unhinted")))
+    (flag_rule (codes "dropout"))) (option_rule (codes "face"))) (flag_rule (codes "hex"))
+
+-- the command `outline` with its options
+unfoldable pub outline_app : App
+outline_app = with_rule (with_rule (with_rule (with_rule (with_rule (with_rule (new_app (codes "outline"))
+    (option_rule (codes "ppem"))) (option_rule (codes "char"))) (option_rule (codes "glyph"))) (flag_rule (codes "unhinted")))
     (option_rule (codes "face"))) (flag_rule (codes "hex"))
 
 -- the command `dump` with its options
@@ -125,18 +134,33 @@ make_by rows = do
     hex = is_given (codes "hex") rows;
   })
 
--- what the values of `show`'s options ask for: the size and the character are required
+-- how a glyph is chosen: by a character or by its number, and not by both
+abbrev pub choice_by : Option Text → Option Text → Result Choice Fault
+choice_by (Some character) None = map_ok Character (wanted (number_of character) (Early BadChars))
+choice_by None (Some number) = map_ok Number (wanted (size_of number) Usage)
+choice_by None None = Err Usage
+choice_by (Some character) (Some number) = Err Usage
+
+-- the glyph that the values of `show`'s or `outline`'s options ask for: the size and the choice are required
+abbrev pub shown_by : List Row → Result Show Fault
+shown_by rows = do
+  ppem ← size_by (first_of (codes "ppem") rows)
+  choice ← choice_by (first_of (codes "char") rows) (first_of (codes "glyph") rows)
+  Ok (record { ppem = ppem; choice = choice; mode = mode_by rows })
+
+-- what the values of `show`'s options ask for
 abbrev pub show_by : List Row → Result CommandView Fault
 show_by rows = do
-  ppem ← size_by (first_of (codes "ppem") rows)
-  character ← wanted (first_of (codes "char") rows) Usage
   face ← face_by (first_of (codes "face") rows)
-  code ← wanted (number_of character) (Early BadChars)
-  Ok (record {
-    task = picture (record { ppem = ppem; code = code; mode = mode_by rows });
-    face = face;
-    hex = is_given (codes "hex") rows;
-  })
+  show ← shown_by rows
+  Ok (record { task = picture show; face = face; hex = is_given (codes "hex") rows })
+
+-- what those of `outline`'s ask for
+abbrev pub outline_by : List Row → Result CommandView Fault
+outline_by rows = do
+  face ← face_by (first_of (codes "face") rows)
+  show ← shown_by rows
+  Ok (record { task = outline show; face = face; hex = is_given (codes "hex") rows })
 
 -- a program's name: `fpgm`, `prep`, or the number of a glyph
 abbrev pub which_of : Text → Option FontProgram
@@ -170,6 +194,9 @@ command_of_make arguments = wanted (rows_by make_app arguments) Usage >>= make_b
 
 abbrev pub command_of_show : List Text → Result CommandView Fault
 command_of_show arguments = wanted (rows_by show_app arguments) Usage >>= show_by
+
+abbrev pub command_of_outline : List Text → Result CommandView Fault
+command_of_outline arguments = wanted (rows_by outline_app arguments) Usage >>= outline_by
 
 abbrev pub command_of_dump : List Text → Result CommandView Fault
 command_of_dump arguments = wanted (rows_by dump_app arguments) Usage >>= dump_by

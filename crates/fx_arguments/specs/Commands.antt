@@ -11,7 +11,7 @@ use Rattle.fx_arguments.specs.declared.command.Command.{Command}
 use Rattle.fx_arguments.specs.declared.command.Make.{Make}
 use Rattle.fx_arguments.specs.declared.command.Show.{Show}
 use Rattle.fx_arguments.specs.declared.command.Task.{Task}
-use Rattle.fx_arguments.specs.declared.command.Task.TheVariants.{Strike, Picture, Listing, Explanation}
+use Rattle.fx_arguments.specs.declared.command.Task.TheVariants.{Strike, Picture, Outline, Listing, Explanation}
 use Rattle.fx_arguments.specs.declared.fault.Fault.{Fault}
 use Rattle.fx_arguments.specs.declared.fault.Fault.TheVariants.{Usage, Early}
 
@@ -26,10 +26,11 @@ pub record MakeView : Type 0 where
   pub mode : Mode
   pub on_refused : OnRefused
 
--- a strike, the picture of a character, the listing of a program, or a line that explains what is wrong with arguments
+-- a strike, the picture or the outline of a glyph, the listing of a program, or a line that explains what is wrong with arguments
 pub data TaskView : Type 0 where
   strike : MakeView → TaskView
   picture : Show → TaskView
+  outline : Show → TaskView
   listing : FontProgram → TaskView
   explanation : List ℕ → TaskView
 
@@ -65,6 +66,7 @@ seen_request request = record {
 abbrev pub seen_task : Task → TaskView
 seen_task (Strike make) = strike (seen_make make)
 seen_task (Picture show) = picture show
+seen_task (Outline show) = outline show
 seen_task (Listing what) = listing what
 seen_task (Explanation line) = explanation line.items
 

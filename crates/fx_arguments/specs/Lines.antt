@@ -16,7 +16,7 @@ use Rattle.fx_request.specs.declared.refusal.Refusal.{Refusal}
 use Rattle.fx_request.specs.declared.request.Report.{Report}
 use Rattle.fx_request.specs.Refusals.{number_of, name_of, place_of}
 use Rattle.fx_arguments.specs.declared.done.Done.{Done}
-use Rattle.fx_arguments.specs.declared.done.Done.TheVariants.{Strike, Picture, Listing, Explanation}
+use Rattle.fx_arguments.specs.declared.done.Done.TheVariants.{Strike, Picture, Outline, Listing, Explanation}
 use Rattle.fx_arguments.specs.declared.fault.Fault.{Fault}
 use Rattle.fx_arguments.specs.declared.fault.Fault.TheVariants.{Usage, Early, Late}
 
@@ -98,6 +98,7 @@ notice_line notice = line_of (fate_words notice.unhinted ++ code_word notice.cod
 abbrev pub done_line : Done → List ℕ
 done_line (Strike report) = report_line report
 done_line Picture = []
+done_line Outline = []
 done_line Listing = []
 done_line Explanation = []
 

@@ -10,8 +10,9 @@ use Rattle.fx_arguments.specs.declared.fault.Fault.TheVariants.{Early}
 use Rattle.fx_arguments.specs.declared.said.Said.{Said}
 use Rattle.fx_arguments.specs.declared.said.Said.TheVariants.{Line, Stopped}
 use Rattle.fx_arguments.specs.declared.verb.Verb.{Verb}
-use Rattle.fx_arguments.specs.declared.verb.Verb.TheVariants.{Make, Show, Dump}
-use Rattle.fx_arguments.specs.Arguments.{dump_app, is_command, make_app, named_refused, rows_by, show_app, size_of, unsigned_of, which_of}
+use Rattle.fx_arguments.specs.declared.verb.Verb.TheVariants.{Make, Show, Outline, Dump}
+use Rattle.fx_arguments.specs.Arguments.{dump_app, is_command, make_app, named_refused, outline_app, rows_by, show_app, size_of, unsigned_of}
+use Rattle.fx_arguments.specs.Arguments.{which_of}
 use Rattle.fx_arguments.specs.Properties.{property_of}
 
 -- a line of these pieces
@@ -72,12 +73,31 @@ make_checked rows = do
   _ ← refused_checked (first_of (codes "refused") rows)
   face_checked (first_of (codes "face") rows)
 
+-- a glyph is chosen by a character or by its number, and not by both
+abbrev pub choice_checked : Option Text → Option Text → Result (Unit {0}) Text
+choice_checked (Some character) None = Ok tt
+choice_checked None (Some number) =
+    taken_if (is_some (size_of number)) (codes "glyph") (codes "a whole number from 0 to 65535") number
+choice_checked None None = Err (said (codes "--char or --glyph is missing" ∷ []))
+choice_checked (Some character) (Some number) = Err (said (codes "--char and --glyph can't be given together" ∷ []))
+
+-- a size and a glyph
+unfoldable pub shown_checked : List Row → Result (Unit {0}) Text
+shown_checked rows = do
+  _ ← size_checked (first_of (codes "ppem") rows)
+  choice_checked (first_of (codes "char") rows) (first_of (codes "glyph") rows)
+
 -- of `show`'s
 unfoldable pub show_checked : List Row → Result (Unit {0}) Text
 show_checked rows = do
-  _ ← size_checked (first_of (codes "ppem") rows)
-  _ ← required (codes "char") (first_of (codes "char") rows)
-  face_checked (first_of (codes "face") rows)
+  _ ← face_checked (first_of (codes "face") rows)
+  shown_checked rows
+
+-- of `outline`'s
+unfoldable pub outline_checked : List Row → Result (Unit {0}) Text
+outline_checked rows = do
+  _ ← face_checked (first_of (codes "face") rows)
+  shown_checked rows
 
 -- of `dump`'s
 unfoldable pub dump_checked : List Row → Result (Unit {0}) Text
@@ -92,11 +112,13 @@ dump_checked rows = do
 abbrev pub app_for : Verb → App
 app_for Make = make_app
 app_for Show = show_app
+app_for Outline = outline_app
 app_for Dump = dump_app
 
 abbrev pub checked_for : Verb → List Row → Result (Unit {0}) Text
 checked_for Make = make_checked
 checked_for Show = show_checked
+checked_for Outline = outline_checked
 checked_for Dump = dump_checked
 
 -- a command takes these words, its name first
@@ -165,8 +187,9 @@ unfoldable pub checked : List Text → Result (Unit {0}) Text
 checked words =
     if is_command (codes "make") words then verb_checked Make words
     else (if is_command (codes "show") words then verb_checked Show words
+    else (if is_command (codes "outline") words then verb_checked Outline words
     else (if is_command (codes "dump") words then verb_checked Dump words
-    else (if is_command (codes "explain") words then Ok tt else Err (command_said words))))
+    else (if is_command (codes "explain") words then Ok tt else Err (command_said words)))))
 
 -- the line, which has no bytes if nothing is wrong
 abbrev pub line_of : Result (Unit {0}) Text → Text

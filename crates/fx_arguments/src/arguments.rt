@@ -3,23 +3,23 @@ ghost use Rattle.std.specs.Prelude.{◌≡◌, Ok, codes, drop, map, option_map,
 ghost use Rattle.std.specs.Str.{bytes_eq};
 ghost use Rattle.clap.specs.Words.{found_of, rows_of};
 ghost use Rattle.fx_fixed.specs.Chain.{GivesUnless, map_ok, wanted};
-ghost use Rattle.fx_arguments.specs.Arguments.{command_of_dump, command_of_make, command_of_show, dump_by};
-ghost use Rattle.fx_arguments.specs.Arguments.{face_by, is_command, make_by, mode_by, named_refused, refused_by, show_by, size_by};
-ghost use Rattle.fx_arguments.specs.Arguments.{texts, which_of};
+ghost use Rattle.fx_arguments.specs.Arguments.{choice_by, command_of_dump, command_of_make, command_of_outline, command_of_show};
+ghost use Rattle.fx_arguments.specs.Arguments.{dump_by, face_by, is_command, make_by, mode_by, named_refused, outline_by, refused_by, show_by};
+ghost use Rattle.fx_arguments.specs.Arguments.{shown_by, size_by, texts, which_of};
 ghost use Rattle.fx_arguments.specs.CommandLine.{command_of, command_of_explain};
 ghost use Rattle.fx_arguments.specs.Commands.{Refuses, seen};
 ghost use Rattle.fx_arguments.specs.declared.fault.Fault.TheVariants.{Usage};
 
 use crate::chars::{number, parse_chars};
 use crate::command::{Command, Make, Show, Task};
-use crate::commands::{dump_command, make_command, show_command};
+use crate::commands::{dump_command, make_command, outline_command, show_command};
 use crate::fault::Fault;
 use crate::mistakes::explain;
 use crate::properties::given_properties;
 use crate::values::{face_of, is_given, matches, size_of, value, values};
 use clap::ArgMatches;
 use fx_machine::FontProgram;
-use fx_request::{Mode, OnRefused, Refusal};
+use fx_request::{Choice, Mode, OnRefused, Refusal};
 use std::alloc::Global;
 
 /// Reads the arguments of a command line, the program's name first.
@@ -29,6 +29,7 @@ pub fn read_arguments<'a>(alloc: Global, arguments: &'a [&'a str]) -> Result<Com
     match arguments.split_first() {
         Some((_, rest)) if is_command("make", rest) => read_make(alloc, rest),
         Some((_, rest)) if is_command("show", rest) => read_show(alloc, rest),
+        Some((_, rest)) if is_command("outline", rest) => read_outline(alloc, rest),
         Some((_, rest)) if is_command("dump", rest) => read_dump(alloc, rest),
         Some((_, rest)) if is_command("explain", rest) => read_explain(alloc, rest),
         _ => Err(Fault::Usage),
@@ -59,6 +60,14 @@ fn read_show<'a>(alloc: Global, arguments: &'a [&'a str]) -> Result<Command<'a>,
 {
     let matches = matches(show_command(alloc)?, arguments)?;
     show_of(&matches)
+}
+
+/// Reads the arguments from `outline` on.
+fn read_outline<'a>(alloc: Global, arguments: &'a [&'a str]) -> Result<Command<'a>, Fault>
+    ensures { GivesUnless Refuses seen result (command_of_outline (texts arguments.entry.now)) }
+{
+    let matches = matches(outline_command(alloc)?, arguments)?;
+    outline_of(&matches)
 }
 
 /// Reads the arguments from `dump` on.
@@ -101,7 +110,7 @@ fn face_by(text: Option<&str>) -> Result<u32, Fault>
     }
 }
 
-/// How outlines become pixels, by the flags of `make` and `show`.
+/// How outlines become pixels, by the flags of `make`, `show` and `outline`.
 fn mode_of(matches: &ArgMatches<'_>) -> Mode
     ensures { result ≡ mode_by (rows_of (found_of matches.now)) }
 {
@@ -158,23 +167,58 @@ fn make_of<'a>(alloc: Global, matches: &ArgMatches<'a>) -> Result<Command<'a>, F
     })
 }
 
-/// What the values of `show` ask for: the size and the character are required.
+/// How a glyph is chosen: by a character or by its number, and not by both.
+fn choice_of(character: Option<&str>, glyph: Option<&str>) -> Result<Choice, Fault>
+    ensures { GivesUnless Refuses (λ choice. choice) result
+        (choice_by (option_map (λ text. text.now) character.entry) (option_map (λ text. text.now) glyph.entry)) }
+{
+    match (character, glyph) {
+        (Some(character), None) => match number(character) {
+            Some(code) => Ok(Choice::Character(code)),
+            None => Err(Fault::Early(Refusal::BadChars)),
+        },
+        (None, Some(glyph)) => match size_of(glyph) {
+            Some(number) => Ok(Choice::Number(number)),
+            None => Err(Fault::Usage),
+        },
+        _ => Err(Fault::Usage),
+    }
+}
+
+/// The glyph that the values of `show` or `outline` ask for: the size and the choice are required.
+fn shown_of(matches: &ArgMatches<'_>) -> Result<Show, Fault>
+    ensures { GivesUnless Refuses (λ show. show) result (shown_by (rows_of (found_of matches.now))) }
+{
+    let ppem = required_size(value(matches, "ppem"))?;
+    let choice = choice_of(value(matches, "char"), value(matches, "glyph"))?;
+    Ok(Show {
+        ppem,
+        choice,
+        mode: mode_of(matches),
+    })
+}
+
+/// What the values of `show` ask for.
 fn show_of<'a>(matches: &ArgMatches<'a>) -> Result<Command<'a>, Fault>
     ensures { GivesUnless Refuses seen result (show_by (rows_of (found_of matches.now))) }
 {
-    let ppem = required_size(value(matches, "ppem"))?;
-    let character = value(matches, "char").ok_or(Fault::Usage)?;
     let face = face_by(value(matches, "face"))?;
-    let Some(code) = number(character) else {
-        return Err(Fault::Early(Refusal::BadChars));
-    };
-    let show = Show {
-        ppem,
-        code,
-        mode: mode_of(matches),
-    };
+    let show = shown_of(matches)?;
     Ok(Command {
         task: Task::Picture(show),
+        face,
+        hex: is_given(matches, "hex"),
+    })
+}
+
+/// What the values of `outline` ask for.
+fn outline_of<'a>(matches: &ArgMatches<'a>) -> Result<Command<'a>, Fault>
+    ensures { GivesUnless Refuses seen result (outline_by (rows_of (found_of matches.now))) }
+{
+    let face = face_by(value(matches, "face"))?;
+    let show = shown_of(matches)?;
+    Ok(Command {
+        task: Task::Outline(show),
         face,
         hex: is_given(matches, "hex"),
     })

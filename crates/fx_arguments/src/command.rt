@@ -2,7 +2,7 @@
 
 use fx_bdf::{Property, Title};
 use fx_machine::FontProgram;
-use fx_request::{Mode, OnRefused, Request};
+use fx_request::{Choice, Mode, OnRefused, Request};
 
 /// What is to be written, the face of the font file that it is for, and whether the file is hexadecimal text.
 #[derive(Drop)]
@@ -17,8 +17,10 @@ pub struct Command<'a> {
 pub enum Task<'a> {
     /// A strike.
     Strike(Make<'a>),
-    /// The picture of a character.
+    /// The picture of a glyph.
     Picture(Show),
+    /// The outline of a glyph.
+    Outline(Show),
     /// The listing of a program.
     Listing(FontProgram),
     /// A line that explains what is wrong with arguments, without bytes if nothing is.
@@ -38,11 +40,11 @@ pub struct Make<'a> {
     pub on_refused: OnRefused,
 }
 
-/// The picture of a character: the size in pixels an em, the code point, and how outlines become pixels.
+/// One glyph: the size in pixels an em, how it is chosen, and how outlines become pixels.
 #[derive(Clone, Copy)]
 pub struct Show {
     pub ppem: u16,
-    pub code: u32,
+    pub choice: Choice,
     pub mode: Mode,
 }
 

@@ -1,7 +1,7 @@
 //! The commands and their options.
 ghost use Rattle.std.specs.Prelude.{◌≡◌, codes, IfOk, false};
 ghost use Rattle.clap.specs.Words.{app_of, rule_of};
-ghost use Rattle.fx_arguments.specs.Arguments.{dump_app, flag_rule, make_app, many_rule, option_rule, show_app};
+ghost use Rattle.fx_arguments.specs.Arguments.{dump_app, flag_rule, make_app, many_rule, option_rule, outline_app, show_app};
 
 use clap::{Arg, ArgAction, Command};
 use std::alloc::{AllocError, Global};
@@ -30,8 +30,22 @@ pub fn show_command<'a>(alloc: Global) -> Result<Command<'a>, AllocError>
     Command::new(alloc, "show")
         .arg(option(alloc, "ppem"))?
         .arg(option(alloc, "char"))?
+        .arg(option(alloc, "glyph"))?
         .arg(flag(alloc, "unhinted"))?
         .arg(flag(alloc, "dropout"))?
+        .arg(option(alloc, "face"))?
+        .arg(flag(alloc, "hex"))
+}
+
+/// `outline` with its options.
+pub fn outline_command<'a>(alloc: Global) -> Result<Command<'a>, AllocError>
+    ensures { IfOk result (λ command. app_of command ≡ outline_app) }
+{
+    Command::new(alloc, "outline")
+        .arg(option(alloc, "ppem"))?
+        .arg(option(alloc, "char"))?
+        .arg(option(alloc, "glyph"))?
+        .arg(flag(alloc, "unhinted"))?
         .arg(option(alloc, "face"))?
         .arg(flag(alloc, "hex"))
 }

@@ -9,6 +9,8 @@ pub enum Done {
     Strike(Report),
     /// It wrote a picture.
     Picture,
+    /// It wrote an outline.
+    Outline,
     /// It wrote a listing.
     Listing,
     /// It explained what is wrong with arguments.

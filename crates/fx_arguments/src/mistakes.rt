@@ -4,14 +4,14 @@ ghost use Rattle.clap.specs.Words.{app_of, found_of, rows_of};
 ghost use Rattle.fx_fixed.specs.Chain.{GivesUnless};
 ghost use Rattle.fx_arguments.specs.Arguments.{texts};
 ghost use Rattle.fx_arguments.specs.Commands.{Refuses};
-ghost use Rattle.fx_arguments.specs.Mistakes.{IsSaid, SaysUnless, app_for, checked, checked_for, command_said, dump_checked};
+ghost use Rattle.fx_arguments.specs.Mistakes.{IsSaid, SaysUnless, app_for, checked, checked_for, choice_checked, command_said, dump_checked};
 ghost use Rattle.fx_arguments.specs.Mistakes.{face_checked, has_hyphen, is_taken, line_of, make_checked, name_in, option_said, properties_checked};
-ghost use Rattle.fx_arguments.specs.Mistakes.{refused_checked};
+ghost use Rattle.fx_arguments.specs.Mistakes.{outline_checked, refused_checked, shown_checked};
 ghost use Rattle.fx_arguments.specs.Mistakes.{required, show_checked, size_checked, taken_if, taken_words, value_said, verb_checked, word_said};
 ghost use Rattle.fx_arguments.specs.Mistakes.{words_said};
 
 use crate::arguments::{is_command, named_refused, which_of};
-use crate::commands::{dump_command, make_command, show_command};
+use crate::commands::{dump_command, make_command, outline_command, show_command};
 use crate::fault::Fault;
 use crate::properties::property_of;
 use crate::said::{Said, say};
@@ -42,6 +42,9 @@ fn checked(alloc: Global, words: &[&str]) -> Result<(), Said>
     if is_command("show", words) {
         return verb_checked(alloc, Verb::Show, words);
     }
+    if is_command("outline", words) {
+        return verb_checked(alloc, Verb::Outline, words);
+    }
     if is_command("dump", words) {
         return verb_checked(alloc, Verb::Dump, words);
     }
@@ -68,6 +71,7 @@ fn command_for<'a>(alloc: Global, verb: Verb) -> Result<Command<'a>, AllocError>
     match verb {
         Verb::Make => make_command(alloc),
         Verb::Show => show_command(alloc),
+        Verb::Outline => outline_command(alloc),
         Verb::Dump => dump_command(alloc),
     }
 }
@@ -225,6 +229,7 @@ fn values_checked(alloc: Global, verb: Verb, matches: &ArgMatches<'_>) -> Result
     match verb {
         Verb::Make => make_checked(alloc, matches),
         Verb::Show => show_checked(alloc, matches),
+        Verb::Outline => outline_checked(alloc, matches),
         Verb::Dump => dump_checked(alloc, matches),
     }
 }
@@ -246,9 +251,42 @@ fn make_checked(alloc: Global, matches: &ArgMatches<'_>) -> Result<(), Said>
 fn show_checked(alloc: Global, matches: &ArgMatches<'_>) -> Result<(), Said>
     ensures { SaysUnless (λ u. u) result (show_checked (rows_of (found_of matches.now))) }
 {
+    face_checked(alloc, value(matches, "face"))?;
+    shown_checked(alloc, matches)
+}
+
+/// The values of `outline`'s options.
+#[tactic(auto, unfolding(crate::specs::Mistakes::outline_checked))]
+fn outline_checked(alloc: Global, matches: &ArgMatches<'_>) -> Result<(), Said>
+    ensures { SaysUnless (λ u. u) result (outline_checked (rows_of (found_of matches.now))) }
+{
+    face_checked(alloc, value(matches, "face"))?;
+    shown_checked(alloc, matches)
+}
+
+/// A size and a glyph.
+#[tactic(auto, unfolding(crate::specs::Mistakes::shown_checked))]
+fn shown_checked(alloc: Global, matches: &ArgMatches<'_>) -> Result<(), Said>
+    ensures { SaysUnless (λ u. u) result (shown_checked (rows_of (found_of matches.now))) }
+{
     size_checked(alloc, value(matches, "ppem"))?;
-    required(alloc, "char", value(matches, "char"))?;
-    face_checked(alloc, value(matches, "face"))
+    choice_checked(alloc, value(matches, "char"), value(matches, "glyph"))
+}
+
+/// A glyph that is chosen by a character or by its number.
+fn choice_checked(alloc: Global, character: Option<&str>, glyph: Option<&str>) -> Result<(), Said>
+    ensures { SaysUnless (λ u. u) result (choice_checked (option_map (λ text. text.now) character.entry)
+        (option_map (λ text. text.now) glyph.entry)) }
+{
+    match (character, glyph) {
+        (Some(_), None) => Ok(()),
+        (None, Some(text)) => {
+            let kind = "a whole number from 0 to 65535";
+            taken_if(alloc, size_of(text).is_some(), "glyph", kind, text)
+        }
+        (None, None) => Err(say(alloc, &["--char or --glyph is missing"])),
+        (Some(_), Some(_)) => Err(say(alloc, &["--char and --glyph can't be given together"])),
+    }
 }
 
 /// The values of `dump`'s options.

@@ -90,7 +90,7 @@ impl<'e, E: Sink> Teller<'e, E> {
     {
         match done {
             Done::Strike(report) => self.tell(line_of_report(report)),
-            Done::Picture | Done::Listing | Done::Explanation => {}
+            Done::Picture | Done::Outline | Done::Listing | Done::Explanation => {}
         }
     }
 

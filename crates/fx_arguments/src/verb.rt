@@ -7,6 +7,8 @@ pub enum Verb {
     Make,
     /// `show`.
     Show,
+    /// `outline`.
+    Outline,
     /// `dump`.
     Dump,
 }

@@ -18,16 +18,18 @@ use Rattle.fx_request.specs.declared.request.Report.{Report}
 use Rattle.fx_strike.specs.Title.{Title}
 use Rattle.fx_request.specs.declared.notice.Notice.{Notice}
 use Rattle.fx_request.specs.Notices.{AreTold}
-use Rattle.fx_strike.specs.Strike.{Plan, one_of, opened_of, opened_one_of, plan_of}
+use Rattle.fx_strike.specs.Strike.{Plan, opened_of, plan_of}
+use Rattle.fx_strike.specs.Choices.{choice_of, opened_choice_of}
+use Rattle.fx_strike.specs.Outlines.{Outlines, outlined_of}
 use Rattle.fx_strike.specs.Headline.{Leaves, notices_of}
 use Rattle.fx_strike.specs.Listings.{Lists, program_of}
 use Rattle.fx_arguments.specs.Limits.{max_input, max_line}
 use Rattle.fx_arguments.specs.declared.done.Done.{Done}
-use Rattle.fx_arguments.specs.declared.done.Done.TheVariants.{Strike, Picture, Listing, Explanation}
+use Rattle.fx_arguments.specs.declared.done.Done.TheVariants.{Strike, Picture, Outline, Listing, Explanation}
 use Rattle.fx_arguments.specs.declared.fault.Fault.{Fault}
 use Rattle.fx_arguments.specs.declared.fault.Fault.TheVariants.{Usage, Early, Late}
 use Rattle.fx_arguments.specs.CommandLine.{command_of}
-use Rattle.fx_arguments.specs.Commands.{CommandView, MakeView, TaskView, strike, picture, listing, explanation}
+use Rattle.fx_arguments.specs.Commands.{CommandView, MakeView, TaskView, strike, picture, outline, listing, explanation}
 use Rattle.fx_arguments.specs.declared.command.Show.{Show}
 use Rattle.fx_arguments.specs.Lines.{Tells, notice_line, outcome_line, status_of}
 use Rattle.fx_cli.specs.Pictures.{Shows}
@@ -84,10 +86,15 @@ MakeLeaves make font sink told answer =
     Leaves (opened_of font make.ppem (title make) make.chars) (strike_for make font) sink answer
     × AreTold (notices_of (strike_for make font)) told answer
 
--- what a call that shows a character leaves of it
+-- what a call that shows a glyph leaves of it
 abbrev pub ShowLeaves : Show → FontFileView → Change → Result (Unit {0}) Refusal → Type 0
 ShowLeaves show font sink answer =
-    Shows (opened_one_of font show.ppem show.code) (one_of font show.ppem show.code show.mode) sink answer
+    Shows (opened_choice_of font show.ppem show.choice) (choice_of font show.ppem show.choice show.mode) sink answer
+
+-- what a call that writes the outline of a glyph leaves of it
+abbrev pub OutlineLeaves : Show → FontFileView → Change → Result (Unit {0}) Refusal → Type 0
+OutlineLeaves show font sink answer =
+    Outlines (opened_choice_of font show.ppem show.choice) (outlined_of font show.ppem show.choice show.mode) sink answer
 
 -- what a call that lists a program leaves of it
 abbrev pub ListingLeaves : FontProgram → FontFileView → Change → Result (Unit {0}) Refusal → Type 0
@@ -100,13 +107,15 @@ LineLeaves line sink (Ok _) = Wrote sink line (Ok tt)
 LineLeaves line sink (Err (WriteFailed n)) = Wrote sink line (Err (record { 0 = n }))
 LineLeaves line sink (Err refusal) = ⊥
 
--- what a task leaves of the sink, from a font: its strike, its picture, or the listing of a program of it; or a line, whatever the
--- font is; and what it told of refused characters. Only a strike tells of any
+-- what a task leaves of the sink, from a font: its strike, the picture or the outline of a glyph, or the listing of a program of
+-- it; or a line, whatever the font is; and what it told of refused characters. Only a strike tells of any
 abbrev pub TaskLeaves : TaskView → FontFileView → Change → List Notice → Result Done Refusal → Type 0
 TaskLeaves (strike make) font sink told (Ok (Strike report)) = MakeLeaves make font sink told (Ok report)
 TaskLeaves (strike make) font sink told (Err refusal) = MakeLeaves make font sink told (Err refusal)
 TaskLeaves (picture show) font sink told (Ok Picture) = ShowLeaves show font sink (Ok tt) × (told ≡ [])
 TaskLeaves (picture show) font sink told (Err refusal) = ShowLeaves show font sink (Err refusal) × (told ≡ [])
+TaskLeaves (outline show) font sink told (Ok Outline) = OutlineLeaves show font sink (Ok tt) × (told ≡ [])
+TaskLeaves (outline show) font sink told (Err refusal) = OutlineLeaves show font sink (Err refusal) × (told ≡ [])
 TaskLeaves (listing what) font sink told (Ok Listing) = ListingLeaves what font sink (Ok tt) × (told ≡ [])
 TaskLeaves (listing what) font sink told (Err refusal) = ListingLeaves what font sink (Err refusal) × (told ≡ [])
 TaskLeaves (explanation line) font sink told (Ok Explanation) = LineLeaves line sink (Ok tt) × (told ≡ [])

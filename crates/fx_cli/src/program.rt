@@ -9,7 +9,7 @@ ghost use Rattle.fx_sfnt.specs.Collections.{face_in};
 ghost use Rattle.fx_cli.specs.Runs.{Ends, Runs, TaskLeaves, called};
 ghost use Rattle.fx_cli.specs.Steps.{EndsAfter, EndsText, Telling};
 
-use crate::show::put_character;
+use crate::show::put_picture;
 use fx_arguments::{
     Command, Done, Fault, LINE_BUFFER, ReadAhead, Task, Teller, arguments_of_line, decode_hex,
     read_arguments, read_line,
@@ -17,7 +17,7 @@ use fx_arguments::{
 use fx_fixed::{Sink, Source, put_all};
 use fx_request::Refusal;
 use fx_sfnt::FontFile;
-use fx_strike::{listing_of, make_strike_telling};
+use fx_strike::{listing_of, make_strike_telling, write_outline};
 use std::alloc::Global;
 
 /// The size of the buffer that the input is read through.
@@ -203,8 +203,12 @@ fn run_task<O: Sink, E: Sink>(
             Ok(Done::Strike(report))
         }
         Task::Picture(show) => {
-            put_character(alloc, show, font, out)?;
+            put_picture(alloc, show, font, out)?;
             Ok(Done::Picture)
+        }
+        Task::Outline(show) => {
+            write_outline(alloc, font, show.ppem, show.choice, show.mode, out)?;
+            Ok(Done::Outline)
         }
         Task::Listing(what) => {
             listing_of(font, *what, out)?;

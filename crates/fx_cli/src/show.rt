@@ -1,4 +1,4 @@
-//! The picture of a character of a font.
+//! The picture of a glyph of a font.
 ghost use Rattle.std.specs.Prelude.{◌<◌, ◌^◌};
 ghost use Rattle.fx_fixed.specs.Changes.{change_of};
 ghost use Rattle.fx_cli.specs.Runs.{ShowLeaves};
@@ -8,11 +8,11 @@ use fx_arguments::Show;
 use fx_fixed::Sink;
 use fx_request::Refusal;
 use fx_sfnt::FontFile;
-use fx_strike::one;
+use fx_strike::chosen;
 use std::alloc::Global;
 
-/// Writes the picture of a character of a font.
-pub fn put_character<O: Sink>(
+/// Writes the picture of a glyph of a font.
+pub fn put_picture<O: Sink>(
     alloc: Global,
     show: &Show,
     font: &FontFile<'_>,
@@ -21,7 +21,7 @@ pub fn put_character<O: Sink>(
     requires { O.fault_count out.old < 2 ^ 63 }
     ensures { ShowLeaves show.now font.now (change_of O.held O.fault_count out.old out.new) result }
 {
-    let glyph = one(alloc, font, show.ppem, show.code, show.mode)?;
+    let glyph = chosen(alloc, font, show.ppem, show.choice, show.mode)?;
     put_shown(&glyph, out)?;
     Ok(())
 }

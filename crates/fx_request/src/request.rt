@@ -13,6 +13,15 @@ pub struct Mode {
     pub dropout: bool,
 }
 
+/// How one glyph is chosen.
+#[derive(Clone, Copy, Debug, PartialEq, Eq)]
+pub enum Choice {
+    /// By the code point of a character: its glyph, if the font has one.
+    Character(u32),
+    /// By its number in the font.
+    Number(u16),
+}
+
 /// What becomes of a character that is refused: one whose outline can't be made, lies too far out or is too large, or whose program
 /// halts.
 #[derive(Clone, Copy, Debug, PartialEq, Eq)]

@@ -1,6 +1,6 @@
 -- What is read from a block of a font's setting is its machine, and with it the setting.
 -- Serves the calls that open a font by a block.
-use Rattle.std.proofs.Common.{◌≡◌, refl, sym, ap, ◌∙◌, ℕ, List, Bool, true, false, Option, Some, None, Result, Ok, Err}
+use Rattle.std.proofs.Common.{◌≡◌, refl, sym, ap, ◌∙◌, ℕ, List, Bool, true, Option, Some, None, Result, Ok, Err}
 use Rattle.std.specs.Prelude.{option_map}
 use Rattle.fx_fixed.specs.Chain.{◌>>=◌, map_ok, map_fault}
 use Rattle.fx_sfnt.specs.Collections.{FontFileView}

@@ -1,7 +1,7 @@
 -- What becomes of characters.
 -- Serves `fate_made`, `fate_at`, `fate_refused`, `fate_halted`, `see_fate` and `write_one`.
-use Rattle.std.proofs.Common.{◌≡◌, refl, sym, ap, ◌∙◌, subst, ℕ, Option, None, true, false, List, [], ◌∷◌, Result, Ok, Err}
-use Rattle.std.specs.Prelude.{IsOk, IfErr, OnOk}
+use Rattle.std.proofs.Common.{◌≡◌, refl, sym, ap, ◌∙◌, subst, ℕ, Option, None, true, Result, Ok, Err}
+use Rattle.std.specs.Prelude.{IfErr, OnOk}
 use Rattle.fx_machine.specs.Known.{Known}
 use Rattle.fx_machine.specs.declared.halt.Halt.{Halt}
 use Rattle.fx_raster.specs.declared.rule.Rule.{Rule}
@@ -12,15 +12,15 @@ use Rattle.fx_request.specs.declared.request.OnRefused.{OnRefused}
 use Rattle.fx_request.specs.declared.request.OnRefused.TheVariants.{Stop, LeaveOut, Unhinted as DrawUnhinted}
 use Rattle.fx_request.specs.Notices.{HearsAll}
 use Rattle.fx_strike.specs.declared.fate.Fate as held
-use Rattle.fx_strike.specs.declared.fate.Fate.TheVariants.{Drawn, Unhinted, LeftOut}
+use Rattle.fx_strike.specs.declared.fate.Fate.TheVariants.{Drawn, Unhinted}
 use Rattle.fx_strike.specs.declared.opened.Opened.{Opened}
 use Rattle.fx_strike.specs.declared.seen.Seen.{Seen}
 use Rattle.fx_strike.specs.declared.sketched.Sketched.{Sketched}
 use Rattle.fx_strike.specs.Faults.{Fails}
 use Rattle.fx_strike.specs.Strike.{Sketch, Setting, Fate, drawn, unhinted, left_out, notices_in, setting_with, left_out_for}
 use Rattle.fx_strike.specs.Strike.{halted_by, refused_by, glyph_sketch_of, glyph_fate_of}
-use Rattle.fx_strike.specs.inner.Drawing.{AreOf, Decides, IsFateOf, IsSketchedOf, Sketches}
-use Rattle.fx_strike.specs.inner.Surveying.{Has, HasFate, SeesOne, notices_by}
+use Rattle.fx_strike.specs.inner.Drawing.{AreOf, Decides, IsFateOf, Sketches}
+use Rattle.fx_strike.specs.inner.Surveying.{HasFate, SeesOne, notices_by}
 use Rattle.fx_strike.proofs.OnePart.{has_sketch, sketch_code}
 use Rattle.fx_strike.proofs.Sketching.{fails_on, memory_fails}
 

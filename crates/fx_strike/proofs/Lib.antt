@@ -1,4 +1,6 @@
 pub mod Exits
+pub mod OutlineLines
+pub mod Outlining
 pub mod Sketching
 pub mod GatheredGlyphs
 pub mod Seeing

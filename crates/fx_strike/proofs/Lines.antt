@@ -17,7 +17,7 @@ use Rattle.fx_cmap.specs.Lookup.{glyph_for}
 use Rattle.fx_bdf.specs.Glyphs.{Glyph, TrimmedIsOne}
 use Rattle.fx_bdf.specs.declared.header.Header.{Header}
 use Rattle.fx_bdf.specs.Properties.{PropertyView}
-use Rattle.fx_bdf.specs.Text.{header_text, head_text, glyph_text, end_text}
+use Rattle.fx_bdf.specs.Text.{header_text, glyph_text, end_text}
 use Rattle.fx_bdf.specs.X11.{all_properties}
 use Rattle.fx_bdf.specs.declared.summary.Summary.{Summary}
 use Rattle.fx_strike.specs.declared.surveyed.Survey.{Survey}
@@ -30,7 +30,7 @@ use Rattle.fx_strike.specs.Title.{Title}
 use Rattle.fx_request.specs.declared.notice.Notice.{Notice}
 use Rattle.fx_request.specs.declared.request.OnRefused.{OnRefused}
 use Rattle.fx_strike.specs.declared.fate.Fate as held
-use Rattle.fx_strike.specs.declared.fate.Fate.TheVariants.{Drawn, Unhinted, LeftOut}
+use Rattle.fx_strike.specs.declared.fate.Fate.TheVariants.{Drawn, Unhinted}
 use Rattle.fx_strike.specs.declared.sketched.Sketched.{Sketched}
 use Rattle.fx_strike.specs.Strike.{Sketch, Setting, Plan, Fate, drawn, unhinted, left_out, IsGlyphOf, AreGlyphsOf, sketches_in}
 use Rattle.fx_strike.specs.Strike.{glyph_fate_of, fate_of, fates_of, is_missing, plan_with, properties_of, strike_text}

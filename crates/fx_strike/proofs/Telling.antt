@@ -1,11 +1,11 @@
 -- What is told of the refused characters of a strike.
 -- Serves `see`, `survey_codes`, `write_strike` and `make_inner`.
-use Rattle.std.proofs.Common.{◌≡◌, refl, sym, ap, ◌∙◌, subst, arith, ℕ, ◌+◌, ◌<◌, ◌≤◌, Bool, true, false, not, List, [], ◌∷◌, ◌++◌, length}
+use Rattle.std.proofs.Common.{◌≡◌, refl, sym, ap, ◌∙◌, subst, ℕ, ◌+◌, ◌<◌, Bool, true, false, not, List, [], ◌∷◌, ◌++◌, length}
 use Rattle.std.proofs.Common.{take, drop, get_or, cond, Result, Ok, Err}
 use Rattle.std.specs.Prelude.{filter, IsErrAnd}
 use Rattle.std.specs.List.{flat_map}
 use Rattle.std.proofs.Math.Seq.{take-append_seam, take-length}
-use Rattle.std.proofs.lemmas.List.{take_more, take_all, take-append-drop, append-nil}
+use Rattle.std.proofs.lemmas.List.{take_more, take-append-drop, append-nil}
 use Rattle.std.proofs.lemmas.List.Elements.{filter-append}
 use Rattle.std.proofs.lemmas.Grind.{flat_map-append}
 use Rattle.fx_fixed.specs.Chain.{map_chain}
@@ -20,7 +20,7 @@ use Rattle.fx_strike.specs.Faults.{Fails}
 use Rattle.fx_strike.specs.Headline.{notices_of}
 use Rattle.fx_strike.specs.Title.{Title}
 use Rattle.fx_strike.specs.Strike.{Sketch, Setting, Plan, Fate, notices_in, fate_by, glyph_fate_of, fate_of, fates_of, is_missing}
-use Rattle.fx_strike.specs.Strike.{glyph_sketch_of, machineless, plan_from, plan_with}
+use Rattle.fx_strike.specs.Strike.{glyph_sketch_of, machineless, plan_with}
 use Rattle.fx_strike.specs.inner.Surveying.{notices_by, notices_about}
 use Rattle.fx_cmap.specs.Lookup.{glyph_for}
 use Rattle.fx_strike.proofs.OnePart.{chain_parts}

@@ -2,6 +2,8 @@ pub mod Faults
 pub mod Title
 pub mod Strike
 pub mod Numbers
+pub mod Choices
+pub mod Outlines
 pub mod Headline
 pub mod Blocks
 pub mod Listings

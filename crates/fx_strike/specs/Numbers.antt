@@ -1,5 +1,5 @@
 -- Glyphs by their numbers in the font, and what a font is at a size.
-use Rattle.std.specs.Prelude.{◌≡◌, ℕ, ℤ, pos, neg_ℤ, List, codes, Option, unwrap_or, Result, Ok}
+use Rattle.std.specs.Prelude.{◌≡◌, ℕ, ℤ, pos, neg_ℤ, List, codes, unwrap_or, Result, Ok}
 use Rattle.fx_fixed.specs.Chain.{◌>>=◌}
 use Rattle.fx_sfnt.specs.Fields.{signed_at}
 use Rattle.fx_sfnt.specs.Collections.{FontFileView}

@@ -1,5 +1,6 @@
 -- What only private contracts cite.
 pub mod Drawing
 pub mod Gathering
+pub mod Lengths
 pub mod Surveying
 pub mod Writing

@@ -13,10 +13,12 @@
 //! A strike is made in two passes over its characters: the first surveys it, so that no byte is written of a strike that is
 //! refused; the second makes each character again and writes it. Only one character is held at a time. The first pass makes a
 //! glyph's bits only if its frame is not in the box of the glyphs so far, which they could not widen. `survey` is the first pass
-//! alone. `listing_of` writes the listing of a program straight to the writer, and takes no memory.
+//! alone. `chosen` makes one glyph, chosen by a character or by its number, and `write_outline` writes the outline of one, which
+//! its bits are of. `listing_of` writes the listing of a program straight to the writer, and takes no memory.
 #![tactic(auto)]
 
 mod block;
+mod choices;
 mod draft;
 mod draw;
 mod fate;
@@ -32,6 +34,8 @@ mod numbers;
 mod one_character;
 mod open;
 mod opened;
+mod outline_text;
+mod outlines;
 mod second_pass;
 mod seen;
 mod sketch;
@@ -42,11 +46,13 @@ mod surveyed;
 mod surveying;
 mod tools;
 
+pub use choices::chosen;
 pub use fx_bdf::Title;
 pub use listing::listing_of;
 pub use make::{make_strike, make_strike_telling, make_strike_with};
 pub use numbers::{FontMetrics, font_metrics, map_for};
 pub use one_character::one;
+pub use outlines::{outline_numbered, outlined, write_outline};
 pub use striker::Striker;
 pub use surveyed::Survey;
 pub use surveying::survey;

@@ -1,5 +1,5 @@
--- The front of a buffer that was filled number by number.
--- Serves `put_ids`.
+-- The front of a buffer that was filled one by one.
+-- Serves `put_ids` and `put_points`.
 use Rattle.std.proofs.Common.{◌≡◌, refl, sym, ap, ◌∙◌, subst, arith, ℕ, ◌+◌, ◌<◌, ◌≤◌, min, Bool, true, false}
 use Rattle.std.proofs.Common.{List, [], ◌∷◌, ◌++◌, length, take, drop, get_or, set, map}
 use Rattle.std.specs.Prelude.{nat_le}
@@ -7,19 +7,21 @@ use Rattle.std.proofs.lemmas.List.{length-map, take_all, take_more, take_more_se
 use Rattle.std.proofs.lemmas.Bool.Decides.{nat_tests}
 use Rattle.mkstrike_c.specs.Drawn.{HasFront}
 
-pub ids_more : (f : ℕ → ℕ) (chars glyphs : List ℕ) (i v : ℕ) → i < length chars → i < length glyphs
-    → v ≡ f (get_or chars i 0) → take i glyphs ≡ map f (take i chars)
+pub front_more : {X Y : Type 0} (f : X → Y) (chars : List X) (glyphs : List Y) (i : ℕ) (x : X) (v : Y) → i < length chars
+    → i < length glyphs → v ≡ f (get_or chars i x) → take i glyphs ≡ map f (take i chars)
     → take (i + 1) (set glyphs i v) ≡ map f (take (i + 1) chars)
-ids_more f chars glyphs i v within room is so_far =
-    take_more_set glyphs i v room ∙ (λ j. so_far j ++ is j ∷ []) ∙ sym (map_more f chars i 0 within)
+front_more f chars glyphs i x v within room is so_far =
+    take_more_set glyphs i v room ∙ (λ j. so_far j ++ is j ∷ []) ∙ sym (map_more f chars i x within)
 
-pub rest_more : (glyphs old : List ℕ) (i v : ℕ) → i < length glyphs → drop i glyphs ≡ drop i old
+pub rest_more : {Y : Type 0} (glyphs old : List Y) (i : ℕ) (v : Y) → i < length glyphs
+    → drop i glyphs ≡ drop i old
     → drop (i + 1) (set glyphs i v) ≡ drop (i + 1) old
 rest_more glyphs old i v room h =
     drop-set-lt (i + 1) glyphs i v (omega arith) ∙ sym (drop-drop 1 i glyphs) ∙ ap (drop 1) h ∙ drop-drop 1 i old
 
-pub ids_front : (f : ℕ → ℕ) (chars old new : List ℕ) (i : ℕ) → length new ≡ length old → i ≡ min (length chars) (length old)
-    → take i new ≡ map f (take i chars) → drop i new ≡ drop i old → HasFront (map f chars) old new
+pub ids_front : {X Y : Type 0} (f : X → Y) (chars : List X) (old new : List Y) (i : ℕ) → length new ≡ length old
+    → i ≡ min (length chars) (length old) → take i new ≡ map f (take i chars) → drop i new ≡ drop i old
+    → HasFront (map f chars) old new
 ids_front f chars old new i same is front rest = by_length (nat_le (length chars) (length old)) refl
   where
     long : length (map f chars) ≡ length chars

@@ -6,6 +6,7 @@ pub mod Made
 pub mod Shown
 pub mod Drawn
 pub mod Fonts
+pub mod Outlines
 pub mod inner
 pub use Rattle.fx_request.specs.Refusals
 pub use Rattle.fx_strike.specs.Strike

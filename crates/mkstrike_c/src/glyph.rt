@@ -144,7 +144,7 @@ pub extern "C" fn mkstrike_glyph(
 }
 
 /// A glyph's number in 16 bits; no font has a glyph of the number 65,535.
-fn id_of(glyph: u32) -> u16
+pub fn id_of(glyph: u32) -> u16
     ensures { result ≡ min glyph 65535 }
 {
     glyph.min(65535) as u16

@@ -1,4 +1,4 @@
-use Rattle.std.proofs.Common.{ap, sym, ◌∙◌, rules, Some, None}
+use Rattle.std.proofs.Common.{ap, Some}
 use Rattle.fx_strike.proofs.BlockSettings.{setting_parts, set_as, not_none, same_hinter}
 use Rattle.fx_strike.proofs.block.of_block_inner.Goals as goal
 

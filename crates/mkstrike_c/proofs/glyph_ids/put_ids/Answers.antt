@@ -1,7 +1,7 @@
 use Rattle.std.proofs.Common.{◌≡◌, ◌∙◌, ◌<◌, arith, length, min}
 use Rattle.std.proofs.lemmas.List.{length-set}
 use Rattle.fx_cmap.specs.Lookup.{glyph_for}
-use Rattle.mkstrike_c.proofs.Ids.{ids_more, rest_more, ids_front}
+use Rattle.mkstrike_c.proofs.Ids.{front_more, rest_more, ids_front}
 use Rattle.mkstrike_c.proofs.glyph_ids.put_ids.Goals as goal
 
 pub chars-preserved : goal.chars-preserved
@@ -9,7 +9,7 @@ chars-preserved c =
     let room : c.chars.i < length c.chars.glyphs = omega (arith, c.chars.invariant.same, c.chars-test.true) in
     record {
       same = length-set c.chars.glyphs c.chars.i c.glyph.result ∙ c.chars.invariant.same;
-      front = ids_more (glyph_for c.args.char_map.now) c.args.chars.now c.chars.glyphs c.chars.i c.glyph.result
+      front = front_more (glyph_for c.args.char_map.now) c.args.chars.now c.chars.glyphs c.chars.i 0 c.glyph.result
           (omega (arith, c.chars-test.true)) room c.glyph.ensures c.chars.invariant.front;
       rest = rest_more c.chars.glyphs c.args.glyphs.now c.chars.i c.glyph.result room c.chars.invariant.rest;
     }

@@ -1,4 +1,4 @@
-use Rattle.std.proofs.Common.{refl, ap, ◌∙◌}
+use Rattle.std.proofs.Common.{refl, ◌∙◌}
 use Rattle.fx_strike.proofs.Exits.{came}
 use Rattle.fx_strike.proofs.Seeing.{holds_none, seen_at, refused_at}
 use Rattle.fx_strike.proofs.Telling.{heard_at, told_so_far}

@@ -1,4 +1,3 @@
-use Rattle.fx_strike.proofs.Exits.{came}
 use Rattle.fx_strike.proofs.Enclosed.{has_added}
 use Rattle.fx_strike.proofs.tools.Tools.see_drawn.Goals as goal
 

@@ -1,4 +1,4 @@
-use Rattle.std.proofs.Common.{refl, ◌∙◌, sym, arith, List, [], ℕ}
+use Rattle.std.proofs.Common.{refl, ◌∙◌, arith, List, [], ℕ}
 use Rattle.fx_fixed.proofs.Texts.{adds_nothing, adds_text, adds_then}
 use Rattle.fx_fixed.proofs.Writing.{parts, parts_more}
 use Rattle.fx_strike.proofs.Exits.{came}

@@ -1,0 +1,31 @@
+-- One glyph of a font, chosen by a character or by its number.
+use Rattle.std.specs.Prelude.{ℕ, ◌==◌, if◌then◌else◌, [], ◌∷◌, Option, Some, None, Result, Ok}
+use Rattle.fx_fixed.specs.Chain.{map_ok}
+use Rattle.fx_sfnt.specs.Collections.{FontFileView}
+use Rattle.fx_cmap.specs.Lookup.{glyph_for}
+use Rattle.fx_cmap.specs.declared.mapping.Mapping.{Mapping}
+use Rattle.fx_request.specs.declared.request.Choice.{Choice}
+use Rattle.fx_request.specs.declared.request.Choice.TheVariants.{Character, Number}
+use Rattle.fx_request.specs.declared.request.Mode.{Mode}
+use Rattle.fx_request.specs.declared.refusal.Refusal.{Refusal}
+use Rattle.fx_strike.specs.Strike.{Opening, Sketch, checked_chars, one_of, opened_after}
+use Rattle.fx_strike.specs.Numbers.{numbered_of}
+
+-- its number, if the font has the character
+abbrev pub chosen_glyph : Mapping → Choice → Option ℕ
+chosen_glyph map (Character code) = if glyph_for map code == 0 then None else Some (glyph_for map code)
+chosen_glyph map (Number glyph) = Some glyph
+
+-- the choice is within its limits
+abbrev pub checked_choice : Choice → Result (Unit {0}) Refusal
+checked_choice (Character code) = checked_chars (code ∷ [])
+checked_choice (Number glyph) = Ok tt
+
+-- what takes no memory, or the first cause
+abbrev pub opened_choice_of : FontFileView → ℕ → Choice → Opening
+opened_choice_of file ppem choice = opened_after ppem (checked_choice choice) file
+
+-- its sketch, none if the font lacks the character; or the first cause
+abbrev pub choice_of : FontFileView → ℕ → Choice → Mode → Result (Option Sketch) Refusal
+choice_of file ppem (Character code) mode = one_of file ppem code mode
+choice_of file ppem (Number glyph) mode = map_ok Some (numbered_of file ppem glyph mode)

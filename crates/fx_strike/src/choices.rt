@@ -1,0 +1,92 @@
+//! One glyph of a font, chosen by a character or by its number.
+ghost use Rattle.std.specs.Prelude.{◌≡◌, IfOk, IfErr, IsErrOf};
+ghost use Rattle.fx_strike.specs.Faults.{Fails};
+ghost use Rattle.fx_strike.specs.Choices.{choice_of, chosen_glyph, opened_choice_of};
+ghost use Rattle.fx_strike.specs.Headline.{IsCause, IsOneOf, Late};
+ghost use Rattle.fx_strike.specs.Numbers.{numbered_of};
+ghost use Rattle.fx_strike.specs.Strike.{opened_at};
+ghost use Rattle.fx_strike.specs.inner.Drawing.{Draws, Finds};
+
+use crate::one_character::one;
+use crate::open::{open_at, open_one};
+use crate::opened::Opened;
+use crate::striker::Striker;
+use fx_bdf::BitGlyph;
+use fx_cmap::CharMap;
+use fx_raster::Rows;
+use fx_request::{Choice, Mode, Refusal};
+use fx_sfnt::FontFile;
+use std::alloc::Global;
+
+/// Makes one glyph of a font at a size: its bits, in their tight box, and its advances. None if the font lacks the character that
+/// it is chosen by.
+///
+/// The first cause is returned: for a character as by `one`; for a number the size, the font's tables, its character map, with
+/// hinting on `fpgm`, then `prep`; then `BadGlyphNumber` if the font has no glyph of that number, or why it can't be made.
+/// `OutOfMemory` may be returned in place of any step after the character map, and of none before it.
+pub fn chosen(
+    alloc: Global,
+    font: &FontFile<'_>,
+    ppem: u16,
+    choice: Choice,
+    mode: Mode,
+) -> Result<Option<BitGlyph>, Refusal>
+    // The glyph is the one chosen, or the font lacks the character.
+    ensures glyph { IfOk result (IsOneOf (choice_of font.now ppem choice mode)) }
+    // The first cause was named, or memory ran out.
+    ensures cause { IfErr result (λ refusal. Fails refusal (choice_of font.now ppem choice mode)) }
+    // Memory is taken late: after the size and the choice are within their limits, and the font and its map opened.
+    ensures late { IsErrOf result Refusal.OutOfMemory → Late (opened_choice_of font.now ppem choice) }
+{
+    match choice {
+        Choice::Character(code) => one(alloc, font, ppem, code, mode),
+        Choice::Number(glyph) => {
+            let made = numbered_one(alloc, font, ppem, glyph, mode)?;
+            Ok(Some(made))
+        }
+    }
+}
+
+/// A glyph by its number.
+fn numbered_one(
+    alloc: Global,
+    font: &FontFile<'_>,
+    ppem: u16,
+    glyph: u16,
+    mode: Mode,
+) -> Result<BitGlyph, Refusal>
+    ensures drawn { Draws (numbered_of font.now ppem glyph mode) result }
+    ensures late { IsErrOf result Refusal.OutOfMemory → Late (opened_at font.now ppem) }
+{
+    let opened = open_at(font, ppem)?;
+    let mut striker = Striker::of(alloc, &Rows, opened, mode)?;
+    striker.numbered(glyph)
+}
+
+/// The number of the glyph that is chosen; none if the font lacks the character.
+pub(crate) fn chosen_glyph(map: &CharMap<'_>, choice: Choice) -> Option<u16>
+    ensures { result ≡ chosen_glyph map.now choice }
+{
+    match choice {
+        Choice::Character(code) => match map.glyph(code) {
+            0 => None,
+            glyph => Some(glyph),
+        },
+        Choice::Number(glyph) => Some(glyph),
+    }
+}
+
+/// The size, the font and its character map, for one glyph.
+pub(crate) fn open_choice<'a>(
+    file: &FontFile<'a>,
+    ppem: u16,
+    choice: Choice,
+) -> Result<Opened<'a>, Refusal>
+    ensures due { result ≡ opened_choice_of file.now ppem choice }
+    ensures named { IfErr result IsCause }
+{
+    match choice {
+        Choice::Character(code) => open_one(file, ppem, code),
+        Choice::Number(_) => open_at(file, ppem),
+    }
+}

@@ -1,0 +1,162 @@
+//! The outline of a glyph as text.
+ghost use Rattle.std.specs.Prelude.{◌≡◌, ◌+◌, ◌*◌, ◌<◌, ◌≤◌, ◌^◌, ℕ, [], length, option_map, Some, OnOk, IfErr};
+ghost use Rattle.std.specs.Fmt.{signed_decimal};
+ghost use Rattle.fx_fixed.specs.Changes.{change_of};
+ghost use Rattle.fx_fixed.specs.Texts.{Adds, Fails, length_of};
+ghost use Rattle.fx_fixed.specs.Wrote.{Wrote};
+ghost use Rattle.fx_hint.specs.Outlines.{view_of_glyph_outline};
+ghost use Rattle.fx_outline.specs.Ends.{AreEnds};
+ghost use Rattle.fx_strike.specs.Outlines.{advance_line, contour_at, curve_word, outline_text, point_line, point_lines};
+ghost use Rattle.fx_strike.specs.inner.Lengths.{longest_outline};
+
+use fx_fixed::{Digits, F26, Sink, TextWriter, WriteFailed};
+use fx_hint::GlyphOutline;
+use fx_outline::OutlinePoint;
+
+/// Writes the text of an outline, or `missing` if there is none. No memory is taken.
+pub(crate) fn put_outline<W: Sink>(
+    outline: &Option<GlyphOutline>,
+    out: &mut W,
+) -> Result<(), WriteFailed>
+    requires { W.fault_count out.old < 2 ^ 63 }
+    ensures { Wrote (change_of W.held W.fault_count out.old out.new)
+        (outline_text (option_map view_of_glyph_outline outline.now)) result }
+{
+    let mut text = TextWriter::new(out);
+    let result = add_text(outline, &mut text);
+    text.close();
+    result
+}
+
+/// Adds the text of an outline, or `missing`, and ends it.
+fn add_text<W: Sink>(
+    outline: &Option<GlyphOutline>,
+    text: &mut TextWriter<'_, W>,
+) -> Result<(), WriteFailed>
+    requires { text.old.faults < 2 ^ 63 }
+    ensures text { Adds Fails text.old text.new (outline_text (option_map view_of_glyph_outline outline.now)) result }
+    ensures ended { OnOk result (text.new.waiting ≡ []) }
+    ensures short { IfErr result (λ e. e.0 ≤ length_of text.old + longest_outline) }
+{
+    add_outline(outline, text)?;
+    text.end()
+}
+
+/// Adds the text of an outline, or `missing`.
+fn add_outline<W: Sink>(
+    outline: &Option<GlyphOutline>,
+    text: &mut TextWriter<'_, W>,
+) -> Result<(), WriteFailed>
+    requires { text.old.faults < 2 ^ 63 }
+    ensures text { Adds Fails text.old text.new (outline_text (option_map view_of_glyph_outline outline.now)) result }
+    // So the number of a fault is exact.
+    ensures short { IfErr result (λ e. e.0 ≤ length_of text.old + longest_outline) }
+    ensures few { OnOk result (length (outline_text (option_map view_of_glyph_outline outline.now)) ≤ longest_outline) }
+{
+    match outline {
+        Some(outline) => add_lines(outline, text),
+        None => text.add(&[b"missing\n"]),
+    }
+}
+
+/// Adds the line of an advance.
+fn add_advance<W: Sink>(advance: F26, text: &mut TextWriter<'_, W>) -> Result<(), WriteFailed>
+    requires { text.old.faults < 2 ^ 63 }
+    ensures text { Adds Fails text.old text.new (advance_line advance) result }
+    ensures short { length (advance_line advance) ≤ 29 }
+{
+    let digits = digits_of(advance);
+    text.add(&[b"advance ", digits.text(), b"\n"])
+}
+
+/// Adds the lines of an outline: its points, and then its advance.
+fn add_lines<W: Sink>(
+    outline: &GlyphOutline,
+    text: &mut TextWriter<'_, W>,
+) -> Result<(), WriteFailed>
+    requires { text.old.faults < 2 ^ 63 }
+    ensures text { Adds Fails text.old text.new (outline_text (Some (view_of_glyph_outline outline.now))) result }
+    ensures short { IfErr result (λ e. e.0 ≤ length_of text.old + longest_outline) }
+    ensures few { OnOk result (length (outline_text (Some (view_of_glyph_outline outline.now))) ≤ longest_outline) }
+{
+    add_points(&outline.outline.points, &outline.outline.ends, text)?;
+    add_advance(outline.advance, text)
+}
+
+/// Adds the lines of points, by the last points of their contours.
+fn add_points<W: Sink>(
+    points: &[OutlinePoint],
+    ends: &[u16],
+    text: &mut TextWriter<'_, W>,
+) -> Result<(), WriteFailed>
+    requires ends { AreEnds 0 ends.now (length points.now) }
+    requires faults { text.old.faults < 2 ^ 63 }
+    ensures text { Adds Fails text.old text.new (point_lines ends.now 0 points.now) result }
+    ensures short { IfErr result (λ e. e.0 ≤ length_of text.old + 88 * length points.now) }
+    ensures few { OnOk result (length (point_lines ends.now 0 points.now) ≤ 88 * length points.now) }
+{
+    let mut contour = 0;
+    // The lines of the points before i were added, and at least `contour` contours end before it.
+    'points: for i in 0..points.len() {
+        contour = contour_of(ends, contour, i);
+        add_point(contour, i, &points[i], text)?;
+    }
+    Ok(())
+}
+
+/// The number of the contour that a point lies on, from one on that is not above it: how many end before the point.
+fn contour_of(ends: &[u16], from: usize, number: usize) -> usize
+    requires ends { (n : ℕ) × AreEnds 0 ends.now n }
+    requires from { from ≤ contour_at ends.now number }
+    ensures { result ≡ contour_at ends.now number }
+{
+    let mut contour = from;
+    // The contours before this one end before the point.
+    'ended: while contour < ends.len() && usize::from(ends[contour]) < number {
+        contour += 1;
+    }
+    contour
+}
+
+/// Adds the line of a point.
+fn add_point<W: Sink>(
+    contour: usize,
+    number: usize,
+    point: &OutlinePoint,
+    text: &mut TextWriter<'_, W>,
+) -> Result<(), WriteFailed>
+    requires { text.old.faults < 2 ^ 63 }
+    ensures text { Adds Fails text.old text.new (point_line contour number point.now) result }
+    ensures short { length (point_line contour number point.now) ≤ 88 }
+{
+    let contour = Digits::unsigned(contour as u64);
+    let number = Digits::unsigned(number as u64);
+    let word = curve_word(point.on_curve);
+    let x = digits_of(point.x);
+    let y = digits_of(point.y);
+    text.add(&[
+        contour.text(),
+        b" ",
+        number.text(),
+        word,
+        x.text(),
+        b" ",
+        y.text(),
+        b"\n",
+    ])
+}
+
+/// A coordinate in 1/64 pixels, in decimal.
+fn digits_of(value: F26) -> Digits
+    ensures { result ≡ signed_decimal value }
+{
+    Digits::signed(value.0)
+}
+
+/// Whether a point is on the curve, as a word.
+fn curve_word(on_curve: bool) -> &'static [u8]
+    ensures value { result.now ≡ curve_word on_curve }
+    ensures short { length result.now ≤ 5 }
+{
+    if on_curve { b" on " } else { b" off " }
+}
