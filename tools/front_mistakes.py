@@ -144,7 +144,7 @@ ROWS = [
     ("dump glyph name", ["dump", "--of", "Aacute"], SANS, 2, USAGE, "the number of a glyph, not 'Aacute'"),
     ("a glyph whose program halts", ["make", "--ppem", "16", "--chars", "19c"], SANS, 1, "mkstrike: 30 StackUnder .*", "with --unhinted no program"),
 ]
-ALONE = ("make", "show", "dump", "mkae", "font.ttf", "cut.ttf", "version", "-h", "help", "--version", "-V")
+ALONE = ("make", "show", "dump", "mkae", "font.ttf", "cut.ttf", "version", "-h", "help", "--version", "-V", "outline")
 
 
 def mistakes(sans):
