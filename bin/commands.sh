@@ -1,7 +1,7 @@
 # The commands, and what `mkstrike help` prints of each. Written by tools/make_pages from docs/mkstrike-*.1: change those.
 # shellcheck shell=sh disable=SC2034
 
-commands='make show outline dump explain'
+commands='make show outline dump trace explain'
 
 print_synopses() {
     cat <<'END'
@@ -10,6 +10,7 @@ print_synopses() {
     mkstrike show --ppem N --char HEX | --glyph G [--unhinted] [--dropout] [--face N] [--hex] [FONT] [-o FILE]
     mkstrike outline --ppem N --char HEX | --glyph G [--unhinted] [--face N] [--hex] [FONT] [-o FILE]
     mkstrike dump --of WHAT [--face N] [--hex] [FONT] [-o FILE]
+    mkstrike trace --ppem N --char HEX | --glyph G | --of WHAT [--face N] [--hex] [FONT] [-o FILE]
     mkstrike explain ARGUMENT...
 END
 }
@@ -91,6 +92,25 @@ mkstrike dump lists one of the font's own programs.
       FONT         the font's file; else standard input
 
     mkstrike dump --of fpgm font.ttf -o fpgm.txt
+END
+}
+
+help_trace() {
+    cat <<'END'
+mkstrike trace writes one line for each instruction that a font's programs execute, in their order.
+
+    mkstrike trace --ppem N --char HEX | --glyph G | --of WHAT [OPTION].. [FONT] [-o FILE]
+
+      --ppem N      the size in pixels per em, 1 to 1024
+      --char HEX    the programs of a character's glyph, one hexadecimal number; the letter A is 41
+      --glyph G     those of a glyph by its number in the font, counted from 0
+      --of WHAT     the program fpgm or prep, or the number of a glyph
+      --face N      the font of a collection, counted from 0; without it the first
+      --hex         the font is hexadecimal text
+      -o FILE       write to FILE, which is there only if all was done; else to standard output
+      FONT          the font's file; else standard input
+
+    mkstrike trace --ppem 16 --char 41 font.ttf | head -n 8
 END
 }
 

@@ -13,15 +13,16 @@ use Rattle.fx_request.specs.declared.request.OnRefused.TheVariants.{Stop}
 use Rattle.fx_arguments.specs.declared.fault.Fault.{Fault}
 use Rattle.fx_arguments.specs.declared.fault.Fault.TheVariants.{Usage, Early}
 use Rattle.fx_arguments.specs.declared.verb.Verb.{Verb}
-use Rattle.fx_arguments.specs.declared.verb.Verb.TheVariants.{Make, Show, Outline, Dump}
+use Rattle.fx_arguments.specs.declared.verb.Verb.TheVariants.{Make, Show, Outline, Dump, Trace}
 use Rattle.fx_arguments.specs.Arguments.{dump_app, dump_by, face_by, is_command, make_app, make_by, named_refused, refused_by, rows_by, show_app, show_by}
 use Rattle.fx_arguments.specs.Arguments.{choice_by, command_of_dump, command_of_make, command_of_outline, command_of_show, outline_app, outline_by, shown_by}
-use Rattle.fx_arguments.specs.Arguments.{size_by, size_of, unsigned_of, which_of}
+use Rattle.fx_arguments.specs.Arguments.{command_of_trace, size_by, size_of, trace_app, trace_by, traced_by, unsigned_of, which_of}
 use Rattle.fx_arguments.specs.Chars.{number_of}
 use Rattle.fx_arguments.specs.CommandLine.{MistakesAreUsage, command_of, command_of_explain}
 use Rattle.fx_arguments.specs.Commands.{CommandView}
 use Rattle.fx_arguments.specs.Mistakes.{checked, checked_by, command_said, dump_checked, face_checked, make_checked, properties_checked}
 use Rattle.fx_arguments.specs.Mistakes.{choice_checked, outline_checked, refused_checked, required, show_checked, shown_checked, size_checked, taken_if, verb_checked}
+use Rattle.fx_arguments.specs.Mistakes.{trace_checked, traced_checked}
 use Rattle.fx_arguments.specs.Properties.{properties_of, property_of}
 
 -- a step fails as usage and is explained, or passes and is not
@@ -145,6 +146,34 @@ unfolding dump_checked
 dump_ends rows =
     named (first_of (codes "of") rows) _ _ (λ _. last _ _ _ (same_face (first_of (codes "face") rows)) (λ _ e. absurd (cc)))
 
+-- the same, in another form
+value_mapped : {A B C : Type 0} (f : A → C) (a : Result A Fault) (b : Result B Text) → Ends a b → Ends (map_ok f a) b
+value_mapped f (Ok x) b (inl (e, d)) = absurd (cc)
+value_mapped f (Ok x) b (inr (none, d)) = inr (λ e. absurd (cc), d)
+value_mapped f (Err fault) b (inl (e, d)) = inl (cc, d)
+value_mapped f (Err fault) b (inr (none, d)) = inr (λ e. none (cc), d)
+
+program_ends : {A : Type 0} (f : FontProgram → A) (o : Option FontProgram) (line : Text)
+    → Ends (map_ok f (wanted o Usage)) (refuse (not (is_some o)) line)
+program_ends f None line = inl (refl, (line, refl))
+program_ends f (Some program) line = inr (λ e. absurd (cc), refl)
+
+traced_ends : (character number name : Option Text)
+    → Ends (traced_by character number name) (traced_checked character number name)
+traced_ends None None None = inl (refl, (_, refl))
+traced_ends (Some character) number None = value_mapped _ _ _ (choice_ends (Some character) number)
+traced_ends None (Some number) None = value_mapped _ _ _ (choice_ends None (Some number))
+traced_ends None None (Some name) = program_ends _ (which_of name) _
+traced_ends (Some character) number (Some name) = inl (refl, (_, refl))
+traced_ends None (Some number) (Some name) = inl (refl, (_, refl))
+
+trace_ends : (rows : List Row) → Ends (trace_by rows) (trace_checked rows)
+unfolding trace_checked
+trace_ends rows =
+    step _ _ _ _ (same_face (first_of (codes "face") rows)) (λ face _.
+    step _ _ _ _ (same_size (first_of (codes "ppem") rows)) (λ ppem _.
+    value_last _ _ _ (traced_ends (first_of (codes "char") rows) (first_of (codes "glyph") rows) (first_of (codes "of") rows))))
+
 -- ---- words
 
 taken_or_not : (verb : Verb) (words : List Text) (rows : Option (List Row)) (of : List Row → Result CommandView Fault)
@@ -169,20 +198,27 @@ dump_words : (words : List Text) → Ends (command_of_dump words) (verb_checked 
 unfolding verb_checked
 dump_words words = taken_or_not Dump words (rows_by dump_app words) dump_by dump_ends
 
+trace_words : (words : List Text) → Ends (command_of_trace words) (verb_checked Trace words)
+unfolding verb_checked
+trace_words words = taken_or_not Trace words (rows_by trace_app words) trace_by trace_ends
+
 -- by the command
-by_command : (make show outline dump explain : Bool) (words : List Text) (command : CommandView) (line : Text)
+by_command : (make show outline dump trace explain : Bool) (words : List Text) (command : CommandView) (line : Text)
     → Ends (if make then command_of_make words else (if show then command_of_show words
     else (if outline then command_of_outline words
-    else (if dump then command_of_dump words else (if explain then Ok command else Err Usage)))))
+    else (if dump then command_of_dump words else (if trace then command_of_trace words
+    else (if explain then Ok command else Err Usage))))))
     (if make then verb_checked Make words else (if show then verb_checked Show words
     else (if outline then verb_checked Outline words
-    else (if dump then verb_checked Dump words else (if explain then Ok tt else Err line)))))
-by_command true show outline dump explain words command line = make_words words
-by_command false true outline dump explain words command line = show_words words
-by_command false false true dump explain words command line = outline_words words
-by_command false false false true explain words command line = dump_words words
-by_command false false false false true words command line = inr (λ e. absurd (cc), refl)
-by_command false false false false false words command line = inl (refl, (line, refl))
+    else (if dump then verb_checked Dump words else (if trace then verb_checked Trace words
+    else (if explain then Ok tt else Err line))))))
+by_command true show outline dump trace explain words command line = make_words words
+by_command false true outline dump trace explain words command line = show_words words
+by_command false false true dump trace explain words command line = outline_words words
+by_command false false false true trace explain words command line = dump_words words
+by_command false false false false true explain words command line = trace_words words
+by_command false false false false false true words command line = inr (λ e. absurd (cc), refl)
+by_command false false false false false false words command line = inl (refl, (line, refl))
 
 told : {A B : Type 0} (a : Result A Fault) (b : Result B Text) → Ends a b
     → (IsOk b → a ≡ Err Usage → ⊥) × ((a ≡ Err Usage → ⊥) → IsOk b)
@@ -194,6 +230,6 @@ unfolding checked
 mistakes arguments =
     told (command_of arguments) (checked (drop 1 arguments)) (by_command (is_command (codes "make") (drop 1 arguments))
     (is_command (codes "show") (drop 1 arguments)) (is_command (codes "outline") (drop 1 arguments))
-    (is_command (codes "dump") (drop 1 arguments))
+    (is_command (codes "dump") (drop 1 arguments)) (is_command (codes "trace") (drop 1 arguments))
     (is_command (codes "explain") (drop 1 arguments)) (drop 1 arguments) (command_of_explain (drop 2 arguments))
     (command_said (drop 1 arguments)))

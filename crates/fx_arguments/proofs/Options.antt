@@ -1,5 +1,5 @@
 -- The options of the commands, as clap sees them.
--- Serves the arguments of the commands: `read_make`, `read_show`, `read_outline`, `read_dump`, `size_of`, `face_of`.
+-- Serves the arguments of the commands: `read_make`, `read_show`, `read_outline`, `read_dump`, `read_trace`, `size_of`, `face_of`.
 use Rattle.std.proofs.Common.{◌≡◌, ◌∙◌, ℕ, ◌<◌, ◌^◌, List, [], ◌∷◌, length, refl, sym, ap, ap₂, Option, Some, None, Bool, true, false}
 use Rattle.std.proofs.Common.{Result, Ok, Err, ◌&&◌, ◌||◌, subst, ◌⊎◌, inl, inr}
 use Rattle.fx_fixed.specs.Chain.{◌>>=◌, GivesUnless, wanted}
@@ -17,7 +17,7 @@ use Rattle.clap.proofs.OnLiterals.{clap_on_literals}
 use Rattle.clap.proofs.WalkLemmas.{both}
 use Rattle.clap.specs.Words.{App, IsAmong, Kinds, Row, Text, fault_of, is_simple, is_simple_and_free, matches_of}
 use Rattle.clap.specs.declared.error.kind.ErrorKind.{ErrorKind}
-use Rattle.fx_arguments.specs.Arguments.{dump_app, is_bare, is_some_kind, make_app, outline_app, rows_by, show_app, unsigned_of}
+use Rattle.fx_arguments.specs.Arguments.{dump_app, is_bare, is_some_kind, make_app, outline_app, rows_by, show_app, trace_app, unsigned_of}
 use Rattle.fx_arguments.specs.Commands.{CommandView, Refuses, seen}
 
 pub make_is_simple : is_simple make_app ≡ true
@@ -51,6 +51,14 @@ dump_is_simple = refl
 pub dump_is_free : is_simple_and_free dump_app ≡ true
 unfolding dump_app clap_on_literals
 dump_is_free = refl
+
+pub trace_is_simple : is_simple trace_app ≡ true
+unfolding trace_app clap_on_literals
+trace_is_simple = refl
+
+pub trace_is_free : is_simple_and_free trace_app ≡ true
+unfolding trace_app clap_on_literals
+trace_is_free = refl
 
 -- decimal digits, as a test
 pub tests_digits : (ds : List ℕ) → AllDigits 10 ds → list_all (λ d. nat_lt (digit_value d) 10) ds ≡ true

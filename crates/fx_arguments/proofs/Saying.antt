@@ -13,14 +13,14 @@ use Rattle.fx_bdf.specs.declared.property.Property.{Property}
 use Rattle.fx_arguments.specs.declared.said.Said.{Said}
 use Rattle.fx_arguments.specs.declared.said.Said.TheVariants.{Line, Stopped}
 use Rattle.fx_arguments.specs.declared.verb.Verb.{Verb}
-use Rattle.fx_arguments.specs.declared.verb.Verb.TheVariants.{Make, Show, Outline, Dump}
+use Rattle.fx_arguments.specs.declared.verb.Verb.TheVariants.{Make, Show, Outline, Dump, Trace}
 use Rattle.fx_arguments.specs.Arguments.{texts}
 use Rattle.fx_arguments.specs.Properties.{property_of}
 use Rattle.fx_arguments.specs.Mistakes.{SaysUnless, app_for, is_taken, properties_checked, said, taken_if, taken_words, word_said}
 use Rattle.fx_arguments.specs.Mistakes.{words_said}
 use Rattle.fx_arguments.proofs.Given.{next_text}
 use Rattle.fx_arguments.proofs.Options.{make_is_simple, make_is_free, show_is_simple, show_is_free, dump_is_simple, dump_is_free}
-use Rattle.fx_arguments.proofs.Options.{outline_is_simple, outline_is_free}
+use Rattle.fx_arguments.proofs.Options.{outline_is_simple, outline_is_free, trace_is_simple, trace_is_free}
 
 -- a line that a step says is said by the chain that begins with it
 pub says_before : (s : Said) (a b : Result (Unit {0}) Text) (rest : Result (Unit {0}) Text) → b ≡ (a >>= λ _. rest)
@@ -107,12 +107,14 @@ simple_for Make = make_is_simple
 simple_for Show = show_is_simple
 simple_for Outline = outline_is_simple
 simple_for Dump = dump_is_simple
+simple_for Trace = trace_is_simple
 
 pub free_for : (verb : Verb) → is_simple_and_free (app_for verb) ≡ true
 free_for Make = make_is_free
 free_for Show = show_is_free
 free_for Outline = outline_is_free
 free_for Dump = dump_is_free
+free_for Trace = trace_is_free
 
 -- a beginning that is taken is the longest, and one that is not leads to a shorter one
 by_test : (verb : Verb) (words : List Text) (n : ℕ) → taken_words verb words (suc n) ≡

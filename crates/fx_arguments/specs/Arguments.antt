@@ -21,11 +21,13 @@ use Rattle.fx_request.specs.declared.request.OnRefused.{OnRefused}
 use Rattle.fx_request.specs.declared.request.OnRefused.TheVariants.{Stop, LeaveOut, Unhinted}
 use Rattle.fx_request.specs.declared.refusal.Refusal.TheVariants.{BadChars}
 use Rattle.fx_arguments.specs.declared.command.Show.{Show}
+use Rattle.fx_arguments.specs.declared.command.Traced.{Traced}
+use Rattle.fx_arguments.specs.declared.command.Traced.TheVariants as traced
 use Rattle.fx_arguments.specs.declared.fault.Fault.{Fault}
 use Rattle.fx_arguments.specs.declared.fault.Fault.TheVariants.{Usage, Early}
 use Rattle.fx_arguments.specs.Chars.{number_of, numbers_of_list}
 use Rattle.fx_arguments.specs.Properties.{properties_of}
-use Rattle.fx_arguments.specs.Commands.{CommandView, strike, picture, outline, listing}
+use Rattle.fx_arguments.specs.Commands.{CommandView, strike, picture, outline, listing, trace}
 
 -- an option `--id VALUE`
 abbrev pub option_rule : Text → Rule
@@ -62,6 +64,12 @@ outline_app = with_rule (with_rule (with_rule (with_rule (with_rule (with_rule (
 unfoldable pub dump_app : App
 dump_app = with_rule (with_rule (with_rule (new_app (codes "dump")) (option_rule (codes "of"))) (option_rule (codes "face")))
     (flag_rule (codes "hex"))
+
+-- the command `trace` with its options
+unfoldable pub trace_app : App
+trace_app = with_rule (with_rule (with_rule (with_rule (with_rule (with_rule (new_app (codes "trace"))
+    (option_rule (codes "ppem"))) (option_rule (codes "char"))) (option_rule (codes "glyph"))) (option_rule (codes "of")))
+    (option_rule (codes "face"))) (flag_rule (codes "hex"))
 
 -- ---- what is asked for
 
@@ -174,6 +182,21 @@ dump_by rows = do
   face ← face_by (first_of (codes "face") rows)
   Ok (record { task = listing what; face = face; hex = is_given (codes "hex") rows })
 
+-- what is traced: a glyph, or a program by its name, and not both
+abbrev pub traced_by : Option Text → Option Text → Option Text → Result Traced Fault
+traced_by character number None = map_ok traced.Glyph (choice_by character number)
+traced_by None None (Some name) = map_ok traced.Program (wanted (which_of name) Usage)
+traced_by (Some character) number (Some name) = Err Usage
+traced_by None (Some number) (Some name) = Err Usage
+
+-- what the values of `trace`'s options ask for
+abbrev pub trace_by : List Row → Result CommandView Fault
+trace_by rows = do
+  face ← face_by (first_of (codes "face") rows)
+  ppem ← size_by (first_of (codes "ppem") rows)
+  traced ← traced_by (first_of (codes "char") rows) (first_of (codes "glyph") rows) (first_of (codes "of") rows)
+  Ok (record { task = trace (record { ppem = ppem; traced = traced }); face = face; hex = is_given (codes "hex") rows })
+
 -- an argument that has only hyphens
 abbrev pub is_bare : Text → Bool
 is_bare argument = bytes_eq argument (codes "-") || bytes_eq argument (codes "--")
@@ -200,6 +223,9 @@ command_of_outline arguments = wanted (rows_by outline_app arguments) Usage >>= 
 
 abbrev pub command_of_dump : List Text → Result CommandView Fault
 command_of_dump arguments = wanted (rows_by dump_app arguments) Usage >>= dump_by
+
+abbrev pub command_of_trace : List Text → Result CommandView Fault
+command_of_trace arguments = wanted (rows_by trace_app arguments) Usage >>= trace_by
 
 -- the first argument is the name
 abbrev pub is_command : Text → List Text → Bool

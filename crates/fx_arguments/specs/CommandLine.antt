@@ -3,7 +3,7 @@ use Rattle.std.specs.Prelude.{◌≡◌, ◌↔◌, false, List, drop, codes, Re
 use Rattle.clap.specs.Walk.{Text}
 use Rattle.fx_arguments.specs.declared.fault.Fault.{Fault}
 use Rattle.fx_arguments.specs.declared.fault.Fault.TheVariants.{Usage}
-use Rattle.fx_arguments.specs.Arguments.{command_of_dump, command_of_make, command_of_outline, command_of_show, is_command}
+use Rattle.fx_arguments.specs.Arguments.{command_of_dump, command_of_make, command_of_outline, command_of_show, command_of_trace, is_command}
 use Rattle.fx_arguments.specs.Commands.{CommandView, explanation}
 use Rattle.fx_arguments.specs.Mistakes.{checked, line_of}
 
@@ -18,7 +18,8 @@ command_of arguments =
     else (if is_command (codes "show") (drop 1 arguments) then command_of_show (drop 1 arguments)
     else (if is_command (codes "outline") (drop 1 arguments) then command_of_outline (drop 1 arguments)
     else (if is_command (codes "dump") (drop 1 arguments) then command_of_dump (drop 1 arguments)
-    else (if is_command (codes "explain") (drop 1 arguments) then Ok (command_of_explain (drop 2 arguments)) else Err Usage))))
+    else (if is_command (codes "trace") (drop 1 arguments) then command_of_trace (drop 1 arguments)
+    else (if is_command (codes "explain") (drop 1 arguments) then Ok (command_of_explain (drop 2 arguments)) else Err Usage)))))
 
 -- the law: something is wrong exactly if they are a usage fault
 abbrev pub MistakesAreUsage : Type 0

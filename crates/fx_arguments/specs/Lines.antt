@@ -16,7 +16,7 @@ use Rattle.fx_request.specs.declared.refusal.Refusal.{Refusal}
 use Rattle.fx_request.specs.declared.request.Report.{Report}
 use Rattle.fx_request.specs.Refusals.{number_of, name_of, place_of}
 use Rattle.fx_arguments.specs.declared.done.Done.{Done}
-use Rattle.fx_arguments.specs.declared.done.Done.TheVariants.{Strike, Picture, Outline, Listing, Explanation}
+use Rattle.fx_arguments.specs.declared.done.Done.TheVariants.{Strike, Picture, Outline, Listing, Trace, Explanation}
 use Rattle.fx_arguments.specs.declared.fault.Fault.{Fault}
 use Rattle.fx_arguments.specs.declared.fault.Fault.TheVariants.{Usage, Early, Late}
 
@@ -94,12 +94,18 @@ notice_line notice = line_of (fate_words notice.unhinted ++ code_word notice.cod
 
 -- ---- a run
 
--- the line of what it did; only a strike has one
+-- the line of a character that the font lacks
+abbrev pub missing_line : List ℕ
+missing_line = line_of (codes "missing" ∷ [])
+
+-- the line of what it did; only a strike has one, and the trace of a character that is missing
 abbrev pub done_line : Done → List ℕ
 done_line (Strike report) = report_line report
 done_line Picture = []
 done_line Outline = []
 done_line Listing = []
+done_line (Trace true) = []
+done_line (Trace false) = missing_line
 done_line Explanation = []
 
 -- the line of how it ended

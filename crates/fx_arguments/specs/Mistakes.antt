@@ -10,9 +10,9 @@ use Rattle.fx_arguments.specs.declared.fault.Fault.TheVariants.{Early}
 use Rattle.fx_arguments.specs.declared.said.Said.{Said}
 use Rattle.fx_arguments.specs.declared.said.Said.TheVariants.{Line, Stopped}
 use Rattle.fx_arguments.specs.declared.verb.Verb.{Verb}
-use Rattle.fx_arguments.specs.declared.verb.Verb.TheVariants.{Make, Show, Outline, Dump}
+use Rattle.fx_arguments.specs.declared.verb.Verb.TheVariants.{Make, Show, Outline, Dump, Trace}
 use Rattle.fx_arguments.specs.Arguments.{dump_app, is_command, make_app, named_refused, outline_app, rows_by, show_app, size_of, unsigned_of}
-use Rattle.fx_arguments.specs.Arguments.{which_of}
+use Rattle.fx_arguments.specs.Arguments.{trace_app, which_of}
 use Rattle.fx_arguments.specs.Properties.{property_of}
 
 -- a line of these pieces
@@ -106,6 +106,23 @@ dump_checked rows = do
   _ ← taken_if (is_some (which_of name)) (codes "of") (codes "fpgm, prep or the number of a glyph") name
   face_checked (first_of (codes "face") rows)
 
+-- a glyph is traced, or a program by its name, and not both
+abbrev pub traced_checked : Option Text → Option Text → Option Text → Result (Unit {0}) Text
+traced_checked None None None = Err (said (codes "--char, --glyph or --of is missing" ∷ []))
+traced_checked (Some character) number None = choice_checked (Some character) number
+traced_checked None (Some number) None = choice_checked None (Some number)
+traced_checked None None (Some name) =
+    taken_if (is_some (which_of name)) (codes "of") (codes "fpgm, prep or the number of a glyph") name
+traced_checked (Some character) number (Some name) = Err (said (codes "--of can't be given with --char or --glyph" ∷ []))
+traced_checked None (Some number) (Some name) = Err (said (codes "--of can't be given with --char or --glyph" ∷ []))
+
+-- of `trace`'s
+unfoldable pub trace_checked : List Row → Result (Unit {0}) Text
+trace_checked rows = do
+  _ ← face_checked (first_of (codes "face") rows)
+  _ ← size_checked (first_of (codes "ppem") rows)
+  traced_checked (first_of (codes "char") rows) (first_of (codes "glyph") rows) (first_of (codes "of") rows)
+
 -- ---- the words
 
 -- a command with its options, and the check of their values
@@ -114,12 +131,14 @@ app_for Make = make_app
 app_for Show = show_app
 app_for Outline = outline_app
 app_for Dump = dump_app
+app_for Trace = trace_app
 
 abbrev pub checked_for : Verb → List Row → Result (Unit {0}) Text
 checked_for Make = make_checked
 checked_for Show = show_checked
 checked_for Outline = outline_checked
 checked_for Dump = dump_checked
+checked_for Trace = trace_checked
 
 -- a command takes these words, its name first
 abbrev pub is_taken : Verb → List Text → Bool
@@ -189,7 +208,8 @@ checked words =
     else (if is_command (codes "show") words then verb_checked Show words
     else (if is_command (codes "outline") words then verb_checked Outline words
     else (if is_command (codes "dump") words then verb_checked Dump words
-    else (if is_command (codes "explain") words then Ok tt else Err (command_said words)))))
+    else (if is_command (codes "trace") words then verb_checked Trace words
+    else (if is_command (codes "explain") words then Ok tt else Err (command_said words))))))
 
 -- the line, which has no bytes if nothing is wrong
 abbrev pub line_of : Result (Unit {0}) Text → Text

@@ -3,16 +3,16 @@ ghost use Rattle.std.specs.Prelude.{◌≡◌, Ok, codes, drop, map, option_map,
 ghost use Rattle.std.specs.Str.{bytes_eq};
 ghost use Rattle.clap.specs.Words.{found_of, rows_of};
 ghost use Rattle.fx_fixed.specs.Chain.{GivesUnless, map_ok, wanted};
-ghost use Rattle.fx_arguments.specs.Arguments.{choice_by, command_of_dump, command_of_make, command_of_outline, command_of_show};
+ghost use Rattle.fx_arguments.specs.Arguments.{choice_by, command_of_dump, command_of_make, command_of_outline, command_of_show, command_of_trace};
 ghost use Rattle.fx_arguments.specs.Arguments.{dump_by, face_by, is_command, make_by, mode_by, named_refused, outline_by, refused_by, show_by};
-ghost use Rattle.fx_arguments.specs.Arguments.{shown_by, size_by, texts, which_of};
+ghost use Rattle.fx_arguments.specs.Arguments.{shown_by, size_by, texts, trace_by, traced_by, which_of};
 ghost use Rattle.fx_arguments.specs.CommandLine.{command_of, command_of_explain};
 ghost use Rattle.fx_arguments.specs.Commands.{Refuses, seen};
 ghost use Rattle.fx_arguments.specs.declared.fault.Fault.TheVariants.{Usage};
 
 use crate::chars::{number, parse_chars};
-use crate::command::{Command, Make, Show, Task};
-use crate::commands::{dump_command, make_command, outline_command, show_command};
+use crate::command::{Command, Make, Show, Task, Trace, Traced};
+use crate::commands::{dump_command, make_command, outline_command, show_command, trace_command};
 use crate::fault::Fault;
 use crate::mistakes::explain;
 use crate::properties::given_properties;
@@ -31,6 +31,7 @@ pub fn read_arguments<'a>(alloc: Global, arguments: &'a [&'a str]) -> Result<Com
         Some((_, rest)) if is_command("show", rest) => read_show(alloc, rest),
         Some((_, rest)) if is_command("outline", rest) => read_outline(alloc, rest),
         Some((_, rest)) if is_command("dump", rest) => read_dump(alloc, rest),
+        Some((_, rest)) if is_command("trace", rest) => read_trace(alloc, rest),
         Some((_, rest)) if is_command("explain", rest) => read_explain(alloc, rest),
         _ => Err(Fault::Usage),
     }
@@ -76,6 +77,14 @@ fn read_dump<'a>(alloc: Global, arguments: &'a [&'a str]) -> Result<Command<'a>,
 {
     let matches = matches(dump_command(alloc)?, arguments)?;
     dump_of(&matches)
+}
+
+/// Reads the arguments from `trace` on.
+fn read_trace<'a>(alloc: Global, arguments: &'a [&'a str]) -> Result<Command<'a>, Fault>
+    ensures { GivesUnless Refuses seen result (command_of_trace (texts arguments.entry.now)) }
+{
+    let matches = matches(trace_command(alloc)?, arguments)?;
+    trace_of(&matches)
 }
 
 /// Reads the arguments from `explain` on.
@@ -236,6 +245,46 @@ fn dump_of<'a>(matches: &ArgMatches<'a>) -> Result<Command<'a>, Fault>
         face,
         hex: is_given(matches, "hex"),
     })
+}
+
+/// What the values of `trace` ask for: the size and what is traced are required.
+fn trace_of<'a>(matches: &ArgMatches<'a>) -> Result<Command<'a>, Fault>
+    ensures { GivesUnless Refuses seen result (trace_by (rows_of (found_of matches.now))) }
+{
+    let face = face_by(value(matches, "face"))?;
+    let ppem = required_size(value(matches, "ppem"))?;
+    let traced = traced_of(
+        value(matches, "char"),
+        value(matches, "glyph"),
+        value(matches, "of"),
+    )?;
+    Ok(Command {
+        task: Task::Trace(Trace { ppem, traced }),
+        face,
+        hex: is_given(matches, "hex"),
+    })
+}
+
+/// What is traced: a glyph, or a program by its name, and not both.
+fn traced_of(
+    character: Option<&str>,
+    glyph: Option<&str>,
+    name: Option<&str>,
+) -> Result<Traced, Fault>
+    ensures { GivesUnless Refuses (λ traced. traced) result (traced_by (option_map (λ text. text.now) character.entry)
+        (option_map (λ text. text.now) glyph.entry) (option_map (λ text. text.now) name.entry)) }
+{
+    match (character, glyph, name) {
+        (character, glyph, None) => {
+            let choice = choice_of(character, glyph)?;
+            Ok(Traced::Glyph(choice))
+        }
+        (None, None, Some(name)) => match which_of(name) {
+            Some(program) => Ok(Traced::Program(program)),
+            None => Err(Fault::Usage),
+        },
+        _ => Err(Fault::Usage),
+    }
 }
 
 /// The program of a name.

@@ -23,6 +23,8 @@ pub enum Task<'a> {
     Outline(Show),
     /// The listing of a program.
     Listing(FontProgram),
+    /// The trace of programs.
+    Trace(Trace),
     /// A line that explains what is wrong with arguments, without bytes if nothing is.
     Explanation(Vec<u8>),
 }
@@ -68,4 +70,20 @@ impl<'a> Make<'a> {
             on_refused: self.on_refused,
         }
     }
+}
+
+/// A trace: the size in pixels an em, and what is traced.
+#[derive(Clone, Copy)]
+pub struct Trace {
+    pub ppem: u16,
+    pub traced: Traced,
+}
+
+/// What is traced.
+#[derive(Clone, Copy)]
+pub enum Traced {
+    /// A program of the font, by its name or the number of its glyph.
+    Program(FontProgram),
+    /// The programs of a glyph and of its components.
+    Glyph(Choice),
 }

@@ -1,7 +1,7 @@
 //! The commands and their options.
 ghost use Rattle.std.specs.Prelude.{◌≡◌, codes, IfOk, false};
 ghost use Rattle.clap.specs.Words.{app_of, rule_of};
-ghost use Rattle.fx_arguments.specs.Arguments.{dump_app, flag_rule, make_app, many_rule, option_rule, outline_app, show_app};
+ghost use Rattle.fx_arguments.specs.Arguments.{dump_app, flag_rule, make_app, many_rule, option_rule, outline_app, show_app, trace_app};
 
 use clap::{Arg, ArgAction, Command};
 use std::alloc::{AllocError, Global};
@@ -46,6 +46,19 @@ pub fn outline_command<'a>(alloc: Global) -> Result<Command<'a>, AllocError>
         .arg(option(alloc, "char"))?
         .arg(option(alloc, "glyph"))?
         .arg(flag(alloc, "unhinted"))?
+        .arg(option(alloc, "face"))?
+        .arg(flag(alloc, "hex"))
+}
+
+/// `trace` with its options.
+pub fn trace_command<'a>(alloc: Global) -> Result<Command<'a>, AllocError>
+    ensures { IfOk result (λ command. app_of command ≡ trace_app) }
+{
+    Command::new(alloc, "trace")
+        .arg(option(alloc, "ppem"))?
+        .arg(option(alloc, "char"))?
+        .arg(option(alloc, "glyph"))?
+        .arg(option(alloc, "of"))?
         .arg(option(alloc, "face"))?
         .arg(flag(alloc, "hex"))
 }

@@ -13,6 +13,8 @@ pub enum Done {
     Outline,
     /// It wrote a listing.
     Listing,
+    /// It wrote a trace, if the font has the character whose glyph is traced.
+    Trace(bool),
     /// It explained what is wrong with arguments.
     Explanation,
 }

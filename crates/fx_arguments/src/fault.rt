@@ -13,7 +13,7 @@ pub enum Fault {
     Usage,
     /// A refusal before the job was begun.
     Early(Refusal),
-    /// A refusal of the job: of the strike, the picture, the outline or the listing.
+    /// A refusal of the job: of the strike, the picture, the outline, the listing or the trace.
     Late(Refusal),
 }
 

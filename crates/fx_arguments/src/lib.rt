@@ -27,7 +27,7 @@ mod verb;
 
 pub use arguments::read_arguments;
 pub use chars::parse_chars;
-pub use command::{Command, Make, Show, Task};
+pub use command::{Command, Make, Show, Task, Trace, Traced};
 pub use done::Done;
 pub use fault::Fault;
 pub use hexadecimal::decode_hex;

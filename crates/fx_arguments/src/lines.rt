@@ -4,7 +4,7 @@ ghost use Rattle.fx_request.specs.declared.refusal.Refusal.TheVariants.{OutOfMem
 ghost use Rattle.fx_fixed.specs.Changes.{change_of};
 ghost use Rattle.fx_arguments.specs.declared.line.TheConstants.{CAPACITY};
 ghost use Rattle.fx_arguments.specs.Lines.{code_word, counts_of, fate_words, halt_words, notice_line, place_words, program_words};
-ghost use Rattle.fx_arguments.specs.Lines.{Tells, refusal_line, refusal_words, report_line, spaced, usage_line};
+ghost use Rattle.fx_arguments.specs.Lines.{Tells, missing_line, refusal_line, refusal_words, report_line, spaced, usage_line};
 
 use crate::line::Line;
 use fx_fixed::{Digits, Sink, put_all};
@@ -38,6 +38,16 @@ pub(crate) fn line_of_usage() -> Line
 {
     let mut line = Line::new();
     line.word(b"usage");
+    line
+}
+
+/// The line of a character that the font lacks, but for its end.
+pub(crate) fn line_of_missing() -> Line
+    ensures text { result ++ 10 ∷ [] ≡ missing_line }
+    ensures room { length result < CAPACITY }
+{
+    let mut line = Line::new();
+    line.word(b"missing");
     line
 }
 

@@ -6,12 +6,12 @@ ghost use Rattle.fx_arguments.specs.Arguments.{texts};
 ghost use Rattle.fx_arguments.specs.Commands.{Refuses};
 ghost use Rattle.fx_arguments.specs.Mistakes.{IsSaid, SaysUnless, app_for, checked, checked_for, choice_checked, command_said, dump_checked};
 ghost use Rattle.fx_arguments.specs.Mistakes.{face_checked, has_hyphen, is_taken, line_of, make_checked, name_in, option_said, properties_checked};
-ghost use Rattle.fx_arguments.specs.Mistakes.{outline_checked, refused_checked, shown_checked};
+ghost use Rattle.fx_arguments.specs.Mistakes.{outline_checked, refused_checked, shown_checked, trace_checked, traced_checked};
 ghost use Rattle.fx_arguments.specs.Mistakes.{required, show_checked, size_checked, taken_if, taken_words, value_said, verb_checked, word_said};
 ghost use Rattle.fx_arguments.specs.Mistakes.{words_said};
 
 use crate::arguments::{is_command, named_refused, which_of};
-use crate::commands::{dump_command, make_command, outline_command, show_command};
+use crate::commands::{dump_command, make_command, outline_command, show_command, trace_command};
 use crate::fault::Fault;
 use crate::properties::property_of;
 use crate::said::{Said, say};
@@ -48,6 +48,9 @@ fn checked(alloc: Global, words: &[&str]) -> Result<(), Said>
     if is_command("dump", words) {
         return verb_checked(alloc, Verb::Dump, words);
     }
+    if is_command("trace", words) {
+        return verb_checked(alloc, Verb::Trace, words);
+    }
     if is_command("explain", words) {
         return Ok(());
     }
@@ -73,6 +76,7 @@ fn command_for<'a>(alloc: Global, verb: Verb) -> Result<Command<'a>, AllocError>
         Verb::Show => show_command(alloc),
         Verb::Outline => outline_command(alloc),
         Verb::Dump => dump_command(alloc),
+        Verb::Trace => trace_command(alloc),
     }
 }
 
@@ -231,6 +235,7 @@ fn values_checked(alloc: Global, verb: Verb, matches: &ArgMatches<'_>) -> Result
         Verb::Show => show_checked(alloc, matches),
         Verb::Outline => outline_checked(alloc, matches),
         Verb::Dump => dump_checked(alloc, matches),
+        Verb::Trace => trace_checked(alloc, matches),
     }
 }
 
@@ -298,6 +303,42 @@ fn dump_checked(alloc: Global, matches: &ArgMatches<'_>) -> Result<(), Said>
     let kind = "fpgm, prep or the number of a glyph";
     taken_if(alloc, which_of(name).is_some(), "of", kind, name)?;
     face_checked(alloc, value(matches, "face"))
+}
+
+/// The values of `trace`'s options.
+#[tactic(auto, unfolding(crate::specs::Mistakes::trace_checked))]
+fn trace_checked(alloc: Global, matches: &ArgMatches<'_>) -> Result<(), Said>
+    ensures { SaysUnless (λ u. u) result (trace_checked (rows_of (found_of matches.now))) }
+{
+    face_checked(alloc, value(matches, "face"))?;
+    size_checked(alloc, value(matches, "ppem"))?;
+    traced_checked(
+        alloc,
+        value(matches, "char"),
+        value(matches, "glyph"),
+        value(matches, "of"),
+    )
+}
+
+/// A glyph that is traced, or a program by its name.
+fn traced_checked(
+    alloc: Global,
+    character: Option<&str>,
+    glyph: Option<&str>,
+    name: Option<&str>,
+) -> Result<(), Said>
+    ensures { SaysUnless (λ u. u) result (traced_checked (option_map (λ text. text.now) character.entry)
+        (option_map (λ text. text.now) glyph.entry) (option_map (λ text. text.now) name.entry)) }
+{
+    match (character, glyph, name) {
+        (None, None, None) => Err(say(alloc, &["--char, --glyph or --of is missing"])),
+        (character, glyph, None) => choice_checked(alloc, character, glyph),
+        (None, None, Some(name)) => {
+            let kind = "fpgm, prep or the number of a glyph";
+            taken_if(alloc, which_of(name).is_some(), "of", kind, name)
+        }
+        _ => Err(say(alloc, &["--of can't be given with --char or --glyph"])),
+    }
 }
 
 /// An option that is required.

@@ -7,7 +7,9 @@ ghost use Rattle.fx_arguments.specs.Tellers.{Tells, begun};
 use crate::done::Done;
 use crate::fault::Fault;
 use crate::line::Line;
-use crate::lines::{line_of_notice, line_of_refusal, line_of_report, line_of_usage};
+use crate::lines::{
+    line_of_missing, line_of_notice, line_of_refusal, line_of_report, line_of_usage,
+};
 use fx_fixed::{Sink, put_all};
 use fx_request::{Listener, Notice};
 use std::marker::Model;
@@ -84,13 +86,15 @@ impl<'e, E: Sink> Teller<'e, E> {
         }
     }
 
-    /// Tells what a run did. Only a strike has a line.
+    /// Tells what a run did. Only a strike has a line, and a trace of a character that is missing.
     fn tell_done(&mut self, done: Done)
         ensures { Tells self.old self.new (done_line done) }
     {
         match done {
             Done::Strike(report) => self.tell(line_of_report(report)),
-            Done::Picture | Done::Outline | Done::Listing | Done::Explanation => {}
+            Done::Trace(false) => self.tell(line_of_missing()),
+            Done::Picture | Done::Outline | Done::Listing | Done::Trace(true) | Done::Explanation =>
+                {}
         }
     }
 

@@ -11,4 +11,6 @@ pub enum Verb {
     Outline,
     /// `dump`.
     Dump,
+    /// `trace`.
+    Trace,
 }

@@ -14,6 +14,7 @@ use Rattle.fx_request.specs.declared.refusal.Refusal.TheVariants.{WriteFailed}
 use Rattle.fx_fixed.specs.Wrote.{Wrote}
 use Rattle.fx_sfnt.specs.Collections.{FontFileView, face_in}
 use Rattle.fx_machine.specs.declared.program.FontProgram.{FontProgram}
+use Rattle.fx_machine.specs.declared.program.FontProgram.TheVariants as font
 use Rattle.fx_request.specs.declared.request.Report.{Report}
 use Rattle.fx_strike.specs.Title.{Title}
 use Rattle.fx_request.specs.declared.notice.Notice.{Notice}
@@ -23,14 +24,20 @@ use Rattle.fx_strike.specs.Choices.{choice_of, opened_choice_of}
 use Rattle.fx_strike.specs.Outlines.{Outlines, outlined_of}
 use Rattle.fx_strike.specs.Headline.{Leaves, notices_of}
 use Rattle.fx_strike.specs.Listings.{Lists, program_of}
+use Rattle.fx_strike.specs.declared.trace.Traced as strike_trace
+use Rattle.fx_strike.specs.Traces.{Tells as TellsTrace, trace_of}
 use Rattle.fx_arguments.specs.Limits.{max_input, max_line}
 use Rattle.fx_arguments.specs.declared.done.Done.{Done}
-use Rattle.fx_arguments.specs.declared.done.Done.TheVariants.{Strike, Picture, Outline, Listing, Explanation}
+use Rattle.fx_arguments.specs.declared.done.Done.TheVariants.{Strike, Picture, Outline, Listing, Trace, Explanation}
 use Rattle.fx_arguments.specs.declared.fault.Fault.{Fault}
 use Rattle.fx_arguments.specs.declared.fault.Fault.TheVariants.{Usage, Early, Late}
 use Rattle.fx_arguments.specs.CommandLine.{command_of}
-use Rattle.fx_arguments.specs.Commands.{CommandView, MakeView, TaskView, strike, picture, outline, listing, explanation}
+use Rattle.fx_arguments.specs.Commands.{CommandView, MakeView, TaskView, strike, picture, outline, listing, trace, explanation}
 use Rattle.fx_arguments.specs.declared.command.Show.{Show}
+use Rattle.fx_arguments.specs.declared.command.Trace as asked
+use Rattle.fx_arguments.specs.declared.command.Traced.{Traced}
+use Rattle.fx_arguments.specs.declared.command.Traced.TheVariants.{Program, Glyph}
+use Rattle.fx_request.specs.declared.request.Choice.TheVariants.{Character, Number}
 use Rattle.fx_arguments.specs.Lines.{Tells, notice_line, outcome_line, status_of}
 use Rattle.fx_cli.specs.Pictures.{Shows}
 use Rattle.fx_arguments.specs.Input.{bytes_of_hex, line_of, rest_of, arguments_of_line}
@@ -101,14 +108,26 @@ abbrev pub ListingLeaves : FontProgram → FontFileView → Change → Result (U
 ListingLeaves what font sink answer =
     Lists (program_of font what) sink answer
 
+-- what is traced, as a trace is asked for
+abbrev pub programs_of : Traced → strike_trace.Traced
+programs_of (Program font.Fpgm) = strike_trace.TheVariants.Fpgm
+programs_of (Program font.Prep) = strike_trace.TheVariants.Prep
+programs_of (Program (font.Glyph g)) = strike_trace.TheVariants.Number g
+programs_of (Glyph (Number g)) = strike_trace.TheVariants.Number g
+programs_of (Glyph (Character code)) = strike_trace.TheVariants.Character code
+
+-- what a call that writes the trace of programs leaves of it
+abbrev pub TraceLeaves : asked.Trace → FontFileView → Change → Result Bool Refusal → Type 0
+TraceLeaves programs font sink answer = TellsTrace (trace_of font programs.ppem (programs_of programs.traced)) sink answer
+
 -- what a call that writes a line leaves of it
 abbrev pub LineLeaves : List ℕ → Change → Result (Unit {0}) Refusal → Type 0
 LineLeaves line sink (Ok _) = Wrote sink line (Ok tt)
 LineLeaves line sink (Err (WriteFailed n)) = Wrote sink line (Err (record { 0 = n }))
 LineLeaves line sink (Err refusal) = ⊥
 
--- what a task leaves of the sink, from a font: its strike, the picture or the outline of a glyph, or the listing of a program of
--- it; or a line, whatever the font is; and what it told of refused characters. Only a strike tells of any
+-- what a task leaves of the sink, from a font: its strike, the picture or the outline of a glyph, the listing of a program of it, or
+-- the trace of programs; or a line, whatever the font is; and what it told of refused characters. Only a strike tells of any
 abbrev pub TaskLeaves : TaskView → FontFileView → Change → List Notice → Result Done Refusal → Type 0
 TaskLeaves (strike make) font sink told (Ok (Strike report)) = MakeLeaves make font sink told (Ok report)
 TaskLeaves (strike make) font sink told (Err refusal) = MakeLeaves make font sink told (Err refusal)
@@ -116,6 +135,8 @@ TaskLeaves (picture show) font sink told (Ok Picture) = ShowLeaves show font sin
 TaskLeaves (picture show) font sink told (Err refusal) = ShowLeaves show font sink (Err refusal) × (told ≡ [])
 TaskLeaves (outline show) font sink told (Ok Outline) = OutlineLeaves show font sink (Ok tt) × (told ≡ [])
 TaskLeaves (outline show) font sink told (Err refusal) = OutlineLeaves show font sink (Err refusal) × (told ≡ [])
+TaskLeaves (trace programs) font sink told (Ok (Trace there)) = TraceLeaves programs font sink (Ok there) × (told ≡ [])
+TaskLeaves (trace programs) font sink told (Err refusal) = TraceLeaves programs font sink (Err refusal) × (told ≡ [])
 TaskLeaves (listing what) font sink told (Ok Listing) = ListingLeaves what font sink (Ok tt) × (told ≡ [])
 TaskLeaves (listing what) font sink told (Err refusal) = ListingLeaves what font sink (Err refusal) × (told ≡ [])
 TaskLeaves (explanation line) font sink told (Ok Explanation) = LineLeaves line sink (Ok tt) × (told ≡ [])

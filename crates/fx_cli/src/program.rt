@@ -6,18 +6,19 @@ ghost use Rattle.fx_arguments.specs.Arguments.{texts};
 ghost use Rattle.fx_arguments.specs.Commands.{seen, seen_task};
 ghost use Rattle.fx_fixed.specs.Changes.{change_of};
 ghost use Rattle.fx_sfnt.specs.Collections.{face_in};
-ghost use Rattle.fx_cli.specs.Runs.{Ends, Runs, TaskLeaves, called};
+ghost use Rattle.fx_cli.specs.Runs.{Ends, Runs, TaskLeaves, called, programs_of};
 ghost use Rattle.fx_cli.specs.Steps.{EndsAfter, EndsText, Telling};
 
 use crate::show::put_picture;
 use fx_arguments::{
-    Command, Done, Fault, LINE_BUFFER, ReadAhead, Task, Teller, arguments_of_line, decode_hex,
-    read_arguments, read_line,
+    Command, Done, Fault, LINE_BUFFER, ReadAhead, Task, Teller, Traced, arguments_of_line,
+    decode_hex, read_arguments, read_line,
 };
 use fx_fixed::{Sink, Source, put_all};
-use fx_request::Refusal;
+use fx_machine::FontProgram;
+use fx_request::{Choice, Refusal};
 use fx_sfnt::FontFile;
-use fx_strike::{listing_of, make_strike_telling, write_outline};
+use fx_strike::{listing_of, make_strike_telling, trace_of, write_outline};
 use std::alloc::Global;
 
 /// The size of the buffer that the input is read through.
@@ -214,10 +215,27 @@ fn run_task<O: Sink, E: Sink>(
             listing_of(font, *what, out)?;
             Ok(Done::Listing)
         }
+        Task::Trace(trace) => {
+            let there = trace_of(alloc, font, trace.ppem, programs_of(trace.traced), out)?;
+            Ok(Done::Trace(there))
+        }
         Task::Explanation(line) => {
             put_all(out, line)?;
             Ok(Done::Explanation)
         }
+    }
+}
+
+/// What is traced, as a trace is asked for.
+fn programs_of(traced: Traced) -> fx_strike::Traced
+    ensures { result ≡ programs_of traced }
+{
+    match traced {
+        Traced::Program(FontProgram::Fpgm) => fx_strike::Traced::Fpgm,
+        Traced::Program(FontProgram::Prep) => fx_strike::Traced::Prep,
+        Traced::Program(FontProgram::Glyph(number)) => fx_strike::Traced::Number(number),
+        Traced::Glyph(Choice::Number(number)) => fx_strike::Traced::Number(number),
+        Traced::Glyph(Choice::Character(code)) => fx_strike::Traced::Character(code),
     }
 }
 
