@@ -23,7 +23,12 @@ fn size() -> Result<Ppem, Fail> {
 
 /// The machine of a font of which no program halts.
 pub fn machine<'a>(alloc: Global, file: &'a [u8]) -> Result<Machine<'a>, Fail> {
-    Ok(Machine::new(alloc, Font::open(&FontFile::of(file))?, size()?, &mut Unwatched)?)
+    Ok(Machine::new(
+        alloc,
+        Font::open(&FontFile::of(file))?,
+        size()?,
+        &mut Unwatched,
+    )?)
 }
 
 // A point at rest on the curve.
@@ -329,7 +334,12 @@ const EIGHT: &str = "b0 00 2c 2d
 
 // What the programs of a font use up before any glyph, or where they halt.
 fn prelude_of(alloc: Global, file: &[u8]) -> Result<Result<Usage, Halt>, Fail> {
-    match Machine::new(alloc, Font::open(&FontFile::of(file))?, size()?, &mut Unwatched) {
+    match Machine::new(
+        alloc,
+        Font::open(&FontFile::of(file))?,
+        size()?,
+        &mut Unwatched,
+    ) {
         Ok(machine) => Ok(Ok(machine.prelude())),
         Err(MachineFault::Halted(halt)) => Ok(Err(halt)),
         Err(fault) => Err(fault.into()),
