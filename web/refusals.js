@@ -14,7 +14,7 @@ export const REFUSALS = {
   21: {"name": "TooManyComponents", "means": "the character's glyph g has more than 256 component records in its whole tree", "todo": "leave the characters with that glyph out"},
   22: {"name": "TooManyPoints", "means": "the character's glyph g has more than 16,384 points", "todo": "leave the characters with that glyph out"},
   23: {"name": "BadPointMatch", "means": "composite g matches a point that is not there", "todo": "leave the characters with that glyph out"},
-  24: {"name": "BadGlyphNumber", "means": "the map or a composite names a glyph that the font does not have", "todo": "the font is damaged"},
+  24: {"name": "BadGlyphNumber", "means": "the map, a composite or a number that was given names a glyph that the font does not have", "todo": "give a number below the number of glyphs; if none was given, the font is damaged"},
   25: {"name": "NoFace", "means": "the collection has no face of the number that `--face` gives, or the file is no collection and the number is not 0", "todo": "give a number below the number of faces; a file that is no collection has face 0 alone"},
   30: {"name": "StackUnder", "means": "an instruction needs more numbers than the stack holds; the points of a loop and the pairs of a delta count too", "todo": "push what the instruction needs first: the stack is empty when a program begins"},
   31: {"name": "StackOver", "means": "an instruction leaves more numbers than the stack has room for, maxStackElements + 32", "todo": "raise maxStackElements in `maxp`"},
