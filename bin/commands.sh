@@ -110,7 +110,7 @@ mkstrike trace writes one line for each instruction that a font's programs execu
       -o FILE       write to FILE, which is there only if all was done; else to standard output
       FONT          the font's file; else standard input
 
-    mkstrike trace --ppem 16 --char 41 font.ttf | head -n 8
+    mkstrike trace --ppem 12 --char 6c font.ttf -o l.txt
 END
 }
 

@@ -121,6 +121,7 @@ advice() {
         62) echo 'give another name' ;;
         63) echo 'give another name or text, or fewer properties' ;;
         64) echo 'give a sum of the modes of mkstrike.h' ;;
+        65) echo 'make the block by mkstrike_prepare for this font, face, size and mode' ;;
         70) echo 'make room, and run it again' ;;
         71) echo 'look at the device or pipe that the input comes from' ;;
         72) echo 'give the font itself without --hex, or its text by xxd -p' ;;

@@ -117,7 +117,7 @@ ROWS = [
     ("duplicate --chars", ["--chars", "41"], SANS, 2, USAGE, "--chars is given twice"),
     ("duplicate with =", ["--chars=41"], SANS, 2, USAGE, "'--chars=41' is given twice"),
     ("duplicate flag", ["--hex", "--hex"], SANS, 2, USAGE, "'--hex' is given twice"),
-    ("command missing", ["--ppem", "16", "--chars", "41"], SANS, 2, USAGE, "the first word is the command, make, show, outline, dump, explain, or help, not '--ppem'"),
+    ("command missing", ["--ppem", "16", "--chars", "41"], SANS, 2, USAGE, "the first word is the command, make, show, outline, dump, trace, explain, or help, not '--ppem'"),
     ("command misspelt", ["mkae", "--ppem", "16"], SANS, 2, USAGE, "unknown command 'mkae'; did you mean 'make'?"),
     ("font in place of the command", ["font.ttf"], SANS, 2, USAGE, "unknown command 'font.ttf'; 'mkstrike help' lists the commands"),
     ("a font that is there in place of the command", ["cut.ttf", "16"], SANS, 2, USAGE, "'mkstrike make --ppem 16 --chars 20-7e FONT' makes a strike"),
