@@ -161,7 +161,7 @@ export class Mkstrike {
       const glyph = new Uint16Array(this.calls.memory.buffer, Number(id), 1)[0], told = take(this.size('mkstrike_outlined'));
       const call = (points, room, ends, contours) => this.calls.mkstrike_outline(...this.ofFont(), ppem, mode & HINTED, glyph, points,
         BigInt(room), ends, BigInt(contours), told, refused);
-      if (call(0n, 0, 0n, 0)) return {};
+      if (call(told, 0, told, 0)) return {}; // an address, since the calls themselves know no NULL
       const counts = this.read('mkstrike_outlined', told), each = this.size('mkstrike_outline_point');
       const points = take(counts.points * each), ends = take(2 * counts.contours);
       if (call(points, counts.points, ends, counts.contours)) return {};
@@ -219,27 +219,6 @@ export class Mkstrike {
       if (status) return { refused: this.read('mkstrike_refused', refused) };
       const found = new Uint16Array(this.calls.memory.buffer, Number(ids), chars.length);
       return { chars: chars.filter((_, k) => found[k]) };
-    });
-  }
-
-  // The outline of a character: its contours, each a list of points with `x` and `y` in 1/64 pixels and whether they are `on` the curve,
-  // and its `advance`. Null if the font lacks the character or it is refused.
-  outline(ppem, mode, code) {
-    return this.within((take) => {
-      const refused = take(this.size('mkstrike_refused')), told = take(this.size('mkstrike_outlined'));
-      const codes = take(new Uint8Array(Uint32Array.of(code).buffer)), id = take(2);
-      if (this.calls.mkstrike_glyph_ids(...this.ofFont(), codes, 1n, id, 1n, refused)) return null;
-      const glyph = new Uint16Array(this.calls.memory.buffer, Number(id), 1)[0];
-      const call = (points, room, ends, count) => this.calls.mkstrike_outline(...this.ofFont(), ppem, mode, glyph, points, BigInt(room), ends,
-        BigInt(count), told, refused);
-      if (!glyph || call(told, 0, told, 0)) return null;
-      const { points: count, contours, advance } = this.read('mkstrike_outlined', told), size = this.size('mkstrike_outline_point');
-      const points = take(size * count), ends = take(2 * contours);
-      if (call(points, count, ends, contours)) return null;
-      const all = Array.from({ length: count }, (_, k) => this.read('mkstrike_outline_point', points + BigInt(k * size)));
-      const lasts = Array.from(new Uint16Array(this.calls.memory.buffer, Number(ends), contours));
-      const part = (end, k) => all.slice(k ? lasts[k - 1] + 1 : 0, end + 1).map(({ x, y, on_curve }) => ({ x, y, on: on_curve === 1 }));
-      return { contours: lasts.map(part), advance };
     });
   }
 

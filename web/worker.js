@@ -8,7 +8,7 @@ const CODES = 0x110000, AT_ONCE = 16384; // code points, and how many are looked
 
 let mkstrike = null;
 // The work under way, the most urgent first: each is a generator that yields between two slices.
-const under = { draw: null, outline: null, save: null, list: null };
+const under = { outline: null, draw: null, save: null, list: null };
 let isRunning = false;
 
 // Lets messages in that came meanwhile.
@@ -121,9 +121,6 @@ async function take(data) {
     forget();
     mkstrike.setFont(data.bytes, data.face);
     under.list = list(data);
-  } else if (data.kind === 'outline') {
-    const { id, ppem, mode, code } = data;
-    postMessage({ kind: 'outline', id, code, contours: mkstrike.outline(ppem, mode, code)?.contours ?? [] });
   } else {
     under[data.kind] = { draw, outline, save }[data.kind](data);
     run();
