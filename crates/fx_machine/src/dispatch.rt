@@ -304,6 +304,7 @@ impl State {
     }
 
     /// The row of the opcode at an address of a program.
+    #[inline(always)]
     #[tactic(auto, unfolding(crate::specs::Table::row_here, crate::specs::Table::row_of, crate::specs::Table::plain_of))]
     pub fn row(
         &mut self,

@@ -16,6 +16,7 @@ use crate::state::State;
 use fx_code::{Code, Targets};
 
 /// Executes the instruction at an address of a program with these bytes; if that faults, the points are as they were.
+#[inline(always)]
 fn execute(
     state: &mut State,
     code: &Code<'_>,
@@ -43,7 +44,9 @@ fn execute(
     )
 }
 
-/// Executes the instruction at the cursor, and says whether the program may have changed.
+/// Executes the instruction at the cursor, and says whether the program may have changed. It and what it calls are inlined into the loop of
+/// each run, watched or not: a call for each instruction would cost a third of a strike.
+#[inline(always)]
 pub fn advance(
     cursor: &mut Cursor,
     calls: &mut Calls,
