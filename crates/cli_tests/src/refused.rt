@@ -1,4 +1,4 @@
-//! Strikes that are made in spite of a character that is refused.
+//! Strikes that are made although a character is refused.
 use crate::fonts::{fixture, patch};
 use crate::runs::ends;
 use fx_cli::run;

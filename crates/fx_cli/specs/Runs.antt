@@ -217,7 +217,7 @@ abbrev pub IsUntouched : Change → Change → Type 0
 IsUntouched source sink = IsUnread source × (sink.bytes ≡ sink.bytes_before) × (sink.faults ≡ sink.faults_before)
 
 -- a run on these arguments, the program's name first: how it ended, its status, and its lines for people: one for each refused
--- character of a strike that was made in spite of it, and then that of how the run ended
+-- character that did not stop the strike, and then that of how the run ended
 pub record Runs (given : List Text) (source sink err : Change) (status : ℕ) : Type 0 where
   pub outcome : Result Done Fault
   pub notices : List Notice

@@ -68,7 +68,7 @@ fn remember(targets: &mut [Target], from: usize, after: usize)
 }
 
 impl<'a> Targets<'a> {
-    /// A program of which nothing is remembered yet.
+    /// A program whose jumps are not remembered yet.
     pub fn new(alloc: Global, code: Code<'a>) -> Result<Targets<'a>, AllocError>
         ensures { IfOk result (λ t. t ≡ code.entry) }
     {

@@ -2,6 +2,10 @@
 
 use fx_winding::Pieces;
 use std::alloc::Global;
+use std::marker::Model;
+
+ghost use Rattle.std.specs.Prelude.{◌≡◌, List, []};
+ghost use Rattle.fx_winding.specs.declared.point.Piece.{Piece};
 
 /// What the bits of a shape are made with and what the next shape takes over, so that not each shape asks for memory: a buffer of
 /// pieces, and the lists of a scan.
@@ -11,9 +15,17 @@ pub struct Scratch {
     pub(crate) scan: fx_winding::Scratch,
 }
 
+/// A scratch, seen as the pieces in its buffer.
+impl Model for Scratch {
+    ghost Value = { List Piece };
+    ghost view = { λ s. s.pieces };
+}
+
 impl Scratch {
-    /// Nothing yet. It takes no memory.
-    pub fn new(alloc: Global) -> Scratch {
+    /// Without a piece. It takes no memory.
+    pub fn new(alloc: Global) -> Scratch
+        ensures { result ≡ [] }
+    {
         Scratch {
             pieces: Pieces::new(alloc),
             scan: fx_winding::Scratch::new(alloc),

@@ -2,7 +2,7 @@
 //!
 //! A refusal has a number that never changes, a name and a place: `Refusal::entry` is their table. The faults of the crates below
 //! become refusals here. The code points of a request are made in rising order, each once, by `rising_codes`. A `Listener` is told
-//! of the characters that were refused, if the strike is made in spite of them.
+//! of the characters that were refused and did not stop the strike.
 #![tactic(auto)]
 
 mod characters;

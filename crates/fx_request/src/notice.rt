@@ -2,7 +2,7 @@
 
 use crate::refusal::Refusal;
 
-/// What is told of a character that was refused, while its strike was made in spite of it.
+/// What is told of a refused character that did not stop the strike.
 #[derive(Clone, Copy, Debug, PartialEq, Eq)]
 pub struct Notice {
     /// The code point.

@@ -214,7 +214,7 @@ pixels units ppem em = near_of (units *ℤ pos ppem) (pos em)
 abbrev pub fates_of : Setting → OnRefused → List ℕ → Result (List Fate) Refusal
 fates_of setting refused codes = map_chain (fate_of setting refused) (filter (λ c. not (is_missing setting c)) codes)
 
--- the strike of a title, and of characters of which this becomes
+-- the strike of a title, of these characters with their fates
 abbrev pub plan_from : Setting → Title → List ℕ → List Fate → Plan
 plan_from setting title chars fates = record {
   name = title.name;

@@ -128,7 +128,7 @@ impl<'a, S: Scan> Tools<'a, S> {
         Ok(())
     }
 
-    /// Adds what is seen of a character of which this becomes, and tells of one that is refused.
+    /// Adds what is seen of a character with this fate, and tells of one that is refused.
     fn see_fate<L: Listener>(
         &self,
         code: u32,

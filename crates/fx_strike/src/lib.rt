@@ -7,7 +7,7 @@
 //! exists, or that it is out of memory, or a fault of the writer.
 //! `specs/Strike` says what a strike is, `specs/Headline` what a call returns and leaves; both cite the definitions of the crates
 //! below and nothing of their code. A request says what becomes of characters that are refused, and `make_strike_telling` tells a
-//! listener of those in spite of which the strike was made. `one` makes one character alone. A `Striker` is a font at a size that
+//! listener of those that did not stop the strike. `one` makes one character alone. A `Striker` is a font at a size that
 //! is opened once, and makes characters and strikes one after the other; the other calls open one, and let it go.
 //!
 //! A strike is made in two passes over its characters: the first surveys it, so that no byte is written of a strike that is

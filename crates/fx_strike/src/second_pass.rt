@@ -29,7 +29,7 @@ use fx_raster::{Scan, Scratch};
 use fx_request::{OnRefused, Refusal};
 
 impl<'a, S: Scan> Tools<'a, S> {
-    /// Writes the lines of a character of which this becomes. One that is left out has none.
+    /// Writes the lines of a character with this fate. One that is left out has none.
     fn write_fate<W: Sink>(
         &self,
         code: u32,

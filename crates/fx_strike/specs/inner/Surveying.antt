@@ -77,7 +77,7 @@ pub record Has (sketch : Sketch) (old new : Seen) : Type 0 where
   pub missing : new.report.missing ≡ old.report.missing
   pub usage : new.report.usage ≡ usage_with old.report.usage sketch.usage
 
--- a character was seen, of which this becomes
+-- a character with this fate was seen
 abbrev pub HasFate : Fate → Seen → Seen → Type 0
 HasFate (drawn sketch) old new = Has sketch old new
 HasFate (unhinted notice sketch) old new = Has sketch old new
