@@ -1,11 +1,11 @@
 //! What shapes work with.
 
+ghost use Rattle.std.specs.Prelude.{◌≡◌, List, []};
+ghost use Rattle.fx_winding.specs.declared.point.Piece.{Piece};
+
 use fx_winding::Pieces;
 use std::alloc::Global;
 use std::marker::Model;
-
-ghost use Rattle.std.specs.Prelude.{◌≡◌, List, []};
-ghost use Rattle.fx_winding.specs.declared.point.Piece.{Piece};
 
 /// What the bits of a shape are made with and what the next shape takes over, so that not each shape asks for memory: a buffer of
 /// pieces, and the lists of a scan.
@@ -18,6 +18,7 @@ pub struct Scratch {
 /// A scratch, seen as the pieces in its buffer.
 impl Model for Scratch {
     ghost Value = { List Piece };
+
     ghost view = { λ s. s.pieces };
 }
 
