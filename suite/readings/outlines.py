@@ -40,6 +40,17 @@ def _match_before(c):
         maker, made, number, part, points if part.flags & 2 else [p for p in maker.make(part.glyph, 1).points]))
 
 
+@reading("empty_component_refused", "composites", "a component without bytes is a glyph that ends early")
+def _empty_component(c):
+    def add_part(right):
+        def strict(maker, made, number, part, depth):
+            if not maker.font.glyph_bytes(part.glyph):
+                raise Refused("GlyphShort", glyph=part.glyph)
+            right(maker, made, number, part, depth)
+        return strict
+    c.attribute(outline.Maker, "add_part", add_part)
+
+
 for _em in (1000, 2048):
     replaced("em_of_%d" % _em, "scaling phantoms", "an em is %d units whatever head says" % _em, "scaled",
              lambda right, em=_em: lambda v, ppem, upem: right(v, ppem, em))
@@ -85,6 +96,12 @@ def _advance_in_pixels(c):
         glyph)[:3] + (numbers.to_pixel(right(maker, glyph)[3]),))
 
 
+@reading("advance_of_hmtx", "points phantoms", "the advance of a hinted glyph is that of hmtx, scaled")
+def _advance_of_hmtx(c):
+    c.attribute(outline.Maker, "outline", lambda right: lambda maker, glyph: right(maker, glyph)[:3] + (
+        maker.scale(maker.font.advance(glyph)),))
+
+
 @reading("bad_tables_read", "grammar", "tables that are cut are read all the same")
 def _bad_tables(c):
     c.attribute(fontfile.Font, "need", lambda right: lambda tag, table, length: None)
@@ -94,6 +111,23 @@ def _bad_tables(c):
 def _missing_tables(c):
     c.attribute(fontfile.Font, "directory", lambda right: lambda data: collections.defaultdict(bytes,
         {**{tag: b"" for tag in fontfile.REQUIRED}, **right(data)}))
+
+
+replaced("zero_contours_composite", "grammar", "a glyph of 0 contours is a composite", "read_glyph",
+         lambda right: lambda data, glyph: right(b"\xFF\xFF" + data[2:] if data[:2] == b"\0\0" else data, glyph))
+
+
+@reading("empty_offset_checked", "grammar", "the offset of an empty glyph has to lie in glyf too")
+def _empty_offset(c):
+    def glyph_bytes(right):
+        def strict(font, glyph):
+            found = right(font, glyph)
+            start = fontfile.u32(font.loca, 4 * glyph) if font.long else 2 * fontfile.u16(font.loca, 2 * glyph)
+            if start > len(font.glyf):
+                raise Refused("BadLoca", glyph=glyph)
+            return found
+        return strict
+    c.attribute(fontfile.Font, "glyph_bytes", glyph_bytes)
 
 
 replaced("all_on_the_curve", "grammar scan", "all points are on the curve", "read_flags",
