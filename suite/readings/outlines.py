@@ -1,7 +1,7 @@
 """Wrong readings of composites, metrics, `loca`, `glyf`, maps, scan conversion and drop-out control."""
 import collections
 
-from reference import answer, charmap, fontfile, numbers, outline, scan
+from reference import answer, charmap, dropout, fontfile, numbers, outline, scan
 from reference.faults import Refused
 
 from .base import reading, replaced, value_of
@@ -186,10 +186,17 @@ replaced("short_negative", "grammar", "a short delta without its sign bit is pos
 replaced("same_is_zero_place", "grammar", "a repeated coordinate is 0", "read_deltas",
          lambda right: lambda reader, flags, short, same: [
     0 if f & same and not f & short else v for v, f in zip(right(reader, flags, short, same), flags)])
+replaced("coordinates_absolute", "grammar", "coordinates are places, not distances from the point before", "read_deltas",
+         lambda right: lambda reader, flags, short, same: _differences(right(reader, flags, short, same)))
 replaced("repeat_counts_itself", "grammar", "a flag's repeat count includes the flag itself", "read_flags",
          lambda right: lambda reader, count: _repeat_less(reader, count))
 replaced("cut_bytes_are_zero", "grammar", "bytes that are cut are 0", "read_glyph",
          lambda right: lambda data, glyph: right(data + bytes(60) if data else data, glyph))
+
+
+def _differences(values):
+    """Each value without the one before."""
+    return [value - before for before, value in zip([0] + values, values)]
 
 
 def _repeat_less(reader, count):
@@ -266,7 +273,7 @@ replaced("even_odd_winding", "scan", "a place is inside if its winding number is
          lambda right: lambda n: n % 2 == 1)
 replaced("positive_winding", "scan", "a place is inside if its winding number is above 0", "is_inside",
          lambda right: lambda n: n > 0)
-replaced("centres_on_the_outline_left", "scan", "a centre on the outline is set by the winding number alone", "is_on",
+replaced("centres_on_the_outline_left", "scan dropout", "a centre on the outline is set by the winding number alone", "is_on",
          lambda right: lambda piece, p: False)
 replaced("midpoint_rounded", "scan", "points between points off the curve are rounded to 1/64 pixel", "middle",
          lambda right: lambda a, b: tuple((x + y) // 4 * 2 for x, y in zip(a, b)))
@@ -292,6 +299,21 @@ def _upper(piece, p):
 
 
 # ---- drop-out control
+@reading("rule_three_always", "scan", "drop-out control is on, whether or not it is asked for")
+def _rule_three_always(c):
+    c.attribute(scan, "bits", lambda right: dropout.bits)
+
+
+@reading("one_pixel_at_least", "dropout", "a glyph with contours has at least one pixel")
+def _one_pixel_at_least(c):
+    c.attribute(dropout, "bits", lambda right: lambda pieces: right(pieces) or {(0, 0)})
+
+
+@reading("rule_three_never", "dropout", "drop-out control is never on")
+def _rule_three_never(c):
+    c.attribute(dropout, "bits", lambda right: scan.bits)
+
+
 replaced("centres_in_corners", "scan dropout", "a pixel's centre is its lower left corner", "centre",
          lambda right: lambda i, j: (128 * i, 128 * j))
 replaced("right_pixel", "dropout", "of a gap the right or upper pixel is set", "chosen", lambda right: lambda i: i + 1)
