@@ -1,13 +1,18 @@
 #!/usr/bin/env python3
 """Wrong readings of the manuals, each a change to the suite's reference (readings/), and the group that finds each.
 
-    suite/wrong_readings.py [--only WORD] [--cover]
+    suite/wrong_readings.py [--only WORD] [--cover] [--jobs N]
 
-A reading is found if a case of its group is answered otherwise under it. --cover counts, group by group, the cases that no reading
-changes. The status is 1 if a reading is not found.
+Without --cover it tells which case finds each reading: one of each group of the reading has to. With --cover it tells which cases
+fall under no reading of their group: each case has to fall under one. --only takes the readings whose names have a word, or with
+--cover the group of that name. --jobs says how many processes run.
+
+A case falls under a reading if the reference, changed so, gives a wrong answer. If the change breaks the reference down, that does
+not count. The status is 1 if a reading is not found, or if a case falls under none.
 """
 import argparse
 import collections
+import functools
 import json
 import multiprocessing
 import os
@@ -39,8 +44,9 @@ def found_by(read, cases, all_of_them):
     answer.forget()
     read.change(changes)
     try:
+        draws = bool(DRAWING & set(read.groups))
         for case in cases:
-            if is_different(case):
+            if is_different(case, draws):
                 found.append(case["id"])
                 if not all_of_them:
                     break
@@ -50,15 +56,21 @@ def found_by(read, cases, all_of_them):
     return found
 
 
-def is_different(case):
-    """Whether the reference, as it is now, answers a case otherwise. One that breaks down answers otherwise too."""
-    with open(os.path.join(HERE, "fonts", case["font"]), "rb") as font:
-        data = font.read()
+@functools.lru_cache(maxsize=None)
+def bytes_of(font):
+    """The bytes of a font of the suite."""
+    with open(os.path.join(HERE, "fonts", font), "rb") as file:
+        return file.read()
+
+
+def is_different(case, draws):
+    """Whether the reference, as it is now, answers a case otherwise. `draws` says that pixels may differ for the same outline."""
+    request = case if draws or "outline" not in case["expect"] else {**case, "want": ["outline"]}
     try:
-        return compare.wrong(case["expect"], answer.answer(data, case)) is not None
+        return compare.wrong(case["expect"], answer.answer(bytes_of(case["font"]), request)) is not None
     except Exception:  # noqa: B902, a wrong reading may break anything
         answer.forget()
-        return True
+        return False
 
 
 def task(number):
@@ -68,25 +80,32 @@ def task(number):
 
 
 def uncovered(group):
-    """The cases of a group that no reading changes."""
+    """The cases of a group that fall under none of its readings. Those that change many cases come first, which saves time."""
     left = CASES[group]
-    for read in READINGS:
-        if group in read.groups:
-            found = set(found_by(read, left, True))
-            left = [case for case in left if case["id"] not in found]
+    some = left[::25]
+    for read in sorted(readings_of(group), key=lambda read: -len(found_by(read, some, True))):
+        found = set(found_by(read, left, True))
+        left = [case for case in left if case["id"] not in found]
     return group, [case["id"] for case in left]
 
 
+def readings_of(group):
+    """The readings that a group has to find."""
+    return [read for read in READINGS if group in read.groups]
+
+
 CASES = cases_by_group()
+DRAWING = {"scan", "dropout"}  # the groups of readings that change pixels of the same outline
 
 
 def main():
     parser = argparse.ArgumentParser(description=__doc__, formatter_class=argparse.RawDescriptionHelpFormatter)
     parser.add_argument("--only", default="")
     parser.add_argument("--cover", action="store_true")
+    parser.add_argument("--jobs", type=int, default=os.cpu_count() or 1)
     options = parser.parse_args()
-    with multiprocessing.Pool() as pool:
-        return cover(pool) if options.cover else find(pool, options.only)
+    with multiprocessing.Pool(options.jobs) as pool:
+        return cover(pool, options.only) if options.cover else find(pool, options.only)
 
 
 def find(pool, only):
@@ -102,14 +121,17 @@ def find(pool, only):
     return 1 if missed else 0
 
 
-def cover(pool):
-    """Counts the cases that no reading changes."""
-    total = 0
-    for group, left in pool.imap(uncovered, CASES):
+def cover(pool, only):
+    """Tells which cases fall under no reading, with the counts of each group."""
+    groups, total = [group for group in CASES if only in ("", group)], 0
+    print("%-12s %7s %9s %10s" % ("group", "cases", "readings", "fall under"))
+    for group, left in pool.imap(uncovered, groups):
         total += len(left)
-        print("%-12s %5d cases, %4d that no reading changes %s" % (group, len(CASES[group]), len(left), " ".join(left[:6])), flush=True)
-    print("%d cases that no reading changes" % total)
-    return 0
+        count = len(CASES[group])
+        names = "; under none: %s" % " ".join(left) if left else ""
+        print("%-12s %7d %9d %10d%s" % (group, count, len(readings_of(group)), count - len(left), names), flush=True)
+    print("%d cases, %d fall under no reading" % (sum(len(CASES[group]) for group in groups), total))
+    return 1 if total else 0
 
 
 if __name__ == "__main__":

@@ -5,6 +5,7 @@ from making.suite import APPLE
 
 ABOUT = APPLE + "Instruction set, Managing exceptions: %s"
 ADVANCE = "an advance that a program leaves between pixels is answered as it is"
+LOW_BYTE = "only the argument's low byte counts"
 STRAY = "a pair that names a point or control value outside its table is dropped"
 STEPS = {"1": 0, "2": 16, "3": 32}
 
@@ -31,9 +32,9 @@ def make(suite):
         glyph = picture(font, "%s 120 5 112 1 2 DELTAP1" % setting)
         suite.case("deltap1-%s" % vector.replace(" ", "-"), font, ABOUT % "DELTAP1", glyph, own=OFF_AXES if slanted else None,
                    within=3 if slanted else None)
-    for k, row in enumerate(["120 5 1 DELTAP1 IUP:1", "0 SZP0 120 3 1 DELTAP1 1 SZP0 1 MDAP:1", "120 12 1 DELTAP1",
+    for k, row in enumerate(["120 5 1 DELTAP1 IUP:1", "0 SZP0 120 3 1 DELTAP1 0 SZP2 3 GC:0 1 SZP2 4 SWAP SCFS", "120 12 1 DELTAP1",
                              "104 99 1 DELTAP1", "376 5 1 DELTAP1"]):
-        own = "only the argument's low byte counts" if "376" in row else ADVANCE if " 12 " in row else None
+        own = next((own for word, own in (("376", LOW_BYTE), (" 12 ", ADVANCE), (" 99 ", STRAY)) if word in row), None)
         suite.case("deltap1-more-%d" % k, font, ABOUT % "DELTAP1", picture(font, "SVTCA:1 " + row), own=own)
     for k, row in enumerate(["120 99 1 DELTAP1", "120 -1 112 5 2 DELTAP1"]):
         suite.case("deltap1-stray-%d" % k, font, ABOUT % "DELTAP1", picture(font, "SVTCA:1 " + row), own=STRAY)

@@ -109,10 +109,10 @@ def make_inherited(suite):
             glyph = picture(font, shown(program, 1))
             suite.case("glyph-to-glyph-%s-%d" % (name, turn), font, about % "glyph programs", glyph, own=own, bits=False)
     for name, prep, own in [("no-programs", "1 1 INSTCTRL", None), ("programs-again", "1 1 INSTCTRL 0 1 INSTCTRL", None),
-                            ("default-state", "200 SCVTCI 96 SMD 2 2 INSTCTRL", None),
+                            ("default-state", "200 SCVTCI 96 SMD 5 SDB 2 2 INSTCTRL", None),
                             ("other-selector", "1 4 INSTCTRL", "INSTCTRL with another selector does nothing")]:
-        font = suite.font(FontMaker("instctrl-" + name, prep=prep))
-        for k, program in enumerate(["SVTCA:1 0 MDAP:1 4 MDAP:1", "SVTCA:1 0 SRP0 5 MDRP:1C", "SVTCA:0 1 64 SHPIX",
-                                     "1 1 INSTCTRL SVTCA:1 2 64 SHPIX"]):
+        font = suite.font(FontMaker("instctrl-" + name, cvt=[300], prep=prep))
+        for k, program in enumerate(["SVTCA:1 0 MDAP:1 4 0 MIAP:1", "SVTCA:1 0 SRP0 1 MDRP:0C", "SVTCA:0 120 1 1 DELTAP1",
+                                     "1 1 INSTCTRL SVTCA:1 0 SRP0 1 MDRP:0C 2 64 SHPIX"]):
             suite.case("instctrl-%s-%d" % (name, k), font, APPLE + "Instruction set, Managing the graphics state: INSTCTRL",
                        picture(font, program), own=own)

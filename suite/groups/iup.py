@@ -7,6 +7,10 @@ from making.suite import APPLE
 
 ABOUT = APPLE + "Instruction set, Managing outlines: IUP"
 ONCE = "an interpolated place is exact and rounded once to 1/64 pixel"
+EQUAL = "of two touched points with one original coordinate the one before an untouched point counts as the lower"
+EQUAL_RANDOM = (70, 87, 91, 100)  # of the random programs, those that leave two such points
+EQUAL_SHAPES = ("equal-1-1", "equal-2-1", "equal-4-1", "one-point-2-1", "one-point-4-1")
+ZONE = "IUP works on the glyph zone, whatever the zone pointers are"
 RESET = "IUP sets an untouched point from its original place, wherever a row without touching moved it"
 
 
@@ -25,6 +29,9 @@ def make(suite):
         for k, program in enumerate(["SVTCA:%d 5 SRP2 5 40 SHPIX 1 SHZ:0 IUP:%d",
                                      "SVTCA:%d 5 SRP2 5 40 SHPIX 1 SHZ:0 0 MDAP:0 IUP:%d"]):
             suite.case("after-shz-%d-%d" % (axis, k), font, ABOUT, picture(font, program.replace("%d", str(axis))), own=RESET)
+        for k, zones in enumerate(["0 SZPS", "0 SZP2", "0 SZP0 0 SZP1"]):
+            program = "SVTCA:%d 0 40 SHPIX 2 -25 SHPIX 9 33 SHPIX %s IUP:%d" % (axis, zones, axis)
+            suite.case("zones-%d-%d" % (axis, k), font, ABOUT, picture(font, program), own=ZONE)
         other = "SVTCA:%d 0 40 SHPIX 2 40 SHPIX IUP:%d" % (axis, 1 - axis)
         suite.case("other-axis-%d" % axis, font, ABOUT, picture(font, other))
     make_random(suite, font)
@@ -41,7 +48,8 @@ def make_random(suite, font):
             for point in sorted(chance.sample(range(POINTS), chance.randrange(1, 7))):
                 rows.append(chance.choice(["%d MDAP:1" % point, "%d %d SHPIX" % (point, chance.randrange(-90, 90)),
                                            "%d MDAP:0" % point]))
-        suite.case("random-%d" % k, font, ABOUT, picture(font, " ".join(rows) + " IUP:0 IUP:1"), own=ONCE, within=1)
+        suite.case("random-%d" % k, font, ABOUT, picture(font, " ".join(rows) + " IUP:0 IUP:1"),
+                   **({"own": EQUAL} if k in EQUAL_RANDOM else {"own": ONCE, "within": 1}))
 
 
 def make_special(suite):
@@ -60,4 +68,5 @@ def make_special(suite):
         for k, touch in enumerate(touches):
             for axis in (0, 1):
                 glyph = font.simple(contours, "SVTCA:%d %s IUP:%d" % (axis, touch, axis))
-                suite.case("%s-%d-%d" % (name, k, axis), font, ABOUT, glyph)
+                case = "%s-%d-%d" % (name, k, axis)
+                suite.case(case, font, ABOUT, glyph, own=EQUAL if case in EQUAL_SHAPES else None)

@@ -8,17 +8,22 @@ STRAY = "a point outside its zone reads as (0, 0), and what the row does to it i
 HALF = "ALIGNPTS moves the first point by half the distance, cut toward zero, and the second by the rest"
 PLACE = "the place where lines meet, and the middle of four ends, is rounded to the nearest 1/64 pixel"
 RESET = "IUP sets an untouched point from its original place, wherever it was moved before"
+EMPTY = "a range whose low point is above its high one is empty"
 HEIGHT = "the last two phantom points are at the ascender and the descender of hhea"
 ADVANCE = "an advance that a program leaves between pixels is answered as it is"
-# Points are moved first, so that original and current places differ; and twilight points are put at places.
-MOVED = "SVTCA:0 1 30 SHPIX 6 -20 SHPIX 8 13 SHPIX SVTCA:1 5 45 SHPIX 2 -25 SHPIX 0 10 SHPIX 11 -9 SHPIX"
-TWILIGHT = "0 SZPS SVTCA:1 3 100 SCFS 4 -77 SCFS 5 300 SCFS SVTCA:0 3 50 SCFS 4 211 SCFS 5 31 SCFS 1 SZPS"
-# What a row left in the twilight zone, shown on two points.
-SEEN_TWILIGHT = "SVTCA:1 0 SZP2 3 GC:0 4 GC:1 1 SZP2 10 SWAP SCFS 9 SWAP SCFS " \
-    "SVTCA:0 0 SZP2 3 GC:0 4 GC:0 1 SZP2 10 SWAP SCFS 9 SWAP SCFS"
+# Points are moved first, so that original and current places differ, of points 1, 5 and 6 on both axes; and twilight points are put
+# at places and moved.
+MOVED = "SVTCA:0 1 30 SHPIX 6 -20 SHPIX 8 13 SHPIX 5 27 SHPIX " \
+    "SVTCA:1 5 45 SHPIX 2 -25 SHPIX 0 10 SHPIX 11 -19 SHPIX 1 -14 SHPIX 6 22 SHPIX"
+MOVED_FOR_ZONES = "SVTCA:1 5 45 SHPIX 6 -20 SHPIX 1 -14 SHPIX"  # few, since SHZ moves all points
+TWILIGHT = "0 SZPS SVTCA:1 3 100 SCFS 4 -77 SCFS 5 300 SCFS SVTCA:0 3 50 SCFS 4 211 SCFS 5 31 SCFS 3 -17 SHPIX 4 9 SHPIX " \
+    "SVTCA:1 3 21 SHPIX 4 -13 SHPIX 1 SZPS"
+# What a row left in the twilight zone, shown on two points that no row with a twilight point moves.
+SEEN_TWILIGHT = "SVTCA:1 0 SZP2 3 GC:0 4 GC:1 1 SZP2 10 SWAP SCFS 11 SWAP SCFS " \
+    "SVTCA:0 0 SZP2 3 GC:0 4 GC:0 1 SZP2 10 SWAP SCFS 11 SWAP SCFS"
 
 ROWS = {
-    "MDAP:0": ["5 MDAP:0", "1 MDAP:0 9 MDRP:0", "0 SZP0 3 MDAP:0"],
+    "MDAP:0": ["7 MDAP:0 9 ALIGNRP", "1 MDAP:0 9 MDRP:0", "0 SZP0 3 MDAP:0 9 ALIGNRP"],
     "MDAP:1": ["5 MDAP:1", "1 MDAP:1 9 MDRP:0", "0 SZP0 3 MDAP:1"],
     "MIAP:0": ["5 0 MIAP:0", "1 2 MIAP:0 9 MDRP:0", "0 SZP0 3 1 MIAP:0", "8 3 MIAP:0"],
     "MIAP:1": ["5 0 MIAP:1", "1 2 MIAP:1 9 MDRP:0", "0 SZP0 3 1 MIAP:1", "8 3 MIAP:1"],
@@ -38,7 +43,7 @@ ROWS = {
     "SCFS": ["5 70 SCFS", "1 -333 SCFS", "0 SZP2 3 64 SCFS"],
     "ISECT": ["9 0 2 5 7 ISECT", "3 0 1 4 6 ISECT", "10 1 2 0 3 ISECT", "0 SZP0 9 0 2 3 4 ISECT"],
     "ALIGNPTS": ["5 9 ALIGNPTS", "1 0 ALIGNPTS", "0 SZP0 9 3 ALIGNPTS"],
-    "UTP": ["5 MDAP:0 5 UTP IUP:0 IUP:1", "SVTCA:0 5 MDAP:0 6 MDAP:1 SVTCA:1 5 UTP 5 8 SCFS IUP:0 IUP:1",
+    "UTP": ["7 MDAP:0 7 UTP IUP:0 IUP:1", "SVTCA:0 5 MDAP:0 6 MDAP:1 SVTCA:1 5 8 SCFS 5 UTP IUP:0 IUP:1",
             "0 MDAP:0 1 UTP 2 UTP IUP:0 IUP:1"],
     "GC:0": ["5 GC:0 10 SWAP SCFS", "1 GC:0 9 SWAP SCFS", "0 SZP2 3 GC:0 1 SZP2 8 SWAP SCFS"],
     "GC:1": ["5 GC:1 10 SWAP SCFS", "1 GC:1 9 SWAP SCFS", "0 SZP2 3 GC:1 1 SZP2 8 SWAP SCFS"],
@@ -49,7 +54,8 @@ ROWS = {
                  "3 SLOOP 8 9 11 FLIPPT 0 11 FLIPRGON"],
     "FLIPRGOFF": ["4 6 FLIPRGOFF", "5 5 FLIPRGOFF", "6 5 FLIPRGOFF", "0 0 FLIPRGOFF"],
 }
-MEASURES = ("GC", "MD")
+MEASURES = ("GC:", "MD:")
+EMPTY_RANGES = ("5 FLIPPT 6 4 FLIPRGON", "6 5 FLIPRGOFF")
 UNMOVED = ("FLIP", "UTP", "ISECT")
 BETWEEN = (2, 4, 8, 10, 16)  # the programs of phantom points that leave the advance between pixels
 STRAYS = ["99 MDAP:1", "99 0 MIAP:1", "5 99 MIAP:1", "99 SRP0 5 40 MSIRP:0", "99 40 MSIRP:0", "99 SRP0 5 ALIGNRP", "99 ALIGNRP",
@@ -71,9 +77,8 @@ def make(suite):
             for vector, setting, slanted in VECTORS:
                 add(suite, font, name, k, row, vector, setting, slanted)
         for k, row in enumerate(tries):
-            glyph = picture(font, "%s SVTCA:1 %s IUP:0 IUP:1" % (MOVED if name[:3] != "SHZ" else "SVTCA:1 5 45 SHPIX 6 -20 SHPIX",
-                                                                 row) if "SZP" not in row else row)
-            suite.case("%s-%d-iup" % (name.lower(), k), font, ABOUT % name.split(":")[0], glyph, **own_of(name, False, iup=True))
+            suite.case("%s-%d-iup" % (name.lower(), k), font, ABOUT % name.split(":")[0], picture(font, before_iup(name, row)),
+                       **own_of(name, row, False, iup=True))
     for k, row in enumerate(STRAYS):
         suite.case("stray-%d" % k, font, ABOUT % "a point that is not there", picture(font, "%s SVTCA:1 %s" % (MOVED, row)),
                    own=STRAY)
@@ -81,12 +86,14 @@ def make(suite):
     make_parallel(suite, font)
 
 
-def own_of(name, slanted, iup=False):
-    """The decision that a case needs beside the manual, and by how much it is open."""
+def own_of(name, row, slanted, iup=False):
+    """The decision that a case needs beside the manual, and by how much it is open. Point 7 has not moved before UTP."""
     if name == "ALIGNPTS" or name == "ISECT":
         return {"own": HALF if name == "ALIGNPTS" else PLACE, "within": 2}
-    if name.startswith(("UTP", "SHZ")) and (iup or name == "UTP"):
+    if name.startswith(("SHZ", "UTP")) and (iup or "UTP" in row and "7 UTP" not in row):
         return {"own": RESET}
+    if row in EMPTY_RANGES:
+        return {"own": EMPTY}
     return {"own": OFF_AXES, "within": 3} if slanted and not name.startswith(UNMOVED) else {}
 
 
@@ -98,7 +105,15 @@ def add(suite, font, name, k, row, vector, setting, slanted):
         row += " 1 SZPS " + SEEN_TWILIGHT
     glyph = picture(font, "%s %s %s %s" % (MOVED, TWILIGHT, setting, row))
     suite.case("%s-%d-%s" % (name.lower(), k, vector.replace(" ", "-")), font, ABOUT % name.split(":")[0], glyph,
-               **own_of(name, slanted))
+               **own_of(name, row, slanted))
+
+
+def before_iup(name, row):
+    """A program in which a row is between moves and IUP, which shows the points that the row touched."""
+    moves = MOVED_FOR_ZONES if name.startswith("SHZ") else MOVED
+    if "SZP" in row:
+        moves, row = "%s %s" % (moves, TWILIGHT), row if name.startswith(MEASURES) else "%s 1 SZPS %s" % (row, SEEN_TWILIGHT)
+    return "%s SVTCA:1 %s IUP:0 IUP:1" % (moves, row)
 
 
 def make_phantom_points(suite, font):

@@ -8,6 +8,7 @@ VALUES = APPLE + "Instruction set, Managing the Control Value Table: %s"
 STATE = APPLE + "Instruction set, Managing the Graphics State: %s"
 INFO = APPLE + "Instruction set, %s"
 SIZE = "the single width is compared with the size of a distance, whatever its sign"
+ONE_PLACE = "IP gives a point its original distance from reference point 1, if both reference points were in one place"
 STRAY = "a number outside a table reads as 0, and a write there is dropped"
 
 TABLES = {
@@ -41,13 +42,13 @@ POINTERS = {
              "6 SRP0 1 ALIGNRP"],
     "SRP1": ["1 SRP1 6 SRP2 1 40 SHPIX 4 IP", "5 SRP1 5 40 SHPIX 1 SHP:1", "2 30 SHPIX 6 -20 SHPIX 20 SRP1 6 SRP2 2 IP", "2 SRP1 2 -30 SHPIX 1 SHC:1"],
     "SRP2": ["1 SRP1 6 SRP2 6 40 SHPIX 4 IP", "5 SRP2 5 40 SHPIX 1 SHP:0", "2 30 SHPIX 1 -20 SHPIX 1 SRP1 20 SRP2 2 IP", "2 SRP2 2 -30 SHPIX 1 SHC:0"],
-    "SZP0": ["0 40 SHPIX 0 SZP0 3 MDAP:0 1 SZP0 0 SRP0 5 MDRP:0", "0 SZP0 3 1 MIAP:0 5 MDRP:0", "1 SZP0 3 MDAP:1", "0 SZP0 1 SZP0 3 MDAP:1"],
+    "SZP0": ["0 SZP0 3 MDAP:1 5 MDRP:0", "0 SZP0 3 1 MIAP:0 5 MDRP:0", "1 SZP0 3 MDAP:1", "0 SZP0 1 SZP0 3 MDAP:1"],
     "SZP1": ["0 SZP1 0 SRP0 3 50 MSIRP:0 0 SZP0 1 SZP1 3 SRP0 5 MDRP:0", "0 SZP1 1 SZP1 5 SRP0 3 MDRP:4",
              "0 SZP1 5 SRP0 2 1 MIRP:0 0 SZP2 2 GC 1 SZP2 1 SWAP SCFS"],
     "SZP2": ["0 SZP2 3 77 SCFS 3 GC 1 SZP2 1 SWAP SCFS", "0 SZP2 1 SZP2 3 77 SCFS", "0 SZP2 3 40 SHPIX 3 GC 1 SZP2 1 SWAP SCFS"],
     "SZPS": ["0 SZPS 3 77 SCFS 1 SZPS", "1 SZPS 3 77 SCFS", "0 SZPS 2 1 MIAP:0 1 SZPS 0 SZP0 5 MDRP:0"],
     "SLOOP": ["3 SLOOP 1 2 5 40 SHPIX", "1 SLOOP 1 40 SHPIX", "0 40 SHPIX 0 SRP2 2 SLOOP 1 2 SHP:0", "3 SLOOP 2 SLOOP 9 1 2 40 SHPIX POP",
-              "2 SLOOP 1 5 ALIGNRP 2 ALIGNRP"],
+              "2 SLOOP 4 5 ALIGNRP 2 ALIGNRP"],
     "SFVTPV": ["SPVTCA:0 SFVTPV 1 MDAP:1", "SFVTCA:0 SPVTCA:1 SFVTPV 1 MDAP:1", "SVTCA:0 SPVTCA:1 SFVTPV 2 40 SHPIX"],
 }
 NOTHING = {"DEBUG": "debugging", "SANGW": "obsolete", "AA": "obsolete", "SCANCTRL": "Managing the Graphics State",
@@ -105,8 +106,9 @@ def make_information(suite, font):
 
 def make_defaults(suite, font):
     """The state that a glyph's program starts from, after what `prep` set."""
-    for k, program in enumerate([SEEN, "1 4 IP", "1 SHP:0 2 SHP:1", "0 64 SHPIX 5 40 SHPIX", "7 1 MIRP:1F 6 0 MIRP:1F"]):
-        suite.case("default-%d" % k, font, STATE % "default values", picture(font, program))
+    for k, program in enumerate([SEEN, "0 40 SHPIX 4 IP", "0 40 SHPIX 1 SHP:0 2 SHP:1", "0 64 SHPIX 5 40 SHPIX",
+                                 "7 1 MIRP:1F 6 0 MIRP:1F"]):
+        suite.case("default-%d" % k, font, STATE % "default values", picture(font, program), own=ONE_PLACE if k == 1 else None)
     kept = [("cut-in", "16 SCVTCI"), ("minimum", "200 SMD"), ("width", "300 SSW 100 SSWCI"), ("flip", "FLIPOFF"),
             ("base", "5 SDB 2 SDS")]
     reset = [("vectors", "SVTCA:0"), ("points", "5 SRP0 5 SRP1 5 SRP2"), ("zones", "0 SZPS"), ("loop", "5 SLOOP"),

@@ -52,13 +52,13 @@ def make_lines(suite, font):
     for name in ("SPVTL", "SFVTL", "SDPVTL"):
         for flag in (0, 1):
             for p1, p2 in LINES:
-                glyph = picture(font, seen("%d %d %s:%d" % (p1, p2, name, flag)))
+                glyph = picture(font, seen("SVTCA:%d %d %d %s:%d" % (1 - flag, p1, p2, name, flag)))
                 suite.case("%s-%d-%d-%d" % (name.lower(), flag, p1, p2), font, ABOUT % name, glyph, own=UNIT, within=2, bits=False)
-            for k, (before, own) in enumerate([("0 1 PLACE 0 1", None), ("3 3", ZERO), ("0 SZP1 3 5 PLACE 3 1", UNIT),
+            for k, (before, own) in enumerate([("0 1 PLACE AXIS 0 1", None), ("SVTCA:0 3 3", ZERO), ("0 SZP1 3 5 PLACE 3 1", UNIT),
                                                ("0 SZP2 4 3", UNIT)]):
                 before = before.replace("0 1 PLACE",
                                         "SVTCA:0 0 64 SCFS 1 512 SCFS SVTCA:1 0 64 SCFS 1 64 SCFS").replace("3 5 PLACE", "")
-                glyph = picture(font, seen("%s %s:%d" % (before, name, flag)))
+                glyph = picture(font, seen("%s %s:%d" % (before.replace("AXIS", "SVTCA:%d" % (1 - flag)), name, flag)))
                 suite.case("%s-%d-more-%d" % (name.lower(), flag, k), font, ABOUT % name, glyph, own=own,
                            within=2 if own == UNIT else None, bits=False)
     for flag in (0, 1):
@@ -78,9 +78,9 @@ def make_from_stack(suite, font):
             glyph = picture(font, seen("SVTCA:%d %d %d %s" % (k % 2, x, y, name)))
             suite.case("%s-%d" % (name.lower(), k), font, ABOUT % name, glyph, own=own, within=2 if own == UNIT else None,
                        bits=False)
-        glyph = picture(font, seen("0 0 %s" % name))
+        glyph = picture(font, seen("SVTCA:0 0 0 %s" % name))
         suite.case("%s-zero" % name.lower(), font, ABOUT % name, glyph, own=ZERO, bits=False)
-        glyph = picture(font, seen("16384 16384 ADD 16384 ADD 16384 ADD 16384 ADD 0 %s" % name))
+        glyph = picture(font, seen("SVTCA:0 16384 16384 ADD 16384 ADD 16384 ADD 16384 ADD 0 %s" % name))
         suite.case("%s-wide" % name.lower(), font, ABOUT % name, glyph, own=WORDS, bits=False)
     for name in ("GPV", "GFV"):
         for k, before in enumerate(["SVTCA:0", "SVTCA:1", "SPVTCA:0 SFVTCA:1", "SPVTCA:1 SFVTCA:0"]):

@@ -1,7 +1,7 @@
 """Wrong readings of composites, metrics, `loca`, `glyf`, maps, scan conversion and drop-out control."""
 import collections
 
-from reference import answer, charmap, fontfile, numbers, outline, scan
+from reference import answer, charmap, dropout, fontfile, numbers, outline, scan
 from reference.faults import Refused
 
 from .base import reading, replaced, value_of
@@ -38,6 +38,17 @@ def _one_part(glyph):
 def _match_before(c):
     c.attribute(outline.Maker, "offset", lambda right: lambda maker, made, number, part, points: right(
         maker, made, number, part, points if part.flags & 2 else [p for p in maker.make(part.glyph, 1).points]))
+
+
+@reading("empty_component_refused", "composites", "a component without bytes is a glyph that ends early")
+def _empty_component(c):
+    def add_part(right):
+        def strict(maker, made, number, part, depth):
+            if not maker.font.glyph_bytes(part.glyph):
+                raise Refused("GlyphShort", glyph=part.glyph)
+            right(maker, made, number, part, depth)
+        return strict
+    c.attribute(outline.Maker, "add_part", add_part)
 
 
 for _em in (1000, 2048):
@@ -85,6 +96,12 @@ def _advance_in_pixels(c):
         glyph)[:3] + (numbers.to_pixel(right(maker, glyph)[3]),))
 
 
+@reading("advance_of_hmtx", "points phantoms", "the advance of a hinted glyph is that of hmtx, scaled")
+def _advance_of_hmtx(c):
+    c.attribute(outline.Maker, "outline", lambda right: lambda maker, glyph: right(maker, glyph)[:3] + (
+        maker.scale(maker.font.advance(glyph)),))
+
+
 @reading("bad_tables_read", "grammar", "tables that are cut are read all the same")
 def _bad_tables(c):
     c.attribute(fontfile.Font, "need", lambda right: lambda tag, table, length: None)
@@ -94,6 +111,23 @@ def _bad_tables(c):
 def _missing_tables(c):
     c.attribute(fontfile.Font, "directory", lambda right: lambda data: collections.defaultdict(bytes,
         {**{tag: b"" for tag in fontfile.REQUIRED}, **right(data)}))
+
+
+replaced("zero_contours_composite", "grammar", "a glyph of 0 contours is a composite", "read_glyph",
+         lambda right: lambda data, glyph: right(b"\xFF\xFF" + data[2:] if data[:2] == b"\0\0" else data, glyph))
+
+
+@reading("empty_offset_checked", "grammar", "the offset of an empty glyph has to lie in glyf too")
+def _empty_offset(c):
+    def glyph_bytes(right):
+        def strict(font, glyph):
+            found = right(font, glyph)
+            start = fontfile.u32(font.loca, 4 * glyph) if font.long else 2 * fontfile.u16(font.loca, 2 * glyph)
+            if start > len(font.glyf):
+                raise Refused("BadLoca", glyph=glyph)
+            return found
+        return strict
+    c.attribute(fontfile.Font, "glyph_bytes", glyph_bytes)
 
 
 replaced("all_on_the_curve", "grammar scan", "all points are on the curve", "read_flags",
@@ -152,10 +186,17 @@ replaced("short_negative", "grammar", "a short delta without its sign bit is pos
 replaced("same_is_zero_place", "grammar", "a repeated coordinate is 0", "read_deltas",
          lambda right: lambda reader, flags, short, same: [
     0 if f & same and not f & short else v for v, f in zip(right(reader, flags, short, same), flags)])
+replaced("coordinates_absolute", "grammar", "coordinates are places, not distances from the point before", "read_deltas",
+         lambda right: lambda reader, flags, short, same: _differences(right(reader, flags, short, same)))
 replaced("repeat_counts_itself", "grammar", "a flag's repeat count includes the flag itself", "read_flags",
          lambda right: lambda reader, count: _repeat_less(reader, count))
 replaced("cut_bytes_are_zero", "grammar", "bytes that are cut are 0", "read_glyph",
          lambda right: lambda data, glyph: right(data + bytes(60) if data else data, glyph))
+
+
+def _differences(values):
+    """Each value without the one before."""
+    return [value - before for before, value in zip([0] + values, values)]
 
 
 def _repeat_less(reader, count):
@@ -232,7 +273,7 @@ replaced("even_odd_winding", "scan", "a place is inside if its winding number is
          lambda right: lambda n: n % 2 == 1)
 replaced("positive_winding", "scan", "a place is inside if its winding number is above 0", "is_inside",
          lambda right: lambda n: n > 0)
-replaced("centres_on_the_outline_left", "scan", "a centre on the outline is set by the winding number alone", "is_on",
+replaced("centres_on_the_outline_left", "scan dropout", "a centre on the outline is set by the winding number alone", "is_on",
          lambda right: lambda piece, p: False)
 replaced("midpoint_rounded", "scan", "points between points off the curve are rounded to 1/64 pixel", "middle",
          lambda right: lambda a, b: tuple((x + y) // 4 * 2 for x, y in zip(a, b)))
@@ -258,6 +299,21 @@ def _upper(piece, p):
 
 
 # ---- drop-out control
+@reading("rule_three_always", "scan", "drop-out control is on, whether or not it is asked for")
+def _rule_three_always(c):
+    c.attribute(scan, "bits", lambda right: dropout.bits)
+
+
+@reading("one_pixel_at_least", "dropout", "a glyph with contours has at least one pixel")
+def _one_pixel_at_least(c):
+    c.attribute(dropout, "bits", lambda right: lambda pieces: right(pieces) or {(0, 0)})
+
+
+@reading("rule_three_never", "dropout", "drop-out control is never on")
+def _rule_three_never(c):
+    c.attribute(dropout, "bits", lambda right: scan.bits)
+
+
 replaced("centres_in_corners", "scan dropout", "a pixel's centre is its lower left corner", "centre",
          lambda right: lambda i, j: (128 * i, 128 * j))
 replaced("right_pixel", "dropout", "of a gap the right or upper pixel is set", "chosen", lambda right: lambda i: i + 1)

@@ -1,5 +1,6 @@
 """Wrong readings of the rows that move points, and rows without an effect or with another result."""
 from reference import rows_points, rows_stack, state
+from reference.faults import Halt
 
 from .base import READINGS, Reading, reading, replaced, value_of
 
@@ -14,6 +15,9 @@ replaced("width_always", "mdrp mirp state", "the single width counts whatever th
 replaced("width_never", "mdrp mirp", "the single width never counts", "with_width", lambda right: lambda gs, v: v)
 replaced("minimum_by_result", "mdrp mirp", "the minimum distance is on the side of the result", "at_least",
          lambda right: lambda gs, o, d: max(d, gs.minimum) if d >= 0 else min(d, -gs.minimum))
+replaced("minimum_by_size", "mdrp", "a negative minimum distance counts by its size", "at_least",
+         lambda right: lambda gs, o, d: max(d, abs(gs.minimum)) if o >= 0 else min(d, -abs(gs.minimum)))
+value_of("points_of_one", "state", "the reference points are 1 at first", state.Graphics, "rp", (1, 1, 1))
 replaced("current_for_original", "mdrp mirp", "MDRP and MIRP measure current places for the original distance", "original_distance",
          lambda right: lambda m, p: rows_points.current_distance(m, p))
 replaced("from_the_point", "mdrp", "MDRP adds the distance to where the point is", "finish_relative",
@@ -93,6 +97,75 @@ def _ip_between_current(c):
     c.row("IP", make)
 
 
+@reading("operand_left", "state", "DEBUG, SANGW, AA, SCANCTRL and SCANTYPE leave their operand")
+def _operand_left(c):
+    for name in ("DEBUG", "SANGW", "AA", "SCANCTRL", "SCANTYPE"):
+        c.row(name, lambda old: lambda m: None)
+
+
+@reading("flippt_sets_off", "points", "FLIPPT takes points off the curve, whatever they were")
+def _flippt_sets_off(c):
+    def row(m):
+        for p in rows_points.looped(m):
+            if m.zone(0).has(p):
+                m.zone(0).on[p] = 0
+    c.row("FLIPPT", lambda old: row)
+
+
+@reading("flips_glyph_zone", "points", "FLIPPT flips points of the glyph zone, whatever zp0 is")
+def _flips_glyph_zone(c):
+    def make(old):
+        def row(m):
+            zones = m.zones
+            m.zones = [zones[1], zones[1]]
+            old(m)
+            m.zones = zones
+        return row
+    c.row("FLIPPT", make)
+
+
+@reading("flip_range_in_any_order", "points", "the two ends of FLIPRGON and FLIPRGOFF may be in any order")
+def _flip_range(c):
+    for name in ("FLIPRGON", "FLIPRGOFF"):
+        c.row(name, lambda old: lambda m: (m.push(*sorted(m.pop(2))), old(m))[1])
+
+
+@reading("utp_both_axes", "points", "UTP untouches a point on both axes")
+def _utp_both_axes(c):
+    c.row("UTP", lambda old: lambda m: m.zone(0).touch(m.pop(1)[0], (1, 1), False))
+
+
+@reading("ip_at_rp1", "state", "IP puts a point on reference point 1 if both reference points were in one place")
+def _ip_at_rp1(c):
+    def make(old):
+        def row(m):
+            _, one, two = m.gs.rp
+            if state.dot(m.gs.dv, state.minus(m.zone(1).get(two, True), m.zone(0).get(one, True))):
+                old(m)
+                return
+            for p in rows_points.looped(m):
+                way = state.minus(m.zone(0).get(one), m.zone(2).get(p))
+                rows_points.moved(m, m.zone(2), p, state.dot(m.gs.pv, way))
+        return row
+    c.row("IP", make)
+
+
+@reading("shift_by_place", "points state", "SHP, SHC and SHZ shift by where the reference point is, not by how far it has moved")
+def _shift_by_place(c):
+    def reference_shift(right):
+        def by_place(m):
+            home, point, _ = right(m)
+            return home, point, state.shift_by(m.gs, state.dot(m.gs.pv, home.get(point)))
+        return by_place
+    c.everywhere("reference_shift", reference_shift)
+
+
+@reading("twilight_touches_glyph", "points", "a row that moves a twilight point touches the glyph's point of that number")
+def _twilight_touches_glyph(c):
+    c.everywhere("add", lambda right: lambda m, zone, point, way: (right(m, zone, point, way),
+                 zone is m.zones[0] and m.zones[1].touch(point, m.gs.fv)))
+
+
 for _mnemonic in ("SHP", "SHC", "SHZ"):
     def _reference(c, name=_mnemonic):
         def make(old):
@@ -124,9 +197,10 @@ def _shz_touches(c):
     c.row("SHZ", make)
 
 
-replaced("iup_from_current", "iup", "IUP shifts points from their current places", "between",
-         lambda right: lambda zone, axis, o, b, a: right(zone, axis, o, b,
-             a) + (0 if min(zone.org[b][axis], zone.org[a][axis]) < o < max(zone.org[b][axis], zone.org[a][axis]) else 7))
+replaced("iup_from_current", "iup points", "IUP moves an untouched point from where it is, not from its original place",
+         "untouched_of_contour", lambda right: lambda zone, axis, points: _from_current(right, zone, axis, points))
+replaced("iup_equal_after", "iup", "of two touched points with one original coordinate the one after is the lower", "between",
+         lambda right: lambda zone, axis, o, b, a: right(zone, axis, o, a, b))
 replaced("iup_no_shift", "iup", "IUP leaves points outside the two touched ones", "between",
          lambda right: lambda zone, axis, o, b, a: right(zone, axis, o, b, a) if min(zone.org[b][axis],
              zone.org[a][axis]) < o < max(zone.org[b][axis], zone.org[a][axis]) else o)
@@ -136,6 +210,17 @@ replaced("iup_one_contour", "iup", "IUP takes all contours as one", "untouched_o
          lambda right: lambda zone, axis, points: right(zone, axis, list(range(len(zone.org) - 4))))
 replaced("iup_first_touched", "iup", "IUP takes the first touched point for all", "untouched_of_contour",
          lambda right: lambda zone, axis, points: _by_first(right, zone, axis, points))
+
+
+def _from_current(right, zone, axis, points):
+    """What moved untouched points before stays."""
+    before = [zone.cur[p][axis] - zone.org[p][axis] for p in points]
+    right(zone, axis, points)
+    for p, moved in zip(points, before):
+        if not zone.touched[p][axis] and any(zone.touched[q][axis] for q in points):
+            place = list(zone.cur[p])
+            place[axis] += moved
+            zone.put(p, tuple(place))
 
 
 def _floored(right, zone, axis, o, b, a):
@@ -164,6 +249,22 @@ def _iup_axes_swapped(c):
     _reference(c, "IUP")
 
 
+@reading("iup_zp2", "iup", "IUP works on the zone of zp2")
+def _iup_zp2(c):
+    def make(old):
+        def row(m):
+            zones = m.zones
+            m.zones = [zones[0], m.zone(2)]
+            old(m)
+            m.zones = zones
+        return row
+    c.row("IUP", make)
+
+
+replaced("delta_pair_before_count", "deltas", "a delta takes a pair before it looks at its count", "delta_pairs",
+         lambda right: lambda m: (m.push(m.pop(1)[0] or 1), right(m))[1])
+replaced("delta_stray_refused", "deltas", "a pair of a point or control value that is not there refuses the glyph, at any size",
+         "delta_pairs", lambda right: lambda m: _all_there(m, right(m)))
 replaced("delta_zero_step", "deltas", "a delta's nibble 8 is no step", "delta_of",
          lambda right: lambda m, arg, step: right(m, arg, step) and right(m, arg, step) - (64 >> m.gs.shift) * (arg & 15 > 7))
 replaced("delta_all_sizes", "deltas", "a delta acts from its size on", "delta_of",
@@ -172,6 +273,14 @@ replaced("delta_all_sizes", "deltas", "a delta acts from its size on", "delta_of
 
 replaced("delta_up_to_size", "deltas", "a delta acts up to its size", "delta_of",
          lambda right: lambda m, arg, step: _to_size(right, m, arg, step))
+
+
+def _all_there(m, pairs):
+    """The pairs of a delta, if all points or control values are there."""
+    count = len(m.cvt) if 0x73 <= m.opcode <= 0x75 else len(m.zone(0).org)
+    if not all(0 <= k < count for _, k in pairs):
+        raise Halt("BadArgument")
+    return pairs
 
 
 def _to_size(right, m, arg, step):

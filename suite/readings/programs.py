@@ -1,7 +1,7 @@
 """Wrong readings of numbers, rounding, vectors and the flow of programs."""
 import math
 
-from reference import machine, numbers, outline, rows_stack, rows_state, state
+from reference import fontfile, machine, numbers, outline, rows_stack, rows_state, state
 from reference.faults import Halt
 
 from .base import READINGS, Reading, computes, reading, replaced, value_of
@@ -145,6 +145,41 @@ for _limit, _value, _text in (("CALLS", 16, "16 calls may be open"), ("STEPS", 1
     value_of("limit_%s" % _limit.lower(), "halts", _text, machine, _limit, _value)
 
 
+@reading("recursion_refused", "halts", "a function may not call itself")
+def _recursion_refused(c):
+    def enter(right):
+        def strict(m, function, times):
+            if any(frame.function == function for frame in m.frames):
+                raise Halt("CallDepth")
+            right(m, function, times)
+        return strict
+    c.attribute(machine.Machine, "enter", enter)
+
+
+for _name, _less, _text in (("stack_of_max", 32, "the stack has room for maxStackElements and no more"),
+                            ("stack_below_max", 33, "the stack has to stay below maxStackElements")):
+    def _stack(c, less=_less):
+        def made(right):
+            def smaller(font, data):
+                right(font, data)
+                font.room -= less
+            return smaller
+        c.attribute(fontfile.Font, "__init__", made)
+    READINGS.append(Reading(_name, "halts", _text, _stack))
+
+
+@reading("if_without_eif_halts", "halts", "an IF whose EIF is missing halts at once")
+def _if_without_eif(c):
+    def make(old):
+        def row(m):
+            at = m.at
+            m.skip_if((machine.EIF,))
+            m.at = at
+            old(m)
+        return row
+    c.row("IF", make)
+
+
 @reading("too_few_are_zeros", "halts", "operands that are not there are 0")
 def _too_few_are_zeros(c):
     c.attribute(machine.Machine, "pop", lambda right: lambda m, count:
@@ -230,6 +265,25 @@ def _step_defined(right, m):
         m.run_defined()
     else:
         right(m)
+
+
+def control_reads(name, text, control):
+    """A reading of INSTCTRL. `control` gets the machine, the value, the selector, and the right row to be run on what it pushes."""
+    READINGS.append(Reading(name, "functions", text, lambda c: c.row("INSTCTRL", lambda old: lambda m: control(m, *m.pop(2), old))))
+
+
+def _other_operands(m, value, selector, old):
+    """The right row with other operands."""
+    m.push(value, selector)
+    old(m)
+
+
+control_reads("default_state_ignored", "INSTCTRL's selector 2 does nothing",
+              lambda m, value, selector, old: _other_operands(m, value, 3 if selector == 2 else selector, old))
+control_reads("programs_off_for_good", "programs that INSTCTRL turned off stay off",
+              lambda m, value, selector, old: _other_operands(m, value, selector if value else 3, old))
+control_reads("any_selector_turns_off", "INSTCTRL turns programs off, whatever its selector",
+              lambda m, value, selector, old: _other_operands(m, value, 1, old))
 
 
 @reading("glyph_programs_not_run", "flow functions state vectors points deltas mdrp halts", "glyphs have no programs")
