@@ -194,12 +194,13 @@ def ring(count, radius):
 
 def shapes_in_bounded_time():
     """Shapes whose time was once that of all their gaps, or of all segments of an arc's box: an arc that turns back far from its ends, with
-    its chord; lenses of two arcs that lie on each other; a ring of many arcs."""
-    far = 32767
+    its chord; lenses of two arcs that lie on each other; a ring of many arcs; waves, whose points are all off the curve."""
+    far, high = 32767, 8191
     for name, ppem, contours, seconds in (
             ("three points", 128, [[(-far, -far, 1), (far, far, 0), (-far, 1 - far, 1)]], 3),
             ("64 lenses", 255, [[(8 * k, 0, 1), (8 * k + 700, 1000, 0), (8 * k, 4000, 1), (8 * k + 700, 1000, 0)] for k in range(64)], 3),
-            ("a ring of 2,048 arcs", 1024, ring(4096, 500), 2)):
+            ("a ring of 2,048 arcs", 1024, ring(4096, 500), 2),
+            ("1,024 waves", 255, [[(k * 5063 % (high + 1), high if k % 2 else 0, 0) for k in range(1024)]], 4)):
         font = fonts.font_of([b"", fonts.simple(contours)], fonts.map_to_one(1), upem=1024)
         yield Run("%s with drop-out control" % name, "make --ppem %d --chars 41 --unhinted --dropout" % ppem, font, Counted(1, 0, hinted=False),
                   limits={"RLIMIT_CPU": seconds})

@@ -116,11 +116,11 @@ pub(crate) fn note_line(bounded: &Bounded, line: Line, bits: &mut [u32], tally: 
 {
     let piece = &bounded.piece;
     let part = met_part(bounded, line.row, line.frame, tally);
-    note_run(piece, line, part.crossing, bits, tally);
-    note_run(piece, line, part.region, bits, tally);
-    note_end(piece, line, piece.a, bits, tally);
-    note_end(piece, line, piece.c, bits, tally);
-    note_tip(piece, line, bits, tally);
+    note_run(piece, &part, line, part.crossing, bits, tally);
+    note_run(piece, &part, line, part.region, bits, tally);
+    note_end(piece, &part, line, piece.a, bits, tally);
+    note_end(piece, &part, line, piece.c, bits, tally);
+    note_tip(piece, &part, line, bits, tally);
     note_first(bounded.across, line, bits);
     note_last(bounded.across, line, bits);
 }
@@ -191,6 +191,7 @@ fn note_lines(
 #[inline(never)]
 pub(crate) fn note_bulge(piece: &Piece, notes: &mut Notes, tally: &mut Tally)
     ensures frame { notes.new.frame ≡ notes.old.frame }
+    ensures exact { notes.new.exact ≡ notes.old.exact }
     ensures noted { IsNoted (span_of piece.now) notes.old.frame notes.new.across.items notes.new.up.items }
     ensures across { AreKept notes.old.across.items notes.new.across.items }
     ensures up { AreKept notes.old.up.items notes.new.up.items }

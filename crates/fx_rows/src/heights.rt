@@ -92,10 +92,9 @@ fn rows_in(frame: Frame, low: i32, past: i32) -> RowRange
     if past <= low {
         return RowRange { first, end: first };
     }
-    let end = rows_below(frame, past);
     RowRange {
         first,
-        end: clamped(end, first, frame.height),
+        end: rows_below(frame, past),
     }
 }
 
@@ -112,6 +111,37 @@ pub(crate) fn rows_met(piece: &Piece, frame: Frame) -> RowRange
     rows_in(frame, low, past)
 }
 
+/// The first of some rows whose centres are above a height, or the number after the last. For nearly all pieces it is the first of
+/// all.
+fn first_over(y: i32, frame: Frame, rows: RowRange) -> u32
+    requires near { IsWithin (2 ^ 22) y }
+    requires rows { rows.end ≤ frame.height }
+    ensures first { rows.first ≤ result }
+    ensures end { result ≤ rows.end }
+    ensures over { (r : ℕ) → result ≤ r → r < rows.end → y <ℤ height_of frame r }
+    ensures under { (r : ℕ) → rows.first ≤ r → r < result → height_of frame r ≤ℤ y }
+{
+    if y < 128 * (frame.bottom + rows.first as i32) + 64 {
+        return rows.first;
+    }
+    clamped(rows_below(frame, first_from(y + 1)), rows.first, rows.end)
+}
+
+/// Where those of some rows end whose centres are below a height. For nearly all pieces all are below it.
+fn end_under(y: i32, frame: Frame, rows: RowRange) -> u32
+    requires near { IsWithin (2 ^ 22) y }
+    requires rows { rows.end ≤ frame.height }
+    ensures first { rows.first ≤ result }
+    ensures end { result ≤ rows.end }
+    ensures under { (r : ℕ) → rows.first ≤ r → r < result → height_of frame r <ℤ y }
+    ensures over { (r : ℕ) → result ≤ r → r < rows.end → y ≤ℤ height_of frame r }
+{
+    if 128 * (frame.bottom + rows.end as i32) - 64 < y {
+        return rows.end;
+    }
+    clamped(rows_below(frame, first_from(y)), rows.first, rows.end)
+}
+
 /// Those of some rows of a frame whose centres are above the lower end of a chord and below the upper one.
 pub(crate) fn rows_between(rise: Rise, frame: Frame, rows: RowRange) -> RowRange
     requires { rows.end ≤ frame.height }
@@ -122,12 +152,14 @@ pub(crate) fn rows_between(rise: Rise, frame: Frame, rows: RowRange) -> RowRange
     ensures under { (r : ℕ) → rows.first ≤ r → r < result.first → height_of frame r ≤ℤ rise.foot }
     ensures over { (r : ℕ) → result.end ≤ r → r < rows.end → rise.head ≤ℤ height_of frame r }
 {
-    let foot = rows_below(frame, first_from(rise.foot + 1));
-    let head = rows_below(frame, first_from(rise.head));
-    let first = clamped(foot, rows.first, rows.end);
+    let first = first_over(rise.foot, frame, rows);
+    let rest = RowRange {
+        first,
+        end: rows.end,
+    };
     RowRange {
         first,
-        end: clamped(head, first, rows.end),
+        end: end_under(rise.head, frame, rest),
     }
 }
 

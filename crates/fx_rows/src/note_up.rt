@@ -57,9 +57,14 @@ fn columns_at(frame: Frame, x: i32) -> Reach
     requires { IsWithin (2 ^ 22) x }
     ensures { AreAt frame x result }
 {
+    let col = first_from(x);
+    let first = columns_under(frame, col);
+    if 128 * col + 64 != x {
+        return Reach { first, end: first };
+    }
     Reach {
-        first: columns_under(frame, first_from(x)),
-        end: columns_under(frame, first_from(x + 1)),
+        first,
+        end: columns_under(frame, col + 1),
     }
 }
 

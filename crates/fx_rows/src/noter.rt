@@ -21,13 +21,15 @@ use crate::reach::reach_of;
 use fx_winding::{Frame, Notes, Piece, Tally, words_for};
 use std::alloc::{AllocError, Global};
 
-/// The segments noted so far, but for those of arcs that bulge; and of the piece that is being added to a band, the ends of its
-/// rows, from the band's lowest.
+/// The segments noted so far, but for those of arcs that bulge, and whether there are such arcs; and of the piece that is being
+/// added to a band, the ends of its rows, from the band's lowest.
 #[derive(Drop)]
 pub(crate) struct Noter {
     pub notes: Notes,
+    pub bulges: bool,
     ends: [u32; MOST_ROWS as usize],
     ghost many: { length ends ≡ 128 },
+    ghost exact: { IsTrue notes.exact },
 }
 
 impl Noter {
@@ -36,8 +38,11 @@ impl Noter {
         ensures frame { IfOk result (λ n. n.notes.frame ≡ frame) }
         ensures none { (ss : List Span) → IfOk result (λ n. AreMetBySome n.notes.frame n.notes.across.items n.notes.up.items ss) }
     {
+        let mut notes = Notes::none(alloc, frame)?;
+        notes.exact = true;
         Ok(Noter {
-            notes: Notes::none(alloc, frame)?,
+            notes,
+            bulges: false,
             ends: [0; MOST_ROWS as usize],
         })
     }
@@ -75,7 +80,8 @@ impl Noting for Noter {
 
     ghost IsTold = { λ n up end. IsEndIn n.ends up end };
 
-    ghost IsNotedAt = { λ n s w r. ¬ (IsBulge s) → IsNotedBy n.notes.frame n.notes.across.items n.notes.up.items s w r };
+    ghost IsNotedAt = { λ n s w r.
+        ¬ (IsBulge s × IsTrue n.bulges) → IsNotedBy n.notes.frame n.notes.across.items n.notes.up.items s w r };
 
     #[inline(always)]
     fn tell(&mut self, up: u32, end: u32) {
@@ -85,6 +91,7 @@ impl Noting for Noter {
     #[inline(always)]
     fn note(&mut self, piece: &Piece, frame: Frame, rows: RowRange, met: Met, tally: &mut Tally) {
         if is_bulge(piece) {
+            self.bulges = true;
             return;
         }
         let placed = placed_in(piece, frame, rows, met);

@@ -1,5 +1,6 @@
-use Rattle.std.proofs.Common.{◌≡◌, ◌≤◌, ◌<◌, ℕ, pos, ◌+ℤ◌, ◌≤ℤ◌, arith, w32, to_z, of_z}
+use Rattle.std.proofs.Common.{◌⊎◌, inl, inr, ◌≤◌, ◌<◌, arith}
 use Rattle.fx_fixed.proofs.Linear.{signed_linear}
+use Rattle.fx_fixed.proofs.Order.{below_or_not}
 use Rattle.fx_rows.proofs.heights.rows_in.Goals as goal
 
 pub returns-then-past-low-clause-rest : goal.returns-then-past-low-clause-rest
@@ -11,4 +12,16 @@ returns-clause-below c = λ r l. omega (arith, signed_linear, c.rows_below-first
 
 pub returns-clause-rest : goal.returns-clause-rest
 returns-clause-rest c = λ r m h.
-    omega (arith, signed_linear, c.rows_below-end.ensures.rest r (c.clamped.ensures.from r m h) h, c.requires.past)
+    omega (arith, signed_linear, c.rows_below.ensures.rest r m h, c.requires.past)
+
+pub invariant_of-result-2 : goal.invariant_of-result-2
+invariant_of-result-2 c = record { order = by (below_or_not c.rows_below.result c.rows_below-first.result) }
+  where
+    by : (c.rows_below.result < c.rows_below-first.result) ⊎ (c.rows_below-first.result ≤ c.rows_below.result)
+        → c.rows_below-first.result ≤ c.rows_below.result
+    by (inl l) =
+        let first = c.rows_below-first.ensures in
+        let under = first.below c.rows_below.result l in
+        let over = c.rows_below.ensures.rest c.rows_below.result (omega arith) (omega (arith, l, first.within)) in
+        absurd (omega (arith, signed_linear, under, over, c.if-past-low.false, c.requires.low, c.requires.past))
+    by (inr l) = l

@@ -1,30 +1,24 @@
-use Rattle.std.proofs.Common.{◌≡◌, ◌↔◌, ◌+ℤ◌, ◌-ℤ◌, ◌∙◌, IsTrue, pos, subst, arith, w32, to_z, of_z}
-use Rattle.std.proofs.lemmas.Int.{to_z_pos}
+use Rattle.std.proofs.Common.{◌≡◌, ◌+ℤ◌, ◌*ℤ◌, false, refl, inl, inr, ℤ, pos, subst, arith, w32, to_z, of_z}
 use Rattle.fx_fixed.proofs.Linear.{signed_linear}
-use Rattle.fx_winding.specs.Area.{Place}
-use Rattle.fx_winding.specs.Meets.{IsMet}
-use Rattle.fx_winding.specs.Winding.{place_of, span_of, centre}
+use Rattle.fx_winding.specs.Winding.{span_of}
+use Rattle.fx_winding.proofs.Meeting.{inner_meets}
+use Rattle.fx_winding.proofs.Places.{clash}
+use Rattle.fx_rows.specs.inner.Lines.{left_at, right_at}
+use Rattle.fx_rows.specs.inner.Points.{IsInner}
 use Rattle.fx_rows.proofs.line.meets_to.Goals as goal
 
-pub returns-clause-value : goal.returns-clause-value
-returns-clause-value c =
+pub returns-then-changes_at-clause-value : goal.returns-then-changes_at-clause-value
+returns-then-changes_at-clause-value c =
+    let changes = c.changes_at.ensures (span_of c.args.piece.now) c.requires.part in
+    (λ t. inr (inr (inl (changes.0 c.if-changes_at.true))), λ m. refl)
+
+pub returns-then-is_between_ends-clause-value : goal.returns-then-is_between_ends-clause-value
+returns-then-is_between_ends-clause-value c =
+    let line = c.args.line in
     let s = span_of c.args.piece.now in
-    let f = c.args.line.frame in
-    let k = c.args.k in
-    let wide = f.columns.few in
-    let step : to_z w32 k ≡ pos k = to_z_pos w32 k (omega (arith, wide, c.requires.to)) in
-    let row : to_z w32 (of_z w32 c.args.line.row) ≡ c.args.line.row = omega (arith, signed_linear, c.args.line.row_near) in
-    let from = c.requires.from in
-    let to = c.requires.to in
-    let right : to_z w32 (of_z w32 (to_z w32 (of_z w32 f.left) +ℤ to_z w32 k)) ≡ f.left +ℤ pos k =
-    omega (arith, signed_linear, step, f.columns, to) in
-    let again : to_z w32 (of_z w32 (to_z w32 (of_z w32 (to_z w32 (of_z w32 f.left) +ℤ to_z w32 k)))) ≡ f.left +ℤ pos k =
-    omega (arith, signed_linear, step, f.columns, to) in
-    let left : to_z w32 (of_z w32 (to_z w32 (of_z w32 (to_z w32 (of_z w32 f.left) +ℤ to_z w32 k)) -ℤ pos 1))
-    ≡ (f.left -ℤ pos 1) +ℤ pos k = omega (arith, signed_linear, step, f.columns, from, to) in
-    let q : place_of c.centre_of-2.result ≡ centre (f.left +ℤ pos k) c.args.line.row =
-    c.centre_of-2.ensures ∙ (λ i. centre (right i) (row i)) in
-    let p : place_of c.centre_of.result ≡ centre ((f.left -ℤ pos 1) +ℤ pos k) c.args.line.row =
-    c.centre_of.ensures ∙ (λ i. centre (left i) (row i)) in
-    subst (λ (r : Place). IsTrue c.meets.result ↔ IsMet (centre ((f.left -ℤ pos 1) +ℤ pos k) c.args.line.row) r s) q
-    (subst (λ (r : Place). IsTrue c.meets.result ↔ IsMet r (place_of c.centre_of-2.result) s) p c.meets.ensures.value)
+    let changes = c.changes_at.ensures s c.requires.part in
+    let row : to_z w32 (of_z w32 line.row) ≡ line.row = omega (arith, signed_linear, line.row_near) in
+    let inner : IsInner s.a.y s.c.y (pos 128 *ℤ line.row +ℤ pos 64) =
+    subst (λ (y : ℤ). IsInner s.a.y s.c.y (pos 128 *ℤ y +ℤ pos 64)) row (c.is_between_ends.ensures c.if-is_between_ends.true) in
+    let same = inner_meets (left_at line.frame line.row c.args.k) (right_at line.frame line.row c.args.k) s inner in
+    (λ t. absurd (clash false refl t), λ m. absurd (clash c.changes_at.result c.if-changes_at.false (changes.1 (same.0 m))))

@@ -1,8 +1,10 @@
-use Rattle.std.proofs.Common.{◌≡◌, ◌∙◌, ◌+◌, ◌-◌, ◌+ℤ◌, ◌-ℤ◌, ℕ, pos, subst, sym, arith, w32, to_z, of_z}
+use Rattle.std.proofs.Common.{◌≡◌, ◌∙◌, ◌+◌, ◌-◌, ◌+ℤ◌, ◌-ℤ◌, ◌*ℤ◌, ◌<◌, ℕ, ℤ, pos, subst, sym, arith, w32, to_z, of_z}
 use Rattle.fx_fixed.proofs.Linear.{signed_linear}
 use Rattle.fx_winding.specs.Meets.{IsTipPart}
 use Rattle.fx_winding.specs.Winding.{span_of, centre}
-use Rattle.fx_rows.specs.inner.Lines.{IsSetTo}
+use Rattle.fx_rows.specs.inner.Lines.{left_at, right_at, IsSetTo}
+use Rattle.fx_rows.specs.inner.Points.{IsInner}
+use Rattle.fx_rows.proofs.Added.{inner_no_tip}
 use Rattle.fx_rows.specs.inner.Sides.{place_at}
 use Rattle.fx_rows.proofs.line.note_tip.Goals as goal
 
@@ -22,5 +24,14 @@ returns-in-Some-clause-noted c = λ k o l tip.
     subst (λ z. z) (λ i. IsTipPart p.a p.b p.c (centre (left i) (row i)) (centre (right i) (row i))) tip in
     let is = c.tip_column-end.ensures.only j (omega (arith, signed_linear, at.first, at.last, l, o)) here in
     let e : c.saturating_sub.result ≡ k = omega (arith, is, c.saturating_sub.ensures, o) in
-    subst (λ (n : ℕ). IsSetTo p f line.row line.first line.step c.note_segment.new.bits n) e
-    (c.note_segment.ensures.noted (omega (arith, e, o)) (omega (arith, e, l)))
+    subst (λ (n : ℕ). 0 < n → n < f.width → IsTipPart p.a p.b p.c (left_at f line.row n) (right_at f line.row n)
+    → IsSetTo p f line.row line.first line.step c.note_outside.new.bits n) e c.note_outside.ensures.noted o l tip
+
+pub returns-then-is_between_ends-clause-noted : goal.returns-then-is_between_ends-clause-noted
+returns-then-is_between_ends-clause-noted c = λ k o l tip met.
+    let line = c.args.line in
+    let s = span_of c.args.piece.now in
+    let row : to_z w32 (of_z w32 line.row) ≡ line.row = omega (arith, signed_linear, line.row_near) in
+    let inner : IsInner s.a.y s.c.y (pos 128 *ℤ line.row +ℤ pos 64) =
+    subst (λ (y : ℤ). IsInner s.a.y s.c.y (pos 128 *ℤ y +ℤ pos 64)) row (c.is_between_ends.ensures c.if-is_between_ends.true) in
+    absurd (inner_no_tip s.a s.b s.c (left_at line.frame line.row k) (right_at line.frame line.row k) inner tip)

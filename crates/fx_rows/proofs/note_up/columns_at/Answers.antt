@@ -1,23 +1,60 @@
-use Rattle.std.proofs.Common.{◌≡◌, pos, ◌+ℤ◌, arith, w32, to_z, of_z}
-use Rattle.fx_fixed.proofs.Linear.{signed_linear}
+use Rattle.std.proofs.Common.{◌≡◌, pos, ◌+ℤ◌, ◌*ℤ◌, ◌<ℤ◌, ◌≤ℤ◌, ℤ, ap, sym, ◌∙◌, inl, inr, ◌⊎◌, arith, w32, to_z, of_z}
+use Rattle.fx_fixed.proofs.Linear.{signed, signed_linear}
+use Rattle.fx_fixed.proofs.Order.{below_or_not_ℤ}
 use Rattle.fx_rows.proofs.note_up.columns_at.Goals as goal
+
+-- what is not right of a place and not at it is left of it
+left_of : (x y : ℤ) → x ≤ℤ y → ¬ (y ≡ x) → x <ℤ y
+left_of x y l n = by (below_or_not_ℤ x y)
+  where
+    by : (x <ℤ y) ⊎ (y ≤ℤ x) → x <ℤ y
+    by (inl h) = h
+    by (inr h) = absurd (n (omega (arith, signed_linear, l, h)))
+
+pub returns-then-col-x : goal.returns-then-col-x
+returns-then-col-x c =
+    let x = c.args.x in
+    let col = c.first_from-col.result in
+    let left = c.args.frame.left in
+    let size = c.first_from-col.ensures.size in
+    let here : to_z w32 (of_z w32 x) ≡ x = omega (arith, signed_linear, c.requires) in
+    let same : to_z w32 (of_z w32 col) ≡ col = omega (arith, signed_linear, size) in
+    let times : to_z w32 (of_z w32 (pos 128 *ℤ to_z w32 (of_z w32 col))) ≡ pos 128 *ℤ col = omega (arith, signed, size, same) in
+    let at : x ≤ℤ (pos 128 *ℤ col +ℤ pos 64) = rw here at (c.first_from-col.ensures.from col (omega (arith, signed_linear))) in
+    let over : x <ℤ (pos 128 *ℤ col +ℤ pos 64) =
+    left_of x (pos 128 *ℤ col +ℤ pos 64) at (λ e. c.if-col-x.true (ap (of_z w32) ((λ i. times i +ℤ pos 64) ∙ e))) in
+    record {
+      within = c.columns_under-first.ensures.within;
+      left = λ k h. rw here at (c.first_from-col.ensures.before (left +ℤ pos k)
+          (rw same at (c.columns_under-first.ensures.under k h)));
+      from = λ k h l. rw here at (c.first_from-col.ensures.from (left +ℤ pos k)
+          (rw same at (c.columns_under-first.ensures.rest k h l)));
+      to = λ k h. let under = rw here at (c.first_from-col.ensures.before (left +ℤ pos k)
+          (rw same at (c.columns_under-first.ensures.under k h))) in omega (arith, signed_linear, under);
+      right = λ k h l. let rest = rw same at (c.columns_under-first.ensures.rest k h l) in
+          omega (arith, signed, rest, over);
+    }
 
 pub returns : goal.returns
 returns c =
     let x = c.args.x in
+    let col = c.first_from-col.result in
     let left = c.args.frame.left in
+    let size = c.first_from-col.ensures.size in
     let here : to_z w32 (of_z w32 x) ≡ x = omega (arith, signed_linear, c.requires) in
-    let next : to_z w32 (of_z w32 (to_z w32 (of_z w32 x) +ℤ pos 1)) ≡ x +ℤ pos 1 = omega (arith, signed_linear, c.requires) in
-    let first : to_z w32 (of_z w32 c.first_from.result) ≡ c.first_from.result =
-    omega (arith, signed_linear, c.first_from.ensures.size) in
-    let end : to_z w32 (of_z w32 c.first_from-2.result) ≡ c.first_from-2.result =
-    omega (arith, signed_linear, c.first_from-2.ensures.size) in
+    let same : to_z w32 (of_z w32 col) ≡ col = omega (arith, signed_linear, size) in
+    let next : to_z w32 (of_z w32 (to_z w32 (of_z w32 col) +ℤ pos 1)) ≡ col +ℤ pos 1 = omega (arith, signed_linear, size) in
+    let times : to_z w32 (of_z w32 (pos 128 *ℤ to_z w32 (of_z w32 col))) ≡ pos 128 *ℤ col = omega (arith, signed, size, same) in
+    let place : to_z w32 (of_z w32 (to_z w32 (of_z w32 (pos 128 *ℤ to_z w32 (of_z w32 col))) +ℤ pos 64))
+    ≡ pos 128 *ℤ col +ℤ pos 64 =
+    omega (arith, signed, size, times, same) in
+    let at : x ≡ pos 128 *ℤ col +ℤ pos 64 = sym here ∙ ap (to_z w32) (sym c.if-col-x.false) ∙ place in
     record {
-      within = c.columns_under-2.ensures.within;
-      left = λ k h. rw here at (c.first_from.ensures.before (left +ℤ pos k) (rw first at (c.columns_under.ensures.under k h)));
-      from = λ k h l. rw here at (c.first_from.ensures.from (left +ℤ pos k) (rw first at (c.columns_under.ensures.rest k h l)));
-      to = λ k h. let under = c.first_from-2.ensures.before (left +ℤ pos k) (rw end at (c.columns_under-2.ensures.under k h)) in
-          omega (arith, signed_linear, under, next);
-      right = λ k h l. let over = c.first_from-2.ensures.from (left +ℤ pos k) (rw end at (c.columns_under-2.ensures.rest k h l)) in
-          omega (arith, signed_linear, over, next);
+      within = c.columns_under.ensures.within;
+      left = λ k h. rw here at (c.first_from-col.ensures.before (left +ℤ pos k)
+          (rw same at (c.columns_under-first.ensures.under k h)));
+      from = λ k h l. rw here at (c.first_from-col.ensures.from (left +ℤ pos k)
+          (rw same at (c.columns_under-first.ensures.rest k h l)));
+      to = λ k h. let under = rw next at (c.columns_under.ensures.under k h) in omega (arith, signed, under, at);
+      right = λ k h l. let rest = rw next at (c.columns_under.ensures.rest k h l) in omega (arith, signed, rest, at);
     }

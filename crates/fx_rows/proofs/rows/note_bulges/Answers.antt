@@ -41,6 +41,7 @@ pieces-preserved c =
     ap (λ (g : Frame). 45 * (g.height + g.width)) inv.frame in
     record {
       frame = done.frame ∙ inv.frame;
+      exact = done.exact ∙ inv.exact;
       across = kept_both _ _ _ inv.across done.across;
       up = kept_both _ _ _ inv.up done.up;
       noted = All-more (λ t. IsNoted t f new.across.items new.up.items) spans here s inside

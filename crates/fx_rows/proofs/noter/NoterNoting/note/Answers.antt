@@ -1,4 +1,4 @@
-use Rattle.std.proofs.Common.{◌≡◌, ◌∙◌, ◌*◌, ◌+◌, ◌-◌, ◌≤◌, sym, ap, subst, ℕ, List, length, arith}
+use Rattle.std.proofs.Common.{refl, ◌≡◌, ◌∙◌, ◌*◌, ◌+◌, ◌-◌, ◌≤◌, sym, ap, subst, ℕ, List, length, arith}
 use Rattle.std.proofs.lemmas.List.{with_items_is}
 use Rattle.fx_winding.specs.Bitmaps.{words_for}
 use Rattle.fx_winding.specs.Notes.{IsNotedAcross, IsNotedUp}
@@ -122,10 +122,13 @@ returns-clause-kept c = λ s w r h no.
     (subst (λ z. z) (λ i. AreKept (c.deref_mut-2.ensures.value i) (u i)) c.note_up.ensures.kept) (h no)
 
 pub returns-then-is_bulge-clause-across : goal.returns-then-is_bulge-clause-across
-returns-then-is_bulge-clause-across c = λ r l m no. absurd (no (c.is_bulge.ensures.0 c.if-is_bulge.true))
+returns-then-is_bulge-clause-across c = λ r l m no. absurd (no (c.is_bulge.ensures.0 c.if-is_bulge.true, refl))
 
 pub returns-then-is_bulge-clause-up : goal.returns-then-is_bulge-clause-up
-returns-then-is_bulge-clause-up c = λ r l m no. absurd (no (c.is_bulge.ensures.0 c.if-is_bulge.true))
+returns-then-is_bulge-clause-up c = λ r l m no. absurd (no (c.is_bulge.ensures.0 c.if-is_bulge.true, refl))
 
 pub returns-then-is_bulge-clause-top : goal.returns-then-is_bulge-clause-top
-returns-then-is_bulge-clause-top c = λ e no. absurd (no (c.is_bulge.ensures.0 c.if-is_bulge.true))
+returns-then-is_bulge-clause-top c = λ e no. absurd (no (c.is_bulge.ensures.0 c.if-is_bulge.true, refl))
+
+pub returns-then-is_bulge-clause-kept : goal.returns-then-is_bulge-clause-kept
+returns-then-is_bulge-clause-kept c = λ s w r h no. h (λ b. no (b.0, refl))

@@ -1,23 +1,25 @@
-use Rattle.std.proofs.Common.{sym, subst, map, List, arith}
+use Rattle.std.proofs.Common.{IsTrue, sym, subst, map, List, arith}
 use Rattle.std.specs.List.{All}
 use Rattle.fx_winding.specs.declared.frame.Frame.{Frame}
 use Rattle.fx_winding.specs.declared.point.Piece.{Piece}
 use Rattle.fx_winding.specs.Notes.{IsNoted}
-use Rattle.fx_winding.specs.Winding.{span_of}
+use Rattle.fx_winding.specs.Winding.{Span, span_of}
 use Rattle.fx_rows.specs.inner.Bulging.{IsBulge}
 use Rattle.fx_rows.specs.inner.Telling.{AreMetBySome, AreNotedIn, IsNotedBy}
 use Rattle.fx_rows.proofs.Telling.{noted_unless, exact_of}
 use Rattle.fx_rows.proofs.rows.RowsScan.scan_noted.Goals as goal
 
-pub note_bulges-requires : goal.note_bulges-requires
-note_bulges-requires c =
-    let n = c.scan_noting.new.noter.notes in
+pub notes_of-notes-requires : goal.notes_of-notes-requires
+notes_of-notes-requires c =
+    let m = c.scan_noting.new.noter in
+    let n = m.notes in
     let ss = map span_of c.args.pieces.now in
     let same = c.scan_noting.ensures.of in
+    let left : Span → Type 0 = λ s. IsBulge s × IsTrue m.bulges in
     record {
-      noted = subst (λ (ps : List Piece). All (λ s. ¬ (IsBulge s) → IsNoted s n.frame n.across.items n.up.items) (map span_of ps))
-          (sym c.as_slice.ensures.value) (noted_unless IsBulge n.frame n.across.items n.up.items ss
-          (subst (λ (f : Frame). AreNotedIn (λ s w r. ¬ (IsBulge s) → IsNotedBy n.frame n.across.items n.up.items s w r) ss f 0
+      noted = subst (λ (ps : List Piece). All (λ s. ¬ (left s) → IsNoted s n.frame n.across.items n.up.items) (map span_of ps))
+          (sym c.as_slice.ensures.value) (noted_unless left n.frame n.across.items n.up.items ss
+          (subst (λ (f : Frame). AreNotedIn (λ s w r. ¬ (left s) → IsNotedBy n.frame n.across.items n.up.items s w r) ss f 0
           f.height) (sym same) (c.in_ok-bitmap.ensures.noted (omega arith))));
     }
 
@@ -25,10 +27,18 @@ pub returns-clause-exact : goal.returns-clause-exact
 returns-clause-exact c = λ t.
     let n = c.scan_noting.new.noter.notes in
     let ss = map span_of c.args.pieces.now in
-    let across = c.note_bulges.new.notes.across.items in
-    let up = c.note_bulges.new.notes.up.items in
+    let across = c.notes_of-notes.result.across.items in
+    let up = c.notes_of-notes.result.up.items in
     let P : List Piece → Type 0 =
     λ ps. AreMetBySome n.frame n.across.items n.up.items (map span_of ps) → AreMetBySome n.frame across up (map span_of ps) in
-    let all = subst P c.as_slice.ensures.value c.note_bulges.ensures.only in
+    let all = subst P c.as_slice.ensures.value c.notes_of-notes.ensures.only in
     exact_of c.args.frame across up ss (subst (λ (f : Frame). AreMetBySome f across up ss) c.scan_noting.ensures.of
     (all (c.scan_noting.ensures.only (c.in_ok-noter.ensures.none ss))))
+
+pub returns-clause-noted : goal.returns-clause-noted
+returns-clause-noted c =
+    let across = c.notes_of-notes.result.across.items in
+    let up = c.notes_of-notes.result.up.items in
+    subst (λ (ps : List Piece). All (λ s. IsNoted s c.args.frame across up) (map span_of ps)) c.as_slice.ensures.value
+    (subst (λ (f : Frame). All (λ s. IsNoted s f across up) (map span_of c.as_slice.result.now)) c.scan_noting.ensures.of
+    c.notes_of-notes.ensures.noted)

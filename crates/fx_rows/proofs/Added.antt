@@ -1,0 +1,75 @@
+-- What a piece adds to a row tells which of its segments it meets.
+-- Serves `meets_to` and `note_tip`.
+use Rattle.std.proofs.Common.{◌≡◌, inl, inr, sym, ◌∙◌, ℕ, ◌<◌, ℤ, pos, ◌+ℤ◌, ◌-ℤ◌, ap, Option, Some, None, arith}
+use Rattle.std.proofs.Common.{w32, w64, to_z, of_z}
+use Rattle.std.proofs.lemmas.Int.{to_z_pos}
+use Rattle.fx_fixed.proofs.Linear.{signed_linear}
+use Rattle.fx_winding.specs.Area.{Place}
+use Rattle.fx_winding.specs.Frames.{IsFrom}
+use Rattle.fx_winding.specs.Meets.{turn, IsTipPart, IsReached}
+use Rattle.fx_winding.specs.Winding.{Span, crossing, region, region_part, centre}
+use Rattle.fx_winding.specs.declared.frame.Frame.{Frame}
+use Rattle.fx_rows.specs.Parts.{IsRowPart}
+use Rattle.fx_rows.specs.declared.part.RowPart.{RowPart}
+use Rattle.fx_rows.specs.inner.Points.{IsInner}
+use Rattle.fx_rows.specs.inner.Sums.{value_at}
+use Rattle.fx_fixed.specs.Ranges.{IsWithin}
+use Rattle.fx_rows.proofs.Counted.{crossing_small, region_small, run_at}
+
+-- what a piece adds at a column
+pub turn_at : (s : Span) (row : ℤ) (f : Frame) (part : RowPart) (col : ℤ) → IsRowPart s row f part → IsFrom f.left f.width col
+    → value_at part.crossing col +ℤ value_at part.region col ≡ turn (centre col row) s
+turn_at s row f part col is i =
+    let crosses = run_at (λ x. crossing (centre x row) s) f part.crossing col is.crosses i in
+    let regions = run_at (λ x. region (centre x row) s) f part.region col is.regions i in
+    λ j. crosses j +ℤ regions j
+
+pub turn_small : (p : Place) (s : Span) → IsWithin 2 (turn p s)
+turn_small p s =
+    let a = crossing_small p s in
+    let b = region_small p s in
+    (omega (arith, signed_linear, a, b), omega (arith, signed_linear, a, b))
+
+-- numbers with the same 64 bits are the same
+pub bits_tell : (a b x y : ℤ) → a ≡ x → b ≡ y → IsWithin 2 x → IsWithin 2 y → of_z w64 a ≡ of_z w64 b → x ≡ y
+bits_tell a b x y e f near_x near_y h =
+    let from_a : to_z w64 (of_z w64 a) ≡ x = omega (arith, signed_linear, e, near_x) in
+    let from_b : to_z w64 (of_z w64 b) ≡ y = omega (arith, signed_linear, f, near_y) in
+    sym from_a ∙ ap (to_z w64) h ∙ from_b
+
+-- the ends of a segment within the frame are columns of it
+pub left_in : (f : Frame) (k : ℕ) → 0 < k → k < f.width → IsFrom f.left f.width ((f.left -ℤ pos 1) +ℤ pos k)
+left_in f k o l = (omega (arith, signed_linear, o), omega (arith, signed_linear, l))
+
+pub right_in : (f : Frame) (k : ℕ) → k < f.width → IsFrom f.left f.width (f.left +ℤ pos k)
+right_in f k l = (omega (arith, signed_linear), omega (arith, signed_linear, l))
+
+-- the columns of those ends, as the code has them
+pub right_column : (f : Frame) (k : ℕ) → k < f.width
+    → to_z w32 (of_z w32 (to_z w32 (of_z w32 f.left) +ℤ to_z w32 k)) ≡ f.left +ℤ pos k
+right_column f k l =
+    let wide = f.columns.few in
+    let step : to_z w32 k ≡ pos k = to_z_pos w32 k (omega (arith, wide, l)) in
+    omega (arith, signed_linear, step, f.columns, l)
+
+pub left_column : (f : Frame) (k : ℕ) → 0 < k → k < f.width
+    → to_z w32 (of_z w32 (to_z w32 (of_z w32 (to_z w32 (of_z w32 f.left) +ℤ to_z w32 k)) -ℤ pos 1)) ≡ (f.left -ℤ pos 1) +ℤ pos k
+left_column f k o l =
+    let right = right_column f k l in
+    omega (arith, signed_linear, right, f.columns, o, l)
+
+-- a row strictly between the ends of an arc has no tip
+reached_not_inner : (a b c y : ℤ) → IsInner a c y → ¬ (IsReached a b c y)
+reached_not_inner a b c y (inl h) (inl r) = omega (arith, signed_linear, h, r)
+reached_not_inner a b c y (inl h) (inr r) = omega (arith, signed_linear, h, r)
+reached_not_inner a b c y (inr h) (inl r) = omega (arith, signed_linear, h, r)
+reached_not_inner a b c y (inr h) (inr r) = omega (arith, signed_linear, h, r)
+
+pub inner_no_tip : (a : Place) (b : Option Place) (c p q : Place) → IsInner a.y c.y p.y → ¬ (IsTipPart a b c p q)
+inner_no_tip a None c p q h t = t
+inner_no_tip a (Some b) c p q h t = reached_not_inner a.y b.y c.y p.y h t.reached
+
+-- a tip comes after a place that is not in the region
+pub tip_outside : (a : Place) (b : Option Place) (c p q : Place) → IsTipPart a b c p q → region_part a b c p ≡ pos 0
+tip_outside a None c p q t = absurd t
+tip_outside a (Some b) c p q t = t.outside

@@ -1,0 +1,47 @@
+//! What a piece adds to the winding number at the columns of a row, as what it adds to the row tells it.
+
+ghost use Rattle.std.specs.Prelude.{◌≡◌, pos, ◌+ℤ◌, ◌*ℤ◌, IsTrue};
+ghost use Rattle.fx_winding.specs.Limits.{IsPixelNumber};
+ghost use Rattle.fx_rows.specs.inner.Points.{IsInner};
+ghost use Rattle.fx_rows.specs.inner.Sums.{value_at};
+
+use crate::part::{RowPart, Run};
+use fx_winding::Piece;
+
+/// The value of a run at a column.
+pub(crate) fn run_at(run: Option<Run>, col: i32) -> i32
+    ensures { result ≡ value_at run col }
+{
+    match run {
+        None => 0,
+        Some(run) => {
+            if run.first <= col && col <= run.last {
+                run.value
+            } else {
+                0
+            }
+        }
+    }
+}
+
+/// What a piece adds at a column.
+pub(crate) fn turn_in(part: &RowPart, col: i32) -> i64
+    ensures { result ≡ value_at part.now.crossing col +ℤ value_at part.now.region col }
+{
+    i64::from(run_at(part.crossing, col)) + i64::from(run_at(part.region, col))
+}
+
+/// Whether the centres of a row are strictly between the ends of a piece.
+pub(crate) fn is_between_ends(piece: &Piece, row: i32) -> bool
+    requires { IsPixelNumber row }
+    ensures { IsTrue result → IsInner piece.now.a.y piece.now.c.y (pos 128 *ℤ row +ℤ pos 64) }
+{
+    let y = 128 * row + 64;
+    if piece.a.y < y {
+        return y < piece.c.y;
+    }
+    if piece.c.y < y {
+        return y < piece.a.y;
+    }
+    false
+}
