@@ -234,14 +234,14 @@ clash : (n : ℕ) → n ≡ 0 → n ≡ 1 → ⊥
 clash n z o = omega (arith, z, o)
 
 -- a row's words have the bits that a bitmap of this frame has there
-row_set : (f : Frame) (b : Bits) (j : ℤ) (row : List ℕ) → b.frame ≡ f → IsFrom f.bottom f.height j → AreRowWords b.frame.width row
+pub row_set : (f : Frame) (b : Bits) (j : ℤ) (row : List ℕ) → b.frame ≡ f → IsFrom f.bottom f.height j → AreRowWords b.frame.width row
     → bits_in b.frame.width row ≡ get_or b.rows (steps b.frame.bottom j) [] → (n : ℕ) → word_bit row n ≡ 1
     → IsTrue (bit_of b (f.left +ℤ pos n) j)
 row_set f b j row same r words value n o = subst (λ (g : Frame). IsTrue (bit_of b (g.left +ℤ pos n) j)) same
     (row_pixel b j row n (subst (λ (g : Frame). IsFrom g.bottom g.height j) (sym same) r) words value o)
 
 -- as the words of a row tell that a bitmap has there
-row_clear : (exact : Bool) (ss : List Span) (f : Frame) (noted row : List ℕ) (Old : ℤ → ℤ → Type 0) (b : Bits) (j : ℤ) (n : ℕ)
+pub row_clear : (exact : Bool) (ss : List Span) (f : Frame) (noted row : List ℕ) (Old : ℤ → ℤ → Type 0) (b : Bits) (j : ℤ) (n : ℕ)
     → IsRowNoted exact ss f j Old noted → ((i : ℤ) → Old i j → IsSoFar ss f b i j)
     → ((n : ℕ) → word_bit row n ≡ 1 → IsTrue (bit_of b (f.left +ℤ pos n) j)) → n ≤ f.width → IsShutAcross noted row n
     → ¬ (IsGap ss (IsSoFar ss f b) ((f.left -ℤ pos 1) +ℤ pos n) j)
@@ -269,7 +269,7 @@ row_passed exact ss f noted row Old b j k m same r some few low words value all 
     room : f.width ≤ 32 * length row
     room = subst (λ (g : Frame). g.width ≤ 32 * length row) same (omega (arith, words.count, words_wide b.frame.width))
 
-level_clear : (told : Bool) (ss : List Span) (f : Frame) (noted lower upper : List ℕ) (Old : ℤ → ℤ → Type 0) (b : Bits)
+pub level_clear : (told : Bool) (ss : List Span) (f : Frame) (noted lower upper : List ℕ) (Old : ℤ → ℤ → Type 0) (b : Bits)
     (i x y : ℤ) (n : ℕ) → IsLevelNoted told ss f i Old noted → ((m j : ℤ) → Turned Old m j → Turned (IsSoFar ss f b) m j)
     → ((n : ℕ) → word_bit lower n ≡ 1 → IsTrue (bit_of b (f.left +ℤ pos n) x))
     → ((n : ℕ) → word_bit upper n ≡ 1 → IsTrue (bit_of b (f.left +ℤ pos n) y)) → IsOneOf i x → IsOneOf i y → n < f.width
@@ -304,7 +304,7 @@ level_passed told ss f noted lower upper Old b i x y k m same rx ry ex ey few lo
     (shut n l (omega (arith, h)) (omega (arith, h, room, words_wide f.width)))) a
 
 -- a segment that is not noted, or one of whose pixels is set, is no gap
-gapless : (upward : Bool) (ss : List Span) (f : Frame) (across up : List ℕ) (b : Bits) (r n : ℕ)
+pub gapless : (upward : Bool) (ss : List Span) (f : Frame) (across up : List ℕ) (b : Bits) (r n : ℕ)
     → All (λ s. IsNoted s f across up) ss → ((i j : ℤ) → IsCovered (centre i j) ss → IsSoFar ss f b i j) → IsSegment upward f r n
     → (word_bit (seg_bits upward across up) (pixel_number f r n) ≡ 0)
     ⊎ (IsTrue (bit_of b (seg_col upward f n) (seg_row upward f r))

@@ -7,3 +7,6 @@ pub mod Candidates
 pub mod Looks
 pub mod Tests
 pub mod Words
+pub mod Counts
+pub mod Filling
+pub mod NearLaws

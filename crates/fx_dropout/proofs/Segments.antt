@@ -14,7 +14,7 @@ use Rattle.fx_dropout.specs.inner.Lines.{IsBridgeTo, IsBridgedTo, IsCloser, IsOn
 pub same_or_not : (a b : ℤ) → (a ≡ b) ⊎ (a ≢ b)
 same_or_not a b = grind (arith, ints)
 
-before_or_not : (a b : ℤ) → (a ≤ℤ b) ⊎ (b <ℤ a)
+pub before_or_not : (a b : ℤ) → (a ≤ℤ b) ⊎ (b <ℤ a)
 before_or_not a b = grind (arith, ints)
 
 pub both : {X Y Z : Type 0} → X ↔ Y → Y ↔ Z → X ↔ Z

@@ -1,2 +1,4 @@
 pub mod Tests
+pub mod Nearer
+pub mod Laws
 pub mod inner

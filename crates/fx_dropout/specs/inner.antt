@@ -2,3 +2,4 @@
 pub mod Pairs
 pub mod Lines
 pub mod Words
+pub mod Filled

@@ -82,7 +82,7 @@ fn whole_words(shut: usize, shared: bool) -> usize
 
 /// The next row from one on in which a segment can be a gap, or one before that, or the number of rows. Rows are counted from the
 /// lowest.
-fn next_row(across: &[u32], bitmap: &Bitmap, from: u32) -> u32
+pub(crate) fn next_row(across: &[u32], bitmap: &Bitmap, from: u32) -> u32
     requires wide { 0 < bitmap.now.frame.width }
     requires room { length across.now ≡ bitmap.now.frame.height * words_for_of bitmap.now.frame.width + 1 }
     requires order { from ≤ bitmap.now.frame.height }

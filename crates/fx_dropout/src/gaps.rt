@@ -146,7 +146,7 @@ fn any_passes(pieces: &[Piece], pair: Pair, tally: &mut Tally) -> bool
 }
 
 /// Whether a pixel lies in a frame.
-fn is_in_frame(frame: Frame, pixel: Pixel) -> bool
+pub(crate) fn is_in_frame(frame: Frame, pixel: Pixel) -> bool
     ensures { IsTrue result ↔ IsInFrame frame pixel.col pixel.row }
 {
     if pixel.col < frame.left {
@@ -181,7 +181,7 @@ fn turn_off(piece: &Piece, p: Point, tally: &mut Tally) -> Option<i32>
 }
 
 /// Whether p is on a piece, or has a winding number other than 0.
-fn covers(pieces: &[Piece], p: Point, tally: &mut Tally) -> bool
+pub(crate) fn covers(pieces: &[Piece], p: Point, tally: &mut Tally) -> bool
     ensures value { IsTrue result ↔ IsCovered (place_of p) (map span_of pieces.now) }
     ensures count { tally.new.count ≤ tally.old.count + 3 * length pieces.now }
 {

@@ -1,10 +1,11 @@
 //! Pixels, and pairs of neighbours, between whose centres a piece may pass.
 
-ghost use Rattle.std.specs.Prelude.{◌≡◌, ◌≢◌, ◌⊎◌, ℤ, pos, ◌+ℤ◌, true};
+ghost use Rattle.std.specs.Prelude.{◌≡◌, ◌≢◌, ◌⊎◌, ◌≤◌, ℤ, pos, ◌+ℤ◌, true};
 ghost use Rattle.fx_winding.specs.Bitmaps.{bit_of};
 ghost use Rattle.fx_winding.specs.Frames.{IsInFrame};
 ghost use Rattle.fx_winding.specs.Limits.{IsPixelNumber};
 ghost use Rattle.fx_winding.specs.Winding.{place_of, centre as centre_of};
+ghost use Rattle.fx_dropout.specs.Nearer.{place_on};
 ghost use Rattle.fx_dropout.specs.inner.Pairs.{next_col, next_row};
 
 use fx_winding::{Bitmap, Point};
@@ -79,6 +80,23 @@ impl Pair {
         Pixel {
             col: here.col + 1,
             row: here.row,
+        }
+    }
+    /// The place n steps of 1/128 pixel from the pixel's centre to the neighbour's.
+    pub(crate) fn place(self, n: usize) -> Point
+        requires { n ≤ 128 }
+        ensures { place_of result ≡ place_on self.is_up self.here.col self.here.row n }
+    {
+        let here = self.here.centre();
+        if self.is_up {
+            return Point {
+                x: here.x,
+                y: here.y + n as i32,
+            };
+        }
+        Point {
+            x: here.x + n as i32,
+            y: here.y,
         }
     }
 }

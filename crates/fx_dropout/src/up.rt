@@ -19,7 +19,7 @@ use crate::pair::{Pair, Pixel};
 use fx_winding::{Bitmap, Frame, Notes, Pieces, Tally, words_for};
 
 /// The row above another, or that itself if it is the last of the frame.
-fn row_above(frame: Frame, i: i32) -> i32
+pub(crate) fn row_above(frame: Frame, i: i32) -> i32
     requires some { 0 < frame.height }
     requires level { IsFrom (frame.bottom -ℤ pos 1) (frame.height + 1) i }
     ensures inside { IsFrom frame.bottom frame.height result }
@@ -86,7 +86,7 @@ fn close_level(
 
 /// The next row from one on to which a segment leads from the row below that can be a gap. The first, and the number of rows, stand
 /// for segments from outside the frame and to there, which are not looked at. Rows are counted from the lowest.
-fn next_level(notes: &[u32], bitmap: &Bitmap, from: u32) -> u32
+pub(crate) fn next_level(notes: &[u32], bitmap: &Bitmap, from: u32) -> u32
     requires wide { 0 < bitmap.now.frame.width }
     requires room { length notes.now ≡ (bitmap.now.frame.height + 1) * words_for_of bitmap.now.frame.width }
     requires order { from ≤ bitmap.now.frame.height + 1 }

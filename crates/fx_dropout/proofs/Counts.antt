@@ -1,0 +1,38 @@
+-- How many places are covered.
+-- Serves `nearer`.
+use Rattle.std.proofs.Common.{◌≡◌, ◌↔◌, inl, inr, refl, sym, ap, ◌∙◌, subst, Bool, true, false, IsTrue, ℕ, zero, suc, ◌+◌, arith}
+use Rattle.fx_winding.proofs.Places.{clash}
+use Rattle.fx_dropout.specs.Nearer.{IsCount}
+
+pub count_none : (P : ℕ → Type 0) → IsCount P 0 0
+unfolding IsCount
+count_none P = refl
+
+pub count_more : (P : ℕ → Type 0) (n m : ℕ) → P n → IsCount P n m → IsCount P (n + 1) (m + 1)
+unfolding IsCount
+count_more P n m p h =
+    let e : suc n ≡ n + 1 = omega arith in
+    let d : suc m ≡ m + 1 = omega arith in
+    subst (λ (k : ℕ). IsCount P k (m + 1)) e (inl (p, m, sym d, h))
+
+pub count_same : (P : ℕ → Type 0) (n m : ℕ) → ¬ (P n) → IsCount P n m → IsCount P (n + 1) m
+unfolding IsCount
+count_same P n m p h =
+    let e : suc n ≡ n + 1 = omega arith in
+    subst (λ (k : ℕ). IsCount P k m) e (inr (p, h))
+
+-- one more place, which is counted if it has P
+pub count_with : (P : ℕ → Type 0) (n m k : ℕ) (b : Bool) → (IsTrue b ↔ P n) → (IsTrue b → k ≡ m + 1) → (b ≡ false → k ≡ m)
+    → IsCount P n m → IsCount P (n + 1) k
+count_with P n m k true is more same h = subst (λ (j : ℕ). IsCount P (n + 1) j) (sym (more refl)) (count_more P n m (is.0 refl) h)
+count_with P n m k false is more same h =
+    subst (λ (j : ℕ). IsCount P (n + 1) j) (sym (same refl)) (count_same P n m (λ p. clash false refl (is.1 p)) h)
+
+-- there is one count
+pub count_is_one : (P : ℕ → Type 0) (n a b : ℕ) → IsCount P n a → IsCount P n b → a ≡ b
+unfolding IsCount
+count_is_one P zero a b h k = h ∙ sym k
+count_is_one P (suc n) a b (inl (p, m, e, h)) (inl (q, l, d, k)) = e ∙ ap suc (count_is_one P n m l h k) ∙ sym d
+count_is_one P (suc n) a b (inl h) (inr (q, k)) = absurd (q h.0)
+count_is_one P (suc n) a b (inr (q, k)) (inl h) = absurd (q h.0)
+count_is_one P (suc n) a b (inr (p, h)) (inr (q, k)) = count_is_one P n a b h k

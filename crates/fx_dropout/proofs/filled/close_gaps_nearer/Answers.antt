@@ -1,0 +1,41 @@
+use Rattle.std.proofs.Common.{◌↔◌, inl, sym, subst, map, ℤ, true}
+use Rattle.fx_winding.specs.declared.frame.Frame.{Frame}
+use Rattle.fx_winding.specs.Dropout.{turned_span}
+use Rattle.fx_winding.specs.Frames.{IsInFrame}
+use Rattle.fx_winding.specs.Winding.{span_of}
+use Rattle.fx_dropout.specs.Nearer.{IsNearBridged, IsNextNearer}
+use Rattle.fx_dropout.specs.inner.Lines.{IsSoFar}
+use Rattle.fx_dropout.specs.inner.Pairs.{Turned}
+use Rattle.fx_dropout.proofs.Filling.{rows_filled, columns_filled, near_columns_after_rows}
+use Rattle.fx_dropout.proofs.SoFar.{scan_so_far, so_far_in_frame}
+use Rattle.fx_dropout.proofs.filled.close_gaps_nearer.Goals as goal
+
+pub fill_rows-requires-clause-covered : goal.fill_rows-requires-clause-covered
+fill_rows-requires-clause-covered c = λ i j h.
+    let b = c.args.bitmap.now in
+    (scan_so_far (map span_of c.args.pieces.now) b.frame b c.requires.scanned i j).1 h
+
+pub fill_columns-requires-clause-covered : goal.fill_columns-requires-clause-covered
+fill_columns-requires-clause-covered c = λ i j h.
+    let ss = map span_of c.args.pieces.now in
+    let b = c.args.bitmap.now in
+    subst (λ (g : Frame). IsSoFar ss g c.fill_rows.new.target i j) (sym c.fill_rows.ensures.frame)
+    ((c.fill_rows.ensures.filled i j).1 (inl ((scan_so_far ss b.frame b c.requires.scanned i j).1 h)))
+
+pub returns-clause-bits : goal.returns-clause-bits
+returns-clause-bits c =
+    let ss = map span_of c.args.pieces.now in
+    let b = c.args.bitmap.now in
+    let f = b.frame in
+    let rows = c.fill_rows.new.target in
+    let set = c.fill_columns.new.target in
+    let old = IsSoFar ss f b in
+    let bridged = rows_filled ss f old (IsSoFar ss f rows) c.fill_rows.ensures.filled in
+    let columns : (i j : ℤ) → IsSoFar ss f set i j ↔ IsNearBridged (map turned_span ss) (λ j i. IsInFrame f i j)
+    (λ j i. IsNextNearer true ss i j) (Turned (IsSoFar ss f rows)) j i =
+    subst (λ (g : Frame). (i j : ℤ) → IsSoFar ss g set i j ↔ IsNearBridged (map turned_span ss) (λ j i. IsInFrame g i j)
+    (λ j i. IsNextNearer true ss i j) (Turned (IsSoFar ss g rows)) j i) c.fill_rows.ensures.frame
+    (columns_filled ss rows.frame (IsSoFar ss rows.frame rows) (IsSoFar ss rows.frame set) c.fill_columns.ensures.filled) in
+    let all = near_columns_after_rows ss f old (IsSoFar ss f rows) (IsSoFar ss f set) (scan_so_far ss f b c.requires.scanned)
+    bridged columns in
+    λ i j h. (λ t. (all i j).0 (inl t), λ s. so_far_in_frame ss f set i j h ((all i j).1 s))

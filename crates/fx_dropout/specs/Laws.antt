@@ -1,0 +1,31 @@
+-- What the definition of drop-out control by the nearer pixel implies.
+use Rattle.std.specs.Prelude.{◌⊎◌, ◌↔◌, ℤ, pos, ◌+ℤ◌, List, map, Any}
+use Rattle.std.specs.List.Sorted.{IsPermutation}
+use Rattle.fx_winding.specs.declared.frame.Frame.{Frame}
+use Rattle.fx_winding.specs.Dropout.{turned_span}
+use Rattle.fx_winding.specs.Frames.{IsInFrame}
+use Rattle.fx_winding.specs.Meets.{IsMet}
+use Rattle.fx_winding.specs.Moves.{reversed}
+use Rattle.fx_winding.specs.Winding.{Span, IsCovered, centre}
+use Rattle.fx_dropout.specs.Nearer.{IsNearSet}
+
+-- the law: it only adds pixels, and only in the frame
+abbrev pub NearerAdds : Type 0
+NearerAdds = (ss : List Span) (f : Frame) (i j : ℤ)
+    → (IsCovered (centre i j) ss → IsNearSet ss f i j) × (IsNearSet ss f i j → IsCovered (centre i j) ss ⊎ IsInFrame f i j)
+
+-- the law: no stroke is lost in a row: between two neighbours that are not set, one of which is in the frame, no piece passes
+abbrev pub RowsHaveNoGap : Type 0
+RowsHaveNoGap = (ss : List Span) (f : Frame) (i j : ℤ) → IsInFrame f i j ⊎ IsInFrame f (i +ℤ pos 1) j
+    → ¬ (IsNearSet ss f i j) → ¬ (IsNearSet ss f (i +ℤ pos 1) j) → ¬ (Any (IsMet (centre i j) (centre (i +ℤ pos 1) j)) ss)
+
+-- the law: nor in a column
+abbrev pub ColumnsHaveNoGap : Type 0
+ColumnsHaveNoGap = (ss : List Span) (f : Frame) (i j : ℤ) → IsInFrame f i j ⊎ IsInFrame f i (j +ℤ pos 1)
+    → ¬ (IsNearSet ss f i j) → ¬ (IsNearSet ss f i (j +ℤ pos 1))
+    → ¬ (Any (IsMet (centre j i) (centre (j +ℤ pos 1) i)) (map turned_span ss))
+
+-- the law: the pieces reversed, in whatever order, set the same pixels
+abbrev pub ReversalKeepsNearSet : Type 0
+ReversalKeepsNearSet = (ss ts : List Span) (f : Frame) → IsPermutation (map reversed ss) ts → (i j : ℤ)
+    → IsNearSet ts f i j ↔ IsNearSet ss f i j
