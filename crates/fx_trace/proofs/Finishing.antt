@@ -6,20 +6,21 @@ use Rattle.std.specs.Borrow.{GName}
 use Rattle.std.specs.Io.KnownBytes.{Appends}
 use Rattle.std.proofs.lemmas.List.{take-append-le, take_all}
 use Rattle.fx_fixed.specs.Changes.{Change}
-use Rattle.fx_fixed.specs.Texts.{TextView, Adds, Fails, begun}
+use Rattle.fx_fixed.specs.Texts.{TextView, Adds, begun}
 use Rattle.fx_fixed.proofs.Texts.{adds_ended}
 use Rattle.fx_hint.specs.declared.fault.HintFault.{HintFault}
 use Rattle.fx_hint.specs.declared.fault.HintFault.TheVariants as hint
-use Rattle.fx_fixed.specs.declared.sink.WriteFailed.{WriteFailed}
-use Rattle.fx_trace.specs.Traces.{Trace, IsTracedSome, Traces}
+use Rattle.fx_trace.specs.declared.fault.Stop.{Stop}
+use Rattle.fx_trace.specs.declared.fault.Stop.TheVariants.{WriterFailed, NoMemory}
+use Rattle.fx_trace.specs.Traces.{Trace, IsTracedSome, Traces, Halts}
 use Rattle.fx_trace.specs.inner.Ending.{result_of, EndsText}
 
 -- the text was added, and then ended, if it had not stopped
-pub text_ended : {was mid now : TextView} {text : List ℕ} (r s : Result (Unit {0}) WriteFailed) → Adds Fails was mid text r
-    → EndsText mid r now s → Adds Fails was now text s × OnOk s (now.waiting ≡ [])
+pub text_ended : {was mid now : TextView} {text : List ℕ} (r s : Result (Unit {0}) Stop) → Adds Halts was mid text r
+    → EndsText mid r now s → Adds Halts was now text s × OnOk s (now.waiting ≡ [])
 text_ended (Ok u) s a e = (adds_ended a e.0, e.1)
 text_ended {was} {mid} {now} {text} (Err f) s a e =
-    let P : TextView → Result (Unit {0}) WriteFailed → Type 0 = λ t q. Adds Fails was t text q × OnOk q (t.waiting ≡ []) in
+    let P : TextView → Result (Unit {0}) Stop → Type 0 = λ t q. Adds Halts was t text q × OnOk q (t.waiting ≡ []) in
     let here : P mid (Err f) = (a, tt) in
     rw (e.0, e.1) here
 
@@ -31,8 +32,8 @@ module _ (trace : Trace) (sink : GName) (held : Option (List ℕ)) (faults : ℕ
   abbrev change : Change
   change = record { bytes_before = held; bytes = now.held; faults_before = faults; faults = now.faults }
 
-  abbrev Added : Result (Unit {0}) WriteFailed → Type 0
-  Added told = Adds Fails (begun sink held faults) now some told × OnOk told (now.waiting ≡ [])
+  abbrev Added : Result (Unit {0}) Stop → Type 0
+  Added told = Adds Halts (begun sink held faults) now some told × OnOk told (now.waiting ≡ [])
 
   -- some of the text was written
   some_written : Added (Ok tt) → Appends held now.held some
@@ -66,12 +67,12 @@ module _ (trace : Trace) (sink : GName) (held : Option (List ℕ)) (faults : ℕ
       appends_text held now.held some trace.text
       (sym (append-nil some) ∙ ap (λ (t : List ℕ). some ++ t) (sym none) ∙ first) (some_written a)
 
-  pub traced : (told : Result (Unit {0}) WriteFailed) (end : Result (Unit {0}) HintFault) → Added told → IsWhole end
+  pub traced : (told : Result (Unit {0}) Stop) (end : Result (Unit {0}) HintFault) → Added told → IsWhole end
       → Traces trace change (result_of told end)
   traced (Ok u) (Ok v) a w = record { end = w.1; written = all_written w.0 a; quiet = a.0.outcome.4 }
   traced (Ok u) (Err hint.OutOfMemory) a w = memory_ended a
   traced (Ok u) (Err fault) a w = record { end = w.1; written = all_written w.0 a; quiet = a.0.outcome.4 }
-  traced (Err e) end a w =
+  traced (Err (WriterFailed n)) end a w =
       let o = a.0.outcome in
       record {
         count = o.0;
@@ -79,4 +80,11 @@ module _ (trace : Trace) (sink : GName) (held : Option (List ℕ)) (faults : ℕ
         told = o.3.0;
         written = appends_text held now.held (take o.0 some) (take o.0 trace.text) (first_bytes o.0 (omega (arith, o.1))) o.2;
         fault = o.3.1;
+      }
+  traced (Err NoMemory) end a w =
+      let o = a.0.outcome in
+      record {
+        count = o.0;
+        written = appends_text held now.held (take o.0 some) (take o.0 trace.text) (first_bytes o.0 (omega (arith, o.1))) o.2;
+        quiet = o.3;
       }

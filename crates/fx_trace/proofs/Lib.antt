@@ -1,3 +1,5 @@
+pub mod Pairs
 pub mod Telling
+pub mod Stopping
 pub mod Finishing
 pub mod Programs

@@ -1,11 +1,10 @@
 -- The traces of programs that were watched: of `fpgm` and `prep`, and of the programs of a glyph.
 -- It serves `trace_prelude` and `trace_with`.
-use Rattle.std.proofs.Common.{◌≡◌, ℕ, List, [], ◌++◌, Option, Result, Ok, Err, OnOk, Bool, false, refl, sym, ap, ◌∙◌, append-nil, subst}
+use Rattle.std.proofs.Common.{◌≡◌, ℕ, List, [], ◌++◌, Option, Result, Ok, Err, OnOk, None, refl, sym, ap, ◌∙◌, append-nil, subst}
 use Rattle.std.specs.Borrow.{GName}
 use Rattle.std.specs.List.{flat_map}
 use Rattle.fx_fixed.specs.Chain.{map_fault, GivesUnless}
-use Rattle.fx_fixed.specs.declared.sink.WriteFailed.{WriteFailed}
-use Rattle.fx_fixed.specs.Texts.{TextView, Adds, Fails, begun}
+use Rattle.fx_fixed.specs.Texts.{TextView, Adds, begun}
 use Rattle.fx_sfnt.specs.Tables.{Face}
 use Rattle.fx_scale.specs.Scaling.{scale_of}
 use Rattle.fx_machine.specs.Events.{Event, Watches}
@@ -20,12 +19,14 @@ use Rattle.fx_hint.specs.Programmed.{hinting_of}
 use Rattle.fx_hint.specs.Outlines.{outline_with, of_machine}
 use Rattle.fx_hint.specs.Runs.{ProgramRun, runs_of, HasRun}
 use Rattle.fx_hint.specs.Watched.{run_events, runs_joined}
+use Rattle.fx_trace.specs.declared.fault.Stop.{Stop}
 use Rattle.fx_trace.specs.declared.fault.TraceFault.{TraceFault}
+use Rattle.fx_trace.specs.Snapshots.{SnapshotView}
 use Rattle.fx_trace.specs.declared.wanted.Wanted.{Wanted}
 use Rattle.fx_trace.specs.declared.wanted.Wanted.TheVariants.{Each}
-use Rattle.fx_trace.specs.Traces.{Trace, Traces, lines_after, trace_text, end_of, prelude_trace, glyph_trace_with}
+use Rattle.fx_trace.specs.Traces.{Trace, Traces, Halts, lines_after, trace_text, end_of, prelude_trace, glyph_trace_with}
 use Rattle.fx_trace.specs.inner.Ending.{result_of, EndsText, Sees, NoneLeft, Ran}
-use Rattle.fx_trace.proofs.Telling.{told, lines_joined, on_after_all}
+use Rattle.fx_trace.proofs.Telling.{told, lines_joined, kept_after_all}
 use Rattle.fx_trace.proofs.Finishing.{text_ended, traced, IsWhole}
 
 -- ---- the writer's last state
@@ -71,26 +72,26 @@ ran_so Sees known was now r e runs some others i j w n =
     let P : Result (Unit {0}) HintFault → Type 0 = λ q. NoneLeft q others in
     (some, others, j, w, subst P (sym i) (none_by_end r others n))
 
-module _ {W : Type 0} (wanted : W → Wanted) (text : W → TextView) (on : W → Bool) (outcome : W → Result (Unit {0}) WriteFailed)
-    (sink : GName) (held : Option (List ℕ)) (faults : ℕ) (was now : W) (last : TextView) (told_last : Result (Unit {0}) WriteFailed)
-    (begins : text was ≡ begun sink held faults) (well : outcome was ≡ Ok tt) (off : on was ≡ false)
+module _ {W : Type 0} (wanted : W → Wanted) (text : W → TextView) (before : W → Option SnapshotView) (outcome : W → Result (Unit {0}) Stop)
+    (sink : GName) (held : Option (List ℕ)) (faults : ℕ) (was now : W) (last : TextView) (told_last : Result (Unit {0}) Stop)
+    (begins : text was ≡ begun sink held faults) (well : outcome was ≡ Ok tt) (off : before was ≡ None)
     (ends : EndsText (text now) (outcome now) last told_last) where
   -- what was added, when the text ended
-  added : (w : Wanted) (es : List Event) → wanted was ≡ w → Watches (Sees wanted text on outcome) was es now
-      → Adds Fails (begun sink held faults) last (lines_after w false es) told_last × OnOk told_last (last.waiting ≡ [])
+  added : (w : Wanted) (es : List Event) → wanted was ≡ w → Watches (Sees wanted text before outcome) was es now
+      → Adds Halts (begun sink held faults) last (lines_after w None es) told_last × OnOk told_last (last.waiting ≡ [])
   added w es e seen =
-      let a = told wanted text on outcome was now es seen well in
-      let P : TextView → Wanted → Bool → Type 0 = λ t v b. Adds Fails t (text now) (lines_after v b es) (outcome now) in
-      let b : P (begun sink held faults) (wanted was) (on was) =
-      (let Q : TextView → Type 0 = λ t. P t (wanted was) (on was) in subst Q begins a) in
-      let c : P (begun sink held faults) w (on was) =
-      (let Q : Wanted → Type 0 = λ v. P (begun sink held faults) v (on was) in subst Q e b) in
-      let d : P (begun sink held faults) w false =
-      (let Q : Bool → Type 0 = λ v. P (begun sink held faults) w v in subst Q off c) in
+      let a = told wanted text before outcome was now es seen well in
+      let P : TextView → Wanted → Option SnapshotView → Type 0 = λ t v b. Adds Halts t (text now) (lines_after v b es) (outcome now) in
+      let b : P (begun sink held faults) (wanted was) (before was) =
+      (let Q : TextView → Type 0 = λ t. P t (wanted was) (before was) in subst Q begins a) in
+      let c : P (begun sink held faults) w (before was) =
+      (let Q : Wanted → Type 0 = λ v. P (begun sink held faults) v (before was) in subst Q e b) in
+      let d : P (begun sink held faults) w None =
+      (let Q : Option SnapshotView → Type 0 = λ v. P (begun sink held faults) w v in subst Q off c) in
       text_ended (outcome now) told_last d ends
 
   -- the sink is the same
-  pub same_sink : (w : Wanted) (es : List Event) → wanted was ≡ w → Watches (Sees wanted text on outcome) was es now
+  pub same_sink : (w : Wanted) (es : List Event) → wanted was ≡ w → Watches (Sees wanted text before outcome) was es now
       → last.sink ≡ sink
   same_sink w es e seen = (added w es e seen).0.same
 
@@ -102,17 +103,17 @@ module _ {W : Type 0} (wanted : W → Wanted) (text : W → TextView) (on : W �
     runs = runs_of (hinting_of known) face (scale_of face ppem) g
 
     abbrev lines : List ProgramRun → List ℕ
-    lines some = lines_after Each false (flat_map (run_events known) some)
+    lines some = lines_after Each None (flat_map (run_events known) some)
 
     abbrev more : List ProgramRun → List ProgramRun → List ℕ
     more some others =
-        lines_after Each (on_after_all Each false (flat_map (run_events known) some)) (flat_map (run_events known) others)
+        lines_after Each (kept_after_all Each None (flat_map (run_events known) some)) (flat_map (run_events known) others)
 
     first : (some others : List ProgramRun) → some ++ others ≡ runs → lines some ++ more some others ≡ due.text
     unfolding glyph_trace_with trace_text
     first some others e =
-        lines_joined Each false (flat_map (run_events known) some) (flat_map (run_events known) others)
-        ∙ ap (λ (es : List Event). lines_after Each false es)
+        lines_joined Each None (flat_map (run_events known) some) (flat_map (run_events known) others)
+        ∙ ap (λ (es : List Event). lines_after Each None es)
         (sym (runs_joined (run_events known) some others) ∙ ap (λ (rs : List ProgramRun). flat_map (run_events known) rs) e)
 
     end_is : due.end ≡ end_of (outline_with (hinting_of known) face ppem g)
@@ -130,7 +131,7 @@ module _ {W : Type 0} (wanted : W → Wanted) (text : W → TextView) (on : W �
     whole some others e (Err f) n v = (none_more some others n, end_is ∙ v)
 
     pub glyph_traced : wanted was ≡ Each → (end : Result (Unit {0}) HintFault)
-        → (ran : Ran (Sees wanted text on outcome) known runs was now end)
+        → (ran : Ran (Sees wanted text before outcome) known runs was now end)
         → GivesUnless faults_.Fails (λ (u : Unit {0}). u) end (end_of (outline_with (hinting_of known) face ppem g))
         → Traces due (record { bytes_before = held; bytes = last.held; faults_before = faults; faults = last.faults })
         (result_of told_last end)
@@ -142,7 +143,7 @@ module _ {W : Type 0} (wanted : W → Wanted) (text : W → TextView) (on : W �
 
   module _ {A : Type 0} (face : Face) (ppem : ℕ) (w : Wanted) (view : A → Known) where
     abbrev all : List ℕ
-    all = lines_after w false (machine_events face ppem)
+    all = lines_after w None (machine_events face ppem)
 
     abbrev prelude : Trace
     prelude = prelude_trace face ppem w
@@ -156,7 +157,7 @@ module _ {W : Type 0} (wanted : W → Wanted) (text : W → TextView) (on : W �
     prelude_end q e = ap (λ (r : Result Known MachineFault). end_of (map_fault of_machine r)) e
 
     pub prelude_traced : wanted was ≡ w → (made : Result A MachineFault)
-        → Watches (Sees wanted text on outcome) was (seen_by made (machine_events face ppem)) now
+        → Watches (Sees wanted text before outcome) was (seen_by made (machine_events face ppem)) now
         → GivesUnless known_.Fails view made (machine_of face ppem)
         → Traces prelude (record { bytes_before = held; bytes = last.held; faults_before = faults; faults = last.faults })
         (result_of told_last (end_of (map_fault of_machine made)))

@@ -6,6 +6,7 @@ use Rattle.fx_code.specs.Listing.{instruction_text}
 use Rattle.fx_machine.specs.declared.program.FontProgram.{FontProgram}
 use Rattle.fx_machine.specs.declared.program.FontProgram.TheVariants.{Fpgm, Prep, Glyph}
 use Rattle.fx_machine.specs.declared.state.State.{State}
+use Rattle.fx_trace.specs.Snapshots.{SnapshotView, snapshot_of, changes_text}
 
 -- how many numbers of the stack a line shows at most, from the top
 abbrev pub shown : ℕ
@@ -33,7 +34,8 @@ unfoldable pub begin_text : FontProgram → List ℕ
 begin_text program = program_text program ++ codes " begins\n"
 
 -- the line of an instruction at an address of a program with these bytes: the program, the instruction as in the program's listing,
--- and the top of the stack after it
-unfoldable pub line_text : FontProgram → List ℕ → ℕ → State → List ℕ
-line_text program code address s =
-    program_text program ++ (codes " " ++ (instruction_text code address ++ (stack_text s.store.stack ++ codes "\n")))
+-- the top of the stack after it, and what differs in the state after it from the one before
+unfoldable pub line_text : FontProgram → List ℕ → ℕ → SnapshotView → State → List ℕ
+line_text program code address was s =
+    program_text program ++ (codes " " ++ (instruction_text code address
+    ++ (stack_text s.store.stack ++ (changes_text was (snapshot_of s) ++ codes "\n"))))

@@ -1,10 +1,11 @@
 -- Traces: the text of what programs did, and how they ended (own).
-use Rattle.std.specs.Prelude.{◌≡◌, ℕ, ◌+◌, ◌<◌, Bool, true, false, if◌then◌else◌, List, [], ◌∷◌, ◌++◌, length, take, Result, Ok, Err}
+use Rattle.std.specs.Prelude.{◌≡◌, ℕ, ◌+◌, ◌<◌, Bool, true, false, if◌then◌else◌, List, [], ◌∷◌, ◌++◌, length, take}
+use Rattle.std.specs.Prelude.{Option, Some, None, Result, Ok, Err, OnOk}
 use Rattle.std.specs.Io.KnownBytes.{Appends}
 use Rattle.std.specs.List.{flat_map}
 use Rattle.fx_fixed.specs.Changes.{Change}
 use Rattle.fx_fixed.specs.Chain.{map_fault}
-use Rattle.fx_fixed.specs.Texts.{TextView, Adds, Fails, after}
+use Rattle.fx_fixed.specs.Texts.{TextView, Adds, after}
 use Rattle.fx_sfnt.specs.Tables.{Face}
 use Rattle.fx_scale.specs.Scaling.{scale_of}
 use Rattle.fx_machine.specs.declared.program.FontProgram.{FontProgram}
@@ -16,11 +17,13 @@ use Rattle.fx_hint.specs.Programmed.{hinting_of}
 use Rattle.fx_hint.specs.Outlines.{outline_with, of_machine}
 use Rattle.fx_hint.specs.Runs.{runs_of}
 use Rattle.fx_hint.specs.Watched.{run_events}
-use Rattle.fx_fixed.specs.declared.sink.WriteFailed.{WriteFailed as WriterFailed}
+use Rattle.fx_trace.specs.declared.fault.Stop.{Stop}
+use Rattle.fx_trace.specs.declared.fault.Stop.TheVariants.{WriterFailed, NoMemory}
 use Rattle.fx_trace.specs.declared.fault.TraceFault.{TraceFault}
 use Rattle.fx_trace.specs.declared.fault.TraceFault.TheVariants.{Cause, WriteFailed, OutOfMemory}
 use Rattle.fx_trace.specs.declared.wanted.Wanted.{Wanted}
 use Rattle.fx_trace.specs.declared.wanted.Wanted.TheVariants.{Fpgm, Prep, Each}
+use Rattle.fx_trace.specs.Snapshots.{SnapshotView, snapshot_of}
 use Rattle.fx_trace.specs.Lines.{begin_text, line_text}
 
 -- ---- the text of events
@@ -32,23 +35,25 @@ is_wanted Prep program.Prep = true
 is_wanted Each p = true
 is_wanted _ _ = false
 
--- the lines of an event, if lines are written
-abbrev pub told_of : Wanted → Bool → Event → List ℕ
-told_of wanted on (Begins program s) = if is_wanted wanted program then begin_text program else []
-told_of wanted on (Executed program code address calls s) = if on then line_text program code address s else []
+-- the lines of an event, by the state before it, if lines are written
+abbrev pub told_of : Wanted → Option SnapshotView → Event → List ℕ
+told_of wanted before (Begins program s) = if is_wanted wanted program then begin_text program else []
+told_of wanted None (Executed program code address calls s) = []
+told_of wanted (Some before) (Executed program code address calls s) = line_text program code address before s
 
--- whether lines are written after it
-abbrev pub on_after : Wanted → Bool → Event → Bool
-on_after wanted on (Begins program s) = is_wanted wanted program
-on_after wanted on (Executed program code address calls s) = on
+-- the state after it, if lines are written then
+abbrev pub kept_after : Wanted → Option SnapshotView → Event → Option SnapshotView
+kept_after wanted before (Begins program s) = if is_wanted wanted program then Some (snapshot_of s) else None
+kept_after wanted None (Executed program code address calls s) = None
+kept_after wanted (Some before) (Executed program code address calls s) = Some (snapshot_of s)
 
 -- the lines of events in turn: those of the programs that are wanted, from where each begins
-abbrev pub lines_after : Wanted → Bool → List Event → List ℕ
-lines_after wanted on [] = []
-lines_after wanted on (x ∷ xs) = told_of wanted on x ++ lines_after wanted (on_after wanted on x) xs
+abbrev pub lines_after : Wanted → Option SnapshotView → List Event → List ℕ
+lines_after wanted before [] = []
+lines_after wanted before (x ∷ xs) = told_of wanted before x ++ lines_after wanted (kept_after wanted before x) xs
 
 unfoldable pub trace_text : Wanted → List Event → List ℕ
-trace_text wanted events = lines_after wanted false events
+trace_text wanted events = lines_after wanted None events
 
 -- ---- traces
 
@@ -122,9 +127,15 @@ Traces trace change (Err (WriteFailed n)) = IsTracedTo trace change n
 
 -- ---- the watcher
 
+-- a text stops when its writer fails, or when memory for what a trace keeps runs out
+abbrev pub Halts : Stop → ℕ → ℕ → ℕ → Type 0
+Halts (WriterFailed k) n faults_before faults = (k ≡ n) × (faults ≡ faults_before + 1)
+Halts NoMemory n faults_before faults = faults ≡ faults_before
+
 -- the lines of an event are added to a text, or the text stops; then nothing more is added
-abbrev pub Tells : Wanted → TextView → Bool → Result (Unit {0}) WriterFailed → Event → TextView → Bool
-    → Result (Unit {0}) WriterFailed
+abbrev pub Tells : Wanted → TextView → Option SnapshotView → Result (Unit {0}) Stop → Event → TextView → Option SnapshotView
+    → Result (Unit {0}) Stop
     → Type 0
-Tells wanted was on (Ok u) x now next outcome = Adds Fails was now (told_of wanted on x) outcome × (next ≡ on_after wanted on x)
-Tells wanted was on (Err fault) x now next outcome = (now ≡ was) × (outcome ≡ Err fault)
+Tells wanted was before (Ok u) x now next outcome =
+    Adds Halts was now (told_of wanted before x) outcome × OnOk outcome (next ≡ kept_after wanted before x)
+Tells wanted was before (Err stop) x now next outcome = (now ≡ was) × (outcome ≡ Err stop)

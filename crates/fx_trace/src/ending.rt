@@ -2,9 +2,9 @@
 
 ghost use Rattle.std.specs.Prelude.{◌≡◌};
 ghost use Rattle.fx_trace.specs.Traces.{end_of};
-ghost use Rattle.fx_trace.specs.inner.Ending.{result_of};
+ghost use Rattle.fx_trace.specs.inner.Ending.{result_of, stop_of};
 
-use crate::fault::TraceFault;
+use crate::fault::{Stop, TraceFault};
 use fx_fixed::WriteFailed;
 use fx_hint::HintFault;
 
@@ -19,18 +19,26 @@ pub fn end_of<Y: Drop>(made: Result<Y, HintFault>) -> Result<(), HintFault>
 }
 
 /// What a trace returns, by what became of its text, and of the programs.
-pub fn result_of(
-    told: Result<(), WriteFailed>,
-    end: Result<(), HintFault>,
-) -> Result<(), TraceFault>
+pub fn result_of(told: Result<(), Stop>, end: Result<(), HintFault>) -> Result<(), TraceFault>
     ensures { result ≡ result_of told end }
 {
     match told {
-        Err(fault) => Err(TraceFault::WriteFailed(fault.0)),
+        Err(Stop::WriterFailed(n)) => Err(TraceFault::WriteFailed(n)),
+        Err(Stop::NoMemory) => Err(TraceFault::OutOfMemory),
         Ok(()) => match end {
             Ok(()) => Ok(()),
             Err(HintFault::OutOfMemory) => Err(TraceFault::OutOfMemory),
             Err(fault) => Err(TraceFault::Cause(fault)),
         },
+    }
+}
+
+/// A writer's fault, as what stops the text of a trace.
+pub fn stop_of(added: Result<(), WriteFailed>) -> Result<(), Stop>
+    ensures { result ≡ stop_of added }
+{
+    match added {
+        Ok(()) => Ok(()),
+        Err(WriteFailed(n)) => Err(Stop::WriterFailed(n)),
     }
 }

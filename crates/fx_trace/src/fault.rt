@@ -16,3 +16,12 @@ pub enum TraceFault {
     #[error("out of memory")]
     OutOfMemory,
 }
+
+/// Why the text of a trace stops.
+#[derive(Clone, Copy, Debug, PartialEq, Eq)]
+pub enum Stop {
+    /// The writer took this many bytes of it.
+    WriterFailed(u64),
+    /// There is no memory for what a trace keeps of the state.
+    NoMemory,
+}

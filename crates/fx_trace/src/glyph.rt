@@ -30,7 +30,7 @@ fn outline_watched<'w, S: Sink>(
     g: u16,
     watcher: Tracer<'w, S>,
 ) -> (Tracer<'w, S>, Result<(), HintFault>)
-    ensures ran { Ran (Sees (λ t. t.wanted) (λ t. t.text) (λ t. t.on) (λ t. t.outcome)) machine.entry.known
+    ensures ran { Ran (Sees (λ t. t.wanted) (λ t. t.text) (λ t. t.before) (λ t. t.outcome)) machine.entry.known
         (runs_of (hinting_of machine.entry.known) font.now (scale_of font.now ppem) g) watcher.entry result.0 result.1 }
     ensures value { GivesUnless Fails (λ u. u) result.1 (end_of (outline_with (hinting_of machine.entry.known) font.now ppem g)) }
 {
@@ -53,7 +53,7 @@ fn trace_with<S: Sink>(
     ensures { Traces (glyph_trace_with machine.entry.known font.now ppem g)
         (change_of S.held S.fault_count out.old out.new) result }
 {
-    let tracer = Tracer::new(out, Wanted::Each);
+    let tracer = Tracer::new(alloc, out, Wanted::Each);
     let (mut tracer, end) = outline_watched(alloc, machine, font, ppem, g, tracer);
     let told = tracer.end();
     tracer.close();

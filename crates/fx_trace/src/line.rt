@@ -5,7 +5,10 @@ ghost use Rattle.std.specs.List.{flat_map};
 ghost use Rattle.fx_fixed.specs.Texts.{Adds, Fails};
 ghost use Rattle.fx_code.specs.Listing.{instruction_text};
 ghost use Rattle.fx_trace.specs.Lines.{last_of, number_text, stack_text, program_text, begin_text, line_text};
+ghost use Rattle.fx_trace.specs.Snapshots.{snapshot_of, changes_text};
 
+use crate::differences::add_changes;
+use crate::snapshot::Snapshot;
 use fx_code::Code;
 use fx_fixed::{Digits, Sink, TextWriter, WriteFailed};
 use fx_machine::{FontProgram, State};
@@ -67,13 +70,31 @@ fn add_stack<S: Sink>(text: &mut TextWriter<'_, S>, state: &State) -> Result<(),
     add_numbers(text, last(state.store.numbers()))
 }
 
-/// Adds the top of a stack, and ends the line.
-fn add_end<S: Sink>(text: &mut TextWriter<'_, S>, state: &State) -> Result<(), WriteFailed>
+/// Adds what an instruction changed, and ends the line.
+fn add_end<S: Sink>(
+    text: &mut TextWriter<'_, S>,
+    was: &Snapshot,
+    state: &State,
+) -> Result<(), WriteFailed>
     requires { text.old.faults < 2 ^ 63 }
-    ensures { Adds Fails text.old text.new (stack_text state.now.store.stack ++ codes "\n") result }
+    ensures { Adds Fails text.old text.new (changes_text was.now (snapshot_of state.now) ++ codes "\n") result }
+{
+    add_changes(text, was, state)?;
+    text.add(&[b"\n"])
+}
+
+/// Adds the top of a stack, and the rest of the line.
+fn add_outcome<S: Sink>(
+    text: &mut TextWriter<'_, S>,
+    was: &Snapshot,
+    state: &State,
+) -> Result<(), WriteFailed>
+    requires { text.old.faults < 2 ^ 63 }
+    ensures { Adds Fails text.old text.new
+        (stack_text state.now.store.stack ++ (changes_text was.now (snapshot_of state.now) ++ codes "\n")) result }
 {
     add_stack(text, state)?;
-    text.add(&[b"\n"])
+    add_end(text, was, state)
 }
 
 /// Adds an instruction, and the rest of its line.
@@ -81,14 +102,15 @@ fn add_rest<S: Sink>(
     text: &mut TextWriter<'_, S>,
     code: &Code<'_>,
     address: usize,
+    was: &Snapshot,
     state: &State,
 ) -> Result<(), WriteFailed>
     requires { text.old.faults < 2 ^ 63 }
-    ensures { Adds Fails text.old text.new
-        (instruction_text code.now address ++ (stack_text state.now.store.stack ++ codes "\n")) result }
+    ensures { Adds Fails text.old text.new (instruction_text code.now address
+        ++ (stack_text state.now.store.stack ++ (changes_text was.now (snapshot_of state.now) ++ codes "\n"))) result }
 {
     code.add_instruction(text, address)?;
-    add_end(text, state)
+    add_outcome(text, was, state)
 }
 
 /// Adds a program's name, and a space.
@@ -106,13 +128,14 @@ pub fn add_line<S: Sink>(
     program: FontProgram,
     code: &Code<'_>,
     address: usize,
+    was: &Snapshot,
     state: &State,
 ) -> Result<(), WriteFailed>
     requires { text.old.faults < 2 ^ 63 }
-    ensures { Adds Fails text.old text.new (line_text program code.now address state.now) result }
+    ensures { Adds Fails text.old text.new (line_text program code.now address was.now state.now) result }
 {
     add_name(text, program)?;
-    add_rest(text, code, address, state)
+    add_rest(text, code, address, was, state)
 }
 
 /// Adds the line of a program that begins.

@@ -42,7 +42,7 @@ pub fn trace_prelude<S: Sink>(
     requires { S.fault_count out.old < 2 ^ 63 }
     ensures { Traces (prelude_trace font.now ppem wanted) (change_of S.held S.fault_count out.old out.new) result }
 {
-    let mut tracer = Tracer::new(out, wanted);
+    let mut tracer = Tracer::new(alloc, out, wanted);
     let made = Machine::new(alloc, font.shared(), ppem, &mut tracer);
     let told = tracer.end();
     tracer.close();

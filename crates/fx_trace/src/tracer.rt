@@ -1,48 +1,125 @@
 //! A watcher that writes a trace.
 
-ghost use Rattle.std.specs.Prelude.{◌≡◌, ◌<◌, ◌^◌, Ok, false};
-ghost use Rattle.fx_fixed.specs.Texts.{begun};
+ghost use Rattle.std.specs.Prelude.{◌≡◌, ◌<◌, ◌^◌, Some, None, Ok, OnOk};
+ghost use Rattle.fx_fixed.specs.Texts.{Adds, begun};
+ghost use Rattle.fx_trace.specs.Lines.{begin_text, line_text};
+ghost use Rattle.fx_trace.specs.Snapshots.{snapshot_of};
+ghost use Rattle.fx_trace.specs.Traces.{Halts};
 ghost use Rattle.fx_trace.specs.inner.Ending.{EndsText};
 
+use crate::ending::stop_of;
+use crate::fault::Stop;
 use crate::line::{add_begin, add_line};
+use crate::snapshot::Snapshot;
 use crate::wanted::Wanted;
 use fx_code::Code;
-use fx_fixed::{Sink, TextWriter, WriteFailed};
+use fx_fixed::{Sink, TextWriter};
 use fx_machine::{FontProgram, State, Watching};
+use std::alloc::Global;
 
 /// Adds lines to a text, until the text stops.
 #[derive(Drop)]
 pub struct Tracer<'w, S: Sink> {
+    pub alloc: Global,
     pub text: TextWriter<'w, S>,
-    pub outcome: Result<(), WriteFailed>,
+    pub outcome: Result<(), Stop>,
     pub wanted: Wanted,
-    pub on: bool,
+    /// What is kept of the state before the next instruction, if lines are written.
+    pub before: Option<Snapshot>,
     ghost few: { outcome ≡ Ok tt → text.faults < 2 ^ 63 },
+}
+
+/// Adds the line of a program that begins, and returns what is kept of its first state.
+#[tactic(auto, using(crate::proofs::Stopping::adds_or_stops))]
+fn begin_text<S: Sink>(
+    alloc: Global,
+    text: &mut TextWriter<'_, S>,
+    program: FontProgram,
+    state: &State,
+) -> (Result<(), Stop>, Option<Snapshot>)
+    requires { text.old.faults < 2 ^ 63 }
+    ensures adds { Adds Halts text.old text.new (begin_text program) result.0 }
+    ensures kept { OnOk result.0 (result.1 ≡ Some (snapshot_of state.now)) }
+{
+    match Snapshot::of(alloc, state) {
+        Ok(first) => (stop_of(add_begin(text, program)), Some(first)),
+        Err(_) => (Err(Stop::NoMemory), None),
+    }
+}
+
+/// Adds the line of an instruction, and keeps the state after it, which may have other sizes.
+#[tactic(auto, using(crate::proofs::Stopping::adds_or_stops))]
+fn tell_anew<S: Sink>(
+    alloc: Global,
+    text: &mut TextWriter<'_, S>,
+    program: FontProgram,
+    code: &Code<'_>,
+    address: usize,
+    kept: &mut Snapshot,
+    state: &State,
+) -> Result<(), Stop>
+    requires { text.old.faults < 2 ^ 63 }
+    ensures adds { Adds Halts text.old text.new (line_text program code.now address kept.old state.now) result }
+    ensures kept { OnOk result (kept.new ≡ snapshot_of state.now) }
+{
+    match Snapshot::of(alloc, state) {
+        Ok(next) => {
+            let added = stop_of(add_line(text, program, code, address, kept, state));
+            *kept = next;
+            added
+        }
+        Err(_) => Err(Stop::NoMemory),
+    }
+}
+
+/// Adds the line of an instruction, and keeps the state after it.
+#[tactic(auto, using(crate::proofs::Stopping::adds_or_stops))]
+fn tell<S: Sink>(
+    alloc: Global,
+    text: &mut TextWriter<'_, S>,
+    program: FontProgram,
+    code: &Code<'_>,
+    address: usize,
+    kept: &mut Snapshot,
+    state: &State,
+) -> Result<(), Stop>
+    requires { text.old.faults < 2 ^ 63 }
+    ensures adds { Adds Halts text.old text.new (line_text program code.now address kept.old state.now) result }
+    ensures kept { OnOk result (kept.new ≡ snapshot_of state.now) }
+{
+    if !kept.has_sizes_of(state) {
+        return tell_anew(alloc, text, program, code, address, kept, state);
+    }
+    let added = stop_of(add_line(text, program, code, address, kept, state));
+    kept.take(state);
+    added
 }
 
 impl<'w, S: Sink> Tracer<'w, S> {
     /// Nothing was seen yet.
-    pub fn new(sink: &'w mut S, wanted: Wanted) -> Tracer<'w, S>
+    pub fn new(alloc: Global, sink: &'w mut S, wanted: Wanted) -> Tracer<'w, S>
         requires { S.fault_count sink.old < 2 ^ 63 }
         ensures text { result.text ≡ begun sink.entry.ghost_name (S.held sink.old) (S.fault_count sink.old) }
         ensures outcome { result.outcome ≡ Ok tt }
         ensures wanted { result.wanted ≡ wanted }
-        ensures on { result.on ≡ false }
+        ensures before { result.before ≡ None }
     {
         Tracer {
+            alloc,
             text: TextWriter::new(sink),
             outcome: Ok(()),
             wanted,
-            on: false,
+            before: None,
         }
     }
 
     /// Ends the text, if it has not stopped, and tells what became of it.
-    pub fn end(&mut self) -> Result<(), WriteFailed>
+    #[tactic(auto, using(crate::proofs::Stopping::adds_or_stops))]
+    pub fn end(&mut self) -> Result<(), Stop>
         ensures { EndsText self.old.text self.old.outcome self.new.text result }
     {
         if self.outcome.is_ok() {
-            self.outcome = self.text.end();
+            self.outcome = stop_of(self.text.end());
         }
         self.outcome
     }
@@ -61,14 +138,16 @@ impl<'w, S: Sink> Tracer<'w, S> {
 impl<'w, S: Sink> Watching for Tracer<'w, S> {
     ghost use Rattle.fx_trace.specs.Traces.{Tells};
 
-    ghost Sees = { λ was x now. Tells was.wanted was.text was.on was.outcome x now.text now.on now.outcome × (now.wanted
+    ghost Sees = { λ was x now. Tells was.wanted was.text was.before was.outcome x now.text now.before now.outcome × (now.wanted
         ≡ was.wanted) };
 
-    fn begin(&mut self, program: FontProgram, _state: &State) {
+    fn begin(&mut self, program: FontProgram, state: &State) {
         if self.outcome.is_ok() {
-            self.on = self.wanted.wants(program);
-            if self.on {
-                self.outcome = add_begin(&mut self.text, program);
+            self.before = None;
+            if self.wanted.wants(program) {
+                let (outcome, before) = begin_text(self.alloc, &mut self.text, program, state);
+                self.outcome = outcome;
+                self.before = before;
             }
         }
     }
@@ -81,8 +160,18 @@ impl<'w, S: Sink> Watching for Tracer<'w, S> {
         _calls: usize,
         state: &State,
     ) {
-        if self.outcome.is_ok() && self.on {
-            self.outcome = add_line(&mut self.text, program, code, address, state);
+        if self.outcome.is_ok() {
+            if let Some(kept) = &mut self.before {
+                self.outcome = tell(
+                    self.alloc,
+                    &mut self.text,
+                    program,
+                    code,
+                    address,
+                    kept,
+                    state,
+                );
+            }
         }
     }
 }

@@ -1,16 +1,19 @@
 -- How a trace ends.
-use Rattle.std.specs.Prelude.{◌≡◌, List, [], ◌++◌, Bool, Result, Ok, Err, OnOk}
+use Rattle.std.specs.Prelude.{◌≡◌, List, [], ◌++◌, Option, Result, Ok, Err, OnOk}
 use Rattle.std.specs.List.{flat_map}
-use Rattle.fx_fixed.specs.Texts.{TextView, Adds, Fails}
+use Rattle.fx_fixed.specs.Texts.{TextView, Adds}
 use Rattle.fx_machine.specs.Events.{Event, Watches}
 use Rattle.fx_machine.specs.Known.{Known}
 use Rattle.fx_hint.specs.Runs.{ProgramRun}
 use Rattle.fx_hint.specs.Watched.{run_events}
 use Rattle.fx_hint.specs.declared.fault.HintFault.{HintFault}
 use Rattle.fx_hint.specs.declared.fault.HintFault.TheVariants as hint
-use Rattle.fx_fixed.specs.declared.sink.WriteFailed.{WriteFailed as WriterFailed}
+use Rattle.fx_fixed.specs.declared.sink.WriteFailed.{WriteFailed as Failed}
 use Rattle.fx_trace.specs.declared.wanted.Wanted.{Wanted}
-use Rattle.fx_trace.specs.Traces.{Tells}
+use Rattle.fx_trace.specs.declared.fault.Stop.{Stop}
+use Rattle.fx_trace.specs.declared.fault.Stop.TheVariants.{WriterFailed, NoMemory}
+use Rattle.fx_trace.specs.Snapshots.{SnapshotView}
+use Rattle.fx_trace.specs.Traces.{Halts, Tells}
 use Rattle.fx_trace.specs.declared.fault.TraceFault.{TraceFault}
 use Rattle.fx_trace.specs.declared.fault.TraceFault.TheVariants.{Cause, WriteFailed, OutOfMemory}
 
@@ -21,20 +24,26 @@ ended_by (Err hint.OutOfMemory) = Err OutOfMemory
 ended_by (Err fault) = Err (Cause fault)
 
 -- by what became of its text, and of the programs
-abbrev pub result_of : Result (Unit {0}) WriterFailed → Result (Unit {0}) HintFault → Result (Unit {0}) TraceFault
+abbrev pub result_of : Result (Unit {0}) Stop → Result (Unit {0}) HintFault → Result (Unit {0}) TraceFault
 result_of (Ok u) end = ended_by end
-result_of (Err fault) end = Err (WriteFailed fault.0)
+result_of (Err (WriterFailed n)) end = Err (WriteFailed n)
+result_of (Err NoMemory) end = Err OutOfMemory
 
 -- a text ends, if it has not stopped
-abbrev pub EndsText : TextView → Result (Unit {0}) WriterFailed → TextView → Result (Unit {0}) WriterFailed → Type 0
-EndsText was (Ok u) now outcome = Adds Fails was now [] outcome × OnOk outcome (now.waiting ≡ [])
-EndsText was (Err fault) now outcome = (now ≡ was) × (outcome ≡ Err fault)
+abbrev pub EndsText : TextView → Result (Unit {0}) Stop → TextView → Result (Unit {0}) Stop → Type 0
+EndsText was (Ok u) now outcome = Adds Halts was now [] outcome × OnOk outcome (now.waiting ≡ [])
+EndsText was (Err stop) now outcome = (now ≡ was) × (outcome ≡ Err stop)
 
 -- what becomes of a tracer at an event, by its parts
-abbrev pub Sees : {W : Type 0} → (W → Wanted) → (W → TextView) → (W → Bool) → (W → Result (Unit {0}) WriterFailed) → W → Event
-    → W → Type 0
-Sees wanted text on outcome was x now =
-    Tells (wanted was) (text was) (on was) (outcome was) x (text now) (on now) (outcome now) × (wanted now ≡ wanted was)
+abbrev pub Sees : {W : Type 0} → (W → Wanted) → (W → TextView) → (W → Option SnapshotView) → (W → Result (Unit {0}) Stop) → W
+    → Event → W → Type 0
+Sees wanted text before outcome was x now =
+    Tells (wanted was) (text was) (before was) (outcome was) x (text now) (before now) (outcome now) × (wanted now ≡ wanted was)
+
+-- a writer's fault, as what stops the text of a trace
+abbrev pub stop_of : Result (Unit {0}) Failed → Result (Unit {0}) Stop
+stop_of (Ok u) = Ok u
+stop_of (Err fault) = Err (WriterFailed fault.0)
 
 -- unless memory ran out, no program is left to run
 abbrev pub NoneLeft : {A : Type 0} → Result A HintFault → List ProgramRun → Type 0

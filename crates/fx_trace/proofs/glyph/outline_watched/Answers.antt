@@ -12,7 +12,7 @@ use Rattle.fx_trace.proofs.glyph.outline_watched.Goals as goal
 pub returns-clause-ran : goal.returns-clause-ran
 returns-clause-ran g c =
     let q = seen_runs {S = WatchedMachine (Tracer g.row.S.Denot g.S.Sink)}
-    (λ a runs b. WatchesRuns (Sees (λ t. t.wanted) (λ t. t.text) (λ t. t.on) (λ t. t.outcome)) a.machine.known a.watcher runs
+    (λ a runs b. WatchesRuns (Sees (λ t. t.wanted) (λ t. t.text) (λ t. t.before) (λ t. t.outcome)) a.machine.known a.watcher runs
     b.machine.known b.watcher) (record { machine = c.args.machine; watcher = c.args.watcher }) c.outline_with-made.new.hinter
     c.outline_with-made.result
     (runs_of (hinting_of c.args.machine.known) c.args.font.now (scale_of c.args.font.now c.args.ppem) c.args.g)

@@ -2,10 +2,10 @@ use Rattle.std.proofs.lemmas.Result.{err_from_is_err_and}
 use Rattle.fx_fixed.proofs.Texts.{adds_then, adds_stopped, adds_out}
 use Rattle.fx_trace.proofs.line.add_end.Goals as goal
 
-pub returns-in_err-add_stack : goal.returns-in_err-add_stack
-returns-in_err-add_stack g c =
+pub returns-in_err-add_changes : goal.returns-in_err-add_changes
+returns-in_err-add_changes g c =
     let p = err_from_is_err_and c.from_residual.result c.from_residual.ensures.1 in
-    adds_out (adds_stopped _ c.in_err-add_stack.ensures) p.1 p.2
+    adds_out (adds_stopped _ c.in_err-add_changes.ensures) p.1 p.2
 
 pub returns : goal.returns
-returns g c = adds_then c.in_ok-add_stack.ensures c.add.ensures
+returns g c = adds_then c.in_ok-add_changes.ensures c.add.ensures

@@ -8,4 +8,4 @@ returns-in_err-add_instruction g c =
     adds_out (adds_stopped _ c.in_err-add_instruction.ensures) p.1 p.2
 
 pub returns : goal.returns
-returns g c = adds_then c.in_ok-add_instruction.ensures c.add_end.ensures
+returns g c = adds_then c.in_ok-add_instruction.ensures c.add_outcome.ensures

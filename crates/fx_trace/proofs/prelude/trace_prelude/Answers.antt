@@ -5,11 +5,11 @@ use Rattle.fx_trace.proofs.prelude.trace_prelude.Goals as goal
 pub returns : goal.returns
 returns g c =
     let s =
-    same_sink (λ t. t.wanted) (λ t. t.text) (λ t. t.on) (λ t. t.outcome) _ _ _ c.new-tracer.result _ _ _
-    c.new-tracer.ensures.text c.new-tracer.ensures.outcome c.new-tracer.ensures.on c.end-told.ensures _ _
+    same_sink (λ t. t.wanted) (λ t. t.text) (λ t. t.before) (λ t. t.outcome) _ _ _ c.new-tracer.result _ _ _
+    c.new-tracer.ensures.text c.new-tracer.ensures.outcome c.new-tracer.ensures.before c.end-told.ensures _ _
     c.new-tracer.ensures.wanted c.new-made.ensures.watched in
     let r =
-    prelude_traced (λ t. t.wanted) (λ t. t.text) (λ t. t.on) (λ t. t.outcome) _ _ _ c.new-tracer.result _ _ _
-    c.new-tracer.ensures.text c.new-tracer.ensures.outcome c.new-tracer.ensures.on c.end-told.ensures _ _ _ (λ m. m.known)
+    prelude_traced (λ t. t.wanted) (λ t. t.text) (λ t. t.before) (λ t. t.outcome) _ _ _ c.new-tracer.result _ _ _
+    c.new-tracer.ensures.text c.new-tracer.ensures.outcome c.new-tracer.ensures.before c.end-told.ensures _ _ _ (λ m. m.known)
     c.new-tracer.ensures.wanted _ c.new-made.ensures.watched c.new-made.ensures.value in
     rw (c.result_of.ensures, c.machine_end.ensures, ← c.shared.ensures) (moved_to _ _ _ _ r (search rules) (search rules))

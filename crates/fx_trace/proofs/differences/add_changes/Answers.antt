@@ -1,0 +1,14 @@
+use Rattle.std.proofs.lemmas.Result.{err_from_is_err_and}
+use Rattle.fx_fixed.proofs.Texts.{adds_then, adds_stopped, adds_out}
+use Rattle.fx_trace.specs.Snapshots.{changes_text}
+use Rattle.fx_trace.proofs.differences.add_changes.Goals as goal
+
+pub returns-in_err-add_zones : goal.returns-in_err-add_zones
+unfolding changes_text
+returns-in_err-add_zones g c =
+    let p = err_from_is_err_and c.from_residual.result c.from_residual.ensures.1 in
+    adds_out (adds_stopped _ c.in_err-add_zones.ensures) p.1 p.2
+
+pub returns : goal.returns
+unfolding changes_text
+returns g c = adds_then c.in_ok-add_zones.ensures c.add_numbers.ensures

@@ -1,0 +1,140 @@
+//! What a trace keeps of a state, so that it can tell what the next instruction changes.
+
+ghost use Rattle.std.specs.Prelude.{◌≡◌, length, IfOk, IsTrue};
+ghost use Rattle.fx_trace.specs.Snapshots.{SnapshotView, snapshot_of, HasSizesOf};
+
+use fx_gstate::GState;
+use fx_machine::{Flags, State};
+use fx_zone::Point;
+use std::alloc::{AllocError, Global};
+use std::marker::Model;
+
+/// The parts of a state that lines compare.
+#[derive(Drop)]
+pub struct Snapshot {
+    twilight: Vec<Point>,
+    glyph: Vec<Point>,
+    storage: Vec<i32>,
+    cvt: Vec<i32>,
+    graphics: GState,
+    flags: Flags,
+}
+
+impl Model for Snapshot {
+    ghost use Rattle.fx_trace.specs.Snapshots.{SnapshotView};
+
+    ghost Value = { SnapshotView };
+
+    ghost view = { λ s. record {
+      twilight = s.twilight.items;
+      glyph = s.glyph.items;
+      storage = s.storage.items;
+      cvt = s.cvt.items;
+      graphics = s.graphics;
+      flags = s.flags;
+    } };
+}
+
+/// A list of numbers again.
+fn copy_of_numbers(alloc: Global, numbers: &[i32]) -> Result<Vec<i32>, AllocError>
+    ensures { IfOk result (λ copy. copy.items ≡ numbers.now) }
+{
+    let mut copy = Vec::new(alloc);
+    copy.extend_from_slice(numbers)?;
+    Ok(copy)
+}
+
+/// A list of points again.
+fn copy_of_points(alloc: Global, points: &[Point]) -> Result<Vec<Point>, AllocError>
+    ensures { IfOk result (λ copy. copy.items ≡ points.now) }
+{
+    let mut copy = Vec::new(alloc);
+    copy.extend_from_slice(points)?;
+    Ok(copy)
+}
+
+impl Snapshot {
+    /// That of a state.
+    pub fn of(alloc: Global, state: &State) -> Result<Snapshot, AllocError>
+        ensures { IfOk result (λ s. s ≡ snapshot_of state.now) }
+    {
+        let twilight = copy_of_points(alloc, state.zones.twilight.points())?;
+        let glyph = copy_of_points(alloc, state.zones.glyph.points())?;
+        let storage = copy_of_numbers(alloc, state.store.storage().numbers())?;
+        let cvt = copy_of_numbers(alloc, state.store.controls().numbers())?;
+        Ok(Snapshot {
+            twilight,
+            glyph,
+            storage,
+            cvt,
+            graphics: state.graphics,
+            flags: state.flags,
+        })
+    }
+
+    /// Whether a state has as many points, cells and control values.
+    pub fn has_sizes_of(&self, state: &State) -> bool
+        ensures { IsTrue result → HasSizesOf self.now (snapshot_of state.now) }
+    {
+        self.twilight.len() == state.zones.twilight.points().len()
+            && self.glyph.len() == state.zones.glyph.points().len()
+            && self.storage.len() == state.store.storage().numbers().len()
+            && self.cvt.len() == state.store.controls().numbers().len()
+    }
+
+    /// Becomes that of a state with its sizes.
+    pub fn take(&mut self, state: &State)
+        requires { HasSizesOf self.old (snapshot_of state.now) }
+        ensures { self.new ≡ snapshot_of state.now }
+    {
+        self.twilight.copy_from_slice(state.zones.twilight.points());
+        self.glyph.copy_from_slice(state.zones.glyph.points());
+        self.storage
+            .copy_from_slice(state.store.storage().numbers());
+        self.cvt.copy_from_slice(state.store.controls().numbers());
+        self.graphics = state.graphics;
+        self.flags = state.flags;
+    }
+
+    /// The points of the twilight zone.
+    pub fn twilight(&self) -> &[Point]
+        ensures { result.now ≡ self.now.twilight }
+    {
+        &self.twilight
+    }
+
+    /// The points of the glyph zone.
+    pub fn glyph(&self) -> &[Point]
+        ensures { result.now ≡ self.now.glyph }
+    {
+        &self.glyph
+    }
+
+    /// The storage area.
+    pub fn storage(&self) -> &[i32]
+        ensures { result.now ≡ self.now.storage }
+    {
+        &self.storage
+    }
+
+    /// The control values.
+    pub fn cvt(&self) -> &[i32]
+        ensures { result.now ≡ self.now.cvt }
+    {
+        &self.cvt
+    }
+
+    /// The graphics state.
+    pub fn graphics(&self) -> GState
+        ensures { result ≡ self.now.graphics }
+    {
+        self.graphics
+    }
+
+    /// What INSTCTRL set.
+    pub fn flags(&self) -> Flags
+        ensures { result ≡ self.now.flags }
+    {
+        self.flags
+    }
+}
