@@ -23,12 +23,19 @@ use crate::heights::{Met, RowRange, rows_between, rows_met};
 use crate::intervals::met_part;
 use crate::marks::mark;
 use crate::noting::Noting;
+use crate::part::Run;
 use crate::rest::is_right;
 use crate::strip::{Strip, areas_at, row_of, strip_of};
 use fx_winding::{Piece, Point, Tally, Weights};
 
-/// Adds what a piece gives to a row, in the general way.
-fn add_met(bounded: &Bounded, up: u32, band: &mut Band, tally: &mut Tally)
+/// Adds what a piece gives to a row, in the general way. `near` is the region's run in the row below; that in this row is returned.
+fn add_met(
+    bounded: &Bounded,
+    up: u32,
+    near: Option<Run>,
+    band: &mut Band,
+    tally: &mut Tally,
+) -> Option<Run>
     requires up { up < band.old.frame.height }
     requires small { AreWithin (2 ^ 26) band.old.diff.items }
     ensures frame { band.new.frame ≡ band.old.frame }
@@ -38,7 +45,7 @@ fn add_met(bounded: &Bounded, up: u32, band: &mut Band, tally: &mut Tally)
 {
     let frame = band.frame;
     let first = band.first_of(up);
-    let part = met_part(bounded, row_of(frame, up), frame, tally);
+    let part = met_part(bounded, row_of(frame, up), frame, near, tally);
     add_run(
         &mut band.diff,
         &mut band.touched,
@@ -48,6 +55,7 @@ fn add_met(bounded: &Bounded, up: u32, band: &mut Band, tally: &mut Tally)
     );
     add_run(&mut band.diff, &mut band.touched, frame, first, part.region);
     mark(&mut band.marks, frame, first, part.on);
+    part.region
 }
 
 /// Adds what a piece gives to rows, in the general way. Few pieces need it, so its code is kept out of the others' loops.
@@ -60,9 +68,10 @@ fn add_general_rows(piece: &Piece, rows: RowRange, band: &mut Band, tally: &mut 
     ensures count { tally.new.count ≤ tally.old.count + 10 * (rows.end - rows.first) }
 {
     let bounded = bounds_of(piece, rise_of(piece));
+    let mut near = None;
     // The rows before `up` have what the piece adds.
     'rows: for up in rows.first..rows.end {
-        add_met(&bounded, up, band, tally);
+        near = add_met(&bounded, up, near, band, tally);
     }
 }
 

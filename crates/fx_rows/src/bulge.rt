@@ -16,6 +16,7 @@ use crate::bounded::{Bounded, bounds_of, rise_of};
 use crate::heights::{RowRange, rows_met};
 use crate::intervals::met_part;
 use crate::line::{Line, note_end, note_first, note_last, note_run, note_tip};
+use crate::part::Run;
 use crate::strip::row_of;
 use fx_winding::{Frame, Notes, Piece, Point, Tally, first_from, words_for};
 
@@ -105,8 +106,14 @@ pub(crate) fn is_bulge(piece: &Piece) -> bool
     }
 }
 
-/// Notes the segments of a row that a piece meets.
-pub(crate) fn note_line(bounded: &Bounded, line: Line, bits: &mut [u32], tally: &mut Tally)
+/// Notes the segments of a row that a piece meets. `near` is the region's run in the row below; that in this row is returned.
+pub(crate) fn note_line(
+    bounded: &Bounded,
+    line: Line,
+    near: Option<Run>,
+    bits: &mut [u32],
+    tally: &mut Tally,
+) -> Option<Run>
     requires row { IsFrom line.frame.bottom line.frame.height line.row }
     requires room { line.first + line.frame.width * line.step < 32 * length bits.old }
     ensures noted { IsRowSet (bounded_span bounded.now) line.frame line.row line.first line.step bits.new }
@@ -115,7 +122,7 @@ pub(crate) fn note_line(bounded: &Bounded, line: Line, bits: &mut [u32], tally: 
     ensures count { tally.new.count ≤ tally.old.count + 45 }
 {
     let piece = &bounded.piece;
-    let part = met_part(bounded, line.row, line.frame, tally);
+    let part = met_part(bounded, line.row, line.frame, near, tally);
     note_run(piece, &part, line, part.crossing, bits, tally);
     note_run(piece, &part, line, part.region, bits, tally);
     note_end(piece, &part, line, piece.a, bits, tally);
@@ -123,6 +130,7 @@ pub(crate) fn note_line(bounded: &Bounded, line: Line, bits: &mut [u32], tally: 
     note_tip(piece, &part, line, bits, tally);
     note_first(bounded.across, line, bits);
     note_last(bounded.across, line, bits);
+    part.region
 }
 
 /// Notes the segments of some rows of a frame that a piece meets. The bits of a row begin `row_step` bits after those of the row
@@ -146,6 +154,7 @@ fn note_met_lines(
     ensures only { AreOnly (IsRowsBit (bounded_span bounded.now) frame row_step step) bits.old bits.new }
     ensures count { tally.new.count ≤ tally.old.count + 45 * (rows.end - rows.first) }
 {
+    let mut near = None;
     // The segments of the rows before `up` are noted.
     'rows: for up in rows.first..rows.end {
         let line = Line {
@@ -154,7 +163,7 @@ fn note_met_lines(
             first: up as usize * row_step,
             step,
         };
-        note_line(bounded, line, bits, tally);
+        near = note_line(bounded, line, near, bits, tally);
     }
 }
 
