@@ -11,7 +11,7 @@ use Rattle.fx_fixed.proofs.Texts.{adds_ended}
 use Rattle.fx_hint.specs.declared.fault.HintFault.{HintFault}
 use Rattle.fx_hint.specs.declared.fault.HintFault.TheVariants as hint
 use Rattle.fx_trace.specs.declared.fault.Stop.{Stop}
-use Rattle.fx_trace.specs.declared.fault.Stop.TheVariants.{WriterFailed, NoMemory}
+use Rattle.fx_trace.specs.declared.fault.Stop.TheVariants as stop
 use Rattle.fx_trace.specs.Traces.{Trace, IsTracedSome, Traces, Halts}
 use Rattle.fx_trace.specs.inner.Ending.{result_of, EndsText}
 
@@ -72,7 +72,7 @@ module _ (trace : Trace) (sink : GName) (held : Option (List ℕ)) (faults : ℕ
   traced (Ok u) (Ok v) a w = record { end = w.1; written = all_written w.0 a; quiet = a.0.outcome.4 }
   traced (Ok u) (Err hint.OutOfMemory) a w = memory_ended a
   traced (Ok u) (Err fault) a w = record { end = w.1; written = all_written w.0 a; quiet = a.0.outcome.4 }
-  traced (Err (WriterFailed n)) end a w =
+  traced (Err (stop.WriterFailed n)) end a w =
       let o = a.0.outcome in
       record {
         count = o.0;
@@ -81,7 +81,7 @@ module _ (trace : Trace) (sink : GName) (held : Option (List ℕ)) (faults : ℕ
         written = appends_text held now.held (take o.0 some) (take o.0 trace.text) (first_bytes o.0 (omega (arith, o.1))) o.2;
         fault = o.3.1;
       }
-  traced (Err NoMemory) end a w =
+  traced (Err stop.OutOfMemory) end a w =
       let o = a.0.outcome in
       record {
         count = o.0;

@@ -72,7 +72,8 @@ ran_so Sees known was now r e runs some others i j w n =
     let P : Result (Unit {0}) HintFault → Type 0 = λ q. NoneLeft q others in
     (some, others, j, w, subst P (sym i) (none_by_end r others n))
 
-module _ {W : Type 0} (wanted : W → Wanted) (text : W → TextView) (before : W → Option SnapshotView) (outcome : W → Result (Unit {0}) Stop)
+module _ {W : Type 0} (wanted : W → Wanted) (text : W → TextView) (before : W → Option SnapshotView)
+    (outcome : W → Result (Unit {0}) Stop)
     (sink : GName) (held : Option (List ℕ)) (faults : ℕ) (was now : W) (last : TextView) (told_last : Result (Unit {0}) Stop)
     (begins : text was ≡ begun sink held faults) (well : outcome was ≡ Ok tt) (off : before was ≡ None)
     (ends : EndsText (text now) (outcome now) last told_last) where
@@ -81,7 +82,8 @@ module _ {W : Type 0} (wanted : W → Wanted) (text : W → TextView) (before : 
       → Adds Halts (begun sink held faults) last (lines_after w None es) told_last × OnOk told_last (last.waiting ≡ [])
   added w es e seen =
       let a = told wanted text before outcome was now es seen well in
-      let P : TextView → Wanted → Option SnapshotView → Type 0 = λ t v b. Adds Halts t (text now) (lines_after v b es) (outcome now) in
+      let P : TextView → Wanted → Option SnapshotView → Type 0 =
+      λ t v b. Adds Halts t (text now) (lines_after v b es) (outcome now) in
       let b : P (begun sink held faults) (wanted was) (before was) =
       (let Q : TextView → Type 0 = λ t. P t (wanted was) (before was) in subst Q begins a) in
       let c : P (begun sink held faults) w (before was) =

@@ -23,8 +23,8 @@ lines_joined w t (x ∷ xs) ys =
     append_assoc (told_of w t x) (lines_after w (kept_after w t x) xs) (lines_after w (kept_after_all w t (x ∷ xs)) ys)
     ∙ ap (λ (l : List ℕ). told_of w t x ++ l) (lines_joined w (kept_after w t x) xs ys)
 
-halt_by : (w : Wanted) (a b : TextView) (t u : Option SnapshotView) (x : Event) (r s : Result (Unit {0}) Stop) (f : Stop) → r ≡ Err f
-    → Tells w a t r x b u s → (b ≡ a) × (s ≡ Err f)
+halt_by : (w : Wanted) (a b : TextView) (t u : Option SnapshotView) (x : Event) (r s : Result (Unit {0}) Stop) (f : Stop)
+    → r ≡ Err f → Tells w a t r x b u s → (b ≡ a) × (s ≡ Err f)
 halt_by w a b t u x (Ok v) s f e h = absurd cc
 halt_by w a b t u x (Err g) s f e h = (h.0, h.1 ∙ e)
 

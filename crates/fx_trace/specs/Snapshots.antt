@@ -1,5 +1,5 @@
 -- What lines compare of two states, and the text of what differs (own).
-use Rattle.std.specs.Prelude.{◌≡◌, ℕ, ℤ, List, ◌++◌, codes, length}
+use Rattle.std.specs.Prelude.{◌≡◌, ℕ, ℤ, List, ◌++◌, codes, length, Option, Some, None}
 use Rattle.fx_gstate.specs.declared.state.GState.{GState}
 use Rattle.fx_zone.specs.declared.point.Point.{Point}
 use Rattle.fx_machine.specs.declared.state.Flags.{Flags}
@@ -31,6 +31,11 @@ pub record HasSizesOf (a b : SnapshotView) : Type 0 where
   pub glyph : length a.glyph ≡ length b.glyph
   pub storage : length a.storage ≡ length b.storage
   pub cvt : length a.cvt ≡ length b.cvt
+
+-- room for another one in its place: its own, if the sizes are the same, or the other one itself
+abbrev pub IsRoomFor : Option SnapshotView → SnapshotView → SnapshotView → Type 0
+IsRoomFor None was now = HasSizesOf was now
+IsRoomFor (Some room) was now = room ≡ now
 
 -- ---- the text of what differs
 

@@ -18,7 +18,7 @@ use Rattle.fx_hint.specs.Outlines.{outline_with, of_machine}
 use Rattle.fx_hint.specs.Runs.{runs_of}
 use Rattle.fx_hint.specs.Watched.{run_events}
 use Rattle.fx_trace.specs.declared.fault.Stop.{Stop}
-use Rattle.fx_trace.specs.declared.fault.Stop.TheVariants.{WriterFailed, NoMemory}
+use Rattle.fx_trace.specs.declared.fault.Stop.TheVariants as stop
 use Rattle.fx_trace.specs.declared.fault.TraceFault.{TraceFault}
 use Rattle.fx_trace.specs.declared.fault.TraceFault.TheVariants.{Cause, WriteFailed, OutOfMemory}
 use Rattle.fx_trace.specs.declared.wanted.Wanted.{Wanted}
@@ -129,8 +129,8 @@ Traces trace change (Err (WriteFailed n)) = IsTracedTo trace change n
 
 -- a text stops when its writer fails, or when memory for what a trace keeps runs out
 abbrev pub Halts : Stop → ℕ → ℕ → ℕ → Type 0
-Halts (WriterFailed k) n faults_before faults = (k ≡ n) × (faults ≡ faults_before + 1)
-Halts NoMemory n faults_before faults = faults ≡ faults_before
+Halts (stop.WriterFailed k) n faults_before faults = (k ≡ n) × (faults ≡ faults_before + 1)
+Halts stop.OutOfMemory n faults_before faults = faults ≡ faults_before
 
 -- the lines of an event are added to a text, or the text stops; then nothing more is added
 abbrev pub Tells : Wanted → TextView → Option SnapshotView → Result (Unit {0}) Stop → Event → TextView → Option SnapshotView

@@ -215,13 +215,15 @@ fn add_place_text<S: Sink>(
     requires { text.old.faults < 2 ^ 63 }
     ensures { Adds Fails text.old text.new (place_text name.now zone number was.now now.now) result }
 {
+    let zone = Digits::unsigned(u64::from(zone));
+    let number = Digits::unsigned(number as u64);
     text.add(&[
         b"; ",
         name,
         b" ",
-        Digits::unsigned(u64::from(zone)).text(),
+        zone.text(),
         b" ",
-        Digits::unsigned(number as u64).text(),
+        number.text(),
         b" ",
         Digits::signed(was.x.0).text(),
         b",",

@@ -24,7 +24,7 @@ pub fn result_of(told: Result<(), Stop>, end: Result<(), HintFault>) -> Result<(
 {
     match told {
         Err(Stop::WriterFailed(n)) => Err(TraceFault::WriteFailed(n)),
-        Err(Stop::NoMemory) => Err(TraceFault::OutOfMemory),
+        Err(Stop::OutOfMemory) => Err(TraceFault::OutOfMemory),
         Ok(()) => match end {
             Ok(()) => Ok(()),
             Err(HintFault::OutOfMemory) => Err(TraceFault::OutOfMemory),

@@ -23,5 +23,5 @@ pub enum Stop {
     /// The writer took this many bytes of it.
     WriterFailed(u64),
     /// There is no memory for what a trace keeps of the state.
-    NoMemory,
+    OutOfMemory,
 }

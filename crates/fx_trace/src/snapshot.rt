@@ -1,7 +1,7 @@
 //! What a trace keeps of a state, so that it can tell what the next instruction changes.
 
 ghost use Rattle.std.specs.Prelude.{◌≡◌, length, IfOk, IsTrue};
-ghost use Rattle.fx_trace.specs.Snapshots.{SnapshotView, snapshot_of, HasSizesOf};
+ghost use Rattle.fx_trace.specs.Snapshots.{snapshot_of, HasSizesOf, IsRoomFor};
 
 use fx_gstate::GState;
 use fx_machine::{Flags, State};
@@ -73,7 +73,7 @@ impl Snapshot {
     }
 
     /// Whether a state has as many points, cells and control values.
-    pub fn has_sizes_of(&self, state: &State) -> bool
+    fn has_sizes_of(&self, state: &State) -> bool
         ensures { IsTrue result → HasSizesOf self.now (snapshot_of state.now) }
     {
         self.twilight.len() == state.zones.twilight.points().len()
@@ -82,8 +82,30 @@ impl Snapshot {
             && self.cvt.len() == state.store.controls().numbers().len()
     }
 
+    /// What takes its place if a state has other sizes. No instruction changes them, so this takes no memory.
+    pub fn room_for(&self, alloc: Global, state: &State) -> Result<Option<Snapshot>, AllocError>
+        ensures { IfOk result (λ room. IsRoomFor room self.now (snapshot_of state.now)) }
+    {
+        if self.has_sizes_of(state) {
+            return Ok(None);
+        }
+        let next = Snapshot::of(alloc, state)?;
+        Ok(Some(next))
+    }
+
+    /// Becomes that of a state, for which there is room.
+    pub fn renew(&mut self, room: Option<Snapshot>, state: &State)
+        requires { IsRoomFor room self.old (snapshot_of state.now) }
+        ensures { self.new ≡ snapshot_of state.now }
+    {
+        match room {
+            Some(next) => *self = next,
+            None => self.take(state),
+        }
+    }
+
     /// Becomes that of a state with its sizes.
-    pub fn take(&mut self, state: &State)
+    fn take(&mut self, state: &State)
         requires { HasSizesOf self.old (snapshot_of state.now) }
         ensures { self.new ≡ snapshot_of state.now }
     {

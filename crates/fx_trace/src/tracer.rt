@@ -15,7 +15,7 @@ use crate::wanted::Wanted;
 use fx_code::Code;
 use fx_fixed::{Sink, TextWriter};
 use fx_machine::{FontProgram, State, Watching};
-use std::alloc::Global;
+use std::alloc::{AllocError, Global};
 
 /// Adds lines to a text, until the text stops.
 #[derive(Drop)]
@@ -43,32 +43,7 @@ fn begin_text<S: Sink>(
 {
     match Snapshot::of(alloc, state) {
         Ok(first) => (stop_of(add_begin(text, program)), Some(first)),
-        Err(_) => (Err(Stop::NoMemory), None),
-    }
-}
-
-/// Adds the line of an instruction, and keeps the state after it, which may have other sizes.
-#[tactic(auto, using(crate::proofs::Stopping::adds_or_stops))]
-fn tell_anew<S: Sink>(
-    alloc: Global,
-    text: &mut TextWriter<'_, S>,
-    program: FontProgram,
-    code: &Code<'_>,
-    address: usize,
-    kept: &mut Snapshot,
-    state: &State,
-) -> Result<(), Stop>
-    requires { text.old.faults < 2 ^ 63 }
-    ensures adds { Adds Halts text.old text.new (line_text program code.now address kept.old state.now) result }
-    ensures kept { OnOk result (kept.new ≡ snapshot_of state.now) }
-{
-    match Snapshot::of(alloc, state) {
-        Ok(next) => {
-            let added = stop_of(add_line(text, program, code, address, kept, state));
-            *kept = next;
-            added
-        }
-        Err(_) => Err(Stop::NoMemory),
+        Err(AllocError) => (Err(Stop::OutOfMemory), None),
     }
 }
 
@@ -87,12 +62,14 @@ fn tell<S: Sink>(
     ensures adds { Adds Halts text.old text.new (line_text program code.now address kept.old state.now) result }
     ensures kept { OnOk result (kept.new ≡ snapshot_of state.now) }
 {
-    if !kept.has_sizes_of(state) {
-        return tell_anew(alloc, text, program, code, address, kept, state);
+    match kept.room_for(alloc, state) {
+        Ok(room) => {
+            let added = stop_of(add_line(text, program, code, address, kept, state));
+            kept.renew(room, state);
+            added
+        }
+        Err(AllocError) => Err(Stop::OutOfMemory),
     }
-    let added = stop_of(add_line(text, program, code, address, kept, state));
-    kept.take(state);
-    added
 }
 
 impl<'w, S: Sink> Tracer<'w, S> {

@@ -11,7 +11,7 @@ use Rattle.fx_hint.specs.declared.fault.HintFault.TheVariants as hint
 use Rattle.fx_fixed.specs.declared.sink.WriteFailed.{WriteFailed as Failed}
 use Rattle.fx_trace.specs.declared.wanted.Wanted.{Wanted}
 use Rattle.fx_trace.specs.declared.fault.Stop.{Stop}
-use Rattle.fx_trace.specs.declared.fault.Stop.TheVariants.{WriterFailed, NoMemory}
+use Rattle.fx_trace.specs.declared.fault.Stop.TheVariants as stop
 use Rattle.fx_trace.specs.Snapshots.{SnapshotView}
 use Rattle.fx_trace.specs.Traces.{Halts, Tells}
 use Rattle.fx_trace.specs.declared.fault.TraceFault.{TraceFault}
@@ -26,8 +26,8 @@ ended_by (Err fault) = Err (Cause fault)
 -- by what became of its text, and of the programs
 abbrev pub result_of : Result (Unit {0}) Stop → Result (Unit {0}) HintFault → Result (Unit {0}) TraceFault
 result_of (Ok u) end = ended_by end
-result_of (Err (WriterFailed n)) end = Err (WriteFailed n)
-result_of (Err NoMemory) end = Err OutOfMemory
+result_of (Err (stop.WriterFailed n)) end = Err (WriteFailed n)
+result_of (Err stop.OutOfMemory) end = Err OutOfMemory
 
 -- a text ends, if it has not stopped
 abbrev pub EndsText : TextView → Result (Unit {0}) Stop → TextView → Result (Unit {0}) Stop → Type 0
@@ -43,7 +43,7 @@ Sees wanted text before outcome was x now =
 -- a writer's fault, as what stops the text of a trace
 abbrev pub stop_of : Result (Unit {0}) Failed → Result (Unit {0}) Stop
 stop_of (Ok u) = Ok u
-stop_of (Err fault) = Err (WriterFailed fault.0)
+stop_of (Err fault) = Err (stop.WriterFailed fault.0)
 
 -- unless memory ran out, no program is left to run
 abbrev pub NoneLeft : {A : Type 0} → Result A HintFault → List ProgramRun → Type 0

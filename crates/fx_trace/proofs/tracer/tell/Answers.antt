@@ -1,5 +1,5 @@
 use Rattle.fx_trace.proofs.Stopping.{line_stops}
-use Rattle.fx_trace.proofs.tracer.tell_anew.Goals as goal
+use Rattle.fx_trace.proofs.tracer.tell.Goals as goal
 
 pub returns-in-Err-clause-adds : goal.returns-in-Err-clause-adds
 returns-in-Err-clause-adds g c =
