@@ -54,6 +54,8 @@ mod surveys;
 #[cfg(test)]
 mod tables;
 #[cfg(test)]
+mod wishes;
+#[cfg(test)]
 mod worked;
 #[cfg(test)]
 mod writers;

@@ -114,7 +114,9 @@ fn does(
     want: Want,
     places: [i32; 4],
 ) -> bool {
-    let answer = machine.run_glyph(GLYPH, Code::new(code), zone, &mut Unwatched);
+    let answer = machine
+        .run_glyph(GLYPH, Code::new(code), zone, &mut Unwatched)
+        .map(|ran| ran.usage);
     answer == answer_of(FontProgram::Glyph(GLYPH), want)
         && corners(zone) == places
         && zone.len() == 8

@@ -36,7 +36,7 @@ taken_first due words g o left (k ∷ ks) e d t =
     let few = d.0.words.few in
     let at : k.0 ≡ g = sym (glyph_back k.0 k.1 rest few) ∙ (sym (ap glyph_in e) ∙ t.glyph_is) in
     let same : k.1 ≡ o = sym (outline_back k.0 k.1 rest d.0.words) ∙ (sym (ap outline_in e) ∙ sym t.outline) in
-    let left_is : left ≡ rest = t.left_is ∙ (ap words_after e ∙ words_back k.0 k.1 rest few) in
+    let left_is : left ≡ rest = t.left_is ∙ (ap words_after e ∙ words_back k.0 k.1 rest d.0.words) in
     (ap due (sym at) ∙ (d.0.outline ∙ ap (λ v. Ok v) same), record { kept = ks; words_are = left_is; each = d.1 })
 
 pub taken_due : (due : ℕ → Result GlyphOutlineView HintFault) (words : List ℕ) (g : ℕ) (o : GlyphOutlineView) (left : List ℕ)

@@ -1,10 +1,12 @@
 -- Points and outlines as words of 32 bits.
 use Rattle.std.specs.Prelude.{◌≡◌, ℕ, ◌+◌, ◌*◌, ◌/◌, ◌%◌, ◌^◌, ◌<◌, ◌==◌, ◌&&◌, ℤ, pos, negsuc, ◌+ℤ◌, ◌-ℤ◌, int_le, unsigned_abs}
-use Rattle.std.specs.Prelude.{Bool, true, false, List, ◌∷◌, ◌++◌, length, map, take, drop, slice_index}
+use Rattle.std.specs.Prelude.{Bool, true, false, if◌then◌else◌, Option, Some, None, List, ◌∷◌, ◌++◌, length, map, take, drop, slice_index}
 use Rattle.std.specs.List.{list_all}
 use Rattle.std.specs.Int.{cast_unsigned, cast_signed}
 use Rattle.std.specs.Int.RustNames.{FitsSigned}
 use mir.Syntax.{w32}
+use Rattle.fx_gstate.specs.declared.scan.Dropout.{Dropout}
+use Rattle.fx_gstate.specs.declared.scan.Dropout.TheVariants.{Off, Leftmost, Nearest}
 use Rattle.fx_outline.specs.declared.points.OutlinePoint.{OutlinePoint}
 use Rattle.fx_hint.specs.Outlines.{GlyphOutlineView}
 
@@ -32,11 +34,21 @@ point_of w = record { x = pos (w / 65536) -ℤ pos 32768; y = pos (w % 65536 / 2
 
 -- ---- outlines
 
+-- what was asked of drop-out control, as a number from 0 to 3, and back
+abbrev pub wish_number : Option Dropout → ℕ
+wish_number None = 0
+wish_number (Some Off) = 1
+wish_number (Some Leftmost) = 2
+wish_number (Some Nearest) = 3
+
+abbrev pub wish_numbered : ℕ → Option Dropout
+wish_numbered n = if n == 0 then None else if n == 1 then Some Off else if n == 2 then Some Leftmost else Some Nearest
+
 -- the words of a glyph's outline
 abbrev pub outline_words : ℕ → GlyphOutlineView → List ℕ
-outline_words glyph o = (glyph * 65536 + length o.points) ∷ length o.ends ∷ cast_unsigned w32 o.advance
-    ∷ o.usage.steps / 2 ^ 32 ∷ o.usage.steps % 2 ^ 32 ∷ o.usage.strays / 2 ^ 32 ∷ o.usage.strays % 2 ^ 32
-    ∷ (o.ends ++ map point_word o.points)
+outline_words glyph o = (glyph * 65536 + length o.points) ∷ (wish_number o.wish * 65536 + length o.ends)
+    ∷ cast_unsigned w32 o.advance ∷ o.usage.steps / 2 ^ 32 ∷ o.usage.steps % 2 ^ 32 ∷ o.usage.strays / 2 ^ 32
+    ∷ o.usage.strays % 2 ^ 32 ∷ (o.ends ++ map point_word o.points)
 
 -- the glyph, the number of points and of contours that words begin with
 abbrev pub glyph_in : List ℕ → ℕ
@@ -46,7 +58,7 @@ abbrev pub points_in : List ℕ → ℕ
 points_in ws = slice_index ws 0 % 65536
 
 abbrev pub ends_in : List ℕ → ℕ
-ends_in ws = slice_index ws 1
+ends_in ws = slice_index ws 1 % 65536
 
 -- the outline that words begin with, and the words after it
 abbrev pub outline_in : List ℕ → GlyphOutlineView
@@ -55,6 +67,7 @@ outline_in ws = record {
   ends = take (ends_in ws) (drop 7 ws);
   advance = cast_signed w32 (slice_index ws 2);
   usage = record { steps = slice_index ws 3 * 2 ^ 32 + slice_index ws 4; strays = slice_index ws 5 * 2 ^ 32 + slice_index ws 6 };
+  wish = wish_numbered (slice_index ws 1 / 65536);
 }
 
 abbrev pub words_after : List ℕ → List ℕ
@@ -70,5 +83,6 @@ pub record IsTaken (words : List ℕ) (glyph : ℕ) (o : GlyphOutlineView) (left
 -- an outline that a cache can keep
 pub record HasWords (o : GlyphOutlineView) : Type 0 where
   pub few : length o.points < 65536
+  pub few_contours : length o.ends < 65536
   pub fit : list_all fits o.points ≡ true
   pub advance : FitsSigned w32 o.advance

@@ -3,10 +3,10 @@ ghost use Rattle.std.specs.Prelude.{◌≡◌, ◌++◌, false, vec_capacity, Is
 ghost use Rattle.fx_hint.specs.Outlines.{view_of_glyph_outline};
 ghost use Rattle.fx_cache.specs.Words.{outline_words, HasWords};
 
-use crate::words::{all_fit, push_ends, push_points};
+use crate::words::{all_fit, push_ends, push_points, wish_number};
 use fx_hint::GlyphOutline;
 
-/// The number of words before an outline's contours and points: glyph and points, contours, advance, steps, strays.
+/// The number of words before an outline's contours and points: glyph and points, wish and contours, advance, steps, strays.
 pub(crate) const HEAD: usize = 7;
 
 /// The greatest number of contours of an outline in a cache.
@@ -35,7 +35,7 @@ pub(crate) fn put_words(words: &mut Vec<u32>, glyph: u16, made: &GlyphOutline) -
     }
     let usage = made.usage;
     words.push_reserved(u32::from(glyph) * 65536 + points as u32);
-    words.push_reserved(contours as u32);
+    words.push_reserved(wish_number(made.wish) * 65536 + contours as u32);
     words.push_reserved(made.advance.0.cast_unsigned());
     words.push_reserved((usage.steps >> 32) as u32);
     words.push_reserved((usage.steps % (1 << 32)) as u32);

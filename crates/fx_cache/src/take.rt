@@ -4,7 +4,7 @@ ghost use Rattle.fx_hint.specs.Outlines.{view_of_glyph_outline};
 ghost use Rattle.fx_cache.specs.Words.{IsTaken};
 
 use crate::put::HEAD;
-use crate::words::{ends_of, points_of};
+use crate::words::{ends_of, points_of, wish_numbered};
 use fx_fixed::F26;
 use fx_hint::GlyphOutline;
 use fx_machine::Usage;
@@ -27,7 +27,7 @@ pub(crate) fn take_words<'a>(
     if count > MAX_POINTS {
         return None;
     }
-    let (end_words, after) = words[HEAD..].split_at_checked(words[1] as usize)?;
+    let (end_words, after) = words[HEAD..].split_at_checked((words[1] % 65536) as usize)?;
     let (point_words, after) = after.split_at_checked(count as usize)?;
     let outline = Outline {
         points: points_of(points, point_words)?,
@@ -40,6 +40,7 @@ pub(crate) fn take_words<'a>(
             steps: (u64::from(words[3]) << 32) + u64::from(words[4]),
             strays: (u64::from(words[5]) << 32) + u64::from(words[6]),
         },
+        wish: wish_numbered(words[1] / 65536),
     };
     Some((made, after))
 }

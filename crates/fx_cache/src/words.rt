@@ -1,11 +1,37 @@
-//! Points and contours as words, and back.
+//! Points and contours as words, and what was asked of drop-out control as a number; and back.
 ghost use Rattle.std.specs.Prelude.{◌≡◌, ◌+◌, ◌≤◌, ◌++◌, true, map, length, vec_len, vec_capacity, IfSome};
 ghost use Rattle.std.specs.List.{list_all};
 ghost use Rattle.fx_outline.specs.Ends.{AreEnds};
-ghost use Rattle.fx_cache.specs.Words.{fits, point_word, point_of};
+ghost use Rattle.fx_cache.specs.Words.{fits, point_word, point_of, wish_number, wish_numbered};
 
 use fx_fixed::F26;
+use fx_gstate::Dropout;
 use fx_outline::OutlinePoint;
+
+/// The number of what was asked of drop-out control, 0 to 3.
+pub(crate) fn wish_number(wish: Option<Dropout>) -> u32
+    ensures value { result ≡ wish_number wish }
+    ensures small { result ≤ 3 }
+{
+    match wish {
+        None => 0,
+        Some(Dropout::Off) => 1,
+        Some(Dropout::Leftmost) => 2,
+        Some(Dropout::Nearest) => 3,
+    }
+}
+
+/// What was asked of drop-out control, by its number.
+pub(crate) fn wish_numbered(number: u32) -> Option<Dropout>
+    ensures { result ≡ wish_numbered number }
+{
+    match number {
+        0 => None,
+        1 => Some(Dropout::Off),
+        2 => Some(Dropout::Leftmost),
+        _ => Some(Dropout::Nearest),
+    }
+}
 
 /// Whether a point has a word: x within 512 pixels of the origin and y within 256, in 26.6.
 fn fits(point: &OutlinePoint) -> bool

@@ -4,9 +4,10 @@ use crate::deltas::{Delta, DeltaForm, DeltaShift};
 use crate::fault::BadArgument;
 use crate::moves::shift_along;
 use crate::rounding::{RoundState, round_to_grid, super_grid, super_grid_45};
+use crate::scan::{Dropout, scan_control_of, scan_type_of};
 use crate::vectors::Vector;
 use crate::zones::ZonePointer;
-use fx_fixed::{Axis, F26, Place};
+use fx_fixed::{Axis, F26, Place, Ppem};
 
 /// The graphics state (Apple TrueType Reference Manual, "Graphics state").
 #[derive(Clone, Copy, Debug, PartialEq, Eq)]
@@ -43,20 +44,25 @@ pub struct GState {
     pub delta_base: i32,
     /// How small a step of deltas is.
     pub delta_shift: DeltaShift,
+    /// Whether drop-out control is on; none until SCANCTRL says so.
+    pub scan_control: Option<bool>,
+    /// Which drop-out control, if it is on.
+    pub scan_type: Dropout,
 }
 
 impl GState {
-    ghost use Rattle.std.specs.Prelude.{◌≡◌, None, OnErr, IfSome};
+    ghost use Rattle.std.specs.Prelude.{◌≡◌, None, Some, OnErr, IfSome, false, unwrap_or};
     ghost use Rattle.fx_fixed.specs.declared.places.Axis.{Axis as TheAxis};
     ghost use Rattle.fx_gstate.specs.Vectors.{axis_of, line_of, words_of, projection_of, shift_of, place_along, has_part};
     ghost use Rattle.fx_gstate.specs.Rounding.{Rounds, rounded_of, super_grid_of};
     ghost use Rattle.fx_gstate.specs.declared.rounding.RoundState.TheVariants.{Super};
     ghost use Rattle.fx_gstate.specs.Deltas.{delta_of};
     ghost use Rattle.fx_gstate.specs.States.{default_state, leaves};
+    ghost use Rattle.fx_gstate.specs.Scan.{scan_control_of, scan_type_of, wish_of};
     ghost use Rattle.fx_gstate.specs.Setters.{with_zp0, with_zp1, with_zp2, with_zones, with_loop, with_delta_shift};
 
     /// The default state: all vectors the x axis, all zone pointers the glyph's, rounding to grid, auto flip on, cut-in 68, minimum
-    /// distance 64, delta base 9 and shift 3, loop 1, and 0 elsewhere.
+    /// distance 64, delta base 9 and shift 3, loop 1, nothing asked of drop-out control, scan type 0, and 0 elsewhere.
     pub fn new() -> GState
         ensures { result ≡ default_state }
     {
@@ -80,6 +86,8 @@ impl GState {
             single_width_cut_in: F26(0),
             delta_base: 9,
             delta_shift: DeltaShift::three(),
+            scan_control: None,
+            scan_type: Dropout::Leftmost,
         }
     }
 
@@ -401,5 +409,33 @@ impl GState {
         ensures { self.new ≡ record self.old { round_state = Super (super_grid_of 45 n) } }
     {
         self.round_state = RoundState::Super(super_grid_45(n));
+    }
+
+    /// SCANCTRL: whether drop-out control is on at a size.
+    pub fn set_scan_control(&mut self, n: i32, ppem: Ppem)
+        ensures { self.new ≡ record self.old {
+          scan_control = Some (scan_control_of n ppem (unwrap_or self.old.scan_control false));
+        } }
+    {
+        let before = self.scan_control.unwrap_or(false);
+        self.scan_control = Some(scan_control_of(n, ppem, before));
+    }
+
+    /// SCANTYPE: which drop-out control; a number that is no type changes nothing.
+    pub fn set_scan_type(&mut self, n: i32)
+        ensures { self.new ≡ record self.old { scan_type = unwrap_or (scan_type_of n) self.old.scan_type } }
+    {
+        self.scan_type = scan_type_of(n).unwrap_or(self.scan_type);
+    }
+
+    /// The drop-out control that was asked for, if any was.
+    pub fn wish(&self) -> Option<Dropout>
+        ensures { result ≡ wish_of self.now }
+    {
+        match self.scan_control {
+            None => None,
+            Some(false) => Some(Dropout::Off),
+            Some(true) => Some(self.scan_type),
+        }
     }
 }

@@ -1,6 +1,6 @@
 -- The programs of a font keep the number of points and the contours.
 -- For the law of `Hinter` at a machine, and so for the limits of an outline.
-use Rattle.std.proofs.Common.{◌≡◌, ℕ, ◌≤◌, List, length, take, Bool, true, false, Ok, refl, ◌∙◌, subst, arith, length-append}
+use Rattle.std.proofs.Common.{◌≡◌, ℕ, ◌≤◌, List, length, take, Bool, true, false, Option, Ok, refl, ◌∙◌, subst, arith, length-append}
 use Rattle.std.specs.Prelude.{◌||◌, nat_eq}
 use Rattle.std.proofs.lemmas.List.{append-nil}
 use Rattle.std.proofs.lemmas.Grind.{common_steps}
@@ -9,6 +9,7 @@ use Rattle.fx_fixed.proofs.Chain.{bind_ok, map_fault_ok, ok_injective}
 use Rattle.fx_zone.specs.declared.point.Point.{Point}
 use Rattle.fx_zone.specs.Figures.{Figure, HasShape}
 use Rattle.fx_scale.specs.Phantoms.{in_order}
+use Rattle.fx_gstate.specs.declared.scan.Dropout.{Dropout}
 use Rattle.fx_machine.specs.Known.{Known, glyph_ran}
 use Rattle.fx_machine.proofs.KeptShapes.{glyphs_keep}
 use Rattle.fx_machine.specs.declared.usage.Usage.{Usage}
@@ -24,9 +25,9 @@ IsKept made ran = (length ran.0.zone.points ≡ length made.zone.points) × (ran
 front_length : (xs : List Point) (n : ℕ) → n ≤ length xs → length (take n xs) ≡ n
 front_length xs n h = grind (arith, common_steps)
 
-parted_keeps : (made : Made) (f : Figure) (usage : Usage) → HasShape (with_phantoms made) f
-    → IsKept made (parted (length made.zone.points) f, usage)
-parted_keeps made f usage h =
+parted_keeps : (made : Made) (wish : Option Dropout) (f : Figure) (usage : Usage) → HasShape (with_phantoms made) f
+    → IsKept made (parted (length made.zone.points) wish f, usage)
+parted_keeps made wish f usage h =
     let n = h.points in
     let m = length-append made.zone.points (in_order made.phantoms) in
     (front_length f.points (length made.zone.points) (omega arith), h.ends ∙ append-nil made.zone.ends)
@@ -36,11 +37,11 @@ run_keeps : (known : Known) (g : ℕ) (code : List ℕ) (made : Made) (ran : Mad
 unfolding program_run
 run_keeps known g code made ran e =
     let b = bind_ok (map_fault Halted (glyph_ran known g code (with_phantoms made)))
-    (λ r. Ok (parted (length made.zone.points) r.1, r.0)) ran e in
+    (λ r. Ok (parted (length made.zone.points) r.0.wish r.1, r.0.usage)) ran e in
     let k = glyphs_keep known g code (with_phantoms made) b.0
     (map_fault_ok Halted (glyph_ran known g code (with_phantoms made)) b.0 b.1) in
     let P : Made × Usage → Type 0 = λ q. IsKept made q in
-    subst P (ok_injective _ _ b.2) (parted_keeps made b.0.1 b.0.0 k)
+    subst P (ok_injective _ _ b.2) (parted_keeps made b.0.0.wish b.0.1 b.0.0.usage k)
 
 hinted_keeps : (known : Known) (g : ℕ) (code : List ℕ) (made : Made) (skips : Bool)
     → (known.prepared.flags.no_programs || nat_eq (length code) 0) ≡ skips → (ran : Made × Usage)

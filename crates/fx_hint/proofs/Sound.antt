@@ -1,6 +1,6 @@
 -- An assembled glyph has the points that were counted, and its contours end with them.
 -- For `outline_with`, whose outline keeps its limits.
-use Rattle.std.proofs.Common.{◌≡◌, ℕ, zero, suc, ◌+◌, ◌≤◌, List, [], ◌∷◌, ◌++◌, length, map, Bool, Ok, refl, sym, ap, ◌∙◌, subst}
+use Rattle.std.proofs.Common.{◌≡◌, ℕ, zero, suc, ◌+◌, ◌≤◌, List, [], ◌∷◌, ◌++◌, length, map, Bool, None, Ok, refl, sym, ap, ◌∙◌, subst}
 use Rattle.std.proofs.Common.{arith, length-append}
 use Rattle.std.specs.Prelude.{nat_lt, nat_le}
 use Rattle.std.proofs.lemmas.Bool.{ltb-false}
@@ -84,7 +84,8 @@ pub simple_counted : (s : Scale) (hinted : Bool) (root : ℕ) (m : Metrics) (sha
 unfolding simple_made
 simple_counted s hinted root m shape count r a h =
     let b = bind_ok (more_points root (length shape.points) count)
-    (λ counted. Ok (record { zone = zone_of_simple s shape; phantoms = phantoms_of s hinted shape.x_min m }, counted)) r h in
+    (λ counted. Ok
+    (record { zone = zone_of_simple s shape; phantoms = phantoms_of s hinted shape.x_min m; wish = None }, counted)) r h in
     let c = points_counted root (length shape.points) count b.0 b.1 in
     let n : length (map (scaled_point s) shape.points) ≡ length shape.points = length-map shape.points (scaled_point s) in
     let P : Made × Count → Type 0 = λ q. IsCounted count q.0 q.1 in
@@ -173,9 +174,10 @@ made_counted h s root make g m (Simple shape) count r keeps all low valid e =
     run_counted h g shape.code count b.0 r keeps (simple_counted s h.on root m shape count b.0 valid b.1) b.2
 made_counted h s root make g m (Composite assembly) count r keeps all low valid e =
     let b = bind_ok (with_parts s h.on make g assembly.components
-    (record { zone = empty_figure; phantoms = phantoms_of s h.on assembly.x_min m }) count) (run_on h g assembly.code) r e in
+    (record { zone = empty_figure; phantoms = phantoms_of s h.on assembly.x_min m; wish = None }) count)
+    (run_on h g assembly.code) r e in
     let j = parts_joined s h.on make g assembly.components
-    (record { zone = empty_figure; phantoms = phantoms_of s h.on assembly.x_min m }) count b.0 all low refl b.1 in
+    (record { zone = empty_figure; phantoms = phantoms_of s h.on assembly.x_min m; wish = None }) count b.0 all low refl b.1 in
     let n = j.points in
     run_counted h g assembly.code count b.0 r keeps (record { points = omega arith; few = j.few; contours = j.contours }) b.2
 

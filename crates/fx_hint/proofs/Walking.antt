@@ -1,6 +1,6 @@
 -- Points that are counted, and refusals that are passed on.
 -- For the walk over components.
-use Rattle.std.proofs.Common.{◌≡◌, ℕ, length, Bool, sym, ap, ◌∙◌, Result, Ok, Err}
+use Rattle.std.proofs.Common.{◌≡◌, ℕ, length, Bool, sym, ap, ◌∙◌, None, Result, Ok, Err}
 use Rattle.std.proofs.lemmas.List.{length-map}
 use Rattle.fx_fixed.specs.Chain.{◌>>=◌}
 use Rattle.fx_sfnt.specs.declared.records.Metrics.{Metrics}
@@ -20,14 +20,14 @@ use Rattle.fx_hint.specs.Outlines.{more_points, simple_made}
 pub simple_is : (s : Scale) (hinted : Bool) (root : ℕ) (m : Metrics) (shape : SimpleView) (count counted : Count) (zone : Figure)
     (n : ℕ) (phantoms : PhantomPoints) → zone ≡ zone_of_simple s shape → n ≡ length zone.points
     → more_points root n count ≡ Ok counted → phantoms ≡ phantoms_of s hinted shape.x_min m
-    → simple_made s hinted root m shape count ≡ Ok (record { zone = zone; phantoms = phantoms }, counted)
+    → simple_made s hinted root m shape count ≡ Ok (record { zone = zone; phantoms = phantoms; wish = None }, counted)
 unfolding simple_made
 simple_is s hinted root m shape count counted zone n phantoms z l r p =
     let same : length shape.points ≡ n =
     sym (l ∙ ap (λ (f : Figure). length f.points) z ∙ length-map shape.points (scaled_point s)) in
     let taken : more_points root (length shape.points) count ≡ Ok counted = ap (λ k. more_points root k count) same ∙ r in
     rw (z, p) (ap (λ (q : Result Count HintFault). q >>= λ counted. Ok
-    (record { zone = zone_of_simple s shape; phantoms = phantoms_of s hinted shape.x_min m }, counted)) taken)
+    (record { zone = zone_of_simple s shape; phantoms = phantoms_of s hinted shape.x_min m; wish = None }, counted)) taken)
 
 -- a refusal is passed on if it is one of all
 pub fails_on : {Y Z : Type 0} (d : HintFault) (a : Result Y HintFault) (b : Result Z HintFault)

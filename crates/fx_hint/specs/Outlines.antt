@@ -1,5 +1,5 @@
 -- The outline of a glyph at a size, by recursion on components, or the first cause why there is none (OpenType, `glyf`).
-use Rattle.std.specs.Prelude.{ℕ, zero, suc, ◌+◌, ◌≤◌, List, [], ◌∷◌, map, length, ℤ, pos, Bool, nat_lt, nat_le, Result, Ok, Err}
+use Rattle.std.specs.Prelude.{ℕ, zero, suc, ◌+◌, ◌≤◌, List, [], ◌∷◌, map, length, ℤ, pos, Bool, nat_lt, nat_le, Option, None, Result, Ok, Err}
 use Rattle.fx_fixed.specs.Numbers.{difference_of}
 use Rattle.fx_fixed.specs.Chain.{◌>>=◌, refuse, map_fault}
 use Rattle.fx_sfnt.specs.declared.records.Metrics.{Metrics}
@@ -16,6 +16,7 @@ use Rattle.fx_scale.specs.declared.scale.Scale.{Scale}
 use Rattle.fx_scale.specs.Scaling.{scale_of}
 use Rattle.fx_scale.specs.Phantoms.{phantoms_of}
 use Rattle.fx_scale.specs.Zones.{zone_of_simple}
+use Rattle.fx_gstate.specs.declared.scan.Dropout.{Dropout}
 use Rattle.fx_machine.specs.declared.halt.MachineFault.{MachineFault}
 use Rattle.fx_machine.specs.declared.halt.MachineFault.TheVariants as machine_fault
 use Rattle.fx_machine.specs.Known.{machine_of}
@@ -53,7 +54,8 @@ more_points root n count = do
 
 -- a simple glyph scaled: its points and its phantom points
 abbrev pub scaled_simple : Scale → Bool → Metrics → SimpleView → Made
-scaled_simple s hinted m shape = record { zone = zone_of_simple s shape; phantoms = phantoms_of s hinted shape.x_min m }
+scaled_simple s hinted m shape =
+    record { zone = zone_of_simple s shape; phantoms = phantoms_of s hinted shape.x_min m; wish = None }
 
 -- a simple glyph, before its program runs
 unfoldable pub simple_made : Scale → Bool → ℕ → Metrics → SimpleView → Count → Result (Made × Count) HintFault
@@ -77,13 +79,14 @@ with_parts s hinted make g (part ∷ parts) base count = do
 
 -- a glyph that has been read, assembled by its rule
 unfoldable pub made_of : Hinting → Scale → ℕ → Maker → ℕ → Metrics → glyf.Glyph → Count → Result (Made × Count) HintFault
-made_of h s root make g m Empty count = Ok (record { zone = empty_figure; phantoms = phantoms_of s h.on (pos 0) m }, count)
+made_of h s root make g m Empty count =
+    Ok (record { zone = empty_figure; phantoms = phantoms_of s h.on (pos 0) m; wish = None }, count)
 made_of h s root make g m (Simple shape) count = do
   made ← simple_made s h.on root m shape count
   run_on h g shape.code made
 made_of h s root make g m (Composite assembly) count = do
   made ← with_parts s h.on make g assembly.components
-      (record { zone = empty_figure; phantoms = phantoms_of s h.on assembly.x_min m }) count
+      (record { zone = empty_figure; phantoms = phantoms_of s h.on assembly.x_min m; wish = None }) count
   run_on h g assembly.code made
 
 -- a glyph: its number and bytes, its reading, and then itself
@@ -116,6 +119,7 @@ pub record GlyphOutlineView : Type 0 where
   pub ends : List ℕ
   pub advance : ℤ
   pub usage : Usage
+  pub wish : Option Dropout
 
 abbrev pub view_of_glyph_outline : GlyphOutline → GlyphOutlineView
 view_of_glyph_outline g = record {
@@ -123,6 +127,7 @@ view_of_glyph_outline g = record {
   ends = g.outline.ends.items;
   advance = g.advance;
   usage = g.usage;
+  wish = g.wish;
 }
 
 -- a point of an outline: its current place, moved so that the first phantom point lies at x = 0
@@ -136,6 +141,7 @@ moved_outline_of made usage = record {
   ends = made.zone.ends;
   advance = difference_of made.phantoms.advance.cur.x made.phantoms.origin.cur.x;
   usage = usage;
+  wish = made.wish;
 }
 
 -- the outline of a glyph as hinting makes it

@@ -10,6 +10,8 @@ use Rattle.fx_zone.specs.Points.{resting}
 use Rattle.fx_zone.specs.Figures.{Figure, joined}
 use Rattle.fx_scale.specs.declared.phantom.PhantomPoints.{PhantomPoints}
 use Rattle.fx_scale.specs.Phantoms.{in_order}
+use Rattle.fx_gstate.specs.declared.scan.Dropout.{Dropout}
+use Rattle.fx_gstate.specs.Scan.{wish_of}
 use Rattle.fx_machine.specs.Known.{Known, glyph_ran, glyph_run_events}
 use Rattle.fx_machine.specs.Events.{Event}
 use Rattle.fx_machine.specs.declared.usage.Usage.{Usage}
@@ -41,20 +43,22 @@ phantoms_at points first = record {
   descender = point_at points (first + 3);
 }
 
--- n points and the four phantom points after them, taken apart
-abbrev pub parted : ℕ → Figure → Made
-parted n f = record { zone = record { points = take n f.points; ends = f.ends }; phantoms = phantoms_at f.points n }
+-- n points and the four phantom points after them, taken apart, with what was asked of drop-out control
+abbrev pub parted : ℕ → Option Dropout → Figure → Made
+parted n wish f =
+    record { zone = record { points = take n f.points; ends = f.ends }; phantoms = phantoms_at f.points n; wish = wish }
 
--- the program of a glyph runs on its points: the points after it, and what it used up; or a halt
+-- the program of a glyph runs on its points: the points after it, with what it left asked for, and what it used up; or a halt
 unfoldable pub program_run : Known → ℕ → List ℕ → Made → Result (Made × Usage) HintFault
 program_run known g code made = do
   r ← map_fault Halted (glyph_ran known g code (with_phantoms made))
-  Ok (parted (length made.zone.points) r.1, r.0)
+  Ok (parted (length made.zone.points) r.0.wish r.1, r.0.usage)
 
--- no program runs if there are no bytes, or if prep set the first flag of INSTCTRL
+-- no program runs if there are no bytes, or if prep set the first flag of INSTCTRL; then it is what prep left asked for
 unfoldable pub hinted : Known → ℕ → List ℕ → Made → Result (Made × Usage) HintFault
 hinted known g code made =
-    if known.prepared.flags.no_programs || nat_eq (length code) 0 then Ok (made, no_usage)
+    if known.prepared.flags.no_programs || nat_eq (length code) 0
+    then Ok (record made { wish = wish_of known.prepared.graphics }, no_usage)
     else program_run known g code made
 
 -- what a watcher sees of it

@@ -1,5 +1,5 @@
 -- The programs that are run for a glyph, in their order: the recursion on components again, which lists each program it starts.
-use Rattle.std.specs.Prelude.{◌≡◌, ℕ, zero, suc, List, [], ◌∷◌, ◌++◌, pos, Bool, Result, Ok, Err}
+use Rattle.std.specs.Prelude.{◌≡◌, ℕ, zero, suc, List, [], ◌∷◌, ◌++◌, pos, Bool, None, Result, Ok, Err}
 use Rattle.fx_fixed.specs.Chain.{◌>>=◌, map_fault}
 use Rattle.fx_sfnt.specs.declared.records.Metrics.{Metrics}
 use Rattle.fx_sfnt.specs.Tables.{Face}
@@ -70,13 +70,14 @@ logged_parts s hinted make g (part ∷ parts) base count = do
 
 unfoldable pub logged_made_of : Hinting → Scale → ℕ → LoggedMaker → ℕ → Metrics → glyf.Glyph → Logged
     → Result (Made × Logged) LoggedFault
-logged_made_of h s root make g m Empty count = Ok (record { zone = empty_figure; phantoms = phantoms_of s h.on (pos 0) m }, count)
+logged_made_of h s root make g m Empty count =
+    Ok (record { zone = empty_figure; phantoms = phantoms_of s h.on (pos 0) m; wish = None }, count)
 logged_made_of h s root make g m (Simple shape) count = do
   made ← logged_simple s h.on root m shape count
   logged_run h g shape.code made
 logged_made_of h s root make g m (Composite assembly) count = do
   made ← logged_parts s h.on make g assembly.components
-      (record { zone = empty_figure; phantoms = phantoms_of s h.on assembly.x_min m }) count
+      (record { zone = empty_figure; phantoms = phantoms_of s h.on assembly.x_min m; wish = None }) count
   logged_run h g assembly.code made
 
 unfoldable pub logged_assembled : Hinting → Face → Scale → ℕ → LoggedMaker → ℕ → Logged → Result (Made × Logged) LoggedFault

@@ -4,6 +4,7 @@ ghost use Rattle.std.specs.Prelude.{◌≡◌, ◌<◌, length, Some, None, IfOk
 ghost use Rattle.std.specs.List.{All};
 
 use crate::made::Made;
+use fx_gstate::Dropout;
 use fx_machine::Usage;
 use fx_scale::{PhantomPoints, Scale};
 use fx_sfnt::Metrics;
@@ -28,6 +29,7 @@ pub struct KeptFields {
     pub metrics: Metrics,
     pub phantoms: PhantomPoints,
     pub usage: Usage,
+    pub wish: Option<Dropout>,
 }
 
 /// A place for a simple glyph that was made, or for none. Its lists keep their memory when another glyph takes the place.
@@ -139,6 +141,7 @@ impl KeptGlyph {
             metrics: input.metrics,
             phantoms: made.phantoms,
             usage,
+            wish: made.wish,
         });
         Ok(())
     }
@@ -162,6 +165,7 @@ impl KeptGlyph {
         let made = Made {
             zone,
             phantoms: fields.phantoms,
+            wish: fields.wish,
         };
         Some((made, fields.usage))
     }

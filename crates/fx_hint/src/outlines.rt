@@ -76,7 +76,11 @@ fn moved_outline(alloc: Global, made: Made, usage: Usage) -> Result<GlyphOutline
     requires { IsSound made }
     ensures { IfOk result (λ o. view_of_glyph_outline o ≡ moved_outline_of made usage) }
 {
-    let Made { zone, phantoms } = made;
+    let Made {
+        zone,
+        phantoms,
+        wish,
+    } = made;
     let origin = phantoms.origin.cur.x;
     let points = moved_points(alloc, zone.points(), origin)?;
     let advance = phantoms.advance.cur.x.minus(origin);
@@ -88,6 +92,7 @@ fn moved_outline(alloc: Global, made: Made, usage: Usage) -> Result<GlyphOutline
         outline,
         advance,
         usage,
+        wish,
     })
 }
 

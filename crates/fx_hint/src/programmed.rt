@@ -61,10 +61,11 @@ fn run_program<W: Watching>(
     let _ends = made.zone.ends();
     let phantoms = made.phantoms.in_order();
     made.zone.append(&phantoms, &[])?;
-    let usage = machine.run_glyph(g, Code::new(code), &mut made.zone, watcher)?;
+    let ran = machine.run_glyph(g, Code::new(code), &mut made.zone, watcher)?;
     made.phantoms = phantoms_at(&made.zone, count);
     made.zone.truncate(count);
-    Ok(usage)
+    made.wish = ran.wish;
+    Ok(ran.usage)
 }
 
 /// The program of a glyph runs, unless there is none, or `prep` asked for none.
@@ -82,6 +83,7 @@ fn hint<W: Watching>(
         (hinted_events machine.old.known g code.now made.old)) watcher.new }
 {
     if machine.skips_programs() || code.is_empty() {
+        made.wish = machine.wish();
         return Ok(Usage::none());
     }
     run_program(machine, g, code, made, watcher)

@@ -1,6 +1,6 @@
 //! The walk over components.
 
-ghost use Rattle.std.specs.Prelude.{[], ◌∷◌, ◌≡◌, ◌+◌, ◌-◌, ◌<◌, ◌≤◌, Ok, Err, IfOk, OnOk, length};
+ghost use Rattle.std.specs.Prelude.{[], ◌∷◌, ◌≡◌, ◌+◌, ◌-◌, ◌<◌, ◌≤◌, None, Ok, Err, IfOk, OnOk, length};
 ghost use Rattle.fx_fixed.specs.Chain.{GivesUnless, map_ok};
 ghost use Rattle.fx_glyf.specs.declared.glyph.Glyph.TheVariants as glyph;
 ghost use Rattle.fx_glyf.specs.Glyphs.{glyph_of};
@@ -41,11 +41,12 @@ fn levels_below(waiting: usize) -> u8
 
 /// A glyph without points yet.
 fn empty_made(alloc: Global, scale: &Scale, hinted: bool, x_min: i16, metrics: Metrics) -> Made
-    ensures { result ≡ record { zone = empty_figure; phantoms = phantoms_of scale.now hinted x_min metrics } }
+    ensures { result ≡ record { zone = empty_figure; phantoms = phantoms_of scale.now hinted x_min metrics; wish = None } }
 {
     Made {
         zone: Zone::new(alloc),
         phantoms: PhantomPoints::of_glyph(scale, hinted, x_min, metrics),
+        wish: None,
     }
 }
 
@@ -57,7 +58,11 @@ fn start(
     composite: &Composite<'_>,
     metrics: Metrics,
 ) -> Made
-    ensures { result ≡ record { zone = empty_figure; phantoms = phantoms_of scale.now hinted composite.now.x_min metrics } }
+    ensures { result ≡ record {
+      zone = empty_figure;
+      phantoms = phantoms_of scale.now hinted composite.now.x_min metrics;
+      wish = None;
+    } }
 {
     empty_made(alloc, scale, hinted, composite.x_min(), metrics)
 }
@@ -122,7 +127,11 @@ impl<'w, 'a> Walk<'w, 'a> {
         let zone = zone_of(self.alloc, simple, self.scale)?;
         count.more_points(self.root, zone.len())?;
         let phantoms = PhantomPoints::of_glyph(self.scale, hinted, simple.x_min(), metrics);
-        Ok(Made { zone, phantoms })
+        Ok(Made {
+            zone,
+            phantoms,
+            wish: None,
+        })
     }
 
     /// A glyph begun: its number and bytes, its reading; and then it is assembled, or open.

@@ -1,26 +1,19 @@
 -- A machine that is read from a block knows what the machine knew that wrote the block.
 -- For a machine that is made of a block.
-use Rattle.std.proofs.Common.{◌≡◌, inl, inr, ℕ, ◌+◌, ◌*◌, List, [], ◌∷◌, ◌++◌, length, take, drop, refl, ap, sym, ◌∙◌, Bool, true}
+use Rattle.std.proofs.Common.{◌≡◌, ℕ, ◌*◌, List, ◌∷◌, ◌++◌, length, take, drop, refl, ap, sym, ◌∙◌, Bool, true}
 use Rattle.std.proofs.Common.{false, ◌==◌, arith}
-use Rattle.std.proofs.Common.{subst, Option, Some, None, Result, Ok, Err, if◌then◌else◌, ◌&&◌}
-use Rattle.std.specs.Prelude.{nat_eq, nat_le, codes}
+use Rattle.std.proofs.Common.{subst, Some, None, if◌then◌else◌, ◌&&◌}
+use Rattle.std.specs.Prelude.{nat_le, codes}
 use Rattle.std.proofs.lemmas.Bool.{eqb-true, eq-eqb, le-leb}
 use Rattle.std.proofs.lemmas.List.{length-replicate, append_assoc}
 use Rattle.fx_sfnt.specs.Tables.{Face, table_or_empty}
 use Rattle.fx_scale.specs.Scaling.{scale_of}
-use Rattle.fx_zone.specs.Figures.{HasShape}
-use Rattle.fx_gstate.specs.declared.state.GState.{GState}
-use Rattle.fx_pointops.specs.Zones.{HasShapes}
 use Rattle.fx_machine.specs.declared.state.State.{State}
-use Rattle.fx_machine.specs.declared.state.Flags.{Flags}
 use Rattle.fx_machine.specs.declared.usage.Usage.{Usage}
 use Rattle.fx_machine.specs.declared.prepared.Prepared.{Prepared}
-use Rattle.fx_machine.specs.Shapes.{HasSizes}
-use Rattle.fx_machine.specs.Prepared.{Fits, carried, begun}
-use Rattle.fx_machine.specs.Known.{Known, machine_of, font_ran, first_state, prepared_from}
-use Rattle.fx_machine.specs.declared.halt.MachineFault.{MachineFault}
-use Rattle.fx_fixed.specs.Chain.{◌>>=◌}
-use Rattle.fx_machine.specs.Blocks.{Sizes, AreParts, IsRead, SaysAll, IsBlockOf, IsOfFont, IsNumbered, known_words, state_words}
+use Rattle.fx_machine.specs.Prepared.{Fits}
+use Rattle.fx_machine.specs.Known.{Known, first_state}
+use Rattle.fx_machine.specs.Blocks.{Sizes, AreParts, IsRead, SaysAll, IsBlockOf, state_words}
 use Rattle.fx_machine.specs.Blocks.{origin_words, sizes_of}
 use Rattle.fx_machine.specs.Blocks.{block_form, has_origin, font_sizes, sizes_in, usage_in, prepared_in, checksum_of}
 use Rattle.fx_machine.specs.Blocks.{after_origin}
@@ -157,8 +150,8 @@ first_sizes face ppem p s e f = same_sizes (sizes_of p) (font_sizes face ppem)
 
 -- ---- the words of each list, cut one after the other
 
-pub parts_are : (n : Sizes) (ws a ra b rb c rc d rd e : List ℕ) → a ≡ take n.storage (drop 18 ws)
-    → ra ≡ drop n.storage (drop 18 ws)
+pub parts_are : (n : Sizes) (ws a ra b rb c rc d rd e : List ℕ) → a ≡ take n.storage (drop 20 ws)
+    → ra ≡ drop n.storage (drop 20 ws)
     → b ≡ take n.cvt ra → rb ≡ drop n.cvt ra → c ≡ take (5 * n.twilight) rb → rc ≡ drop (5 * n.twilight) rb
     → d ≡ take n.functions rc → rd ≡ drop n.functions rc → e ≡ take n.opcodes rd → AreParts n ws a b c d e
 parts_are n ws a ra b rb c rc d rd e f h i k l o p r s = record {

@@ -1,26 +1,26 @@
 -- What prep left comes back from its words.
 -- For a machine that is made of a block.
-use Rattle.std.proofs.Common.{◌≡◌, ℕ, ◌+◌, ◌*◌, ◌^◌, ◌<◌, ◌≤◌, ◌==◌, ◌&&◌, List, [], ◌∷◌, ◌++◌, length, map, take, drop, refl, ap}
-use Rattle.std.proofs.Common.{sym, ◌∙◌, arith, append_assoc, length-append, Bool, true, false, IsTrue, Option}
-use Rattle.std.specs.Prelude.{ℤ, pos, nat_le, slice_index, unsigned_abs}
+use Rattle.std.proofs.Common.{◌≡◌, ℕ, ◌+◌, ◌*◌, ◌^◌, ◌≤◌, ◌==◌, List, [], ◌∷◌, ◌++◌, length, map, refl}
+use Rattle.std.proofs.Common.{sym, arith, append_assoc, length-append, Bool, true, false, Option, Some, None}
+use Rattle.std.specs.Prelude.{ℤ, unsigned_abs}
 use Rattle.std.specs.List.{flat_map}
 use Rattle.std.proofs.lemmas.Int.{to_z-of_z, to_z_pos}
 use Rattle.std.proofs.lemmas.Nat.{div-add-mod'}
 use Rattle.std.proofs.lemmas.List.{length-map, take_at, drop_at, append-nil}
 use mir.Syntax.{w32}
 use Rattle.fx_zone.specs.declared.point.Point.{Point}
-use Rattle.fx_zone.specs.Figures.{Figure}
+use Rattle.fx_gstate.specs.declared.scan.Dropout.{Dropout}
+use Rattle.fx_gstate.specs.declared.scan.Dropout.TheVariants.{Off, Leftmost, Nearest}
 use Rattle.fx_gstate.specs.declared.state.GState.{GState}
-use Rattle.fx_gstate.specs.States.{default_state}
-use Rattle.fx_machine.specs.Definitions.{Defined}
 use Rattle.fx_machine.specs.declared.definitions.Function.{Function}
 use Rattle.fx_machine.specs.declared.state.Flags.{Flags}
 use Rattle.fx_machine.specs.declared.usage.Usage.{Usage}
 use Rattle.fx_machine.specs.declared.prepared.Prepared.{Prepared}
-use Rattle.fx_machine.specs.Words.{number_word, number_in, bit_of, point_words, points_in, function_word, function_in}
-use Rattle.fx_machine.specs.Blocks.{Sizes, IsNumbered, SaysAll, start_words, flags_words, usage_words, sizes_words, state_words}
-use Rattle.fx_machine.specs.Blocks.{lists_words, count_of, sizes_of, sizes_in, usage_in, start_in, flags_in, prepared_in}
+use Rattle.fx_machine.specs.Words.{number_word, number_in, bit_of, point_words, points_in, function_word}
+use Rattle.fx_machine.specs.Blocks.{IsNumbered, SaysAll, state_words}
+use Rattle.fx_machine.specs.Blocks.{count_of, sizes_of, sizes_in, usage_in, start_in, flags_in, prepared_in}
 use Rattle.fx_machine.specs.Prepared.{carried}
+use Rattle.fx_machine.specs.Blocks.{control_in, control_word, type_in, type_word}
 use Rattle.fx_machine.specs.Blocks.{storage_words, cvt_words, twilight_words, functions_words, opcodes_words}
 use Rattle.fx_machine.proofs.WordsBack.{numbers_back, points_back, functions_back}
 
@@ -30,6 +30,16 @@ bit_back false = refl
 
 shift_back : (s : ℕ) → s ≤ 6 → unsigned_abs (number_in s) ≡ s
 shift_back s h = rw (to_z_pos w32 s (omega arith)) refl
+
+control_back : (c : Option Bool) → control_in (control_word c) ≡ c
+control_back None = refl
+control_back (Some false) = refl
+control_back (Some true) = refl
+
+type_back : (d : Dropout) → type_in (type_word d) ≡ d
+type_back Off = refl
+type_back Leftmost = refl
+type_back Nearest = refl
 
 start_back : (p : Prepared) (u : Usage) (rest : List ℕ) → IsNumbered p → carried p.graphics ≡ p.graphics
     → start_in (state_words p u ++ rest) ≡ p.graphics
@@ -42,6 +52,8 @@ start_back p u rest h c = rw (
   to_z-of_z w32 p.graphics.single_width_cut_in h.start.single_width_cut_in,
   to_z-of_z w32 p.graphics.delta_base h.start.delta_base,
   shift_back p.graphics.delta_shift h.start.delta_shift,
+  control_back p.graphics.scan_control,
+  type_back p.graphics.scan_type,
 ) c
 
 flags_back : (p : Prepared) (u : Usage) (rest : List ℕ) → flags_in (state_words p u ++ rest) ≡ p.flags

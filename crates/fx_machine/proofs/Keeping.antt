@@ -323,6 +323,7 @@ opcodes_8x_keep op s =
       plain_if s.zones,
       fault_keeps,
       store_keeps,
+      both_keeps,
       flippt_row_keeps,
       fliprg_row_keeps,
       sdpvtl_keeps,

@@ -5,7 +5,7 @@ use Rattle.fx_zone.specs.Figures.{Figure}
 use Rattle.fx_machine.specs.declared.program.Program.{Program}
 use Rattle.fx_machine.specs.declared.program.Program.TheVariants.{Glyph}
 use Rattle.fx_machine.specs.declared.state.State.{State}
-use Rattle.fx_machine.specs.declared.usage.Usage.{Usage}
+use Rattle.fx_machine.specs.declared.ran.Ran.{Ran}
 use Rattle.fx_machine.specs.Runs.{Verdict, Finished, Halted, Exhausted}
 use Rattle.fx_machine.specs.Configs.{answered}
 use Rattle.fx_zone.specs.Figures.{HasShape}
@@ -18,14 +18,14 @@ use Rattle.fx_machine.specs.Limits.{room_of}
 use Rattle.fx_machine.proofs.Keeping.{runs_keep}
 use Rattle.fx_fixed.proofs.Chain.{ok_injective}
 
-keeps : (texts : Program → List ℕ) (g : ℕ) (s : State) (v : Verdict) (r : Usage × Figure) → FinishesAlike s v
+keeps : (texts : Program → List ℕ) (g : ℕ) (s : State) (v : Verdict) (r : Ran × Figure) → FinishesAlike s v
     → ran_of (answered texts g Glyph v) ≡ Ok r → HasShape s.zones.glyph r.1
 keeps texts g s (Finished n t) r h e =
-    let P : Usage × Figure → Type 0 = λ q. HasShape s.zones.glyph q.1 in subst P (ok_injective _ _ e) h.glyph
+    let P : Ran × Figure → Type 0 = λ q. HasShape s.zones.glyph q.1 in subst P (ok_injective _ _ e) h.glyph
 keeps texts g s (Halted c w p) r h e = absurd (cc)
 keeps texts g s (Exhausted w p) r h e = absurd (cc)
 
-pub glyphs_keep : (known : Known) (g : ℕ) (code : List ℕ) (glyph : Figure) (r : Usage × Figure)
+pub glyphs_keep : (known : Known) (g : ℕ) (code : List ℕ) (glyph : Figure) (r : Ran × Figure)
     → glyph_ran known g code glyph ≡ Ok r
     → HasShape glyph r.1
 unfolding glyph_ran glyph_run glyph_end

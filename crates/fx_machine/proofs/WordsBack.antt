@@ -1,9 +1,9 @@
 -- Numbers, points and functions come back from their words.
 -- For what prep left, which comes back from a block.
-use Rattle.std.proofs.Common.{◌≡◌, ℕ, suc, ◌+◌, ◌-◌, ◌*◌, ◌/◌, ◌%◌, ◌<◌, ◌≤◌, ◌==◌, List, [], ◌∷◌, ◌++◌, length, map, refl, ap}
-use Rattle.std.proofs.Common.{sym, ◌∙◌, arith, append_assoc, Bool, true, false, Option, Some, None}
+use Rattle.std.proofs.Common.{◌≡◌, ℕ, suc, ◌+◌, ◌-◌, ◌*◌, ◌/◌, ◌%◌, ◌<◌, ◌==◌, List, [], ◌∷◌, ◌++◌, length, map, refl}
+use Rattle.std.proofs.Common.{arith, Bool, true, false, Option, Some, None}
 use Rattle.std.specs.Prelude.{ℤ, All}
-use Rattle.std.specs.List.{flat_map, list_all}
+use Rattle.std.specs.List.{flat_map}
 use Rattle.std.specs.Int.RustNames.{FitsSigned}
 use Rattle.std.proofs.lemmas.Int.{to_z-of_z}
 use Rattle.std.proofs.lemmas.Grind.{common_steps}
@@ -12,8 +12,8 @@ use Rattle.fx_zone.specs.declared.point.Point.{Point}
 use Rattle.fx_machine.specs.declared.definitions.Function.{Function}
 use Rattle.fx_machine.specs.declared.program.Program.{Program}
 use Rattle.fx_machine.specs.declared.program.Program.TheVariants.{Font, Prep, Glyph}
-use Rattle.fx_machine.specs.Words.{number_word, number_in, bit_of, marks_of, point_words, point_in, points_in, IsPoint, ArePoints}
-use Rattle.fx_machine.specs.Words.{AreNumbers, program_number, program_in, function_word, function_in, is_near}
+use Rattle.fx_machine.specs.Words.{number_word, number_in, bit_of, point_words, point_in, points_in, IsPoint, ArePoints}
+use Rattle.fx_machine.specs.Words.{AreNumbers, program_number, program_in, function_word, function_in}
 
 first_of : {X : Type 0} (P : X → Type 0) (x : X) (xs : List X) → All P (x ∷ xs) → P x
 first_of P x xs h = h 0 x (omega arith)

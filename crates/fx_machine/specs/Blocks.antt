@@ -1,8 +1,8 @@
 -- Blocks: what fpgm and prep left, as a list of words of 32 bits, and back.
 -- The words of a block are, in this order: its form, the size and what tells the font apart (5); how long its lists are (5); what
--- fpgm and prep used up (4); the graphics state that programs of glyphs begin with (7); the flags (2). Then come the lists: the
+-- fpgm and prep used up (4); the graphics state that programs of glyphs begin with (9); the flags (2). Then come the lists: the
 -- storage area, the control values, the twilight points (5 words each), the functions and the definitions of opcodes.
-use Rattle.std.specs.Prelude.{◌≡◌, ℕ, ◌+◌, ◌*◌, ◌/◌, ◌%◌, ◌^◌, ◌≤◌, ◌==◌, ◌&&◌, nat_lt, nat_le, ℤ, Bool, true, false, if◌then◌else◌}
+use Rattle.std.specs.Prelude.{◌≡◌, ℕ, ◌+◌, ◌*◌, ◌/◌, ◌%◌, ◌^◌, ◌≤◌, ◌==◌, ◌&&◌, nat_lt, nat_le, Bool, true, false, if◌then◌else◌}
 use Rattle.std.specs.Prelude.{List, [], ◌∷◌, ◌++◌, length, map, take, drop, slice_index, unsigned_abs, codes, unwrap_or, Option, Some, None}
 use Rattle.std.specs.List.{flat_map, list_all}
 use Rattle.std.specs.Int.RustNames.{FitsSigned}
@@ -10,11 +10,11 @@ use mir.Syntax.{w32}
 use Rattle.fx_sfnt.specs.Fields.{number_at}
 use Rattle.fx_sfnt.specs.Tables.{Face, table_or_empty}
 use Rattle.fx_scale.specs.Scaling.{scale_of}
-use Rattle.fx_zone.specs.declared.point.Point.{Point}
+use Rattle.fx_gstate.specs.declared.scan.Dropout.{Dropout}
+use Rattle.fx_gstate.specs.declared.scan.Dropout.TheVariants.{Off, Leftmost, Nearest}
 use Rattle.fx_gstate.specs.declared.state.GState.{GState}
 use Rattle.fx_gstate.specs.States.{default_state}
 use Rattle.fx_machine.specs.Limits.{function_count_of}
-use Rattle.fx_machine.specs.declared.definitions.Function.{Function}
 use Rattle.fx_machine.specs.declared.state.Flags.{Flags}
 use Rattle.fx_machine.specs.declared.usage.Usage.{Usage}
 use Rattle.fx_machine.specs.declared.prepared.Prepared.{Prepared}
@@ -54,7 +54,7 @@ font_sizes face ppem = record {
 
 -- "mks", and the version of this form
 abbrev pub block_form : ℕ
-block_form = 0x6D6B7301
+block_form = 0x6D6B7302
 
 -- the checksum that a font file has in `head`, 0 if that is too short
 abbrev pub checksum_of : Face → ℕ
@@ -79,8 +79,22 @@ width_words g = number_word g.single_width ∷ number_word g.single_width_cut_in
 abbrev pub delta_words : GState → List ℕ
 delta_words g = number_word g.delta_base ∷ g.delta_shift ∷ []
 
+-- scan control: 0 none, 1 off, 2 on
+abbrev pub control_word : Option Bool → ℕ
+control_word None = 0
+control_word (Some false) = 1
+control_word (Some true) = 2
+
+abbrev pub type_word : Dropout → ℕ
+type_word Off = 0
+type_word Leftmost = 1
+type_word Nearest = 2
+
+abbrev pub scan_words : GState → List ℕ
+scan_words g = control_word g.scan_control ∷ type_word g.scan_type ∷ []
+
 abbrev pub start_words : GState → List ℕ
-start_words g = bit_of g.auto_flip ∷ (distance_words g ++ (width_words g ++ delta_words g))
+start_words g = bit_of g.auto_flip ∷ (distance_words g ++ (width_words g ++ (delta_words g ++ scan_words g)))
 
 abbrev pub flags_words : Flags → List ℕ
 flags_words f = bit_of f.no_programs ∷ bit_of f.default_state ∷ []
@@ -121,6 +135,12 @@ usage_in ws = record {
   strays = slice_index ws 7 * 2 ^ 32 + slice_index ws 8;
 }
 
+abbrev pub control_in : ℕ → Option Bool
+control_in w = if w == 0 then None else Some (w == 2)
+
+abbrev pub type_in : ℕ → Dropout
+type_in w = if w == 1 then Leftmost else if w == 2 then Nearest else Off
+
 abbrev pub start_in : List ℕ → GState
 start_in ws = record default_state {
   auto_flip = slice_index ws 9 == 1;
@@ -130,14 +150,16 @@ start_in ws = record default_state {
   single_width_cut_in = number_in (slice_index ws 13);
   delta_base = number_in (slice_index ws 14);
   delta_shift = unsigned_abs (number_in (slice_index ws 15));
+  scan_control = control_in (slice_index ws 16);
+  scan_type = type_in (slice_index ws 17);
 }
 
 abbrev pub flags_in : List ℕ → Flags
-flags_in ws = record { no_programs = slice_index ws 16 == 1; default_state = slice_index ws 17 == 1 }
+flags_in ws = record { no_programs = slice_index ws 18 == 1; default_state = slice_index ws 19 == 1 }
 
 -- the words of each list and all after them
 abbrev pub storage_words : List ℕ → List ℕ
-storage_words ws = drop 18 ws
+storage_words ws = drop 20 ws
 
 abbrev pub cvt_words : Sizes → List ℕ → List ℕ
 cvt_words n ws = drop n.storage (storage_words ws)
@@ -175,11 +197,11 @@ pub record AreParts (n : Sizes) (ws storage cvt twilight functions opcodes : Lis
 
 -- how many words there are after the first five
 abbrev pub count_of : Sizes → ℕ
-count_of n = 18 + n.storage + n.cvt + 5 * n.twilight + n.functions + n.opcodes
+count_of n = 20 + n.storage + n.cvt + 5 * n.twilight + n.functions + n.opcodes
 
 -- words say something for lists of these sizes: the sizes are theirs, there are enough words, and the delta shift is one
 pub record SaysAll (n : Sizes) (ws : List ℕ) : Type 0 where
-  pub head : 18 ≤ length ws
+  pub head : 20 ≤ length ws
   pub sizes : sizes_in ws ≡ n
   pub enough : count_of n ≤ length ws
   pub shift : slice_index ws 15 ≤ 6

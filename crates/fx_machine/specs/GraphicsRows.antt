@@ -2,7 +2,7 @@
 -- state. All continue at the next address.
 -- Each comment has the opcode, the mnemonic, its name in the manual and what becomes of the stack, whose top is written last.
 -- Apple TrueType Reference Manual, "Instruction set"; "Graphics state".
-use Rattle.std.specs.Prelude.{ℤ, true, false, Result, Ok}
+use Rattle.std.specs.Prelude.{ℕ, ℤ, true, false, Some, unwrap_or, Result, Ok}
 use Rattle.fx_fixed.specs.Chain.{◌>>=◌, map_fault}
 use Rattle.fx_fixed.specs.declared.places.Axis.{Axis}
 use Rattle.fx_scale.specs.declared.scale.Scale.{Scale}
@@ -14,6 +14,7 @@ use Rattle.fx_gstate.specs.declared.rounding.RoundState.TheVariants.{Super}
 use Rattle.fx_gstate.specs.declared.state.GState.{GState}
 use Rattle.fx_gstate.specs.Vectors.{axis_of, words_of}
 use Rattle.fx_gstate.specs.Rounding.{super_grid_of}
+use Rattle.fx_gstate.specs.Scan.{scan_control_of, scan_type_of}
 use Rattle.fx_gstate.specs.Setters.{with_zp0, with_zp1, with_zp2, with_zones, with_loop, with_delta_shift}
 use Rattle.fx_stackops.specs.declared.fault.StackFault.{StackFault}
 use Rattle.fx_stackops.specs.Store.{StoreView, one, two, pushed}
@@ -193,3 +194,16 @@ sround_row = by_one (λ n g. record g { round_state = Super (super_grid_of 64 n)
 
 unfoldable pub s45round_row : StoreView → GState → Both
 s45round_row = by_one (λ n g. record g { round_state = Super (super_grid_of 45 n) })
+
+-- ---- 8: drop-out control
+
+-- 85 SCANCTRL, SCAN conversion ConTRoL: n ->; the low word of n says at which sizes drop-out control is on
+abbrev pub with_control_of : ℤ → ℕ → GState → GState
+with_control_of n ppem g = record g { scan_control = Some (scan_control_of n ppem (unwrap_or g.scan_control false)) }
+
+unfoldable pub scanctrl_row : ℕ → StoreView → GState → Both
+scanctrl_row ppem = by_one (λ n g. with_control_of n ppem g)
+
+-- 8D SCANTYPE: n ->; a number that is no type changes nothing
+unfoldable pub scantype_row : StoreView → GState → Both
+scantype_row = by_one (λ n g. record g { scan_type = unwrap_or (scan_type_of n) g.scan_type })

@@ -18,6 +18,7 @@ use Rattle.fx_machine.specs.declared.program.Program.TheVariants.{Font, Prep, Gl
 use Rattle.fx_machine.specs.declared.halt.Halt.{Halt}
 use Rattle.fx_machine.specs.declared.halt.MachineFault.{MachineFault}
 use Rattle.fx_machine.specs.declared.halt.MachineFault.TheVariants.{Halted, OutOfMemory}
+use Rattle.fx_machine.specs.declared.ran.Ran.{Ran}
 use Rattle.fx_machine.specs.declared.usage.Usage.{Usage}
 use Rattle.fx_machine.specs.declared.state.State.{State}
 use Rattle.fx_machine.specs.declared.prepared.Prepared.{Prepared}
@@ -165,12 +166,12 @@ glyph_run_events known g code glyph = glyph_events (texts_of known.face code) g 
     (room_of known.face.maxp.max_stack_elements) glyph
 
 -- what is told of it
-unfoldable pub glyph_ran : Known → ℕ → List ℕ → Figure → Result (Usage × Figure) Halt
+unfoldable pub glyph_ran : Known → ℕ → List ℕ → Figure → Result (Ran × Figure) Halt
 glyph_ran known g code glyph = ran_of (glyph_run known g code glyph)
 
 -- it keeps the number of points and the contours
 abbrev pub GlyphsKeepShape : Type 0
-GlyphsKeepShape = (known : Known) (g : ℕ) (code : List ℕ) (glyph : Figure) (r : Usage × Figure)
+GlyphsKeepShape = (known : Known) (g : ℕ) (code : List ℕ) (glyph : Figure) (r : Ran × Figure)
     → glyph_ran known g code glyph ≡ Ok r
     → HasShape glyph r.1
 

@@ -6,6 +6,7 @@ use Rattle.fx_zone.specs.Figures.{Figure}
 use Rattle.fx_scale.specs.declared.scale.Scale.{Scale}
 use Rattle.fx_gstate.specs.declared.state.GState.{GState}
 use Rattle.fx_gstate.specs.States.{default_state}
+use Rattle.fx_gstate.specs.Scan.{wish_of}
 use Rattle.fx_fixed.specs.Numbers.{counted}
 use Rattle.fx_machine.specs.declared.program.Program.{Program}
 use Rattle.fx_machine.specs.declared.program.Program.TheVariants.{Glyph}
@@ -13,7 +14,7 @@ use Rattle.fx_machine.specs.declared.state.State.{State}
 use Rattle.fx_machine.specs.declared.state.Flags.{Flags}
 use Rattle.fx_machine.specs.declared.prepared.Prepared.{Prepared}
 use Rattle.fx_machine.specs.declared.halt.Halt.{Halt}
-use Rattle.fx_machine.specs.declared.usage.Usage.{Usage}
+use Rattle.fx_machine.specs.declared.ran.Ran.{Ran}
 use Rattle.fx_machine.specs.Limits.{STEP_LIMIT}
 use Rattle.fx_machine.specs.Machine.{answer_of}
 use Rattle.fx_machine.specs.Table.{row_at}
@@ -32,6 +33,8 @@ carried g = record default_state {
   single_width_cut_in = g.single_width_cut_in;
   delta_base = g.delta_base;
   delta_shift = g.delta_shift;
+  scan_control = g.scan_control;
+  scan_type = g.scan_type;
 }
 
 -- the graphics state that a program of a glyph begins with: as prep left it, or the default state
@@ -63,9 +66,12 @@ glyph_events texts g p scale room glyph = events_of texts g STEP_LIMIT Glyph (st
 abbrev pub strays_of : State → ℕ
 strays_of s = counted (s.store.strays + s.zones.strays)
 
--- what is told of it: the points then, the instructions executed and the strays; or the halt
-abbrev pub ran_of : Result (ℕ × State) Halt → Result (Usage × Figure) Halt
-ran_of (Ok r) = Ok (record { steps = r.0; strays = strays_of r.1 }, r.1.zones.glyph)
+-- what is told of it: the points then, the instructions executed, the strays, and what was asked of drop-out control; or the halt
+abbrev pub ran_of : Result (ℕ × State) Halt → Result (Ran × Figure) Halt
+ran_of (Ok r) = Ok (
+  record { usage = record { steps = r.0; strays = strays_of r.1 }; wish = wish_of r.1.graphics },
+  r.1.zones.glyph,
+)
 ran_of (Err halt) = Err halt
 
 -- the stack of a program that ended well, the deepest number first; none if it halted
@@ -87,6 +93,6 @@ pub record Fits (p : Prepared) (s : State) : Type 0 where
   pub twilight : HasShape p.twilight s.zones.twilight
 
 -- what code returns, with the points that it left
-abbrev pub with_zone : Result Usage Halt → Figure → Result (Usage × Figure) Halt
+abbrev pub with_zone : Result Ran Halt → Figure → Result (Ran × Figure) Halt
 with_zone (Ok ran) glyph = Ok (ran, glyph)
 with_zone (Err halt) glyph = Err halt

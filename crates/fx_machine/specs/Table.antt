@@ -27,7 +27,7 @@ use Rattle.fx_machine.specs.GraphicsRows.{on_store, on_graphics, on_both, svtca_
 use Rattle.fx_machine.specs.GraphicsRows.{rtg_row, rthg_row, rtdg_row, rdtg_row, rutg_row, roff_row, flipon_row, flipoff_row}
 use Rattle.fx_machine.specs.GraphicsRows.{spvfs_row, sfvfs_row, gpv_row, gfv_row, srp0_row, srp1_row, srp2_row, szp0_row}
 use Rattle.fx_machine.specs.GraphicsRows.{szp1_row, szp2_row, szps_row, sloop_row, smd_row, scvtci_row, sswci_row, ssw_row}
-use Rattle.fx_machine.specs.GraphicsRows.{sdb_row, sds_row, wcvtf_row, sround_row, s45round_row}
+use Rattle.fx_machine.specs.GraphicsRows.{sdb_row, sds_row, wcvtf_row, sround_row, s45round_row, scanctrl_row, scantype_row}
 use Rattle.fx_machine.specs.StateRows.{spvtl_row, sfvtl_row, sdpvtl_row, instctrl_row}
 use Rattle.fx_machine.specs.PointRows.{isect_row, alignpts_row, utp_row, mdap_row, iup_row, shp_row, shc_row, shz_row, shpix_row}
 use Rattle.fx_machine.specs.PointRows.{ip_row}
@@ -189,14 +189,14 @@ opcodes_8x op s =
     if op == 0x80 then flippt_row s
     else if op == 0x81 then fliprg_row true s
     else if op == 0x82 then fliprg_row false s
-    else if op == 0x85 then on_store ignored_row s
+    else if op == 0x85 then on_both (scanctrl_row s.scale.ppem) s
     else if op == 0x86 then sdpvtl_row false s
     else if op == 0x87 then sdpvtl_row true s
     else if op == 0x88 then on_store getinfo_row s
     else if op == 0x8A then on_store roll_row s
     else if op == 0x8B then on_store max_row s
     else if op == 0x8C then on_store min_row s
-    else if op == 0x8D then on_store ignored_row s
+    else if op == 0x8D then on_both scantype_row s
     else if op == 0x8E then instctrl_row s
     else Err BadOpcode
 

@@ -1,6 +1,6 @@
 //! Blocks: what `fpgm` and `prep` left, as a list of words of 32 bits, so that no program runs when the font is opened again.
 //!
-//! `specs/Blocks` says which word is what. The first five tell the form of a block, the size and the font; 18 more come before the
+//! `specs/Blocks` says which word is what. The first five tell the form of a block, the size and the font; 20 more come before the
 //! lists.
 
 ghost use Rattle.std.specs.Prelude.{◌≡◌, ◌+◌, ◌*◌, ◌^◌, ◌≤◌, ◌<◌, ◌++◌, OnOk, length, slice_index, unsigned_abs, option_map, FitsSigned};
@@ -10,22 +10,23 @@ ghost use Rattle.fx_machine.specs.Words.{number_in};
 ghost use Rattle.fx_machine.specs.Blocks.{Sizes, AreParts, count_of, sizes_in, start_in, flags_in, usage_in, checksum_of, has_origin};
 ghost use Rattle.fx_machine.specs.Blocks.{origin_words, after_origin, sizes_words, usage_words, distance_words, width_words, delta_words};
 ghost use Rattle.fx_machine.specs.Blocks.{start_words, flags_words, IsStart};
+ghost use Rattle.fx_machine.specs.Blocks.{control_in, control_word, type_in, type_word, scan_words};
 
 use crate::state::{Flags, table_or_empty};
 use crate::usage::Usage;
 use fx_fixed::{F26, Ppem};
-use fx_gstate::{DeltaShift, GState};
+use fx_gstate::{DeltaShift, Dropout, GState};
 use fx_sfnt::{Font, u32_at};
 use std::alloc::AllocError;
 
 /// What each block begins with: "mks", and the version of its form.
-const FORM: u32 = 0x6D6B_7301;
+const FORM: u32 = 0x6D6B_7302;
 
 /// How many words tell the form, the size and the font.
 const ORIGIN: usize = 5;
 
 /// How many words there are between those and the lists.
-pub(crate) const HEAD: usize = 18;
+pub(crate) const HEAD: usize = 20;
 
 /// The words of each list.
 #[derive(Clone, Copy)]
@@ -85,7 +86,7 @@ pub(crate) fn push_origin(
 
 /// How many words there are after the first five, by the counts that they say.
 pub(crate) fn count_in(words: &[u32]) -> usize
-    requires { 18 ≤ length words.now }
+    requires { 20 ≤ length words.now }
     ensures { result ≡ count_of (sizes_in words.now) }
 {
     HEAD + words[0] as usize
@@ -97,7 +98,7 @@ pub(crate) fn count_in(words: &[u32]) -> usize
 
 /// The words of each list, by the counts that they say.
 pub(crate) fn parts_of<'a>(words: &'a [u32]) -> Parts<'a>
-    requires head { 18 ≤ length words.now }
+    requires head { 20 ≤ length words.now }
     requires enough { count_of (sizes_in words.now) ≤ length words.now }
     ensures { AreParts (sizes_in words.now) words.now result.storage.now result.cvt.now result.twilight.now result.functions.now
         result.opcodes.now }
@@ -125,7 +126,7 @@ fn long_of(high: u32, low: u32) -> u64
 
 /// What `fpgm` and `prep` used up.
 pub(crate) fn usage_in(words: &[u32]) -> Usage
-    requires { 18 ≤ length words.now }
+    requires { 20 ≤ length words.now }
     ensures { result ≡ usage_in words.now }
 {
     Usage {
@@ -147,12 +148,12 @@ pub(crate) fn push_usage(words: &mut Vec<u32>, usage: Usage) -> Result<(), Alloc
 
 /// The flags.
 pub(crate) fn flags_in(words: &[u32]) -> Flags
-    requires { 18 ≤ length words.now }
+    requires { 20 ≤ length words.now }
     ensures { result ≡ flags_in words.now }
 {
     Flags {
-        no_programs: words[16] == 1,
-        default_state: words[17] == 1,
+        no_programs: words[18] == 1,
+        default_state: words[19] == 1,
     }
 }
 
@@ -167,16 +168,58 @@ pub(crate) fn push_flags(words: &mut Vec<u32>, flags: Flags) -> Result<(), Alloc
 
 /// The shift of delta instructions; `None` if the word is above 6.
 pub(crate) fn shift_in(words: &[u32]) -> Option<DeltaShift>
-    requires { 18 ≤ length words.now }
+    requires { 20 ≤ length words.now }
     ensures value { IfSome result (λ s. s ≡ unsigned_abs (number_in (slice_index words.now 15))) }
     ensures small { slice_index words.now 15 ≤ 6 → IsSome result }
 {
     DeltaShift::of(words[15].cast_signed()).ok()
 }
 
+/// The scan control of a word.
+fn control_in(word: u32) -> Option<bool>
+    ensures { result ≡ control_in word }
+{
+    if word == 0 { None } else { Some(word == 2) }
+}
+
+/// The word of a scan control: 0 none, 1 off, 2 on.
+fn control_word(control: Option<bool>) -> u32
+    ensures { result ≡ control_word control }
+{
+    match control {
+        None => 0,
+        Some(false) => 1,
+        Some(true) => 2,
+    }
+}
+
+/// The scan type of a word.
+fn type_in(word: u32) -> Dropout
+    ensures { result ≡ type_in word }
+{
+    if word == 1 {
+        return Dropout::Leftmost;
+    }
+    if word == 2 {
+        return Dropout::Nearest;
+    }
+    Dropout::Off
+}
+
+/// The word of a scan type.
+fn type_word(kind: Dropout) -> u32
+    ensures { result ≡ type_word kind }
+{
+    match kind {
+        Dropout::Off => 0,
+        Dropout::Leftmost => 1,
+        Dropout::Nearest => 2,
+    }
+}
+
 /// The graphics state that programs of glyphs begin with.
 pub(crate) fn start_in(words: &[u32], delta_shift: DeltaShift) -> GState
-    requires head { 18 ≤ length words.now }
+    requires head { 20 ≤ length words.now }
     requires shift { delta_shift ≡ unsigned_abs (number_in (slice_index words.now 15)) }
     ensures { result ≡ start_in words.now }
 {
@@ -188,6 +231,8 @@ pub(crate) fn start_in(words: &[u32], delta_shift: DeltaShift) -> GState
         single_width_cut_in: F26(words[13].cast_signed()),
         delta_base: words[14].cast_signed(),
         delta_shift,
+        scan_control: control_in(words[16]),
+        scan_type: type_in(words[17]),
         ..GState::new()
     }
 }
@@ -225,6 +270,15 @@ fn push_deltas(words: &mut Vec<u32>, g: &GState) -> Result<(), AllocError>
     Ok(())
 }
 
+/// Adds the words of what was asked of drop-out control.
+fn push_scan(words: &mut Vec<u32>, g: &GState) -> Result<(), AllocError>
+    ensures { OnOk result (words.new.items ≡ words.old.items ++ scan_words g.now) }
+{
+    words.push(control_word(g.scan_control))?;
+    words.push(type_word(g.scan_type))?;
+    Ok(())
+}
+
 /// Adds the words of the graphics state that programs of glyphs begin with.
 pub(crate) fn push_start(words: &mut Vec<u32>, g: &GState) -> Result<(), AllocError>
     ensures words { OnOk result (words.new.items ≡ words.old.items ++ start_words g.now) }
@@ -233,5 +287,6 @@ pub(crate) fn push_start(words: &mut Vec<u32>, g: &GState) -> Result<(), AllocEr
     words.push(u32::from(g.auto_flip))?;
     push_distances(words, g)?;
     push_widths(words, g)?;
-    push_deltas(words, g)
+    push_deltas(words, g)?;
+    push_scan(words, g)
 }

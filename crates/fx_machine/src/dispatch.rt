@@ -13,8 +13,8 @@ ghost use Rattle.fx_machine.specs.Table.{opcodes_5x, opcodes_6x, opcodes_7x, opc
 use crate::action::Action;
 use crate::flow::past_else;
 use crate::graphics_rows::{
-    gfv, gpv, s45round, scvtci, sdb, sds, sfvfs, sloop, smd, spvfs, sround, srp0, srp1, srp2, ssw,
-    sswci, szp0, szp1, szp2, szps, wcvtf,
+    gfv, gpv, s45round, scanctrl, scantype, scvtci, sdb, sds, sfvfs, sloop, smd, spvfs, sround,
+    srp0, srp1, srp2, ssw, sswci, szp0, szp1, szp2, szps, wcvtf,
 };
 use crate::halt::Cause;
 use crate::program::Program;
@@ -289,14 +289,14 @@ impl State {
             FLIPPT => self.flippt()?,
             FLIPRGON => self.fliprg(true)?,
             FLIPRGOFF => self.fliprg(false)?,
-            SCANCTRL => self.store.ignored()?,
+            SCANCTRL => scanctrl(&mut self.store, &mut self.graphics, self.scale.ppem)?,
             SDPVTL_0 => self.sdpvtl(false)?,
             SDPVTL_1 => self.sdpvtl(true)?,
             GETINFO => self.store.getinfo()?,
             ROLL => self.store.roll()?,
             MAX => self.store.max()?,
             MIN => self.store.min()?,
-            SCANTYPE => self.store.ignored()?,
+            SCANTYPE => scantype(&mut self.store, &mut self.graphics)?,
             INSTCTRL => self.instctrl()?,
             _ => return Err(Cause::BadOpcode),
         }

@@ -8,10 +8,10 @@ ghost use Rattle.fx_gstate.specs.States.{leaves};
 ghost use Rattle.fx_stackops.specs.Store.{HasSizes};
 ghost use Rattle.fx_machine.specs.GraphicsRows.{spvfs_row, sfvfs_row, gpv_row, gfv_row, srp0_row, srp1_row, srp2_row, szp0_row};
 ghost use Rattle.fx_machine.specs.GraphicsRows.{szp1_row, szp2_row, szps_row, sloop_row, smd_row, scvtci_row, sswci_row, ssw_row};
-ghost use Rattle.fx_machine.specs.GraphicsRows.{sdb_row, sds_row, wcvtf_row, sround_row, s45round_row};
+ghost use Rattle.fx_machine.specs.GraphicsRows.{sdb_row, sds_row, wcvtf_row, sround_row, s45round_row, scanctrl_row, scantype_row};
 
 use crate::halt::Cause;
-use fx_fixed::F26;
+use fx_fixed::{F26, Ppem};
 use fx_gstate::GState;
 use fx_scale::Scale;
 use fx_stackops::{StackFault, Store};
@@ -246,5 +246,27 @@ pub fn s45round(store: &mut Store, graphics: &mut GState) -> Result<(), Cause>
 {
     let operand = store.one()?;
     graphics.set_super_round_45(operand);
+    Ok(())
+}
+
+/// 85 SCANCTRL, SCAN conversion ConTRoL: `n ->`. Sets whether drop-out control is on, by the size.
+#[tactic(auto, unfolding(crate::specs::GraphicsRows::scanctrl_row))]
+pub fn scanctrl(store: &mut Store, graphics: &mut GState, ppem: Ppem) -> Result<(), Cause>
+    ensures value { leaves result (store.new, graphics.new) ≡ scanctrl_row ppem store.old graphics.old }
+    ensures sizes { HasSizes store.old store.new }
+{
+    let operand = store.one()?;
+    graphics.set_scan_control(operand, ppem);
+    Ok(())
+}
+
+/// 8D SCANTYPE: `n ->`. Sets which drop-out control it is.
+#[tactic(auto, unfolding(crate::specs::GraphicsRows::scantype_row))]
+pub fn scantype(store: &mut Store, graphics: &mut GState) -> Result<(), Cause>
+    ensures value { leaves result (store.new, graphics.new) ≡ scantype_row store.old graphics.old }
+    ensures sizes { HasSizes store.old store.new }
+{
+    let operand = store.one()?;
+    graphics.set_scan_type(operand);
     Ok(())
 }

@@ -10,6 +10,7 @@ ghost use Rattle.fx_machine.specs.Prepared.{Fits, glyph_end, glyph_events, ran_o
 ghost use Rattle.fx_machine.specs.Events.{Watches};
 ghost use Rattle.fx_machine.specs.Known.{Fails, with_state, prelude_of, machine_of, final_stack_of, glyph_run, glyph_ran, first_state};
 ghost use Rattle.fx_machine.specs.Known.{controls_of, prepared_from, prelude_events, machine_events, seen_by, glyph_run_events};
+ghost use Rattle.fx_gstate.specs.Scan.{wish_of};
 ghost use Rattle.fx_scale.specs.Scaling.{scale_of};
 ghost use Rattle.fx_machine.specs.Known.{Known};
 ghost use Rattle.fx_machine.specs.Blocks.{IsBlockOf, checksum_of, known_words, has_words};
@@ -19,12 +20,14 @@ use crate::halt::{Halt, MachineFault};
 use crate::limits::STEP_LIMIT;
 use crate::prepared::Prepared;
 use crate::program::{Program, Programs};
+use crate::ran::Ran;
 use crate::run::run;
 use crate::state::{State, table_or_empty};
 use crate::usage::Usage;
 use crate::watching::Watching;
 use fx_code::{Code, Targets};
 use fx_fixed::Ppem;
+use fx_gstate::Dropout;
 use fx_scale::Scale;
 use fx_sfnt::Font;
 use fx_zone::Zone;
@@ -32,7 +35,7 @@ use std::alloc::{AllocError, Global};
 use std::marker::Model;
 use std::mem::swap;
 
-/// Runs the program of a glyph on its points, from what `prep` left: what it has used up, or where and why it halted. The points
+/// Runs the program of a glyph on its points, from what `prep` left: what it comes to, or where and why it halted. The points
 /// keep their number and contours, and the state its sizes, also after a halt; the state's stack is then that of the program.
 #[tactic(auto, unfolding(crate::specs::Prepared::glyph_end, crate::specs::Prepared::glyph_events))]
 fn run_from<W: Watching>(
@@ -42,7 +45,7 @@ fn run_from<W: Watching>(
     targets: &mut Targets<'_>,
     zone: &mut Zone,
     watcher: &mut W,
-) -> Result<Usage, Halt>
+) -> Result<Ran, Halt>
     requires fits { Fits prepared.now state.old }
     requires targets { targets.old ≡ programs.now.font }
     ensures value { with_zone result zone.new ≡ ran_of
@@ -70,9 +73,13 @@ fn run_from<W: Watching>(
     );
     swap(&mut state.zones.glyph, zone);
     let steps = result?;
-    Ok(Usage {
+    let usage = Usage {
         steps: u64::from(steps),
         strays: state.strays(),
+    };
+    Ok(Ran {
+        usage,
+        wish: state.graphics.wish(),
     })
 }
 
@@ -307,6 +314,13 @@ impl<'a> Machine<'a> {
         self.prepared.flags.no_programs
     }
 
+    /// The drop-out control that `prep` asked for, if it did.
+    pub fn wish(&self) -> Option<Dropout>
+        ensures { result ≡ wish_of self.now.known.prepared.graphics }
+    {
+        self.prepared.graphics.wish()
+    }
+
     /// What `fpgm` and `prep` used up.
     pub fn prelude(&self) -> Usage
         ensures { result ≡ self.now.known.prelude }
@@ -321,7 +335,7 @@ impl<'a> Machine<'a> {
         self.ended_well.then_some(self.state.store.numbers())
     }
 
-    /// Runs the program of glyph `g` on its points, from what `prep` left: what it has used up, or where and why it halted. The
+    /// Runs the program of glyph `g` on its points, from what `prep` left: what it comes to, or where and why it halted. The
     /// points keep their number and contours, also after a halt. Nothing passes from one glyph to another. The watcher sees
     /// the program.
     #[tactic(auto, unfolding(crate::specs::Known::glyph_ran, crate::specs::Known::glyph_run, crate::specs::Known::glyph_run_events))]
@@ -331,7 +345,7 @@ impl<'a> Machine<'a> {
         code: Code<'_>,
         zone: &mut Zone,
         watcher: &mut W,
-    ) -> Result<Usage, Halt>
+    ) -> Result<Ran, Halt>
         ensures value { with_zone result zone.new ≡ glyph_ran self.old.known g code.entry zone.old }
         ensures shape { HasShape zone.old zone.new }
         ensures kept { self.new.known ≡ self.old.known }

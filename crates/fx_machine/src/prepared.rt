@@ -55,7 +55,7 @@ impl Prepared {
 
     /// Whether words say how long its lists are.
     fn has_sizes(&self, words: &[u32]) -> bool
-        requires { 18 ≤ length words.now }
+        requires { 20 ≤ length words.now }
         ensures right { IsTrue result → sizes_in words.now ≡ sizes_of self.now }
         ensures found { sizes_in words.now ≡ sizes_of self.now → IsTrue result }
     {
@@ -213,6 +213,8 @@ fn begun(flags: Flags, g: &GState) -> GState
         single_width_cut_in: g.single_width_cut_in,
         delta_base: g.delta_base,
         delta_shift: g.delta_shift,
+        scan_control: g.scan_control,
+        scan_type: g.scan_type,
         ..GState::new()
     }
 }

@@ -124,7 +124,7 @@ mppem_row ppem s = pushed (pos ppem) s
 unfoldable pub mps_row : ℕ → StoreView → Row
 mps_row ppem s = pushed (pos ppem) s
 
--- 4F DEBUG, 7E SANGW, 7F AA, 85 SCANCTRL, 8D SCANTYPE  a ->
+-- 4F DEBUG, 7E SANGW, 7F AA  a ->
 abbrev pub ignored_row : StoreView → Row
 ignored_row = pop_row
 

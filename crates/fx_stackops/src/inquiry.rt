@@ -39,7 +39,7 @@ impl Store {
         Ok(())
     }
 
-    /// 4F DEBUG, 7E SANGW, 7F AA, 85 SCANCTRL, 8D SCANTYPE: `a ->`, and nothing else.
+    /// 4F DEBUG, 7E SANGW, 7F AA: `a ->`, and nothing else.
     #[tactic(auto, unfolding(crate::specs::Rows::pop_row))]
     pub fn ignored(&mut self) -> Result<(), StackFault>
         ensures value { leaves result self.new ≡ ignored_row self.old }

@@ -1,7 +1,7 @@
-//! Rounding, vectors, deltas and refused arguments of the graphics state.
+//! Rounding, vectors, deltas, drop-out control and refused arguments of the graphics state.
 use fx_fixed::{Axis, F2, F26, Place, Ppem};
 use fx_gstate::{
-    BadArgument, Delta, DeltaForm, GState, RoundState, Vector, ZonePointer, super_grid,
+    BadArgument, Delta, DeltaForm, Dropout, GState, RoundState, Vector, ZonePointer, super_grid,
     super_grid_45,
 };
 use std::test::Fail;
@@ -161,6 +161,103 @@ fn deltas(rt: HostRuntime) -> Result<(), Fail> {
         assert!(rt; is_delta(delta, ppem, amount));
     }
     Ok(())
+}
+
+/// Numbers of SCANCTRL, sizes, and whether drop-out control is on afterwards, if it was off and if it was on.
+const CONTROLS: [(i32, u16, bool, bool); 19] = [
+    // The threshold 255 is for all sizes, and 0 for none.
+    (0x00FF, 1_024, true, true),
+    (0x01FF, 1, true, true),
+    (0x0000, 12, false, false),
+    (0x0100, 1, false, false),
+    // Bit 8: on up to the threshold.
+    (0x0110, 15, true, true),
+    (0x0110, 16, true, true),
+    (0x0110, 17, false, true),
+    // Bit 11: off above the threshold.
+    (0x0810, 16, false, true),
+    (0x0810, 17, false, false),
+    (0x0910, 16, true, true),
+    (0x0910, 17, false, false),
+    // Bits 9 and 10: on if the glyph is rotated or stretched, which none is.
+    (0x0610, 12, false, true),
+    (0x0A10, 12, false, true),
+    // Bits 12 and 13: off unless it is, also where bit 8 turns it on.
+    (0x1110, 12, false, false),
+    (0x2110, 12, false, false),
+    // Bits 14 and up mean nothing.
+    (0xC110, 16, true, true),
+    (0x7FFF_0110, 17, false, true),
+    (-1, 12, true, true),
+    (-65_536, 12, false, false),
+];
+
+/// What is asked for after SCANCTRL turned drop-out control off or on, and then came with this number.
+fn asked_after(on: bool, n: i32, pixels: u16) -> Option<Dropout> {
+    let ppem = Ppem::new(pixels)?;
+    let mut state = GState::new();
+    state.set_scan_control(if on { 0x01FF } else { 0 }, ppem);
+    state.set_scan_control(n, ppem);
+    state.wish()
+}
+
+/// What is asked for with scan type 0, on or off.
+fn simple(on: bool) -> Option<Dropout> {
+    if on {
+        Some(Dropout::Leftmost)
+    } else {
+        Some(Dropout::Off)
+    }
+}
+
+#[test]
+fn scan_control(rt: HostRuntime) {
+    for (n, pixels, off, on) in CONTROLS {
+        assert!(rt;
+            asked_after(false, n, pixels) == simple(off),
+            "{n} {pixels} off"
+        );
+        assert!(rt;
+            asked_after(true, n, pixels) == simple(on),
+            "{n} {pixels} on"
+        );
+    }
+}
+
+/// Numbers of SCANTYPE, and what is asked for with drop-out control on: type 4 was set before.
+const TYPES: [(i32, Dropout); 13] = [
+    (-1, Dropout::Nearest),
+    (0, Dropout::Leftmost),
+    (1, Dropout::Leftmost),
+    (2, Dropout::Off),
+    (3, Dropout::Off),
+    (4, Dropout::Nearest),
+    (5, Dropout::Nearest),
+    (6, Dropout::Off),
+    (7, Dropout::Off),
+    (8, Dropout::Off),
+    // No types.
+    (9, Dropout::Nearest),
+    (65_536, Dropout::Nearest),
+    (i32::MIN, Dropout::Nearest),
+];
+
+/// What is asked for with this scan type after type 4, before SCANCTRL and after it.
+fn typed(n: i32) -> Option<(Option<Dropout>, Option<Dropout>)> {
+    let ppem = Ppem::new(12)?;
+    let mut state = GState::new();
+    state.set_scan_type(4);
+    state.set_scan_type(n);
+    let before = state.wish();
+    state.set_scan_control(0x01FF, ppem);
+    Some((before, state.wish()))
+}
+
+#[test]
+fn scan_types(rt: HostRuntime) {
+    for (n, want) in TYPES {
+        assert!(rt; typed(n) == Some((None, Some(want))), "{n}");
+    }
 }
 
 #[test]

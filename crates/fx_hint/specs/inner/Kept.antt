@@ -12,6 +12,6 @@ kept_of (Some k) bytes points ends = Some (record {
   scale = k.scale;
   metrics = k.metrics;
   bytes = bytes;
-  made = record { zone = record { points = points; ends = ends }; phantoms = k.phantoms };
+  made = record { zone = record { points = points; ends = ends }; phantoms = k.phantoms; wish = k.wish };
   usage = k.usage;
 })

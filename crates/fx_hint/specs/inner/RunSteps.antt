@@ -1,5 +1,5 @@
 -- The walk over components by its steps, with a list of the programs that it starts.
-use Rattle.std.specs.Prelude.{ℕ, zero, suc, ◌-◌, List, [], ◌∷◌, pos, Result, Ok, Err}
+use Rattle.std.specs.Prelude.{ℕ, zero, suc, ◌-◌, List, [], ◌∷◌, pos, None, Result, Ok, Err}
 use Rattle.fx_fixed.specs.Chain.{◌>>=◌, map_fault}
 use Rattle.fx_sfnt.specs.declared.records.Metrics.{Metrics}
 use Rattle.fx_sfnt.specs.Tables.{Face}
@@ -28,7 +28,7 @@ LoggedOutcome = Result (Made × Logged) LoggedFault
 
 unfoldable pub logged_begun_by : Hinting → Scale → ℕ → ℕ → Metrics → glyf.Glyph → Logged → Result (Step × Logged) LoggedFault
 logged_begun_by h s root g m Empty count =
-    Ok (Assembled (record { zone = empty_figure; phantoms = phantoms_of s h.on (pos 0) m }), count)
+    Ok (Assembled (record { zone = empty_figure; phantoms = phantoms_of s h.on (pos 0) m; wish = None }), count)
 logged_begun_by h s root g m (Simple shape) count = do
   made ← logged_simple s h.on root m shape count
   ran ← logged_run h g shape.code made
@@ -38,7 +38,7 @@ logged_begun_by h s root g m (Composite assembly) count = Ok (
     g = g;
     glyph = assembly;
     parts = assembly.components;
-    base = record { zone = empty_figure; phantoms = phantoms_of s h.on assembly.x_min m };
+    base = record { zone = empty_figure; phantoms = phantoms_of s h.on assembly.x_min m; wish = None };
   }),
   count,
 )

@@ -1,5 +1,5 @@
 -- The walk over components by its steps, with the composites that are open.
-use Rattle.std.specs.Prelude.{ℕ, zero, suc, ◌-◌, List, [], ◌∷◌, length, pos, Result, Ok, Err}
+use Rattle.std.specs.Prelude.{ℕ, zero, suc, ◌-◌, List, [], ◌∷◌, length, pos, None, Result, Ok, Err}
 use Rattle.fx_fixed.specs.Chain.{◌>>=◌, map_fault}
 use Rattle.fx_sfnt.specs.declared.records.Metrics.{Metrics}
 use Rattle.fx_sfnt.specs.Tables.{Face}
@@ -29,7 +29,7 @@ Outcome = Result (Made × Count) HintFault
 -- a glyph that has been read, begun: an empty or a simple one is assembled, a composite is open
 unfoldable pub begun_by : Hinting → Scale → ℕ → ℕ → Metrics → glyf.Glyph → Count → Result (Step × Count) HintFault
 begun_by h s root g m Empty count =
-    Ok (Assembled (record { zone = empty_figure; phantoms = phantoms_of s h.on (pos 0) m }), count)
+    Ok (Assembled (record { zone = empty_figure; phantoms = phantoms_of s h.on (pos 0) m; wish = None }), count)
 begun_by h s root g m (Simple shape) count = do
   made ← simple_made s h.on root m shape count
   ran ← run_on h g shape.code made
@@ -39,7 +39,7 @@ begun_by h s root g m (Composite assembly) count = Ok (
     g = g;
     glyph = assembly;
     parts = assembly.components;
-    base = record { zone = empty_figure; phantoms = phantoms_of s h.on assembly.x_min m };
+    base = record { zone = empty_figure; phantoms = phantoms_of s h.on assembly.x_min m; wish = None };
   }),
   count,
 )
