@@ -73,6 +73,7 @@ class Graphics:
         self.round, self.grid, self.auto_flip = 1, None, True
         self.cut_in, self.minimum, self.single, self.single_cut_in = 68, 64, 0, 0
         self.delta_base, self.delta_shift = 9, 3
+        self.scan_control, self.scan_type = -1, 0
 
     def numbers(self):
         """Its numbers, in the order of GRAPHICS."""
@@ -620,6 +621,21 @@ class Machine:
             raise Halt("BadArgument")
         self.g.delta_shift = n
 
+    def set_scan_control(self):
+        """85 SCANCTRL: 1 for on, 0 for off. No glyph is rotated or stretched."""
+        n = self.pop() % 65536
+        threshold, flags = n % 256, n >> 8
+        on = max(0, self.g.scan_control)
+        if flags & 1 and self.ppem <= threshold:
+            on = 1
+        if flags & 8 and self.ppem > threshold or flags & 0x30:
+            on = 0
+        self.g.scan_control = {0: 0, 255: 1}.get(threshold, on)
+
+    def set_scan_type(self):
+        """8D SCANTYPE: the least type that asks for the same."""
+        self.g.scan_type = {0: 0, 1: 0, 2: 2, 3: 2, 4: 4, 5: 4, 6: 2, 7: 2, 8: 2}.get(self.pop(), self.g.scan_type)
+
 
 def rows():
     """The instruction table: from an opcode to what it does with the machine, the opcode and its address."""
@@ -668,7 +684,9 @@ def rows():
     sets((0x1E,), "single_cut_in")
     row((0x1F,), lambda m, op, here: setattr(m.g, "single", m.scaled(m.pop())))
     row((0x20,), lambda m, op, here: m.stack.extend([m.pop()] * 2))
-    row((0x21, 0x4F, 0x7E, 0x7F, 0x85, 0x8D), lambda m, op, here: m.pop())
+    row((0x21, 0x4F, 0x7E, 0x7F), lambda m, op, here: m.pop())
+    row((0x85,), lambda m, op, here: m.set_scan_control())
+    row((0x8D,), lambda m, op, here: m.set_scan_type())
     row((0x22,), lambda m, op, here: m.stack.clear())
     row((0x23,), lambda m, op, here: m.stack.extend(reversed(m.pop(2))))
     push((0x24,), lambda m, op: len(m.stack))

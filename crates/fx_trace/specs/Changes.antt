@@ -1,11 +1,14 @@
 -- What an instruction changed, as text (own): each part of the state that differs, with its value before and after.
-use Rattle.std.specs.Prelude.{ℕ, suc, ◌==◌, ℤ, pos, Bool, ◌&&◌, if◌then◌else◌, List, [], ◌∷◌, ◌++◌, codes}
+use Rattle.std.specs.Prelude.{ℕ, suc, ◌==◌, ℤ, pos, negsuc, Bool, ◌&&◌, if◌then◌else◌, Option, Some, None, List, [], ◌∷◌, ◌++◌, codes}
 use Rattle.std.specs.List.{flat_map}
 use Rattle.std.specs.Ordering.{int_eq}
 use Rattle.std.specs.Fmt.{decimal, signed_decimal}
 use Rattle.fx_fixed.specs.declared.places.Place.{Place}
 use Rattle.fx_gstate.specs.declared.rounding.RoundState.{RoundState}
 use Rattle.fx_gstate.specs.declared.rounding.RoundState.TheVariants.{ToGrid, ToHalfGrid, ToDoubleGrid, DownToGrid, UpToGrid, Off, Super}
+use Rattle.fx_gstate.specs.declared.scan.Dropout.{Dropout}
+use Rattle.fx_gstate.specs.declared.scan.Dropout.TheVariants.{Leftmost, Nearest}
+use Rattle.fx_gstate.specs.declared.scan.Dropout.TheVariants as dropout
 use Rattle.fx_gstate.specs.declared.state.GState.{GState}
 use Rattle.fx_gstate.specs.declared.zones.ZonePointer.{ZonePointer}
 use Rattle.fx_gstate.specs.declared.zones.ZonePointer.TheVariants.{Twilight, Glyph}
@@ -107,6 +110,17 @@ abbrev pub zone_number : ZonePointer → ℤ
 zone_number Twilight = pos 0
 zone_number Glyph = pos 1
 
+-- whether drop-out control is on; -1 before the first SCANCTRL
+abbrev pub control_number : Option Bool → ℤ
+control_number None = negsuc 0
+control_number (Some on) = pos (bit_of on)
+
+-- the least type of SCANTYPE that asks for this drop-out control
+abbrev pub type_number : Dropout → ℤ
+type_number Leftmost = pos 0
+type_number dropout.Off = pos 2
+type_number Nearest = pos 4
+
 -- a setting that is a number, by its name
 abbrev pub setting_name : Setting → List ℕ
 setting_name setting.Rp0 = codes "rp0"
@@ -122,6 +136,8 @@ setting_name setting.SingleWidth = codes "single-width"
 setting_name setting.SingleWidthCutIn = codes "single-width-cut-in"
 setting_name setting.DeltaBase = codes "delta-base"
 setting_name setting.DeltaShift = codes "delta-shift"
+setting_name setting.ScanControl = codes "scan-control"
+setting_name setting.ScanType = codes "scan-type"
 
 abbrev pub setting_of : Setting → GState → ℤ
 setting_of setting.Rp0 g = g.rp0
@@ -137,6 +153,8 @@ setting_of setting.SingleWidth g = g.single_width
 setting_of setting.SingleWidthCutIn g = g.single_width_cut_in
 setting_of setting.DeltaBase g = g.delta_base
 setting_of setting.DeltaShift g = pos g.delta_shift
+setting_of setting.ScanControl g = control_number g.scan_control
+setting_of setting.ScanType g = type_number g.scan_type
 
 abbrev pub setting_change : GState → GState → Setting → List ℕ
 setting_change was now s = number_change (setting_name s) (setting_of s was) (setting_of s now)

@@ -1,9 +1,9 @@
 //! The numbers of the graphics state, by name.
 
 ghost use Rattle.std.specs.Prelude.{◌≡◌};
-ghost use Rattle.fx_trace.specs.Changes.{setting_name, setting_of, zone_number, bit_of, round_name, round_number};
+ghost use Rattle.fx_trace.specs.Changes.{setting_name, setting_of, zone_number, control_number, type_number, bit_of, round_name, round_number};
 
-use fx_gstate::{GState, RoundState, ZonePointer};
+use fx_gstate::{Dropout, GState, RoundState, ZonePointer};
 
 /// A number of the graphics state (Apple TrueType Reference Manual, "Graphics state").
 #[derive(Clone, Copy, Debug, PartialEq, Eq)]
@@ -21,10 +21,12 @@ pub enum Setting {
     SingleWidthCutIn,
     DeltaBase,
     DeltaShift,
+    ScanControl,
+    ScanType,
 }
 
 /// All of them, in the order of a line.
-pub const SETTINGS: [Setting; 13] = [
+pub const SETTINGS: [Setting; 15] = [
     Setting::Rp0,
     Setting::Rp1,
     Setting::Rp2,
@@ -38,6 +40,8 @@ pub const SETTINGS: [Setting; 13] = [
     Setting::SingleWidthCutIn,
     Setting::DeltaBase,
     Setting::DeltaShift,
+    Setting::ScanControl,
+    Setting::ScanType,
 ];
 
 /// The number of a zone.
@@ -55,6 +59,28 @@ pub fn bit_of(bit: bool) -> u64
     ensures { result ≡ bit_of bit }
 {
     if bit { 1 } else { 0 }
+}
+
+/// Whether drop-out control is on, 1 or 0; -1 before the first SCANCTRL.
+fn control_number(control: Option<bool>) -> i32
+    ensures { result ≡ control_number control }
+{
+    match control {
+        None => -1,
+        Some(false) => 0,
+        Some(true) => 1,
+    }
+}
+
+/// The least type of SCANTYPE that asks for this drop-out control.
+fn type_number(kind: Dropout) -> i32
+    ensures { result ≡ type_number kind }
+{
+    match kind {
+        Dropout::Leftmost => 0,
+        Dropout::Off => 2,
+        Dropout::Nearest => 4,
+    }
 }
 
 impl Setting {
@@ -76,6 +102,8 @@ impl Setting {
             Setting::SingleWidthCutIn => b"single-width-cut-in",
             Setting::DeltaBase => b"delta-base",
             Setting::DeltaShift => b"delta-shift",
+            Setting::ScanControl => b"scan-control",
+            Setting::ScanType => b"scan-type",
         }
     }
 
@@ -97,6 +125,8 @@ impl Setting {
             Setting::SingleWidthCutIn => graphics.single_width_cut_in.0,
             Setting::DeltaBase => graphics.delta_base,
             Setting::DeltaShift => i32::from(graphics.delta_shift.shift()),
+            Setting::ScanControl => control_number(graphics.scan_control),
+            Setting::ScanType => type_number(graphics.scan_type),
         }
     }
 }
