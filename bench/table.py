@@ -95,16 +95,21 @@ def digest(path):
         return hashlib.sha256(file.read()).hexdigest()
 
 
-def environment():
+def environment(**more):
     # otf2bdf does not choose the interpreter's version itself
-    return dict(os.environ, FREETYPE_PROPERTIES="truetype:interpreter-version=35", LC_ALL="C")
+    return dict(os.environ, FREETYPE_PROPERTIES="truetype:interpreter-version=35", LC_ALL="C", **more)
+
+
+# valgrind counts `rep movsb` and `rep stosb`, by which glibc copies and fills long pieces, once for each byte; so glibc is told not to use
+# them. It copies and fills by vectors then.
+BY_VECTORS = "glibc.cpu.x86_rep_movsb_threshold=1000000000:glibc.cpu.x86_rep_stosb_threshold=1000000000"
 
 
 def instructions(tool, words, font, work):
     err = os.path.join(work, "valgrind")
     with open("/dev/null" if tool.takes_file else font, "rb") as source, open("/dev/null", "wb") as sink:
         subprocess.run(["valgrind", "--tool=callgrind", "--callgrind-out-file=/dev/null", "--log-file=" + err] + words, stdin=source,
-                       stdout=sink, stderr=sink, env=environment())
+                       stdout=sink, stderr=sink, env=environment(GLIBC_TUNABLES=BY_VECTORS))
     with open(err) as log:
         found = re.search(r"Collected : (\d+)", log.read())
     return int(found.group(1)) if found else None

@@ -68,6 +68,7 @@ fn start(
 }
 
 /// The program of a glyph runs on its points and phantom points; what it uses up is counted, and returned.
+#[inline(always)]
 #[tactic(auto, unfolding(crate::specs::Outlines::run_on))]
 fn run_on<H: Hinter>(
     hinter: &mut H,
@@ -157,6 +158,7 @@ impl<'w, 'a> Walk<'w, 'a> {
     }
 
     /// A glyph that has been read, begun: an empty or a simple one is assembled, a composite is open.
+    #[inline(always)]
     #[tactic(auto, unfolding(crate::specs::inner::Steps::begun_by, crate::specs::inner::RunSteps::begun_by_runs))]
     fn begun_by<H: Hinter>(
         &self,
@@ -296,6 +298,7 @@ impl<'w, 'a> Walk<'w, 'a> {
     }
 
     /// A waiting composite with its component.
+    #[inline(always)]
     fn joined(
         &self,
         hinted: bool,

@@ -1,7 +1,8 @@
 //! The instruction table, by the high nibble of the opcode, as its definition: in `opcodes_0x` to `opcodes_8x` the rows that
 //! continue at the next address, in `row` all others. Each arm names its opcodes; the last one of a nibble is for those without a
 //! row in it, which `row` does not send there. They are inlined, so that an instruction takes two jumps by table, and no action
-//! goes through memory.
+//! goes through memory. Those of `opcodes_0x`, `opcodes_7x` and `opcodes_8x` are seldom executed, and are called: the hint to
+//! inline `row` is dropped, with no message, if it would grow very large.
 
 ghost use Rattle.std.specs.Prelude.{◌≡◌, OnErr, ◌+◌, ◌≤◌};
 ghost use Rattle.fx_gstate.specs.States.{leaves};
@@ -27,6 +28,7 @@ use fx_pointops::Relative;
 
 impl State {
     /// MDRP and MIRP.
+    #[inline(always)]
     #[tactic(auto, unfolding(crate::specs::Table::relative_row))]
     fn move_relative(&mut self, opcode: u8) -> Result<(), Cause>
         ensures value { leaves result self.new ≡ relative_row opcode self.old }
@@ -53,7 +55,6 @@ impl State {
     }
 
     /// 00 to 0F: vectors, ISECT.
-    #[inline(always)]
     #[tactic(auto, unfolding(crate::specs::Table::opcodes_0x))]
     fn opcodes_0x(&mut self, opcode: u8) -> Result<(), Cause>
         ensures value { leaves result self.new ≡ opcodes_0x opcode self.old }
@@ -246,7 +247,6 @@ impl State {
     }
 
     /// 70 to 7F: control values, deltas, rounding.
-    #[inline(always)]
     #[tactic(auto, unfolding(crate::specs::Table::opcodes_7x))]
     fn opcodes_7x(&mut self, opcode: u8) -> Result<(), Cause>
         ensures value { leaves result self.new ≡ opcodes_7x opcode self.old }
@@ -278,7 +278,6 @@ impl State {
     }
 
     /// 80 to 8F: flips, SDPVTL, what is asked of the rasterizer.
-    #[inline(always)]
     #[tactic(auto, unfolding(crate::specs::Table::opcodes_8x))]
     fn opcodes_8x(&mut self, opcode: u8) -> Result<(), Cause>
         ensures value { leaves result self.new ≡ opcodes_8x opcode self.old }

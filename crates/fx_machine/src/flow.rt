@@ -30,6 +30,7 @@ fn number_below(count: usize, number: i32) -> Result<usize, Cause>
 
 /// Where a false `IF` of a program continues. In `fpgm` it is remembered: functions are called again and again, and with them the
 /// same `IF`s.
+#[inline(always)]
 fn past_false(
     code: &Code<'_>,
     targets: &mut Targets<'_>,
@@ -47,6 +48,7 @@ fn past_false(
 }
 
 /// Where an executed `ELSE` of a program continues, remembered in the same way.
+#[inline(always)]
 pub(crate) fn past_else(
     code: &Code<'_>,
     targets: &mut Targets<'_>,
@@ -77,6 +79,7 @@ impl State {
     }
 
     /// 58 IF, IF test: `e ->`. Continues, or if e is 0 after the ELSE or EIF of its level.
+    #[inline(always)]
     #[tactic(auto, unfolding(crate::specs::Flow::if_row))]
     pub(crate) fn if_else(
         &mut self,
@@ -177,6 +180,7 @@ impl State {
     }
 
     /// 2C FDEF, Function DEFinition: `f ->`. Function f is what follows up to its ENDF.
+    #[inline(always)]
     #[tactic(auto, unfolding(crate::specs::Flow::fdef_row))]
     pub(crate) fn fdef(
         &mut self,
@@ -200,6 +204,7 @@ impl State {
     }
 
     /// 89 IDEF, Instruction DEFinition: `o ->`. Opcode o is what follows up to its ENDF.
+    #[inline(always)]
     #[tactic(auto, unfolding(crate::specs::Flow::idef_row))]
     pub(crate) fn idef(
         &mut self,

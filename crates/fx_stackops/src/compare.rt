@@ -12,6 +12,7 @@ use fx_gstate::GState;
 
 impl Store {
     /// 50 LT, Less Than: `a b ->` 1 if a is below b, else 0.
+    #[inline(always)]
     #[tactic(auto, unfolding(crate::specs::Rows::lt_row))]
     pub fn lt(&mut self) -> Result<(), StackFault>
         ensures value { leaves result self.new ≡ lt_row self.old }
@@ -34,6 +35,7 @@ impl Store {
     }
 
     /// 52 GT, Greater Than: `a b ->` 1 if a is above b, else 0.
+    #[inline(always)]
     #[tactic(auto, unfolding(crate::specs::Rows::gt_row))]
     pub fn gt(&mut self) -> Result<(), StackFault>
         ensures value { leaves result self.new ≡ gt_row self.old }
@@ -67,6 +69,7 @@ impl Store {
     }
 
     /// 55 NEQ, Not EQual: `a b ->` 1 if they differ, else 0.
+    #[inline(always)]
     #[tactic(auto, unfolding(crate::specs::Rows::neq_row))]
     pub fn neq(&mut self) -> Result<(), StackFault>
         ensures value { leaves result self.new ≡ neq_row self.old }

@@ -26,6 +26,7 @@ impl Store {
     }
 
     /// 20 DUP, DUPlicate top: `a -> a a`.
+    #[inline(always)]
     #[tactic(auto, unfolding(crate::specs::Rows::dup_row))]
     pub fn dup(&mut self) -> Result<(), StackFault>
         ensures value { leaves result self.new ≡ dup_row self.old }
@@ -55,6 +56,7 @@ impl Store {
     }
 
     /// 23 SWAP, SWAP the top two: `a b -> b a`.
+    #[inline(always)]
     #[tactic(auto, unfolding(crate::specs::Rows::swap_row))]
     pub fn swap(&mut self) -> Result<(), StackFault>
         ensures value { leaves result self.new ≡ swap_row self.old }
@@ -77,6 +79,7 @@ impl Store {
     }
 
     /// 25 CINDEX, Copy the INDEXed element: `.. k -> .. x`, a copy of the k-th element from the top after k is popped.
+    #[inline(always)]
     #[tactic(auto, unfolding(crate::specs::Rows::cindex_row))]
     pub fn cindex(&mut self) -> Result<(), StackFault>
         ensures value { leaves result self.new ≡ cindex_row self.old }

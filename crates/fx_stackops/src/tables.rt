@@ -13,6 +13,7 @@ use fx_gstate::{Delta, DeltaForm, GState};
 
 impl Store {
     /// 42 WS, Write Store: `i v ->`. Storage cell i becomes v.
+    #[inline(always)]
     #[tactic(auto, unfolding(crate::specs::Rows::ws_row))]
     pub fn ws(&mut self) -> Result<(), StackFault>
         ensures value { leaves result self.new ≡ ws_row self.old }
@@ -26,6 +27,7 @@ impl Store {
     }
 
     /// 43 RS, Read Store: `i -> v`.
+    #[inline(always)]
     #[tactic(auto, unfolding(crate::specs::Rows::rs_row))]
     pub fn rs(&mut self) -> Result<(), StackFault>
         ensures value { leaves result self.new ≡ rs_row self.old }
@@ -40,6 +42,7 @@ impl Store {
     }
 
     /// 44 WCVTP, Write Control Value Table in Pixel units: `i v ->`. Control value i becomes v, in 26.6.
+    #[inline(always)]
     #[tactic(auto, unfolding(crate::specs::Rows::wcvtp_row))]
     pub fn wcvtp(&mut self) -> Result<(), StackFault>
         ensures value { leaves result self.new ≡ wcvtp_row self.old }
@@ -51,6 +54,7 @@ impl Store {
     }
 
     /// 45 RCVT, Read Control Value Table: `i -> v`.
+    #[inline(always)]
     #[tactic(auto, unfolding(crate::specs::Rows::rcvt_row))]
     pub fn rcvt(&mut self) -> Result<(), StackFault>
         ensures value { leaves result self.new ≡ rcvt_row self.old }

@@ -2,7 +2,7 @@
 -- Serves `write_one`, `write_all`, `write_text` and `write_strike`.
 use Rattle.std.proofs.Common.{◌≡◌, refl, sym, ap, ap₂, ◌∙◌, subst, append_assoc, arith, inr, ℕ, zero, suc, ◌-◌, ◌^◌, ◌<◌, OnOk, Bool, true, false, Option}
 use Rattle.std.proofs.Common.{List, [], ◌∷◌, ◌++◌, length, get_or, length-append, Result, Ok, Err, cond}
-use Rattle.std.specs.Prelude.{filter, not, ◌==◌}
+use Rattle.std.specs.Prelude.{filter, not}
 use Rattle.std.specs.List.{flat_map}
 use Rattle.std.specs.Borrow.{GName}
 use Rattle.std.proofs.KnownBytes.{Appends-nil}
@@ -10,7 +10,7 @@ use Rattle.std.proofs.lemmas.List.{append-nil}
 use Rattle.std.proofs.lemmas.Grind.{flat_map-append}
 use Rattle.fx_fixed.specs.Chain.{map_ok, map_chain}
 use Rattle.fx_fixed.specs.Texts.{TextView, Adds, Fails as WriterFails, after, begun}
-use Rattle.fx_fixed.proofs.Texts.{adds_nothing, adds_stopped, adds_text, adds_then}
+use Rattle.fx_fixed.proofs.Texts.{adds_stopped, adds_text, adds_then}
 use Rattle.fx_fixed.specs.declared.sink.WriteFailed.{WriteFailed as Failed}
 use Rattle.fx_fixed.proofs.Chain.{same_Ok}
 use Rattle.fx_cmap.specs.Lookup.{glyph_for}
@@ -151,13 +151,6 @@ record Due (setting : Setting) (refused : OnRefused) (code glyph : ℕ) (text : 
   pub text_is : text ≡ flat_map glyph_text glyphs
 
 module _ {setting : Setting} {refused : OnRefused} {code glyph : ℕ} {text : List ℕ} where
-  -- the font lacks it
-  pub adds_missing : {was : TextView} → glyph ≡ glyph_for setting.map code → glyph ≡ 0 → AreLinesOf setting refused code text
-      → AddsMore was was text (Ok tt)
-  adds_missing e m h =
-      let none : is_missing setting code ≡ true = ap (λ (n : ℕ). n == 0) (sym e ∙ m) in
-      adds_all (adds_text (sym (rw none at h.lines)) adds_nothing)
-
   due_lines : glyph ≡ glyph_for setting.map code → (glyph ≡ 0 → ⊥) → AreLinesOf setting refused code text
       → Due setting refused code glyph text
   due_lines e m h =

@@ -75,7 +75,7 @@ impl<'a, S: Scan> Tools<'a, S> {
         Ok(write_glyph(&drawn, text)?)
     }
 
-    /// Makes a character and writes its lines. A character that the font lacks, whose glyph is 0, has none.
+    /// Makes a character that the font has, and writes its lines.
     fn write_one<W: Sink>(
         &self,
         refused: OnRefused,
@@ -89,6 +89,7 @@ impl<'a, S: Scan> Tools<'a, S> {
         requires room { HasRoom text.old longest_glyph }
         requires code { code ≤ max_code }
         requires glyph { glyph ≡ glyph_for self.now.opened.map code }
+        requires here { ¬ (glyph ≡ 0) }
         requires cache { AreDue (due_in self.now.opened hinter.old) cache.old }
         ensures kept { hinter.new ≡ hinter.old }
         ensures cache { AreDue (due_in self.now.opened hinter.old) cache.new }
@@ -98,9 +99,6 @@ impl<'a, S: Scan> Tools<'a, S> {
         ensures lines { (lines : List ℕ) → AreLinesOf (setting_with self.now.opened self.now.rule hinter.old) refused code lines
             → AddsMore text.old text.new lines result }
     {
-        if glyph == 0 {
-            return Ok(());
-        }
         match self.sketch_at(hinter, cache, glyph) {
             Ok(sketched) => {
                 let written = self.write_drawn(code, &sketched, &mut hinter.scratch, text);
@@ -164,9 +162,13 @@ impl<'a, S: Scan> Tools<'a, S> {
             → AddsMore text.old text.new (flat_map (λ t. t) lines) result }
     {
         let mut map = self.opened.map.cursor();
-        // The lines of the code points so far were written.
+        // The lines of the code points so far were written. A character that the font lacks, whose glyph is 0, has none. It is left
+        // here, since a function fills its values with zeros when it begins.
         'codes: for code in codes {
             let glyph = map.glyph(*code);
+            if glyph == 0 {
+                continue;
+            }
             self.write_one(refused, hinter, cache, *code, glyph, text)?;
         }
         Ok(())

@@ -1,13 +1,10 @@
 use Rattle.fx_strike.proofs.Fates.{fate_drawn}
-use Rattle.fx_strike.proofs.Lines.{adds_missing, adds_fate, lines_drawn}
+use Rattle.fx_strike.proofs.Lines.{adds_fate, lines_drawn}
 use Rattle.fx_strike.proofs.tools.Tools.write_one.Goals as goal
-
-pub returns-then-glyph-eq0-clause-lines : goal.returns-then-glyph-eq0-clause-lines
-returns-then-glyph-eq0-clause-lines g c text h = adds_missing c.requires.glyph c.if-glyph-eq0.true h
 
 pub returns-in-Ok-clause-lines : goal.returns-in-Ok-clause-lines
 returns-in-Ok-clause-lines g c text h =
-    adds_fate c.write_drawn-written.result c.requires.glyph c.if-glyph-eq0.false
+    adds_fate c.write_drawn-written.result c.requires.glyph c.requires.here
     (fate_drawn _ c.args.refused c.args.code c.args.glyph _ ((c.in-Ok.ensures).sketch c.args.code))
     (λ due glyphs is of drawn. lines_drawn due c.in-Ok.sketched glyphs c.write_drawn-written.ensures.lines is of drawn) h
 
