@@ -6,8 +6,8 @@ commands='make show outline dump trace explain'
 print_synopses() {
     cat <<'END'
     mkstrike make --ppem N --chars LIST [--name NAME] [--property KEY=VALUE]... [--x11] [--refused WHAT] [--missing] [--unhinted]
-                  [--dropout] [--face N] [--hex] [FONT] [-o FILE]
-    mkstrike show --ppem N --char HEX | --glyph G [--unhinted] [--dropout] [--face N] [--hex] [FONT] [-o FILE]
+                  [--dropout[=WHAT]] [--face N] [--hex] [FONT] [-o FILE]
+    mkstrike show --ppem N --char HEX | --glyph G [--unhinted] [--dropout[=WHAT]] [--face N] [--hex] [FONT] [-o FILE]
     mkstrike outline --ppem N --char HEX | --glyph G [--unhinted] [--face N] [--hex] [FONT] [-o FILE]
     mkstrike dump --of WHAT [--face N] [--hex] [FONT] [-o FILE]
     mkstrike trace --ppem N --char HEX | --glyph G | --of WHAT [--face N] [--hex] [FONT] [-o FILE]
@@ -30,7 +30,7 @@ mkstrike make writes a strike: the bitmaps of characters at one size.
                               (drawn without hinting if its program halts, else left out)
       --missing               name all missing characters on standard error, not the first alone
       --unhinted              do not run the font's own programs
-      --dropout               keep thin strokes whole
+      --dropout[=WHAT]        keep thin strokes whole, by left pixels (left, the default) or by nearer ones (near)
       --face N                the font of a collection, counted from 0; without it the first
       --hex                   the font is hexadecimal text
       -o FILE                 write to FILE, which is there only if all was done; else to standard output
@@ -46,15 +46,15 @@ mkstrike show writes the picture of one glyph.
 
     mkstrike show --ppem N --char HEX | --glyph G [OPTION].. [FONT] [-o FILE]
 
-      --ppem N      the size in pixels per em, 1 to 1024
-      --char HEX    the glyph of a character, one hexadecimal number; the letter A is 41
-      --glyph G     a glyph by its number in the font, counted from 0, in place of --char
-      --unhinted    do not run the font's own programs
-      --dropout     keep thin strokes whole
-      --face N      the font of a collection, counted from 0; without it the first
-      --hex         the font is hexadecimal text
-      -o FILE       write to FILE, which is there only if all was done; else to standard output
-      FONT          the font's file; else standard input
+      --ppem N            the size in pixels per em, 1 to 1024
+      --char HEX          the glyph of a character, one hexadecimal number; the letter A is 41
+      --glyph G           a glyph by its number in the font, counted from 0, in place of --char
+      --unhinted          do not run the font's own programs
+      --dropout[=WHAT]    keep thin strokes whole, by left pixels (left, the default) or by nearer ones (near)
+      --face N            the font of a collection, counted from 0; without it the first
+      --hex               the font is hexadecimal text
+      -o FILE             write to FILE, which is there only if all was done; else to standard output
+      FONT                the font's file; else standard input
 
     mkstrike show --ppem 16 --char 41 font.ttf
 END

@@ -95,18 +95,21 @@ enum {
     MKSTRIKE_BAD_CHARS = 61,
     MKSTRIKE_BAD_NAME = 62,
     MKSTRIKE_BAD_PROPERTY = 63, /* no call gives it: a strike made here has no properties of its own */
-    MKSTRIKE_BAD_MODE = 64,     /* a bit of the mode that the call does not know */
+    MKSTRIKE_BAD_MODE = 64,     /* a bit of the mode that the call does not know, or two that can't be together */
     MKSTRIKE_BAD_BLOCK = 65,    /* the words are not a block of this font, face and size */
 
     MKSTRIKE_OUT_OF_MEMORY = 90
 };
 
 /* A mode: 0, or a sum of these. Hinted, the font's programs run. With drop-out control thin strokes stay whole: if the outline passes
- * between the centres of two neighbours in a row or a column and neither is set, the left one, or the lower one, is. Packed, a pixel is
+ * between the centres of two neighbours in a row or a column and neither is set, the left one, or the lower one, is; with
+ * MKSTRIKE_DROPOUT_NEAR in place of MKSTRIKE_DROPOUT the one to which the outline is nearer is. Packed, a pixel is
  * a bit, the leftmost the highest of its byte, and a row takes whole bytes, the last filled up with 0; not packed, a pixel is a byte, 255
- * if it is set and 0 if not. All other bits, and MKSTRIKE_PACKED for mkstrike_make, are refused by MKSTRIKE_BAD_MODE, before all else. */
+ * if it is set and 0 if not. All other bits, both bits of drop-out control together, and MKSTRIKE_PACKED for mkstrike_make are refused by
+ * MKSTRIKE_BAD_MODE, before all else. */
 #define MKSTRIKE_HINTED UINT32_C(0x001)
 #define MKSTRIKE_DROPOUT UINT32_C(0x002)
+#define MKSTRIKE_DROPOUT_NEAR UINT32_C(0x004)
 #define MKSTRIKE_PACKED UINT32_C(0x100)
 
 /* In a refusal: no glyph, no program, no character; the font's two programs that belong to no glyph. */

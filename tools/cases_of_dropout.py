@@ -67,8 +67,8 @@ class Drawn(Simple):
         numbers = [int(row.replace("#", "1").replace(".", "0"), 2) for row in reversed(rows)]
         self.drawn = due.Bits(left, bottom, width, numbers) if rows else due.NO_BITS
 
-    def closed_bits(self, font, ppem, move):
-        assert move == 0
+    def closed_bits(self, font, ppem, move, near):
+        assert move == 0 and not near
         return self.drawn
 
 
@@ -120,7 +120,7 @@ def random_outlines():
             around = Font([Empty()], {}, upem=UNIT)
             glyphs = [glyph for glyph in made if is_bent(around, glyph, ppem)]
             font = unmoved([Empty(), *glyphs], {A + k: 1 + k for k in range(len(glyphs))})
-            for more, closed in (("--dropout", True), ("", False)):
+            for more, closed in (("--dropout", True), ("--dropout=near", "near"), ("", False)):
                 yield Run("seed %d at %d %s" % (seed, ppem, more), asked(ppem, font.codes, False, more), font.data(),
                           font.make(font.codes, ppem, False, closed=closed))
 
@@ -151,8 +151,10 @@ def words_with_dropout():
             ("make --ppem 16 --chars 41 --dropout --hex", data.hex().encode(), made),
             ("", b"make --ppem 16 --chars 41 --dropout\n" + data, made),
             ("show --ppem 16 --char 42 --dropout", data, listed(["missing"])),
+            ("make --ppem 16 --chars 41 --dropout=left", data, made), ("make --ppem 16 --chars 41 --dropout=near", data, made),
             ("make --ppem 16 --chars 41 --dropout --dropout", data, usage()),
-            ("make --ppem 16 --chars 41 --dropout=1", data, usage()),
+            ("make --ppem 16 --chars 41 --dropout=near --dropout", data, usage()),
+            ("make --ppem 16 --chars 41 --dropout=1", data, usage()), ("make --ppem 16 --chars 41 --dropout=", data, usage()),
             ("make --ppem 16 --chars 41 --dropout font", data, usage()), ("dump --of 1 --dropout", data, usage()),
             ("make --ppem 16 --chars 41 --drop-out", data, usage())):
         yield Run(words or "on the first line", words, given, answer)

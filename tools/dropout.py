@@ -2,22 +2,27 @@
 
 Where an outline passes between the centres of two neighbours in a row, neither of which is covered, the left one is set; then the
 same in columns, for neighbours that are not set yet, where the lower one is set. If that one lies outside the frame, the other is.
+By the nearer pixel it is the second one if more of the 63 places beside it are covered than of those beside the first.
 Coordinates are in 1/128 pixel. A piece is (a, None, c) or (a, b, c), with its three points not on one line.
 """
 import due
 
 
-def bits_of(pieces):
-    """The pixels that are set of these pieces."""
+def bits_of(pieces, near=False):
+    """The pixels that are set of these pieces, by the left and the lower pixels of gaps or by the nearer ones."""
     points = [point for piece in pieces for point in piece if point]
     if not points:
         return due.NO_BITS
     columns, rows = (kept(min(values), max(values)) for values in ([x for x, _ in points], [y for _, y in points]))
     around = [(i, j) for i in range(columns.start - 1, columns.stop + 1) for j in range(rows.start - 1, rows.stop + 1)]
     covered = {(i, j) for i, j in around if due.covered(pieces, *centre(i, j))}
-    by_rows = covered | bridges(pieces, columns, rows, covered)
     turned = [tuple(point and point[::-1] for point in piece) for piece in pieces]
-    by_columns = bridges(turned, rows, columns, {(j, i) for i, j in by_rows})
+    if near:
+        by_rows = covered | near_bridges(pieces, columns, rows, covered, lambda i, j: is_nearer(pieces, centre(i, j), (1, 0)))
+        by_columns = near_bridges(turned, rows, columns, {(j, i) for i, j in by_rows}, lambda j, i: is_nearer(pieces, centre(i, j), (0, 1)))
+    else:
+        by_rows = covered | bridges(pieces, columns, rows, covered)
+        by_columns = bridges(turned, rows, columns, {(j, i) for i, j in by_rows})
     found = by_rows | {(i, j) for j, i in by_columns}
     return due.bits_of([(x, y, x, y) for x, y in ((64 * i + 32, 64 * j + 32) for i, j in found)])
 
@@ -38,6 +43,19 @@ def bridges(pieces, columns, rows, so_far):
     """The pixels of a frame that close a gap of a row: the one to their right; or to their left, if the left pixel is outside."""
     return {(i, j) for j in rows for i in columns if is_gap(pieces, so_far, i, j)
             or i - 1 not in columns and is_gap(pieces, so_far, i - 1, j)}
+
+
+def near_bridges(pieces, columns, rows, so_far, is_right):
+    """The pixels of a frame that close a gap of a row: the right one if that is the nearer, or the other if it is outside."""
+    gaps = [(i, j) for j in rows for i in range(columns.start - 1, columns.stop) if is_gap(pieces, so_far, i, j)]
+    chosen = [((i + 1, i) if is_right(i, j) else (i, i + 1), j) for i, j in gaps]
+    return {(first if first in columns else other, j) for (first, other), j in chosen}
+
+
+def is_nearer(pieces, p, step):
+    """Whether of the places from a centre to the next one, by steps, more are covered in the second half than in the first."""
+    places = [(p[0] + n * step[0], p[1] + n * step[1]) for n in range(128)]
+    return sum(due.covered(pieces, x, y) for x, y in places[65:]) > sum(due.covered(pieces, x, y) for x, y in places[1:64])
 
 
 def is_gap(pieces, so_far, i, j):

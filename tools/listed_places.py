@@ -16,6 +16,7 @@ PLACES = {
     "crates/fx_arguments/src/lines.rt": ["let _ = put_all(err, line.text())"],
     "crates/fx_arguments/src/mistakes.rt": ["from_slice(alloc, before)"],
     "crates/fx_arguments/src/read_ahead.rt": ["from_slice(alloc, self.text)"],
+    "crates/fx_dropout/src/filled.rt": ["vec![in alloc; 0u32; words.len()]"],
     "crates/fx_fixed/src/memory.rt": ["with_capacity(alloc, capacity)"],
     "crates/fx_hint/src/keeping.rt": [
         "with_capacity(alloc, PLACES)",

@@ -30,10 +30,10 @@ class Empty:
         """Its contours of points (x, y, on) in 1/64 pixels, if its program moves none."""
         return []
 
-    def closed_bits(self, font, ppem, move):
-        """Its pixels with drop-out control, found one by one."""
+    def closed_bits(self, font, ppem, move, near):
+        """Its pixels with drop-out control, by the nearer pixels or not, found one by one."""
         contours = [[(x + move, y, on) for x, y, on in contour] for contour in self.placed(font, ppem)]
-        return dropout.bits_of([piece for contour in contours for piece in due.pieces_of(contour)])
+        return dropout.bits_of([piece for contour in contours for piece in due.pieces_of(contour)], near)
 
 
 class Simple(Empty):
@@ -155,7 +155,7 @@ class Font:
         return self.counts_of_model(self.glyphs[number])
 
     def glyph(self, number, ppem, hinted, closed=False):
-        """A glyph at a size as the text has it; `closed` says whether with drop-out control."""
+        """A glyph at a size as the text has it; `closed` says whether with drop-out control, and "near" by the nearer pixels."""
         advance, bearing = self.metrics_of(number)
         return self.glyph_of_model(self.glyphs[number], ppem, hinted, closed, advance, bearing)
 
@@ -173,7 +173,7 @@ class Font:
         """The same of a glyph's model, advance and left side bearing."""
         start, end = self.span(model, ppem, hinted, advance, bearing)
         steps, strays = self.counts_of_model(model) if hinted else (0, 0)
-        bits = model.closed_bits(self, ppem, -start) if closed else model.bits(self, ppem, hinted, -start)
+        bits = model.closed_bits(self, ppem, -start, closed == "near") if closed else model.bits(self, ppem, hinted, -start)
         return due.Glyph(bits, advance, end - start, steps, strays)
 
     def make(self, codes, ppem, hinted=True, name=due.STRIKE, properties=(), x11=False, closed=False):

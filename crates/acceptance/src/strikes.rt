@@ -2,7 +2,7 @@
 use crate::fonts::{ARC, RING, STRIKE, fixture, font, of_points, patch};
 use fx_fixed::{Limits, MemorySink, Sink};
 use fx_machine::Usage;
-use fx_request::{Mode, OnRefused, Refusal, Report, Request};
+use fx_request::{Dropout, Mode, OnRefused, Refusal, Report, Request};
 use fx_sfnt::FontFile;
 use fx_strike::{Title, make_strike};
 use std::alloc::Global;
@@ -12,13 +12,13 @@ use std::test::Fail;
 /// Neither hinting nor drop-out control.
 pub const UNHINTED: Mode = Mode {
     hinting: false,
-    dropout: false,
+    dropout: Dropout::Off,
 };
 
 /// Hinting alone.
 pub const HINTED: Mode = Mode {
     hinting: true,
-    dropout: false,
+    dropout: Dropout::Off,
 };
 
 /// A name alone.

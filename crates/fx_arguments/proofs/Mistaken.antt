@@ -9,18 +9,20 @@ use Rattle.fx_bdf.specs.Properties.{PropertyView}
 use Rattle.fx_machine.specs.declared.program.FontProgram.{FontProgram}
 use Rattle.fx_request.specs.declared.refusal.Refusal.TheVariants.{BadChars}
 use Rattle.fx_request.specs.declared.request.Choice.TheVariants.{Character, Number}
+use Rattle.fx_request.specs.declared.request.Dropout.TheVariants.{Off}
 use Rattle.fx_request.specs.declared.request.OnRefused.TheVariants.{Stop}
 use Rattle.fx_arguments.specs.declared.fault.Fault.{Fault}
 use Rattle.fx_arguments.specs.declared.fault.Fault.TheVariants.{Usage, Early}
 use Rattle.fx_arguments.specs.declared.verb.Verb.{Verb}
 use Rattle.fx_arguments.specs.declared.verb.Verb.TheVariants.{Make, Show, Outline, Dump, Trace}
+use Rattle.fx_arguments.specs.Arguments.{dropout_by, mode_by, named_dropout}
 use Rattle.fx_arguments.specs.Arguments.{dump_app, dump_by, face_by, is_command, make_app, make_by, named_refused, refused_by, rows_by, show_app, show_by}
 use Rattle.fx_arguments.specs.Arguments.{choice_by, command_of_dump, command_of_make, command_of_outline, command_of_show, outline_app, outline_by, shown_by}
 use Rattle.fx_arguments.specs.Arguments.{command_of_trace, size_by, size_of, trace_app, trace_by, traced_by, unsigned_of, which_of}
 use Rattle.fx_arguments.specs.Chars.{number_of}
 use Rattle.fx_arguments.specs.CommandLine.{MistakesAreUsage, command_of, command_of_explain}
 use Rattle.fx_arguments.specs.Commands.{CommandView}
-use Rattle.fx_arguments.specs.Mistakes.{checked, checked_by, command_said, dump_checked, face_checked, make_checked, properties_checked}
+use Rattle.fx_arguments.specs.Mistakes.{checked, checked_by, command_said, dropout_checked, dump_checked, face_checked, make_checked, properties_checked}
 use Rattle.fx_arguments.specs.Mistakes.{choice_checked, outline_checked, refused_checked, required, show_checked, shown_checked, size_checked, taken_if, verb_checked}
 use Rattle.fx_arguments.specs.Mistakes.{trace_checked, traced_checked}
 use Rattle.fx_arguments.specs.Properties.{properties_of, property_of}
@@ -66,6 +68,18 @@ same_refused : (o : Option Text) → Same (refused_by o) (refused_checked o)
 same_refused None = inr ((Stop, refl), (tt, refl))
 same_refused (Some text) = same_value (named_refused text) _
 
+same_dropout : (o : Option Text) → Same (dropout_by o) (dropout_checked o)
+same_dropout None = inr ((Off, refl), (tt, refl))
+same_dropout (Some text) = same_value (named_dropout text) _
+
+-- the same of what is made of a value
+same_made : {A B C : Type 0} (a : Result A Fault) (b : Result B Text) (f : A → C) → Same a b → Same (a >>= λ x. Ok (f x)) b
+same_made a b f (inl (e, d)) = rw e (inl (refl, d))
+same_made a b f (inr ((x, e), d)) = rw e (inr ((f x, refl), d))
+
+same_mode : (rows : List Row) → Same (mode_by rows) (dropout_checked (first_of (codes "dropout") rows))
+same_mode rows = same_made _ _ _ (same_dropout (first_of (codes "dropout") rows))
+
 both : (one : Option PropertyView) (more : Option (List PropertyView)) (line : Text) (rest : Result (Unit {0}) Text)
     → Same (wanted more Usage) rest
     → Same (wanted (option_and_then (λ p. option_map (λ ps. p ∷ ps) more) one) Usage)
@@ -94,7 +108,8 @@ make_ends rows =
     step _ _ _ _ (same_required (codes "chars") (first_of (codes "chars") rows)) (λ _ _.
     step _ _ _ _ (same_properties (unwrap_or (all_of (codes "property") rows) [])) (λ _ _.
     step _ _ _ _ (same_refused (first_of (codes "refused") rows)) (λ _ _.
-    last _ _ _ (same_face (first_of (codes "face") rows)) (λ _. no_usage _ _)))))
+    step _ _ _ _ (same_face (first_of (codes "face") rows)) (λ _ _.
+    last _ _ _ (same_mode rows) (λ _. no_usage _ _))))))
 
 -- a character, which may be malformed but is no usage fault
 character_ends : (o : Option ℕ) → Ends {B = Unit {0}} (map_ok Character (wanted o (Early BadChars))) (Ok tt)
@@ -122,7 +137,8 @@ shown_ends : (rows : List Row) → Ends (shown_by rows) (shown_checked rows)
 unfolding shown_checked
 shown_ends rows =
     step _ _ _ _ (same_size (first_of (codes "ppem") rows)) (λ ppem _.
-    value_last _ _ _ (choice_ends (first_of (codes "char") rows) (first_of (codes "glyph") rows)))
+    step _ _ _ _ (same_mode rows) (λ mode _.
+    value_last _ _ _ (choice_ends (first_of (codes "char") rows) (first_of (codes "glyph") rows))))
 
 show_ends : (rows : List Row) → Ends (show_by rows) (show_checked rows)
 unfolding show_checked

@@ -16,6 +16,8 @@ use Rattle.fx_machine.specs.declared.program.FontProgram.{FontProgram}
 use Rattle.fx_machine.specs.declared.program.FontProgram.TheVariants.{Fpgm, Prep, Glyph}
 use Rattle.fx_request.specs.declared.request.Choice.{Choice}
 use Rattle.fx_request.specs.declared.request.Choice.TheVariants.{Character, Number}
+use Rattle.fx_request.specs.declared.request.Dropout.{Dropout}
+use Rattle.fx_request.specs.declared.request.Dropout.TheVariants.{Off, Left, Near}
 use Rattle.fx_request.specs.declared.request.Mode.{Mode}
 use Rattle.fx_request.specs.declared.request.OnRefused.{OnRefused}
 use Rattle.fx_request.specs.declared.request.OnRefused.TheVariants.{Stop, LeaveOut, Unhinted}
@@ -41,18 +43,31 @@ many_rule id = record (new_rule id) { long = Some id; action = Some Append }
 abbrev pub flag_rule : Text → Rule
 flag_rule id = record (new_rule id) { long = Some id; action = Some SetTrue }
 
+-- an option `--id=VALUE`; `--id` alone stands for one of its values
+abbrev pub choice_rule : Text → Text → Rule
+choice_rule id value = record (new_rule id) {
+  long = Some id;
+  action = Some Set;
+  range = Some (record { start_inclusive = 0; end_inclusive = 1 });
+  missing = value ∷ [];
+}
+
+-- the option `--dropout`
+abbrev pub dropout_rule : Rule
+dropout_rule = choice_rule (codes "dropout") (codes "left")
+
 -- the command `make` with its options
 unfoldable pub make_app : App
 make_app = with_rule (with_rule (with_rule (with_rule (with_rule (with_rule (with_rule (with_rule (with_rule (with_rule
     (new_app (codes "make")) (option_rule (codes "ppem"))) (option_rule (codes "chars"))) (option_rule (codes "name")))
     (many_rule (codes "property"))) (flag_rule (codes "x11"))) (option_rule (codes "refused"))) (flag_rule (codes "unhinted")))
-    (flag_rule (codes "dropout"))) (option_rule (codes "face"))) (flag_rule (codes "hex"))
+    dropout_rule) (option_rule (codes "face"))) (flag_rule (codes "hex"))
 
 -- the command `show` with its options
 unfoldable pub show_app : App
 show_app = with_rule (with_rule (with_rule (with_rule (with_rule (with_rule (with_rule (new_app (codes "show"))
     (option_rule (codes "ppem"))) (option_rule (codes "char"))) (option_rule (codes "glyph"))) (flag_rule (codes "unhinted")))
-    (flag_rule (codes "dropout"))) (option_rule (codes "face"))) (flag_rule (codes "hex"))
+    dropout_rule) (option_rule (codes "face"))) (flag_rule (codes "hex"))
 
 -- the command `outline` with its options
 unfoldable pub outline_app : App
@@ -96,9 +111,20 @@ is_true (Some text) = bytes_eq text (codes "true")
 abbrev pub is_given : Text → List Row → Bool
 is_given id rows = is_true (first_of id rows)
 
--- how outlines become pixels: the font's programs run unless `--unhinted` was given, and drop-out control is on if `--dropout` was
-abbrev pub mode_by : List Row → Mode
-mode_by rows = record { hinting = not (is_given (codes "unhinted") rows); dropout = is_given (codes "dropout") rows }
+-- which pixels drop-out control sets, by its name
+abbrev pub named_dropout : Text → Option Dropout
+named_dropout text = if bytes_eq text (codes "left") then Some Left else (if bytes_eq text (codes "near") then Some Near else None)
+
+-- drop-out control is off unless `--dropout` was given
+abbrev pub dropout_by : Option Text → Result Dropout Fault
+dropout_by None = Ok Off
+dropout_by (Some text) = wanted (named_dropout text) Usage
+
+-- how outlines become pixels: the font's programs run unless `--unhinted` was given
+abbrev pub mode_by : List Row → Result Mode Fault
+mode_by rows = do
+  dropout ← dropout_by (first_of (codes "dropout") rows)
+  Ok (record { hinting = not (is_given (codes "unhinted") rows); dropout = dropout })
 
 -- a size that is required
 abbrev pub size_by : Option Text → Result ℕ Fault
@@ -127,6 +153,7 @@ make_by rows = do
   properties ← wanted (properties_of (unwrap_or (all_of (codes "property") rows) [])) Usage
   refused ← refused_by (first_of (codes "refused") rows)
   face ← face_by (first_of (codes "face") rows)
+  mode ← mode_by rows
   chars ← wanted (numbers_of_list list) (Early BadChars)
   Ok (record {
     task = strike (record {
@@ -135,7 +162,7 @@ make_by rows = do
       name = unwrap_or (first_of (codes "name") rows) (codes "strike");
       properties = properties;
       x11 = is_given (codes "x11") rows;
-      mode = mode_by rows;
+      mode = mode;
       on_refused = refused;
     });
     face = face;
@@ -153,8 +180,9 @@ choice_by (Some character) (Some number) = Err Usage
 abbrev pub shown_by : List Row → Result Show Fault
 shown_by rows = do
   ppem ← size_by (first_of (codes "ppem") rows)
+  mode ← mode_by rows
   choice ← choice_by (first_of (codes "char") rows) (first_of (codes "glyph") rows)
-  Ok (record { ppem = ppem; choice = choice; mode = mode_by rows })
+  Ok (record { ppem = ppem; choice = choice; mode = mode })
 
 -- what the values of `show`'s options ask for
 abbrev pub show_by : List Row → Result CommandView Fault

@@ -11,7 +11,7 @@ use Rattle.fx_arguments.specs.declared.said.Said.{Said}
 use Rattle.fx_arguments.specs.declared.said.Said.TheVariants.{Line, Stopped}
 use Rattle.fx_arguments.specs.declared.verb.Verb.{Verb}
 use Rattle.fx_arguments.specs.declared.verb.Verb.TheVariants.{Make, Show, Outline, Dump, Trace}
-use Rattle.fx_arguments.specs.Arguments.{dump_app, is_command, make_app, named_refused, outline_app, rows_by, show_app, size_of, unsigned_of}
+use Rattle.fx_arguments.specs.Arguments.{dump_app, is_command, make_app, named_dropout, named_refused, outline_app, rows_by, show_app, size_of, unsigned_of}
 use Rattle.fx_arguments.specs.Arguments.{trace_app, which_of}
 use Rattle.fx_arguments.specs.Properties.{property_of}
 
@@ -57,6 +57,11 @@ abbrev pub refused_checked : Option Text → Result (Unit {0}) Text
 refused_checked None = Ok tt
 refused_checked (Some text) = taken_if (is_some (named_refused text)) (codes "refused") (codes "stop, leave-out or unhinted") text
 
+-- which pixels drop-out control sets, if it is given
+abbrev pub dropout_checked : Option Text → Result (Unit {0}) Text
+dropout_checked None = Ok tt
+dropout_checked (Some text) = taken_if (is_some (named_dropout text)) (codes "dropout") (codes "left or near") text
+
 -- properties, each KEY=VALUE
 unfoldable pub properties_checked : List Text → Result (Unit {0}) Text
 properties_checked [] = Ok tt
@@ -71,7 +76,8 @@ make_checked rows = do
   _ ← required (codes "chars") (first_of (codes "chars") rows)
   _ ← properties_checked (unwrap_or (all_of (codes "property") rows) [])
   _ ← refused_checked (first_of (codes "refused") rows)
-  face_checked (first_of (codes "face") rows)
+  _ ← face_checked (first_of (codes "face") rows)
+  dropout_checked (first_of (codes "dropout") rows)
 
 -- a glyph is chosen by a character or by its number, and not by both
 abbrev pub choice_checked : Option Text → Option Text → Result (Unit {0}) Text
@@ -85,6 +91,7 @@ choice_checked (Some character) (Some number) = Err (said (codes "--char and --g
 unfoldable pub shown_checked : List Row → Result (Unit {0}) Text
 shown_checked rows = do
   _ ← size_checked (first_of (codes "ppem") rows)
+  _ ← dropout_checked (first_of (codes "dropout") rows)
   choice_checked (first_of (codes "char") rows) (first_of (codes "glyph") rows)
 
 -- of `show`'s

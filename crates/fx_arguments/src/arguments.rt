@@ -4,7 +4,7 @@ ghost use Rattle.std.specs.Str.{bytes_eq};
 ghost use Rattle.clap.specs.Words.{found_of, rows_of};
 ghost use Rattle.fx_fixed.specs.Chain.{GivesUnless, map_ok, wanted};
 ghost use Rattle.fx_arguments.specs.Arguments.{choice_by, command_of_dump, command_of_make, command_of_outline, command_of_show, command_of_trace};
-ghost use Rattle.fx_arguments.specs.Arguments.{dump_by, face_by, is_command, make_by, mode_by, named_refused, outline_by, refused_by, show_by};
+ghost use Rattle.fx_arguments.specs.Arguments.{dropout_by, dump_by, face_by, is_command, make_by, mode_by, named_dropout, named_refused, outline_by, refused_by, show_by};
 ghost use Rattle.fx_arguments.specs.Arguments.{shown_by, size_by, texts, trace_by, traced_by, which_of};
 ghost use Rattle.fx_arguments.specs.CommandLine.{command_of, command_of_explain};
 ghost use Rattle.fx_arguments.specs.Commands.{Refuses, seen};
@@ -19,7 +19,7 @@ use crate::properties::given_properties;
 use crate::values::{face_of, is_given, matches, size_of, value, values};
 use clap::ArgMatches;
 use fx_machine::FontProgram;
-use fx_request::{Choice, Mode, OnRefused, Refusal};
+use fx_request::{Choice, Dropout, Mode, OnRefused, Refusal};
 use std::alloc::Global;
 
 /// Reads the arguments of a command line, the program's name first.
@@ -119,14 +119,36 @@ fn face_by(text: Option<&str>) -> Result<u32, Fault>
     }
 }
 
-/// How outlines become pixels, by the flags of `make`, `show` and `outline`.
-fn mode_of(matches: &ArgMatches<'_>) -> Mode
+/// Which pixels drop-out control sets, by its name.
+pub(crate) fn named_dropout(name: &str) -> Option<Dropout>
+    ensures { result ≡ named_dropout name.now }
+{
+    match name {
+        "left" => Some(Dropout::Left),
+        "near" => Some(Dropout::Near),
+        _ => None,
+    }
+}
+
+/// Which pixels drop-out control sets; none if it is not given.
+fn dropout_by(name: Option<&str>) -> Result<Dropout, Fault>
+    ensures { result ≡ dropout_by (option_map (λ name. name.now) name.entry) }
+{
+    match name {
+        Some(name) => named_dropout(name).ok_or(Fault::Usage),
+        None => Ok(Dropout::Off),
+    }
+}
+
+/// How outlines become pixels, by the options of `make`, `show` and `outline`.
+fn mode_of(matches: &ArgMatches<'_>) -> Result<Mode, Fault>
     ensures { result ≡ mode_by (rows_of (found_of matches.now)) }
 {
-    Mode {
+    let dropout = dropout_by(value(matches, "dropout"))?;
+    Ok(Mode {
         hinting: !is_given(matches, "unhinted"),
-        dropout: is_given(matches, "dropout"),
-    }
+        dropout,
+    })
 }
 
 /// What becomes of refused characters, by its name; if none is given, the first one refuses the strike.
@@ -160,13 +182,14 @@ fn make_of<'a>(alloc: Global, matches: &ArgMatches<'a>) -> Result<Command<'a>, F
     let properties = given_properties(alloc, values(matches, "property"))?;
     let on_refused = on_refused(value(matches, "refused"))?;
     let face = face_by(value(matches, "face"))?;
+    let mode = mode_of(matches)?;
     let make = Make {
         ppem,
         chars: parse_chars(alloc, list)?,
         name: value(matches, "name").unwrap_or("strike"),
         properties,
         x11: is_given(matches, "x11"),
-        mode: mode_of(matches),
+        mode,
         on_refused,
     };
     Ok(Command {
@@ -199,12 +222,9 @@ fn shown_of(matches: &ArgMatches<'_>) -> Result<Show, Fault>
     ensures { GivesUnless Refuses (λ show. show) result (shown_by (rows_of (found_of matches.now))) }
 {
     let ppem = required_size(value(matches, "ppem"))?;
+    let mode = mode_of(matches)?;
     let choice = choice_of(value(matches, "char"), value(matches, "glyph"))?;
-    Ok(Show {
-        ppem,
-        choice,
-        mode: mode_of(matches),
-    })
+    Ok(Show { ppem, choice, mode })
 }
 
 /// What the values of `show` ask for.

@@ -1,7 +1,7 @@
 //! The commands and their options.
 ghost use Rattle.std.specs.Prelude.{◌≡◌, codes, IfOk, false};
 ghost use Rattle.clap.specs.Words.{app_of, rule_of};
-ghost use Rattle.fx_arguments.specs.Arguments.{dump_app, flag_rule, make_app, many_rule, option_rule, outline_app, show_app, trace_app};
+ghost use Rattle.fx_arguments.specs.Arguments.{dropout_rule, dump_app, flag_rule, make_app, many_rule, option_rule, outline_app, show_app, trace_app};
 
 use clap::{Arg, ArgAction, Command};
 use std::alloc::{AllocError, Global};
@@ -18,7 +18,7 @@ pub fn make_command<'a>(alloc: Global) -> Result<Command<'a>, AllocError>
         .arg(flag(alloc, "x11"))?
         .arg(option(alloc, "refused"))?
         .arg(flag(alloc, "unhinted"))?
-        .arg(flag(alloc, "dropout"))?
+        .arg(dropout(alloc))?
         .arg(option(alloc, "face"))?
         .arg(flag(alloc, "hex"))
 }
@@ -32,7 +32,7 @@ pub fn show_command<'a>(alloc: Global) -> Result<Command<'a>, AllocError>
         .arg(option(alloc, "char"))?
         .arg(option(alloc, "glyph"))?
         .arg(flag(alloc, "unhinted"))?
-        .arg(flag(alloc, "dropout"))?
+        .arg(dropout(alloc))?
         .arg(option(alloc, "face"))?
         .arg(flag(alloc, "hex"))
 }
@@ -87,6 +87,18 @@ fn many<'a>(alloc: Global, id: &'a str) -> Arg<'a>
     ensures local { result.global ≡ false }
 {
     Arg::new(alloc, id).long(id).action(ArgAction::Append)
+}
+
+/// `--dropout=WHAT`; alone it stands for `--dropout=left`.
+fn dropout<'a>(alloc: Global) -> Arg<'a>
+    ensures rule { rule_of result ≡ dropout_rule }
+    ensures local { result.global ≡ false }
+{
+    Arg::new(alloc, "dropout")
+        .long("dropout")
+        .action(ArgAction::Set)
+        .num_args(0..=1)
+        .default_missing_value("left")
 }
 
 /// A flag.

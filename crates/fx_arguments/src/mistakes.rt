@@ -4,13 +4,13 @@ ghost use Rattle.clap.specs.Words.{app_of, found_of, rows_of};
 ghost use Rattle.fx_fixed.specs.Chain.{GivesUnless};
 ghost use Rattle.fx_arguments.specs.Arguments.{texts};
 ghost use Rattle.fx_arguments.specs.Commands.{Refuses};
-ghost use Rattle.fx_arguments.specs.Mistakes.{IsSaid, SaysUnless, app_for, checked, checked_for, choice_checked, command_said, dump_checked};
+ghost use Rattle.fx_arguments.specs.Mistakes.{IsSaid, SaysUnless, app_for, checked, checked_for, choice_checked, command_said, dropout_checked, dump_checked};
 ghost use Rattle.fx_arguments.specs.Mistakes.{face_checked, has_hyphen, is_taken, line_of, make_checked, name_in, option_said, properties_checked};
 ghost use Rattle.fx_arguments.specs.Mistakes.{outline_checked, refused_checked, shown_checked, trace_checked, traced_checked};
 ghost use Rattle.fx_arguments.specs.Mistakes.{required, show_checked, size_checked, taken_if, taken_words, value_said, verb_checked, word_said};
 ghost use Rattle.fx_arguments.specs.Mistakes.{words_said};
 
-use crate::arguments::{is_command, named_refused, which_of};
+use crate::arguments::{is_command, named_dropout, named_refused, which_of};
 use crate::commands::{dump_command, make_command, outline_command, show_command, trace_command};
 use crate::fault::Fault;
 use crate::properties::property_of;
@@ -248,7 +248,8 @@ fn make_checked(alloc: Global, matches: &ArgMatches<'_>) -> Result<(), Said>
     required(alloc, "chars", value(matches, "chars"))?;
     properties_checked(alloc, values(matches, "property").unwrap_or(&[]))?;
     refused_checked(alloc, value(matches, "refused"))?;
-    face_checked(alloc, value(matches, "face"))
+    face_checked(alloc, value(matches, "face"))?;
+    dropout_checked(alloc, value(matches, "dropout"))
 }
 
 /// The values of `show`'s options.
@@ -275,6 +276,7 @@ fn shown_checked(alloc: Global, matches: &ArgMatches<'_>) -> Result<(), Said>
     ensures { SaysUnless (λ u. u) result (shown_checked (rows_of (found_of matches.now))) }
 {
     size_checked(alloc, value(matches, "ppem"))?;
+    dropout_checked(alloc, value(matches, "dropout"))?;
     choice_checked(alloc, value(matches, "char"), value(matches, "glyph"))
 }
 
@@ -399,6 +401,19 @@ fn refused_checked(alloc: Global, given: Option<&str>) -> Result<(), Said>
         Some(text) => {
             let kind = "stop, leave-out or unhinted";
             taken_if(alloc, named_refused(text).is_some(), "refused", kind, text)
+        }
+        None => Ok(()),
+    }
+}
+
+/// Which pixels drop-out control sets, if it is given.
+fn dropout_checked(alloc: Global, given: Option<&str>) -> Result<(), Said>
+    ensures { SaysUnless (λ u. u) result (dropout_checked (option_map (λ text. text.now) given.entry)) }
+{
+    match given {
+        Some(text) => {
+            let kind = "left or near";
+            taken_if(alloc, named_dropout(text).is_some(), "dropout", kind, text)
         }
         None => Ok(()),
     }

@@ -111,9 +111,9 @@ filled_not up ss f col row Old A none i j = same_without
 
 -- ---- the segments of a line
 -- a number among the first k, or one of a list of numbers from there on
-at_number : (first c : ℤ) (k : ℕ) → ¬ (IsFrom first k c) → (m : ℕ) → IsFrom first m c
+number_from : (first c : ℤ) (k : ℕ) → ¬ (IsFrom first k c) → (m : ℕ) → IsFrom first m c
     → (n : ℕ) × (k ≤ n) × (n < m) × (c ≡ first +ℤ pos n)
-at_number first c k low m h = by (c -ℤ first) refl
+number_from first c k low m h = by (c -ℤ first) refl
   where
     by : (d : ℤ) → c -ℤ first ≡ d → (n : ℕ) × (k ≤ n) × (n < m) × (c ≡ first +ℤ pos n)
     by (pos n) e =
@@ -142,7 +142,7 @@ line_skip up ss f first row k m Old A N low none h =
         by : IsFrom first k c ⊎ (¬ (IsFrom first k c)) → IsOfLine first k row c r
         by (inl l) = record { column = l; row_is = d.row_is }
         by (inr l) =
-            let n = at_number first c k l m d.column in
+            let n = number_from first c k l m d.column in
             absurd (none n.0 n.1 n.2 (subst (λ (p : ℤ × ℤ). IsGapNext up ss Old p.0 p.1) (λ t. (n.3 t, d.row_is t)) g))
 
 -- one more
@@ -166,7 +166,7 @@ line_more up ss f first row col at k m Old A M N low here level none h one =
         by : IsFrom first k c ⊎ (¬ (IsFrom first k c)) → IsOfLine first k row c r ⊎ ((c ≡ col) × (r ≡ at))
         by (inl l) = inl (record { column = l; row_is = d.row_is })
         by (inr l) =
-            let n = at_number first c k l (k + 1) d.column in
+            let n = number_from first c k l (k + 1) d.column in
             let e : n.0 ≡ k = omega (arith, n.1, n.2) in
             inr (n.3 ∙ ap (λ (k : ℕ). first +ℤ pos k) e ∙ sym here, d.row_is ∙ sym level)
 
@@ -205,8 +205,8 @@ lines_skip up ss f first bottom count k m Old A N low none h =
         by : IsFrom bottom k r ⊎ (¬ (IsFrom bottom k r)) → IsOfLines first count bottom k c r
         by (inl l) = record { column = d.column; row = l }
         by (inr l) =
-            let y = at_number bottom r k l m d.row in
-            let x = at_number first c 0 (λ l. omega (arith, signed_linear, l.0, l.1)) count d.column in
+            let y = number_from bottom r k l m d.row in
+            let x = number_from first c 0 (λ l. omega (arith, signed_linear, l.0, l.1)) count d.column in
             absurd (none y.0 x.0 y.1 y.2 x.2
             (subst (λ (p : ℤ × ℤ). IsGapNext up ss Old p.0 p.1) (λ t. (x.3 t, y.3 t)) g))
 
@@ -231,22 +231,23 @@ lines_more up ss f first bottom at count k m Old A M N low here none h line =
         by : IsFrom bottom k r ⊎ (¬ (IsFrom bottom k r)) → IsOfLines first count bottom k c r ⊎ IsOfLine first count at c r
         by (inl l) = inl (record { column = d.column; row = l })
         by (inr l) =
-            let n = at_number bottom r k l (k + 1) d.row in
+            let n = number_from bottom r k l (k + 1) d.row in
             let e : n.0 ≡ k = omega (arith, n.1, n.2) in
             inr (record { column = d.column; row_is = n.3 ∙ ap (λ (k : ℕ). bottom +ℤ pos k) e ∙ sym here })
 
 -- ---- rows and levels in which there is no gap
-pub row_none : (ss : List Span) (across up : List ℕ) (b : Bits) (r n : ℕ) → All (λ s. IsNoted s b.frame across up) ss
+pub no_gap_across : (ss : List Span) (across up : List ℕ) (b : Bits) (r n : ℕ) → All (λ s. IsNoted s b.frame across up) ss
     → ((i j : ℤ) → IsCovered (centre i j) ss → IsSoFar ss b.frame b i j) → r < b.frame.height → n < b.frame.width + 1
     → IsShutInRow across b r n
     → ¬ (IsGapNext false ss (IsSoFar ss b.frame b) ((b.frame.left -ℤ pos 1) +ℤ pos n) (b.frame.bottom +ℤ pos r))
-row_none ss across up b r n all covered l m shut = gapless false ss b.frame across up b r n all covered (l, omega (arith, m)) shut
+no_gap_across ss across up b r n all covered l m shut =
+    gapless false ss b.frame across up b r n all covered (l, omega (arith, m)) shut
 
-pub level_none : (ss : List Span) (across up : List ℕ) (b : Bits) (r n : ℕ) → All (λ s. IsNoted s b.frame across up) ss
+pub no_gap_up : (ss : List Span) (across up : List ℕ) (b : Bits) (r n : ℕ) → All (λ s. IsNoted s b.frame across up) ss
     → ((i j : ℤ) → IsCovered (centre i j) ss → IsSoFar ss b.frame b i j) → r < b.frame.height + 1 → n < b.frame.width
     → IsShutInColumn up b r n
     → ¬ (IsGapNext true ss (IsSoFar ss b.frame b) (b.frame.left +ℤ pos n) ((b.frame.bottom -ℤ pos 1) +ℤ pos r))
-level_none ss across up b r n all covered l m shut = gapless true ss b.frame across up b r n all covered (omega (arith, l), m) shut
+no_gap_up ss across up b r n all covered l m shut = gapless true ss b.frame across up b r n all covered (omega (arith, l), m) shut
 
 -- ---- all of them
 before_next : (i : ℤ) → (i -ℤ pos 1) +ℤ pos 1 ≡ i

@@ -52,7 +52,8 @@ nearer_adds ss f i j = (λ c. inl (inl c), λ s. within s)
 
 pub rows_have_no_gap : RowsHaveNoGap
 rows_have_no_gap ss f i j h n m a =
-    near_no_gap ss (IsInFrame f) (IsNextNearer false ss) (λ i j. IsCovered (centre i j) ss) i j h (λ s. n (inl s)) (λ s. m (inl s)) a
+    near_no_gap ss (IsInFrame f) (IsNextNearer false ss) (λ i j. IsCovered (centre i j) ss) i j h (λ s. n (inl s))
+    (λ s. m (inl s)) a
 
 pub columns_have_no_gap : ColumnsHaveNoGap
 columns_have_no_gap ss f i j h n m a =

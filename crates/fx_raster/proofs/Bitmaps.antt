@@ -14,11 +14,14 @@ use Rattle.fx_winding.specs.Outside.{AreOfOutline}
 use Rattle.fx_winding.proofs.Grid.{from_true}
 use Rattle.fx_contour.specs.Frames.{NothingOutsideFrame}
 use Rattle.fx_contour.specs.DropoutFrames.{IsInDropoutFrame}
+use Rattle.fx_raster.specs.declared.rule.Closing.{Closing}
+use Rattle.fx_raster.specs.declared.rule.Closing.TheVariants.{Lower, Nearer}
 use Rattle.fx_raster.specs.declared.rule.Rule.{Rule}
 use Rattle.fx_raster.specs.declared.rule.Rule.TheVariants.{Centres, Bridged}
+use Rattle.fx_dropout.specs.Nearer.{IsNearSet}
 use Rattle.fx_raster.specs.Rules.{IsPixelSet}
-use Rattle.fx_raster.specs.inner.Framing.{HasBitsOf, IsBridgedScanOf, IsFramedBy}
-use Rattle.fx_raster.proofs.Bridged.{set_along, nothing_set}
+use Rattle.fx_raster.specs.inner.Framing.{HasBitsOf, IsBridgedScanOf, IsFramedBy, IsSetBy}
+use Rattle.fx_raster.proofs.Bridged.{set_along, near_set_along, nothing_set}
 
 -- ---- one pixel
 
@@ -71,23 +74,34 @@ scan_has_bits f ss b scan framed outside closed =
     closed
 
 -- the pixels of the frame are those of the frame with drop-out control
-bridged_has_bits : (f : Frame) (ss : List Span) (b : Bits) → IsBridgedScanOf f ss b → IsFramedBy Bridged (Some f) ss
-    → NothingOutsideFrame (Some f) ss → AreOfOutline ss → HasBitsOf Bridged ss b
-bridged_has_bits f ss b scan framed outside closed =
+bridged_has_bits : (closing : Closing) (f : Frame) (ss : List Span) (b : Bits) → IsBridgedScanOf closing f ss b
+    → IsFramedBy (Bridged closing) (Some f) ss → NothingOutsideFrame (Some f) ss → AreOfOutline ss
+    → HasBitsOf (Bridged closing) ss b
+bridged_has_bits closing f ss b scan framed outside closed =
     let I : Frame → Type 0
-    = λ g. (col row : ℤ) → IsInFrame g col row → IsTrue (bit_of b col row) ↔ IsPixelSet Bridged ss col row in
-    let F : Frame → Type 0 = λ g. IsFramedBy Bridged (Some g) ss in
+    = λ g. (col row : ℤ) → IsInFrame g col row → IsTrue (bit_of b col row) ↔ IsPixelSet (Bridged closing) ss col row in
+    let F : Frame → Type 0 = λ g. IsFramedBy (Bridged closing) (Some g) ss in
     let N : Frame → Type 0 = λ g. NothingOutsideFrame (Some g) ss in
-    in_its_frame Bridged ss b (subst I (sym scan.same) each) (subst F (sym scan.same) framed) (subst N (sym scan.same) outside)
-    closed
+    in_its_frame (Bridged closing) ss b (subst I (sym scan.same) each) (subst F (sym scan.same) framed)
+    (subst N (sym scan.same) outside) closed
   where
     there : (i j : ℤ) → IsInDropoutFrame ss i j ↔ IsInFrame f i j
     there i j = ((framed.0 i j).1, (framed.0 i j).0)
 
-    each : (col row : ℤ) → IsInFrame f col row → IsTrue (bit_of b col row) ↔ IsPixelSet Bridged ss col row
+    set : (closing : Closing) (col row : ℤ) → IsSetBy closing ss f col row ↔ IsPixelSet (Bridged closing) ss col row
+    set Lower col row = (
+      set_along ss (IsInFrame f) (IsInDropoutFrame ss) framed.0 col row,
+      set_along ss (IsInDropoutFrame ss) (IsInFrame f) there col row,
+    )
+    set Nearer col row = (
+      near_set_along ss (IsInFrame f) (IsInDropoutFrame ss) framed.0 col row,
+      near_set_along ss (IsInDropoutFrame ss) (IsInFrame f) there col row,
+    )
+
+    each : (col row : ℤ) → IsInFrame f col row → IsTrue (bit_of b col row) ↔ IsPixelSet (Bridged closing) ss col row
     each col row i = (
-      λ t. set_along ss (IsInFrame f) (IsInDropoutFrame ss) framed.0 col row ((scan.bits col row i).0 t),
-      λ s. (scan.bits col row i).1 (set_along ss (IsInDropoutFrame ss) (IsInFrame f) there col row s),
+      λ t. (set closing col row).0 ((scan.bits col row i).0 t),
+      λ s. (scan.bits col row i).1 ((set closing col row).1 s),
     )
 
 empty_has_bits : (rule : Rule) (ss : List Span) (b : Bits) → b.frame.width ≡ 0 → IsFramedBy rule None ss
@@ -112,18 +126,29 @@ scanned_bits f ss (Ok b) rule e scan framed outside closed =
     subst H (sym e) (scan_has_bits f ss b scan (subst F e framed) outside closed)
 scanned_bits f ss (Err d) rule e scan framed outside closed = tt
 
-pub bridged_bits : {E : Type 0} (f : Frame) (ss : List Span) (r : Result Bits E) (rule : Rule) → rule ≡ Bridged
-    → IfOk r (IsBridgedScanOf f ss) → IsFramedBy rule (Some f) ss → NothingOutsideFrame (Some f) ss → AreOfOutline ss
+pub bridged_bits : {E : Type 0} (closing : Closing) (f : Frame) (ss : List Span) (r : Result Bits E) (rule : Rule)
+    → rule ≡ Bridged closing → IfOk r (IsBridgedScanOf closing f ss) → IsFramedBy rule (Some f) ss
+    → NothingOutsideFrame (Some f) ss → AreOfOutline ss
     → IfOk r (HasBitsOf rule ss)
-bridged_bits f ss (Ok b) rule e scan framed outside closed =
+bridged_bits closing f ss (Ok b) rule e scan framed outside closed =
     let F : Rule → Type 0 = λ r. IsFramedBy r (Some f) ss in
     let H : Rule → Type 0 = λ r. HasBitsOf r ss b in
-    subst H (sym e) (bridged_has_bits f ss b scan (subst F e framed) outside closed)
-bridged_bits f ss (Err d) rule e scan framed outside closed = tt
+    subst H (sym e) (bridged_has_bits closing f ss b scan (subst F e framed) outside closed)
+bridged_bits closing f ss (Err d) rule e scan framed outside closed = tt
+
+-- what closes gaps by the nearer pixels
+pub nearer_scan : {E : Type 0} (closing : Closing) (f : Frame) (ss : List Span) (r : Result Bits E) → closing ≡ Nearer
+    → IfOk r (λ b. b.frame ≡ f)
+    → IfOk r (λ b. (col row : ℤ) → IsInFrame f col row → IsTrue (bit_of b col row) ↔ IsNearSet ss f col row)
+    → IfOk r (IsBridgedScanOf closing f ss)
+nearer_scan closing f ss (Ok b) e same bits =
+    let S : Closing → Type 0 = λ c. IsBridgedScanOf c f ss b in subst S (sym e) (record { same = same; bits = bits })
+nearer_scan closing f ss (Err d) e same bits = tt
 
 -- the frame of drop-out control has a margin
-pub framed_margin : (f : Frame) (ss : List Span) (rule : Rule) → rule ≡ Bridged → IsFramedBy rule (Some f) ss → HasMargin f
-framed_margin f ss rule e framed = let F : Rule → Type 0 = λ r. IsFramedBy r (Some f) ss in (subst F e framed).1
+pub framed_margin : (closing : Closing) (f : Frame) (ss : List Span) (rule : Rule) → rule ≡ Bridged closing
+    → IsFramedBy rule (Some f) ss → HasMargin f
+framed_margin closing f ss rule e framed = let F : Rule → Type 0 = λ r. IsFramedBy r (Some f) ss in (subst F e framed).1
 
 pub empty_bits : {E : Type 0} (ss : List Span) (r : Result Bits E) (rule : Rule) → IfOk r (λ b. b.frame.width ≡ 0)
     → IsFramedBy rule None ss → NothingOutsideFrame None ss → AreOfOutline ss → IfOk r (HasBitsOf rule ss)

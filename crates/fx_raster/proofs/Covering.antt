@@ -1,9 +1,11 @@
 -- Whether a place is covered, and whether drop-out control sets a pixel, can be decided by a test.
 -- Serves the law that a picture exists, with Existing.
-use Rattle.std.proofs.Common.{◌≡◌, refl, sym, subst, inl, inr, ◌⊎◌, zero, suc, ℤ, pos, ◌-ℤ◌, ◌*ℤ◌, ◌+ℤ◌, ◌≤ℤ◌, ◌<ℤ◌, int_le, int_lt}
-use Rattle.std.proofs.Common.{Bool, false, not, ◌&&◌, ◌||◌, List, [], ◌∷◌, map, Option, Some, None, Any, Decides, arith}
+use Rattle.std.proofs.Common.{◌≡◌, refl, sym, subst, inl, inr, ◌⊎◌, ℕ, zero, suc, ◌+◌, ◌<◌, ℤ, pos, ◌-ℤ◌, ◌*ℤ◌, ◌+ℤ◌, ◌≤ℤ◌, ◌<ℤ◌, int_le, int_lt}
+use Rattle.std.proofs.Common.{Bool, true, false, not, ◌&&◌, ◌||◌, List, [], ◌∷◌, map, Option, Some, None, Any, Decides, arith}
 use Rattle.std.specs.Ordering.{int_eq}
 use Rattle.std.proofs.lemmas.Int.{ints}
+use Rattle.std.proofs.Math.Dec.{ltb}
+use Rattle.std.proofs.lemmas.Bool.{lt-ltb, ltb-true}
 use Rattle.std.proofs.lemmas.Bool.Decides.{Decides-like, Decides-and, Decides-or, Decides-not, Decides-int_eq}
 use Rattle.fx_contour.proofs.Decided.{le_decides}
 use Rattle.fx_winding.specs.Area.{Place, area, gap_of}
@@ -12,6 +14,8 @@ use Rattle.fx_winding.specs.Winding.{IsInRange, IsOnFlatArc, IsOnPart, IsOn, win
 use Rattle.fx_winding.specs.Winding.{IsAboveLow, IsBelowHigh, region_part, centre}
 use Rattle.fx_winding.specs.Meets.{IsWithinRow, IsReached, IsTip, IsTipPart, IsMet, turn, slope}
 use Rattle.fx_winding.specs.Dropout.{turned_span, IsGap, IsBridged, IsRowSetIn, IsSetIn}
+use Rattle.fx_dropout.specs.Nearer.{IsCount, IsNextNearer, IsNearBridged, IsNearRowSetIn, IsNearSetIn, IsClosedByLeft, IsClosedByRight, place_on}
+use Rattle.fx_dropout.proofs.Counts.{count_none, count_more, count_same, count_is_one}
 
 -- a test that decides
 abbrev pub Test : Type 0 → Type 0
@@ -152,3 +156,63 @@ row_set ss In is = bridged ss In (λ i j. IsCovered (centre i j) ss) is (λ i j.
 pub set_in : (ss : List Span) (In : ℤ → ℤ → Type 0) → ((i j : ℤ) → Test (In i j)) → (i j : ℤ) → Test (IsSetIn ss In i j)
 set_in ss In is i j =
     bridged (map turned_span ss) (λ j i. In i j) (λ j i. IsRowSetIn ss In i j) (λ j i. is i j) (λ j i. row_set ss In is i j) j i
+
+-- ---- with drop-out control by the nearer pixel
+
+-- how many numbers have what a test tells
+counted : (P : ℕ → Type 0) → ((k : ℕ) → Test (P k)) → (n : ℕ) → (m : ℕ) × IsCount P n m
+counted P test zero = (0, count_none P)
+counted P test (suc n) = by (test n).0 (test n).1 (counted P test n)
+  where
+    e : n + 1 ≡ suc n
+    e = omega arith
+
+    clash : false ≡ true → ⊥
+    clash c = cc
+
+    by : (t : Bool) → Decides t (P n) → (m : ℕ) × IsCount P n m → (m : ℕ) × IsCount P (suc n) m
+    by true d (m, h) = (m + 1, subst (λ (k : ℕ). IsCount P k (m + 1)) e (count_more P n m (d.0 refl) h))
+    by false d (m, h) = (m, subst (λ (k : ℕ). IsCount P k m) e (count_same P n m (λ p. clash (d.1 p)) h))
+
+next_nearer : (up : Bool) (ss : List Span) (col row : ℤ) → Test (IsNextNearer up ss col row)
+next_nearer up ss col row =
+    let At : ℕ → ℕ → Type 0 = λ from n. IsCovered (place_on up col row (n + from)) ss in
+    let a = counted (At 1) (λ n. covered (place_on up col row (n + 1)) ss) 63 in
+    let b = counted (At 65) (λ n. covered (place_on up col row (n + 65)) ss) 63 in (
+      ltb a.0 b.0,
+      (
+        λ t. record { here = a.0; next = b.0; first_half = a.1; second_half = b.1; more = ltb-true a.0 b.0 t },
+        λ h.
+            let x = count_is_one (At 1) 63 h.here a.0 h.first_half a.1 in
+            let y = count_is_one (At 65) 63 h.next b.0 h.second_half b.1 in
+            lt-ltb a.0 b.0 (subst (λ (z : ℕ × ℕ). z.0 < z.1) (λ t. (x t, y t)) h.more),
+      ),
+    )
+
+by_left : (ss : List Span) (In Near So : ℤ → ℤ → Type 0) → ((i j : ℤ) → Test (In i j)) → ((i j : ℤ) → Test (Near i j))
+    → ((i j : ℤ) → Test (So i j)) → (i j : ℤ) → Test (IsClosedByLeft ss In Near So i j)
+by_left ss In Near So is near so i j =
+    like (λ h. record { gap = h.0; chosen = h.1 }) (λ h. (h.gap, h.chosen))
+    (both (gap ss So so i j) (one (none (near i j)) (none (is (i +ℤ pos 1) j))))
+
+by_right : (ss : List Span) (In Near So : ℤ → ℤ → Type 0) → ((i j : ℤ) → Test (In i j)) → ((i j : ℤ) → Test (Near i j))
+    → ((i j : ℤ) → Test (So i j)) → (i j : ℤ) → Test (IsClosedByRight ss In Near So i j)
+by_right ss In Near So is near so i j =
+    like (λ h. record { gap = h.0; chosen = h.1 }) (λ h. (h.gap, h.chosen))
+    (both (gap ss So so i j) (one (near i j) (none (is i j))))
+
+near_bridged : (ss : List Span) (In Near So : ℤ → ℤ → Type 0) → ((i j : ℤ) → Test (In i j)) → ((i j : ℤ) → Test (Near i j))
+    → ((i j : ℤ) → Test (So i j)) → (i j : ℤ) → Test (IsNearBridged ss In Near So i j)
+near_bridged ss In Near So is near so i j =
+    one (so i j) (like (λ h. record { inside = h.0; closes = h.1 }) (λ h. (h.inside, h.closes))
+    (both (is i j) (one (by_left ss In Near So is near so i j) (by_right ss In Near So is near so (i -ℤ pos 1) j))))
+
+near_row_set : (ss : List Span) (In : ℤ → ℤ → Type 0) → ((i j : ℤ) → Test (In i j)) → (i j : ℤ) → Test (IsNearRowSetIn ss In i j)
+near_row_set ss In is =
+    near_bridged ss In (IsNextNearer false ss) (λ i j. IsCovered (centre i j) ss) is (next_nearer false ss)
+    (λ i j. covered (centre i j) ss)
+
+pub near_set_in : (ss : List Span) (In : ℤ → ℤ → Type 0) → ((i j : ℤ) → Test (In i j)) → (i j : ℤ) → Test (IsNearSetIn ss In i j)
+near_set_in ss In is i j =
+    near_bridged (map turned_span ss) (λ j i. In i j) (λ j i. IsNextNearer true ss i j) (λ j i. IsNearRowSetIn ss In i j)
+    (λ j i. is i j) (λ j i. next_nearer true ss i j) (λ j i. near_row_set ss In is i j) j i

@@ -10,20 +10,20 @@ use Rattle.fx_fixed.proofs.Linear.{signed}
 use Rattle.fx_fixed.proofs.Order.{below_or_not_ℤ}
 use Rattle.fx_winding.specs.Limits.{IsPixelNumber, greatest_side}
 use Rattle.fx_winding.specs.Winding.{Span, IsCovered, centre}
-use Rattle.fx_winding.specs.Dropout.{IsSetIn}
-use Rattle.fx_winding.specs.Outside.{AreOfOutline}
 use Rattle.fx_outline.specs.declared.points.OutlinePoint.{OutlinePoint}
 use Rattle.fx_contour.specs.Contours.{drawn_of}
 use Rattle.fx_contour.specs.Frames.{IsInBoundingBox, AreTooLarge}
 use Rattle.fx_contour.specs.DropoutFrames.{IsInDropoutFrame}
 use Rattle.fx_contour.proofs.Kept.{covered_is_kept}
 use Rattle.fx_contour.proofs.Outside.{in_box}
+use Rattle.fx_raster.specs.declared.rule.Closing.{Closing}
+use Rattle.fx_raster.specs.declared.rule.Closing.TheVariants.{Lower, Nearer}
 use Rattle.fx_raster.specs.declared.rule.Rule.{Rule}
 use Rattle.fx_raster.specs.declared.rule.Rule.TheVariants.{Centres, Bridged}
 use Rattle.fx_raster.specs.Rules.{ShapeView, IsPixelSet, framed_by, shape_of}
 use Rattle.fx_raster.specs.Laws.{PictureExists, PictureIsOne}
-use Rattle.fx_raster.proofs.Bridged.{set_within}
-use Rattle.fx_raster.proofs.Covering.{Test, covered, set_in}
+use Rattle.fx_raster.proofs.Bridged.{set_within, near_set_within}
+use Rattle.fx_raster.proofs.Covering.{Test, covered, set_in, near_set_in}
 use Rattle.fx_raster.proofs.Kept.{IsFramed, are_framed, in_dropout_frame, column_number, row_number, columns_near, rows_near}
 use Rattle.fx_raster.proofs.Near.{AreNear, AreDrawn, are_drawn, not_large, have_near, have_more}
 
@@ -101,7 +101,8 @@ not_high ss small col row col2 row2 h k = elim (below_or_not_ℤ row2 (row +ℤ 
 -- the pixels that are set, as a test
 set_test : (rule : Rule) (ss : List Span) (col row : ℤ) → Test (IsPixelSet rule ss col row)
 set_test Centres ss col row = covered (centre col row) ss
-set_test Bridged ss col row = set_in ss (IsInDropoutFrame ss) (in_dropout_frame ss) col row
+set_test (Bridged Lower) ss col row = set_in ss (IsInDropoutFrame ss) (in_dropout_frame ss) col row
+set_test (Bridged Nearer) ss col row = near_set_in ss (IsInDropoutFrame ss) (in_dropout_frame ss) col row
 
 -- the bits of spans
 abbrev bit_by : Rule → List Span → ℤ → ℤ → Bool
@@ -126,10 +127,10 @@ are_covered ss d small =
     }
 
 -- with drop-out control all of them are kept
-are_kept : (ss : List Span) → AreDrawn ss → IsFramed ss → AreSmall (bit_by Bridged ss)
-are_kept ss d f =
-    let kept : (col row : ℤ) → IsTrue (bit_by Bridged ss col row) → IsInDropoutFrame ss col row =
-    λ col row h. set_kept ss d.closed col row ((set_test Bridged ss col row).1.0 h) in
+are_kept : (closing : Closing) (ss : List Span) → AreDrawn ss → IsFramed ss → AreSmall (bit_by (Bridged closing) ss)
+are_kept closing ss d f =
+    let kept : (col row : ℤ) → IsTrue (bit_by (Bridged closing) ss col row) → IsInDropoutFrame ss col row =
+    λ col row h. by col row (within closing col row ((set_test (Bridged closing) ss col row).1.0 h)) in
     record {
       columns = λ col row h. column_number ss f col row (kept col row h);
       rows = λ col row h. row_number ss f col row (kept col row h);
@@ -137,16 +138,18 @@ are_kept ss d f =
       low = λ col row col2 row2 h k. rows_near ss f col row col2 row2 (kept col row h) (kept col2 row2 k);
     }
   where
-    set_kept : (ss : List Span) → AreOfOutline ss → (i j : ℤ) → IsSetIn ss (IsInDropoutFrame ss) i j → IsInDropoutFrame ss i j
-    set_kept ss closed i j s = by (set_within ss (IsInDropoutFrame ss) i j s)
-      where
-        by : IsCovered (centre i j) ss ⊎ IsInDropoutFrame ss i j → IsInDropoutFrame ss i j
-        by (inl c) = covered_is_kept ss closed i j c
-        by (inr k) = k
+    within : (closing : Closing) (i j : ℤ) → IsPixelSet (Bridged closing) ss i j
+        → IsCovered (centre i j) ss ⊎ IsInDropoutFrame ss i j
+    within Lower i j s = set_within ss (IsInDropoutFrame ss) i j s
+    within Nearer i j s = near_set_within ss (IsInDropoutFrame ss) i j s
+
+    by : (i j : ℤ) → IsCovered (centre i j) ss ⊎ IsInDropoutFrame ss i j → IsInDropoutFrame ss i j
+    by i j (inl c) = covered_is_kept ss d.closed i j c
+    by i j (inr k) = k
 
 are_small : (rule : Rule) (ss : List Span) → AreDrawn ss → framed_by rule ss ≡ Ok tt → AreSmall (bit_by rule ss)
 are_small Centres ss d h = are_covered ss d (not_large ss h)
-are_small Bridged ss d h = are_kept ss d (are_framed ss h)
+are_small (Bridged closing) ss d h = are_kept closing ss d (are_framed ss h)
 
 -- ---- pictures
 

@@ -1,6 +1,7 @@
 pub mod Covering
 pub mod Near
 pub mod Bridged
+pub mod NoGap
 pub mod Kept
 pub mod Bitmaps
 pub mod Inside

@@ -7,6 +7,7 @@ use Rattle.fx_winding.specs.Limits.{IsPixelNumber, greatest_side}
 use Rattle.fx_outline.specs.declared.points.OutlinePoint.{OutlinePoint}
 use Rattle.fx_outline.specs.Ends.{AreEnds}
 use Rattle.fx_contour.specs.Moves.{shifted_points, reversed_points}
+use Rattle.fx_raster.specs.declared.rule.Closing.{Closing}
 use Rattle.fx_raster.specs.declared.rule.Rule.{Rule}
 use Rattle.fx_raster.specs.declared.rule.Rule.TheVariants.{Centres, Bridged}
 use Rattle.fx_raster.specs.Rules.{ShapeView, IsPixelSet, shape_of}
@@ -53,10 +54,12 @@ ReversalKeepsPicture = (i j : ℤ) (ends : List ℕ) (points : List OutlinePoint
 
 -- the law: with drop-out control no piece passes between the centres of two neighbours in a row, neither of which is set
 abbrev pub NoGapInRow : Type 0
-NoGapInRow = (ss : List Span) (i j : ℤ) → ¬ (IsPixelSet Bridged ss i j) → ¬ (IsPixelSet Bridged ss (i +ℤ pos 1) j)
+NoGapInRow = (closing : Closing) (ss : List Span) (i j : ℤ) → ¬ (IsPixelSet (Bridged closing) ss i j)
+    → ¬ (IsPixelSet (Bridged closing) ss (i +ℤ pos 1) j)
     → ¬ (Any (IsMet (centre i j) (centre (i +ℤ pos 1) j)) ss)
 
 -- the law: nor of two in a column
 abbrev pub NoGapInColumn : Type 0
-NoGapInColumn = (ss : List Span) (i j : ℤ) → ¬ (IsPixelSet Bridged ss i j) → ¬ (IsPixelSet Bridged ss i (j +ℤ pos 1))
+NoGapInColumn = (closing : Closing) (ss : List Span) (i j : ℤ) → ¬ (IsPixelSet (Bridged closing) ss i j)
+    → ¬ (IsPixelSet (Bridged closing) ss i (j +ℤ pos 1))
     → ¬ (Any (IsMet (centre j i) (centre (j +ℤ pos 1) i)) (map turned_span ss))

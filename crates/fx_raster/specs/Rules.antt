@@ -4,24 +4,27 @@ use Rattle.fx_fixed.specs.Chain.{◌>>=◌}
 use Rattle.fx_winding.specs.Winding.{Span, IsCovered, centre}
 use Rattle.fx_winding.specs.Frames.{IsFrom}
 use Rattle.fx_winding.specs.Dropout.{IsSetIn}
+use Rattle.fx_dropout.specs.Nearer.{IsNearSetIn}
 use Rattle.fx_outline.specs.declared.points.OutlinePoint.{OutlinePoint}
 use Rattle.fx_contour.specs.declared.fault.ContourFault.{ContourFault}
 use Rattle.fx_contour.specs.Contours.{drawn_of}
 use Rattle.fx_contour.specs.Frames.{framed_of}
 use Rattle.fx_contour.specs.DropoutFrames.{IsInDropoutFrame, dropout_framed_of}
 use Rattle.fx_raster.specs.declared.region.Region.{Region}
+use Rattle.fx_raster.specs.declared.rule.Closing.TheVariants.{Lower, Nearer}
 use Rattle.fx_raster.specs.declared.rule.Rule.{Rule}
 use Rattle.fx_raster.specs.declared.rule.Rule.TheVariants.{Centres, Bridged}
 
 -- the pixel in a column and a row is set: its centre is covered; or, with drop-out control, it closes a gap in the frame
 abbrev pub IsPixelSet : Rule → List Span → ℤ → ℤ → Type 0
 IsPixelSet Centres ss col row = IsCovered (centre col row) ss
-IsPixelSet Bridged ss col row = IsSetIn ss (IsInDropoutFrame ss) col row
+IsPixelSet (Bridged Lower) ss col row = IsSetIn ss (IsInDropoutFrame ss) col row
+IsPixelSet (Bridged Nearer) ss col row = IsNearSetIn ss (IsInDropoutFrame ss) col row
 
 -- whether the frame of spans keeps its limit, with drop-out control or without
 abbrev pub framed_by : Rule → List Span → Result (Unit {0}) ContourFault
 framed_by Centres = framed_of
-framed_by Bridged = dropout_framed_of
+framed_by (Bridged closing) = dropout_framed_of
 
 -- an outline as a rule sees it: the rule, and the outline's spans in 1/128 pixel
 pub record ShapeView : Type 0 where

@@ -6,10 +6,11 @@ ghost use Rattle.fx_winding.specs.Outside.{AreOfOutline};
 ghost use Rattle.fx_winding.specs.Frames.{HasMargin};
 ghost use Rattle.fx_winding.specs.Notes.{AreExact, IsNoted};
 ghost use Rattle.fx_contour.specs.Frames.{NothingOutsideFrame};
+ghost use Rattle.fx_raster.specs.declared.rule.Closing.TheVariants.{Lower};
 ghost use Rattle.fx_raster.specs.inner.Framing.{HasBitsOf, IsBridgedScanOf, IsFramedBy};
 
-use crate::rule::Rule;
-use fx_dropout::close_gaps;
+use crate::rule::{Closing, Rule};
+use fx_dropout::{close_gaps, close_gaps_nearer};
 use fx_winding::{Bitmap, Frame, Noted, Pieces, Scan, ScanFault, Scratch, Tally};
 use std::alloc::{AllocError, Global};
 
@@ -46,19 +47,41 @@ fn scanned<S: Scan>(
     }
 }
 
-/// The bitmap of a scan with its gaps closed.
-fn closed(pieces: &Pieces, noted: Noted, tally: &mut Tally) -> Bitmap
+/// The bitmap of a scan with its gaps closed by the left and the lower pixels.
+fn closed_by_lower(pieces: &Pieces, noted: Noted, tally: &mut Tally) -> Bitmap
     requires margin { HasMargin noted.bitmap.frame }
     requires scanned { IsScanOf noted.bitmap.frame (map span_of pieces.now) noted.bitmap }
     requires frame { noted.notes.frame ≡ noted.bitmap.frame }
     requires noted { All (λ s. IsNoted s noted.notes.frame noted.notes.across.items noted.notes.up.items) (map span_of pieces.now) }
     requires exact { IsTrue noted.notes.exact →
         AreExact noted.notes.frame noted.notes.across.items noted.notes.up.items (map span_of pieces.now) }
-    ensures { IsBridgedScanOf noted.bitmap.frame (map span_of pieces.now) result }
+    ensures { IsBridgedScanOf Lower noted.bitmap.frame (map span_of pieces.now) result }
 {
     let mut bitmap = noted.bitmap;
     close_gaps(pieces, &noted.notes, &mut bitmap, tally);
     bitmap
+}
+
+/// The bitmap of a scan with its gaps closed.
+fn closed(
+    alloc: Global,
+    pieces: &Pieces,
+    noted: Noted,
+    closing: Closing,
+    tally: &mut Tally,
+) -> Result<Bitmap, AllocError>
+    requires margin { HasMargin noted.bitmap.frame }
+    requires scanned { IsScanOf noted.bitmap.frame (map span_of pieces.now) noted.bitmap }
+    requires frame { noted.notes.frame ≡ noted.bitmap.frame }
+    requires noted { All (λ s. IsNoted s noted.notes.frame noted.notes.across.items noted.notes.up.items) (map span_of pieces.now) }
+    requires exact { IsTrue noted.notes.exact →
+        AreExact noted.notes.frame noted.notes.across.items noted.notes.up.items (map span_of pieces.now) }
+    ensures { IfOk result (IsBridgedScanOf closing noted.bitmap.frame (map span_of pieces.now)) }
+{
+    match closing {
+        Closing::Lower => Ok(closed_by_lower(pieces, noted, tally)),
+        Closing::Nearer => close_gaps_nearer(alloc, pieces, &noted.notes, &noted.bitmap, tally),
+    }
 }
 
 /// The bits of a frame with drop-out control: those of a scan, and those that close gaps.
@@ -68,14 +91,15 @@ fn bridged<S: Scan>(
     scan: &S,
     pieces: &Pieces,
     frame: Frame,
+    closing: Closing,
     scratch: &mut Scratch,
 ) -> Result<Bitmap, AllocError>
     requires { HasMargin frame }
-    ensures { IfOk result (IsBridgedScanOf frame (map span_of pieces.now)) }
+    ensures { IfOk result (IsBridgedScanOf closing frame (map span_of pieces.now)) }
 {
     let mut tally = Tally::new();
     match scan.scan_noted(alloc, pieces, frame, scratch, &mut tally) {
-        Ok(noted) => Ok(closed(pieces, noted, &mut tally)),
+        Ok(noted) => closed(alloc, pieces, noted, closing, &mut tally),
         Err(ScanFault::OutOfMemory) => Err(AllocError),
     }
 }
@@ -99,6 +123,6 @@ pub(crate) fn bitmap_of<S: Scan>(
     };
     match rule {
         Rule::Centres => scanned(alloc, scan, pieces, frame, scratch),
-        Rule::Bridged => bridged(alloc, scan, pieces, frame, scratch),
+        Rule::Bridged(closing) => bridged(alloc, scan, pieces, frame, closing, scratch),
     }
 }

@@ -18,6 +18,6 @@ pub use fx_contour::ContourFault as RasterFault;
 pub use fx_rows::Rows;
 pub use fx_winding::{Bitmap, Scan};
 pub use region::Region;
-pub use rule::Rule;
+pub use rule::{Closing, Rule};
 pub use scratch::Scratch;
 pub use shape::Shape;

@@ -52,7 +52,7 @@ fn framed(outline: &Outline, rule: Rule) -> Result<Option<Frame>, RasterFault>
 {
     match rule {
         Rule::Centres => outline_frame(outline),
-        Rule::Bridged => dropout_frame(outline),
+        Rule::Bridged(_) => dropout_frame(outline),
     }
 }
 

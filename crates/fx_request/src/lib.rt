@@ -21,4 +21,4 @@ pub use names::named;
 pub use notice::{Deaf, Listener, Notice};
 pub use place::Place;
 pub use refusal::Refusal;
-pub use request::{Choice, Mode, OnRefused, Report, Request};
+pub use request::{Choice, Dropout, Mode, OnRefused, Report, Request};

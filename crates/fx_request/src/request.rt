@@ -3,14 +3,25 @@
 use fx_bdf::Title;
 use fx_machine::Usage;
 
-/// How outlines become pixels: whether the font's programs run, and whether drop-out control keeps thin strokes whole (Apple
-/// TrueType Reference Manual, scan conversion, rules 1 and 3).
+/// Whether drop-out control keeps thin strokes whole, and how (Apple TrueType Reference Manual, scan conversion). If a stroke
+/// passes between two neighbours, neither of which is set, it sets one of them.
+#[derive(Clone, Copy, Debug, PartialEq, Eq)]
+pub enum Dropout {
+    /// It sets none.
+    Off,
+    /// The left one, or the lower one (rule 3).
+    Left,
+    /// The one to which the stroke is nearer; the left or the lower one if it is as near to both (rule 5).
+    Near,
+}
+
+/// How outlines become pixels: whether the font's programs run, and whether drop-out control keeps thin strokes whole.
 #[derive(Clone, Copy, Debug, PartialEq)]
 pub struct Mode {
     /// Whether the font's programs are run.
     pub hinting: bool,
-    /// Whether a stroke that passes between two neighbours, neither of which is set, sets one of them.
-    pub dropout: bool,
+    /// Whether drop-out control is on, and which pixels it sets.
+    pub dropout: Dropout,
 }
 
 /// How one glyph is chosen.

@@ -11,6 +11,7 @@ use Rattle.fx_machine.specs.Blocks.{IsBlockOf}
 use Rattle.fx_machine.specs.declared.state.State.{State}
 use Rattle.fx_machine.specs.declared.usage.Usage.{Usage}
 use Rattle.fx_raster.specs.declared.rule.Rule.{Rule}
+use Rattle.fx_request.specs.declared.request.Dropout.{Dropout}
 use Rattle.fx_request.specs.Faults.{of_machine}
 use Rattle.fx_request.specs.declared.request.Mode.{Mode}
 use Rattle.fx_request.specs.declared.refusal.Refusal.{Refusal}
@@ -127,7 +128,7 @@ pub for_opened : (file : FontFileView) (ppem : ℕ) (chars : List ℕ) (mode : M
 unfolding setting_for
 for_opened file ppem chars mode o s h e = rw (sym h) at e
 
-pub set_as : (o : Opened) (dropout : Bool) (rule : Rule) (hinter : Option Known) (s : Setting) → rule ≡ rule_of dropout
+pub set_as : (o : Opened) (dropout : Dropout) (rule : Rule) (hinter : Option Known) (s : Setting) → rule ≡ rule_of dropout
     → hinter ≡ s.machine → setting_with o (rule_of dropout) s.machine ≡ s → setting_with o rule hinter ≡ s
 set_as o dropout rule hinter s r h e = rw (r, h) e
 

@@ -19,7 +19,10 @@ use Rattle.fx_hint.specs.Programmed.{hinting_of}
 use Rattle.fx_hint.specs.declared.fault.HintFault.{HintFault}
 use Rattle.fx_hint.specs.Outlines.{GlyphOutlineView, outline_with}
 use Rattle.fx_raster.specs.declared.rule.Rule.{Rule}
+use Rattle.fx_raster.specs.declared.rule.Closing.TheVariants.{Lower, Nearer}
 use Rattle.fx_raster.specs.declared.rule.Rule.TheVariants.{Centres, Bridged}
+use Rattle.fx_request.specs.declared.request.Dropout.{Dropout}
+use Rattle.fx_request.specs.declared.request.Dropout.TheVariants.{Off, Left, Near}
 use Rattle.fx_raster.specs.Rules.{ShapeView, IsPixelSet, shape_of}
 use Rattle.fx_bdf.specs.declared.header.Header.{Header}
 use Rattle.fx_bdf.specs.Glyphs.{Glyph, IsTight, IsFormed, glyph_bit, bounds_of}
@@ -56,9 +59,10 @@ pub record Setting : Type 0 where
   pub machine : Option Known
 
 -- which pixels an outline sets, with drop-out control or without
-abbrev pub rule_of : Bool → Rule
-rule_of false = Centres
-rule_of true = Bridged
+abbrev pub rule_of : Dropout → Rule
+rule_of Off = Centres
+rule_of Left = Bridged Lower
+rule_of Near = Bridged Nearer
 
 -- an opened font, which pixels an outline sets, and the machine
 abbrev pub setting_with : Opened → Rule → Option Known → Setting

@@ -19,8 +19,8 @@ use crate::surveyed::Survey;
 use crate::tools::Tools;
 use fx_bdf::{BitGlyph, Title};
 use fx_fixed::Sink;
-use fx_raster::{Rows, Rule, Scan};
-use fx_request::{Deaf, Listener, Mode, OnRefused, Refusal, Report};
+use fx_raster::{Closing, Rows, Rule, Scan};
+use fx_request::{Deaf, Dropout, Listener, Mode, OnRefused, Refusal, Report};
 use fx_sfnt::FontFile;
 use std::alloc::Global;
 use std::marker::Model;
@@ -88,13 +88,13 @@ impl<'a> Striker<'a, Rows> {
 }
 
 /// Which pixels an outline sets, with drop-out control or without.
-pub(crate) fn rule_of(dropout: bool) -> Rule
+pub(crate) fn rule_of(dropout: Dropout) -> Rule
     ensures { result ≡ rule_of dropout }
 {
-    if dropout {
-        Rule::Bridged
-    } else {
-        Rule::Centres
+    match dropout {
+        Dropout::Off => Rule::Centres,
+        Dropout::Left => Rule::Bridged(Closing::Lower),
+        Dropout::Near => Rule::Bridged(Closing::Nearer),
     }
 }
 

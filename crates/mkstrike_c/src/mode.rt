@@ -1,31 +1,45 @@
 //! How outlines become pixels, and in which form pixels are told, as C says it.
 ghost use Rattle.std.specs.Prelude.{◌≡◌};
-ghost use Rattle.mkstrike_c.specs.Modes.{is_mode, is_packed, is_strike_mode, mode_of};
+ghost use Rattle.mkstrike_c.specs.Modes.{dropout_of, is_mode, is_packed, is_strike_mode, mode_of};
 
-use fx_request::Mode;
+use fx_request::{Dropout, Mode};
 
-/// Whether a number is a mode: no bit is set but those of hinting, drop-out control and packed pixels.
+/// Whether a number is a mode: no bit is set but those of hinting, drop-out control and packed pixels, and not both of drop-out
+/// control.
 pub fn is_mode(mode: u32) -> bool
     ensures { result ≡ is_mode mode }
 {
-    mode < 512 && mode % 256 < 4
+    mode < 512 && mode % 256 < 6
 }
 
 /// Whether a number is a mode for a strike, which has no form of pixels.
 pub fn is_strike_mode(mode: u32) -> bool
     ensures { result ≡ is_strike_mode mode }
 {
-    mode < 4
+    mode < 6
 }
 
-/// How outlines become pixels, by a number of C: its lowest bit says whether the font's programs run, the next one whether drop-out
-/// control is on.
+/// Which pixels drop-out control sets, by a number of C.
+fn dropout_of(mode: u32) -> Dropout
+    ensures { result ≡ dropout_of mode }
+{
+    if mode / 4 % 2 == 1 {
+        return Dropout::Near;
+    }
+    if mode / 2 % 2 == 1 {
+        return Dropout::Left;
+    }
+    Dropout::Off
+}
+
+/// How outlines become pixels, by a number of C: its lowest bit says whether the font's programs run, the next two whether drop-out
+/// control is on, and how.
 pub fn mode_of(mode: u32) -> Mode
     ensures { result ≡ mode_of mode }
 {
     Mode {
         hinting: mode % 2 == 1,
-        dropout: mode / 2 % 2 == 1,
+        dropout: dropout_of(mode),
     }
 }
 

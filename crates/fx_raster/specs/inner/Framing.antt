@@ -4,6 +4,7 @@ use Rattle.fx_fixed.specs.Chain.{◌>>=◌}
 use Rattle.fx_winding.specs.Winding.{Span}
 use Rattle.fx_winding.specs.Bitmaps.{Bits, bit_of}
 use Rattle.fx_winding.specs.Dropout.{IsSet}
+use Rattle.fx_dropout.specs.Nearer.{IsNearSet}
 use Rattle.fx_winding.specs.Frames.{IsInFrame}
 use Rattle.fx_winding.specs.declared.frame.Frame.{Frame}
 use Rattle.fx_outline.specs.declared.points.OutlinePoint.{OutlinePoint}
@@ -12,6 +13,8 @@ use Rattle.fx_contour.specs.Contours.{IsInReach, drawn_of, spans_of}
 use Rattle.fx_contour.specs.Frames.{IsFrameFor, NothingOutsideFrame}
 use Rattle.fx_contour.specs.DropoutFrames.{HaveMargin, IsDropoutFrameFor}
 use Rattle.fx_raster.specs.declared.region.Region.{Region}
+use Rattle.fx_raster.specs.declared.rule.Closing.{Closing}
+use Rattle.fx_raster.specs.declared.rule.Closing.TheVariants.{Lower, Nearer}
 use Rattle.fx_raster.specs.declared.rule.Rule.{Rule}
 use Rattle.fx_raster.specs.declared.rule.Rule.TheVariants.{Centres, Bridged}
 use Rattle.fx_raster.specs.Rules.{IsPixelSet, framed_by}
@@ -23,7 +26,7 @@ outline_framed_by rule ends points = drawn_of ends points >>= framed_by rule
 -- the frame is that of the spans; with drop-out control it is another, and the columns and rows beside it have numbers
 abbrev pub IsFramedBy : Rule → Option Frame → List Span → Type 0
 IsFramedBy Centres f ss = IsFrameFor f ss
-IsFramedBy Bridged f ss = IsDropoutFrameFor f ss × HaveMargin f
+IsFramedBy (Bridged closing) f ss = IsDropoutFrameFor f ss × HaveMargin f
 
 -- an outline within the limits, and its frame by a rule
 pub record IsShape (rule : Rule) (frame : Option Frame) (ends : List ℕ) (points : List OutlinePoint) : Type 0 where
@@ -31,10 +34,15 @@ pub record IsShape (rule : Rule) (frame : Option Frame) (ends : List ℕ) (point
   pub framed : IsFramedBy rule frame (spans_of ends points)
   pub outside : NothingOutsideFrame frame (spans_of ends points)
 
+-- drop-out control sets the pixel of a frame
+abbrev pub IsSetBy : Closing → List Span → Frame → ℤ → ℤ → Type 0
+IsSetBy Lower = IsSet
+IsSetBy Nearer = IsNearSet
+
 -- the bits are those of the frame, and each is set exactly when drop-out control sets the pixel
-pub record IsBridgedScanOf (f : Frame) (spans : List Span) (b : Bits) : Type 0 where
+pub record IsBridgedScanOf (closing : Closing) (f : Frame) (spans : List Span) (b : Bits) : Type 0 where
   pub same : b.frame ≡ f
-  pub bits : (col row : ℤ) → IsInFrame f col row → IsTrue (bit_of b col row) ↔ IsSet spans f col row
+  pub bits : (col row : ℤ) → IsInFrame f col row → IsTrue (bit_of b col row) ↔ IsSetBy closing spans f col row
 
 -- of all pixels of the plane exactly those have a set bit that are set
 pub record HasBitsOf (rule : Rule) (spans : List Span) (bits : Bits) : Type 0 where

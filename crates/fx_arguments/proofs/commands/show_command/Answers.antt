@@ -11,7 +11,7 @@ returns c =
     let two = c.in_ok-arg-2.ensures.shape c.option-2.ensures.local ∙ ap₂ with_rule one c.option-2.ensures.rule in
     let three = c.in_ok-arg-3.ensures.shape c.option-3.ensures.local ∙ ap₂ with_rule two c.option-3.ensures.rule in
     let four = c.in_ok-arg-4.ensures.shape c.flag.ensures.local ∙ ap₂ with_rule three c.flag.ensures.rule in
-    let five = c.in_ok-arg-5.ensures.shape c.flag-2.ensures.local ∙ ap₂ with_rule four c.flag-2.ensures.rule in
+    let five = c.in_ok-arg-5.ensures.shape c.dropout.ensures.local ∙ ap₂ with_rule four c.dropout.ensures.rule in
     let six = c.in_ok-arg-6.ensures.shape c.option-4.ensures.local ∙ ap₂ with_rule five c.option-4.ensures.rule in
-    IfOk-weaker c.arg-7.result _ _ (λ command h. h.shape c.flag-3.ensures.local ∙ ap₂ with_rule six c.flag-3.ensures.rule)
+    IfOk-weaker c.arg-7.result _ _ (λ command h. h.shape c.flag-2.ensures.local ∙ ap₂ with_rule six c.flag-2.ensures.rule)
     c.arg-7.ensures

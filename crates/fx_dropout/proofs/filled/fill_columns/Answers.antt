@@ -10,7 +10,7 @@ use Rattle.fx_dropout.specs.inner.Filled.{IsFilled, IsOfLines}
 use Rattle.fx_dropout.specs.inner.Lines.{IsSoFar}
 use Rattle.fx_dropout.specs.inner.Words.{IsShutInColumn}
 use Rattle.fx_dropout.proofs.Candidates.{level_noted}
-use Rattle.fx_dropout.proofs.Filling.{filled_none, lines_skip, lines_more, level_none, none_inside}
+use Rattle.fx_dropout.proofs.Filling.{filled_none, lines_skip, lines_more, no_gap_up, none_inside}
 use Rattle.fx_dropout.proofs.filled.fill_columns.Goals as goal
 
 pub returns-then-is_empty-clause-frame : goal.returns-then-is_empty-clause-frame
@@ -44,7 +44,7 @@ levels-init c =
       filled = subst (λ (t : Bits).
           IsFilled true ss f (IsOfLines f.left f.width (f.bottom -ℤ pos 1) next.result) old old (IsSoFar ss f t))
           (sym c.requires.same) (lines_skip true ss f f.left (f.bottom -ℤ pos 1) f.width 0 next.result old old old
-          (omega arith) (λ r n low high few. level_none ss across up b r n noted c.requires.covered (omega (arith, high, to)) few
+          (omega arith) (λ r n low high few. no_gap_up ss across up b r n noted c.requires.covered (omega (arith, high, to)) few
           (subst (λ (xs : List ℕ). IsShutInColumn xs b r n) c.deref.ensures.value (next.ensures.skipped r n low high few)))
           (filled_none true ss f (IsOfLines f.left f.width (f.bottom -ℤ pos 1) 0) old old
           (λ i j d. omega (arith, signed_linear, d.row.0, d.row.1))));
@@ -88,7 +88,8 @@ fill_level-requires-clause-noted c =
     (IsSoFar ss f b) up (up * w) at noted
     (λ t. let told = c.is_told.ensures.inner t in
     let inner = told.2 in
-    (subst (λ (g : Frame). AreExact g across ups ss) c.requires.frame (c.requires.exact told.0), told.1, omega (arith, inner, height)))
+    let exact = subst (λ (g : Frame). AreExact g across ups ss) c.requires.frame (c.requires.exact told.0) in
+    (exact, told.1, omega (arith, inner, height)))
     c.requires.covered (omega (arith, height)) row first (λ t. take (few t) (drop (up * w) (items t)))
 
 pub levels-preserved : goal.levels-preserved
@@ -114,7 +115,7 @@ levels-preserved c =
       to = to;
       filled = lines_more true ss f f.left (f.bottom -ℤ pos 1) at f.width up next.result old old
           (IsSoFar ss f c.levels.target) (IsSoFar ss f c.fill_level.new.target) (omega (arith, from)) row
-          (λ r n low high few. level_none ss across ups b r n noted c.requires.covered (omega (arith, high, to)) few
+          (λ r n low high few. no_gap_up ss across ups b r n noted c.requires.covered (omega (arith, high, to)) few
           (subst (λ (xs : List ℕ). IsShutInColumn xs b r n) c.deref-in-levels-2.ensures.value
           (next.ensures.skipped r n low high few))) c.levels.invariant.filled c.fill_level.ensures.filled;
     }

@@ -10,7 +10,7 @@ use Rattle.fx_dropout.specs.inner.Filled.{IsFilled, IsOfLines}
 use Rattle.fx_dropout.specs.inner.Lines.{IsSoFar}
 use Rattle.fx_dropout.specs.inner.Words.{IsShutInRow}
 use Rattle.fx_dropout.proofs.Candidates.{row_noted}
-use Rattle.fx_dropout.proofs.Filling.{filled_none, lines_skip, lines_more, row_none, none_inside}
+use Rattle.fx_dropout.proofs.Filling.{filled_none, lines_skip, lines_more, no_gap_across, none_inside}
 use Rattle.fx_dropout.proofs.filled.fill_rows.Goals as goal
 
 pub returns-then-is_empty-clause-frame : goal.returns-then-is_empty-clause-frame
@@ -44,7 +44,7 @@ rows-init c =
       filled = subst (λ (t : Bits).
           IsFilled false ss f (IsOfLines (f.left -ℤ pos 1) (f.width + 1) f.bottom next.result) old old (IsSoFar ss f t))
           (sym c.requires.same) (lines_skip false ss f (f.left -ℤ pos 1) f.bottom (f.width + 1) 0 next.result old old old
-          (omega arith) (λ r n low high few. row_none ss across up b r n noted c.requires.covered (omega (arith, high, to)) few
+          (omega arith) (λ r n low high few. no_gap_across ss across up b r n noted c.requires.covered (omega (arith, high, to)) few
           (subst (λ (xs : List ℕ). IsShutInRow xs b r n) c.deref.ensures.value
           (next.ensures.skipped r n low high (omega (arith, few)))))
           (filled_none false ss f (IsOfLines (f.left -ℤ pos 1) (f.width + 1) f.bottom 0) old old
@@ -113,7 +113,7 @@ rows-preserved c =
       to = to;
       filled = lines_more false ss f (f.left -ℤ pos 1) f.bottom at (f.width + 1) up next.result old old
           (IsSoFar ss f c.rows.target) (IsSoFar ss f c.fill_row.new.target) (omega (arith, from)) row
-          (λ r n low high few. row_none ss across ups b r n noted c.requires.covered (omega (arith, high, to)) few
+          (λ r n low high few. no_gap_across ss across ups b r n noted c.requires.covered (omega (arith, high, to)) few
           (subst (λ (xs : List ℕ). IsShutInRow xs b r n) c.deref-in-rows-2.ensures.value
           (next.ensures.skipped r n low high (omega (arith, few))))) c.rows.invariant.filled c.fill_row.ensures.filled;
     }

@@ -45,7 +45,8 @@ segments-preserved g c =
     let after = IsSoFar ss f c.fill_gap.new.target in
     let here : min k l.count ≡ k = omega arith in
     let one : IsFilled l.is_up ss f (λ i j. (i ≡ p.here.col) × (j ≡ p.here.row)) old mid after =
-    subst (λ (u : Bool). IsFilled u ss f (λ i j. (i ≡ p.here.col) × (j ≡ p.here.row)) old mid after) e.up c.fill_gap.ensures.filled in
+    subst (λ (u : Bool). IsFilled u ss f (λ i j. (i ≡ p.here.col) × (j ≡ p.here.row)) old mid after) e.up
+    c.fill_gap.ensures.filled in
     let from = next.ensures.from in
     record {
       same = c.fill_gap.ensures.frame;

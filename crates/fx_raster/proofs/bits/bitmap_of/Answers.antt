@@ -15,9 +15,10 @@ returns-in-Centres g c =
 
 pub bridged-requires : goal.bridged-requires
 bridged-requires g c =
-    framed_margin _ (map span_of c.args.pieces.now) c.args.rule c.in-Bridged.is (rw c.in-Some.is at c.requires.framed)
+    framed_margin c.in-Bridged.closing _ (map span_of c.args.pieces.now) c.args.rule c.in-Bridged.is
+    (rw c.in-Some.is at c.requires.framed)
 
 pub returns-in-Bridged : goal.returns-in-Bridged
 returns-in-Bridged g c =
-    bridged_bits _ (map span_of c.args.pieces.now) _ c.args.rule c.in-Bridged.is c.bridged.ensures
+    bridged_bits c.in-Bridged.closing _ (map span_of c.args.pieces.now) _ c.args.rule c.in-Bridged.is c.bridged.ensures
     (rw c.in-Some.is at c.requires.framed) (rw c.in-Some.is at c.requires.outside) c.requires.closed
