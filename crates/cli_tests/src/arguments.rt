@@ -8,7 +8,7 @@ use std::process::Abort;
 use std::test::Fail;
 
 /// Arguments that are valid, of size 0 or 1025.
-const VALID: [&str; 20] = [
+const VALID: [&str; 22] = [
     "mkstrike|make|--ppem|0|--chars|41",
     "mkstrike|make|--chars=41|--ppem=0",
     "mkstrike|make|--hex|--name=a b|--unhinted|--chars|20,41-42|--ppem|00000000",
@@ -18,11 +18,13 @@ const VALID: [&str; 20] = [
     "|make|--ppem=1025|--chars=41|--name=-",
     "mkstrike|make|--ppem|0|--chars|41|--name=-misc-fixed-medium-r-normal--16-160-72-72-c-80-iso10646-1",
     "mkstrike|make|--dropout|--ppem|0|--unhinted|--chars|41",
+    "mkstrike|make|--dropout=near|--ppem|0|--unhinted|--chars|41",
     "mkstrike|make|--ppem|0|--refused|stop|--chars|41",
     "mkstrike|make|--ppem|0|--refused=leave-out|--chars|41|--unhinted",
     "mkstrike|make|--refused|unhinted|--ppem|0|--chars|41",
     "mkstrike|show|--ppem|0|--char|41",
     "mkstrike|show|--ppem|0|--char|41|--dropout",
+    "mkstrike|show|--ppem|0|--dropout=left|--char|41",
     "mkstrike|show|--hex|--char=0000fF|--unhinted|--ppem=0",
     "mkstrike|show|--ppem|1025|--char|110000",
     "mkstrike|make|--face|0|--ppem|0|--chars|41",
@@ -32,7 +34,7 @@ const VALID: [&str; 20] = [
 ];
 
 /// Arguments that are not valid.
-const NOT_VALID: [&str; 84] = [
+const NOT_VALID: [&str; 87] = [
     "mkstrike|",
     "mkstrike|make",
     "mkstrike|make|--ppem|0",
@@ -90,6 +92,9 @@ const NOT_VALID: [&str; 84] = [
     "mkstrike|make|--pp|0|--chars|41",
     "mkstrike|make|--ppem|0|--chars|41|--unhinted=yes",
     "mkstrike|make|--ppem|0|--chars|41|--dropout=3",
+    "mkstrike|make|--ppem|0|--chars|41|--dropout=",
+    "mkstrike|make|--ppem|0|--chars|41|--dropout=Near",
+    "mkstrike|make|--ppem|0|--chars|41|--dropout|3",
     "mkstrike|make|--ppem|0|--chars|41|--refused",
     "mkstrike|make|--ppem|0|--chars|41|--refused|",
     "mkstrike|make|--ppem|0|--chars|41|--refused|Stop",

@@ -235,7 +235,8 @@ clash n z o = omega (arith, z, o)
 
 -- a row's words have the bits that a bitmap of this frame has there
 pub row_set : (f : Frame) (b : Bits) (j : ℤ) (row : List ℕ) → b.frame ≡ f → IsFrom f.bottom f.height j
-    → AreRowWords b.frame.width row → bits_in b.frame.width row ≡ get_or b.rows (steps b.frame.bottom j) [] → (n : ℕ) → word_bit row n ≡ 1
+    → AreRowWords b.frame.width row → bits_in b.frame.width row ≡ get_or b.rows (steps b.frame.bottom j) []
+    → (n : ℕ) → word_bit row n ≡ 1
     → IsTrue (bit_of b (f.left +ℤ pos n) j)
 row_set f b j row same r words value n o = subst (λ (g : Frame). IsTrue (bit_of b (g.left +ℤ pos n) j)) same
     (row_pixel b j row n (subst (λ (g : Frame). IsFrom g.bottom g.height j) (sym same) r) words value o)

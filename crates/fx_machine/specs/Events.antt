@@ -67,9 +67,8 @@ module _ (row : Program → ℕ → State → Effect) (limit : ℕ) (w : Program
   Counts m (Halted cause v p) = (u : State) × Runs row w (At 0) 0 s m u (Faulted cause v p)
   Counts m (Exhausted v p) = m ≡ limit
 
--- the instruction of number k, from 0, is the one that the run of k instructions is cut off before, and the run of one more
--- leads to
--- what it led to
+-- counted from 0, the instruction of number k is the one before which the run of k instructions is cut off, and the run of one
+-- instruction more leads to what it led to
 abbrev pub StepsAreRuns : Type 0
 StepsAreRuns = (row : Program → ℕ → State → Effect) (limit : ℕ) (w : Program) (s : State) (k : ℕ) (x : Step)
     → slice_get (steps_of row limit w s) k ≡ Some x

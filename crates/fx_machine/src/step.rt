@@ -44,8 +44,8 @@ fn execute(
     )
 }
 
-/// Executes the instruction at the cursor, and says whether the program may have changed. It and what it calls are inlined into the loop of
-/// each run, watched or not: a call for each instruction would cost a third of a strike.
+/// Executes the instruction at the cursor, and says whether the program may have changed. It and what it calls are inlined into
+/// the loop of each run, watched or not: a call for each instruction would cost a third of a strike.
 #[inline(always)]
 pub fn advance(
     cursor: &mut Cursor,

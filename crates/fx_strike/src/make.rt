@@ -54,8 +54,8 @@ pub fn make_strike<W: Sink>(
     make_strike_with(alloc, &Rows, font, request, out)
 }
 
-/// Makes the strike of a font and writes its text, as `make_strike` does, and tells a listener of the refused characters that do not
-/// stop the strike.
+/// Makes the strike of a font and writes its text, as `make_strike` does, and tells a listener of the refused characters that
+/// do not stop the strike.
 ///
 /// The first pass tells of each such character once, in rising order, before the first byte is written.
 pub fn make_strike_telling<W: Sink, L: Listener>(

@@ -1,5 +1,5 @@
 //! Drop-out control: the segments that pieces meet, and the gaps that are closed, by hand.
-use fx_dropout::close_gaps;
+use fx_dropout::{close_gaps, close_gaps_nearer};
 use fx_winding::{Bitmap, Frame, Noted, Piece, Pieces, Plain, Point, Scan, Scratch, Tally, meets};
 use std::alloc::{AllocError, Global};
 use std::process::Abort;
@@ -82,8 +82,20 @@ fn pieces_of(alloc: Global, curves: &[Curve]) -> Result<Pieces, AllocError> {
     Ok(pieces)
 }
 
-/// A scan of an outline with its gaps closed, in a frame whose lower left pixel is given by its distance from column and row -9.
-fn closed(alloc: Global, curves: &[Curve], frame: (u8, u8, u8, u8)) -> Result<Bitmap, Fail> {
+/// A box of pixels: its lower left pixel, by its distance from column and row -9, its width and its height.
+type Corner = (u8, u8, u8, u8);
+
+/// Which pixel closes a gap.
+#[derive(Clone, Copy)]
+enum By {
+    /// The left or the lower one.
+    Lower,
+    /// The nearer one.
+    Nearer,
+}
+
+/// A scan of an outline in a frame with its gaps closed.
+fn closed(alloc: Global, curves: &[Curve], frame: Corner, by: By) -> Result<Bitmap, Fail> {
     let pieces = pieces_of(alloc, curves)?;
     let frame = Frame {
         left: i32::from(frame.0) - 9,
@@ -100,7 +112,10 @@ fn closed(alloc: Global, curves: &[Curve], frame: (u8, u8, u8, u8)) -> Result<Bi
         &mut scratch,
         &mut tally,
     )?;
-    close_gaps(&pieces, &notes, &mut bitmap, &mut tally);
+    match by {
+        By::Lower => close_gaps(&pieces, &notes, &mut bitmap, &mut tally),
+        By::Nearer => bitmap = close_gaps_nearer(alloc, &pieces, &notes, &bitmap, &mut tally)?,
+    }
     Ok(bitmap)
 }
 
@@ -118,7 +133,7 @@ fn looks(bitmap: &Bitmap, picture: &[&[u8; 5]; 5]) -> bool {
 }
 
 /// All pixels from column and row -1 to 3.
-const ALL: (u8, u8, u8, u8) = (8, 8, 5, 5);
+const ALL: Corner = (8, 8, 5, 5);
 
 /// A hairline of three pixels between two rows, and one between two columns.
 const BETWEEN_ROWS: [Curve; 4] = [
@@ -171,13 +186,13 @@ fn gaps(rt: HostRuntime) -> Result<(), Fail> {
     let none = [b"....."; 5];
     let rows = [b".....", b".....", b".....", b".###.", b"....."];
     let columns = [b".....", b".#...", b".#...", b".#...", b"....."];
-    assert!(rt; looks(&closed(alloc, &BETWEEN_ROWS, ALL)?, &rows));
-    assert!(rt; looks(&closed(alloc, &BETWEEN_COLUMNS, ALL)?, &columns));
-    assert!(rt; looks(&closed(alloc, &DOT, ALL)?, &none));
-    assert!(rt; looks(&closed(alloc, &DOT_ON_ROW, ALL)?, &one));
-    assert!(rt; looks(&closed(alloc, &TOUCH, ALL)?, &one));
-    assert!(rt; looks(&closed(alloc, &TIP, ALL)?, &one));
-    assert!(rt; looks(&closed(alloc, &ROW_AND_COLUMN, ALL)?, &one));
+    assert!(rt; looks(&closed(alloc, &BETWEEN_ROWS, ALL, By::Lower)?, &rows));
+    assert!(rt; looks(&closed(alloc, &BETWEEN_COLUMNS, ALL, By::Lower)?, &columns));
+    assert!(rt; looks(&closed(alloc, &DOT, ALL, By::Lower)?, &none));
+    assert!(rt; looks(&closed(alloc, &DOT_ON_ROW, ALL, By::Lower)?, &one));
+    assert!(rt; looks(&closed(alloc, &TOUCH, ALL, By::Lower)?, &one));
+    assert!(rt; looks(&closed(alloc, &TIP, ALL, By::Lower)?, &one));
+    assert!(rt; looks(&closed(alloc, &ROW_AND_COLUMN, ALL, By::Lower)?, &one));
     Ok(())
 }
 
@@ -187,7 +202,122 @@ fn clamped(rt: HostRuntime) -> Result<(), Fail> {
     let alloc = rt.alloc();
     let right = [b".....", b"..#..", b"..#..", b"..#..", b"....."];
     let upper = [b".....", b".....", b".###.", b".....", b"....."];
-    assert!(rt; looks(&closed(alloc, &BETWEEN_COLUMNS, (10, 8, 3, 5))?, &right));
-    assert!(rt; looks(&closed(alloc, &BETWEEN_ROWS, (8, 10, 5, 3))?, &upper));
+    assert!(rt;
+        looks(
+            &closed(alloc, &BETWEEN_COLUMNS, (10, 8, 3, 5), By::Lower)?,
+            &right
+        )
+    );
+    assert!(rt;
+        looks(
+            &closed(alloc, &BETWEEN_ROWS, (8, 10, 5, 3), By::Lower)?,
+            &upper
+        )
+    );
+    Ok(())
+}
+
+/// A stem from the left to the right coordinate, three pixels high.
+fn stem(left: i16, right: i16) -> [Curve; 4] {
+    [
+        ((left, 0), None, (right, 0)),
+        ((right, 0), None, (right, 384)),
+        ((right, 384), None, (left, 384)),
+        ((left, 384), None, (left, 0)),
+    ]
+}
+
+/// A bar from the lower to the upper coordinate, three pixels wide.
+fn bar(lower: i16, upper: i16) -> [Curve; 4] {
+    [
+        ((0, lower), None, (384, lower)),
+        ((384, lower), None, (384, upper)),
+        ((384, upper), None, (0, upper)),
+        ((0, upper), None, (0, lower)),
+    ]
+}
+
+/// Between the centres at 64 and 192 the places 65 to 127 are nearer to the first, and 129 to 191 to the second. A stem of 120 to
+/// 136 covers eight of each, so that the left pixel is set; one of 121 to 136 seven and eight.
+#[test]
+fn nearer(rt: HostRuntime) -> Result<(), Fail> {
+    let alloc = rt.alloc();
+    let left = [b".....", b".#...", b".#...", b".#...", b"....."];
+    let right = [b".....", b"..#..", b"..#..", b"..#..", b"....."];
+    let lower = [b".....", b".....", b".....", b".###.", b"....."];
+    let upper = [b".....", b".....", b".###.", b".....", b"....."];
+    for (from, to, picture) in [
+        (100, 110, &left),
+        (126, 128, &left),
+        (120, 136, &left),
+        (121, 136, &right),
+        (128, 130, &right),
+        (190, 191, &right),
+    ] {
+        assert!(rt; looks(&closed(alloc, &stem(from, to), ALL, By::Nearer)?, picture));
+    }
+    for (from, to, picture) in [
+        (100, 110, &lower),
+        (120, 136, &lower),
+        (121, 136, &upper),
+        (190, 191, &upper),
+    ] {
+        assert!(rt; looks(&closed(alloc, &bar(from, to), ALL, By::Nearer)?, picture));
+    }
+    Ok(())
+}
+
+/// If the nearer pixel of a gap lies outside the frame, the other is set.
+#[test]
+fn nearer_clamped(rt: HostRuntime) -> Result<(), Fail> {
+    let alloc = rt.alloc();
+    let left = [b".....", b".#...", b".#...", b".#...", b"....."];
+    let right = [b".....", b"..#..", b"..#..", b"..#..", b"....."];
+    let lower = [b".....", b".....", b".....", b".###.", b"....."];
+    let upper = [b".....", b".....", b".###.", b".....", b"....."];
+    assert!(rt;
+        looks(
+            &closed(alloc, &stem(140, 150), (8, 8, 2, 5), By::Nearer)?,
+            &left
+        )
+    );
+    assert!(rt;
+        looks(
+            &closed(alloc, &stem(100, 110), (10, 8, 3, 5), By::Nearer)?,
+            &right
+        )
+    );
+    assert!(rt;
+        looks(
+            &closed(alloc, &bar(140, 150), (8, 8, 5, 2), By::Nearer)?,
+            &lower
+        )
+    );
+    assert!(rt;
+        looks(
+            &closed(alloc, &bar(100, 110), (8, 10, 5, 3), By::Nearer)?,
+            &upper
+        )
+    );
+    Ok(())
+}
+
+/// Two stems, in the right halves of two segments one after the other.
+const TWO_STEMS: [Curve; 8] = [
+    ((140, 0), None, (150, 0)),
+    ((150, 0), None, (150, 384)),
+    ((150, 384), None, (140, 384)),
+    ((140, 384), None, (140, 0)),
+    ((290, 0), None, (300, 0)),
+    ((300, 0), None, (300, 384)),
+    ((300, 384), None, (290, 384)),
+    ((290, 384), None, (290, 0)),
+];
+
+/// A gap stays one if the gap before it has set the pixel between them.
+#[test]
+fn two_gaps(rt: HostRuntime) -> Result<(), Fail> {
+    let both = [b".....", b"..##.", b"..##.", b"..##.", b"....."];
+    assert!(rt; looks(&closed(rt.alloc(), &TWO_STEMS, ALL, By::Nearer)?, &both));
     Ok(())
 }

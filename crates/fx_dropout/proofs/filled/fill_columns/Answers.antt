@@ -19,9 +19,8 @@ returns-then-is_empty-clause-frame c = ap (λ (b : Bits). b.frame) c.requires.sa
 pub returns-then-is_empty-clause-filled : goal.returns-then-is_empty-clause-filled
 returns-then-is_empty-clause-filled c =
     let ss = map span_of c.args.pieces.now in
-    let b = c.args.given.now in
-    let f = b.frame in
-    let old = IsSoFar ss f b in
+    let f = c.args.given.now.frame in
+    let old = IsSoFar ss f c.args.given.now in
     let all = IsOfLines f.left f.width (f.bottom -ℤ pos 1) (f.height + 1) in
     subst (λ (t : Bits). IsFilled true ss f all old old (IsSoFar ss f t)) (sym c.requires.same)
     (none_inside true ss f all old old (subst (λ (g : Frame). (i j : ℤ) → ¬ (IsInFrame g i j)) c.requires.frame

@@ -41,8 +41,7 @@ fill_line-requires-clause-shut c = λ k l s.
 pub fill_line-requires-clause-noted : goal.fill_line-requires-clause-noted
 fill_line-requires-clause-noted c =
     let ss = map span_of c.args.pieces.now in
-    let b = c.args.given.now in
-    let f = b.frame in
+    let f = c.args.given.now.frame in
     let low = to_z w32 (of_z w32 c.args.i) in
     let i : c.args.i ≡ low = omega (arith, signed_linear) in
     let same = c.frame-frame.ensures.value in
@@ -51,7 +50,7 @@ fill_line-requires-clause-noted c =
     let count = e.count ∙ ap (λ (g : Frame). g.width) same in
     let wide = ap (λ (g : Frame). g.width) same in
     let inner = e.inner in
-    let old = IsSoFar ss f b in
+    let old = IsSoFar ss f c.args.given.now in
     let noted : IsLevelNoted c.args.told ss f low old c.args.noted.now =
     subst (λ (y : ℤ). IsLevelNoted c.args.told ss f y old c.args.noted.now) i c.requires.noted in
     record {

@@ -11,3 +11,11 @@ close_gaps-requires-clause-margin c = subst HasMargin (sym c.in_ok-bitmap.ensure
   bottom = (omega (arith, signed_linear), omega (arith, signed_linear));
   top = (omega (arith, signed_linear), omega (arith, signed_linear));
 })
+
+pub close_gaps_nearer-requires-clause-margin : goal.close_gaps_nearer-requires-clause-margin
+close_gaps_nearer-requires-clause-margin c = subst HasMargin (sym c.in_ok-bitmap.ensures.bits.same) (record {
+  left = (omega (arith, signed_linear), omega (arith, signed_linear));
+  right = (omega (arith, signed_linear), omega (arith, signed_linear));
+  bottom = (omega (arith, signed_linear), omega (arith, signed_linear));
+  top = (omega (arith, signed_linear), omega (arith, signed_linear));
+})
