@@ -30,11 +30,12 @@ class Font:
     def __repr__(self) -> str:
         return "<Font %r, %d bytes>" % (self.name, len(self.data))
 
-    def strike(self, size: int, chars: Chars = "", *, text: str = "", hinted: bool = True, dropout: bool = False, name: str = NAME,
-               x11: bool = False, properties: Mapping[str, Value] | None = None, strict: bool = False) -> Strike:
+    def strike(self, size: int, chars: Chars = "", *, text: str = "", hinted: bool = True, dropout: bool | str = False,
+               name: str = NAME, x11: bool = False, properties: Mapping[str, Value] | None = None, strict: bool = False) -> Strike:
         """Makes a strike of characters at a size in pixels per em.
 
-        `chars` and `text` say which: see `characters`. With `hinted` the font's own programs run, with `dropout` thin strokes stay whole.
+        `chars` and `text` say which: see `characters`. With `hinted` the font's own programs run, with `dropout` thin strokes stay whole:
+        `True` or `"left"` sets the left or the lower pixel beside them, `"near"` the nearer one.
         `name`, `x11` and `properties` are what `mkstrike make` calls `--name`, `--x11` and `--property`.
 
         What the font lacks is in `missing` of the strike. A character that is refused is in `refused`, and the others are made; with
@@ -56,7 +57,7 @@ class Font:
                         strays=told.strays, steps=told.steps)
         return strike.with_properties(properties, x11=x11) if x11 or properties else strike
 
-    def glyph(self, size: int, char: str | int, *, hinted: bool = True, dropout: bool = False) -> Glyph:
+    def glyph(self, size: int, char: str | int, *, hinted: bool = True, dropout: bool | str = False) -> Glyph:
         """Makes the glyph of one character, given as such or as a code point. Raises `Missing` if the font lacks it.
 
         The font's `fpgm` and `prep` run each time: for many characters make a strike."""
@@ -67,7 +68,7 @@ class Font:
         it, pixels = made
         return glyph(chr(code), it.width, it.height, it.left, it.bottom, it.dwidth, it.swidth, pixels)
 
-    def glyph_by_id(self, size: int, number: int, *, hinted: bool = True, dropout: bool = False) -> Glyph:
+    def glyph_by_id(self, size: int, number: int, *, hinted: bool = True, dropout: bool | str = False) -> Glyph:
         """Makes a glyph by its number, for programs that shape text. Glyph 0 is the font's box for what it lacks."""
         made = _library.glyph(self.data, self.face, size, _library.mode_of(hinted, dropout), number, by_id=True)
         assert made is not None
