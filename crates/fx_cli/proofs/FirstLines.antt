@@ -23,7 +23,7 @@ use Rattle.fx_arguments.specs.declared.fault.Fault.TheVariants.{Usage, Early, La
 use Rattle.fx_arguments.specs.Arguments.{texts}
 use Rattle.fx_arguments.specs.CommandLine.{command_of}
 use Rattle.fx_arguments.specs.Commands.{CommandView, Refuses}
-use Rattle.fx_arguments.specs.ReadAhead.{ahead_of}
+use Rattle.fx_arguments.specs.ReadAhead.{ahead_of, nothing_ahead}
 use Rattle.fx_arguments.specs.Input.{line_of, rest_of, arguments_of_line}
 use Rattle.fx_cli.specs.Runs.{AreArguments, Ends, HasLine, IsReadForArguments, IsReason, IsSpared}
 use Rattle.fx_arguments.specs.Lines.{Tells, refusal_line}
@@ -241,6 +241,49 @@ unasked given source sink some same untouched fault why =
         record { got = []; read = read; spared = spared; silent = refl; reason = ((given, rw some refl, h), rw some same) }
     by read spared Usage h = record { got = []; read = read; spared = spared; silent = refl; reason = (rw some h, rw some same) }
     by read spared _ h = absurd h
+
+-- what was asked for ends the run
+given_does : (given : List Text) (command : CommandView) (source sink : Change) (told : List Notice) (answer : Result Done Refusal)
+    → has_arguments given ≡ true → command_of given ≡ Ok command → DoesAfter command nothing_ahead source sink told answer
+    → Does given source sink told answer
+given_does given command source sink told answer some asks m = record {
+  input = m.more;
+  read = m.read;
+  whole = m.whole;
+  calm = m.calm;
+  fits = omega (arith, m.fits);
+  arguments = given;
+  are = rw some refl;
+  command = command;
+  asks = asks;
+  font = m.made.font;
+  decoded = rw some m.made.decoded;
+  leaves = m.made.leaves;
+}
+
+given_reasons : (given : List Text) (command : CommandView) (source : Change) (more : List ℕ) → has_arguments given ≡ true
+    → command_of given ≡ Ok command → (refusal : Refusal) → IsReasonAfter command nothing_ahead more source refusal
+    → IsReason given more source (Early refusal)
+given_reasons given command source more some asks ReadFailed h = h
+given_reasons given command source more some asks BadHex h = (h.0, (given, rw some refl, (command, asks, rw some h.1)))
+given_reasons given command source more some asks InputTooLarge h = omega (arith, h)
+given_reasons given command source more some asks OutOfMemory h = tt
+given_reasons given command source more some asks _ h = absurd h
+
+pub given_ends : (given : List Text) (command : CommandView) (source sink : Change) (told : List Notice)
+    → has_arguments given ≡ true → command_of given ≡ Ok command
+    → (outcome : Result Done Fault) → EndsAfter command nothing_ahead source sink told outcome → Ends given source sink told outcome
+given_ends given command source sink told some asks (Ok done) m = given_does given command source sink told (Ok done) some asks m
+given_ends given command source sink told some asks (Err (Late refusal)) m =
+    given_does given command source sink told (Err refusal) some asks m
+given_ends given command source sink told some asks (Err (Early refusal)) s = record {
+  got = s.more;
+  read = s.read;
+  spared = s.spared;
+  silent = s.silent;
+  reason = given_reasons given command source s.more some asks refusal s.reason;
+}
+given_ends given command source sink told some asks (Err Usage) s = absurd s
 
 -- a source or a sink that was not used
 abbrev pub unchanged : Option (List ℕ) → ℕ → Change
