@@ -1,5 +1,4 @@
 use Rattle.std.proofs.Common.{refl}
-use Rattle.fx_fixed.specs.Changes.{Change}
 use Rattle.fx_arguments.specs.Arguments.{texts}
 use Rattle.fx_arguments.specs.Commands.{seen}
 use Rattle.fx_strike.proofs.Exits.{came}
@@ -15,18 +14,6 @@ returns-in_err-command g c =
 
 pub returns : goal.returns
 returns g c =
-    let source : Change = record {
-      bytes_before = g.R.Source.left c.args.reader.now;
-      bytes = g.R.Source.left c.run_command.new.reader;
-      faults_before = g.R.Source.fault_count c.args.reader.now;
-      faults = g.R.Source.fault_count c.run_command.new.reader;
-    } in
-    let sink : Change = record {
-      bytes_before = g.O.Sink.held c.args.out.now;
-      bytes = g.O.Sink.held c.run_command.new.out;
-      faults_before = g.O.Sink.fault_count c.args.out.now;
-      faults = g.O.Sink.fault_count c.run_command.new.out;
-    } in
     told_as (rw c.none.ensures at c.run_command.ensures) (λ notices ends. given_ends (texts c.args.arguments.now)
-    (seen c.in_ok-command.command) source sink notices (many_arguments c.args.arguments.now c.requires.given)
+    (seen c.in_ok-command.command) _ _ notices (many_arguments c.args.arguments.now c.requires.given)
     c.in_ok-command.ensures c.run_command.result ends)
