@@ -133,7 +133,7 @@ def test_page():
     """The man page has the options of the command."""
     with open(os.path.join(TOP, "docs/strike.1"), encoding="utf-8") as file:
         page = file.read().replace("\\-", "-").partition(".SH OPTIONS")[2]
-    shown = re.findall(r"^(?:\\fB|\.B |\.BR -h \", \" )(--\w+)", page, re.M)
+    shown = re.findall(r"^(?:\\fB|\.B |\.BR -h \", \" )(--[\w-]+)", page, re.M)
     due = [name for action in command.parser()._actions for name in action.option_strings if name.startswith("--")]
     assert set(shown) == set(due)
 
