@@ -5,12 +5,12 @@ use Rattle.std.proofs.Common.{to_z, of_z, [], ◌∷◌, Option, Some, None}
 use Rattle.std.proofs.lemmas.Int.{of_z-to_z, wrapping_mul-bits}
 use Rattle.std.proofs.Math.Facts.{Fits-lt-pow, Fits-of_z}
 use Rattle.std.specs.Int.{int_wrap}
-use Rattle.fx_fixed.specs.Polynomial.{Expr, var, num, ◌⊞◌, ◌⊠◌, minus, ◌⊟◌}
+use Rattle.fx_fixed.specs.Polynomial.{Expr, var, num, ◌⊞◌, ◌⊠◌, ◌⊟◌}
 use Rattle.fx_fixed.proofs.Linear.{signed, signed_linear}
 use Rattle.fx_fixed.proofs.Ring.{ring, *ℤ_assoc}
 use Rattle.fx_fixed.specs.Ranges.{IsWithin}
-use Rattle.fx_winding.specs.Area.{Place, area, area_of, gap_of}
-use Rattle.fx_winding.specs.Winding.{Span, centre, areas_of_part}
+use Rattle.fx_winding.specs.Area.{Place, area_of, gap_of}
+use Rattle.fx_winding.specs.Winding.{Span, centre}
 use Rattle.fx_winding.specs.declared.weights.Weights.{Weights}
 use Rattle.fx_rows.specs.inner.Arcs.{gap, AreAreas}
 use Rattle.fx_rows.proofs.Gaps.{gap_part}

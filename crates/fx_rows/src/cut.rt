@@ -263,7 +263,14 @@ pub(crate) fn first_guess(piece: &Piece, frame: Frame) -> u32 {
 }
 
 /// The column beside the end that is on a bent arc, if it is. No other can be, and none if the arc touches no centre.
-fn on_end(piece: &Piece, bend: Bend, touches: bool, strip: Strip, end: u32, tally: &mut Tally) -> OnRow
+fn on_end(
+    piece: &Piece,
+    bend: Bend,
+    touches: bool,
+    strip: Strip,
+    end: u32,
+    tally: &mut Tally,
+) -> OnRow
     requires within { end ≤ strip.stop }
     requires only { (k : ℕ) → strip.start ≤ k → k < strip.stop → IsOn (place_at strip k) (span_of piece.now) →
         IsLast bend.right end k × (bent_gap bend k ≡ pos 0) }

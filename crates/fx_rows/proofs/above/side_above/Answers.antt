@@ -1,7 +1,6 @@
-use Rattle.std.proofs.Common.{◌≡◌, ◌∙◌, ℤ, pos, ◌+ℤ◌, ◌-ℤ◌, ◌*ℤ◌, arith, w64, to_z, of_z}
+use Rattle.std.proofs.Common.{◌≡◌, ◌∙◌, pos, ◌+ℤ◌, ◌-ℤ◌, ◌*ℤ◌, arith, w64, to_z, of_z}
 use Rattle.fx_fixed.proofs.Linear.{signed_linear}
-use Rattle.fx_winding.specs.Winding.{place_of, sign}
-use Rattle.fx_rows.specs.inner.Sides.{place_at}
+use Rattle.fx_winding.specs.Winding.{place_of}
 use Rattle.fx_rows.proofs.Gaps.{side_up}
 use Rattle.fx_rows.proofs.Sides.{side_within}
 use Rattle.fx_rows.proofs.above.side_above.Goals as goal

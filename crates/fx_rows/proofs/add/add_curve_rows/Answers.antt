@@ -40,9 +40,11 @@ add_cuts-requires-clause-at g c =
     c.requires.areas c.total_of-total.ensures.value in
     let size = c.total_of-total.ensures.size in
     let same : to_z w64 (of_z w64 c.total_of-total.result) ≡ c.total_of-total.result = omega (arith, signed_linear, size) in
-    let flat = flat_not_bent p c.args.b c.requires.middle (sym whole ∙ sym same ∙ ap (to_z w64) c.if-total-eq0.true) in
-    (c.requires.middle, flat,
-    subst (λ (q : Place). AreAreas (bounded_span c.args.bounded.now) q c.args.areas) c.requires.base c.requires.areas)
+    let flat = flat_not_bent p c.args.b c.requires.middle (sym whole ∙ sym same ∙ ap (to_z w64) c.if-total-eq0.true) in (
+      c.requires.middle,
+      flat,
+      subst (λ (q : Place). AreAreas (bounded_span c.args.bounded.now) q c.args.areas) c.requires.base c.requires.areas,
+    )
 
 pub from_lowest-cuts-requires-clause-bent : goal.from_lowest-cuts-requires-clause-bent
 from_lowest-cuts-requires-clause-bent g c =

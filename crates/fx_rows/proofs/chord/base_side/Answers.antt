@@ -1,6 +1,5 @@
-use Rattle.std.proofs.Common.{◌≡◌, ◌∙◌, pos, ◌-ℤ◌, ◌*ℤ◌, arith, w64, to_z, of_z}
+use Rattle.std.proofs.Common.{◌≡◌, ◌∙◌, ◌-ℤ◌, ◌*ℤ◌, arith, w64, to_z, of_z}
 use Rattle.fx_fixed.proofs.Linear.{signed_linear}
-use Rattle.fx_winding.specs.Area.{area}
 use Rattle.fx_winding.specs.Winding.{place_of, maybe_place_of, sign}
 use Rattle.fx_rows.specs.inner.Sides.{place_at}
 use Rattle.fx_rows.proofs.Sides.{middle}

@@ -12,31 +12,31 @@ not_true : false ≡ true → ⊥
 not_true e = absurd (cc)
 
 from_zero_on : (below : Bool) (gap : ℤ) → Tells below (gap <ℤ pos 0) → below ≡ false → pos 0 ≤ℤ gap
-from_zero_on false gap b e = elim (below_or_not_ℤ gap (pos 0)) [ | inl l ↦ absurd (not_true (b.1 l)) | inr h ↦ h ]
+from_zero_on false gap b e = elim (below_or_not_ℤ gap (pos 0)) [ inl l ↦ absurd (not_true (b.1 l)) | inr h ↦ h ]
 from_zero_on true gap b e = absurd (cc)
 
-right_rest : (r left below : Bool) (side gap : ℤ) → r ≡ true → left ≡ false → Tells left (side <ℤ pos 0)
+rest_right : (r left below : Bool) (side gap : ℤ) → r ≡ true → left ≡ false → Tells left (side <ℤ pos 0)
     → Tells below (gap <ℤ pos 0) → Tells (not below) (Counts r side gap)
-right_rest true false true side gap e f l b = (
+rest_right true false true side gap e f l b = (
   λ t. absurd (not_true t),
-  λ h. elim h [ | inl s ↦ l.1 s | inr g ↦ let n = b.0 refl in absurd (omega (arith, signed_linear, g, n)) ],
+  λ h. elim h [ inl s ↦ l.1 s | inr g ↦ let n = b.0 refl in absurd (omega (arith, signed_linear, g, n)) ],
 )
-right_rest true false false side gap e f l b = (λ t. inr (from_zero_on false gap b f), λ h. refl)
-right_rest true true below side gap e f l b = absurd (cc)
-right_rest false left below side gap e f l b = absurd (cc)
+rest_right true false false side gap e f l b = (λ t. inr (from_zero_on false gap b f), λ h. refl)
+rest_right true true below side gap e f l b = absurd (cc)
+rest_right false left below side gap e f l b = absurd (cc)
 
-left_rest : (r left below : Bool) (side gap : ℤ) → r ≡ false → left ≡ true → Tells left (side <ℤ pos 0)
+rest_left : (r left below : Bool) (side gap : ℤ) → r ≡ false → left ≡ true → Tells left (side <ℤ pos 0)
     → Tells below (gap <ℤ pos 0) → Tells below (Counts r side gap)
-left_rest false true below side gap e f l b = (λ t. (l.0 refl, b.0 t), λ h. b.1 h.1)
-left_rest false false below side gap e f l b = absurd (cc)
-left_rest true left below side gap e f l b = absurd (cc)
+rest_left false true below side gap e f l b = (λ t. (l.0 refl, b.0 t), λ h. b.1 h.1)
+rest_left false false below side gap e f l b = absurd (cc)
+rest_left true left below side gap e f l b = absurd (cc)
 
 pub returns-else-left : goal.returns-else-left
 returns-else-left c =
-    right_rest c.args.bend.right c.is_left-left.result c.is_below.result (side_at c.args.bend.slope c.args.k)
+    rest_right c.args.bend.right c.is_left-left.result c.is_below.result (side_at c.args.bend.slope c.args.k)
     (bent_gap c.args.bend c.args.k) c.if-bend.true c.if-left.false c.is_left-left.ensures c.is_below.ensures
 
 pub returns-then-left-2 : goal.returns-then-left-2
 returns-then-left-2 c =
-    left_rest c.args.bend.right c.is_left-left.result c.is_below-then-left-2.result (side_at c.args.bend.slope c.args.k)
+    rest_left c.args.bend.right c.is_left-left.result c.is_below-then-left-2.result (side_at c.args.bend.slope c.args.k)
     (bent_gap c.args.bend c.args.k) c.if-bend.false c.if-left-2.true c.is_left-left.ensures c.is_below-then-left-2.ensures

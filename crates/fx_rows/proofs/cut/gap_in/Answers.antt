@@ -5,8 +5,8 @@ use Rattle.fx_rows.specs.inner.Cuts.{side_at}
 use Rattle.fx_rows.proofs.Touching.{gap_without_copies}
 use Rattle.fx_rows.proofs.cut.gap_in.Goals as goal
 
-copy : (z : ℤ) → IsWithin (2 ^ 48) z → to_z w64 (of_z w64 z) ≡ z
-copy z h = omega (arith, signed_linear)
+as_it_is : (z : ℤ) → IsWithin (2 ^ 48) z → to_z w64 (of_z w64 z) ≡ z
+as_it_is z h = omega (arith, signed_linear)
 
 pub overflow_mul-result : goal.overflow_mul-result
 overflow_mul-result c = omega (arith, signed, c.product.ensures.size)
@@ -17,9 +17,9 @@ overflow_sub-result c = omega (arith, signed, c.product.ensures.size, c.product-
 pub returns : goal.returns
 returns c =
     let b = c.args.bend in
-    let u = copy c.moved-u.result c.moved-u.ensures.size in
-    let v = copy c.args.side c.requires.size in
-    let w = copy c.moved-w.result c.moved-w.ensures.size in
+    let u = as_it_is c.moved-u.result c.moved-u.ensures.size in
+    let v = as_it_is c.args.side c.requires.size in
+    let w = as_it_is c.moved-w.result c.moved-w.ensures.size in
     let su : to_z w64 (of_z w64 b.step_u) ≡ b.step_u = omega (arith, signed_linear) in
     let sw : to_z w64 (of_z w64 b.step_w) ≡ b.step_w = omega (arith, signed_linear) in
     let gu : to_z w64 (of_z w64 b.u) ≡ b.u = omega (arith, signed_linear) in

@@ -1,4 +1,4 @@
-use Rattle.std.proofs.Common.{◌≡◌, ◌∙◌, ℤ, pos, ◌+ℤ◌, ◌*ℤ◌, arith, w64, to_z, of_z}
+use Rattle.std.proofs.Common.{◌≡◌, ◌∙◌, pos, ◌+ℤ◌, ◌*ℤ◌, arith, w64, to_z, of_z}
 use Rattle.fx_fixed.proofs.Linear.{signed, signed_linear}
 use Rattle.fx_winding.specs.Area.{gap_of}
 use Rattle.fx_rows.proofs.Touching.{is_same, low_zero}

@@ -1,7 +1,6 @@
 use Rattle.std.proofs.Common.{arith, ◌≡◌, ◌∙◌, ℤ, ◌^◌, neg_ℤ, ◌+ℤ◌, ◌*ℤ◌, ◌-ℤ◌, to_z, of_z, pos, w64}
 use Rattle.fx_fixed.proofs.Linear.{signed, signed_linear}
 use Rattle.fx_fixed.specs.Ranges.{IsWithin}
-use Rattle.fx_winding.specs.Area.{gap_of}
 use Rattle.fx_rows.proofs.Touching.{gap_without_copies}
 use Rattle.fx_rows.proofs.search.gap.Goals as goal
 use mir.Syntax.{w128}

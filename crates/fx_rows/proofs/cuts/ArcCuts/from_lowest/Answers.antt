@@ -8,10 +8,10 @@ returns c =
     let same : to_z w64 (of_z w64 c.base_side.result) ≡ c.base_side.result =
     omega (arith, signed_linear, c.base_side.ensures.size) in
     record {
-  middle = c.requires.middle;
-  bent = c.requires.bent;
-  turned = c.requires.right;
-  areas = c.requires.areas;
-  side = same ∙ c.base_side.ensures.value;
-  misses = c.may_touch.ensures (bounded_span c.args.bounded.now) (c.args.strip.base +ℤ pos 0) c.args.strip.row c.requires.areas;
-}
+      middle = c.requires.middle;
+      bent = c.requires.bent;
+      turned = c.requires.right;
+      areas = c.requires.areas;
+      side = same ∙ c.base_side.ensures.value;
+      misses = c.may_touch.ensures (bounded_span c.args.bounded.now) (c.args.strip.base +ℤ pos 0) c.args.strip.row c.requires.areas;
+    }
