@@ -9,13 +9,12 @@ use Rattle.fx_winding.specs.Winding.{IsOn}
 use Rattle.fx_winding.specs.Winding.{Span, sign, weight_b, region_part, chord_crossing, IsOnPart}
 use Rattle.fx_rows.specs.declared.strip.Strip.{Strip}
 use Rattle.fx_rows.specs.declared.cells.Cut.{Cut}
-use Rattle.fx_rows.specs.declared.cut.Bend.{Bend}
+use Rattle.fx_rows.specs.declared.bend.Bend.{Bend}
 use Rattle.fx_rows.specs.Parts.{IsBent, IsBentPart}
-use Rattle.fx_rows.specs.inner.Runs.{gap_at}
 use Rattle.fx_rows.specs.inner.Sides.{place_at, side, IsAcross, IsEdge}
 use Rattle.fx_rows.specs.inner.Arcs.{gap, IsTurnedPart}
 use Rattle.fx_rows.specs.inner.Candidates.{IsOnStrip}
-use Rattle.fx_rows.specs.inner.Cuts.{side_at, Counts, CountsAt, CountsFirst, IsLast, IsCut}
+use Rattle.fx_rows.specs.inner.Cuts.{side_at, bent_gap, Counts, CountsAt, CountsFirst, IsLast, IsCut}
 use Rattle.fx_winding.proofs.Beside.{left_off, right_off}
 use Rattle.fx_winding.proofs.Crossings.{crossing_left, left_of_rising, left_of_falling, right_of_rising, right_of_falling}
 use Rattle.fx_rows.specs.inner.Points.{IsPointOf, AreAcross, IsInner, IsRise}
@@ -188,7 +187,7 @@ pub record Bends (a b c : Place) (strip : Strip) (d : Bend) : Type 0 where
   pub inner : IsInner a.y c.y (pos 128 *ℤ strip.row +ℤ pos 64)
   pub turned : IsTurnedPart a (Some b) c d.right
   pub sides : (k : ℕ) → side_at d.slope k ≡ side a c (place_at strip k)
-  pub gaps : (k : ℕ) → gap_at d.gaps k ≡ gap_w a b c (place_at strip k)
+  pub gaps : (k : ℕ) → bent_gap d k ≡ gap_w a b c (place_at strip k)
 
 abbrev real_at : Place → Place → Place → Strip → Bend → ℕ → Type 0
 real_at a b c strip d k = Counts d.right (side a c (place_at strip k)) (gap_w a b c (place_at strip k))
@@ -264,7 +263,7 @@ last_is false end k h l = l refl
 
 pub only_last : (a b c : Place) (strip : Strip) (d : Bend) (end : ℕ) → Bends a b c strip d → end ≤ strip.stop
     → ((k : ℕ) → k < end → CountsAt d k) → ((k : ℕ) → end ≤ k → k < strip.stop → ¬ (CountsAt d k)) → (k : ℕ) → k < strip.stop
-    → IsOnPart a (Some b) c (place_at strip k) → IsLast d.right end k × (gap_at d.gaps k ≡ pos 0)
+    → IsOnPart a (Some b) c (place_at strip k) → IsLast d.right end k × (bent_gap d k ≡ pos 0)
 only_last a b c strip d end h within inside outside k l on = (
   last_is d.right end k (λ e. only_right a b c strip d end h e within inside outside k l on)
       (λ e. only_left a b c strip d end h e within inside outside k l on),
@@ -279,7 +278,7 @@ BendsPart a (Some b) c strip d = Bends a b c strip d
 pub bends : (a : Place) (b : Option Place) (c : Place) (strip : Strip) (d : Bend) → IsBentPart a b c
     → IsInner a.y c.y (pos 128 *ℤ strip.row +ℤ pos 64) → IsTurnedPart a b c d.right
     → ((k : ℕ) → side_at d.slope k ≡ side a c (place_at strip k))
-    → ((k : ℕ) → gap_at d.gaps k ≡ gap (record { a = a; b = b; c = c }) (place_at strip k)) → BendsPart a b c strip d
+    → ((k : ℕ) → bent_gap d k ≡ gap (record { a = a; b = b; c = c }) (place_at strip k)) → BendsPart a b c strip d
 bends a None c strip d bent inner turned sides gaps = absurd bent
 bends a (Some b) c strip d bent inner turned sides gaps = record {
   bent = bent;
@@ -296,7 +295,7 @@ first_part a (Some b) c strip d stop h = counts_first a b c strip d stop h
 
 pub last_part : (a : Place) (b : Option Place) (c : Place) (strip : Strip) (d : Bend) (end : ℕ) → BendsPart a b c strip d
     → end ≤ strip.stop → ((k : ℕ) → k < end → CountsAt d k) → ((k : ℕ) → end ≤ k → k < strip.stop → ¬ (CountsAt d k)) → (k : ℕ)
-    → k < strip.stop → IsOnPart a b c (place_at strip k) → IsLast d.right end k × (gap_at d.gaps k ≡ pos 0)
+    → k < strip.stop → IsOnPart a b c (place_at strip k) → IsLast d.right end k × (bent_gap d k ≡ pos 0)
 last_part a None c strip d end h within inside outside k l on = absurd h
 last_part a (Some b) c strip d end h within inside outside k l on = only_last a b c strip d end h within inside outside k l on
 

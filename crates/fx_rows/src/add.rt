@@ -1,12 +1,14 @@
 //! What a piece adds to a band of rows.
 
-ghost use Rattle.std.specs.Prelude.{◌≡◌, ℕ, ◌+◌, ◌-◌, ◌*◌, ◌^◌, ◌<◌, ◌≤◌, pos, ◌+ℤ◌, Some};
-ghost use Rattle.fx_winding.specs.Winding.{Span, span_of};
+ghost use Rattle.std.specs.Prelude.{◌≡◌, ℕ, ◌+◌, ◌-◌, ◌*◌, ◌^◌, ◌<◌, ◌≤◌, pos, ◌+ℤ◌, ◌<ℤ◌, Some};
+ghost use Rattle.fx_winding.specs.Limits.{end_of_pixels};
+ghost use Rattle.fx_winding.specs.Winding.{Span, span_of, centre};
 ghost use Rattle.fx_rows.specs.inner.Arcs.{AreAreas};
 ghost use Rattle.fx_rows.specs.inner.Heights.{height_of, IsAtLeastEnds, IsAtMostEnds};
 ghost use Rattle.fx_rows.specs.inner.Placing.{AreMet};
 ghost use Rattle.fx_rows.specs.inner.Points.{IsInner};
 ghost use Rattle.fx_rows.specs.inner.Strips.{base_place};
+ghost use Rattle.fx_rows.specs.inner.Sides.{place_at};
 ghost use Rattle.fx_rows.specs.inner.Inside.{IsOnInside};
 ghost use Rattle.fx_rows.specs.inner.Cuts.{IsCut};
 ghost use Rattle.fx_rows.specs.inner.Sums.{AreWithin};
@@ -17,6 +19,7 @@ use crate::arc::total_of;
 use crate::band::Band;
 use crate::bounded::{Bounded, bounds_of, rise_of};
 use crate::cells::Cut;
+use crate::chord::base_side;
 use crate::counts::{add_before, add_run};
 use crate::cuts::{ArcCuts, ClearCuts, Cuts, FlatCuts, LineCuts};
 use crate::heights::{Met, RowRange, rows_between, rows_met};
@@ -114,6 +117,19 @@ fn add_cut(band: &mut Band, up: u32, strip: Strip, end: u32, cut: Cut)
     mark(&mut band.marks, frame, first, cut.on);
 }
 
+/// The cuts go on to the row above, which is the row `up`, if it comes before the end. So no row need be looked for above the last
+/// row of pixels.
+#[inline(always)]
+fn move_up_before<C: Cuts + Drop>(cuts: &mut C, bounded: &Bounded, strip: Strip, up: u32, end: u32)
+    requires at { C.AreAt cuts.old bounded.now (place_at strip 0) }
+    requires row { up < end → (strip.row +ℤ pos 1) <ℤ end_of_pixels }
+    ensures { up < end → C.AreAt cuts.new bounded.now (centre (strip.base +ℤ pos 0) (strip.row +ℤ pos 1)) }
+{
+    if up < end {
+        cuts.move_up(bounded, strip);
+    }
+}
+
 /// Adds the cuts of a piece to rows between its ends, and tells where they end. It is compiled once for each kind of cuts.
 fn add_cuts<C: Cuts + Drop, N: Noting>(
     bounded: &Bounded,
@@ -135,13 +151,14 @@ fn add_cuts<C: Cuts + Drop, N: Noting>(
     ensures count { tally.new.count ≤ tally.old.count + (rows.end - rows.first) }
 {
     let mut cuts = cuts;
-    // The rows before `up` have what the piece adds and are told, and the cut of this row comes next.
+    // The rows before `up` have what the piece adds and are told, and the cuts stand at this row.
     'rows: for up in rows.first..rows.end {
         let strip = strip_of(band.frame, row_of(band.frame, up));
-        let cut = cuts.next(bounded, strip, tally);
+        let cut = cuts.cut(bounded, strip, tally);
         let end = cut.end.saturating_sub(strip.start);
         noter.tell(up, end);
         add_cut(band, up, strip, end, cut);
+        move_up_before(&mut cuts, bounded, strip, up + 1, rows.end);
     }
 }
 
@@ -150,6 +167,7 @@ fn add_curve_rows<N: Noting>(
     bounded: &Bounded,
     b: Point,
     rows: RowRange,
+    strip: Strip,
     areas: Weights,
     band: &mut Band,
     noter: &mut N,
@@ -159,7 +177,8 @@ fn add_curve_rows<N: Noting>(
     requires some { rows.first < rows.end }
     requires rows { rows.end ≤ band.old.frame.height }
     requires inner { AreInner bounded.now band.old.frame rows.first rows.end }
-    requires areas { AreAreas (bounded_span bounded.now) (base_place band.old.frame rows.first) areas }
+    requires base { place_at strip 0 ≡ base_place band.old.frame rows.first }
+    requires areas { AreAreas (bounded_span bounded.now) (place_at strip 0) areas }
     requires small { AreWithin (2 ^ 25 + 4 * rows.first) band.old.diff.items }
     ensures frame { band.new.frame ≡ band.old.frame }
     ensures added { IsBandAdded (bounded_span bounded.now) band.old.frame rows.first rows.end band.old band.new }
@@ -173,7 +192,7 @@ fn add_curve_rows<N: Noting>(
         return add_cuts(bounded, FlatCuts { b, areas }, rows, band, noter, tally);
     }
     let right = is_right(&bounded.piece, total);
-    let cuts = ArcCuts::from_lowest(bounded, b, right, areas, band.frame);
+    let cuts = ArcCuts::from_lowest(bounded, b, right, areas, strip, band.frame);
     add_cuts(bounded, cuts, rows, band, noter, tally);
 }
 
@@ -202,8 +221,11 @@ fn add_inner_rows<N: Noting>(
     let strip = strip_of(band.frame, row_of(band.frame, rows.first));
     let areas = areas_at(&bounded.piece, strip, 0, tally);
     match bounded.piece.b {
-        None => add_cuts(bounded, LineCuts { areas }, rows, band, noter, tally),
-        Some(b) => add_curve_rows(bounded, b, rows, areas, band, noter, tally),
+        None => {
+            let side = base_side(&bounded.piece, strip, areas);
+            add_cuts(bounded, LineCuts { side }, rows, band, noter, tally);
+        }
+        Some(b) => add_curve_rows(bounded, b, rows, strip, areas, band, noter, tally),
     }
 }
 

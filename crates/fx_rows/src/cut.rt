@@ -1,39 +1,93 @@
 //! Rows between the ends of a slanted chord. There the crossing and the region of a piece together are one value before a column
 //! and 0 from it on, but for the columns on the piece, which are set anyway.
 
-ghost use Rattle.std.specs.Prelude.{◌≡◌, ℕ, ◌+◌, ◌-◌, ◌*◌, ◌^◌, ◌<◌, ◌≤◌, min, pos, ◌+ℤ◌, ◌-ℤ◌, ◌*ℤ◌, ◌≤ℤ◌, IsTrue, ◌↔◌};
+ghost use Rattle.std.specs.Prelude.{◌≡◌, ◌≢◌, false, ℕ, ◌+◌, ◌-◌, ◌*◌, ◌^◌, ◌<◌, ◌≤◌, min, pos, ◌+ℤ◌, ◌-ℤ◌, ◌*ℤ◌, ◌<ℤ◌, ◌≤ℤ◌, IsTrue, ◌↔◌};
 ghost use Rattle.std.specs.Prelude.{Some, None};
 ghost use Rattle.fx_fixed.specs.Ranges.{IsWithin};
 ghost use Rattle.fx_winding.specs.Limits.{greatest_side};
-ghost use Rattle.fx_winding.specs.Winding.{span_of, sign, IsOn};
+ghost use Rattle.fx_winding.specs.Winding.{place_of, span_of, IsOn};
 ghost use Rattle.fx_rows.specs.Parts.{IsBent};
-ghost use Rattle.fx_rows.specs.inner.Runs.{gap_at};
-ghost use Rattle.fx_rows.specs.inner.Sides.{place_at};
-ghost use Rattle.fx_rows.specs.inner.Arcs.{AreAreas, IsTurned};
+ghost use Rattle.fx_rows.specs.inner.Sides.{place_at, side};
+ghost use Rattle.fx_rows.specs.inner.Arcs.{gap, AreAreas};
 ghost use Rattle.fx_rows.specs.inner.Candidates.{IsOnStrip};
 ghost use Rattle.fx_rows.specs.inner.Points.{IsInner};
 ghost use Rattle.fx_rows.specs.inner.Bands.{bounded_span};
-ghost use Rattle.fx_rows.specs.inner.Cuts.{CountsAt, CountsFirst, IsLast, IsCut};
+ghost use Rattle.fx_rows.specs.inner.Cuts.{side_at, bent_gap, CountsAt, CountsFirst, IsLast, IsArcAt, IsCut};
 
-use crate::arc::gaps_of;
+use crate::arc::step_of;
+use crate::bend::Bend;
 use crate::bounded::{Bounded, foot_x};
 use crate::cells::Cut;
-use crate::chord::{edge_of, slope_of};
+use crate::chord::{edge_from, edge_of, slope_of};
 use crate::narrow::columns_before;
 use crate::on::{met_column, on_edge, on_one};
-use crate::parabola::Gaps;
 use crate::part::OnRow;
-use crate::search::{is_below, is_zero, may_be_zero, within};
-use crate::slope::{Slope, is_left};
+use crate::search::{moved, product, within};
 use crate::strip::Strip;
 use fx_winding::{Frame, Piece, Point, Tally, Weights, first_from};
 
-/// A bent arc along a row that passes between its ends: the sides of its chord, its gap, and whether it is right of the chord.
-#[derive(Clone, Copy)]
-pub(crate) struct Bend {
-    pub slope: Slope,
-    pub gaps: Gaps,
-    pub right: bool,
+/// The side of the chord on which a column lies.
+fn side_in(bend: Bend, k: u32) -> i64
+    requires { k < greatest_side + 2 }
+    ensures value { result ≡ side_at bend.slope k }
+    ensures size { IsWithin (2 ^ 48) result }
+{
+    moved(bend.slope.start, bend.slope.step, k)
+}
+
+/// The gap at a column on this side. Of the area with both ends only the square matters, and so not its sign.
+fn gap_in(bend: Bend, k: u32, side: i64) -> i128
+    requires few { k < greatest_side + 2 }
+    requires side { side ≡ side_at bend.slope k }
+    requires size { IsWithin (2 ^ 48) side }
+    ensures { result ≡ bent_gap bend k }
+{
+    let u = moved(bend.u, bend.step_u, k);
+    let w = moved(bend.w, bend.step_w, k);
+    4 * product(u, w) - product(side, side)
+}
+
+/// Whether the gap at a column on this side can be 0, by the lowest 64 bits of its two products. Nearly all that are not 0 are told
+/// so, by half the work.
+fn may_meet(bend: Bend, k: u32, side: i64) -> bool
+    requires few { k < greatest_side + 2 }
+    requires side { side ≡ side_at bend.slope k }
+    requires size { IsWithin (2 ^ 48) side }
+    ensures { bent_gap bend k ≡ pos 0 → IsTrue result }
+{
+    let u = moved(bend.u, bend.step_u, k);
+    let w = moved(bend.w, bend.step_w, k);
+    (4 * u).wrapping_mul(w) == side.wrapping_mul(side)
+}
+
+/// Whether the gap at a column is 0.
+fn meets(bend: Bend, k: u32) -> bool
+    requires { k < greatest_side + 2 }
+    ensures { IsTrue result ↔ (bent_gap bend k ≡ pos 0) }
+{
+    let side = side_in(bend, k);
+    if !may_meet(bend, k, side) {
+        return false;
+    }
+    gap_in(bend, k, side) == 0
+}
+
+/// Whether a column on this side is left of the chord.
+fn is_left(bend: Bend, k: u32, side: i64) -> bool
+    requires { side ≡ side_at bend.slope k }
+    ensures { IsTrue result ↔ (side_at bend.slope k <ℤ pos 0) }
+{
+    side < 0
+}
+
+/// Whether the gap at a column on this side is below 0.
+fn is_below(bend: Bend, k: u32, side: i64) -> bool
+    requires few { k < greatest_side + 2 }
+    requires side { side ≡ side_at bend.slope k }
+    requires size { IsWithin (2 ^ 48) side }
+    ensures { IsTrue result ↔ (bent_gap bend k <ℤ pos 0) }
+{
+    gap_in(bend, k, side) < 0
 }
 
 /// Whether a column counts: it is left of the chord, or in the region right of it; or left of both.
@@ -41,11 +95,12 @@ fn counts(bend: Bend, k: u32) -> bool
     requires { k < greatest_side + 2 }
     ensures { IsTrue result ↔ CountsAt bend k }
 {
-    let left = is_left(bend.slope, k);
+    let side = side_in(bend, k);
+    let left = is_left(bend, k, side);
     if bend.right {
-        left || !is_below(bend.gaps, k)
+        left || !is_below(bend, k, side)
     } else {
-        left && is_below(bend.gaps, k)
+        left && is_below(bend, k, side)
     }
 }
 
@@ -76,8 +131,60 @@ fn is_short(bend: Bend, end: u32, stop: u32) -> bool
     end < stop && counts(bend, end)
 }
 
-/// Where the columns that count end, as far as a guess tells: the columns beside it are tested. The loops over rows are to have it
-/// in their bodies.
+/// Where the columns that count end, as far as a guess tells that is too far right by one column or more.
+#[inline(always)]
+fn window_before(bend: Bend, end: u32, stop: u32) -> Window
+    requires few { stop ≤ greatest_side + 2 }
+    requires first { CountsFirst bend stop }
+    requires end { end < stop }
+    requires past { ¬ (CountsAt bend end) }
+    ensures order { result.low ≤ result.high }
+    ensures high { result.high ≤ stop }
+    ensures inside { (k : ℕ) → k < result.low → CountsAt bend k }
+    ensures outside { (k : ℕ) → result.high ≤ k → k < stop → ¬ (CountsAt bend k) }
+{
+    if is_past(bend, end) {
+        return Window {
+            low: 0,
+            high: end - 1,
+            from: end.saturating_sub(2),
+        };
+    }
+    Window {
+        low: end,
+        high: end,
+        from: end,
+    }
+}
+
+/// Where the columns that count end, as far as a guess tells that is too far left by one column or more.
+#[inline(always)]
+fn window_after(bend: Bend, end: u32, stop: u32) -> Window
+    requires few { stop ≤ greatest_side + 2 }
+    requires first { CountsFirst bend stop }
+    requires end { end ≤ stop }
+    requires short { (k : ℕ) → k < end → CountsAt bend k }
+    ensures order { result.low ≤ result.high }
+    ensures high { result.high ≤ stop }
+    ensures inside { (k : ℕ) → k < result.low → CountsAt bend k }
+    ensures outside { (k : ℕ) → result.high ≤ k → k < stop → ¬ (CountsAt bend k) }
+{
+    if is_short(bend, end, stop) {
+        return Window {
+            low: end + 1,
+            high: stop,
+            from: end + 1,
+        };
+    }
+    Window {
+        low: end,
+        high: end,
+        from: end,
+    }
+}
+
+/// Where the columns that count end, as far as a guess tells: two columns beside it are tested, since it is seldom further off. The
+/// loops over rows are to have it in their bodies.
 #[inline(always)]
 fn window_of(bend: Bend, guess: u32, stop: u32) -> Window
     requires few { stop ≤ greatest_side + 2 }
@@ -89,18 +196,10 @@ fn window_of(bend: Bend, guess: u32, stop: u32) -> Window
 {
     let end = if guess < stop { guess } else { stop };
     if is_past(bend, end) {
-        return Window {
-            low: 0,
-            high: end - 1,
-            from: end.saturating_sub(2),
-        };
+        return window_before(bend, end - 1, stop);
     }
     if is_short(bend, end, stop) {
-        return Window {
-            low: end + 1,
-            high: stop,
-            from: end + 1,
-        };
+        return window_after(bend, end + 1, stop);
     }
     Window {
         low: end,
@@ -163,14 +262,25 @@ pub(crate) fn first_guess(piece: &Piece, frame: Frame) -> u32 {
     (col - frame.left) as u32
 }
 
-/// The column beside the end that is on a bent arc, if it is. No other can be.
-fn on_end(piece: &Piece, bend: Bend, strip: Strip, end: u32, tally: &mut Tally) -> OnRow
+/// The column beside the end that is on a bent arc, if it is. No other can be, and none if the arc touches no centre.
+fn on_end(
+    piece: &Piece,
+    bend: Bend,
+    touches: bool,
+    strip: Strip,
+    end: u32,
+    tally: &mut Tally,
+) -> OnRow
     requires within { end ≤ strip.stop }
     requires only { (k : ℕ) → strip.start ≤ k → k < strip.stop → IsOn (place_at strip k) (span_of piece.now) →
-        IsLast bend.right end k × (gap_at bend.gaps k ≡ pos 0) }
+        IsLast bend.right end k × (bent_gap bend k ≡ pos 0) }
+    requires none { touches ≡ false → (k : ℕ) → bent_gap bend k ≢ pos 0 }
     ensures on { IsOnStrip (span_of piece.now) strip result }
     ensures count { tally.new.count ≤ tally.old.count + 1 }
 {
+    if !touches {
+        return OnRow::None;
+    }
     let past = if bend.right { end } else { end + 1 };
     if past <= strip.start {
         return OnRow::None;
@@ -178,58 +288,78 @@ fn on_end(piece: &Piece, bend: Bend, strip: Strip, end: u32, tally: &mut Tally) 
     if past > strip.stop {
         return OnRow::None;
     }
-    if !may_be_zero(bend.gaps, past - 1) {
-        return OnRow::None;
-    }
-    if !is_zero(bend.gaps, past - 1) {
+    if !meets(bend, past - 1) {
         return OnRow::None;
     }
     on_one(piece, strip, past - 1, tally)
 }
 
-/// What a bent arc adds; `right` says on which side of its chord it lies. Two loops call it, and each is to have it in its body.
+/// A bent arc as it lies in a row between its ends: its control point, whether it lies right of its chord, whether it can touch a
+/// centre, the areas of the row's base, and the side of the chord on which the base lies.
+#[derive(Clone, Copy)]
+pub(crate) struct ArcRow {
+    pub b: Point,
+    pub right: bool,
+    pub touches: bool,
+    pub areas: Weights,
+    pub side: i64,
+}
+
+/// The sides and the gap of a bent arc along a row.
+#[inline(always)]
+fn bend_in(piece: &Piece, arc: ArcRow, strip: Strip) -> Bend
+    requires slanted { piece.now.a.y ≢ piece.now.c.y }
+    requires arc { IsArcAt arc piece.now (place_at strip 0) }
+    ensures sides { (k : ℕ) →
+        side_at result.slope k ≡ side (place_of piece.now.a) (place_of piece.now.c) (place_at strip k) }
+    ensures gaps { (k : ℕ) → bent_gap result k ≡ gap (span_of piece.now) (place_at strip k) }
+    ensures right { result.right ≡ arc.right }
+{
+    Bend {
+        slope: slope_of(piece, strip, arc.side),
+        u: arc.areas.u,
+        w: arc.areas.w,
+        step_u: step_of(arc.b, piece.c),
+        step_w: step_of(piece.a, arc.b),
+        right: arc.right,
+    }
+}
+
+/// What a bent arc adds. Two loops call it, and each is to have it in its body.
 #[inline(always)]
 pub(crate) fn arc_cut(
     bounded: &Bounded,
-    b: Point,
+    arc: ArcRow,
     strip: Strip,
-    areas: Weights,
-    right: bool,
     guess: u32,
     tally: &mut Tally,
 ) -> Cut
-    requires middle { bounded.now.piece.b ≡ Some b }
-    requires bent { IsBent (bounded_span bounded.now) }
+    requires arc { IsArcAt arc bounded.now.piece (place_at strip 0) }
     requires inner { IsInner bounded.now.piece.a.y bounded.now.piece.c.y (pos 128 *ℤ strip.row +ℤ pos 64) }
-    requires areas { AreAreas (bounded_span bounded.now) (place_at strip 0) areas }
-    requires right { IsTurned (bounded_span bounded.now) right }
     ensures cut { IsCut (bounded_span bounded.now) strip result }
     ensures value { result.value ≡ bounded.now.rise.value }
     ensures count { tally.new.count ≤ tally.old.count + 1 }
 {
     let piece = &bounded.piece;
-    let bend = Bend {
-        slope: slope_of(piece, strip, areas),
-        gaps: gaps_of(piece, b, strip, areas),
-        right,
-    };
+    let bend = bend_in(piece, arc, strip);
     let end = count_of(bend, guess, strip.stop);
     Cut {
         end,
         value: bounded.rise.value,
-        on: on_end(piece, bend, strip, end, tally),
+        on: on_end(piece, bend, arc.touches, strip, end, tally),
     }
 }
 
 /// What a line adds. Between its ends a centre on the chord's line is on the line, so none is tested.
-pub(crate) fn line_cut(bounded: &Bounded, strip: Strip, areas: Weights) -> Cut
+pub(crate) fn line_cut(bounded: &Bounded, strip: Strip, start: i64) -> Cut
     requires line { bounded.now.piece.b ≡ None }
     requires inner { IsInner bounded.now.piece.a.y bounded.now.piece.c.y (pos 128 *ℤ strip.row +ℤ pos 64) }
-    requires areas { AreAreas (bounded_span bounded.now) (place_at strip 0) areas }
+    requires start { start ≡
+        side (place_of bounded.now.piece.a) (place_of bounded.now.piece.c) (place_at strip 0) }
     ensures cut { IsCut (bounded_span bounded.now) strip result }
     ensures value { result.value ≡ bounded.now.rise.value }
 {
-    let edge = edge_of(&bounded.piece, strip, areas);
+    let edge = edge_from(&bounded.piece, strip, start);
     Cut {
         end: edge.at,
         value: bounded.rise.value,

@@ -1,37 +1,45 @@
 //! What pieces add to rows between their ends, row by row, from the lowest.
 
-ghost use Rattle.std.specs.Prelude.{◌≡◌, ◌+◌, ◌≤◌, pos, ◌+ℤ◌, ◌*ℤ◌, ◌<ℤ◌};
+ghost use Rattle.std.specs.Prelude.{◌≡◌, ◌+◌, ◌≤◌, ℤ, pos, ◌+ℤ◌, ◌*ℤ◌, ◌<ℤ◌, false, Some};
 ghost use Rattle.fx_winding.specs.Limits.{end_of_pixels};
-ghost use Rattle.fx_winding.specs.Winding.{centre};
+ghost use Rattle.fx_winding.specs.Winding.{Span, centre};
+ghost use Rattle.fx_rows.specs.Parts.{IsBent};
+ghost use Rattle.fx_rows.specs.inner.Arcs.{AreAreas, IsTurned, MissesCentres};
 ghost use Rattle.fx_rows.specs.inner.Sides.{place_at};
 ghost use Rattle.fx_rows.specs.inner.Points.{IsInner};
 ghost use Rattle.fx_rows.specs.inner.Bands.{bounded_span};
 ghost use Rattle.fx_rows.specs.inner.Cuts.{IsCut};
 
-use crate::above::{arc_areas_above, line_areas_above};
+use crate::above::{arc_above, arc_areas_above, side_above};
 use crate::bounded::Bounded;
 use crate::cells::Cut;
-use crate::cut::{arc_cut, clear_cut, first_guess, flat_cut, line_cut};
+use crate::chord::base_side;
+use crate::cut::{ArcRow, arc_cut, clear_cut, first_guess, flat_cut, line_cut};
 use crate::strip::Strip;
-use fx_winding::{Frame, Point, Tally, Weights};
+use fx_winding::{Frame, Point, Tally, Weights, curve_gap};
 
 /// The cuts of a piece in rows between its ends, one after the other, from the lowest.
 pub(crate) trait Cuts {
     ghost use Rattle.fx_winding.specs.Area.{Place};
     ghost use Rattle.fx_rows.specs.declared.bounded.Bounded.{Bounded};
 
-    // They are the piece's, and the row comes next that has this place at its base.
+    // They are the piece's, and stand at the row that has this place at its base.
     ghost AreAt: { Self → Bounded → Place → Type 0 };
 
-    /// What the piece adds to a row; the row above it comes next.
-    fn next(&mut self, bounded: &Bounded, strip: Strip, tally: &mut Tally) -> Cut
+    /// What the piece adds to the row.
+    fn cut(&mut self, bounded: &Bounded, strip: Strip, tally: &mut Tally) -> Cut
         requires at { AreAt self.old bounded.now (place_at strip 0) }
         requires inner { IsInner bounded.now.piece.a.y bounded.now.piece.c.y (pos 128 *ℤ strip.row +ℤ pos 64) }
         ensures cut { IsCut (bounded_span bounded.now) strip result }
         ensures value { result.value ≡ bounded.now.rise.value }
-        ensures above { (strip.row +ℤ pos 1) <ℤ end_of_pixels →
-            AreAt self.new bounded.now (centre (strip.base +ℤ pos 0) (strip.row +ℤ pos 1)) }
+        ensures same { AreAt self.new bounded.now (place_at strip 0) }
         ensures count { tally.new.count ≤ tally.old.count + 1 };
+
+    /// The cuts go on to the row above.
+    fn move_up(&mut self, bounded: &Bounded, strip: Strip)
+        requires at { AreAt self.old bounded.now (place_at strip 0) }
+        requires row { (strip.row +ℤ pos 1) <ℤ end_of_pixels }
+        ensures { AreAt self.new bounded.now (centre (strip.base +ℤ pos 0) (strip.row +ℤ pos 1)) };
 }
 
 /// The cuts of a piece that has no column's centre in its box.
@@ -44,33 +52,39 @@ impl Cuts for ClearCuts {
     ghost AreAt = { λ _ b _. b.across.end ≤ℤ b.across.first };
 
     #[inline(always)]
-    fn next(&mut self, bounded: &Bounded, strip: Strip, _tally: &mut Tally) -> Cut {
+    fn cut(&mut self, bounded: &Bounded, strip: Strip, _tally: &mut Tally) -> Cut {
         clear_cut(bounded, strip)
     }
+
+    #[inline(always)]
+    fn move_up(&mut self, _bounded: &Bounded, _strip: Strip) {}
 }
 
-/// The cuts of a line: the areas of the next row's base.
+/// The cuts of a line: the side of it on which the row's base lies.
 #[derive(Clone, Copy)]
 pub(crate) struct LineCuts {
-    pub areas: Weights,
+    pub side: i64,
 }
 
 impl Cuts for LineCuts {
     ghost use Rattle.std.specs.Prelude.{◌≡◌, None};
-    ghost use Rattle.fx_rows.specs.inner.Arcs.{AreAreas};
-    ghost use Rattle.fx_rows.specs.inner.Bands.{bounded_span};
+    ghost use Rattle.fx_winding.specs.Winding.{place_of};
+    ghost use Rattle.fx_rows.specs.inner.Sides.{side};
 
-    ghost AreAt = { λ cuts b p. (b.piece.b ≡ None) × AreAreas (bounded_span b) p cuts.areas };
+    ghost AreAt = { λ cuts b p. (b.piece.b ≡ None) × (cuts.side ≡ side (place_of b.piece.a) (place_of b.piece.c) p) };
 
     #[inline(always)]
-    fn next(&mut self, bounded: &Bounded, strip: Strip, _tally: &mut Tally) -> Cut {
-        let cut = line_cut(bounded, strip, self.areas);
-        self.areas = line_areas_above(&bounded.piece, strip, self.areas);
-        cut
+    fn cut(&mut self, bounded: &Bounded, strip: Strip, _tally: &mut Tally) -> Cut {
+        line_cut(bounded, strip, self.side)
+    }
+
+    #[inline(always)]
+    fn move_up(&mut self, bounded: &Bounded, strip: Strip) {
+        self.side = side_above(&bounded.piece, strip, self.side);
     }
 }
 
-/// The cuts of an arc whose points are on one line: its control point, and the areas of the next row's base.
+/// The cuts of an arc whose points are on one line: its control point, and the areas of the row's base.
 #[derive(Clone, Copy)]
 pub(crate) struct FlatCuts {
     pub b: Point,
@@ -86,42 +100,59 @@ impl Cuts for FlatCuts {
     ghost AreAt = { λ cuts b p.
         (b.piece.b ≡ Some cuts.b) × (¬ (IsBent (bounded_span b))) × AreAreas (bounded_span b) p cuts.areas };
 
-    fn next(&mut self, bounded: &Bounded, strip: Strip, tally: &mut Tally) -> Cut {
-        let cut = flat_cut(bounded, strip, self.areas, tally);
+    fn cut(&mut self, bounded: &Bounded, strip: Strip, tally: &mut Tally) -> Cut {
+        flat_cut(bounded, strip, self.areas, tally)
+    }
+
+    fn move_up(&mut self, bounded: &Bounded, strip: Strip) {
         self.areas = arc_areas_above(&bounded.piece, self.b, strip, self.areas);
-        cut
     }
 }
 
-/// The cuts of a bent arc: its control point, whether it lies right of its chord, the areas of the next row's base, where the
-/// next row's columns are likely to end, and where those of the row before ended.
+/// Whether an arc can touch the centre of a pixel, from its areas at one. From centre to centre the areas change by multiples of
+/// 128, and so their gap changes by multiples of 256. If the gap is no such multiple at one centre, it is 0 at none.
+fn may_touch(areas: Weights) -> bool
+    ensures { (s : Span) (col row : ℤ) → AreAreas s (centre col row) areas → result ≡ false → MissesCentres s }
+{
+    curve_gap(areas) % 256 == 0
+}
+
+/// The cuts of a bent arc: the arc in the row, where the row's columns are likely to end, and where those of the row before ended.
 #[derive(Clone, Copy)]
 pub(crate) struct ArcCuts {
-    pub b: Point,
-    pub right: bool,
-    pub areas: Weights,
+    pub arc: ArcRow,
     guess: u32,
     last: u32,
 }
 
 impl ArcCuts {
+    ghost use Rattle.fx_rows.specs.inner.Cuts.{IsArcAt};
+
     /// Those from an arc's lowest row on.
     pub(crate) fn from_lowest(
         bounded: &Bounded,
         b: Point,
         right: bool,
         areas: Weights,
+        strip: Strip,
         frame: Frame,
     ) -> ArcCuts
-        ensures b { result.b ≡ b }
-        ensures right { result.right ≡ right }
-        ensures areas { result.areas ≡ areas }
+        requires middle { bounded.now.piece.b ≡ Some b }
+        requires bent { IsBent (bounded_span bounded.now) }
+        requires right { IsTurned (bounded_span bounded.now) right }
+        requires areas { AreAreas (bounded_span bounded.now) (place_at strip 0) areas }
+        ensures { IsArcAt result.arc bounded.now.piece (place_at strip 0) }
     {
         let guess = first_guess(&bounded.piece, frame);
-        ArcCuts {
+        let arc = ArcRow {
             b,
             right,
+            touches: may_touch(areas),
             areas,
+            side: base_side(&bounded.piece, strip, areas),
+        };
+        ArcCuts {
+            arc,
             guess,
             last: guess,
         }
@@ -129,22 +160,20 @@ impl ArcCuts {
 }
 
 impl Cuts for ArcCuts {
-    ghost use Rattle.std.specs.Prelude.{◌≡◌, Some};
-    ghost use Rattle.fx_rows.specs.Parts.{IsBent};
-    ghost use Rattle.fx_rows.specs.inner.Arcs.{AreAreas, IsTurned};
-    ghost use Rattle.fx_rows.specs.inner.Bands.{bounded_span};
+    ghost use Rattle.fx_rows.specs.inner.Cuts.{IsArcAt};
 
-    ghost AreAt = { λ cuts b p. (b.piece.b ≡ Some cuts.b) × IsBent (bounded_span b) × IsTurned (bounded_span b) cuts.right
-        × AreAreas (bounded_span b) p cuts.areas };
+    ghost AreAt = { λ cuts b p. IsArcAt cuts.arc b.piece p };
 
     #[inline(always)]
-    fn next(&mut self, bounded: &Bounded, strip: Strip, tally: &mut Tally) -> Cut {
-        let cut = arc_cut(
-            bounded, self.b, strip, self.areas, self.right, self.guess, tally,
-        );
-        self.guess = cut.end.saturating_add(cut.end).saturating_sub(self.last);
+    fn cut(&mut self, bounded: &Bounded, strip: Strip, tally: &mut Tally) -> Cut {
+        let cut = arc_cut(bounded, self.arc, strip, self.guess, tally);
+        self.guess = (2 * cut.end).saturating_sub(self.last);
         self.last = cut.end;
-        self.areas = arc_areas_above(&bounded.piece, self.b, strip, self.areas);
         cut
+    }
+
+    #[inline(always)]
+    fn move_up(&mut self, bounded: &Bounded, strip: Strip) {
+        self.arc = arc_above(&bounded.piece, strip, self.arc);
     }
 }

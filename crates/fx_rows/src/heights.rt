@@ -88,12 +88,12 @@ fn rows_in(frame: Frame, low: i32, past: i32) -> RowRange
     ensures below { (r : ℕ) → r < result.first → (frame.bottom +ℤ pos r) <ℤ low }
     ensures rest { (r : ℕ) → result.end ≤ r → r < frame.height → past ≤ℤ (frame.bottom +ℤ pos r) }
 {
-    let first = rows_below(frame, low);
     if past <= low {
+        let first = rows_below(frame, past);
         return RowRange { first, end: first };
     }
     RowRange {
-        first,
+        first: rows_below(frame, low),
         end: rows_below(frame, past),
     }
 }

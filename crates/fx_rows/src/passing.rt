@@ -12,6 +12,7 @@ ghost use Rattle.fx_rows.specs.inner.Told.{IsEndOn};
 use crate::arc::total_of;
 use crate::bounded::Bounded;
 use crate::cells::Cut;
+use crate::chord::base_side;
 use crate::cuts::{ArcCuts, ClearCuts, Cuts, FlatCuts, LineCuts};
 use crate::rest::is_right;
 use crate::strip::{Strip, areas_at, strip_of};
@@ -35,10 +36,10 @@ fn curve_cut(
 {
     let total = total_of(areas);
     if total == 0 {
-        return FlatCuts { b, areas }.next(bounded, strip, tally);
+        return FlatCuts { b, areas }.cut(bounded, strip, tally);
     }
     let right = is_right(&bounded.piece, total);
-    ArcCuts::from_lowest(bounded, b, right, areas, frame).next(bounded, strip, tally)
+    ArcCuts::from_lowest(bounded, b, right, areas, strip, frame).cut(bounded, strip, tally)
 }
 
 /// The cut of a piece in a row between its ends.
@@ -49,11 +50,14 @@ fn cut_in(bounded: &Bounded, strip: Strip, frame: Frame, tally: &mut Tally) -> C
     ensures count { tally.new.count ≤ tally.old.count + 2 }
 {
     if bounded.across.end <= bounded.across.first {
-        return ClearCuts.next(bounded, strip, tally);
+        return ClearCuts.cut(bounded, strip, tally);
     }
     let areas = areas_at(&bounded.piece, strip, 0, tally);
     match bounded.piece.b {
-        None => LineCuts { areas }.next(bounded, strip, tally),
+        None => {
+            let side = base_side(&bounded.piece, strip, areas);
+            LineCuts { side }.cut(bounded, strip, tally)
+        }
         Some(b) => curve_cut(bounded, b, areas, strip, frame, tally),
     }
 }

@@ -23,7 +23,7 @@ invariant_of-result c =
     let nx : IsWithin 4194304 x = let n = t.base_near in
     (omega (arith, signed, n.low, n.high), omega (arith, signed, n.low, n.high)) in
     let ny : IsWithin 4194304 y = let n = t.row_near in
-    (omega (arith, signed, n, row, c.if-strip-ge-MAX_PIXEL.false), omega (arith, signed, n, row, c.if-strip-ge-MAX_PIXEL.false)) in
+    (omega (arith, signed, n, row, c.requires.row), omega (arith, signed, n, row, c.requires.row)) in
     let eu : to_z w64 (of_z w64 (to_z w64 (of_z w64 m.u) +ℤ to_z w64 (of_z w64 c.lift_of.result))) ≡ m.u +ℤ c.lift_of.result =
     omega (arith, signed_linear, m.near_u, lu.size) in
     let ev : to_z w64 (of_z w64 (to_z w64 (of_z w64 m.v) +ℤ to_z w64 (of_z w64 c.lift_of-2.result))) ≡ m.v +ℤ c.lift_of-2.result =
@@ -43,7 +43,7 @@ invariant_of-result c =
     }
 
 pub returns : goal.returns
-returns c = λ i.
+returns c =
     let s = c.args.piece.now in
     let b = c.args.b in
     let m = c.args.areas in

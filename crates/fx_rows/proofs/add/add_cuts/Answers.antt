@@ -24,15 +24,15 @@ pub row_of-requires : goal.row_of-requires
 row_of-requires g c =
     row_in c.args.band.now.frame c.rows.band.frame c.rows.up c.args.rows.end c.rows.invariant.frame c.requires.rows (omega arith)
 
-pub next-cut-requires-clause-inner : goal.next-cut-requires-clause-inner
-next-cut-requires-clause-inner g c =
+pub cut-cut-requires-clause-inner : goal.cut-cut-requires-clause-inner
+cut-cut-requires-clause-inner g c =
     let at = strip_row c.strip_of-strip.result c.row_of.result _ c.row_of.ensures.near c.strip_of-strip.ensures.row
     c.row_of.ensures.value in
     inner_row c.args.bounded.now c.args.band.now.frame c.rows.band.frame c.args.rows.first c.args.rows.end c.rows.up
     c.strip_of-strip.result.row c.rows.invariant.frame at c.requires.inner (omega arith) (omega arith)
 
-pub next-cut-requires-clause-at : goal.next-cut-requires-clause-at
-next-cut-requires-clause-at g c =
+pub cut-cut-requires-clause-at : goal.cut-cut-requires-clause-at
+cut-cut-requires-clause-at g c =
     let at = strip_row c.strip_of-strip.result c.row_of.result _ c.row_of.ensures.near c.strip_of-strip.ensures.row
     c.row_of.ensures.value in
     at_base (g.C.Cuts.AreAt c.rows.cuts c.args.bounded.now) c.args.band.now.frame c.rows.band.frame c.strip_of-strip.result
@@ -51,7 +51,15 @@ add_cut-requires-clause-small g c =
 
 pub add_cut-requires-clause-on : goal.add_cut-requires-clause-on
 add_cut-requires-clause-on g c = cut_inside (bounded_span c.args.bounded.now) c.strip_of-strip.result c.rows.band.frame
-    c.next-cut.result c.strip_of-strip.ensures.first c.strip_of-strip.ensures.last c.next-cut.ensures.cut
+    c.cut-cut.result c.strip_of-strip.ensures.first c.strip_of-strip.ensures.last c.cut-cut.ensures.cut
+
+pub move_up_before-requires-clause-row : goal.move_up_before-requires-clause-row
+move_up_before-requires-clause-row g c = λ h.
+    let at = strip_row c.strip_of-strip.result c.row_of.result _ c.row_of.ensures.near c.strip_of-strip.ensures.row
+    c.row_of.ensures.value in
+    let r = c.requires.rows in
+    next_row_in c.args.band.now.frame c.rows.band.frame c.strip_of-strip.result.row c.rows.up c.rows.invariant.frame at
+    (omega (arith, h, r))
 
 pub rows-preserved : goal.rows-preserved
 rows-preserved g c =
@@ -63,15 +71,15 @@ rows-preserved g c =
     let strip = c.strip_of-strip.result in
     let at = strip_row c.strip_of-strip.result c.row_of.result _ c.row_of.ensures.near c.strip_of-strip.ensures.row
     c.row_of.ensures.value in
-    let n = c.next-cut.ensures.count in
+    let n = c.cut-cut.ensures.count in
     let m = inv.count in
     let first = c.strip_of-strip.ensures.first in
     let last = c.strip_of-strip.ensures.last in
-    let value = c.next-cut.ensures.value ∙ rise_told s _ _ _ c.args.bounded.now.rises in
-    let is = cut_end s now strip c.next-cut.result
+    let value = c.cut-cut.ensures.value ∙ rise_told s _ _ _ c.args.bounded.now.rises in
+    let is = cut_end s now strip c.cut-cut.result
     (now.bottom +ℤ pos up) c.saturating_sub-end.result at first last c.saturating_sub-end.ensures value
-    c.next-cut.ensures.cut in
-    let added = c.add_cut.ensures.added s c.next-cut.ensures.cut in
+    c.cut-cut.ensures.cut in
+    let added = c.add_cut.ensures.added s c.cut-cut.ensures.cut in
     let T = g.N.Noting.IsTold c.rows.noter in
     let U = g.N.Noting.IsTold c.tell.new.self in
     let end = c.saturating_sub-end.result in
@@ -85,9 +93,8 @@ rows-preserved g c =
           (subst (λ (x : Frame). IsEnd s x up end) inv.frame is);
       at = λ h.
           let r = c.requires.rows in
-          at_base_above (g.C.Cuts.AreAt c.next-cut.new.self c.args.bounded.now) f now strip up inv.frame at
-          c.strip_of-strip.ensures.base
-          (c.next-cut.ensures.above (next_row_in f now strip.row up inv.frame at (omega (arith, h, r))));
+          at_base_above (g.C.Cuts.AreAt c.move_up_before.new.cuts c.args.bounded.now) f now strip up inv.frame at
+          c.strip_of-strip.ensures.base (c.move_up_before.ensures (omega (arith, h, r)));
       count = omega (arith, n, m);
     }
 

@@ -1,9 +1,7 @@
 use Rattle.fx_fixed.proofs.Linear.{signed_linear}
 use Rattle.std.proofs.Common.{arith}
-use Rattle.std.proofs.Common.{subst, pos, ◌+ℤ◌}
+use Rattle.std.proofs.Common.{pos, ◌+ℤ◌}
 use Rattle.fx_winding.specs.Winding.{centre}
-use Rattle.fx_rows.specs.inner.Arcs.{AreAreas}
-use Rattle.fx_rows.specs.inner.Bands.{bounded_span}
 use Rattle.fx_rows.proofs.Stepping.{strip_row}
 use Rattle.fx_rows.proofs.add.add_inner_rows.Goals as goal
 
@@ -22,11 +20,9 @@ row_of-requires g c = omega (arith, signed_linear)
 pub strip_of-strip-requires : goal.strip_of-strip-requires
 strip_of-strip-requires g c = omega (arith, signed_linear)
 
-pub add_curve_rows-requires-clause-areas : goal.add_curve_rows-requires-clause-areas
-add_curve_rows-requires-clause-areas g c =
+pub add_curve_rows-requires-clause-base : goal.add_curve_rows-requires-clause-base
+add_curve_rows-requires-clause-base g c =
     let at = strip_row c.strip_of-strip.result c.row_of.result _ c.row_of.ensures.near c.strip_of-strip.ensures.row
     c.row_of.ensures.value in
     let base = c.strip_of-strip.ensures.base in
-    let h = c.areas_at-areas.ensures in
-    subst (λ z. z) (λ i. AreAreas (bounded_span c.args.bounded.now) (centre (base i +ℤ pos 0) (at i)) c.areas_at-areas.result)
-    (record { u = h.u; v = h.v; w = h.w })
+    λ i. centre (base i +ℤ pos 0) (at i)

@@ -6,14 +6,14 @@ use Rattle.fx_rows.proofs.Stepping.{rise_value}
 use Rattle.fx_rows.proofs.Counting.{rise_sign, line_is_cut}
 use Rattle.fx_rows.proofs.cut.line_cut.Goals as goal
 
-pub edge_of-edge-requires-clause-slanted : goal.edge_of-edge-requires-clause-slanted
-edge_of-edge-requires-clause-slanted c = slanted _ _ _ c.requires.inner
+pub edge_from-edge-requires-clause-slanted : goal.edge_from-edge-requires-clause-slanted
+edge_from-edge-requires-clause-slanted c = slanted _ _ _ c.requires.inner
 
 pub returns-clause-cut : goal.returns-clause-cut
 returns-clause-cut c =
     let s = c.args.bounded.now.piece in
-    let edge = c.edge_of-edge.ensures in
+    let edge = c.edge_from-edge.ensures in
     line_is_cut (span_of s) c.args.strip _ (line_not_bent s c.requires.line) c.requires.inner edge.edge
     (rise_value c.args.bounded.now _ (rise_sign _ _ _ _ _ c.args.bounded.now.rises c.requires.inner))
-    (c.met_column.ensures (span_of s) (line_met s c.args.strip c.edge_of-edge.result.at c.edge_of-edge.result.met c.requires.line
-    c.requires.inner edge.edge edge.met))
+    (c.met_column.ensures (span_of s) (line_met s c.args.strip c.edge_from-edge.result.at c.edge_from-edge.result.met
+    c.requires.line c.requires.inner edge.edge edge.met))

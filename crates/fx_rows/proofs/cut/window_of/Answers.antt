@@ -2,14 +2,8 @@ use Rattle.std.proofs.Common.{◌-◌, arith}
 use Rattle.fx_winding.proofs.Places.{clash}
 use Rattle.fx_rows.proofs.cut.window_of.Goals as goal
 
-pub returns-then-is_past-clause-outside : goal.returns-then-is_past-clause-outside
-returns-then-is_past-clause-outside c = λ k h l n.
-    let end = c.if-guess-stop.end in
-    let p = c.is_past.ensures.past c.if-is_past.true in
-    p.1 (c.requires.first (end - 1) k h l n)
-
-pub returns-then-is_short-clause-inside : goal.returns-then-is_short-clause-inside
-returns-then-is_short-clause-inside c = λ k h.
+pub window_after-requires-clause-short : goal.window_after-requires-clause-short
+window_after-requires-clause-short c = λ k h.
     let end = c.if-guess-stop.end in
     let p = c.is_short.ensures.short c.if-is_short.true in
     c.requires.first k end (omega arith) p.0 p.1

@@ -19,8 +19,8 @@ is_right-right-requires-clause-total c =
     total_of_areas c.args.bounded.now.piece c.args.b (place_at c.args.strip 0) c.args.areas _ c.requires.middle c.requires.areas
     (same ∙ c.total_of-total.ensures.value)
 
-pub next-requires-clause-at : goal.next-requires-clause-at
-next-requires-clause-at c =
+pub cut-requires-clause-at : goal.cut-requires-clause-at
+cut-requires-clause-at c =
     let p = c.args.bounded.now.piece in
     let whole = area_of_areas p c.args.b (place_at c.args.strip 0) c.args.areas _ c.requires.middle c.requires.areas
     c.total_of-total.ensures.value in
@@ -29,11 +29,9 @@ next-requires-clause-at c =
     let flat = flat_not_bent p c.args.b c.requires.middle (sym whole ∙ sym same ∙ ap (to_z w64) c.if-total-eq0.true) in
     (c.requires.middle, flat, c.requires.areas)
 
-pub next-requires-2-clause-at : goal.next-requires-2-clause-at
-next-requires-2-clause-at c =
+pub from_lowest-requires-clause-bent : goal.from_lowest-requires-clause-bent
+from_lowest-requires-clause-bent c =
     let p = c.args.bounded.now.piece in
     let whole = area_of_areas p c.args.b (place_at c.args.strip 0) c.args.areas _ c.requires.middle c.requires.areas
     c.total_of-total.ensures.value in
-    let bent = is_bent p c.args.b c.requires.middle (λ z. c.if-total-eq0.false (ap (of_z w64) (whole ∙ z))) in
-    rw (c.from_lowest.ensures.b, c.from_lowest.ensures.right, c.from_lowest.ensures.areas)
-    (c.requires.middle, bent, c.is_right-right.ensures, c.requires.areas)
+    is_bent p c.args.b c.requires.middle (λ z. c.if-total-eq0.false (ap (of_z w64) (whole ∙ z)))

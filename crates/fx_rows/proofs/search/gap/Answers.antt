@@ -1,7 +1,7 @@
 use Rattle.std.proofs.Common.{arith, ◌≡◌, ◌∙◌, ℤ, ◌^◌, neg_ℤ, ◌+ℤ◌, ◌*ℤ◌, ◌-ℤ◌, to_z, of_z, pos, w64}
 use Rattle.fx_fixed.proofs.Linear.{signed, signed_linear}
 use Rattle.fx_fixed.specs.Ranges.{IsWithin}
-use Rattle.fx_winding.specs.Area.{gap_of}
+use Rattle.fx_rows.proofs.Touching.{gap_without_copies}
 use Rattle.fx_rows.proofs.search.gap.Goals as goal
 use mir.Syntax.{w128}
 
@@ -22,15 +22,6 @@ product-requires-clause-near_a c = omega (arith, signed_linear)
 
 pub product-requires-clause-near_b : goal.product-requires-clause-near_b
 product-requires-clause-near_b c = omega (arith, signed_linear)
-
--- the gap without its copies
-gap_without_copies : (u v w x y : ℤ) → IsWithin (2 ^ 96) x → IsWithin (2 ^ 96) y → x ≡ u *ℤ w → y ≡ v *ℤ v
-    → to_z w128 (of_z w128 (to_z w128 (of_z w128 (pos 4 *ℤ to_z w128 (of_z w128 x))) -ℤ to_z w128 (of_z w128 y))) ≡ gap_of u v w
-gap_without_copies u v w x y hx hy ex ey =
-    let a : to_z w128 (of_z w128 (pos 4 *ℤ to_z w128 (of_z w128 x))) ≡ pos 4 *ℤ x = omega (arith, signed) in
-    let b : to_z w128 (of_z w128 y) ≡ y = omega (arith, signed_linear) in
-    let e : to_z w128 (of_z w128 (pos 4 *ℤ x -ℤ y)) ≡ pos 4 *ℤ x -ℤ y = omega (arith, signed) in
-    (λ i. to_z w128 (of_z w128 (a i -ℤ b i))) ∙ e ∙ (λ i. pos 4 *ℤ ex i -ℤ ey i)
 
 size_of : (x y : ℤ) → IsWithin (2 ^ 96) x → IsWithin (2 ^ 96) y
     → IsWithin (2 ^ 99)

@@ -1,0 +1,161 @@
+-- The gap of an arc as the code holds it, and where it can be 0: not in its lowest bits, and not at one centre alone.
+-- Serves the gaps of columns, and whether an arc touches a centre.
+use Rattle.std.proofs.Common.{◌≡◌, ◌∙◌, sym, ap, ◌<◌, ℕ, suc, ◌*◌, ◌%◌, ◌^◌, ℤ, pos, negsuc, neg_ℤ, ◌+ℤ◌, ◌*ℤ◌, ◌-ℤ◌, IsTrue, true, false, nat_eq, FitsSigned, arith, w64}
+use Rattle.std.proofs.Common.{to_z, of_z, [], ◌∷◌, Option, Some, None}
+use Rattle.std.proofs.lemmas.Int.{of_z-to_z, wrapping_mul-bits}
+use Rattle.std.proofs.Math.Facts.{Fits-lt-pow, Fits-of_z}
+use Rattle.std.specs.Int.{int_wrap}
+use Rattle.fx_fixed.specs.Polynomial.{Expr, var, num, ◌⊞◌, ◌⊠◌, ◌⊟◌}
+use Rattle.fx_fixed.proofs.Linear.{signed, signed_linear}
+use Rattle.fx_fixed.proofs.Ring.{ring, *ℤ_assoc}
+use Rattle.fx_fixed.specs.Ranges.{IsWithin}
+use Rattle.fx_winding.specs.Area.{Place, area_of, gap_of}
+use Rattle.fx_winding.specs.Winding.{Span, centre}
+use Rattle.fx_winding.specs.declared.weights.Weights.{Weights}
+use Rattle.fx_rows.specs.inner.Arcs.{gap, AreAreas}
+use Rattle.fx_rows.proofs.Gaps.{gap_part}
+use lib.Signed.{rem_z}
+use mir.Syntax.{w128}
+
+-- the gap without its copies
+pub gap_without_copies : (u v w x y : ℤ) → IsWithin (2 ^ 96) x → IsWithin (2 ^ 96) y → x ≡ u *ℤ w → y ≡ v *ℤ v
+    → to_z w128 (of_z w128 (to_z w128 (of_z w128 (pos 4 *ℤ to_z w128 (of_z w128 x))) -ℤ to_z w128 (of_z w128 y))) ≡ gap_of u v w
+gap_without_copies u v w x y hx hy ex ey =
+    let a : to_z w128 (of_z w128 (pos 4 *ℤ to_z w128 (of_z w128 x))) ≡ pos 4 *ℤ x = omega (arith, signed) in
+    let b : to_z w128 (of_z w128 y) ≡ y = omega (arith, signed_linear) in
+    let e : to_z w128 (of_z w128 (pos 4 *ℤ x -ℤ y)) ≡ pos 4 *ℤ x -ℤ y = omega (arith, signed) in
+    (λ i. to_z w128 (of_z w128 (a i -ℤ b i))) ∙ e ∙ (λ i. pos 4 *ℤ ex i -ℤ ey i)
+
+-- products of equal value are equal in their lowest 64 bits
+same_bits : (a b c : ℤ) (m n k : ℕ) → m < 2 ^ 64 → n < 2 ^ 64 → k < 2 ^ 64 → to_z w64 m ≡ a → to_z w64 n ≡ b → to_z w64 k ≡ c
+    → a *ℤ b ≡ c *ℤ c → m * n % 2 ^ 64 ≡ k * k % 2 ^ 64
+same_bits a b c m n k hm hn hk em en ek e =
+    let l = wrapping_mul-bits w64 m n hm hn ∙ (λ i. int_wrap w64 (em i *ℤ en i)) in
+    let r = wrapping_mul-bits w64 k k hk hk ∙ (λ i. int_wrap w64 (ek i *ℤ ek i)) in
+    let x = m * n % 2 ^ 64 in
+    let y = k * k % 2 ^ 64 in
+    let lx : x < 2 ^ 64 = omega arith in
+    let ly : y < 2 ^ 64 = omega arith in
+    sym (of_z-to_z w64 x lx) ∙ ap (of_z w64) (l ∙ ap (int_wrap w64) e ∙ sym r) ∙ of_z-to_z w64 y ly
+
+pub is_same : (m n : ℕ) → m ≡ n → IsTrue (nat_eq m n)
+is_same m n e = rw e grind arith
+
+-- a gap of 0 is 0 in its lowest 64 bits
+pub low_zero : (u v w : ℤ) → IsWithin (2 ^ 48) u → IsWithin (2 ^ 48) v → IsWithin (2 ^ 48) w → gap_of u v w ≡ pos 0
+    → of_z w64 (pos 4 *ℤ to_z w64 (of_z w64 u)) * of_z w64 w % 2 ^ 64 ≡ of_z w64 v * of_z w64 v % 2 ^ 64
+low_zero u v w hu hv hw e =
+    let cu : to_z w64 (of_z w64 (pos 4 *ℤ to_z w64 (of_z w64 u))) ≡ pos 4 *ℤ u = omega (arith, signed) in
+    let cv : to_z w64 (of_z w64 v) ≡ v = omega (arith, signed_linear) in
+    let cw : to_z w64 (of_z w64 w) ≡ w = omega (arith, signed_linear) in
+    let fu : FitsSigned w64 (pos 4 *ℤ to_z w64 (of_z w64 u)) = omega (arith, signed) in
+    let fv : FitsSigned w64 v = omega (arith, signed_linear) in
+    let fw : FitsSigned w64 w = omega (arith, signed_linear) in
+    let same : pos 4 *ℤ (u *ℤ w) ≡ v *ℤ v = omega (arith, signed_linear, e) in
+    same_bits (pos 4 *ℤ u) w v _ _ _ (Fits-lt-pow (Fits-of_z fu)) (Fits-lt-pow (Fits-of_z fw)) (Fits-lt-pow (Fits-of_z fv))
+    cu cw cv (*ℤ_assoc (pos 4) u w ∙ same)
+
+-- ---- from centre to centre
+u_between : (bx by cx cy l r l' r' : ℤ)
+    → area_of (pos 128 *ℤ l' +ℤ pos 64) (pos 128 *ℤ r' +ℤ pos 64) bx by cx cy
+    ≡ area_of (pos 128 *ℤ l +ℤ pos 64) (pos 128 *ℤ r +ℤ pos 64) bx by cx cy +ℤ
+    pos 128 *ℤ ((l' -ℤ l) *ℤ (by -ℤ cy) +ℤ (r' -ℤ r) *ℤ (cx -ℤ bx))
+u_between bx by cx cy l r l' r' =
+    let f : Expr → Expr → Expr = λ x y. (var 0 ⊟ x) ⊠ (var 3 ⊟ y) ⊟ (var 1 ⊟ y) ⊠ (var 2 ⊟ x) in
+    let at : Expr → Expr = λ n. num (pos 128) ⊠ n ⊞ num (pos 64) in
+    ring (bx ∷ by ∷ cx ∷ cy ∷ l ∷ r ∷ l' ∷ r' ∷ []) (f (at (var 6)) (at (var 7)))
+    (f (at (var 4)) (at (var 5)) ⊞ num (pos 128) ⊠
+    ((var 6 ⊟ var 4) ⊠ (var 1 ⊟ var 3) ⊞ (var 7 ⊟ var 5) ⊠ (var 2 ⊟ var 0))) tt
+
+v_between : (ax ay cx cy l r l' r' : ℤ)
+    → area_of ax ay (pos 128 *ℤ l' +ℤ pos 64) (pos 128 *ℤ r' +ℤ pos 64) cx cy
+    ≡ area_of ax ay (pos 128 *ℤ l +ℤ pos 64) (pos 128 *ℤ r +ℤ pos 64) cx cy +ℤ
+    pos 128 *ℤ ((l' -ℤ l) *ℤ (cy -ℤ ay) +ℤ (r' -ℤ r) *ℤ (ax -ℤ cx))
+v_between ax ay cx cy l r l' r' =
+    let f : Expr → Expr → Expr = λ x y. (x ⊟ var 0) ⊠ (var 3 ⊟ var 1) ⊟ (y ⊟ var 1) ⊠ (var 2 ⊟ var 0) in
+    let at : Expr → Expr = λ n. num (pos 128) ⊠ n ⊞ num (pos 64) in
+    ring (ax ∷ ay ∷ cx ∷ cy ∷ l ∷ r ∷ l' ∷ r' ∷ []) (f (at (var 6)) (at (var 7)))
+    (f (at (var 4)) (at (var 5)) ⊞ num (pos 128) ⊠
+    ((var 6 ⊟ var 4) ⊠ (var 3 ⊟ var 1) ⊞ (var 7 ⊟ var 5) ⊠ (var 0 ⊟ var 2))) tt
+
+w_between : (ax ay bx by l r l' r' : ℤ)
+    → area_of ax ay bx by (pos 128 *ℤ l' +ℤ pos 64) (pos 128 *ℤ r' +ℤ pos 64)
+    ≡ area_of ax ay bx by (pos 128 *ℤ l +ℤ pos 64) (pos 128 *ℤ r +ℤ pos 64) +ℤ
+    pos 128 *ℤ ((l' -ℤ l) *ℤ (ay -ℤ by) +ℤ (r' -ℤ r) *ℤ (bx -ℤ ax))
+w_between ax ay bx by l r l' r' =
+    let f : Expr → Expr → Expr = λ x y. (var 2 ⊟ var 0) ⊠ (y ⊟ var 1) ⊟ (var 3 ⊟ var 1) ⊠ (x ⊟ var 0) in
+    let at : Expr → Expr = λ n. num (pos 128) ⊠ n ⊞ num (pos 64) in
+    ring (ax ∷ ay ∷ bx ∷ by ∷ l ∷ r ∷ l' ∷ r' ∷ []) (f (at (var 6)) (at (var 7)))
+    (f (at (var 4)) (at (var 5)) ⊞ num (pos 128) ⊠
+    ((var 6 ⊟ var 4) ⊠ (var 1 ⊟ var 3) ⊞ (var 7 ⊟ var 5) ⊠ (var 2 ⊟ var 0))) tt
+
+-- by how many times 256 the gap changes
+abbrev change : ℤ → ℤ → ℤ → ℤ → ℤ → ℤ → ℤ
+change u v w x y z = pos 2 *ℤ (u *ℤ z +ℤ w *ℤ x) +ℤ pos 256 *ℤ (x *ℤ z) -ℤ v *ℤ y -ℤ pos 64 *ℤ (y *ℤ y)
+
+gap_change : (u v w x y z : ℤ)
+    → gap_of (u +ℤ pos 128 *ℤ x) (v +ℤ pos 128 *ℤ y) (w +ℤ pos 128 *ℤ z) ≡ gap_of u v w +ℤ pos 256 *ℤ change u v w x y z
+gap_change u v w x y z =
+    ring (u ∷ v ∷ w ∷ x ∷ y ∷ z ∷ [])
+    (num (pos 4) ⊠ ((var 0 ⊞ num (pos 128) ⊠ var 3) ⊠ (var 2 ⊞ num (pos 128) ⊠ var 5)) ⊟
+    (var 1 ⊞ num (pos 128) ⊠ var 4) ⊠ (var 1 ⊞ num (pos 128) ⊠ var 4))
+    ((num (pos 4) ⊠ (var 0 ⊠ var 2) ⊟ var 1 ⊠ var 1) ⊞ num (pos 256) ⊠
+    (num (pos 2) ⊠ (var 0 ⊠ var 5 ⊞ var 2 ⊠ var 3) ⊞ num (pos 256) ⊠ (var 3 ⊠ var 5) ⊟ var 1 ⊠ var 4 ⊟
+    num (pos 64) ⊠ (var 4 ⊠ var 4))) tt
+
+-- the gap of an arc at two centres differs by a multiple of 256
+pub record IsApart (z z' : ℤ) : Type 0 where
+  pub times : ℤ
+  pub apart : z' ≡ z +ℤ pos 256 *ℤ times
+
+centres_apart : (a b c : Place) (l r l' r' : ℤ)
+    → IsApart (gap_part a (Some b) c (centre l r)) (gap_part a (Some b) c (centre l' r'))
+centres_apart a b c l r l' r' =
+    let u = area_of (pos 128 *ℤ l +ℤ pos 64) (pos 128 *ℤ r +ℤ pos 64) b.x b.y c.x c.y in
+    let v = area_of a.x a.y (pos 128 *ℤ l +ℤ pos 64) (pos 128 *ℤ r +ℤ pos 64) c.x c.y in
+    let w = area_of a.x a.y b.x b.y (pos 128 *ℤ l +ℤ pos 64) (pos 128 *ℤ r +ℤ pos 64) in
+    let x = (l' -ℤ l) *ℤ (b.y -ℤ c.y) +ℤ (r' -ℤ r) *ℤ (c.x -ℤ b.x) in
+    let y = (l' -ℤ l) *ℤ (c.y -ℤ a.y) +ℤ (r' -ℤ r) *ℤ (a.x -ℤ c.x) in
+    let z = (l' -ℤ l) *ℤ (a.y -ℤ b.y) +ℤ (r' -ℤ r) *ℤ (b.x -ℤ a.x) in
+    record {
+      times = change u v w x y z;
+      apart = (λ i. gap_of (u_between b.x b.y c.x c.y l r l' r' i) (v_between a.x a.y c.x c.y l r l' r' i)
+          (w_between a.x a.y b.x b.y l r l' r' i)) ∙ gap_change u v w x y z;
+    }
+
+-- the same of a line, whose gap is less the square of its one area
+line_apart : (a c : Place) (l r l' r' : ℤ) → IsApart (gap_part a None c (centre l r)) (gap_part a None c (centre l' r'))
+line_apart a c l r l' r' =
+    let v = area_of a.x a.y (pos 128 *ℤ l +ℤ pos 64) (pos 128 *ℤ r +ℤ pos 64) c.x c.y in
+    let y = (l' -ℤ l) *ℤ (c.y -ℤ a.y) +ℤ (r' -ℤ r) *ℤ (a.x -ℤ c.x) in
+    record {
+      times = change (pos 0) v (pos 0) (pos 0) y (pos 0);
+      apart = (λ i. gap_of (pos 0) (v_between a.x a.y c.x c.y l r l' r' i) (pos 0))
+          ∙ gap_change (pos 0) v (pos 0) (pos 0) y (pos 0);
+    }
+
+part_apart : (a : Place) (b : Option Place) (c : Place) (l r l' r' : ℤ)
+    → IsApart (gap_part a b c (centre l r)) (gap_part a b c (centre l' r'))
+part_apart a None c l r l' r' = line_apart a c l r l' r'
+part_apart a (Some b) c l r l' r' = centres_apart a b c l r l' r'
+
+pub gaps_apart : (s : Span) (l r l' r' : ℤ) → IsApart (gap s (centre l r)) (gap s (centre l' r'))
+gaps_apart s l r l' r' = part_apart s.a s.b s.c l r l' r'
+
+-- the gap at a place, from the areas there as the code holds them
+pub gap_of_areas : (s : Span) (p : Place) (areas : Weights) → AreAreas s p areas → gap_of areas.u areas.v areas.w ≡ gap s p
+gap_of_areas s p areas h = λ i. gap_of (h.u i) (h.v i) (h.w i)
+
+-- ---- a gap that is no multiple of 256 at one centre is 0 at none
+no_rest : (z e : ℤ) → z ≡ pos 256 *ℤ e → rem_z z (pos 256) ≡ pos 0
+no_rest (pos a) e h = let r : a % 256 ≡ 0 = omega (arith, signed, h) in ap pos r
+no_rest (negsuc a) e h = let r : suc a % 256 ≡ 0 = omega (arith, signed, h) in ap (λ n. neg_ℤ (pos n)) r
+
+not_both : true ≡ false → ⊥
+not_both e = absurd (cc)
+
+pub touched : (z e : ℤ) → z ≡ pos 256 *ℤ e → nat_eq (of_z w128 (rem_z z (pos 256))) 0 ≡ false → ⊥
+touched z e h f = not_both (sym (ap (λ n. nat_eq (of_z w128 n) 0) (no_rest z e h)) ∙ f)
+
+pub from_zero : (z z' t : ℤ) → z' ≡ z +ℤ pos 256 *ℤ t → z' ≡ pos 0 → z ≡ pos 256 *ℤ neg_ℤ t
+from_zero z z' t h e = omega (arith, signed, h, e)
