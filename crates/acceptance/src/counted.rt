@@ -69,7 +69,7 @@ impl<'a> Hinter for Counting<'a> {
 fn counting_machine<'a>(alloc: Global, font: &Font<'a>) -> Result<Counting<'a>, Fail> {
     let size = Ppem::new(16).ok_or("no size")?;
     let machine = Machine::new(alloc, font.shared(), size, &mut Unwatched)?;
-    let keeping = KeepingMachine::new(alloc, machine)?;
+    let keeping = KeepingMachine::new(alloc, machine);
     Ok(Counting { keeping, runs: 0 })
 }
 

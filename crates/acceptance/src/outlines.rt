@@ -96,7 +96,7 @@ fn made_plainly(alloc: Global, font: &Font<'_>, ppem: Ppem) -> Result<GlyphOutli
 fn keeping_machine<'a>(alloc: Global, font: &Font<'a>) -> Result<KeepingMachine<'a>, Fail> {
     let size = Ppem::new(16).ok_or("no size")?;
     let machine = Machine::new(alloc, font.shared(), size, &mut Unwatched)?;
-    Ok(KeepingMachine::new(alloc, machine)?)
+    Ok(KeepingMachine::new(alloc, machine))
 }
 
 /// Whether two outlines are the same.

@@ -1,8 +1,9 @@
 //! A machine that keeps simple glyphs that it made.
 
-ghost use Rattle.std.specs.Prelude.{◌≡◌, ◌≤◌, replicate, length, None, IfOk, IsTrue};
+ghost use Rattle.std.specs.Prelude.{◌≡◌, ◌≤◌, replicate, length, option_map, None, IfOk, IsTrue};
 ghost use Rattle.std.specs.List.{All};
 ghost use Rattle.fx_hint.specs.Kept.{IsSmall};
+ghost use Rattle.fx_hint.specs.inner.Kept.{places_of};
 ghost use Rattle.fx_hint.specs.Limits.{max_places, max_kept_points, max_kept_bytes};
 
 use crate::fault::HintFault;
@@ -34,6 +35,13 @@ fn empty_places(alloc: Global) -> Result<Vec<KeptGlyph>, AllocError>
     Ok(places)
 }
 
+/// The places, or none if memory is refused.
+fn places_made(alloc: Global) -> Option<Vec<KeptGlyph>>
+    ensures { places_of (option_map (λ v. v.items) result) ≡ replicate max_places None }
+{
+    empty_places(alloc).ok()
+}
+
 /// Whether a glyph is small enough to be kept.
 fn is_small(bytes: &[u8], made: &Made) -> bool
     ensures bytes { IsTrue result → length bytes.now ≤ max_kept_bytes }
@@ -49,35 +57,51 @@ fn is_small(bytes: &[u8], made: &Made) -> bool
 /// made again. A glyph has its place by its number, and what the place kept before is dropped. What is kept decides how soon an
 /// outline is made, and nothing else. It is at most `PLACES` glyphs of at most `KEPT_POINTS` points and `KEPT_BYTES` bytes; with
 /// what their lists have to spare they take at most 1 MiB.
+/// The places are made when the first glyph is kept.
 #[derive(Drop)]
 pub struct KeepingMachine<'a> {
     machine: Machine<'a>,
-    places: Vec<KeptGlyph>,
+    alloc: Global,
+    places: Option<Vec<KeptGlyph>>,
 }
 
 impl<'a> Model for KeepingMachine<'a> {
-    ghost use Rattle.std.specs.Prelude.{◌≡◌, length};
+    ghost use Rattle.std.specs.Prelude.{◌≡◌, length, option_map};
     ghost use Rattle.std.specs.List.{All};
     ghost use Rattle.fx_hint.specs.Programmed.{hinting_of};
     ghost use Rattle.fx_hint.specs.Kept.{KeepingView, IsTrueOf, IsSmall};
     ghost use Rattle.fx_hint.specs.Limits.{max_places};
+    ghost use Rattle.fx_hint.specs.inner.Kept.{places_of};
 
     ghost Value = { KeepingView };
 
-    ghost view = { λ k. record { machine = k.machine; places = k.places.items } };
+    ghost view = { λ k. record { machine = k.machine; places = places_of (option_map (λ v. v.items) k.places) } };
 
-    ghost invariant = { λ k. (length k.places.items ≡ max_places) × All (IsTrueOf (hinting_of k.machine.known)) k.places.items
-        × All IsSmall k.places.items };
+    ghost invariant = { λ k. (length (places_of (option_map (λ v. v.items) k.places)) ≡ max_places)
+        × All (IsTrueOf (hinting_of k.machine.known)) (places_of (option_map (λ v. v.items) k.places))
+        × All IsSmall (places_of (option_map (λ v. v.items) k.places)) };
 }
 
 impl<'a> KeepingMachine<'a> {
     /// The machine, which keeps nothing yet.
-    pub fn new(alloc: Global, machine: Machine<'a>) -> Result<KeepingMachine<'a>, AllocError>
-        ensures same { IfOk result (λ keeping. keeping.machine ≡ machine.entry) }
-        ensures none { IfOk result (λ keeping. keeping.places ≡ replicate max_places None) }
+    pub fn new(alloc: Global, machine: Machine<'a>) -> KeepingMachine<'a>
+        ensures same { result.machine ≡ machine.entry }
+        ensures none { result.places ≡ replicate max_places None }
     {
-        let places = empty_places(alloc)?;
-        Ok(KeepingMachine { machine, places })
+        KeepingMachine {
+            machine,
+            alloc,
+            places: None,
+        }
+    }
+
+    /// Makes the places, if they are not made yet. Out of memory: they are not made, and nothing is kept.
+    fn make_places(&mut self)
+        ensures { self.new ≡ self.old }
+    {
+        if self.places.is_none() {
+            self.places = places_made(self.alloc);
+        }
     }
 
     /// The machine.
@@ -124,13 +148,19 @@ impl<'a> Hinter for KeepingMachine<'a> {
     }
 
     fn recall(&self, alloc: Global, input: &GlyphInput<'_>) -> Option<(Made, Usage)> {
-        self.places[usize::from(input.g) % PLACES].recall(alloc, input)
+        match &self.places {
+            Some(places) => places[usize::from(input.g) % PLACES].recall(alloc, input),
+            None => None,
+        }
     }
 
     fn keep(&mut self, input: &GlyphInput<'_>, made: &Made, usage: Usage) {
         if is_small(input.bytes, made) {
-            // Out of memory: it is not kept, and made again when it is asked for.
-            let _kept = self.places[usize::from(input.g) % PLACES].take(input, made, usage);
+            self.make_places();
+            if let Some(places) = &mut self.places {
+                // Out of memory: it is not kept, and made again when it is asked for.
+                let _kept = places[usize::from(input.g) % PLACES].take(input, made, usage);
+            }
         }
     }
 

@@ -1,23 +1,29 @@
 -- A machine that is read from a block knows what the machine knew that wrote the block.
 -- For a machine that is made of a block.
-use Rattle.std.proofs.Common.{◌≡◌, ℕ, ◌*◌, List, ◌∷◌, ◌++◌, length, take, drop, refl, ap, sym, ◌∙◌, Bool, true}
+use Rattle.std.proofs.Common.{◌≡◌, ℕ, ◌*◌, ◌≤◌, map, List, ◌∷◌, ◌++◌, length, take, drop, refl, ap, sym, ◌∙◌, Bool, true}
 use Rattle.std.proofs.Common.{false, ◌==◌, arith}
 use Rattle.std.proofs.Common.{subst, Some, None, if◌then◌else◌, ◌&&◌}
 use Rattle.std.specs.Prelude.{nat_le, codes}
 use Rattle.std.proofs.lemmas.Bool.{eqb-true, eq-eqb, le-leb}
-use Rattle.std.proofs.lemmas.List.{length-replicate, append_assoc}
+use Rattle.std.proofs.lemmas.List.{length-replicate, length-map, length-drop, length-take-le, append_assoc}
 use Rattle.fx_sfnt.specs.Tables.{Face, table_or_empty}
 use Rattle.fx_scale.specs.Scaling.{scale_of}
 use Rattle.fx_machine.specs.declared.state.State.{State}
 use Rattle.fx_machine.specs.declared.usage.Usage.{Usage}
 use Rattle.fx_machine.specs.declared.prepared.Prepared.{Prepared}
 use Rattle.fx_machine.specs.Prepared.{Fits}
-use Rattle.fx_machine.specs.Known.{Known, first_state}
-use Rattle.fx_machine.specs.Blocks.{Sizes, AreParts, IsRead, SaysAll, IsBlockOf, state_words}
+use Rattle.fx_machine.specs.Known.{Known}
+use Rattle.fx_machine.specs.declared.sizes.Sizes.{Sizes}
+use Rattle.fx_machine.specs.inner.Blank.{blank_state}
+use Rattle.fx_machine.specs.Words.{number_in, function_in}
+use Rattle.fx_machine.specs.Blocks.{AreParts, IsOfFont, SaysAll, IsBlockOf, state_words}
+use Rattle.fx_machine.specs.Blocks.{storage_words, cvt_words, twilight_words, functions_words, opcodes_words}
+use Rattle.fx_machine.proofs.PointsMore.{points_count}
+use Rattle.fx_scale.specs.declared.scale.Scale.{Scale}
 use Rattle.fx_machine.specs.Blocks.{origin_words, sizes_of}
 use Rattle.fx_machine.specs.Blocks.{block_form, has_origin, font_sizes, sizes_in, usage_in, prepared_in, checksum_of}
 use Rattle.fx_machine.specs.Blocks.{after_origin}
-use Rattle.fx_machine.proofs.BlocksBack.{prepared_back, sizes_back, usage_back, all_said}
+use Rattle.fx_machine.proofs.BlocksBack.{prepared_back, usage_back, all_said}
 
 unfoldable known_with : Face → ℕ → Prepared → Usage → Known
 known_with face ppem p u = record { face = face; ppem = ppem; prepared = p; prelude = u }
@@ -74,25 +80,29 @@ module _ (face : Face) (ppem : ℕ) (block : List ℕ) (known : Known) (ef : kno
       let f : None ≡ Some (state_words known.prepared known.prelude ++ b.rest) = e ∙ words_there in
       cc
 
-  -- and say all of it
-  pub all_there : (ws : List ℕ) (old : Prepared) → Some ws ≡ after_origin face ppem block → sizes_of old ≡ font_sizes face ppem
-      → SaysAll (sizes_of old) ws
-  all_there ws old e s =
-      let w : ws ≡ state_words known.prepared known.prelude ++ b.rest = same_some (e ∙ words_there) in
-      let z : sizes_of old ≡ sizes_of known.prepared = s ∙ (rw (← ef, ← ep) (sym b.of_font.sizes)) in
-      rw (w, z) (all_said known.prepared known.prelude b.rest b.numbered)
+  sizes_there : font_sizes face ppem ≡ sizes_of known.prepared
+  sizes_there = rw (← ef, ← ep) (sym b.of_font.sizes)
 
-  pub known_is : (size : ℕ) (ws : List ℕ) (old new : Prepared) (u : Usage) → size ≡ ppem → Some ws ≡ after_origin face ppem block
-      → IsRead old new ws u → ◌≡◌ {A = Known} (record { face = face; ppem = size; prepared = new; prelude = u }) known
-  known_is size ws old new u s e r =
+  -- and say all of it
+  pub all_there : (n : Sizes) (ws : List ℕ) → n ≡ font_sizes face ppem → Some ws ≡ after_origin face ppem block → SaysAll n ws
+  all_there n ws z e =
+      let w : ws ≡ state_words known.prepared known.prelude ++ b.rest = same_some (e ∙ words_there) in
+      let t : n ≡ sizes_of known.prepared = z ∙ sizes_there in
+      rw (w, t) (all_said known.prepared known.prelude b.rest b.numbered)
+
+  pub known_is : (size : ℕ) (n : Sizes) (ws : List ℕ) (new : Prepared) (u : Usage) → size ≡ ppem → n ≡ font_sizes face ppem
+      → Some ws ≡ after_origin face ppem block → new ≡ prepared_in n ws → u ≡ usage_in ws
+      → ◌≡◌ {A = Known} (record { face = face; ppem = size; prepared = new; prelude = u }) known
+  known_is size n ws new u s z e read used =
       let p = known.prepared in
       let w : ws ≡ state_words p known.prelude ++ b.rest = same_some (e ∙ words_there) in
-      let back : sizes_in ws ≡ sizes_of p = ap sizes_in w ∙ sizes_back p known.prelude b.rest in
-      let sizes : sizes_of old ≡ sizes_of p = sym r.sizes ∙ back in
-      let prepared : new ≡ p = r.prepared ∙ (ap (λ n. prepared_in n ws) sizes ∙ (ap (prepared_in (sizes_of p)) w
+      let prepared : new ≡ p = read ∙ (ap (λ m. prepared_in m ws) (z ∙ sizes_there) ∙ (ap (prepared_in (sizes_of p)) w
       ∙ prepared_back p known.prelude b.rest b.numbered b.of_font.ends b.of_font.carried)) in
-      let usage : u ≡ known.prelude = r.usage_is ∙ (ap usage_in w ∙ usage_back p known.prelude b.rest) in
+      let usage : u ≡ known.prelude = used ∙ (ap usage_in w ∙ usage_back p known.prelude b.rest) in
       same_known (record { face = face; ppem = size; prepared = new; prelude = u }) known (sym ef) (s ∙ sym ep) prepared usage
+
+pub never : false ≡ true → ⊥
+never e = cc
 
 -- a block that is taken is one of this size, and of a font with this checksum
 if_some : (x : Bool) (a ws : List ℕ) → Some ws ≡ (if x then Some a else None) → x ≡ true
@@ -139,14 +149,55 @@ unfolding sizes_with
 same_sizes m n p q r u v = same_numbers m.storage n.storage m.cvt n.cvt m.twilight n.twilight m.functions n.functions m.opcodes
     n.opcodes p q r u v
 
-pub first_sizes : (face : Face) (ppem : ℕ) (p : Prepared) (s : State) → s ≡ first_state face (scale_of face ppem) → Fits p s
-    → sizes_of p ≡ font_sizes face ppem
-first_sizes face ppem p s e f = same_sizes (sizes_of p) (font_sizes face ppem)
-    (sym f.storage ∙ (ap (λ t. length t.store.storage) e ∙ length-replicate _ _))
-    (sym f.cvt ∙ ap (λ t. length t.store.cvt) e)
-    (sym f.twilight.points ∙ (ap (λ t. length t.zones.twilight.points) e ∙ length-replicate _ _))
-    (sym f.functions ∙ (ap (λ t. length t.definitions.functions) e ∙ length-replicate _ _))
-    (sym f.opcodes ∙ ap (λ t. length t.definitions.opcodes) e)
+-- those that words say something for
+cut : {X : Type 0} (f : ℕ → X) (n : ℕ) (ws : List ℕ) → n ≤ length ws → length (map f (take n ws)) ≡ n
+cut f n ws h = length-map (take n ws) f ∙ length-take-le n ws h
+
+pub said_sizes : (n : Sizes) (ws : List ℕ) → SaysAll n ws → sizes_of (prepared_in n ws) ≡ n
+said_sizes n ws h =
+    let a = length-drop 20 ws in
+    let b = length-drop n.storage (storage_words ws) in
+    let c = length-drop n.cvt (cvt_words n ws) in
+    let d = length-drop (5 * n.twilight) (twilight_words n ws) in
+    let e = length-drop n.functions (functions_words n ws) in
+    same_sizes (sizes_of (prepared_in n ws)) n
+    (cut number_in n.storage (storage_words ws) (omega (arith, a, h.enough)))
+    (cut number_in n.cvt (cvt_words n ws) (omega (arith, a, b, h.enough)))
+    (points_count n.twilight (take (5 * n.twilight) (twilight_words n ws)))
+    (cut function_in n.functions (functions_words n ws) (omega (arith, a, b, c, d, h.enough)))
+    (cut function_in n.opcodes (opcodes_words n ws) (omega (arith, a, b, c, d, e, h.enough)))
+
+pub twilight_said : (n : Sizes) (ws t : List ℕ) → SaysAll n ws → t ≡ take (5 * (sizes_in ws).twilight) (twilight_words (sizes_in ws) ws)
+    → length t ≡ 5 * n.twilight
+twilight_said n ws t h e =
+    let a = length-drop 20 ws in
+    let b = length-drop n.storage (storage_words ws) in
+    let c = length-drop n.cvt (cvt_words n ws) in
+    ap length (e ∙ ap (λ (m : Sizes). take (5 * m.twilight) (twilight_words m ws)) h.sizes)
+    ∙ length-take-le (5 * n.twilight) (twilight_words n ws) (omega (arith, a, b, c, h.enough))
+
+pub said_of_font : (face : Face) (ppem : ℕ) (n : Sizes) (p : Prepared) (ws : List ℕ) → n ≡ font_sizes face ppem
+    → p ≡ prepared_in n ws → SaysAll n ws → IsOfFont face ppem p
+said_of_font face ppem n p ws z e h = record {
+  sizes = ap sizes_of e ∙ said_sizes n ws h ∙ z;
+  ends = ap (λ q. q.twilight.ends) e;
+  carried = rw e refl;
+}
+
+-- a state that holds nothing yet has tables of these sizes
+pub blank_fits : (face : Face) (ppem : ℕ) (p : Prepared) (scale : Scale) (s : State) → scale ≡ scale_of face ppem
+    → s ≡ blank_state face scale → IsOfFont face ppem p → Fits p s
+blank_fits face ppem p scale s z e h =
+    let t : s ≡ blank_state face (scale_of face ppem) = e ∙ ap (blank_state face) z in record {
+      storage = ap (λ x. length x.store.storage) t ∙ (length-replicate _ _ ∙ sym (ap (λ n. n.storage) h.sizes));
+      cvt = ap (λ x. length x.store.cvt) t ∙ (length-replicate _ _ ∙ sym (ap (λ n. n.cvt) h.sizes));
+      functions = ap (λ x. length x.definitions.functions) t ∙ (length-replicate _ _ ∙ sym (ap (λ n. n.functions) h.sizes));
+      opcodes = ap (λ x. length x.definitions.opcodes) t ∙ sym (ap (λ n. n.opcodes) h.sizes);
+      twilight = record {
+        points = ap (λ x. length x.zones.twilight.points) t ∙ (length-replicate _ _ ∙ sym (ap (λ n. n.twilight) h.sizes));
+        ends = ap (λ x. x.zones.twilight.ends) t ∙ sym h.ends;
+      };
+    }
 
 -- ---- the words of each list, cut one after the other
 

@@ -12,3 +12,4 @@ pub mod WordsBack
 pub mod PointsMore
 pub mod BlocksBack
 pub mod BlockMachines
+pub mod Blanks

@@ -1,7 +1,7 @@
 -- One number or point more, of words and to words.
-use Rattle.std.proofs.Common.{◌≡◌, ℕ, zero, suc, ◌+◌, ◌*◌, List, [], ◌∷◌, ◌++◌, drop, take, length, set, ◌<◌, refl, ap, sym, ◌∙◌}
+use Rattle.std.proofs.Common.{◌≡◌, ℕ, zero, suc, ◌+◌, ◌*◌, List, [], ◌∷◌, ◌++◌, drop, take, length, ◌<◌, refl, ap, sym, ◌∙◌}
 use Rattle.std.proofs.Common.{add-one, arith, append_assoc, map}
-use Rattle.std.proofs.lemmas.List.{drop-drop, take_more, take_more_set, map-append, append-nil}
+use Rattle.std.proofs.lemmas.List.{drop-drop, take_more, map-append, append-nil}
 use Rattle.std.proofs.lemmas.Grind.{flat_map-append}
 use Rattle.std.specs.List.{flat_map}
 use Rattle.std.proofs.lemmas.List.Elements.{All-append}
@@ -22,10 +22,10 @@ points_more (suc n) ws =
     ∙ ap (λ l. points_in n (drop 5 ws) ++ point_in l ∷ []) e) in
     ap (λ k. points_in k ws) (add-one (suc n)) ∙ ap (λ l. point_in ws ∷ l) i
 
--- the same after a write
-pub points_written : (ps : List Point) (i : ℕ) (p : Point) (ws : List ℕ) → i < length ps → take i ps ≡ points_in i ws
-    → p ≡ point_in (drop (5 * i) ws) → take (i + 1) (set ps i p) ≡ points_in (i + 1) ws
-points_written ps i p ws h q r = rw (take_more_set ps i p h, points_more i ws, q, r) refl
+-- the same of points to which one was added
+pub point_added : (old new : List Point) (i : ℕ) (p : Point) (ws : List ℕ) → new ≡ old ++ p ∷ [] → old ≡ points_in i ws
+    → p ≡ point_in (drop (5 * i) ws) → new ≡ points_in (i + 1) ws
+point_added old new i p ws q r e = rw (points_more i ws, q, r, e) refl
 
 -- how many there are
 pub points_count : (n : ℕ) (ws : List ℕ) → length (points_in n ws) ≡ n

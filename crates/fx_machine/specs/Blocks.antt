@@ -18,19 +18,13 @@ use Rattle.fx_machine.specs.Limits.{function_count_of}
 use Rattle.fx_machine.specs.declared.state.Flags.{Flags}
 use Rattle.fx_machine.specs.declared.usage.Usage.{Usage}
 use Rattle.fx_machine.specs.declared.prepared.Prepared.{Prepared}
+use Rattle.fx_machine.specs.declared.sizes.Sizes.{Sizes}
 use Rattle.fx_machine.specs.Prepared.{carried}
 use Rattle.fx_machine.specs.Known.{Known, controls_of}
 use Rattle.fx_machine.specs.Words.{number_word, number_in, bit_of, point_words, points_in, function_word, function_in, is_near}
 use Rattle.fx_machine.specs.Words.{AreNumbers, ArePoints}
 
 -- how many numbers, points and functions there are
-pub record Sizes : Type 0 where
-  pub storage : ℕ
-  pub cvt : ℕ
-  pub twilight : ℕ
-  pub functions : ℕ
-  pub opcodes : ℕ
-
 abbrev pub sizes_of : Prepared → Sizes
 sizes_of p = record {
   storage = length p.storage;
@@ -205,12 +199,6 @@ pub record SaysAll (n : Sizes) (ws : List ℕ) : Type 0 where
   pub sizes : sizes_in ws ≡ n
   pub enough : count_of n ≤ length ws
   pub shift : slice_index ws 15 ≤ 6
-
--- what words say was read
-pub record IsRead (old new : Prepared) (ws : List ℕ) (usage : Usage) : Type 0 where
-  pub sizes : sizes_in ws ≡ sizes_of old
-  pub prepared : new ≡ prepared_in (sizes_of old) ws
-  pub usage_is : usage ≡ usage_in ws
 
 -- ---- what has a block
 

@@ -19,3 +19,4 @@ pub mod Prepared
 pub mod Known
 pub mod Words
 pub mod Blocks
+pub mod inner

@@ -3,11 +3,12 @@
 //! `specs/Blocks` says which word is what. The first five tell the form of a block, the size and the font; 20 more come before the
 //! lists.
 
-ghost use Rattle.std.specs.Prelude.{◌≡◌, ◌+◌, ◌*◌, ◌^◌, ◌≤◌, ◌<◌, ◌++◌, OnOk, length, slice_index, unsigned_abs, option_map, FitsSigned};
+ghost use Rattle.fx_sfnt.specs.Tables.{table_or_empty};
+ghost use Rattle.std.specs.Prelude.{◌≡◌, ◌+◌, ◌*◌, ◌^◌, ◌≤◌, ◌<◌, ◌++◌, OnOk, codes, length, slice_index, unsigned_abs, option_map, FitsSigned};
 ghost use Rattle.std.specs.Int.{w32};
 ghost use Rattle.std.specs.Prelude.{IfSome, IsSome};
 ghost use Rattle.fx_machine.specs.Words.{number_in};
-ghost use Rattle.fx_machine.specs.Blocks.{Sizes, AreParts, count_of, sizes_in, start_in, flags_in, usage_in, checksum_of, has_origin};
+ghost use Rattle.fx_machine.specs.Blocks.{AreParts, count_of, sizes_in, start_in, flags_in, usage_in, checksum_of, has_origin};
 ghost use Rattle.fx_machine.specs.Blocks.{origin_words, after_origin, sizes_words, usage_words, distance_words, width_words, delta_words};
 ghost use Rattle.fx_machine.specs.Blocks.{start_words, flags_words, IsStart};
 ghost use Rattle.fx_machine.specs.Blocks.{control_in, control_word, type_in, type_word, scan_words};
@@ -45,24 +46,34 @@ fn checksum_of(font: &Font<'_>) -> u32
     u32_at(table_or_empty(font, *b"head"), 8).unwrap_or(0)
 }
 
-/// Whether words begin as those of a font at a size.
-fn has_origin(font: &Font<'_>, ppem: Ppem, words: &[u32]) -> bool
-    requires { 5 ≤ length words.now }
+/// Whether words begin as those of a font with these programs at a size.
+fn has_origin(font: &Font<'_>, fpgm: &[u8], prep: &[u8], ppem: Ppem, words: &[u32]) -> bool
+    requires five { 5 ≤ length words.now }
+    requires fpgm { fpgm.now ≡ table_or_empty font.now (codes "fpgm") }
+    requires prep { prep.now ≡ table_or_empty font.now (codes "prep") }
     ensures { result ≡ has_origin font.now ppem words.now }
 {
     words[0] == FORM
         && words[1] == u32::from(ppem.pixels())
         && words[2] == checksum_of(font)
-        && words[3] as usize == table_or_empty(font, *b"fpgm").len()
-        && words[4] as usize == table_or_empty(font, *b"prep").len()
+        && words[3] as usize == fpgm.len()
+        && words[4] as usize == prep.len()
 }
 
-/// The words after the first five, if these are those of a font at a size.
+/// The words after the first five, if these are those of a font with these programs at a size.
 #[tactic(auto, unfolding(crate::specs::Blocks::after_origin))]
-pub(crate) fn after_origin<'a>(font: &Font<'_>, ppem: Ppem, words: &'a [u32]) -> Option<&'a [u32]>
+pub(crate) fn after_origin<'a>(
+    font: &Font<'_>,
+    fpgm: &[u8],
+    prep: &[u8],
+    ppem: Ppem,
+    words: &'a [u32],
+) -> Option<&'a [u32]>
+    requires fpgm { fpgm.now ≡ table_or_empty font.now (codes "fpgm") }
+    requires prep { prep.now ≡ table_or_empty font.now (codes "prep") }
     ensures { option_map (λ w. w.now) result ≡ after_origin font.now ppem words.now }
 {
-    if words.len() < ORIGIN || !has_origin(font, ppem, words) {
+    if words.len() < ORIGIN || !has_origin(font, fpgm, prep, ppem, words) {
         return None;
     }
     Some(&words[ORIGIN..])

@@ -6,7 +6,7 @@ ghost use Rattle.std.specs.List.{list_all};
 ghost use Rattle.fx_machine.specs.Words.{function_word, function_in, is_near};
 
 use crate::program::Program;
-use crate::words::{are_near, push_functions, read_functions};
+use crate::words::{are_near, functions_of, push_functions, used_of};
 use std::alloc::{AllocError, Global};
 use std::marker::Model;
 
@@ -66,13 +66,13 @@ impl FunctionTable {
         self.used = other.used;
     }
 
-    /// Reads the functions from their words, one for each.
-    fn read(&mut self, words: &[u32])
-        requires { length self.old ≡ length words.now }
-        ensures { self.new ≡ map function_in words.now }
+    /// The functions of words, one for each.
+    fn of_words(alloc: Global, words: &[u32]) -> Result<FunctionTable, AllocError>
+        ensures { IfOk result (λ t. t ≡ map function_in words.now) }
     {
-        self.used = self.functions.len();
-        read_functions(&mut self.functions, words);
+        let used = used_of(words);
+        let functions = functions_of(alloc, words, used)?;
+        Ok(FunctionTable { functions, used })
     }
 
     /// Whether each function has a word.
@@ -153,14 +153,20 @@ impl Definitions {
         self.opcodes.copy_from(&other.opcodes);
     }
 
-    /// Reads the definitions from their words.
-    pub(crate) fn read(&mut self, functions: &[u32], opcodes: &[u32])
-        requires functions { length self.old.functions ≡ length functions.now }
-        requires opcodes { length self.old.opcodes ≡ length opcodes.now }
-        ensures { self.new ≡ record { functions = map function_in functions.now; opcodes = map function_in opcodes.now } }
+    /// The definitions of words.
+    pub(crate) fn of_words(
+        alloc: Global,
+        functions: &[u32],
+        opcodes: &[u32],
+    ) -> Result<Definitions, AllocError>
+        ensures { IfOk result (λ d. d ≡ record {
+          functions = map function_in functions.now;
+          opcodes = map function_in opcodes.now;
+        }) }
     {
-        self.functions.read(functions);
-        self.opcodes.read(opcodes);
+        let functions = FunctionTable::of_words(alloc, functions)?;
+        let opcodes = FunctionTable::of_words(alloc, opcodes)?;
+        Ok(Definitions { functions, opcodes })
     }
 
     /// Whether each definition has a word.

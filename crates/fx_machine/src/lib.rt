@@ -17,6 +17,7 @@ mod prepared;
 mod program;
 mod ran;
 mod run;
+mod sizes;
 mod state;
 mod state_rows;
 mod step;

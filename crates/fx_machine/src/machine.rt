@@ -13,15 +13,17 @@ ghost use Rattle.fx_machine.specs.Known.{controls_of, prepared_from, prelude_eve
 ghost use Rattle.fx_gstate.specs.Scan.{wish_of};
 ghost use Rattle.fx_scale.specs.Scaling.{scale_of};
 ghost use Rattle.fx_machine.specs.Known.{Known};
-ghost use Rattle.fx_machine.specs.Blocks.{IsBlockOf, checksum_of, known_words, has_words};
+ghost use Rattle.fx_machine.specs.Blocks.{IsBlockOf, SaysAll, checksum_of, known_words, has_words, prepared_in};
+ghost use Rattle.fx_machine.specs.inner.Blank.{blank_state};
 
-use crate::block::{after_origin, push_origin};
+use crate::block::{after_origin, push_origin, usage_in};
 use crate::halt::{Halt, MachineFault};
 use crate::limits::STEP_LIMIT;
 use crate::prepared::Prepared;
 use crate::program::{Program, Programs};
 use crate::ran::Ran;
 use crate::run::run;
+use crate::sizes::Sizes;
 use crate::state::{State, table_or_empty};
 use crate::usage::Usage;
 use crate::watching::Watching;
@@ -148,6 +150,30 @@ fn boxed_tables(alloc: Global, state: &State) -> Result<Box<Prepared>, AllocErro
     Ok(Box::new(alloc, prepared)?)
 }
 
+/// What words say that programs left, on the heap. `None` if they say nothing for lists of these sizes.
+fn boxed_block(
+    alloc: Global,
+    sizes: Sizes,
+    words: &[u32],
+) -> Result<Option<Box<Prepared>>, AllocError>
+    ensures value { IfOk result (λ made. IfSome made (λ p. p.value ≡ prepared_in sizes words.now)) }
+    ensures said { IfOk result (λ made. IfSome made (λ _. SaysAll sizes words.now)) }
+    ensures taken { IfOk result (λ made. SaysAll sizes words.now → IsSome made) }
+{
+    let Some(prepared) = Prepared::of_words(alloc, sizes, words)? else {
+        return Ok(None);
+    };
+    Ok(Some(Box::new(alloc, prepared)?))
+}
+
+/// A state that holds nothing yet, on the heap.
+fn boxed_blank(alloc: Global, font: &Font<'_>, scale: Scale) -> Result<Box<State>, AllocError>
+    ensures { IfOk result (λ s. s.value ≡ blank_state font.now scale) }
+{
+    let state = State::blank(alloc, font, scale)?;
+    Ok(Box::new(alloc, state)?)
+}
+
 /// The machine of a font at a size: what its programs left, and the state that programs of glyphs run in. Both are large, and lie
 /// on the heap, so that a machine is small to hold.
 #[derive(Drop)]
@@ -247,18 +273,19 @@ impl<'a> Machine<'a> {
         ensures font { IfOk result (λ made. IfSome made (λ m. m.known.face ≡ font.entry)) }
         ensures size { IfOk result (λ made. IfSome made (λ m. m.known.ppem ≡ ppem)) }
     {
-        let Some(words) = after_origin(&font, ppem, block) else {
-            return Ok(None);
-        };
         let font_program = table_or_empty(&font, *b"fpgm");
         let prep = table_or_empty(&font, *b"prep");
-        let scale = Scale::of(&font, ppem);
-        let targets = Targets::new(alloc, Code::new(font_program))?;
-        let state = boxed_state(alloc, &font, scale)?;
-        let mut prepared = boxed_tables(alloc, &state)?;
-        let Some(prelude) = prepared.read(words) else {
+        let Some(words) = after_origin(&font, font_program, prep, ppem, block) else {
             return Ok(None);
         };
+        let sizes = Sizes::of(&font);
+        let Some(prepared) = boxed_block(alloc, sizes, words)? else {
+            return Ok(None);
+        };
+        let prelude = usage_in(words);
+        let scale = Scale::of(&font, ppem);
+        let targets = Targets::new(alloc, Code::new(font_program))?;
+        let state = boxed_blank(alloc, &font, scale)?;
         Ok(Some(Machine {
             font,
             targets,

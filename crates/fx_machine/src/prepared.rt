@@ -1,19 +1,17 @@
 //! The state that programs of glyphs begin with.
 
-ghost use Rattle.std.specs.Prelude.{◌≡◌, ◌≤◌, ◌*◌, ◌++◌, [], true, map, length, IsTrue, IfOk, OnOk, IfSome, IsSome};
-ghost use Rattle.fx_machine.specs.Words.{number_in, points_in, function_in, AreNumbers, ArePoints};
-ghost use Rattle.fx_machine.specs.Blocks.{IsRead, SaysAll, sizes_in, sizes_of, sizes_words, lists_words, state_words, has_words, IsNumbered};
+ghost use Rattle.std.specs.Prelude.{◌≡◌, ◌++◌, true, length, IfOk, OnOk, IfSome, IsSome};
+ghost use Rattle.fx_machine.specs.Words.{AreNumbers, ArePoints};
+ghost use Rattle.fx_machine.specs.Blocks.{SaysAll, prepared_in, sizes_of, sizes_words, lists_words, state_words, has_words, IsNumbered};
 ghost use Rattle.fx_machine.specs.Known.{prepared_from};
-ghost use Rattle.fx_machine.specs.Prepared.{Fits, begun, carried, started};
+ghost use Rattle.fx_machine.specs.Prepared.{Fits, begun, started};
 
-use crate::block::{
-    HEAD, Parts, count_in, flags_in, parts_of, push_flags, push_start, push_usage, shift_in,
-    start_in, usage_in,
-};
+use crate::block::{flags_in, parts_of, push_flags, push_start, push_usage, shift_in, start_in};
 use crate::definitions::Definitions;
+use crate::sizes::Sizes;
 use crate::state::{Flags, State};
 use crate::usage::Usage;
-use crate::words::{push_numbers, push_points, read_table, read_zone};
+use crate::words::{push_numbers, push_points, table_of, zone_of};
 use fx_gstate::GState;
 use fx_stackops::Table;
 use fx_zone::Zone;
@@ -53,73 +51,32 @@ impl Prepared {
         })
     }
 
-    /// Whether words say how long its lists are.
-    fn has_sizes(&self, words: &[u32]) -> bool
-        requires { 20 ≤ length words.now }
-        ensures right { IsTrue result → sizes_in words.now ≡ sizes_of self.now }
-        ensures found { sizes_in words.now ≡ sizes_of self.now → IsTrue result }
+    /// What words say of lists of these sizes. `None` if they say nothing for them.
+    pub(crate) fn of_words(
+        alloc: Global,
+        sizes: Sizes,
+        words: &[u32],
+    ) -> Result<Option<Prepared>, AllocError>
+        ensures value { IfOk result (λ made. IfSome made (λ p. p ≡ prepared_in sizes words.now)) }
+        ensures said { IfOk result (λ made. IfSome made (λ _. SaysAll sizes words.now)) }
+        ensures taken { IfOk result (λ made. SaysAll sizes words.now → IsSome made) }
     {
-        words[0] as usize == self.storage.len()
-            && words[1] as usize == self.cvt.len()
-            && words[2] as usize == self.twilight.len()
-            && words[3] as usize == self.definitions.count()
-            && words[4] as usize == self.definitions.opcode_count()
-    }
-
-    /// Whether words say something for lists of its sizes.
-    fn is_said(&self, words: &[u32]) -> bool
-        ensures right { IsTrue result → SaysAll (sizes_of self.now) words.now }
-        ensures found { SaysAll (sizes_of self.now) words.now → IsTrue result }
-    {
-        HEAD <= words.len()
-            && self.has_sizes(words)
-            && count_in(words) <= words.len()
-            && words[15] <= 6
-    }
-
-    /// Reads the lists of a block.
-    fn read_lists(&mut self, parts: &Parts<'_>)
-        requires storage { length parts.now.storage.now ≡ length self.old.storage }
-        requires cvt { length parts.now.cvt.now ≡ length self.old.cvt }
-        requires twilight { length parts.now.twilight.now ≡ 5 * length self.old.twilight.points }
-        requires functions { length parts.now.functions.now ≡ length self.old.definitions.functions }
-        requires opcodes { length parts.now.opcodes.now ≡ length self.old.definitions.opcodes }
-        ensures value { self.new ≡ record self.old {
-          storage = map number_in parts.now.storage.now;
-          cvt = map number_in parts.now.cvt.now;
-          twilight = record self.old.twilight { points = points_in (length self.old.twilight.points) parts.now.twilight.now };
-          definitions = record {
-            functions = map function_in parts.now.functions.now;
-            opcodes = map function_in parts.now.opcodes.now;
-          };
-        } }
-        ensures sizes { sizes_of self.new ≡ sizes_of self.old }
-    {
-        read_table(&mut self.storage, parts.storage);
-        read_table(&mut self.cvt, parts.cvt);
-        read_zone(&mut self.twilight, parts.twilight);
-        self.definitions.read(parts.functions, parts.opcodes);
-    }
-
-    /// Reads a block, and returns what `fpgm` and `prep` used up. `None`, with nothing changed, if the words say nothing for lists
-    /// of these sizes.
-    pub(crate) fn read(&mut self, words: &[u32]) -> Option<Usage>
-        requires { self.old.twilight.ends ≡ [] }
-        ensures read { IfSome result (IsRead self.old self.new words.now) }
-        ensures taken { SaysAll (sizes_of self.old) words.now → IsSome result }
-        ensures sizes { sizes_of self.new ≡ sizes_of self.old }
-        ensures ends { self.new.twilight.ends ≡ self.old.twilight.ends }
-        ensures carried { IfSome result (λ _. carried self.new.graphics ≡ self.new.graphics) }
-    {
-        if !self.is_said(words) {
-            return None;
+        if !sizes.are_said(words) {
+            return Ok(None);
         }
-        let shift = shift_in(words)?;
+        let Some(shift) = shift_in(words) else {
+            return Ok(None);
+        };
         let parts = parts_of(words);
-        self.read_lists(&parts);
-        self.graphics = start_in(words, shift);
-        self.flags = flags_in(words);
-        Some(usage_in(words))
+        let definitions = Definitions::of_words(alloc, parts.functions, parts.opcodes)?;
+        Ok(Some(Prepared {
+            storage: table_of(alloc, parts.storage)?,
+            cvt: table_of(alloc, parts.cvt)?,
+            twilight: zone_of(alloc, sizes.twilight, parts.twilight)?,
+            graphics: start_in(words, shift),
+            definitions,
+            flags: flags_in(words),
+        }))
     }
 
     /// Whether its lists' lengths and its functions have words.

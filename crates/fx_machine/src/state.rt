@@ -1,9 +1,12 @@
 //! The state of a machine.
 
-ghost use Rattle.std.specs.Prelude.{◌≡◌, ◌<◌, ◌^◌, length, IfOk};
+ghost use Rattle.std.specs.Prelude.{◌≡◌, ◌<◌, ◌^◌, [], length, replicate, pos, IfOk};
+ghost use Rattle.fx_machine.specs.Limits.{room_of};
+ghost use Rattle.fx_scale.specs.declared.scale.Scale.{Scale as TheScale};
 ghost use Rattle.fx_sfnt.specs.Tables.{table_or_empty};
 ghost use Rattle.fx_machine.specs.Prepared.{strays_of};
 ghost use Rattle.fx_machine.specs.Known.{controls_of, first_store, twilight_of, nothing_defined, first_state, second_state};
+ghost use Rattle.fx_machine.specs.inner.Blank.{blank_state};
 
 use crate::definitions::Definitions;
 use crate::limits::{FEWEST_FUNCTIONS, SPARE_ELEMENTS};
@@ -61,12 +64,25 @@ fn controls(alloc: Global, font: &Font<'_>, scale: &Scale) -> Result<Table, Allo
     Ok(Table::of(controls))
 }
 
-/// The stack, the storage area and the control values that `fpgm` begins with.
-fn first_store(alloc: Global, font: &Font<'_>, scale: &Scale) -> Result<Store, AllocError>
-    ensures { IfOk result (λ s. s ≡ first_store font.now scale.now) }
+/// How many control values a font has: each has two bytes.
+#[tactic(auto, using(crate::proofs::Blanks::controls_count))]
+pub(crate) fn control_count(font: &Font<'_>) -> usize
+    ensures { (scale : TheScale) → result ≡ length (controls_of font.now scale) }
+{
+    table_or_empty(font, *b"cvt ").len() / 2
+}
+
+/// An empty stack, storage cells of 0, and control values.
+fn store_with(alloc: Global, font: &Font<'_>, cvt: Table) -> Result<Store, AllocError>
+    ensures { IfOk result (λ s. s ≡ record {
+      stack = [];
+      room = room_of font.now.maxp.max_stack_elements;
+      storage = replicate font.now.maxp.max_storage (pos 0);
+      cvt = cvt;
+      strays = 0;
+    }) }
 {
     let maxp = font.maxp();
-    let cvt = controls(alloc, font, scale)?;
     Store::new(
         alloc,
         maxp.max_stack_elements,
@@ -100,7 +116,30 @@ impl State {
     pub fn first(alloc: Global, font: &Font<'_>, scale: Scale) -> Result<State, AllocError>
         ensures { IfOk result (λ s. s ≡ first_state font.now scale) }
     {
-        let store = first_store(alloc, font, &scale)?;
+        let cvt = controls(alloc, font, &scale)?;
+        State::with_controls(alloc, font, scale, cvt)
+    }
+
+    /// The same with control values of 0, for a machine that reads what programs left from a block.
+    pub(crate) fn blank(alloc: Global, font: &Font<'_>, scale: Scale) -> Result<State, AllocError>
+        ensures { IfOk result (λ s. s ≡ blank_state font.now scale) }
+    {
+        let cvt = Table::zeros(alloc, control_count(font))?;
+        State::with_controls(alloc, font, scale, cvt)
+    }
+
+    /// The state that `fpgm` begins with, but with these control values.
+    fn with_controls(
+        alloc: Global,
+        font: &Font<'_>,
+        scale: Scale,
+        cvt: Table,
+    ) -> Result<State, AllocError>
+        ensures { IfOk result (λ s. s ≡ record (first_state font.now scale) {
+          store = record (first_store font.now scale) { cvt = cvt };
+        }) }
+    {
+        let store = store_with(alloc, font, cvt)?;
         let twilight = twilight(alloc, font.maxp().max_twilight_points)?;
         let definitions = nothing_defined(alloc, font)?;
         Ok(State {

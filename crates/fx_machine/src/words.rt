@@ -1,5 +1,5 @@
 //! Numbers, points and functions as words of 32 bits, and back.
-ghost use Rattle.std.specs.Prelude.{◌≡◌, ◌+◌, ◌*◌, ◌≤◌, ◌++◌, [], ◌∷◌, true, map, length, OnOk, FitsSigned};
+ghost use Rattle.std.specs.Prelude.{◌≡◌, ℕ, ◌+◌, ◌*◌, ◌<◌, ◌≤◌, ◌++◌, [], ◌∷◌, true, map, drop, length, slice_index, IfOk, OnOk, IsTrue, FitsSigned};
 ghost use Rattle.std.specs.Int.{w32};
 ghost use Rattle.std.specs.List.{list_all, flat_map};
 ghost use Rattle.fx_machine.specs.Words.{number_word, number_in, AreNumbers, marks_of, place_words, point_words, IsPoint, ArePoints};
@@ -10,17 +10,35 @@ use crate::program::Program;
 use fx_fixed::{F26, Place};
 use fx_stackops::Table;
 use fx_zone::{Point, Zone};
-use std::alloc::AllocError;
+use std::alloc::{AllocError, Global};
 
-/// Reads a table from its words, one for each number.
-pub(crate) fn read_table(table: &mut Table, words: &[u32])
-    requires { length table.old ≡ length words.now }
-    ensures { table.new ≡ map number_in words.now }
+/// Reads numbers from their words, one for each.
+fn read_numbers(numbers: &mut [i32], words: &[u32])
+    requires { length numbers.old ≡ length words.now }
+    ensures { numbers.new ≡ map number_in words.now }
 {
     // The numbers so far are those of their words.
     'numbers: for i in 0..words.len() {
-        table.put(i, words[i].cast_signed());
+        numbers[i] = words[i].cast_signed();
     }
+}
+
+/// The numbers of words, one for each.
+fn numbers_of(alloc: Global, words: &[u32]) -> Result<Vec<i32>, AllocError>
+    ensures { IfOk result (λ v. v.items ≡ map number_in words.now) }
+{
+    let mut numbers = vec![in alloc; 0; words.len()]?;
+    read_numbers(&mut numbers, words);
+    Ok(numbers)
+}
+
+/// The table of the numbers of words.
+#[tactic(auto, using(crate::proofs::Blanks::all_numbers_fit))]
+pub(crate) fn table_of(alloc: Global, words: &[u32]) -> Result<Table, AllocError>
+    ensures { IfOk result (λ t. t ≡ map number_in words.now) }
+{
+    let numbers = numbers_of(alloc, words)?;
+    Ok(Table::of(numbers))
 }
 
 /// Adds the word of a number.
@@ -110,15 +128,17 @@ pub(crate) fn push_points(words: &mut Vec<u32>, points: &[Point]) -> Result<(), 
     Ok(())
 }
 
-/// Reads the points of a zone from their words, five for each.
-pub(crate) fn read_zone(zone: &mut Zone, words: &[u32])
-    requires { length words.now ≡ 5 * length zone.old.points }
-    ensures { zone.new ≡ record zone.old { points = points_in (length zone.old.points) words.now } }
+/// The zone of the points of words, five for each, without contours.
+pub(crate) fn zone_of(alloc: Global, count: usize, words: &[u32]) -> Result<Zone, AllocError>
+    requires { length words.now ≡ 5 * count }
+    ensures { IfOk result (λ z. z ≡ record { points = points_in count words.now; ends = [] }) }
 {
-    // The points so far are those of their words.
-    'points: for i in 0..zone.len() {
-        zone.set(i, point_in(&words[5 * i..]));
+    let mut points = Vec::with_capacity(alloc, count)?;
+    // The points so far are those of their words, and there is room for the others.
+    'points: for i in 0..count {
+        points.push_reserved(point_in(&words[5 * i..]));
     }
+    Ok(Zone::of(points, Vec::new(alloc)))
 }
 
 /// The number of a program.
@@ -202,8 +222,44 @@ pub(crate) fn push_functions(
     Ok(())
 }
 
+/// Whether all words are 0. It looks at all of them, so that many are compared at a time.
+fn are_none(words: &[u32]) -> bool
+    ensures { IsTrue result → (k : ℕ) → k < length words.now → slice_index words.now k ≡ 0 }
+{
+    let mut greatest = 0;
+    // No word so far is above `greatest`.
+    'words: for i in 0..words.len() {
+        greatest = words[i].max(greatest);
+    }
+    greatest == 0
+}
+
+/// How many words there are up to the last one that is not 0.
+fn used_among(words: &[u32]) -> usize
+    ensures inside { result ≤ length words.now }
+    ensures rest { (k : ℕ) → result ≤ k → k < length words.now → slice_index words.now k ≡ 0 }
+{
+    let mut used = words.len();
+    // The words from `used` on are 0.
+    'words: while 0 < used && words[used - 1] == 0 {
+        used -= 1;
+    }
+    used
+}
+
+/// The same; it is found soon if there is none.
+pub(crate) fn used_of(words: &[u32]) -> usize
+    ensures inside { result ≤ length words.now }
+    ensures rest { (k : ℕ) → result ≤ k → k < length words.now → slice_index words.now k ≡ 0 }
+{
+    if are_none(words) {
+        return 0;
+    }
+    used_among(words)
+}
+
 /// Reads functions from their words, one for each.
-pub(crate) fn read_functions(functions: &mut [Option<Function>], words: &[u32])
+fn read_functions(functions: &mut [Option<Function>], words: &[u32])
     requires { length functions.old ≡ length words.now }
     ensures { functions.new ≡ map function_in words.now }
 {
@@ -211,4 +267,28 @@ pub(crate) fn read_functions(functions: &mut [Option<Function>], words: &[u32])
     'functions: for i in 0..words.len() {
         functions[i] = function_in(words[i]);
     }
+}
+
+/// Reads the first functions from their words, one for each.
+fn read_front(functions: &mut [Option<Function>], words: &[u32])
+    requires { length words.now ≤ length functions.old }
+    ensures value { functions.new ≡ map function_in words.now ++ drop (length words.now) functions.old }
+    ensures size { length functions.new ≡ length functions.old }
+{
+    read_functions(&mut functions[..words.len()], words);
+}
+
+/// The functions of words, one for each, of which there are none from the number `used` on.
+pub(crate) fn functions_of(
+    alloc: Global,
+    words: &[u32],
+    used: usize,
+) -> Result<Vec<Option<Function>>, AllocError>
+    requires inside { used ≤ length words.now }
+    requires rest { (k : ℕ) → used ≤ k → k < length words.now → slice_index words.now k ≡ 0 }
+    ensures { IfOk result (λ v. v.items ≡ map function_in words.now) }
+{
+    let mut functions = vec![in alloc; None; words.len()]?;
+    read_front(&mut functions, &words[..used]);
+    Ok(functions)
 }

@@ -114,7 +114,7 @@ pub(crate) fn keeping<'a>(
 ) -> Result<Box<KeepingMachine<'a>>, AllocError>
     ensures { IfOk result (λ b. b.value.machine ≡ machine.entry) }
 {
-    let keeping = KeepingMachine::new(alloc, machine)?;
+    let keeping = KeepingMachine::new(alloc, machine);
     Ok(Box::new(alloc, keeping)?)
 }
 

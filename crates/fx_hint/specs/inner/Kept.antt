@@ -1,8 +1,9 @@
 -- A place that keeps a simple glyph, by its parts.
-use Rattle.std.specs.Prelude.{ℕ, List, Option, Some, None}
+use Rattle.std.specs.Prelude.{ℕ, List, Option, Some, None, replicate}
 use Rattle.fx_zone.specs.declared.point.Point.{Point}
 use Rattle.fx_hint.specs.declared.kept.KeptFields.{KeptFields}
 use Rattle.fx_hint.specs.Kept.{KeptGlyphView}
+use Rattle.fx_hint.specs.Limits.{max_places}
 
 -- what a place keeps: nothing, or a glyph by its fields, bytes, points and contours
 abbrev pub kept_of : Option KeptFields → List ℕ → List Point → List ℕ → Option KeptGlyphView
@@ -15,3 +16,8 @@ kept_of (Some k) bytes points ends = Some (record {
   made = record { zone = record { points = points; ends = ends }; phantoms = k.phantoms; wish = k.wish };
   usage = k.usage;
 })
+
+-- the places: each keeps nothing until the first glyph is kept
+abbrev pub places_of : Option (List (Option KeptGlyphView)) → List (Option KeptGlyphView)
+places_of None = replicate max_places None
+places_of (Some places) = places

@@ -1,5 +1,5 @@
 use Rattle.std.proofs.Common.{refl}
-use Rattle.fx_machine.proofs.state.State.first.Goals as goal
+use Rattle.fx_machine.proofs.state.State.with_controls.Goals as goal
 
 pub returns : goal.returns
 returns c =
