@@ -45,8 +45,7 @@ impl Store {
 
     /// 22 CLEAR, CLEAR the stack: `.. ->`.
     pub fn clear(&mut self)
-        ensures value { Ok self.new ≡ clear_row self.old }
-        ensures sizes { HasSizes self.old self.new }
+        ensures { Ok self.new ≡ clear_row self.old }
     {
         self.drop_all();
     }
