@@ -1,13 +1,10 @@
 use Rattle.std.proofs.Common.{to_z-of_z}
-use Rattle.fx_pointops.proofs.Setting.{point_is, written_shapes}
+use Rattle.fx_pointops.proofs.Setting.{point_is}
 use Rattle.fx_pointops.specs.Indirect.{miap_of}
 use Rattle.fx_pointops.proofs.zones.Zones.miap.Goals as goal
 
-pub returns-clause-value : goal.returns-clause-value
+pub returns : goal.returns
 unfolding miap_of
-returns-clause-value c =
+returns c =
     point_is _ _ _ _ _ _ _ (to_z-of_z c.ranges.p) c.in-Some.ensures.value
     (rw c.laid_along.ensures at c.move_to_coordinate.ensures)
-
-pub returns-clause-shapes : goal.returns-clause-shapes
-returns-clause-shapes c = written_shapes _ _ _ _

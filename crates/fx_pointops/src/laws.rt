@@ -1,0 +1,8 @@
+//! What the definitions imply.
+
+ghost use Rattle.fx_pointops.specs.Kept.{RowsKeepShapes};
+
+/// No row changes how many points a zone has, or its contours.
+pub fn rows_keep_shapes()
+    ensures { RowsKeepShapes }
+{}
