@@ -172,7 +172,8 @@ utp_row_keeps s = one_point_keeps utp_of rows_keep.utp s
 
 mdap_row_keeps : (rounds : Bool) (s : State) → Plain s.zones (mdap_row rounds s)
 unfolding mdap_row Plain
-mdap_row_keeps rounds s = plain_bind s.zones (map_fault of_stack (one s.store)) _ (λ x. rows_keep.mdap s.graphics rounds x.0 s.zones)
+mdap_row_keeps rounds s =
+    plain_bind s.zones (map_fault of_stack (one s.store)) _ (λ x. rows_keep.mdap s.graphics rounds x.0 s.zones)
 
 iup_row_keeps : (axis : Axis) (s : State) → Plain s.zones (iup_row axis s)
 unfolding iup_row Plain
@@ -180,11 +181,11 @@ iup_row_keeps axis s = rows_keep.iup axis s.zones
 
 shp_row_keeps : (first : Bool) (s : State) → Plain s.zones (shp_row first s)
 unfolding shp_row
-shp_row_keeps first s = loop_keeps (λ g ps z. shp_of g first ps z) (λ g ps z. rows_keep.shp g first ps z) s.store s
+shp_row_keeps first s = loop_keeps (λ g. shp_of g first) (λ g. rows_keep.shp g first) s.store s
 
 shc_row_keeps : (first : Bool) (s : State) → Plain s.zones (shc_row first s)
 unfolding shc_row
-shc_row_keeps first s = one_point_keeps (λ g p z. shc_of g first p z) (λ g k z. rows_keep.shc g first k z) s
+shc_row_keeps first s = one_point_keeps (λ g. shc_of g first) (λ g. rows_keep.shc g first) s
 
 shz_row_keeps : (first : Bool) (s : State) → Plain s.zones (shz_row first s)
 unfolding shz_row Plain
@@ -210,11 +211,13 @@ alignrp_row_keeps s = loop_keeps alignrp_of rows_keep.alignrp s.store s
 
 miap_row_keeps : (rounds : Bool) (s : State) → Plain s.zones (miap_row rounds s)
 unfolding miap_row Plain
-miap_row_keeps rounds s = plain_bind s.zones (map_fault of_stack (two s.store)) _ (λ x. rows_keep.miap s.graphics rounds x.0 _ s.zones)
+miap_row_keeps rounds s =
+    plain_bind s.zones (map_fault of_stack (two s.store)) _ (λ x. rows_keep.miap s.graphics rounds x.0 _ s.zones)
 
 gc_row_keeps : (original : Bool) (s : State) → Plain s.zones (gc_row original s)
 unfolding gc_row Plain
-gc_row_keeps original s = plain_bind s.zones (map_fault of_stack (one s.store)) _ (λ x. rows_keep.gc s.graphics original x.0 s.zones)
+gc_row_keeps original s =
+    plain_bind s.zones (map_fault of_stack (one s.store)) _ (λ x. rows_keep.gc s.graphics original x.0 s.zones)
 
 scfs_row_keeps : (s : State) → Plain s.zones (scfs_row s)
 unfolding scfs_row
@@ -236,7 +239,7 @@ flippt_row_keeps s = loop_keeps flippt_of rows_keep.flippt s.store s
 
 fliprg_row_keeps : (on : Bool) (s : State) → Plain s.zones (fliprg_row on s)
 unfolding fliprg_row
-fliprg_row_keeps on s = two_points_keep (λ g low high z. fliprg_of g on low high z) (λ g low high z. rows_keep.fliprg g on low high z) s
+fliprg_row_keeps on s = two_points_keep (λ g. fliprg_of g on) (λ g. rows_keep.fliprg g on) s
 
 mdrp_row_keeps : (how : Relative) (s : State) → Plain s.zones (mdrp_row how s)
 unfolding mdrp_row Plain
