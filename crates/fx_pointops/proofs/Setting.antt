@@ -1,6 +1,6 @@
 -- A point that is looked up once and then written is a point changed.
 -- Serves the rows that change points.
-use Rattle.std.proofs.Common.{◌≡◌, ℤ, pos, negsuc, Some, None, refl}
+use Rattle.std.proofs.Common.{◌≡◌, ℤ, pos, negsuc, Some, None, refl, to_z-of_z}
 use Rattle.fx_zone.specs.declared.point.Point.{Point}
 use Rattle.fx_gstate.specs.declared.zones.ZonePointer.{ZonePointer}
 use Rattle.fx_gstate.specs.declared.zones.ZonePointer.TheVariants.{Twilight, Glyph}
@@ -41,3 +41,6 @@ still_outside Glyph n z e = e
 pub stray_is : (change : Point → Point) (zone : ZonePointer) (n : ℤ) (z : Zones) → None ≡ point_at zone n z
     → with_stray z ≡ on_point change zone n z
 stray_is change zone n z e = rw (← e) (unchanged change zone n (with_stray z) (still_outside zone n z e))
+
+-- a point that is there or not, for goals that need no answer
+pub ruleset setting = (to_z-of_z, set_is, point_is, unchanged, stray_is)

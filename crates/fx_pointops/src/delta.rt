@@ -11,7 +11,7 @@ use fx_gstate::{DeltaForm, GState};
 
 impl Zones {
     /// Moves a point, of zp0, if its argument acts at this size.
-    #[tactic(auto, unfolding(crate::specs::Delta::point_delta), using(crate::proofs::Setting::stray_is))]
+    #[tactic(auto, unfolding(crate::specs::Delta::point_delta), using(crate::proofs::Setting::setting))]
     fn move_at_size(&mut self, g: &GState, form: DeltaForm, ppem: &Ppem, p: i32, argument: i32)
         ensures { self.new ≡ point_delta g.now form ppem.now p argument self.old }
     {

@@ -79,7 +79,7 @@ fn move_to_value(g: &GState, v: F26, point: &mut Point)
 
 impl Zones {
     /// 29 UTP, UnTouch Point: untouches p, of zp0, along each axis along which the freedom vector has a part.
-    #[tactic(auto, unfolding(crate::specs::Direct::utp_of), using(crate::proofs::Setting::stray_is))]
+    #[tactic(auto, unfolding(crate::specs::Direct::utp_of), using(crate::proofs::Setting::setting))]
     pub fn utp(&mut self, g: &GState, p: i32)
         ensures { self.new ≡ utp_of g.now p self.old }
     {
@@ -91,7 +91,7 @@ impl Zones {
     }
 
     /// 2E-2F MDAP[a], Move Direct Absolute Point: moves p, of zp0, by 0, or with 1 to its rounded coordinate.
-    #[tactic(auto, unfolding(crate::specs::Direct::mdap_of), using(crate::proofs::Setting::stray_is))]
+    #[tactic(auto, unfolding(crate::specs::Direct::mdap_of), using(crate::proofs::Setting::setting))]
     pub fn mdap(&mut self, g: &GState, rounds: bool, p: i32)
         ensures { self.new ≡ mdap_of g.now rounds p self.old }
     {
@@ -110,7 +110,7 @@ impl Zones {
     }
 
     /// Lays a point of zp1 at reference point 0 and a place from there, if zp1 is the twilight zone.
-    #[tactic(auto, using(crate::proofs::Setting::unchanged))]
+    #[tactic(auto, using(crate::proofs::Setting::setting))]
     pub(crate) fn lay_from_rp(&mut self, g: &GState, p: i32, by: Place)
         ensures { self.new ≡ laid_from_rp g.now p by self.old }
     {
@@ -151,7 +151,7 @@ impl Zones {
     }
 
     /// Moves a point to the distance 0 from reference point 0.
-    #[tactic(auto, unfolding(crate::specs::Direct::aligned_to_rp), using(crate::proofs::Setting::stray_is))]
+    #[tactic(auto, unfolding(crate::specs::Direct::aligned_to_rp), using(crate::proofs::Setting::setting))]
     pub(crate) fn align_to_rp(&mut self, g: &GState, p: i32)
         ensures { self.new ≡ aligned_to_rp g.now p self.old }
     {
@@ -188,7 +188,7 @@ impl Zones {
     }
 
     /// 48 SCFS, Sets Coordinate From the Stack: moves p, of zp2, to the coordinate v.
-    #[tactic(auto, unfolding(crate::specs::Direct::scfs_of), using(crate::proofs::Setting::stray_is))]
+    #[tactic(auto, unfolding(crate::specs::Direct::scfs_of), using(crate::proofs::Setting::setting))]
     pub fn scfs(&mut self, g: &GState, p: i32, v: F26)
         ensures { self.new ≡ scfs_of g.now p v self.old }
     {
@@ -210,7 +210,7 @@ impl Zones {
 
     /// C0-DF MDRP[abcde], Move Direct Relative Point: moves p, of zp1, to its original distance from rp0, of zp0, or the single
     /// width. `how` has the bits: rounded, at least the minimum distance.
-    #[tactic(auto, unfolding(crate::specs::Direct::mdrp_of))]
+    #[tactic(auto, unfolding(crate::specs::Direct::mdrp_of), using(crate::proofs::Setting::setting))]
     pub fn mdrp(&mut self, g: &GState, how: Relative, p: i32)
         ensures { self.new ≡ mdrp_of g.now how p self.old }
     {

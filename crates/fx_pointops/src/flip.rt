@@ -21,7 +21,7 @@ fn curve_run(zone: &mut Zone, on: bool, low: usize, high: usize)
 
 impl Zones {
     /// Flips a point: on the curve, or off it.
-    #[tactic(auto, unfolding(crate::specs::Flip::point_flipped), using(crate::proofs::Setting::stray_is))]
+    #[tactic(auto, unfolding(crate::specs::Flip::point_flipped), using(crate::proofs::Setting::setting))]
     pub(crate) fn flip_point(&mut self, g: &GState, p: i32)
         ensures { self.new ≡ point_flipped g.now p self.old }
     {

@@ -106,7 +106,7 @@ fn move_to_coordinate(g: &GState, rounds: bool, v: F26, point: &mut Point)
 impl Zones {
     /// 3E-3F MIAP[a], Move Indirect Absolute Point: moves p, of zp0, to the control value v; with 1 rounded, or to its own
     /// coordinate rounded if v is beyond the cut-in.
-    #[tactic(auto, unfolding(crate::specs::Indirect::miap_of), using(crate::proofs::Setting::stray_is))]
+    #[tactic(auto, unfolding(crate::specs::Indirect::miap_of), using(crate::proofs::Setting::setting))]
     pub fn miap(&mut self, g: &GState, rounds: bool, p: i32, v: F26)
         ensures { self.new ≡ miap_of g.now rounds p v self.old }
     {

@@ -115,7 +115,7 @@ fn intersection(a0: &Place, a1: &Place, b0: &Place, b1: &Place) -> Place
 
 impl Zones {
     /// Puts a point of zp2 at a place, and touches it along both axes.
-    #[tactic(auto, using(crate::proofs::Setting::stray_is))]
+    #[tactic(auto, using(crate::proofs::Setting::setting))]
     fn put_point(&mut self, g: &GState, p: i32, place: Place)
         ensures { self.new ≡ on_point (put place) g.now.zp2 p self.old }
     {

@@ -41,7 +41,7 @@ fn move_aslant(g: &GState, d: F26, point: &mut Point)
 
 impl Zones {
     /// Moves a point by a distance, if it is inside.
-    #[tactic(auto, using(crate::proofs::Setting::unchanged))]
+    #[tactic(auto, using(crate::proofs::Setting::setting))]
     pub(crate) fn move_by(&mut self, g: &GState, zone: ZonePointer, p: i32, d: F26)
         ensures { self.new ≡ changed_at (moved_by g.now d) zone p self.old }
     {
@@ -51,7 +51,7 @@ impl Zones {
     }
 
     /// Shifts a point of zp2.
-    #[tactic(auto, unfolding(crate::specs::ShiftPoint::point_shifted), using(crate::proofs::Setting::stray_is))]
+    #[tactic(auto, unfolding(crate::specs::ShiftPoint::point_shifted), using(crate::proofs::Setting::setting))]
     pub(crate) fn shift_point(&mut self, g: &GState, by: &Place, p: i32)
         ensures { self.new ≡ point_shifted g.now by.now p self.old }
     {
