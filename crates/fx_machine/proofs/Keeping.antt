@@ -22,10 +22,7 @@ use Rattle.fx_pointops.specs.Direct.{utp_of, alignrp_of, alignpts_of, scfs_of, s
 use Rattle.fx_pointops.specs.Shift.{shp_of, shc_of}
 use Rattle.fx_pointops.specs.Interpolate.{ip_of}
 use Rattle.fx_pointops.specs.Flip.{flippt_of, fliprg_of}
-use Rattle.fx_pointops.proofs.Keeping.{shapes_same, shapes_then, utp_keeps, mdap_keeps, msirp_keeps, alignrp_keeps, alignpts_keeps}
-use Rattle.fx_pointops.proofs.Keeping.{scfs_keeps, shpix_keeps, mdrp_keeps}
-use Rattle.fx_pointops.proofs.Keeping.{miap_keeps, mirp_keeps, shp_keeps, shc_keeps, shz_keeps, ip_keeps, isect_keeps, flippt_keeps}
-use Rattle.fx_pointops.proofs.Keeping.{fliprg_keeps, deltap_keeps, iup_keeps, gc_keeps, md_keeps, line_keeps as measured_keeps}
+use Rattle.fx_pointops.proofs.Keeping.{shapes_same, shapes_then, rows_keep}
 use Rattle.fx_machine.specs.declared.program.Program.{Program}
 use Rattle.fx_machine.specs.declared.definitions.Function.{Function}
 use Rattle.fx_machine.specs.declared.halt.Cause.{Cause}
@@ -123,7 +120,7 @@ both_keeps row s = plain_bind s.zones (row s.store s.graphics) _ (λ x. shapes_s
 
 line_keeps : (set : Line → GState → GState) (s : State) → Plain s.zones (by_line set s)
 unfolding Plain
-line_keeps set s = plain_bind s.zones (map_fault of_stack (two s.store)) _ (λ x. measured_keeps s.graphics x.0 x.1 s.zones)
+line_keeps set s = plain_bind s.zones (map_fault of_stack (two s.store)) _ (λ x. rows_keep.line s.graphics x.0 x.1 s.zones)
 
 spvtl_keeps : (turned : Bool) (s : State) → Plain s.zones (spvtl_row turned s)
 unfolding spvtl_row
@@ -163,91 +160,94 @@ loop_keeps row all t s =
 isect_row_keeps : (s : State) → Plain s.zones (isect_row s)
 unfolding isect_row Plain
 isect_row_keeps s = plain_bind s.zones (map_fault of_stack (three s.store)) _
-    (λ x. plain_bind s.zones (map_fault of_stack (two x.3)) _ (λ y. isect_keeps s.graphics y.0 y.1 x.0 x.1 x.2 s.zones))
+    (λ x. plain_bind s.zones (map_fault of_stack (two x.3)) _ (λ y. rows_keep.isect s.graphics y.0 y.1 x.0 x.1 x.2 s.zones))
 
 alignpts_row_keeps : (s : State) → Plain s.zones (alignpts_row s)
 unfolding alignpts_row
-alignpts_row_keeps s = two_points_keep alignpts_of alignpts_keeps s
+alignpts_row_keeps s = two_points_keep alignpts_of rows_keep.alignpts s
 
 utp_row_keeps : (s : State) → Plain s.zones (utp_row s)
 unfolding utp_row
-utp_row_keeps s = one_point_keeps utp_of utp_keeps s
+utp_row_keeps s = one_point_keeps utp_of rows_keep.utp s
 
 mdap_row_keeps : (rounds : Bool) (s : State) → Plain s.zones (mdap_row rounds s)
 unfolding mdap_row Plain
-mdap_row_keeps rounds s = plain_bind s.zones (map_fault of_stack (one s.store)) _ (λ x. mdap_keeps s.graphics rounds x.0 s.zones)
+mdap_row_keeps rounds s =
+    plain_bind s.zones (map_fault of_stack (one s.store)) _ (λ x. rows_keep.mdap s.graphics rounds x.0 s.zones)
 
 iup_row_keeps : (axis : Axis) (s : State) → Plain s.zones (iup_row axis s)
 unfolding iup_row Plain
-iup_row_keeps axis s = iup_keeps axis s.zones
+iup_row_keeps axis s = rows_keep.iup axis s.zones
 
 shp_row_keeps : (first : Bool) (s : State) → Plain s.zones (shp_row first s)
 unfolding shp_row
-shp_row_keeps first s = loop_keeps (λ g ps z. shp_of g first ps z) (λ g ps z. shp_keeps g first ps z) s.store s
+shp_row_keeps first s = loop_keeps (λ g. shp_of g first) (λ g. rows_keep.shp g first) s.store s
 
 shc_row_keeps : (first : Bool) (s : State) → Plain s.zones (shc_row first s)
 unfolding shc_row
-shc_row_keeps first s = one_point_keeps (λ g p z. shc_of g first p z) (λ g k z. shc_keeps g first k z) s
+shc_row_keeps first s = one_point_keeps (λ g. shc_of g first) (λ g. rows_keep.shc g first) s
 
 shz_row_keeps : (first : Bool) (s : State) → Plain s.zones (shz_row first s)
 unfolding shz_row Plain
 shz_row_keeps first s = plain_bind s.zones (map_fault of_stack (one s.store)) _
-    (λ x. plain_bind s.zones (map_fault of_state (zone_of x.0)) _ (λ zone. shz_keeps s.graphics first zone s.zones))
+    (λ x. plain_bind s.zones (map_fault of_state (zone_of x.0)) _ (λ zone. rows_keep.shz s.graphics first zone s.zones))
 
 shpix_row_keeps : (s : State) → Plain s.zones (shpix_row s)
 unfolding shpix_row
 shpix_row_keeps s = plain_bind s.zones (map_fault of_stack (one s.store)) _
-    (λ x. loop_keeps (λ g ps z. shpix_of g ps x.0 z) (λ g ps z. shpix_keeps g ps x.0 z) x.1 s)
+    (λ x. loop_keeps (λ g ps z. shpix_of g ps x.0 z) (λ g ps z. rows_keep.shpix g ps x.0 z) x.1 s)
 
 ip_row_keeps : (s : State) → Plain s.zones (ip_row s)
 unfolding ip_row
-ip_row_keeps s = loop_keeps ip_of ip_keeps s.store s
+ip_row_keeps s = loop_keeps ip_of rows_keep.ip s.store s
 
 msirp_row_keeps : (sets : Bool) (s : State) → Plain s.zones (msirp_row sets s)
 unfolding msirp_row Plain
-msirp_row_keeps sets s = plain_bind s.zones (map_fault of_stack (two s.store)) _ (λ x. msirp_keeps s.graphics x.0 x.1 s.zones)
+msirp_row_keeps sets s = plain_bind s.zones (map_fault of_stack (two s.store)) _ (λ x. rows_keep.msirp s.graphics x.0 x.1 s.zones)
 
 alignrp_row_keeps : (s : State) → Plain s.zones (alignrp_row s)
 unfolding alignrp_row
-alignrp_row_keeps s = loop_keeps alignrp_of alignrp_keeps s.store s
+alignrp_row_keeps s = loop_keeps alignrp_of rows_keep.alignrp s.store s
 
 miap_row_keeps : (rounds : Bool) (s : State) → Plain s.zones (miap_row rounds s)
 unfolding miap_row Plain
-miap_row_keeps rounds s = plain_bind s.zones (map_fault of_stack (two s.store)) _ (λ x. miap_keeps s.graphics rounds x.0 _ s.zones)
+miap_row_keeps rounds s =
+    plain_bind s.zones (map_fault of_stack (two s.store)) _ (λ x. rows_keep.miap s.graphics rounds x.0 _ s.zones)
 
 gc_row_keeps : (original : Bool) (s : State) → Plain s.zones (gc_row original s)
 unfolding gc_row Plain
-gc_row_keeps original s = plain_bind s.zones (map_fault of_stack (one s.store)) _ (λ x. gc_keeps s.graphics original x.0 s.zones)
+gc_row_keeps original s =
+    plain_bind s.zones (map_fault of_stack (one s.store)) _ (λ x. rows_keep.gc s.graphics original x.0 s.zones)
 
 scfs_row_keeps : (s : State) → Plain s.zones (scfs_row s)
 unfolding scfs_row
-scfs_row_keeps s = two_points_keep scfs_of scfs_keeps s
+scfs_row_keeps s = two_points_keep scfs_of rows_keep.scfs s
 
 md_row_keeps : (original : Bool) (s : State) → Plain s.zones (md_row original s)
 unfolding md_row Plain
 md_row_keeps original s =
-    plain_bind s.zones (map_fault of_stack (two s.store)) _ (λ x. md_keeps s.graphics original x.0 x.1 s.zones)
+    plain_bind s.zones (map_fault of_stack (two s.store)) _ (λ x. rows_keep.md s.graphics original x.0 x.1 s.zones)
 
 deltap_row_keeps : (form : DeltaForm) (s : State) → Plain s.zones (deltap_row form s)
 unfolding deltap_row Plain
 deltap_row_keeps form s = plain_bind s.zones (map_fault of_stack (delta_pairs s.store)) _
-    (λ x. deltap_keeps s.graphics form s.scale.ppem (reverse x.0) s.zones)
+    (λ x. rows_keep.deltap s.graphics form s.scale.ppem (reverse x.0) s.zones)
 
 flippt_row_keeps : (s : State) → Plain s.zones (flippt_row s)
 unfolding flippt_row
-flippt_row_keeps s = loop_keeps flippt_of flippt_keeps s.store s
+flippt_row_keeps s = loop_keeps flippt_of rows_keep.flippt s.store s
 
 fliprg_row_keeps : (on : Bool) (s : State) → Plain s.zones (fliprg_row on s)
 unfolding fliprg_row
-fliprg_row_keeps on s = two_points_keep (λ g low high z. fliprg_of g on low high z) (λ g low high z. fliprg_keeps g on low high z) s
+fliprg_row_keeps on s = two_points_keep (λ g. fliprg_of g on) (λ g. rows_keep.fliprg g on) s
 
 mdrp_row_keeps : (how : Relative) (s : State) → Plain s.zones (mdrp_row how s)
 unfolding mdrp_row Plain
-mdrp_row_keeps how s = plain_bind s.zones (map_fault of_stack (one s.store)) _ (λ x. mdrp_keeps s.graphics how x.0 s.zones)
+mdrp_row_keeps how s = plain_bind s.zones (map_fault of_stack (one s.store)) _ (λ x. rows_keep.mdrp s.graphics how x.0 s.zones)
 
 mirp_row_keeps : (how : Relative) (s : State) → Plain s.zones (mirp_row how s)
 unfolding mirp_row Plain
-mirp_row_keeps how s = plain_bind s.zones (map_fault of_stack (two s.store)) _ (λ x. mirp_keeps s.graphics how x.0 _ s.zones)
+mirp_row_keeps how s = plain_bind s.zones (map_fault of_stack (two s.store)) _ (λ x. rows_keep.mirp s.graphics how x.0 _ s.zones)
 
 -- ---- the table
 

@@ -4,10 +4,8 @@
 //! goes through memory. Those of `opcodes_0x`, `opcodes_7x` and `opcodes_8x` are seldom executed, and are called: the hint to
 //! inline `row` is dropped, with no message, if it would grow very large.
 
-ghost use Rattle.std.specs.Prelude.{◌≡◌, OnErr, ◌+◌, ◌≤◌};
-ghost use Rattle.fx_gstate.specs.States.{leaves};
-ghost use Rattle.fx_machine.specs.Actions.{acts};
-ghost use Rattle.fx_machine.specs.Shapes.{HasSizes};
+ghost use Rattle.std.specs.Prelude.{◌≡◌, ◌+◌, ◌≤◌};
+ghost use Rattle.fx_machine.specs.Actions.{Does, Leads};
 ghost use Rattle.fx_machine.specs.Table.{relative_row, then_at, row_here, opcodes_0x, opcodes_1x, opcodes_2x, opcodes_3x, opcodes_4x};
 ghost use Rattle.fx_machine.specs.Table.{opcodes_5x, opcodes_6x, opcodes_7x, opcodes_8x};
 
@@ -31,9 +29,7 @@ impl State {
     #[inline(always)]
     #[tactic(auto, unfolding(crate::specs::Table::relative_row))]
     fn move_relative(&mut self, opcode: u8) -> Result<(), Cause>
-        ensures value { leaves result self.new ≡ relative_row opcode self.old }
-        ensures kept { OnErr result (self.new.zones ≡ self.old.zones) }
-        ensures sizes { HasSizes self.old self.new }
+        ensures { Does (relative_row opcode) self.old self.new result }
     {
         let how = Relative::of(opcode);
         if opcode >= MIRP_FIRST {
@@ -46,9 +42,7 @@ impl State {
     /// C0 to DF, E0 to FF: MDRP, MIRP, and on at the next address. It is inlined, so that no action goes through memory.
     #[inline(always)]
     fn relative(&mut self, opcode: u8, next: usize) -> Result<Action, Cause>
-        ensures value { acts result self.new ≡ then_at next (relative_row opcode self.old) }
-        ensures kept { OnErr result (self.new.zones ≡ self.old.zones) }
-        ensures sizes { HasSizes self.old self.new }
+        ensures { Leads (λ s. then_at next (relative_row opcode s)) self.old self.new result }
     {
         self.move_relative(opcode)?;
         Ok(Action::Went(next))
@@ -57,9 +51,7 @@ impl State {
     /// 00 to 0F: vectors, ISECT.
     #[tactic(auto, unfolding(crate::specs::Table::opcodes_0x))]
     fn opcodes_0x(&mut self, opcode: u8) -> Result<(), Cause>
-        ensures value { leaves result self.new ≡ opcodes_0x opcode self.old }
-        ensures kept { OnErr result (self.new.zones ≡ self.old.zones) }
-        ensures sizes { HasSizes self.old self.new }
+        ensures { Does (opcodes_0x opcode) self.old self.new result }
     {
         match opcode {
             SVTCA_Y => self.graphics.set_vectors_to_axis(Axis::Y),
@@ -87,9 +79,7 @@ impl State {
     #[inline(always)]
     #[tactic(auto, unfolding(crate::specs::Table::opcodes_1x))]
     fn opcodes_1x(&mut self, opcode: u8) -> Result<(), Cause>
-        ensures value { leaves result self.new ≡ opcodes_1x opcode self.old }
-        ensures kept { OnErr result (self.new.zones ≡ self.old.zones) }
-        ensures sizes { HasSizes self.old self.new }
+        ensures { Does (opcodes_1x opcode) self.old self.new result }
     {
         match opcode {
             SRP0 => srp0(&mut self.store, &mut self.graphics)?,
@@ -115,9 +105,7 @@ impl State {
     #[inline(always)]
     #[tactic(auto, unfolding(crate::specs::Table::opcodes_2x))]
     fn opcodes_2x(&mut self, opcode: u8) -> Result<(), Cause>
-        ensures value { leaves result self.new ≡ opcodes_2x opcode self.old }
-        ensures kept { OnErr result (self.new.zones ≡ self.old.zones) }
-        ensures sizes { HasSizes self.old self.new }
+        ensures { Does (opcodes_2x opcode) self.old self.new result }
     {
         match opcode {
             DUP => self.store.dup()?,
@@ -140,9 +128,7 @@ impl State {
     #[inline(always)]
     #[tactic(auto, unfolding(crate::specs::Table::opcodes_3x))]
     fn opcodes_3x(&mut self, opcode: u8) -> Result<(), Cause>
-        ensures value { leaves result self.new ≡ opcodes_3x opcode self.old }
-        ensures kept { OnErr result (self.new.zones ≡ self.old.zones) }
-        ensures sizes { HasSizes self.old self.new }
+        ensures { Does (opcodes_3x opcode) self.old self.new result }
     {
         match opcode {
             IUP_Y => self.iup(Axis::Y),
@@ -170,9 +156,7 @@ impl State {
     #[inline(always)]
     #[tactic(auto, unfolding(crate::specs::Table::opcodes_4x))]
     fn opcodes_4x(&mut self, opcode: u8) -> Result<(), Cause>
-        ensures value { leaves result self.new ≡ opcodes_4x opcode self.old }
-        ensures kept { OnErr result (self.new.zones ≡ self.old.zones) }
-        ensures sizes { HasSizes self.old self.new }
+        ensures { Does (opcodes_4x opcode) self.old self.new result }
     {
         match opcode {
             WS => self.store.ws()?,
@@ -198,9 +182,7 @@ impl State {
     #[inline(always)]
     #[tactic(auto, unfolding(crate::specs::Table::opcodes_5x))]
     fn opcodes_5x(&mut self, opcode: u8) -> Result<(), Cause>
-        ensures value { leaves result self.new ≡ opcodes_5x opcode self.old }
-        ensures kept { OnErr result (self.new.zones ≡ self.old.zones) }
-        ensures sizes { HasSizes self.old self.new }
+        ensures { Does (opcodes_5x opcode) self.old self.new result }
     {
         match opcode {
             LT => self.store.lt()?,
@@ -226,9 +208,7 @@ impl State {
     #[inline(always)]
     #[tactic(auto, unfolding(crate::specs::Table::opcodes_6x))]
     fn opcodes_6x(&mut self, opcode: u8) -> Result<(), Cause>
-        ensures value { leaves result self.new ≡ opcodes_6x opcode self.old }
-        ensures kept { OnErr result (self.new.zones ≡ self.old.zones) }
-        ensures sizes { HasSizes self.old self.new }
+        ensures { Does (opcodes_6x opcode) self.old self.new result }
     {
         match opcode {
             ADD => self.store.add()?,
@@ -249,9 +229,7 @@ impl State {
     /// 70 to 7F: control values, deltas, rounding.
     #[tactic(auto, unfolding(crate::specs::Table::opcodes_7x))]
     fn opcodes_7x(&mut self, opcode: u8) -> Result<(), Cause>
-        ensures value { leaves result self.new ≡ opcodes_7x opcode self.old }
-        ensures kept { OnErr result (self.new.zones ≡ self.old.zones) }
-        ensures sizes { HasSizes self.old self.new }
+        ensures { Does (opcodes_7x opcode) self.old self.new result }
     {
         match opcode {
             WCVTF => wcvtf(&mut self.store, &self.scale)?,
@@ -280,9 +258,7 @@ impl State {
     /// 80 to 8F: flips, SDPVTL, what is asked of the rasterizer.
     #[tactic(auto, unfolding(crate::specs::Table::opcodes_8x))]
     fn opcodes_8x(&mut self, opcode: u8) -> Result<(), Cause>
-        ensures value { leaves result self.new ≡ opcodes_8x opcode self.old }
-        ensures kept { OnErr result (self.new.zones ≡ self.old.zones) }
-        ensures sizes { HasSizes self.old self.new }
+        ensures { Does (opcodes_8x opcode) self.old self.new result }
     {
         match opcode {
             FLIPPT => self.flippt()?,
@@ -316,9 +292,7 @@ impl State {
     ) -> Result<Action, Cause>
         requires next { next ≡ address + 1 }
         requires targets { program ≡ Program.Font → targets.old ≡ code.now }
-        ensures value { acts result self.new ≡ row_here opcode code.now program address self.old }
-        ensures kept { OnErr result (self.new.zones ≡ self.old.zones) }
-        ensures sizes { HasSizes self.old self.new }
+        ensures does { Leads (row_here opcode code.now program address) self.old self.new result }
         ensures targets { targets.new ≡ targets.old }
     {
         match opcode / 16 {

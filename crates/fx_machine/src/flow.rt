@@ -3,11 +3,10 @@
 //! Each doc has the opcode, the mnemonic, its name in the Apple TrueType Reference Manual ("Instruction set"), what becomes of the
 //! stack, whose top is written last, and what the row sets.
 
-ghost use Rattle.std.specs.Prelude.{◌≡◌, OnErr, ◌+ℤ◌, pos, length};
+ghost use Rattle.std.specs.Prelude.{◌≡◌, ◌+ℤ◌, pos, length};
 ghost use Rattle.fx_code.specs.Chain.{stops_at_false, stops_at_else};
 ghost use Rattle.fx_code.specs.Past.{past_of};
-ghost use Rattle.fx_machine.specs.Actions.{acts};
-ghost use Rattle.fx_machine.specs.Shapes.{HasSizes};
+ghost use Rattle.fx_machine.specs.Actions.{acts, Leads};
 ghost use Rattle.fx_machine.specs.Flow.{number_below, jumped, if_row, jmpr_row, jrot_row, jrof_row, call_row, loopcall_row, fdef_row, idef_row, undefined_row};
 ghost use Rattle.fx_machine.specs.Table.{push_at};
 
@@ -89,9 +88,7 @@ impl State {
         next: usize,
     ) -> Result<Action, Cause>
         requires targets { program ≡ Program.Font → targets.old ≡ code.now }
-        ensures value { acts result self.new ≡ if_row code.now next self.old }
-        ensures kept { OnErr result (self.new.zones ≡ self.old.zones) }
-        ensures sizes { HasSizes self.old self.new }
+        ensures does { Leads (if_row code.now next) self.old self.new result }
         ensures targets { targets.new ≡ targets.old }
     {
         if self.store.one()? != 0 {
@@ -104,9 +101,7 @@ impl State {
     /// 1C JMPR, JuMP Relative: `o ->`. Continues o bytes on from its own address.
     #[tactic(auto, unfolding(crate::specs::Flow::jmpr_row))]
     pub(crate) fn jmpr(&mut self, size: usize, address: usize) -> Result<Action, Cause>
-        ensures value { acts result self.new ≡ jmpr_row size address self.old }
-        ensures kept { OnErr result (self.new.zones ≡ self.old.zones) }
-        ensures sizes { HasSizes self.old self.new }
+        ensures { Leads (jmpr_row size address) self.old self.new result }
     {
         let offset = self.store.one()?;
         self.jumped(size, address, offset)
@@ -115,9 +110,7 @@ impl State {
     /// 78 JROT, Jump Relative On True: `o e ->`. Jumps if e is not 0.
     #[tactic(auto, unfolding(crate::specs::Flow::jrot_row))]
     pub(crate) fn jrot(&mut self, size: usize, address: usize, next: usize) -> Result<Action, Cause>
-        ensures value { acts result self.new ≡ jrot_row size address next self.old }
-        ensures kept { OnErr result (self.new.zones ≡ self.old.zones) }
-        ensures sizes { HasSizes self.old self.new }
+        ensures { Leads (jrot_row size address next) self.old self.new result }
     {
         let (offset, test) = self.store.two()?;
         if test == 0 {
@@ -129,9 +122,7 @@ impl State {
     /// 79 JROF, Jump Relative On False: `o e ->`. Jumps if e is 0.
     #[tactic(auto, unfolding(crate::specs::Flow::jrof_row))]
     pub(crate) fn jrof(&mut self, size: usize, address: usize, next: usize) -> Result<Action, Cause>
-        ensures value { acts result self.new ≡ jrof_row size address next self.old }
-        ensures kept { OnErr result (self.new.zones ≡ self.old.zones) }
-        ensures sizes { HasSizes self.old self.new }
+        ensures { Leads (jrof_row size address next) self.old self.new result }
     {
         let (offset, test) = self.store.two()?;
         if test != 0 {
@@ -143,9 +134,7 @@ impl State {
     /// 2B CALL, CALL function: `f ->`.
     #[tactic(auto, unfolding(crate::specs::Flow::call_row, crate::specs::Flow::called))]
     pub(crate) fn call(&mut self, next: usize) -> Result<Action, Cause>
-        ensures value { acts result self.new ≡ call_row next self.old }
-        ensures kept { OnErr result (self.new.zones ≡ self.old.zones) }
-        ensures sizes { HasSizes self.old self.new }
+        ensures { Leads (call_row next) self.old self.new result }
     {
         let number = self.store.one()?;
         match self.definitions.function(number) {
@@ -161,9 +150,7 @@ impl State {
     /// 2A LOOPCALL, LOOP and CALL function: `n f ->`. Calls f n times.
     #[tactic(auto, unfolding(crate::specs::Flow::loopcall_row, crate::specs::Flow::times, crate::specs::Flow::called))]
     pub(crate) fn loopcall(&mut self, next: usize) -> Result<Action, Cause>
-        ensures value { acts result self.new ≡ loopcall_row next self.old }
-        ensures kept { OnErr result (self.new.zones ≡ self.old.zones) }
-        ensures sizes { HasSizes self.old self.new }
+        ensures { Leads (loopcall_row next) self.old self.new result }
     {
         let (turns, number) = self.store.two()?;
         if turns < 1 {
@@ -188,9 +175,7 @@ impl State {
         program: Program,
         next: usize,
     ) -> Result<Action, Cause>
-        ensures value { acts result self.new ≡ fdef_row code.now program next self.old }
-        ensures kept { OnErr result (self.new.zones ≡ self.old.zones) }
-        ensures sizes { HasSizes self.old self.new }
+        ensures { Leads (fdef_row code.now program next) self.old self.new result }
     {
         let number = self.store.one()?;
         let number = number_below(self.definitions.count(), number)?;
@@ -212,9 +197,7 @@ impl State {
         program: Program,
         next: usize,
     ) -> Result<Action, Cause>
-        ensures value { acts result self.new ≡ idef_row code.now program next self.old }
-        ensures kept { OnErr result (self.new.zones ≡ self.old.zones) }
-        ensures sizes { HasSizes self.old self.new }
+        ensures { Leads (idef_row code.now program next) self.old self.new result }
     {
         let number = self.store.one()?;
         let number = number_below(256, number)?;
@@ -231,9 +214,7 @@ impl State {
     #[inline(always)]
     #[tactic(auto, unfolding(crate::specs::Flow::undefined_row, crate::specs::Flow::called))]
     pub(crate) fn undefined(&mut self, opcode: u8, next: usize) -> Result<Action, Cause>
-        ensures value { acts result self.new ≡ undefined_row opcode next self.old }
-        ensures kept { OnErr result (self.new.zones ≡ self.old.zones) }
-        ensures sizes { HasSizes self.old self.new }
+        ensures { Leads (undefined_row opcode next) self.old self.new result }
     {
         match self.definitions.opcode(opcode) {
             Some(function) => Ok(Action::Called {
@@ -249,9 +230,7 @@ impl State {
     #[inline(always)]
     #[tactic(auto, unfolding(crate::specs::Table::push_at, fx_code::specs::Chain::IsWhole))]
     pub(crate) fn push(&mut self, code: &Code<'_>, address: usize) -> Result<Action, Cause>
-        ensures value { acts result self.new ≡ push_at code.now address self.old }
-        ensures kept { OnErr result (self.new.zones ≡ self.old.zones) }
-        ensures sizes { HasSizes self.old self.new }
+        ensures { Leads (push_at code.now address) self.old self.new result }
     {
         let instr = code.at(address)?;
         self.store.push_all(&instr)?;

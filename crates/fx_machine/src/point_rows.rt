@@ -3,9 +3,9 @@
 //! Each doc has the opcode, the mnemonic, its name in the Apple TrueType Reference Manual ("Instruction set"), what becomes of the
 //! stack, whose top is written last, and what the row sets.
 
-ghost use Rattle.std.specs.Prelude.{◌≡◌, ◌≤◌, OnErr, Ok, length, drop, if◌then◌else◌};
-ghost use Rattle.fx_gstate.specs.States.{leaves};
+ghost use Rattle.std.specs.Prelude.{◌≡◌, ◌≤◌, Ok, length, drop, if◌then◌else◌};
 ghost use Rattle.fx_stackops.specs.Store.{with_stack};
+ghost use Rattle.fx_machine.specs.Actions.{Does};
 ghost use Rattle.fx_machine.specs.Shapes.{HasSizes};
 ghost use Rattle.fx_machine.specs.PointRows.{isect_row, alignpts_row, utp_row, mdap_row, iup_row, shp_row, shc_row, shz_row, shpix_row, ip_row, msirp_row};
 ghost use Rattle.fx_machine.specs.PointRows.{alignrp_row, miap_row, gc_row, scfs_row, md_row, deltap_row, flippt_row, fliprg_row, mdrp_row, mirp_row, mirp_stray};
@@ -63,9 +63,7 @@ impl State {
     /// b0 b1, of zp0.
     #[tactic(auto, unfolding(crate::specs::PointRows::isect_row))]
     pub(crate) fn isect(&mut self) -> Result<(), Cause>
-        ensures value { leaves result self.new ≡ isect_row self.old }
-        ensures kept { OnErr result (self.new.zones ≡ self.old.zones) }
-        ensures sizes { HasSizes self.old self.new }
+        ensures { Does isect_row self.old self.new result }
     {
         let (a1, b0, b1) = self.store.three()?;
         let (p, a0) = self.store.two()?;
@@ -76,9 +74,7 @@ impl State {
     /// 27 ALIGNPTS, ALIGN Points: `p q ->`. Moves p, of zp1, and q, of zp0, halfway to each other.
     #[tactic(auto, unfolding(crate::specs::PointRows::alignpts_row))]
     pub(crate) fn alignpts(&mut self) -> Result<(), Cause>
-        ensures value { leaves result self.new ≡ alignpts_row self.old }
-        ensures kept { OnErr result (self.new.zones ≡ self.old.zones) }
-        ensures sizes { HasSizes self.old self.new }
+        ensures { Does alignpts_row self.old self.new result }
     {
         let (a, b) = self.store.two()?;
         self.zones.alignpts(&self.graphics, a, b);
@@ -88,9 +84,7 @@ impl State {
     /// 29 UTP, UnTouch Point: `p ->`. Untouches p, of zp0.
     #[tactic(auto, unfolding(crate::specs::PointRows::utp_row))]
     pub(crate) fn utp(&mut self) -> Result<(), Cause>
-        ensures value { leaves result self.new ≡ utp_row self.old }
-        ensures kept { OnErr result (self.new.zones ≡ self.old.zones) }
-        ensures sizes { HasSizes self.old self.new }
+        ensures { Does utp_row self.old self.new result }
     {
         let operand = self.store.one()?;
         self.zones.utp(&self.graphics, operand);
@@ -100,9 +94,7 @@ impl State {
     /// 2E-2F MDAP[a], Move Direct Absolute Point: `p ->`. Touches p, of zp0, with 1 at its rounded coordinate. Sets rp0, rp1.
     #[tactic(auto, unfolding(crate::specs::PointRows::mdap_row))]
     pub(crate) fn mdap(&mut self, rounds: bool) -> Result<(), Cause>
-        ensures value { leaves result self.new ≡ mdap_row rounds self.old }
-        ensures kept { OnErr result (self.new.zones ≡ self.old.zones) }
-        ensures sizes { HasSizes self.old self.new }
+        ensures { Does (mdap_row rounds) self.old self.new result }
     {
         let p = self.store.one()?;
         self.zones.mdap(&self.graphics, rounds, p);
@@ -124,9 +116,7 @@ impl State {
     /// with 1 rp1, of zp0. Sets loop to 1.
     #[tactic(auto, unfolding(crate::specs::PointRows::shp_row))]
     pub(crate) fn shp(&mut self, first: bool) -> Result<(), Cause>
-        ensures value { leaves result self.new ≡ shp_row first self.old }
-        ensures kept { OnErr result (self.new.zones ≡ self.old.zones) }
-        ensures sizes { HasSizes self.old self.new }
+        ensures { Does (shp_row first) self.old self.new result }
     {
         let count = self.graphics.loop_count;
         let points = self.store.top(count)?;
@@ -138,9 +128,7 @@ impl State {
     /// 34-35 SHC[a], SHift Contour: `k ->`. Shifts contour k, of zp2, as that reference point was moved.
     #[tactic(auto, unfolding(crate::specs::PointRows::shc_row))]
     pub(crate) fn shc(&mut self, first: bool) -> Result<(), Cause>
-        ensures value { leaves result self.new ≡ shc_row first self.old }
-        ensures kept { OnErr result (self.new.zones ≡ self.old.zones) }
-        ensures sizes { HasSizes self.old self.new }
+        ensures { Does (shc_row first) self.old self.new result }
     {
         let operand = self.store.one()?;
         self.zones.shc(&self.graphics, first, operand);
@@ -150,9 +138,7 @@ impl State {
     /// 36-37 SHZ[a], SHift Zone: `z ->`. Shifts zone z as that reference point was moved.
     #[tactic(auto, unfolding(crate::specs::PointRows::shz_row))]
     pub(crate) fn shz(&mut self, first: bool) -> Result<(), Cause>
-        ensures value { leaves result self.new ≡ shz_row first self.old }
-        ensures kept { OnErr result (self.new.zones ≡ self.old.zones) }
-        ensures sizes { HasSizes self.old self.new }
+        ensures { Does (shz_row first) self.old self.new result }
     {
         let zone = self.store.one()?;
         let zone = ZonePointer::of(zone)?;
@@ -163,9 +149,7 @@ impl State {
     /// 38 SHPIX, SHift point by a PIXel amount: `.. p a ->`, a loop. Shifts each p, of zp2, by a. Sets loop to 1.
     #[tactic(auto, unfolding(crate::specs::PointRows::shpix_row))]
     pub(crate) fn shpix(&mut self) -> Result<(), Cause>
-        ensures value { leaves result self.new ≡ shpix_row self.old }
-        ensures kept { OnErr result (self.new.zones ≡ self.old.zones) }
-        ensures sizes { HasSizes self.old self.new }
+        ensures { Does shpix_row self.old self.new result }
     {
         let amount = self.store.one()?;
         let count = self.graphics.loop_count;
@@ -178,9 +162,7 @@ impl State {
     /// 39 IP, Interpolate Point: `.. p ->`, a loop. Moves each p, of zp2, between rp1, of zp0, and rp2, of zp1. Sets loop to 1.
     #[tactic(auto, unfolding(crate::specs::PointRows::ip_row))]
     pub(crate) fn ip(&mut self) -> Result<(), Cause>
-        ensures value { leaves result self.new ≡ ip_row self.old }
-        ensures kept { OnErr result (self.new.zones ≡ self.old.zones) }
-        ensures sizes { HasSizes self.old self.new }
+        ensures { Does ip_row self.old self.new result }
     {
         let count = self.graphics.loop_count;
         let points = self.store.top(count)?;
@@ -193,9 +175,7 @@ impl State {
     /// rp1, rp2, with 1 rp0, too.
     #[tactic(auto, unfolding(crate::specs::PointRows::msirp_row))]
     pub(crate) fn msirp(&mut self, sets_rp0: bool) -> Result<(), Cause>
-        ensures value { leaves result self.new ≡ msirp_row sets_rp0 self.old }
-        ensures kept { OnErr result (self.new.zones ≡ self.old.zones) }
-        ensures sizes { HasSizes self.old self.new }
+        ensures { Does (msirp_row sets_rp0) self.old self.new result }
     {
         let (p, distance) = self.store.two()?;
         self.zones.msirp(&self.graphics, p, F26(distance));
@@ -207,9 +187,7 @@ impl State {
     /// to 1.
     #[tactic(auto, unfolding(crate::specs::PointRows::alignrp_row))]
     pub(crate) fn alignrp(&mut self) -> Result<(), Cause>
-        ensures value { leaves result self.new ≡ alignrp_row self.old }
-        ensures kept { OnErr result (self.new.zones ≡ self.old.zones) }
-        ensures sizes { HasSizes self.old self.new }
+        ensures { Does alignrp_row self.old self.new result }
     {
         let count = self.graphics.loop_count;
         let points = self.store.top(count)?;
@@ -222,9 +200,7 @@ impl State {
     /// the cut-in. Sets rp0, rp1.
     #[tactic(auto, unfolding(crate::specs::PointRows::miap_row))]
     pub(crate) fn miap(&mut self, rounds: bool) -> Result<(), Cause>
-        ensures value { leaves result self.new ≡ miap_row rounds self.old }
-        ensures kept { OnErr result (self.new.zones ≡ self.old.zones) }
-        ensures sizes { HasSizes self.old self.new }
+        ensures { Does (miap_row rounds) self.old self.new result }
     {
         let (p, number) = self.store.two()?;
         let value = F26(self.store.control(number));
@@ -240,9 +216,7 @@ impl State {
     /// one.
     #[tactic(auto, unfolding(crate::specs::PointRows::gc_row))]
     pub(crate) fn gc(&mut self, original: bool) -> Result<(), Cause>
-        ensures value { leaves result self.new ≡ gc_row original self.old }
-        ensures kept { OnErr result (self.new.zones ≡ self.old.zones) }
-        ensures sizes { HasSizes self.old self.new }
+        ensures { Does (gc_row original) self.old self.new result }
     {
         let p = self.store.one()?;
         let coordinate = self.zones.gc(&self.graphics, original, p);
@@ -253,9 +227,7 @@ impl State {
     /// 48 SCFS, Sets Coordinate From the Stack: `p v ->`. Moves p, of zp2, to the coordinate v.
     #[tactic(auto, unfolding(crate::specs::PointRows::scfs_row))]
     pub(crate) fn scfs(&mut self) -> Result<(), Cause>
-        ensures value { leaves result self.new ≡ scfs_row self.old }
-        ensures kept { OnErr result (self.new.zones ≡ self.old.zones) }
-        ensures sizes { HasSizes self.old self.new }
+        ensures { Does scfs_row self.old self.new result }
     {
         let (a, b) = self.store.two()?;
         self.zones.scfs(&self.graphics, a, F26(b));
@@ -266,9 +238,7 @@ impl State {
     /// original one.
     #[tactic(auto, unfolding(crate::specs::PointRows::md_row))]
     pub(crate) fn md(&mut self, original: bool) -> Result<(), Cause>
-        ensures value { leaves result self.new ≡ md_row original self.old }
-        ensures kept { OnErr result (self.new.zones ≡ self.old.zones) }
-        ensures sizes { HasSizes self.old self.new }
+        ensures { Does (md_row original) self.old self.new result }
     {
         let (p, q) = self.store.two()?;
         let distance = self.zones.md(&self.graphics, original, p, q);
@@ -280,9 +250,7 @@ impl State {
     /// argument acts at this size.
     #[tactic(auto, unfolding(crate::specs::PointRows::deltap_row))]
     pub(crate) fn deltap(&mut self, form: DeltaForm) -> Result<(), Cause>
-        ensures value { leaves result self.new ≡ deltap_row form self.old }
-        ensures kept { OnErr result (self.new.zones ≡ self.old.zones) }
-        ensures sizes { HasSizes self.old self.new }
+        ensures { Does (deltap_row form) self.old self.new result }
     {
         let numbers = 2 * self.store.pairs()?;
         let pairs = self.store.top_there(numbers);
@@ -295,9 +263,7 @@ impl State {
     /// 80 FLIPPT, FLIP PoinT: `.. p ->`, a loop. Each p, of zp0, goes off the curve, or onto it. Sets loop to 1.
     #[tactic(auto, unfolding(crate::specs::PointRows::flippt_row))]
     pub(crate) fn flippt(&mut self) -> Result<(), Cause>
-        ensures value { leaves result self.new ≡ flippt_row self.old }
-        ensures kept { OnErr result (self.new.zones ≡ self.old.zones) }
-        ensures sizes { HasSizes self.old self.new }
+        ensures { Does flippt_row self.old self.new result }
     {
         let count = self.graphics.loop_count;
         let points = self.store.top(count)?;
@@ -309,9 +275,7 @@ impl State {
     /// 81 FLIPRGON, 82 FLIPRGOFF, FLIP RanGe: `low high ->`. The points from low to high, of zp0, go onto the curve, or off it.
     #[tactic(auto, unfolding(crate::specs::PointRows::fliprg_row))]
     pub(crate) fn fliprg(&mut self, on: bool) -> Result<(), Cause>
-        ensures value { leaves result self.new ≡ fliprg_row on self.old }
-        ensures kept { OnErr result (self.new.zones ≡ self.old.zones) }
-        ensures sizes { HasSizes self.old self.new }
+        ensures { Does (fliprg_row on) self.old self.new result }
     {
         let (low, high) = self.store.two()?;
         self.zones.fliprg(&self.graphics, on, low, high);
@@ -322,9 +286,7 @@ impl State {
     /// rp1, rp2, with bit a rp0, too.
     #[tactic(auto, unfolding(crate::specs::PointRows::mdrp_row))]
     pub(crate) fn mdrp(&mut self, how: Relative) -> Result<(), Cause>
-        ensures value { leaves result self.new ≡ mdrp_row how self.old }
-        ensures kept { OnErr result (self.new.zones ≡ self.old.zones) }
-        ensures sizes { HasSizes self.old self.new }
+        ensures { Does (mdrp_row how) self.old self.new result }
     {
         let p = self.store.one()?;
         self.zones.mdrp(&self.graphics, how, p);
@@ -336,9 +298,7 @@ impl State {
     /// of zp0. Sets rp1, rp2, with bit a rp0, too.
     #[tactic(auto, unfolding(crate::specs::PointRows::mirp_row))]
     pub(crate) fn mirp(&mut self, how: Relative) -> Result<(), Cause>
-        ensures value { leaves result self.new ≡ mirp_row how self.old }
-        ensures kept { OnErr result (self.new.zones ≡ self.old.zones) }
-        ensures sizes { HasSizes self.old self.new }
+        ensures { Does (mirp_row how) self.old self.new result }
     {
         let (p, number) = self.store.two()?;
         let value = F26(self.store.control(number));

@@ -3,9 +3,8 @@
 //! Each doc has the opcode, the mnemonic, its name in the Apple TrueType Reference Manual ("Instruction set"), what becomes of the
 //! stack, whose top is written last, and what the row sets.
 
-ghost use Rattle.std.specs.Prelude.{◌≡◌, OnErr};
-ghost use Rattle.fx_gstate.specs.States.{leaves};
-ghost use Rattle.fx_machine.specs.Shapes.{HasSizes};
+ghost use Rattle.std.specs.Prelude.{◌≡◌};
+ghost use Rattle.fx_machine.specs.Actions.{Does};
 ghost use Rattle.fx_machine.specs.StateRows.{spvtl_row, sfvtl_row, sdpvtl_row, instctrl_row, chosen};
 
 use crate::halt::Cause;
@@ -33,9 +32,7 @@ impl State {
     /// of zp2, to p1, of zp1; with 1 across it.
     #[tactic(auto, unfolding(crate::specs::StateRows::spvtl_row))]
     pub(crate) fn spvtl(&mut self, turned: bool) -> Result<(), Cause>
-        ensures value { leaves result self.new ≡ spvtl_row turned self.old }
-        ensures kept { OnErr result (self.new.zones ≡ self.old.zones) }
-        ensures sizes { HasSizes self.old self.new }
+        ensures { Does (spvtl_row turned) self.old self.new result }
     {
         let (p1, p2) = self.store.two()?;
         let line = self.zones.line(&self.graphics, p1, p2);
@@ -47,9 +44,7 @@ impl State {
     /// of zp1; with 1 across it.
     #[tactic(auto, unfolding(crate::specs::StateRows::sfvtl_row))]
     pub(crate) fn sfvtl(&mut self, turned: bool) -> Result<(), Cause>
-        ensures value { leaves result self.new ≡ sfvtl_row turned self.old }
-        ensures kept { OnErr result (self.new.zones ≡ self.old.zones) }
-        ensures sizes { HasSizes self.old self.new }
+        ensures { Does (sfvtl_row turned) self.old self.new result }
     {
         let (p1, p2) = self.store.two()?;
         let line = self.zones.line(&self.graphics, p1, p2);
@@ -61,9 +56,7 @@ impl State {
     /// zp2, to p1, of zp1, and its dual along the line of their original places; with 1 across them.
     #[tactic(auto, unfolding(crate::specs::StateRows::sdpvtl_row))]
     pub(crate) fn sdpvtl(&mut self, turned: bool) -> Result<(), Cause>
-        ensures value { leaves result self.new ≡ sdpvtl_row turned self.old }
-        ensures kept { OnErr result (self.new.zones ≡ self.old.zones) }
-        ensures sizes { HasSizes self.old self.new }
+        ensures { Does (sdpvtl_row turned) self.old self.new result }
     {
         let (p1, p2) = self.store.two()?;
         let line = self.zones.line(&self.graphics, p1, p2);
@@ -75,9 +68,7 @@ impl State {
     /// which graphics state.
     #[tactic(auto, unfolding(crate::specs::StateRows::instctrl_row))]
     pub(crate) fn instctrl(&mut self) -> Result<(), Cause>
-        ensures value { leaves result self.new ≡ instctrl_row self.old }
-        ensures kept { OnErr result (self.new.zones ≡ self.old.zones) }
-        ensures sizes { HasSizes self.old self.new }
+        ensures { Does instctrl_row self.old self.new result }
     {
         let (value, selector) = self.store.two()?;
         if self.preparing {

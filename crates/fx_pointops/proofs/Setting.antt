@@ -1,13 +1,11 @@
 -- A point that is looked up once and then written is a point changed.
 -- Serves the rows that change points.
-use Rattle.std.proofs.Common.{◌≡◌, ℤ, pos, negsuc, Some, None, refl}
-use Rattle.std.proofs.lemmas.List.{length-set}
+use Rattle.std.proofs.Common.{◌≡◌, ℤ, pos, negsuc, Some, None, refl, to_z-of_z}
 use Rattle.fx_zone.specs.declared.point.Point.{Point}
-use Rattle.fx_zone.specs.Figures.{Figure, HasShape}
 use Rattle.fx_gstate.specs.declared.zones.ZonePointer.{ZonePointer}
 use Rattle.fx_gstate.specs.declared.zones.ZonePointer.TheVariants.{Twilight, Glyph}
 use Rattle.fx_pointops.specs.declared.zones.Zones.{Zones}
-use Rattle.fx_pointops.specs.Zones.{point_at, changed_at, written_at, with_stray, on_point, HasShapes}
+use Rattle.fx_pointops.specs.Zones.{point_at, changed_at, written_at, with_stray, on_point}
 
 written_here : (change : Point → Point) (zone : ZonePointer) (n : ℤ) (z : Zones) (p : Point) → Some p ≡ point_at zone n z
     → written_at (change p) zone n z ≡ changed_at change zone n z
@@ -26,23 +24,6 @@ pub point_is : (change : Point → Point) (zone : ZonePointer) (n m : ℤ) (z : 
     → Some p ≡ point_at zone m z → q ≡ change p → written_at q zone m z ≡ on_point change zone n z
 point_is change zone n m z p q is e f = rw (set_is change zone n m z p q is e f, ← is, ← e) refl
 
-same_shape : (f : Figure) → HasShape f f
-same_shape f = record { points = refl; ends = refl }
-
--- as many points and the same contours when a point is written
-pub written_shapes : (p : Point) (zone : ZonePointer) (n : ℤ) (z : Zones) → HasShapes z (written_at p zone n z)
-unfolding written_at
-written_shapes p Twilight (pos n) z = record {
-  twilight = record { points = length-set z.twilight.points n p; ends = refl };
-  glyph = same_shape z.glyph;
-}
-written_shapes p Glyph (pos n) z = record {
-  twilight = same_shape z.twilight;
-  glyph = record { points = length-set z.glyph.points n p; ends = refl };
-}
-written_shapes p Twilight (negsuc n) z = record { twilight = same_shape z.twilight; glyph = same_shape z.glyph }
-written_shapes p Glyph (negsuc n) z = record { twilight = same_shape z.twilight; glyph = same_shape z.glyph }
-
 -- a point that is not there
 pub unchanged : (change : Point → Point) (zone : ZonePointer) (n : ℤ) (z : Zones) → None ≡ point_at zone n z
     → z ≡ changed_at change zone n z
@@ -60,3 +41,6 @@ still_outside Glyph n z e = e
 pub stray_is : (change : Point → Point) (zone : ZonePointer) (n : ℤ) (z : Zones) → None ≡ point_at zone n z
     → with_stray z ≡ on_point change zone n z
 stray_is change zone n z e = rw (← e) (unchanged change zone n (with_stray z) (still_outside zone n z e))
+
+-- a point that is there or not, for goals that need no answer
+pub ruleset setting = (to_z-of_z, set_is, point_is, unchanged, stray_is)

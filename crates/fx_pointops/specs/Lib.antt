@@ -11,4 +11,5 @@ pub mod Intersect
 pub mod Flip
 pub mod Delta
 pub mod Iup
+pub mod Kept
 pub mod inner

@@ -1,7 +1,6 @@
 //! The rows that move points at some sizes.
 
 ghost use Rattle.std.specs.Prelude.{◌≡◌, reverse};
-ghost use Rattle.fx_pointops.specs.Zones.{HasShapes};
 ghost use Rattle.fx_gstate.specs.Deltas.{each_pair};
 ghost use Rattle.fx_pointops.specs.Delta.{point_delta, deltap_of};
 
@@ -12,10 +11,9 @@ use fx_gstate::{DeltaForm, GState};
 
 impl Zones {
     /// Moves a point, of zp0, if its argument acts at this size.
-    #[tactic(auto, unfolding(crate::specs::Delta::point_delta), using(crate::proofs::Setting::stray_is))]
+    #[tactic(auto, unfolding(crate::specs::Delta::point_delta), using(crate::proofs::Setting::setting))]
     fn move_at_size(&mut self, g: &GState, form: DeltaForm, ppem: &Ppem, p: i32, argument: i32)
-        ensures value { self.new ≡ point_delta g.now form ppem.now p argument self.old }
-        ensures shapes { HasShapes self.old self.new }
+        ensures { self.new ≡ point_delta g.now form ppem.now p argument self.old }
     {
         let delta = g.delta(form, argument);
         let amount = delta.amount;
@@ -31,8 +29,7 @@ impl Zones {
 
     /// Moves the points of pairs, the last of the slice first.
     fn move_each_at_size(&mut self, g: &GState, form: DeltaForm, ppem: &Ppem, pairs: &[i32])
-        ensures value { self.new ≡ each_pair (point_delta g.now form ppem.now) (reverse pairs.now) self.old }
-        ensures shapes { HasShapes self.old self.new }
+        ensures { self.new ≡ each_pair (point_delta g.now form ppem.now) (reverse pairs.now) self.old }
     {
         let mut left = pairs.len();
         // The pairs from `left` on are done.
@@ -46,8 +43,7 @@ impl Zones {
     /// an argument and, after it, its point.
     #[tactic(auto, unfolding(crate::specs::Delta::deltap_of))]
     pub fn deltap(&mut self, g: &GState, form: DeltaForm, ppem: Ppem, pairs: &[i32])
-        ensures value { self.new ≡ deltap_of g.now form ppem (reverse pairs.now) self.old }
-        ensures shapes { HasShapes self.old self.new }
+        ensures { self.new ≡ deltap_of g.now form ppem (reverse pairs.now) self.old }
     {
         self.move_each_at_size(g, form, &ppem, pairs);
     }

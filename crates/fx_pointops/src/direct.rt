@@ -1,7 +1,7 @@
 //! The rows that move points directly: to a place, or to a distance from reference point 0.
 
 ghost use Rattle.std.specs.Prelude.{◌≡◌, reverse};
-ghost use Rattle.fx_pointops.specs.Zones.{HasShapes, point_at, counting_two};
+ghost use Rattle.fx_pointops.specs.Zones.{point_at, counting_two};
 ghost use Rattle.fx_pointops.specs.Measure.{org_at};
 ghost use Rattle.fx_pointops.specs.Direct.{untouched_along, untouched_by, utp_of, to_grid, moved_to_grid, mdap_of, laid_from_rp, moved_to_distance};
 ghost use Rattle.fx_pointops.specs.Direct.{msirp_of, aligned_to_rp, alignrp_of, half_of, alignpts_of, moved_to_value, scfs_of, shpix_of, wanted_of, mdrp_of};
@@ -79,10 +79,9 @@ fn move_to_value(g: &GState, v: F26, point: &mut Point)
 
 impl Zones {
     /// 29 UTP, UnTouch Point: untouches p, of zp0, along each axis along which the freedom vector has a part.
-    #[tactic(auto, unfolding(crate::specs::Direct::utp_of), using(crate::proofs::Setting::stray_is))]
+    #[tactic(auto, unfolding(crate::specs::Direct::utp_of), using(crate::proofs::Setting::setting))]
     pub fn utp(&mut self, g: &GState, p: i32)
-        ensures value { self.new ≡ utp_of g.now p self.old }
-        ensures shapes { HasShapes self.old self.new }
+        ensures { self.new ≡ utp_of g.now p self.old }
     {
         let Some(point) = self.point_mut(g.zp0, p) else {
             self.add_stray();
@@ -92,10 +91,9 @@ impl Zones {
     }
 
     /// 2E-2F MDAP[a], Move Direct Absolute Point: moves p, of zp0, by 0, or with 1 to its rounded coordinate.
-    #[tactic(auto, unfolding(crate::specs::Direct::mdap_of), using(crate::proofs::Setting::stray_is))]
+    #[tactic(auto, unfolding(crate::specs::Direct::mdap_of), using(crate::proofs::Setting::setting))]
     pub fn mdap(&mut self, g: &GState, rounds: bool, p: i32)
-        ensures value { self.new ≡ mdap_of g.now rounds p self.old }
-        ensures shapes { HasShapes self.old self.new }
+        ensures { self.new ≡ mdap_of g.now rounds p self.old }
     {
         let Some(point) = self.point_mut(g.zp0, p) else {
             self.add_stray();
@@ -112,10 +110,9 @@ impl Zones {
     }
 
     /// Lays a point of zp1 at reference point 0 and a place from there, if zp1 is the twilight zone.
-    #[tactic(auto, using(crate::proofs::Setting::unchanged))]
+    #[tactic(auto, using(crate::proofs::Setting::setting))]
     pub(crate) fn lay_from_rp(&mut self, g: &GState, p: i32, by: Place)
-        ensures value { self.new ≡ laid_from_rp g.now p by self.old }
-        ensures shapes { HasShapes self.old self.new }
+        ensures { self.new ≡ laid_from_rp g.now p by self.old }
     {
         if !is_twilight(g.zp1) {
             return;
@@ -128,8 +125,7 @@ impl Zones {
 
     /// Counts p, of zp1, and reference point 0, each if it is a stray.
     pub(crate) fn count_with_rp0(&mut self, g: &GState, p: i32)
-        ensures value { self.new ≡ counting_two (point_at g.now.zp1 p self.old) (point_at g.now.zp0 g.now.rp0 self.old) self.old }
-        ensures shapes { HasShapes self.old self.new }
+        ensures { self.new ≡ counting_two (point_at g.now.zp1 p self.old) (point_at g.now.zp0 g.now.rp0 self.old) self.old }
     {
         let point = self.point(g.zp1, p);
         let base = self.point(g.zp0, g.rp0);
@@ -138,8 +134,7 @@ impl Zones {
 
     /// Moves a point of zp1 to a distance from reference point 0.
     pub(crate) fn move_to_distance(&mut self, g: &GState, p: i32, d: F26)
-        ensures value { self.new ≡ moved_to_distance g.now p d self.old }
-        ensures shapes { HasShapes self.old self.new }
+        ensures { self.new ≡ moved_to_distance g.now p d self.old }
     {
         let c = self.distance(g, g.zp1, p, g.zp0, g.rp0);
         self.move_by(g, g.zp1, p, d.minus(c));
@@ -148,8 +143,7 @@ impl Zones {
     /// 3A-3B MSIRP[a], Move Stack Indirect Relative Point: moves p, of zp1, to the distance d from rp0, of zp0.
     #[tactic(auto, unfolding(crate::specs::Direct::msirp_of))]
     pub fn msirp(&mut self, g: &GState, p: i32, d: F26)
-        ensures value { self.new ≡ msirp_of g.now p d self.old }
-        ensures shapes { HasShapes self.old self.new }
+        ensures { self.new ≡ msirp_of g.now p d self.old }
     {
         self.count_with_rp0(g, p);
         self.lay_from_rp(g, p, g.shift_place(d));
@@ -157,10 +151,9 @@ impl Zones {
     }
 
     /// Moves a point to the distance 0 from reference point 0.
-    #[tactic(auto, unfolding(crate::specs::Direct::aligned_to_rp), using(crate::proofs::Setting::stray_is))]
+    #[tactic(auto, unfolding(crate::specs::Direct::aligned_to_rp), using(crate::proofs::Setting::setting))]
     pub(crate) fn align_to_rp(&mut self, g: &GState, p: i32)
-        ensures value { self.new ≡ aligned_to_rp g.now p self.old }
-        ensures shapes { HasShapes self.old self.new }
+        ensures { self.new ≡ aligned_to_rp g.now p self.old }
     {
         let base = self.point(g.zp0, g.rp0);
         let Some(point) = self.point_mut(g.zp1, p) else {
@@ -174,8 +167,7 @@ impl Zones {
     /// 3C ALIGNRP, ALIGN Relative Point: moves each p, of zp1, to the distance 0 from rp0, of zp0.
     #[tactic(auto, unfolding(crate::specs::Direct::alignrp_of))]
     pub fn alignrp(&mut self, g: &GState, points: &[i32])
-        ensures value { self.new ≡ alignrp_of g.now (reverse points.now) self.old }
-        ensures shapes { HasShapes self.old self.new }
+        ensures { self.new ≡ alignrp_of g.now (reverse points.now) self.old }
     {
         let base = self.point(g.zp0, g.rp0);
         self.count(&base);
@@ -185,8 +177,7 @@ impl Zones {
     /// 27 ALIGNPTS, ALIGN Points: moves p, of zp1, and q, of zp0, halfway to each other.
     #[tactic(auto, unfolding(crate::specs::Direct::alignpts_of))]
     pub fn alignpts(&mut self, g: &GState, p: i32, q: i32)
-        ensures value { self.new ≡ alignpts_of g.now p q self.old }
-        ensures shapes { HasShapes self.old self.new }
+        ensures { self.new ≡ alignpts_of g.now p q self.old }
     {
         let first = self.point(g.zp1, p);
         let second = self.point(g.zp0, q);
@@ -197,10 +188,9 @@ impl Zones {
     }
 
     /// 48 SCFS, Sets Coordinate From the Stack: moves p, of zp2, to the coordinate v.
-    #[tactic(auto, unfolding(crate::specs::Direct::scfs_of), using(crate::proofs::Setting::stray_is))]
+    #[tactic(auto, unfolding(crate::specs::Direct::scfs_of), using(crate::proofs::Setting::setting))]
     pub fn scfs(&mut self, g: &GState, p: i32, v: F26)
-        ensures value { self.new ≡ scfs_of g.now p v self.old }
-        ensures shapes { HasShapes self.old self.new }
+        ensures { self.new ≡ scfs_of g.now p v self.old }
     {
         let Some(point) = self.point_mut(g.zp2, p) else {
             self.add_stray();
@@ -212,8 +202,7 @@ impl Zones {
     /// 38 SHPIX, SHift point by a PIXel amount: shifts each p, of zp2, by a along the freedom vector.
     #[tactic(auto, unfolding(crate::specs::Direct::shpix_of))]
     pub fn shpix(&mut self, g: &GState, points: &[i32], a: F26)
-        ensures value { self.new ≡ shpix_of g.now (reverse points.now) a self.old }
-        ensures shapes { HasShapes self.old self.new }
+        ensures { self.new ≡ shpix_of g.now (reverse points.now) a self.old }
     {
         let by = g.freedom_place(a);
         self.each(g, &LoopStep::Shift(by), points);
@@ -221,10 +210,9 @@ impl Zones {
 
     /// C0-DF MDRP[abcde], Move Direct Relative Point: moves p, of zp1, to its original distance from rp0, of zp0, or the single
     /// width. `how` has the bits: rounded, at least the minimum distance.
-    #[tactic(auto, unfolding(crate::specs::Direct::mdrp_of))]
+    #[tactic(auto, unfolding(crate::specs::Direct::mdrp_of), using(crate::proofs::Setting::setting))]
     pub fn mdrp(&mut self, g: &GState, how: Relative, p: i32)
-        ensures value { self.new ≡ mdrp_of g.now how p self.old }
-        ensures shapes { HasShapes self.old self.new }
+        ensures { self.new ≡ mdrp_of g.now how p self.old }
     {
         let Some(base) = self.point(g.zp0, g.rp0) else {
             return self.mdrp_by_strays(g, how, p);
@@ -241,8 +229,7 @@ impl Zones {
     #[inline(never)]
     #[tactic(auto, unfolding(crate::specs::Direct::mdrp_of))]
     fn mdrp_by_strays(&mut self, g: &GState, how: Relative, p: i32)
-        ensures value { self.new ≡ mdrp_of g.now how p self.old }
-        ensures shapes { HasShapes self.old self.new }
+        ensures { self.new ≡ mdrp_of g.now how p self.old }
     {
         let o = self.original(g, g.zp1, p, g.zp0, g.rp0);
         self.count_with_rp0(g, p);

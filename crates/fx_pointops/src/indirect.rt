@@ -1,7 +1,6 @@
 //! The rows that move points by control values.
 
 ghost use Rattle.std.specs.Prelude.{◌≡◌};
-ghost use Rattle.fx_pointops.specs.Zones.{HasShapes};
 ghost use Rattle.fx_pointops.specs.inner.Controlled.{mirp_outside_of};
 ghost use Rattle.fx_pointops.specs.Indirect.{is_cut_off, laid_along, aimed_of, moved_to_coordinate, miap_of, is_one_negative};
 ghost use Rattle.fx_pointops.specs.Indirect.{auto_flipped, cut_in_by, controlled_of, mirp_distance_of, moved_to_control, mirp_of};
@@ -107,10 +106,9 @@ fn move_to_coordinate(g: &GState, rounds: bool, v: F26, point: &mut Point)
 impl Zones {
     /// 3E-3F MIAP[a], Move Indirect Absolute Point: moves p, of zp0, to the control value v; with 1 rounded, or to its own
     /// coordinate rounded if v is beyond the cut-in.
-    #[tactic(auto, unfolding(crate::specs::Indirect::miap_of), using(crate::proofs::Setting::stray_is))]
+    #[tactic(auto, unfolding(crate::specs::Indirect::miap_of), using(crate::proofs::Setting::setting))]
     pub fn miap(&mut self, g: &GState, rounds: bool, p: i32, v: F26)
-        ensures value { self.new ≡ miap_of g.now rounds p v self.old }
-        ensures shapes { HasShapes self.old self.new }
+        ensures { self.new ≡ miap_of g.now rounds p v self.old }
     {
         let Some(point) = self.point_mut(g.zp0, p) else {
             self.add_stray();
@@ -122,8 +120,7 @@ impl Zones {
 
     /// Moves a point to a control value from reference point 0.
     fn move_to_control(&mut self, g: &GState, how: Relative, p: i32, v: F26)
-        ensures value { self.new ≡ moved_to_control g.now how p v self.old }
-        ensures shapes { HasShapes self.old self.new }
+        ensures { self.new ≡ moved_to_control g.now how p v self.old }
     {
         let o = self.original(g, g.zp1, p, g.zp0, g.rp0);
         self.move_to_distance(g, p, mirp_distance(g, how, o, v));
@@ -134,8 +131,7 @@ impl Zones {
     /// flip.
     #[tactic(auto, unfolding(crate::specs::Indirect::mirp_of, crate::specs::inner::Controlled::mirp_outside_of))]
     pub fn mirp(&mut self, g: &GState, how: Relative, p: i32, v: F26)
-        ensures value { self.new ≡ mirp_of g.now how p v self.old }
-        ensures shapes { HasShapes self.old self.new }
+        ensures { self.new ≡ mirp_of g.now how p v self.old }
     {
         if is_twilight(g.zp1) {
             return self.mirp_in_twilight(g, how, p, v);
@@ -146,8 +142,7 @@ impl Zones {
     /// MIRP outside the twilight zone, with the control value as the single width has left it. Each of the two points is read once.
     #[tactic(auto, unfolding(crate::specs::inner::Controlled::mirp_outside_of))]
     fn mirp_outside(&mut self, g: &GState, how: Relative, p: i32, v: F26)
-        ensures value { self.new ≡ mirp_outside_of g.now how p v self.old }
-        ensures shapes { HasShapes self.old self.new }
+        ensures { self.new ≡ mirp_outside_of g.now how p v self.old }
     {
         let Some(base) = self.point(g.zp0, g.rp0) else {
             return self.mirp_by_strays(g, how, p, v);
@@ -164,8 +159,7 @@ impl Zones {
     #[inline(never)]
     #[tactic(auto, unfolding(crate::specs::inner::Controlled::mirp_outside_of))]
     fn mirp_by_strays(&mut self, g: &GState, how: Relative, p: i32, v: F26)
-        ensures value { self.new ≡ mirp_outside_of g.now how p v self.old }
-        ensures shapes { HasShapes self.old self.new }
+        ensures { self.new ≡ mirp_outside_of g.now how p v self.old }
     {
         self.count_with_rp0(g, p);
         self.move_to_control(g, how, p, v);
@@ -175,8 +169,7 @@ impl Zones {
     #[inline(never)]
     #[tactic(auto, unfolding(crate::specs::Indirect::mirp_of))]
     fn mirp_in_twilight(&mut self, g: &GState, how: Relative, p: i32, v: F26)
-        ensures value { self.new ≡ mirp_of g.now how p v self.old }
-        ensures shapes { HasShapes self.old self.new }
+        ensures { self.new ≡ mirp_of g.now how p v self.old }
     {
         let v = single(g, v);
         self.count_with_rp0(g, p);

@@ -2,7 +2,6 @@
 
 ghost use Rattle.std.specs.Prelude.{◌≡◌, ◌≢◌, ◌≤◌, ◌^◌, pos, ◌*ℤ◌, unsigned_abs, reverse};
 ghost use Rattle.fx_fixed.specs.Numbers.{near_of, wrapped_of};
-ghost use Rattle.fx_pointops.specs.Zones.{HasShapes};
 ghost use Rattle.fx_pointops.specs.Interpolate.{proportion_of, point_in_proportion, ip_of};
 
 use crate::distances::product;
@@ -44,10 +43,9 @@ fn proportion(o: F26, cb: F26, ob: F26) -> F26
 
 impl Zones {
     /// Moves a point to the distance from reference point 1 that is in proportion.
-    #[tactic(auto, unfolding(crate::specs::Interpolate::point_in_proportion))]
+    #[tactic(auto, unfolding(crate::specs::Interpolate::point_in_proportion), using(crate::proofs::Setting::setting))]
     pub(crate) fn move_in_proportion(&mut self, g: &GState, cb: &F26, ob: &F26, p: i32)
-        ensures value { self.new ≡ point_in_proportion g.now cb.now ob.now p self.old }
-        ensures shapes { HasShapes self.old self.new }
+        ensures { self.new ≡ point_in_proportion g.now cb.now ob.now p self.old }
     {
         let Some(base) = self.point(g.zp0, g.rp1) else {
             return self.move_stray_in_proportion(g, cb, ob, p);
@@ -64,8 +62,7 @@ impl Zones {
     #[inline(never)]
     #[tactic(auto, unfolding(crate::specs::Interpolate::point_in_proportion))]
     fn move_stray_in_proportion(&mut self, g: &GState, cb: &F26, ob: &F26, p: i32)
-        ensures value { self.new ≡ point_in_proportion g.now cb.now ob.now p self.old }
-        ensures shapes { HasShapes self.old self.new }
+        ensures { self.new ≡ point_in_proportion g.now cb.now ob.now p self.old }
     {
         let point = self.point(g.zp2, p);
         let o = self.original(g, g.zp2, p, g.zp0, g.rp1);
@@ -77,8 +74,7 @@ impl Zones {
     /// 39 IP, Interpolate Point: moves each p, of zp2, in proportion between rp1, of zp0, and rp2, of zp1.
     #[tactic(auto, unfolding(crate::specs::Interpolate::ip_of))]
     pub fn ip(&mut self, g: &GState, points: &[i32])
-        ensures value { self.new ≡ ip_of g.now (reverse points.now) self.old }
-        ensures shapes { HasShapes self.old self.new }
+        ensures { self.new ≡ ip_of g.now (reverse points.now) self.old }
     {
         let base = self.point(g.zp0, g.rp1);
         let other = self.point(g.zp1, g.rp2);

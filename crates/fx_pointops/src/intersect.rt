@@ -3,7 +3,7 @@
 ghost use Rattle.std.specs.Prelude.{◌≡◌, ◌≢◌, ◌≤◌, ◌^◌, pos, ◌+ℤ◌, ◌-ℤ◌, ◌*ℤ◌, unsigned_abs};
 ghost use Rattle.fx_fixed.specs.Places.{place_sum_of};
 ghost use Rattle.fx_zone.specs.Points.{put};
-ghost use Rattle.fx_pointops.specs.Zones.{HasShapes, on_point};
+ghost use Rattle.fx_pointops.specs.Zones.{on_point};
 ghost use Rattle.fx_pointops.specs.Intersect.{cross_of, fraction_of, scaled_by, mean_of, middle_of, intersection_of, isect_of};
 
 use crate::distances::product;
@@ -115,10 +115,9 @@ fn intersection(a0: &Place, a1: &Place, b0: &Place, b1: &Place) -> Place
 
 impl Zones {
     /// Puts a point of zp2 at a place, and touches it along both axes.
-    #[tactic(auto, using(crate::proofs::Setting::stray_is))]
+    #[tactic(auto, using(crate::proofs::Setting::setting))]
     fn put_point(&mut self, g: &GState, p: i32, place: Place)
-        ensures value { self.new ≡ on_point (put place) g.now.zp2 p self.old }
-        ensures shapes { HasShapes self.old self.new }
+        ensures { self.new ≡ on_point (put place) g.now.zp2 p self.old }
     {
         let Some(point) = self.point_mut(g.zp2, p) else {
             self.add_stray();
@@ -130,8 +129,7 @@ impl Zones {
     /// 0F ISECT, InterSECTion of two lines: puts p, of zp2, where the line a0 a1, of zp1, crosses the line b0 b1, of zp0.
     #[tactic(auto, unfolding(crate::specs::Intersect::isect_of))]
     pub fn isect(&mut self, g: &GState, p: i32, a0: i32, a1: i32, b0: i32, b1: i32)
-        ensures value { self.new ≡ isect_of g.now p a0 a1 b0 b1 self.old }
-        ensures shapes { HasShapes self.old self.new }
+        ensures { self.new ≡ isect_of g.now p a0 a1 b0 b1 self.old }
     {
         let a0 = self.point(g.zp1, a0);
         let a1 = self.point(g.zp1, a1);

@@ -1,7 +1,6 @@
 //! The row that interpolates untouched points.
 
 ghost use Rattle.std.specs.Prelude.{◌≡◌};
-ghost use Rattle.fx_pointops.specs.Zones.{HasShapes};
 ghost use Rattle.fx_pointops.specs.Iup.{iup_of};
 
 use crate::zones::Zones;
@@ -11,8 +10,7 @@ impl Zones {
     /// 30-31 IUP[a], Interpolate Untouched Points: those of the glyph zone, with 0 in y, with 1 in x. It counts no strays.
     #[tactic(auto, unfolding(crate::specs::Iup::iup_of))]
     pub fn iup(&mut self, axis: Axis)
-        ensures value { self.new ≡ iup_of axis self.old }
-        ensures shapes { HasShapes self.old self.new }
+        ensures { self.new ≡ iup_of axis self.old }
     {
         self.glyph.interpolate(axis);
     }

@@ -1,7 +1,6 @@
 //! The points of a loop.
 
 ghost use Rattle.std.specs.Prelude.{◌≡◌, reverse};
-ghost use Rattle.fx_pointops.specs.Zones.{HasShapes};
 ghost use Rattle.fx_pointops.specs.Loops.{each};
 ghost use Rattle.fx_pointops.specs.inner.Steps.{steps_of};
 
@@ -25,8 +24,7 @@ pub enum LoopStep {
 impl Zones {
     /// The steps of a row for one point.
     fn step(&mut self, g: &GState, step: &LoopStep, p: i32)
-        ensures value { self.new ≡ steps_of g.now step.now p self.old }
-        ensures shapes { HasShapes self.old self.new }
+        ensures { self.new ≡ steps_of g.now step.now p self.old }
     {
         match step {
             LoopStep::Align => self.align_to_rp(g, p),
@@ -38,8 +36,7 @@ impl Zones {
 
     /// The steps of a row for each point, the last of the slice first.
     pub(crate) fn each(&mut self, g: &GState, step: &LoopStep, points: &[i32])
-        ensures value { self.new ≡ each (steps_of g.now step.now) (reverse points.now) self.old }
-        ensures shapes { HasShapes self.old self.new }
+        ensures { self.new ≡ each (steps_of g.now step.now) (reverse points.now) self.old }
     {
         let mut left = points.len();
         // The points from `left` on are done.

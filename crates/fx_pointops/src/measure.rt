@@ -1,7 +1,6 @@
 //! Places, distances and lines, as instructions measure them.
 
 ghost use Rattle.std.specs.Prelude.{◌≡◌};
-ghost use Rattle.fx_pointops.specs.Zones.{HasShapes};
 ghost use Rattle.fx_pointops.specs.Measure.{gc_of, md_of, line_between, distance_of, original_of};
 
 use crate::zones::{Zones, cur, org};
@@ -51,8 +50,7 @@ impl Zones {
     /// 46-47 GC[a], Get Coordinate: that of p, of zp2: with 0 the current one, with 1 the original one, along the dual vector.
     #[tactic(auto, unfolding(crate::specs::Measure::gc_of))]
     pub fn gc(&mut self, g: &GState, original: bool, p: i32) -> F26
-        ensures value { (result, self.new) ≡ gc_of g.now original p self.old }
-        ensures shapes { HasShapes self.old self.new }
+        ensures { (result, self.new) ≡ gc_of g.now original p self.old }
     {
         let point = self.point(g.zp2, p);
         self.count(&point);
@@ -67,8 +65,7 @@ impl Zones {
     /// vector.
     #[tactic(auto, unfolding(crate::specs::Measure::md_of))]
     pub fn md(&mut self, g: &GState, original: bool, p: i32, q: i32) -> F26
-        ensures value { (result, self.new) ≡ md_of g.now original p q self.old }
-        ensures shapes { HasShapes self.old self.new }
+        ensures { (result, self.new) ≡ md_of g.now original p q self.old }
     {
         let to = self.point(g.zp0, p);
         let from = self.point(g.zp1, q);
@@ -83,8 +80,7 @@ impl Zones {
     /// 06-07 SPVTL[a], 08-09 SFVTL[a], 86-87 SDPVTL[a]: the line to p1, of zp1, from p2, of zp2.
     #[tactic(auto, unfolding(crate::specs::Measure::line_between))]
     pub fn line(&mut self, g: &GState, p1: i32, p2: i32) -> Line
-        ensures value { (result, self.new) ≡ line_between g.now p1 p2 self.old }
-        ensures shapes { HasShapes self.old self.new }
+        ensures { (result, self.new) ≡ line_between g.now p1 p2 self.old }
     {
         let to = self.point(g.zp1, p1);
         let from = self.point(g.zp2, p2);

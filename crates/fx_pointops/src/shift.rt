@@ -2,7 +2,7 @@
 
 ghost use Rattle.std.specs.Prelude.{◌≡◌, ◌≤◌, length, reverse, IfSome};
 ghost use Rattle.fx_zone.specs.Figures.{range_shifted};
-ghost use Rattle.fx_pointops.specs.Zones.{HasShapes, zone_at, on_zone};
+ghost use Rattle.fx_pointops.specs.Zones.{zone_at, on_zone};
 ghost use Rattle.fx_pointops.specs.Shift.{reference_zone, reference_point, counting_reference, reference_shift, excepted, shp_of};
 ghost use Rattle.fx_pointops.specs.Shift.{contour_at, contour_shifted_at, shc_of, count_without_phantoms, shz_of};
 
@@ -42,7 +42,6 @@ impl Zones {
     fn reference_shift(&mut self, g: &GState, one: bool) -> Place
         ensures value { result ≡ reference_shift g.now one self.old }
         ensures counted { self.new ≡ counting_reference g.now one self.old }
-        ensures shapes { HasShapes self.old self.new }
     {
         let zone = reference_zone(g, one);
         let p = reference_point(g, one);
@@ -55,8 +54,7 @@ impl Zones {
     /// zp0.
     #[tactic(auto, unfolding(crate::specs::Shift::shp_of))]
     pub fn shp(&mut self, g: &GState, one: bool, points: &[i32])
-        ensures value { self.new ≡ shp_of g.now one (reverse points.now) self.old }
-        ensures shapes { HasShapes self.old self.new }
+        ensures { self.new ≡ shp_of g.now one (reverse points.now) self.old }
     {
         let by = self.reference_shift(g, one);
         self.each(g, &LoopStep::Shift(by), points);
@@ -74,8 +72,7 @@ impl Zones {
         y: bool,
     )
         requires { past ≤ length (zone_at zone self.old).points }
-        ensures value { self.new ≡ on_zone (range_shifted by x y except first past) zone self.old }
-        ensures shapes { HasShapes self.old self.new }
+        ensures { self.new ≡ on_zone (range_shifted by x y except first past) zone self.old }
     {
         match zone {
             ZonePointer::Twilight => self.twilight.shift_range(first, past, except, by, x, y),
@@ -98,8 +95,7 @@ impl Zones {
     /// 34-35 SHC[a], SHift Contour: shifts the points of contour k, of zp2, but the reference point.
     #[tactic(auto, unfolding(crate::specs::Shift::shc_of))]
     pub fn shc(&mut self, g: &GState, one: bool, k: i32)
-        ensures value { self.new ≡ shc_of g.now one k self.old }
-        ensures shapes { HasShapes self.old self.new }
+        ensures { self.new ≡ shc_of g.now one k self.old }
     {
         let by = self.reference_shift(g, one);
         self.shift_contour(g, one, by, k);
@@ -107,8 +103,7 @@ impl Zones {
 
     /// Shifts the points of contour k, of zp2, but the reference point; a contour that is not there is a stray.
     fn shift_contour(&mut self, g: &GState, one: bool, by: Place, k: i32)
-        ensures value { self.new ≡ contour_shifted_at g.now one by k self.old }
-        ensures shapes { HasShapes self.old self.new }
+        ensures { self.new ≡ contour_shifted_at g.now one by k self.old }
     {
         let Some((first, past)) = self.contour(g.zp2, k) else {
             self.add_stray();
@@ -134,8 +129,7 @@ impl Zones {
     /// 36-37 SHZ[a], SHift Zone: shifts the points of a zone, but the reference point and the phantom points, and touches none.
     #[tactic(auto, unfolding(crate::specs::Shift::shz_of))]
     pub fn shz(&mut self, g: &GState, one: bool, zone: ZonePointer)
-        ensures value { self.new ≡ shz_of g.now one zone self.old }
-        ensures shapes { HasShapes self.old self.new }
+        ensures { self.new ≡ shz_of g.now one zone self.old }
     {
         let by = self.reference_shift(g, one);
         let past = self.count_without_phantoms(zone);

@@ -1,7 +1,7 @@
 //! How instructions move points: along the freedom vector, and touching them.
 
 ghost use Rattle.std.specs.Prelude.{◌≡◌};
-ghost use Rattle.fx_pointops.specs.Zones.{HasShapes, changed_at};
+ghost use Rattle.fx_pointops.specs.Zones.{changed_at};
 ghost use Rattle.fx_pointops.specs.ShiftPoint.{shifted_by, moved_by, point_shifted};
 
 use crate::zones::Zones;
@@ -41,10 +41,9 @@ fn move_aslant(g: &GState, d: F26, point: &mut Point)
 
 impl Zones {
     /// Moves a point by a distance, if it is inside.
-    #[tactic(auto, using(crate::proofs::Setting::unchanged))]
+    #[tactic(auto, using(crate::proofs::Setting::setting))]
     pub(crate) fn move_by(&mut self, g: &GState, zone: ZonePointer, p: i32, d: F26)
-        ensures value { self.new ≡ changed_at (moved_by g.now d) zone p self.old }
-        ensures shapes { HasShapes self.old self.new }
+        ensures { self.new ≡ changed_at (moved_by g.now d) zone p self.old }
     {
         if let Some(point) = self.point_mut(zone, p) {
             move_point(g, d, point);
@@ -52,10 +51,9 @@ impl Zones {
     }
 
     /// Shifts a point of zp2.
-    #[tactic(auto, unfolding(crate::specs::ShiftPoint::point_shifted), using(crate::proofs::Setting::stray_is))]
+    #[tactic(auto, unfolding(crate::specs::ShiftPoint::point_shifted), using(crate::proofs::Setting::setting))]
     pub(crate) fn shift_point(&mut self, g: &GState, by: &Place, p: i32)
-        ensures value { self.new ≡ point_shifted g.now by.now p self.old }
-        ensures shapes { HasShapes self.old self.new }
+        ensures { self.new ≡ point_shifted g.now by.now p self.old }
     {
         let Some(point) = self.point_mut(g.zp2, p) else {
             self.add_stray();

@@ -75,7 +75,7 @@ impl Zones {
     ghost use Rattle.std.specs.Option.{option_copied_mut};
     ghost use Rattle.std.specs.Borrow.{sem};
     ghost use Rattle.fx_pointops.specs.inner.Lending.{LendsPointAt};
-    ghost use Rattle.fx_pointops.specs.Zones.{point_at, with_stray, counting, counting_two, HasShapes};
+    ghost use Rattle.fx_pointops.specs.Zones.{point_at, with_stray, counting, counting_two};
 
     /// The point of a number, if it is inside.
     #[tactic(auto, unfolding(crate::specs::Zones::point_at))]
@@ -91,16 +91,14 @@ impl Zones {
 
     /// Counts a stray.
     pub(crate) fn add_stray(&mut self)
-        ensures value { self.new ≡ with_stray self.old }
-        ensures shapes { HasShapes self.old self.new }
+        ensures { self.new ≡ with_stray self.old }
     {
         self.strays = self.strays.saturating_add(1);
     }
 
     /// Counts a point as a stray if there is none.
     pub(crate) fn count(&mut self, point: &Option<Point>)
-        ensures value { self.new ≡ counting point.now self.old }
-        ensures shapes { HasShapes self.old self.new }
+        ensures { self.new ≡ counting point.now self.old }
     {
         if point.is_none() {
             self.add_stray();
@@ -109,8 +107,7 @@ impl Zones {
 
     /// Counts two points as strays, each if there is none.
     pub(crate) fn count_two(&mut self, p: &Option<Point>, q: &Option<Point>)
-        ensures value { self.new ≡ counting_two p.now q.now self.old }
-        ensures shapes { HasShapes self.old self.new }
+        ensures { self.new ≡ counting_two p.now q.now self.old }
     {
         self.count(p);
         self.count(q);

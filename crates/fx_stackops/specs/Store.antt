@@ -4,6 +4,7 @@ use Rattle.std.specs.Prelude.{◌≡◌, ℕ, ◌+◌, ◌-◌, ◌*◌, ℤ, po
 use Rattle.std.specs.Prelude.{◌∷◌, ◌++◌, length, reverse, take, drop, slice_index_or, Result, Ok, Err}
 use Rattle.fx_fixed.specs.Chain.{◌>>=◌, refuse}
 use Rattle.fx_fixed.specs.Numbers.{counted}
+use Rattle.fx_gstate.specs.States.{leaves}
 use Rattle.fx_stackops.specs.declared.fault.StackFault.{StackFault}
 use Rattle.fx_stackops.specs.declared.fault.StackFault.TheVariants.{StackUnder, StackOver, BadArgument}
 
@@ -146,3 +147,8 @@ pub record HasSizes (s t : StoreView) : Type 0 where
   pub room : t.room ≡ s.room
   pub storage : length t.storage ≡ length s.storage
   pub cvt : length t.cvt ≡ length s.cvt
+
+-- an instruction did what its row says, and left all sizes, also if it faulted
+pub record Does (row : StoreView → Result StoreView StackFault) (s t : StoreView) (r : Result (Unit {0}) StackFault) : Type 0 where
+  pub value : leaves r t ≡ row s
+  pub sizes : HasSizes s t

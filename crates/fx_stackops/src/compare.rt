@@ -1,8 +1,7 @@
 //! Comparisons and logic.
 
 ghost use Rattle.std.specs.Prelude.{◌≡◌};
-ghost use Rattle.fx_gstate.specs.States.{leaves};
-ghost use Rattle.fx_stackops.specs.Store.{HasSizes};
+ghost use Rattle.fx_stackops.specs.Store.{Does};
 ghost use Rattle.fx_stackops.specs.Rows.{lt_row, lteq_row, gt_row, gteq_row, eq_row, neq_row, and_row, or_row, not_row, odd_row, even_row};
 
 use crate::fault::StackFault;
@@ -15,8 +14,7 @@ impl Store {
     #[inline(always)]
     #[tactic(auto, unfolding(crate::specs::Rows::lt_row))]
     pub fn lt(&mut self) -> Result<(), StackFault>
-        ensures value { leaves result self.new ≡ lt_row self.old }
-        ensures sizes { HasSizes self.old self.new }
+        ensures { Does lt_row self.old self.new result }
     {
         let (a, b) = self.two()?;
         self.put(i32::from(a < b));
@@ -26,8 +24,7 @@ impl Store {
     /// 51 LTEQ, Less Than or EQual: `a b ->` 1 if a is not above b, else 0.
     #[tactic(auto, unfolding(crate::specs::Rows::lteq_row))]
     pub fn lteq(&mut self) -> Result<(), StackFault>
-        ensures value { leaves result self.new ≡ lteq_row self.old }
-        ensures sizes { HasSizes self.old self.new }
+        ensures { Does lteq_row self.old self.new result }
     {
         let (a, b) = self.two()?;
         self.put(i32::from(a <= b));
@@ -38,8 +35,7 @@ impl Store {
     #[inline(always)]
     #[tactic(auto, unfolding(crate::specs::Rows::gt_row))]
     pub fn gt(&mut self) -> Result<(), StackFault>
-        ensures value { leaves result self.new ≡ gt_row self.old }
-        ensures sizes { HasSizes self.old self.new }
+        ensures { Does gt_row self.old self.new result }
     {
         let (a, b) = self.two()?;
         self.put(i32::from(a > b));
@@ -49,8 +45,7 @@ impl Store {
     /// 53 GTEQ, Greater Than or EQual: `a b ->` 1 if a is not below b, else 0.
     #[tactic(auto, unfolding(crate::specs::Rows::gteq_row))]
     pub fn gteq(&mut self) -> Result<(), StackFault>
-        ensures value { leaves result self.new ≡ gteq_row self.old }
-        ensures sizes { HasSizes self.old self.new }
+        ensures { Does gteq_row self.old self.new result }
     {
         let (a, b) = self.two()?;
         self.put(i32::from(a >= b));
@@ -60,8 +55,7 @@ impl Store {
     /// 54 EQ, EQual: `a b ->` 1 if both are equal, else 0.
     #[tactic(auto, unfolding(crate::specs::Rows::eq_row))]
     pub fn eq(&mut self) -> Result<(), StackFault>
-        ensures value { leaves result self.new ≡ eq_row self.old }
-        ensures sizes { HasSizes self.old self.new }
+        ensures { Does eq_row self.old self.new result }
     {
         let (a, b) = self.two()?;
         self.put(i32::from(a == b));
@@ -72,8 +66,7 @@ impl Store {
     #[inline(always)]
     #[tactic(auto, unfolding(crate::specs::Rows::neq_row))]
     pub fn neq(&mut self) -> Result<(), StackFault>
-        ensures value { leaves result self.new ≡ neq_row self.old }
-        ensures sizes { HasSizes self.old self.new }
+        ensures { Does neq_row self.old self.new result }
     {
         let (a, b) = self.two()?;
         self.put(i32::from(a != b));
@@ -83,8 +76,7 @@ impl Store {
     /// 5A AND, logical AND: `a b ->` 1 if both are not 0, else 0.
     #[tactic(auto, unfolding(crate::specs::Rows::and_row))]
     pub fn and(&mut self) -> Result<(), StackFault>
-        ensures value { leaves result self.new ≡ and_row self.old }
-        ensures sizes { HasSizes self.old self.new }
+        ensures { Does and_row self.old self.new result }
     {
         let (a, b) = self.two()?;
         self.put(i32::from(a != 0 && b != 0));
@@ -94,8 +86,7 @@ impl Store {
     /// 5B OR, logical OR: `a b ->` 1 if one is not 0, else 0.
     #[tactic(auto, unfolding(crate::specs::Rows::or_row))]
     pub fn or(&mut self) -> Result<(), StackFault>
-        ensures value { leaves result self.new ≡ or_row self.old }
-        ensures sizes { HasSizes self.old self.new }
+        ensures { Does or_row self.old self.new result }
     {
         let (a, b) = self.two()?;
         self.put(i32::from(a != 0 || b != 0));
@@ -105,8 +96,7 @@ impl Store {
     /// 5C NOT, logical NOT: `a ->` 1 if it is 0, else 0.
     #[tactic(auto, unfolding(crate::specs::Rows::not_row))]
     pub fn not(&mut self) -> Result<(), StackFault>
-        ensures value { leaves result self.new ≡ not_row self.old }
-        ensures sizes { HasSizes self.old self.new }
+        ensures { Does not_row self.old self.new result }
     {
         let a = self.one()?;
         self.put(i32::from(a == 0));
@@ -116,8 +106,7 @@ impl Store {
     /// 56 ODD: `a ->` 1 if it is an odd number of pixels after rounding by the round state, else 0.
     #[tactic(auto, unfolding(crate::specs::Rows::odd_row))]
     pub fn odd(&mut self, g: &GState) -> Result<(), StackFault>
-        ensures value { leaves result self.new ≡ odd_row g.now self.old }
-        ensures sizes { HasSizes self.old self.new }
+        ensures { Does (odd_row g.now) self.old self.new result }
     {
         let a = self.one()?;
         self.put(i32::from(g.round(F26(a)).0.rem_euclid(128) == 64));
@@ -127,8 +116,7 @@ impl Store {
     /// 57 EVEN: `a ->` 1 if it is an even number of pixels after rounding by the round state, else 0.
     #[tactic(auto, unfolding(crate::specs::Rows::even_row))]
     pub fn even(&mut self, g: &GState) -> Result<(), StackFault>
-        ensures value { leaves result self.new ≡ even_row g.now self.old }
-        ensures sizes { HasSizes self.old self.new }
+        ensures { Does (even_row g.now) self.old self.new result }
     {
         let a = self.one()?;
         self.put(i32::from(g.round(F26(a)).0.rem_euclid(128) == 0));

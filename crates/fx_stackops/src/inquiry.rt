@@ -1,8 +1,7 @@
 //! Questions about the rasterizer, and instructions that only pop.
 
 ghost use Rattle.std.specs.Prelude.{◌≡◌};
-ghost use Rattle.fx_gstate.specs.States.{leaves};
-ghost use Rattle.fx_stackops.specs.Store.{HasSizes};
+ghost use Rattle.fx_stackops.specs.Store.{Does};
 ghost use Rattle.fx_stackops.specs.Rows.{mppem_row, mps_row, getinfo_row, ignored_row};
 
 use crate::fault::StackFault;
@@ -13,8 +12,7 @@ impl Store {
     /// 4B MPPEM, Measure Pixels Per EM: `->` the size, in pixels per em.
     #[tactic(auto, unfolding(crate::specs::Rows::mppem_row))]
     pub fn mppem(&mut self, ppem: Ppem) -> Result<(), StackFault>
-        ensures value { leaves result self.new ≡ mppem_row ppem self.old }
-        ensures sizes { HasSizes self.old self.new }
+        ensures { Does (mppem_row ppem) self.old self.new result }
     {
         self.push(i32::from(ppem.pixels()))
     }
@@ -22,8 +20,7 @@ impl Store {
     /// 4C MPS, Measure Point Size: `->` the size, in pixels per em.
     #[tactic(auto, unfolding(crate::specs::Rows::mps_row))]
     pub fn mps(&mut self, ppem: Ppem) -> Result<(), StackFault>
-        ensures value { leaves result self.new ≡ mps_row ppem self.old }
-        ensures sizes { HasSizes self.old self.new }
+        ensures { Does (mps_row ppem) self.old self.new result }
     {
         self.push(i32::from(ppem.pixels()))
     }
@@ -31,8 +28,7 @@ impl Store {
     /// 88 GETINFO, GET INFOrmation: `s ->` 35 if bit 0 asks for the rasterizer's version, else 0.
     #[tactic(auto, unfolding(crate::specs::Rows::getinfo_row))]
     pub fn getinfo(&mut self) -> Result<(), StackFault>
-        ensures value { leaves result self.new ≡ getinfo_row self.old }
-        ensures sizes { HasSizes self.old self.new }
+        ensures { Does getinfo_row self.old self.new result }
     {
         let a = self.one()?;
         self.put(if a.rem_euclid(2) == 1 { 35 } else { 0 });
@@ -42,8 +38,7 @@ impl Store {
     /// 4F DEBUG, 7E SANGW, 7F AA: `a ->`, and nothing else.
     #[tactic(auto, unfolding(crate::specs::Rows::pop_row))]
     pub fn ignored(&mut self) -> Result<(), StackFault>
-        ensures value { leaves result self.new ≡ ignored_row self.old }
-        ensures sizes { HasSizes self.old self.new }
+        ensures { Does ignored_row self.old self.new result }
     {
         self.one()?;
         Ok(())

@@ -1,9 +1,8 @@
 //! Instructions that arrange the stack.
 
 ghost use Rattle.std.specs.Prelude.{◌≡◌, ◌≤◌, ◌+◌, ◌++◌, length, reverse, OnErr, Ok};
-ghost use Rattle.fx_gstate.specs.States.{leaves};
 ghost use Rattle.fx_code.specs.Numbers.{numbers};
-ghost use Rattle.fx_stackops.specs.Store.{with_stack, HasSizes};
+ghost use Rattle.fx_stackops.specs.Store.{HasSizes, Does};
 ghost use Rattle.fx_stackops.specs.Rows.{dup_row, pop_row, clear_row, swap_row, depth_row, cindex_row, mindex_row, push_row, roll_row};
 
 use crate::fault::StackFault;
@@ -14,9 +13,8 @@ impl Store {
     /// 40 NPUSHB, 41 NPUSHW, B0-B7 PUSHB[abc], B8-BF PUSHW[abc]: `-> ..`, the numbers that an instruction pushes.
     #[tactic(auto, unfolding(crate::specs::Store::pushed_all))]
     pub fn push_all(&mut self, instr: &Instr<'_>) -> Result<(), StackFault>
-        ensures value { leaves result self.new ≡ push_row (numbers instr.now.opcode instr.now.pushed.now) self.old }
+        ensures does { Does (push_row (numbers instr.now.opcode instr.now.pushed.now)) self.old self.new result }
         ensures kept { OnErr result (self.new ≡ self.old) }
-        ensures sizes { HasSizes self.old self.new }
     {
         if instr.count() > self.stack_room() - self.stack_len() {
             return Err(StackFault::StackOver);
@@ -29,8 +27,7 @@ impl Store {
     #[inline(always)]
     #[tactic(auto, unfolding(crate::specs::Rows::dup_row))]
     pub fn dup(&mut self) -> Result<(), StackFault>
-        ensures value { leaves result self.new ≡ dup_row self.old }
-        ensures sizes { HasSizes self.old self.new }
+        ensures { Does dup_row self.old self.new result }
     {
         let a = self.one()?;
         self.put(a);
@@ -40,8 +37,7 @@ impl Store {
     /// 21 POP, POP top: `a ->`.
     #[tactic(auto, unfolding(crate::specs::Rows::pop_row))]
     pub fn pop(&mut self) -> Result<(), StackFault>
-        ensures value { leaves result self.new ≡ pop_row self.old }
-        ensures sizes { HasSizes self.old self.new }
+        ensures { Does pop_row self.old self.new result }
     {
         self.one()?;
         Ok(())
@@ -49,8 +45,7 @@ impl Store {
 
     /// 22 CLEAR, CLEAR the stack: `.. ->`.
     pub fn clear(&mut self)
-        ensures value { Ok self.new ≡ clear_row self.old }
-        ensures sizes { HasSizes self.old self.new }
+        ensures { Ok self.new ≡ clear_row self.old }
     {
         self.drop_all();
     }
@@ -59,8 +54,7 @@ impl Store {
     #[inline(always)]
     #[tactic(auto, unfolding(crate::specs::Rows::swap_row))]
     pub fn swap(&mut self) -> Result<(), StackFault>
-        ensures value { leaves result self.new ≡ swap_row self.old }
-        ensures sizes { HasSizes self.old self.new }
+        ensures { Does swap_row self.old self.new result }
     {
         let (a, b) = self.two()?;
         self.put(b);
@@ -71,8 +65,7 @@ impl Store {
     /// 24 DEPTH, DEPTH of the stack: `-> n`, the number of elements before.
     #[tactic(auto, unfolding(crate::specs::Rows::depth_row))]
     pub fn depth(&mut self) -> Result<(), StackFault>
-        ensures value { leaves result self.new ≡ depth_row self.old }
-        ensures sizes { HasSizes self.old self.new }
+        ensures { Does depth_row self.old self.new result }
     {
         let depth = self.stack_len() as i32;
         self.push(depth)
@@ -82,8 +75,7 @@ impl Store {
     #[inline(always)]
     #[tactic(auto, unfolding(crate::specs::Rows::cindex_row))]
     pub fn cindex(&mut self) -> Result<(), StackFault>
-        ensures value { leaves result self.new ≡ cindex_row self.old }
-        ensures sizes { HasSizes self.old self.new }
+        ensures { Does cindex_row self.old self.new result }
     {
         let k = self.one()?;
         let element = self.element(k)?;
@@ -94,8 +86,7 @@ impl Store {
     /// 26 MINDEX, Move the INDEXed element: `.. x .. k -> .. .. x`, which was the k-th from the top after k is popped.
     #[tactic(auto, unfolding(crate::specs::Rows::mindex_row))]
     pub fn mindex(&mut self) -> Result<(), StackFault>
-        ensures value { leaves result self.new ≡ mindex_row self.old }
-        ensures sizes { HasSizes self.old self.new }
+        ensures { Does mindex_row self.old self.new result }
     {
         let k = self.one()?;
         let index = self.index(k)?;
@@ -106,8 +97,7 @@ impl Store {
     /// 8A ROLL, ROLL the top three: `a b c -> b c a`.
     #[tactic(auto, unfolding(crate::specs::Rows::roll_row))]
     pub fn roll(&mut self) -> Result<(), StackFault>
-        ensures value { leaves result self.new ≡ roll_row self.old }
-        ensures sizes { HasSizes self.old self.new }
+        ensures { Does roll_row self.old self.new result }
     {
         let (a, b, c) = self.three()?;
         self.put(b);

@@ -3,11 +3,10 @@
 ghost use Rattle.std.specs.Prelude.{◌≡◌, ◌+◌, ◌*◌, ◌<◌, ◌≤◌, ◌^◌, [], ◌∷◌, ◌++◌, length, reverse, take, drop, replicate, pos, IfOk};
 ghost use Rattle.std.specs.Prelude.{OnOk, OnErr, Ok};
 ghost use Rattle.fx_fixed.specs.Chain.{map_ok};
-ghost use Rattle.fx_gstate.specs.States.{leaves};
 ghost use Rattle.fx_code.specs.Numbers.{numbers};
 ghost use Rattle.fx_stackops.specs.Table.{AreNumbers, read_of, written_of, stray_of};
 ghost use Rattle.fx_stackops.specs.Store.{one, two, two_from, three, index_of, element_of, moved_up, top_numbers};
-ghost use Rattle.fx_stackops.specs.Store.{pushed, with_stack, with_strays, HasSizes};
+ghost use Rattle.fx_stackops.specs.Store.{pushed, with_stack, with_strays, HasSizes, Does};
 ghost use Rattle.fx_stackops.specs.Store.{restarted, five, with_rest, with_rest_two, with_rest_three, with_rest_five};
 ghost use Rattle.fx_stackops.specs.Store.{delta_pairs, with_pairs};
 
@@ -170,16 +169,14 @@ impl Store {
     /// Pops numbers that are there.
     pub fn drop_top(&mut self, count: u32)
         requires { count ≤ length self.old.stack }
-        ensures value { self.new ≡ with_stack (drop count self.old.stack) self.old }
-        ensures sizes { HasSizes self.old self.new }
+        ensures { self.new ≡ with_stack (drop count self.old.stack) self.old }
     {
         self.depth -= count as usize;
     }
 
     /// Pops all numbers.
     pub fn drop_all(&mut self)
-        ensures value { self.new ≡ with_stack [] self.old }
-        ensures sizes { HasSizes self.old self.new }
+        ensures { self.new ≡ with_stack [] self.old }
     {
         self.depth = 0;
     }
@@ -218,8 +215,7 @@ impl Store {
     /// Moves the number below `index` others to the top.
     pub fn move_up(&mut self, index: usize)
         requires { index < length self.old.stack }
-        ensures value { self.new ≡ with_stack (moved_up index self.old.stack) self.old }
-        ensures sizes { HasSizes self.old self.new }
+        ensures { self.new ≡ with_stack (moved_up index self.old.stack) self.old }
     {
         self.cells.rotate(self.depth - 1 - index, self.depth);
     }
@@ -227,8 +223,7 @@ impl Store {
     /// Puts a number on the stack, which has room for it.
     pub fn put(&mut self, x: i32)
         requires { length self.old.stack + 1 ≤ self.old.room }
-        ensures value { self.new ≡ with_stack (x ∷ self.old.stack) self.old }
-        ensures sizes { HasSizes self.old self.new }
+        ensures { self.new ≡ with_stack (x ∷ self.old.stack) self.old }
     {
         self.cells.put(self.depth, x);
         self.depth += 1;
@@ -238,8 +233,7 @@ impl Store {
     #[tactic(auto, using(crate::proofs::Stacks::pushed_at))]
     pub(crate) fn put_all(&mut self, instr: &Instr<'_>)
         requires { length self.old.stack + length (numbers instr.now.opcode instr.now.pushed.now) ≤ self.old.room }
-        ensures value { self.new ≡ with_stack (reverse (numbers instr.now.opcode instr.now.pushed.now) ++ self.old.stack) self.old }
-        ensures sizes { HasSizes self.old self.new }
+        ensures { self.new ≡ with_stack (reverse (numbers instr.now.opcode instr.now.pushed.now) ++ self.old.stack) self.old }
     {
         self.cells.put_numbers(self.depth, instr);
         self.depth += instr.count();
@@ -248,9 +242,8 @@ impl Store {
     /// Puts a number on the stack, if there is room.
     #[tactic(auto, unfolding(crate::specs::Store::pushed))]
     pub fn push(&mut self, x: i32) -> Result<(), StackFault>
-        ensures value { leaves result self.new ≡ pushed x self.old }
+        ensures does { Does (pushed x) self.old self.new result }
         ensures kept { OnErr result (self.new ≡ self.old) }
-        ensures sizes { HasSizes self.old self.new }
     {
         if self.depth == self.cells.len() {
             return Err(StackFault::StackOver);
@@ -277,8 +270,7 @@ impl Store {
 
     /// Counts strays.
     pub fn add_strays(&mut self, count: u64)
-        ensures value { self.new ≡ with_strays count self.old }
-        ensures sizes { HasSizes self.old self.new }
+        ensures { self.new ≡ with_strays count self.old }
     {
         self.strays = self.strays.saturating_add(count);
     }

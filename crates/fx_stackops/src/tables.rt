@@ -1,8 +1,7 @@
 //! Instructions on the storage area and the control values.
 
 ghost use Rattle.std.specs.Prelude.{◌≡◌, ◌+◌, ◌*◌, ◌≤◌, length};
-ghost use Rattle.fx_gstate.specs.States.{leaves};
-ghost use Rattle.fx_stackops.specs.Store.{HasSizes};
+ghost use Rattle.fx_stackops.specs.Store.{HasSizes, Does};
 ghost use Rattle.fx_stackops.specs.Rows.{ws_row, rs_row, wcvtp_row, rcvt_row, with_control, moved_control, deltac_row};
 ghost use Rattle.fx_stackops.specs.inner.Pairs.{control_pair, control_pairs};
 
@@ -16,8 +15,7 @@ impl Store {
     #[inline(always)]
     #[tactic(auto, unfolding(crate::specs::Rows::ws_row))]
     pub fn ws(&mut self) -> Result<(), StackFault>
-        ensures value { leaves result self.new ≡ ws_row self.old }
-        ensures sizes { HasSizes self.old self.new }
+        ensures { Does ws_row self.old self.new result }
     {
         let (i, value) = self.two()?;
         let strays = self.storage().stray(i);
@@ -30,8 +28,7 @@ impl Store {
     #[inline(always)]
     #[tactic(auto, unfolding(crate::specs::Rows::rs_row))]
     pub fn rs(&mut self) -> Result<(), StackFault>
-        ensures value { leaves result self.new ≡ rs_row self.old }
-        ensures sizes { HasSizes self.old self.new }
+        ensures { Does rs_row self.old self.new result }
     {
         let i = self.one()?;
         let strays = self.storage().stray(i);
@@ -45,8 +42,7 @@ impl Store {
     #[inline(always)]
     #[tactic(auto, unfolding(crate::specs::Rows::wcvtp_row))]
     pub fn wcvtp(&mut self) -> Result<(), StackFault>
-        ensures value { leaves result self.new ≡ wcvtp_row self.old }
-        ensures sizes { HasSizes self.old self.new }
+        ensures { Does wcvtp_row self.old self.new result }
     {
         let (i, value) = self.two()?;
         self.set_control(i, value);
@@ -57,8 +53,7 @@ impl Store {
     #[inline(always)]
     #[tactic(auto, unfolding(crate::specs::Rows::rcvt_row))]
     pub fn rcvt(&mut self) -> Result<(), StackFault>
-        ensures value { leaves result self.new ≡ rcvt_row self.old }
-        ensures sizes { HasSizes self.old self.new }
+        ensures { Does rcvt_row self.old self.new result }
     {
         let i = self.one()?;
         let strays = self.control_stray(i);
@@ -72,8 +67,7 @@ impl Store {
     /// whose arguments act at this size.
     #[tactic(auto, unfolding(crate::specs::Rows::deltac_row, crate::specs::inner::Pairs::control_pairs))]
     pub fn deltac(&mut self, form: DeltaForm, g: &GState, ppem: Ppem) -> Result<(), StackFault>
-        ensures value { leaves result self.new ≡ deltac_row form g.now ppem self.old }
-        ensures sizes { HasSizes self.old self.new }
+        ensures { Does (deltac_row form g.now ppem) self.old self.new result }
     {
         let pairs = self.pairs()?;
         self.move_controls(form, g, ppem, pairs);

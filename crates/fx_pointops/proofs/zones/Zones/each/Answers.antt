@@ -10,12 +10,11 @@ points-preserved c =
     let fits : FitsSigned w32 (get_or c.args.points.now (c.points.left - 1) (pos 0)) = search rules in
     record {
       answer = loop_next (steps_of c.args.g.now c.args.step.now) c.args.points.now c.points.self c.step.new.self c.points.left
-          _ _ (omega arith) i.within (to_z-of_z fits) c.step.ensures.value i.answer;
+          _ _ (omega arith) i.within (to_z-of_z fits) c.step.ensures i.answer;
       within = omega arith;
-      shapes = search rules;
     }
 
-pub returns-clause-value : goal.returns-clause-value
-returns-clause-value c =
+pub returns : goal.returns
+returns c =
     loop_done (steps_of c.args.g.now c.args.step.now) c.args.points.now c.points.self c.points.left _ (omega arith)
     c.points.invariant.answer

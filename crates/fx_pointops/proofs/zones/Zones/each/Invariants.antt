@@ -1,5 +1,4 @@
 use Rattle.std.proofs.Common.{◌≡◌, ◌≤◌, length, take, reverse}
-use Rattle.fx_pointops.specs.Zones.{HasShapes}
 use Rattle.fx_pointops.specs.Loops.{each}
 use Rattle.fx_pointops.specs.inner.Steps.{steps_of}
 use Rattle.fx_pointops.proofs.zones.Zones.each.Given as goal
@@ -9,7 +8,6 @@ invariant-points l = record {
   answer : each (steps_of l.g l.step) (reverse l.points) l.fn.self
       ≡ each (steps_of l.g l.step) (reverse (take l.left l.points)) l.self;
   within : l.left ≤ length l.points;
-  shapes : HasShapes l.fn.self l.self;
 }
 
 abbrev pub decreases-points : goal.decreases-points

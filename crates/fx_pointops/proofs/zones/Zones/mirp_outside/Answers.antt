@@ -1,15 +1,12 @@
 use Rattle.std.proofs.Common.{to_z-of_z, rules}
-use Rattle.fx_pointops.proofs.Setting.{set_is, written_shapes}
+use Rattle.fx_pointops.proofs.Setting.{set_is}
 use Rattle.fx_pointops.specs.inner.Controlled.{mirp_outside_of}
 use Rattle.fx_pointops.specs.ShiftPoint.{moved_by}
 use Rattle.fx_pointops.proofs.zones.Zones.mirp_outside.Goals as goal
 
-pub returns-clause-value : goal.returns-clause-value
+pub returns : goal.returns
 unfolding mirp_outside_of
-returns-clause-value c =
+returns c =
     let moved = set_is (moved_by c.args.g.now c.minus-3.result) _ _ _ _ _ _ (to_z-of_z c.ranges.p)
     c.in-Some-point_mut.ensures.value c.move_point.ensures in
     rw moved (search rules)
-
-pub returns-clause-shapes : goal.returns-clause-shapes
-returns-clause-shapes c = written_shapes _ _ _ _

@@ -12,12 +12,11 @@ pairs-preserved c =
     record {
       answer = pairs_next (point_delta c.args.g.now c.args.form c.args.ppem.now) c.args.pairs.now c.pairs.self
           c.move_at_size.new.self c.pairs.left _ _ _ (omega arith) i.within (to_z-of_z p) (to_z-of_z a)
-          c.move_at_size.ensures.value i.answer;
+          c.move_at_size.ensures i.answer;
       within = omega (arith, i.within);
-      shapes = search rules;
     }
 
-pub returns-clause-value : goal.returns-clause-value
-returns-clause-value c =
+pub returns : goal.returns
+returns c =
     pairs_done (point_delta c.args.g.now c.args.form c.args.ppem.now) c.args.pairs.now c.pairs.self c.pairs.left _
     (omega arith) c.pairs.invariant.within c.pairs.invariant.answer

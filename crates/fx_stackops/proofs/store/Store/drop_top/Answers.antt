@@ -3,8 +3,8 @@ use Rattle.std.proofs.lemmas.List.{length-reverse, length-take-le}
 use Rattle.fx_stackops.proofs.Stacks.{dropped_at}
 use Rattle.fx_stackops.proofs.store.Store.drop_top.Goals as goal
 
-pub returns-clause-value : goal.returns-clause-value
-returns-clause-value c =
+pub returns : goal.returns
+returns c =
     let used : c.self.inside.depth ≤ length c.self.inside.cells = c.self.invariant.0 in
     let enough = rw (← c.self.view_is) at c.requires in
     let there : c.args.count ≤ c.self.inside.depth =

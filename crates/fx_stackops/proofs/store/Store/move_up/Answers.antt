@@ -4,8 +4,8 @@ use Rattle.fx_stackops.specs.Table.{rotated_of}
 use Rattle.fx_stackops.proofs.Stacks.{moved_at}
 use Rattle.fx_stackops.proofs.store.Store.move_up.Goals as goal
 
-pub returns-clause-value : goal.returns-clause-value
-returns-clause-value c =
+pub returns : goal.returns
+returns c =
     let used : c.self.inside.depth ≤ length c.self.inside.cells = c.self.invariant.0 in
     let enough = rw (← c.self.view_is) at c.requires in
     let there : c.args.index < c.self.inside.depth =

@@ -1,9 +1,0 @@
-use Rattle.std.proofs.Common.{to_z-of_z}
-use Rattle.fx_pointops.proofs.Setting.{set_is, written_shapes}
-use Rattle.fx_pointops.proofs.zones.Zones.move_by.Goals as goal
-
-pub returns-in-Some-clause-value : goal.returns-in-Some-clause-value
-returns-in-Some-clause-value c = set_is _ _ _ _ _ _ _ (to_z-of_z c.ranges.p) c.in-Some.ensures.value c.move_point.ensures
-
-pub returns-in-Some-clause-shapes : goal.returns-in-Some-clause-shapes
-returns-in-Some-clause-shapes c = written_shapes _ _ _ _

@@ -1,9 +1,0 @@
-use Rattle.std.proofs.Common.{to_z-of_z}
-use Rattle.fx_pointops.proofs.Setting.{point_is, written_shapes}
-use Rattle.fx_pointops.proofs.zones.Zones.put_point.Goals as goal
-
-pub returns-clause-value : goal.returns-clause-value
-returns-clause-value c = point_is _ _ _ _ _ _ _ (to_z-of_z c.ranges.p) c.in-Some.ensures.value c.put.ensures
-
-pub returns-clause-shapes : goal.returns-clause-shapes
-returns-clause-shapes c = written_shapes _ _ _ _
