@@ -30,7 +30,8 @@ mkstrike make writes a strike: the bitmaps of characters at one size.
                               (drawn without hinting if its program halts, else left out)
       --missing               name all missing characters on standard error, not the first alone
       --unhinted              do not run the font's own programs
-      --dropout[=WHAT]        keep thin strokes whole, by left pixels (left, the default) or by nearer ones (near)
+      --dropout[=WHAT]        keep thin strokes whole, by left pixels (left, the default), by nearer ones (near), or as the font
+                              asks (font)
       --face N                the font of a collection, counted from 0; without it the first
       --hex                   the font is hexadecimal text
       -o FILE                 write to FILE, which is there only if all was done; else to standard output
@@ -50,7 +51,8 @@ mkstrike show writes the picture of one glyph.
       --char HEX          the glyph of a character, one hexadecimal number; the letter A is 41
       --glyph G           a glyph by its number in the font, counted from 0, in place of --char
       --unhinted          do not run the font's own programs
-      --dropout[=WHAT]    keep thin strokes whole, by left pixels (left, the default) or by nearer ones (near)
+      --dropout[=WHAT]    keep thin strokes whole, by left pixels (left, the default), by nearer ones (near), or as the font asks
+                          (font)
       --face N            the font of a collection, counted from 0; without it the first
       --hex               the font is hexadecimal text
       -o FILE             write to FILE, which is there only if all was done; else to standard output

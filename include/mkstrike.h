@@ -103,13 +103,15 @@ enum {
 
 /* A mode: 0, or a sum of these. Hinted, the font's programs run. With drop-out control thin strokes stay whole: if the outline passes
  * between the centres of two neighbours in a row or a column and neither is set, the left one, or the lower one, is; with
- * MKSTRIKE_DROPOUT_NEAR in place of MKSTRIKE_DROPOUT the one to which the outline is nearer is. Packed, a pixel is
- * a bit, the leftmost the highest of its byte, and a row takes whole bytes, the last filled up with 0; not packed, a pixel is a byte, 255
- * if it is set and 0 if not. All other bits, both bits of drop-out control together, and MKSTRIKE_PACKED for mkstrike_make are refused by
- * MKSTRIKE_BAD_MODE, before all else. */
+ * MKSTRIKE_DROPOUT_NEAR in place of MKSTRIKE_DROPOUT the one to which the outline is nearer is. With MKSTRIKE_DROPOUT_FONT each glyph has
+ * the one that its font's programs ask for, or no drop-out control if they turn it off; unhinted, or if they ask for nothing, it is as with
+ * MKSTRIKE_DROPOUT. Packed, a pixel is a bit, the leftmost the highest of its byte, and a row takes whole bytes, the last filled up with 0;
+ * not packed, a pixel is a byte, 255 if it is set and 0 if not. All other bits, two bits of drop-out control together, and MKSTRIKE_PACKED
+ * for mkstrike_make are refused by MKSTRIKE_BAD_MODE, before all else. */
 #define MKSTRIKE_HINTED UINT32_C(0x001)
 #define MKSTRIKE_DROPOUT UINT32_C(0x002)
 #define MKSTRIKE_DROPOUT_NEAR UINT32_C(0x004)
+#define MKSTRIKE_DROPOUT_FONT UINT32_C(0x008)
 #define MKSTRIKE_PACKED UINT32_C(0x100)
 
 /* In a refusal: no glyph, no program, no character; the font's two programs that belong to no glyph. */
@@ -232,8 +234,8 @@ uint32_t mkstrike_glyphs(const uint8_t *font, size_t font_len, uint32_t face, ui
  * most of the time of a single glyph. A block has what they left; a call by it gives the same answer, and runs neither. The words are yours:
  * copy them, share them between threads, keep them in ROM. They hold no pointer, and nothing has to be closed.
  *
- * A block is for one font, face and size, and for hinted calls or for unhinted ones; MKSTRIKE_DROPOUT and MKSTRIKE_PACKED may differ from
- * those of mkstrike_prepare. Any other words are refused by MKSTRIKE_BAD_BLOCK, as far as words can tell: a block has the face, the size,
+ * A block is for one font, face and size, and for hinted calls or for unhinted ones; the bits of drop-out control and MKSTRIKE_PACKED may differ
+ * from those of mkstrike_prepare. Any other words are refused by MKSTRIKE_BAD_BLOCK, as far as words can tell: a block has the face, the size,
  * the length of the file and, hinted, the checksum that the font has in `head` and the lengths of `fpgm` and `prep`. Reading words is safe,
  * whatever they are. Unhinted, a block has 6 words and saves nothing; so one piece of code can serve both. */
 

@@ -4,8 +4,10 @@ import random
 
 import due
 import fonts
+import instructions as ins
 from due import Counted, listed, usage
 from cases_of_programs import NOTHING
+from instructions import Code
 from made import Composite, Curved, Empty, Font, Simple, list_of, square
 from runs import Run
 from strikes import A, B, MODES
@@ -120,7 +122,7 @@ def random_outlines():
             around = Font([Empty()], {}, upem=UNIT)
             glyphs = [glyph for glyph in made if is_bent(around, glyph, ppem)]
             font = unmoved([Empty(), *glyphs], {A + k: 1 + k for k in range(len(glyphs))})
-            for more, closed in (("--dropout", True), ("--dropout=near", "near"), ("", False)):
+            for more, closed in (("--dropout", True), ("--dropout=near", "near"), ("--dropout=font", "font"), ("", False)):
                 yield Run("seed %d at %d %s" % (seed, ppem, more), asked(ppem, font.codes, False, more), font.data(),
                           font.make(font.codes, ppem, False, closed=closed))
 
@@ -134,6 +136,52 @@ def composites_with_dropout():
         for hinted, mode in MODES:
             yield Run("composites at %d, %s" % (ppem, mode), asked(ppem, font.codes, hinted), font.data(),
                       font.make(font.codes, ppem, hinted, closed=True))
+
+
+# ---- as the font asks ----
+
+# Words of SCANCTRL: at all sizes; up to 16 pixels an em, and off above; at none.
+ALWAYS, UP_TO_16, NEVER = 0x01FF, 0x0910, 0
+
+# A word and a type of SCANTYPE, a size, and what a program asks for that executes both, without a `prep` and after one of type 4.
+PROGRAMS = [(ALWAYS, kind, PPEM, asks, asks) for kind, asks in enumerate(("left", "left", "off", "off", "near", "near", "off", "off", "off"))] + [
+    (UP_TO_16, 4, 16, "near", "near"), (UP_TO_16, 4, 17, "off", "off"), (NEVER, 4, PPEM, "off", "off"), (ALWAYS, None, PPEM, "left", "near"),
+    (ALWAYS, 9, PPEM, "left", "near"), (None, 0, PPEM, None, "left"), (None, 2, PPEM, None, "off"), (None, None, PPEM, None, None)]
+
+
+def asking(word, kind):
+    """A program that executes SCANCTRL with a word and SCANTYPE with a type, those that are given."""
+    code = Code()
+    for number, opcode in ((word, ins.SCANCTRL), (kind, ins.SCANTYPE)):
+        if number is not None:
+            code.push(number).do(opcode)
+    return code
+
+
+def with_asks(model, asks):
+    """The model, whose program asks for this."""
+    model.asks = asks
+    return model
+
+
+def stems(code=None):
+    """A bar, and thin stems on it, each between the centres of two columns: nearer to the left one, and to the right one."""
+    return Simple([(0, 0, 640, 80), (100, 0, 108, 640), (210, 0, 218, 640)], code=code)
+
+
+def as_the_font_asks():
+    """What a glyph's own program asks for, or else `prep`: not that of a component or of a glyph before it. With hinting off nothing is
+    asked for."""
+    for word, kind, ppem, *both in PROGRAMS:
+        for asks, prep, of_prep in ((both[0], None, None), (both[1], asking(ALWAYS, 4), "near")):
+            own, left = asking(word, kind), asking(ALWAYS, 0)
+            glyphs = [Empty(), stems(), with_asks(stems(own), asks), Composite([(2, 0, 0)]), with_asks(Composite([(2, 9, 0)], left), "left"),
+                      with_asks(Composite([(1, 9, 0)], own), asks), with_asks(stems(left), "left")]
+            font = Font(glyphs, {A + k: 1 + k for k in range(6)}, upem=UNIT * ppem // PPEM, stack=9, prep=prep)
+            font.asks = of_prep
+            for hinted, mode in MODES:
+                name = "SCANCTRL %s, SCANTYPE %s at %d, %s `prep`, %s" % (word, kind, ppem, "with a" if prep else "without a", mode)
+                yield Run(name, asked(ppem, font.codes, hinted, "--dropout=font"), font.data(), font.make(font.codes, ppem, hinted, closed="font"))
 
 
 # ---- the option ----
@@ -155,7 +203,10 @@ def words_with_dropout():
             ("make --ppem 16 --chars 41 --dropout --dropout", data, usage()),
             ("make --ppem 16 --chars 41 --dropout=near --dropout", data, usage()),
             ("make --ppem 16 --chars 41 --dropout=1", data, usage()), ("make --ppem 16 --chars 41 --dropout=", data, usage()),
-            ("make --ppem 16 --chars 41 --dropout font", data, usage()), ("dump --of 1 --dropout", data, usage()),
+            ("make --ppem 16 --chars 41 --dropout=font", data, made), ("make --ppem 16 --chars 41 --dropout font", data, made),
+            ("show --ppem 16 --char 41 --dropout=font", data, listed(["#" * 16])),
+            ("make --ppem 16 --chars 41 --dropout=fonts", data, usage()), ("make --ppem 16 --chars 41 --dropout=Font", data, usage()),
+            ("make --ppem 16 --chars 41 --dropout=left,font", data, usage()), ("dump --of 1 --dropout", data, usage()),
             ("make --ppem 16 --chars 41 --drop-out", data, usage())):
         yield Run(words or "on the first line", words, given, answer)
 
@@ -227,4 +278,4 @@ def distances_with_dropout():
 
 
 CASES = [random_outlines, dropout_by_hand, sizes_with_dropout, long_hairlines, many_hairlines, shapes_in_bounded_time,
-         distances_with_dropout, composites_with_dropout, words_with_dropout]
+         distances_with_dropout, composites_with_dropout, as_the_font_asks, words_with_dropout]

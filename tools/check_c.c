@@ -572,7 +572,7 @@ static int requests(struct request *r) {
     if (many_of(r, &it) != MKSTRIKE_BAD_CHARS) stop("too many characters, and no font");
     r->ppem = 0;
     if (many_of(r, &it) != MKSTRIKE_BAD_SIZE) stop("no size");
-    r->mode = 8;
+    r->mode = 16;
     if (many_of(r, &it) != MKSTRIKE_BAD_MODE) stop("no mode");
     r->mode = 0;
     r->ppem = 16;
@@ -591,7 +591,7 @@ static int requests(struct request *r) {
 
 /* ---- the other calls */
 
-/* Each bit that is no mode, and both of drop-out control, are refused by each call that takes a mode, whatever else is wrong, and nothing else is written. */
+/* Each bit that is no mode, and two of drop-out control, are refused by each call that takes a mode, whatever else is wrong, and nothing else is written. */
 static void modes(const struct request *r) {
     struct mkstrike_refused refused, due;
     int bit, call;
@@ -611,8 +611,12 @@ static void modes(const struct request *r) {
             else status = mkstrike_outline(r->font, 0, 0, 0, mode, 0, NULL, 0, NULL, 0, NULL, &refused);
             if (status != MKSTRIKE_BAD_MODE || memcmp(&refused, &due, sizeof due) != 0) stop("a bit of a mode that is not refused");
         }
-    if (mkstrike_glyph(r->font, 0, 0, 0, MKSTRIKE_DROPOUT | MKSTRIKE_DROPOUT_NEAR, 0, NULL, 0, NULL, NULL) != MKSTRIKE_BAD_MODE)
-        stop("both bits of drop-out control");
+    for (call = 0; call < 4; call++) {
+        static const uint32_t several[] = {MKSTRIKE_DROPOUT | MKSTRIKE_DROPOUT_NEAR, MKSTRIKE_DROPOUT | MKSTRIKE_DROPOUT_FONT,
+            MKSTRIKE_DROPOUT_NEAR | MKSTRIKE_DROPOUT_FONT, MKSTRIKE_DROPOUT | MKSTRIKE_DROPOUT_NEAR | MKSTRIKE_DROPOUT_FONT};
+        if (mkstrike_glyph(r->font, 0, 0, 0, several[call], 0, NULL, 0, NULL, NULL) != MKSTRIKE_BAD_MODE)
+            stop("several bits of drop-out control");
+    }
 }
 
 /* The numbers of glyphs: each character's, as many as fit; and what is refused. */

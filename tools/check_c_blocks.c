@@ -299,7 +299,7 @@ static int refused(const struct font *font, uint16_t ppem, const struct font *an
             mkstrike_glyph_prepared(font->bytes, font->len, 0, ppem, 8, NULL, 0, 'g', NULL, 0, NULL, NULL) != MKSTRIKE_BAD_MODE)
             stop("no block");
         if (mkstrike_prepare(font->bytes, font->len, 0, 0, mode, NULL, 0, &need, &why) != MKSTRIKE_BAD_SIZE || need != 7 ||
-            mkstrike_prepare(font->bytes, font->len, 0, 16, mode | 8, NULL, 0, &need, &why) != MKSTRIKE_BAD_MODE || need != 7 ||
+            mkstrike_prepare(font->bytes, font->len, 0, 16, mode | 16, NULL, 0, &need, &why) != MKSTRIKE_BAD_MODE || need != 7 ||
             mkstrike_prepare(font->bytes, 0, 0, 16, mode, NULL, 0, &need, &why) != MKSTRIKE_NOT_TRUE_TYPE || need != 7 ||
             mkstrike_prepare(font->bytes, font->len, 0, 16, mode, NULL, 0, NULL, NULL) != 0)
             stop("a block that can't be made");

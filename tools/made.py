@@ -6,9 +6,13 @@ import due
 import fonts
 
 
+# What drop-out control does if a program asks for this, or nothing asks for any.
+ASKED = {None: True, "off": False, "left": True, "near": "near"}
+
+
 class Empty:
-    """A glyph without bytes."""
-    x_min, code = 0, None
+    """A glyph without bytes. What its program asks of drop-out control is in `asks`, one of ASKED."""
+    x_min, code, asks = 0, None, None
 
     def data(self):
         """The glyph's bytes."""
@@ -116,7 +120,9 @@ class Font:
     """A font of models of glyphs. `codes` is a dict from code points to glyph numbers, or one number for all to FFFF.
 
     `fpgm` and `prep` are programs, `cvt` is bytes, and the numbers are those of `maxp`. `metrics` are pairs of an advance and a
-    left side bearing, one for each glyph; else each has the font's advance, and the bearing 0."""
+    left side bearing, one for each glyph; else each has the font's advance, and the bearing 0. What `prep` asks of drop-out control
+    is in `asks`, one of ASKED."""
+    asks = None
 
     def __init__(self, glyphs, codes, upem=1000, fpgm=None, prep=None, cvt=None, wide=False, metrics=None, **numbers):
         self.glyphs, self.codes, self.upem, self.fpgm, self.prep = glyphs, codes, upem, fpgm, prep
@@ -155,7 +161,8 @@ class Font:
         return self.counts_of_model(self.glyphs[number])
 
     def glyph(self, number, ppem, hinted, closed=False):
-        """A glyph at a size as the text has it; `closed` says whether with drop-out control, and "near" by the nearer pixels."""
+        """A glyph at a size as the text has it; `closed` says whether with drop-out control, "near" by the nearer pixels, and "font" as
+        its program asks, or else `prep`."""
         advance, bearing = self.metrics_of(number)
         return self.glyph_of_model(self.glyphs[number], ppem, hinted, closed, advance, bearing)
 
@@ -173,6 +180,7 @@ class Font:
         """The same of a glyph's model, advance and left side bearing."""
         start, end = self.span(model, ppem, hinted, advance, bearing)
         steps, strays = self.counts_of_model(model) if hinted else (0, 0)
+        closed = ASKED[hinted and (model.asks or self.asks) or None] if closed == "font" else closed
         bits = model.closed_bits(self, ppem, -start, closed == "near") if closed else model.bits(self, ppem, hinted, -start)
         return due.Glyph(bits, advance, end - start, steps, strays)
 

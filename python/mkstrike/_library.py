@@ -18,7 +18,7 @@ FILE, SONAME = "libmkstrike.so", "libmkstrike.so.1"  # beside this module, and o
 ABI = 1  # the form of structs and calls that is declared here: MKSTRIKE_ABI
 DONE, MISSING = 0, 1  # what a call returns, beside the numbers of refusals
 BAD_PROPERTY = 63  # no call gives it: properties are added here
-HINTED, DROPOUT = 1, {False: 0, True: 2, "left": 2, "near": 4}  # the bits of a mode
+HINTED, DROPOUT = 1, {False: 0, True: 2, "left": 2, "near": 4, "font": 8}  # the bits of a mode
 NONE = 0xFFFFFFFF  # in a refusal: no glyph, no program, no character
 PROGRAMS = {0x10000: "fpgm", 0x10001: "prep"}  # the programs that belong to no glyph
 MOST_SIZE, MOST_CODE, MOST_FACE, MOST_CHARS = 1024, 0x10FFFF, 0xFFFFFFFF, 0x10000
@@ -110,7 +110,7 @@ def _codes(codes: Sequence[int]) -> array[int]:
 def mode_of(hinted: bool, dropout: bool | str) -> int:
     """The mode of the library."""
     if dropout not in DROPOUT:
-        raise ValueError("dropout is False, True, 'left' or 'near', not %r" % (dropout,))
+        raise ValueError("dropout is False, True, 'left', 'near' or 'font', not %r" % (dropout,))
     return (HINTED if hinted else 0) | DROPOUT[dropout]
 
 

@@ -77,6 +77,7 @@ def parser() -> argparse.ArgumentParser:
     add("--unhinted", action="store_true", help="do not run the font's own programs")
     add("--dropout", action="store_true", help="keep thin strokes whole, by the left or the lower pixel")
     add("--dropout-near", action="store_const", dest="dropout", const="near", help="keep thin strokes whole, by the nearer pixel")
+    add("--dropout-font", action="store_const", dest="dropout", const="font", help="keep thin strokes whole, as the font asks")
     add("--cell", metavar="WxH", help="one advance for all, in cells of W x H pixels; glyphs that leave the cell are named")
     add("--ascent", type=int, metavar="N", help="with --cell: the rows above the baseline")
     add("--clip", action="store_true", help="with --cell: glyphs lose the pixels outside it")

@@ -35,7 +35,7 @@ class Font:
         """Makes a strike of characters at a size in pixels per em.
 
         `chars` and `text` say which: see `characters`. With `hinted` the font's own programs run, with `dropout` thin strokes stay whole:
-        `True` or `"left"` sets the left or the lower pixel beside them, `"near"` the nearer one.
+        `True` or `"left"` sets the left or the lower pixel beside them, `"near"` the nearer one, and `"font"` what the font asks for.
         `name`, `x11` and `properties` are what `mkstrike make` calls `--name`, `--x11` and `--property`.
 
         What the font lacks is in `missing` of the strike. A character that is refused is in `refused`, and the others are made; with

@@ -55,7 +55,7 @@ def program(words, font):
 
 def flags(hinted, dropout):
     """The flags of the program for a mode."""
-    return ([] if hinted else ["--unhinted"]) + (["--dropout=near"] if dropout == "near" else ["--dropout"] if dropout else [])
+    return ([] if hinted else ["--unhinted"]) + (["--dropout=" + dropout] if dropout in ("near", "font") else ["--dropout"] if dropout else [])
 
 
 def text_of(words, font):
@@ -74,8 +74,9 @@ def font_bytes(path):
 def words_of(run):
     """The options of a request of the repository's cases, or None if it is no plain strike."""
     words = run.words.split() if isinstance(run.words, str) else list(run.words)
-    found = re.fullmatch(r"make --ppem (\d+) --chars ([0-9a-f,-]+)((?: --unhinted| --dropout(?:=near)?)*)", " ".join(words))
-    return found and (int(found.group(1)), found.group(2), "--unhinted" not in words, "near" if "--dropout=near" in words else "--dropout" in words)
+    found = re.fullmatch(r"make --ppem (\d+) --chars ([0-9a-f,-]+)((?: --unhinted| --dropout(?:=near|=font)?)*)", " ".join(words))
+    named = [name for name in ("near", "font") if "--dropout=" + name in words]
+    return found and (int(found.group(1)), found.group(2), "--unhinted" not in words, named[0] if named else "--dropout" in words)
 
 
 def pixels(glyph):

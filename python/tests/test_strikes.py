@@ -7,7 +7,7 @@ from conftest import CANDIDATES, LIBERATION, MONO, SANS, flags, font_bytes, need
 
 import mkstrike
 
-MODES = [(hinted, dropout) for hinted in (True, False) for dropout in (False, True, "near")]
+MODES = [(hinted, dropout) for hinted in (True, False) for dropout in (False, True, "near", "font")]
 SOME = "20-7e,a0-ff,2500-251f"
 FONTS = [it for it in CANDIDATES if os.path.exists(it)][:20]
 

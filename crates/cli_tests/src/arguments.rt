@@ -8,7 +8,7 @@ use std::process::Abort;
 use std::test::Fail;
 
 /// Arguments that are valid, of size 0 or 1025.
-const VALID: [&str; 22] = [
+const VALID: [&str; 23] = [
     "mkstrike|make|--ppem|0|--chars|41",
     "mkstrike|make|--chars=41|--ppem=0",
     "mkstrike|make|--hex|--name=a b|--unhinted|--chars|20,41-42|--ppem|00000000",
@@ -19,6 +19,7 @@ const VALID: [&str; 22] = [
     "mkstrike|make|--ppem|0|--chars|41|--name=-misc-fixed-medium-r-normal--16-160-72-72-c-80-iso10646-1",
     "mkstrike|make|--dropout|--ppem|0|--unhinted|--chars|41",
     "mkstrike|make|--dropout=near|--ppem|0|--unhinted|--chars|41",
+    "mkstrike|make|--ppem|0|--chars|41|--dropout|font",
     "mkstrike|make|--ppem|0|--refused|stop|--chars|41",
     "mkstrike|make|--ppem|0|--refused=leave-out|--chars|41|--unhinted",
     "mkstrike|make|--refused|unhinted|--ppem|0|--chars|41",
@@ -34,7 +35,7 @@ const VALID: [&str; 22] = [
 ];
 
 /// Arguments that are not valid.
-const NOT_VALID: [&str; 87] = [
+const NOT_VALID: [&str; 88] = [
     "mkstrike|",
     "mkstrike|make",
     "mkstrike|make|--ppem|0",
@@ -94,6 +95,7 @@ const NOT_VALID: [&str; 87] = [
     "mkstrike|make|--ppem|0|--chars|41|--dropout=3",
     "mkstrike|make|--ppem|0|--chars|41|--dropout=",
     "mkstrike|make|--ppem|0|--chars|41|--dropout=Near",
+    "mkstrike|make|--ppem|0|--chars|41|--dropout=fonts",
     "mkstrike|make|--ppem|0|--chars|41|--dropout|3",
     "mkstrike|make|--ppem|0|--chars|41|--refused",
     "mkstrike|make|--ppem|0|--chars|41|--refused|",

@@ -17,7 +17,7 @@ use Rattle.fx_machine.specs.declared.program.FontProgram.TheVariants.{Fpgm, Prep
 use Rattle.fx_request.specs.declared.request.Choice.{Choice}
 use Rattle.fx_request.specs.declared.request.Choice.TheVariants.{Character, Number}
 use Rattle.fx_request.specs.declared.request.Dropout.{Dropout}
-use Rattle.fx_request.specs.declared.request.Dropout.TheVariants.{Off, Left, Near}
+use Rattle.fx_request.specs.declared.request.Dropout.TheVariants.{Off, Left, Near, Font}
 use Rattle.fx_request.specs.declared.request.Mode.{Mode}
 use Rattle.fx_request.specs.declared.request.OnRefused.{OnRefused}
 use Rattle.fx_request.specs.declared.request.OnRefused.TheVariants.{Stop, LeaveOut, Unhinted}
@@ -113,7 +113,9 @@ is_given id rows = is_true (first_of id rows)
 
 -- which pixels drop-out control sets, by its name
 abbrev pub named_dropout : Text → Option Dropout
-named_dropout text = if bytes_eq text (codes "left") then Some Left else (if bytes_eq text (codes "near") then Some Near else None)
+named_dropout text =
+    if bytes_eq text (codes "left") then Some Left else (if bytes_eq text (codes "near") then Some Near
+    else (if bytes_eq text (codes "font") then Some Font else None))
 
 -- drop-out control is off unless `--dropout` was given
 abbrev pub dropout_by : Option Text → Result Dropout Fault

@@ -60,7 +60,7 @@ refused_checked (Some text) = taken_if (is_some (named_refused text)) (codes "re
 -- which pixels drop-out control sets, if it is given
 abbrev pub dropout_checked : Option Text → Result (Unit {0}) Text
 dropout_checked None = Ok tt
-dropout_checked (Some text) = taken_if (is_some (named_dropout text)) (codes "dropout") (codes "left or near") text
+dropout_checked (Some text) = taken_if (is_some (named_dropout text)) (codes "dropout") (codes "left, near or font") text
 
 -- properties, each KEY=VALUE
 unfoldable pub properties_checked : List Text → Result (Unit {0}) Text

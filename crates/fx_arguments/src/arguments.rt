@@ -126,6 +126,7 @@ pub(crate) fn named_dropout(name: &str) -> Option<Dropout>
     match name {
         "left" => Some(Dropout::Left),
         "near" => Some(Dropout::Near),
+        "font" => Some(Dropout::Font),
         _ => None,
     }
 }

@@ -412,7 +412,7 @@ fn dropout_checked(alloc: Global, given: Option<&str>) -> Result<(), Said>
 {
     match given {
         Some(text) => {
-            let kind = "left or near";
+            let kind = "left, near or font";
             taken_if(alloc, named_dropout(text).is_some(), "dropout", kind, text)
         }
         None => Ok(()),

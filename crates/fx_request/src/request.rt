@@ -13,6 +13,8 @@ pub enum Dropout {
     Left,
     /// The one to which the stroke is nearer; the left or the lower one if it is as near to both (rule 5).
     Near,
+    /// As the font's programs ask for each glyph: none, the left one or the nearer one; the left one if they ask for nothing.
+    Font,
 }
 
 /// How outlines become pixels: whether the font's programs run, and whether drop-out control keeps thin strokes whole.

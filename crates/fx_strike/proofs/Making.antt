@@ -18,7 +18,7 @@ use Rattle.fx_bdf.specs.Glyphs.{Box, bounds_of}
 use Rattle.fx_bdf.specs.declared.summary.Summary.{Summary}
 use Rattle.fx_request.specs.declared.refusal.Refusal.{Refusal}
 use Rattle.fx_request.specs.declared.refusal.Refusal.TheVariants.{WriteFailed, ReadFailed, BadHex, InputTooLarge, OutOfMemory}
-use Rattle.fx_raster.specs.declared.rule.Rule.{Rule}
+use Rattle.fx_request.specs.declared.request.Dropout.{Dropout}
 use Rattle.fx_strike.specs.declared.opened.Opened.{Opened}
 use Rattle.fx_strike.specs.declared.seen.Seen.{Seen}
 use Rattle.fx_request.specs.declared.request.Report.{Report}
@@ -56,12 +56,12 @@ unseen setting title chars codes refused d c f =
 counted_on : (before after total : ℕ) → after ≡ counted total → counted (before + after) ≡ counted (before + total)
 counted_on before after total h = omega arith
 
-surveyed_here : (opened : Opened) (rule : Rule) (machine : Option Known) (title : Title) (chars : List ℕ) (refused : OnRefused)
-    (seen : Seen) → Holds (setting_with opened rule machine) refused (rising chars) seen
-    → Surveyed (plan_with (setting_with opened rule machine) title chars refused)
+surveyed_here : (opened : Opened) (dropout : Dropout) (machine : Option Known) (title : Title) (chars : List ℕ)
+    (refused : OnRefused) (seen : Seen) → Holds (setting_with opened dropout machine) refused (rising chars) seen
+    → Surveyed (plan_with (setting_with opened dropout machine) title chars refused)
     (survey_from (prelude_by machine) opened seen (summary_with seen.gathered seen.report.glyphs))
 unfolding plan_with
-surveyed_here opened rule machine title chars refused seen g =
+surveyed_here opened dropout machine title chars refused seen g =
     let heading : Box → ℕ → Header = λ b n. record {
       ppem = opened.ppem;
       bounds = b;
@@ -70,7 +70,7 @@ surveyed_here opened rule machine title chars refused seen g =
       glyphs = n;
     } in
     record {
-      plan = plan_from (setting_with opened rule machine) title chars g.fates;
+      plan = plan_from (setting_with opened dropout machine) title chars g.fates;
       glyphs = g.glyphs;
       is = rw g.planned;
       drawn = g.drawn;
@@ -88,13 +88,13 @@ surveyed_here opened rule machine title chars refused seen g =
       };
     }
 
-pub surveyed : (opened : Opened) (rule : Rule) (machine : Option Known) (prelude : Usage) (title : Title)
+pub surveyed : (opened : Opened) (dropout : Dropout) (machine : Option Known) (prelude : Usage) (title : Title)
     (chars codes : List ℕ) (refused : OnRefused) (seen : Seen) (summary : Summary) (survey : Survey)
-    → prelude ≡ prelude_by machine → codes ≡ rising chars → Holds (setting_with opened rule machine) refused codes seen
+    → prelude ≡ prelude_by machine → codes ≡ rising chars → Holds (setting_with opened dropout machine) refused codes seen
     → summary ≡ summary_with seen.gathered seen.report.glyphs → survey ≡ survey_from prelude opened seen summary
-    → Surveyed (plan_with (setting_with opened rule machine) title chars refused) survey
-surveyed opened rule machine prelude title chars codes refused seen summary survey n c g m e =
-    rw (e, n, m) (surveyed_here opened rule machine title chars refused seen (rw c at g))
+    → Surveyed (plan_with (setting_with opened dropout machine) title chars refused) survey
+surveyed opened dropout machine prelude title chars codes refused seen summary survey n c g m e =
+    rw (e, n, m) (surveyed_here opened dropout machine title chars refused seen (rw c at g))
 
 -- ---- refusals that are due
 

@@ -22,7 +22,9 @@ use Rattle.fx_raster.specs.declared.rule.Rule.{Rule}
 use Rattle.fx_raster.specs.declared.rule.Closing.TheVariants.{Lower, Nearer}
 use Rattle.fx_raster.specs.declared.rule.Rule.TheVariants.{Centres, Bridged}
 use Rattle.fx_request.specs.declared.request.Dropout.{Dropout}
-use Rattle.fx_request.specs.declared.request.Dropout.TheVariants.{Off, Left, Near}
+use Rattle.fx_request.specs.declared.request.Dropout.TheVariants.{Off, Left, Near, Font}
+use Rattle.fx_gstate.specs.declared.scan.Dropout as asked
+use Rattle.fx_gstate.specs.declared.scan.Dropout.TheVariants as wish
 use Rattle.fx_raster.specs.Rules.{ShapeView, IsPixelSet, shape_of}
 use Rattle.fx_bdf.specs.declared.header.Header.{Header}
 use Rattle.fx_bdf.specs.Glyphs.{Glyph, IsTight, IsFormed, glyph_bit, bounds_of}
@@ -49,28 +51,36 @@ unfoldable pub machine_for : Face → ℕ → Bool → Result (Option Known) Ref
 machine_for face ppem false = Ok None
 machine_for face ppem true = map_ok Some (map_fault of_machine (machine_of face ppem))
 
--- all that a character's glyph depends on but its code point: a font, its character map, a size, which pixels an outline sets, and
--- the machine; and nothing that was made before
+-- all that a character's glyph depends on but its code point: a font, its character map, a size, drop-out control, and the machine;
+-- and nothing that was made before
 pub record Setting : Type 0 where
   pub font : Face
   pub map : Mapping
   pub ppem : ℕ
-  pub rule : Rule
+  pub dropout : Dropout
   pub machine : Option Known
 
--- which pixels an outline sets, with drop-out control or without
-abbrev pub rule_of : Dropout → Rule
-rule_of Off = Centres
-rule_of Left = Bridged Lower
-rule_of Near = Bridged Nearer
+-- which pixels an outline sets, as its font's programs asked; the left or the lower one of a gap if they asked for nothing
+abbrev pub asked_rule : Option asked.Dropout → Rule
+asked_rule None = Bridged Lower
+asked_rule (Some wish.Off) = Centres
+asked_rule (Some wish.Leftmost) = Bridged Lower
+asked_rule (Some wish.Nearest) = Bridged Nearer
 
--- an opened font, which pixels an outline sets, and the machine
-abbrev pub setting_with : Opened → Rule → Option Known → Setting
-setting_with opened rule machine = record {
+-- which pixels an outline sets, with drop-out control or without; the same for all, or as its font asked
+abbrev pub rule_for : Dropout → Option asked.Dropout → Rule
+rule_for Off wish = Centres
+rule_for Left wish = Bridged Lower
+rule_for Near wish = Bridged Nearer
+rule_for Font wish = asked_rule wish
+
+-- an opened font, drop-out control, and the machine
+abbrev pub setting_with : Opened → Dropout → Option Known → Setting
+setting_with opened dropout machine = record {
   font = opened.font;
   map = opened.map;
   ppem = opened.ppem;
-  rule = rule;
+  dropout = dropout;
   machine = machine;
 }
 
@@ -78,7 +88,7 @@ setting_with opened rule machine = record {
 unfoldable pub setting_in : Opened → Mode → Result Setting Refusal
 setting_in opened mode = do
   machine ← machine_for opened.font opened.ppem mode.hinting
-  Ok (setting_with opened (rule_of mode.dropout) machine)
+  Ok (setting_with opened mode.dropout machine)
 
 -- what the machine adds to scaling; nothing without one
 abbrev pub hinting_by : Option Known → Hinting
@@ -123,7 +133,7 @@ sketch_from setting code outline shape metrics = record {
 unfoldable pub glyph_sketch_of : Setting → ℕ → ℕ → Result Sketch Refusal
 glyph_sketch_of setting code glyph = do
   outline ← map_fault of_hint (outline_in setting glyph)
-  shape ← map_fault (of_raster glyph) (shape_of setting.rule outline.ends outline.points)
+  shape ← map_fault (of_raster glyph) (shape_of (rule_for setting.dropout outline.wish) outline.ends outline.points)
   metrics ← map_fault of_font (metrics_of setting.font glyph)
   Ok (sketch_from setting code outline shape metrics)
 

@@ -12,7 +12,7 @@ ghost use Rattle.fx_strike.specs.Headline.{Late};
 use crate::hinter::{FontHinter, keeping};
 use crate::open::{open_at, open_many};
 use crate::opened::Opened;
-use crate::striker::{Striker, rule_of};
+use crate::striker::Striker;
 use crate::tools::Tools;
 use fx_machine::Machine;
 use fx_raster::{Rows, Scan, Scratch};
@@ -67,7 +67,7 @@ fn striker_in<'a>(
         alloc,
         scan: &Rows,
         opened,
-        rule: rule_of(mode.dropout),
+        dropout: mode.dropout,
     };
     Ok(Some(Striker { tools, hinter }))
 }

@@ -38,10 +38,10 @@ impl<'a, S: Scan> Tools<'a, S> {
         ensures kept { hinter.new ≡ hinter.old }
         ensures cache { AreDue (due_in self.now.opened hinter.old) cache.new }
         ensures sketch { (code : ℕ)
-            → Sketches (glyph_sketch_of (setting_with self.now.opened self.now.rule hinter.old) code glyph) result }
+            → Sketches (glyph_sketch_of (setting_with self.now.opened self.now.dropout hinter.old) code glyph) result }
     {
         let drawing = outline_at(self.alloc, hinter, cache, &self.opened, glyph)?;
-        sketch_with(&self.opened, self.rule, glyph, drawing)
+        sketch_with(&self.opened, self.dropout, glyph, drawing)
     }
 
     /// The glyph of this number before its bits. Its outline is made, and put into the cache.
@@ -55,11 +55,11 @@ impl<'a, S: Scan> Tools<'a, S> {
         ensures kept { hinter.new ≡ hinter.old }
         ensures cache { AreDue (due_in self.now.opened hinter.old) cache.new }
         ensures sketch { (code : ℕ)
-            → Sketches (glyph_sketch_of (setting_with self.now.opened self.now.rule hinter.old) code glyph) result }
+            → Sketches (glyph_sketch_of (setting_with self.now.opened self.now.dropout hinter.old) code glyph) result }
     {
         let drawing = outline_made(self.alloc, hinter, &self.opened, glyph)?;
         cache.put(glyph, &drawing);
-        sketch_with(&self.opened, self.rule, glyph, drawing)
+        sketch_with(&self.opened, self.dropout, glyph, drawing)
     }
 
     /// What becomes of a code point that is refused for a cause. Out of memory is none.
@@ -71,8 +71,8 @@ impl<'a, S: Scan> Tools<'a, S> {
         cause: Refusal,
     ) -> Result<Fate, Refusal>
         ensures { (machine : Option Known)
-            → Fails cause (glyph_sketch_of (setting_with self.now.opened self.now.rule machine) code glyph)
-            → Decides (glyph_fate_of (setting_with self.now.opened self.now.rule machine) refused code glyph) result }
+            → Fails cause (glyph_sketch_of (setting_with self.now.opened self.now.dropout machine) code glyph)
+            → Decides (glyph_fate_of (setting_with self.now.opened self.now.dropout machine) refused code glyph) result }
     {
         match cause {
             Refusal::OutOfMemory => Err(Refusal::OutOfMemory),
@@ -92,7 +92,7 @@ impl<'a, S: Scan> Tools<'a, S> {
         glyph: u16,
         halt: Halt,
     ) -> Result<Fate, Refusal>
-        ensures { Decides (refused_by refused code (glyph_sketch_of (setting_with self.now.opened self.now.rule None) code glyph)
+        ensures { Decides (refused_by refused code (glyph_sketch_of (setting_with self.now.opened self.now.dropout None) code glyph)
             (Refusal.Halted halt)) result }
     {
         match refused {
@@ -105,7 +105,7 @@ impl<'a, S: Scan> Tools<'a, S> {
     /// What becomes of a code point whose program halted, and that is drawn without hinting if it has a glyph then.
     fn fate_unhinted(&self, code: u32, glyph: u16, halt: Halt) -> Result<Fate, Refusal>
         ensures { Decides (Ok (halted_by code (Refusal.Halted halt)
-            (glyph_sketch_of (setting_with self.now.opened self.now.rule None) code glyph))) result }
+            (glyph_sketch_of (setting_with self.now.opened self.now.dropout None) code glyph))) result }
     {
         match self.sketch_at(
             &mut FontHinter::none(self.alloc),

@@ -177,10 +177,11 @@ impl<'a, S: Scan> Tools<'a, S> {
         requires placed { IsPlaced seen.old.bounds }
         requires narrow { IsNarrow seen.old }
         ensures kept { hinter.new ≡ hinter.old }
-        ensures seen { SeesOne (glyph_fate_of (setting_with self.now.opened self.now.rule hinter.old) refused code glyph)
+        ensures seen { SeesOne (glyph_fate_of (setting_with self.now.opened self.now.dropout hinter.old) refused code glyph)
             seen.old seen.new result }
         ensures heard { OnOk result (HearsAll L.Hears listener.old
-            (notices_by (glyph_fate_of (setting_with self.now.opened self.now.rule hinter.old) refused code glyph)) listener.new) }
+            (notices_by (glyph_fate_of (setting_with self.now.opened self.now.dropout hinter.old) refused code glyph))
+            listener.new) }
         ensures unheard { IfErr result (λ _. listener.new ≡ listener.old) }
         ensures cache { AreDue (due_in self.now.opened hinter.old) cache.new }
     {
@@ -206,12 +207,13 @@ impl<'a, S: Scan> Tools<'a, S> {
         requires few { seen.old.report.glyphs < max_characters }
         requires placed { IsPlaced seen.old.bounds }
         requires narrow { IsNarrow seen.old }
-        requires cause { Fails cause (glyph_sketch_of (setting_with self.now.opened self.now.rule hinter.old) code glyph) }
+        requires cause { Fails cause (glyph_sketch_of (setting_with self.now.opened self.now.dropout hinter.old) code glyph) }
         ensures kept { hinter.new ≡ hinter.old }
-        ensures seen { SeesOne (glyph_fate_of (setting_with self.now.opened self.now.rule hinter.old) refused code glyph)
+        ensures seen { SeesOne (glyph_fate_of (setting_with self.now.opened self.now.dropout hinter.old) refused code glyph)
             seen.old seen.new result }
         ensures heard { OnOk result (HearsAll L.Hears listener.old
-            (notices_by (glyph_fate_of (setting_with self.now.opened self.now.rule hinter.old) refused code glyph)) listener.new) }
+            (notices_by (glyph_fate_of (setting_with self.now.opened self.now.dropout hinter.old) refused code glyph))
+            listener.new) }
         ensures unheard { IfErr result (λ _. listener.new ≡ listener.old) }
     {
         let fate = self.fate_refused(refused, code, glyph, cause)?;
@@ -231,9 +233,9 @@ impl<'a, S: Scan> Tools<'a, S> {
         requires few { length codes.now ≤ max_characters }
         requires cache { AreDue (due_in self.now.opened hinter.old) cache.old }
         ensures kept { hinter.new ≡ hinter.old }
-        ensures seen { Sees (setting_with self.now.opened self.now.rule hinter.old) refused codes.now result }
+        ensures seen { Sees (setting_with self.now.opened self.now.dropout hinter.old) refused codes.now result }
         ensures heard { Told L.Hears listener.old listener.new
-            (notices_about (setting_with self.now.opened self.now.rule hinter.old) refused codes.now) result }
+            (notices_about (setting_with self.now.opened self.now.dropout hinter.old) refused codes.now) result }
         ensures cache { AreDue (due_in self.now.opened hinter.old) cache.new }
     {
         let mut seen = Seen::new();
@@ -264,10 +266,10 @@ impl<'a, S: Scan> Tools<'a, S> {
         ensures kept { hinter.new ≡ hinter.old }
         ensures cache { AreDue (due_in self.now.opened hinter.old) cache.new }
         ensures survey { (title : Title) (chars : List ℕ) → codes.now ≡ rising chars
-            → Surveys (plan_with (setting_with self.now.opened self.now.rule hinter.old) title chars refused) result }
+            → Surveys (plan_with (setting_with self.now.opened self.now.dropout hinter.old) title chars refused) result }
         ensures heard { (title : Title) (chars : List ℕ) → codes.now ≡ rising chars
             → Told L.Hears listener.old listener.new
-            (notices_of (plan_with (setting_with self.now.opened self.now.rule hinter.old) title chars refused)) result }
+            (notices_of (plan_with (setting_with self.now.opened self.now.dropout hinter.old) title chars refused)) result }
     {
         let seen = self.see(refused, hinter, codes, cache, listener)?;
         let summary = seen.gathered.summary(seen.report.glyphs);
@@ -284,7 +286,7 @@ impl<'a, S: Scan> Tools<'a, S> {
         requires few { length chars.now ≤ max_characters }
         ensures kept { hinter.new ≡ hinter.old }
         ensures survey { (title : Title)
-            → Surveys (plan_with (setting_with self.now.opened self.now.rule hinter.old) title chars.now refused) result }
+            → Surveys (plan_with (setting_with self.now.opened self.now.dropout hinter.old) title chars.now refused) result }
     {
         let codes = rising_codes(self.alloc, chars)?;
         let mut cache = OutlineCache::without_room(self.alloc);

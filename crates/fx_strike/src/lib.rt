@@ -3,8 +3,8 @@
 //!
 //! `make_strike` writes exactly the text of the strike whose every bit is set exactly when the pixel's centre lies on the outline
 //! that the font's programs make of the scaled glyph, or has a winding number other than 0 about it (with hinting off no program
-//! runs; with drop-out control the pixels that close a gap are set as well); or it names the first cause why no such strike
-//! exists, or that it is out of memory, or a fault of the writer.
+//! runs; with drop-out control the pixels that close a gap are set as well, by one rule for all glyphs or as the font asks); or it
+//! names the first cause why no such strike exists, or that it is out of memory, or a fault of the writer.
 //! `specs/Strike` says what a strike is, `specs/Headline` what a call returns and leaves; both cite the definitions of the crates
 //! below and nothing of their code. A request says what becomes of characters that are refused, and `make_strike_telling` tells a
 //! listener of those that did not stop the strike. `one` makes one character alone. A `Striker` is a font at a size that
@@ -36,6 +36,7 @@ mod open;
 mod opened;
 mod outline_text;
 mod outlines;
+mod rule;
 mod second_pass;
 mod seen;
 mod sketch;

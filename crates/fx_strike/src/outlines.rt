@@ -30,7 +30,7 @@ impl<'a, S: Scan> Tools<'a, S> {
     fn outlined(&self, hinter: &mut FontHinter<'_>, glyph: u16) -> Result<GlyphOutline, Refusal>
         ensures kept { hinter.new ≡ hinter.old }
         ensures outline { GivesUnless Fails view_of_glyph_outline result
-            (outlined_with (setting_with self.now.opened self.now.rule hinter.old) glyph) }
+            (outlined_with (setting_with self.now.opened self.now.dropout hinter.old) glyph) }
     {
         outline_made(self.alloc, hinter, &self.opened, glyph)
     }
@@ -43,7 +43,7 @@ impl<'a, S: Scan> Tools<'a, S> {
     ) -> Result<Option<GlyphOutline>, Refusal>
         ensures kept { hinter.new ≡ hinter.old }
         ensures outline { GivesUnless Fails (option_map view_of_glyph_outline) result
-            (outlined_for (setting_with self.now.opened self.now.rule hinter.old) glyph) }
+            (outlined_for (setting_with self.now.opened self.now.dropout hinter.old) glyph) }
     {
         match glyph {
             Some(glyph) => {

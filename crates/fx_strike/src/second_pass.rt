@@ -96,7 +96,7 @@ impl<'a, S: Scan> Tools<'a, S> {
         ensures same { text.new.sink ≡ text.old.sink }
         ensures quiet { OnOk result (text.new.faults ≡ text.old.faults) }
         ensures short { OnOk result (length_of text.new ≤ length_of text.old + longest_glyph) }
-        ensures lines { (lines : List ℕ) → AreLinesOf (setting_with self.now.opened self.now.rule hinter.old) refused code lines
+        ensures lines { (lines : List ℕ) → AreLinesOf (setting_with self.now.opened self.now.dropout hinter.old) refused code lines
             → AddsMore text.old text.new lines result }
     {
         match self.sketch_at(hinter, cache, glyph) {
@@ -126,12 +126,12 @@ impl<'a, S: Scan> Tools<'a, S> {
         requires code { code ≤ max_code }
         requires glyph { glyph ≡ glyph_for self.now.opened.map code }
         requires here { ¬ (glyph ≡ 0) }
-        requires cause { Fails cause (glyph_sketch_of (setting_with self.now.opened self.now.rule hinter.old) code glyph) }
+        requires cause { Fails cause (glyph_sketch_of (setting_with self.now.opened self.now.dropout hinter.old) code glyph) }
         ensures kept { hinter.new ≡ hinter.old }
         ensures same { text.new.sink ≡ text.old.sink }
         ensures quiet { OnOk result (text.new.faults ≡ text.old.faults) }
         ensures short { OnOk result (length_of text.new ≤ length_of text.old + longest_glyph) }
-        ensures lines { (lines : List ℕ) → AreLinesOf (setting_with self.now.opened self.now.rule hinter.old) refused code lines
+        ensures lines { (lines : List ℕ) → AreLinesOf (setting_with self.now.opened self.now.dropout hinter.old) refused code lines
             → AddsMore text.old text.new lines result }
     {
         let fate = self.fate_refused(refused, code, glyph, cause)?;
@@ -158,7 +158,7 @@ impl<'a, S: Scan> Tools<'a, S> {
         ensures quiet { OnOk result (text.new.faults ≡ text.old.faults) }
         ensures short { OnOk result (length_of text.new ≤ length_of text.old + longest_glyphs) }
         ensures lines { (lines : List (List ℕ))
-            → AreAllLinesOf (setting_with self.now.opened self.now.rule hinter.old) refused codes.now lines
+            → AreAllLinesOf (setting_with self.now.opened self.now.dropout hinter.old) refused codes.now lines
             → AddsMore text.old text.new (flat_map (λ t. t) lines) result }
     {
         let mut map = self.opened.map.cursor();
@@ -194,7 +194,7 @@ impl<'a, S: Scan> Tools<'a, S> {
         ensures same { text.new.sink ≡ text.old.sink }
         ensures ended { OnOk result (text.new.waiting ≡ []) }
         ensures lines { (lines : List (List ℕ))
-            → AreAllLinesOf (setting_with self.now.opened self.now.rule hinter.old) draft.now.refused draft.now.codes.now lines
+            → AreAllLinesOf (setting_with self.now.opened self.now.dropout hinter.old) draft.now.refused draft.now.codes.now lines
             → Adds Stops text.old text.new
             (header_text draft.now.name.now (seen_properties draft.now.properties.now) draft.now.header
             ++ (flat_map (λ t. t) lines ++ end_text))
@@ -223,7 +223,7 @@ impl<'a, S: Scan> Tools<'a, S> {
         ensures kept { hinter.new ≡ hinter.old }
         ensures cache { AreDue (due_in self.now.opened hinter.old) cache.new }
         ensures text { (lines : List (List ℕ))
-            → AreAllLinesOf (setting_with self.now.opened self.now.rule hinter.old) draft.now.refused draft.now.codes.now lines
+            → AreAllLinesOf (setting_with self.now.opened self.now.dropout hinter.old) draft.now.refused draft.now.codes.now lines
             → Writes (change_of W.held W.fault_count out.old out.new)
             (header_text draft.now.name.now (seen_properties draft.now.properties.now) draft.now.header
             ++ (flat_map (λ t. t) lines ++ end_text))

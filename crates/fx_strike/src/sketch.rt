@@ -14,13 +14,14 @@ ghost use Rattle.fx_strike.specs.inner.Drawing.{Sketches, due_in};
 use crate::faults::{of_hint, of_raster};
 use crate::hinter::FontHinter;
 use crate::opened::Opened;
+use crate::rule::rule_for;
 use crate::sketched::Sketched;
 use fx_cache::CacheReader;
 use fx_fixed::near;
 use fx_hint::{GlyphOutline, outline_with};
 use fx_outline::Outline;
 use fx_raster::{Rule, Shape};
-use fx_request::Refusal;
+use fx_request::{Dropout, Refusal};
 use fx_sfnt::Font;
 use std::alloc::Global;
 
@@ -87,17 +88,18 @@ fn thousandths_at(font: &Font<'_>, glyph: u16) -> Result<i32, Refusal>
 }
 
 /// A glyph before its bits, by its outline, or the first cause why there is none: how far out the outline lies and how large it is,
-/// then its advance.
+/// then its advance. Its outline sets pixels by the drop-out control that is asked for, or that it asks for itself.
 #[inline(always)]
 pub(crate) fn sketch_with(
     opened: &Opened<'_>,
-    rule: Rule,
+    dropout: Dropout,
     glyph: u16,
     drawing: GlyphOutline,
 ) -> Result<Sketched, Refusal>
     ensures { (machine : Option Known) (code : ℕ) → due_in opened.now machine glyph ≡ Ok (view_of_glyph_outline drawing)
-        → Sketches (glyph_sketch_of (setting_with opened.now rule machine) code glyph) result }
+        → Sketches (glyph_sketch_of (setting_with opened.now dropout machine) code glyph) result }
 {
+    let rule = rule_for(dropout, drawing.wish);
     let shape = shaped(drawing.outline, rule, glyph)?;
     let swidth = thousandths_at(&opened.font, glyph)?;
     Ok(Sketched {

@@ -7,7 +7,7 @@ ghost use Rattle.fx_fixed.specs.Changes.{change_of};
 ghost use Rattle.fx_strike.specs.Faults.{Fails};
 ghost use Rattle.fx_strike.specs.Title.{titled};
 ghost use Rattle.fx_strike.specs.Strike.{setting_for, setting_in, setting_of, opened_at, opened_many_of, checked_chars, checked_text};
-ghost use Rattle.fx_strike.specs.Strike.{plan_with, one_with, rule_of};
+ghost use Rattle.fx_strike.specs.Strike.{plan_with, one_with};
 ghost use Rattle.fx_strike.specs.Headline.{IsOneOf, Surveyed, Makes, Leaves, Late, notices_of, strike_with, nameless_with, character_with};
 ghost use Rattle.fx_strike.specs.inner.Drawing.{Finds};
 ghost use Rattle.fx_strike.specs.inner.Surveying.{AreChars, IsChecked, SurveysNameless};
@@ -19,8 +19,8 @@ use crate::surveyed::Survey;
 use crate::tools::Tools;
 use fx_bdf::{BitGlyph, Title};
 use fx_fixed::Sink;
-use fx_raster::{Closing, Rows, Rule, Scan};
-use fx_request::{Deaf, Dropout, Listener, Mode, OnRefused, Refusal, Report};
+use fx_raster::{Rows, Scan};
+use fx_request::{Deaf, Listener, Mode, OnRefused, Refusal, Report};
 use fx_sfnt::FontFile;
 use std::alloc::Global;
 use std::marker::Model;
@@ -39,7 +39,7 @@ impl<'a, S: Scan> Model for Striker<'a, S> {
 
     ghost Value = { Setting };
 
-    ghost view = { λ s. setting_with s.tools.opened s.tools.rule s.hinter };
+    ghost view = { λ s. setting_with s.tools.opened s.tools.dropout s.hinter };
 }
 
 impl<'a> Striker<'a, Rows> {
@@ -84,17 +84,6 @@ impl<'a> Striker<'a, Rows> {
         ensures late { IsErrOf result Refusal.OutOfMemory → Late (opened_many_of font.now ppem chars.now) }
     {
         open_for_inner(alloc, font, ppem, chars, mode)
-    }
-}
-
-/// Which pixels an outline sets, with drop-out control or without.
-pub(crate) fn rule_of(dropout: Dropout) -> Rule
-    ensures { result ≡ rule_of dropout }
-{
-    match dropout {
-        Dropout::Off => Rule::Centres,
-        Dropout::Left => Rule::Bridged(Closing::Lower),
-        Dropout::Near => Rule::Bridged(Closing::Nearer),
     }
 }
 
@@ -144,7 +133,7 @@ impl<'a, S: Scan> Striker<'a, S> {
             alloc,
             scan,
             opened,
-            rule: rule_of(mode.dropout),
+            dropout: mode.dropout,
         };
         Ok(Striker { tools, hinter })
     }
@@ -158,7 +147,7 @@ impl<'a, S: Scan> Striker<'a, S> {
                 alloc: self.tools.alloc,
                 scan,
                 opened: self.tools.opened,
-                rule: self.tools.rule,
+                dropout: self.tools.dropout,
             },
             hinter: self.hinter,
         }

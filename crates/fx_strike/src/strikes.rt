@@ -26,7 +26,7 @@ impl<'a, S: Scan> Tools<'a, S> {
         code: u32,
     ) -> Result<Option<BitGlyph>, Refusal>
         ensures kept { hinter.new ≡ hinter.old }
-        ensures one { Finds (one_with (setting_with self.now.opened self.now.rule hinter.old) code) result }
+        ensures one { Finds (one_with (setting_with self.now.opened self.now.dropout hinter.old) code) result }
     {
         let glyph = self.opened.map.glyph(code);
         if glyph == 0 {
@@ -52,10 +52,10 @@ impl<'a, S: Scan> Tools<'a, S> {
         requires title { IsChecked (titled title.now) }
         ensures kept { hinter.new ≡ hinter.old }
         ensures leaves { Leaves {Y = Unit {0}} (Ok tt)
-            (plan_with (setting_with self.now.opened self.now.rule hinter.old) (titled title.now) chars.now refused)
+            (plan_with (setting_with self.now.opened self.now.dropout hinter.old) (titled title.now) chars.now refused)
             (change_of W.held W.fault_count out.old out.new) result }
         ensures heard { Told L.Hears listener.old listener.new (notices_of
-            (plan_with (setting_with self.now.opened self.now.rule hinter.old) (titled title.now) chars.now refused)) result }
+            (plan_with (setting_with self.now.opened self.now.dropout hinter.old) (titled title.now) chars.now refused)) result }
     {
         let codes = rising_codes(self.alloc, chars)?;
         let mut cache = OutlineCache::new(self.alloc, codes.len());

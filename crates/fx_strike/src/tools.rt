@@ -1,14 +1,15 @@
 //! What glyphs are made with.
 
 use crate::opened::Opened;
-use fx_raster::{Rule, Scan};
+use fx_raster::Scan;
+use fx_request::Dropout;
 use std::alloc::Global;
 
-/// What glyphs are made with, and no glyph changes: memory, a scan, an opened font at a size, and which pixels an outline sets.
+/// What glyphs are made with, and no glyph changes: memory, a scan, an opened font at a size, and drop-out control.
 #[derive(Drop)]
 pub(crate) struct Tools<'a, S: Scan> {
     pub alloc: Global,
     pub scan: &'a S,
     pub opened: Opened<'a>,
-    pub rule: Rule,
+    pub dropout: Dropout,
 }

@@ -1,20 +1,21 @@
 -- How outlines become pixels, and in which form pixels are told, as C says it.
-use Rattle.std.specs.Prelude.{ℕ, ◌/◌, ◌%◌, ◌==◌, ◌&&◌, nat_lt, Bool, if◌then◌else◌}
+use Rattle.std.specs.Prelude.{ℕ, ◌/◌, ◌%◌, ◌==◌, ◌&&◌, ◌||◌, nat_lt, Bool, if◌then◌else◌}
 use Rattle.fx_request.specs.declared.request.Dropout.{Dropout}
-use Rattle.fx_request.specs.declared.request.Dropout.TheVariants.{Off, Left, Near}
+use Rattle.fx_request.specs.declared.request.Dropout.TheVariants.{Off, Left, Near, Font}
 use Rattle.fx_request.specs.declared.request.Mode.{Mode}
 
--- a number is a mode if it is a sum of 1, of 2 or 4, and of 256, or 0
-abbrev pub is_mode : ℕ → Bool
-is_mode mode = nat_lt mode 512 && nat_lt (mode % 256) 6
-
--- and a mode for a strike if it is a sum of 1, and of 2 or 4, or 0
+-- a number is a mode for a strike if it is a sum of 1, and of one of 2, 4 and 8, or 0
 abbrev pub is_strike_mode : ℕ → Bool
-is_strike_mode mode = nat_lt mode 6
+is_strike_mode mode = nat_lt mode 6 || mode / 2 == 4
 
--- with 2 the left or the lower pixel closes a gap, with 4 the nearer one
+-- and a mode if it is one but for 256
+abbrev pub is_mode : ℕ → Bool
+is_mode mode = nat_lt mode 512 && is_strike_mode (mode % 256)
+
+-- with 2 the left or the lower pixel closes a gap, with 4 the nearer one, with 8 the one that the font asks for
 abbrev pub dropout_of : ℕ → Dropout
-dropout_of mode = if mode / 4 % 2 == 1 then Near else (if mode / 2 % 2 == 1 then Left else Off)
+dropout_of mode =
+    if mode / 8 % 2 == 1 then Font else (if mode / 4 % 2 == 1 then Near else (if mode / 2 % 2 == 1 then Left else Off))
 
 -- with 1 the font's programs run
 abbrev pub mode_of : ℕ → Mode

@@ -4,25 +4,28 @@ ghost use Rattle.mkstrike_c.specs.Modes.{dropout_of, is_mode, is_packed, is_stri
 
 use fx_request::{Dropout, Mode};
 
-/// Whether a number is a mode: no bit is set but those of hinting, drop-out control and packed pixels, and not both of drop-out
-/// control.
+/// Whether a number is a mode: no bit is set but those of hinting, drop-out control and packed pixels, and at most one of
+/// drop-out control.
 pub fn is_mode(mode: u32) -> bool
     ensures { result ≡ is_mode mode }
 {
-    mode < 512 && mode % 256 < 6
+    mode < 512 && is_strike_mode(mode % 256)
 }
 
 /// Whether a number is a mode for a strike, which has no form of pixels.
 pub fn is_strike_mode(mode: u32) -> bool
     ensures { result ≡ is_strike_mode mode }
 {
-    mode < 6
+    mode < 6 || mode / 2 == 4
 }
 
 /// Which pixels drop-out control sets, by a number of C.
 fn dropout_of(mode: u32) -> Dropout
     ensures { result ≡ dropout_of mode }
 {
+    if mode / 8 % 2 == 1 {
+        return Dropout::Font;
+    }
     if mode / 4 % 2 == 1 {
         return Dropout::Near;
     }
@@ -32,8 +35,8 @@ fn dropout_of(mode: u32) -> Dropout
     Dropout::Off
 }
 
-/// How outlines become pixels, by a number of C: its lowest bit says whether the font's programs run, the next two whether drop-out
-/// control is on, and how.
+/// How outlines become pixels, by a number of C: its lowest bit says whether the font's programs run, the next three whether
+/// drop-out control is on, and how.
 pub fn mode_of(mode: u32) -> Mode
     ensures { result ≡ mode_of mode }
 {

@@ -1,4 +1,4 @@
-use Rattle.std.proofs.Common.{ap, sym, ◌∙◌, rules, Some, None}
+use Rattle.std.proofs.Common.{ap, Some}
 use Rattle.fx_strike.proofs.BlockSettings.{setting_parts, set_as, not_none, same_hinter}
 use Rattle.fx_strike.proofs.block.striker_in.Goals as goal
 
@@ -12,4 +12,4 @@ returns-clause-setting c = λ s e b.
     let p = setting_parts c.args.opened c.args.mode s e in
     let h = same_hinter c.in_ok-hinter.field-0 s.machine c.in-Some.hinter c.in-Some.is
     (c.in_ok-hinter.ensures.taken s.machine p.machine b) in
-    ap Some (set_as c.args.opened c.args.mode.dropout c.rule_of.result c.in-Some.hinter s c.rule_of.ensures h p.setting)
+    ap Some (set_as c.args.opened c.args.mode.dropout c.in-Some.hinter s h p.setting)

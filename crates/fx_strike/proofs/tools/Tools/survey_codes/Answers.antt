@@ -18,7 +18,7 @@ returns-in_err-seen-clause-heard g c title chars rising =
 
 pub returns-clause-survey : goal.returns-clause-survey
 returns-clause-survey g c title chars rising =
-    surveyed c.args.self.now.opened c.args.self.now.rule c.args.hinter.now c.prelude.result title chars c.args.codes.now
+    surveyed c.args.self.now.opened c.args.self.now.dropout c.args.hinter.now c.prelude.result title chars c.args.codes.now
     c.args.refused c.in_ok-seen.seen c.summary-summary.result c.survey_from.result
     (c.prelude.ensures ∙ ap (λ (m : Option Known). prelude_by m) (c.in_ok-seen.ensures).kept) rising
     (c.in_ok-seen.ensures).seen c.summary-summary.ensures c.survey_from.ensures

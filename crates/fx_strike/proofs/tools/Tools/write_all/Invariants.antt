@@ -18,6 +18,6 @@ invariant-codes g l = record {
   same : l.text.sink ≡ l.fn.text.sink;
   quiet : l.text.faults ≡ l.fn.text.faults;
   few : length_of l.text ≤ length_of l.fn.text + l.code-index * longest_glyph;
-  lines : (lines : List (List ℕ)) → AreAllLinesOf (setting_with l.self.opened l.self.rule l.fn.hinter) l.refused l.codes lines
+  lines : (lines : List (List ℕ)) → AreAllLinesOf (setting_with l.self.opened l.self.dropout l.fn.hinter) l.refused l.codes lines
       → Adds Stops l.fn.text l.text (flat_map (λ t. t) (take l.code-index lines)) (Ok tt);
 }

@@ -1,0 +1,30 @@
+//! Which pixels an outline sets.
+ghost use Rattle.std.specs.Prelude.{◌≡◌};
+ghost use Rattle.fx_strike.specs.Strike.{asked_rule, rule_for};
+
+use fx_gstate::Dropout as Wish;
+use fx_raster::{Closing, Rule};
+use fx_request::Dropout;
+
+/// Which pixels an outline sets, as its font's programs asked; the left or the lower one of a gap if they asked for nothing.
+fn asked_rule(wish: Option<Wish>) -> Rule
+    ensures { result ≡ asked_rule wish }
+{
+    match wish {
+        None | Some(Wish::Leftmost) => Rule::Bridged(Closing::Lower),
+        Some(Wish::Nearest) => Rule::Bridged(Closing::Nearer),
+        Some(Wish::Off) => Rule::Centres,
+    }
+}
+
+/// Which pixels an outline sets, with drop-out control or without; the same for all, or as its font asked.
+pub(crate) fn rule_for(dropout: Dropout, wish: Option<Wish>) -> Rule
+    ensures { result ≡ rule_for dropout wish }
+{
+    match dropout {
+        Dropout::Off => Rule::Centres,
+        Dropout::Left => Rule::Bridged(Closing::Lower),
+        Dropout::Near => Rule::Bridged(Closing::Nearer),
+        Dropout::Font => asked_rule(wish),
+    }
+}
