@@ -126,10 +126,19 @@ def components():
     """The programs of components come first, each as often as the component."""
     part = bytes.fromhex("B0 01 21")
     whole = fonts.composite([(1, 0, 0), (1, 9, 9)], bytes.fromhex("B0 02 21"))
-    data = font(part, more=[whole])
-    each = ["glyph 1 begins", "glyph 1 0000 B0 PUSHB 1 | 1", "glyph 1 0002 21 POP |"]
-    own = ["glyph 2 begins", "glyph 2 0000 B0 PUSHB 2 | 2", "glyph 2 0002 21 POP |"]
-    yield Run("a composite", "trace --ppem 16 --char 42", data, due.listed(each + each + own))
+    # Glyph 0 has no program: it is a component, but no line tells of it.
+    deeper = fonts.composite([(0, 0, 0), (2, 0, 0), (1, 9, 9), (2, 9, 9)], bytes.fromhex("B0 03 21"))
+    data = font(part, more=[whole, deeper])
+
+    def begun(g, component=None):
+        text = "glyph %d begins" % g + (", component %d of glyph %d" % component if component else "")
+        return [text, "glyph %d 0000 B0 PUSHB %d | %d" % (g, g, g), "glyph %d 0002 21 POP |" % g]
+
+    two = begun(1, (1, 2)) + begun(1, (2, 2))
+    yield Run("a component alone", "trace --ppem 16 --glyph 1", data, due.listed(begun(1)))
+    yield Run("a composite", "trace --ppem 16 --char 42", data, due.listed(two + begun(2)))
+    yield Run("composites in a composite", "trace --ppem 16 --glyph 3", data, due.listed(
+        two + begun(2, (2, 3)) + begun(1, (3, 3)) + two + begun(2, (4, 3)) + begun(3)))
 
 
 def halts():

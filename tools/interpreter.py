@@ -3,6 +3,8 @@
 It runs one program at a time on a list of points, one instruction a `step`. It knows nothing of the program mkstrike.
 Numbers are Python's; `w32` stands where the manual's numbers have 32 bits.
 """
+import copy
+import functools
 import re
 
 X, Y = 0, 1
@@ -63,6 +65,12 @@ class Point:
     def __init__(self, place, on=False):
         self.org, self.cur, self.on, self.touched = tuple(place), tuple(place), on, [False, False]
 
+    def copy(self):
+        """The same point, apart from it."""
+        p = Point(self.cur, self.on)
+        p.org, p.touched = self.org, list(self.touched)
+        return p
+
 
 class Graphics:
     """The graphics state at its defaults."""
@@ -92,8 +100,31 @@ def super_grid(base, n):
     return period, phase, period - 1 if low % 16 == 0 else (low % 16 - 4) * period // 8
 
 
+@functools.lru_cache(maxsize=1 << 16)
+def instruction(code, at):
+    """The numbers that an instruction pushes, and the address after it."""
+    op = code[at]
+    words, count, head = op in (0x41,) or 0xB8 <= op <= 0xBF, 0, 1
+    if op in (0x40, 0x41):
+        if at + 1 >= len(code):
+            raise Halt("CodeEnd")
+        count, head = code[at + 1], 2
+    elif 0xB0 <= op <= 0xBF:
+        count = op % 8 + 1
+    end = at + head + count * (2 if words else 1)
+    if end > len(code):
+        raise Halt("CodeEnd")
+    data = code[at + head:end]
+    if words:
+        return [word(data[k] << 8 | data[k + 1]) for k in range(0, len(data), 2)], end
+    return list(data), end
+
+
 class Machine:
-    """What programs read and change; `code` has the bytes of each program by its name."""
+    """What programs read and change; `code` has the bytes of each program by its name.
+
+    `looked` has the points that were looked up since it was last emptied, as zone and number: no other point was changed. `wrote` has
+    the cells of storage and control values that were written, as table, number and value before."""
 
     def __init__(self, code, ppem, upem, storage, cvt, twilight):
         self.code, self.ppem, self.upem = code, ppem, upem
@@ -102,6 +133,20 @@ class Machine:
         self.ends, self.functions, self.opcodes = [], {}, {}
         self.g, self.stack, self.preparing = Graphics(), [], False
         self.no_programs = self.default_state = False
+        self.looked, self.wrote = [], []
+
+    def after_prep(self, ends, points):
+        """A machine for the program of a glyph, apart from this one, which is as `prep` left it."""
+        m = copy.copy(self)
+        m.code, m.functions, m.opcodes = dict(self.code), dict(self.functions), dict(self.opcodes)
+        m.storage, m.cvt, m.stack = list(self.storage), list(self.cvt), []
+        m.zones, m.ends, m.looked, m.wrote = [[p.copy() for p in self.zones[TWILIGHT]], points], ends, [], []
+        m.g = Graphics()
+        if not m.default_state:
+            for name in ("auto_flip", "cut_in", "minimum", "single", "single_cut_in", "delta_base", "delta_shift", "scan_control",
+                         "scan_type"):
+                setattr(m.g, name, getattr(self.g, name))
+        return m
 
     # ---- numbers
 
@@ -139,7 +184,10 @@ class Machine:
     def point(self, zone, number):
         """The point of a number, or None."""
         points = self.zones[zone]
-        return points[number] if 0 <= number < len(points) else None
+        if not 0 <= number < len(points):
+            return None
+        self.looked.append((zone, number))
+        return points[number]
 
     def places(self, zone, number):
         """Its original and current place, (0, 0) if there is none."""
@@ -186,29 +234,11 @@ class Machine:
         """A program begins."""
         self.stack, self.calls, self.name, self.at, self.steps = [], [], name, 0, 0
 
-    def instruction(self, code, at):
-        """The numbers that an instruction pushes, and the address after it."""
-        op = code[at]
-        words, count, head = op in (0x41,) or 0xB8 <= op <= 0xBF, 0, 1
-        if op in (0x40, 0x41):
-            if at + 1 >= len(code):
-                raise Halt("CodeEnd")
-            count, head = code[at + 1], 2
-        elif 0xB0 <= op <= 0xBF:
-            count = op % 8 + 1
-        end = at + head + count * (2 if words else 1)
-        if end > len(code):
-            raise Halt("CodeEnd")
-        data = code[at + head:end]
-        if words:
-            return [word(data[k] << 8 | data[k + 1]) for k in range(0, len(data), 2)], end
-        return list(data), end
-
     def search(self, at, ends):
         """The address of the first instruction that ends a search, by its opcode and the level of IF."""
         code, level = self.code[self.name], 0
         while at < len(code):
-            _, after = self.instruction(code, at)
+            _, after = instruction(code, at)
             if ends(code[at], level):
                 return after, code[at]
             level += (code[at] == 0x58) - (code[at] == 0x59 and level > 0)
@@ -255,7 +285,7 @@ class Machine:
                 raise Halt("StrayEnd")
             return False
         op, here = code[self.at], self.at
-        numbers, self.at = self.instruction(code, self.at)
+        numbers, self.at = instruction(code, self.at)
         self.steps += 1
         if op in (0x40, 0x41) or 0xB0 <= op <= 0xBF:
             self.stack += numbers
@@ -332,6 +362,7 @@ class Machine:
     def put_control(self, n, v):
         """Writes a control value, if it is there."""
         if 0 <= n < len(self.cvt):
+            self.wrote.append(("cvt", n, self.cvt[n]))
             self.cvt[n] = w32(v)
 
     def mdap(self, op):
@@ -458,6 +489,7 @@ class Machine:
         axis = X if op & 1 else Y
         for first, past in self.contours():
             points = self.zones[GLYPH][first:past]
+            self.looked += [(GLYPH, n) for n in range(first, past)]
             touched = [k for k, p in enumerate(points) if p.touched[axis]]
             if not touched:
                 continue
@@ -514,7 +546,7 @@ class Machine:
         zone = self.g.zp[0]
         if self.point(zone, low) and self.point(zone, high):
             for n in range(low, high + 1):
-                self.zones[zone][n].on = on
+                self.point(zone, n).on = on
 
     def flip_points(self):
         """FLIPPT."""
@@ -605,6 +637,7 @@ class Machine:
     def write(self, i, v):
         """42 WS."""
         if 0 <= i < len(self.storage):
+            self.wrote.append(("storage", i, self.storage[i]))
             self.storage[i] = v
 
     def set_loop(self):

@@ -2,7 +2,7 @@
 use crate::fonts::font;
 use crate::outlines::{READING_A_STRAY, TWICE};
 use fx_fixed::Ppem;
-use fx_hint::{GlyphInput, HintFault, Hinter, KeepingMachine, Made, outline_with};
+use fx_hint::{ComponentOf, GlyphInput, HintFault, Hinter, KeepingMachine, Made, outline_with};
 use fx_machine::{Machine, Unwatched, Usage};
 use fx_sfnt::{Font, FontFile};
 use std::alloc::Global;
@@ -41,11 +41,17 @@ impl<'a> Hinter for Counting<'a> {
         self.keeping.is_on()
     }
 
-    fn run(&mut self, g: u16, code: &[u8], made: &mut Made) -> Result<Usage, HintFault> {
+    fn run(
+        &mut self,
+        component: Option<ComponentOf>,
+        g: u16,
+        code: &[u8],
+        made: &mut Made,
+    ) -> Result<Usage, HintFault> {
         if !code.is_empty() {
             self.runs = self.runs.saturating_add(1);
         }
-        self.keeping.run(g, code, made)
+        self.keeping.run(component, g, code, made)
     }
 
     fn recall(&self, alloc: Global, input: &GlyphInput<'_>) -> Option<(Made, Usage)> {

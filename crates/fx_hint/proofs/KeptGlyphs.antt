@@ -1,6 +1,6 @@
 -- A simple glyph that is made alone is what begins a component.
 -- For the walk, which recalls components that were kept.
-use Rattle.std.proofs.Common.{◌≡◌, ℕ, List, length, refl, ◌∙◌, Result, Ok, Err}
+use Rattle.std.proofs.Common.{◌≡◌, ℕ, List, length, Option, refl, ◌∙◌, Result, Ok, Err}
 use Rattle.std.proofs.lemmas.List.{length-map}
 use Rattle.fx_fixed.specs.Chain.{◌>>=◌}
 use Rattle.fx_sfnt.specs.declared.records.Metrics.{Metrics}
@@ -10,6 +10,7 @@ use Rattle.fx_glyf.specs.declared.glyph.Glyph.TheVariants.{Simple}
 use Rattle.fx_glyf.specs.Shapes.{SimpleView}
 use Rattle.fx_scale.specs.declared.scale.Scale.{Scale}
 use Rattle.fx_scale.specs.Zones.{scaled_point}
+use Rattle.fx_hint.specs.declared.component.ComponentOf.{ComponentOf}
 use Rattle.fx_hint.specs.declared.count.Count.{Count}
 use Rattle.fx_machine.specs.declared.usage.Usage.{Usage}
 use Rattle.fx_hint.specs.declared.made.Made.{Made}
@@ -39,22 +40,22 @@ unfolding run_on
 counted_after h g code start made usage (Ok c) r = rw r refl
 counted_after h g code start made usage (Err e) r = refl
 
-counted_simple_is_begun : (h : Hinting) (s : Scale) (root g : ℕ) (m : Metrics) (shape : SimpleView) (made : Made) (usage : Usage)
-    (count : Count)
+counted_simple_is_begun : (h : Hinting) (s : Scale) (root : ℕ) (component : Option ComponentOf) (g : ℕ)
+    (m : Metrics) (shape : SimpleView) (made : Made) (usage : Usage) (count : Count)
     → KeepsShape h → h.run g shape.code (scaled_simple s h.on m shape) ≡ Ok (made, usage)
-    → counted_made root made usage count ≡ begun_by h s root g m (Simple shape) count
+    → counted_made root made usage count ≡ begun_by h s root component g m (Simple shape) count
 unfolding counted_made begun_by simple_made
-counted_simple_is_begun h s root g m shape made usage count keeps r =
+counted_simple_is_begun h s root component g m shape made usage count keeps r =
     let same : length made.zone.points ≡ length shape.points =
     (keeps g shape.code (scaled_simple s h.on m shape) (made, usage) r).0 ∙ length-map shape.points (scaled_point s) in
     rw same (counted_after h g shape.code (scaled_simple s h.on m shape) made usage
     (more_points root (length shape.points) count) r)
 
 -- a component that is recalled is what it would become if it were made again
-pub begun_again : (h : Hinting) (face : Face) (s : Scale) (root g : ℕ) (m : Metrics) (bytes : List ℕ) (made : Made) (usage : Usage)
-    (count : Count)
+pub begun_again : (h : Hinting) (face : Face) (s : Scale) (root : ℕ) (component : Option ComponentOf) (g : ℕ) (m : Metrics)
+    (bytes : List ℕ) (made : Made) (usage : Usage) (count : Count)
     → KeepsShape h → metrics_of face g ≡ Ok m → glyph_bytes_of face g ≡ Ok bytes → IsMadeAlone h s g m bytes made usage
-    → counted_made root made usage count ≡ begun h face s root g count
+    → counted_made root made usage count ≡ begun h face s root component g count
 unfolding begun
-begun_again h face s root g m bytes made usage count keeps a b k =
-    rw (a, b, k.read) (counted_simple_is_begun h s root g m k.shape made usage count keeps k.ran)
+begun_again h face s root component g m bytes made usage count keeps a b k =
+    rw (a, b, k.read) (counted_simple_is_begun h s root component g m k.shape made usage count keeps k.ran)

@@ -1,6 +1,6 @@
 -- The programs that were started are the first of those that are due, and a glyph that is begun starts at most one.
 -- For the walk, which keeps account of them.
-use Rattle.std.proofs.Common.{◌≡◌, ℕ, zero, suc, ◌-◌, List, [], ◌∷◌, ◌++◌, length, refl, sym, ap, ◌∙◌, subst, Result, Ok, Err, Bool, true, false, append_assoc, append-nil}
+use Rattle.std.proofs.Common.{◌≡◌, ℕ, zero, suc, ◌-◌, ◌+◌, List, [], ◌∷◌, ◌++◌, length, Option, Some, refl, sym, ap, ◌∙◌, subst, Result, Ok, Err, Bool, true, false, append_assoc, append-nil}
 use Rattle.fx_fixed.specs.Chain.{◌>>=◌, map_fault}
 use Rattle.fx_sfnt.specs.declared.records.Metrics.{Metrics}
 use Rattle.fx_sfnt.specs.Tables.{Face}
@@ -11,6 +11,7 @@ use Rattle.fx_glyf.specs.declared.glyph.Glyph.TheVariants.{Empty, Simple, Compos
 use Rattle.fx_glyf.specs.Shapes.{SimpleView}
 use Rattle.fx_glyf.specs.Glyphs.{glyph_of}
 use Rattle.fx_scale.specs.declared.scale.Scale.{Scale}
+use Rattle.fx_hint.specs.declared.component.ComponentOf.{ComponentOf}
 use Rattle.fx_hint.specs.declared.count.Count.{Count}
 use Rattle.fx_hint.specs.declared.made.Made.{Made}
 use Rattle.fx_hint.specs.declared.below.OpenComposite.{OpenComposite}
@@ -31,7 +32,7 @@ use Rattle.fx_hint.specs.Limits.{max_depth}
 use Rattle.fx_hint.specs.Faults.{Fails}
 use Rattle.fx_hint.specs.Runs.{StopsAfter, HasRun, started_by}
 use Rattle.fx_hint.specs.declared.fault.HintFault.TheVariants.{OutOfMemory}
-use Rattle.fx_hint.proofs.Steps.{down, closes, assembled_by}
+use Rattle.fx_hint.proofs.Steps.{next_of, with_next, down, closes, assembled_by}
 use Rattle.fx_hint.specs.inner.RunSteps.{logged_left, logged_given_by, logged_goes_into, logged_rest_of}
 
 -- ---- the first of some programs
@@ -70,16 +71,17 @@ up_logged x = Ok (Assembled x.0, x.1)
 abbrev up : Made × Count → Result (Step × Count) HintFault
 up x = Ok (Assembled x.0, x.1)
 
-pub run_is : (h : Hinting) (g : ℕ) (code : List ℕ) (made : Made) (count : Count) (runs : List ProgramRun) (q : Result
-    (Made × Count) HintFault)
-    → run_on h g code (made, count) ≡ q → logged_run h g code (made, (count, runs)) ≡ logged (with_run runs g code made) q
+pub run_is : (h : Hinting) (component : Option ComponentOf) (g : ℕ) (code : List ℕ) (made : Made) (count : Count)
+    (runs : List ProgramRun) (q : Result (Made × Count) HintFault)
+    → run_on h g code (made, count) ≡ q → logged_run h component g code (made, (count, runs))
+    ≡ logged (with_run runs component g code made) q
 unfolding logged_run
-run_is h g code made count runs (Ok x) e =
-    ap (λ (r : Result (Made × Count) HintFault). after (with_run runs g code made) r
-    >>= λ ran. Ok (ran.0, (ran.1, with_run runs g code made))) e
-run_is h g code made count runs (Err d) e =
-    ap (λ (r : Result (Made × Count) HintFault). after (with_run runs g code made) r
-    >>= λ ran. Ok (ran.0, (ran.1, with_run runs g code made))) e
+run_is h component g code made count runs (Ok x) e =
+    ap (λ (r : Result (Made × Count) HintFault). after (with_run runs component g code made) r
+    >>= λ ran. Ok (ran.0, (ran.1, with_run runs component g code made))) e
+run_is h component g code made count runs (Err d) e =
+    ap (λ (r : Result (Made × Count) HintFault). after (with_run runs component g code made) r
+    >>= λ ran. Ok (ran.0, (ran.1, with_run runs component g code made))) e
 
 shut : Step → Bool
 shut (Assembled made) = true
@@ -90,48 +92,52 @@ shut_in (Ok x) = shut x.0
 shut_in (Err e) = true
 
 module _ (h : Hinting) (face : Face) (s : Scale) (root : ℕ) where
-  first_run : (g : ℕ) (code : List ℕ) (x : Made × Logged) → AreFirst x.1.1 (runs_in (logged_run h g code x))
+  first_run : (component : Option ComponentOf) (g : ℕ) (code : List ℕ) (x : Made × Logged)
+      → AreFirst x.1.1 (runs_in (logged_run h component g code x))
   unfolding logged_run
-  first_run g code x =
-      first_last x.1.1 (with_run x.1.1 g code x.0) (run_on h g code (x.0, x.1.0)) (λ ran. ran)
-      (first_more x.1.1 (record { g = g; code = code; made = x.0 } ∷ []))
+  first_run component g code x =
+      first_last x.1.1 (with_run x.1.1 component g code x.0) (run_on h g code (x.0, x.1.0)) (λ ran. ran)
+      (first_more x.1.1 (record { component = component; g = g; code = code; made = x.0 } ∷ []))
 
-  first_parts : (make : LoggedMaker) (g : ℕ) (parts : List Part) (base : Made) (count : Logged)
-      → ((n : ℕ) (c : Logged) → AreFirst c.1 (runs_in (make n c)))
-      → AreFirst count.1 (runs_in (logged_parts s h.on make g parts base count))
+  first_parts : (make : LoggedMaker) (g before : ℕ) (parts : List Part) (base : Made) (count : Logged)
+      → ((w : Option ComponentOf) (n : ℕ) (c : Logged) → AreFirst c.1 (runs_in (make w n c)))
+      → AreFirst count.1 (runs_in (logged_parts s h.on make g before parts base count))
   unfolding logged_parts
-  first_parts make g [] base count m = first_same count.1
-  first_parts make g (part ∷ parts) base count m =
+  first_parts make g before [] base count m = first_same count.1
+  first_parts make g before (part ∷ parts) base count m =
+      let next : Option ComponentOf = Some (record { composite = g; number = before + 1 }) in
       let k : Made × Logged → LoggedOutcome = λ component. after component.1.1 (with_part s h.on g part base component.0)
-      >>= λ more. logged_parts s h.on make g parts more component.1 in
-      first_then count.1 (runs_in (make part.glyph count)) (runs_in (make part.glyph count >>= k)) (m part.glyph count)
-      (first_chain (make part.glyph count) k (λ component. first_check component.1.1
-      (with_part s h.on g part base component.0) (λ more. logged_parts s h.on make g parts more component.1)
-      (λ more. first_parts make g parts more component.1 m)))
+      >>= λ more. logged_parts s h.on make g (before + 1) parts more component.1 in
+      first_then count.1 (runs_in (make next part.glyph count)) (runs_in (make next part.glyph count >>= k))
+      (m next part.glyph count) (first_chain (make next part.glyph count) k (λ component. first_check component.1.1
+      (with_part s h.on g part base component.0) (λ more. logged_parts s h.on make g (before + 1) parts more component.1)
+      (λ more. first_parts make g (before + 1) parts more component.1 m)))
 
-  first_simple : (g : ℕ) (code : List ℕ) (count : Logged) (r : Result (Made × Count) HintFault)
-      → AreFirst count.1 (runs_in ((after count.1 r >>= λ made. Ok (made.0, (made.1, count.1))) >>= logged_run h g code))
-  first_simple g code count (Ok made) = first_run g code (made.0, (made.1, count.1))
-  first_simple g code count (Err e) = first_same count.1
+  first_simple : (component : Option ComponentOf) (g : ℕ) (code : List ℕ) (count : Logged) (r : Result (Made × Count) HintFault)
+      → AreFirst count.1 (runs_in ((after count.1 r >>= λ made. Ok (made.0, (made.1, count.1))) >>= logged_run h component g code))
+  first_simple component g code count (Ok made) = first_run component g code (made.0, (made.1, count.1))
+  first_simple component g code count (Err e) = first_same count.1
 
-  first_made_of : (make : LoggedMaker) (g : ℕ) (m : Metrics) (glyph : glyf.Glyph) (count : Logged)
-      → ((n : ℕ) (c : Logged) → AreFirst c.1 (runs_in (make n c)))
-      → AreFirst count.1 (runs_in (logged_made_of h s root make g m glyph count))
+  first_made_of : (make : LoggedMaker) (component : Option ComponentOf) (g : ℕ) (m : Metrics) (glyph : glyf.Glyph) (count : Logged)
+      → ((w : Option ComponentOf) (n : ℕ) (c : Logged) → AreFirst c.1 (runs_in (make w n c)))
+      → AreFirst count.1 (runs_in (logged_made_of h s root make component g m glyph count))
   unfolding logged_made_of logged_simple
-  first_made_of make g m Empty count f = first_same count.1
-  first_made_of make g m (Simple shape) count f = first_simple g shape.code count (simple_made s h.on root m shape count.0)
-  first_made_of make g m (Composite assembly) count f =
-      first_then count.1 _ _ (first_parts make g assembly.components _ count f)
-      (first_chain (logged_parts s h.on make g assembly.components _ count) (logged_run h g assembly.code)
-      (λ x. first_run g assembly.code x))
+  first_made_of make component g m Empty count f = first_same count.1
+  first_made_of make component g m (Simple shape) count f =
+      first_simple component g shape.code count (simple_made s h.on root m shape count.0)
+  first_made_of make component g m (Composite assembly) count f =
+      first_then count.1 _ _ (first_parts make g 0 assembly.components _ count f)
+      (first_chain (logged_parts s h.on make g 0 assembly.components _ count) (logged_run h component g assembly.code)
+      (λ x. first_run component g assembly.code x))
 
-  first_assembled : (make : LoggedMaker) (g : ℕ) (count : Logged) → ((n : ℕ) (c : Logged) → AreFirst c.1 (runs_in (make n c)))
-      → AreFirst count.1 (runs_in (logged_assembled h face s root make g count))
+  first_assembled : (make : LoggedMaker) (component : Option ComponentOf) (g : ℕ) (count : Logged)
+      → ((w : Option ComponentOf) (n : ℕ) (c : Logged) → AreFirst c.1 (runs_in (make w n c)))
+      → AreFirst count.1 (runs_in (logged_assembled h face s root make component g count))
   unfolding logged_assembled
-  first_assembled make g count f =
+  first_assembled make component g count f =
       first_check count.1 (map_fault Font (metrics_of face g)) _ (λ m.
       first_check count.1 (map_fault Font (glyph_bytes_of face g)) _ (λ bytes.
-      first_check count.1 (map_fault Glyph (glyph_of bytes g)) _ (λ glyph. first_made_of make g m glyph count f)))
+      first_check count.1 (map_fault Glyph (glyph_of bytes g)) _ (λ glyph. first_made_of make component g m glyph count f)))
 
   first_one : (count : Logged) (r : Result Count HintFault) (k : Logged → LoggedOutcome)
       → ((c : Logged) → AreFirst c.1 (runs_in (k c)))
@@ -139,20 +145,22 @@ module _ (h : Hinting) (face : Face) (s : Scale) (root : ℕ) where
   first_one count (Ok counted) k f = f (counted, count.1)
   first_one count (Err e) k f = first_same count.1
 
-  first_component : (levels g : ℕ) (count : Logged) → AreFirst count.1 (runs_in (logged_component h face s root levels g count))
+  first_component : (levels : ℕ) (component : Option ComponentOf) (g : ℕ) (count : Logged)
+      → AreFirst count.1 (runs_in (logged_component h face s root levels component g count))
   unfolding logged_component logged_one
-  first_component zero g count = first_same count.1
-  first_component (suc levels) g count =
-      first_one count (one_component root count.0) (λ c. logged_assembled h face s root (logged_component h face s root levels) g c)
-      (λ c. first_assembled (logged_component h face s root levels) g c (λ n d. first_component levels n d))
+  first_component zero component g count = first_same count.1
+  first_component (suc levels) component g count =
+      first_one count (one_component root count.0)
+      (λ c. logged_assembled h face s root (logged_component h face s root levels) component g c)
+      (λ c. first_assembled (logged_component h face s root levels) component g c (λ w n d. first_component levels w n d))
 
   first_left : (levels : ℕ) (c : OpenComposite) (count : Logged)
       → AreFirst count.1 (runs_in (logged_left h face s root levels c count))
   first_left levels c count =
-      first_then count.1 _ _ (first_parts (logged_component h face s root levels) c.g c.parts c.base count
-      (λ n d. first_component levels n d))
-      (first_chain (logged_parts s h.on (logged_component h face s root levels) c.g c.parts c.base count)
-      (logged_run h c.g c.glyph.code) (λ x. first_run c.g c.glyph.code x))
+      first_then count.1 _ _ (first_parts (logged_component h face s root levels) c.g c.before c.parts c.base count
+      (λ w n d. first_component levels w n d))
+      (first_chain (logged_parts s h.on (logged_component h face s root levels) c.g c.before c.parts c.base count)
+      (logged_run h c.component c.g c.glyph.code) (λ x. first_run c.component c.g c.glyph.code x))
 
   first_into : (levels : ℕ) (w : Waiting) (r : Made × Logged) → AreFirst r.1.1 (runs_in (logged_goes_into h face s root levels w r))
   first_into levels w r =
@@ -180,13 +188,14 @@ module _ (h : Hinting) (face : Face) (s : Scale) (root : ℕ) where
   ran_after runs (Ok ran) = refl
   ran_after runs (Err e) = refl
 
-  ran_logged : (runs : List ProgramRun) (g : ℕ) (code : List ℕ) (r : Result (Made × Count) HintFault)
-      → ((after runs r >>= relogged runs) >>= λ made. logged_run h g code made >>= up_logged)
-      ≡ logged (runs ++ once r (λ made. record { g = g; code = code; made = made.0 } ∷ []))
+  ran_logged : (runs : List ProgramRun) (component : Option ComponentOf) (g : ℕ) (code : List ℕ)
+      (r : Result (Made × Count) HintFault)
+      → ((after runs r >>= relogged runs) >>= λ made. logged_run h component g code made >>= up_logged)
+      ≡ logged (runs ++ once r (λ made. record { component = component; g = g; code = code; made = made.0 } ∷ []))
       (r >>= λ made. run_on h g code made >>= up)
   unfolding logged_run
-  ran_logged runs g code (Ok made) = ran_after (with_run runs g code made.0) (run_on h g code made)
-  ran_logged runs g code (Err e) = ap (λ (t : List ProgramRun). Err (e, t)) (sym (append-nil runs))
+  ran_logged runs component g code (Ok made) = ran_after (with_run runs component g code made.0) (run_on h g code made)
+  ran_logged runs component g code (Err e) = ap (λ (t : List ProgramRun). Err (e, t)) (sym (append-nil runs))
 
   check_logged : {A B : Type 0} (runs : List ProgramRun) (r : Result A HintFault) (f : A → Result (B × Logged) LoggedFault)
       (k : A → Result (B × Count) HintFault) (l : A → List ProgramRun) → ((x : A) → f x ≡ logged (runs ++ l x) (k x))
@@ -194,21 +203,24 @@ module _ (h : Hinting) (face : Face) (s : Scale) (root : ℕ) where
   check_logged runs (Ok x) f k l h = h x
   check_logged runs (Err e) f k l h = ap (λ (t : List ProgramRun). Err (e, t)) (sym (append-nil runs))
 
-  begun_by_logged : (g : ℕ) (m : Metrics) (glyph : glyf.Glyph) (count : Count) (runs : List ProgramRun)
-      → logged_begun_by h s root g m glyph (count, runs)
-      ≡ logged (runs ++ begun_by_runs h s root g m glyph count) (begun_by h s root g m glyph count)
+  begun_by_logged : (component : Option ComponentOf) (g : ℕ) (m : Metrics) (glyph : glyf.Glyph) (count : Count)
+      (runs : List ProgramRun)
+      → logged_begun_by h s root component g m glyph (count, runs)
+      ≡ logged (runs ++ begun_by_runs h s root component g m glyph count) (begun_by h s root component g m glyph count)
   unfolding logged_begun_by logged_simple begun_by begun_by_runs
-  begun_by_logged g m Empty count runs = rw (append-nil runs) refl
-  begun_by_logged g m (Simple shape) count runs = ran_logged runs g shape.code (simple_made s h.on root m shape count)
-  begun_by_logged g m (Composite assembly) count runs = rw (append-nil runs) refl
+  begun_by_logged component g m Empty count runs = rw (append-nil runs) refl
+  begun_by_logged component g m (Simple shape) count runs =
+      ran_logged runs component g shape.code (simple_made s h.on root m shape count)
+  begun_by_logged component g m (Composite assembly) count runs = rw (append-nil runs) refl
 
-  begun_logged : (g : ℕ) (count : Count) (runs : List ProgramRun) → logged_begun h face s root g (count, runs)
-      ≡ logged (runs ++ begun_runs h face s root g count) (begun h face s root g count)
+  begun_logged : (component : Option ComponentOf) (g : ℕ) (count : Count) (runs : List ProgramRun)
+      → logged_begun h face s root component g (count, runs)
+      ≡ logged (runs ++ begun_runs h face s root component g count) (begun h face s root component g count)
   unfolding logged_begun begun begun_runs
-  begun_logged g count runs =
+  begun_logged component g count runs =
       check_logged runs (map_fault Font (metrics_of face g)) _ _ _ (λ m.
       check_logged runs (map_fault Font (glyph_bytes_of face g)) _ _ _ (λ bytes.
-      check_logged runs (map_fault Glyph (glyph_of bytes g)) _ _ _ (λ glyph. begun_by_logged g m glyph count runs)))
+      check_logged runs (map_fault Glyph (glyph_of bytes g)) _ _ _ (λ glyph. begun_by_logged component g m glyph count runs)))
 
   one_logged : {B : Type 0} (runs : List ProgramRun) (r : Result Count HintFault) (f : Logged → Result (B × Logged) LoggedFault)
       (k : Count → Result (B × Count) HintFault) (l : Count → List ProgramRun)
@@ -217,22 +229,26 @@ module _ (h : Hinting) (face : Face) (s : Scale) (root : ℕ) where
   one_logged runs (Ok c) f k l h = h c
   one_logged runs (Err e) f k l h = ap (λ (t : List ProgramRun). Err (e, t)) (sym (append-nil runs))
 
-  component_logged : (levels g : ℕ) (count : Count) (runs : List ProgramRun)
-      → logged_begun_component h face s root levels g (count, runs)
-      ≡ logged (runs ++ begun_component_runs h face s root levels g count) (begun_component h face s root levels g count)
+  component_logged : (levels : ℕ) (component : Option ComponentOf) (g : ℕ) (count : Count) (runs : List ProgramRun)
+      → logged_begun_component h face s root levels component g (count, runs)
+      ≡ logged (runs ++ begun_component_runs h face s root levels component g count)
+      (begun_component h face s root levels component g count)
   unfolding logged_begun_component logged_one begun_component begun_component_runs
-  component_logged zero g count runs = rw (append-nil runs) refl
-  component_logged (suc levels) g count runs =
-      one_logged runs (one_component root count) (λ c. logged_begun h face s root g c) (λ c. begun h face s root g c)
-      (λ c. begun_runs h face s root g c) (λ c. begun_logged g c runs)
+  component_logged zero component g count runs = rw (append-nil runs) refl
+  component_logged (suc levels) component g count runs =
+      one_logged runs (one_component root count) (λ c. logged_begun h face s root component g c)
+      (λ c. begun h face s root component g c) (λ c. begun_runs h face s root component g c)
+      (λ c. begun_logged component g c runs)
 
   -- in the loop: what a component gives, plain and logged
-  pub logged_is : (levels g : ℕ) (count : Count) (runs : List ProgramRun) (q : Result (Step × Count) HintFault)
-      → begun_component h face s root levels g count ≡ q → logged_begun_component h face s root levels g (count, runs)
-      ≡ logged (runs ++ begun_component_runs h face s root levels g count) q
-  logged_is levels g count runs q e =
-      component_logged levels g count runs
-      ∙ ap (λ (r : Result (Step × Count) HintFault). logged (runs ++ begun_component_runs h face s root levels g count) r) e
+  pub logged_is : (levels : ℕ) (component : Option ComponentOf) (g : ℕ) (count : Count) (runs : List ProgramRun)
+      (q : Result (Step × Count) HintFault) → begun_component h face s root levels component g count ≡ q
+      → logged_begun_component h face s root levels component g (count, runs)
+      ≡ logged (runs ++ begun_component_runs h face s root levels component g count) q
+  logged_is levels component g count runs q e =
+      component_logged levels component g count runs
+      ∙ ap (λ (r : Result (Step × Count) HintFault).
+      logged (runs ++ begun_component_runs h face s root levels component g count) r) e
 
   runs_of_logged : {A : Type 0} (runs : List ProgramRun) (q : Result (A × Count) HintFault) → runs_in (logged runs q) ≡ runs
   runs_of_logged runs (Ok x) = refl
@@ -244,12 +260,12 @@ module _ (h : Hinting) (face : Face) (s : Scale) (root : ℕ) where
       → logged_rest_of h face s root max_depth below (logged_given_by h face s root (max_depth - length below)
       (Open c, count)) ≡ due
       → c.parts ≡ part ∷ parts → levels ≡ max_depth - length below
-      → logged_begun_component h face s root levels part.glyph count ≡ logged runs q → AreFirst runs (runs_in due)
+      → logged_begun_component h face s root levels (next_of c) part.glyph count ≡ logged runs q → AreFirst runs (runs_in due)
   first_of_begun below levels c part parts count due runs q i e l b =
-      let w : Waiting = record { part = part; composite = record c { parts = parts } } in
+      let w : Waiting = record { part = part; composite = with_next c parts } in
       let k = max_depth - length below in
       let begun = rw l at b in
-      let t = logged_begun_component h face s root (max_depth - length below) part.glyph count in
+      let t = logged_begun_component h face s root (max_depth - length below) (next_of c) part.glyph count in
       let P : LoggedOutcome → Type 0 = λ o. AreFirst (runs_in t) (runs_in o) in
       let f = subst P (down h face s root below c part parts count due i e)
       (first_then (runs_in t) _ _ (first_then (runs_in t) _ _
@@ -268,9 +284,9 @@ module _ (h : Hinting) (face : Face) (s : Scale) (root : ℕ) where
   pub first_of_closed : (below : List Waiting) (levels : ℕ) (c : OpenComposite) (count : Logged) (due : LoggedOutcome)
       (runs : List ProgramRun) (q : Result (Made × Count) HintFault)
       → logged_rest_of h face s root max_depth below (logged_given_by h face s root levels (Open c, count)) ≡ due
-      → c.parts ≡ [] → logged_run h c.g c.glyph.code (c.base, count) ≡ logged runs q → AreFirst runs (runs_in due)
+      → c.parts ≡ [] → logged_run h c.component c.g c.glyph.code (c.base, count) ≡ logged runs q → AreFirst runs (runs_in due)
   first_of_closed below levels c count due runs q i e r =
-      let t = logged_run h c.g c.glyph.code (c.base, count) in
+      let t = logged_run h c.component c.g c.glyph.code (c.base, count) in
       let P : LoggedOutcome → Type 0 = λ o. AreFirst (runs_in t) (runs_in o) in
       let f = subst P (sym (ap (λ (o : LoggedOutcome). logged_rest_of h face s root max_depth below o)
       (closes h face s root levels c count e)) ∙ i) (first_rest max_depth below t) in
@@ -284,38 +300,42 @@ module _ (h : Hinting) (face : Face) (s : Scale) (root : ℕ) where
       → logged_rest_of h face s root max_depth below (logged_given_by h face s root (max_depth - length below)
       (Open c, count)) ≡ due
       → c.parts ≡ part ∷ parts → levels ≡ max_depth - length below
-      → logged_begun_component h face s root levels part.glyph count ≡ Ok (step, counted) → AreFirst counted.1 (runs_in due)
+      → logged_begun_component h face s root levels (next_of c) part.glyph count ≡ Ok (step, counted)
+      → AreFirst counted.1 (runs_in due)
   first_of_ok below levels c part parts count counted due step i e l b =
       first_of_begun below levels c part parts count due counted.1 (Ok (step, counted.0)) i e l b
 
   pub first_of_ran : (below : List Waiting) (levels : ℕ) (c : OpenComposite) (count counted : Logged) (due : LoggedOutcome)
       (made : Made)
       → logged_rest_of h face s root max_depth below (logged_given_by h face s root levels (Open c, count)) ≡ due
-      → c.parts ≡ [] → logged_run h c.g c.glyph.code (c.base, count) ≡ Ok (made, counted) → AreFirst counted.1 (runs_in due)
+      → c.parts ≡ [] → logged_run h c.component c.g c.glyph.code (c.base, count) ≡ Ok (made, counted)
+      → AreFirst counted.1 (runs_in due)
   first_of_ran below levels c count counted due made i e r =
       first_of_closed below levels c count due counted.1 (Ok (made, counted.0)) i e r
 
   -- ---- the root is begun
 
-  pub begun_is : (g : ℕ) (count : Count) (runs : List ProgramRun) (q : Result (Step × Count) HintFault)
-      → begun h face s root g count ≡ q → logged_begun h face s root g (count, runs)
-      ≡ logged (runs ++ begun_runs h face s root g count) q
-  begun_is g count runs q e =
-      begun_logged g count runs
-      ∙ ap (λ (r : Result (Step × Count) HintFault). logged (runs ++ begun_runs h face s root g count) r) e
+  pub begun_is : (component : Option ComponentOf) (g : ℕ) (count : Count) (runs : List ProgramRun)
+      (q : Result (Step × Count) HintFault)
+      → begun h face s root component g count ≡ q → logged_begun h face s root component g (count, runs)
+      ≡ logged (runs ++ begun_runs h face s root component g count) q
+  begun_is component g count runs q e =
+      begun_logged component g count runs
+      ∙ ap (λ (r : Result (Step × Count) HintFault). logged (runs ++ begun_runs h face s root component g count) r) e
 
-  pub first_of_root : (g : ℕ) (count : Logged) (runs : List ProgramRun) (q : Result (Step × Count) HintFault)
-      → logged_begun h face s root g count ≡ logged runs q
-      → AreFirst runs (runs_in (logged_assembled h face s root (logged_component h face s root max_depth) g count))
-  first_of_root g count runs q b =
-      let t = logged_begun h face s root g count in
+  pub first_of_root : (component : Option ComponentOf) (g : ℕ) (count : Logged) (runs : List ProgramRun)
+      (q : Result (Step × Count) HintFault)
+      → logged_begun h face s root component g count ≡ logged runs q
+      → AreFirst runs (runs_in (logged_assembled h face s root (logged_component h face s root max_depth) component g count))
+  first_of_root component g count runs q b =
+      let t = logged_begun h face s root component g count in
       let P : LoggedOutcome → Type 0 = λ o. AreFirst (runs_in t) (runs_in o) in
-      let f = subst P (sym (assembled_by h face s root max_depth g count))
+      let f = subst P (sym (assembled_by h face s root max_depth component g count))
       (first_chain t (logged_given_by h face s root max_depth) (λ x. first_given max_depth x)) in
       let same : runs_in t ≡ runs =
       ap (λ (o : Result (Step × Logged) LoggedFault). runs_in o) b ∙ runs_of_logged runs q in
       let Q : List ProgramRun → Type 0 =
-      λ rs. AreFirst rs (runs_in (logged_assembled h face s root (logged_component h face s root max_depth) g count)) in
+      λ rs. AreFirst rs (runs_in (logged_assembled h face s root (logged_component h face s root max_depth) component g count)) in
       subst Q same f
 
   -- a composite that is begun has started no program
@@ -331,39 +351,40 @@ module _ (h : Hinting) (face : Face) (s : Scale) (root : ℕ) where
   none_made (Ok made) f l c counted e = none_ran (f made) c counted (l made) e
   none_made (Err d) f l c counted e = refl
 
-  none_by : (g : ℕ) (m : Metrics) (glyph : glyf.Glyph) (count counted : Count) (c : OpenComposite)
-      → begun_by h s root g m glyph count ≡ Ok (Open c, counted) → begun_by_runs h s root g m glyph count ≡ []
+  none_by : (component : Option ComponentOf) (g : ℕ) (m : Metrics) (glyph : glyf.Glyph) (count counted : Count) (c : OpenComposite)
+      → begun_by h s root component g m glyph count ≡ Ok (Open c, counted) → begun_by_runs h s root component g m glyph count ≡ []
   unfolding begun_by begun_by_runs
-  none_by g m Empty count counted c e = refl
-  none_by g m (Simple shape) count counted c e =
+  none_by component g m Empty count counted c e = refl
+  none_by component g m (Simple shape) count counted c e =
       none_made (simple_made s h.on root m shape count) (run_on h g shape.code) _ c counted e
-  none_by g m (Composite assembly) count counted c e = refl
+  none_by component g m (Composite assembly) count counted c e = refl
 
   once_none : {A B : Type 0} (r : Result A HintFault) (k : A → Result B HintFault) (l : A → List ProgramRun) (y : B)
       → ((x : A) → k x ≡ Ok y → l x ≡ []) → (r >>= k) ≡ Ok y → once r l ≡ []
   once_none (Ok x) k l y h e = h x e
   once_none (Err d) k l y h e = refl
 
-  none_begun : (g : ℕ) (count counted : Count) (c : OpenComposite)
-      → begun h face s root g count ≡ Ok (Open c, counted) → begun_runs h face s root g count ≡ []
+  none_begun : (component : Option ComponentOf) (g : ℕ) (count counted : Count) (c : OpenComposite)
+      → begun h face s root component g count ≡ Ok (Open c, counted) → begun_runs h face s root component g count ≡ []
   unfolding begun begun_runs
-  none_begun g count counted c e =
+  none_begun component g count counted c e =
       once_none (map_fault Font (metrics_of face g)) _ _ (Open c, counted)
       (λ m. once_none (map_fault Font (glyph_bytes_of face g)) _ _ (Open c, counted)
       (λ bytes. once_none (map_fault Glyph (glyph_of bytes g)) _ _ (Open c, counted)
-      (λ glyph f. none_by g m glyph count counted c f))) e
+      (λ glyph f. none_by component g m glyph count counted c f))) e
 
   -- so the root gives what it gives as an open composite
-  pub opened : (g : ℕ) (count counted : Count) (c : OpenComposite) → begun h face s root g count ≡ Ok (Open c, counted)
-      → (begun_runs h face s root g count ≡ [])
-      × (logged_assembled h face s root (logged_component h face s root max_depth) g (count, [])
+  pub opened : (component : Option ComponentOf) (g : ℕ) (count counted : Count) (c : OpenComposite)
+      → begun h face s root component g count ≡ Ok (Open c, counted)
+      → (begun_runs h face s root component g count ≡ [])
+      × (logged_assembled h face s root (logged_component h face s root max_depth) component g (count, [])
       ≡ logged_left h face s root max_depth c (counted, []))
-  opened g count counted c e =
-      let n = none_begun g count counted c e in (
+  opened component g count counted c e =
+      let n = none_begun component g count counted c e in (
         n,
-        assembled_by h face s root max_depth g (count, [])
+        assembled_by h face s root max_depth component g (count, [])
             ∙ ap (λ (q : Result (Step × Logged) LoggedFault). q >>= logged_given_by h face s root max_depth)
-            (begun_is g count [] (Ok (Open c, counted)) e)
+            (begun_is component g count [] (Ok (Open c, counted)) e)
             ∙ ap (λ (rs : List ProgramRun). logged_left h face s root max_depth c (counted, rs)) n,
       )
 
@@ -394,33 +415,39 @@ stops_on Leads then was mid now e r runs more due l s a f h =
 
 -- ---- a glyph that is begun
 
-pub simple_runs : (h : Hinting) (s : Scale) (root g : ℕ) (m : Metrics) (shape : SimpleView) (count counted : Count) (made : Made)
+pub simple_runs : (h : Hinting) (s : Scale) (root : ℕ) (component : Option ComponentOf) (g : ℕ) (m : Metrics)
+    (shape : SimpleView) (count counted : Count) (made : Made)
     → simple_made s h.on root m shape count ≡ Ok (made, counted)
-    → begun_by_runs h s root g m (Simple shape) count ≡ record { g = g; code = shape.code; made = made } ∷ []
+    → begun_by_runs h s root component g m (Simple shape) count
+    ≡ record { component = component; g = g; code = shape.code; made = made } ∷ []
 unfolding begun_by_runs
-simple_runs h s root g m shape count counted made e =
-    ap (λ (r : Result (Made × Count) HintFault). once r (λ q. record { g = g; code = shape.code; made = q.0 } ∷ [])) e
+simple_runs h s root component g m shape count counted made e =
+    ap (λ (r : Result (Made × Count) HintFault).
+    once r (λ q. record { component = component; g = g; code = shape.code; made = q.0 } ∷ [])) e
 
 any_once : {A : Type 0} (P : List ProgramRun → Type 0) (r : Result A HintFault) (f : A → List ProgramRun) → P []
     → ((x : A) → P (f x)) → P (once r f)
 any_once P (Ok x) f n h = h x
 any_once P (Err e) f n h = n
 
-any_by : (P : List ProgramRun → Type 0) (h : Hinting) (s : Scale) (root g : ℕ) (m : Metrics) (glyph : glyf.Glyph) (count : Count)
-    → P [] → ((run : ProgramRun) → P (run ∷ [])) → P (begun_by_runs h s root g m glyph count)
+any_by : (P : List ProgramRun → Type 0) (h : Hinting) (s : Scale) (root : ℕ) (component : Option ComponentOf) (g : ℕ)
+    (m : Metrics) (glyph : glyf.Glyph) (count : Count)
+    → P [] → ((run : ProgramRun) → P (run ∷ [])) → P (begun_by_runs h s root component g m glyph count)
 unfolding begun_by_runs
-any_by P h s root g m Empty count n one = n
-any_by P h s root g m (Simple shape) count n one =
-    any_once P (simple_made s h.on root m shape count) _ n (λ made. one (record { g = g; code = shape.code; made = made.0 }))
-any_by P h s root g m (Composite assembly) count n one = n
+any_by P h s root component g m Empty count n one = n
+any_by P h s root component g m (Simple shape) count n one =
+    any_once P (simple_made s h.on root m shape count) _ n
+    (λ made. one (record { component = component; g = g; code = shape.code; made = made.0 }))
+any_by P h s root component g m (Composite assembly) count n one = n
 
-any_begun : (P : List ProgramRun → Type 0) (h : Hinting) (face : Face) (s : Scale) (root g : ℕ) (count : Count) → P []
-    → ((run : ProgramRun) → P (run ∷ [])) → P (begun_runs h face s root g count)
+any_begun : (P : List ProgramRun → Type 0) (h : Hinting) (face : Face) (s : Scale) (root : ℕ) (component : Option ComponentOf)
+    (g : ℕ) (count : Count) → P []
+    → ((run : ProgramRun) → P (run ∷ [])) → P (begun_runs h face s root component g count)
 unfolding begun_runs
-any_begun P h face s root g count n one =
+any_begun P h face s root component g count n one =
     any_once P (map_fault Font (metrics_of face g)) _ n (λ m.
     any_once P (map_fault Font (glyph_bytes_of face g)) _ n (λ bytes.
-    any_once P (map_fault Glyph (glyph_of bytes g)) _ n (λ glyph. any_by P h s root g m glyph count n one)))
+    any_once P (map_fault Glyph (glyph_of bytes g)) _ n (λ glyph. any_by P h s root component g m glyph count n one)))
 
 stands : {S A : Type 0} (Leads : S → List ProgramRun → S → Type 0) (x : S) (r : Result A HintFault) (runs : List ProgramRun)
     → Leads x runs x → HasRun Leads x x r runs
@@ -430,10 +457,12 @@ stands Leads x (Err e) runs l = l
 
 -- a hinter that recalls glyphs takes each for run
 pub recalls : {S A : Type 0} (Leads : S → List ProgramRun → S → Type 0) (x : S) (r : Result A HintFault) (h : Hinting) (face : Face)
-    (s : Scale) (root g : ℕ) (count : Count) → Leads x [] x → ((run : ProgramRun) → Leads x (run ∷ []) x)
-    → HasRun Leads x x r (begun_runs h face s root g count)
-recalls Leads x r h face s root g count n one =
-    stands Leads x r (begun_runs h face s root g count) (any_begun (λ runs. Leads x runs x) h face s root g count n one)
+    (s : Scale) (root : ℕ) (component : Option ComponentOf) (g : ℕ) (count : Count) → Leads x [] x
+    → ((run : ProgramRun) → Leads x (run ∷ []) x)
+    → HasRun Leads x x r (begun_runs h face s root component g count)
+recalls Leads x r h face s root component g count n one =
+    stands Leads x r (begun_runs h face s root component g count)
+    (any_begun (λ runs. Leads x runs x) h face s root component g count n one)
 
 -- no program, and then some
 pub none_then : {S A : Type 0} (Leads : S → List ProgramRun → S → Type 0)

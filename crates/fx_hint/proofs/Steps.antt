@@ -1,6 +1,6 @@
 -- The walk over components by its steps gives what the recursion on components gives, with the programs that it starts.
 -- For the walk, one loop with the composites that wait in a list.
-use Rattle.std.proofs.Common.{◌≡◌, ℕ, zero, suc, ◌+◌, ◌-◌, List, [], ◌∷◌, ◌++◌, length, refl, sym}
+use Rattle.std.proofs.Common.{◌≡◌, ℕ, zero, suc, ◌+◌, ◌-◌, List, [], ◌∷◌, ◌++◌, length, Option, Some, refl, sym}
 use Rattle.std.proofs.Common.{ap, ◌∙◌, subst, Result, Ok, Err, arith}
 use Rattle.std.proofs.Common.{length-append}
 use Rattle.fx_fixed.proofs.Chain.{map_ok_ok}
@@ -14,6 +14,7 @@ use Rattle.fx_glyf.specs.declared.glyph.Glyph as glyf
 use Rattle.fx_glyf.specs.declared.glyph.Glyph.TheVariants.{Empty, Simple, Composite}
 use Rattle.fx_glyf.specs.Glyphs.{glyph_of}
 use Rattle.fx_scale.specs.declared.scale.Scale.{Scale}
+use Rattle.fx_hint.specs.declared.component.ComponentOf.{ComponentOf}
 use Rattle.fx_hint.specs.declared.made.Made.{Made}
 use Rattle.fx_hint.specs.declared.below.OpenComposite.{OpenComposite}
 use Rattle.fx_hint.specs.declared.below.Waiting.{Waiting}
@@ -25,6 +26,14 @@ use Rattle.fx_hint.specs.Hinting.{Hinting}
 use Rattle.fx_hint.specs.Parts.{with_part}
 use Rattle.fx_hint.specs.Runs.{Logged, LoggedFault, after, logged_one, logged_simple, logged_run, logged_parts, logged_made_of, logged_assembled, logged_component}
 use Rattle.fx_hint.specs.inner.RunSteps.{LoggedOutcome, logged_begun_by, logged_begun, logged_begun_component, logged_left, logged_given_by, logged_goes_into, logged_rest_of}
+
+-- the next component of an open composite
+abbrev pub next_of : OpenComposite → Option ComponentOf
+next_of c = Some (record { composite = c.g; number = c.before + 1 })
+
+-- the composite after it
+abbrev pub with_next : OpenComposite → List Part → OpenComposite
+with_next c parts = record c { before = c.before + 1; parts = parts }
 
 -- a chain that is parted
 last_of : {C D G E : Type 0} (r : Result C E) (f : C → Result D E) (g : C → Result G E) (k : G → Result D E)
@@ -61,55 +70,59 @@ module _ (h : Hinting) (face : Face) (s : Scale) (root : ℕ) where
   simple_by levels (Err e) f = refl
 
   -- a glyph that has been read is begun, and then gives what it gives
-  made_by : (levels g : ℕ) (m : Metrics) (glyph : glyf.Glyph) (count : Logged)
-      → logged_made_of h s root (logged_component h face s root levels) g m glyph count
-      ≡ (logged_begun_by h s root g m glyph count >>= logged_given_by h face s root levels)
+  made_by : (levels : ℕ) (component : Option ComponentOf) (g : ℕ) (m : Metrics) (glyph : glyf.Glyph) (count : Logged)
+      → logged_made_of h s root (logged_component h face s root levels) component g m glyph count
+      ≡ (logged_begun_by h s root component g m glyph count >>= logged_given_by h face s root levels)
   unfolding logged_made_of logged_begun_by
-  made_by levels g m Empty count = refl
-  made_by levels g m (Simple shape) count = simple_by levels (logged_simple s h.on root m shape count) (logged_run h g shape.code)
-  made_by levels g m (Composite assembly) count = refl
+  made_by levels component g m Empty count = refl
+  made_by levels component g m (Simple shape) count =
+      simple_by levels (logged_simple s h.on root m shape count) (logged_run h component g shape.code)
+  made_by levels component g m (Composite assembly) count = refl
 
   -- a glyph is begun, and then gives what it gives
-  pub assembled_by : (levels g : ℕ) (count : Logged)
-      → logged_assembled h face s root (logged_component h face s root levels) g count
-      ≡ (logged_begun h face s root g count >>= logged_given_by h face s root levels)
+  pub assembled_by : (levels : ℕ) (component : Option ComponentOf) (g : ℕ) (count : Logged)
+      → logged_assembled h face s root (logged_component h face s root levels) component g count
+      ≡ (logged_begun h face s root component g count >>= logged_given_by h face s root levels)
   unfolding logged_assembled logged_begun
-  assembled_by levels g count =
+  assembled_by levels component g count =
       three_of (after count.1 (map_fault Font (metrics_of face g))) (after count.1 (map_fault Font (glyph_bytes_of face g)))
       (λ bytes. after count.1 (map_fault Glyph (glyph_of bytes g)))
-      (λ m glyph. logged_made_of h s root (logged_component h face s root levels) g m glyph count)
-      (λ m glyph. logged_begun_by h s root g m glyph count) (logged_given_by h face s root levels)
-      (λ m glyph. made_by levels g m glyph count)
+      (λ m glyph. logged_made_of h s root (logged_component h face s root levels) component g m glyph count)
+      (λ m glyph. logged_begun_by h s root component g m glyph count) (logged_given_by h face s root levels)
+      (λ m glyph. made_by levels component g m glyph count)
 
-  component_by : (levels g : ℕ) (count : Logged) → logged_component h face s root levels g count
-      ≡ (logged_begun_component h face s root levels g count >>= logged_given_by h face s root (levels - 1))
+  component_by : (levels : ℕ) (component : Option ComponentOf) (g : ℕ) (count : Logged)
+      → logged_component h face s root levels component g count
+      ≡ (logged_begun_component h face s root levels component g count >>= logged_given_by h face s root (levels - 1))
   unfolding logged_component logged_begun_component
-  component_by zero g count = refl
-  component_by (suc levels) g count =
+  component_by zero component g count = refl
+  component_by (suc levels) component g count =
       let e : suc levels - 1 ≡ levels = omega arith in
       rw e (last_of (logged_one root count) (λ counted. logged_assembled h face s root
-      (logged_component h face s root levels) g counted)
-      (λ counted. logged_begun h face s root g counted) (logged_given_by h face s root levels)
-      (λ counted. assembled_by levels g counted))
+      (logged_component h face s root levels) component g counted)
+      (λ counted. logged_begun h face s root component g counted) (logged_given_by h face s root levels)
+      (λ counted. assembled_by levels component g counted))
 
   -- the next component of an open composite: the composite waits for it
   waits : (levels : ℕ) (c : OpenComposite) (part : Part) (parts : List Part) (count : Logged) → c.parts ≡ part ∷ parts
-      → logged_left h face s root levels c count ≡ (logged_component h face s root levels part.glyph count
-      >>= logged_goes_into h face s root levels (record { part = part; composite = record c { parts = parts } }))
+      → logged_left h face s root levels c count ≡ (logged_component h face s root levels (next_of c) part.glyph count
+      >>= logged_goes_into h face s root levels (record { part = part; composite = with_next c parts }))
   unfolding logged_parts
   waits levels c part parts count e =
-      ap (λ (ps : List Part). logged_parts s h.on (logged_component h face s root levels) c.g ps c.base count
-      >>= logged_run h c.g c.glyph.code) e
-      ∙ two_after (logged_component h face s root levels part.glyph count) (λ m. after m.1.1 (with_part s h.on c.g part c.base m.0))
-      (λ m more. logged_parts s h.on (logged_component h face s root levels) c.g parts more m.1) (logged_run h c.g c.glyph.code)
+      ap (λ (ps : List Part). logged_parts s h.on (logged_component h face s root levels) c.g c.before ps c.base count
+      >>= logged_run h c.component c.g c.glyph.code) e
+      ∙ two_after (logged_component h face s root levels (next_of c) part.glyph count)
+      (λ m. after m.1.1 (with_part s h.on c.g part c.base m.0))
+      (λ m more. logged_parts s h.on (logged_component h face s root levels) c.g (c.before + 1) parts more m.1)
+      (logged_run h c.component c.g c.glyph.code)
 
   -- no component is left: the composite's program runs
   pub closes : (levels : ℕ) (c : OpenComposite) (count : Logged) → c.parts ≡ []
-      → logged_left h face s root levels c count ≡ logged_run h c.g c.glyph.code (c.base, count)
+      → logged_left h face s root levels c count ≡ logged_run h c.component c.g c.glyph.code (c.base, count)
   unfolding logged_parts
   closes levels c count e =
-      ap (λ (ps : List Part). logged_parts s h.on (logged_component h face s root levels) c.g ps c.base count
-      >>= logged_run h c.g c.glyph.code) e
+      ap (λ (ps : List Part). logged_parts s h.on (logged_component h face s root levels) c.g c.before ps c.base count
+      >>= logged_run h c.component c.g c.glyph.code) e
 
   -- a refusal is the root's
   rest_refused : (levels : ℕ) (ws : List Waiting) (e : LoggedFault) → logged_rest_of h face s root levels ws (Err e) ≡ Err e
@@ -135,11 +148,12 @@ module _ (h : Hinting) (face : Face) (s : Scale) (root : ℕ) where
   -- ---- the steps of the loop: what the root gives stays the same, `due`
 
   -- the root is begun
-  pub begins : (g : ℕ) (count counted : Logged) (step : Step) → logged_begun h face s root g count ≡ Ok (step, counted)
-      → logged_assembled h face s root (logged_component h face s root max_depth) g count
+  pub begins : (component : Option ComponentOf) (g : ℕ) (count counted : Logged) (step : Step)
+      → logged_begun h face s root component g count ≡ Ok (step, counted)
+      → logged_assembled h face s root (logged_component h face s root max_depth) component g count
       ≡ logged_given_by h face s root max_depth (step, counted)
-  begins g count counted step e =
-      assembled_by max_depth g count
+  begins component g count counted step e =
+      assembled_by max_depth component g count
       ∙ ap (λ (q : Result (Step × Logged) LoggedFault). q >>= logged_given_by h face s root max_depth) e
 
   -- and no composite waits yet
@@ -153,10 +167,11 @@ module _ (h : Hinting) (face : Face) (s : Scale) (root : ℕ) where
       ≡ logged_left h face s root max_depth c count in
       subst P (sym b) refl
 
-  pub not_begun : (g : ℕ) (count : Logged) (e : LoggedFault) → logged_begun h face s root g count ≡ Err e
-      → logged_assembled h face s root (logged_component h face s root max_depth) g count ≡ Err e
-  not_begun g count e b =
-      assembled_by max_depth g count ∙ ap (λ (q : Result
+  pub not_begun : (component : Option ComponentOf) (g : ℕ) (count : Logged) (e : LoggedFault)
+      → logged_begun h face s root component g count ≡ Err e
+      → logged_assembled h face s root (logged_component h face s root max_depth) component g count ≡ Err e
+  not_begun component g count e b =
+      assembled_by max_depth component g count ∙ ap (λ (q : Result
       (Step × Logged) LoggedFault). q >>= logged_given_by h face s root max_depth) b
 
   -- an assembled glyph goes into the composite that waits for it
@@ -204,14 +219,14 @@ module _ (h : Hinting) (face : Face) (s : Scale) (root : ℕ) where
   -- no component is left: the program runs
   pub runs : (below : List Waiting) (levels : ℕ) (c : OpenComposite) (count counted : Logged) (made : Made) (due : LoggedOutcome)
       → logged_rest_of h face s root max_depth below (logged_given_by h face s root levels (Open c, count)) ≡ due → c.parts ≡ []
-      → logged_run h c.g c.glyph.code (c.base, count) ≡ Ok (made, counted)
+      → logged_run h c.component c.g c.glyph.code (c.base, count) ≡ Ok (made, counted)
       → logged_rest_of h face s root max_depth below (Ok (made, counted)) ≡ due
   runs below levels c count counted made due i e r =
       sym (ap (λ (q : LoggedOutcome). logged_rest_of h face s root max_depth below q) (closes levels c count e ∙ r)) ∙ i
 
   pub not_run : (below : List Waiting) (levels : ℕ) (c : OpenComposite) (count : Logged) (due : LoggedOutcome) (d : LoggedFault)
       → logged_rest_of h face s root max_depth below (logged_given_by h face s root levels (Open c, count)) ≡ due → c.parts ≡ []
-      → logged_run h c.g c.glyph.code (c.base, count) ≡ Err d → due ≡ Err d
+      → logged_run h c.component c.g c.glyph.code (c.base, count) ≡ Err d → due ≡ Err d
   not_run below levels c count due d i e r =
       sym i ∙ ap (λ (q : LoggedOutcome). logged_rest_of h face s root max_depth below q) (closes levels c count e ∙ r)
       ∙ rest_refused max_depth below d
@@ -222,15 +237,16 @@ module _ (h : Hinting) (face : Face) (s : Scale) (root : ℕ) where
       (Open c, count)) ≡ due
       → c.parts ≡ part ∷ parts
       → logged_rest_of h face s root max_depth below
-      ((logged_begun_component h face s root (max_depth - length below) part.glyph count
+      ((logged_begun_component h face s root (max_depth - length below) (next_of c) part.glyph count
       >>= logged_given_by h face s root (max_depth - length below - 1))
       >>= logged_goes_into h face s root (max_depth - length below)
-      (record { part = part; composite = record c { parts = parts } })) ≡ due
+      (record { part = part; composite = with_next c parts })) ≡ due
   down below c part parts count due i e =
       sym (ap (λ (q : LoggedOutcome). logged_rest_of h face s root max_depth below q)
       (waits (max_depth - length below) c part parts count e
       ∙ ap (λ (q : LoggedOutcome). q >>= logged_goes_into h face s root (max_depth - length below)
-      (record { part = part; composite = record c { parts = parts } })) (component_by (max_depth - length below) part.glyph count)))
+      (record { part = part; composite = with_next c parts }))
+      (component_by (max_depth - length below) (next_of c) part.glyph count)))
       ∙ i
 
   pub descends : (below all : List Waiting) (levels : ℕ) (c : OpenComposite) (part : Part) (parts : List Part) (step : Step)
@@ -238,12 +254,12 @@ module _ (h : Hinting) (face : Face) (s : Scale) (root : ℕ) where
       → logged_rest_of h face s root max_depth below (logged_given_by h face s root (max_depth - length below)
       (Open c, count)) ≡ due
       → c.parts ≡ part ∷ parts → levels ≡ max_depth - length below
-      → logged_begun_component h face s root levels part.glyph count ≡ Ok (step, counted)
-      → all ≡ below ++ record { part = part; composite = record c { parts = parts } } ∷ []
+      → logged_begun_component h face s root levels (next_of c) part.glyph count ≡ Ok (step, counted)
+      → all ≡ below ++ record { part = part; composite = with_next c parts } ∷ []
       → logged_rest_of h face s root max_depth all (logged_given_by h face s root (max_depth - length all) (step, counted)) ≡ due
   descends below all levels c part parts step count counted due i e l b a =
-      let w : Waiting = record { part = part; composite = record c { parts = parts } } in
-      let logged_begun : logged_begun_component h face s root (max_depth - length below) part.glyph count
+      let w : Waiting = record { part = part; composite = with_next c parts } in
+      let logged_begun : logged_begun_component h face s root (max_depth - length below) (next_of c) part.glyph count
       ≡ Ok (step, counted) = rw l at b in
       let n : length (below ++ w ∷ []) ≡ length below + 1 = length-append below (w ∷ []) in
       let deeper : max_depth - length (below ++ w ∷ []) ≡ max_depth - length below - 1 = omega arith in
@@ -264,10 +280,11 @@ module _ (h : Hinting) (face : Face) (s : Scale) (root : ℕ) where
       → logged_rest_of h face s root max_depth below (logged_given_by h face s root (max_depth - length below)
       (Open c, count)) ≡ due
       → c.parts ≡ part ∷ parts → levels ≡ max_depth - length below
-      → logged_begun_component h face s root levels part.glyph count ≡ Err d → due ≡ Err d
+      → logged_begun_component h face s root levels (next_of c) part.glyph count ≡ Err d → due ≡ Err d
   not_descended below levels c part parts count due d i e l b =
-      let w : Waiting = record { part = part; composite = record c { parts = parts } } in
-      let logged_begun : logged_begun_component h face s root (max_depth - length below) part.glyph count ≡ Err d = rw l at b in
+      let w : Waiting = record { part = part; composite = with_next c parts } in
+      let logged_begun : logged_begun_component h face s root (max_depth - length below) (next_of c) part.glyph count
+      ≡ Err d = rw l at b in
       sym (down below c part parts count due i e)
       ∙ ap (λ (q : Result (Step × Logged) LoggedFault). logged_rest_of h face s root max_depth below
       ((q >>= logged_given_by h face s root (max_depth - length below - 1))
@@ -280,13 +297,13 @@ module _ (h : Hinting) (face : Face) (s : Scale) (root : ℕ) where
       → logged_rest_of h face s root max_depth below (logged_given_by h face s root (max_depth - length below)
       (Open c, count)) ≡ due
       → c.parts ≡ part ∷ parts → levels ≡ max_depth - length below
-      → logged_begun_component h face s root levels part.glyph count ≡ Ok (Assembled made, counted)
+      → logged_begun_component h face s root levels (next_of c) part.glyph count ≡ Ok (Assembled made, counted)
       → with_part s h.on c.g part c.base made ≡ Ok more
       → logged_rest_of h face s root max_depth below
-      (logged_given_by h face s root (max_depth - length below) (Open (record c { parts = parts; base = more }), counted)) ≡ due
+      (logged_given_by h face s root (max_depth - length below) (Open (record (with_next c parts) { base = more }), counted)) ≡ due
   fills below levels c part parts made more count counted due i e l b j =
-      let w : Waiting = record { part = part; composite = record c { parts = parts } } in
-      joins below (below ++ w ∷ []) w made counted (record c { parts = parts; base = more }) due
+      let w : Waiting = record { part = part; composite = with_next c parts } in
+      joins below (below ++ w ∷ []) w made counted (record (with_next c parts) { base = more }) due
       (descends below (below ++ w ∷ []) levels c part parts (Assembled made) count counted due i e l b refl) refl
       (ap (map_ok (λ (m : Made). record w.composite { base = m })) j)
 
@@ -295,10 +312,10 @@ module _ (h : Hinting) (face : Face) (s : Scale) (root : ℕ) where
       → logged_rest_of h face s root max_depth below (logged_given_by h face s root (max_depth - length below)
       (Open c, count)) ≡ due
       → c.parts ≡ part ∷ parts → levels ≡ max_depth - length below
-      → logged_begun_component h face s root levels part.glyph count ≡ Ok (Assembled made, counted)
+      → logged_begun_component h face s root levels (next_of c) part.glyph count ≡ Ok (Assembled made, counted)
       → with_part s h.on c.g part c.base made ≡ Err d → due ≡ Err (d, counted.1)
   not_filled below levels c part parts made count counted due d i e l b j =
-      let w : Waiting = record { part = part; composite = record c { parts = parts } } in
+      let w : Waiting = record { part = part; composite = with_next c parts } in
       not_joined below (below ++ w ∷ []) w made counted due d
       (descends below (below ++ w ∷ []) levels c part parts (Assembled made) count counted due i e l b refl) refl
       (ap (map_ok (λ (m : Made). record w.composite { base = m })) j)

@@ -1,5 +1,5 @@
 -- The programs that are run for a glyph, in their order: the recursion on components again, which lists each program it starts.
-use Rattle.std.specs.Prelude.{◌≡◌, ℕ, zero, suc, List, [], ◌∷◌, ◌++◌, pos, Bool, None, Result, Ok, Err}
+use Rattle.std.specs.Prelude.{◌≡◌, ℕ, zero, suc, ◌+◌, List, [], ◌∷◌, ◌++◌, pos, Bool, Option, Some, None, Result, Ok, Err}
 use Rattle.fx_fixed.specs.Chain.{◌>>=◌, map_fault}
 use Rattle.fx_sfnt.specs.declared.records.Metrics.{Metrics}
 use Rattle.fx_sfnt.specs.Tables.{Face}
@@ -12,6 +12,7 @@ use Rattle.fx_glyf.specs.Glyphs.{glyph_of}
 use Rattle.fx_zone.specs.Figures.{empty_figure}
 use Rattle.fx_scale.specs.declared.scale.Scale.{Scale}
 use Rattle.fx_scale.specs.Phantoms.{phantoms_of}
+use Rattle.fx_hint.specs.declared.component.ComponentOf.{ComponentOf}
 use Rattle.fx_hint.specs.declared.count.Count.{Count}
 use Rattle.fx_hint.specs.declared.made.Made.{Made}
 use Rattle.fx_hint.specs.declared.fault.HintFault.{HintFault}
@@ -21,8 +22,9 @@ use Rattle.fx_hint.specs.Hinting.{Hinting}
 use Rattle.fx_hint.specs.Parts.{with_part}
 use Rattle.fx_hint.specs.Outlines.{one_component, simple_made, run_on, nothing_counted, assembled, component}
 
--- a program of a glyph, started on these points
+-- a program of a glyph, started on these points: for which component of which composite, or for the root
 pub record ProgramRun : Type 0 where
+  pub component : Option ComponentOf
   pub g : ℕ
   pub code : List ℕ
   pub made : Made
@@ -35,8 +37,9 @@ Logged = Count × List ProgramRun
 abbrev pub LoggedFault : Type 0
 LoggedFault = HintFault × List ProgramRun
 
+-- what assembles a component, from which one it is of which composite, its glyph, and the counts and programs so far
 abbrev pub LoggedMaker : Type 0
-LoggedMaker = ℕ → Logged → Result (Made × Logged) LoggedFault
+LoggedMaker = Option ComponentOf → ℕ → Logged → Result (Made × Logged) LoggedFault
 
 -- a check after these programs
 abbrev pub after : {A : Type 0} → List ProgramRun → Result A HintFault → Result A LoggedFault
@@ -53,44 +56,48 @@ logged_simple s hinted root m shape count = do
   Ok (made.0, (made.1, count.1))
 
 -- one program more
-abbrev pub with_run : List ProgramRun → ℕ → List ℕ → Made → List ProgramRun
-with_run runs g code made = runs ++ record { g = g; code = code; made = made } ∷ []
+abbrev pub with_run : List ProgramRun → Option ComponentOf → ℕ → List ℕ → Made → List ProgramRun
+with_run runs component g code made = runs ++ record { component = component; g = g; code = code; made = made } ∷ []
 
-unfoldable pub logged_run : Hinting → ℕ → List ℕ → Made × Logged → Result (Made × Logged) LoggedFault
-logged_run h g code made = do
-  ran ← after (with_run made.1.1 g code made.0) (run_on h g code (made.0, made.1.0))
-  Ok (ran.0, (ran.1, with_run made.1.1 g code made.0))
+unfoldable pub logged_run : Hinting → Option ComponentOf → ℕ → List ℕ → Made × Logged → Result (Made × Logged) LoggedFault
+logged_run h component g code made = do
+  ran ← after (with_run made.1.1 component g code made.0) (run_on h g code (made.0, made.1.0))
+  Ok (ran.0, (ran.1, with_run made.1.1 component g code made.0))
 
-unfoldable pub logged_parts : Scale → Bool → LoggedMaker → ℕ → List Part → Made → Logged → Result (Made × Logged) LoggedFault
-logged_parts s hinted make g [] base count = Ok (base, count)
-logged_parts s hinted make g (part ∷ parts) base count = do
-  component ← make part.glyph count
-  more ← after component.1.1 (with_part s hinted g part base component.0)
-  logged_parts s hinted make g parts more component.1
-
-unfoldable pub logged_made_of : Hinting → Scale → ℕ → LoggedMaker → ℕ → Metrics → glyf.Glyph → Logged
+-- the components of a composite g in order, after `before` others of it
+unfoldable pub logged_parts : Scale → Bool → LoggedMaker → ℕ → ℕ → List Part → Made → Logged
     → Result (Made × Logged) LoggedFault
-logged_made_of h s root make g m Empty count =
-    Ok (record { zone = empty_figure; phantoms = phantoms_of s h.on (pos 0) m; wish = None }, count)
-logged_made_of h s root make g m (Simple shape) count = do
-  made ← logged_simple s h.on root m shape count
-  logged_run h g shape.code made
-logged_made_of h s root make g m (Composite assembly) count = do
-  made ← logged_parts s h.on make g assembly.components
-      (record { zone = empty_figure; phantoms = phantoms_of s h.on assembly.x_min m; wish = None }) count
-  logged_run h g assembly.code made
+logged_parts s hinted make g before [] base count = Ok (base, count)
+logged_parts s hinted make g before (part ∷ parts) base count = do
+  component ← make (Some (record { composite = g; number = before + 1 })) part.glyph count
+  more ← after component.1.1 (with_part s hinted g part base component.0)
+  logged_parts s hinted make g (before + 1) parts more component.1
 
-unfoldable pub logged_assembled : Hinting → Face → Scale → ℕ → LoggedMaker → ℕ → Logged → Result (Made × Logged) LoggedFault
-logged_assembled h face s root make g count = do
+unfoldable pub logged_made_of : Hinting → Scale → ℕ → LoggedMaker → Option ComponentOf → ℕ → Metrics → glyf.Glyph → Logged
+    → Result (Made × Logged) LoggedFault
+logged_made_of h s root make component g m Empty count =
+    Ok (record { zone = empty_figure; phantoms = phantoms_of s h.on (pos 0) m; wish = None }, count)
+logged_made_of h s root make component g m (Simple shape) count = do
+  made ← logged_simple s h.on root m shape count
+  logged_run h component g shape.code made
+logged_made_of h s root make component g m (Composite assembly) count = do
+  made ← logged_parts s h.on make g 0 assembly.components
+      (record { zone = empty_figure; phantoms = phantoms_of s h.on assembly.x_min m; wish = None }) count
+  logged_run h component g assembly.code made
+
+unfoldable pub logged_assembled : Hinting → Face → Scale → ℕ → LoggedMaker → Option ComponentOf → ℕ → Logged
+    → Result (Made × Logged) LoggedFault
+logged_assembled h face s root make component g count = do
   m ← after count.1 (map_fault Font (metrics_of face g))
   bytes ← after count.1 (map_fault Font (glyph_bytes_of face g))
   glyph ← after count.1 (map_fault Glyph (glyph_of bytes g))
-  logged_made_of h s root make g m glyph count
+  logged_made_of h s root make component g m glyph count
 
-unfoldable pub logged_component : Hinting → Face → Scale → ℕ → ℕ → ℕ → Logged → Result (Made × Logged) LoggedFault
-logged_component h face s root zero = λ g count. Err (ComponentDepth g, count.1)
-logged_component h face s root (suc levels) = λ g count.
-    logged_one root count >>= λ counted. logged_assembled h face s root (logged_component h face s root levels) g counted
+unfoldable pub logged_component : Hinting → Face → Scale → ℕ → ℕ → Option ComponentOf → ℕ → Logged
+    → Result (Made × Logged) LoggedFault
+logged_component h face s root zero = λ component g count. Err (ComponentDepth g, count.1)
+logged_component h face s root (suc levels) = λ component g count.
+    logged_one root count >>= λ counted. logged_assembled h face s root (logged_component h face s root levels) component g counted
 
 -- the programs of an answer
 abbrev pub runs_in : {A : Type 0} → Result (A × Logged) LoggedFault → List ProgramRun
@@ -100,7 +107,7 @@ runs_in (Err e) = e.1
 -- the programs that are run for a root, in their order: those of components before that of the composite; the last may halt
 unfoldable pub runs_of : Hinting → Face → Scale → ℕ → List ProgramRun
 runs_of h face s g =
-    runs_in (logged_assembled h face s g (logged_component h face s g max_depth) g (nothing_counted, []))
+    runs_in (logged_assembled h face s g (logged_component h face s g max_depth) None g (nothing_counted, []))
 
 -- some of these programs, from the first on
 abbrev pub AreFirst : List ProgramRun → List ProgramRun → Type 0
@@ -138,6 +145,6 @@ plain (Err e) = Err e.0
 -- the recursion that lists programs is that of the outline, in all else
 abbrev pub ListsTheWalk : Type 0
 ListsTheWalk =
-    (h : Hinting) (face : Face) (s : Scale) (root g : ℕ) (count : Logged)
-    → plain (logged_assembled h face s root (logged_component h face s root max_depth) g count)
+    (h : Hinting) (face : Face) (s : Scale) (root : ℕ) (which : Option ComponentOf) (g : ℕ) (count : Logged)
+    → plain (logged_assembled h face s root (logged_component h face s root max_depth) which g count)
     ≡ assembled h face s root (component h face s root max_depth) g count.0

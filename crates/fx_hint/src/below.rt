@@ -3,6 +3,7 @@
 ghost use Rattle.std.specs.Prelude.{◌≡◌, ◌++◌, [], ◌∷◌, length, MatchOption, OnOk};
 ghost use Rattle.fx_hint.specs.inner.Places.{present};
 
+use crate::component::ComponentOf;
 use crate::made::Made;
 use fx_glyf::{Components, Composite, Part};
 use smallvec::SmallVec;
@@ -12,8 +13,12 @@ use std::marker::Model;
 /// A composite that is open: the components that are left, and its points so far with its phantom points.
 #[derive(Drop)]
 pub struct OpenComposite<'a> {
+    /// Which component of another composite it is, unless it is the root.
+    pub component: Option<ComponentOf>,
     pub g: u16,
     pub glyph: Composite<'a>,
+    /// How many of its components come before those that are left.
+    pub before: u16,
     pub parts: Components<'a>,
     pub base: Made,
 }

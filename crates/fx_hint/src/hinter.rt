@@ -7,6 +7,7 @@ ghost use Rattle.fx_hint.specs.Hinting.{Hinting, KeepsShape, no_hinting};
 ghost use Rattle.fx_hint.specs.Kept.{IsMadeAlone};
 ghost use Rattle.fx_hint.specs.Runs.{ProgramRun, started};
 
+use crate::component::ComponentOf;
 use crate::fault::HintFault;
 use crate::kept::GlyphInput;
 use crate::made::Made;
@@ -33,11 +34,18 @@ pub trait Hinter {
     fn is_on(&self) -> bool
         ensures { result ≡ (hinting self.now).on };
 
-    /// Runs the program of glyph `g` on its points and phantom points: what it used up.
-    fn run(&mut self, g: u16, code: &[u8], made: &mut Made) -> Result<Usage, HintFault>
+    /// Runs the program of glyph `g`, which is a component or the root, on its points and phantom points: what it used up.
+    fn run(
+        &mut self,
+        component: Option<ComponentOf>,
+        g: u16,
+        code: &[u8],
+        made: &mut Made,
+    ) -> Result<Usage, HintFault>
         ensures known { known self.new ≡ known self.old }
         ensures kept { hinting self.new ≡ hinting self.old }
-        ensures leads { Leads self.old (started result (record { g = g; code = code.now; made = made.old })) self.new }
+        ensures leads { Leads self.old
+            (started result (record { component = component; g = g; code = code.now; made = made.old })) self.new }
         ensures value { GivesUnless Fails (λ usage. (made.new, usage)) result ((hinting self.old).run g code.now made.old) };
 
     /// A simple glyph as it was made before from the same input, if the hinter has kept it; none if memory is refused for it.
@@ -82,7 +90,13 @@ impl Hinter for NoHinter {
         false
     }
 
-    fn run(&mut self, _g: u16, _code: &[u8], _made: &mut Made) -> Result<Usage, HintFault> {
+    fn run(
+        &mut self,
+        _component: Option<ComponentOf>,
+        _g: u16,
+        _code: &[u8],
+        _made: &mut Made,
+    ) -> Result<Usage, HintFault> {
         Ok(Usage::none())
     }
 

@@ -6,6 +6,7 @@ ghost use Rattle.fx_hint.specs.Kept.{IsSmall};
 ghost use Rattle.fx_hint.specs.inner.Kept.{places_of};
 ghost use Rattle.fx_hint.specs.Limits.{max_places, max_kept_points, max_kept_bytes};
 
+use crate::component::ComponentOf;
 use crate::fault::HintFault;
 use crate::hinter::Hinter;
 use crate::kept::{GlyphInput, KeptGlyph};
@@ -143,8 +144,14 @@ impl<'a> Hinter for KeepingMachine<'a> {
         true
     }
 
-    fn run(&mut self, g: u16, code: &[u8], made: &mut Made) -> Result<Usage, HintFault> {
-        self.machine.run(g, code, made)
+    fn run(
+        &mut self,
+        component: Option<ComponentOf>,
+        g: u16,
+        code: &[u8],
+        made: &mut Made,
+    ) -> Result<Usage, HintFault> {
+        self.machine.run(component, g, code, made)
     }
 
     fn recall(&self, alloc: Global, input: &GlyphInput<'_>) -> Option<(Made, Usage)> {

@@ -7,6 +7,7 @@
 #![tactic(auto)]
 
 mod below;
+mod component;
 mod count;
 mod fault;
 mod glyph_outline;
@@ -20,7 +21,9 @@ mod outlines;
 mod part;
 mod programmed;
 mod walk;
+mod watcher;
 
+pub use component::ComponentOf;
 pub use count::Count;
 pub use fault::HintFault;
 pub use glyph_outline::GlyphOutline;
@@ -32,3 +35,4 @@ pub use limits::{MAX_COMPONENTS, MAX_DEPTH};
 pub use made::Made;
 pub use outlines::{outline, outline_with};
 pub use programmed::WatchedMachine;
+pub use watcher::{RunWatcher, RunWatching};

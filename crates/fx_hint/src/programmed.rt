@@ -4,12 +4,15 @@ ghost use Rattle.std.specs.Prelude.{◌≡◌, ◌≤◌, length};
 ghost use Rattle.fx_fixed.specs.Chain.{GivesUnless};
 ghost use Rattle.fx_hint.specs.Faults.{Fails};
 ghost use Rattle.fx_machine.specs.Events.{Watches};
+ghost use Rattle.fx_hint.specs.Watched.{WatchesAll, events_for};
 ghost use Rattle.fx_hint.specs.Programmed.{point_or, point_at, phantoms_at, program_run, hinted, program_events, hinted_events, seen_by};
 
+use crate::component::ComponentOf;
 use crate::fault::HintFault;
 use crate::hinter::Hinter;
 use crate::kept::GlyphInput;
 use crate::made::Made;
+use crate::watcher::{RunWatcher, RunWatching};
 use fx_code::Code;
 use fx_fixed::Place;
 use fx_machine::{Machine, Unwatched, Usage, Watching};
@@ -105,7 +108,13 @@ impl<'a> Hinter for Machine<'a> {
         true
     }
 
-    fn run(&mut self, g: u16, code: &[u8], made: &mut Made) -> Result<Usage, HintFault> {
+    fn run(
+        &mut self,
+        _component: Option<ComponentOf>,
+        g: u16,
+        code: &[u8],
+        made: &mut Made,
+    ) -> Result<Usage, HintFault> {
         hint(self, g, code, made, &mut Unwatched)
     }
 
@@ -126,22 +135,29 @@ impl<'a> Hinter for Machine<'a> {
 #[derive(Drop)]
 pub struct WatchedMachine<'a, W> {
     pub machine: Machine<'a>,
-    pub watcher: W,
+    pub watcher: RunWatcher<W>,
 }
 
-impl<'a, W: Watching> WatchedMachine<'a, W> {
+impl<'a, W: RunWatching> WatchedMachine<'a, W> {
     /// Runs the program of glyph `g` as `run` does, and says what the watcher sees.
-    pub fn run_watched(&mut self, g: u16, code: &[u8], made: &mut Made) -> Result<Usage, HintFault>
+    pub fn run_watched(
+        &mut self,
+        component: Option<ComponentOf>,
+        g: u16,
+        code: &[u8],
+        made: &mut Made,
+    ) -> Result<Usage, HintFault>
         ensures kept { self.new.machine.known ≡ self.old.machine.known }
         ensures value { GivesUnless Fails (λ usage. (made.new, usage)) result (hinted self.old.machine.known g code.now made.old) }
-        ensures watched { Watches W.Sees self.old.watcher
-            (seen_by result (hinted_events self.old.machine.known g code.now made.old)) self.new.watcher }
+        ensures watched { WatchesAll W.Sees self.old.watcher.watcher (events_for component
+            (seen_by result (hinted_events self.old.machine.known g code.now made.old))) self.new.watcher.watcher }
     {
+        self.watcher.component = component;
         hint(&mut self.machine, g, code, made, &mut self.watcher)
     }
 }
 
-impl<'a, W: Watching> Hinter for WatchedMachine<'a, W> {
+impl<'a, W: RunWatching> Hinter for WatchedMachine<'a, W> {
     ghost use Rattle.fx_machine.specs.Known.{Known};
     ghost use Rattle.fx_hint.specs.Programmed.{hinting_of};
     ghost use Rattle.fx_hint.specs.Watched.{WatchesRuns, watched_none, watched_then};
@@ -152,14 +168,20 @@ impl<'a, W: Watching> Hinter for WatchedMachine<'a, W> {
 
     ghost hinting = { λ m. hinting_of m.machine.known };
 
-    ghost Leads = { λ a runs b. WatchesRuns W.Sees a.machine.known a.watcher runs b.machine.known b.watcher };
+    ghost Leads = { λ a runs b. WatchesRuns W.Sees a.machine.known a.watcher.watcher runs b.machine.known b.watcher.watcher };
+
+    fn run(
+        &mut self,
+        component: Option<ComponentOf>,
+        g: u16,
+        code: &[u8],
+        made: &mut Made,
+    ) -> Result<Usage, HintFault> {
+        self.run_watched(component, g, code, made)
+    }
 
     fn is_on(&self) -> bool {
         true
-    }
-
-    fn run(&mut self, g: u16, code: &[u8], made: &mut Made) -> Result<Usage, HintFault> {
-        self.run_watched(g, code, made)
     }
 
     fn recall(&self, _alloc: Global, _input: &GlyphInput<'_>) -> Option<(Made, Usage)> {
@@ -170,8 +192,8 @@ impl<'a, W: Watching> Hinter for WatchedMachine<'a, W> {
 
     fn law_keeps_shape(&self) {}
 
-    ghost leads_same = { λ x. watched_none W.Sees x.machine.known x.watcher };
+    ghost leads_same = { λ x. watched_none W.Sees x.machine.known x.watcher.watcher };
 
-    ghost leads_then = { λ x y z some more h k. watched_then W.Sees x.machine.known y.machine.known z.machine.known x.watcher
-        y.watcher z.watcher some more h k };
+    ghost leads_then = { λ x y z some more h k. watched_then W.Sees x.machine.known y.machine.known z.machine.known
+        x.watcher.watcher y.watcher.watcher z.watcher.watcher some more h k };
 }

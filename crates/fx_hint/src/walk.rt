@@ -17,6 +17,7 @@ ghost use Rattle.fx_hint.specs.inner.RunSteps.{begun_runs, begun_by_runs, begun_
 ghost use Rattle.fx_hint.specs.inner.Steps.{begun, begun_by, begun_component, counted_made, left};
 
 use crate::below::{Below, OpenComposite, Waiting};
+use crate::component::ComponentOf;
 use crate::count::Count;
 use crate::fault::HintFault;
 use crate::hinter::Hinter;
@@ -72,6 +73,7 @@ fn start(
 #[tactic(auto, unfolding(crate::specs::Outlines::run_on))]
 fn run_on<H: Hinter>(
     hinter: &mut H,
+    component: Option<ComponentOf>,
     g: u16,
     code: &[u8],
     made: &mut Made,
@@ -80,13 +82,13 @@ fn run_on<H: Hinter>(
     ensures known { H.known hinter.new ≡ H.known hinter.old }
     ensures kept { H.hinting hinter.new ≡ H.hinting hinter.old }
     ensures leads { HasRun H.Leads hinter.old hinter.new result
-        (record { g = g; code = code.now; made = made.old } ∷ []) }
+        (record { component = component; g = g; code = code.now; made = made.old } ∷ []) }
     ensures value { GivesUnless Fails (λ _. (made.new, count.new)) result
         (run_on (H.hinting hinter.old) g code.now (made.old, count.old)) }
     ensures ran { IfOk result (λ usage. (H.hinting hinter.old).run g code.now made.old ≡ Ok (made.new, usage)) }
     ensures records { OnOk result (count.new.records ≡ count.old.records) }
 {
-    let usage = hinter.run(g, code, made)?;
+    let usage = hinter.run(component, g, code, made)?;
     count.more_usage(usage);
     Ok(usage)
 }
@@ -135,7 +137,7 @@ impl<'w, 'a> Walk<'w, 'a> {
         })
     }
 
-    /// A glyph begun: its number and bytes, its reading; and then it is assembled, or open.
+    /// A glyph begun, which is no component: its number and bytes, its reading; and then it is assembled, or open.
     #[tactic(auto, unfolding(crate::specs::inner::Steps::begun, crate::specs::inner::RunSteps::begun_runs))]
     fn begun<H: Hinter>(
         &self,
@@ -146,15 +148,15 @@ impl<'w, 'a> Walk<'w, 'a> {
         ensures known { H.known hinter.new ≡ H.known hinter.old }
         ensures kept { H.hinting hinter.new ≡ H.hinting hinter.old }
         ensures leads { HasRun H.Leads hinter.old hinter.new result
-            (begun_runs (H.hinting hinter.old) self.now.font.now self.now.scale.now self.now.root g count.old) }
+            (begun_runs (H.hinting hinter.old) self.now.font.now self.now.scale.now self.now.root None g count.old) }
         ensures value { GivesUnless Fails (λ step. (step, count.new)) result
-            (begun (H.hinting hinter.old) self.now.font.now self.now.scale.now self.now.root g count.old) }
+            (begun (H.hinting hinter.old) self.now.font.now self.now.scale.now self.now.root None g count.old) }
         ensures records { OnOk result (count.new.records ≡ count.old.records) }
     {
         let metrics = self.font.metrics(g)?;
         let bytes = self.font.glyph_bytes(g)?;
         let glyph = read(bytes, g)?;
-        self.begun_by(hinter, g, metrics, glyph, count)
+        self.begun_by(hinter, None, g, metrics, glyph, count)
     }
 
     /// A glyph that has been read, begun: an empty or a simple one is assembled, a composite is open.
@@ -163,6 +165,7 @@ impl<'w, 'a> Walk<'w, 'a> {
     fn begun_by<H: Hinter>(
         &self,
         hinter: &mut H,
+        component: Option<ComponentOf>,
         g: u16,
         metrics: Metrics,
         glyph: Glyph<'a>,
@@ -171,9 +174,9 @@ impl<'w, 'a> Walk<'w, 'a> {
         ensures known { H.known hinter.new ≡ H.known hinter.old }
         ensures kept { H.hinting hinter.new ≡ H.hinting hinter.old }
         ensures leads { HasRun H.Leads hinter.old hinter.new result
-            (begun_by_runs (H.hinting hinter.old) self.now.scale.now self.now.root g metrics glyph.entry count.old) }
+            (begun_by_runs (H.hinting hinter.old) self.now.scale.now self.now.root component g metrics glyph.entry count.old) }
         ensures value { GivesUnless Fails (λ step. (step, count.new)) result
-            (begun_by (H.hinting hinter.old) self.now.scale.now self.now.root g metrics glyph.entry count.old) }
+            (begun_by (H.hinting hinter.old) self.now.scale.now self.now.root component g metrics glyph.entry count.old) }
         ensures records { OnOk result (count.new.records ≡ count.old.records) }
     {
         let on = hinter.is_on();
@@ -181,15 +184,17 @@ impl<'w, 'a> Walk<'w, 'a> {
             Glyph::Empty => Ok(Step::Assembled(empty_made(self.alloc, self.scale, on, 0, metrics))),
             Glyph::Simple(simple) => {
                 let mut made = self.simple_made(on, metrics, &simple, count)?;
-                run_on(hinter, g, simple.code(), &mut made, count)?;
+                run_on(hinter, component, g, simple.code(), &mut made, count)?;
                 Ok(Step::Assembled(made))
             }
             Glyph::Composite(composite) => {
                 let base = start(self.alloc, self.scale, on, &composite, metrics);
                 let parts = composite.components();
                 Ok(Step::Open(OpenComposite {
+                    component,
                     g,
                     glyph: composite,
+                    before: 0,
                     parts,
                     base,
                 }))
@@ -202,6 +207,7 @@ impl<'w, 'a> Walk<'w, 'a> {
     fn simple_kept<H: Hinter>(
         &self,
         hinter: &mut H,
+        component: Option<ComponentOf>,
         input: &GlyphInput<'_>,
         simple: &Simple<'_>,
         count: &mut Count,
@@ -211,16 +217,16 @@ impl<'w, 'a> Walk<'w, 'a> {
         ensures known { H.known hinter.new ≡ H.known hinter.old }
         ensures kept { H.hinting hinter.new ≡ H.hinting hinter.old }
         ensures leads { HasRun H.Leads hinter.old hinter.new result
-            (begun_by_runs (H.hinting hinter.old) self.now.scale.now self.now.root input.now.g input.now.metrics
+            (begun_by_runs (H.hinting hinter.old) self.now.scale.now self.now.root component input.now.g input.now.metrics
             (glyph.Simple simple.now) count.old) }
         ensures value { GivesUnless Fails (λ step. (step, count.new)) result
-            (begun_by (H.hinting hinter.old) self.now.scale.now self.now.root input.now.g input.now.metrics
+            (begun_by (H.hinting hinter.old) self.now.scale.now self.now.root component input.now.g input.now.metrics
             (glyph.Simple simple.now) count.old) }
         ensures records { OnOk result (count.new.records ≡ count.old.records) }
     {
         let on = hinter.is_on();
         let mut made = self.simple_made(on, input.metrics, simple, count)?;
-        let usage = run_on(hinter, input.g, simple.code(), &mut made, count)?;
+        let usage = run_on(hinter, component, input.g, simple.code(), &mut made, count)?;
         hinter.keep(input, &made, usage);
         Ok(Step::Assembled(made))
     }
@@ -243,15 +249,16 @@ impl<'w, 'a> Walk<'w, 'a> {
     fn begun_or_recalled<H: Hinter>(
         &self,
         hinter: &mut H,
+        component: Option<ComponentOf>,
         g: u16,
         count: &mut Count,
     ) -> Result<Step<'a>, HintFault>
         ensures known { H.known hinter.new ≡ H.known hinter.old }
         ensures kept { H.hinting hinter.new ≡ H.hinting hinter.old }
         ensures leads { HasRun H.Leads hinter.old hinter.new result
-            (begun_runs (H.hinting hinter.old) self.now.font.now self.now.scale.now self.now.root g count.old) }
+            (begun_runs (H.hinting hinter.old) self.now.font.now self.now.scale.now self.now.root component g count.old) }
         ensures value { GivesUnless Fails (λ step. (step, count.new)) result
-            (begun (H.hinting hinter.old) self.now.font.now self.now.scale.now self.now.root g count.old) }
+            (begun (H.hinting hinter.old) self.now.font.now self.now.scale.now self.now.root component g count.old) }
         ensures records { OnOk result (count.new.records ≡ count.old.records) }
     {
         let metrics = self.font.metrics(g)?;
@@ -267,8 +274,8 @@ impl<'w, 'a> Walk<'w, 'a> {
             return self.recalled(made, usage, count);
         }
         match read(bytes, g)? {
-            Glyph::Simple(simple) => self.simple_kept(hinter, &input, &simple, count),
-            glyph => self.begun_by(hinter, g, metrics, glyph, count),
+            Glyph::Simple(simple) => self.simple_kept(hinter, component, &input, &simple, count),
+            glyph => self.begun_by(hinter, component, g, metrics, glyph, count),
         }
     }
 
@@ -278,15 +285,18 @@ impl<'w, 'a> Walk<'w, 'a> {
         &self,
         hinter: &mut H,
         levels: u8,
+        component: Option<ComponentOf>,
         g: u16,
         count: &mut Count,
     ) -> Result<Step<'a>, HintFault>
         ensures known { H.known hinter.new ≡ H.known hinter.old }
         ensures kept { H.hinting hinter.new ≡ H.hinting hinter.old }
         ensures leads { HasRun H.Leads hinter.old hinter.new result
-            (begun_component_runs (H.hinting hinter.old) self.now.font.now self.now.scale.now self.now.root levels g count.old) }
+            (begun_component_runs (H.hinting hinter.old) self.now.font.now self.now.scale.now self.now.root levels component g
+            count.old) }
         ensures value { GivesUnless Fails (λ step. (step, count.new)) result
-            (begun_component (H.hinting hinter.old) self.now.font.now self.now.scale.now self.now.root levels g count.old) }
+            (begun_component (H.hinting hinter.old) self.now.font.now self.now.scale.now self.now.root levels component g
+            count.old) }
         ensures records { OnOk result ((count.new.records ≡ count.old.records + 1) × (count.new.records ≤ max_components)) }
         ensures level { OnOk result (0 < levels) }
     {
@@ -294,7 +304,7 @@ impl<'w, 'a> Walk<'w, 'a> {
             return Err(HintFault::ComponentDepth(g));
         }
         count.one_component(self.root)?;
-        self.begun_or_recalled(hinter, g, count)
+        self.begun_or_recalled(hinter, component, g, count)
     }
 
     /// A waiting composite with its component.
@@ -324,8 +334,8 @@ impl<'w, 'a> Walk<'w, 'a> {
         ensures kept { H.hinting hinter.new ≡ H.hinting hinter.old }
         ensures leads { HasRun H.Leads hinter.old hinter.new result
             (runs_in (logged_assembled (H.hinting hinter.old) self.now.font.now self.now.scale.now self.now.root
-            (logged_component (H.hinting hinter.old) self.now.font.now self.now.scale.now self.now.root max_depth) self.now.root
-            (count.old, []))) }
+            (logged_component (H.hinting hinter.old) self.now.font.now self.now.scale.now self.now.root max_depth) None
+            self.now.root (count.old, []))) }
         ensures value { GivesUnless Fails (λ m. (m, count.new)) result
             (assembled (H.hinting hinter.old) self.now.font.now self.now.scale.now self.now.root
             (component (H.hinting hinter.old) self.now.font.now self.now.scale.now self.now.root max_depth) self.now.root
@@ -348,6 +358,7 @@ impl<'w, 'a> Walk<'w, 'a> {
         requires records { count.old.records ≤ max_components }
         requires points { count.old.points ≤ max_points }
         requires counted { length root.base.zone.points ≤ count.old.points }
+        requires fresh { root.before ≡ 0 }
         ensures known { H.known hinter.new ≡ H.known hinter.old }
         ensures kept { H.hinting hinter.new ≡ H.hinting hinter.old }
         ensures leads { HasRun H.Leads hinter.old hinter.new result
@@ -361,12 +372,24 @@ impl<'w, 'a> Walk<'w, 'a> {
         let mut below = Below::new(self.alloc);
         let mut open = root;
         // What the root gives stays the same: what the innermost open composite gives with its components that are left, and then
-        // each composite that waits, with what is assembled below it. The points of all these were counted.
+        // each composite that waits, with what is assembled below it. The points of all these were counted, and so were the
+        // components that they began.
         'steps: loop {
             match open.parts.next() {
                 Some(part) => {
                     let levels = levels_below(below.len());
-                    let step = self.begun_component(hinter, levels, part.glyph, count)?;
+                    let component = ComponentOf {
+                        composite: open.g,
+                        number: open.before + 1,
+                    };
+                    open.before += 1;
+                    let step = self.begun_component(
+                        hinter,
+                        levels,
+                        Some(component),
+                        part.glyph,
+                        count,
+                    )?;
                     match step {
                         Step::Assembled(made) => {
                             let g = open.g;
@@ -383,7 +406,14 @@ impl<'w, 'a> Walk<'w, 'a> {
                 }
                 None => {
                     let mut made = open.base;
-                    run_on(hinter, open.g, open.glyph.code(), &mut made, count)?;
+                    run_on(
+                        hinter,
+                        open.component,
+                        open.g,
+                        open.glyph.code(),
+                        &mut made,
+                        count,
+                    )?;
                     match below.pop() {
                         None => return Ok(made),
                         Some(waiting) => open = self.joined(on, waiting, made)?,

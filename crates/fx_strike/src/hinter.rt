@@ -7,7 +7,7 @@ ghost use Rattle.fx_strike.specs.Faults.{Fails};
 ghost use Rattle.fx_strike.specs.Strike.{machine_for, prelude_by};
 
 use crate::opened::Opened;
-use fx_hint::{GlyphInput, HintFault, Hinter, KeepingMachine, Made, NoHinter};
+use fx_hint::{ComponentOf, GlyphInput, HintFault, Hinter, KeepingMachine, Made, NoHinter};
 use fx_machine::{Machine, Unwatched, Usage};
 use fx_raster::Scratch;
 use fx_request::Refusal;
@@ -75,10 +75,16 @@ impl<'a> Hinter for FontHinter<'a> {
         }
     }
 
-    fn run(&mut self, g: u16, code: &[u8], made: &mut Made) -> Result<Usage, HintFault> {
+    fn run(
+        &mut self,
+        component: Option<ComponentOf>,
+        g: u16,
+        code: &[u8],
+        made: &mut Made,
+    ) -> Result<Usage, HintFault> {
         match &mut self.machine {
-            Some(machine) => machine.run(g, code, made),
-            None => NoHinter.run(g, code, made),
+            Some(machine) => machine.run(component, g, code, made),
+            None => NoHinter.run(component, g, code, made),
         }
     }
 

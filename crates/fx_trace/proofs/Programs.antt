@@ -7,7 +7,6 @@ use Rattle.fx_fixed.specs.Chain.{map_fault, GivesUnless}
 use Rattle.fx_fixed.specs.Texts.{TextView, Adds, begun}
 use Rattle.fx_sfnt.specs.Tables.{Face}
 use Rattle.fx_scale.specs.Scaling.{scale_of}
-use Rattle.fx_machine.specs.Events.{Event, Watches}
 use Rattle.fx_machine.specs.declared.halt.MachineFault.{MachineFault}
 use Rattle.fx_machine.specs.declared.halt.MachineFault.TheVariants as machine
 use Rattle.fx_machine.specs.Known.{Known, machine_of, machine_events, seen_by}
@@ -18,7 +17,7 @@ use Rattle.fx_hint.specs.Faults as faults_
 use Rattle.fx_hint.specs.Programmed.{hinting_of}
 use Rattle.fx_hint.specs.Outlines.{outline_with, of_machine}
 use Rattle.fx_hint.specs.Runs.{ProgramRun, runs_of, HasRun}
-use Rattle.fx_hint.specs.Watched.{run_events, runs_joined}
+use Rattle.fx_hint.specs.Watched.{RunEvent, events_for, run_events, runs_joined, WatchesAll}
 use Rattle.fx_trace.specs.declared.fault.Stop.{Stop}
 use Rattle.fx_trace.specs.declared.fault.TraceFault.{TraceFault}
 use Rattle.fx_trace.specs.Snapshots.{SnapshotView}
@@ -65,9 +64,9 @@ ends_so view r due e i v =
     let P : Result (Unit {0}) HintFault → Type 0 = λ q. GivesUnless faults_.Fails (λ (u : Unit {0}). u) q (end_of due) in
     subst P (sym i) (end_given view r due v)
 
-pub ran_so : {W A : Type 0} (Sees : W → Event → W → Type 0) (known : Known) (was now : W) (r : Result A HintFault)
+pub ran_so : {W A : Type 0} (Sees : W → RunEvent → W → Type 0) (known : Known) (was now : W) (r : Result A HintFault)
     (e : Result (Unit {0}) HintFault) (runs some others : List ProgramRun) → e ≡ end_of r → some ++ others ≡ runs
-    → Watches Sees was (flat_map (run_events known) some) now → NoneLeft r others → Ran Sees known runs was now e
+    → WatchesAll Sees was (flat_map (run_events known) some) now → NoneLeft r others → Ran Sees known runs was now e
 ran_so Sees known was now r e runs some others i j w n =
     let P : Result (Unit {0}) HintFault → Type 0 = λ q. NoneLeft q others in
     (some, others, j, w, subst P (sym i) (none_by_end r others n))
@@ -78,7 +77,7 @@ module _ {W : Type 0} (wanted : W → Wanted) (text : W → TextView) (before : 
     (begins : text was ≡ begun sink held faults) (well : outcome was ≡ Ok tt) (off : before was ≡ None)
     (ends : EndsText (text now) (outcome now) last told_last) where
   -- what was added, when the text ended
-  added : (w : Wanted) (es : List Event) → wanted was ≡ w → Watches (Sees wanted text before outcome) was es now
+  added : (w : Wanted) (es : List RunEvent) → wanted was ≡ w → WatchesAll (Sees wanted text before outcome) was es now
       → Adds Halts (begun sink held faults) last (lines_after w None es) told_last × OnOk told_last (last.waiting ≡ [])
   added w es e seen =
       let a = told wanted text before outcome was now es seen well in
@@ -93,7 +92,7 @@ module _ {W : Type 0} (wanted : W → Wanted) (text : W → TextView) (before : 
       text_ended (outcome now) told_last d ends
 
   -- the sink is the same
-  pub same_sink : (w : Wanted) (es : List Event) → wanted was ≡ w → Watches (Sees wanted text before outcome) was es now
+  pub same_sink : (w : Wanted) (es : List RunEvent) → wanted was ≡ w → WatchesAll (Sees wanted text before outcome) was es now
       → last.sink ≡ sink
   same_sink w es e seen = (added w es e seen).0.same
 
@@ -115,7 +114,7 @@ module _ {W : Type 0} (wanted : W → Wanted) (text : W → TextView) (before : 
     unfolding glyph_trace_with trace_text
     first some others e =
         lines_joined Each None (flat_map (run_events known) some) (flat_map (run_events known) others)
-        ∙ ap (λ (es : List Event). lines_after Each None es)
+        ∙ ap (λ (es : List RunEvent). lines_after Each None es)
         (sym (runs_joined (run_events known) some others) ∙ ap (λ (rs : List ProgramRun). flat_map (run_events known) rs) e)
 
     end_is : due.end ≡ end_of (outline_with (hinting_of known) face ppem g)
@@ -145,7 +144,7 @@ module _ {W : Type 0} (wanted : W → Wanted) (text : W → TextView) (before : 
 
   module _ {A : Type 0} (face : Face) (ppem : ℕ) (w : Wanted) (view : A → Known) where
     abbrev all : List ℕ
-    all = lines_after w None (machine_events face ppem)
+    all = lines_after w None (events_for None (machine_events face ppem))
 
     abbrev prelude : Trace
     prelude = prelude_trace face ppem w
@@ -159,15 +158,15 @@ module _ {W : Type 0} (wanted : W → Wanted) (text : W → TextView) (before : 
     prelude_end q e = ap (λ (r : Result Known MachineFault). end_of (map_fault of_machine r)) e
 
     pub prelude_traced : wanted was ≡ w → (made : Result A MachineFault)
-        → Watches (Sees wanted text before outcome) was (seen_by made (machine_events face ppem)) now
+        → WatchesAll (Sees wanted text before outcome) was (events_for None (seen_by made (machine_events face ppem))) now
         → GivesUnless known_.Fails view made (machine_of face ppem)
         → Traces prelude (record { bytes_before = held; bytes = last.held; faults_before = faults; faults = last.faults })
         (result_of told_last (end_of (map_fault of_machine made)))
     prelude_traced e (Ok m) seen v =
         traced prelude sink held faults last all [] (append-nil all ∙ text_is) told_last (Ok tt)
-        (added w (machine_events face ppem) e seen) (refl, prelude_end (Ok (view m)) v)
+        (added w (events_for None (machine_events face ppem)) e seen) (refl, prelude_end (Ok (view m)) v)
     prelude_traced e (Err machine.OutOfMemory) seen v =
         traced prelude sink held faults last [] all text_is told_last (Err hint.OutOfMemory) (added w [] e seen) tt
     prelude_traced e (Err (machine.Halted halt)) seen v =
         traced prelude sink held faults last all [] (append-nil all ∙ text_is) told_last (Err (hint.Halted halt))
-        (added w (machine_events face ppem) e seen) (refl, prelude_end (Err (machine.Halted halt)) v)
+        (added w (events_for None (machine_events face ppem)) e seen) (refl, prelude_end (Err (machine.Halted halt)) v)

@@ -1,12 +1,13 @@
 -- What stops a text, and a text that stops before anything is added.
 -- It serves the tracer.
-use Rattle.std.proofs.Common.{ℕ, ◌<◌, List, length, Result, Ok, Err, refl, arith, length-append}
+use Rattle.std.proofs.Common.{ℕ, ◌<◌, List, length, Option, Result, Ok, Err, refl, arith, length-append}
 use Rattle.std.proofs.KnownBytes.{Appends-nil}
 use Rattle.fx_fixed.specs.declared.sink.WriteFailed.{WriteFailed}
 use Rattle.fx_fixed.specs.Texts.{TextView, Adds, Fails}
 use Rattle.fx_machine.specs.declared.program.FontProgram.{FontProgram}
 use Rattle.fx_machine.specs.declared.program.FontProgram.TheVariants.{Fpgm, Prep, Glyph}
 use Rattle.fx_machine.specs.declared.state.State.{State}
+use Rattle.fx_hint.specs.declared.component.ComponentOf.{ComponentOf}
 use Rattle.fx_trace.specs.declared.fault.Stop.TheVariants as stop
 use Rattle.fx_trace.specs.Lines.{begin_text, line_text}
 use Rattle.fx_trace.specs.Snapshots.{SnapshotView}
@@ -26,11 +27,11 @@ stops_first {was} {text} some = record {
   outcome = (0, omega (arith, some, length-append was.waiting text), Appends-nil was.held, refl);
 }
 
-begin_some : (program : FontProgram) → 0 < length (begin_text program)
+begin_some : (component : Option ComponentOf) (program : FontProgram) → 0 < length (begin_text component program)
 unfolding begin_text
-begin_some Fpgm = omega arith
-begin_some Prep = omega arith
-begin_some (Glyph g) = omega arith
+begin_some component Fpgm = omega arith
+begin_some component Prep = omega arith
+begin_some component (Glyph g) = omega arith
 
 line_some : (program : FontProgram) (code : List ℕ) (address : ℕ) (was : SnapshotView) (s : State)
     → 0 < length (line_text program code address was s)
@@ -39,8 +40,9 @@ line_some Fpgm code address was s = omega arith
 line_some Prep code address was s = omega arith
 line_some (Glyph g) code address was s = omega arith
 
-pub begin_stops : {was : TextView} (program : FontProgram) → Adds Halts was was (begin_text program) (Err stop.OutOfMemory)
-begin_stops program = stops_first (begin_some program)
+pub begin_stops : {was : TextView} (component : Option ComponentOf) (program : FontProgram)
+    → Adds Halts was was (begin_text component program) (Err stop.OutOfMemory)
+begin_stops component program = stops_first (begin_some component program)
 
 pub line_stops : {text : TextView} (program : FontProgram) (code : List ℕ) (address : ℕ) (was : SnapshotView) (s : State)
     → Adds Halts text text (line_text program code address was s) (Err stop.OutOfMemory)

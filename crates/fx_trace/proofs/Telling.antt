@@ -3,7 +3,7 @@
 use Rattle.std.proofs.Common.{◌≡◌, ℕ, List, [], ◌∷◌, ◌++◌, Option, Result, Ok, Err, OnOk, refl, subst, sym, ap, ◌∙◌, append_assoc}
 use Rattle.fx_fixed.specs.Texts.{TextView, Adds}
 use Rattle.fx_fixed.proofs.Texts.{adds_nothing, adds_then, adds_stopped}
-use Rattle.fx_machine.specs.Events.{Event, Watches}
+use Rattle.fx_hint.specs.Watched.{RunEvent, WatchesAll}
 use Rattle.fx_trace.specs.declared.fault.Stop.{Stop}
 use Rattle.fx_trace.specs.Snapshots.{SnapshotView}
 use Rattle.fx_trace.specs.declared.wanted.Wanted.{Wanted}
@@ -11,35 +11,35 @@ use Rattle.fx_trace.specs.inner.Ending.{Sees}
 use Rattle.fx_trace.specs.Traces.{told_of, kept_after, lines_after, Halts, Tells}
 
 -- what is kept after events
-abbrev pub kept_after_all : Wanted → Option SnapshotView → List Event → Option SnapshotView
+abbrev pub kept_after_all : Wanted → Option SnapshotView → List RunEvent → Option SnapshotView
 kept_after_all w t [] = t
 kept_after_all w t (x ∷ xs) = kept_after_all w (kept_after w t x) xs
 
 -- the lines of some events, and of others after them
-pub lines_joined : (w : Wanted) (t : Option SnapshotView) (xs ys : List Event)
+pub lines_joined : (w : Wanted) (t : Option SnapshotView) (xs ys : List RunEvent)
     → lines_after w t xs ++ lines_after w (kept_after_all w t xs) ys ≡ lines_after w t (xs ++ ys)
 lines_joined w t [] ys = refl
 lines_joined w t (x ∷ xs) ys =
     append_assoc (told_of w t x) (lines_after w (kept_after w t x) xs) (lines_after w (kept_after_all w t (x ∷ xs)) ys)
     ∙ ap (λ (l : List ℕ). told_of w t x ++ l) (lines_joined w (kept_after w t x) xs ys)
 
-halt_by : (w : Wanted) (a b : TextView) (t u : Option SnapshotView) (x : Event) (r s : Result (Unit {0}) Stop) (f : Stop)
+halt_by : (w : Wanted) (a b : TextView) (t u : Option SnapshotView) (x : RunEvent) (r s : Result (Unit {0}) Stop) (f : Stop)
     → r ≡ Err f → Tells w a t r x b u s → (b ≡ a) × (s ≡ Err f)
 halt_by w a b t u x (Ok v) s f e h = absurd cc
 halt_by w a b t u x (Err g) s f e h = (h.0, h.1 ∙ e)
 
-one_by : (w : Wanted) (a b : TextView) (t u : Option SnapshotView) (x : Event) (r s : Result (Unit {0}) Stop) → r ≡ Ok tt
+one_by : (w : Wanted) (a b : TextView) (t u : Option SnapshotView) (x : RunEvent) (r s : Result (Unit {0}) Stop) → r ≡ Ok tt
     → Tells w a t r x b u s → Adds Halts a b (told_of w t x) s × OnOk s (u ≡ kept_after w t x)
 one_by w a b t u x (Ok v) s e h = h
 one_by w a b t u x (Err f) s e h = absurd cc
 
 module _ {W : Type 0} (wanted : W → Wanted) (text : W → TextView) (before : W → Option SnapshotView) (outcome : W
     → Result (Unit {0}) Stop) where
-  abbrev Seen : W → Event → W → Type 0
+  abbrev Seen : W → RunEvent → W → Type 0
   Seen = Sees wanted text before outcome
 
   -- a text that stopped stays as it is
-  stays : (was now : W) (xs : List Event) (f : Stop) → outcome was ≡ Err f → Watches Seen was xs now
+  stays : (was now : W) (xs : List RunEvent) (f : Stop) → outcome was ≡ Err f → WatchesAll Seen was xs now
       → (text now ≡ text was) × (outcome now ≡ Err f)
   stays was now [] f e h = (ap text h, ap outcome h ∙ e)
   stays was now (x ∷ xs) f e h =
@@ -47,8 +47,8 @@ module _ {W : Type 0} (wanted : W → Wanted) (text : W → TextView) (before : 
       let b = stays h.0 now xs f a.1 h.2 in
       (b.0 ∙ a.0, b.1)
 
-  rest : (was mid now : W) (x : Event) (xs : List Event) (r : Result (Unit {0}) Stop) → outcome mid ≡ r
-      → outcome was ≡ Ok tt → Seen was x mid → Watches Seen mid xs now
+  rest : (was mid now : W) (x : RunEvent) (xs : List RunEvent) (r : Result (Unit {0}) Stop) → outcome mid ≡ r
+      → outcome was ≡ Ok tt → Seen was x mid → WatchesAll Seen mid xs now
       → (outcome mid ≡ Ok tt → Adds Halts (text mid) (text now) (lines_after (wanted mid) (before mid) xs) (outcome now))
       → Adds Halts (text was) (text now) (lines_after (wanted was) (before was) (x ∷ xs)) (outcome now)
   rest was mid now x xs (Ok tt) m e s h more =
@@ -71,7 +71,7 @@ module _ {W : Type 0} (wanted : W → Wanted) (text : W → TextView) (before : 
       let y : Q (text mid) (Err f) = adds_stopped (lines_after w (kept_after w (before was) x) xs) (subst P m one.0) in
       rw (b.0, b.1) y
 
-  pub told : (was now : W) (xs : List Event) → Watches Seen was xs now → outcome was ≡ Ok tt
+  pub told : (was now : W) (xs : List RunEvent) → WatchesAll Seen was xs now → outcome was ≡ Ok tt
       → Adds Halts (text was) (text now) (lines_after (wanted was) (before was) xs) (outcome now)
   told was now [] h e =
       let P : W → Type 0 = λ w. Adds Halts (text was) (text w) [] (outcome w) in

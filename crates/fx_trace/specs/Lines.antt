@@ -1,11 +1,13 @@
 -- The lines of a trace (own).
-use Rattle.std.specs.Prelude.{ℕ, ℤ, ◌-◌, List, ◌∷◌, ◌++◌, codes, drop, reverse, length}
+use Rattle.std.specs.Prelude.{ℕ, ℤ, ◌-◌, List, [], ◌∷◌, ◌++◌, codes, drop, reverse, length, Option, Some, None}
 use Rattle.std.specs.List.{flat_map}
 use Rattle.std.specs.Fmt.{decimal, signed_decimal}
 use Rattle.fx_code.specs.Listing.{instruction_text}
 use Rattle.fx_machine.specs.declared.program.FontProgram.{FontProgram}
 use Rattle.fx_machine.specs.declared.program.FontProgram.TheVariants.{Fpgm, Prep, Glyph}
 use Rattle.fx_machine.specs.declared.state.State.{State}
+use Rattle.fx_hint.specs.declared.component.ComponentOf.{ComponentOf}
+use Rattle.fx_trace.specs.Changes.{joined}
 use Rattle.fx_trace.specs.Snapshots.{SnapshotView, snapshot_of, changes_text}
 
 -- how many numbers of the stack a line shows at most, from the top
@@ -29,9 +31,18 @@ program_text Fpgm = codes "fpgm"
 program_text Prep = codes "prep"
 program_text (Glyph g) = codes "glyph " ++ decimal g
 
+-- a component of a glyph
+unfoldable pub component_text : ComponentOf → List ℕ
+component_text c = joined (codes ", component " ∷ decimal c.number ∷ codes " of glyph " ∷ decimal c.composite ∷ [])
+
+-- for which component a program runs, if for one
+abbrev pub purpose_text : Option ComponentOf → List ℕ
+purpose_text None = []
+purpose_text (Some c) = component_text c
+
 -- the line of a program that begins
-unfoldable pub begin_text : FontProgram → List ℕ
-begin_text program = program_text program ++ codes " begins\n"
+unfoldable pub begin_text : Option ComponentOf → FontProgram → List ℕ
+begin_text component program = program_text program ++ (codes " begins" ++ (purpose_text component ++ codes "\n"))
 
 -- the line of an instruction at an address of a program with these bytes: the program, the instruction as in the program's listing,
 -- the top of the stack after it, and what differs in the state after it from the one before

@@ -12,11 +12,12 @@ use Rattle.fx_machine.specs.declared.program.FontProgram.{FontProgram}
 use Rattle.fx_machine.specs.declared.program.FontProgram.TheVariants as program
 use Rattle.fx_machine.specs.Events.{Event, Begins, Executed}
 use Rattle.fx_machine.specs.Known.{Known, machine_of, machine_events}
+use Rattle.fx_hint.specs.declared.component.ComponentOf.{ComponentOf}
 use Rattle.fx_hint.specs.declared.fault.HintFault.{HintFault}
 use Rattle.fx_hint.specs.Programmed.{hinting_of}
 use Rattle.fx_hint.specs.Outlines.{outline_with, of_machine}
 use Rattle.fx_hint.specs.Runs.{runs_of}
-use Rattle.fx_hint.specs.Watched.{run_events}
+use Rattle.fx_hint.specs.Watched.{RunEvent, events_for, run_events}
 use Rattle.fx_trace.specs.declared.fault.Stop.{Stop}
 use Rattle.fx_trace.specs.declared.fault.Stop.TheVariants as stop
 use Rattle.fx_trace.specs.declared.fault.TraceFault.{TraceFault}
@@ -35,24 +36,30 @@ is_wanted Prep program.Prep = true
 is_wanted Each p = true
 is_wanted _ _ = false
 
--- the lines of an event, by the state before it, if lines are written
-abbrev pub told_of : Wanted → Option SnapshotView → Event → List ℕ
-told_of wanted before (Begins program s) = if is_wanted wanted program then begin_text program else []
-told_of wanted None (Executed program code address calls s) = []
-told_of wanted (Some before) (Executed program code address calls s) = line_text program code address before s
+-- the lines of an event of a program that runs for a component or a root, by the state before it, if lines are written
+abbrev pub told_by : Wanted → Option ComponentOf → Option SnapshotView → Event → List ℕ
+told_by wanted component before (Begins program s) = if is_wanted wanted program then begin_text component program else []
+told_by wanted component None (Executed program code address calls s) = []
+told_by wanted component (Some before) (Executed program code address calls s) = line_text program code address before s
+
+abbrev pub told_of : Wanted → Option SnapshotView → RunEvent → List ℕ
+told_of wanted before x = told_by wanted x.component before x.event
 
 -- the state after it, if lines are written then
-abbrev pub kept_after : Wanted → Option SnapshotView → Event → Option SnapshotView
-kept_after wanted before (Begins program s) = if is_wanted wanted program then Some (snapshot_of s) else None
-kept_after wanted None (Executed program code address calls s) = None
-kept_after wanted (Some before) (Executed program code address calls s) = Some (snapshot_of s)
+abbrev pub kept_by : Wanted → Option SnapshotView → Event → Option SnapshotView
+kept_by wanted before (Begins program s) = if is_wanted wanted program then Some (snapshot_of s) else None
+kept_by wanted None (Executed program code address calls s) = None
+kept_by wanted (Some before) (Executed program code address calls s) = Some (snapshot_of s)
+
+abbrev pub kept_after : Wanted → Option SnapshotView → RunEvent → Option SnapshotView
+kept_after wanted before x = kept_by wanted before x.event
 
 -- the lines of events in turn: those of the programs that are wanted, from where each begins
-abbrev pub lines_after : Wanted → Option SnapshotView → List Event → List ℕ
+abbrev pub lines_after : Wanted → Option SnapshotView → List RunEvent → List ℕ
 lines_after wanted before [] = []
 lines_after wanted before (x ∷ xs) = told_of wanted before x ++ lines_after wanted (kept_after wanted before x) xs
 
-unfoldable pub trace_text : Wanted → List Event → List ℕ
+unfoldable pub trace_text : Wanted → List RunEvent → List ℕ
 trace_text wanted events = lines_after wanted None events
 
 -- ---- traces
@@ -70,7 +77,7 @@ end_of (Err fault) = Err fault
 -- that of `fpgm` or `prep`, at a size: `prep` runs after `fpgm`
 unfoldable pub prelude_trace : Face → ℕ → Wanted → Trace
 prelude_trace face ppem wanted = record {
-  text = trace_text wanted (machine_events face ppem);
+  text = trace_text wanted (events_for None (machine_events face ppem));
   end = end_of (map_fault of_machine (machine_of face ppem));
 }
 
@@ -133,7 +140,7 @@ Halts (stop.WriterFailed k) n faults_before faults = (k ≡ n) × (faults ≡ fa
 Halts stop.OutOfMemory n faults_before faults = faults ≡ faults_before
 
 -- the lines of an event are added to a text, or the text stops; then nothing more is added
-abbrev pub Tells : Wanted → TextView → Option SnapshotView → Result (Unit {0}) Stop → Event → TextView → Option SnapshotView
+abbrev pub Tells : Wanted → TextView → Option SnapshotView → Result (Unit {0}) Stop → RunEvent → TextView → Option SnapshotView
     → Result (Unit {0}) Stop
     → Type 0
 Tells wanted was before (Ok u) x now next outcome =

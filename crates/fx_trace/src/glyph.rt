@@ -16,7 +16,7 @@ use crate::fault::TraceFault;
 use crate::tracer::Tracer;
 use crate::wanted::Wanted;
 use fx_fixed::{Ppem, Sink};
-use fx_hint::{HintFault, WatchedMachine, outline_with};
+use fx_hint::{HintFault, RunWatcher, WatchedMachine, outline_with};
 use fx_machine::{Machine, MachineFault, Unwatched};
 use fx_sfnt::Font;
 use std::alloc::Global;
@@ -34,9 +34,14 @@ fn outline_watched<'w, S: Sink>(
         (runs_of (hinting_of machine.entry.known) font.now (scale_of font.now ppem) g) watcher.entry result.0 result.1 }
     ensures value { GivesUnless Fails (λ u. u) result.1 (end_of (outline_with (hinting_of machine.entry.known) font.now ppem g)) }
 {
+    let watcher = RunWatcher {
+        watcher,
+        component: None,
+    };
     let mut watched = WatchedMachine { machine, watcher };
     let made = outline_with(alloc, &mut watched, font, ppem, g);
     let WatchedMachine { watcher, .. } = watched;
+    let RunWatcher { watcher, .. } = watcher;
     (watcher, end_of(made))
 }
 

@@ -4,13 +4,14 @@ ghost use Rattle.std.specs.Prelude.{◌≡◌, ◌<◌, ◌^◌, ◌++◌, codes
 ghost use Rattle.std.specs.List.{flat_map};
 ghost use Rattle.fx_fixed.specs.Texts.{Adds, Fails};
 ghost use Rattle.fx_code.specs.Listing.{instruction_text};
-ghost use Rattle.fx_trace.specs.Lines.{last_of, number_text, stack_text, program_text, begin_text, line_text};
+ghost use Rattle.fx_trace.specs.Lines.{last_of, number_text, stack_text, program_text, component_text, purpose_text, begin_text, line_text};
 ghost use Rattle.fx_trace.specs.Snapshots.{snapshot_of, changes_text};
 
 use crate::differences::add_changes;
 use crate::snapshot::Snapshot;
 use fx_code::Code;
 use fx_fixed::{Digits, Sink, TextWriter, WriteFailed};
+use fx_hint::ComponentOf;
 use fx_machine::{FontProgram, State};
 
 /// How many numbers of the stack a line shows at most, from the top.
@@ -138,14 +139,70 @@ pub fn add_line<S: Sink>(
     add_rest(text, code, address, was, state)
 }
 
+/// Adds a component of a glyph.
+#[tactic(auto, unfolding(crate::specs::Lines::component_text))]
+fn add_component<S: Sink>(
+    text: &mut TextWriter<'_, S>,
+    component: ComponentOf,
+) -> Result<(), WriteFailed>
+    requires { text.old.faults < 2 ^ 63 }
+    ensures { Adds Fails text.old text.new (component_text component) result }
+{
+    text.add(&[
+        b", component ",
+        Digits::unsigned(u64::from(component.number)).text(),
+        b" of glyph ",
+        Digits::unsigned(u64::from(component.composite)).text(),
+    ])
+}
+
+/// Adds for which component a program runs, if for one.
+fn add_purpose<S: Sink>(
+    text: &mut TextWriter<'_, S>,
+    component: Option<ComponentOf>,
+) -> Result<(), WriteFailed>
+    requires { text.old.faults < 2 ^ 63 }
+    ensures { Adds Fails text.old text.new (purpose_text component) result }
+{
+    match component {
+        None => Ok(()),
+        Some(component) => add_component(text, component),
+    }
+}
+
+/// Adds for which component a program runs, and ends the line.
+fn add_begin_end<S: Sink>(
+    text: &mut TextWriter<'_, S>,
+    component: Option<ComponentOf>,
+) -> Result<(), WriteFailed>
+    requires { text.old.faults < 2 ^ 63 }
+    ensures { Adds Fails text.old text.new (purpose_text component ++ codes "\n") result }
+{
+    add_purpose(text, component)?;
+    text.add(&[b"\n"])
+}
+
+/// Adds that a program begins, and the rest of the line.
+fn add_begins<S: Sink>(
+    text: &mut TextWriter<'_, S>,
+    component: Option<ComponentOf>,
+) -> Result<(), WriteFailed>
+    requires { text.old.faults < 2 ^ 63 }
+    ensures { Adds Fails text.old text.new (codes " begins" ++ (purpose_text component ++ codes "\n")) result }
+{
+    text.add(&[b" begins"])?;
+    add_begin_end(text, component)
+}
+
 /// Adds the line of a program that begins.
 pub fn add_begin<S: Sink>(
     text: &mut TextWriter<'_, S>,
+    component: Option<ComponentOf>,
     program: FontProgram,
 ) -> Result<(), WriteFailed>
     requires { text.old.faults < 2 ^ 63 }
-    ensures { Adds Fails text.old text.new (begin_text program) result }
+    ensures { Adds Fails text.old text.new (begin_text component program) result }
 {
     add_program(text, program)?;
-    text.add(&[b" begins\n"])
+    add_begins(text, component)
 }

@@ -11,7 +11,7 @@ use crate::fault::TraceFault;
 use crate::tracer::Tracer;
 use crate::wanted::Wanted;
 use fx_fixed::{Ppem, Sink};
-use fx_hint::HintFault;
+use fx_hint::{HintFault, RunWatcher};
 use fx_machine::{Machine, MachineFault};
 use fx_sfnt::Font;
 use std::alloc::Global;
@@ -42,8 +42,14 @@ pub fn trace_prelude<S: Sink>(
     requires { S.fault_count out.old < 2 ^ 63 }
     ensures { Traces (prelude_trace font.now ppem wanted) (change_of S.held S.fault_count out.old out.new) result }
 {
-    let mut tracer = Tracer::new(alloc, out, wanted);
-    let made = Machine::new(alloc, font.shared(), ppem, &mut tracer);
+    let tracer = Tracer::new(alloc, out, wanted);
+    let mut watched = RunWatcher {
+        watcher: tracer,
+        component: None,
+    };
+    let made = Machine::new(alloc, font.shared(), ppem, &mut watched);
+    let RunWatcher { watcher, .. } = watched;
+    let mut tracer = watcher;
     let told = tracer.end();
     tracer.close();
     result_of(told, machine_end(made))

@@ -14,7 +14,8 @@ use crate::snapshot::Snapshot;
 use crate::wanted::Wanted;
 use fx_code::Code;
 use fx_fixed::{Sink, TextWriter};
-use fx_machine::{FontProgram, State, Watching};
+use fx_hint::{ComponentOf, RunWatching};
+use fx_machine::{FontProgram, State};
 use std::alloc::{AllocError, Global};
 
 /// Adds lines to a text, until the text stops.
@@ -34,15 +35,16 @@ pub struct Tracer<'w, S: Sink> {
 fn begin_text<S: Sink>(
     alloc: Global,
     text: &mut TextWriter<'_, S>,
+    component: Option<ComponentOf>,
     program: FontProgram,
     state: &State,
 ) -> (Result<(), Stop>, Option<Snapshot>)
     requires { text.old.faults < 2 ^ 63 }
-    ensures adds { Adds Halts text.old text.new (begin_text program) result.0 }
+    ensures adds { Adds Halts text.old text.new (begin_text component program) result.0 }
     ensures kept { OnOk result.0 (result.1 ≡ Some (snapshot_of state.now)) }
 {
     match Snapshot::of(alloc, state) {
-        Ok(first) => (stop_of(add_begin(text, program)), Some(first)),
+        Ok(first) => (stop_of(add_begin(text, component, program)), Some(first)),
         Err(AllocError) => (Err(Stop::OutOfMemory), None),
     }
 }
@@ -112,17 +114,23 @@ impl<'w, S: Sink> Tracer<'w, S> {
     }
 }
 
-impl<'w, S: Sink> Watching for Tracer<'w, S> {
+impl<'w, S: Sink> RunWatching for Tracer<'w, S> {
     ghost use Rattle.fx_trace.specs.Traces.{Tells};
 
     ghost Sees = { λ was x now. Tells was.wanted was.text was.before was.outcome x now.text now.before now.outcome × (now.wanted
         ≡ was.wanted) };
 
-    fn begin(&mut self, program: FontProgram, state: &State) {
+    fn begin(&mut self, component: Option<ComponentOf>, program: FontProgram, state: &State) {
         if self.outcome.is_ok() {
             self.before = None;
             if self.wanted.wants(program) {
-                let (outcome, before) = begin_text(self.alloc, &mut self.text, program, state);
+                let (outcome, before) = begin_text(
+                    self.alloc,
+                    &mut self.text,
+                    component,
+                    program,
+                    state,
+                );
                 self.outcome = outcome;
                 self.before = before;
             }
@@ -131,6 +139,7 @@ impl<'w, S: Sink> Watching for Tracer<'w, S> {
 
     fn see(
         &mut self,
+        _component: Option<ComponentOf>,
         program: FontProgram,
         code: &Code<'_>,
         address: usize,

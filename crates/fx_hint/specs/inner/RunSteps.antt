@@ -1,5 +1,5 @@
 -- The walk over components by its steps, with a list of the programs that it starts.
-use Rattle.std.specs.Prelude.{ℕ, zero, suc, ◌-◌, List, [], ◌∷◌, pos, None, Result, Ok, Err}
+use Rattle.std.specs.Prelude.{ℕ, zero, suc, ◌-◌, List, [], ◌∷◌, pos, Option, None, Result, Ok, Err}
 use Rattle.fx_fixed.specs.Chain.{◌>>=◌, map_fault}
 use Rattle.fx_sfnt.specs.declared.records.Metrics.{Metrics}
 use Rattle.fx_sfnt.specs.Tables.{Face}
@@ -10,6 +10,7 @@ use Rattle.fx_glyf.specs.Glyphs.{glyph_of}
 use Rattle.fx_zone.specs.Figures.{empty_figure}
 use Rattle.fx_scale.specs.declared.scale.Scale.{Scale}
 use Rattle.fx_scale.specs.Phantoms.{phantoms_of}
+use Rattle.fx_hint.specs.declared.component.ComponentOf.{ComponentOf}
 use Rattle.fx_hint.specs.declared.made.Made.{Made}
 use Rattle.fx_hint.specs.declared.below.OpenComposite.{OpenComposite}
 use Rattle.fx_hint.specs.declared.below.Waiting.{Waiting}
@@ -21,56 +22,52 @@ use Rattle.fx_hint.specs.Hinting.{Hinting}
 use Rattle.fx_hint.specs.Parts.{with_part}
 use Rattle.fx_hint.specs.declared.count.Count.{Count}
 use Rattle.fx_hint.specs.Outlines.{one_component, simple_made}
+use Rattle.fx_hint.specs.inner.Steps.{opened_as}
 use Rattle.fx_hint.specs.Runs.{ProgramRun, Logged, LoggedFault, after, once, logged_one, logged_simple, logged_run, logged_parts, logged_component}
 
 abbrev pub LoggedOutcome : Type 0
 LoggedOutcome = Result (Made × Logged) LoggedFault
 
-unfoldable pub logged_begun_by : Hinting → Scale → ℕ → ℕ → Metrics → glyf.Glyph → Logged → Result (Step × Logged) LoggedFault
-logged_begun_by h s root g m Empty count =
+unfoldable pub logged_begun_by : Hinting → Scale → ℕ → Option ComponentOf → ℕ → Metrics → glyf.Glyph → Logged
+    → Result (Step × Logged) LoggedFault
+logged_begun_by h s root component g m Empty count =
     Ok (Assembled (record { zone = empty_figure; phantoms = phantoms_of s h.on (pos 0) m; wish = None }), count)
-logged_begun_by h s root g m (Simple shape) count = do
+logged_begun_by h s root component g m (Simple shape) count = do
   made ← logged_simple s h.on root m shape count
-  ran ← logged_run h g shape.code made
+  ran ← logged_run h component g shape.code made
   Ok (Assembled ran.0, ran.1)
-logged_begun_by h s root g m (Composite assembly) count = Ok (
-  Open (record {
-    g = g;
-    glyph = assembly;
-    parts = assembly.components;
-    base = record { zone = empty_figure; phantoms = phantoms_of s h.on assembly.x_min m; wish = None };
-  }),
-  count,
-)
+logged_begun_by h s root component g m (Composite assembly) count = Ok (opened_as s h.on component g m assembly, count)
 
-unfoldable pub logged_begun : Hinting → Face → Scale → ℕ → ℕ → Logged → Result (Step × Logged) LoggedFault
-logged_begun h face s root g count = do
+unfoldable pub logged_begun : Hinting → Face → Scale → ℕ → Option ComponentOf → ℕ → Logged → Result (Step × Logged) LoggedFault
+logged_begun h face s root component g count = do
   m ← after count.1 (map_fault Font (metrics_of face g))
   bytes ← after count.1 (map_fault Font (glyph_bytes_of face g))
   glyph ← after count.1 (map_fault Glyph (glyph_of bytes g))
-  logged_begun_by h s root g m glyph count
+  logged_begun_by h s root component g m glyph count
 
-unfoldable pub logged_begun_component : Hinting → Face → Scale → ℕ → ℕ → ℕ → Logged → Result (Step × Logged) LoggedFault
-logged_begun_component h face s root zero g count = Err (ComponentDepth g, count.1)
-logged_begun_component h face s root (suc levels) g count =
-    logged_one root count >>= λ counted. logged_begun h face s root g counted
+unfoldable pub logged_begun_component : Hinting → Face → Scale → ℕ → ℕ → Option ComponentOf → ℕ → Logged
+    → Result (Step × Logged) LoggedFault
+logged_begun_component h face s root zero component g count = Err (ComponentDepth g, count.1)
+logged_begun_component h face s root (suc levels) component g count =
+    logged_one root count >>= λ counted. logged_begun h face s root component g counted
 
 -- the programs that run when a glyph is begun: that of a simple glyph
-unfoldable pub begun_by_runs : Hinting → Scale → ℕ → ℕ → Metrics → glyf.Glyph → Count → List ProgramRun
-begun_by_runs h s root g m Empty count = []
-begun_by_runs h s root g m (Simple shape) count =
-    once (simple_made s h.on root m shape count) (λ made. record { g = g; code = shape.code; made = made.0 } ∷ [])
-begun_by_runs h s root g m (Composite assembly) count = []
+unfoldable pub begun_by_runs : Hinting → Scale → ℕ → Option ComponentOf → ℕ → Metrics → glyf.Glyph → Count → List ProgramRun
+begun_by_runs h s root component g m Empty count = []
+begun_by_runs h s root component g m (Simple shape) count =
+    once (simple_made s h.on root m shape count)
+    (λ made. record { component = component; g = g; code = shape.code; made = made.0 } ∷ [])
+begun_by_runs h s root component g m (Composite assembly) count = []
 
-unfoldable pub begun_runs : Hinting → Face → Scale → ℕ → ℕ → Count → List ProgramRun
-begun_runs h face s root g count =
+unfoldable pub begun_runs : Hinting → Face → Scale → ℕ → Option ComponentOf → ℕ → Count → List ProgramRun
+begun_runs h face s root component g count =
     once (map_fault Font (metrics_of face g)) (λ m. once (map_fault Font (glyph_bytes_of face g))
-    (λ bytes. once (map_fault Glyph (glyph_of bytes g)) (λ glyph. begun_by_runs h s root g m glyph count)))
+    (λ bytes. once (map_fault Glyph (glyph_of bytes g)) (λ glyph. begun_by_runs h s root component g m glyph count)))
 
-unfoldable pub begun_component_runs : Hinting → Face → Scale → ℕ → ℕ → ℕ → Count → List ProgramRun
-begun_component_runs h face s root zero g count = []
-begun_component_runs h face s root (suc levels) g count =
-    once (one_component root count) (λ counted. begun_runs h face s root g counted)
+unfoldable pub begun_component_runs : Hinting → Face → Scale → ℕ → ℕ → Option ComponentOf → ℕ → Count → List ProgramRun
+begun_component_runs h face s root zero component g count = []
+begun_component_runs h face s root (suc levels) component g count =
+    once (one_component root count) (λ counted. begun_runs h face s root component g counted)
 
 -- what plain steps give, with the programs that ran
 abbrev pub logged : {A : Type 0} → List ProgramRun → Result (A × Count) HintFault → Result (A × Logged) LoggedFault
@@ -79,7 +76,8 @@ logged runs (Err e) = Err (e, runs)
 
 abbrev pub logged_left : Hinting → Face → Scale → ℕ → ℕ → OpenComposite → Logged → LoggedOutcome
 logged_left h face s root levels c count =
-    logged_parts s h.on (logged_component h face s root levels) c.g c.parts c.base count >>= logged_run h c.g c.glyph.code
+    logged_parts s h.on (logged_component h face s root levels) c.g c.before c.parts c.base count
+    >>= logged_run h c.component c.g c.glyph.code
 
 abbrev pub logged_given_by : Hinting → Face → Scale → ℕ → ℕ → Step × Logged → LoggedOutcome
 logged_given_by h face s root levels (Assembled made, count) = Ok (made, count)

@@ -1,15 +1,17 @@
 -- The walk over components by its steps, with the composites that are open.
-use Rattle.std.specs.Prelude.{ℕ, zero, suc, ◌-◌, List, [], ◌∷◌, length, pos, None, Result, Ok, Err}
+use Rattle.std.specs.Prelude.{ℕ, zero, suc, length, pos, Bool, Option, None, Result, Ok, Err}
 use Rattle.fx_fixed.specs.Chain.{◌>>=◌, map_fault}
 use Rattle.fx_sfnt.specs.declared.records.Metrics.{Metrics}
 use Rattle.fx_sfnt.specs.Tables.{Face}
 use Rattle.fx_sfnt.specs.Glyphs.{metrics_of, glyph_bytes_of}
 use Rattle.fx_glyf.specs.declared.glyph.Glyph as glyf
 use Rattle.fx_glyf.specs.declared.glyph.Glyph.TheVariants.{Empty, Simple, Composite}
+use Rattle.fx_glyf.specs.Shapes.{CompositeView}
 use Rattle.fx_glyf.specs.Glyphs.{glyph_of}
 use Rattle.fx_zone.specs.Figures.{empty_figure}
 use Rattle.fx_scale.specs.declared.scale.Scale.{Scale}
 use Rattle.fx_scale.specs.Phantoms.{phantoms_of}
+use Rattle.fx_hint.specs.declared.component.ComponentOf.{ComponentOf}
 use Rattle.fx_hint.specs.declared.count.Count.{Count}
 use Rattle.fx_machine.specs.declared.usage.Usage.{Usage}
 use Rattle.fx_hint.specs.declared.made.Made.{Made}
@@ -26,31 +28,35 @@ use Rattle.fx_hint.specs.Outlines.{one_component, more_points, simple_made, run_
 abbrev pub Outcome : Type 0
 Outcome = Result (Made × Count) HintFault
 
+-- a composite that is open, before its first component
+abbrev pub opened_as : Scale → Bool → Option ComponentOf → ℕ → Metrics → CompositeView → Step
+opened_as s hinted component g m assembly = Open (record {
+  component = component;
+  g = g;
+  glyph = assembly;
+  before = 0;
+  parts = assembly.components;
+  base = record { zone = empty_figure; phantoms = phantoms_of s hinted assembly.x_min m; wish = None };
+})
+
 -- a glyph that has been read, begun: an empty or a simple one is assembled, a composite is open
-unfoldable pub begun_by : Hinting → Scale → ℕ → ℕ → Metrics → glyf.Glyph → Count → Result (Step × Count) HintFault
-begun_by h s root g m Empty count =
+unfoldable pub begun_by : Hinting → Scale → ℕ → Option ComponentOf → ℕ → Metrics → glyf.Glyph → Count
+    → Result (Step × Count) HintFault
+begun_by h s root component g m Empty count =
     Ok (Assembled (record { zone = empty_figure; phantoms = phantoms_of s h.on (pos 0) m; wish = None }), count)
-begun_by h s root g m (Simple shape) count = do
+begun_by h s root component g m (Simple shape) count = do
   made ← simple_made s h.on root m shape count
   ran ← run_on h g shape.code made
   Ok (Assembled ran.0, ran.1)
-begun_by h s root g m (Composite assembly) count = Ok (
-  Open (record {
-    g = g;
-    glyph = assembly;
-    parts = assembly.components;
-    base = record { zone = empty_figure; phantoms = phantoms_of s h.on assembly.x_min m; wish = None };
-  }),
-  count,
-)
+begun_by h s root component g m (Composite assembly) count = Ok (opened_as s h.on component g m assembly, count)
 
 -- a glyph, begun: its number and bytes, its reading
-unfoldable pub begun : Hinting → Face → Scale → ℕ → ℕ → Count → Result (Step × Count) HintFault
-begun h face s root g count = do
+unfoldable pub begun : Hinting → Face → Scale → ℕ → Option ComponentOf → ℕ → Count → Result (Step × Count) HintFault
+begun h face s root component g count = do
   m ← map_fault Font (metrics_of face g)
   bytes ← map_fault Font (glyph_bytes_of face g)
   glyph ← map_fault Glyph (glyph_of bytes g)
-  begun_by h s root g m glyph count
+  begun_by h s root component g m glyph count
 
 -- an assembled glyph whose points, and what its program used up, are counted
 unfoldable pub counted_made : ℕ → Made → Usage → Count → Result (Step × Count) HintFault
@@ -59,9 +65,10 @@ counted_made root made usage count = do
   Ok (Assembled made, record counted { usage = usage_with counted.usage usage })
 
 -- a component, begun, with this number of levels allowed from here on
-unfoldable pub begun_component : Hinting → Face → Scale → ℕ → ℕ → ℕ → Count → Result (Step × Count) HintFault
-begun_component h face s root zero g count = Err (ComponentDepth g)
-begun_component h face s root (suc levels) g count = one_component root count >>= λ counted. begun h face s root g counted
+unfoldable pub begun_component : Hinting → Face → Scale → ℕ → ℕ → Option ComponentOf → ℕ → Count → Result (Step × Count) HintFault
+begun_component h face s root zero component g count = Err (ComponentDepth g)
+begun_component h face s root (suc levels) component g count =
+    one_component root count >>= λ counted. begun h face s root component g counted
 
 -- what an open composite gives, with this number of levels allowed below it
 abbrev pub left : Hinting → Face → Scale → ℕ → ℕ → OpenComposite → Count → Outcome

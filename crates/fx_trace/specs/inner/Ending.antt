@@ -2,10 +2,9 @@
 use Rattle.std.specs.Prelude.{◌≡◌, List, [], ◌++◌, Option, Result, Ok, Err, OnOk}
 use Rattle.std.specs.List.{flat_map}
 use Rattle.fx_fixed.specs.Texts.{TextView, Adds}
-use Rattle.fx_machine.specs.Events.{Event, Watches}
 use Rattle.fx_machine.specs.Known.{Known}
 use Rattle.fx_hint.specs.Runs.{ProgramRun}
-use Rattle.fx_hint.specs.Watched.{run_events}
+use Rattle.fx_hint.specs.Watched.{RunEvent, run_events, WatchesAll}
 use Rattle.fx_hint.specs.declared.fault.HintFault.{HintFault}
 use Rattle.fx_hint.specs.declared.fault.HintFault.TheVariants as hint
 use Rattle.fx_fixed.specs.declared.sink.WriteFailed.{WriteFailed as Failed}
@@ -36,7 +35,7 @@ EndsText was (Err stop) now outcome = (now ≡ was) × (outcome ≡ Err stop)
 
 -- what becomes of a tracer at an event, by its parts
 abbrev pub Sees : {W : Type 0} → (W → Wanted) → (W → TextView) → (W → Option SnapshotView) → (W → Result (Unit {0}) Stop) → W
-    → Event → W → Type 0
+    → RunEvent → W → Type 0
 Sees wanted text before outcome was x now =
     Tells (wanted was) (text was) (before was) (outcome was) x (text now) (before now) (outcome now) × (wanted now ≡ wanted was)
 
@@ -51,7 +50,7 @@ NoneLeft (Err hint.OutOfMemory) others = Unit {0}
 NoneLeft r others = others ≡ []
 
 -- a watcher saw these programs in turn, or if memory ran out the first of them
-abbrev pub Ran : {W A : Type 0} → (W → Event → W → Type 0) → Known → List ProgramRun → W → W → Result A HintFault → Type 0
+abbrev pub Ran : {W A : Type 0} → (W → RunEvent → W → Type 0) → Known → List ProgramRun → W → W → Result A HintFault → Type 0
 Ran Sees known runs was now end =
     (some : List ProgramRun) × (others : List ProgramRun) × (some ++ others ≡ runs)
-    × Watches Sees was (flat_map (run_events known) some) now × NoneLeft end others
+    × WatchesAll Sees was (flat_map (run_events known) some) now × NoneLeft end others

@@ -1,3 +1,4 @@
+use Rattle.std.proofs.Common.{None}
 use Rattle.fx_scale.specs.Scaling.{scale_of}
 use Rattle.fx_hint.specs.Programmed.{hinting_of}
 use Rattle.fx_hint.specs.Outlines.{view_of_glyph_outline}
@@ -12,9 +13,10 @@ use Rattle.fx_trace.proofs.glyph.outline_watched.Goals as goal
 pub returns-clause-ran : goal.returns-clause-ran
 returns-clause-ran g c =
     let q = seen_runs {S = WatchedMachine (Tracer g.row.S.Denot g.S.Sink)}
-    (λ a runs b. WatchesRuns (Sees (λ t. t.wanted) (λ t. t.text) (λ t. t.before) (λ t. t.outcome)) a.machine.known a.watcher runs
-    b.machine.known b.watcher) (record { machine = c.args.machine; watcher = c.args.watcher }) c.outline_with-made.new.hinter
-    c.outline_with-made.result
+    (λ a runs b. WatchesRuns (Sees (λ t. t.wanted) (λ t. t.text) (λ t. t.before) (λ t. t.outcome)) a.machine.known
+    a.watcher.watcher runs b.machine.known b.watcher.watcher)
+    (record { machine = c.args.machine; watcher = record { watcher = c.args.watcher; component = None } })
+    c.outline_with-made.new.hinter c.outline_with-made.result
     (runs_of (hinting_of c.args.machine.known) c.args.font.now (scale_of c.args.font.now c.args.ppem) c.args.g)
     c.outline_with-made.ensures.leads in
     ran_so _ _ _ _ c.outline_with-made.result _ _ q.0 q.1 c.end_of.ensures q.2 q.3.1 q.4

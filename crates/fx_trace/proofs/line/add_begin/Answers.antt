@@ -11,4 +11,4 @@ returns-in_err-add_program g c =
 
 pub returns : goal.returns
 unfolding begin_text
-returns g c = adds_then c.in_ok-add_program.ensures c.add.ensures
+returns g c = adds_then c.in_ok-add_program.ensures c.add_begins.ensures

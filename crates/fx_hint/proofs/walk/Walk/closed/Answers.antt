@@ -5,10 +5,10 @@ use Rattle.fx_hint.specs.Limits.{max_depth}
 use Rattle.fx_hint.specs.declared.below.OpenComposite.{OpenComposite}
 use Rattle.fx_hint.specs.declared.below.Waiting.{Waiting}
 use Rattle.fx_hint.proofs.Walking.{fails_on}
-use Rattle.fx_hint.proofs.Steps.{opens, joins, not_joined, runs, not_run, descends, not_descended, fills, not_filled, done}
+use Rattle.fx_hint.proofs.Steps.{with_next, opens, joins, not_joined, runs, not_run, descends, not_descended, fills, not_filled, done}
 use Rattle.fx_hint.proofs.Forgetting.{left_fails, left_gives}
 use Rattle.fx_hint.proofs.RunLaws.{logged_is, run_is, first_of_begun, first_of_closed, first_of_ok, first_of_ran, stops_here, stops_on}
-use Rattle.fx_hint.proofs.Totals.{points_with_one_more, component_begun_counted, run_keeps_points, part_adds_points}
+use Rattle.fx_hint.proofs.Totals.{points_with_one_more, begun_with_one_more, component_begun_counted, run_keeps_points, part_adds_points}
 use Rattle.fx_hint.proofs.walk.Walk.closed.Goals as goal
 
 pub steps-init : goal.steps-init
@@ -18,6 +18,7 @@ steps-init g c = record {
   ran = ([], g.met.H.Hinter.leads_same _, opens _ _ _ _ _ c.args.root (c.args.count.now, []) c.new-below.ensures);
   deep = rw c.new-below.ensures (omega arith);
   few = c.requires.records;
+  numbered = let n = c.requires.fresh in rw c.new-below.ensures (omega (arith, n));
   counted = let n = c.requires.counted in rw c.new-below.ensures (omega (arith, n));
   points = c.requires.points;
 }
@@ -25,7 +26,7 @@ steps-init g c = record {
 pub add_part-requires : goal.add_part-requires
 add_part-requires g c =
     let v = rw (c.steps.invariant.kept, c.in-Assembled.is) at c.in_ok-step-in-Some.ensures.value in
-    let n = component_begun_counted _ _ _ _ _ _ _ _ c.law_keeps_shape.ensures c.steps.invariant.points v in
+    let n = component_begun_counted _ _ _ _ _ _ _ _ _ c.law_keeps_shape.ensures c.steps.invariant.points v in
     let m = c.steps.invariant.counted in
     omega (arith, n.0, n.1, m)
 
@@ -46,7 +47,7 @@ returns-in_err-step-in-Some-clause-value g c =
     let lev = c.levels_below-levels.ensures ∙ ap (λ k. max_depth - k) n in
     rw (p.1, p.2) (fails_on c.in_err-step-in-Some.field-0.0 _ _
     (λ e b. left_fails _ _ _ _ _ c.args.root _ _ _ (not_descended _ _ _ _ _ _ c.steps.open c.in-Some.part c.next.new.self _ _ _
-    c.steps.invariant.ran.2 c.in-Some.ensures.steps lev (logged_is _ _ _ _ _ _ _ c.steps.invariant.ran.0 _ b))) v)
+    c.steps.invariant.ran.2 c.in-Some.ensures.steps lev (logged_is _ _ _ _ _ _ _ _ c.steps.invariant.ran.0 _ b))) v)
 
 pub steps-preserved-in-Continue-branch-2 : goal.steps-preserved-in-Continue-branch-2
 steps-preserved-in-Continue-branch-2 g c =
@@ -54,10 +55,10 @@ steps-preserved-in-Continue-branch-2 g c =
     let v = rw (c.steps.invariant.kept, c.in-Assembled.is) at c.in_ok-step-in-Some.ensures.value in
     let a = rw c.is_on-on.ensures at c.in_ok-add_part-in-Assembled.ensures in
     let m = c.steps.invariant.counted in
-    let p = component_begun_counted _ _ _ _ _ _ _ _ c.law_keeps_shape.ensures c.steps.invariant.points v in
+    let p = component_begun_counted _ _ _ _ _ _ _ _ _ c.law_keeps_shape.ensures c.steps.invariant.points v in
     let s = part_adds_points _ _ _ _ _ _ _ a in
     let led = rw c.steps.invariant.kept at c.in_ok-step-in-Some.ensures.leads in
-    let lv = logged_is _ _ _ _ _ _ _ c.steps.invariant.ran.0 _ v in
+    let lv = logged_is _ _ _ _ _ _ _ _ c.steps.invariant.ran.0 _ v in
     record {
       known = search rules;
       kept = search rules;
@@ -69,6 +70,7 @@ steps-preserved-in-Continue-branch-2 g c =
       );
       deep = c.steps.invariant.deep;
       few = c.in_ok-step-in-Some.ensures.records.1;
+      numbered = let k = c.steps.invariant.numbered in let r = c.in_ok-step-in-Some.ensures.records.0 in omega (arith, k, r);
       counted = omega (arith, m, p.0, s);
       points = p.1;
     }
@@ -80,7 +82,7 @@ returns-in_err-add_part-in-Assembled-clause-value g c =
     let n = c.len.ensures in
     let v = rw (c.steps.invariant.kept, c.in-Assembled.is) at c.in_ok-step-in-Some.ensures.value in
     let a = rw c.is_on-on.ensures at c.in_err-add_part-in-Assembled.ensures in
-    let lv = logged_is _ _ _ _ _ _ _ c.steps.invariant.ran.0 _ v in
+    let lv = logged_is _ _ _ _ _ _ _ _ c.steps.invariant.ran.0 _ v in
     let lev = c.levels_below-levels.ensures ∙ ap (λ k. max_depth - k) n in
     rw (p.1, p.2) (fails_on c.in_err-add_part-in-Assembled.field-0.0 _ _
     (λ e b. left_fails _ _ _ _ _ c.args.root _ _ _ (not_filled _ _ _ _ _ _ c.steps.open c.in-Some.part c.next.new.self _ _ _ _ e
@@ -91,14 +93,16 @@ steps-preserved-in-Open g c =
     let n = c.len.ensures in
     let v = rw (c.steps.invariant.kept, c.in-Open.is) at c.in_ok-step-in-Some.ensures.value in
     let one = length-append c.steps.below
-    (record { part = c.in-Some.part; composite = record c.steps.open { parts = c.next.new.self } } ∷ []) in
+    (record { part = c.in-Some.part; composite = with_next c.steps.open c.next.new.self } ∷ []) in
     let level = c.in_ok-step-in-Some.ensures.level in
-    let w : Waiting = record { part = c.in-Some.part; composite = record c.steps.open { parts = c.next.new.self } } in
+    let w : Waiting = record { part = c.in-Some.part; composite = with_next c.steps.open c.next.new.self } in
     let m = c.steps.invariant.counted in
-    let p = component_begun_counted _ _ _ _ _ _ _ _ c.law_keeps_shape.ensures c.steps.invariant.points v in
-    let s = points_with_one_more c.steps.below w in
+    let p = component_begun_counted _ _ _ _ _ _ _ _ _ c.law_keeps_shape.ensures c.steps.invariant.points v in
     let led = rw c.steps.invariant.kept at c.in_ok-step-in-Some.ensures.leads in
-    let lv = logged_is _ _ _ _ _ _ _ c.steps.invariant.ran.0 _ v in
+    let s = points_with_one_more c.steps.below w in
+    let b = begun_with_one_more c.steps.below w in
+    let f = p.2 in
+    let lv = logged_is _ _ _ _ _ _ _ _ c.steps.invariant.ran.0 _ v in
     record {
       known = search rules;
       kept = search rules;
@@ -110,6 +114,9 @@ steps-preserved-in-Open g c =
       );
       deep = rw c.in_ok-push-in-Open.ensures (omega arith);
       few = c.in_ok-step-in-Some.ensures.records.1;
+      numbered =
+          let k = c.steps.invariant.numbered in let r = c.in_ok-step-in-Some.ensures.records.0 in
+          rw c.in_ok-push-in-Open.ensures (omega (arith, k, r, b, f));
       counted = rw c.in_ok-push-in-Open.ensures (omega (arith, m, p.0, s));
       points = p.1;
     }
@@ -120,12 +127,12 @@ returns-in_err-run_on-in-None-clause-value g c =
     let v = rw (c.steps.invariant.kept, c.code.ensures.value) at c.in_err-run_on-in-None.ensures.value in
     rw (p.1, p.2) (fails_on c.in_err-run_on-in-None.field-0.0 _ _
     (λ e b. left_fails _ _ _ _ _ c.args.root _ _ _ (not_run _ _ _ _ _ _ c.steps.open _ _ _ c.steps.invariant.ran.2
-    c.in-None.ensures.steps.0 (run_is _ _ _ _ _ c.steps.invariant.ran.0 _ b))) v)
+    c.in-None.ensures.steps.0 (run_is _ _ _ _ _ _ c.steps.invariant.ran.0 _ b))) v)
 
 pub returns-in-None-pop-clause-value : goal.returns-in-None-pop-clause-value
 returns-in-None-pop-clause-value g c =
     let v = rw (c.steps.invariant.kept, c.code.ensures.value) at c.in_ok-run_on-in-None.ensures.value in
-    let lv = run_is _ _ _ _ _ c.steps.invariant.ran.0 _ v in
+    let lv = run_is _ _ _ _ _ _ c.steps.invariant.ran.0 _ v in
     let ran = runs _ _ _ _ _ _ c.steps.open _ _ _ _ c.steps.invariant.ran.2 c.in-None.ensures.steps.0 lv in
     left_gives _ _ _ _ _ c.args.root _ _ _ (done _ _ _ _ _ _ _ _ ran c.in-None-pop.ensures)
 
@@ -134,7 +141,7 @@ returns-in_err-open-in-Some-pop-clause-value g c =
     let p = err_from_is_err_and c.from_residual-in_err-open-in-Some-pop.result
     c.from_residual-in_err-open-in-Some-pop.ensures.1 in
     let v = rw (c.steps.invariant.kept, c.code.ensures.value) at c.in_ok-run_on-in-None.ensures.value in
-    let lv = run_is _ _ _ _ _ c.steps.invariant.ran.0 _ v in
+    let lv = run_is _ _ _ _ _ _ c.steps.invariant.ran.0 _ v in
     let ran = runs _ _ _ _ _ _ c.steps.open _ _ _ _ c.steps.invariant.ran.2 c.in-None.ensures.steps.0 lv in
     let j = rw c.is_on-on.ensures at c.in_err-open-in-Some-pop.ensures in
     rw (p.1, p.2) (fails_on c.in_err-open-in-Some-pop.field-0.0 _ _
@@ -152,8 +159,11 @@ steps-preserved g c =
     let q = map_ok_ok _ _ _ j in
     let s = part_adds_points _ _ _ _ _ _ _ q.1 in
     let e = ap (λ (o : OpenComposite). length o.base.zone.points) q.2 in
+    let b = begun_with_one_more c.pop.new.self c.in-Some-pop.waiting in
+    let f = ap (λ (o : OpenComposite). o.before) q.2 in
+    let numbers = rw c.in-Some-pop.ensures at c.steps.invariant.numbered in
     let led = rw c.code.ensures.value at c.in_ok-run_on-in-None.ensures.leads in
-    let lv = run_is _ _ _ _ _ c.steps.invariant.ran.0 _ v in
+    let lv = run_is _ _ _ _ _ _ c.steps.invariant.ran.0 _ v in
     let ran = runs _ _ _ _ _ _ c.steps.open _ _ _ _ c.steps.invariant.ran.2 c.in-None.ensures.steps.0 lv in
     record {
       known = search rules;
@@ -165,6 +175,7 @@ steps-preserved g c =
       );
       deep = omega arith;
       few = rw c.in_ok-run_on-in-None.ensures.records c.steps.invariant.few;
+      numbered = let r = c.in_ok-run_on-in-None.ensures.records in omega (arith, numbers, b, f, r);
       counted = omega (arith, all, one, kept.0, kept.1, s, e);
       points = let few = c.steps.invariant.points in omega (arith, few, kept.1);
     }
@@ -173,7 +184,7 @@ pub returns-in-None-pop-clause-leads : goal.returns-in-None-pop-clause-leads
 returns-in-None-pop-clause-leads g c =
     let v = rw (c.steps.invariant.kept, c.code.ensures.value) at c.in_ok-run_on-in-None.ensures.value in
     let led = rw c.code.ensures.value at c.in_ok-run_on-in-None.ensures.leads in
-    let lv = run_is _ _ _ _ _ c.steps.invariant.ran.0 _ v in
+    let lv = run_is _ _ _ _ _ _ c.steps.invariant.ran.0 _ v in
     let ran = runs _ _ _ _ _ _ c.steps.open _ _ _ _ c.steps.invariant.ran.2 c.in-None.ensures.steps.0 lv in
     let e = done _ _ _ _ _ _ _ _ ran c.in-None-pop.ensures in
     rw e (g.met.H.Hinter.leads_then _ _ _ _ _ c.steps.invariant.ran.1 led)
@@ -186,12 +197,12 @@ returns-in_err-step-in-Some-clause-leads g c =
     let led = rw c.steps.invariant.kept at c.in_err-step-in-Some.ensures.leads in
     let lev = c.levels_below-levels.ensures ∙ ap (λ k. max_depth - k) n in
     let f = first_of_begun _ _ _ _ _ _ c.steps.open c.in-Some.part c.next.new.self _ _ _ _
-    c.steps.invariant.ran.2 c.in-Some.ensures.steps lev (logged_is _ _ _ _ _ _ _ c.steps.invariant.ran.0 _ refl) in
+    c.steps.invariant.ran.2 c.in-Some.ensures.steps lev (logged_is _ _ _ _ _ _ _ _ c.steps.invariant.ran.0 _ refl) in
     rw (p.1, p.2) (stops_on g.H.Hinter.Leads g.met.H.Hinter.leads_then _ _ _ c.in_err-step-in-Some.field-0.0 _
     c.steps.invariant.ran.0 _ _ c.steps.invariant.ran.1 led f v
     (λ e b. not_descended _ _ _ _ _ _ c.steps.open c.in-Some.part c.next.new.self _ _ _
     c.steps.invariant.ran.2 c.in-Some.ensures.steps lev
-    (logged_is _ _ _ _ _ _ _ c.steps.invariant.ran.0 _ b)))
+    (logged_is _ _ _ _ _ _ _ _ c.steps.invariant.ran.0 _ b)))
 
 pub returns-in_err-add_part-in-Assembled-clause-leads : goal.returns-in_err-add_part-in-Assembled-clause-leads
 returns-in_err-add_part-in-Assembled-clause-leads g c =
@@ -201,7 +212,7 @@ returns-in_err-add_part-in-Assembled-clause-leads g c =
     let v = rw (c.steps.invariant.kept, c.in-Assembled.is) at c.in_ok-step-in-Some.ensures.value in
     let a = rw c.is_on-on.ensures at c.in_err-add_part-in-Assembled.ensures in
     let led = rw c.steps.invariant.kept at c.in_ok-step-in-Some.ensures.leads in
-    let lv = logged_is _ _ _ _ _ _ _ c.steps.invariant.ran.0 _ v in
+    let lv = logged_is _ _ _ _ _ _ _ _ c.steps.invariant.ran.0 _ v in
     let lev = c.levels_below-levels.ensures ∙ ap (λ k. max_depth - k) n in
     let f = first_of_ok _ _ _ _ _ _ c.steps.open c.in-Some.part c.next.new.self _ _ _ _
     c.steps.invariant.ran.2 c.in-Some.ensures.steps lev lv in
@@ -216,7 +227,7 @@ returns-in_err-push-in-Open-clause-leads g c =
     let n = c.len.ensures in
     let v = rw (c.steps.invariant.kept, c.in-Open.is) at c.in_ok-step-in-Some.ensures.value in
     let led = rw c.steps.invariant.kept at c.in_ok-step-in-Some.ensures.leads in
-    let lv = logged_is _ _ _ _ _ _ _ c.steps.invariant.ran.0 _ v in
+    let lv = logged_is _ _ _ _ _ _ _ _ c.steps.invariant.ran.0 _ v in
     let lev = c.levels_below-levels.ensures ∙ ap (λ k. max_depth - k) n in
     let f = first_of_ok _ _ _ _ _ _ c.steps.open c.in-Some.part c.next.new.self _ _ _ _
     c.steps.invariant.ran.2 c.in-Some.ensures.steps lev lv in
@@ -228,11 +239,11 @@ returns-in_err-run_on-in-None-clause-leads g c =
     let v = rw (c.steps.invariant.kept, c.code.ensures.value) at c.in_err-run_on-in-None.ensures.value in
     let led = rw c.code.ensures.value at c.in_err-run_on-in-None.ensures.leads in
     let f = first_of_closed _ _ _ _ _ _ c.steps.open _ _ _ _ c.steps.invariant.ran.2 c.in-None.ensures.steps.0
-    (run_is _ _ _ _ _ c.steps.invariant.ran.0 _ refl) in
+    (run_is _ _ _ _ _ _ c.steps.invariant.ran.0 _ refl) in
     rw (p.1, p.2) (stops_on g.H.Hinter.Leads g.met.H.Hinter.leads_then _ _ _ c.in_err-run_on-in-None.field-0.0 _
     c.steps.invariant.ran.0 _ _ c.steps.invariant.ran.1 led f v
     (λ e b. not_run _ _ _ _ _ _ c.steps.open _ _ _ c.steps.invariant.ran.2 c.in-None.ensures.steps.0
-    (run_is _ _ _ _ _ c.steps.invariant.ran.0 _ b)))
+    (run_is _ _ _ _ _ _ c.steps.invariant.ran.0 _ b)))
 
 pub returns-in_err-open-in-Some-pop-clause-leads : goal.returns-in_err-open-in-Some-pop-clause-leads
 returns-in_err-open-in-Some-pop-clause-leads g c =
@@ -240,7 +251,7 @@ returns-in_err-open-in-Some-pop-clause-leads g c =
     c.from_residual-in_err-open-in-Some-pop.ensures.1 in
     let v = rw (c.steps.invariant.kept, c.code.ensures.value) at c.in_ok-run_on-in-None.ensures.value in
     let led = rw c.code.ensures.value at c.in_ok-run_on-in-None.ensures.leads in
-    let lv = run_is _ _ _ _ _ c.steps.invariant.ran.0 _ v in
+    let lv = run_is _ _ _ _ _ _ c.steps.invariant.ran.0 _ v in
     let ran = runs _ _ _ _ _ _ c.steps.open _ _ _ _ c.steps.invariant.ran.2 c.in-None.ensures.steps.0 lv in
     let j = rw c.is_on-on.ensures at c.in_err-open-in-Some-pop.ensures in
     let f = first_of_ran _ _ _ _ _ _ c.steps.open _ _ _ _ c.steps.invariant.ran.2 c.in-None.ensures.steps.0 lv in

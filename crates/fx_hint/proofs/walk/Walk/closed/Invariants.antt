@@ -2,7 +2,7 @@ use Rattle.std.proofs.Common.{◌≡◌, ◌+◌, ◌-◌, ◌*◌, ◌≤◌, l
 use Rattle.fx_outline.specs.Limits.{max_points}
 use Rattle.fx_hint.specs.Limits.{max_components, max_depth}
 use Rattle.fx_hint.specs.inner.RunSteps.{HasRunSome, logged_left, logged_rest_of}
-use Rattle.fx_hint.proofs.Totals.{points_waiting}
+use Rattle.fx_hint.proofs.Totals.{points_waiting, begun_waiting}
 use Rattle.fx_hint.proofs.walk.Walk.closed.Given as goal
 
 -- what the root gives by the steps that are left, after the programs that ran, is what it gives
@@ -18,6 +18,7 @@ invariant-steps g l = record {
       (l.fn.count, []));
   deep : length l.below ≤ max_depth;
   few : l.count.records ≤ max_components;
+  numbered : begun_waiting l.below + l.open.before ≤ l.count.records;
   counted : points_waiting l.below + length l.open.base.zone.points ≤ l.count.points;
   points : l.count.points ≤ max_points;
 }
