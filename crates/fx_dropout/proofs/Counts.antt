@@ -1,6 +1,7 @@
 -- How many places are covered.
 -- Serves `nearer`.
-use Rattle.std.proofs.Common.{◌≡◌, ◌↔◌, inl, inr, refl, sym, ap, ◌∙◌, subst, Bool, true, false, IsTrue, ℕ, zero, suc, ◌+◌, arith}
+use Rattle.std.proofs.Common.{◌≡◌, ◌↔◌, inl, inr, refl, sym, ap, ◌∙◌, subst, Bool, true, false, IsTrue, ℕ, zero, suc, ◌+◌, ◌<◌, ◌≤◌, arith}
+use Rattle.std.specs.Int.{from_bool}
 use Rattle.fx_winding.proofs.Places.{clash}
 use Rattle.fx_dropout.specs.Nearer.{IsCount}
 
@@ -36,3 +37,28 @@ count_is_one P (suc n) a b (inl (p, m, e, h)) (inl (q, l, d, k)) = e ∙ ap suc 
 count_is_one P (suc n) a b (inl h) (inr (q, k)) = absurd (q h.0)
 count_is_one P (suc n) a b (inr (q, k)) (inl h) = absurd (q h.0)
 count_is_one P (suc n) a b (inr (p, h)) (inr (q, k)) = count_is_one P n a b h k
+
+-- the same count of what holds together
+pub count_iff : (P Q : ℕ → Type 0) (n m : ℕ) → ((k : ℕ) → k < n → P k ↔ Q k) → IsCount P n m → IsCount Q n m
+unfolding IsCount
+count_iff P Q zero m e h = h
+count_iff P Q (suc n) m e (inl (p, l, d, h)) =
+    inl ((e n (omega arith)).0 p, l, d, count_iff P Q n l (λ k b. e k (omega (arith, b))) h)
+count_iff P Q (suc n) m e (inr (p, h)) =
+    inr (λ q. p ((e n (omega arith)).1 q), count_iff P Q n m (λ k b. e k (omega (arith, b))) h)
+
+-- one more place, with a truth as a number
+pub count_from : (P : ℕ → Type 0) (n m k : ℕ) (b : Bool) → (IsTrue b ↔ P n) → k ≡ from_bool b → IsCount P n m → IsCount P (n + 1) (m + k)
+count_from P n m k b is e h = count_with P n m (m + k) b is (λ t. one b e t) (λ f. none b e f) h
+  where
+    one : (b : Bool) → k ≡ from_bool b → IsTrue b → m + k ≡ m + 1
+    one true e t = omega (arith, e)
+    one false e t = absurd (clash false refl t)
+
+    none : (b : Bool) → k ≡ from_bool b → b ≡ false → m + k ≡ m
+    none false e f = omega (arith, e)
+    none true e f = absurd (clash true f refl)
+
+pub few_from : (m n k : ℕ) (b : Bool) → k ≡ from_bool b → m ≤ n → m + k ≤ n + 1
+few_from m n k true e h = omega (arith, e, h)
+few_from m n k false e h = omega (arith, e, h)

@@ -10,3 +10,6 @@ pub mod Words
 pub mod Counts
 pub mod Filling
 pub mod NearLaws
+pub mod Steps
+pub mod Alike
+pub mod Sums

@@ -2,4 +2,5 @@
 pub mod Pairs
 pub mod Lines
 pub mod Words
+pub mod Runs
 pub mod Filled

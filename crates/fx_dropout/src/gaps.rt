@@ -17,7 +17,7 @@ use fx_winding::{
 };
 
 /// Whether all points of a piece lie above a height.
-fn is_above(piece: &Piece, y: i32) -> bool
+pub(crate) fn is_above(piece: &Piece, y: i32) -> bool
     ensures { IsTrue result → HasAll (λ e. y <ℤ e.y) (span_of piece.now) }
 {
     if piece.a.y <= y {
@@ -33,7 +33,7 @@ fn is_above(piece: &Piece, y: i32) -> bool
 }
 
 /// Whether all points of a piece lie below a height.
-fn is_below(piece: &Piece, y: i32) -> bool
+pub(crate) fn is_below(piece: &Piece, y: i32) -> bool
     ensures { IsTrue result → HasAll (λ e. e.y <ℤ y) (span_of piece.now) }
 {
     if piece.a.y >= y {
@@ -49,7 +49,7 @@ fn is_below(piece: &Piece, y: i32) -> bool
 }
 
 /// Whether all points of a piece lie right of a column's centres.
-fn is_right(piece: &Piece, x: i32) -> bool
+pub(crate) fn is_right(piece: &Piece, x: i32) -> bool
     ensures { IsTrue result → HasAll (λ e. x <ℤ e.x) (span_of piece.now) }
 {
     if piece.a.x <= x {
@@ -65,7 +65,7 @@ fn is_right(piece: &Piece, x: i32) -> bool
 }
 
 /// Whether all points of a piece lie left of a column's centres.
-fn is_left(piece: &Piece, x: i32) -> bool
+pub(crate) fn is_left(piece: &Piece, x: i32) -> bool
     ensures { IsTrue result → HasAll (λ e. e.x <ℤ x) (span_of piece.now) }
 {
     if piece.a.x >= x {
@@ -165,7 +165,7 @@ pub(crate) fn is_in_frame(frame: Frame, pixel: Pixel) -> bool
 }
 
 /// What a piece adds to the winding number at p, or None if p is on it. Most pieces lie above p or below it, and add nothing.
-fn turn_off(piece: &Piece, p: Point, tally: &mut Tally) -> Option<i32>
+pub(crate) fn turn_off(piece: &Piece, p: Point, tally: &mut Tally) -> Option<i32>
     ensures value { MatchOption result (IsOn (place_of p) (span_of piece.now))
         (λ t. IsWithin 2 t × (t ≡ turn (place_of p) (span_of piece.now)) × ¬ (IsOn (place_of p) (span_of piece.now))) }
     ensures count { tally.new.count ≤ tally.old.count + 3 }

@@ -19,6 +19,8 @@ mod next;
 mod noted;
 mod open;
 mod pair;
+mod places;
+mod run;
 mod up;
 
 pub use filled::close_gaps_nearer;

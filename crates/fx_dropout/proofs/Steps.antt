@@ -1,0 +1,124 @@
+-- Numbers that change by one step from place to place, and the gap 4uw - v² of three of them that add up to one total.
+-- Serves `Alike`.
+use Rattle.std.proofs.Common.{◌≡◌, ◌⊎◌, inl, inr, ℤ, pos, ◌+ℤ◌, ◌-ℤ◌, ◌*ℤ◌, ◌≤ℤ◌, ◌<ℤ◌, [], ◌∷◌, arith}
+use Rattle.fx_fixed.specs.Polynomial.{Expr, var, num, ◌⊞◌, ◌⊠◌, ◌⊟◌}
+use Rattle.fx_fixed.proofs.Ring.{ring}
+use Rattle.fx_fixed.proofs.Linear.{signed_linear}
+use Rattle.fx_fixed.proofs.Order.{below_or_not_ℤ}
+use Rattle.fx_fixed.proofs.Signs.{product_at_least_zero, product_above_zero, square_at_least_zero}
+use Rattle.fx_winding.specs.Area.{gap_of}
+use Rattle.fx_dropout.specs.inner.Runs.{HaveOneSign}
+
+-- above 0 at both ends of a run, and so at each place j of it
+linear_above : (x d j m : ℤ) → pos 0 ≤ℤ j → j ≤ℤ m → pos 0 <ℤ x → pos 0 <ℤ (x +ℤ m *ℤ d) → pos 0 <ℤ (x +ℤ j *ℤ d)
+linear_above x d j m low high a b = by (below_or_not_ℤ d (pos 0))
+  where
+    by : (d <ℤ pos 0) ⊎ (pos 0 ≤ℤ d) → pos 0 <ℤ (x +ℤ j *ℤ d)
+    by (inl h) =
+        let p = product_at_least_zero (m -ℤ j) (pos 0 -ℤ d) (omega (arith, signed_linear, high)) (omega (arith, signed_linear, h)) in
+        let e : (m -ℤ j) *ℤ (pos 0 -ℤ d) ≡ j *ℤ d -ℤ m *ℤ d =
+        ring (m ∷ j ∷ d ∷ []) ((var 0 ⊟ var 1) ⊠ (num (pos 0) ⊟ var 2)) (var 1 ⊠ var 2 ⊟ var 0 ⊠ var 2) tt in
+        omega (arith, signed_linear, p, e, b)
+    by (inr h) = let p = product_at_least_zero j d low h in omega (arith, signed_linear, p, a)
+
+linear_below : (x d j m : ℤ) → pos 0 ≤ℤ j → j ≤ℤ m → x <ℤ pos 0 → (x +ℤ m *ℤ d) <ℤ pos 0 → (x +ℤ j *ℤ d) <ℤ pos 0
+linear_below x d j m low high a b =
+    let e : (n : ℤ) → n *ℤ (pos 0 -ℤ d) ≡ pos 0 -ℤ n *ℤ d =
+    λ n. ring (n ∷ d ∷ []) (var 0 ⊠ (num (pos 0) ⊟ var 1)) (num (pos 0) ⊟ var 0 ⊠ var 1) tt in
+    let em = e m in
+    let ej = e j in
+    let h = linear_above (pos 0 -ℤ x) (pos 0 -ℤ d) j m low high (omega (arith, signed_linear, a)) (omega (arith, signed_linear, em, b)) in
+    omega (arith, signed_linear, h, ej)
+
+-- the same of one sign at both ends
+pub linear_sign : (x d j m : ℤ) → pos 0 ≤ℤ j → j ≤ℤ m → HaveOneSign x (x +ℤ m *ℤ d) → HaveOneSign x (x +ℤ j *ℤ d)
+linear_sign x d j m low high (inl (a, b)) = inl (a, linear_above x d j m low high a b)
+linear_sign x d j m low high (inr (a, b)) = inr (a, linear_below x d j m low high a b)
+
+-- ---- the gap of u, t - u - w and w, at the place j of a run on which u and w change by the steps d and e
+abbrev pub gap_in : ℤ → ℤ → ℤ → ℤ
+gap_in t u w = gap_of u ((t -ℤ u) -ℤ w) w
+
+abbrev pub gap_step : ℤ → ℤ → ℤ → ℤ → ℤ → ℤ → ℤ
+gap_step t u w d e j = gap_in t (u +ℤ j *ℤ d) (w +ℤ j *ℤ e)
+
+abbrev gap_expr : Expr → Expr → Expr → Expr
+gap_expr t u w = num (pos 4) ⊠ (u ⊠ w) ⊟ ((t ⊟ u) ⊟ w) ⊠ ((t ⊟ u) ⊟ w)
+
+abbrev step_expr : Expr → Expr
+step_expr j = gap_expr (var 0) (var 1 ⊞ j ⊠ var 3) (var 2 ⊞ j ⊠ var 4)
+
+abbrev bend_expr : Expr
+bend_expr = (var 3 ⊟ var 4) ⊠ (var 3 ⊟ var 4)
+
+-- it does not grow faster than at its first step
+gap_grows : (t u w d e j : ℤ) → gap_step t u w d e j ≡
+    (gap_step t u w d e (pos 0) +ℤ j *ℤ (gap_step t u w d e (pos 1) -ℤ gap_step t u w d e (pos 0)))
+    -ℤ ((d -ℤ e) *ℤ (d -ℤ e)) *ℤ (j *ℤ (j -ℤ pos 1))
+gap_grows t u w d e j =
+    ring (t ∷ u ∷ w ∷ d ∷ e ∷ j ∷ []) (step_expr (var 5))
+    ((step_expr (num (pos 0)) ⊞ var 5 ⊠ (step_expr (num (pos 1)) ⊟ step_expr (num (pos 0)))) ⊟
+    bend_expr ⊠ (var 5 ⊠ (var 5 ⊟ num (pos 1)))) tt
+
+-- and is above what lies between its values at the ends
+gap_bends : (t u w d e j m : ℤ) → m *ℤ gap_step t u w d e j ≡
+    ((m -ℤ j) *ℤ gap_step t u w d e (pos 0) +ℤ j *ℤ gap_step t u w d e m)
+    +ℤ ((d -ℤ e) *ℤ (d -ℤ e)) *ℤ (m *ℤ (j *ℤ (m -ℤ j)))
+gap_bends t u w d e j m =
+    ring (t ∷ u ∷ w ∷ d ∷ e ∷ j ∷ m ∷ []) (var 6 ⊠ step_expr (var 5))
+    (((var 6 ⊟ var 5) ⊠ step_expr (num (pos 0)) ⊞ var 5 ⊠ step_expr (var 6)) ⊞
+    bend_expr ⊠ (var 6 ⊠ (var 5 ⊠ (var 6 ⊟ var 5)))) tt
+
+below_by : (g h k j b : ℤ) → k ≡ (g +ℤ j *ℤ (h -ℤ g)) -ℤ b → g <ℤ pos 0 → h ≤ℤ g → pos 0 ≤ℤ j → pos 0 ≤ℤ b → k <ℤ pos 0
+below_by g h k j b e a l low up =
+    let p = product_at_least_zero j (g -ℤ h) low (omega (arith, signed_linear, l)) in
+    let s : j *ℤ (g -ℤ h) ≡ pos 0 -ℤ j *ℤ (h -ℤ g) =
+    ring (j ∷ g ∷ h ∷ []) (var 0 ⊠ (var 1 ⊟ var 2)) (num (pos 0) ⊟ var 0 ⊠ (var 2 ⊟ var 1)) tt in
+    omega (arith, signed_linear, e, a, up, p, s)
+
+-- so it stays below 0 if it is and does not grow at the first step
+pub gap_below : (t u w d e j : ℤ) → gap_step t u w d e (pos 0) <ℤ pos 0
+    → gap_step t u w d e (pos 1) ≤ℤ gap_step t u w d e (pos 0) → pos 0 ≤ℤ j → gap_step t u w d e j <ℤ pos 0
+gap_below t u w d e j a l low = by (below_or_not_ℤ j (pos 1))
+  where
+    by : (j <ℤ pos 1) ⊎ (pos 1 ≤ℤ j) → gap_step t u w d e j <ℤ pos 0
+    by (inl h) = let z : j ≡ pos 0 = omega (arith, signed_linear, h, low) in rw z a
+    by (inr h) =
+        below_by (gap_step t u w d e (pos 0)) (gap_step t u w d e (pos 1)) (gap_step t u w d e j) j
+        (((d -ℤ e) *ℤ (d -ℤ e)) *ℤ (j *ℤ (j -ℤ pos 1))) (gap_grows t u w d e j) a l low
+        (product_at_least_zero ((d -ℤ e) *ℤ (d -ℤ e)) (j *ℤ (j -ℤ pos 1)) (square_at_least_zero (d -ℤ e))
+        (product_at_least_zero j (j -ℤ pos 1) low (omega (arith, signed_linear, h))))
+
+above_by : (g h k j m b : ℤ) → m *ℤ k ≡ ((m -ℤ j) *ℤ g +ℤ j *ℤ h) +ℤ b → pos 0 <ℤ g → pos 0 <ℤ h → pos 0 ≤ℤ j → j ≤ℤ m
+    → pos 0 <ℤ m → pos 0 ≤ℤ b → pos 0 <ℤ k
+above_by g h k j m b e a c low high some up = by (below_or_not_ℤ (pos 0) k)
+  where
+    sum : pos 0 <ℤ ((m -ℤ j) *ℤ g +ℤ j *ℤ h)
+    sum = of (below_or_not_ℤ (pos 0) j)
+      where
+        of : (pos 0 <ℤ j) ⊎ (j ≤ℤ pos 0) → pos 0 <ℤ ((m -ℤ j) *ℤ g +ℤ j *ℤ h)
+        of (inl l) =
+            let p = product_at_least_zero (m -ℤ j) g (omega (arith, signed_linear, high)) (omega (arith, signed_linear, a)) in
+            let q = product_above_zero j h l c in
+            omega (arith, signed_linear, p, q)
+        of (inr l) =
+            let p = product_above_zero (m -ℤ j) g (omega (arith, signed_linear, l, some)) a in
+            let q = product_at_least_zero j h low (omega (arith, signed_linear, c)) in
+            omega (arith, signed_linear, p, q)
+
+    by : (pos 0 <ℤ k) ⊎ (k ≤ℤ pos 0) → pos 0 <ℤ k
+    by (inl h) = h
+    by (inr h) =
+        let p = product_at_least_zero m (pos 0 -ℤ k) (omega (arith, signed_linear, some)) (omega (arith, signed_linear, h)) in
+        let s : m *ℤ (pos 0 -ℤ k) ≡ pos 0 -ℤ m *ℤ k = ring (m ∷ k ∷ []) (var 0 ⊠ (num (pos 0) ⊟ var 1)) (num (pos 0) ⊟ var 0 ⊠ var 1) tt in
+        absurd (omega (arith, signed_linear, e, sum, up, p, s))
+
+-- and above 0 between two places at which it is
+pub gap_above : (t u w d e j m : ℤ) → pos 0 <ℤ gap_step t u w d e (pos 0) → pos 0 <ℤ gap_step t u w d e m → pos 0 ≤ℤ j → j ≤ℤ m
+    → pos 0 <ℤ m → pos 0 <ℤ gap_step t u w d e j
+gap_above t u w d e j m a b low high some =
+    above_by (gap_step t u w d e (pos 0)) (gap_step t u w d e m) (gap_step t u w d e j) j m
+    (((d -ℤ e) *ℤ (d -ℤ e)) *ℤ (m *ℤ (j *ℤ (m -ℤ j)))) (gap_bends t u w d e j m) a b low high some
+    (product_at_least_zero ((d -ℤ e) *ℤ (d -ℤ e)) (m *ℤ (j *ℤ (m -ℤ j))) (square_at_least_zero (d -ℤ e))
+    (product_at_least_zero m (j *ℤ (m -ℤ j)) (omega (arith, signed_linear, some))
+    (product_at_least_zero j (m -ℤ j) low (omega (arith, signed_linear, high)))))

@@ -1,0 +1,18 @@
+use Rattle.std.proofs.Common.{◌≡◌, ◌+◌, ◌-◌, ◌*◌, ◌≤◌, ◌<◌, ℕ, None, length, get_or}
+use Rattle.fx_winding.specs.Winding.{span_of}
+use Rattle.fx_dropout.specs.Nearer.{place_on}
+use Rattle.fx_dropout.specs.inner.Runs.{IsJoined}
+use Rattle.fx_dropout.proofs.places.add_piece.Given as goal
+
+abbrev pub invariant-runs : goal.invariant-runs
+invariant-runs l = record {
+  few : l.n ≤ 128;
+  length : length l.places ≡ 128;
+  joined : (k : ℕ) → k < l.n → IsJoined (place_on l.pair.is_up l.pair.here.col l.pair.here.row k) (span_of l.piece)
+      (get_or l.fn.places k None) (get_or l.places k None);
+  others : (k : ℕ) → l.n ≤ k → get_or l.places k None ≡ get_or l.fn.places k None;
+  tests : l.tally.count ≤ l.fn.tally.count + 31 * l.n;
+}
+
+abbrev pub decreases-runs : goal.decreases-runs
+decreases-runs l = 128 - l.n

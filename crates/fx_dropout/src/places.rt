@@ -1,0 +1,180 @@
+//! What pieces add to the winding numbers of the places between the centres of two neighbours.
+
+ghost use Rattle.std.specs.Prelude.{◌≡◌, ◌↔◌, ◌⊎◌, ℕ, ◌+◌, ◌*◌, ◌^◌, ◌≤◌, ◌<◌, ℤ, pos, ◌+ℤ◌, ◌≤ℤ◌, ◌<ℤ◌, IsTrue, Option, Some, None, length, map, get_or, IfSome};
+ghost use Rattle.fx_fixed.specs.Ranges.{IsWithin};
+ghost use Rattle.fx_winding.specs.Area.{Place};
+ghost use Rattle.fx_winding.specs.Limits.{most_pieces};
+ghost use Rattle.fx_winding.specs.Outside.{HasAll};
+ghost use Rattle.fx_winding.specs.Winding.{place_of, span_of};
+ghost use Rattle.fx_dropout.specs.Nearer.{place_on};
+ghost use Rattle.fx_dropout.specs.inner.Runs.{above as above_of, sum_of, IsAdded, IsCoveredBy, IsInBox, IsJoined, IsMore, IsSmall, IsSummed};
+
+use crate::gaps::{is_above, is_below, is_left, is_right, turn_off};
+use crate::pair::Pair;
+use crate::run::{PLACES, alike_from, is_passed};
+use fx_winding::{Piece, Point, Tally};
+
+/// 1 if a height is above that of a place, else 0.
+fn above(y: i32, height: i32) -> i32
+    ensures value { result ≡ above_of y height }
+    ensures low { pos 0 ≤ℤ result }
+    ensures high { result ≤ℤ pos 1 }
+{
+    if y < height { 1 } else { 0 }
+}
+
+/// What a piece that lies right of a box adds to the winding number of each place there, if it is one number.
+fn turn_left(piece: &Piece, p: Point, q: Point) -> Option<i32>
+    requires high { p.y ≤ℤ q.y }
+    requires right { HasAll (λ e. q.x <ℤ e.x) (span_of piece.now) }
+    ensures { IfSome result (λ t. IsWithin 1 t × ((r : Place) → IsInBox (place_of p) (place_of q) r →
+        IsAdded r (span_of piece.now) t)) }
+{
+    if is_passed(piece.a.y, p.y, q.y) {
+        return None;
+    }
+    if is_passed(piece.c.y, p.y, q.y) {
+        return None;
+    }
+    Some(above(p.y, piece.c.y) - above(p.y, piece.a.y))
+}
+
+/// What a piece adds to the winding number of each place of a box, if it lies to one side of all, so that none is on it.
+fn turn_beside(piece: &Piece, p: Point, q: Point) -> Option<i32>
+    requires high { p.y ≤ℤ q.y }
+    ensures { IfSome result (λ t. IsWithin 1 t × ((r : Place) → IsInBox (place_of p) (place_of q) r →
+        IsAdded r (span_of piece.now) t)) }
+{
+    if is_above(piece, q.y) {
+        return Some(0);
+    }
+    if is_below(piece, p.y) {
+        return Some(0);
+    }
+    if is_left(piece, p.x) {
+        return Some(0);
+    }
+    if is_right(piece, q.x) {
+        return turn_left(piece, p, q);
+    }
+    None
+}
+
+/// The sum of what pieces add to a winding number, or None if the place is on one of them.
+fn joined(a: Option<i32>, b: Option<i32>) -> Option<i32>
+    requires first { IsSmall (2 ^ 29) a }
+    requires second { IsSmall (2 ^ 29) b }
+    ensures { result ≡ sum_of a b }
+{
+    match a {
+        None => None,
+        Some(a) => match b {
+            None => None,
+            Some(b) => Some(a + b),
+        },
+    }
+}
+
+/// Whether a piece is known to add nothing.
+fn is_nothing(added: Option<i32>) -> bool
+    ensures { IsTrue result → added ≡ Some (pos 0) }
+{
+    match added {
+        None => false,
+        Some(turn) => turn == 0,
+    }
+}
+
+/// Adds what a piece adds at `count` places.
+fn add_run(places: &mut [Option<i32>], first: usize, count: usize, added: Option<i32>)
+    requires room { first + count ≤ length places.old }
+    requires small { (n : ℕ) → first ≤ n → n < first + count → IsSmall (2 ^ 29) (get_or places.old n None) }
+    requires part { IsSmall (2 ^ 29) added }
+    ensures length { length places.new ≡ length places.old }
+    ensures run { (n : ℕ) → first ≤ n → n < first + count →
+        get_or places.new n None ≡ sum_of (get_or places.old n None) added }
+    ensures others { (n : ℕ) → (n < first) ⊎ (first + count ≤ n) → get_or places.new n None ≡ get_or places.old n None }
+{
+    if is_nothing(added) {
+        return;
+    }
+    // The places before n of the run have what is added.
+    'places: for n in first..first + count {
+        places[n] = joined(places[n], added);
+    }
+}
+
+/// Adds what a piece adds at each place.
+fn add_piece(piece: &Piece, pair: Pair, places: &mut [Option<i32>], tally: &mut Tally)
+    requires room { length places.old ≡ 128 }
+    requires small { (n : ℕ) → n < 128 → IsSmall (2 ^ 29) (get_or places.old n None) }
+    ensures length { length places.new ≡ 128 }
+    ensures joined { (n : ℕ) → n < 128 → IsJoined (place_on pair.is_up pair.here.col pair.here.row n) (span_of piece.now)
+        (get_or places.old n None) (get_or places.new n None) }
+    ensures count { tally.new.count ≤ tally.old.count + 31 * 128 }
+{
+    let mut n = 0;
+    // What the piece adds at the first n places has been added.
+    'runs: while n < PLACES {
+        let count = alike_from(piece, pair, n, tally);
+        add_run(places, n, count, turn_off(piece, pair.place(n), tally));
+        n += count;
+    }
+}
+
+/// Adds what a piece adds at each place. If it lies to one side of all of them, the places stay, and the one number that it adds is
+/// returned.
+fn add_either(piece: &Piece, pair: Pair, places: &mut [Option<i32>], tally: &mut Tally) -> i32
+    requires room { length places.old ≡ 128 }
+    requires small { (n : ℕ) → n < 128 → IsSmall (2 ^ 29) (get_or places.old n None) }
+    ensures size { IsWithin 1 result }
+    ensures length { length places.new ≡ 128 }
+    ensures more { (n : ℕ) → n < 128 → IsMore (place_on pair.is_up pair.here.col pair.here.row n) (span_of piece.now) result
+        (get_or places.old n None) (get_or places.new n None) }
+    ensures count { tally.new.count ≤ tally.old.count + 31 * 128 }
+{
+    match turn_beside(piece, pair.place(0), pair.place(PLACES - 1)) {
+        Some(turn) => turn,
+        None => {
+            add_piece(piece, pair, places, tally);
+            0
+        }
+    }
+}
+
+/// Adds what the pieces add at each place: there, or to the number that is returned, which is the same for all places.
+pub(crate) fn add_pieces(
+    pieces: &[Piece],
+    pair: Pair,
+    places: &mut [Option<i32>],
+    tally: &mut Tally,
+) -> i32
+    requires few { length pieces.now ≤ most_pieces }
+    requires room { length places.old ≡ 128 }
+    requires none { (n : ℕ) → n < 128 → get_or places.old n None ≡ Some (pos 0) }
+    ensures size { IsWithin (2 ^ 17) result }
+    ensures length { length places.new ≡ 128 }
+    ensures small { (n : ℕ) → n < 128 → IsSmall (2 ^ 17) (get_or places.new n None) }
+    ensures summed { (n : ℕ) → n < 128 → IsSummed (place_on pair.is_up pair.here.col pair.here.row n) (map span_of pieces.now) result
+        (get_or places.new n None) }
+    ensures count { tally.new.count ≤ tally.old.count + 31 * 128 * length pieces.now }
+{
+    let mut base = 0;
+    // What the pieces before this one add is known at each place: `base`, and what stands there.
+    'pieces: for piece in pieces {
+        base += add_either(piece, pair, places, tally);
+    }
+    base
+}
+
+/// Whether a place is on a piece, or has a winding number other than 0.
+pub(crate) fn is_covered(place: Option<i32>, base: i32) -> bool
+    requires small { IsSmall (2 ^ 17) place }
+    requires size { IsWithin (2 ^ 17) base }
+    ensures { IsTrue result ↔ IsCoveredBy base place }
+{
+    match place {
+        None => true,
+        Some(turns) => base + turns != 0,
+    }
+}
