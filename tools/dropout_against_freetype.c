@@ -1,14 +1,15 @@
 /* dropout_against_freetype: strikes with and without --dropout beside FreeType's raster, glyph by glyph, on the very same outlines.
 
    dropout_against_freetype outlines FONT PPEM hinted|unhinted
-   dropout_against_freetype compare FONT PPEM hinted|unhinted PLAIN CLOSED SHOWN
+   dropout_against_freetype compare FONT PPEM hinted|unhinted PLAIN CLOSED SHOWN RULE
 
    The glyphs are those of the characters from 20 to FFFF, each once, as FreeType's interpreter 35 leaves them, in 1/64 pixel.
    `outlines` prints a line for each: its number, then for each contour `/` and for each of its points x, y and whether it is on the
    curve. The driver of the same name makes a font of them, and strikes of that font without drop-out control (PLAIN) and with it
    (CLOSED), in which glyph g is the character F0000 + g. `compare` draws each outline by FreeType, and by the definition of
    drop-out control (below, pixel by pixel), and counts where the strikes differ from both. Of each kind of difference it shows as
-   many glyphs as SHOWN says. */
+   many glyphs as SHOWN says. RULE is `left` (FreeType's rule 3, SCANTYPE 0) or `near` (its SCANTYPE 4). By any other rule CLOSED is
+   compared with what FreeType draws as the font asks, and with no definition. */
 
 #include <ft2build.h>
 #include FT_FREETYPE_H
@@ -275,6 +276,13 @@ static void set_boxes(void) {
     }
 }
 
+/* ---- the rule by which gaps are closed ---- */
+
+enum { LEFT, NEAR, OTHER };
+static int rule;
+
+static int rule_of(const char *word) { return strcmp(word, "left") == 0 ? LEFT : strcmp(word, "near") == 0 ? NEAR : OTHER; }
+
 /* ---- pictures by the definition: rows first, then columns on what is left ---- */
 
 static bool is_gap(int picture, int column, int row, bool in_column) {
@@ -282,11 +290,34 @@ static bool is_gap(int picture, int column, int row, bool in_column) {
     return !is_set(picture, column, row) && !is_set(picture, next_column, next_row) && met(column, row, in_column) != 0;
 }
 
-/* Whether a pixel of the frame closes a gap: the one from it on; or the one before it, if that one's first pixel is outside. */
+/* How many of the 63 places from the one `from` steps of 1/128 pixel behind a centre on are covered. */
+static int covered_places(int column, int row, bool in_column, int from) {
+    int count = 0;
+    for (int n = from; n < from + 63; n++)
+        count += is_covered((struct place){128L * column + 64 + (in_column ? 0 : n), 128L * row + 64 + (in_column ? n : 0)});
+    return count;
+}
+
+/* Whether the stroke between a pixel and the next one is nearer to that. */
+static bool is_next_nearer(int column, int row, bool in_column) {
+    return rule == NEAR && covered_places(column, row, in_column, 1) < covered_places(column, row, in_column, 65);
+}
+
+/* Whether a gap from a pixel on is closed by that pixel, which is in the frame: the next one is not nearer, or not in the frame. */
+static bool closes_as_first(int picture, int column, int row, bool in_column) {
+    if (!is_gap(picture, column, row, in_column)) return false;
+    return !is_in(frame, column + !in_column, row + in_column) || !is_next_nearer(column, row, in_column);
+}
+
+/* Whether it is closed by the next pixel, which is in the frame: that is nearer, or the first one is not in the frame. */
+static bool closes_as_next(int picture, int column, int row, bool in_column) {
+    if (!is_gap(picture, column, row, in_column)) return false;
+    return !is_in(frame, column, row) || is_next_nearer(column, row, in_column);
+}
+
+/* Whether a pixel of the frame closes a gap: the one from it on, or the one before it. */
 static bool is_bridge(int picture, int column, int row, bool in_column) {
-    const int before_column = column - !in_column, before_row = row - in_column;
-    if (is_gap(picture, column, row, in_column)) return true;
-    return !is_in(frame, before_column, before_row) && is_gap(picture, before_column, before_row, in_column);
+    return closes_as_first(picture, column, row, in_column) || closes_as_next(picture, column - !in_column, row - in_column, in_column);
 }
 
 /* Sets what closes gaps of the rows, or of the columns, of a picture, all by what was set before. */
@@ -313,10 +344,11 @@ static void draw_by_definition(void) {
 
 /* ---- pictures by FreeType ---- */
 
-/* Sets what an outline says of drop-out control: none, or rule 3, which is SCANTYPE 0. */
-static void set_dropout(FT_Outline *outline, bool is_closed) {
+/* Sets what an outline says of drop-out control: none, or SCANTYPE 0 (rule 3) or 4 (the nearer pixel). */
+static void set_dropout(FT_Outline *outline, bool is_closed, bool is_smart) {
     outline->flags &= ~(FT_OUTLINE_IGNORE_DROPOUTS | FT_OUTLINE_SMART_DROPOUTS | FT_OUTLINE_INCLUDE_STUBS);
     outline->flags |= FT_OUTLINE_HIGH_PRECISION | (is_closed ? FT_OUTLINE_INCLUDE_STUBS : FT_OUTLINE_IGNORE_DROPOUTS);
+    if (is_smart) outline->flags |= FT_OUTLINE_SMART_DROPOUTS;
     for (int k = 0; k < outline->n_points; k++) outline->tags[k] &= 3; /* the rest is what the font's programs say of it */
 }
 
@@ -332,7 +364,7 @@ static bool has_bit(const FT_Bitmap *bitmap, unsigned column, unsigned row) {
 }
 
 static void draw_by_freetype(int picture) {
-    if (picture != ASKED_THEIRS) set_dropout(&face->glyph->outline, picture == CLOSED_THEIRS);
+    if (picture != ASKED_THEIRS) set_dropout(&face->glyph->outline, picture == CLOSED_THEIRS, picture == CLOSED_THEIRS && rule == NEAR);
     const FT_Bitmap *bitmap = render();
     const int left = face->glyph->bitmap_left, top = face->glyph->bitmap_top;
     for (unsigned row = 0; row < bitmap->rows; row++)
@@ -429,7 +461,7 @@ static int parts_of(int picture) {
 static int parts_of_outline(void) {
     const FT_Matrix larger = {TIMES << 16, 0, 0, TIMES << 16};
     FT_Outline_Transform(&face->glyph->outline, &larger);
-    set_dropout(&face->glyph->outline, true);
+    set_dropout(&face->glyph->outline, true, false);
     const FT_Bitmap *bitmap = render();
     const struct box box = {0, 0, (int)bitmap->width, (int)bitmap->rows};
     unsigned char *at = malloc((size_t)box.width * (size_t)box.height + 1);
@@ -499,14 +531,14 @@ static bool is_near(struct place p) {
 
 enum { LOOKED_AT = 4 };
 static const int looked_at[LOOKED_AT] = {PLAIN_OURS, ASKED_THEIRS, CLOSED_THEIRS, CLOSED_OURS};
-static const char *const looked_at_names[LOOKED_AT] = {"none", "asked", "rule-3", "ours"};
+static const char *const looked_at_names[LOOKED_AT] = {"none", "asked", "theirs", "ours"};
 
 static long broken[LOOKED_AT], blank[LOOKED_AT], glyphs, added, wrong_plain, wrong_closed;
 static long plain_on, plain_near, plain_other, plain_glyphs;
 static long kind_pixels[KINDS], kind_glyphs[KINDS], differing_glyphs, differing_pixels;
 static int left_to_show[KINDS];
 
-/* Shows a glyph: without drop-out control, by FreeType's rule 3, by the strike, with what drop-out control adds as `+`. */
+/* Shows a glyph: without drop-out control, by FreeType's rule, by the strike, with what drop-out control adds as `+`. */
 static void show(unsigned long code, int kind) {
     static const int shown[] = {PLAIN_OURS, CLOSED_THEIRS, CLOSED_OURS};
     printf("| U+%04lX: %s\n", code, kind_names[kind]);
@@ -556,6 +588,10 @@ static void count_closed(unsigned long code) {
     differing_glyphs += all != 0;
 }
 
+static void copy_picture(int to, int from) {
+    memcpy(pictures[to], pictures[from], (size_t)room.width * (size_t)room.height);
+}
+
 static void compare(unsigned long code, FT_UInt glyph, const struct strike *plain, const struct strike *closed) {
     add_pieces(&face->glyph->outline);
     if (piece_count == 0) return;
@@ -567,6 +603,7 @@ static void compare(unsigned long code, FT_UInt glyph, const struct strike *plai
     draw_by_freetype(CLOSED_THEIRS);
     draw_by_strike(PLAIN_OURS, plain, glyph);
     draw_by_strike(CLOSED_OURS, closed, glyph);
+    if (rule == OTHER) copy_picture(CLOSED_THEIRS, ASKED_THEIRS), copy_picture(CLOSED_DUE, CLOSED_OURS);
     count_plain();
     count_closed(code);
     int due = parts_of_outline();
@@ -591,7 +628,7 @@ static void print_counts(void) {
 }
 
 int main(int count, char **words) {
-    const bool is_compare = count == 8 && strcmp(words[1], "compare") == 0;
+    const bool is_compare = count == 9 && strcmp(words[1], "compare") == 0;
     static struct strike plain, closed;
     FT_UInt glyph;
     if (!is_compare && (count != 5 || strcmp(words[1], "outlines") != 0)) fail("the words are", "wrong");
@@ -600,6 +637,7 @@ int main(int count, char **words) {
         read_strike(words[5], &plain);
         read_strike(words[6], &closed);
         for (int kind = 0; kind < KINDS; kind++) left_to_show[kind] = atoi(words[7]);
+        rule = rule_of(words[8]);
     }
     for (unsigned long code = 0x20; (code = next_glyph(code, &glyph)) != 0; code++) {
         if (is_compare)

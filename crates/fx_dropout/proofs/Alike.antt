@@ -2,6 +2,8 @@
 -- Serves `run` and `places`.
 use Rattle.std.proofs.Common.{◌≡◌, ◌≢◌, ◌⊎◌, inl, inr, refl, sym, ap, ◌∙◌, subst, ℕ, ◌+◌, ◌≤◌, ◌<◌, ℤ, pos, negsuc, zero, suc}
 use Rattle.std.proofs.Common.{◌+ℤ◌, ◌-ℤ◌, ◌*ℤ◌, neg_ℤ, ◌≤ℤ◌, ◌<ℤ◌, Bool, true, false, Some, None, [], ◌∷◌, arith}
+use Rattle.std.proofs.Common.{◌↔◌, IsTrue, Option, w32, w64, to_z, of_z}
+use Rattle.fx_fixed.specs.Ranges.{IsWithin}
 use Rattle.std.proofs.lemmas.Int.{ints}
 use Rattle.fx_fixed.specs.Polynomial.{var, num, ◌⊞◌, ◌⊠◌, ◌⊟◌, minus}
 use Rattle.fx_fixed.proofs.Ring.{ring, one-*ℤ, neg-*ℤ, zero_*ℤ}
@@ -10,6 +12,10 @@ use Rattle.fx_fixed.proofs.Order.{below_or_not_ℤ}
 use Rattle.fx_winding.specs.Area.{Place, area, gap_of}
 use Rattle.fx_winding.specs.Meets.{turn}
 use Rattle.fx_winding.specs.Outside.{HasAll}
+use Rattle.fx_winding.specs.declared.point.Piece.{Piece}
+use Rattle.fx_winding.specs.declared.point.Point.{Point}
+use Rattle.fx_winding.specs.Winding.{place_of, maybe_place_of, span_of, areas_of, areas_of_part}
+use Rattle.fx_winding.proofs.Places.{clash}
 use Rattle.fx_winding.specs.Winding.{Span, IsOn, IsOnPart, crossing, chord_crossing, region, region_part, sign, weight_b}
 use Rattle.fx_winding.specs.Winding.{is_right_of_chord}
 use Rattle.fx_winding.proofs.Beside.{HasAll-weaker, left_off, right_off, under_off, over_off}
@@ -65,7 +71,8 @@ pub line_alike : (a c p r : Place) → IsOneSide a.y p.y r.y → IsOneSide c.y p
     → IsAlike r p (record { a = a; b = None; c = c })
 line_alike a c p r h k l =
     let n = not_none (area a p c) (area a r c) l in
-    off_alike r p (record { a = a; b = None; c = c }) (λ o. n.1 (none_back a c r o.collinear)) (λ o. n.0 (none_back a c p o.collinear))
+    off_alike r p (record { a = a; b = None; c = c }) (λ o. n.1 (none_back a c r o.collinear))
+    (λ o. n.0 (none_back a c p o.collinear))
     (λ i. sym (chord_same a c p r h k l) i +ℤ pos 0)
 
 -- ---- an arc whose region counts one number at both places
@@ -242,7 +249,8 @@ middle_of_total a b c p =
 
 -- the gap along a segment, from the place k on, or back from it
 gap_along : (up : Bool) (col row : ℤ) (k n : ℕ) (a b c : Place) → arc_gap a b c (place_on up col row n)
-    ≡ gap_step (area a b c) (area (place_on up col row k) b c) (area a b (place_on up col row k)) (step up b c) (step up a b) (far k n)
+    ≡ gap_step (area a b c) (area (place_on up col row k) b c) (area a b (place_on up col row k)) (step up b c) (step up a b)
+    (far k n)
 gap_along up col row k n a b c =
     ap (λ v. gap_of (area (place_on up col row n) b c) v (area a b (place_on up col row n)))
     (middle_of_total a b c (place_on up col row n))
@@ -294,18 +302,21 @@ pub below_along : (up : Bool) (col row : ℤ) (k n : ℕ) (a b c : Place) → ar
     → arc_gap a b c (place_on up col row (k + 1)) ≤ℤ arc_gap a b c (place_on up col row k) → k ≤ n
     → arc_gap a b c (place_on up col row n) <ℤ pos 0
 below_along up col row k n a b c h l low =
-    let G : ℤ → ℤ = gap_step (area a b c) (area (place_on up col row k) b c) (area a b (place_on up col row k)) (step up b c) (step up a b) in
+    let G : ℤ → ℤ =
+    gap_step (area a b c) (area (place_on up col row k) b c) (area a b (place_on up col row k)) (step up b c) (step up a b) in
     let e0 : arc_gap a b c (place_on up col row k) ≡ G (pos 0) = gap_along up col row k k a b c ∙ ap G (far_none k) in
     let e1 : arc_gap a b c (place_on up col row (k + 1)) ≡ G (pos 1) = gap_along up col row k (k + 1) a b c ∙ ap G (far_one k) in
     below_at (arc_gap a b c (place_on up col row n)) (G (far k n)) (gap_along up col row k n a b c)
-    (gap_below (area a b c) (area (place_on up col row k) b c) (area a b (place_on up col row k)) (step up b c) (step up a b) (far k n)
-    (subst (λ z. z <ℤ pos 0) e0 h) (subst (λ (z : ℤ × ℤ). z.0 ≤ℤ z.1) (λ i. (e1 i, e0 i)) l) (omega (arith, signed_linear, low)))
+    (gap_below (area a b c) (area (place_on up col row k) b c) (area a b (place_on up col row k)) (step up b c) (step up a b)
+    (far k n) (subst (λ z. z <ℤ pos 0) e0 h) (subst (λ (z : ℤ × ℤ). z.0 ≤ℤ z.1) (λ i. (e1 i, e0 i)) l)
+    (omega (arith, signed_linear, low)))
 
 pub below_back : (up : Bool) (col row : ℤ) (k j n : ℕ) (a b c : Place) → arc_gap a b c (place_on up col row k) <ℤ pos 0 → k ≡ j + 1
     → arc_gap a b c (place_on up col row j) ≤ℤ arc_gap a b c (place_on up col row k) → n ≤ k
     → arc_gap a b c (place_on up col row n) <ℤ pos 0
 below_back up col row k j n a b c h is l high =
-    let G : ℤ → ℤ = gap_step (area a b c) (area (place_on up col row k) b c) (area a b (place_on up col row k)) (neg_ℤ (step up b c))
+    let G : ℤ → ℤ =
+    gap_step (area a b c) (area (place_on up col row k) b c) (area a b (place_on up col row k)) (neg_ℤ (step up b c))
     (neg_ℤ (step up a b)) in
     let one : far j k ≡ pos 1 = omega (arith, signed_linear, is) in
     let e0 : arc_gap a b c (place_on up col row k) ≡ G (pos 0) = gap_back up col row k k a b c ∙ ap G (far_none k) in
@@ -321,7 +332,8 @@ above_at x y e h = omega (arith, signed_linear, e, h)
 above_along : (up : Bool) (col row : ℤ) (k m n : ℕ) (a b c : Place) → pos 0 <ℤ arc_gap a b c (place_on up col row k)
     → pos 0 <ℤ arc_gap a b c (place_on up col row m) → k ≤ n → n ≤ m → k < m → pos 0 <ℤ arc_gap a b c (place_on up col row n)
 above_along up col row k m n a b c h l low high some =
-    let G : ℤ → ℤ = gap_step (area a b c) (area (place_on up col row k) b c) (area a b (place_on up col row k)) (step up b c) (step up a b) in
+    let G : ℤ → ℤ =
+    gap_step (area a b c) (area (place_on up col row k) b c) (area a b (place_on up col row k)) (step up b c) (step up a b) in
     let e0 : arc_gap a b c (place_on up col row k) ≡ G (pos 0) = gap_along up col row k k a b c ∙ ap G (far_none k) in
     above_at (arc_gap a b c (place_on up col row n)) (G (far k n)) (gap_along up col row k n a b c)
     (gap_above (area a b c) (area (place_on up col row k) b c) (area a b (place_on up col row k)) (step up b c) (step up a b)
@@ -378,7 +390,8 @@ beyond_run up col row k m a b c some h other = arc_run up col row k m a b c some
     sign n low high = v_sign up col row k m n a c low high h.side
 
     none : (n : ℕ) → k ≤ n → n ≤ m → ¬ (HaveOneSign (area a b c) (area a (place_on up col row n) c))
-    none n low high = other_sign (area a b c) (area a (place_on up col row k) c) (area a (place_on up col row n) c) (sign n low high) other
+    none n low high = other_sign (area a b c) (area a (place_on up col row k) c) (area a (place_on up col row n) c)
+        (sign n low high) other
 
     apart : (n : ℕ) → k ≤ n → n ≤ m → area a (place_on up col row n) c ≢ pos 0
     apart n low high = (not_none (area a (place_on up col row k) c) (area a (place_on up col row n) c) (sign n low high)).1
@@ -415,7 +428,8 @@ without_run up col row k m a b c some h bent gap = arc_run up col row k m a b c 
     all : (n : ℕ) → k ≤ n → n ≤ m → (¬ (IsOnPart a (Some b) c (place_on up col row n))) ×
         (region_part a (Some b) c (place_on up col row n) ≡ region_part a (Some b) c (place_on up col row k))
     all n low high = (
-      gap_off a b c (place_on up col row n) (apart n low high) (below_apart (arc_gap a b c (place_on up col row n)) (gap n low high)),
+      gap_off a b c (place_on up col row n) (apart n low high)
+          (below_apart (arc_gap a b c (place_on up col row n)) (gap n low high)),
       none n low high ∙ sym (none k (omega arith) some),
     )
 
@@ -488,7 +502,8 @@ one_alike up col row n s k low high = subst (λ (m : ℕ). IsAlike (place_on up 
     is = omega (arith, low, high)
 
 -- ---- the box of all places of a segment
-pub in_box : (up : Bool) (col row : ℤ) (n : ℕ) → n < 128 → IsInBox (place_on up col row 0) (place_on up col row 127) (place_on up col row n)
+pub in_box : (up : Bool) (col row : ℤ) (n : ℕ) → n < 128
+    → IsInBox (place_on up col row 0) (place_on up col row 127) (place_on up col row n)
 in_box false col row n h = record {
   left = omega (arith, signed_linear);
   right = omega (arith, signed_linear, h);
@@ -501,3 +516,53 @@ in_box true col row n h = record {
   low = omega (arith, signed_linear);
   high = omega (arith, signed_linear, h);
 }
+
+-- ---- coordinates and areas as words
+pub coordinate_word : (x : ℤ) → IsWithin 4194304 x → to_z w32 (of_z w32 x) ≡ x
+coordinate_word x h = omega (arith, signed_linear, h)
+
+pub area_word : (x : ℤ) → IsWithin 562949953421312 x → to_z w64 (of_z w64 x) ≡ x
+area_word x h = omega (arith, signed_linear, h)
+
+pub area_wider : (x : ℤ) → IsWithin 140737488355328 x → IsWithin 562949953421312 x
+area_wider x h = (omega (arith, signed_linear, h), omega (arith, signed_linear, h))
+
+-- a test whether an end is passed has failed
+pub not_passed : (x : Bool) (end p q : Point) → (IsTrue x ↔ IsPassed (to_z w32 (of_z w32 end.y)) (to_z w32 (of_z w32 p.y))
+    (to_z w32 (of_z w32 q.y))) → x ≡ false → ¬ (IsPassed end.y p.y q.y)
+not_passed x end p q h f k = clash x f (h.1 (subst (λ (z : ℤ × ℤ × ℤ). IsPassed z.0 z.1 z.2)
+    (λ i. (
+      sym (coordinate_word end.y end.near_y) i,
+      sym (coordinate_word p.y p.near_y) i,
+      sym (coordinate_word q.y q.near_y) i,
+    )) k))
+
+-- the tests of the places at the ends of a run
+part_middle : (a : Place) (b : Option Place) (c p : Place) → (areas_of_part a b c p).1 ≡ area a p c
+part_middle a None c p = refl
+part_middle a (Some b) c p = refl
+
+pub clear_seen : (up : Bool) (col row : ℤ) (k m : ℕ) (s : Piece) (p q : Point) (vp vq : ℤ)
+    → place_of p ≡ place_on up col row k → place_of q ≡ place_on up col row m → IsWithin 140737488355328 vp
+    → IsWithin 140737488355328 vq → vp ≡ (areas_of (span_of s) (place_of p)).1 → vq ≡ (areas_of (span_of s) (place_of q)).1
+    → ¬ (IsPassed s.a.y p.y q.y) → ¬ (IsPassed s.c.y p.y q.y)
+    → HaveOneSign (to_z w64 (of_z w64 vp)) (to_z w64 (of_z w64 vq)) → IsClear up col row k m (span_of s)
+clear_seen up col row k m s p q vp vq ep eq np nq hp hq start end side = record {
+  start = λ h. start (subst (λ (z : ℤ × ℤ). IsPassed s.a.y z.0 z.1) (λ i. (sym yp i, sym yq i)) h);
+  end = λ h. end (subst (λ (z : ℤ × ℤ). IsPassed s.c.y z.0 z.1) (λ i. (sym yp i, sym yq i)) h);
+  side = subst (λ (z : ℤ × ℤ). HaveOneSign z.0 z.1) (λ i. (sp i, sq i)) side;
+}
+  where
+    yp : p.y ≡ (place_on up col row k).y
+    yp = ap (λ (z : Place). z.y) ep
+
+    yq : q.y ≡ (place_on up col row m).y
+    yq = ap (λ (z : Place). z.y) eq
+
+    sp : to_z w64 (of_z w64 vp) ≡ area (place_of s.a) (place_on up col row k) (place_of s.c)
+    sp = area_word vp (area_wider vp np) ∙ hp ∙ part_middle (place_of s.a) (maybe_place_of s.b) (place_of s.c) (place_of p)
+        ∙ ap (λ z. area (place_of s.a) z (place_of s.c)) ep
+
+    sq : to_z w64 (of_z w64 vq) ≡ area (place_of s.a) (place_on up col row m) (place_of s.c)
+    sq = area_word vq (area_wider vq nq) ∙ hq ∙ part_middle (place_of s.a) (maybe_place_of s.b) (place_of s.c) (place_of q)
+        ∙ ap (λ z. area (place_of s.a) z (place_of s.c)) eq

@@ -1,6 +1,7 @@
 -- How many places are covered.
 -- Serves `nearer`.
-use Rattle.std.proofs.Common.{◌≡◌, ◌↔◌, inl, inr, refl, sym, ap, ◌∙◌, subst, Bool, true, false, IsTrue, ℕ, zero, suc, ◌+◌, ◌<◌, ◌≤◌, arith}
+use Rattle.std.proofs.Common.{◌≡◌, ◌↔◌, inl, inr, refl, sym, ap, ◌∙◌, subst, Bool, true, false, IsTrue, ℕ, zero, suc, ◌+◌}
+use Rattle.std.proofs.Common.{◌<◌, ◌≤◌, arith}
 use Rattle.std.specs.Int.{from_bool}
 use Rattle.fx_winding.proofs.Places.{clash}
 use Rattle.fx_dropout.specs.Nearer.{IsCount}
@@ -48,7 +49,8 @@ count_iff P Q (suc n) m e (inr (p, h)) =
     inr (λ q. p ((e n (omega arith)).1 q), count_iff P Q n m (λ k b. e k (omega (arith, b))) h)
 
 -- one more place, with a truth as a number
-pub count_from : (P : ℕ → Type 0) (n m k : ℕ) (b : Bool) → (IsTrue b ↔ P n) → k ≡ from_bool b → IsCount P n m → IsCount P (n + 1) (m + k)
+pub count_from : (P : ℕ → Type 0) (n m k : ℕ) (b : Bool) → (IsTrue b ↔ P n) → k ≡ from_bool b → IsCount P n m
+    → IsCount P (n + 1) (m + k)
 count_from P n m k b is e h = count_with P n m (m + k) b is (λ t. one b e t) (λ f. none b e f) h
   where
     one : (b : Bool) → k ≡ from_bool b → IsTrue b → m + k ≡ m + 1

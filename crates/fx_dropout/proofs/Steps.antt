@@ -15,7 +15,8 @@ linear_above x d j m low high a b = by (below_or_not_ℤ d (pos 0))
   where
     by : (d <ℤ pos 0) ⊎ (pos 0 ≤ℤ d) → pos 0 <ℤ (x +ℤ j *ℤ d)
     by (inl h) =
-        let p = product_at_least_zero (m -ℤ j) (pos 0 -ℤ d) (omega (arith, signed_linear, high)) (omega (arith, signed_linear, h)) in
+        let p =
+        product_at_least_zero (m -ℤ j) (pos 0 -ℤ d) (omega (arith, signed_linear, high)) (omega (arith, signed_linear, h)) in
         let e : (m -ℤ j) *ℤ (pos 0 -ℤ d) ≡ j *ℤ d -ℤ m *ℤ d =
         ring (m ∷ j ∷ d ∷ []) ((var 0 ⊟ var 1) ⊠ (num (pos 0) ⊟ var 2)) (var 1 ⊠ var 2 ⊟ var 0 ⊠ var 2) tt in
         omega (arith, signed_linear, p, e, b)
@@ -27,7 +28,8 @@ linear_below x d j m low high a b =
     λ n. ring (n ∷ d ∷ []) (var 0 ⊠ (num (pos 0) ⊟ var 1)) (num (pos 0) ⊟ var 0 ⊠ var 1) tt in
     let em = e m in
     let ej = e j in
-    let h = linear_above (pos 0 -ℤ x) (pos 0 -ℤ d) j m low high (omega (arith, signed_linear, a)) (omega (arith, signed_linear, em, b)) in
+    let h = linear_above (pos 0 -ℤ x) (pos 0 -ℤ d) j m low high (omega (arith, signed_linear, a))
+    (omega (arith, signed_linear, em, b)) in
     omega (arith, signed_linear, h, ej)
 
 -- the same of one sign at both ends
@@ -110,7 +112,8 @@ above_by g h k j m b e a c low high some up = by (below_or_not_ℤ (pos 0) k)
     by (inl h) = h
     by (inr h) =
         let p = product_at_least_zero m (pos 0 -ℤ k) (omega (arith, signed_linear, some)) (omega (arith, signed_linear, h)) in
-        let s : m *ℤ (pos 0 -ℤ k) ≡ pos 0 -ℤ m *ℤ k = ring (m ∷ k ∷ []) (var 0 ⊠ (num (pos 0) ⊟ var 1)) (num (pos 0) ⊟ var 0 ⊠ var 1) tt in
+        let s : m *ℤ (pos 0 -ℤ k) ≡ pos 0 -ℤ m *ℤ k =
+        ring (m ∷ k ∷ []) (var 0 ⊠ (num (pos 0) ⊟ var 1)) (num (pos 0) ⊟ var 0 ⊠ var 1) tt in
         absurd (omega (arith, signed_linear, e, sum, up, p, s))
 
 -- and above 0 between two places at which it is

@@ -1,6 +1,7 @@
 -- What pieces add at places, added up piece by piece.
 -- Serves `places`.
-use Rattle.std.proofs.Common.{◌≡◌, ◌≢◌, ◌⊎◌, ◌↔◌, inl, inr, refl, sym, ap, ◌∙◌, subst, ℕ, ◌+◌, ◌<◌, ◌≤◌, ℤ, pos, ◌+ℤ◌, Option, Some, None}
+use Rattle.std.proofs.Common.{◌≡◌, ◌≢◌, ◌⊎◌, ◌↔◌, inl, inr, sym, ap, ◌∙◌, subst, ℕ, ◌+◌, ◌<◌, ◌≤◌, ℤ, pos, ◌+ℤ◌}
+use Rattle.std.proofs.Common.{Option, Some, None}
 use Rattle.std.proofs.Common.{List, [], ◌∷◌, ◌++◌, Any, length, take, get_or, arith}
 use Rattle.std.proofs.lemmas.List.{take_more}
 use Rattle.fx_fixed.proofs.Linear.{signed_linear}
@@ -69,7 +70,8 @@ joined_more p ss s base (Some u) (Some t) (k, is, off) (n, e) = (
   let w = winding_last p ss s in omega (arith, signed_linear, w, is, e),
 )
 
-taken_more : (ss : List Span) (done : ℕ) (s : Span) → done < length ss → s ≡ get_or ss done s → take (done + 1) ss ≡ take done ss ++ s ∷ []
+taken_more : (ss : List Span) (done : ℕ) (s : Span) → done < length ss → s ≡ get_or ss done s
+    → take (done + 1) ss ≡ take done ss ++ s ∷ []
 taken_more ss done s within is = take_more ss done s within ∙ ap (λ r. take done ss ++ r ∷ []) (sym is)
 
 pub summed_added : (p : Place) (ss : List Span) (done : ℕ) (s : Span) (base t : ℤ) (v : Option ℤ) → done < length ss
@@ -96,32 +98,10 @@ pub small_wider : (k m : ℕ) (v : Option ℤ) → k ≤ m → IsSmall k v → I
 small_wider k m None l h = tt
 small_wider k m (Some t) l h = (omega (arith, signed_linear, l, h), omega (arith, signed_linear, l, h))
 
-pub small_part : (p : Place) (s : Span) (v : Option ℤ) → IsPart p s v → IsSmall 2 v
-small_part p s None a = tt
-small_part p s (Some t) a = a.0
-
-pub summed_none : (p : Place) (ss : List Span) → IsSummed p (take 0 ss) (pos 0) (Some (pos 0))
-summed_none p ss = (λ a. none ss a, wound ss)
-  where
-    none : (ss : List Span) → ¬ (Any (IsOn p) (take 0 ss))
-    none [] (k, s, within, is, h) = omega (arith, within)
-    none (s ∷ ss) (k, t, within, is, h) = omega (arith, within)
-
-    wound : (ss : List Span) → pos 0 ≡ winding p (take 0 ss)
-    wound [] = refl
-    wound (s ∷ ss) = refl
-
 -- a part stays one at a place at which the piece is alike
 pub part_alike : (p q : Place) (s : Span) (v : Option ℤ) → IsAlike p q s → IsPart q s v → IsPart p s v
 part_alike p q s None a h = a.on.1 h
 part_alike p q s (Some t) a (k, is, off) = (k, is ∙ sym a.turn_is, λ o. off (a.on.0 o))
-
-pub sum_nothing : (v : Option ℤ) → v ≡ sum_of v (Some (pos 0))
-sum_nothing None = refl
-sum_nothing (Some t) = ap Some (is t)
-  where
-    is : (t : ℤ) → t ≡ t +ℤ pos 0
-    is t = omega (arith, signed_linear)
 
 -- all pieces
 pub covered_by : (p : Place) (ss : List Span) (base : ℤ) (v : Option ℤ) → IsSummed p ss base v → IsCoveredBy base v ↔ IsCovered p ss
@@ -135,15 +115,18 @@ covered_by p ss base (Some t) (n, e) = (λ k. inr (λ z. k (e ∙ z)), λ c k. b
 
 -- ---- one piece more, whichever way it adds
 pub more_summed : (p : Place) (ss : List Span) (done : ℕ) (s : Span) (base t : ℤ) (old new : Option ℤ) → done < length ss
-    → s ≡ get_or ss done s → IsMore p s t old new → IsSummed p (take done ss) base old → IsSummed p (take (done + 1) ss) (base +ℤ t) new
+    → s ≡ get_or ss done s → IsMore p s t old new → IsSummed p (take done ss) base old
+    → IsSummed p (take (done + 1) ss) (base +ℤ t) new
 more_summed p ss done s base t old new within is (inl (a, e)) h =
-    subst (λ (v : Option ℤ). IsSummed p (take (done + 1) ss) (base +ℤ t) v) (sym e) (summed_added p ss done s base t old within is a h)
+    subst (λ (v : Option ℤ). IsSummed p (take (done + 1) ss) (base +ℤ t) v) (sym e)
+    (summed_added p ss done s base t old within is a h)
 more_summed p ss done s base t old new within is (inr (z, j)) h =
     subst (λ (b : ℤ). IsSummed p (take (done + 1) ss) b new) (same base t z) (summed_joined p ss done s base old new within is j h)
   where
     same : (base t : ℤ) → t ≡ pos 0 → base ≡ base +ℤ t
     same base t z = omega (arith, signed_linear, z)
 
-pub more_small : (p : Place) (s : Span) (k : ℕ) (t : ℤ) (old new : Option ℤ) → IsMore p s t old new → IsSmall k old → IsSmall (k + 2) new
+pub more_small : (p : Place) (s : Span) (k : ℕ) (t : ℤ) (old new : Option ℤ) → IsMore p s t old new → IsSmall k old
+    → IsSmall (k + 2) new
 more_small p s k t old new (inl (a, e)) h = subst (IsSmall (k + 2)) (sym e) (small_wider k (k + 2) old (omega arith) h)
 more_small p s k t old new (inr (z, j)) h = small_joined p s k old new j h

@@ -155,8 +155,8 @@ pub(crate) fn add_pieces(
     ensures size { IsWithin (2 ^ 17) result }
     ensures length { length places.new ≡ 128 }
     ensures small { (n : ℕ) → n < 128 → IsSmall (2 ^ 17) (get_or places.new n None) }
-    ensures summed { (n : ℕ) → n < 128 → IsSummed (place_on pair.is_up pair.here.col pair.here.row n) (map span_of pieces.now) result
-        (get_or places.new n None) }
+    ensures summed { (n : ℕ) → n < 128 → IsSummed (place_on pair.is_up pair.here.col pair.here.row n) (map span_of pieces.now)
+        result (get_or places.new n None) }
     ensures count { tally.new.count ≤ tally.old.count + 31 * 128 * length pieces.now }
 {
     let mut base = 0;

@@ -84,8 +84,10 @@ fn stays_below(
     tally: &mut Tally,
 ) -> bool
     requires middle { piece.now.b ≡ Some b }
-    requires first { first ≡ gap_of_piece (span_of piece.now) (place_on run.pair.is_up run.pair.here.col run.pair.here.row run.first) }
-    requires last { last ≡ gap_of_piece (span_of piece.now) (place_on run.pair.is_up run.pair.here.col run.pair.here.row run.last) }
+    requires first { first ≡ gap_of_piece (span_of piece.now)
+        (place_on run.pair.is_up run.pair.here.col run.pair.here.row run.first) }
+    requires last { last ≡ gap_of_piece (span_of piece.now)
+        (place_on run.pair.is_up run.pair.here.col run.pair.here.row run.last) }
     requires first_size { IsWithin (2 ^ 97) first }
     requires last_size { IsWithin (2 ^ 97) last }
     requires first_below { first <ℤ pos 0 }

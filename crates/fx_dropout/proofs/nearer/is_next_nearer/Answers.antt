@@ -26,7 +26,8 @@ returns-clause-value c =
     let each : (from : ℕ) → from < 66 → (n : ℕ) → n < 63 → By from n ↔ At from n =
     λ from l n m. covered_by (place_on p.is_up p.here.col p.here.row (n + from)) ss base (get_or places (n + from) None)
     (subst (λ (ps : List Piece). IsSummed (place_on p.is_up p.here.col p.here.row (n + from)) (map span_of ps) base
-    (get_or places (n + from) None)) c.as_slice.ensures.value (c.add_pieces-base.ensures.summed (n + from) (omega (arith, l, m)))) in
+    (get_or places (n + from) None)) c.as_slice.ensures.value
+    (c.add_pieces-base.ensures.summed (n + from) (omega (arith, l, m)))) in
     let size = c.add_pieces-base.ensures.size in
     let e : to_z w32 (of_z w32 base) ≡ base = omega (arith, signed_linear, size) in
     let counted : (from m : ℕ) → IsCount (λ n. IsCoveredBy (to_z w32 (of_z w32 base)) (get_or places (n + from) None)) 63 m →

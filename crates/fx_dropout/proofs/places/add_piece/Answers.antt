@@ -10,7 +10,8 @@ use Rattle.fx_dropout.specs.inner.Runs.{sum_of, IsJoined, IsPart}
 use Rattle.fx_dropout.proofs.Sums.{part_alike}
 use Rattle.fx_dropout.proofs.places.add_piece.Goals as goal
 
-to_part : (p : Place) (s : Span) (v : Option ℤ) → MatchOption v (IsOn p s) (λ t. IsWithin 2 t × (t ≡ turn p s) × ¬ (IsOn p s)) → IsPart p s v
+to_part : (p : Place) (s : Span) (v : Option ℤ)
+    → MatchOption v (IsOn p s) (λ t. IsWithin 2 t × (t ≡ turn p s) × ¬ (IsOn p s)) → IsPart p s v
 to_part p s None h = h
 to_part p s (Some t) h = h
 
@@ -34,7 +35,8 @@ runs-preserved c =
     let part : IsPart (P n) s c.turn_off.result = subst (λ (q : Place). IsPart q s c.turn_off.result) c.place.ensures
     (to_part _ s c.turn_off.result c.turn_off.ensures.value) in
     let early : (k : ℕ) → k < n → IsJoined (P k) s (get_or old k None) (get_or new k None) =
-    λ k l. subst (λ (v : Option ℤ). IsJoined (P k) s (get_or old k None) v) (sym (c.add_run.ensures.others k (inl l))) (inv.joined k l) in
+    λ k l. subst (λ (v : Option ℤ). IsJoined (P k) s (get_or old k None) v) (sym (c.add_run.ensures.others k (inl l)))
+    (inv.joined k l) in
     let late : (k : ℕ) → n ≤ k → k < n + count → IsJoined (P k) s (get_or old k None) (get_or new k None) =
     λ k low high. record {
       part = c.turn_off.result;

@@ -1,4 +1,5 @@
-use Rattle.std.proofs.Common.{◌≡◌, ◌∙◌, sym, ap, subst, ◌+◌, ◌*◌, ◌<◌, ℕ, ℤ, ◌+ℤ◌, List, None, length, map, take, get_or, arith, w32, to_z, of_z}
+use Rattle.std.proofs.Common.{◌≡◌, ◌∙◌, sym, ap, subst, ◌+◌, ◌*◌, ◌<◌, ℕ, ℤ, ◌+ℤ◌, List, None, length}
+use Rattle.std.proofs.Common.{map, take, get_or, arith, w32, to_z, of_z}
 use Rattle.std.proofs.Math.ListN.{get_or-map}
 use Rattle.std.proofs.Math.Seq.{take-length}
 use Rattle.std.proofs.lemmas.List.{length-map}
@@ -12,7 +13,8 @@ use Rattle.fx_dropout.proofs.places.add_pieces.Goals as goal
 pub add_either-base-requires-clause-small : goal.add_either-base-requires-clause-small
 add_either-base-requires-clause-small c = λ n l.
     let few = c.requires.few in
-    small_wider (2 * c.pieces.piece-index) 536870912 (get_or c.pieces.places n None) (omega (arith, few)) (c.pieces.invariant.small n l)
+    small_wider (2 * c.pieces.piece-index) 536870912 (get_or c.pieces.places n None) (omega (arith, few))
+    (c.pieces.invariant.small n l)
 
 pub pieces-preserved : goal.pieces-preserved
 pieces-preserved c =
@@ -38,7 +40,8 @@ pieces-preserved c =
       length = c.add_either-base.ensures.length;
       small = λ n l. subst (λ (k : ℕ). IsSmall k (get_or c.add_either-base.new.places n None)) twice
           (more_small (place_on a.is_up a.here.col a.here.row n) (span_of piece) (2 * here) c.add_either-base.result
-          (get_or c.pieces.places n None) (get_or c.add_either-base.new.places n None) (c.add_either-base.ensures.more n l) (inv.small n l));
+          (get_or c.pieces.places n None) (get_or c.add_either-base.new.places n None) (c.add_either-base.ensures.more n l)
+          (inv.small n l));
       summed = λ n l. subst (λ (b : ℤ). IsSummed (place_on a.is_up a.here.col a.here.row n) (take (here + 1) spans) b
           (get_or c.add_either-base.new.places n None)) (sym sum)
           (more_summed (place_on a.is_up a.here.col a.here.row n) spans here (span_of piece) (to_z w32 c.pieces.base-bits)
@@ -50,7 +53,8 @@ pieces-preserved c =
 pub returns-clause-small : goal.returns-clause-small
 returns-clause-small c = λ n l.
     let few = c.requires.few in
-    small_wider (2 * c.pieces.piece-index) 131072 (get_or c.pieces.places n None) (omega (arith, few)) (c.pieces.invariant.small n l)
+    small_wider (2 * c.pieces.piece-index) 131072 (get_or c.pieces.places n None) (omega (arith, few))
+    (c.pieces.invariant.small n l)
 
 pub returns-clause-summed : goal.returns-clause-summed
 returns-clause-summed c = λ n l.

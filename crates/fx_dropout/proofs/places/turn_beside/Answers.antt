@@ -1,13 +1,9 @@
-use Rattle.std.proofs.Common.{◌≡◌, subst, ℤ, ◌<ℤ◌, arith, w32, to_z, of_z}
-use Rattle.fx_fixed.specs.Ranges.{IsWithin}
+use Rattle.std.proofs.Common.{subst, ℤ, ◌<ℤ◌, arith}
 use Rattle.fx_fixed.proofs.Linear.{signed_linear}
 use Rattle.fx_winding.specs.Winding.{place_of, span_of}
 use Rattle.fx_winding.specs.Outside.{HasAll}
-use Rattle.fx_dropout.proofs.Alike.{added_above, added_below, added_right}
+use Rattle.fx_dropout.proofs.Alike.{added_above, added_below, added_right, coordinate_word}
 use Rattle.fx_dropout.proofs.places.turn_beside.Goals as goal
-
-small : (x : ℤ) → IsWithin 4194304 x → to_z w32 (of_z w32 x) ≡ x
-small x h = omega (arith, signed_linear, h)
 
 pub returns-then-is_above : goal.returns-then-is_above
 returns-then-is_above c =
@@ -15,7 +11,7 @@ returns-then-is_above c =
     let p = c.args.p in
     let q = c.args.q in (
       (omega (arith, signed_linear), omega (arith, signed_linear)),
-      λ r b. added_below (place_of p) (place_of q) r s b (subst (λ (y : ℤ). HasAll (λ e. y <ℤ e.y) s) (small q.y q.near_y)
+      λ r b. added_below (place_of p) (place_of q) r s b (subst (λ (y : ℤ). HasAll (λ e. y <ℤ e.y) s) (coordinate_word q.y q.near_y)
           (c.is_above.ensures c.if-is_above.true)),
     )
 
@@ -25,7 +21,7 @@ returns-then-is_below c =
     let p = c.args.p in
     let q = c.args.q in (
       (omega (arith, signed_linear), omega (arith, signed_linear)),
-      λ r b. added_above (place_of p) (place_of q) r s b (subst (λ (y : ℤ). HasAll (λ e. e.y <ℤ y) s) (small p.y p.near_y)
+      λ r b. added_above (place_of p) (place_of q) r s b (subst (λ (y : ℤ). HasAll (λ e. e.y <ℤ y) s) (coordinate_word p.y p.near_y)
           (c.is_below.ensures c.if-is_below.true)),
     )
 
@@ -35,6 +31,6 @@ returns-then-is_left c =
     let p = c.args.p in
     let q = c.args.q in (
       (omega (arith, signed_linear), omega (arith, signed_linear)),
-      λ r b. added_right (place_of p) (place_of q) r s b (subst (λ (x : ℤ). HasAll (λ e. e.x <ℤ x) s) (small p.x p.near_x)
+      λ r b. added_right (place_of p) (place_of q) r s b (subst (λ (x : ℤ). HasAll (λ e. e.x <ℤ x) s) (coordinate_word p.x p.near_x)
           (c.is_left.ensures c.if-is_left.true)),
     )

@@ -1,4 +1,4 @@
-use Rattle.std.proofs.Common.{◌≡◌, ◌-ℤ◌, ◌∙◌, ap, Option, Some, None, ℤ, arith, w32, to_z, of_z}
+use Rattle.std.proofs.Common.{◌≡◌, ◌-ℤ◌, ◌∙◌, ap, sym, subst, Option, Some, None, ℤ, arith, w64, to_z, of_z}
 use Rattle.fx_fixed.proofs.Linear.{signed_linear}
 use Rattle.fx_fixed.specs.Ranges.{IsWithin}
 use Rattle.fx_winding.specs.Area.{area_of}
@@ -6,6 +6,7 @@ use Rattle.fx_winding.specs.declared.point.Point.{Point}
 use Rattle.fx_winding.specs.Winding.{place_of, maybe_place_of, span_of, areas_of, areas_of_part}
 use Rattle.fx_winding.proofs.Sizes.{product_within}
 use Rattle.fx_winding.proofs.Swept.{moved}
+use Rattle.fx_dropout.proofs.Alike.{area_word, area_wider, coordinate_word}
 use Rattle.fx_dropout.proofs.run.areas_at.Goals as goal
 
 area_small : (p q r : Point) → IsWithin 140737488355328 (area_of p.x p.y q.x q.y r.x r.y)
@@ -33,19 +34,22 @@ parts_small a None c p = (
 )
 parts_small a (Some b) c p = (area_small p b c, area_small a p c, area_small a b p)
 
+as_word : (x y : ℤ) → x ≡ y → IsWithin 140737488355328 y → IsWithin 140737488355328 (to_z w64 (of_z w64 x))
+as_word x y e h =
+    let k : IsWithin 140737488355328 x = subst (IsWithin 140737488355328) (sym e) h in
+    subst (IsWithin 140737488355328) (sym (area_word x (area_wider x k))) k
+
 pub invariant_of-result : goal.invariant_of-result
 invariant_of-result c =
     let s = c.args.piece.now in
     let p = c.args.p in
-    let x : to_z w32 (of_z w32 p.x) ≡ p.x = omega (arith, signed_linear) in
-    let y : to_z w32 (of_z w32 p.y) ≡ p.y = omega (arith, signed_linear) in
+    let t = c.areas-u.result in
+    let areas = areas_of (span_of s) (place_of p) in
+    let e : t ≡ areas = c.areas-u.ensures.value ∙ moved (areas_of (span_of s)) (coordinate_word p.x p.near_x)
+    (coordinate_word p.y p.near_y) in
     let h = parts_small s.a s.b s.c p in
-    let e = c.areas-u.ensures.value ∙ moved (areas_of (span_of s)) x y in
-    let e0 = ap (λ (t : ℤ × ℤ × ℤ). t.0) e in
-    let e1 = ap (λ (t : ℤ × ℤ × ℤ). t.1) e in
-    let e2 = ap (λ (t : ℤ × ℤ × ℤ). t.2) e in
     record {
-      near_u = (omega (arith, signed_linear, e0, h.0), omega (arith, signed_linear, e0, h.0));
-      near_v = (omega (arith, signed_linear, e1, h.1), omega (arith, signed_linear, e1, h.1));
-      near_w = (omega (arith, signed_linear, e2, h.2), omega (arith, signed_linear, e2, h.2));
+      near_u = as_word t.0 areas.0 (ap (λ (z : ℤ × ℤ × ℤ). z.0) e) h.0;
+      near_v = as_word t.1 areas.1 (ap (λ (z : ℤ × ℤ × ℤ). z.1) e) h.1;
+      near_w = as_word t.2 areas.2 (ap (λ (z : ℤ × ℤ × ℤ). z.2) e) h.2;
     }

@@ -11,7 +11,8 @@ use Rattle.fx_dropout.specs.inner.Runs.{gap_at}
 use Rattle.fx_dropout.proofs.Alike.{below_along, below_back}
 use Rattle.fx_dropout.proofs.run.stays_below.Goals as goal
 
-le_read : (x y : ℤ) → IsWithin (2 ^ 97) x → IsWithin (2 ^ 97) y → IsTrue (int_le (to_z w128 (of_z w128 x)) (to_z w128 (of_z w128 y)))
+le_read : (x y : ℤ) → IsWithin (2 ^ 97) x → IsWithin (2 ^ 97) y
+    → IsTrue (int_le (to_z w128 (of_z w128 x)) (to_z w128 (of_z w128 y)))
     → x ≤ℤ y
 le_read x y h k t =
     let e : to_z w128 (of_z w128 x) ≡ x = omega (arith, signed_linear, h) in
