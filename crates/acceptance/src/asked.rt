@@ -1,5 +1,5 @@
 //! Glyphs and strikes with the drop-out control that their fonts ask for, worked out by hand.
-use crate::fonts::{RING, bytes, font};
+use crate::fonts::{bytes, font};
 use crate::strikes::request;
 use crate::tables::{NO_TABLES, Tables, with_tables};
 use fx_fixed::{Limits, MemorySink};
@@ -195,7 +195,10 @@ fn is_drawn(
     };
     is_written(rt, alloc, file, code, how, want)?;
     let pixels = stem_pixels(alloc, file, code, mode)?;
-    assert!(rt; pixels == Some((want == Dropout::Left, want == Dropout::Near)), "{code:x} {want:?}");
+    assert!(rt;
+        pixels == Some((want == Dropout::Left, want == Dropout::Near)),
+        "{code:x} {want:?}"
+    );
     Ok(())
 }
 
@@ -246,9 +249,7 @@ fn without_hinting_it_is_the_left_pixel(rt: HostRuntime) -> Result<(), Fail> {
 }
 
 #[test]
-fn a_character_that_is_drawn_without_hinting_asks_for_nothing(
-    rt: HostRuntime,
-) -> Result<(), Fail> {
+fn a_character_that_is_drawn_without_hinting_asks_for_nothing(rt: HostRuntime) -> Result<(), Fail> {
     let file = font_of(rt.alloc(), SMART, "B8 01FF 85 B0 04 8D 28", PLAIN)?;
     let how = Request {
         mode: ASKED,
@@ -256,30 +257,4 @@ fn a_character_that_is_drawn_without_hinting_asks_for_nothing(
         ..request(16, &[])
     };
     is_written(&rt, rt.alloc(), file.as_slice(), 0x42, how, Dropout::Left)
-}
-
-#[test]
-fn a_strike_of_a_ring_is_the_same(rt: HostRuntime) -> Result<(), Fail> {
-    let base = font(rt.alloc(), RING, RING)?;
-    let mut outs = [
-        MemorySink::new(rt.alloc(), 4096, Limits::NONE)?,
-        MemorySink::new(rt.alloc(), 4096, Limits::NONE)?,
-    ];
-    for (out, dropout) in outs.iter_mut().zip([Dropout::Off, Dropout::Font]) {
-        let request = Request {
-            mode: Mode {
-                hinting: true,
-                dropout,
-            },
-            ..request(16, &[0x41, 0x42])
-        };
-        make_strike(
-            rt.alloc(),
-            &FontFile::of(base.as_slice()),
-            &request,
-            out,
-        )?;
-    }
-    assert!(rt; outs[0].bytes() == outs[1].bytes());
-    Ok(())
 }

@@ -18,6 +18,7 @@ fn asked_rule(wish: Option<Wish>) -> Rule
 }
 
 /// Which pixels an outline sets, with drop-out control or without; the same for all, or as its font asked.
+#[inline(always)]
 pub(crate) fn rule_for(dropout: Dropout, wish: Option<Wish>) -> Rule
     ensures { result ≡ rule_for dropout wish }
 {
