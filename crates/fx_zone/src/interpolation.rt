@@ -48,6 +48,7 @@ fn product(a: i64, b: i64) -> i128
 }
 
 /// An exact product of two differences of less than 2^25 pixels, in 64 bits.
+#[tactic(auto, using(crate::proofs::Multiplying::product_is, crate::proofs::Multiplying::product_bound))]
 fn short_product(a: i64, b: i64) -> i64
     requires a { unsigned_abs a ≤ 2 ^ 31 }
     requires b { unsigned_abs b ≤ 2 ^ 31 }
@@ -171,6 +172,7 @@ fn place_between(axis: Axis, before: &Point, after: &Point, point: &mut Point)
 
 /// Interpolates a run of untouched points.
 #[inline(always)]
+#[tactic(auto, using(crate::proofs::Laying::more_written))]
 fn interpolate_run(points: &mut [Point], axis: Axis, before: &Point, after: &Point)
     ensures { points.new ≡ map (between axis before.now after.now) points.old }
 {
@@ -182,6 +184,7 @@ fn interpolate_run(points: &mut [Point], axis: Axis, before: &Point, after: &Poi
 
 /// The number of untouched points before the first touched one; of all points if none is.
 #[inline(always)]
+#[tactic(auto, using(crate::proofs::Interpolating::first_run_here, crate::proofs::Interpolating::first_run_more, crate::proofs::Interpolating::first_run_all))]
 fn untouched_run(points: &[Point], axis: Axis) -> usize
     ensures { result ≡ untouched_run axis points.now }
 {
@@ -217,6 +220,7 @@ fn point_before(points: &[Point], number: usize, last: &Point) -> Point
 
 /// The last touched point.
 #[inline(always)]
+#[tactic(auto, using(crate::proofs::Interpolating::last_here, crate::proofs::Interpolating::last_before, crate::proofs::Interpolating::last_none))]
 fn last_touched(points: &[Point], axis: Axis) -> Option<Point>
     ensures { result ≡ first_touched axis (reverse points.now) }
 {
