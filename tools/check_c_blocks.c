@@ -190,7 +190,7 @@ static int same(const struct font *font, uint16_t ppem, uint32_t first, uint32_t
     unsigned long made = 0;
     for (i = 0; i < len; i++) chars[i] = first + (uint32_t)i;
     chars[len] = 0x110000; /* no character */
-    for (mode = 0; mode < 4; mode++) {
+    for (mode = 0; mode < 10; mode = mode == 3 ? 8 : mode + 1) { /* with drop-out control by left pixels, and as the font asks */
         struct block b;
         if (is_refused(font, ppem, mode)) continue;
         b = block_of(font, ppem, mode % 2);
@@ -296,7 +296,7 @@ static int refused(const struct font *font, uint16_t ppem, const struct font *an
         changed_font_refused(&b);
         flipped(&b);
         if (mkstrike_glyph_prepared(font->bytes, font->len, 0, ppem, mode, NULL, 0, 'g', NULL, 0, NULL, NULL) != MKSTRIKE_BAD_BLOCK ||
-            mkstrike_glyph_prepared(font->bytes, font->len, 0, ppem, 8, NULL, 0, 'g', NULL, 0, NULL, NULL) != MKSTRIKE_BAD_MODE)
+            mkstrike_glyph_prepared(font->bytes, font->len, 0, ppem, 16, NULL, 0, 'g', NULL, 0, NULL, NULL) != MKSTRIKE_BAD_MODE)
             stop("no block");
         if (mkstrike_prepare(font->bytes, font->len, 0, 0, mode, NULL, 0, &need, &why) != MKSTRIKE_BAD_SIZE || need != 7 ||
             mkstrike_prepare(font->bytes, font->len, 0, 16, mode | 16, NULL, 0, &need, &why) != MKSTRIKE_BAD_MODE || need != 7 ||
