@@ -126,7 +126,7 @@ LineLeaves line sink (Ok _) = Wrote sink line (Ok tt)
 LineLeaves line sink (Err (WriteFailed n)) = Wrote sink line (Err (record { 0 = n }))
 LineLeaves line sink (Err refusal) = ⊥
 
--- what a task leaves of the sink, from a font: its strike, the picture or the outline of a glyph, the listing of a program of it, or
+-- what a task leaves of the sink, from a font: its strike, the picture or the outline of a glyph, the listing of a program, or
 -- the trace of programs; or a line, whatever the font is; and what it told of refused characters. Only a strike tells of any
 abbrev pub TaskLeaves : TaskView → FontFileView → Change → List Notice → Result Done Refusal → Type 0
 TaskLeaves (strike make) font sink told (Ok (Strike report)) = MakeLeaves make font sink told (Ok report)
