@@ -167,8 +167,8 @@ said_sizes n ws h =
     (cut function_in n.functions (functions_words n ws) (omega (arith, a, b, c, d, h.enough)))
     (cut function_in n.opcodes (opcodes_words n ws) (omega (arith, a, b, c, d, e, h.enough)))
 
-pub twilight_said : (n : Sizes) (ws t : List ℕ) → SaysAll n ws → t ≡ take (5 * (sizes_in ws).twilight) (twilight_words (sizes_in ws) ws)
-    → length t ≡ 5 * n.twilight
+pub twilight_said : (n : Sizes) (ws t : List ℕ) → SaysAll n ws
+    → t ≡ take (5 * (sizes_in ws).twilight) (twilight_words (sizes_in ws) ws) → length t ≡ 5 * n.twilight
 twilight_said n ws t h e =
     let a = length-drop 20 ws in
     let b = length-drop n.storage (storage_words ws) in

@@ -18,7 +18,7 @@ use Rattle.fx_machine.specs.declared.usage.Usage.{Usage}
 use Rattle.fx_machine.specs.declared.prepared.Prepared.{Prepared}
 use Rattle.fx_machine.specs.Words.{number_word, number_in, bit_of, point_words, points_in, function_word}
 use Rattle.fx_machine.specs.Blocks.{IsNumbered, SaysAll, state_words}
-use Rattle.fx_machine.specs.Blocks.{count_of, sizes_of, sizes_in, usage_in, start_in, flags_in, prepared_in}
+use Rattle.fx_machine.specs.Blocks.{count_of, sizes_of, usage_in, start_in, flags_in, prepared_in}
 use Rattle.fx_machine.specs.Prepared.{carried}
 use Rattle.fx_machine.specs.Blocks.{control_in, control_word, type_in, type_word}
 use Rattle.fx_machine.specs.Blocks.{storage_words, cvt_words, twilight_words, functions_words, opcodes_words}
@@ -61,9 +61,6 @@ flags_back p u rest = rw (bit_back p.flags.no_programs, bit_back p.flags.default
 
 pub usage_back : (p : Prepared) (u : Usage) (rest : List ℕ) → usage_in (state_words p u ++ rest) ≡ u
 usage_back p u rest = rw (div-add-mod' u.steps (2 ^ 32), div-add-mod' u.strays (2 ^ 32)) refl
-
-pub sizes_back : (p : Prepared) (u : Usage) (rest : List ℕ) → sizes_in (state_words p u ++ rest) ≡ sizes_of p
-sizes_back p u rest = refl
 
 five_each : (ps : List Point) → length (flat_map point_words ps) ≡ 5 * length ps
 five_each [] = refl

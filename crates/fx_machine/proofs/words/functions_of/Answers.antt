@@ -10,5 +10,5 @@ returns c =
     written_back made.items c.read_front.new.functions made.len (front.size ∙ ap length c.deref_mut.ensures.value)
     (sym c.deref_mut.ensures.len ∙ ap length c.deref_mut.ensures.value)
     ∙ functions_written c.args.used _ c.args.words.now _ c.read_front.new.functions c.deref_mut.result.now made.items
-    (c.in_ok-functions.ensures.items_if_clones_equal (search rules)) c.deref_mut.ensures.value refl c.requires.inside refl front.value
-    c.requires.rest
+    (c.in_ok-functions.ensures.items_if_clones_equal (search rules)) c.deref_mut.ensures.value refl c.requires.inside refl
+    front.value c.requires.rest
