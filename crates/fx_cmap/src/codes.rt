@@ -1,6 +1,6 @@
 //! Character codes in the bytes of a subtable.
 
-ghost use Rattle.std.specs.Prelude.{◌≡◌, ℕ, ◌+◌, ◌*◌, ◌<◌, ◌≤◌, length, get_or, true, false};
+ghost use Rattle.std.specs.Prelude.{◌≡◌, ℕ, ◌+◌, ◌*◌, ◌<◌, ◌≤◌, ◌/◌, length, get_or, drop, true, false};
 ghost use Rattle.fx_cmap.specs.Subtables.{falls};
 ghost use Rattle.fx_cmap.specs.inner.Codes.{codes_at};
 
@@ -83,19 +83,30 @@ impl<'a> Codes<'a> {
         }
     }
 
-    /// Whether some code is below the one before it.
+    /// Whether some code is below the one before it. Two are looked at in each round.
     pub fn fall(&self) -> bool
         ensures { result ≡ falls 0 self.now }
     {
         let mut before = 0;
-        // The codes before k do not fall, and the last of them is `before`.
-        'codes: for k in 0..self.len() {
-            let code = self.at(k);
-            if code < before {
+        // The codes before these two do not fall, and the last of them is `before`.
+        'pairs: for pair in 0..self.len() / 2 {
+            let first = self.at(2 * pair);
+            if first < before {
                 return true;
             }
-            before = code;
+            let second = self.at(2 * pair + 1);
+            if second < first {
+                return true;
+            }
+            before = second;
         }
-        false
+        self.last_falls(before)
+    }
+
+    /// Whether the last code, if it is in no pair, is below the given one.
+    fn last_falls(&self, before: u32) -> bool
+        ensures { result ≡ falls before (drop (length self.now / 2 * 2) self.now) }
+    {
+        self.len() % 2 == 1 && self.at(self.len() - 1) < before
     }
 }

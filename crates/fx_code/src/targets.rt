@@ -1,9 +1,9 @@
 //! Skips of a program, remembered.
 
-ghost use Rattle.std.specs.Prelude.{◌≡◌, ◌^◌, ℕ, Bool, List, Ok, IfOk, IfSome, length};
+ghost use Rattle.std.specs.Prelude.{◌≡◌, ℕ, Bool, List, Ok, IfOk, IfSome};
 ghost use Rattle.fx_code.specs.Chain.{stops_at_false, stops_at_else};
 ghost use Rattle.fx_code.specs.Past.{past_of};
-ghost use Rattle.fx_code.specs.Targets.{AreTargets};
+ghost use Rattle.fx_code.specs.Targets.{IsTarget};
 
 use crate::code::Code;
 use crate::fault::CodeFault;
@@ -20,51 +20,52 @@ pub struct Target {
     pub after: u32,
 }
 
+/// What is remembered of an address: of a false `IF`, and of an executed `ELSE`.
+#[derive(Clone, Copy)]
+pub struct Skips {
+    pub false_if: Target,
+    pub executed_else: Target,
+}
+
 /// A program that remembers where its latest `IF`s and `ELSE`s continued, so that a function that is called often does not search
 /// for them each time. Contracts see it as its bytes.
 #[derive(Drop)]
 pub struct Targets<'a> {
     code: Code<'a>,
-    false_ifs: Vec<Target>,
-    elses: Vec<Target>,
+    skips: Vec<Skips>,
 }
 
 impl<'a> Model for Targets<'a> {
     ghost use Rattle.std.specs.Prelude.{◌≡◌, ℕ, List, length};
-    ghost use Rattle.fx_code.specs.Chain.{stops_at_false, stops_at_else};
-    ghost use Rattle.fx_code.specs.Targets.{AreTargets};
+    ghost use Rattle.std.specs.List.{All};
+    ghost use Rattle.fx_code.specs.Targets.{AreSkips};
 
     ghost Value = { List ℕ };
 
     ghost view = { λ t. t.code };
 
-    ghost invariant = { λ t. AreTargets stops_at_false t.code t.false_ifs.items × AreTargets stops_at_else t.code t.elses.items
-        × (length t.false_ifs.items ≡ 256) × (length t.elses.items ≡ 256) };
+    ghost invariant = { λ t. All (AreSkips t.code) t.skips.items × (length t.skips.items ≡ 256) };
 }
 
-/// What is remembered of the search from an address.
-fn recalled(targets: &[Target], from: usize) -> Option<usize>
-    requires { length targets.now ≡ 256 }
-    ensures { IfSome result (λ after. (stops : ℕ → ℕ → Bool) (code : List ℕ) → AreTargets stops code targets.now
+/// Where the search from an address ended, if that is remembered.
+fn recalled(target: Target, from: usize) -> Option<usize>
+    ensures { IfSome result (λ after. (stops : ℕ → ℕ → Bool) (code : List ℕ) → IsTarget stops code target
         → past_of stops code from ≡ Ok after) }
 {
-    let target = targets[from % PLACES];
     if target.from as usize == from && target.after != 0 {
         return Some(target.after as usize);
     }
     None
 }
 
-/// Remembers where the search from an address ended, in place of another one.
-fn remember(targets: &mut [Target], from: usize, after: usize)
-    requires { length targets.old ≡ 256 }
-    ensures kept { (stops : ℕ → ℕ → Bool) (code : List ℕ) → AreTargets stops code targets.old → past_of stops code from ≡ Ok after
-        → AreTargets stops code targets.new }
-    ensures size { length targets.new ≡ length targets.old }
+/// What is remembered of where the search from an address ended.
+fn target_of(from: usize, after: usize) -> Target
+    ensures { (stops : ℕ → ℕ → Bool) (code : List ℕ) → past_of stops code from ≡ Ok after → IsTarget stops code result }
 {
-    if let (Ok(key), Ok(after)) = (u32::try_from(from), u32::try_from(after)) {
-        targets[from % PLACES] = Target { from: key, after };
+    if let (Ok(from), Ok(after)) = (u32::try_from(from), u32::try_from(after)) {
+        return Target { from, after };
     }
+    Target { from: 0, after: 0 }
 }
 
 impl<'a> Targets<'a> {
@@ -73,13 +74,12 @@ impl<'a> Targets<'a> {
         ensures { IfOk result (λ t. t ≡ code.entry) }
     {
         let none = Target { from: 0, after: 0 };
-        let false_ifs = vec![in alloc; none; PLACES]?;
-        let elses = vec![in alloc; none; PLACES]?;
-        Ok(Targets {
-            code,
-            false_ifs,
-            elses,
-        })
+        let nothing = Skips {
+            false_if: none,
+            executed_else: none,
+        };
+        let skips = vec![in alloc; nothing; PLACES]?;
+        Ok(Targets { code, skips })
     }
 
     /// The program's bytes.
@@ -94,11 +94,12 @@ impl<'a> Targets<'a> {
         ensures value { result ≡ past_of stops_at_false self.old address }
         ensures kept { self.new ≡ self.old }
     {
-        if let Some(after) = recalled(&self.false_ifs, address) {
+        let place = address % PLACES;
+        if let Some(after) = recalled(self.skips[place].false_if, address) {
             return Ok(after);
         }
         let after = self.code.skip_false(address)?;
-        remember(&mut self.false_ifs, address, after);
+        self.skips[place].false_if = target_of(address, after);
         Ok(after)
     }
 
@@ -107,11 +108,12 @@ impl<'a> Targets<'a> {
         ensures value { result ≡ past_of stops_at_else self.old address }
         ensures kept { self.new ≡ self.old }
     {
-        if let Some(after) = recalled(&self.elses, address) {
+        let place = address % PLACES;
+        if let Some(after) = recalled(self.skips[place].executed_else, address) {
             return Ok(after);
         }
         let after = self.code.skip_else(address)?;
-        remember(&mut self.elses, address, after);
+        self.skips[place].executed_else = target_of(address, after);
         Ok(after)
     }
 }
