@@ -165,6 +165,7 @@ pub(crate) fn is_in_frame(frame: Frame, pixel: Pixel) -> bool
 }
 
 /// What a piece adds to the winding number at p, or None if p is on it. Most pieces lie above p or below it, and add nothing.
+#[inline(always)]
 pub(crate) fn turn_off(piece: &Piece, p: Point, tally: &mut Tally) -> Option<i32>
     ensures value { MatchOption result (IsOn (place_of p) (span_of piece.now))
         (λ t. IsWithin 2 t × (t ≡ turn (place_of p) (span_of piece.now)) × ¬ (IsOn (place_of p) (span_of piece.now))) }
