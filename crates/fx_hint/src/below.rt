@@ -16,9 +16,9 @@ pub struct OpenComposite<'a> {
     /// Which component of another composite it is, unless it is the root.
     pub component: Option<ComponentOf>,
     pub g: u16,
-    pub glyph: Composite<'a>,
     /// How many of its components come before those that are left.
-    pub before: u16,
+    pub before: usize,
+    pub glyph: Composite<'a>,
     pub parts: Components<'a>,
     pub base: Made,
 }

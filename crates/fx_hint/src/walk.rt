@@ -380,7 +380,7 @@ impl<'w, 'a> Walk<'w, 'a> {
                     let levels = levels_below(below.len());
                     let component = ComponentOf {
                         composite: open.g,
-                        number: open.before + 1,
+                        number: (open.before + 1) as u16,
                     };
                     open.before += 1;
                     let step = self.begun_component(
