@@ -34,7 +34,7 @@ export const REFUSALS = {
   61: {"name": "BadChars", "means": "the list of characters is malformed, has more than 65,536 numbers, or one above 10FFFF", "todo": "give hexadecimal numbers and ranges joined by commas, as `20-7e,a0`"},
   62: {"name": "BadName", "means": "the name is not 1 to 255 bytes of 20 to 7E (hexadecimal), or begins or ends with a space", "todo": "give another name"},
   63: {"name": "BadProperty", "means": "property p, counted from 1, is bad. Its name is not 1 to 64 of `A` to `Z`, `0` to `9` and `_` with a letter first, or is FONT_ASCENT, FONT_DESCENT, ENDPROPERTIES or COMMENT. Or its text has more than 32,000 bytes, or one outside 20 to 7E (hexadecimal). Or a property before it has its name, or 64 are before it", "todo": "give another name or text, or fewer properties"},
-  64: {"name": "BadMode", "means": "only in the C library: the mode has a bit that the call does not know, or both bits of drop-out control", "todo": "give a sum of the modes of mkstrike.h"},
+  64: {"name": "BadMode", "means": "only in the C library: the mode has a bit that the call does not know, or two bits of drop-out control", "todo": "give a sum of the modes of mkstrike.h"},
   65: {"name": "BadBlock", "means": "only in the C library: the words are not a block of this font, face and size, or were made hinted and the mode is unhinted, or the other way round", "todo": "make the block by `mkstrike_prepare` for this font, face, size and mode"},
   70: {"name": "WriteFailed", "means": "the output took n bytes and then failed", "todo": "make room, and run it again"},
   71: {"name": "ReadFailed", "means": "the input could not be read to its end", "todo": "look at the device or pipe that the input comes from"},
