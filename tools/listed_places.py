@@ -12,7 +12,7 @@ PLACES = {
         "let _ = &self.words",
     ],
     "crates/fx_cache/src/words.rt": ["reserve(words.len())", "reserve(words.len())"],
-    "crates/fx_code/src/targets.rt": ["vec![in alloc; none; PLACES]", "vec![in alloc; none; PLACES]"],
+    "crates/fx_code/src/targets.rt": ["vec![in alloc; nothing; PLACES]"],
     "crates/fx_arguments/src/lines.rt": ["let _ = put_all(err, line.text())"],
     "crates/fx_arguments/src/mistakes.rt": ["from_slice(alloc, before)"],
     "crates/fx_arguments/src/read_ahead.rt": ["from_slice(alloc, self.text)"],
@@ -21,7 +21,7 @@ PLACES = {
     "crates/fx_hint/src/keeping.rt": [
         "with_capacity(alloc, PLACES)",
         "let _ = &self.places",
-        "let _kept = self.places[usize::from(input.g) % PLACES].take(input, made, usage)",
+        "let _kept = places[usize::from(input.g) % PLACES].take(input, made, usage)",
     ],
     "crates/fx_hint/src/kept.rt": [
         "with_capacity(alloc, points.len() + MORE_POINTS)",
@@ -31,9 +31,19 @@ PLACES = {
     "crates/fx_hint/src/part.rt": ["let _ends = zone.ends()"],
     "crates/fx_hint/src/programmed.rt": ["let _count = zone.points().len()", "let _ends = made.zone.ends()"],
     "crates/fx_machine/src/definitions.rt": ["vec![in alloc; None; count]"],
-    "crates/fx_machine/src/machine.rt": ["Box::new(alloc, state)", "Box::new(alloc, prepared)"],
+    "crates/fx_machine/src/machine.rt": [
+        "Box::new(alloc, state)",
+        "Box::new(alloc, state)",
+        "Box::new(alloc, prepared)",
+        "Box::new(alloc, prepared)",
+    ],
     "crates/fx_machine/src/prepared.rt": ["from_slice(alloc, zone.points())", "from_slice(alloc, zone.ends())"],
     "crates/fx_machine/src/state.rt": ["vec![in alloc; point; usize::from(count)]"],
+    "crates/fx_machine/src/words.rt": [
+        "vec![in alloc; 0; words.len()]",
+        "with_capacity(alloc, count)",
+        "vec![in alloc; None; words.len()]",
+    ],
     "crates/fx_request/src/characters.rt": ["from_slice(alloc, chars)", "from_slice(alloc, chars)"],
     "crates/fx_rows/src/band.rt": ["vec![in alloc; 0u32; words]", "let _ = words.pop()"],
     "crates/fx_rows/src/lanes.rt": ["let _number = *number"],
