@@ -8,8 +8,8 @@
    curve. The driver of the same name makes a font of them, and strikes of that font without drop-out control (PLAIN) and with it
    (CLOSED), in which glyph g is the character F0000 + g. `compare` draws each outline by FreeType, and by the definition of
    drop-out control (below, pixel by pixel), and counts where the strikes differ from both. Of each kind of difference it shows as
-   many glyphs as SHOWN says. RULE is `left` (FreeType's rule 3, SCANTYPE 0) or `near` (its SCANTYPE 4). By any other rule CLOSED is
-   compared with what FreeType draws as the font asks, and with no definition. */
+   many glyphs as SHOWN says. RULE is `left` (FreeType's rule 3, SCANTYPE 0) or `near` (its SCANTYPE 4). By `font-left`, `font-near` and
+   `font-off` the font asks for that rule, or for none, and CLOSED is compared with what FreeType draws as the font asks. */
 
 #include <ft2build.h>
 #include FT_FREETYPE_H
@@ -278,10 +278,15 @@ static void set_boxes(void) {
 
 /* ---- the rule by which gaps are closed ---- */
 
-enum { LEFT, NEAR, OTHER };
+enum { LEFT, NEAR, OFF };
 static int rule;
+static int theirs = CLOSED_THEIRS; /* the picture that the strike with drop-out control is compared with */
 
-static int rule_of(const char *word) { return strcmp(word, "left") == 0 ? LEFT : strcmp(word, "near") == 0 ? NEAR : OTHER; }
+static void set_rule(const char *word) {
+    if (strncmp(word, "font-", 5) == 0) theirs = ASKED_THEIRS, word += 5;
+    rule = strcmp(word, "left") == 0 ? LEFT : strcmp(word, "near") == 0 ? NEAR : OFF;
+    if (rule == OFF && strcmp(word, "off") != 0) fail("there is no rule", word);
+}
 
 /* ---- pictures by the definition: rows first, then columns on what is left ---- */
 
@@ -338,6 +343,7 @@ static void draw_by_definition(void) {
         for (int column = room.left; column < room.left + room.width; column++)
             *pixel(pictures[PLAIN_DUE], column, row) = is_covered((struct place){128L * column + 64, 128L * row + 64});
     memcpy(pictures[CLOSED_DUE], pictures[PLAIN_DUE], (size_t)room.width * (size_t)room.height);
+    if (rule == OFF) return;
     close_gaps(CLOSED_DUE, false);
     close_gaps(CLOSED_DUE, true);
 }
@@ -364,7 +370,8 @@ static bool has_bit(const FT_Bitmap *bitmap, unsigned column, unsigned row) {
 }
 
 static void draw_by_freetype(int picture) {
-    if (picture != ASKED_THEIRS) set_dropout(&face->glyph->outline, picture == CLOSED_THEIRS, picture == CLOSED_THEIRS && rule == NEAR);
+    const bool is_closed = picture == CLOSED_THEIRS && rule != OFF;
+    if (picture != ASKED_THEIRS) set_dropout(&face->glyph->outline, is_closed, is_closed && rule == NEAR);
     const FT_Bitmap *bitmap = render();
     const int left = face->glyph->bitmap_left, top = face->glyph->bitmap_top;
     for (unsigned row = 0; row < bitmap->rows; row++)
@@ -476,9 +483,9 @@ static int parts_of_outline(void) {
 
 /* ---- differences, and their kinds ---- */
 
-enum { PLAIN, LOST, FRAME, BESIDE, TOUCH, ARC, LINE, KINDS };
+enum { PLAIN, LOST, STUB, FRAME, BESIDE, TOUCH, ARC, LINE, KINDS };
 static const char *const kind_names[KINDS] = {
-    "plain", "lost", "frame", "beside a centre on the outline", "touch", "crossing of an arc", "crossing of lines"};
+    "plain", "lost", "stub", "frame", "beside a centre on the outline", "touch", "crossing of an arc", "crossing of lines"};
 
 /* Whether the pictures without drop-out control differ at a pixel or beside it. */
 static bool differs_plainly(int column, int row) {
@@ -497,13 +504,14 @@ static bool is_on_some(int column, int row) {
 }
 
 /* The kind of a difference at a pixel: pixels there or beside it are set plainly by one alone; else it is set plainly, and lost;
-   else by what is beside it: the frame's edge; a neighbour whose centre is on the outline; else how the gaps to its four neighbours
+   else FreeType would do the same if stubs were kept; else by what is beside it: the frame's edge; a neighbour whose centre is on the outline; else how the gaps to its four neighbours
    are met, where both are not covered. */
 static int kind_of(int column, int row) {
     int how = 0;
     bool at_edge = false, is_beside = false;
     if (differs_plainly(column, row)) return PLAIN;
     if (is_set(PLAIN_OURS, column, row)) return LOST;
+    if (is_set(CLOSED_OURS, column, row) == is_set(CLOSED_THEIRS, column, row)) return STUB;
     for (int in_column = 0; in_column < 2; in_column++)
         for (int before = 0; before < 2; before++) {
             const int x = column - (in_column ? 0 : before), y = row - (in_column ? before : 0);
@@ -540,7 +548,7 @@ static int left_to_show[KINDS];
 
 /* Shows a glyph: without drop-out control, by FreeType's rule, by the strike, with what drop-out control adds as `+`. */
 static void show(unsigned long code, int kind) {
-    static const int shown[] = {PLAIN_OURS, CLOSED_THEIRS, CLOSED_OURS};
+    const int shown[] = {PLAIN_OURS, theirs, CLOSED_OURS};
     printf("| U+%04lX: %s\n", code, kind_names[kind]);
     for (int row = frame.bottom + frame.height; row >= frame.bottom - 1; row--) {
         printf("| ");
@@ -578,7 +586,7 @@ static void count_closed(unsigned long code) {
     long found[KINDS] = {0}, all = 0;
     for (int row = room.bottom; row < room.bottom + room.height; row++)
         for (int column = room.left; column < room.left + room.width; column++)
-            if (is_set(CLOSED_OURS, column, row) != is_set(CLOSED_THEIRS, column, row)) found[kind_of(column, row)]++, all++;
+            if (is_set(CLOSED_OURS, column, row) != is_set(theirs, column, row)) found[kind_of(column, row)]++, all++;
     for (int kind = 0; kind < KINDS; kind++) {
         kind_pixels[kind] += found[kind];
         kind_glyphs[kind] += found[kind] != 0;
@@ -586,10 +594,6 @@ static void count_closed(unsigned long code) {
     }
     differing_pixels += all;
     differing_glyphs += all != 0;
-}
-
-static void copy_picture(int to, int from) {
-    memcpy(pictures[to], pictures[from], (size_t)room.width * (size_t)room.height);
 }
 
 static void compare(unsigned long code, FT_UInt glyph, const struct strike *plain, const struct strike *closed) {
@@ -603,7 +607,6 @@ static void compare(unsigned long code, FT_UInt glyph, const struct strike *plai
     draw_by_freetype(CLOSED_THEIRS);
     draw_by_strike(PLAIN_OURS, plain, glyph);
     draw_by_strike(CLOSED_OURS, closed, glyph);
-    if (rule == OTHER) copy_picture(CLOSED_THEIRS, ASKED_THEIRS), copy_picture(CLOSED_DUE, CLOSED_OURS);
     count_plain();
     count_closed(code);
     int due = parts_of_outline();
@@ -637,7 +640,7 @@ int main(int count, char **words) {
         read_strike(words[5], &plain);
         read_strike(words[6], &closed);
         for (int kind = 0; kind < KINDS; kind++) left_to_show[kind] = atoi(words[7]);
-        rule = rule_of(words[8]);
+        set_rule(words[8]);
     }
     for (unsigned long code = 0x20; (code = next_glyph(code, &glyph)) != 0; code++) {
         if (is_compare)
