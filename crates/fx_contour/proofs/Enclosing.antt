@@ -1,7 +1,7 @@
 -- The extent of points, and of the contours of an outline, contour by contour.
 -- For `Extent::with_points`, `Extent::of`, `Extent::with_contour` and `Extent::of_contours`.
 use Rattle.std.proofs.Common.{◌≡◌, sym, subst, ℕ, ◌+◌, ◌-◌, ◌<◌, ◌≤◌, drop, take, length, map, get_or, ◌⊎◌}
-use Rattle.std.proofs.Common.{inl, inr, ℤ, List, ◌∷◌, ◌++◌, Option, Some, None, ◌↔◌}
+use Rattle.std.proofs.Common.{inl, inr, ℤ, List, ◌∷◌, ◌++◌, Option, Some, None, ◌↔◌, drop_of_length-le, arith}
 use Rattle.std.proofs.lemmas.List.{drop_more}
 use Rattle.fx_winding.specs.Area.{Place}
 use Rattle.fx_winding.specs.Winding.{Span}
@@ -14,7 +14,7 @@ use Rattle.fx_contour.specs.Contours.{contours_from, spans_of}
 use Rattle.fx_contour.specs.Frames.{HaveAny}
 use Rattle.fx_contour.specs.Bounds.{Side, IsOut, Grows, IsLeast, Extends, DoesExtend}
 use Rattle.fx_contour.specs.Bounds.{HavePoint}
-use Rattle.fx_contour.proofs.Gather.{ends_left_at, next_within, drop_all}
+use Rattle.fx_contour.proofs.Gather.{ends_left_at, next_within}
 use Rattle.fx_contour.proofs.Growing.{one_less, none_left}
 use Rattle.fx_contour.proofs.Hull.{hull_of, have_either, have_left, have_right}
 
@@ -59,16 +59,10 @@ pub record Enclosed (b : Option Extent) (start : ℕ) (ends : List ℕ) (k : ℕ
 
 split : (X A : Type 0) (P : Place → Type 0) (xs ys : List Span) → X ↔ (A ⊎ HaveAny P (xs ++ ys))
     → X ↔ (A ⊎ (HaveAny P xs ⊎ HaveAny P ys))
-split X A P xs ys h = (λ x. there (h.0 x), λ x. h.1 (back x))
+split X A P xs ys h = by h (have_either P xs ys) (have_left P xs ys) (have_right P xs ys)
   where
-    there : A ⊎ HaveAny P (xs ++ ys) → A ⊎ (HaveAny P xs ⊎ HaveAny P ys)
-    there (inl a) = inl a
-    there (inr k) = inr (have_either P xs ys k)
-
-    back : A ⊎ (HaveAny P xs ⊎ HaveAny P ys) → A ⊎ HaveAny P (xs ++ ys)
-    back (inl a) = inl a
-    back (inr (inl k)) = inr (have_left P xs ys k)
-    back (inr (inr k)) = inr (have_right P xs ys k)
+    by : {X A B C D : Type 0} → X ↔ (A ⊎ B) → (B → C ⊎ D) → (C → B) → (D → B) → X ↔ (A ⊎ (C ⊎ D))
+    by h f g k = (λ x. grind arith, λ x. grind arith)
 
 pub enclosed_more : (b c : Option Extent) (start : ℕ) (ends : List ℕ) (k : ℕ) (points : List OutlinePoint) (e d : ℕ)
     → Enclosed b start ends k points → k < length ends → e ≡ get_or ends k d
@@ -103,5 +97,5 @@ enclosed_end b start ends k points x h =
           let X = HaveAny (IsOut side t) (spans_of ends points) in
           let P : List ℕ → Type 0 =
           λ xs. X ↔ (DoesExtend b side t ⊎ HaveAny (IsOut side t) (joined (map curve_of (contours_from start xs points)))) in
-          none_left X (DoesExtend b side t) (subst P (drop_all k ends h) (x.sides side t));
+          none_left X (DoesExtend b side t) (subst P (drop_of_length-le ends h) (x.sides side t));
     }

@@ -1,11 +1,10 @@
 -- The least and the greatest coordinate of the points of spans.
 -- For `dropout_frame_around` and the law `dropout`.
-use Rattle.std.proofs.Common.{◌≡◌, ◌⊎◌, inl, inr, ℤ, pos, ◌+ℤ◌, ◌-ℤ◌, ◌≤ℤ◌, ◌<ℤ◌, List, [], ◌∷◌, Option, Some, None, refl, ◌↔◌}
+use Rattle.std.proofs.Common.{◌≡◌, inl, inr, ℤ, pos, ◌+ℤ◌, ◌-ℤ◌, ◌≤ℤ◌, ◌<ℤ◌, List, [], ◌∷◌, Option, Some, None, refl, ◌↔◌}
 use Rattle.std.proofs.Common.{IsSomeAnd, arith}
 use Rattle.std.specs.Int.{int_min, int_max}
-use Rattle.std.proofs.lemmas.Int.{ints}
+use Rattle.std.proofs.lemmas.Int.{ints, by_lt_z}
 use Rattle.fx_fixed.proofs.Linear.{signed_linear}
-use Rattle.fx_fixed.proofs.Order.{below_or_not_ℤ}
 use Rattle.fx_winding.specs.Area.{Place}
 use Rattle.fx_winding.specs.Winding.{Span}
 use Rattle.fx_contour.specs.Bounds.{Side, left_side, right_side, bottom_side, top_side, IsOut, ReachOf, Grows}
@@ -24,49 +23,35 @@ record IsHigh (coord : Place → ℤ) (ss : List Span) (high : ℤ) : Type 0 whe
   is : HaveAny (λ q. coord q ≡ high) ss
   none : ¬ (HaveAny (λ q. high <ℤ coord q) ss)
 
-at_most_one_less : (x low : ℤ) → x <ℤ low → x ≤ℤ (low -ℤ pos 1)
-at_most_one_less x low h = omega (arith, signed_linear, h)
-
-at_least_one_more : (x high : ℤ) → high <ℤ x → (high +ℤ pos 1) ≤ℤ x
-at_least_one_more x high h = omega (arith, signed_linear, h)
-
 low_is_least : (coord : Place → ℤ) (ss : List Span) (low : ℤ) → ((t : ℤ) → HaveAny (λ q. coord q ≤ℤ t) ss ↔ (low ≤ℤ t))
     → IsLow coord ss low
 low_is_least coord ss low h = record {
   is = some_one (λ q. coord q ≤ℤ low) (HaveAny (λ q. coord q ≡ low) ss) ss ((h low).1 (omega (arith, ints)))
-      (λ q k m. m (λ r. coord r ≡ low) (at q k m (below_or_not_ℤ (coord q) low)));
+      (λ q k m. m (λ r. coord r ≡ low) (by_lt_z (coord q) low (λ b. absurd (none (m (λ r. coord r <ℤ low) b)))
+      (λ b. omega (arith, signed_linear, k, b))));
   none = none;
 }
   where
     none : ¬ (HaveAny (λ q. coord q <ℤ low) ss)
     none k =
         let l = (h (low -ℤ pos 1)).0
-        (more (λ q. coord q <ℤ low) (λ q. coord q ≤ℤ (low -ℤ pos 1)) ss k (λ q b. at_most_one_less (coord q) low b)) in
+        (more (λ q. coord q <ℤ low) (λ q. coord q ≤ℤ (low -ℤ pos 1)) ss k (λ q b. omega (arith, signed_linear, b))) in
         omega (arith, signed_linear, l)
-
-    at : (q : Place) → coord q ≤ℤ low → ((R : Place → Type 0) → R q → HaveAny R ss) → (coord q <ℤ low) ⊎ (low ≤ℤ coord q)
-        → coord q ≡ low
-    at q k m (inl b) = absurd (none (m (λ r. coord r <ℤ low) b))
-    at q k m (inr b) = omega (arith, signed_linear, k, b)
 
 high_is_greatest : (coord : Place → ℤ) (ss : List Span) (high : ℤ) → ((t : ℤ) → HaveAny (λ q. t ≤ℤ coord q) ss ↔ (t ≤ℤ high))
     → IsHigh coord ss high
 high_is_greatest coord ss high h = record {
   is = some_one (λ q. high ≤ℤ coord q) (HaveAny (λ q. coord q ≡ high) ss) ss ((h high).1 (omega (arith, ints)))
-      (λ q k m. m (λ r. coord r ≡ high) (at q k m (below_or_not_ℤ high (coord q))));
+      (λ q k m. m (λ r. coord r ≡ high) (by_lt_z high (coord q) (λ b. absurd (none (m (λ r. high <ℤ coord r) b)))
+      (λ b. omega (arith, signed_linear, k, b))));
   none = none;
 }
   where
     none : ¬ (HaveAny (λ q. high <ℤ coord q) ss)
     none k =
         let l = (h (high +ℤ pos 1)).0
-        (more (λ q. high <ℤ coord q) (λ q. (high +ℤ pos 1) ≤ℤ coord q) ss k (λ q b. at_least_one_more (coord q) high b)) in
+        (more (λ q. high <ℤ coord q) (λ q. (high +ℤ pos 1) ≤ℤ coord q) ss k (λ q b. omega (arith, signed_linear, b))) in
         omega (arith, signed_linear, l)
-
-    at : (q : Place) → high ≤ℤ coord q → ((R : Place → Type 0) → R q → HaveAny R ss) → (high <ℤ coord q) ⊎ (coord q ≤ℤ high)
-        → coord q ≡ high
-    at q k m (inl b) = absurd (none (m (λ r. high <ℤ coord r) b))
-    at q k m (inr b) = omega (arith, signed_linear, k, b)
 
 extent_is : (coord : Place → ℤ) (ss : List Span) (low high : ℤ) → IsLow coord ss low → IsHigh coord ss high
     → IsExtent coord ss low high
@@ -160,15 +145,10 @@ extents s ss =
 -- each point lies in it
 pub in_extent : (coord : Place → ℤ) (ss : List Span) (low high : ℤ) → IsExtent coord ss low high → (q : Place)
     → ((R : Place → Type 0) → R q → HaveAny R ss) → (low ≤ℤ coord q) × (coord q ≤ℤ high)
-in_extent coord ss low high e q m = (from (below_or_not_ℤ (coord q) low), to (below_or_not_ℤ high (coord q)))
-  where
-    from : (coord q <ℤ low) ⊎ (low ≤ℤ coord q) → low ≤ℤ coord q
-    from (inl h) = absurd (e.none_below (m (λ r. coord r <ℤ low) h))
-    from (inr h) = h
-
-    to : (high <ℤ coord q) ⊎ (coord q ≤ℤ high) → coord q ≤ℤ high
-    to (inl h) = absurd (e.none_above (m (λ r. high <ℤ coord r) h))
-    to (inr h) = h
+in_extent coord ss low high e q m = (
+  by_lt_z (coord q) low (λ h. absurd (e.none_below (m (λ r. coord r <ℤ low) h))) (λ h. h),
+  by_lt_z high (coord q) (λ h. absurd (e.none_above (m (λ r. high <ℤ coord r) h))) (λ h. h),
+)
 
 pub low_at_most : (coord : Place → ℤ) (ss : List Span) (low high t : ℤ) → IsExtent coord ss low high
     → HaveAny (λ q. coord q ≤ℤ t) ss → low ≤ℤ t
@@ -182,29 +162,22 @@ high_at_least coord ss low high t e h =
     some_one (λ q. t ≤ℤ coord q) (t ≤ℤ high) ss h
     (λ q k m. let i = (in_extent coord ss low high e q m).1 in omega (arith, signed_linear, i, k))
 
-equal_at_most : (x y : ℤ) → x ≡ y → x ≤ℤ y
-equal_at_most x y e = omega (arith, signed_linear, e)
-
-equal_at_least : (x y : ℤ) → x ≡ y → y ≤ℤ x
-equal_at_least x y e = omega (arith, signed_linear, e)
-
-same_by_order : (x y : ℤ) → x ≤ℤ y → y ≤ℤ x → x ≡ y
-same_by_order x y h k = omega (arith, signed_linear, h, k)
-
 -- two extents are one
 pub one_extent : (coord : Place → ℤ) (ss : List Span) (low high low' high' : ℤ) → IsExtent coord ss low high
     → IsExtent coord ss low' high' → (low ≡ low') × (high ≡ high')
-one_extent coord ss low high low' high' e f = (
-  same_by_order low low' (lows low high low' high' e f) (lows low' high' low high f e),
-  same_by_order high high' (highs low' high' low high f e) (highs low high low' high' e f),
-)
+one_extent coord ss low high low' high' e f =
+    let a = lows low high low' high' e f in
+    let b = lows low' high' low high f e in
+    let c = highs low' high' low high f e in
+    let d = highs low high low' high' e f in
+    (omega (arith, signed_linear, a, b), omega (arith, signed_linear, c, d))
   where
     lows : (l h l' h' : ℤ) → IsExtent coord ss l h → IsExtent coord ss l' h' → l ≤ℤ l'
     lows l h l' h' e f =
         low_at_most coord ss l h l' e
-        (more (λ q. coord q ≡ l') (λ q. coord q ≤ℤ l') ss f.low_is (λ q k. equal_at_most (coord q) l' k))
+        (more (λ q. coord q ≡ l') (λ q. coord q ≤ℤ l') ss f.low_is (λ q k. omega (arith, signed_linear, k)))
 
     highs : (l h l' h' : ℤ) → IsExtent coord ss l h → IsExtent coord ss l' h' → h' ≤ℤ h
     highs l h l' h' e f =
         high_at_least coord ss l h h' e
-        (more (λ q. coord q ≡ h') (λ q. h' ≤ℤ coord q) ss f.high_is (λ q k. equal_at_least (coord q) h' k))
+        (more (λ q. coord q ≡ h') (λ q. h' ≤ℤ coord q) ss f.high_is (λ q k. omega (arith, signed_linear, k)))

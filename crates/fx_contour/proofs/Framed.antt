@@ -17,16 +17,10 @@ use Rattle.fx_contour.specs.Bounds.{left_side, right_side, bottom_side, top_side
 use Rattle.fx_contour.specs.Bounds.{ArePixels, IsBoxOf}
 
 pub same_pixels : (s : Pixels) (l h l' h' : ℤ) → l ≡ l' → h ≡ h' → ArePixels s l h → ArePixels s l' h'
-same_pixels s l h l' h' e f k =
-    let P : ℤ → Type 0 = λ x. ArePixels s x h in
-    let Q : ℤ → Type 0 = λ y. ArePixels s l' y in
-    subst Q f (subst P e k)
+same_pixels s l h l' h' e f k = subst (λ (T : Type 0). T) (λ i. ArePixels s (e i) (f i)) k
 
 pub same_none : (l h l' h' : ℤ) → l ≡ l' → h ≡ h' → AreNoPixels l h → AreNoPixels l' h'
-same_none l h l' h' e f k =
-    let P : ℤ → Type 0 = λ x. AreNoPixels x h in
-    let Q : ℤ → Type 0 = λ y. AreNoPixels l' y in
-    subst Q f (subst P e k)
+same_none l h l' h' e f k = subst (λ (T : Type 0). T) (λ i. AreNoPixels (e i) (f i)) k
 
 box_from : (b : Bounds) (ss : List Span) (i j : ℤ) → AreBounds b ss → IsCentreIn b.left b.right i → IsCentreIn b.bottom b.top j
     → IsInBoundingBox (centre i j) ss
@@ -59,33 +53,22 @@ first_in first count h = (omega (arith, signed_linear), omega (arith, signed_lin
 pub far_in : (first : ℤ) (count : ℕ) → greatest_side < count → IsFrom first count (first +ℤ pos greatest_side)
 far_in first count h = (omega (arith, signed_linear), omega (arith, signed_linear))
 
-too_wide : (b : Bounds) (ss : List Span) (s r : Pixels) → AreBounds b ss → ArePixels s b.left b.right
-    → ArePixels r b.bottom b.top → greatest_side < s.count → AreTooLarge ss
-too_wide b ss s r a h k n =
-    let row = (k r.first).0 (first_in r.first r.count r.some) in (
-      s.first,
-      r.first,
-      box_from b ss s.first r.first a ((h s.first).0 (first_in s.first s.count s.some)) row,
-      inl (box_from b ss (s.first +ℤ pos greatest_side) r.first a
-          ((h (s.first +ℤ pos greatest_side)).0 (far_in s.first s.count n)) row),
-    )
-
-too_high : (b : Bounds) (ss : List Span) (s r : Pixels) → AreBounds b ss → ArePixels s b.left b.right
-    → ArePixels r b.bottom b.top → greatest_side < r.count → AreTooLarge ss
-too_high b ss s r a h k n =
-    let column = (h s.first).0 (first_in s.first s.count s.some) in (
-      s.first,
-      r.first,
-      box_from b ss s.first r.first a column ((k r.first).0 (first_in r.first r.count r.some)),
-      inr (box_from b ss s.first (r.first +ℤ pos greatest_side) a column
-          ((k (r.first +ℤ pos greatest_side)).0 (far_in r.first r.count n))),
-    )
-
 -- too many columns or rows
 pub too_large : (b : Bounds) (ss : List Span) (s r : Pixels) → AreBounds b ss → ArePixels s b.left b.right
     → ArePixels r b.bottom b.top → greatest_side < s.count ⊎ greatest_side < r.count → AreTooLarge ss
-too_large b ss s r a h k (inl n) = too_wide b ss s r a h k n
-too_large b ss s r a h k (inr n) = too_high b ss s r a h k n
+too_large b ss s r a h k many =
+    let column = (h s.first).0 (first_in s.first s.count s.some) in
+    let row = (k r.first).0 (first_in r.first r.count r.some) in (
+      s.first,
+      r.first,
+      box_from b ss s.first r.first a column row,
+      elim many [
+        | inl n ↦ inl (box_from b ss (s.first +ℤ pos greatest_side) r.first a
+            ((h (s.first +ℤ pos greatest_side)).0 (far_in s.first s.count n)) row)
+        | inr n ↦ inr (box_from b ss s.first (r.first +ℤ pos greatest_side) a column
+            ((k (r.first +ℤ pos greatest_side)).0 (far_in r.first r.count n)))
+      ],
+    )
 
 pub is_frame : (b : Bounds) (ss : List Span) (s r : Pixels) (f : Frame) → AreBounds b ss → ArePixels s b.left b.right
     → ArePixels r b.bottom b.top → IsBoxOf f s r → IsFrameOf f ss

@@ -1,7 +1,7 @@
 -- The contours of an outline, one after the other.
 -- For the loop of `pieces`.
-use Rattle.std.proofs.Common.{◌≡◌, refl, sym, subst, ◌∙◌, ℕ, zero, suc, ◌+◌, ◌-◌, ◌<◌, ◌≤◌, List, [], ◌∷◌, ◌++◌, map, drop, take}
-use Rattle.std.proofs.Common.{length, get_or, append_assoc, arith}
+use Rattle.std.proofs.Common.{◌≡◌, sym, subst, ◌∙◌, ℕ, ◌+◌, ◌-◌, ◌<◌, ◌≤◌, List, ◌∷◌, ◌++◌, map, drop, take}
+use Rattle.std.proofs.Common.{length, get_or, append_assoc, drop_of_length-le, arith}
 use Rattle.std.proofs.lemmas.List.{drop_more, append-nil, length-take, length-drop}
 use Rattle.fx_winding.specs.declared.point.Piece.{Piece}
 use Rattle.fx_outline.specs.declared.points.OutlinePoint.{OutlinePoint}
@@ -35,7 +35,7 @@ next_within start ends k points e d a h s =
     let l = ends_left_at start ends k points e d a h s in
     (l.0, ends_reach (e + 1) (drop (k + 1) ends) (length points) l.1)
 
-slice_few : (start next : ℕ) (points : List OutlinePoint) → start ≤ next → next ≤ length points
+pub slice_few : (start next : ℕ) (points : List OutlinePoint) → start ≤ next → next ≤ length points
     → length (take (next - start) (drop start points)) ≡ next - start
 slice_few start next points h k =
     let a = length-take (next - start) (drop start points) in let b = length-drop start points in omega arith
@@ -63,15 +63,9 @@ gather_more made after start ends k points e d g h s m n =
       within = w.1;
     }
 
-pub drop_all : (n : ℕ) (xs : List ℕ) → length xs ≤ n → drop n xs ≡ []
-drop_all zero [] h = refl
-drop_all (suc n) [] h = refl
-drop_all zero (x ∷ xs) h = absurd (omega arith)
-drop_all (suc n) (x ∷ xs) h = drop_all n xs (omega arith)
-
 pub gather_end : (made : List Piece) (start : ℕ) (ends : List ℕ) (k : ℕ) (points : List OutlinePoint)
     → Gathered made start ends k points → length ends ≤ k → map span_of made ≡ joined (map curve_of (contours_from 0 ends points))
 gather_end made start ends k points g h =
     let P : List ℕ → Type 0 = λ xs. map span_of made ++ joined (map curve_of (contours_from start xs points)) ≡ joined
     (map curve_of (contours_from 0 ends points)) in
-    sym (append-nil (map span_of made)) ∙ subst P (drop_all k ends h) g.spans
+    sym (append-nil (map span_of made)) ∙ subst P (drop_of_length-le ends h) g.spans

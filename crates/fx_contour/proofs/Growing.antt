@@ -1,7 +1,7 @@
 -- Bounding boxes, point by point.
 -- For `Bounds` and `Extent` and their loops.
-use Rattle.std.proofs.Common.{◌≡◌, sym, subst, ℕ, zero, suc, ◌+◌, ◌<◌, ◌≤◌, drop, length, map, get_or, ◌⊎◌, inl, inr}
-use Rattle.std.proofs.Common.{ℤ, pos, ◌*ℤ◌, ◌≤ℤ◌, List, [], ◌∷◌, Option, None, Some, IsSomeAnd, refl, arith, ◌↔◌}
+use Rattle.std.proofs.Common.{◌≡◌, sym, subst, ℕ, ◌+◌, ◌<◌, ◌≤◌, drop, length, map, get_or, ◌⊎◌, inl, inr}
+use Rattle.std.proofs.Common.{ℤ, pos, ◌*ℤ◌, ◌≤ℤ◌, List, [], ◌∷◌, Option, None, Some, IsSomeAnd, drop_of_length-le, arith, ◌↔◌}
 use Rattle.std.specs.Int.{int_min, int_max}
 use Rattle.std.proofs.lemmas.Int.{ints, clamps, by_lt_z}
 use Rattle.std.proofs.lemmas.List.{drop_more}
@@ -14,20 +14,10 @@ use Rattle.fx_contour.specs.Bounds.{Side, left_side, right_side, bottom_side, to
 use Rattle.fx_contour.specs.Bounds.{AreBoundsOf}
 
 least_is : (r l x t : ℤ) → r ≡ int_min l x → (r ≤ℤ t) ↔ ((l ≤ℤ t) ⊎ (x ≤ℤ t))
-least_is r l x t e =
-    (λ h. by_lt_z l x (λ k. inl (omega (arith, ints, clamps))) (λ k. inr (omega (arith, ints, clamps))), λ h. back h)
-  where
-    back : (l ≤ℤ t) ⊎ (x ≤ℤ t) → r ≤ℤ t
-    back (inl h) = omega (arith, ints, clamps)
-    back (inr h) = omega (arith, ints, clamps)
+least_is r l x t e = (λ h. grind (arith, ints, clamps), λ h. grind (arith, ints, clamps))
 
 greatest_is : (r l x t : ℤ) → r ≡ int_max l x → (t ≤ℤ r) ↔ ((t ≤ℤ l) ⊎ (t ≤ℤ x))
-greatest_is r l x t e =
-    (λ h. by_lt_z l x (λ k. inr (omega (arith, ints, clamps))) (λ k. inl (omega (arith, ints, clamps))), λ h. back h)
-  where
-    back : (t ≤ℤ l) ⊎ (t ≤ℤ x) → t ≤ℤ r
-    back (inl h) = omega (arith, ints, clamps)
-    back (inr h) = omega (arith, ints, clamps)
+greatest_is r l x t e = (λ h. grind (arith, ints, clamps), λ h. grind (arith, ints, clamps))
 
 pub doubled_least : (r l x : ℤ) → r ≡ int_min l x → pos 2 *ℤ r ≡ int_min (pos 2 *ℤ l) (pos 2 *ℤ x)
 doubled_least r l x e = by_lt_z l x (λ k. omega (arith, ints, clamps)) (λ k. omega (arith, ints, clamps))
@@ -47,20 +37,7 @@ point_grows l r d u l' r' d' u' p el er ed eu = record { sides = λ side t. at s
 
 -- from a to b by R and on to c by S
 two : (A B C R S : Type 0) → B ↔ (A ⊎ R) → C ↔ (B ⊎ S) → C ↔ (A ⊎ (R ⊎ S))
-two A B C R S h k = (λ c. there (k.0 c), λ x. back x)
-  where
-    there : B ⊎ S → A ⊎ (R ⊎ S)
-    there (inr s) = inr (inr s)
-    there (inl b) = more (h.0 b)
-      where
-        more : A ⊎ R → A ⊎ (R ⊎ S)
-        more (inl a) = inl a
-        more (inr r) = inr (inl r)
-
-    back : A ⊎ (R ⊎ S) → C
-    back (inl a) = k.1 (inl (h.1 (inl a)))
-    back (inr (inl r)) = k.1 (inl (h.1 (inr r)))
-    back (inr (inr s)) = k.1 (inr s)
+two A B C R S h k = (λ c. grind arith, λ x. grind arith)
 
 -- a box that grows by R and then by S grows by both
 pub then : (a b c : Side → ℤ → Type 0) (R S : (Place → Type 0) → Type 0) → Grows a b R → Grows b c S → Grows a c (λ P. R P ⊎ S P)
@@ -87,20 +64,7 @@ pub record Remains (b : Bounds) (ss rest : List Span) : Type 0 where
   pub sides : (side : Side) (t : ℤ) → HaveAny (IsOut side t) ss ↔ (Reaches b side t ⊎ HaveAny (IsOut side t) rest)
 
 pub one_less : (X A B R S : Type 0) → X ↔ (A ⊎ (R ⊎ S)) → B ↔ (A ⊎ R) → X ↔ (B ⊎ S)
-one_less X A B R S h k = (λ x. there (h.0 x), λ y. back y)
-  where
-    there : A ⊎ (R ⊎ S) → B ⊎ S
-    there (inl a) = inl (k.1 (inl a))
-    there (inr (inl r)) = inl (k.1 (inr r))
-    there (inr (inr s)) = inr s
-
-    back : B ⊎ S → X
-    back (inr s) = h.1 (inr (inr s))
-    back (inl b) = more (k.0 b)
-      where
-        more : A ⊎ R → X
-        more (inl a) = h.1 (inl a)
-        more (inr r) = h.1 (inr (inl r))
+one_less X A B R S h k = (λ x. grind arith, λ y. grind arith)
 
 pub remains_more : (b c : Bounds) (ps : List Piece) (n : ℕ) (s : Piece) → n < length ps → s ≡ get_or ps n s
     → Remains b (map span_of ps) (map span_of (drop n ps)) → Grows (Reaches b) (Reaches c) (λ P. HasAny P (span_of s))
@@ -117,31 +81,17 @@ remains_more b c ps n s h e r g =
     }
 
 pub none_left : (X A : Type 0) → X ↔ (A ⊎ ⊥) → X ↔ A
-none_left X A h = (λ x. there (h.0 x), λ a. h.1 (inl a))
-  where
-    there : A ⊎ ⊥ → A
-    there (inl a) = a
-    there (inr n) = absurd n
+none_left X A h = (λ x. grind arith, λ a. grind arith)
 
 pub remains_end : (b : Bounds) (ps : List Piece) (n : ℕ) → length ps ≤ n → Remains b (map span_of ps) (map span_of (drop n ps))
     → AreBounds b (map span_of ps)
 remains_end b ps n h r =
     let P : List Piece → Type 0 = λ xs. Remains b (map span_of ps) (map span_of xs) in
-    let all_spans = subst P (drop_all n ps h) r in
+    let all_spans = subst P (drop_of_length-le ps h) r in
     record { sides = λ side t. none_left (HaveAny (IsOut side t) (map span_of ps)) (Reaches b side t) (all_spans.sides side t) }
-  where
-    drop_all : (n : ℕ) (xs : List Piece) → length xs ≤ n → drop n xs ≡ []
-    drop_all zero [] h = refl
-    drop_all (suc n) [] h = refl
-    drop_all zero (x ∷ xs) h = absurd (omega arith)
-    drop_all (suc n) (x ∷ xs) h = drop_all n xs (omega arith)
 
 pub first_too : (X A : Type 0) → (A → X) → X ↔ (A ⊎ X)
-first_too X A f = (λ x. inr x, λ y. back y)
-  where
-    back : A ⊎ X → X
-    back (inl a) = f a
-    back (inr x) = x
+first_too X A f = (λ x. grind arith, λ y. grind arith)
 
 -- the first piece's first point lies in the box of all
 pub remains_first : (b : Bounds) (ps : List Piece) (d : Piece) → 0 < length ps → b.left ≡ (get_or ps 0 d).a.x

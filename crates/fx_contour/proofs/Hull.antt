@@ -81,31 +81,16 @@ last_one : (P : Place → Type 0) (q : OutlinePoint) (qs : List OutlinePoint) �
 last_one P q [] h = inl h
 last_one P q (s ∷ qs) h = inr (last_one P s qs h)
 
+-- a point of one of two lists, of p, of q or of what follows, or of what follows q alone
+of_either : {X Y A B N Q R : Type 0} → (X → A ⊎ (B ⊎ N)) → (N → Q ⊎ R) → (Y → B ⊎ (Q ⊎ R)) → X ⊎ Y → A ⊎ ((B ⊎ Q) ⊎ R)
+of_either f g h k = grind arith
+
 between_one : (P : Place → Type 0) → IsOfEnds P → (p : OutlinePoint) (qs : List OutlinePoint) (r : OutlinePoint)
     → HaveAny P (spans_between p qs r) → P (doubled_of p) ⊎ (HavePoint P qs ⊎ P (doubled_of r))
 between_one P d p [] r h = absurd h
 between_one P d p (q ∷ qs) r h =
-    by (have_either P (option_to_list (span_at p q (first_or qs r))) (spans_between q qs r) h) (between_one P d q qs r)
-  where
-    later : HavePoint P qs ⊎ P (doubled_of r) → P (doubled_of p) ⊎ (HavePoint P (q ∷ qs) ⊎ P (doubled_of r))
-    later (inl k) = inr (inl (inr k))
-    later (inr k) = inr (inr k)
-
-    here : P (doubled_of p) ⊎ (P (doubled_of q) ⊎ P (doubled_of (first_or qs r)))
-        → P (doubled_of p) ⊎ (HavePoint P (q ∷ qs) ⊎ P (doubled_of r))
-    here (inl k) = inl k
-    here (inr (inl k)) = inr (inl (inl k))
-    here (inr (inr k)) = later (first_one P qs r k)
-
-    there : P (doubled_of q) ⊎ (HavePoint P qs ⊎ P (doubled_of r)) → P (doubled_of p) ⊎ (HavePoint P (q ∷ qs) ⊎ P (doubled_of r))
-    there (inl k) = inr (inl (inl k))
-    there (inr k) = later k
-
-    by : HaveAny P (option_to_list (span_at p q (first_or qs r))) ⊎ HaveAny P (spans_between q qs r)
-        → (HaveAny P (spans_between q qs r) → P (doubled_of q) ⊎ (HavePoint P qs ⊎ P (doubled_of r)))
-        → P (doubled_of p) ⊎ (HavePoint P (q ∷ qs) ⊎ P (doubled_of r))
-    by (inl k) more = here (span_one P d p q (first_or qs r) k)
-    by (inr k) more = there (more k)
+    of_either (span_one P d p q (first_or qs r)) (first_one P qs r) (between_one P d q qs r)
+    (have_either P (option_to_list (span_at p q (first_or qs r))) (spans_between q qs r) h)
 
 curve_point : (P : Place → Type 0) → IsOfEnds P → (p q : OutlinePoint) (qs : List OutlinePoint) → HaveAny P (curve_of (p ∷ q ∷ qs))
     → HavePoint P (p ∷ q ∷ qs)

@@ -1,6 +1,6 @@
 -- A pixel outside the frame is not covered, since a place that is covered is in the bounding box.
 -- For the clause `outside` of `frame`.
-use Rattle.std.proofs.Common.{subst, ◌⊎◌, inl, inr, ◌≤ℤ◌, ◌<ℤ◌, List, [], ◌∷◌, Option, Some, None, IsSomeAnd, All}
+use Rattle.std.proofs.Common.{subst, ◌⊎◌, inl, inr, ◌≤ℤ◌, ◌<ℤ◌, List, [], ◌∷◌, Option, Some, None, IsSomeAnd, All, arith}
 use Rattle.std.proofs.lemmas.List.Elements.{All-nil, All-cons}
 use Rattle.fx_fixed.proofs.Order.{below_or_not_ℤ}
 use Rattle.fx_winding.specs.Area.{Place}
@@ -18,10 +18,7 @@ piece_either P Q d s = by (d s.a) (option s.b) (d s.c)
     option (Some b) = d b
 
     by : P s.a ⊎ Q s.a → OptionAll P s.b ⊎ IsSomeAnd s.b Q → P s.c ⊎ Q s.c → HasAll P s ⊎ HasAny Q s
-    by (inl a) (inl b) (inl c) = inl (a, b, c)
-    by (inr a) b c = inr (inl a)
-    by (inl a) (inr b) c = inr (inr (inl b))
-    by (inl a) (inl b) (inr c) = inr (inr (inr c))
+    by a b c = grind arith
 
 either : (P Q : Place → Type 0) → ((q : Place) → P q ⊎ Q q) → (ss : List Span) → All (HasAll P) ss ⊎ HaveAny Q ss
 either P Q d [] = inl (All-nil (HasAll P))

@@ -5,7 +5,7 @@ use Rattle.std.proofs.Common.{◌∷◌, ◌++◌, Option, Some, None, All, map,
 use Rattle.std.specs.Prelude.{reverse, if◌then◌else◌}
 use Rattle.std.specs.List.Sorted.{IsPermutation}
 use Rattle.std.proofs.lemmas.Int.{ints}
-use Rattle.std.proofs.lemmas.List.{append-nil, map-append, reverse-append, length-append, length-reverse, length-take, length-drop}
+use Rattle.std.proofs.lemmas.List.{append-nil, map-append, reverse-append, length-append, length-reverse}
 use Rattle.std.proofs.lemmas.List.{take_at, drop_at}
 use Rattle.std.proofs.lemmas.List.Elements.{All-nil, All-append, All-take, All-drop}
 use Rattle.std.proofs.lemmas.List.Sorted.{IsPermutation-refl, IsPermutation-sym, IsPermutation-trans, IsPermutation-map}
@@ -24,6 +24,7 @@ use Rattle.fx_contour.specs.Moves.{ReversalKeepsBits}
 use Rattle.fx_contour.proofs.Closed.{point}
 use Rattle.fx_contour.proofs.Decided.{reach_is_tested}
 use Rattle.fx_contour.proofs.Drawn.{drawn_spans, drawn_from}
+use Rattle.fx_contour.proofs.Gather.{slice_few}
 
 -- the line from p to q, if both are on the curve
 abbrev line : OutlinePoint → OutlinePoint → Option Span
@@ -193,10 +194,7 @@ all_back (c ∷ cs) =
 length_part : (start next : ℕ) (points : List OutlinePoint) → start ≤ next → next ≤ length points
     → length (reverse (take (next - start) (drop start points))) ≡ next - start
 length_part start next points h k =
-    let r = length-reverse (take (next - start) (drop start points)) in
-    let a = length-take (next - start) (drop start points) in
-    let b = length-drop start points in
-    omega (arith, r, a, b)
+    length-reverse (take (next - start) (drop start points)) ∙ slice_few start next points h k
 
 contours_back : (before : List OutlinePoint) (start : ℕ) (es : List ℕ) (points : List OutlinePoint) → length before ≡ start
     → AreEnds start es (length points)

@@ -4,7 +4,7 @@
 use Rattle.std.proofs.Common.{◌≡◌, ◌≢◌, sym, ap, ◌∙◌, ◌⊎◌, inl, inr, ℤ, pos, ◌+ℤ◌, ◌-ℤ◌, ◌*ℤ◌, neg_ℤ, ◌≤ℤ◌, ◌<ℤ◌}
 use Rattle.std.proofs.Common.{[], ◌∷◌, Option, Some, None, arith}
 use Rattle.std.proofs.lemmas.Int.{ints}
-use Rattle.fx_fixed.specs.Polynomial.{Expr, var, num, ◌⊞◌, ◌⊠◌, ◌⊟◌, minus}
+use Rattle.fx_fixed.specs.Polynomial.{Expr, var, num, ◌⊞◌, ◌⊠◌, ◌⊟◌}
 use Rattle.fx_fixed.proofs.Ring.{ring}
 use Rattle.fx_fixed.proofs.Linear.{signed, signed_linear}
 use Rattle.fx_fixed.proofs.Order.{below_or_not_ℤ}
@@ -16,7 +16,8 @@ use Rattle.fx_winding.specs.Meets.{turn, slope, IsReached, IsTipPart, IsMet}
 use Rattle.fx_winding.proofs.Beside.{HasAll-weaker, all_beyond, beyond_weaker, StartsFrom, EndsAt, left_no_region}
 use Rattle.fx_winding.proofs.Beside.{right_no_region, at_least_zero}
 use Rattle.fx_winding.proofs.Crossings.{above, crossing_right, crossing_left, area_split, area_split_right, area_turn}
-use Rattle.fx_winding.proofs.Triangle.{area_expr, not_below_range, not_above_range}
+use Rattle.fx_winding.proofs.Products.{product}
+use Rattle.fx_winding.proofs.Triangle.{at, coordinates, slope_at, not_below_range, not_above_range}
 
 -- ---- a chord one end of which is in the column of p
 -- p is neither end of a piece
@@ -47,28 +48,29 @@ pub swapped : {P Q : Type 0} → P ⊎ Q → Q ⊎ P
 swapped (inl h) = inr h
 swapped (inr h) = inl h
 
+-- a sum of two products, of which one is above 0
+one_above : {P Q : Type 0} (x u y v : ℤ) → P ⊎ Q → pos 0 ≤ℤ x → pos 0 ≤ℤ u → pos 0 ≤ℤ y → pos 0 ≤ℤ v
+    → (P → (pos 0 <ℤ x) × (pos 0 <ℤ u)) → (Q → (pos 0 <ℤ y) × (pos 0 <ℤ v)) → pos 0 <ℤ (x *ℤ u +ℤ y *ℤ v)
+one_above x u y v (inl h) a b c d f g =
+    omega (arith, signed_linear, product_above_zero x u (f h).0 (f h).1, product_at_least_zero y v c d)
+one_above x u y v (inr h) a b c d f g =
+    omega (arith, signed_linear, product_at_least_zero x u a b, product_above_zero y v (g h).0 (g h).1)
+
 -- where it rises past the height of p, p lies left of it, or right
 left_of_rising_end : (ax ay cx cy px py : ℤ) → ay ≤ℤ py → py <ℤ cy → px ≤ℤ ax → px ≤ℤ cx
     → (px <ℤ ax) ⊎ ((ay <ℤ py) × (px <ℤ cx)) → pos 0 <ℤ area_of ax ay cx cy px py
-left_of_rising_end ax ay cx cy px py h k m n (inl l) =
-    let p = product_above_zero (cy -ℤ py) (ax -ℤ px) (omega (arith, signed_linear)) (omega (arith, signed_linear)) in
-    let q = product_at_least_zero (py -ℤ ay) (cx -ℤ px) (omega (arith, signed_linear)) (omega (arith, signed_linear)) in
-    rw (area_split ax ay cx cy px py) (omega (arith, signed_linear))
-left_of_rising_end ax ay cx cy px py h k m n (inr (i, l)) =
-    let p = product_at_least_zero (cy -ℤ py) (ax -ℤ px) (omega (arith, signed_linear)) (omega (arith, signed_linear)) in
-    let q = product_above_zero (py -ℤ ay) (cx -ℤ px) (omega (arith, signed_linear)) (omega (arith, signed_linear)) in
-    rw (area_split ax ay cx cy px py) (omega (arith, signed_linear))
+left_of_rising_end ax ay cx cy px py h k m n one =
+    rw (area_split ax ay cx cy px py) (one_above (cy -ℤ py) (ax -ℤ px) (py -ℤ ay) (cx -ℤ px) one (omega (arith, signed_linear))
+    (omega (arith, signed_linear)) (omega (arith, signed_linear)) (omega (arith, signed_linear))
+    (λ l. omega (arith, signed_linear, k, l)) (λ l. omega (arith, signed_linear, l)))
 
 right_of_rising_end : (ax ay cx cy px py : ℤ) → ay ≤ℤ py → py <ℤ cy → ax ≤ℤ px → cx ≤ℤ px
     → (ax <ℤ px) ⊎ ((ay <ℤ py) × (cx <ℤ px)) → area_of ax ay cx cy px py <ℤ pos 0
-right_of_rising_end ax ay cx cy px py h k m n (inl l) =
-    let p = product_above_zero (cy -ℤ py) (px -ℤ ax) (omega (arith, signed_linear)) (omega (arith, signed_linear)) in
-    let q = product_at_least_zero (py -ℤ ay) (px -ℤ cx) (omega (arith, signed_linear)) (omega (arith, signed_linear)) in
-    rw (area_split_right ax ay cx cy px py) (omega (arith, signed_linear))
-right_of_rising_end ax ay cx cy px py h k m n (inr (i, l)) =
-    let p = product_at_least_zero (cy -ℤ py) (px -ℤ ax) (omega (arith, signed_linear)) (omega (arith, signed_linear)) in
-    let q = product_above_zero (py -ℤ ay) (px -ℤ cx) (omega (arith, signed_linear)) (omega (arith, signed_linear)) in
-    rw (area_split_right ax ay cx cy px py) (omega (arith, signed_linear))
+right_of_rising_end ax ay cx cy px py h k m n one =
+    let s = one_above (cy -ℤ py) (px -ℤ ax) (py -ℤ ay) (px -ℤ cx) one (omega (arith, signed_linear)) (omega (arith, signed_linear))
+    (omega (arith, signed_linear)) (omega (arith, signed_linear)) (λ l. omega (arith, signed_linear, k, l))
+    (λ l. omega (arith, signed_linear, l)) in
+    rw (area_split_right ax ay cx cy px py) (omega (arith, signed_linear, s))
 
 -- ---- what a piece adds
 same : (z : ℤ) → z +ℤ pos 0 ≡ z
@@ -148,9 +150,6 @@ record AreAbove (A B C : ℤ) : Type 0 where
   middle : pos 0 <ℤ weight_middle A B C
   last : pos 0 <ℤ weight_last A B C
 
-below_too : (z : ℤ) → pos 0 <ℤ z → pos 0 ≤ℤ z
-below_too z h = omega (arith, signed_linear, h)
-
 -- the weight of an end, and of the control point, by the products in it
 end_above : (ac bb x y : ℤ) → pos 0 <ℤ ac → ac ≤ℤ bb → pos 0 ≤ℤ x → pos 0 <ℤ y
     → pos 0 <ℤ ((pos 2 *ℤ bb -ℤ ac) +ℤ pos 2 *ℤ x +ℤ y)
@@ -163,9 +162,9 @@ middle_above ac ab bc h k l = omega (arith, signed)
 weights_above : (A B C : ℤ) → pos 0 <ℤ A → pos 0 ≤ℤ B → pos 0 <ℤ C → (A *ℤ C) ≤ℤ (B *ℤ B) → AreAbove A B C
 weights_above A B C a b c h =
     let aa = product_above_zero A A a a in
-    let ab = product_at_least_zero A B (below_too A a) b in
+    let ab = product_at_least_zero A B (omega (arith, signed_linear, a)) b in
     let ac = product_above_zero A C a c in
-    let bc = product_at_least_zero B C b (below_too C c) in
+    let bc = product_at_least_zero B C b (omega (arith, signed_linear, c)) in
     let cc = product_above_zero C C c c in
     record {
       first = end_above (A *ℤ C) (B *ℤ B) (B *ℤ C) (C *ℤ C) ac h bc cc;
@@ -183,54 +182,35 @@ middle_expr A B C = num (pos 4) ⊠ (A ⊠ C) ⊞ num (pos 2) ⊠ (A ⊠ B) ⊞ 
 abbrev last_expr : Expr → Expr → Expr → Expr
 last_expr A B C = (num (pos 2) ⊠ (B ⊠ B) ⊟ A ⊠ C) ⊞ num (pos 2) ⊠ (A ⊠ B) ⊞ A ⊠ A
 
-abbrev slope_expr : Expr → Expr → Expr → Expr → Expr → Expr → Expr → Expr → Expr
-slope_expr ax ay bx by cx cy px py =
-    num (pos 2) ⊠ ((by ⊟ cy) ⊠ area_expr ax ay bx by px py ⊞ (ay ⊟ by) ⊠ area_expr px py bx by cx cy) ⊞
-    (ay ⊟ cy) ⊠ area_expr ax ay px py cx cy
-
 -- the slope as a sum of how far the arc's points lie right of p, each with its weight
 abbrev weighted : Place → Place → Place → Place → ℤ → ℤ → ℤ → ℤ
 weighted a b c p A B C =
     (a.x -ℤ p.x) *ℤ weight_first A B C +ℤ (b.x -ℤ p.x) *ℤ weight_middle A B C +ℤ (c.x -ℤ p.x) *ℤ weight_last A B C
 
+abbrev weighted_at : Expr → Expr → Expr → Expr
+weighted_at A B C =
+    (var 0 ⊟ var 6) ⊠ first_expr A B C ⊞ (var 2 ⊟ var 6) ⊠ middle_expr A B C ⊞ (var 4 ⊟ var 6) ⊠ last_expr A B C
+
 slope_from_below : (a b c p : Place) → slope a b c p ≡ weighted a b c p (p.y -ℤ a.y) (b.y -ℤ p.y) (p.y -ℤ c.y)
 slope_from_below a b c p =
-    let ax = var 0 in let ay = var 1 in
-    let bx = var 2 in let by = var 3 in
-    let cx = var 4 in let cy = var 5 in
-    let px = var 6 in let py = var 7 in
-    ring (a.x ∷ a.y ∷ b.x ∷ b.y ∷ c.x ∷ c.y ∷ p.x ∷ p.y ∷ []) (slope_expr ax ay bx by cx cy px py)
-    ((ax ⊟ px) ⊠ first_expr (py ⊟ ay) (by ⊟ py) (py ⊟ cy) ⊞ (bx ⊟ px) ⊠ middle_expr (py ⊟ ay) (by ⊟ py) (py ⊟ cy) ⊞
-    (cx ⊟ px) ⊠ last_expr (py ⊟ ay) (by ⊟ py) (py ⊟ cy)) tt
+    ring (coordinates (a ∷ b ∷ c ∷ p ∷ []) []) (slope_at (at 0) (at 1) (at 2) (at 3))
+    (weighted_at (var 7 ⊟ var 1) (var 3 ⊟ var 7) (var 7 ⊟ var 5)) tt
 
 slope_from_above : (a b c p : Place) → slope a b c p ≡ weighted a b c p (a.y -ℤ p.y) (p.y -ℤ b.y) (c.y -ℤ p.y)
 slope_from_above a b c p =
-    let ax = var 0 in let ay = var 1 in
-    let bx = var 2 in let by = var 3 in
-    let cx = var 4 in let cy = var 5 in
-    let px = var 6 in let py = var 7 in
-    ring (a.x ∷ a.y ∷ b.x ∷ b.y ∷ c.x ∷ c.y ∷ p.x ∷ p.y ∷ []) (slope_expr ax ay bx by cx cy px py)
-    ((ax ⊟ px) ⊠ first_expr (ay ⊟ py) (py ⊟ by) (cy ⊟ py) ⊞ (bx ⊟ px) ⊠ middle_expr (ay ⊟ py) (py ⊟ by) (cy ⊟ py) ⊞
-    (cx ⊟ px) ⊠ last_expr (ay ⊟ py) (py ⊟ by) (cy ⊟ py)) tt
+    ring (coordinates (a ∷ b ∷ c ∷ p ∷ []) []) (slope_at (at 0) (at 1) (at 2) (at 3))
+    (weighted_at (var 1 ⊟ var 7) (var 7 ⊟ var 3) (var 5 ⊟ var 7)) tt
 
--- the turn of a quadratic that goes from below the row to above it and back
-turn_above : (a b c p : ℤ) → (a *ℤ c -ℤ b *ℤ b) ≤ℤ (p *ℤ (a -ℤ pos 2 *ℤ b +ℤ c))
-    → ((p -ℤ a) *ℤ (p -ℤ c)) ≤ℤ ((b -ℤ p) *ℤ (b -ℤ p))
-turn_above a b c p h =
+-- the turn of a quadratic that goes past the row and back
+turn_past : (a b c p : ℤ) → (a *ℤ c -ℤ b *ℤ b) ≤ℤ (p *ℤ (a -ℤ pos 2 *ℤ b +ℤ c))
+    → (((p -ℤ a) *ℤ (p -ℤ c)) ≤ℤ ((b -ℤ p) *ℤ (b -ℤ p))) × (((a -ℤ p) *ℤ (c -ℤ p)) ≤ℤ ((p -ℤ b) *ℤ (p -ℤ b)))
+turn_past a b c p h =
+    let turn = (var 0 ⊠ var 2 ⊟ var 1 ⊠ var 1) ⊟ var 3 ⊠ (var 0 ⊟ num (pos 2) ⊠ var 1 ⊞ var 2) in
     let e : (a *ℤ c -ℤ b *ℤ b) -ℤ p *ℤ (a -ℤ pos 2 *ℤ b +ℤ c) ≡ (p -ℤ a) *ℤ (p -ℤ c) -ℤ (b -ℤ p) *ℤ (b -ℤ p) =
-    ring (a ∷ b ∷ c ∷ p ∷ [])
-    ((var 0 ⊠ var 2 ⊟ var 1 ⊠ var 1) ⊟ var 3 ⊠ (var 0 ⊟ num (pos 2) ⊠ var 1 ⊞ var 2))
-    ((var 3 ⊟ var 0) ⊠ (var 3 ⊟ var 2) ⊟ (var 1 ⊟ var 3) ⊠ (var 1 ⊟ var 3)) tt in
-    omega (arith, signed_linear, e, h)
-
-turn_below : (a b c p : ℤ) → (a *ℤ c -ℤ b *ℤ b) ≤ℤ (p *ℤ (a -ℤ pos 2 *ℤ b +ℤ c))
-    → ((a -ℤ p) *ℤ (c -ℤ p)) ≤ℤ ((p -ℤ b) *ℤ (p -ℤ b))
-turn_below a b c p h =
-    let e : (a *ℤ c -ℤ b *ℤ b) -ℤ p *ℤ (a -ℤ pos 2 *ℤ b +ℤ c) ≡ (a -ℤ p) *ℤ (c -ℤ p) -ℤ (p -ℤ b) *ℤ (p -ℤ b) =
-    ring (a ∷ b ∷ c ∷ p ∷ [])
-    ((var 0 ⊠ var 2 ⊟ var 1 ⊠ var 1) ⊟ var 3 ⊠ (var 0 ⊟ num (pos 2) ⊠ var 1 ⊞ var 2))
-    ((var 0 ⊟ var 3) ⊠ (var 2 ⊟ var 3) ⊟ (var 3 ⊟ var 1) ⊠ (var 3 ⊟ var 1)) tt in
-    omega (arith, signed_linear, e, h)
+    ring (a ∷ b ∷ c ∷ p ∷ []) turn ((var 3 ⊟ var 0) ⊠ (var 3 ⊟ var 2) ⊟ (var 1 ⊟ var 3) ⊠ (var 1 ⊟ var 3)) tt in
+    let f : (a *ℤ c -ℤ b *ℤ b) -ℤ p *ℤ (a -ℤ pos 2 *ℤ b +ℤ c) ≡ (a -ℤ p) *ℤ (c -ℤ p) -ℤ (p -ℤ b) *ℤ (p -ℤ b) =
+    ring (a ∷ b ∷ c ∷ p ∷ []) turn ((var 0 ⊟ var 3) ⊠ (var 2 ⊟ var 3) ⊟ (var 3 ⊟ var 1) ⊠ (var 3 ⊟ var 1)) tt in
+    (omega (arith, signed_linear, e, h), omega (arith, signed_linear, f, h))
 
 -- the slope at p of an arc that reaches its row, as a sum with weights above 0
 record IsWeighted (a b c p : Place) : Type 0 where
@@ -241,12 +221,6 @@ record IsWeighted (a b c p : Place) : Type 0 where
   middle_above : pos 0 <ℤ middle
   last_above : pos 0 <ℤ last
   is : slope a b c p ≡ (a.x -ℤ p.x) *ℤ first +ℤ (b.x -ℤ p.x) *ℤ middle +ℤ (c.x -ℤ p.x) *ℤ last
-
-difference_above_zero : (x y : ℤ) → y <ℤ x → pos 0 <ℤ (x -ℤ y)
-difference_above_zero x y h = omega (arith, signed_linear, h)
-
-not_both : (x y : ℤ) → x <ℤ y → ¬ (y ≤ℤ x)
-not_both x y h k = omega (arith, signed_linear, h, k)
 
 weighted_by : (a b c p : Place) (A B C : ℤ) → AreAbove A B C → slope a b c p ≡ weighted a b c p A B C → IsWeighted a b c p
 weighted_by a b c p A B C w e = record {
@@ -260,75 +234,62 @@ weighted_by a b c p A B C w e = record {
 }
 
 reached_weighted : (a b c p : Place) → IsReached a.y b.y c.y p.y → IsWeighted a b c p
-reached_weighted a b c p (inl (ha, hc, inl k)) = absurd (not_both a.y p.y ha k)
-reached_weighted a b c p (inl (ha, hc, inr (inl k))) = absurd (not_both c.y p.y hc k)
-reached_weighted a b c p (inl (ha, hc, inr (inr t))) =
-    weighted_by a b c p (p.y -ℤ a.y) (b.y -ℤ p.y) (p.y -ℤ c.y)
-    (weights_above (p.y -ℤ a.y) (b.y -ℤ p.y) (p.y -ℤ c.y) (difference_above_zero p.y a.y ha) (by (below_or_not_ℤ b.y p.y))
-    (difference_above_zero p.y c.y hc) (turn_above a.y b.y c.y p.y t.2)) (slope_from_below a b c p)
+reached_weighted a b c p (inl (ha, hc, inl k)) = absurd (omega (arith, signed_linear, ha, k))
+reached_weighted a b c p (inl (ha, hc, inr (inl k))) = absurd (omega (arith, signed_linear, hc, k))
+reached_weighted a b c p (inl (ha, hc, inr (inr t))) = by (below_or_not_ℤ b.y p.y)
   where
-    by : (b.y <ℤ p.y) ⊎ (p.y ≤ℤ b.y) → pos 0 ≤ℤ (b.y -ℤ p.y)
+    by : (b.y <ℤ p.y) ⊎ (p.y ≤ℤ b.y) → IsWeighted a b c p
     by (inl h) = absurd (not_above_range a.y b.y c.y p.y (omega (arith, signed_linear, h)) t)
-    by (inr h) = at_least_zero b.y p.y h
-reached_weighted a b c p (inr (ha, hc, inl k)) = absurd (not_both p.y a.y ha k)
-reached_weighted a b c p (inr (ha, hc, inr (inl k))) = absurd (not_both p.y c.y hc k)
-reached_weighted a b c p (inr (ha, hc, inr (inr t))) =
-    weighted_by a b c p (a.y -ℤ p.y) (p.y -ℤ b.y) (c.y -ℤ p.y)
-    (weights_above (a.y -ℤ p.y) (p.y -ℤ b.y) (c.y -ℤ p.y) (difference_above_zero a.y p.y ha) (by (below_or_not_ℤ p.y b.y))
-    (difference_above_zero c.y p.y hc) (turn_below a.y b.y c.y p.y t.2)) (slope_from_above a b c p)
+    by (inr h) = weighted_by a b c p _ _ _ (weights_above (p.y -ℤ a.y) (b.y -ℤ p.y) (p.y -ℤ c.y) (omega (arith, signed_linear, ha))
+        (omega (arith, signed_linear, h)) (omega (arith, signed_linear, hc)) (turn_past a.y b.y c.y p.y t.2).0)
+        (slope_from_below a b c p)
+reached_weighted a b c p (inr (ha, hc, inl k)) = absurd (omega (arith, signed_linear, ha, k))
+reached_weighted a b c p (inr (ha, hc, inr (inl k))) = absurd (omega (arith, signed_linear, hc, k))
+reached_weighted a b c p (inr (ha, hc, inr (inr t))) = by (below_or_not_ℤ p.y b.y)
   where
-    by : (p.y <ℤ b.y) ⊎ (b.y ≤ℤ p.y) → pos 0 ≤ℤ (p.y -ℤ b.y)
+    by : (p.y <ℤ b.y) ⊎ (b.y ≤ℤ p.y) → IsWeighted a b c p
     by (inl h) = absurd (not_below_range a.y b.y c.y p.y (omega (arith, signed_linear, h)) t)
-    by (inr h) = at_least_zero p.y b.y h
+    by (inr h) = weighted_by a b c p _ _ _ (weights_above (a.y -ℤ p.y) (p.y -ℤ b.y) (c.y -ℤ p.y) (omega (arith, signed_linear, ha))
+        (omega (arith, signed_linear, h)) (omega (arith, signed_linear, hc)) (turn_past a.y b.y c.y p.y t.2).1)
+        (slope_from_above a b c p)
 
 -- where one of the ends is not in the column
 sum_above : (x y z u v w : ℤ) → pos 0 ≤ℤ x → pos 0 ≤ℤ y → pos 0 ≤ℤ z → (pos 0 <ℤ x) ⊎ (pos 0 <ℤ z) → pos 0 <ℤ u → pos 0 <ℤ v
     → pos 0 <ℤ w → pos 0 <ℤ (x *ℤ u +ℤ y *ℤ v +ℤ z *ℤ w)
-sum_above x y z u v w hx hy hz (inl l) hu hv hw =
-    let a = product_above_zero x u l hu in
-    let b = product_at_least_zero y v hy (below_too v hv) in
-    let c = product_at_least_zero z w hz (below_too w hw) in
-    omega (arith, signed_linear, a, b, c)
-sum_above x y z u v w hx hy hz (inr l) hu hv hw =
-    let a = product_at_least_zero x u hx (below_too u hu) in
-    let b = product_at_least_zero y v hy (below_too v hv) in
-    let c = product_above_zero z w l hw in
-    omega (arith, signed_linear, a, b, c)
+sum_above x y z u v w hx hy hz one hu hv hw =
+    let s = one_above x u z w one hx (omega (arith, signed_linear)) hz (omega (arith, signed_linear)) (λ l. (l, hu))
+    (λ l. (l, hw)) in
+    omega (arith, signed_linear, s, product_at_least_zero y v hy (omega (arith, signed_linear)))
 
-one_above : (x y z w : ℤ) → (y <ℤ x) ⊎ (w <ℤ z) → (pos 0 <ℤ (x -ℤ y)) ⊎ (pos 0 <ℤ (z -ℤ w))
-one_above x y z w (inl h) = inl (difference_above_zero x y h)
-one_above x y z w (inr h) = inr (difference_above_zero z w h)
+sum_below : (x y z u v w : ℤ) → x ≤ℤ pos 0 → y ≤ℤ pos 0 → z ≤ℤ pos 0 → (x <ℤ pos 0) ⊎ (z <ℤ pos 0) → pos 0 <ℤ u → pos 0 <ℤ v
+    → pos 0 <ℤ w → (x *ℤ u +ℤ y *ℤ v +ℤ z *ℤ w) <ℤ pos 0
+sum_below x y z u v w hx hy hz one hu hv hw =
+    let a = product x u in let b = product y v in let c = product z w in grind (arith, signed_linear)
 
-sum_turned : (a b c p u v w : ℤ) → (a -ℤ p) *ℤ u +ℤ (b -ℤ p) *ℤ v +ℤ (c -ℤ p) *ℤ w
-    ≡ neg_ℤ ((p -ℤ a) *ℤ u +ℤ (p -ℤ b) *ℤ v +ℤ (p -ℤ c) *ℤ w)
-sum_turned a b c p u v w =
-    ring (a ∷ b ∷ c ∷ p ∷ u ∷ v ∷ w ∷ [])
-    ((var 0 ⊟ var 3) ⊠ var 4 ⊞ (var 1 ⊟ var 3) ⊠ var 5 ⊞ (var 2 ⊟ var 3) ⊠ var 6)
-    (minus ((var 3 ⊟ var 0) ⊠ var 4 ⊞ (var 3 ⊟ var 1) ⊠ var 5 ⊞ (var 3 ⊟ var 2) ⊠ var 6)) tt
-
-falls_not : (z s : ℤ) → z ≡ s → pos 0 <ℤ s → ¬ (z <ℤ pos 0)
-falls_not z s e h k = omega (arith, signed_linear, e, h, k)
-
-rises_not : (z s t : ℤ) → z ≡ s → s ≡ neg_ℤ t → pos 0 <ℤ t → ¬ (pos 0 <ℤ z)
-rises_not z s t e f h k = omega (arith, signed_linear, e, f, h, k)
+one_beyond : (x y z w : ℤ) → (y <ℤ x) ⊎ (w <ℤ z) → ((pos 0 <ℤ (x -ℤ y)) ⊎ (pos 0 <ℤ (z -ℤ w)))
+    × (((y -ℤ x) <ℤ pos 0) ⊎ ((w -ℤ z) <ℤ pos 0))
+one_beyond x y z w (inl h) = (inl (omega (arith, signed_linear, h)), inl (omega (arith, signed_linear, h)))
+one_beyond x y z w (inr h) = (inr (omega (arith, signed_linear, h)), inr (omega (arith, signed_linear, h)))
 
 right_no_tip : (a : Place) (b : Option Place) (c p q : Place) → q.y ≡ p.y → q.x ≤ℤ a.x → OptionAll (λ e. q.x ≤ℤ e.x) b
     → q.x ≤ℤ c.x → (q.x <ℤ a.x) ⊎ (q.x <ℤ c.x) → ¬ (IsTipPart a b c p q)
 right_no_tip a None c p q e ha hb hc one t = t
 right_no_tip a (Some b) c p q e ha hb hc one t =
     let w = reached_weighted a b c q (rw e t.reached) in
-    falls_not (slope a b c q) _ w.is
-    (sum_above (a.x -ℤ q.x) (b.x -ℤ q.x) (c.x -ℤ q.x) w.first w.middle w.last (at_least_zero a.x q.x ha) (at_least_zero b.x q.x hb)
-    (at_least_zero c.x q.x hc) (one_above a.x q.x c.x q.x one) w.first_above w.middle_above w.last_above) t.falls
+    let s = sum_above (a.x -ℤ q.x) (b.x -ℤ q.x) (c.x -ℤ q.x) w.first w.middle w.last (at_least_zero a.x q.x ha)
+    (at_least_zero b.x q.x hb) (at_least_zero c.x q.x hc) (one_beyond a.x q.x c.x q.x one).0 w.first_above w.middle_above
+    w.last_above in
+    let k = t.falls in omega (arith, signed_linear, s, k, w.is)
 
 left_no_tip : (a : Place) (b : Option Place) (c p q : Place) → a.x ≤ℤ p.x → OptionAll (λ e. e.x ≤ℤ p.x) b → c.x ≤ℤ p.x
     → (a.x <ℤ p.x) ⊎ (c.x <ℤ p.x) → ¬ (IsTipPart a b c p q)
 left_no_tip a None c p q ha hb hc one t = t
 left_no_tip a (Some b) c p q ha hb hc one t =
     let w = reached_weighted a b c p t.reached in
-    rises_not (slope a b c p) _ _ w.is (sum_turned a.x b.x c.x p.x w.first w.middle w.last)
-    (sum_above (p.x -ℤ a.x) (p.x -ℤ b.x) (p.x -ℤ c.x) w.first w.middle w.last (at_least_zero p.x a.x ha) (at_least_zero p.x b.x hb)
-    (at_least_zero p.x c.x hc) (one_above p.x a.x p.x c.x one) w.first_above w.middle_above w.last_above) t.rises
+    let s = sum_below (a.x -ℤ p.x) (b.x -ℤ p.x) (c.x -ℤ p.x) w.first w.middle w.last (omega (arith, signed_linear, ha))
+    (omega (arith, signed_linear, hb)) (omega (arith, signed_linear, hc)) (one_beyond p.x a.x p.x c.x one).1 w.first_above
+    w.middle_above w.last_above in
+    let k = t.rises in omega (arith, signed_linear, s, k, w.is)
 
 -- ---- not met
 further_right : (x y : ℤ) (s : Span) → x ≤ℤ y → StartsFrom y s → StartsFrom x s

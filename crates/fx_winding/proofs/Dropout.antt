@@ -2,22 +2,20 @@
 -- Serves the law `dropout`.
 use Rattle.std.proofs.Common.{◌≡◌, ◌⊎◌, ◌↔◌, inl, inr, refl, sym, ap, ◌∙◌, subst, ℤ, pos, ◌+ℤ◌, ◌-ℤ◌, ◌*ℤ◌, List, [], ◌∷◌}
 use Rattle.std.proofs.Common.{Option, Some, None, option_map, map, Any, arith}
-use Rattle.fx_fixed.specs.Polynomial.{var, num, ◌⊞◌, ◌⊠◌}
-use Rattle.fx_fixed.proofs.Ring.{ring}
 use Rattle.fx_fixed.proofs.Linear.{signed_linear}
 use Rattle.std.specs.List.Sorted.{IsPermutation}
 use Rattle.std.proofs.lemmas.List.Sorted.{IsPermutation-sym}
-use Rattle.fx_winding.specs.Area.{Place, place}
+use Rattle.fx_winding.specs.Area.{Place}
 use Rattle.fx_winding.specs.Frames.{IsInFrame}
 use Rattle.fx_winding.specs.Winding.{Span, IsCovered, centre}
 use Rattle.fx_winding.specs.Moves.{reversed, shifted_place, shifted}
 use Rattle.fx_winding.specs.Meets.{IsMet}
-use Rattle.fx_winding.specs.Dropout.{turned_place, turned_span, IsGap, IsBridged, IsRowSet, IsSet, DropoutAdds, RowsHaveNoGap}
+use Rattle.fx_winding.specs.Dropout.{turned_place, turned_span, IsGap, IsBridged, IsRowSet, RowsHaveNoGap}
 use Rattle.fx_winding.specs.Dropout.{ColumnsHaveNoGap, ShiftMovesSet, ReversalKeepsSet}
 use Rattle.fx_winding.proofs.Covers.{any_map, any_unmap, any_permutation}
 use Rattle.fx_winding.proofs.Meeting.{reversal_meets, shift_meets}
 use Rattle.fx_winding.proofs.Reversal.{reversal_keeps_cover}
-use Rattle.fx_winding.proofs.Shifts.{shift_moves_bits}
+use Rattle.fx_winding.proofs.Shifts.{centre_shift, shift_moves_bits}
 
 pub column_before : (i : ℤ) → i ≡ (i +ℤ pos 1) -ℤ pos 1
 column_before i = omega (arith, signed_linear)
@@ -45,14 +43,6 @@ rows_have_no_gap ss f i j h n m a =
 pub columns_have_no_gap : ColumnsHaveNoGap
 columns_have_no_gap ss f i j h n m a =
     bridged_no_gap (map turned_span ss) (λ j i. IsInFrame f i j) (λ j i. IsRowSet ss f i j) j i h n m a
-
-pub dropout_adds : DropoutAdds
-dropout_adds ss f i j = (λ c. inl (inl c), λ s. within s)
-  where
-    within : IsSet ss f i j → IsCovered (centre i j) ss ⊎ IsInFrame f i j
-    within (inl (inl c)) = inl c
-    within (inl (inr b)) = inr b.inside
-    within (inr b) = inr b.inside
 
 -- ---- moved by whole pixels
 next_shift : (i k : ℤ) → (i +ℤ k) +ℤ pos 1 ≡ (i +ℤ pos 1) +ℤ k
@@ -106,14 +96,6 @@ bridged_shift k l ss ts In To So At inside so met i j = (λ b. from b, λ b. to 
           subst (λ m. IsGap ts At m (j +ℤ l)) (sym (before_shift i k)) (gap_to (i -ℤ pos 1) j g),
           λ h. n ((inside (i -ℤ pos 1) j).0 (subst (λ m. To m (j +ℤ l)) (before_shift i k) h)),
         )
-
-centre_shift : (k l i j : ℤ) → shifted_place (pos 128 *ℤ k) (pos 128 *ℤ l) (centre i j) ≡ centre (i +ℤ k) (j +ℤ l)
-centre_shift k l i j = λ t. place (along i k t) (along j l t)
-  where
-    along : (i k : ℤ) → (pos 128 *ℤ i +ℤ pos 64) +ℤ pos 128 *ℤ k ≡ pos 128 *ℤ (i +ℤ k) +ℤ pos 64
-    along i k =
-        ring (i ∷ k ∷ []) ((num (pos 128) ⊠ var 0 ⊞ num (pos 64)) ⊞ num (pos 128) ⊠ var 1)
-        (num (pos 128) ⊠ (var 0 ⊞ var 1) ⊞ num (pos 64)) tt
 
 met_places : {p p' q q' : Place} (s : Span) → p ≡ p' → q ≡ q' → IsMet p q s → IsMet p' q' s
 met_places {p} {p'} {q} {q'} s ep eq h = subst (λ r. IsMet p' r s) eq (subst (λ r. IsMet r q s) ep h)
@@ -208,44 +190,42 @@ bridged_same ss ts In So At same met i j b = by b
     by (inl s) = inl ((same i j).1 s)
     by (inr b) = inr (record { inside = b.inside; gap = either i j b.gap })
 
-any_reversed : (P : Span → Type 0) → ((s : Span) → P s → P (reversed s)) → (ss ts : List Span) → IsPermutation (map reversed ss) ts
-    → Any P ss → Any P ts
-any_reversed P back ss ts h a = any_permutation P (map reversed ss) ts h (any_map reversed P P back ss a)
+bridged_alike : (ss ts : List Span) (In So At : ℤ → ℤ → Type 0) → ((i j : ℤ) → At i j ↔ So i j)
+    → ((p q : Place) → Any (IsMet p q) ss ↔ Any (IsMet p q) ts) → (i j : ℤ) → IsBridged ts In At i j ↔ IsBridged ss In So i j
+bridged_alike ss ts In So At same met i j = (
+  λ b. bridged_same ts ss In At So (λ i j. ((same i j).1, (same i j).0)) (λ p q a. (met p q).1 a) i j b,
+  λ b. bridged_same ss ts In So At same (λ p q a. (met p q).0 a) i j b,
+)
 
-any_restored : (P : Span → Type 0) → ((s : Span) → P (reversed s) → P s) → (ss ts : List Span) → IsPermutation (map reversed ss) ts
-    → Any P ts → Any P ss
-any_restored P back ss ts h a =
-    any_unmap reversed P P back ss (any_permutation P ts (map reversed ss) (IsPermutation-sym (map reversed ss) ts h) a)
+any_alike : (P : Span → Type 0) → ((s : Span) → P (reversed s) ↔ P s) → (ss ts : List Span) → IsPermutation (map reversed ss) ts
+    → Any P ss ↔ Any P ts
+any_alike P back ss ts h = (
+  λ a. any_permutation P (map reversed ss) ts h (any_map reversed P P (λ s k. (back s).1 k) ss a),
+  λ a. any_unmap reversed P P (λ s k. (back s).0 k) ss
+      (any_permutation P ts (map reversed ss) (IsPermutation-sym (map reversed ss) ts h) a),
+)
 
 pub reversal_keeps_set : ReversalKeepsSet
-reversal_keeps_set ss ts f h i j = (
-  λ s. bridged_same (map turned_span ts) (map turned_span ss) Within (λ j i. IsRowSet ts f i j) (λ j i. IsRowSet ss f i j)
-      (λ j i. ((rows i j).1, (rows i j).0)) (λ p q a. turned_restored p q a) j i s,
-  λ s. bridged_same (map turned_span ss) (map turned_span ts) Within (λ j i. IsRowSet ss f i j) (λ j i. IsRowSet ts f i j)
-      (λ j i. rows i j) (λ p q a. turned_reversed p q a) j i s,
-)
+reversal_keeps_set ss ts f h i j =
+    bridged_alike (map turned_span ss) (map turned_span ts) (λ j i. IsInFrame f i j) (λ j i. IsRowSet ss f i j)
+    (λ j i. IsRowSet ts f i j) (λ j i. rows i j) columns j i
   where
-    Within : ℤ → ℤ → Type 0
-    Within j i = IsInFrame f i j
-
     rows : (i j : ℤ) → IsRowSet ts f i j ↔ IsRowSet ss f i j
-    rows i j = (
-      λ s. bridged_same ts ss (IsInFrame f) (λ i j. IsCovered (centre i j) ts) (λ i j. IsCovered (centre i j) ss)
-          (λ i j. let k = reversal_keeps_cover (centre i j) ss ts h in (k.1, k.0))
-          (λ p q a. any_restored (IsMet p q) (λ s m. (reversal_meets p q s).0 m) ss ts h a) i j s,
-      λ s. bridged_same ss ts (IsInFrame f) (λ i j. IsCovered (centre i j) ss) (λ i j. IsCovered (centre i j) ts)
-          (λ i j. reversal_keeps_cover (centre i j) ss ts h)
-          (λ p q a. any_reversed (IsMet p q) (λ s m. (reversal_meets p q s).1 m) ss ts h a) i j s,
+    rows i j =
+        bridged_alike ss ts (IsInFrame f) (λ i j. IsCovered (centre i j) ss) (λ i j. IsCovered (centre i j) ts)
+        (λ i j. reversal_keeps_cover (centre i j) ss ts h) (λ p q. any_alike (IsMet p q) (reversal_meets p q) ss ts h) i j
+
+    turned : (p q : Place) → Any (λ s. IsMet p q (turned_span s)) ss ↔ Any (λ s. IsMet p q (turned_span s)) ts
+    turned p q = any_alike (λ s. IsMet p q (turned_span s)) (λ s. reversal_meets p q (turned_span s)) ss ts h
+
+    columns : (p q : Place) → Any (IsMet p q) (map turned_span ss) ↔ Any (IsMet p q) (map turned_span ts)
+    columns p q = (
+      λ a. to ts ((turned p q).0 (from ss a)),
+      λ a. to ss ((turned p q).1 (from ts a)),
     )
+      where
+        to : (us : List Span) → Any (λ s. IsMet p q (turned_span s)) us → Any (IsMet p q) (map turned_span us)
+        to us a = any_map turned_span (λ s. IsMet p q (turned_span s)) (IsMet p q) (λ s m. m) us a
 
-    turned_reversed : (p q : Place) → Any (IsMet p q) (map turned_span ss) → Any (IsMet p q) (map turned_span ts)
-    turned_reversed p q a =
-        any_map turned_span (λ s. IsMet p q (turned_span s)) (IsMet p q) (λ s m. m) ts
-        (any_reversed (λ s. IsMet p q (turned_span s)) (λ s m. (reversal_meets p q (turned_span s)).1 m) ss ts h
-        (any_unmap turned_span (λ s. IsMet p q (turned_span s)) (IsMet p q) (λ s m. m) ss a))
-
-    turned_restored : (p q : Place) → Any (IsMet p q) (map turned_span ts) → Any (IsMet p q) (map turned_span ss)
-    turned_restored p q a =
-        any_map turned_span (λ s. IsMet p q (turned_span s)) (IsMet p q) (λ s m. m) ss
-        (any_restored (λ s. IsMet p q (turned_span s)) (λ s m. (reversal_meets p q (turned_span s)).0 m) ss ts h
-        (any_unmap turned_span (λ s. IsMet p q (turned_span s)) (IsMet p q) (λ s m. m) ts a))
+        from : (us : List Span) → Any (IsMet p q) (map turned_span us) → Any (λ s. IsMet p q (turned_span s)) us
+        from us a = any_unmap turned_span (λ s. IsMet p q (turned_span s)) (IsMet p q) (λ s m. m) us a

@@ -1,25 +1,20 @@
 -- The ends of a piece are on it.
 -- Serves segments neither of whose ends is on a piece.
-use Rattle.std.proofs.Common.{◌≡◌, sym, subst, ◌⊎◌, inl, inr, ℤ, pos, ◌≤ℤ◌, ◌<ℤ◌, [], ◌∷◌}
+use Rattle.std.proofs.Common.{sym, subst, ◌⊎◌, inl, inr, ℤ, ◌≤ℤ◌, ◌<ℤ◌}
 use Rattle.std.proofs.Common.{Option, Some, None, arith}
-use Rattle.fx_fixed.specs.Polynomial.{var, num}
-use Rattle.fx_fixed.proofs.Ring.{ring}
 use Rattle.fx_fixed.proofs.Linear.{signed_linear}
 use Rattle.fx_fixed.proofs.Order.{below_or_not_ℤ}
-use Rattle.fx_winding.specs.Area.{Place, area}
+use Rattle.fx_winding.specs.Area.{Place}
 use Rattle.fx_winding.specs.Moves.{reversed}
 use Rattle.fx_winding.specs.Winding.{Span, IsBetween, IsOnPart, IsOn}
 use Rattle.fx_winding.proofs.Aside.{IsNoEnd}
+use Rattle.fx_winding.proofs.HalfFlats.{line_end}
 use Rattle.fx_winding.proofs.Halved.{end_on}
 use Rattle.fx_winding.proofs.Reversal.{reversal_negates}
-use Rattle.fx_winding.proofs.Triangle.{area_expr}
 
 pub last_on : (s : Span) → IsOn s.c s
 last_on s = part s.a s.b s.c
   where
-    none_last : (a c : Place) → area a c c ≡ pos 0
-    none_last a c = ring (a.x ∷ a.y ∷ c.x ∷ c.y ∷ []) (area_expr (var 0) (var 1) (var 2) (var 3) (var 2) (var 3)) (num (pos 0)) tt
-
     up_to : (a c : ℤ) → IsBetween a c c
     up_to a c = by (below_or_not_ℤ a c)
       where
@@ -28,7 +23,7 @@ last_on s = part s.a s.b s.c
         by (inr h) = inr (omega (arith, signed_linear), h)
 
     part : (a : Place) (b : Option Place) (c : Place) → IsOnPart a b c c
-    part a None c = record { collinear = none_last a c; between_x = up_to a.x c.x; between_y = up_to a.y c.y }
+    part a None c = record { collinear = line_end a c; between_x = up_to a.x c.x; between_y = up_to a.y c.y }
     part a (Some b) c = end_on a b c
 
 pub first_on : (s : Span) → IsOn s.a s

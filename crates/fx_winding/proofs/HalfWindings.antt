@@ -1,19 +1,18 @@
 -- Off an arc, the crossings and the regions of its halves add up to the arc's: what the chords of the halves leave is the
 -- triangle of the ends and the join, which is what their regions leave.
 -- Serves the law of halves.
-use Rattle.std.proofs.Common.{◌≡◌, refl, sym, ◌∙◌, ◌⊎◌, inl, inr, ℤ, pos, ◌+ℤ◌, ◌-ℤ◌, neg_ℤ, ◌≤ℤ◌, ◌<ℤ◌}
-use Rattle.std.proofs.Common.{Bool, true, false, [], ◌∷◌, arith}
-use Rattle.std.proofs.lemmas.Int.{by_lt_z}
+use Rattle.std.proofs.Common.{◌≡◌, refl, sym, ◌∙◌, ◌⊎◌, inl, inr, ℤ, pos, ◌+ℤ◌, ◌-ℤ◌, neg_ℤ, ◌≤ℤ◌, ◌<ℤ◌, Bool, true, false}
+use Rattle.std.proofs.Common.{[], ◌∷◌, arith}
+use Rattle.std.proofs.lemmas.Int.{ints, by_lt_z}
 use Rattle.fx_fixed.specs.Polynomial.{var, num, ◌⊠◌, ◌⊟◌}
 use Rattle.fx_fixed.proofs.Ring.{ring}
 use Rattle.fx_fixed.proofs.Linear.{signed_linear}
 use Rattle.fx_winding.specs.Area.{gap_of}
 use Rattle.fx_winding.specs.Winding.{AreOnArc}
-use Rattle.fx_winding.proofs.Places.{clash}
 use Rattle.fx_winding.proofs.Regions.{IsIn, third_strictly}
 use Rattle.fx_winding.proofs.Reversal.{gap_back}
 use Rattle.fx_winding.proofs.Corners.{around, AreBalanced, OnSide, around_outside, around_inside, around_side, around_turned}
-use Rattle.fx_winding.proofs.HalfAreas.{four_times, second_u, second_v, whole_u, whole_v, whole_w, gap_whole}
+use Rattle.fx_winding.proofs.HalfAreas.{twice, four_times, eight_times, second_u, second_v, whole_u, whole_v, whole_w, gap_whole}
 use Rattle.fx_winding.proofs.HalfAreas.{gap_second, gap_above}
 
 -- ---- regions by their weights
@@ -21,94 +20,87 @@ use Rattle.fx_winding.proofs.HalfAreas.{gap_second, gap_above}
 abbrev pub Counts : ℤ → ℤ → ℤ → Bool → ℤ → Type 0
 Counts u v w r x = (IsIn u v w r × (x ≡ pos 1)) ⊎ ((¬ (IsIn u v w r)) × (x ≡ pos 0))
 
-counts_one : {u v w x : ℤ} {r : Bool} → Counts u v w r x → IsIn u v w r → x ≡ pos 1
-counts_one (inl (h, e)) k = e
-counts_one (inr (n, e)) k = absurd (n k)
+-- the same by the signs of the weights and of the gap
+record IsCount (u v w gap : ℤ) (r : Bool) (x : ℤ) : Type 0 where
+  inner : pos 0 <ℤ u → pos 0 <ℤ v → pos 0 <ℤ w → pos 0 <ℤ gap → x ≡ pos 1
+  on : v ≡ pos 0 → pos 0 <ℤ u → pos 0 <ℤ w → r ≡ true → x ≡ pos 1
+  off : v ≡ pos 0 → r ≡ false → x ≡ pos 0
+  no_u : u ≤ℤ pos 0 → x ≡ pos 0
+  no_v : v <ℤ pos 0 → x ≡ pos 0
+  no_w : w ≤ℤ pos 0 → x ≡ pos 0
+  no_gap : pos 0 <ℤ v → gap ≤ℤ pos 0 → x ≡ pos 0
 
-counts_none : {u v w x : ℤ} {r : Bool} → Counts u v w r x → ¬ (IsIn u v w r) → x ≡ pos 0
-counts_none (inl (h, e)) n = absurd (n h)
-counts_none (inr (k, e)) n = e
+count : {u v w gap x : ℤ} {r : Bool} → gap_of u v w ≡ gap → Counts u v w r x → IsCount u v w gap r x
+count {u} {v} {w} {gap} {x} {r} e h = by u v w (gap_of u v w) gap x r e h
+  where
+    by : (u v w q gap x : ℤ) (r : Bool) → q ≡ gap
+        → ((((pos 0 <ℤ u) × (pos 0 <ℤ v) × (pos 0 <ℤ w) × (pos 0 <ℤ q))
+        ⊎ ((v ≡ pos 0) × (pos 0 <ℤ u) × (pos 0 <ℤ w) × (r ≡ true))) × (x ≡ pos 1))
+        ⊎ ((¬ (((pos 0 <ℤ u) × (pos 0 <ℤ v) × (pos 0 <ℤ w) × (pos 0 <ℤ q))
+        ⊎ ((v ≡ pos 0) × (pos 0 <ℤ u) × (pos 0 <ℤ w) × (r ≡ true)))) × (x ≡ pos 0)) → IsCount u v w gap r x
+    by u v w q gap x r e h = grind (arith, signed_linear)
 
--- regions that have the same places count the same
-counts_same : {u v w x u' v' w' x' : ℤ} {r r' : Bool} → Counts u v w r x → Counts u' v' w' r' x'
-    → (IsIn u v w r → IsIn u' v' w' r') → (IsIn u' v' w' r' → IsIn u v w r) → x' ≡ x
-counts_same (inl (h, e)) c to from = counts_one c (to h) ∙ sym e
-counts_same (inr (n, e)) c to from = counts_none c (λ h. n (from h)) ∙ sym e
+-- what the regions of an arc and of its halves count at a place with the weights e, f and g in the first half
+record AreCounted (e f g : ℤ) (r r1 r2 : Bool) (x x1 x2 : ℤ) : Type 0 where
+  whole : IsCount (whole_u e f g) (whole_v f g) (whole_w g) (twice (eight_times (gap_of e f g))) r x
+  first : IsCount e f g (gap_of e f g) r1 x1
+  second : IsCount (second_u e f g) (second_v e f) e (gap_of e f g) r2 x2
 
--- the third weight from the others: the gap is above zero only with both of one sign
+-- the first weight from the third: the gap is above zero only with both of one sign
 first_strictly : (u v w : ℤ) → pos 0 <ℤ w → pos 0 <ℤ gap_of u v w → pos 0 <ℤ u
 first_strictly u v w h g = third_strictly w v u h (rw (gap_back u v w) g)
 
-gap_of_whole : (e f g : ℤ) → pos 0 <ℤ gap_of e f g → pos 0 <ℤ gap_of (whole_u e f g) (whole_v f g) (whole_w g)
-gap_of_whole e f g h = let t = gap_whole e f g in omega (arith, signed_linear, t, h)
+-- beyond the chord of the first half, only its region counts
+beyond_first : {e f g x x1 x2 : ℤ} {r r1 r2 : Bool} → AreCounted e f g r r1 r2 x x1 x2 → pos 0 <ℤ f → x1 +ℤ x2 ≡ x
+beyond_first {e} {f} {g} {x} {x1} {x2} c hf = omega (arith, signed_linear, none, same)
+  where
+    none : x2 ≡ pos 0
+    none = by_lt_z (pos 0) e (λ k. c.second.no_v (omega (arith, signed_linear, k, hf))) (λ k. c.second.no_w k)
 
-gap_from_whole : (e f g : ℤ) → pos 0 <ℤ gap_of (whole_u e f g) (whole_v f g) (whole_w g) → pos 0 <ℤ gap_of e f g
-gap_from_whole e f g h = let t = gap_whole e f g in omega (arith, signed_linear, t, h)
+    above : pos 0 <ℤ g → x1 ≡ x
+    above k = by_lt_z (pos 0) (gap_of e f g)
+        (λ l. let m = first_strictly e f g k l in c.first.inner m hf k l
+        ∙ sym (c.whole.inner (omega (arith, signed_linear, m, hf, k))
+        (omega (arith, signed_linear, hf, k)) (omega (arith, signed_linear, k)) (omega (arith, signed_linear, l))))
+        (λ l. c.first.no_gap hf l ∙ sym (c.whole.no_gap (omega (arith, signed_linear, hf, k)) (omega (arith, signed_linear, l))))
 
--- no place left of the chord from the join is in the first region, and so on
-not_first : (e f g : ℤ) (r : Bool) → f <ℤ pos 0 → ¬ (IsIn e f g r)
-not_first e f g r h (inl (hu, hv, hw, q)) = omega (arith, signed_linear, h, hv)
-not_first e f g r h (inr (hv, hu, hw, q)) = omega (arith, signed_linear, h, hv)
+    same : x1 ≡ x
+    same = by_lt_z (pos 0) g above (λ k. c.first.no_w k ∙ sym (c.whole.no_w (omega (arith, signed_linear, k))))
 
-not_second : (e f g : ℤ) (r : Bool) → pos 0 <ℤ (four_times e +ℤ f) → ¬ (IsIn (second_u e f g) (second_v e f) e r)
-not_second e f g r h (inl (hu, hv, hw, q)) = omega (arith, signed_linear, h, hv)
-not_second e f g r h (inr (hv, hu, hw, q)) = omega (arith, signed_linear, h, hv)
+-- beyond the chord of the second half, only its region counts
+beyond_second : {e f g x x1 x2 : ℤ} {r r1 r2 : Bool} → AreCounted e f g r r1 r2 x x1 x2 → (four_times e +ℤ f) <ℤ pos 0
+    → x1 +ℤ x2 ≡ x
+beyond_second {e} {f} {g} {x} {x1} {x2} c h = omega (arith, signed_linear, none, same)
+  where
+    none : x1 ≡ pos 0
+    none = by_lt_z (pos 0) e (λ k. c.first.no_v (omega (arith, signed_linear, k, h))) (λ k. c.first.no_u k)
 
--- strictly within the arc
-whole_in : (e f g : ℤ) (r : Bool) → pos 0 <ℤ e → pos 0 <ℤ g → pos 0 <ℤ (f +ℤ g) → pos 0 <ℤ second_u e f g → pos 0 <ℤ gap_of e f g
-    → IsIn (whole_u e f g) (whole_v f g) (whole_w g) r
-whole_in e f g r he hg hv hu q =
-    inl (omega (arith, signed_linear, hu), omega (arith, signed_linear, hv), omega (arith, signed_linear, hg), gap_of_whole e f g q)
+    inner : pos 0 <ℤ second_u e f g → pos 0 <ℤ gap_of e f g → x2 ≡ x
+    inner k l = by_lt_z (pos 0) e
+        (λ m. let n = third_strictly e f g m l in c.second.inner k (omega (arith, signed_linear, h)) m l
+        ∙ sym (c.whole.inner (omega (arith, signed_linear, k)) (omega (arith, signed_linear, h, k))
+        (omega (arith, signed_linear, n)) (omega (arith, signed_linear, l))))
+        (λ m. c.second.no_w m ∙ sym (c.whole.no_w (by_lt_z (pos 0) g
+        (λ n. absurd (let o = first_strictly e f g n l in omega (arith, signed_linear, o, m)))
+        (λ n. omega (arith, signed_linear, n)))))
 
--- ---- beyond the chord of the first half, only its region counts
-first_from_whole : (e f g : ℤ) (r r1 : Bool) → pos 0 <ℤ f → IsIn (whole_u e f g) (whole_v f g) (whole_w g) r → IsIn e f g r1
-first_from_whole e f g r r1 hf (inl (hu, hv, hw, q)) =
-    let k = gap_from_whole e f g q in
-    let hg : pos 0 <ℤ g = omega (arith, signed_linear, hw) in
-    inl (first_strictly e f g hg k, hf, hg, k)
-first_from_whole e f g r r1 hf (inr (hv, hu, hw, q)) = absurd (omega (arith, signed_linear, hf, hv, hw))
+    same : x2 ≡ x
+    same = by_lt_z (pos 0) (second_u e f g)
+        (λ k. by_lt_z (pos 0) (gap_of e f g) (inner k) (λ l. c.second.no_gap (omega (arith, signed_linear, h)) l
+        ∙ sym (c.whole.no_gap (omega (arith, signed_linear, h, k)) (omega (arith, signed_linear, l)))))
+        (λ k. c.second.no_u k ∙ sym (c.whole.no_u (omega (arith, signed_linear, k))))
 
-whole_from_first : (e f g : ℤ) (r r1 : Bool) → pos 0 <ℤ f → IsIn e f g r1 → IsIn (whole_u e f g) (whole_v f g) (whole_w g) r
-whole_from_first e f g r r1 hf (inl (he, k, hg, q)) =
-    whole_in e f g r he hg (omega (arith, signed_linear, hf, hg)) (omega (arith, signed_linear, he, hf, hg)) q
-whole_from_first e f g r r1 hf (inr (k, he, hg, q)) = absurd (omega (arith, signed_linear, hf, k))
+-- on the other side of the arc's chord nothing counts
+under_chord : {e f g x x1 x2 : ℤ} {r r1 r2 : Bool} → AreCounted e f g r r1 r2 x x1 x2 → (f +ℤ g) <ℤ pos 0 → x1 +ℤ x2 ≡ x
+under_chord {e} {f} {g} {x} {x1} {x2} c h =
+    omega (arith, signed_linear, first, second, c.whole.no_v (omega (arith, signed_linear, h)))
+  where
+    first : x1 ≡ pos 0
+    first = by_lt_z f (pos 0) (λ k. c.first.no_v k) (λ k. c.first.no_w (omega (arith, signed_linear, h, k)))
 
-not_second_later : (e f g : ℤ) (r : Bool) → pos 0 <ℤ f → ¬ (IsIn (second_u e f g) (second_v e f) e r)
-not_second_later e f g r hf (inl (hu, hv, hw, q)) = omega (arith, signed_linear, hf, hv, hw)
-not_second_later e f g r hf (inr (hv, hu, hw, q)) = omega (arith, signed_linear, hf, hv, hw)
-
--- ---- beyond the chord of the second half, only its region counts
-second_from_whole : (e f g : ℤ) (r r2 : Bool) → (four_times e +ℤ f) <ℤ pos 0 → IsIn (whole_u e f g) (whole_v f g) (whole_w g) r
-    → IsIn (second_u e f g) (second_v e f) e r2
-second_from_whole e f g r r2 h (inl (hu, hv, hw, q)) =
-    let k = gap_from_whole e f g q in
-    let hg : pos 0 <ℤ g = omega (arith, signed_linear, hw) in
-    inl (omega (arith, signed_linear, hu), omega (arith, signed_linear, h), first_strictly e f g hg k, rw (gap_second e f g) k)
-second_from_whole e f g r r2 h (inr (hv, hu, hw, q)) = absurd (omega (arith, signed_linear, h, hv, hu))
-
-whole_from_second : (e f g : ℤ) (r r2 : Bool) → (four_times e +ℤ f) <ℤ pos 0 → IsIn (second_u e f g) (second_v e f) e r2
-    → IsIn (whole_u e f g) (whole_v f g) (whole_w g) r
-whole_from_second e f g r r2 h (inl (hu, hv, he, q)) =
-    let k : pos 0 <ℤ gap_of e f g = rw (← gap_second e f g) q in
-    whole_in e f g r he (third_strictly e f g he k) (omega (arith, signed_linear, hu, hv)) hu k
-whole_from_second e f g r r2 h (inr (hv, hu, he, q)) = absurd (omega (arith, signed_linear, h, hv))
-
-not_first_later : (e f g : ℤ) (r : Bool) → (four_times e +ℤ f) <ℤ pos 0 → ¬ (IsIn e f g r)
-not_first_later e f g r h (inl (hu, hv, hw, q)) = omega (arith, signed_linear, h, hu, hv)
-not_first_later e f g r h (inr (hv, hu, hw, q)) = omega (arith, signed_linear, h, hu, hv)
-
--- ---- on the other side of the arc's chord nothing counts
-not_whole : (e f g : ℤ) (r : Bool) → (f +ℤ g) <ℤ pos 0 → ¬ (IsIn (whole_u e f g) (whole_v f g) (whole_w g) r)
-not_whole e f g r h (inl (hu, hv, hw, q)) = omega (arith, signed_linear, h, hv)
-not_whole e f g r h (inr (hv, hu, hw, q)) = omega (arith, signed_linear, h, hv)
-
-not_first_under : (e f g : ℤ) (r : Bool) → (f +ℤ g) <ℤ pos 0 → ¬ (IsIn e f g r)
-not_first_under e f g r h (inl (hu, hv, hw, q)) = omega (arith, signed_linear, h, hv, hw)
-not_first_under e f g r h (inr (hv, hu, hw, q)) = omega (arith, signed_linear, h, hv, hw)
-
-not_second_under : (e f g : ℤ) (r : Bool) → (f +ℤ g) <ℤ pos 0 → ¬ (IsIn (second_u e f g) (second_v e f) e r)
-not_second_under e f g r h (inl (hu, hv, hw, q)) = omega (arith, signed_linear, h, hu, hv)
-not_second_under e f g r h (inr (hv, hu, hw, q)) = omega (arith, signed_linear, h, hu, hv)
+    second : x2 ≡ pos 0
+    second = by_lt_z (pos 0) (four_times e +ℤ f) (λ k. c.second.no_v (omega (arith, signed_linear, k)))
+        (λ k. c.second.no_u (omega (arith, signed_linear, h, k)))
 
 -- ---- whether an arc is right of its chord, by the heights of its start, control point and end
 pub record IsRight (a b c : ℤ) (r : Bool) : Type 0 where
@@ -117,230 +109,201 @@ pub record IsRight (a b c : ℤ) (r : Bool) : Type 0 where
   pub above : a ≡ c → a <ℤ b → r ≡ true
   pub below : a ≡ c → b ≤ℤ a → r ≡ false
 
--- on the chord of the first half, strictly between its ends
-first_on_chord : (e f g : ℤ) (r : Bool) → f ≡ pos 0 → pos 0 <ℤ e → pos 0 <ℤ g → r ≡ true → IsIn e f g r
-first_on_chord e f g r hf he hg t = inr (hf, he, hg, t)
+-- so on the side from a to j, from which the third corner c lies to the other side than m
+beside_first : (a m j c s : ℤ) (r : Bool) → OnSide a j c s → IsRight a m j r → (a ≡ j → (a <ℤ c → m ≤ℤ a) × (c ≤ℤ a → a <ℤ m))
+    → ((r ≡ true) × (s ≡ pos 0)) ⊎ ((r ≡ false) × (s ≡ pos 1))
+beside_first a m j c s r o h k = grind (arith, ints)
 
-first_off_chord : (e f g : ℤ) (r : Bool) → f ≡ pos 0 → r ≡ false → ¬ (IsIn e f g r)
-first_off_chord e f g r hf t (inl (hu, hv, hw, q)) = omega (arith, signed_linear, hf, hv)
-first_off_chord e f g r hf t (inr (hv, hu, hw, q)) = clash r t q
+-- and on the side from c to a, from which the third corner j lies to the side of b
+beside_chord : (c a j b s : ℤ) (r : Bool) → OnSide c a j s → IsRight a b c r → (c ≡ a → (c <ℤ j → a <ℤ b) × (j ≤ℤ c → b ≤ℤ a))
+    → ((r ≡ true) × (s ≡ pos 1)) ⊎ ((r ≡ false) × (s ≡ pos 0))
+beside_chord c a j b s r o h k = grind (arith, ints)
 
-second_off_chord : (e f g : ℤ) (r : Bool) → four_times e +ℤ f ≡ pos 0 → r ≡ false → ¬ (IsIn (second_u e f g) (second_v e f) e r)
-second_off_chord e f g r hf t (inl (hu, hv, hw, q)) = omega (arith, signed_linear, hf, hv)
-second_off_chord e f g r hf t (inr (hv, hu, hw, q)) = clash r t q
-
-whole_off_chord : (e f g : ℤ) (r : Bool) → f +ℤ g ≡ pos 0 → r ≡ false → ¬ (IsIn (whole_u e f g) (whole_v f g) (whole_w g) r)
-whole_off_chord e f g r hf t (inl (hu, hv, hw, q)) = omega (arith, signed_linear, hf, hv)
-whole_off_chord e f g r hf t (inr (hv, hu, hw, q)) = clash r t q
+-- no gap at the ends of an arc
+pub no_gap : (u v w : ℤ) → (u ≡ pos 0) ⊎ (w ≡ pos 0) → v ≡ pos 0 → gap_of u v w ≡ pos 0
+no_gap u v w (inl eu) ev = (λ i. gap_of (eu i) (ev i) w)
+    ∙ ring (w ∷ []) (num (pos 4) ⊠ (num (pos 0) ⊠ var 0) ⊟ num (pos 0) ⊠ num (pos 0)) (num (pos 0)) tt
+no_gap u v w (inr ew) ev = (λ i. gap_of u (ev i) (ew i))
+    ∙ ring (u ∷ []) (num (pos 4) ⊠ (var 0 ⊠ num (pos 0)) ⊟ num (pos 0) ⊠ num (pos 0)) (num (pos 0)) tt
 
 -- ---- the sum
-total : {s x y z : ℤ} {k l m : ℤ} → s ≡ k → x ≡ l → y ≡ m → z ≡ k +ℤ (l +ℤ m) → s +ℤ (x +ℤ y) ≡ z
-total es ex ey ez = (λ i. es i +ℤ (ex i +ℤ ey i)) ∙ sym ez
+-- an arc and its halves by the heights of their points and of the place, with the place's weights in the first half
+pub record AreHalves (a m j b n c p e f g : ℤ) : Type 0 where
+  pub b_is : b ≡ (m +ℤ m) -ℤ a
+  pub n_is : n ≡ (j +ℤ j) -ℤ m
+  pub c_is : c ≡ (n +ℤ n) -ℤ b
+  pub balanced : AreBalanced a j c p (four_times e +ℤ f) (whole_v f g) (neg_ℤ f)
+  pub some : pos 0 <ℤ ((e +ℤ f) +ℤ g)
+  pub bent : ¬ ((a ≡ m) × (a ≡ j))
+  pub off_first : ¬ (AreOnArc e f g)
+  pub off_second : ¬ (AreOnArc (second_u e f g) (second_v e f) e)
 
-pub sum_of_halves : (a m j b n c p e f g x x1 x2 : ℤ) (r r1 r2 : Bool) → b ≡ (m +ℤ m) -ℤ a → n ≡ (j +ℤ j) -ℤ m → c ≡ (n +ℤ n) -ℤ b
-    → AreBalanced a j c p (four_times e +ℤ f) (whole_v f g) (neg_ℤ f) → pos 0 <ℤ ((e +ℤ f) +ℤ g) → ¬ ((a ≡ m) × (a ≡ j))
-    → ¬ (AreOnArc e f g) → ¬ (AreOnArc (second_u e f g) (second_v e f) e)
-    → IsRight a b c r → IsRight a m j r1 → IsRight j n c r2 → Counts (whole_u e f g) (whole_v f g) (whole_w g) r x
-    → Counts e f g r1 x1
-    → Counts (second_u e f g) (second_v e f) e r2 x2
-    → around a j c p (four_times e +ℤ f) (whole_v f g) (neg_ℤ f) +ℤ (x1 +ℤ x2) ≡ x
-sum_of_halves a m j b n c p e f g x x1 x2 r r1 r2 hb hn hc balanced some bent off1 off2 right right1 right2 c0 c1 c2 =
-    by_lt_z (pos 0) f beyond_first (λ nf. by_lt_z (four_times e +ℤ f) (pos 0) beyond_second
-    (λ nu. by_lt_z (f +ℤ g) (pos 0) under (λ nv. triangle nf nu nv)))
+-- the sum around the triangle of the ends and the join
+abbrev pub sides : ℤ → ℤ → ℤ → ℤ → ℤ → ℤ → ℤ → ℤ
+sides a j c p e f g = around a j c p (four_times e +ℤ f) (whole_v f g) (neg_ℤ f)
+
+-- within the triangle
+within_triangle : {a m j b n c p e f g x x1 x2 : ℤ} {r r1 r2 : Bool} → AreHalves a m j b n c p e f g
+    → AreCounted e f g r r1 r2 x x1 x2 → f <ℤ pos 0 → pos 0 <ℤ (four_times e +ℤ f) → pos 0 <ℤ (f +ℤ g)
+    → sides a j c p e f g +ℤ (x1 +ℤ x2) ≡ x
+within_triangle {a} {m} {j} {b} {n} {c} {p} {e} {f} {g} h k lf hu hv =
+    let q = gap_above e f g (omega (arith, signed_linear, lf)) (omega (arith, signed_linear, hu)) hv
+    (omega (arith, signed_linear, lf, hu)) in
+    omega (
+      arith,
+      signed_linear,
+      around_inside a j c p (four_times e +ℤ f) (whole_v f g) (neg_ℤ f) h.balanced hu
+          (omega (arith, signed_linear, hv)) (omega (arith, signed_linear, lf)) level,
+      k.first.no_v lf,
+      k.second.no_v (omega (arith, signed_linear, hu)),
+      k.whole.inner (omega (arith, signed_linear, hu, hv))
+          (omega (arith, signed_linear, hv)) (omega (arith, signed_linear, lf, hv)) (omega (arith, signed_linear, q)),
+    )
   where
-    all_some : pos 0 <ℤ ((four_times e +ℤ f) +ℤ whole_v f g +ℤ neg_ℤ f)
-    all_some = omega (arith, signed_linear, some)
+    level : ¬ ((a ≡ j) × (j ≡ c))
+    level l = h.bent (omega (arith, signed_linear, l, h.b_is, h.n_is, h.c_is))
 
-    outside : ((four_times e +ℤ f) <ℤ pos 0) ⊎ ((whole_v f g <ℤ pos 0) ⊎ (neg_ℤ f <ℤ pos 0))
-        → around a j c p (four_times e +ℤ f) (whole_v f g) (neg_ℤ f) ≡ pos 0
-    outside out = around_outside a j c p (four_times e +ℤ f) (whole_v f g) (neg_ℤ f) balanced all_some out
+-- on the arc's chord, between its ends
+on_chord : {a m j b n c p e f g x x1 x2 : ℤ} {r r1 r2 : Bool} → AreHalves a m j b n c p e f g → AreCounted e f g r r1 r2 x x1 x2
+    → IsRight a b c r → f <ℤ pos 0 → pos 0 <ℤ (four_times e +ℤ f) → f +ℤ g ≡ pos 0 → sides a j c p e f g +ℤ (x1 +ℤ x2) ≡ x
+on_chord {a} {m} {j} {b} {n} {c} {p} {e} {f} {g} {x} {x1} {x2} {r} h k right lf hu zv =
+    by (beside_chord c a j b _ r (around_side c a j p (neg_ℤ f) (four_times e +ℤ f) (whole_v f g)
+    (omega (arith, signed_linear, h.balanced)) (omega (arith, signed_linear, lf)) hu (omega (arith, signed_linear, zv))) right
+    (λ l. omega (arith, signed_linear, l, h.b_is, h.n_is, h.c_is)))
+  where
+    turned : sides a j c p e f g ≡ around c a j p (neg_ℤ f) (four_times e +ℤ f) (whole_v f g)
+    turned = around_turned a j c p (four_times e +ℤ f) (whole_v f g) (neg_ℤ f)
+        ∙ around_turned j c a p (whole_v f g) (neg_ℤ f) (four_times e +ℤ f)
 
-    none_more : (z : ℤ) → z ≡ pos 0 +ℤ (z +ℤ pos 0)
-    none_more z = omega (arith, signed_linear)
+    none : x1 +ℤ x2 ≡ pos 0
+    none = omega (arith, signed_linear, k.first.no_v lf, k.second.no_v (omega (arith, signed_linear, hu)))
 
-    none_before : (z : ℤ) → z ≡ pos 0 +ℤ (pos 0 +ℤ z)
-    none_before z = omega (arith, signed_linear)
+    by : ((r ≡ true) × (around c a j p (neg_ℤ f) (four_times e +ℤ f) (whole_v f g) ≡ pos 1))
+        ⊎ ((r ≡ false) × (around c a j p (neg_ℤ f) (four_times e +ℤ f) (whole_v f g) ≡ pos 0))
+        → sides a j c p e f g +ℤ (x1 +ℤ x2) ≡ x
+    by (inl (t, s)) = omega (
+      arith,
+      signed_linear,
+      turned,
+      s,
+      none,
+      k.whole.on (omega (arith, signed_linear, zv))
+          (omega (arith, signed_linear, hu, zv)) (omega (arith, signed_linear, lf, zv)) t,
+    )
+    by (inr (t, s)) = omega (arith, signed_linear, turned, s, none, k.whole.off (omega (arith, signed_linear, zv)) t)
 
-    beyond_first : pos 0 <ℤ f → around a j c p (four_times e +ℤ f) (whole_v f g) (neg_ℤ f) +ℤ (x1 +ℤ x2) ≡ x
-    beyond_first hf =
-        total (outside (inr (inr (omega (arith, signed_linear, hf))))) refl (counts_none c2 (not_second_later e f g r2 hf))
-        (counts_same c1 c0 (whole_from_first e f g r r1 hf) (first_from_whole e f g r r1 hf) ∙ none_more x1)
+-- on the chord of the first half
+on_first : {a m j b n c p e f g x x1 x2 : ℤ} {r r1 r2 : Bool} → AreHalves a m j b n c p e f g → AreCounted e f g r r1 r2 x x1 x2
+    → IsRight a m j r1 → f ≡ pos 0 → pos 0 <ℤ e → pos 0 <ℤ g → sides a j c p e f g +ℤ (x1 +ℤ x2) ≡ x
+on_first {a} {m} {j} {b} {n} {c} {p} {e} {f} {g} {x} {x1} {x2} {r1 = r1} h k right zf he hg =
+    by (beside_first a m j c _ r1 (around_side a j c p (four_times e +ℤ f) (whole_v f g) (neg_ℤ f) h.balanced
+    (omega (arith, signed_linear, zf, he)) (omega (arith, signed_linear, zf, hg)) (omega (arith, signed_linear, zf))) right
+    (λ l. (
+      λ o. omega (arith, signed_linear, l, o, h.b_is, h.n_is, h.c_is),
+      λ o. by_lt_z a m (λ q. q)
+          (λ q. absurd (h.bent (omega (arith, signed_linear, l, o, q, h.b_is, h.n_is, h.c_is)))),
+    )))
+  where
+    rest : (x2 ≡ pos 0) × (x ≡ pos 1)
+    rest =
+        let q = gap_above e f g (omega (arith, signed_linear, zf)) (omega (arith, signed_linear, zf, he))
+        (omega (arith, signed_linear, zf, hg)) he in (
+          k.second.no_v (omega (arith, signed_linear, zf, he)),
+          k.whole.inner (omega (arith, signed_linear, zf, he, hg))
+              (omega (arith, signed_linear, zf, hg)) (omega (arith, signed_linear, hg)) (omega (arith, signed_linear, q)),
+        )
 
-    beyond_second : (four_times e +ℤ f) <ℤ pos 0 → around a j c p (four_times e +ℤ f) (whole_v f g) (neg_ℤ f) +ℤ (x1 +ℤ x2) ≡ x
-    beyond_second h =
-        total (outside (inl h)) (counts_none c1 (not_first_later e f g r1 h)) refl
-        (counts_same c2 c0 (whole_from_second e f g r r2 h) (second_from_whole e f g r r2 h) ∙ none_before x2)
+    by : ((r1 ≡ true) × (sides a j c p e f g ≡ pos 0)) ⊎ ((r1 ≡ false) × (sides a j c p e f g ≡ pos 1))
+        → sides a j c p e f g +ℤ (x1 +ℤ x2) ≡ x
+    by (inl (t, s)) = omega (arith, signed_linear, s, rest, k.first.on zf he hg t)
+    by (inr (t, s)) = omega (arith, signed_linear, s, rest, k.first.off zf t)
 
-    under : (f +ℤ g) <ℤ pos 0 → around a j c p (four_times e +ℤ f) (whole_v f g) (neg_ℤ f) +ℤ (x1 +ℤ x2) ≡ x
-    under h =
-        total (outside (inr (inl (omega (arith, signed_linear, h))))) (counts_none c1 (not_first_under e f g r1 h))
-        (counts_none c2 (not_second_under e f g r2 h)) (counts_none c0 (not_whole e f g r h))
+-- on the chord of the second half
+on_second : {a m j b n c p e f g x x1 x2 : ℤ} {r r1 r2 : Bool} → AreHalves a m j b n c p e f g → AreCounted e f g r r1 r2 x x1 x2
+    → IsRight j n c r2 → f <ℤ pos 0 → four_times e +ℤ f ≡ pos 0 → pos 0 <ℤ (f +ℤ g) → sides a j c p e f g +ℤ (x1 +ℤ x2) ≡ x
+on_second {a} {m} {j} {b} {n} {c} {p} {e} {f} {g} {x} {x1} {x2} {r2 = r2} h k right lf zu hv =
+    by (beside_first j n c a _ r2 (around_side j c a p (whole_v f g) (neg_ℤ f) (four_times e +ℤ f)
+    (omega (arith, signed_linear, h.balanced)) (omega (arith, signed_linear, hv)) (omega (arith, signed_linear, lf)) zu) right
+    (λ l. (
+      λ o. omega (arith, signed_linear, l, o, h.b_is, h.n_is, h.c_is),
+      λ o. by_lt_z j n (λ q. q)
+          (λ q. absurd (h.bent (omega (arith, signed_linear, l, o, q, h.b_is, h.n_is, h.c_is)))),
+    )))
+  where
+    he : pos 0 <ℤ e
+    he = omega (arith, signed_linear, lf, zu)
 
-    triangle : f ≤ℤ pos 0 → pos 0 ≤ℤ (four_times e +ℤ f) → pos 0 ≤ℤ (f +ℤ g)
-        → around a j c p (four_times e +ℤ f) (whole_v f g) (neg_ℤ f) +ℤ (x1 +ℤ x2) ≡ x
-    triangle nf nu nv =
-        by_lt_z f (pos 0)
-        (λ lf. by_lt_z (pos 0) (four_times e +ℤ f)
-        (λ hu. by_lt_z (pos 0) (f +ℤ g) (λ hv. within lf hu hv) (λ zv. chord lf hu (omega (arith, signed_linear, zv, nv))))
-        (λ zu. by_lt_z (pos 0) (f +ℤ g) (λ hv. second_chord lf (omega (arith, signed_linear, zu, nu)) hv)
-        (λ zv. absurd (at_end lf (omega (arith, signed_linear, zu, nu)) (omega (arith, signed_linear, zv, nv))))))
-        (λ zf. by_lt_z (pos 0) e
-        (λ he. by_lt_z (pos 0) g (λ hg. first_chord (omega (arith, signed_linear, zf, nf)) he hg)
-        (λ zg. absurd (at_start (omega (arith, signed_linear, zf, nf)) he (omega (arith, signed_linear, zg, nv, zf, nf)))))
-        (λ ze. absurd (at_join (omega (arith, signed_linear, zf, nf)) (omega (arith, signed_linear, ze, nu, nf, zf))
-        (omega (arith, signed_linear, nv, nf)))))
-      where
-        -- the ends and the join are on the arc
-        at_end : f <ℤ pos 0 → four_times e +ℤ f ≡ pos 0 → f +ℤ g ≡ pos 0 → ⊥
-        at_end lf zu zv =
-            let t : second_u e f g ≡ pos 0 = omega (arith, signed_linear, zu, zv) in
-            let v : second_v e f ≡ pos 0 = omega (arith, signed_linear, zu) in
-            off2 (
-              omega (arith, signed_linear, t),
-              omega (arith, signed_linear, v),
-              omega (arith, signed_linear, lf, zu),
-              (λ i. gap_of (t i) (v i) e)
-                  ∙ ring (e ∷ []) (num (pos 4) ⊠ (num (pos 0) ⊠ var 0) ⊟ num (pos 0) ⊠ num (pos 0)) (num (pos 0)) tt,
-            )
+    turned : sides a j c p e f g ≡ around j c a p (whole_v f g) (neg_ℤ f) (four_times e +ℤ f)
+    turned = around_turned a j c p (four_times e +ℤ f) (whole_v f g) (neg_ℤ f)
 
-        at_start : f ≡ pos 0 → pos 0 <ℤ e → g ≡ pos 0 → ⊥
-        at_start zf he zg =
-            off1 (
-              omega (arith, signed_linear, he),
-              omega (arith, signed_linear, zf),
-              omega (arith, signed_linear, zg),
-              (λ i. gap_of e (zf i) (zg i))
-                  ∙ ring (e ∷ []) (num (pos 4) ⊠ (var 0 ⊠ num (pos 0)) ⊟ num (pos 0) ⊠ num (pos 0)) (num (pos 0)) tt,
-            )
+    rest : (x1 ≡ pos 0) × (x ≡ pos 1)
+    rest =
+        let q = gap_above e f g (omega (arith, signed_linear, lf)) (omega (arith, signed_linear, zu)) hv he in (
+          k.first.no_v lf,
+          k.whole.inner (omega (arith, signed_linear, zu, hv)) (omega (arith, signed_linear, hv))
+              (omega (arith, signed_linear, lf, hv)) (omega (arith, signed_linear, q)),
+        )
 
-        at_join : f ≡ pos 0 → e ≡ pos 0 → pos 0 ≤ℤ g → ⊥
-        at_join zf ze hg =
-            off1 (
-              omega (arith, signed_linear, ze),
-              omega (arith, signed_linear, zf),
-              hg,
-              (λ i. gap_of (ze i) (zf i) g)
-                  ∙ ring (g ∷ []) (num (pos 4) ⊠ (num (pos 0) ⊠ var 0) ⊟ num (pos 0) ⊠ num (pos 0)) (num (pos 0)) tt,
-            )
+    by : ((r2 ≡ true) × (around j c a p (whole_v f g) (neg_ℤ f) (four_times e +ℤ f) ≡ pos 0))
+        ⊎ ((r2 ≡ false) × (around j c a p (whole_v f g) (neg_ℤ f) (four_times e +ℤ f) ≡ pos 1))
+        → sides a j c p e f g +ℤ (x1 +ℤ x2) ≡ x
+    by (inl (t, s)) = omega (
+      arith,
+      signed_linear,
+      turned,
+      s,
+      rest,
+      k.second.on (omega (arith, signed_linear, zu))
+          (omega (arith, signed_linear, zu, hv)) he t,
+    )
+    by (inr (t, s)) = omega (arith, signed_linear, turned, s, rest, k.second.off (omega (arith, signed_linear, zu)) t)
 
-        within : f <ℤ pos 0 → pos 0 <ℤ (four_times e +ℤ f) → pos 0 <ℤ (f +ℤ g)
-            → around a j c p (four_times e +ℤ f) (whole_v f g) (neg_ℤ f) +ℤ (x1 +ℤ x2) ≡ x
-        within lf hu hv =
-            let he : pos 0 <ℤ e = omega (arith, signed_linear, lf, hu) in
-            total
-            (around_inside a j c p (four_times e +ℤ f) (whole_v f g) (neg_ℤ f) balanced hu (omega (arith, signed_linear, hv))
-            (omega (arith, signed_linear, lf)) (λ k. bent (level k)))
-            (counts_none c1 (not_first e f g r1 lf)) (counts_none c2 (not_second e f g r2 hu))
-            (counts_one c0 (whole_in e f g r he (omega (arith, signed_linear, lf, hv)) hv (omega (arith, signed_linear, hu, hv))
-            (gap_above e f g nf nu hv he)))
-          where
-            level : (a ≡ j) × (j ≡ c) → (a ≡ m) × (a ≡ j)
-            level (k, l) = (omega (arith, signed_linear, k, l, hb, hn, hc), k)
+-- the ends and the join are on the arc
+no_end : {a m j b n c p e f g : ℤ} → AreHalves a m j b n c p e f g → f <ℤ pos 0 → four_times e +ℤ f ≡ pos 0 → f +ℤ g ≡ pos 0 → ⊥
+no_end {e = e} {f = f} {g = g} h lf zu zv = h.off_second (
+  omega (arith, signed_linear, zu, zv),
+  omega (arith, signed_linear, zu),
+  omega (arith, signed_linear, lf, zu),
+  no_gap (second_u e f g) (second_v e f) e (inl (omega (arith, signed_linear, zu, zv))) (omega (arith, signed_linear, zu)),
+)
 
-        -- on the arc's chord, between its ends
-        chord : f <ℤ pos 0 → pos 0 <ℤ (four_times e +ℤ f) → f +ℤ g ≡ pos 0
-            → around a j c p (four_times e +ℤ f) (whole_v f g) (neg_ℤ f) +ℤ (x1 +ℤ x2) ≡ x
-        chord lf hu zv =
-            by (around_side c a j p (neg_ℤ f) (four_times e +ℤ f) (whole_v f g) (omega (arith, signed_linear, balanced))
-            (omega (arith, signed_linear, lf)) hu (omega (arith, signed_linear, zv)))
-          where
-            turned : around a j c p (four_times e +ℤ f) (whole_v f g) (neg_ℤ f) ≡ around c a j p (neg_ℤ f) (four_times e +ℤ f)
-                (whole_v f g)
-            turned = around_turned a j c p (four_times e +ℤ f) (whole_v f g) (neg_ℤ f)
-                ∙ around_turned j c a p (whole_v f g) (neg_ℤ f) (four_times e +ℤ f)
+no_start : {a m j b n c p e f g : ℤ} → AreHalves a m j b n c p e f g → f ≡ pos 0 → pos 0 ≤ℤ e → pos 0 ≤ℤ g
+    → (e ≡ pos 0) ⊎ (g ≡ pos 0) → ⊥
+no_start {e = e} {f = f} {g = g} h zf he hg z = h.off_first (he, omega (arith, signed_linear, zf), hg, no_gap e f g z zf)
 
-            first_none : x1 ≡ pos 0
-            first_none = counts_none c1 (not_first e f g r1 lf)
+pub sum_of_halves : {a m j b n c p e f g x x1 x2 : ℤ} {r r1 r2 : Bool} → AreHalves a m j b n c p e f g → IsRight a b c r
+    → IsRight a m j r1 → IsRight j n c r2 → Counts (whole_u e f g) (whole_v f g) (whole_w g) r x → Counts e f g r1 x1
+    → Counts (second_u e f g) (second_v e f) e r2 x2 → sides a j c p e f g +ℤ (x1 +ℤ x2) ≡ x
+sum_of_halves {a} {m} {j} {b} {n} {c} {p} {e} {f} {g} {x} {x1} {x2} {r} {r1} {r2} h right right1 right2 c0 c1 c2 =
+    by_lt_z (pos 0) f (λ k. beyond (inr (inr (omega (arith, signed_linear, k)))) (beyond_first all k))
+    (λ nf. by_lt_z (four_times e +ℤ f) (pos 0) (λ k. beyond (inl k) (beyond_second all k))
+    (λ nu. by_lt_z (f +ℤ g) (pos 0) (λ k. beyond (inr (inl (omega (arith, signed_linear, k)))) (under_chord all k))
+    (λ nv. by_lt_z f (pos 0) (λ lf. below lf nu nv) (λ zf. level (omega (arith, signed_linear, nf, zf)) nu nv))))
+  where
+    all : AreCounted e f g r r1 r2 x x1 x2
+    all = record { whole = count (gap_whole e f g) c0; first = count refl c1; second = count (gap_second e f g) c2 }
 
-            second_none : x2 ≡ pos 0
-            second_none = counts_none c2 (not_second e f g r2 hu)
+    beyond : ((four_times e +ℤ f) <ℤ pos 0) ⊎ ((whole_v f g <ℤ pos 0) ⊎ (neg_ℤ f <ℤ pos 0)) → x1 +ℤ x2 ≡ x
+        → sides a j c p e f g +ℤ (x1 +ℤ x2) ≡ x
+    beyond out s = omega (
+      arith,
+      signed_linear,
+      s,
+      around_outside a j c p (four_times e +ℤ f) (whole_v f g) (neg_ℤ f) h.balanced
+          (omega (arith, signed_linear, h.some)) out,
+    )
 
-            one : r ≡ true → x ≡ pos 1
-            one t = counts_one c0 (inr (
-              omega (arith, signed_linear, zv),
-              omega (arith, signed_linear, hu, zv),
-              omega (arith, signed_linear, lf, zv),
-              t,
-            ))
+    below : f <ℤ pos 0 → pos 0 ≤ℤ (four_times e +ℤ f) → pos 0 ≤ℤ (f +ℤ g) → sides a j c p e f g +ℤ (x1 +ℤ x2) ≡ x
+    below lf nu nv = by_lt_z (pos 0) (four_times e +ℤ f)
+        (λ hu. by_lt_z (pos 0) (f +ℤ g) (λ hv. within_triangle h all lf hu hv)
+        (λ zv. on_chord h all right lf hu (omega (arith, signed_linear, nv, zv))))
+        (λ zu. by_lt_z (pos 0) (f +ℤ g) (λ hv. on_second h all right2 lf (omega (arith, signed_linear, nu, zu)) hv)
+        (λ zv. absurd (no_end h lf (omega (arith, signed_linear, nu, zu)) (omega (arith, signed_linear, nv, zv)))))
 
-            no_one : r ≡ false → x ≡ pos 0
-            no_one t = counts_none c0 (whole_off_chord e f g r zv t)
-
-            by : OnSide c a j (around c a j p (neg_ℤ f) (four_times e +ℤ f) (whole_v f g))
-                → around a j c p (four_times e +ℤ f) (whole_v f g) (neg_ℤ f) +ℤ (x1 +ℤ x2) ≡ x
-            by (inl (h, s)) = total (turned ∙ s) first_none second_none (no_one (right.down h))
-            by (inr (inl (h, s))) = total (turned ∙ s) first_none second_none (one (right.up h))
-            by (inr (inr (inl (h, k, s)))) = total (turned ∙ s) first_none second_none
-                (one (right.above (sym h) (omega (arith, signed_linear, h, k, hb, hn, hc))))
-            by (inr (inr (inr (h, k, s)))) = total (turned ∙ s) first_none second_none
-                (no_one (right.below (sym h) (omega (arith, signed_linear, h, k, hb, hn, hc))))
-
-        -- on the chord of the first half
-        first_chord : f ≡ pos 0 → pos 0 <ℤ e → pos 0 <ℤ g
-            → around a j c p (four_times e +ℤ f) (whole_v f g) (neg_ℤ f) +ℤ (x1 +ℤ x2) ≡ x
-        first_chord zf he hg =
-            by (around_side a j c p (four_times e +ℤ f) (whole_v f g) (neg_ℤ f) balanced (omega (arith, signed_linear, zf, he))
-            (omega (arith, signed_linear, zf, hg)) (omega (arith, signed_linear, zf)))
-          where
-            second_none : x2 ≡ pos 0
-            second_none = counts_none c2 (not_second e f g r2 (omega (arith, signed_linear, zf, he)))
-
-            whole_one : x ≡ pos 1
-            whole_one = counts_one c0 (whole_in e f g r he hg (omega (arith, signed_linear, zf, hg))
-                (omega (arith, signed_linear, zf, he, hg))
-                (gap_above e f g nf nu (omega (arith, signed_linear, zf, hg)) he))
-
-            one : r1 ≡ true → x1 ≡ pos 1
-            one t = counts_one c1 (first_on_chord e f g r1 zf he hg t)
-
-            no_one : r1 ≡ false → x1 ≡ pos 0
-            no_one t = counts_none c1 (first_off_chord e f g r1 zf t)
-
-            by : OnSide a j c (around a j c p (four_times e +ℤ f) (whole_v f g) (neg_ℤ f))
-                → around a j c p (four_times e +ℤ f) (whole_v f g) (neg_ℤ f) +ℤ (x1 +ℤ x2) ≡ x
-            by (inl (h, s)) = total s (one (right1.up h)) second_none whole_one
-            by (inr (inl (h, s))) = total s (no_one (right1.down h)) second_none whole_one
-            by (inr (inr (inl (h, k, s)))) =
-                total s (no_one (right1.below h (omega (arith, signed_linear, h, k, hb, hn, hc)))) second_none whole_one
-            by (inr (inr (inr (h, k, s)))) = by_lt_z a m (λ l. total s (one (right1.above h l)) second_none whole_one)
-                (λ l. absurd (bent (omega (arith, signed_linear, h, k, l, hb, hn, hc), h)))
-
-        -- on the chord of the second half
-        second_chord : f <ℤ pos 0 → four_times e +ℤ f ≡ pos 0 → pos 0 <ℤ (f +ℤ g)
-            → around a j c p (four_times e +ℤ f) (whole_v f g) (neg_ℤ f) +ℤ (x1 +ℤ x2) ≡ x
-        second_chord lf zu hv =
-            by (around_side j c a p (whole_v f g) (neg_ℤ f) (four_times e +ℤ f) (omega (arith, signed_linear, balanced))
-            (omega (arith, signed_linear, hv)) (omega (arith, signed_linear, lf)) zu)
-          where
-            turned : around a j c p (four_times e +ℤ f) (whole_v f g) (neg_ℤ f) ≡ around j c a p (whole_v f g) (neg_ℤ f)
-                (four_times e +ℤ f)
-            turned = around_turned a j c p (four_times e +ℤ f) (whole_v f g) (neg_ℤ f)
-
-            first_none : x1 ≡ pos 0
-            first_none = counts_none c1 (not_first e f g r1 lf)
-
-            e_above : pos 0 <ℤ e
-            e_above = omega (arith, signed_linear, lf, zu)
-
-            whole_one : x ≡ pos 1
-            whole_one = counts_one c0 (whole_in e f g r e_above (omega (arith, signed_linear, lf, hv)) hv
-                (omega (arith, signed_linear, zu, hv)) (gap_above e f g nf nu hv e_above))
-
-            one : r2 ≡ true → x2 ≡ pos 1
-            one t = counts_one c2 (inr (omega (arith, signed_linear, zu), omega (arith, signed_linear, zu, hv), e_above, t))
-
-            no_one : r2 ≡ false → x2 ≡ pos 0
-            no_one t = counts_none c2 (second_off_chord e f g r2 zu t)
-
-            by : OnSide j c a (around j c a p (whole_v f g) (neg_ℤ f) (four_times e +ℤ f))
-                → around a j c p (four_times e +ℤ f) (whole_v f g) (neg_ℤ f) +ℤ (x1 +ℤ x2) ≡ x
-            by (inl (h, s)) = total (turned ∙ s) first_none (one (right2.up h)) whole_one
-            by (inr (inl (h, s))) = total (turned ∙ s) first_none (no_one (right2.down h)) whole_one
-            by (inr (inr (inl (h, k, s)))) =
-                total (turned ∙ s) first_none (no_one (right2.below h (omega (arith, signed_linear, h, k, hb, hn, hc)))) whole_one
-            by (inr (inr (inr (h, k, s)))) = by_lt_z j n (λ l. total (turned ∙ s) first_none (one (right2.above h l)) whole_one)
-                (λ l. absurd (bent (
-                  omega (arith, signed_linear, h, k, l, hb, hn, hc),
-                  omega
-                      (arith, signed_linear, h, k, l, hb, hn, hc),
-                )))
+    level : f ≡ pos 0 → pos 0 ≤ℤ (four_times e +ℤ f) → pos 0 ≤ℤ (f +ℤ g) → sides a j c p e f g +ℤ (x1 +ℤ x2) ≡ x
+    level zf nu nv = by_lt_z (pos 0) e
+        (λ he. by_lt_z (pos 0) g (λ hg. on_first h all right1 zf he hg)
+        (λ zg. absurd (no_start h zf (omega (arith, signed_linear, zf, nu)) (omega (arith, signed_linear, zf, nv))
+        (inr (omega (arith, signed_linear, zf, nv, zg))))))
+        (λ ze. absurd (no_start h zf (omega (arith, signed_linear, zf, nu)) (omega (arith, signed_linear, zf, nv))
+        (inl (omega (arith, signed_linear, zf, nu, ze)))))

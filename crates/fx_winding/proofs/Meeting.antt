@@ -1,22 +1,22 @@
 -- The segments that a piece meets.
 -- Serves the law `meeting`, and `fx_dropout`, which asks no piece that lies beside a row.
-use Rattle.std.proofs.Common.{◌≡◌, ◌≢◌, refl, sym, ap, ◌∙◌, ◌⊎◌, inl, inr, ℕ, zero, suc, ℤ, pos, negsuc, ◌+ℤ◌, ◌-ℤ◌, ◌*ℤ◌}
+use Rattle.std.proofs.Common.{◌≡◌, ◌≢◌, sym, ap, ◌∙◌, ◌⊎◌, inl, inr, ℤ, pos, ◌+ℤ◌, ◌-ℤ◌, ◌*ℤ◌}
 use Rattle.std.proofs.Common.{◌<ℤ◌, ◌↔◌, neg_ℤ, ◌≤ℤ◌, [], ◌∷◌, Option, Some, None, option_map, List, arith}
 use Rattle.std.proofs.lemmas.Int.{ints}
-use Rattle.fx_fixed.specs.Polynomial.{var, num, ◌⊞◌, ◌⊠◌, ◌⊟◌}
+use Rattle.fx_fixed.specs.Polynomial.{var, ◌⊞◌, ◌⊠◌, ◌⊟◌}
 use Rattle.fx_fixed.proofs.Ring.{ring}
 use Rattle.fx_fixed.proofs.Linear.{signed_linear}
 use Rattle.fx_fixed.proofs.Signs.{product_above_zero}
-use Rattle.fx_winding.specs.Area.{Place, area_of}
-use Rattle.fx_winding.specs.Winding.{Span, crossing, region, region_part, winding, IsAboveLow, IsBelowHigh, IsCovered}
+use Rattle.fx_winding.specs.Area.{Place, area, area_of}
+use Rattle.fx_winding.specs.Winding.{Span, crossing, region, region_part, winding, IsCovered}
 use Rattle.fx_winding.specs.Moves.{reversed, shifted_place, shifted}
 use Rattle.fx_winding.specs.Meets.{turn, slope, IsWithinRow, IsReached, IsTipPart, IsMet, IsBetweenEnds, ReversalMeets, ShiftMeets}
 use Rattle.fx_winding.specs.Meets.{CrossingsCancel, InnerMeets, LinesAreMet}
-use Rattle.fx_winding.proofs.Crossings.{crossing_number}
+use Rattle.fx_winding.proofs.Crossings.{crossing_number, area_turn}
 use Rattle.fx_winding.specs.Outside.{HasAll, OptionAll}
 use Rattle.fx_winding.proofs.Beside.{HasAll-weaker, under_off, over_off}
-use Rattle.fx_winding.proofs.Triangle.{area_expr, not_below_range, not_above_range}
-use Rattle.fx_winding.proofs.Reversal.{minus_sum, turn_back, none_back, region_part_back, reversal_negates}
+use Rattle.fx_winding.proofs.Triangle.{area_expr, at, coordinates, slope_at, not_below_range, not_above_range}
+use Rattle.fx_winding.proofs.Reversal.{minus_sum, low_back, high_back, none_back, region_part_back, reversal_negates}
 use Rattle.fx_winding.proofs.Shifts.{area_shift, crossing_shift, region_part_shift, low_shift, high_shift}
 
 -- ---- reversed
@@ -28,31 +28,12 @@ added_back p s =
     let k = reversal_negates p s in (λ i. k.1 i +ℤ k.2 i) ∙ sym (minus_sum (crossing p s) (region p s))
 
 reached_back : (a b c p : ℤ) → IsReached a b c p → IsReached c b a p
-reached_back a b c p (inl (l, r, h)) = inl (r, l, high h)
-  where
-    high : IsBelowHigh a b c p → IsBelowHigh c b a p
-    high (inl k) = inr (inl k)
-    high (inr (inl k)) = inl k
-    high (inr (inr (k, m, t))) = inr (inr (m, k, turn_back a b c p t))
-reached_back a b c p (inr (l, r, h)) = inr (r, l, low h)
-  where
-    low : IsAboveLow a b c p → IsAboveLow c b a p
-    low (inl k) = inr (inl k)
-    low (inr (inl k)) = inl k
-    low (inr (inr (k, m, t))) = inr (inr (m, k, turn_back a b c p t))
+reached_back a b c p (inl (l, r, h)) = inl (r, l, high_back a b c p h)
+reached_back a b c p (inr (l, r, h)) = inr (r, l, low_back a b c p h)
 
 slope_back : (a b c p : Place) → slope c b a p ≡ slope a b c p
 slope_back a b c p =
-    let ax = var 0 in let ay = var 1 in
-    let bx = var 2 in let by = var 3 in
-    let cx = var 4 in let cy = var 5 in
-    let px = var 6 in let py = var 7 in
-    ring (a.x ∷ a.y ∷ b.x ∷ b.y ∷ c.x ∷ c.y ∷ p.x ∷ p.y ∷ [])
-    (num (pos 2) ⊠ ((by ⊟ ay) ⊠ area_expr cx cy bx by px py ⊞ (cy ⊟ by) ⊠ area_expr px py bx by ax ay) ⊞
-    (cy ⊟ ay) ⊠ area_expr cx cy px py ax ay)
-    (num (pos 2) ⊠ ((by ⊟ cy) ⊠ area_expr ax ay bx by px py ⊞ (ay ⊟ by) ⊠ area_expr px py bx by cx cy) ⊞
-    (ay ⊟ cy) ⊠ area_expr ax ay px py cx cy)
-    tt
+    ring (coordinates (a ∷ b ∷ c ∷ p ∷ []) []) (slope_at (at 2) (at 1) (at 0) (at 3)) (slope_at (at 0) (at 1) (at 2) (at 3)) tt
 
 tip_back : (a : Place) (b : Option Place) (c p q : Place) → IsTipPart a b c p q → IsTipPart c b a p q
 tip_back a None c p q h = absurd h
@@ -75,16 +56,8 @@ pub reversal_meets : ReversalMeets
 reversal_meets p q s = (met_back p q (reversed s), met_back p q s)
 
 -- ---- between two places that are not covered
-suc_not_none : (n : ℕ) → pos (suc n) ≡ pos 0 → ⊥
-suc_not_none n e = omega (arith, signed_linear)
-
-negsuc_not_none : (n : ℕ) → negsuc n ≡ pos 0 → ⊥
-negsuc_not_none n e = omega (arith, signed_linear)
-
 none_or_not : (z : ℤ) → ¬ (z ≢ pos 0) → z ≡ pos 0
-none_or_not (pos zero) h = refl
-none_or_not (pos (suc n)) h = absurd (h (λ e. suc_not_none n e))
-none_or_not (negsuc n) h = absurd (h (λ e. negsuc_not_none n e))
+none_or_not z h = grind (arith, ints)
 
 none_wound : (p : Place) (ss : List Span) → ¬ (IsCovered p ss) → winding p ss ≡ pos 0
 unfolding IsCovered
@@ -108,21 +81,10 @@ slope_shift x y a b c p =
 
 within_shift : (x y : ℤ) (p q e : Place)
     → IsWithinRow (shifted_place x y p) (shifted_place x y q) (shifted_place x y e) ↔ IsWithinRow p q e
-within_shift x y p q e = (
-  λ h. record {
-    level = omega (arith, signed_linear, h.level);
-    after = omega (arith, signed_linear, h.after);
-    before = omega (arith, signed_linear, h.before);
-  },
-  λ h. record {
-    level = omega (arith, signed_linear, h.level);
-    after = omega (arith, signed_linear, h.after);
-    before = omega (arith, signed_linear, h.before);
-  },
-)
+within_shift x y p q e = omega (arith, signed_linear)
 
 below_shift : (t m n : ℤ) → ((m +ℤ t) <ℤ (n +ℤ t)) ↔ (m <ℤ n)
-below_shift t m n = (λ h. omega (arith, signed_linear, h), λ h. omega (arith, signed_linear, h))
+below_shift t m n = omega (arith, signed_linear)
 
 reached_shift : (t a b c p : ℤ) → IsReached (a +ℤ t) (b +ℤ t) (c +ℤ t) (p +ℤ t) ↔ IsReached a b c p
 reached_shift t a b c p = (λ h. from h, λ h. to h)
@@ -170,25 +132,9 @@ shift_meets x y p q s = (λ h. from h, λ h. to h)
     to (inr (inr (inr t))) = inr (inr (inr ((tip_shift x y s.a s.b s.c p q).1 t)))
 
 -- ---- on a row strictly between the ends
-between_not_first : (a c y : ℤ) → ((a <ℤ y) × (y <ℤ c)) ⊎ ((c <ℤ y) × (y <ℤ a)) → a ≡ y → ⊥
-between_not_first a c y (inl (h, k)) e = omega (arith, signed_linear)
-between_not_first a c y (inr (h, k)) e = omega (arith, signed_linear)
-
-between_not_last : (a c y : ℤ) → ((a <ℤ y) × (y <ℤ c)) ⊎ ((c <ℤ y) × (y <ℤ a)) → c ≡ y → ⊥
-between_not_last a c y (inl (h, k)) e = omega (arith, signed_linear)
-between_not_last a c y (inr (h, k)) e = omega (arith, signed_linear)
-
-ends_not_below_row : (a c y : ℤ) → ((a <ℤ y) × (y <ℤ c)) ⊎ ((c <ℤ y) × (y <ℤ a)) → a <ℤ y → c <ℤ y → ⊥
-ends_not_below_row a c y (inl (h, k)) l r = omega (arith, signed_linear)
-ends_not_below_row a c y (inr (h, k)) l r = omega (arith, signed_linear)
-
-ends_not_above_row : (a c y : ℤ) → ((a <ℤ y) × (y <ℤ c)) ⊎ ((c <ℤ y) × (y <ℤ a)) → y <ℤ a → y <ℤ c → ⊥
-ends_not_above_row a c y (inl (h, k)) l r = omega (arith, signed_linear)
-ends_not_above_row a c y (inr (h, k)) l r = omega (arith, signed_linear)
-
 between_not_reached : (a b c y : ℤ) → ((a <ℤ y) × (y <ℤ c)) ⊎ ((c <ℤ y) × (y <ℤ a)) → IsReached a b c y → ⊥
-between_not_reached a b c y i (inl (l, r, t)) = ends_not_below_row a c y i l r
-between_not_reached a b c y i (inr (l, r, t)) = ends_not_above_row a c y i l r
+between_not_reached a b c y i (inl (l, r, t)) = omega (arith, signed_linear, i, l, r)
+between_not_reached a b c y i (inr (l, r, t)) = omega (arith, signed_linear, i, l, r)
 
 between_no_tip : (a : Place) (b : Option Place) (c p q : Place) → ((a.y <ℤ p.y) × (p.y <ℤ c.y)) ⊎ ((c.y <ℤ p.y) × (p.y <ℤ a.y))
     → IsTipPart a b c p q → ⊥
@@ -196,8 +142,8 @@ between_no_tip a None c p q i t = t
 between_no_tip a (Some b) c p q i t = between_not_reached a.y b.y c.y p.y i t.reached
 
 between_turns : (p q : Place) (s : Span) → IsBetweenEnds p s → IsMet p q s → turn p s ≢ turn q s
-between_turns p q s i (inl h) = absurd (between_not_first s.a.y s.c.y p.y i h.level)
-between_turns p q s i (inr (inl h)) = absurd (between_not_last s.a.y s.c.y p.y i h.level)
+between_turns p q s i (inl h) = absurd (omega (arith, signed_linear, i, h.level))
+between_turns p q s i (inr (inl h)) = absurd (omega (arith, signed_linear, i, h.level))
 between_turns p q s i (inr (inr (inl n))) = n
 between_turns p q s i (inr (inr (inr t))) = absurd (between_no_tip s.a s.b s.c p q i t)
 
@@ -208,26 +154,12 @@ inner_meets p q s i = (between_turns p q s i, λ n. inr (inr (inl n)))
 -- along a row the area falls by the chord's rise for each step to the right
 area_along : (ax ay cx cy px rx y : ℤ) → area_of ax ay cx cy px y ≡ area_of ax ay cx cy rx y +ℤ (rx -ℤ px) *ℤ (cy -ℤ ay)
 area_along ax ay cx cy px rx y =
-    let a = var 0 in let a' = var 1 in
-    let c = var 2 in let c' = var 3 in
-    let p = var 4 in let r = var 5 in let h = var 6 in
-    ring (ax ∷ ay ∷ cx ∷ cy ∷ px ∷ rx ∷ y ∷ []) (area_expr a a' c c' p h) (area_expr a a' c c' r h ⊞ (r ⊟ p) ⊠ (c' ⊟ a')) tt
-
--- the same against a chord that falls
-area_against : (ax ay cx cy px rx y : ℤ) → area_of ax ay cx cy rx y ≡ area_of ax ay cx cy px y +ℤ (rx -ℤ px) *ℤ (ay -ℤ cy)
-area_against ax ay cx cy px rx y =
-    let a = var 0 in let a' = var 1 in
-    let c = var 2 in let c' = var 3 in
-    let p = var 4 in let r = var 5 in let h = var 6 in
-    ring (ax ∷ ay ∷ cx ∷ cy ∷ px ∷ rx ∷ y ∷ []) (area_expr a a' c c' r h) (area_expr a a' c c' p h ⊞ (r ⊟ p) ⊠ (a' ⊟ c')) tt
+    ring (ax ∷ ay ∷ cx ∷ cy ∷ px ∷ rx ∷ y ∷ []) (area_expr (var 0) (var 1) (var 2) (var 3) (var 4) (var 6))
+    (area_expr (var 0) (var 1) (var 2) (var 3) (var 5) (var 6) ⊞ (var 5 ⊟ var 4) ⊠ (var 3 ⊟ var 1)) tt
 
 rising_crossing_differs : (ay cy y sp sq : ℤ) → ay <ℤ y → y <ℤ cy → pos 0 <ℤ sp → sq <ℤ pos 0
     → ¬ (crossing_number ay cy y sp +ℤ pos 0 ≡ crossing_number ay cy y sq +ℤ pos 0)
 rising_crossing_differs ay cy y sp sq h1 h2 h3 h4 e = grind (arith, ints)
-
-falling_crossing_differs : (ay cy y sp sq : ℤ) → cy <ℤ y → y <ℤ ay → sp <ℤ pos 0 → pos 0 <ℤ sq
-    → ¬ (crossing_number ay cy y sp +ℤ pos 0 ≡ crossing_number ay cy y sq +ℤ pos 0)
-falling_crossing_differs ay cy y sp sq h1 h2 h3 h4 e = grind (arith, ints)
 
 rising_line_crosses : (ax ay cx cy px qx rx y : ℤ) → px <ℤ rx → rx <ℤ qx → area_of ax ay cx cy rx y ≡ pos 0 → ay <ℤ y → y <ℤ cy
     → ¬ (crossing_number ay cy y (area_of ax ay cx cy px y) +ℤ pos 0 ≡ crossing_number ay cy y (area_of ax ay cx cy qx y) +ℤ pos 0)
@@ -239,16 +171,6 @@ rising_line_crosses ax ay cx cy px qx rx y lp lq z h k =
     rising_crossing_differs ay cy y (area_of ax ay cx cy px y) (area_of ax ay cx cy qx y) h k
     (omega (arith, signed_linear, m, e, z)) (omega (arith, signed_linear, n, f, z))
 
-falling_line_crosses : (ax ay cx cy px qx rx y : ℤ) → px <ℤ rx → rx <ℤ qx → area_of ax ay cx cy rx y ≡ pos 0 → cy <ℤ y → y <ℤ ay
-    → ¬ (crossing_number ay cy y (area_of ax ay cx cy px y) +ℤ pos 0 ≡ crossing_number ay cy y (area_of ax ay cx cy qx y) +ℤ pos 0)
-falling_line_crosses ax ay cx cy px qx rx y lp lq z h k =
-    let m = product_above_zero (rx -ℤ px) (ay -ℤ cy) (omega (arith, signed_linear)) (omega (arith, signed_linear)) in
-    let n = product_above_zero (qx -ℤ rx) (ay -ℤ cy) (omega (arith, signed_linear)) (omega (arith, signed_linear)) in
-    let e = area_against ax ay cx cy px rx y in
-    let f = area_against ax ay cx cy rx qx y in
-    falling_crossing_differs ay cy y (area_of ax ay cx cy px y) (area_of ax ay cx cy qx y) h k
-    (omega (arith, signed_linear, m, e, z)) (omega (arith, signed_linear, n, f, z))
-
 -- both places brought to the row of the third
 crosses_on_row : (ax ay cx cy px qx py qy y : ℤ) → py ≡ y → qy ≡ y
     → ¬ (crossing_number ay cy y (area_of ax ay cx cy px y) +ℤ pos 0 ≡ crossing_number ay cy y (area_of ax ay cx cy qx y) +ℤ pos 0)
@@ -258,13 +180,17 @@ crosses_on_row ax ay cx cy px qx py qy y ep eq n e =
     n (ap (λ t. crossing_number ay cy t (area_of ax ay cx cy px t) +ℤ pos 0) (sym ep) ∙ e
     ∙ ap (λ t. crossing_number ay cy t (area_of ax ay cx cy qx t) +ℤ pos 0) eq)
 
-pub lines_are_met : LinesAreMet
-lines_are_met a c p q r ep eq lp lq z (inl (h, k)) =
+line_is_met : (a c p q r : Place) → p.y ≡ r.y → q.y ≡ r.y → p.x <ℤ r.x → r.x <ℤ q.x → area a c r ≡ pos 0 → a.y <ℤ r.y
+    → r.y <ℤ c.y → IsMet p q (record { a = a; b = None; c = c })
+line_is_met a c p q r ep eq lp lq z h k =
     inr (inr (inl (crosses_on_row a.x a.y c.x c.y p.x q.x p.y q.y r.y ep eq
     (rising_line_crosses a.x a.y c.x c.y p.x q.x r.x r.y lp lq z h k))))
-lines_are_met a c p q r ep eq lp lq z (inr (h, k)) =
-    inr (inr (inl (crosses_on_row a.x a.y c.x c.y p.x q.x p.y q.y r.y ep eq
-    (falling_line_crosses a.x a.y c.x c.y p.x q.x r.x r.y lp lq z h k))))
+
+-- one that falls is met if the reversed line is
+pub lines_are_met : LinesAreMet
+lines_are_met a c p q r ep eq lp lq z (inl (h, k)) = line_is_met a c p q r ep eq lp lq z h k
+lines_are_met a c p q r ep eq lp lq z (inr (h, k)) = met_back p q (record { a = c; b = None; c = a })
+    (line_is_met c a p q r ep eq lp lq (none_back (area a c r) _ (area_turn c.x c.y a.x a.y r.x r.y) z) h k)
 
 -- ---- beside the row
 same_none : {w z w' z' : ℤ} → w ≡ pos 0 → z ≡ pos 0 → w' ≡ pos 0 → z' ≡ pos 0 → w +ℤ z ≡ w' +ℤ z'

@@ -1,16 +1,15 @@
 -- The places half way between two, and the halves of an arc that they make.
 -- Serves `halves`, and the law of halves.
-use Rattle.std.proofs.Common.{◌≡◌, refl, sym, ap, ◌∙◌, ℤ, pos, ◌+ℤ◌, ◌-ℤ◌, ◌*ℤ◌, ◌≤ℤ◌, Bool, true, false, if◌then◌else◌, Option}
+use Rattle.std.proofs.Common.{◌≡◌, refl, sym, ap, ◌∙◌, ℤ, pos, ◌+ℤ◌, ◌-ℤ◌, ◌*ℤ◌, Bool, true, false, if◌then◌else◌, Option}
 use Rattle.std.proofs.Common.{Some}
-use Rattle.std.proofs.Common.{None, negsuc, option_map, arith}
+use Rattle.std.proofs.Common.{None, option_map, arith}
 use Rattle.std.specs.Prelude.{option_and_then}
-use Rattle.std.specs.Int.{int_div_euclid, int_rem_euclid}
+use Rattle.std.specs.Int.{int_div_euclid}
 use Rattle.std.specs.Ordering.{int_eq}
 use Rattle.std.proofs.lemmas.Int.{ints}
-use Rattle.fx_fixed.proofs.Rounding.{by_quotient}
 use Rattle.fx_winding.specs.Area.{Place, place}
 use Rattle.fx_winding.specs.Winding.{Span}
-use Rattle.fx_winding.specs.Halving.{HalfIsExact, half_of, middle_of, two_arcs, halves_of_part}
+use Rattle.fx_winding.specs.Halving.{half_of, middle_of, two_arcs, halves_of_part}
 
 pub middle_without_x : (p q : Place) → half_of (p.x +ℤ q.x) ≡ None → middle_of p q ≡ None
 middle_without_x p q h = ap (option_and_then (λ x. option_map (place x) (half_of (p.y +ℤ q.y)))) h
@@ -35,25 +34,6 @@ half_is z h e = by (int_div_euclid z (pos 2)) (int_eq (pos 2 *ℤ int_div_euclid
     by : (q : ℤ) (t : Bool) → int_eq (pos 2 *ℤ q) z ≡ t → ◌≡◌ {A = Option ℤ} (if t then Some q else None) (Some h) → pos 2 *ℤ h ≡ z
     by q true t e = let k : q ≡ h = cc in let s : pos 2 *ℤ q ≡ z = grind (arith, ints) in ap (λ x. pos 2 *ℤ x) (sym k) ∙ s
     by q false t e = absurd (cc)
-
-half_found : (z h : ℤ) → pos 2 *ℤ h ≡ z → half_of z ≡ Some h
-half_found z h e = by (int_div_euclid z (pos 2)) quotient
-  where
-    small : (n : ℤ) → (pos 0 ≤ℤ int_rem_euclid n (pos 2)) × (int_rem_euclid n (pos 2) ≤ℤ pos 1)
-    small (pos a) = (omega (arith, ints), omega (arith, ints))
-    small (negsuc a) = (omega (arith, ints), omega (arith, ints))
-
-    quotient : int_div_euclid z (pos 2) ≡ h
-    quotient = let q = by_quotient z 2 (omega arith) in let r = small z in omega (arith, ints, q, r, e)
-
-    test : (x y : ℤ) → x ≡ y → int_eq x y ≡ true
-    test x y k = grind (arith, ints)
-
-    by : (q : ℤ) → q ≡ h → ◌≡◌ {A = Option ℤ} (if int_eq (pos 2 *ℤ q) z then Some q else None) (Some h)
-    by q s = let t = test (pos 2 *ℤ q) z (ap (λ x. pos 2 *ℤ x) s ∙ e) in rw (t, s) refl
-
-pub half_is_exact : HalfIsExact
-half_is_exact z h = (λ e. half_is z h e, λ e. half_found z h e)
 
 -- a middle's second place is as far past it as the first is before it
 middle_is : (p q r : Place) → middle_of p q ≡ Some r → q ≡ beyond p r

@@ -14,7 +14,7 @@ use Rattle.fx_winding.specs.Winding.{region_part, IsOnPart, IsBetween, IsInRange
 use Rattle.fx_winding.specs.Winding.{IsBeforeTurn}
 use Rattle.fx_winding.specs.Moves.{reversed, ReversalNegates, ReversalKeepsCover}
 use Rattle.fx_winding.proofs.Crossings.{crossing_number, area_turn}
-use Rattle.fx_winding.proofs.Triangle.{area_expr}
+use Rattle.fx_winding.proofs.Triangle.{at, coordinates, area_at}
 use Rattle.fx_winding.proofs.Regions.{IsInRegion, region_cases, region_in, region_out}
 use Rattle.fx_winding.proofs.Covers.{covered_permutation, covered_map}
 
@@ -32,10 +32,7 @@ sign_back (negsuc n) = refl
 
 pub area_back : (a b c : Place) → area c b a ≡ neg_ℤ (area a b c)
 area_back a b c =
-    let x = var 0 in let x' = var 1 in
-    let y = var 2 in let y' = var 3 in
-    let z = var 4 in let z' = var 5 in
-    ring (a.x ∷ a.y ∷ b.x ∷ b.y ∷ c.x ∷ c.y ∷ []) (area_expr z z' y y' x x') (minus (area_expr x x' y y' z z')) tt
+    ring (coordinates (a ∷ b ∷ c ∷ []) []) (area_at (at 2) (at 1) (at 0)) (minus (area_at (at 0) (at 1) (at 2))) tt
 
 minus_times_minus : (x y : ℤ) → neg_ℤ x *ℤ neg_ℤ y ≡ x *ℤ y
 minus_times_minus x y = ring (x ∷ y ∷ []) (minus (var 0) ⊠ minus (var 1)) (var 0 ⊠ var 1) tt
@@ -104,7 +101,7 @@ between_back : (a c p : ℤ) → IsBetween a c p → IsBetween c a p
 between_back a c p (inl h) = inr h
 between_back a c p (inr h) = inl h
 
-pub turn_back : (a b c p : ℤ) → IsBeforeTurn a b c p → IsBeforeTurn c b a p
+turn_back : (a b c p : ℤ) → IsBeforeTurn a b c p → IsBeforeTurn c b a p
 turn_back a b c p h =
     let e : c *ℤ a -ℤ b *ℤ b ≡ a *ℤ c -ℤ b *ℤ b =
     ring (a ∷ b ∷ c ∷ []) (var 2 ⊠ var 0 ⊟ var 1 ⊠ var 1) (var 0 ⊠ var 2 ⊟ var 1 ⊠ var 1) tt in
@@ -112,18 +109,18 @@ turn_back a b c p h =
     ring (a ∷ b ∷ c ∷ p ∷ []) (var 3 ⊠ (var 2 ⊟ num (pos 2) ⊠ var 1 ⊞ var 0)) (var 3 ⊠ (var 0 ⊟ num (pos 2) ⊠ var 1 ⊞ var 2)) tt in
     rw (e, f) h
 
-range_back : (a b c p : ℤ) → IsInRange a b c p → IsInRange c b a p
-range_back a b c p r = record { low = low r.low; high = high r.high }
-  where
-    low : IsAboveLow a b c p → IsAboveLow c b a p
-    low (inl h) = inr (inl h)
-    low (inr (inl h)) = inl h
-    low (inr (inr (k, l, t))) = inr (inr (l, k, turn_back a b c p t))
+pub low_back : (a b c p : ℤ) → IsAboveLow a b c p → IsAboveLow c b a p
+low_back a b c p (inl h) = inr (inl h)
+low_back a b c p (inr (inl h)) = inl h
+low_back a b c p (inr (inr (k, l, t))) = inr (inr (l, k, turn_back a b c p t))
 
-    high : IsBelowHigh a b c p → IsBelowHigh c b a p
-    high (inl h) = inr (inl h)
-    high (inr (inl h)) = inl h
-    high (inr (inr (k, l, t))) = inr (inr (l, k, turn_back a b c p t))
+pub high_back : (a b c p : ℤ) → IsBelowHigh a b c p → IsBelowHigh c b a p
+high_back a b c p (inl h) = inr (inl h)
+high_back a b c p (inr (inl h)) = inl h
+high_back a b c p (inr (inr (k, l, t))) = inr (inr (l, k, turn_back a b c p t))
+
+pub range_back : (a b c p : ℤ) → IsInRange a b c p → IsInRange c b a p
+range_back a b c p r = record { low = low_back a b c p r.low; high = high_back a b c p r.high }
 
 arc_back : (a b c p : Place) → AreOnArc (weight_a a b c p) (weight_b a b c p) (weight_c a b c p)
     → AreOnArc (weight_a c b a p) (weight_b c b a p) (weight_c c b a p)

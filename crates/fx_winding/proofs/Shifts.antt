@@ -13,17 +13,15 @@ use Rattle.fx_winding.specs.Winding.{region_part, IsOnPart, IsBetween, IsInRange
 use Rattle.fx_winding.specs.Winding.{IsBeforeTurn, IsCovered, centre}
 use Rattle.fx_winding.specs.Moves.{shifted_place, shifted, ShiftMovesCover, ShiftMovesBits}
 use Rattle.fx_winding.proofs.Crossings.{crossing_number}
-use Rattle.fx_winding.proofs.Triangle.{area_expr}
+use Rattle.fx_winding.proofs.Triangle.{area_expr, at, coordinates, area_at}
 use Rattle.fx_winding.proofs.Covers.{covered_map}
+use Rattle.fx_winding.proofs.Ranges.{either}
 
 pub area_shift : (x y : ℤ) (a b c : Place) → area (shifted_place x y a) (shifted_place x y b) (shifted_place x y c) ≡ area a b c
 area_shift x y a b c =
-    let e = var 0 in let e' = var 1 in
-    let f = var 2 in let f' = var 3 in
-    let g = var 4 in let g' = var 5 in
-    let t = var 6 in let t' = var 7 in
-    ring (a.x ∷ a.y ∷ b.x ∷ b.y ∷ c.x ∷ c.y ∷ x ∷ y ∷ [])
-    (area_expr (e ⊞ t) (e' ⊞ t') (f ⊞ t) (f' ⊞ t') (g ⊞ t) (g' ⊞ t')) (area_expr e e' f f' g g') tt
+    ring (coordinates (a ∷ b ∷ c ∷ []) (x ∷ y ∷ []))
+    (area_expr (var 0 ⊞ var 6) (var 1 ⊞ var 7) (var 2 ⊞ var 6) (var 3 ⊞ var 7) (var 4 ⊞ var 6) (var 5 ⊞ var 7))
+    (area_at (at 0) (at 1) (at 2)) tt
 
 crossing_number_shift : (t ay cy py s : ℤ) → crossing_number (ay +ℤ t) (cy +ℤ t) (py +ℤ t) s ≡ crossing_number ay cy py s
 crossing_number_shift t ay cy py s = grind (arith, ints)
@@ -38,17 +36,10 @@ sign_shift : (x y : ℤ) (a b c : Place)
     → sign (area (shifted_place x y a) (shifted_place x y b) (shifted_place x y c)) ≡ sign (area a b c)
 sign_shift x y a b c = ap sign (area_shift x y a b c)
 
-weight_a-shift : (x y : ℤ) (a b c p : Place)
-    → weight_a (shifted_place x y a) (shifted_place x y b) (shifted_place x y c) (shifted_place x y p) ≡ weight_a a b c p
-weight_a-shift x y a b c p = λ i. sign_shift x y a b c i *ℤ area_shift x y p b c i
-
-weight_b-shift : (x y : ℤ) (a b c p : Place)
-    → weight_b (shifted_place x y a) (shifted_place x y b) (shifted_place x y c) (shifted_place x y p) ≡ weight_b a b c p
-weight_b-shift x y a b c p = λ i. sign_shift x y a b c i *ℤ area_shift x y a p c i
-
-weight_c-shift : (x y : ℤ) (a b c p : Place)
-    → weight_c (shifted_place x y a) (shifted_place x y b) (shifted_place x y c) (shifted_place x y p) ≡ weight_c a b c p
-weight_c-shift x y a b c p = λ i. sign_shift x y a b c i *ℤ area_shift x y a b p i
+weight_shift : (x y : ℤ) (a b c p q r : Place)
+    → sign (area (shifted_place x y a) (shifted_place x y b) (shifted_place x y c))
+    *ℤ area (shifted_place x y p) (shifted_place x y q) (shifted_place x y r) ≡ sign (area a b c) *ℤ area p q r
+weight_shift x y a b c p q r = λ i. sign_shift x y a b c i *ℤ area_shift x y p q r i
 
 right_shift : (x y : ℤ) (a b c : Place)
     → is_right_of_chord (shifted_place x y a) (shifted_place x y b) (shifted_place x y c) ≡ is_right_of_chord a b c
@@ -71,21 +62,13 @@ pub region_part_shift : (x y : ℤ) (a : Place) (b : Option Place) (c p : Place)
     a b c p
 region_part_shift x y a None c p = refl
 region_part_shift x y a (Some b) c p =
-    λ i. if is_inside (weight_a-shift x y a b c p i) (weight_b-shift x y a b c p i) (weight_c-shift x y a b c p i)
-    || (is_on_chord (weight_a-shift x y a b c p i) (weight_b-shift x y a b c p i) (weight_c-shift x y a b c p i)
+    λ i. if is_inside (weight_shift x y a b c p b c i) (weight_shift x y a b c a p c i) (weight_shift x y a b c a b p i)
+    || (is_on_chord (weight_shift x y a b c p b c i) (weight_shift x y a b c a p c i) (weight_shift x y a b c a b p i)
     && right_shift x y a b c i) then sign_shift x y a b c i else pos 0
 
 -- ---- on a piece
 between_shift : (t a c p : ℤ) → IsBetween (a +ℤ t) (c +ℤ t) (p +ℤ t) ↔ IsBetween a c p
-between_shift t a c p = (λ h. from h, λ h. to h)
-  where
-    from : IsBetween (a +ℤ t) (c +ℤ t) (p +ℤ t) → IsBetween a c p
-    from (inl h) = inl (omega (arith, signed_linear, h), omega (arith, signed_linear, h))
-    from (inr h) = inr (omega (arith, signed_linear, h), omega (arith, signed_linear, h))
-
-    to : IsBetween a c p → IsBetween (a +ℤ t) (c +ℤ t) (p +ℤ t)
-    to (inl h) = inl (omega (arith, signed_linear, h), omega (arith, signed_linear, h))
-    to (inr h) = inr (omega (arith, signed_linear, h), omega (arith, signed_linear, h))
+between_shift t a c p = (λ h. grind (arith, signed_linear), λ h. grind (arith, signed_linear))
 
 turn_shift : (t a b c p : ℤ) → IsBeforeTurn (a +ℤ t) (b +ℤ t) (c +ℤ t) (p +ℤ t) ↔ IsBeforeTurn a b c p
 turn_shift t a b c p =
@@ -102,34 +85,12 @@ turn_shift t a b c p =
     same_order m n m' n' e = (λ h. omega (arith, signed_linear), λ h. omega (arith, signed_linear))
 
 pub low_shift : (t a b c p : ℤ) → IsAboveLow (a +ℤ t) (b +ℤ t) (c +ℤ t) (p +ℤ t) ↔ IsAboveLow a b c p
-low_shift t a b c p = (λ h. from h, λ h. to h)
-  where
-    from : IsAboveLow (a +ℤ t) (b +ℤ t) (c +ℤ t) (p +ℤ t) → IsAboveLow a b c p
-    from (inl h) = inl (omega (arith, signed_linear, h))
-    from (inr (inl h)) = inr (inl (omega (arith, signed_linear, h)))
-    from (inr (inr (k, l, m))) =
-        inr (inr (omega (arith, signed_linear, k), omega (arith, signed_linear, l), (turn_shift t a b c p).0 m))
-
-    to : IsAboveLow a b c p → IsAboveLow (a +ℤ t) (b +ℤ t) (c +ℤ t) (p +ℤ t)
-    to (inl h) = inl (omega (arith, signed_linear, h))
-    to (inr (inl h)) = inr (inl (omega (arith, signed_linear, h)))
-    to (inr (inr (k, l, m))) =
-        inr (inr (omega (arith, signed_linear, k), omega (arith, signed_linear, l), (turn_shift t a b c p).1 m))
+low_shift t a b c p = either (omega (arith, signed_linear)) (omega (arith, signed_linear)) (omega (arith, signed_linear))
+    (omega (arith, signed_linear)) (turn_shift t a b c p)
 
 pub high_shift : (t a b c p : ℤ) → IsBelowHigh (a +ℤ t) (b +ℤ t) (c +ℤ t) (p +ℤ t) ↔ IsBelowHigh a b c p
-high_shift t a b c p = (λ h. from h, λ h. to h)
-  where
-    from : IsBelowHigh (a +ℤ t) (b +ℤ t) (c +ℤ t) (p +ℤ t) → IsBelowHigh a b c p
-    from (inl h) = inl (omega (arith, signed_linear, h))
-    from (inr (inl h)) = inr (inl (omega (arith, signed_linear, h)))
-    from (inr (inr (k, l, m))) =
-        inr (inr (omega (arith, signed_linear, k), omega (arith, signed_linear, l), (turn_shift t a b c p).0 m))
-
-    to : IsBelowHigh a b c p → IsBelowHigh (a +ℤ t) (b +ℤ t) (c +ℤ t) (p +ℤ t)
-    to (inl h) = inl (omega (arith, signed_linear, h))
-    to (inr (inl h)) = inr (inl (omega (arith, signed_linear, h)))
-    to (inr (inr (k, l, m))) =
-        inr (inr (omega (arith, signed_linear, k), omega (arith, signed_linear, l), (turn_shift t a b c p).1 m))
+high_shift t a b c p = either (omega (arith, signed_linear)) (omega (arith, signed_linear)) (omega (arith, signed_linear))
+    (omega (arith, signed_linear)) (turn_shift t a b c p)
 
 range_shift : (t a b c p : ℤ) → IsInRange (a +ℤ t) (b +ℤ t) (c +ℤ t) (p +ℤ t) ↔ IsInRange a b c p
 range_shift t a b c p = (
@@ -142,7 +103,7 @@ arc_shift : (x y : ℤ) (a b c p : Place)
     (weight_b (shifted_place x y a) (shifted_place x y b) (shifted_place x y c) (shifted_place x y p))
     (weight_c (shifted_place x y a) (shifted_place x y b) (shifted_place x y c) (shifted_place x y p)) ↔ AreOnArc
     (weight_a a b c p) (weight_b a b c p) (weight_c a b c p)
-arc_shift x y a b c p = same (weight_a-shift x y a b c p) (weight_b-shift x y a b c p) (weight_c-shift x y a b c p)
+arc_shift x y a b c p = same (weight_shift x y a b c p b c) (weight_shift x y a b c a p c) (weight_shift x y a b c a b p)
   where
     same : {u v w u' v' w' : ℤ} → u ≡ u' → v ≡ v' → w ≡ w' → AreOnArc u v w ↔ AreOnArc u' v' w'
     same eu ev ew = (λ h. rw (← eu, ← ev, ← ew) h, λ h. rw (eu, ev, ew) h)
@@ -198,12 +159,16 @@ shift_moves_cover x y p ss =
     covered_map p (shifted_place x y p) (shifted x y) (λ z. z) (λ m n. refl) refl (λ z e. e) (λ s. on_part_shift x y s.a s.b s.c p)
     (λ s. crossing_shift x y s.a s.c p) (λ s. region_part_shift x y s.a s.b s.c p) ss
 
+-- along an axis
+centre_along : (i k : ℤ) → (pos 128 *ℤ i +ℤ pos 64) +ℤ pos 128 *ℤ k ≡ pos 128 *ℤ (i +ℤ k) +ℤ pos 64
+centre_along i k =
+    ring (i ∷ k ∷ []) ((num (pos 128) ⊠ var 0 ⊞ num (pos 64)) ⊞ num (pos 128) ⊠ var 1)
+    (num (pos 128) ⊠ (var 0 ⊞ var 1) ⊞ num (pos 64)) tt
+
+pub centre_shift : (k l i j : ℤ) → shifted_place (pos 128 *ℤ k) (pos 128 *ℤ l) (centre i j) ≡ centre (i +ℤ k) (j +ℤ l)
+centre_shift k l i j = λ t. record { x = centre_along i k t; y = centre_along j l t }
+
 pub shift_moves_bits : ShiftMovesBits
 shift_moves_bits k l i j ss =
     subst (λ q. IsCovered q (map (shifted (pos 128 *ℤ k) (pos 128 *ℤ l)) ss) ↔ IsCovered (centre i j) ss)
-    (λ t. record { x = along i k t; y = along j l t }) (shift_moves_cover (pos 128 *ℤ k) (pos 128 *ℤ l) (centre i j) ss)
-  where
-    along : (i k : ℤ) → (pos 128 *ℤ i +ℤ pos 64) +ℤ pos 128 *ℤ k ≡ pos 128 *ℤ (i +ℤ k) +ℤ pos 64
-    along i k =
-        ring (i ∷ k ∷ []) ((num (pos 128) ⊠ var 0 ⊞ num (pos 64)) ⊞ num (pos 128) ⊠ var 1)
-        (num (pos 128) ⊠ (var 0 ⊞ var 1) ⊞ num (pos 64)) tt
+    (centre_shift k l i j) (shift_moves_cover (pos 128 *ℤ k) (pos 128 *ℤ l) (centre i j) ss)

@@ -13,6 +13,7 @@ use Rattle.fx_winding.proofs.ChordSides.{column_region, regions_on}
 use Rattle.fx_winding.proofs.Columns.{column_crossing, crossings_sum, crossings_none, flat_on, line_on}
 use Rattle.fx_winding.proofs.Crossings.{above}
 use Rattle.fx_winding.proofs.TurnedAreas.{area_turned, sign_area_turned, weight}
+use Rattle.fx_winding.proofs.Halved.{flat_region}
 use Rattle.fx_winding.proofs.HalfAreas.{area_swap}
 use Rattle.fx_winding.proofs.Meeting.{added_back}
 use Rattle.fx_winding.proofs.Ranges.{by_zero}
@@ -76,14 +77,6 @@ regions_off a b c p n m = by (region_cases a b c p)
     by (inl h) = (λ i. (inside h ∙ sign_area_turned a b c) i +ℤ region_in a b c p h i) ∙ none (sign (area a b c))
     by (inr k) = λ i. outside k i +ℤ region_out a b c p k i
 
--- a flat arc has none
-region_flat : (a b c p : Place) → area a b c ≡ pos 0 → region_part a (Some b) c p ≡ pos 0
-region_flat a b c p z = by (region_cases a b c p)
-  where
-    by : IsInRegion a b c p ⊎ (¬ (IsInRegion a b c p)) → region_part a (Some b) c p ≡ pos 0
-    by (inl h) = region_in a b c p h ∙ ap sign z
-    by (inr n) = region_out a b c p n
-
 -- ---- the whole
 -- both pieces add 1 in all where the place is left of the upper end, else nothing
 abbrev AddUp : Place → Option Place → Place → Place → Type 0
@@ -108,10 +101,10 @@ add_up_on a b c p =
 
 add_up_flat : (a b c p : Place) → column_crossing a c p +ℤ chord_crossing a c p ≡ above p.x c.x → area a b c ≡ pos 0
     → AddUp a (Some b) c p
-add_up_flat a b c p e z = add_up_off a (Some b) c p e (λ i. column i +ℤ region_flat a b c p z i)
+add_up_flat a b c p e z = add_up_off a (Some b) c p e (λ i. column i +ℤ flat_region a b c p z i)
   where
     column : column_region a (Some b) c p ≡ pos 0
-    column = region_flat (turned_place a) (turned_place b) (turned_place c) (turned_place p) (area_turned a b c ∙ ap neg_ℤ z)
+    column = flat_region (turned_place a) (turned_place b) (turned_place c) (turned_place p) (area_turned a b c ∙ ap neg_ℤ z)
 
 rising_part : (a : Place) (b : Option Place) (c p : Place) → a.y <ℤ p.y → p.y <ℤ c.y → ¬ (IsOnPart a b c p) → AddUp a b c p
 rising_part a None c p low high off = add_up_off a None c p

@@ -7,14 +7,12 @@ use Rattle.fx_winding.specs.Area.{Place, area}
 use Rattle.fx_winding.specs.Dropout.{turned_place}
 use Rattle.fx_winding.specs.Winding.{sign}
 use Rattle.fx_winding.proofs.Reversal.{sign_back}
-use Rattle.fx_winding.proofs.Triangle.{area_expr}
+use Rattle.fx_winding.proofs.Triangle.{area_expr, at, coordinates, area_at}
 
 pub area_turned : (p q r : Place) → area (turned_place p) (turned_place q) (turned_place r) ≡ neg_ℤ (area p q r)
 area_turned p q r =
-    let a = var 0 in let a' = var 1 in
-    let b = var 2 in let b' = var 3 in
-    let c = var 4 in let c' = var 5 in
-    ring (p.x ∷ p.y ∷ q.x ∷ q.y ∷ r.x ∷ r.y ∷ []) (area_expr a' a b' b c' c) (minus (area_expr a a' b b' c c')) tt
+    ring (coordinates (p ∷ q ∷ r ∷ []) []) (area_expr (var 1) (var 0) (var 3) (var 2) (var 5) (var 4))
+    (minus (area_at (at 0) (at 1) (at 2))) tt
 
 pub sign_area_turned : (a b c : Place)
     → sign (area (turned_place a) (turned_place b) (turned_place c)) ≡ neg_ℤ (sign (area a b c))

@@ -98,12 +98,12 @@ no_end_turned : (p : Place) (s : Span) → IsNoEnd p s → IsNoEnd (turned_place
 no_end_turned p s n = record { first = λ e. n.first (ap turned_place e); last = λ e. n.last (ap turned_place e) }
 
 -- what an exchanged piece adds at a place off the piece, if it rests on the place's row, or hangs from it
-turned_below : (p : Place) (s : Span) → RestsOn p.y s → ¬ (IsOn p s)
+pub turned_below : (p : Place) (s : Span) → RestsOn p.y s → ¬ (IsOn p s)
     → turn (turned_place p) (turned_span s) ≡ above p.x s.c.x -ℤ above p.x s.a.x
 turned_below p s h off =
     right_turn (turned_place p) (turned_span s) (starts_turned p.y s h) (no_end_turned p s (off_no_end p s off))
 
-turned_above : (p : Place) (s : Span) → HangsFrom p.y s → ¬ (IsOn p s) → turn (turned_place p) (turned_span s) ≡ pos 0
+pub turned_above : (p : Place) (s : Span) → HangsFrom p.y s → ¬ (IsOn p s) → turn (turned_place p) (turned_span s) ≡ pos 0
 turned_above p s h off =
     left_turn (turned_place p) (turned_span s) (ends_turned p.y s h) (no_end_turned p s (off_no_end p s off))
 
@@ -170,15 +170,11 @@ inner_pair_not_met p q s e hp hq np nq t h =
   where
     first : (a c y z : ℤ) → ((a <ℤ y) × (y <ℤ c)) ⊎ ((c <ℤ y) × (y <ℤ a)) → ((a <ℤ z) × (z <ℤ c)) ⊎ ((c <ℤ z) × (z <ℤ a))
         → y <ℤ a → a <ℤ z → ⊥
-    first a c y z (inl (h, k)) i l m = omega (arith, signed_linear, h, l)
-    first a c y z (inr (h, k)) (inl (i, j)) l m = omega (arith, signed_linear, h, l, i, j)
-    first a c y z (inr (h, k)) (inr (i, j)) l m = omega (arith, signed_linear, m, j)
+    first a c y z h i l m = omega (arith, signed_linear, h, i, l, m)
 
     last : (a c y z : ℤ) → ((a <ℤ y) × (y <ℤ c)) ⊎ ((c <ℤ y) × (y <ℤ a)) → ((a <ℤ z) × (z <ℤ c)) ⊎ ((c <ℤ z) × (z <ℤ a))
         → y <ℤ c → c <ℤ z → ⊥
-    last a c y z (inr (h, k)) i l m = omega (arith, signed_linear, h, l)
-    last a c y z (inl (h, k)) (inr (i, j)) l m = omega (arith, signed_linear, h, l, i, j)
-    last a c y z (inl (h, k)) (inl (i, j)) l m = omega (arith, signed_linear, m, j)
+    last a c y z h i l m = omega (arith, signed_linear, h, i, l, m)
 
 -- an end that the place is clear of is in another column
 other_column : (p q end : Place) (value : ℤ) (r : Place) (s : Span) → p.x ≡ r.x → IsClearOf end value r s

@@ -1,8 +1,5 @@
-use Rattle.fx_winding.proofs.Dropout.{dropout_adds, rows_have_no_gap, columns_have_no_gap, shift_moves_set, reversal_keeps_set}
+use Rattle.fx_winding.proofs.Dropout.{rows_have_no_gap, columns_have_no_gap, shift_moves_set, reversal_keeps_set}
 use Rattle.fx_winding.proofs.laws.dropout.Goals as goal
-
-pub returns-clause-adds : goal.returns-clause-adds
-returns-clause-adds c = dropout_adds
 
 pub returns-clause-rows : goal.returns-clause-rows
 returns-clause-rows c = rows_have_no_gap

@@ -1,9 +1,5 @@
-use Rattle.fx_winding.proofs.Middles.{half_is_exact}
 use Rattle.fx_winding.proofs.Halved.{halves_meet, halves_have_the_places, halves_add_up, halves_keep_cover}
 use Rattle.fx_winding.proofs.laws.subdivision.Goals as goal
-
-pub returns-clause-exact : goal.returns-clause-exact
-returns-clause-exact c = half_is_exact
 
 pub returns-clause-meet : goal.returns-clause-meet
 returns-clause-meet c = halves_meet

@@ -9,45 +9,34 @@ use mir.Syntax.{w128}
 copied : (z : ℤ) → IsWithin (2 ^ 98) z → to_z w128 (of_z w128 z) ≡ z
 copied z h = omega (arith, signed_linear)
 
--- the sum without its copies
+-- the terms and sums without their copies
+copies : (x y z : ℤ) → IsWithin (2 ^ 94) x → IsWithin (2 ^ 94) y → IsWithin (2 ^ 94) z
+    → (to_z w128 (of_z w128 x) ≡ x) × (to_z w128 (of_z w128 y) ≡ y) × (to_z w128 (of_z w128 z) ≡ z)
+    × (to_z w128 (of_z w128 (x +ℤ y)) ≡ x +ℤ y) × (to_z w128 (of_z w128 (pos 2 *ℤ (x +ℤ y))) ≡ pos 2 *ℤ (x +ℤ y))
+    × (to_z w128 (of_z w128 (pos 2 *ℤ (x +ℤ y) +ℤ z)) ≡ pos 2 *ℤ (x +ℤ y) +ℤ z)
+copies x y z hx hy hz = (
+  copied x (omega (arith, signed_linear)),
+  copied y (omega (arith, signed_linear)),
+  copied z (omega (arith, signed_linear)),
+  copied (x +ℤ y) (omega (arith, signed_linear)),
+  copied (pos 2 *ℤ (x +ℤ y)) (omega (arith, signed)),
+  copied (pos 2 *ℤ (x +ℤ y) +ℤ z) (omega (arith, signed)),
+)
+
 whole : (x y z : ℤ) → IsWithin (2 ^ 94) x → IsWithin (2 ^ 94) y → IsWithin (2 ^ 94) z
     → to_z w128 (of_z w128 (to_z w128 (of_z w128
     (pos 2 *ℤ to_z w128 (of_z w128 (to_z w128 (of_z w128 x) +ℤ to_z w128 (of_z w128 y))))) +ℤ to_z w128 (of_z w128 z))) ≡
     pos 2 *ℤ (x +ℤ y) +ℤ z
-whole x y z hx hy hz =
-    let ex : to_z w128 (of_z w128 x) ≡ x = copied x (omega (arith, signed_linear), omega (arith, signed_linear)) in
-    let ey : to_z w128 (of_z w128 y) ≡ y = copied y (omega (arith, signed_linear), omega (arith, signed_linear)) in
-    let ez : to_z w128 (of_z w128 z) ≡ z = copied z (omega (arith, signed_linear), omega (arith, signed_linear)) in
-    let s : to_z w128 (of_z w128 (x +ℤ y)) ≡ x +ℤ y =
-    copied (x +ℤ y) (omega (arith, signed_linear), omega (arith, signed_linear)) in
-    let s2 : to_z w128 (of_z w128 (pos 2 *ℤ (x +ℤ y))) ≡ pos 2 *ℤ (x +ℤ y) =
-    copied (pos 2 *ℤ (x +ℤ y)) (omega (arith, signed), omega (arith, signed)) in
-    (λ i. to_z w128 (of_z w128 (to_z w128 (of_z w128 (pos 2 *ℤ to_z w128 (of_z w128 (ex i +ℤ ey i)))) +ℤ ez i)))
-    ∙ (λ i. to_z w128 (of_z w128 (to_z w128 (of_z w128 (pos 2 *ℤ s i)) +ℤ z)))
-    ∙ (λ i. to_z w128 (of_z w128 (s2 i +ℤ z)))
-    ∙ copied (pos 2 *ℤ (x +ℤ y) +ℤ z) (omega (arith, signed), omega (arith, signed))
+whole x y z hx hy hz = let c = copies x y z hx hy hz in rw (c.0, c.1, c.2, c.3, c.4, c.5)
 
 doubled : (x y : ℤ) → IsWithin (2 ^ 94) x → IsWithin (2 ^ 94) y
     → FitsSigned w128 (pos 2 *ℤ to_z w128 (of_z w128 (to_z w128 (of_z w128 x) +ℤ to_z w128 (of_z w128 y))))
-doubled x y hx hy =
-    let ex : to_z w128 (of_z w128 x) ≡ x = copied x (omega (arith, signed_linear), omega (arith, signed_linear)) in
-    let ey : to_z w128 (of_z w128 y) ≡ y = copied y (omega (arith, signed_linear), omega (arith, signed_linear)) in
-    let s : to_z w128 (of_z w128 (x +ℤ y)) ≡ x +ℤ y =
-    copied (x +ℤ y) (omega (arith, signed_linear), omega (arith, signed_linear)) in
-    rw (ex, ey, s) (omega (arith, signed))
+doubled x y hx hy = let c = copies x y x hx hy hx in rw (c.0, c.1, c.3) (omega (arith, signed))
 
 added : (x y z : ℤ) → IsWithin (2 ^ 94) x → IsWithin (2 ^ 94) y → IsWithin (2 ^ 94) z
     → FitsSigned w128 (to_z w128 (of_z w128
     (pos 2 *ℤ to_z w128 (of_z w128 (to_z w128 (of_z w128 x) +ℤ to_z w128 (of_z w128 y))))) +ℤ to_z w128 (of_z w128 z))
-added x y z hx hy hz =
-    let ex : to_z w128 (of_z w128 x) ≡ x = copied x (omega (arith, signed_linear), omega (arith, signed_linear)) in
-    let ey : to_z w128 (of_z w128 y) ≡ y = copied y (omega (arith, signed_linear), omega (arith, signed_linear)) in
-    let ez : to_z w128 (of_z w128 z) ≡ z = copied z (omega (arith, signed_linear), omega (arith, signed_linear)) in
-    let s : to_z w128 (of_z w128 (x +ℤ y)) ≡ x +ℤ y =
-    copied (x +ℤ y) (omega (arith, signed_linear), omega (arith, signed_linear)) in
-    let s2 : to_z w128 (of_z w128 (pos 2 *ℤ (x +ℤ y))) ≡ pos 2 *ℤ (x +ℤ y) =
-    copied (pos 2 *ℤ (x +ℤ y)) (omega (arith, signed), omega (arith, signed)) in
-    rw (ex, ey, ez, s, s2) (omega (arith, signed))
+added x y z hx hy hz = let c = copies x y z hx hy hz in rw (c.0, c.1, c.2, c.3, c.4) (omega (arith, signed))
 
 pub wide_product-w-requires-clause-near_a : goal.wide_product-w-requires-clause-near_a
 wide_product-w-requires-clause-near_a c = (omega (arith, signed_linear), omega (arith, signed_linear))

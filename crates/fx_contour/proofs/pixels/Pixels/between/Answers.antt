@@ -1,9 +1,8 @@
-use Rattle.std.proofs.Common.{◌≡◌, ◌∙◌, ◌⊎◌, inl, inr, refl, sym, subst, ◌^◌, ℤ, pos, nat_abs, ◌+ℤ◌, ◌-ℤ◌, ◌*ℤ◌, ◌<ℤ◌, ◌≤ℤ◌}
+use Rattle.std.proofs.Common.{◌≡◌, ◌∙◌, refl, sym, subst, ◌^◌, ℤ, pos, nat_abs, ◌+ℤ◌, ◌-ℤ◌, ◌*ℤ◌, ◌<ℤ◌, ◌≤ℤ◌}
 use Rattle.std.proofs.Common.{negsuc, arith, w32, to_z, of_z}
 use Rattle.std.proofs.lemmas.Int.{ints}
 use Rattle.fx_fixed.specs.Ranges.{IsWithin}
 use Rattle.fx_fixed.proofs.Linear.{signed_linear}
-use Rattle.fx_fixed.proofs.Order.{below_or_not_ℤ}
 use Rattle.fx_contour.proofs.pixels.Pixels.between.Goals as goal
 
 -- the pixels before n have their centres left of x, and those from n on have not
@@ -12,18 +11,10 @@ record IsFirst (x n : ℤ) : Type 0 where
   from : (m : ℤ) → n ≤ℤ m → x ≤ℤ (pos 128 *ℤ m +ℤ pos 64)
 
 at_least : (x n m : ℤ) → IsFirst x n → x ≤ℤ (pos 128 *ℤ m +ℤ pos 64) → n ≤ℤ m
-at_least x n m f h = by (below_or_not_ℤ m n)
-  where
-    by : (m <ℤ n) ⊎ (n ≤ℤ m) → n ≤ℤ m
-    by (inl l) = let b = f.before m l in absurd (omega (arith, signed_linear, b, h))
-    by (inr l) = l
+at_least x n m f h = grind (arith, signed_linear, f.before m)
 
 below : (x n m : ℤ) → IsFirst x n → (pos 128 *ℤ m +ℤ pos 64) <ℤ x → m <ℤ n
-below x n m f h = by (below_or_not_ℤ m n)
-  where
-    by : (m <ℤ n) ⊎ (n ≤ℤ m) → m <ℤ n
-    by (inl l) = l
-    by (inr l) = let b = f.from m l in absurd (omega (arith, signed_linear, b, h))
+below x n m f h = grind (arith, signed_linear, f.from m)
 
 kept : (n : ℤ) → IsWithin (2 ^ 15) n → to_z w32 (of_z w32 n) ≡ n
 kept n h = omega (arith, signed_linear, h)
