@@ -1,6 +1,6 @@
 -- What a piece adds to a row tells which of its segments it meets.
 -- Serves `meets_to` and `note_tip`.
-use Rattle.std.proofs.Common.{◌≡◌, inl, inr, sym, ◌∙◌, ℕ, ◌<◌, ℤ, pos, ◌+ℤ◌, ◌-ℤ◌, ap, Option, Some, None, arith}
+use Rattle.std.proofs.Common.{◌≡◌, sym, ◌∙◌, ℕ, ◌<◌, ℤ, pos, ◌+ℤ◌, ◌-ℤ◌, ap, Option, Some, None, arith}
 use Rattle.std.proofs.Common.{w32, w64, to_z, of_z}
 use Rattle.std.proofs.lemmas.Int.{to_z_pos}
 use Rattle.fx_fixed.proofs.Linear.{signed_linear}
@@ -14,7 +14,7 @@ use Rattle.fx_rows.specs.declared.part.RowPart.{RowPart}
 use Rattle.fx_rows.specs.inner.Points.{IsInner}
 use Rattle.fx_rows.specs.inner.Sums.{value_at}
 use Rattle.fx_fixed.specs.Ranges.{IsWithin}
-use Rattle.fx_rows.proofs.Counted.{crossing_small, region_small, run_at}
+use Rattle.fx_rows.proofs.Counted.{run_at}
 
 -- what a piece adds at a column
 pub turn_at : (s : Span) (row : ℤ) (f : Frame) (part : RowPart) (col : ℤ) → IsRowPart s row f part → IsFrom f.left f.width col
@@ -23,12 +23,6 @@ turn_at s row f part col is i =
     let crosses = run_at (λ x. crossing (centre x row) s) f part.crossing col is.crosses i in
     let regions = run_at (λ x. region (centre x row) s) f part.region col is.regions i in
     λ j. crosses j +ℤ regions j
-
-pub turn_small : (p : Place) (s : Span) → IsWithin 2 (turn p s)
-turn_small p s =
-    let a = crossing_small p s in
-    let b = region_small p s in
-    (omega (arith, signed_linear, a, b), omega (arith, signed_linear, a, b))
 
 -- numbers with the same 64 bits are the same
 pub bits_tell : (a b x y : ℤ) → a ≡ x → b ≡ y → IsWithin 2 x → IsWithin 2 y → of_z w64 a ≡ of_z w64 b → x ≡ y
@@ -60,10 +54,7 @@ left_column f k o l =
 
 -- a row strictly between the ends of an arc has no tip
 reached_not_inner : (a b c y : ℤ) → IsInner a c y → ¬ (IsReached a b c y)
-reached_not_inner a b c y (inl h) (inl r) = omega (arith, signed_linear, h, r)
-reached_not_inner a b c y (inl h) (inr r) = omega (arith, signed_linear, h, r)
-reached_not_inner a b c y (inr h) (inl r) = omega (arith, signed_linear, h, r)
-reached_not_inner a b c y (inr h) (inr r) = omega (arith, signed_linear, h, r)
+reached_not_inner a b c y i r = omega (arith, signed_linear, i, r)
 
 pub inner_no_tip : (a : Place) (b : Option Place) (c p q : Place) → IsInner a.y c.y p.y → ¬ (IsTipPart a b c p q)
 inner_no_tip a None c p q h t = t

@@ -89,8 +89,7 @@ band_none s f at b = record {
 
 -- a number in a row before, or after
 beside_row : (w r t k : ℕ) → k < w → (r < t) ⊎ (t < r) → (r * stride w + k < t * stride w) ⊎ (t * stride w + w ≤ r * stride w + k)
-beside_row w r t k h (inl l) = inl (let e = row_before r t (stride w) l in let x = wide w in omega (arith, e, x))
-beside_row w r t k h (inr l) = inr (let e = row_before t r (stride w) l in let x = wide w in omega (arith, e, x))
+beside_row w r t k h o = grind (arith, o, row_before r t (stride w), row_before t r (stride w), wide w)
 
 -- rows, and then the rows after them
 pub band_both : (s : Span) (f : Frame) (from mid to : ℕ) (old now new : Band) → from ≤ mid → mid ≤ to
@@ -205,12 +204,8 @@ number_or_not w (suc high) n = by (below_or_not n (high * stride w)) (below_or_n
 -- a number after a row's last pixel is no pixel's
 pub after_last : (w high r k : ℕ) → w ≤ k → k < stride w → (t : ℕ) → 0 ≤ t → t < high
     → (r * stride w + k < t * stride w) ⊎ (t * stride w + w ≤ r * stride w + k)
-after_last w high r k h l t z a = by (below_or_not r t) (below_or_not t r)
-  where
-    by : (r < t) ⊎ (t ≤ r) → (t < r) ⊎ (r ≤ t) → (r * stride w + k < t * stride w) ⊎ (t * stride w + w ≤ r * stride w + k)
-    by (inl b) o = let e = row_before r t (stride w) b in inl (omega (arith, e))
-    by (inr b) (inl c) = let e = row_before t r (stride w) c in let x = wide w in inr (omega (arith, e, x))
-    by (inr b) (inr c) = let e : r ≡ t = omega arith in inr (subst (λ (x : ℕ). x * stride w + w ≤ r * stride w + k) e (omega arith))
+after_last w high r k h l t z a =
+    grind (arith, below_or_not r t, below_or_not t r, row_before r t (stride w), row_before t r (stride w), wide w)
 
 pub number_in : (up high w k n : ℕ) → up < high → k < stride w → n ≡ high * words_for w + 1 → up * stride w + k < 32 * n
 number_in up high w k n h l e = by (words_for w) l e

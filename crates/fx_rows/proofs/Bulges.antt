@@ -9,6 +9,7 @@ use Rattle.fx_fixed.proofs.Ring.{ring}
 use Rattle.fx_winding.specs.Area.{Place}
 use Rattle.fx_winding.specs.Frames.{IsFrom}
 use Rattle.fx_winding.specs.Meets.{turn, slope, IsWithinRow, IsTip, IsTipPart, IsMet}
+use Rattle.fx_winding.specs.Outside.{HasAll}
 use Rattle.fx_winding.specs.Winding.{Span, crossing, region, centre}
 use Rattle.fx_winding.specs.declared.frame.Frame.{Frame}
 use Rattle.fx_winding.proofs.Aside.{left_not_met, right_not_met}
@@ -30,12 +31,7 @@ use Rattle.fx_rows.specs.declared.part.RowPart.{RowPart}
 use Rattle.fx_rows.specs.inner.Lines.{left_at, right_at, IsMetTo, IsRunEnd, IsSetTo, IsRowSet, AreRowsSet}
 
 same_or_not : (x y : ℤ) → (x ≡ y) ⊎ (x ≢ y)
-same_or_not x y = by (below_or_not_ℤ x y) (below_or_not_ℤ y x)
-  where
-    by : (x <ℤ y) ⊎ (y ≤ℤ x) → (y <ℤ x) ⊎ (x ≤ℤ y) → (x ≡ y) ⊎ (x ≢ y)
-    by (inl h) k = inr (λ e. absurd (omega (arith, signed_linear, h, e)))
-    by (inr h) (inl k) = inr (λ e. absurd (omega (arith, signed_linear, k, e)))
-    by (inr h) (inr k) = inl (omega (arith, signed_linear, h, k))
+same_or_not x y = grind (arith, signed_linear, below_or_not_ℤ x y, below_or_not_ℤ y x)
 
 -- where a value that is one run changes, the run begins or has ended
 run_changes : (f : ℤ → ℤ) (frame : Frame) (run : Option Run) (k : ℕ) → IsRun f frame run → 0 < k → k < frame.width
@@ -280,12 +276,7 @@ within_column f x row n k before from w after over = by k refl (below_same_above
 -- the column with a number, by how many columns are before that
 pub column_is : (f : Frame) (col : ℤ) (n k : ℕ) → ((i : ℕ) → i < n → (f.left +ℤ pos i) <ℤ col)
     → ((i : ℕ) → n ≤ i → i < f.width → col ≤ℤ (f.left +ℤ pos i)) → k < f.width → f.left +ℤ pos k ≡ col → k ≡ n
-column_is f col n k under rest w e = by (below_same_above k n)
-  where
-    by : (k < n) ⊎ ((k ≡ n) ⊎ (n < k)) → k ≡ n
-    by (inl l) = let b = under k l in absurd (omega (arith, signed_linear, b, e))
-    by (inr (inl l)) = l
-    by (inr (inr l)) = let b = rest n (omega arith) (omega (arith, l, w)) in absurd (omega (arith, signed_linear, b, e, l))
+column_is f col n k under rest w e = grind (arith, signed_linear, below_same_above k n)
 
 -- the ends of a run
 pub run_end : {X : Type 0} (f : Frame) (run : Option Run) (r : Run) (k : ℕ) → run ≡ Some r → IsRunEnd f run k
@@ -306,15 +297,16 @@ rows_kept s f row first step a b kept h k l met = kept (first + k * step) (h k l
 
 -- the rows that a piece can touch are noted, and it misses the others
 pub all_rows_set : (s : Span) (f : Frame) (low high row_step step : ℕ) (bits : List ℕ)
-    → ((r : ℕ) → r < f.height → (r < low) ⊎ (high ≤ r) → IsMissed s (height_of f r))
+    → ((r : ℕ) → r < low → HasAll (λ q. height_of f r <ℤ q.y) s)
+    → ((r : ℕ) → high ≤ r → r < f.height → HasAll (λ q. q.y <ℤ height_of f r) s)
     → ((r : ℕ) → low ≤ r → r < high → IsRowSet s f (f.bottom +ℤ pos r) (r * row_step) step bits)
     → AreRowsSet s f row_step step bits
-all_rows_set s f low high row_step step bits missed h r l = by (below_or_not r low) (below_or_not r high)
+all_rows_set s f low high row_step step bits below above h r l = by (below_or_not r low) (below_or_not r high)
   where
     by : (r < low) ⊎ (low ≤ r) → (r < high) ⊎ (high ≤ r) → IsRowSet s f (f.bottom +ℤ pos r) (r * row_step) step bits
-    by (inl a) b = missed_set s f r (r * row_step) step bits (missed r l (inl a))
+    by (inl a) b = missed_set s f r (r * row_step) step bits (inl (below r a))
     by (inr a) (inl b) = h r a b
-    by (inr a) (inr b) = missed_set s f r (r * row_step) step bits (missed r l (inr b))
+    by (inr a) (inr b) = missed_set s f r (r * row_step) step bits (inr (above r b l))
 
 -- ---- a line of centres
 -- the first one from x on comes before the first one past y
@@ -328,12 +320,7 @@ line_found x y n m from before l = record {
 
 pub line_lost : (x y n m : ℤ) → ((j : ℤ) → j <ℤ n → (pos 128 *ℤ j +ℤ pos 64) <ℤ x)
     → ((j : ℤ) → m ≤ℤ j → (y +ℤ pos 1) ≤ℤ (pos 128 *ℤ j +ℤ pos 64)) → HasLine x y → n <ℤ m
-line_lost x y n m before from h = by (below_or_not_ℤ h.line n) (below_or_not_ℤ h.line m)
-  where
-    by : (h.line <ℤ n) ⊎ (n ≤ℤ h.line) → (h.line <ℤ m) ⊎ (m ≤ℤ h.line) → n <ℤ m
-    by (inl l) o = let b = before h.line l in let k = h.from in absurd (omega (arith, signed_linear, b, k))
-    by (inr l) (inr o) = let b = from h.line o in let k = h.to in absurd (omega (arith, signed_linear, b, k))
-    by (inr l) (inl o) = omega (arith, signed_linear, l, o)
+line_lost x y n m before from h = grind (arith, signed_linear, below_or_not_ℤ h.line n, below_or_not_ℤ h.line m)
 
 pub line_same : (r : Bool) {x y x' y' : ℤ} → x ≡ x' → y ≡ y' → (IsTrue r ↔ HasLine x y) → IsTrue r ↔ HasLine x' y'
 line_same r e f h = subst (λ z. z) (λ i. IsTrue r ↔ HasLine (e i) (f i)) h

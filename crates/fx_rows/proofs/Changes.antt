@@ -93,11 +93,7 @@ sum_to diff from start count bits left p k s l h b =
     omega (arith, signed_linear, e, c)
 
 not_before : (left p k : ℕ) → ((i : ℕ) → i < p → bit_at left (31 - i) ≡ 0) → bit_at left (31 - k) ≡ 1 → p ≤ k
-not_before left p k v bit = by (below_or_not k p)
-  where
-    by : (k < p) ⊎ (p ≤ k) → p ≤ k
-    by (inl h) = let e = v k h in absurd (omega (arith, e, bit))
-    by (inr h) = h
+not_before left p k v bit = grind (arith, below_or_not k p)
 
 pub count_to : (diff : List ℤ) (from : ℕ) (start count : ℤ) (bits left k : ℕ)
     → IsSettling diff from start count bits left → k < 32 → bit_at left (31 - k) ≡ 1
@@ -165,21 +161,10 @@ pub emptying_first : (old new : List ℤ) (from touched left : ℕ) → get_or n
     → ((i : ℕ) → i ≤ 0 → bit_at left (31 - i) ≡ 0)
     → ((i : ℕ) → 0 < i → i < 32 → bit_at left (31 - i) ≡ bit_at touched (31 - i)) → Emptying old new from left
 emptying_first old new from touched left here same none gone rest = record {
-  due = λ i h b. by_due i h b (below_or_not 0 i);
-  done = λ i h b. by_done i h b (below_or_not 0 i);
+  due = λ i h b. grind (arith, below_or_not 0 i, same (from + i), gone i);
+  done = λ i h b. grind (arith, below_or_not 0 i, here, same (from + i), none i, rest i);
   others = λ k h. let ne : k ≢ from = omega (arith, h) in same k ne;
 }
-  where
-    by_due : (i : ℕ) → i < 32 → bit_at left (31 - i) ≡ 1 → (0 < i) ⊎ (i ≤ 0)
-        → get_or new (from + i) (pos 0) ≡ get_or old (from + i) (pos 0)
-    by_due i h b (inl l) = let ne : from + i ≢ from = omega arith in same (from + i) ne
-    by_due i h b (inr l) = let z = gone i l in absurd (omega (arith, z, b))
-
-    by_done : (i : ℕ) → i < 32 → bit_at left (31 - i) ≡ 0 → (0 < i) ⊎ (i ≤ 0) → get_or new (from + i) (pos 0) ≡ pos 0
-    by_done i h b (inl l) =
-        let ne : from + i ≢ from = omega arith in same (from + i) ne ∙ none i l h (sym (rest i l h) ∙ b)
-    by_done i h b (inr l) =
-        let e : from + i ≡ from = omega arith in ap (λ (k : ℕ). get_or new k (pos 0)) e ∙ here
 
 pub emptying_more : (old new new' : List ℤ) (from left left' c : ℕ) → Emptying old new from left
     → get_or new' (from + c) (pos 0) ≡ pos 0 → c < 32
@@ -187,23 +172,10 @@ pub emptying_more : (old new new' : List ℤ) (from left left' c : ℕ) → Empt
     → ((i : ℕ) → i < c → bit_at left (31 - i) ≡ 0) → ((i : ℕ) → i ≤ c → bit_at left' (31 - i) ≡ 0)
     → ((i : ℕ) → c < i → i < 32 → bit_at left' (31 - i) ≡ bit_at left (31 - i)) → Emptying old new' from left'
 emptying_more old new new' from left left' c s here few same before gone rest = record {
-  due = λ i h b. by_due i h b (below_same_above i c);
-  done = λ i h b. by_done i h b (below_same_above i c);
+  due = λ i h b. grind (arith, below_same_above i c, same (from + i), gone i, rest i, s.due i);
+  done = λ i h b. grind (arith, below_same_above i c, here, same (from + i), before i, rest i, s.done i);
   others = λ k h. let ne : k ≢ from + c = omega (arith, h) in same k ne ∙ s.others k h;
 }
-  where
-    by_due : (i : ℕ) → i < 32 → bit_at left' (31 - i) ≡ 1 → (i < c) ⊎ ((i ≡ c) ⊎ (c < i))
-        → get_or new' (from + i) (pos 0) ≡ get_or old (from + i) (pos 0)
-    by_due i h b (inl l) = let z = gone i (omega arith) in absurd (omega (arith, z, b))
-    by_due i h b (inr (inl e)) = let z = gone i (omega arith) in absurd (omega (arith, z, b))
-    by_due i h b (inr (inr l)) =
-        let ne : from + i ≢ from + c = omega arith in same (from + i) ne ∙ s.due i h (sym (rest i l h) ∙ b)
-
-    by_done : (i : ℕ) → i < 32 → bit_at left' (31 - i) ≡ 0 → (i < c) ⊎ ((i ≡ c) ⊎ (c < i)) → get_or new' (from + i) (pos 0) ≡ pos 0
-    by_done i h b (inl l) = let ne : from + i ≢ from + c = omega arith in same (from + i) ne ∙ s.done i h (before i l)
-    by_done i h b (inr (inl e)) = ap (λ (k : ℕ). get_or new' (from + k) (pos 0)) e ∙ here
-    by_done i h b (inr (inr l)) =
-        let ne : from + i ≢ from + c = omega arith in same (from + i) ne ∙ s.done i h (sym (rest i l h) ∙ b)
 
 pub emptied : (old new : List ℤ) (from left : ℕ) → left ≡ 0 → Emptying old new from left → (i : ℕ) → i < 32
     → get_or new (from + i) (pos 0) ≡ pos 0
@@ -298,15 +270,9 @@ pub emptied_more : (old new new' : List ℤ) (w : ℕ) → EmptiedTo old new w
     → ((i : ℕ) → i < 32 → get_or new' (32 * w + i) (pos 0) ≡ pos 0)
     → ((k : ℕ) → (k < 32 * w) ⊎ (32 * w + 32 ≤ k) → get_or new' k (pos 0) ≡ get_or new k (pos 0)) → EmptiedTo old new' (w + 1)
 emptied_more old new new' w s zeros same = record {
-  done = λ k h. by k h (below_or_not k (32 * w));
+  done = λ k h. grind (arith, below_or_not k (32 * w), same k, s.done k, zeros (k - 32 * w));
   rest = λ k h. same k (inr (omega arith)) ∙ s.rest k (omega arith);
 }
-  where
-    by : (k : ℕ) → k < 32 * (w + 1) → (k < 32 * w) ⊎ (32 * w ≤ k) → get_or new' k (pos 0) ≡ pos 0
-    by k h (inl l) = same k (inl l) ∙ s.done k l
-    by k h (inr l) =
-        let e : k ≡ 32 * w + (k - 32 * w) = omega arith in
-        ap (λ (n : ℕ). get_or new' n (pos 0)) e ∙ zeros (k - 32 * w) (omega arith)
 
 -- sums from a place on do not see what came before it
 pub sum_same : (old new : List ℤ) (from n : ℕ) → ((k : ℕ) → from ≤ k → get_or new k (pos 0) ≡ get_or old k (pos 0))
@@ -321,12 +287,8 @@ sum_same old new from (suc n) h =
 -- the words of bits before w are 0
 pub untouched_more : (touched : List ℕ) (w : ℕ) → w < length touched → ((v : ℕ) → v < w → get_or touched v 0 ≡ 0) → (v : ℕ)
     → v < w + 1 → get_or (set touched w 0) v 0 ≡ 0
-untouched_more touched w long s v h = by (below_or_not v w)
-  where
-    by : (v < w) ⊎ (w ≤ v) → get_or (set touched w 0) v 0 ≡ 0
-    by (inl l) = let ne : v ≢ w = omega arith in get_or-set_other touched w v 0 0 ne ∙ s v l
-    by (inr l) =
-        let e : v ≡ w = omega arith in ap (λ (n : ℕ). get_or (set touched w 0) n 0) e ∙ get_or-set_same touched w 0 0 long
+untouched_more touched w long s v h =
+    grind (arith, below_or_not v w, get_or-set_other touched w v 0 0, get_or-set_same touched w 0 0 long, s v)
 
 pub touched_more : (old touched : List ℕ) (w : ℕ) → ((v : ℕ) → w ≤ v → get_or touched v 0 ≡ get_or old v 0) → (v : ℕ)
     → w + 1 ≤ v → get_or (set touched w 0) v 0 ≡ get_or old v 0

@@ -382,13 +382,6 @@ clear_is_cut s strip cut first end h clear inner within before rest value none =
     off k m (inr o) = (right_off (place_at strip k) s (to_all (λ q. q.x <ℤ (place_at strip k).x) s (right k o m))).1
 
 -- ---- the heights of a chord's ends
-pub rise_inner : (s : Span) (foot head value y : ℤ) → IsRise s foot head value → foot <ℤ y → y <ℤ head → IsInner s.a.y s.c.y y
-rise_inner s foot head value y h l m = by (below_or_not_ℤ s.a.y s.c.y)
-  where
-    by : (s.a.y <ℤ s.c.y) ⊎ (s.c.y ≤ℤ s.a.y) → IsInner s.a.y s.c.y y
-    by (inl o) = let e = h.up o in inl (subst (λ z. z <ℤ y) e.0 l, subst (λ z. y <ℤ z) e.1 m)
-    by (inr o) = let e = h.down o in inr (subst (λ z. z <ℤ y) e.0 l, subst (λ z. y <ℤ z) e.1 m)
-
 pub rise_sign : (s : Span) (foot head value y : ℤ) → IsRise s foot head value → IsInner s.a.y s.c.y y
     → value ≡ sign (s.c.y -ℤ s.a.y)
 rise_sign s foot head value y h (inl i) =

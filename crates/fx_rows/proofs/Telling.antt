@@ -1,9 +1,10 @@
 -- The ends of a piece's columns that are told, row by row, and the pieces that are noted.
 -- Serves the rows of a piece, and the pieces of a band.
-use Rattle.std.proofs.Common.{◌≡◌, ◌≢◌, ◌⊎◌, inl, inr, refl, sym, ap, ◌∙◌, subst, ℕ, ◌+◌, ◌-◌, ◌<◌, ◌≤◌, ℤ, pos, negsuc, ◌+ℤ◌, ◌*ℤ◌}
-use Rattle.std.proofs.Common.{◌≤ℤ◌, ◌<ℤ◌, int_lt, if◌then◌else◌, List, length, take, get_or, arith}
+use Rattle.std.proofs.Common.{◌≡◌, ◌≢◌, ◌⊎◌, inl, inr, refl, sym, ap, ◌∙◌, subst, ℕ, ◌+◌, ◌-◌, ◌*◌, ◌<◌, ◌≤◌, ℤ, pos, ◌+ℤ◌, ◌*ℤ◌}
+use Rattle.std.proofs.Common.{◌≤ℤ◌, ◌<ℤ◌, List, length, take, get_or, arith}
 use Rattle.std.specs.List.{All}
 use Rattle.std.proofs.lemmas.Int.{ints}
+use Rattle.std.proofs.lemmas.List.{get_or_default}
 use Rattle.std.proofs.lemmas.List.Elements.{All-more}
 use Rattle.fx_fixed.proofs.Order.{below_or_not, below_or_not_ℤ}
 use Rattle.fx_fixed.proofs.Linear.{signed_linear}
@@ -17,27 +18,22 @@ use Rattle.fx_rows.specs.declared.heights.Met.{Met}
 use Rattle.fx_rows.specs.declared.strip.Strip.{Strip}
 use Rattle.fx_rows.specs.declared.cells.Cut.{Cut}
 use Rattle.fx_rows.specs.inner.Cuts.{IsCut}
-use Rattle.fx_rows.specs.inner.Heights.{height_of, IsMissed, IsAtMostEnds, IsAtLeastEnds}
-use Rattle.fx_rows.specs.inner.Placing.{AreMet}
+use Rattle.fx_rows.specs.declared.band.Band.{Band}
+use Rattle.fx_rows.specs.declared.heights.RowRange.{RowRange}
+use Rattle.fx_rows.specs.inner.Bands.{stride, IsRowAdded, IsBandAdded}
+use Rattle.fx_rows.specs.inner.Heights.{height_of, IsAtMostEnds, IsAtLeastEnds, AreAmong}
+use Rattle.fx_rows.specs.inner.Placing.{AreBetween, AreMet}
 use Rattle.fx_rows.specs.inner.Points.{IsInner, IsRise}
 use Rattle.fx_rows.specs.inner.Sides.{place_at}
 use Rattle.fx_rows.specs.inner.Told.{rise_value, IsEnd, IsEndOn}
-use Rattle.fx_rows.specs.inner.Telling.{AreMetBySome, IsRowTold, AreRowsTold, IsPartOf, AreRowsNoted, AreNotedIn, IsNotedBy}
-use Rattle.fx_rows.specs.inner.Telling.{Way, across_row, up_to_row}
+use Rattle.fx_rows.specs.inner.Telling.{AreMetBySome, IsAmong, IsRowTold, AreRowsTold, AreRowsAdded, IsPartOf, AreRowsNoted, AreNotedIn}
+use Rattle.fx_rows.specs.inner.Telling.{BitsSay, Saying, noted, Way, across_row, up_to_row}
+use Rattle.fx_rows.proofs.Banding.{band_none, band_three, band_missed}
+use Rattle.fx_rows.proofs.Stepping.{band_next}
 
 -- ---- the end of one row
-rising : (a c : ℤ) → a <ℤ c → (if int_lt a c then pos 1 else negsuc 0) ≡ pos 1
-rising a c h = grind (arith, ints)
-
-falling : (a c : ℤ) → c ≤ℤ a → (if int_lt a c then pos 1 else negsuc 0) ≡ negsuc 0
-falling a c h = grind (arith, ints)
-
 pub rise_told : (s : Span) (foot head value : ℤ) → IsRise s foot head value → value ≡ rise_value s
-rise_told s foot head value h = by (below_or_not_ℤ s.a.y s.c.y)
-  where
-    by : (s.a.y <ℤ s.c.y) ⊎ (s.c.y ≤ℤ s.a.y) → value ≡ rise_value s
-    by (inl l) = (h.up l).2 ∙ sym (rising s.a.y s.c.y l)
-    by (inr l) = (h.down l).2 ∙ sym (falling s.a.y s.c.y l)
+rise_told s foot head value h = grind (arith, ints, signed_linear, below_or_not_ℤ s.a.y s.c.y)
 
 pub cut_end : (s : Span) (f : Frame) (strip : Strip) (cut : Cut) (row : ℤ) (n : ℕ) → strip.row ≡ row
     → strip.base +ℤ pos strip.start ≡ f.left → strip.base +ℤ pos strip.stop ≡ f.left +ℤ pos f.width
@@ -59,11 +55,11 @@ cut_end s f strip cut row n at_row first last e value is = record {
     off_at k off = subst (λ (q : Place). ¬ (IsOn q s)) (sym (at k)) off
 
 -- ---- from row to row
-pub told_none : (T : ℕ → ℕ → Type 0) (s : Span) (f : Frame) (from to : ℕ) → to ≤ from → AreRowsTold T s f from to
+told_none : (T : ℕ → ℕ → Type 0) (s : Span) (f : Frame) (from to : ℕ) → to ≤ from → AreRowsTold T s f from to
 told_none T s f from to h = record { rows = λ r l m i. absurd (omega (arith, h, l, m)) }
 
 -- the rows so far stay told, and one more is
-pub told_next : (T U : ℕ → ℕ → Type 0) (s : Span) (f : Frame) (from up n : ℕ) → AreRowsTold T s f from up
+told_next : (T U : ℕ → ℕ → Type 0) (s : Span) (f : Frame) (from up n : ℕ) → AreRowsTold T s f from up
     → ((r m : ℕ) → r ≢ up → T r m → U r m) → U up n → IsEnd s f up n → AreRowsTold U s f from (up + 1)
 told_next T U s f from up n h kept here is = record { rows = λ r l m i. by r l m i (below_or_not r up) }
   where
@@ -75,63 +71,126 @@ told_next T U s f from up n h kept here is = record { rows = λ r l m i. by r l 
         let e : up ≡ r = omega (arith, m, o) in
         subst (IsRowTold U s f) e (record { end = n; told = here; is = is })
 
-pub told_end : (T : ℕ → ℕ → Type 0) (s : Span) (f : Frame) (from up end : ℕ) → up ≡ end → AreRowsTold T s f from up
-    → AreRowsTold T s f from end
-told_end T s f from up end e h = subst (λ (n : ℕ). AreRowsTold T s f from n) e h
+-- a height at or below both ends is not between them, nor one at or above both
+at_most_outside : (a c y : ℤ) → y ≤ℤ a → y ≤ℤ c → ¬ (IsInner a c y)
+at_most_outside a c y h k i = omega (arith, signed_linear, i)
+
+at_least_outside : (a c y : ℤ) → a ≤ℤ y → c ≤ℤ y → ¬ (IsInner a c y)
+at_least_outside a c y h k i = omega (arith, signed_linear, i)
 
 -- rows that are not between the ends, below and above
-pub told_beside : (T : ℕ → ℕ → Type 0) (s : Span) (f : Frame) (from low high to : ℕ)
-    → ((r : ℕ) → from ≤ r → r < low → ¬ (IsInner s.a.y s.c.y (height_of f r)))
-    → ((r : ℕ) → high ≤ r → r < to → ¬ (IsInner s.a.y s.c.y (height_of f r))) → AreRowsTold T s f low high
-    → AreRowsTold T s f from to
+told_beside : (T : ℕ → ℕ → Type 0) (s : Span) (f : Frame) (from low high to : ℕ)
+    → ((r : ℕ) → from ≤ r → r < low → IsAtMostEnds s (height_of f r))
+    → ((r : ℕ) → high ≤ r → r < to → IsAtLeastEnds s (height_of f r)) → AreRowsTold T s f low high → AreRowsTold T s f from to
 told_beside T s f from low high to under over h =
     record { rows = λ r l m i. by r l m i (below_or_not r low) (below_or_not r high) }
   where
     by : (r : ℕ) → from ≤ r → r < to → IsInner s.a.y s.c.y (height_of f r) → (r < low) ⊎ (low ≤ r) → (r < high) ⊎ (high ≤ r)
         → IsRowTold T s f r
-    by r l m i (inl x) o = absurd (under r l x i)
+    by r l m i (inl x) o = let e = under r l x in absurd (at_most_outside _ _ _ e.0 e.1 i)
     by r l m i (inr x) (inl y) = h.rows r x y i
-    by r l m i (inr x) (inr y) = absurd (over r y m i)
+    by r l m i (inr x) (inr y) = let e = over r y m in absurd (at_least_outside _ _ _ e.0 e.1 i)
 
 -- a height that is not above the lower end, or not below the upper one
-pub at_most_ends : (s : Span) (foot head value y : ℤ) → IsRise s foot head value → y ≤ℤ foot → IsAtMostEnds s y
-at_most_ends s foot head value y h l = by (below_or_not_ℤ s.a.y s.c.y)
-  where
-    by : (s.a.y <ℤ s.c.y) ⊎ (s.c.y ≤ℤ s.a.y) → IsAtMostEnds s y
-    by (inl o) = let e = (h.up o).0 in (omega (arith, signed_linear, e, l), omega (arith, signed_linear, e, l, o))
-    by (inr o) = let e = (h.down o).0 in (omega (arith, signed_linear, e, l, o), omega (arith, signed_linear, e, l))
+at_most_ends : (s : Span) (foot head value y : ℤ) → IsRise s foot head value → y ≤ℤ foot → IsAtMostEnds s y
+at_most_ends s foot head value y h l = grind (arith, signed_linear, below_or_not_ℤ s.a.y s.c.y)
 
-pub at_least_ends : (s : Span) (foot head value y : ℤ) → IsRise s foot head value → head ≤ℤ y → IsAtLeastEnds s y
-at_least_ends s foot head value y h l = by (below_or_not_ℤ s.a.y s.c.y)
-  where
-    by : (s.a.y <ℤ s.c.y) ⊎ (s.c.y ≤ℤ s.a.y) → IsAtLeastEnds s y
-    by (inl o) = let e = (h.up o).1 in (omega (arith, signed_linear, e, l, o), omega (arith, signed_linear, e, l))
-    by (inr o) = let e = (h.down o).1 in (omega (arith, signed_linear, e, l), omega (arith, signed_linear, e, l, o))
+at_least_ends : (s : Span) (foot head value y : ℤ) → IsRise s foot head value → head ≤ℤ y → IsAtLeastEnds s y
+at_least_ends s foot head value y h l = grind (arith, signed_linear, below_or_not_ℤ s.a.y s.c.y)
 
 -- all points of a piece are above a height, or below it: so are its ends
-pub above_all : (s : Span) (y : ℤ) → HasAll (λ q. y <ℤ q.y) s → IsAtMostEnds s y
-above_all s y h = let a = h.0 in let c = h.2 in (omega (arith, signed_linear, a), omega (arith, signed_linear, c))
+above_all : (s : Span) (y : ℤ) → HasAll (λ q. y <ℤ q.y) s → IsAtMostEnds s y
+above_all s y h = omega (arith, signed_linear)
 
-pub below_all : (s : Span) (y : ℤ) → HasAll (λ q. q.y <ℤ y) s → IsAtLeastEnds s y
-below_all s y h = let a = h.0 in let c = h.2 in (omega (arith, signed_linear, a), omega (arith, signed_linear, c))
+below_all : (s : Span) (y : ℤ) → HasAll (λ q. q.y <ℤ y) s → IsAtLeastEnds s y
+below_all s y h = omega (arith, signed_linear)
 
-pub not_inner_under : (s : Span) (foot head value y : ℤ) → IsRise s foot head value → y ≤ℤ foot → ¬ (IsInner s.a.y s.c.y y)
-not_inner_under s foot head value y h l (inl i) =
-    let e = (h.up (omega (arith, signed_linear, i.0, i.1))).0 in absurd (omega (arith, signed_linear, e, l, i.0))
-not_inner_under s foot head value y h l (inr i) =
-    let e = (h.down (omega (arith, signed_linear, i.0, i.1))).0 in absurd (omega (arith, signed_linear, e, l, i.0))
+rise_inner : (s : Span) (foot head value y : ℤ) → IsRise s foot head value → foot <ℤ y → y <ℤ head → IsInner s.a.y s.c.y y
+rise_inner s foot head value y h l m = grind (arith, signed_linear, below_or_not_ℤ s.a.y s.c.y)
 
-pub not_inner_over : (s : Span) (foot head value y : ℤ) → IsRise s foot head value → head ≤ℤ y → ¬ (IsInner s.a.y s.c.y y)
-not_inner_over s foot head value y h l (inl i) =
-    let e = (h.up (omega (arith, signed_linear, i.0, i.1))).1 in absurd (omega (arith, signed_linear, e, l, i.1))
-not_inner_over s foot head value y h l (inr i) =
-    let e = (h.down (omega (arith, signed_linear, i.0, i.1))).1 in absurd (omega (arith, signed_linear, e, l, i.1))
+pub between_of : (s : Span) (foot head value : ℤ) (f : Frame) (rows inner : RowRange) → IsRise s foot head value
+    → AreAmong foot head f rows.first rows.end inner.first inner.end → AreBetween s f rows inner
+between_of s foot head value f rows inner rise h = record {
+  from = h.from;
+  to = h.to;
+  inner = λ r l m. rise_inner s foot head value (height_of f r) rise (h.foot r l m) (h.head r l m);
+  under = λ r l m. at_most_ends s foot head value (height_of f r) rise (h.under r l m);
+  over = λ r l m. at_least_ends s foot head value (height_of f r) rise (h.over r l m);
+}
 
-pub not_inner_missed : (s : Span) (y : ℤ) → IsMissed s y → ¬ (IsInner s.a.y s.c.y y)
-not_inner_missed s y (inl h) (inl i) = let a = h.0 in absurd (omega (arith, signed_linear, a, i.0))
-not_inner_missed s y (inl h) (inr i) = let c = h.2 in absurd (omega (arith, signed_linear, c, i.0))
-not_inner_missed s y (inr h) (inl i) = let c = h.2 in absurd (omega (arith, signed_linear, c, i.1))
-not_inner_missed s y (inr h) (inr i) = let a = h.0 in absurd (omega (arith, signed_linear, a, i.1))
+-- ---- what is added and told
+pub added_start : (T : ℕ → ℕ → Type 0) (s : Span) (at : ℕ) (b : Band) → AreRowsAdded T s at at b b
+added_start T s at b =
+    record { frame = refl; added = band_none s b.frame at b; told = told_none T s b.frame at at (omega arith) }
+
+-- one more row
+pub added_next : (T U : ℕ → ℕ → Type 0) (s : Span) (row : ℤ) (from up n : ℕ) (old now new : Band) → from ≤ up
+    → row ≡ now.frame.bottom +ℤ pos up → AreRowsAdded T s from up old now → new.frame ≡ now.frame
+    → IsRowAdded s now.frame row (up * stride now.frame.width) now new → ((r m : ℕ) → r ≢ up → T r m → U r m) → U up n
+    → IsEnd s now.frame up n → AreRowsAdded U s from (up + 1) old new
+added_next T U s row from up n old now new l at h frame added kept here is = record {
+  frame = frame ∙ h.frame;
+  added = band_next s old.frame now.frame row from up old now new l h.frame at h.added added;
+  told = told_next T U s old.frame from up n h.told kept here (subst (λ (x : Frame). IsEnd s x up n) h.frame is);
+}
+
+-- and rows beside them that are not between the ends
+pub added_beside : (T : ℕ → ℕ → Type 0) (s : Span) (from low high to : ℕ) (old x y new : Band) → from ≤ low → low ≤ high → high ≤ to
+    → x.frame ≡ old.frame → new.frame ≡ y.frame → IsBandAdded s old.frame from low old x → AreRowsAdded T s low high x y
+    → IsBandAdded s y.frame high to y new → ((r : ℕ) → from ≤ r → r < low → IsAtMostEnds s (height_of old.frame r))
+    → ((r : ℕ) → high ≤ r → r < to → IsAtLeastEnds s (height_of old.frame r)) → AreRowsAdded T s from to old new
+added_beside T s from low high to old x y new l m n ex ey a b c under over = record {
+  frame = ey ∙ b.frame ∙ ex;
+  added = band_three s from low high to old x y new l m n ex b.frame a b.added c;
+  told = told_beside T s old.frame from low high to under over
+      (subst (λ (g : Frame). AreRowsTold T s g low high) ex b.told);
+}
+
+-- none of them is
+pub added_outside : (T : ℕ → ℕ → Type 0) (s : Span) (from low high to : ℕ) (old new : Band) → high ≤ low
+    → new.frame ≡ old.frame → IsBandAdded s old.frame from to old new
+    → ((r : ℕ) → from ≤ r → r < low → IsAtMostEnds s (height_of old.frame r))
+    → ((r : ℕ) → high ≤ r → r < to → IsAtLeastEnds s (height_of old.frame r)) → AreRowsAdded T s from to old new
+added_outside T s from low high to old new l e a under over = record {
+  frame = e;
+  added = a;
+  told = told_beside T s old.frame from low high to under over (told_none T s old.frame low high l);
+}
+
+-- rows that a piece misses are not between its ends
+pub added_met : (T : ℕ → ℕ → Type 0) (s : Span) (rows : RowRange) (old new : Band) → rows.end ≤ old.frame.height
+    → ((r : ℕ) → r < rows.first → HasAll (λ q. height_of old.frame r <ℤ q.y) s)
+    → ((r : ℕ) → rows.end ≤ r → r < old.frame.height → HasAll (λ q. q.y <ℤ height_of old.frame r) s)
+    → AreRowsAdded T s rows.first rows.end old new → AreRowsAdded T s 0 old.frame.height old new
+added_met T s rows old new within below above h =
+    let f = old.frame in
+    added_beside T s 0 rows.first rows.end f.height old old new new (omega arith) rows.order within refl refl
+    (band_missed s f 0 rows.first old (omega arith) (λ r l m. inl (below r m))) h
+    (subst (λ (x : Frame). IsBandAdded s x rows.end f.height new new) (sym h.frame)
+    (band_missed s f rows.end f.height new within (λ r l m. inr (above r l m))))
+    (λ r l m. above_all s (height_of f r) (below r m)) (λ r l m. below_all s (height_of f r) (above r l m))
+
+pub met_around : (s : Span) (f : Frame) (m : Met) → m.touched.end ≤ f.height
+    → ((r : ℕ) → r < m.touched.first → HasAll (λ q. height_of f r <ℤ q.y) s)
+    → ((r : ℕ) → m.touched.end ≤ r → r < f.height → HasAll (λ q. q.y <ℤ height_of f r) s)
+    → AreBetween s f m.touched m.inner → AreMet s f m
+met_around s f m within below above h = record {
+  below = below;
+  above = above;
+  within = within;
+  inner = h.inner;
+  under = λ r l. under r l (below_or_not r m.touched.first);
+  over = λ r l o. over r l o (below_or_not r m.touched.end);
+}
+  where
+    under : (r : ℕ) → r < m.inner.first → (r < m.touched.first) ⊎ (m.touched.first ≤ r) → IsAtMostEnds s (height_of f r)
+    under r l (inl k) = above_all s (height_of f r) (below r k)
+    under r l (inr k) = h.under r k l
+
+    over : (r : ℕ) → m.inner.end ≤ r → r < f.height → (r < m.touched.end) ⊎ (m.touched.end ≤ r)
+        → IsAtLeastEnds s (height_of f r)
+    over r l o (inl k) = h.over r l k
+    over r l o (inr k) = below_all s (height_of f r) (above r k o)
 
 -- ---- frames that are the same rows of a frame
 row_same : (f g h : Frame) (from to r : ℕ) → IsPartOf f from to g → IsPartOf f from to h
@@ -184,32 +243,31 @@ met_same s f g h from to m a b is = record {
 
 -- ---- the pieces that are noted
 -- no piece yet
-pub noted_start : (P : Span → Way → ℕ → Type 0) (ss : List Span) (f : Frame) (from to : ℕ) → AreNotedIn P (take 0 ss) f from to
+pub noted_start : (P : Saying → Type 0) (ss : List Span) (f : Frame) (from to : ℕ) → AreNotedIn P (take 0 ss) f from to
 noted_start P ss f from to k d h = absurd (omega (arith, h))
 
--- what is noted in one sense is noted in another
-pub noted_also : (P Q : Span → Way → ℕ → Type 0) (ss : List Span) (f : Frame) (from to : ℕ)
-    → ((s : Span) (r : ℕ) → from ≤ r → r < to → P s across_row r → Q s across_row r)
-    → ((s : Span) (r : ℕ) → P s up_to_row r → Q s up_to_row r) → AreNotedIn P ss f from to → AreNotedIn Q ss f from to
-noted_also P Q ss f from to across up h k d l =
-    let s = get_or ss k d in
+-- what is noted stays so
+noted_also : (P Q : Saying → Type 0) (ss : List Span) (f : Frame) (from to : ℕ)
+    → ((s : Span) (w : Way) (r : ℕ) → P (noted s w r) → Q (noted s w r)) → AreNotedIn P ss f from to → AreNotedIn Q ss f from to
+noted_also P Q ss f from to kept h k d l =
     let here = h k d l in
     record {
-      across = λ r m n. across s r m n (here.across r m n);
-      up = λ r m n. up s r (here.up r m n);
-      top = λ e. up s f.height (here.top e);
+      across = λ r m n. kept _ across_row r (here.across r m n);
+      up = λ r m n. kept _ up_to_row r (here.up r m n);
+      top = λ e. kept _ up_to_row f.height (here.top e);
     }
 
 -- one more piece
-pub noted_more : (P : Span → Way → ℕ → Type 0) (ss : List Span) (f : Frame) (from to at : ℕ) (s : Span) → at < length ss
-    → s ≡ get_or ss at s → AreNotedIn P (take at ss) f from to → AreRowsNoted (P s) f from to
-    → AreNotedIn P (take (at + 1) ss) f from to
-noted_more P ss f from to at s l e h here =
-    All-more (λ t. AreRowsNoted (P t) f from to) ss at s l h (subst (λ t. AreRowsNoted (P t) f from to) e here)
+pub noted_more : (P Q : Saying → Type 0) (ss : List Span) (f : Frame) (from to at : ℕ) (s : Span) → at < length ss
+    → s ≡ get_or ss at s → ((t : Span) (w : Way) (r : ℕ) → P (noted t w r) → Q (noted t w r))
+    → AreNotedIn P (take at ss) f from to → AreRowsNoted Q s f from to → AreNotedIn Q (take (at + 1) ss) f from to
+noted_more P Q ss f from to at s l e kept h here =
+    All-more (λ t. AreRowsNoted Q t f from to) ss at s l (noted_also P Q (take at ss) f from to kept h)
+    (subst (λ t. AreRowsNoted Q t f from to) e here)
 
 -- rows, and then the rows after them
-pub noted_both : (P Q : Span → Way → ℕ → Type 0) (ss : List Span) (f : Frame) (from mid to : ℕ)
-    → ((s : Span) (w : Way) (r : ℕ) → P s w r → Q s w r)
+pub noted_both : (P Q : Saying → Type 0) (ss : List Span) (f : Frame) (from mid to : ℕ)
+    → ((s : Span) (w : Way) (r : ℕ) → P (noted s w r) → Q (noted s w r))
     → AreNotedIn P ss f from mid → AreNotedIn Q ss f mid to → AreNotedIn Q ss f from to
 noted_both P Q ss f from mid to kept a b k d l = record {
   across = λ r m n. across r m n (below_or_not r mid);
@@ -217,17 +275,17 @@ noted_both P Q ss f from mid to kept a b k d l = record {
   top = (b k d l).top;
 }
   where
-    across : (r : ℕ) → from ≤ r → r < to → (r < mid) ⊎ (mid ≤ r) → Q (get_or ss k d) across_row r
+    across : (r : ℕ) → from ≤ r → r < to → (r < mid) ⊎ (mid ≤ r) → Q (noted (get_or ss k d) across_row r)
     across r m n (inl o) = kept (get_or ss k d) across_row r ((a k d l).across r m o)
     across r m n (inr o) = (b k d l).across r o n
 
-    up : (r : ℕ) → from ≤ r → r < to → (r < mid) ⊎ (mid ≤ r) → Q (get_or ss k d) up_to_row r
+    up : (r : ℕ) → from ≤ r → r < to → (r < mid) ⊎ (mid ≤ r) → Q (noted (get_or ss k d) up_to_row r)
     up r m n (inl o) = kept (get_or ss k d) up_to_row r ((a k d l).up r m o)
     up r m n (inr o) = (b k d l).up r o n
 
 -- the same, but for pieces that are noted apart
 pub noted_unless : (B : Span → Type 0) (f : Frame) (rows columns : List ℕ) (ss : List Span)
-    → AreNotedIn (λ s w r. ¬ (B s) → IsNotedBy f rows columns s w r) ss f 0 f.height
+    → AreNotedIn (BitsSay B f rows columns) ss f 0 f.height
     → All (λ s. ¬ (B s) → IsNoted s f rows columns) ss
 noted_unless B f rows columns ss h k d l apart = record {
   across = λ r m. (h k d l).across r (omega arith) m apart;
@@ -240,7 +298,10 @@ noted_unless B f rows columns ss h k d l apart = record {
         let e : f.height ≡ r = omega (arith, m, o) in
         subst (IsNotedUp (get_or ss k d) f columns) e ((h k d l).top refl apart)
 
--- what is noted is exact
+-- what is noted is exact, and stays so while these pieces are noted
+pub all_among : (ss : List Span) → All (λ s. IsAmong s ss) ss
+all_among ss k d l = record { at = k; inside = l; is = get_or_default ss k _ d l }
+
 pub exact_of : (f : Frame) (across up : List ℕ) (ss : List Span) → AreMetBySome f across up ss → AreExact f across up ss
 exact_of f across up ss h = record {
   across = λ r k l o m e. let p = h.rows r k l o m e in (p.among.at, p.piece, p.among.inside, p.among.is, p.met);

@@ -1,7 +1,7 @@
 -- Which segments between neighbouring rows a piece meets that does not bulge.
 -- Serves `note_up`.
 use Rattle.std.proofs.Common.{◌≡◌, ◌≢◌, ◌⊎◌, inl, inr, refl, sym, ap, ◌∙◌, subst, ℕ, zero, suc, ◌+◌, ◌<◌, ◌≤◌, min, max, ℤ, pos, negsuc}
-use Rattle.std.proofs.Common.{◌+ℤ◌, ◌-ℤ◌, ◌*ℤ◌, ◌≤ℤ◌, ◌<ℤ◌, List, Option, Some, None, int_lt, if◌then◌else◌, IsTrue, ◌^◌, arith}
+use Rattle.std.proofs.Common.{◌+ℤ◌, ◌-ℤ◌, ◌*ℤ◌, ◌≤ℤ◌, ◌<ℤ◌, List, Option, Some, None, IsTrue, ◌^◌, arith}
 use Rattle.std.proofs.Common.{w32, to_z, of_z}
 use Rattle.fx_fixed.specs.Ranges.{IsWithin}
 use Rattle.std.proofs.lemmas.Int.{ints}
@@ -123,41 +123,29 @@ on_line a c row e f = (
 -- a row that is below both ends, or at one of them
 pub resting : (s : Span) (row : ℤ) → ¬ (IsBulge s) → ¬ (IsOnLine s) → IsAtMostEnds s (pos 128 *ℤ row +ℤ pos 64)
     → IsResting s (pos 128 *ℤ row +ℤ pos 64)
-resting s row plain off (a, c) = (
-  above_line s row plain a c,
-  by (below_or_not_ℤ (pos 128 *ℤ row +ℤ pos 64) s.a.y) (below_or_not_ℤ (pos 128 *ℤ row +ℤ pos 64) s.c.y),
-)
+resting s row plain off h = (above_line s row plain h.0 h.1, one)
   where
-    by : ((pos 128 *ℤ row +ℤ pos 64) <ℤ s.a.y) ⊎ (s.a.y ≤ℤ (pos 128 *ℤ row +ℤ pos 64))
-        → ((pos 128 *ℤ row +ℤ pos 64) <ℤ s.c.y) ⊎ (s.c.y ≤ℤ (pos 128 *ℤ row +ℤ pos 64))
-        → ((pos 128 *ℤ row +ℤ pos 64) <ℤ s.a.y) ⊎ ((pos 128 *ℤ row +ℤ pos 64) <ℤ s.c.y)
-    by (inl l) k = inl l
-    by (inr l) (inl k) = inr k
-    by (inr l) (inr k) =
-        let is = on_line s.a.y s.c.y row (omega (arith, signed_linear, a, l)) (omega (arith, signed_linear, c, k)) in
-        absurd (off (record { level = is.0; line = is.1 }))
+    not : ¬ ((s.a.y ≡ pos 128 *ℤ row +ℤ pos 64) × (s.c.y ≡ pos 128 *ℤ row +ℤ pos 64))
+    not e = let is = on_line s.a.y s.c.y row e.0 e.1 in off (record { level = is.0; line = is.1 })
+
+    one : IsOneOver s (pos 128 *ℤ row +ℤ pos 64)
+    one = grind (arith, signed_linear, not, h)
 
 -- a row that is above both ends, or at one of them
 pub hanging : (s : Span) (row : ℤ) → ¬ (IsBulge s) → ¬ (IsOnLine s) → IsAtLeastEnds s (pos 128 *ℤ row +ℤ pos 64)
     → IsHanging s (pos 128 *ℤ row +ℤ pos 64)
-hanging s row plain off (a, c) = (
-  below_line s row plain a c,
-  by (below_or_not_ℤ s.a.y (pos 128 *ℤ row +ℤ pos 64)) (below_or_not_ℤ s.c.y (pos 128 *ℤ row +ℤ pos 64)),
-)
+hanging s row plain off h = (below_line s row plain h.0 h.1, one)
   where
-    by : (s.a.y <ℤ (pos 128 *ℤ row +ℤ pos 64)) ⊎ ((pos 128 *ℤ row +ℤ pos 64) ≤ℤ s.a.y)
-        → (s.c.y <ℤ (pos 128 *ℤ row +ℤ pos 64)) ⊎ ((pos 128 *ℤ row +ℤ pos 64) ≤ℤ s.c.y)
-        → (s.a.y <ℤ (pos 128 *ℤ row +ℤ pos 64)) ⊎ (s.c.y <ℤ (pos 128 *ℤ row +ℤ pos 64))
-    by (inl l) k = inl l
-    by (inr l) (inl k) = inr k
-    by (inr l) (inr k) =
-        let is = on_line s.a.y s.c.y row (omega (arith, signed_linear, a, l)) (omega (arith, signed_linear, c, k)) in
-        absurd (off (record { level = is.0; line = is.1 }))
+    not : ¬ ((s.a.y ≡ pos 128 *ℤ row +ℤ pos 64) × (s.c.y ≡ pos 128 *ℤ row +ℤ pos 64))
+    not e = let is = on_line s.a.y s.c.y row e.0 e.1 in off (record { level = is.0; line = is.1 })
+
+    one : IsOneUnder s (pos 128 *ℤ row +ℤ pos 64)
+    one = grind (arith, signed_linear, not, h)
 
 -- it meets segments in columns between its ends alone
 pub met_between : (s : Span) (f : Frame) → ¬ (IsBulge s) → AreMetBetween s f
 met_between s f plain r k l m =
-    by (below_or_not_ℤ x s.a.x) (below_or_not_ℤ x s.c.x) (below_or_not_ℤ s.a.x x) (below_or_not_ℤ s.c.x x)
+    grind (arith, signed_linear, left, right, below_or_not_ℤ x s.a.x, below_or_not_ℤ x s.c.x)
   where
     x : ℤ
     x = column_of f k
@@ -195,15 +183,6 @@ met_between s f plain r k l m =
     right : s.a.x <ℤ x → s.c.x <ℤ x → ⊥
     right a c = below_not_met (turned_place (lower f r k)) (turned_place (upper f r k)) (turned_span s) refl
         (all_turned (λ e. e.y <ℤ x) s (a, left_of a c s.b plain, c)) m.met
-
-    by : (x <ℤ s.a.x) ⊎ (s.a.x ≤ℤ x) → (x <ℤ s.c.x) ⊎ (s.c.x ≤ℤ x) → (s.a.x <ℤ x) ⊎ (x ≤ℤ s.a.x) → (s.c.x <ℤ x) ⊎ (x ≤ℤ s.c.x)
-        → IsBetween s.a.x s.c.x (column_of f k)
-    by (inl a) (inl c) u v = absurd (left a c)
-    by (inl a) (inr c) u v = inr (c, omega (arith, signed_linear, a))
-    by (inr a) (inl c) u v = inl (a, omega (arith, signed_linear, c))
-    by (inr a) (inr c) (inr u) v = inr (c, u)
-    by (inr a) (inr c) (inl u) (inr v) = inl (a, v)
-    by (inr a) (inr c) (inl u) (inl v) = absurd (right u v)
 
 -- ---- rows beside a piece
 next_up : (f : Frame) (r : ℕ) → height_below f r ≤ℤ height_of f r
@@ -283,10 +262,7 @@ on_line_unmet s f r k plain on w m =
 
 -- ---- from columns of one row to columns of the next
 pub value_counts : (s : Span) → rise_value s ≢ pos 0
-value_counts s e = by s.a.y s.c.y e
-  where
-    by : (a c : ℤ) → (if int_lt a c then pos 1 else negsuc 0) ≡ pos 0 → ⊥
-    by a c e = absurd (grind (arith, ints))
+value_counts s e = grind (arith, ints)
 
 value_rising : (s : Span) → s.a.y <ℤ s.c.y → rise_value s ≡ pos 1
 value_rising s h = grind (arith, ints)
@@ -297,15 +273,7 @@ value_falling s h = grind (arith, ints)
 -- the columns before both of two numbers, or from both on, are not between them
 not_aside : (from from' to to' k : ℕ) → ¬ ((k < from) × (k < from')) → ¬ ((to ≤ k) × (to' ≤ k))
     → (min from from' ≤ k) × (k < max to to')
-not_aside from from' to to' k before after = (low (below_or_not k (min from from')), high (below_or_not k (max to to')))
-  where
-    low : (k < min from from') ⊎ (min from from' ≤ k) → min from from' ≤ k
-    low (inl o) = absurd (before (omega (arith, o), omega (arith, o)))
-    low (inr o) = o
-
-    high : (k < max to to') ⊎ (max to to' ≤ k) → k < max to to'
-    high (inl o) = o
-    high (inr o) = absurd (after (omega (arith, o), omega (arith, o)))
+not_aside from from' to to' k before after = grind arith
 
 -- two rows between the ends
 pass_within : (s : Span) (f : Frame) (r : ℕ) (c d : Reach) → AreMetBetween s f
@@ -472,41 +440,25 @@ head_all s f r c d low hangs head k from to l off off' = record {
 -- these are the ends' places, in one order or the other
 ends_between : (s : Span) (x y z : ℤ) → IsFootX s x → IsHeadX s y → (IsBetween s.a.x s.c.x z → IsBetween x y z)
     × (IsBetween x y z → IsBetween s.a.x s.c.x z)
-ends_between s x y z foot head = by (below_or_not_ℤ s.a.y s.c.y)
-  where
-    turned_between : (a b : ℤ) → IsBetween a b z → IsBetween b a z
-    turned_between a b (inl h) = inr h
-    turned_between a b (inr h) = inl h
-
-    by : (s.a.y <ℤ s.c.y) ⊎ (s.c.y ≤ℤ s.a.y) → (IsBetween s.a.x s.c.x z → IsBetween x y z)
-        × (IsBetween x y z → IsBetween s.a.x s.c.x z)
-    by (inl l) =
-        let e = foot.rising l in
-        let h = head.rising l in
-        (subst (λ z. z) (λ i. IsBetween (sym e i) (sym h i) z), subst (λ z. z) (λ i. IsBetween (e i) (h i) z))
-    by (inr l) =
-        let e = foot.falling l in
-        let h = head.falling l in (
-          λ b. subst (λ z. z) (λ i. IsBetween (sym e i) (sym h i) z) (turned_between s.a.x s.c.x b),
-          λ b. turned_between s.c.x s.a.x (subst (λ z. z) (λ i. IsBetween (e i) (h i) z) b),
-        )
+ends_between s x y z foot head = (
+  λ b. grind (arith, signed_linear, below_or_not_ℤ s.a.y s.c.y),
+  λ b. grind (arith, signed_linear, below_or_not_ℤ s.a.y s.c.y),
+)
 
 through_within : (s : Span) (f : Frame) (r : ℕ) (c d : Reach) → AreMetBetween s f → AreAtFoot s f c → AreAtHead s f d
     → AreMetWithin s f r (min c.first d.first) (max c.end d.end)
 through_within s f r c d between foot head k l met =
-    not_aside c.first d.first c.end d.end k (λ o. left is (foot.at.left k o.0) (head.at.left k o.1))
-    (λ o. right is (foot.at.right k o.0 l) (head.at.right k o.1 l))
+    not_aside c.first d.first c.end d.end k (λ o. left (foot.at.left k o.0) (head.at.left k o.1))
+    (λ o. right (foot.at.right k o.0 l) (head.at.right k o.1 l))
   where
     is : IsBetween foot.x head.x (column_of f k)
     is = (ends_between s foot.x head.x (column_of f k) foot.is head.is).0 (between r k l met)
 
-    left : IsBetween foot.x head.x (column_of f k) → column_of f k <ℤ foot.x → column_of f k <ℤ head.x → ⊥
-    left (inl h) a b = absurd (omega (arith, signed_linear, h.0, a))
-    left (inr h) a b = absurd (omega (arith, signed_linear, h.0, b))
+    left : column_of f k <ℤ foot.x → column_of f k <ℤ head.x → ⊥
+    left a b = omega (arith, signed_linear, is)
 
-    right : IsBetween foot.x head.x (column_of f k) → foot.x <ℤ column_of f k → head.x <ℤ column_of f k → ⊥
-    right (inl h) a b = absurd (omega (arith, signed_linear, h.1, b))
-    right (inr h) a b = absurd (omega (arith, signed_linear, h.1, a))
+    right : foot.x <ℤ column_of f k → head.x <ℤ column_of f k → ⊥
+    right a b = omega (arith, signed_linear, is)
 
 through_all : (s : Span) (f : Frame) (r : ℕ) (c d : Reach) → IsResting s (height_below f r) → AreAtFoot s f c
     → IsHanging s (height_of f r) → AreAtHead s f d → AreAllMet s f r (min c.first d.first) (max c.end d.end)
@@ -652,27 +604,15 @@ first_row s f first one under = by first refl
 -- if an end is above the row above those between the ends, that is no row of the band
 pub last_row : (s : Span) (f : Frame) (end : ℕ) → end ≤ f.height → IsOneOver s (height_of f end)
     → (end < f.height → IsAtLeastEnds s (height_of f end)) → end ≡ f.height
-last_row s f end l one over = by (below_or_not end f.height)
-  where
-    none : IsOneOver s (height_of f end) → IsAtLeastEnds s (height_of f end) → ⊥
-    none (inl k) h = let a = h.0 in absurd (omega (arith, signed_linear, k, a))
-    none (inr k) h = let a = h.1 in absurd (omega (arith, signed_linear, k, a))
-
-    by : (end < f.height) ⊎ (f.height ≤ end) → end ≡ f.height
-    by (inl k) = absurd (none one (over k))
-    by (inr k) = omega (arith, k, l)
+last_row s f end l one over = grind (arith, signed_linear, below_or_not end f.height)
 
 -- one end below a height, and one above it
 pub one_each : (s : Span) (y : ℤ) → IsOneUnder s y → IsOneOver s y → IsInner s.a.y s.c.y y
-one_each s y (inl h) (inl k) = absurd (omega (arith, signed_linear, h, k))
-one_each s y (inl h) (inr k) = inl (h, k)
-one_each s y (inr h) (inl k) = inr (h, k)
-one_each s y (inr h) (inr k) = absurd (omega (arith, signed_linear, h, k))
+one_each s y h k = grind (arith, signed_linear)
 
 -- no end is above a height: so none is above a higher one
 pub at_least_more : (s : Span) (y z : ℤ) → y ≤ℤ z → IsAtLeastEnds s y → IsAtLeastEnds s z
-at_least_more s y z l h =
-    let a = h.0 in let c = h.1 in (omega (arith, signed_linear, l, a), omega (arith, signed_linear, l, c))
+at_least_more s y z l h = omega (arith, signed_linear)
 
 pub over_row : (f : Frame) (e r : ℕ) → e < r → height_of f e ≤ℤ height_below f r
 over_row f e r l = omega (arith, signed, l)

@@ -4,16 +4,14 @@ ghost use Rattle.std.specs.Prelude.{◌≡◌, ℕ, ◌+◌, ◌-◌, ◌*◌, �
 ghost use Rattle.fx_winding.specs.Limits.{end_of_pixels};
 ghost use Rattle.fx_winding.specs.Winding.{Span, span_of, centre};
 ghost use Rattle.fx_rows.specs.inner.Arcs.{AreAreas};
-ghost use Rattle.fx_rows.specs.inner.Heights.{height_of, IsAtLeastEnds, IsAtMostEnds};
-ghost use Rattle.fx_rows.specs.inner.Placing.{AreMet};
-ghost use Rattle.fx_rows.specs.inner.Points.{IsInner};
+ghost use Rattle.fx_rows.specs.inner.Placing.{AreBetween, AreMet};
 ghost use Rattle.fx_rows.specs.inner.Strips.{base_place};
 ghost use Rattle.fx_rows.specs.inner.Sides.{place_at};
 ghost use Rattle.fx_rows.specs.inner.Inside.{IsOnInside};
 ghost use Rattle.fx_rows.specs.inner.Cuts.{IsCut};
 ghost use Rattle.fx_rows.specs.inner.Sums.{AreWithin};
 ghost use Rattle.fx_rows.specs.inner.Bands.{stride, AreInner, IsRowAdded, IsBandAdded, bounded_span};
-ghost use Rattle.fx_rows.specs.inner.Telling.{AreRowsTold, Subject, Way};
+ghost use Rattle.fx_rows.specs.inner.Telling.{AreRowsAdded, Keeps};
 
 use crate::arc::total_of;
 use crate::band::Band;
@@ -32,6 +30,7 @@ use crate::strip::{Strip, areas_at, row_of, strip_of};
 use fx_winding::{Piece, Point, Tally, Weights};
 
 /// Adds what a piece gives to a row, in the general way. `near` is the region's run in the row below; that in this row is returned.
+#[tactic(auto, using(fx_fixed::proofs::Linear::signed_linear))]
 fn add_met(
     bounded: &Bounded,
     up: u32,
@@ -93,6 +92,7 @@ fn add_met_rows(piece: &Piece, rows: RowRange, band: &mut Band, tally: &mut Tall
 
 /// Adds a cut to the counts and the marks of its row, in which `end` columns come before its end.
 #[inline(always)]
+#[tactic(auto, using(fx_fixed::proofs::Linear::signed_linear))]
 fn add_cut(band: &mut Band, up: u32, strip: Strip, end: u32, cut: Cut)
     requires up { up < band.old.frame.height }
     requires small { AreWithin (2 ^ 26) band.old.diff.items }
@@ -117,8 +117,7 @@ fn add_cut(band: &mut Band, up: u32, strip: Strip, end: u32, cut: Cut)
     mark(&mut band.marks, frame, first, cut.on);
 }
 
-/// The cuts go on to the row above, which is the row `up`, if it comes before the end. So no row need be looked for above the last
-/// row of pixels.
+/// Moves the cuts to the next row, which is `up`, unless that is the end. The plane may have no row of pixels there to move to.
 #[inline(always)]
 fn move_up_before<C: Cuts + Drop>(cuts: &mut C, bounded: &Bounded, strip: Strip, up: u32, end: u32)
     requires at { C.AreAt cuts.old bounded.now (place_at strip 0) }
@@ -143,11 +142,8 @@ fn add_cuts<C: Cuts + Drop, N: Noting>(
     requires inner { AreInner bounded.now band.old.frame rows.first rows.end }
     requires at { C.AreAt cuts bounded.now (base_place band.old.frame rows.first) }
     requires small { AreWithin (2 ^ 25 + 4 * rows.first) band.old.diff.items }
-    ensures frame { band.new.frame ≡ band.old.frame }
-    ensures added { IsBandAdded (bounded_span bounded.now) band.old.frame rows.first rows.end band.old band.new }
-    ensures of { (t : Subject) → N.IsOf noter.old t → N.IsOf noter.new t }
-    ensures kept { (s : Span) (w : Way) (r : ℕ) → N.IsNotedAt noter.old s w r → N.IsNotedAt noter.new s w r }
-    ensures told { AreRowsTold (N.IsTold noter.new) (bounded_span bounded.now) band.old.frame rows.first rows.end }
+    ensures added { AreRowsAdded (N.IsTold noter.new) (bounded_span bounded.now) rows.first rows.end band.old band.new }
+    ensures kept { Keeps (N.Says noter.old) (N.Says noter.new) }
     ensures count { tally.new.count ≤ tally.old.count + (rows.end - rows.first) }
 {
     let mut cuts = cuts;
@@ -180,11 +176,8 @@ fn add_curve_rows<N: Noting>(
     requires base { place_at strip 0 ≡ base_place band.old.frame rows.first }
     requires areas { AreAreas (bounded_span bounded.now) (place_at strip 0) areas }
     requires small { AreWithin (2 ^ 25 + 4 * rows.first) band.old.diff.items }
-    ensures frame { band.new.frame ≡ band.old.frame }
-    ensures added { IsBandAdded (bounded_span bounded.now) band.old.frame rows.first rows.end band.old band.new }
-    ensures of { (t : Subject) → N.IsOf noter.old t → N.IsOf noter.new t }
-    ensures kept { (s : Span) (w : Way) (r : ℕ) → N.IsNotedAt noter.old s w r → N.IsNotedAt noter.new s w r }
-    ensures told { AreRowsTold (N.IsTold noter.new) (bounded_span bounded.now) band.old.frame rows.first rows.end }
+    ensures added { AreRowsAdded (N.IsTold noter.new) (bounded_span bounded.now) rows.first rows.end band.old band.new }
+    ensures kept { Keeps (N.Says noter.old) (N.Says noter.new) }
     ensures count { tally.new.count ≤ tally.old.count + 10 * (rows.end - rows.first) }
 {
     let total = total_of(areas);
@@ -197,6 +190,7 @@ fn add_curve_rows<N: Noting>(
 }
 
 /// Adds what a piece gives to rows between its ends.
+#[tactic(auto, using(fx_fixed::proofs::Linear::signed_linear))]
 fn add_inner_rows<N: Noting>(
     bounded: &Bounded,
     rows: RowRange,
@@ -208,11 +202,8 @@ fn add_inner_rows<N: Noting>(
     requires rows { rows.end ≤ band.old.frame.height }
     requires inner { AreInner bounded.now band.old.frame rows.first rows.end }
     requires small { AreWithin (2 ^ 25 + 4 * rows.first) band.old.diff.items }
-    ensures frame { band.new.frame ≡ band.old.frame }
-    ensures added { IsBandAdded (bounded_span bounded.now) band.old.frame rows.first rows.end band.old band.new }
-    ensures of { (t : Subject) → N.IsOf noter.old t → N.IsOf noter.new t }
-    ensures kept { (s : Span) (w : Way) (r : ℕ) → N.IsNotedAt noter.old s w r → N.IsNotedAt noter.new s w r }
-    ensures told { AreRowsTold (N.IsTold noter.new) (bounded_span bounded.now) band.old.frame rows.first rows.end }
+    ensures added { AreRowsAdded (N.IsTold noter.new) (bounded_span bounded.now) rows.first rows.end band.old band.new }
+    ensures kept { Keeps (N.Says noter.old) (N.Says noter.new) }
     ensures count { tally.new.count ≤ tally.old.count + 12 * (rows.end - rows.first) }
 {
     if bounded.across.end <= bounded.across.first {
@@ -240,17 +231,9 @@ fn add_met_piece<N: Noting>(
     requires rows { rows.end ≤ band.old.frame.height }
     requires some { rows.first < rows.end }
     requires small { AreWithin (2 ^ 25 + 4 * rows.first) band.old.diff.items }
-    ensures frame { band.new.frame ≡ band.old.frame }
-    ensures added { IsBandAdded (span_of piece.now) band.old.frame rows.first rows.end band.old band.new }
-    ensures of { (t : Subject) → N.IsOf noter.old t → N.IsOf noter.new t }
-    ensures kept { (s : Span) (w : Way) (r : ℕ) → N.IsNotedAt noter.old s w r → N.IsNotedAt noter.new s w r }
-    ensures told { AreRowsTold (N.IsTold noter.new) (span_of piece.now) band.old.frame rows.first rows.end }
-    ensures from { rows.first ≤ result.first }
-    ensures to { result.end ≤ rows.end }
-    ensures inner { (r : ℕ) → result.first ≤ r → r < result.end →
-        IsInner piece.now.a.y piece.now.c.y (height_of band.old.frame r) }
-    ensures under { (r : ℕ) → rows.first ≤ r → r < result.first → IsAtMostEnds (span_of piece.now) (height_of band.old.frame r) }
-    ensures over { (r : ℕ) → result.end ≤ r → r < rows.end → IsAtLeastEnds (span_of piece.now) (height_of band.old.frame r) }
+    ensures added { AreRowsAdded (N.IsTold noter.new) (span_of piece.now) rows.first rows.end band.old band.new }
+    ensures kept { Keeps (N.Says noter.old) (N.Says noter.new) }
+    ensures between { AreBetween (span_of piece.now) band.old.frame rows result }
     ensures count { tally.new.count ≤ tally.old.count + 12 * (rows.end - rows.first) }
 {
     let rise = rise_of(piece);
@@ -281,11 +264,8 @@ pub(crate) fn add_piece<N: Noting>(
     tally: &mut Tally,
 ) -> Met
     requires small { AreWithin (2 ^ 25) band.old.diff.items }
-    ensures frame { band.new.frame ≡ band.old.frame }
-    ensures added { IsBandAdded (span_of piece.now) band.old.frame 0 band.old.frame.height band.old band.new }
-    ensures of { (t : Subject) → N.IsOf noter.old t → N.IsOf noter.new t }
-    ensures kept { (s : Span) (w : Way) (r : ℕ) → N.IsNotedAt noter.old s w r → N.IsNotedAt noter.new s w r }
-    ensures told { AreRowsTold (N.IsTold noter.new) (span_of piece.now) band.old.frame 0 band.old.frame.height }
+    ensures added { AreRowsAdded (N.IsTold noter.new) (span_of piece.now) 0 band.old.frame.height band.old band.new }
+    ensures kept { Keeps (N.Says noter.old) (N.Says noter.new) }
     ensures met { AreMet (span_of piece.now) band.old.frame result }
     ensures count { tally.new.count ≤ tally.old.count + 12 * band.old.frame.height }
 {

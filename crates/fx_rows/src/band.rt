@@ -37,6 +37,7 @@ impl Band {
     ghost use Rattle.fx_rows.specs.inner.Sums.{AreZero};
 
     /// A band that nothing was added to, with the lists of a scratch, which is left without any.
+    #[tactic(auto, using(fx_fixed::proofs::Linear::signed_linear))]
     pub(crate) fn new(
         alloc: Global,
         frame: Frame,
@@ -63,6 +64,7 @@ impl Band {
         ensures value { result ≡ up * stride self.now.frame.width }
         ensures few { result < 2 ^ 32 }
         ensures word { result % 32 ≡ 0 }
+        ensures room { (result + self.now.frame.width) / 32 < length self.now.marks.items }
     {
         up as usize * (32 * words_for(self.frame.width))
     }

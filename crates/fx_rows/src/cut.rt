@@ -210,6 +210,7 @@ fn window_of(bend: Bend, guess: u32, stop: u32) -> Window
 
 /// How many columns from the base count, looked for in a window by steps that double. It is to be in the loops too.
 #[inline(always)]
+#[tactic(auto, using(fx_fixed::proofs::Linear::signed_linear))]
 fn count_in(bend: Bend, window: Window, stop: u32) -> u32
     requires order { window.low ≤ window.high }
     requires high { window.high ≤ stop }

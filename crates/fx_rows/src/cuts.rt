@@ -110,7 +110,8 @@ impl Cuts for FlatCuts {
 }
 
 /// Whether an arc can touch the centre of a pixel, from its areas at one. From centre to centre the areas change by multiples of
-/// 128, and so their gap changes by multiples of 256. If the gap is no such multiple at one centre, it is 0 at none.
+/// 128, and so their gap changes by multiples of 256. If the gap is no such multiple at one centre, it is 0 at none. If it is one,
+/// the arc may touch no centre all the same: no clause says that it does.
 fn may_touch(areas: Weights) -> bool
     ensures { (s : Span) (col row : ℤ) → AreAreas s (centre col row) areas → result ≡ false → MissesCentres s }
 {

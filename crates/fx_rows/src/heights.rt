@@ -1,11 +1,11 @@
 //! The rows of a band that a piece can touch, and those that its chord passes between its ends.
 
-ghost use Rattle.std.specs.Prelude.{◌⊎◌, ℕ, ◌+◌, ◌^◌, ◌<◌, ◌≤◌, pos, ◌+ℤ◌, ◌*ℤ◌, ◌<ℤ◌, ◌≤ℤ◌, IsTrue};
+ghost use Rattle.std.specs.Prelude.{ℕ, ◌+◌, ◌^◌, ◌<◌, ◌≤◌, pos, ◌+ℤ◌, ◌*ℤ◌, ◌<ℤ◌, ◌≤ℤ◌, IsTrue};
 ghost use Rattle.fx_fixed.specs.Ranges.{IsWithin};
 ghost use Rattle.fx_winding.specs.Limits.{IsPixelNumber};
 ghost use Rattle.fx_winding.specs.Outside.{HasAll};
 ghost use Rattle.fx_winding.specs.Winding.{span_of};
-ghost use Rattle.fx_rows.specs.inner.Heights.{height_of, IsMissed};
+ghost use Rattle.fx_rows.specs.inner.Heights.{height_of, IsMissed, AreAmong};
 ghost use Rattle.fx_rows.specs.inner.Telling.{IsPartOf};
 
 use crate::bounded::Rise;
@@ -81,6 +81,7 @@ fn clamped(n: u32, low: u32, high: u32) -> u32
 }
 
 /// The rows of a frame from one row of the plane on and before another. Many pieces lie between two rows of centres, and have none.
+#[tactic(auto, using(fx_fixed::proofs::Linear::signed_linear))]
 fn rows_in(frame: Frame, low: i32, past: i32) -> RowRange
     requires low { IsWithin (2 ^ 15) low }
     requires past { IsWithin (2 ^ 15) past }
@@ -101,8 +102,6 @@ fn rows_in(frame: Frame, low: i32, past: i32) -> RowRange
 /// The rows of a frame that a piece can touch.
 pub(crate) fn rows_met(piece: &Piece, frame: Frame) -> RowRange
     ensures within { result.end ≤ frame.height }
-    ensures missed { (r : ℕ) → r < frame.height → (r < result.first) ⊎ (result.end ≤ r) →
-        IsMissed (span_of piece.now) (height_of frame r) }
     ensures below { (r : ℕ) → r < result.first → HasAll (λ q. height_of frame r <ℤ q.y) (span_of piece.now) }
     ensures above { (r : ℕ) → result.end ≤ r → r < frame.height → HasAll (λ q. q.y <ℤ height_of frame r) (span_of piece.now) }
 {
@@ -145,12 +144,7 @@ fn end_under(y: i32, frame: Frame, rows: RowRange) -> u32
 /// Those of some rows of a frame whose centres are above the lower end of a chord and below the upper one.
 pub(crate) fn rows_between(rise: Rise, frame: Frame, rows: RowRange) -> RowRange
     requires { rows.end ≤ frame.height }
-    ensures first { rows.first ≤ result.first }
-    ensures end { result.end ≤ rows.end }
-    ensures foot { (r : ℕ) → result.first ≤ r → r < result.end → rise.foot <ℤ height_of frame r }
-    ensures head { (r : ℕ) → result.first ≤ r → r < result.end → height_of frame r <ℤ rise.head }
-    ensures under { (r : ℕ) → rows.first ≤ r → r < result.first → height_of frame r ≤ℤ rise.foot }
-    ensures over { (r : ℕ) → result.end ≤ r → r < rows.end → rise.head ≤ℤ height_of frame r }
+    ensures { AreAmong rise.foot rise.head frame rows.first rows.end result.first result.end }
 {
     let first = first_over(rise.foot, frame, rows);
     let rest = RowRange {

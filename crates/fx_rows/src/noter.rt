@@ -6,7 +6,7 @@ ghost use Rattle.fx_winding.specs.Winding.{Span, span_of};
 ghost use Rattle.fx_winding.specs.declared.frame.Frame.{Frame};
 ghost use Rattle.fx_rows.specs.inner.Bulging.{IsBulge};
 ghost use Rattle.fx_rows.specs.inner.Placing.{AreMet, IsPlaced};
-ghost use Rattle.fx_rows.specs.inner.Telling.{AreMetBySome, IsAbout, IsPartOf, IsNotedBy};
+ghost use Rattle.fx_rows.specs.inner.Telling.{AreMetBySome, BitsSay, IsPartOf};
 ghost use Rattle.fx_rows.specs.inner.Told.{IsEndIn};
 
 use crate::band::MOST_ROWS;
@@ -76,12 +76,11 @@ fn placed_in(piece: &Piece, frame: Frame, rows: RowRange, met: Met) -> Placed
 impl Noting for Noter {
     ghost tests = { 47 };
 
-    ghost IsOf = { λ n t. IsAbout n.notes.frame n.notes.across.items n.notes.up.items t };
+    // If there are arcs that bulge, they are noted apart.
+    ghost Says = { λ n x.
+        BitsSay (λ s. IsBulge s × IsTrue n.bulges) n.notes.frame n.notes.across.items n.notes.up.items x };
 
     ghost IsTold = { λ n up end. IsEndIn n.ends up end };
-
-    ghost IsNotedAt = { λ n s w r.
-        ¬ (IsBulge s × IsTrue n.bulges) → IsNotedBy n.notes.frame n.notes.across.items n.notes.up.items s w r };
 
     #[inline(always)]
     fn tell(&mut self, up: u32, end: u32) {

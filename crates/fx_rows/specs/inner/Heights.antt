@@ -1,5 +1,5 @@
 -- The heights of rows, and pieces that rows miss.
-use Rattle.std.specs.Prelude.{◌⊎◌, ℕ, ℤ, pos, ◌+ℤ◌, ◌*ℤ◌, ◌≤ℤ◌, ◌<ℤ◌}
+use Rattle.std.specs.Prelude.{◌⊎◌, ℕ, ◌<◌, ◌≤◌, ℤ, pos, ◌+ℤ◌, ◌*ℤ◌, ◌≤ℤ◌, ◌<ℤ◌}
 use Rattle.fx_winding.specs.Outside.{HasAll}
 use Rattle.fx_winding.specs.Winding.{Span}
 use Rattle.fx_winding.specs.declared.frame.Frame.{Frame}
@@ -35,3 +35,13 @@ IsAtMostEnds s y = (y ≤ℤ s.a.y) × (y ≤ℤ s.c.y)
 -- neither end is above it
 abbrev pub IsAtLeastEnds : Span → ℤ → Type 0
 IsAtLeastEnds s y = (s.a.y ≤ℤ y) × (s.c.y ≤ℤ y)
+
+-- of a frame's rows from one to before another, those from first to before end have their centres above one height and below
+-- another, and no others
+pub record AreAmong (low high : ℤ) (f : Frame) (least past first end : ℕ) : Type 0 where
+  pub from : least ≤ first
+  pub to : end ≤ past
+  pub foot : (r : ℕ) → first ≤ r → r < end → low <ℤ height_of f r
+  pub head : (r : ℕ) → first ≤ r → r < end → height_of f r <ℤ high
+  pub under : (r : ℕ) → least ≤ r → r < first → height_of f r ≤ℤ low
+  pub over : (r : ℕ) → end ≤ r → r < past → high ≤ℤ height_of f r

@@ -4,9 +4,18 @@ use Rattle.fx_winding.specs.declared.frame.Frame.{Frame}
 use Rattle.fx_winding.specs.Outside.{HasAll}
 use Rattle.fx_winding.specs.Winding.{Span}
 use Rattle.fx_rows.specs.declared.heights.Met.{Met}
+use Rattle.fx_rows.specs.declared.heights.RowRange.{RowRange}
 use Rattle.fx_rows.specs.declared.placed.Placed.{Placed}
 use Rattle.fx_rows.specs.inner.Heights.{height_of, IsAtMostEnds, IsAtLeastEnds}
 use Rattle.fx_rows.specs.inner.Points.{IsInner, AreAcross}
+
+-- of some rows of a frame these pass between the ends of a piece, and those before and after them do not
+pub record AreBetween (s : Span) (f : Frame) (rows part : RowRange) : Type 0 where
+  pub from : rows.first ≤ part.first
+  pub to : part.end ≤ rows.end
+  pub inner : (r : ℕ) → part.first ≤ r → r < part.end → IsInner s.a.y s.c.y (height_of f r)
+  pub under : (r : ℕ) → rows.first ≤ r → r < part.first → IsAtMostEnds s (height_of f r)
+  pub over : (r : ℕ) → part.end ≤ r → r < rows.end → IsAtLeastEnds s (height_of f r)
 
 -- the rows of a frame that a piece may touch, and those of them that pass between its ends
 pub record AreMet (s : Span) (f : Frame) (m : Met) : Type 0 where

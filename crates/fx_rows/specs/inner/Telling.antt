@@ -4,6 +4,8 @@ use Rattle.fx_winding.specs.declared.frame.Frame.{Frame}
 use Rattle.fx_winding.specs.Bitmaps.{word_bit}
 use Rattle.fx_winding.specs.Notes.{pixel_number, IsNotedAcross, IsNotedUp}
 use Rattle.fx_winding.specs.Winding.{Span, IsOn}
+use Rattle.fx_rows.specs.declared.band.Band.{Band}
+use Rattle.fx_rows.specs.inner.Bands.{IsBandAdded}
 use Rattle.fx_rows.specs.inner.Heights.{height_of}
 use Rattle.fx_rows.specs.inner.Lines.{left_at, right_at, IsMetTo}
 use Rattle.fx_rows.specs.inner.Points.{IsInner}
@@ -20,6 +22,12 @@ pub record IsRowTold (IsTold : ℕ → ℕ → Type 0) (s : Span) (f : Frame) (r
 pub record AreRowsTold (IsTold : ℕ → ℕ → Type 0) (s : Span) (f : Frame) (from to : ℕ) : Type 0 where
   pub rows : (r : ℕ) → from ≤ r → r < to → IsInner s.a.y s.c.y (height_of f r) → IsRowTold IsTold s f r
 
+-- what a piece adds to the rows of a band from one to before another, and that it is told where its columns end in them
+pub record AreRowsAdded (IsTold : ℕ → ℕ → Type 0) (s : Span) (from to : ℕ) (old new : Band) : Type 0 where
+  pub frame : new.frame ≡ old.frame
+  pub added : IsBandAdded s old.frame from to old new
+  pub told : AreRowsTold IsTold s old.frame from to
+
 -- g is the rows of a frame from one to before another
 pub record IsPartOf (f : Frame) (from to : ℕ) (g : Frame) : Type 0 where
   pub left : g.left ≡ f.left
@@ -33,15 +41,23 @@ pub data Way : Type 0 where
   across_row : Way
   up_to_row : Way
 
+-- what can be said of notes: the frame of which segments are noted; that one of some pieces meets each that is noted within it;
+-- that those are noted that a piece meets across a row of the frame, or up to it. The number after the highest row's stands for
+-- those up from that.
+pub data Saying : Type 0 where
+  of_frame : Frame → Saying
+  of_pieces : List Span → Saying
+  noted : Span → Way → ℕ → Saying
+
 -- the rows of a frame from one to before another are noted in both ways, and with its highest row the segments up from that
-pub record AreRowsNoted (IsNotedAt : Way → ℕ → Type 0) (f : Frame) (from to : ℕ) : Type 0 where
-  pub across : (r : ℕ) → from ≤ r → r < to → IsNotedAt across_row r
-  pub up : (r : ℕ) → from ≤ r → r < to → IsNotedAt up_to_row r
-  pub top : to ≡ f.height → IsNotedAt up_to_row f.height
+pub record AreRowsNoted (Says : Saying → Type 0) (s : Span) (f : Frame) (from to : ℕ) : Type 0 where
+  pub across : (r : ℕ) → from ≤ r → r < to → Says (noted s across_row r)
+  pub up : (r : ℕ) → from ≤ r → r < to → Says (noted s up_to_row r)
+  pub top : to ≡ f.height → Says (noted s up_to_row f.height)
 
 -- the same of each piece
-abbrev pub AreNotedIn : (Span → Way → ℕ → Type 0) → List Span → Frame → ℕ → ℕ → Type 0
-AreNotedIn IsNotedAt ss f from to = All (λ s. AreRowsNoted (IsNotedAt s) f from to) ss
+abbrev pub AreNotedIn : (Saying → Type 0) → List Span → Frame → ℕ → ℕ → Type 0
+AreNotedIn Says ss f from to = All (λ s. AreRowsNoted Says s f from to) ss
 
 -- the segments of a row that a piece meets have their bits in the notes of a frame
 abbrev pub IsNotedBy : Frame → List ℕ → List ℕ → Span → Way → ℕ → Type 0
@@ -79,11 +95,22 @@ pub record AreMetBySome (f : Frame) (across up : List ℕ) (ss : List Span) : Ty
   pub rows : AreMetAcross f across ss
   pub columns : AreMetUp f up ss
 
--- what notes are about: a frame, and pieces
-pub data Subject : Type 0 where
-  of_frame : Frame → Subject
-  of_pieces : List Span → Subject
+-- what the bits of a frame's segments say, if some pieces are noted apart
+abbrev pub BitsSay : (Span → Type 0) → Frame → List ℕ → List ℕ → Saying → Type 0
+BitsSay IsApart f across up (of_frame g) = f ≡ g
+BitsSay IsApart f across up (of_pieces ss) = AreMetBySome f across up ss
+BitsSay IsApart f across up (noted s w r) = ¬ (IsApart s) → IsNotedBy f across up s w r
 
-abbrev pub IsAbout : Frame → List ℕ → List ℕ → Subject → Type 0
-IsAbout f across up (of_frame g) = f ≡ g
-IsAbout f across up (of_pieces ss) = AreMetBySome f across up ss
+-- what is said stays true while a piece is noted: all but that one of some pieces meets each segment, unless it is one of them
+abbrev pub Lasts : Span → Saying → Type 0
+Lasts s (of_frame f) = Unit {0}
+Lasts s (of_pieces ss) = IsAmong s ss
+Lasts s (noted t w r) = Unit {0}
+
+-- what was said of notes is so still
+abbrev pub Keeps : (Saying → Type 0) → (Saying → Type 0) → Type 0
+Keeps Old New = (x : Saying) → Old x → New x
+
+-- what lasts is so still, after some pieces were noted
+abbrev pub KeepsAfter : List Span → (Saying → Type 0) → (Saying → Type 0) → Type 0
+KeepsAfter ss Old New = (x : Saying) → All (λ s. Lasts s x) ss → Old x → New x

@@ -5,9 +5,6 @@ use Rattle.fx_rows.proofs.Gaps.{side_up}
 use Rattle.fx_rows.proofs.Sides.{side_within}
 use Rattle.fx_rows.proofs.above.side_above.Goals as goal
 
-pub turned-requires : goal.turned-requires
-turned-requires c = omega (arith, signed_linear, c.lift_of.ensures.size)
-
 pub overflow_add-result : goal.overflow_add-result
 overflow_add-result c =
     let n = side_within c.args.piece.now.a c.args.piece.now.c c.args.strip in
@@ -33,3 +30,6 @@ returns-clause-size c =
     let h = c.requires.start in
     let t = c.turned.ensures.size in
     (omega (arith, signed_linear, n, h, t), omega (arith, signed_linear, n, h, t))
+
+pub turned-requires : goal.turned-requires
+turned-requires c = omega (arith, signed_linear, c.lift_of.ensures.size)

@@ -3,55 +3,13 @@ use Rattle.std.proofs.lemmas.List.{with_items_is}
 use Rattle.fx_fixed.proofs.Linear.{signed_linear}
 use Rattle.fx_rows.specs.inner.Sums.{before, AreWithin}
 use Rattle.fx_rows.proofs.Counted.{Added, added_cut}
-use Rattle.fx_rows.proofs.Banding.{row_added, word_in}
+use Rattle.fx_rows.proofs.Banding.{row_added}
 use Rattle.fx_rows.proofs.add.add_cut.Goals as goal
-
-pub add_before-requires-clause-start : goal.add_before-requires-clause-start
-add_before-requires-clause-start c = omega (arith, signed_linear)
-
-pub add_before-requires-clause-value : goal.add_before-requires-clause-value
-add_before-requires-clause-value c = omega (arith, signed_linear)
-
-pub first_of-first-requires : goal.first_of-first-requires
-first_of-first-requires c = omega (arith, signed_linear)
-
-pub mark-requires-clause-few : goal.mark-requires-clause-few
-mark-requires-clause-few c = omega (arith, signed_linear)
-
-pub overflow_cast-end : goal.overflow_cast-end
-overflow_cast-end c = omega (arith, signed_linear)
-
-pub mark-requires-clause-words : goal.mark-requires-clause-words
-mark-requires-clause-words c =
-    let b = c.args.band.now in
-    let e : length c.deref_mut-3.result.now ≡ length b.marks.items = ap length c.deref_mut-3.ensures.value in
-    let l = word_in c.args.up b.frame.height b.frame.width c.first_of-first.result (length b.marks.items) c.requires.up
-    c.first_of-first.ensures.value b.room in
-    omega (arith, e, l)
-
-pub add_before-requires-clause-end : goal.add_before-requires-clause-end
-add_before-requires-clause-end c =
-    let b = c.args.band.now in
-    let l = word_in c.args.up b.frame.height b.frame.width c.first_of-first.result (length b.marks.items) c.requires.up
-    c.first_of-first.ensures.value b.room in
-    let e = ap length c.deref_mut.ensures.value in
-    omega (arith, signed_linear, l, e)
-
-pub add_before-requires-clause-word : goal.add_before-requires-clause-word
-add_before-requires-clause-word c =
-    let b = c.args.band.now in
-    let l = word_in c.args.up b.frame.height b.frame.width c.first_of-first.result (length b.marks.items) c.requires.up
-    c.first_of-first.ensures.value b.room in
-    let e = ap length c.deref_mut-2.ensures.value in
-    omega (arith, signed_linear, l, e)
 
 pub add_before-requires-clause-small : goal.add_before-requires-clause-small
 add_before-requires-clause-small c = λ k.
     let h = subst (AreWithin (2 ^ 26)) (sym c.deref_mut.ensures.value) c.requires.small k in
     (omega (arith, signed_linear, h), omega (arith, signed_linear, h))
-
-pub mark-requires-clause-inside : goal.mark-requires-clause-inside
-mark-requires-clause-inside c = c.requires.on
 
 pub invariant_of-band : goal.invariant_of-band
 invariant_of-band c =

@@ -6,20 +6,8 @@ use Rattle.fx_rows.specs.Parts.{IsRowPart}
 use Rattle.fx_rows.specs.inner.Sums.{before, AreWithin, AreTouched}
 use Rattle.fx_rows.specs.inner.Bands.{bounded_span}
 use Rattle.fx_rows.proofs.Counted.{Added, added_part, part_crosses, part_regions}
-use Rattle.fx_rows.proofs.Banding.{row_added, word_in}
+use Rattle.fx_rows.proofs.Banding.{row_added}
 use Rattle.fx_rows.proofs.add.add_met.Goals as goal
-
-pub first_of-first-requires : goal.first_of-first-requires
-first_of-first-requires c = omega (arith, signed_linear)
-
-pub mark-requires-clause-few : goal.mark-requires-clause-few
-mark-requires-clause-few c = omega (arith, signed_linear)
-
-pub returns-clause-count : goal.returns-clause-count
-returns-clause-count c = omega (arith, signed_linear)
-
-pub row_of-requires : goal.row_of-requires
-row_of-requires c = omega (arith, signed_linear)
 
 pub add_run-requires-clause-inside : goal.add_run-requires-clause-inside
 add_run-requires-clause-inside c = part_crosses _ _ _ _ c.met_part-part.ensures.part
@@ -27,52 +15,10 @@ add_run-requires-clause-inside c = part_crosses _ _ _ _ c.met_part-part.ensures.
 pub add_run-requires-2-clause-inside : goal.add_run-requires-2-clause-inside
 add_run-requires-2-clause-inside c = part_regions _ _ _ _ c.met_part-part.ensures.part
 
-pub add_run-requires-clause-long : goal.add_run-requires-clause-long
-add_run-requires-clause-long c =
-    let b = c.args.band.now in
-    let l = word_in c.args.up b.frame.height b.frame.width c.first_of-first.result (length b.marks.items) c.requires.up
-    c.first_of-first.ensures.value b.room in
-    let e = ap length c.deref_mut.ensures.value in
-    omega (arith, l, e)
-
-pub add_run-requires-clause-words : goal.add_run-requires-clause-words
-add_run-requires-clause-words c =
-    let b = c.args.band.now in
-    let l = word_in c.args.up b.frame.height b.frame.width c.first_of-first.result (length b.marks.items) c.requires.up
-    c.first_of-first.ensures.value b.room in
-    let e = ap length c.deref_mut-2.ensures.value in
-    omega (arith, l, e)
-
 pub add_run-requires-clause-small : goal.add_run-requires-clause-small
 add_run-requires-clause-small c = λ k.
     let h = subst (AreWithin (2 ^ 26)) (sym c.deref_mut.ensures.value) c.requires.small k in
     (omega (arith, signed_linear, h), omega (arith, signed_linear, h))
-
-pub add_run-requires-2-clause-long : goal.add_run-requires-2-clause-long
-add_run-requires-2-clause-long c =
-    let b = c.args.band.now in
-    let l = word_in c.args.up b.frame.height b.frame.width c.first_of-first.result (length b.marks.items) c.requires.up
-    c.first_of-first.ensures.value b.room in
-    let e = ap length c.deref_mut.ensures.value in
-    let d = ap length (c.deref_mut-3.ensures.value ∙ with_items_is b.diff c.add_run.new.diff (omega arith)) in
-    omega (arith, l, e, d)
-
-pub add_run-requires-2-clause-words : goal.add_run-requires-2-clause-words
-add_run-requires-2-clause-words c =
-    let b = c.args.band.now in
-    let l = word_in c.args.up b.frame.height b.frame.width c.first_of-first.result (length b.marks.items) c.requires.up
-    c.first_of-first.ensures.value b.room in
-    let e = ap length c.deref_mut-2.ensures.value in
-    let d = ap length (c.deref_mut-4.ensures.value ∙ with_items_is b.touched c.add_run.new.touched (omega arith)) in
-    omega (arith, l, e, d)
-
-pub mark-requires-clause-words : goal.mark-requires-clause-words
-mark-requires-clause-words c =
-    let b = c.args.band.now in
-    let l = word_in c.args.up b.frame.height b.frame.width c.first_of-first.result (length b.marks.items) c.requires.up
-    c.first_of-first.ensures.value b.room in
-    let e = ap length c.deref_mut-5.ensures.value in
-    omega (arith, l, e)
 
 pub invariant_of-band : goal.invariant_of-band
 invariant_of-band c =

@@ -10,7 +10,7 @@ returns-clause-noted c =
     let f = c.args.frame in
     let rows = c.rows_met.result in
     all_rows_set (span_of c.args.piece.now) f rows.first rows.end c.args.row_step c.args.step c.note_met_lines.new.bits
-    c.rows_met.ensures.missed
+    c.rows_met.ensures.below c.rows_met.ensures.above
     (λ r l m. subst (λ (p : Piece). IsRowSet (span_of p) f (f.bottom +ℤ pos r) (r * c.args.row_step) c.args.step
     c.note_met_lines.new.bits) c.bounds_of-bounded.ensures.piece (c.note_met_lines.ensures.noted r l m))
 

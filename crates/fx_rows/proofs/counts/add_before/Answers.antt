@@ -2,18 +2,6 @@ use Rattle.std.proofs.Common.{arith, ◌+◌, ◌^◌}
 use Rattle.fx_fixed.proofs.Linear.{signed_linear}
 use Rattle.fx_rows.proofs.counts.add_before.Goals as goal
 
-pub add-requires-clause-at : goal.add-requires-clause-at
-add-requires-clause-at c = omega (arith, signed_linear)
-
-pub add-requires-clause-word : goal.add-requires-clause-word
-add-requires-clause-word c = omega (arith, signed_linear)
-
-pub overflow_add-first : goal.overflow_add-first
-overflow_add-first c = omega (arith, signed_linear)
-
-pub overflow_sub-value : goal.overflow_sub-value
-overflow_sub-value c = omega (arith, signed_linear)
-
 pub add-requires-clause-small : goal.add-requires-clause-small
 add-requires-clause-small c = λ k. let e = c.add_first.ensures.grown (2 ^ 28) c.requires.small k in omega (arith, signed_linear, e)
 

@@ -1,24 +1,8 @@
-use Rattle.fx_fixed.proofs.Linear.{signed_linear}
 use Rattle.std.proofs.Common.{arith}
 use Rattle.fx_winding.proofs.Places.{clash}
 use Rattle.fx_rows.specs.inner.Cuts.{CountsAt}
 use Rattle.fx_rows.proofs.cut.count_in.Goals as goal
 use Rattle.fx_rows.proofs.cut.count_in.Goals.{then-counts, else-counts}
-
-pub counts-requires : goal.counts-requires
-counts-requires c = omega (arith, signed_linear)
-
-pub overflow_add-low : goal.overflow_add-low
-overflow_add-low c = omega (arith, signed_linear)
-
-pub overflow_sub-high : goal.overflow_sub-high
-overflow_sub-high c = omega (arith, signed_linear)
-
-pub returns-clause-within : goal.returns-clause-within
-returns-clause-within c = omega (arith, signed_linear)
-
-pub saturating_sub-at-requires : goal.saturating_sub-at-requires
-saturating_sub-at-requires c = omega (arith, signed_linear)
 
 pub columns-preserved : goal.columns-preserved
 columns-preserved c = elim c.if-counts.branch [

@@ -8,12 +8,6 @@ use Rattle.fx_rows.proofs.cut.gap_in.Goals as goal
 as_it_is : (z : ℤ) → IsWithin (2 ^ 48) z → to_z w64 (of_z w64 z) ≡ z
 as_it_is z h = omega (arith, signed_linear)
 
-pub overflow_mul-result : goal.overflow_mul-result
-overflow_mul-result c = omega (arith, signed, c.product.ensures.size)
-
-pub overflow_sub-result : goal.overflow_sub-result
-overflow_sub-result c = omega (arith, signed, c.product.ensures.size, c.product-2.ensures.size)
-
 pub returns : goal.returns
 returns c =
     let b = c.args.bend in
@@ -30,3 +24,9 @@ returns c =
     ∙ (λ i. (c.moved-u.ensures.value i) *ℤ (c.moved-w.ensures.value i))
     ∙ (λ i. (gu i +ℤ pos c.args.k *ℤ su i) *ℤ (gw i +ℤ pos c.args.k *ℤ sw i)))
     (c.product-2.ensures.value ∙ (λ i. v i *ℤ v i) ∙ (λ i. (c.requires.side i) *ℤ (c.requires.side i)))
+
+pub overflow_mul-result : goal.overflow_mul-result
+overflow_mul-result c = omega (arith, signed, c.product.ensures.size)
+
+pub overflow_sub-result : goal.overflow_sub-result
+overflow_sub-result c = omega (arith, signed, c.product.ensures.size, c.product-2.ensures.size)

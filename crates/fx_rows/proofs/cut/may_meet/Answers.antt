@@ -4,9 +4,6 @@ use Rattle.fx_winding.specs.Area.{gap_of}
 use Rattle.fx_rows.proofs.Touching.{is_same, low_zero}
 use Rattle.fx_rows.proofs.cut.may_meet.Goals as goal
 
-pub overflow_mul-result : goal.overflow_mul-result
-overflow_mul-result c = omega (arith, signed, c.moved-u.ensures.size)
-
 pub returns : goal.returns
 returns c = λ z.
     let b = c.args.bend in
@@ -18,3 +15,6 @@ returns c = λ z.
     let w = c.moved-w.ensures.value ∙ (λ i. gw i +ℤ pos c.args.k *ℤ sw i) in
     is_same _ _ (low_zero c.moved-u.result c.args.side c.moved-w.result c.moved-u.ensures.size c.requires.size
     c.moved-w.ensures.size ((λ i. gap_of (u i) (c.requires.side i) (w i)) ∙ z))
+
+pub overflow_mul-result : goal.overflow_mul-result
+overflow_mul-result c = omega (arith, signed, c.moved-u.ensures.size)

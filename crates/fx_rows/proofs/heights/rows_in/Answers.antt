@@ -3,21 +3,6 @@ use Rattle.fx_fixed.proofs.Linear.{signed_linear}
 use Rattle.fx_fixed.proofs.Order.{below_or_not}
 use Rattle.fx_rows.proofs.heights.rows_in.Goals as goal
 
-pub returns-then-past-low-clause-below : goal.returns-then-past-low-clause-below
-returns-then-past-low-clause-below c = λ r l.
-    omega (arith, signed_linear, c.rows_below-first.ensures.below r l, c.if-past-low.true, c.requires.low, c.requires.past)
-
-pub returns-then-past-low-clause-rest : goal.returns-then-past-low-clause-rest
-returns-then-past-low-clause-rest c = λ r l h.
-    omega (arith, signed_linear, c.rows_below-first.ensures.rest r l h, c.requires.past)
-
-pub returns-clause-below : goal.returns-clause-below
-returns-clause-below c = λ r l. omega (arith, signed_linear, c.rows_below.ensures.below r l, c.requires.low)
-
-pub returns-clause-rest : goal.returns-clause-rest
-returns-clause-rest c = λ r m h.
-    omega (arith, signed_linear, c.rows_below-2.ensures.rest r m h, c.requires.past)
-
 pub invariant_of-result-2 : goal.invariant_of-result-2
 invariant_of-result-2 c = record { order = by (below_or_not c.rows_below-2.result c.rows_below.result) }
   where

@@ -1,8 +1,8 @@
-use Rattle.std.proofs.Common.{◌⊎◌, inl, inr, ◌≡◌, ◌<◌, ◌≤◌, ℕ, pos, ◌+ℤ◌, ◌<ℤ◌, ◌≤ℤ◌, arith, w32, to_z, of_z}
+use Rattle.std.proofs.Common.{◌≡◌, pos, ◌+ℤ◌, ◌<ℤ◌, ◌≤ℤ◌, arith, w32, to_z, of_z}
 use Rattle.fx_fixed.proofs.Linear.{signed_linear}
 use Rattle.fx_winding.specs.Winding.{span_of}
 use Rattle.fx_winding.proofs.Beside.{HasAll-weaker}
-use Rattle.fx_rows.specs.inner.Heights.{height_of, IsMissed}
+use Rattle.fx_rows.specs.inner.Heights.{height_of}
 use Rattle.fx_rows.proofs.heights.rows_met.Goals as goal
 
 pub returns-clause-below : goal.returns-clause-below
@@ -27,11 +27,3 @@ returns-clause-above c = λ r m h.
     let over = c.first_from-past.ensures.from (c.args.frame.bottom +ℤ pos r) b in
     HasAll-weaker (λ q. q.y ≤ℤ y) (λ q. q.y <ℤ height_of c.args.frame r)
     (λ q h. omega (arith, signed_linear, over, near, h)) (span_of c.args.piece.now) c.high_y.ensures.high
-
-pub returns-clause-missed : goal.returns-clause-missed
-returns-clause-missed c = λ r h o. by r h o
-  where
-    by : (r : ℕ) → r < c.args.frame.height → (r < c.rows_in.result.first) ⊎ (c.rows_in.result.end ≤ r)
-        → IsMissed (span_of c.args.piece.now) (height_of c.args.frame r)
-    by r h (inl l) = inl (returns-clause-below c r l)
-    by r h (inr l) = inr (returns-clause-above c r l h)

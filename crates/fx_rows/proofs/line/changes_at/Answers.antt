@@ -7,7 +7,8 @@ use Rattle.fx_rows.specs.Parts.{IsRowPart}
 use Rattle.fx_rows.specs.declared.part.RowPart.{RowPart}
 use Rattle.fx_rows.specs.inner.Lines.{left_at, right_at}
 use Rattle.fx_rows.specs.inner.Sums.{value_at}
-use Rattle.fx_rows.proofs.Added.{bits_tell, left_column, left_in, right_column, right_in, turn_at, turn_small}
+use Rattle.fx_rows.proofs.Counted.{turn_small}
+use Rattle.fx_rows.proofs.Added.{bits_tell, left_column, left_in, right_column, right_in, turn_at}
 use Rattle.fx_rows.proofs.line.changes_at.Goals as goal
 
 abbrev sum_at : RowPart → ℤ → ℤ

@@ -1,5 +1,5 @@
 use Rattle.std.proofs.Common.{◌≡◌, ◌⊎◌, inl, inr, refl, ◌∙◌, ℕ, zero, suc, ◌+◌, ◌*◌, ◌-◌, ◌^◌, ◌<◌, ◌≤◌, ◌↔◌, IsTrue, Any, subst, sym}
-use Rattle.std.proofs.Common.{ap, pos, ◌+ℤ◌, map, length, get_or, take, arith, List, false}
+use Rattle.std.proofs.Common.{ap, pos, ◌+ℤ◌, map, length, get_or, arith, List, false}
 use Rattle.std.proofs.Math.ListN.{get_or-map}
 use Rattle.std.proofs.lemmas.List.{length-map, take_all}
 use Rattle.fx_fixed.proofs.Linear.{signed_linear}
@@ -9,11 +9,11 @@ use Rattle.fx_winding.specs.Winding.{Span, span_of, centre, winding, IsOn}
 use Rattle.fx_rows.specs.inner.Sums.{before, AreWithin}
 use Rattle.fx_rows.specs.inner.Bands.{stride, turns_at, mark_at, IsBandAdded}
 use Rattle.fx_rows.specs.inner.Placing.{AreMet}
-use Rattle.fx_rows.specs.inner.Telling.{AreRowsTold, AreNotedIn, Way, across_row, up_to_row, of_frame, of_pieces}
+use Rattle.fx_rows.specs.inner.Telling.{AreRowsTold, AreNotedIn, Keeps, Lasts, noted, of_frame}
 use Rattle.fx_rows.proofs.Counted.{counted_start, counted_more, counted_all, count_more, within_none}
 use Rattle.fx_rows.proofs.Banding.{IsNumber, number_or_not}
 use Rattle.fx_rows.proofs.Sums.{before_none}
-use Rattle.fx_rows.proofs.Telling.{told_same, met_same, noted_start, noted_also, noted_more}
+use Rattle.fx_rows.proofs.Telling.{told_same, met_same, noted_start, noted_more}
 use Rattle.fx_rows.proofs.rows.count_band.Goals as goal
 
 sum_times : (a b h : ℕ) → (a + b) * h ≡ a * h + b * h
@@ -33,10 +33,8 @@ pieces-init g c =
       unused = λ n h. c.requires.clear.marks n;
       touched = λ k o z. c.requires.clear.counts k;
       small = within_none b.diff.items c.requires.clear.counts;
-      of = λ f h. h;
-      only = λ h. h;
-      kept = λ s w r h. h;
-      noted = noted_start (g.N.Noting.IsNotedAt c.args.noter.now) (map span_of c.args.pieces.now) c.args.frame c.args.rows.first
+      kept = λ x _ h. h;
+      noted = noted_start (g.N.Noting.Says c.args.noter.now) (map span_of c.args.pieces.now) c.args.frame c.args.rows.first
           c.args.rows.end;
       count = omega arith;
     }
@@ -59,11 +57,11 @@ note-requires-clause-told g c = λ f part.
     let s = span_of c.piece-item.result in
     let T = g.N.Noting.IsTold c.add_piece-met.new.noter in
     told_same T s c.args.frame c.args.band.now.frame f c.args.rows.first c.args.rows.end c.requires.part part
-    (subst (λ (f : Frame). AreRowsTold T s f 0 f.height) c.pieces.invariant.frame c.add_piece-met.ensures.told)
+    (subst (λ (f : Frame). AreRowsTold T s f 0 f.height) c.pieces.invariant.frame c.add_piece-met.ensures.added.told)
 
 pub note-requires-clause-frame : goal.note-requires-clause-frame
 note-requires-clause-frame g c =
-    c.add_piece-met.ensures.of (of_frame c.args.frame) (c.pieces.invariant.of c.args.frame c.requires.of)
+    c.add_piece-met.ensures.kept (of_frame c.args.frame) (c.pieces.invariant.kept _ (λ k d l. tt) c.requires.of)
 
 pub pieces-preserved : goal.pieces-preserved
 pieces-preserved g c =
@@ -78,7 +76,7 @@ pieces-preserved g c =
     let inside : here < length spans = omega (arith, length-map c.args.pieces.now span_of) in
     let is : s ≡ get_or spans here s =
     ap span_of c.piece-item.is ∙ sym (get_or-map span_of c.args.pieces.now here piece) in
-    let more = subst (λ (x : Frame). IsBandAdded s x 0 x.height old new) inv.frame c.add_piece-met.ensures.added in
+    let more = subst (λ (x : Frame). IsBandAdded s x 0 x.height old new) inv.frame c.add_piece-met.ensures.added.added in
     let few = c.args.band.now.few in
     let high = ap (λ (x : Frame). x.height) inv.frame in
     let n = c.add_piece-met.ensures.count in
@@ -92,12 +90,9 @@ pieces-preserved g c =
     let m = c.note.ensures.count in
     let all : c.note.new.tally.count ≤ c.pieces.tally.count + (12 + g.N.Noting.tests) * f.height =
     omega (arith, each, m, tests, sum) in
-    let P = g.N.Noting.IsNotedAt c.pieces.noter in
-    let Q = g.N.Noting.IsNotedAt c.note.new.self in
-    let kept : (t : Span) (w : Way) (r : ℕ) → P t w r → Q t w r =
-    λ t w r h. c.note.ensures.kept t w r (c.add_piece-met.ensures.kept t w r h) in
+    let kept : Keeps (g.N.Noting.Says c.pieces.noter) (g.N.Noting.Says c.add_piece-met.new.noter) = c.add_piece-met.ensures.kept in
     record {
-      frame = c.add_piece-met.ensures.frame ∙ inv.frame;
+      frame = c.add_piece-met.ensures.added.frame ∙ inv.frame;
       counted = λ r k h l. counted_more spans here s (centre (f.left +ℤ pos k) (f.bottom +ℤ pos r))
           (mark_at old (r * stride f.width + k)) (mark_at new (r * stride f.width + k))
           (turns_at old (r * stride f.width + k)) (turns_at new (r * stride f.width + k)) (more.added r k (omega arith) h l)
@@ -107,14 +102,10 @@ pieces-preserved g c =
       touched = more.touches inv.touched;
       small = λ k. let e = more.grown (512 * here) (subst (λ (n : ℕ). AreWithin n old.diff.items) whole inv.small) k in
           (omega (arith, signed_linear, e, few), omega (arith, signed_linear, e, few));
-      of = λ f h. c.note.ensures.frame f (c.add_piece-met.ensures.of (of_frame f) (inv.of f h));
-      only = λ h. c.note.ensures.only spans (record { at = here; inside = inside; is = sym is })
-          (c.add_piece-met.ensures.of (of_pieces spans) (inv.only h));
-      kept = λ t w r h. c.note.ensures.kept t w r (c.add_piece-met.ensures.kept t w r (inv.kept t w r h));
-      noted = noted_more Q spans c.args.frame c.args.rows.first c.args.rows.end here s inside is
-          (noted_also P Q (take here spans) c.args.frame c.args.rows.first c.args.rows.end
-          (λ t r l m h. kept t across_row r h) (λ t r h. kept t up_to_row r h) inv.noted)
-          (record { across = c.note.ensures.across; up = c.note.ensures.up; top = c.note.ensures.top });
+      kept = λ x lasts h. c.note.ensures.kept x (subst (λ (t : Span). Lasts t x) (sym is) (lasts here s inside))
+          (kept x (inv.kept x lasts h));
+      noted = noted_more _ _ spans c.args.frame c.args.rows.first c.args.rows.end here s inside is
+          (λ t w r h. c.note.ensures.kept (noted t w r) tt (kept (noted t w r) h)) inv.noted c.note.ensures.noted;
       count = count_more c.args.tally.now.count c.pieces.tally.count c.note.new.tally.count here
           ((12 + g.N.Noting.tests) * f.height) inv.count all;
     }
@@ -151,7 +142,7 @@ pub returns-clause-noted : goal.returns-clause-noted
 returns-clause-noted g c =
     let spans = map span_of c.args.pieces.now in
     let n = length-map c.args.pieces.now span_of in
-    subst (λ (ss : List Span). AreNotedIn (g.N.Noting.IsNotedAt c.pieces.noter) ss c.args.frame c.args.rows.first c.args.rows.end)
+    subst (λ (ss : List Span). AreNotedIn (g.N.Noting.Says c.pieces.noter) ss c.args.frame c.args.rows.first c.args.rows.end)
     (take_all c.pieces.piece-index spans (omega (arith, n))) c.pieces.invariant.noted
 
 pub returns-clause-small : goal.returns-clause-small
@@ -183,12 +174,6 @@ returns-clause-count g c =
     let P : ℕ → Type 0 = λ n. c.pieces.tally.count ≤ c.args.tally.now.count + n *
     ((12 + g.N.Noting.tests) * c.args.band.now.frame.height) in
     subst P done c.pieces.invariant.count
-
-pub returns-clause-of : goal.returns-clause-of
-returns-clause-of g c = c.pieces.invariant.of
-
-pub returns-clause-only : goal.returns-clause-only
-returns-clause-only g c = c.pieces.invariant.only
 
 pub returns-clause-kept : goal.returns-clause-kept
 returns-clause-kept g c = c.pieces.invariant.kept

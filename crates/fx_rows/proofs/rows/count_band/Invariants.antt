@@ -1,9 +1,8 @@
 use Rattle.std.proofs.Common.{◌≡◌, ℕ, ◌+◌, ◌*◌, ◌<◌, ◌≤◌, pos, ◌+ℤ◌, map, take, false}
-use Rattle.fx_winding.specs.declared.frame.Frame.{Frame}
-use Rattle.fx_winding.specs.Winding.{Span, span_of, centre}
+use Rattle.fx_winding.specs.Winding.{span_of, centre}
 use Rattle.fx_rows.specs.inner.Sums.{AreWithin, AreTouched}
 use Rattle.fx_rows.specs.inner.Bands.{stride, turns_at, mark_at, IsBeside}
-use Rattle.fx_rows.specs.inner.Telling.{AreNotedIn, Way, of_frame, of_pieces}
+use Rattle.fx_rows.specs.inner.Telling.{AreNotedIn, KeepsAfter}
 use Rattle.fx_rows.proofs.Counted.{Counted}
 use Rattle.fx_rows.proofs.rows.count_band.Given as goal
 
@@ -17,9 +16,7 @@ invariant-pieces g l = record {
   unused : (n : ℕ) → IsBeside l.fn.band.frame 0 l.fn.band.frame.height n → mark_at l.band n ≡ false;
   touched : AreTouched l.band.diff.items l.band.touched.items;
   small : AreWithin (512 * l.piece-index) l.band.diff.items;
-  of : (f : Frame) → g.N.Noting.IsOf l.fn.noter (of_frame f) → g.N.Noting.IsOf l.noter (of_frame f);
-  only : g.N.Noting.IsOf l.fn.noter (of_pieces (map span_of l.pieces)) → g.N.Noting.IsOf l.noter (of_pieces (map span_of l.pieces));
-  kept : (s : Span) (w : Way) (r : ℕ) → g.N.Noting.IsNotedAt l.fn.noter s w r → g.N.Noting.IsNotedAt l.noter s w r;
-  noted : AreNotedIn (g.N.Noting.IsNotedAt l.noter) (take l.piece-index (map span_of l.pieces)) l.frame l.rows.first l.rows.end;
+  kept : KeepsAfter (map span_of l.pieces) (g.N.Noting.Says l.fn.noter) (g.N.Noting.Says l.noter);
+  noted : AreNotedIn (g.N.Noting.Says l.noter) (take l.piece-index (map span_of l.pieces)) l.frame l.rows.first l.rows.end;
   count : l.tally.count ≤ l.fn.tally.count + l.piece-index * ((12 + g.N.Noting.tests) * l.fn.band.frame.height);
 }

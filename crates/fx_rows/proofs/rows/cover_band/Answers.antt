@@ -1,4 +1,3 @@
-use Rattle.fx_fixed.proofs.Linear.{signed_linear}
 use Rattle.std.proofs.Common.{◌≡◌, ◌⊎◌, inl, inr, ◌∙◌, ℕ, ◌+◌, ◌*◌, ◌<◌, ◌≤◌, get_or, ◌↔◌, subst, sym, ap, pos, ◌+ℤ◌, map, arith, ℤ, List, length}
 use Rattle.std.specs.Vec.{with_items}
 use Rattle.std.proofs.lemmas.List.{with_items_is}
@@ -13,15 +12,6 @@ use Rattle.fx_rows.proofs.Banding.{number_in, after_last, past_marks}
 use Rattle.fx_fixed.proofs.Order.{below_or_not}
 use Rattle.fx_rows.specs.declared.band.Band.{Band}
 use Rattle.fx_rows.proofs.rows.cover_band.Goals as goal
-
-pub returns-clause-count : goal.returns-clause-count
-returns-clause-count g c = omega (arith, signed_linear)
-
-pub settle-requires-clause-long : goal.settle-requires-clause-long
-settle-requires-clause-long g c = omega (arith, signed_linear)
-
-pub settle-requires-clause-words : goal.settle-requires-clause-words
-settle-requires-clause-words g c = omega (arith, signed_linear)
 
 settled_bit : (new line marks marks' : List ℕ) (diff diff' : List ℤ) (n : ℕ) → new ≡ line → marks ≡ marks' → diff ≡ diff'
     → word_bit line n ≡ count_bit (before (n + 1) diff) (word_bit marks n)

@@ -3,7 +3,7 @@ use Rattle.fx_winding.specs.Winding.{span_of}
 use Rattle.fx_winding.specs.Bitmaps.{IsScanOf}
 use Rattle.fx_rows.specs.Parts.{digits}
 use Rattle.fx_rows.specs.inner.Bands.{AreScanned}
-use Rattle.fx_rows.specs.inner.Telling.{AreNotedIn, of_pieces}
+use Rattle.fx_rows.specs.inner.Telling.{AreNotedIn, KeepsAfter, noted}
 use Rattle.fx_rows.proofs.Banding.{tests_more, tests_fit}
 use Rattle.fx_rows.proofs.Scanning.{scanned_words, scanned_bitmap}
 use Rattle.fx_rows.proofs.Telling.{noted_both}
@@ -24,7 +24,10 @@ bands-preserved g c =
     let to = c.band_end.result in
     let inv = c.bands.invariant in
     let done = c.in_ok-words-2.ensures in
-    let new = g.N.Noting.IsNotedAt c.scan_band.new.noter in
+    let old = g.N.Noting.Says c.bands.noter in
+    let new = g.N.Noting.Says c.scan_band.new.noter in
+    let kept : KeepsAfter (map span_of c.args.pieces.now) old new =
+    subst (λ z. z) (λ i. KeepsAfter (map span_of (same i)) old new) done.kept in
     let more = tests_more (length c.args.pieces.now) (12 + g.N.Noting.tests) from to (omega arith) in
     let tests : length c.as_slice.result.now * ((12 + g.N.Noting.tests) * (to - from))
     ≡ length c.args.pieces.now * ((12 + g.N.Noting.tests) * (to - from)) =
@@ -35,11 +38,8 @@ bands-preserved g c =
       within = omega arith;
       scanned = subst (λ z. z) (λ i. AreScanned (map span_of (same i)) f.left f.bottom f.width to c.in_ok-words-2.words.items)
           done.words;
-      of = done.of f inv.of;
-      only = λ h. subst (λ z. z)
-          (λ i. g.N.Noting.IsOf c.bands.noter (of_pieces (map span_of (same i)))
-          → g.N.Noting.IsOf c.scan_band.new.noter (of_pieces (map span_of (same i)))) done.only (inv.only h);
-      noted = λ some. noted_both (g.N.Noting.IsNotedAt c.bands.noter) new (map span_of c.args.pieces.now) f 0 from to done.kept
+      kept = λ x lasts h. kept x lasts (inv.kept x lasts h);
+      noted = λ some. noted_both old new (map span_of c.args.pieces.now) f 0 from to (λ s w r. kept (noted s w r) (λ k d l. tt))
           (inv.noted some) (subst (λ z. z) (λ i. AreNotedIn new (map span_of (same i)) f from to) done.noted);
       count = omega (arith, n, m, tests, more);
     }
@@ -80,4 +80,4 @@ pub returns-clause-noted : goal.returns-clause-noted
 returns-clause-noted g c = λ some.
     let f = c.args.frame in
     let all : c.bands.from ≡ f.height = omega arith in
-    subst (AreNotedIn (g.N.Noting.IsNotedAt c.bands.noter) (map span_of c.args.pieces.now) f 0) all (c.bands.invariant.noted some)
+    subst (AreNotedIn (g.N.Noting.Says c.bands.noter) (map span_of c.args.pieces.now) f 0) all (c.bands.invariant.noted some)

@@ -1,16 +1,15 @@
 use Rattle.std.proofs.Common.{◌≤◌, ◌<◌, ◌+◌, ◌-◌, ◌*◌, length, map}
 use Rattle.fx_winding.specs.Winding.{span_of}
 use Rattle.fx_rows.specs.inner.Bands.{AreScanned}
-use Rattle.fx_rows.specs.inner.Telling.{AreNotedIn, of_frame, of_pieces}
+use Rattle.fx_rows.specs.inner.Telling.{AreNotedIn, KeepsAfter}
 use Rattle.fx_rows.proofs.rows.scan_noting.Given as goal
 
 abbrev pub invariant-bands : goal.invariant-bands
 invariant-bands g l = record {
   within : l.from ≤ l.frame.height;
   scanned : AreScanned (map span_of l.pieces) l.frame.left l.frame.bottom l.frame.width l.from l.words.items;
-  of : g.N.Noting.IsOf l.noter (of_frame l.frame);
-  only : g.N.Noting.IsOf l.fn.noter (of_pieces (map span_of l.pieces)) → g.N.Noting.IsOf l.noter (of_pieces (map span_of l.pieces));
-  noted : 0 < l.frame.height → AreNotedIn (g.N.Noting.IsNotedAt l.noter) (map span_of l.pieces) l.frame 0 l.from;
+  kept : KeepsAfter (map span_of l.pieces) (g.N.Noting.Says l.fn.noter) (g.N.Noting.Says l.noter);
+  noted : 0 < l.frame.height → AreNotedIn (g.N.Noting.Says l.noter) (map span_of l.pieces) l.frame 0 l.from;
   count : l.tally.count ≤ l.fn.tally.count + length l.pieces * ((12 + g.N.Noting.tests) * l.from);
 }
 

@@ -5,24 +5,6 @@ use Rattle.fx_rows.proofs.Touching.{gap_without_copies}
 use Rattle.fx_rows.proofs.search.gap.Goals as goal
 use mir.Syntax.{w128}
 
-pub overflow_add-g : goal.overflow_add-g
-overflow_add-g c = omega (arith, signed_linear)
-
-pub overflow_sub-g : goal.overflow_sub-g
-overflow_sub-g c = omega (arith, signed_linear)
-
-pub product-requires-2-clause-near_a : goal.product-requires-2-clause-near_a
-product-requires-2-clause-near_a c = omega (arith, signed_linear)
-
-pub product-requires-2-clause-near_b : goal.product-requires-2-clause-near_b
-product-requires-2-clause-near_b c = omega (arith, signed_linear)
-
-pub product-requires-clause-near_a : goal.product-requires-clause-near_a
-product-requires-clause-near_a c = omega (arith, signed_linear)
-
-pub product-requires-clause-near_b : goal.product-requires-clause-near_b
-product-requires-clause-near_b c = omega (arith, signed_linear)
-
 size_of : (x y : ℤ) → IsWithin (2 ^ 96) x → IsWithin (2 ^ 96) y
     → IsWithin (2 ^ 99)
     (to_z w128 (of_z w128 (to_z w128 (of_z w128 (pos 4 *ℤ to_z w128 (of_z w128 x))) -ℤ to_z w128 (of_z w128 y))))
@@ -35,18 +17,6 @@ size_of x y hx hy =
 
 copy : (z : ℤ) → IsWithin (2 ^ 48) z → to_z w64 (of_z w64 z) ≡ z
 copy z h = omega (arith, signed_linear)
-
-pub moved-v-requires-clause-near_step : goal.moved-v-requires-clause-near_step
-moved-v-requires-clause-near_step c = (omega (arith, signed_linear), omega (arith, signed_linear))
-
-pub moved-w-requires-clause-near_step : goal.moved-w-requires-clause-near_step
-moved-w-requires-clause-near_step c = (omega (arith, signed_linear), omega (arith, signed_linear))
-
-pub overflow_mul-result : goal.overflow_mul-result
-overflow_mul-result c = omega (arith, signed, c.product.ensures.size)
-
-pub overflow_sub-result : goal.overflow_sub-result
-overflow_sub-result c = omega (arith, signed, c.product.ensures.size, c.product-2.ensures.size)
 
 pub returns-clause-value : goal.returns-clause-value
 returns-clause-value c =
@@ -73,3 +43,15 @@ returns-clause-value c =
 
 pub returns-clause-size : goal.returns-clause-size
 returns-clause-size c = size_of c.product.result c.product-2.result c.product.ensures.size c.product-2.ensures.size
+
+pub overflow_mul-result : goal.overflow_mul-result
+overflow_mul-result c = omega (arith, signed, c.product.ensures.size)
+
+pub overflow_sub-result : goal.overflow_sub-result
+overflow_sub-result c = omega (arith, signed, c.product.ensures.size, c.product-2.ensures.size)
+
+pub moved-v-requires-clause-near_step : goal.moved-v-requires-clause-near_step
+moved-v-requires-clause-near_step c = (omega (arith, signed_linear), omega (arith, signed_linear))
+
+pub moved-w-requires-clause-near_step : goal.moved-w-requires-clause-near_step
+moved-w-requires-clause-near_step c = (omega (arith, signed_linear), omega (arith, signed_linear))

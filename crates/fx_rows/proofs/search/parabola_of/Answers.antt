@@ -17,9 +17,6 @@ invariant_of-result c =
       bends = omega (arith, signed);
     }
 
-pub overflow_sub-result : goal.overflow_sub-result
-overflow_sub-result c = omega (arith, signed_linear, c.rise_of.ensures.size, c.bend_of-bend.ensures.size)
-
 pub returns : goal.returns
 returns c = λ k.
     let d = c.bend_of-bend.result in
@@ -30,3 +27,6 @@ returns c = λ k.
     parabola_is c.args.g _ _ _ (start ∙ c.gap.ensures.value)
     (rise ∙ (λ i. c.rise_of.ensures.value i -ℤ c.bend_of-bend.ensures.value i))
     (bend ∙ ap (λ z. pos 2 *ℤ z) c.bend_of-bend.ensures.value) k
+
+pub overflow_sub-result : goal.overflow_sub-result
+overflow_sub-result c = omega (arith, signed_linear, c.rise_of.ensures.size, c.bend_of-bend.ensures.size)

@@ -27,25 +27,6 @@ sum_without_copies x y z hx hy hz =
     ∙ (λ i. to_z w128 (of_z w128 (s4 i +ℤ pos 2 *ℤ z)))
     ∙ copied (pos 4 *ℤ (x +ℤ y) +ℤ pos 2 *ℤ z) (omega (arith, signed), omega (arith, signed))
 
-pub overflow_add-ends : goal.overflow_add-ends
-overflow_add-ends c = omega (arith, signed_linear, c.wide_product.ensures.size, c.wide_product-2.ensures.size)
-
-pub overflow_mul-result : goal.overflow_mul-result
-overflow_mul-result c = omega (arith, signed, c.wide_product.ensures.size, c.wide_product-2.ensures.size)
-
-pub overflow_add-g : goal.overflow_add-g
-overflow_add-g c = omega (arith, signed_linear)
-
-pub wide_product-requires-3-clause-near_b : goal.wide_product-requires-3-clause-near_b
-wide_product-requires-3-clause-near_b c = (omega (arith, signed_linear), omega (arith, signed_linear))
-
-pub overflow_mul-result-2 : goal.overflow_mul-result-2
-overflow_mul-result-2 c = omega (arith, signed, c.wide_product-3.ensures.size)
-
-pub overflow_add-result : goal.overflow_add-result
-overflow_add-result c =
-    omega (arith, signed, c.wide_product.ensures.size, c.wide_product-2.ensures.size, c.wide_product-3.ensures.size)
-
 pub returns-clause-value : goal.returns-clause-value
 returns-clause-value c =
     sum_without_copies c.wide_product.result c.wide_product-2.result c.wide_product-3.result c.wide_product.ensures.size
@@ -75,3 +56,22 @@ returns-clause-size c =
     let e = sum_without_copies c.wide_product.result c.wide_product-2.result c.wide_product-3.result c.wide_product.ensures.size
     c.wide_product-2.ensures.size c.wide_product-3.ensures.size in
     (omega (arith, signed, e), omega (arith, signed, e))
+
+pub overflow_mul-result : goal.overflow_mul-result
+overflow_mul-result c = omega (arith, signed, c.wide_product.ensures.size, c.wide_product-2.ensures.size)
+
+pub overflow_mul-result-2 : goal.overflow_mul-result-2
+overflow_mul-result-2 c = omega (arith, signed, c.wide_product-3.ensures.size)
+
+pub overflow_add-result : goal.overflow_add-result
+overflow_add-result c =
+    omega (arith, signed, c.wide_product.ensures.size, c.wide_product-2.ensures.size, c.wide_product-3.ensures.size)
+
+pub overflow_add-ends : goal.overflow_add-ends
+overflow_add-ends c = omega (arith, signed_linear, c.wide_product.ensures.size, c.wide_product-2.ensures.size)
+
+pub overflow_add-g : goal.overflow_add-g
+overflow_add-g c = omega (arith, signed_linear)
+
+pub wide_product-requires-3-clause-near_b : goal.wide_product-requires-3-clause-near_b
+wide_product-requires-3-clause-near_b c = (omega (arith, signed_linear), omega (arith, signed_linear))

@@ -1,11 +1,12 @@
-use Rattle.std.proofs.Common.{refl, ◌≡◌, ◌∙◌, ◌*◌, ◌+◌, ◌-◌, ◌≤◌, sym, ap, subst, ℕ, List, length, arith}
+use Rattle.std.proofs.Common.{refl, true, ◌≡◌, ◌∙◌, ◌*◌, ◌+◌, ◌-◌, ◌≤◌, sym, ap, subst, ℕ, List, length, arith}
 use Rattle.std.proofs.lemmas.List.{with_items_is}
 use Rattle.fx_winding.specs.Bitmaps.{words_for}
 use Rattle.fx_winding.specs.Notes.{IsNotedAcross, IsNotedUp}
 use Rattle.fx_winding.specs.Winding.{span_of}
 use Rattle.fx_winding.specs.declared.frame.Frame.{Frame}
 use Rattle.fx_winding.proofs.Places.{clash}
-use Rattle.fx_rows.specs.inner.Telling.{IsPartOf, AreMetAcross, AreMetUp}
+use Rattle.fx_rows.specs.inner.Telling.{IsPartOf, AreMetAcross, AreMetUp, of_frame, of_pieces, noted}
+use Rattle.fx_rows.specs.inner.Bulging.{IsBulge}
 use Rattle.fx_rows.specs.inner.Lines.{AreOnly}
 use Rattle.fx_rows.specs.inner.Segments.{IsBandBit, IsUpBit}
 use Rattle.fx_rows.specs.inner.Told.{AreKept}
@@ -44,18 +45,28 @@ note_up-requires-clause-room c =
     room_up n.frame p.frame c.args.rows.first c.args.rows.end p.below (length c.deref_mut-2.result.now) is.part is.first
     (ap length c.deref_mut-2.ensures.value ∙ n.up_room)
 
-pub returns-clause-across : goal.returns-clause-across
-returns-clause-across c = λ r l m no.
+pub returns-clause-noted : goal.returns-clause-noted
+returns-clause-noted c =
     let n = c.args.self.now.notes in
     let s = span_of c.args.piece.now in
-    let p = c.placed_in-placed.result in
+    let g = c.placed_in-placed.result.frame in
+    let rows = c.args.rows in
     let is = band_of c.requires.frame c.placed_in-placed.ensures.part c.placed_in-placed.ensures.below in
     let a = sym (with_items_is n.across c.note_across.new.across (omega arith)) in
-    subst (λ (xs : List ℕ). IsNotedAcross s n.frame xs r) a (across_rows s n.frame p.frame c.args.rows.first c.args.rows.end
-    p.below c.note_across.new.across is.part is.first c.note_across.ensures.noted r l m)
+    let u = sym (with_items_is n.up c.note_up.new.up (omega arith)) in
+    record {
+      across = λ r l m no. subst (λ (xs : List ℕ). IsNotedAcross s n.frame xs r) a (across_rows s n.frame g rows.first rows.end
+          _ c.note_across.new.across is.part is.first c.note_across.ensures.noted r l m);
+      up = λ r l m no. subst (λ (xs : List ℕ). IsNotedUp s n.frame xs r) u (up_rows s n.frame g rows.first rows.end
+          _ c.note_up.new.up is.part is.first c.note_up.ensures.noted r l m);
+      top = λ e no. subst (λ (xs : List ℕ). IsNotedUp s n.frame xs c.args.frame.height) u
+          (subst (IsNotedUp s n.frame c.note_up.new.up) e (up_top s n.frame g rows.first rows.end _ c.note_up.new.up is.part
+          is.first (c.note_up.ensures.top (c.placed_in-placed.ensures.top e))));
+    }
 
-pub returns-clause-only : goal.returns-clause-only
-returns-clause-only c = λ ss among old.
+pub returns-clause-kept : goal.returns-clause-kept
+returns-clause-kept c (of_frame f) lasts old = old
+returns-clause-kept c (of_pieces ss) among old =
     let n = c.args.self.now.notes in
     let s = span_of c.args.piece.now in
     let p = c.placed_in-placed.result in
@@ -75,6 +86,13 @@ returns-clause-only c = λ ss among old.
           n.up.items c.note_up.new.up is.part is.first c.placed_in-placed.ensures.lowest
           (λ t. c.placed_in-placed.ensures.highest t ∙ sym high) among up old.columns);
     }
+returns-clause-kept c (noted s w r) lasts old = λ no.
+    let n = c.args.self.now.notes in
+    let a = sym (with_items_is n.across c.note_across.new.across (omega arith)) in
+    let u = sym (with_items_is n.up c.note_up.new.up (omega arith)) in
+    noted_kept n.frame _ _ _ _ s w r
+    (subst (λ z. z) (λ i. AreKept (c.deref_mut.ensures.value i) (a i)) c.note_across.ensures.kept)
+    (subst (λ z. z) (λ i. AreKept (c.deref_mut-2.ensures.value i) (u i)) c.note_up.ensures.kept) (old no)
 
 pub returns-clause-count : goal.returns-clause-count
 returns-clause-count c =
@@ -91,44 +109,13 @@ returns-clause-count c =
 pub note_up-requires-clause-plain : goal.note_up-requires-clause-plain
 note_up-requires-clause-plain c = λ b. clash c.is_bulge.result c.if-is_bulge.false (c.is_bulge.ensures.1 b)
 
-pub returns-clause-up : goal.returns-clause-up
-returns-clause-up c = λ r l m no.
-    let n = c.args.self.now.notes in
-    let s = span_of c.args.piece.now in
-    let p = c.placed_in-placed.result in
-    let is = band_of c.requires.frame c.placed_in-placed.ensures.part c.placed_in-placed.ensures.below in
-    let u = sym (with_items_is n.up c.note_up.new.up (omega arith)) in
-    subst (λ (xs : List ℕ). IsNotedUp s n.frame xs r) u (up_rows s n.frame p.frame c.args.rows.first c.args.rows.end
-    p.below c.note_up.new.up is.part is.first c.note_up.ensures.noted r l m)
-
-pub returns-clause-top : goal.returns-clause-top
-returns-clause-top c = λ e no.
-    let n = c.args.self.now.notes in
-    let s = span_of c.args.piece.now in
-    let p = c.placed_in-placed.result in
-    let is = band_of c.requires.frame c.placed_in-placed.ensures.part c.placed_in-placed.ensures.below in
-    let u = sym (with_items_is n.up c.note_up.new.up (omega arith)) in
-    subst (λ (xs : List ℕ). IsNotedUp s n.frame xs c.args.frame.height) u (subst (IsNotedUp s n.frame c.note_up.new.up) e
-    (up_top s n.frame p.frame c.args.rows.first c.args.rows.end p.below c.note_up.new.up is.part is.first
-    (c.note_up.ensures.top (c.placed_in-placed.ensures.top e))))
-
-pub returns-clause-kept : goal.returns-clause-kept
-returns-clause-kept c = λ s w r h no.
-    let n = c.args.self.now.notes in
-    let a = sym (with_items_is n.across c.note_across.new.across (omega arith)) in
-    let u = sym (with_items_is n.up c.note_up.new.up (omega arith)) in
-    noted_kept n.frame _ _ _ _ s w r
-    (subst (λ z. z) (λ i. AreKept (c.deref_mut.ensures.value i) (a i)) c.note_across.ensures.kept)
-    (subst (λ z. z) (λ i. AreKept (c.deref_mut-2.ensures.value i) (u i)) c.note_up.ensures.kept) (h no)
-
-pub returns-then-is_bulge-clause-across : goal.returns-then-is_bulge-clause-across
-returns-then-is_bulge-clause-across c = λ r l m no. absurd (no (c.is_bulge.ensures.0 c.if-is_bulge.true, refl))
-
-pub returns-then-is_bulge-clause-up : goal.returns-then-is_bulge-clause-up
-returns-then-is_bulge-clause-up c = λ r l m no. absurd (no (c.is_bulge.ensures.0 c.if-is_bulge.true, refl))
-
-pub returns-then-is_bulge-clause-top : goal.returns-then-is_bulge-clause-top
-returns-then-is_bulge-clause-top c = λ e no. absurd (no (c.is_bulge.ensures.0 c.if-is_bulge.true, refl))
+pub returns-then-is_bulge-clause-noted : goal.returns-then-is_bulge-clause-noted
+returns-then-is_bulge-clause-noted c = record { across = λ r l m no. apart no; up = λ r l m no. apart no; top = λ e no. apart no }
+  where
+    apart : {X : Type 0} → ¬ (IsBulge (span_of c.args.piece.now) × (true ≡ true)) → X
+    apart n = absurd (n (c.is_bulge.ensures.0 c.if-is_bulge.true, refl))
 
 pub returns-then-is_bulge-clause-kept : goal.returns-then-is_bulge-clause-kept
-returns-then-is_bulge-clause-kept c = λ s w r h no. h (λ b. no (b.0, refl))
+returns-then-is_bulge-clause-kept c (of_frame f) lasts old = old
+returns-then-is_bulge-clause-kept c (of_pieces ss) lasts old = old
+returns-then-is_bulge-clause-kept c (noted s w r) lasts old = λ no. old (λ b. no (b.0, refl))

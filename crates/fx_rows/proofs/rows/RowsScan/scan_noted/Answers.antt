@@ -5,8 +5,8 @@ use Rattle.fx_winding.specs.declared.point.Piece.{Piece}
 use Rattle.fx_winding.specs.Notes.{IsNoted}
 use Rattle.fx_winding.specs.Winding.{Span, span_of}
 use Rattle.fx_rows.specs.inner.Bulging.{IsBulge}
-use Rattle.fx_rows.specs.inner.Telling.{AreMetBySome, AreNotedIn, IsNotedBy}
-use Rattle.fx_rows.proofs.Telling.{noted_unless, exact_of}
+use Rattle.fx_rows.specs.inner.Telling.{AreMetBySome, AreNotedIn, BitsSay, of_pieces}
+use Rattle.fx_rows.proofs.Telling.{noted_unless, all_among, exact_of}
 use Rattle.fx_rows.proofs.rows.RowsScan.scan_noted.Goals as goal
 
 pub notes_of-notes-requires : goal.notes_of-notes-requires
@@ -19,8 +19,8 @@ notes_of-notes-requires c =
     record {
       noted = subst (λ (ps : List Piece). All (λ s. ¬ (left s) → IsNoted s n.frame n.across.items n.up.items) (map span_of ps))
           (sym c.as_slice.ensures.value) (noted_unless left n.frame n.across.items n.up.items ss
-          (subst (λ (f : Frame). AreNotedIn (λ s w r. ¬ (left s) → IsNotedBy n.frame n.across.items n.up.items s w r) ss f 0
-          f.height) (sym same) (c.in_ok-bitmap.ensures.noted (omega arith))));
+          (subst (λ (f : Frame). AreNotedIn (BitsSay left n.frame n.across.items n.up.items) ss f 0 f.height) (sym same)
+          (c.in_ok-bitmap.ensures.noted (omega arith))));
     }
 
 pub returns-clause-exact : goal.returns-clause-exact
@@ -33,7 +33,7 @@ returns-clause-exact c = λ t.
     λ ps. AreMetBySome n.frame n.across.items n.up.items (map span_of ps) → AreMetBySome n.frame across up (map span_of ps) in
     let all = subst P c.as_slice.ensures.value c.notes_of-notes.ensures.only in
     exact_of c.args.frame across up ss (subst (λ (f : Frame). AreMetBySome f across up ss) c.scan_noting.ensures.of
-    (all (c.scan_noting.ensures.only (c.in_ok-noter.ensures.none ss))))
+    (all (c.scan_noting.ensures.kept (of_pieces ss) (all_among ss) (c.in_ok-noter.ensures.none ss))))
 
 pub returns-clause-noted : goal.returns-clause-noted
 returns-clause-noted c =
