@@ -1,19 +1,22 @@
 -- Places of a segment at which a piece is alike: it lies to one side of all of them, or its areas with them keep their signs.
 -- Serves `run` and `places`.
-use Rattle.std.proofs.Common.{◌≡◌, ◌≢◌, ◌⊎◌, inl, inr, refl, sym, ap, ◌∙◌, subst, ℕ, ◌+◌, ◌≤◌, ◌<◌, ℤ, pos, negsuc, zero, suc}
+use Rattle.std.proofs.Common.{◌≡◌, ◌≢◌, ◌⊎◌, inl, inr, refl, sym, ap, ◌∙◌, subst, ℕ, ◌+◌, ◌-◌, ◌*◌, ◌≤◌, ◌<◌, ℤ, pos, negsuc, zero, suc}
 use Rattle.std.proofs.Common.{◌+ℤ◌, ◌-ℤ◌, ◌*ℤ◌, neg_ℤ, ◌≤ℤ◌, ◌<ℤ◌, Bool, true, false, Some, None, [], ◌∷◌, arith}
 use Rattle.std.proofs.Common.{◌↔◌, IsTrue, Option, w32, w64, to_z, of_z}
+use lib.IntN.{nat_abs}
 use Rattle.fx_fixed.specs.Ranges.{IsWithin}
 use Rattle.std.proofs.lemmas.Int.{ints}
 use Rattle.fx_fixed.specs.Polynomial.{var, num, ◌⊞◌, ◌⊠◌, ◌⊟◌, minus}
 use Rattle.fx_fixed.proofs.Ring.{ring, one-*ℤ, neg-*ℤ, zero_*ℤ}
 use Rattle.fx_fixed.proofs.Linear.{signed_linear}
 use Rattle.fx_fixed.proofs.Order.{below_or_not_ℤ}
+use Rattle.fx_fixed.proofs.Signs.{product_at_least_zero}
 use Rattle.fx_winding.specs.Area.{Place, area, gap_of}
 use Rattle.fx_winding.specs.Meets.{turn}
 use Rattle.fx_winding.specs.Outside.{HasAll}
 use Rattle.fx_winding.specs.declared.point.Piece.{Piece}
 use Rattle.fx_winding.specs.declared.point.Point.{Point}
+use Rattle.fx_winding.specs.declared.weights.Weights.{Weights}
 use Rattle.fx_winding.specs.Winding.{place_of, maybe_place_of, span_of, areas_of, areas_of_part}
 use Rattle.fx_winding.proofs.Places.{clash}
 use Rattle.fx_winding.specs.Winding.{Span, IsOn, IsOnPart, crossing, chord_crossing, region, region_part, sign, weight_b}
@@ -25,7 +28,7 @@ use Rattle.fx_winding.proofs.Regions.{IsIn, IsInRegion, region_cases, region_in,
 use Rattle.fx_winding.proofs.Triangle.{area_expr}
 use Rattle.fx_winding.proofs.Turning.{left_of_all, right_of_all}
 use Rattle.fx_dropout.specs.Nearer.{place_on}
-use Rattle.fx_dropout.specs.inner.Runs.{IsAlike, IsAlikeTo, HaveOneSign, IsPassed, IsClear, IsAdded, IsInBox}
+use Rattle.fx_dropout.specs.inner.Runs.{IsAlike, IsAlikeTo, HaveOneSign, IsPassed, IsClear, IsAdded, IsInBox, step}
 use Rattle.fx_dropout.proofs.Steps.{linear_sign, gap_in, gap_step, gap_below, gap_above}
 
 -- off both places
@@ -120,13 +123,13 @@ beyond_off a b c p k n (inl o) =
     omega (arith, signed_linear, h, l)
 beyond_off a b c p k n (inr o) = k (none_back a c p o.with_ac)
 
+is_flat : (d : ℤ) → (d ≡ pos 0) ⊎ (d ≢ pos 0)
+is_flat d = grind (arith, ints)
+
 beyond_region : (a b c p : Place) → area a p c ≢ pos 0 → ¬ (HaveOneSign (area a b c) (area a p c))
     → region_part a (Some b) c p ≡ pos 0
-beyond_region a b c p k n = by (flat (area a b c))
+beyond_region a b c p k n = by (is_flat (area a b c))
   where
-    flat : (d : ℤ) → (d ≡ pos 0) ⊎ (d ≢ pos 0)
-    flat d = grind (arith, ints)
-
     by : (area a b c ≡ pos 0) ⊎ (area a b c ≢ pos 0) → region_part a (Some b) c p ≡ pos 0
     by (inl e) = of (region_cases a b c p)
       where
@@ -207,10 +210,6 @@ within_region a b c p r h su sv gp gr = by (region_cases a b c p) (region_cases 
         (area a b p) (is_right_of_chord a b c) (is_right_of_chord a b c) h (one_sign_back _ _ su) (one_sign_back _ _ sv) gp k))
 
 -- ---- areas along a segment: each changes by one step from place to place
-abbrev step : Bool → Place → Place → ℤ
-step false b c = b.y -ℤ c.y
-step true b c = c.x -ℤ b.x
-
 -- how far the place n is from the place k
 abbrev far : ℕ → ℕ → ℤ
 far k n = pos n -ℤ pos k
@@ -353,6 +352,54 @@ side_along true col row k m n y low high h =
     (omega (arith, signed_linear)) (omega (arith, signed_linear, low, high)) (omega (arith, signed_linear, low))
     (omega (arith, signed_linear, high))
 
+-- no end of a piece is passed from the place k on, and its chord is not reached
+not_between : (up : Bool) (col row y : ℤ) (k m r : ℕ) → m < k + r
+    → (IsTrue up → (y ≤ℤ (place_on up col row k).y) ⊎ (((place_on up col row k).y +ℤ pos r) ≤ℤ y))
+    → ¬ (IsPassed y (place_on up col row k).y (place_on up col row m).y)
+not_between false col row y k m r l h p = let a = p.0 in let b = p.1 in omega (arith, signed_linear, a, b)
+not_between true col row y k m r l h p = by (h refl)
+  where
+    a : ((pos 128 *ℤ row +ℤ pos 64) +ℤ pos k) <ℤ y
+    a = p.0
+
+    b : y ≤ℤ ((pos 128 *ℤ row +ℤ pos 64) +ℤ pos m)
+    b = p.1
+
+    by : (y ≤ℤ ((pos 128 *ℤ row +ℤ pos 64) +ℤ pos k)) ⊎ ((((pos 128 *ℤ row +ℤ pos 64) +ℤ pos k) +ℤ pos r) ≤ℤ y) → ⊥
+    by (inl h) = omega (arith, signed_linear, a, h)
+    by (inr h) = omega (arith, signed_linear, b, h, l)
+
+side_kept : (up : Bool) (col row : ℤ) (k j : ℕ) (a c : Place) (v : ℤ) → v ≡ area a (place_on up col row k) c
+    → HaveOneSign v (v +ℤ pos j *ℤ step up c a)
+    → HaveOneSign (area a (place_on up col row k) c) (area a (place_on up col row (k + j)) c)
+side_kept up col row k j a c v e h =
+    subst (λ (z : ℤ × ℤ). HaveOneSign z.0 z.1) (λ i. (e i, (at ∙ sym (v_along up col row k (k + j) a c)) i)) h
+  where
+    steps : far k (k + j) ≡ pos j
+    steps = omega (arith, signed_linear)
+
+    at : v +ℤ pos j *ℤ step up c a ≡ area a (place_on up col row k) c +ℤ far k (k + j) *ℤ step up c a
+    at = λ i. e i +ℤ sym steps i *ℤ step up c a
+
+pub run_clear : (up : Bool) (col row : ℤ) (k r q : ℕ) (s : Span) (v : ℤ) → 0 < r → r ≤ q
+    → v ≡ area s.a (place_on up col row k) s.c → ((j : ℕ) → j < q → HaveOneSign v (v +ℤ pos j *ℤ step up s.c s.a))
+    → (IsTrue up → (s.a.y ≤ℤ (place_on up col row k).y) ⊎ (((place_on up col row k).y +ℤ pos r) ≤ℤ s.a.y))
+    → (IsTrue up → (s.c.y ≤ℤ (place_on up col row k).y) ⊎ (((place_on up col row k).y +ℤ pos r) ≤ℤ s.c.y))
+    → IsClear up col row k (k + r - 1) s
+run_clear up col row k r q s v some few e side start end = record {
+  start = not_between up col row s.a.y k (k + r - 1) r (omega (arith, some)) start;
+  end = not_between up col row s.c.y k (k + r - 1) r (omega (arith, some)) end;
+  side = subst (λ n. HaveOneSign (area s.a (place_on up col row k) s.c) (area s.a (place_on up col row n) s.c)) last
+      (side_kept up col row k (r - 1) s.a s.c v e (side (r - 1) (omega (arith, some, few))));
+}
+  where
+    last : k + (r - 1) ≡ k + r - 1
+    last = omega (arith, some)
+
+pub end_before : (y p q : ℤ) (r m : ℕ) → p ≡ q → r ≤ m → (y ≤ℤ p) ⊎ ((p +ℤ pos m) ≤ℤ y) → (y ≤ℤ q) ⊎ ((q +ℤ pos r) ≤ℤ y)
+end_before y p q r m e l (inl h) = inl (omega (arith, signed_linear, e, h))
+end_before y p q r m e l (inr h) = inr (omega (arith, signed_linear, e, h, l))
+
 before_end : (n m : ℕ) → n < m + 1 → n ≤ m
 before_end n m h = omega (arith, h)
 
@@ -458,6 +505,26 @@ within_run up col row k m a b c some h bent us gk gm = arc_run up col row k m a 
           (sign n low high) gk (gap n low high),
     )
 
+-- ---- a place that is off a piece and its region, by its areas
+pub line_apart : (a c p : Place) → area a p c ≢ pos 0 → (¬ (IsOnPart a None c p)) × (region_part a None c p ≡ pos 0)
+line_apart a c p h = (λ o. h (none_back a c p o.collinear), refl)
+
+pub arc_apart : (a b c p : Place) → area a p c ≢ pos 0
+    → (¬ (HaveOneSign (area p b c +ℤ area a p c +ℤ area a b p) (area a p c))) ⊎ (arc_gap a b c p <ℤ pos 0)
+    → (¬ (IsOnPart a (Some b) c p)) × (region_part a (Some b) c p ≡ pos 0)
+arc_apart a b c p h (inl n) = (beyond_off a b c p h other, beyond_region a b c p h other)
+  where
+    total : area p b c +ℤ area a p c +ℤ area a b p ≡ area a b c
+    total = let m = middle_of_total a b c p in omega (arith, signed_linear, m)
+
+    other : ¬ (HaveOneSign (area a b c) (area a p c))
+    other = subst (λ t. ¬ (HaveOneSign t (area a p c))) total n
+arc_apart a b c p h (inr g) = (gap_off a b c p h (below_apart (arc_gap a b c p) g), by (is_flat (area a b c)))
+  where
+    by : (area a b c ≡ pos 0) ⊎ (area a b c ≢ pos 0) → region_part a (Some b) c p ≡ pos 0
+    by (inl e) = beyond_region a b c p h (λ s. (not_none (area a b c) (area a p c) s).0 e)
+    by (inr k) = without_region a b c p k h g
+
 -- ---- a piece to one side of a box
 zero_turn : (p : Place) (s : Span) → (crossing p s ≡ pos 0) × (region p s ≡ pos 0) × (¬ (IsOn p s)) → IsAdded p s (pos 0)
 zero_turn p s n = record { turn_is = λ t. n.0 t +ℤ n.1 t; off = n.2 }
@@ -492,6 +559,60 @@ added_left p q r s l b h m n = record {
 
     side : (y : ℤ) → ¬ (IsPassed y p.y q.y) → IsOneSide y p.y r.y
     side y k = one_side y p.y q.y p.y r.y k (omega (arith, signed_linear)) l b.low b.high
+
+-- ---- a run that is clear
+pub clear_shorter : (up : Bool) (col row : ℤ) (k m n : ℕ) (s : Span) → k ≤ n → n ≤ m → IsClear up col row k m s
+    → IsClear up col row k n s
+clear_shorter up col row k m n s low high h = record {
+  start = λ p. h.start (wider up s.a.y p);
+  end = λ p. h.end (wider up s.c.y p);
+  side = v_sign up col row k m n s.a s.c low high h.side;
+}
+  where
+    wider : (up : Bool) (y : ℤ) → IsPassed y (place_on up col row k).y (place_on up col row n).y
+        → IsPassed y (place_on up col row k).y (place_on up col row m).y
+    wider false y p = p
+    wider true y (a, b) = (a, omega (arith, signed_linear, b, high))
+
+-- a number that does not come to 0 by steps
+pub kept_above : (v d : ℤ) (j s : ℕ) → d ≡ neg_ℤ (pos s) → pos (j * s) <ℤ v → HaveOneSign v (v +ℤ pos j *ℤ d)
+kept_above v d j s e h =
+    let p : pos j *ℤ d ≡ neg_ℤ (pos (j * s)) = ap (λ z. pos j *ℤ z) e ∙ ring (pos j ∷ pos s ∷ []) (var 0 ⊠ minus (var 1))
+    (minus (var 0 ⊠ var 1)) tt in
+    inl (omega (arith, signed_linear, h), omega (arith, signed_linear, h, p))
+
+pub kept_below : (v d : ℤ) (j s : ℕ) → d ≡ pos s → v <ℤ neg_ℤ (pos (j * s)) → HaveOneSign v (v +ℤ pos j *ℤ d)
+kept_below v d j s e h =
+    let p : pos j *ℤ d ≡ pos (j * s) = ap (λ z. pos j *ℤ z) e in
+    inr (omega (arith, signed_linear, h), omega (arith, signed_linear, h, p))
+
+pub kept_away : (v d : ℤ) (j : ℕ) → ((pos 0 <ℤ v) × (pos 0 ≤ℤ d)) ⊎ ((v <ℤ pos 0) × (d ≤ℤ pos 0))
+    → HaveOneSign v (v +ℤ pos j *ℤ d)
+kept_away v d j (inl (a, b)) =
+    let p = product_at_least_zero (pos j) d (omega (arith, signed_linear)) b in
+    inl (a, omega (arith, signed_linear, a, p))
+kept_away v d j (inr (a, b)) =
+    let p = product_at_least_zero (pos j) (neg_ℤ d) (omega (arith, signed_linear)) (omega (arith, signed_linear, b)) in
+    let e : pos j *ℤ neg_ℤ d ≡ neg_ℤ (pos j *ℤ d) = ring (pos j ∷ d ∷ []) (var 0 ⊠ minus (var 1)) (minus (var 0 ⊠ var 1)) tt in
+    inr (a, omega (arith, signed_linear, a, p, e))
+
+abs_is : (z : ℤ) → pos 0 ≤ℤ z → pos (nat_abs z) ≡ z
+abs_is (pos n) h = refl
+abs_is (negsuc n) h = absurd (omega (arith, signed_linear, h))
+
+pub kept_from_above : (v d x y : ℤ) (j : ℕ) → x ≡ v → y ≡ neg_ℤ d → pos 0 <ℤ v → d <ℤ pos 0 → j * nat_abs y < nat_abs x
+    → HaveOneSign v (v +ℤ pos j *ℤ d)
+kept_from_above v d x y j ex ey a b h =
+    let p = abs_is x (omega (arith, signed_linear, ex, a)) in
+    let q = abs_is y (omega (arith, signed_linear, ey, b)) in
+    kept_above v d j (nat_abs y) (omega (arith, signed_linear, q, ey)) (omega (arith, signed_linear, p, ex, h))
+
+pub kept_from_below : (v d x y : ℤ) (j : ℕ) → x ≡ neg_ℤ v → y ≡ d → v <ℤ pos 0 → pos 0 <ℤ d → j * nat_abs y < nat_abs x
+    → HaveOneSign v (v +ℤ pos j *ℤ d)
+kept_from_below v d x y j ex ey a b h =
+    let p = abs_is x (omega (arith, signed_linear, ex, a)) in
+    let q = abs_is y (omega (arith, signed_linear, ey, b)) in
+    kept_below v d j (nat_abs y) (omega (arith, signed_linear, q, ey)) (omega (arith, signed_linear, p, ex, h))
 
 -- ---- one place alone
 pub one_alike : (up : Bool) (col row : ℤ) (n : ℕ) (s : Span) → IsAlikeTo up col row n (n + 1) s
@@ -537,32 +658,17 @@ not_passed x end p q h f k = clash x f (h.1 (subst (λ (z : ℤ × ℤ × ℤ). 
       sym (coordinate_word q.y q.near_y) i,
     )) k))
 
--- the tests of the places at the ends of a run
+-- the areas of a place with a piece's ends
 part_middle : (a : Place) (b : Option Place) (c p : Place) → (areas_of_part a b c p).1 ≡ area a p c
 part_middle a None c p = refl
 part_middle a (Some b) c p = refl
 
-pub clear_seen : (up : Bool) (col row : ℤ) (k m : ℕ) (s : Piece) (p q : Point) (vp vq : ℤ)
-    → place_of p ≡ place_on up col row k → place_of q ≡ place_on up col row m → IsWithin 140737488355328 vp
-    → IsWithin 140737488355328 vq → vp ≡ (areas_of (span_of s) (place_of p)).1 → vq ≡ (areas_of (span_of s) (place_of q)).1
-    → ¬ (IsPassed s.a.y p.y q.y) → ¬ (IsPassed s.c.y p.y q.y)
-    → HaveOneSign (to_z w64 (of_z w64 vp)) (to_z w64 (of_z w64 vq)) → IsClear up col row k m (span_of s)
-clear_seen up col row k m s p q vp vq ep eq np nq hp hq start end side = record {
-  start = λ h. start (subst (λ (z : ℤ × ℤ). IsPassed s.a.y z.0 z.1) (λ i. (sym yp i, sym yq i)) h);
-  end = λ h. end (subst (λ (z : ℤ × ℤ). IsPassed s.c.y z.0 z.1) (λ i. (sym yp i, sym yq i)) h);
-  side = subst (λ (z : ℤ × ℤ). HaveOneSign z.0 z.1) (λ i. (sp i, sq i)) side;
-}
-  where
-    yp : p.y ≡ (place_on up col row k).y
-    yp = ap (λ (z : Place). z.y) ep
+pub middle_is : (s : Piece) (p : Place) (v : Weights) → (v.u, v.v, v.w) ≡ areas_of (span_of s) p
+    → v.v ≡ area (place_of s.a) p (place_of s.c)
+middle_is s p v h = ap (λ (z : ℤ × ℤ × ℤ). z.1) h ∙ part_middle (place_of s.a) (maybe_place_of s.b) (place_of s.c) p
 
-    yq : q.y ≡ (place_on up col row m).y
-    yq = ap (λ (z : Place). z.y) eq
-
-    sp : to_z w64 (of_z w64 vp) ≡ area (place_of s.a) (place_on up col row k) (place_of s.c)
-    sp = area_word vp (area_wider vp np) ∙ hp ∙ part_middle (place_of s.a) (maybe_place_of s.b) (place_of s.c) (place_of p)
-        ∙ ap (λ z. area (place_of s.a) z (place_of s.c)) ep
-
-    sq : to_z w64 (of_z w64 vq) ≡ area (place_of s.a) (place_on up col row m) (place_of s.c)
-    sq = area_word vq (area_wider vq nq) ∙ hq ∙ part_middle (place_of s.a) (maybe_place_of s.b) (place_of s.c) (place_of q)
-        ∙ ap (λ z. area (place_of s.a) z (place_of s.c)) eq
+-- the test whether areas with a place are 0
+pub middle_not_none : (s : Piece) (p : Place) (v : Weights) → (v.u, v.v, v.w) ≡ areas_of (span_of s) p
+    → ¬ (of_z w64 v.v ≡ 0) → area (place_of s.a) p (place_of s.c) ≢ pos 0
+middle_not_none s p v h n e =
+    n (ap (of_z w64) (middle_is s p v h ∙ e))

@@ -10,6 +10,7 @@ pub mod Words
 pub mod Counts
 pub mod Filling
 pub mod NearLaws
+pub mod NearShift
 pub mod Steps
 pub mod Alike
 pub mod Sums

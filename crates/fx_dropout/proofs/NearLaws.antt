@@ -1,6 +1,6 @@
 -- What drop-out control by the nearer pixel sets.
 -- Serves the laws of this crate, and the law `bridged` of fx_raster.
-use Rattle.std.proofs.Common.{◌⊎◌, ◌↔◌, inl, inr, subst, ℕ, zero, suc, ◌+◌, ℤ, pos, ◌+ℤ◌, ◌-ℤ◌, Bool, true, false, List, map, Any}
+use Rattle.std.proofs.Common.{◌≡◌, ◌⊎◌, ◌↔◌, inl, inr, refl, sym, subst, ℕ, ◌+◌, ℤ, pos, ◌+ℤ◌, ◌-ℤ◌, Bool, true, false, List, map, Any}
 use Rattle.std.specs.List.Sorted.{IsPermutation}
 use Rattle.std.proofs.lemmas.List.Sorted.{IsPermutation-sym}
 use Rattle.fx_winding.specs.declared.frame.Frame.{Frame}
@@ -15,6 +15,7 @@ use Rattle.fx_winding.proofs.Dropout.{column_before}
 use Rattle.fx_winding.proofs.Meeting.{reversal_meets}
 use Rattle.fx_winding.proofs.Reversal.{reversal_keeps_cover}
 use Rattle.fx_dropout.specs.Nearer.{IsCount, IsNextNearer, IsNearBridged, IsNearRowSet, IsNearSet, IsClosedByLeft, IsClosedByRight, place_on}
+use Rattle.fx_dropout.proofs.Counts.{count_iff}
 use Rattle.fx_dropout.specs.Laws.{NearerAdds, RowsHaveNoGap, ColumnsHaveNoGap, ReversalKeepsNearSet}
 
 -- between two neighbours that are not set, one of which is inside, no piece passes
@@ -61,50 +62,101 @@ columns_have_no_gap ss f i j h n m a =
     h n m a
 
 -- ---- reversed
-count_along : (P Q : ℕ → Type 0) → ((n : ℕ) → P n ↔ Q n) → (n m : ℕ) → IsCount P n m → IsCount Q n m
-unfolding IsCount
-count_along P Q e zero m h = h
-count_along P Q e (suc n) m (inl (p, l, d, h)) = inl ((e n).0 p, l, d, count_along P Q e n l h)
-count_along P Q e (suc n) m (inr (p, h)) = inr (λ q. p ((e n).1 q), count_along P Q e n m h)
-
 -- where the same places are covered
-nearer_along : (up : Bool) (ss ts : List Span) → ((p : Place) → IsCovered p ss ↔ IsCovered p ts) → (col row : ℤ)
-    → IsNextNearer up ss col row → IsNextNearer up ts col row
-nearer_along up ss ts e col row h = record {
+pub nearer_along : (up : Bool) (ss ts : List Span) (col row i j : ℤ)
+    → ((n : ℕ) → IsCovered (place_on up col row n) ss ↔ IsCovered (place_on up i j n) ts) → IsNextNearer up ss col row
+    → IsNextNearer up ts i j
+nearer_along up ss ts col row i j e h = record {
   here = h.here;
   next = h.next;
-  first_half = count_along (λ n. IsCovered (place_on up col row (n + 1)) ss) (λ n. IsCovered (place_on up col row (n + 1)) ts)
-      (λ n. e (place_on up col row (n + 1))) 63 h.here h.first_half;
-  second_half = count_along (λ n. IsCovered (place_on up col row (n + 65)) ss) (λ n. IsCovered (place_on up col row (n + 65)) ts)
-      (λ n. e (place_on up col row (n + 65))) 63 h.next h.second_half;
+  first_half = half 1 h.here h.first_half;
+  second_half = half 65 h.next h.second_half;
   more = h.more;
 }
-
-near_same : (ss ts : List Span) (In Near Far So At : ℤ → ℤ → Type 0) → ((i j : ℤ) → Near i j ↔ Far i j)
-    → ((i j : ℤ) → At i j ↔ So i j) → ((p q : Place) → Any (IsMet p q) ss → Any (IsMet p q) ts) → (i j : ℤ)
-    → IsNearBridged ss In Near So i j → IsNearBridged ts In Far At i j
-near_same ss ts In Near Far So At near same met i j (inl s) = inl ((same i j).1 s)
-near_same ss ts In Near Far So At near same met i j (inr b) = inr (record { inside = b.inside; closes = by b.closes })
   where
-    gap : (i j : ℤ) → IsGap ss So i j → IsGap ts At i j
-    gap i j g = record {
-      here = λ s. g.here ((same i j).0 s);
-      next = λ s. g.next ((same (i +ℤ pos 1) j).0 s);
-      met = met (centre i j) (centre (i +ℤ pos 1) j) g.met;
+    half : (m count : ℕ) → IsCount (λ n. IsCovered (place_on up col row (n + m)) ss) 63 count
+        → IsCount (λ n. IsCovered (place_on up i j (n + m)) ts) 63 count
+    half m count =
+        count_iff (λ n. IsCovered (place_on up col row (n + m)) ss) (λ n. IsCovered (place_on up i j (n + m)) ts) 63 count
+        (λ n below. e (n + m))
+
+-- a piece passes between two neighbours of a row
+abbrev pub AreMet : List Span → ℤ → ℤ → Type 0
+AreMet ss i j = Any (IsMet (centre i j) (centre (i +ℤ pos 1) j)) ss
+
+-- what holds of pixels, moved
+pub record IsMoved (m n : ℤ → ℤ) (P Q : ℤ → ℤ → Type 0) : Type 0 where
+  pub back : (i j : ℤ) → Q (m i) (n j) → P i j
+  pub on : (i j : ℤ) → P i j → Q (m i) (n j)
+
+-- a row closed, where what is inside, nearer, set so far and met is moved
+pub bridged_moved : (m n : ℤ → ℤ) → ((i : ℤ) → m (i +ℤ pos 1) ≡ m i +ℤ pos 1) → ((i : ℤ) → m (i -ℤ pos 1) ≡ m i -ℤ pos 1)
+    → (ss ts : List Span) (In To Near Far So At : ℤ → ℤ → Type 0) → IsMoved m n In To → IsMoved m n Near Far
+    → IsMoved m n So At → IsMoved m n (AreMet ss) (AreMet ts)
+    → IsMoved m n (IsNearBridged ss In Near So) (IsNearBridged ts To Far At)
+bridged_moved m n after before ss ts In To Near Far So At inside near so met =
+    record { back = λ i j b. from i j b; on = λ i j b. to i j b }
+  where
+    gap_back : (i j : ℤ) → IsGap ts At (m i) (n j) → IsGap ss So i j
+    gap_back i j g = record {
+      here = λ s. g.here (so.on i j s);
+      next = λ s. g.next (subst (λ z. At z (n j)) (after i) (so.on (i +ℤ pos 1) j s));
+      met = met.back i j g.met;
     }
 
-    left : ¬ (Near i j) ⊎ ¬ (In (i +ℤ pos 1) j) → ¬ (Far i j) ⊎ ¬ (In (i +ℤ pos 1) j)
-    left (inl n) = inl (λ k. n ((near i j).1 k))
-    left (inr n) = inr n
+    gap_on : (i j : ℤ) → IsGap ss So i j → IsGap ts At (m i) (n j)
+    gap_on i j g = record {
+      here = λ s. g.here (so.back i j s);
+      next = λ s. g.next (so.back (i +ℤ pos 1) j (subst (λ z. At z (n j)) (sym (after i)) s));
+      met = met.on i j g.met;
+    }
 
-    right : (i : ℤ) → Near i j ⊎ ¬ (In i j) → Far i j ⊎ ¬ (In i j)
-    right i (inl n) = inl ((near i j).0 n)
-    right i (inr n) = inr n
+    left_back : (i j : ℤ) → IsClosedByLeft ts To Far At (m i) (n j) → IsClosedByLeft ss In Near So i j
+    left_back i j c = record { gap = gap_back i j c.gap; chosen = by c.chosen }
+      where
+        by : ¬ (Far (m i) (n j)) ⊎ ¬ (To (m i +ℤ pos 1) (n j)) → ¬ (Near i j) ⊎ ¬ (In (i +ℤ pos 1) j)
+        by (inl k) = inl (λ h. k (near.on i j h))
+        by (inr k) = inr (λ h. k (subst (λ z. To z (n j)) (after i) (inside.on (i +ℤ pos 1) j h)))
 
-    by : IsClosedByLeft ss In Near So i j ⊎ IsClosedByRight ss In Near So (i -ℤ pos 1) j
-        → IsClosedByLeft ts In Far At i j ⊎ IsClosedByRight ts In Far At (i -ℤ pos 1) j
-    by (inl c) = inl (record { gap = gap i j c.gap; chosen = left c.chosen })
-    by (inr c) = inr (record { gap = gap (i -ℤ pos 1) j c.gap; chosen = right (i -ℤ pos 1) c.chosen })
+    left_on : (i j : ℤ) → IsClosedByLeft ss In Near So i j → IsClosedByLeft ts To Far At (m i) (n j)
+    left_on i j c = record { gap = gap_on i j c.gap; chosen = by c.chosen }
+      where
+        by : ¬ (Near i j) ⊎ ¬ (In (i +ℤ pos 1) j) → ¬ (Far (m i) (n j)) ⊎ ¬ (To (m i +ℤ pos 1) (n j))
+        by (inl k) = inl (λ h. k (near.back i j h))
+        by (inr k) = inr (λ h. k (inside.back (i +ℤ pos 1) j (subst (λ z. To z (n j)) (sym (after i)) h)))
+
+    right_back : (i j : ℤ) → IsClosedByRight ts To Far At (m i) (n j) → IsClosedByRight ss In Near So i j
+    right_back i j c = record { gap = gap_back i j c.gap; chosen = by c.chosen }
+      where
+        by : Far (m i) (n j) ⊎ ¬ (To (m i) (n j)) → Near i j ⊎ ¬ (In i j)
+        by (inl h) = inl (near.back i j h)
+        by (inr k) = inr (λ h. k (inside.on i j h))
+
+    right_on : (i j : ℤ) → IsClosedByRight ss In Near So i j → IsClosedByRight ts To Far At (m i) (n j)
+    right_on i j c = record { gap = gap_on i j c.gap; chosen = by c.chosen }
+      where
+        by : Near i j ⊎ ¬ (In i j) → Far (m i) (n j) ⊎ ¬ (To (m i) (n j))
+        by (inl h) = inl (near.on i j h)
+        by (inr k) = inr (λ h. k (inside.back i j h))
+
+    from : (i j : ℤ) → IsNearBridged ts To Far At (m i) (n j) → IsNearBridged ss In Near So i j
+    from i j (inl s) = inl (so.back i j s)
+    from i j (inr b) = inr (record { inside = inside.back i j b.inside; closes = by b.closes })
+      where
+        by : IsClosedByLeft ts To Far At (m i) (n j) ⊎ IsClosedByRight ts To Far At (m i -ℤ pos 1) (n j)
+            → IsClosedByLeft ss In Near So i j ⊎ IsClosedByRight ss In Near So (i -ℤ pos 1) j
+        by (inl c) = inl (left_back i j c)
+        by (inr c) = inr (right_back (i -ℤ pos 1) j
+            (subst (λ z. IsClosedByRight ts To Far At z (n j)) (sym (before i)) c))
+
+    to : (i j : ℤ) → IsNearBridged ss In Near So i j → IsNearBridged ts To Far At (m i) (n j)
+    to i j (inl s) = inl (so.on i j s)
+    to i j (inr b) = inr (record { inside = inside.on i j b.inside; closes = by b.closes })
+      where
+        by : IsClosedByLeft ss In Near So i j ⊎ IsClosedByRight ss In Near So (i -ℤ pos 1) j
+            → IsClosedByLeft ts To Far At (m i) (n j) ⊎ IsClosedByRight ts To Far At (m i -ℤ pos 1) (n j)
+        by (inl c) = inl (left_on i j c)
+        by (inr c) = inr (subst (λ z. IsClosedByRight ts To Far At z (n j)) (before i) (right_on (i -ℤ pos 1) j c))
 
 any_reversed : (P : Span → Type 0) → ((s : Span) → P s → P (reversed s)) → (ss ts : List Span) → IsPermutation (map reversed ss) ts
     → Any P ss → Any P ts
@@ -121,21 +173,40 @@ record AreAlike (ss ts : List Span) : Type 0 where
   met : (p q : Place) → Any (IsMet p q) ss → Any (IsMet p q) ts
   turned : (p q : Place) → Any (IsMet p q) (map turned_span ss) → Any (IsMet p q) (map turned_span ts)
 
-set_alike : (ss ts : List Span) → AreAlike ss ts → AreAlike ts ss → (f : Frame) (i j : ℤ) → IsNearSet ss f i j → IsNearSet ts f i j
-set_alike ss ts a b f i j s =
-    near_same (map turned_span ss) (map turned_span ts) (λ j i. IsInFrame f i j) (λ j i. IsNextNearer true ss i j)
-    (λ j i. IsNextNearer true ts i j) (λ j i. IsNearRowSet ss f i j) (λ j i. IsNearRowSet ts f i j)
-    (λ j i. (nearer_along true ss ts a.covered i j, nearer_along true ts ss b.covered i j))
-    (λ j i. (rows ts ss b a i j, rows ss ts a b i j)) a.turned j i s
+set_alike : (ss ts : List Span) → AreAlike ss ts → AreAlike ts ss → (f : Frame) (i j : ℤ) → IsNearSet ts f i j ↔ IsNearSet ss f i j
+set_alike ss ts a b f i j = (λ h. all.back j i h, λ h. all.on j i h)
   where
-    rows : (ss ts : List Span) → AreAlike ss ts → AreAlike ts ss → (i j : ℤ) → IsNearRowSet ss f i j → IsNearRowSet ts f i j
-    rows ss ts a b =
-        near_same ss ts (IsInFrame f) (IsNextNearer false ss) (IsNextNearer false ts) (λ i j. IsCovered (centre i j) ss)
-        (λ i j. IsCovered (centre i j) ts) (λ i j. (nearer_along false ss ts a.covered i j, nearer_along false ts ss b.covered i j))
-        (λ i j. b.covered (centre i j)) a.met
+    near : (up : Bool) → IsMoved (λ i. i) (λ j. j) (IsNextNearer up ss) (IsNextNearer up ts)
+    near up = record {
+      back = λ i j h. nearer_along up ts ss i j i j (λ n. b.covered (place_on up i j n)) h;
+      on = λ i j h. nearer_along up ss ts i j i j (λ n. a.covered (place_on up i j n)) h;
+    }
+
+    rows : IsMoved (λ i. i) (λ j. j) (IsNearRowSet ss f) (IsNearRowSet ts f)
+    rows = bridged_moved (λ i. i) (λ j. j) (λ i. refl) (λ i. refl) ss ts (IsInFrame f) (IsInFrame f) (IsNextNearer false ss)
+        (IsNextNearer false ts) (λ i j. IsCovered (centre i j) ss) (λ i j. IsCovered (centre i j) ts)
+        (record { back = λ i j h. h; on = λ i j h. h }) (near false)
+        (record { back = λ i j h. (b.covered (centre i j)).0 h; on = λ i j h. (a.covered (centre i j)).0 h })
+        (record {
+          back = λ i j h. b.met (centre i j) (centre (i +ℤ pos 1) j) h;
+          on = λ i j h. a.met (centre i j) (centre (i +ℤ pos 1) j) h;
+        })
+
+    all : IsMoved (λ j. j) (λ i. i) (IsNearBridged (map turned_span ss) (λ j i. IsInFrame f i j) (λ j i. IsNextNearer true ss i j)
+        (λ j i. IsNearRowSet ss f i j)) (IsNearBridged (map turned_span ts) (λ j i. IsInFrame f i j)
+        (λ j i. IsNextNearer true ts i j) (λ j i. IsNearRowSet ts f i j))
+    all = bridged_moved (λ j. j) (λ i. i) (λ j. refl) (λ j. refl) (map turned_span ss) (map turned_span ts) (λ j i. IsInFrame f i j)
+        (λ j i. IsInFrame f i j) (λ j i. IsNextNearer true ss i j) (λ j i. IsNextNearer true ts i j) (λ j i. IsNearRowSet ss f i j)
+        (λ j i. IsNearRowSet ts f i j) (record { back = λ j i h. h; on = λ j i h. h })
+        (record { back = λ j i h. (near true).back i j h; on = λ j i h. (near true).on i j h })
+        (record { back = λ j i h. rows.back i j h; on = λ j i h. rows.on i j h })
+        (record {
+          back = λ j i h. b.turned (centre j i) (centre (j +ℤ pos 1) i) h;
+          on = λ j i h. a.turned (centre j i) (centre (j +ℤ pos 1) i) h;
+        })
 
 pub reversal_keeps_near_set : ReversalKeepsNearSet
-reversal_keeps_near_set ss ts f h i j = (set_alike ts ss restored backward f i j, set_alike ss ts backward restored f i j)
+reversal_keeps_near_set ss ts f h i j = set_alike ss ts backward restored f i j
   where
     backward : AreAlike ss ts
     backward = record {

@@ -1,11 +1,11 @@
 -- What the definition of drop-out control by the nearer pixel implies.
-use Rattle.std.specs.Prelude.{◌⊎◌, ◌↔◌, ℤ, pos, ◌+ℤ◌, List, map, Any}
+use Rattle.std.specs.Prelude.{◌⊎◌, ◌↔◌, ℤ, pos, ◌+ℤ◌, ◌*ℤ◌, List, map, Any}
 use Rattle.std.specs.List.Sorted.{IsPermutation}
 use Rattle.fx_winding.specs.declared.frame.Frame.{Frame}
 use Rattle.fx_winding.specs.Dropout.{turned_span}
 use Rattle.fx_winding.specs.Frames.{IsInFrame}
 use Rattle.fx_winding.specs.Meets.{IsMet}
-use Rattle.fx_winding.specs.Moves.{reversed}
+use Rattle.fx_winding.specs.Moves.{reversed, shifted}
 use Rattle.fx_winding.specs.Winding.{Span, IsCovered, centre}
 use Rattle.fx_dropout.specs.Nearer.{IsNearSet}
 
@@ -29,3 +29,9 @@ ColumnsHaveNoGap = (ss : List Span) (f : Frame) (i j : ℤ) → IsInFrame f i j 
 abbrev pub ReversalKeepsNearSet : Type 0
 ReversalKeepsNearSet = (ss ts : List Span) (f : Frame) → IsPermutation (map reversed ss) ts → (i j : ℤ)
     → IsNearSet ts f i j ↔ IsNearSet ss f i j
+
+-- the law: pieces and a frame moved by k pixels to the right and l up, each pixel 128 units a side, set the pixels moved so
+abbrev pub ShiftMovesNearSet : Type 0
+ShiftMovesNearSet = (k l : ℤ) (ss : List Span) (f g : Frame)
+    → ((i j : ℤ) → IsInFrame g (i +ℤ k) (j +ℤ l) ↔ IsInFrame f i j) → (i j : ℤ)
+    → IsNearSet (map (shifted (pos 128 *ℤ k) (pos 128 *ℤ l)) ss) g (i +ℤ k) (j +ℤ l) ↔ IsNearSet ss f i j

@@ -7,6 +7,10 @@ use Rattle.fx_winding.specs.declared.frame.Frame.{Frame}
 abbrev pub most_tests : ℕ → ℕ
 most_tests pieces = 11 * pieces
 
+-- those of a segment if a gap there is closed by the nearer pixel: as well 31 for each piece and each of 128 places
+abbrev pub most_nearer_tests : ℕ → ℕ
+most_nearer_tests pieces = most_tests pieces + 31 * 128 * pieces
+
 -- how many segments of a line of n pixels are tested: with exact notes those at its two ends, which lead out of the frame, else all
 abbrev pub tested : Bool → ℕ → ℕ
 tested true n = 2

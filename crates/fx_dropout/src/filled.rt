@@ -6,6 +6,7 @@ ghost use Rattle.fx_winding.specs.Frames.{IsFrom, IsInFrame, HasMargin};
 ghost use Rattle.fx_winding.specs.Notes.{AreExact, IsNoted};
 ghost use Rattle.fx_winding.specs.Winding.{span_of, centre, IsCovered};
 ghost use Rattle.fx_dropout.specs.Nearer.{IsNearSet};
+ghost use Rattle.fx_dropout.specs.Tests.{most_nearer_tests, tested, tested_segments};
 ghost use Rattle.fx_dropout.specs.inner.Filled.{IsFilled, IsOfLine, IsOfLines};
 ghost use Rattle.fx_dropout.specs.inner.Lines.{IsLevelNoted, IsOneOf, IsRowNoted, IsSoFar};
 
@@ -49,6 +50,7 @@ fn fill_row(
         (IsOfLine (given.now.frame.left -ℤ pos 1) (given.now.frame.width + 1) j)
         (IsSoFar (map span_of pieces.now) given.now.frame given.now) (IsSoFar (map span_of pieces.now) given.now.frame target.old)
         (IsSoFar (map span_of pieces.now) given.now.frame target.new) }
+    ensures count { tally.new.count ≤ tally.old.count + (given.now.frame.width + 1) * most_nearer_tests (length pieces.now) }
 {
     let segments = InRow {
         noted,
@@ -89,6 +91,7 @@ fn fill_level(
     ensures filled { IsFilled true (map span_of pieces.now) given.now.frame (IsOfLine given.now.frame.left given.now.frame.width i)
         (IsSoFar (map span_of pieces.now) given.now.frame given.now) (IsSoFar (map span_of pieces.now) given.now.frame target.old)
         (IsSoFar (map span_of pieces.now) given.now.frame target.new) }
+    ensures count { tally.new.count ≤ tally.old.count + given.now.frame.width * most_nearer_tests (length pieces.now) }
 {
     let frame = given.frame();
     let segments = Between {
@@ -115,6 +118,8 @@ fn fill_rows(pieces: &Pieces, notes: &Notes, given: &Bitmap, target: &mut Bitmap
         (IsOfLines (given.now.frame.left -ℤ pos 1) (given.now.frame.width + 1) given.now.frame.bottom given.now.frame.height)
         (IsSoFar (map span_of pieces.now) given.now.frame given.now) (IsSoFar (map span_of pieces.now) given.now.frame given.now)
         (IsSoFar (map span_of pieces.now) given.now.frame target.new) }
+    ensures count { tally.new.count ≤ tally.old.count +
+        given.now.frame.height * (tested false given.now.frame.width * most_nearer_tests (length pieces.now)) }
 {
     let frame = notes.frame;
     if is_empty(frame) {
@@ -160,6 +165,8 @@ fn fill_columns(
         (IsOfLines given.now.frame.left given.now.frame.width (given.now.frame.bottom -ℤ pos 1) (given.now.frame.height + 1))
         (IsSoFar (map span_of pieces.now) given.now.frame given.now) (IsSoFar (map span_of pieces.now) given.now.frame given.now)
         (IsSoFar (map span_of pieces.now) given.now.frame target.new) }
+    ensures count { tally.new.count ≤ tally.old.count +
+        tested false given.now.frame.height * (given.now.frame.width * most_nearer_tests (length pieces.now)) }
 {
     let frame = notes.frame;
     if is_empty(frame) {
@@ -188,7 +195,8 @@ fn fill_columns(
 /// by the nearer pixel: it has the bits that drop-out control by the nearer pixel sets in its frame. The segments that a piece
 /// meets must be noted; others may be.
 ///
-/// The columns and rows beside the frame must have numbers too.
+/// The columns and rows beside the frame must have numbers too. Tests of points are counted in `tally`: at most 3,979 for each
+/// piece and each segment.
 pub fn close_gaps_nearer(
     alloc: Global,
     pieces: &Pieces,
@@ -205,6 +213,8 @@ pub fn close_gaps_nearer(
     ensures frame { IfOk result (λ b. b.frame ≡ bitmap.now.frame) }
     ensures bits { IfOk result (λ b. (col row : ℤ) → IsInFrame bitmap.now.frame col row →
         IsTrue (bit_of b col row) ↔ IsNearSet (map span_of pieces.now) bitmap.now.frame col row) }
+    ensures count { tally.new.count ≤
+        tally.old.count + tested_segments false bitmap.now.frame * most_nearer_tests (length pieces.now) }
 {
     let mut rows = copied(alloc, bitmap)?;
     fill_rows(pieces, notes, bitmap, &mut rows, tally);

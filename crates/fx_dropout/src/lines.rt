@@ -5,6 +5,7 @@ ghost use Rattle.std.specs.Prelude.{◌≡◌, ◌⊎◌, ℕ, ◌+◌, ◌*◌,
 ghost use Rattle.fx_winding.specs.Frames.{IsFrom, IsInFrame, HasMargin};
 ghost use Rattle.fx_winding.specs.Limits.{IsPixelNumber};
 ghost use Rattle.fx_winding.specs.Winding.{span_of};
+ghost use Rattle.fx_dropout.specs.Tests.{most_nearer_tests};
 ghost use Rattle.fx_dropout.specs.inner.Filled.{IsFilled, IsOfLine, IsLineNoted};
 ghost use Rattle.fx_dropout.specs.inner.Lines.{IsSoFar};
 ghost use Rattle.fx_dropout.specs.inner.Pairs.{next_col, next_row, IsGapNext, IsTold};
@@ -143,6 +144,7 @@ fn fill_gap(
         (IsSoFar (map span_of pieces.now) given.now.frame given.now)
         (IsSoFar (map span_of pieces.now) given.now.frame target.old)
         (IsSoFar (map span_of pieces.now) given.now.frame target.new) }
+    ensures count { tally.new.count ≤ tally.old.count + most_nearer_tests (length pieces.now) }
 {
     if is_gap(pieces, noted, given, pair, tally) {
         let at = nearer(pieces, given.frame(), pair, tally);
@@ -176,6 +178,7 @@ pub(crate) fn fill_line<S: Segments>(
         (IsSoFar (map span_of pieces.now) given.now.frame given.now)
         (IsSoFar (map span_of pieces.now) given.now.frame target.old)
         (IsSoFar (map span_of pieces.now) given.now.frame target.new) }
+    ensures count { tally.new.count ≤ tally.old.count + line.count * most_nearer_tests (length pieces.now) }
 {
     let mut k = next_segment(segments, 0);
     // The gaps at the first k segments are closed.

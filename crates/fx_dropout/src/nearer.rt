@@ -1,13 +1,13 @@
 //! Which of two neighbours is nearer to the stroke that passes between their centres.
 
-ghost use Rattle.std.specs.Prelude.{◌≡◌, ◌⊎◌, ◌↔◌, ℕ, ◌+◌, ◌*◌, ◌^◌, ◌≤◌, ◌<◌, ℤ, IsTrue, None, length, map, get_or};
+ghost use Rattle.std.specs.Prelude.{◌≡◌, ◌⊎◌, ◌↔◌, ℕ, ◌+◌, ◌*◌, ◌^◌, ◌≤◌, ◌<◌, ℤ, pos, IsTrue, length, map, get_or};
 ghost use Rattle.fx_fixed.specs.Ranges.{IsWithin};
 ghost use Rattle.fx_winding.specs.Frames.{IsInFrame};
 ghost use Rattle.fx_winding.specs.Winding.{span_of};
 ghost use Rattle.fx_dropout.specs.Nearer.{IsCount, IsNextNearer};
 ghost use Rattle.fx_dropout.specs.inner.Filled.{IsNearer};
 ghost use Rattle.fx_dropout.specs.inner.Pairs.{next_col, next_row};
-ghost use Rattle.fx_dropout.specs.inner.Runs.{IsCoveredBy, IsSmall};
+ghost use Rattle.fx_dropout.specs.inner.Runs.{IsCoveredBy};
 
 use crate::gaps::is_in_frame;
 use crate::pair::{Pair, Pixel};
@@ -19,17 +19,17 @@ use fx_winding::{Frame, Pieces, Tally};
 const HALF: usize = 63;
 
 /// How many of the places from `from` on are covered, of the segment between the centres of two neighbours.
-fn count_covered(places: &[Option<i32>], base: i32, from: usize) -> usize
+fn count_covered(places: &[i32], base: i32, from: usize) -> u32
     requires room { length places.now ≡ 128 }
     requires from { from ≤ 65 }
-    requires small { (n : ℕ) → n < 128 → IsSmall (2 ^ 17) (get_or places.now n None) }
+    requires small { (n : ℕ) → n < 128 → IsWithin (2 ^ 30 + 2 ^ 20) (get_or places.now n (pos 0)) }
     requires size { IsWithin (2 ^ 17) base }
-    ensures { IsCount (λ n. IsCoveredBy base (get_or places.now (n + from) None)) 63 result }
+    ensures { IsCount (λ n. IsCoveredBy base (get_or places.now (n + from) (pos 0))) 63 result }
 {
     let mut count = 0;
     // `count` of the first n places are covered.
     'places: for n in 0..HALF {
-        count += usize::from(is_covered(places[n + from], base));
+        count += u32::from(is_covered(places[n + from], base));
     }
     count
 }
@@ -39,7 +39,7 @@ fn is_next_nearer(pieces: &Pieces, pair: Pair, tally: &mut Tally) -> bool
     ensures value { IsTrue result ↔ IsNextNearer pair.is_up (map span_of pieces.now) pair.here.col pair.here.row }
     ensures count { tally.new.count ≤ tally.old.count + 31 * 128 * length pieces.now }
 {
-    let mut places = [Some(0); PLACES];
+    let mut places = [0; PLACES];
     let base = add_pieces(pieces.as_slice(), pair, &mut places, tally);
     let here = count_covered(&places, base, 1);
     let next = count_covered(&places, base, 65);

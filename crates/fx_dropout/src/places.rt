@@ -1,20 +1,20 @@
 //! What pieces add to the winding numbers of the places between the centres of two neighbours.
 
-ghost use Rattle.std.specs.Prelude.{◌≡◌, ◌↔◌, ◌⊎◌, ℕ, ◌+◌, ◌*◌, ◌^◌, ◌≤◌, ◌<◌, ℤ, pos, ◌+ℤ◌, ◌≤ℤ◌, ◌<ℤ◌, IsTrue, Option, Some, None, length, map, get_or, IfSome};
+ghost use Rattle.std.specs.Prelude.{◌≡◌, ◌↔◌, ◌⊎◌, ℕ, ◌+◌, ◌*◌, ◌^◌, ◌≤◌, ◌<◌, ℤ, pos, ◌+ℤ◌, ◌≤ℤ◌, ◌<ℤ◌, IsTrue, Some, length, map, get_or, IfSome};
 ghost use Rattle.fx_fixed.specs.Ranges.{IsWithin};
 ghost use Rattle.fx_winding.specs.Area.{Place};
 ghost use Rattle.fx_winding.specs.Limits.{most_pieces};
 ghost use Rattle.fx_winding.specs.Outside.{HasAll};
 ghost use Rattle.fx_winding.specs.Winding.{place_of, span_of};
 ghost use Rattle.fx_dropout.specs.Nearer.{place_on};
-ghost use Rattle.fx_dropout.specs.inner.Runs.{above as above_of, sum_of, IsAdded, IsCoveredBy, IsInBox, IsJoined, IsMore, IsSmall, IsSummed};
+ghost use Rattle.fx_dropout.specs.inner.Runs.{above as above_of, sum_of, IsAdded, IsCoveredBy, IsInBox, IsJoined, IsMore, IsSummed};
 
-use crate::gaps::{is_above, is_below, is_left, is_right, turn_off};
+use crate::gaps::{is_above, is_below, is_left, is_right};
 use crate::pair::Pair;
-use crate::run::{PLACES, alike_from, is_passed};
+use crate::run::{PLACES, alike_from, areas_at, is_passed, turn_by};
 use fx_winding::{Piece, Point, Tally};
 
-/// 1 if a height is above that of a place, else 0.
+/// 1 if a height is above another, else 0.
 fn above(y: i32, height: i32) -> i32
     ensures value { result ≡ above_of y height }
     ensures low { pos 0 ≤ℤ result }
@@ -24,7 +24,7 @@ fn above(y: i32, height: i32) -> i32
 }
 
 /// What a piece that lies right of a box adds to the winding number of each place there, if it is one number.
-fn turn_left(piece: &Piece, p: Point, q: Point) -> Option<i32>
+fn turn_if_right(piece: &Piece, p: Point, q: Point) -> Option<i32>
     requires high { p.y ≤ℤ q.y }
     requires right { HasAll (λ e. q.x <ℤ e.x) (span_of piece.now) }
     ensures { IfSome result (λ t. IsWithin 1 t × ((r : Place) → IsInBox (place_of p) (place_of q) r →
@@ -55,23 +55,24 @@ fn turn_beside(piece: &Piece, p: Point, q: Point) -> Option<i32>
         return Some(0);
     }
     if is_right(piece, q.x) {
-        return turn_left(piece, p, q);
+        return turn_if_right(piece, p, q);
     }
     None
 }
 
-/// The sum of what pieces add to a winding number, or None if the place is on one of them.
-fn joined(a: Option<i32>, b: Option<i32>) -> Option<i32>
-    requires first { IsSmall (2 ^ 29) a }
-    requires second { IsSmall (2 ^ 29) b }
-    ensures { result ≡ sum_of a b }
+/// A number that stands for a place on a piece. What other pieces add changes it, but not to one that a winding number can be.
+const MARK: i32 = 1 << 30;
+
+/// What is known of a place, and what a piece adds there, or None if the place is on the piece.
+#[inline(always)]
+fn joined(place: i32, added: Option<i32>) -> i32
+    requires place { IsWithin (2 ^ 30 + 2 ^ 20) place }
+    requires added { IfSome added (IsWithin 2) }
+    ensures { result ≡ sum_of place added }
 {
-    match a {
-        None => None,
-        Some(a) => match b {
-            None => None,
-            Some(b) => Some(a + b),
-        },
+    match added {
+        None => MARK,
+        Some(turn) => place + turn,
     }
 }
 
@@ -86,14 +87,15 @@ fn is_nothing(added: Option<i32>) -> bool
 }
 
 /// Adds what a piece adds at `count` places.
-fn add_run(places: &mut [Option<i32>], first: usize, count: usize, added: Option<i32>)
+fn add_run(places: &mut [i32], first: usize, count: usize, added: Option<i32>)
     requires room { first + count ≤ length places.old }
-    requires small { (n : ℕ) → first ≤ n → n < first + count → IsSmall (2 ^ 29) (get_or places.old n None) }
-    requires part { IsSmall (2 ^ 29) added }
+    requires small { (n : ℕ) → first ≤ n → n < first + count → IsWithin (2 ^ 30 + 2 ^ 20) (get_or places.old n (pos 0)) }
+    requires added { IfSome added (IsWithin 2) }
     ensures length { length places.new ≡ length places.old }
     ensures run { (n : ℕ) → first ≤ n → n < first + count →
-        get_or places.new n None ≡ sum_of (get_or places.old n None) added }
-    ensures others { (n : ℕ) → (n < first) ⊎ (first + count ≤ n) → get_or places.new n None ≡ get_or places.old n None }
+        get_or places.new n (pos 0) ≡ sum_of (get_or places.old n (pos 0)) added }
+    ensures others { (n : ℕ) → (n < first) ⊎ (first + count ≤ n) →
+        get_or places.new n (pos 0) ≡ get_or places.old n (pos 0) }
 {
     if is_nothing(added) {
         return;
@@ -104,33 +106,36 @@ fn add_run(places: &mut [Option<i32>], first: usize, count: usize, added: Option
     }
 }
 
-/// Adds what a piece adds at each place.
-fn add_piece(piece: &Piece, pair: Pair, places: &mut [Option<i32>], tally: &mut Tally)
+/// Adds what a piece adds at each place. Most pieces lie to one side and never come here.
+#[inline(never)]
+fn add_piece(piece: &Piece, pair: Pair, places: &mut [i32], tally: &mut Tally)
     requires room { length places.old ≡ 128 }
-    requires small { (n : ℕ) → n < 128 → IsSmall (2 ^ 29) (get_or places.old n None) }
+    requires small { (n : ℕ) → n < 128 → IsWithin (2 ^ 30 + 2 ^ 20) (get_or places.old n (pos 0)) }
     ensures length { length places.new ≡ 128 }
     ensures joined { (n : ℕ) → n < 128 → IsJoined (place_on pair.is_up pair.here.col pair.here.row n) (span_of piece.now)
-        (get_or places.old n None) (get_or places.new n None) }
+        (get_or places.old n (pos 0)) (get_or places.new n (pos 0)) }
     ensures count { tally.new.count ≤ tally.old.count + 31 * 128 }
 {
     let mut n = 0;
     // What the piece adds at the first n places has been added.
     'runs: while n < PLACES {
-        let count = alike_from(piece, pair, n, tally);
-        add_run(places, n, count, turn_off(piece, pair.place(n), tally));
+        let p = pair.place(n);
+        let at = areas_at(piece, p, tally);
+        let count = alike_from(piece, pair, n, at, tally);
+        add_run(places, n, count, turn_by(piece, p, at, tally));
         n += count;
     }
 }
 
 /// Adds what a piece adds at each place. If it lies to one side of all of them, the places stay, and the one number that it adds is
 /// returned.
-fn add_either(piece: &Piece, pair: Pair, places: &mut [Option<i32>], tally: &mut Tally) -> i32
+fn add_either(piece: &Piece, pair: Pair, places: &mut [i32], tally: &mut Tally) -> i32
     requires room { length places.old ≡ 128 }
-    requires small { (n : ℕ) → n < 128 → IsSmall (2 ^ 29) (get_or places.old n None) }
+    requires small { (n : ℕ) → n < 128 → IsWithin (2 ^ 30 + 2 ^ 20) (get_or places.old n (pos 0)) }
     ensures size { IsWithin 1 result }
     ensures length { length places.new ≡ 128 }
     ensures more { (n : ℕ) → n < 128 → IsMore (place_on pair.is_up pair.here.col pair.here.row n) (span_of piece.now) result
-        (get_or places.old n None) (get_or places.new n None) }
+        (get_or places.old n (pos 0)) (get_or places.new n (pos 0)) }
     ensures count { tally.new.count ≤ tally.old.count + 31 * 128 }
 {
     match turn_beside(piece, pair.place(0), pair.place(PLACES - 1)) {
@@ -143,20 +148,14 @@ fn add_either(piece: &Piece, pair: Pair, places: &mut [Option<i32>], tally: &mut
 }
 
 /// Adds what the pieces add at each place: there, or to the number that is returned, which is the same for all places.
-pub(crate) fn add_pieces(
-    pieces: &[Piece],
-    pair: Pair,
-    places: &mut [Option<i32>],
-    tally: &mut Tally,
-) -> i32
+pub(crate) fn add_pieces(pieces: &[Piece], pair: Pair, places: &mut [i32], tally: &mut Tally) -> i32
     requires few { length pieces.now ≤ most_pieces }
     requires room { length places.old ≡ 128 }
-    requires none { (n : ℕ) → n < 128 → get_or places.old n None ≡ Some (pos 0) }
+    requires none { (n : ℕ) → n < 128 → get_or places.old n (pos 0) ≡ pos 0 }
     ensures size { IsWithin (2 ^ 17) result }
     ensures length { length places.new ≡ 128 }
-    ensures small { (n : ℕ) → n < 128 → IsSmall (2 ^ 17) (get_or places.new n None) }
     ensures summed { (n : ℕ) → n < 128 → IsSummed (place_on pair.is_up pair.here.col pair.here.row n) (map span_of pieces.now)
-        result (get_or places.new n None) }
+        result (2 ^ 17) (get_or places.new n (pos 0)) }
     ensures count { tally.new.count ≤ tally.old.count + 31 * 128 * length pieces.now }
 {
     let mut base = 0;
@@ -168,13 +167,11 @@ pub(crate) fn add_pieces(
 }
 
 /// Whether a place is on a piece, or has a winding number other than 0.
-pub(crate) fn is_covered(place: Option<i32>, base: i32) -> bool
-    requires small { IsSmall (2 ^ 17) place }
-    requires size { IsWithin (2 ^ 17) base }
+#[inline(always)]
+pub(crate) fn is_covered(place: i32, base: i32) -> bool
+    requires place { IsWithin (2 ^ 30 + 2 ^ 20) place }
+    requires base { IsWithin (2 ^ 17) base }
     ensures { IsTrue result ↔ IsCoveredBy base place }
 {
-    match place {
-        None => true,
-        Some(turns) => base + turns != 0,
-    }
+    base + place != 0
 }

@@ -1,13 +1,16 @@
 //! Runs of places at which a piece is alike: it has all of them on it or none, and adds one number to their winding numbers.
 
-ghost use Rattle.std.specs.Prelude.{◌≡◌, ◌↔◌, ◌+◌, ◌*◌, ◌≤◌, ◌<◌, ◌^◌, pos, ◌+ℤ◌, ◌<ℤ◌, IsTrue, Some};
+ghost use Rattle.std.specs.Prelude.{◌≡◌, ◌≢◌, ◌⊎◌, ◌↔◌, ℕ, ◌+◌, ◌-◌, ◌*◌, ◌≤◌, ◌<◌, ◌^◌, pos, ◌+ℤ◌, ◌*ℤ◌, ◌≤ℤ◌, ◌<ℤ◌, IsTrue, Some, MatchOption};
 ghost use Rattle.fx_fixed.specs.Ranges.{IsWithin};
-ghost use Rattle.fx_winding.specs.Winding.{place_of, span_of, areas_of};
+ghost use Rattle.fx_winding.specs.Area.{Place, gap_of};
+ghost use Rattle.fx_winding.specs.Meets.{turn};
+ghost use Rattle.fx_winding.specs.Winding.{place_of, span_of, areas_of, region, IsOn};
 ghost use Rattle.fx_dropout.specs.Nearer.{place_on};
-ghost use Rattle.fx_dropout.specs.inner.Runs.{HaveOneSign, IsAlikeTo, IsBelowTo, IsClear, IsPassed, gap_at as gap_of_piece};
+ghost use Rattle.fx_dropout.specs.inner.Runs.{HaveOneSign, IsAlikeTo, IsBelowTo, IsClear, IsPassed, step, gap_at as gap_of_piece};
 
+use crate::gaps::turn_off;
 use crate::pair::Pair;
-use fx_winding::{Piece, Point, Tally, Weights, areas, curve_gap};
+use fx_winding::{Piece, Point, Tally, Weights, areas, crossing, curve_gap, difference};
 
 /// How many places of a segment are looked at: the centre of its first pixel, and the 127 between the two centres.
 pub(crate) const PLACES: usize = 128;
@@ -46,7 +49,7 @@ fn have_one_sign(a: i64, b: i64) -> bool
 }
 
 /// The signed areas of a place with each two of a piece's points.
-fn areas_at(piece: &Piece, p: Point, tally: &mut Tally) -> Weights
+pub(crate) fn areas_at(piece: &Piece, p: Point, tally: &mut Tally) -> Weights
     ensures u { result.u ≡ (areas_of (span_of piece.now) (place_of p)).0 }
     ensures v { result.v ≡ (areas_of (span_of piece.now) (place_of p)).1 }
     ensures w { result.w ≡ (areas_of (span_of piece.now) (place_of p)).2 }
@@ -102,6 +105,43 @@ fn stays_below(
     gap_at(piece, run.pair.place(run.last - 1), tally) <= last
 }
 
+/// Whether an arc's areas with a place show that the place is beyond its chord or outside its parabola.
+fn is_outside(at: Weights) -> bool
+    ensures { IsTrue result → (¬ (HaveOneSign (at.u +ℤ at.v +ℤ at.w) at.v)) ⊎ (gap_of at.u at.v at.w <ℤ pos 0) }
+{
+    if !have_one_sign(total_of(at), at.v) {
+        return true;
+    }
+    curve_gap(at) < 0
+}
+
+/// Whether a piece's areas with a place show that the place is neither on the piece nor in its region.
+fn is_apart(piece: &Piece, at: Weights) -> bool
+    ensures { IsTrue result → (p : Place) → (at.u, at.v, at.w) ≡ areas_of (span_of piece.now) p →
+        (¬ (IsOn p (span_of piece.now))) × (region p (span_of piece.now) ≡ pos 0) }
+{
+    if at.v == 0 {
+        return false;
+    }
+    match piece.b {
+        None => true,
+        Some(_) => is_outside(at),
+    }
+}
+
+/// What a piece adds to the winding number at p, by its areas there, or None if p is on it.
+pub(crate) fn turn_by(piece: &Piece, p: Point, at: Weights, tally: &mut Tally) -> Option<i32>
+    requires { (at.u, at.v, at.w) ≡ areas_of (span_of piece.now) (place_of p) }
+    ensures value { MatchOption result (IsOn (place_of p) (span_of piece.now))
+        (λ t. IsWithin 2 t × (t ≡ turn (place_of p) (span_of piece.now)) × ¬ (IsOn (place_of p) (span_of piece.now))) }
+    ensures count { tally.new.count ≤ tally.old.count + 3 }
+{
+    if is_apart(piece, at) {
+        return Some(crossing(piece, p.x, p.y, tally));
+    }
+    turn_off(piece, p, tally)
+}
+
 /// Whether a run on one side of an arc's chord is seen to lie within the arc's region or without it.
 fn is_arc_alike(
     piece: &Piece,
@@ -138,54 +178,147 @@ fn is_arc_alike(
     stays_below(piece, b, run, first, last, tally)
 }
 
-/// Whether a piece is seen to be alike at all places of a run.
-fn is_alike(piece: &Piece, run: Run, tally: &mut Tally) -> bool
-    ensures alike { IsTrue result →
-        IsAlikeTo run.pair.is_up run.pair.here.col run.pair.here.row run.first (run.last + 1) (span_of piece.now) }
-    ensures count { tally.new.count ≤ tally.old.count + 4 }
+/// How many steps from a number on come before it reaches 0, at most as many as there are places.
+fn steps_down(number: u64, step: u64) -> usize
+    requires number { 0 < number }
+    requires step { 0 < step }
+    requires number_size { number ≤ 2 ^ 47 }
+    requires step_size { step ≤ 2 ^ 23 }
+    ensures some { 0 < result }
+    ensures few { result ≤ 128 }
+    ensures before { (j : ℕ) → j < result → j * step < number }
 {
-    let p = run.pair.place(run.first);
-    let q = run.pair.place(run.last);
-    if is_passed(piece.a.y, p.y, q.y) {
-        return false;
-    }
-    if is_passed(piece.c.y, p.y, q.y) {
-        return false;
-    }
-    let at_p = areas_at(piece, p, tally);
-    let at_q = areas_at(piece, q, tally);
-    if !have_one_sign(at_p.v, at_q.v) {
-        return false;
-    }
-    match piece.b {
-        None => true,
-        Some(b) => is_arc_alike(piece, b, run, at_p, at_q, tally),
+    let steps = (number + step - 1) / step;
+    steps.min(128) as usize
+}
+
+/// How the area of a place with a piece's ends changes from place to place.
+fn chord_step(piece: &Piece, is_up: bool) -> i64
+    ensures value { result ≡ step is_up (place_of piece.now.c) (place_of piece.now.a) }
+    ensures size { IsWithin (2 ^ 23) result }
+{
+    if is_up {
+        difference(piece.a.x, piece.c.x)
+    } else {
+        difference(piece.c.y, piece.a.y)
     }
 }
 
-/// How many places from the place n on are seen to be alike for a piece: all that are left, or a half, a quarter and so on.
-pub(crate) fn alike_from(piece: &Piece, pair: Pair, n: usize, tally: &mut Tally) -> usize
-    requires { n < 128 }
+/// How many places come before the chord of a piece, off which the first is, by its areas.
+fn places_to_chord(piece: &Piece, is_up: bool, at: Weights) -> usize
+    requires { at.v ≢ pos 0 }
+    ensures some { 0 < result }
+    ensures side { (j : ℕ) → j < result →
+        HaveOneSign at.v (at.v +ℤ pos j *ℤ step is_up (place_of piece.now.c) (place_of piece.now.a)) }
+{
+    let step = chord_step(piece, is_up);
+    if at.v > 0 {
+        if step < 0 {
+            return steps_down(at.v as u64, -step as u64);
+        }
+        return PLACES;
+    }
+    if step > 0 {
+        return steps_down(-at.v as u64, step as u64);
+    }
+    PLACES
+}
+
+/// How many of some places, each a step above the one before, come before a piece's end that is not below the first.
+fn before_end(end: Point, p: Point, most: usize) -> usize
+    requires some { 0 < most }
+    ensures some { 0 < result }
+    ensures few { result ≤ most }
+    ensures before { (end.y ≤ℤ p.y) ⊎ ((p.y +ℤ pos result) ≤ℤ end.y) }
+{
+    if end.y <= p.y {
+        return most;
+    }
+    most.min((end.y - p.y) as usize)
+}
+
+/// How many places from the place n on come before an end of a piece and before its chord, off which the first is.
+fn most_alike(piece: &Piece, pair: Pair, n: usize, at: Weights) -> usize
+    requires before { n < 128 }
+    requires first { (at.u, at.v, at.w) ≡ areas_of (span_of piece.now) (place_on pair.is_up pair.here.col pair.here.row n) }
+    requires off { at.v ≢ pos 0 }
+    ensures some { 0 < result }
+    ensures few { n + result ≤ 128 }
+    ensures clear { IsClear pair.is_up pair.here.col pair.here.row n (n + result - 1) (span_of piece.now) }
+{
+    let most = places_to_chord(piece, pair.is_up, at).min(PLACES - n);
+    if pair.is_up {
+        let p = pair.place(n);
+        return before_end(piece.c, p, before_end(piece.a, p, most));
+    }
+    most
+}
+
+/// How many places from the place n on are seen to be alike for an arc, by its areas there, of some before its ends and its chord.
+fn arc_alike_from(
+    piece: &Piece,
+    b: Point,
+    pair: Pair,
+    n: usize,
+    most: usize,
+    at: Weights,
+    tally: &mut Tally,
+) -> usize
+    requires middle { piece.now.b ≡ Some b }
+    requires some { 0 < most }
+    requires few { n + most ≤ 128 }
+    requires first { (at.u, at.v, at.w) ≡ areas_of (span_of piece.now) (place_on pair.is_up pair.here.col pair.here.row n) }
+    requires clear { IsClear pair.is_up pair.here.col pair.here.row n (n + most - 1) (span_of piece.now) }
     ensures some { 0 < result }
     ensures few { n + result ≤ 128 }
     ensures alike { IsAlikeTo pair.is_up pair.here.col pair.here.row n (n + result) (span_of piece.now) }
-    ensures count { tally.new.count ≤ tally.old.count + 28 }
+    ensures count { tally.new.count ≤ tally.old.count + 24 }
 {
-    let mut count = PLACES - n;
-    // `count` places are tried next.
-    'halves: for _ in 0..7usize {
-        if count < 2 {
-            return 1;
+    let mut count = most;
+    let mut alike = 1;
+    let mut end = most + 1;
+    // The first `alike` places are alike. Next `count` of them are tried, which are fewer than `end`.
+    'halves: for _ in 0..8usize {
+        if count <= alike {
+            return alike;
         }
         let run = Run {
             pair,
             first: n,
             last: n + count - 1,
         };
-        if is_alike(piece, run, tally) {
-            return count;
+        let last = areas_at(piece, pair.place(n + count - 1), tally);
+        if is_arc_alike(piece, b, run, at, last, tally) {
+            alike = count;
+        } else {
+            end = count;
         }
-        count /= 2;
+        count = (alike + end) / 2;
     }
-    1
+    alike
+}
+
+/// How many places from the place n on are seen to be alike for a piece, by its areas there.
+pub(crate) fn alike_from(
+    piece: &Piece,
+    pair: Pair,
+    n: usize,
+    at: Weights,
+    tally: &mut Tally,
+) -> usize
+    requires before { n < 128 }
+    requires first { (at.u, at.v, at.w) ≡ areas_of (span_of piece.now) (place_on pair.is_up pair.here.col pair.here.row n) }
+    ensures some { 0 < result }
+    ensures few { n + result ≤ 128 }
+    ensures alike { IsAlikeTo pair.is_up pair.here.col pair.here.row n (n + result) (span_of piece.now) }
+    ensures count { tally.new.count ≤ tally.old.count + 24 }
+{
+    if at.v == 0 {
+        return 1;
+    }
+    let most = most_alike(piece, pair, n, at);
+    match piece.b {
+        None => most,
+        Some(b) => arc_alike_from(piece, b, pair, n, most, at, tally),
+    }
 }

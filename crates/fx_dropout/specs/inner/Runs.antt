@@ -1,5 +1,5 @@
 -- Places of the segment between two neighbours at which a piece is alike.
-use Rattle.std.specs.Prelude.{◌≡◌, ◌≢◌, ◌⊎◌, ◌↔◌, ℕ, ◌≤◌, ◌<◌, ℤ, pos, ◌+ℤ◌, ◌≤ℤ◌, ◌<ℤ◌, int_lt, Bool, if◌then◌else◌, List, Option, Some, None, Any}
+use Rattle.std.specs.Prelude.{◌≡◌, ◌≢◌, ◌⊎◌, ◌↔◌, ℕ, ◌≤◌, ◌<◌, ◌^◌, ℤ, pos, ◌+ℤ◌, ◌-ℤ◌, ◌≤ℤ◌, ◌<ℤ◌, int_lt, Bool, true, false, if◌then◌else◌, List, Option, Some, None, Any}
 use Rattle.fx_fixed.specs.Ranges.{IsWithin}
 use Rattle.fx_winding.specs.Area.{Place, area, gap_of}
 use Rattle.fx_winding.specs.Meets.{turn}
@@ -30,6 +30,11 @@ pub record IsClear (up : Bool) (col row : ℤ) (first last : ℕ) (s : Span) : T
   pub end : ¬ (IsPassed s.c.y (place_on up col row first).y (place_on up col row last).y)
   pub side : HaveOneSign (area s.a (place_on up col row first) s.c) (area s.a (place_on up col row last) s.c)
 
+-- how the area of a place with b and c changes from place to place
+abbrev pub step : Bool → Place → Place → ℤ
+step false b c = b.y -ℤ c.y
+step true b c = c.x -ℤ b.x
+
 -- the gap 4uw - v² of the areas of a place with a piece's points
 abbrev pub gap_at : Span → Place → ℤ
 gap_at s p = gap_of (areas_of s p).0 (areas_of s p).1 (areas_of s p).2
@@ -50,7 +55,7 @@ pub record IsInBox (p q r : Place) : Type 0 where
   pub low : p.y ≤ℤ r.y
   pub high : r.y ≤ℤ q.y
 
--- 1 where a height is above that of a place
+-- 1 if a height is above another, else 0
 abbrev pub above : ℤ → ℤ → ℤ
 above y height = if int_lt y height then pos 1 else pos 0
 
@@ -59,33 +64,31 @@ abbrev pub IsPart : Place → Span → Option ℤ → Type 0
 IsPart p s None = IsOn p s
 IsPart p s (Some t) = IsWithin 2 t × (t ≡ turn p s) × ¬ (IsOn p s)
 
--- the sum of two parts
-abbrev pub sum_of : Option ℤ → Option ℤ → Option ℤ
-sum_of None b = None
-sum_of (Some t) None = None
-sum_of (Some t) (Some u) = Some (t +ℤ u)
+-- a number that stands for a place on a piece; what other pieces add changes it, but not to one that a winding number can be
+abbrev pub mark : ℤ
+mark = pos (2 ^ 30)
 
--- a part is a number within a bound, if it is one
-abbrev pub IsSmall : ℕ → Option ℤ → Type 0
-IsSmall k None = Unit {0}
-IsSmall k (Some t) = IsWithin k t
+-- a part added to what is known of a place
+abbrev pub sum_of : ℤ → Option ℤ → ℤ
+sum_of v None = mark
+sum_of v (Some t) = v +ℤ t
 
 -- what a piece adds at a place has been added
-pub record IsJoined (p : Place) (s : Span) (old new : Option ℤ) : Type 0 where
+pub record IsJoined (p : Place) (s : Span) (old new : ℤ) : Type 0 where
   pub part : Option ℤ
   pub is : IsPart p s part
   pub sum : new ≡ sum_of old part
 
 -- or it has been added by one number for all places
-abbrev pub IsMore : Place → Span → ℤ → Option ℤ → Option ℤ → Type 0
+abbrev pub IsMore : Place → Span → ℤ → ℤ → ℤ → Type 0
 IsMore p s t old new = (IsAdded p s t × (new ≡ old)) ⊎ ((t ≡ pos 0) × IsJoined p s old new)
 
--- what pieces add at a place is known: one of them is there; or it is one number and another
-abbrev pub IsSummed : Place → List Span → ℤ → Option ℤ → Type 0
-IsSummed p ss base None = Any (IsOn p) ss
-IsSummed p ss base (Some t) = (¬ (Any (IsOn p) ss)) × (base +ℤ t ≡ winding p ss)
+-- what pieces add at a place is known: one of them is there, and the number is within k of the mark; or it is one number within k
+-- and another
+abbrev pub IsSummed : Place → List Span → ℤ → ℕ → ℤ → Type 0
+IsSummed p ss base k v = (Any (IsOn p) ss × IsWithin k (v -ℤ mark))
+    ⊎ ((¬ (Any (IsOn p) ss)) × IsWithin k v × (base +ℤ v ≡ winding p ss))
 
 -- by that the place is covered
-abbrev pub IsCoveredBy : ℤ → Option ℤ → Type 0
-IsCoveredBy base None = Unit {0}
-IsCoveredBy base (Some t) = base +ℤ t ≢ pos 0
+abbrev pub IsCoveredBy : ℤ → ℤ → Type 0
+IsCoveredBy base v = base +ℤ v ≢ pos 0

@@ -1,13 +1,15 @@
-use Rattle.std.proofs.Common.{◌↔◌, inl, sym, subst, map, ℤ, true}
+use Rattle.std.proofs.Common.{◌↔◌, inl, sym, subst, length, map, ℤ, true, false}
 use Rattle.fx_winding.specs.declared.frame.Frame.{Frame}
 use Rattle.fx_winding.specs.Dropout.{turned_span}
 use Rattle.fx_winding.specs.Frames.{IsInFrame}
 use Rattle.fx_winding.specs.Winding.{span_of}
 use Rattle.fx_dropout.specs.Nearer.{IsNearBridged, IsNextNearer}
+use Rattle.fx_dropout.specs.Tests.{most_nearer_tests}
 use Rattle.fx_dropout.specs.inner.Lines.{IsSoFar}
 use Rattle.fx_dropout.specs.inner.Pairs.{Turned}
 use Rattle.fx_dropout.proofs.Filling.{rows_filled, columns_filled, near_columns_after_rows}
 use Rattle.fx_dropout.proofs.SoFar.{scan_so_far, so_far_in_frame}
+use Rattle.fx_dropout.proofs.Tests.{counted_both}
 use Rattle.fx_dropout.proofs.filled.close_gaps_nearer.Goals as goal
 
 pub fill_rows-requires-clause-covered : goal.fill_rows-requires-clause-covered
@@ -39,3 +41,9 @@ returns-clause-bits c =
     let all = near_columns_after_rows ss f old (IsSoFar ss f rows) (IsSoFar ss f set) (scan_so_far ss f b c.requires.scanned)
     bridged columns in
     λ i j h. (λ t. (all i j).0 (inl t), λ s. so_far_in_frame ss f set i j h ((all i j).1 s))
+
+pub returns-clause-count : goal.returns-clause-count
+returns-clause-count c =
+    counted_both false c.args.bitmap.now.frame c.args.tally.now.count c.fill_rows.new.tally.count c.fill_columns.new.tally.count
+    (most_nearer_tests (length c.args.pieces.now)) c.fill_rows.ensures.count
+    (rw c.fill_rows.ensures.frame at c.fill_columns.ensures.count)

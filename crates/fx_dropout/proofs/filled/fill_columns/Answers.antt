@@ -1,4 +1,4 @@
-use Rattle.std.proofs.Common.{◌≡◌, ◌+◌, ◌+ℤ◌, ◌-◌, ◌-ℤ◌, ◌*◌, ◌<◌, ◌∙◌, pos, sym, ap, subst, map, take, drop, All, List, arith, w32, to_z, of_z, true, ℕ, ℤ}
+use Rattle.std.proofs.Common.{◌≡◌, ◌+◌, ◌+ℤ◌, ◌-◌, ◌-ℤ◌, ◌*◌, ◌<◌, ◌∙◌, pos, sym, ap, subst, length, map, take, drop, All, List, arith, w32, to_z, of_z, true, ℕ, ℤ}
 use Rattle.std.proofs.lemmas.Int.{to_z_pos}
 use Rattle.fx_fixed.proofs.Linear.{signed_linear}
 use Rattle.fx_winding.specs.declared.frame.Frame.{Frame}
@@ -6,11 +6,13 @@ use Rattle.fx_winding.specs.Bitmaps.{Bits, words_for}
 use Rattle.fx_winding.specs.Frames.{IsInFrame}
 use Rattle.fx_winding.specs.Notes.{AreExact, IsNoted}
 use Rattle.fx_winding.specs.Winding.{span_of}
+use Rattle.fx_dropout.specs.Tests.{most_nearer_tests}
 use Rattle.fx_dropout.specs.inner.Filled.{IsFilled, IsOfLines}
 use Rattle.fx_dropout.specs.inner.Lines.{IsSoFar}
 use Rattle.fx_dropout.specs.inner.Words.{IsShutInColumn}
 use Rattle.fx_dropout.proofs.Candidates.{level_noted}
 use Rattle.fx_dropout.proofs.Filling.{filled_none, lines_skip, lines_more, no_gap_up, none_inside}
+use Rattle.fx_dropout.proofs.Tests.{counted_rows}
 use Rattle.fx_dropout.proofs.filled.fill_columns.Goals as goal
 
 pub returns-then-is_empty-clause-frame : goal.returns-then-is_empty-clause-frame
@@ -47,6 +49,7 @@ levels-init c =
           (subst (λ (xs : List ℕ). IsShutInColumn xs b r n) c.deref.ensures.value (next.ensures.skipped r n low high few)))
           (filled_none true ss f (IsOfLines f.left f.width (f.bottom -ℤ pos 1) 0) old old
           (λ i j d. omega (arith, signed_linear, d.row.0, d.row.1))));
+      count = omega arith;
     }
 
 pub fill_level-requires-clause-some : goal.fill_level-requires-clause-some
@@ -117,6 +120,8 @@ levels-preserved c =
           (λ r n low high few. no_gap_up ss across ups b r n noted c.requires.covered (omega (arith, high, to)) few
           (subst (λ (xs : List ℕ). IsShutInColumn xs b r n) c.deref-in-levels-2.ensures.value
           (next.ensures.skipped r n low high few))) c.levels.invariant.filled c.fill_level.ensures.filled;
+      count = counted_rows c.args.tally.now.count c.levels.tally.count c.fill_level.new.tally.count up next.result
+          (f.width * most_nearer_tests (length c.args.pieces.now)) c.levels.invariant.count c.fill_level.ensures.count from;
     }
 
 pub returns-clause-filled : goal.returns-clause-filled
@@ -130,3 +135,10 @@ returns-clause-filled c =
     let all : c.levels.up ≡ f.height + 1 = omega (arith, to, height) in
     subst (λ (n : ℕ). IsFilled true ss f (IsOfLines f.left f.width (f.bottom -ℤ pos 1) n) old old
     (IsSoFar ss f c.levels.target)) all c.levels.invariant.filled
+
+pub returns-clause-count : goal.returns-clause-count
+returns-clause-count c =
+    let to = c.levels.invariant.to in
+    let height : c.args.notes.now.frame.height ≡ c.args.given.now.frame.height = ap (λ (g : Frame). g.height) c.requires.frame in
+    let all : c.levels.up ≡ c.args.given.now.frame.height + 1 = omega (arith, to, height) in
+    rw all at c.levels.invariant.count

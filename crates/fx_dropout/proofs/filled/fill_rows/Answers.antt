@@ -1,4 +1,4 @@
-use Rattle.std.proofs.Common.{◌≡◌, ◌+◌, ◌+ℤ◌, ◌-◌, ◌-ℤ◌, ◌*◌, ◌<◌, ◌∙◌, pos, sym, ap, subst, map, take, drop, All, List, arith, w32, to_z, of_z, false, ℕ, ℤ}
+use Rattle.std.proofs.Common.{◌≡◌, ◌+◌, ◌+ℤ◌, ◌-◌, ◌-ℤ◌, ◌*◌, ◌<◌, ◌∙◌, pos, sym, ap, subst, length, map, take, drop, All, List, arith, w32, to_z, of_z, false, ℕ, ℤ}
 use Rattle.std.proofs.lemmas.Int.{to_z_pos}
 use Rattle.fx_fixed.proofs.Linear.{signed_linear}
 use Rattle.fx_winding.specs.declared.frame.Frame.{Frame}
@@ -6,11 +6,13 @@ use Rattle.fx_winding.specs.Bitmaps.{Bits, words_for}
 use Rattle.fx_winding.specs.Frames.{IsInFrame}
 use Rattle.fx_winding.specs.Notes.{AreExact, IsNoted}
 use Rattle.fx_winding.specs.Winding.{span_of}
+use Rattle.fx_dropout.specs.Tests.{most_nearer_tests, tested}
 use Rattle.fx_dropout.specs.inner.Filled.{IsFilled, IsOfLines}
 use Rattle.fx_dropout.specs.inner.Lines.{IsSoFar}
 use Rattle.fx_dropout.specs.inner.Words.{IsShutInRow}
 use Rattle.fx_dropout.proofs.Candidates.{row_noted}
 use Rattle.fx_dropout.proofs.Filling.{filled_none, lines_skip, lines_more, no_gap_across, none_inside}
+use Rattle.fx_dropout.proofs.Tests.{counted_rows}
 use Rattle.fx_dropout.proofs.filled.fill_rows.Goals as goal
 
 pub returns-then-is_empty-clause-frame : goal.returns-then-is_empty-clause-frame
@@ -49,6 +51,7 @@ rows-init c =
           (next.ensures.skipped r n low high (omega (arith, few)))))
           (filled_none false ss f (IsOfLines (f.left -ℤ pos 1) (f.width + 1) f.bottom 0) old old
           (λ i j d. omega (arith, signed_linear, d.row.0, d.row.1))));
+      count = omega arith;
     }
 
 pub fill_row-requires-clause-some : goal.fill_row-requires-clause-some
@@ -116,6 +119,9 @@ rows-preserved c =
           (λ r n low high few. no_gap_across ss across ups b r n noted c.requires.covered (omega (arith, high, to)) few
           (subst (λ (xs : List ℕ). IsShutInRow xs b r n) c.deref-in-rows-2.ensures.value
           (next.ensures.skipped r n low high (omega (arith, few))))) c.rows.invariant.filled c.fill_row.ensures.filled;
+      count = counted_rows c.args.tally.now.count c.rows.tally.count c.fill_row.new.tally.count up next.result
+          (tested false f.width * most_nearer_tests (length c.args.pieces.now)) c.rows.invariant.count
+          c.fill_row.ensures.count from;
     }
 
 pub returns-clause-filled : goal.returns-clause-filled
@@ -129,3 +135,10 @@ returns-clause-filled c =
     let all : c.rows.up ≡ f.height = omega (arith, to, height) in
     subst (λ (n : ℕ). IsFilled false ss f (IsOfLines (f.left -ℤ pos 1) (f.width + 1) f.bottom n) old old
     (IsSoFar ss f c.rows.target)) all c.rows.invariant.filled
+
+pub returns-clause-count : goal.returns-clause-count
+returns-clause-count c =
+    let to = c.rows.invariant.to in
+    let height : c.args.notes.now.frame.height ≡ c.args.given.now.frame.height = ap (λ (g : Frame). g.height) c.requires.frame in
+    let all : c.rows.up ≡ c.args.given.now.frame.height = omega (arith, to, height) in
+    rw all at c.rows.invariant.count

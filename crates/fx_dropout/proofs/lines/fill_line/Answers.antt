@@ -1,10 +1,12 @@
-use Rattle.std.proofs.Common.{◌≡◌, sym, subst, map, min, arith, Bool, ℕ, ℤ}
+use Rattle.std.proofs.Common.{◌≡◌, sym, subst, length, map, min, arith, Bool, ℕ, ℤ}
 use Rattle.fx_fixed.proofs.Linear.{signed_linear}
 use Rattle.fx_winding.specs.Winding.{span_of}
+use Rattle.fx_dropout.specs.Tests.{most_nearer_tests}
 use Rattle.fx_dropout.specs.inner.Filled.{IsFilled, IsOfLine}
 use Rattle.fx_dropout.specs.inner.Lines.{IsSoFar}
 use Rattle.fx_dropout.specs.inner.Pairs.{IsTold}
 use Rattle.fx_dropout.proofs.Filling.{filled_none, line_skip, line_more}
+use Rattle.fx_dropout.proofs.Tests.{counted_rows}
 use Rattle.fx_dropout.proofs.lines.fill_line.Goals as goal
 
 pub segments-init : goal.segments-init
@@ -20,6 +22,7 @@ segments-init g c =
           (λ n low high. c.requires.shut n (omega (arith, high)) (c.next_segment-k.ensures.shut n low (omega (arith, high))))
           (filled_none l.is_up ss f (IsOfLine l.first 0 l.row) old before
           (λ i j d. omega (arith, signed_linear, d.column.0, d.column.1)));
+      count = omega arith;
     }
 
 pub fill_gap-requires-clause-told : goal.fill_gap-requires-clause-told
@@ -54,6 +57,9 @@ segments-preserved g c =
           (omega (arith, from)) e.col e.row
           (λ n low high. c.requires.shut n (omega (arith, high)) (next.ensures.shut n low (omega (arith, high))))
           (subst (λ (n : ℕ). IsFilled l.is_up ss f (IsOfLine l.first n l.row) old before mid) here c.segments.invariant.filled) one;
+      count = counted_rows c.args.tally.now.count c.segments.tally.count c.fill_gap.new.tally.count (min k l.count)
+          (min next.result l.count) (most_nearer_tests (length c.args.pieces.now)) c.segments.invariant.count
+          c.fill_gap.ensures.count (omega (arith, from));
     }
 
 pub returns-clause-filled : goal.returns-clause-filled
@@ -64,3 +70,8 @@ returns-clause-filled g c =
     let whole : min c.segments.k l.count ≡ l.count = omega arith in
     subst (λ (n : ℕ). IsFilled l.is_up ss f (IsOfLine l.first n l.row) (IsSoFar ss f c.args.given.now)
     (IsSoFar ss f c.args.target.now) (IsSoFar ss f c.segments.target)) whole c.segments.invariant.filled
+
+pub returns-clause-count : goal.returns-clause-count
+returns-clause-count g c =
+    let whole : min c.segments.k c.args.line.count ≡ c.args.line.count = omega arith in
+    rw whole at c.segments.invariant.count

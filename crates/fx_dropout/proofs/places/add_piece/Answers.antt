@@ -1,4 +1,4 @@
-use Rattle.std.proofs.Common.{◌≡◌, inl, inr, sym, ◌∙◌, ap, subst, ◌+◌, ◌≤◌, ◌<◌, ℕ, ℤ, Option, Some, None, get_or, arith}
+use Rattle.std.proofs.Common.{◌≡◌, inl, inr, sym, ◌∙◌, ap, subst, ◌+◌, ◌≤◌, ◌<◌, ℕ, ℤ, pos, Option, Some, None, get_or, arith}
 use Rattle.std.specs.Prelude.{MatchOption}
 use Rattle.fx_fixed.specs.Ranges.{IsWithin}
 use Rattle.fx_fixed.proofs.Order.{below_or_not}
@@ -29,19 +29,20 @@ runs-preserved c =
     let few = c.alike_from-count.ensures.few in
     let tests = inv.tests in
     let more = c.alike_from-count.ensures.count in
-    let most = c.turn_off.ensures.count in
+    let most = c.turn_by.ensures.count in
+    let one = c.areas_at-at.ensures.count in
     let length = c.add_run.ensures.length in
     let before = inv.length in
-    let part : IsPart (P n) s c.turn_off.result = subst (λ (q : Place). IsPart q s c.turn_off.result) c.place.ensures
-    (to_part _ s c.turn_off.result c.turn_off.ensures.value) in
-    let early : (k : ℕ) → k < n → IsJoined (P k) s (get_or old k None) (get_or new k None) =
-    λ k l. subst (λ (v : Option ℤ). IsJoined (P k) s (get_or old k None) v) (sym (c.add_run.ensures.others k (inl l)))
+    let part : IsPart (P n) s c.turn_by.result = subst (λ (q : Place). IsPart q s c.turn_by.result) c.place-p.ensures
+    (to_part _ s c.turn_by.result c.turn_by.ensures.value) in
+    let early : (k : ℕ) → k < n → IsJoined (P k) s (get_or old k (pos 0)) (get_or new k (pos 0)) =
+    λ k l. subst (λ v. IsJoined (P k) s (get_or old k (pos 0)) v) (sym (c.add_run.ensures.others k (inl l)))
     (inv.joined k l) in
-    let late : (k : ℕ) → n ≤ k → k < n + count → IsJoined (P k) s (get_or old k None) (get_or new k None) =
+    let late : (k : ℕ) → n ≤ k → k < n + count → IsJoined (P k) s (get_or old k (pos 0)) (get_or new k (pos 0)) =
     λ k low high. record {
-      part = c.turn_off.result;
-      is = part_alike (P k) (P n) s c.turn_off.result (c.alike_from-count.ensures.alike k low high) part;
-      sum = c.add_run.ensures.run k low high ∙ ap (λ (v : Option ℤ). sum_of v c.turn_off.result) (inv.others k low);
+      part = c.turn_by.result;
+      is = part_alike (P k) (P n) s c.turn_by.result (c.alike_from-count.ensures.alike k low high) part;
+      sum = c.add_run.ensures.run k low high ∙ ap (λ v. sum_of v c.turn_by.result) (inv.others k low);
     } in
     record {
       few = few;
@@ -51,5 +52,5 @@ runs-preserved c =
         | inr h ↦ late k h l
       ];
       others = λ k l. c.add_run.ensures.others k (inr l) ∙ inv.others k (omega (arith, l));
-      tests = (let some = c.alike_from-count.ensures.some in omega (arith, tests, more, most, some));
+      tests = (let some = c.alike_from-count.ensures.some in omega (arith, tests, more, most, one, some));
     }

@@ -1,16 +1,15 @@
-use Rattle.std.proofs.Common.{◌≡◌, ◌+◌, ◌*◌, ◌≤◌, ◌<◌, ℕ, None, length, get_or, map, take}
+use Rattle.std.proofs.Common.{◌≡◌, ◌+◌, ◌*◌, ◌≤◌, ◌<◌, ℕ, pos, length, get_or, map, take}
 use Rattle.fx_fixed.specs.Ranges.{IsWithin}
 use Rattle.fx_winding.specs.Winding.{span_of}
 use Rattle.fx_dropout.specs.Nearer.{place_on}
-use Rattle.fx_dropout.specs.inner.Runs.{IsSmall, IsSummed}
+use Rattle.fx_dropout.specs.inner.Runs.{IsSummed}
 use Rattle.fx_dropout.proofs.places.add_pieces.Given as goal
 
 abbrev pub invariant-pieces : goal.invariant-pieces
 invariant-pieces l = record {
   size : IsWithin (2 * l.piece-index) l.base;
   length : length l.places ≡ 128;
-  small : (n : ℕ) → n < 128 → IsSmall (2 * l.piece-index) (get_or l.places n None);
   summed : (n : ℕ) → n < 128 → IsSummed (place_on l.pair.is_up l.pair.here.col l.pair.here.row n)
-      (take l.piece-index (map span_of l.pieces)) l.base (get_or l.places n None);
+      (take l.piece-index (map span_of l.pieces)) l.base (2 * l.piece-index) (get_or l.places n (pos 0));
   tests : l.tally.count ≤ l.fn.tally.count + 31 * 128 * l.piece-index;
 }

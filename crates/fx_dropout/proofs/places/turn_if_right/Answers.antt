@@ -3,7 +3,7 @@ use Rattle.fx_fixed.proofs.Linear.{signed_linear}
 use Rattle.fx_winding.specs.Winding.{place_of, span_of}
 use Rattle.fx_dropout.specs.inner.Runs.{above, IsAdded}
 use Rattle.fx_dropout.proofs.Alike.{added_left, coordinate_word, not_passed}
-use Rattle.fx_dropout.proofs.places.turn_left.Goals as goal
+use Rattle.fx_dropout.proofs.places.turn_if_right.Goals as goal
 
 pub returns : goal.returns
 returns c =
