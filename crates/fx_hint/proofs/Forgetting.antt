@@ -1,7 +1,7 @@
 -- The walk that lists the programs is the walk: without its list it gives what the definition of an outline gives.
 -- It serves the walk, and the reader of `runs_of`.
-use Rattle.std.proofs.Common.{◌≡◌, ℕ, zero, suc, ◌+◌, List, [], ◌∷◌, Option, Some, refl, sym, ap, ◌∙◌, Result, Ok, Err}
-use Rattle.fx_fixed.specs.Chain.{◌>>=◌, map_fault}
+use Rattle.std.proofs.Common.{◌≡◌, ℕ, zero, suc, ◌+◌, List, [], ◌∷◌, Option, Some, None, refl, sym, ap, ◌∙◌, Result, Ok, Err}
+use Rattle.fx_fixed.specs.Chain.{◌>>=◌, map_fault, GivesUnless}
 use Rattle.fx_sfnt.specs.declared.records.Metrics.{Metrics}
 use Rattle.fx_sfnt.specs.Tables.{Face}
 use Rattle.fx_sfnt.specs.Glyphs.{metrics_of, glyph_bytes_of}
@@ -13,16 +13,17 @@ use Rattle.fx_scale.specs.declared.scale.Scale.{Scale}
 use Rattle.fx_hint.specs.declared.component.ComponentOf.{ComponentOf}
 use Rattle.fx_hint.specs.declared.count.Count.{Count}
 use Rattle.fx_hint.specs.declared.made.Made.{Made}
-use Rattle.fx_hint.specs.declared.below.OpenComposite.{OpenComposite}
 use Rattle.fx_hint.specs.declared.fault.HintFault.{HintFault}
-use Rattle.fx_hint.specs.declared.fault.HintFault.TheVariants.{Font, Glyph}
+use Rattle.fx_hint.specs.declared.fault.HintFault.TheVariants.{Font, Glyph, OutOfMemory}
+use Rattle.fx_hint.specs.Faults.{Fails}
+use Rattle.fx_hint.specs.Limits.{max_depth}
 use Rattle.fx_hint.specs.Hinting.{Hinting}
 use Rattle.fx_hint.specs.Parts.{with_part}
 use Rattle.fx_hint.specs.Outlines.{Maker, one_component, simple_made, run_on, with_parts, made_of, assembled, component}
+use Rattle.fx_hint.specs.Outlines.{nothing_counted, root_made}
 use Rattle.fx_hint.specs.Runs.{ProgramRun, Logged, LoggedFault, LoggedMaker, after, with_run, plain}
 use Rattle.fx_hint.specs.Runs.{logged_one, logged_simple, logged_run, logged_parts, logged_made_of, logged_assembled, logged_component}
-use Rattle.fx_hint.specs.inner.Steps.{left}
-use Rattle.fx_hint.specs.inner.RunSteps.{logged_left}
+use Rattle.fx_hint.specs.inner.RunSteps.{Walks}
 
 -- a check, and then the rest
 checked : {A B : Type 0} (runs : List ProgramRun) (r : Result A HintFault) (f : A → Result (B × Logged) LoggedFault)
@@ -102,37 +103,15 @@ module _ (h : Hinting) (face : Face) (s : Scale) (root : ℕ) where
       plain_assembled (logged_component h face s root levels) (component h face s root levels) which g count
       (λ w k d. plain_component levels w k d)
 
-  plain_left : (levels : ℕ) (c : OpenComposite) (count : Logged)
-      → plain (logged_left h face s root levels c count) ≡ left h face s root levels c count.0
-  plain_left levels c count =
-      chained _ _ _ _
-      (plain_parts (logged_component h face s root levels) (component h face s root levels) c.g c.before c.parts c.base count
-      (λ w k d. plain_component levels w k d)) (λ x. plain_run c.component c.g c.glyph.code x)
-
-  -- in the loop: an open composite fails, or is assembled
-  pub left_fails : (levels : ℕ) (c : OpenComposite) (count : Count) (e : HintFault) (runs : List ProgramRun)
-      → logged_left h face s root levels c (count, []) ≡ Err (e, runs) → left h face s root levels c count ≡ Err e
-  left_fails levels c count e runs i = sym (plain_left levels c (count, [])) ∙ ap plain i
-
-  pub left_gives : (levels : ℕ) (c : OpenComposite) (count : Count) (made : Made) (counted : Logged)
-      → logged_left h face s root levels c (count, []) ≡ Ok (made, counted)
-      → left h face s root levels c count ≡ Ok (made, counted.0)
-  left_gives levels c count made counted i = sym (plain_left levels c (count, [])) ∙ ap plain i
-
-  -- the root fails, or is assembled, or is an open composite
-  pub root_fails : (levels : ℕ) (which : Option ComponentOf) (g : ℕ) (count : Count) (e : HintFault) (runs : List ProgramRun)
-      → logged_assembled h face s root (logged_component h face s root levels) which g (count, []) ≡ Err (e, runs)
-      → assembled h face s root (component h face s root levels) g count ≡ Err e
-  root_fails levels which g count e runs i = sym (plain_root levels which g (count, [])) ∙ ap plain i
-
-  pub root_gives : (levels : ℕ) (which : Option ComponentOf) (g : ℕ) (count : Count) (made : Made) (counted : Logged)
-      → logged_assembled h face s root (logged_component h face s root levels) which g (count, []) ≡ Ok (made, counted)
-      → assembled h face s root (component h face s root levels) g count ≡ Ok (made, counted.0)
-  root_gives levels which g count made counted i = sym (plain_root levels which g (count, [])) ∙ ap plain i
-
-  pub root_left : (levels : ℕ) (which : Option ComponentOf) (g : ℕ) (count counted : Count) (c : OpenComposite)
-      → logged_assembled h face s root (logged_component h face s root levels) which g (count, [])
-      ≡ logged_left h face s root levels c (counted, [])
-      → assembled h face s root (component h face s root levels) g count ≡ left h face s root levels c counted
-  root_left levels which g count counted c i =
-      sym (plain_root levels which g (count, [])) ∙ ap plain i ∙ plain_left levels c (counted, [])
+-- a root that is walked is made as the definition of an outline says
+pub root_walked : {S : Type 0} (Leads : S → List ProgramRun → S → Type 0) (was now : S) (r : Result Made HintFault) (count : Count)
+    (h : Hinting) (face : Face) (s : Scale) (g : ℕ)
+    → Walks Leads was now r count
+    (logged_assembled h face s g (logged_component h face s g max_depth) None g (nothing_counted, []))
+    → GivesUnless Fails (λ (made : Made). (made, count.usage)) r (root_made h face s g)
+unfolding root_made
+root_walked Leads was now (Ok made) count h face s g w =
+    rw (sym (plain_root h face s g max_depth None g (nothing_counted, [])) ∙ ap plain w.by.2) refl
+root_walked Leads was now (Err OutOfMemory) count h face s g w = tt
+root_walked Leads was now (Err e) count h face s g w =
+    rw (sym (plain_root h face s g max_depth None g (nothing_counted, [])) ∙ ap plain w.by.2) refl

@@ -14,14 +14,12 @@ use Rattle.fx_hint.specs.declared.component.ComponentOf.{ComponentOf}
 use Rattle.fx_hint.specs.declared.count.Count.{Count}
 use Rattle.fx_machine.specs.declared.usage.Usage.{Usage}
 use Rattle.fx_hint.specs.declared.made.Made.{Made}
-use Rattle.fx_hint.specs.declared.walk.Step.{Step}
-use Rattle.fx_hint.specs.declared.walk.Step.TheVariants.{Assembled}
 use Rattle.fx_hint.specs.declared.fault.HintFault.{HintFault}
 use Rattle.fx_machine.specs.Usages.{usage_with}
 use Rattle.fx_hint.specs.Hinting.{Hinting, KeepsShape}
 use Rattle.fx_hint.specs.Outlines.{more_points, scaled_simple, simple_made, run_on}
 use Rattle.fx_hint.specs.Kept.{IsMadeAlone}
-use Rattle.fx_hint.specs.inner.Steps.{begun_by, begun, counted_made}
+use Rattle.fx_hint.specs.inner.Steps.{Step, Assembled, begun_by, begun, counted_made}
 
 abbrev with_count : Made → Count → Result (Made × Count) HintFault
 with_count made count = Ok (made, count)

@@ -16,8 +16,7 @@ use Rattle.fx_hint.specs.declared.count.Count.{Count}
 use Rattle.fx_hint.specs.declared.made.Made.{Made}
 use Rattle.fx_hint.specs.declared.below.OpenComposite.{OpenComposite}
 use Rattle.fx_hint.specs.declared.below.Waiting.{Waiting}
-use Rattle.fx_hint.specs.declared.walk.Step.{Step}
-use Rattle.fx_hint.specs.declared.walk.Step.TheVariants.{Assembled, Open}
+use Rattle.fx_hint.specs.inner.Steps.{Step, Assembled, Open}
 use Rattle.fx_hint.specs.declared.fault.HintFault.{HintFault}
 use Rattle.fx_hint.specs.declared.fault.HintFault.TheVariants.{Font, Glyph}
 use Rattle.fx_hint.specs.Hinting.{Hinting}
@@ -33,7 +32,7 @@ use Rattle.fx_hint.specs.Faults.{Fails}
 use Rattle.fx_hint.specs.Runs.{StopsAfter, HasRun, started_by}
 use Rattle.fx_hint.specs.declared.fault.HintFault.TheVariants.{OutOfMemory}
 use Rattle.fx_hint.proofs.Steps.{next_of, with_next, down, closes, assembled_by}
-use Rattle.fx_hint.specs.inner.RunSteps.{logged_left, logged_given_by, logged_goes_into, logged_rest_of}
+use Rattle.fx_hint.specs.inner.RunSteps.{logged_left, logged_given_by, logged_goes_into, logged_rest_of, Walks}
 
 -- ---- the first of some programs
 
@@ -294,25 +293,6 @@ module _ (h : Hinting) (face : Face) (s : Scale) (root : ℕ) where
       let Q : List ProgramRun → Type 0 = λ rs. AreFirst rs (runs_in due) in
       subst Q same f
 
-  pub first_of_ok : (below : List Waiting) (levels : ℕ) (c : OpenComposite) (part : Part) (parts : List Part)
-      (count counted : Logged)
-      (due : LoggedOutcome) (step : Step)
-      → logged_rest_of h face s root max_depth below (logged_given_by h face s root (max_depth - length below)
-      (Open c, count)) ≡ due
-      → c.parts ≡ part ∷ parts → levels ≡ max_depth - length below
-      → logged_begun_component h face s root levels (next_of c) part.glyph count ≡ Ok (step, counted)
-      → AreFirst counted.1 (runs_in due)
-  first_of_ok below levels c part parts count counted due step i e l b =
-      first_of_begun below levels c part parts count due counted.1 (Ok (step, counted.0)) i e l b
-
-  pub first_of_ran : (below : List Waiting) (levels : ℕ) (c : OpenComposite) (count counted : Logged) (due : LoggedOutcome)
-      (made : Made)
-      → logged_rest_of h face s root max_depth below (logged_given_by h face s root levels (Open c, count)) ≡ due
-      → c.parts ≡ [] → logged_run h c.component c.g c.glyph.code (c.base, count) ≡ Ok (made, counted)
-      → AreFirst counted.1 (runs_in due)
-  first_of_ran below levels c count counted due made i e r =
-      first_of_closed below levels c count due counted.1 (Ok (made, counted.0)) i e r
-
   -- ---- the root is begun
 
   pub begun_is : (component : Option ComponentOf) (g : ℕ) (count : Count) (runs : List ProgramRun)
@@ -391,27 +371,26 @@ module _ (h : Hinting) (face : Face) (s : Scale) (root : ℕ) where
 -- ---- what a hinter has run
 
 pub stops_here : {S A : Type 0} (Leads : S → List ProgramRun → S → Type 0) (was now : S) (e : HintFault) (r : Result A HintFault)
-    (runs : List ProgramRun) (due : LoggedOutcome) → Leads was runs now → AreFirst runs (runs_in due)
-    → Fails e r → ((d : HintFault) → r ≡ Err d → due ≡ Err (d, runs)) → StopsAfter Leads was now e (runs_in due)
-stops_here Leads was now OutOfMemory r runs due l a f h = (runs, a, l)
-stops_here Leads was now e r runs due l a f h =
-    let P : LoggedOutcome → Type 0 = λ o. Leads was (runs_in o) now in
-    subst P (sym (h e f)) l
+    (runs : List ProgramRun) (count : Count) (due : LoggedOutcome) → Leads was runs now → AreFirst runs (runs_in due)
+    → Fails e r → ((d : HintFault) → r ≡ Err d → due ≡ Err (d, runs)) → Walks Leads was now (Err e) count due
+stops_here Leads was now OutOfMemory r runs count due l a f h = record { by = (runs, l, a) }
+stops_here Leads was now e r runs count due l a f h = record { by = (runs, l, h e f) }
 
 pub stops_on : {S A : Type 0} (Leads : S → List ProgramRun → S → Type 0)
     (then : (x y z : S) (some more : List ProgramRun) → Leads x some y → Leads y more z → Leads x (some ++ more) z)
-    (was mid now : S) (e : HintFault) (r : Result A HintFault) (runs more : List ProgramRun) (due : LoggedOutcome)
+    (was mid now : S) (e : HintFault) (r : Result A HintFault) (runs more : List ProgramRun) (count : Count) (due : LoggedOutcome)
     → Leads was runs mid → StopsAfter Leads mid now e more → AreFirst (runs ++ more) (runs_in due)
-    → Fails e r → ((d : HintFault) → r ≡ Err d → due ≡ Err (d, runs ++ more)) → StopsAfter Leads was now e (runs_in due)
-stops_on Leads then was mid now OutOfMemory r runs more due l s a f h = (
-  runs ++ s.0,
-  first_then (runs ++ s.0) (runs ++ more) (runs_in due)
-      (s.1.0, append_assoc runs s.0 s.1.0 ∙ ap (λ (t : List ProgramRun). runs ++ t) s.1.1) a,
-  then was mid now runs s.0 l s.2,
-)
-stops_on Leads then was mid now e r runs more due l s a f h =
-    let P : LoggedOutcome → Type 0 = λ o. Leads was (runs_in o) now in
-    subst P (sym (h e f)) (then was mid now runs more l s)
+    → Fails e r → ((d : HintFault) → r ≡ Err d → due ≡ Err (d, runs ++ more)) → Walks Leads was now (Err e) count due
+stops_on Leads then was mid now OutOfMemory r runs more count due l s a f h = record {
+  by = (
+    runs ++ s.0,
+    then was mid now runs s.0 l s.2,
+    first_then (runs ++ s.0) (runs ++ more) (runs_in due)
+        (s.1.0, append_assoc runs s.0 s.1.0 ∙ ap (λ (t : List ProgramRun). runs ++ t) s.1.1) a,
+  );
+}
+stops_on Leads then was mid now e r runs more count due l s a f h =
+    record { by = (runs ++ more, then was mid now runs more l s, h e f) }
 
 -- ---- a glyph that is begun
 
@@ -464,14 +443,22 @@ recalls Leads x r h face s root component g count n one =
     stands Leads x r (begun_runs h face s root component g count)
     (any_begun (λ runs. Leads x runs x) h face s root component g count n one)
 
--- no program, and then some
-pub none_then : {S A : Type 0} (Leads : S → List ProgramRun → S → Type 0)
+-- no program, and then a walk
+pub none_then : {S : Type 0} (Leads : S → List ProgramRun → S → Type 0)
     (then : (x y z : S) (some more : List ProgramRun) → Leads x some y → Leads y more z → Leads x (some ++ more) z)
-    (was mid now : S) (r : Result A HintFault) (runs : List ProgramRun) → Leads was [] mid → HasRun Leads mid now r runs
-    → HasRun Leads was now r runs
-none_then Leads then was mid now (Ok x) runs n l = then was mid now [] runs n l
-none_then Leads then was mid now (Err OutOfMemory) runs n s = (s.0, s.1, then was mid now [] s.0 n s.2)
-none_then Leads then was mid now (Err e) runs n l = then was mid now [] runs n l
+    (was mid now : S) (r : Result Made HintFault) (count : Count) (due : LoggedOutcome) → Leads was [] mid
+    → Walks Leads mid now r count due → Walks Leads was now r count due
+none_then Leads then was mid now (Ok x) count due n w = record { by = (w.by.0, then was mid now [] w.by.0 n w.by.1, w.by.2) }
+none_then Leads then was mid now (Err OutOfMemory) count due n w =
+    record { by = (w.by.0, then was mid now [] w.by.0 n w.by.1, w.by.2) }
+none_then Leads then was mid now (Err e) count due n w = record { by = (w.by.0, then was mid now [] w.by.0 n w.by.1, w.by.2) }
+
+-- what a walk has run
+pub walk_leads : {S : Type 0} (Leads : S → List ProgramRun → S → Type 0) (was now : S) (r : Result Made HintFault) (count : Count)
+    (due : LoggedOutcome) → Walks Leads was now r count due → HasRun Leads was now r (runs_in due)
+walk_leads Leads was now (Ok made) count due w = rw w.by.2 w.by.1
+walk_leads Leads was now (Err OutOfMemory) count due w = (w.by.0, w.by.2, w.by.1)
+walk_leads Leads was now (Err e) count due w = rw w.by.2 w.by.1
 
 pub stops_started : {S : Type 0} (Leads : S → List ProgramRun → S → Type 0) (was now : S) (e : HintFault) (run : ProgramRun)
     → Leads was (started_by e run) now → StopsAfter Leads was now e (run ∷ [])

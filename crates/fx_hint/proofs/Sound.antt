@@ -37,22 +37,22 @@ use Rattle.fx_hint.specs.Outlines.{component, nothing_counted, root_made, IsSoun
 use Rattle.fx_hint.proofs.Contours.{ends_joined}
 
 -- the points of an assembled glyph were counted, and its contours end with them
-pub record IsCounted (count : Count) (made : Made) (counted : Count) : Type 0 where
-  pub points : count.points + length made.zone.points ≡ counted.points
-  pub few : counted.points ≤ max_points
-  pub contours : AreEnds 0 made.zone.ends (length made.zone.points)
+record IsCounted (count : Count) (made : Made) (counted : Count) : Type 0 where
+  points : count.points + length made.zone.points ≡ counted.points
+  few : counted.points ≤ max_points
+  contours : AreEnds 0 made.zone.ends (length made.zone.points)
 
 abbrev AllCounted : Maker → Type 0
 AllCounted make =
     (g : ℕ) (count : Count) (r : Made × Count) → count.points ≤ max_points → make g count ≡ Ok r → IsCounted count r.0 r.1
 
 -- the contours of a simple glyph that was read end with its points
-abbrev pub IsValid : glyf.Glyph → Type 0
+abbrev IsValid : glyf.Glyph → Type 0
 IsValid Empty = Unit {0}
 IsValid (Simple shape) = AreEnds 0 shape.ends (length shape.points)
 IsValid (Composite assembly) = Unit {0}
 
-pub read_valid : (bytes : List ℕ) (g : ℕ) (glyph : glyf.Glyph) → glyph_of bytes g ≡ Ok glyph → IsValid glyph
+read_valid : (bytes : List ℕ) (g : ℕ) (glyph : glyf.Glyph) → glyph_of bytes g ≡ Ok glyph → IsValid glyph
 read_valid bytes g Empty h = tt
 read_valid bytes g (Simple shape) h =
     let d = found_glyph bytes g (Simple shape) h in
@@ -62,7 +62,7 @@ read_valid bytes g (Simple shape) h =
     subst P (sym n) d.in_order
 read_valid bytes g (Composite assembly) h = tt
 
-pub component_kept : (root : ℕ) (count counted : Count) → one_component root count ≡ Ok counted → counted.points ≡ count.points
+component_kept : (root : ℕ) (count counted : Count) → one_component root count ≡ Ok counted → counted.points ≡ count.points
 unfolding one_component
 component_kept root count counted h =
     let r = refuse_ok (nat_le max_components count.records) (TooManyComponents root)
@@ -79,7 +79,7 @@ points_counted root n count counted h =
     let e : count.points + n ≡ counted.points = ap (λ (c : Count). c.points) (ok_injective _ _ r.1) in
     (e, omega arith)
 
-pub simple_counted : (s : Scale) (hinted : Bool) (root : ℕ) (m : Metrics) (shape : SimpleView) (count : Count) (r : Made × Count)
+simple_counted : (s : Scale) (hinted : Bool) (root : ℕ) (m : Metrics) (shape : SimpleView) (count : Count) (r : Made × Count)
     → AreEnds 0 shape.ends (length shape.points) → simple_made s hinted root m shape count ≡ Ok r → IsCounted count r.0 r.1
 unfolding simple_made
 simple_counted s hinted root m shape count r a h =
@@ -97,7 +97,7 @@ simple_counted s hinted root m shape count r a h =
     })
 
 -- a program keeps what was counted
-pub run_counted : (h : Hinting) (g : ℕ) (code : List ℕ) (count : Count) (made r : Made × Count) → KeepsShape h
+run_counted : (h : Hinting) (g : ℕ) (code : List ℕ) (count : Count) (made r : Made × Count) → KeepsShape h
     → IsCounted count made.0 made.1 → run_on h g code made ≡ Ok r → IsCounted count r.0 r.1
 unfolding run_on
 run_counted h g code count made r keeps k e =

@@ -1,6 +1,6 @@
--- Points that are counted, and refusals that are passed on.
+-- A simple glyph whose points are counted.
 -- For the walk over components.
-use Rattle.std.proofs.Common.{◌≡◌, ℕ, length, Bool, sym, ap, ◌∙◌, None, Result, Ok, Err}
+use Rattle.std.proofs.Common.{◌≡◌, ℕ, length, Bool, sym, ap, ◌∙◌, None, Result, Ok}
 use Rattle.std.proofs.lemmas.List.{length-map}
 use Rattle.fx_fixed.specs.Chain.{◌>>=◌}
 use Rattle.fx_sfnt.specs.declared.records.Metrics.{Metrics}
@@ -12,11 +12,8 @@ use Rattle.fx_scale.specs.Phantoms.{phantoms_of}
 use Rattle.fx_scale.specs.Zones.{scaled_point, zone_of_simple}
 use Rattle.fx_hint.specs.declared.count.Count.{Count}
 use Rattle.fx_hint.specs.declared.fault.HintFault.{HintFault}
-use Rattle.fx_hint.specs.declared.fault.HintFault.TheVariants.{OutOfMemory}
-use Rattle.fx_hint.specs.Faults.{Fails}
 use Rattle.fx_hint.specs.Outlines.{more_points, simple_made}
 
--- a simple glyph whose points are counted
 pub simple_is : (s : Scale) (hinted : Bool) (root : ℕ) (m : Metrics) (shape : SimpleView) (count counted : Count) (zone : Figure)
     (n : ℕ) (phantoms : PhantomPoints) → zone ≡ zone_of_simple s shape → n ≡ length zone.points
     → more_points root n count ≡ Ok counted → phantoms ≡ phantoms_of s hinted shape.x_min m
@@ -28,9 +25,3 @@ simple_is s hinted root m shape count counted zone n phantoms z l r p =
     let taken : more_points root (length shape.points) count ≡ Ok counted = ap (λ k. more_points root k count) same ∙ r in
     rw (z, p) (ap (λ (q : Result Count HintFault). q >>= λ counted. Ok
     (record { zone = zone_of_simple s shape; phantoms = phantoms_of s hinted shape.x_min m; wish = None }, counted)) taken)
-
--- a refusal is passed on if it is one of all
-pub fails_on : {Y Z : Type 0} (d : HintFault) (a : Result Y HintFault) (b : Result Z HintFault)
-    → ((e : HintFault) → a ≡ Err e → b ≡ Err e) → Fails d a → Fails d b
-fails_on OutOfMemory a b h f = tt
-fails_on d a b h f = h d f

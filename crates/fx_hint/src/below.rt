@@ -2,6 +2,7 @@
 
 ghost use Rattle.std.specs.Prelude.{◌≡◌, ◌++◌, [], ◌∷◌, length, MatchOption, OnOk};
 ghost use Rattle.fx_hint.specs.inner.Places.{present};
+ghost use Rattle.fx_hint.specs.inner.Steps.{opened};
 
 use crate::component::ComponentOf;
 use crate::made::Made;
@@ -21,6 +22,29 @@ pub struct OpenComposite<'a> {
     pub glyph: Composite<'a>,
     pub parts: Components<'a>,
     pub base: Made,
+}
+
+impl<'a> OpenComposite<'a> {
+    /// A composite that is opened, before its first component. `base` has its phantom points.
+    #[inline(always)]
+    pub fn new(
+        component: Option<ComponentOf>,
+        g: u16,
+        glyph: Composite<'a>,
+        base: Made,
+    ) -> OpenComposite<'a>
+        ensures { result ≡ opened component g glyph.entry base }
+    {
+        let parts = glyph.components();
+        OpenComposite {
+            component,
+            g,
+            before: 0,
+            glyph,
+            parts,
+            base,
+        }
+    }
 }
 
 /// An open composite that waits for one of its components.

@@ -1,20 +1,20 @@
 //! The walk over components.
 
-ghost use Rattle.std.specs.Prelude.{[], ◌∷◌, ◌≡◌, ◌+◌, ◌-◌, ◌<◌, ◌≤◌, None, Ok, Err, IfOk, OnOk, length};
+ghost use Rattle.std.specs.Prelude.{ℕ, [], ◌∷◌, ◌≡◌, ◌+◌, ◌-◌, ◌<◌, ◌≤◌, Option, None, Ok, IfOk, OnOk, length};
 ghost use Rattle.fx_fixed.specs.Chain.{GivesUnless, map_ok};
 ghost use Rattle.fx_glyf.specs.declared.glyph.Glyph.TheVariants as glyph;
 ghost use Rattle.fx_glyf.specs.Glyphs.{glyph_of};
 ghost use Rattle.fx_zone.specs.Figures.{empty_figure};
 ghost use Rattle.fx_scale.specs.Phantoms.{phantoms_of};
 ghost use Rattle.fx_hint.specs.Faults.{Fails};
-ghost use Rattle.fx_hint.specs.declared.fault.HintFault.{HintFault as TheFault};
-ghost use Rattle.fx_hint.specs.Outlines.{scaled_simple, simple_made, assembled, component, run_on, root_made};
-ghost use Rattle.fx_hint.specs.Runs.{HasRun, runs_in, logged_assembled, logged_component, runs_of};
+ghost use Rattle.fx_hint.specs.declared.component.ComponentOf.{ComponentOf as TheComponent};
+ghost use Rattle.fx_hint.specs.Outlines.{scaled_simple, simple_made, run_on, root_made};
+ghost use Rattle.fx_hint.specs.Runs.{HasRun, logged_assembled, logged_component, runs_of};
 ghost use Rattle.fx_outline.specs.Limits.{max_points};
 ghost use Rattle.fx_hint.specs.Limits.{max_components, max_depth};
 ghost use Rattle.fx_hint.specs.Parts.{with_part};
-ghost use Rattle.fx_hint.specs.inner.RunSteps.{begun_runs, begun_by_runs, begun_component_runs, logged_left};
-ghost use Rattle.fx_hint.specs.inner.Steps.{begun, begun_by, begun_component, counted_made, left};
+ghost use Rattle.fx_hint.specs.inner.RunSteps.{begun_runs, begun_by_runs, begun_component_runs, logged_left, Walks};
+ghost use Rattle.fx_hint.specs.inner.Steps.{step_of, CountsPoints, begun, begun_by, begun_component, counted_made};
 
 use crate::below::{Below, OpenComposite, Waiting};
 use crate::component::ComponentOf;
@@ -32,12 +32,12 @@ use fx_sfnt::{Font, Metrics};
 use fx_zone::Zone;
 use std::alloc::Global;
 
-/// The number of levels that are allowed below this number of waiting composites.
-fn levels_below(waiting: usize) -> u8
-    requires { waiting ≤ max_depth }
-    ensures { result ≡ max_depth - waiting }
+/// The number of levels that are allowed below the composites that wait.
+fn levels_below(below: &Below<'_>) -> u8
+    requires { length below.now ≤ max_depth }
+    ensures { result ≡ max_depth - length below.now }
 {
-    MAX_DEPTH - waiting as u8
+    MAX_DEPTH - below.len() as u8
 }
 
 /// A glyph without points yet.
@@ -49,23 +49,6 @@ fn empty_made(alloc: Global, scale: &Scale, hinted: bool, x_min: i16, metrics: M
         phantoms: PhantomPoints::of_glyph(scale, hinted, x_min, metrics),
         wish: None,
     }
-}
-
-/// A composite glyph without its components.
-fn start(
-    alloc: Global,
-    scale: &Scale,
-    hinted: bool,
-    composite: &Composite<'_>,
-    metrics: Metrics,
-) -> Made
-    ensures { result ≡ record {
-      zone = empty_figure;
-      phantoms = phantoms_of scale.now hinted composite.now.x_min metrics;
-      wish = None;
-    } }
-{
-    empty_made(alloc, scale, hinted, composite.x_min(), metrics)
 }
 
 /// The program of a glyph runs on its points and phantom points; what it uses up is counted, and returned.
@@ -87,22 +70,17 @@ fn run_on<H: Hinter>(
         (run_on (H.hinting hinter.old) g code.now (made.old, count.old)) }
     ensures ran { IfOk result (λ usage. (H.hinting hinter.old).run g code.now made.old ≡ Ok (made.new, usage)) }
     ensures records { OnOk result (count.new.records ≡ count.old.records) }
+    ensures points { OnOk result ((length made.new.zone.points ≡ length made.old.zone.points)
+        × (count.new.points ≡ count.old.points)) }
 {
+    hinter.law_keeps_shape();
     let usage = hinter.run(component, g, code, made)?;
     count.more_usage(usage);
     Ok(usage)
 }
 
-/// A glyph that has been begun.
-#[derive(Drop)]
-pub enum Step<'a> {
-    /// An assembled glyph.
-    Assembled(Made),
-    /// A composite whose components come next.
-    Open(OpenComposite<'a>),
-}
-
-/// The walk over the components below one root.
+/// The walk over the components below one root. A glyph is begun in what the caller gives it to be made in, so that no step
+/// hands on more than the composite that is open then.
 #[derive(Clone, Copy)]
 struct Walk<'w, 'a> {
     alloc: Global,
@@ -121,42 +99,49 @@ impl<'w, 'a> Walk<'w, 'a> {
         metrics: Metrics,
         simple: &Simple<'_>,
         count: &mut Count,
-    ) -> Result<Made, HintFault>
-        ensures value { GivesUnless Fails (λ m. (m, count.new)) result
+        made: &mut Made,
+    ) -> Result<(), HintFault>
+        ensures value { GivesUnless Fails (λ _. (made.new, count.new)) result
             (simple_made self.now.scale.now hinted self.now.root metrics simple.now count.old) }
-        ensures made { IfOk result (λ m. m ≡ scaled_simple self.now.scale.now hinted metrics simple.now) }
+        ensures made { OnOk result (made.new ≡ scaled_simple self.now.scale.now hinted metrics simple.now) }
         ensures records { OnOk result (count.new.records ≡ count.old.records) }
+        ensures points { OnOk result (CountsPoints count.old made.new count.new) }
     {
         let zone = zone_of(self.alloc, simple, self.scale)?;
         count.more_points(self.root, zone.len())?;
         let phantoms = PhantomPoints::of_glyph(self.scale, hinted, simple.x_min(), metrics);
-        Ok(Made {
+        *made = Made {
             zone,
             phantoms,
             wish: None,
-        })
+        };
+        Ok(())
     }
 
-    /// A glyph begun, which is no component: its number and bytes, its reading; and then it is assembled, or open.
+    /// A glyph begun, which is no component: its number and bytes, its reading; and then it is assembled, or a composite that is
+    /// open.
     #[tactic(auto, unfolding(crate::specs::inner::Steps::begun, crate::specs::inner::RunSteps::begun_runs))]
     fn begun<H: Hinter>(
         &self,
         hinter: &mut H,
         g: u16,
         count: &mut Count,
-    ) -> Result<Step<'a>, HintFault>
+        made: &mut Made,
+    ) -> Result<Option<Composite<'a>>, HintFault>
+        requires points { count.old.points ≤ max_points }
         ensures known { H.known hinter.new ≡ H.known hinter.old }
         ensures kept { H.hinting hinter.new ≡ H.hinting hinter.old }
         ensures leads { HasRun H.Leads hinter.old hinter.new result
             (begun_runs (H.hinting hinter.old) self.now.font.now self.now.scale.now self.now.root None g count.old) }
-        ensures value { GivesUnless Fails (λ step. (step, count.new)) result
+        ensures value { GivesUnless Fails (λ assembly. (step_of None g assembly made.new, count.new)) result
             (begun (H.hinting hinter.old) self.now.font.now self.now.scale.now self.now.root None g count.old) }
         ensures records { OnOk result (count.new.records ≡ count.old.records) }
+        ensures points { OnOk result (CountsPoints count.old made.new count.new) }
     {
         let metrics = self.font.metrics(g)?;
         let bytes = self.font.glyph_bytes(g)?;
         let glyph = read(bytes, g)?;
-        self.begun_by(hinter, None, g, metrics, glyph, count)
+        self.begun_by(hinter, None, g, metrics, glyph, count, made)
     }
 
     /// A glyph that has been read, begun: an empty or a simple one is assembled, a composite is open.
@@ -170,34 +155,32 @@ impl<'w, 'a> Walk<'w, 'a> {
         metrics: Metrics,
         glyph: Glyph<'a>,
         count: &mut Count,
-    ) -> Result<Step<'a>, HintFault>
+        made: &mut Made,
+    ) -> Result<Option<Composite<'a>>, HintFault>
+        requires points { count.old.points ≤ max_points }
         ensures known { H.known hinter.new ≡ H.known hinter.old }
         ensures kept { H.hinting hinter.new ≡ H.hinting hinter.old }
         ensures leads { HasRun H.Leads hinter.old hinter.new result
             (begun_by_runs (H.hinting hinter.old) self.now.scale.now self.now.root component g metrics glyph.entry count.old) }
-        ensures value { GivesUnless Fails (λ step. (step, count.new)) result
+        ensures value { GivesUnless Fails (λ assembly. (step_of component g assembly made.new, count.new)) result
             (begun_by (H.hinting hinter.old) self.now.scale.now self.now.root component g metrics glyph.entry count.old) }
         ensures records { OnOk result (count.new.records ≡ count.old.records) }
+        ensures points { OnOk result (CountsPoints count.old made.new count.new) }
     {
         let on = hinter.is_on();
         match glyph {
-            Glyph::Empty => Ok(Step::Assembled(empty_made(self.alloc, self.scale, on, 0, metrics))),
+            Glyph::Empty => {
+                *made = empty_made(self.alloc, self.scale, on, 0, metrics);
+                Ok(None)
+            }
             Glyph::Simple(simple) => {
-                let mut made = self.simple_made(on, metrics, &simple, count)?;
-                run_on(hinter, component, g, simple.code(), &mut made, count)?;
-                Ok(Step::Assembled(made))
+                self.simple_made(on, metrics, &simple, count, made)?;
+                run_on(hinter, component, g, simple.code(), made, count)?;
+                Ok(None)
             }
             Glyph::Composite(composite) => {
-                let base = start(self.alloc, self.scale, on, &composite, metrics);
-                let parts = composite.components();
-                Ok(Step::Open(OpenComposite {
-                    component,
-                    g,
-                    glyph: composite,
-                    before: 0,
-                    parts,
-                    base,
-                }))
+                *made = empty_made(self.alloc, self.scale, on, composite.x_min(), metrics);
+                Ok(Some(composite))
             }
         }
     }
@@ -211,7 +194,8 @@ impl<'w, 'a> Walk<'w, 'a> {
         input: &GlyphInput<'_>,
         simple: &Simple<'_>,
         count: &mut Count,
-    ) -> Result<Step<'a>, HintFault>
+        made: &mut Made,
+    ) -> Result<Option<Composite<'a>>, HintFault>
         requires scale { input.now.scale ≡ self.now.scale.now }
         requires read { glyph_of input.now.bytes.now input.now.g ≡ Ok (glyph.Simple simple.now) }
         ensures known { H.known hinter.new ≡ H.known hinter.old }
@@ -219,29 +203,36 @@ impl<'w, 'a> Walk<'w, 'a> {
         ensures leads { HasRun H.Leads hinter.old hinter.new result
             (begun_by_runs (H.hinting hinter.old) self.now.scale.now self.now.root component input.now.g input.now.metrics
             (glyph.Simple simple.now) count.old) }
-        ensures value { GivesUnless Fails (λ step. (step, count.new)) result
+        ensures value { GivesUnless Fails (λ assembly. (step_of component input.now.g assembly made.new, count.new)) result
             (begun_by (H.hinting hinter.old) self.now.scale.now self.now.root component input.now.g input.now.metrics
             (glyph.Simple simple.now) count.old) }
         ensures records { OnOk result (count.new.records ≡ count.old.records) }
+        ensures points { OnOk result (CountsPoints count.old made.new count.new) }
     {
         let on = hinter.is_on();
-        let mut made = self.simple_made(on, input.metrics, simple, count)?;
-        let usage = run_on(hinter, component, input.g, simple.code(), &mut made, count)?;
-        hinter.keep(input, &made, usage);
-        Ok(Step::Assembled(made))
+        self.simple_made(on, input.metrics, simple, count, made)?;
+        let usage = run_on(hinter, component, input.g, simple.code(), made, count)?;
+        hinter.keep(input, made, usage);
+        Ok(None)
     }
 
     /// A simple component that was kept; its points, and what its program used up when it was made, are counted again.
     #[tactic(auto, unfolding(crate::specs::inner::Steps::counted_made))]
-    fn recalled(&self, made: Made, usage: Usage, count: &mut Count) -> Result<Step<'a>, HintFault>
-        ensures value { GivesUnless Fails (λ step. (step, count.new)) result
-            (counted_made self.now.root made usage count.old) }
-        ensures due { (e : TheFault) → result ≡ Err e → counted_made self.now.root made usage count.old ≡ Err e }
+    fn recalled(
+        &self,
+        made: &Made,
+        usage: Usage,
+        count: &mut Count,
+    ) -> Result<Option<Composite<'a>>, HintFault>
+        ensures value { (component : Option TheComponent) (g : ℕ)
+            → GivesUnless Fails (λ assembly. (step_of component g assembly made.now, count.new)) result
+            (counted_made self.now.root made.now usage count.old) }
         ensures records { OnOk result (count.new.records ≡ count.old.records) }
+        ensures points { OnOk result (CountsPoints count.old made.now count.new) }
     {
         count.more_points(self.root, made.zone.len())?;
         count.more_usage(usage);
-        Ok(Step::Assembled(made))
+        Ok(None)
     }
 
     /// A glyph begun, which is a component: the hinter may recall it if it is simple, or keep it.
@@ -252,14 +243,17 @@ impl<'w, 'a> Walk<'w, 'a> {
         component: Option<ComponentOf>,
         g: u16,
         count: &mut Count,
-    ) -> Result<Step<'a>, HintFault>
+        made: &mut Made,
+    ) -> Result<Option<Composite<'a>>, HintFault>
+        requires points { count.old.points ≤ max_points }
         ensures known { H.known hinter.new ≡ H.known hinter.old }
         ensures kept { H.hinting hinter.new ≡ H.hinting hinter.old }
         ensures leads { HasRun H.Leads hinter.old hinter.new result
             (begun_runs (H.hinting hinter.old) self.now.font.now self.now.scale.now self.now.root component g count.old) }
-        ensures value { GivesUnless Fails (λ step. (step, count.new)) result
+        ensures value { GivesUnless Fails (λ assembly. (step_of component g assembly made.new, count.new)) result
             (begun (H.hinting hinter.old) self.now.font.now self.now.scale.now self.now.root component g count.old) }
         ensures records { OnOk result (count.new.records ≡ count.old.records) }
+        ensures points { OnOk result (CountsPoints count.old made.new count.new) }
     {
         let metrics = self.font.metrics(g)?;
         let bytes = self.font.glyph_bytes(g)?;
@@ -269,13 +263,16 @@ impl<'w, 'a> Walk<'w, 'a> {
             metrics,
             bytes,
         };
-        if let Some((made, usage)) = hinter.recall(self.alloc, &input) {
+        if let Some((recalled, usage)) = hinter.recall(self.alloc, &input) {
             hinter.law_keeps_shape();
+            *made = recalled;
             return self.recalled(made, usage, count);
         }
         match read(bytes, g)? {
-            Glyph::Simple(simple) => self.simple_kept(hinter, component, &input, &simple, count),
-            glyph => self.begun_by(hinter, component, g, metrics, glyph, count),
+            Glyph::Simple(simple) => {
+                self.simple_kept(hinter, component, &input, &simple, count, made)
+            }
+            glyph => self.begun_by(hinter, component, g, metrics, glyph, count, made),
         }
     }
 
@@ -288,23 +285,26 @@ impl<'w, 'a> Walk<'w, 'a> {
         component: Option<ComponentOf>,
         g: u16,
         count: &mut Count,
-    ) -> Result<Step<'a>, HintFault>
+        made: &mut Made,
+    ) -> Result<Option<Composite<'a>>, HintFault>
+        requires points { count.old.points ≤ max_points }
         ensures known { H.known hinter.new ≡ H.known hinter.old }
         ensures kept { H.hinting hinter.new ≡ H.hinting hinter.old }
         ensures leads { HasRun H.Leads hinter.old hinter.new result
             (begun_component_runs (H.hinting hinter.old) self.now.font.now self.now.scale.now self.now.root levels component g
             count.old) }
-        ensures value { GivesUnless Fails (λ step. (step, count.new)) result
+        ensures value { GivesUnless Fails (λ assembly. (step_of component g assembly made.new, count.new)) result
             (begun_component (H.hinting hinter.old) self.now.font.now self.now.scale.now self.now.root levels component g
             count.old) }
         ensures records { OnOk result ((count.new.records ≡ count.old.records + 1) × (count.new.records ≤ max_components)) }
+        ensures points { OnOk result (CountsPoints count.old made.new count.new) }
         ensures level { OnOk result (0 < levels) }
     {
         if levels == 0 {
             return Err(HintFault::ComponentDepth(g));
         }
         count.one_component(self.root)?;
-        self.begun_or_recalled(hinter, component, g, count)
+        self.begun_or_recalled(hinter, component, g, count, made)
     }
 
     /// A waiting composite with its component.
@@ -332,19 +332,18 @@ impl<'w, 'a> Walk<'w, 'a> {
         requires points { count.old.points ≤ max_points }
         ensures known { H.known hinter.new ≡ H.known hinter.old }
         ensures kept { H.hinting hinter.new ≡ H.hinting hinter.old }
-        ensures leads { HasRun H.Leads hinter.old hinter.new result
-            (runs_in (logged_assembled (H.hinting hinter.old) self.now.font.now self.now.scale.now self.now.root
+        ensures walks { Walks H.Leads hinter.old hinter.new result count.new
+            (logged_assembled (H.hinting hinter.old) self.now.font.now self.now.scale.now self.now.root
             (logged_component (H.hinting hinter.old) self.now.font.now self.now.scale.now self.now.root max_depth) None
-            self.now.root (count.old, []))) }
-        ensures value { GivesUnless Fails (λ m. (m, count.new)) result
-            (assembled (H.hinting hinter.old) self.now.font.now self.now.scale.now self.now.root
-            (component (H.hinting hinter.old) self.now.font.now self.now.scale.now self.now.root max_depth) self.now.root
-            count.old) }
+            self.now.root (count.old, [])) }
     {
-        hinter.law_keeps_shape();
-        match self.begun(hinter, self.root, count)? {
-            Step::Assembled(made) => Ok(made),
-            Step::Open(open) => self.closed(hinter, open, count),
+        let mut made = Made::blank(self.alloc);
+        match self.begun(hinter, self.root, count, &mut made)? {
+            None => Ok(made),
+            Some(glyph) => {
+                let open = OpenComposite::new(None, self.root, glyph, made);
+                self.closed(hinter, open, count)
+            }
         }
     }
 
@@ -361,14 +360,11 @@ impl<'w, 'a> Walk<'w, 'a> {
         requires fresh { root.before ≡ 0 }
         ensures known { H.known hinter.new ≡ H.known hinter.old }
         ensures kept { H.hinting hinter.new ≡ H.hinting hinter.old }
-        ensures leads { HasRun H.Leads hinter.old hinter.new result
-            (runs_in (logged_left (H.hinting hinter.old) self.now.font.now self.now.scale.now self.now.root max_depth root.entry
-            (count.old, []))) }
-        ensures value { GivesUnless Fails (λ m. (m, count.new)) result
-            (left (H.hinting hinter.old) self.now.font.now self.now.scale.now self.now.root max_depth root.entry count.old) }
+        ensures walks { Walks H.Leads hinter.old hinter.new result count.new
+            (logged_left (H.hinting hinter.old) self.now.font.now self.now.scale.now self.now.root max_depth root.entry
+            (count.old, [])) }
     {
         let on = hinter.is_on();
-        hinter.law_keeps_shape();
         let mut below = Below::new(self.alloc);
         let mut open = root;
         // What the root gives stays the same: what the innermost open composite gives with its components that are left, and then
@@ -377,25 +373,22 @@ impl<'w, 'a> Walk<'w, 'a> {
         'steps: loop {
             match open.parts.next() {
                 Some(part) => {
-                    let levels = levels_below(below.len());
+                    let levels = levels_below(&below);
                     let component = ComponentOf {
                         composite: open.g,
                         number: (open.before + 1) as u16,
                     };
                     open.before += 1;
-                    let step = self.begun_component(
-                        hinter,
-                        levels,
-                        Some(component),
-                        part.glyph,
-                        count,
-                    )?;
-                    match step {
-                        Step::Assembled(made) => {
+                    let component = Some(component);
+                    let g = part.glyph;
+                    let mut made = Made::blank(self.alloc);
+                    match self.begun_component(hinter, levels, component, g, count, &mut made)? {
+                        None => {
                             let g = open.g;
                             add_part(&mut open.base, self.scale, on, g, &part, made)?;
                         }
-                        Step::Open(deeper) => {
+                        Some(glyph) => {
+                            let deeper = OpenComposite::new(component, g, glyph, made);
                             below.push(Waiting {
                                 part,
                                 composite: open,
@@ -405,18 +398,12 @@ impl<'w, 'a> Walk<'w, 'a> {
                     }
                 }
                 None => {
-                    let mut made = open.base;
-                    run_on(
-                        hinter,
-                        open.component,
-                        open.g,
-                        open.glyph.code(),
-                        &mut made,
-                        count,
-                    )?;
+                    let (component, g) = (open.component, open.g);
+                    let code = open.glyph.code();
+                    run_on(hinter, component, g, code, &mut open.base, count)?;
                     match below.pop() {
-                        None => return Ok(made),
-                        Some(waiting) => open = self.joined(on, waiting, made)?,
+                        None => return Ok(open.base),
+                        Some(waiting) => open = self.joined(on, waiting, open.base)?,
                     }
                 }
             }

@@ -1,5 +1,5 @@
 -- The walk over components by its steps, with a list of the programs that it starts.
-use Rattle.std.specs.Prelude.{ℕ, zero, suc, ◌-◌, List, [], ◌∷◌, pos, Option, None, Result, Ok, Err}
+use Rattle.std.specs.Prelude.{◌≡◌, ℕ, zero, suc, ◌-◌, List, [], ◌∷◌, pos, Option, None, Result, Ok, Err}
 use Rattle.fx_fixed.specs.Chain.{◌>>=◌, map_fault}
 use Rattle.fx_sfnt.specs.declared.records.Metrics.{Metrics}
 use Rattle.fx_sfnt.specs.Tables.{Face}
@@ -14,16 +14,15 @@ use Rattle.fx_hint.specs.declared.component.ComponentOf.{ComponentOf}
 use Rattle.fx_hint.specs.declared.made.Made.{Made}
 use Rattle.fx_hint.specs.declared.below.OpenComposite.{OpenComposite}
 use Rattle.fx_hint.specs.declared.below.Waiting.{Waiting}
-use Rattle.fx_hint.specs.declared.walk.Step.{Step}
-use Rattle.fx_hint.specs.declared.walk.Step.TheVariants.{Assembled, Open}
+use Rattle.fx_hint.specs.inner.Steps.{Step, Assembled, Open}
 use Rattle.fx_hint.specs.declared.fault.HintFault.{HintFault}
-use Rattle.fx_hint.specs.declared.fault.HintFault.TheVariants.{Font, Glyph, ComponentDepth}
+use Rattle.fx_hint.specs.declared.fault.HintFault.TheVariants.{Font, Glyph, ComponentDepth, OutOfMemory}
 use Rattle.fx_hint.specs.Hinting.{Hinting}
 use Rattle.fx_hint.specs.Parts.{with_part}
 use Rattle.fx_hint.specs.declared.count.Count.{Count}
 use Rattle.fx_hint.specs.Outlines.{one_component, simple_made}
 use Rattle.fx_hint.specs.inner.Steps.{opened_as}
-use Rattle.fx_hint.specs.Runs.{ProgramRun, Logged, LoggedFault, after, once, logged_one, logged_simple, logged_run, logged_parts, logged_component}
+use Rattle.fx_hint.specs.Runs.{ProgramRun, Logged, LoggedFault, AreFirst, runs_in, after, once, logged_one, logged_simple, logged_run, logged_parts, logged_component}
 
 abbrev pub LoggedOutcome : Type 0
 LoggedOutcome = Result (Made × Logged) LoggedFault
@@ -96,3 +95,16 @@ logged_rest_of h face s root levels (w ∷ ws) r =
 -- it has come to `now` from `was` by some programs, for which this holds
 abbrev pub HasRunSome : {S : Type 0} → (S → List ProgramRun → S → Type 0) → S → S → (List ProgramRun → Type 0) → Type 0
 HasRunSome Leads was now Holds = (runs : List ProgramRun) × Leads was runs now × Holds runs
+
+-- a walk has come to `now` from `was` and returns this: what is due, by the programs that are due; if memory ran out, by the first
+-- of them
+abbrev pub WalksBy : {S : Type 0} → (S → List ProgramRun → S → Type 0) → S → S → Result Made HintFault → Count → LoggedOutcome
+    → Type 0
+WalksBy Leads was now (Ok made) count due = (runs : List ProgramRun) × Leads was runs now × (due ≡ Ok (made, (count, runs)))
+WalksBy Leads was now (Err OutOfMemory) count due = (some : List ProgramRun) × Leads was some now × AreFirst some (runs_in due)
+WalksBy Leads was now (Err e) count due = (runs : List ProgramRun) × Leads was runs now × (due ≡ Err (e, runs))
+
+-- the same as a record, so that a proof finds its arguments
+pub record Walks {S : Type 0} (Leads : S → List ProgramRun → S → Type 0) (was now : S) (result : Result Made HintFault)
+    (count : Count) (due : LoggedOutcome) : Type 0 where
+  pub by : WalksBy Leads was now result count due

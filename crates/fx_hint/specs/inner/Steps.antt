@@ -1,5 +1,5 @@
 -- The walk over components by its steps, with the composites that are open.
-use Rattle.std.specs.Prelude.{ℕ, zero, suc, length, pos, Bool, Option, None, Result, Ok, Err}
+use Rattle.std.specs.Prelude.{◌≡◌, ◌+◌, ◌≤◌, ℕ, zero, suc, length, pos, Bool, Option, Some, None, Result, Ok, Err}
 use Rattle.fx_fixed.specs.Chain.{◌>>=◌, map_fault}
 use Rattle.fx_sfnt.specs.declared.records.Metrics.{Metrics}
 use Rattle.fx_sfnt.specs.Tables.{Face}
@@ -16,28 +16,37 @@ use Rattle.fx_hint.specs.declared.count.Count.{Count}
 use Rattle.fx_machine.specs.declared.usage.Usage.{Usage}
 use Rattle.fx_hint.specs.declared.made.Made.{Made}
 use Rattle.fx_hint.specs.declared.below.OpenComposite.{OpenComposite}
-use Rattle.fx_hint.specs.declared.walk.Step.{Step}
-use Rattle.fx_hint.specs.declared.walk.Step.TheVariants.{Assembled, Open}
 use Rattle.fx_hint.specs.declared.fault.HintFault.{HintFault}
 use Rattle.fx_hint.specs.declared.fault.HintFault.TheVariants.{Font, Glyph, ComponentDepth}
 use Rattle.fx_machine.specs.Usages.{usage_with}
 use Rattle.fx_hint.specs.Hinting.{Hinting}
-use Rattle.fx_hint.specs.Outlines.{one_component, more_points, simple_made, run_on, with_parts, component}
+use Rattle.fx_outline.specs.Limits.{max_points}
+use Rattle.fx_hint.specs.Outlines.{one_component, more_points, simple_made, run_on}
 
--- what becomes of a glyph, and the counts then
-abbrev pub Outcome : Type 0
-Outcome = Result (Made × Count) HintFault
+-- a glyph that has been begun: it is assembled, or a composite whose components come next
+pub data Step : Type 0 where
+  Assembled : (made : Made) → Step
+  Open : (c : OpenComposite) → Step
 
 -- a composite that is open, before its first component
-abbrev pub opened_as : Scale → Bool → Option ComponentOf → ℕ → Metrics → CompositeView → Step
-opened_as s hinted component g m assembly = Open (record {
+abbrev pub opened : Option ComponentOf → ℕ → CompositeView → Made → OpenComposite
+opened component g assembly base = record {
   component = component;
   g = g;
   glyph = assembly;
   before = 0;
   parts = assembly.components;
-  base = record { zone = empty_figure; phantoms = phantoms_of s hinted assembly.x_min m; wish = None };
-})
+  base = base;
+}
+
+abbrev pub opened_as : Scale → Bool → Option ComponentOf → ℕ → Metrics → CompositeView → Step
+opened_as s hinted component g m assembly = Open (opened component g assembly
+    (record { zone = empty_figure; phantoms = phantoms_of s hinted assembly.x_min m; wish = None }))
+
+-- what a glyph is after its beginning: a composite if there is one, and what was made
+abbrev pub step_of : Option ComponentOf → ℕ → Option CompositeView → Made → Step
+step_of component g None made = Assembled made
+step_of component g (Some assembly) made = Open (opened component g assembly made)
 
 -- a glyph that has been read, begun: an empty or a simple one is assembled, a composite is open
 unfoldable pub begun_by : Hinting → Scale → ℕ → Option ComponentOf → ℕ → Metrics → glyf.Glyph → Count
@@ -70,12 +79,6 @@ begun_component h face s root zero component g count = Err (ComponentDepth g)
 begun_component h face s root (suc levels) component g count =
     one_component root count >>= λ counted. begun h face s root component g counted
 
--- what an open composite gives, with this number of levels allowed below it
-abbrev pub left : Hinting → Face → Scale → ℕ → ℕ → OpenComposite → Count → Outcome
-left h face s root levels c count =
-    with_parts s h.on (component h face s root levels) c.g c.parts c.base count >>= run_on h c.g c.glyph.code
-
--- an open composite has one step more
-abbrev pub weight : Step → ℕ
-weight (Assembled made) = 0
-weight (Open c) = 1
+-- the points of a glyph that is begun were counted, and all are at most max_points
+abbrev pub CountsPoints : Count → Made → Count → Type 0
+CountsPoints was made now = (now.points ≡ was.points + length made.zone.points) × (now.points ≤ max_points)

@@ -1,14 +1,11 @@
-use Rattle.std.proofs.Common.{rules, arith, refl, ◌∙◌, ◌-◌, [], ◌∷◌, length, ap, length-append}
+use Rattle.std.proofs.Common.{rules, arith, refl, [], ◌∷◌, length, ap, length-append}
 use Rattle.std.proofs.lemmas.Result.{err_from_is_err_and}
 use Rattle.fx_fixed.proofs.Chain.{map_ok_ok}
-use Rattle.fx_hint.specs.Limits.{max_depth}
 use Rattle.fx_hint.specs.declared.below.OpenComposite.{OpenComposite}
 use Rattle.fx_hint.specs.declared.below.Waiting.{Waiting}
-use Rattle.fx_hint.proofs.Walking.{fails_on}
 use Rattle.fx_hint.proofs.Steps.{with_next, opens, joins, not_joined, runs, not_run, descends, not_descended, fills, not_filled, done}
-use Rattle.fx_hint.proofs.Forgetting.{left_fails, left_gives}
-use Rattle.fx_hint.proofs.RunLaws.{logged_is, run_is, first_of_begun, first_of_closed, first_of_ok, first_of_ran, stops_here, stops_on}
-use Rattle.fx_hint.proofs.Totals.{points_with_one_more, begun_with_one_more, component_begun_counted, run_keeps_points, part_adds_points}
+use Rattle.fx_hint.proofs.RunLaws.{logged_is, run_is, first_of_begun, first_of_closed, stops_here, stops_on}
+use Rattle.fx_hint.proofs.Totals.{points_with_one_more, begun_with_one_more, part_adds_points}
 use Rattle.fx_hint.proofs.walk.Walk.closed.Goals as goal
 
 pub steps-init : goal.steps-init
@@ -25,39 +22,40 @@ steps-init g c = record {
 
 pub add_part-requires : goal.add_part-requires
 add_part-requires g c =
-    let v = rw (c.steps.invariant.kept, c.in-Assembled.is) at c.in_ok-step-in-Some.ensures.value in
-    let n = component_begun_counted _ _ _ _ _ _ _ _ _ c.law_keeps_shape.ensures c.steps.invariant.points v in
+    let n = c.in_ok-begun_component-in-Some.ensures.points in
     let m = c.steps.invariant.counted in
     omega (arith, n.0, n.1, m)
 
 pub joined-requires : goal.joined-requires
 joined-requires g c =
-    let v = rw (c.steps.invariant.kept, c.code.ensures.value) at c.in_ok-run_on-in-None.ensures.value in
-    let ran = run_keeps_points _ _ _ _ _ _ c.law_keeps_shape.ensures v in
+    let ran = c.in_ok-run_on-in-None.ensures.points in
     let all = rw c.in-Some-pop.ensures at c.steps.invariant.counted in
     let one = points_with_one_more c.pop.new.self c.in-Some-pop.waiting in
     let few = c.steps.invariant.points in
     omega (arith, all, one, ran.0, few)
 
-pub returns-in_err-step-in-Some-clause-value : goal.returns-in_err-step-in-Some-clause-value
-returns-in_err-step-in-Some-clause-value g c =
+pub returns-in_err-begun_component-in-Some-clause-walks : goal.returns-in_err-begun_component-in-Some-clause-walks
+returns-in_err-begun_component-in-Some-clause-walks g c =
     let p = err_from_is_err_and c.from_residual.result c.from_residual.ensures.1 in
-    let n = c.len.ensures in
-    let v = rw c.steps.invariant.kept at c.in_err-step-in-Some.ensures.value in
-    let lev = c.levels_below-levels.ensures ∙ ap (λ k. max_depth - k) n in
-    rw (p.1, p.2) (fails_on c.in_err-step-in-Some.field-0.0 _ _
-    (λ e b. left_fails _ _ _ _ _ c.args.root _ _ _ (not_descended _ _ _ _ _ _ c.steps.open c.in-Some.part c.next.new.self _ _ _
-    c.steps.invariant.ran.2 c.in-Some.ensures.steps lev (logged_is _ _ _ _ _ _ _ _ c.steps.invariant.ran.0 _ b))) v)
+    let v = rw c.steps.invariant.kept at c.in_err-begun_component-in-Some.ensures.value in
+    let led = rw c.steps.invariant.kept at c.in_err-begun_component-in-Some.ensures.leads in
+    let f = first_of_begun _ _ _ _ _ _ c.steps.open c.in-Some.part c.next.new.self _ _ _ _
+    c.steps.invariant.ran.2 c.in-Some.ensures.steps c.levels_below-levels.ensures
+    (logged_is _ _ _ _ _ _ _ _ c.steps.invariant.ran.0 _ refl) in
+    rw (p.1, p.2) (stops_on g.H.Hinter.Leads g.met.H.Hinter.leads_then _ _ _ c.in_err-begun_component-in-Some.field-0.0 _
+    c.steps.invariant.ran.0 _ _ _ c.steps.invariant.ran.1 led f v
+    (λ e b. not_descended _ _ _ _ _ _ c.steps.open c.in-Some.part c.next.new.self _ _ _
+    c.steps.invariant.ran.2 c.in-Some.ensures.steps c.levels_below-levels.ensures
+    (logged_is _ _ _ _ _ _ _ _ c.steps.invariant.ran.0 _ b)))
 
-pub steps-preserved-in-Continue-branch-2 : goal.steps-preserved-in-Continue-branch-2
-steps-preserved-in-Continue-branch-2 g c =
-    let n = c.len.ensures in
-    let v = rw (c.steps.invariant.kept, c.in-Assembled.is) at c.in_ok-step-in-Some.ensures.value in
-    let a = rw c.is_on-on.ensures at c.in_ok-add_part-in-Assembled.ensures in
+pub steps-preserved-in-Continue-branch-3 : goal.steps-preserved-in-Continue-branch-3
+steps-preserved-in-Continue-branch-3 g c =
+    let v = rw (c.steps.invariant.kept, c.in-None-2.is) at c.in_ok-begun_component-in-Some.ensures.value in
+    let a = rw c.is_on-on.ensures at c.in_ok-add_part-in-None-2.ensures in
     let m = c.steps.invariant.counted in
-    let p = component_begun_counted _ _ _ _ _ _ _ _ _ c.law_keeps_shape.ensures c.steps.invariant.points v in
+    let n = c.in_ok-begun_component-in-Some.ensures.points in
     let s = part_adds_points _ _ _ _ _ _ _ a in
-    let led = rw c.steps.invariant.kept at c.in_ok-step-in-Some.ensures.leads in
+    let led = rw c.steps.invariant.kept at c.in_ok-begun_component-in-Some.ensures.leads in
     let lv = logged_is _ _ _ _ _ _ _ _ c.steps.invariant.ran.0 _ v in
     record {
       known = search rules;
@@ -66,94 +64,100 @@ steps-preserved-in-Continue-branch-2 g c =
         _,
         g.met.H.Hinter.leads_then _ _ _ _ _ c.steps.invariant.ran.1 led,
         fills _ _ _ _ _ _ c.steps.open c.in-Some.part c.next.new.self _ _ _ _ _
-            c.steps.invariant.ran.2 c.in-Some.ensures.steps (omega arith) lv a,
+            c.steps.invariant.ran.2 c.in-Some.ensures.steps c.levels_below-levels.ensures lv a,
       );
       deep = c.steps.invariant.deep;
-      few = c.in_ok-step-in-Some.ensures.records.1;
-      numbered = let k = c.steps.invariant.numbered in let r = c.in_ok-step-in-Some.ensures.records.0 in omega (arith, k, r);
-      counted = omega (arith, m, p.0, s);
-      points = p.1;
+      few = c.in_ok-begun_component-in-Some.ensures.records.1;
+      numbered =
+          let k = c.steps.invariant.numbered in let r = c.in_ok-begun_component-in-Some.ensures.records.0 in
+          omega (arith, k, r);
+      counted = omega (arith, m, n.0, s);
+      points = n.1;
     }
 
-pub returns-in_err-add_part-in-Assembled-clause-value : goal.returns-in_err-add_part-in-Assembled-clause-value
-returns-in_err-add_part-in-Assembled-clause-value g c =
-    let p = err_from_is_err_and c.from_residual-in_err-add_part-in-Assembled.result
-    c.from_residual-in_err-add_part-in-Assembled.ensures.1 in
-    let n = c.len.ensures in
-    let v = rw (c.steps.invariant.kept, c.in-Assembled.is) at c.in_ok-step-in-Some.ensures.value in
-    let a = rw c.is_on-on.ensures at c.in_err-add_part-in-Assembled.ensures in
+pub returns-in_err-add_part-in-None-2-clause-walks : goal.returns-in_err-add_part-in-None-2-clause-walks
+returns-in_err-add_part-in-None-2-clause-walks g c =
+    let p = err_from_is_err_and c.from_residual-in_err-add_part-in-None-2.result
+    c.from_residual-in_err-add_part-in-None-2.ensures.1 in
+    let v = rw (c.steps.invariant.kept, c.in-None-2.is) at c.in_ok-begun_component-in-Some.ensures.value in
+    let a = rw c.is_on-on.ensures at c.in_err-add_part-in-None-2.ensures in
+    let led = rw c.steps.invariant.kept at c.in_ok-begun_component-in-Some.ensures.leads in
     let lv = logged_is _ _ _ _ _ _ _ _ c.steps.invariant.ran.0 _ v in
-    let lev = c.levels_below-levels.ensures ∙ ap (λ k. max_depth - k) n in
-    rw (p.1, p.2) (fails_on c.in_err-add_part-in-Assembled.field-0.0 _ _
-    (λ e b. left_fails _ _ _ _ _ c.args.root _ _ _ (not_filled _ _ _ _ _ _ c.steps.open c.in-Some.part c.next.new.self _ _ _ _ e
-    c.steps.invariant.ran.2 c.in-Some.ensures.steps lev lv b)) a)
+    let f = first_of_begun _ _ _ _ _ _ c.steps.open c.in-Some.part c.next.new.self _ _ _ _
+    c.steps.invariant.ran.2 c.in-Some.ensures.steps c.levels_below-levels.ensures
+    (logged_is _ _ _ _ _ _ _ _ c.steps.invariant.ran.0 _ refl) in
+    rw (p.1, p.2) (stops_here g.H.Hinter.Leads _ _ c.in_err-add_part-in-None-2.field-0.0 _ _ _ _
+    (g.met.H.Hinter.leads_then _ _ _ _ _ c.steps.invariant.ran.1 led) f a
+    (λ e b. not_filled _ _ _ _ _ _ c.steps.open c.in-Some.part c.next.new.self _ _ _ _ e
+    c.steps.invariant.ran.2 c.in-Some.ensures.steps c.levels_below-levels.ensures lv b))
 
-pub steps-preserved-in-Open : goal.steps-preserved-in-Open
-steps-preserved-in-Open g c =
-    let n = c.len.ensures in
-    let v = rw (c.steps.invariant.kept, c.in-Open.is) at c.in_ok-step-in-Some.ensures.value in
-    let one = length-append c.steps.below
-    (record { part = c.in-Some.part; composite = with_next c.steps.open c.next.new.self } ∷ []) in
-    let level = c.in_ok-step-in-Some.ensures.level in
+pub steps-preserved-in-Some-2 : goal.steps-preserved-in-Some-2
+steps-preserved-in-Some-2 g c =
     let w : Waiting = record { part = c.in-Some.part; composite = with_next c.steps.open c.next.new.self } in
+    let v = rw (c.steps.invariant.kept, c.in-Some-2.is) at c.in_ok-begun_component-in-Some.ensures.value in
+    let one = length-append c.steps.below (w ∷ []) in
+    let level = c.in_ok-begun_component-in-Some.ensures.level in
     let m = c.steps.invariant.counted in
-    let p = component_begun_counted _ _ _ _ _ _ _ _ _ c.law_keeps_shape.ensures c.steps.invariant.points v in
-    let led = rw c.steps.invariant.kept at c.in_ok-step-in-Some.ensures.leads in
+    let n = c.in_ok-begun_component-in-Some.ensures.points in
+    let led = rw c.steps.invariant.kept at c.in_ok-begun_component-in-Some.ensures.leads in
     let s = points_with_one_more c.steps.below w in
     let b = begun_with_one_more c.steps.below w in
-    let f = p.2 in
     let lv = logged_is _ _ _ _ _ _ _ _ c.steps.invariant.ran.0 _ v in
-    record {
+    rw c.new-deeper.ensures (record {
       known = search rules;
       kept = search rules;
       ran = (
         _,
         g.met.H.Hinter.leads_then _ _ _ _ _ c.steps.invariant.ran.1 led,
         descends _ _ _ _ _ _ _ c.steps.open c.in-Some.part c.next.new.self _ _ _ _
-            c.steps.invariant.ran.2 c.in-Some.ensures.steps (omega arith) lv c.in_ok-push-in-Open.ensures,
+            c.steps.invariant.ran.2 c.in-Some.ensures.steps c.levels_below-levels.ensures lv c.in_ok-push-in-Some-2.ensures,
       );
-      deep = rw c.in_ok-push-in-Open.ensures (omega arith);
-      few = c.in_ok-step-in-Some.ensures.records.1;
+      deep = rw c.in_ok-push-in-Some-2.ensures (omega arith);
+      few = c.in_ok-begun_component-in-Some.ensures.records.1;
       numbered =
-          let k = c.steps.invariant.numbered in let r = c.in_ok-step-in-Some.ensures.records.0 in
-          rw c.in_ok-push-in-Open.ensures (omega (arith, k, r, b, f));
-      counted = rw c.in_ok-push-in-Open.ensures (omega (arith, m, p.0, s));
-      points = p.1;
-    }
+          let k = c.steps.invariant.numbered in let r = c.in_ok-begun_component-in-Some.ensures.records.0 in
+          rw c.in_ok-push-in-Some-2.ensures (omega (arith, k, r, b));
+      counted = rw c.in_ok-push-in-Some-2.ensures (omega (arith, m, n.0, s));
+      points = n.1;
+    })
 
-pub returns-in_err-run_on-in-None-clause-value : goal.returns-in_err-run_on-in-None-clause-value
-returns-in_err-run_on-in-None-clause-value g c =
+pub returns-in_err-push-in-Some-2-clause-walks : goal.returns-in_err-push-in-Some-2-clause-walks
+returns-in_err-push-in-Some-2-clause-walks g c =
+    let p = err_from_is_err_and c.from_residual-in_err-push-in-Some-2.result c.from_residual-in_err-push-in-Some-2.ensures.1 in
+    let led = rw c.steps.invariant.kept at c.in_ok-begun_component-in-Some.ensures.leads in
+    let f = first_of_begun _ _ _ _ _ _ c.steps.open c.in-Some.part c.next.new.self _ _ _ _
+    c.steps.invariant.ran.2 c.in-Some.ensures.steps c.levels_below-levels.ensures
+    (logged_is _ _ _ _ _ _ _ _ c.steps.invariant.ran.0 _ refl) in
+    rw (p.1, p.2) (record { by = (_, g.met.H.Hinter.leads_then _ _ _ _ _ c.steps.invariant.ran.1 led, f) })
+
+pub returns-in_err-run_on-in-None-clause-walks : goal.returns-in_err-run_on-in-None-clause-walks
+returns-in_err-run_on-in-None-clause-walks g c =
     let p = err_from_is_err_and c.from_residual-in_err-run_on-in-None.result c.from_residual-in_err-run_on-in-None.ensures.1 in
-    let v = rw (c.steps.invariant.kept, c.code.ensures.value) at c.in_err-run_on-in-None.ensures.value in
-    rw (p.1, p.2) (fails_on c.in_err-run_on-in-None.field-0.0 _ _
-    (λ e b. left_fails _ _ _ _ _ c.args.root _ _ _ (not_run _ _ _ _ _ _ c.steps.open _ _ _ c.steps.invariant.ran.2
-    c.in-None.ensures.steps.0 (run_is _ _ _ _ _ _ c.steps.invariant.ran.0 _ b))) v)
+    let v = rw (c.steps.invariant.kept, c.code-code.ensures.value) at c.in_err-run_on-in-None.ensures.value in
+    let led = rw c.code-code.ensures.value at c.in_err-run_on-in-None.ensures.leads in
+    let f = first_of_closed _ _ _ _ _ _ c.steps.open _ _ _ _ c.steps.invariant.ran.2 c.in-None.ensures.steps.0
+    (run_is _ _ _ _ _ _ c.steps.invariant.ran.0 _ refl) in
+    rw (p.1, p.2) (stops_on g.H.Hinter.Leads g.met.H.Hinter.leads_then _ _ _ c.in_err-run_on-in-None.field-0.0 _
+    c.steps.invariant.ran.0 _ _ _ c.steps.invariant.ran.1 led f v
+    (λ e b. not_run _ _ _ _ _ _ c.steps.open _ _ _ c.steps.invariant.ran.2 c.in-None.ensures.steps.0
+    (run_is _ _ _ _ _ _ c.steps.invariant.ran.0 _ b)))
 
-pub returns-in-None-pop-clause-value : goal.returns-in-None-pop-clause-value
-returns-in-None-pop-clause-value g c =
-    let v = rw (c.steps.invariant.kept, c.code.ensures.value) at c.in_ok-run_on-in-None.ensures.value in
+pub returns-in-None-pop-clause-walks : goal.returns-in-None-pop-clause-walks
+returns-in-None-pop-clause-walks g c =
+    let v = rw (c.steps.invariant.kept, c.code-code.ensures.value) at c.in_ok-run_on-in-None.ensures.value in
+    let led = rw c.code-code.ensures.value at c.in_ok-run_on-in-None.ensures.leads in
     let lv = run_is _ _ _ _ _ _ c.steps.invariant.ran.0 _ v in
     let ran = runs _ _ _ _ _ _ c.steps.open _ _ _ _ c.steps.invariant.ran.2 c.in-None.ensures.steps.0 lv in
-    left_gives _ _ _ _ _ c.args.root _ _ _ (done _ _ _ _ _ _ _ _ ran c.in-None-pop.ensures)
-
-pub returns-in_err-open-in-Some-pop-clause-value : goal.returns-in_err-open-in-Some-pop-clause-value
-returns-in_err-open-in-Some-pop-clause-value g c =
-    let p = err_from_is_err_and c.from_residual-in_err-open-in-Some-pop.result
-    c.from_residual-in_err-open-in-Some-pop.ensures.1 in
-    let v = rw (c.steps.invariant.kept, c.code.ensures.value) at c.in_ok-run_on-in-None.ensures.value in
-    let lv = run_is _ _ _ _ _ _ c.steps.invariant.ran.0 _ v in
-    let ran = runs _ _ _ _ _ _ c.steps.open _ _ _ _ c.steps.invariant.ran.2 c.in-None.ensures.steps.0 lv in
-    let j = rw c.is_on-on.ensures at c.in_err-open-in-Some-pop.ensures in
-    rw (p.1, p.2) (fails_on c.in_err-open-in-Some-pop.field-0.0 _ _
-    (λ e b. left_fails _ _ _ _ _ c.args.root _ _ _ (not_joined _ _ _ _ _ _ _ _ _ _ e ran c.in-Some-pop.ensures b)) j)
+    let e = done _ _ _ _ _ _ _ _ ran c.in-None-pop.ensures in
+    record { by = (_, g.met.H.Hinter.leads_then _ _ _ _ _ c.steps.invariant.ran.1 led, e) }
 
 pub steps-preserved : goal.steps-preserved
 steps-preserved g c =
-    let v = rw (c.steps.invariant.kept, c.code.ensures.value) at c.in_ok-run_on-in-None.ensures.value in
+    let v = rw (c.steps.invariant.kept, c.code-code.ensures.value) at c.in_ok-run_on-in-None.ensures.value in
     let j = rw c.is_on-on.ensures at c.in_ok-open-in-Some-pop.ensures in
     let n = length-append c.pop.new.self (c.in-Some-pop.waiting ∷ []) in
     let d = rw c.in-Some-pop.ensures at c.steps.invariant.deep in
-    let kept = run_keeps_points _ _ _ _ _ _ c.law_keeps_shape.ensures v in
+    let kept = c.in_ok-run_on-in-None.ensures.points in
     let all = rw c.in-Some-pop.ensures at c.steps.invariant.counted in
     let one = points_with_one_more c.pop.new.self c.in-Some-pop.waiting in
     let q = map_ok_ok _ _ _ j in
@@ -162,7 +166,7 @@ steps-preserved g c =
     let b = begun_with_one_more c.pop.new.self c.in-Some-pop.waiting in
     let f = ap (λ (o : OpenComposite). o.before) q.2 in
     let numbers = rw c.in-Some-pop.ensures at c.steps.invariant.numbered in
-    let led = rw c.code.ensures.value at c.in_ok-run_on-in-None.ensures.leads in
+    let led = rw c.code-code.ensures.value at c.in_ok-run_on-in-None.ensures.leads in
     let lv = run_is _ _ _ _ _ _ c.steps.invariant.ran.0 _ v in
     let ran = runs _ _ _ _ _ _ c.steps.open _ _ _ _ c.steps.invariant.ran.2 c.in-None.ensures.steps.0 lv in
     record {
@@ -180,81 +184,16 @@ steps-preserved g c =
       points = let few = c.steps.invariant.points in omega (arith, few, kept.1);
     }
 
-pub returns-in-None-pop-clause-leads : goal.returns-in-None-pop-clause-leads
-returns-in-None-pop-clause-leads g c =
-    let v = rw (c.steps.invariant.kept, c.code.ensures.value) at c.in_ok-run_on-in-None.ensures.value in
-    let led = rw c.code.ensures.value at c.in_ok-run_on-in-None.ensures.leads in
-    let lv = run_is _ _ _ _ _ _ c.steps.invariant.ran.0 _ v in
-    let ran = runs _ _ _ _ _ _ c.steps.open _ _ _ _ c.steps.invariant.ran.2 c.in-None.ensures.steps.0 lv in
-    let e = done _ _ _ _ _ _ _ _ ran c.in-None-pop.ensures in
-    rw e (g.met.H.Hinter.leads_then _ _ _ _ _ c.steps.invariant.ran.1 led)
-
-pub returns-in_err-step-in-Some-clause-leads : goal.returns-in_err-step-in-Some-clause-leads
-returns-in_err-step-in-Some-clause-leads g c =
-    let p = err_from_is_err_and c.from_residual.result c.from_residual.ensures.1 in
-    let n = c.len.ensures in
-    let v = rw c.steps.invariant.kept at c.in_err-step-in-Some.ensures.value in
-    let led = rw c.steps.invariant.kept at c.in_err-step-in-Some.ensures.leads in
-    let lev = c.levels_below-levels.ensures ∙ ap (λ k. max_depth - k) n in
-    let f = first_of_begun _ _ _ _ _ _ c.steps.open c.in-Some.part c.next.new.self _ _ _ _
-    c.steps.invariant.ran.2 c.in-Some.ensures.steps lev (logged_is _ _ _ _ _ _ _ _ c.steps.invariant.ran.0 _ refl) in
-    rw (p.1, p.2) (stops_on g.H.Hinter.Leads g.met.H.Hinter.leads_then _ _ _ c.in_err-step-in-Some.field-0.0 _
-    c.steps.invariant.ran.0 _ _ c.steps.invariant.ran.1 led f v
-    (λ e b. not_descended _ _ _ _ _ _ c.steps.open c.in-Some.part c.next.new.self _ _ _
-    c.steps.invariant.ran.2 c.in-Some.ensures.steps lev
-    (logged_is _ _ _ _ _ _ _ _ c.steps.invariant.ran.0 _ b)))
-
-pub returns-in_err-add_part-in-Assembled-clause-leads : goal.returns-in_err-add_part-in-Assembled-clause-leads
-returns-in_err-add_part-in-Assembled-clause-leads g c =
-    let p = err_from_is_err_and c.from_residual-in_err-add_part-in-Assembled.result
-    c.from_residual-in_err-add_part-in-Assembled.ensures.1 in
-    let n = c.len.ensures in
-    let v = rw (c.steps.invariant.kept, c.in-Assembled.is) at c.in_ok-step-in-Some.ensures.value in
-    let a = rw c.is_on-on.ensures at c.in_err-add_part-in-Assembled.ensures in
-    let led = rw c.steps.invariant.kept at c.in_ok-step-in-Some.ensures.leads in
-    let lv = logged_is _ _ _ _ _ _ _ _ c.steps.invariant.ran.0 _ v in
-    let lev = c.levels_below-levels.ensures ∙ ap (λ k. max_depth - k) n in
-    let f = first_of_ok _ _ _ _ _ _ c.steps.open c.in-Some.part c.next.new.self _ _ _ _
-    c.steps.invariant.ran.2 c.in-Some.ensures.steps lev lv in
-    rw (p.1, p.2) (stops_here g.H.Hinter.Leads _ _ c.in_err-add_part-in-Assembled.field-0.0 _ _ _
-    (g.met.H.Hinter.leads_then _ _ _ _ _ c.steps.invariant.ran.1 led) f a
-    (λ e b. not_filled _ _ _ _ _ _ c.steps.open c.in-Some.part c.next.new.self _ _ _ _ e
-    c.steps.invariant.ran.2 c.in-Some.ensures.steps lev lv b))
-
-pub returns-in_err-push-in-Open-clause-leads : goal.returns-in_err-push-in-Open-clause-leads
-returns-in_err-push-in-Open-clause-leads g c =
-    let p = err_from_is_err_and c.from_residual-in_err-push-in-Open.result c.from_residual-in_err-push-in-Open.ensures.1 in
-    let n = c.len.ensures in
-    let v = rw (c.steps.invariant.kept, c.in-Open.is) at c.in_ok-step-in-Some.ensures.value in
-    let led = rw c.steps.invariant.kept at c.in_ok-step-in-Some.ensures.leads in
-    let lv = logged_is _ _ _ _ _ _ _ _ c.steps.invariant.ran.0 _ v in
-    let lev = c.levels_below-levels.ensures ∙ ap (λ k. max_depth - k) n in
-    let f = first_of_ok _ _ _ _ _ _ c.steps.open c.in-Some.part c.next.new.self _ _ _ _
-    c.steps.invariant.ran.2 c.in-Some.ensures.steps lev lv in
-    rw (p.1, p.2) (_, f, g.met.H.Hinter.leads_then _ _ _ _ _ c.steps.invariant.ran.1 led)
-
-pub returns-in_err-run_on-in-None-clause-leads : goal.returns-in_err-run_on-in-None-clause-leads
-returns-in_err-run_on-in-None-clause-leads g c =
-    let p = err_from_is_err_and c.from_residual-in_err-run_on-in-None.result c.from_residual-in_err-run_on-in-None.ensures.1 in
-    let v = rw (c.steps.invariant.kept, c.code.ensures.value) at c.in_err-run_on-in-None.ensures.value in
-    let led = rw c.code.ensures.value at c.in_err-run_on-in-None.ensures.leads in
-    let f = first_of_closed _ _ _ _ _ _ c.steps.open _ _ _ _ c.steps.invariant.ran.2 c.in-None.ensures.steps.0
-    (run_is _ _ _ _ _ _ c.steps.invariant.ran.0 _ refl) in
-    rw (p.1, p.2) (stops_on g.H.Hinter.Leads g.met.H.Hinter.leads_then _ _ _ c.in_err-run_on-in-None.field-0.0 _
-    c.steps.invariant.ran.0 _ _ c.steps.invariant.ran.1 led f v
-    (λ e b. not_run _ _ _ _ _ _ c.steps.open _ _ _ c.steps.invariant.ran.2 c.in-None.ensures.steps.0
-    (run_is _ _ _ _ _ _ c.steps.invariant.ran.0 _ b)))
-
-pub returns-in_err-open-in-Some-pop-clause-leads : goal.returns-in_err-open-in-Some-pop-clause-leads
-returns-in_err-open-in-Some-pop-clause-leads g c =
-    let p = err_from_is_err_and c.from_residual-in_err-open-in-Some-pop.result
-    c.from_residual-in_err-open-in-Some-pop.ensures.1 in
-    let v = rw (c.steps.invariant.kept, c.code.ensures.value) at c.in_ok-run_on-in-None.ensures.value in
-    let led = rw c.code.ensures.value at c.in_ok-run_on-in-None.ensures.leads in
+pub returns-in_err-open-in-Some-pop-clause-walks : goal.returns-in_err-open-in-Some-pop-clause-walks
+returns-in_err-open-in-Some-pop-clause-walks g c =
+    let p = err_from_is_err_and c.from_residual-in_err-open-in-Some-pop.result c.from_residual-in_err-open-in-Some-pop.ensures.1 in
+    let v = rw (c.steps.invariant.kept, c.code-code.ensures.value) at c.in_ok-run_on-in-None.ensures.value in
+    let led = rw c.code-code.ensures.value at c.in_ok-run_on-in-None.ensures.leads in
     let lv = run_is _ _ _ _ _ _ c.steps.invariant.ran.0 _ v in
     let ran = runs _ _ _ _ _ _ c.steps.open _ _ _ _ c.steps.invariant.ran.2 c.in-None.ensures.steps.0 lv in
     let j = rw c.is_on-on.ensures at c.in_err-open-in-Some-pop.ensures in
-    let f = first_of_ran _ _ _ _ _ _ c.steps.open _ _ _ _ c.steps.invariant.ran.2 c.in-None.ensures.steps.0 lv in
-    rw (p.1, p.2) (stops_here g.H.Hinter.Leads _ _ c.in_err-open-in-Some-pop.field-0.0 _ _ _
+    let f = first_of_closed _ _ _ _ _ _ c.steps.open _ _ _ _ c.steps.invariant.ran.2 c.in-None.ensures.steps.0
+    (run_is _ _ _ _ _ _ c.steps.invariant.ran.0 _ refl) in
+    rw (p.1, p.2) (stops_here g.H.Hinter.Leads _ _ c.in_err-open-in-Some-pop.field-0.0 _ _ _ _
     (g.met.H.Hinter.leads_then _ _ _ _ _ c.steps.invariant.ran.1 led) f j
     (λ e b. not_joined _ _ _ _ _ _ _ _ _ _ e ran c.in-Some-pop.ensures b))
