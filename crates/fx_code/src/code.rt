@@ -127,6 +127,7 @@ impl<'a> Code<'a> {
     }
 
     /// The least member of the chain from an address that ends the search.
+    #[tactic(auto, using(crate::proofs::Onward::next_above, crate::proofs::Onward::whole_inside))]
     fn find(&self, from: usize, seek: Seek) -> Option<usize>
         ensures inside { IfSome result (λ address. address < length self.now) }
         ensures bound { IfSome result (λ address. address + 1 < 2 ^ 64) }

@@ -1,6 +1,6 @@
 //! Arguments of delta instructions.
 
-ghost use Rattle.std.specs.Prelude.{◌≡◌, ◌≤◌, ◌<◌, pos, ◌+ℤ◌, ◌*ℤ◌, unsigned_abs};
+ghost use Rattle.std.specs.Prelude.{◌≡◌, ◌≤◌, ◌<◌, pos, unsigned_abs};
 ghost use Rattle.fx_gstate.specs.Deltas.{form_start, steps_of, acting_size, amount_of};
 
 use crate::fault::BadArgument;

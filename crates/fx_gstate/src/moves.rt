@@ -86,6 +86,7 @@ fn dot_product(fx: i16, fy: i16, px: i16, py: i16) -> i64
 }
 
 /// The product of two coordinates.
+#[tactic(auto, using(crate::proofs::Products::product_is, crate::proofs::Products::product_size))]
 fn product(a: i16, b: i16) -> i64
     ensures value { result ≡ a *ℤ b }
     ensures bound { unsigned_abs result ≤ 2 ^ 30 }

@@ -162,6 +162,7 @@ fn part(d: F26, along: F2) -> F26
 }
 
 /// The exact product of a distance and a coordinate of a vector.
+#[tactic(auto, using(crate::proofs::Products::product_is, crate::proofs::Products::product_size))]
 pub(crate) fn product(distance: i32, along: i16) -> i64
     ensures value { result ≡ distance *ℤ along }
     ensures bound { unsigned_abs result ≤ 2 ^ 46 }

@@ -32,9 +32,6 @@ all_numbers_fit ws = All-map (FitsSigned w32) number_in ws (λ k d h. number_fit
 
 -- ---- functions of words, of which the last are none
 
-nothing_left : (used : ℕ) → 0 ≡ 0 - suc used
-nothing_left used = omega arith
-
 none_after : (used : ℕ) (ws : List ℕ) → ((k : ℕ) → used ≤ k → k < length ws → slice_index ws k ≡ 0)
     → map function_in (drop used ws) ≡ replicate (length ws - used) None
 none_after zero [] h = refl
@@ -45,7 +42,7 @@ none_after zero (w ∷ ws) h =
       none_after zero ws (λ k i j. h (suc k) (omega arith) (omega (arith, j))),
       e,
     ) refl
-none_after (suc used) [] h = ap (λ (n : ℕ). replicate n None) (nothing_left used)
+none_after (suc used) [] h = let e : 0 ≡ 0 - suc used = omega arith in ap (λ (n : ℕ). replicate n None) e
 none_after (suc used) (w ∷ ws) h =
     let e : suc (length ws) - suc used ≡ length ws - used = omega arith in
     none_after used ws (λ k i j. h (suc k) (omega (arith, i)) (omega (arith, j))) ∙ ap (λ (n : ℕ). replicate n None) (sym e)

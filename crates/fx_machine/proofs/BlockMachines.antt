@@ -4,7 +4,7 @@ use Rattle.std.proofs.Common.{◌≡◌, ℕ, ◌*◌, ◌≤◌, map, List, ◌
 use Rattle.std.proofs.Common.{false, ◌==◌, arith}
 use Rattle.std.proofs.Common.{subst, Some, None, if◌then◌else◌, ◌&&◌}
 use Rattle.std.specs.Prelude.{nat_le, codes}
-use Rattle.std.proofs.lemmas.Bool.{eqb-true, eq-eqb, le-leb}
+use Rattle.std.proofs.lemmas.Bool.{eqb-true, eq-eqb, le-leb, and_parts}
 use Rattle.std.proofs.lemmas.List.{length-replicate, length-map, length-drop, length-take-le, append_assoc}
 use Rattle.fx_sfnt.specs.Tables.{Face, table_or_empty}
 use Rattle.fx_scale.specs.Scaling.{scale_of}
@@ -24,17 +24,6 @@ use Rattle.fx_machine.specs.Blocks.{origin_words, sizes_of}
 use Rattle.fx_machine.specs.Blocks.{block_form, has_origin, font_sizes, sizes_in, usage_in, prepared_in, checksum_of}
 use Rattle.fx_machine.specs.Blocks.{after_origin}
 use Rattle.fx_machine.proofs.BlocksBack.{prepared_back, usage_back, all_said}
-
-unfoldable known_with : Face → ℕ → Prepared → Usage → Known
-known_with face ppem p u = record { face = face; ppem = ppem; prepared = p; prelude = u }
-
-same_known_parts : (f f' : Face) (n n' : ℕ) (p p' : Prepared) (u u' : Usage) → f ≡ f' → n ≡ n' → p ≡ p' → u ≡ u'
-    → known_with f n p u ≡ known_with f' n' p' u'
-same_known_parts f f' n n' p p' u u' a b c d = cc
-
-same_known : (a b : Known) → a.face ≡ b.face → a.ppem ≡ b.ppem → a.prepared ≡ b.prepared → a.prelude ≡ b.prelude → a ≡ b
-unfolding known_with
-same_known a b f n p u = same_known_parts a.face b.face a.ppem b.ppem a.prepared b.prepared a.prelude b.prelude f n p u
 
 same_some : {x y : List ℕ} → Some x ≡ Some y → x ≡ y
 same_some e = cc
@@ -99,7 +88,7 @@ module _ (face : Face) (ppem : ℕ) (block : List ℕ) (known : Known) (ef : kno
       let prepared : new ≡ p = read ∙ (ap (λ m. prepared_in m ws) (z ∙ sizes_there) ∙ (ap (prepared_in (sizes_of p)) w
       ∙ prepared_back p known.prelude b.rest b.numbered b.of_font.ends b.of_font.carried)) in
       let usage : u ≡ known.prelude = used ∙ (ap usage_in w ∙ usage_back p known.prelude b.rest) in
-      same_known (record { face = face; ppem = size; prepared = new; prelude = u }) known (sym ef) (s ∙ sym ep) prepared usage
+      λ i. record { face = sym ef i; ppem = (s ∙ sym ep) i; prepared = prepared i; prelude = usage i }
 
 pub never : false ≡ true → ⊥
 never e = cc
@@ -108,10 +97,6 @@ never e = cc
 if_some : (x : Bool) (a ws : List ℕ) → Some ws ≡ (if x then Some a else None) → x ≡ true
 if_some true a ws e = refl
 if_some false a ws e = cc
-
-right_one : (a b : Bool) → (a && b) ≡ true → b ≡ true
-right_one true b e = e
-right_one false b e = cc
 
 second_two : (a b c d e : Bool) → (a && b && c && d && e) ≡ true → (b ≡ true) × (c ≡ true)
 second_two true true true d e h = (refl, refl)
@@ -123,7 +108,7 @@ pub own_origin : (face : Face) (ppem : ℕ) (block ws : List ℕ) (known : Known
     → IsBlockOf known block → (known.ppem ≡ ppem) × (checksum_of known.face ≡ checksum_of face)
 unfolding after_origin
 own_origin face ppem block ws known e b =
-    let all = right_one (nat_le 5 (length block)) (has_origin face ppem block) (if_some _ (drop 5 block) ws e) in
+    let all = (and_parts (nat_le 5 (length block)) (has_origin face ppem block) (if_some _ (drop 5 block) ws e)).1 in
     let p : block ≡ origin_words known.face known.ppem ++ (state_words known.prepared known.prelude ++ b.rest) =
     b.block_is ∙ append_assoc (origin_words known.face known.ppem) (state_words known.prepared known.prelude) b.rest in
     let told : has_origin face ppem (origin_words known.face known.ppem ++ (state_words known.prepared known.prelude ++ b.rest)) ≡
@@ -136,19 +121,6 @@ own_origin face ppem block ws known e b =
 
 -- ---- tables of a font's sizes
 
-unfoldable sizes_with : ℕ → ℕ → ℕ → ℕ → ℕ → Sizes
-sizes_with s c t f o = record { storage = s; cvt = c; twilight = t; functions = f; opcodes = o }
-
-same_numbers : (s s' c c' t t' f f' o o' : ℕ) → s ≡ s' → c ≡ c' → t ≡ t' → f ≡ f' → o ≡ o'
-    → sizes_with s c t f o ≡ sizes_with s' c' t' f' o'
-same_numbers s s' c c' t t' f f' o o' p q r u v = cc
-
-pub same_sizes : (m n : Sizes) → m.storage ≡ n.storage → m.cvt ≡ n.cvt → m.twilight ≡ n.twilight → m.functions ≡ n.functions
-    → m.opcodes ≡ n.opcodes → m ≡ n
-unfolding sizes_with
-same_sizes m n p q r u v = same_numbers m.storage n.storage m.cvt n.cvt m.twilight n.twilight m.functions n.functions m.opcodes
-    n.opcodes p q r u v
-
 -- those that words say something for
 cut : {X : Type 0} (f : ℕ → X) (n : ℕ) (ws : List ℕ) → n ≤ length ws → length (map f (take n ws)) ≡ n
 cut f n ws h = length-map (take n ws) f ∙ length-take-le n ws h
@@ -160,12 +132,13 @@ said_sizes n ws h =
     let c = length-drop n.cvt (cvt_words n ws) in
     let d = length-drop (5 * n.twilight) (twilight_words n ws) in
     let e = length-drop n.functions (functions_words n ws) in
-    same_sizes (sizes_of (prepared_in n ws)) n
-    (cut number_in n.storage (storage_words ws) (omega (arith, a, h.enough)))
-    (cut number_in n.cvt (cvt_words n ws) (omega (arith, a, b, h.enough)))
-    (points_count n.twilight (take (5 * n.twilight) (twilight_words n ws)))
-    (cut function_in n.functions (functions_words n ws) (omega (arith, a, b, c, d, h.enough)))
-    (cut function_in n.opcodes (opcodes_words n ws) (omega (arith, a, b, c, d, e, h.enough)))
+    λ i. record {
+      storage = cut number_in n.storage (storage_words ws) (omega (arith, a, h.enough)) i;
+      cvt = cut number_in n.cvt (cvt_words n ws) (omega (arith, a, b, h.enough)) i;
+      twilight = points_count n.twilight (take (5 * n.twilight) (twilight_words n ws)) i;
+      functions = cut function_in n.functions (functions_words n ws) (omega (arith, a, b, c, d, h.enough)) i;
+      opcodes = cut function_in n.opcodes (opcodes_words n ws) (omega (arith, a, b, c, d, e, h.enough)) i;
+    }
 
 pub twilight_said : (n : Sizes) (ws t : List ℕ) → SaysAll n ws
     → t ≡ take (5 * (sizes_in ws).twilight) (twilight_words (sizes_in ws) ws) → length t ≡ 5 * n.twilight

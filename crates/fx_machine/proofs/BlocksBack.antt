@@ -2,7 +2,7 @@
 -- For a machine that is made of a block.
 use Rattle.std.proofs.Common.{◌≡◌, ℕ, ◌+◌, ◌*◌, ◌^◌, ◌≤◌, ◌==◌, List, [], ◌∷◌, ◌++◌, length, map, refl}
 use Rattle.std.proofs.Common.{sym, arith, append_assoc, length-append, Bool, true, false, Option, Some, None}
-use Rattle.std.specs.Prelude.{ℤ, unsigned_abs}
+use Rattle.std.specs.Prelude.{unsigned_abs}
 use Rattle.std.specs.List.{flat_map}
 use Rattle.std.proofs.lemmas.Int.{to_z-of_z, to_z_pos}
 use Rattle.std.proofs.lemmas.Nat.{div-add-mod'}
@@ -11,12 +11,9 @@ use mir.Syntax.{w32}
 use Rattle.fx_zone.specs.declared.point.Point.{Point}
 use Rattle.fx_gstate.specs.declared.scan.Dropout.{Dropout}
 use Rattle.fx_gstate.specs.declared.scan.Dropout.TheVariants.{Off, Leftmost, Nearest}
-use Rattle.fx_gstate.specs.declared.state.GState.{GState}
-use Rattle.fx_machine.specs.declared.definitions.Function.{Function}
-use Rattle.fx_machine.specs.declared.state.Flags.{Flags}
 use Rattle.fx_machine.specs.declared.usage.Usage.{Usage}
 use Rattle.fx_machine.specs.declared.prepared.Prepared.{Prepared}
-use Rattle.fx_machine.specs.Words.{number_word, number_in, bit_of, point_words, points_in, function_word}
+use Rattle.fx_machine.specs.Words.{number_word, number_in, bit_of, point_words, function_word}
 use Rattle.fx_machine.specs.Blocks.{IsNumbered, SaysAll, state_words}
 use Rattle.fx_machine.specs.Blocks.{count_of, sizes_of, usage_in, start_in, flags_in, prepared_in}
 use Rattle.fx_machine.specs.Prepared.{carried}
@@ -41,155 +38,106 @@ type_back Off = refl
 type_back Leftmost = refl
 type_back Nearest = refl
 
-start_back : (p : Prepared) (u : Usage) (rest : List ℕ) → IsNumbered p → carried p.graphics ≡ p.graphics
-    → start_in (state_words p u ++ rest) ≡ p.graphics
-start_back p u rest h c = rw (
-  bit_back p.graphics.auto_flip,
-  to_z-of_z w32 p.graphics.cut_in h.start.cut_in,
-  to_z-of_z w32 p.graphics.minimum_distance h.start.minimum_distance,
-  to_z-of_z w32 p.graphics.single_width
-      h.start.single_width,
-  to_z-of_z w32 p.graphics.single_width_cut_in h.start.single_width_cut_in,
-  to_z-of_z w32 p.graphics.delta_base h.start.delta_base,
-  shift_back p.graphics.delta_shift h.start.delta_shift,
-  control_back p.graphics.scan_control,
-  type_back p.graphics.scan_type,
-) c
-
-flags_back : (p : Prepared) (u : Usage) (rest : List ℕ) → flags_in (state_words p u ++ rest) ≡ p.flags
-flags_back p u rest = rw (bit_back p.flags.no_programs, bit_back p.flags.default_state) refl
-
-pub usage_back : (p : Prepared) (u : Usage) (rest : List ℕ) → usage_in (state_words p u ++ rest) ≡ u
-usage_back p u rest = rw (div-add-mod' u.steps (2 ^ 32), div-add-mod' u.strays (2 ^ 32)) refl
-
 five_each : (ps : List Point) → length (flat_map point_words ps) ≡ 5 * length ps
 five_each [] = refl
 five_each (p ∷ ps) = rw (five_each ps) (omega arith)
 
--- the words after each part
-unfoldable from_opcodes : Prepared → List ℕ → List ℕ
-from_opcodes p rest = map function_word p.definitions.opcodes ++ rest
+module _ (p : Prepared) (rest : List ℕ) where
+  -- the words after each part
+  unfoldable from_opcodes : List ℕ
+  from_opcodes = map function_word p.definitions.opcodes ++ rest
 
-unfoldable from_functions : Prepared → List ℕ → List ℕ
-from_functions p rest = map function_word p.definitions.functions ++ from_opcodes p rest
+  unfoldable from_functions : List ℕ
+  from_functions = map function_word p.definitions.functions ++ from_opcodes
 
-unfoldable from_twilight : Prepared → List ℕ → List ℕ
-from_twilight p rest = flat_map point_words p.twilight.points ++ from_functions p rest
+  unfoldable from_twilight : List ℕ
+  from_twilight = flat_map point_words p.twilight.points ++ from_functions
 
-unfoldable from_cvt : Prepared → List ℕ → List ℕ
-from_cvt p rest = map number_word p.cvt ++ from_twilight p rest
+  unfoldable from_cvt : List ℕ
+  from_cvt = map number_word p.cvt ++ from_twilight
 
-at_storage : (p : Prepared) (u : Usage) (rest : List ℕ)
-    → storage_words (state_words p u ++ rest) ≡ map number_word p.storage ++ from_cvt p rest
-unfolding from_cvt from_twilight from_functions from_opcodes
-at_storage p u rest = simp append_assoc
+  module _ (u : Usage) where
+    abbrev words : List ℕ
+    words = state_words p u ++ rest
 
-at_cvt : (p : Prepared) (u : Usage) (rest : List ℕ) → cvt_words (sizes_of p) (state_words p u ++ rest) ≡ from_cvt p rest
-at_cvt p u rest =
-    rw (at_storage p u rest) (drop_at (map number_word p.storage) (from_cvt p rest) (length p.storage) (length-map p.storage
-    number_word))
+    at_storage : storage_words words ≡ map number_word p.storage ++ from_cvt
+    unfolding from_cvt from_twilight from_functions from_opcodes
+    at_storage = simp append_assoc
 
-at_twilight : (p : Prepared) (u : Usage) (rest : List ℕ)
-    → twilight_words (sizes_of p) (state_words p u ++ rest) ≡ from_twilight p rest
-unfolding from_cvt
-at_twilight p u rest =
-    rw (at_cvt p u rest) (drop_at (map number_word p.cvt) (from_twilight p rest) (length p.cvt) (length-map p.cvt number_word))
+    at_cvt : cvt_words (sizes_of p) words ≡ from_cvt
+    at_cvt = rw at_storage (drop_at (map number_word p.storage) from_cvt (length p.storage) (length-map p.storage number_word))
 
-at_functions : (p : Prepared) (u : Usage) (rest : List ℕ)
-    → functions_words (sizes_of p) (state_words p u ++ rest) ≡ from_functions p rest
-unfolding from_twilight
-at_functions p u rest =
-    rw (at_twilight p u rest) (drop_at (flat_map point_words p.twilight.points) (from_functions p rest) (5 * length
-    p.twilight.points) (five_each p.twilight.points))
+    at_twilight : twilight_words (sizes_of p) words ≡ from_twilight
+    unfolding from_cvt
+    at_twilight = rw at_cvt (drop_at (map number_word p.cvt) from_twilight (length p.cvt) (length-map p.cvt number_word))
 
-at_opcodes : (p : Prepared) (u : Usage) (rest : List ℕ)
-    → opcodes_words (sizes_of p) (state_words p u ++ rest) ≡ from_opcodes p rest
-unfolding from_functions
-at_opcodes p u rest =
-    rw (at_functions p u rest) (drop_at (map function_word p.definitions.functions) (from_opcodes p rest) (length
-    p.definitions.functions) (length-map p.definitions.functions function_word))
+    at_functions : functions_words (sizes_of p) words ≡ from_functions
+    unfolding from_twilight
+    at_functions = rw at_twilight (drop_at (flat_map point_words p.twilight.points) from_functions _ (five_each p.twilight.points))
 
-storage_back : (p : Prepared) (u : Usage) (rest : List ℕ) → IsNumbered p
-    → (prepared_in (sizes_of p) (state_words p u ++ rest)).storage ≡ p.storage
-storage_back p u rest h = rw (
-  at_storage p u rest,
-  take_at (map number_word p.storage) (from_cvt p rest) (length p.storage) (length-map p.storage number_word),
-) (numbers_back
-    p.storage h.storage)
+    at_opcodes : opcodes_words (sizes_of p) words ≡ from_opcodes
+    unfolding from_functions
+    at_opcodes = rw at_functions (drop_at (map function_word p.definitions.functions) from_opcodes _
+        (length-map p.definitions.functions function_word))
 
-cvt_back : (p : Prepared) (u : Usage) (rest : List ℕ) → IsNumbered p
-    → (prepared_in (sizes_of p) (state_words p u ++ rest)).cvt ≡ p.cvt
-unfolding from_cvt
-cvt_back p u rest h = rw (
-  at_cvt p u rest,
-  take_at (map number_word p.cvt) (from_twilight p rest) (length p.cvt) (length-map p.cvt number_word),
-) (numbers_back p.cvt
-    h.cvt)
+    storage_back : IsNumbered p → (prepared_in (sizes_of p) words).storage ≡ p.storage
+    storage_back h =
+        rw (at_storage, take_at (map number_word p.storage) from_cvt (length p.storage) (length-map p.storage number_word))
+        (numbers_back p.storage h.storage)
 
-twilight_back : (p : Prepared) (u : Usage) (rest : List ℕ) → IsNumbered p
-    → (prepared_in (sizes_of p) (state_words p u ++ rest)).twilight.points ≡ p.twilight.points
-unfolding from_twilight
-twilight_back p u rest h =
-    let b : points_in (length p.twilight.points) (flat_map point_words p.twilight.points) ≡ p.twilight.points =
-    rw append-nil at (points_back p.twilight.points [] h.twilight) in
-    rw (
-      at_twilight p u rest,
-      take_at (flat_map point_words p.twilight.points) (from_functions p rest) (5 * length p.twilight.points) (five_each
-          p.twilight.points),
-    ) b
+    cvt_back : IsNumbered p → (prepared_in (sizes_of p) words).cvt ≡ p.cvt
+    unfolding from_cvt
+    cvt_back h = rw (at_cvt, take_at (map number_word p.cvt) from_twilight (length p.cvt) (length-map p.cvt number_word))
+        (numbers_back p.cvt h.cvt)
 
-functions_all_back : (p : Prepared) (u : Usage) (rest : List ℕ)
-    → (prepared_in (sizes_of p) (state_words p u ++ rest)).definitions.functions ≡ p.definitions.functions
-unfolding from_functions
-functions_all_back p u rest = rw (
-  at_functions p u rest,
-  take_at (map function_word p.definitions.functions) (from_opcodes p rest) (length p.definitions.functions) (length-map
-      p.definitions.functions function_word),
-)
-    (functions_back p.definitions.functions)
+    twilight_back : IsNumbered p → (prepared_in (sizes_of p) words).twilight.points ≡ p.twilight.points
+    unfolding from_twilight
+    twilight_back h =
+        rw (at_twilight, take_at (flat_map point_words p.twilight.points) from_functions _ (five_each p.twilight.points))
+        (rw append-nil at (points_back p.twilight.points [] h.twilight))
 
-opcodes_back : (p : Prepared) (u : Usage) (rest : List ℕ)
-    → (prepared_in (sizes_of p) (state_words p u ++ rest)).definitions.opcodes ≡ p.definitions.opcodes
-unfolding from_opcodes
-opcodes_back p u rest = rw (
-  at_opcodes p u rest,
-  take_at (map function_word p.definitions.opcodes) rest (length p.definitions.opcodes) (length-map p.definitions.opcodes
-      function_word),
-) (functions_back p.definitions.opcodes)
+    functions_all_back : (prepared_in (sizes_of p) words).definitions.functions ≡ p.definitions.functions
+    unfolding from_functions
+    functions_all_back =
+        rw (at_functions, take_at _ from_opcodes _ (length-map p.definitions.functions function_word))
+        (functions_back p.definitions.functions)
 
-unfoldable prepared_with : List ℤ → List ℤ → List Point → List ℕ → GState → List (Option Function) → List (Option Function)
-    → Flags → Prepared
-prepared_with s c t e g f o l = record {
-  storage = s;
-  cvt = c;
-  twilight = record { points = t; ends = e };
-  graphics = g;
-  definitions = record { functions = f; opcodes = o };
-  flags = l;
-}
+    opcodes_back : (prepared_in (sizes_of p) words).definitions.opcodes ≡ p.definitions.opcodes
+    unfolding from_opcodes
+    opcodes_back = rw (at_opcodes, take_at _ rest _ (length-map p.definitions.opcodes function_word))
+        (functions_back p.definitions.opcodes)
 
-same_parts : (s s' c c' : List ℤ) (t t' : List Point) (e e' : List ℕ) (g g' : GState) (f f' o o' : List (Option Function)) (l l' :
-    Flags)
-    → s ≡ s' → c ≡ c' → t ≡ t' → e ≡ e' → g ≡ g' → f ≡ f' → o ≡ o' → l ≡ l'
-    → prepared_with s c t e g f o l ≡ prepared_with s' c' t' e' g' f' o' l'
-same_parts s s' c c' t t' e e' g g' f f' o o' l l' p q r z u v w x = cc
+    start_back : IsNumbered p → carried p.graphics ≡ p.graphics → start_in words ≡ p.graphics
+    start_back h c = rw (
+      bit_back p.graphics.auto_flip,
+      to_z-of_z w32 p.graphics.cut_in h.start.cut_in,
+      to_z-of_z w32 p.graphics.minimum_distance h.start.minimum_distance,
+      to_z-of_z w32 p.graphics.single_width h.start.single_width,
+      to_z-of_z w32 p.graphics.single_width_cut_in h.start.single_width_cut_in,
+      to_z-of_z w32 p.graphics.delta_base h.start.delta_base,
+      shift_back p.graphics.delta_shift h.start.delta_shift,
+      control_back p.graphics.scan_control,
+      type_back p.graphics.scan_type,
+    ) c
 
-same_prepared : (a b : Prepared) → a.storage ≡ b.storage → a.cvt ≡ b.cvt → a.twilight.points ≡ b.twilight.points
-    → a.twilight.ends ≡ b.twilight.ends → a.graphics ≡ b.graphics → a.definitions.functions ≡ b.definitions.functions
-    → a.definitions.opcodes ≡ b.definitions.opcodes → a.flags ≡ b.flags → a ≡ b
-unfolding prepared_with
-same_prepared a b p q r z u v w x = same_parts a.storage b.storage a.cvt b.cvt a.twilight.points b.twilight.points a.twilight.ends
-    b.twilight.ends a.graphics b.graphics a.definitions.functions b.definitions.functions a.definitions.opcodes
-    b.definitions.opcodes
-    a.flags b.flags p q r z u v w x
+    flags_back : flags_in words ≡ p.flags
+    flags_back = rw (bit_back p.flags.no_programs, bit_back p.flags.default_state) refl
 
 -- what prep left comes back from its words
 pub prepared_back : (p : Prepared) (u : Usage) (rest : List ℕ) → IsNumbered p → p.twilight.ends ≡ []
     → carried p.graphics ≡ p.graphics
     → prepared_in (sizes_of p) (state_words p u ++ rest) ≡ p
-prepared_back p u rest h e c = same_prepared (prepared_in (sizes_of p) (state_words p u ++ rest)) p (storage_back p u rest h)
-    (cvt_back p u rest h) (twilight_back p u rest h) (sym e) (start_back p u rest h c) (functions_all_back p u rest)
-    (opcodes_back p u rest) (flags_back p u rest)
+prepared_back p u rest h e c = λ i. record {
+  storage = storage_back p rest u h i;
+  cvt = cvt_back p rest u h i;
+  twilight = record { points = twilight_back p rest u h i; ends = sym e i };
+  graphics = start_back p rest u h c i;
+  definitions = record { functions = functions_all_back p rest u i; opcodes = opcodes_back p rest u i };
+  flags = flags_back p rest u i;
+}
+
+pub usage_back : (p : Prepared) (u : Usage) (rest : List ℕ) → usage_in (state_words p u ++ rest) ≡ u
+usage_back p u rest = rw (div-add-mod' u.steps (2 ^ 32), div-add-mod' u.strays (2 ^ 32)) refl
 
 length_is : (p : Prepared) (u : Usage) (rest : List ℕ) → length (state_words p u ++ rest) ≡ count_of (sizes_of p) + length rest
 length_is p u rest = simp (length-append, length-map, five_each) (omega arith)

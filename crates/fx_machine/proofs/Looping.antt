@@ -20,7 +20,7 @@ use Rattle.fx_machine.specs.Limits.{CALL_LIMIT}
 use Rattle.fx_machine.specs.Machine.{Config, config, Move, Finishes, Stops, Moves, moved_by, answer_from, answer_of}
 use Rattle.fx_machine.specs.Table.{row_at, row_in, settled}
 use Rattle.fx_machine.specs.Configs.{answered, halt_at}
-use Rattle.fx_machine.proofs.Steps.{go_moves, go_stops, go_finishes, go_limit_moves, go_limit_stops, Takes}
+use Rattle.fx_machine.proofs.Steps.{go_none, go_one, go_finishes, Takes}
 use Rattle.fx_machine.proofs.Stepping.{none_left, none_after_end, none_after_halt, left_events, no_events}
 
 module _ (texts : Program → List ℕ) (g : ℕ) (start : Program) (limit : ℕ) (first now : State) (n : ℕ) (items : List Frame)
@@ -56,7 +56,7 @@ module _ (texts : Program → List ℕ) (g : ℕ) (start : Program) (limit : ℕ
         → Err (halt_at texts g start w p cause) ≡ Due
     halted_here cause lt m =
         let e : limit - n ≡ suc (limit - suc n) = omega arith in
-        rw (h, e, go_stops (row_at texts) (limit - suc n) n (reverse items) w p now cause (record { is = m })) refl
+        rw (h, e, go_one (row_at texts) (limit - suc n) n (reverse items) w p now (Stops cause) (record { is = m })) refl
 
     pub stray_here : n < limit → p ≡ length (texts w) → 0 < length items
         → Err (halt_at texts g start w p StrayEnd) ≡ Due
@@ -76,8 +76,8 @@ module _ (texts : Program → List ℕ) (g : ℕ) (start : Program) (limit : ℕ
     limit_by : (K : List Frame) (m : Move) → moved_by (row_at texts w p now) K w ≡ m → (m ≡ Finishes → ⊥)
         → answer_from (row_at texts) 0 n (config K w p now) ≡ Exhausted w p
     limit_by K Finishes e none = absurd (none refl)
-    limit_by K (Stops c) e none = go_limit_stops (row_at texts) n K w p now c (record { is = e })
-    limit_by K (Moves d) e none = go_limit_moves (row_at texts) n K w p now d (record { is = e })
+    limit_by K (Stops c) e none = go_none (row_at texts) n K w p now (Stops c) (record { is = e })
+    limit_by K (Moves d) e none = go_none (row_at texts) n K w p now (Moves d) (record { is = e })
 
     finishes_only : (K : List Frame) → moved_by (row_at texts w p now) K w ≡ Finishes → (p ≡ length (texts w)) × (length K ≡ 0)
     unfolding row_in
@@ -105,7 +105,7 @@ module _ (texts : Program → List ℕ) (g : ℕ) (start : Program) (limit : ℕ
     stepped d lt m =
         let e : limit - n ≡ suc (limit - suc n) = omega arith in
         let q : n + 1 ≡ suc n = omega arith in
-        let x = go_moves (row_at texts) (limit - suc n) n (reverse items) w p now d (record { is = m }) in
+        let x = go_one (row_at texts) (limit - suc n) n (reverse items) w p now (Moves d) (record { is = m }) in
         rw q (h ∙ rw e x)
 
     -- ---- what is left for a watcher

@@ -3,8 +3,8 @@
 use Rattle.std.proofs.Common.{◌≡◌, ◌≢◌, ℕ, ◌+◌, ◌<◌, ◌≤◌, Bool, true, false, List, length, Result, inl, inr, refl, arith}
 use Rattle.std.proofs.lemmas.Bool.{ne_eqb, le-leb, lt-leb}
 use Rattle.std.proofs.lemmas.Bool.Decides.{leb_tells}
-use Rattle.fx_code.specs.Chain.{IsWhole, opcode_at, next_address, size_at}
-use Rattle.fx_code.proofs.Onward.{not_inside}
+use Rattle.fx_code.specs.Chain.{opcode_at, next_address, size_at}
+use Rattle.fx_code.proofs.Onward.{next_above}
 use Rattle.fx_machine.specs.declared.program.Program.{Program}
 use Rattle.fx_machine.specs.declared.halt.Cause.{Cause}
 use Rattle.fx_machine.specs.declared.halt.Cause.TheVariants.{CodeEnd}
@@ -35,9 +35,9 @@ pub row_there : (w : Program) (p : ℕ) (s : State) (x : Result (Action × State
 row_there w p s x code op h eo m = rw (m, eo) (there_by (is_push (opcode_at code p)) w p s code refl h)
 
 -- and where its data are cut
-pub row_cut : (w : Program) (p : ℕ) (s : State) (code : List ℕ) → p ≢ length code → ¬ (IsWhole code p)
+pub row_cut : (w : Program) (p : ℕ) (s : State) (code : List ℕ) → p ≢ length code → length code ≤ p
     → Fails CodeEnd ≡ row_in code w p s
 unfolding row_in
 row_cut w p s code n h =
-    let past : length code < next_address code p = not_inside code p h in
+    let past : length code < next_address code p = omega (arith, next_above code p) in
     rw (ne_eqb p (length code) n, lt-leb (next_address code p) (length code) past) refl

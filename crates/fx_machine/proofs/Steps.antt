@@ -17,6 +17,7 @@ use Rattle.fx_machine.specs.Limits.{CALL_LIMIT}
 use Rattle.fx_machine.specs.Runs.{ends_inside, fails, goes, returns, returns_outside, calls, too_deep, done, turn, last_turn}
 use Rattle.fx_machine.specs.Runs.{Verdict, Finished, Halted, Exhausted, Answer, finished, faulted, stopped}
 use Rattle.fx_machine.specs.Machine.{Config, config, turned, Move, Finishes, Stops, Moves, moved_by, answer_from, answer_of}
+use Rattle.fx_machine.specs.Machine.{verdict_by, verdict_at_limit}
 use Rattle.fx_machine.specs.Events.{Step, steps_from, steps_of, Counts, LeadsTo}
 use Rattle.fx_machine.proofs.Stepping.{none_left, none_after_end, none_after_halt, one_step}
 
@@ -30,31 +31,20 @@ module _ (row : Program → ℕ → State → Effect) where
   pub record Takes (K : List Frame) (w : Program) (p : ℕ) (s : State) (m : Move) : Type 0 where
     pub is : moved_by (row w p s) K w ≡ m
 
-  pub go_moves : (left n : ℕ) (K : List Frame) (w : Program) (p : ℕ) (s : State) (d : Config) → Takes K w p s (Moves d)
-      → go (suc left) n (config K w p s) ≡ go left (suc n) d
+  pub go_none : (n : ℕ) (K : List Frame) (w : Program) (p : ℕ) (s : State) (m : Move) → Takes K w p s m
+      → go zero n (config K w p s) ≡ verdict_at_limit n w p s m
   unfolding answer_from
-  go_moves left n K w p s d e = rw e.is refl
+  go_none n K w p s m e = rw e.is refl
 
-  pub go_stops : (left n : ℕ) (K : List Frame) (w : Program) (p : ℕ) (s : State) (c : Cause) → Takes K w p s (Stops c)
-      → go (suc left) n (config K w p s) ≡ Halted c w p
+  pub go_one : (left n : ℕ) (K : List Frame) (w : Program) (p : ℕ) (s : State) (m : Move) → Takes K w p s m
+      → go (suc left) n (config K w p s) ≡ verdict_by (λ to. go left (suc n) to) n w p s m
   unfolding answer_from
-  go_stops left n K w p s c e = rw e.is refl
+  go_one left n K w p s m e = rw e.is refl
 
   pub go_finishes : (left n : ℕ) (K : List Frame) (w : Program) (p : ℕ) (s : State) → Takes K w p s Finishes
       → go left n (config K w p s) ≡ Finished n s
-  unfolding answer_from
-  go_finishes zero n K w p s e = rw e.is refl
-  go_finishes (suc left) n K w p s e = rw e.is refl
-
-  pub go_limit_moves : (n : ℕ) (K : List Frame) (w : Program) (p : ℕ) (s : State) (d : Config) → Takes K w p s (Moves d)
-      → go zero n (config K w p s) ≡ Exhausted w p
-  unfolding answer_from
-  go_limit_moves n K w p s d e = rw e.is refl
-
-  pub go_limit_stops : (n : ℕ) (K : List Frame) (w : Program) (p : ℕ) (s : State) (c : Cause) → Takes K w p s (Stops c)
-      → go zero n (config K w p s) ≡ Exhausted w p
-  unfolding answer_from
-  go_limit_stops n K w p s c e = rw e.is refl
+  go_finishes zero n K w p s e = go_none n K w p s Finishes e
+  go_finishes (suc left) n K w p s e = go_one left n K w p s Finishes e
 
   -- ---- from runs to the function
 
@@ -67,7 +57,7 @@ module _ (row : Program → ℕ → State → Effect) where
 
   skip_one : {K : List Frame} {w : Program} {p : ℕ} {s : State} {d : Config} → Takes K w p s (Moves d) → Skips (config K w p s) 1 d
   skip_one {K = K} {w = w} {p = p} {s = s} {d = d} e =
-      record { skips = λ k m. rw (one-add k, one-add m) (go_moves k m K w p s d e) }
+      record { skips = λ k m. rw (one-add k, one-add m) (go_one k m K w p s (Moves d) e) }
 
   skip_then : {c d e : Config} {m n : ℕ} → Skips c m d → Skips d n e → Skips c (m + n) e
   skip_then {m = m} {n = n} x y = record {
@@ -119,7 +109,7 @@ module _ (row : Program → ℕ → State → Effect) where
   comes_fault : {K : List Frame} {w : Program} {p : ℕ} {s : State} {c : Cause} → Takes K w p s (Stops c)
       → Comes (config K w p s) 0 K s (Faulted c w p)
   unfolding Comes
-  comes_fault {K = K} {w = w} {p = p} {s = s} {c = c} e k m = rw (zero-add (suc k)) (go_stops k m K w p s c e)
+  comes_fault {K = K} {w = w} {p = p} {s = s} {c = c} e k m = rw (zero-add (suc k)) (go_one k m K w p s (Stops c) e)
 
   -- what an effect takes
   takes : {K : List Frame} {w : Program} {p : ℕ} {s : State} {x : Effect} {m : Move} → row w p s ≡ x → moved_by x K w ≡ m
@@ -257,16 +247,16 @@ module _ (row : Program → ℕ → State → Effect) where
   came_none : (n : ℕ) (K : List Frame) (w : Program) (p : ℕ) (s : State) (m : Move) → Takes K w p s m → Leads K w p s m
       → Came zero (config K w p s) n (go zero n (config K w p s))
   came_none n K w p s Finishes e l = rw (go_finishes zero n K w p s e) (came_finish zero n K w p s l)
-  came_none n K w p s (Stops c) e l = rw (go_limit_stops n K w p s c e) (came_here K w p s n)
-  came_none n K w p s (Moves d) e l = rw (go_limit_moves n K w p s d e) (came_here K w p s n)
+  came_none n K w p s (Stops c) e l = rw (go_none n K w p s (Stops c) e) (came_here K w p s n)
+  came_none n K w p s (Moves d) e l = rw (go_none n K w p s (Moves d) e) (came_here K w p s n)
 
   came_one : (left n : ℕ) (K : List Frame) (w : Program) (p : ℕ) (s : State) (m : Move) → Takes K w p s m → Leads K w p s m
       → ((d : Config) → Came left d (suc n) (go left (suc n) d))
       → Came (suc left) (config K w p s) n (go (suc left) n (config K w p s))
   unfolding Leads
   came_one left n K w p s Finishes e l more = rw (go_finishes (suc left) n K w p s e) (came_finish (suc left) n K w p s l)
-  came_one left n K w p s (Stops c) e l more = rw (go_stops left n K w p s c e) (came_fault 0 s (omega arith) l)
-  came_one left n K w p s (Moves d) e l more = rw (go_moves left n K w p s d e) (came_step l (more d))
+  came_one left n K w p s (Stops c) e l more = rw (go_one left n K w p s (Stops c) e) (came_fault 0 s (omega arith) l)
+  came_one left n K w p s (Moves d) e l more = rw (go_one left n K w p s (Moves d) e) (came_step l (more d))
 
   came : (left n : ℕ) (c : Config) → Came left c n (go left n c)
   came zero n (config K w p s) =
@@ -317,8 +307,8 @@ module _ (row : Program → ℕ → State → Effect) where
     at_limit : (n : ℕ) (K : List Frame) (v : Program) (p : ℕ) (t : State) (m : Move) → Takes K v p t m
         → (go 0 n (config K v p t) ≡ Exhausted v p) ⊎ (go 0 n (config K v p t) ≡ Finished n t)
     at_limit n K v p t Finishes e = inr (go_finishes zero n K v p t e)
-    at_limit n K v p t (Stops c) e = inl (go_limit_stops n K v p t c e)
-    at_limit n K v p t (Moves d) e = inl (go_limit_moves n K v p t d e)
+    at_limit n K v p t (Stops c) e = inl (go_none n K v p t (Stops c) e)
+    at_limit n K v p t (Moves d) e = inl (go_none n K v p t (Moves d) e)
 
     not_finished : {m : ℕ} {u : State} → ((n : ℕ) (t : State) → n ≤ limit → Runs row w (At 0) 0 s n t Ended → ⊥)
         → Answer row limit w s (Finished m u) → ⊥
@@ -416,17 +406,17 @@ module _ (row : Program → ℕ → State → Effect) where
   counts_one left n K w p s Finishes e l more =
       rw (go_finishes (suc left) n K w p s e, none_after_end row (suc left) K w p s e.is) (omega arith)
   counts_one left n K w p s (Stops c) e l more =
-      rw (go_stops left n K w p s c e, none_after_halt row (suc left) K w p s c e.is) (s, l)
+      rw (go_one left n K w p s (Stops c) e, none_after_halt row (suc left) K w p s c e.is) (s, l)
   counts_one left n K w p s (Moves d) e l more =
-      rw (go_moves left n K w p s d e, one_step row left K w p s d e.is)
+      rw (go_one left n K w p s (Moves d) e, one_step row left K w p s d e.is)
       (counts_more left n K w p s d (length (steps left d)) (go left (suc n) d) l (more d))
 
   counts_none : (n : ℕ) (K : List Frame) (w : Program) (p : ℕ) (s : State) (m : Move) → Takes K w p s m
       → CountsFrom zero n (config K w p s) 0 (go zero n (config K w p s))
   unfolding CountsFrom
   counts_none n K w p s Finishes e = rw (go_finishes zero n K w p s e) (omega arith)
-  counts_none n K w p s (Stops c) e = rw (go_limit_stops n K w p s c e) refl
-  counts_none n K w p s (Moves d) e = rw (go_limit_moves n K w p s d e) refl
+  counts_none n K w p s (Stops c) e = rw (go_none n K w p s (Stops c) e) refl
+  counts_none n K w p s (Moves d) e = rw (go_none n K w p s (Moves d) e) refl
 
   counts : (left n : ℕ) (c : Config) → CountsFrom left n c (length (steps left c)) (go left n c)
   counts zero n (config K w p s) =

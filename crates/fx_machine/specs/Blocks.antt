@@ -24,7 +24,7 @@ use Rattle.fx_machine.specs.Known.{Known, controls_of}
 use Rattle.fx_machine.specs.Words.{number_word, number_in, bit_of, point_words, points_in, function_word, function_in, is_near}
 use Rattle.fx_machine.specs.Words.{AreNumbers, ArePoints}
 
--- how many numbers, points and functions there are
+-- the length of each list that prep left: storage, control values, points of the twilight zone, functions and opcodes
 abbrev pub sizes_of : Prepared → Sizes
 sizes_of p = record {
   storage = length p.storage;

@@ -3,13 +3,13 @@
 //! `specs/Blocks` says which word is what. The first five tell the form of a block, the size and the font; 20 more come before the
 //! lists.
 
-ghost use Rattle.fx_sfnt.specs.Tables.{table_or_empty};
 ghost use Rattle.std.specs.Prelude.{◌≡◌, ◌+◌, ◌*◌, ◌^◌, ◌≤◌, ◌<◌, ◌++◌, OnOk, codes, length, slice_index, unsigned_abs, option_map, FitsSigned};
-ghost use Rattle.std.specs.Int.{w32};
 ghost use Rattle.std.specs.Prelude.{IfSome, IsSome};
+ghost use Rattle.std.specs.Int.{w32};
+ghost use Rattle.fx_sfnt.specs.Tables.{table_or_empty};
 ghost use Rattle.fx_machine.specs.Words.{number_in};
 ghost use Rattle.fx_machine.specs.Blocks.{AreParts, count_of, sizes_in, start_in, flags_in, usage_in, checksum_of, has_origin};
-ghost use Rattle.fx_machine.specs.Blocks.{origin_words, after_origin, sizes_words, usage_words, distance_words, width_words, delta_words};
+ghost use Rattle.fx_machine.specs.Blocks.{origin_words, after_origin, usage_words, distance_words, width_words, delta_words};
 ghost use Rattle.fx_machine.specs.Blocks.{start_words, flags_words, IsStart};
 ghost use Rattle.fx_machine.specs.Blocks.{control_in, control_word, type_in, type_word, scan_words};
 

@@ -4,7 +4,7 @@
 //! goes through memory. Those of `opcodes_0x`, `opcodes_7x` and `opcodes_8x` are seldom executed, and are called: the hint to
 //! inline `row` is dropped, with no message, if it would grow very large.
 
-ghost use Rattle.std.specs.Prelude.{◌≡◌, ◌+◌, ◌≤◌};
+ghost use Rattle.std.specs.Prelude.{◌≡◌, ◌+◌};
 ghost use Rattle.fx_machine.specs.Actions.{Does, Leads};
 ghost use Rattle.fx_machine.specs.Table.{relative_row, then_at, row_here, opcodes_0x, opcodes_1x, opcodes_2x, opcodes_3x, opcodes_4x};
 ghost use Rattle.fx_machine.specs.Table.{opcodes_5x, opcodes_6x, opcodes_7x, opcodes_8x};

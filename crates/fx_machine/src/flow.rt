@@ -3,7 +3,7 @@
 //! Each doc has the opcode, the mnemonic, its name in the Apple TrueType Reference Manual ("Instruction set"), what becomes of the
 //! stack, whose top is written last, and what the row sets.
 
-ghost use Rattle.std.specs.Prelude.{◌≡◌, ◌+ℤ◌, pos, length};
+ghost use Rattle.std.specs.Prelude.{◌≡◌, ◌+ℤ◌, pos};
 ghost use Rattle.fx_code.specs.Chain.{stops_at_false, stops_at_else};
 ghost use Rattle.fx_code.specs.Past.{past_of};
 ghost use Rattle.fx_machine.specs.Actions.{acts, Leads};

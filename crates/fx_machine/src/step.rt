@@ -17,6 +17,7 @@ use fx_code::{Code, Targets};
 
 /// Executes the instruction at an address of a program with these bytes; if that faults, the points are as they were.
 #[inline(always)]
+#[tactic(auto, using(crate::proofs::Reading::row_there, crate::proofs::Reading::row_cut))]
 fn execute(
     state: &mut State,
     code: &Code<'_>,

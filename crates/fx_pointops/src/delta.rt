@@ -28,6 +28,7 @@ impl Zones {
     }
 
     /// Moves the points of pairs, the last of the slice first.
+    #[tactic(auto, using(crate::proofs::Looping::looping))]
     fn move_each_at_size(&mut self, g: &GState, form: DeltaForm, ppem: &Ppem, pairs: &[i32])
         ensures { self.new ≡ each_pair (point_delta g.now form ppem.now) (reverse pairs.now) self.old }
     {

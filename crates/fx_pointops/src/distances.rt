@@ -52,6 +52,7 @@ pub fn negative(d: F26) -> F26
 }
 
 /// An exact product of two distances.
+#[tactic(auto, using(fx_gstate::proofs::Products::product_is, fx_gstate::proofs::Products::product_size))]
 pub fn product(a: F26, b: F26) -> i64
     ensures value { result ≡ a *ℤ b }
     ensures bound { unsigned_abs result ≤ 2 ^ 62 }

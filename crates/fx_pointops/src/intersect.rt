@@ -1,6 +1,6 @@
 //! The row that puts a point where two lines cross.
 
-ghost use Rattle.std.specs.Prelude.{◌≡◌, ◌≢◌, ◌≤◌, ◌^◌, pos, ◌+ℤ◌, ◌-ℤ◌, ◌*ℤ◌, unsigned_abs};
+ghost use Rattle.std.specs.Prelude.{◌≡◌, ◌≢◌, ◌≤◌, ◌^◌, pos, ◌+ℤ◌, ◌*ℤ◌, unsigned_abs};
 ghost use Rattle.fx_fixed.specs.Places.{place_sum_of};
 ghost use Rattle.fx_zone.specs.Points.{put};
 ghost use Rattle.fx_pointops.specs.Zones.{on_point};
@@ -12,6 +12,7 @@ use fx_fixed::{F26, Place, near, w32};
 use fx_gstate::GState;
 
 /// The cross product of two differences of places.
+#[tactic(auto, using(crate::proofs::Multiplying::products_difference))]
 fn cross(a: &Place, b: &Place) -> i128
     ensures value { result ≡ cross_of a.now b.now }
     ensures bound { unsigned_abs result ≤ 2 ^ 63 }
@@ -20,6 +21,7 @@ fn cross(a: &Place, b: &Place) -> i128
 }
 
 /// An exact product of a cross product and a coordinate.
+#[tactic(auto, using(crate::proofs::Multiplying::product_is, fx_gstate::proofs::Products::product_size))]
 fn multiple(n: i128, d: F26) -> i128
     requires { unsigned_abs n ≤ 2 ^ 63 }
     ensures value { result ≡ n *ℤ d }

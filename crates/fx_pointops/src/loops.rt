@@ -35,6 +35,7 @@ impl Zones {
     }
 
     /// The steps of a row for each point, the last of the slice first.
+    #[tactic(auto, using(crate::proofs::Looping::looping))]
     pub(crate) fn each(&mut self, g: &GState, step: &LoopStep, points: &[i32])
         ensures { self.new ≡ each (steps_of g.now step.now) (reverse points.now) self.old }
     {

@@ -2,7 +2,7 @@
 
 ghost use Rattle.std.specs.Prelude.{◌≡◌};
 ghost use Rattle.fx_fixed.specs.Places.{origin};
-ghost use Rattle.fx_pointops.specs.Zones.{is_twilight, is_same_zone, index_of, point_of, org_of, cur_of};
+ghost use Rattle.fx_pointops.specs.Zones.{is_twilight, is_same_zone, index_of, org_of, cur_of};
 
 use fx_fixed::Place;
 use fx_gstate::ZonePointer;

@@ -51,17 +51,14 @@ module _ (form : DeltaForm) (g : GState) (ppem : ℕ) where
       rw e (rest_same i a rest s (2 * n)) ∙ sym (as_popped n _)
 
   -- one pair more is done
-  pub pair_next : (s t o : StoreView) (left : ℕ) → 1 ≤ left → 2 ≤ length s.stack → t ≡ control_pair form g ppem s
-      → o ≡ control_pairs form g ppem left s → o ≡ control_pairs form g ppem (left - 1) t
+  pub pair_next : (left : ℕ) (s : StoreView) → 1 ≤ left → 2 ≤ length s.stack
+      → control_pairs form g ppem left s ≡ control_pairs form g ppem (left - 1) (control_pair form g ppem s)
   unfolding control_pair
-  pair_next s t o left l h e i =
+  pair_next left s l h =
       let k : left ≡ suc (left - 1) = omega (arith, l) in
-      i ∙ ap (λ n. control_pairs form g ppem n s) k ∙ as_popped (suc (left - 1)) s ∙ from_list s.stack s (left - 1) h
-      ∙ ap (control_pairs form g ppem (left - 1)) (sym e)
+      ap (λ n. control_pairs form g ppem n s) k ∙ as_popped (suc (left - 1)) s ∙ from_list s.stack s (left - 1) h
 
   -- no pair is left
-  pub pairs_done : (s o : StoreView) (left : ℕ) → left ≤ 0 → o ≡ control_pairs form g ppem left s → s ≡ o
+  pub pairs_done : (left : ℕ) (s : StoreView) → left ≤ 0 → control_pairs form g ppem left s ≡ s
   unfolding each_pair
-  pairs_done s o left l i =
-      let z : left ≡ 0 = omega (arith, l) in
-      sym (i ∙ ap (λ n. control_pairs form g ppem n s) z ∙ as_popped 0 s)
+  pairs_done left s l = let z : left ≡ 0 = omega (arith, l) in ap (λ n. control_pairs form g ppem n s) z ∙ as_popped 0 s

@@ -32,13 +32,21 @@ taken xs a n h = ap (take n) (stack_parted xs a n) ∙ take_at _ _ n (length_top
 
 -- ---- what the calls read and leave
 
+length_used : (xs : List ℤ) (d : ℕ) → d ≤ length xs → length (reverse (take d xs)) ≡ d
+length_used xs d h = length-reverse (take d xs) ∙ length-take-le d xs h
+
 -- n numbers fewer
-pub dropped_at : (xs : List ℤ) (d n : ℕ) → n ≤ d → d ≤ length xs → reverse (take (d - n) xs) ≡ drop n (reverse (take d xs))
-dropped_at xs d n h k = let e : d - n + n ≡ d = omega arith in sym (rw e at (dropped xs (d - n) n (omega arith)))
+pub dropped_at : (xs : List ℤ) (d n : ℕ) → n ≤ length (reverse (take d xs)) → d ≤ length xs
+    → reverse (take (d - n) xs) ≡ drop n (reverse (take d xs))
+dropped_at xs d n h k =
+    let l = length_used xs d k in
+    let e : d - n + n ≡ d = omega arith in sym (rw e at (dropped xs (d - n) n (omega arith)))
 
 -- the top n numbers, the deepest first
-pub top_at : (xs : List ℤ) (d n : ℕ) → n ≤ d → d ≤ length xs → slice_range xs (d - n) d ≡ reverse (take n (reverse (take d xs)))
+pub top_at : (xs : List ℤ) (d n : ℕ) → n ≤ length (reverse (take d xs)) → d ≤ length xs
+    → slice_range xs (d - n) d ≡ reverse (take n (reverse (take d xs)))
 top_at xs d n h k =
+    let l = length_used xs d k in
     let e : d - n + n ≡ d = omega arith in
     let f : d - (d - n) ≡ n = omega arith in
     rw f (sym (ap reverse (rw e at (taken xs (d - n) n (omega arith))) ∙ reverse-reverse (take n (drop (d - n) xs))))
@@ -135,9 +143,9 @@ module _ (xs : List ℤ) (a k d : ℕ) (e : a + (k + 1) ≡ d) (m : d ≤ length
       ∙ ap (λ (n : ℕ). moved_up n (reverse (take a xs ++ x ∷ above))) length_above
       ∙ ap (λ (l : List ℤ). moved_up k (reverse l)) (sym cells_are)
 
-pub moved_at : (xs : List ℤ) (d k : ℕ) → k < d → d ≤ length xs
+pub moved_at : (xs : List ℤ) (d k : ℕ) → k < length (reverse (take d xs)) → d ≤ length xs
     → reverse (take d (rotated_of (d - 1 - k) d xs)) ≡ moved_up k (reverse (take d xs))
-moved_at xs d k h m = moved_from xs (d - 1 - k) k d (omega arith) m
+moved_at xs d k h m = let l = length_used xs d m in moved_from xs (d - 1 - k) k d (omega arith) m
 
 -- ---- numbers of a table
 

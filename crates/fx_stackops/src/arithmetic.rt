@@ -144,6 +144,7 @@ fn product(a: i32, b: i32) -> i32
 }
 
 /// The exact product, in 1/4096.
+#[tactic(auto, using(fx_gstate::proofs::Products::product_is, fx_gstate::proofs::Products::product_size))]
 fn exact_product(a: i32, b: i32) -> i64
     ensures value { result ≡ a *ℤ b }
     ensures size { unsigned_abs result ≤ 2 ^ 62 }
@@ -160,7 +161,6 @@ fn quotient(a: i32, b: i32) -> i32
 }
 
 /// The quotient of two numbers in 26.6, without its fraction, before it is made 32 bits.
-#[tactic(auto, unfolding(fx_fixed::specs::Numbers::cut_of))]
 fn exact_quotient(a: i32, b: i32) -> i64
     requires { b ≢ pos 0 }
     ensures { result ≡ cut_of (pos 64 *ℤ a) b }

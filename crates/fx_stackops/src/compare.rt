@@ -1,6 +1,4 @@
 //! Comparisons and logic.
-
-ghost use Rattle.std.specs.Prelude.{◌≡◌};
 ghost use Rattle.fx_stackops.specs.Store.{Does};
 ghost use Rattle.fx_stackops.specs.Rows.{lt_row, lteq_row, gt_row, gteq_row, eq_row, neq_row, and_row, or_row, not_row, odd_row, even_row};
 

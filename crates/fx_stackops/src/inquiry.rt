@@ -1,6 +1,4 @@
 //! Questions about the rasterizer, and instructions that only pop.
-
-ghost use Rattle.std.specs.Prelude.{◌≡◌};
 ghost use Rattle.fx_stackops.specs.Store.{Does};
 ghost use Rattle.fx_stackops.specs.Rows.{mppem_row, mps_row, getinfo_row, ignored_row};
 

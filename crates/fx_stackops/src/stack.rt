@@ -1,8 +1,8 @@
 //! Instructions that arrange the stack.
 
-ghost use Rattle.std.specs.Prelude.{◌≡◌, ◌≤◌, ◌+◌, ◌++◌, length, reverse, OnErr, Ok};
+ghost use Rattle.std.specs.Prelude.{◌≡◌, OnErr, Ok};
 ghost use Rattle.fx_code.specs.Numbers.{numbers};
-ghost use Rattle.fx_stackops.specs.Store.{HasSizes, Does};
+ghost use Rattle.fx_stackops.specs.Store.{Does};
 ghost use Rattle.fx_stackops.specs.Rows.{dup_row, pop_row, clear_row, swap_row, depth_row, cindex_row, mindex_row, push_row, roll_row};
 
 use crate::fault::StackFault;

@@ -4,7 +4,7 @@ ghost use Rattle.std.specs.Prelude.{◌≡◌, ◌+◌, ◌*◌, ◌<◌, ◌≤
 ghost use Rattle.std.specs.Prelude.{OnOk, OnErr, Ok};
 ghost use Rattle.fx_fixed.specs.Chain.{map_ok};
 ghost use Rattle.fx_code.specs.Numbers.{numbers};
-ghost use Rattle.fx_stackops.specs.Table.{AreNumbers, read_of, written_of, stray_of};
+ghost use Rattle.fx_stackops.specs.Table.{read_of, written_of, stray_of};
 ghost use Rattle.fx_stackops.specs.Store.{one, two, two_from, three, index_of, element_of, moved_up, top_numbers};
 ghost use Rattle.fx_stackops.specs.Store.{pushed, with_stack, with_strays, HasSizes, Does};
 ghost use Rattle.fx_stackops.specs.Store.{restarted, five, with_rest, with_rest_two, with_rest_three, with_rest_five};
@@ -132,6 +132,7 @@ impl Store {
     }
 
     /// The top numbers of the stack, the deepest first, which are there.
+    #[tactic(auto, using(crate::proofs::Stacks::top_at))]
     pub fn top_there(&self, count: u32) -> &[i32]
         requires { count ≤ length self.now.stack }
         ensures { result.now ≡ reverse (take count self.now.stack) }
@@ -167,6 +168,7 @@ impl Store {
     }
 
     /// Pops numbers that are there.
+    #[tactic(auto, using(crate::proofs::Stacks::dropped_at))]
     pub fn drop_top(&mut self, count: u32)
         requires { count ≤ length self.old.stack }
         ensures { self.new ≡ with_stack (drop count self.old.stack) self.old }
@@ -213,6 +215,7 @@ impl Store {
     }
 
     /// Moves the number below `index` others to the top.
+    #[tactic(auto, using(crate::proofs::Stacks::moved_at))]
     pub fn move_up(&mut self, index: usize)
         requires { index < length self.old.stack }
         ensures { self.new ≡ with_stack (moved_up index self.old.stack) self.old }

@@ -75,6 +75,7 @@ impl Store {
     }
 
     /// Pops pairs that are there, and moves the control values whose arguments act.
+    #[tactic(auto, using(crate::proofs::Pairs::pair_next, crate::proofs::Pairs::pairs_done))]
     fn move_controls(&mut self, form: DeltaForm, g: &GState, ppem: Ppem, pairs: u32)
         requires { 2 * pairs ≤ length self.old.stack }
         ensures value { self.new ≡ control_pairs form g.now ppem pairs self.old }

@@ -1,124 +1,97 @@
 -- A loop that changes the points of a range, each where it is.
 -- It serves the shifts and the flags of ranges of points.
-use Rattle.std.proofs.Common.{◌≡◌, ◌≢◌, refl, sym, ap, ◌∙◌, arith, ℕ, zero, suc, ◌+◌, ◌<◌, ◌≤◌, max, Bool, true, false, ◌&&◌}
-use Rattle.std.proofs.Common.{if◌then◌else◌, List, [], ◌∷◌, length, get_or, set}
-use Rattle.std.specs.Prelude.{nat_eq, nat_le, nat_lt}
-use Rattle.std.proofs.Math.Bool.{and-true}
-use Rattle.std.proofs.lemmas.Bool.{lt-ltb, le-ltb, ltb-true, ltb-false, le-leb, leb-true, eqb-true, eqb-false}
+use Rattle.std.proofs.Common.{◌≡◌, refl, ap, ◌∙◌, arith, ℕ, zero, suc, ◌+◌, ◌<◌, ◌≤◌, Bool, true, false, ◌&&◌, not}
+use Rattle.std.proofs.Common.{if◌then◌else◌, List, [], ◌∷◌, length, get_or, set, Option, add-one}
+use Rattle.std.specs.Prelude.{nat_le}
+use Rattle.std.proofs.lemmas.Bool.{lt-ltb, le-ltb, le-leb, lt-leb}
 use Rattle.fx_zone.specs.declared.point.Point.{Point}
-use Rattle.fx_zone.specs.Figures.{each_changed, in_range}
+use Rattle.fx_zone.specs.Figures.{each_changed, in_range, in_range_without, is_number}
 
--- tests that agree on all numbers from n on choose the same points
-pub same_each : (f g : ℕ → Bool) (change : Point → Point) (n : ℕ) (xs : List Point) → ((m : ℕ) → n ≤ m → f m ≡ g m)
-    → each_changed f change n xs ≡ each_changed g change n xs
-unfolding each_changed
-same_each f g change n [] h = refl
-same_each f g change n (x ∷ xs) h =
-    let s : each_changed f change (suc n) xs ≡ each_changed g change (suc n) xs =
-    same_each f g change (suc n) xs (λ m l. h m (omega (arith, l))) in
-    rw (h n (omega arith), s) refl
+-- ---- the numbers of a range
 
--- a test that chooses none
-pub none_changed : (f : ℕ → Bool) (change : Point → Point) (n : ℕ) (xs : List Point) → ((m : ℕ) → f m ≡ false)
-    → each_changed f change n xs ≡ xs
-unfolding each_changed
-none_changed f change n [] h = refl
-none_changed f change n (x ∷ xs) h = rw (h n, none_changed f change (suc n) xs h) refl
+-- a test that chooses none before first, and none from past on
+pub record Chooses (t : ℕ → Bool) (first past : ℕ) : Type 0 where
+  pub before : (m : ℕ) → m < first → t m ≡ false
+  pub after : (m : ℕ) → past ≤ m → t m ≡ false
 
--- one number more is chosen
-pub one_more : (f g : ℕ → Bool) (change : Point → Point) (n : ℕ) (xs : List Point) (k m : ℕ) (p : Point) → k < length xs
-    → m ≡ n + k → f m ≡ false → g m ≡ true → ((i : ℕ) → i ≢ m → f i ≡ g i) →
-    set (each_changed f change n xs) k (change (get_or (each_changed f change n xs) k p)) ≡ each_changed g change n xs
-unfolding each_changed
-one_more f g change n [] k m p h e a b o = absurd (omega (arith, h))
-one_more f g change n (x ∷ xs) zero m p h e a b o =
-    let s : m ≡ n = omega (arith, e) in
-    let same : each_changed f change (suc n) xs ≡ each_changed g change (suc n) xs =
-    same_each f g change (suc n) xs (λ i l. o i (λ (z : i ≡ m). omega (arith, l, s, z))) in
-    let off : f n ≡ false = rw s at a in
-    let yes : g n ≡ true = rw s at b in
-    rw (off, yes, same) refl
-one_more f g change n (x ∷ xs) (suc k) m p h e a b o =
-    let q : k < length xs = omega (arith, h) in
-    let s : m ≡ suc n + k = omega (arith, e) in
-    let head : f n ≡ g n = o n (λ (z : n ≡ m). omega (arith, e, z)) in
-    rw head (ap (λ l. (if g n then change x else x) ∷ l) (one_more f g change (suc n) xs k m p q s a b o))
+and_false : (b : Bool) → (b && false) ≡ false
+and_false true = refl
+and_false false = refl
 
--- ---- ranges
+pub range_chooses : (first past : ℕ) → Chooses (in_range first past) first past
+range_chooses first past = record {
+  before = λ m h. rw (lt-leb first m h) refl;
+  after = λ m h. rw (le-ltb m past h) (and_false (nat_le first m));
+}
 
-by_bool : {C : Type 0} (b : Bool) → (b ≡ true → C) → (b ≡ false → C) → C
-by_bool true t f = t refl
-by_bool false t f = f refl
+pub without_chooses : (except : Option ℕ) (first past : ℕ) → Chooses (in_range_without except first past) first past
+without_chooses except first past = record {
+  before = λ m h. rw (lt-leb first m h) refl;
+  after = λ m h. rw (le-ltb m past h, and_false (nat_le first m)) refl;
+}
 
-by_equal : {C : Type 0} (m n : ℕ) → (m ≡ n → C) → (m ≢ n → C) → C
-by_equal m n f g = by_bool (nat_eq m n) (λ t. f (eqb-true m n t)) (λ t. g (eqb-false m n t))
+pub range_inside : (first past m : ℕ) → first ≤ m → m < past → in_range first past m ≡ true
+range_inside first past m h k = rw (le-leb first m h, lt-ltb m past k) refl
 
-lt_same : (m a b : ℕ) → (m < a → m < b) → (a ≤ m → b ≤ m) → nat_lt m a ≡ nat_lt m b
-lt_same m a b f g = by_bool (nat_lt m a)
-    (λ t. t ∙ sym (lt-ltb m b (f (ltb-true m a t))))
-    (λ t. t ∙ sym (le-ltb m b (g (ltb-false m a t))))
+pub without_inside : (except : Option ℕ) (first past m : ℕ) (b : Bool) → first ≤ m → m < past → not (is_number m except) ≡ b
+    → in_range_without except first past m ≡ b
+without_inside except first past m b h k e = rw (le-leb first m h, lt-ltb m past k) e
 
-range_empty : (first past m : ℕ) → past ≤ first → in_range first past m ≡ false
-range_empty first past m h = by_bool (nat_le first m)
-    (λ t. rw (t, le-ltb m past (omega (arith, h, leb-true first m t))) refl)
-    (λ t. rw t refl)
+-- ---- the first points of a list, each changed if the test chooses its number
 
-range_next : (first n : ℕ) → first ≤ n → in_range first (n + 1) n ≡ true
-range_next first n h = rw (le-leb first n h, lt-ltb n (n + 1) (omega arith)) refl
+module _ (t : ℕ → Bool) (change : Point → Point) where
+  pub changed_front : ℕ → ℕ → List Point → List Point
+  changed_front zero n xs = xs
+  changed_front (suc k) n [] = []
+  changed_front (suc k) n (x ∷ xs) = (if t n then change x else x) ∷ changed_front k (suc n) xs
 
-range_here : (first n : ℕ) → first ≤ n → in_range first n n ≡ false
-range_here first n h = rw (le-leb first n h, le-ltb n n (omega arith)) refl
+  front_set : (k n m : ℕ) (xs : List Point) (p : Point) → k < length xs → m ≡ n + k → t m ≡ true
+      → set (changed_front k n xs) k (change (get_or (changed_front k n xs) k p)) ≡ changed_front (suc k) n xs
+  unfolding changed_front
+  front_set k n m [] p h e b = absurd (omega (arith, h))
+  front_set zero n m (x ∷ xs) p h e b = let s : m ≡ n = omega (arith, e) in rw (rw s at b) refl
+  front_set (suc k) n m (x ∷ xs) p h e b =
+      ap (λ l. (if t n then change x else x) ∷ l) (front_set k (suc n) m xs p (omega (arith, h)) (omega (arith, e)) b)
 
-range_other : (first n m : ℕ) → m ≢ n → in_range first n m ≡ in_range first (n + 1) m
-range_other first n m o = ap (λ b. nat_le first m && b) (lt_same m n (n + 1) (λ h. omega (arith, h)) (λ h. omega (arith, h, o)))
+  front_skip : (k n m : ℕ) (xs : List Point) → m ≡ n + k → t m ≡ false → changed_front k n xs ≡ changed_front (suc k) n xs
+  unfolding changed_front
+  front_skip zero n m [] e b = refl
+  front_skip zero n m (x ∷ xs) e b = let s : m ≡ n = omega (arith, e) in rw (rw s at b) refl
+  front_skip (suc k) n m [] e b = refl
+  front_skip (suc k) n m (x ∷ xs) e b =
+      ap (λ l. (if t n then change x else x) ∷ l) (front_skip k (suc n) m xs (omega (arith, e)) b)
 
-range_done : (first past n m : ℕ) → first ≤ n → past ≤ n → n ≤ max first past → in_range first n m ≡ in_range first past m
-range_done first past n m f p w = by_bool (nat_le first m)
-    (λ t. let l : first ≤ m = leb-true first m t in
-    ap (λ b. nat_le first m && b) (lt_same m n past (λ h. omega (arith, h, l, w)) (λ h. omega (arith, h, p))))
-    (λ t. rw t refl)
+  front_none : (k n : ℕ) (xs : List Point) → ((m : ℕ) → m < n + k → t m ≡ false) → xs ≡ changed_front k n xs
+  unfolding changed_front
+  front_none zero n xs h = refl
+  front_none (suc k) n [] h = refl
+  front_none (suc k) n (x ∷ xs) h =
+      rw (h n (omega arith)) (ap (λ l. x ∷ l) (front_none k (suc n) xs (λ m l. h m (omega (arith, l)))))
 
--- ---- a range without a number
+  front_all : (k n : ℕ) (xs : List Point) → ((m : ℕ) → n + k ≤ m → t m ≡ false)
+      → changed_front k n xs ≡ each_changed t change n xs
+  unfolding changed_front each_changed
+  front_all zero n [] h = refl
+  front_all zero n (x ∷ xs) h =
+      rw (h n (omega arith)) (ap (λ l. x ∷ l) (front_all zero (suc n) xs (λ m l. h m (omega (arith, l)))))
+  front_all (suc k) n [] h = refl
+  front_all (suc k) n (x ∷ xs) h =
+      ap (λ l. (if t n then change x else x) ∷ l) (front_all k (suc n) xs (λ m l. h m (omega (arith, l))))
 
-abbrev pub chosen : (ℕ → Bool) → ℕ → ℕ → ℕ → Bool
-chosen keeps first past n = in_range first past n && keeps n
+  -- ---- the loop
 
-pub range_begun : (keeps : ℕ → Bool) (change : Point → Point) (first : ℕ) (xs : List Point)
-    → xs ≡ each_changed (chosen keeps first first) change 0 xs
-range_begun keeps change first xs =
-    sym (none_changed (chosen keeps first first) change 0 xs (λ m. rw (range_empty first first m (omega arith)) refl))
+  pub range_begun : (first past : ℕ) (xs : List Point) → Chooses t first past → xs ≡ changed_front first 0 xs
+  range_begun first past xs c = front_none first 0 xs (λ m l. c.before m (omega (arith, l)))
 
-pub range_step : (keeps : ℕ → Bool) (change : Point → Point) (first n : ℕ) (xs ys : List Point) (p v : Point)
-    → ys ≡ each_changed (chosen keeps first n) change 0 xs → first ≤ n → n < length xs → keeps n ≡ true → p ≡ get_or ys n p
-    → v ≡ change p → set ys n v ≡ each_changed (chosen keeps first (n + 1)) change 0 xs
-range_step keeps change first n xs ys p v e h w k g c =
-    let value : v ≡ change (get_or (each_changed (chosen keeps first n) change 0 xs) n p) = c
-    ∙ ap change (g ∙ ap (λ l. get_or l n p) e) in
-    (λ i. set (e i) n (value i))
-    ∙ one_more (chosen keeps first n) (chosen keeps first (n + 1)) change 0 xs n n p w (omega arith)
-    (rw (range_here first n h) refl) (rw (range_next first n h, k) refl)
-    (λ m o. ap (λ b. b && keeps m) (range_other first n m o))
+  pub range_step : (n : ℕ) (xs ys : List Point) (p v : Point) → ys ≡ changed_front n 0 xs → n < length xs → t n ≡ true
+      → p ≡ get_or ys n p → v ≡ change p → set ys n v ≡ changed_front (n + 1) 0 xs
+  range_step n xs ys p v e h b g c =
+      let value : v ≡ change (get_or (changed_front n 0 xs) n p) = c ∙ ap change (g ∙ ap (λ l. get_or l n p) e) in
+      (λ i. set (e i) n (value i)) ∙ rw add-one (front_set n 0 n xs p h (omega arith) b)
 
-skip_at : (keeps : ℕ → Bool) (first n m : ℕ) → first ≤ n → keeps n ≡ false → chosen keeps first n m ≡ chosen keeps first (n + 1) m
-skip_at keeps first n m h k = by_equal m n
-    (λ e. rw (e, range_here first n h, range_next first n h, k) refl)
-    (λ o. ap (λ b. b && keeps m) (range_other first n m o))
+  pub range_skip : (n : ℕ) (xs ys : List Point) → ys ≡ changed_front n 0 xs → t n ≡ false → ys ≡ changed_front (n + 1) 0 xs
+  range_skip n xs ys e b = e ∙ rw add-one (front_skip n 0 n xs (omega arith) b)
 
-pub range_skip : (keeps : ℕ → Bool) (change : Point → Point) (first n : ℕ) (xs ys : List Point)
-    → ys ≡ each_changed (chosen keeps first n) change 0 xs → first ≤ n → keeps n ≡ false
-    → ys ≡ each_changed (chosen keeps first (n + 1)) change 0 xs
-range_skip keeps change first n xs ys e h k = e
-    ∙ same_each (chosen keeps first n) (chosen keeps first (n + 1)) change 0 xs (λ m l. skip_at keeps first n m h k)
-
-pub range_whole : (keeps : ℕ → Bool) (change : Point → Point) (first past n : ℕ) (xs ys : List Point)
-    → ys ≡ each_changed (chosen keeps first n) change 0 xs → first ≤ n → past ≤ n → n ≤ max first past
-    → ys ≡ each_changed (chosen keeps first past) change 0 xs
-range_whole keeps change first past n xs ys e f p w = e
-    ∙ same_each (chosen keeps first n) (chosen keeps first past) change 0 xs
-    (λ m l. ap (λ b. b && keeps m) (range_done first past n m f p w))
-
--- a range with all its numbers
-pub range_all : (change : Point → Point) (first past : ℕ) (xs ys : List Point)
-    → ys ≡ each_changed (chosen (λ n. true) first past) change 0 xs → ys ≡ each_changed (in_range first past) change 0 xs
-range_all change first past xs ys e = e
-    ∙ same_each (chosen (λ n. true) first past) (in_range first past) change 0 xs (λ m l. and-true (in_range first past m))
+  pub range_whole : (first past n : ℕ) (xs ys : List Point) → ys ≡ changed_front n 0 xs → Chooses t first past → past ≤ n
+      → ys ≡ each_changed t change 0 xs
+  range_whole first past n xs ys e c h = e ∙ front_all n 0 xs (λ m l. c.after m (omega (arith, l, h)))

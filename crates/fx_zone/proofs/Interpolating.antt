@@ -23,16 +23,16 @@ use Rattle.fx_zone.specs.Figures.{Figure, first_of, contour_of}
 some_or_none : {C : Type 0} (p : Point) → Some p ≡ None → C
 some_or_none p h = absurd (grind (arith, h))
 
-pub hit : (axis : Axis) (p : Point) (ps : List Point) → is_touched axis p ≡ true → first_touched axis (p ∷ ps) ≡ Some p
+hit : (axis : Axis) (p : Point) (ps : List Point) → is_touched axis p ≡ true → first_touched axis (p ∷ ps) ≡ Some p
 unfolding first_touched
 hit axis p ps h = rw h refl
 
-pub missed : (axis : Axis) (p : Point) (ps : List Point) → is_touched axis p ≡ false
+missed : (axis : Axis) (p : Point) (ps : List Point) → is_touched axis p ≡ false
     → first_touched axis (p ∷ ps) ≡ first_touched axis ps
 unfolding first_touched
 missed axis p ps h = rw h refl
 
-pub none_in_nothing : (axis : Axis) → first_touched axis [] ≡ None
+none_in_nothing : (axis : Axis) → first_touched axis [] ≡ None
 unfolding first_touched
 none_in_nothing axis = refl
 
@@ -77,7 +77,7 @@ missed_behind axis behind p ps h =
     ∙ ap (first_touched axis) (sym (append_assoc behind (reverse ps) (p ∷ [])))
     ∙ missed_last axis (behind ++ reverse ps) p h
 
-pub none_backward : (axis : Axis) (xs : List Point) → first_touched axis xs ≡ None → first_touched axis (reverse xs) ≡ None
+none_backward : (axis : Axis) (xs : List Point) → first_touched axis xs ≡ None → first_touched axis (reverse xs) ≡ None
 none_backward axis [] h = h
 none_backward axis (x ∷ xs) h = by_touch (is_touched axis x)
     (λ t. some_or_none x (sym (hit axis x xs t) ∙ h))
@@ -86,109 +86,67 @@ none_backward axis (x ∷ xs) h = by_touch (is_touched axis x)
 
 -- ---- runs
 
-run_at : (axis : Axis) (p : Point) (ps : List Point) → is_touched axis p ≡ true → untouched_run axis (p ∷ ps) ≡ 0
-unfolding untouched_run
-run_at axis p ps h = rw h refl
-
-run_on : (axis : Axis) (p : Point) (ps : List Point) → is_touched axis p ≡ false
-    → untouched_run axis (p ∷ ps) ≡ suc (untouched_run axis ps)
-unfolding untouched_run
-run_on axis p ps h = rw h refl
-
-run_nil : (axis : Axis) → untouched_run axis [] ≡ 0
-unfolding untouched_run
-run_nil axis = refl
-
-pub run_first : (axis : Axis) (xs : List Point) (d : Point) → untouched_run axis xs < length xs
+run_first : (axis : Axis) (xs : List Point) (d : Point) → untouched_run axis xs < length xs
     → first_touched axis xs ≡ Some (get_or xs (untouched_run axis xs) d)
+unfolding untouched_run first_touched
 run_first axis [] d h = absurd (omega (arith, h))
-run_first axis (x ∷ xs) d h = by_touch (is_touched axis x)
-    (λ t. rw (run_at axis x xs t) (hit axis x xs t))
-    (λ t. let k : untouched_run axis xs < length xs = omega (arith, rw (run_on axis x xs t) at h) in
-    rw (run_on axis x xs t) (missed axis x xs t ∙ run_first axis xs d k))
+run_first axis (x ∷ xs) d h =
+    by_touch (is_touched axis x) (λ t. rw t refl) (λ t. rw t (run_first axis xs d (omega (arith, rw t at h))))
 
-pub run_none : (axis : Axis) (xs : List Point) → length xs ≤ untouched_run axis xs → first_touched axis xs ≡ None
-run_none axis [] h = none_in_nothing axis
-run_none axis (x ∷ xs) h = by_touch (is_touched axis x)
-    (λ t. absurd (omega (arith, rw (run_at axis x xs t) at h)))
-    (λ t. let k : length xs ≤ untouched_run axis xs = omega (arith, rw (run_on axis x xs t) at h) in
-    missed axis x xs t ∙ run_none axis xs k)
+run_none : (axis : Axis) (xs : List Point) → length xs ≤ untouched_run axis xs → first_touched axis xs ≡ None
+unfolding untouched_run first_touched
+run_none axis [] h = refl
+run_none axis (x ∷ xs) h = by_touch (is_touched axis x) (λ t. absurd (omega (arith, rw t at h)))
+    (λ t. rw t (run_none axis xs (omega (arith, rw t at h))))
 
 -- ---- code's loops
 
-take_back : (axis : Axis) (xs : List Point) (k : ℕ) (d : Point) → k < length xs
-    → first_touched axis (reverse (take (suc k) xs)) ≡ first_touched axis (get_or xs k d ∷ reverse (take k xs))
-take_back axis xs k d h = ap (λ l. first_touched axis (reverse l)) (take-suc xs k d h)
-    ∙ ap (first_touched axis) (reverse-append (take k xs) (get_or xs k d ∷ []))
+-- the points before a number, with the last of them first
+last_at : (axis : Axis) (xs : List Point) (left : ℕ) (p : Point) → left ≤ length xs → 0 < left
+    → first_touched axis (reverse xs) ≡ first_touched axis (reverse (take left xs)) → p ≡ get_or xs (left - 1) p
+    → first_touched axis (reverse xs) ≡ first_touched axis (p ∷ reverse (take (left - 1) xs))
+last_at axis xs left p w n s g =
+    let e : left ≡ suc (left - 1) = omega (arith, n) in
+    s ∙ ap (λ n. first_touched axis (reverse (take n xs))) e
+    ∙ ap (λ l. first_touched axis (reverse l)) (take-suc xs (left - 1) p (omega (arith, w, n)))
+    ∙ ap (first_touched axis) (reverse-append (take (left - 1) xs) (get_or xs (left - 1) p ∷ [])
+    ∙ ap (λ q. q ∷ reverse (take (left - 1) xs)) (sym g))
 
 pub last_here : (axis : Axis) (xs : List Point) (left : ℕ) (p : Point) → left ≤ length xs → 0 < left
     → first_touched axis (reverse xs) ≡ first_touched axis (reverse (take left xs)) → p ≡ get_or xs (left - 1) p
     → is_touched axis p ≡ true → Some p ≡ first_touched axis (reverse xs)
-last_here axis xs left p w n s g t =
-    let k : left - 1 < length xs = omega (arith, w, n) in
-    let e : left ≡ suc (left - 1) = omega (arith, n) in
-    ap Some g
-    ∙ sym (s ∙ ap (λ n. first_touched axis (reverse (take n xs))) e ∙ take_back axis xs (left - 1) p k
-    ∙ hit axis (get_or xs (left - 1) p) (reverse (take (left - 1) xs)) (sym (ap (is_touched axis) g) ∙ t))
+last_here axis xs left p w n s g t = sym (last_at axis xs left p w n s g ∙ hit axis p (reverse (take (left - 1) xs)) t)
 
 pub last_before : (axis : Axis) (xs : List Point) (left : ℕ) (p : Point) → left ≤ length xs → 0 < left
     → first_touched axis (reverse xs) ≡ first_touched axis (reverse (take left xs)) → p ≡ get_or xs (left - 1) p
     → is_touched axis p ≡ false → first_touched axis (reverse xs) ≡ first_touched axis (reverse (take (left - 1) xs))
-last_before axis xs left p w n s g t =
-    let k : left - 1 < length xs = omega (arith, w, n) in
-    let e : left ≡ suc (left - 1) = omega (arith, n) in
-    s ∙ ap (λ n. first_touched axis (reverse (take n xs))) e ∙ take_back axis xs (left - 1) p k
-    ∙ missed axis (get_or xs (left - 1) p) (reverse (take (left - 1) xs)) (sym (ap (is_touched axis) g) ∙ t)
+last_before axis xs left p w n s g t = last_at axis xs left p w n s g ∙ missed axis p (reverse (take (left - 1) xs)) t
 
 pub last_none : (axis : Axis) (xs : List Point) (left : ℕ) → left ≡ 0
     → first_touched axis (reverse xs) ≡ first_touched axis (reverse (take left xs)) → None ≡ first_touched axis (reverse xs)
 last_none axis xs left z s = sym (rw z at s ∙ none_in_nothing axis)
 
--- the run of untouched points from the first on, at a number within it
-pub first_run_here : (axis : Axis) (xs : List Point) (k : ℕ) (p : Point) → k < length xs
-    → untouched_run axis xs ≡ k + untouched_run axis (drop k xs) → p ≡ get_or xs k p
-    → is_touched axis p ≡ true → k ≡ untouched_run axis xs
-first_run_here axis xs k p h i g t =
-    let e = ap (untouched_run axis) (drop-cons xs k p h)
-    ∙ run_at axis (get_or xs k p) (drop (suc k) xs) (sym (ap (is_touched axis) g) ∙ t) in omega (arith, e, i)
+-- the run of untouched points from a number on: at a touched point, at another one, and past the last one
+pub run_zero : (axis : Axis) (xs : List Point) (k : ℕ) (d p : Point) → k < length xs → p ≡ get_or xs k d
+    → is_touched axis p ≡ true → untouched_run axis (drop k xs) ≡ 0
+unfolding untouched_run
+run_zero axis xs k d p h g t = rw (drop-cons xs k d h, ← g, t) refl
 
-pub first_run_more : (axis : Axis) (xs : List Point) (k : ℕ) (p : Point) → k < length xs
-    → untouched_run axis xs ≡ k + untouched_run axis (drop k xs) → p ≡ get_or xs k p
-    → is_touched axis p ≡ false → untouched_run axis xs ≡ k + 1 + untouched_run axis (drop (k + 1) xs)
-first_run_more axis xs k p h i g t =
-    let e = ap (untouched_run axis) (drop-cons xs k p h)
-    ∙ run_on axis (get_or xs k p) (drop (suc k) xs) (sym (ap (is_touched axis) g) ∙ t) in
-    let s : k + 1 ≡ suc k = omega arith in
-    rw s (omega (arith, e, i))
+pub run_next : (axis : Axis) (xs : List Point) (k : ℕ) (d p : Point) → k < length xs → p ≡ get_or xs k d
+    → is_touched axis p ≡ false → untouched_run axis (drop k xs) ≡ suc (untouched_run axis (drop (k + 1) xs))
+unfolding untouched_run
+run_next axis xs k d p h g t = let s : k + 1 ≡ suc k = omega arith in rw (s, drop-cons xs k d h, ← g, t) refl
 
-pub first_run_all : (axis : Axis) (xs : List Point) (k : ℕ) → k ≡ length xs
-    → untouched_run axis xs ≡ k + untouched_run axis (drop k xs) → length xs ≡ untouched_run axis xs
-first_run_all axis xs k h i =
-    let e = ap (untouched_run axis) (drop_all k xs (omega (arith, h))) ∙ run_nil axis in omega (arith, e, i, h)
+pub run_over : (axis : Axis) (xs : List Point) (k : ℕ) → length xs ≤ k → untouched_run axis (drop k xs) ≡ 0
+unfolding untouched_run
+run_over axis xs k h = rw (drop_all k xs h) refl
 
 -- the run from a point on, at a number within it: that many points from there are untouched
 abbrev pub Untouched : Axis → List Point → ℕ → ℕ → Type 0
 Untouched axis xs start k = untouched_run axis (drop start xs) ≡ k - start + untouched_run axis (drop k xs)
 
-run_here : (axis : Axis) (xs : List Point) (start k : ℕ) (d : Point) → k < length xs → Untouched axis xs start k
-    → is_touched axis (get_or xs k d) ≡ true → k - start ≡ untouched_run axis (drop start xs)
-run_here axis xs start k d h i t =
-    let e = ap (untouched_run axis) (drop-cons xs k d h) ∙ run_at axis (get_or xs k d) (drop (suc k) xs) t in omega (arith, e, i)
-
-pub run_more : (axis : Axis) (xs : List Point) (start k : ℕ) (d : Point) → start ≤ k → k < length xs → Untouched axis xs start k
-    → is_touched axis (get_or xs k d) ≡ false → Untouched axis xs start (k + 1)
-run_more axis xs start k d l h i t =
-    let e = ap (untouched_run axis) (drop-cons xs k d h) ∙ run_on axis (get_or xs k d) (drop (suc k) xs) t in
-    let s : k + 1 ≡ suc k = omega arith in
-    rw s (omega (arith, e, i, l))
-
 pub run_none_yet : (axis : Axis) (xs : List Point) (k : ℕ) → Untouched axis xs k k
 run_none_yet axis xs k = omega arith
-
-run_all : (axis : Axis) (xs : List Point) (start k : ℕ) → k ≡ length xs → Untouched axis xs start k
-    → length xs - start ≡ untouched_run axis (drop start xs)
-run_all axis xs start k h i =
-    let e = ap (untouched_run axis) (drop_all k xs (omega (arith, h))) ∙ run_nil axis in omega (arith, e, i, h)
 
 -- ---- the sweep: with the contour's first touched point, and the last one so far
 
@@ -198,20 +156,10 @@ swept axis first before (p ∷ ps) =
     if is_touched axis p then p ∷ swept axis first p ps
     else between axis before (or_point (first_touched axis ps) first) p ∷ swept axis first before ps
 
-swept_nil : (axis : Axis) (first before : Point) → swept axis first before [] ≡ []
-unfolding swept
-swept_nil axis first before = refl
-
 swept_at : (axis : Axis) (first before p : Point) (ps : List Point) → is_touched axis p ≡ true
     → swept axis first before (p ∷ ps) ≡ p ∷ swept axis first p ps
 unfolding swept
 swept_at axis first before p ps h = rw h refl
-
-swept_on : (axis : Axis) (first before p : Point) (ps : List Point) → is_touched axis p ≡ false
-    → swept axis first before (p ∷ ps) ≡ between axis before (or_point (first_touched axis ps) first) p ∷ swept axis first before
-    ps
-unfolding swept
-swept_on axis first before p ps h = rw h refl
 
 -- the definition, with the points before each one the nearest first
 zipped : Axis → List Point → List Point → List Point
@@ -228,21 +176,6 @@ each_zipped axis before (p ∷ ps) =
     let r : reverse (before ++ (p ∷ [])) ≡ p ∷ reverse before = reverse-append before (p ∷ []) in
     rw (reverse-reverse before)
     (ap (λ l. interpolated axis before p ps ∷ l) (each_zipped axis (before ++ (p ∷ [])) ps ∙ ap (λ l. zipped axis l ps) r))
-
-each_nil : (axis : Axis) (behind : List Point) → zipped axis behind [] ≡ []
-unfolding zipped
-each_nil axis behind = refl
-
-each_at : (axis : Axis) (behind : List Point) (p : Point) (ps : List Point) → is_touched axis p ≡ true
-    → zipped axis behind (p ∷ ps) ≡ p ∷ zipped axis (p ∷ behind) ps
-unfolding zipped
-each_at axis behind p ps h = rw h refl
-
-each_on : (axis : Axis) (behind : List Point) (p : Point) (ps : List Point) (b a : Option Point) → is_touched axis p ≡ false
-    → first_touched axis (behind ++ reverse ps) ≡ b → first_touched axis (ps ++ reverse behind) ≡ a
-    → zipped axis behind (p ∷ ps) ≡ between_any axis b a p ∷ zipped axis (p ∷ behind) ps
-unfolding zipped
-each_on axis behind p ps b a h e g = rw (h, e, g) refl
 
 passed : (behind : List Point) (p : Point) (ps : List Point) → reverse (p ∷ behind) ++ ps ≡ reverse behind ++ (p ∷ ps)
 passed behind p ps = ap (λ l. l ++ ps) (reverse_cons p behind) ∙ append_assoc (reverse behind) (p ∷ []) ps
@@ -264,20 +197,17 @@ ahead_is axis first p ps behind t h =
 each_swept : (axis : Axis) (first before : Point) (behind ahead : List Point)
     → first_touched axis (behind ++ reverse ahead) ≡ Some before → first_touched axis (reverse behind ++ ahead) ≡ Some first
     → zipped axis behind ahead ≡ swept axis first before ahead
-each_swept axis first before behind [] h g = each_nil axis behind ∙ sym (swept_nil axis first before)
-each_swept axis first before behind (p ∷ ps) h g = by_touch (is_touched axis p)
-    (λ t. each_at axis behind p ps t
-    ∙ ap (λ l. p ∷ l)
-    (each_swept axis first p (p ∷ behind) ps (hit axis p (behind ++ reverse ps) t)
-    (ap (first_touched axis) (passed behind p ps) ∙ g))
-    ∙ sym (swept_at axis first before p ps t))
+unfolding swept zipped
+each_swept axis first before behind [] h g = refl
+each_swept axis first before behind (p ∷ ps) h g =
+    let first_is : first_touched axis (reverse (p ∷ behind) ++ ps) ≡ Some first =
+    ap (first_touched axis) (passed behind p ps) ∙ g in
+    by_touch (is_touched axis p)
+    (λ t. rw t (ap (λ l. p ∷ l) (each_swept axis first p (p ∷ behind) ps (hit axis p (behind ++ reverse ps) t) first_is)))
     (λ t. let e = sym (missed_behind axis behind p ps t) ∙ h in
-    each_on axis behind p ps (Some before) (Some (or_point (first_touched axis ps) first)) t e
-    (ahead_is axis first p ps behind t g)
-    ∙ ap (λ l. between axis before (or_point (first_touched axis ps) first) p ∷ l)
-    (each_swept axis first before (p ∷ behind) ps (missed axis p (behind ++ reverse ps) t ∙ e)
-    (ap (first_touched axis) (passed behind p ps) ∙ g))
-    ∙ sym (swept_on axis first before p ps t))
+    rw (t, e, ahead_is axis first p ps behind t g)
+    (ap (λ l. between axis before (or_point (first_touched axis ps) first) p ∷ l)
+    (each_swept axis first before (p ∷ behind) ps (missed axis p (behind ++ reverse ps) t ∙ e) first_is)))
 
 -- a contour with touched points is swept
 pub contour_swept : (axis : Axis) (xs : List Point) (last first : Point) (n : ℕ) → Some last ≡ first_touched axis (reverse xs)
@@ -292,14 +222,14 @@ contour_swept axis xs last first n h k r g =
 -- one without stays
 each_kept : (axis : Axis) (behind ahead : List Point) → first_touched axis behind ≡ None → first_touched axis ahead ≡ None
     → zipped axis behind ahead ≡ ahead
-each_kept axis behind [] h g = each_nil axis behind
+unfolding zipped
+each_kept axis behind [] h g = refl
 each_kept axis behind (p ∷ ps) h g = by_touch (is_touched axis p)
     (λ t. some_or_none p (sym (hit axis p ps t) ∙ g))
     (λ t. let e = sym (missed axis p ps t) ∙ g in
     let b : first_touched axis (behind ++ reverse ps) ≡ None = first_of_both axis behind (reverse ps)
     ∙ rw (h, none_backward axis ps e) (or_none None) in
-    each_on axis behind p ps None (first_touched axis (ps ++ reverse behind)) t b refl
-    ∙ ap (λ l. p ∷ l) (each_kept axis (p ∷ behind) ps (missed axis p behind t ∙ h) e))
+    rw (t, b) (ap (λ l. p ∷ l) (each_kept axis (p ∷ behind) ps (missed axis p behind t ∙ h) e)))
 
 pub contour_kept : (axis : Axis) (xs : List Point) → first_touched axis xs ≡ None → contour_interpolated axis xs ≡ xs
 unfolding contour_interpolated
@@ -323,23 +253,20 @@ run_swept : (axis : Axis) (first before : Point) (xs : List Point) (d : Point) �
     swept axis first before xs ≡ map (between axis before (get_or xs (untouched_run axis xs) d))
     (take (untouched_run axis xs) xs) ++ (get_or xs (untouched_run axis xs) d ∷ swept axis first
     (get_or xs (untouched_run axis xs) d) (drop (suc (untouched_run axis xs)) xs))
+unfolding swept untouched_run
 run_swept axis first before [] d h = absurd (omega (arith, h))
-run_swept axis first before (x ∷ xs) d h = by_touch (is_touched axis x)
-    (λ t. rw (run_at axis x xs t) (swept_at axis first before x xs t))
-    (λ t. let k : untouched_run axis xs < length xs = omega (arith, rw (run_on axis x xs t) at h) in
-    rw (run_on axis x xs t)
-    (swept_on axis first before x xs t
-    ∙ rw (run_first axis xs d k)
-    (ap (λ l. between axis before (get_or xs (untouched_run axis xs) d) x ∷ l) (run_swept axis first before xs d k))))
+run_swept axis first before (x ∷ xs) d h = by_touch (is_touched axis x) (λ t. rw t refl)
+    (λ t. let k : untouched_run axis xs < length xs = omega (arith, rw t at h) in
+    rw (t, run_first axis xs d k)
+    (ap (λ l. between axis before (get_or xs (untouched_run axis xs) d) x ∷ l) (run_swept axis first before xs d k)))
 
 pub end_swept : (axis : Axis) (first before : Point) (xs : List Point) → length xs ≤ untouched_run axis xs
     → swept axis first before xs ≡ map (between axis before first) xs
-end_swept axis first before [] h = swept_nil axis first before
-end_swept axis first before (x ∷ xs) h = by_touch (is_touched axis x)
-    (λ t. absurd (omega (arith, rw (run_at axis x xs t) at h)))
-    (λ t. let k : length xs ≤ untouched_run axis xs = omega (arith, rw (run_on axis x xs t) at h) in
-    swept_on axis first before x xs t
-    ∙ rw (run_none axis xs k) (ap (λ l. between axis before first x ∷ l) (end_swept axis first before xs k)))
+unfolding swept untouched_run
+end_swept axis first before [] h = refl
+end_swept axis first before (x ∷ xs) h = by_touch (is_touched axis x) (λ t. absurd (omega (arith, rw t at h)))
+    (λ t. let k : length xs ≤ untouched_run axis xs = omega (arith, rw t at h) in
+    rw (t, run_none axis xs k) (ap (λ l. between axis before first x ∷ l) (end_swept axis first before xs k)))
 
 -- ---- the runs where they stand
 
@@ -422,7 +349,7 @@ put_run axis first last before t d pts ys start end m w h r touched e b g y =
     sym (swept_after axis first last t (put_mid start m pts ys) end there)
     ∙ (rw back at
     (put_run_at axis first before t pts ys start (end - start) m t (omega (arith, w, h))
-    (run_here axis pts start end d h r touched) (omega (arith, w, h)) e here y))
+    (omega (arith, r, run_zero axis pts end d _ h refl touched)) (omega (arith, w, h)) e here y))
     ∙ ap (λ p. take start pts ++ swept axis first p (drop start pts)) b
   where
     get_at_drop : (l : List Point) (n : ℕ) (d : Point) → get_or (drop n l) 0 d ≡ get_or l n d
@@ -438,7 +365,8 @@ pub put_end : (axis : Axis) (first last before : Point) (pts ys : List Point) (s
     put_mid start (length pts - start) pts ys ≡ swept_from axis first last pts start
 put_end axis first last before pts ys start end h r b y =
     let xs = drop start pts in
-    let all : length xs ≤ untouched_run axis xs = omega (arith, length-drop start pts, run_all axis pts start end h r) in
+    let over = run_over axis pts end (omega (arith, h)) in
+    let all : length xs ≤ untouched_run axis xs = omega (arith, length-drop start pts, r, h, over) in
     let none : drop (length pts - start) xs ≡ [] = drop_all (length pts - start) xs (omega (arith, length-drop start pts)) in
     let same : ys ≡ swept axis first before xs = y ∙ ap (map (between axis before first)) (whole_rest pts start)
     ∙ sym (end_swept axis first before xs all) in
@@ -457,8 +385,8 @@ unfolding contour_interpolated
 contour_long axis xs = each_long axis [] xs
 
 empty_contour : (axis : Axis) → contour_interpolated axis [] ≡ []
-unfolding contour_interpolated
-empty_contour axis = each_zipped axis [] [] ∙ each_nil axis []
+unfolding contour_interpolated each_interpolated
+empty_contour axis = refl
 
 contours_next : (axis : Axis) (ends : List ℕ) (points : List Point) (k d : ℕ) → k < length ends →
     contours_interpolated axis ends (k + 1) points ≡ part_interpolated axis (Some (first_of ends k, suc (get_or ends k d)))

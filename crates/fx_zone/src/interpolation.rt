@@ -184,7 +184,7 @@ fn interpolate_run(points: &mut [Point], axis: Axis, before: &Point, after: &Poi
 
 /// The number of untouched points before the first touched one; of all points if none is.
 #[inline(always)]
-#[tactic(auto, using(crate::proofs::Interpolating::first_run_here, crate::proofs::Interpolating::first_run_more, crate::proofs::Interpolating::first_run_all))]
+#[tactic(auto, using(crate::proofs::Interpolating::run_zero, crate::proofs::Interpolating::run_next, crate::proofs::Interpolating::run_over))]
 fn untouched_run(points: &[Point], axis: Axis) -> usize
     ensures { result ≡ untouched_run axis points.now }
 {

@@ -1,12 +1,11 @@
 //! Zones.
 
-ghost use Rattle.std.specs.Prelude.{◌≡◌, ◌+◌, ◌<◌, ◌≤◌, ◌^◌, ◌++◌, [], length, map, take, slice_get, IfSome, slice_set, OnOk, OnErr, true};
+ghost use Rattle.std.specs.Prelude.{◌≡◌, ◌+◌, ◌<◌, ◌≤◌, ◌^◌, ◌++◌, length, map, take, slice_get, IfSome, slice_set, OnOk, OnErr};
 ghost use Rattle.std.specs.List.{All};
 ghost use Rattle.std.specs.Option.{option_copied_mut};
 ghost use Rattle.std.specs.Borrow.{sem};
 ghost use Rattle.fx_zone.specs.Lending.{LendsPoint};
-ghost use Rattle.fx_zone.specs.Figures.{Figure, joined, empty_figure, changed, range_shifted, range_curved, figure_rested, contour_of, HasShape};
-ghost use Rattle.fx_zone.specs.Points.{moved, marked};
+ghost use Rattle.fx_zone.specs.Figures.{Figure, joined, empty_figure, range_shifted, range_curved, figure_rested, contour_of, HasShape};
 ghost use Rattle.fx_zone.specs.Interpolation.{figure_interpolated};
 
 use crate::interpolation::interpolate_contours;
@@ -108,26 +107,6 @@ impl Zone {
     {
         if number < self.points.len() {
             self.points[number] = point;
-        }
-    }
-
-    /// Moves the point of a number, if it is inside, to another current place.
-    pub fn set_cur(&mut self, number: usize, cur: Place)
-        ensures value { self.new ≡ changed (moved cur) number self.old }
-        ensures shape { HasShape self.old self.new }
-    {
-        if let Some(point) = self.point(number) {
-            self.set(number, point.moved(cur));
-        }
-    }
-
-    /// Touches the point of a number along an axis, if it is inside.
-    pub fn touch(&mut self, number: usize, axis: Axis)
-        ensures value { self.new ≡ changed (marked axis true) number self.old }
-        ensures shape { HasShape self.old self.new }
-    {
-        if let Some(point) = self.point(number) {
-            self.set(number, point.marked(axis, true));
         }
     }
 

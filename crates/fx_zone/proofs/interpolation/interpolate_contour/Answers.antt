@@ -1,5 +1,5 @@
 use Rattle.std.proofs.Common.{◌+◌, arith, sym, ◌∙◌, refl}
-use Rattle.fx_zone.proofs.Interpolating.{contour_kept_backward, run_ends, contour_swept, run_none_yet, run_more, put_none, put_run}
+use Rattle.fx_zone.proofs.Interpolating.{contour_kept_backward, run_ends, contour_swept, run_none_yet, run_next, put_none, put_run}
 use Rattle.fx_zone.proofs.Interpolating.{put_end}
 use Rattle.fx_zone.proofs.interpolation.interpolate_contour.Goals as goal
 use Rattle.fx_zone.proofs.interpolation.interpolate_contour.Goals.{then-is_touched, then-start-end, else-start-end, else-is_touched}
@@ -46,8 +46,9 @@ points-preserved c =
       | else-is_touched w ↦ record {
         answer = rw (w.points-is, w.start-is) i.answer;
         run = rw (w.points-is, w.start-is)
-            (run_more c.args.axis c.points.points c.points.start c.points.end _ i.within (omega arith) i.run
-            (sym c.is_touched.ensures ∙ w.if-is_touched.false));
+            (let next = run_next c.args.axis c.points.points c.points.end _ _ (omega arith) refl
+            (sym c.is_touched.ensures ∙ w.if-is_touched.false) in
+            omega (arith, i.run, i.within, next));
         within = omega (arith, i.within, w.start-is);
       }
     ]

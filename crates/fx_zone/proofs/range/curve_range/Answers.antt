@@ -1,22 +1,17 @@
-use Rattle.std.proofs.Common.{arith, true, refl}
+use Rattle.std.proofs.Common.{arith}
+use Rattle.fx_zone.specs.Figures.{in_range}
 use Rattle.fx_zone.specs.Points.{curved}
-use Rattle.fx_zone.proofs.Changing.{range_begun, range_step, range_whole, range_all}
+use Rattle.fx_zone.proofs.Changing.{range_chooses, range_inside, range_begun, range_step, range_whole}
 use Rattle.fx_zone.proofs.range.curve_range.Goals as goal
 
 pub range-init : goal.range-init
-range-init c = record { done = range_begun (λ n. true) (curved c.args.on) c.args.first c.args.points.now; within = omega arith }
+range-init c = range_begun _ _ _ _ _ (range_chooses c.args.first c.args.past)
 
 pub range-preserved : goal.range-preserved
-range-preserved c = record {
-  done = range_step (λ n. true) (curved c.args.on) c.args.first c.range.number c.args.points.now c.range.points
-      c.index-points-number.result
-      c.curved.result c.range.invariant.done (omega arith) (omega arith) refl c.index-points-number.is c.curved.ensures;
-  within = omega arith;
-}
+range-preserved c =
+    range_step (in_range c.args.first c.args.past) (curved c.args.on) c.range.number c.args.points.now c.range.points
+    c.index-points-number.result c.curved.result c.range.invariant (omega arith)
+    (range_inside c.args.first c.args.past c.range.number (omega arith) (omega arith)) c.index-points-number.is c.curved.ensures
 
 pub returns : goal.returns
-returns c =
-    range_all (curved c.args.on) c.args.first c.args.past c.args.points.now c.range.points
-    (range_whole (λ n. true) (curved c.args.on) c.args.first c.args.past c.range.number c.args.points.now c.range.points
-    c.range.invariant.done
-    (omega arith) (omega arith) c.range.invariant.within)
+returns c = range_whole _ _ _ _ _ _ _ c.range.invariant (range_chooses c.args.first c.args.past) (omega arith)

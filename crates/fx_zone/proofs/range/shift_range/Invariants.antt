@@ -1,10 +1,9 @@
-use Rattle.std.proofs.Common.{◌≡◌, ◌≤◌, max}
-use Rattle.fx_zone.specs.Figures.{each_changed, in_range_without}
+use Rattle.std.proofs.Common.{◌≡◌}
+use Rattle.fx_zone.specs.Figures.{in_range_without}
 use Rattle.fx_zone.specs.Points.{shifted}
+use Rattle.fx_zone.proofs.Changing.{changed_front}
 use Rattle.fx_zone.proofs.range.shift_range.Given as goal
 
 abbrev pub invariant-range : goal.invariant-range
-invariant-range l = record {
-  done : l.points ≡ each_changed (in_range_without l.except l.first l.number) (shifted l.by l.x l.y) 0 l.initial.points;
-  within : l.number ≤ max l.first l.past;
-}
+invariant-range l =
+    l.points ≡ changed_front (in_range_without l.except l.first l.past) (shifted l.by l.x l.y) l.number 0 l.initial.points

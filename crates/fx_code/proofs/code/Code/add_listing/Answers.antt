@@ -2,7 +2,7 @@ use Rattle.std.proofs.Common.{◌∙◌, length, ap, refl, arith, rules}
 use Rattle.std.proofs.lemmas.Result.{err_from_is_err_and}
 use Rattle.fx_fixed.proofs.Texts.{adds_piece, adds_ended}
 use Rattle.fx_code.specs.Line.{cut_text, line_text}
-use Rattle.fx_code.proofs.Onward.{next_above, whole_inside}
+use Rattle.fx_code.proofs.Onward.{whole_inside}
 use Rattle.fx_code.proofs.Lines.{written_start, written_on, written_not, written_cut, written_end}
 use Rattle.fx_code.proofs.code.Code.add_listing.Goals as goal
 
@@ -37,10 +37,6 @@ returns-in_err-add-2 g c =
     (omega (arith, c.set.ensures.short, ap length c.set.ensures.line)) c.lines.invariant.written line) in
     let p = err_from_is_err_and c.from_residual-in_err-add-2.result c.from_residual-in_err-add-2.ensures.1 in
     rw (p.1, p.2) (record { text = t.text; ended = tt; short = t.short })
-
-pub lines-smaller : goal.lines-smaller
-lines-smaller g c =
-    omega (arith, next_above c.args.self.now c.lines.address, c.in-Ok.ensures.next, c.lines-test.true, c.len.ensures)
 
 pub lines-preserved : goal.lines-preserved
 lines-preserved g c =
