@@ -8,6 +8,7 @@ use Rattle.std.specs.List.{after_first, before_first, list_all, position_or_len}
 use Rattle.std.proofs.lemmas.Bool.{and_from, and_parts, le-leb, lt-ltb}
 use Rattle.std.proofs.lemmas.Int.{ints}
 use Rattle.std.proofs.lemmas.List.{length-drop, length-take}
+use Rattle.std.proofs.lemmas.List.Folds.{list_all-append}
 use Rattle.std.proofs.lemmas.List.Sums.{count_by-le-length, length-filter}
 use Rattle.fx_bdf.specs.declared.property.Property.{Property}
 use Rattle.fx_bdf.specs.declared.summary.Summary.{Summary}
@@ -80,9 +81,7 @@ default_lines false false = (refl, omega arith)
 -- of lists one after the other, and of those that are kept of a list
 all-append : (p : PropertyView → Bool) (xs ys : List PropertyView) → list_all p xs ≡ true → list_all p ys ≡ true
     → list_all p (xs ++ ys) ≡ true
-all-append p [] ys h k = k
-all-append p (x ∷ xs) ys h k =
-    let parts = and_parts (p x) (list_all p xs) h in and_from _ _ parts.0 (all-append p xs ys parts.1 k)
+all-append p xs ys h k = rw (list_all-append p xs ys, h, k) refl
 
 all-filter : (p q : PropertyView → Bool) (xs : List PropertyView) → list_all p xs ≡ true → list_all p (filter q xs) ≡ true
 all-filter p q [] h = refl

@@ -17,6 +17,8 @@ use Rattle.fx_bdf.proofs.Shifts.{shifted_bit}
 pub length-row_from : (width from : ℕ) (words : List ℕ) → length (row_from width from words) ≡ width
 length-row_from width from words = length-map-range_with_len (λ i. word_bit words (from + i) == 1) 0 width
 
+pub ruleset row_sizes = (length-row_from)
+
 bit_or_none : (b : ℕ) → b < 2 → (if b == 1 then 1 else 0) ≡ b
 bit_or_none zero h = refl
 bit_or_none (suc zero) h = refl

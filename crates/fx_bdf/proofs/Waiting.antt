@@ -1,17 +1,17 @@
 -- Lines of rows written over the bytes of a buffer.
--- Serves `put_line`, `put_lines` and `add_rows`.
-use Rattle.std.proofs.Common.{◌≡◌, ℕ, ◌+◌, ◌-◌, ◌<◌, ◌≤◌, List, [], ◌∷◌, ◌++◌, Bool, length}
+-- Serves `put_words`, `put_line`, `put_lines` and `add_rows`.
+use Rattle.std.proofs.Common.{◌≡◌, ℕ, ◌+◌, ◌-◌, ◌*◌, ◌<◌, ◌≤◌, refl, List, [], ◌∷◌, ◌++◌, Bool, length}
 use Rattle.std.proofs.Common.{take, drop, get_or, sym, ap, ◌∙◌, arith}
-use Rattle.std.proofs.Common.{append_assoc, append-nil, length-drop, get_or-drop, Ok}
+use Rattle.std.proofs.Common.{append_assoc, length-drop, get_or-drop, Ok}
 use Rattle.std.specs.List.{flat_map}
 use Rattle.std.proofs.lemmas.Grind.{flat_map-append}
-use Rattle.std.proofs.lemmas.List.{take-append-drop, take-append-le, length-take-le}
+use Rattle.std.proofs.lemmas.List.{take-append-drop, take-append-le, length-take-le, take_at, take_all}
 use Rattle.std.proofs.Math.Seq.{take-append-add, take-add}
 use Rattle.fx_bdf.specs.Text.{row_text}
 use Rattle.fx_fixed.specs.Texts.{TextView, Adds, Fails, with_more}
 use Rattle.fx_fixed.proofs.Texts.{adds_then, adds_text, adds_more}
 use Rattle.fx_fixed.proofs.Writing.{parts_more}
-use Rattle.fx_bdf.specs.inner.Lines.{lines_between}
+use Rattle.fx_bdf.specs.inner.Lines.{lines_between, word_text}
 
 -- the first bytes of those that were written after `used` bytes
 front : (used count m : ℕ) (old mid digits : List ℕ) → used ≤ length old → count ≤ m → used + m ≤ length mid
@@ -25,24 +25,61 @@ front used count m old mid digits inside few fits e =
     ∙ (λ i. take (start i + count) (take used old ++ digits))
     ∙ take-append-add (take used old) digits count
 
+-- a piece was written after them
+piece_over : (at m : ℕ) (now piece rest new front done more : List ℕ) → at ≤ length now → length piece ≡ m
+    → take at now ≡ front ++ done → new ≡ take at now ++ (piece ++ rest) → done ++ piece ≡ more → take (at + m) new ≡ front ++ more
+piece_over at m now piece rest new front done more inside long text n joined =
+    let used : at ≡ length (take at now) = sym (length-take-le at now inside) in
+    (λ i. take (used i + m) (n i))
+    ∙ take-append-add (take at now) (piece ++ rest) m
+    ∙ (λ i. text i ++ take_at piece rest m long i)
+    ∙ append_assoc front done piece
+    ∙ ap (λ (t : List ℕ). front ++ t) joined
+
 -- the byte after them was written over
 pub line_added : (used count m : ℕ) (old mid new digits rest : List ℕ) → used ≤ length old → count ≤ m → used + m ≤ length mid
     → take (used + m) mid ≡ take used old ++ digits → new ≡ take (used + count) mid ++ 10 ∷ rest
     → take (used + count + 1) new ≡ take used old ++ (take count digits ++ 10 ∷ [])
 line_added used count m old mid new digits rest inside few fits e n =
-    let long : used + count + 1 ≡ length (take (used + count) mid) + 1 =
-    omega (arith, length-take-le (used + count) mid (omega arith)) in
-    (λ i. take (long i) (n i))
-    ∙ take-append-add (take (used + count) mid) (10 ∷ rest) 1
-    ∙ ap (λ (t : List ℕ). t ++ 10 ∷ []) (front used count m old mid digits inside few fits e)
-    ∙ append_assoc (take used old) (take count digits) (10 ∷ [])
+    piece_over (used + count) 1 mid (10 ∷ []) rest new (take used old) (take count digits) _ (omega arith) refl
+    (front used count m old mid digits inside few fits e) n refl
+
+-- ---- digits of words one after the other
+
+-- the last word of all
+pub word_over : (start k : ℕ) (now piece rest new front words : List ℕ) → start + 8 * length words ≤ length now
+    → k + 1 ≡ length words → take (start + 8 * k) now ≡ front ++ flat_map word_text (take k words)
+    → new ≡ take (start + 8 * k) now ++ (piece ++ rest) → piece ≡ word_text (get_or words k 0)
+    → take (start + 8 * length words) new ≡ front ++ flat_map word_text words
+word_over start k now piece rest new front words inside last text n is =
+    let at : start + 8 * length words ≡ start + 8 * k + 8 = omega arith in
+    ap (λ (i : ℕ). take i new) at
+    ∙ piece_over (start + 8 * k) 8 now piece rest new front (flat_map word_text (take k words)) _ (omega arith) (ap length is) text
+    n
+    (ap (λ (t : List ℕ). flat_map word_text (take k words) ++ t) is
+    ∙ parts_more word_text words k 0 (omega arith)
+    ∙ ap (flat_map word_text) (take_all (k + 1) words (omega arith)))
+
+-- two words
+pub pair_over : (start k : ℕ) (now piece rest new front words : List ℕ) → start + 8 * length words ≤ length now
+    → k + 2 ≤ length words → take (start + 8 * k) now ≡ front ++ flat_map word_text (take k words)
+    → new ≡ take (start + 8 * k) now ++ (piece ++ rest) → piece ≡ word_text (get_or words k 0) ++ word_text (get_or words (k + 1) 0)
+    → take (start + 8 * (k + 2)) new ≡ front ++ flat_map word_text (take (k + 2) words)
+pair_over start k now piece rest new front words inside few text n is =
+    let at : start + 8 * (k + 2) ≡ start + 8 * k + 16 = omega arith in
+    let more : k + 1 + 1 ≡ k + 2 = omega arith in
+    let first = word_text (get_or words k 0) in
+    let second = word_text (get_or words (k + 1) 0) in
+    ap (λ (i : ℕ). take i new) at
+    ∙ piece_over (start + 8 * k) 16 now piece rest new front (flat_map word_text (take k words)) _ (omega arith) (ap length is) text
+    n
+    (ap (λ (t : List ℕ). flat_map word_text (take k words) ++ t) is
+    ∙ sym (append_assoc (flat_map word_text (take k words)) first second)
+    ∙ ap (λ (t : List ℕ). t ++ second) (parts_more word_text words k 0 (omega arith))
+    ∙ parts_more word_text words (k + 1) 0 (omega arith)
+    ∙ ap (λ (i : ℕ). flat_map word_text (take i words)) more)
 
 -- ---- lines of rows one after the other
-
-pub lines_none : (rows : List (List Bool)) (first : ℕ) (front : List ℕ) → front ≡ front ++ lines_between rows first first
-lines_none rows first front =
-    let none : 0 ≡ first - first = omega arith in
-    sym (append-nil front) ∙ ap (λ (n : ℕ). front ++ flat_map row_text (take n (drop first rows))) none
 
 -- one line more
 pub lines_more : (rows : List (List Bool)) (first next : ℕ) (row : List Bool) (front now new : List ℕ) → first ≤ next

@@ -47,6 +47,7 @@ impl<'a> BoxRows<'a> {
     }
 
     /// How many there are.
+    #[tactic(auto, using(crate::proofs::Boxes::box_sizes))]
     pub fn len(&self) -> u32
         ensures { result ≡ length self.now }
     {

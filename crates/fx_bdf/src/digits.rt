@@ -1,6 +1,6 @@
 //! Words of pixels as hexadecimal digits.
 
-ghost use Rattle.std.specs.Prelude.{◌≡◌};
+ghost use Rattle.std.specs.Prelude.{◌≡◌, ◌++◌};
 ghost use Rattle.fx_bdf.specs.inner.Lines.{word_text};
 
 use std::simd::prelude::*;
@@ -22,4 +22,21 @@ pub fn word_digits(word: u32) -> [u8; 8]
         .simd_gt(u8x8::splat(9))
         .select(u8x8::splat(7), u8x8::splat(0));
     (four + u8x8::splat(48) + letters).to_array()
+}
+
+/// The sixteen digits of two words, those of the first word first, in the same way.
+#[inline(always)]
+pub fn pair_digits(first: u32, second: u32) -> [u8; 16]
+    ensures { result ≡ word_text first ++ word_text second }
+{
+    let pair = u64::from(second) * 4294967296 + u64::from(first);
+    let bytes = u8x8::from_array(pair.to_le_bytes());
+    let twice = bytes.swizzle([3, 3, 2, 2, 1, 1, 0, 0, 7, 7, 6, 6, 5, 5, 4, 4]);
+    let high = u8x16::from_array([15, 0, 15, 0, 15, 0, 15, 0, 15, 0, 15, 0, 15, 0, 15, 0]);
+    let low = u8x16::from_array([0, 15, 0, 15, 0, 15, 0, 15, 0, 15, 0, 15, 0, 15, 0, 15]);
+    let four = twice >> u8x16::splat(4) & high | twice & low;
+    let letters = four
+        .simd_gt(u8x16::splat(9))
+        .select(u8x16::splat(7), u8x16::splat(0));
+    (four + u8x16::splat(48) + letters).to_array()
 }

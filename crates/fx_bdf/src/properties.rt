@@ -102,6 +102,7 @@ fn may_follow(before: &[Property<'_>], property: &Property<'_>) -> bool
 }
 
 /// The index of the first bad property: one whose name or value is bad, whose name one before it has, or that follows 64 others.
+#[tactic(auto, using(crate::proofs::GoodProperties::left_bad, crate::proofs::GoodProperties::left_more, crate::proofs::GoodProperties::left_none, crate::proofs::GoodProperties::left_room))]
 pub fn first_bad(properties: &[Property<'_>]) -> Option<usize>
     ensures first { result ≡ first_bad (seen_properties properties.now) }
     ensures few { IfSome result (λ i. i ≤ most_properties) }

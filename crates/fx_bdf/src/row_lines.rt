@@ -7,7 +7,7 @@ ghost use Rattle.fx_bdf.specs.Text.{row_text};
 ghost use Rattle.fx_bdf.specs.inner.Lines.{word_text, lines_between};
 
 use crate::box_rows::BoxRows;
-use crate::digits::word_digits;
+use crate::digits::{pair_digits, word_digits};
 use crate::rows::Row;
 use fx_fixed::{Fill, Sink, TextWriter, put_over};
 
@@ -17,8 +17,13 @@ fn put_words(bytes: &mut [u8], start: usize, words: &[u32])
     ensures long { length bytes.new ≡ length bytes.old }
     ensures text { take (start + 8 * length words.now) bytes.new ≡ take start bytes.old ++ flat_map word_text words.now }
 {
+    let mut k = 0;
     // The digits of the words before k were written.
-    'words: for k in 0..words.len() {
+    'pairs: while words.len() - k > 1 {
+        put_over(bytes, start + 8 * k, &pair_digits(words[k], words[k + 1]));
+        k += 2;
+    }
+    if k < words.len() {
         put_over(bytes, start + 8 * k, &word_digits(words[k]));
     }
 }

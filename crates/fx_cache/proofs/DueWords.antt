@@ -1,10 +1,10 @@
 -- What is put into a cache, and taken from it, is due.
 -- For `put` and `take` of the cache and its reader.
-use Rattle.std.proofs.Common.{◌≡◌, ℕ, ◌+◌, ◌<◌, List, [], ◌∷◌, ◌++◌, length, refl, ap, sym, ◌∙◌, arith, append_assoc, Result, Ok, subst, Bool, true, false, IsTrue, Option, Some, None, IfSome, IsNone}
+use Rattle.std.proofs.Common.{◌≡◌, ℕ, ◌+◌, List, [], ◌∷◌, ◌++◌, length, refl, ap, sym, ◌∙◌, arith, append_assoc, Result, Ok, Bool, true, false, IsTrue}
 use Rattle.std.specs.List.{flat_map}
 use Rattle.std.proofs.lemmas.List.{append-nil}
 use Rattle.fx_hint.specs.declared.fault.HintFault.{HintFault}
-use Rattle.fx_hint.specs.Outlines.{GlyphOutlineView, view_of_glyph_outline}
+use Rattle.fx_hint.specs.Outlines.{GlyphOutlineView}
 use Rattle.fx_cache.specs.Words.{HasWords, IsTaken, outline_words, outline_in, words_after, glyph_in}
 use Rattle.fx_cache.specs.Cached.{IsDue, AreAllDue, AreDue, kept_words}
 use Rattle.fx_cache.proofs.TakenBack.{glyph_back, outline_back, words_back}

@@ -1,6 +1,6 @@
 -- One contour more.
 -- For the contours that `ends_of` reads.
-use Rattle.std.proofs.Common.{◌≡◌, ℕ, ◌+◌, ◌≤◌, List, [], ◌∷◌, ◌++◌, arith, sym, refl}
+use Rattle.std.proofs.Common.{◌≡◌, ℕ, ◌+◌, ◌≤◌, List, [], ◌∷◌, ◌++◌, arith, sym}
 use Rattle.fx_outline.specs.Ends.{AreEnds}
 
 pub ends_pushed : (start : ℕ) (es : List ℕ) (n e m : ℕ) → AreEnds start es n → n ≤ e → m ≡ e + 1 → AreEnds start (es ++ e ∷ []) m

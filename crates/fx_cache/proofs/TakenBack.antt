@@ -1,9 +1,7 @@
 -- The outline that words begin with is the one that was put there.
 -- For `take` of the reader of a cache.
-use Rattle.std.proofs.Common.{◌≡◌, ℕ, ◌+◌, ◌*◌, ◌/◌, ◌%◌, ◌^◌, ◌<◌, ◌≤◌, List, [], ◌∷◌, ◌++◌, length, map, take, drop, refl, ap, sym, ◌∙◌, arith, true, append_assoc, length-append, Option, Some, None}
-use Rattle.std.specs.Prelude.{ℤ, slice_index, All}
-use Rattle.std.specs.Int.{cast_unsigned, cast_signed}
-use Rattle.std.specs.Int.RustNames.{FitsSigned}
+use Rattle.std.proofs.Common.{◌≡◌, ℕ, ◌+◌, ◌^◌, ◌<◌, List, [], ◌∷◌, ◌++◌, length, map, take, drop, refl, arith, true, append_assoc, Option, Some, None}
+use Rattle.std.specs.Prelude.{ℤ}
 use Rattle.std.specs.List.{list_all}
 use Rattle.std.proofs.lemmas.Grind.{common_steps}
 use Rattle.std.proofs.lemmas.Int.{to_z-of_z}

@@ -1,10 +1,10 @@
 -- Points and outlines as words of 32 bits.
-use Rattle.std.specs.Prelude.{◌≡◌, ℕ, ◌+◌, ◌*◌, ◌/◌, ◌%◌, ◌^◌, ◌<◌, ◌==◌, ◌&&◌, ℤ, pos, negsuc, ◌+ℤ◌, ◌-ℤ◌, int_le, unsigned_abs}
+use Rattle.std.specs.Prelude.{◌≡◌, ℕ, ◌+◌, ◌*◌, ◌/◌, ◌%◌, ◌^◌, ◌<◌, ◌==◌, ◌&&◌, ℤ, pos, negsuc, int_le}
 use Rattle.std.specs.Prelude.{Bool, true, false, if◌then◌else◌, Option, Some, None, List, ◌∷◌, ◌++◌, length, map, take, drop, slice_index}
 use Rattle.std.specs.List.{list_all}
-use Rattle.std.specs.Int.{cast_unsigned, cast_signed}
+use Rattle.std.specs.Int.{cast_unsigned, cast_signed, int_shr}
 use Rattle.std.specs.Int.RustNames.{FitsSigned}
-use mir.Syntax.{w32}
+use mir.Syntax.{w16, w32}
 use Rattle.fx_gstate.specs.declared.scan.Dropout.{Dropout}
 use Rattle.fx_gstate.specs.declared.scan.Dropout.TheVariants.{Off, Leftmost, Nearest}
 use Rattle.fx_outline.specs.declared.points.OutlinePoint.{OutlinePoint}
@@ -24,13 +24,17 @@ abbrev pub bit_of : Bool → ℕ
 bit_of true = 1
 bit_of false = 0
 
--- the word of a point: 16 bits for x, 15 for y, and one that says whether it is on the curve
+-- the word of a point: the low 16 bits of x, the low 15 of y, and one that says whether it is on the curve
 abbrev pub point_word : OutlinePoint → ℕ
-point_word p = unsigned_abs (p.x +ℤ pos 32768) * 65536 + (unsigned_abs (p.y +ℤ pos 16384) * 2 + bit_of p.on_curve)
+point_word p = cast_unsigned w32 p.x % 65536 * 65536 + (cast_unsigned w32 p.y % 32768 * 2 + bit_of p.on_curve)
 
 -- the point of a word
 abbrev pub point_of : ℕ → OutlinePoint
-point_of w = record { x = pos (w / 65536) -ℤ pos 32768; y = pos (w % 65536 / 2) -ℤ pos 16384; on_curve = w % 2 == 1 }
+point_of w = record {
+  x = cast_signed w16 (w / 65536);
+  y = int_shr (cast_signed w16 (w % 65536)) 1;
+  on_curve = w % 2 == 1;
+}
 
 -- ---- outlines
 

@@ -42,13 +42,12 @@ fn fits(point: &OutlinePoint) -> bool
     -32768 <= x && x <= 32767 && -16384 <= y && y <= 16383
 }
 
-/// The word of a point.
+/// The word of a point: the low 16 bits of x, the low 15 of y, and one that says whether it is on the curve.
 fn point_word(point: &OutlinePoint) -> u32
-    requires { fits point.now ≡ true }
     ensures { result ≡ point_word point.now }
 {
-    let x = (point.x.0 + 32768) as u32;
-    let y = (point.y.0 + 16384) as u32;
+    let x = point.x.0.cast_unsigned() % 65536;
+    let y = point.y.0.cast_unsigned() % 32768;
     x * 65536 + (y * 2 + u32::from(point.on_curve))
 }
 
@@ -56,37 +55,31 @@ fn point_word(point: &OutlinePoint) -> u32
 fn point_of(word: u32) -> OutlinePoint
     ensures { result ≡ point_of word }
 {
+    let x = (word / 65536) as u16;
+    let y = (word % 65536) as u16;
     OutlinePoint {
-        x: F26((word / 65536) as i32 - 32768),
-        y: F26((word % 65536 / 2) as i32 - 16384),
+        x: F26(i32::from(x.cast_signed())),
+        y: F26(i32::from(y.cast_signed()) >> 1),
         on_curve: word % 2 == 1,
     }
 }
 
-/// Whether each point has a word. It looks at all points, also after one that has none, so that a compiler tests several at once.
-pub(crate) fn all_fit(points: &[OutlinePoint]) -> bool
-    ensures { result ≡ list_all fits points.now }
-{
-    let mut all = true;
-    // `all` says whether each point so far has a word.
-    'points: for point in points {
-        all = all & fits(point);
-    }
-    all
-}
-
-/// Adds the words of points.
-pub(crate) fn push_points(words: &mut Vec<u32>, points: &[OutlinePoint])
-    requires fit { list_all fits points.now ≡ true }
+/// Adds the words of points. Returns whether each point is that of its word. It adds them all, also after one that is not, so
+/// that a compiler makes several at once.
+pub(crate) fn push_points(words: &mut Vec<u32>, points: &[OutlinePoint]) -> bool
     requires room { vec_len words.old + length points.now ≤ vec_capacity words.old }
+    ensures fit { result ≡ list_all fits points.now }
     ensures words { words.new.items ≡ words.old.items ++ map point_word points.now }
     ensures len { vec_len words.new ≡ vec_len words.old + length points.now }
     ensures capacity { vec_capacity words.new ≡ vec_capacity words.old }
 {
-    // The words of the points so far are there, and there is room for the others.
+    let mut all = true;
+    // The words of the points so far are there, and there is room for the others. `all` says whether each of them fits.
     'points: for point in points {
+        all = all & fits(point);
         words.push_reserved(point_word(point));
     }
+    all
 }
 
 /// Adds the last points of contours, a word each.

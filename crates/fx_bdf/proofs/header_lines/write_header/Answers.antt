@@ -1,4 +1,4 @@
-use Rattle.std.proofs.Common.{◌∙◌, ap, arith}
+use Rattle.std.proofs.Common.{◌∙◌, ap}
 use Rattle.std.specs.Fmt.{decimal}
 use Rattle.std.proofs.lemmas.List.{length-map}
 use Rattle.std.proofs.lemmas.Result.{err_from_is_err_and}
@@ -7,20 +7,6 @@ use Rattle.fx_bdf.specs.Properties.{seen_property}
 use Rattle.fx_bdf.specs.Text.{back_text, header_text}
 use Rattle.fx_bdf.proofs.Headers.{back_number, header_long}
 use Rattle.fx_bdf.proofs.header_lines.write_header.Goals as goal
-
-pub add_front-requires-clause-count : goal.add_front-requires-clause-count
-add_front-requires-clause-count g c =
-    omega (
-      arith,
-      c.requires.properties.few,
-      length-map c.args.properties.now seen_property,
-    )
-
-pub returns-in_err-add_front-clause-text : goal.returns-in_err-add_front-clause-text
-unfolding header_text
-returns-in_err-add_front-clause-text g c =
-    let p = err_from_is_err_and c.from_residual.result c.from_residual.ensures.1 in
-    rw (p.1, p.2, length-map c.args.properties.now seen_property) (adds_stopped _ c.in_err-add_front.ensures.text)
 
 pub returns-in_err-add_front-clause-short : goal.returns-in_err-add_front-clause-short
 returns-in_err-add_front-clause-short g c =

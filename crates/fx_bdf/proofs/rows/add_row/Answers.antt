@@ -1,12 +1,6 @@
-use Rattle.std.proofs.Common.{[], ◌∷◌}
-use Rattle.std.proofs.lemmas.Result.{err_from_is_err_and}
-use Rattle.fx_fixed.proofs.Texts.{adds_then, adds_stopped, adds_out}
+use Rattle.std.proofs.Common.{[]}
+use Rattle.fx_fixed.proofs.Texts.{adds_then}
 use Rattle.fx_bdf.proofs.rows.add_row.Goals as goal
-
-pub returns-in_err-add_digits : goal.returns-in_err-add_digits
-returns-in_err-add_digits g c =
-    let p = err_from_is_err_and c.from_residual.result c.from_residual.ensures.1 in
-    adds_out (adds_stopped (10 ∷ []) c.in_err-add_digits.ensures) p.1 p.2
 
 pub returns : goal.returns
 returns g c = adds_then c.in_ok-add_digits.ensures c.add.ensures

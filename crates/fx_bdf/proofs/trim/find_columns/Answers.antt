@@ -6,14 +6,11 @@ use Rattle.fx_winding.specs.Limits.{greatest_side}
 use Rattle.fx_winding.specs.Bitmaps.{Bits, word_bit}
 use Rattle.fx_bdf.specs.declared.lines.Axis.TheVariants.{Rows}
 use Rattle.fx_bdf.specs.Lines.{line_bit}
-use Rattle.fx_bdf.proofs.Packing.{Seen, seen_more, seen_none, columns_span}
+use Rattle.fx_bdf.proofs.Packing.{Seen, seen_more, columns_span}
 use Rattle.fx_bdf.proofs.trim.find_columns.Goals as goal
 
 larger : (a b : ℕ) → ord_max nat_cmp a b ≡ max a b
 larger a b = grind arith
-
-pub rows-init : goal.rows-init
-rows-init c = seen_none c.args.bitmap.now
 
 one_more : (b : Bits) (done first end : ℕ) (words : List ℕ) (s e : ℕ) → Seen b done first end
     → ((j : ℕ) → line_bit Rows b done j ≡ (word_bit words j == 1)) → ((j : ℕ) → j < s → word_bit words j ≡ 0)

@@ -1,9 +1,6 @@
-use Rattle.std.proofs.Common.{◌≡◌, ◌∙◌, ℕ, false, ap, sym, arith, below_more}
-use Rattle.fx_winding.specs.declared.frame.Frame.{Frame}
+use Rattle.std.proofs.Common.{◌≡◌, ◌∙◌, ℕ, false, sym, below_more}
 use Rattle.fx_bdf.specs.declared.lines.Axis.TheVariants.{Columns}
 use Rattle.fx_bdf.specs.Lines.{line_bit}
-use Rattle.fx_bdf.proofs.Cases.{split}
-use Rattle.fx_bdf.proofs.Trims.{line_outside}
 use Rattle.fx_bdf.proofs.Packing.{set_bit_of_column}
 use Rattle.fx_bdf.proofs.trim.has_column.Goals as goal
 
@@ -12,9 +9,3 @@ rows-preserved c =
     below_more (λ (k : ℕ). line_bit Columns c.args.bitmap.now c.args.j k ≡ false) c.rows.i c.rows.invariant
     (sym (set_bit_of_column c.args.bitmap.now c.line.result.now c.rows.i c.args.j c.is_set.result (c.line.ensures.bits c.args.j)
     c.is_set.ensures) ∙ c.if-is_set.false)
-
-pub returns : goal.returns
-returns c = λ j.
-    let high = ap (λ (f : Frame). f.height) c.frame-i-end.ensures.value in
-    split j c.rows.i (λ low. c.rows.invariant j low)
-    (λ past. line_outside Columns c.args.bitmap.now c.args.j j (omega (arith, high, c.rows-test.false, past)))

@@ -1,10 +1,6 @@
 use Rattle.std.proofs.Common.{◌∙◌, arith, ap, length}
-use Rattle.fx_fixed.proofs.Texts.{adds_piece}
 use Rattle.fx_bdf.proofs.RowDigits.{glyph_short, rows_short}
 use Rattle.fx_bdf.proofs.write.add_head.Goals as goal
-
-pub returns-clause-head : goal.returns-clause-head
-returns-clause-head g c = adds_piece (c.text.ensures.value ∙ c.put_head.ensures.text) c.add.ensures
 
 pub returns-clause-short : goal.returns-clause-short
 returns-clause-short g c =

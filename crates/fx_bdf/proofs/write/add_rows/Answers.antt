@@ -1,6 +1,5 @@
 use Rattle.std.proofs.Common.{◌∙◌, ap, arith, sym, []}
 use Rattle.std.specs.List.{flat_map}
-use Rattle.std.proofs.lemmas.List.{take_all}
 use Rattle.std.proofs.lemmas.Result.{err_from_is_err_and}
 use Rattle.fx_fixed.proofs.Texts.{adds_then, adds_stopped, adds_text, adds_out}
 use Rattle.fx_fixed.proofs.Writing.{parts, parts_more}
@@ -36,8 +35,3 @@ lines-preserved-then-i-len g c =
           (adds_text (ap row_text c.row.ensures) c.in_ok-add_row.ensures));
       inside = omega (arith, c.if-i-len.true, c.len-in-lines.ensures);
     }
-
-pub returns : goal.returns
-returns g c =
-    adds_text (ap (flat_map row_text) (take_all c.lines.i c.rows-rows.result (omega (arith, c.lines-test.false, c.len.ensures))
-    ∙ c.rows-rows.ensures.value)) c.lines.invariant.added

@@ -20,5 +20,4 @@ returns-clause-text c =
     (copied_before _ (record { sfits = c.swidth.type_inv }) c.put_signed-4.ensures.text c.swidth.ensures)
     (number_before decimal _ c.put_unsigned-3.ensures.text (c.from-3.ensures ∙ c.code-code.ensures))
     (number_before (hexadecimal 4) _ c.put_hexadecimal.ensures.text (c.from-4.ensures ∙ c.code-code.ensures))
-    (c.before_digits.ensures.value ∙ ap (λ (n : ℕ). codes "STARTCHAR " ++ name_prefix n) c.code-code.ensures)
-    c.put.ensures.text
+    (ap (λ (n : ℕ). codes "STARTCHAR " ++ name_prefix n) c.code-code.ensures) c.put_start.ensures

@@ -1,4 +1,4 @@
-use Rattle.std.proofs.Common.{◌≡◌, ◌+◌, arith, sym, rules, refl}
+use Rattle.std.proofs.Common.{◌+◌, arith}
 use Rattle.std.proofs.lemmas.Grind.{common_steps}
 use Rattle.fx_cache.proofs.EndsPushed.{ends_pushed}
 use Rattle.fx_cache.proofs.words.ends_of.Goals as goal
