@@ -52,3 +52,5 @@ filled_within buffer ys at n h g =
       length-append ys
           (post_of at (length buffer - at) buffer),
     )
+
+pub ruleset filled_steps = (filled_more, filled_within, length_take_most)

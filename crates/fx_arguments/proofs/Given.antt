@@ -206,3 +206,5 @@ rest_done all given i h =
     (drop_all i (texts given) (omega (arith, h, length-map given (λ (t : Bor Text). t.now))))
     ∙ ap (after (seen_properties all)) properties-nil
     ∙ ap (λ (ps : List PropertyView). Some ps) (append-nil (seen_properties all))
+
+pub ruleset rest_steps = (rest_all, rest_done, rest_more, rest_none)

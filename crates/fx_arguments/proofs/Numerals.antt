@@ -97,3 +97,5 @@ number_of_no text h = grind (arith, common_steps)
 pub number_of_long : (text : List ℕ) → 6 < length text → number_of text ≡ None
 unfolding number_of
 number_of_long text h = grind (arith, common_steps)
+
+pub ruleset number_steps = (number_after_none, number_after_end, number_of_is, number_of_no, number_of_long)

@@ -19,6 +19,7 @@ use Rattle.clap.specs.Words.{App, IsAmong, Kinds, Row, Text, fault_of, is_simple
 use Rattle.clap.specs.declared.error.kind.ErrorKind.{ErrorKind}
 use Rattle.fx_arguments.specs.Arguments.{dump_app, is_bare, is_some_kind, make_app, outline_app, rows_by, show_app, trace_app, unsigned_of}
 use Rattle.fx_arguments.specs.Commands.{CommandView, Refuses, seen}
+use Rattle.std.proofs.lemmas.Result.{err_from_is_err_and}
 
 pub make_is_simple : is_simple make_app ≡ true
 unfolding make_app clap_on_literals
@@ -164,3 +165,11 @@ not_taken of made app arguments fault e (inr (usage, none)) =
     let P : Fault → Type 0 = λ f. Refuses f (wanted (rows_by app arguments) Usage >>= of) in
     let no_rows = sym (ap (λ (a : App). rows_by a arguments) e) ∙ none in
     subst P (sym usage) (ap (λ (r : Option (List Row)). wanted r Usage >>= of) no_rows)
+
+pub ruleset rows_steps = (among_some, rows_of_bare, rows_of_fault, rows_of_taken)
+
+pub ruleset simple_apps = (make_is_simple, show_is_simple, outline_is_simple, dump_is_simple, trace_is_simple)
+
+pub ruleset free_apps = (make_is_free, show_is_free, outline_is_free, dump_is_free, trace_is_free)
+
+pub ruleset read_steps = (err_from_is_err_and, not_taken, taken, simple_apps, free_apps)

@@ -48,6 +48,7 @@ pub fn is_command(name: &str, arguments: &[&str]) -> bool
 }
 
 /// Reads the arguments from `make` on.
+#[tactic(auto, using(crate::proofs::Options::read_steps))]
 fn read_make<'a>(alloc: Global, arguments: &'a [&'a str]) -> Result<Command<'a>, Fault>
     ensures { GivesUnless Refuses seen result (command_of_make (texts arguments.entry.now)) }
 {
@@ -56,6 +57,7 @@ fn read_make<'a>(alloc: Global, arguments: &'a [&'a str]) -> Result<Command<'a>,
 }
 
 /// Reads the arguments from `show` on.
+#[tactic(auto, using(crate::proofs::Options::read_steps))]
 fn read_show<'a>(alloc: Global, arguments: &'a [&'a str]) -> Result<Command<'a>, Fault>
     ensures { GivesUnless Refuses seen result (command_of_show (texts arguments.entry.now)) }
 {
@@ -64,6 +66,7 @@ fn read_show<'a>(alloc: Global, arguments: &'a [&'a str]) -> Result<Command<'a>,
 }
 
 /// Reads the arguments from `outline` on.
+#[tactic(auto, using(crate::proofs::Options::read_steps))]
 fn read_outline<'a>(alloc: Global, arguments: &'a [&'a str]) -> Result<Command<'a>, Fault>
     ensures { GivesUnless Refuses seen result (command_of_outline (texts arguments.entry.now)) }
 {
@@ -72,6 +75,7 @@ fn read_outline<'a>(alloc: Global, arguments: &'a [&'a str]) -> Result<Command<'
 }
 
 /// Reads the arguments from `dump` on.
+#[tactic(auto, using(crate::proofs::Options::read_steps))]
 fn read_dump<'a>(alloc: Global, arguments: &'a [&'a str]) -> Result<Command<'a>, Fault>
     ensures { GivesUnless Refuses seen result (command_of_dump (texts arguments.entry.now)) }
 {
@@ -80,6 +84,7 @@ fn read_dump<'a>(alloc: Global, arguments: &'a [&'a str]) -> Result<Command<'a>,
 }
 
 /// Reads the arguments from `trace` on.
+#[tactic(auto, using(crate::proofs::Options::read_steps))]
 fn read_trace<'a>(alloc: Global, arguments: &'a [&'a str]) -> Result<Command<'a>, Fault>
     ensures { GivesUnless Refuses seen result (command_of_trace (texts arguments.entry.now)) }
 {

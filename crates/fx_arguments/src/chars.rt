@@ -11,6 +11,7 @@ use std::alloc::Global;
 /// The numbers of a list of characters, in their order: items joined by commas, each a number of one to six hexadecimal digits
 /// or two such joined by `-`, low first. The empty text is the empty list. `BadChars` if its form is wrong or it has more
 /// than `MAX_CHARACTERS` numbers; any other refusal is `OutOfMemory`.
+#[tactic(auto, using(crate::proofs::Items::none_by_item, crate::proofs::Items::all_items))]
 pub fn parse_chars(alloc: Global, list: &str) -> Result<Vec<u32>, Refusal>
     ensures numbers { IfOk result (λ chars. numbers_of_list list.now ≡ Some chars.items) }
     ensures refused { IfErr result (λ refusal.
@@ -31,6 +32,7 @@ pub fn parse_chars(alloc: Global, list: &str) -> Result<Vec<u32>, Refusal>
 }
 
 /// The first and the last number of an item.
+#[tactic(auto, using(crate::proofs::Items::range_cut, crate::proofs::Items::range_whole))]
 fn range(item: &str) -> Option<(u32, u32)>
     ensures value { result ≡ range_of item.now }
     ensures order { IfSome result (λ range. range.0 ≤ range.1) }
@@ -56,6 +58,7 @@ fn pair(low: Option<u32>, high: Option<u32>) -> Option<(u32, u32)>
 }
 
 /// A number of one to six hexadecimal digits.
+#[tactic(auto, using(crate::proofs::Numerals::number_steps))]
 pub fn number(text: &str) -> Option<u32>
     ensures { result ≡ number_of text.now }
 {

@@ -64,6 +64,7 @@ pub fn trace_command<'a>(alloc: Global) -> Result<Command<'a>, AllocError>
 }
 
 /// `dump` with its options.
+#[tactic(auto, unfolding(crate::specs::Arguments::dump_app))]
 pub fn dump_command<'a>(alloc: Global) -> Result<Command<'a>, AllocError>
     ensures { IfOk result (λ command. app_of command ≡ dump_app) }
 {

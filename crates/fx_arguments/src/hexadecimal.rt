@@ -7,6 +7,7 @@ use hex::FromHexError;
 use std::alloc::{AllocError, Global};
 
 /// The bytes of a text of hexadecimal digits and blanks.
+#[tactic(auto, unfolding(crate::specs::Input::bytes_of_hex))]
 pub fn decode_hex(alloc: Global, text: &[u8]) -> Result<Vec<u8>, Refusal>
     ensures bytes { IfOk result (λ bytes. bytes_of_hex text.now ≡ Some bytes.items) }
     ensures refused { IfErr result (λ refusal. (refusal ≡ Refusal.OutOfMemory)

@@ -17,6 +17,7 @@ use std::alloc::{AllocError, Global};
 pub const LINE_BUFFER: usize = MAX_LINE + 1;
 
 /// Reads until the buffer holds the complete first line. Returns how many bytes it holds then, and how many of them the line has.
+#[tactic(auto, using(crate::proofs::Buffers::filled_steps))]
 pub fn read_line<R: Source>(reader: &mut R, buffer: &mut [u8]) -> Result<(usize, usize), Fault>
     requires faults { R.fault_count reader.old < 2 ^ 63 }
     requires buffer { length buffer.old ≡ max_line + 1 }

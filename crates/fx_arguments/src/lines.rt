@@ -98,6 +98,7 @@ fn add_fate(line: &mut Line, unhinted: bool)
 }
 
 /// Adds a code point.
+#[tactic(auto, using(crate::proofs::Telling::in_pieces))]
 fn add_code(line: &mut Line, code: u32)
     requires { length line.old ≤ 18 }
     ensures text { line.new ≡ line.old ++ spaced (code_word code ∷ []) }
@@ -109,6 +110,7 @@ fn add_code(line: &mut Line, code: u32)
 }
 
 /// Adds a refusal: its number, its name and where it is.
+#[tactic(auto, using(crate::proofs::Telling::name_short))]
 fn add_refusal(line: &mut Line, refusal: Refusal)
     requires { length line.old ≤ 42 }
     ensures text { line.new ≡ line.old ++ spaced (refusal_words refusal) }

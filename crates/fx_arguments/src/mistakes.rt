@@ -106,6 +106,7 @@ fn is_taken(alloc: Global, verb: Verb, words: &[&str]) -> Result<bool, Said>
 }
 
 /// How many words the longest beginning has that is taken.
+#[tactic(auto, using(crate::proofs::Saying::taken_none, crate::proofs::Saying::taken_shorter, crate::proofs::Saying::texts_take))]
 fn taken_words(alloc: Global, verb: Verb, words: &[&str]) -> Result<usize, Said>
     ensures due { SaysUnless (λ n. n) result (Ok (taken_words verb (texts words.now) (length words.now))) }
     ensures within { IfOk result (λ n. n ≤ length words.now) }
@@ -122,6 +123,7 @@ fn taken_words(alloc: Global, verb: Verb, words: &[&str]) -> Result<usize, Said>
 }
 
 /// Why the word is not taken that follows the longest beginning that is.
+#[tactic(auto, using(std::proofs::lemmas::List::take_rest, crate::proofs::Saying::words_at))]
 fn words_said<'w>(alloc: Global, verb: Verb, words: &'w [&'w str]) -> Result<(), Said>
     ensures { SaysUnless (λ u. u) result (Err (words_said verb (texts words.now))) }
 {
@@ -420,6 +422,7 @@ fn dropout_checked(alloc: Global, given: Option<&str>) -> Result<(), Said>
 }
 
 /// Properties, each `KEY=VALUE`.
+#[tactic(auto, using(crate::proofs::Saying::checked_no_more))]
 fn properties_checked(alloc: Global, given: &[&str]) -> Result<(), Said>
     ensures { SaysUnless (λ u. u) result (properties_checked (texts given.now)) }
 {

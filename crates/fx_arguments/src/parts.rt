@@ -3,6 +3,7 @@ ghost use Rattle.std.specs.Prelude.{◌≡◌, ◌∷◌, ◌<◌, length, optio
 ghost use Rattle.fx_arguments.specs.Parts.{left_parts, parts_of};
 
 /// The first part of a text, and what is left after its separator.
+#[tactic(auto, using(crate::proofs::Items::parts_cut, crate::proofs::Items::parts_whole))]
 pub fn first_part(text: &str, separator: char) -> (&str, Option<&str>)
     requires { separator < 128 }
     ensures parts { parts_of separator text.entry.now

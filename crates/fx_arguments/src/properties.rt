@@ -12,6 +12,7 @@ use fx_bdf::{Property, Value};
 use std::alloc::Global;
 
 /// The properties that are asked for; none if no option asks for one.
+#[tactic(auto, using(crate::proofs::Given::none_given))]
 pub fn given_properties<'a>(
     alloc: Global,
     given: Option<&[&'a str]>,
@@ -26,6 +27,7 @@ pub fn given_properties<'a>(
 }
 
 /// The properties of texts, each `NAME=VALUE`. One without `=` is a usage fault.
+#[tactic(auto, using(crate::proofs::Given::rest_steps))]
 fn read_properties<'a>(alloc: Global, given: &[&'a str]) -> Result<Vec<Property<'a>>, Fault>
     ensures { GivesUnless Refuses (λ all. seen_properties all.items) result
         (wanted (properties_of (texts given.entry.now)) Usage) }
@@ -42,6 +44,7 @@ fn read_properties<'a>(alloc: Global, given: &[&'a str]) -> Result<Vec<Property<
 }
 
 /// A name, and a value after the first `=`.
+#[tactic(auto, using(crate::proofs::Given::property_whole))]
 pub fn property_of(text: &str) -> Option<Property<'_>>
     ensures { option_map seen_property result ≡ property_of text.entry.now }
 {
@@ -68,6 +71,7 @@ fn value_of(value: &str) -> Value<'_>
 }
 
 /// The text between the quotation mark that begins a text and the one that ends it.
+#[tactic(auto, using(std::proofs::lemmas::Str::Pattern::strip_prefix_char, crate::proofs::Given::mark_first))]
 fn between_marks(value: &str) -> Option<&str>
     ensures { option_map (λ string. string.now) result ≡ between_marks value.entry.now }
 {
@@ -95,6 +99,7 @@ fn has_plus(value: &str) -> bool
 }
 
 /// A whole number of 32 bits in decimal digits, perhaps a minus before them.
+#[tactic(auto, using(crate::proofs::Given::whole_parsed, crate::proofs::Given::whole_plus))]
 fn whole_of(value: &str) -> Option<i32>
     ensures { result ≡ whole_of value.now }
 {

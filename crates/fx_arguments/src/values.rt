@@ -11,6 +11,7 @@ use clap::{ArgMatches, Command};
 use fx_request::Refusal;
 
 /// The values of a command's options.
+#[tactic(auto, using(crate::proofs::Options::rows_steps))]
 pub fn matches<'a>(command: Command<'a>, arguments: &'a [&'a str]) -> Result<ArgMatches<'a>, Fault>
     requires simple { is_simple (app_of command) ≡ true }
     requires free { is_simple_and_free (app_of command) ≡ true }
@@ -84,6 +85,7 @@ pub fn is_given(matches: &ArgMatches<'_>, id: &str) -> bool
 }
 
 /// The number of a face: a whole number from 0 to 4,294,967,295.
+#[tactic(auto, using(crate::proofs::Options::unsigned_parsed))]
 pub fn face_of(text: &str) -> Option<u32>
     ensures { result ≡ unsigned_of 32 text.now }
 {
@@ -91,6 +93,7 @@ pub fn face_of(text: &str) -> Option<u32>
 }
 
 /// A whole number from 0 to 65,535.
+#[tactic(auto, using(crate::proofs::Options::unsigned_parsed))]
 pub fn size_of(text: &str) -> Option<u16>
     ensures { result ≡ size_of text.now }
 {

@@ -1,7 +1,7 @@
 -- Codes in order, and the ranges that have them as their last codes.
 -- For `Codes`, `RisingCodes`, and the `find` and `gap_end` of segments and groups.
 use Rattle.std.proofs.Common.{◌≡◌, ℕ, zero, suc, ◌+◌, ◌*◌, ◌<◌, ◌≤◌, Bool, true, false, cond, nat_lt, nat_le, List, [], ◌∷◌}
-use Rattle.std.proofs.Common.{Option, Some, None, option_map, length, map, get_or, slice_get, not, refl, sym, ap, ◌∙◌, arith}
+use Rattle.std.proofs.Common.{Option, Some, None, option_map, length, map, get_or, slice_get, not, refl, ap, ◌∙◌, arith}
 use Rattle.std.specs.List.{find, position, position_or_len, range_with_len}
 use Rattle.std.proofs.lemmas.Bool.{or_parts, ltb-true, ltb-false, lt-ltb, lt-leb, le-leb, leb-true, leb-false, cond-true, cond-false}
 use Rattle.std.proofs.lemmas.List.{length-map}
@@ -24,8 +24,7 @@ count_of_codes n bytes first stride count = length-map-range_with_len (λ (k : �
 -- the code with a number
 pub code_at : (n : ℕ) (bytes : List ℕ) (first stride count k : ℕ) → k < count
     → get_or (codes_at n bytes first stride count) k 0 ≡ field n bytes (first + stride * k)
-code_at n bytes first stride count k lt =
-    get_or-map-range_with_len (λ (i : ℕ). field n bytes (first + stride * i)) 0 count k k 0 lt (omega arith)
+code_at n bytes first stride count k lt = grind (arith, get_or-map-range_with_len)
 
 -- codes that do not fall are at least the number below them
 pub falls_above : (before : ℕ) (codes : List ℕ) (i : ℕ) → falls before codes ≡ false → i < length codes → before ≤ get_or codes i 0
@@ -40,8 +39,7 @@ pub rising_between : (before : ℕ) (codes : List ℕ) (i j : ℕ) → falls bef
     → get_or codes i 0 ≤ get_or codes j 0
 rising_between before [] i j h le lt = absurd (omega arith)
 rising_between before (code ∷ more) zero zero h le lt = omega arith
-rising_between before (code ∷ more) zero (suc j) h le lt =
-    falls_above code more j (or_parts (nat_lt code before) (falls code more) h).1 (omega arith)
+rising_between before (code ∷ more) zero (suc j) h le lt = grind (arith, falls_above, or_parts)
 rising_between before (code ∷ more) (suc i) zero h le lt = absurd (omega arith)
 rising_between before (code ∷ more) (suc i) (suc j) h le lt =
     rising_between code more i j (or_parts (nat_lt code before) (falls code more) h).1 (omega arith) (omega arith)
@@ -80,20 +78,13 @@ position_in last code (r ∷ more) = ap (λ (n : ℕ). cond (not (nat_le code (l
 slice_case : {X : Type 0} (f : ℕ → X) (n k : ℕ) (within : Bool) → nat_lt k n ≡ within
     → slice_get (map f (range_with_len 0 n)) k ≡ option_map f (cond within (Some k) None)
 slice_case f n k true h = made_at f n k (ltb-true k n h)
-slice_case f n k false h =
-    slice_get_past (map f (range_with_len 0 n)) k (omega (arith, ltb-false k n h, length-map-range_with_len f 0 n))
+slice_case f n k false h = grind (arith, slice_get_past, ltb-false, length-map-range_with_len)
 
 -- the range that counts for a code, by its number
 pub found_by_number : {X : Type 0} (last : X → ℕ) (f : ℕ → X) (n code : ℕ)
     → find (λ r. nat_le code (last r)) (map f (range_with_len 0 n))
     ≡ option_map f (position (nat_le code) (map last (map f (range_with_len 0 n))))
-found_by_number last f n code =
-    let all = map f (range_with_len 0 n) in
-    let k = position_or_len (nat_le code) (map last all) in
-    let size : length (map last all) ≡ n = length-map all last ∙ length-map-range_with_len f 0 n in
-    find_at (λ r. nat_le code (last r)) all ∙ ap (slice_get all) (position_in last code all)
-    ∙ slice_case f n k (nat_lt k n) refl
-    ∙ ap (λ (m : ℕ). option_map f (cond (nat_lt k m) (Some k) None)) (sym size)
+found_by_number last f n code = grind (arith, length-map, length-map-range_with_len, find_at, position_in, slice_case)
 
 -- the first code that is at least another
 pub first_is : (codes : List ℕ) (code k : ℕ) → k ≤ length codes → ((j : ℕ) → j < k → get_or codes j 0 < code)
@@ -107,10 +98,8 @@ found_case : {X : Type 0} (last : X → ℕ) (r x : X) (more : List X) (code lat
     → code ≤ later → later ≤ last x
     → (find (λ y. nat_le code (last y)) more ≡ Some x → find (λ y. nat_le later (last y)) more ≡ Some x)
     → cond (nat_le later (last r)) (Some r) (find (λ y. nat_le later (last y)) more) ≡ Some x
-found_case last r x more code later true e h le on rest =
-    cond-true (nat_le later (last r)) _ _ (le-leb _ _ (omega (arith, on, ap last (same_Some r x h)))) ∙ h
-found_case last r x more code later false e h le on rest =
-    cond-false (nat_le later (last r)) _ _ (lt-leb _ _ (omega (arith, leb-false _ _ e, le))) ∙ rest h
+found_case last r x more code later true e h le on rest = grind (arith, cond-true, le-leb, same_Some)
+found_case last r x more code later false e h le on rest = grind (arith, cond-false, lt-leb, leb-false)
 
 pub found_on : {X : Type 0} (last : X → ℕ) (ranges : List X) (x : X) (code later : ℕ)
     → find (λ y. nat_le code (last y)) ranges ≡ Some x → code ≤ later → later ≤ last x

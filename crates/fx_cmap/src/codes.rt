@@ -63,6 +63,7 @@ impl<'a> Codes<'a> {
     }
 
     /// The number of codes.
+    #[tactic(auto, using(crate::proofs::Searching::count_of_codes))]
     pub fn len(&self) -> u32
         ensures { result ≡ length self.now }
     {
@@ -70,6 +71,7 @@ impl<'a> Codes<'a> {
     }
 
     /// The code with a number.
+    #[tactic(auto, using(crate::proofs::Searching::count_of_codes, crate::proofs::Searching::code_at))]
     #[inline]
     pub fn at(&self, k: u32) -> u32
         requires { k < length self.now }

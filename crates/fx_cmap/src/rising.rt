@@ -82,6 +82,7 @@ impl<'a> RisingCodes<'a> {
     }
 
     /// The number that `first_reaching` returns, by halving.
+    #[tactic(auto, using(crate::proofs::Searching::rising_between, crate::proofs::Searching::first_is))]
     fn halved(&self, code: u32) -> u32
         ensures { position_or_len (nat_le code) self.now ≡ result }
     {

@@ -7,13 +7,12 @@ use Rattle.std.proofs.lemmas.Bool.{ltb-false, ltb-true, lt-ltb, le-ltb, eqb-true
 use Rattle.std.proofs.lemmas.List.{take-append-drop, length-take-le, drop-take, take_at, drop_at}
 use Rattle.byteorder.specs.Endian.{big_number}
 use Rattle.byteorder.specs.Numbers.{big_from-take}
-use Rattle.fx_fixed.specs.Chain.{◌>>=◌, refuse, map_ok}
+use Rattle.fx_fixed.specs.Chain.{map_ok}
 use Rattle.fx_fixed.proofs.Chain.{refuse_ok, wanted_ok, map_ok_ok, ok_injective}
 use Rattle.fx_sfnt.specs.Fields.{field}
 use Rattle.fx_glyf.specs.declared.point.Point.{Point}
 use Rattle.fx_glyf.specs.declared.part.Part.{Part}
 use Rattle.fx_glyf.specs.declared.fault.GlyphFault.{GlyphFault}
-use Rattle.fx_glyf.specs.declared.fault.GlyphFault.TheVariants.{GlyphShort}
 use Rattle.fx_glyf.specs.declared.glyph.Glyph.{Glyph}
 use Rattle.fx_glyf.specs.declared.glyph.Glyph.TheVariants.{Empty, Simple, Composite}
 use Rattle.fx_glyf.specs.Words.{words, count_from, program_of}
@@ -103,16 +102,12 @@ only_simple bytes g s d =
 found_announced : (announced : Bool) (bytes : List ℕ) (p : List ℕ × List ℕ) → announced_of announced bytes ≡ Some p
     → (front : List ℕ) × (bytes ≡ front ++ p.1) × SpellsAnnounced announced p.0 front
 found_announced true bytes p e = let f = found_program bytes p e in (f.front, f.split, f.spells)
-found_announced false bytes p e =
-    let P : List ℕ × List ℕ → Type 0 = λ q. (front : List ℕ) × (bytes ≡ front ++ q.1) × SpellsAnnounced false q.0 front in
-    let q : ([], bytes) ≡ p = cc in
-    subst P q ([], refl, (refl, refl))
+found_announced false bytes p e = grind arith
 
 only_announced : (announced : Bool) (code front rest : List ℕ) → SpellsAnnounced announced code front
     → announced_of announced (front ++ rest) ≡ Some (code, rest)
 only_announced true code front rest h = only_program code front rest h
-only_announced false code front rest h =
-    ap (λ (x : List ℕ). Some ([], x ++ rest)) h.1 ∙ ap (λ (x : List ℕ). Some (x, rest)) (sym h.0)
+only_announced false code front rest h = grind arith
 
 -- a composite glyph that is read is described by the bytes
 found_composite : (bytes : List ℕ) (g : ℕ) (s : CompositeView) → 10 ≤ length bytes → 32768 ≤ field 2 bytes 0
@@ -159,8 +154,7 @@ only_composite bytes g s d =
 glyph_long : (bytes : List ℕ) (g : ℕ) → 10 ≤ length bytes → glyph_of bytes g ≡ body_of (field 2 bytes 0) bytes g
 unfolding glyph_of
 glyph_long [] g h = absurd (omega arith)
-glyph_long (b ∷ bytes) g h =
-    ap (λ (t : Bool). refuse t (GlyphShort g) >>= λ _. body_of (field 2 (b ∷ bytes) 0) (b ∷ bytes) g) (le-ltb _ _ h)
+glyph_long (b ∷ bytes) g h = grind (arith, le-ltb)
 
 body_none : (contours : ℕ) (bytes : List ℕ) (g : ℕ) → contours ≡ 0 → body_of contours bytes g ≡ Ok Empty
 body_none contours bytes g e = ap (λ (n : ℕ). body_of n bytes g) e
@@ -213,24 +207,14 @@ found_body true below bytes g glyph long n b h =
       split = sym (take-append-drop 10 bytes);
       header_is = record { size = k.size; contours_are = sym zero_is ∙ k.contours_are; x_min_is = k.x_min_is };
     }))
-found_body false true bytes g glyph long n b h =
-    let high : field 2 bytes 0 < 32768 = ltb-true _ _ b in
-    let some : field 2 bytes 0 ≡ 0 → ⊥ = eqb-false _ _ n in
-    let low : 0 < field 2 bytes 0 = omega arith in
-    seen_ok Simple (simple_of (field 2 bytes 0) bytes g) glyph (Describes bytes) h (λ s q. found_simple bytes g s long low high q)
-found_body false false bytes g glyph long n b h =
-    let high : 32768 ≤ field 2 bytes 0 = ltb-false _ _ b in
-    seen_ok Composite (composite_of bytes g) glyph (Describes bytes) h (λ s q. found_composite bytes g s long high q)
+found_body false true bytes g glyph long n b h = grind (arith, ltb-true, eqb-false, seen_ok, found_simple)
+found_body false false bytes g glyph long n b h = grind (arith, ltb-false, seen_ok, found_composite)
 
 -- what is read is described by the bytes
 pub found_glyph : (bytes : List ℕ) (g : ℕ) (glyph : Glyph) → glyph_of bytes g ≡ Ok glyph → Describes bytes glyph
 unfolding glyph_of
-found_glyph [] g glyph h =
-    let P : Glyph → Type 0 = Describes [] in
-    subst P (ok_injective _ _ h) (inl refl)
-found_glyph (b ∷ bytes) g glyph h =
-    let a = refuse_ok _ _ _ _ h in
-    found_body _ _ (b ∷ bytes) g glyph (ltb-false _ _ a.0) refl refl a.1
+found_glyph [] g glyph h = grind (arith, ok_injective)
+found_glyph (b ∷ bytes) g glyph h = grind (arith, refuse_ok, found_body, ltb-false)
 
 pub if_ok : {X E : Type 0} (r : Result X E) (P : X → Type 0) → ((x : X) → r ≡ Ok x → P x) → IfOk r P
 if_ok (Ok x) P h = h x refl

@@ -2,11 +2,10 @@
 -- For `next_flag`, `delta` and the iterators over flags and points.
 use Rattle.std.proofs.Common.{◌≡◌, ◌∙◌, ℕ, zero, suc, ◌+◌, ◌-◌, ◌<◌, ◌≤◌, ◌%◌, List, [], ◌∷◌, length, drop, get_or}
 use Rattle.std.proofs.Common.{Option, Some, None}
-use Rattle.std.proofs.Common.{Bool, true, false, cond, refl, sym, ap, subst, arith, inl, inr, add-zero}
+use Rattle.std.proofs.Common.{Bool, true, false, cond, refl, sym, ap, subst, arith, add-zero}
 use Rattle.std.specs.Prelude.{IsSome, option_and_then}
 use Rattle.std.proofs.lemmas.Bool.{cases_lt, lt-ltb, le-ltb}
 use Rattle.std.proofs.lemmas.List.{get_or-drop, drop-drop, length-drop}
-use Rattle.byteorder.specs.Endian.{big_number}
 use Rattle.fx_sfnt.specs.Fields.{field}
 use Rattle.fx_glyf.specs.Words.{has, with_front}
 use Rattle.fx_glyf.specs.Points.{Cursor, start, repeat_flag, next_flag, flags_from, delta_by, delta_of, deltas_from}
@@ -37,10 +36,7 @@ pub two_bytes : (again flag : ℕ) (bytes : List ℕ) → again ≤ 0 → has (g
 unfolding next_flag
 two_bytes (suc again) flag bytes low r h = absurd (omega arith)
 two_bytes zero flag [] low r h = absurd (cc)
-two_bytes zero flag (f ∷ []) low r h =
-    let P : Bool → Type 0 = λ b. IsSome {T = Cursor} (cond b None (Some (record { again = 0; flag = f; bytes = [] }))) in
-    let none : IsSome {T = Cursor} None = subst P r h in
-    absurd (cc)
+two_bytes zero flag (f ∷ []) low r h = grind arith
 two_bytes zero flag (f ∷ g ∷ bytes) low r h = omega arith
 
 -- the flag of the point before, once more
@@ -49,9 +45,7 @@ pub flag_again : (again flag : ℕ) (bytes : List ℕ) → 0 < again
     ≡ next_flag (record { again = again; flag = flag; bytes = bytes })
 unfolding next_flag
 flag_again zero flag bytes h = absurd (omega arith)
-flag_again (suc again) flag bytes h =
-    let same : suc again - 1 ≡ again = omega arith in
-    ap (λ (n : ℕ). Some (record { again = n; flag = flag; bytes = bytes })) same
+flag_again (suc again) flag bytes h = grind arith
 
 -- a flag that is repeated, with the number after it
 pub flag_repeated : (again flag : ℕ) (bytes rest : List ℕ) → again ≤ 0 → has (get_or bytes 0 0) repeat_flag ≡ true
@@ -84,6 +78,8 @@ alone_at xs at h r =
     ∙ flag_alone 0 0 (drop at xs) (drop (at + 1) xs) (omega arith) (ap (λ (f : ℕ). has f repeat_flag) first ∙ r)
     (omega (arith, h, length-drop at xs)) (sym (drop-drop 1 at xs))
 
+pub ruleset next_flag_steps = (one_byte, two_bytes, flag_again, flag_repeated, flag_alone)
+
 -- ---- deltas
 
 -- the bytes hold the first of some deltas
@@ -111,12 +107,7 @@ pub word_held : (short same : Bool) (bytes : List ℕ) → short ≡ false → s
 unfolding delta_by
 word_held true same bytes e f h = absurd (cc)
 word_held false true bytes e f h = absurd (cc)
-word_held false false bytes e f h =
-    let P : Bool → Type 0 = λ b. IsSome {T = ℕ × List ℕ} (cond b None (Some (big_number 2 bytes, drop 2 bytes))) in
-    elim (cases_lt (length bytes) 2) [
-      | inl l ↦ let none : IsSome {T = ℕ × List ℕ} None = subst P (lt-ltb _ _ l) h in absurd (cc)
-      | inr l ↦ l
-    ]
+word_held false false bytes e f h = grind (arith, cases_lt, lt-ltb)
 
 pub short_is : (short same positive : Bool) (bytes rest : List ℕ) (by : ℕ) → short ≡ true → positive ≡ same
     → 1 ≤ length bytes → rest ≡ drop 1 bytes
@@ -138,5 +129,6 @@ pub word_is : (short same : Bool) (bytes rest : List ℕ) (by : ℕ) → short �
 unfolding delta_by field
 word_is true same bytes rest by e f h b r = absurd (cc)
 word_is false true bytes rest by e f h b r = absurd (cc)
-word_is false false bytes rest by e f h b r =
-    rw (b, r) (sym (ap (λ (c : Bool). cond c None (Some (big_number 2 bytes, drop 2 bytes))) (le-ltb _ _ h)))
+word_is false false bytes rest by e f h b r = grind (arith, le-ltb)
+
+pub ruleset delta_steps = (short_held, word_held, short_is, same_is, word_is)

@@ -99,16 +99,7 @@ points_count (f ∷ fs) (dx ∷ dxs) (dy ∷ dys) x y h k = ap suc (points_count
 pub outline_count : (count : ℕ) (bytes : List ℕ) (points : List Point) → glyph_points_of count bytes ≡ Some points
     → length points ≡ count
 unfolding glyph_points_of
-outline_count count bytes points e =
-    option_and_then_some of_flags (flags_from count (start bytes)) points e (λ fs qf wf.
-    option_and_then_some (of_xs fs.0) (deltas_from x_short_vector x_is_same_or_positive_x_short_vector fs.0 fs.1) points wf
-    (λ xs qx wx.
-    option_and_then_some (of_ys fs.0 xs.0) (deltas_from y_short_vector y_is_same_or_positive_y_short_vector fs.0 xs.1) points wx
-    (λ ys qy wy.
-    ap length (sym (same_Some _ _ wy))
-    ∙ points_count fs.0 xs.0 ys.0 0 0 (deltas_count x_short_vector x_is_same_or_positive_x_short_vector fs.0 fs.1 xs.0 xs.1 qx)
-    (deltas_count y_short_vector y_is_same_or_positive_y_short_vector fs.0 xs.1 ys.0 ys.1 qy)
-    ∙ flags_count count (start bytes) fs.0 fs.1 qf)))
+outline_count count bytes points e = grind (arith, option_and_then_some, same_Some, points_count, deltas_count, flags_count)
 
 -- points whose bytes are complete are as many as asked for
 pub seen_count : (count : ℕ) (bytes xs ys : List ℕ) → IsSome (flags_from count (start bytes))

@@ -44,16 +44,12 @@ size_of_taken n bytes taken p e t is =
 -- such a component, and what comes after its size
 pub part_found : (n : ℕ) (bytes taken : List ℕ) (p : Part) → n ≡ part_size (field 2 bytes 0) → n ≤ length bytes
     → taken ≡ take n bytes → p ≡ part_of taken → Some (p, drop (part_size p.flags) bytes) ≡ next_part bytes
-part_found n bytes taken p e h t is =
-    ap (λ (k : ℕ). Some (p, drop k bytes)) (size_of_taken n bytes taken p e t is ∙ e)
-    ∙ ap (λ (q : Part). Some (q, drop (part_size (field 2 bytes 0)) bytes))
-    (is ∙ ap part_of (t ∙ ap (λ (k : ℕ). take k bytes) e)) ∙ part_there_is bytes (omega (arith, e)) (omega (arith, e))
+part_found n bytes taken p e h t is = grind (arith, size_of_taken, part_there_is)
 
 -- the next component with the rest, in which a number of bytes was left out that is its size
 pub part_with_rest : (bytes : List ℕ) (p : Part) (n : ℕ) (rest : List ℕ) → n ≡ part_size p.flags → rest ≡ drop n bytes
     → Some (p, drop (part_size p.flags) bytes) ≡ next_part bytes → Some (p, rest) ≡ next_part bytes
-part_with_rest bytes p n rest size left e =
-    ap (λ (xs : List ℕ). Some (p, xs)) (left ∙ ap (λ (k : ℕ). drop k bytes) size) ∙ e
+part_with_rest bytes p n rest size left e = grind arith
 
 -- what the next component is, and what is left
 pub record Next (bytes : List ℕ) (d : Part × List ℕ) : Type 0 where
@@ -63,23 +59,11 @@ pub record Next (bytes : List ℕ) (d : Part × List ℕ) : Type 0 where
 
 pub next_is : (bytes : List ℕ) (d : Part × List ℕ) → next_part bytes ≡ Some d → Next bytes d
 unfolding next_part
-next_is bytes d e =
-    let a = guarded _ _ _ e in
-    let b = guarded _ _ _ a.1 in
-    let q = same_Some _ _ b.1 in
-    record {
-      inside = ltb-false _ _ b.0;
-      part = sym (ap (λ (x : Part × List ℕ). x.0) q);
-      rest = sym (ap (λ (x : Part × List ℕ). x.1) q);
-    }
+next_is bytes d e = grind (arith, guarded, same_Some, ltb-false)
 
 -- less is left
 pub shorter : (bytes : List ℕ) (d : Part × List ℕ) → next_part bytes ≡ Some d → length d.1 < length bytes
-shorter bytes d e =
-    let n = next_is bytes d e in
-    let size = part_size (field 2 bytes 0) in
-    let four : 4 ≤ part_size (field 2 bytes 0) = omega arith in
-    omega (arith, n.inside, four, ap length n.rest, length-drop (part_size (field 2 bytes 0)) bytes)
+shorter bytes d e = grind (arith, next_is, length-drop)
 
 step_same : {X Y : Type 0} (o : Option X) (f g : X → Option Y) → ((x : X) → o ≡ Some x → f x ≡ g x)
     → option_and_then f o ≡ option_and_then g o
@@ -147,8 +131,7 @@ ending_front : (announced : Bool) (p : Part) (o : Option (List Part × List ℕ)
     → option_map (ending_with (announced || has p.flags we_have_instructions)) o ≡ option_map (ending_with announced)
     (with_front p o)
 ending_front announced p None = refl
-ending_front announced p (Some r) =
-    ap (λ (b : Bool). Some (b, r.1)) (or_assoc announced (has p.flags we_have_instructions) (has_program r.0))
+ending_front announced p (Some r) = grind (arith, or_assoc)
 
 pub parts_passed : (announced more : Bool) (bytes : List ℕ) (p : Part) (rest : List ℕ) (says after : Bool) → more ≡ true
     → Some (p, rest) ≡ next_part bytes → says ≡ has p.flags we_have_instructions → after ≡ is_followed p
@@ -162,15 +145,11 @@ parts_passed announced more bytes p rest says after m e s a =
 
 pub parts_stopped : (announced more : Bool) (bytes : List ℕ) → more ≡ true → None ≡ next_part bytes
     → None ≡ option_map (ending_with announced) (parts_in more bytes)
-parts_stopped announced more bytes m e =
-    sym (ap (λ (b : Bool). option_map (ending_with announced) (parts_in b bytes)) m
-    ∙ ap (option_map (ending_with announced)) (parts_short bytes e))
+parts_stopped announced more bytes m e = grind (arith, parts_short)
 
 pub parts_ended : (announced more : Bool) (bytes : List ℕ) → more ≡ false
     → Some (announced, bytes) ≡ option_map (ending_with announced) (parts_in more bytes)
-parts_ended announced more bytes m =
-    sym (ap (λ (b : Bool). option_map (ending_with announced) (parts_in b bytes)) m
-    ∙ ap (option_map (ending_with announced)) (parts_done bytes) ∙ ap (λ (b : Bool). Some (b, bytes)) (or-false announced))
+parts_ended announced more bytes m = grind (arith, parts_done, or-false)
 
 -- no component is to come
 pub parts_none : (more : Bool) (bytes : List ℕ) → more ≡ false → list_in (parts_in more bytes) ≡ []
@@ -191,9 +170,8 @@ part_there more bytes m e h = none_absurd _ (ap (λ (b : Bool). parts_in b bytes
 -- the bytes of a component are those of its flags
 pub part_taken : (n : ℕ) (bytes taken : List ℕ) → n ≡ part_size (field 2 bytes 0) → n ≤ length bytes → taken ≡ take n bytes
     → part_size (field 2 taken 0) ≤ length taken
-part_taken n bytes taken e h t =
-    let four : 2 ≤ part_size (field 2 bytes 0) = omega arith in
-    let same : field 2 taken 0 ≡ field 2 bytes 0 = ap (λ (xs : List ℕ). field 2 xs 0) t ∙ field-taken 0 n bytes (omega arith) in
-    let size : part_size (field 2 taken 0) ≡ n = ap part_size same ∙ sym e in
-    let long : length taken ≡ n = ap length t ∙ length-take-le n bytes h in
-    omega arith
+part_taken n bytes taken e h t = grind (arith, field-taken, length-take-le)
+
+pub ruleset next_steps = (part_with_rest, parts_none, part_stepped, part_there)
+
+pub ruleset skip_steps = (part_with_rest, shorter, parts_passed, parts_stopped, parts_ended)

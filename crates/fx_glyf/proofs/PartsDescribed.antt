@@ -1,8 +1,8 @@
 -- Reading component records against the grammar, both ways.
 -- For the clauses of `read` on composites.
-use Rattle.std.proofs.Common.{◌≡◌, ℕ, zero, suc, ◌+◌, ◌≤◌, Bool, true, false, List, [], ◌∷◌, ◌++◌, length, take, drop, cond, Some}
-use Rattle.std.proofs.Common.{None, refl, sym, ap, ◌∙◌, arith, subst, append_assoc, length-append}
-use Rattle.std.specs.Prelude.{option_and_then, nat_lt}
+use Rattle.std.proofs.Common.{◌≡◌, ℕ, zero, suc, ◌+◌, ◌≤◌, Bool, true, false, List, [], ◌∷◌, ◌++◌, length, take, Some}
+use Rattle.std.proofs.Common.{refl, sym, ap, ◌∙◌, arith, subst, append_assoc, length-append}
+use Rattle.std.specs.Prelude.{option_and_then}
 use Rattle.std.proofs.lemmas.Option.{option_and_then_some, same_Some, none-some}
 use Rattle.std.proofs.lemmas.Bool.{le-ltb}
 use Rattle.std.proofs.lemmas.List.{take-append-drop, length-take-le, take_at, drop_at}
@@ -55,10 +55,7 @@ record Found (more : Bool) (bytes : List ℕ) (ps : List Part) (rest : List ℕ)
 found_in : (more : Bool) (most : ℕ) (bytes : List ℕ) (ps : List Part) (rest : List ℕ) → parts_from more most bytes ≡ Some (ps, rest)
     → Found more bytes ps rest
 unfolding parts_from
-found_in false most bytes ps rest e =
-    let q = same_Some _ _ e in
-    let P : List Part × List ℕ → Type 0 = λ r. Found false bytes r.0 r.1 in
-    subst P q (record { front = []; split = refl; spells = refl; follow = refl })
+found_in false most bytes ps rest e = grind (arith, same_Some)
 found_in true zero bytes ps rest e = absurd (none-some _ e)
 found_in true (suc most) bytes ps rest e =
     option_and_then_some (λ (d : Part × List ℕ). with_front d.0 (parts_from (is_followed d.0) most d.1)) (next_part bytes)
@@ -105,34 +102,7 @@ found_parts bytes ps rest e =
 next_read : (p : Part) (front rest : List ℕ) → length front ≡ part_size p.flags → p ≡ part_of front
     → next_part (front ++ rest) ≡ Some (p, rest)
 unfolding next_part
-next_read p front rest h e =
-    let flags : p.flags ≡ field 2 front 0 = ap (λ (q : Part). q.flags) e ∙ part_flags front in
-    let four : 4 ≤ part_size p.flags = omega arith in
-    let same : field 2 (front ++ rest) 0 ≡ p.flags = field-front 0 front rest (omega arith) ∙ sym flags in
-    let size : part_size (field 2 (front ++ rest) 0) ≡ length front = ap part_size same ∙ sym h in
-    let long = length-append front rest in
-    let a : 4 ≤ length (front ++ rest) = omega arith in
-    let b : part_size (field 2 (front ++ rest) 0) ≤ length (front ++ rest) = omega arith in
-    let gives : Part × List ℕ = (
-      part_of (take (part_size (field 2 (front ++ rest) 0)) (front ++ rest)),
-      drop
-          (part_size (field 2 (front ++ rest) 0)) (front ++ rest),
-    ) in
-    ap (λ (t : Bool). cond t None (cond (nat_lt (length (front ++ rest)) (part_size (field 2 (front ++ rest) 0))) None
-    (Some (
-      part_of (take (part_size (field 2 (front ++ rest) 0)) (front ++ rest)),
-      drop (part_size (field 2 (front ++ rest) 0))
-          (front ++ rest),
-    )))) (le-ltb _ _ a)
-    ∙ ap (λ (t : Bool). cond t None (Some (
-      part_of (take (part_size (field 2 (front ++ rest) 0)) (front ++ rest)),
-      drop
-          (part_size (field 2 (front ++ rest) 0)) (front ++ rest),
-    ))) (le-ltb _ _ b)
-    ∙ ap (λ (n : ℕ). Some (part_of (take n (front ++ rest)), drop n (front ++ rest))) size
-    ∙ ap (λ (x : List ℕ). Some (part_of x, drop (length front) (front ++ rest))) (take_at front rest (length front) refl)
-    ∙ ap (λ (x : List ℕ). Some (part_of front, x)) (drop_at front rest (length front) refl)
-    ∙ ap (λ (q : Part). Some (q, rest)) (sym e)
+next_read p front rest h e = grind (arith, part_flags, field-front, length-append, le-ltb, take_at, drop_at)
 
 read_in : (more : Bool) (ps : List Part) (front rest : List ℕ) (most : ℕ) → SpellsParts ps front → Follow more ps
     → length front ≤ most → parts_from more most (front ++ rest) ≡ Some (ps, rest)
@@ -140,11 +110,7 @@ unfolding parts_from
 read_in false [] front rest most h k l = ap (λ (x : List ℕ). Some ([], x ++ rest)) h
 read_in true [] front rest most h k l = absurd (cc)
 read_in false (p ∷ ps) front rest most h k l = let e : false ≡ true = k.0 in absurd (cc)
-read_in true (p ∷ ps) front rest zero h k l =
-    let four : 4 ≤ part_size p.flags = omega arith in
-    let long : length front ≡ length h.0 + length h.1 = ap length h.2 ∙ length-append h.0 h.1 in
-    let size : length h.0 ≡ part_size p.flags = h.3 in
-    absurd (omega arith)
+read_in true (p ∷ ps) front rest zero h k l = grind (arith, length-append)
 read_in true (p ∷ ps) front rest (suc most) h k l =
     let four : 4 ≤ part_size p.flags = omega arith in
     let long : length front ≡ length h.0 + length h.1 = ap length h.2 ∙ length-append h.0 h.1 in
@@ -159,6 +125,4 @@ read_in true (p ∷ ps) front rest (suc most) h k l =
 -- what the bytes describe is read
 pub only_parts : (ps : List Part) (front rest : List ℕ) → SpellsParts ps front → AreComponents ps
     → parts_in true (front ++ rest) ≡ Some (ps, rest)
-only_parts ps front rest h k =
-    let long = length-append front rest in
-    read_in true ps front rest (length (front ++ rest)) h (follow_components ps k) (omega arith)
+only_parts ps front rest h k = grind (arith, length-append, read_in, follow_components)

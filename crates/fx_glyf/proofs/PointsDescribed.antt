@@ -32,27 +32,12 @@ record Ran (bytes : List ℕ) (d : Cursor) : Type 0 where
 
 ran_long : (t : Bool) (f r : ℕ) (bytes : List ℕ) (d : Cursor) → has f repeat_flag ≡ t
     → cond t (Some (cursor r f bytes)) (Some (cursor 0 f (r ∷ bytes))) ≡ Some d → Ran (f ∷ r ∷ bytes) d
-ran_long true f r bytes d h e =
-    let P : Cursor → Type 0 = Ran (f ∷ r ∷ bytes) in
-    subst P (same_Some _ _ e) (record {
-      bytes_are = sym (ap (λ (b : Bool). cond b (f ∷ r ∷ []) (f ∷ []) ++ bytes) h);
-      once = λ g. absurd (both_ways _ g h);
-    })
-ran_long false f r bytes d h e =
-    let P : Cursor → Type 0 = Ran (f ∷ r ∷ bytes) in
-    subst P (same_Some _ _ e) (record {
-      bytes_are = sym (ap (λ (b : Bool). cond b (f ∷ 0 ∷ []) (f ∷ []) ++ (r ∷ bytes)) h);
-      once = λ g. refl;
-    })
+ran_long true f r bytes d h e = grind (arith, same_Some, both_ways)
+ran_long false f r bytes d h e = grind (arith, same_Some)
 
 ran_short : (t : Bool) (f : ℕ) (d : Cursor) → has f repeat_flag ≡ t → cond t None (Some (cursor 0 f [])) ≡ Some d → Ran (f ∷ []) d
 ran_short true f d h e = absurd (none-some _ e)
-ran_short false f d h e =
-    let P : Cursor → Type 0 = Ran (f ∷ []) in
-    subst P (same_Some _ _ e) (record {
-      bytes_are = sym (ap (λ (b : Bool). cond b (f ∷ 0 ∷ []) (f ∷ []) ++ []) h);
-      once = λ g. refl;
-    })
+ran_short false f d h e = grind (arith, same_Some)
 
 one_run : (flag : ℕ) (bytes : List ℕ) (d : Cursor) → next_flag (cursor 0 flag bytes) ≡ Some d → Ran bytes d
 unfolding next_flag
@@ -64,11 +49,8 @@ run_one_by : (t : Bool) (flag f a : ℕ) (rest : List ℕ) → has f repeat_flag
     → next_flag (cursor 0 flag (cond t (f ∷ a ∷ []) (f ∷ []) ++ rest)) ≡ Some (cursor a f rest)
 unfolding next_flag
 run_one_by true flag f a rest h g = ap (λ (b : Bool). cond b (Some (cursor a f rest)) (Some (cursor 0 f (a ∷ rest)))) h
-run_one_by false flag f a [] h g =
-    ap (λ (b : Bool). cond b None (Some (cursor 0 f []))) h ∙ ap (λ (n : ℕ). Some (cursor n f [])) (sym (g refl))
-run_one_by false flag f a (x ∷ xs) h g =
-    ap (λ (b : Bool). cond b (Some (cursor x f xs)) (Some (cursor 0 f (x ∷ xs)))) h
-    ∙ ap (λ (n : ℕ). Some (cursor n f (x ∷ xs))) (sym (g refl))
+run_one_by false flag f a [] h g = grind arith
+run_one_by false flag f a (x ∷ xs) h g = grind arith
 
 run_one : (flag : ℕ) (r : Run) (rest : List ℕ) → (has r.flag repeat_flag ≡ false → r.again ≡ 0)
     → next_flag (cursor 0 flag (run_bytes r ++ rest)) ≡ Some (cursor r.again r.flag rest)
@@ -90,9 +72,7 @@ same_head {X} {Y} x y e = ap (λ (p : X × Y). p.0) e
 runs_of : (n again flag : ℕ) (bytes fs rest : List ℕ) → flags_from n (cursor again flag bytes) ≡ Some (fs, rest)
     → Runs n again flag bytes fs rest
 unfolding flags_from next_flag
-runs_of zero again flag bytes fs rest e =
-    let q = same_Some _ _ e in
-    record { runs = []; split = same_tail _ _ q; are = omega arith; flags = sym (same_head _ _ q) }
+runs_of zero again flag bytes fs rest e = grind (arith, same_Some, same_tail, same_head)
 runs_of (suc n) (suc again) flag bytes fs rest e =
     let f = front_is flag _ fs rest e in
     let i = runs_of n again flag bytes f.0 rest f.1 in
@@ -154,9 +134,7 @@ spelled true same [] d rest e = absurd (none-some _ e)
 spelled true same (b ∷ bytes) d rest e =
     let q = same_Some _ _ e in
     record { front = b ∷ []; split = ap (λ (x : List ℕ). b ∷ x) (same_tail _ _ q); spells = (b, refl, sym (same_head _ _ q)) }
-spelled false true bytes d rest e =
-    let q = same_Some _ _ e in
-    record { front = []; split = same_tail _ _ q; spells = (refl, sym (same_head _ _ q)) }
+spelled false true bytes d rest e = grind (arith, same_Some, same_tail, same_head)
 spelled false false bytes d rest e =
     let g = guard_ok _ _ _ e in
     let two : 2 ≤ length bytes = ltb-false _ _ g.0 in
@@ -170,10 +148,8 @@ spelled false false bytes d rest e =
 delta_read : (short same : Bool) (d : ℕ) (front rest : List ℕ) → SpellsBy short same d front
     → delta_by short same (front ++ rest) ≡ Some (d, rest)
 unfolding delta_by
-delta_read true same d front rest h =
-    ap (λ (x : List ℕ). delta_by true same (x ++ rest)) h.1 ∙ ap (λ (n : ℕ). Some (n, rest)) (sym h.2)
-delta_read false true d front rest h =
-    ap (λ (x : List ℕ). delta_by false true (x ++ rest)) h.0 ∙ ap (λ (n : ℕ). Some (n, rest)) (sym h.1)
+delta_read true same d front rest h = grind arith
+delta_read false true d front rest h = grind arith
 delta_read false false d front rest h =
     let two : 2 ≤ length (front ++ rest) = omega (arith, length-append front rest, h.0) in
     ap (λ (b : Bool). cond b None (Some (big_number 2 (front ++ rest), drop 2 (front ++ rest)))) (le-ltb _ _ two)
@@ -188,10 +164,7 @@ record AllSpelled (short same : ℕ) (fs bytes ds rest : List ℕ) : Type 0 wher
 all_spelled : (short same : ℕ) (fs bytes ds rest : List ℕ) → deltas_from short same fs bytes ≡ Some (ds, rest)
     → AllSpelled short same fs bytes ds rest
 unfolding deltas_from
-all_spelled short same [] bytes ds rest e =
-    let q = same_Some _ _ e in
-    let P : List ℕ → Type 0 = λ xs. SpellsAll short same [] xs [] in
-    record { front = []; split = same_tail _ _ q; spells = subst P (same_head _ _ q) refl }
+all_spelled short same [] bytes ds rest e = grind (arith, same_Some, same_tail, same_head)
 all_spelled short same (f ∷ fs) bytes ds rest e =
     option_and_then_some (λ (d : ℕ × List ℕ). with_front d.0 (deltas_from short same fs d.1)) (delta_of short same f bytes)
     (ds, rest) e (λ d q w.
@@ -252,14 +225,4 @@ found_points count bytes points e =
 pub only_points : (count : ℕ) (bytes : List ℕ) (points : List Point) → DescribesPoints count bytes points
     → glyph_points_of count bytes ≡ Some points
 unfolding glyph_points_of
-only_points count bytes points d =
-    let P : ℕ → Type 0 = λ n. AreRuns n d.runs in
-    let same : count ≡ count - 0 = omega arith in
-    ap (glyph_points_of count) d.split
-    ∙ ap (option_and_then of_flags) (runs_read count 0 0 d.runs (d.xs ++ (d.ys ++ d.after)) (subst P same d.are_runs)
-    ∙ ap (λ (fs : List ℕ). Some (fs, d.xs ++ (d.ys ++ d.after))) (sym d.flags_are))
-    ∙ ap (option_and_then (of_xs d.flags)) (all_read x_short_vector x_is_same_or_positive_x_short_vector d.flags d.dxs d.xs
-    (d.ys ++ d.after) d.xs_are)
-    ∙ ap (option_and_then (of_ys d.flags d.dxs))
-    (all_read y_short_vector y_is_same_or_positive_y_short_vector d.flags d.dys d.ys d.after d.ys_are)
-    ∙ ap Some (sym d.points_are)
+only_points count bytes points d = grind (arith, of_flags, runs_read, of_xs, all_read, of_ys)

@@ -1,8 +1,8 @@
 -- A header and a program against the grammar, both ways.
 -- For the clauses of `read`.
-use Rattle.std.proofs.Common.{◌≡◌, ℕ, ◌≤◌, Bool, List, ◌++◌, length, take, drop, cond, Some, None, refl, sym, ap, ◌∙◌, arith, subst}
+use Rattle.std.proofs.Common.{◌≡◌, ℕ, ◌≤◌, List, ◌++◌, length, take, drop, Some, refl, sym, ap, ◌∙◌, arith, subst}
 use Rattle.std.proofs.Common.{append_assoc, length-append}
-use Rattle.std.specs.Prelude.{ℤ, nat_lt}
+use Rattle.std.specs.Prelude.{ℤ}
 use Rattle.std.specs.Int.{w16, cast_signed}
 use Rattle.std.proofs.lemmas.Option.{same_Some}
 use Rattle.std.proofs.lemmas.Bool.{ltb-false, le-ltb}
@@ -47,17 +47,7 @@ found_program bytes p e =
 program_there : (bytes code rest : List ℕ) → 2 ≤ length bytes → drop 2 bytes ≡ code ++ rest → field 2 bytes 0 ≡ length code
     → program_of bytes ≡ Some (code, rest)
 unfolding program_of
-program_there bytes code rest two tail size =
-    let long = length-append code rest in
-    let b : field 2 bytes 0 ≤ length (drop 2 bytes) = omega (arith, ap length tail) in
-    ap (λ (t : Bool). cond t None (cond (nat_lt (length (drop 2 bytes)) (field 2 bytes 0)) None
-    (Some (take (field 2 bytes 0) (drop 2 bytes), drop (field 2 bytes 0) (drop 2 bytes))))) (le-ltb _ _ two)
-    ∙ ap (λ (t : Bool). cond t None (Some (take (field 2 bytes 0) (drop 2 bytes), drop (field 2 bytes 0) (drop 2 bytes))))
-    (le-ltb _ _ b)
-    ∙ ap (λ (n : ℕ). Some (take n (drop 2 bytes), drop n (drop 2 bytes))) size
-    ∙ ap (λ (x : List ℕ). Some (take (length code) x, drop (length code) x)) tail
-    ∙ ap (λ (x : List ℕ). Some (x, drop (length code) (code ++ rest))) (take_at code rest (length code) refl)
-    ∙ ap (λ (x : List ℕ). Some (code, x)) (drop_at code rest (length code) refl)
+program_there bytes code rest two tail size = grind (arith, length-append, le-ltb, take_at, drop_at)
 
 -- a program that is described is read
 pub only_program : (code front rest : List ℕ) → SpellsProgram code front → program_of (front ++ rest) ≡ Some (code, rest)

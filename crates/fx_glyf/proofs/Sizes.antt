@@ -12,7 +12,7 @@ use Rattle.fx_glyf.specs.Words.{has, with_front, list_in, words}
 use Rattle.fx_glyf.specs.Points.{x_short_vector, x_is_same_or_positive_x_short_vector, y_short_vector}
 use Rattle.fx_glyf.specs.Points.{y_is_same_or_positive_y_short_vector, next_flag, flags_from, delta_by, delta_of, deltas_from}
 use Rattle.fx_glyf.specs.Points.{start, repeat_flag}
-use Rattle.fx_glyf.specs.inner.Sizes.{AreSizes, Measured, delta_size, deltas_size, Measure, measured_on}
+use Rattle.fx_glyf.specs.inner.Sizes.{AreSizes, Measured, delta_size, deltas_size, measured_on}
 use Rattle.fx_glyf.proofs.Held.{alone_at}
 use Rattle.fx_glyf.proofs.Steps.{front_rest, flags_at, flags_short, deltas_at, deltas_short, deltas_done}
 
@@ -38,12 +38,7 @@ measured_passed : (m n k r r' f : ℕ) (bytes : List ℕ) (xs ys xs' ys' : ℕ) 
     → measured_on xs' ys' (flags_from n (record { again = r; flag = f; bytes = bytes }))
     ≡ measured_on xs ys (flags_from k (record { again = r'; flag = f; bytes = bytes }))
 unfolding flags_from next_flag
-measured_passed zero n k r r' f bytes xs ys xs' ys' p q ex ey =
-    let p' : k ≡ n = omega arith in
-    let q' : r' ≡ r = omega arith in
-    let ex' : xs' ≡ xs = omega arith in
-    let ey' : ys' ≡ ys = omega arith in
-    rw (p', q', ex', ey') refl
+measured_passed zero n k r r' f bytes xs ys xs' ys' p q ex ey = grind arith
 measured_passed (suc m) n k r r' f bytes xs ys xs' ys' p q ex ey =
     let p' : k ≡ suc (m + n) = omega arith in
     let q' : r' ≡ suc (m + r) = omega arith in
@@ -124,13 +119,7 @@ pub record IsMeasured (o : Option (List ℕ × List ℕ)) (xs ys : ℕ) (rest : 
 pub is_measured : (o : Option (List ℕ × List ℕ)) (xs ys : ℕ) (rest : List ℕ)
     → Some (record { xs = xs; ys = ys; rest = rest }) ≡ measured_on 0 0 o → IsMeasured o xs ys rest
 is_measured None xs ys rest e = absurd (cc)
-is_measured (Some p) xs ys rest e =
-    let same = same_Some _ _ e in
-    record {
-      after = ap (λ (m : Measure). Some m.rest) same;
-      xs_are = let h = ap (λ (m : Measure). m.xs) same in omega (arith, h);
-      ys_are = let h = ap (λ (m : Measure). m.ys) same in omega (arith, h);
-    }
+is_measured (Some p) xs ys rest e = grind (arith, same_Some)
 
 -- ---- deltas in bytes that suffice, or don't
 
@@ -151,8 +140,7 @@ unfolding delta_by size_by
 short_by true same [] h = refl
 short_by true same (b ∷ bytes) h = absurd (omega arith)
 short_by false true bytes h = absurd (omega arith)
-short_by false false bytes h =
-    sym (ap (λ (b : Bool). cond b None (Some (big_number 2 bytes, drop 2 bytes))) (lt-ltb _ _ h))
+short_by false false bytes h = grind (arith, lt-ltb)
 
 delta_fits : (short same f : ℕ) (bytes : List ℕ) → delta_size short same f ≤ length bytes
     → (d : ℕ) × (Some (d, drop (delta_size short same f) bytes) ≡ delta_of short same f bytes)
@@ -199,8 +187,7 @@ deltas_cut short same (f ∷ fs) bytes h =
 pub x_deltas : (o : Option (List ℕ × List ℕ)) (xs ys : ℕ) (rest after : List ℕ) → IsMeasured o xs ys rest → xs ≤ length rest
     → after ≡ drop xs rest
     → Some after ≡ option_map (λ p. p.1) (deltas_from x_short_vector x_is_same_or_positive_x_short_vector (list_in o) rest)
-x_deltas o xs ys rest after m h e =
-    ap Some (e ∙ ap (λ (n : ℕ). drop n rest) m.xs_are) ∙ deltas_fit _ _ (list_in o) rest (omega (arith, m.xs_are))
+x_deltas o xs ys rest after m h e = grind (arith, deltas_fit)
 
 pub no_x_deltas : (o : Option (List ℕ × List ℕ)) (xs ys : ℕ) (rest : List ℕ) → IsMeasured o xs ys rest → length rest < xs
     → None ≡ option_map (λ p. p.1) (deltas_from x_short_vector x_is_same_or_positive_x_short_vector (list_in o) rest)
@@ -209,8 +196,7 @@ no_x_deltas o xs ys rest m h = deltas_cut _ _ (list_in o) rest (omega (arith, m.
 pub y_deltas : (o : Option (List ℕ × List ℕ)) (xs ys : ℕ) (rest bytes : List ℕ) → IsMeasured o xs ys rest → ys ≤ length bytes
     → Some (drop ys bytes)
     ≡ option_map (λ p. p.1) (deltas_from y_short_vector y_is_same_or_positive_y_short_vector (list_in o) bytes)
-y_deltas o xs ys rest bytes m h =
-    ap (λ (n : ℕ). Some (drop n bytes)) m.ys_are ∙ deltas_fit _ _ (list_in o) bytes (omega (arith, m.ys_are))
+y_deltas o xs ys rest bytes m h = grind (arith, deltas_fit)
 
 pub no_y_deltas : (o : Option (List ℕ × List ℕ)) (xs ys : ℕ) (rest bytes : List ℕ) → IsMeasured o xs ys rest → length bytes < ys
     → None ≡ option_map (λ p. p.1) (deltas_from y_short_vector y_is_same_or_positive_y_short_vector (list_in o) bytes)

@@ -48,6 +48,7 @@ impl<'a> Iterator for Components<'a> {
 
     ghost remaining = { item_count (λ ps. ps) };
 
+    #[tactic(auto, using(crate::proofs::Parts::next_steps))]
     fn next(&mut self) -> Option<Part> {
         if !self.more {
             return None;

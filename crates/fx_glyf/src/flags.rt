@@ -53,6 +53,7 @@ fn run(bytes: &[u8]) -> Option<(u8, u8, &[u8])>
 }
 
 /// The number of further points with the next flag, that flag, and the bytes after it; the bytes hold it.
+#[tactic(auto, using(crate::proofs::Held::next_flag_steps))]
 fn next_flag(again: u8, flag: u8, bytes: &[u8]) -> (u8, u8, &[u8])
     requires { IsSome (next_flag (record { again = again; flag = flag; bytes = bytes.now })) }
     ensures { Some (record { again = result.0; flag = result.1; bytes = result.2.now })
@@ -154,6 +155,7 @@ pub struct Measure<'a> {
 }
 
 /// The measure of the flags of `count` points, and the bytes after them. Apart from what calls it, its loop has registers enough.
+#[tactic(auto, using(crate::proofs::Sizes::measured_run, crate::proofs::Sizes::measured_stopped, crate::proofs::Sizes::measured_done))]
 #[inline(never)]
 pub fn measured(count: u32, bytes: &[u8]) -> Option<Measure<'_>>
     ensures { option_map (λ m. record { xs = m.xs; ys = m.ys; rest = m.rest.now }) result ≡ measured_of count bytes.now }
@@ -218,6 +220,7 @@ impl<'a> Flags<'a> {
     }
 
     /// The next flag.
+    #[tactic(auto, using(crate::proofs::Steps::flags_none, crate::proofs::Held::flag_held))]
     pub fn next(&mut self) -> Option<u8>
         ensures { MatchOption result ((self.old ≡ []) × (self.new ≡ [])) (λ f. self.old ≡ f ∷ self.new) }
     {

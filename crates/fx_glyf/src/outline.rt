@@ -59,6 +59,7 @@ impl<'a> Outline<'a> {
     }
 
     /// The number of points.
+    #[tactic(auto, using(crate::proofs::Outlines::seen_count))]
     pub fn len(&self) -> u32
         ensures { result ≡ length self.now }
     {

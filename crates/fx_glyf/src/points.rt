@@ -14,6 +14,7 @@ use fx_sfnt::u16_in;
 use std::marker::Model;
 
 /// The delta of one coordinate of a point, and the bytes after it; the bytes hold it.
+#[tactic(auto, using(crate::proofs::Held::delta_steps))]
 fn delta(short: u8, same: u8, flag: u8, bytes: &[u8]) -> (u16, &[u8])
     requires { IsSome (delta_of short same flag bytes.now) }
     ensures { Some (result.0, result.1.now) ≡ delta_of short same flag bytes.now }
@@ -86,6 +87,7 @@ impl<'a> Iterator for Points<'a> {
 
     ghost remaining = { item_count (λ ps. ps) };
 
+    #[tactic(auto, using(crate::proofs::Steps::points_first, crate::proofs::Steps::points_end))]
     fn next(&mut self) -> Option<Point> {
         let Some(flag) = self.flags.next() else {
             return None;

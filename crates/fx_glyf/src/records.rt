@@ -129,6 +129,7 @@ pub fn next_part(bytes: &[u8]) -> Option<Part>
 }
 
 /// Whether any component announces a program, and the bytes after the last.
+#[tactic(auto, using(crate::proofs::Parts::skip_steps))]
 pub fn skip_parts(bytes: &[u8]) -> Option<(bool, &[u8])>
     ensures { option_map (λ p. (p.0, p.1.now)) result ≡ option_map ending_of (parts_in true bytes.now) }
 {

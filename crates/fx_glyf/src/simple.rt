@@ -90,6 +90,7 @@ impl<'a> Simple<'a> {
     }
 
     /// The number of the last point of each contour.
+    #[tactic(auto, using(crate::proofs::EndPoints::ends_counted))]
     pub fn ends(&self) -> Ends<'a>
         ensures ends { result ≡ self.now.ends }
         // They do not fall, and the last one is the last point.

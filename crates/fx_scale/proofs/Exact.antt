@@ -1,7 +1,7 @@
 -- A value in a font at a valid size needs no wrapping.
 -- For the clauses of `scaled`.
 use Rattle.std.proofs.Common.{◌≡◌, ◌≢◌, ℕ, ◌+◌, ◌≤◌, ◌<◌, ◌^◌, ◌*◌, ℤ, pos, ◌*ℤ◌, ◌-ℤ◌}
-use Rattle.std.proofs.Common.{unsigned_abs, FitsSigned, arith, ◌∙◌, ap, refl}
+use Rattle.std.proofs.Common.{unsigned_abs, FitsSigned, arith, ◌∙◌, refl}
 use Rattle.std.proofs.lemmas.Int.{ints, int_wrap_fits, unsigned_abs-mul}
 use Rattle.std.proofs.Math.Nat.{mul-le-mul, mul-le-mul_left}
 use Rattle.std.specs.Int.{w32}
@@ -19,9 +19,7 @@ unwrapped r h = int_wrap_fits w32 r (fits_alone r h)
 
 -- a value of at most m FUnits times the 1/64 pixels of an em
 product_within : (m : ℕ) (v : ℤ) (p : ℕ) → unsigned_abs v ≤ m → IsPpem p → unsigned_abs (v *ℤ pos (p * 64)) ≤ m * 65536
-product_within m v p h k =
-    let f : unsigned_abs v * (p * 64) ≤ m * 65536 = (let g : p * 64 ≤ 65536 = omega arith in mul-le-mul h g) in
-    omega (arith, unsigned_abs-mul v (pos (p * 64)), f)
+product_within m v p h k = grind (arith, mul-le-mul, unsigned_abs-mul)
 
 -- what is near a number is no farther out than it and half the divisor
 no_farther : (n m : ℤ) (d : ℕ) → 2 * unsigned_abs (n -ℤ m) ≤ d → 2 * unsigned_abs m ≤ 2 * unsigned_abs n + d
@@ -30,21 +28,13 @@ no_farther n m d h = omega (arith, ints)
 -- the same of a quotient, whose divisor is at least 16 and at most 16,384
 quotient_within : (n q : ℤ) (d m : ℕ) → unsigned_abs n ≤ m → IsNear n (pos d) q → IsUnitsPerEm d
     → 2 * (unsigned_abs q * 16) ≤ 2 * m + 16384
-quotient_within n q d m h near u =
-    let least : unsigned_abs q * 16 ≤ unsigned_abs q * d = mul-le-mul_left (unsigned_abs q) u.least in
-    let whole = no_farther n (q *ℤ pos d) d near.nearest in
-    omega (arith, unsigned_abs-mul q (pos d), least, whole)
+quotient_within n q d m h near u = grind (arith, mul-le-mul_left, no_farther, unsigned_abs-mul)
 
 -- a value of at most m FUnits at a valid size
 pub within : (m : ℕ) (v : ℤ) (p d : ℕ) (n q : ℤ) → n ≡ v *ℤ pos (p * 64) → Nearest n (pos d) q → unsigned_abs v ≤ m → IsPpem p
     → IsUnitsPerEm d → 2 * (unsigned_abs q * 16) ≤ 2 * (m * 65536) + 16384
 unfolding Nearest
-within m v p d n q e near h k u =
-    let product : unsigned_abs n ≤ m * 65536 = (
-    let s = product_within m v p h k in let t : unsigned_abs n ≡ unsigned_abs (v *ℤ pos (p * 64)) = ap unsigned_abs e in omega
-    (arith, s, t)
-    ) in
-    quotient_within n q d (m * 65536) product near u
+within m v p d n q e near h k u = grind (arith, product_within, quotient_within)
 
 -- the near value of a font's value
 pub exact : (v : ℤ) (p d : ℕ) (n q r : ℤ) → n ≡ v *ℤ pos (p * 64) → Nearest n (pos d) q → r ≡ wrapped_of q

@@ -22,9 +22,7 @@ whole_ems b u h e l =
     ap (λ (n : ℕ). n / u * u) p ∙ ap (λ (n : ℕ). n * u) (mul-div_left (2 ^ (15 - b)) l) ∙ sym p
 
 pub ems_below : (e b f u : ℕ) → b ≤ 14 → 2 ^ b ≡ u → f ≡ u → 0 < u → e * (32768 / f) * u ≡ 32768 * e
-ems_below e b f u h p g l =
-    ap (λ (n : ℕ). e * (32768 / n) * u) g ∙ mul_assoc e (32768 / u) u ∙ ap (λ (n : ℕ). e * n) (whole_ems b u h p l)
-    ∙ mul_comm e 32768
+ems_below e b f u h p g l = grind (arith, mul_assoc, whole_ems, mul_comm)
 
 -- so small a power needs no wrapping
 pub power_fits : (b u : ℕ) → b ≤ 14 → 1 * 2 ^ b % 4294967296 ≡ u → 2 ^ b ≡ u
@@ -36,14 +34,10 @@ halves (suc b) u e l = let p : 2 ^ (b + 1) ≡ 2 ^ b * 2 ^ 1 = pow-add 2 b 1 in 
 
 -- a rounded quotient between its neighbours
 near_from : (n u : ℕ) → 0 < u → near_size n u * u + near_size n u * u ≤ 2 * n + u
-near_from n u l =
-    let d = div-mul-le_self (2 * n + u) (2 * u) in
-    let e : near_size n u * (2 * u) ≡ near_size n u * u + near_size n u * u = omega arith in omega (arith, d, e)
+near_from n u l = grind (arith, div-mul-le_self)
 
 near_to : (n u : ℕ) → 0 < u → 2 * n + u < near_size n u * u + near_size n u * u + 2 * u
-near_to n u l =
-    let d = lt-div-mul-add {a = 2 * n + u} {b = 2 * u} (omega (arith, l)) in
-    let e : near_size n u * (2 * u) ≡ near_size n u * u + near_size n u * u = omega arith in omega (arith, d, e)
+near_to n u l = grind (arith, lt-div-mul-add)
 
 -- the quotient of a value counted from -32,768 on
 up : (m em h u b : ℕ) → 0 < u → h * 2 ≡ u → b * u ≡ 32768 * em → ((m + 32768) * em + h) / u ≡ b + near_size (m * em) u
@@ -57,11 +51,7 @@ up m em h u b l e w =
     div-eq_of_lt-le {k = b + k} u (omega (arith, e, w, f, s, p)) (omega (arith, e, w, t, s, s1, p))
 
 at_most_lowest : (m em h u b : ℕ) → m ≤ 32768 → 0 < u → h * 2 ≡ u → b * u ≡ 32768 * em → near_size (m * em) u ≤ b
-at_most_lowest m em h u b n l e w =
-    let f = near_from (m * em) u l in
-    let t : m * em ≤ 32768 * em = mul-le-mul_right em n in
-    let s = add-mul b 1 u in
-    let less : near_size (m * em) u < b + 1 = lt_of_mul-lt-mul_right u (omega (arith, e, w, f, t, s, l)) in omega (arith, less)
+at_most_lowest m em h u b n l e w = grind (arith, near_from, mul-le-mul_right, add-mul, lt_of_mul-lt-mul_right)
 
 down : (m em h u b : ℕ) → m ≤ 32768 → 0 < u → h * 2 ≡ u → b * u ≡ 32768 * em
     → ((32768 - m) * em + h - 1) / u + near_size (m * em) u ≡ b
@@ -83,13 +73,7 @@ lowest_within : (b u em : ℕ) → IsUnitsPerEm u → em ≤ 65536 → b * u ≡
 lowest_within b u em units few w = let l : b * 16 ≤ b * u = mul-le-mul_left b units.least in omega (arith, l, w, few)
 
 near_within : (m em u : ℕ) → IsUnitsPerEm u → m ≤ 32768 → em ≤ 65536 → near_size (m * em) u ≤ 2 ^ 28
-near_within m em u units few_m few =
-    let k = near_size (m * em) u in
-    let l : k * 16 ≤ k * u = mul-le-mul_left k units.least in
-    let f = near_from (m * em) u (let least = units.least in omega (arith, least)) in
-    let p : m * em ≤ 32768 * 65536 = mul-le-mul few_m few in
-    let most = units.most in
-    omega (arith, l, f, p, most)
+near_within m em u units few_m few = grind (arith, mul-le-mul_left, near_from, mul-le-mul)
 
 -- how far a quotient from -32,768 on is above that of -32,768 itself
 pub record Counted (r : ℤ) (q b : ℕ) : Type 0 where
@@ -136,7 +120,4 @@ counted (negsuc m) em h u b a n units few e w size s negative positive =
 pub shifted : (v : ℤ) (ppem em h u p b a n : ℕ) → IsPpem ppem → em ≡ ppem * 64 → IsUnitsPerEm u → p ≡ u → h * 2 ≡ u
     → b * u ≡ 32768 * em → FitsSigned w16 v → pos a ≡ v +ℤ pos 32768 → (v <ℤ pos 0 → n ≡ 1) → (pos 0 ≤ℤ v → n ≡ 0)
     → Counted (near_of (v *ℤ pos (ppem * 64)) (pos u)) ((a * em + h - n) / p) b
-shifted v ppem em h u p b a n size e units power halved lowest fits above negative positive =
-    let few : em ≤ 65536 = (let most = size.most in omega (arith, e, most)) in
-    rw (power, ← e)
-    (counted v em h u b a n units few halved lowest (omega (arith, ints, fits)) above negative positive)
+shifted v ppem em h u p b a n size e units power halved lowest fits above negative positive = grind (arith, counted, ints)

@@ -1,8 +1,8 @@
 -- A value is scaled by its size and its sign.
 -- For `scaled_short`.
-use Rattle.std.proofs.Common.{◌≡◌, ℕ, zero, suc, ◌*◌, ◌<◌, ℤ, pos, negsuc, ◌*ℤ◌, ◌<ℤ◌, ◌≤ℤ◌, unsigned_abs, refl, ap, ◌∙◌, arith}
+use Rattle.std.proofs.Common.{◌≡◌, ℕ, zero, suc, ◌*◌, ◌<◌, ℤ, pos, negsuc, ◌*ℤ◌, ◌<ℤ◌, ◌≤ℤ◌, unsigned_abs, refl, ap, arith}
 use Rattle.std.proofs.Common.{sym}
-use Rattle.std.proofs.Math.IntN.{neg_ℤ, pos-*ℤ-pos, negsuc-*ℤ-pos}
+use Rattle.std.proofs.Math.IntN.{neg_ℤ, pos-*ℤ-pos}
 use Rattle.std.proofs.lemmas.Int.{ints}
 use Rattle.fx_fixed.specs.Numbers.{near_of, near_size}
 use Rattle.fx_fixed.proofs.Dividing.{size_bound}
@@ -21,5 +21,4 @@ of_positive (negsuc n) size em d q e f h = absurd (omega (arith, ints, h))
 pub of_negative : (v : ℤ) (size em d q : ℕ) → size ≡ unsigned_abs v → q ≡ near_size (size * em) d → v <ℤ pos 0 → 0 < d
     → neg_ℤ (pos q) ≡ near_of (v *ℤ pos em) (pos d)
 of_negative (pos n) size em d q e f h l = absurd (omega (arith, ints, h))
-of_negative (negsuc n) size em d q e f h l =
-    rw (f, e) (sym (ap (λ (k : ℤ). near_of k (pos d)) (negsuc-*ℤ-pos n em) ∙ near_negative (suc n * em) d l))
+of_negative (negsuc n) size em d q e f h l = grind (arith, near_negative)

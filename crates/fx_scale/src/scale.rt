@@ -42,6 +42,7 @@ impl Scale {
 /// from zero (OpenType, "TrueType fundamentals": scaling a glyph outline).
 ///
 /// The values in a font, and differences of two of them, are within 2^28 at every size; others are taken modulo 2^32.
+#[tactic(auto, using(crate::proofs::Exact::exact_of, crate::proofs::Exact::unwrapped))]
 pub fn scaled(v: i32, ppem: Ppem, units_per_em: UnitsPerEm) -> F26
     ensures value { result ≡ scaled_of v ppem units_per_em }
     ensures within { unsigned_abs v ≤ 65535 → unsigned_abs result ≤ 2 ^ 28 }
@@ -59,6 +60,7 @@ pub fn scaled(v: i32, ppem: Ppem, units_per_em: UnitsPerEm) -> F26
 const MAX_SHORT: u32 = 65_535;
 
 /// A value scaled in 32 bits; `em` is the number of 1/64 pixels in an em.
+#[tactic(auto, using(std::proofs::lemmas::Int::ints, crate::proofs::Signs::of_positive, crate::proofs::Signs::of_negative))]
 fn scaled_short(v: i32, em: u32, funits: u32) -> F26
     requires value_size { unsigned_abs v ≤ 65535 }
     requires em_size { em ≤ 65536 }

@@ -47,6 +47,7 @@ fn down(v: i16) -> u32
 
 impl Shift {
     /// A scale as a shift, if its FUnits are a power of two.
+    #[tactic(auto, using(crate::proofs::Shifts::power_fits, crate::proofs::Shifts::ems_below, crate::proofs::Shifts::halves))]
     pub fn of(scale: &Scale) -> Option<Shift>
         ensures { IfSome result (λ s. s.scale ≡ scale.now) }
     {

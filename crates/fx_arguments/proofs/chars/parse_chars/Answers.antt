@@ -1,23 +1,9 @@
-use Rattle.std.proofs.Common.{rules, arith, sym, ap, ◌∙◌, ◌≡◌, inl, inr, refl, List, ℕ, ◌∷◌, option_map, None, []}
+use Rattle.std.proofs.Common.{arith, sym, ap, ◌∙◌, ◌≡◌, inl, inr, List, ℕ, ◌∷◌, option_map}
 use Rattle.std.proofs.lemmas.Result.{err_from_is_err_and}
 use Rattle.fx_arguments.specs.Parts.{left_parts, parts_of}
-use Rattle.fx_arguments.specs.Chars.{items_of, numbers_of_items, range_of}
-use Rattle.fx_arguments.proofs.Items.{behind, behind_item, none_by_item, none_by_count, all_items}
+use Rattle.fx_arguments.specs.Chars.{items_of, numbers_of_items}
+use Rattle.fx_arguments.proofs.Items.{behind, behind_item, none_by_count}
 use Rattle.fx_arguments.proofs.chars.parse_chars.Goals as goal
-
-pub returns-in_default-range-clause-refused : goal.returns-in_default-range-clause-refused
-returns-in_default-range-clause-refused c =
-    let here : numbers_of_items (items_of c.args.list.now) ≡ behind c.items.chars.items
-    (numbers_of_items (parts_of 44 c.in-Some.text.now)) = rw c.in-Some.is at c.items.invariant.so_far in
-    let cut : numbers_of_items (items_of c.args.list.now) ≡ behind c.items.chars.items
-    (numbers_of_items (c.first_part.result.0.now ∷ left_parts 44 (option_map (λ more. more.now) c.first_part.result.1)))
-    = rw c.first_part.ensures.parts at here in
-    let no : range_of c.first_part.result.0.now ≡ None = search rules in
-    inr (
-      refl,
-      none_by_item c.args.list.now c.items.chars.items c.first_part.result.0.now
-          (left_parts 44 (option_map (λ more. more.now) c.first_part.result.1)) cut no,
-    )
 
 pub returns-in_err-push_range-clause-refused : goal.returns-in_err-push_range-clause-refused
 returns-in_err-push_range-clause-refused c =
@@ -52,9 +38,3 @@ items-preserved c =
           ∙ ap (λ (chars : List ℕ). behind chars (numbers_of_items left)) (sym pushed.0);
       count = pushed.1;
     }
-
-pub returns-clause-numbers : goal.returns-clause-numbers
-returns-clause-numbers c =
-    let here : numbers_of_items (items_of c.args.list.now) ≡ behind c.items.chars.items (numbers_of_items []) =
-    rw c.in_default.is at c.items.invariant.so_far in
-    all_items c.args.list.now c.items.chars.items here (omega arith)

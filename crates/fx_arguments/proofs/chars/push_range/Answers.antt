@@ -19,10 +19,3 @@ numbers-preserved c = record {
       ∙ ap (λ (xs : List ℕ). c.args.chars.now.items ++ xs) (sym (numbers_more c.args.low c.numbers.k));
   count = search rules;
 }
-
-pub returns-clause-ok : goal.returns-clause-ok
-returns-clause-ok c =
-    let all : c.numbers.k ≡ c.args.high - c.args.low + 1 = omega arith in (
-      c.numbers.invariant.items ∙ ap (λ (k : ℕ). c.args.chars.now.items ++ numbers_from c.args.low k) all,
-      omega (arith, c.numbers.invariant.count),
-    )

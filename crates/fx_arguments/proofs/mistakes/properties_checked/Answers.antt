@@ -1,11 +1,11 @@
-use Rattle.std.proofs.Common.{rules, ◌≡◌, ◌∙◌, ◌+◌, ap, arith, drop, Result}
+use Rattle.std.proofs.Common.{rules, ◌≡◌, ◌∙◌, ◌+◌, ap, drop, Result}
 use Rattle.std.proofs.lemmas.Result.{err_from_is_err_and}
 use Rattle.std.specs.Prelude.{is_some}
 use Rattle.clap.specs.Words.{Text}
 use Rattle.fx_fixed.specs.Chain.{◌>>=◌}
 use Rattle.fx_arguments.specs.Arguments.{texts}
 use Rattle.fx_arguments.specs.Mistakes.{properties_checked}
-use Rattle.fx_arguments.proofs.Saying.{checked_next, checked_no_more, is_some_seen, says_before}
+use Rattle.fx_arguments.proofs.Saying.{checked_next, is_some_seen, says_before}
 use Rattle.fx_arguments.proofs.mistakes.properties_checked.Goals as goal
 
 pub returns-in_err-taken_if : goal.returns-in_err-taken_if
@@ -24,6 +24,3 @@ given-preserved c =
     (is_some_seen c.is_some.result c.property_of.result _ some c.property_of.ensures)
     ∙ ap (λ (r : Result (Unit {0}) Text). r >>=
     λ _. properties_checked (drop (c.given.text-index + 1) (texts c.args.given.now))) c.in_ok-taken_if.ensures
-
-pub returns : goal.returns
-returns c = c.given.invariant ∙ checked_no_more c.args.given.now c.given.text-index (omega (arith, c.given-test.false))

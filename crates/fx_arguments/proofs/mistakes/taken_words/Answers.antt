@@ -1,7 +1,7 @@
-use Rattle.std.proofs.Common.{◌≡◌, ◌∙◌, ◌-◌, ap, arith, suc, true, false, take, Ok, ℕ}
+use Rattle.std.proofs.Common.{◌≡◌, ◌∙◌, ◌-◌, ap, arith, true, take, Ok}
 use Rattle.fx_arguments.specs.Arguments.{texts}
-use Rattle.fx_arguments.specs.Mistakes.{is_taken, taken_words}
-use Rattle.fx_arguments.proofs.Saying.{taken_here, taken_none, taken_shorter, texts_take}
+use Rattle.fx_arguments.specs.Mistakes.{is_taken}
+use Rattle.fx_arguments.proofs.Saying.{taken_here, texts_take}
 use Rattle.fx_arguments.proofs.mistakes.taken_words.Goals as goal
 
 pub returns-then-branch-clause-due : goal.returns-then-branch-clause-due
@@ -11,20 +11,3 @@ returns-then-branch-clause-due c =
     ap Ok (c.shorter.invariant.longest ∙ taken_here c.args.verb (texts c.args.words.now) c.shorter.n (c.shorter.n - 1)
     (omega (arith, c.shorter-test.true))
     (ap (is_taken c.args.verb) (texts_take c.shorter.n c.args.words.now) ∙ is ∙ c.if-branch.true))
-
-pub shorter-preserved : goal.shorter-preserved
-shorter-preserved c =
-    let is : is_taken c.args.verb (texts (take c.shorter.n c.args.words.now)) ≡ c.in_ok-is_taken.field-0
-    = cc (c.in_ok-is_taken.ensures) in
-    record {
-      longest = c.shorter.invariant.longest ∙ taken_shorter c.args.verb (texts c.args.words.now) c.shorter.n (c.shorter.n - 1)
-          (omega (arith, c.shorter-test.true))
-          (ap (is_taken c.args.verb) (texts_take c.shorter.n c.args.words.now) ∙ is ∙ c.if-branch.false);
-      within = omega (arith, c.shorter.invariant.within);
-    }
-
-pub returns-clause-due : goal.returns-clause-due
-returns-clause-due c =
-    let none : c.shorter.n ≡ 0 = omega (arith, c.shorter-test.false) in
-    ap Ok (c.shorter.invariant.longest ∙ ap (λ (n : ℕ). taken_words c.args.verb (texts c.args.words.now) n) none
-    ∙ taken_none c.args.verb (texts c.args.words.now))

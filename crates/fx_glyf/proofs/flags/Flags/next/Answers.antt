@@ -1,15 +1,6 @@
 use Rattle.std.proofs.Common.{◌≡◌, ◌-◌, suc, sym, ◌∙◌, arith}
-use Rattle.fx_glyf.proofs.Steps.{flags_none, flags_at, stepped}
-use Rattle.fx_glyf.proofs.Held.{flag_held}
+use Rattle.fx_glyf.proofs.Steps.{flags_at, stepped}
 use Rattle.fx_glyf.proofs.flags.Flags.next.Goals as goal
-
-pub returns-then-self-eq0 : goal.returns-then-self-eq0
-returns-then-self-eq0 c =
-    let none = sym c.self.view_is ∙ flags_none _ _ c.if-self-eq0.true in
-    (none, none)
-
-pub next_flag-again-requires : goal.next_flag-again-requires
-next_flag-again-requires c = flag_held _ _ c.if-self-eq0.false c.self.invariant
 
 pub invariant_of-self : goal.invariant_of-self
 invariant_of-self c =
