@@ -1,6 +1,6 @@
--- The greatest number of a kind: there is only one, halving finds it, and so does a search from above.
--- For halving, and for the uniqueness of `unit`.
-use Rattle.std.proofs.Common.{◌≡◌, ◌≢◌, ℕ, zero, suc, ◌+◌, ◌<◌, ◌≤◌, Bool, true, false, cond, arith, refl, sym, ◌∙◌, ap}
+-- The greatest number of a kind: there is only one, and a search from above finds it.
+-- For the uniqueness of `unit`.
+use Rattle.std.proofs.Common.{◌≡◌, ◌≢◌, ℕ, zero, suc, ◌≤◌, Bool, true, false, cond, arith, refl, sym, ◌∙◌, ap}
 use Rattle.fx_fixed.specs.Greatest.{IsGreatestOrZero, greatest_passing}
 
 -- of two greatest numbers of one kind neither is less
@@ -11,16 +11,6 @@ greatest_below P (suc c) d g h = h.greatest (suc c) (g.member (omega arith))
 -- so they are one
 pub greatest_one : (P : ℕ → Type 0) (c d : ℕ) → IsGreatestOrZero P c → IsGreatestOrZero P d → c ≡ d
 greatest_one P c d g h = omega (arith, greatest_below P c d g h, greatest_below P d c h g)
-
--- halving has found it if the low end is of the kind, or 0, and the next number is past all of the kind
-pub greatest_between : (P : ℕ → Type 0) (low high : ℕ) → ((j k : ℕ) → 1 ≤ j → j ≤ k → P k → P j) → low < high → high ≤ low + 1
-    → (low ≢ 0 → P low) → (P high → ⊥) → IsGreatestOrZero P low
-greatest_between P low high falls order near below above = record {
-  member = below;
-  greatest = λ k a.
-      let beyond : low < k → ⊥ = λ l. above (falls high k (omega arith) (omega arith) a) in
-      omega arith;
-}
 
 -- g is the greatest number up to n that passes, or 0
 pub record Passing (test : ℕ → Bool) (n g : ℕ) : Type 0 where

@@ -11,4 +11,5 @@ pub mod Hexadecimals
 pub mod Chain
 pub mod Linear
 pub mod Ring
+pub mod Roots
 pub mod Signs

@@ -1,6 +1,6 @@
 //! Unit vectors.
 
-ghost use Rattle.std.specs.Prelude.{◌≡◌, ◌≢◌, ◌↔◌, ◌+◌, ◌*◌, ◌^◌, ◌<◌, ◌≤◌, IsTrue, unsigned_abs};
+ghost use Rattle.std.specs.Prelude.{◌≡◌, ◌≢◌, ℕ, ◌+◌, ◌*◌, ◌/◌, ◌^◌, ◌≤◌, unsigned_abs};
 ghost use Rattle.fx_fixed.specs.Ranges.{IsWithin};
 ghost use Rattle.fx_fixed.specs.Greatest.{IsGreatestOrZero};
 ghost use Rattle.fx_fixed.specs.Unit.{Admits, IsComponent, IsUnit, PointsAlong, UnitIsFunctional, UnitOfIsUnit, unit_of};
@@ -55,38 +55,51 @@ fn component(coordinate: i32, square: u64) -> i16
     if coordinate < 0 { -size } else { size }
 }
 
-/// The greatest size that is admitted, by halving.
+/// The greatest size that is admitted: of an admitted size c, 2c - 1 is at most the root of the ratio.
+#[tactic(auto, using(crate::proofs::Roots::admitted_by_root))]
 fn greatest(coordinate: u32, square: u64) -> u16
     requires positive { square ≢ 0 }
-    requires bound { square ≤ 2 ^ 63 }
     requires within { coordinate * coordinate ≤ square }
     ensures bound { result ≤ 16384 }
     ensures value { IsGreatestOrZero (Admits coordinate square) result }
 {
-    let mut low = 0u16;
-    let mut high = 16385u16;
-    // `low` is 0 or admitted, and `high` is not.
-    'halving: while low + 1 < high {
-        let middle = (low + high) / 2;
-        if is_admitted(coordinate, square, middle) {
-            low = middle;
-        } else {
-            high = middle;
-        }
-    }
-    low
+    ((root(ratio(coordinate, square)) + 1) / 2) as u16
 }
 
-/// Whether a size is admitted.
-fn is_admitted(coordinate: u32, square: u64, size: u16) -> bool
-    requires positive { 0 < size }
-    requires size { size ≤ 16384 }
-    requires bound { square ≤ 2 ^ 63 }
-    ensures { IsTrue result ↔ Admits coordinate square size }
+/// 2^30 times the square of a coordinate, divided by the squared length, as a whole number.
+fn ratio(coordinate: u32, square: u64) -> u32
+    requires positive { square ≢ 0 }
+    requires within { coordinate * coordinate ≤ square }
+    ensures value { result ≡ 2 ^ 30 * (coordinate * coordinate) / square }
+    ensures bound { result ≤ 2 ^ 30 }
 {
-    let odd = u64::from(2 * size - 1);
-    let limit = (1 << 30) * (u128::from(coordinate) * u128::from(coordinate));
-    u128::from(odd * odd) * u128::from(square) <= limit
+    if coordinate < 1 << 17 {
+        let size = u64::from(coordinate);
+        return ((1 << 30) * (size * size) / square) as u32;
+    }
+    let size = u128::from(coordinate);
+    ((1 << 30) * (size * size) / u128::from(square)) as u32
+}
+
+/// The square root of a number as a whole number, by Newton's method.
+#[tactic(auto, using(crate::proofs::Roots::root_below_first))]
+fn root(n: u32) -> u32
+    requires bound { n ≤ 2 ^ 30 }
+    ensures bound { result ≤ 32768 }
+    ensures square { result * result ≤ n }
+    ensures next { (k : ℕ) → k * k ≤ n → k ≤ result }
+{
+    if n == 0 {
+        return 0;
+    }
+    let mut guess = 1 << 15;
+    let mut quotient = n / guess;
+    // No number whose square is at most n is above the guess.
+    'newton: while quotient < guess {
+        guess = (guess + quotient) / 2;
+        quotient = n / guess;
+    }
+    guess
 }
 
 /// A direction has one unit vector, and `unit_of` gives it.
